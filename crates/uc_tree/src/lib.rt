@@ -1,0 +1,6 @@
+// Trees and tokens of program texts, their numbering and sizes, and every limit of the language and its kernel.
+#![tactic(auto)]
+
+pub mod limits;
+pub mod name;
+pub mod pos;
