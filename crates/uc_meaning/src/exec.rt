@@ -1,0 +1,22 @@
+// The names of executions, and of what holds cells.
+
+/// Where an execution is at home: in a task, named by the task's own object, or in a mutex object.
+#[derive(Clone, Copy, PartialEq, Eq, Debug)]
+pub enum Home {
+    Task(u32),
+    Object(u32),
+}
+
+/// An execution: the one that was made at this home as number `serial`. The own execution of a task has number 0 at its task.
+#[derive(Clone, Copy, PartialEq, Eq, Debug)]
+pub struct Exec {
+    pub home: Home,
+    pub serial: u32,
+}
+
+/// What holds cells: a frame of an execution, by its depth from the oldest, or the fields of a mutex object.
+#[derive(Clone, Copy, PartialEq, Eq, Debug)]
+pub enum Owner {
+    Frame { exec: Exec, depth: u32 },
+    Fields(u32),
+}
