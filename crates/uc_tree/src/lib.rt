@@ -1,6 +1,8 @@
 // Trees and tokens of program texts, their numbering and sizes, and every limit of the language and its kernel.
 #![tactic(auto)]
 
+pub mod kinds;
 pub mod limits;
 pub mod name;
+pub mod ops;
 pub mod pos;
