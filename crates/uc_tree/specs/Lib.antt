@@ -1,0 +1,3 @@
+pub mod Bytes
+pub mod Spelling
+pub mod Tokens

@@ -4,3 +4,5 @@
 pub mod limits;
 pub mod name;
 pub mod pos;
+pub mod scan;
+pub mod token;
