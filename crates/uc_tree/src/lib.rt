@@ -6,3 +6,5 @@ pub mod limits;
 pub mod name;
 pub mod ops;
 pub mod pos;
+pub mod scan;
+pub mod token;
