@@ -1,5 +1,6 @@
 -- The resolved tree of a program, on which the machine runs: each use carries what it names, and each statement its line.
-use Rattle.std.specs.Prelude.{ℕ, ℤ, Bool, List, [], Option, Some, None, slice_get}
+use Rattle.std.specs.Prelude.{ℕ, ℤ, List, Option, Some, None, slice_get}
+use Rattle.uc_tree.specs.Programs.{Site}
 
 -- an expression, with the conversions that its types ask for
 pub data Expr : Type 0 where
@@ -26,12 +27,6 @@ pub record Routine : Type 0 where
   pub line : ℕ
   pub cells : ℕ
   pub body : Stmts
-
--- an accept statement: its class, the members that its clauses list, and whether it has an `_Else`
-pub record Site : Type 0 where
-  pub class : ℕ
-  pub clauses : List (List ℕ)
-  pub has_else : Bool
 
 -- a program: its routines, the number of its main, its accept statements and its text literals
 pub record Source : Type 0 where
