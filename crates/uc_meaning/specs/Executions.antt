@@ -72,6 +72,13 @@ find k (p ∷ ps) = if nat_eq p.0 k then Some p.1 else find k ps
 -- the links of an execution as it is made
 abbrev pub no_links : Links
 no_links = record {
-    starter = None; resumer = None; stage = Started; unwinding = false; enabled = 0;
-    pending = []; calls = 0; mutex_calls = 0; builds = 0
-  }
+  starter = None;
+  resumer = None;
+  stage = Started;
+  unwinding = false;
+  enabled = 0;
+  pending = [];
+  calls = 0;
+  mutex_calls = 0;
+  builds = 0;
+}

@@ -13,16 +13,30 @@ Journal = List Entry
 -- an entry of task t on processor p with these ticks, at object o, with its fields a and b
 abbrev pub entry : EntryKind → ℕ → ℕ → ℕ → ℕ → ℤ → ℤ → Entry
 entry k p t ticks o a b = record {
-    kind = k; proc = p; task = t; ticks = ticks; object = o;
-    a = a; b = b; c = pos 0; d = pos 0
-  }
+  kind = k;
+  proc = p;
+  task = t;
+  ticks = ticks;
+  object = o;
+  a = a;
+  b = b;
+  c = pos 0;
+  d = pos 0;
+}
 
 -- the first entry of a journal
 abbrev pub begin : Options → Entry
 begin opts = record {
-    kind = kind.Begin; proc = 0; task = 0; ticks = 0; object = 0;
-    a = pos opts.processors; b = pos opts.slice; c = pos opts.ticks; d = pos opts.entries
-  }
+  kind = kind.Begin;
+  proc = 0;
+  task = 0;
+  ticks = 0;
+  object = 0;
+  a = pos opts.processors;
+  b = pos opts.slice;
+  c = pos opts.ticks;
+  d = pos opts.entries;
+}
 
 -- the number that a field holds
 abbrev pub number : ℤ → ℕ

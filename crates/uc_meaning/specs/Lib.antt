@@ -8,3 +8,4 @@ pub mod Rides
 pub mod Acts
 pub mod Runs
 pub mod Texts
+pub mod Sums

@@ -154,15 +154,15 @@ no_members = record { values = []; serial = 0; parked = [] }
 -- the own execution of the task whose object is o, as its main begins, inside its object
 abbrev pub first_state : Routine → ℕ → State
 first_state r o = record {
-    control = main_todo r;
-    operands = [];
-    env = record {
-      frames = replicate r.cells (Number (pos 0)) ∷ [];
-      links = no_links;
-      exec = record { home = home.Task o; serial = 0 };
-      own = o;
-      house = record { values = []; serial = 1; parked = (0, None) ∷ [] };
-      depths = (o, 1) ∷ [];
-      hand = []
-    }
-  }
+  control = main_todo r;
+  operands = [];
+  env = record {
+    frames = replicate r.cells (Number (pos 0)) ∷ [];
+    links = no_links;
+    exec = record { home = home.Task o; serial = 0 };
+    own = o;
+    house = record { values = []; serial = 1; parked = (0, None) ∷ [] };
+    depths = (o, 1) ∷ [];
+    hand = [];
+  };
+}

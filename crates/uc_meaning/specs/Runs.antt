@@ -29,9 +29,9 @@ pub record World : Type 0 where
 -- the world as a run begins: task 0 at the start of its main, and object 0 without fields
 abbrev pub first_world : Source → World
 first_world source = record {
-    tasks = λ t. record { state = first_state (routine_of source source.main) 0; asks = None };
-    objects = λ o. no_members
-  }
+  tasks = λ t. record { state = first_state (routine_of source source.main) 0; asks = None };
+  objects = λ o. no_members;
+}
 
 abbrev pub with_hand : List (ℕ × Members) → State → State
 with_hand hand s = record s { env = record s.env { hand = hand } }
@@ -66,9 +66,9 @@ asking r (Some x) s = record { state = answered x s; asks = None }
 -- the world after an act a of task t, which asked r in the state s
 abbrev pub world_after : List Entry → World → ℕ → State → Request → World
 world_after a w t s r = record {
-    tasks = λ u. if u == t then asking r (answer_of r a) (with_hand [] s) else w.tasks u;
-    objects = λ o. or_else (find o s.env.hand) (w.objects o)
-  }
+  tasks = λ u. if u == t then asking r (answer_of r a) (with_hand [] s) else w.tasks u;
+  objects = λ o. or_else (find o s.env.hand) (w.objects o);
+}
 
 -- processor p is open and free, and its cluster's queue begins with task t
 pub record Serves (opts : Options) (j : Journal) (p t : ℕ) : Type 0 where

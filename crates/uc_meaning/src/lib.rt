@@ -4,3 +4,4 @@
 pub mod entry;
 pub mod exec;
 pub mod request;
+pub mod sums;
