@@ -1,0 +1,3 @@
+mod Silent
+mod Facts
+mod Sums

@@ -1,0 +1,93 @@
+-- A print entry without ticks changes no filter of a journal.
+use Rattle.std.proofs.Common.{◌≡◌, ℕ, ℤ, ◌+◌, Bool, true, false, ◌||◌, ◌&&◌, ◌==◌, add-zero, List, [], ◌∷◌, ◌++◌, Option, Some, None, refl, sym, ap, ◌∙◌, append-nil, append_assoc, arith}
+use Rattle.std.specs.Prelude.{not, reverse, pos}
+use Rattle.std.specs.List.{filter, list_any, sum_by}
+use Rattle.std.proofs.lemmas.List.Folds.{list_any-append}
+use Rattle.std.proofs.lemmas.List.Elements.{filter-append}
+use Rattle.std.proofs.lemmas.List.Sums.{sum_by_push}
+use Rattle.uc_meaning.specs.declared.entry.Entry.{Entry}
+use Rattle.uc_meaning.specs.declared.entry.EntryKind.TheVariants as kind
+use Rattle.uc_meaning.specs.Open.{still_open}
+use Rattle.uc_meaning.specs.Journal.{Journal, entry, is_over, is_ending, entries_at, held, own_object, owns, first_or_0, where_true, is_task, lets_in, moves}
+use Rattle.uc_meaning.specs.Queues.{Noted, noted, noted_from, actor, clusters, note, running, ready, waiting, stacked, used, first_ended, all_ticks, ends_first, spent, dispatches, puts_on, takes_off, calls, takes, stacks, admits}
+use Rattle.uc_meaning.proofs.Open.{still_open_push, still_open_silent, still_open_begins, any_push, or_false}
+
+-- the noted entry that one more entry adds
+pub record OneMore (j : Journal) (e : Entry) : Type 0 where
+  pub added : Noted
+  pub is : added.entry ≡ e
+  pub noted_is : noted (j ++ e ∷ []) ≡ noted j ++ added ∷ []
+
+one_more_from : (t : ℕ) (on : ℕ → ℕ) (j : Journal) (e : Entry) → (x : Noted) × (x.entry ≡ e) × (noted_from t on (j ++ e ∷ []) ≡ noted_from t on j ++ x ∷ [])
+one_more_from t on [] e = (note t on e, refl, refl)
+one_more_from t on (f ∷ j) e =
+    let r = one_more_from (actor t f.kind f) (clusters on f.kind f) j e in
+    (r.0, r.1, ap (λ l. note t on f ∷ l) r.2)
+
+pub one_more : (j : Journal) (e : Entry) → OneMore j e
+one_more j e = let r = one_more_from 0 (λ t. 0) j e in record { added = r.0; is = r.1; noted_is = r.2 }
+
+and_false : (b : Bool) → (b && false) ≡ false
+and_false true = refl
+and_false false = refl
+
+same_filter : {A : Type 0} (p : A → Bool) (xs : List A) (x : A) → p x ≡ false → filter p (xs ++ x ∷ []) ≡ filter p xs
+same_filter p xs x h = simp (filter-append, h, append-nil)
+
+more_filter : {A : Type 0} (p : A → Bool) (xs : List A) (x : A) → p x ≡ true → filter p (xs ++ x ∷ []) ≡ filter p xs ++ x ∷ []
+more_filter p xs x h = simp (filter-append, h)
+
+module _ (a b : ℤ) where
+  abbrev pub printing : Entry
+  printing = entry kind.Print 0 0 0 0 a b
+
+  pub goes_on : (j : Journal) → is_over (j ++ printing ∷ []) ≡ is_over j
+  unfolding is_over
+  goes_on j = any_push (λ e. is_ending e.kind) j printing ∙ or_false _
+
+  pub not_ended : (j : Journal) → first_ended (j ++ printing ∷ []) ≡ first_ended j
+  unfolding first_ended
+  not_ended j = any_push (λ e. ends_first e.kind e) j printing ∙ or_false _
+
+  pub same_held : (t : ℕ) (j : Journal) → held t (j ++ printing ∷ []) ≡ held t j
+  unfolding held
+  same_held t j =
+      still_open_silent (λ e. where_true (is_task t (lets_in e.kind e)) e.object) (λ e o. (e.object == o) && moves e.kind e t) j printing refl (λ o. and_false _)
+
+  pub same_own : (t : ℕ) (j : Journal) → own_object t (j ++ printing ∷ []) ≡ own_object t j
+  unfolding own_object
+  same_own t j = ap first_or_0 (still_open_silent (λ e. owns t e.kind e) (λ e o. false) j printing refl (λ o. refl))
+
+  entries_more : (j : Journal) → entries_at 0 (j ++ printing ∷ []) ≡ entries_at 0 j ++ printing ∷ []
+  unfolding entries_at
+  entries_more j = more_filter (λ e. e.object == 0) j printing refl
+
+  pub same_waiting : (j : Journal) → waiting 0 (j ++ printing ∷ []) ≡ waiting 0 j
+  unfolding waiting
+  same_waiting j =
+      ap (still_open (λ e. calls e.kind e) (λ e p. takes e.kind e p.0)) (entries_more j) ∙ still_open_silent (λ e. calls e.kind e) (λ e p. takes e.kind e p.0) (entries_at 0 j) printing refl (λ o. refl)
+
+  pub same_stacked : (j : Journal) → stacked 0 (j ++ printing ∷ []) ≡ stacked 0 j
+  unfolding stacked
+  same_stacked j =
+      ap reverse (ap (still_open (λ e. stacks e.kind e) (λ e. admits e.kind e)) (entries_more j) ∙ still_open_silent (λ e. stacks e.kind e) (λ e. admits e.kind e) (entries_at 0 j) printing refl (λ o. refl))
+
+  running_more : (j : Journal) → OneMore j printing → running 0 (j ++ printing ∷ []) ≡ running 0 j
+  unfolding running
+  running_more j m =
+      let begins : Noted → Option ℕ = λ x. puts_on x.entry.kind x.entry x.actor in
+      let ends : Noted → ℕ → Bool = λ x. takes_off x.entry.kind x.entry in
+      let here : Noted → Bool = λ x. x.entry.proc == 0 in
+      ap (λ l. still_open begins ends (filter here l)) m.noted_is ∙ ap (still_open begins ends) (more_filter here (noted j) m.added (ap (λ e. e.proc == 0) m.is)) ∙ still_open_silent begins ends (filter here (noted j)) m.added (ap (λ e. puts_on e.kind e m.added.actor) m.is) (λ t. ap (λ e. takes_off e.kind e t) m.is)
+
+  pub same_running : (j : Journal) → running 0 (j ++ printing ∷ []) ≡ running 0 j
+  same_running j = running_more j (one_more j printing)
+
+  pub same_used : (j : Journal) → used 0 (j ++ printing ∷ []) ≡ used 0 j
+  unfolding used
+  same_used j =
+      ap (sum_by (λ k. k)) (still_open_begins (spent 0) (λ e x. dispatches e.kind e 0) j printing 0 refl (λ x. refl)) ∙ sum_by_push (λ k. k) (still_open (spent 0) (λ e x. dispatches e.kind e 0) j) 0 ∙ add-zero _
+
+  pub same_ticks : (j : Journal) → all_ticks (j ++ printing ∷ []) ≡ all_ticks j
+  unfolding all_ticks
+  same_ticks j = sum_by_push (λ e. e.ticks) j printing ∙ add-zero _

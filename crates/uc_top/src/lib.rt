@@ -1,0 +1,4 @@
+// The top call of ucpp: words, texts, streams and gate in, output, journal and status out.
+#![tactic(auto)]
+
+mod keeper;
