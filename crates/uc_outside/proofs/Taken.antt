@@ -1,5 +1,5 @@
 -- What several puts come to.
-use Rattle.std.proofs.Common.{◌≡◌, ℕ, ◌+◌, ◌<◌, ◌≤◌, List, [], ◌∷◌, ◌++◌, length, refl, sym, ap, ◌∙◌, subst, append_assoc, length-append, add_assoc, arith, Option, Some, None}
+use Rattle.std.proofs.Common.{◌≡◌, ℕ, ◌+◌, ◌<◌, List, [], ◌∷◌, ◌++◌, length, refl, sym, ap, ◌∙◌, subst, append_assoc, length-append, arith, Option, Some, None}
 use Rattle.std.specs.Option.{option_map}
 use Rattle.uc_outside.specs.Faults.{CountRose}
 use Rattle.uc_outside.specs.Taking.{SinkState, Grew, Used, Gained, Took, FailedAt, TookNothing, TookPrefix, HasRoom}
@@ -94,3 +94,23 @@ took-failed {a} {b} {c} {xs} {ys} p q = record {
 -- a text that fits into the room does not fail
 pub fits-no_failure : {a b : SinkState} {text : List ℕ} → HasRoom a text → FailedAt a b text → ⊥
 fits-no_failure {text = text} h f = let small : h.left < length text = f.longer h.left h.is_room in omega (arith, small, h.fits)
+
+-- a failure at a text is one at every longer text
+pub failed-longer : {a b : SinkState} {xs : List ℕ} (ys : List ℕ) → FailedAt a b xs → FailedAt a b (xs ++ ys)
+failed-longer {xs = xs} ys f = record {
+  rose = f.rose;
+  longer = λ left is_room. let small : left < length xs = f.longer left is_room in omega (arith, length-append xs ys, small);
+}
+
+-- a prefix of a text is one of every longer text
+pub prefix-longer : {a b : SinkState} {xs : List ℕ} (ys : List ℕ) → TookPrefix a b xs → TookPrefix a b (xs ++ ys)
+prefix-longer ys p = record {
+  prefix = p.prefix;
+  rest = p.rest ++ ys;
+  is_prefix = ap (λ zs. zs ++ ys) p.is_prefix ∙ append_assoc p.prefix p.rest ys;
+  gained = p.gained;
+}
+
+-- what is told after a put of just these bytes
+pub told-after : {a b : SinkState} {bytes : List ℕ} (held : List ℕ) → Took a b bytes → a.told ≡ Some held → b.told ≡ Some (held ++ bytes)
+told-after {bytes = bytes} held p e = p.gained.told.grown ∙ ap (option_map (λ xs. xs ++ bytes)) e

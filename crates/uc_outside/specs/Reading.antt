@@ -1,5 +1,5 @@
 -- What a store is seen as, and what each answer of a read means.
-use Rattle.std.specs.Prelude.{◌≡◌, ℕ, ◌<◌, ◌≤◌, Bool, true, List, length, Option, Some, None, IsTrue, IsSome}
+use Rattle.std.specs.Prelude.{◌≡◌, ℕ, ◌<◌, ◌≤◌, Bool, List, length, Option, Some, None, IsTrue, IsSome}
 use Rattle.std.specs.Ordering.{nat_cmp}
 use Rattle.std.specs.Cmp.Lexicographic.{slice_cmp}
 use Rattle.std.specs.FinMap as map
@@ -27,6 +27,14 @@ pub record StoreState : Type 0 where
 -- a steady store tells its files
 pub record SteadyTells (store : StoreState) : Type 0 where
   pub tells : IsTrue store.steady → IsSome store.told
+
+-- the store tells its files, and has this name with no more bytes than the limit
+pub record HasFile (store : StoreState) (name : List ℕ) (limit : ℕ) : Type 0 where
+  pub files : Files
+  pub is_told : store.told ≡ Some files
+  pub bytes : List ℕ
+  pub is_file : file_of files name ≡ Some bytes
+  pub fits : length bytes ≤ limit
 
 -- the store's files and steadiness stay, and its count does not fall
 pub record KeepsFiles (before after : StoreState) : Type 0 where

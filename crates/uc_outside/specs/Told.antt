@@ -1,8 +1,6 @@
 -- The files of a store that is made from a list of them, and what is taken from a reader.
-use Rattle.std.specs.Prelude.{◌≡◌, ℕ, List, map as list_map, String, Vec, string_bytes, refl}
+use Rattle.std.specs.Prelude.{ℕ, List, map as list_map, String, Vec, string_bytes, refl}
 use Rattle.std.specs.declared.alloc.Global.{Global}
-use Rattle.std.specs.Ordering.{nat_cmp}
-use Rattle.std.specs.Cmp.Lexicographic.{slice_cmp}
 use Rattle.std.specs.FinMap as map
 use Rattle.std.specs.Coded.{Coded, code_by, coded×, coded_ℕ, coded_list}
 use Rattle.uc_outside.specs.Reading.{Files}

@@ -1,6 +1,7 @@
 // The store of the file system.
-ghost use Rattle.std.specs.Prelude.{◌≡◌, ◌+◌, ◌≤◌, IfOk, IfErr, vec_len};
-ghost use Rattle.uc_outside.specs.Limited.{TakesAtMost, GaveAll, GaveFault};
+ghost use Rattle.std.specs.Prelude.{◌≡◌, ◌≢◌, ◌+◌, ◌<◌, ◌≤◌, IfOk, IfErr, is_ok, false, length, vec_len};
+ghost use Rattle.std.specs.Io.KnownBytes.{IsAtEnd};
+ghost use Rattle.uc_outside.specs.Limited.{TakesAtMost, GaveAll, GaveFault, AppendsPiece};
 
 use crate::faults::StoreFault;
 use crate::stores::Store;
@@ -84,17 +85,43 @@ pub fn read_limited<R: Read>(
     let most = limit as usize + 1;
     let mut bytes = Vec::new(alloc);
     let mut piece = [0u8; PIECE];
-    for _ in 0..u64::MAX {
+    'pieces: for _ in 0..u64::MAX {
         let ask = PIECE.min(most - bytes.len());
-        match reader.read(&mut piece[..ask]) {
-            Ok(0) => return Ok(bytes),
-            Ok(n) => bytes.extend_from_slice(&piece[..n])?,
-            Err(e) if e.kind() == ErrorKind::Interrupted => {}
-            Err(_) => return Err(StoreFault::Failed),
+        if !append_piece(reader, &mut piece[..ask], &mut bytes)? {
+            return Ok(bytes);
         }
         if bytes.len() == most {
             return Err(StoreFault::TooLong);
         }
     }
     Err(StoreFault::Failed)
+}
+
+/// Appends what one read gives, and answers false at the reader's end.
+fn append_piece<R: Read>(
+    reader: &mut R,
+    piece: &mut [u8],
+    bytes: &mut Vec<u8>,
+) -> Result<bool, StoreFault>
+    requires { 0 < length piece.old }
+    ensures takes { AppendsPiece (R.remaining reader.old) (R.remaining reader.new) (length piece.old)
+        bytes.old.items bytes.new.items (is_ok result) }
+    ensures end { result ≡ Ok false → IsAtEnd (R.remaining reader.new) }
+    ensures end_stays { result ≡ Ok false → bytes.new.items ≡ bytes.old.items }
+    ensures not_long { IfErr result (λ e. e ≢ StoreFault.TooLong) }
+{
+    match reader.read(piece) {
+        Ok(0) => Ok(false),
+        Ok(n) => {
+            bytes.extend_from_slice(&piece[..n])?;
+            Ok(true)
+        }
+        Err(e) => {
+            if e.kind() == ErrorKind::Interrupted {
+                Ok(true)
+            } else {
+                Err(StoreFault::Failed)
+            }
+        }
+    }
 }

@@ -1,4 +1,4 @@
-use Rattle.std.proofs.Common.{rules, ◌≡◌, ◌++◌, take, drop, length, arith}
+use Rattle.std.proofs.Common.{◌++◌, take, arith}
 use Rattle.std.proofs.lemmas.Grind.{common_steps}
 use Rattle.uc_outside.proofs.Taken.{took-more}
 use Rattle.uc_outside.proofs.sinks.put_all.Goals as goal

@@ -1,9 +1,6 @@
-use Rattle.std.proofs.Common.{rules, ◌≡◌, sym, ◌∙◌, ap, cond, Some}
-use Rattle.std.specs.Ordering.{nat_cmp}
-use Rattle.std.specs.Cmp.Lexicographic.{slice_cmp}
-use Rattle.std.specs.FinMap.{find}
-use Rattle.uc_outside.specs.Told.{entries_of}
-use Rattle.uc_outside.proofs.Found.{found_by_scan, scan_step}
+use Rattle.std.proofs.Common.{sym, ◌∙◌, ap, Some}
+use Rattle.std.specs.Str.{bytes_eq}
+use Rattle.uc_outside.proofs.Found.{found_by_scan, scan_hit, scan_miss}
 use Rattle.uc_outside.proofs.steady.find_file.Goals as goal
 
 pub loop-file-init : goal.loop-file-init
@@ -11,10 +8,13 @@ loop-file-init c = found_by_scan c.args.files.now c.args.name.now
 
 pub returns-then-eq : goal.returns-then-eq
 returns-then-eq c =
-    let step = scan_step c.args.files.now c.loop-file.file-index c.file-item.result c.args.name.now c.loop-file-test.true c.file-item.is in
-    ?
+    ap Some c.as_slice.ensures.value
+    ∙ sym (c.loop-file.invariant
+    ∙ scan_hit c.args.files.now c.loop-file.file-index c.file-item.result c.args.name.now c.loop-file-test.true c.file-item.is
+    (ap (bytes_eq c.args.name.now) (sym c.as_str.ensures.value) ∙ sym c.eq.ensures ∙ c.if-eq.true))
 
 pub loop-file-preserved : goal.loop-file-preserved
 loop-file-preserved c =
-    let step = scan_step c.args.files.now c.loop-file.file-index c.file-item.result c.args.name.now c.loop-file-test.true c.file-item.is in
-    ?
+    c.loop-file.invariant
+    ∙ scan_miss c.args.files.now c.loop-file.file-index c.file-item.result c.args.name.now c.loop-file-test.true c.file-item.is
+    (ap (bytes_eq c.args.name.now) (sym c.as_str.ensures.value) ∙ sym c.eq.ensures ∙ c.if-eq.false)
