@@ -1,0 +1,5 @@
+pub mod Faults
+pub mod Reading
+pub mod Taking
+pub mod Limited
+pub mod Told
