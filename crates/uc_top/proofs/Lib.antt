@@ -1,3 +1,5 @@
 mod Silent
 mod Facts
 mod Sums
+mod Prints
+mod FirstBad

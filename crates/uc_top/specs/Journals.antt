@@ -20,8 +20,11 @@ abbrev pub print_entry : Shown → Entry
 print_entry Newline = entry kind.Print 0 0 0 0 (pos 1) (pos 10)
 print_entry (Total n) = entry kind.Print 0 0 0 0 (pos 0) (pos n)
 
+abbrev pub opening_entry : Entry
+opening_entry = begin default_options
+
 abbrev pub opening : List Entry
-opening = begin default_options ∷ (dispatch 0 0 ∷ [])
+opening = opening_entry ∷ (dispatch 0 0 ∷ [])
 
 abbrev pub closing : List Entry
 closing = entry kind.End 0 0 0 0 (pos 0) (pos 0) ∷ (entry kind.Done 0 0 0 0 (pos 0) (pos 0) ∷ [])

@@ -1,1 +1,5 @@
 pub mod Journals
+pub mod Words
+pub mod Built
+pub mod Refusals
+pub mod Outcomes

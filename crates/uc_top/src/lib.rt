@@ -2,3 +2,6 @@
 #![tactic(auto)]
 
 mod keeper;
+mod printing;
+mod refusals;
+mod words;

@@ -1,0 +1,6 @@
+use Rattle.std.proofs.Common.{◌≡◌, [], take}
+use Rattle.uc_meaning.specs.Texts.{printed}
+use Rattle.uc_top.proofs.printing.printed_bytes.Given as goal
+
+abbrev pub invariant-loop-entry : goal.invariant-loop-entry
+invariant-loop-entry l = l.bytes.items ≡ printed [] (take l.entry-index l.journal)

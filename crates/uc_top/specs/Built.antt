@@ -1,0 +1,32 @@
+-- Which texts are programs that are built, and what a run of one gives.
+use Rattle.std.specs.Prelude.{◌≡◌, ℕ, List, [], ◌∷◌}
+use Rattle.uc_tree.specs.declared.limits.TheConstants.{PROGRAM_BYTES}
+use Rattle.uc_tree.specs.declared.token.Token.{Token}
+use Rattle.uc_tree.specs.Tokens.{tokens, Read}
+use Rattle.uc_meaning.specs.Journal.{Journal}
+use Rattle.uc_meaning.specs.Runs.{IsRun}
+use Rattle.uc_meaning.specs.Sums.{SumProgram, IsBuilt, source_of}
+use Rattle.uc_outside.specs.Reading.{StoreState, ReadBytes}
+use Rattle.uc_top.specs.Journals.{default_options}
+use Rattle.uc_top.specs.Words.{Words, IsRunLine}
+
+-- the tokens of the text spell this program
+pub record IsProgram (text : List ℕ) (program : SumProgram) : Type 0 where
+  pub list : List Token
+  pub lexed : tokens text ≡ Read list
+  pub built : IsBuilt list program
+
+-- the store gave the text of the named file
+pub record GaveText (words : Words) (before after : StoreState) (text : List ℕ) : Type 0 where
+  pub file : List ℕ
+  pub line : IsRunLine words file
+  pub read : ReadBytes before after file PROGRAM_BYTES text
+
+-- the store gave the text of a program, the only one that the text spells, and the journal is a complete run of it
+pub record HasRun (words : Words) (before after : StoreState) (journal : Journal) : Type 0 where
+  pub text : List ℕ
+  pub gave : GaveText words before after text
+  pub program : SumProgram
+  pub is : IsProgram text program
+  pub only : (other : SumProgram) → IsProgram text other → other ≡ program
+  pub run : IsRun (source_of program) [] default_options journal

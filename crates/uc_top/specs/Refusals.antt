@@ -1,0 +1,71 @@
+-- The status and the text of a refusal, and its cause.
+use Rattle.std.specs.Prelude.{◌≡◌, ℕ, List, [], ◌∷◌, ◌++◌, codes, decimal}
+use Rattle.uc_tree.specs.declared.limits.TheConstants.{PROGRAM_BYTES}
+use Rattle.uc_meaning.specs.Sums.{SumProgram}
+use Rattle.uc_outside.specs.Reading.{StoreState, ReadFailed, ReadTooLong}
+use Rattle.uc_top.specs.declared.refusals.Refusal.{Refusal}
+use Rattle.uc_top.specs.declared.refusals.Refusal.TheVariants.{Word, CannotRead, TooLong, NotBuilt, NoMemory}
+use Rattle.uc_top.specs.Words.{Words, IsRunLine, IsFirstBad}
+use Rattle.uc_top.specs.Built.{IsProgram, GaveText}
+
+abbrev pub status_of : Refusal → ℕ
+status_of (Word n) = 2
+status_of CannotRead = 3
+status_of TooLong = 3
+status_of NotBuilt = 1
+status_of NoMemory = 8
+
+-- the name of the file that the words name
+abbrev pub name_of : Words → List ℕ
+name_of (word ∷ (name ∷ words)) = name
+name_of _ = []
+
+-- what a refusal says
+abbrev pub reason_of : Refusal → List ℕ → List ℕ
+reason_of (Word n) name = codes "word " ++ decimal n
+reason_of CannotRead name = codes "cannot read " ++ name
+reason_of TooLong name = codes "too long " ++ name
+reason_of NotBuilt name = codes "not built"
+reason_of NoMemory name = codes "out of memory"
+
+-- a line on err
+abbrev pub err_line : List ℕ → List ℕ
+err_line reason = codes "ucpp: " ++ reason ++ codes "\n"
+
+abbrev pub refusal_text : Refusal → List ℕ → List ℕ
+refusal_text r name = err_line (reason_of r name)
+
+-- the named file could not be read
+pub record IsUnread (words : Words) (before after : StoreState) : Type 0 where
+  pub file : List ℕ
+  pub line : IsRunLine words file
+  pub failed : ReadFailed before after file
+
+-- the named file is longer than a text may be
+pub record IsTooLong (words : Words) (before after : StoreState) : Type 0 where
+  pub file : List ℕ
+  pub line : IsRunLine words file
+  pub long : ReadTooLong before after file PROGRAM_BYTES
+
+-- the text is no program that is built
+pub record IsNotBuilt (words : Words) (before after : StoreState) : Type 0 where
+  pub text : List ℕ
+  pub gave : GaveText words before after text
+  pub none : (program : SumProgram) → IsProgram text program → ⊥
+
+-- the words are no line, and nothing was read
+pub record HasBadWord (words : Words) (before after : StoreState) (number : ℕ) : Type 0 where
+  pub first : IsFirstBad words number
+  pub unread : after ≡ before
+
+-- memory was refused, and no read failed
+pub record HasNoMemory (before after : StoreState) : Type 0 where
+  pub same_count : after.count ≡ before.count
+
+-- the cause of a refusal
+abbrev pub Refuses : Words → StoreState → StoreState → Refusal → Type 0
+Refuses words before after (Word n) = HasBadWord words before after n
+Refuses words before after CannotRead = IsUnread words before after
+Refuses words before after TooLong = IsTooLong words before after
+Refuses words before after NotBuilt = IsNotBuilt words before after
+Refuses words before after NoMemory = HasNoMemory before after

@@ -1,0 +1,53 @@
+// What a journal prints.
+
+ghost use Rattle.std.specs.Prelude.{◌≡◌, ◌++◌, IfOk, OnOk, []};
+ghost use Rattle.uc_meaning.specs.Texts.{printed, printed_by, bytes_of, byte_of};
+
+use itoa::Buffer;
+use std::alloc::{AllocError, Global};
+use uc_meaning::entry::{Entry, EntryKind};
+
+#[tactic(auto, using(crate::proofs::Prints::printed_more))]
+/// The bytes that the print entries of a journal print, of a program without text literals.
+pub(crate) fn printed_bytes(alloc: Global, journal: &[Entry]) -> Result<Vec<u8>, AllocError>
+    ensures { IfOk result (λ bytes. bytes.items ≡ printed [] journal.now) }
+{
+    let mut bytes = Vec::new(alloc);
+    for entry in journal {
+        print_entry(&mut bytes, entry)?;
+    }
+    Ok(bytes)
+}
+
+// Appends what an entry prints.
+fn print_entry(bytes: &mut Vec<u8>, entry: &Entry) -> Result<(), AllocError>
+    ensures { OnOk result (bytes.new.items ≡ bytes.old.items ++ printed_by [] entry.now.kind entry.now) }
+{
+    if entry.kind == EntryKind::Print {
+        print_item(bytes, entry.a, entry.b)?;
+    }
+    Ok(())
+}
+
+// Appends the bytes of an item.
+fn print_item(bytes: &mut Vec<u8>, form: i64, value: i64) -> Result<(), AllocError>
+    ensures { OnOk result (bytes.new.items ≡ bytes.old.items ++ bytes_of [] form value) }
+{
+    if form == 0 {
+        let mut buffer = Buffer::new();
+        bytes.extend_from_slice(buffer.format(value).as_bytes())?;
+    } else if form == 1 {
+        bytes.push(character(value))?;
+    }
+    Ok(())
+}
+
+// The byte of a character.
+fn character(value: i64) -> u8
+    ensures { result ≡ byte_of value }
+{
+    match u8::try_from(value) {
+        Ok(byte) => byte,
+        Err(_) => 0,
+    }
+}
