@@ -1,3 +1,16 @@
 pub mod Expressions
 pub mod Statements
 pub mod Programs
+pub mod Codes
+pub mod ExpressionCodes
+pub mod ExpressionSizes
+pub mod ExpressionViews
+pub mod ExpressionFalls
+pub mod StatementCodes
+pub mod StatementSizes
+pub mod StatementViews
+pub mod StatementForms
+pub mod StatementFalls
+pub mod ProgramCodes
+pub mod ProgramViews
+pub mod ItemViews

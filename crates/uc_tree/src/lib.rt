@@ -1,8 +1,13 @@
 // Trees and tokens of program texts, their numbering and sizes, and every limit of the language and its kernel.
 #![tactic(auto)]
 
+pub mod class;
+pub mod declare;
+pub mod expr;
 pub mod kinds;
 pub mod limits;
 pub mod name;
 pub mod ops;
 pub mod pos;
+pub mod program;
+pub mod stmt;
