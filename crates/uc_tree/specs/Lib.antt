@@ -14,3 +14,6 @@ pub mod StatementFalls
 pub mod ProgramCodes
 pub mod ProgramViews
 pub mod ItemViews
+pub mod Capped
+pub mod Exits
+pub mod Sizes

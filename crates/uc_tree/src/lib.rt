@@ -10,4 +10,5 @@ pub mod name;
 pub mod ops;
 pub mod pos;
 pub mod program;
+pub mod size;
 pub mod stmt;
