@@ -3,6 +3,7 @@
 
 pub mod class;
 pub mod declare;
+pub mod exits;
 pub mod expr;
 pub mod kinds;
 pub mod limits;
