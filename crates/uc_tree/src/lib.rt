@@ -11,5 +11,6 @@ pub mod name;
 pub mod ops;
 pub mod pos;
 pub mod program;
+pub mod program_size;
 pub mod size;
 pub mod stmt;
