@@ -338,4 +338,3 @@ role_again role.Destructor = refl
 
 abbrev pub role_codec : Codec Role
 role_codec = by_number role_number role_of role_again
-

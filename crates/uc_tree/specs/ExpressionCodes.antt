@@ -107,7 +107,6 @@ mutual
   again_links NoLinks = refl
   again_links (MoreLinks a b) = λ i. MoreLinks (again_link a i) (again_links b i)
 
-
 abbrev pub expr_codec : Codec Expr
 expr_codec = record { code = code_expr; back = back_expr; again = again_expr }
 

@@ -278,7 +278,6 @@ mutual
   again_clauses NoClauses = refl
   again_clauses (MoreClauses a b) = λ i. MoreClauses (again_clause a i) (again_clauses b i)
 
-
 abbrev pub stmt_codec : Codec Stmt
 stmt_codec = record { code = code_stmt; back = back_stmt; again = again_stmt }
 

@@ -97,9 +97,17 @@ impl Model for Member {
 /// What a member is: fields of one base, which stands at `at`; a routine; or its signature alone.
 #[derive(Drop)]
 pub enum MemberForm {
-    Fields { at: Pos, base: Base, declarators: Vec<Declarator> },
-    Routine { routine: Routine },
-    Proto { sig: Sig },
+    Fields {
+        at: Pos,
+        base: Base,
+        declarators: Vec<Declarator>,
+    },
+    Routine {
+        routine: Routine,
+    },
+    Proto {
+        sig: Sig,
+    },
 }
 
 /// A class, with the place of its first token.

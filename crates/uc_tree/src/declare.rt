@@ -125,6 +125,12 @@ impl Model for ForStart {
 #[derive(Drop)]
 pub enum ForForm {
     Nothing,
-    Declare { pos: Pos, base: Base, declarators: Vec<Declarator> },
-    Evaluate { value: Expr },
+    Declare {
+        pos: Pos,
+        base: Base,
+        declarators: Vec<Declarator>,
+    },
+    Evaluate {
+        value: Expr,
+    },
 }

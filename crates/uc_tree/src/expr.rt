@@ -1,8 +1,12 @@
 // Expressions, which contracts see as trees without pointers.
 
+ghost use Rattle.std.specs.Prelude.{◌≡◌, IfOk};
+ghost use Rattle.uc_tree.specs.Expressions.{Number, Character, Truth, Name, Cin, Postfix, Unary, Chain, Assign, Field, Index, Call, Step, Linked, exprs_of, parts_of, links_of, chained, with_parts, expr_pos};
+
 use crate::name::Name;
 use crate::ops::{AssignOp, BinaryOp, StepOp, UnaryOp};
 use crate::pos::Pos;
+use std::alloc::{AllocError, Global};
 use std::marker::Model;
 
 /// An expression, with the place of its first token. Parentheses leave no node.
@@ -40,15 +44,37 @@ impl Model for Expr {
 #[cycle(expr)]
 #[derive(Drop)]
 pub enum ExprForm {
-    Number { value: i64 },
-    Character { byte: u8 },
-    Truth { value: bool },
-    Name { name: Name },
+    Number {
+        value: i64,
+    },
+    Character {
+        byte: u8,
+    },
+    Truth {
+        value: bool,
+    },
+    Name {
+        name: Name,
+    },
     Cin,
-    Postfix { root: Box<Expr>, parts: Vec<Part> },
-    Unary { op: UnaryOp, operand: Box<Expr> },
-    Chain { first: Box<Expr>, rest: Vec<Link> },
-    Assign { sign: Pos, op: AssignOp, place: Box<Expr>, value: Box<Expr> },
+    Postfix {
+        root: Box<Expr>,
+        parts: Vec<Part>,
+    },
+    Unary {
+        op: UnaryOp,
+        operand: Box<Expr>,
+    },
+    Chain {
+        first: Box<Expr>,
+        rest: Vec<Link>,
+    },
+    Assign {
+        sign: Pos,
+        op: AssignOp,
+        place: Box<Expr>,
+        value: Box<Expr>,
+    },
 }
 
 /// A part behind the root of a postfix expression, with the place of its own sign.
@@ -117,4 +143,81 @@ impl Model for Link {
     ghost use Rattle.std.proofs.Common.{arith};
 
     ghost size_decreases = { λ a h. Prim.omega arith };
+}
+
+impl Expr {
+    /// The place of the first token.
+    pub fn first_token(&self) -> Pos
+        ensures { result ≡ expr_pos self.now }
+    {
+        self.pos
+    }
+
+    /// An operator before its operand, whose place is the expression's.
+    pub fn unary(alloc: Global, at: Pos, op: UnaryOp, operand: Expr) -> Result<Expr, AllocError>
+        ensures { IfOk result (λ e. e ≡ Unary at op operand) }
+    {
+        let operand = Box::new(alloc, operand)?;
+        Ok(Expr {
+            pos: at,
+            form: ExprForm::Unary { op, operand },
+        })
+    }
+
+    /// An assignment whose operator stands at `sign`.
+    pub fn assign(
+        alloc: Global,
+        at: Pos,
+        sign: Pos,
+        op: AssignOp,
+        place: Expr,
+        value: Expr,
+    ) -> Result<Expr, AllocError>
+        ensures { IfOk result (λ e. e ≡ Assign at sign op place value) }
+    {
+        let place = Box::new(alloc, place)?;
+        let value = Box::new(alloc, value)?;
+        Ok(Expr {
+            pos: at,
+            form: ExprForm::Assign {
+                sign,
+                op,
+                place,
+                value,
+            },
+        })
+    }
+
+    /// A chain, or its first operand where no operator follows.
+    pub fn chained(alloc: Global, at: Pos, first: Expr, rest: Vec<Link>) -> Result<Expr, AllocError>
+        ensures { IfOk result (λ e. e ≡ chained at first rest.items) }
+    {
+        if rest.is_empty() {
+            return Ok(first);
+        }
+        let first = Box::new(alloc, first)?;
+        Ok(Expr {
+            pos: at,
+            form: ExprForm::Chain { first, rest },
+        })
+    }
+
+    /// A root and the parts behind it, or the root where no part follows.
+    pub fn with_parts(
+        alloc: Global,
+        at: Pos,
+        root: Expr,
+        parts: Vec<Part>,
+    ) -> Result<Expr, AllocError>
+        ensures { IfOk result (λ e. e ≡ with_parts at root parts.items) }
+    {
+        if parts.is_empty() {
+            return Ok(root);
+        }
+        let root = Box::new(alloc, root)?;
+        Ok(Expr {
+            pos: at,
+            form: ExprForm::Postfix { root, parts },
+        })
+    }
 }

@@ -112,7 +112,11 @@ fn size_of_start(start: &Start) -> u64
 fn size_of_declarator(declarator: &Declarator) -> u64
     ensures { result ≡ capped (declarator_size declarator.now) }
 {
-    node(size_of_maybe_expr(&declarator.len), size_of_start(&declarator.start), 0)
+    node(
+        size_of_maybe_expr(&declarator.len),
+        size_of_start(&declarator.start),
+        0,
+    )
 }
 
 /// The sum of the sizes of these declarators.
@@ -182,14 +186,23 @@ pub fn size_of_stmt(s: &Stmt) -> u64
         StmtForm::Empty => 1,
         StmtForm::Evaluate { value } => node(size_of_expr(value), 0, 0),
         StmtForm::Declare { declarators, .. } => node(size_of_declarators(declarators), 0, 0),
-        StmtForm::If { test, chosen, other } => node(
+        StmtForm::If {
+            test,
+            chosen,
+            other,
+        } => node(
             size_of_expr(test),
             size_of_stmt(chosen),
             size_of_maybe_stmt(other),
         ),
         StmtForm::While { test, body } => node(size_of_expr(test), size_of_stmt(body), 0),
         StmtForm::Do { body, test } => node(size_of_stmt(body), size_of_expr(test), 0),
-        StmtForm::For { start, test, step, body } => node(
+        StmtForm::For {
+            start,
+            test,
+            step,
+            body,
+        } => node(
             size_of_for_start(start),
             size_of_maybe_expr(test).saturating_add(size_of_maybe_expr(step)),
             size_of_stmt(body),
@@ -197,13 +210,25 @@ pub fn size_of_stmt(s: &Stmt) -> u64
         StmtForm::Break => 1,
         StmtForm::Continue => 1,
         StmtForm::Return { value } => node(size_of_maybe_expr(value), 0, 0),
-        StmtForm::Try { body, handlers, .. } => node(size_of_stmts(body), size_of_handlers(handlers), 0),
+        StmtForm::Try { body, handlers, .. } => node(
+            size_of_stmts(body),
+            size_of_handlers(handlers),
+            0,
+        ),
         StmtForm::Throw { raised } => node(size_of_maybe_raised(raised), 0, 0),
         StmtForm::Raise { raised } => node(size_of_maybe_raised(raised), 0, 0),
-        StmtForm::RaiseAt { raised, target } => node(size_of_raised(raised), size_of_expr(target), 0),
+        StmtForm::RaiseAt { raised, target } => node(
+            size_of_raised(raised),
+            size_of_expr(target),
+            0,
+        ),
         StmtForm::Enable { body, .. } => node(size_of_stmt(body), 0, 0),
         StmtForm::Disable { body, .. } => node(size_of_stmt(body), 0, 0),
-        StmtForm::Accept { clauses, other } => node(size_of_clauses(clauses), size_of_maybe_stmt(other), 0),
+        StmtForm::Accept { clauses, other } => node(
+            size_of_clauses(clauses),
+            size_of_maybe_stmt(other),
+            0,
+        ),
         StmtForm::Print { items } => node(size_of_out_items(items), 0, 0),
         StmtForm::PrintTogether { items } => node(size_of_out_items(items), 0, 0),
         StmtForm::Read { places } => node(size_of_exprs(places), 0, 0),
@@ -269,5 +294,9 @@ fn size_of_clauses(clauses: &[Clause]) -> u64
 fn size_of_clause(clause: &Clause) -> u64
     ensures { result ≡ capped (clause_size clause.now) }
 {
-    node(size_of_maybe_expr(&clause.guard), size_of_stmt(&clause.body), 0)
+    node(
+        size_of_maybe_expr(&clause.guard),
+        size_of_stmt(&clause.body),
+        0,
+    )
 }

@@ -1,10 +1,15 @@
 // Statements, which contracts see as trees without pointers.
 
+ghost use Rattle.std.specs.Prelude.{◌≡◌, IfOk};
+ghost use Rattle.uc_tree.specs.Statements.{If, While, Do, For, Enable, Disable, Accept, NoStmt, OneStmt, clauses_of, maybe_stmt_of, stmt_pos};
+ghost use Rattle.uc_tree.specs.StatementViews.{maybe_at};
+
 use crate::declare::{Declarator, ForStart, OutItem, Raised};
 use crate::expr::Expr;
 use crate::kinds::{Base, EventName, HandlerKind, MemberName};
 use crate::name::Name;
 use crate::pos::Pos;
+use std::alloc::{AllocError, Global};
 use std::marker::Model;
 
 /// A statement, with the place of its first token.
@@ -41,35 +46,87 @@ impl Model for Stmt {
 #[cycle(stmt)]
 #[derive(Drop)]
 pub enum StmtForm {
-    Block { body: Vec<Stmt> },
+    Block {
+        body: Vec<Stmt>,
+    },
     Empty,
-    Evaluate { value: Expr },
-    Declare { base: Base, declarators: Vec<Declarator> },
-    If { test: Expr, chosen: Box<Stmt>, other: Option<Box<Stmt>> },
-    While { test: Expr, body: Box<Stmt> },
-    Do { body: Box<Stmt>, test: Expr },
-    For { start: ForStart, test: Option<Expr>, step: Option<Expr>, body: Box<Stmt> },
+    Evaluate {
+        value: Expr,
+    },
+    Declare {
+        base: Base,
+        declarators: Vec<Declarator>,
+    },
+    If {
+        test: Expr,
+        chosen: Box<Stmt>,
+        other: Option<Box<Stmt>>,
+    },
+    While {
+        test: Expr,
+        body: Box<Stmt>,
+    },
+    Do {
+        body: Box<Stmt>,
+        test: Expr,
+    },
+    For {
+        start: ForStart,
+        test: Option<Expr>,
+        step: Option<Expr>,
+        body: Box<Stmt>,
+    },
     Break,
     Continue,
-    Return { value: Option<Expr> },
-    Try { brace: Pos, body: Vec<Stmt>, handlers: Vec<Handler> },
+    Return {
+        value: Option<Expr>,
+    },
+    Try {
+        brace: Pos,
+        body: Vec<Stmt>,
+        handlers: Vec<Handler>,
+    },
     /// `_Throw`, without an event that of the handler round it
-    Throw { raised: Option<Raised> },
+    Throw {
+        raised: Option<Raised>,
+    },
     /// `_Resume`, without an event that of the handler round it
-    Raise { raised: Option<Raised> },
+    Raise {
+        raised: Option<Raised>,
+    },
     /// `_Resume` with `_At`
-    RaiseAt { raised: Raised, target: Expr },
-    Enable { events: Vec<EventName>, body: Box<Stmt> },
-    Disable { events: Vec<EventName>, body: Box<Stmt> },
-    Accept { clauses: Vec<Clause>, other: Option<Box<Stmt>> },
-    Print { items: Vec<OutItem> },
+    RaiseAt {
+        raised: Raised,
+        target: Expr,
+    },
+    Enable {
+        events: Vec<EventName>,
+        body: Box<Stmt>,
+    },
+    Disable {
+        events: Vec<EventName>,
+        body: Box<Stmt>,
+    },
+    Accept {
+        clauses: Vec<Clause>,
+        other: Option<Box<Stmt>>,
+    },
+    Print {
+        items: Vec<OutItem>,
+    },
     /// `osacquire`: the items are printed together
-    PrintTogether { items: Vec<OutItem> },
-    Read { places: Vec<Expr> },
+    PrintTogether {
+        items: Vec<OutItem>,
+    },
+    Read {
+        places: Vec<Expr>,
+    },
     Resume,
     Suspend,
     Yield,
-    Migrate { cluster: Expr },
+    Migrate {
+        cluster: Expr,
+    },
 }
 
 /// A handler of one event, or of any where none is named.
@@ -131,4 +188,140 @@ impl Model for Clause {
     ghost use Rattle.std.proofs.Common.{arith};
 
     ghost size_decreases = { λ a h. Prim.omega arith };
+}
+
+impl Stmt {
+    /// The place of the first token.
+    pub fn first_token(&self) -> Pos
+        ensures { result ≡ stmt_pos self.now }
+    {
+        self.pos
+    }
+
+    /// An `if`, with the statement of its `else` where it has one.
+    pub fn if_of(
+        alloc: Global,
+        at: Pos,
+        test: Expr,
+        chosen: Stmt,
+        other: Option<Stmt>,
+    ) -> Result<Stmt, AllocError>
+        ensures { IfOk result (λ s. s ≡ If at test chosen (maybe_stmt_of other)) }
+    {
+        let chosen = Box::new(alloc, chosen)?;
+        let other = boxed(alloc, other)?;
+        Ok(Stmt {
+            pos: at,
+            form: StmtForm::If {
+                test,
+                chosen,
+                other,
+            },
+        })
+    }
+
+    /// A `while`.
+    pub fn while_of(alloc: Global, at: Pos, test: Expr, body: Stmt) -> Result<Stmt, AllocError>
+        ensures { IfOk result (λ s. s ≡ While at test body) }
+    {
+        let body = Box::new(alloc, body)?;
+        Ok(Stmt {
+            pos: at,
+            form: StmtForm::While { test, body },
+        })
+    }
+
+    /// A `do`.
+    pub fn do_of(alloc: Global, at: Pos, body: Stmt, test: Expr) -> Result<Stmt, AllocError>
+        ensures { IfOk result (λ s. s ≡ Do at body test) }
+    {
+        let body = Box::new(alloc, body)?;
+        Ok(Stmt {
+            pos: at,
+            form: StmtForm::Do { body, test },
+        })
+    }
+
+    /// A `for`.
+    pub fn for_of(
+        alloc: Global,
+        at: Pos,
+        start: ForStart,
+        test: Option<Expr>,
+        step: Option<Expr>,
+        body: Stmt,
+    ) -> Result<Stmt, AllocError>
+        ensures { IfOk result (λ s. s ≡ For at start test step body) }
+    {
+        let body = Box::new(alloc, body)?;
+        Ok(Stmt {
+            pos: at,
+            form: StmtForm::For {
+                start,
+                test,
+                step,
+                body,
+            },
+        })
+    }
+
+    /// An `_Enable`.
+    pub fn enable(
+        alloc: Global,
+        at: Pos,
+        events: Vec<EventName>,
+        body: Stmt,
+    ) -> Result<Stmt, AllocError>
+        ensures { IfOk result (λ s. s ≡ Enable at events.items body) }
+    {
+        let body = Box::new(alloc, body)?;
+        Ok(Stmt {
+            pos: at,
+            form: StmtForm::Enable { events, body },
+        })
+    }
+
+    /// A `_Disable`.
+    pub fn disable(
+        alloc: Global,
+        at: Pos,
+        events: Vec<EventName>,
+        body: Stmt,
+    ) -> Result<Stmt, AllocError>
+        ensures { IfOk result (λ s. s ≡ Disable at events.items body) }
+    {
+        let body = Box::new(alloc, body)?;
+        Ok(Stmt {
+            pos: at,
+            form: StmtForm::Disable { events, body },
+        })
+    }
+
+    /// An accept statement, with the statement of its `_Else` where it has one.
+    pub fn accept(
+        alloc: Global,
+        at: Pos,
+        clauses: Vec<Clause>,
+        other: Option<Stmt>,
+    ) -> Result<Stmt, AllocError>
+        ensures { IfOk result (λ s. s ≡ Accept at (clauses_of clauses.items) (maybe_stmt_of other)) }
+    {
+        let other = boxed(alloc, other)?;
+        Ok(Stmt {
+            pos: at,
+            form: StmtForm::Accept { clauses, other },
+        })
+    }
+}
+
+fn boxed(alloc: Global, s: Option<Stmt>) -> Result<Option<Box<Stmt>>, AllocError>
+    ensures { IfOk result (λ b. maybe_at b ≡ maybe_stmt_of s) }
+{
+    match s {
+        Some(s) => {
+            let s = Box::new(alloc, s)?;
+            Ok(Some(s))
+        }
+        None => Ok(None),
+    }
 }
