@@ -68,6 +68,16 @@ abbrev pub link_list : Links → List Link
 link_list NoLinks = []
 link_list (MoreLinks l ls) = l ∷ link_list ls
 
+-- a chain without operators is its operand, and a root without parts is itself
+
+abbrev pub chained : Pos → Expr → List Link → Expr
+chained pos e [] = e
+chained pos e (l ∷ ls) = Chain pos e (links_of (l ∷ ls))
+
+abbrev pub with_parts : Pos → Expr → List Part → Expr
+with_parts pos e [] = e
+with_parts pos e (p ∷ ps) = Postfix pos e (parts_of (p ∷ ps))
+
 -- the place of an expression's first token
 abbrev pub expr_pos : Expr → Pos
 expr_pos (Number pos value) = pos

@@ -1,6 +1,6 @@
 -- Statements without pointers.
 -- `pos` is the place of the first token, `brace` that of the `{` of a body.
-use Rattle.std.specs.Prelude.{ℕ, List, [], ◌∷◌, Bool, Option}
+use Rattle.std.specs.Prelude.{ℕ, List, [], ◌∷◌, Bool, Option, Some, None}
 use Rattle.uc_tree.specs.declared.pos.Pos.{Pos}
 use Rattle.uc_tree.specs.declared.kinds.Base.{Base}
 use Rattle.uc_tree.specs.declared.kinds.HandlerKind.{HandlerKind}
@@ -123,6 +123,10 @@ clauses_of (c ∷ cs) = MoreClauses c (clauses_of cs)
 abbrev pub clause_list : Clauses → List Clause
 clause_list NoClauses = []
 clause_list (MoreClauses c cs) = c ∷ clause_list cs
+
+abbrev pub maybe_stmt_of : Option Stmt → MaybeStmt
+maybe_stmt_of None = NoStmt
+maybe_stmt_of (Some s) = OneStmt s
 
 -- the place of a statement's first token
 abbrev pub stmt_pos : Stmt → Pos

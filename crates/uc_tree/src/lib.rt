@@ -1,6 +1,10 @@
 // Trees and tokens of program texts, their numbering and sizes, and every limit of the language and its kernel.
 #![tactic(auto)]
 
+pub mod class;
+pub mod declare;
+pub mod exits;
+pub mod expr;
 pub mod kinds;
 pub mod limits;
 pub mod name;
@@ -8,3 +12,7 @@ pub mod ops;
 pub mod pos;
 pub mod scan;
 pub mod token;
+pub mod program;
+pub mod program_size;
+pub mod size;
+pub mod stmt;
