@@ -1,0 +1,4 @@
+pub mod Comments
+pub mod Endings
+pub mod Lists
+pub mod Values
