@@ -1,5 +1,5 @@
 -- Where a comment ends, byte by byte.
-use Rattle.std.proofs.Common.{◌≡◌, ℕ, suc, ◌+◌, ◌<◌, ◌≤◌, List, [], ◌∷◌, Bool, true, false, cond, length, get_or, drop, refl, ap, sym, subst, ◌∙◌, drop-cons, add-one, arith}
+use Rattle.std.proofs.Common.{◌≡◌, ℕ, suc, ◌+◌, ◌<◌, ◌≤◌, List, ◌∷◌, true, false, cond, length, get_or, drop, refl, ap, sym, subst, ◌∙◌, drop-cons, add-one, arith}
 use Rattle.std.proofs.Math.ListN.{drop_of_length-le}
 use Rattle.std.specs.Prelude.{Option, Some, None, codes}
 use Rattle.uc_tree.specs.Tokens.{comment_length, one_longer, begins}
@@ -25,12 +25,12 @@ at_place i rest h = comment_length-cons (drop i rest) (get_or rest i 0) (drop (s
 
 pub past-next : (i : ℕ) (rest : List ℕ) → i < length rest → IsPast i rest → begins (drop i rest) (codes "*/") ≡ false → IsPast (i + 1) rest
 past-next i rest h past not_here =
-  let passed : comment_length (drop i rest) ≡ one_longer (comment_length (drop (suc i) rest)) = at_place i rest h ∙ ap (λ v. cond v (Some 2) (one_longer (comment_length (drop (suc i) rest)))) not_here in
-  past ∙ ap (longer_by i) passed ∙ next i (comment_length (drop (suc i) rest)) ∙ ap (λ k. longer_by (i + 1) (comment_length (drop k rest))) (sym (add-one i))
+    let passed : comment_length (drop i rest) ≡ one_longer (comment_length (drop (suc i) rest)) = at_place i rest h ∙ ap (λ v. cond v (Some 2) (one_longer (comment_length (drop (suc i) rest)))) not_here in
+    past ∙ ap (longer_by i) passed ∙ next i (comment_length (drop (suc i) rest)) ∙ ap (λ k. longer_by (i + 1) (comment_length (drop k rest))) (sym (add-one i))
 
 pub past-found : (i : ℕ) (rest : List ℕ) → i < length rest → IsPast i rest → begins (drop i rest) (codes "*/") ≡ true → comment_length rest ≡ Some (i + 2)
 past-found i rest h past here =
-  past ∙ ap (longer_by i) (at_place i rest h ∙ ap (λ v. cond v (Some 2) (one_longer (comment_length (drop (suc i) rest)))) here)
+    past ∙ ap (longer_by i) (at_place i rest h ∙ ap (λ v. cond v (Some 2) (one_longer (comment_length (drop (suc i) rest)))) here)
 
 pub past-end : (i : ℕ) (rest : List ℕ) → length rest ≤ i → IsPast i rest → comment_length rest ≡ None
 unfolding comment_length
@@ -39,6 +39,6 @@ past-end i rest h past = past ∙ ap (λ l. longer_by i (comment_length l)) (dro
 pub past-start : (rest : List ℕ) → IsPast 0 rest
 past-start rest = same (comment_length rest)
   where
-  same : (o : Option ℕ) → o ≡ longer_by 0 o
-  same None = refl
-  same (Some n) = let e : n ≡ 0 + n = omega arith in λ i. Some (e i)
+    same : (o : Option ℕ) → o ≡ longer_by 0 o
+    same None = refl
+    same (Some n) = let e : n ≡ 0 + n = omega arith in λ i. Some (e i)

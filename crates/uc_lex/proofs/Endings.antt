@@ -1,11 +1,10 @@
 -- How text literals end, piece by piece.
-use Rattle.std.proofs.Common.{◌≡◌, ℕ, zero, suc, ◌+◌, ◌≤◌, ◌<◌, List, [], ◌∷◌, ◌++◌, Bool, true, false, cond, length, drop, refl, ap, sym, ◌∙◌, append_assoc, add_assoc, drop-drop, arith}
+use Rattle.std.proofs.Common.{◌≡◌, ℕ, ◌+◌, ◌≤◌, List, [], ◌∷◌, ◌++◌, Bool, true, false, length, drop, refl, ap, sym, ◌∙◌, append_assoc, add_assoc, drop-drop, arith}
 use Rattle.std.proofs.Math.ListN.{drop_of_length-le}
 use Rattle.std.specs.Prelude.{Option, Some, None, slice_get, ◌==◌, if◌then◌else◌}
 use Rattle.uc_tree.specs.Bytes.{is_newline, is_printable, escaped}
 use Rattle.uc_tree.specs.Tokens.{Ending, Closed, Open, Bad, behind, text_ending, behind_byte, behind_escape}
 use Rattle.uc_lex.specs.declared.literals.Piece.{Piece}
-use Rattle.uc_lex.specs.declared.literals.Piece.TheVariants as piece
 use Rattle.uc_lex.specs.Pieces.{piece_length, ending_of, piece_of, piece_of_byte, piece_of_value, piece_of_escape, Moves}
 
 -- The text ends so by this piece, which begins it.
@@ -22,9 +21,9 @@ value_ends b e rest (Some v) = (refl, (omega arith, omega arith))
 
 byte_ends : (b : ℕ) (rest : List ℕ) → EndsBy (behind_byte b (text_ending rest)) (piece_of_byte b) (b ∷ rest)
 byte_ends b rest =
-  choice (b == 34) _ _ _ _ _ (refl, omega arith)
+    choice (b == 34) _ _ _ _ _ (refl, omega arith)
     (choice (is_newline b) _ _ _ _ _ (refl, tt)
-      (choice (is_printable b) _ _ _ _ _ (refl, (omega arith, omega arith)) (refl, (omega arith, omega arith))))
+    (choice (is_printable b) _ _ _ _ _ (refl, (omega arith, omega arith)) (refl, (omega arith, omega arith))))
 
 escape_ends : (b e : ℕ) (rest : List ℕ) → EndsBy (if is_newline e then Open else behind_escape (escaped e) (text_ending rest)) (piece_of_escape (Some e)) (b ∷ e ∷ rest)
 escape_ends b e rest = choice (is_newline e) _ _ _ _ _ (refl, tt) (value_ends b e rest (escaped e))

@@ -1,6 +1,6 @@
 -- One step of a walk over a list: what a search, a run and a fold of what is left say of the next element.
-use Rattle.std.proofs.Common.{◌≡◌, ℕ, ◌+◌, ◌<◌, List, [], ◌∷◌, Bool, true, false, cond, length, get_or, drop, take, suc, refl, ap, sym, ◌∙◌, drop-cons, arith}
-use Rattle.std.specs.Prelude.{Option, Some, None, find, fold}
+use Rattle.std.proofs.Common.{◌≡◌, ℕ, ◌+◌, ◌<◌, List, ◌∷◌, Bool, cond, length, get_or, drop, suc, ap, drop-cons}
+use Rattle.std.specs.Prelude.{Some, find, fold}
 use Rattle.std.specs.List.{prefix_len}
 
 -- the next element

@@ -1,5 +1,5 @@
 -- Further digits never make the value of a number less.
-use Rattle.std.proofs.Common.{◌≡◌, ℕ, ◌+◌, ◌*◌, ◌-◌, ◌≤◌, ◌<◌, List, [], ◌∷◌, arith}
+use Rattle.std.proofs.Common.{ℕ, ◌≤◌, List, [], ◌∷◌, arith}
 use Rattle.std.specs.Prelude.{fold}
 use Rattle.uc_tree.specs.Tokens.{with_digit}
 

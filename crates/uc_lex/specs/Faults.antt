@@ -1,5 +1,5 @@
 -- The faults that the lexer reports.
-use Rattle.std.specs.Prelude.{◌≡◌, ℕ}
+use Rattle.std.specs.Prelude.{◌≡◌}
 use Rattle.uc_tree.specs.Tokens.{Lexed, Refused}
 use Rattle.uc_tree.specs.declared.scan.Reason.TheVariants as reason
 use Rattle.uc_lex.specs.declared.fault.LexFault.{LexFault}

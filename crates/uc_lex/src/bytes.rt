@@ -1,6 +1,6 @@
 // Kinds of bytes, and runs of them.
 
-ghost use Rattle.std.specs.Prelude.{◌≡◌, ◌≤◌, length, drop, slice_get};
+ghost use Rattle.std.specs.Prelude.{◌≡◌, ◌≤◌, length, drop, slice_get, take};
 ghost use Rattle.std.specs.List.{prefix_len};
 ghost use Rattle.uc_tree.specs.Bytes as bytes;
 ghost use Rattle.uc_lex.specs.Runs.{is_in};
@@ -94,6 +94,14 @@ pub fn text_from(text: &[u8], at: usize) -> &[u8]
     ensures { result.now ≡ drop at text.now }
 {
     &text[at..]
+}
+
+/// The text up to that offset.
+pub fn text_to(text: &[u8], end: usize) -> &[u8]
+    requires { end ≤ length text.now }
+    ensures { result.now ≡ take end text.now }
+{
+    &text[..end]
 }
 
 /// How many bytes of the class the text begins with.

@@ -3,9 +3,11 @@
 ghost use Rattle.std.specs.Prelude.{◌≡◌, ◌+◌, ◌<◌, ◌≤◌, ◌^◌, IfOk, IfErr, length, fold};
 ghost use Rattle.uc_tree.specs.Tokens as tokens;
 ghost use Rattle.uc_lex.specs.Faults.{IsFault};
-ghost use Rattle.uc_lex.specs.Places.{InRange};
+ghost use Rattle.uc_lex.specs.Places.{InRange, InText};
 
-use crate::bytes::{Class, is_blank, is_digit, is_letter, is_newline, is_white, run_length, text_from};
+use crate::bytes::{
+    Class, is_blank, is_digit, is_letter, is_newline, is_white, run_length, text_from, text_to,
+};
 use crate::fault::LexFault;
 use crate::literals::{character_at, text_at};
 use crate::names::name_at;
@@ -23,6 +25,7 @@ const START: Place = Place {
 };
 
 // What stands at a place, before which nothing but blanks stands on its line if it is fresh.
+#[tactic(auto, unfolding(uc_tree::specs::Tokens::found_at))]
 fn found_at(alloc: Global, rest: &[u8], fresh: bool) -> Result<Found, AllocError>
     requires some { 0 < length rest.now }
     requires fits { length rest.now < 2 ^ 32 }
@@ -104,4 +107,54 @@ fn place_behind(place: Place, bytes: &[u8]) -> Place
         place = next_place(place, *b);
     }
     place
+}
+
+// What stands at the first byte of the text, and that it stands inside of it.
+fn next_found(alloc: Global, rest: &[u8], fresh: bool) -> Result<Found, AllocError>
+    requires some { 0 < length rest.now }
+    requires fits { length rest.now < 2 ^ 32 }
+    ensures found { IfOk result (λ found. found ≡ tokens.found_at fresh rest.now) }
+    ensures inside { IfOk result (λ found. InText found (length rest.now)) }
+{
+    let found = found_at(alloc, rest, fresh)?;
+    Ok(found)
+}
+
+// The fault at that offset.
+fn fault_at(why: Reason, at: u32) -> LexFault
+    ensures { IsFault (tokens.Refused why at) result }
+{
+    match why {
+        Reason::BadByte => LexFault::BadByte { at },
+        Reason::OpenComment => LexFault::OpenComment { at },
+        Reason::OpenText => LexFault::OpenText { at },
+        Reason::NumberTooWide => LexFault::NumberTooWide { at },
+        Reason::TextTooLong(len) => LexFault::TextTooLong { at, len },
+    }
+}
+
+/// The tokens of the text, or its first fault.
+pub fn lex(alloc: Global, text: &[u8]) -> Result<Vec<Token>, LexFault>
+    requires { length text.now + 1 < 2 ^ 32 }
+    ensures tokens { IfOk result (λ v. tokens.tokens text.now ≡ tokens.Read v.items) }
+    ensures fault { IfErr result (λ f. IsFault (tokens.tokens text.now) f) }
+{
+    let mut tokens = Vec::new(alloc);
+    let mut place = START;
+    while (place.at as usize) < text.len() {
+        let rest = text_from(text, place.at as usize);
+        match next_found(alloc, rest, place.fresh)? {
+            Found::Skip(length) => place = place_behind(place, text_to(rest, length)),
+            Found::Take(kind, length) => {
+                tokens.push(Token {
+                    kind,
+                    at: place.at,
+                    pos: place.pos,
+                })?;
+                place = place_behind(place, text_to(rest, length));
+            }
+            Found::Stop(why, behind) => return Err(fault_at(why, place.at + behind as u32)),
+        }
+    }
+    Ok(tokens)
 }

@@ -10,3 +10,4 @@ mod numbers;
 mod others;
 
 pub use fault::LexFault;
+pub use lexer::lex;

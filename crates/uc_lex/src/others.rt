@@ -4,7 +4,7 @@ ghost use Rattle.std.specs.Prelude.{◌≡◌, ◌<◌, ◌≤◌, length, drop,
 ghost use Rattle.uc_tree.specs.Spelling.{sign_spelling};
 ghost use Rattle.uc_tree.specs.Tokens as tokens;
 
-use crate::bytes::{text_from, Class, run_length};
+use crate::bytes::{Class, run_length, text_from};
 use uc_tree::scan::{Found, Reason};
 use uc_tree::token::{Sign, TokenKind};
 

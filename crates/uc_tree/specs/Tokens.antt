@@ -166,12 +166,12 @@ line_at fresh rest = if fresh && names_include (drop 1 rest) then Skip (line_len
 
 abbrev pub other_at : List ℕ → Found
 other_at rest =
-  if begins rest (codes "//") then Skip (line_length rest)
-  else (if begins rest (codes "/*") then comment_found (comment_length (drop 2 rest))
-  else sign_at rest)
+    if begins rest (codes "//") then Skip (line_length rest)
+    else (if begins rest (codes "/*") then comment_found (comment_length (drop 2 rest))
+    else sign_at rest)
 
 -- What stands at a place. `fresh` says whether nothing but blanks stands before it on its line.
-abbrev pub found_at : Bool → List ℕ → Found
+unfoldable pub found_at : Bool → List ℕ → Found
 found_at fresh rest =
     let b = slice_index rest 0 in
     if is_white b then Skip 1

@@ -9,5 +9,5 @@ abbrev pub invariant-loop-b : goal.invariant-loop-b
 invariant-loop-b l = record {
   same : fold next_place l.fn.place l.bytes ≡ fold next_place l.place (drop l.b-index l.bytes);
   at : l.place.at ≡ l.fn.place.at + l.b-index;
-  range : InRange l.place
+  range : InRange l.place;
 }

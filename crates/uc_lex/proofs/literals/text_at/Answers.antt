@@ -5,4 +5,4 @@ use Rattle.uc_lex.proofs.literals.text_at.Goals as goal
 
 pub returns : goal.returns
 returns c =
-  sym (ap text_found (ap text_ending (sym c.text_from-body.ensures) ∙ behind_all-open c.pieces.value.items c.text_from-body.result.now c.pieces.at c.pieces-test.false c.pieces.invariant.goes_on))
+    sym (ap text_found (ap text_ending (sym c.text_from-body.ensures) ∙ behind_all-open c.pieces.value.items c.text_from-body.result.now c.pieces.at c.pieces-test.false c.pieces.invariant.goes_on))

@@ -8,7 +8,7 @@ abbrev pub invariant-pieces : goal.invariant-pieces
 invariant-pieces l = record {
   goes_on : text_ending l.body ≡ behind_all l.value.items l.at (text_ending (drop l.at l.body));
   within : l.at ≤ length l.body;
-  short : length l.value.items ≤ l.at
+  short : length l.value.items ≤ l.at;
 }
 
 abbrev pub decreases-pieces : goal.decreases-pieces

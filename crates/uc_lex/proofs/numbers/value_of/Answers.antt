@@ -8,5 +8,5 @@ use Rattle.uc_lex.proofs.numbers.value_of.Goals as goal
 pub returns-then-value-gt-NUMBER_MAX-clause-wide :
     goal.returns-then-value-gt-NUMBER_MAX-clause-wide
 returns-then-value-gt-NUMBER_MAX-clause-wide c =
-  rw (c.loop-digit.invariant.same, fold-drop with_digit c.loop-digit.value c.args.digits.now c.loop-digit.digit-index 0 c.loop-digit-test.true)
+    rw (c.loop-digit.invariant.same, fold-drop with_digit c.loop-digit.value c.args.digits.now c.loop-digit.digit-index 0 c.loop-digit-test.true)
     (omega (arith, fold-with_digit-grows (with_digit c.loop-digit.value (get_or c.args.digits.now c.loop-digit.digit-index 0)) (drop (suc c.loop-digit.digit-index) c.args.digits.now), c.saturating_sub.ensures, c.if-value-gt-NUMBER_MAX.true))

@@ -8,5 +8,5 @@ use Rattle.uc_lex.proofs.numbers.value_of.Given as goal
 abbrev pub invariant-loop-digit : goal.invariant-loop-digit
 invariant-loop-digit l = record {
   same : value_of l.digits ≡ fold with_digit l.value (drop l.digit-index l.digits);
-  in_range : l.value ≤ NUMBER_MAX
+  in_range : l.value ≤ NUMBER_MAX;
 }
