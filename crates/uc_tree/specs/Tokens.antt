@@ -162,6 +162,14 @@ names_include rest = begins (drop (prefix_len is_blank rest) rest) (codes "inclu
 abbrev pub line_at : Bool → List ℕ → Found
 line_at fresh rest = if fresh && names_include (drop 1 rest) then Skip (line_length rest) else Stop BadByte 0
 
+-- Comments and signs.
+
+abbrev pub other_at : List ℕ → Found
+other_at rest =
+    if begins rest (codes "//") then Skip (line_length rest)
+    else (if begins rest (codes "/*") then comment_found (comment_length (drop 2 rest))
+    else sign_at rest)
+
 -- What stands at a place. `fresh` says whether nothing but blanks stands before it on its line.
 unfoldable pub found_at : Bool → List ℕ → Found
 found_at fresh rest =

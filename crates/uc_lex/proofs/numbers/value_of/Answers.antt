@@ -1,0 +1,12 @@
+use Rattle.std.proofs.Common.{arith, drop, suc}
+use Rattle.std.proofs.Common.{get_or}
+use Rattle.uc_tree.specs.Tokens.{with_digit}
+use Rattle.uc_lex.proofs.Lists.{fold-drop}
+use Rattle.uc_lex.proofs.Values.{fold-with_digit-grows}
+use Rattle.uc_lex.proofs.numbers.value_of.Goals as goal
+
+pub returns-then-value-gt-NUMBER_MAX-clause-wide :
+    goal.returns-then-value-gt-NUMBER_MAX-clause-wide
+returns-then-value-gt-NUMBER_MAX-clause-wide c =
+    rw (c.loop-digit.invariant.same, fold-drop with_digit c.loop-digit.value c.args.digits.now c.loop-digit.digit-index 0 c.loop-digit-test.true)
+    (omega (arith, fold-with_digit-grows (with_digit c.loop-digit.value (get_or c.args.digits.now c.loop-digit.digit-index 0)) (drop (suc c.loop-digit.digit-index) c.args.digits.now), c.saturating_sub.ensures, c.if-value-gt-NUMBER_MAX.true))

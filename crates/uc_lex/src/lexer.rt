@@ -1,0 +1,160 @@
+// The whole text.
+
+ghost use Rattle.std.specs.Prelude.{◌≡◌, ◌+◌, ◌<◌, ◌≤◌, ◌^◌, IfOk, IfErr, length, fold};
+ghost use Rattle.uc_tree.specs.Tokens as tokens;
+ghost use Rattle.uc_lex.specs.Faults.{IsFault};
+ghost use Rattle.uc_lex.specs.Places.{InRange, InText};
+
+use crate::bytes::{
+    Class, is_blank, is_digit, is_letter, is_newline, is_white, run_length, text_from, text_to,
+};
+use crate::fault::LexFault;
+use crate::literals::{character_at, text_at};
+use crate::names::name_at;
+use crate::numbers::number_at;
+use crate::others::{comment_at, line_at, sign_at};
+use std::alloc::{AllocError, Global};
+use uc_tree::pos::Pos;
+use uc_tree::scan::{Found, Place, Reason};
+use uc_tree::token::Token;
+
+const START: Place = Place {
+    at: 0,
+    pos: Pos { line: 1, col: 1 },
+    fresh: true,
+};
+
+// What stands at a place, before which nothing but blanks stands on its line if it is fresh.
+#[tactic(auto, unfolding(uc_tree::specs::Tokens::found_at))]
+fn found_at(alloc: Global, rest: &[u8], fresh: bool) -> Result<Found, AllocError>
+    requires some { 0 < length rest.now }
+    requires fits { length rest.now < 2 ^ 32 }
+    ensures { IfOk result (λ found. found ≡ tokens.found_at fresh rest.now) }
+{
+    let b = rest[0];
+    if is_white(b) {
+        return Ok(Found::Skip(1));
+    }
+    if b == b'#' {
+        return Ok(line_at(rest, fresh));
+    }
+    if is_letter(b) {
+        let found = name_at(alloc, rest)?;
+        return Ok(found);
+    }
+    if is_digit(b) {
+        return Ok(number_at(rest));
+    }
+    if b == b'\'' {
+        return Ok(character_at(rest));
+    }
+    if b == b'"' {
+        let found = text_at(alloc, rest)?;
+        return Ok(found);
+    }
+    Ok(other_at(rest))
+}
+
+// What begins with any other byte.
+fn other_at(rest: &[u8]) -> Found
+    requires { length rest.now < 2 ^ 32 }
+    ensures { result ≡ tokens.other_at rest.now }
+{
+    if rest.starts_with(b"//") {
+        return Found::Skip(run_length(rest, Class::Line));
+    }
+    if rest.starts_with(b"/*") {
+        return comment_at(rest);
+    }
+    sign_at(rest)
+}
+
+// The place behind a byte.
+fn next_place(place: Place, b: u8) -> Place
+    requires room { place.at + 2 < 2 ^ 32 }
+    requires range { InRange place }
+    ensures { result ≡ tokens.next_place place b }
+{
+    let at = place.at + 1;
+    if is_newline(b) {
+        let line = place.pos.line + 1;
+        return Place {
+            at,
+            pos: Pos { line, col: 1 },
+            fresh: true,
+        };
+    }
+    let line = place.pos.line;
+    let col = place.pos.col + 1;
+    let fresh = place.fresh && is_blank(b);
+    Place {
+        at,
+        pos: Pos { line, col },
+        fresh,
+    }
+}
+
+// The place behind some bytes.
+fn place_behind(place: Place, bytes: &[u8]) -> Place
+    requires room { place.at + length bytes.now + 1 < 2 ^ 32 }
+    requires range { InRange place }
+    ensures place { result ≡ fold tokens.next_place place bytes.now }
+    ensures at { result.at ≡ place.at + length bytes.now }
+    ensures range { InRange result }
+{
+    let mut place = place;
+    for b in bytes {
+        place = next_place(place, *b);
+    }
+    place
+}
+
+// What stands at the first byte of the text, and that it stands inside of it.
+fn next_found(alloc: Global, rest: &[u8], fresh: bool) -> Result<Found, AllocError>
+    requires some { 0 < length rest.now }
+    requires fits { length rest.now < 2 ^ 32 }
+    ensures found { IfOk result (λ found. found ≡ tokens.found_at fresh rest.now) }
+    ensures inside { IfOk result (λ found. InText found (length rest.now)) }
+{
+    let found = found_at(alloc, rest, fresh)?;
+    Ok(found)
+}
+
+// The fault at that offset.
+fn fault_at(why: Reason, at: u32) -> LexFault
+    ensures { IsFault (tokens.Refused why at) result }
+{
+    match why {
+        Reason::BadByte => LexFault::BadByte { at },
+        Reason::OpenComment => LexFault::OpenComment { at },
+        Reason::OpenText => LexFault::OpenText { at },
+        Reason::NumberTooWide => LexFault::NumberTooWide { at },
+        Reason::TextTooLong(len) => LexFault::TextTooLong { at, len },
+    }
+}
+
+/// The tokens of the text, or its first fault.
+pub fn lex(alloc: Global, text: &[u8]) -> Result<Vec<Token>, LexFault>
+    requires { length text.now + 1 < 2 ^ 32 }
+    ensures tokens { IfOk result (λ v. tokens.tokens text.now ≡ tokens.Read v.items) }
+    ensures fault { IfErr result (λ f. IsFault (tokens.tokens text.now) f) }
+{
+    let mut tokens = Vec::new(alloc);
+    let mut place = START;
+    while (place.at as usize) < text.len() {
+        let rest = text_from(text, place.at as usize);
+        match next_found(alloc, rest, place.fresh)? {
+            Found::Skip(length) => place = place_behind(place, text_to(rest, length)),
+            Found::Take(kind, length) => {
+                tokens.push(Token {
+                    kind,
+                    at: place.at,
+                    pos: place.pos,
+                })?;
+                place = place_behind(place, text_to(rest, length));
+            }
+            Found::Stop(why, behind) => return Err(fault_at(why, place.at + behind as u32)),
+        }
+    }
+    Ok(tokens)
+}
