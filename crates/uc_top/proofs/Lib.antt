@@ -1,0 +1,4 @@
+pub mod Unique
+pub mod Complete
+pub mod Sound
+pub mod Walk
