@@ -1,5 +1,9 @@
-mod Silent
-mod Facts
-mod Sums
-mod Prints
-mod FirstBad
+pub mod Silent
+pub mod Facts
+pub mod Sums
+pub mod Prints
+pub mod FirstBad
+pub mod Unique
+pub mod Complete
+pub mod Sound
+pub mod Walk

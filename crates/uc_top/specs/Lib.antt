@@ -3,3 +3,5 @@ pub mod Words
 pub mod Built
 pub mod Refusals
 pub mod Outcomes
+pub mod Reads
+pub mod Machine

@@ -3,5 +3,6 @@
 
 mod keeper;
 mod printing;
+mod reader;
 mod refusals;
 mod words;
