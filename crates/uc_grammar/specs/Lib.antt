@@ -1,0 +1,5 @@
+pub mod Names
+pub mod Spell
+pub mod Form
+pub mod Tables
+pub mod Grammar
