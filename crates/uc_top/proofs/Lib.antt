@@ -3,6 +3,7 @@ pub mod Facts
 pub mod Sums
 pub mod Prints
 pub mod FirstBad
+pub mod Lines
 pub mod Unique
 pub mod Complete
 pub mod Sound

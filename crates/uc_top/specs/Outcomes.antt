@@ -43,6 +43,6 @@ pub data Leaves (s : Scene) : ℕ → Journal → Type 0 where
   -- a refusal: out got nothing, and err its line
   refused : (r : Refusal) → Refused s r → Took s.out s.out_after [] → Took s.err s.err_after (refusal_text r (name_of s.words)) → Leaves s (status_of r) []
   -- out failed at what was printed: it got a prefix, and the journal is a run all the same
-  out_failed : (journal : Journal) → Ran s journal → Failed s.out s.out_after (printed [] journal) → Tried s.err s.err_after (err_line (codes "cannot write")) → Leaves s 4 journal
+  out_failed : (journal : Journal) → Ran s journal → Failed s.out s.out_after (printed [] journal) → Tried s.err s.err_after (err_line (codes "cannot write") []) → Leaves s 4 journal
   -- err failed at the line of a refusal: out got nothing
   err_failed : (r : Refusal) → Refused s r → Took s.out s.out_after [] → Failed s.err s.err_after (refusal_text r (name_of s.words)) → Leaves s 4 []

@@ -20,20 +20,27 @@ abbrev pub name_of : Words → List ℕ
 name_of (word ∷ (name ∷ words)) = name
 name_of _ = []
 
--- what a refusal says
-abbrev pub reason_of : Refusal → List ℕ → List ℕ
-reason_of (Word n) name = codes "word " ++ decimal n
-reason_of CannotRead name = codes "cannot read " ++ name
-reason_of TooLong name = codes "too long " ++ name
-reason_of NotBuilt name = codes "not built"
-reason_of NoMemory name = codes "out of memory"
+-- a line on err: a reason and its detail
+abbrev pub err_line : List ℕ → List ℕ → List ℕ
+err_line reason detail = codes "ucpp: " ++ reason ++ detail ++ codes "\n"
 
--- a line on err
-abbrev pub err_line : List ℕ → List ℕ
-err_line reason = codes "ucpp: " ++ reason ++ codes "\n"
+-- what a refusal says, and of what: the number of a word, or the file that the words name
+abbrev pub reason_of : Refusal → List ℕ
+reason_of (Word n) = codes "word "
+reason_of CannotRead = codes "cannot read "
+reason_of TooLong = codes "too long "
+reason_of NotBuilt = codes "not built"
+reason_of NoMemory = codes "out of memory"
+
+abbrev pub detail_of : Refusal → List ℕ → List ℕ
+detail_of (Word n) name = decimal n
+detail_of CannotRead name = name
+detail_of TooLong name = name
+detail_of NotBuilt name = []
+detail_of NoMemory name = []
 
 abbrev pub refusal_text : Refusal → List ℕ → List ℕ
-refusal_text r name = err_line (reason_of r name)
+refusal_text r name = err_line (reason_of r) (detail_of r name)
 
 -- the named file could not be read
 pub record IsUnread (words : Words) (before after : StoreState) : Type 0 where
