@@ -1,9 +1,11 @@
 // The reader of the programs that are built so far: a main whose statements print sums.
 
-ghost use Rattle.std.specs.Prelude.{◌≡◌, ◌+◌, ◌<◌, ◌≤◌, ◌↔◌, ℕ, List, map, nat_le, if◌then◌else◌, IfOk, OnOk, IsTrue, MatchOption, SomeIff};
+ghost use Rattle.std.specs.Prelude.{◌≡◌, ◌↔◌, IfOk, OnOk, IsTrue, MatchOption};
 ghost use Rattle.uc_meaning.specs.Sums.{SumProgram, IsBuilt};
 ghost use Rattle.uc_top.specs.Reads.{Reads};
-ghost use Rattle.uc_top.specs.Machine.{word_symbol, sign_symbol, symbol_of, total_with, with_number, after_head, after_statement, after_item, after_number, before_number, after, shown_before_number, shown_after_number, shows, with_shown};
+ghost use Rattle.uc_top.specs.Machine.{word_symbol, sign_symbol, symbol_of};
+ghost use Rattle.uc_top.specs.Machine.{total_with, with_number, after_head, after_statement, after_item, after_number, before_number, after};
+ghost use Rattle.uc_top.specs.Machine.{shown_before_number, shown_after_number, shows, with_shown};
 
 use std::alloc::{AllocError, Global};
 use uc_meaning::sums::{SUM_ITEMS, SUM_NUMBERS, SUM_STATEMENTS, Shown};
@@ -331,7 +333,9 @@ fn push_shown(shown: &mut Vec<Shown>, next: Option<Shown>) -> Result<(), AllocEr
 
 // What the program of the tokens shows, or `None` if they are no program of sums.
 pub(crate) fn read_sums(alloc: Global, tokens: &[Token]) -> Result<Option<Vec<Shown>>, AllocError>
-    ensures { IfOk result (λ found. MatchOption found ((p : SumProgram) → IsBuilt tokens.now p → ⊥) (λ shown. Reads tokens.now shown.items)) }
+    ensures { IfOk result (λ found. MatchOption found
+        ((p : SumProgram) → IsBuilt tokens.now p → ⊥)
+        (λ shown. Reads tokens.now shown.items)) }
 {
     let mut shown = Vec::new(alloc);
     let mut state = State::Head(0);
