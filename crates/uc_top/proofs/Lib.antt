@@ -3,6 +3,9 @@ pub mod Facts
 pub mod Sums
 pub mod Prints
 pub mod FirstBad
+pub mod Leave
+pub mod Causes
+pub mod Decide
 pub mod Lines
 pub mod Unique
 pub mod Complete

@@ -65,8 +65,10 @@ pub record HasBadWord (words : Words) (before after : StoreState) (number : ℕ)
   pub first : IsFirstBad words number
   pub unread : after ≡ before
 
--- memory was refused, and no read failed
-pub record HasNoMemory (before after : StoreState) : Type 0 where
+-- memory was refused to a line of words, and no read failed
+pub record HasNoMemory (words : Words) (before after : StoreState) : Type 0 where
+  pub file : List ℕ
+  pub line : IsRunLine words file
   pub same_count : after.count ≡ before.count
 
 -- the cause of a refusal
@@ -75,4 +77,4 @@ Refuses words before after (Word n) = HasBadWord words before after n
 Refuses words before after CannotRead = IsUnread words before after
 Refuses words before after TooLong = IsTooLong words before after
 Refuses words before after NotBuilt = IsNotBuilt words before after
-Refuses words before after NoMemory = HasNoMemory before after
+Refuses words before after NoMemory = HasNoMemory words before after

@@ -5,4 +5,8 @@ mod keeper;
 mod printing;
 mod reader;
 mod refusals;
+mod top;
 mod words;
+
+pub use refusals::Refusal;
+pub use top::{Outcome, run_words};
