@@ -7,14 +7,14 @@ ghost use Rattle.uc_lock.specs.declared.view.Stage.TheVariants.{Idle};
 ghost use Rattle.uc_lock.specs.Lending.{LendsValue};
 
 use crate::Journaled;
-use crate::view::View;
+use crate::view::Token;
 use std::marker::Model;
 
 /// What a thread takes and gives with. Contracts see which lock it is of and what that was made with, the seat's number,
 /// whether it has the value out, the journal that it has seen, and its own items.
 #[derive(Drop)]
 pub struct Seat<V: Journaled> {
-    pub(crate) token: atomic_table::Seat<Option<V>, View<V::Key, V::Item>>,
+    pub(crate) token: Token<V>,
     // The number that is served while the seat has the turn.
     pub(crate) ticket: u64,
     pub(crate) number: u32,
@@ -33,10 +33,7 @@ impl<V: Journaled> Model for Seat<V> {
 
 impl<V: Journaled> Seat<V> {
     // A seat that does not have the value out.
-    pub(crate) fn of(
-        token: atomic_table::Seat<Option<V>, View<V::Key, V::Item>>,
-        number: u32,
-    ) -> Seat<V>
+    pub(crate) fn of(token: Token<V>, number: u32) -> Seat<V>
         requires number { number ≡ token.me.0.number }
         requires idle { (token.me.0.stage ≡ Idle) × (token.me.1 ≡ []) }
         requires open { (token.me.0.spent ≡ false) × (token.me.0.joined ≡ []) }
@@ -50,7 +47,7 @@ impl<V: Journaled> Seat<V> {
     }
 
     // The plain seat, idle and with nothing of other seats.
-    pub(crate) fn into_token(self) -> atomic_table::Seat<Option<V>, View<V::Key, V::Item>>
+    pub(crate) fn into_token(self) -> Token<V>
         requires { self.holds ≡ false }
         ensures lock { result.table_id ≡ self.lock }
         ensures idle { (result.me.0.stage ≡ Idle) × (result.me.1 ≡ []) }

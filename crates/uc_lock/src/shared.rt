@@ -8,7 +8,7 @@ ghost use Rattle.uc_lock.specs.Meanings.{IsSeatOf, fresh, taken, given};
 use crate::Journaled;
 use crate::seat::{Held, Seat};
 use crate::table::LockTable;
-use crate::view::{Setup, View};
+use crate::view::{Setup, Token};
 use atomic_table::{Refused, Table};
 use std::alloc::{AllocError, Global};
 use std::marker::Model;
@@ -63,12 +63,7 @@ impl<V: Journaled> Shared<V> {
     }
 
     // Splits off all other seats from the first, and lists them in the order of their numbers.
-    fn deal(
-        &self,
-        alloc: Global,
-        first: atomic_table::Seat<Option<V>, View<V::Key, V::Item>>,
-        seats: u32,
-    ) -> Result<Vec<Seat<V>>, AllocError>
+    fn deal(&self, alloc: Global, first: Token<V>, seats: u32) -> Result<Vec<Seat<V>>, AllocError>
     where
         V: Drop,
         requires first { (first.table_id ≡ self.now.id) × (first.me ≡ (opened self.now.terms, [])) }

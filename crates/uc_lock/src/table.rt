@@ -6,7 +6,7 @@ ghost use Rattle.uc_lock.specs.declared.view.Stage.TheVariants.{Idle, Waiting, T
 
 use crate::Journaled;
 use crate::plays::{Draw, Give, Look, Merge, Part};
-use crate::view::{LockRule, Setup, View};
+use crate::view::{LockRule, Setup, Token, View};
 use atomic_table::Table;
 use std::alloc::Global;
 use std::sync::Wait;
@@ -26,7 +26,7 @@ pub struct LockTable<V: Journaled> {
 }
 
 impl<V: Journaled> LockTable<V> {
-    fn draw(&self, seat: &mut atomic_table::Seat<Option<V>, View<V::Key, V::Item>>) -> u64
+    fn draw(&self, seat: &mut Token<V>) -> u64
         requires seat { seat.old.table_id ≡ self.now.table.shared.table_id }
         requires idle { (seat.old.me.0.stage ≡ Idle) × (seat.old.me.0.spent ≡ false) }
         ensures same { (seat.new.table_id ≡ seat.old.table_id) × (seat.new.id ≡ seat.old.id) }
@@ -36,11 +36,7 @@ impl<V: Journaled> LockTable<V> {
     }
 
     // True where the ticket's turn has come. Then the seat has the slot.
-    fn look(
-        &self,
-        seat: &mut atomic_table::Seat<Option<V>, View<V::Key, V::Item>>,
-        ticket: u64,
-    ) -> bool
+    fn look(&self, seat: &mut Token<V>, ticket: u64) -> bool
         requires seat { seat.old.table_id ≡ self.now.table.shared.table_id }
         requires waits { (t : ℕ) × (ticket ≡ t % wraps) × (seat.old.me.0.stage ≡ Waiting t) }
         requires unspent { seat.old.me.0.spent ≡ false }
@@ -51,12 +47,7 @@ impl<V: Journaled> LockTable<V> {
         self.table.shared.load::<Look>(seat, SERVING) == ticket
     }
 
-    fn wait_turn<R: Wait>(
-        &self,
-        rt: &R,
-        seat: &mut atomic_table::Seat<Option<V>, View<V::Key, V::Item>>,
-        ticket: u64,
-    )
+    fn wait_turn<R: Wait>(&self, rt: &R, seat: &mut Token<V>, ticket: u64)
         requires seat { seat.old.table_id ≡ self.now.table.shared.table_id }
         requires waits { (t : ℕ) × (ticket ≡ t % wraps) × (seat.old.me.0.stage ≡ Waiting t) }
         requires unspent { seat.old.me.0.spent ≡ false }
@@ -73,11 +64,7 @@ impl<V: Journaled> LockTable<V> {
     }
 
     /// Waits for the turn and takes the value out. The number is the ticket's.
-    pub(crate) fn take<R: Wait>(
-        &self,
-        rt: &R,
-        seat: &mut atomic_table::Seat<Option<V>, View<V::Key, V::Item>>,
-    ) -> (u64, V)
+    pub(crate) fn take<R: Wait>(&self, rt: &R, seat: &mut Token<V>) -> (u64, V)
         requires seat { (seat.old.table_id ≡ self.now.table.shared.table_id) × (seat.old.me.1 ≡ []) }
         requires idle { (seat.old.me.0.stage ≡ Idle) × (seat.old.me.0.spent ≡ false) }
         ensures seat { seat.new.table_id ≡ seat.old.table_id }
@@ -91,12 +78,7 @@ impl<V: Journaled> LockTable<V> {
     }
 
     /// Puts the value back and serves the next ticket.
-    pub(crate) fn give(
-        &self,
-        seat: &mut atomic_table::Seat<Option<V>, View<V::Key, V::Item>>,
-        ticket: u64,
-        value: V,
-    )
+    pub(crate) fn give(&self, seat: &mut Token<V>, ticket: u64, value: V)
         requires seat { (seat.old.table_id ≡ self.now.table.shared.table_id) × (seat.old.me.1 ≡ (0, None) ∷ []) }
         requires turn { (t : ℕ) × (seat.old.me.0.stage ≡ Turn t) × (ticket ≡ t % wraps) }
         requires unspent { seat.old.me.0.spent ≡ false }
@@ -112,10 +94,7 @@ impl<V: Journaled> LockTable<V> {
             .store::<Give>(seat, SERVING, ticket.wrapping_add(1));
     }
 
-    pub(crate) fn split(
-        &self,
-        seat: &mut atomic_table::Seat<Option<V>, View<V::Key, V::Item>>,
-    ) -> atomic_table::Seat<Option<V>, View<V::Key, V::Item>>
+    pub(crate) fn split(&self, seat: &mut Token<V>) -> Token<V>
         requires seat { seat.old.table_id ≡ self.now.table.shared.table_id }
         requires idle { (seat.old.me.0.stage ≡ Idle) × (seat.old.me.0.spent ≡ false) }
         requires room { (0 < seat.old.me.0.made) × (seat.old.me.0.made < self.now.table.shared.key.seats) × (self.now.table.shared.key.seats ≤ most_seats) }
@@ -125,11 +104,7 @@ impl<V: Journaled> LockTable<V> {
         self.table.shared.split_seat::<Part>(seat)
     }
 
-    pub(crate) fn join(
-        &self,
-        seat: &mut atomic_table::Seat<Option<V>, View<V::Key, V::Item>>,
-        other: atomic_table::Seat<Option<V>, View<V::Key, V::Item>>,
-    )
+    pub(crate) fn join(&self, seat: &mut Token<V>, other: Token<V>)
         requires seat { (seat.old.table_id ≡ self.now.table.shared.table_id) × (other.table_id ≡ self.now.table.shared.table_id) × (other.me.1 ≡ []) }
         requires idle { (seat.old.me.0.stage ≡ Idle) × (seat.old.me.0.spent ≡ false) × (other.me.0.stage ≡ Idle) × (other.me.0.spent ≡ false) }
         ensures { (seat.new.table_id ≡ seat.old.table_id) × (seat.new.me ≡ (joined_with seat.old.me.0 other.me.0, seat.old.me.1)) }
@@ -138,7 +113,7 @@ impl<V: Journaled> LockTable<V> {
     }
 
     /// The value, once every other seat is joined to this one.
-    pub(crate) fn finish(self, seat: atomic_table::Seat<Option<V>, View<V::Key, V::Item>>) -> V
+    pub(crate) fn finish(self, seat: Token<V>) -> V
         requires seat { seat.table_id ≡ self.table.shared.table_id }
         requires idle { (seat.me.0.stage ≡ Idle) × (seat.me.0.spent ≡ false) }
         requires all { HasAll self.table.shared.key.seats seat.me.0 }

@@ -40,6 +40,12 @@ pub struct View<K, I> {
     pub joined: LinkedList<Joined<I>>,
 }
 
+/// A seat of the lock's table.
+pub(crate) type Token<V> = atomic_table::Seat<
+    Option<V>,
+    View<<V as Journaled>::Key, <V as Journaled>::Item>,
+>;
+
 /// What the table of a lock is told when it is made.
 #[derive(Drop)]
 pub struct Setup<V> {
