@@ -23,67 +23,79 @@ not_high s out err (inr h) = absurd (omega (arith, h, err.same_count))
 
 done_causes : (s : Scene) (journal : Journal) → Ran s journal → Took s.out s.out_after (printed [] journal) → Took s.err s.err_after [] → Causes s 0 journal
 done_causes s journal ran out err = record {
-    done = λ e. record { ran = ran; out = out; err = err };
-    not_built = λ e. absurd (omega (arith, e));
-    bad_word = λ e. absurd (omega (arith, e));
-    unread = λ e. absurd (omega (arith, e));
-    unwritten = λ e. absurd (omega (arith, e));
-    counted = λ h. absurd (not_high s out err h);
-    no_memory = λ e. absurd (omega (arith, e));
-    no_other = inl refl
-  }
+  done = λ e. record { ran = ran; out = out; err = err };
+  not_built = λ e. absurd (omega (arith, e));
+  bad_word = λ e. absurd (omega (arith, e));
+  unread = λ e. absurd (omega (arith, e));
+  unwritten = λ e. absurd (omega (arith, e));
+  counted = λ h. absurd (not_high s out err h);
+  no_memory = λ e. absurd (omega (arith, e));
+  no_other = inl refl;
+}
 
 failed_causes : (s : Scene) (journal : Journal) → CountRose s.out.count s.out_after.count ⊎ CountRose s.err.count s.err_after.count → Causes s 4 journal
 failed_causes s journal rose = record {
-    done = λ e. absurd (omega (arith, e));
-    not_built = λ e. absurd (omega (arith, e));
-    bad_word = λ e. absurd (omega (arith, e));
-    unread = λ e. absurd (omega (arith, e));
-    unwritten = λ e. rose;
-    counted = λ h. refl;
-    no_memory = λ e. absurd (omega (arith, e));
-    no_other = inr (inr (inr (inr (inl refl))))
-  }
+  done = λ e. absurd (omega (arith, e));
+  not_built = λ e. absurd (omega (arith, e));
+  bad_word = λ e. absurd (omega (arith, e));
+  unread = λ e. absurd (omega (arith, e));
+  unwritten = λ e. rose;
+  counted = λ h. refl;
+  no_memory = λ e. absurd (omega (arith, e));
+  no_other = inr (inr (inr (inr (inl refl))));
+}
 
 told_causes : (s : Scene) (r : Refusal) → Told s r [] → Causes s (status_of r) []
 told_causes s (Word n) t = record {
-    done = λ e. absurd (omega (arith, e)); not_built = λ e. absurd (omega (arith, e));
-    bad_word = λ e. (n, t);
-    unread = λ e. absurd (omega (arith, e)); unwritten = λ e. absurd (omega (arith, e));
-    counted = λ h. absurd (not_high s t.out t.err h);
-    no_memory = λ e. absurd (omega (arith, e));
-    no_other = inr (inr (inl refl))
-  }
+  done = λ e. absurd (omega (arith, e));
+  not_built = λ e. absurd (omega (arith, e));
+  bad_word = λ e. (n, t);
+  unread = λ e. absurd (omega (arith, e));
+  unwritten = λ e. absurd (omega (arith, e));
+  counted = λ h. absurd (not_high s t.out t.err h);
+  no_memory = λ e. absurd (omega (arith, e));
+  no_other = inr (inr (inl refl));
+}
 told_causes s CannotRead t = record {
-    done = λ e. absurd (omega (arith, e)); not_built = λ e. absurd (omega (arith, e)); bad_word = λ e. absurd (omega (arith, e));
-    unread = λ e. inl t;
-    unwritten = λ e. absurd (omega (arith, e));
-    counted = λ h. absurd (not_high s t.out t.err h);
-    no_memory = λ e. absurd (omega (arith, e));
-    no_other = inr (inr (inr (inl refl)))
-  }
+  done = λ e. absurd (omega (arith, e));
+  not_built = λ e. absurd (omega (arith, e));
+  bad_word = λ e. absurd (omega (arith, e));
+  unread = λ e. inl t;
+  unwritten = λ e. absurd (omega (arith, e));
+  counted = λ h. absurd (not_high s t.out t.err h);
+  no_memory = λ e. absurd (omega (arith, e));
+  no_other = inr (inr (inr (inl refl)));
+}
 told_causes s TooLong t = record {
-    done = λ e. absurd (omega (arith, e)); not_built = λ e. absurd (omega (arith, e)); bad_word = λ e. absurd (omega (arith, e));
-    unread = λ e. inr t;
-    unwritten = λ e. absurd (omega (arith, e));
-    counted = λ h. absurd (not_high s t.out t.err h);
-    no_memory = λ e. absurd (omega (arith, e));
-    no_other = inr (inr (inr (inl refl)))
-  }
+  done = λ e. absurd (omega (arith, e));
+  not_built = λ e. absurd (omega (arith, e));
+  bad_word = λ e. absurd (omega (arith, e));
+  unread = λ e. inr t;
+  unwritten = λ e. absurd (omega (arith, e));
+  counted = λ h. absurd (not_high s t.out t.err h);
+  no_memory = λ e. absurd (omega (arith, e));
+  no_other = inr (inr (inr (inl refl)));
+}
 told_causes s NotBuilt t = record {
-    done = λ e. absurd (omega (arith, e));
-    not_built = λ e. t;
-    bad_word = λ e. absurd (omega (arith, e)); unread = λ e. absurd (omega (arith, e)); unwritten = λ e. absurd (omega (arith, e));
-    counted = λ h. absurd (not_high s t.out t.err h);
-    no_memory = λ e. absurd (omega (arith, e));
-    no_other = inr (inl refl)
-  }
+  done = λ e. absurd (omega (arith, e));
+  not_built = λ e. t;
+  bad_word = λ e. absurd (omega (arith, e));
+  unread = λ e. absurd (omega (arith, e));
+  unwritten = λ e. absurd (omega (arith, e));
+  counted = λ h. absurd (not_high s t.out t.err h);
+  no_memory = λ e. absurd (omega (arith, e));
+  no_other = inr (inl refl);
+}
 told_causes s NoMemory t = record {
-    done = λ e. absurd (omega (arith, e)); not_built = λ e. absurd (omega (arith, e)); bad_word = λ e. absurd (omega (arith, e)); unread = λ e. absurd (omega (arith, e)); unwritten = λ e. absurd (omega (arith, e));
-    counted = λ h. absurd (not_high s t.out t.err h);
-    no_memory = λ e. t;
-    no_other = inr (inr (inr (inr (inr refl))))
-  }
+  done = λ e. absurd (omega (arith, e));
+  not_built = λ e. absurd (omega (arith, e));
+  bad_word = λ e. absurd (omega (arith, e));
+  unread = λ e. absurd (omega (arith, e));
+  unwritten = λ e. absurd (omega (arith, e));
+  counted = λ h. absurd (not_high s t.out t.err h);
+  no_memory = λ e. t;
+  no_other = inr (inr (inr (inr (inr refl))));
+}
 
 pub causes : (s : Scene) {status : ℕ} {journal : Journal} → Leaves s status journal → Causes s status journal
 causes s (done journal ran out err) = done_causes s journal ran out err
@@ -169,12 +181,12 @@ module _ (s : Scene) (file : List ℕ) (l : IsRunLine s.words file) (h : HasFile
 
 pub answers : (s : Scene) {status : ℕ} {journal : Journal} → Leaves s status journal → Answers s status
 answers s leaves = record {
-    no_line = no_line_of s leaves;
-    line = line_of s leaves;
-    steady = λ file l st h. steady_of s file l h leaves st;
-    no_program = λ file l h n. no_program_of s file l h leaves n;
-    program = λ file l h p is. program_of s file l h leaves p is
-  }
+  no_line = no_line_of s leaves;
+  line = line_of s leaves;
+  steady = λ file l st h. steady_of s file l h leaves st;
+  no_program = λ file l h n. no_program_of s file l h leaves n;
+  program = λ file l h p is. program_of s file l h leaves p is;
+}
 
 two_left : {status a : ℕ} → (status ≡ a) ⊎ (status ≡ 3) ⊎ (status ≡ 4) ⊎ (status ≡ 8) → status ≢ 3 → status ≢ 4 → (status ≡ a) ⊎ (status ≡ 8)
 two_left (inl e) n m = inl e
@@ -184,6 +196,6 @@ two_left (inr (inr (inr e))) n m = inr e
 
 pub completes : (s : Scene) {status : ℕ} {journal : Journal} → Leaves s status journal → Completes s status
 completes s leaves = record {
-    runs = λ file l st r h p is. two_left (program_of s file l h leaves p is) (steady_of s file l h leaves st) (rooms s leaves r);
-    refuses = λ file l st r h n. two_left (no_program_of s file l h leaves n) (steady_of s file l h leaves st) (rooms s leaves r)
-  }
+  runs = λ file l st r h p is. two_left (program_of s file l h leaves p is) (steady_of s file l h leaves st) (rooms s leaves r);
+  refuses = λ file l st r h n. two_left (no_program_of s file l h leaves n) (steady_of s file l h leaves st) (rooms s leaves r);
+}

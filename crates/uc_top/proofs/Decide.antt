@@ -25,32 +25,32 @@ use Rattle.uc_top.proofs.Sums.{is_run}
 
 last_done : (shown : List Shown) → Last (journal_of shown) kind.Done
 last_done shown = record {
-    before = opening ++ map print_entry shown ++ entry kind.End 0 0 0 0 (pos 0) (pos 0) ∷ [];
-    entry = entry kind.Done 0 0 0 0 (pos 0) (pos 0);
-    is = sym (append_assoc (opening ++ map print_entry shown) (entry kind.End 0 0 0 0 (pos 0) (pos 0) ∷ []) (entry kind.Done 0 0 0 0 (pos 0) (pos 0) ∷ []));
-    of_kind = refl
-  }
+  before = opening ++ map print_entry shown ++ entry kind.End 0 0 0 0 (pos 0) (pos 0) ∷ [];
+  entry = entry kind.Done 0 0 0 0 (pos 0) (pos 0);
+  is = sym (append_assoc (opening ++ map print_entry shown) (entry kind.End 0 0 0 0 (pos 0) (pos 0) ∷ []) (entry kind.Done 0 0 0 0 (pos 0) (pos 0) ∷ []));
+  of_kind = refl;
+}
 
 pub tokens_ran : {list : List Token} {shown : List Shown} {journal : Journal} → Reads list shown → journal ≡ journal_of shown → TokensRan list journal
 tokens_ran {list} {shown} {journal} r e = record {
-    program = r.program;
-    built = r.built;
-    only = r.only;
-    run = subst (IsRun (source_of r.program) [] default_options) (ap journal_of r.shows ∙ sym e) (is_run r.program r.built.small);
-    ended = subst (λ j. Last j kind.Done) (sym e) (last_done shown)
-  }
+  program = r.program;
+  built = r.built;
+  only = r.only;
+  run = subst (IsRun (source_of r.program) [] default_options) (ap journal_of r.shows ∙ sym e) (is_run r.program r.built.small);
+  ended = subst (λ j. Last j kind.Done) (sym e) (last_done shown);
+}
 
 same_list : (text : List ℕ) {a b : List Token} → tokens text ≡ Read a → tokens text ≡ Read b → a ≡ b
 same_list text ea eb = let e = sym ea ∙ eb in cc
 
 pub text_ran : {text : List ℕ} {list : List Token} {journal : Journal} → tokens text ≡ Read list → TokensRan list journal → RunsText text journal
 text_ran {text} {list} e r = record {
-    program = r.program;
-    is = record { list = list; lexed = e; built = r.built };
-    only = λ other p. r.only other (subst (λ l. IsBuilt l other) (same_list text p.lexed e) p.built);
-    run = r.run;
-    ended = r.ended
-  }
+  program = r.program;
+  is = record { list = list; lexed = e; built = r.built };
+  only = λ other p. r.only other (subst (λ l. IsBuilt l other) (same_list text p.lexed e) p.built);
+  run = r.run;
+  ended = r.ended;
+}
 
 pub text_refused : (text : List ℕ) {list : List Token} → tokens text ≡ Read list → (r : Refusal) → TokensRefused list r → TextRefused text r
 text_refused text e (Word n) h = h
@@ -71,16 +71,20 @@ file_refused read NoMemory h = read.same_count
 
 pub has_run : {words : Words} {a b : StoreState} {file : List ℕ} {journal : Journal} → IsRunLine words file → FileRan a b file journal → HasRun words a b journal
 has_run {file = file} line r = record {
-    text = r.text; gave = record { file = file; line = line; read = r.read }; runs = r.runs
-  }
+  text = r.text;
+  gave = record { file = file; line = line; read = r.read };
+  runs = r.runs;
+}
 
 pub refuses : {words : Words} (a b : StoreState) {file : List ℕ} → IsRunLine words file → (r : Refusal) → FileRefused a b file r → Refuses words a b r
 refuses a b line (Word n) h = absurd h
 refuses a b {file = file} line CannotRead h = record { file = file; line = line; failed = h }
 refuses a b {file = file} line TooLong h = record { file = file; line = line; long = h }
 refuses a b {file = file} line NotBuilt h = record {
-    text = h.text; gave = record { file = file; line = line; read = h.read }; none = h.none
-  }
+  text = h.text;
+  gave = record { file = file; line = line; read = h.read };
+  none = h.none;
+}
 refuses a b {file = file} line NoMemory h = record { file = file; line = line; same_count = h }
 
 -- a put that went well or did not

@@ -30,22 +30,29 @@ pub record Facts (j : Journal) : Type 0 where
 pub facts_opening : Facts opening
 unfolding is_over first_ended held own_object entries_at waiting stacked running used all_ticks
 facts_opening = record {
-    going = refl; ended = refl; inside = refl; own = refl; waits = refl;
-    stacks = refl; runs = refl; ticks = refl; all = refl
-  }
+  going = refl;
+  ended = refl;
+  inside = refl;
+  own = refl;
+  waits = refl;
+  stacks = refl;
+  runs = refl;
+  ticks = refl;
+  all = refl;
+}
 
 pub facts_printing : (a b : ℤ) (j : Journal) → Facts j → Facts (j ++ printing a b ∷ [])
 facts_printing a b j f = record {
-    going = goes_on a b j ∙ f.going;
-    ended = not_ended a b j ∙ f.ended;
-    inside = same_held a b 0 j ∙ f.inside;
-    own = same_own a b 0 j ∙ f.own;
-    waits = same_waiting a b j ∙ f.waits;
-    stacks = same_stacked a b j ∙ f.stacks;
-    runs = same_running a b j ∙ f.runs;
-    ticks = same_used a b j ∙ f.ticks;
-    all = same_ticks a b j ∙ f.all
-  }
+  going = goes_on a b j ∙ f.going;
+  ended = not_ended a b j ∙ f.ended;
+  inside = same_held a b 0 j ∙ f.inside;
+  own = same_own a b 0 j ∙ f.own;
+  waits = same_waiting a b j ∙ f.waits;
+  stacks = same_stacked a b j ∙ f.stacks;
+  runs = same_running a b j ∙ f.runs;
+  ticks = same_used a b j ∙ f.ticks;
+  all = same_ticks a b j ∙ f.all;
+}
 
 pub someone_runs : (j : Journal) → Facts j → none_running default_options j ≡ false
 unfolding none_running processor_count

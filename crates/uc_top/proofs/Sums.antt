@@ -100,7 +100,7 @@ one_item {source} {j} {form} {n} {e} {is} {todo} evals room r =
       world = world_after a r.world 0 after (print_one form (pos n));
       runs = subst (λ x. Runs source [] default_options (j ++ x) (world_after x r.world 0 after (print_one form (pos n)))) (act_is j form (line_of now.control) (pos n) r.facts room) may;
       facts = f;
-      leads = subst (λ s. Leads s after) (sym (drawn_again (j ++ a) r.world form (pos n) (Items is ∷ todo) f.inside)) here
+      leads = subst (λ s. Leads s after) (sym (drawn_again (j ++ a) r.world form (pos n) (Items is ∷ todo) f.inside)) here;
     }
 
 one_shown : {source : Source} {j : Journal} {todo : List Todo} (i : SumItem) (is : List Item) → IsSmallItem i → length j + 2 ≤ default_options.entries → Reached source j (Items (item_of i ∷ is) ∷ todo) → Reached source (j ++ print_entry (shown_of i) ∷ []) (Items is ∷ todo)
@@ -149,11 +149,11 @@ unfolding is_over held
 reached_opening p =
     let b : Runs (source_of p) [] default_options (begin default_options ∷ []) (first_world (source_of p)) = begun in
     record {
-    world = first_world (source_of p);
-    runs = more b refl (gives 0 0 first_dispatch (lit≤ tt));
-    facts = facts_opening;
-    leads = here
-  }
+      world = first_world (source_of p);
+      runs = more b refl (gives 0 0 first_dispatch (lit≤ tt));
+      facts = facts_opening;
+      leads = here;
+    }
 
 or_true : (b : Bool) → (b || true) ≡ true
 or_true true = refl

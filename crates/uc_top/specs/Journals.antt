@@ -12,9 +12,11 @@ use Rattle.uc_meaning.specs.Acts.{dispatch}
 -- the options of a run where no word gives them
 abbrev pub default_options : Options
 default_options = record {
-    processors = PROCESSORS_DEFAULT; slice = SLICE_DEFAULT;
-    ticks = TICKS_DEFAULT; entries = ENTRIES_DEFAULT
-  }
+  processors = PROCESSORS_DEFAULT;
+  slice = SLICE_DEFAULT;
+  ticks = TICKS_DEFAULT;
+  entries = ENTRIES_DEFAULT;
+}
 
 abbrev pub print_entry : Shown → Entry
 print_entry Newline = entry kind.Print 0 0 0 0 (pos 1) (pos 10)

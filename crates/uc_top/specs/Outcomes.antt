@@ -102,6 +102,11 @@ pub record Completes (s : Scene) (status : ℕ) : Type 0 where
 
 abbrev pub scene_of : Words → StoreState → StoreState → SinkState → SinkState → SinkState → SinkState → Scene
 scene_of words store store_after out out_after err err_after = record {
-    words = words; store = store; store_after = store_after;
-    out = out; out_after = out_after; err = err; err_after = err_after
-  }
+  words = words;
+  store = store;
+  store_after = store_after;
+  out = out;
+  out_after = out_after;
+  err = err;
+  err_after = err_after;
+}

@@ -5,6 +5,8 @@ mod keeper;
 mod printing;
 mod reader;
 mod refusals;
+#[cfg(test)]
+mod tests;
 mod top;
 mod words;
 

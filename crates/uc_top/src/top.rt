@@ -95,7 +95,11 @@ pub(crate) struct Run {
 }
 
 /// What the words make of the store: a run, or the reason why there is none.
-pub(crate) fn decide<S: Store>(alloc: Global, words: &[String], store: &mut S) -> Result<Run, Refusal>
+pub(crate) fn decide<S: Store>(
+    alloc: Global,
+    words: &[String],
+    store: &mut S,
+) -> Result<Run, Refusal>
     ensures ran { IfOk result (λ run. HasRun (map string_bytes words.now) (S.state store.old) (S.state store.new) run.journal.items) }
     ensures refused { IfErr result (Refuses (map string_bytes words.now) (S.state store.old) (S.state store.new)) }
 {
