@@ -26,6 +26,7 @@ pub trait Sink {
         ensures progress { IfOk result (λ n. 0 < length piece.now → 0 < n) }
         ensures ok { IfOk result (λ n. Took (state self.old) (state self.new) (take n piece.now)) }
         ensures counted { puts self.new ≤ puts self.old + 1 }
+        ensures never_falls { (state self.old).count ≤ (state self.new).count }
 
         // A piece that fits into the room does not fail.
         ensures failed { OnErr result (FailedAt (state self.old) (state self.new) piece.now) }
@@ -36,6 +37,7 @@ pub trait Sink {
 pub fn put_all<S: Sink>(s: &mut S, text: &[u8]) -> Result<(), SinkFault>
     ensures ok { OnOk result (Took (S.state s.old) (S.state s.new) text.now) }
     ensures few_puts { S.puts s.new ≤ S.puts s.old + length text.now }
+    ensures never_falls { (S.state s.old).count ≤ (S.state s.new).count }
 
     // A text that fits into the room does not fail.
     ensures failed { OnErr result (FailedAt (S.state s.old) (S.state s.new) text.now) }

@@ -103,6 +103,7 @@ fn took(faults: &mut u64, piece: &[u8], answer: io::Result<usize>) -> Result<usi
     ensures progress { IfOk result (λ n. 0 < length piece.now → 0 < n) }
     ensures same_count { OnOk result (faults.new ≡ faults.old) }
     ensures rose { OnErr result (CountRose faults.old faults.new) }
+    ensures never_falls { faults.old ≤ faults.new }
 {
     match answer {
         Ok(n) if n > 0 || piece.is_empty() => Ok(n),
