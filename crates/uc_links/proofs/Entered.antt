@@ -7,7 +7,7 @@ use lib.Dec.{eqb_refl}
 use Rattle.uc_links.specs.declared.chain.Ends.{Ends}
 use Rattle.uc_links.specs.declared.chain.NodePtr.{NodePtr}
 use Rattle.uc_links.specs.declared.chain.Node.{Node}
-use Rattle.uc_links.specs.declared.pool.Object.{Object}
+use Rattle.uc_links.specs.declared.object.Object.{Object}
 use Rattle.uc_links.specs.Chain.{Nodes, node, link, index_of, place_of, IsNode, first_or, Avoids, IsChain, ChangedWithin, Labelled}
 use Rattle.uc_links.specs.Held.{IsHeld, IsOf, IsStack, Changed, peers, ends_of, no_ends}
 use Rattle.uc_links.proofs.Segments.{all_both, all_more, kept}

@@ -5,7 +5,7 @@ use Rattle.std.specs.List.{AllByRecursion}
 use Rattle.std.specs.Vec.{vec_len, vec_ptr}
 use Rattle.uc_links.specs.declared.chain.Ends.{Ends}
 use Rattle.uc_links.specs.declared.chain.NodePtr.{NodePtr}
-use Rattle.uc_links.specs.declared.pool.Object.{Object}
+use Rattle.uc_links.specs.declared.object.Object.{Object}
 use Rattle.uc_links.specs.Chain.{Nodes, node, link, first_or, Avoids, IsChain, ChangedWithin}
 use Rattle.uc_links.specs.Held.{IsHeld, IsOf, Changed, peers, ends_of, no_ends}
 use Rattle.uc_links.proofs.Segments.{all_left, all_right, all_both, all_more}

@@ -1,21 +1,23 @@
 -- What is read from a pool, which a read leaves as it is; and a node that leaves it.
-use Rattle.std.proofs.Common.{T, ◌||◌, eqb→eq, ◌≡◌, ◌≢◌, ℕ, zero, suc, ◌<◌, ◌==◌, List, [], ◌∷◌, ◌++◌, map, Bool, true, false, not, cond, Option, Some, None, refl, sym, ap, ◌∙◌, subst, slice_index_or, length}
-use Rattle.std.proofs.lemmas.List.{map-append, get_or_default}
+use Rattle.std.proofs.Common.{T, ◌||◌, eqb→eq, ◌≡◌, ◌≢◌, ℕ, zero, suc, ◌<◌, ◌==◌, List, [], ◌∷◌, ◌++◌, map, Bool, true, false, not, cond, Option, Some, None, refl, sym, ap, ◌∙◌, subst, inl, inr, slice_index_or, length}
+use Rattle.std.proofs.lemmas.Bool.{cases_lt}
+use Rattle.std.proofs.lemmas.List.{map-append, get_or_default, get_or_past}
 use Rattle.std.proofs.lemmas.List.Elements.{filter-append}
 use Rattle.std.specs.List.{AllByRecursion, list_any}
 use Rattle.std.specs.Vec.{vec_len, vec_ptr, with_item}
 use denote.RawPtr.{InBlock}
 use Rattle.uc_links.specs.declared.chain.NodePtr.{NodePtr}
 use Rattle.uc_links.specs.declared.chain.Node.{Node}
-use Rattle.uc_links.specs.declared.pool.Object.{Object}
+use Rattle.uc_links.specs.declared.object.Object.{Object}
 use Rattle.uc_links.specs.Chain.{Nodes, node, blank, no_link, link, index_of, place_of, IsNode, Avoids}
 use Rattle.uc_links.specs.Held.{IsHeld, IsOf, Changed, follow, entries_of, stack_of}
-use Rattle.uc_links.specs.Pool.{Lists, Pool, no_lists, lists_at, IsEntry, IsEntryAt, without, unlinked, first_of, Objects, no_object, object_at, entry, lists_of, pool_of, Holds}
+use Rattle.uc_links.specs.Lists.{Lists, Pool, no_lists, lists_at, IsEntry, without, unlinked, first_of}
+use Rattle.uc_links.specs.View.{Objects, no_object, object_at, entry, lists_of, pool_of, Holds}
 use Rattle.uc_links.proofs.Segments.{all_left, all_right, all_both, all_more}
 use Rattle.uc_links.proofs.Chains.{index_place, index_same, is_node, node_moved, flip, apart_cross, apart_right}
 use Rattle.uc_links.proofs.Entered.{same_test, test_same, other_test}
 use Rattle.uc_links.proofs.Filters.{all_every, differ}
-use Rattle.uc_links.proofs.Pools.{found, held_kept, get_map, map_same, both}
+use Rattle.uc_links.proofs.Pools.{found, held_kept, get_map, map_same, both, any_held, any_lists}
 
 abbrev pub Same : Nodes → Nodes → Type 0
 Same v u = (vec_ptr u ≡ vec_ptr v) × (vec_len u ≡ vec_len v) × (u.items ≡ v.items)
@@ -67,33 +69,40 @@ front_from : (v : Nodes) (o : ℕ) (ob : Object) (p : NodePtr) (es st : List ℕ
 front_from v o ob p [] st h e = let wrong : None ≡ Some p = sym (ap (λ x. x.first) h.0.0) ∙ e in absurd cc
 front_from v o ob p (i ∷ is) st h e = (i, is, refl, some_is p (place_of v i) (sym e ∙ ap (λ x. x.first) h.0.0), h.0.2.0)
 
-pub front_some : (v : Nodes) (obs : Objects) (o : ℕ) (b : Object) (p : NodePtr) → Holds v obs → o < length obs.items → b ≡ slice_index_or obs.items o b → b.entries.first ≡ Some p → Front v (entries_of v (object_at obs o)) p
-front_some v obs o b p h l eb e =
-    let same : b ≡ object_at obs o = eb ∙ get_or_default obs.items o b no_object l in
-    front_from v o (object_at obs o) p (entries_of v (object_at obs o)) (stack_of v (object_at obs o)) (h.2 o l) (sym (ap (λ (x : Object). x.entries.first) same) ∙ e)
+pub front_some : (v : Nodes) (obs : Objects) (o : ℕ) (r : Option NodePtr) (p : NodePtr) → Holds v obs → r ≡ (object_at obs o).entries.first → r ≡ Some p → Front v (entries_of v (object_at obs o)) p
+front_some v obs o r p h er e = front_from v o (object_at obs o) p (entries_of v (object_at obs o)) (stack_of v (object_at obs o)) (any_held v obs h o) (sym er ∙ e)
 
 pub front_node : (v : Nodes) (obs : Objects) (es : List ℕ) (p : NodePtr) → Holds v obs → Front v es p → IsNode v p
 front_node v obs es p h f = subst (IsNode v) (sym f.3) (is_node v h.0 f.0 f.4)
 
-pub front_is : (v : Nodes) (obs : Objects) (o : ℕ) (p : NodePtr) (r : ℕ × ℕ) → Holds v obs → o < length obs.items → Front v (entries_of v (object_at obs o)) p
+pub front_is : (v : Nodes) (obs : Objects) (o : ℕ) (p : NodePtr) (r : ℕ × ℕ) → Holds v obs → Front v (entries_of v (object_at obs o)) p
     → (let n = node v (index_of v p) in (r.0 ≡ n.id) × (r.1 ≡ n.member)) → Some r ≡ first_of (lists_at (pool_of v obs) o).entries
-front_is v obs o p r h l f e =
+front_is v obs o p r h f e =
     let i = f.0 in
     let at_i : index_of v p ≡ i = ap (index_of v) f.3 ∙ index_place v h.0 i in
     let id = e.0 ∙ ap (λ (j : ℕ). (node v j).id) at_i ∙ h.1 i f.4 in let m = e.1 ∙ ap (λ (j : ℕ). (node v j).member) at_i in
-    (λ z. Some (id z, m z)) ∙ ap (λ (es : List ℕ). first_of (map (entry v) es)) (sym f.2) ∙ ap (λ (x : Lists). first_of x.entries) (sym (get_map (lists_of v) obs.items o no_object no_lists l))
+    (λ z. Some (id z, m z)) ∙ ap (λ (es : List ℕ). first_of (map (entry v) es)) (sym f.2) ∙ ap (λ (x : Lists). first_of x.entries) (sym (any_lists v obs o))
 
 none_from : (v : Nodes) (o : ℕ) (ob : Object) (es st : List ℕ) → IsHeld v o ob es st → ob.entries.first ≡ None → None ≡ first_of (map (entry v) es)
 none_from v o ob [] st h e = refl
 none_from v o ob (i ∷ is) st h e = let wrong : None ≡ Some (place_of v i) = sym e ∙ ap (λ x. x.first) h.0.0 in absurd cc
 
-pub front_none : (v : Nodes) (obs : Objects) (o : ℕ) (b : Object) → Holds v obs → o < length obs.items → b ≡ slice_index_or obs.items o b → b.entries.first ≡ None → None ≡ first_of (lists_at (pool_of v obs) o).entries
-front_none v obs o b h l eb e =
-    let same : b ≡ object_at obs o = eb ∙ get_or_default obs.items o b no_object l in
-    none_from v o (object_at obs o) (entries_of v (object_at obs o)) (stack_of v (object_at obs o)) (h.2 o l) (sym (ap (λ (x : Object). x.entries.first) same) ∙ e)
-    ∙ ap (λ (x : Lists). first_of x.entries) (sym (get_map (lists_of v) obs.items o no_object no_lists l))
+pub front_none : (v : Nodes) (obs : Objects) (o : ℕ) (r : Option NodePtr) → Holds v obs → r ≡ (object_at obs o).entries.first → r ≡ None → None ≡ first_of (lists_at (pool_of v obs) o).entries
+front_none v obs o r h er e =
+    none_from v o (object_at obs o) (entries_of v (object_at obs o)) (stack_of v (object_at obs o)) (any_held v obs h o) (sym er ∙ e) ∙ ap (λ (x : Lists). first_of x.entries) (sym (any_lists v obs o))
 
 -- ---- an entry that leaves
+-- where an entry stands
+abbrev pub IsEntryAt : ℕ → List (ℕ × ℕ) → Type 0
+IsEntryAt id es = (before : List (ℕ × ℕ)) × (m : ℕ) × (after : List (ℕ × ℕ)) × (es ≡ before ++ (id, m) ∷ after)
+
+-- only a known object has entries
+pub entry_known : (id : ℕ) (p : Pool) (o : ℕ) → IsEntry id (lists_at p o).entries → o < length p.lists
+entry_known id p o h = elim (cases_lt o (length p.lists)) [
+  | inl l ↦ l
+  | inr g ↦ let wrong : IsEntry id [] = subst (λ (x : Lists). IsEntry id x.entries) (get_or_past p.lists o no_lists g) h in absurd cc
+]
+
 tail_of : List (ℕ × ℕ) → List (ℕ × ℕ)
 tail_of [] = []
 tail_of (x ∷ xs) = xs

@@ -1,7 +1,7 @@
 -- The lists of a pool, read from its nodes.
 use Rattle.std.proofs.Common.{◌≡◌, ◌≢◌, ℕ, zero, suc, ◌<◌, ◌≤◌, ◌+◌, ◌==◌, ◌||◌, List, [], ◌∷◌, ◌++◌, map, Bool, true, false, Option, Some, None, refl, sym, ap, ◌∙◌, subst, ◌⊎◌, inl, inr, arith, slice_index_or, slice_set, length, length-set, get_or-set_same, get_or-set_other, ext_get_or, eqb→eq, T}
-use Rattle.std.proofs.lemmas.Bool.{cases_eq}
-use Rattle.std.proofs.lemmas.List.{map-append, length-map, get_or_default, get_or-replicate, length-replicate, length_push, get_or_append_left, get_or_at}
+use Rattle.std.proofs.lemmas.Bool.{cases_eq, cases_lt}
+use Rattle.std.proofs.lemmas.List.{map-append, length-map, get_or_default, get_or-replicate, length-replicate, length_push, get_or_append_left, get_or_at, get_or_past}
 use Rattle.std.proofs.lemmas.Map.Steps.{length-le_from_distinct_below}
 use Rattle.std.specs.List.{AllByRecursion, IsDistinct, list_any}
 use Rattle.std.specs.Vec.{vec_len, vec_ptr, with_item}
@@ -10,10 +10,11 @@ use lib.Dec.{eqb}
 use Rattle.uc_links.specs.declared.chain.Ends.{Ends}
 use Rattle.uc_links.specs.declared.chain.NodePtr.{NodePtr}
 use Rattle.uc_links.specs.declared.chain.Node.{Node}
-use Rattle.uc_links.specs.declared.pool.Object.{Object}
+use Rattle.uc_links.specs.declared.object.Object.{Object}
 use Rattle.uc_links.specs.Chain.{Nodes, node, link, no_link, index_of, place_of, first_or, Avoids, IsApart, IsChain, IsSegment}
 use Rattle.uc_links.specs.Held.{no_ends, IsHeld, IsOf, IsStack, Changed, peers, ends_of, follow, entries_of, stack_of}
-use Rattle.uc_links.specs.Pool.{Lists, Pool, no_lists, lists_at, IsFree, pushed_back, with_object, Objects, no_object, object_at, entry, lists_of, pool_of, Holds}
+use Rattle.uc_links.specs.Lists.{Lists, Pool, no_lists, lists_at, IsFree, pushed_back, with_object}
+use Rattle.uc_links.specs.View.{Objects, no_object, object_at, entry, lists_of, pool_of, Holds}
 use Rattle.uc_links.proofs.Segments.{all_more}
 use Rattle.uc_links.proofs.Chains.{same_places, index_place, flip}
 use Rattle.uc_links.proofs.Entered.{chain_links, stack_links, other_test}
@@ -94,6 +95,36 @@ pub free_avoids : (v : Nodes) (obs : Objects) (id : ℕ) → IsFree id (pool_of 
 free_avoids v obs id free p l =
     let f = subst (λ (x : Lists). AllByRecursion (λ e. e.0 ≢ id) x.entries × Avoids id x.stack) (get_map (lists_of v) obs.items p no_object no_lists l) (free p (subst (λ (n : ℕ). p < n) (sym (length-map obs.items (lists_of v))) l)) in
     (unmapped v id (entries_of v (object_at obs p)) f.0, f.1)
+
+-- ---- an object with empty lists
+follow_none : (v : Nodes) (n : ℕ) → follow n v None ≡ []
+follow_none v zero = refl
+follow_none v (suc n) = refl
+
+held_none : (v : Nodes) (o : ℕ) → IsHeld v o no_object [] []
+held_none v o =
+    ((refl, tt, tt, tt), λ m lm. subst (λ (e : Ends). IsChain 1 v e []) (sym (get_or-replicate 32 m no_ends no_ends lm)) (refl, tt, tt, tt), tt, refl, tt, tt, tt, tt, length-replicate 32 no_ends)
+
+held_new : (v : Nodes) (o : ℕ) → IsHeld v o no_object (entries_of v no_object) (stack_of v no_object)
+held_new v o = subst (λ (x : List ℕ × List ℕ). IsHeld v o no_object x.0 x.1) (λ z. (sym (follow_none v (vec_len v)) z, sym (follow_none v (vec_len v)) z)) (held_none v o)
+
+lists_none : (v : Nodes) → lists_of v no_object ≡ no_lists
+lists_none v = let none = follow_none v (vec_len v) in λ z. record { entries = map (entry v) (none z); stack = none z }
+
+-- what is read of any number, where an object that is not known has empty lists
+pub any_held : (v : Nodes) (obs : Objects) → Holds v obs → (o : ℕ) → IsHeld v o (object_at obs o) (entries_of v (object_at obs o)) (stack_of v (object_at obs o))
+any_held v obs h o = elim (cases_lt o (length obs.items)) [
+  | inl l ↦ h.2 o l
+  | inr g ↦ subst (λ (b : Object). IsHeld v o b (entries_of v b) (stack_of v b)) (sym (get_or_past obs.items o no_object g)) (held_new v o)
+]
+
+pub any_lists : (v : Nodes) (obs : Objects) (o : ℕ) → lists_at (pool_of v obs) o ≡ lists_of v (object_at obs o)
+any_lists v obs o = elim (cases_lt o (length obs.items)) [
+  | inl l ↦ get_map (lists_of v) obs.items o no_object no_lists l
+  | inr g ↦
+      get_or_past (map (lists_of v) obs.items) o no_lists (subst (λ (n : ℕ). n ≤ o) (sym (length-map obs.items (lists_of v))) g) ∙ sym (lists_none v)
+      ∙ ap (lists_of v) (sym (get_or_past obs.items o no_object g))
+]
 
 -- ---- one object changed, and its nodes alone
 module _ (v w : Nodes) (obs : Objects) (o id : ℕ) (ob' : Object) (es' st' cs : List ℕ) (news : Lists) (hold : Holds v obs) (lo : o < length obs.items)
@@ -240,17 +271,6 @@ pub known : (v : Nodes) (obs : Objects) (p : Pool) → pool_of v obs ≡ p → (
 known v obs p e n l = subst (λ (k : ℕ). n < k) (length-map obs.items (lists_of v)) (subst (λ (q : Pool). n < length q.lists) (sym e) l)
 
 -- ---- a new object
-follow_none : (v : Nodes) (n : ℕ) → follow n v None ≡ []
-follow_none v zero = refl
-follow_none v (suc n) = refl
-
-held_none : (v : Nodes) (o : ℕ) → IsHeld v o no_object [] []
-held_none v o =
-    ((refl, tt, tt, tt), λ m lm. subst (λ (e : Ends). IsChain 1 v e []) (sym (get_or-replicate 32 m no_ends no_ends lm)) (refl, tt, tt, tt), tt, refl, tt, tt, tt, tt, length-replicate 32 no_ends)
-
-held_new : (v : Nodes) (o : ℕ) → IsHeld v o no_object (entries_of v no_object) (stack_of v no_object)
-held_new v o = subst (λ (x : List ℕ × List ℕ). IsHeld v o no_object x.0 x.1) (λ z. (sym (follow_none v (vec_len v)) z, sym (follow_none v (vec_len v)) z)) (held_none v o)
-
 below_or_at : (o n : ℕ) → o < n + 1 → (o < n) ⊎ (o ≡ n)
 below_or_at o n l = elim (cases_eq o n) [ inl e ↦ inr e | inr d ↦ inl (omega (arith, d)) ]
 
@@ -265,7 +285,6 @@ added v obs obs' e h =
           | inr at ↦ subst (Held o) (sym (get_or_at obs.items no_object [] no_object o (sym at))) (held_new v o)
         ]),
       ),
-      let none = follow_none v (vec_len v) in let fresh : lists_of v no_object ≡ no_lists = λ z. record { entries = map (entry v) (none z); stack = none z } in
-          let lists = ap (map (lists_of v)) e ∙ map-append (lists_of v) obs.items (no_object ∷ []) ∙ ap (λ (x : Lists). map (lists_of v) obs.items ++ x ∷ []) fresh in
+      let lists = ap (map (lists_of v)) e ∙ map-append (lists_of v) obs.items (no_object ∷ []) ∙ ap (λ (x : Lists). map (lists_of v) obs.items ++ x ∷ []) (lists_none v) in
           λ z. record { count = vec_len v; lists = lists z },
     )

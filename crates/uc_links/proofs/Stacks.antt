@@ -7,10 +7,11 @@ use denote.RawPtr.{InBlock}
 use Rattle.uc_links.specs.declared.chain.Link.{Link}
 use Rattle.uc_links.specs.declared.chain.NodePtr.{NodePtr}
 use Rattle.uc_links.specs.declared.chain.Node.{Node}
-use Rattle.uc_links.specs.declared.pool.Object.{Object}
+use Rattle.uc_links.specs.declared.object.Object.{Object}
 use Rattle.uc_links.specs.Chain.{Nodes, node, index_of, place_of, IsNode, Avoids, Labelled, Relinked}
 use Rattle.uc_links.specs.Held.{IsHeld, Changed, entries_of, stack_of}
-use Rattle.uc_links.specs.Pool.{Lists, no_lists, IsFree, pushed_top, Objects, no_object, object_at, entry, lists_of, pool_of, Holds}
+use Rattle.uc_links.specs.Lists.{Lists, no_lists, IsFree, pushed_top}
+use Rattle.uc_links.specs.View.{Objects, no_object, object_at, entry, lists_of, pool_of, Holds}
 use Rattle.uc_links.proofs.Segments.{all_more}
 use Rattle.uc_links.proofs.Chains.{index_same, index_place, same_places, flip}
 use Rattle.uc_links.proofs.Pools.{found, held_kept, get_map, map_same, both, free_avoids}

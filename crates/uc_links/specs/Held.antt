@@ -4,8 +4,9 @@ use Rattle.std.specs.List.{AllByRecursion, filter}
 use Rattle.std.specs.Vec.{vec_len, vec_ptr}
 use Rattle.uc_links.specs.declared.chain.Ends.{Ends}
 use Rattle.uc_links.specs.declared.chain.NodePtr.{NodePtr}
-use Rattle.uc_links.specs.declared.pool.Object.{Object}
+use Rattle.uc_links.specs.declared.object.Object.{Object}
 use Rattle.uc_links.specs.Chain.{Nodes, node, link, index_of, place_of, first_or, Avoids, IsApart, IsChain}
+use Rattle.uc_links.specs.Lists.{member_limit}
 
 -- ---- the lists, read from the nodes: at most n steps from p on
 abbrev pub follow : ℕ → Nodes → Option NodePtr → List ℕ
@@ -37,17 +38,17 @@ IsStack v (i ∷ is) = ((link 0 v i).next ≡ first_or (place_of v) is None) × 
 
 -- a node of an object's entries, or of its stack, says so
 abbrev pub IsOf : Nodes → ℕ → Bool → ℕ → Type 0
-IsOf v o stacked i = ((node v i).object ≡ o) × ((node v i).stacked ≡ stacked) × ((node v i).member < 32)
+IsOf v o stacked i = ((node v i).object ≡ o) × ((node v i).stacked ≡ stacked) × ((node v i).member < member_limit)
 
 -- the object o has these entries and this stack
 abbrev pub IsHeld : Nodes → ℕ → Object → List ℕ → List ℕ → Type 0
 IsHeld v o ob es st =
     IsChain 0 v ob.entries es
-    × ((m : ℕ) → m < 32 → IsChain 1 v (ends_of ob m) (peers v m es))
+    × ((m : ℕ) → m < member_limit → IsChain 1 v (ends_of ob m) (peers v m es))
     × AllByRecursion (IsOf v o false) es
     × (ob.top ≡ first_or (place_of v) st None) × IsStack v st
     × AllByRecursion (IsOf v o true) st
-    × AllByRecursion (λ i. i < vec_len v) st × IsApart st × (length ob.members ≡ 32)
+    × AllByRecursion (λ i. i < vec_len v) st × IsApart st × (length ob.members ≡ member_limit)
 
 -- only the nodes es changed, and labels only of the node j
 abbrev pub Changed : ℕ → List ℕ → Nodes → Nodes → Type 0

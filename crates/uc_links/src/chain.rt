@@ -1,14 +1,14 @@
-//! Nodes that are linked by raw pointers, each in two orders at once.
+//! Nodes that are linked by raw pointers, each in two orders at once. No function here has a loop.
 ghost use Rattle.std.specs.Prelude.{◌≡◌, ◌≢◌, ℕ, ◌<◌, List, [], ◌∷◌, ◌++◌, length, ⊤};
 ghost use Rattle.uc_links.specs.Chain.{place_of, node, IsNode, IsNodeIfSome, Relinked, AfterSet, BeforeSet, Labelled, ChangedWithin, index_of, link, IsChain, Avoids};
 ghost use Rattle.std.specs.Vec.{vec_len, vec_ptr};
 ghost use denote.RawPtr.{InBlock};
 
-use crate::raw::{Ref, at, place};
+use crate::raw::{ElementPtr, at, place};
 use std::alloc::{AllocError, Global};
 use std::marker::Send;
 
-/// Where a node lies. It owns nothing.
+/// Where a node lies. It owns nothing. It is a type of its own, since a `Node` may not hold an `ElementPtr<Node>`.
 pub struct NodePtr {
     pub(crate) ptr: *mut Node,
 }
@@ -28,10 +28,10 @@ impl Copy for NodePtr {}
 unsafe impl Send for NodePtr {}
 
 impl NodePtr {
-    fn as_ref(self) -> Ref<Node>
+    fn as_element(self) -> ElementPtr<Node>
         ensures { result.ptr ≡ self.ptr }
     {
-        Ref { ptr: self.ptr }
+        ElementPtr { ptr: self.ptr }
     }
 }
 
@@ -42,12 +42,15 @@ pub struct Link {
     pub(crate) next: Option<NodePtr>,
 }
 
+/// A node stands in no list, in an object's entries, or on an object's stack.
 #[derive(Drop)]
 pub struct Node {
     pub(crate) id: u32,
     pub(crate) member: u8,
+    // The object whose list it stands in, and which list. Only proofs read these two.
     pub(crate) object: u32,
     pub(crate) stacked: bool,
+    // In the entries or on the stack, and among the entries of its member.
     pub(crate) links: [Link; 2],
 }
 
@@ -90,7 +93,7 @@ pub(crate) fn label_of(nodes: &mut Vec<Node, Global>, place: NodePtr) -> (u32, u
     ensures value { let n = node nodes.old (index_of nodes.old place) in (result.0 ≡ n.id) × (result.1 ≡ n.member) }
     ensures same { (vec_ptr nodes.new ≡ vec_ptr nodes.old) × (vec_len nodes.new ≡ vec_len nodes.old) × (nodes.new.items ≡ nodes.old.items) }
 {
-    let node = at(nodes, place.as_ref());
+    let node = at(nodes, place.as_element());
     (node.id, node.member)
 }
 
@@ -99,7 +102,7 @@ pub(crate) fn link_of(nodes: &mut Vec<Node, Global>, place: NodePtr, order: usiz
     ensures value { result ≡ link order nodes.old (index_of nodes.old place) }
     ensures same { (vec_ptr nodes.new ≡ vec_ptr nodes.old) × (vec_len nodes.new ≡ vec_len nodes.old) × (nodes.new.items ≡ nodes.old.items) }
 {
-    let node = at(nodes, place.as_ref());
+    let node = at(nodes, place.as_element());
     node.links[order]
 }
 
@@ -108,7 +111,7 @@ pub(crate) fn set_link(nodes: &mut Vec<Node, Global>, place: NodePtr, order: usi
     requires { (order < 2) × IsNode nodes.old place }
     ensures { Relinked order (index_of nodes.old place) link nodes.old nodes.new }
 {
-    let node = at(nodes, place.as_ref());
+    let node = at(nodes, place.as_element());
     node.links[order] = link;
 }
 
@@ -123,7 +126,7 @@ pub(crate) fn set_label(
     requires { IsNode nodes.old place }
     ensures { Labelled (index_of nodes.old place) object stacked member nodes.old nodes.new }
 {
-    let node = at(nodes, place.as_ref());
+    let node = at(nodes, place.as_element());
     node.object = object;
     node.stacked = stacked;
     node.member = member;
@@ -142,7 +145,7 @@ fn set_after(
 {
     match prev {
         Some(place) => {
-            let node = at(nodes, place.as_ref());
+            let node = at(nodes, place.as_element());
             node.links[order].next = to;
         }
         None => ends.first = to,
@@ -162,7 +165,7 @@ fn set_before(
 {
     match next {
         Some(place) => {
-            let node = at(nodes, place.as_ref());
+            let node = at(nodes, place.as_element());
             node.links[order].prev = to;
         }
         None => ends.last = to,

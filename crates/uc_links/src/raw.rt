@@ -1,4 +1,4 @@
-//! The only places where a raw pointer is made or followed.
+//! The only places where a raw pointer is made or followed. `at` and `block_of` are proved by hand.
 ghost use Rattle.std.specs.Prelude.{◌≡◌, ◌*◌, ◌^◌, ◌<◌, slice_index_or, ⊤};
 ghost use Rattle.std.specs.Borrow.{sem};
 ghost use Rattle.std.specs.Vec.{vec_len, vec_ptr, vec_capacity, vec_follows_item};
@@ -11,23 +11,23 @@ use std::marker::Send;
 use std::ptr::NonNull;
 
 /// Where an element lies. It owns nothing.
-pub struct Ref<T> {
+pub struct ElementPtr<T> {
     pub(crate) ptr: *mut T,
 }
 
-impl<T> Clone for Ref<T> {
+impl<T> Clone for ElementPtr<T> {
     ghost is_clone = { λ x y. y ≡ x };
 
     ghost is_infallible = { λ _. ⊤ };
 
-    fn clone(&self) -> Result<Ref<T>, AllocError> {
+    fn clone(&self) -> Result<ElementPtr<T>, AllocError> {
         Ok(*self)
     }
 }
 
-impl<T> Copy for Ref<T> {}
+impl<T> Copy for ElementPtr<T> {}
 
-unsafe impl<T> Send for Ref<T> {}
+unsafe impl<T> Send for ElementPtr<T> {}
 
 /// It does nothing, and tells what a `Vec` says of its block.
 pub(crate) fn block_of<T, B: Allocator>(items: &mut Vec<T, B>)
@@ -37,7 +37,7 @@ pub(crate) fn block_of<T, B: Allocator>(items: &mut Vec<T, B>)
 {}
 
 /// The pointer to the element `index`.
-pub(crate) fn place<T, B: Allocator>(items: &mut Vec<T, B>, index: usize) -> Ref<T>
+pub(crate) fn place<T, B: Allocator>(items: &mut Vec<T, B>, index: usize) -> ElementPtr<T>
     requires { index < vec_len items.old }
     ensures value { result.ptr ≡ place_at T.row (vec_ptr items.old) index }
     ensures block { InBlock (vec_ptr items.old) }
@@ -45,13 +45,13 @@ pub(crate) fn place<T, B: Allocator>(items: &mut Vec<T, B>, index: usize) -> Ref
 {
     block_of(items);
     let base = unsafe { NonNull::new_unchecked(items.as_mut_ptr()) };
-    Ref {
+    ElementPtr {
         ptr: unsafe { base.add(index).as_ptr() },
     }
 }
 
 /// The element that the pointer points to.
-pub(crate) fn at<T, B: Allocator>(items: &mut Vec<T, B>, place: Ref<T>) -> &mut T
+pub(crate) fn at<T, B: Allocator>(items: &mut Vec<T, B>, place: ElementPtr<T>) -> &mut T
     requires { IsPlace T.row (vec_ptr items.old) (vec_len items.old) place.ptr }
     ensures* writes_back { sem 𝓛 (vec_follows_item T.row B.row B.Allocator items.entry (index_at T.row (vec_ptr items.old) place.ptr) result) }
     ensures value { result.now ≡ slice_index_or items.old.items (index_at T.row (vec_ptr items.old) place.ptr) result.now }

@@ -46,8 +46,8 @@ use Rattle.std_alloc.proofs.VecSteps.Element.{Got, lends}
 use Rattle.std_alloc.proofs.VecSteps.Opens.{vec_opens}
 use Rattle.std_alloc.proofs.VecSteps.Shapes.{after}
 use Rattle.uc_links.specs.Place.{place_at, index_at, IsPlace}
-use Rattle.uc_links.specs.contracts.raw.Ref.{the_row as ref_row, struct as ref_struct}
-use Rattle.uc_links.proofs.raw.Ref.TheLaws.{lowers}
+use Rattle.uc_links.specs.contracts.raw.ElementPtr.{the_row as pointer_row, struct as pointer_struct}
+use Rattle.uc_links.proofs.raw.ElementPtr.TheLaws.{lowers}
 use Rattle.uc_links.specs.contracts.raw.at.Key.{name as key}
 use Rattle.uc_links.proofs.raw.at.Statement.{statement}
 use Rattle.uc_links.proofs.raw.at.Code as code
@@ -62,12 +62,12 @@ module _ (E : El) where
 
   abbrev form : Ended
   form = record {
-    signature = record { lifetimes = 1; outlives = []; params = RefMutOf (0 ∷ []) tt (plain (λ _. Vr E)) (λ _. tt) ∷ plain (λ _. ref_row (R E)) ∷ []; result = RefMutOf (0 ∷ []) tt (plain (λ _. R E)) (λ _. tt) };
+    signature = record { lifetimes = 1; outlives = []; params = RefMutOf (0 ∷ []) tt (plain (λ _. Vr E)) (λ _. tt) ∷ plain (λ _. pointer_row (R E)) ∷ []; result = RefMutOf (0 ∷ []) tt (plain (λ _. R E)) (λ _. tt) };
     kept = (no, (no, tt));
   }
 
   abbrev stays : Stays form.signature.params form.kept
-  stays = (stay_dropped (mut_ref_to (0 ∷ []) tt (plain (λ _. Vr E))) no, (stay_dropped (plain (λ _. ref_row (R E))) no, tt))
+  stays = (stay_dropped (mut_ref_to (0 ∷ []) tt (plain (λ _. Vr E))) no, (stay_dropped (plain (λ _. pointer_row (R E))) no, tt))
 
   abbrev clauses : {M : Type 1} {𝓤 : Ura M} (𝓛 : Logic 𝓤) → Clauses 𝓤 form
   clauses {𝓤 = 𝓤} 𝓛 κs a = record {
@@ -97,14 +97,14 @@ module _ (E : El) where
         let x : el_x E = get_or (el_items E v) i some_x in
         let filled : 0 < el_cap E v = let ok = el_ok E v in let below = is.1 in omega arith in
         let inside : i < length (el_items E v) = let ok = el_ok E v in let below = is.1 in omega arith in
-        qed 𝓛 ((‵ (flft κ q) ⊛ ‵ ftrue) ∷ ‵ (owns (MutRef (named 0) κ (Vr E) ∷ ref_row (R E) ∷ []) W.0.3 W.0.4) ∷ []) ∵
+        qed 𝓛 ((‵ (flft κ q) ⊛ ‵ ftrue) ∷ ‵ (owns (MutRef (named 0) κ (Vr E) ∷ pointer_row (R E) ∷ []) W.0.3 W.0.4) ∷ []) ∵
         enter ! C Λ body (vptr b o ∷ word p ∷ []) _ $
-        alloc_all ! (λ l. pass_all ! refl ((tt, tt), (word-Good (ref_struct (R E)).name p, tt)) $
+        alloc_all ! (λ l. pass_all ! refl ((tt, tt), (word-Good (pointer_struct (R E)).name p, tt)) $
         let En : Env 𝓤 H = env body.locals l in
         move ! (1 ∷ []) $ fsplit ! $ fsplit3 ! $ drop ! $ move ! (3 ∷ []) $ split ! $ move ! (2 ∷ 3 ∷ 0 ∷ []) $
         vec_opens E ! tt v b o filled (λ d e handle lies short small fits.
         -- [the elements; the spare room; the right to free; the Vec's words; the open borrow; what γ is seen at, twice; ..; the locals]
-        rewrite ! 11 (λ (z : Ptr). ‵ (fat full_share (word_ty (ref_struct (R E)).name) (l 2) 0 (word z))) (in_the_block p v.ptr d e (i * sz E) lies is.0) refl $
+        rewrite ! 11 (λ (z : Ptr). ‵ (fat full_share (word_ty (pointer_struct (R E)).name) (l 2) 0 (word z))) (in_the_block p v.ptr d e (i * sz E) lies is.0) refl $
         first ! $ blocks ! $
         sets_last ! (addr ! (from ! (fld ! refl (hop ! (look_in_at ! 2 (sub ! 0 refl (whole !))) (stop !))))) refl (tt, tt) $
         exec ! C Λ En (after 1 body.body) (at_ret En ((walk_of 𝓛 form stays (clauses 𝓛)).post W)) $
@@ -120,7 +120,7 @@ module _ (E : El) where
   meets : {M : Type 1} {𝓤 : Ura M} (𝓛 : Logic 𝓤) (𝓣 : Tables 𝓤 𝓛.H) → Meets 𝓛 form.signature (WpFn 𝓤 𝓛.H 𝓣.C 𝓣.Λ body) (closing 𝓛 form (clauses 𝓛))
   meets {𝓤 = 𝓤} 𝓛 𝓣 =
       let run = WpFn 𝓤 𝓛.H 𝓣.C 𝓣.Λ body in
-      walk_Meets 𝓛 form stays (Goes-spent_ref 𝓛 1 (0 ∷ []) tt (plain (λ _. Vr E)), (Goes-dropped 𝓛 1 (plain (λ _. ref_row (R E))) no (λ κs x f. refl), tt)) (clauses 𝓛) run (WpFn-mono 𝓤 𝓛.H 𝓛.laws 𝓣 body)
+      walk_Meets 𝓛 form stays (Goes-spent_ref 𝓛 1 (0 ∷ []) tt (plain (λ _. Vr E)), (Goes-dropped 𝓛 1 (plain (λ _. pointer_row (R E))) no (λ κs x f. refl), tt)) (clauses 𝓛) run (WpFn-mono 𝓤 𝓛.H 𝓛.laws 𝓣 body)
       (walked 𝓛 form stays (clauses 𝓛) run (λ κs. (mut_vals, (λ r. word r.ptr ∷ [], tt))) (λ κs. (mut_Tells (named 0) κs.0 (Vr E), ((lowers (R E) (param_laws 0 E.row E.laws)).val_is, tt)))
       (λ κs qs bounds a g are. needs 𝓤 (IsPlace (R E) a.0.now.ptr (el_len E a.0.now) a.1.0.ptr) _ (walk 𝓛 κs.0 qs.0 a.0.ref_ptr.0 a.0.ref_ptr.1 a.0.ghost_name a.0.now a.1.0.ptr 𝓣.C 𝓣.Λ)))
 

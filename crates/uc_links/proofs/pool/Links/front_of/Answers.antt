@@ -1,22 +1,18 @@
 use Rattle.std.proofs.Common.{ap, ◌∙◌}
-use Rattle.uc_links.specs.Pool.{Pool, lists_at, first_with}
-use Rattle.uc_links.proofs.Pools.{known}
+use Rattle.uc_links.specs.Lists.{Pool, lists_at, first_with}
 use Rattle.uc_links.proofs.Looks.{holds_same, pool_same}
 use Rattle.uc_links.proofs.Pops.{member_node, member_is, member_none}
 use Rattle.uc_links.proofs.pool.Links.front_of.Goals as goal
 
 pub label_of-label-requires : goal.label_of-label-requires
-label_of-label-requires g c =
-    let v = c.self.inside.nodes in let obs = c.self.inside.objects in
-    member_node v obs c.args.object c.args.member c.index.result.now c.self.invariant (known v obs c.args.self.now c.self.view_is c.args.object c.requires.object.0) c.requires.object.1 c.index.ensures c.in-Some.place c.in-Some.is
+label_of-label-requires g c = member_node c.self.inside.nodes c.self.inside.objects c.args.object c.args.member c.first_caller.result c.self.invariant c.first_caller.ensures c.in-Some.place c.in-Some.is
 
 pub invariant_of-self : goal.invariant_of-self
 invariant_of-self g c = holds_same c.self.inside.nodes c.label_of-label.new.nodes c.label_of-label.ensures.same c.self.inside.objects c.self.invariant
 
 pub returns-in-Some-clause-first : goal.returns-in-Some-clause-first
 returns-in-Some-clause-first g c =
-    let v = c.self.inside.nodes in let obs = c.self.inside.objects in
-    member_is v obs c.args.object c.args.member c.index.result.now c.self.invariant (known v obs c.args.self.now c.self.view_is c.args.object c.requires.object.0) c.requires.object.1 c.index.ensures c.in-Some.place c.label_of-label.result.0 c.in-Some.is c.label_of-label.ensures.value.0
+    member_is c.self.inside.nodes c.self.inside.objects c.args.object c.args.member c.first_caller.result c.self.invariant c.first_caller.ensures c.in-Some.place c.label_of-label.result.0 c.in-Some.is c.label_of-label.ensures.value.0
     ∙ ap (λ (p : Pool). first_with c.args.member (lists_at p c.args.object).entries) c.self.view_is
 
 pub returns-in-Some-clause-same : goal.returns-in-Some-clause-same
@@ -24,6 +20,5 @@ returns-in-Some-clause-same g c = pool_same c.self.inside.nodes c.label_of-label
 
 pub returns-in-None-clause-first : goal.returns-in-None-clause-first
 returns-in-None-clause-first g c =
-    let v = c.self.inside.nodes in let obs = c.self.inside.objects in
-    member_none v obs c.args.object c.args.member c.index.result.now c.self.invariant (known v obs c.args.self.now c.self.view_is c.args.object c.requires.object.0) c.requires.object.1 c.index.ensures c.in-None.is
+    member_none c.self.inside.nodes c.self.inside.objects c.args.object c.args.member c.first_caller.result c.self.invariant c.first_caller.ensures c.in-None.is
     ∙ ap (λ (p : Pool). first_with c.args.member (lists_at p c.args.object).entries) c.self.view_is

@@ -4,7 +4,7 @@ use Rattle.uc_links.specs.Chain.{index_of}
 use Rattle.uc_links.specs.Held.{peers}
 use Rattle.uc_links.proofs.Chains.{index_same, node_moved}
 use Rattle.uc_links.proofs.Entered.{first_chain, second_chain, at_place, Keeps}
-use Rattle.uc_links.proofs.pool.enter.Goals as goal
+use Rattle.uc_links.proofs.object.enter.Goals as goal
 
 pub link_last-requires-clause-chain : goal.link_last-requires-clause-chain
 link_last-requires-clause-chain c =

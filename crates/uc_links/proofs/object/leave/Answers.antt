@@ -3,7 +3,7 @@ use Rattle.uc_links.specs.Chain.{index_of, node}
 use Rattle.uc_links.specs.Held.{peers, ends_of}
 use Rattle.uc_links.proofs.Chains.{index_same}
 use Rattle.uc_links.proofs.Left.{member_chain, left, changed, Unlinks, Spares}
-use Rattle.uc_links.proofs.pool.leave.Goals as goal
+use Rattle.uc_links.proofs.object.leave.Goals as goal
 
 pub unlink-requires-2-clause-chain : goal.unlink-requires-2-clause-chain
 unlink-requires-2-clause-chain c =

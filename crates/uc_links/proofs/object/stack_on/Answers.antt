@@ -1,5 +1,5 @@
 use Rattle.uc_links.proofs.Stacks.{stacked}
-use Rattle.uc_links.proofs.pool.stack_on.Goals as goal
+use Rattle.uc_links.proofs.object.stack_on.Goals as goal
 
 pub returns : goal.returns
 returns c = record {
