@@ -1,6 +1,7 @@
 pub mod Chains
 pub mod Entered
 pub mod Filters
+pub mod Firsts
 pub mod Left
 pub mod Pools
 pub mod Looks

@@ -1,5 +1,5 @@
 //! The pool: each object's entries and stack, in nodes that are taken once.
-ghost use Rattle.std.specs.Prelude.{◌≡◌, ◌<◌, ◌+◌, ◌^◌, length, IfOk, IfErr};
+ghost use Rattle.std.specs.Prelude.{◌≡◌, ◌<◌, ◌+◌, ◌^◌, length, IfOk, IfErr, IfSome};
 ghost use Rattle.uc_links.specs.Lists.{IsFree, IsEntry, lists_at, first_of, first_with, popped, pushed_back, pushed_top, unlinked, empty_pool, with_object, member_limit};
 
 use crate::chain::{Node, blank_node, label_of, node_at};
@@ -82,9 +82,10 @@ impl Links {
         enter(&mut self.nodes, entered, object, member, place);
     }
 
-    /// The oldest entry of an object: its task and member.
+    /// The oldest entry of an object: its task and member. `None` where it has no entries.
     pub fn front<L: Ledger>(&mut self, object: u32, moves: &mut Steps<L>) -> Option<(u32, u8)>
         ensures first { result ≡ first_of (lists_at self.old object).entries }
+        ensures entry { IfSome result (λ e. IsEntry e.0 (lists_at self.old object).entries) }
         ensures same { self.new ≡ self.old }
         ensures moves { moves.new ≡ moves.old + 1 }
     {
@@ -95,7 +96,7 @@ impl Links {
         }
     }
 
-    /// The task of an object's oldest entry with this member.
+    /// The task of an object's oldest entry with this member. `None` where it has none.
     pub fn front_of<L: Ledger>(
         &mut self,
         object: u32,
@@ -103,6 +104,7 @@ impl Links {
         moves: &mut Steps<L>,
     ) -> Option<u32>
         ensures first { result ≡ first_with member (lists_at self.old object).entries }
+        ensures entry { IfSome result (λ id. IsEntry id (lists_at self.old object).entries) }
         ensures same { self.new ≡ self.old }
         ensures moves { moves.new ≡ moves.old + 1 }
     {
@@ -143,7 +145,7 @@ impl Links {
         stack_on(&mut self.nodes, stacked, object, place);
     }
 
-    /// Takes the top off an object's stack, and returns its task.
+    /// Takes the top off an object's stack, and returns its task. `None` where the stack is empty.
     pub fn pop_top<L: Ledger>(&mut self, object: u32, moves: &mut Steps<L>) -> Option<u32>
         ensures top { result ≡ first_of (lists_at self.old object).stack }
         ensures lists { self.new ≡ popped self.old object }

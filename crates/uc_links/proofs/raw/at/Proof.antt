@@ -1,16 +1,16 @@
 -- `at` lends the element that the pointer points to: the borrow of the Vec is opened, the pointer is found to be the place of that element, and
 -- the element is lent on while the Vec waits for it.
 use mathlib.Core.Path.{◌≡◌, refl, ap, ◌∙◌}
-use Prim.Native.Nat.{ℕ, ◌+◌, ◌*◌, ◌≤◌, ◌<◌, ◌^◌}
+use Prim.Native.Nat.{ℕ, ◌+◌, ◌*◌, ◌<◌}
 use native.Mathlib.Nat.{add_comm}
 use native.Mathlib.Omega.{arith}
-use mathlib.Core.List.{List, [], ◌∷◌}
+use mathlib.Core.List.{[], ◌∷◌}
 use lib.ListN.{length, get_or}
 use seplogic.Ra.Ura.{Ura}
 use base.Fraction.{full_share}
 use mir.Syntax.{Fn, named}
 use mir.MapTy.{inst_fn}
-use mir.Val.{Val, vptr}
+use mir.Val.{vptr}
 use base.Logic.{ent, sep, id⊢}
 use base.Fml.{Lft, GName, Share, ftrue, fat, flft}
 use prog.Wp.{Env, Calls, Loops, WpFn, Tables}
@@ -45,7 +45,7 @@ use Rattle.std_alloc.proofs.VecSteps.El.{El, args, el_x, el_d, el_len, el_cap, e
 use Rattle.std_alloc.proofs.VecSteps.Element.{Got, lends}
 use Rattle.std_alloc.proofs.VecSteps.Opens.{vec_opens}
 use Rattle.std_alloc.proofs.VecSteps.Shapes.{after}
-use Rattle.uc_links.specs.Place.{place_at, index_at, IsPlace}
+use Rattle.uc_links.specs.Place.{index_at, IsPlace}
 use Rattle.uc_links.specs.contracts.raw.ElementPtr.{the_row as pointer_row, struct as pointer_struct}
 use Rattle.uc_links.proofs.raw.ElementPtr.TheLaws.{lowers}
 use Rattle.uc_links.specs.contracts.raw.at.Key.{name as key}

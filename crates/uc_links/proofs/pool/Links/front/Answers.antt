@@ -1,5 +1,6 @@
 use Rattle.std.proofs.Common.{ap, ◌∙◌}
 use Rattle.uc_links.specs.Lists.{Pool, lists_at, first_of}
+use Rattle.uc_links.proofs.Firsts.{first_is_entry}
 use Rattle.uc_links.proofs.Looks.{front_some, front_node, front_is, front_none, holds_same, pool_same}
 use Rattle.uc_links.proofs.pool.Links.front.Goals as goal
 
@@ -21,3 +22,6 @@ returns-in-Some-clause-same g c = pool_same c.self.inside.nodes c.label_of.new.n
 pub returns-in-None-clause-first : goal.returns-in-None-clause-first
 returns-in-None-clause-first g c =
     front_none c.self.inside.nodes c.self.inside.objects c.args.object c.first_entry.result c.self.invariant c.first_entry.ensures c.in-None.is ∙ ap (λ (p : Pool). first_of (lists_at p c.args.object).entries) c.self.view_is
+
+pub returns-in-Some-clause-entry : goal.returns-in-Some-clause-entry
+returns-in-Some-clause-entry g c = first_is_entry (lists_at c.args.self.now c.args.object).entries c.label_of.result (returns-in-Some-clause-first g c)

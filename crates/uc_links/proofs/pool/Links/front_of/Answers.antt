@@ -1,5 +1,6 @@
 use Rattle.std.proofs.Common.{ap, ◌∙◌}
 use Rattle.uc_links.specs.Lists.{Pool, lists_at, first_with}
+use Rattle.uc_links.proofs.Firsts.{first_with_is_entry}
 use Rattle.uc_links.proofs.Looks.{holds_same, pool_same}
 use Rattle.uc_links.proofs.Pops.{member_node, member_is, member_none}
 use Rattle.uc_links.proofs.pool.Links.front_of.Goals as goal
@@ -22,3 +23,6 @@ pub returns-in-None-clause-first : goal.returns-in-None-clause-first
 returns-in-None-clause-first g c =
     member_none c.self.inside.nodes c.self.inside.objects c.args.object c.args.member c.first_caller.result c.self.invariant c.first_caller.ensures c.in-None.is
     ∙ ap (λ (p : Pool). first_with c.args.member (lists_at p c.args.object).entries) c.self.view_is
+
+pub returns-in-Some-clause-entry : goal.returns-in-Some-clause-entry
+returns-in-Some-clause-entry g c = first_with_is_entry c.args.member (lists_at c.args.self.now c.args.object).entries c.label_of-label.result.0 (returns-in-Some-clause-first g c)

@@ -1,5 +1,5 @@
 use Rattle.std.proofs.Common.{ℕ, ◌<◌, ap, subst, sym, ◌∙◌}
-use Rattle.uc_links.specs.Lists.{Pool, lists_at, first_of, popped}
+use Rattle.uc_links.specs.Lists.{Pool, popped}
 use Rattle.uc_links.proofs.Chains.{node_moved}
 use Rattle.uc_links.proofs.Pops.{top_known, top_node, top_gives}
 use Rattle.uc_links.proofs.pool.Links.pop_top.Goals as goal

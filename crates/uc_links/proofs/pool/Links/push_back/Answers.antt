@@ -1,8 +1,5 @@
-use Rattle.std.proofs.Common.{◌≡◌, ℕ, ◌<◌, subst, sym, ap, length, ◌∙◌}
-use Rattle.std.proofs.lemmas.List.{length-map}
+use Rattle.std.proofs.Common.{subst, sym, ap, ◌∙◌}
 use Rattle.uc_links.specs.Lists.{Pool, IsFree, pushed_back}
-use Rattle.uc_links.specs.View.{Objects, lists_of, pool_of}
-use Rattle.uc_links.specs.Chain.{Nodes}
 use Rattle.uc_links.proofs.Pools.{known, asks, gives}
 use Rattle.uc_links.proofs.pool.Links.push_back.Goals as goal
 
