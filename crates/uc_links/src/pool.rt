@@ -1,5 +1,5 @@
 //! The pool: each object's entries and stack, in nodes that are taken once.
-ghost use Rattle.std.specs.Prelude.{◌≡◌, ◌<◌, ◌+◌, ◌^◌, length, IfOk, IfErr, IfSome};
+ghost use Rattle.std.specs.Prelude.{◌≡◌, ◌<◌, ◌+◌, length, IfOk, IfErr, IfSome};
 ghost use Rattle.uc_links.specs.Lists.{IsFree, IsEntry, lists_at, first_of, first_with, popped, pushed_back, pushed_top, unlinked, empty_pool, with_object, member_limit};
 
 use crate::chain::{Node, blank_node, label_of, node_at};
@@ -54,17 +54,19 @@ impl Links {
         })
     }
 
-    /// Adds an object with empty lists, and returns its number: objects are numbered from 0. Where memory is wanting the
-    /// pool is unchanged.
+    /// Adds an object with empty lists, and returns its number: objects are numbered from 0. Where memory is wanting, or no
+    /// number is left, the pool is unchanged.
     pub fn add_object(&mut self) -> Result<u32, AllocError>
-        requires room { length self.old.lists < 2 ^ 32 }
         ensures number { IfOk result (λ n. n ≡ length self.old.lists) }
         ensures added { IfOk result (λ _. self.new ≡ with_object self.old) }
         ensures err { IfErr result (λ _. self.new ≡ self.old) }
     {
-        let number = self.objects.len() as u32;
+        let count = self.objects.len();
+        if count > u32::MAX as usize {
+            return Err(AllocError);
+        }
         self.objects.push(blank_object())?;
-        Ok(number)
+        Ok(count as u32)
     }
 
     /// Puts task `id`, as a caller of `member`, at the end of an object's entries.

@@ -10,7 +10,7 @@ pub invariant_of-self-2 : goal.invariant_of-self-2
 invariant_of-self-2 c = (added c.self.inside.nodes c.self.inside.objects c.push.new.self (c.in_ok-push.ensures.items ∙ ap (λ (x : Object). c.self.inside.objects.items ++ x ∷ []) c.blank_object.ensures) c.self.invariant).0
 
 pub returns-clause-number : goal.returns-clause-number
-returns-clause-number c = c.len-number.ensures ∙ c.self.inside.objects.ok.0 ∙ sym (length-map c.self.inside.objects.items (lists_of c.self.inside.nodes)) ∙ ap (λ (p : Pool). length p.lists) c.self.view_is
+returns-clause-number c = c.len-count.ensures ∙ c.self.inside.objects.ok.0 ∙ sym (length-map c.self.inside.objects.items (lists_of c.self.inside.nodes)) ∙ ap (λ (p : Pool). length p.lists) c.self.view_is
 
 pub returns-clause-added : goal.returns-clause-added
 returns-clause-added c = (added c.self.inside.nodes c.self.inside.objects c.push.new.self (c.in_ok-push.ensures.items ∙ ap (λ (x : Object). c.self.inside.objects.items ++ x ∷ []) c.blank_object.ensures) c.self.invariant).1 ∙ ap (λ (p : Pool). with_object p) c.self.view_is
