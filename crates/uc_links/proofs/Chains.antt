@@ -8,7 +8,7 @@ use Rattle.uc_links.specs.declared.chain.Node.{Node}
 use Rattle.uc_links.specs.declared.chain.NodePtr.{NodePtr}
 use Rattle.uc_links.specs.declared.chain.Ends.{Ends}
 use Rattle.uc_links.specs.Chain.{Nodes, node, blank, no_link, place_of, index_of, IsNode, IsNodeIfSome, link, first_or, last_or, IsSegment, Avoids, IsApart, IsChain, Relinked, AfterSet, BeforeSet, ChangedWithin}
-use Rattle.uc_links.proofs.Segments.{all_left, all_right, all_both, all_more, cut_last, last_or-append, first_or-append, joined, left, right, kept, next_set, prev_set}
+use Rattle.uc_links.proofs.Segments.{all_left, all_right, all_both, all_more, cut_last, last_or-append, first_or-append, first_or-push, joined, left, right, kept, next_set, prev_set}
 
 -- ---- where a node lies
 index_from : (p : Ptr) → InBlock p → (i : ℕ) → (count_of (p +ₚ i * 80) - count_of p) / 80 ≡ i
@@ -127,7 +127,7 @@ after_set k v w ends ends' to prev xs m t e a s g f =
           let a' = subst IsApart c.2 a in
           let same = all_more (λ i. Avoids i (j ∷ [])) (λ i. link k w i ≡ link k v i) (λ i n. r.3 i (flip j i n.0)) us (apart_cross us (j ∷ []) a') in
           let g' = subst (λ (l : List ℕ). IsSegment (place_of v) (link k v) None l m) c.2 g in
-          let f' : ends.first ≡ first_or (place_of v) (us ++ j ∷ []) to = f ∙ ap (λ (l : List ℕ). first_or (place_of v) l m) c.2 ∙ Rattle.uc_links.proofs.Segments.first_or-push (place_of v) us j m to in
+          let f' : ends.first ≡ first_or (place_of v) (us ++ j ∷ []) to = f ∙ ap (λ (l : List ℕ). first_or (place_of v) l m) c.2 ∙ first_or-push (place_of v) us j m to in
           subst Goal (sym c.2) (
             next_set (place_of v) (link k v) (link k w) None us j m to same r.2 g',
             ap (λ (x : Ends). x.first) s'.1 ∙ f',

@@ -1,6 +1,7 @@
 -- A node enters an object's entries: its label is written, and it is linked at the end of both orders.
 use Rattle.std.proofs.Common.{◌≡◌, ◌≢◌, ℕ, ◌<◌, ◌==◌, List, [], ◌∷◌, ◌++◌, Bool, true, false, cond, None, refl, sym, ap, ◌∙◌, subst, inl, inr, arith, slice_set, length, length-set, get_or-set_same, get_or-set_other, eqb→eq, T}
 use Rattle.std.proofs.lemmas.Bool.{cases_eq}
+use Rattle.std.proofs.lemmas.List.{append-nil}
 use Rattle.std.specs.List.{AllByRecursion}
 use Rattle.std.specs.Vec.{vec_len, vec_ptr}
 use lib.Dec.{eqb_refl}
@@ -116,7 +117,7 @@ module _ (v0 v1 v2 v3 : Nodes) (i o m : ℕ) (ob : Object) (e' f' : Ends) (lm : 
         (subst (λ (x : Ends). IsChain 1 v3 x (peers v0 m es ++ i ∷ [])) (sym (get_or-set_same ob.members m f' no_ends in_range)) (c2 (peers v0 m es) (peers2 m lm) (avoids_peers m es i n1))))
     | inr n ↦
         let nope : ((node v3 i).member == k) ≡ false = other_test ((node v3 i).member == k) (λ t. n (sym (test_same _ k t) ∙ member_i)) in
-        subst (λ (l : List ℕ). IsChain 1 v3 (ends_of new k) l) (sym (peers_new k ∙ ap (λ (b : Bool). peers v0 k es ++ cond b (i ∷ []) []) nope ∙ Rattle.std.proofs.lemmas.List.append-nil (peers v0 k es)))
+        subst (λ (l : List ℕ). IsChain 1 v3 (ends_of new k) l) (sym (peers_new k ∙ ap (λ (b : Bool). peers v0 k es ++ cond b (i ∷ []) []) nope ∙ append-nil (peers v0 k es)))
         (subst (λ (x : Ends). IsChain 1 v3 x (peers v0 k es)) (sym (get_or-set_other ob.members m k f' no_ends n))
         (chain_links 1 v2 v3 (ends_of ob k) (peers v0 k es) ch2.0 ch2.1 (all_more (λ j. Avoids j (i ∷ peers v0 m es)) (λ j. link 1 v3 j ≡ link 1 v2 j) ch2.2 (peers v0 k es) (peers_apart k n)) (peers2 k lk)))
   ]

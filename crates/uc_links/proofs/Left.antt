@@ -1,5 +1,5 @@
 -- A node leaves an object's entries: it is unlinked from both orders.
-use Rattle.std.proofs.Common.{◌≡◌, ◌≢◌, ℕ, ◌<◌, ◌==◌, List, [], ◌∷◌, ◌++◌, Bool, true, false, cond, refl, sym, ap, ◌∙◌, subst, ◌⊎◌, inl, inr, arith, slice_index_or, slice_set, length, length-set, get_or-set_same, get_or-set_other}
+use Rattle.std.proofs.Common.{◌≡◌, ◌≢◌, ℕ, ◌<◌, ◌==◌, List, ◌∷◌, ◌++◌, Bool, None, true, false, cond, sym, ap, ◌∙◌, subst, inl, inr, arith, slice_set, length, length-set, get_or-set_same, get_or-set_other}
 use Rattle.std.proofs.lemmas.Bool.{cases_eq}
 use Rattle.std.specs.List.{AllByRecursion}
 use Rattle.std.specs.Vec.{vec_len, vec_ptr}
@@ -97,7 +97,7 @@ module _ (v0 : Nodes) (i o m : ℕ) (ob : Object) (lm : m < 32) (mi : (node v0 i
       chain_links 0 v1 v2 e' (xs ++ ys) ch2.0 ch2.1 (all_every (λ j. link 0 v2 j ≡ link 0 v1 j) (λ j. ch2.3 0 j (omega arith)) (xs ++ ys)) (c1 xs ys h.0),
       members_chain,
       all_more (IsOf v0 o false) (IsOf v2 o false) (of_same false) (xs ++ ys) of_all,
-      h.3 ∙ ap (λ (r : ℕ → NodePtr). first_or r st Rattle.std.proofs.Common.None) (sym (same_places v0 v2 ptr2)),
+      h.3 ∙ ap (λ (r : ℕ → NodePtr). first_or r st None) (sym (same_places v0 v2 ptr2)),
       stack_links v0 v2 st ptr2 stack_same h.4,
       all_more (IsOf v0 o true) (IsOf v2 o true) (of_same true) st h.5,
       subst (λ (n : ℕ). AllByRecursion (λ j. j < n) st) (sym len2) h.6,

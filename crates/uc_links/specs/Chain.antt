@@ -39,6 +39,10 @@ node v i = slice_index_or v.items i blank
 abbrev pub link : ℕ → Nodes → ℕ → Link
 link k v i = slice_index_or (node v i).links k no_link
 
+-- the nodes, and where they lie, stayed
+abbrev pub SameNodes : Nodes → Nodes → Type 0
+SameNodes old new = (vec_ptr new ≡ vec_ptr old) × (vec_len new ≡ vec_len old) × (new.items ≡ old.items)
+
 -- ---- orders
 abbrev pub first_or : (ℕ → NodePtr) → List ℕ → Option NodePtr → Option NodePtr
 first_or ref [] n = n

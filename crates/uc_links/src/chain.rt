@@ -1,6 +1,6 @@
 //! Nodes that are linked by raw pointers, each in two orders at once. No function here has a loop.
 ghost use Rattle.std.specs.Prelude.{◌≡◌, ◌≢◌, ℕ, ◌<◌, List, [], ◌∷◌, ◌++◌, length, ⊤};
-ghost use Rattle.uc_links.specs.Chain.{place_of, node, IsNode, IsNodeIfSome, Relinked, AfterSet, BeforeSet, Labelled, ChangedWithin, index_of, link, IsChain, Avoids};
+ghost use Rattle.uc_links.specs.Chain.{place_of, node, IsNode, IsNodeIfSome, Relinked, AfterSet, BeforeSet, Labelled, ChangedWithin, SameNodes, index_of, link, IsChain, Avoids};
 ghost use Rattle.std.specs.Vec.{vec_len, vec_ptr};
 ghost use denote.RawPtr.{InBlock};
 
@@ -90,8 +90,9 @@ pub(crate) fn node_at(nodes: &mut Vec<Node, Global>, index: usize) -> NodePtr
 /// The number and the member of a node.
 pub(crate) fn label_of(nodes: &mut Vec<Node, Global>, place: NodePtr) -> (u32, u8)
     requires { IsNode nodes.old place }
-    ensures value { let n = node nodes.old (index_of nodes.old place) in (result.0 ≡ n.id) × (result.1 ≡ n.member) }
-    ensures same { (vec_ptr nodes.new ≡ vec_ptr nodes.old) × (vec_len nodes.new ≡ vec_len nodes.old) × (nodes.new.items ≡ nodes.old.items) }
+    ensures value { let n = node nodes.old (index_of nodes.old place) in
+        (result.0 ≡ n.id) × (result.1 ≡ n.member) }
+    ensures same { SameNodes nodes.old nodes.new }
 {
     let node = at(nodes, place.as_element());
     (node.id, node.member)
@@ -100,7 +101,7 @@ pub(crate) fn label_of(nodes: &mut Vec<Node, Global>, place: NodePtr) -> (u32, u
 pub(crate) fn link_of(nodes: &mut Vec<Node, Global>, place: NodePtr, order: usize) -> Link
     requires { (order < 2) × IsNode nodes.old place }
     ensures value { result ≡ link order nodes.old (index_of nodes.old place) }
-    ensures same { (vec_ptr nodes.new ≡ vec_ptr nodes.old) × (vec_len nodes.new ≡ vec_len nodes.old) × (nodes.new.items ≡ nodes.old.items) }
+    ensures same { SameNodes nodes.old nodes.new }
 {
     let node = at(nodes, place.as_element());
     node.links[order]
@@ -181,8 +182,12 @@ pub(crate) fn link_last(
 )
     requires node { InBlock (vec_ptr nodes.old) × (order < 2) × IsNode nodes.old place }
     requires chain { (es : List ℕ) × IsChain order nodes.old ends.old es }
-    ensures chain { let i = index_of nodes.old place in (es : List ℕ) → IsChain order nodes.old ends.old es → Avoids i es → IsChain order nodes.new ends.new (es ++ i ∷ []) }
-    ensures rest { let i = index_of nodes.old place in (es : List ℕ) → IsChain order nodes.old ends.old es → ChangedWithin order (i ∷ es) nodes.old nodes.new }
+    ensures chain { let i = index_of nodes.old place in
+        (es : List ℕ) → IsChain order nodes.old ends.old es → Avoids i es
+        → IsChain order nodes.new ends.new (es ++ i ∷ []) }
+    ensures rest { let i = index_of nodes.old place in
+        (es : List ℕ) → IsChain order nodes.old ends.old es
+        → ChangedWithin order (i ∷ es) nodes.old nodes.new }
 {
     let last = ends.last;
     set_after(nodes, ends, last, order, Some(place));
@@ -197,9 +202,14 @@ pub(crate) fn link_last(
 /// Takes a node out of an order.
 pub(crate) fn unlink(nodes: &mut Vec<Node, Global>, ends: &mut Ends, place: NodePtr, order: usize)
     requires node { InBlock (vec_ptr nodes.old) × (order < 2) × IsNode nodes.old place }
-    requires chain { let i = index_of nodes.old place in (xs : List ℕ) × (ys : List ℕ) × IsChain order nodes.old ends.old (xs ++ i ∷ ys) }
-    ensures chain { let i = index_of nodes.old place in (xs ys : List ℕ) → IsChain order nodes.old ends.old (xs ++ i ∷ ys) → IsChain order nodes.new ends.new (xs ++ ys) }
-    ensures rest { let i = index_of nodes.old place in (xs ys : List ℕ) → IsChain order nodes.old ends.old (xs ++ i ∷ ys) → ChangedWithin order (xs ++ ys) nodes.old nodes.new }
+    requires chain { let i = index_of nodes.old place in
+        (xs : List ℕ) × (ys : List ℕ) × IsChain order nodes.old ends.old (xs ++ i ∷ ys) }
+    ensures chain { let i = index_of nodes.old place in
+        (xs ys : List ℕ) → IsChain order nodes.old ends.old (xs ++ i ∷ ys)
+        → IsChain order nodes.new ends.new (xs ++ ys) }
+    ensures rest { let i = index_of nodes.old place in
+        (xs ys : List ℕ) → IsChain order nodes.old ends.old (xs ++ i ∷ ys)
+        → ChangedWithin order (xs ++ ys) nodes.old nodes.new }
 {
     let link = link_of(nodes, place, order);
     set_after(nodes, ends, link.prev, order, link.next);

@@ -1,8 +1,8 @@
 //! An object's ends in the pool, and the nodes that enter and leave its lists.
 ghost use Rattle.std.specs.Prelude.{◌≡◌, ℕ, ◌<◌, List, [], ◌∷◌, ◌++◌};
-ghost use Rattle.std.specs.Vec.{vec_len, vec_ptr};
+ghost use Rattle.std.specs.Vec.{vec_ptr};
 ghost use denote.RawPtr.{InBlock};
-ghost use Rattle.uc_links.specs.Chain.{IsNode, index_of, node, link, Avoids};
+ghost use Rattle.uc_links.specs.Chain.{IsNode, index_of, node, link, Avoids, SameNodes};
 ghost use Rattle.uc_links.specs.Held.{IsHeld, Changed, ends_of};
 ghost use Rattle.uc_links.specs.Lists.{member_limit};
 ghost use Rattle.uc_links.specs.View.{no_object, object_at};
@@ -44,10 +44,15 @@ pub(crate) fn enter(
     place: NodePtr,
 )
     requires node { InBlock (vec_ptr nodes.old) × (member < member_limit) × IsNode nodes.old place }
-    requires held { let i = index_of nodes.old place in (es : List ℕ) × (st : List ℕ) × IsHeld nodes.old number object.old es st × Avoids i es × Avoids i st }
-    ensures held { let i = index_of nodes.old place in (es st : List ℕ) → IsHeld nodes.old number object.old es st → Avoids i es → Avoids i st → IsHeld nodes.new number object.new (es ++ i ∷ []) st }
+    requires held { let i = index_of nodes.old place in
+        (es : List ℕ) × (st : List ℕ) × IsHeld nodes.old number object.old es st × Avoids i es × Avoids i st }
+    ensures held { let i = index_of nodes.old place in
+        (es st : List ℕ) → IsHeld nodes.old number object.old es st → Avoids i es → Avoids i st
+        → IsHeld nodes.new number object.new (es ++ i ∷ []) st }
     ensures label { (node nodes.new (index_of nodes.old place)).member ≡ member }
-    ensures rest { let i = index_of nodes.old place in (es st : List ℕ) → IsHeld nodes.old number object.old es st → Avoids i es → Avoids i st → Changed i (i ∷ es) nodes.old nodes.new }
+    ensures rest { let i = index_of nodes.old place in
+        (es st : List ℕ) → IsHeld nodes.old number object.old es st → Avoids i es → Avoids i st
+        → Changed i (i ∷ es) nodes.old nodes.new }
 {
     set_label(nodes, place, number, false, member);
     link_last(nodes, &mut object.entries, place, 0);
@@ -56,9 +61,13 @@ pub(crate) fn enter(
 
 /// Takes a node out of the entries, and out of its member's.
 pub(crate) fn leave(nodes: &mut Vec<Node, Global>, object: &mut Object, member: u8, place: NodePtr)
-    requires node { InBlock (vec_ptr nodes.old) × IsNode nodes.old place × (member < member_limit) × ((node nodes.old (index_of nodes.old place)).member ≡ member) }
-    requires held { let i = index_of nodes.old place in (o : ℕ) × (xs : List ℕ) × (ys : List ℕ) × (st : List ℕ) × IsHeld nodes.old o object.old (xs ++ i ∷ ys) st }
-    ensures held { let i = index_of nodes.old place in (o : ℕ) (xs ys st : List ℕ) → IsHeld nodes.old o object.old (xs ++ i ∷ ys) st → IsHeld nodes.new o object.new (xs ++ ys) st × Changed i (xs ++ ys) nodes.old nodes.new }
+    requires node { InBlock (vec_ptr nodes.old) × IsNode nodes.old place × (member < member_limit)
+        × ((node nodes.old (index_of nodes.old place)).member ≡ member) }
+    requires held { let i = index_of nodes.old place in
+        (o : ℕ) × (xs : List ℕ) × (ys : List ℕ) × (st : List ℕ) × IsHeld nodes.old o object.old (xs ++ i ∷ ys) st }
+    ensures held { let i = index_of nodes.old place in
+        (o : ℕ) (xs ys st : List ℕ) → IsHeld nodes.old o object.old (xs ++ i ∷ ys) st
+        → IsHeld nodes.new o object.new (xs ++ ys) st × Changed i (xs ++ ys) nodes.old nodes.new }
 {
     unlink(nodes, &mut object.entries, place, 0);
     unlink(nodes, &mut object.members[member as usize], place, 1);
@@ -72,7 +81,9 @@ pub(crate) fn stack_on(
     place: NodePtr,
 )
     requires node { InBlock (vec_ptr nodes.old) × IsNode nodes.old place }
-    ensures held { let i = index_of nodes.old place in (es st : List ℕ) → IsHeld nodes.old number object.old es st → Avoids i es → Avoids i st → IsHeld nodes.new number object.new es (i ∷ st) × Changed i (i ∷ []) nodes.old nodes.new }
+    ensures held { let i = index_of nodes.old place in
+        (es st : List ℕ) → IsHeld nodes.old number object.old es st → Avoids i es → Avoids i st
+        → IsHeld nodes.new number object.new es (i ∷ st) × Changed i (i ∷ []) nodes.old nodes.new }
 {
     set_label(nodes, place, number, true, 0);
     let link = Link {
@@ -87,7 +98,7 @@ pub(crate) fn stack_on(
 pub(crate) fn unstack(nodes: &mut Vec<Node, Global>, object: &mut Object, place: NodePtr)
     requires { IsNode nodes.old place }
     ensures top { object.new ≡ record object.old { top = (link 0 nodes.old (index_of nodes.old place)).next } }
-    ensures same { (vec_ptr nodes.new ≡ vec_ptr nodes.old) × (vec_len nodes.new ≡ vec_len nodes.old) × (nodes.new.items ≡ nodes.old.items) }
+    ensures same { SameNodes nodes.old nodes.new }
 {
     let link = link_of(nodes, place, 0);
     object.top = link.next;
