@@ -1,5 +1,6 @@
 pub mod Fit
 pub mod Refuse
-pub mod Laws
+pub mod AllForms
 pub mod SameTokens
 pub mod Read
+pub mod Told

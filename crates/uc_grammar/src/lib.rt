@@ -2,5 +2,6 @@
 #![tactic(auto)]
 
 pub mod fault;
+pub mod laws;
 pub mod level;
 pub mod start;
