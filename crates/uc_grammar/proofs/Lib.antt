@@ -4,3 +4,4 @@ pub mod AllForms
 pub mod SameTokens
 pub mod Read
 pub mod Told
+pub mod Computed

@@ -40,9 +40,9 @@ if_reading false r s = s
 unfoldable pub read_run : {A : Type 0} → ℕ → (Option TokenKind → Bool) → (List Token → ℕ → Reading A) → List Token → ℕ → Reading (List A)
 read_run zero p r ts from = Failed NoMemory
 read_run (suc n) p r ts from = elim (p (kind_at ts from)) [
-    true ↦ next_reading (r ts from) (λ at x. map_reading (λ xs. x ∷ xs) (read_run n p r ts at))
+  | true ↦ next_reading (r ts from) (λ at x. map_reading (λ xs. x ∷ xs) (read_run n p r ts at))
   | false ↦ Found from []
-  ]
+]
 
 unfoldable pub read : {A : Type 0} → Reader → Form A → List Token → ℕ → Reading A
 read i nothing ts from = Failed (Syntax from)
@@ -164,14 +164,14 @@ module _ (n : ℕ) (below : (A : Type 0) (x : Name A) (ts : List Token) (from : 
   sound (apply f g) ts from = applied f g ts from (read (reader n) g ts from) (sound g ts from)
   sound (many p g) ts from = repeated p g ts from (read_run (length ts + 1) p (read (reader n) g) ts from)
       (run_sound p (read (reader n) g) ts (λ at to x. S g ts at to x) (λ at f. E g ts at f) (λ at. sound g ts at)
-        (λ at xs. Run p (S g) ts from at xs) (E (many p g) ts from)
-        (λ at to xs x r b s. run_more p (S g) ts from at to xs x r b s) (λ at xs f r b e. inl (at, xs, r, b, e)) (inr refl)
-        (length ts + 1) from [] (none g p ts from))
+      (λ at xs. Run p (S g) ts from at xs) (E (many p g) ts from)
+      (λ at to xs x r b s. run_more p (S g) ts from at to xs x r b s) (λ at xs f r b e. inl (at, xs, r, b, e)) (inr refl)
+      (length ts + 1) from [] (none g p ts from))
   sound (listed g p h) ts from = list_of g p h ts from (read (reader n) g ts from) (sound g ts from) (λ at. read_run (length ts + 1) p (read (reader n) h) ts at)
       (λ at x r. run_sound p (read (reader n) h) ts (λ a to y. S h ts a to y) (λ a f. E h ts a f) (λ a. sound h ts a)
-        (λ to xs. ListRun (S g) p (S h) ts from to xs) (E (listed g p h) ts from)
-        (λ a to xs y l b s. list_more (S g) p (S h) ts from a to xs y l b s) (λ a xs f l b e. inr (inl (a, xs, l, b, e))) (inr (inr refl))
-        (length ts + 1) at (x ∷ []) (alone g h p ts from at x r))
+      (λ to xs. ListRun (S g) p (S h) ts from to xs) (E (listed g p h) ts from)
+      (λ a to xs y l b s. list_more (S g) p (S h) ts from a to xs y l b s) (λ a xs f l b e. inr (inl (a, xs, l, b, e))) (inr (inr refl))
+      (length ts + 1) at (x ∷ []) (alone g h p ts from at x r))
   sound {A} (inside x) ts from = below A x ts from
 
 deeper : {A : Type 0} (n : ℕ) (x : Name A) (ts : List Token) (from : ℕ) (q : Reading A) → Sound (Spells (inner n) (form_of x) ts from) (Fails (inner n) (faults n) (form_of x) ts from) q → Sound (inner (suc n) A x ts from) (faults (suc n) A x ts from) q

@@ -205,16 +205,18 @@ word_numbered word.Migrate = refl
 word_numbered word.UMain = refl
 
 signs_decided : (s t : Sign) → Decides (sign_number s == sign_number t) (s ≡ t)
-signs_decided s t =
-    (λ b. let e : slice_get signs (sign_number s) ≡ slice_get signs (sign_number t) = ap (slice_get signs) ((Decides-eqb (sign_number s) (sign_number t)).0 b) in
+signs_decided s t = (
+  λ b. let e : slice_get signs (sign_number s) ≡ slice_get signs (sign_number t) = ap (slice_get signs) ((Decides-eqb (sign_number s) (sign_number t)).0 b) in
       let d : ◌≡◌ {A = Option Sign} (Some s) (Some t) = sym (sign_numbered s) ∙ e ∙ sign_numbered t in cc,
-    λ e. (Decides-eqb (sign_number s) (sign_number t)).1 (ap sign_number e))
+  λ e. (Decides-eqb (sign_number s) (sign_number t)).1 (ap sign_number e),
+)
 
 words_decided : (s t : Word) → Decides (word_number s == word_number t) (s ≡ t)
-words_decided s t =
-    (λ b. let e : slice_get words (word_number s) ≡ slice_get words (word_number t) = ap (slice_get words) ((Decides-eqb (word_number s) (word_number t)).0 b) in
+words_decided s t = (
+  λ b. let e : slice_get words (word_number s) ≡ slice_get words (word_number t) = ap (slice_get words) ((Decides-eqb (word_number s) (word_number t)).0 b) in
       let d : ◌≡◌ {A = Option Word} (Some s) (Some t) = sym (word_numbered s) ∙ e ∙ word_numbered t in cc,
-    λ e. (Decides-eqb (word_number s) (word_number t)).1 (ap word_number e))
+  λ e. (Decides-eqb (word_number s) (word_number t)).1 (ap word_number e),
+)
 
 abbrev pub same_kind : TokenKind → TokenKind → Bool
 same_kind (token.Name m) (token.Name n) = bytes_eq m n

@@ -27,9 +27,10 @@ room_up g m n ts from to v le r = let e : m + (n - m) ≡ n = omega arith in sub
 module _ (n : ℕ) (ts : List Token) (from to : ℕ) (e : Expr) where
   -- a level over the tighter one, whose pieces are a unary and what follows it
   over : (l : Level) (after : Pos → Expr → Form Expr) → Spells (inner n) (here (λ pos. bind unary_form (λ u. bind (after pos u) (chain_after l (here (λ p. bind unary_form (after p))) pos)))) ts from to e ↔ Spells (inner n) (here (λ pos. bind (here (λ p. bind unary_form (after p))) (chain_after l (here (λ p. bind unary_form (after p))) pos))) ts from to e
-  over l after =
-      (λ r. record { middle = r.second.middle; left = r.second.left; first = record { middle = r.middle; left = r.left; first = r.first; second = r.second.first }; second = r.second.second },
-      λ r. record { middle = r.first.middle; left = r.first.left; first = r.first.first; second = record { middle = r.middle; left = r.left; first = r.first.second; second = r.second } })
+  over l after = (
+    λ r. record { middle = r.second.middle; left = r.second.left; first = record { middle = r.middle; left = r.left; first = r.first; second = r.second.first }; second = r.second.second },
+    λ r. record { middle = r.first.middle; left = r.first.left; first = r.first.first; second = record { middle = r.middle; left = r.left; first = r.first.second; second = r.second } },
+  )
 
   pub levels_stand : (l : Level) → Spells (inner n) (here (λ pos. bind unary_form (level_after l pos))) ts from to e ↔ Spells (inner n) (here (λ pos. bind (operand_form l) (chain_after l (operand_form l) pos))) ts from to e
   levels_stand level.Product = (λ r. r, λ r. r)

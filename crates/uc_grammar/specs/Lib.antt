@@ -4,3 +4,4 @@ pub mod Form
 pub mod Tables
 pub mod Grammar
 pub mod Text
+pub mod Samples

@@ -4,4 +4,5 @@
 pub mod fault;
 pub mod laws;
 pub mod level;
+pub mod samples;
 pub mod start;
