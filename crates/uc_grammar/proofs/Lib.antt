@@ -5,3 +5,4 @@ pub mod SameTokens
 pub mod Read
 pub mod Told
 pub mod Computed
+pub mod Far

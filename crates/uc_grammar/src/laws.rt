@@ -30,6 +30,13 @@ pub fn law_too_deep()
     ensures program { TooDeepRefuses IsProgram ProgramFails }
 {}
 
+/// A fault TooDeep comes only behind half as many tokens as there are levels: no token enters more than two.
+pub fn law_too_deep_is_far()
+    ensures expr { TooDeepIsFar ExprFails }
+    ensures stmt { TooDeepIsFar StmtFails }
+    ensures program { TooDeepIsFar ProgramFails }
+{}
+
 /// Each level of operators is a chain of pieces of the next tighter one.
 pub fn law_levels()
     ensures { LevelsStand }
