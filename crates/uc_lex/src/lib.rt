@@ -11,3 +11,6 @@ mod others;
 
 pub use fault::LexFault;
 pub use lexer::lex;
+
+#[cfg(test)]
+mod tests;
