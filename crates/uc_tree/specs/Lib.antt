@@ -17,3 +17,5 @@ pub mod ItemViews
 pub mod Capped
 pub mod Exits
 pub mod Sizes
+pub mod Names
+pub mod Constants
