@@ -19,3 +19,5 @@ pub mod Exits
 pub mod Sizes
 pub mod Names
 pub mod Constants
+pub mod Rows
+pub mod Cells

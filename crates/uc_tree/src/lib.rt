@@ -12,5 +12,6 @@ pub mod ops;
 pub mod pos;
 pub mod program;
 pub mod program_size;
+pub mod rows;
 pub mod size;
 pub mod stmt;
