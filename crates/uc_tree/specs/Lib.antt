@@ -21,3 +21,5 @@ pub mod Names
 pub mod Constants
 pub mod Rows
 pub mod Cells
+pub mod Gathered
+pub mod Numbering

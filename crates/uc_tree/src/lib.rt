@@ -2,6 +2,7 @@
 #![tactic(auto)]
 
 pub mod class;
+pub mod constants;
 pub mod declare;
 pub mod exits;
 pub mod expr;
