@@ -1,8 +1,20 @@
 // Trees and tokens of program texts, their numbering and sizes, and every limit of the language and its kernel.
 #![tactic(auto)]
 
+pub mod class;
+pub mod constants;
+pub mod declare;
+pub mod exits;
+pub mod expr;
+pub mod kinds;
 pub mod limits;
 pub mod name;
+pub mod ops;
 pub mod pos;
+pub mod program;
+pub mod program_size;
+pub mod rows;
 pub mod scan;
+pub mod size;
+pub mod stmt;
 pub mod token;
