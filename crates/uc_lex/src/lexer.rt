@@ -1,8 +1,8 @@
 // The whole text.
 
-ghost use Rattle.std.specs.Prelude.{◌≡◌, ◌+◌, ◌<◌, ◌≤◌, ◌^◌, IfOk, IfErr, length, fold};
+ghost use Rattle.std.specs.Prelude.{◌≡◌, ◌+◌, ◌<◌, ◌≤◌, ◌^◌, IfOk, IfErr, IsErr, List, ℕ, length, fold};
 ghost use Rattle.uc_tree.specs.Tokens as tokens;
-ghost use Rattle.uc_lex.specs.Faults.{IsFault};
+ghost use Rattle.uc_lex.specs.Faults.{IsFault, StandsIn};
 ghost use Rattle.uc_lex.specs.Places.{InRange, InText};
 
 use crate::bytes::{
@@ -122,7 +122,8 @@ fn next_found(alloc: Global, rest: &[u8], fresh: bool) -> Result<Found, AllocErr
 
 // The fault at that offset.
 fn fault_at(why: Reason, at: u32) -> LexFault
-    ensures { IsFault (tokens.Refused why at) result }
+    ensures fault { IsFault (tokens.Refused why at) result }
+    ensures inside { (room : ℕ) → at < room → StandsIn result room }
 {
     match why {
         Reason::BadByte => LexFault::BadByte { at },
@@ -133,11 +134,14 @@ fn fault_at(why: Reason, at: u32) -> LexFault
     }
 }
 
-/// The tokens of the text, or its first fault.
+/// The tokens of the text, or its first fault. The text has fewer than 2^32 - 1 bytes.
 pub fn lex(alloc: Global, text: &[u8]) -> Result<Vec<Token>, LexFault>
     requires { length text.now + 1 < 2 ^ 32 }
     ensures tokens { IfOk result (λ v. tokens.tokens text.now ≡ tokens.Read v.items) }
     ensures fault { IfErr result (λ f. IsFault (tokens.tokens text.now) f) }
+    ensures inside { IfErr result (λ f. StandsIn f (length text.now)) }
+    ensures complete { (ts : List Token) → tokens.tokens text.now ≡ tokens.Read ts → IfErr result (λ f. f ≡ LexFault.NoMemory) }
+    ensures refused { (why : Reason) (at : ℕ) → tokens.tokens text.now ≡ tokens.Refused why at → IsErr result }
 {
     let mut tokens = Vec::new(alloc);
     let mut place = START;
@@ -157,4 +161,13 @@ pub fn lex(alloc: Global, text: &[u8]) -> Result<Vec<Token>, LexFault>
         }
     }
     Ok(tokens)
+}
+
+/// The place of an offset in the text, which may be its end.
+pub fn pos_at(text: &[u8], at: u32) -> Pos
+    requires fits { length text.now + 1 < 2 ^ 32 }
+    requires inside { at ≤ length text.now }
+    ensures { result ≡ tokens.pos_at text.now at }
+{
+    place_behind(START, text_to(text, at as usize)).pos
 }

@@ -10,7 +10,7 @@ mod numbers;
 mod others;
 
 pub use fault::LexFault;
-pub use lexer::lex;
+pub use lexer::{lex, pos_at};
 
 #[cfg(test)]
 mod tests;

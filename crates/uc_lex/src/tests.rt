@@ -1,6 +1,6 @@
 // What no clause says: that the tables of words, signs and faults are those of the language.
 
-use crate::lexer::lex;
+use crate::lexer::{lex, pos_at};
 use std::alloc::{AllocError, Global};
 use std::test::Fail;
 use uc_tree::token::{Token, TokenKind};
@@ -176,4 +176,21 @@ fn tables(rt: HostRuntime) -> Result<(), Fail> {
         assert_eq!(rt; place, Some(i));
     }
     Ok(())
+}
+
+#[test]
+fn places(rt: HostRuntime) {
+    let rows: [(&[u8], u32, u32, u32); 4] = [
+        (b"", 0, 1, 1),
+        (b"void uMain::main() { /* ", 21, 1, 22),
+        (b"a\r\n\tb", 4, 2, 2),
+        (b"\n\n", 2, 3, 1),
+    ];
+    for (text, at, line, col) in rows {
+        assert!(rt; text.len() < 100);
+        assert!(rt; at as usize <= text.len());
+        let pos = pos_at(text, at);
+        assert_eq!(rt; pos.line, line);
+        assert_eq!(rt; pos.col, col);
+    }
 }
