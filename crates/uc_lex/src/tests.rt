@@ -1,6 +1,6 @@
 // What no clause says: that the tables of words, signs and faults are those of the language.
 
-use crate::lexer::{lex, pos_at};
+use crate::{lex, pos_at};
 use std::alloc::{AllocError, Global};
 use std::test::Fail;
 use uc_tree::token::{Token, TokenKind};
