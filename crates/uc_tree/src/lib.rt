@@ -2,6 +2,7 @@
 #![tactic(auto)]
 
 pub mod class;
+pub mod constants;
 pub mod declare;
 pub mod exits;
 pub mod expr;
@@ -10,9 +11,10 @@ pub mod limits;
 pub mod name;
 pub mod ops;
 pub mod pos;
-pub mod scan;
-pub mod token;
 pub mod program;
 pub mod program_size;
+pub mod rows;
+pub mod scan;
 pub mod size;
 pub mod stmt;
+pub mod token;

@@ -1,12 +1,10 @@
-// Comments, skipped lines and signs.
+// What gives no token: comments and skipped lines.
 
-ghost use Rattle.std.specs.Prelude.{◌≡◌, ◌<◌, ◌≤◌, length, drop, find, IfSome};
-ghost use Rattle.uc_tree.specs.Spelling.{sign_spelling};
+ghost use Rattle.std.specs.Prelude.{◌≡◌, ◌<◌, ◌≤◌, length, drop, IfSome};
 ghost use Rattle.uc_tree.specs.Tokens as tokens;
 
 use crate::bytes::{Class, run_length, text_from};
 use uc_tree::scan::{Found, Reason};
-use uc_tree::token::{Sign, TokenKind};
 
 /// How many bytes there are up to and with the first `*/`.
 pub fn comment_length(rest: &[u8]) -> Option<usize>
@@ -47,26 +45,4 @@ fn names_include(rest: &[u8]) -> bool
     ensures { result ≡ tokens.names_include rest.now }
 {
     text_from(rest, run_length(rest, Class::Blank)).starts_with(b"include")
-}
-
-/// The longest sign that the text begins with.
-pub fn sign_at(rest: &[u8]) -> Found
-    ensures { result ≡ tokens.sign_at rest.now }
-{
-    match first_sign(&Sign::ALL, rest) {
-        Some(sign) => Found::Take(TokenKind::Sign(sign), sign.spelling().len()),
-        None => Found::Stop(Reason::BadByte, 0),
-    }
-}
-
-// The first of the signs that the text begins with.
-fn first_sign(signs: &[Sign], rest: &[u8]) -> Option<Sign>
-    ensures { result ≡ find (λ s. tokens.begins rest.now (sign_spelling s)) signs.now }
-{
-    for sign in signs {
-        if rest.starts_with(sign.spelling()) {
-            return Some(*sign);
-        }
-    }
-    None
 }

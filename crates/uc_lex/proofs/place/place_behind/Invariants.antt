@@ -2,7 +2,7 @@ use Rattle.std.proofs.Common.{◌≡◌, ◌+◌, drop}
 use Rattle.std.specs.Prelude.{fold}
 use Rattle.uc_tree.specs.Tokens.{next_place}
 use Rattle.uc_lex.specs.Places.{InRange}
-use Rattle.uc_lex.proofs.lexer.place_behind.Given as goal
+use Rattle.uc_lex.proofs.place.place_behind.Given as goal
 
 -- what is left leads on from the place so far
 abbrev pub invariant-loop-b : goal.invariant-loop-b

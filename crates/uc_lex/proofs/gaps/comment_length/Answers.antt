@@ -1,6 +1,6 @@
 use Rattle.std.proofs.Common.{sym, ◌∙◌}
 use Rattle.uc_lex.proofs.Comments.{past-next, past-found, past-end, past-start}
-use Rattle.uc_lex.proofs.others.comment_length.Goals as goal
+use Rattle.uc_lex.proofs.gaps.comment_length.Goals as goal
 
 pub loop-i-init : goal.loop-i-init
 loop-i-init c = past-start c.args.rest.now
