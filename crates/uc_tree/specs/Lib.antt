@@ -1,9 +1,3 @@
-pub mod Expressions
-pub mod Statements
-pub mod Programs
-pub mod Bytes
-pub mod Spelling
-pub mod Tokens
 pub mod Bytes
 pub mod Capped
 pub mod Cells
