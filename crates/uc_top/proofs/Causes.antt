@@ -1,6 +1,6 @@
 -- What each status of the top call says, from what it leaves.
-use Rattle.std.proofs.Common.{◌≡◌, ◌≢◌, ℕ, ◌<◌, List, [], ◌∷◌, ◌⊎◌, inl, inr, refl, sym, ap, ◌∙◌, subst, arith}
-use Rattle.std.specs.Prelude.{IsTrue, codes}
+use Rattle.std.proofs.Common.{◌≡◌, ◌≢◌, ℕ, List, [], ◌⊎◌, inl, inr, refl, sym, ◌∙◌, subst, arith}
+use Rattle.std.specs.Prelude.{IsTrue}
 use Rattle.uc_tree.specs.declared.limits.TheConstants.{PROGRAM_BYTES}
 use Rattle.uc_tree.specs.declared.pos.Pos.{Pos}
 use Rattle.uc_tree.specs.declared.scan.Reason.{Reason}
@@ -9,15 +9,15 @@ use Rattle.uc_meaning.specs.Sums.{SumProgram}
 use Rattle.uc_meaning.specs.Texts.{printed}
 use Rattle.uc_outside.specs.Reading.{StoreState, ReadBytes, ReadFailed, ReadTooLong, HasFile}
 use Rattle.uc_outside.specs.Faults.{CountRose}
-use Rattle.uc_outside.specs.Taking.{SinkState, Took, HasRoom}
+use Rattle.uc_outside.specs.Taking.{Took}
 use Rattle.uc_outside.proofs.Taken.{fits-no_failure}
 use Rattle.uc_outside.proofs.Read.{has_file-no_failure, has_file-not_long, has_file-content}
 use Rattle.uc_top.specs.declared.refusals.Refusal.{Refusal}
 use Rattle.uc_top.specs.declared.refusals.Refusal.TheVariants.{Word, CannotRead, TooLong, Lexical, NotBuilt, NoMemory}
 use Rattle.uc_top.specs.Words.{Words, IsRunLine}
 use Rattle.uc_top.specs.Built.{IsProgram, HasFault, GaveText}
-use Rattle.uc_top.specs.Refusals.{status_of, name_of, refusal_text}
-use Rattle.uc_top.specs.Outcomes.{Scene, Ran, Refused, Leaves, done, refused, out_failed, err_failed, Done, Told, TooHigh, Causes, Answers, HaveRooms, Completes}
+use Rattle.uc_top.specs.Refusals.{status_of}
+use Rattle.uc_top.specs.Outcomes.{Scene, Ran, Refused, Leaves, done, refused, out_failed, err_failed, Told, TooHigh, Causes, Answers, HaveRooms, Completes}
 
 not_high : (s : Scene) {xs ys : List ℕ} → Took s.out s.out_after xs → Took s.err s.err_after ys → TooHigh s → ⊥
 not_high s out err (inl h) = absurd (omega (arith, h, out.same_count))
@@ -79,13 +79,15 @@ told_causes s TooLong t = record {
   no_other = inr (inr (inr (inl refl)));
 }
 told_causes s (Lexical why pos) t = record {
-    done = λ e. absurd (omega (arith, e));
-    refused = λ e. inl (why, pos, t);
-    bad_word = λ e. absurd (omega (arith, e)); unread = λ e. absurd (omega (arith, e)); unwritten = λ e. absurd (omega (arith, e));
-    counted = λ h. absurd (not_high s t.out t.err h);
-    no_memory = λ e. absurd (omega (arith, e));
-    no_other = inr (inl refl)
-  }
+  done = λ e. absurd (omega (arith, e));
+  refused = λ e. inl (why, pos, t);
+  bad_word = λ e. absurd (omega (arith, e));
+  unread = λ e. absurd (omega (arith, e));
+  unwritten = λ e. absurd (omega (arith, e));
+  counted = λ h. absurd (not_high s t.out t.err h);
+  no_memory = λ e. absurd (omega (arith, e));
+  no_other = inr (inl refl);
+}
 told_causes s NotBuilt t = record {
   done = λ e. absurd (omega (arith, e));
   refused = λ e. inr t;

@@ -1,5 +1,5 @@
 -- What the parts of the top call find: of tokens, of a text, of a file, of the words.
-use Rattle.std.specs.Prelude.{◌≡◌, ℕ, List, [], ◌⊎◌, codes}
+use Rattle.std.specs.Prelude.{◌≡◌, ℕ, List, [], codes}
 use Rattle.uc_tree.specs.declared.limits.TheConstants.{PROGRAM_BYTES}
 use Rattle.uc_tree.specs.declared.pos.Pos.{Pos}
 use Rattle.uc_tree.specs.declared.scan.Reason.{Reason}
@@ -8,14 +8,13 @@ use Rattle.uc_meaning.specs.declared.entry.EntryKind.TheVariants as kind
 use Rattle.uc_meaning.specs.Journal.{Journal}
 use Rattle.uc_meaning.specs.Runs.{IsRun}
 use Rattle.uc_meaning.specs.Sums.{SumProgram, IsBuilt, source_of}
-use Rattle.uc_meaning.specs.Texts.{printed}
 use Rattle.uc_outside.specs.Reading.{StoreState, ReadBytes, ReadFailed, ReadTooLong}
 use Rattle.uc_outside.specs.Taking.{SinkState, Took}
 use Rattle.uc_top.specs.declared.refusals.Refusal.{Refusal}
 use Rattle.uc_top.specs.declared.refusals.Refusal.TheVariants.{Word, CannotRead, TooLong, Lexical, NotBuilt, NoMemory}
 use Rattle.uc_top.specs.Journals.{default_options}
 use Rattle.uc_top.specs.Built.{HasFault, IsNoProgram, RunsText, Last}
-use Rattle.uc_top.specs.Refusals.{status_of, err_line}
+use Rattle.uc_top.specs.Refusals.{err_line}
 use Rattle.uc_top.specs.Outcomes.{Failed, Tried}
 
 -- the tokens are those of one program, and the journal is a complete run of it

@@ -1,5 +1,5 @@
 -- What the top call leaves, for each status.
-use Rattle.std.specs.Prelude.{◌≡◌, ◌≢◌, ℕ, ◌<◌, List, [], ◌∷◌, ◌++◌, ◌⊎◌, IsTrue, codes}
+use Rattle.std.specs.Prelude.{◌≡◌, ◌≢◌, ℕ, ◌<◌, List, [], ◌⊎◌, IsTrue, codes}
 use Rattle.uc_tree.specs.declared.limits.TheConstants.{PROGRAM_BYTES}
 use Rattle.uc_tree.specs.declared.pos.Pos.{Pos}
 use Rattle.uc_tree.specs.declared.scan.Reason.{Reason}
@@ -12,7 +12,7 @@ use Rattle.uc_meaning.specs.Texts.{printed}
 use Rattle.uc_top.specs.declared.refusals.Refusal.{Refusal}
 use Rattle.uc_top.specs.declared.refusals.Refusal.TheVariants as refusal
 use Rattle.uc_top.specs.Words.{Words, IsRunLine}
-use Rattle.uc_top.specs.Built.{IsProgram, GaveText, HasRun}
+use Rattle.uc_top.specs.Built.{IsProgram, HasRun}
 use Rattle.uc_top.specs.Refusals.{status_of, name_of, err_line, refusal_text, Refuses}
 
 -- a sink failed at this text and took a prefix of it

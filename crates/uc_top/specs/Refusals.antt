@@ -1,5 +1,5 @@
 -- The status and the text of a refusal, and its cause.
-use Rattle.std.specs.Prelude.{◌≡◌, ℕ, List, [], ◌∷◌, ◌++◌, codes, decimal}
+use Rattle.std.specs.Prelude.{◌≡◌, ℕ, List, [], ◌∷◌, codes, decimal}
 use Rattle.std.specs.List.{concat}
 use Rattle.uc_tree.specs.declared.pos.Pos.{Pos}
 use Rattle.uc_tree.specs.declared.scan.Reason.{Reason}

@@ -44,7 +44,11 @@ impl Refusal {
 }
 
 /// Puts the line of a refusal; `name` is the file that the words name.
-pub(crate) fn put_refusal<E: Sink>(err: &mut E, refusal: Refusal, name: &str) -> Result<(), SinkFault>
+pub(crate) fn put_refusal<E: Sink>(
+    err: &mut E,
+    refusal: Refusal,
+    name: &str,
+) -> Result<(), SinkFault>
     ensures ok { OnOk result (Took (E.state err.old) (E.state err.new) (refusal_text refusal name.now)) }
     ensures failed { OnErr result (FailedAt (E.state err.old) (E.state err.new) (refusal_text refusal name.now)) }
     ensures prefix { OnErr result (TookPrefix (E.state err.old) (E.state err.new) (refusal_text refusal name.now)) }
