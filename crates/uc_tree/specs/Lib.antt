@@ -23,3 +23,4 @@ pub mod Rows
 pub mod Cells
 pub mod Gathered
 pub mod Numbering
+pub mod Tables
