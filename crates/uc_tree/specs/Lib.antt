@@ -23,4 +23,3 @@ pub mod Rows
 pub mod Cells
 pub mod Gathered
 pub mod Numbering
-pub mod Tables
