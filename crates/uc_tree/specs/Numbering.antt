@@ -1,8 +1,7 @@
 -- The numbers of classes, events, members, conditions, accept statements, text literals and routines.
-use Rattle.std.specs.Prelude.{ℕ, ℤ, suc, ◌+◌, List, [], ◌∷◌, ◌++◌, Bool, true, false, ◌||◌, ◌&&◌, not, Option, Some, None, option_map, option_and_then, unwrap_or, if◌then◌else◌, map, nat_le}
+use Rattle.std.specs.Prelude.{ℕ, ℤ, ◌+◌, List, [], ◌∷◌, ◌++◌, Bool, true, false, ◌&&◌, not, Option, Some, None, option_and_then, unwrap_or, if◌then◌else◌, map, nat_le}
 use Rattle.std.specs.List.{list_any}
 use Rattle.uc_tree.specs.declared.limits.TheConstants.{FIRST_EVENT, UNHANDLED, DESTRUCTOR, MEMBERS, LAST_CLASS, LAST_EVENT, LAST_CONDITION}
-use Rattle.uc_tree.specs.declared.kinds.Base.{Base}
 use Rattle.uc_tree.specs.declared.kinds.Base.TheVariants as base
 use Rattle.uc_tree.specs.declared.kinds.Kind.{Kind}
 use Rattle.uc_tree.specs.declared.kinds.Kind.TheVariants as kind
@@ -19,7 +18,7 @@ use Rattle.uc_tree.specs.Names.{same_name}
 use Rattle.uc_tree.specs.Constants.{constants_of, elements}
 use Rattle.uc_tree.specs.Cells.{classes_of, seen_in}
 use Rattle.uc_tree.specs.Statements.{Declarator, OutItem, Endl, Literal, Printed, Stmt, Accept, Print, PrintTogether, MaybeStmt, NoStmt, OneStmt, Clause, Accepts, clause_list}
-use Rattle.uc_tree.specs.Programs.{Sig, Routine, MemberForm, FieldsMember, RoutineMember, ProtoMember, Member, Class, Constant, Item, ClassItem, RoutineItem, ConstItem, ProtoItem, ForwardItem, UsingItem, Program, Site}
+use Rattle.uc_tree.specs.Programs.{Sig, Routine, MemberForm, FieldsMember, RoutineMember, ProtoMember, Member, Class, Item, ClassItem, RoutineItem, ConstItem, ProtoItem, ForwardItem, UsingItem, Program, Site}
 use Rattle.uc_tree.specs.Gathered.{gathered_all}
 
 -- the place of a name in a list, where the first place has the number i

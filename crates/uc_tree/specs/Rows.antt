@@ -1,5 +1,5 @@
 -- What the classes of a program hold, as numbers, and how many cells that takes.
-use Rattle.std.specs.Prelude.{◌≡◌, ℕ, zero, suc, ◌+◌, ◌*◌, List, [], ◌∷◌, Bool, true, false, ◌||◌, Option, Some, None, if◌then◌else◌, nat_eq, length, refl}
+use Rattle.std.specs.Prelude.{ℕ, zero, suc, ◌+◌, ◌*◌, List, [], ◌∷◌, Bool, false, ◌||◌, Option, Some, None, if◌then◌else◌, nat_eq, length, refl}
 use Rattle.std.specs.List.{list_any}
 use base.Stored.{Coded}
 use Rattle.uc_tree.specs.declared.rows.Object.{Object}

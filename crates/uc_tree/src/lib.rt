@@ -2,7 +2,6 @@
 #![tactic(auto)]
 
 pub mod class;
-pub mod constants;
 pub mod declare;
 pub mod exits;
 pub mod expr;
