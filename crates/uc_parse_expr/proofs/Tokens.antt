@@ -1,12 +1,12 @@
 -- What the word or the sign of a token says of the token.
-use Rattle.std.proofs.Common.{◌≡◌, Option, Some, None, Bool, true, false, IsTrue, refl, ap}
+use Rattle.std.proofs.Common.{◌≡◌, Option, Some, None, refl, ap}
 use Rattle.std.specs.Prelude.{is_some}
 use Rattle.uc_tree.specs.declared.token.TokenKind.{TokenKind}
 use Rattle.uc_tree.specs.declared.token.TokenKind.TheVariants as token
 use Rattle.uc_tree.specs.declared.token.Word.{Word}
 use Rattle.uc_tree.specs.declared.token.Sign.{Sign}
 use Rattle.uc_tree.specs.declared.token.Sign.TheVariants as sign
-use Rattle.uc_grammar.specs.Tables.{sign_of, word_of, is_part, is_comma}
+use Rattle.uc_grammar.specs.Tables.{sign_of, word_of, is_part}
 use Rattle.uc_parse_expr.specs.Starts.{part_start_of}
 
 pub sign_there : (o : Option TokenKind) (s : Sign) → Some s ≡ sign_of o → o ≡ Some (token.Sign s)
@@ -74,43 +74,3 @@ is_part_start (Some sign.Slash) = refl
 is_part_start (Some sign.Percent) = refl
 is_part_start (Some sign.Not) = refl
 is_part_start (Some sign.Ellipsis) = refl
-
-pub is_comma_there : (s : Sign) → IsTrue (is_comma (Some s)) → s ≡ sign.Comma
-is_comma_there sign.OpenBrace h = absurd (subst IsTrue refl h)
-is_comma_there sign.CloseBrace h = absurd (subst IsTrue refl h)
-is_comma_there sign.OpenParen h = absurd (subst IsTrue refl h)
-is_comma_there sign.CloseParen h = absurd (subst IsTrue refl h)
-is_comma_there sign.OpenBracket h = absurd (subst IsTrue refl h)
-is_comma_there sign.CloseBracket h = absurd (subst IsTrue refl h)
-is_comma_there sign.Semicolon h = absurd (subst IsTrue refl h)
-is_comma_there sign.Comma h = refl
-is_comma_there sign.Dot h = absurd (subst IsTrue refl h)
-is_comma_there sign.Colon h = absurd (subst IsTrue refl h)
-is_comma_there sign.Scope h = absurd (subst IsTrue refl h)
-is_comma_there sign.Tilde h = absurd (subst IsTrue refl h)
-is_comma_there sign.And h = absurd (subst IsTrue refl h)
-is_comma_there sign.Assign h = absurd (subst IsTrue refl h)
-is_comma_there sign.AddAssign h = absurd (subst IsTrue refl h)
-is_comma_there sign.SubAssign h = absurd (subst IsTrue refl h)
-is_comma_there sign.MulAssign h = absurd (subst IsTrue refl h)
-is_comma_there sign.DivAssign h = absurd (subst IsTrue refl h)
-is_comma_there sign.RemAssign h = absurd (subst IsTrue refl h)
-is_comma_there sign.Increment h = absurd (subst IsTrue refl h)
-is_comma_there sign.Decrement h = absurd (subst IsTrue refl h)
-is_comma_there sign.OrOr h = absurd (subst IsTrue refl h)
-is_comma_there sign.AndAnd h = absurd (subst IsTrue refl h)
-is_comma_there sign.Equal h = absurd (subst IsTrue refl h)
-is_comma_there sign.NotEqual h = absurd (subst IsTrue refl h)
-is_comma_there sign.Less h = absurd (subst IsTrue refl h)
-is_comma_there sign.LessEqual h = absurd (subst IsTrue refl h)
-is_comma_there sign.Greater h = absurd (subst IsTrue refl h)
-is_comma_there sign.GreaterEqual h = absurd (subst IsTrue refl h)
-is_comma_there sign.ShiftLeft h = absurd (subst IsTrue refl h)
-is_comma_there sign.ShiftRight h = absurd (subst IsTrue refl h)
-is_comma_there sign.Plus h = absurd (subst IsTrue refl h)
-is_comma_there sign.Minus h = absurd (subst IsTrue refl h)
-is_comma_there sign.Star h = absurd (subst IsTrue refl h)
-is_comma_there sign.Slash h = absurd (subst IsTrue refl h)
-is_comma_there sign.Percent h = absurd (subst IsTrue refl h)
-is_comma_there sign.Not h = absurd (subst IsTrue refl h)
-is_comma_there sign.Ellipsis h = absurd (subst IsTrue refl h)

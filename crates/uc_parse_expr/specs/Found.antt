@@ -1,9 +1,7 @@
 -- The words of the public call: what an expression at a token is, and what a fault says of the tokens.
-use Rattle.std.specs.Prelude.{◌≡◌, ℕ, ◌+◌, List}
+use Rattle.std.specs.Prelude.{ℕ, ◌+◌, List}
 use Rattle.uc_tree.specs.declared.token.Token.{Token}
 use Rattle.uc_tree.specs.Expressions.{Expr}
-use Rattle.uc_grammar.specs.declared.fault.ParseFault.{ParseFault}
-use Rattle.uc_grammar.specs.declared.fault.ParseFault.TheVariants.{Syntax, TooDeep, NoMemory}
 use Rattle.uc_grammar.specs.Spell.{Same}
 use Rattle.uc_grammar.specs.Form.{Spells}
 use Rattle.uc_grammar.specs.Grammar.{expr_form, inner}

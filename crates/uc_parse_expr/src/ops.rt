@@ -158,7 +158,6 @@ pub fn is_part_at(tokens: &[Token], at: u32) -> bool
 }
 
 /// Whether a comma stands at a place.
-#[tactic(auto, using(crate::proofs::Tokens::is_comma_there))]
 pub fn is_comma_at(tokens: &[Token], at: u32) -> bool
     ensures begins { IsTrue result ↔ Begins (λ o. is_comma (sign_of o)) tokens.now at }
     ensures inside { IsTrue result → at < length tokens.now }
