@@ -3,3 +3,5 @@ pub mod Spell
 pub mod Form
 pub mod Tables
 pub mod Grammar
+pub mod Text
+pub mod Samples

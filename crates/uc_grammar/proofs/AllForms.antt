@@ -1,12 +1,12 @@
 -- Laws of every form at once: one piece at one place, more room, and what a fault means.
-use Rattle.std.proofs.Common.{◌≡◌, ℕ, zero, suc, ◌+◌, ◌-◌, ◌≤◌, ◌<◌, List, [], ◌∷◌, Bool, Option, Some, None, IsTrue, refl, sym, ◌∙◌, ap, subst, inl, inr, arith, ◌⊎◌}
+use Rattle.std.proofs.Common.{◌≡◌, ℕ, zero, suc, ◌+◌, ◌≤◌, List, [], ◌∷◌, Bool, Option, Some, sym, subst, inl, inr, arith}
 use Rattle.uc_tree.specs.declared.token.Token.{Token}
 use Rattle.uc_tree.specs.declared.token.TokenKind.{TokenKind}
 use Rattle.uc_grammar.specs.declared.fault.ParseFault.{ParseFault}
 use Rattle.uc_grammar.specs.declared.fault.ParseFault.TheVariants.{Syntax, TooDeep, NoMemory}
 use Rattle.uc_grammar.specs.Names.{Name}
-use Rattle.uc_grammar.specs.Spell.{kind_at, pos_at, Rel, Nothing, Empty, Expect, TokenOr, Run, ListRun, Same, Why, Refused}
-use Rattle.uc_grammar.specs.Form.{Form, nothing, empty, skip, expect, token_or, look, here, bind, apply, many, listed, inside, Inner, Spells, Faults, Fails}
+use Rattle.uc_grammar.specs.Spell.{kind_at, pos_at, Rel, Nothing, Empty, Expect, Run, ListRun, Same, Why, Refused}
+use Rattle.uc_grammar.specs.Form.{Form, nothing, empty, skip, expect, token_or, look, here, bind, apply, many, listed, inside, Inner, Spells, Fails}
 use Rattle.uc_grammar.specs.Grammar.{form_of, inner, faults}
 use Rattle.uc_grammar.proofs.Fit.{Fit, fit_nothing, fit_empty, fit_skip, fit_expect, fit_token_or, fit_look, fit_here, fit_bind, fit_map, fit_many, fit_listed}
 use Rattle.uc_grammar.proofs.Refuse.{refused_skip, refused_expect, refused_map, refused_look, refused_here, refused_first, refused_second, refused_there, refused_else, refused_nothing, refused_token, refused_many, refused_list_first, refused_listed}
