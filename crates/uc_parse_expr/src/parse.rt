@@ -3,14 +3,14 @@
 // Each `read_` function reads one form of the grammar from a token on. `room` is how many further levels may be nested in
 // it. It answers what the tokens spell and the number of the next token, or how a reading fails.
 
-ghost use Rattle.std.specs.Prelude.{◌≡◌, ◌+◌, ◌-◌, ◌<◌, ◌≤◌, ◌^◌, ℕ, IfOk, IfErr, length};
+ghost use Rattle.std.specs.Prelude.{◌≡◌, ◌+◌, ◌*◌, ◌-◌, ◌<◌, ◌≤◌, ◌^◌, ℕ, IfOk, IfErr, length};
 ghost use Rattle.uc_grammar.specs.Form.{Spells, Fails, inside};
 ghost use Rattle.uc_grammar.specs.Names.{expr_name, unary_name, right_name};
 ghost use Rattle.uc_grammar.specs.Grammar.{primary_form, arguments_form, closed_arguments, part_form, postfix_after, postfix_form, unary_form, link_form, chain_after, sum_form, level_after, operand_form, right_after, right_form, expr_after, expr_form, expr_from, inner, faults};
 ghost use Rattle.uc_parse_expr.specs.Faults.{token_of};
 ghost use Rattle.uc_parse_expr.specs.Loops.{parts_form, links_form};
-ghost use Rattle.uc_parse_expr.specs.Found.{IsExpr, NeverExpr, NoExpr};
-ghost use Rattle.uc_tree.specs.Expressions.{Expr};
+ghost use Rattle.uc_grammar.specs.Text.{IsExpr, ExprFails};
+ghost use Rattle.uc_parse_expr.specs.Found.{OnlyExpr, NeverExpr, NoExpr};
 
 use crate::ops::{
     PartStart, assign_at, binary_at, is_binary_at, is_comma_at, is_part_at, part_start_at, tighter,
@@ -36,11 +36,12 @@ pub fn parse_expr(
     requires few { length tokens.now < 2 ^ 32 }
     requires shallow { depth ≤ NESTING }
     ensures found { IfOk result (λ r. IsExpr (NESTING - depth) tokens.now from r.1 r.0) }
-    ensures only { IfOk result (λ r. (levels to : ℕ) (e : Expr) → IsExpr levels tokens.now from to e → (to ≡ r.1) × (e ≡ r.0)) }
+    ensures only { IfOk result (λ r. OnlyExpr tokens.now from r.1 r.0) }
     ensures moved { IfOk result (λ r. (from < r.1) × (r.1 ≤ length tokens.now)) }
-    ensures fails { IfErr result (λ f. Fails (inner (NESTING - depth)) (faults (NESTING - depth)) expr_form tokens.now from f) }
+    ensures fails { IfErr result (λ f. ExprFails (NESTING - depth) tokens.now from f) }
     ensures none { IfErr result (λ f. (f ≡ ParseFault.NoMemory → ⊥) → NoExpr (NESTING - depth) tokens.now from) }
     ensures syntax { IfErr result (λ f. (p : ℕ) → f ≡ ParseFault.Syntax p → NeverExpr tokens.now p from) }
+    ensures deep { IfErr result (λ f. (k : ℕ) → f ≡ ParseFault.TooDeep k → NESTING ≤ depth + 2 * (k - from) + 1) }
     ensures within { IfErr result (λ f. token_of f ≤ length tokens.now) }
 {
     let (e, to) = read_expr(alloc, tokens, from, NESTING - depth)?;
