@@ -1,0 +1,5 @@
+pub mod Faults
+pub mod Levels
+pub mod Loops
+pub mod Found
+pub mod Starts
