@@ -2,6 +2,8 @@
 #![tactic(auto)]
 
 pub mod code;
+pub mod draft;
+pub mod draft_parts;
 pub mod listing;
 pub mod op;
 mod operands;

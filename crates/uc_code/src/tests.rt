@@ -1,9 +1,9 @@
 // The listing of a small code with every kind of operand, against text written by hand.
 
-use crate::code::Code;
+use crate::draft::Draft;
 use crate::listing::listing;
 use crate::op::Op;
-use crate::rows::{ANY_EVENT, HandlerRow, Instruction, RoutineCode, RowKind};
+use crate::rows::{ANY_EVENT, HandlerRow, RowKind};
 use std::test::Fail;
 
 #[test]
@@ -26,12 +26,12 @@ fn listing_of_every_kind_of_operand(rt: HostRuntime) -> Result<(), Fail> {
         Op::Enable(18446744073709551615),
         Op::Print(1),
     ];
-    let mut instructions = Vec::new(alloc);
+    let mut draft = Draft::new(alloc, Vec::new(alloc));
     for op in ops {
-        instructions.push(Instruction { op, line: 1 })?;
+        assert!(rt; draft.here() < 100);
+        draft.emit(op, 1)?;
     }
-    let mut rows = Vec::new(alloc);
-    rows.push(HandlerRow {
+    draft.add_row(HandlerRow {
         from: 0,
         to: 4,
         outer: 2,
@@ -39,7 +39,7 @@ fn listing_of_every_kind_of_operand(rt: HostRuntime) -> Result<(), Fail> {
         event: 2,
         entry: 5,
     })?;
-    rows.push(HandlerRow {
+    draft.add_row(HandlerRow {
         from: 0,
         to: 6,
         outer: 0,
@@ -47,14 +47,7 @@ fn listing_of_every_kind_of_operand(rt: HostRuntime) -> Result<(), Fail> {
         event: ANY_EVENT,
         entry: 8,
     })?;
-    let code = Code {
-        ops: instructions,
-        rows,
-        sites: Vec::new(alloc),
-        texts: Vec::new(alloc),
-        routines: Vec::new(alloc),
-        classes: Vec::new(alloc),
-    };
+    let code = draft.finish(Vec::new(alloc), Vec::new(alloc), Vec::new(alloc));
     let text = listing(alloc, &code)?;
     let wanted: &[u8] =
         b"0: push -2147483648\n1: local 3\n2: index 65536 2\n3: le\n4: zero 16777215\n5: enter 31 7\n6: throw 63\n7: enable 18446744073709551615\n8: print 1\nrow 0: 0 4 2 0 2 5\nrow 1: 0 6 0 2 255 8\n";
