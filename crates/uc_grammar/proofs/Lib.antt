@@ -1,3 +1,10 @@
 pub mod Fit
 pub mod Refuse
-pub mod Laws
+pub mod AllForms
+pub mod SameTokens
+pub mod Read
+pub mod Told
+pub mod Computed
+pub mod Far
+pub mod First
+pub mod Steps

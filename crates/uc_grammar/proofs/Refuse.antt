@@ -1,13 +1,12 @@
 -- What is refused later on is refused as a whole, of the relations that the readings of a form are built of.
-use Rattle.std.proofs.Common.{◌≡◌, ℕ, ◌+◌, ◌≤◌, ◌<◌, List, [], ◌∷◌, Bool, Option, Some, None, IsTrue, refl, sym, ◌∙◌, ap, subst, inl, inr, arith, ◌⊎◌}
-use Rattle.std.specs.Prelude.{slice_get}
+use Rattle.std.proofs.Common.{◌≡◌, ℕ, ◌+◌, ◌≤◌, List, [], ◌∷◌, Bool, Option, Some, refl, sym, ◌∙◌, subst, inl, inr, arith}
 use Rattle.uc_tree.specs.declared.pos.Pos.{Pos}
 use Rattle.uc_tree.specs.declared.token.Token.{Token}
 use Rattle.uc_tree.specs.declared.token.TokenKind.{TokenKind}
 use Rattle.uc_grammar.specs.declared.fault.ParseFault.{ParseFault}
 use Rattle.uc_grammar.specs.declared.fault.ParseFault.TheVariants.{Syntax, TooDeep, NoMemory}
-use Rattle.uc_grammar.specs.Spell.{kind_at, pos_at, Rel, Nothing, Empty, Skip, Expect, TokenOr, Look, Here, Bind, Map, Begins, Run, Many, ListRun, Listed, Same, Never, Why, Refused}
-use Rattle.uc_grammar.proofs.Fit.{Fit, fewer_same, same_back, same_kind, same_pos, same_begins, moved}
+use Rattle.uc_grammar.specs.Spell.{kind_at, pos_at, Rel, Nothing, Skip, Expect, TokenOr, Look, Here, Bind, Map, Begins, Run, Many, ListRun, Listed, Same, Why, Refused}
+use Rattle.uc_grammar.proofs.Fit.{Fit, fewer_same, same_kind, same_pos, same_begins, moved}
 
 -- What is refused later on is refused as a whole, where every whole has such a part.
 why : {A B : Type 0} (F : ℕ → Rel A) (G : ℕ → Rel B) (room : ℕ) (ts : List Token) (from at : ℕ) (f : ParseFault) → from ≤ at → ((n : ℕ) (us : List Token) (to : ℕ) (v : B) → Same (at + 1) ts us → G n us from to v → (to' : ℕ) × (v' : A) × F n us at to' v') → Why F room ts at f → Why G room ts from f

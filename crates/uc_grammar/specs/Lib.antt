@@ -3,3 +3,6 @@ pub mod Spell
 pub mod Form
 pub mod Tables
 pub mod Grammar
+pub mod Text
+pub mod Samples
+pub mod Deep

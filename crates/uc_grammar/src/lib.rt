@@ -2,5 +2,7 @@
 #![tactic(auto)]
 
 pub mod fault;
+pub mod laws;
 pub mod level;
+pub mod samples;
 pub mod start;

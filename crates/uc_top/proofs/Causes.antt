@@ -1,21 +1,23 @@
 -- What each status of the top call says, from what it leaves.
-use Rattle.std.proofs.Common.{◌≡◌, ◌≢◌, ℕ, ◌<◌, List, [], ◌∷◌, ◌⊎◌, inl, inr, refl, sym, ap, ◌∙◌, subst, arith}
-use Rattle.std.specs.Prelude.{IsTrue, codes}
+use Rattle.std.proofs.Common.{◌≡◌, ◌≢◌, ℕ, List, [], ◌⊎◌, inl, inr, refl, sym, ◌∙◌, subst, arith}
+use Rattle.std.specs.Prelude.{IsTrue}
 use Rattle.uc_tree.specs.declared.limits.TheConstants.{PROGRAM_BYTES}
+use Rattle.uc_tree.specs.declared.pos.Pos.{Pos}
+use Rattle.uc_tree.specs.declared.scan.Reason.{Reason}
 use Rattle.uc_meaning.specs.Journal.{Journal}
 use Rattle.uc_meaning.specs.Sums.{SumProgram}
 use Rattle.uc_meaning.specs.Texts.{printed}
 use Rattle.uc_outside.specs.Reading.{StoreState, ReadBytes, ReadFailed, ReadTooLong, HasFile}
 use Rattle.uc_outside.specs.Faults.{CountRose}
-use Rattle.uc_outside.specs.Taking.{SinkState, Took, HasRoom}
+use Rattle.uc_outside.specs.Taking.{Took}
 use Rattle.uc_outside.proofs.Taken.{fits-no_failure}
 use Rattle.uc_outside.proofs.Read.{has_file-no_failure, has_file-not_long, has_file-content}
 use Rattle.uc_top.specs.declared.refusals.Refusal.{Refusal}
-use Rattle.uc_top.specs.declared.refusals.Refusal.TheVariants.{Word, CannotRead, TooLong, NotBuilt, NoMemory}
+use Rattle.uc_top.specs.declared.refusals.Refusal.TheVariants.{Word, CannotRead, TooLong, Lexical, NotBuilt, NoMemory}
 use Rattle.uc_top.specs.Words.{Words, IsRunLine}
-use Rattle.uc_top.specs.Built.{IsProgram, GaveText}
-use Rattle.uc_top.specs.Refusals.{status_of, name_of, refusal_text}
-use Rattle.uc_top.specs.Outcomes.{Scene, Ran, Refused, Leaves, done, refused, out_failed, err_failed, Done, Told, TooHigh, Causes, Answers, HaveRooms, Completes}
+use Rattle.uc_top.specs.Built.{IsProgram, HasFault, GaveText}
+use Rattle.uc_top.specs.Refusals.{status_of}
+use Rattle.uc_top.specs.Outcomes.{Scene, Ran, Refused, Leaves, done, refused, out_failed, err_failed, Told, TooHigh, Causes, Answers, HaveRooms, Completes}
 
 not_high : (s : Scene) {xs ys : List ℕ} → Took s.out s.out_after xs → Took s.err s.err_after ys → TooHigh s → ⊥
 not_high s out err (inl h) = absurd (omega (arith, h, out.same_count))
@@ -24,7 +26,7 @@ not_high s out err (inr h) = absurd (omega (arith, h, err.same_count))
 done_causes : (s : Scene) (journal : Journal) → Ran s journal → Took s.out s.out_after (printed [] journal) → Took s.err s.err_after [] → Causes s 0 journal
 done_causes s journal ran out err = record {
   done = λ e. record { ran = ran; out = out; err = err };
-  not_built = λ e. absurd (omega (arith, e));
+  refused = λ e. absurd (omega (arith, e));
   bad_word = λ e. absurd (omega (arith, e));
   unread = λ e. absurd (omega (arith, e));
   unwritten = λ e. absurd (omega (arith, e));
@@ -36,7 +38,7 @@ done_causes s journal ran out err = record {
 failed_causes : (s : Scene) (journal : Journal) → CountRose s.out.count s.out_after.count ⊎ CountRose s.err.count s.err_after.count → Causes s 4 journal
 failed_causes s journal rose = record {
   done = λ e. absurd (omega (arith, e));
-  not_built = λ e. absurd (omega (arith, e));
+  refused = λ e. absurd (omega (arith, e));
   bad_word = λ e. absurd (omega (arith, e));
   unread = λ e. absurd (omega (arith, e));
   unwritten = λ e. rose;
@@ -48,7 +50,7 @@ failed_causes s journal rose = record {
 told_causes : (s : Scene) (r : Refusal) → Told s r [] → Causes s (status_of r) []
 told_causes s (Word n) t = record {
   done = λ e. absurd (omega (arith, e));
-  not_built = λ e. absurd (omega (arith, e));
+  refused = λ e. absurd (omega (arith, e));
   bad_word = λ e. (n, t);
   unread = λ e. absurd (omega (arith, e));
   unwritten = λ e. absurd (omega (arith, e));
@@ -58,7 +60,7 @@ told_causes s (Word n) t = record {
 }
 told_causes s CannotRead t = record {
   done = λ e. absurd (omega (arith, e));
-  not_built = λ e. absurd (omega (arith, e));
+  refused = λ e. absurd (omega (arith, e));
   bad_word = λ e. absurd (omega (arith, e));
   unread = λ e. inl t;
   unwritten = λ e. absurd (omega (arith, e));
@@ -68,7 +70,7 @@ told_causes s CannotRead t = record {
 }
 told_causes s TooLong t = record {
   done = λ e. absurd (omega (arith, e));
-  not_built = λ e. absurd (omega (arith, e));
+  refused = λ e. absurd (omega (arith, e));
   bad_word = λ e. absurd (omega (arith, e));
   unread = λ e. inr t;
   unwritten = λ e. absurd (omega (arith, e));
@@ -76,9 +78,19 @@ told_causes s TooLong t = record {
   no_memory = λ e. absurd (omega (arith, e));
   no_other = inr (inr (inr (inl refl)));
 }
+told_causes s (Lexical why pos) t = record {
+  done = λ e. absurd (omega (arith, e));
+  refused = λ e. inl (why, pos, t);
+  bad_word = λ e. absurd (omega (arith, e));
+  unread = λ e. absurd (omega (arith, e));
+  unwritten = λ e. absurd (omega (arith, e));
+  counted = λ h. absurd (not_high s t.out t.err h);
+  no_memory = λ e. absurd (omega (arith, e));
+  no_other = inr (inl refl);
+}
 told_causes s NotBuilt t = record {
   done = λ e. absurd (omega (arith, e));
-  not_built = λ e. t;
+  refused = λ e. inr t;
   bad_word = λ e. absurd (omega (arith, e));
   unread = λ e. absurd (omega (arith, e));
   unwritten = λ e. absurd (omega (arith, e));
@@ -88,7 +100,7 @@ told_causes s NotBuilt t = record {
 }
 told_causes s NoMemory t = record {
   done = λ e. absurd (omega (arith, e));
-  not_built = λ e. absurd (omega (arith, e));
+  refused = λ e. absurd (omega (arith, e));
   bad_word = λ e. absurd (omega (arith, e));
   unread = λ e. absurd (omega (arith, e));
   unwritten = λ e. absurd (omega (arith, e));
@@ -111,11 +123,16 @@ given : {words : Words} {a b : StoreState} {file text : List ℕ} → IsRunLine 
 given {words} {a} {b} {file} {text} line h g =
     has_file-content h (subst (λ f. ReadBytes a b f PROGRAM_BYTES text) (same_file g.line line) g.read)
 
+-- a text without tokens is no program
+unlexed : {A : Type 0} {text : List ℕ} {why : Reason} {pos : Pos} {p : SumProgram} → HasFault text why pos → IsProgram text p → A
+unlexed f is = absurd (let e = sym f.lexed ∙ is.lexed in cc)
+
 pub rooms : (s : Scene) {status : ℕ} {journal : Journal} → Leaves s status journal → HaveRooms s → status ≢ 4
 rooms s (done journal ran out err) h e = absurd (omega (arith, e))
 rooms s (refused (Word n) cause out err) h e = absurd (omega (arith, e))
 rooms s (refused CannotRead cause out err) h e = absurd (omega (arith, e))
 rooms s (refused TooLong cause out err) h e = absurd (omega (arith, e))
+rooms s (refused (Lexical why pos) cause out err) h e = absurd (omega (arith, e))
 rooms s (refused NotBuilt cause out err) h e = absurd (omega (arith, e))
 rooms s (refused NoMemory cause out err) h e = absurd (omega (arith, e))
 rooms s (out_failed journal ran out err) h e = fits-no_failure (h.out journal ran) out.at
@@ -126,6 +143,7 @@ no_line_of s (done journal ran out err) h = absurd (h ran.gave.file ran.gave.lin
 no_line_of s (refused (Word n) cause out err) h = inl refl
 no_line_of s (refused CannotRead cause out err) h = absurd (h cause.file cause.line)
 no_line_of s (refused TooLong cause out err) h = absurd (h cause.file cause.line)
+no_line_of s (refused (Lexical why pos) cause out err) h = absurd (h cause.gave.file cause.gave.line)
 no_line_of s (refused NotBuilt cause out err) h = absurd (h cause.gave.file cause.gave.line)
 no_line_of s (refused NoMemory cause out err) h = absurd (h cause.file cause.line)
 no_line_of s (out_failed journal ran out err) h = inr refl
@@ -136,6 +154,7 @@ line_of s (done journal ran out err) file l e = absurd (omega (arith, e))
 line_of s (refused (Word n) cause out err) file l e = cause.first.no_line file l
 line_of s (refused CannotRead cause out err) file l e = absurd (omega (arith, e))
 line_of s (refused TooLong cause out err) file l e = absurd (omega (arith, e))
+line_of s (refused (Lexical why pos) cause out err) file l e = absurd (omega (arith, e))
 line_of s (refused NotBuilt cause out err) file l e = absurd (omega (arith, e))
 line_of s (refused NoMemory cause out err) file l e = absurd (omega (arith, e))
 line_of s (out_failed journal ran out err) file l e = absurd (omega (arith, e))
@@ -154,6 +173,7 @@ module _ (s : Scene) (file : List ℕ) (l : IsRunLine s.words file) (h : HasFile
   steady_of (refused (Word n) cause out err) st e = absurd (omega (arith, e))
   steady_of (refused CannotRead cause out err) st e = not_unread st cause
   steady_of (refused TooLong cause out err) st e = not_long cause
+  steady_of (refused (Lexical why pos) cause out err) st e = absurd (omega (arith, e))
   steady_of (refused NotBuilt cause out err) st e = absurd (omega (arith, e))
   steady_of (refused NoMemory cause out err) st e = absurd (omega (arith, e))
   steady_of (out_failed journal ran out err) st e = absurd (omega (arith, e))
@@ -164,6 +184,7 @@ module _ (s : Scene) (file : List ℕ) (l : IsRunLine s.words file) (h : HasFile
   no_program_of (refused (Word n) cause out err) m = absurd (cause.first.no_line file l)
   no_program_of (refused CannotRead cause out err) n = inr (inl refl)
   no_program_of (refused TooLong cause out err) n = inr (inl refl)
+  no_program_of (refused (Lexical why pos) cause out err) n = inl refl
   no_program_of (refused NotBuilt cause out err) n = inl refl
   no_program_of (refused NoMemory cause out err) n = inr (inr (inr refl))
   no_program_of (out_failed journal ran out err) n = inr (inr (inl refl))
@@ -174,7 +195,8 @@ module _ (s : Scene) (file : List ℕ) (l : IsRunLine s.words file) (h : HasFile
   program_of (refused (Word n) cause out err) p is = absurd (cause.first.no_line file l)
   program_of (refused CannotRead cause out err) p is = inr (inl refl)
   program_of (refused TooLong cause out err) p is = inr (inl refl)
-  program_of (refused NotBuilt cause out err) p is = absurd (cause.none p (subst (λ t. IsProgram t p) (sym (given l h cause.gave)) is))
+  program_of (refused (Lexical why pos) cause out err) p is = unlexed (subst (λ t. HasFault t why pos) (given l h cause.gave) cause.fault) is
+  program_of (refused NotBuilt cause out err) p is = absurd (cause.none.none p (subst (λ t. IsProgram t p) (sym (given l h cause.gave)) is))
   program_of (refused NoMemory cause out err) p is = inr (inr (inr refl))
   program_of (out_failed journal ran out err) p is = inr (inr (inl refl))
   program_of (err_failed r cause out err) p is = inr (inr (inl refl))

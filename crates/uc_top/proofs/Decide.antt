@@ -1,26 +1,27 @@
 -- What the parts of the top call find, put together.
-use Rattle.std.proofs.Common.{◌≡◌, ◌≢◌, ℕ, List, [], ◌∷◌, ◌++◌, refl, sym, ap, ◌∙◌, subst, append_assoc, inl, inr}
+use Rattle.std.proofs.Common.{◌≡◌, ℕ, List, [], ◌∷◌, ◌++◌, refl, sym, ap, ◌∙◌, subst, append_assoc, inl, inr}
 use Rattle.std.specs.Prelude.{OnOk, OnErr, Result, Ok, Err, map, pos}
 use Rattle.uc_tree.specs.declared.limits.TheConstants.{PROGRAM_BYTES}
+use Rattle.uc_tree.specs.declared.pos.Pos.{Pos}
 use Rattle.uc_tree.specs.declared.token.Token.{Token}
-use Rattle.uc_tree.specs.Tokens.{tokens, Read, Refused}
+use Rattle.uc_tree.specs.Tokens.{tokens, Read, Refused, pos_at}
 use Rattle.uc_tree.specs.declared.scan.Reason.{Reason}
 use Rattle.uc_meaning.specs.declared.entry.EntryKind.TheVariants as kind
 use Rattle.uc_meaning.specs.declared.sums.Shown.{Shown}
 use Rattle.uc_meaning.specs.Journal.{Journal, entry}
 use Rattle.uc_meaning.specs.Runs.{IsRun}
-use Rattle.uc_meaning.specs.Sums.{SumProgram, IsBuilt, source_of, program_shown}
+use Rattle.uc_meaning.specs.Sums.{IsBuilt, source_of}
 use Rattle.uc_outside.specs.Reading.{StoreState, ReadBytes}
 use Rattle.uc_outside.specs.Taking.{SinkState, Took, TookPrefix, FailedAt}
 use Rattle.uc_top.specs.declared.refusals.Refusal.{Refusal}
-use Rattle.uc_top.specs.declared.refusals.Refusal.TheVariants.{Word, CannotRead, TooLong, NotBuilt, NoMemory}
-use Rattle.uc_top.specs.Journals.{default_options, journal_of, opening, closing, print_entry}
+use Rattle.uc_top.specs.declared.refusals.Refusal.TheVariants.{Word, CannotRead, TooLong, Lexical, NotBuilt, NoMemory}
+use Rattle.uc_top.specs.Journals.{default_options, journal_of, opening, print_entry}
 use Rattle.uc_top.specs.Reads.{Reads}
-use Rattle.uc_top.specs.Words.{Words, IsRunLine, IsFirstBad}
-use Rattle.uc_top.specs.Built.{IsProgram, GaveText, RunsText, HasRun, Last}
+use Rattle.uc_top.specs.Words.{Words, IsRunLine}
+use Rattle.uc_top.specs.Built.{HasFault, RunsText, HasRun, Last}
 use Rattle.uc_top.specs.Refusals.{Refuses}
-use Rattle.uc_top.specs.Outcomes.{Failed, Tried}
-use Rattle.uc_top.specs.Decisions.{TokensRan, TokensRefused, TextRefused, FileRan, FileNotBuilt, FileRefused}
+use Rattle.uc_top.specs.Outcomes.{Tried}
+use Rattle.uc_top.specs.Decisions.{TokensRan, TokensRefused, TextRefused, FileRan, FileRefused}
 use Rattle.uc_top.proofs.Sums.{is_run}
 
 last_done : (shown : List Shown) → Last (journal_of shown) kind.Done
@@ -56,16 +57,22 @@ pub text_refused : (text : List ℕ) {list : List Token} → tokens text ≡ Rea
 text_refused text e (Word n) h = h
 text_refused text e CannotRead h = h
 text_refused text e TooLong h = h
-text_refused text e NotBuilt h = λ p is. h p (subst (λ l. IsBuilt l p) (same_list text is.lexed e) is.built)
+text_refused text e (Lexical why here) h = absurd h
+text_refused text {list = list} e NotBuilt h = record {
+  list = list;
+  lexed = e;
+  none = λ p is. h p (subst (λ l. IsBuilt l p) (same_list text is.lexed e) is.built);
+}
 text_refused text e NoMemory h = h
 
-pub no_tokens : {text : List ℕ} {why : Reason} {at : ℕ} → tokens text ≡ Refused why at → (p : SumProgram) → IsProgram text p → ⊥
-no_tokens e p is = let f = sym e ∙ is.lexed in absurd (cc)
+pub has_fault : (text : List ℕ) (why : Reason) (at : ℕ) (here : Pos) → tokens text ≡ Refused why at → here ≡ pos_at text at → HasFault text why here
+has_fault text why at here e f = record { at = at; lexed = e; place = f }
 
 pub file_refused : {a b : StoreState} {file text : List ℕ} → ReadBytes a b file PROGRAM_BYTES text → (r : Refusal) → TextRefused text r → FileRefused a b file r
 file_refused read (Word n) h = h
 file_refused read CannotRead h = absurd h
 file_refused read TooLong h = absurd h
+file_refused {text = text} read (Lexical why here) h = record { text = text; read = read; fault = h }
 file_refused {text = text} read NotBuilt h = record { text = text; read = read; none = h }
 file_refused read NoMemory h = read.same_count
 
@@ -80,6 +87,11 @@ pub refuses : {words : Words} (a b : StoreState) {file : List ℕ} → IsRunLine
 refuses a b line (Word n) h = absurd h
 refuses a b {file = file} line CannotRead h = record { file = file; line = line; failed = h }
 refuses a b {file = file} line TooLong h = record { file = file; line = line; long = h }
+refuses a b {file = file} line (Lexical why here) h = record {
+  text = h.text;
+  gave = record { file = file; line = line; read = h.read };
+  fault = h.fault;
+}
 refuses a b {file = file} line NotBuilt h = record {
   text = h.text;
   gave = record { file = file; line = line; read = h.read };

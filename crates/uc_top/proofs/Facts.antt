@@ -1,13 +1,10 @@
 -- What a journal of prints keeps.
-use Rattle.std.proofs.Common.{◌≡◌, ℕ, ℤ, ◌+◌, ◌≤◌, Bool, true, false, ◌&&◌, cond, List, [], ◌∷◌, ◌++◌, Option, Some, None, refl, sym, ap, ◌∙◌, append-nil, append_assoc, arith, length, add-one}
+use Rattle.std.proofs.Common.{◌≡◌, ℕ, ℤ, ◌+◌, ◌≤◌, Bool, true, false, ◌&&◌, cond, List, [], ◌∷◌, ◌++◌, Some, None, refl, ap, ◌∙◌, arith, length, add-one}
 use Rattle.std.specs.Prelude.{pos, nat_le}
 use Rattle.std.specs.List.{list_all, count_by, range_with_len}
 use Rattle.std.proofs.lemmas.Bool.{le-leb}
 use Rattle.uc_meaning.specs.declared.entry.Entry.{Entry}
-use Rattle.uc_meaning.specs.declared.entry.EntryKind.{EntryKind}
 use Rattle.uc_meaning.specs.declared.entry.EntryKind.TheVariants as kind
-use Rattle.uc_meaning.specs.declared.request.Asked.{Asked}
-use Rattle.uc_meaning.specs.declared.request.Request.TheVariants as ask
 use Rattle.uc_meaning.specs.Journal.{Journal, entry, entries_at, is_over, held, own_object}
 use Rattle.uc_meaning.specs.Queues.{running, waiting, stacked, used, first_ended, all_ticks, none_running, none_served, none_ready, processor_count, is_processor, is_nobody}
 use Rattle.uc_meaning.specs.Acts.{verdict, act, closing, fitted, ending}

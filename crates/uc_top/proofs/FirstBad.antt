@@ -1,5 +1,5 @@
 -- The first word at fault, case by case.
-use Rattle.std.proofs.Common.{◌≡◌, ◌≢◌, ℕ, zero, suc, ◌+◌, ◌<◌, ◌≤◌, Bool, true, false, List, [], ◌∷◌, ◌++◌, length, take, get_or, refl, sym, ap, ◌∙◌, subst, arith}
+use Rattle.std.proofs.Common.{◌≡◌, ◌≢◌, ℕ, zero, suc, ◌<◌, true, false, List, [], ◌∷◌, length, take, get_or, refl, ap, arith}
 use Rattle.std.specs.Prelude.{codes, IsTrue, map}
 use Rattle.uc_top.specs.Words.{Words, IsRunLine, BeginsLine, IsFirstBad, is_name}
 

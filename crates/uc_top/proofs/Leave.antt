@@ -2,7 +2,7 @@
 use Rattle.std.proofs.Common.{◌≡◌, ℕ, List, [], sym, subst}
 use Rattle.uc_meaning.specs.Journal.{Journal}
 use Rattle.uc_meaning.specs.Texts.{printed}
-use Rattle.uc_outside.specs.Taking.{SinkState, Took, TookPrefix, FailedAt}
+use Rattle.uc_outside.specs.Taking.{Took, TookPrefix, FailedAt}
 use Rattle.uc_top.specs.declared.refusals.Refusal.{Refusal}
 use Rattle.uc_top.specs.Refusals.{status_of, name_of, refusal_text}
 use Rattle.uc_top.specs.Outcomes.{Scene, Ran, Refused, Failed, Leaves, done, refused, out_failed, err_failed}

@@ -2,7 +2,9 @@
 use Rattle.std.specs.Prelude.{◌≡◌, ℕ, List, [], ◌∷◌, ◌++◌}
 use Rattle.uc_tree.specs.declared.limits.TheConstants.{PROGRAM_BYTES}
 use Rattle.uc_tree.specs.declared.token.Token.{Token}
-use Rattle.uc_tree.specs.Tokens.{tokens, Read}
+use Rattle.uc_tree.specs.declared.pos.Pos.{Pos}
+use Rattle.uc_tree.specs.declared.scan.Reason.{Reason}
+use Rattle.uc_tree.specs.Tokens.{tokens, Read, Refused, pos_at}
 use Rattle.uc_meaning.specs.declared.entry.Entry.{Entry}
 use Rattle.uc_meaning.specs.declared.entry.EntryKind.{EntryKind}
 use Rattle.uc_meaning.specs.declared.entry.EntryKind.TheVariants as kind
@@ -25,6 +27,18 @@ pub record IsProgram (text : List ℕ) (program : SumProgram) : Type 0 where
   pub list : List Token
   pub lexed : tokens text ≡ Read list
   pub built : IsBuilt list program
+
+-- the text has no tokens: at the least offset, which is at this place, none can stand, for this reason
+pub record HasFault (text : List ℕ) (why : Reason) (pos : Pos) : Type 0 where
+  pub at : ℕ
+  pub lexed : tokens text ≡ Refused why at
+  pub place : pos ≡ pos_at text at
+
+-- the text has tokens, and they are those of no program that is built
+pub record IsNoProgram (text : List ℕ) : Type 0 where
+  pub list : List Token
+  pub lexed : tokens text ≡ Read list
+  pub none : (program : SumProgram) → IsProgram text program → ⊥
 
 -- the store gave the text of the named file
 pub record GaveText (words : Words) (before after : StoreState) (text : List ℕ) : Type 0 where

@@ -1,5 +1,5 @@
 -- The journal of a program of sums.
-use Rattle.std.specs.Prelude.{ℕ, pos, List, [], ◌∷◌, ◌++◌, map}
+use Rattle.std.specs.Prelude.{pos, List, [], ◌∷◌, ◌++◌, map}
 use Rattle.uc_tree.specs.declared.limits.TheConstants.{PROCESSORS_DEFAULT, SLICE_DEFAULT, TICKS_DEFAULT, ENTRIES_DEFAULT}
 use Rattle.uc_meaning.specs.declared.entry.Entry.{Entry}
 use Rattle.uc_meaning.specs.declared.entry.EntryKind.TheVariants as kind

@@ -1,6 +1,8 @@
 -- What the top call leaves, for each status.
-use Rattle.std.specs.Prelude.{◌≡◌, ◌≢◌, ℕ, ◌<◌, List, [], ◌∷◌, ◌++◌, ◌⊎◌, IsTrue, codes}
+use Rattle.std.specs.Prelude.{◌≡◌, ◌≢◌, ℕ, ◌<◌, List, [], ◌⊎◌, IsTrue, codes}
 use Rattle.uc_tree.specs.declared.limits.TheConstants.{PROGRAM_BYTES}
+use Rattle.uc_tree.specs.declared.pos.Pos.{Pos}
+use Rattle.uc_tree.specs.declared.scan.Reason.{Reason}
 use Rattle.uc_outside.specs.Faults.{CountRose}
 use Rattle.uc_outside.specs.Reading.{StoreState, HasFile}
 use Rattle.uc_outside.specs.Taking.{SinkState, Took, TookPrefix, FailedAt, HasRoom}
@@ -10,7 +12,7 @@ use Rattle.uc_meaning.specs.Texts.{printed}
 use Rattle.uc_top.specs.declared.refusals.Refusal.{Refusal}
 use Rattle.uc_top.specs.declared.refusals.Refusal.TheVariants as refusal
 use Rattle.uc_top.specs.Words.{Words, IsRunLine}
-use Rattle.uc_top.specs.Built.{IsProgram, GaveText, HasRun}
+use Rattle.uc_top.specs.Built.{IsProgram, HasRun}
 use Rattle.uc_top.specs.Refusals.{status_of, name_of, err_line, refusal_text, Refuses}
 
 -- a sink failed at this text and took a prefix of it
@@ -72,7 +74,7 @@ TooHigh s = (s.out.count < s.out_after.count) ⊎ (s.err.count < s.err_after.cou
 -- the causes of each status
 pub record Causes (s : Scene) (status : ℕ) (journal : Journal) : Type 0 where
   pub done : status ≡ 0 → Done s journal
-  pub not_built : status ≡ 1 → Told s refusal.NotBuilt journal
+  pub refused : status ≡ 1 → ((why : Reason) × (pos : Pos) × Told s (refusal.Lexical why pos) journal) ⊎ Told s refusal.NotBuilt journal
   pub bad_word : status ≡ 2 → (n : ℕ) × Told s (refusal.Word n) journal
   pub unread : status ≡ 3 → Told s refusal.CannotRead journal ⊎ Told s refusal.TooLong journal
   pub unwritten : status ≡ 4 → CountRose s.out.count s.out_after.count ⊎ CountRose s.err.count s.err_after.count

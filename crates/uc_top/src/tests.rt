@@ -36,7 +36,7 @@ fn call(alloc: Global, words: &str, text: &str, room: usize) -> Result<Left, All
 fn answers(rt: HostRuntime) -> Result<(), Fail> {
     let alloc = rt.alloc();
     let sums = "void uMain::main() { cout << 1 + 2 << endl; }";
-    let table: [(&str, &str, usize, u8, &str, &str); 14] = [
+    let table: [(&str, &str, usize, u8, &str, &str); 20] = [
         ("run a.cc", sums, 9, 0, "3\n", ""),
         ("run a.cc", "void uMain::main() { }", 9, 0, "", ""),
         (
@@ -80,6 +80,47 @@ fn answers(rt: HostRuntime) -> Result<(), Fail> {
             "ucpp: not built\n",
         ),
         ("run a.cc", "", 9, 1, "", "ucpp: not built\n"),
+        (
+            "run a.cc",
+            "void uMain::main() { /* ",
+            9,
+            1,
+            "",
+            "ucpp: 1:22: comment not closed\n",
+        ),
+        (
+            "run a.cc",
+            "void uMain::main() {\n  cout << 007; }",
+            9,
+            1,
+            "",
+            "ucpp: 2:12: bad byte\n",
+        ),
+        ("run a.cc", "\n\n @", 9, 1, "", "ucpp: 3:2: bad byte\n"),
+        (
+            "run a.cc",
+            "cout << \"a\n\";",
+            9,
+            1,
+            "",
+            "ucpp: 1:9: text not closed\n",
+        ),
+        (
+            "run a.cc",
+            "cout << 2147483648;",
+            9,
+            1,
+            "",
+            "ucpp: 1:9: number too wide\n",
+        ),
+        (
+            "run a.cc",
+            "cout << \"a\" << 'b';",
+            9,
+            1,
+            "",
+            "ucpp: not built\n",
+        ),
         ("", sums, 9, 2, "", "ucpp: word 1\n"),
         ("walk a.cc", sums, 9, 2, "", "ucpp: word 1\n"),
         ("run", sums, 9, 2, "", "ucpp: word 2\n"),

@@ -1,7 +1,8 @@
 // The top call.
 
-ghost use Rattle.std.specs.Prelude.{◌≡◌, ◌≢◌, ◌≤◌, IfOk, IfErr, [], length, map, string_bytes};
+ghost use Rattle.std.specs.Prelude.{◌≡◌, ◌≢◌, ◌≤◌, ◌<◌, IfOk, IfErr, [], length, map, string_bytes};
 ghost use Rattle.uc_tree.specs.declared.limits.TheConstants.{PROGRAM_BYTES};
+ghost use Rattle.uc_tree.specs.Tokens.{tokens, Refused};
 ghost use Rattle.uc_meaning.specs.Texts.{printed};
 ghost use Rattle.uc_top.specs.Journals.{journal_of};
 ghost use Rattle.uc_top.specs.Built.{RunsText, HasRun};
@@ -15,11 +16,12 @@ use crate::reader::read_sums;
 use crate::refusals::{Refusal, put_line, put_refusal};
 use crate::words::read_words;
 use std::alloc::{AllocError, Global};
-use uc_lex::{LexFault, lex};
+use uc_lex::{LexFault, lex, pos_at};
 use uc_meaning::entry::Entry;
 use uc_meaning::sums::Shown;
 use uc_outside::{Gate, Sink, SinkFault, Store, StoreFault, put_all};
 use uc_tree::limits::PROGRAM_BYTES;
+use uc_tree::scan::Reason;
 use uc_tree::token::Token;
 
 /// What the program ends with: its status, and the journal of the run, which is empty where nothing was run.
@@ -32,7 +34,7 @@ pub struct Outcome {
 /// Does all that the program does with these words: reads the named file, runs its program, puts
 /// what it prints to `out` and the line of a refusal or a fault to `err`.
 ///
-/// Statuses: 0 done, 1 the text is no program that is built, 2 the words are no line, 3 the file
+/// Statuses: 0 done, 1 the text has no tokens or is no program that is built, 2 the words are no line, 3 the file
 /// was not read, 4 a put failed, 8 out of memory. The order of work is: words, file, tokens,
 /// program, run, out, err; the first refusal decides.
 pub fn run_words<S: Store, O: Sink, E: Sink, G: Gate + Sync>(
@@ -129,12 +131,23 @@ fn run_text(alloc: Global, text: &[u8]) -> Result<Run, Refusal>
     match lex(alloc, text) {
         Ok(tokens) => run_tokens(alloc, &tokens),
         Err(LexFault::NoMemory) => Err(Refusal::NoMemory),
-        Err(LexFault::BadByte { .. }) => Err(Refusal::NotBuilt),
-        Err(LexFault::OpenComment { .. }) => Err(Refusal::NotBuilt),
-        Err(LexFault::OpenText { .. }) => Err(Refusal::NotBuilt),
-        Err(LexFault::NumberTooWide { .. }) => Err(Refusal::NotBuilt),
-        Err(LexFault::TextTooLong { .. }) => Err(Refusal::NotBuilt),
+        Err(LexFault::BadByte { at }) => Err(fault_at(text, Reason::BadByte, at)),
+        Err(LexFault::OpenComment { at }) => Err(fault_at(text, Reason::OpenComment, at)),
+        Err(LexFault::OpenText { at }) => Err(fault_at(text, Reason::OpenText, at)),
+        Err(LexFault::NumberTooWide { at }) => Err(fault_at(text, Reason::NumberTooWide, at)),
+        Err(LexFault::TextTooLong { at, len }) => {
+            Err(fault_at(text, Reason::TextTooLong(len), at))
+        }
     }
+}
+
+// The refusal of a text without tokens.
+fn fault_at(text: &[u8], why: Reason, at: u32) -> Refusal
+    requires size { length text.now ≤ PROGRAM_BYTES }
+    requires inside { at < length text.now }
+    ensures { tokens text.now ≡ Refused why at → TextRefused text.now result }
+{
+    Refusal::Lexical(why, pos_at(text, at))
 }
 
 fn run_tokens(alloc: Global, tokens: &[Token]) -> Result<Run, Refusal>

@@ -2,10 +2,9 @@
 #![tactic(auto)]
 
 use std::alloc::Global;
-use std::env;
-use std::io;
 use std::process::ExitCode;
 use std::rt::Env;
+use std::{env, io};
 use uc_outside::{FileStore, OpenGate, StdErr, StdOut};
 use uc_top::run_words;
 
