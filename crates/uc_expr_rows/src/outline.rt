@@ -58,7 +58,7 @@ fn assign_sign(op: AssignOp) -> &'static str {
 
 /// The expression: chains and assignments in `( )`, operators of one operand in `< >`, and roots with their parts in `{ }`.
 #[cycle(outline)]
-pub fn write_expr(alloc: Global, out: &mut String, e: &Expr) -> Result<(), AllocError> {
+pub(crate) fn write_expr(alloc: Global, out: &mut String, e: &Expr) -> Result<(), AllocError> {
     match &e.form {
         ExprForm::Number { value } => write_number(alloc, out, *value),
         ExprForm::Character { byte } => {

@@ -11,7 +11,7 @@ use uc_tree::limits::{NESTING, PROGRAM_BYTES};
 use uc_tree::token::Token;
 
 /// The answer to a line.
-pub fn row(alloc: Global, line: &str) -> Result<String, AllocError> {
+pub(crate) fn row(alloc: Global, line: &str) -> Result<String, AllocError> {
     match line.split_once(' ') {
         Some((depth, text)) => match depth.parse::<u16>() {
             Ok(depth) => of_text(alloc, depth, text),
