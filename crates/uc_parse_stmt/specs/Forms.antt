@@ -1,0 +1,30 @@
+-- Pieces of the grammar of statements.
+use Rattle.std.specs.Prelude.{List}
+use Rattle.uc_tree.specs.declared.kinds.MemberName.{MemberName}
+use Rattle.uc_tree.specs.declared.token.Sign.TheVariants as sign
+use Rattle.uc_tree.specs.Expressions.{Expr}
+use Rattle.uc_tree.specs.Statements.{Stmt, OutItem}
+use Rattle.uc_grammar.specs.Names.{block_stmt_name}
+use Rattle.uc_grammar.specs.Form.{Form, bind, apply, many, listed, skip, inside}
+use Rattle.uc_grammar.specs.Tables.{sign_of, is_in, is_out, in_braces}
+use Rattle.uc_grammar.specs.Grammar.{Caught, comma_list, maybe_sign, name_form, maybe_name_closed, one_event, member_name_form, out_form, postfix_form}
+
+-- name '&'? name? ')', of a handler
+abbrev pub one_event_form : Form Caught
+one_event_form = bind name_form (λ n. bind (maybe_sign sign.And) (λ r. apply (one_event n) maybe_name_closed))
+
+-- ('~'? name),+
+abbrev pub member_names_form : Form (List MemberName)
+member_names_form = comma_list member_name_form
+
+-- out out*
+abbrev pub out_items_form : Form (List OutItem)
+out_items_form = listed out_form (λ o. is_out (sign_of o)) out_form
+
+-- postfix ('>>' postfix)*
+abbrev pub places_form : Form (List Expr)
+places_form = listed postfix_form (λ o. is_in (sign_of o)) (skip postfix_form)
+
+-- stmt*
+abbrev pub stmts_form : Form (List Stmt)
+stmts_form = many in_braces (inside block_stmt_name)
