@@ -1,13 +1,16 @@
 -- Pieces of the grammar of statements.
-use Rattle.std.specs.Prelude.{List}
+use Rattle.std.specs.Prelude.{List, Option}
 use Rattle.uc_tree.specs.declared.kinds.MemberName.{MemberName}
+use Rattle.uc_tree.specs.declared.pos.Pos.{Pos}
 use Rattle.uc_tree.specs.declared.token.Sign.TheVariants as sign
+use Rattle.uc_tree.specs.declared.token.Word.TheVariants as word
 use Rattle.uc_tree.specs.Expressions.{Expr}
-use Rattle.uc_tree.specs.Statements.{Stmt, OutItem}
-use Rattle.uc_grammar.specs.Names.{block_stmt_name}
+use Rattle.uc_tree.specs.Statements.{Stmt, OutItem, ForStart}
+use Rattle.uc_tree.specs.Statements as stmt
+use Rattle.uc_grammar.specs.Names.{stmt_name, block_stmt_name}
 use Rattle.uc_grammar.specs.Form.{Form, bind, apply, many, listed, skip, inside}
 use Rattle.uc_grammar.specs.Tables.{sign_of, is_in, is_out, in_braces}
-use Rattle.uc_grammar.specs.Grammar.{Caught, comma_list, maybe_sign, name_form, maybe_name_closed, one_event, member_name_form, out_form, postfix_form}
+use Rattle.uc_grammar.specs.Grammar.{Caught, expect_word, before, condition_form, maybe_expr, comma_list, maybe_sign, name_form, maybe_name_closed, one_event, member_name_form, out_form, postfix_form}
 
 -- name '&'? name? ')', of a handler
 abbrev pub one_event_form : Form Caught
@@ -28,3 +31,15 @@ places_form = listed postfix_form (λ o. is_in (sign_of o)) (skip postfix_form)
 -- stmt*
 abbrev pub stmts_form : Form (List Stmt)
 stmts_form = many in_braces (inside block_stmt_name)
+
+-- what follows the body of a do
+abbrev pub do_test : Pos → Stmt → Form Stmt
+do_test pos body = expect_word word.While (apply (stmt.Do pos body) (before condition_form sign.Semicolon))
+
+-- what follows the second ';' of a for
+abbrev pub for_step : Pos → ForStart → Option Expr → Form Stmt
+for_step pos start test = bind (maybe_expr sign.CloseParen) (λ next. apply (stmt.For pos start test next) (inside stmt_name))
+
+-- what follows the first ';' of a for
+abbrev pub for_test : Pos → ForStart → Form Stmt
+for_test pos start = bind (maybe_expr sign.Semicolon) (for_step pos start)

@@ -7,11 +7,12 @@ ghost use Rattle.std.specs.Prelude.{◌≡◌, ◌+◌, ◌<◌, ◌≤◌, ◌^
 ghost use Rattle.uc_grammar.specs.Form.{Spells, Fails, inside};
 ghost use Rattle.uc_parse_expr.specs.Faults.{token_of};
 ghost use Rattle.uc_grammar.specs.Names.{stmt_name, block_stmt_name};
-ghost use Rattle.uc_grammar.specs.Grammar.{block_rest, block_form, maybe_stmt, if_rest, while_rest, do_rest, for_rest, handler_form, handlers_form, try_rest, enable_rest, disable_rest, clause_form, clauses_form, accept_form, stmt_form, inner, faults};
+ghost use Rattle.uc_grammar.specs.Grammar.{block_rest, block_form, maybe_stmt, if_rest, while_rest, do_rest, for_rest, handler_form, handlers_form, try_rest, enable_rest, disable_rest, clause_form, clauses_form, accept_form, stmt_by, stmt_form, inner, faults};
+ghost use Rattle.std.specs.Prelude.{◌≢◌};
 ghost use Rattle.std.specs.Prelude.{◌-◌, ◌*◌, ℕ};
 ghost use Rattle.uc_grammar.specs.Text.{IsStmt, StmtFails};
 ghost use Rattle.uc_parse_stmt.specs.Found.{OnlyStmt, NeverStmt, NoneHere};
-ghost use Rattle.uc_parse_stmt.specs.Forms.{stmts_form};
+ghost use Rattle.uc_parse_stmt.specs.Forms.{stmts_form, do_test, for_test, for_step};
 ghost use Rattle.uc_parse_stmt.specs.Parts.{body_of};
 ghost use Rattle.uc_tree.specs.Statements.{maybe_stmt_of, stmts_of};
 
@@ -23,6 +24,8 @@ use std::alloc::Global;
 use uc_grammar::fault::ParseFault;
 use uc_grammar::start::StmtStart;
 use uc_parse_expr::peek::{expect_sign, expect_word, is_word, pos_at};
+use uc_tree::declare::ForStart;
+use uc_tree::expr::Expr;
 use uc_tree::limits::NESTING;
 use uc_tree::pos::Pos;
 use uc_tree::stmt::{Clause, Handler, Stmt, StmtForm};
@@ -253,8 +256,28 @@ fn read_do(
     ensures within { IfErr result (λ f. token_of f ≤ length tokens.now) }
 {
     let (body, at) = read_inner_stmt(alloc, tokens, from, room)?;
-    let open = expect_word(tokens, at, Word::While)?;
-    let (test, end) = read_condition(alloc, tokens, open, room)?;
+    let (s, to) = read_do_test(alloc, tokens, pos, body, at, room)?;
+    Ok((s, to))
+}
+
+// What follows the body of a `do`.
+fn read_do_test(
+    alloc: Global,
+    tokens: &[Token],
+    pos: Pos,
+    body: Stmt,
+    from: u32,
+    room: u16,
+) -> Result<(Stmt, u32), ParseFault>
+    requires begins { from ≤ length tokens.now }
+    requires few { length tokens.now < 2 ^ 32 }
+    ensures found { IfOk result (λ r. Spells (inner room) (do_test pos body) tokens.now from r.1 r.0) }
+    ensures fails { IfErr result (λ f. Fails (inner room) (faults room) (do_test pos body) tokens.now from f) }
+    ensures moved { IfOk result (λ r. (from < r.1) × (r.1 ≤ length tokens.now)) }
+    ensures within { IfErr result (λ f. token_of f ≤ length tokens.now) }
+{
+    let at = expect_word(tokens, from, Word::While)?;
+    let (test, end) = read_condition(alloc, tokens, at, room)?;
     let to = expect_sign(tokens, end, Sign::Semicolon)?;
     let s = Stmt::do_of(alloc, pos, body, test)?;
     Ok((s, to))
@@ -276,11 +299,54 @@ fn read_for(
     ensures moved { IfOk result (λ r. (from < r.1) × (r.1 ≤ length tokens.now)) }
     ensures within { IfErr result (λ f. token_of f ≤ length tokens.now) }
 {
-    let open = expect_sign(tokens, from, Sign::OpenParen)?;
-    let (start, first) = read_for_start(alloc, tokens, open, room)?;
-    let (test, second) = read_maybe_expr(alloc, tokens, Sign::Semicolon, first, room)?;
-    let (step, third) = read_maybe_expr(alloc, tokens, Sign::CloseParen, second, room)?;
-    let (body, to) = read_inner_stmt(alloc, tokens, third, room)?;
+    let at = expect_sign(tokens, from, Sign::OpenParen)?;
+    let (start, end) = read_for_start(alloc, tokens, at, room)?;
+    let (s, to) = read_for_test(alloc, tokens, pos, start, end, room)?;
+    Ok((s, to))
+}
+
+// What follows the first `;` of a `for`.
+#[cycle(stmt)]
+fn read_for_test(
+    alloc: Global,
+    tokens: &[Token],
+    pos: Pos,
+    start: ForStart,
+    from: u32,
+    room: u16,
+) -> Result<(Stmt, u32), ParseFault>
+    requires begins { from ≤ length tokens.now }
+    requires few { length tokens.now < 2 ^ 32 }
+    ensures found { IfOk result (λ r. Spells (inner room) (for_test pos start) tokens.now from r.1 r.0) }
+    ensures fails { IfErr result (λ f. Fails (inner room) (faults room) (for_test pos start) tokens.now from f) }
+    ensures moved { IfOk result (λ r. (from < r.1) × (r.1 ≤ length tokens.now)) }
+    ensures within { IfErr result (λ f. token_of f ≤ length tokens.now) }
+{
+    let (test, at) = read_maybe_expr(alloc, tokens, Sign::Semicolon, from, room)?;
+    let (s, to) = read_for_step(alloc, tokens, pos, start, test, at, room)?;
+    Ok((s, to))
+}
+
+// What follows the second `;` of a `for`.
+#[cycle(stmt)]
+fn read_for_step(
+    alloc: Global,
+    tokens: &[Token],
+    pos: Pos,
+    start: ForStart,
+    test: Option<Expr>,
+    from: u32,
+    room: u16,
+) -> Result<(Stmt, u32), ParseFault>
+    requires begins { from ≤ length tokens.now }
+    requires few { length tokens.now < 2 ^ 32 }
+    ensures found { IfOk result (λ r. Spells (inner room) (for_step pos start test) tokens.now from r.1 r.0) }
+    ensures fails { IfErr result (λ f. Fails (inner room) (faults room) (for_step pos start test) tokens.now from f) }
+    ensures moved { IfOk result (λ r. (from < r.1) × (r.1 ≤ length tokens.now)) }
+    ensures within { IfErr result (λ f. token_of f ≤ length tokens.now) }
+{
+    let (step, at) = read_maybe_expr(alloc, tokens, Sign::CloseParen, from, room)?;
+    let (body, to) = read_inner_stmt(alloc, tokens, at, room)?;
     let s = Stmt::for_of(alloc, pos, start, test, step, body)?;
     Ok((s, to))
 }
@@ -504,23 +570,24 @@ fn read_accept(
     Ok((s, to))
 }
 
-/// A statement.
+// A statement that begins as `start` says.
 #[cycle(stmt)]
-pub fn read_stmt(
+fn read_started(
     alloc: Global,
     tokens: &[Token],
+    start: StmtStart,
+    pos: Pos,
     from: u32,
     room: u16,
 ) -> Result<(Stmt, u32), ParseFault>
     requires begins { from ≤ length tokens.now }
     requires few { length tokens.now < 2 ^ 32 }
-    ensures found { IfOk result (λ r. Spells (inner room) stmt_form tokens.now from r.1 r.0) }
-    ensures fails { IfErr result (λ f. Fails (inner room) (faults room) stmt_form tokens.now from f) }
+    requires begun { start ≢ StmtStart.Simple → from < length tokens.now }
+    ensures found { IfOk result (λ r. Spells (inner room) (stmt_by pos start) tokens.now from r.1 r.0) }
+    ensures fails { IfErr result (λ f. Fails (inner room) (faults room) (stmt_by pos start) tokens.now from f) }
     ensures moved { IfOk result (λ r. (from < r.1) × (r.1 ≤ length tokens.now)) }
     ensures within { IfErr result (λ f. token_of f ≤ length tokens.now) }
 {
-    let pos = pos_at(tokens, from);
-    let start = start_at(tokens, from);
     match start {
         StmtStart::Block => {
             let (body, to) = read_block_rest(alloc, tokens, from + 1, room)?;
@@ -569,4 +636,25 @@ pub fn read_stmt(
             Ok((s, to))
         }
     }
+}
+
+/// A statement.
+#[cycle(stmt)]
+pub fn read_stmt(
+    alloc: Global,
+    tokens: &[Token],
+    from: u32,
+    room: u16,
+) -> Result<(Stmt, u32), ParseFault>
+    requires begins { from ≤ length tokens.now }
+    requires few { length tokens.now < 2 ^ 32 }
+    ensures found { IfOk result (λ r. Spells (inner room) stmt_form tokens.now from r.1 r.0) }
+    ensures fails { IfErr result (λ f. Fails (inner room) (faults room) stmt_form tokens.now from f) }
+    ensures moved { IfOk result (λ r. (from < r.1) × (r.1 ≤ length tokens.now)) }
+    ensures within { IfErr result (λ f. token_of f ≤ length tokens.now) }
+{
+    let pos = pos_at(tokens, from);
+    let start = start_at(tokens, from);
+    let (s, to) = read_started(alloc, tokens, start, pos, from, room)?;
+    Ok((s, to))
 }

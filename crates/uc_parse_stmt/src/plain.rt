@@ -6,7 +6,7 @@ ghost use Rattle.uc_parse_expr.specs.Faults.{token_of};
 ghost use Rattle.std.specs.Prelude.{◌≢◌};
 ghost use Rattle.uc_grammar.specs.Form.{apply, empty};
 ghost use Rattle.uc_tree.specs.Statements.{Return};
-ghost use Rattle.uc_grammar.specs.Grammar.{expect_sign, maybe_expr, no_arguments, migrate_rest, throw_rest, at_form, raise_rest, stmt_by, inner, faults};
+ghost use Rattle.uc_grammar.specs.Grammar.{before, postfix_form, expect_sign, maybe_expr, no_arguments, migrate_rest, throw_rest, at_form, raise_rest, stmt_by, inner, faults};
 ghost use Rattle.uc_parse_stmt.specs.Parts.{is_plain};
 
 use crate::declare::{read_maybe_expr, read_simple_stmt};
@@ -18,6 +18,7 @@ use uc_grammar::start::StmtStart;
 use uc_parse_expr::parse::read_postfix;
 use uc_parse_expr::peek::{expect_sign, is_sign, is_word};
 use uc_tree::declare::Raised;
+use uc_tree::expr::Expr;
 use uc_tree::pos::Pos;
 use uc_tree::stmt::{Stmt, StmtForm};
 use uc_tree::token::{Sign, Token, Word};
@@ -151,6 +152,25 @@ fn read_target(
     ))
 }
 
+// A cluster, and then `)`.
+fn read_cluster(
+    alloc: Global,
+    tokens: &[Token],
+    from: u32,
+    room: u16,
+) -> Result<(Expr, u32), ParseFault>
+    requires begins { from ≤ length tokens.now }
+    requires few { length tokens.now < 2 ^ 32 }
+    ensures found { IfOk result (λ r. Spells (inner room) (before postfix_form Sign.CloseParen) tokens.now from r.1 r.0) }
+    ensures fails { IfErr result (λ f. Fails (inner room) (faults room) (before postfix_form Sign.CloseParen) tokens.now from f) }
+    ensures moved { IfOk result (λ r. (from < r.1) × (r.1 ≤ length tokens.now)) }
+    ensures within { IfErr result (λ f. token_of f ≤ length tokens.now) }
+{
+    let (cluster, at) = read_postfix(alloc, tokens, from, room)?;
+    let to = expect_sign(tokens, at, Sign::CloseParen)?;
+    Ok((cluster, to))
+}
+
 // What follows `migrate`.
 fn read_migrate(
     alloc: Global,
@@ -167,8 +187,7 @@ fn read_migrate(
     ensures within { IfErr result (λ f. token_of f ≤ length tokens.now) }
 {
     let at = expect_sign(tokens, from, Sign::OpenParen)?;
-    let (cluster, close) = read_postfix(alloc, tokens, at, room)?;
-    let end = expect_sign(tokens, close, Sign::CloseParen)?;
+    let (cluster, end) = read_cluster(alloc, tokens, at, room)?;
     let to = expect_sign(tokens, end, Sign::Semicolon)?;
     Ok((
         Stmt {

@@ -1,8 +1,9 @@
-use Rattle.std.proofs.Common.{rules, ◌≡◌, refl, arith, [], ◌∷◌, ◌++◌}
+use Rattle.std.proofs.Common.{rules, ◌≡◌, inl, refl, arith, [], ◌∷◌, ◌++◌}
 use Rattle.uc_grammar.specs.Spell.{Begins, Run, ListRun}
-use Rattle.uc_grammar.specs.Form.{Spells, skip}
+use Rattle.uc_grammar.specs.Form.{Spells, Fails, skip}
 use Rattle.uc_grammar.specs.Tables.{sign_of, is_in}
-use Rattle.uc_grammar.specs.Grammar.{postfix_form, inner}
+use Rattle.uc_grammar.specs.Grammar.{postfix_form, inner, faults}
+use Rattle.uc_parse_stmt.specs.Forms.{places_form}
 use Rattle.uc_grammar.proofs.Fit.{run_more, list_more}
 use Rattle.uc_parse_stmt.proofs.print.read_places.Goals as goal
 
@@ -18,3 +19,6 @@ items-preserved c = let b : Begins (λ o. is_in (sign_of o)) c.args.tokens.now c
       after = omega (arith, c.in_ok-next.ensures.moved.0);
       within = c.in_ok-next.ensures.moved.1;
     }
+
+pub returns-in_err-first-clause-fails : goal.returns-in_err-first-clause-fails
+returns-in_err-first-clause-fails c = let h : Fails (inner c.args.room) (faults c.args.room) places_form c.args.tokens.now c.args.from c.in_err-first.field-0.0 = inl c.in_err-first.ensures.fails in search (rules, h)
