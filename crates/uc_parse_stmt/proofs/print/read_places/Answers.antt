@@ -1,4 +1,5 @@
 use Rattle.std.proofs.Common.{rules, ◌≡◌, inl, refl, arith, [], ◌∷◌, ◌++◌}
+use Rattle.std.proofs.lemmas.Result.{err_from_is_err_and}
 use Rattle.uc_grammar.specs.Spell.{Begins, Run, ListRun}
 use Rattle.uc_grammar.specs.Form.{Spells, Fails, skip}
 use Rattle.uc_grammar.specs.Tables.{sign_of, is_in}
@@ -21,4 +22,4 @@ items-preserved c = let b : Begins (λ o. is_in (sign_of o)) c.args.tokens.now c
     }
 
 pub returns-in_err-first-clause-fails : goal.returns-in_err-first-clause-fails
-returns-in_err-first-clause-fails c = let h : Fails (inner c.args.room) (faults c.args.room) places_form c.args.tokens.now c.args.from c.in_err-first.field-0.0 = inl c.in_err-first.ensures.fails in search (rules, h)
+returns-in_err-first-clause-fails c = let h : Fails (inner c.args.room) (faults c.args.room) places_form c.args.tokens.now c.args.from c.in_err-first.field-0.0 = inl c.in_err-first.ensures.fails in let p = err_from_is_err_and c.from_residual.result c.from_residual.ensures.1 in rw (p.1, p.2) h
