@@ -6,3 +6,5 @@ pub mod Read
 pub mod Told
 pub mod Computed
 pub mod Far
+pub mod First
+pub mod Steps

@@ -5,3 +5,4 @@ pub mod Tables
 pub mod Grammar
 pub mod Text
 pub mod Samples
+pub mod Deep

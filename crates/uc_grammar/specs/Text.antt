@@ -11,6 +11,7 @@ use Rattle.uc_grammar.specs.declared.level.Level.{Level}
 use Rattle.uc_grammar.specs.Names.{stmt_name}
 use Rattle.uc_grammar.specs.Spell.{Rel, Same, kind_at, pos_at}
 use Rattle.uc_grammar.specs.Form.{here, bind, inside, Spells, Fault, Fails}
+use Rattle.uc_grammar.specs.Deep.{FirstDeep, first_deep}
 use Rattle.uc_grammar.specs.Grammar.{expr_form, program_form, unary_form, expr_from, level_after, operand_form, chain_after, inner, faults}
 
 -- The tokens from here to there are this expression, statement or program, with every tail that could begin, and nothing
@@ -53,6 +54,17 @@ TooDeepRefuses {A} F E = (room : ℕ) (ts : List Token) (from k : ℕ) → E roo
 -- TooDeep comes only where so many tokens were read: no token enters more than two levels.
 abbrev pub TooDeepIsFar : (ℕ → Fault) → Type 0
 TooDeepIsFar E = (room : ℕ) (ts : List Token) (from k : ℕ) → E room ts from (TooDeep k) → room ≤ 2 * (k - from) + 1
+
+-- TooDeep at k, and a piece of greater nesting stands there: k is the first token of that piece at which something begins
+-- that stands deeper than the allowed nesting.
+abbrev pub ExprFirst : Type 0
+ExprFirst = (room n : ℕ) (ts : List Token) (from to k : ℕ) (v : Expr) → ExprFails room ts from (TooDeep k) → IsExpr n ts from to v → FirstDeep (inner room) (inner n) (first_deep room n) expr_form ts from to v k
+
+abbrev pub StmtFirst : Type 0
+StmtFirst = (room n : ℕ) (ts : List Token) (from to k : ℕ) (v : Stmt) → StmtFails room ts from (TooDeep k) → IsStmt n ts from to v → FirstDeep (inner room) (inner n) (first_deep room n) (inside stmt_name) ts from to v k
+
+abbrev pub ProgramFirst : Type 0
+ProgramFirst = (room n : ℕ) (ts : List Token) (from to k : ℕ) (v : Program) → ProgramFails room ts from (TooDeep k) → IsProgram n ts from to v → FirstDeep (inner room) (inner n) (first_deep room n) program_form ts from to v k
 
 -- Each level is what its operators part, operators and operands from left to right: that the forms read the first unary
 -- once for all levels changes nothing.

@@ -1,6 +1,6 @@
 // The laws of the grammar. Each function does nothing: its contract is the law.
 
-ghost use Rattle.uc_grammar.specs.Text.{IsExpr, IsStmt, IsProgram, ExprFails, StmtFails, ProgramFails, OnePiece, MoreRoom, SyntaxRefuses, TooDeepRefuses, TooDeepIsFar, LevelsStand, NameBegins};
+ghost use Rattle.uc_grammar.specs.Text.{IsExpr, IsStmt, IsProgram, ExprFails, StmtFails, ProgramFails, OnePiece, MoreRoom, SyntaxRefuses, TooDeepRefuses, TooDeepIsFar, ExprFirst, StmtFirst, ProgramFirst, LevelsStand, NameBegins};
 
 /// At a place there is at most one expression, one statement and one program, whatever their nesting.
 pub fn law_one_piece()
@@ -28,6 +28,13 @@ pub fn law_too_deep()
     ensures expr { TooDeepRefuses IsExpr ExprFails }
     ensures stmt { TooDeepRefuses IsStmt StmtFails }
     ensures program { TooDeepRefuses IsProgram ProgramFails }
+{}
+
+/// Where there is a piece of greater nesting, the token of TooDeep is the first at which something in it stands too deep.
+pub fn law_too_deep_is_first()
+    ensures expr { ExprFirst }
+    ensures stmt { StmtFirst }
+    ensures program { ProgramFirst }
 {}
 
 /// A fault TooDeep comes only behind half as many tokens as there are levels: no token enters more than two.

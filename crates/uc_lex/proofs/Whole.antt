@@ -1,5 +1,5 @@
 -- The tokens of a whole text, found one after another.
-use Rattle.std.proofs.Common.{◌≡◌, ℕ, zero, suc, ◌+◌, ◌-◌, ◌<◌, ◌≤◌, List, [], ◌∷◌, ◌++◌, length, take, drop, refl, ap, sym, ◌∙◌, append_assoc, append-nil, drop-drop, length-drop, arith}
+use Rattle.std.proofs.Common.{subst, ◌≡◌, ℕ, zero, suc, ◌+◌, ◌-◌, ◌<◌, ◌≤◌, List, [], ◌∷◌, ◌++◌, length, take, drop, refl, ap, sym, ◌∙◌, append_assoc, append-nil, drop-drop, length-drop, arith}
 use Rattle.std.proofs.Math.ListN.{drop_of_length-le, length-take}
 use Rattle.uc_tree.specs.declared.token.TokenKind.{TokenKind}
 use Rattle.uc_tree.specs.declared.scan.Reason.{Reason}
@@ -104,3 +104,14 @@ read_stop why n so_far rest_is some inside is = from_here so_far rest_is (Stop w
 pub read_end : {text : List ℕ} {ts : List Token} {p : Place} → ReadTo text ts p → length text ≤ p.at → tokens text ≡ Read ts
 unfolding tokens_from
 read_end {text} {ts} {p} so_far over = so_far.goes_on ∙ ap (λ l. with_tokens ts (tokens_from p 0 l)) (drop_of_length-le text over) ∙ ap Read (append-nil ts)
+
+-- no text is both read and refused
+pub not_both : {l : Lexed} {ts : List Token} {why : Reason} {at : ℕ} → l ≡ Read ts → l ≡ Refused why at → ⊥
+not_both read refused = differ (sym read ∙ refused)
+  where
+    is_read : Lexed → Type 0
+    is_read (Read ts) = Unit {0}
+    is_read (Refused why at) = ⊥
+
+    differ : {ts : List Token} {why : Reason} {at : ℕ} → Read ts ≡ Refused why at → ⊥
+    differ e = subst is_read e tt

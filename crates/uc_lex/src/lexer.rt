@@ -1,28 +1,21 @@
 // The whole text.
 
-ghost use Rattle.std.specs.Prelude.{◌≡◌, ◌+◌, ◌<◌, ◌≤◌, ◌^◌, IfOk, IfErr, length, fold};
+ghost use Rattle.std.specs.Prelude.{◌≡◌, ◌+◌, ◌<◌, ◌≤◌, ◌^◌, IfOk, IfErr, IsErr, List, ℕ, length};
 ghost use Rattle.uc_tree.specs.Tokens as tokens;
-ghost use Rattle.uc_lex.specs.Faults.{IsFault};
+ghost use Rattle.uc_lex.specs.Faults.{IsFault, StandsIn};
 ghost use Rattle.uc_lex.specs.Places.{InRange, InText};
 
-use crate::bytes::{
-    Class, is_blank, is_digit, is_letter, is_newline, is_white, run_length, text_from, text_to,
-};
+use crate::bytes::{Class, is_digit, is_letter, is_white, run_length, text_from, text_to};
 use crate::fault::LexFault;
+use crate::gaps::{comment_at, line_at};
 use crate::literals::{character_at, text_at};
 use crate::names::name_at;
 use crate::numbers::number_at;
-use crate::others::{comment_at, line_at, sign_at};
+use crate::place::{START, place_behind};
+use crate::signs::sign_at;
 use std::alloc::{AllocError, Global};
-use uc_tree::pos::Pos;
-use uc_tree::scan::{Found, Place, Reason};
+use uc_tree::scan::{Found, Reason};
 use uc_tree::token::Token;
-
-const START: Place = Place {
-    at: 0,
-    pos: Pos { line: 1, col: 1 },
-    fresh: true,
-};
 
 // What stands at a place, before which nothing but blanks stands on its line if it is fresh.
 #[tactic(auto, unfolding(uc_tree::specs::Tokens::found_at))]
@@ -69,46 +62,6 @@ fn other_at(rest: &[u8]) -> Found
     sign_at(rest)
 }
 
-// The place behind a byte.
-fn next_place(place: Place, b: u8) -> Place
-    requires room { place.at + 2 < 2 ^ 32 }
-    requires range { InRange place }
-    ensures { result ≡ tokens.next_place place b }
-{
-    let at = place.at + 1;
-    if is_newline(b) {
-        let line = place.pos.line + 1;
-        return Place {
-            at,
-            pos: Pos { line, col: 1 },
-            fresh: true,
-        };
-    }
-    let line = place.pos.line;
-    let col = place.pos.col + 1;
-    let fresh = place.fresh && is_blank(b);
-    Place {
-        at,
-        pos: Pos { line, col },
-        fresh,
-    }
-}
-
-// The place behind some bytes.
-fn place_behind(place: Place, bytes: &[u8]) -> Place
-    requires room { place.at + length bytes.now + 1 < 2 ^ 32 }
-    requires range { InRange place }
-    ensures place { result ≡ fold tokens.next_place place bytes.now }
-    ensures at { result.at ≡ place.at + length bytes.now }
-    ensures range { InRange result }
-{
-    let mut place = place;
-    for b in bytes {
-        place = next_place(place, *b);
-    }
-    place
-}
-
 // What stands at the first byte of the text, and that it stands inside of it.
 fn next_found(alloc: Global, rest: &[u8], fresh: bool) -> Result<Found, AllocError>
     requires some { 0 < length rest.now }
@@ -122,7 +75,8 @@ fn next_found(alloc: Global, rest: &[u8], fresh: bool) -> Result<Found, AllocErr
 
 // The fault at that offset.
 fn fault_at(why: Reason, at: u32) -> LexFault
-    ensures { IsFault (tokens.Refused why at) result }
+    ensures fault { IsFault (tokens.Refused why at) result }
+    ensures inside { (room : ℕ) → at < room → StandsIn result room }
 {
     match why {
         Reason::BadByte => LexFault::BadByte { at },
@@ -133,11 +87,14 @@ fn fault_at(why: Reason, at: u32) -> LexFault
     }
 }
 
-/// The tokens of the text, or its first fault.
+/// The tokens of the text, or its first fault. The text has fewer than 2^32 - 1 bytes.
 pub fn lex(alloc: Global, text: &[u8]) -> Result<Vec<Token>, LexFault>
     requires { length text.now + 1 < 2 ^ 32 }
     ensures tokens { IfOk result (λ v. tokens.tokens text.now ≡ tokens.Read v.items) }
     ensures fault { IfErr result (λ f. IsFault (tokens.tokens text.now) f) }
+    ensures inside { IfErr result (λ f. StandsIn f (length text.now)) }
+    ensures complete { (ts : List Token) → tokens.tokens text.now ≡ tokens.Read ts → IfErr result (λ f. f ≡ LexFault.NoMemory) }
+    ensures refused { (why : Reason) (at : ℕ) → tokens.tokens text.now ≡ tokens.Refused why at → IsErr result }
 {
     let mut tokens = Vec::new(alloc);
     let mut place = START;

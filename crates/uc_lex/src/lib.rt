@@ -3,11 +3,17 @@
 
 mod bytes;
 mod fault;
+mod gaps;
 mod lexer;
 mod literals;
 mod names;
 mod numbers;
-mod others;
+mod place;
+mod signs;
 
 pub use fault::LexFault;
 pub use lexer::lex;
+pub use place::pos_at;
+
+#[cfg(test)]
+mod tests;

@@ -1,3 +1,5 @@
+pub mod Listed
+pub mod Lending
 pub mod Open
 pub mod Journal
 pub mod Queues

@@ -1,5 +1,5 @@
 -- The machine over the resolved tree: one quiet step of a task with its hand.
-use Rattle.std.specs.Prelude.{ℕ, ◌-◌, ◌^◌, ◌++◌, ℤ, pos, negsuc, ◌+ℤ◌, List, [], ◌∷◌, length, replicate, Option, Some, None, Bool, nat_lt, if◌then◌else◌}
+use Rattle.std.specs.Prelude.{ℕ, ◌-◌, ◌^◌, ◌++◌, ℤ, pos, negsuc, ◌+ℤ◌, List, [], ◌∷◌, length, replicate, None, Bool, nat_lt, if◌then◌else◌}
 use Rattle.uc_tree.specs.declared.limits.TheConstants.{INT_BITS, PRINT_ITEMS}
 use Rattle.uc_meaning.specs.declared.exec.Exec.{Exec}
 use Rattle.uc_meaning.specs.declared.exec.Home.TheVariants as home
@@ -9,7 +9,7 @@ use Rattle.uc_meaning.specs.declared.request.Request.{Request}
 use Rattle.uc_meaning.specs.declared.request.Request.TheVariants as ask
 use Rattle.uc_meaning.specs.Executions as exec
 use Rattle.uc_meaning.specs.Executions.{no_links}
-use Rattle.uc_meaning.specs.Source.{Expr, Literal, Add, Item, Stmt, Print, Stmts, Nil, Then, Source, Routine, routine_of}
+use Rattle.uc_meaning.specs.Source.{Expr, Literal, Add, Item, Stmt, Print, Stmts, Nil, Then, Routine}
 
 -- what a place holds: a scalar, a binding (a reference, a mutex object's number, an execution's name), the fields of a class, an array
 pub data Shape : Type 0 where

@@ -3,7 +3,7 @@ use Rattle.std.specs.Prelude.{◌≡◌, ℕ, suc}
 use Rattle.uc_meaning.specs.declared.request.Asked.{Asked}
 use Rattle.uc_meaning.specs.declared.request.Request.{Request}
 use Rattle.uc_meaning.specs.declared.request.Request.TheVariants as ask
-use Rattle.uc_meaning.specs.Quiet.{State, Step, Goes, Ticks, Asks, quiet, line_of}
+use Rattle.uc_meaning.specs.Quiet.{State, Goes, Ticks, Asks, quiet, line_of}
 
 -- a request with the line of the statement that runs in this state
 abbrev pub asked_in : State → Request → Asked

@@ -1,11 +1,10 @@
 -- The programs that are built so far: a main whose statements print sums. Their tokens, and the programs that they are.
-use Rattle.std.specs.Prelude.{◌≡◌, ℕ, ℤ, pos, ◌+◌, ◌≤◌, ◌<◌, List, [], ◌∷◌, ◌++◌, length, map, codes, Bool, true, false, Option, Some, None, slice_get}
+use Rattle.std.specs.Prelude.{◌≡◌, ℕ, pos, ◌+◌, ◌≤◌, ◌<◌, List, [], ◌∷◌, ◌++◌, length, map, codes, Bool, true, false, Option, Some, None, slice_get}
 use Rattle.std.specs.List.{filter, All}
 use Rattle.uc_tree.specs.declared.limits.TheConstants.{NUMBER_MAX}
 use Rattle.uc_tree.specs.declared.token.Token.{Token}
 use Rattle.uc_tree.specs.declared.token.TokenKind.{TokenKind}
 use Rattle.uc_tree.specs.declared.token.TokenKind.TheVariants as token
-use Rattle.uc_tree.specs.declared.token.Word.{Word}
 use Rattle.uc_tree.specs.declared.token.Word.TheVariants as word
 use Rattle.uc_tree.specs.declared.token.Sign.TheVariants as sign
 use Rattle.uc_meaning.specs.declared.sums.Shown.{Shown}

@@ -3,5 +3,6 @@
 
 pub mod entry;
 pub mod exec;
+pub mod list;
 pub mod request;
 pub mod sums;

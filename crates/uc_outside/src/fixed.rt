@@ -1,5 +1,5 @@
 // A sink in memory that is taken first.
-ghost use Rattle.std.specs.Prelude.{◌≡◌, ◌<◌, ◌≤◌, length, take, IfOk, OnErr, Some, []};
+ghost use Rattle.std.specs.Prelude.{◌≡◌, ◌+◌, ◌<◌, ◌≤◌, length, take, IfOk, OnErr, Some, []};
 ghost use Rattle.uc_outside.specs.Taking.{Took, TookNothing, FailedAt};
 
 use crate::faults::SinkFault;
@@ -58,8 +58,14 @@ impl Sink for FixedSink {
         ensures bound { IfOk result (λ n. n ≤ length piece.now) }
         ensures progress { IfOk result (λ n. 0 < length piece.now → 0 < n) }
         ensures ok { IfOk result (λ n. Took self.old self.new (take n piece.now)) }
+        ensures never_falls { self.old.count ≤ self.new.count }
         ensures failed { OnErr result (FailedAt self.old self.new piece.now) }
         ensures nothing { OnErr result (TookNothing self.old self.new) }
+
+        // It counts no puts.
+        ensures counted { 0 ≤ 0 + 1 }
+
+        // It takes a piece whole or not at all.
         ensures whole { IfOk result (λ n. n ≡ length piece.now) }
     {
         if piece.len() > self.room {

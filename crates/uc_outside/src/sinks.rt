@@ -1,5 +1,5 @@
 // What a sink is, and how a whole text is put.
-ghost use Rattle.std.specs.Prelude.{◌≡◌, ◌<◌, ◌≤◌, length, take, IfOk, OnOk, OnErr};
+ghost use Rattle.std.specs.Prelude.{◌≡◌, ◌+◌, ◌<◌, ◌≤◌, ℕ, length, take, IfOk, OnOk, OnErr};
 ghost use Rattle.uc_outside.specs.Taking.{SinkState, Took, TookNothing, TookPrefix, FailedAt};
 
 use crate::faults::SinkFault;
@@ -12,6 +12,10 @@ use crate::faults::SinkFault;
 pub trait Sink {
     ghost state: { Self → SinkState };
 
+    // How many puts it counts. One that counts none still bounds the puts of generic code, which
+    // is proved for each sink.
+    ghost puts: { Self → ℕ } = { λ _. 0 };
+
     /// How many puts have failed. At the largest `u64` the count stands still.
     fn faults(&self) -> u64
         ensures { result ≡ (state self.now).count };
@@ -21,6 +25,8 @@ pub trait Sink {
         ensures bound { IfOk result (λ n. n ≤ length piece.now) }
         ensures progress { IfOk result (λ n. 0 < length piece.now → 0 < n) }
         ensures ok { IfOk result (λ n. Took (state self.old) (state self.new) (take n piece.now)) }
+        ensures counted { puts self.new ≤ puts self.old + 1 }
+        ensures never_falls { (state self.old).count ≤ (state self.new).count }
 
         // A piece that fits into the room does not fail.
         ensures failed { OnErr result (FailedAt (state self.old) (state self.new) piece.now) }
@@ -30,6 +36,8 @@ pub trait Sink {
 /// Puts the whole text, in at most as many puts as it has bytes.
 pub fn put_all<S: Sink>(s: &mut S, text: &[u8]) -> Result<(), SinkFault>
     ensures ok { OnOk result (Took (S.state s.old) (S.state s.new) text.now) }
+    ensures few_puts { S.puts s.new ≤ S.puts s.old + length text.now }
+    ensures never_falls { (S.state s.old).count ≤ (S.state s.new).count }
 
     // A text that fits into the room does not fail.
     ensures failed { OnErr result (FailedAt (S.state s.old) (S.state s.new) text.now) }

@@ -1,5 +1,6 @@
 // The sinks of the standard streams.
-ghost use Rattle.std.specs.Prelude.{◌≡◌, ◌≤◌, IfOk, length};
+ghost use Rattle.std.specs.Prelude.{◌≡◌, ◌<◌, ◌≤◌, IfOk, OnOk, OnErr, length};
+ghost use Rattle.uc_outside.specs.Faults.{CountRose};
 
 use crate::faults::SinkFault;
 use crate::sinks::Sink;
@@ -40,13 +41,7 @@ impl<'a, R: Print> Sink for StdOut<'a, R> {
     }
 
     fn put(&mut self, piece: &[u8]) -> Result<usize, SinkFault> {
-        match self.rt.write_some(piece) {
-            Ok(n) if n > 0 || piece.is_empty() => Ok(n),
-            _ => {
-                self.faults = self.faults.saturating_add(1);
-                Err(SinkFault::Failed)
-            }
-        }
+        took(&mut self.faults, piece, self.rt.write_some(piece))
     }
 }
 
@@ -97,12 +92,24 @@ impl<'a, R: ErrorStream> Sink for StdErr<'a, R> {
     }
 
     fn put(&mut self, piece: &[u8]) -> Result<usize, SinkFault> {
-        match self.rt.write_some_error(piece) {
-            Ok(n) if n > 0 || piece.is_empty() => Ok(n),
-            _ => {
-                self.faults = self.faults.saturating_add(1);
-                Err(SinkFault::Failed)
-            }
+        took(&mut self.faults, piece, self.rt.write_some_error(piece))
+    }
+}
+
+/// What a stream's answer to a piece means: to take nothing of it is a fault too.
+fn took(faults: &mut u64, piece: &[u8], answer: io::Result<usize>) -> Result<usize, SinkFault>
+    requires { IfOk answer (λ n. n ≤ length piece.now) }
+    ensures bound { IfOk result (λ n. n ≤ length piece.now) }
+    ensures progress { IfOk result (λ n. 0 < length piece.now → 0 < n) }
+    ensures same_count { OnOk result (faults.new ≡ faults.old) }
+    ensures rose { OnErr result (CountRose faults.old faults.new) }
+    ensures never_falls { faults.old ≤ faults.new }
+{
+    match answer {
+        Ok(n) if n > 0 || piece.is_empty() => Ok(n),
+        _ => {
+            *faults = faults.saturating_add(1);
+            Err(SinkFault::Failed)
         }
     }
 }

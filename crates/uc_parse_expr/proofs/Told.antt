@@ -1,10 +1,9 @@
 -- What the answer of the public call says in plain words.
-use Rattle.std.proofs.Common.{◌≡◌, ℕ, ◌+◌, ◌*◌, ◌-◌, ◌<◌, ◌≤◌, List, refl, sym, subst, arith}
+use Rattle.std.proofs.Common.{◌≡◌, ℕ, ◌+◌, ◌*◌, ◌-◌, ◌≤◌, List, refl, subst, arith}
 use Rattle.uc_tree.specs.declared.token.Token.{Token}
 use Rattle.uc_tree.specs.Expressions.{Expr}
 use Rattle.uc_grammar.specs.declared.fault.ParseFault.{ParseFault}
 use Rattle.uc_grammar.specs.declared.fault.ParseFault.TheVariants.{Syntax, TooDeep, NoMemory}
-use Rattle.uc_grammar.specs.Spell.{Same}
 use Rattle.uc_grammar.specs.Form.{Spells, Fails}
 use Rattle.uc_grammar.specs.Grammar.{expr_form, inner, faults}
 use Rattle.uc_grammar.specs.Text.{IsExpr, ExprFails}

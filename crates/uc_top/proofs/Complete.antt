@@ -1,5 +1,5 @@
 -- A program that is built is read, with what it shows.
-use Rattle.std.proofs.Common.{◌≡◌, ℕ, ◌+◌, ◌<◌, ◌≤◌, pos, List, [], ◌∷◌, ◌++◌, map, length, Bool, true, cond, refl, sym, ◌∙◌, ap, subst, arith, zero-add, add-zero}
+use Rattle.std.proofs.Common.{◌≡◌, ℕ, ◌+◌, ◌<◌, ◌≤◌, pos, List, [], ◌∷◌, ◌++◌, map, length, cond, refl, sym, ◌∙◌, ap, subst, arith, zero-add, add-zero}
 use Rattle.std.specs.List.{All}
 use Rattle.std.proofs.lemmas.List.{append-nil, append_assoc}
 use Rattle.std.proofs.lemmas.List.Elements.{All-head, All-tail}
@@ -63,21 +63,21 @@ shift_taken k i v p few b = b.shift ∙ (let a = lt-ltb i SUM_ITEMS few in rw a 
 item_read : (k i : ℕ) (v : List Shown) (p : Progress) (x : SumItem) → i < SUM_ITEMS → IsSmallItem x → Behind k i v p → Behind k (i + 1) (v ++ shown_of x ∷ []) (run p (item_spelled x))
 item_read k i v p Newline few small b =
     behind_same k (i + 1) (v ++ shown.Newline ∷ []) (at (state.Items k (i + 1)) (v ++ shown.Newline ∷ [])) _
-      (ap (λ q. step q (token.Word word.Endl)) (shift_taken k i v p few b)) (behind_item k (i + 1) (v ++ shown.Newline ∷ []))
+    (ap (λ q. step q (token.Word word.Endl)) (shift_taken k i v p few b)) (behind_item k (i + 1) (v ++ shown.Newline ∷ []))
 item_read k i v p (Sum n ms) few small b =
     behind_same k (i + 1) (v ++ shown.Total (n + total ms) ∷ []) (at (state.Sum k (i + 1) (0 + 1 + length ms) (n + total ms)) v) _
-      (ap (λ q. run q (numbers_spelled n ms)) (shift_taken k i v p few b)
-        ∙ (numbers_read k (i + 1) 0 0 v n ms (omega (arith, small.0)) (omega (arith, small.1))
-        ∙ sum_at k (i + 1) (0 + 1 + length ms) (0 + (n + total ms)) (0 + 1 + length ms) (n + total ms) v refl (zero-add (n + total ms))))
-      (behind_number k (i + 1) (0 + 1 + length ms) (n + total ms) v)
+    (ap (λ q. run q (numbers_spelled n ms)) (shift_taken k i v p few b)
+    ∙ (numbers_read k (i + 1) 0 0 v n ms (omega (arith, small.0)) (omega (arith, small.1))
+    ∙ sum_at k (i + 1) (0 + 1 + length ms) (0 + (n + total ms)) (0 + 1 + length ms) (n + total ms) v refl (zero-add (n + total ms))))
+    (behind_number k (i + 1) (0 + 1 + length ms) (n + total ms) v)
 
 items_read : (k i : ℕ) (v : List Shown) (p : Progress) (xs : List SumItem) → i + length xs ≤ SUM_ITEMS → All IsSmallItem xs → Behind k i v p → Behind k (i + length xs) (v ++ map shown_of xs) (run p (items_spelled xs))
 items_read k i v p [] few small b = behind_moved k i (i + 0) v (v ++ []) p (omega arith) (sym (append-nil v)) b
 items_read k i v p (x ∷ xs) few small b =
     behind_same k (i + length (x ∷ xs)) (v ++ map shown_of (x ∷ xs)) (run (run p (item_spelled x)) (items_spelled xs)) _ (run-append p (item_spelled x) (items_spelled xs))
-      (behind_moved k (i + 1 + length xs) (i + length (x ∷ xs)) ((v ++ shown_of x ∷ []) ++ map shown_of xs) (v ++ map shown_of (x ∷ xs)) _ (omega arith) (append_assoc v (shown_of x ∷ []) (map shown_of xs))
-        (items_read k (i + 1) (v ++ shown_of x ∷ []) (run p (item_spelled x)) xs (omega arith) (All-tail IsSmallItem x xs small)
-          (item_read k i v p x (omega arith) (All-head IsSmallItem x xs small) b)))
+    (behind_moved k (i + 1 + length xs) (i + length (x ∷ xs)) ((v ++ shown_of x ∷ []) ++ map shown_of xs) (v ++ map shown_of (x ∷ xs)) _ (omega arith) (append_assoc v (shown_of x ∷ []) (map shown_of xs))
+    (items_read k (i + 1) (v ++ shown_of x ∷ []) (run p (item_spelled x)) xs (omega arith) (All-tail IsSmallItem x xs small)
+    (item_read k i v p x (omega arith) (All-head IsSmallItem x xs small) b)))
 
 statement_read : (k : ℕ) (v : List Shown) (s : SumStatement) → k < SUM_STATEMENTS → IsSmallStatement s → run (at (state.Statements k) v) (statement_spelled s) ≡ at (state.Statements (k + 1)) (v ++ map shown_of s.items)
 statement_read k v s few small =

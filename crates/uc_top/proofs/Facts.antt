@@ -1,13 +1,10 @@
 -- What a journal of prints keeps.
-use Rattle.std.proofs.Common.{◌≡◌, ℕ, ℤ, ◌+◌, ◌≤◌, Bool, true, false, ◌&&◌, cond, List, [], ◌∷◌, ◌++◌, Option, Some, None, refl, sym, ap, ◌∙◌, append-nil, append_assoc, arith, length, add-one}
+use Rattle.std.proofs.Common.{◌≡◌, ℕ, ℤ, ◌+◌, ◌≤◌, Bool, true, false, ◌&&◌, cond, List, [], ◌∷◌, ◌++◌, Some, None, refl, ap, ◌∙◌, arith, length, add-one}
 use Rattle.std.specs.Prelude.{pos, nat_le}
 use Rattle.std.specs.List.{list_all, count_by, range_with_len}
 use Rattle.std.proofs.lemmas.Bool.{le-leb}
 use Rattle.uc_meaning.specs.declared.entry.Entry.{Entry}
-use Rattle.uc_meaning.specs.declared.entry.EntryKind.{EntryKind}
 use Rattle.uc_meaning.specs.declared.entry.EntryKind.TheVariants as kind
-use Rattle.uc_meaning.specs.declared.request.Asked.{Asked}
-use Rattle.uc_meaning.specs.declared.request.Request.TheVariants as ask
 use Rattle.uc_meaning.specs.Journal.{Journal, entry, entries_at, is_over, held, own_object}
 use Rattle.uc_meaning.specs.Queues.{running, waiting, stacked, used, first_ended, all_ticks, none_running, none_served, none_ready, processor_count, is_processor, is_nobody}
 use Rattle.uc_meaning.specs.Acts.{verdict, act, closing, fitted, ending}
@@ -30,22 +27,29 @@ pub record Facts (j : Journal) : Type 0 where
 pub facts_opening : Facts opening
 unfolding is_over first_ended held own_object entries_at waiting stacked running used all_ticks
 facts_opening = record {
-    going = refl; ended = refl; inside = refl; own = refl; waits = refl;
-    stacks = refl; runs = refl; ticks = refl; all = refl
-  }
+  going = refl;
+  ended = refl;
+  inside = refl;
+  own = refl;
+  waits = refl;
+  stacks = refl;
+  runs = refl;
+  ticks = refl;
+  all = refl;
+}
 
 pub facts_printing : (a b : ℤ) (j : Journal) → Facts j → Facts (j ++ printing a b ∷ [])
 facts_printing a b j f = record {
-    going = goes_on a b j ∙ f.going;
-    ended = not_ended a b j ∙ f.ended;
-    inside = same_held a b 0 j ∙ f.inside;
-    own = same_own a b 0 j ∙ f.own;
-    waits = same_waiting a b j ∙ f.waits;
-    stacks = same_stacked a b j ∙ f.stacks;
-    runs = same_running a b j ∙ f.runs;
-    ticks = same_used a b j ∙ f.ticks;
-    all = same_ticks a b j ∙ f.all
-  }
+  going = goes_on a b j ∙ f.going;
+  ended = not_ended a b j ∙ f.ended;
+  inside = same_held a b 0 j ∙ f.inside;
+  own = same_own a b 0 j ∙ f.own;
+  waits = same_waiting a b j ∙ f.waits;
+  stacks = same_stacked a b j ∙ f.stacks;
+  runs = same_running a b j ∙ f.runs;
+  ticks = same_used a b j ∙ f.ticks;
+  all = same_ticks a b j ∙ f.all;
+}
 
 pub someone_runs : (j : Journal) → Facts j → none_running default_options j ≡ false
 unfolding none_running processor_count

@@ -1,5 +1,5 @@
 -- The first word at fault, case by case.
-use Rattle.std.proofs.Common.{◌≡◌, ◌≢◌, ℕ, zero, suc, ◌+◌, ◌<◌, ◌≤◌, Bool, true, false, List, [], ◌∷◌, ◌++◌, length, take, get_or, refl, sym, ap, ◌∙◌, subst, arith}
+use Rattle.std.proofs.Common.{◌≡◌, ◌≢◌, ℕ, zero, suc, ◌<◌, true, false, List, [], ◌∷◌, length, take, get_or, refl, ap, arith}
 use Rattle.std.specs.Prelude.{codes, IsTrue, map}
 use Rattle.uc_top.specs.Words.{Words, IsRunLine, BeginsLine, IsFirstBad, is_name}
 
@@ -8,14 +8,17 @@ run = codes "run"
 
 begins_none : BeginsLine []
 begins_none = record {
-    file = 97 ∷ []; rest = codes "run" ∷ ((97 ∷ []) ∷ []); line = record { is = refl; name = refl }
-  }
+  file = 97 ∷ [];
+  rest = codes "run" ∷ ((97 ∷ []) ∷ []);
+  line = record { is = refl; name = refl };
+}
 
 begins_run : (w : List ℕ) → w ≡ codes "run" → BeginsLine (w ∷ [])
 begins_run w h = record {
-    file = 97 ∷ []; rest = (97 ∷ []) ∷ [];
-    line = record { is = ap (λ x. x ∷ ((97 ∷ []) ∷ [])) h; name = refl }
-  }
+  file = 97 ∷ [];
+  rest = (97 ∷ []) ∷ [];
+  line = record { is = ap (λ x. x ∷ ((97 ∷ []) ∷ [])) h; name = refl };
+}
 
 begins_file : (w f : List ℕ) → w ≡ codes "run" → is_name f ≡ true → BeginsLine (w ∷ (f ∷ []))
 begins_file w f h n = record { file = f; rest = []; line = record { is = ap (λ x. x ∷ (f ∷ [])) h; name = n } }
@@ -29,11 +32,11 @@ before_0 (suc k) h = absurd (omega (arith, h))
 
 bad_empty : IsFirstBad [] 1
 bad_empty = record {
-    within = omega arith;
-    before = before_0;
-    bad = λ h b. absurd (omega (arith, h));
-    no_line = λ file l. absurd (let e = l.is in cc)
-  }
+  within = omega arith;
+  before = before_0;
+  bad = λ h b. absurd (omega (arith, h));
+  no_line = λ file l. absurd (let e = l.is in cc);
+}
 
 before_1 : (w : List ℕ) (ws : Words) (k : ℕ) → k < 1 → BeginsLine (take k (w ∷ ws))
 before_1 w ws zero h = begins_none
@@ -41,11 +44,11 @@ before_1 w ws (suc k) h = absurd (omega (arith, h))
 
 bad_command : (w : List ℕ) (ws : Words) → w ≢ codes "run" → IsFirstBad (w ∷ ws) 1
 bad_command w ws h = record {
-    within = omega arith;
-    before = before_1 w ws;
-    bad = λ l b. h (let e = b.line.is in cc);
-    no_line = λ file l. h (let e = l.is in cc)
-  }
+  within = omega arith;
+  before = before_1 w ws;
+  bad = λ l b. h (let e = b.line.is in cc);
+  no_line = λ file l. h (let e = l.is in cc);
+}
 
 before_2 : (w : List ℕ) (ws : Words) → w ≡ codes "run" → (k : ℕ) → k < 2 → BeginsLine (take k (w ∷ ws))
 before_2 w ws e zero h = begins_none
@@ -54,22 +57,22 @@ before_2 w ws e (suc (suc k)) h = absurd (omega (arith, h))
 
 bad_lone : (w : List ℕ) → w ≡ codes "run" → IsFirstBad (w ∷ []) 2
 bad_lone w h = record {
-    within = omega arith;
-    before = before_2 w [] h;
-    bad = λ l b. absurd (omega (arith, l));
-    no_line = λ file l. absurd (let e = l.is in cc)
-  }
+  within = omega arith;
+  before = before_2 w [] h;
+  bad = λ l b. absurd (omega (arith, l));
+  no_line = λ file l. absurd (let e = l.is in cc);
+}
 
 no_name : (f file : List ℕ) → is_name f ≡ false → IsTrue (is_name file) → f ≡ file → ⊥
 no_name f file n t e = absurd (let a : is_name f ≡ is_name file = ap is_name e in cc)
 
 bad_file : (w f : List ℕ) (ws : Words) → w ≡ codes "run" → is_name f ≡ false → IsFirstBad (w ∷ (f ∷ ws)) 2
 bad_file w f ws h n = record {
-    within = omega arith;
-    before = before_2 w (f ∷ ws) h;
-    bad = λ l b. no_name f b.file n b.line.name (let e = b.line.is in cc);
-    no_line = λ file l. no_name f file n l.name (let e = l.is in cc)
-  }
+  within = omega arith;
+  before = before_2 w (f ∷ ws) h;
+  bad = λ l b. no_name f b.file n b.line.name (let e = b.line.is in cc);
+  no_line = λ file l. no_name f file n l.name (let e = l.is in cc);
+}
 
 before_3 : (w f : List ℕ) (ws : Words) → w ≡ codes "run" → is_name f ≡ true → (k : ℕ) → k < 3 → BeginsLine (take k (w ∷ (f ∷ ws)))
 before_3 w f ws e n zero h = begins_none
@@ -79,11 +82,11 @@ before_3 w f ws e n (suc (suc (suc k))) h = absurd (omega (arith, h))
 
 bad_third : (w f x : List ℕ) (ws : Words) → w ≡ codes "run" → is_name f ≡ true → IsFirstBad (w ∷ (f ∷ (x ∷ ws))) 3
 bad_third w f x ws h n = record {
-    within = omega arith;
-    before = before_3 w f (x ∷ ws) h n;
-    bad = λ l b. absurd (let e = b.line.is in cc);
-    no_line = λ file l. absurd (let e = l.is in cc)
-  }
+  within = omega arith;
+  before = before_3 w f (x ∷ ws) h n;
+  bad = λ l b. absurd (let e = b.line.is in cc);
+  no_line = λ file l. absurd (let e = l.is in cc);
+}
 
 -- the same of the words of a list
 module _ {A : Type 0} (bytes : A → List ℕ) where

@@ -2,7 +2,11 @@ pub mod Silent
 pub mod Facts
 pub mod Sums
 pub mod Prints
+pub mod Pieces
 pub mod FirstBad
+pub mod Leave
+pub mod Causes
+pub mod Decide
 pub mod Unique
 pub mod Complete
 pub mod Sound

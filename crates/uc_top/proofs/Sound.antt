@@ -1,5 +1,5 @@
 -- What is read to the end is a program's tokens.
-use Rattle.std.proofs.Common.{◌≡◌, ℕ, ℤ, pos, negsuc, ◌+◌, ◌<◌, ◌≤◌, ◌&&◌, ◌==◌, List, [], ◌∷◌, ◌++◌, map, drop, length, Bool, true, false, cond, Option, Some, None, refl, sym, ◌∙◌, ap, subst, arith, add-zero, zero-add}
+use Rattle.std.proofs.Common.{◌≡◌, ℕ, ℤ, pos, negsuc, ◌+◌, ◌<◌, ◌≤◌, ◌==◌, List, [], ◌∷◌, ◌++◌, map, drop, length, Bool, true, false, cond, Some, None, refl, sym, ◌∙◌, ap, subst, arith, add-zero, zero-add}
 use Rattle.std.specs.Prelude.{slice_get, codes, nat_eq, nat_le, nat_lt}
 use Rattle.std.specs.List.{All, filter}
 use lib.Pointwise.{pointwise}
@@ -18,13 +18,13 @@ use Rattle.uc_tree.specs.declared.token.Sign.TheVariants as sign
 use Rattle.uc_meaning.specs.declared.sums.Shown.{Shown}
 use Rattle.uc_meaning.specs.declared.sums.Shown.TheVariants as shown
 use Rattle.uc_meaning.specs.declared.sums.TheConstants.{SUM_STATEMENTS, SUM_ITEMS, SUM_NUMBERS}
-use Rattle.uc_meaning.specs.Sums.{SumItem, Newline, Sum, SumStatement, SumProgram, numbers_spelled, item_spelled, items_spelled, statement_spelled, statements_spelled, head_spelled, program_spelled, is_cout, line_at, cout_lines, Spells, IsBuilt, total, IsSmallItem, IsSmallStatement, IsSmall, shown_of, statements_shown, program_shown}
+use Rattle.uc_meaning.specs.Sums.{SumItem, Newline, Sum, SumStatement, SumProgram, numbers_spelled, items_spelled, statements_spelled, head_spelled, is_cout, line_at, cout_lines, IsBuilt, total, IsSmallItem, IsSmallStatement, shown_of, statements_shown, program_shown}
 use Rattle.uc_top.specs.declared.reader.TheConstants.{HEAD_END}
 use Rattle.uc_top.specs.declared.reader.Symbol.{Symbol}
 use Rattle.uc_top.specs.declared.reader.Symbol.TheVariants as symbol
 use Rattle.uc_top.specs.declared.reader.State.{State}
 use Rattle.uc_top.specs.declared.reader.State.TheVariants as state
-use Rattle.uc_top.specs.Machine.{Progress, step, run, symbol_of, after, after_head, after_statement, after_item, after_number, before_number, total_with, sum_or_refused, with_number, shows, with_shown}
+use Rattle.uc_top.specs.Machine.{run, symbol_of, after, after_head, after_statement, after_item, after_number, before_number, total_with, sum_or_refused, with_number, shows, with_shown}
 use Rattle.uc_top.specs.Reads.{Reads}
 use Rattle.uc_top.proofs.Complete.{at}
 use Rattle.uc_top.proofs.Unique.{one_program}
@@ -308,8 +308,8 @@ number_taken k i c tot (pos n) v t ts w f e r =
       item = Sum n l.more;
       fits = (omega (arith, l.few), omega (arith, l.small));
       rest = item_left (numbers_spelled n l.more) (more_spelled l.more) (shown.Total (tot + (n + total l.more)) ∷ []) (shown.Total (tot + n + total l.more) ∷ []) k i v v t ts w
-        (numbers_more n l.more ∙ ap (λ a. a ∷ more_spelled l.more) (sym e)) (ap is_cout e)
-        (λ r. ap (λ a. v ++ shown.Total a ∷ r) (let same : tot + n + total l.more ≡ tot + (n + total l.more) = omega arith in same)) l.rest;
+          (numbers_more n l.more ∙ ap (λ a. a ∷ more_spelled l.more) (sym e)) (ap is_cout e)
+          (λ r. ap (λ a. v ++ shown.Total a ∷ r) (let same : tot + n + total l.more ≡ tot + (n + total l.more) = omega arith in same)) l.rest;
     }
 number_taken k i c tot (negsuc n) v t ts w f e r = let p = passed (nat_lt c SUM_NUMBERS) state.Refused v ts w r in absurd (p.1 tt)
 

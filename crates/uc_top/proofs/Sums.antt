@@ -1,5 +1,5 @@
 -- The journal of a program of sums is a run of it.
-use Rattle.std.proofs.Common.{◌≡◌, ℕ, suc, ℤ, ◌+◌, ◌-◌, ◌<◌, ◌≤◌, Bool, true, false, cond, ◌&&◌, ◌||◌, ◌*◌, List, [], ◌∷◌, ◌++◌, Option, Some, None, refl, sym, ap, ◌∙◌, subst, append-nil, append_assoc, arith, length, add_assoc, length-append, lit<, lit≤}
+use Rattle.std.proofs.Common.{◌≡◌, ℕ, suc, ℤ, ◌+◌, ◌-◌, ◌≤◌, Bool, true, false, cond, ◌&&◌, ◌||◌, ◌*◌, List, [], ◌∷◌, ◌++◌, Option, Some, None, refl, sym, ap, ◌∙◌, subst, append-nil, append_assoc, arith, length, add_assoc, length-append, lit<, lit≤}
 use Rattle.std.specs.Prelude.{pos, map, nat_le, if◌then◌else◌}
 use Rattle.std.specs.List.{All, Contains}
 use Rattle.std.proofs.lemmas.Bool.{lt-ltb, le-leb}
@@ -10,18 +10,17 @@ use Rattle.uc_meaning.specs.declared.sums.TheConstants.{SUM_ITEMS}
 use Rattle.uc_meaning.specs.declared.entry.Entry.{Entry}
 use Rattle.uc_meaning.specs.declared.entry.EntryKind.TheVariants as kind
 use Rattle.uc_meaning.specs.declared.request.Asked.{Asked}
-use Rattle.uc_meaning.specs.declared.request.Request.{Request}
 use Rattle.uc_meaning.specs.declared.request.Request.TheVariants as ask
 use Rattle.uc_meaning.specs.Journal.{Journal, entry, begin, is_over, is_ending, held}
-use Rattle.uc_meaning.specs.Queues.{ready, running, used, open_processors, waiting, next, successor, first_ended, ends_first, none_running, none_ready, none_served, all_ticks}
-use Rattle.uc_meaning.specs.Source.{Expr, Literal, Add, Item, Stmt, Print, Stmts, Nil, Then, Source}
-use Rattle.uc_meaning.specs.Quiet.{State, Env, Value, Number, Todo, Eval, AddNow, PrintNow, Items, Do, Rest, Within, Finish, Step, Goes, Asks, quiet, state, fits, print_one, result, first_state, no_members, line_of, main_todo}
+use Rattle.uc_meaning.specs.Queues.{ready, running, open_processors, waiting, next, successor, first_ended, ends_first, none_running, none_ready, none_served, all_ticks}
+use Rattle.uc_meaning.specs.Source.{Expr, Literal, Add, Item, Nil, Source}
+use Rattle.uc_meaning.specs.Quiet.{State, Env, Value, Number, Todo, Eval, AddNow, PrintNow, Items, Rest, Within, Finish, Goes, Asks, quiet, state, fits, print_one, first_state, no_members, line_of, main_todo}
 use Rattle.uc_meaning.specs.Rides.{Rides, goes_on, asks, asked_in}
 use Rattle.uc_meaning.specs.declared.entry.EntryKind.{EntryKind}
 use Rattle.uc_meaning.specs.declared.entry.Options.{Options}
-use Rattle.uc_meaning.specs.Acts.{act, dispatch, entries_of, admission, verdict, ending, fitted, closing as acts_closing}
+use Rattle.uc_meaning.specs.Acts.{act, entries_of, admission, verdict, ending, fitted, closing as acts_closing}
 use Rattle.uc_meaning.proofs.Open.{any_push}
-use Rattle.uc_meaning.specs.Runs.{World, Runs, begun, more, May, acts, gives, Serves, AsksIn, IsPrefix, IsRun, drawn, left, first_world, hand_of, with_hand, world_after}
+use Rattle.uc_meaning.specs.Runs.{World, Runs, begun, more, acts, gives, Serves, IsRun, drawn, left, first_world, hand_of, with_hand, world_after}
 use Rattle.uc_meaning.specs.Sums.{SumItem, Newline, Sum, SumStatement, SumProgram, IsSmallItem, IsSmallStatement, IsSmall, total, added, item_of, statements_of, source_of, shown_of, statements_shown, program_shown}
 use Rattle.uc_top.specs.Journals.{default_options, opening, closing, print_entry, journal_of}
 use Rattle.uc_top.proofs.Silent.{printing}
@@ -100,7 +99,7 @@ one_item {source} {j} {form} {n} {e} {is} {todo} evals room r =
       world = world_after a r.world 0 after (print_one form (pos n));
       runs = subst (λ x. Runs source [] default_options (j ++ x) (world_after x r.world 0 after (print_one form (pos n)))) (act_is j form (line_of now.control) (pos n) r.facts room) may;
       facts = f;
-      leads = subst (λ s. Leads s after) (sym (drawn_again (j ++ a) r.world form (pos n) (Items is ∷ todo) f.inside)) here
+      leads = subst (λ s. Leads s after) (sym (drawn_again (j ++ a) r.world form (pos n) (Items is ∷ todo) f.inside)) here;
     }
 
 one_shown : {source : Source} {j : Journal} {todo : List Todo} (i : SumItem) (is : List Item) → IsSmallItem i → length j + 2 ≤ default_options.entries → Reached source j (Items (item_of i ∷ is) ∷ todo) → Reached source (j ++ print_entry (shown_of i) ∷ []) (Items is ∷ todo)
@@ -149,11 +148,11 @@ unfolding is_over held
 reached_opening p =
     let b : Runs (source_of p) [] default_options (begin default_options ∷ []) (first_world (source_of p)) = begun in
     record {
-    world = first_world (source_of p);
-    runs = more b refl (gives 0 0 first_dispatch (lit≤ tt));
-    facts = facts_opening;
-    leads = here
-  }
+      world = first_world (source_of p);
+      runs = more b refl (gives 0 0 first_dispatch (lit≤ tt));
+      facts = facts_opening;
+      leads = here;
+    }
 
 or_true : (b : Bool) → (b || true) ≡ true
 or_true true = refl

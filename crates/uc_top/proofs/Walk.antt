@@ -1,9 +1,9 @@
 -- The walk over the tokens.
-use Rattle.std.proofs.Common.{◌≡◌, ℕ, suc, ◌+◌, ◌<◌, ◌≤◌, List, [], ◌∷◌, map, drop, length, get_or, refl, sym, ◌∙◌, ap, subst, Option, add-one, drop-cons, arith}
+use Rattle.std.proofs.Common.{◌≡◌, ℕ, suc, ◌+◌, ◌<◌, ◌≤◌, List, [], ◌∷◌, map, drop, length, get_or, sym, ◌∙◌, ap, subst, Option, add-one, drop-cons}
 use Rattle.std.proofs.Math.ListN.{drop_of_length-le}
 use Rattle.uc_tree.specs.declared.token.Token.{Token}
 use Rattle.uc_meaning.specs.declared.sums.Shown.{Shown}
-use Rattle.uc_meaning.specs.Sums.{SumProgram, IsBuilt, program_shown}
+use Rattle.uc_meaning.specs.Sums.{SumProgram, IsBuilt}
 use Rattle.uc_top.specs.declared.reader.Symbol.{Symbol}
 use Rattle.uc_top.specs.declared.reader.State.{State}
 use Rattle.uc_top.specs.declared.reader.State.TheVariants as state

@@ -1,5 +1,5 @@
 -- The journal of a program of sums.
-use Rattle.std.specs.Prelude.{ℕ, pos, List, [], ◌∷◌, ◌++◌, map}
+use Rattle.std.specs.Prelude.{pos, List, [], ◌∷◌, ◌++◌, map}
 use Rattle.uc_tree.specs.declared.limits.TheConstants.{PROCESSORS_DEFAULT, SLICE_DEFAULT, TICKS_DEFAULT, ENTRIES_DEFAULT}
 use Rattle.uc_meaning.specs.declared.entry.Entry.{Entry}
 use Rattle.uc_meaning.specs.declared.entry.EntryKind.TheVariants as kind
@@ -12,9 +12,11 @@ use Rattle.uc_meaning.specs.Acts.{dispatch}
 -- the options of a run where no word gives them
 abbrev pub default_options : Options
 default_options = record {
-    processors = PROCESSORS_DEFAULT; slice = SLICE_DEFAULT;
-    ticks = TICKS_DEFAULT; entries = ENTRIES_DEFAULT
-  }
+  processors = PROCESSORS_DEFAULT;
+  slice = SLICE_DEFAULT;
+  ticks = TICKS_DEFAULT;
+  entries = ENTRIES_DEFAULT;
+}
 
 abbrev pub print_entry : Shown → Entry
 print_entry Newline = entry kind.Print 0 0 0 0 (pos 1) (pos 10)

@@ -5,4 +5,10 @@ mod keeper;
 mod printing;
 mod reader;
 mod refusals;
+#[cfg(test)]
+mod tests;
+mod top;
 mod words;
+
+pub use refusals::Refusal;
+pub use top::{Outcome, run_words};

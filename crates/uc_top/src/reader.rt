@@ -1,9 +1,11 @@
 // The reader of the programs that are built so far: a main whose statements print sums.
 
-ghost use Rattle.std.specs.Prelude.{◌≡◌, ◌+◌, ◌<◌, ◌≤◌, ◌↔◌, ℕ, List, map, nat_le, if◌then◌else◌, IfOk, OnOk, IsTrue, MatchOption, SomeIff};
+ghost use Rattle.std.specs.Prelude.{◌≡◌, ◌↔◌, IfOk, OnOk, IsTrue, MatchOption};
 ghost use Rattle.uc_meaning.specs.Sums.{SumProgram, IsBuilt};
 ghost use Rattle.uc_top.specs.Reads.{Reads};
-ghost use Rattle.uc_top.specs.Machine.{word_symbol, sign_symbol, symbol_of, total_with, with_number, after_head, after_statement, after_item, after_number, before_number, after, shown_before_number, shown_after_number, shows, with_shown};
+ghost use Rattle.uc_top.specs.Machine.{word_symbol, sign_symbol, symbol_of};
+ghost use Rattle.uc_top.specs.Machine.{total_with, with_number, after_head, after_statement, after_item, after_number, before_number, after};
+ghost use Rattle.uc_top.specs.Machine.{shown_before_number, shown_after_number, shows, with_shown};
 
 use std::alloc::{AllocError, Global};
 use uc_meaning::sums::{SUM_ITEMS, SUM_NUMBERS, SUM_STATEMENTS, Shown};
@@ -331,7 +333,9 @@ fn push_shown(shown: &mut Vec<Shown>, next: Option<Shown>) -> Result<(), AllocEr
 
 // What the program of the tokens shows, or `None` if they are no program of sums.
 pub(crate) fn read_sums(alloc: Global, tokens: &[Token]) -> Result<Option<Vec<Shown>>, AllocError>
-    ensures { IfOk result (λ found. MatchOption found ((p : SumProgram) → IsBuilt tokens.now p → ⊥) (λ shown. Reads tokens.now shown.items)) }
+    ensures { IfOk result (λ found. MatchOption found
+        ((p : SumProgram) → IsBuilt tokens.now p → ⊥)
+        (λ shown. Reads tokens.now shown.items)) }
 {
     let mut shown = Vec::new(alloc);
     let mut state = State::Head(0);
@@ -345,5 +349,77 @@ pub(crate) fn read_sums(alloc: Global, tokens: &[Token]) -> Result<Option<Vec<Sh
         Ok(Some(shown))
     } else {
         Ok(None)
+    }
+}
+
+#[cfg(test)]
+mod tests {
+    use super::*;
+    use uc_tree::name::Name;
+    use uc_tree::pos::Pos;
+
+    // A token by one byte: `M` is the greatest number, `c` is `cout`, and `x` is in no program of sums.
+    fn kind_of(alloc: Global, byte: u8) -> Result<TokenKind, AllocError> {
+        let kind = match byte {
+            b'v' => TokenKind::Word(Word::Void),
+            b'u' => TokenKind::Word(Word::UMain),
+            b':' => TokenKind::Sign(Sign::Scope),
+            b'(' => TokenKind::Sign(Sign::OpenParen),
+            b')' => TokenKind::Sign(Sign::CloseParen),
+            b'{' => TokenKind::Sign(Sign::OpenBrace),
+            b'}' => TokenKind::Sign(Sign::CloseBrace),
+            b'c' => TokenKind::Word(Word::Cout),
+            b'e' => TokenKind::Word(Word::Endl),
+            b'<' => TokenKind::Sign(Sign::ShiftLeft),
+            b'+' => TokenKind::Sign(Sign::Plus),
+            b';' => TokenKind::Sign(Sign::Semicolon),
+            b'M' => TokenKind::Number(2_147_483_647),
+            b'0'..=b'9' => TokenKind::Number(i64::from(byte - b'0')),
+            b'm' => TokenKind::Name(Name::new(b"main".to_vec(alloc)?)),
+            _ => TokenKind::Name(Name::new(b"x".to_vec(alloc)?)),
+        };
+        Ok(kind)
+    }
+
+    fn shown_by(alloc: Global, text: &[u8]) -> Result<Option<Vec<Shown>>, AllocError> {
+        let mut tokens = Vec::new(alloc);
+        for byte in text {
+            let kind = kind_of(alloc, *byte)?;
+            let pos = Pos { line: 1, col: 1 };
+            tokens.push(Token { kind, at: 0, pos })?;
+        }
+        let found = read_sums(alloc, &tokens)?;
+        Ok(found)
+    }
+
+    #[test]
+    fn reads_sums(rt: HostRuntime) -> Result<(), AllocError> {
+        let alloc = rt.alloc();
+        let found = shown_by(alloc, b"vu:m(){c<1+2+3<e;c<M<0+M;}")?;
+        let Some(shown) = found else {
+            assert!(rt; false);
+            return Ok(());
+        };
+        let want = [
+            Shown::Total(6),
+            Shown::Newline,
+            Shown::Total(2_147_483_647),
+            Shown::Total(2_147_483_647),
+        ];
+        assert!(rt; shown.as_slice() == want.as_slice());
+        let refused: [&[u8]; 8] = [
+            b"vu:m(){",
+            b"vu:x(){}",
+            b"vu:m(){}}",
+            b"vu:m(){c;}",
+            b"vu:m(){c<1e;}",
+            b"vu:m(){c<1+;}",
+            b"vu:m(){c<1+e;}",
+            b"vu:m(){c<M+1;}",
+        ];
+        for text in refused {
+            assert!(rt; shown_by(alloc, text)?.is_none());
+        }
+        Ok(())
     }
 }

@@ -2,7 +2,7 @@
 use Rattle.std.specs.Prelude.{◌≡◌, zero, suc, [], refl}
 use base.Stored.{Coded, Gv, gnil, gnum, gcons}
 use Rattle.uc_tree.specs.declared.ops.BinaryOp.TheVariants.{Or}
-use Rattle.uc_tree.specs.Codes.{Codec, coded_by, nat_codec, int_codec, flag_codec, name_codec, pos_codec, no_pos, option_codec, unary_op_codec, binary_op_codec, assign_op_codec, step_op_codec}
+use Rattle.uc_tree.specs.Codes.{Codec, coded_by, nat_codec, int_codec, flag_codec, name_codec, pos_codec, no_pos, unary_op_codec, binary_op_codec, assign_op_codec, step_op_codec}
 use Rattle.uc_tree.specs.Expressions.{Expr, Number, Character, Truth, Name, Cin, Postfix, Unary, Chain, Assign, Exprs, NoExprs, MoreExprs, Part, Field, Index, Call, Step, Parts, NoParts, MoreParts, Link, Linked, Links, NoLinks, MoreLinks}
 
 abbrev mutual

@@ -1,5 +1,4 @@
 -- The tree of an expression as the code holds it, whose parts are trees.
-use Rattle.std.specs.Prelude.{ℕ}
 use Rattle.uc_tree.specs.declared.pos.Pos.{Pos}
 use Rattle.uc_tree.specs.declared.expr.ExprForm.{ExprForm}
 use Rattle.uc_tree.specs.declared.expr.ExprForm.TheVariants as form

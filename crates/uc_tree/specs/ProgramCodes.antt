@@ -1,5 +1,5 @@
 -- How programs are stored.
-use Rattle.std.specs.Prelude.{◌≡◌, ℕ, zero, suc, List, refl}
+use Rattle.std.specs.Prelude.{◌≡◌, zero, suc, refl}
 use base.Stored.{Coded, Gv, gnil, gnum, gcons}
 use Rattle.uc_tree.specs.declared.kinds.Owner.{Owner}
 use Rattle.uc_tree.specs.declared.kinds.Owner.TheVariants as owner

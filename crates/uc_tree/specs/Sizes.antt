@@ -4,7 +4,7 @@ use Rattle.uc_tree.specs.ExpressionSizes.{expr_size, exprs_size}
 use Rattle.uc_tree.specs.Statements.{Stmt}
 use Rattle.uc_tree.specs.StatementSizes.{declarators_size, stmt_size, stmts_size}
 use Rattle.uc_tree.specs.Exits.{exits, exits_all}
-use Rattle.uc_tree.specs.Programs.{Sig, Init, Routine, MemberForm, FieldsMember, RoutineMember, ProtoMember, Member, Class, Constant, Item, ClassItem, RoutineItem, ConstItem, ProtoItem, ForwardItem, UsingItem, Program}
+use Rattle.uc_tree.specs.Programs.{Init, Routine, MemberForm, FieldsMember, RoutineMember, ProtoMember, Member, Class, Item, ClassItem, RoutineItem, ConstItem, ProtoItem, ForwardItem, UsingItem, Program}
 
 -- the items, members, parameters, declarators, initialisers, statements, accept clauses, handlers, raised events, printed
 -- items and expressions, with each operator of a chain and each part of a postfix one more

@@ -1,14 +1,13 @@
 -- How statements are stored.
-use Rattle.std.specs.Prelude.{◌≡◌, ℕ, zero, suc, List, [], Option, Some, None, refl}
-use Rattle.std.proofs.Common.{ap}
-use base.Stored.{Coded, Gv, gnil, gnum, gcons, num}
+use Rattle.std.specs.Prelude.{◌≡◌, zero, suc, List, [], Option, None, refl}
+use base.Stored.{Coded, Gv, gnil, gnum, gcons}
 use Rattle.uc_tree.specs.declared.kinds.Base.{Base}
 use Rattle.uc_tree.specs.declared.kinds.Base.TheVariants.{Void, Int, Char, Bool, Condition, Cluster, Processor, Named}
 use Rattle.uc_tree.specs.declared.kinds.HandlerKind.TheVariants.{Catch}
 use Rattle.uc_tree.specs.declared.kinds.EventName.{EventName}
 use Rattle.uc_tree.specs.declared.kinds.MemberName.{MemberName}
 use Rattle.uc_tree.specs.Codes.{Codec, coded_by, via, flag_codec, name_codec, maybe_name_codec, pos_codec, no_pos, list_codec, option_codec, pair_codec, handler_kind_codec}
-use Rattle.uc_tree.specs.Expressions.{Expr, Exprs, Cin}
+use Rattle.uc_tree.specs.Expressions.{Expr}
 use Rattle.uc_tree.specs.ExpressionCodes.{expr_codec, exprs_codec}
 use Rattle.uc_tree.specs.Statements.{Start, NoStart, StartValue, StartArgs, Declarator, Raised, OutItem, Endl, Literal, Printed, ForStart, NoFor, ForDeclare, ForEvaluate, Stmt, Block, Empty, Evaluate, Declare, If, While, Do, For, Break, Continue, Return, Try, Throw, Raise, RaiseAt, Enable, Disable, Accept, Print, PrintTogether, Read, Resume, Suspend, Yield, Migrate, Stmts, NoStmts, MoreStmts, MaybeStmt, NoStmt, OneStmt, Handler, Handles, Handlers, NoHandlers, MoreHandlers, Clause, Accepts, Clauses, NoClauses, MoreClauses}
 

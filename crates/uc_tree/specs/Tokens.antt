@@ -3,6 +3,7 @@ use Rattle.std.specs.Prelude.{ℕ, zero, suc, ◌+◌, ◌-◌, ◌*◌, pos, Li
 use Rattle.std.specs.List.{prefix_len, starts_with}
 use lib.Pointwise.{pointwise}
 use Rattle.uc_tree.specs.declared.limits.TheConstants.{NAME_BYTES, NUMBER_MAX, TEXT_BYTES}
+use Rattle.uc_tree.specs.declared.pos.Pos.{Pos}
 use Rattle.uc_tree.specs.declared.token.Token.{Token}
 use Rattle.uc_tree.specs.declared.token.TokenKind.{TokenKind}
 use Rattle.uc_tree.specs.declared.token.TokenKind.TheVariants.{Name, Number, Character, Text, Word as AWord, Sign as ASign}
@@ -194,6 +195,10 @@ next_place p b =
 
 abbrev pub first_place : Place
 first_place = record { at = 0; pos = record { line = 1; col = 1 }; fresh = true }
+
+-- the place of an offset of the text
+abbrev pub pos_at : List ℕ → ℕ → Pos
+pos_at text at = (fold next_place first_place (take at text)).pos
 
 -- The whole text.
 

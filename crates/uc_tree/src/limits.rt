@@ -42,6 +42,12 @@ pub const CLASS_CELLS: u64 = 1_048_576;
 /// Conditions of a class, an array counted by its length.
 pub const CLASS_CONDITIONS: u32 = 65_536;
 
+/// The greatest number of a condition in its class.
+pub const LAST_CONDITION: u16 = 65_535;
+
+/// The greatest number of a class.
+pub const LAST_CLASS: u32 = 4_294_967_295;
+
 /// Cells of a frame.
 pub const FRAME_CELLS: u64 = 4_096;
 
@@ -59,6 +65,9 @@ pub const UNHANDLED: u8 = 0;
 
 /// The number of the first event of the program; the one before it is kept.
 pub const FIRST_EVENT: u8 = 2;
+
+/// The greatest number of an event.
+pub const LAST_EVENT: u8 = 63;
 
 /// Events that a program declares.
 pub const PROGRAM_EVENTS: u8 = 62;

@@ -1,6 +1,7 @@
 // Names and the values of text literals.
 
 ghost use Rattle.std.specs.Prelude.{◌≡◌, ◌↔◌, IfOk, IsTrue, List, ℕ, length};
+ghost use Rattle.uc_tree.specs.Names.{same_name};
 
 use std::alloc::{AllocError, Global};
 use std::marker::Model;
@@ -36,7 +37,8 @@ impl Name {
 
     /// Whether these are the bytes of the name.
     pub fn is(&self, bytes: &[u8]) -> bool
-        ensures { IsTrue result ↔ (self.now ≡ bytes.now) }
+        ensures same { IsTrue result ↔ (self.now ≡ bytes.now) }
+        ensures test { result ≡ same_name self.now bytes.now }
     {
         self.bytes.as_slice() == bytes
     }
@@ -81,7 +83,8 @@ impl Text {
 
     /// Whether these are the bytes of the text.
     pub fn is(&self, bytes: &[u8]) -> bool
-        ensures { IsTrue result ↔ (self.now ≡ bytes.now) }
+        ensures same { IsTrue result ↔ (self.now ≡ bytes.now) }
+        ensures test { result ≡ same_name self.now bytes.now }
     {
         self.bytes.as_slice() == bytes
     }

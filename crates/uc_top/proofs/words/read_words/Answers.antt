@@ -1,4 +1,4 @@
-use Rattle.std.proofs.Common.{◌≡◌, ◌≢◌, ℕ, ◌<◌, ◌↔◌, length, get_or, Bool, true, false, List, arith, sym, ap, ◌∙◌, string_bytes, codes, subst}
+use Rattle.std.proofs.Common.{◌≡◌, ◌≢◌, ℕ, get_or, Bool, true, false, List, arith, sym, ap, ◌∙◌, string_bytes, codes, subst}
 use Rattle.std.specs.Prelude.{IsTrue, map}
 use Rattle.std.proofs.lemmas.Bool.Decides.{nat_tests}
 use Rattle.uc_top.specs.Words.{is_name, IsRunLine}

@@ -1,4 +1,4 @@
-use Rattle.std.proofs.Common.{◌+◌, ◌*◌, drop}
+use Rattle.std.proofs.Common.{drop}
 use Rattle.uc_tree.specs.StatementSizes.{declarators_size}
 use Rattle.uc_tree.proofs.Counting.{Counting}
 use Rattle.uc_tree.proofs.size.size_of_declarators.Given as goal

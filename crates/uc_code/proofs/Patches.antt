@@ -1,0 +1,100 @@
+-- What appending and patching do to the ops.
+use Rattle.std.proofs.Common.{◌≡◌, ◌≢◌, ℕ, zero, suc, ◌+◌, ◌≤◌, ◌<◌, List, [], ◌∷◌, ◌++◌, length, take, get_or, Some, refl, ap, sym, ◌∙◌, arith, length-append}
+use Rattle.std.specs.Prelude.{slice_get, slice_set}
+use Rattle.uc_code.specs.declared.op.Op.{Op}
+use Rattle.uc_code.specs.declared.rows.Instruction.{Instruction}
+use Rattle.uc_code.specs.Drafts.{ops_with, patched, aimed, target_of}
+use Rattle.uc_code.specs.declared.draft_parts.OpenJump.{OpenJump}
+use Rattle.uc_code.specs.declared.op.Op.TheVariants.{Jump}
+use Rattle.std.proofs.lemmas.List.{take_more}
+use Rattle.uc_code.specs.Ranges.{OpAt, One, Same, Kept}
+
+get_front : (xs ys : List Instruction) (i : ℕ) (x : Instruction) → slice_get xs i ≡ Some x → slice_get (xs ++ ys) i ≡ Some x
+get_front [] ys i x e = cc
+get_front (y ∷ xs) ys zero x e = e
+get_front (y ∷ xs) ys (suc i) x e = get_front xs ys i x e
+
+get_seam : (xs ys : List Instruction) (x : Instruction) → slice_get (xs ++ x ∷ ys) (length xs) ≡ Some x
+get_seam [] ys x = refl
+get_seam (y ∷ xs) ys x = get_seam xs ys x
+
+-- one more op: all others stay, and it stands at the end
+pub kept_with : (ops : List Instruction) (op : Op) (line : ℕ) → Kept ops (ops_with ops op line)
+kept_with ops op line = record {
+  longer = omega (arith, length-append ops (record { op = op; line = line } ∷ []));
+  same = λ i x l o. record { here = get_front ops (record { op = op; line = line } ∷ []) i (record { op = x; line = l }) o.here };
+}
+
+pub one_with : (ops : List Instruction) (op : Op) (line : ℕ) → One (ops_with ops op line) op line (length ops) (length (ops_with ops op line))
+one_with ops op line = record {
+  here = record { here = get_seam ops [] (record { op = op; line = line }) };
+  end = omega (arith, length-append ops (record { op = op; line = line } ∷ []));
+}
+
+pub length-patched : (ops : List Instruction) (at : ℕ) (op : Op) → length (patched ops at op) ≡ length ops
+length-patched [] at op = refl
+length-patched (i ∷ is) zero op = refl
+length-patched (i ∷ is) (suc at) op = ap suc (length-patched is at op)
+
+get_patched : (ops : List Instruction) (at : ℕ) (op was : Op) (line : ℕ) → slice_get ops at ≡ Some (record { op = was; line = line }) → slice_get (patched ops at op) at ≡ Some (record { op = op; line = line })
+get_patched [] at op was line e = cc
+get_patched (i ∷ is) zero op was line e =
+    let same : i ≡ record { op = was; line = line } = cc in
+    ap (λ (j : Instruction). Some (record { op = op; line = j.line })) same
+get_patched (i ∷ is) (suc at) op was line e = get_patched is at op was line e
+
+get_unpatched : (ops : List Instruction) (at : ℕ) (op : Op) (j : ℕ) → at ≢ j → slice_get (patched ops at op) j ≡ slice_get ops j
+get_unpatched [] at op j h = refl
+get_unpatched (i ∷ is) zero op zero h = absurd (h refl)
+get_unpatched (i ∷ is) zero op (suc j) h = refl
+get_unpatched (i ∷ is) (suc at) op zero h = refl
+get_unpatched (i ∷ is) (suc at) op (suc j) h = get_unpatched is at op j (λ e. h (ap suc e))
+
+-- the patched op, on the line that it had
+pub patched_at : (ops : List Instruction) (at : ℕ) (op was : Op) (line : ℕ) → OpAt ops at was line → OpAt (patched ops at op) at op line
+patched_at ops at op was line o = record { here = get_patched ops at op was line o.here }
+
+-- ranges that do not hold the patched op stay
+pub same_before : (ops : List Instruction) (at : ℕ) (op : Op) (a z : ℕ) → z ≤ at → Same ops (patched ops at op) a z
+same_before ops at op a z h = record { same = λ i x l p q o. record { here = get_unpatched ops at op i (λ e. absurd (omega arith)) ∙ o.here } }
+
+pub same_after : (ops : List Instruction) (at : ℕ) (op : Op) (a z : ℕ) → at < a → Same ops (patched ops at op) a z
+same_after ops at op a z h = record { same = λ i x l p q o. record { here = get_unpatched ops at op i (λ e. absurd (omega arith)) ∙ o.here } }
+
+-- a patch is a write to the list
+pub patched_set : (ops : List Instruction) (at : ℕ) (op : Op) (d : Instruction) → at < length ops → slice_set ops at (record { op = op; line = (get_or ops at d).line }) ≡ patched ops at op
+patched_set [] at op d h = refl
+patched_set (i ∷ is) zero op d h = refl
+patched_set (i ∷ is) (suc at) op d h = ap (λ l. i ∷ l) (patched_set is at op d (omega arith))
+
+pub patched_past : (ops : List Instruction) (at : ℕ) (op : Op) → length ops ≤ at → patched ops at op ≡ ops
+patched_past [] at op h = refl
+patched_past (i ∷ is) zero op h = absurd (omega arith)
+patched_past (i ∷ is) (suc at) op h = ap (λ l. i ∷ l) (patched_past is at op (omega arith))
+
+aimed_append : (js ks : List OpenJump) (behind again : ℕ) (ops : List Instruction) → aimed (js ++ ks) behind again ops ≡ aimed ks behind again (aimed js behind again ops)
+aimed_append [] ks behind again ops = refl
+aimed_append (j ∷ js) ks behind again ops = aimed_append js ks behind again (patched ops j.at (Jump (target_of j.exit behind again)))
+
+-- one more jump
+pub aimed_more : (jumps : List OpenJump) (i : ℕ) (d : OpenJump) (behind again : ℕ) (ops : List Instruction) → i < length jumps → aimed (take (i + 1) jumps) behind again ops ≡ patched (aimed (take i jumps) behind again ops) (get_or jumps i d).at (Jump (target_of (get_or jumps i d).exit behind again))
+aimed_more jumps i d behind again ops h =
+    ap (λ l. aimed l behind again ops) (take_more jumps i d h) ∙ aimed_append (take i jumps) (get_or jumps i d ∷ []) behind again ops
+
+pub length-aimed : (jumps : List OpenJump) (behind again : ℕ) (ops : List Instruction) → length (aimed jumps behind again ops) ≡ length ops
+length-aimed [] behind again ops = refl
+length-aimed (j ∷ js) behind again ops =
+    length-aimed js behind again (patched ops j.at (Jump (target_of j.exit behind again))) ∙ length-patched ops j.at (Jump (target_of j.exit behind again))
+
+pub patched_then : (ops : List Instruction) (at n : ℕ) (op : Op) (i : Instruction) → n ≡ length ops → at < n → i ≡ get_or ops at i → slice_set ops at (record { op = op; line = i.line }) ≡ patched ops at op
+patched_then ops at n op i e h is =
+    ap (λ (j : Instruction). slice_set ops at (record { op = op; line = j.line })) is ∙ patched_set ops at op i (omega arith)
+
+pub patched_else : (ops : List Instruction) (at n : ℕ) (op : Op) → n ≡ length ops → n ≤ at → ops ≡ patched ops at op
+patched_else ops at n op e h = sym (patched_past ops at op (omega arith))
+
+pub aim_step : (jumps : List OpenJump) (i : ℕ) (d : OpenJump) (behind again target : ℕ) (ops before after : List Instruction) → i < length jumps → before ≡ aimed (take i jumps) behind again ops → target ≡ target_of (get_or jumps i d).exit behind again → after ≡ patched before (get_or jumps i d).at (Jump target) → after ≡ aimed (take (i + 1) jumps) behind again ops
+aim_step jumps i d behind again target ops before after h e t a =
+    a ∙ ap (λ l. patched l (get_or jumps i d).at (Jump target)) e
+    ∙ ap (λ n. patched (aimed (take i jumps) behind again ops) (get_or jumps i d).at (Jump n)) t
+    ∙ sym (aimed_more jumps i d behind again ops h)

@@ -1,0 +1,33 @@
+// Parts of a draft: names in scope, open jumps, marks of scopes.
+
+use uc_tree::kinds::Ty;
+use uc_tree::name::Name;
+
+/// A name in scope, its type and its first cell in the frame.
+#[derive(Drop)]
+pub struct Known {
+    pub name: Name,
+    pub ty: Ty,
+    pub cell: u32,
+}
+
+/// How a jump leaves the body of its loop.
+#[derive(Clone, Copy, PartialEq, Eq, Debug)]
+pub enum Exit {
+    Break,
+    Continue,
+}
+
+/// A jump out of the body of a loop whose code is not finished: the number of its op, and where it is to lead.
+#[derive(Clone, Copy, PartialEq, Eq, Debug)]
+pub struct OpenJump {
+    pub at: u32,
+    pub exit: Exit,
+}
+
+/// What was in scope before a scope was opened: how many names, and the number of the scope around it.
+#[derive(Clone, Copy, PartialEq, Eq, Debug)]
+pub struct Outside {
+    pub names: usize,
+    pub scope: u32,
+}

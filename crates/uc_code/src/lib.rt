@@ -1,0 +1,13 @@
+// Code: the instructions that a program is lowered to, their text, and the draft that lowering writes them in.
+#![tactic(auto)]
+
+pub mod code;
+pub mod draft;
+pub mod draft_parts;
+pub mod listing;
+pub mod op;
+mod operands;
+pub mod rows;
+pub mod site;
+#[cfg(test)]
+mod tests;

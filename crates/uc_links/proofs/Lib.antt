@@ -1,0 +1,10 @@
+pub mod Chains
+pub mod Entered
+pub mod Filters
+pub mod Firsts
+pub mod Left
+pub mod Pools
+pub mod Looks
+pub mod Pops
+pub mod Segments
+pub mod Stacks

@@ -1,0 +1,8 @@
+use Rattle.uc_links.proofs.Stacks.{stacked}
+use Rattle.uc_links.proofs.object.stack_on.Goals as goal
+
+pub returns : goal.returns
+returns c = record {
+  held = λ es st h n1 n2.
+      stacked c.args.nodes.now c.set_label.new.nodes c.set_link.new.nodes c.args.number c.args.object.now c.args.place c.requires.node.1 c.set_label.ensures c.set_link.ensures es st h n1 n2;
+}

@@ -1,0 +1,4 @@
+pub mod Journals
+pub mod Rule
+pub mod Meanings
+pub mod Lending

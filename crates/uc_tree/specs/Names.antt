@@ -1,0 +1,6 @@
+-- Names as lists of bytes.
+use Rattle.std.specs.Prelude.{ℕ, List, Bool, nat_eq}
+use Rattle.std.specs.Cmp.Lexicographic.{pointwise}
+
+abbrev pub same_name : List ℕ → List ℕ → Bool
+same_name = pointwise nat_eq

@@ -1,0 +1,32 @@
+// The program: the real files, streams and gate around the top call.
+#![tactic(auto)]
+
+use std::alloc::Global;
+use std::process::ExitCode;
+use std::rt::Env;
+use std::{env, io};
+use uc_outside::{FileStore, OpenGate, StdErr, StdOut};
+use uc_top::run_words;
+
+fn main(rt: HostRuntime) -> ExitCode {
+    let alloc = rt.alloc();
+    // Arguments that cannot be read as text are no line of words, and no words are none either.
+    let words = match read_words(&rt, alloc) {
+        Ok(words) => words,
+        Err(_) => Vec::new(alloc),
+    };
+    let mut store = FileStore::new(&rt);
+    let mut out = StdOut::new(&rt);
+    let mut err = StdErr::new(&rt);
+    let outcome = run_words(alloc, &words, &mut store, &mut out, &mut err, &OpenGate);
+    ExitCode::from(outcome.status)
+}
+
+// The words after the program's name.
+fn read_words(rt: &HostRuntime, alloc: Global) -> io::Result<Vec<String>> {
+    let mut words = Vec::new(alloc);
+    for word in env::args(rt)?.skip(1) {
+        words.push(word)?;
+    }
+    Ok(words)
+}
