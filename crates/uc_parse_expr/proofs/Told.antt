@@ -10,7 +10,8 @@ use Rattle.uc_grammar.specs.Text.{IsExpr, ExprFails}
 use Rattle.uc_grammar.proofs.AllForms.{one_piece}
 use Rattle.uc_grammar.proofs.Told.{syntax_refuses, too_deep_refuses}
 use Rattle.uc_grammar.proofs.Far.{expr_far}
-use Rattle.uc_parse_expr.specs.Found.{OnlyExpr, NoExpr, NeverExpr}
+use Rattle.uc_grammar.proofs.First.{first_too_deep}
+use Rattle.uc_parse_expr.specs.Found.{OnlyExpr, NoExpr, NeverExpr, FirstTooDeep}
 
 pub is_expr : (room : ℕ) (ts : List Token) (from to : ℕ) (e : Expr) → Spells (inner room) expr_form ts from to e → IsExpr room ts from to e
 unfolding IsExpr
@@ -36,3 +37,7 @@ never_expr room ts from f h p e = λ us levels same to v r. syntax_refuses expr_
 
 pub far_expr : (room depth : ℕ) (ts : List Token) (from : ℕ) (f : ParseFault) → Fails (inner room) (faults room) expr_form ts from f → (k : ℕ) → f ≡ TooDeep k → room + depth ≤ depth + 2 * (k - from) + 1
 far_expr room depth ts from f h k e = omega (arith, expr_far room ts from k (subst (λ g. Fails (inner room) (faults room) expr_form ts from g) e h))
+
+pub first_expr : (room : ℕ) (ts : List Token) (from : ℕ) (f : ParseFault) → Fails (inner room) (faults room) expr_form ts from f → (k : ℕ) → f ≡ TooDeep k → FirstTooDeep room ts from k
+unfolding IsExpr
+first_expr room ts from f h k e = λ more to v r. first_too_deep expr_form room more ts from to k v (subst (λ g. Fails (inner room) (faults room) expr_form ts from g) e h) r

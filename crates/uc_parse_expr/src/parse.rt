@@ -10,7 +10,7 @@ ghost use Rattle.uc_grammar.specs.Grammar.{primary_form, arguments_form, closed_
 ghost use Rattle.uc_parse_expr.specs.Faults.{token_of};
 ghost use Rattle.uc_parse_expr.specs.Loops.{parts_form, links_form};
 ghost use Rattle.uc_grammar.specs.Text.{IsExpr, ExprFails};
-ghost use Rattle.uc_parse_expr.specs.Found.{OnlyExpr, NeverExpr, NoExpr};
+ghost use Rattle.uc_parse_expr.specs.Found.{OnlyExpr, NeverExpr, NoExpr, FirstTooDeep};
 
 use crate::ops::{
     PartStart, assign_at, binary_at, is_binary_at, is_comma_at, is_part_at, part_start_at, tighter,
@@ -42,6 +42,7 @@ pub fn parse_expr(
     ensures none { IfErr result (λ f. (f ≡ ParseFault.NoMemory → ⊥) → NoExpr (NESTING - depth) tokens.now from) }
     ensures syntax { IfErr result (λ f. (p : ℕ) → f ≡ ParseFault.Syntax p → NeverExpr tokens.now p from) }
     ensures deep { IfErr result (λ f. (k : ℕ) → f ≡ ParseFault.TooDeep k → NESTING ≤ depth + 2 * (k - from) + 1) }
+    ensures first { IfErr result (λ f. (k : ℕ) → f ≡ ParseFault.TooDeep k → FirstTooDeep (NESTING - depth) tokens.now from k) }
     ensures within { IfErr result (λ f. token_of f ≤ length tokens.now) }
 {
     let (e, to) = read_expr(alloc, tokens, from, NESTING - depth)?;
