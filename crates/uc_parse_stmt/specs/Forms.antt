@@ -1,7 +1,9 @@
 -- Pieces of the grammar of statements.
-use Rattle.std.specs.Prelude.{List, Option}
+use Rattle.std.specs.Prelude.{List, Option, Some, Bool, true, false}
 use Rattle.uc_tree.specs.declared.kinds.MemberName.{MemberName}
 use Rattle.uc_tree.specs.declared.pos.Pos.{Pos}
+use Rattle.uc_tree.specs.declared.token.TokenKind.{TokenKind}
+use Rattle.uc_tree.specs.declared.token.TokenKind.TheVariants as token
 use Rattle.uc_tree.specs.declared.token.Sign.TheVariants as sign
 use Rattle.uc_tree.specs.declared.token.Word.TheVariants as word
 use Rattle.uc_tree.specs.Expressions.{Expr}
@@ -43,3 +45,8 @@ for_step pos start test = bind (maybe_expr sign.CloseParen) (λ next. apply (stm
 -- what follows the first ';' of a for
 abbrev pub for_test : Pos → ForStart → Form Stmt
 for_test pos start = bind (maybe_expr sign.Semicolon) (for_step pos start)
+
+-- the tokens that are names
+abbrev pub is_name : Option TokenKind → Bool
+is_name (Some (token.Name n)) = true
+is_name _ = false

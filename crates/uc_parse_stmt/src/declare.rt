@@ -3,13 +3,15 @@
 ghost use Rattle.std.specs.Prelude.{◌≡◌, ◌+◌, ◌<◌, ◌≤◌, ◌^◌, IfOk, IfErr, IsTrue, Some, None, length};
 ghost use Rattle.uc_grammar.specs.Form.{Spells, Fails, inside};
 ghost use Rattle.uc_parse_expr.specs.Faults.{token_of};
-ghost use Rattle.uc_grammar.specs.Form.{look};
+ghost use Rattle.uc_grammar.specs.Form.{apply, look};
+ghost use Rattle.uc_grammar.specs.Names.{Declares, Evaluates};
+ghost use Rattle.uc_tree.specs.Expressions.{Name};
 ghost use Rattle.uc_grammar.specs.Tables.{base_of, word_of};
-ghost use Rattle.uc_grammar.specs.Grammar.{length_form, start_form, declarator_form, declarators_form, named_at, based_or_expr, simple_form, simple_stmt_form, for_start_form, maybe_expr, inner, faults};
+ghost use Rattle.uc_grammar.specs.Grammar.{length_form, start_form, declarator_form, declarators_form, named_at, based_or_expr, simple_form, simple_stmt_form, for_start_form, expr_from, maybe_expr, inner, faults};
 ghost use Rattle.uc_grammar.specs.Spell.{kind_at};
 ghost use Rattle.uc_parse_stmt.specs.Parts.{simple_of};
 
-use crate::peek::base_at;
+use crate::peek::{base_at, is_name_at};
 use std::alloc::Global;
 use uc_grammar::fault::ParseFault;
 use uc_parse_expr::ops::is_comma_at;
@@ -260,31 +262,67 @@ fn read_named(
     ensures moved { IfOk result (λ r. (from ≤ r.1) × (r.1 ≤ length tokens.now)) }
     ensures within { IfErr result (λ f. token_of f ≤ length tokens.now) }
 {
-    match kind_at(tokens, from) {
-        Some(TokenKind::Name(_)) => {
-            let name = name.copy(alloc)?;
-            let (declarators, to) = read_declarators(alloc, tokens, from, room)?;
-
-            Ok((
-                Simple::Declares {
-                    pos,
-                    base: Base::Named(name),
-                    declarators,
-                },
-                to,
-            ))
-        }
-        _ => {
-            let name = name.copy(alloc)?;
-            let primary = Expr {
-                pos,
-                form: ExprForm::Name { name },
-            };
-            let (value, to) = read_expr_from(alloc, tokens, pos, primary, from, room)?;
-
-            Ok((Simple::Evaluates { pos, value }, to))
-        }
+    if is_name_at(tokens, from) {
+        let (s, to) = read_named_decl(alloc, tokens, pos, name, from, room)?;
+        return Ok((s, to));
     }
+    let (s, to) = read_named_expr(alloc, tokens, pos, name, from, room)?;
+    Ok((s, to))
+}
+
+// The variables of a declaration whose base has this name.
+fn read_named_decl(
+    alloc: Global,
+    tokens: &[Token],
+    pos: Pos,
+    name: &Name,
+    from: u32,
+    room: u16,
+) -> Result<(Simple, u32), ParseFault>
+    requires begins { from ≤ length tokens.now }
+    requires few { length tokens.now < 2 ^ 32 }
+    ensures found { IfOk result (λ r. Spells (inner room) (apply (Declares pos (Base.Named name.now)) declarators_form) tokens.now from r.1 (simple_of r.0)) }
+    ensures fails { IfErr result (λ f. Fails (inner room) (faults room) (apply (Declares pos (Base.Named name.now)) declarators_form) tokens.now from f) }
+    ensures moved { IfOk result (λ r. (from < r.1) × (r.1 ≤ length tokens.now)) }
+    ensures within { IfErr result (λ f. token_of f ≤ length tokens.now) }
+{
+    let base = name.copy(alloc)?;
+    let (declarators, to) = read_declarators(alloc, tokens, from, room)?;
+
+    Ok((
+        Simple::Declares {
+            pos,
+            base: Base::Named(base),
+            declarators,
+        },
+        to,
+    ))
+}
+
+// What follows the name that an expression begins with.
+fn read_named_expr(
+    alloc: Global,
+    tokens: &[Token],
+    pos: Pos,
+    name: &Name,
+    from: u32,
+    room: u16,
+) -> Result<(Simple, u32), ParseFault>
+    requires begins { from ≤ length tokens.now }
+    requires few { length tokens.now < 2 ^ 32 }
+    ensures found { IfOk result (λ r. Spells (inner room) (apply (Evaluates pos) (expr_from pos (Name pos name.now))) tokens.now from r.1 (simple_of r.0)) }
+    ensures fails { IfErr result (λ f. Fails (inner room) (faults room) (apply (Evaluates pos) (expr_from pos (Name pos name.now))) tokens.now from f) }
+    ensures moved { IfOk result (λ r. (from ≤ r.1) × (r.1 ≤ length tokens.now)) }
+    ensures within { IfErr result (λ f. token_of f ≤ length tokens.now) }
+{
+    let name = name.copy(alloc)?;
+    let primary = Expr {
+        pos,
+        form: ExprForm::Name { name },
+    };
+    let (value, to) = read_expr_from(alloc, tokens, pos, primary, from, room)?;
+
+    Ok((Simple::Evaluates { pos, value }, to))
 }
 
 /// A declaration or an expression as a statement.

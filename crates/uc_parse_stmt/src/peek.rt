@@ -1,14 +1,16 @@
 // What single tokens say of a statement.
 
-ghost use Rattle.std.specs.Prelude.{◌≡◌, ◌≢◌, ◌<◌, ◌≤◌, ◌^◌, ◌↔◌, ℕ, IsSome, IsTrue, length};
+ghost use Rattle.std.specs.Prelude.{◌≡◌, ◌≢◌, ◌<◌, ◌≤◌, ◌^◌, ◌↔◌, ℕ, List, IsSome, IsTrue, MatchOption, length};
 ghost use Rattle.uc_grammar.specs.Form.{Spells};
 ghost use Rattle.uc_grammar.specs.Grammar.{maybe_sign, inner};
 ghost use Rattle.uc_grammar.specs.Spell.{kind_at, Begins};
 ghost use Rattle.uc_grammar.specs.Tables.{sign_of, word_of, base_of, handler_of, start_by_word, start_by_sign, stmt_start, is_out, is_in, is_less, is_or, is_handler, in_braces};
+ghost use Rattle.uc_parse_stmt.specs.Forms.{is_name};
 
 use uc_grammar::start::StmtStart;
 use uc_parse_expr::peek::{is_sign, kind_at, sign_at, word_at};
 use uc_tree::kinds::{Base, HandlerKind};
+use uc_tree::name::Text;
 use uc_tree::token::{Sign, Token, TokenKind, Word};
 
 fn start_by_word(word: Word) -> StmtStart
@@ -119,6 +121,34 @@ pub fn is_handler_at(tokens: &[Token], at: u32) -> bool
     ensures inside { IsTrue result → at < length tokens.now }
 {
     handler_at(tokens, at).is_some()
+}
+
+/// Whether a name stands at a place.
+pub fn is_name_at(tokens: &[Token], at: u32) -> bool
+    ensures begins { IsTrue result ↔ Begins is_name tokens.now at }
+    ensures inside { IsTrue result → at < length tokens.now }
+{
+    match kind_at(tokens, at) {
+        Some(TokenKind::Name(_)) => true,
+        Some(_) => false,
+        None => false,
+    }
+}
+
+/// The text at a place.
+pub fn text_at(tokens: &[Token], at: u32) -> Option<&Text>
+    ensures text { MatchOption result ((t : List ℕ) → kind_at tokens.now at ≡ Some (TokenKind.Text t) → ⊥) (λ t. kind_at tokens.now at ≡ Some (TokenKind.Text t.now)) }
+    ensures inside { IsSome result → at < length tokens.now }
+{
+    match kind_at(tokens, at) {
+        Some(TokenKind::Text(text)) => Some(text),
+        Some(TokenKind::Name(_)) => None,
+        Some(TokenKind::Number(_)) => None,
+        Some(TokenKind::Character(_)) => None,
+        Some(TokenKind::Word(_)) => None,
+        Some(TokenKind::Sign(_)) => None,
+        None => None,
+    }
 }
 
 /// Whether `<<` stands at a place.

@@ -7,16 +7,16 @@ ghost use Rattle.uc_grammar.specs.Form.{look};
 ghost use Rattle.uc_grammar.specs.Grammar.{out_at, out_form, outs_form, together_rest, cin_rest, inner, faults};
 ghost use Rattle.uc_parse_stmt.specs.Forms.{out_items_form, places_form};
 
-use crate::peek::{is_in_at, is_out_at};
+use crate::peek::{is_in_at, is_out_at, text_at};
 use std::alloc::Global;
 use uc_grammar::fault::ParseFault;
 use uc_parse_expr::parse::{read_expr_from, read_postfix, read_sum};
-use uc_parse_expr::peek::{expect_sign, expect_word, is_sign, kind_at, pos_at};
+use uc_parse_expr::peek::{expect_sign, expect_word, is_sign, is_word, pos_at};
 use uc_tree::declare::{OutForm, OutItem};
 use uc_tree::expr::{Expr, ExprForm};
 use uc_tree::pos::Pos;
 use uc_tree::stmt::{Stmt, StmtForm};
-use uc_tree::token::{Sign, Token, TokenKind, Word};
+use uc_tree::token::{Sign, Token, Word};
 
 // A printed item, with its `<<`.
 fn read_out(
@@ -53,15 +53,17 @@ fn read_item(
     ensures moved { IfOk result (λ r. (from < r.1) × (r.1 ≤ length tokens.now)) }
     ensures within { IfErr result (λ f. token_of f ≤ length tokens.now) }
 {
-    match kind_at(tokens, from) {
-        Some(TokenKind::Word(Word::Endl)) => Ok((
+    if is_word(tokens, from, Word::Endl) {
+        return Ok((
             OutItem {
                 sign,
                 form: OutForm::Endl,
             },
             from + 1,
-        )),
-        Some(TokenKind::Text(text)) => {
+        ));
+    }
+    match text_at(tokens, from) {
+        Some(text) => {
             let text = text.copy(alloc)?;
             Ok((
                 OutItem {
@@ -71,7 +73,7 @@ fn read_item(
                 from + 1,
             ))
         }
-        _ => {
+        None => {
             let (value, to) = read_sum(alloc, tokens, from, room)?;
 
             Ok((

@@ -1,9 +1,15 @@
-use Rattle.std.proofs.Common.{rules, inl}
+use Rattle.std.proofs.Common.{rules, ◌≡◌, ℕ, List, Some, inl}
 use Rattle.std.proofs.lemmas.Result.{err_from_is_err_and}
-use Rattle.uc_tree.specs.Statements.{Printed}
-use Rattle.uc_grammar.specs.Form.{Fails, look, apply}
+use Rattle.uc_tree.specs.declared.token.TokenKind.TheVariants as token
+use Rattle.uc_tree.specs.declared.token.Word.TheVariants as word
+use Rattle.uc_grammar.specs.Spell.{kind_at}
+use Rattle.uc_grammar.specs.Form.{Fails, Spells, look, apply}
 use Rattle.uc_grammar.specs.Grammar.{out_at, sum_form, inner, faults}
+use Rattle.uc_parse_stmt.proofs.Other.{other_item}
 use Rattle.uc_parse_stmt.proofs.print.read_item.Goals as goal
 
-pub returns-in_err-value-in_default-clause-fails : goal.returns-in_err-value-in_default-clause-fails
-returns-in_err-value-in_default-clause-fails c = let g : Fails (inner c.args.room) (faults c.args.room) (apply (Printed c.args.sign) sum_form) c.args.tokens.now c.args.from c.in_err-value-in_default.field-0.0 = inl c.in_err-value-in_default.ensures.fails in let h : Fails (inner c.args.room) (faults c.args.room) (look (out_at c.args.sign)) c.args.tokens.now c.args.from c.in_err-value-in_default.field-0.0 = search (rules, g) in let p = err_from_is_err_and c.from_residual.result c.from_residual.ensures.1 in rw (p.1, p.2) h
+pub returns-in_err-value-in-None-clause-fails : goal.returns-in_err-value-in-None-clause-fails
+returns-in_err-value-in-None-clause-fails c = let no_end : kind_at c.args.tokens.now c.args.from ≡ Some (token.Word word.Endl) → ⊥ = search rules in
+    let no_text : (t : List ℕ) → kind_at c.args.tokens.now c.args.from ≡ Some (token.Text t) → ⊥ = search rules in
+    let h = other_item (λ g. Fails (inner c.args.room) (faults c.args.room) g c.args.tokens.now c.args.from c.in_err-value-in-None.field-0.0) c.args.sign (kind_at c.args.tokens.now c.args.from) no_end no_text (inl c.in_err-value-in-None.ensures.fails) in
+    let p = err_from_is_err_and c.from_residual-in_err-value-in-None.result c.from_residual-in_err-value-in-None.ensures.1 in rw (p.1, p.2) h
