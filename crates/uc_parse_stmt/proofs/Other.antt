@@ -5,16 +5,14 @@ use Rattle.uc_tree.specs.declared.token.TokenKind.{TokenKind}
 use Rattle.uc_tree.specs.declared.token.TokenKind.TheVariants as token
 use Rattle.uc_tree.specs.declared.token.Word.{Word}
 use Rattle.uc_tree.specs.declared.token.Word.TheVariants as word
-use Rattle.uc_tree.specs.declared.kinds.Base.TheVariants as base
-use Rattle.uc_tree.specs.Expressions as expr
 use Rattle.uc_tree.specs.Statements.{OutItem, Printed}
-use Rattle.uc_grammar.specs.Names.{Simple, Declares, Evaluates}
+use Rattle.uc_grammar.specs.Names.{Simple}
 use Rattle.uc_grammar.specs.Form.{Form, apply}
-use Rattle.uc_grammar.specs.Grammar.{out_at, sum_form, named_at, declarators_form, expr_from}
-use Rattle.uc_parse_stmt.specs.Forms.{is_name}
+use Rattle.uc_grammar.specs.Grammar.{out_at, sum_form, named_at}
+use Rattle.uc_parse_stmt.specs.Forms.{is_name, named_decl, named_expr}
 
 -- What begins with a name is a declaration where a name follows, and else an expression.
-pub named_twice : (P : Form Simple → Type 0) (pos : Pos) (n : List ℕ) (o : Option TokenKind) → IsTrue (is_name o) → P (apply (Declares pos (base.Named n)) declarators_form) → P (named_at pos n o)
+pub named_twice : (P : Form Simple → Type 0) (pos : Pos) (n : List ℕ) (o : Option TokenKind) → IsTrue (is_name o) → P (named_decl pos n) → P (named_at pos n o)
 named_twice P pos n None b r = cc
 named_twice P pos n (Some (token.Name k)) b r = r
 named_twice P pos n (Some (token.Number k)) b r = cc
@@ -23,7 +21,7 @@ named_twice P pos n (Some (token.Text k)) b r = cc
 named_twice P pos n (Some (token.Word k)) b r = cc
 named_twice P pos n (Some (token.Sign k)) b r = cc
 
-pub named_once : (P : Form Simple → Type 0) (pos : Pos) (n : List ℕ) (o : Option TokenKind) → (IsTrue (is_name o) → ⊥) → P (apply (Evaluates pos) (expr_from pos (expr.Name pos n))) → P (named_at pos n o)
+pub named_once : (P : Form Simple → Type 0) (pos : Pos) (n : List ℕ) (o : Option TokenKind) → (IsTrue (is_name o) → ⊥) → P (named_expr pos n) → P (named_at pos n o)
 named_once P pos n None b r = r
 named_once P pos n (Some (token.Name k)) b r = absurd (b refl)
 named_once P pos n (Some (token.Number k)) b r = r

@@ -1,5 +1,6 @@
 -- Pieces of the grammar of statements.
-use Rattle.std.specs.Prelude.{List, Option, Some, Bool, true, false}
+use Rattle.std.specs.Prelude.{ℕ, List, Option, Some, Bool, true, false}
+use Rattle.uc_tree.specs.declared.kinds.Base.TheVariants as base
 use Rattle.uc_tree.specs.declared.kinds.MemberName.{MemberName}
 use Rattle.uc_tree.specs.declared.pos.Pos.{Pos}
 use Rattle.uc_tree.specs.declared.token.TokenKind.{TokenKind}
@@ -7,12 +8,13 @@ use Rattle.uc_tree.specs.declared.token.TokenKind.TheVariants as token
 use Rattle.uc_tree.specs.declared.token.Sign.TheVariants as sign
 use Rattle.uc_tree.specs.declared.token.Word.TheVariants as word
 use Rattle.uc_tree.specs.Expressions.{Expr}
+use Rattle.uc_tree.specs.Expressions as expr
 use Rattle.uc_tree.specs.Statements.{Stmt, OutItem, ForStart}
 use Rattle.uc_tree.specs.Statements as stmt
-use Rattle.uc_grammar.specs.Names.{stmt_name, block_stmt_name}
+use Rattle.uc_grammar.specs.Names.{Simple, Declares, Evaluates, stmt_name, block_stmt_name}
 use Rattle.uc_grammar.specs.Form.{Form, bind, apply, many, listed, skip, inside}
 use Rattle.uc_grammar.specs.Tables.{sign_of, is_in, is_out, in_braces}
-use Rattle.uc_grammar.specs.Grammar.{Caught, expect_word, before, condition_form, maybe_expr, comma_list, maybe_sign, name_form, maybe_name_closed, one_event, member_name_form, out_form, postfix_form}
+use Rattle.uc_grammar.specs.Grammar.{Caught, expect_word, before, condition_form, maybe_expr, declarators_form, expr_from, comma_list, maybe_sign, name_form, maybe_name_closed, one_event, member_name_form, out_form, postfix_form}
 
 -- name '&'? name? ')', of a handler
 abbrev pub one_event_form : Form Caught
@@ -50,3 +52,10 @@ for_test pos start = bind (maybe_expr sign.Semicolon) (for_step pos start)
 abbrev pub is_name : Option TokenKind → Bool
 is_name (Some (token.Name n)) = true
 is_name _ = false
+
+-- what follows a first name that is the base of a declaration, and what follows one that begins an expression
+abbrev pub named_decl : Pos → List ℕ → Form Simple
+named_decl pos n = apply (Declares pos (base.Named n)) declarators_form
+
+abbrev pub named_expr : Pos → List ℕ → Form Simple
+named_expr pos n = apply (Evaluates pos) (expr_from pos (expr.Name pos n))

@@ -3,11 +3,10 @@
 ghost use Rattle.std.specs.Prelude.{◌≡◌, ◌+◌, ◌<◌, ◌≤◌, ◌^◌, IfOk, IfErr, IsTrue, Some, None, length};
 ghost use Rattle.uc_grammar.specs.Form.{Spells, Fails, inside};
 ghost use Rattle.uc_parse_expr.specs.Faults.{token_of};
-ghost use Rattle.uc_grammar.specs.Form.{apply, look};
-ghost use Rattle.uc_grammar.specs.Names.{Declares, Evaluates};
-ghost use Rattle.uc_tree.specs.Expressions.{Name};
+ghost use Rattle.uc_grammar.specs.Form.{look};
+ghost use Rattle.uc_parse_stmt.specs.Forms.{named_decl, named_expr};
 ghost use Rattle.uc_grammar.specs.Tables.{base_of, word_of};
-ghost use Rattle.uc_grammar.specs.Grammar.{length_form, start_form, declarator_form, declarators_form, named_at, based_or_expr, simple_form, simple_stmt_form, for_start_form, expr_from, maybe_expr, inner, faults};
+ghost use Rattle.uc_grammar.specs.Grammar.{length_form, start_form, declarator_form, declarators_form, named_at, based_or_expr, simple_form, simple_stmt_form, for_start_form, maybe_expr, inner, faults};
 ghost use Rattle.uc_grammar.specs.Spell.{kind_at};
 ghost use Rattle.uc_parse_stmt.specs.Parts.{simple_of};
 
@@ -281,8 +280,8 @@ fn read_named_decl(
 ) -> Result<(Simple, u32), ParseFault>
     requires begins { from ≤ length tokens.now }
     requires few { length tokens.now < 2 ^ 32 }
-    ensures found { IfOk result (λ r. Spells (inner room) (apply (Declares pos (Base.Named name.now)) declarators_form) tokens.now from r.1 (simple_of r.0)) }
-    ensures fails { IfErr result (λ f. Fails (inner room) (faults room) (apply (Declares pos (Base.Named name.now)) declarators_form) tokens.now from f) }
+    ensures found { IfOk result (λ r. Spells (inner room) (named_decl pos name.now) tokens.now from r.1 (simple_of r.0)) }
+    ensures fails { IfErr result (λ f. Fails (inner room) (faults room) (named_decl pos name.now) tokens.now from f) }
     ensures moved { IfOk result (λ r. (from < r.1) × (r.1 ≤ length tokens.now)) }
     ensures within { IfErr result (λ f. token_of f ≤ length tokens.now) }
 {
@@ -310,15 +309,15 @@ fn read_named_expr(
 ) -> Result<(Simple, u32), ParseFault>
     requires begins { from ≤ length tokens.now }
     requires few { length tokens.now < 2 ^ 32 }
-    ensures found { IfOk result (λ r. Spells (inner room) (apply (Evaluates pos) (expr_from pos (Name pos name.now))) tokens.now from r.1 (simple_of r.0)) }
-    ensures fails { IfErr result (λ f. Fails (inner room) (faults room) (apply (Evaluates pos) (expr_from pos (Name pos name.now))) tokens.now from f) }
+    ensures found { IfOk result (λ r. Spells (inner room) (named_expr pos name.now) tokens.now from r.1 (simple_of r.0)) }
+    ensures fails { IfErr result (λ f. Fails (inner room) (faults room) (named_expr pos name.now) tokens.now from f) }
     ensures moved { IfOk result (λ r. (from ≤ r.1) × (r.1 ≤ length tokens.now)) }
     ensures within { IfErr result (λ f. token_of f ≤ length tokens.now) }
 {
-    let name = name.copy(alloc)?;
+    let copy = name.copy(alloc)?;
     let primary = Expr {
         pos,
-        form: ExprForm::Name { name },
+        form: ExprForm::Name { name: copy },
     };
     let (value, to) = read_expr_from(alloc, tokens, pos, primary, from, room)?;
 

@@ -1,4 +1,5 @@
 use Rattle.std.proofs.Common.{rules, ◌≡◌, ◌+◌, Some, None, inl, inr, refl, ap, arith, [], ◌∷◌, ◌++◌}
+use Rattle.std.proofs.lemmas.Result.{err_from_is_err_and}
 use Rattle.uc_tree.specs.declared.token.TokenKind.TheVariants as token
 use Rattle.uc_tree.specs.declared.token.Sign.TheVariants as sign
 use Rattle.uc_tree.specs.Statements.{Stmt}
@@ -72,29 +73,33 @@ pub read_block_stmt-returns-clause-found : goal.read_block_stmt-returns-clause-f
 read_block_stmt-returns-clause-found t c = deeper Stmt block_stmt_name c.args.room c.args.tokens.now c.args.from _ _ (omega arith) c.in_ok-s.ensures.found
 
 pub read_accept-returns-in_err-clauses-clause-fails : goal.read_accept-returns-in_err-clauses-clause-fails
-read_accept-returns-in_err-clauses-clause-fails t c = let h : Fails (inner c.args.room) (faults c.args.room) (accept_form c.args.pos) c.args.tokens.now c.args.from c.in_err-clauses.field-0.0 = inl c.in_err-clauses.ensures.fails in search (rules, h)
+read_accept-returns-in_err-clauses-clause-fails t c = let h : Fails (inner c.args.room) (faults c.args.room) (accept_form c.args.pos) c.args.tokens.now c.args.from c.in_err-clauses.field-0.0 = inl c.in_err-clauses.ensures.fails in
+    let p = err_from_is_err_and c.from_residual.result c.from_residual.ensures.1 in rw (p.1, p.2) h
 
 pub read_clause-returns-in_err-members-clause-fails : goal.read_clause-returns-in_err-members-clause-fails
-read_clause-returns-in_err-members-clause-fails t c = let h : Fails (inner c.args.room) (faults c.args.room) (clause_form) c.args.tokens.now c.args.from c.in_err-members.field-0.0 = inr (inl (c.in_ok-guard.at, c.in_ok-guard.guard, c.in_ok-guard.ensures.found, inl c.in_err-members.ensures.fails)) in search (rules, h)
+read_clause-returns-in_err-members-clause-fails t c = let h : Fails (inner c.args.room) (faults c.args.room) (clause_form) c.args.tokens.now c.args.from c.in_err-members.field-0.0 = inr (inl (c.in_ok-guard.at, c.in_ok-guard.guard, c.in_ok-guard.ensures.found, inl c.in_err-members.ensures.fails)) in
+    let p = err_from_is_err_and c.from_residual-in_err-members.result c.from_residual-in_err-members.ensures.1 in rw (p.1, p.2) h
 
 pub read_clause-returns-in_err-body-clause-fails : goal.read_clause-returns-in_err-body-clause-fails
-read_clause-returns-in_err-body-clause-fails t c = let h : Fails (inner c.args.room) (faults c.args.room) (clause_form) c.args.tokens.now c.args.from c.in_err-body.field-0.0 = inr (inl (c.in_ok-guard.at, c.in_ok-guard.guard, c.in_ok-guard.ensures.found, inr (inl (c.in_ok-members.end, c.in_ok-members.members.items, c.in_ok-members.ensures.found, inl c.in_err-body.ensures.fails)))) in search (rules, h)
+read_clause-returns-in_err-body-clause-fails t c = let h : Fails (inner c.args.room) (faults c.args.room) (clause_form) c.args.tokens.now c.args.from c.in_err-body.field-0.0 = inr (inl (c.in_ok-guard.at, c.in_ok-guard.guard, c.in_ok-guard.ensures.found, inr (inl (c.in_ok-members.end, c.in_ok-members.members.items, c.in_ok-members.ensures.found, inl c.in_err-body.ensures.fails)))) in
+    let p = err_from_is_err_and c.from_residual-in_err-body.result c.from_residual-in_err-body.ensures.1 in rw (p.1, p.2) h
 
 pub read_clauses-returns-in_err-first-clause-fails : goal.read_clauses-returns-in_err-first-clause-fails
-read_clauses-returns-in_err-first-clause-fails t c = let h : Fails (inner c.args.room) (faults c.args.room) (clauses_form) c.args.tokens.now c.args.from c.in_err-first.field-0.0 = inl c.in_err-first.ensures.fails in search (rules, h)
+read_clauses-returns-in_err-first-clause-fails t c = let h : Fails (inner c.args.room) (faults c.args.room) (clauses_form) c.args.tokens.now c.args.from c.in_err-first.field-0.0 = inl c.in_err-first.ensures.fails in
+    let p = err_from_is_err_and c.from_residual.result c.from_residual.ensures.1 in rw (p.1, p.2) h
 
 pub read_clauses-returns-in_err-next-clause-fails : goal.read_clauses-returns-in_err-next-clause-fails
 read_clauses-returns-in_err-next-clause-fails t c = let b : Begins (λ o. is_or (word_of o)) c.args.tokens.now c.items.at = search rules in
-    let h : Fails (inner c.args.room) (faults c.args.room) (clauses_form) c.args.tokens.now c.args.from c.in_err-next.field-0.0 = inr (inl (c.items.at, c.items.all.items, c.items.invariant.run, b, c.in_err-next.ensures.fails)) in search (rules, h)
-
-pub read_for-read_for_test-requires : goal.read_for-read_for_test-requires
-read_for-read_for_test-requires t c = record { begins = c.in_ok-start.ensures.moved.1; few = c.requires.few }
+    let h : Fails (inner c.args.room) (faults c.args.room) (clauses_form) c.args.tokens.now c.args.from c.in_err-next.field-0.0 = inr (inl (c.items.at, c.items.all.items, c.items.invariant.run, b, c.in_err-next.ensures.fails)) in
+    let p = err_from_is_err_and c.from_residual-in_err-next.result c.from_residual-in_err-next.ensures.1 in rw (p.1, p.2) h
 
 pub read_for-returns-in_err-s-clause-fails : goal.read_for-returns-in_err-s-clause-fails
-read_for-returns-in_err-s-clause-fails t c = let h : Fails (inner c.args.room) (faults c.args.room) (for_rest c.args.pos) c.args.tokens.now c.args.from c.in_err-s.field-0.0 = behind_fails c.args.room c.args.tokens.now (token.Sign sign.OpenParen) (bind for_start_form (for_test c.args.pos)) c.args.from c.in_ok-at.at _ c.in_ok-at.ensures.found (inr (inl (c.in_ok-start.end, c.in_ok-start.start, c.in_ok-start.ensures.found, c.in_err-s.ensures.fails))) in search (rules, h)
+read_for-returns-in_err-s-clause-fails t c = let h : Fails (inner c.args.room) (faults c.args.room) (for_rest c.args.pos) c.args.tokens.now c.args.from c.in_err-s.field-0.0 = behind_fails c.args.room c.args.tokens.now (token.Sign sign.OpenParen) (bind for_start_form (for_test c.args.pos)) c.args.from c.in_ok-at.at _ c.in_ok-at.ensures.found (inr (inl (c.in_ok-start.end, c.in_ok-start.start, c.in_ok-start.ensures.found, c.in_err-s.ensures.fails))) in
+    let p = err_from_is_err_and c.from_residual-in_err-s.result c.from_residual-in_err-s.ensures.1 in rw (p.1, p.2) h
 
 pub read_for_test-returns-in_err-s-clause-fails : goal.read_for_test-returns-in_err-s-clause-fails
-read_for_test-returns-in_err-s-clause-fails t c = let h : Fails (inner c.args.room) (faults c.args.room) (for_test c.args.pos c.args.start) c.args.tokens.now c.args.from c.in_err-s.field-0.0 = inr (inl (c.in_ok-test.at, c.in_ok-test.test, c.in_ok-test.ensures.found, c.in_err-s.ensures.fails)) in search (rules, h)
+read_for_test-returns-in_err-s-clause-fails t c = let h : Fails (inner c.args.room) (faults c.args.room) (for_test c.args.pos c.args.start) c.args.tokens.now c.args.from c.in_err-s.field-0.0 = inr (inl (c.in_ok-test.at, c.in_ok-test.test, c.in_ok-test.ensures.found, c.in_err-s.ensures.fails)) in
+    let p = err_from_is_err_and c.from_residual-in_err-s.result c.from_residual-in_err-s.ensures.1 in rw (p.1, p.2) h
 
 pub read_handler-returns-in_err-caught-in-Some-clause-fails : goal.read_handler-returns-in_err-caught-in-Some-clause-fails
 read_handler-returns-in_err-caught-in-Some-clause-fails t c = let h : Fails (inner c.args.room) (faults c.args.room) (handler_form) c.args.tokens.now c.args.from c.in_err-caught-in-Some.field-0.0 = by_fails c.args.room c.args.tokens.now c.args.from (handler_by (pos_at c.args.tokens.now c.args.from)) (Some c.in-Some.kind) (handler_of (word_of (kind_at c.args.tokens.now c.args.from))) _ (search rules) (behind_fails c.args.room c.args.tokens.now (token.Sign sign.OpenParen) (bind caught_form (λ e. apply (handles (pos_at c.args.tokens.now c.args.from) c.in-Some.kind e) block_form)) (c.args.from + 1) c.in_ok-open-in-Some.open _ c.in_ok-open-in-Some.ensures.found (inl c.in_err-caught-in-Some.ensures.fails)) in search (rules, h)
@@ -106,4 +111,5 @@ pub read_handler-returns-in_ok-block-in-Some-clause-found : goal.read_handler-re
 read_handler-returns-in_ok-block-in-Some-clause-found t c = by_found c.args.room c.args.tokens.now c.args.from (handler_by (pos_at c.args.tokens.now c.args.from)) (Some c.in-Some.kind) (handler_of (word_of (kind_at c.args.tokens.now c.args.from))) _ _ (search rules) (behind_found c.args.room c.args.tokens.now (token.Sign sign.OpenParen) (bind caught_form (λ e. apply (handles (pos_at c.args.tokens.now c.args.from) c.in-Some.kind e) block_form)) (c.args.from + 1) c.in_ok-open-in-Some.open _ _ c.in_ok-open-in-Some.ensures.found (record { middle = c.in_ok-caught-in-Some.at; left = caught_of c.in_ok-caught-in-Some.caught; first = c.in_ok-caught-in-Some.ensures.found; second = record { inside = body_of c.in_ok-block-in-Some.block; spelled = c.in_ok-block-in-Some.ensures.found; value = ap (λ p. handles p c.in-Some.kind (caught_of c.in_ok-caught-in-Some.caught) (body_of c.in_ok-block-in-Some.block)) c.pos_at-pos.ensures } }))
 
 pub read_if-returns-in_err-other-clause-fails : goal.read_if-returns-in_err-other-clause-fails
-read_if-returns-in_err-other-clause-fails t c = let h : Fails (inner c.args.room) (faults c.args.room) (if_rest c.args.pos) c.args.tokens.now c.args.from c.in_err-other.field-0.0 = inr (inl (c.in_ok-test.at, c.in_ok-test.test, c.in_ok-test.ensures.found, inr (inl (c.in_ok-chosen.end, c.in_ok-chosen.chosen, c.in_ok-chosen.ensures.found, inl c.in_err-other.ensures.fails)))) in search (rules, h)
+read_if-returns-in_err-other-clause-fails t c = let h : Fails (inner c.args.room) (faults c.args.room) (if_rest c.args.pos) c.args.tokens.now c.args.from c.in_err-other.field-0.0 = inr (inl (c.in_ok-test.at, c.in_ok-test.test, c.in_ok-test.ensures.found, inr (inl (c.in_ok-chosen.end, c.in_ok-chosen.chosen, c.in_ok-chosen.ensures.found, inl c.in_err-other.ensures.fails)))) in
+    let p = err_from_is_err_and c.from_residual-in_err-other.result c.from_residual-in_err-other.ensures.1 in rw (p.1, p.2) h

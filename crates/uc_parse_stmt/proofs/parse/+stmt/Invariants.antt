@@ -52,7 +52,7 @@ abbrev pub decreases-read_do : goal.decreases-read_do
 decreases-read_do l = l.room * 24 + 8
 
 abbrev pub decreases-read_for : goal.decreases-read_for
-decreases-read_for l = l.room * 24 + 9
+decreases-read_for l = l.room * 24 + 21
 
 abbrev pub decreases-read_handler : goal.decreases-read_handler
 decreases-read_handler l = l.room * 24 + 10
