@@ -1,11 +1,10 @@
 -- What the answer of the public call says in plain words.
-use Rattle.std.proofs.Common.{◌≡◌, ℕ, ◌+◌, ◌*◌, ◌-◌, ◌<◌, ◌≤◌, List, refl, sym, subst, arith}
+use Rattle.std.proofs.Common.{◌≡◌, ℕ, ◌+◌, ◌*◌, ◌-◌, ◌≤◌, List, refl, subst, arith}
 use Rattle.uc_tree.specs.declared.token.Token.{Token}
 use Rattle.uc_tree.specs.Statements.{Stmt}
 use Rattle.uc_grammar.specs.declared.fault.ParseFault.{ParseFault}
 use Rattle.uc_grammar.specs.declared.fault.ParseFault.TheVariants.{Syntax, TooDeep, NoMemory}
 use Rattle.uc_grammar.specs.Names.{stmt_name}
-use Rattle.uc_grammar.specs.Spell.{Same}
 use Rattle.uc_grammar.specs.Form.{Spells, Fails, inside}
 use Rattle.uc_grammar.specs.Grammar.{inner, faults}
 use Rattle.uc_grammar.specs.Text.{IsStmt, StmtFails}

@@ -1,5 +1,5 @@
 -- Parts of statements that no tree has, as the code holds them.
-use Rattle.std.specs.Prelude.{Bool, true, false, Option, Some, None}
+use Rattle.std.specs.Prelude.{Bool, true, false}
 use Rattle.uc_tree.specs.Statements.{Stmts, stmts_of}
 use Rattle.uc_tree.specs.declared.pos.Pos.{Pos}
 use Rattle.uc_grammar.specs.Names.{Simple, Declares, Evaluates}

@@ -2,7 +2,7 @@ use Rattle.std.proofs.Common.{rules, ◌≡◌, Some, inl, inr, refl}
 use Rattle.std.proofs.lemmas.Result.{err_from_is_err_and}
 use Rattle.uc_tree.specs.declared.token.TokenKind.TheVariants as token
 use Rattle.uc_grammar.specs.Spell.{kind_at}
-use Rattle.uc_grammar.specs.Form.{Spells, Fails}
+use Rattle.uc_grammar.specs.Form.{Fails}
 use Rattle.uc_grammar.specs.Grammar.{maybe_expr, inner, faults}
 use Rattle.uc_parse_stmt.proofs.declare.read_maybe_expr.Goals as goal
 

@@ -1,9 +1,8 @@
-use Rattle.std.proofs.Common.{rules, IsTrue}
+use Rattle.std.proofs.Common.{rules}
 use Rattle.std.proofs.lemmas.Result.{err_from_is_err_and}
 use Rattle.uc_grammar.specs.Spell.{kind_at}
 use Rattle.uc_grammar.specs.Form.{Fails, Spells, look}
 use Rattle.uc_grammar.specs.Grammar.{named_at, inner, faults}
-use Rattle.uc_parse_stmt.specs.Forms.{is_name}
 use Rattle.uc_parse_stmt.specs.Parts.{simple_of}
 use Rattle.uc_parse_stmt.proofs.Other.{named_twice, named_once}
 use Rattle.uc_parse_stmt.proofs.declare.read_named.Goals as goal

@@ -1,9 +1,9 @@
-use Rattle.std.proofs.Common.{rules, ◌≡◌, refl, arith, [], ◌∷◌, ◌++◌}
+use Rattle.std.proofs.Common.{rules, ◌≡◌, arith, [], ◌∷◌, ◌++◌}
 use Rattle.uc_grammar.specs.Spell.{Begins, Run}
 use Rattle.uc_grammar.specs.Form.{Spells}
 use Rattle.uc_grammar.specs.Tables.{sign_of, is_less}
 use Rattle.uc_grammar.specs.Grammar.{event_form, inner}
-use Rattle.uc_grammar.proofs.Fit.{run_more, list_more}
+use Rattle.uc_grammar.proofs.Fit.{run_more}
 use Rattle.uc_parse_stmt.proofs.event.read_events.Goals as goal
 
 pub items-init : goal.items-init

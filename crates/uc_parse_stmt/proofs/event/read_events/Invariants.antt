@@ -1,4 +1,4 @@
-use Rattle.std.proofs.Common.{◌-◌, ◌<◌, ◌≤◌, length}
+use Rattle.std.proofs.Common.{◌-◌, ◌≤◌, length}
 use Rattle.uc_grammar.specs.Spell.{Run}
 use Rattle.uc_grammar.specs.Form.{Spells}
 use Rattle.uc_grammar.specs.Tables.{sign_of, is_less}

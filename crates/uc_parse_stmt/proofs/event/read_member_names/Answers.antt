@@ -1,9 +1,9 @@
-use Rattle.std.proofs.Common.{rules, ◌≡◌, refl, arith, [], ◌∷◌, ◌++◌}
+use Rattle.std.proofs.Common.{rules, ◌≡◌, arith, [], ◌∷◌, ◌++◌}
 use Rattle.uc_grammar.specs.Spell.{Begins, Run, ListRun}
 use Rattle.uc_grammar.specs.Form.{Spells, skip}
 use Rattle.uc_grammar.specs.Tables.{sign_of, is_comma}
 use Rattle.uc_grammar.specs.Grammar.{member_name_form, inner}
-use Rattle.uc_grammar.proofs.Fit.{run_more, list_more}
+use Rattle.uc_grammar.proofs.Fit.{list_more}
 use Rattle.uc_parse_stmt.proofs.event.read_member_names.Goals as goal
 
 pub items-init : goal.items-init

@@ -1,4 +1,4 @@
-use Rattle.std.proofs.Common.{rules, ◌≡◌, ◌+◌, Some, None, inl, inr, refl, ap, arith, [], ◌∷◌, ◌++◌}
+use Rattle.std.proofs.Common.{rules, ◌≡◌, ◌+◌, Some, inl, inr, ap, arith, [], ◌∷◌, ◌++◌}
 use Rattle.std.proofs.lemmas.Result.{err_from_is_err_and}
 use Rattle.uc_tree.specs.declared.token.TokenKind.TheVariants as token
 use Rattle.uc_tree.specs.declared.token.Sign.TheVariants as sign

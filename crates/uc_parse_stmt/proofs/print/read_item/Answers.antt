@@ -3,8 +3,8 @@ use Rattle.std.proofs.lemmas.Result.{err_from_is_err_and}
 use Rattle.uc_tree.specs.declared.token.TokenKind.TheVariants as token
 use Rattle.uc_tree.specs.declared.token.Word.TheVariants as word
 use Rattle.uc_grammar.specs.Spell.{kind_at}
-use Rattle.uc_grammar.specs.Form.{Fails, Spells, look, apply}
-use Rattle.uc_grammar.specs.Grammar.{out_at, sum_form, inner, faults}
+use Rattle.uc_grammar.specs.Form.{Fails}
+use Rattle.uc_grammar.specs.Grammar.{inner, faults}
 use Rattle.uc_parse_stmt.proofs.Other.{other_item}
 use Rattle.uc_parse_stmt.proofs.print.read_item.Goals as goal
 

@@ -1,9 +1,9 @@
-use Rattle.std.proofs.Common.{rules, ◌≡◌, refl, arith, [], ◌∷◌, ◌++◌}
+use Rattle.std.proofs.Common.{rules, ◌≡◌, arith, [], ◌∷◌, ◌++◌}
 use Rattle.uc_grammar.specs.Spell.{Begins, Run, ListRun}
 use Rattle.uc_grammar.specs.Form.{Spells}
 use Rattle.uc_grammar.specs.Tables.{sign_of, is_out}
 use Rattle.uc_grammar.specs.Grammar.{out_form, inner}
-use Rattle.uc_grammar.proofs.Fit.{run_more, list_more}
+use Rattle.uc_grammar.proofs.Fit.{list_more}
 use Rattle.uc_parse_stmt.proofs.print.read_items.Goals as goal
 
 pub items-init : goal.items-init

@@ -1,11 +1,11 @@
-use Rattle.std.proofs.Common.{rules, ◌≡◌, inl, refl, arith, [], ◌∷◌, ◌++◌}
+use Rattle.std.proofs.Common.{rules, ◌≡◌, inl, arith, [], ◌∷◌, ◌++◌}
 use Rattle.std.proofs.lemmas.Result.{err_from_is_err_and}
 use Rattle.uc_grammar.specs.Spell.{Begins, Run, ListRun}
 use Rattle.uc_grammar.specs.Form.{Spells, Fails, skip}
 use Rattle.uc_grammar.specs.Tables.{sign_of, is_in}
 use Rattle.uc_grammar.specs.Grammar.{postfix_form, inner, faults}
 use Rattle.uc_parse_stmt.specs.Forms.{places_form}
-use Rattle.uc_grammar.proofs.Fit.{run_more, list_more}
+use Rattle.uc_grammar.proofs.Fit.{list_more}
 use Rattle.uc_parse_stmt.proofs.print.read_places.Goals as goal
 
 pub items-init : goal.items-init
