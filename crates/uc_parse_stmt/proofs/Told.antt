@@ -11,7 +11,8 @@ use Rattle.uc_grammar.specs.Text.{IsStmt, StmtFails}
 use Rattle.uc_grammar.proofs.AllForms.{one_piece}
 use Rattle.uc_grammar.proofs.Told.{syntax_refuses, too_deep_refuses}
 use Rattle.uc_grammar.proofs.Far.{stmt_far}
-use Rattle.uc_parse_stmt.specs.Found.{OnlyStmt, NoneHere, NeverStmt}
+use Rattle.uc_grammar.proofs.First.{first_too_deep}
+use Rattle.uc_parse_stmt.specs.Found.{OnlyStmt, NoneHere, NeverStmt, FirstTooDeep}
 
 pub is_stmt : (room : ℕ) (ts : List Token) (from to : ℕ) (s : Stmt) → Spells (inner room) (inside stmt_name) ts from to s → IsStmt room ts from to s
 unfolding IsStmt
@@ -37,3 +38,7 @@ never_stmt room ts from f h p e = λ us levels same to v r. syntax_refuses (insi
 
 pub far_stmt : (room depth : ℕ) (ts : List Token) (from : ℕ) (f : ParseFault) → Fails (inner room) (faults room) (inside stmt_name) ts from f → (k : ℕ) → f ≡ TooDeep k → room + depth ≤ depth + 2 * (k - from) + 1
 far_stmt room depth ts from f h k e = omega (arith, stmt_far room ts from k (subst (λ g. Fails (inner room) (faults room) (inside stmt_name) ts from g) e h))
+
+pub first_stmt : (room : ℕ) (ts : List Token) (from : ℕ) (f : ParseFault) → Fails (inner room) (faults room) (inside stmt_name) ts from f → (k : ℕ) → f ≡ TooDeep k → FirstTooDeep room ts from k
+unfolding IsStmt
+first_stmt room ts from f h k e = λ more to v r. first_too_deep (inside stmt_name) room more ts from to k v (subst (λ g. Fails (inner room) (faults room) (inside stmt_name) ts from g) e h) r

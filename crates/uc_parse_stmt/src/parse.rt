@@ -11,7 +11,7 @@ ghost use Rattle.uc_grammar.specs.Grammar.{block_rest, block_form, maybe_stmt, i
 ghost use Rattle.std.specs.Prelude.{◌≢◌};
 ghost use Rattle.std.specs.Prelude.{◌-◌, ◌*◌, ℕ};
 ghost use Rattle.uc_grammar.specs.Text.{IsStmt, StmtFails};
-ghost use Rattle.uc_parse_stmt.specs.Found.{OnlyStmt, NeverStmt, NoneHere};
+ghost use Rattle.uc_parse_stmt.specs.Found.{OnlyStmt, NeverStmt, NoneHere, FirstTooDeep};
 ghost use Rattle.uc_parse_stmt.specs.Forms.{stmts_form, do_test, for_test, for_step};
 ghost use Rattle.uc_parse_stmt.specs.Parts.{body_of};
 ghost use Rattle.uc_tree.specs.Statements.{maybe_stmt_of, stmts_of};
@@ -55,6 +55,7 @@ pub fn parse_stmt(
     ensures none { IfErr result (λ f. (f ≡ ParseFault.NoMemory → ⊥) → NoneHere (NESTING - depth) tokens.now from) }
     ensures syntax { IfErr result (λ f. (p : ℕ) → f ≡ ParseFault.Syntax p → NeverStmt tokens.now p from) }
     ensures deep { IfErr result (λ f. (k : ℕ) → f ≡ ParseFault.TooDeep k → NESTING ≤ depth + 2 * (k - from) + 1) }
+    ensures first { IfErr result (λ f. (k : ℕ) → f ≡ ParseFault.TooDeep k → FirstTooDeep (NESTING - depth) tokens.now from k) }
     ensures within { IfErr result (λ f. token_of f ≤ length tokens.now) }
 {
     let (s, to) = read_inner_stmt(alloc, tokens, from, NESTING - depth)?;
