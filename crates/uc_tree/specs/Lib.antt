@@ -16,8 +16,10 @@ pub mod Numbering
 pub mod ProgramCodes
 pub mod ProgramViews
 pub mod Programs
+pub mod Resolve
 pub mod Rows
 pub mod Sizes
+pub mod Source
 pub mod Spelling
 pub mod StatementCodes
 pub mod StatementFalls

@@ -83,6 +83,14 @@ pub struct Ty {
     pub len: Option<u32>,
 }
 
+/// A name in scope: its type, and the first cell of its variable in the frame.
+#[derive(Drop)]
+pub struct Known {
+    pub name: Name,
+    pub ty: Ty,
+    pub cell: u32,
+}
+
 /// Where an expression stands: its class, 0 outside of classes; its routine, or the count of routines
 /// outside of them; the number of its scope in that routine, in textual order from 0, and 0 outside.
 #[derive(Clone, Copy, PartialEq, Eq, Debug)]
