@@ -1,6 +1,11 @@
 -- Executions, where they are at home, and what holds the values of a task: one family for the source and for code.
-use Rattle.std.specs.Prelude.{ℕ, ℤ, List, [], ◌∷◌, Option, Some, None, Bool, false, nat_eq, if◌then◌else◌}
+use Rattle.std.specs.Prelude.{ℕ, ℤ, List, [], ◌∷◌, ◌++◌, length, take, drop, replicate, Option, Some, None, Bool, false, nat_eq, if◌then◌else◌, slice_index_or, slice_set}
 use Rattle.uc_meaning.specs.declared.exec.Exec.{Exec}
+use Rattle.uc_meaning.specs.declared.exec.Home.{Home}
+use Rattle.uc_meaning.specs.declared.exec.Home.TheVariants.{Task, Object}
+use Rattle.uc_meaning.specs.declared.exec.Owner.{Owner}
+use Rattle.uc_meaning.specs.declared.exec.Owner.TheVariants.{Frame, Fields}
+use Rattle.uc_meaning.specs.declared.request.Piece.{Piece}
 
 -- an event that is pending, with its fields
 pub record Pending : Type 0 where
@@ -57,6 +62,8 @@ pub record Env (C V : Type 0) : Type 0 where
   pub depths : List (ℕ × ℕ)
   -- the objects that the task is inside, with what is at home there
   pub hand : List (ℕ × Members C V)
+  -- the items that are gathered to be printed at once, the first one first
+  pub gathered : Option (List Piece)
 
 -- a task with its hand
 pub record State (C V : Type 0) : Type 0 where
@@ -82,3 +89,107 @@ no_links = record {
   mutex_calls = 0;
   builds = 0;
 }
+
+-- another thing under a number that is there
+abbrev pub update : {X : Type 0} → ℕ → X → List (ℕ × X) → List (ℕ × X)
+update k x [] = []
+update k x (p ∷ ps) = if nat_eq p.0 k then (k, x) ∷ ps else p ∷ update k x ps
+
+abbrev pub home_eq : Home → Home → Bool
+home_eq (Task a) (Task b) = nat_eq a b
+home_eq (Task a) (Object b) = false
+home_eq (Object a) (Task b) = false
+home_eq (Object a) (Object b) = nat_eq a b
+
+abbrev pub exec_eq : Exec → Exec → Bool
+exec_eq n m = if home_eq n.home m.home then nat_eq n.serial m.serial else false
+
+-- frames: the newest stands first, and the oldest has depth 0
+
+abbrev pub at_depth : {X : Type 0} → List X → ℕ → Option X
+at_depth [] d = None
+at_depth (x ∷ xs) d = if nat_eq d (length xs) then Some x else at_depth xs d
+
+abbrev pub set_depth : {X : Type 0} → List X → ℕ → X → List X
+set_depth [] d y = []
+set_depth (x ∷ xs) d y = if nat_eq d (length xs) then y ∷ xs else x ∷ set_depth xs d y
+
+abbrev pub list_in : {X : Type 0} → Option (List X) → List X
+list_in None = []
+list_in (Some xs) = xs
+
+abbrev pub joined : {X : Type 0} → Option (Option X) → Option X
+joined None = None
+joined (Some x) = x
+
+-- a change to the frame of a depth
+abbrev pub frame_changed : {V : Type 0} → ℕ → (List V → List V) → List (List V) → List (List V)
+frame_changed d g fs = set_depth fs d (g (list_in (at_depth fs d)))
+
+-- another value in the place of one, by what stands there
+abbrev pub value_changed : {V : Type 0} → ℕ → (V → V) → V → List V → List V
+value_changed k g default vs = slice_set vs k (g (slice_index_or vs k default))
+
+-- n values from the k-th on, as far as there are any, are this one
+abbrev pub values_cleared : {V : Type 0} → ℕ → ℕ → V → List V → List V
+values_cleared k n v vs = take k vs ++ (replicate (length (take n (drop k vs))) v ++ drop n (drop k vs))
+
+module _ {C V : Type 0} where
+  abbrev pub values_in : Option (Members C V) → List V
+  values_in None = []
+  values_in (Some m) = m.values
+
+  abbrev pub frames_in : Option (Execution C V) → List (List V)
+  frames_in None = []
+  frames_in (Some x) = x.frames
+
+  -- what is at a home, if that is in hand
+  abbrev pub members_at : Home → Env C V → Option (Members C V)
+  members_at (Task t) e = if nat_eq t e.own then Some e.house else None
+  members_at (Object o) e = find o e.hand
+
+  abbrev pub set_members : Home → Members C V → Env C V → Env C V
+  set_members (Task t) m e = if nat_eq t e.own then record e { house = m } else e
+  set_members (Object o) m e = record e { hand = update o m e.hand }
+
+  abbrev pub slot_in : ℕ → Option (Members C V) → Option (Option (Execution C V))
+  slot_in k None = None
+  slot_in k (Some m) = find k m.parked
+
+  -- an execution in hand that does not run
+  abbrev pub parked_at : Exec → Env C V → Option (Execution C V)
+  parked_at n e = joined (slot_in n.serial (members_at n.home e))
+
+  -- a change to what is at a home, if that is in hand
+  abbrev pub change_in : Home → (Members C V → Members C V) → Option (Members C V) → Env C V → Env C V
+  change_in h g None e = e
+  change_in h g (Some m) e = set_members h (g m) e
+
+  abbrev pub change : Home → (Members C V → Members C V) → Env C V → Env C V
+  change h g e = change_in h g (members_at h e) e
+
+  abbrev pub frames_of : Exec → Env C V → List (List V)
+  frames_of n e = if exec_eq n e.exec then e.frames else frames_in (parked_at n e)
+
+  abbrev pub frames_by : ℕ → (List (List V) → List (List V)) → Option (Execution C V) → Members C V → Members C V
+  frames_by k g None m = m
+  frames_by k g (Some x) m = record m { parked = update k (Some (record x { frames = g x.frames })) m.parked }
+
+  abbrev pub frames_changed : ℕ → (List (List V) → List (List V)) → Members C V → Members C V
+  frames_changed k g m = frames_by k g (joined (find k m.parked)) m
+
+  abbrev pub with_frames : Exec → (List (List V) → List (List V)) → Env C V → Env C V
+  with_frames n g e = if exec_eq n e.exec then record e { frames = g e.frames } else change n.home (frames_changed n.serial g) e
+
+  -- what an owner holds
+  abbrev pub owned : Owner → Env C V → List V
+  owned (Frame n d) e = list_in (at_depth (frames_of n e) d)
+  owned (Fields o) e = values_in (find o e.hand)
+
+  abbrev pub value_at : Owner → ℕ → V → Env C V → V
+  value_at o k default e = slice_index_or (owned o e) k default
+
+  -- a change to what one owner holds: every write is one
+  abbrev pub with_owned : Owner → (List V → List V) → Env C V → Env C V
+  with_owned (Frame n d) g e = with_frames n (frame_changed d g) e
+  with_owned (Fields o) g e = change (Object o) (λ m. record m { values = g m.values }) e

@@ -4,9 +4,9 @@ pub mod Open
 pub mod Journal
 pub mod Queues
 pub mod Executions
-pub mod Source
 pub mod Quiet
 pub mod Rides
+pub mod Reading
 pub mod Acts
 pub mod Runs
 pub mod Texts

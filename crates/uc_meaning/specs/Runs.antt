@@ -8,11 +8,11 @@ use Rattle.uc_meaning.specs.declared.request.Answer.TheVariants as answer
 use Rattle.uc_meaning.specs.declared.request.Asked.{Asked}
 use Rattle.uc_meaning.specs.declared.request.Request.{Request}
 use Rattle.uc_meaning.specs.declared.request.Request.TheVariants as ask
-use Rattle.uc_meaning.specs.Journal.{Journal, begin, held, is_over}
+use Rattle.uc_meaning.specs.Journal.{Journal, begin, held, holds, is_over}
 use Rattle.uc_meaning.specs.Queues.{ready, running, used, open_processors}
 use Rattle.uc_meaning.specs.Executions.{find}
-use Rattle.uc_meaning.specs.Source.{Source, routine_of}
-use Rattle.uc_meaning.specs.Quiet.{State, Members, no_members, first_state}
+use Rattle.uc_tree.specs.Source.{Source, routine_of}
+use Rattle.uc_meaning.specs.Quiet.{Value, Number, State, Members, no_members, first_state}
 use Rattle.uc_meaning.specs.Rides.{Rides}
 use Rattle.uc_meaning.specs.Acts.{act, dispatch, lone_limit}
 
@@ -49,13 +49,28 @@ or_else None y = y
 or_else (Some x) y = x
 
 -- the answer of an act that does not block its task; none for a task that ends or is blocked
+abbrev pub value_answer : List Entry → Option Answer
+value_answer [] = None
+value_answer (e ∷ a) = Some (answer.Value e.b (holds 1 e.c))
+
+abbrev pub number_answer : List Entry → Option Answer
+number_answer [] = None
+number_answer (e ∷ a) = Some (answer.Number e.b)
+
 abbrev pub answer_of : Request → List Entry → Option Answer
 answer_of (ask.Print n items) a = Some answer.Go
+answer_of (ask.Read form) a = value_answer a
+answer_of ask.Fail a = number_answer a
 answer_of ask.Slice a = Some answer.Go
 answer_of _ a = None
 
--- the state that goes on with an answer
+abbrev pub with_operand : Value → State → State
+with_operand v s = record s { operands = v ∷ s.operands }
+
+-- the state that goes on with an answer: a number is its newest operand
 abbrev pub answered : Answer → State → State
+answered (answer.Number n) s = with_operand (Number n) s
+answered (answer.Value n failed) s = with_operand (Number n) s
 answered _ s = s
 
 -- a task that asked, with its answer if it has one
@@ -88,15 +103,15 @@ pub record AsksIn (opts : Options) (j : Journal) (w : World) (p t ticks : ℕ) (
   pub rides : Rides (drawn j w t) (left opts j t) s ticks asked
 
 -- the act that may follow a journal without an ending, and the world after it
-pub data May (opts : Options) (j : Journal) (w : World) : List Entry → World → Type 0 where
-  gives : (p t : ℕ) → Serves opts j p t → length j + 2 ≤ opts.entries → May opts j w (dispatch p t ∷ []) w
-  no_room : (p t : ℕ) → Serves opts j p t → opts.entries < length j + 2 → May opts j w (lone_limit ∷ []) w
-  acts : (p t ticks : ℕ) (s : State) (asked : Asked) → AsksIn opts j w p t ticks s asked → May opts j w (act opts j p t ticks asked) (world_after (act opts j p t ticks asked) w t s asked.request)
+pub data May (opts : Options) (input : List ℕ) (j : Journal) (w : World) : List Entry → World → Type 0 where
+  gives : (p t : ℕ) → Serves opts j p t → length j + 2 ≤ opts.entries → May opts input j w (dispatch p t ∷ []) w
+  no_room : (p t : ℕ) → Serves opts j p t → opts.entries < length j + 2 → May opts input j w (lone_limit ∷ []) w
+  acts : (p t ticks : ℕ) (s : State) (asked : Asked) → AsksIn opts j w p t ticks s asked → May opts input j w (act opts input j p t ticks asked) (world_after (act opts input j p t ticks asked) w t s asked.request)
 
 -- the journal is a prefix of a run of the program under these options, with these bytes as input, and leaves this world
 pub data Runs (source : Source) (input : List ℕ) (opts : Options) : Journal → World → Type 0 where
   begun : Runs source input opts (begin opts ∷ []) (first_world source)
-  more : {j : Journal} {w : World} {a : List Entry} {w' : World} → Runs source input opts j w → is_over j ≡ false → May opts j w a w' → Runs source input opts (j ++ a) w'
+  more : {j : Journal} {w : World} {a : List Entry} {w' : World} → Runs source input opts j w → is_over j ≡ false → May opts input j w a w' → Runs source input opts (j ++ a) w'
 
 -- a prefix of a run
 pub record IsPrefix (source : Source) (input : List ℕ) (opts : Options) (j : Journal) : Type 0 where

@@ -10,7 +10,7 @@ use Rattle.uc_tree.specs.declared.token.Sign.TheVariants as sign
 use Rattle.uc_meaning.specs.declared.sums.Shown.{Shown}
 use Rattle.uc_meaning.specs.declared.sums.Shown.TheVariants as shown
 use Rattle.uc_meaning.specs.declared.sums.TheConstants.{SUM_STATEMENTS, SUM_ITEMS, SUM_NUMBERS}
-use Rattle.uc_meaning.specs.Source.{Expr, Literal, Add, Item, Stmts, Nil, Then, Source, Print}
+use Rattle.uc_tree.specs.Source.{Expr, Literal, Plus, Operate, Item, Show, Stmts, Nil, Then, Source, Print}
 
 -- a printed item: `endl`, or a sum of its first number and more numbers
 pub data SumItem : Type 0 where
@@ -107,11 +107,11 @@ pub record IsBuilt (tokens : List Token) (p : SumProgram) : Type 0 where
 -- the numbers after a sum so far
 abbrev pub added : Expr → List ℕ → Expr
 added e [] = e
-added e (n ∷ ns) = added (Add e (Literal (pos n))) ns
+added e (n ∷ ns) = added (Operate Plus e (Literal (pos n))) ns
 
 abbrev pub item_of : SumItem → Item
-item_of Newline = record { form = 1; value = Literal (pos 10) }
-item_of (Sum n ms) = record { form = 0; value = added (Literal (pos n)) ms }
+item_of Newline = Show 1 (Literal (pos 10))
+item_of (Sum n ms) = Show 0 (added (Literal (pos n)) ms)
 
 abbrev pub statements_of : List SumStatement → Stmts
 statements_of [] = Nil
