@@ -1,7 +1,7 @@
 -- Looking a name up from the last one on.
 use Rattle.std.proofs.Common.{◌≡◌, ◌≢◌, ℕ, zero, suc, ◌-◌, ◌<◌, ◌≤◌, List, [], ◌∷◌, length, get_or, Some, None, refl, ap, sym, ◌∙◌, arith, eq-or-lt_of_le, inl, inr}
 use Rattle.std.specs.Prelude.{slice_get}
-use Rattle.uc_code.specs.declared.draft_parts.Known.{Known}
+use Rattle.uc_tree.specs.declared.kinds.Known.{Known}
 use Rattle.uc_code.specs.Drafts.{IsInnermost, IsUnknown}
 
 pub slice_get_at : {A : Type 0} (xs : List A) (i : ℕ) (d : A) → i < length xs → slice_get xs i ≡ Some (get_or xs i d)

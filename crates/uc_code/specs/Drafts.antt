@@ -5,7 +5,7 @@ use Rattle.uc_code.specs.declared.op.Op.{Op}
 use Rattle.uc_code.specs.declared.op.Op.TheVariants.{Jump}
 use Rattle.uc_code.specs.declared.draft_parts.Exit.{Exit}
 use Rattle.uc_code.specs.declared.draft_parts.Exit.TheVariants.{Break, Continue}
-use Rattle.uc_code.specs.declared.draft_parts.Known.{Known}
+use Rattle.uc_tree.specs.declared.kinds.Known.{Known}
 use Rattle.uc_code.specs.declared.draft_parts.OpenJump.{OpenJump}
 use Rattle.uc_code.specs.declared.rows.HandlerRow.{HandlerRow}
 use Rattle.uc_code.specs.declared.rows.Instruction.{Instruction}

@@ -2,7 +2,7 @@
 use Rattle.std.specs.Prelude.{ℕ, ℤ, pos, ◌+◌, List, [], ◌∷◌, ◌++◌, codes, decimal}
 use Rattle.std.specs.Fmt.{signed_decimal}
 use Rattle.uc_code.specs.declared.op.Op.{Op}
-use Rattle.uc_code.specs.declared.op.Op.TheVariants.{Push, Duplicate, Discard, Over, Local, This, Via, ViaThis, Field, Index, Load, Store, Keep, Add, Subtract, Multiply, Divide, Remainder, Negate, Not, Equal, NotEqual, Less, AtMost, Greater, AtLeast, ToChar, ToBool, Jump, IfZero, IfNonzero, Tick, Call, CallOn, Return, ReturnValue, NoReturn, Enter, Leave, Make, Made, Spawn, Gone, Coroutine, Live, UnwindCoroutine, Resume, Suspend, EndMain, Throw, Raise, Again, RaiseAt, RaiseAtCoroutine, Handled, Enable, Disable, Restore, Poll, Accept, Wait, Signal, SignalBlock, Empty, Front, Print, Text, Hold, Flush, Read, Fail, Yield, Cluster, ClusterEnd, Processor, ProcessorEnd, Migrate}
+use Rattle.uc_code.specs.declared.op.Op.TheVariants.{Push, Duplicate, Discard, Over, DiscardBelow, Local, This, Via, ViaThis, Field, Index, Load, Store, Keep, Clear, Add, Subtract, Multiply, Divide, Remainder, Negate, Not, Equal, NotEqual, Less, AtMost, Greater, AtLeast, ToChar, ToBool, Jump, IfZero, IfNonzero, Tick, Call, CallOn, Return, ReturnValue, NoReturn, Enter, Leave, Make, Made, Spawn, Gone, Coroutine, Live, UnwindCoroutine, Resume, Suspend, EndMain, Throw, Raise, Again, RaiseAt, RaiseAtCoroutine, Handled, Enable, Disable, Restore, Poll, Accept, Wait, Signal, SignalBlock, Empty, Front, Print, Text, Hold, Flush, Read, Fail, Yield, Cluster, ClusterEnd, Processor, ProcessorEnd, Migrate}
 use Rattle.uc_code.specs.declared.rows.HandlerRow.{HandlerRow}
 use Rattle.uc_code.specs.declared.rows.RowKind.{RowKind}
 use Rattle.uc_code.specs.declared.rows.RowKind.TheVariants.{Catch, CatchResume, CleanUp}
@@ -15,6 +15,7 @@ word_of (Push _) = codes "push"
 word_of Duplicate = codes "dup"
 word_of Discard = codes "drop"
 word_of Over = codes "over"
+word_of DiscardBelow = codes "nip"
 word_of (Local _) = codes "local"
 word_of (This _) = codes "this"
 word_of (Via _) = codes "via"
@@ -24,6 +25,7 @@ word_of (Index _ _) = codes "index"
 word_of Load = codes "load"
 word_of Store = codes "store"
 word_of Keep = codes "keep"
+word_of (Clear _ _) = codes "clear"
 word_of Add = codes "add"
 word_of Subtract = codes "sub"
 word_of Multiply = codes "mul"
@@ -95,6 +97,7 @@ operands_of (Push n) = n ∷ []
 operands_of Duplicate = []
 operands_of Discard = []
 operands_of Over = []
+operands_of DiscardBelow = []
 operands_of (Local n) = pos n ∷ []
 operands_of (This n) = pos n ∷ []
 operands_of (Via n) = pos n ∷ []
@@ -104,6 +107,7 @@ operands_of (Index length size) = pos length ∷ pos size ∷ []
 operands_of Load = []
 operands_of Store = []
 operands_of Keep = []
+operands_of (Clear cell cells) = pos cell ∷ pos cells ∷ []
 operands_of Add = []
 operands_of Subtract = []
 operands_of Multiply = []

@@ -5,13 +5,13 @@ ghost use Rattle.uc_tree.specs.declared.limits.TheConstants.{FRAME_CELLS, PROGRA
 ghost use Rattle.uc_code.specs.Drafts.{ops_with, patched, target_of, aimed, IsInnermost, IsUnknown};
 
 use crate::code::Code;
-use crate::draft_parts::{Exit, Known, OpenJump, Outside};
+use crate::draft_parts::{Exit, OpenJump, Outside};
 use crate::op::Op;
 use crate::rows::{HandlerRow, Instruction, RoutineCode};
 use crate::site::Site;
 use std::alloc::{AllocError, Global};
 use std::marker::Model;
-use uc_tree::kinds::{Place, Ty};
+use uc_tree::kinds::{Known, Place, Ty};
 use uc_tree::name::{Name, Text};
 
 /// Code while it is written. It holds at most `PROGRAM_OPS` ops. After want of memory it is spent.

@@ -1,16 +1,5 @@
 // Parts of a draft: names in scope, open jumps, marks of scopes.
 
-use uc_tree::kinds::Ty;
-use uc_tree::name::Name;
-
-/// A name in scope, its type and its first cell in the frame.
-#[derive(Drop)]
-pub struct Known {
-    pub name: Name,
-    pub ty: Ty,
-    pub cell: u32,
-}
-
 /// How a jump leaves the body of its loop.
 #[derive(Clone, Copy, PartialEq, Eq, Debug)]
 pub enum Exit {

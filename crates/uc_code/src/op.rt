@@ -18,6 +18,8 @@ pub enum Op {
     Discard,
     /// Pushes the operand under the top one once more.
     Over,
+    /// Drops the operand under the top one.
+    DiscardBelow,
     /// The place of this cell of the frame.
     Local(u32),
     /// The place of this cell of the object at hand.
@@ -36,6 +38,8 @@ pub enum Op {
     Store,
     /// Writes a value to a place and leaves the value.
     Keep,
+    /// So many cells of the frame, from this one on, are 0 again.
+    Clear { cell: u32, cells: u32 },
     /// The sum.
     Add,
     /// The difference.
@@ -176,6 +180,7 @@ impl Op {
             Op::Duplicate => b"dup",
             Op::Discard => b"drop",
             Op::Over => b"over",
+            Op::DiscardBelow => b"nip",
             Op::Local(_) => b"local",
             Op::This(_) => b"this",
             Op::Via(_) => b"via",
@@ -185,6 +190,7 @@ impl Op {
             Op::Load => b"load",
             Op::Store => b"store",
             Op::Keep => b"keep",
+            Op::Clear { .. } => b"clear",
             Op::Add => b"add",
             Op::Subtract => b"sub",
             Op::Multiply => b"mul",
@@ -261,6 +267,7 @@ impl Op {
             Op::Duplicate => Operands::Nothing,
             Op::Discard => Operands::Nothing,
             Op::Over => Operands::Nothing,
+            Op::DiscardBelow => Operands::Nothing,
             Op::Local(number) => Operands::One(number as u64),
             Op::This(number) => Operands::One(number as u64),
             Op::Via(number) => Operands::One(number as u64),
@@ -270,6 +277,7 @@ impl Op {
             Op::Load => Operands::Nothing,
             Op::Store => Operands::Nothing,
             Op::Keep => Operands::Nothing,
+            Op::Clear { cell, cells } => Operands::Two(cell as u64, cells as u64),
             Op::Add => Operands::Nothing,
             Op::Subtract => Operands::Nothing,
             Op::Multiply => Operands::Nothing,
