@@ -1,0 +1,4 @@
+pub mod Unseen
+pub mod Facts
+pub mod Hands
+pub mod Going

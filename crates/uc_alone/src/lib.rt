@@ -1,0 +1,4 @@
+// Runs the one task of a program and keeps its journal, until the kernel keeps journals.
+#![tactic(auto)]
+
+pub mod marks;
