@@ -1,4 +1,0 @@
-// To come.
-
-/// To come.
-pub fn nothing() {}
