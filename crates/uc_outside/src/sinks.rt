@@ -1,6 +1,6 @@
 // What a sink is, and how a whole text is put.
 ghost use Rattle.std.specs.Prelude.{◌≡◌, ◌+◌, ◌<◌, ◌≤◌, ℕ, length, take, IfOk, OnOk, OnErr, IsFalse};
-ghost use Rattle.uc_outside.specs.Taking.{SinkState, Took, TookNothing, TookPrefix, FailedAt};
+ghost use Rattle.uc_outside.specs.Taking.{SinkState, Took, TookNothing, TookPrefix, FailedAt, Stopped};
 
 use crate::faults::SinkFault;
 
@@ -40,7 +40,10 @@ pub fn put_all<S: Sink>(s: &mut S, text: &[u8]) -> Result<(), SinkFault>
     ensures few_puts { S.puts s.new ≤ S.puts s.old + length text.now }
     ensures never_falls { (S.state s.old).count ≤ (S.state s.new).count }
 
-    // No put is made after one that failed. A text that fits into the room does not fail.
+    // No put is made after one that failed.
+    ensures stops { Stopped (S.state s.old) (S.state s.new) }
+
+    // A text that fits into the room does not fail.
     ensures failed { OnErr result (FailedAt (S.state s.old) (S.state s.new) text.now) }
     ensures prefix { OnErr result (TookPrefix (S.state s.old) (S.state s.new) text.now) }
 {
