@@ -1,5 +1,5 @@
 -- What a read takes of the input.
-use Rattle.std.specs.Prelude.{ℕ, ℤ, zero, suc, pos, negsuc, ◌+◌, ◌-◌, ◌*◌, ◌==◌, List, [], ◌∷◌, length, take, drop, Bool, true, false, if◌then◌else◌, int_lt, neg_ℤ}
+use Rattle.std.specs.Prelude.{ℕ, ℤ, zero, suc, pos, ◌+◌, ◌-◌, ◌*◌, ◌==◌, List, [], ◌∷◌, take, drop, Bool, true, false, if◌then◌else◌, int_lt, neg_ℤ}
 use Rattle.uc_tree.specs.declared.limits.TheConstants.{INT_MIN, INT_MAX}
 use Rattle.uc_tree.specs.Bytes.{is_white, is_digit}
 use Rattle.std.specs.List.{prefix_len}

@@ -5,4 +5,5 @@ pub mod entry;
 pub mod exec;
 pub mod list;
 pub mod request;
+pub mod rule;
 pub mod sums;
