@@ -6,4 +6,5 @@ pub mod exec;
 pub mod got;
 pub mod list;
 pub mod request;
+pub mod rule;
 pub mod sums;
