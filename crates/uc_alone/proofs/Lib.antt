@@ -2,3 +2,4 @@ pub mod Unseen
 pub mod Facts
 pub mod Hands
 pub mod Going
+pub mod Acts
