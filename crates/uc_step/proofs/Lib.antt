@@ -2,3 +2,4 @@ pub mod Lists
 pub mod Changes
 pub mod Operands
 pub mod Settle
+pub mod Simulate
