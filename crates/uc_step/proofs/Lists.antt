@@ -61,7 +61,7 @@ module _ {V W : Type 0} (f : W → V) where
   value_map k g j d q vs =
       ap (λ v. slice_set (map f vs) k (g v)) (get_or-map f vs k d) ∙ (ap (slice_set (map f vs) k) (q (slice_index_or vs k d)) ∙ sym (map-set f vs k (j (slice_index_or vs k d))))
 
-  replicate_map : (n : ℕ) (v : W) → replicate n (f v) ≡ map f (replicate n v)
+  pub replicate_map : (n : ℕ) (v : W) → replicate n (f v) ≡ map f (replicate n v)
   replicate_map zero v = refl
   replicate_map (suc n) v = ap (λ l. f v ∷ l) (replicate_map n v)
 
