@@ -1,5 +1,8 @@
 // What a cell holds.
 
+ghost use Rattle.std.specs.Prelude.{◌≡◌};
+ghost use Rattle.uc_frames.specs.Machine.{cell_number, shifted, stored};
+
 use uc_meaning::exec::{Exec, Owner};
 
 /// A number; a place, by what holds it and the cells before it there; an execution; a mutex object; or nothing.
@@ -10,4 +13,43 @@ pub enum Cell {
     Running(Exec),
     Object(u32),
     Nothing,
+}
+
+/// A cell as a number; 0 where it holds none.
+pub fn number_in(cell: Cell) -> i64
+    ensures { result ≡ cell_number cell }
+{
+    match cell {
+        Cell::Number(n) => n,
+        Cell::Place(_, _) => 0,
+        Cell::Running(_) => 0,
+        Cell::Object(_) => 0,
+        Cell::Nothing => 0,
+    }
+}
+
+/// The place so many cells on, at most the last address; nothing where the cell is no place.
+pub fn further_on(by: u64, cell: Cell) -> Cell
+    ensures { result ≡ shifted by cell }
+{
+    match cell {
+        Cell::Number(_) => Cell::Nothing,
+        Cell::Place(owner, at) => Cell::Place(owner, at.saturating_add(by)),
+        Cell::Running(_) => Cell::Nothing,
+        Cell::Object(_) => Cell::Nothing,
+        Cell::Nothing => Cell::Nothing,
+    }
+}
+
+// What is in a cell once another is written to it: a binding stays.
+pub(crate) fn written_over(old: Cell, cell: Cell) -> Cell
+    ensures { result ≡ stored cell old }
+{
+    match old {
+        Cell::Number(_) => cell,
+        Cell::Place(_, _) => old,
+        Cell::Running(_) => old,
+        Cell::Object(_) => old,
+        Cell::Nothing => cell,
+    }
 }

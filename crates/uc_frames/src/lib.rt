@@ -2,3 +2,11 @@
 #![tactic(auto)]
 
 pub mod cell;
+mod frames;
+pub mod links;
+pub mod members;
+mod numbered;
+pub mod pieces;
+pub mod stack;
+pub mod task;
+pub mod work;

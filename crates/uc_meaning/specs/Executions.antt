@@ -1,24 +1,14 @@
 -- Executions, where they are at home, and what holds the values of a task: one family for the source and for code.
-use Rattle.std.specs.Prelude.{ℕ, ℤ, List, [], ◌∷◌, ◌++◌, length, take, drop, replicate, Option, Some, None, Bool, false, nat_eq, if◌then◌else◌, slice_index_or, slice_set}
+use Rattle.std.specs.Prelude.{ℕ, List, [], ◌∷◌, ◌++◌, length, take, drop, replicate, Option, Some, None, Bool, false, nat_eq, if◌then◌else◌, slice_index_or, slice_set}
 use Rattle.uc_meaning.specs.declared.exec.Exec.{Exec}
 use Rattle.uc_meaning.specs.declared.exec.Home.{Home}
 use Rattle.uc_meaning.specs.declared.exec.Home.TheVariants.{Task, Object}
 use Rattle.uc_meaning.specs.declared.exec.Owner.{Owner}
 use Rattle.uc_meaning.specs.declared.exec.Owner.TheVariants.{Frame, Fields}
+use Rattle.uc_meaning.specs.declared.exec.Stage.{Stage}
+use Rattle.uc_meaning.specs.declared.exec.Stage.TheVariants.{Started}
+use Rattle.uc_meaning.specs.declared.exec.Pending.{Pending}
 use Rattle.uc_meaning.specs.declared.request.Piece.{Piece}
-
--- an event that is pending, with its fields
-pub record Pending : Type 0 where
-  pub event : ℕ
-  pub x : ℤ
-  pub y : ℤ
-
--- how far a coroutine is: not yet live, live, its main started, its main ended or unwound
-pub data Stage : Type 0 where
-  Unborn : Stage
-  Live : Stage
-  Started : Stage
-  Ended : Stage
 
 -- what travels with an execution besides its stack
 pub record Links : Type 0 where

@@ -1,4 +1,4 @@
-// The names of executions, and of what holds cells.
+// The names of executions, and of what holds cells; how far a coroutine is, and pending events.
 
 /// Where an execution is at home: in a task, named by the task's own object, or in a mutex object.
 #[derive(Clone, Copy, PartialEq, Eq, Debug)]
@@ -19,4 +19,21 @@ pub struct Exec {
 pub enum Owner {
     Frame { exec: Exec, depth: u32 },
     Fields(u32),
+}
+
+/// How far a coroutine is: not yet live, live, its main started, its main ended or unwound.
+#[derive(Clone, Copy, PartialEq, Eq, Debug)]
+pub enum Stage {
+    Unborn,
+    Live,
+    Started,
+    Ended,
+}
+
+/// An event that is pending, with its fields.
+#[derive(Clone, Copy, PartialEq, Eq, Debug)]
+pub struct Pending {
+    pub event: u8,
+    pub x: i64,
+    pub y: i64,
 }

@@ -1,0 +1,86 @@
+// Cells in frames, the oldest frame first.
+
+ghost use Rattle.std.specs.Prelude.{◌≡◌, length, map, replicate, IfOk, slice_index_or, slice_get, slice_set, vec_len};
+ghost use Rattle.uc_meaning.specs.Executions.{list_in, values_cleared};
+ghost use Rattle.uc_frames.specs.Machine.{nought, cell_written};
+
+use crate::cell::{Cell, written_over};
+use std::alloc::{AllocError, Global};
+
+// So many cells that are 0.
+pub(crate) fn zeros(alloc: Global, cells: u32) -> Result<Vec<Cell>, AllocError>
+    ensures { IfOk result (λ cs. cs.items ≡ replicate cells nought) }
+{
+    let mut all = Vec::new(alloc);
+    all.resize(cells as usize, Cell::Number(0))?;
+    Ok(all)
+}
+
+// The cell at a place, 0 where there is none.
+pub(crate) fn get(cells: &Vec<Cell>, at: u64) -> Cell
+    ensures { result ≡ slice_index_or cells.now.items at nought }
+{
+    match cells.get(at as usize) {
+        None => Cell::Number(0),
+        Some(cell) => *cell,
+    }
+}
+
+// A cell is written at a place, if there is one.
+pub(crate) fn put(cells: &mut Vec<Cell>, at: u64, cell: Cell)
+    ensures { cells.new.items ≡ cell_written at cell cells.old.items }
+{
+    let at = at as usize;
+    if at < cells.len() {
+        cells[at] = written_over(cells[at], cell);
+    }
+}
+
+// The cells from a place on, so many of them as far as there are any, are 0.
+pub(crate) fn clear(cells: &mut Vec<Cell>, from: u32, count: u32)
+    ensures { cells.new.items ≡ values_cleared from count nought cells.old.items }
+{
+    let from = cells.len().min(from as usize);
+    let to = cells.len().min(from + count as usize);
+    zero(&mut cells[from..to]);
+}
+
+fn zero(cells: &mut [Cell])
+    ensures { cells.new ≡ replicate (length cells.old) nought }
+{
+    for i in 0..cells.len() {
+        cells[i] = Cell::Number(0);
+    }
+}
+
+pub(crate) fn get_in(frames: &Vec<Vec<Cell>>, frame: u32, at: u64) -> Cell
+    ensures { result
+        ≡ slice_index_or (list_in (slice_get (map (λ f. f.items) frames.now.items) frame)) at nought }
+{
+    match frames.get(frame as usize) {
+        None => Cell::Number(0),
+        Some(cells) => get(cells, at),
+    }
+}
+
+pub(crate) fn put_in(frames: &mut Vec<Vec<Cell>>, frame: u32, at: u64, cell: Cell)
+    ensures items { map (λ f. f.items) frames.new.items
+        ≡ slice_set (map (λ f. f.items) frames.old.items) frame (cell_written at cell (list_in (slice_get (map (λ f. f.items) frames.old.items) frame))) }
+    ensures len { vec_len frames.new ≡ vec_len frames.old }
+{
+    let frame = frame as usize;
+    if frame < frames.len() {
+        put(&mut frames[frame], at, cell);
+    }
+}
+
+pub(crate) fn clear_in(frames: &mut Vec<Vec<Cell>>, frame: u32, from: u32, count: u32)
+    ensures items { map (λ f. f.items) frames.new.items
+        ≡ slice_set (map (λ f. f.items) frames.old.items) frame (values_cleared from count nought (list_in (slice_get (map (λ f. f.items) frames.old.items) frame))) }
+    ensures len { vec_len frames.new ≡ vec_len frames.old }
+{
+    let frame = frame as usize;
+    if frame < frames.len() {
+        clear(&mut frames[frame], from, count);
+    }
+}

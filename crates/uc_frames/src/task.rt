@@ -1,0 +1,194 @@
+// A task without its hand.
+
+ghost use Rattle.std.specs.Prelude.{◌≡◌, ◌∷◌, [], length, nat_lt, nat_eq, None, Some, IfOk, OnOk, OnErr, MatchOption, slice_index_or};
+ghost use Rattle.std.specs.Option.{is_some, option_map};
+ghost use Rattle.uc_meaning.specs.Executions.{at_depth, list_in, frame_changed, frames_changed, values_cleared, members_at, change, exec_eq};
+ghost use Rattle.uc_meaning.specs.Quiet.{with_piece};
+ghost use Rattle.uc_frames.specs.Machine.{Control, nought, top, below, cell_written, first_machine};
+
+use crate::cell::Cell;
+use crate::members::Members;
+use crate::numbered::is_same;
+use crate::pieces::Pieces;
+use crate::stack::Stack;
+use std::alloc::{AllocError, Global};
+use std::marker::Model;
+use uc_code::rows::RoutineCode;
+use uc_meaning::exec::{Exec, Home};
+use uc_meaning::request::Piece;
+
+/// A task: the execution that runs, its own object, what is at home in it, its depth in each object, and the
+/// items that it gathers. Contracts see a machine with an empty hand.
+#[derive(Drop)]
+pub struct Task {
+    alloc: Global,
+    exec: Exec,
+    own: u32,
+    running: Stack,
+    house: Members,
+    depths: Vec<(u32, u32)>,
+    gathered: Option<Pieces>,
+}
+
+impl Model for Task {
+    ghost use Rattle.std.specs.Prelude.{[]};
+    ghost use Rattle.uc_frames.specs.Machine.{Machine};
+
+    ghost Value = { Machine };
+
+    ghost view = { λ t. record { control = t.running.control; operands = t.running.operands; env = record { frames = t.running.frames; links = t.running.links; exec = t.exec; own = t.own; house = t.house; depths = t.depths.items; hand = []; gathered = t.gathered } } };
+}
+
+impl Task {
+    /// The task whose object is `own`, as its main begins.
+    pub fn first(alloc: Global, main: RoutineCode, own: u32) -> Result<Task, AllocError>
+        ensures { IfOk result (λ t. t ≡ first_machine main own) }
+    {
+        let running = Stack::first(alloc, main)?;
+        let house = Members::first(alloc)?;
+        let mut depths = Vec::new(alloc);
+        depths.push((own, 1))?;
+        Ok(Task {
+            alloc,
+            exec: Exec {
+                home: Home::Task(own),
+                serial: 0,
+            },
+            own,
+            running,
+            house,
+            depths,
+            gathered: None,
+        })
+    }
+
+    pub(crate) fn exec(&self) -> Exec
+        ensures { result ≡ self.now.env.exec }
+    {
+        self.exec
+    }
+
+    pub(crate) fn next(&self) -> u32
+        ensures { result ≡ self.now.control.next }
+    {
+        self.running.next()
+    }
+
+    pub(crate) fn go(&mut self, to: u32)
+        ensures { self.new ≡ record self.old { control = record self.old.control { next = to } } }
+    {
+        self.running.go(to);
+    }
+
+    pub(crate) fn has_caller(&self) -> bool
+        ensures { result ≡ nat_lt 0 (length self.now.control.callers) }
+    {
+        self.running.has_caller()
+    }
+
+    pub(crate) fn push(&mut self, cell: Cell) -> Result<(), AllocError>
+        ensures ok { OnOk result (self.new ≡ record self.old { operands = cell ∷ self.old.operands }) }
+        ensures err { OnErr result (self.new ≡ self.old) }
+    {
+        self.running.push(cell)?;
+        Ok(())
+    }
+
+    pub(crate) fn pop(&mut self) -> Cell
+        ensures value { result ≡ top self.old.operands }
+        ensures after { self.new ≡ record self.old { operands = below self.old.operands } }
+    {
+        let cell = self.running.pop();
+        cell
+    }
+
+    pub(crate) fn top(&self) -> Cell
+        ensures { result ≡ top self.now.operands }
+    {
+        self.running.top()
+    }
+
+    pub(crate) fn depth(&self) -> u32
+        ensures { result ≡ length self.now.env.frames }
+    {
+        self.running.depth()
+    }
+
+    // Whether this is the execution that runs.
+    pub(crate) fn runs(&self, exec: Exec) -> bool
+        ensures { result ≡ exec_eq exec self.now.env.exec }
+    {
+        is_same(exec, self.exec)
+    }
+
+    // The cell at a place of a frame of the running execution.
+    pub(crate) fn read(&self, depth: u32, at: u64) -> Cell
+        ensures { result ≡ slice_index_or (list_in (at_depth self.now.env.frames depth)) at nought }
+    {
+        self.running.read(depth, at)
+    }
+
+    // A cell is written to a frame of the running execution.
+    pub(crate) fn write(&mut self, depth: u32, at: u64, cell: Cell)
+        ensures { self.new ≡ record self.old { env = record self.old.env { frames = frame_changed depth (cell_written at cell) self.old.env.frames } } }
+    {
+        self.running.write(depth, at, cell);
+    }
+
+    // So many cells of a frame of the running execution are 0.
+    pub(crate) fn clear(&mut self, depth: u32, cell: u32, cells: u32)
+        ensures { self.new ≡ record self.old { env = record self.old.env { frames = frame_changed depth (values_cleared cell cells nought) self.old.env.frames } } }
+    {
+        self.running.clear(depth, cell, cells);
+    }
+
+    // What is at home in the task of that object, if it is this one.
+    pub(crate) fn members(&self, task: u32) -> Option<&Members>
+        ensures { MatchOption result (members_at (Home.Task task) self.now.env ≡ None) (λ m. members_at (Home.Task task) self.now.env ≡ Some m.now) }
+    {
+        if task == self.own {
+            Some(&self.house)
+        } else {
+            None
+        }
+    }
+
+    // A cell is written to a frame of an execution that is at home in the task of that object, if it is this one.
+    pub(crate) fn write_parked(&mut self, task: u32, serial: u32, depth: u32, at: u64, cell: Cell)
+        ensures { self.new ≡ record self.old { env = change (Home.Task task) (frames_changed serial (frame_changed depth (cell_written at cell))) self.old.env } }
+    {
+        if task == self.own {
+            self.house.write(serial, depth, at, cell);
+        }
+    }
+
+    pub(crate) fn is_gathering(&self) -> bool
+        ensures { result ≡ is_some self.now.env.gathered }
+    {
+        self.gathered.is_some()
+    }
+
+    pub(crate) fn begin_gather(&mut self)
+        ensures { self.new ≡ record self.old { env = record self.old.env { gathered = Some [] } } }
+    {
+        self.gathered = Some(Pieces::new(self.alloc));
+    }
+
+    pub(crate) fn gather(&mut self, piece: Piece) -> Result<(), AllocError>
+        ensures ok { OnOk result (self.new ≡ record self.old { env = record self.old.env { gathered = option_map (with_piece piece) self.old.env.gathered } }) }
+        ensures err { OnErr result (self.new ≡ self.old) }
+    {
+        if let Some(pieces) = &mut self.gathered {
+            pieces.add(piece)?;
+        }
+        Ok(())
+    }
+
+    pub(crate) fn take_gathered(&mut self) -> Option<Pieces>
+        ensures value { result ≡ self.old.env.gathered }
+        ensures after { self.new ≡ record self.old { env = record self.old.env { gathered = None } } }
+    {
+        let pieces = self.gathered.take();
+        pieces
+    }
+}

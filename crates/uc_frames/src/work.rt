@@ -1,0 +1,271 @@
+// The cells of a task with its hand.
+
+ghost use Rattle.std.specs.Prelude.{◌≡◌, ◌∷◌, [], length, nat_lt, pos, None, Some, IfOk, OnOk, OnErr, MatchOption};
+ghost use Rattle.std.specs.Option.{is_some, option_map};
+ghost use Rattle.uc_meaning.specs.Executions.{frame_changed, frames_changed, members_at, parked_at, change, value_at, with_owned};
+ghost use Rattle.uc_meaning.specs.Quiet.{with_piece};
+ghost use Rattle.uc_frames.specs.Machine.{Control, nought, top, below, cell_written, shifted, loaded, written, this_frame, cleared, with_hand, first_machine};
+
+use crate::cell::Cell;
+use crate::members::Members;
+use crate::numbered::position;
+use crate::pieces::Pieces;
+use crate::stack::Stack;
+use crate::task::Task;
+use std::alloc::{AllocError, Global};
+use std::marker::Model;
+use uc_code::rows::RoutineCode;
+use uc_meaning::exec::{Exec, Home, Owner};
+use uc_meaning::list::List;
+use uc_meaning::request::Piece;
+
+/// The members of the objects that a task is inside, by the objects' numbers.
+pub type Hand = List<(u32, Members)>;
+
+/// A task with its hand. A call that wants memory in vain changes nothing.
+#[derive(Drop)]
+pub struct Work {
+    task: Task,
+    hand: Hand,
+}
+
+impl Model for Work {
+    ghost use Rattle.uc_frames.specs.Machine.{Machine, with_hand};
+
+    ghost Value = { Machine };
+
+    ghost view = { λ w. with_hand w.hand.items w.task };
+}
+
+impl Work {
+    /// The task whose object is `own`, as its main begins, inside its object alone.
+    pub fn first(alloc: Global, main: RoutineCode, own: u32) -> Result<Work, AllocError>
+        ensures { IfOk result (λ w. w ≡ first_machine main own) }
+    {
+        let task = Task::first(alloc, main, own)?;
+        Ok(Work {
+            task,
+            hand: List::new(alloc),
+        })
+    }
+
+    /// A task with this hand.
+    pub fn new(task: Task, hand: Hand) -> Work
+        ensures { result ≡ with_hand hand.items task }
+    {
+        Work { task, hand }
+    }
+
+    /// The task and its hand.
+    pub fn into_parts(self) -> (Task, Hand)
+        ensures { self ≡ with_hand result.1.items result.0 }
+    {
+        let Work { task, hand } = self;
+        (task, hand)
+    }
+
+    /// The execution that runs.
+    pub fn exec(&self) -> Exec
+        ensures { result ≡ self.now.env.exec }
+    {
+        self.task.exec()
+    }
+
+    /// The next op.
+    pub fn next(&self) -> u32
+        ensures { result ≡ self.now.control.next }
+    {
+        self.task.next()
+    }
+
+    /// Another op is next.
+    pub fn go(&mut self, to: u32)
+        ensures { self.new ≡ record self.old { control = record self.old.control { next = to } } }
+    {
+        self.task.go(to);
+    }
+
+    /// Whether there is a call to go back to.
+    pub fn has_caller(&self) -> bool
+        ensures { result ≡ nat_lt 0 (length self.now.control.callers) }
+    {
+        self.task.has_caller()
+    }
+
+    /// One more operand.
+    pub fn push(&mut self, cell: Cell) -> Result<(), AllocError>
+        ensures ok { OnOk result (self.new ≡ record self.old { operands = cell ∷ self.old.operands }) }
+        ensures err { OnErr result (self.new ≡ self.old) }
+    {
+        self.task.push(cell)?;
+        Ok(())
+    }
+
+    /// Takes the newest operand; nothing where there is none.
+    pub fn pop(&mut self) -> Cell
+        ensures value { result ≡ top self.old.operands }
+        ensures after { self.new ≡ record self.old { operands = below self.old.operands } }
+    {
+        let cell = self.task.pop();
+        cell
+    }
+
+    /// The newest operand; nothing where there is none.
+    pub fn top(&self) -> Cell
+        ensures { result ≡ top self.now.operands }
+    {
+        self.task.top()
+    }
+
+    /// The place so many cells into the running frame.
+    pub fn local(&self, cell: u32) -> Cell
+        ensures { result ≡ shifted cell (Cell.Place (this_frame self.now.env) 0) }
+    {
+        let frame = Owner::Frame {
+            exec: self.task.exec(),
+            depth: self.task.depth().saturating_sub(1),
+        };
+        Cell::Place(frame, u64::from(cell))
+    }
+
+    /// What the place in a cell holds; 0 where the cell is no place, or nothing in hand is there.
+    pub fn read(&self, place: Cell) -> Cell
+        ensures { result ≡ loaded place self.now.env }
+    {
+        match place {
+            Cell::Place(owner, at) => self.read_at(owner, at),
+            _ => Cell::Number(0),
+        }
+    }
+
+    fn read_at(&self, owner: Owner, at: u64) -> Cell
+        ensures { result ≡ value_at owner at nought self.now.env }
+    {
+        match owner {
+            Owner::Frame { exec, depth } => {
+                if self.task.runs(exec) {
+                    return self.task.read(depth, at);
+                }
+                match self.parked(exec) {
+                    None => Cell::Number(0),
+                    Some(stack) => stack.read(depth, at),
+                }
+            }
+            Owner::Fields(object) => match self.members(Home::Object(object)) {
+                None => Cell::Number(0),
+                Some(members) => members.field(at),
+            },
+        }
+    }
+
+    // What is at a home, if that is in hand.
+    fn members(&self, home: Home) -> Option<&Members>
+        ensures { MatchOption result (members_at home self.now.env ≡ None) (λ m. members_at home self.now.env ≡ Some m.now) }
+    {
+        match home {
+            Home::Task(task) => self.task.members(task),
+            Home::Object(object) => match position(&self.hand, object) {
+                None => None,
+                Some(i) => Some(&self.hand.get(i).1),
+            },
+        }
+    }
+
+    // An execution in hand that does not run.
+    fn parked(&self, exec: Exec) -> Option<&Stack>
+        ensures { MatchOption result (parked_at exec self.now.env ≡ None) (λ s. parked_at exec self.now.env ≡ Some s.now) }
+    {
+        match self.members(exec.home) {
+            None => None,
+            Some(members) => members.parked(exec.serial),
+        }
+    }
+
+    /// Writes a cell to a place. Where the place holds a binding, or the cell is no place, or nothing in hand is
+    /// there, all stays as it is.
+    pub fn write(&mut self, place: Cell, cell: Cell)
+        ensures { self.new ≡ record self.old { env = written place cell self.old.env } }
+    {
+        if let Cell::Place(owner, at) = place {
+            self.write_at(owner, at, cell);
+        }
+    }
+
+    fn write_at(&mut self, owner: Owner, at: u64, cell: Cell)
+        ensures { self.new ≡ record self.old { env = with_owned owner (cell_written at cell) self.old.env } }
+    {
+        match owner {
+            Owner::Frame { exec, depth } => {
+                if self.task.runs(exec) {
+                    self.task.write(depth, at, cell);
+                } else {
+                    self.write_parked(exec, depth, at, cell);
+                }
+            }
+            Owner::Fields(object) => self.write_field(object, at, cell),
+        }
+    }
+
+    fn write_parked(&mut self, exec: Exec, depth: u32, at: u64, cell: Cell)
+        ensures { self.new ≡ record self.old { env = change exec.home (frames_changed exec.serial (frame_changed depth (cell_written at cell))) self.old.env } }
+    {
+        match exec.home {
+            Home::Task(task) => self.task.write_parked(task, exec.serial, depth, at, cell),
+            Home::Object(object) => {
+                if let Some(i) = position(&self.hand, object) {
+                    let slot = self.hand.get_mut(i);
+                    slot.1.write(exec.serial, depth, at, cell);
+                }
+            }
+        }
+    }
+
+    fn write_field(&mut self, object: u32, at: u64, cell: Cell)
+        ensures { self.new ≡ record self.old { env = with_owned (Owner.Fields object) (cell_written at cell) self.old.env } }
+    {
+        if let Some(i) = position(&self.hand, object) {
+            let slot = self.hand.get_mut(i);
+            slot.1.write_field(at, cell);
+        }
+    }
+
+    /// So many cells of the running frame are 0, from this one on.
+    pub fn clear(&mut self, cell: u32, cells: u32)
+        ensures { self.new ≡ record self.old { env = cleared cell cells self.old.env } }
+    {
+        let depth = self.task.depth().saturating_sub(1);
+        self.task.clear(depth, cell, cells);
+    }
+
+    /// Whether items are gathered to be printed at once.
+    pub fn is_gathering(&self) -> bool
+        ensures { result ≡ is_some self.now.env.gathered }
+    {
+        self.task.is_gathering()
+    }
+
+    /// From now on items are gathered.
+    pub fn begin_gather(&mut self)
+        ensures { self.new ≡ record self.old { env = record self.old.env { gathered = Some [] } } }
+    {
+        self.task.begin_gather();
+    }
+
+    /// One more item in front of those that are gathered, if there is room.
+    pub fn gather(&mut self, piece: Piece) -> Result<(), AllocError>
+        ensures ok { OnOk result (self.new ≡ record self.old { env = record self.old.env { gathered = option_map (with_piece piece) self.old.env.gathered } }) }
+        ensures err { OnErr result (self.new ≡ self.old) }
+    {
+        self.task.gather(piece)?;
+        Ok(())
+    }
+
+    /// The gathered items; from now on none are gathered.
+    pub fn take_gathered(&mut self) -> Option<Pieces>
+        ensures value { result ≡ self.old.env.gathered }
+        ensures after { self.new ≡ record self.old { env = record self.old.env { gathered = None } } }
+    {
+        let pieces = self.task.take_gathered();
+        pieces
+    }
+}
