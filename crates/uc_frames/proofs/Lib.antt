@@ -1,0 +1,4 @@
+pub mod Depths
+pub mod Positions
+pub mod Slots
+pub mod Zeros

@@ -1,0 +1,8 @@
+use Rattle.uc_meaning.specs.Executions.{frame_changed}
+use Rattle.uc_frames.specs.Machine.{cell_written}
+use Rattle.uc_frames.proofs.Slots.{frames_none}
+use Rattle.uc_frames.proofs.members.Members.write.Goals as goal
+
+pub returns-in_default-1₀ : goal.returns-in_default-1₀
+returns-in_default-1₀ c =
+    rw (← c.self.view_is) (frames_none c.args.serial _ c.in-Some.i c.in-Some.ensures c.get_mut-slot.result.now c.get_mut-slot.ensures.value (frame_changed c.args.depth (cell_written c.args.at c.args.cell)) c.in_default-1₀.is)
