@@ -49,7 +49,7 @@ module _ {A B V W : Type 0} (R : A → B → Type 0) (f : W → V) where
   set_members_both : (h : Home) (a : Members A V) (b : Members B W) (m : Env A V) (s : Env B W) → Me a b → En m s → En (set_members h a m) (set_members h b s)
   set_members_both (Task t) a b m s g e =
       env_by (nat_eq t m.own) (nat_eq t s.own) _ _ _ _ (ap (nat_eq t) e.own)
-          (record { frames = e.frames; links = e.links; exec = e.exec; own = e.own; house = g; depths = e.depths; hand = e.hand; gathered = e.gathered }) e
+      (record { frames = e.frames; links = e.links; exec = e.exec; own = e.own; house = g; depths = e.depths; hand = e.hand; gathered = e.gathered }) e
   set_members_both (Object o) a b m s g e =
       record { frames = e.frames; links = e.links; exec = e.exec; own = e.own; house = e.house; depths = e.depths; hand = update_both Me o a b m.hand s.hand g e.hand; gathered = e.gathered }
 
@@ -88,8 +88,8 @@ module _ {A B V W : Type 0} (R : A → B → Type 0) (f : W → V) where
   with_frames_both : (n : Exec) (g : List (List V) → List (List V)) (j : List (List W) → List (List W)) (m : Env A V) (s : Env B W) → ((fs : List (List W)) → g (map (map f) fs) ≡ map (map f) (j fs)) → En m s → En (with_frames n g m) (with_frames n j s)
   with_frames_both n g j m s q e =
       env_by (exec_eq n m.exec) (exec_eq n s.exec) _ _ _ _ (ap (exec_eq n) e.exec)
-          (record { frames = ap g e.frames ∙ q s.frames; links = e.links; exec = e.exec; own = e.own; house = e.house; depths = e.depths; hand = e.hand; gathered = e.gathered })
-          (change_both n.home (frames_changed n.serial g) (frames_changed n.serial j) m s (λ c d h. frames_by_both n.serial g j _ _ q (joined_both Ex _ _ (find_both (Alike Ex) n.serial c.parked d.parked h.parked)) c d h) e)
+      (record { frames = ap g e.frames ∙ q s.frames; links = e.links; exec = e.exec; own = e.own; house = e.house; depths = e.depths; hand = e.hand; gathered = e.gathered })
+      (change_both n.home (frames_changed n.serial g) (frames_changed n.serial j) m s (λ c d h. frames_by_both n.serial g j _ _ q (joined_both Ex _ _ (find_both (Alike Ex) n.serial c.parked d.parked h.parked)) c d h) e)
 
   values_both : (x : Option (Members A V)) (y : Option (Members B W)) → Alike Me x y → values_in x ≡ map f (values_in y)
   values_both None None h = refl

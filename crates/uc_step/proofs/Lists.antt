@@ -70,4 +70,4 @@ module _ {V W : Type 0} (f : W → V) where
   cleared_map k n v vs =
       let r = replicate (length (take n (drop k vs))) v in
       rw (drop-map f k vs, take-map f k vs, take-map f n (drop k vs), drop-map f n (drop k vs), length-map (take n (drop k vs)) f, replicate_map (length (take n (drop k vs))) v)
-          (rw (map-append f (take k vs) (r ++ drop n (drop k vs)), map-append f r (drop n (drop k vs))) refl)
+      (rw (map-append f (take k vs) (r ++ drop n (drop k vs)), map-append f r (drop n (drop k vs))) refl)

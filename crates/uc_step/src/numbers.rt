@@ -10,6 +10,7 @@ ghost use Rattle.uc_step.specs.Given.{outcome_of};
 use uc_tree::limits::{INT_MAX, INT_MIN};
 
 const OVERFLOW: u8 = 1;
+
 const DIVIDE_BY_ZERO: u8 = 2;
 
 // A number, or a fault by its number.
