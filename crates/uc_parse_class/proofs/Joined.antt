@@ -15,3 +15,11 @@ pub access_joined : (a : Access) (ps qs : List ClassPart) → access_after a (ps
 access_joined a [] qs = refl
 access_joined a (AccessPart b ∷ ps) qs = access_joined b ps qs
 access_joined a (MemberPart pos m w ∷ ps) qs = access_joined a ps qs
+
+-- One part more.
+module _ (a b c : Access) (ps : List ClassPart) (p : ClassPart) (last : b ≡ access_after a ps) where
+  pub one_more_listed : (ms ns : List Member) → ms ≡ members_of a ps → ns ≡ ms ++ members_of b (p ∷ []) → ns ≡ members_of a (ps ++ p ∷ [])
+  one_more_listed ms ns listed joined = let e = members_joined a ps (p ∷ []) in cc
+
+  pub one_more_last : c ≡ access_after b (p ∷ []) → c ≡ access_after a (ps ++ p ∷ [])
+  one_more_last after = let e = access_joined a ps (p ∷ []) in cc

@@ -9,7 +9,7 @@ use Rattle.uc_grammar.specs.Grammar.{members_of, inner, faults}
 use Rattle.uc_grammar.proofs.Fit.{run_more}
 use Rattle.uc_parse_class.specs.Forms.{class_members_form}
 use Rattle.uc_parse_class.specs.Parts.{part_of, access_after}
-use Rattle.uc_parse_class.proofs.Joined.{members_joined, access_joined}
+use Rattle.uc_parse_class.proofs.Joined.{one_more_listed, one_more_last}
 use Rattle.uc_parse_class.proofs.class.read_members.Goals as goal
 
 pub parts-init : goal.parts-init
@@ -19,13 +19,11 @@ parts-init c = record { parts = []; run = refl; listed = search rules; last = re
 pub parts-preserved : goal.parts-preserved
 parts-preserved c = let b : Begins in_braces c.args.tokens.now c.parts.at = search rules in
     let more = run_more in_braces (Spells (inner c.args.room) (inside part_name)) c.args.tokens.now c.args.from c.parts.at c.in_ok-part.end c.parts.invariant.parts (part_of c.in_ok-part.part) c.parts.invariant.run b c.in_ok-part.ensures.found in
-    let members = members_joined access.Private c.parts.invariant.parts (part_of c.in_ok-part.part ∷ []) in
-    let last = access_joined access.Private c.parts.invariant.parts (part_of c.in_ok-part.part ∷ []) in
     record {
       parts = c.parts.invariant.parts ++ part_of c.in_ok-part.part ∷ [];
       run = more;
-      listed = cc;
-      last = cc;
+      listed = one_more_listed access.Private c.parts.access c.parts.access c.parts.invariant.parts (part_of c.in_ok-part.part) c.parts.invariant.last c.parts.members.items _ c.parts.invariant.listed c.in_ok-access.ensures.joined;
+      last = one_more_last access.Private c.parts.access _ c.parts.invariant.parts (part_of c.in_ok-part.part) c.parts.invariant.last c.in_ok-access.ensures.last;
       after = omega (arith, c.in_ok-part.ensures.moved.0);
       within = c.in_ok-part.ensures.moved.1;
     }

@@ -1,8 +1,8 @@
-use Rattle.std.proofs.Common.{rules, ◌≡◌, Some, inl}
+use Rattle.std.proofs.Common.{rules, ◌≡◌, ◌+◌, Some, inl, subst}
 use Rattle.std.proofs.lemmas.Result.{err_from_is_err_and}
 use Rattle.uc_grammar.specs.Spell.{kind_at}
-use Rattle.uc_grammar.specs.Form.{Fails}
-use Rattle.uc_grammar.specs.Grammar.{inner, faults}
+use Rattle.uc_grammar.specs.Form.{Spells, Fails}
+use Rattle.uc_grammar.specs.Grammar.{outer_maker, inner, faults}
 use Rattle.uc_parse_class.specs.Forms.{named_item}
 use Rattle.uc_tree.specs.declared.token.TokenKind.TheVariants as token
 use Rattle.uc_tree.specs.declared.token.Sign.TheVariants as sign
@@ -15,4 +15,5 @@ returns-in_err-item-clause-fails c = let there : kind_at c.args.tokens.now c.arg
 
 pub returns-then-is_sign-clause-found : goal.returns-then-is_sign-clause-found
 returns-then-is_sign-clause-found c = let there : kind_at c.args.tokens.now c.args.from ≡ Some (token.Sign sign.Scope) = search rules in
-    inl (there, c.in_ok-item.ensures.found)
+    let item = subst (λ n. Spells (inner c.args.room) (outer_maker c.args.pos n) c.args.tokens.now (c.args.from + 1) c.in_ok-item.to c.in_ok-item.item) c.in_ok-class.ensures c.in_ok-item.ensures.found in
+    inl (there, item)
