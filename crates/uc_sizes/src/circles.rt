@@ -64,11 +64,94 @@ fn mark_all(rows: &[Row], flags: &mut [bool], to: usize) -> bool
     changed
 }
 
-fn has_itself(alloc: Global, rows: &[Row], class: usize) -> Result<bool, AllocError>
+// For each class the classes that have a field of it.
+fn holders_of(alloc: Global, rows: &[Row]) -> Result<Vec<Vec<usize>>, AllocError> {
+    let mut holders = Vec::new(alloc);
+    for _row in rows {
+        holders.push(Vec::new(alloc))?;
+    }
+    for (place, row) in rows.iter().enumerate() {
+        for held in &row.held {
+            if let Some(object) = held.object {
+                if let Some(list) = holders.get_mut(object.class) {
+                    list.push(place)?;
+                }
+            }
+        }
+    }
+    Ok(holders)
+}
+
+// Marks these classes where they lead to `to`, and adds those that it marked to the work.
+fn mark_holders(
+    rows: &[Row],
+    flags: &mut [bool],
+    to: usize,
+    holders: &[usize],
+    work: &mut Vec<usize>,
+) -> Result<(), AllocError>
+    requires full { length flags.old ≡ length rows.now }
+    requires led { Led rows.now to flags.old }
+    ensures led { Led rows.now to flags.new }
+{
+    for holder in holders {
+        if *holder < rows.len() && mark(rows, flags, to, *holder) {
+            work.push(*holder)?;
+        }
+    }
+    Ok(())
+}
+
+// Marks what leads to `to`, from each class to its holders. It saves sweeps: what it leaves, they find.
+fn spread(
+    alloc: Global,
+    rows: &[Row],
+    holders: &[Vec<usize>],
+    flags: &mut [bool],
+    to: usize,
+) -> Result<(), AllocError>
+    requires full { length flags.old ≡ length rows.now }
+    requires led { Led rows.now to flags.old }
+    ensures led { Led rows.now to flags.new }
+{
+    let mut work = Vec::new(alloc);
+    work.push(to)?;
+    for _step in 0..rows.len() {
+        let class = match work.pop() {
+            Some(class) => class,
+            None => return Ok(()),
+        };
+        if let Some(list) = holders.get(class) {
+            mark_holders(rows, flags, to, list, &mut work)?;
+        }
+    }
+    Ok(())
+}
+
+fn first_flags(
+    alloc: Global,
+    rows: &[Row],
+    holders: &[Vec<usize>],
+    to: usize,
+) -> Result<Vec<bool>, AllocError>
+    ensures full { IfOk result (λ v. length v.items ≡ length rows.now) }
+    ensures led { IfOk result (λ v. Led rows.now to v.items) }
+{
+    let mut flags = vec![in alloc; false; rows.len()]?;
+    spread(alloc, rows, holders, &mut flags, to)?;
+    Ok(flags)
+}
+
+fn has_itself(
+    alloc: Global,
+    rows: &[Row],
+    holders: &[Vec<usize>],
+    class: usize,
+) -> Result<bool, AllocError>
     requires { class < length rows.now }
     ensures { IfOk result (λ b. b ≡ has_itself rows.now class) }
 {
-    let mut flags = vec![in alloc; false; rows.len()]?;
+    let mut flags = first_flags(alloc, rows, holders, class)?;
     'sweeps: loop {
         if !mark_all(rows, &mut flags, class) {
             break;
@@ -83,9 +166,10 @@ pub fn circles_of(alloc: Global, rows: &[Row]) -> Result<Vec<bool>, AllocError>
     ensures full { IfOk result (λ v. length v.items ≡ length rows.now) }
     ensures flags { IfOk result (λ v. AreCircles rows.now v.items (length rows.now)) }
 {
+    let holders = holders_of(alloc, rows)?;
     let mut circles = Vec::new(alloc);
     for class in 0..rows.len() {
-        circles.push(has_itself(alloc, rows, class)?)?;
+        circles.push(has_itself(alloc, rows, &holders, class)?)?;
     }
     Ok(circles)
 }

@@ -8,5 +8,6 @@ pub mod frames;
 pub mod held;
 pub mod lists;
 pub mod named;
+mod order;
 pub mod sizes;
 pub mod tables;

@@ -8,6 +8,7 @@ ghost use Rattle.uc_sizes.specs.Reckoned.{Under, Sound, Reckoned, known};
 
 use crate::eval::{converted_to, value_of};
 use crate::named::Named;
+use crate::order::order_of;
 use std::alloc::{AllocError, Global};
 use uc_tree::program::Constant;
 
@@ -63,11 +64,35 @@ fn sweep(constants: &[&Constant], values: &mut [Option<i64>]) -> bool
     changed
 }
 
+// Reckons the constants in this order.
+fn reckon_all(constants: &[&Constant], order: &[usize], values: &mut [Option<i64>])
+    requires full { length values.old ≡ length constants.now }
+    requires sound { Sound (map (λ c. c.now) constants.now) values.old }
+    ensures { Sound (map (λ c. c.now) constants.now) values.new }
+{
+    for place in order {
+        if *place < constants.len() {
+            let _ = reckon(constants, values, *place);
+        }
+    }
+}
+
+// A table in which each constant was reckoned once, behind those that it names. What is left, the sweeps find.
+fn first_values(alloc: Global, constants: &[&Constant]) -> Result<Vec<Option<i64>>, AllocError>
+    ensures full { IfOk result (λ v. length v.items ≡ length constants.now) }
+    ensures sound { IfOk result (λ v. Sound (map (λ c. c.now) constants.now) v.items) }
+{
+    let order = order_of(alloc, constants)?;
+    let mut values = vec![in alloc; None; constants.len()]?;
+    reckon_all(constants, &order, &mut values);
+    Ok(values)
+}
+
 /// The values of these constants, none for one that has none. A table of them gives each name its value.
 pub fn values_of(alloc: Global, constants: &[&Constant]) -> Result<Vec<Option<i64>>, AllocError>
     ensures { IfOk result (λ v. value_at (map (λ c. c.now) constants.now) v.items ≡ value_of_name (map (λ c. c.now) constants.now)) }
 {
-    let mut values = vec![in alloc; None; constants.len()]?;
+    let mut values = first_values(alloc, constants)?;
     'sweeps: loop {
         if !sweep(constants, &mut values) {
             break;
