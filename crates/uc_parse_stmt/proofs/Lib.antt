@@ -1,3 +1,5 @@
 pub mod Told
 pub mod Other
 pub mod Steps
+pub mod Leads
+pub mod Heads
