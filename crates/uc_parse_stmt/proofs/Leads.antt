@@ -8,7 +8,7 @@ use Rattle.uc_grammar.specs.declared.fault.ParseFault.TheVariants.{NoMemory}
 use Rattle.uc_grammar.specs.Spell.{kind_at, pos_at, ListRun, Listed, Begins}
 use Rattle.uc_grammar.specs.Form.{Form, empty, skip, expect, here, bind, apply, listed, Spells, Fails}
 use Rattle.uc_grammar.specs.Grammar.{inner, faults}
-use Rattle.uc_parse_stmt.specs.Leads.{Leads}
+use Rattle.uc_parse_stmt.specs.Leads.{Leads, LeadsOpen}
 
 module _ {A : Type 0} (room : ℕ) (ts : List Token) where
   -- nothing read yet
@@ -142,3 +142,6 @@ module _ {A B C : Type 0} (room : ℕ) (ts : List Token) (g : Form A) (k : A →
 -- A form that depends on what a token is.
 pub by_leads : {A X : Type 0} (room : ℕ) (ts : List Token) (k : X → Form A) (x y : X) (from at : ℕ) (g : Form A) → x ≡ y → Leads room ts (k x) from g at → Leads room ts (k y) from g at
 by_leads room ts k x y from at g e l = subst (λ z. Leads room ts (k z) from g at) e l
+
+pub open_read : {A : Type 0} (yet : Bool) (room : ℕ) (ts : List Token) (g : Form A) (from : ℕ) (k : Form A) (at : ℕ) → Leads room ts g from k at → LeadsOpen yet room ts g from k at
+open_read yet room ts g from k at l = record { spells = λ to v r. l.spells to v r; fails = λ o f e. l.fails f e }

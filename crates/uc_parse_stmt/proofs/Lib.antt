@@ -3,3 +3,4 @@ pub mod Other
 pub mod Steps
 pub mod Leads
 pub mod Heads
+pub mod Below

@@ -1,0 +1,78 @@
+use Rattle.std.proofs.Common.{rules, ◌≡◌, ◌+◌, inl, inr, arith, [], ◌∷◌, ◌++◌}
+use Rattle.std.proofs.lemmas.Result.{err_from_is_err_and}
+use Rattle.uc_tree.specs.Statements.{Stmt, stmts_of}
+use Rattle.uc_grammar.specs.Names.{stmt_name, block_stmt_name}
+use Rattle.uc_grammar.specs.Spell.{Begins, Run, ListRun}
+use Rattle.uc_grammar.specs.Form.{Spells, Fails, skip, inside}
+use Rattle.uc_grammar.specs.Tables.{word_of, is_or, is_handler, in_braces}
+use Rattle.uc_grammar.specs.Grammar.{handler_form, clause_form, stmt_form, inner, faults}
+use Rattle.uc_grammar.proofs.Fit.{run_more, list_more}
+use Rattle.uc_parse_stmt.specs.Forms.{stmts_form}
+use Rattle.uc_parse_stmt.specs.Heads.{handler_rest, handlers_rest, clause_rest, clauses_rest, try_form, try_handlers}
+use Rattle.uc_parse_stmt.specs.Leads.{Leads}
+use Rattle.uc_parse_stmt.proofs.Below.{below_found, below_fails, none_below}
+use Rattle.uc_parse_stmt.proofs.parse.+stmt.Goals as goal
+
+pub read_inner_stmt-returns-in_err-below-clause-fails : goal.read_inner_stmt-returns-in_err-below-clause-fails
+read_inner_stmt-returns-in_err-below-clause-fails t c = let h : Fails (inner c.args.room) (faults c.args.room) (inside stmt_name) c.args.tokens.now c.args.from c.in_err-below.field-0.0 = none_below Stmt stmt_name _ _ _ _ c.in_err-below.ensures.none_left in
+    let p = err_from_is_err_and c.from_residual.result c.from_residual.ensures.1 in rw (p.1, p.2) h
+
+pub read_inner_stmt-returns-in_err-s-clause-fails : goal.read_inner_stmt-returns-in_err-s-clause-fails
+read_inner_stmt-returns-in_err-s-clause-fails t c = let h : Fails (inner c.args.room) (faults c.args.room) (inside stmt_name) c.args.tokens.now c.args.from c.in_err-s.field-0.0 = below_fails Stmt stmt_name _ _ _ _ _ c.in_ok-below.ensures.one_less c.in_err-s.ensures.fails in
+    let p = err_from_is_err_and c.from_residual-in_err-s.result c.from_residual-in_err-s.ensures.1 in rw (p.1, p.2) h
+
+pub read_inner_stmt-returns-clause-found : goal.read_inner_stmt-returns-clause-found
+read_inner_stmt-returns-clause-found t c = below_found Stmt stmt_name _ _ _ _ _ _ c.in_ok-below.ensures.one_less c.in_ok-s.ensures.found
+
+pub read_stmt-returns-in_err-s-clause-fails : goal.read_stmt-returns-in_err-s-clause-fails
+read_stmt-returns-in_err-s-clause-fails t c = let h : Fails (inner c.args.room) (faults c.args.room) stmt_form c.args.tokens.now c.args.from c.in_err-s.field-0.0 = c.in_ok-pos.ensures.leads.fails c.in_err-s.ensures.open _ c.in_err-s.ensures.fails in
+    let p = err_from_is_err_and c.from_residual-in_err-s.result c.from_residual-in_err-s.ensures.1 in rw (p.1, p.2) h
+
+pub read_stmt-returns-clause-found : goal.read_stmt-returns-clause-found
+read_stmt-returns-clause-found t c = c.in_ok-pos.ensures.leads.spells _ _ c.in_ok-s.ensures.found
+
+pub read_stmts-items-init : goal.read_stmts-items-init
+unfolding Run
+read_stmts-items-init t c = search rules
+
+pub read_stmts-items-preserved : goal.read_stmts-items-preserved
+read_stmts-items-preserved t c = let b : Begins in_braces c.args.tokens.now c.items.at = search rules in
+    record {
+      run = let more = run_more in_braces (Spells (inner c.args.room) (inside block_stmt_name)) c.args.tokens.now c.args.from c.items.at c.in_ok-next.end c.items.all.items c.in_ok-next.next c.items.invariant.run b (below_found Stmt block_stmt_name _ _ _ _ _ _ c.in_ok-below.ensures.one_less c.in_ok-next.ensures.found) in
+          let e : c.push.new.self.items ≡ c.items.all.items ++ c.in_ok-next.next ∷ [] = search rules in rw e more;
+      after = omega (arith, c.in_ok-next.ensures.moved.0);
+      within = c.in_ok-next.ensures.moved.1;
+    }
+
+pub read_stmts-returns-in_err-below-clause-fails : goal.read_stmts-returns-in_err-below-clause-fails
+read_stmts-returns-in_err-below-clause-fails t c = let b : Begins in_braces c.args.tokens.now c.items.at = search rules in
+    let h : Fails (inner c.args.room) (faults c.args.room) stmts_form c.args.tokens.now c.args.from c.in_err-below.field-0.0 = inl (c.items.at, c.items.all.items, c.items.invariant.run, b, none_below Stmt block_stmt_name _ _ _ _ c.in_err-below.ensures.none_left) in
+    let p = err_from_is_err_and c.from_residual.result c.from_residual.ensures.1 in rw (p.1, p.2) h
+
+pub read_stmts-returns-in_err-next-clause-fails : goal.read_stmts-returns-in_err-next-clause-fails
+read_stmts-returns-in_err-next-clause-fails t c = let b : Begins in_braces c.args.tokens.now c.items.at = search rules in
+    let h : Fails (inner c.args.room) (faults c.args.room) stmts_form c.args.tokens.now c.args.from c.in_err-next.field-0.0 = inl (c.items.at, c.items.all.items, c.items.invariant.run, b, below_fails Stmt block_stmt_name _ _ _ _ _ c.in_ok-below.ensures.one_less c.in_err-next.ensures.fails) in
+    let p = err_from_is_err_and c.from_residual-in_err-next.result c.from_residual-in_err-next.ensures.1 in rw (p.1, p.2) h
+
+pub read_handlers-items-init : goal.read_handlers-items-init
+unfolding Run ListRun
+read_handlers-items-init t c = search rules
+
+pub read_handlers-items-preserved : goal.read_handlers-items-preserved
+read_handlers-items-preserved t c = let b : Begins (λ o. is_handler (word_of o)) c.args.tokens.now c.items.at = search rules in
+    record {
+      run = let more = list_more (Spells (inner c.args.room) (handler_rest c.args.first)) (λ o. is_handler (word_of o)) (Spells (inner c.args.room) handler_form) c.args.tokens.now c.args.from c.items.at c.in_ok-body-in-items.end c.items.all.items c.handler_of-in-items.result c.items.invariant.run b (c.in_ok-head.ensures.leads.spells _ _ (record { inside = stmts_of c.in_ok-body-in-items.body.items; spelled = c.in_ok-body-in-items.ensures.found; value = c.handler_of-in-items.ensures })) in
+          let e : c.push-in-items.new.self.items ≡ c.items.all.items ++ c.handler_of-in-items.result ∷ [] = search rules in rw e more;
+      after = omega (arith, c.in_ok-head.ensures.moved.0, c.in_ok-body-in-items.ensures.moved.0);
+      within = c.in_ok-body-in-items.ensures.moved.1;
+    }
+
+pub read_handlers-returns-in_err-head-clause-fails : goal.read_handlers-returns-in_err-head-clause-fails
+read_handlers-returns-in_err-head-clause-fails t c = let b : Begins (λ o. is_handler (word_of o)) c.args.tokens.now c.items.at = search rules in
+    let h : Fails (inner c.args.room) (faults c.args.room) (handlers_rest c.args.first) c.args.tokens.now c.args.from c.in_err-head.field-0.0 = inr (inl (c.items.at, c.items.all.items, c.items.invariant.run, b, c.in_err-head.ensures.fails)) in
+    let p = err_from_is_err_and c.from_residual-in_err-head.result c.from_residual-in_err-head.ensures.1 in rw (p.1, p.2) h
+
+pub read_handlers-returns-in_err-body-in-items-clause-fails : goal.read_handlers-returns-in_err-body-in-items-clause-fails
+read_handlers-returns-in_err-body-in-items-clause-fails t c = let b : Begins (λ o. is_handler (word_of o)) c.args.tokens.now c.items.at = search rules in
+    let h : Fails (inner c.args.room) (faults c.args.room) (handlers_rest c.args.first) c.args.tokens.now c.args.from c.in_err-body-in-items.field-0.0 = inr (inl (c.items.at, c.items.all.items, c.items.invariant.run, b, c.in_ok-head.ensures.leads.fails _ (inl c.in_err-body-in-items.ensures.fails))) in
+    let p = err_from_is_err_and c.from_residual-in_err-body-in-items.result c.from_residual-in_err-body-in-items.ensures.1 in rw (p.1, p.2) h
