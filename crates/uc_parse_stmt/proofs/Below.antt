@@ -13,14 +13,14 @@ module _ (A : Type 0) (x : Name A) (below room : ℕ) (ts : List Token) (from : 
   same_found to v r = r
 
   pub below_found : (to : ℕ) (v : A) → below + 1 ≡ room → Spells (inner below) (form_of x) ts from to v → inner room A x ts from to v
-  below_found to v e r = subst (λ n. inner n A x ts from to v) (sym (add-one) ∙ e) (same_found to v r)
+  below_found to v e r = subst (λ n. inner n A x ts from to v) (sym (add-one below) ∙ e) (same_found to v r)
 
   same_fails : (f : ParseFault) → Fails (inner below) (faults below) (form_of x) ts from f → faults (suc below) A x ts from f
   unfolding faults
   same_fails f h = h
 
   pub below_fails : (f : ParseFault) → below + 1 ≡ room → Fails (inner below) (faults below) (form_of x) ts from f → faults room A x ts from f
-  below_fails f e h = subst (λ n. faults n A x ts from f) (sym (add-one) ∙ e) (same_fails f h)
+  below_fails f e h = subst (λ n. faults n A x ts from f) (sym (add-one below) ∙ e) (same_fails f h)
 
 module _ (A : Type 0) (x : Name A) (room : ℕ) (ts : List Token) (from : ℕ) where
   none_here : faults 0 A x ts from (TooDeep from)

@@ -94,7 +94,7 @@ module _ {A : Type 0} (room : ℕ) (ts : List Token) (g k : Form A) (p : Option 
 
   list_failed : (f : ParseFault) → Fails (inner room) (faults room) (listed k p h) ts at f → Fails (inner room) (faults room) (listed g p h) ts from f
   list_failed f (inl e) = inl (l.fails f e)
-  list_failed f (inr (inl e)) = inr (inl (e.0, e.1, run_read _ _ e.2, e.3))
+  list_failed f (inr (inl e)) = inr (inl (e.0, e.1, run_read _ _ e.2, e.3, e.4))
   list_failed f (inr (inr e)) = inr (inr e)
 
   pub in_listed : Leads room ts (listed g p h) from (listed k p h) at

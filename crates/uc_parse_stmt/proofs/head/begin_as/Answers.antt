@@ -1,4 +1,4 @@
-use Rattle.std.proofs.Common.{rules, inl}
+use Rattle.std.proofs.Common.{inl}
 use Rattle.std.proofs.lemmas.Result.{err_from_is_err_and}
 use Rattle.uc_grammar.specs.Form.{Fails, skip}
 use Rattle.uc_grammar.specs.Grammar.{accept_form, if_rest, while_rest, for_rest, enable_rest, disable_rest, try_rest, stmt_by, inner, faults}
@@ -10,7 +10,8 @@ use Rattle.uc_parse_stmt.proofs.Leads.{skip_read, open_read}
 use Rattle.uc_parse_stmt.proofs.head.begin_as.Goals as goal
 
 pub returns-in_err-first-in-Accept-clause-fails : goal.returns-in_err-first-in-Accept-clause-fails
-returns-in_err-first-in-Accept-clause-fails c = let h : Fails (inner c.args.room) (faults c.args.room) (accept_form c.args.pos) c.args.tokens.now c.args.from c.in_err-first-in-Accept.field-0.0 = inl (inl c.in_err-first-in-Accept.ensures.fails) in search (rules, h)
+returns-in_err-first-in-Accept-clause-fails c = let h : Fails (inner c.args.room) (faults c.args.room) (accept_form c.args.pos) c.args.tokens.now c.args.from c.in_err-first-in-Accept.field-0.0 = inl (inl c.in_err-first-in-Accept.ensures.fails) in
+    let p = err_from_is_err_and c.from_residual-in_err-first-in-Accept.result c.from_residual-in_err-first-in-Accept.ensures.1 in rw (c.in-Accept.is, p.1, p.2) h
 
 pub returns-in_ok-head-in-If-clause-leads : goal.returns-in_ok-head-in-If-clause-leads
 returns-in_ok-head-in-If-clause-leads c = rw c.in-If.is (open_read _ _ _ _ _ _ _ (skip_read _ _ _ _ _ _ c.in_ok-head-in-If.ensures.leads))

@@ -1,15 +1,16 @@
-use Rattle.std.proofs.Common.{rules, ◌≡◌, ◌+◌, inl, inr, arith, [], ◌∷◌, ◌++◌}
+use Rattle.std.proofs.Common.{rules, ◌≡◌, ◌+◌, inl, inr, refl, subst, arith, [], ◌∷◌, ◌++◌}
 use Rattle.std.proofs.lemmas.Result.{err_from_is_err_and}
 use Rattle.uc_tree.specs.Statements.{Stmt, stmts_of}
 use Rattle.uc_grammar.specs.Names.{stmt_name, block_stmt_name}
 use Rattle.uc_grammar.specs.Spell.{Begins, Run, ListRun}
 use Rattle.uc_grammar.specs.Form.{Spells, Fails, skip, inside}
 use Rattle.uc_grammar.specs.Tables.{word_of, is_or, is_handler, in_braces}
-use Rattle.uc_grammar.specs.Grammar.{handler_form, clause_form, stmt_form, inner, faults}
+use Rattle.uc_grammar.specs.Grammar.{handler_form, handlers_form, clause_form, stmt_form, inner, faults}
 use Rattle.uc_grammar.proofs.Fit.{run_more, list_more}
 use Rattle.uc_parse_stmt.specs.Forms.{stmts_form}
-use Rattle.uc_parse_stmt.specs.Heads.{handler_rest, handlers_rest, clause_rest, clauses_rest, try_form, try_handlers}
+use Rattle.uc_parse_stmt.specs.Heads.{accept_rest, handler_rest, handlers_rest, clause_rest, clauses_rest, else_of, head_form, maybe_by, try_form}
 use Rattle.uc_parse_stmt.specs.Leads.{Leads}
+use Rattle.uc_parse_stmt.proofs.Leads.{in_listed}
 use Rattle.uc_parse_stmt.proofs.Below.{below_found, below_fails, none_below}
 use Rattle.uc_parse_stmt.proofs.parse.+stmt.Goals as goal
 
@@ -61,10 +62,10 @@ read_handlers-items-init t c = search rules
 pub read_handlers-items-preserved : goal.read_handlers-items-preserved
 read_handlers-items-preserved t c = let b : Begins (λ o. is_handler (word_of o)) c.args.tokens.now c.items.at = search rules in
     record {
-      run = let more = list_more (Spells (inner c.args.room) (handler_rest c.args.first)) (λ o. is_handler (word_of o)) (Spells (inner c.args.room) handler_form) c.args.tokens.now c.args.from c.items.at c.in_ok-body-in-items.end c.items.all.items c.handler_of-in-items.result c.items.invariant.run b (c.in_ok-head.ensures.leads.spells _ _ (record { inside = stmts_of c.in_ok-body-in-items.body.items; spelled = c.in_ok-body-in-items.ensures.found; value = c.handler_of-in-items.ensures })) in
+      run = let more = list_more (Spells (inner c.args.room) (handler_rest c.args.first)) (λ o. is_handler (word_of o)) (Spells (inner c.args.room) handler_form) c.args.tokens.now c.args.from c.items.at c.in_ok-body-2.end c.items.all.items c.handler_of-in-items.result c.items.invariant.run b (c.in_ok-head.ensures.leads.spells _ _ (record { inside = stmts_of c.in_ok-body-2.body.items; spelled = c.in_ok-body-2.ensures.found; value = c.handler_of-in-items.ensures })) in
           let e : c.push-in-items.new.self.items ≡ c.items.all.items ++ c.handler_of-in-items.result ∷ [] = search rules in rw e more;
-      after = omega (arith, c.in_ok-head.ensures.moved.0, c.in_ok-body-in-items.ensures.moved.0);
-      within = c.in_ok-body-in-items.ensures.moved.1;
+      after = omega (arith, c.in_ok-head.ensures.moved.0, c.in_ok-body-2.ensures.moved.0);
+      within = c.in_ok-body-2.ensures.moved.1;
     }
 
 pub read_handlers-returns-in_err-head-clause-fails : goal.read_handlers-returns-in_err-head-clause-fails
@@ -72,7 +73,46 @@ read_handlers-returns-in_err-head-clause-fails t c = let b : Begins (λ o. is_ha
     let h : Fails (inner c.args.room) (faults c.args.room) (handlers_rest c.args.first) c.args.tokens.now c.args.from c.in_err-head.field-0.0 = inr (inl (c.items.at, c.items.all.items, c.items.invariant.run, b, c.in_err-head.ensures.fails)) in
     let p = err_from_is_err_and c.from_residual-in_err-head.result c.from_residual-in_err-head.ensures.1 in rw (p.1, p.2) h
 
-pub read_handlers-returns-in_err-body-in-items-clause-fails : goal.read_handlers-returns-in_err-body-in-items-clause-fails
-read_handlers-returns-in_err-body-in-items-clause-fails t c = let b : Begins (λ o. is_handler (word_of o)) c.args.tokens.now c.items.at = search rules in
-    let h : Fails (inner c.args.room) (faults c.args.room) (handlers_rest c.args.first) c.args.tokens.now c.args.from c.in_err-body-in-items.field-0.0 = inr (inl (c.items.at, c.items.all.items, c.items.invariant.run, b, c.in_ok-head.ensures.leads.fails _ (inl c.in_err-body-in-items.ensures.fails))) in
-    let p = err_from_is_err_and c.from_residual-in_err-body-in-items.result c.from_residual-in_err-body-in-items.ensures.1 in rw (p.1, p.2) h
+pub read_handlers-returns-in_err-body-2-clause-fails : goal.read_handlers-returns-in_err-body-2-clause-fails
+read_handlers-returns-in_err-body-2-clause-fails t c = let b : Begins (λ o. is_handler (word_of o)) c.args.tokens.now c.items.at = search rules in
+    let h : Fails (inner c.args.room) (faults c.args.room) (handlers_rest c.args.first) c.args.tokens.now c.args.from c.in_err-body-2.field-0.0 = inr (inl (c.items.at, c.items.all.items, c.items.invariant.run, b, c.in_ok-head.ensures.leads.fails _ (inl c.in_err-body-2.ensures.fails))) in
+    let p = err_from_is_err_and c.from_residual-in_err-body-2.result c.from_residual-in_err-body-2.ensures.1 in rw (p.1, p.2) h
+
+pub read_clauses-items-init : goal.read_clauses-items-init
+unfolding Run ListRun
+read_clauses-items-init t c = search rules
+
+pub read_clauses-items-preserved : goal.read_clauses-items-preserved
+read_clauses-items-preserved t c = let b : Begins (λ o. is_or (word_of o)) c.args.tokens.now c.items.at = search rules in
+    record {
+      run = let more = list_more (Spells (inner c.args.room) (clause_rest c.args.first)) (λ o. is_or (word_of o)) (Spells (inner c.args.room) (skip clause_form)) c.args.tokens.now c.args.from c.items.at c.in_ok-body-2.end c.items.all.items c.clause_of-in-items.result c.items.invariant.run b (c.in_ok-head.ensures.leads.spells _ _ (record { inside = c.in_ok-body-2.body; spelled = c.in_ok-body-2.ensures.found; value = c.clause_of-in-items.ensures })) in
+          let e : c.push-in-items.new.self.items ≡ c.items.all.items ++ c.clause_of-in-items.result ∷ [] = search rules in rw e more;
+      after = omega (arith, c.in_ok-head.ensures.moved.0, c.in_ok-body-2.ensures.moved.0);
+      within = c.in_ok-body-2.ensures.moved.1;
+    }
+
+pub read_clauses-returns-in_err-body-2-clause-fails : goal.read_clauses-returns-in_err-body-2-clause-fails
+read_clauses-returns-in_err-body-2-clause-fails t c = let b : Begins (λ o. is_or (word_of o)) c.args.tokens.now c.items.at = search rules in
+    let h : Fails (inner c.args.room) (faults c.args.room) (clauses_rest c.args.first) c.args.tokens.now c.args.from c.in_err-body-2.field-0.0 = inr (inl (c.items.at, c.items.all.items, c.items.invariant.run, b, c.in_ok-head.ensures.leads.fails _ (inl c.in_err-body-2.ensures.fails))) in
+    let p = err_from_is_err_and c.from_residual-in_err-body-2.result c.from_residual-in_err-body-2.ensures.1 in rw (p.1, p.2) h
+
+pub read_accept-returns-in_err-clauses-clause-fails : goal.read_accept-returns-in_err-clauses-clause-fails
+read_accept-returns-in_err-clauses-clause-fails t c = let h : Fails (inner c.args.room) (faults c.args.room) (accept_rest c.args.pos c.args.first) c.args.tokens.now c.args.from c.in_err-clauses.field-0.0 = inl c.in_err-clauses.ensures.fails in
+    let p = err_from_is_err_and c.from_residual.result c.from_residual.ensures.1 in rw (p.1, p.2) h
+
+pub read_headed-returns-in_err-other-clause-fails : goal.read_headed-returns-in_err-other-clause-fails
+read_headed-returns-in_err-other-clause-fails t c =
+    let m : Fails (inner c.args.room) (faults c.args.room) (maybe_by (else_of c.args.head)) c.args.tokens.now c.in_ok-body.at c.in_err-other.field-0.0 = subst (λ w. Fails (inner c.args.room) (faults c.args.room) (maybe_by w) c.args.tokens.now c.in_ok-body.at c.in_err-other.field-0.0) c.else_of.ensures c.in_err-other.ensures.fails in
+    let h : Fails (inner c.args.room) (faults c.args.room) (head_form c.args.pos c.args.head) c.args.tokens.now c.args.from c.in_err-other.field-0.0 = inr (inl (c.in_ok-body.at, c.in_ok-body.body, c.in_ok-body.ensures.found, inl m)) in
+    let p = err_from_is_err_and c.from_residual-in_err-other.result c.from_residual-in_err-other.ensures.1 in rw (p.1, p.2) h
+
+pub read_try-returns-in_err-handlers-clause-fails : goal.read_try-returns-in_err-handlers-clause-fails
+read_try-returns-in_err-handlers-clause-fails t c =
+    let l : Leads c.args.room c.args.tokens.now handlers_form c.in_ok-body.end (handlers_rest c.in_ok-first.first) c.in_ok-first.at = in_listed _ _ handler_form (handler_rest c.in_ok-first.first) (λ o. is_handler (word_of o)) handler_form _ _ c.in_ok-first.ensures.leads in
+    let h : Fails (inner c.args.room) (faults c.args.room) (try_form c.args.pos c.args.brace) c.args.tokens.now c.args.from c.in_err-handlers.field-0.0 = inr (inl (c.in_ok-body.end, stmts_of c.in_ok-body.body.items, c.in_ok-body.ensures.found, inl (l.fails _ c.in_err-handlers.ensures.fails))) in
+    let p = err_from_is_err_and c.from_residual-in_err-handlers.result c.from_residual-in_err-handlers.ensures.1 in rw (p.1, p.2) h
+
+pub read_try-returns-clause-found : goal.read_try-returns-clause-found
+read_try-returns-clause-found t c =
+    let l : Leads c.args.room c.args.tokens.now handlers_form c.in_ok-body.end (handlers_rest c.in_ok-first.first) c.in_ok-first.at = in_listed _ _ handler_form (handler_rest c.in_ok-first.first) (λ o. is_handler (word_of o)) handler_form _ _ c.in_ok-first.ensures.leads in
+    record { middle = c.in_ok-body.end; left = stmts_of c.in_ok-body.body.items; first = c.in_ok-body.ensures.found; second = record { inside = c.in_ok-handlers.handlers.items; spelled = l.spells _ _ c.in_ok-handlers.ensures.found; value = refl } }
