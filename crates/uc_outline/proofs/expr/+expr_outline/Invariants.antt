@@ -1,7 +1,7 @@
 use Rattle.std.proofs.Common.{◌+◌, ◌*◌, ◌≤◌, drop}
 use Rattle.uc_tree.specs.Expressions.{exprs_of, parts_of, links_of}
 use Rattle.uc_tree.specs.ExpressionSizes.{expr_size, exprs_size, part_size, parts_size, links_size}
-use Rattle.uc_expr_rows.proofs.outline.+outline.Given as goal
+use Rattle.uc_outline.proofs.expr.+expr_outline.Given as goal
 
 abbrev pub invariant-write_parts-loop-part : goal.invariant-write_parts-loop-part
 invariant-write_parts-loop-part l = parts_size (parts_of (drop l.part-index l.parts)) ≤ parts_size (parts_of l.parts)

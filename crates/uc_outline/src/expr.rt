@@ -10,7 +10,8 @@ fn write_number(alloc: Global, out: &mut String, value: i64) -> Result<(), Alloc
     out.push_str(digits.as_str())
 }
 
-fn write_name(out: &mut String, name: &Name) -> Result<(), AllocError> {
+/// The bytes of a name.
+pub fn write_name(out: &mut String, name: &Name) -> Result<(), AllocError> {
     for byte in name.bytes() {
         out.push(*byte as char)?;
     }
@@ -57,8 +58,8 @@ fn assign_sign(op: AssignOp) -> &'static str {
 }
 
 /// The expression: chains and assignments in `( )`, operators of one operand in `< >`, and roots with their parts in `{ }`.
-#[cycle(outline)]
-pub(crate) fn write_expr(alloc: Global, out: &mut String, e: &Expr) -> Result<(), AllocError> {
+#[cycle(expr_outline)]
+pub fn write_expr(alloc: Global, out: &mut String, e: &Expr) -> Result<(), AllocError> {
     match &e.form {
         ExprForm::Number { value } => write_number(alloc, out, *value),
         ExprForm::Character { byte } => {
@@ -101,7 +102,7 @@ pub(crate) fn write_expr(alloc: Global, out: &mut String, e: &Expr) -> Result<()
     }
 }
 
-#[cycle(outline)]
+#[cycle(expr_outline)]
 fn write_parts(alloc: Global, out: &mut String, parts: &[Part]) -> Result<(), AllocError> {
     for part in parts {
         write_part(alloc, out, part)?;
@@ -109,7 +110,7 @@ fn write_parts(alloc: Global, out: &mut String, parts: &[Part]) -> Result<(), Al
     Ok(())
 }
 
-#[cycle(outline)]
+#[cycle(expr_outline)]
 fn write_part(alloc: Global, out: &mut String, part: &Part) -> Result<(), AllocError> {
     match &part.form {
         PartForm::Field { name } => {
@@ -133,8 +134,9 @@ fn write_part(alloc: Global, out: &mut String, part: &Part) -> Result<(), AllocE
     }
 }
 
-#[cycle(outline)]
-fn write_args(alloc: Global, out: &mut String, args: &[Expr]) -> Result<(), AllocError> {
+/// Arguments, each with a comma behind it.
+#[cycle(expr_outline)]
+pub fn write_args(alloc: Global, out: &mut String, args: &[Expr]) -> Result<(), AllocError> {
     for arg in args {
         write_expr(alloc, out, arg)?;
         out.push_str(",")?;
@@ -142,7 +144,7 @@ fn write_args(alloc: Global, out: &mut String, args: &[Expr]) -> Result<(), Allo
     Ok(())
 }
 
-#[cycle(outline)]
+#[cycle(expr_outline)]
 fn write_links(alloc: Global, out: &mut String, links: &[Link]) -> Result<(), AllocError> {
     for link in links {
         out.push_str(binary_sign(link.op))?;

@@ -8,7 +8,7 @@ use Rattle.uc_grammar.specs.Form.{apply, Fails}
 use Rattle.uc_grammar.specs.Grammar.{before, condition_form, inner, faults}
 use Rattle.uc_parse_stmt.specs.Forms.{do_test}
 use Rattle.uc_parse_stmt.proofs.Steps.{behind_fails}
-use Rattle.uc_parse_stmt.proofs.parse.read_do_test.Goals as goal
+use Rattle.uc_parse_stmt.proofs.head.read_do_test.Goals as goal
 
 pub returns-in_err-test-clause-fails : goal.returns-in_err-test-clause-fails
 returns-in_err-test-clause-fails c = let h : Fails (inner c.args.room) (faults c.args.room) (do_test c.args.pos c.args.body) c.args.tokens.now c.args.from c.in_err-test.field-0.0 = behind_fails c.args.room c.args.tokens.now (token.Word word.While) (apply (Do c.args.pos c.args.body) (before condition_form sign.Semicolon)) c.args.from c.in_ok-at.at _ c.in_ok-at.ensures.found (inl (inl c.in_err-test.ensures.fails)) in
