@@ -1,0 +1,6 @@
+pub mod Blocks
+pub mod First
+pub mod Lengths
+pub mod Named
+pub mod Noted
+pub mod Starts

@@ -1,0 +1,17 @@
+-- What is asked of the values that a variable starts with.
+use Rattle.std.proofs.Common.{◌≡◌, Option, Some, None, refl}
+use Rattle.uc_tree.specs.declared.pos.Pos.{Pos}
+use Rattle.uc_tree.specs.Expressions.{Expr, Exprs, NoExprs, MoreExprs}
+use Rattle.uc_meaning.specs.RulesNames.{Env}
+use Rattle.uc_meaning.specs.Rules.{start_breaks}
+use Rattle.uc_straight.specs.Starts.{started, started_breaks}
+
+pub started_is : (env : Env) (len : Option Expr) (es : Exprs) (place : Pos) → started_breaks len (started env es) place ≡ start_breaks env len es place
+started_is env None NoExprs place = refl
+started_is env None (MoreExprs e NoExprs) place = refl
+started_is env None (MoreExprs e (MoreExprs f es)) place = refl
+started_is env (Some len) NoExprs place = refl
+started_is env (Some len) (MoreExprs e NoExprs) place = refl
+started_is env (Some len) (MoreExprs e (MoreExprs f es)) place = refl
+
+pub ruleset starting = (started_is)
