@@ -1,7 +1,9 @@
 -- What is asked of the values that a variable starts with.
-use Rattle.std.proofs.Common.{◌≡◌, Option, Some, None, refl}
+use Rattle.std.proofs.Common.{◌≡◌, List, [], ◌∷◌, Option, Some, None, false, length, refl, ⊥}
+use Rattle.std.specs.Bool.{◌==◌}
 use Rattle.uc_tree.specs.declared.pos.Pos.{Pos}
-use Rattle.uc_tree.specs.Expressions.{Expr, Exprs, NoExprs, MoreExprs}
+use Rattle.uc_tree.specs.Expressions.{Expr, Exprs, NoExprs, MoreExprs, exprs_of}
+use Rattle.uc_straight.specs.declared.stmt.Started.TheVariants.{Several}
 use Rattle.uc_meaning.specs.RulesNames.{Env}
 use Rattle.uc_meaning.specs.Rules.{start_breaks}
 use Rattle.uc_straight.specs.Starts.{started, started_breaks}
@@ -15,3 +17,8 @@ started_is env (Some len) (MoreExprs e NoExprs) place = refl
 started_is env (Some len) (MoreExprs e (MoreExprs f es)) place = refl
 
 pub ruleset starting = (started_is)
+
+pub several : (env : Env) (es : List Expr) → (length es ≡ 1 → ⊥) → (length es == 0) ≡ false → Several ≡ started env (exprs_of es)
+several env [] h k = cc
+several env (e ∷ []) h k = absurd (h refl)
+several env (e ∷ f ∷ es) h k = refl

@@ -110,7 +110,6 @@ fn known(alloc: Global, bytes: &[u8], what: What) -> Result<Seen, AllocError>
     Ok(Seen { name, what })
 }
 
-#[tactic(auto, using(crate::proofs::Named::named_more))]
 fn find(names: &[Seen], name: &Name) -> Option<What>
     ensures { result ≡ named names.now name.now }
 {
