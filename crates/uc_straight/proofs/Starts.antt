@@ -1,5 +1,5 @@
 -- What is asked of the values that a variable starts with.
-use Rattle.std.proofs.Common.{◌≡◌, List, [], ◌∷◌, Option, Some, None, false, length, refl, ⊥}
+use Rattle.std.proofs.Common.{◌≡◌, List, [], ◌∷◌, Option, Some, None, false, length, refl}
 use Rattle.std.specs.Bool.{◌==◌}
 use Rattle.uc_tree.specs.declared.pos.Pos.{Pos}
 use Rattle.uc_tree.specs.Expressions.{Expr, Exprs, NoExprs, MoreExprs, exprs_of}
