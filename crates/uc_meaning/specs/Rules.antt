@@ -1,5 +1,5 @@
 -- The rules of the language that straight code can break, each by its number and on one visit of the walk.
-use Rattle.std.specs.Prelude.{ℕ, ℤ, pos, negsuc, List, [], ◌∷◌, ◌++◌, Bool, true, false, not, ◌&&◌, ◌||◌, Option, Some, None, is_some, nat_le, option_and_then, slice_get, Contains}
+use Rattle.std.specs.Prelude.{ℕ, ℤ, pos, List, [], ◌∷◌, ◌++◌, Bool, true, false, not, ◌&&◌, ◌||◌, Option, Some, None, is_some, int_le, option_and_then, slice_get, Contains}
 use Rattle.uc_tree.specs.declared.limits.TheConstants.{ARRAY_LENGTH, PRINT_ITEMS}
 use Rattle.uc_tree.specs.declared.pos.Pos.{Pos}
 use Rattle.uc_tree.specs.Names.{same_name}
@@ -12,8 +12,8 @@ use Rattle.uc_meaning.specs.declared.rule.What.{What}
 use Rattle.uc_meaning.specs.declared.rule.What.TheVariants as what
 use Rattle.uc_meaning.specs.declared.rule.Break.{Break}
 use Rattle.uc_meaning.specs.RulesNames.{Env, named, is_own}
-use Rattle.uc_meaning.specs.RulesTypes.{what, is_scalar, is_place, is_row, is_readable, is_main_routine, takes, has_member}
-use Rattle.uc_meaning.specs.RulesVisits.{Visit, AtUse, AtCin, AtOperand, AtOperands, AtChange, AtAssign, AtField, AtIndex, AtCall, AtDeclarator, AtPrinted, AtTogether, AtRead, program_visits}
+use Rattle.uc_meaning.specs.RulesTypes.{what, is_scalar, is_place, is_row, both_scalars, is_readable, is_main_routine, takes, has_member}
+use Rattle.uc_meaning.specs.RulesVisits.{Visit, AtUse, AtCin, AtOperand, AtOperands, AtChange, AtAssign, AtField, AtIndex, AtCall, AtDeclarator, AtPrinted, AtTogether, AtRead, start_values, program_visits}
 
 -- a break where a test fails
 abbrev pub unless : Bool → ℕ → Pos → List Break
@@ -28,9 +28,6 @@ asked (Some w) test rule place = unless (test w) rule place
 abbrev pub asked_both : Option What → Option What → (What → What → Bool) → ℕ → Pos → List Break
 asked_both None v test rule place = []
 asked_both (Some w) v test rule place = asked v (test w) rule place
-
-abbrev pub both_scalars : What → What → Bool
-both_scalars w v = is_scalar w && is_scalar v
 
 abbrev pub row_and_scalar : What → What → Bool
 row_and_scalar w v = is_row w && is_scalar v
@@ -111,8 +108,7 @@ length_value env e = value_in e (value_named env)
 -- 14: the length of an array is constant, 1 to 65,536
 abbrev pub is_length : Option ℤ → Bool
 is_length None = false
-is_length (Some (pos n)) = nat_le 1 n && nat_le n ARRAY_LENGTH
-is_length (Some (negsuc n)) = false
+is_length (Some n) = int_le (pos 1) n && int_le n (pos ARRAY_LENGTH)
 
 abbrev pub length_breaks : Env → Option Expr → Pos → List Break
 length_breaks env None place = []
@@ -141,16 +137,12 @@ abbrev pub has_none : Exprs → Bool
 has_none NoExprs = true
 has_none (MoreExprs e es) = false
 
-abbrev pub start_breaks : Env → Option Expr → Start → Pos → List Break
-start_breaks env None NoStart place = []
-start_breaks env None (StartValue e) place = asked (what env e) is_scalar 16 place
-start_breaks env None (StartArgs es) place = args_breaks env es place
-start_breaks env (Some len) NoStart place = []
-start_breaks env (Some len) (StartValue e) place = unless false 16 place
-start_breaks env (Some len) (StartArgs es) place = unless (has_none es) 16 place
+abbrev pub start_breaks : Env → Option Expr → Exprs → Pos → List Break
+start_breaks env None es place = args_breaks env es place
+start_breaks env (Some len) es place = unless (has_none es) 16 place
 
 abbrev pub bad_start : Visit → List Break
-bad_start (AtDeclarator env d) = start_breaks env d.len d.start d.pos
+bad_start (AtDeclarator env d) = start_breaks env d.len (start_values d.start) d.pos
 bad_start _ = []
 
 -- 24: a printed item is a scalar; an `osacquire` has at most 32 items, else the first too many breaks the rule; a read

@@ -86,9 +86,13 @@ abbrev pub of_scalar : Option What → What → Option What
 of_scalar None gives = None
 of_scalar (Some w) gives = if is_scalar w then Some gives else None
 
-abbrev pub of_scalars : Option What → Option What → What → Option What
-of_scalars None v gives = None
-of_scalars (Some w) v gives = if is_scalar w then of_scalar v gives else None
+abbrev pub of_both : (What → What → Bool) → Option What → Option What → What → Option What
+of_both test None v gives = None
+of_both test (Some w) None gives = None
+of_both test (Some w) (Some v) gives = if test w v then Some gives else None
+
+abbrev pub both_scalars : What → What → Bool
+both_scalars w v = is_scalar w && is_scalar v
 
 abbrev pub of_place : Option What → What → Option What
 of_place None gives = None
@@ -105,23 +109,23 @@ changes unary.Decrement = true
 abbrev pub unary_what : UnaryOp → Option What → Option What
 unary_what op w = if changes op then of_place w Value else of_scalar w Value
 
-abbrev pub of_assigned : Option What → Option What → Option What
-of_assigned None v = None
-of_assigned (Some w) v = if is_place w then of_scalar v Value else None
+abbrev pub place_and_scalar : What → What → Bool
+place_and_scalar w v = is_place w && is_scalar v
 
-abbrev pub element_of : What → Option What → Option What
-element_of (Row s) i = of_scalar i (Place s)
-element_of Value i = None
-element_of (Place s) i = None
-element_of Input i = None
-element_of Fail i = None
-element_of Main i = None
-element_of Event i = None
-element_of Missing i = None
+abbrev pub element : What → Option What
+element (Row s) = Some (Place s)
+element Value = None
+element (Place s) = None
+element Input = None
+element Fail = None
+element Main = None
+element Event = None
+element Missing = None
 
 abbrev pub of_index : Option What → Option What → Option What
 of_index None i = None
-of_index (Some w) i = element_of w i
+of_index (Some w) None = None
+of_index (Some w) (Some i) = if is_scalar i then element w else None
 
 -- the only member that may be named is `fail` of `cin`
 abbrev pub has_member : List ℕ → What → Bool
@@ -214,7 +218,7 @@ module _ (env : Env) where
     what (Postfix p root parts) = parts_what parts (if is_input root parts then Some Input else what root)
     what (Unary p op operand) = unary_what op (what operand)
     what (Chain p first rest) = chain_what rest (what first)
-    what (Assign p sign op place value) = of_assigned (what place) (what value)
+    what (Assign p sign op place value) = of_both place_and_scalar (what place) (what value) Value
 
     pub part_what : Part → Bool → Option What → Option What
     part_what (Field sign name) called w = of_field called name w
@@ -227,7 +231,7 @@ module _ (env : Env) where
     parts_what (MoreParts first rest) w = parts_what rest (part_what first (call_follows rest) w)
 
     pub link_what : Link → Option What → Option What
-    link_what (Linked sign op right) left = of_scalars left (what right) Value
+    link_what (Linked sign op right) left = of_both both_scalars left (what right) Value
 
     pub chain_what : Links → Option What → Option What
     chain_what NoLinks left = left

@@ -84,13 +84,14 @@ abbrev pub maybe_visits : Env → Option Expr → List Visit
 maybe_visits env None = []
 maybe_visits env (Some e) = visits env e
 
-abbrev pub start_visits : Env → Start → List Visit
-start_visits env NoStart = []
-start_visits env (StartValue e) = visits env e
-start_visits env (StartArgs es) = all_visits env es
+-- the values that a variable starts with
+abbrev pub start_values : Start → Exprs
+start_values NoStart = NoExprs
+start_values (StartValue e) = MoreExprs e NoExprs
+start_values (StartArgs es) = es
 
 abbrev pub declarator_visits : Env → Declarator → List Visit
-declarator_visits env d = maybe_visits env d.len ++ (start_visits env d.start ++ AtDeclarator env d ∷ [])
+declarator_visits env d = maybe_visits env d.len ++ (all_visits env (start_values d.start) ++ AtDeclarator env d ∷ [])
 
 -- a variable is seen from the end of its declarator on
 abbrev pub declarators_visits : Env → Base → List Declarator → List Visit
