@@ -1,8 +1,9 @@
 -- What each request makes of the journal of one task.
-use Rattle.std.proofs.Common.{◌≡◌, ℕ, ℤ, ◌+◌, ◌≤◌, ◌<◌, Bool, true, false, cond, ◌||◌, List, [], ◌∷◌, ◌++◌, Option, Some, None, refl, sym, ap, ◌∙◌, subst, arith, length, map, take, append-nil, append_assoc, ◌&&◌}
+use Rattle.std.proofs.Common.{◌≡◌, ℕ, ℤ, ◌+◌, ◌≤◌, ◌<◌, Bool, true, false, cond, ◌||◌, List, [], ◌∷◌, ◌++◌, Option, Some, None, refl, sym, ap, ◌∙◌, subst, arith, length, map, take, append-nil, append_assoc, ◌&&◌, length-take}
 use Rattle.std.specs.Prelude.{pos, nat_le, if◌then◌else◌}
 use Rattle.std.proofs.lemmas.Bool.{le-leb, lt-leb}
-use Rattle.std.proofs.lemmas.List.{length-map}
+use Rattle.std.proofs.lemmas.List.{length-map, take_min}
+use Rattle.std.specs.Prelude.{min}
 use Rattle.std.proofs.lemmas.List.Folds.{list_any-append}
 use Rattle.uc_meaning.specs.declared.entry.Entry.{Entry}
 use Rattle.uc_meaning.specs.declared.entry.EntryKind.{EntryKind}
@@ -57,6 +58,14 @@ print_goes n input old new k line items room e =
 pub print_full : (n : ℕ) (input : List ℕ) (old new : Journal) (k line : ℕ) (items : List Piece) → n < length old + length (take k items) + 1 → new ≡ old ++ limited → Kept n input old (record { request = ask.Print k items; line = line }) new None
 print_full n input old new k line items m e =
     full n input old new (record { request = ask.Print k items; line = line }) (map shown (take k items)) (prints_are (take k items)) (shown_unseen (take k items)) (omega (arith, length-map (take k items) shown, m)) e
+
+-- the same where the items are counted first
+pub counted_goes : (n : ℕ) (input : List ℕ) (old new : Journal) (k line : ℕ) (items : List Piece) (count : ℕ) → count ≡ min k (length items) → length old + count + 1 ≤ n → new ≡ old ++ map shown (take count items) → Kept n input old (record { request = ask.Print k items; line = line }) new (Some answer.Go)
+counted_goes n input old new k line items count c room e =
+    print_goes n input old new k line items (omega (arith, length-take k items, c, room)) (e ∙ ap (λ m. old ++ map shown (take m items)) c ∙ ap (λ xs. old ++ map shown xs) (take_min k items))
+
+pub counted_full : (n : ℕ) (input : List ℕ) (old new : Journal) (k line : ℕ) (items : List Piece) (count : ℕ) → count ≡ min k (length items) → n < length old + count + 1 → new ≡ old ++ limited → Kept n input old (record { request = ask.Print k items; line = line }) new None
+counted_full n input old new k line items count c m e = print_full n input old new k line items (omega (arith, length-take k items, c, m)) e
 
 -- reading
 
@@ -181,6 +190,9 @@ reads_after old k a b c d r p q h = record {
   used = used_last old 0 (silent k a b c d) ∙ p (silent k a b c d) (bytes_used old) ∙ h.used;
   failed = failed_last old false (silent k a b c d) ∙ q (silent k a b c d) (has_failed old) ∙ h.failed;
 }
+
+pub reads_after_fail : (old : Journal) (z : ℤ) (r : Reads) → ReadsOf old r → ReadsOf (old ++ entry kind.Fail 0 0 0 0 (pos 0) z ∷ []) r
+reads_after_fail old z r h = reads_after old kind.Fail (pos 0) z (pos 0) (pos 0) r (λ e m. refl) (λ e m. refl) h
 
 pub reads_after_prints : (is : List Piece) (old : Journal) (r : Reads) → ReadsOf old r → ReadsOf (old ++ map shown is) r
 reads_after_prints [] old r h = subst (λ j. ReadsOf j r) (sym (append-nil old)) h

@@ -1,8 +1,9 @@
 -- What one request of the one task makes of its journal.
-use Rattle.std.specs.Prelude.{◌≡◌, ℕ, pos, ◌+◌, ◌≤◌, true, List, [], ◌∷◌, ◌++◌, Option, Some, None, length}
+use Rattle.std.specs.Prelude.{◌≡◌, ℕ, pos, ◌+◌, ◌≤◌, ◌||◌, true, List, [], ◌∷◌, ◌++◌, Option, Some, None, length}
 use Rattle.uc_meaning.specs.declared.entry.EntryKind.TheVariants as kind
 use Rattle.uc_meaning.specs.Reading.{bytes_used, has_failed}
 use Rattle.uc_alone.specs.declared.keeper.Reads.{Reads}
+use Rattle.uc_meaning.specs.declared.got.Got.{Got}
 use Rattle.uc_meaning.specs.declared.entry.Entry.{Entry}
 use Rattle.uc_meaning.specs.declared.request.Answer.{Answer}
 use Rattle.uc_meaning.specs.declared.request.Asked.{Asked}
@@ -44,3 +45,7 @@ faulted number line = entry kind.Fault 0 0 0 0 (pos number) (pos line) ∷ []
 pub record ReadsOf (j : Journal) (reads : Reads) : Type 0 where
   pub used : bytes_used j ≡ reads.used
   pub failed : has_failed j ≡ reads.failed
+
+-- the reads, after one more
+abbrev pub reads_after : Reads → Got → Reads
+reads_after r g = record { used = r.used + g.taken; failed = g.failed || r.failed }

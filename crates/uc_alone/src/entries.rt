@@ -4,11 +4,12 @@ ghost use Rattle.std.specs.Prelude.{◌≡◌, pos};
 ghost use Rattle.uc_meaning.specs.Acts.{truth, read_entry};
 ghost use Rattle.uc_meaning.specs.Journal.{begin, entry};
 ghost use Rattle.uc_meaning.specs.declared.entry.EntryKind.TheVariants as kind;
+ghost use Rattle.uc_meaning.specs.declared.request.Answer.TheVariants as answer;
 ghost use Rattle.uc_alone.specs.Alone.{alone_options, silent};
 
 use uc_meaning::entry::{Entry, EntryKind};
 use uc_meaning::got::Got;
-use uc_meaning::request::Piece;
+use uc_meaning::request::{Answer, Piece};
 use uc_tree::limits::{PROCESSORS_DEFAULT, SLICE_DEFAULT, TICKS_DEFAULT};
 
 /// The first entry, which tells the options.
@@ -71,4 +72,21 @@ pub fn number_of(holds: bool) -> i64
     ensures { result ≡ truth holds }
 {
     if holds { 1 } else { 0 }
+}
+
+/// The answer of a read.
+pub fn value_answer(got: Got) -> Answer
+    ensures { result ≡ answer.Value got.value got.failed }
+{
+    Answer::Value {
+        value: got.value,
+        failed: got.failed,
+    }
+}
+
+/// The answer to whether a read failed.
+pub fn fail_answer(failed: bool) -> Answer
+    ensures { result ≡ answer.Number (truth failed) }
+{
+    Answer::Number(number_of(failed))
 }

@@ -1,15 +1,16 @@
 // The journal of the one task, as it grows.
 
-ghost use Rattle.std.specs.Prelude.{◌≡◌, ◌≤◌, ◌↔◌, IsTrue, ◌+◌, ◌++◌, ◌∷◌, [], length, map, IfOk, OnOk, take};
+ghost use Rattle.std.specs.Prelude.{◌≡◌, ◌≤◌, ◌<◌, IsTrue, IsFalse, ◌+◌, ◌++◌, ◌∷◌, [], length, map, IfOk, OnOk, List, ℕ, Some, None};
 ghost use Rattle.uc_tree.specs.declared.limits.TheConstants.{INPUT_BYTES};
 ghost use Rattle.uc_meaning.specs.declared.request.Request.TheVariants as ask;
 ghost use Rattle.uc_meaning.specs.Reading.{next_read};
 ghost use Rattle.uc_meaning.specs.Journal.{Journal};
 ghost use Rattle.uc_alone.specs.Alone.{limited};
-ghost use Rattle.uc_alone.specs.Kept.{Kept, ReadsOf, shown, ended, faulted};
+ghost use Rattle.uc_alone.specs.Kept.{Kept, ReadsOf, shown, reads_after};
 
-use crate::entries::{fail_entry, got_entry, number_of, plain_entry, print_entry};
+use crate::entries::{fail_answer, fail_entry, got_entry, plain_entry, print_entry, value_answer};
 use std::alloc::AllocError;
+use std::cmp::min;
 use uc_input::reading::read_form;
 use uc_meaning::entry::{Entry, EntryKind};
 use uc_meaning::got::Got;
@@ -41,7 +42,8 @@ fn next_got(reads: Reads, form: u8, input: &[u8]) -> Got
 
 // Whether a journal has room for so many entries and one more.
 fn has_room(journal: &[Entry], count: usize, entries: u32) -> bool
-    ensures { IsTrue result ↔ (length journal.now + count + 1 ≤ entries) }
+    ensures room { IsTrue result → length journal.now + count + 1 ≤ entries }
+    ensures full { IsFalse result → entries < length journal.now + count + 1 }
 {
     let entries = entries as usize;
     count < entries && journal.len() < entries - count
@@ -62,4 +64,99 @@ fn push_prints(journal: &mut Vec<Entry>, pieces: &[Piece]) -> Result<(), AllocEr
         journal.push(print_entry(*piece))?;
     }
     Ok(())
+}
+
+// The items are printed where there is room for their entries.
+#[tactic(auto, using(crate::proofs::Acts::print_goes, crate::proofs::Acts::print_full, crate::proofs::Acts::reads_after_prints))]
+fn keep_print(
+    journal: &mut Vec<Entry>,
+    entries: u32,
+    n: u8,
+    items: &[Piece],
+) -> Result<Option<Answer>, AllocError>
+    ensures kept { IfOk result (λ o. (input : List ℕ) (line : ℕ) → Kept entries input journal.old.items (record { request = ask.Print n items.now; line = line }) journal.new.items o) }
+    ensures reads { IfOk result (λ o. (x : Answer) → o ≡ Some x → (r : Reads) → ReadsOf journal.old.items r → ReadsOf journal.new.items r) }
+{
+    let count = min(n as usize, items.len());
+    if !has_room(journal, count, entries) {
+        push_limit(journal)?;
+        return Ok(None);
+    }
+    push_prints(journal, &items[..count])?;
+    Ok(Some(Answer::Go))
+}
+
+#[tactic(auto, using(crate::proofs::Acts::read_goes, crate::proofs::Acts::read_full, crate::proofs::Acts::reads_after_read))]
+fn keep_read(
+    journal: &mut Vec<Entry>,
+    entries: u32,
+    form: u8,
+    got: Got,
+    reads: Reads,
+) -> Result<Option<Answer>, AllocError>
+    requires small { reads.used + got.taken ≤ INPUT_BYTES }
+    ensures kept { IfOk result (λ o. (input : List ℕ) (line : ℕ) → ReadsOf journal.old.items reads → got ≡ next_read form input journal.old.items → Kept entries input journal.old.items (record { request = ask.Read form; line = line }) journal.new.items o) }
+    ensures reads { IfOk result (λ o. (x : Answer) → o ≡ Some x → ReadsOf journal.old.items reads → ReadsOf journal.new.items (reads_after reads got)) }
+{
+    if !has_room(journal, 1, entries) {
+        push_limit(journal)?;
+        return Ok(None);
+    }
+    journal.push(got_entry(form, got, reads.used))?;
+    Ok(Some(value_answer(got)))
+}
+
+#[tactic(auto, using(crate::proofs::Acts::fail_goes, crate::proofs::Acts::fail_full, crate::proofs::Acts::reads_after_fail))]
+fn keep_fail(
+    journal: &mut Vec<Entry>,
+    entries: u32,
+    reads: Reads,
+) -> Result<Option<Answer>, AllocError>
+    ensures kept { IfOk result (λ o. (input : List ℕ) (line : ℕ) → ReadsOf journal.old.items reads → Kept entries input journal.old.items (record { request = ask.Fail; line = line }) journal.new.items o) }
+    ensures reads { IfOk result (λ o. (x : Answer) → o ≡ Some x → ReadsOf journal.old.items reads → ReadsOf journal.new.items reads) }
+{
+    if !has_room(journal, 1, entries) {
+        push_limit(journal)?;
+        return Ok(None);
+    }
+    journal.push(fail_entry(reads.failed))?;
+    Ok(Some(fail_answer(reads.failed)))
+}
+
+#[tactic(auto, using(crate::proofs::Acts::end_goes, crate::proofs::Acts::end_full))]
+fn keep_end(journal: &mut Vec<Entry>, entries: u32) -> Result<Option<Answer>, AllocError>
+    ensures kept { IfOk result (λ o. (input : List ℕ) (line : ℕ) → Kept entries input journal.old.items (record { request = ask.End; line = line }) journal.new.items o) }
+    ensures over { IfOk result (λ o. o ≡ None) }
+{
+    if !has_room(journal, 2, entries) {
+        push_limit(journal)?;
+        return Ok(None);
+    }
+    journal.push(plain_entry(EntryKind::End, 0, 0, 0, 0))?;
+    journal.push(plain_entry(EntryKind::Done, 0, 0, 0, 0))?;
+    Ok(None)
+}
+
+#[tactic(auto, using(crate::proofs::Acts::fault_goes, crate::proofs::Acts::fault_full))]
+fn keep_fault(
+    journal: &mut Vec<Entry>,
+    entries: u32,
+    number: u8,
+    line: u32,
+) -> Result<Option<Answer>, AllocError>
+    ensures kept { IfOk result (λ o. (input : List ℕ) → Kept entries input journal.old.items (record { request = ask.Fault number; line = line }) journal.new.items o) }
+    ensures over { IfOk result (λ o. o ≡ None) }
+{
+    if !has_room(journal, 1, entries) {
+        push_limit(journal)?;
+        return Ok(None);
+    }
+    journal.push(plain_entry(
+        EntryKind::Fault,
+        i64::from(number),
+        i64::from(line),
+        0,
+        0,
+    ))?;
+    Ok(None)
 }
