@@ -22,7 +22,7 @@ use Rattle.uc_meaning.specs.Acts.{act, entries_of, admission, verdict, ending, f
 use Rattle.uc_meaning.proofs.Open.{any_push}
 use Rattle.uc_alone.specs.declared.keeper.Reads.{Reads}
 use Rattle.uc_alone.specs.Alone.{alone_options, Unseen, silent, AllUnseen, none, one, limited, Facts}
-use Rattle.uc_alone.specs.Kept.{Kept, goes, over, shown, ended, faulted, ReadsOf}
+use Rattle.uc_alone.specs.Kept.{Kept, goes, over, shown, ended, faulted, ReadsOf, reads_after as reads_after_got}
 use Rattle.uc_alone.proofs.Unseen.{print_unseen, read_unseen, fail_unseen}
 use Rattle.uc_alone.proofs.Facts.{silent_act}
 
@@ -198,3 +198,15 @@ pub reads_after_prints : (is : List Piece) (old : Journal) (r : Reads) → Reads
 reads_after_prints [] old r h = subst (λ j. ReadsOf j r) (sym (append-nil old)) h
 reads_after_prints (i ∷ is) old r h =
     subst (λ j. ReadsOf j r) (append_assoc old (shown i ∷ []) (map shown is)) (reads_after_prints is (old ++ shown i ∷ []) r (reads_after old kind.Print (pos i.form) i.value (pos 0) (pos 0) r (λ e m. refl) (λ e m. refl) h))
+
+pub read_more : (old new : Journal) (form : ℕ) (g : Got) (r : Reads) (e : Entry) → e ≡ read_entry 0 0 0 form g r.used → new ≡ old ++ e ∷ [] → ReadsOf old r → ReadsOf new (reads_after_got r g)
+read_more old new form g r e k l h =
+    subst (λ j. ReadsOf j (reads_after_got r g)) (sym (l ∙ ap (λ x. old ++ x ∷ []) k)) (reads_after_read old form g r (reads_after_got r g) h refl refl)
+
+pub fail_more : (old new : Journal) (r : Reads) (e : Entry) → e ≡ entry kind.Fail 0 0 0 0 (pos 0) (truth r.failed) → new ≡ old ++ e ∷ [] → ReadsOf old r → ReadsOf new r
+fail_more old new r e k l h =
+    subst (λ j. ReadsOf j r) (sym (l ∙ ap (λ x. old ++ x ∷ []) k)) (reads_after_fail old (truth r.failed) r h)
+
+pub two_more : (old mid new : Journal) (d e : Entry) → d ≡ silent kind.End (pos 0) (pos 0) (pos 0) (pos 0) → e ≡ silent kind.Done (pos 0) (pos 0) (pos 0) (pos 0) → mid ≡ old ++ d ∷ [] → new ≡ mid ++ e ∷ [] → new ≡ old ++ ended
+two_more old mid new d e k l m n =
+    n ∙ ap (λ j. j ++ e ∷ []) m ∙ append_assoc old (d ∷ []) (e ∷ []) ∙ ap (λ x. old ++ (x ∷ (e ∷ []))) k ∙ ap (λ x. old ++ (silent kind.End (pos 0) (pos 0) (pos 0) (pos 0) ∷ (x ∷ []))) l

@@ -1,6 +1,6 @@
 // The journal of the one task, as it grows.
 
-ghost use Rattle.std.specs.Prelude.{◌≡◌, ◌≤◌, ◌<◌, IsTrue, IsFalse, ◌+◌, ◌++◌, ◌∷◌, [], length, map, IfOk, OnOk, List, ℕ, Some, None};
+ghost use Rattle.std.specs.Prelude.{◌≡◌, ◌≤◌, ◌<◌, IsTrue, IsFalse, ◌+◌, ◌++◌, ◌∷◌, [], length, map, min, IfOk, OnOk, List, ℕ, Some, None};
 ghost use Rattle.uc_tree.specs.declared.limits.TheConstants.{INPUT_BYTES};
 ghost use Rattle.uc_meaning.specs.declared.request.Request.TheVariants as ask;
 ghost use Rattle.uc_meaning.specs.Reading.{next_read};
@@ -10,7 +10,6 @@ ghost use Rattle.uc_alone.specs.Kept.{Kept, ReadsOf, shown, reads_after};
 
 use crate::entries::{fail_answer, fail_entry, got_entry, plain_entry, print_entry, value_answer};
 use std::alloc::AllocError;
-use std::cmp::min;
 use uc_input::reading::read_form;
 use uc_meaning::entry::{Entry, EntryKind};
 use uc_meaning::got::Got;
@@ -41,9 +40,9 @@ fn next_got(reads: Reads, form: u8, input: &[u8]) -> Got
 }
 
 // Whether a journal has room for so many entries and one more.
-fn has_room(journal: &[Entry], count: usize, entries: u32) -> bool
-    ensures room { IsTrue result → length journal.now + count + 1 ≤ entries }
-    ensures full { IsFalse result → entries < length journal.now + count + 1 }
+fn has_room(journal: &Vec<Entry>, count: usize, entries: u32) -> bool
+    ensures room { IsTrue result → length journal.now.items + count + 1 ≤ entries }
+    ensures full { IsFalse result → entries < length journal.now.items + count + 1 }
 {
     let entries = entries as usize;
     count < entries && journal.len() < entries - count
@@ -66,6 +65,12 @@ fn push_prints(journal: &mut Vec<Entry>, pieces: &[Piece]) -> Result<(), AllocEr
     Ok(())
 }
 
+fn least(a: usize, b: usize) -> usize
+    ensures { result ≡ min a b }
+{
+    if a < b { a } else { b }
+}
+
 // The items are printed where there is room for their entries.
 #[tactic(auto, using(crate::proofs::Acts::print_goes, crate::proofs::Acts::print_full, crate::proofs::Acts::reads_after_prints))]
 fn keep_print(
@@ -77,7 +82,7 @@ fn keep_print(
     ensures kept { IfOk result (λ o. (input : List ℕ) (line : ℕ) → Kept entries input journal.old.items (record { request = ask.Print n items.now; line = line }) journal.new.items o) }
     ensures reads { IfOk result (λ o. (x : Answer) → o ≡ Some x → (r : Reads) → ReadsOf journal.old.items r → ReadsOf journal.new.items r) }
 {
-    let count = min(n as usize, items.len());
+    let count = least(n as usize, items.len());
     if !has_room(journal, count, entries) {
         push_limit(journal)?;
         return Ok(None);
