@@ -9,6 +9,7 @@ use Rattle.uc_meaning.specs.declared.entry.Entry.{Entry}
 use Rattle.uc_meaning.specs.declared.entry.EntryKind.{EntryKind}
 use Rattle.uc_meaning.specs.declared.entry.EntryKind.TheVariants as kind
 use Rattle.uc_meaning.specs.declared.entry.Options.{Options}
+use Rattle.uc_meaning.specs.declared.request.Answer.{Answer}
 use Rattle.uc_meaning.specs.declared.request.Answer.TheVariants as answer
 use Rattle.uc_meaning.specs.declared.request.Asked.{Asked}
 use Rattle.uc_meaning.specs.declared.request.Piece.{Piece}
@@ -22,7 +23,7 @@ use Rattle.uc_meaning.specs.Acts.{act, entries_of, admission, verdict, ending, f
 use Rattle.uc_meaning.proofs.Open.{any_push}
 use Rattle.uc_alone.specs.declared.keeper.Reads.{Reads}
 use Rattle.uc_alone.specs.Alone.{alone_options, Unseen, silent, AllUnseen, none, one, limited, Facts}
-use Rattle.uc_alone.specs.Kept.{Kept, goes, over, shown, ended, faulted, ReadsOf, reads_after as reads_after_got}
+use Rattle.uc_alone.specs.Kept.{Kept, goes, over, Closing, by_done, by_fault, by_limit, Ended, shown, ended, faulted, ReadsOf, reads_after as reads_after_got}
 use Rattle.uc_alone.proofs.Unseen.{print_unseen, read_unseen, fail_unseen}
 use Rattle.uc_alone.proofs.Facts.{silent_act}
 
@@ -36,10 +37,14 @@ unfolding is_over
 over_with j a e h =
     list_any-append (λ x. is_ending x.kind) j (a ++ e ∷ []) ∙ ap (λ b. is_over j || b) (any_push (λ x. is_ending x.kind) a e ∙ ap (λ b. is_over a || b) h ∙ or_true (is_over a)) ∙ or_true (is_over j)
 
+-- the last entry of an act is the journal's last
+closed : (old new a : Journal) (e : Entry) → new ≡ old ++ (a ++ e ∷ []) → Closing e.kind → Ended new
+closed old new a e h k = record { before = old ++ a; last = e; is = h ∙ sym (append_assoc old a (e ∷ [])); closing = k }
+
 -- an act that would leave no room, whose entries no filter sees
 full : (n : ℕ) (input : List ℕ) (old new : Journal) (asked : Asked) (es : List Entry) → entries_of input old 0 0 0 asked ≡ es → AllUnseen es → n < length old + length es + 1 → new ≡ old ++ limited → Kept n input old asked new None
 full n input old new asked es e h m k =
-    over limited (λ f. silent_act n input old asked es e h f ∙ ap (λ b. cond b es limited) (lt-leb _ _ m)) (over_with old [] (entry kind.Limit 0 0 0 0 (pos 0) (pos 0)) refl) k
+    over limited (λ f. silent_act n input old asked es e h f ∙ ap (λ b. cond b es limited) (lt-leb _ _ m)) (over_with old [] (entry kind.Limit 0 0 0 0 (pos 0) (pos 0)) refl) k (closed old new [] (entry kind.Limit 0 0 0 0 (pos 0) (pos 0)) k by_limit)
 
 -- printing
 
@@ -141,11 +146,11 @@ end_act n input j line f =
 pub end_goes : (n : ℕ) (input : List ℕ) (old new : Journal) (line : ℕ) → length old + 2 + 1 ≤ n → new ≡ old ++ ended → Kept n input old (record { request = ask.End; line = line }) new None
 unfolding end_entry done_entry
 end_goes n input old new line room k =
-    over ended (λ f. end_act n input old line f ∙ ap (λ b. cond b ended limited) (le-leb _ _ room)) (over_with old (end_entry ∷ []) done_entry refl) k
+    over ended (λ f. end_act n input old line f ∙ ap (λ b. cond b ended limited) (le-leb _ _ room)) (over_with old (end_entry ∷ []) done_entry refl) k (closed old new (end_entry ∷ []) done_entry k by_done)
 
 pub end_full : (n : ℕ) (input : List ℕ) (old new : Journal) (line : ℕ) → n < length old + 2 + 1 → new ≡ old ++ limited → Kept n input old (record { request = ask.End; line = line }) new None
 end_full n input old new line m k =
-    over limited (λ f. end_act n input old line f ∙ ap (λ b. cond b ended limited) (lt-leb _ _ m)) (over_with old [] (entry kind.Limit 0 0 0 0 (pos 0) (pos 0)) refl) k
+    over limited (λ f. end_act n input old line f ∙ ap (λ b. cond b ended limited) (lt-leb _ _ m)) (over_with old [] (entry kind.Limit 0 0 0 0 (pos 0) (pos 0)) refl) k (closed old new [] (entry kind.Limit 0 0 0 0 (pos 0) (pos 0)) k by_limit)
 
 -- a fault
 
@@ -154,11 +159,11 @@ fault_act n input j number line = refl
 
 pub fault_goes : (n : ℕ) (input : List ℕ) (old new : Journal) (number line : ℕ) → length old + 1 + 1 ≤ n → new ≡ old ++ faulted number line → Kept n input old (record { request = ask.Fault number; line = line }) new None
 fault_goes n input old new number line room k =
-    over (faulted number line) (λ f. fault_act n input old number line ∙ ap (λ b. cond b (faulted number line) limited) (le-leb _ _ room)) (over_with old [] (entry kind.Fault 0 0 0 0 (pos number) (pos line)) refl) k
+    over (faulted number line) (λ f. fault_act n input old number line ∙ ap (λ b. cond b (faulted number line) limited) (le-leb _ _ room)) (over_with old [] (entry kind.Fault 0 0 0 0 (pos number) (pos line)) refl) k (closed old new [] (entry kind.Fault 0 0 0 0 (pos number) (pos line)) k by_fault)
 
 pub fault_full : (n : ℕ) (input : List ℕ) (old new : Journal) (number line : ℕ) → n < length old + 1 + 1 → new ≡ old ++ limited → Kept n input old (record { request = ask.Fault number; line = line }) new None
 fault_full n input old new number line m k =
-    over limited (λ f. fault_act n input old number line ∙ ap (λ b. cond b (faulted number line) limited) (lt-leb _ _ m)) (over_with old [] (entry kind.Limit 0 0 0 0 (pos 0) (pos 0)) refl) k
+    over limited (λ f. fault_act n input old number line ∙ ap (λ b. cond b (faulted number line) limited) (lt-leb _ _ m)) (over_with old [] (entry kind.Limit 0 0 0 0 (pos 0) (pos 0)) refl) k (closed old new [] (entry kind.Limit 0 0 0 0 (pos 0) (pos 0)) k by_limit)
 
 -- what a journal with one more entry tells of its reads
 
@@ -210,3 +215,7 @@ fail_more old new r e k l h =
 pub two_more : (old mid new : Journal) (d e : Entry) → d ≡ silent kind.End (pos 0) (pos 0) (pos 0) (pos 0) → e ≡ silent kind.Done (pos 0) (pos 0) (pos 0) (pos 0) → mid ≡ old ++ d ∷ [] → new ≡ mid ++ e ∷ [] → new ≡ old ++ ended
 two_more old mid new d e k l m n =
     n ∙ ap (λ j. j ++ e ∷ []) m ∙ append_assoc old (d ∷ []) (e ∷ []) ∙ ap (λ x. old ++ (x ∷ (e ∷ []))) k ∙ ap (λ x. old ++ (silent kind.End (pos 0) (pos 0) (pos 0) (pos 0) ∷ (x ∷ []))) l
+
+-- a request is what it was found to be
+pub by_request : (n : ℕ) (input : List ℕ) (old new : Journal) (o : Option Answer) (asked : Asked) (r : Request) → asked.request ≡ r → Kept n input old (record { request = r; line = asked.line }) new o → Kept n input old asked new o
+by_request n input old new o asked r e k = subst (λ q. Kept n input old (record { request = q; line = asked.line }) new o) (sym e) k

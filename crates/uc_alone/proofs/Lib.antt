@@ -3,3 +3,4 @@ pub mod Facts
 pub mod Hands
 pub mod Going
 pub mod Acts
+pub mod Moves

@@ -1,5 +1,6 @@
 -- What one request of the one task makes of its journal.
-use Rattle.std.specs.Prelude.{◌≡◌, ℕ, pos, ◌+◌, ◌≤◌, ◌||◌, true, List, [], ◌∷◌, ◌++◌, Option, Some, None, length}
+use Rattle.std.specs.Prelude.{◌≡◌, ℕ, pos, ◌+◌, ◌≤◌, ◌||◌, Bool, true, false, List, [], ◌∷◌, ◌++◌, Option, Some, None, length}
+use Rattle.uc_meaning.specs.declared.entry.EntryKind.{EntryKind}
 use Rattle.uc_meaning.specs.declared.entry.EntryKind.TheVariants as kind
 use Rattle.uc_meaning.specs.Reading.{bytes_used, has_failed}
 use Rattle.uc_alone.specs.declared.keeper.Reads.{Reads}
@@ -16,18 +17,32 @@ use Rattle.uc_meaning.specs.Runs.{answer_of}
 use Rattle.uc_alone.specs.Alone.{alone_options, Facts, AllUnseen}
 
 -- the requests that the machine of straight code makes
-pub data Few : Request → Type 0 where
-  prints : (n : ℕ) (items : List Piece) → Few (ask.Print n items)
-  reads : (form : ℕ) → Few (ask.Read form)
-  fails : Few ask.Fail
-  ends : Few ask.End
-  faults : (number : ℕ) → Few (ask.Fault number)
+abbrev pub is_few : Request → Bool
+is_few (ask.Print n items) = true
+is_few (ask.Read form) = true
+is_few ask.Fail = true
+is_few ask.End = true
+is_few (ask.Fault number) = true
+is_few _ = false
+
+-- a run of one task ends with done, a fault or the limit
+pub data Closing : EntryKind → Type 0 where
+  by_done : Closing kind.Done
+  by_fault : Closing kind.Fault
+  by_limit : Closing kind.Limit
+
+-- the last entry of a journal is such an ending
+pub record Ended (j : Journal) : Type 0 where
+  pub before : Journal
+  pub last : Entry
+  pub is : j ≡ before ++ last ∷ []
+  pub closing : Closing last.kind
 
 -- the journal after a request: it goes on with an answer, or the run is over
 pub data Kept (n : ℕ) (input : List ℕ) (old : Journal) (asked : Asked) (new : Journal) : Option Answer → Type 0 where
   goes : (es : List Entry) (x : Answer) → entries_of input old 0 0 0 asked ≡ es → AllUnseen es → answer_of asked.request es ≡ Some x → length old + length es + 1 ≤ n → new ≡ old ++ es → Kept n input old asked new (Some x)
-  over : (a : List Entry) → (Facts old → act (alone_options n) input old 0 0 0 asked ≡ a) → is_over (old ++ a) ≡ true → new ≡ old ++ a → Kept n input old asked new None
-  odd : (Few asked.request → ⊥) → Kept n input old asked new None
+  over : (a : List Entry) → (Facts old → act (alone_options n) input old 0 0 0 asked ≡ a) → is_over (old ++ a) ≡ true → new ≡ old ++ a → Ended new → Kept n input old asked new None
+  odd : is_few asked.request ≡ false → Kept n input old asked new None
 
 -- the entry of a printed item
 abbrev pub shown : Piece → Entry

@@ -13,7 +13,7 @@ use std::alloc::AllocError;
 use uc_input::reading::read_form;
 use uc_meaning::entry::{Entry, EntryKind};
 use uc_meaning::got::Got;
-use uc_meaning::request::{Answer, Piece};
+use uc_meaning::request::{Answer, Asked, Piece, Request};
 
 /// How many bytes of the input the reads of a journal took, and whether one failed.
 #[derive(Clone, Copy, PartialEq, Eq, Debug)]
@@ -63,6 +63,17 @@ fn push_prints(journal: &mut Vec<Entry>, pieces: &[Piece]) -> Result<(), AllocEr
         journal.push(print_entry(*piece))?;
     }
     Ok(())
+}
+
+// The reads with one more.
+fn more_reads(reads: Reads, got: Got) -> Reads
+    requires { reads.used + got.taken ≤ INPUT_BYTES }
+    ensures { result ≡ reads_after reads got }
+{
+    Reads {
+        used: reads.used + got.taken,
+        failed: got.failed || reads.failed,
+    }
 }
 
 fn least(a: usize, b: usize) -> usize
@@ -164,4 +175,66 @@ fn keep_fault(
         0,
     ))?;
     Ok(None)
+}
+
+/// The journal after a request of the task: it goes on with an answer, or the run is over.
+pub(crate) fn keep(
+    journal: &mut Vec<Entry>,
+    reads: &mut Reads,
+    input: &[u8],
+    entries: u32,
+    asked: Asked,
+) -> Result<Option<Answer>, AllocError>
+    requires inside { reads.old.used ≤ length input.now }
+    requires small { length input.now ≤ INPUT_BYTES }
+    ensures kept { IfOk result (λ o. ReadsOf journal.old.items reads.old → Kept entries input.now journal.old.items asked journal.new.items o) }
+    ensures reads { IfOk result (λ o. (x : Answer) → o ≡ Some x → ReadsOf journal.old.items reads.old → ReadsOf journal.new.items reads.new) }
+    ensures inside { reads.new.used ≤ length input.now }
+    ensures over { IfOk result (λ o. asked.request ≡ ask.End → o ≡ None) }
+{
+    match asked.request {
+        Request::Print { n, items } => {
+            let answer = keep_print(journal, entries, n, &items)?;
+            Ok(answer)
+        }
+        Request::Read { form } => {
+            let got = next_got(*reads, form, input);
+            let answer = keep_read(journal, entries, form, got, *reads)?;
+            *reads = more_reads(*reads, got);
+            Ok(answer)
+        }
+        Request::Fail => {
+            let answer = keep_fail(journal, entries, *reads)?;
+            Ok(answer)
+        }
+        Request::End => {
+            let answer = keep_end(journal, entries)?;
+            Ok(answer)
+        }
+        Request::Fault { number } => {
+            let answer = keep_fault(journal, entries, number, asked.line)?;
+            Ok(answer)
+        }
+        Request::Make { .. } => Ok(None),
+        Request::Made { .. } => Ok(None),
+        Request::Spawn { .. } => Ok(None),
+        Request::Call { .. } => Ok(None),
+        Request::Leave { .. } => Ok(None),
+        Request::Accept { .. } => Ok(None),
+        Request::Wait { .. } => Ok(None),
+        Request::Signal { .. } => Ok(None),
+        Request::SignalBlock { .. } => Ok(None),
+        Request::Empty { .. } => Ok(None),
+        Request::Front { .. } => Ok(None),
+        Request::Raise { .. } => Ok(None),
+        Request::Poll { .. } => Ok(None),
+        Request::Yield => Ok(None),
+        Request::Slice => Ok(None),
+        Request::Cluster => Ok(None),
+        Request::ClusterEnd { .. } => Ok(None),
+        Request::Processor { .. } => Ok(None),
+        Request::ProcessorEnd { .. } => Ok(None),
+        Request::Migrate { .. } => Ok(None),
+        Request::Gone { .. } => Ok(None),
+    }
 }
