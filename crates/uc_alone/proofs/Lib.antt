@@ -4,3 +4,4 @@ pub mod Hands
 pub mod Going
 pub mod Acts
 pub mod Moves
+pub mod Rode
