@@ -117,7 +117,7 @@ le_false n last h = grind (arith, nat_tests)
 le_true : (n last : ℕ) → n ≤ last → nat_le n last ≡ true
 le_true n last h = grind (arith, nat_tests)
 
-at_most_none : (last n : ℕ) → last < n → at_most last n ≡ None
+pub at_most_none : (last n : ℕ) → last < n → at_most last n ≡ None
 at_most_none last n h = ap (λ b. if b then Some n else None) (le_false n last h)
 
 past_last : (last i : ℕ) (ns : List (List ℕ)) (name : List ℕ) → last < i → option_and_then (at_most last) (place_from i ns name) ≡ None
