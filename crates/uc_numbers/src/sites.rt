@@ -137,10 +137,7 @@ fn push_sites(
 }
 
 // The names of the mutex members of a class as far as they have numbers.
-fn names_of<'a>(
-    alloc: Global,
-    class: Option<&'a Class>,
-) -> Result<Vec<&'a Name>, AllocError>
+fn names_of<'a>(alloc: Global, class: Option<&'a Class>) -> Result<Vec<&'a Name>, AllocError>
     ensures names { IfOk result (λ v. map (λ n. n.now) v.items ≡ names_of (option_map (λ c. c.now) class.entry)) }
     ensures few { IfOk result (λ v. length v.items ≤ MEMBERS) }
 {
@@ -153,11 +150,7 @@ fn names_of<'a>(
     }
 }
 
-fn push_routine(
-    alloc: Global,
-    found: &mut Vec<Site>,
-    defined: &Defined,
-) -> Result<(), AllocError>
+fn push_routine(alloc: Global, found: &mut Vec<Site>, defined: &Defined) -> Result<(), AllocError>
     ensures { OnOk result (found.new.items ≡ found.old.items ++ gathered_all (own_sites (defined_at defined.now).class (defined_at defined.now).number) (defined_at defined.now).routine.body) }
 {
     let routine = defined.routine;

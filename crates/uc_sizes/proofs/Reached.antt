@@ -83,5 +83,5 @@ itself rows to fs n l t =
     let fits : flagged fs ≤ length rows = omega (arith, flagged_fits fs) in
     let e : length rows - flagged fs + flagged fs ≡ length rows = omega arith in
     same_truth (flag_at fs to) (reaches (length rows) rows to to)
-      (λ f. rw e at (much_further (length rows - flagged fs) (flagged fs) rows to to (l.at to f)))
-      (λ r. all_told (length rows) rows to fs t to r)
+    (λ f. rw e at (much_further (length rows - flagged fs) (flagged fs) rows to to (l.at to f)))
+    (λ r. all_told (length rows) rows to fs t to r)

@@ -26,4 +26,5 @@ sized p classes constants values rows cells a b v r counted = record {
   classes_are = a;
   constants_are = b;
   values_are = v;
-  cells_are = λ i. counted.at i ∙ ap (λ rs. capped (cells_within (length rs) rs i)) (r ∙ rows_are p classes constants values a b v) }
+  cells_are = λ i. counted.at i ∙ ap (λ rs. capped (cells_within (length rs) rs i)) (r ∙ rows_are p classes constants values a b v);
+}
