@@ -5,7 +5,7 @@ use Rattle.uc_tree.specs.declared.rows.Object.{Object}
 use Rattle.uc_tree.specs.declared.rows.Held.{Held}
 use Rattle.uc_tree.specs.Capped.{capped}
 use Rattle.uc_tree.specs.Rows.{Row, row_at, has_itself, element_cells, held_cells, all_held_cells, row_cells, cells_within}
-use Rattle.uc_sizes.specs.Reached.{flag_at, AreCircles}
+use Rattle.uc_sizes.specs.Reached.{AreCircles}
 use Rattle.uc_sizes.specs.CellTables.{cell_at, next_at, Follows, Counted}
 
 -- capping a factor or a summand changes no capped product or sum

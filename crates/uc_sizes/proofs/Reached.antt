@@ -1,8 +1,8 @@
 -- Flags that are told all that they tell stand just where a class leads to the class sought.
-use Rattle.std.proofs.Common.{◌≡◌, ℕ, zero, suc, ◌+◌, ◌-◌, ◌≤◌, ◌<◌, List, [], ◌∷◌, Bool, true, false, Option, Some, None, ◌||◌, nat_eq, length, refl, ap, sym, ◌∙◌, arith, get_or, set, replicate, ◌⊎◌, inl, inr, ◌≢◌}
+use Rattle.std.proofs.Common.{◌≡◌, ℕ, zero, suc, ◌+◌, ◌-◌, ◌≤◌, ◌<◌, List, [], ◌∷◌, Bool, true, false, Option, Some, None, ◌||◌, nat_eq, length, refl, ap, sym, ◌∙◌, arith, set, ◌⊎◌, inl, inr, ◌≢◌}
 use Rattle.std.proofs.lemmas.Bool.{cases_eq, cases_lt}
 use Rattle.std.specs.List.{list_any}
-use Rattle.std.proofs.lemmas.List.{get_or-set_same, get_or-set_other}
+use Rattle.std.proofs.lemmas.List.{get_or-set_other}
 use Rattle.uc_tree.specs.declared.rows.Object.{Object}
 use Rattle.uc_tree.specs.declared.rows.Held.{Held}
 use Rattle.uc_tree.specs.Rows.{Row, row_at, leads, object_leads, reaches, has_itself}

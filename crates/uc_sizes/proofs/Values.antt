@@ -1,5 +1,5 @@
 -- A table that has all that can be reckoned by it holds the values of the constants.
-use Rattle.std.proofs.Common.{◌≡◌, ℕ, zero, suc, ℤ, ◌+◌, ◌≤◌, ◌<◌, List, [], ◌∷◌, Bool, true, false, Option, Some, None, if◌then◌else◌, length, refl, ap, sym, ◌∙◌, arith, get_or, set, slice_get, is_some, is_none, map, replicate, ◌⊎◌, inl, inr, ◌≢◌, ◌-◌}
+use Rattle.std.proofs.Common.{◌≡◌, ℕ, zero, suc, ℤ, ◌+◌, ◌≤◌, ◌<◌, List, [], ◌∷◌, true, false, Option, Some, None, if◌then◌else◌, length, refl, ap, sym, ◌∙◌, arith, get_or, set, slice_get, is_some, is_none, map, replicate, ◌⊎◌, inl, inr, ◌≢◌, ◌-◌}
 use Rattle.std.proofs.lemmas.Bool.{cases_eq}
 use Rattle.std.proofs.lemmas.List.{get_or-set_same, get_or-set_other}
 use Rattle.std.specs.Prelude.{option_and_then, option_map}

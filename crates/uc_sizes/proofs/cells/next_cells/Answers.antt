@@ -1,8 +1,7 @@
-use Rattle.std.proofs.Common.{◌≡◌, ◌+◌, ◌∷◌, [], ◌++◌, true, false, length, ap, sym, ◌∙◌, rules, arith, if◌then◌else◌}
-use Rattle.uc_tree.specs.Capped.{capped}
-use Rattle.uc_tree.specs.Rows.{row_at, row_cells}
+use Rattle.std.proofs.Common.{◌≡◌, ◌∷◌, [], ◌++◌, true, false, ◌∙◌, rules}
+use Rattle.uc_tree.specs.Rows.{row_at}
 use Rattle.uc_sizes.specs.Reached.{flag_at}
-use Rattle.uc_sizes.specs.CellTables.{cell_at, next_at, Follows}
+use Rattle.uc_sizes.specs.CellTables.{next_at}
 use Rattle.uc_sizes.proofs.CellTables.{row_is, follows_more}
 use Rattle.uc_sizes.proofs.cells.next_cells.Goals as goal
 use Rattle.uc_sizes.proofs.cells.next_cells.Goals.{then-circles-place, else-circles-place}

@@ -1,8 +1,6 @@
-use Rattle.std.proofs.Common.{◌≡◌, ◌<◌, true, false, Some, None, map, get_or, set, slice_get, is_some, is_none, length, ap, sym, ◌∙◌, rules, arith}
-use Rattle.uc_tree.specs.Programs.{Constant}
+use Rattle.std.proofs.Common.{◌≡◌, ◌<◌, true, false, None, map, get_or, is_some, is_none, length, ap, sym, ◌∙◌, rules, arith}
 use Rattle.uc_tree.specs.Constants.{own_value}
 use Rattle.uc_sizes.specs.Values.{value_at}
-use Rattle.uc_sizes.specs.Reckoned.{Sound, known}
 use Rattle.uc_sizes.proofs.Values.{at_map, settled, sound_set}
 use Rattle.uc_sizes.proofs.tables.reckon.Goals as goal
 

@@ -1,4 +1,4 @@
-use Rattle.std.proofs.Common.{◌≡◌, ◌<◌, ◌≤◌, true, false, map, length, ap, sym, ◌∙◌, ◌+◌, subst, rules, arith}
+use Rattle.std.proofs.Common.{◌≡◌, ◌<◌, ◌≤◌, map, length, sym, ◌∙◌, ◌+◌, subst, rules, arith}
 use Rattle.uc_sizes.specs.Reckoned.{Reckoned, known}
 use Rattle.uc_sizes.proofs.Values.{reckoned_more}
 use Rattle.uc_sizes.proofs.tables.sweep.Goals as goal
