@@ -1,5 +1,5 @@
 -- A condition behind the last number has none.
-use Rattle.std.proofs.Common.{◌≡◌, ℕ, ℤ, ◌+◌, ◌<◌, List, [], ◌∷◌, Bool, true, false, Option, Some, None, if◌then◌else◌, refl, arith}
+use Rattle.std.proofs.Common.{◌≡◌, ℕ, ℤ, ◌+◌, ◌<◌, List, [], ◌∷◌, true, false, Option, Some, None, if◌then◌else◌, refl, arith}
 use Rattle.std.specs.Prelude.{option_and_then}
 use Rattle.uc_tree.specs.Names.{same_name}
 use Rattle.uc_tree.specs.Constants.{elements}

@@ -1,6 +1,6 @@
-use Rattle.std.proofs.Common.{◌≡◌, ◌≤◌, ◌+◌, ◌∷◌, [], true, false, if◌then◌else◌, map, length, take, drop, sym, ap, subst, ◌∙◌, arith, rules}
+use Rattle.std.proofs.Common.{◌≡◌, ◌≤◌, ◌+◌, ◌∷◌, [], true, if◌then◌else◌, map, length, take, drop, sym, ap, subst, ◌∙◌, arith, rules}
 use Rattle.uc_tree.specs.declared.limits.TheConstants.{MEMBERS}
-use Rattle.uc_tree.specs.Numbering.{exclusive_name, exclusive_names, mutex_members, with_name, is_mutex}
+use Rattle.uc_tree.specs.Numbering.{exclusive_name, exclusive_names, with_name, is_mutex}
 use Rattle.uc_numbers.proofs.Listed.{cut_names, cut_all, cut_fits, drop_at, drop_end}
 use Rattle.uc_numbers.proofs.members.members_of.Goals as goal
 

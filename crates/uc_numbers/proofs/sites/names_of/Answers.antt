@@ -1,4 +1,4 @@
-use Rattle.std.proofs.Common.{◌≤◌, map, length, take, subst, sym, arith}
+use Rattle.std.proofs.Common.{◌≤◌, map, length, subst, sym, arith}
 use Rattle.uc_tree.specs.declared.limits.TheConstants.{MEMBERS}
 use Rattle.uc_tree.specs.Numbering.{mutex_members}
 use Rattle.uc_numbers.proofs.Listed.{cut_fits, map_length}
