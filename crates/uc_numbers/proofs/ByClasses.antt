@@ -1,10 +1,10 @@
 -- The routines by the classes of a program are those of the program.
-use Rattle.std.proofs.Common.{◌≡◌, ℕ, List, [], ◌∷◌, ◌++◌, refl, ap}
+use Rattle.std.proofs.Common.{◌≡◌, ℕ, List, [], ◌∷◌, refl, ap}
 use Rattle.uc_tree.specs.declared.kinds.Owner.{Owner}
 use Rattle.uc_tree.specs.declared.kinds.Owner.TheVariants as owner
 use Rattle.uc_tree.specs.Programs.{Routine, MemberForm, FieldsMember, RoutineMember, ProtoMember, Member, Item, ClassItem, RoutineItem, ConstItem, ProtoItem, ForwardItem, UsingItem, Program}
 use Rattle.uc_tree.specs.Cells.{classes_of}
-use Rattle.uc_tree.specs.Numbering.{Defined, defined_by, form_defined, members_defined, item_defined, items_defined, routines_of}
+use Rattle.uc_tree.specs.Numbering.{defined_by, form_defined, members_defined, item_defined, items_defined}
 use Rattle.uc_numbers.specs.Routines.{owned, form_in, members_in, item_in, items_in}
 
 owner_is : (p : Program) (o : Owner) (r : Routine) → owned (classes_of p.items) o r ≡ defined_by p o r

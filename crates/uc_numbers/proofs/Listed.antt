@@ -1,5 +1,5 @@
 -- The first names of a list have the numbers that there are.
-use Rattle.std.proofs.Common.{◌≡◌, ℕ, zero, suc, ◌+◌, ◌≤◌, ◌<◌, List, [], ◌∷◌, ◌++◌, Bool, true, false, Option, Some, None, if◌then◌else◌, nat_le, length, take, drop, map, get_or, length-append, refl, ap, sym, ◌∙◌, arith, ◌⊎◌, inl, inr}
+use Rattle.std.proofs.Common.{◌≡◌, ℕ, zero, suc, ◌+◌, ◌≤◌, ◌<◌, List, [], ◌∷◌, ◌++◌, true, false, Option, Some, None, if◌then◌else◌, nat_le, length, take, drop, map, get_or, length-append, refl, ap, sym, ◌∙◌, arith, ◌⊎◌, inl, inr}
 use Rattle.std.specs.Prelude.{option_and_then}
 use Rattle.std.specs.List.{list_any}
 use Rattle.std.proofs.lemmas.Bool.{cases_lt}
@@ -48,16 +48,18 @@ cut_fits (suc k) (x ∷ xs) = omega (arith, cut_fits k xs)
 with_longer : (o : Option (List ℕ)) (ns : List (List ℕ)) → length ns ≤ length (with_name o ns)
 with_longer None ns = omega arith
 with_longer (Some n) ns =
-    elim (list_any (λ m. same_name m n) ns) as (λ b. length ns ≤ length (if b then ns else ns ++ n ∷ []))
-      [ true ↦ omega arith
-      | false ↦ omega (arith, length-append {A = List ℕ}) ]
+    elim (list_any (λ m. same_name m n) ns) as (λ b. length ns ≤ length (if b then ns else ns ++ n ∷ [])) [
+      | true ↦ omega arith
+      | false ↦ omega (arith, length-append {A = List ℕ})
+    ]
 
 with_front : (k : ℕ) (o : Option (List ℕ)) (ns : List (List ℕ)) → k ≤ length ns → take k (with_name o ns) ≡ take k ns
 with_front k None ns h = refl
 with_front k (Some n) ns h =
-    elim (list_any (λ m. same_name m n) ns) as (λ b. take k (if b then ns else ns ++ n ∷ []) ≡ take k ns)
-      [ true ↦ refl
-      | false ↦ cut_front k ns (n ∷ []) h ]
+    elim (list_any (λ m. same_name m n) ns) as (λ b. take k (if b then ns else ns ++ n ∷ []) ≡ take k ns) [
+      | true ↦ refl
+      | false ↦ cut_front k ns (n ∷ []) h
+    ]
 
 names_front : (k : ℕ) (ns : List (List ℕ)) (ms : List Member) → k ≤ length ns → take k (exclusive_names ns ms) ≡ take k ns
 names_front k ns [] h = refl
@@ -117,24 +119,26 @@ le_false n last h = grind (arith, nat_tests)
 le_true : (n last : ℕ) → n ≤ last → nat_le n last ≡ true
 le_true n last h = grind (arith, nat_tests)
 
-at_most_none : (last n : ℕ) → last < n → at_most last n ≡ None
+pub at_most_none : (last n : ℕ) → last < n → at_most last n ≡ None
 at_most_none last n h = ap (λ b. if b then Some n else None) (le_false n last h)
 
 past_last : (last i : ℕ) (ns : List (List ℕ)) (name : List ℕ) → last < i → option_and_then (at_most last) (place_from i ns name) ≡ None
 past_last last i [] name h = refl
 past_last last i (n ∷ ns) name h =
-    elim (same_name n name) as (λ b. option_and_then (at_most last) (if b then Some i else place_from (i + 1) ns name) ≡ None)
-      [ true ↦ at_most_none last i h
-      | false ↦ past_last last (i + 1) ns name (omega arith) ]
+    elim (same_name n name) as (λ b. option_and_then (at_most last) (if b then Some i else place_from (i + 1) ns name) ≡ None) [
+      | true ↦ at_most_none last i h
+      | false ↦ past_last last (i + 1) ns name (omega arith)
+    ]
 
 numbered : (k last i : ℕ) (ns : List (List ℕ)) (name : List ℕ) → i + k ≡ last + 1 → place_from i (take k ns) name ≡ option_and_then (at_most last) (place_from i ns name)
 numbered zero last i [] name e = refl
 numbered zero last i (n ∷ ns) name e = sym (past_last last i (n ∷ ns) name (omega arith))
 numbered (suc k) last i [] name e = refl
 numbered (suc k) last i (n ∷ ns) name e =
-    elim (same_name n name) as (λ b. (if b then Some i else place_from (i + 1) (take k ns) name) ≡ option_and_then (at_most last) (if b then Some i else place_from (i + 1) ns name))
-      [ true ↦ sym (ap (λ b. if b then Some i else None) (le_true i last (omega arith)))
-      | false ↦ numbered k last (i + 1) ns name (omega arith) ]
+    elim (same_name n name) as (λ b. (if b then Some i else place_from (i + 1) (take k ns) name) ≡ option_and_then (at_most last) (if b then Some i else place_from (i + 1) ns name)) [
+      | true ↦ sym (ap (λ b. if b then Some i else None) (le_true i last (omega arith)))
+      | false ↦ numbered k last (i + 1) ns name (omega arith)
+    ]
 
 pub member_numbered : (c : Class) (name : List ℕ) → place_from 1 (take MEMBERS (mutex_members c)) name ≡ member_number c name
 member_numbered c name = numbered MEMBERS MEMBERS 1 (mutex_members c) name refl

@@ -1,11 +1,11 @@
 -- The accept statements by the names of a class are those of the class.
-use Rattle.std.proofs.Common.{◌≡◌, ℕ, List, [], ◌∷◌, ◌++◌, Option, Some, None, map, refl, ap, sym, ◌∙◌, if◌then◌else◌}
+use Rattle.std.proofs.Common.{◌≡◌, ℕ, [], ◌∷◌, Option, Some, None, map, refl, ap, ◌∙◌, if◌then◌else◌}
 use Rattle.std.specs.Prelude.{unwrap_or}
 use mathlib.Core.Path.{fun_ext}
 use Rattle.uc_tree.specs.declared.limits.TheConstants.{DESTRUCTOR}
 use Rattle.uc_tree.specs.declared.kinds.MemberName.{MemberName}
 use Rattle.uc_tree.specs.Statements.{Stmt, Stmts, Accept, Clause, Accepts, clause_list}
-use Rattle.uc_tree.specs.Programs.{Class, Site}
+use Rattle.uc_tree.specs.Programs.{Class}
 use Rattle.uc_tree.specs.Gathered.{gathered_all}
 use Rattle.uc_tree.specs.Numbering.{own_sites, listed_number, clause_members, is_there}
 use Rattle.uc_numbers.specs.Flat.{itself, flat}

@@ -1,5 +1,5 @@
 -- The routines of a program, by its classes.
-use Rattle.std.specs.Prelude.{ℕ, List, [], ◌∷◌, ◌++◌, Option, None, option_map, option_and_then, unwrap_or}
+use Rattle.std.specs.Prelude.{ℕ, List, [], ◌∷◌, ◌++◌, None, option_map, option_and_then, unwrap_or}
 use Rattle.uc_tree.specs.declared.limits.TheConstants.{LAST_CLASS}
 use Rattle.uc_tree.specs.declared.kinds.Owner.{Owner}
 use Rattle.uc_tree.specs.declared.kinds.Owner.TheVariants as owner

@@ -1,5 +1,5 @@
 -- Accept statements, by the names of the mutex members of a class as far as they have numbers.
-use Rattle.std.specs.Prelude.{ℕ, List, [], ◌∷◌, ◌++◌, Option, Some, None, map, take, unwrap_or, if◌then◌else◌}
+use Rattle.std.specs.Prelude.{ℕ, List, [], ◌∷◌, Option, Some, None, map, take, unwrap_or, if◌then◌else◌}
 use Rattle.uc_tree.specs.declared.limits.TheConstants.{DESTRUCTOR, MEMBERS}
 use Rattle.uc_tree.specs.declared.kinds.MemberName.{MemberName}
 use Rattle.uc_tree.specs.Statements.{Stmt, Accept, Clause, Accepts, clause_list}

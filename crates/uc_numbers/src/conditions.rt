@@ -28,15 +28,14 @@ fn push_declarators<'a>(
     Ok(())
 }
 
-fn push_form<'a>(
-    found: &mut Vec<&'a Declarator>,
-    form: &'a MemberForm,
-) -> Result<(), AllocError>
+fn push_form<'a>(found: &mut Vec<&'a Declarator>, form: &'a MemberForm) -> Result<(), AllocError>
     ensures { OnOk result (map (λ d. d.now) found.new.items ≡ map (λ d. d.now) found.old.items ++ form_conditions (member_form_at form.now)) }
 {
     match form {
         MemberForm::Fields {
-            base, declarators, ..
+            base,
+            declarators,
+            ..
         } => match base {
             Base::Void => Ok(()),
             Base::Int => Ok(()),
@@ -116,11 +115,7 @@ pub fn condition_number(
 }
 
 /// How many conditions a class has, an array counted by its length. The greatest number stands for all that are greater.
-pub fn condition_count(
-    alloc: Global,
-    sizes: &Sizes,
-    class: &Class,
-) -> Result<u64, AllocError>
+pub fn condition_count(alloc: Global, sizes: &Sizes, class: &Class) -> Result<u64, AllocError>
     ensures { IfOk result (λ count. count ≡ capped (condition_count sizes.now class.now)) }
 {
     let conditions = conditions_in(alloc, &class.members)?;

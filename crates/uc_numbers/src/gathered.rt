@@ -113,10 +113,7 @@ fn push_clauses<'a>(found: &mut Vec<&'a Stmt>, clauses: &'a [Clause]) -> Result<
 }
 
 #[cycle(gathered)]
-fn push_maybe<'a>(
-    found: &mut Vec<&'a Stmt>,
-    s: &'a Option<Box<Stmt>>,
-) -> Result<(), AllocError>
+fn push_maybe<'a>(found: &mut Vec<&'a Stmt>, s: &'a Option<Box<Stmt>>) -> Result<(), AllocError>
     ensures { OnOk result (map (λ s. s.now) found.new.items ≡ map (λ s. s.now) found.old.items ++ gathered_maybe itself (maybe_at s.now)) }
 {
     match s {

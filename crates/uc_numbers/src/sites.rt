@@ -2,8 +2,10 @@
 
 ghost use Rattle.std.specs.Prelude.{◌≡◌, ◌≤◌, ◌++◌, IfOk, OnOk, map, option_map, length};
 ghost use Rattle.uc_tree.specs.declared.limits.TheConstants.{MEMBERS};
+ghost use Rattle.uc_tree.specs.Statements.{clause_list, clauses_of};
+ghost use Rattle.uc_tree.specs.StatementViews.{maybe_at};
 ghost use Rattle.uc_tree.specs.Gathered.{gathered_all};
-ghost use Rattle.uc_tree.specs.Numbering.{own_sites, sites_in, sites_of};
+ghost use Rattle.uc_tree.specs.Numbering.{own_sites, is_there, sites_in, sites_of};
 ghost use Rattle.uc_numbers.specs.Flat.{flat};
 ghost use Rattle.uc_numbers.specs.Routines.{defined_at};
 ghost use Rattle.uc_numbers.specs.Sites.{names_of, listed_in, clause_listed, own_listed};
@@ -52,7 +54,7 @@ fn site_of(
     has_else: bool,
 ) -> Result<Site, AllocError>
     requires few { length names.now ≤ MEMBERS }
-    ensures { IfOk result (λ s. s ≡ record { class = class; clauses = map (clause_listed (map (λ n. n.now) names.now)) clauses.now; has_else = has_else }) }
+    ensures { IfOk result (λ s. s ≡ record { class = class; clauses = map (clause_listed (map (λ n. n.now) names.now)) (clause_list (clauses_of clauses.now)); has_else = has_else }) }
 {
     let mut lists = Vec::new(alloc);
     for clause in clauses {
@@ -63,6 +65,15 @@ fn site_of(
         clauses: lists,
         has_else,
     })
+}
+
+fn is_there(other: &Option<Box<Stmt>>) -> bool
+    ensures { result ≡ is_there (maybe_at other.now) }
+{
+    match other {
+        Some(_) => true,
+        None => false,
+    }
 }
 
 fn push_site(
@@ -77,7 +88,8 @@ fn push_site(
 {
     match &s.form {
         StmtForm::Accept { clauses, other } => {
-            let site = site_of(alloc, names, class, clauses, other.is_some())?;
+            let has_else = is_there(other);
+            let site = site_of(alloc, names, class, clauses, has_else)?;
             found.push(site)?;
             Ok(())
         }
@@ -125,10 +137,7 @@ fn push_sites(
 }
 
 // The names of the mutex members of a class as far as they have numbers.
-fn names_of<'a>(
-    alloc: Global,
-    class: Option<&'a Class>,
-) -> Result<Vec<&'a Name>, AllocError>
+fn names_of<'a>(alloc: Global, class: Option<&'a Class>) -> Result<Vec<&'a Name>, AllocError>
     ensures names { IfOk result (λ v. map (λ n. n.now) v.items ≡ names_of (option_map (λ c. c.now) class.entry)) }
     ensures few { IfOk result (λ v. length v.items ≤ MEMBERS) }
 {
@@ -141,12 +150,7 @@ fn names_of<'a>(
     }
 }
 
-#[tactic(auto, using(crate::proofs::Places::sites_are))]
-fn push_routine(
-    alloc: Global,
-    found: &mut Vec<Site>,
-    defined: &Defined,
-) -> Result<(), AllocError>
+fn push_routine(alloc: Global, found: &mut Vec<Site>, defined: &Defined) -> Result<(), AllocError>
     ensures { OnOk result (found.new.items ≡ found.old.items ++ gathered_all (own_sites (defined_at defined.now).class (defined_at defined.now).number) (defined_at defined.now).routine.body) }
 {
     let routine = defined.routine;

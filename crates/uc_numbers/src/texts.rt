@@ -85,11 +85,7 @@ fn push_all(alloc: Global, found: &mut Vec<Text>, statements: &[&Stmt]) -> Resul
 }
 
 #[tactic(auto, using(crate::proofs::Flat::flat_all))]
-fn push_routine(
-    alloc: Global,
-    found: &mut Vec<Text>,
-    defined: &Defined,
-) -> Result<(), AllocError>
+fn push_routine(alloc: Global, found: &mut Vec<Text>, defined: &Defined) -> Result<(), AllocError>
     ensures { OnOk result (found.new.items ≡ found.old.items ++ gathered_all own_texts (defined_at defined.now).routine.body) }
 {
     let routine = defined.routine;

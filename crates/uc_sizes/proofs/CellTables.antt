@@ -5,7 +5,7 @@ use Rattle.uc_tree.specs.declared.rows.Object.{Object}
 use Rattle.uc_tree.specs.declared.rows.Held.{Held}
 use Rattle.uc_tree.specs.Capped.{capped}
 use Rattle.uc_tree.specs.Rows.{Row, row_at, has_itself, element_cells, held_cells, all_held_cells, row_cells, cells_within}
-use Rattle.uc_sizes.specs.Reached.{flag_at, AreCircles}
+use Rattle.uc_sizes.specs.Reached.{AreCircles}
 use Rattle.uc_sizes.specs.CellTables.{cell_at, next_at, Follows, Counted}
 
 -- capping a factor or a summand changes no capped product or sum
@@ -27,9 +27,10 @@ add_both a b x y e f = omega arith
 element_capped : (f g : ℕ → ℕ) → ((i : ℕ) → f i ≡ capped (g i)) → (n : ℕ) (o : Option Object) → capped (n * element_cells f o) ≡ capped (n * element_cells g o)
 element_capped f g e n None = refl
 element_capped f g e n (Some o) =
-    elim o.plain as (λ b. capped (n * (if b then f o.class else 1)) ≡ capped (n * (if b then g o.class else 1)))
-      [ true ↦ ap (λ m. capped (n * m)) (e o.class) ∙ capped_mul n (g o.class)
-      | false ↦ refl ]
+    elim o.plain as (λ b. capped (n * (if b then f o.class else 1)) ≡ capped (n * (if b then g o.class else 1))) [
+      | true ↦ ap (λ m. capped (n * m)) (e o.class) ∙ capped_mul n (g o.class)
+      | false ↦ refl
+    ]
 
 all_capped : (f g : ℕ → ℕ) → ((i : ℕ) → f i ≡ capped (g i)) → (hs : List Held) → capped (all_held_cells f hs) ≡ capped (all_held_cells g hs)
 all_capped f g e [] = refl
@@ -43,9 +44,10 @@ row_capped f g e r = add_both r.leading (all_held_cells f r.held) r.leading (all
 pub deeper_at : (k : ℕ) (rows : List Row) (cells : List ℕ) → Counted k rows cells → (i : ℕ) → (if has_itself rows i then 0 else capped (row_cells (cell_at cells) (row_at rows i))) ≡ capped (cells_within (suc k) rows i)
 unfolding cells_within
 deeper_at k rows cells c i =
-    elim (has_itself rows i) as (λ b. (if b then 0 else capped (row_cells (cell_at cells) (row_at rows i))) ≡ capped (if b then 0 else row_cells (cells_within k rows) (row_at rows i)))
-      [ true ↦ refl
-      | false ↦ row_capped (cell_at cells) (cells_within k rows) c.at (row_at rows i) ]
+    elim (has_itself rows i) as (λ b. (if b then 0 else capped (row_cells (cell_at cells) (row_at rows i))) ≡ capped (if b then 0 else row_cells (cells_within k rows) (row_at rows i))) [
+      | true ↦ refl
+      | false ↦ row_capped (cell_at cells) (cells_within k rows) c.at (row_at rows i)
+    ]
 
 past_row : (rows : List Row) (i : ℕ) (f : ℕ → ℕ) → length rows ≤ i → row_cells f (row_at rows i) ≡ 0
 past_row [] i f h = refl
@@ -56,9 +58,10 @@ past_cells : (k : ℕ) (rows : List Row) (i : ℕ) → length rows ≤ i → cap
 unfolding cells_within
 past_cells zero rows i h = refl
 past_cells (suc k) rows i h =
-    elim (has_itself rows i) as (λ b. capped (if b then 0 else row_cells (cells_within k rows) (row_at rows i)) ≡ 0)
-      [ true ↦ refl
-      | false ↦ ap capped (past_row rows i (cells_within k rows) h) ]
+    elim (has_itself rows i) as (λ b. capped (if b then 0 else row_cells (cells_within k rows) (row_at rows i)) ≡ 0) [
+      | true ↦ refl
+      | false ↦ ap capped (past_row rows i (cells_within k rows) h)
+    ]
 
 past_table : (cells : List ℕ) (i : ℕ) → length cells ≤ i → cell_at cells i ≡ 0
 past_table [] i h = refl

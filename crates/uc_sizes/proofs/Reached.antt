@@ -1,8 +1,8 @@
 -- Flags that are told all that they tell stand just where a class leads to the class sought.
-use Rattle.std.proofs.Common.{◌≡◌, ℕ, zero, suc, ◌+◌, ◌-◌, ◌≤◌, ◌<◌, List, [], ◌∷◌, Bool, true, false, Option, Some, None, ◌||◌, nat_eq, length, refl, ap, sym, ◌∙◌, arith, get_or, set, replicate, ◌⊎◌, inl, inr, ◌≢◌}
+use Rattle.std.proofs.Common.{◌≡◌, ℕ, zero, suc, ◌+◌, ◌-◌, ◌≤◌, ◌<◌, List, [], ◌∷◌, Bool, true, false, Option, Some, None, ◌||◌, nat_eq, length, refl, ap, sym, ◌∙◌, arith, set, ◌⊎◌, inl, inr, ◌≢◌}
 use Rattle.std.proofs.lemmas.Bool.{cases_eq, cases_lt}
 use Rattle.std.specs.List.{list_any}
-use Rattle.std.proofs.lemmas.List.{get_or-set_same, get_or-set_other}
+use Rattle.std.proofs.lemmas.List.{get_or-set_other}
 use Rattle.uc_tree.specs.declared.rows.Object.{Object}
 use Rattle.uc_tree.specs.declared.rows.Held.{Held}
 use Rattle.uc_tree.specs.Rows.{Row, row_at, leads, object_leads, reaches, has_itself}
@@ -83,5 +83,5 @@ itself rows to fs n l t =
     let fits : flagged fs ≤ length rows = omega (arith, flagged_fits fs) in
     let e : length rows - flagged fs + flagged fs ≡ length rows = omega arith in
     same_truth (flag_at fs to) (reaches (length rows) rows to to)
-      (λ f. rw e at (much_further (length rows - flagged fs) (flagged fs) rows to to (l.at to f)))
-      (λ r. all_told (length rows) rows to fs t to r)
+    (λ f. rw e at (much_further (length rows - flagged fs) (flagged fs) rows to to (l.at to f)))
+    (λ r. all_told (length rows) rows to fs t to r)

@@ -1,14 +1,13 @@
 -- What is known of a program whose cells are counted.
-use Rattle.std.proofs.Common.{◌≡◌, ℕ, ℤ, List, Option, length, map, ap, sym, ◌∙◌, if◌then◌else◌, None}
-use Rattle.std.specs.List.{list_any}
+use Rattle.std.proofs.Common.{◌≡◌, ℕ, ℤ, List, Option, length, map, ap, ◌∙◌, if◌then◌else◌, None}
 use Rattle.uc_tree.specs.Capped.{capped}
 use Rattle.uc_tree.specs.Programs.{Class, Constant, Program}
 use Rattle.uc_tree.specs.Constants.{constants_of, value_of_name}
 use Rattle.uc_tree.specs.Rows.{Row, cells_within}
-use Rattle.uc_tree.specs.Cells.{classes_of, class_cells, rows_of, leading_cells, members_held, has_member}
+use Rattle.uc_tree.specs.Cells.{classes_of, rows_of, leading_cells, members_held, has_member}
 use Rattle.uc_sizes.specs.Values.{value_at}
 use Rattle.uc_sizes.specs.Held.{rows_by}
-use Rattle.uc_sizes.specs.CellTables.{cell_at, Counted}
+use Rattle.uc_sizes.specs.CellTables.{Counted}
 use Rattle.uc_sizes.specs.Sized.{IsSized}
 
 -- the rows by what gives the values of names
@@ -26,4 +25,5 @@ sized p classes constants values rows cells a b v r counted = record {
   classes_are = a;
   constants_are = b;
   values_are = v;
-  cells_are = λ i. counted.at i ∙ ap (λ rs. capped (cells_within (length rs) rs i)) (r ∙ rows_are p classes constants values a b v) }
+  cells_are = λ i. counted.at i ∙ ap (λ rs. capped (cells_within (length rs) rs i)) (r ∙ rows_are p classes constants values a b v);
+}

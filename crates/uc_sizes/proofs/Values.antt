@@ -1,5 +1,5 @@
 -- A table that has all that can be reckoned by it holds the values of the constants.
-use Rattle.std.proofs.Common.{◌≡◌, ℕ, zero, suc, ℤ, ◌+◌, ◌≤◌, ◌<◌, List, [], ◌∷◌, Bool, true, false, Option, Some, None, if◌then◌else◌, length, refl, ap, sym, ◌∙◌, arith, get_or, set, slice_get, is_some, is_none, map, replicate, ◌⊎◌, inl, inr, ◌≢◌, ◌-◌}
+use Rattle.std.proofs.Common.{◌≡◌, ℕ, zero, suc, ℤ, ◌+◌, ◌≤◌, ◌<◌, List, [], ◌∷◌, true, false, Option, Some, None, if◌then◌else◌, length, refl, ap, sym, ◌∙◌, arith, get_or, set, slice_get, is_some, is_none, map, replicate, ◌⊎◌, inl, inr, ◌≢◌, ◌-◌}
 use Rattle.std.proofs.lemmas.Bool.{cases_eq}
 use Rattle.std.proofs.lemmas.List.{get_or-set_same, get_or-set_other}
 use Rattle.std.specs.Prelude.{option_and_then, option_map}
@@ -80,9 +80,10 @@ own_deeper (suc k) cs c = own_below c (constant_value k cs) (constant_value (suc
 from_under : (cs all : List Constant) (i : ℕ) (vs : List (Option ℤ)) (k : ℕ) → ((j : ℕ) (c : Constant) → slice_get cs j ≡ Some c → Under (get_or vs (i + j) None) (own_at k all c)) → (name : List ℕ) → Under (value_from cs i vs name) (option_and_then (own_at k all) (constant_named cs name))
 from_under [] all i vs k h name = under_none None
 from_under (c ∷ cs) all i vs k h name =
-    elim (same_name c.name name) as (λ b. Under (if b then get_or vs i None else value_from cs (i + 1) vs name) (option_and_then (own_at k all) (if b then Some c else constant_named cs name)))
-      [ true ↦ (let e : i + 0 ≡ i = omega arith in rw e at (h 0 c refl))
-      | false ↦ from_under cs all (i + 1) vs k (λ j d s. let e : i + suc j ≡ i + 1 + j = omega arith in rw e at (h (suc j) d s)) name ]
+    elim (same_name c.name name) as (λ b. Under (if b then get_or vs i None else value_from cs (i + 1) vs name) (option_and_then (own_at k all) (if b then Some c else constant_named cs name))) [
+      | true ↦ (let e : i + 0 ≡ i = omega arith in rw e at (h 0 c refl))
+      | false ↦ from_under cs all (i + 1) vs k (λ j d s. let e : i + suc j ≡ i + 1 + j = omega arith in rw e at (h (suc j) d s)) name
+    ]
 
 own_none : (all : List Constant) (o : Option Constant) → Under (option_and_then (own_at 0 all) o) None
 own_none all None = under_same None
@@ -136,9 +137,10 @@ sound_more cs vs i z h e s own = (record { at = λ j c at. rw (known_more vs i z
 closed_from : (cs : List Constant) (i : ℕ) (vs : List (Option ℤ)) (f : List ℕ → Option ℤ) → ((j : ℕ) (c : Constant) → slice_get cs j ≡ Some c → Under (own_value f c) (get_or vs (i + j) None)) → (name : List ℕ) → Under (option_and_then (own_value f) (constant_named cs name)) (value_from cs i vs name)
 closed_from [] i vs f h name = under_none None
 closed_from (c ∷ cs) i vs f h name =
-    elim (same_name c.name name) as (λ b. Under (option_and_then (own_value f) (if b then Some c else constant_named cs name)) (if b then get_or vs i None else value_from cs (i + 1) vs name))
-      [ true ↦ (let e : i + 0 ≡ i = omega arith in rw e at (h 0 c refl))
-      | false ↦ closed_from cs (i + 1) vs f (λ j d s. let e : i + suc j ≡ i + 1 + j = omega arith in rw e at (h (suc j) d s)) name ]
+    elim (same_name c.name name) as (λ b. Under (option_and_then (own_value f) (if b then Some c else constant_named cs name)) (if b then get_or vs i None else value_from cs (i + 1) vs name)) [
+      | true ↦ (let e : i + 0 ≡ i = omega arith in rw e at (h 0 c refl))
+      | false ↦ closed_from cs (i + 1) vs f (λ j d s. let e : i + suc j ≡ i + 1 + j = omega arith in rw e at (h (suc j) d s)) name
+    ]
 
 all_below : (k : ℕ) (cs : List Constant) (t : List ℕ → Option ℤ) → ((name : List ℕ) → Under (option_and_then (own_value t) (constant_named cs name)) (t name)) → Below (constant_value k cs) t
 unfolding constant_value
@@ -176,10 +178,12 @@ at_map f (a ∷ xs) (suc i) x y h e s = at_map f xs i x y (omega arith) e s
 
 settled_case : (cs : List Constant) (vs : List (Option ℤ)) (i : ℕ) (c : Constant) → Sound cs vs → slice_get cs i ≡ Some c → (o : Option ℤ) → get_or vs i None ≡ o → is_some o ≡ true → Under (own_value (value_at cs vs) c) (get_or vs i None)
 settled_case cs vs i c s at None e h = cc
-settled_case cs vs i c s at (Some y) e h = record { kept = λ z own.
-    let deep : own_at (suc (known vs)) cs c ≡ Some z = (reckoned_deeper cs vs c s).kept z own in
-    let old : own_at (suc (known vs)) cs c ≡ Some y = (own_deeper (known vs) cs c).kept y ((s.at i c at).kept y e) in
-    e ∙ sym old ∙ deep }
+settled_case cs vs i c s at (Some y) e h = record {
+  kept = λ z own.
+      let deep : own_at (suc (known vs)) cs c ≡ Some z = (reckoned_deeper cs vs c s).kept z own in
+      let old : own_at (suc (known vs)) cs c ≡ Some y = (own_deeper (known vs) cs c).kept y ((s.at i c at).kept y e) in
+      e ∙ sym old ∙ deep;
+}
 
 pub settled : (cs : List Constant) (vs : List (Option ℤ)) (i : ℕ) (c : Constant) → Sound cs vs → slice_get cs i ≡ Some c → is_some (get_or vs i None) ≡ true → Under (own_value (value_at cs vs) c) (get_or vs i None)
 settled cs vs i c s at h = settled_case cs vs i c s at (get_or vs i None) refl h
@@ -198,4 +202,3 @@ reckoned_case cs vs i r here j c at h (inr other) = r.at j c (omega arith) at
 
 pub reckoned_more : (cs : List Constant) (vs : List (Option ℤ)) (i : ℕ) → Reckoned cs vs i → ((c : Constant) → slice_get cs i ≡ Some c → Under (own_value (value_at cs vs) c) (get_or vs i None)) → Reckoned cs vs (i + 1)
 reckoned_more cs vs i r here = record { at = λ j c h at. reckoned_case cs vs i r here j c at h (cases_eq j i) }
-

@@ -1,5 +1,5 @@
 -- Which classes have a class in their fields: how far a table of flags has come.
-use Rattle.std.specs.Prelude.{◌≡◌, ℕ, ◌+◌, ◌<◌, List, [], ◌∷◌, Bool, true, false, get_or, length}
+use Rattle.std.specs.Prelude.{◌≡◌, ℕ, ◌+◌, ◌<◌, List, [], ◌∷◌, Bool, true, false, get_or}
 use Rattle.std.specs.List.{list_any}
 use Rattle.uc_tree.specs.Rows.{Row, row_at, leads, reaches, has_itself}
 

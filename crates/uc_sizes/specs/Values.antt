@@ -1,5 +1,5 @@
 -- Tables of values: a value, or none, for each constant of a program by its place among them.
-use Rattle.std.specs.Prelude.{ℕ, zero, suc, ℤ, ◌+◌, List, [], ◌∷◌, Option, Some, None, if◌then◌else◌, get_or, map}
+use Rattle.std.specs.Prelude.{ℕ, ℤ, ◌+◌, List, [], ◌∷◌, Option, None, if◌then◌else◌, get_or, map}
 use Rattle.std.specs.List.{list_any}
 use Rattle.uc_tree.specs.Names.{same_name}
 use Rattle.uc_tree.specs.Programs.{Constant, Member}

@@ -120,13 +120,7 @@ pub fn converted_to(base: &Base, x: i64) -> i64
         Base::Void => x,
         Base::Int => x,
         Base::Char => x.rem_euclid(CHAR_VALUES),
-        Base::Bool => {
-            if x == 0 {
-                0
-            } else {
-                1
-            }
-        }
+        Base::Bool => { if x == 0 { 0 } else { 1 } }
         Base::Condition => x,
         Base::Cluster => x,
         Base::Processor => x,
@@ -159,11 +153,7 @@ pub fn value_of(e: &Expr, named: &Named) -> Option<i64>
 }
 
 #[cycle(value)]
-fn value_of_chain(
-    left: Option<i64>,
-    rest: &[Link],
-    named: &Named,
-) -> Option<i64>
+fn value_of_chain(left: Option<i64>, rest: &[Link], named: &Named) -> Option<i64>
     ensures { result ≡ chain_value_in (links_of rest.now) left (seen_by named.now) }
 {
     let mut value = left;
@@ -174,11 +164,7 @@ fn value_of_chain(
 }
 
 #[cycle(value)]
-fn value_of_link(
-    left: Option<i64>,
-    link: &Link,
-    named: &Named,
-) -> Option<i64>
+fn value_of_link(left: Option<i64>, link: &Link, named: &Named) -> Option<i64>
     ensures { result ≡ link_value_in link.now left (seen_by named.now) }
 {
     let right = value_of(&link.right, named);

@@ -46,7 +46,9 @@ fn cells_of_for(sizes: &Sizes, start: &ForStart) -> u64
     match &start.form {
         ForForm::Nothing => 0,
         ForForm::Declare {
-            base, declarators, ..
+            base,
+            declarators,
+            ..
         } => cells_of_declarators(sizes, base, declarators),
         ForForm::Evaluate { .. } => 0,
     }

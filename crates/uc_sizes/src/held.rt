@@ -53,9 +53,18 @@ fn object_of_kind(class: usize, kind: Kind) -> Option<Object>
     match kind {
         Kind::Class => Some(Object { class, plain: true }),
         Kind::Coroutine => Some(Object { class, plain: true }),
-        Kind::Monitor => Some(Object { class, plain: false }),
-        Kind::Cormonitor => Some(Object { class, plain: false }),
-        Kind::Task => Some(Object { class, plain: false }),
+        Kind::Monitor => Some(Object {
+            class,
+            plain: false,
+        }),
+        Kind::Cormonitor => Some(Object {
+            class,
+            plain: false,
+        }),
+        Kind::Task => Some(Object {
+            class,
+            plain: false,
+        }),
         Kind::Event => None,
     }
 }
@@ -127,7 +136,9 @@ fn push_member(
 {
     match form {
         MemberForm::Fields {
-            base, declarators, ..
+            base,
+            declarators,
+            ..
         } => {
             push_fields(held, classes, named, base, declarators)?;
             Ok(())

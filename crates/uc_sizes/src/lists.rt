@@ -38,10 +38,7 @@ fn class_in(item: &Item) -> Option<&Class>
 }
 
 /// The constants among these items.
-pub fn constants_in<'a>(
-    alloc: Global,
-    items: &'a [Item],
-) -> Result<Vec<&'a Constant>, AllocError>
+pub fn constants_in<'a>(alloc: Global, items: &'a [Item]) -> Result<Vec<&'a Constant>, AllocError>
     ensures { IfOk result (λ v. map (λ c. c.now) v.items ≡ constants_of items.now) }
 {
     let mut found = Vec::new(alloc);

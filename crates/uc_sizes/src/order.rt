@@ -13,11 +13,7 @@ fn place_of(constants: &[&Constant], name: &Name) -> Option<usize> {
 
 // Adds the places of the constants that an expression names.
 #[cycle(uses)]
-fn push_uses(
-    uses: &mut Vec<usize>,
-    constants: &[&Constant],
-    e: &Expr,
-) -> Result<(), AllocError> {
+fn push_uses(uses: &mut Vec<usize>, constants: &[&Constant], e: &Expr) -> Result<(), AllocError> {
     match &e.form {
         ExprForm::Number { .. } => Ok(()),
         ExprForm::Character { .. } => Ok(()),

@@ -1,4 +1,4 @@
-use Rattle.std.proofs.Common.{◌≡◌, ◌≤◌, ◌<◌, ◌+◌, ◌^◌, drop, map}
+use Rattle.std.proofs.Common.{◌≡◌, ◌<◌, ◌^◌, drop, map}
 use Rattle.std.specs.Prelude.{option_and_then}
 use Rattle.uc_tree.specs.declared.limits.TheConstants.{LAST_CONDITION}
 use Rattle.uc_tree.specs.Constants.{constants_of}

@@ -1,4 +1,4 @@
-use Rattle.std.proofs.Common.{◌≡◌, ◌<◌, Some, true, false, map, length, sym, ap, ◌∙◌, ◌++◌, ◌∷◌, [], arith, rules}
+use Rattle.std.proofs.Common.{◌≡◌, ◌<◌, true, false, map, length, sym, ap, ◌∙◌, ◌++◌, ◌∷◌, [], arith, rules}
 use Rattle.std.specs.List.{list_any}
 use Rattle.uc_tree.specs.declared.limits.TheConstants.{MEMBERS}
 use Rattle.uc_tree.specs.Names.{same_name}
@@ -14,7 +14,7 @@ returns-then-len c =
 pub returns-then-is_listed : goal.returns-then-is_listed
 returns-then-is_listed c =
     let there : list_any (λ m. same_name m c.in-Some.name.now) (map (λ n. n.now) c.args.names.now.items) ≡ true = search rules in
-    kept_listed (exclusive_name c.args.member.now) (map (λ n. n.now) c.args.names.now.items) c.in-Some.name.now (sym c.in-Some.ensures) there c.requires
+    kept_listed (exclusive_name c.args.member.now) (map (λ n. n.now) c.args.names.now.items) c.in-Some.name.now (sym c.in-Some.ensures) there c.requires.few
 
 pub returns-in_ok-push-in-Some : goal.returns-in_ok-push-in-Some
 returns-in_ok-push-in-Some c =
@@ -24,4 +24,4 @@ returns-in_ok-push-in-Some c =
     ap (λ l. map (λ n. n.now) l) items ∙ map_push (λ n. n.now) c.args.names.now.items c.in-Some.name ∙ kept_new (exclusive_name c.args.member.now) (map (λ n. n.now) c.args.names.now.items) c.in-Some.name.now (sym c.in-Some.ensures) there few
 
 pub returns-in-None : goal.returns-in-None
-returns-in-None c = kept_none (exclusive_name c.args.member.now) (map (λ n. n.now) c.args.names.now.items) (sym c.in-None.ensures) c.requires
+returns-in-None c = kept_none (exclusive_name c.args.member.now) (map (λ n. n.now) c.args.names.now.items) (sym c.in-None.ensures) c.requires.few

@@ -1,4 +1,4 @@
-use Rattle.std.proofs.Common.{◌≡◌, ◌++◌, drop, map}
+use Rattle.std.proofs.Common.{◌≡◌, ◌++◌, drop}
 use Rattle.uc_tree.specs.Numbering.{item_texts}
 use Rattle.uc_numbers.proofs.texts.push_items.Given as goal
 

@@ -1,4 +1,4 @@
-use Rattle.std.proofs.Common.{◌≡◌, ◌+◌, ◌≤◌, ℕ, suc, length, replicate, ap, subst, sym, ◌∙◌, rules, arith}
+use Rattle.std.proofs.Common.{◌≡◌, ◌+◌, suc, length, replicate, subst, sym, ◌∙◌, rules, arith}
 use Rattle.uc_sizes.specs.CellTables.{Counted}
 use Rattle.uc_sizes.proofs.CellTables.{counted_first, counted_more, still}
 use Rattle.uc_sizes.proofs.cells.cells_of.Goals as goal

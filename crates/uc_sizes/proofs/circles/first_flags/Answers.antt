@@ -1,4 +1,4 @@
-use Rattle.std.proofs.Common.{◌≡◌, ◌++◌, length, take, drop, subst, sym, rules}
+use Rattle.std.proofs.Common.{◌≡◌, length, subst, sym, rules}
 use Rattle.uc_sizes.specs.Reached.{Led}
 use Rattle.uc_sizes.proofs.Whole.{whole_again}
 use Rattle.uc_sizes.proofs.circles.first_flags.Goals as goal

@@ -1,6 +1,5 @@
-use Rattle.std.proofs.Common.{◌≡◌, ◌<◌, ◌≤◌, ◌++◌, false, length, take, drop, get_or, ap, subst, sym, ◌∙◌, rules, arith}
-use Rattle.uc_tree.specs.Rows.{has_itself}
-use Rattle.uc_sizes.specs.Reached.{flagged, flag_at}
+use Rattle.std.proofs.Common.{◌≡◌, ◌<◌, ◌≤◌, ◌++◌, false, length, take, drop, get_or, ap, ◌∙◌, rules, arith}
+use Rattle.uc_sizes.specs.Reached.{flagged}
 use Rattle.uc_sizes.proofs.Whole.{whole_again, at_any}
 use Rattle.uc_sizes.proofs.Reached.{flagged_fits, itself}
 use Rattle.uc_sizes.proofs.circles.has_itself.Goals as goal

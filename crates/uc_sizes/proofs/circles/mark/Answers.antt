@@ -1,7 +1,6 @@
-use Rattle.std.proofs.Common.{◌≡◌, ◌<◌, true, false, length, ap, sym, ◌∙◌, rules, arith}
+use Rattle.std.proofs.Common.{◌≡◌, true, false, ap, ◌∙◌, rules, arith}
 use Rattle.std.specs.List.{list_any}
-use Rattle.uc_tree.specs.declared.rows.Held.{Held}
-use Rattle.uc_tree.specs.Rows.{Row, row_at, leads}
+use Rattle.uc_tree.specs.Rows.{row_at, leads}
 use Rattle.uc_sizes.specs.Reached.{flag_at, row_leads}
 use Rattle.uc_sizes.proofs.CellTables.{row_is}
 use Rattle.uc_sizes.proofs.Reached.{led_more}

@@ -1,4 +1,4 @@
-use Rattle.std.proofs.Common.{◌≡◌, ◌++◌, length, map, take, drop, subst, sym, rules}
+use Rattle.std.proofs.Common.{◌≡◌, length, map, subst, sym, rules}
 use Rattle.uc_sizes.specs.Reckoned.{Sound}
 use Rattle.uc_sizes.proofs.Whole.{whole_again}
 use Rattle.uc_sizes.proofs.tables.first_values.Goals as goal

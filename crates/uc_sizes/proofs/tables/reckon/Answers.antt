@@ -1,8 +1,6 @@
-use Rattle.std.proofs.Common.{◌≡◌, ◌<◌, true, false, Some, None, map, get_or, set, slice_get, is_some, is_none, length, ap, sym, ◌∙◌, rules, arith}
-use Rattle.uc_tree.specs.Programs.{Constant}
+use Rattle.std.proofs.Common.{◌≡◌, ◌<◌, true, false, None, map, get_or, is_some, is_none, length, ap, sym, ◌∙◌, rules, arith}
 use Rattle.uc_tree.specs.Constants.{own_value}
 use Rattle.uc_sizes.specs.Values.{value_at}
-use Rattle.uc_sizes.specs.Reckoned.{Sound, known}
 use Rattle.uc_sizes.proofs.Values.{at_map, settled, sound_set}
 use Rattle.uc_sizes.proofs.tables.reckon.Goals as goal
 
@@ -17,7 +15,7 @@ returns-clause-sound c =
     let empty : is_some (get_or c.args.values.now c.args.place None) ≡ false = search rules in
     let full : is_none c.own_value-own.result ≡ false = search rules in
     (sound_set (map (λ c'. c'.now) c.args.constants.now) c.args.values.now c.args.place c.own_value-own.result inside empty c.requires.sound
-      (λ d at. ap (λ k. own_value (value_at (map (λ c'. c'.now) c.args.constants.now) c.args.values.now) k) (at_map (λ c'. c'.now) c.args.constants.now c.args.place c.index-constants-place.result d c.requires.inside c.index-constants-place.is at) ∙ sym c.own_value-own.ensures) full).0
+    (λ d at. ap (λ k. own_value (value_at (map (λ c'. c'.now) c.args.constants.now) c.args.values.now) k) (at_map (λ c'. c'.now) c.args.constants.now c.args.place c.index-constants-place.result d c.requires.inside c.index-constants-place.is at) ∙ sym c.own_value-own.ensures) full).0
 
 pub returns-clause-more : goal.returns-clause-more
 returns-clause-more c = λ t.
@@ -25,4 +23,4 @@ returns-clause-more c = λ t.
     let empty : is_some (get_or c.args.values.now c.args.place None) ≡ false = search rules in
     let full : is_none c.own_value-own.result ≡ false = search rules in
     (sound_set (map (λ c'. c'.now) c.args.constants.now) c.args.values.now c.args.place c.own_value-own.result inside empty c.requires.sound
-      (λ d at. ap (λ k. own_value (value_at (map (λ c'. c'.now) c.args.constants.now) c.args.values.now) k) (at_map (λ c'. c'.now) c.args.constants.now c.args.place c.index-constants-place.result d c.requires.inside c.index-constants-place.is at) ∙ sym c.own_value-own.ensures) full).1
+    (λ d at. ap (λ k. own_value (value_at (map (λ c'. c'.now) c.args.constants.now) c.args.values.now) k) (at_map (λ c'. c'.now) c.args.constants.now c.args.place c.index-constants-place.result d c.requires.inside c.index-constants-place.is at) ∙ sym c.own_value-own.ensures) full).1

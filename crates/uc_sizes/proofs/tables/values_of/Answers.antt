@@ -21,4 +21,4 @@ returns c =
     let same : length c.sweep.new.values ≡ length c.sweeps.values.items = search rules in
     let len : c.sweeps.values.len ≡ length c.sweeps.values.items = search rules in
     subst (λ vs. value_at (map (λ c'. c'.now) c.args.constants.now) vs ≡ value_of_name (map (λ c'. c'.now) c.args.constants.now)) (sym (whole_again c.sweep.new.values c.sweeps.values.items c.sweeps.values.len same len))
-      (all_values (map (λ c'. c'.now) c.args.constants.now) c.sweep.new.values (length c.args.constants.now) (map_length (λ c'. c'.now) c.args.constants.now) (omega (arith, c.sweeps.invariant.0)) c.sweep.ensures.sound (c.sweep.ensures.reckoned (search rules)))
+    (all_values (map (λ c'. c'.now) c.args.constants.now) c.sweep.new.values (length c.args.constants.now) (map_length (λ c'. c'.now) c.args.constants.now) (omega (arith, c.sweeps.invariant.0)) c.sweep.ensures.sound (c.sweep.ensures.reckoned (search rules)))

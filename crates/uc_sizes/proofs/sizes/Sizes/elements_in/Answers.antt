@@ -1,6 +1,5 @@
-use Rattle.std.proofs.Common.{◌≡◌, ℕ, ℤ, List, Option, None, map, ap, ◌∙◌, if◌then◌else◌}
+use Rattle.std.proofs.Common.{◌≡◌, None, map, ap, ◌∙◌, if◌then◌else◌}
 use Rattle.std.specs.List.{list_any}
-use Rattle.uc_tree.specs.Programs.{Member}
 use Rattle.uc_tree.specs.Constants.{constants_of, elements, value_of_name}
 use Rattle.uc_tree.specs.Cells.{member_form_named}
 use Rattle.uc_sizes.specs.Values.{value_at}

@@ -1,5 +1,4 @@
-use Rattle.std.proofs.Common.{◌≡◌, ℕ, ℤ, List, Option, map, ap, ◌∙◌}
-use Rattle.uc_tree.specs.Programs.{Class, Constant}
+use Rattle.std.proofs.Common.{◌≡◌, map, ap, ◌∙◌}
 use Rattle.uc_tree.specs.Constants.{constants_of, value_of_name}
 use Rattle.uc_tree.specs.Cells.{classes_of, held_by}
 use Rattle.uc_sizes.specs.Values.{value_at}
