@@ -16,9 +16,9 @@ use uc_step::step::step;
 use uc_step::stepped::Stepped;
 
 // One op, which leads on.
-#[tactic(auto, using(crate::proofs::Moves::moves_on, crate::proofs::Moves::inside_ops))]
+
 fn move_on(code: &Code, work: &mut Work) -> Result<Stepped, AllocError>
-    requires { IsForward code.now.ops }
+    requires forward { IsForward code.now.ops }
     ensures source { IfOk result (λ how. (s : State) → Stands code.now.ops work.old s → Follow code.now.ops how work.new s) }
     ensures on { IfOk result (λ how. GoesOn code.now.ops work.old work.new) }
     ensures inside { IfOk result (λ how. how ≡ stepped.Quiet → work.old.control.next < length code.now.ops) }
@@ -28,8 +28,9 @@ fn move_on(code: &Code, work: &mut Work) -> Result<Stepped, AllocError>
 }
 
 /// Steps until the task asks.
+#[tactic(auto, using(crate::proofs::Rode::come_first, crate::proofs::Rode::come_on, crate::proofs::Rode::come_asked, crate::proofs::Rode::come_ticked))]
 pub(crate) fn ride(code: &Code, work: &mut Work) -> Result<Asked, AllocError>
-    requires { IsForward code.now.ops }
+    requires forward { IsForward code.now.ops }
     ensures asked { IfOk result (λ asked. HasAsked code.now.ops work.old asked work.new) }
     ensures on { IfOk result (λ asked. GoesOn code.now.ops work.old work.new) }
 {
