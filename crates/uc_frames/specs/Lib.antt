@@ -1,2 +1,4 @@
 pub mod Machine
 pub mod Numbered
+pub mod Parts
+pub mod Stands

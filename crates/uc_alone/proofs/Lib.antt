@@ -1,0 +1,5 @@
+pub mod Unseen
+pub mod Facts
+pub mod Hands
+pub mod Going
+pub mod Acts

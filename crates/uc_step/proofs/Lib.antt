@@ -1,0 +1,7 @@
+pub mod Lists
+pub mod Changes
+pub mod Operands
+pub mod Settle
+pub mod Simulate
+pub mod Begin
+pub mod Rode

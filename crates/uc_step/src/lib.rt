@@ -1,0 +1,11 @@
+// One op of a task: what the source machine does in some quiet steps.
+#![tactic(auto)]
+
+mod jumps;
+mod memory;
+mod numbers;
+mod operators;
+mod outside;
+mod pushes;
+pub mod step;
+pub mod stepped;

@@ -1,0 +1,135 @@
+// What the operators give for two numbers.
+
+ghost use Rattle.std.specs.Prelude.{◌≡◌, ℤ, neg_ℤ, FitsSigned};
+ghost use Rattle.std.specs.Int.{w64};
+ghost use Rattle.std.specs.Option.{SomeIff};
+ghost use Rattle.uc_tree.specs.Source.{Plus, Minus, Times, Over, Modulo, Equal, NotEqual, Less, AtMost, Greater, AtLeast};
+ghost use Rattle.uc_meaning.specs.Quiet.{Gives, outcome, int_outcome, fits, truth};
+ghost use Rattle.uc_step.specs.Given.{outcome_of};
+
+use uc_tree::limits::{INT_MAX, INT_MIN};
+
+const OVERFLOW: u8 = 1;
+
+const DIVIDE_BY_ZERO: u8 = 2;
+
+// A number, or a fault by its number.
+#[derive(Clone, Copy)]
+pub(crate) enum Given {
+    Number(i64),
+    Fault(u8),
+}
+
+// Whether a number is an `int`.
+fn is_int(number: i64) -> bool
+    ensures { result ≡ fits number }
+{
+    INT_MIN <= number && number <= INT_MAX
+}
+
+// A number that must be an `int`; there is none where it does not even fit 64 bits.
+fn as_int(number: Option<i64>) -> Given
+    ensures { (z : ℤ) → SomeIff number (FitsSigned w64 z) z → outcome_of result ≡ int_outcome z }
+{
+    match number {
+        None => Given::Fault(OVERFLOW),
+        Some(n) => {
+            if is_int(n) {
+                Given::Number(n)
+            } else {
+                Given::Fault(OVERFLOW)
+            }
+        }
+    }
+}
+
+// 1 for true, 0 for false.
+pub(crate) fn one_if(holds: bool) -> i64
+    ensures { result ≡ truth holds }
+{
+    if holds { 1 } else { 0 }
+}
+
+pub(crate) fn plus(left: i64, right: i64) -> Given
+    ensures { outcome_of result ≡ outcome Plus left right }
+{
+    as_int(left.checked_add(right))
+}
+
+pub(crate) fn minus(left: i64, right: i64) -> Given
+    ensures { outcome_of result ≡ outcome Minus left right }
+{
+    as_int(left.checked_sub(right))
+}
+
+pub(crate) fn times(left: i64, right: i64) -> Given
+    ensures { outcome_of result ≡ outcome Times left right }
+{
+    as_int(left.checked_mul(right))
+}
+
+pub(crate) fn over(left: i64, right: i64) -> Given
+    ensures { outcome_of result ≡ outcome Over left right }
+{
+    if right == 0 {
+        return Given::Fault(DIVIDE_BY_ZERO);
+    }
+    as_int(left.checked_div(right))
+}
+
+// The least number has the remainder 0 by -1, though its quotient does not fit.
+pub(crate) fn modulo(left: i64, right: i64) -> Given
+    ensures { outcome_of result ≡ outcome Modulo left right }
+{
+    if right == 0 {
+        return Given::Fault(DIVIDE_BY_ZERO);
+    }
+    let rest = left.wrapping_rem(right);
+    if is_int(rest) {
+        Given::Number(rest)
+    } else {
+        Given::Fault(OVERFLOW)
+    }
+}
+
+pub(crate) fn negative(number: i64) -> Given
+    ensures { outcome_of result ≡ int_outcome (neg_ℤ number) }
+{
+    as_int(number.checked_neg())
+}
+
+pub(crate) fn equal(left: i64, right: i64) -> Given
+    ensures { outcome_of result ≡ outcome Equal left right }
+{
+    Given::Number(one_if(left == right))
+}
+
+pub(crate) fn not_equal(left: i64, right: i64) -> Given
+    ensures { outcome_of result ≡ outcome NotEqual left right }
+{
+    Given::Number(one_if(left != right))
+}
+
+pub(crate) fn less(left: i64, right: i64) -> Given
+    ensures { outcome_of result ≡ outcome Less left right }
+{
+    Given::Number(one_if(left < right))
+}
+
+pub(crate) fn at_most(left: i64, right: i64) -> Given
+    ensures { outcome_of result ≡ outcome AtMost left right }
+{
+    Given::Number(one_if(left <= right))
+}
+
+pub(crate) fn greater(left: i64, right: i64) -> Given
+    ensures { outcome_of result ≡ outcome Greater left right }
+{
+    Given::Number(one_if(left > right))
+}
+
+pub(crate) fn at_least(left: i64, right: i64) -> Given
+    ensures { outcome_of result ≡ outcome AtLeast left right }
+{
+    Given::Number(one_if(left >= right))
+}
