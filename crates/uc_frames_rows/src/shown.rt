@@ -4,7 +4,7 @@ use std::alloc::{AllocError, Global};
 use uc_frames::cell::Cell;
 
 /// A blank and the cell.
-pub fn shown(alloc: Global, cell: Cell) -> Result<String, AllocError> {
+pub(crate) fn shown(alloc: Global, cell: Cell) -> Result<String, AllocError> {
     match cell {
         Cell::Number(n) => format!(in alloc; " {n}"),
         Cell::Place(_, at) => format!(in alloc; " place {at}"),
