@@ -1,5 +1,5 @@
 -- What the answer of the public call says in plain words.
-use Rattle.std.proofs.Common.{◌≡◌, ℕ, ◌+◌, ◌*◌, ◌-◌, ◌≤◌, List, length, refl, subst, arith}
+use Rattle.std.proofs.Common.{◌≡◌, ℕ, ◌+◌, ◌*◌, ◌≤◌, List, length, refl, subst, arith}
 use Rattle.uc_tree.specs.declared.token.Token.{Token}
 use Rattle.uc_tree.specs.Programs.{Program}
 use Rattle.uc_grammar.specs.declared.fault.ParseFault.{ParseFault}

@@ -7,18 +7,16 @@ use Rattle.uc_tree.specs.declared.kinds.Kind.{Kind}
 use Rattle.uc_tree.specs.declared.kinds.Owner.{Owner}
 use Rattle.uc_tree.specs.declared.kinds.Owner.TheVariants as owner
 use Rattle.uc_tree.specs.declared.kinds.Param.{Param}
-use Rattle.uc_tree.specs.declared.kinds.Role.{Role}
 use Rattle.uc_tree.specs.declared.kinds.Role.TheVariants as role
 use Rattle.uc_tree.specs.declared.pos.Pos.{Pos}
-
 use Rattle.uc_tree.specs.declared.token.Sign.TheVariants as sign
 use Rattle.uc_tree.specs.Statements.{Declarator}
 use Rattle.uc_tree.specs.Programs.{Init, Member, MemberForm, Item}
 use Rattle.uc_tree.specs.Programs as prog
 use Rattle.uc_grammar.specs.Names.{ClassPart, MemberPart, part_name}
 use Rattle.uc_grammar.specs.Form.{Form, bind, apply, many, listed, skip, look, inside, empty}
-use Rattle.uc_grammar.specs.Tables.{word_of, sign_of, base_of, is_comma, in_braces, any_token}
-use Rattle.uc_grammar.specs.Grammar.{mutex_kind_at, comma_list, param_form, init_form, field_form, field_rest, expect_sign, sign_or, name_form, before, expr_form, constant_of, params_form, plain_form, maker_form, sig_of, role_of, based_member, member_maker, word_member, based_item, outer_maker, word_item, outer_routine, free_routine, members_of, forward_of, class_rest, item_form, mark_form, member_form, params_rest, member_routine, fields_rest}
+use Rattle.uc_grammar.specs.Tables.{word_of, sign_of, is_comma, in_braces, any_token}
+use Rattle.uc_grammar.specs.Grammar.{mutex_kind_at, comma_list, param_form, init_form, field_form, field_rest, expect_sign, sign_or, name_form, before, expr_form, constant_of, params_form, plain_form, maker_form, sig_of, role_of, based_member, member_maker, based_item, outer_maker, outer_routine, free_routine, members_of, forward_of, class_rest, item_form, mark_form, member_form, member_routine, fields_rest}
 
 -- what follows the '_Mutex' of a kind
 abbrev pub mutex_kind_form : Form Kind

@@ -1,12 +1,11 @@
 // Classes.
 
-ghost use Rattle.std.specs.Prelude.{◌≡◌, ◌+◌, ◌<◌, ◌≤◌, ◌^◌, IfOk, IfErr, IsTrue, Some, None, length};
+ghost use Rattle.std.specs.Prelude.{◌≡◌, ◌<◌, ◌≤◌, ◌^◌, IfOk, IfErr, length};
 ghost use Rattle.uc_grammar.specs.Form.{Spells, Fails, inside};
 ghost use Rattle.uc_parse_expr.specs.Faults.{token_of};
 ghost use Rattle.std.specs.Prelude.{[], ◌∷◌, ◌++◌};
-ghost use Rattle.uc_grammar.specs.Form.{bind, apply};
-ghost use Rattle.uc_grammar.specs.Names.{part_name, MemberPart};
-ghost use Rattle.uc_grammar.specs.Grammar.{mark_form, member_form, class_part_form, members_of, class_rest, class_form, inner, faults};
+ghost use Rattle.uc_grammar.specs.Names.{part_name};
+ghost use Rattle.uc_grammar.specs.Grammar.{class_part_form, members_of, class_rest, class_form, inner, faults};
 ghost use Rattle.uc_parse_class.specs.Forms.{marked_form, class_members_form, class_after};
 ghost use Rattle.uc_parse_class.specs.Parts.{part_of, access_after};
 

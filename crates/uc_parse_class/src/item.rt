@@ -1,7 +1,7 @@
 // Items of programs: classes, constants and routines.
 
-ghost use Rattle.std.specs.Prelude.{◌≡◌, ◌+◌, ◌<◌, ◌≤◌, ◌^◌, IfOk, IfErr, IsTrue, Some, None, length};
-ghost use Rattle.uc_grammar.specs.Form.{Spells, Fails, inside};
+ghost use Rattle.std.specs.Prelude.{◌<◌, ◌≤◌, ◌^◌, IfOk, IfErr, length};
+ghost use Rattle.uc_grammar.specs.Form.{Spells, Fails};
 ghost use Rattle.uc_parse_expr.specs.Faults.{token_of};
 ghost use Rattle.uc_grammar.specs.Spell.{kind_at};
 ghost use Rattle.uc_grammar.specs.Tables.{base_of, word_of};

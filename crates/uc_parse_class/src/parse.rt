@@ -3,8 +3,8 @@
 // Each `read_` function reads one form of the grammar from a token on. `room` is how many further levels may be nested in
 // it. It answers what the tokens spell and the number of the next token, or how a reading fails.
 
-ghost use Rattle.std.specs.Prelude.{◌≡◌, ◌+◌, ◌<◌, ◌≤◌, ◌^◌, IfOk, IfErr, IsTrue, Some, None, length};
-ghost use Rattle.uc_grammar.specs.Form.{Spells, Fails, inside};
+ghost use Rattle.std.specs.Prelude.{◌≡◌, ◌+◌, ◌<◌, ◌≤◌, ◌^◌, IfOk, IfErr, length};
+ghost use Rattle.uc_grammar.specs.Form.{Spells, Fails};
 ghost use Rattle.uc_parse_expr.specs.Faults.{token_of};
 ghost use Rattle.std.specs.Prelude.{◌*◌, ℕ};
 ghost use Rattle.uc_grammar.specs.Grammar.{inner, faults};

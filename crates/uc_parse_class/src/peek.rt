@@ -1,6 +1,6 @@
 // What single tokens say of a class or an item.
 
-ghost use Rattle.std.specs.Prelude.{◌≡◌, ◌+◌, ◌<◌, ◌≤◌, ◌^◌, ◌↔◌, ℕ, IfOk, IfErr, IsSome, IsTrue, length};
+ghost use Rattle.std.specs.Prelude.{◌≡◌, ◌<◌, ◌≤◌, ◌^◌, ◌↔◌, ℕ, IfOk, IfErr, IsSome, IsTrue, length};
 ghost use Rattle.uc_grammar.specs.Form.{Spells, Fails};
 ghost use Rattle.uc_grammar.specs.Grammar.{kind_form, mark_form, scalar_form, inner, faults};
 ghost use Rattle.uc_grammar.specs.Spell.{kind_at, Begins};

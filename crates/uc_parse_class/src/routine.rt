@@ -1,7 +1,7 @@
 // Routines: bases, parameters, initialisers and bodies.
 
-ghost use Rattle.std.specs.Prelude.{◌≡◌, ◌+◌, ◌<◌, ◌≤◌, ◌^◌, IfOk, IfErr, IsTrue, Some, None, length};
-ghost use Rattle.uc_grammar.specs.Form.{Spells, Fails, inside};
+ghost use Rattle.std.specs.Prelude.{◌<◌, ◌≤◌, ◌^◌, IfOk, IfErr, length};
+ghost use Rattle.uc_grammar.specs.Form.{Spells, Fails};
 ghost use Rattle.uc_parse_expr.specs.Faults.{token_of};
 ghost use Rattle.uc_grammar.specs.Grammar.{base_form, param_form, params_rest, params_form, init_form, inits_form, plain_form, maker_form, inner, faults};
 ghost use Rattle.uc_parse_class.specs.Forms.{param_list_form, init_list_form};

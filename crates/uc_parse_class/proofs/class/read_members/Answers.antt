@@ -1,14 +1,12 @@
-use Rattle.std.proofs.Common.{rules, ◌≡◌, inl, inr, arith, [], ◌∷◌, ◌++◌, refl}
-use Rattle.std.proofs.lemmas.Result.{err_from_is_err_and}
+use Rattle.std.proofs.Common.{rules, arith, [], ◌∷◌, ◌++◌, refl}
 use Rattle.uc_tree.specs.declared.kinds.Access.TheVariants as access
 use Rattle.uc_grammar.specs.Names.{part_name}
 use Rattle.uc_grammar.specs.Spell.{Begins, Run}
-use Rattle.uc_grammar.specs.Form.{Spells, Fails, inside}
+use Rattle.uc_grammar.specs.Form.{Spells, inside}
 use Rattle.uc_grammar.specs.Tables.{in_braces}
-use Rattle.uc_grammar.specs.Grammar.{members_of, inner, faults}
+use Rattle.uc_grammar.specs.Grammar.{inner}
 use Rattle.uc_grammar.proofs.Fit.{run_more}
-use Rattle.uc_parse_class.specs.Forms.{class_members_form}
-use Rattle.uc_parse_class.specs.Parts.{part_of, access_after}
+use Rattle.uc_parse_class.specs.Parts.{part_of}
 use Rattle.uc_parse_class.proofs.Joined.{one_more_listed, one_more_last}
 use Rattle.uc_parse_class.proofs.class.read_members.Goals as goal
 

@@ -1,10 +1,6 @@
-use Rattle.std.proofs.Common.{◌≡◌, ℕ, ◌+◌, ◌*◌, ◌≤◌, length, refl, inl}
+use Rattle.std.proofs.Common.{length, refl, inl}
 use Rattle.std.proofs.lemmas.Result.{err_from_is_err_and}
 use Rattle.uc_tree.specs.declared.limits.TheConstants.{NESTING}
-use Rattle.uc_tree.specs.Programs.{Program}
-use Rattle.uc_grammar.specs.declared.fault.ParseFault.TheVariants.{TooDeep}
-use Rattle.uc_grammar.specs.Form.{Spells, Fails}
-use Rattle.uc_grammar.specs.Grammar.{program_form, inner, faults}
 use Rattle.uc_parse_class.proofs.Told.{is_program, program_fails, only_program, no_program, never_program, far_program, first_program}
 use Rattle.uc_parse_class.proofs.parse.parse.Goals as goal
 
