@@ -32,4 +32,4 @@ pub returns-in_ok-brace-in-Try-clause-leads : goal.returns-in_ok-brace-in-Try-cl
 returns-in_ok-brace-in-Try-clause-leads c = rw c.in-Try.is (open_read _ _ _ _ _ _ _ (skip_read _ _ _ _ _ _ (try_head c.args.room c.args.tokens.now c.args.pos _ _ _ c.in_ok-brace-in-Try.ensures.place c.in_ok-brace-in-Try.ensures.found)))
 
 pub returns-in_ok-first-in-Accept-clause-leads : goal.returns-in_ok-first-in-Accept-clause-leads
-returns-in_ok-first-in-Accept-clause-leads c = rw c.in-Accept.is (open_read _ _ _ _ _ _ _ (accept_head c.args.room c.args.tokens.now c.args.pos _ _ _ c.in_ok-first-in-Accept.ensures.leads))
+returns-in_ok-first-in-Accept-clause-leads c = rw c.in-Accept.is (open_read _ _ _ _ _ _ _ (accept_head c.args.room c.args.tokens.now c.args.pos c.in_ok-first-in-Accept.first _ _ c.in_ok-first-in-Accept.ensures.leads))
