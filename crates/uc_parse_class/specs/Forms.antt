@@ -1,5 +1,5 @@
 -- Pieces of the grammar of programs.
-use Rattle.std.specs.Prelude.{ℕ, List, Bool, Option, Some}
+use Rattle.std.specs.Prelude.{ℕ, List, Bool, false}
 use Rattle.uc_tree.specs.declared.kinds.Access.TheVariants as access
 use Rattle.uc_tree.specs.declared.kinds.Base.{Base}
 use Rattle.uc_tree.specs.declared.kinds.Base.TheVariants as base
@@ -10,8 +10,7 @@ use Rattle.uc_tree.specs.declared.kinds.Param.{Param}
 use Rattle.uc_tree.specs.declared.kinds.Role.{Role}
 use Rattle.uc_tree.specs.declared.kinds.Role.TheVariants as role
 use Rattle.uc_tree.specs.declared.pos.Pos.{Pos}
-use Rattle.uc_tree.specs.declared.token.TokenKind.{TokenKind}
-use Rattle.uc_tree.specs.declared.token.TokenKind.TheVariants as token
+
 use Rattle.uc_tree.specs.declared.token.Sign.TheVariants as sign
 use Rattle.uc_tree.specs.Statements.{Declarator}
 use Rattle.uc_tree.specs.Programs.{Init, Member, MemberForm, Item}
