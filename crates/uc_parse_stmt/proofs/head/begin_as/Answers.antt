@@ -1,10 +1,7 @@
 use Rattle.std.proofs.Common.{inl}
 use Rattle.std.proofs.lemmas.Result.{err_from_is_err_and}
-use Rattle.uc_grammar.specs.Form.{Fails, skip}
-use Rattle.uc_grammar.specs.Grammar.{accept_form, if_rest, while_rest, for_rest, enable_rest, disable_rest, try_rest, stmt_by, inner, faults}
-use Rattle.uc_parse_stmt.specs.declared.head.Begun.TheVariants as begun
-use Rattle.uc_parse_stmt.specs.Heads.{begun_form, is_open}
-use Rattle.uc_parse_stmt.specs.Leads.{LeadsOpen}
+use Rattle.uc_grammar.specs.Form.{Fails}
+use Rattle.uc_grammar.specs.Grammar.{accept_form, inner, faults}
 use Rattle.uc_parse_stmt.proofs.Heads.{accept_head, try_head}
 use Rattle.uc_parse_stmt.proofs.Leads.{skip_read, open_read}
 use Rattle.uc_parse_stmt.proofs.head.begin_as.Goals as goal
