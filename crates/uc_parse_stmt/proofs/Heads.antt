@@ -1,5 +1,5 @@
 -- What each head leads to.
-use Rattle.std.proofs.Common.{◌≡◌, ℕ, ◌+◌, List, Option, Some, refl, sym, inl, inr, subst}
+use Rattle.std.proofs.Common.{◌≡◌, ℕ, ◌+◌, List, Option, Some, refl, inr}
 use Rattle.uc_tree.specs.declared.kinds.HandlerKind.{HandlerKind}
 use Rattle.uc_tree.specs.declared.pos.Pos.{Pos}
 use Rattle.uc_tree.specs.declared.token.Token.{Token}
@@ -11,10 +11,10 @@ use Rattle.uc_tree.specs.Expressions.{Expr}
 use Rattle.uc_tree.specs.Statements.{Stmt, Stmts, MaybeStmt, NoStmt, ForStart, Handler}
 use Rattle.uc_tree.specs.Statements as stmt
 use Rattle.uc_grammar.specs.Names.{stmt_name}
-use Rattle.uc_grammar.specs.Tables.{word_of, handler_of, is_or, is_handler}
+use Rattle.uc_grammar.specs.Tables.{word_of, handler_of, is_or}
 use Rattle.uc_grammar.specs.Spell.{kind_at, pos_at}
-use Rattle.uc_grammar.specs.Form.{Form, empty, skip, expect, bind, apply, listed, inside, Spells, Fails}
-use Rattle.uc_grammar.specs.Grammar.{expect_sign, maybe_expr, maybe_stmt, condition_form, for_start_form, events_form, guard_form, members_form, caught_form, block_form, block_rest, braced, handles, handler_by, handler_form, handlers_form, tried, try_rest, clause_form, accepts, accept_form, if_rest, while_rest, do_rest, for_rest, enable_rest, disable_rest, inner, faults}
+use Rattle.uc_grammar.specs.Form.{Form, empty, skip, bind, apply, listed, inside, Spells}
+use Rattle.uc_grammar.specs.Grammar.{expect_sign, maybe_expr, maybe_stmt, condition_form, for_start_form, events_form, guard_form, members_form, caught_form, block_form, block_rest, braced, handles, handler_by, handler_form, handlers_form, tried, try_rest, clause_form, accepts, accept_form, if_rest, while_rest, do_rest, for_rest, enable_rest, disable_rest, inner}
 use Rattle.uc_parse_stmt.specs.Forms.{do_test, for_test, for_step}
 use Rattle.uc_parse_stmt.specs.Parts.{caught_of}
 use Rattle.uc_parse_stmt.specs.declared.head.Head.TheVariants as head

@@ -1,12 +1,11 @@
 -- What has been read of a form, step by step.
 use Rattle.std.proofs.Common.{◌≡◌, ℕ, ◌+◌, List, Bool, Option, Some, [], ◌∷◌, inl, inr, refl, sym, subst}
-use Rattle.uc_tree.specs.declared.pos.Pos.{Pos}
 use Rattle.uc_tree.specs.declared.token.Token.{Token}
 use Rattle.uc_tree.specs.declared.token.TokenKind.{TokenKind}
 use Rattle.uc_grammar.specs.declared.fault.ParseFault.{ParseFault}
 use Rattle.uc_grammar.specs.declared.fault.ParseFault.TheVariants.{NoMemory}
-use Rattle.uc_grammar.specs.Spell.{kind_at, pos_at, ListRun, Listed, Begins}
-use Rattle.uc_grammar.specs.Form.{Form, empty, skip, expect, here, bind, apply, listed, Spells, Fails}
+use Rattle.uc_grammar.specs.Spell.{kind_at, ListRun}
+use Rattle.uc_grammar.specs.Form.{Form, empty, skip, expect, bind, apply, listed, Spells, Fails}
 use Rattle.uc_grammar.specs.Grammar.{inner, faults}
 use Rattle.uc_parse_stmt.specs.Leads.{Leads, LeadsOpen}
 

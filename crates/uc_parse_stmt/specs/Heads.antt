@@ -1,5 +1,5 @@
 -- What follows the head of a statement, a clause or a handler.
-use Rattle.std.specs.Prelude.{ℕ, List, Bool, true, false, Option, Some, None}
+use Rattle.std.specs.Prelude.{List, Bool, true, false, Option, Some, None}
 use Rattle.uc_tree.specs.declared.pos.Pos.{Pos}
 use Rattle.uc_tree.specs.declared.kinds.HandlerKind.{HandlerKind}
 use Rattle.uc_tree.specs.declared.token.Word.{Word}

@@ -1,10 +1,7 @@
 use Rattle.std.proofs.Common.{inl}
 use Rattle.std.proofs.lemmas.Result.{err_from_is_err_and}
-use Rattle.uc_grammar.specs.Form.{Fails, skip}
-use Rattle.uc_grammar.specs.Grammar.{accept_form, if_rest, while_rest, for_rest, enable_rest, disable_rest, try_rest, stmt_by, inner, faults}
-use Rattle.uc_parse_stmt.specs.declared.head.Begun.TheVariants as begun
-use Rattle.uc_parse_stmt.specs.Heads.{begun_form, is_open}
-use Rattle.uc_parse_stmt.specs.Leads.{LeadsOpen}
+use Rattle.uc_grammar.specs.Form.{Fails}
+use Rattle.uc_grammar.specs.Grammar.{accept_form, inner, faults}
 use Rattle.uc_parse_stmt.proofs.Heads.{accept_head, try_head}
 use Rattle.uc_parse_stmt.proofs.Leads.{skip_read, open_read}
 use Rattle.uc_parse_stmt.proofs.head.begin_as.Goals as goal
@@ -32,4 +29,4 @@ pub returns-in_ok-brace-in-Try-clause-leads : goal.returns-in_ok-brace-in-Try-cl
 returns-in_ok-brace-in-Try-clause-leads c = rw c.in-Try.is (open_read _ _ _ _ _ _ _ (skip_read _ _ _ _ _ _ (try_head c.args.room c.args.tokens.now c.args.pos _ _ _ c.in_ok-brace-in-Try.ensures.place c.in_ok-brace-in-Try.ensures.found)))
 
 pub returns-in_ok-first-in-Accept-clause-leads : goal.returns-in_ok-first-in-Accept-clause-leads
-returns-in_ok-first-in-Accept-clause-leads c = rw c.in-Accept.is (open_read _ _ _ _ _ _ _ (accept_head c.args.room c.args.tokens.now c.args.pos _ _ _ c.in_ok-first-in-Accept.ensures.leads))
+returns-in_ok-first-in-Accept-clause-leads c = rw c.in-Accept.is (open_read _ _ _ _ _ _ _ (accept_head c.args.room c.args.tokens.now c.args.pos c.in_ok-first-in-Accept.first _ _ c.in_ok-first-in-Accept.ensures.leads))

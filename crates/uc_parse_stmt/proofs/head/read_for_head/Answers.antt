@@ -1,7 +1,7 @@
 use Rattle.std.proofs.Common.{inl}
 use Rattle.std.proofs.lemmas.Result.{err_from_is_err_and}
-use Rattle.uc_grammar.specs.Form.{Fails, bind}
-use Rattle.uc_grammar.specs.Grammar.{for_rest, for_start_form, inner, faults}
+use Rattle.uc_grammar.specs.Form.{Fails}
+use Rattle.uc_grammar.specs.Grammar.{for_rest, inner, faults}
 use Rattle.uc_parse_stmt.specs.Forms.{for_test, for_step}
 use Rattle.uc_parse_stmt.specs.Leads.{Leads}
 use Rattle.uc_parse_stmt.proofs.Heads.{for_opened, for_started, for_tested, for_head}
