@@ -81,3 +81,7 @@ inside_by ops old (Some i) e h = slice_get_within ops old.control.next i e
 -- a quiet op is there
 pub inside_ops : (ops : List Instruction) (old new : Machine) (how : Stepped) → Advances ops old how new → how ≡ stepped.Quiet → old.control.next < length ops
 inside_ops ops old new how a e = inside_by ops old (slice_get ops old.control.next) refl (sym (a.how_it_ends) ∙ e)
+
+-- where the op before stood at its place or further on, so does the one after
+pub on_way : (n first mid last : ℕ) → first ≤ mid → (mid < n → mid < last) → first < n → mid ≤ last → first < last ⊎ (first ≡ last)
+on_way n first mid last h k l m = search
