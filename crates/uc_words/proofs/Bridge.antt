@@ -1,6 +1,6 @@
 -- From what calls of the library say to what the lemmas on words take.
-use Rattle.std.proofs.Common.{◌≡◌, ℕ, ◌<◌, Bool, true, false, List, [], ◌∷◌, length, map, refl, sym, ◌∙◌, ap, arith, Bor}
-use Rattle.std.specs.Prelude.{Option, Some, None, is_some, option_copied, IsTrue, ◌↔◌}
+use Rattle.std.proofs.Common.{◌≡◌, ℕ, Bool, true, false, List, [], ◌∷◌, length, refl, arith, Bor}
+use Rattle.std.specs.Prelude.{Option, Some, None, is_some, option_copied, IsTrue}
 
 pub was_told : {X : Type 0} (o : Option (Bor X)) → is_some o ≡ true → option_copied o ≡ None → ⊥
 was_told None h e = absurd (cc)

@@ -1,11 +1,11 @@
 -- Words that go on, and words at fault.
-use Rattle.std.proofs.Common.{◌≡◌, ◌≢◌, ℕ, zero, suc, ◌+◌, ◌<◌, ◌≤◌, true, false, List, [], ◌∷◌, ◌++◌, length, take, refl, sym, ◌∙◌, ap, arith}
+use Rattle.std.proofs.Common.{◌≡◌, ℕ, zero, suc, ◌+◌, true, false, List, [], ◌∷◌, ◌++◌, take, refl, sym, ◌∙◌, arith}
 use Rattle.std.specs.Prelude.{codes, IsTrue, Option, Some, None, EachIndex, slice_index, option_to_list, flat_map, filter_map}
 use Rattle.uc_tree.specs.Bytes.{is_digit}
 use Rattle.uc_tree.specs.declared.limits.TheConstants.{ENTRIES_MIN, ENTRIES_MAX}
 use Rattle.uc_words.specs.Words.{Words, Piece, File, Entries, Input, Command, RunFile, IsValue, spelled, file_in, entries_in, input_in, options_with, is_name}
-use Rattle.uc_words.specs.Rest.{Parts, Goes, BeginsRest, BadRest, Leads, words_of, worth, with_file, with_entries, with_input}
-use Rattle.uc_words.proofs.Goes.{goes_file, goes_entries, goes_input, FileNext, EntriesNext, InputNext, only_file, only_entries, only_input}
+use Rattle.uc_words.specs.Rest.{Parts, Goes, BeginsRest, BadRest, Leads, words_of, with_file, with_entries, with_input}
+use Rattle.uc_words.proofs.Goes.{goes_file, goes_entries, goes_input, only_file, only_entries, only_input}
 
 at_most_one : {A : Type 0} (o : Option A) → option_to_list o ++ [] ≡ option_to_list o
 at_most_one None = refl
@@ -199,8 +199,8 @@ same_list (Some x) None e = absurd (cc)
 same_list (Some x) (Some y) e = cc
 
 end_of : (p : Parts) (c : Command) (ps : List Piece) (file : List ℕ) (entries : Option ℕ) (input : Option (List ℕ)) → c ≡ RunFile file (options_with entries) input → [] ≡ flat_map spelled ps
-  → option_to_list p.file ++ filter_map file_in ps ≡ option_to_list (Some file) → option_to_list p.entries ++ filter_map entries_in ps ≡ option_to_list entries → option_to_list p.input ++ filter_map input_in ps ≡ option_to_list input
-  → (c ≡ RunFile file (options_with p.entries) p.input) × (Some file ≡ p.file)
+    → option_to_list p.file ++ filter_map file_in ps ≡ option_to_list (Some file) → option_to_list p.entries ++ filter_map entries_in ps ≡ option_to_list entries → option_to_list p.input ++ filter_map input_in ps ≡ option_to_list input
+    → (c ≡ RunFile file (options_with p.entries) p.input) × (Some file ≡ p.file)
 end_of p c [] file entries input is s f e i =
     let a : entries ≡ p.entries = same_list p.entries entries e in
     let b : input ≡ p.input = same_list p.input input i in

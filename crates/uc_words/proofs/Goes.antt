@@ -1,9 +1,9 @@
 -- What a line goes on with, by its next word.
-use Rattle.std.proofs.Common.{◌≡◌, ◌≢◌, ℕ, zero, suc, ◌+◌, ◌<◌, ◌≤◌, true, false, List, [], ◌∷◌, ◌++◌, length, take, refl, sym, ◌∙◌, ap, arith}
+use Rattle.std.proofs.Common.{◌≡◌, ℕ, List, [], ◌∷◌, ◌++◌, refl, ap}
 use Rattle.std.specs.Prelude.{codes, IsTrue, Option, Some, None, option_to_list, flat_map, filter_map}
 use Rattle.uc_tree.specs.declared.limits.TheConstants.{ENTRIES_MIN, ENTRIES_MAX}
-use Rattle.uc_words.specs.Words.{Words, Piece, File, Entries, Input, Command, RunFile, IsValue, spelled, IsPiece, ArePieces, file_in, entries_in, input_in, options_with, is_name}
-use Rattle.uc_words.specs.Rest.{Parts, Goes, with_file, with_entries, with_input, nothing}
+use Rattle.uc_words.specs.Words.{Words, Piece, File, Entries, Input, Command, RunFile, IsValue, spelled, ArePieces, file_in, entries_in, input_in, options_with, is_name}
+use Rattle.uc_words.specs.Rest.{Parts, Goes, with_file, with_entries, with_input}
 
 -- what is told twice makes no line
 once : {A : Type 0} (o r : Option A) (x : A) (xs : List A) → option_to_list o ++ (x ∷ xs) ≡ option_to_list r → o ≡ None
@@ -84,7 +84,7 @@ pub data Next (p : Parts) (w : List ℕ) (ws : Words) (c : Command) : Type 0 whe
   IsInput : InputNext p w ws c → Next p w ws c
 
 next_of : (p : Parts) (w : List ℕ) (ws : Words) (c : Command) (ps : List Piece) (file : List ℕ) (entries : Option ℕ) (input : Option (List ℕ)) → c ≡ RunFile file (options_with entries) input → w ∷ ws ≡ flat_map spelled ps → ArePieces ps
-  → option_to_list p.file ++ filter_map file_in ps ≡ option_to_list (Some file) → option_to_list p.entries ++ filter_map entries_in ps ≡ option_to_list entries → option_to_list p.input ++ filter_map input_in ps ≡ option_to_list input → Next p w ws c
+    → option_to_list p.file ++ filter_map file_in ps ≡ option_to_list (Some file) → option_to_list p.entries ++ filter_map entries_in ps ≡ option_to_list entries → option_to_list p.input ++ filter_map input_in ps ≡ option_to_list input → Next p w ws c
 next_of p w ws c [] file entries input is s fit f e i = absurd (cc)
 next_of p w ws c (File name ∷ ps) file entries input is s fit f e i =
     let none : p.file ≡ None = once p.file (Some file) name (filter_map file_in ps) f in

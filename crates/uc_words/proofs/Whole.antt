@@ -1,8 +1,8 @@
 -- Whole lines, and the first word at fault among all words.
-use Rattle.std.proofs.Common.{◌≡◌, ◌≢◌, ℕ, zero, suc, ◌+◌, ◌<◌, ◌≤◌, List, [], ◌∷◌, ◌++◌, length, take, drop, refl, sym, ◌∙◌, ap, arith, append_assoc}
-use Rattle.std.specs.Prelude.{codes, Option, Some, None}
+use Rattle.std.proofs.Common.{◌≡◌, ℕ, zero, suc, ◌<◌, ◌≤◌, List, [], ◌∷◌, ◌++◌, take, drop, refl, sym, ◌∙◌, ap, arith, append_assoc}
+use Rattle.std.specs.Prelude.{codes}
 use Rattle.uc_words.specs.Words.{Words, Command, RunFile, IsLine, Begins, IsFirstBad, options_with}
-use Rattle.uc_words.specs.Rest.{Parts, Goes, BeginsRest, BadRest, nothing}
+use Rattle.uc_words.specs.Rest.{Goes, BeginsRest, BadRest, nothing}
 use Rattle.uc_words.proofs.Faults.{begins_none}
 
 pub line_of : (ws : Words) (c : Command) → Goes nothing ws c → IsLine (codes "run" ∷ ws) c

@@ -1,5 +1,5 @@
 -- The words behind `run` from one of them on, where some pieces were told before.
-use Rattle.std.specs.Prelude.{◌≡◌, ℕ, suc, ◌+◌, ◌<◌, ◌≤◌, List, [], ◌∷◌, ◌++◌, length, take, Option, Some, None, option_copied, option_to_list, flat_map, filter_map}
+use Rattle.std.specs.Prelude.{◌≡◌, ℕ, suc, ◌+◌, ◌<◌, ◌≤◌, List, ◌++◌, length, take, Option, Some, None, option_copied, option_to_list, flat_map, filter_map}
 use Rattle.uc_words.specs.Words.{Words, Piece, Command, RunFile, spelled, ArePieces, file_in, entries_in, input_in, options_with}
 use Rattle.uc_words.specs.declared.job.Job.{Job}
 use Rattle.uc_words.specs.declared.job.Job.TheVariants.{Run}

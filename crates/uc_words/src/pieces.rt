@@ -20,7 +20,11 @@ pub struct Step<'a> {
 }
 
 /// Reads the piece that begins with `word`; `behind` are the words behind that one.
-pub fn read_piece<'a>(word: &'a str, behind: &'a [String], told: Told<'a>) -> Result<Step<'a>, WordsFault>
+pub fn read_piece<'a>(
+    word: &'a str,
+    behind: &'a [String],
+    told: Told<'a>,
+) -> Result<Step<'a>, WordsFault>
     ensures leads { IfOk result (λ step. Leads (parts_of told.entry) (word.now ∷ map string_bytes behind.now) (parts_of step.told) (map string_bytes step.rest.now)) }
     ensures shorter { IfOk result (λ step. length step.rest.now ≤ length behind.now) }
     ensures fault { IfErr result (λ fault. BadRest (parts_of told.entry) (word.now ∷ map string_bytes behind.now) (number_of fault)) }
@@ -38,7 +42,11 @@ pub fn read_piece<'a>(word: &'a str, behind: &'a [String], told: Told<'a>) -> Re
 }
 
 // Reads the file.
-fn read_file<'a>(word: &'a str, behind: &'a [String], told: Told<'a>) -> Result<Step<'a>, WordsFault>
+fn read_file<'a>(
+    word: &'a str,
+    behind: &'a [String],
+    told: Told<'a>,
+) -> Result<Step<'a>, WordsFault>
     requires no_entries { word.now ≡ codes "--entries" → ⊥ }
     requires no_input { word.now ≡ codes "--input" → ⊥ }
     ensures leads { IfOk result (λ step. Leads (parts_of told.entry) (word.now ∷ map string_bytes behind.now) (parts_of step.told) (map string_bytes step.rest.now)) }
@@ -149,7 +157,7 @@ fn fault_at(told: Told<'_>, ahead: u32) -> WordsFault
     }
 }
 
-fn worth(told: bool, words: u32) -> u32 
+fn worth(told: bool, words: u32) -> u32
     ensures { result ≡ (if told then words else 0) }
 {
     if told { words } else { 0 }

@@ -43,10 +43,7 @@ fn lines(rt: HostRuntime) -> Result<(), Fail> {
             &["run", "a.cc", "--input", "b", "--entries", "10000000"],
             run("a.cc", 10_000_000, Some("b")),
         ),
-        (
-            &["run", "--input", "b", "c"],
-            run("c", 200_000, Some("b")),
-        ),
+        (&["run", "--input", "b", "c"], run("c", 200_000, Some("b"))),
         (&["run", "run"], run("run", 200_000, None)),
         (&["run", "64", "--entries", "65"], run("64", 65, None)),
         (&[], bad(1)),

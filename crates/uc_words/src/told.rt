@@ -1,6 +1,5 @@
 // What the words so far tell of a run.
 
-
 /// Each part of a line `run`, where a word told it.
 #[derive(Clone, Copy)]
 pub struct Told<'a> {

@@ -1,6 +1,6 @@
 // Reads a command line, piece by piece.
 
-ghost use Rattle.std.specs.Prelude.{◌≡◌, IfOk, IfErr, map, string_bytes};
+ghost use Rattle.std.specs.Prelude.{◌≡◌, ◌↔◌, IfOk, IfErr, IsTrue, codes, map, string_bytes};
 ghost use Rattle.uc_words.specs.Words.{Command, IsLine, IsFirstBad};
 ghost use Rattle.uc_words.specs.Rest.{command_of, number_of, parts_of, nothing, Goes, BadRest};
 
@@ -17,11 +17,18 @@ pub fn read_words(words: &[String]) -> Result<Job<'_>, WordsFault>
     let Some((command, rest)) = words.split_first() else {
         return Err(WordsFault::Word { number: 1 });
     };
-    if command.as_str() != "run" {
+    if !is_run(command.as_str()) {
         return Err(WordsFault::Word { number: 1 });
     }
     let job = read_run(rest)?;
     Ok(job)
+}
+
+// Whether a word is the command `run`.
+fn is_run(word: &str) -> bool
+    ensures { IsTrue result ↔ (word.now ≡ codes "run") }
+{
+    word == "run"
 }
 
 // What stands behind `run`.

@@ -1,7 +1,6 @@
-use Rattle.std.proofs.Common.{◌≡◌, sym, ap, ◌∙◌}
-use Rattle.std.specs.Prelude.{Some, None, option_copied}
-use Rattle.uc_words.specs.Words.{Command}
-use Rattle.uc_words.specs.Rest.{parts_of, Goes}
+use Rattle.std.proofs.Common.{ap}
+use Rattle.std.specs.Prelude.{option_copied}
+use Rattle.uc_words.specs.Rest.{parts_of}
 use Rattle.uc_words.proofs.Faults.{end_line, end_only, end_bad}
 use Rattle.uc_words.proofs.pieces.finish.Goals as goal
 

@@ -1,4 +1,4 @@
-use Rattle.std.proofs.Common.{◌≡◌, ◌∷◌, false, true, sym, ap, ◌∙◌, map, string_bytes}
+use Rattle.std.proofs.Common.{◌≡◌, ◌∷◌, sym, ◌∙◌, map, string_bytes}
 use Rattle.uc_words.specs.Rest.{parts_of}
 use Rattle.uc_words.proofs.Bridge.{was_given, not_given, no_items}
 use Rattle.uc_words.proofs.Faults.{leads_entries, entries_twice, entries_missing, entries_bad}
