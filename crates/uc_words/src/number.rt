@@ -35,6 +35,7 @@ fn is_plain(word: &[u8]) -> bool
     }
 }
 
+// Whether each byte is a digit.
 fn are_digits(word: &[u8]) -> bool
     ensures { IsTrue result ↔ EachIndex word.now (λ k. IsTrue (is_digit (slice_index word.now k))) }
 {

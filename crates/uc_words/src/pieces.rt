@@ -1,8 +1,8 @@
 // Reads one piece of a line `run`: its file, or an option with its value.
 
-ghost use Rattle.std.specs.Prelude.{◌≡◌, ℕ, ◌+◌, ◌<◌, ◌≤◌, [], ◌∷◌, IfOk, IfErr, map, string_bytes, length, codes, IsTrue, if◌then◌else◌, option_copied};
+ghost use Rattle.std.specs.Prelude.{◌≡◌, ◌+◌, ◌≤◌, [], ◌∷◌, IfOk, IfErr, map, string_bytes, length, codes, if◌then◌else◌, option_copied};
 ghost use Rattle.uc_words.specs.Words.{Command, RunFile, options_with, is_name};
-ghost use Rattle.uc_words.specs.Rest.{command_of, number_of, parts_of, words_of, worth, Goes, BadRest, Leads};
+ghost use Rattle.uc_words.specs.Rest.{command_of, number_of, parts_of, words_of, Goes, BadRest, Leads};
 
 use crate::job::{Job, WordsFault};
 use crate::number::read_number;
@@ -129,6 +129,7 @@ pub fn finish(told: Told<'_>) -> Result<Job<'_>, WordsFault>
     }
 }
 
+// The job of a file and what its options say.
 fn job_of<'a>(file: &'a str, entries: Option<u32>, input: Option<&'a str>) -> Job<'a>
     ensures { command_of result ≡ RunFile file.now (options_with entries) (option_copied input.entry) }
 {
@@ -157,6 +158,7 @@ fn fault_at(told: Told<'_>, ahead: u32) -> WordsFault
     }
 }
 
+// How many words told a part.
 fn worth(told: bool, words: u32) -> u32
     ensures { result ≡ (if told then words else 0) }
 {

@@ -2,7 +2,7 @@
 
 ghost use Rattle.std.specs.Prelude.{◌≡◌, ◌↔◌, IfOk, IfErr, IsTrue, codes, map, string_bytes};
 ghost use Rattle.uc_words.specs.Words.{Command, IsLine, IsFirstBad};
-ghost use Rattle.uc_words.specs.Rest.{command_of, number_of, parts_of, nothing, Goes, BadRest};
+ghost use Rattle.uc_words.specs.Rest.{command_of, number_of, nothing, Goes, BadRest};
 
 use crate::job::{Job, WordsFault};
 use crate::pieces::{finish, read_piece};
