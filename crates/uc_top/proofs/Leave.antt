@@ -1,25 +1,35 @@
 -- What the top call leaves, from what its parts did.
-use Rattle.std.proofs.Common.{◌≡◌, ℕ, List, [], sym, subst}
+use Rattle.std.proofs.Common.{◌≡◌, ℕ, List, [], sym, subst, refl}
+use Rattle.std.specs.Prelude.{OnOk, OnErr, Result, Ok, Err, ◌⊎◌, inl, inr}
 use Rattle.uc_meaning.specs.Journal.{Journal}
-use Rattle.uc_meaning.specs.Texts.{printed}
-use Rattle.uc_outside.specs.Taking.{Took, TookPrefix, FailedAt}
+use Rattle.uc_outside.specs.Taking.{SinkState, Took, TookPrefix, FailedAt}
+use Rattle.uc_top.specs.declared.endings.Ending.{Ending}
 use Rattle.uc_top.specs.declared.refusals.Refusal.{Refusal}
-use Rattle.uc_top.specs.Refusals.{status_of, name_of, refusal_text}
-use Rattle.uc_top.specs.Outcomes.{Scene, Ran, Refused, Failed, Leaves, done, refused, out_failed, err_failed}
-use Rattle.uc_top.specs.Decisions.{Finished, whole, failed}
+use Rattle.uc_top.specs.Endings.{ending_status, ending_text}
+use Rattle.uc_top.specs.Refusals.{status_of, refusal_text}
+use Rattle.uc_top.specs.Outcomes.{Scene, Ran, Refused, Failed, Tried, Leaves, ended, refused, out_failed, line_failed, err_failed}
+use Rattle.uc_top.specs.Decisions.{Finished, whole}
+use Rattle.uc_top.specs.Decisions as told
 
-pub finish : (s : Scene) {output : List ℕ} {journal : Journal} {status : ℕ} → Ran s journal → output ≡ printed [] journal → Finished s.out s.out_after s.err s.err_after output status → Leaves s status journal
-finish s {journal = journal} ran e (whole out err) = done journal ran (subst (λ t. Took s.out s.out_after t) e out) err
-finish s {journal = journal} ran e (failed out err) = out_failed journal ran (subst (λ t. Failed s.out s.out_after t) e out) err
+pub finish : (s : Scene) {journal : Journal} {output : List ℕ} {ending : Ending} {status : ℕ} → Ran s journal output ending → Finished s.out s.out_after s.err s.err_after output ending status → Leaves s status journal
+finish s {journal = journal} {output = output} {ending = ending} ran (whole out err) = ended journal output ending ran out err
+finish s {journal = journal} {output = output} {ending = ending} ran (told.out_failed out err) = out_failed journal output ending ran out err
+finish s {journal = journal} {output = output} {ending = ending} ran (told.err_failed out err) = line_failed journal output ending ran out err
 
-pub told : (s : Scene) (r : Refusal) {status : ℕ} {journal : Journal} {name : List ℕ} → Refused s r → status ≡ status_of r → journal ≡ [] → name ≡ name_of s.words → Took s.out s.out_after [] → Took s.err s.err_after (refusal_text r name) → Leaves s status journal
-told s r {journal = journal} cause e f n out err =
-    let base = refused r cause out (subst (λ t. Took s.err s.err_after (refusal_text r t)) n err) in
+pub told_why : (s : Scene) (r : Refusal) (name : List ℕ) {status : ℕ} {journal : Journal} → Refused s r name → status ≡ status_of r → journal ≡ [] → Took s.out s.out_after [] → Took s.err s.err_after (refusal_text r name) → Leaves s status journal
+told_why s r name {journal = journal} cause e f out err =
+    let base = refused r name cause out err in
     let P : ℕ → Journal → Type 0 = λ x j. Leaves s x j in
     subst (λ x. P x journal) (sym e) (subst (λ j. P (status_of r) j) (sym f) base)
 
-pub untold : (s : Scene) (r : Refusal) {journal : Journal} {name : List ℕ} → Refused s r → journal ≡ [] → name ≡ name_of s.words → Took s.out s.out_after [] → FailedAt s.err s.err_after (refusal_text r name) → TookPrefix s.err s.err_after (refusal_text r name) → Leaves s 4 journal
-untold s r {name = name} cause f n out at prefix =
-    let whole_failure : Failed s.err s.err_after (refusal_text r name) = record { at = at; prefix = prefix } in
-    let base = err_failed r cause out (subst (λ t. Failed s.err s.err_after (refusal_text r t)) n whole_failure) in
-    subst (Leaves s 4) (sym f) base
+pub untold : (s : Scene) (r : Refusal) (name : List ℕ) {journal : Journal} → Refused s r name → journal ≡ [] → Took s.out s.out_after [] → FailedAt s.err s.err_after (refusal_text r name) → TookPrefix s.err s.err_after (refusal_text r name) → Leaves s 4 journal
+untold s r name cause f out at prefix =
+    subst (Leaves s 4) (sym f) (err_failed r name cause out (record { at = at; prefix = prefix }))
+
+-- a put that went well or did not
+pub tried : {T E : Type 0} (r : Result T E) {a b : SinkState} {text : List ℕ} → OnOk r (Took a b text) → OnErr r (FailedAt a b text) → OnErr r (TookPrefix a b text) → Tried a b text
+tried (Ok x) t f p = inl t
+tried (Err e) t f p = inr (record { at = f; prefix = p })
+
+pub finished_whole : {a b c d : SinkState} {output : List ℕ} {ending : Ending} {status : ℕ} → status ≡ ending_status ending → Took a b output → Took c d (ending_text ending) → Finished a b c d output ending status
+finished_whole {a} {b} {c} {d} {output} {ending} e out err = subst (Finished a b c d output ending) (sym e) (whole out err)

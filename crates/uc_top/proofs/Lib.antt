@@ -1,13 +1,8 @@
-pub mod Silent
-pub mod Facts
-pub mod Sums
 pub mod Prints
 pub mod Pieces
-pub mod FirstBad
+pub mod Line
 pub mod Leave
 pub mod Causes
-pub mod Decide
-pub mod Unique
-pub mod Complete
-pub mod Sound
-pub mod Walk
+pub mod Findings
+pub mod Straight
+pub mod Few

@@ -10,6 +10,6 @@ printed-append texts [] j = refl
 printed-append texts (e ∷ i) j =
     ap (λ l. printed_by texts e.kind e ++ l) (printed-append texts i j) ∙ sym (append_assoc (printed_by texts e.kind e) (printed texts i) (printed texts j))
 
-pub printed_more : (j : Journal) (i : ℕ) (d : Entry) → i < length j → printed [] (take (i + 1) j) ≡ printed [] (take i j) ++ printed_by [] (get_or j i d).kind (get_or j i d)
-printed_more j i d h =
-    ap (printed []) (take_more j i d h) ∙ printed-append [] (take i j) (get_or j i d ∷ []) ∙ ap (λ l. printed [] (take i j) ++ l) (append-nil _)
+pub printed_more : (texts : List (List ℕ)) (j : Journal) (i : ℕ) (d : Entry) → i < length j → printed texts (take (i + 1) j) ≡ printed texts (take i j) ++ printed_by texts (get_or j i d).kind (get_or j i d)
+printed_more texts j i d h =
+    ap (printed texts) (take_more j i d h) ∙ printed-append texts (take i j) (get_or j i d ∷ []) ∙ ap (λ l. printed texts (take i j) ++ l) (append-nil _)

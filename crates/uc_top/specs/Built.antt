@@ -1,32 +1,75 @@
 -- Which texts are programs that are built, and what a run of one gives.
-use Rattle.std.specs.Prelude.{◌≡◌, ℕ, List, [], ◌∷◌, ◌++◌}
-use Rattle.uc_tree.specs.declared.limits.TheConstants.{PROGRAM_BYTES}
+use Rattle.std.specs.Prelude.{◌≡◌, ℕ, ◌<◌, List, [], ◌∷◌, length, Option, Some, None}
+use Rattle.uc_tree.specs.declared.limits.TheConstants.{PROGRAM_BYTES, INPUT_BYTES, NESTING, FRAME_CELLS, PROGRAM_SIZE}
 use Rattle.uc_tree.specs.declared.token.Token.{Token}
 use Rattle.uc_tree.specs.declared.pos.Pos.{Pos}
 use Rattle.uc_tree.specs.declared.scan.Reason.{Reason}
 use Rattle.uc_tree.specs.Tokens.{tokens, Read, Refused, pos_at}
-use Rattle.uc_meaning.specs.declared.entry.Entry.{Entry}
-use Rattle.uc_meaning.specs.declared.entry.EntryKind.{EntryKind}
-use Rattle.uc_meaning.specs.declared.entry.EntryKind.TheVariants as kind
+use Rattle.uc_tree.specs.Programs.{Program, Routine, RoutineItem}
+use Rattle.uc_tree.specs.Cells.{routine_cells}
+use Rattle.uc_tree.specs.Sizes.{program_size}
+use Rattle.uc_tree.specs.Numbering.{texts_of}
+use Rattle.uc_tree.specs.Resolve.{source_of}
+use Rattle.uc_grammar.specs.Text.{IsProgram}
+use Rattle.uc_meaning.specs.declared.entry.Options.{Options}
 use Rattle.uc_meaning.specs.Journal.{Journal}
+use Rattle.uc_meaning.specs.Straight.{IsStraight}
+use Rattle.uc_meaning.specs.Rules.{breaks_of}
+use Rattle.uc_meaning.specs.Accepted.{FitFrames, IsAccepted}
 use Rattle.uc_meaning.specs.Runs.{IsRun}
-use Rattle.uc_meaning.specs.Sums.{SumProgram, IsBuilt, source_of}
-use Rattle.uc_outside.specs.Reading.{StoreState, ReadBytes}
-use Rattle.uc_top.specs.Journals.{default_options}
-use Rattle.uc_top.specs.Words.{Words, IsRunLine}
+use Rattle.uc_meaning.specs.Texts.{printed}
+use Rattle.uc_outside.specs.Reading.{StoreState, KeepsFiles, ReadBytes, HasFile}
+use Rattle.uc_words.specs.Words.{Words, Command, RunFile, IsLine, IsRunLine}
+use Rattle.uc_top.specs.declared.endings.Ending.{Ending}
+use Rattle.uc_top.specs.Endings.{EndsWith}
 
--- the last entry is of this kind
-pub record Last (journal : Journal) (k : EntryKind) : Type 0 where
-  pub before : Journal
-  pub entry : Entry
-  pub is : journal ≡ before ++ entry ∷ []
-  pub of_kind : entry.kind ≡ k
+-- programs
 
--- the tokens of the text spell this program
-pub record IsProgram (text : List ℕ) (program : SumProgram) : Type 0 where
+-- a straight program that breaks no rule
+pub record IsBuilt (program : Program) : Type 0 where
+  pub straight : IsStraight program
+  pub no_break : breaks_of program ≡ []
+
+-- one whose main has more cells than a frame may have
+pub record HasLargeFrame (program : Program) : Type 0 where
+  pub built : IsBuilt program
+  pub main : Routine
+  pub is_main : program.items ≡ RoutineItem main ∷ []
+  pub large : FRAME_CELLS < routine_cells program main
+
+-- one whose frames fit, and whose size is greater than that of a program may be
+pub record HasLargeCode (program : Program) : Type 0 where
+  pub built : IsBuilt program
+  pub frames : FitFrames program program.items
+  pub large : PROGRAM_SIZE < program_size program
+
+-- the program is accepted, the journal is a complete run of its source, and the output is what the journal prints
+pub record ProgramRan (program : Program) (input : List ℕ) (opts : Options) (journal : Journal) (output : List ℕ) (ending : Ending) : Type 0 where
+  pub accepted : IsAccepted program
+  pub run : IsRun (source_of program) input opts journal
+  pub ends : EndsWith journal ending
+  pub prints : output ≡ printed (texts_of program) journal
+
+-- texts
+
+-- the tokens of the text are those of this program, all of them, and of no other
+pub record Spells (text : List ℕ) (program : Program) : Type 0 where
   pub list : List Token
   pub lexed : tokens text ≡ Read list
-  pub built : IsBuilt list program
+  pub spelled : IsProgram NESTING list 0 (length list) program
+
+abbrev pub SpellsOnly : List ℕ → Program → Type 0
+SpellsOnly text program = (other : Program) → Spells text other → other ≡ program
+
+-- the text is that of a program that is built
+pub record IsBuiltText (text : List ℕ) (program : Program) : Type 0 where
+  pub spells : Spells text program
+  pub built : IsBuilt program
+
+-- the text is that of an accepted program
+pub record IsAcceptedText (text : List ℕ) (program : Program) : Type 0 where
+  pub spells : Spells text program
+  pub accepted : IsAccepted program
 
 -- the text has no tokens: at the least offset, which is at this place, none can stand, for this reason
 pub record HasFault (text : List ℕ) (why : Reason) (pos : Pos) : Type 0 where
@@ -35,27 +78,57 @@ pub record HasFault (text : List ℕ) (why : Reason) (pos : Pos) : Type 0 where
   pub place : pos ≡ pos_at text at
 
 -- the text has tokens, and they are those of no program that is built
-pub record IsNoProgram (text : List ℕ) : Type 0 where
+pub record IsNotBuilt (text : List ℕ) : Type 0 where
   pub list : List Token
   pub lexed : tokens text ≡ Read list
-  pub none : (program : SumProgram) → IsProgram text program → ⊥
+  pub none : (program : Program) → IsBuiltText text program → ⊥
 
--- the store gave the text of the named file
-pub record GaveText (words : Words) (before after : StoreState) (text : List ℕ) : Type 0 where
+-- the text is that of one program, and it is such a one
+pub record IsTextOf (text : List ℕ) (Is : Program → Type 0) : Type 0 where
+  pub program : Program
+  pub spells : Spells text program
+  pub only : SpellsOnly text program
+  pub is : Is program
+
+-- the text is that of one program, which is accepted, and the journal is a complete run of it
+abbrev pub TextRan : List ℕ → List ℕ → Options → Journal → List ℕ → Ending → Type 0
+TextRan text input opts journal output ending = IsTextOf text (λ program. ProgramRan program input opts journal output ending)
+
+-- words and texts
+
+-- the words are a line, which asks for just this
+pub record Asks (words : Words) (file : List ℕ) (opts : Options) (named : Option (List ℕ)) : Type 0 where
+  pub line : IsRunLine words file opts named
+  pub only : (other : Command) → IsLine words other → other ≡ RunFile file opts named
+
+-- the bytes of the input: those of the named file, or none where no file is named
+pub record ReadsInput (before after : StoreState) (named : Option (List ℕ)) (input : List ℕ) : Type 0 where
+  pub given : (name : List ℕ) → named ≡ Some name → ReadBytes before after name INPUT_BYTES input
+  pub none : named ≡ None → input ≡ []
+
+-- the bytes of the named file were read, and then those of the input
+pub record ReadsTexts (before after : StoreState) (file : List ℕ) (named : Option (List ℕ)) (text input : List ℕ) : Type 0 where
+  pub between : StoreState
+  pub keeps : KeepsFiles before between
+  pub read : ReadBytes before between file PROGRAM_BYTES text
+  pub read_input : ReadsInput between after named input
+  pub same_count : after.count ≡ before.count
+
+-- the words are a line, under these options, and the store gave the text and the input that they name
+pub record GaveTexts (words : Words) (before after : StoreState) (opts : Options) (text input : List ℕ) : Type 0 where
   pub file : List ℕ
-  pub line : IsRunLine words file
-  pub read : ReadBytes before after file PROGRAM_BYTES text
+  pub named : Option (List ℕ)
+  pub asks : Asks words file opts named
+  pub reads : ReadsTexts before after file named text input
 
--- the text is that of a program, the only one that it spells, and the journal is a complete run of it
-pub record RunsText (text : List ℕ) (journal : Journal) : Type 0 where
-  pub program : SumProgram
-  pub is : IsProgram text program
-  pub only : (other : SumProgram) → IsProgram text other → other ≡ program
-  pub run : IsRun (source_of program) [] default_options journal
-  pub ended : Last journal kind.Done
+-- the store has the input within its length, where one is named
+abbrev pub HasInput : StoreState → Option (List ℕ) → Type 0
+HasInput store named = (name : List ℕ) → named ≡ Some name → HasFile store name INPUT_BYTES
 
--- the store gave the text of a program, and the journal is a complete run of it
-pub record HasRun (words : Words) (before after : StoreState) (journal : Journal) : Type 0 where
+-- the store gave the text of an accepted program, and the journal is a complete run of it over the input that the store gave
+pub record HasRun (words : Words) (before after : StoreState) (journal : Journal) (output : List ℕ) (ending : Ending) : Type 0 where
+  pub opts : Options
   pub text : List ℕ
-  pub gave : GaveText words before after text
-  pub runs : RunsText text journal
+  pub input : List ℕ
+  pub gave : GaveTexts words before after opts text input
+  pub ran : TextRan text input opts journal output ending

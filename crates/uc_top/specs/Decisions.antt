@@ -1,73 +1,107 @@
--- What the parts of the top call find: of tokens, of a text, of a file, of the words.
-use Rattle.std.specs.Prelude.{◌≡◌, ℕ, List, [], codes}
-use Rattle.uc_tree.specs.declared.limits.TheConstants.{PROGRAM_BYTES}
-use Rattle.uc_tree.specs.declared.pos.Pos.{Pos}
-use Rattle.uc_tree.specs.declared.scan.Reason.{Reason}
+-- What the parts of the top call find: of a program, of tokens, of a text, of the files.
+use Rattle.std.specs.Prelude.{◌≡◌, ℕ, ◌⊎◌, List, [], length, codes, Option, Some}
+use Rattle.uc_tree.specs.declared.limits.TheConstants.{NESTING, INPUT_BYTES}
 use Rattle.uc_tree.specs.declared.token.Token.{Token}
-use Rattle.uc_meaning.specs.declared.entry.EntryKind.TheVariants as kind
+use Rattle.uc_tree.specs.Programs.{Program}
+use Rattle.uc_grammar.specs.Text.{IsProgram}
+use Rattle.uc_meaning.specs.declared.entry.Options.{Options}
 use Rattle.uc_meaning.specs.Journal.{Journal}
-use Rattle.uc_meaning.specs.Runs.{IsRun}
-use Rattle.uc_meaning.specs.Sums.{SumProgram, IsBuilt, source_of}
-use Rattle.uc_outside.specs.Reading.{StoreState, ReadBytes, ReadFailed, ReadTooLong}
+use Rattle.uc_outside.specs.Reading.{StoreState, ReadFailed, ReadTooLong}
 use Rattle.uc_outside.specs.Taking.{SinkState, Took}
+use Rattle.uc_top.specs.declared.endings.Ending.{Ending}
 use Rattle.uc_top.specs.declared.refusals.Refusal.{Refusal}
-use Rattle.uc_top.specs.declared.refusals.Refusal.TheVariants.{Word, CannotRead, TooLong, Lexical, NotBuilt, NoMemory}
-use Rattle.uc_top.specs.Journals.{default_options}
-use Rattle.uc_top.specs.Built.{HasFault, IsNoProgram, RunsText, Last}
-use Rattle.uc_top.specs.Refusals.{err_line}
+use Rattle.uc_top.specs.declared.refusals.Refusal.TheVariants.{Word, CannotRead, TooLong, Lexical, NotBuilt, FrameTooLarge, CodeTooLarge, NoMemory}
+use Rattle.uc_top.specs.Endings.{ending_status, ending_text}
+use Rattle.uc_top.specs.Built.{IsBuilt, HasLargeFrame, HasLargeCode, ProgramRan, HasFault, IsNotBuilt, IsTextOf, TextRan, ReadsTexts}
+use Rattle.uc_top.specs.Refusals.{err_line, ProgramUnread, InputUnread, ProgramTooLong, InputTooLong}
 use Rattle.uc_top.specs.Outcomes.{Failed, Tried}
 
--- the tokens are those of one program, and the journal is a complete run of it
-pub record TokensRan (tokens : List Token) (journal : Journal) : Type 0 where
-  pub program : SumProgram
-  pub built : IsBuilt tokens program
-  pub only : (other : SumProgram) → IsBuilt tokens other → other ≡ program
-  pub run : IsRun (source_of program) [] default_options journal
-  pub ended : Last journal kind.Done
+abbrev pub ProgramRefused : Program → Refusal → Type 0
+ProgramRefused program (Word n) = ⊥
+ProgramRefused program CannotRead = ⊥
+ProgramRefused program TooLong = ⊥
+ProgramRefused program (Lexical why pos) = ⊥
+ProgramRefused program NotBuilt = IsBuilt program → ⊥
+ProgramRefused program FrameTooLarge = HasLargeFrame program
+ProgramRefused program CodeTooLarge = HasLargeCode program
+ProgramRefused program NoMemory = Unit {0}
+
+-- the tokens are those of this program
+abbrev pub AreOf : List Token → Program → Type 0
+AreOf list program = IsProgram NESTING list 0 (length list) program
+
+-- the tokens are those of one program, and it is such a one
+pub record AreTokensOf (list : List Token) (Is : Program → Type 0) : Type 0 where
+  pub program : Program
+  pub spelled : AreOf list program
+  pub only : (other : Program) → AreOf list other → other ≡ program
+  pub is : Is program
+
+abbrev pub TokensRan : List Token → List ℕ → Options → Journal → List ℕ → Ending → Type 0
+TokensRan list input opts journal output ending = AreTokensOf list (λ program. ProgramRan program input opts journal output ending)
 
 abbrev pub TokensRefused : List Token → Refusal → Type 0
-TokensRefused tokens (Word n) = ⊥
-TokensRefused tokens CannotRead = ⊥
-TokensRefused tokens TooLong = ⊥
-TokensRefused tokens (Lexical why pos) = ⊥
-TokensRefused tokens NotBuilt = (p : SumProgram) → IsBuilt tokens p → ⊥
-TokensRefused tokens NoMemory = Unit {0}
+TokensRefused list (Word n) = ⊥
+TokensRefused list CannotRead = ⊥
+TokensRefused list TooLong = ⊥
+TokensRefused list (Lexical why pos) = ⊥
+TokensRefused list NotBuilt = (program : Program) → AreOf list program → IsBuilt program → ⊥
+TokensRefused list FrameTooLarge = AreTokensOf list HasLargeFrame
+TokensRefused list CodeTooLarge = AreTokensOf list HasLargeCode
+TokensRefused list NoMemory = Unit {0}
 
 abbrev pub TextRefused : List ℕ → Refusal → Type 0
 TextRefused text (Word n) = ⊥
 TextRefused text CannotRead = ⊥
 TextRefused text TooLong = ⊥
 TextRefused text (Lexical why pos) = HasFault text why pos
-TextRefused text NotBuilt = IsNoProgram text
+TextRefused text NotBuilt = IsNotBuilt text
+TextRefused text FrameTooLarge = IsTextOf text HasLargeFrame
+TextRefused text CodeTooLarge = IsTextOf text HasLargeCode
 TextRefused text NoMemory = Unit {0}
 
--- the file was read, and its text was run
-pub record FileRan (before after : StoreState) (file : List ℕ) (journal : Journal) : Type 0 where
+-- why the bytes of a name were not read
+abbrev pub NotRead : StoreState → StoreState → List ℕ → ℕ → Refusal → Type 0
+NotRead before after name limit (Word n) = ⊥
+NotRead before after name limit CannotRead = ReadFailed before after name
+NotRead before after name limit TooLong = ReadTooLong before after name limit
+NotRead before after name limit (Lexical why pos) = ⊥
+NotRead before after name limit NotBuilt = ⊥
+NotRead before after name limit FrameTooLarge = ⊥
+NotRead before after name limit CodeTooLarge = ⊥
+NotRead before after name limit NoMemory = after.count ≡ before.count
+
+-- why the bytes of the input were not read
+pub record InputNotRead (before after : StoreState) (named : Option (List ℕ)) (refusal : Refusal) (name : List ℕ) : Type 0 where
+  pub is_named : named ≡ Some name
+  pub fault : NotRead before after name INPUT_BYTES refusal
+
+-- the files were read, and their program was run
+pub record FilesRan (before after : StoreState) (file : List ℕ) (named : Option (List ℕ)) (opts : Options) (journal : Journal) (output : List ℕ) (ending : Ending) : Type 0 where
   pub text : List ℕ
-  pub read : ReadBytes before after file PROGRAM_BYTES text
-  pub runs : RunsText text journal
+  pub input : List ℕ
+  pub reads : ReadsTexts before after file named text input
+  pub ran : TextRan text input opts journal output ending
 
--- the file was read, and its text has this fault
-pub record FileUnlexed (before after : StoreState) (file : List ℕ) (why : Reason) (pos : Pos) : Type 0 where
+-- the files were read, and this holds of the text
+pub record FilesSuch (before after : StoreState) (file : List ℕ) (named : Option (List ℕ)) (Is : List ℕ → Type 0) : Type 0 where
   pub text : List ℕ
-  pub read : ReadBytes before after file PROGRAM_BYTES text
-  pub fault : HasFault text why pos
+  pub input : List ℕ
+  pub reads : ReadsTexts before after file named text input
+  pub is : Is text
 
--- the file was read, and its text is no program
-pub record FileNotBuilt (before after : StoreState) (file : List ℕ) : Type 0 where
-  pub text : List ℕ
-  pub read : ReadBytes before after file PROGRAM_BYTES text
-  pub none : IsNoProgram text
+abbrev pub FilesRefused : StoreState → StoreState → List ℕ → Option (List ℕ) → Refusal → List ℕ → Type 0
+FilesRefused before after file named (Word n) name = ⊥
+FilesRefused before after file named CannotRead name = ProgramUnread before after file name ⊎ InputUnread before after file named name
+FilesRefused before after file named TooLong name = ProgramTooLong before after file name ⊎ InputTooLong before after file named name
+FilesRefused before after file named (Lexical why pos) name = FilesSuch before after file named (λ text. HasFault text why pos)
+FilesRefused before after file named NotBuilt name = FilesSuch before after file named IsNotBuilt
+FilesRefused before after file named FrameTooLarge name = FilesSuch before after file named (λ text. IsTextOf text HasLargeFrame)
+FilesRefused before after file named CodeTooLarge name = FilesSuch before after file named (λ text. IsTextOf text HasLargeCode)
+FilesRefused before after file named NoMemory name = after.count ≡ before.count
 
-abbrev pub FileRefused : StoreState → StoreState → List ℕ → Refusal → Type 0
-FileRefused before after file (Word n) = ⊥
-FileRefused before after file CannotRead = ReadFailed before after file
-FileRefused before after file TooLong = ReadTooLong before after file PROGRAM_BYTES
-FileRefused before after file (Lexical why pos) = FileUnlexed before after file why pos
-FileRefused before after file NotBuilt = FileNotBuilt before after file
-FileRefused before after file NoMemory = after.count ≡ before.count
-
--- a run is told: out got what it printed, or failed at it
-pub data Finished (out out_after err err_after : SinkState) (output : List ℕ) : ℕ → Type 0 where
-  whole : Took out out_after output → Took err err_after [] → Finished out out_after err err_after output 0
-  failed : Failed out out_after output → Tried err err_after (err_line (codes "cannot write") []) → Finished out out_after err err_after output 4
+-- a run is told: out got what it printed and err the line of its ending, or one of them failed at it
+pub data Finished (out out_after err err_after : SinkState) (output : List ℕ) (ending : Ending) : ℕ → Type 0 where
+  whole : Took out out_after output → Took err err_after (ending_text ending) → Finished out out_after err err_after output ending (ending_status ending)
+  out_failed : Failed out out_after output → Tried err err_after (err_line (codes "cannot write") []) → Finished out out_after err err_after output ending 4
+  err_failed : Took out out_after output → Failed err err_after (ending_text ending) → Finished out out_after err err_after output ending 4

@@ -1,8 +1,5 @@
-pub mod Journals
-pub mod Words
+pub mod Endings
 pub mod Built
 pub mod Refusals
 pub mod Outcomes
 pub mod Decisions
-pub mod Reads
-pub mod Machine

@@ -1,19 +1,21 @@
 -- What the top call leaves, for each status.
-use Rattle.std.specs.Prelude.{◌≡◌, ◌≢◌, ℕ, ◌<◌, List, [], ◌⊎◌, IsTrue, codes}
+use Rattle.std.specs.Prelude.{◌≡◌, ◌≢◌, ℕ, ◌<◌, List, [], ◌⊎◌, IsTrue, codes, Option}
 use Rattle.uc_tree.specs.declared.limits.TheConstants.{PROGRAM_BYTES}
 use Rattle.uc_tree.specs.declared.pos.Pos.{Pos}
 use Rattle.uc_tree.specs.declared.scan.Reason.{Reason}
+use Rattle.uc_tree.specs.Programs.{Program}
 use Rattle.uc_outside.specs.Faults.{CountRose}
 use Rattle.uc_outside.specs.Reading.{StoreState, HasFile}
 use Rattle.uc_outside.specs.Taking.{SinkState, Took, TookPrefix, FailedAt, HasRoom, Stopped}
+use Rattle.uc_meaning.specs.declared.entry.Options.{Options}
 use Rattle.uc_meaning.specs.Journal.{Journal}
-use Rattle.uc_meaning.specs.Sums.{SumProgram}
-use Rattle.uc_meaning.specs.Texts.{printed}
+use Rattle.uc_words.specs.Words.{Words, Command, IsLine, IsRunLine}
+use Rattle.uc_top.specs.declared.endings.Ending.{Ending}
 use Rattle.uc_top.specs.declared.refusals.Refusal.{Refusal}
 use Rattle.uc_top.specs.declared.refusals.Refusal.TheVariants as refusal
-use Rattle.uc_top.specs.Words.{Words, IsRunLine}
-use Rattle.uc_top.specs.Built.{IsProgram, HasRun}
-use Rattle.uc_top.specs.Refusals.{status_of, name_of, err_line, refusal_text, Refuses}
+use Rattle.uc_top.specs.Endings.{ending_status, ending_text}
+use Rattle.uc_top.specs.Built.{IsAcceptedText, HasInput, HasRun}
+use Rattle.uc_top.specs.Refusals.{status_of, err_line, refusal_text, Refuses}
 
 -- a sink failed at this text and took a prefix of it, and no put was made after the failed one
 pub record Failed (before after : SinkState) (text : List ℕ) : Type 0 where
@@ -34,78 +36,107 @@ pub record Scene : Type 0 where
   pub err : SinkState
   pub err_after : SinkState
 
--- the store gave a program, and the journal is a run of it
-abbrev pub Ran : Scene → Journal → Type 0
-Ran s journal = HasRun s.words s.store s.store_after journal
+-- the store gave a program, the journal is a run of it that ends so, and the output is what it printed
+abbrev pub Ran : Scene → Journal → List ℕ → Ending → Type 0
+Ran s journal output ending = HasRun s.words s.store s.store_after journal output ending
 
--- nothing was run, for this reason
-abbrev pub Refused : Scene → Refusal → Type 0
-Refused s r = Refuses s.words s.store s.store_after r
+-- nothing was run, for this reason, where this is the file that was not read
+abbrev pub Refused : Scene → Refusal → List ℕ → Type 0
+Refused s r name = Refuses s.words s.store s.store_after r name
 
 -- the status and the journal of a call: what was run, what out and err got
 pub data Leaves (s : Scene) : ℕ → Journal → Type 0 where
-  -- the run is done: out got what it printed, and err nothing
-  done : (journal : Journal) → Ran s journal → Took s.out s.out_after (printed [] journal) → Took s.err s.err_after [] → Leaves s 0 journal
+  -- the run has ended: out got what it printed, and err the line of its ending
+  ended : (journal : Journal) (output : List ℕ) (ending : Ending) → Ran s journal output ending → Took s.out s.out_after output → Took s.err s.err_after (ending_text ending) → Leaves s (ending_status ending) journal
   -- a refusal: out got nothing, and err its line
-  refused : (r : Refusal) → Refused s r → Took s.out s.out_after [] → Took s.err s.err_after (refusal_text r (name_of s.words)) → Leaves s (status_of r) []
+  refused : (r : Refusal) (name : List ℕ) → Refused s r name → Took s.out s.out_after [] → Took s.err s.err_after (refusal_text r name) → Leaves s (status_of r) []
   -- out failed at what was printed: it got a prefix, and the journal is a run all the same
-  out_failed : (journal : Journal) → Ran s journal → Failed s.out s.out_after (printed [] journal) → Tried s.err s.err_after (err_line (codes "cannot write") []) → Leaves s 4 journal
+  out_failed : (journal : Journal) (output : List ℕ) (ending : Ending) → Ran s journal output ending → Failed s.out s.out_after output → Tried s.err s.err_after (err_line (codes "cannot write") []) → Leaves s 4 journal
+  -- err failed at the line of the ending: out got what was printed
+  line_failed : (journal : Journal) (output : List ℕ) (ending : Ending) → Ran s journal output ending → Took s.out s.out_after output → Failed s.err s.err_after (ending_text ending) → Leaves s 4 journal
   -- err failed at the line of a refusal: out got nothing
-  err_failed : (r : Refusal) → Refused s r → Took s.out s.out_after [] → Failed s.err s.err_after (refusal_text r (name_of s.words)) → Leaves s 4 []
+  err_failed : (r : Refusal) (name : List ℕ) → Refused s r name → Took s.out s.out_after [] → Failed s.err s.err_after (refusal_text r name) → Leaves s 4 []
 
 -- What each status says.
 
--- the headline: the journal is a complete run of the program that the store gave, out got what it printed, and err nothing
-pub record Done (s : Scene) (journal : Journal) : Type 0 where
-  pub ran : Ran s journal
-  pub out : Took s.out s.out_after (printed [] journal)
-  pub err : Took s.err s.err_after []
+-- the headline: the journal is a complete run of the accepted program that the store gave, over the input that it gave and under the options of the words; out got what it printed, err the line of its ending, and the status is the ending's
+pub record Completed (s : Scene) (status : ℕ) (journal : Journal) : Type 0 where
+  pub output : List ℕ
+  pub ending : Ending
+  pub ran : Ran s journal output ending
+  pub out : Took s.out s.out_after output
+  pub err : Took s.err s.err_after (ending_text ending)
+  pub is_status : status ≡ ending_status ending
 
 -- nothing was run: the journal is empty, out got nothing, and err the line of the refusal
 pub record Told (s : Scene) (r : Refusal) (journal : Journal) : Type 0 where
-  pub cause : Refused s r
+  pub name : List ℕ
+  pub cause : Refused s r name
   pub empty : journal ≡ []
   pub out : Took s.out s.out_after []
-  pub err : Took s.err s.err_after (refusal_text r (name_of s.words))
+  pub err : Took s.err s.err_after (refusal_text r name)
+
+-- the status of an ending
+abbrev pub OfEnding : ℕ → Type 0
+OfEnding status = (status ≡ 0) ⊎ (status ≡ 5) ⊎ (status ≡ 7)
+
+-- the text is refused
+pub record TextTold (s : Scene) (journal : Journal) : Type 0 where
+  pub cause : Refusal
+  pub told : Told s cause journal
+  pub is : ((why : Reason) × (pos : Pos) × (cause ≡ refusal.Lexical why pos)) ⊎ (cause ≡ refusal.NotBuilt) ⊎ (cause ≡ refusal.FrameTooLarge) ⊎ (cause ≡ refusal.CodeTooLarge)
 
 abbrev pub TooHigh : Scene → Type 0
 TooHigh s = (s.out.count < s.out_after.count) ⊎ (s.err.count < s.err_after.count)
 
 -- the causes of each status
 pub record Causes (s : Scene) (status : ℕ) (journal : Journal) : Type 0 where
-  pub done : status ≡ 0 → Done s journal
-  pub refused : status ≡ 1 → ((why : Reason) × (pos : Pos) × Told s (refusal.Lexical why pos) journal) ⊎ Told s refusal.NotBuilt journal
+  pub ended : OfEnding status → Completed s status journal
+  pub refused : status ≡ 1 → TextTold s journal
   pub bad_word : status ≡ 2 → (n : ℕ) × Told s (refusal.Word n) journal
   pub unread : status ≡ 3 → Told s refusal.CannotRead journal ⊎ Told s refusal.TooLong journal
   pub unwritten : status ≡ 4 → CountRose s.out.count s.out_after.count ⊎ CountRose s.err.count s.err_after.count
   pub counted : TooHigh s → status ≡ 4
   pub no_memory : status ≡ 8 → Told s refusal.NoMemory journal
-  pub no_other : (status ≡ 0) ⊎ (status ≡ 1) ⊎ (status ≡ 2) ⊎ (status ≡ 3) ⊎ (status ≡ 4) ⊎ (status ≡ 8)
+  pub no_other : OfEnding status ⊎ (status ≡ 1) ⊎ (status ≡ 2) ⊎ (status ≡ 3) ⊎ (status ≡ 4) ⊎ (status ≡ 8)
 
 -- to neither sink a put was made after one of this call that failed
 pub record Stops (s : Scene) : Type 0 where
   pub out : Stopped s.out s.out_after
   pub err : Stopped s.err s.err_after
 
+-- a line of words over a store that tells the texts that the line names, within their lengths
+pub record HasTexts (s : Scene) : Type 0 where
+  pub file : List ℕ
+  pub opts : Options
+  pub named : Option (List ℕ)
+  pub line : IsRunLine s.words file opts named
+  pub program : HasFile s.store file PROGRAM_BYTES
+  pub input : HasInput s.store named
+
+abbrev pub HasProgram : (s : Scene) → HasTexts s → Program → Type 0
+HasProgram s h p = IsAcceptedText h.program.bytes p
+
 -- what the words and the store make of a call, where memory may be wanting and a put may fail
 pub record Answers (s : Scene) (status : ℕ) : Type 0 where
   -- words that are no line, and words that are one
-  pub no_line : ((file : List ℕ) → IsRunLine s.words file → ⊥) → (status ≡ 2) ⊎ (status ≡ 4)
-  pub line : (file : List ℕ) → IsRunLine s.words file → status ≢ 2
-  -- a store that tells the named file within the limit: a steady one gives it; its text is no program, or one
-  pub steady : (file : List ℕ) → IsRunLine s.words file → IsTrue s.store.steady → HasFile s.store file PROGRAM_BYTES → status ≢ 3
-  pub no_program : (file : List ℕ) → IsRunLine s.words file → (h : HasFile s.store file PROGRAM_BYTES) → ((p : SumProgram) → IsProgram h.bytes p → ⊥) → (status ≡ 1) ⊎ (status ≡ 3) ⊎ (status ≡ 4) ⊎ (status ≡ 8)
-  pub program : (file : List ℕ) → IsRunLine s.words file → (h : HasFile s.store file PROGRAM_BYTES) → (p : SumProgram) → IsProgram h.bytes p → (status ≡ 0) ⊎ (status ≡ 3) ⊎ (status ≡ 4) ⊎ (status ≡ 8)
+  pub no_line : ((command : Command) → IsLine s.words command → ⊥) → (status ≡ 2) ⊎ (status ≡ 4)
+  pub line : (command : Command) → IsLine s.words command → status ≢ 2
+  -- a store that tells the named texts: a steady one gives them; the text is no accepted program, or one
+  pub steady : HasTexts s → IsTrue s.store.steady → status ≢ 3
+  pub no_program : (h : HasTexts s) → ((p : Program) → HasProgram s h p → ⊥) → (status ≡ 1) ⊎ (status ≡ 3) ⊎ (status ≡ 4) ⊎ (status ≡ 8)
+  pub program : (h : HasTexts s) (p : Program) → HasProgram s h p → OfEnding status ⊎ (status ≡ 3) ⊎ (status ≡ 4) ⊎ (status ≡ 8)
 
 -- the sinks have room for all that may be put
 pub record HaveRooms (s : Scene) : Type 0 where
-  pub out : (journal : Journal) → Ran s journal → HasRoom s.out (printed [] journal)
-  pub err : (r : Refusal) → Refused s r → HasRoom s.err (refusal_text r (name_of s.words))
+  pub out : (journal : Journal) (output : List ℕ) (ending : Ending) → Ran s journal output ending → HasRoom s.out output
+  pub line : (journal : Journal) (output : List ℕ) (ending : Ending) → Ran s journal output ending → HasRoom s.err (ending_text ending)
+  pub err : (r : Refusal) (name : List ℕ) → Refused s r name → HasRoom s.err (refusal_text r name)
 
--- over a steady store that has the named file, and sinks with room, an accepted program is run, and every text gets its answer
+-- over a steady store that has the named texts, and sinks with room, an accepted program is run to its ending, and every text gets its answer
 pub record Completes (s : Scene) (status : ℕ) : Type 0 where
-  pub runs : (file : List ℕ) → IsRunLine s.words file → IsTrue s.store.steady → HaveRooms s → (h : HasFile s.store file PROGRAM_BYTES) → (p : SumProgram) → IsProgram h.bytes p → (status ≡ 0) ⊎ (status ≡ 8)
-  pub refuses : (file : List ℕ) → IsRunLine s.words file → IsTrue s.store.steady → HaveRooms s → (h : HasFile s.store file PROGRAM_BYTES) → ((p : SumProgram) → IsProgram h.bytes p → ⊥) → (status ≡ 1) ⊎ (status ≡ 8)
+  pub runs : (h : HasTexts s) → IsTrue s.store.steady → HaveRooms s → (p : Program) → HasProgram s h p → OfEnding status ⊎ (status ≡ 8)
+  pub refuses : (h : HasTexts s) → IsTrue s.store.steady → HaveRooms s → ((p : Program) → HasProgram s h p → ⊥) → (status ≡ 1) ⊎ (status ≡ 8)
 
 abbrev pub scene_of : Words → StoreState → StoreState → SinkState → SinkState → SinkState → SinkState → Scene
 scene_of words store store_after out out_after err err_after = record {

@@ -1,15 +1,16 @@
 -- The status and the text of a refusal, and its cause.
-use Rattle.std.specs.Prelude.{◌≡◌, ℕ, List, [], ◌∷◌, codes, decimal}
+use Rattle.std.specs.Prelude.{◌≡◌, ℕ, ◌⊎◌, List, [], ◌∷◌, codes, decimal, Option, Some}
 use Rattle.std.specs.List.{concat}
 use Rattle.uc_tree.specs.declared.pos.Pos.{Pos}
 use Rattle.uc_tree.specs.declared.scan.Reason.{Reason}
 use Rattle.uc_tree.specs.declared.scan.Reason.TheVariants as reason
-use Rattle.uc_tree.specs.declared.limits.TheConstants.{PROGRAM_BYTES}
-use Rattle.uc_outside.specs.Reading.{StoreState, ReadFailed, ReadTooLong}
+use Rattle.uc_tree.specs.declared.limits.TheConstants.{PROGRAM_BYTES, INPUT_BYTES}
+use Rattle.uc_meaning.specs.declared.entry.Options.{Options}
+use Rattle.uc_outside.specs.Reading.{StoreState, KeepsFiles, ReadBytes, ReadFailed, ReadTooLong}
+use Rattle.uc_words.specs.Words.{Words, IsFirstBad}
 use Rattle.uc_top.specs.declared.refusals.Refusal.{Refusal}
-use Rattle.uc_top.specs.declared.refusals.Refusal.TheVariants.{Word, CannotRead, TooLong, Lexical, NotBuilt, NoMemory}
-use Rattle.uc_top.specs.Words.{Words, IsRunLine, IsFirstBad}
-use Rattle.uc_top.specs.Built.{HasFault, IsNoProgram, GaveText}
+use Rattle.uc_top.specs.declared.refusals.Refusal.TheVariants.{Word, CannotRead, TooLong, Lexical, NotBuilt, FrameTooLarge, CodeTooLarge, NoMemory}
+use Rattle.uc_top.specs.Built.{HasFault, IsNotBuilt, IsTextOf, HasLargeFrame, HasLargeCode, Asks, GaveTexts}
 
 abbrev pub status_of : Refusal → ℕ
 status_of (Word n) = 2
@@ -17,12 +18,9 @@ status_of CannotRead = 3
 status_of TooLong = 3
 status_of (Lexical why pos) = 1
 status_of NotBuilt = 1
+status_of FrameTooLarge = 1
+status_of CodeTooLarge = 1
 status_of NoMemory = 8
-
--- the name of the file that the words name
-abbrev pub name_of : Words → List ℕ
-name_of (word ∷ (name ∷ words)) = name
-name_of _ = []
 
 -- a line on err: a reason and its detail
 abbrev pub err_line : List ℕ → List ℕ → List ℕ
@@ -41,38 +39,69 @@ lexical_reason reason.OpenText = codes "text not closed"
 lexical_reason reason.NumberTooWide = codes "number too wide"
 lexical_reason (reason.TextTooLong n) = codes "text too long"
 
--- what a refusal says, where the words name this file
+-- what a refusal says, where this is the file that was not read
 abbrev pub refusal_text : Refusal → List ℕ → List ℕ
 refusal_text (Word n) name = err_line (codes "word ") (decimal n)
 refusal_text CannotRead name = err_line (codes "cannot read ") name
 refusal_text TooLong name = err_line (codes "too long ") name
 refusal_text (Lexical why pos) name = placed_line pos (lexical_reason why)
 refusal_text NotBuilt name = err_line (codes "not built") []
+refusal_text FrameTooLarge name = err_line (codes "frame too large") []
+refusal_text CodeTooLarge name = err_line (codes "code too large") []
 refusal_text NoMemory name = err_line (codes "out of memory") []
 
--- the named file could not be read
-pub record IsUnread (words : Words) (before after : StoreState) : Type 0 where
-  pub file : List ℕ
-  pub line : IsRunLine words file
-  pub failed : ReadFailed before after file
+-- texts that were not read
 
--- the named file is longer than a text may be
-pub record IsTooLong (words : Words) (before after : StoreState) : Type 0 where
-  pub file : List ℕ
-  pub line : IsRunLine words file
-  pub long : ReadTooLong before after file PROGRAM_BYTES
+-- the file of the program could not be read
+pub record ProgramUnread (before after : StoreState) (file : List ℕ) (name : List ℕ) : Type 0 where
+  pub is_named : name ≡ file
+  pub failed : ReadFailed before after name
 
--- the text has no tokens, for this reason, at this place
-pub record IsUnlexed (words : Words) (before after : StoreState) (why : Reason) (pos : Pos) : Type 0 where
+-- the program was read, and its input could not be
+pub record InputUnread (before after : StoreState) (file : List ℕ) (named : Option (List ℕ)) (name : List ℕ) : Type 0 where
+  pub is_named : named ≡ Some name
   pub text : List ℕ
-  pub gave : GaveText words before after text
-  pub fault : HasFault text why pos
+  pub between : StoreState
+  pub keeps : KeepsFiles before between
+  pub read : ReadBytes before between file PROGRAM_BYTES text
+  pub failed : ReadFailed between after name
 
--- the text has tokens, and is no program that is built
-pub record IsNotBuilt (words : Words) (before after : StoreState) : Type 0 where
+-- the file of the program is longer than a text may be
+pub record ProgramTooLong (before after : StoreState) (file : List ℕ) (name : List ℕ) : Type 0 where
+  pub is_named : name ≡ file
+  pub long : ReadTooLong before after name PROGRAM_BYTES
+
+-- the program was read, and its input is longer than an input may be
+pub record InputTooLong (before after : StoreState) (file : List ℕ) (named : Option (List ℕ)) (name : List ℕ) : Type 0 where
+  pub is_named : named ≡ Some name
   pub text : List ℕ
-  pub gave : GaveText words before after text
-  pub none : IsNoProgram text
+  pub between : StoreState
+  pub keeps : KeepsFiles before between
+  pub read : ReadBytes before between file PROGRAM_BYTES text
+  pub long : ReadTooLong between after name INPUT_BYTES
+
+-- the words are a line that names this file and this input, under these options
+pub record IsUnread (words : Words) (before after : StoreState) (name : List ℕ) : Type 0 where
+  pub file : List ℕ
+  pub opts : Options
+  pub named : Option (List ℕ)
+  pub asks : Asks words file opts named
+  pub unread : ProgramUnread before after file name ⊎ InputUnread before after file named name
+
+pub record IsTooLong (words : Words) (before after : StoreState) (name : List ℕ) : Type 0 where
+  pub file : List ℕ
+  pub opts : Options
+  pub named : Option (List ℕ)
+  pub asks : Asks words file opts named
+  pub long : ProgramTooLong before after file name ⊎ InputTooLong before after file named name
+
+-- the store gave a text of which this holds
+pub record GaveSuch (words : Words) (before after : StoreState) (Is : List ℕ → Type 0) : Type 0 where
+  pub opts : Options
+  pub text : List ℕ
+  pub input : List ℕ
+  pub gave : GaveTexts words before after opts text input
+  pub is : Is text
 
 -- the words are no line, and nothing was read
 pub record HasBadWord (words : Words) (before after : StoreState) (number : ℕ) : Type 0 where
@@ -82,14 +111,18 @@ pub record HasBadWord (words : Words) (before after : StoreState) (number : ℕ)
 -- memory was refused to a line of words, and no read failed
 pub record HasNoMemory (words : Words) (before after : StoreState) : Type 0 where
   pub file : List ℕ
-  pub line : IsRunLine words file
+  pub opts : Options
+  pub named : Option (List ℕ)
+  pub asks : Asks words file opts named
   pub same_count : after.count ≡ before.count
 
 -- the cause of a refusal
-abbrev pub Refuses : Words → StoreState → StoreState → Refusal → Type 0
-Refuses words before after (Word n) = HasBadWord words before after n
-Refuses words before after CannotRead = IsUnread words before after
-Refuses words before after TooLong = IsTooLong words before after
-Refuses words before after (Lexical why pos) = IsUnlexed words before after why pos
-Refuses words before after NotBuilt = IsNotBuilt words before after
-Refuses words before after NoMemory = HasNoMemory words before after
+abbrev pub Refuses : Words → StoreState → StoreState → Refusal → List ℕ → Type 0
+Refuses words before after (Word n) name = HasBadWord words before after n
+Refuses words before after CannotRead name = IsUnread words before after name
+Refuses words before after TooLong name = IsTooLong words before after name
+Refuses words before after (Lexical why pos) name = GaveSuch words before after (λ text. HasFault text why pos)
+Refuses words before after NotBuilt name = GaveSuch words before after IsNotBuilt
+Refuses words before after FrameTooLarge name = GaveSuch words before after (λ text. IsTextOf text HasLargeFrame)
+Refuses words before after CodeTooLarge name = GaveSuch words before after (λ text. IsTextOf text HasLargeCode)
+Refuses words before after NoMemory name = HasNoMemory words before after

@@ -1,14 +1,12 @@
 // The top call of ucpp: words, texts, streams and gate in, output, journal and status out.
 #![tactic(auto)]
 
-mod keeper;
+mod decide;
+mod endings;
 mod printing;
-mod reader;
+mod program;
 mod refusals;
-#[cfg(test)]
-mod tests;
 mod top;
-mod words;
 
 pub use refusals::Refusal;
 pub use top::{Outcome, run_words};

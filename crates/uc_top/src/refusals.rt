@@ -15,14 +15,18 @@ use uc_tree::scan::Reason;
 pub enum Refusal {
     /// The words are no line of the table; the number of the first at fault.
     Word(u32),
-    /// The store did not give the named file.
+    /// The store did not give a named file.
     CannotRead,
-    /// The named file is longer than a text may be.
+    /// A named file is longer than its text may be.
     TooLong,
     /// The text has no tokens, and where it stops having them.
     Lexical(Reason, Pos),
     /// The text has tokens, and is no program that is built so far.
     NotBuilt,
+    /// `main` has more cells than a frame may have.
+    FrameTooLarge,
+    /// The frames fit, and the program is larger than its code may be.
+    CodeTooLarge,
     /// Memory was refused.
     NoMemory,
 }
@@ -38,12 +42,14 @@ impl Refusal {
             Refusal::TooLong => 3,
             Refusal::Lexical(_, _) => 1,
             Refusal::NotBuilt => 1,
+            Refusal::FrameTooLarge => 1,
+            Refusal::CodeTooLarge => 1,
             Refusal::NoMemory => 8,
         }
     }
 }
 
-/// Puts the line of a refusal; `name` is the file that the words name.
+/// Puts the line of a refusal; `name` is the file that was not read.
 pub(crate) fn put_refusal<E: Sink>(
     err: &mut E,
     refusal: Refusal,
@@ -62,6 +68,8 @@ pub(crate) fn put_refusal<E: Sink>(
         Refusal::TooLong => put_line(err, b"too long ", name.as_bytes())?,
         Refusal::Lexical(why, pos) => put_placed(err, pos, lexical_text(why))?,
         Refusal::NotBuilt => put_line(err, b"not built", b"")?,
+        Refusal::FrameTooLarge => put_line(err, b"frame too large", b"")?,
+        Refusal::CodeTooLarge => put_line(err, b"code too large", b"")?,
         Refusal::NoMemory => put_line(err, b"out of memory", b"")?,
     }
     Ok(())
@@ -104,8 +112,8 @@ fn put_placed<E: Sink>(err: &mut E, pos: Pos, reason: &[u8]) -> Result<(), SinkF
     Ok(())
 }
 
-// Puts pieces one after another.
-fn put_pieces<E: Sink>(err: &mut E, pieces: &[&[u8]]) -> Result<(), SinkFault>
+/// Puts pieces one after another.
+pub(crate) fn put_pieces<E: Sink>(err: &mut E, pieces: &[&[u8]]) -> Result<(), SinkFault>
     ensures ok { OnOk result (Took (E.state err.old) (E.state err.new) (concat (map (λ p. p.now) pieces.now))) }
     ensures failed { OnErr result (FailedAt (E.state err.old) (E.state err.new) (concat (map (λ p. p.now) pieces.now))) }
     ensures prefix { OnErr result (TookPrefix (E.state err.old) (E.state err.new) (concat (map (λ p. p.now) pieces.now))) }

@@ -1,6 +1,7 @@
-use Rattle.std.proofs.Common.{◌≡◌, [], take}
+use Rattle.std.proofs.Common.{◌≡◌, take}
+use Rattle.std.specs.Prelude.{map}
 use Rattle.uc_meaning.specs.Texts.{printed}
 use Rattle.uc_top.proofs.printing.printed_bytes.Given as goal
 
 abbrev pub invariant-loop-entry : goal.invariant-loop-entry
-invariant-loop-entry l = l.bytes.items ≡ printed [] (take l.entry-index l.journal)
+invariant-loop-entry l = l.bytes.items ≡ printed l.texts (take l.entry-index l.journal)

@@ -1,0 +1,140 @@
+// How a run ends: the status and the line on err.
+
+ghost use Rattle.std.specs.Prelude.{◌≡◌, ◌<◌, OnOk, OnErr, [], length, slice_index_or};
+ghost use Rattle.uc_outside.specs.Taking.{Took, TookPrefix, FailedAt};
+ghost use Rattle.uc_alone_stub.specs.Ends.{EndsAlone};
+ghost use Rattle.uc_top.specs.Endings.{Tells, EndsWith, ending_status, ending_text, fault_name, fault_names};
+
+use crate::refusals::{put_line, put_pieces};
+use itoa::Buffer;
+use uc_meaning::entry::{Entry, EntryKind};
+use uc_outside::{Sink, SinkFault};
+
+/// How the run of one task ends.
+#[derive(Clone, Copy, PartialEq, Eq, Debug)]
+pub enum Ending {
+    /// The task has ended.
+    Done,
+    /// A run fault, at this line, in this task.
+    Fault { number: i64, line: i64, task: u32 },
+    /// The journal is full.
+    Limit,
+}
+
+impl Ending {
+    /// The status of the call.
+    pub(crate) fn status(self) -> u8
+        ensures { result ≡ ending_status self }
+    {
+        match self {
+            Ending::Done => 0,
+            Ending::Fault { .. } => 5,
+            Ending::Limit => 7,
+        }
+    }
+}
+
+/// The ending that the last entry tells.
+pub(crate) fn ending_of(journal: &[Entry]) -> Ending
+    requires { EndsAlone journal.now }
+    ensures { EndsWith journal.now result }
+{
+    told_by(journal[journal.len() - 1])
+}
+
+// What an entry tells.
+fn told_by(last: Entry) -> Ending
+    ensures fault { last.kind ≡ EntryKind.Fault → Tells last result }
+    ensures limit { last.kind ≡ EntryKind.Limit → Tells last result }
+    ensures done { last.kind ≡ EntryKind.Done → Tells last result }
+{
+    if last.kind == EntryKind::Fault {
+        return Ending::Fault {
+            number: last.a,
+            line: last.b,
+            task: last.task,
+        };
+    }
+    if last.kind == EntryKind::Limit {
+        return Ending::Limit;
+    }
+    Ending::Done
+}
+
+/// Puts the line of an ending.
+pub(crate) fn put_ending<E: Sink>(err: &mut E, ending: Ending) -> Result<(), SinkFault>
+    ensures ok { OnOk result (Took (E.state err.old) (E.state err.new) (ending_text ending)) }
+    ensures failed { OnErr result (FailedAt (E.state err.old) (E.state err.new) (ending_text ending)) }
+    ensures prefix { OnErr result (TookPrefix (E.state err.old) (E.state err.new) (ending_text ending)) }
+{
+    match ending {
+        Ending::Done => Ok(()),
+        Ending::Fault { number, line, task } => {
+            put_fault(err, number, line, task)?;
+            Ok(())
+        }
+        Ending::Limit => {
+            put_line(err, b"limit", b"")?;
+            Ok(())
+        }
+    }
+}
+
+// Puts the line of a run fault.
+fn put_fault<E: Sink>(err: &mut E, number: i64, line: i64, task: u32) -> Result<(), SinkFault>
+    ensures ok { OnOk result (Took (E.state err.old) (E.state err.new) (ending_text (Ending.Fault number line task))) }
+    ensures failed { OnErr result (FailedAt (E.state err.old) (E.state err.new) (ending_text (Ending.Fault number line task))) }
+    ensures prefix { OnErr result (TookPrefix (E.state err.old) (E.state err.new) (ending_text (Ending.Fault number line task))) }
+{
+    let name = fault_name(number);
+    let mut line_buffer = Buffer::new();
+    let line = line_buffer.format(line).as_bytes();
+    let mut task_buffer = Buffer::new();
+    let task = task_buffer.format(task).as_bytes();
+    put_pieces(
+        err,
+        &[b"ucpp: fault ", name, b" at line ", line, b" in task ", task, b"\n"],
+    )?;
+    Ok(())
+}
+
+// The name of the run fault of this number.
+fn fault_name(number: i64) -> &'static [u8]
+    ensures { result.now ≡ fault_name number }
+{
+    match usize::try_from(number) {
+        Ok(place) => name_at(place),
+        Err(_) => b"",
+    }
+}
+
+fn name_at(place: usize) -> &'static [u8]
+    ensures { result.now ≡ slice_index_or fault_names place [] }
+{
+    let names: [&'static [u8]; 20] = [
+        b"",
+        b"Overflow",
+        b"DivideByZero",
+        b"Index",
+        b"Depth",
+        b"ResumeEnded",
+        b"ResumeInUse",
+        b"SuspendWithoutResumer",
+        b"Unhandled",
+        b"BlockedInside",
+        b"DestroyBusy",
+        b"FrontOfEmpty",
+        b"NoReturn",
+        b"EscapeInUnwind",
+        b"SwitchInUnwind",
+        b"TooManyTasks",
+        b"TooManyObjects",
+        b"TooManyPending",
+        b"TooManyProcessors",
+        b"NotLive",
+    ];
+    if place < names.len() {
+        return names[place];
+    }
+    b""
+}
