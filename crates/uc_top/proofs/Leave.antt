@@ -11,10 +11,13 @@ use Rattle.uc_top.specs.Outcomes.{Scene, Ran, Refused, Failed, Tried, Leaves, en
 use Rattle.uc_top.specs.Decisions.{Finished, whole}
 use Rattle.uc_top.specs.Decisions as told
 
-pub finish : (s : Scene) {journal : Journal} {output : List ℕ} {ending : Ending} {status : ℕ} → Ran s journal output ending → Finished s.out s.out_after s.err s.err_after output ending status → Leaves s status journal
-finish s {journal = journal} {output = output} {ending = ending} ran (whole out err) = ended journal output ending ran out err
-finish s {journal = journal} {output = output} {ending = ending} ran (told.out_failed out err) = out_failed journal output ending ran out err
-finish s {journal = journal} {output = output} {ending = ending} ran (told.err_failed out err) = line_failed journal output ending ran out err
+finish_with : (s : Scene) {journal : Journal} {output : List ℕ} {ending : Ending} {status : ℕ} → Ran s journal output ending → Finished s.out s.out_after s.err s.err_after output ending status → Leaves s status journal
+finish_with s {journal = journal} {output = output} {ending = ending} ran (whole out err) = ended journal output ending ran out err
+finish_with s {journal = journal} {output = output} {ending = ending} ran (told.out_failed out err) = out_failed journal output ending ran out err
+finish_with s {journal = journal} {output = output} {ending = ending} ran (told.err_failed out err) = line_failed journal output ending ran out err
+
+pub finish : (s : Scene) {journal : Journal} {output bytes : List ℕ} {ending : Ending} {status : ℕ} → Ran s journal output ending → bytes ≡ output → Finished s.out s.out_after s.err s.err_after bytes ending status → Leaves s status journal
+finish s {ending = ending} {status = status} ran e f = finish_with s ran (subst (λ b. Finished s.out s.out_after s.err s.err_after b ending status) e f)
 
 pub told_why : (s : Scene) (r : Refusal) (name : List ℕ) {status : ℕ} {journal : Journal} → Refused s r name → status ≡ status_of r → journal ≡ [] → Took s.out s.out_after [] → Took s.err s.err_after (refusal_text r name) → Leaves s status journal
 told_why s r name {journal = journal} cause e f out err =

@@ -26,3 +26,13 @@ pub returns-in_ok-put_line-in-NoMemory-clause-ok :
     goal.returns-in_ok-put_line-in-NoMemory-clause-ok
 returns-in_ok-put_line-in-NoMemory-clause-ok g c =
     said c.args.refusal _ c.args.name.now _ c.in-NoMemory.is refl c.in_ok-put_line-in-NoMemory.ensures.ok
+
+pub returns-in_ok-put_line-in-FrameTooLarge-clause-ok :
+    goal.returns-in_ok-put_line-in-FrameTooLarge-clause-ok
+returns-in_ok-put_line-in-FrameTooLarge-clause-ok g c =
+    said c.args.refusal _ c.args.name.now _ c.in-FrameTooLarge.is refl c.in_ok-put_line-in-FrameTooLarge.ensures.ok
+
+pub returns-in_ok-put_line-in-CodeTooLarge-clause-ok :
+    goal.returns-in_ok-put_line-in-CodeTooLarge-clause-ok
+returns-in_ok-put_line-in-CodeTooLarge-clause-ok g c =
+    said c.args.refusal _ c.args.name.now _ c.in-CodeTooLarge.is refl c.in_ok-put_line-in-CodeTooLarge.ensures.ok
