@@ -1,5 +1,5 @@
 -- What each status of the top call says, from what it leaves.
-use Rattle.std.proofs.Common.{◌≡◌, ◌≢◌, ℕ, List, [], ◌∷◌, ◌⊎◌, inl, inr, refl, sym, ◌∙◌, subst, ap, arith, length}
+use Rattle.std.proofs.Common.{◌≡◌, ◌≢◌, ◌<◌, ℕ, List, [], ◌∷◌, ◌⊎◌, inl, inr, refl, sym, ◌∙◌, subst, ap, arith, length}
 use Rattle.std.specs.Prelude.{IsTrue, Option, Some, None}
 use Rattle.uc_tree.specs.declared.limits.TheConstants.{PROGRAM_BYTES, INPUT_BYTES, FRAME_CELLS, PROGRAM_SIZE}
 use Rattle.uc_tree.specs.declared.pos.Pos.{Pos}

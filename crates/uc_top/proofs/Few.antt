@@ -1,7 +1,10 @@
 -- A text has no more tokens than bytes.
 use Rattle.std.proofs.Common.{◌≡◌, ℕ, zero, suc, ◌+◌, ◌-◌, ◌≤◌, List, [], ◌∷◌, length, refl, sym, ◌∙◌, ap, arith, subst}
 use Rattle.uc_tree.specs.declared.token.Token.{Token}
-use Rattle.uc_tree.specs.Tokens.{tokens, Read, Refused, Found, Skip, Take, Stop, Lexed, Place, with_token, lexed_by, tokens_from, next_place, found_at, first_place}
+use Rattle.uc_tree.specs.Tokens.{tokens, Read, Refused, Lexed, with_token, lexed_by, tokens_from, next_place, found_at, first_place}
+use Rattle.uc_tree.specs.declared.scan.Found.{Found}
+use Rattle.uc_tree.specs.declared.scan.Found.TheVariants.{Skip, Take, Stop}
+use Rattle.uc_tree.specs.declared.scan.Place.{Place}
 
 -- no more tokens than this number
 AtMost : Lexed → ℕ → Type 0

@@ -5,7 +5,7 @@ use Rattle.uc_tree.specs.declared.limits.TheConstants.{PROGRAM_BYTES, INPUT_BYTE
 use Rattle.uc_tree.specs.declared.pos.Pos.{Pos}
 use Rattle.uc_tree.specs.declared.token.Token.{Token}
 use Rattle.uc_tree.specs.declared.scan.Reason.{Reason}
-use Rattle.uc_tree.specs.Tokens.{tokens, Read, Refused, pos_at, Found, Skip, Take, Stop, Lexed, Place, with_token, lexed_by, tokens_from, next_place, found_at, first_place}
+use Rattle.uc_tree.specs.Tokens.{tokens, Read, Refused, pos_at}
 use Rattle.uc_tree.specs.Programs.{Program, Routine, Item, RoutineItem}
 use Rattle.uc_tree.specs.Cells.{routine_cells}
 use Rattle.uc_tree.specs.Sizes.{program_size}
@@ -18,7 +18,9 @@ use Rattle.uc_outside.specs.Reading.{StoreState, KeepsFiles, ReadBytes}
 use Rattle.uc_top.specs.declared.endings.Ending.{Ending}
 use Rattle.uc_top.specs.declared.refusals.Refusal.{Refusal}
 use Rattle.uc_top.specs.declared.refusals.Refusal.TheVariants.{Word, CannotRead, TooLong, Lexical, NotBuilt, FrameTooLarge, CodeTooLarge, NoMemory}
-use Rattle.uc_words.specs.Words.{Words}
+use Rattle.uc_words.specs.Words.{Words, IsFirstBad}
+use Rattle.uc_alone_stub.specs.Ends.{alone_options}
+use Rattle.uc_top.proofs.Line.{opts_alone}
 use Rattle.uc_top.specs.Built.{Asks, IsBuilt, HasLargeFrame, HasLargeCode, ProgramRan, HasFault, Spells, IsTextOf, TextRan, ReadsTexts, ReadsInput, HasRun}
 use Rattle.uc_top.specs.Refusals.{Refuses}
 use Rattle.uc_top.specs.Decisions.{ProgramRefused, AreOf, AreTokensOf, TokensRan, TokensRefused, TextRefused, FilesRan, FilesRefused, NotRead, InputNotRead}
@@ -82,26 +84,26 @@ has_fault text why at here e f = record { at = at; lexed = e; place = f }
 
 pub input_unread : {a b c : StoreState} {file text : List ℕ} {named : Option (List ℕ)} (name : List ℕ) (r : Refusal) → KeepsFiles a b → ReadBytes a b file PROGRAM_BYTES text → InputNotRead b c named r name → FilesRefused a c file named r name
 input_unread name (Word n) keeps read h = absurd h.fault
-input_unread {text = text} {b = b} name CannotRead keeps read h = inr (record { is_named = h.is_named; text = text; between = b; keeps = keeps; read = read; failed = h.fault })
-input_unread {text = text} {b = b} name TooLong keeps read h = inr (record { is_named = h.is_named; text = text; between = b; keeps = keeps; read = read; long = h.fault })
+input_unread {b = b} {text = text} name CannotRead keeps read h = inr (record { is_named = h.is_named; text = text; between = b; keeps = keeps; read = read; failed = h.fault })
+input_unread {b = b} {text = text} name TooLong keeps read h = inr (record { is_named = h.is_named; text = text; between = b; keeps = keeps; read = read; long = h.fault })
 input_unread name (Lexical why here) keeps read h = absurd h.fault
 input_unread name NotBuilt keeps read h = absurd h.fault
 input_unread name FrameTooLarge keeps read h = absurd h.fault
 input_unread name CodeTooLarge keeps read h = absurd h.fault
 input_unread name NoMemory keeps read h = h.fault ∙ read.same_count
 
-file_unread' : {a b : StoreState} {file : List ℕ} {named : Option (List ℕ)} (r : Refusal) → NotRead a b file PROGRAM_BYTES r → FilesRefused a b file named r file
-file_unread' (Word n) h = absurd h
-file_unread' CannotRead h = inl (record { is_named = refl; failed = h })
-file_unread' TooLong h = inl (record { is_named = refl; long = h })
-file_unread' (Lexical why here) h = absurd h
-file_unread' NotBuilt h = absurd h
-file_unread' FrameTooLarge h = absurd h
-file_unread' CodeTooLarge h = absurd h
-file_unread' NoMemory h = h
+file_unread_by : (a b : StoreState) (file : List ℕ) (named : Option (List ℕ)) (r : Refusal) → NotRead a b file PROGRAM_BYTES r → FilesRefused a b file named r file
+file_unread_by a b file named (Word n) h = absurd h
+file_unread_by a b file named CannotRead h = inl (record { is_named = refl; failed = h })
+file_unread_by a b file named TooLong h = inl (record { is_named = refl; long = h })
+file_unread_by a b file named (Lexical why here) h = absurd h
+file_unread_by a b file named NotBuilt h = absurd h
+file_unread_by a b file named FrameTooLarge h = absurd h
+file_unread_by a b file named CodeTooLarge h = absurd h
+file_unread_by a b file named NoMemory h = h
 
-pub file_unread : {a b : StoreState} {file : List ℕ} {named : Option (List ℕ)} (r : Refusal) (name : List ℕ) → name ≡ file → NotRead a b file PROGRAM_BYTES r → FilesRefused a b file named r name
-file_unread {a} {b} {file} {named} r name e h = subst (λ n. FilesRefused a b file named r n) (sym e) (file_unread' {named = named} r h)
+pub file_unread : (a b : StoreState) (file : List ℕ) (named : Option (List ℕ)) (r : Refusal) (name : List ℕ) → name ≡ file → NotRead a b file PROGRAM_BYTES r → FilesRefused a b file named r name
+file_unread a b file named r name e h = subst (λ n. FilesRefused a b file named r n) (sym e) (file_unread_by a b file named r h)
 
 pub reads_texts : {a b c : StoreState} {file text input : List ℕ} {named : Option (List ℕ)} → KeepsFiles a b → ReadBytes a b file PROGRAM_BYTES text → ReadsInput b c named input → c.count ≡ b.count → ReadsTexts a c file named text input
 reads_texts {b = b} keeps read given e = record { between = b; keeps = keeps; read = read; read_input = given; same_count = e ∙ read.same_count }
@@ -139,3 +141,10 @@ refuses a b {file} {opts} {named} name line NotBuilt h = record { opts = opts; t
 refuses a b {file} {opts} {named} name line FrameTooLarge h = record { opts = opts; text = h.text; input = h.input; gave = record { file = file; named = named; asks = line; reads = h.reads }; is = h.is }
 refuses a b {file} {opts} {named} name line CodeTooLarge h = record { opts = opts; text = h.text; input = h.input; gave = record { file = file; named = named; asks = line; reads = h.reads }; is = h.is }
 refuses a b {file} {opts} {named} name line NoMemory h = record { file = file; opts = opts; named = named; asks = line; same_count = h }
+
+pub has_run_alone : {words : Words} {a b : StoreState} {file : List ℕ} {named : Option (List ℕ)} {opts : Options} {journal : Journal} {output : List ℕ} {ending : Ending} → Asks words file opts named → FilesRan a b file named (alone_options opts.entries) journal output ending → HasRun words a b journal output ending
+has_run_alone {a = a} {b = b} {file = file} {named = named} {journal = journal} {output = output} {ending = ending} asks r =
+    has_run asks (subst (λ o. FilesRan a b file named o journal output ending) (opts_alone asks.line) r)
+
+pub bad_word : {words : Words} (a : StoreState) (r : Refusal) (n : ℕ) (name : List ℕ) → r ≡ Word n → IsFirstBad words n → Refuses words a a r name
+bad_word {words} a r n name e first = subst (λ x. Refuses words a a x name) (sym e) (record { first = first; unread = refl })

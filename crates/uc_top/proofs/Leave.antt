@@ -1,11 +1,14 @@
 -- What the top call leaves, from what its parts did.
-use Rattle.std.proofs.Common.{◌≡◌, ℕ, List, [], sym, subst, refl}
-use Rattle.std.specs.Prelude.{OnOk, OnErr, Result, Ok, Err, ◌⊎◌, inl, inr}
+use Rattle.std.proofs.Common.{◌≡◌, ℕ, List, [], sym, subst, refl, ap, ◌∙◌, inl, inr, ℤ, ◌∷◌}
+use Rattle.std.specs.Prelude.{OnOk, OnErr, Result, Ok, Err, ◌⊎◌, codes, decimal}
+use Rattle.std.specs.List.{concat}
+use Rattle.std.specs.Fmt.{signed_decimal}
 use Rattle.uc_meaning.specs.Journal.{Journal}
 use Rattle.uc_outside.specs.Taking.{SinkState, Took, TookPrefix, FailedAt}
 use Rattle.uc_top.specs.declared.endings.Ending.{Ending}
+use Rattle.uc_top.specs.declared.endings.Ending.TheVariants.{Fault}
 use Rattle.uc_top.specs.declared.refusals.Refusal.{Refusal}
-use Rattle.uc_top.specs.Endings.{ending_status, ending_text}
+use Rattle.uc_top.specs.Endings.{ending_status, ending_text, fault_name}
 use Rattle.uc_top.specs.Refusals.{status_of, refusal_text}
 use Rattle.uc_top.specs.Outcomes.{Scene, Ran, Refused, Failed, Tried, Leaves, ended, refused, out_failed, line_failed, err_failed}
 use Rattle.uc_top.specs.Decisions.{Finished, whole}
@@ -36,3 +39,15 @@ tried (Err e) t f p = inr (record { at = f; prefix = p })
 
 pub finished_whole : {a b c d : SinkState} {output : List ℕ} {ending : Ending} {status : ℕ} → status ≡ ending_status ending → Took a b output → Took c d (ending_text ending) → Finished a b c d output ending status
 finished_whole {a} {b} {c} {d} {output} {ending} e out err = subst (Finished a b c d output ending) (sym e) (whole out err)
+
+-- what was put is the line of this ending
+pub said : {a b : SinkState} (r s : Ending) (text : List ℕ) → r ≡ s → ending_text s ≡ text → Took a b text → Took a b (ending_text r)
+said {a} {b} r s text e f t = subst (Took a b) (sym (ap ending_text e ∙ f)) t
+
+-- the line of a run fault, of its parts
+abbrev pub fault_line : List ℕ → List ℕ → List ℕ → List ℕ
+fault_line name at by = concat (codes "ucpp: fault " ∷ (name ∷ (codes " at line " ∷ (at ∷ (codes " in task " ∷ (by ∷ (codes "\n" ∷ [])))))))
+
+pub fault_said : {a b : SinkState} (name at by name' at' by' : List ℕ) → name ≡ name' → at ≡ at' → by ≡ by' → Took a b (fault_line name at by) → Took a b (fault_line name' at' by')
+fault_said {a} {b} name at by name' at' by' e f g t =
+    subst (λ x. Took a b (fault_line name' at' x)) g (subst (λ x. Took a b (fault_line name' x by)) f (subst (λ x. Took a b (fault_line x at by)) e t))

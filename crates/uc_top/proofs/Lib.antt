@@ -6,3 +6,4 @@ pub mod Causes
 pub mod Findings
 pub mod Straight
 pub mod Few
+pub mod Ran
