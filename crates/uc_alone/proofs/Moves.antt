@@ -1,6 +1,7 @@
 -- Each op leads on to a later one, where no jump leads back.
-use Rattle.std.proofs.Common.{◌≡◌, ◌<◌, ℕ, ◌+◌, Bool, true, false, cond, List, [], ◌∷◌, zero, suc, ◌∙◌, Option, Some, None, refl, sym, ap, subst, arith, length}
+use Rattle.std.proofs.Common.{◌≡◌, ◌<◌, ◌≤◌, ◌⊎◌, inl, inr, ℕ, ◌+◌, Bool, true, false, cond, List, [], ◌∷◌, zero, suc, ◌∙◌, Option, Some, None, refl, sym, ap, subst, arith, length}
 use Rattle.std.specs.Prelude.{slice_get}
+use Rattle.std.proofs.lemmas.Bool.Decides.{leb_tells}
 use Rattle.std.proofs.lemmas.Option.{slice_get_within}
 use Rattle.uc_meaning.specs.declared.request.Piece.{Piece}
 use Rattle.uc_meaning.specs.Quiet.{Outcome, Gives, Faults, outcome, int_outcome, is_zero, index_in}
@@ -82,6 +83,22 @@ inside_by ops old (Some i) e h = slice_get_within ops old.control.next i e
 pub inside_ops : (ops : List Instruction) (old new : Machine) (how : Stepped) → Advances ops old how new → how ≡ stepped.Quiet → old.control.next < length ops
 inside_ops ops old new how a e = inside_by ops old (slice_get ops old.control.next) refl (sym (a.how_it_ends) ∙ e)
 
+-- behind the last op the machine stays
+stays_by : (ops : List Instruction) (old : Machine) (o : Option Instruction) → slice_get ops old.control.next ≡ o → length ops ≤ old.control.next → (act_at o old).after.control.next ≡ old.control.next
+stays_by ops old None e h = refl
+stays_by ops old (Some i) e h = let l = slice_get_within ops old.control.next i e in absurd (omega (arith, l, h))
+
+pub stays : (ops : List Instruction) (old new : Machine) (how : Stepped) → Advances ops old how new → length ops ≤ old.control.next → new.control.next ≡ old.control.next
+stays ops old new how a h = ap (λ m. m.control.next) a.leaves_it ∙ stays_by ops old (slice_get ops old.control.next) refl h
+
+less_or_not : {n mid : ℕ} {A B : Type 0} → (A × (n ≤ mid)) ⊎ (B × (mid < n)) → (mid < n) ⊎ (n ≤ mid)
+less_or_not (inl p) = inr p.1
+less_or_not (inr p) = inl p.1
+
+way_by : (n first mid last : ℕ) → first ≤ mid → (mid < n → mid < last) → (n ≤ mid → last ≡ mid) → first < n → (mid < n) ⊎ (n ≤ mid) → first < last
+way_by n first mid last h k s l (inl m) = omega (arith, h, k m)
+way_by n first mid last h k s l (inr m) = omega (arith, l, m, s m)
+
 -- where the op before stood at its place or further on, so does the one after
-pub on_way : (n first mid last : ℕ) → first ≤ mid → (mid < n → mid < last) → first < n → mid ≤ last → first < last ⊎ (first ≡ last)
-on_way n first mid last h k l m = search
+pub on_way : (n first mid last : ℕ) → first ≤ mid → (mid < n → mid < last) → (n ≤ mid → last ≡ mid) → first < n → first < last
+on_way n first mid last h k s l = way_by n first mid last h k s l (less_or_not (leb_tells n mid))

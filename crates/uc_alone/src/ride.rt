@@ -21,6 +21,7 @@ fn move_on(code: &Code, work: &mut Work) -> Result<Stepped, AllocError>
     requires forward { IsForward code.now.ops }
     ensures source { IfOk result (λ how. (s : State) → Stands code.now.ops work.old s → Follow code.now.ops how work.new s) }
     ensures on { IfOk result (λ how. GoesOn code.now.ops work.old work.new) }
+    ensures stays { IfOk result (λ how. length code.now.ops ≤ work.old.control.next → work.new.control.next ≡ work.old.control.next) }
     ensures inside { IfOk result (λ how. how ≡ stepped.Quiet → work.old.control.next < length code.now.ops) }
 {
     let how = step(code, work)?;

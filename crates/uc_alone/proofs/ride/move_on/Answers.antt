@@ -1,5 +1,5 @@
-use Rattle.std.proofs.Common.{◌<◌, length}
-use Rattle.uc_alone.proofs.Moves.{moves_on, inside_ops}
+use Rattle.std.proofs.Common.{◌<◌, ◌≤◌, length}
+use Rattle.uc_alone.proofs.Moves.{moves_on, stays, inside_ops}
 use Rattle.uc_alone.proofs.ride.move_on.Goals as goal
 
 pub returns-clause-on : goal.returns-clause-on
@@ -8,3 +8,6 @@ returns-clause-on c h =
 
 pub returns-clause-inside : goal.returns-clause-inside
 returns-clause-inside c e = inside_ops c.args.code.now.ops c.args.work.now c.step.new.work c.in_ok-how.how (c.in_ok-how.ensures.op) e
+
+pub returns-clause-stays : goal.returns-clause-stays
+returns-clause-stays c h = stays c.args.code.now.ops c.args.work.now c.step.new.work c.in_ok-how.how (c.in_ok-how.ensures.op) h

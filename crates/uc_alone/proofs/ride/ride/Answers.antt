@@ -17,7 +17,7 @@ ops-preserved c =
     }
 
 pub returns-in-Tick-clause-on : goal.returns-in-Tick-clause-on
-returns-in-Tick-clause-on c h = on_way (length c.args.code.now.ops) c.args.work.now.control.next c.ops.work.control.next c.move_on.new.work.control.next c.ops.invariant.on c.in_ok-how.ensures.on h
+returns-in-Tick-clause-on c h = on_way (length c.args.code.now.ops) c.args.work.now.control.next c.ops.work.control.next c.move_on.new.work.control.next c.ops.invariant.on (c.in_ok-how.ensures.on) (c.in_ok-how.ensures.stays) h
 
 pub returns-in-Ask-clause-asked : goal.returns-in-Ask-clause-asked
 returns-in-Ask-clause-asked c =
@@ -26,4 +26,4 @@ returns-in-Ask-clause-asked c =
     come_asked ops c.args.work.now c.ops.work c.move_on.new.work c.in-Ask.asked c.ops.invariant.come (λ s st. subst (λ h. Follow ops h c.move_on.new.work s) c.in-Ask.is (f s st))
 
 pub returns-in-Ask-clause-on : goal.returns-in-Ask-clause-on
-returns-in-Ask-clause-on c h = on_way (length c.args.code.now.ops) c.args.work.now.control.next c.ops.work.control.next c.move_on.new.work.control.next c.ops.invariant.on c.in_ok-how.ensures.on h
+returns-in-Ask-clause-on c h = on_way (length c.args.code.now.ops) c.args.work.now.control.next c.ops.work.control.next c.move_on.new.work.control.next c.ops.invariant.on (c.in_ok-how.ensures.on) (c.in_ok-how.ensures.stays) h
