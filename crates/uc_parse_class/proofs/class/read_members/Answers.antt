@@ -1,0 +1,31 @@
+use Rattle.std.proofs.Common.{rules, ◌≡◌, inl, inr, arith, [], ◌∷◌, ◌++◌, refl}
+use Rattle.std.proofs.lemmas.Result.{err_from_is_err_and}
+use Rattle.uc_tree.specs.declared.kinds.Access.TheVariants as access
+use Rattle.uc_grammar.specs.Names.{part_name}
+use Rattle.uc_grammar.specs.Spell.{Begins, Run}
+use Rattle.uc_grammar.specs.Form.{Spells, Fails, inside}
+use Rattle.uc_grammar.specs.Tables.{in_braces}
+use Rattle.uc_grammar.specs.Grammar.{members_of, inner, faults}
+use Rattle.uc_grammar.proofs.Fit.{run_more}
+use Rattle.uc_parse_class.specs.Forms.{class_members_form}
+use Rattle.uc_parse_class.specs.Parts.{part_of, access_after}
+use Rattle.uc_parse_class.proofs.Joined.{members_joined, access_joined}
+use Rattle.uc_parse_class.proofs.class.read_members.Goals as goal
+
+pub parts-init : goal.parts-init
+unfolding Run
+parts-init c = record { parts = []; run = refl; listed = search rules; last = refl; after = omega arith; within = c.requires.begins }
+
+pub parts-preserved : goal.parts-preserved
+parts-preserved c = let b : Begins in_braces c.args.tokens.now c.parts.at = search rules in
+    let more = run_more in_braces (Spells (inner c.args.room) (inside part_name)) c.args.tokens.now c.args.from c.parts.at c.in_ok-part.end c.parts.invariant.parts (part_of c.in_ok-part.part) c.parts.invariant.run b c.in_ok-part.ensures.found in
+    let members = members_joined access.Private c.parts.invariant.parts (part_of c.in_ok-part.part ∷ []) in
+    let last = access_joined access.Private c.parts.invariant.parts (part_of c.in_ok-part.part ∷ []) in
+    record {
+      parts = c.parts.invariant.parts ++ part_of c.in_ok-part.part ∷ [];
+      run = more;
+      listed = cc;
+      last = cc;
+      after = omega (arith, c.in_ok-part.ensures.moved.0);
+      within = c.in_ok-part.ensures.moved.1;
+    }
