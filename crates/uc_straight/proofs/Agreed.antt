@@ -11,7 +11,7 @@ use Rattle.uc_tree.specs.Expressions.{Expr}
 use Rattle.uc_meaning.specs.declared.rule.Scalar.{Scalar}
 use Rattle.uc_meaning.specs.declared.rule.What.{What}
 use Rattle.uc_meaning.specs.declared.rule.Seen.{Seen}
-use Rattle.uc_meaning.specs.RulesNames.{Env, scalar_of, variable, later_or, named, seen_as, declared, all_declared, opened, env_after, main_env}
+use Rattle.uc_meaning.specs.RulesNames.{Env, scalar_of, variable, later_or, named, seen_as, declared, all_declared, env_after, main_env}
 use Rattle.uc_straight.specs.Laws.{known_as, Agrees}
 
 map_push : (ks : List Known) (k : Known) → map known_as (ks ++ k ∷ []) ≡ map known_as ks ++ known_as k ∷ []

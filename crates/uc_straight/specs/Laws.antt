@@ -1,7 +1,7 @@
 -- The names of the rules are those of the resolved tree, with the same types.
-use Rattle.std.specs.Prelude.{◌≡◌, ℕ, List, ◌++◌, map, Option, Some}
+use Rattle.std.specs.Prelude.{◌≡◌, ℕ, List, ◌++◌, map, Some}
 use Rattle.uc_tree.specs.declared.kinds.Known.{Known}
-use Rattle.uc_tree.specs.Statements.{Stmt, Stmts}
+use Rattle.uc_tree.specs.Statements.{Stmt}
 use Rattle.uc_tree.specs.Programs.{Program}
 use Rattle.uc_tree.specs.Resolve.{Scope, known_named, scope_after, routine_scope}
 use Rattle.uc_meaning.specs.declared.rule.Seen.{Seen}
