@@ -32,11 +32,13 @@ known_is p scope b d = ap (λ w. with_what d.name w) (lengths p d d.len (scalar_
 next_declared : (p : Program) (env : Env) (scope : Scope) (b : Base) (d : Declarator) → Agrees env scope → Agrees (declared env b d) (with_declared p scope b d)
 next_declared p env scope b d h =
     let k = declared_known p scope b d in
-    record { same =
-        ap (λ l. l ++ seen_as b d ∷ []) h.same
-        ∙ append_assoc main_env.names (map known_as scope.names) (seen_as b d ∷ [])
-        ∙ ap (λ x. main_env.names ++ (map known_as scope.names ++ x ∷ [])) (sym (known_is p scope b d))
-        ∙ ap (λ l. main_env.names ++ l) (sym (map_push scope.names k)) }
+    record {
+      same =
+          ap (λ l. l ++ seen_as b d ∷ []) h.same
+          ∙ append_assoc main_env.names (map known_as scope.names) (seen_as b d ∷ [])
+          ∙ ap (λ x. main_env.names ++ (map known_as scope.names ++ x ∷ [])) (sym (known_is p scope b d))
+          ∙ ap (λ l. main_env.names ++ l) (sym (map_push scope.names k));
+    }
 
 next_all : (p : Program) (env : Env) (scope : Scope) (b : Base) (ds : List Declarator) → Agrees env scope → Agrees (all_declared env b ds) (with_all p scope b ds)
 next_all p env scope b [] h = h

@@ -60,7 +60,7 @@ first_is (x ∷ bs) b e =
     let r = from x b bs e in
     record {
       is_break = elim r.is [ inl q ↦ subst (λ y. Contains (x ∷ bs) y) (sym q) (contains_head x bs) | inr p ↦ contains_more x bs b p ];
-      no_earlier = late_all x b bs r.late r.no_earlier
+      no_earlier = late_all x b bs r.late r.no_earlier;
     }
 
 still_test : (a x : Break) (bs : List Break) (t : Bool) → before x a ≡ t → after (sooner (Some a) x) bs ≡ None → ((y : Break) → after (Some y) bs ≡ None → ⊥) → ⊥
