@@ -1,12 +1,8 @@
 // A task as its main begins.
 
 ghost use Rattle.std.specs.Prelude.{◌≡◌, IfOk, None, Some, MatchOption, slice_get};
-ghost use Rattle.uc_tree.specs.Source.{Source, Routine};
-ghost use Rattle.uc_meaning.specs.Quiet.{first_state};
 ghost use Rattle.uc_code.specs.declared.rows.RoutineCode.{RoutineCode};
-ghost use Rattle.uc_code.specs.Lowered.{Lowered};
 ghost use Rattle.uc_frames.specs.Machine.{first_machine};
-ghost use Rattle.uc_frames.specs.Stands.{Stands};
 ghost use Rattle.uc_step.specs.Starts.{Starts};
 
 use std::alloc::{AllocError, Global};
