@@ -1,5 +1,6 @@
 pub mod Codes
 pub mod Drafts
+pub mod Forward
 pub mod Listing
 pub mod Lowered
 pub mod Operands

@@ -2,7 +2,6 @@
 // the number of the next token and the expression with all its parentheses, or the fault.
 #![tactic(auto)]
 
-mod outline;
 mod rows;
 
 use crate::rows::row;

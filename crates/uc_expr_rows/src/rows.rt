@@ -2,10 +2,10 @@
 
 ghost use Rattle.std.specs.Prelude.{◌≤◌};
 
-use crate::outline::write_expr;
 use std::alloc::{AllocError, Global};
 use uc_grammar::fault::ParseFault;
 use uc_lex::lex;
+use uc_outline::expr::write_expr;
 use uc_parse_expr::parse::parse_expr;
 use uc_tree::limits::{NESTING, PROGRAM_BYTES};
 use uc_tree::token::Token;

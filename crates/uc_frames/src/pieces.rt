@@ -1,6 +1,6 @@
 // Items that are printed at once.
 
-ghost use Rattle.std.specs.Prelude.{◌≡◌, ◌≤◌, ◌<◌, [], length, OnOk, OnErr, nat_lt};
+ghost use Rattle.std.specs.Prelude.{◌≡◌, ◌≤◌, [], length, OnOk, OnErr};
 ghost use Rattle.uc_tree.specs.declared.limits.TheConstants.{PRINT_ITEMS};
 ghost use Rattle.uc_meaning.specs.Quiet.{with_piece, print_of};
 

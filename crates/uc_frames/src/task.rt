@@ -1,10 +1,10 @@
 // A task without its hand.
 
-ghost use Rattle.std.specs.Prelude.{◌≡◌, ◌∷◌, [], length, nat_lt, nat_eq, None, Some, IfOk, OnOk, OnErr, MatchOption, slice_index_or};
+ghost use Rattle.std.specs.Prelude.{◌≡◌, ◌∷◌, [], length, nat_lt, None, Some, IfOk, OnOk, OnErr, MatchOption, slice_index_or};
 ghost use Rattle.std.specs.Option.{is_some, option_map};
 ghost use Rattle.uc_meaning.specs.Executions.{at_depth, list_in, frame_changed, frames_changed, values_cleared, members_at, change, exec_eq};
 ghost use Rattle.uc_meaning.specs.Quiet.{with_piece};
-ghost use Rattle.uc_frames.specs.Machine.{Control, nought, top, below, cell_written, first_machine};
+ghost use Rattle.uc_frames.specs.Machine.{nought, top, below, cell_written, first_machine};
 
 use crate::cell::Cell;
 use crate::members::Members;

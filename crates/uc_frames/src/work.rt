@@ -1,10 +1,10 @@
 // The cells of a task with its hand.
 
-ghost use Rattle.std.specs.Prelude.{◌≡◌, ◌∷◌, [], length, nat_lt, pos, None, Some, IfOk, OnOk, OnErr, MatchOption};
+ghost use Rattle.std.specs.Prelude.{◌≡◌, ◌∷◌, [], length, nat_lt, None, Some, IfOk, OnOk, OnErr, MatchOption};
 ghost use Rattle.std.specs.Option.{is_some, option_map};
 ghost use Rattle.uc_meaning.specs.Executions.{frame_changed, frames_changed, members_at, parked_at, change, value_at, with_owned};
 ghost use Rattle.uc_meaning.specs.Quiet.{with_piece};
-ghost use Rattle.uc_frames.specs.Machine.{Control, nought, top, below, cell_written, shifted, loaded, written, this_frame, cleared, with_hand, first_machine};
+ghost use Rattle.uc_frames.specs.Machine.{nought, top, below, cell_written, shifted, loaded, written, this_frame, cleared, with_hand, first_machine};
 
 use crate::cell::Cell;
 use crate::members::Members;

@@ -10,7 +10,8 @@ use Rattle.uc_meaning.specs.declared.request.Piece.{Piece}
 use Rattle.uc_meaning.specs.declared.request.Request.{Request}
 use Rattle.uc_meaning.specs.declared.request.Request.TheVariants as ask
 use Rattle.uc_meaning.specs.Journal.{Journal, entry, own_object, is_fault}
-use Rattle.uc_meaning.specs.Reading.{Got, bytes_used, has_failed, next_read}
+use Rattle.uc_meaning.specs.declared.got.Got.{Got}
+use Rattle.uc_meaning.specs.Reading.{bytes_used, has_failed, next_read}
 use Rattle.uc_meaning.specs.Queues.{next, first_ended, none_running, none_ready, none_served, all_ticks}
 
 -- the admission of whoever is next at an object

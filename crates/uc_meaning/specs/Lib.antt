@@ -11,3 +11,10 @@ pub mod Acts
 pub mod Runs
 pub mod Texts
 pub mod Sums
+pub mod Straight
+pub mod RulesNames
+pub mod RulesTypes
+pub mod RulesVisits
+pub mod RulesFirst
+pub mod Rules
+pub mod Accepted

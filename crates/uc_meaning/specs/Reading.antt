@@ -1,26 +1,17 @@
 -- What a read takes of the input.
-use Rattle.std.specs.Prelude.{ℕ, ℤ, zero, suc, pos, negsuc, ◌+◌, ◌-◌, ◌*◌, ◌==◌, List, [], ◌∷◌, length, take, drop, Bool, true, false, if◌then◌else◌, int_lt, neg_ℤ}
+use Rattle.std.specs.Prelude.{ℕ, ℤ, zero, suc, pos, ◌+◌, ◌==◌, List, [], ◌∷◌, take, drop, Bool, true, false, if◌then◌else◌, int_lt, neg_ℤ}
 use Rattle.uc_tree.specs.declared.limits.TheConstants.{INT_MIN, INT_MAX}
 use Rattle.uc_tree.specs.Bytes.{is_white, is_digit}
+use Rattle.uc_tree.specs.Tokens.{value_of}
 use Rattle.std.specs.List.{prefix_len}
+use Rattle.uc_meaning.specs.declared.got.Got.{Got}
 use Rattle.uc_meaning.specs.declared.entry.Entry.{Entry}
 use Rattle.uc_meaning.specs.declared.entry.EntryKind.{EntryKind}
 use Rattle.uc_meaning.specs.declared.entry.EntryKind.TheVariants as kind
 use Rattle.uc_meaning.specs.Journal.{Journal, number, holds}
 
--- what was read, whether that failed, and how many bytes were taken
-pub record Got : Type 0 where
-  pub value : ℤ
-  pub failed : Bool
-  pub taken : ℕ
-
 abbrev pub missed : ℕ → Got
 missed taken = record { value = pos 0; failed = true; taken = taken }
-
--- the number that decimal digits spell
-abbrev pub digits_value : ℕ → List ℕ → ℕ
-digits_value n [] = n
-digits_value n (d ∷ ds) = digits_value (n * 10 + (d - 48)) ds
 
 -- a number out of range fails, and gives the end of `int` on its side
 abbrev pub ranged : ℤ → ℕ → Got
@@ -36,7 +27,7 @@ signed false n = pos n
 -- an `int` behind a sign, if there is one; without a digit nothing but the white space is taken
 abbrev pub got_digits : ℕ → ℕ → Bool → List ℕ → ℕ → Got
 got_digits white sign minus rest zero = missed white
-got_digits white sign minus rest (suc n) = ranged (signed minus (digits_value 0 (take (suc n) rest))) (white + sign + suc n)
+got_digits white sign minus rest (suc n) = ranged (signed minus (value_of (take (suc n) rest))) (white + sign + suc n)
 
 abbrev pub got_signed : ℕ → ℕ → Bool → List ℕ → Got
 got_signed white sign minus rest = got_digits white sign minus rest (prefix_len is_digit rest)

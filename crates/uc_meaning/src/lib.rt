@@ -3,6 +3,8 @@
 
 pub mod entry;
 pub mod exec;
+pub mod got;
 pub mod list;
 pub mod request;
+pub mod rule;
 pub mod sums;

@@ -1,8 +1,8 @@
 -- What several puts come to.
-use Rattle.std.proofs.Common.{◌≡◌, ℕ, ◌+◌, ◌<◌, List, [], ◌∷◌, ◌++◌, length, refl, sym, ap, ◌∙◌, subst, append_assoc, length-append, arith, Option, Some, None}
+use Rattle.std.proofs.Common.{◌≡◌, ℕ, ◌+◌, ◌<◌, ◌≤◌, List, [], ◌∷◌, ◌++◌, length, refl, sym, ap, ◌∙◌, subst, append_assoc, length-append, arith, Option, Some, None}
 use Rattle.std.specs.Option.{option_map}
 use Rattle.uc_outside.specs.Faults.{CountRose}
-use Rattle.uc_outside.specs.Taking.{SinkState, Grew, Used, Gained, Took, FailedAt, TookNothing, TookPrefix, HasRoom}
+use Rattle.uc_outside.specs.Taking.{SinkState, Grew, Used, Gained, Took, FailedAt, TookNothing, TookPrefix, HasRoom, Stopped}
 
 append_nil : (xs : List ℕ) → xs ≡ xs ++ []
 append_nil [] = refl
@@ -38,7 +38,7 @@ used-more {a} {b} {c} {m} {n} p q = record { used = used_twice c m n ∙ ap (opt
 
 -- a sink at which nothing was put
 pub took-nothing : (sink : SinkState) → Took sink sink []
-took-nothing sink = record { same_count = refl; gained = record { told = grew-nothing sink.told; room = used-nothing sink.room } }
+took-nothing sink = record { same_count = refl; still = λ h. h; gained = record { told = grew-nothing sink.told; room = used-nothing sink.room } }
 
 pub gained-more : {a b c : SinkState} {xs ys : List ℕ} → Gained a b xs → Gained b c ys → Gained a c (xs ++ ys)
 gained-more {a} {b} {c} {xs} {ys} p q = record {
@@ -48,7 +48,11 @@ gained-more {a} {b} {c} {xs} {ys} p q = record {
 
 -- what was taken, and then more, is both, one after the other
 pub took-more : {a b c : SinkState} {xs ys : List ℕ} → Took a b xs → Took b c ys → Took a c (xs ++ ys)
-took-more p q = record { same_count = q.same_count ∙ p.same_count; gained = gained-more p.gained q.gained }
+took-more p q = record {
+  same_count = q.same_count ∙ p.same_count;
+  still = λ h. p.still (q.still h);
+  gained = gained-more p.gained q.gained;
+}
 
 -- what was taken, and then a prefix of more
 pub took-prefix : {a b c : SinkState} {xs ys : List ℕ} → Took a b xs → TookPrefix b c ys → TookPrefix a c (xs ++ ys)
@@ -85,6 +89,8 @@ room-after {a} {b} {xs} {ys} p h =
 pub took-failed : {a b c : SinkState} {xs ys : List ℕ} → Took a b xs → FailedAt b c ys → FailedAt a c (xs ++ ys)
 took-failed {a} {b} {c} {xs} {ys} p q = record {
   rose = subst (λ n. CountRose n c.count) p.same_count q.rose;
+  once = subst (λ n. c.count ≤ n + 1) p.same_count q.once;
+  last = q.last;
   longer = λ left is_room.
       let now = room_left b.room (length xs) left (p.gained.room.used ∙ is_room) in
       let small : now.0 < length ys = q.longer now.0 now.1 in
@@ -99,6 +105,8 @@ fits-no_failure {text = text} h f = let small : h.left < length text = f.longer 
 pub failed-longer : {a b : SinkState} {xs : List ℕ} (ys : List ℕ) → FailedAt a b xs → FailedAt a b (xs ++ ys)
 failed-longer {xs = xs} ys f = record {
   rose = f.rose;
+  once = f.once;
+  last = f.last;
   longer = λ left is_room. let small : left < length xs = f.longer left is_room in omega (arith, length-append xs ys, small);
 }
 
@@ -114,3 +122,10 @@ prefix-longer ys p = record {
 -- what is told after a put of just these bytes
 pub told-after : {a b : SinkState} {bytes : List ℕ} (held : List ℕ) → Took a b bytes → a.told ≡ Some held → b.told ≡ Some (held ++ bytes)
 told-after {bytes = bytes} held p e = p.gained.told.grown ∙ ap (option_map (λ xs. xs ++ bytes)) e
+
+-- where nothing failed, and where one put failed, none was made after a failed one
+pub took-stopped : {a b : SinkState} {bytes : List ℕ} → Took a b bytes → Stopped a b
+took-stopped p = record { once = let e = p.same_count in omega arith; last = λ h. absurd (omega (arith, h, p.same_count)) }
+
+pub failed-stopped : {a b : SinkState} {text : List ℕ} → FailedAt a b text → Stopped a b
+failed-stopped f = record { once = f.once; last = λ h. f.last }

@@ -1,5 +1,5 @@
 // A sink in memory that is taken first.
-ghost use Rattle.std.specs.Prelude.{◌≡◌, ◌+◌, ◌<◌, ◌≤◌, length, take, IfOk, OnErr, Some, []};
+ghost use Rattle.std.specs.Prelude.{◌≡◌, ◌+◌, ◌<◌, ◌≤◌, length, take, IfOk, OnOk, OnErr, Some, [], IsFalse, false};
 ghost use Rattle.uc_outside.specs.Taking.{Took, TookNothing, FailedAt};
 
 use crate::faults::SinkFault;
@@ -13,6 +13,7 @@ pub struct FixedSink {
     bytes: Vec<u8>,
     room: usize,
     faults: u64,
+    failing: bool,
 }
 
 impl Model for FixedSink {
@@ -21,7 +22,7 @@ impl Model for FixedSink {
 
     ghost Value = { SinkState };
 
-    ghost view = { λ s. record { count = s.faults; told = Some s.bytes.items; room = Some s.room } };
+    ghost view = { λ s. record { count = s.faults; told = Some s.bytes.items; room = Some s.room; failing = s.failing } };
 
     ghost invariant = { λ s. vec_len s.bytes + s.room ≤ vec_capacity s.bytes };
 }
@@ -29,13 +30,14 @@ impl Model for FixedSink {
 impl FixedSink {
     /// Takes memory for `room` bytes.
     pub fn new(alloc: Global, room: usize) -> Result<FixedSink, AllocError>
-        ensures { IfOk result (λ s. s ≡ record { count = 0; told = Some []; room = Some room }) }
+        ensures { IfOk result (λ s. s ≡ record { count = 0; told = Some []; room = Some room; failing = false }) }
     {
         let bytes = Vec::with_capacity(alloc, room)?;
         Ok(FixedSink {
             bytes,
             room,
             faults: 0,
+            failing: false,
         })
     }
 
@@ -58,6 +60,7 @@ impl Sink for FixedSink {
         ensures bound { IfOk result (λ n. n ≤ length piece.now) }
         ensures progress { IfOk result (λ n. 0 < length piece.now → 0 < n) }
         ensures ok { IfOk result (λ n. Took self.old self.new (take n piece.now)) }
+        ensures well { OnOk result (IsFalse self.new.failing) }
         ensures never_falls { self.old.count ≤ self.new.count }
         ensures failed { OnErr result (FailedAt self.old self.new piece.now) }
         ensures nothing { OnErr result (TookNothing self.old self.new) }
@@ -68,7 +71,8 @@ impl Sink for FixedSink {
         // It takes a piece whole or not at all.
         ensures whole { IfOk result (λ n. n ≡ length piece.now) }
     {
-        if piece.len() > self.room {
+        self.failing = piece.len() > self.room;
+        if self.failing {
             self.faults = self.faults.saturating_add(1);
             return Err(SinkFault::Failed);
         }

@@ -1,14 +1,14 @@
 // What a sink is, and how a whole text is put.
-ghost use Rattle.std.specs.Prelude.{◌≡◌, ◌+◌, ◌<◌, ◌≤◌, ℕ, length, take, IfOk, OnOk, OnErr};
-ghost use Rattle.uc_outside.specs.Taking.{SinkState, Took, TookNothing, TookPrefix, FailedAt};
+ghost use Rattle.std.specs.Prelude.{◌≡◌, ◌+◌, ◌<◌, ◌≤◌, ℕ, length, take, IfOk, OnOk, OnErr, IsFalse};
+ghost use Rattle.uc_outside.specs.Taking.{SinkState, Took, TookNothing, TookPrefix, FailedAt, Stopped};
 
 use crate::faults::SinkFault;
 
 /// Takes bytes.
 ///
 /// Contracts see a sink as its `state`: the count of its failed puts, the bytes that it took where
-/// it tells them, and its room, the number of bytes that it still takes for certain, where it has
-/// one.
+/// it tells them, its room, the number of bytes that it still takes for certain, where it has one,
+/// and whether its last put failed.
 pub trait Sink {
     ghost state: { Self → SinkState };
 
@@ -25,10 +25,11 @@ pub trait Sink {
         ensures bound { IfOk result (λ n. n ≤ length piece.now) }
         ensures progress { IfOk result (λ n. 0 < length piece.now → 0 < n) }
         ensures ok { IfOk result (λ n. Took (state self.old) (state self.new) (take n piece.now)) }
+        ensures well { OnOk result (IsFalse (state self.new).failing) }
         ensures counted { puts self.new ≤ puts self.old + 1 }
         ensures never_falls { (state self.old).count ≤ (state self.new).count }
 
-        // A piece that fits into the room does not fail.
+        // A put that fails counts once. A piece that fits into the room does not fail.
         ensures failed { OnErr result (FailedAt (state self.old) (state self.new) piece.now) }
         ensures nothing { OnErr result (TookNothing (state self.old) (state self.new)) };
 }
@@ -38,6 +39,9 @@ pub fn put_all<S: Sink>(s: &mut S, text: &[u8]) -> Result<(), SinkFault>
     ensures ok { OnOk result (Took (S.state s.old) (S.state s.new) text.now) }
     ensures few_puts { S.puts s.new ≤ S.puts s.old + length text.now }
     ensures never_falls { (S.state s.old).count ≤ (S.state s.new).count }
+
+    // No put is made after one that failed.
+    ensures stops { Stopped (S.state s.old) (S.state s.new) }
 
     // A text that fits into the room does not fail.
     ensures failed { OnErr result (FailedAt (S.state s.old) (S.state s.new) text.now) }

@@ -43,12 +43,13 @@ struct Dribble {
     most: usize,
     puts: u64,
     faults: u64,
+    failing: bool,
 }
 
 impl Sink for Dribble {
     ghost use Rattle.std.specs.Prelude.{None};
 
-    ghost state = { λ s. record { count = s.faults; told = None; room = None } };
+    ghost state = { λ s. record { count = s.faults; told = None; room = None; failing = s.failing } };
 
     ghost puts = { λ s. s.puts };
 
@@ -57,6 +58,7 @@ impl Sink for Dribble {
     }
 
     fn put(&mut self, piece: &[u8]) -> Result<usize, SinkFault> {
+        self.failing = false;
         let Some(first) = piece.first().copied() else {
             return Ok(0);
         };
@@ -64,6 +66,7 @@ impl Sink for Dribble {
         if self.bytes.len() < self.most && self.bytes.push(first).is_ok() {
             return Ok(1);
         }
+        self.failing = true;
         self.faults = self.faults.saturating_add(1);
         Err(SinkFault::Failed)
     }
@@ -118,6 +121,7 @@ fn a_text_goes_on_after_short_puts(rt: HostRuntime) -> Result<(), Fail> {
             most,
             puts: 0,
             faults: 0,
+            failing: false,
         };
         assert_eq!(rt; put_all(&mut sink, b"abc").is_ok(), went_well);
         assert_eq!(rt; sink.bytes.as_slice(), held.as_bytes());

@@ -33,3 +33,14 @@ is_plain start.Enable = false
 is_plain start.Disable = false
 is_plain start.Accept = false
 is_plain _ = true
+
+-- those of one word or none, and those that begin with neither a word nor a sign of a statement
+abbrev pub is_bare : StmtStart → Bool
+is_bare start.Empty = true
+is_bare start.Break = true
+is_bare start.Continue = true
+is_bare start.Resume = true
+is_bare start.Suspend = true
+is_bare start.Yield = true
+is_bare start.Simple = true
+is_bare _ = false

@@ -3,6 +3,7 @@
 
 pub mod declare;
 pub mod event;
+pub mod head;
 pub mod parse;
 pub mod peek;
 pub mod plain;

@@ -1,6 +1,6 @@
 // What single tokens say of a statement.
 
-ghost use Rattle.std.specs.Prelude.{◌≡◌, ◌≢◌, ◌<◌, ◌≤◌, ◌^◌, ◌↔◌, ℕ, List, IsSome, IsTrue, MatchOption, length};
+ghost use Rattle.std.specs.Prelude.{◌≡◌, ◌≢◌, ◌<◌, ◌≤◌, ◌^◌, ◌↔◌, ℕ, List, IsSome, IsTrue, MatchOption, false, length};
 ghost use Rattle.uc_grammar.specs.Form.{Spells};
 ghost use Rattle.uc_grammar.specs.Grammar.{maybe_sign, inner};
 ghost use Rattle.uc_grammar.specs.Spell.{kind_at, Begins};
@@ -8,7 +8,7 @@ ghost use Rattle.uc_grammar.specs.Tables.{sign_of, word_of, base_of, handler_of,
 ghost use Rattle.uc_parse_stmt.specs.Forms.{is_name};
 
 use uc_grammar::start::StmtStart;
-use uc_parse_expr::peek::{is_sign, kind_at, sign_at, word_at};
+use uc_parse_expr::peek::{is_sign, is_word, kind_at, sign_at, word_at};
 use uc_tree::kinds::{Base, HandlerKind};
 use uc_tree::name::Text;
 use uc_tree::token::{Sign, Token, TokenKind, Word};
@@ -203,6 +203,17 @@ pub fn in_braces_at(tokens: &[Token], at: u32) -> bool
     match kind_at(tokens, at) {
         Some(TokenKind::Sign(Sign::CloseBrace)) => false,
         Some(_) => true,
+        None => false,
+    }
+}
+
+/// Whether this word, if it is one, stands at a place.
+pub fn is_maybe_word(tokens: &[Token], at: u32, word: Option<Word>) -> bool
+    ensures word { MatchOption word (result ≡ false) (λ w. IsTrue result ↔ (kind_at tokens.now at ≡ Some (TokenKind.Word w))) }
+    ensures inside { IsTrue result → at < length tokens.now }
+{
+    match word {
+        Some(word) => is_word(tokens, at, word),
         None => false,
     }
 }

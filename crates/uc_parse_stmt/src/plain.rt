@@ -7,7 +7,7 @@ ghost use Rattle.std.specs.Prelude.{◌≢◌};
 ghost use Rattle.uc_grammar.specs.Form.{apply, empty};
 ghost use Rattle.uc_tree.specs.Statements.{Return};
 ghost use Rattle.uc_grammar.specs.Grammar.{before, postfix_form, expect_sign, maybe_expr, no_arguments, migrate_rest, throw_rest, at_form, raise_rest, stmt_by, inner, faults};
-ghost use Rattle.uc_parse_stmt.specs.Parts.{is_plain};
+ghost use Rattle.uc_parse_stmt.specs.Parts.{is_bare, is_plain};
 
 use crate::declare::{read_maybe_expr, read_simple_stmt};
 use crate::event::read_raised;
@@ -238,6 +238,61 @@ fn read_no_arguments(
     Ok((statement, to))
 }
 
+// A statement of one word or none, or a declaration or an expression.
+fn read_bare(
+    alloc: Global,
+    tokens: &[Token],
+    start: StmtStart,
+    pos: Pos,
+    from: u32,
+    room: u16,
+) -> Result<(Stmt, u32), ParseFault>
+    requires begins { from ≤ length tokens.now }
+    requires few { length tokens.now < 2 ^ 32 }
+    requires bare { IsTrue (is_bare start) }
+    requires begun { start ≢ StmtStart.Simple → from < length tokens.now }
+    ensures found { IfOk result (λ r. Spells (inner room) (stmt_by pos start) tokens.now from r.1 r.0) }
+    ensures fails { IfErr result (λ f. Fails (inner room) (faults room) (stmt_by pos start) tokens.now from f) }
+    ensures moved { IfOk result (λ r. (from < r.1) × (r.1 ≤ length tokens.now)) }
+    ensures within { IfErr result (λ f. token_of f ≤ length tokens.now) }
+{
+    match start {
+        StmtStart::Empty => {
+            let form = StmtForm::Empty;
+            Ok((Stmt { pos, form }, from + 1))
+        }
+        StmtStart::Break => {
+            let form = StmtForm::Break;
+            let (s, to) = read_end(alloc, tokens, Stmt { pos, form }, from + 1, room)?;
+            Ok((s, to))
+        }
+        StmtStart::Continue => {
+            let form = StmtForm::Continue;
+            let (s, to) = read_end(alloc, tokens, Stmt { pos, form }, from + 1, room)?;
+            Ok((s, to))
+        }
+        StmtStart::Resume => {
+            let form = StmtForm::Resume;
+            let (s, to) = read_no_arguments(alloc, tokens, Stmt { pos, form }, from + 1, room)?;
+            Ok((s, to))
+        }
+        StmtStart::Suspend => {
+            let form = StmtForm::Suspend;
+            let (s, to) = read_no_arguments(alloc, tokens, Stmt { pos, form }, from + 1, room)?;
+            Ok((s, to))
+        }
+        StmtStart::Yield => {
+            let form = StmtForm::Yield;
+            let (s, to) = read_no_arguments(alloc, tokens, Stmt { pos, form }, from + 1, room)?;
+            Ok((s, to))
+        }
+        _ => {
+            let (s, to) = read_simple_stmt(alloc, tokens, from, room)?;
+            Ok((s, to))
+        }
+    }
+}
+
 /// A statement that holds no statement and begins as `start` says.
 pub fn read_plain(
     alloc: Global,
@@ -257,39 +312,6 @@ pub fn read_plain(
     ensures within { IfErr result (λ f. token_of f ≤ length tokens.now) }
 {
     match start {
-        StmtStart::Empty => Ok((
-            Stmt {
-                pos,
-                form: StmtForm::Empty,
-            },
-            from + 1,
-        )),
-        StmtStart::Break => {
-            let (s, to) = read_end(
-                alloc,
-                tokens,
-                Stmt {
-                    pos,
-                    form: StmtForm::Break,
-                },
-                from + 1,
-                room,
-            )?;
-            Ok((s, to))
-        }
-        StmtStart::Continue => {
-            let (s, to) = read_end(
-                alloc,
-                tokens,
-                Stmt {
-                    pos,
-                    form: StmtForm::Continue,
-                },
-                from + 1,
-                room,
-            )?;
-            Ok((s, to))
-        }
         StmtStart::Return => {
             let (s, to) = read_return(alloc, tokens, pos, from + 1, room)?;
             Ok((s, to))
@@ -304,13 +326,8 @@ pub fn read_plain(
         }
         StmtStart::Print => {
             let (items, to) = read_outs(alloc, tokens, from + 1, room)?;
-            Ok((
-                Stmt {
-                    pos,
-                    form: StmtForm::Print { items },
-                },
-                to,
-            ))
+            let form = StmtForm::Print { items };
+            Ok((Stmt { pos, form }, to))
         }
         StmtStart::PrintTogether => {
             let (s, to) = read_together(alloc, tokens, pos, from + 1, room)?;
@@ -320,51 +337,12 @@ pub fn read_plain(
             let (s, to) = read_cin(alloc, tokens, pos, from + 1, room)?;
             Ok((s, to))
         }
-        StmtStart::Resume => {
-            let (s, to) = read_no_arguments(
-                alloc,
-                tokens,
-                Stmt {
-                    pos,
-                    form: StmtForm::Resume,
-                },
-                from + 1,
-                room,
-            )?;
-            Ok((s, to))
-        }
-        StmtStart::Suspend => {
-            let (s, to) = read_no_arguments(
-                alloc,
-                tokens,
-                Stmt {
-                    pos,
-                    form: StmtForm::Suspend,
-                },
-                from + 1,
-                room,
-            )?;
-            Ok((s, to))
-        }
-        StmtStart::Yield => {
-            let (s, to) = read_no_arguments(
-                alloc,
-                tokens,
-                Stmt {
-                    pos,
-                    form: StmtForm::Yield,
-                },
-                from + 1,
-                room,
-            )?;
-            Ok((s, to))
-        }
         StmtStart::Migrate => {
             let (s, to) = read_migrate(alloc, tokens, pos, from + 1, room)?;
             Ok((s, to))
         }
         _ => {
-            let (s, to) = read_simple_stmt(alloc, tokens, from, room)?;
+            let (s, to) = read_bare(alloc, tokens, start, pos, from, room)?;
             Ok((s, to))
         }
     }

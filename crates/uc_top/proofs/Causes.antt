@@ -9,15 +9,15 @@ use Rattle.uc_meaning.specs.Sums.{SumProgram}
 use Rattle.uc_meaning.specs.Texts.{printed}
 use Rattle.uc_outside.specs.Reading.{StoreState, ReadBytes, ReadFailed, ReadTooLong, HasFile}
 use Rattle.uc_outside.specs.Faults.{CountRose}
-use Rattle.uc_outside.specs.Taking.{Took}
-use Rattle.uc_outside.proofs.Taken.{fits-no_failure}
+use Rattle.uc_outside.specs.Taking.{SinkState, Took, Stopped}
+use Rattle.uc_outside.proofs.Taken.{fits-no_failure, took-stopped, failed-stopped}
 use Rattle.uc_outside.proofs.Read.{has_file-no_failure, has_file-not_long, has_file-content}
 use Rattle.uc_top.specs.declared.refusals.Refusal.{Refusal}
 use Rattle.uc_top.specs.declared.refusals.Refusal.TheVariants.{Word, CannotRead, TooLong, Lexical, NotBuilt, NoMemory}
 use Rattle.uc_top.specs.Words.{Words, IsRunLine}
 use Rattle.uc_top.specs.Built.{IsProgram, HasFault, GaveText}
 use Rattle.uc_top.specs.Refusals.{status_of}
-use Rattle.uc_top.specs.Outcomes.{Scene, Ran, Refused, Leaves, done, refused, out_failed, err_failed, Told, TooHigh, Causes, Answers, HaveRooms, Completes}
+use Rattle.uc_top.specs.Outcomes.{Scene, Ran, Refused, Leaves, done, refused, out_failed, err_failed, Tried, Told, TooHigh, Causes, Stops, Answers, HaveRooms, Completes}
 
 not_high : (s : Scene) {xs ys : List ℕ} → Took s.out s.out_after xs → Took s.err s.err_after ys → TooHigh s → ⊥
 not_high s out err (inl h) = absurd (omega (arith, h, out.same_count))
@@ -114,6 +114,16 @@ causes s (done journal ran out err) = done_causes s journal ran out err
 causes s (refused r cause out err) = told_causes s r (record { cause = cause; empty = refl; out = out; err = err })
 causes s (out_failed journal ran out err) = failed_causes s journal (inl out.at.rose)
 causes s (err_failed r cause out err) = failed_causes s [] (inr err.at.rose)
+
+tried_stopped : {a b : SinkState} {text : List ℕ} → Tried a b text → Stopped a b
+tried_stopped (inl t) = took-stopped t
+tried_stopped (inr f) = failed-stopped f.at
+
+pub stops : (s : Scene) {status : ℕ} {journal : Journal} → Leaves s status journal → Stops s
+stops s (done journal ran out err) = record { out = took-stopped out; err = took-stopped err }
+stops s (refused r cause out err) = record { out = took-stopped out; err = took-stopped err }
+stops s (out_failed journal ran out err) = record { out = failed-stopped out.at; err = tried_stopped err }
+stops s (err_failed r cause out err) = record { out = took-stopped out; err = failed-stopped err.at }
 
 same_file : {words : Words} {f g : List ℕ} → IsRunLine words f → IsRunLine words g → f ≡ g
 same_file a b = let e = sym a.is ∙ b.is in cc

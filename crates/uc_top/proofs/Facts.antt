@@ -8,7 +8,8 @@ use Rattle.uc_meaning.specs.declared.entry.EntryKind.TheVariants as kind
 use Rattle.uc_meaning.specs.Journal.{Journal, entry, entries_at, is_over, held, own_object}
 use Rattle.uc_meaning.specs.Queues.{running, waiting, stacked, used, first_ended, all_ticks, none_running, none_served, none_ready, processor_count, is_processor, is_nobody}
 use Rattle.uc_meaning.specs.Acts.{verdict, act, closing, fitted, ending}
-use Rattle.uc_meaning.specs.Quiet.{print_one}
+use Rattle.uc_meaning.specs.declared.request.Request.{Request}
+use Rattle.uc_meaning.specs.Quiet.{piece, print_of}
 use Rattle.uc_top.specs.Journals.{default_options, opening}
 use Rattle.uc_top.proofs.Silent.{printing, goes_on, not_ended, same_held, same_own, same_waiting, same_stacked, same_running, same_used, same_ticks}
 
@@ -64,8 +65,12 @@ pub no_verdict : (j : Journal) → Facts j → verdict default_options j ≡ Non
 no_verdict j f =
     verdict_by (first_ended j) (none_running default_options j) (none_ready j) (none_served default_options j) (all_ticks j) f.ended (someone_runs j f) f.all
 
+-- the request to print one item
+abbrev pub print_one : ℕ → ℤ → Request
+print_one form n = print_of (piece form n ∷ [])
+
 -- the act of a print is one entry
-pub act_is : (j : Journal) (form line : ℕ) (n : ℤ) → Facts j → length j + 2 ≤ default_options.entries → act default_options j 0 0 0 (record { request = print_one form n; line = line }) ≡ printing (pos form) n ∷ []
+pub act_is : (j : Journal) (form line : ℕ) (n : ℤ) → Facts j → length j + 2 ≤ default_options.entries → act default_options [] j 0 0 0 (record { request = print_one form n; line = line }) ≡ printing (pos form) n ∷ []
 act_is j form line n f room =
     let e = printing (pos form) n in
     let a : List Entry = e ∷ [] in

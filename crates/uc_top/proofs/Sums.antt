@@ -13,8 +13,8 @@ use Rattle.uc_meaning.specs.declared.request.Asked.{Asked}
 use Rattle.uc_meaning.specs.declared.request.Request.TheVariants as ask
 use Rattle.uc_meaning.specs.Journal.{Journal, entry, begin, is_over, is_ending, held}
 use Rattle.uc_meaning.specs.Queues.{ready, running, open_processors, waiting, next, successor, first_ended, ends_first, none_running, none_ready, none_served, all_ticks}
-use Rattle.uc_meaning.specs.Source.{Expr, Literal, Add, Item, Nil, Source}
-use Rattle.uc_meaning.specs.Quiet.{State, Env, Value, Number, Todo, Eval, AddNow, PrintNow, Items, Rest, Within, Finish, Goes, Asks, quiet, state, fits, print_one, first_state, no_members, line_of, main_todo}
+use Rattle.uc_tree.specs.Source.{Expr, Literal, Plus, Operate, Item, Show, Nil, Source}
+use Rattle.uc_meaning.specs.Quiet.{State, Env, Value, Number, Todo, Eval, OperateNow, Outcome, Gives, Faults, outcome_step, PrintNow, Items, Rest, Within, Finish, Goes, Asks, quiet, state, fits, first_state, no_members, line_of, main_todo}
 use Rattle.uc_meaning.specs.Rides.{Rides, goes_on, asks, asked_in}
 use Rattle.uc_meaning.specs.declared.entry.EntryKind.{EntryKind}
 use Rattle.uc_meaning.specs.declared.entry.Options.{Options}
@@ -24,7 +24,7 @@ use Rattle.uc_meaning.specs.Runs.{World, Runs, begun, more, acts, gives, Serves,
 use Rattle.uc_meaning.specs.Sums.{SumItem, Newline, Sum, SumStatement, SumProgram, IsSmallItem, IsSmallStatement, IsSmall, total, added, item_of, statements_of, source_of, shown_of, statements_shown, program_shown}
 use Rattle.uc_top.specs.Journals.{default_options, opening, closing, print_entry, journal_of}
 use Rattle.uc_top.proofs.Silent.{printing}
-use Rattle.uc_top.proofs.Facts.{Facts, facts_opening, facts_printing, act_is}
+use Rattle.uc_top.proofs.Facts.{Facts, print_one, facts_opening, facts_printing, act_is}
 
 -- quiet steps without a tick lead from one state to another
 data Leads : State → State → Type 0 where
@@ -47,16 +47,16 @@ evals_literal : (n : ℕ) → Evals (Literal (pos n)) n
 evals_literal n todo vs x = step refl here
 
 sum_fits : (n : ℕ) → n ≤ NUMBER_MAX → fits (pos n) ≡ true
-sum_fits n h = lt-ltb n 2147483648 (omega arith)
+sum_fits n h = le-leb n 2147483647 (omega arith)
 
-evals_add : (e : Expr) (n m : ℕ) → Evals e n → n + m ≤ NUMBER_MAX → Evals (Add e (Literal (pos m))) (n + m)
+evals_add : (e : Expr) (n m : ℕ) → Evals e n → n + m ≤ NUMBER_MAX → Evals (Operate Plus e (Literal (pos m))) (n + m)
 evals_add e n m h small todo vs x =
-    step refl (joined (h (Eval (Literal (pos m)) ∷ (AddNow ∷ todo)) vs x) (step refl (step (ap (λ b. cond b (Goes (state todo (Number (pos (n + m)) ∷ vs) x)) (Asks (ask.Fault 1) (state todo vs x))) (sum_fits (n + m) small)) here)))
+    step refl (joined (h (Eval (Literal (pos m)) ∷ (OperateNow Plus ∷ todo)) vs x) (step refl (step (ap (λ b. outcome_step (cond b (Gives (pos (n + m))) (Faults 1)) todo vs x) (sum_fits (n + m) small)) here)))
 
 evals_added : (e : Expr) (n : ℕ) (ms : List ℕ) → Evals e n → n + total ms ≤ NUMBER_MAX → Evals (added e ms) (n + total ms)
 evals_added e n [] h small = subst (Evals e) (omega arith) h
 evals_added e n (m ∷ ms) h small =
-    subst (Evals (added e (m ∷ ms))) (add_assoc n m (total ms)) (evals_added (Add e (Literal (pos m))) (n + m) ms (evals_add e n m h (omega arith)) (omega arith))
+    subst (Evals (added e (m ∷ ms))) (add_assoc n m (total ms)) (evals_added (Operate Plus e (Literal (pos m))) (n + m) ms (evals_add e n m h (omega arith)) (omega arith))
 
 -- a task that is inside its own object alone, with one frame without cells
 abbrev home : Env
@@ -84,7 +84,7 @@ drawn_again j w form n todo h =
     let w' = world_after (printing (pos form) n ∷ []) w 0 (state todo [] home) (print_one form n) in
     ap (λ os. with_hand (hand_of os w') (w'.tasks 0).state) h
 
-one_item : {source : Source} {j : Journal} {form n : ℕ} {e : Expr} {is : List Item} {todo : List Todo} → Evals e n → length j + 2 ≤ default_options.entries → Reached source j (Items (record { form = form; value = e } ∷ is) ∷ todo) → Reached source (j ++ printing (pos form) (pos n) ∷ []) (Items is ∷ todo)
+one_item : {source : Source} {j : Journal} {form n : ℕ} {e : Expr} {is : List Item} {todo : List Todo} → Evals e n → length j + 2 ≤ default_options.entries → Reached source j (Items (Show form e ∷ is) ∷ todo) → Reached source (j ++ printing (pos form) (pos n) ∷ []) (Items is ∷ todo)
 one_item {source} {j} {form} {n} {e} {is} {todo} evals room r =
     let now = state (PrintNow form ∷ (Items is ∷ todo)) (Number (pos n) ∷ []) home in
     let after = state (Items is ∷ todo) [] home in
@@ -165,7 +165,7 @@ ends_it : (j : Journal) → first_ended (j ++ end_entry ∷ []) ≡ true
 unfolding first_ended end_entry
 ends_it j = any_push (λ e. ends_first e.kind e) j end_entry ∙ or_true (first_ended j)
 
-ends_with : (j : Journal) → Facts j → entries_of j 0 0 0 (record { request = ask.End; line = 0 }) ≡ end_entry ∷ []
+ends_with : (j : Journal) → Facts j → entries_of [] j 0 0 0 (record { request = ask.End; line = 0 }) ≡ end_entry ∷ []
 unfolding end_entry
 ends_with j f =
     let by : ℕ → Option (ℕ × ℕ) → List Entry = λ o n. entry kind.End 0 0 0 o (pos 0) (pos 0) ∷ admission 0 o n in
@@ -179,7 +179,7 @@ verdict_after opts j =
     else (if nat_le opts.ticks (all_ticks j) then Some kind.Limit
     else None))
 
-end_act : (j : Journal) (line : ℕ) → Facts j → length j + 3 ≤ default_options.entries → act default_options j 0 0 0 (record { request = ask.End; line = line }) ≡ closing
+end_act : (j : Journal) (line : ℕ) → Facts j → length j + 3 ≤ default_options.entries → act default_options [] j 0 0 0 (record { request = ask.End; line = line }) ≡ closing
 unfolding end_entry
 end_act j line f room =
     let a : List Entry = end_entry ∷ [] in

@@ -5,7 +5,7 @@ use Rattle.uc_tree.specs.declared.pos.Pos.{Pos}
 use Rattle.uc_tree.specs.declared.scan.Reason.{Reason}
 use Rattle.uc_outside.specs.Faults.{CountRose}
 use Rattle.uc_outside.specs.Reading.{StoreState, HasFile}
-use Rattle.uc_outside.specs.Taking.{SinkState, Took, TookPrefix, FailedAt, HasRoom}
+use Rattle.uc_outside.specs.Taking.{SinkState, Took, TookPrefix, FailedAt, HasRoom, Stopped}
 use Rattle.uc_meaning.specs.Journal.{Journal}
 use Rattle.uc_meaning.specs.Sums.{SumProgram}
 use Rattle.uc_meaning.specs.Texts.{printed}
@@ -15,7 +15,7 @@ use Rattle.uc_top.specs.Words.{Words, IsRunLine}
 use Rattle.uc_top.specs.Built.{IsProgram, HasRun}
 use Rattle.uc_top.specs.Refusals.{status_of, name_of, err_line, refusal_text, Refuses}
 
--- a sink failed at this text and took a prefix of it
+-- a sink failed at this text and took a prefix of it, and no put was made after the failed one
 pub record Failed (before after : SinkState) (text : List ℕ) : Type 0 where
   pub at : FailedAt before after text
   pub prefix : TookPrefix before after text
@@ -81,6 +81,11 @@ pub record Causes (s : Scene) (status : ℕ) (journal : Journal) : Type 0 where
   pub counted : TooHigh s → status ≡ 4
   pub no_memory : status ≡ 8 → Told s refusal.NoMemory journal
   pub no_other : (status ≡ 0) ⊎ (status ≡ 1) ⊎ (status ≡ 2) ⊎ (status ≡ 3) ⊎ (status ≡ 4) ⊎ (status ≡ 8)
+
+-- to neither sink a put was made after one of this call that failed
+pub record Stops (s : Scene) : Type 0 where
+  pub out : Stopped s.out s.out_after
+  pub err : Stopped s.err s.err_after
 
 -- what the words and the store make of a call, where memory may be wanting and a put may fail
 pub record Answers (s : Scene) (status : ℕ) : Type 0 where

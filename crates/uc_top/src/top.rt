@@ -8,7 +8,7 @@ ghost use Rattle.uc_top.specs.Journals.{journal_of};
 ghost use Rattle.uc_top.specs.Built.{RunsText, HasRun};
 ghost use Rattle.uc_top.specs.Decisions.{FileRan, FileRefused, TextRefused, TokensRan, TokensRefused, Finished};
 ghost use Rattle.uc_top.specs.Refusals.{name_of, Refuses};
-ghost use Rattle.uc_top.specs.Outcomes.{scene_of, Leaves, Causes, Answers, HaveRooms, Completes};
+ghost use Rattle.uc_top.specs.Outcomes.{scene_of, Leaves, Causes, Stops, Answers, HaveRooms, Completes};
 
 use crate::keeper::keep_journal;
 use crate::printing::printed_bytes;
@@ -49,6 +49,11 @@ pub fn run_words<S: Store, O: Sink, E: Sink, G: Gate + Sync>(
 
     // What each status says of the words, the store, the sinks and the journal.
     ensures causes { Causes (scene_of (map string_bytes words.now) (S.state store.old) (S.state store.new) (O.state out.old) (O.state out.new) (E.state err.old) (E.state err.new)) result.status result.journal.items }
+
+    // No put is made to a sink after one of this call that failed.
+    ensures stops { Stops (scene_of (map string_bytes words.now) (S.state store.old) (S.state store.new) (O.state out.old) (O.state out.new) (E.state err.old) (E.state err.new)) }
+
+    // What the words and the store make of a call.
     ensures answers { Answers (scene_of (map string_bytes words.now) (S.state store.old) (S.state store.new) (O.state out.old) (O.state out.new) (E.state err.old) (E.state err.new)) result.status }
 
     // Sinks with room do not fail, and an accepted program is run where nothing fails.

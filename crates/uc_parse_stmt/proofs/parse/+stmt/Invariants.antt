@@ -4,6 +4,7 @@ use Rattle.uc_grammar.specs.Form.{Spells, skip, inside}
 use Rattle.uc_grammar.specs.Names.{block_stmt_name}
 use Rattle.uc_grammar.specs.Tables.{word_of, is_or, is_handler, in_braces}
 use Rattle.uc_grammar.specs.Grammar.{handler_form, clause_form, inner}
+use Rattle.uc_parse_stmt.specs.Heads.{handler_rest, clause_rest}
 use Rattle.uc_parse_stmt.proofs.parse.+stmt.Given as goal
 
 abbrev pub invariant-read_stmts-items : goal.invariant-read_stmts-items
@@ -13,79 +14,46 @@ abbrev pub decreases-read_stmts-items : goal.decreases-read_stmts-items
 decreases-read_stmts-items l = length l.tokens - l.at
 
 abbrev pub invariant-read_handlers-items : goal.invariant-read_handlers-items
-invariant-read_handlers-items l = record { run : ListRun (Spells (inner l.room) handler_form) (λ o. is_handler (word_of o)) (Spells (inner l.room) handler_form) l.tokens l.from l.at l.all.items; after : l.from < l.at; within : l.at ≤ length l.tokens }
+invariant-read_handlers-items l = record { run : ListRun (Spells (inner l.room) (handler_rest l.fn.first)) (λ o. is_handler (word_of o)) (Spells (inner l.room) handler_form) l.tokens l.from l.at l.all.items; after : l.from < l.at; within : l.at ≤ length l.tokens }
 
 abbrev pub decreases-read_handlers-items : goal.decreases-read_handlers-items
 decreases-read_handlers-items l = length l.tokens - l.at
 
 abbrev pub invariant-read_clauses-items : goal.invariant-read_clauses-items
-invariant-read_clauses-items l = record { run : ListRun (Spells (inner l.room) clause_form) (λ o. is_or (word_of o)) (Spells (inner l.room) (skip clause_form)) l.tokens l.from l.at l.all.items; after : l.from < l.at; within : l.at ≤ length l.tokens }
+invariant-read_clauses-items l = record { run : ListRun (Spells (inner l.room) (clause_rest l.fn.first)) (λ o. is_or (word_of o)) (Spells (inner l.room) (skip clause_form)) l.tokens l.from l.at l.all.items; after : l.from < l.at; within : l.at ≤ length l.tokens }
 
 abbrev pub decreases-read_clauses-items : goal.decreases-read_clauses-items
 decreases-read_clauses-items l = length l.tokens - l.at
 
 abbrev pub decreases-read_inner_stmt : goal.decreases-read_inner_stmt
-decreases-read_inner_stmt l = l.room * 24 + 0
-
-abbrev pub decreases-read_block_stmt : goal.decreases-read_block_stmt
-decreases-read_block_stmt l = l.room * 24 + 1
-
-abbrev pub decreases-read_stmts : goal.decreases-read_stmts
-decreases-read_stmts l = l.room * 24 + 2
-
-abbrev pub decreases-read_block_rest : goal.decreases-read_block_rest
-decreases-read_block_rest l = l.room * 24 + 3
-
-abbrev pub decreases-read_block : goal.decreases-read_block
-decreases-read_block l = l.room * 24 + 4
+decreases-read_inner_stmt l = l.room * 12 + 0
 
 abbrev pub decreases-read_maybe_stmt : goal.decreases-read_maybe_stmt
-decreases-read_maybe_stmt l = l.room * 24 + 5
+decreases-read_maybe_stmt l = l.room * 12 + 1
 
-abbrev pub decreases-read_if : goal.decreases-read_if
-decreases-read_if l = l.room * 24 + 6
+abbrev pub decreases-read_headed : goal.decreases-read_headed
+decreases-read_headed l = l.room * 12 + 2
 
-abbrev pub decreases-read_while : goal.decreases-read_while
-decreases-read_while l = l.room * 24 + 7
+abbrev pub decreases-read_stmts : goal.decreases-read_stmts
+decreases-read_stmts l = l.room * 12 + 3
 
-abbrev pub decreases-read_do : goal.decreases-read_do
-decreases-read_do l = l.room * 24 + 8
-
-abbrev pub decreases-read_for : goal.decreases-read_for
-decreases-read_for l = l.room * 24 + 21
-
-abbrev pub decreases-read_handler : goal.decreases-read_handler
-decreases-read_handler l = l.room * 24 + 10
+abbrev pub decreases-read_block_rest : goal.decreases-read_block_rest
+decreases-read_block_rest l = l.room * 12 + 4
 
 abbrev pub decreases-read_handlers : goal.decreases-read_handlers
-decreases-read_handlers l = l.room * 24 + 11
+decreases-read_handlers l = l.room * 12 + 5
 
 abbrev pub decreases-read_try : goal.decreases-read_try
-decreases-read_try l = l.room * 24 + 12
-
-abbrev pub decreases-read_enable : goal.decreases-read_enable
-decreases-read_enable l = l.room * 24 + 13
-
-abbrev pub decreases-read_disable : goal.decreases-read_disable
-decreases-read_disable l = l.room * 24 + 14
-
-abbrev pub decreases-read_clause : goal.decreases-read_clause
-decreases-read_clause l = l.room * 24 + 15
+decreases-read_try l = l.room * 12 + 6
 
 abbrev pub decreases-read_clauses : goal.decreases-read_clauses
-decreases-read_clauses l = l.room * 24 + 16
+decreases-read_clauses l = l.room * 12 + 7
 
 abbrev pub decreases-read_accept : goal.decreases-read_accept
-decreases-read_accept l = l.room * 24 + 17
+decreases-read_accept l = l.room * 12 + 8
+
+abbrev pub decreases-read_begun : goal.decreases-read_begun
+decreases-read_begun l = l.room * 12 + 9
 
 abbrev pub decreases-read_stmt : goal.decreases-read_stmt
-decreases-read_stmt l = l.room * 24 + 23
-
-abbrev pub decreases-read_for_step : goal.decreases-read_for_step
-decreases-read_for_step l = l.room * 24 + 19
-
-abbrev pub decreases-read_for_test : goal.decreases-read_for_test
-decreases-read_for_test l = l.room * 24 + 20
-
-abbrev pub decreases-read_started : goal.decreases-read_started
-decreases-read_started l = l.room * 24 + 22
+decreases-read_stmt l = l.room * 12 + 10

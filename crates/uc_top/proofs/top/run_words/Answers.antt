@@ -1,8 +1,11 @@
-use Rattle.uc_top.proofs.Causes.{causes, answers, rooms, completes}
+use Rattle.uc_top.proofs.Causes.{causes, stops, answers, rooms, completes}
 use Rattle.uc_top.proofs.top.run_words.Goals as goal
 
 pub returns-clause-causes : goal.returns-clause-causes
 returns-clause-causes g c = causes _ c.work-outcome.ensures
+
+pub returns-clause-stops : goal.returns-clause-stops
+returns-clause-stops g c = stops _ c.work-outcome.ensures
 
 pub returns-clause-answers : goal.returns-clause-answers
 returns-clause-answers g c = answers _ c.work-outcome.ensures

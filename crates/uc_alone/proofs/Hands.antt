@@ -1,0 +1,163 @@
+-- A ride keeps the objects that its task is inside.
+use Rattle.std.proofs.Common.{◌≡◌, ℕ, ℤ, ◌+◌, Bool, true, false, cond, List, [], ◌∷◌, Option, Some, None, refl, sym, ap, ◌∙◌, subst, map}
+use Rattle.std.specs.Prelude.{nat_eq}
+use Rattle.std.proofs.lemmas.Bool.{eqb-true}
+use Rattle.uc_meaning.specs.declared.exec.Exec.{Exec}
+use Rattle.uc_meaning.specs.declared.exec.Home.{Home}
+use Rattle.uc_meaning.specs.declared.exec.Home.TheVariants.{Task, Object}
+use Rattle.uc_meaning.specs.declared.exec.Owner.{Owner}
+use Rattle.uc_meaning.specs.declared.exec.Owner.TheVariants.{Frame, Fields}
+use Rattle.uc_meaning.specs.declared.request.Asked.{Asked}
+use Rattle.uc_meaning.specs.declared.request.Piece.{Piece}
+use Rattle.uc_tree.specs.Source.{Shape, Expr, Literal, Variable, Element, Load, Negated, Not, AsCharacter, AsTruth, Operate, And, Or, Assign, Update, StepBehind, Fail, Item, Stmt, Skip, Block, Evaluate, Declare, Print, PrintTogether, Read, Nil, Then}
+use Rattle.uc_meaning.specs.Executions.{update, set_members, members_at, change_in, change, with_frames, with_owned, exec_eq, values_cleared}
+use Rattle.uc_meaning.specs.Quiet as q
+use Rattle.uc_meaning.specs.Quiet.{State, Env, Members, Todo, Step, Goes, Ticks, Asks, Outcome, Gives, Faults, Eval, LoadNow, ElementNow, NegateNow, NotNow, CharacterNow, TruthNow, OperateNow, CopyNow, CopyBelowNow, DropNow, DropBelowNow, StoreNow, KeepNow, Choose, PrintNow, TextNow, GatherNow, FlushNow, ReadNow, ClearNow, Items, Values, Pieces, Targets, Variables, Do, Rest, Within, Finish, Value, Number, Place, Running, Nothing, quiet, act_todo, act, eval_step, stmt_step, outcome_step, element_step, print_step, flush_step, written, cleared, outcome, int_outcome, index_in, number, top, below}
+use Rattle.uc_meaning.specs.Rides.{Rides, slices, goes_on, ticks, asks}
+
+-- the numbers of the objects in hand
+abbrev pub keys : {X : Type 0} → List (ℕ × X) → List ℕ
+keys ps = map (λ p. p.0) ps
+
+abbrev pub inside_of : State → List ℕ
+inside_of s = keys s.env.hand
+
+update_by : {X : Type 0} (k : ℕ) (x : X) (p : ℕ × X) (ps : List (ℕ × X)) (b : Bool) → nat_eq p.0 k ≡ b → (b ≡ true → p.0 ≡ k) → keys (update k x ps) ≡ keys ps → keys (cond b ((k, x) ∷ ps) (p ∷ update k x ps)) ≡ keys (p ∷ ps)
+update_by k x p ps true e same h = ap (λ n. n ∷ keys ps) (sym (same refl))
+update_by k x p ps false e same h = ap (λ ns. p.0 ∷ ns) h
+
+eq_of : (m n : ℕ) → nat_eq m n ≡ true → m ≡ n
+eq_of m n h = eqb-true m n h
+
+pub update_keys : {X : Type 0} (k : ℕ) (x : X) (ps : List (ℕ × X)) → keys (update k x ps) ≡ keys ps
+update_keys k x [] = refl
+update_keys k x (p ∷ ps) = update_by k x p ps (nat_eq p.0 k) refl (eq_of p.0 k) (update_keys k x ps)
+
+set_task : (b : Bool) (m : Members) (e : Env) → keys (cond b (record e { house = m }) e).hand ≡ keys e.hand
+set_task true m e = refl
+set_task false m e = refl
+
+set_keys : (h : Home) (m : Members) (e : Env) → keys (set_members h m e).hand ≡ keys e.hand
+set_keys (Task t) m e = set_task (nat_eq t e.own) m e
+set_keys (Object o) m e = update_keys o m e.hand
+
+change_by : (h : Home) (g : Members → Members) (m : Option Members) (e : Env) → keys (change_in h g m e).hand ≡ keys e.hand
+change_by h g None e = refl
+change_by h g (Some m) e = set_keys h (g m) e
+
+change_keys : (h : Home) (g : Members → Members) (e : Env) → keys (change h g e).hand ≡ keys e.hand
+change_keys h g e = change_by h g (members_at h e) e
+
+frames_keys_by : (b : Bool) (n : Exec) (fs : List (List Value)) (e f : Env) → keys f.hand ≡ keys e.hand → keys (cond b (record e { frames = fs }) f).hand ≡ keys e.hand
+frames_keys_by true n fs e f h = refl
+frames_keys_by false n fs e f h = h
+
+owned_keys : (o : Owner) (g : List Value → List Value) (e : Env) → keys (with_owned o g e).hand ≡ keys e.hand
+owned_keys (Frame n d) g e = frames_keys_by (exec_eq n e.exec) n _ e _ (change_keys n.home _ e)
+owned_keys (Fields o) g e = change_keys (Object o) _ e
+
+written_keys : (v w : Value) (e : Env) → keys (written v w e).hand ≡ keys e.hand
+written_keys (Number n) w e = refl
+written_keys (Place o p) w e = owned_keys o _ e
+written_keys (Running x) w e = refl
+written_keys (q.Object o) w e = refl
+written_keys Nothing w e = refl
+
+-- a step after which the task is inside these objects
+abbrev pub Keeps : List ℕ → Step → Type 0
+Keeps ks (Goes s) = inside_of s ≡ ks
+Keeps ks (Ticks s) = inside_of s ≡ ks
+Keeps ks (Asks r s) = inside_of s ≡ ks
+
+outcome_keeps : (o : Outcome) (todo : List Todo) (vs : List Value) (e : Env) → Keeps (keys e.hand) (outcome_step o todo vs e)
+outcome_keeps (Gives n) todo vs e = refl
+outcome_keeps (Faults n) todo vs e = refl
+
+element_keeps : (s : Shape) (i : Option ℕ) (todo : List Todo) (v : Value) (vs : List Value) (e : Env) → Keeps (keys e.hand) (element_step s i todo v vs e)
+element_keeps s None todo v vs e = refl
+element_keeps s (Some i) todo v vs e = refl
+
+print_keeps : (g : Option (List Piece)) (p : Piece) (todo : List Todo) (vs : List Value) (e : Env) → Keeps (keys e.hand) (print_step g p todo vs e)
+print_keeps None p todo vs e = refl
+print_keeps (Some ps) p todo vs e = refl
+
+flush_keeps : (g : Option (List Piece)) (todo : List Todo) (vs : List Value) (e : Env) → Keeps (keys e.hand) (flush_step g todo vs e)
+flush_keeps None todo vs e = refl
+flush_keeps (Some ps) todo vs e = refl
+
+eval_keeps : (a : Expr) (todo : List Todo) (vs : List Value) (e : Env) → Keeps (keys e.hand) (eval_step a todo vs e)
+eval_keeps (Literal n) todo vs e = refl
+eval_keeps (Variable k) todo vs e = refl
+eval_keeps (Element n s a i) todo vs e = refl
+eval_keeps (Load a) todo vs e = refl
+eval_keeps (Negated a) todo vs e = refl
+eval_keeps (Not a) todo vs e = refl
+eval_keeps (AsCharacter a) todo vs e = refl
+eval_keeps (AsTruth a) todo vs e = refl
+eval_keeps (Operate op a b) todo vs e = refl
+eval_keeps (And a b) todo vs e = refl
+eval_keeps (Or a b) todo vs e = refl
+eval_keeps (Assign p a) todo vs e = refl
+eval_keeps (Update op s p a) todo vs e = refl
+eval_keeps (StepBehind op s p) todo vs e = refl
+eval_keeps Fail todo vs e = refl
+
+stmt_keeps : (s : Stmt) (todo : List Todo) (vs : List Value) (e : Env) → Keeps (keys e.hand) (stmt_step s todo vs e)
+stmt_keeps (Skip line) todo vs e = refl
+stmt_keeps (Block line body) todo vs e = refl
+stmt_keeps (Evaluate line a) todo vs e = refl
+stmt_keeps (Declare line ds) todo vs e = refl
+stmt_keeps (Print line items) todo vs e = refl
+stmt_keeps (PrintTogether line items) todo vs e = refl
+stmt_keeps (Read line ts) todo vs e = refl
+
+act_keeps : (t : Todo) (todo : List Todo) (vs : List Value) (e : Env) → Keeps (keys e.hand) (act t todo vs e)
+act_keeps (Eval a) todo vs e = eval_keeps a todo vs e
+act_keeps LoadNow todo vs e = refl
+act_keeps (ElementNow n s) todo vs e = element_keeps s (index_in n (number (top vs))) todo (top (below vs)) (below (below vs)) e
+act_keeps NegateNow todo vs e = outcome_keeps _ todo (below vs) e
+act_keeps NotNow todo vs e = refl
+act_keeps CharacterNow todo vs e = refl
+act_keeps TruthNow todo vs e = refl
+act_keeps (OperateNow op) todo vs e = outcome_keeps (outcome op (number (top (below vs))) (number (top vs))) todo (below (below vs)) e
+act_keeps CopyNow todo vs e = refl
+act_keeps CopyBelowNow todo vs e = refl
+act_keeps DropNow todo vs e = refl
+act_keeps DropBelowNow todo vs e = refl
+act_keeps StoreNow todo vs e = written_keys (top (below vs)) (top vs) e
+act_keeps KeepNow todo vs e = written_keys (top (below vs)) (top vs) e
+act_keeps (Choose a b) todo vs e = refl
+act_keeps (PrintNow form) todo vs e = print_keeps e.gathered _ todo (below vs) e
+act_keeps (TextNow k) todo vs e = print_keeps e.gathered _ todo vs e
+act_keeps GatherNow todo vs e = refl
+act_keeps FlushNow todo vs e = flush_keeps e.gathered todo vs e
+act_keeps (ReadNow form) todo vs e = refl
+act_keeps (ClearNow k n) todo vs e = owned_keys (q.this_frame e) (values_cleared k n q.nought) e
+act_keeps (Items []) todo vs e = refl
+act_keeps (Items (i ∷ is)) todo vs e = refl
+act_keeps (Values []) todo vs e = refl
+act_keeps (Values (i ∷ is)) todo vs e = refl
+act_keeps (Pieces []) todo vs e = refl
+act_keeps (Pieces (i ∷ is)) todo vs e = refl
+act_keeps (Targets []) todo vs e = refl
+act_keeps (Targets (t ∷ ts)) todo vs e = refl
+act_keeps (Variables []) todo vs e = refl
+act_keeps (Variables (d ∷ ds)) todo vs e = refl
+act_keeps (Do s) todo vs e = stmt_keeps s todo vs e
+act_keeps (Rest Nil) todo vs e = refl
+act_keeps (Rest (Then s ss)) todo vs e = refl
+act_keeps (Within line) todo vs e = refl
+act_keeps Finish todo vs e = refl
+
+todo_keeps : (ts : List Todo) (vs : List Value) (e : Env) → Keeps (keys e.hand) (act_todo ts vs e)
+todo_keeps [] vs e = refl
+todo_keeps (t ∷ ts) vs e = act_keeps t ts vs e
+
+pub quiet_keeps : (s : State) → Keeps (inside_of s) (quiet s)
+quiet_keeps s = todo_keeps s.control s.operands s.env
+
+pub ride_keeps : {s u : State} {n k : ℕ} {a : Asked} → Rides s n u k a → inside_of u ≡ inside_of s
+ride_keeps slices = refl
+ride_keeps {s} (goes_on {t = t} e r) = ride_keeps r ∙ subst (Keeps (inside_of s)) e (quiet_keeps s)
+ride_keeps {s} (ticks {t = t} e r) = ride_keeps r ∙ subst (Keeps (inside_of s)) e (quiet_keeps s)
+ride_keeps {s} (asks e) = subst (Keeps (inside_of s)) e (quiet_keeps s)

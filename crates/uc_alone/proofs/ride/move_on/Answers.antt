@@ -1,0 +1,10 @@
+use Rattle.std.proofs.Common.{◌<◌, length}
+use Rattle.uc_alone.proofs.Moves.{moves_on, inside_ops}
+use Rattle.uc_alone.proofs.ride.move_on.Goals as goal
+
+pub returns-clause-on : goal.returns-clause-on
+returns-clause-on c h =
+    moves_on c.args.code.now.ops c.args.work.now c.step.new.work c.in_ok-how.how c.requires.forward (c.in_ok-how.ensures.op) h
+
+pub returns-clause-inside : goal.returns-clause-inside
+returns-clause-inside c e = inside_ops c.args.code.now.ops c.args.work.now c.step.new.work c.in_ok-how.how (c.in_ok-how.ensures.op) e

@@ -1,0 +1,4 @@
+// What a read takes of the input.
+#![tactic(auto)]
+
+pub mod reading;

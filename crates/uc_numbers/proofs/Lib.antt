@@ -1,0 +1,6 @@
+pub mod ByClasses
+pub mod Flat
+pub mod Listed
+pub mod Past
+pub mod Places
+pub mod Sames

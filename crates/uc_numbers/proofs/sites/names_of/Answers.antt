@@ -1,0 +1,10 @@
+use Rattle.std.proofs.Common.{◌≤◌, map, length, subst, sym, arith}
+use Rattle.uc_tree.specs.declared.limits.TheConstants.{MEMBERS}
+use Rattle.uc_tree.specs.Numbering.{mutex_members}
+use Rattle.uc_numbers.proofs.Listed.{cut_fits, map_length}
+use Rattle.uc_numbers.proofs.sites.names_of.Goals as goal
+
+pub returns-in_ok-names-in-Some-clause-few : goal.returns-in_ok-names-in-Some-clause-few
+returns-in_ok-names-in-Some-clause-few c =
+    let few : length (map (λ n. n.now) c.in_ok-names-in-Some.names.items) ≤ MEMBERS = subst (λ l. length l ≤ MEMBERS) (sym c.in_ok-names-in-Some.ensures) (cut_fits MEMBERS (mutex_members c.in-Some.class.now)) in
+    omega (arith, map_length (λ n. n.now) c.in_ok-names-in-Some.names.items)

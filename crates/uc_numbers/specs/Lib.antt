@@ -1,0 +1,4 @@
+pub mod Events
+pub mod Flat
+pub mod Routines
+pub mod Sites

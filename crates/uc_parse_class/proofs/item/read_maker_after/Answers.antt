@@ -1,0 +1,14 @@
+use Rattle.std.proofs.Common.{inl, inr}
+use Rattle.std.proofs.lemmas.Result.{err_from_is_err_and}
+use Rattle.uc_grammar.specs.Form.{Fails}
+use Rattle.uc_grammar.specs.Grammar.{inner, faults}
+use Rattle.uc_parse_class.specs.Forms.{maker_after}
+use Rattle.uc_parse_class.proofs.item.read_maker_after.Goals as goal
+
+pub returns-in_err-params-clause-fails : goal.returns-in_err-params-clause-fails
+returns-in_err-params-clause-fails c = let h : Fails (inner c.args.room) (faults c.args.room) (maker_after c.args.pos c.args.class c.args.destructor c.args.name) c.args.tokens.now c.args.from c.in_err-params.field-0.0 = inl c.in_err-params.ensures.fails in
+    let p = err_from_is_err_and c.from_residual.result c.from_residual.ensures.1 in rw (p.1, p.2) h
+
+pub returns-in_err-routine-clause-fails : goal.returns-in_err-routine-clause-fails
+returns-in_err-routine-clause-fails c = let h : Fails (inner c.args.room) (faults c.args.room) (maker_after c.args.pos c.args.class c.args.destructor c.args.name) c.args.tokens.now c.args.from c.in_err-routine.field-0.0 = inr (inl (c.in_ok-params.at, c.in_ok-params.params.items, c.in_ok-params.ensures.found, inl c.in_err-routine.ensures.fails)) in
+    let p = err_from_is_err_and c.from_residual-in_err-routine.result c.from_residual-in_err-routine.ensures.1 in rw (p.1, p.2) h

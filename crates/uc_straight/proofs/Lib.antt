@@ -1,0 +1,7 @@
+pub mod Blocks
+pub mod First
+pub mod Lengths
+pub mod Loops
+pub mod Named
+pub mod Noted
+pub mod Starts

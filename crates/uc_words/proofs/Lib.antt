@@ -1,0 +1,5 @@
+mod Goes
+mod Faults
+mod Whole
+mod Values
+mod Bridge

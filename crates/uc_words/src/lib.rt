@@ -1,0 +1,13 @@
+// The words of a command line: the job that they ask for, or the first word at fault.
+#![tactic(auto)]
+
+mod job;
+mod number;
+mod pieces;
+#[cfg(test)]
+mod tests;
+mod told;
+mod words;
+
+pub use job::{Job, WordsFault};
+pub use words::read_words;

@@ -1,0 +1,53 @@
+// Reads a command line, piece by piece.
+
+ghost use Rattle.std.specs.Prelude.{◌≡◌, ◌↔◌, IfOk, IfErr, IsTrue, codes, map, string_bytes};
+ghost use Rattle.uc_words.specs.Words.{Command, IsLine, IsFirstBad};
+ghost use Rattle.uc_words.specs.Rest.{command_of, number_of, nothing, Goes, BadRest};
+
+use crate::job::{Job, WordsFault};
+use crate::pieces::{finish, read_piece};
+use crate::told::Told;
+
+/// The job of these words, which is the only one that they ask for, or the first word at fault.
+pub fn read_words(words: &[String]) -> Result<Job<'_>, WordsFault>
+    ensures line { IfOk result (λ job. IsLine (map string_bytes words.now) (command_of job)) }
+    ensures only { IfOk result (λ job. (other : Command) → IsLine (map string_bytes words.now) other → other ≡ command_of job) }
+    ensures fault { IfErr result (λ fault. IsFirstBad (map string_bytes words.now) (number_of fault)) }
+{
+    let Some((command, rest)) = words.split_first() else {
+        return Err(WordsFault::Word { number: 1 });
+    };
+    if !is_run(command.as_str()) {
+        return Err(WordsFault::Word { number: 1 });
+    }
+    let job = read_run(rest)?;
+    Ok(job)
+}
+
+// Whether a word is the command `run`.
+fn is_run(word: &str) -> bool
+    ensures { IsTrue result ↔ (word.now ≡ codes "run") }
+{
+    word == "run"
+}
+
+// What stands behind `run`.
+fn read_run(words: &[String]) -> Result<Job<'_>, WordsFault>
+    ensures line { IfOk result (λ job. Goes nothing (map string_bytes words.now) (command_of job)) }
+    ensures only { IfOk result (λ job. (other : Command) → Goes nothing (map string_bytes words.now) other → other ≡ command_of job) }
+    ensures fault { IfErr result (λ fault. BadRest nothing (map string_bytes words.now) (number_of fault)) }
+{
+    let mut told = Told {
+        file: None,
+        entries: None,
+        input: None,
+    };
+    let mut rest = words;
+    while let Some((word, behind)) = rest.split_first() {
+        let step = read_piece(word.as_str(), behind, told)?;
+        told = step.told;
+        rest = step.rest;
+    }
+    let job = finish(told)?;
+    Ok(job)
+}
