@@ -6,9 +6,10 @@ ghost use Rattle.uc_code.specs.Forward.{IsForward};
 ghost use Rattle.uc_tree.specs.Source.{Source};
 ghost use Rattle.uc_code.specs.Lowered.{Lowered};
 ghost use Rattle.uc_frames.specs.Stands.{Stands};
-ghost use Rattle.uc_step.specs.Starts.{Starts};
-ghost use Rattle.uc_meaning.specs.Runs.{with_hand};
-ghost use Rattle.uc_alone.specs.Run.{IsRunOf, IsReady};
+ghost use Rattle.uc_meaning.specs.Quiet.{State};
+ghost use Rattle.uc_alone.specs.Alone.{Going, start};
+ghost use Rattle.uc_alone.specs.Kept.{ReadsOf};
+ghost use Rattle.uc_alone.specs.Run.{IsRunOf, HasMain, with_own};
 
 use crate::entries::{begin_entry, plain_entry};
 use crate::keeper::{Reads, keep};
@@ -34,7 +35,7 @@ pub fn run_alone(
     requires room { ENTRIES_MIN ≤ entries }
     requires small { length input.now ≤ INPUT_BYTES }
     requires forward { IsForward code.now.ops }
-    ensures run { IfOk result (λ journal. (source : Source) → Lowered source code.now → source.main ≡ main → IsRunOf source input.now entries journal.items) }
+    ensures run { IfOk result (λ journal. (source : Source) → Lowered source code.now → source.main ≡ main → HasMain source → IsRunOf source input.now entries journal.items) }
 {
     let mut journal = Vec::new(alloc);
     journal.push(begin_entry(entries))?;
@@ -50,7 +51,7 @@ pub fn run_alone(
 
 // The task at the start of its main, inside its own object.
 fn begin_inside(alloc: Global, code: &Code, main: u32) -> Result<Option<Work>, AllocError>
-    ensures { IfOk result (λ task. (source : Source) → Lowered source code.now → source.main ≡ main → MatchOption task (HasNoMain source) (λ w. Stands code.now.ops w (start source))) }
+    ensures { IfOk result (λ task. (source : Source) → Lowered source code.now → source.main ≡ main → HasMain source → MatchOption task ⊥ (λ w. Stands code.now.ops w (start source))) }
 {
     match begin(alloc, code, main, 0)? {
         None => Ok(None),
