@@ -1,0 +1,5 @@
+pub mod CellTables
+pub mod Reached
+pub mod Sized
+pub mod Values
+pub mod Whole

@@ -1,0 +1,19 @@
+use Rattle.std.proofs.Common.{◌≡◌, ℕ, ℤ, List, Option, map, ap, sym, subst, ◌∙◌}
+use Rattle.uc_tree.specs.Programs.{Class, Constant}
+use Rattle.uc_tree.specs.Constants.{constants_of, value_of_name}
+use Rattle.uc_tree.specs.Cells.{classes_of}
+use Rattle.uc_sizes.specs.Values.{value_at}
+use Rattle.uc_sizes.specs.Held.{rows_by}
+use Rattle.uc_sizes.proofs.Sized.{sized}
+use Rattle.uc_sizes.proofs.sizes.Sizes.new.Goals as goal
+
+pub invariant_of-result : goal.invariant_of-result
+invariant_of-result c =
+    let classes : map (λ k. k.now) c.in_ok-classes.classes.items ≡ classes_of c.args.program.now.items = c.in_ok-classes.ensures ∙ ap classes_of c.deref.ensures.value ∙ ap (λ p. classes_of p.items) c.program.view_is in
+    let constants : map (λ k. k.now) c.in_ok-constants.constants.items ≡ constants_of c.args.program.now.items = c.in_ok-constants.ensures ∙ ap constants_of c.deref-2.ensures.value ∙ ap (λ p. constants_of p.items) c.program.view_is in
+    let values : value_at (map (λ k. k.now) c.in_ok-constants.constants.items) c.in_ok-values.values.items ≡ value_of_name (map (λ k. k.now) c.in_ok-constants.constants.items) = subst (λ l. value_at (map (λ k. k.now) l) c.in_ok-values.values.items ≡ value_of_name (map (λ k. k.now) l)) c.deref-3.ensures.value c.in_ok-values.ensures in
+    let rows : rows_by (map (λ k. k.now) c.deref-4.result.now) (map (λ k. k.now) c.deref-5.result.now) c.deref-6.result.now ≡ rows_by (map (λ k. k.now) c.in_ok-classes.classes.items) (map (λ k. k.now) c.in_ok-constants.constants.items) c.in_ok-values.values.items =
+          ap (λ l. rows_by (map (λ k. k.now) l) (map (λ k. k.now) c.deref-5.result.now) c.deref-6.result.now) c.deref-4.ensures.value
+          ∙ ap (λ l. rows_by (map (λ k. k.now) c.in_ok-classes.classes.items) (map (λ k. k.now) l) c.deref-6.result.now) c.deref-5.ensures.value
+          ∙ ap (λ l. rows_by (map (λ k. k.now) c.in_ok-classes.classes.items) (map (λ k. k.now) c.in_ok-constants.constants.items) l) c.deref-6.ensures.value in
+    sized c.args.program.now (map (λ k. k.now) c.in_ok-classes.classes.items) (map (λ k. k.now) c.in_ok-constants.constants.items) c.in_ok-values.values.items (rows_by (map (λ k. k.now) c.deref-4.result.now) (map (λ k. k.now) c.deref-5.result.now) c.deref-6.result.now) c.in_ok-cells.cells.items classes constants values rows c.in_ok-cells.ensures

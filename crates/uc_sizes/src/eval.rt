@@ -1,0 +1,192 @@
+// The values of constant expressions.
+
+ghost use Rattle.std.specs.Prelude.{◌≡◌, ◌+ℤ◌, ◌-ℤ◌, ◌*ℤ◌, int_div, int_rem, neg_ℤ, option_and_then};
+ghost use Rattle.uc_tree.specs.Constants.{int_value, unary_value, binary_value, converted, value_in, link_value_in, chain_value_in, both};
+ghost use Rattle.uc_tree.specs.Expressions.{links_of};
+ghost use Rattle.uc_sizes.specs.Values.{seen_by};
+
+use crate::named::Named;
+use uc_tree::expr::{Expr, ExprForm, Link};
+use uc_tree::kinds::Base;
+use uc_tree::limits::{CHAR_VALUES, INT_MAX, INT_MIN};
+use uc_tree::ops::{BinaryOp, UnaryOp};
+
+// The number where it is an `int`.
+fn int_of(number: i64) -> Option<i64>
+    ensures { result ≡ int_value number }
+{
+    if INT_MIN <= number && number <= INT_MAX {
+        Some(number)
+    } else {
+        None
+    }
+}
+
+fn sum(x: i64, y: i64) -> Option<i64>
+    ensures { result ≡ int_value (x +ℤ y) }
+{
+    match x.checked_add(y) {
+        Some(number) => int_of(number),
+        None => None,
+    }
+}
+
+fn difference(x: i64, y: i64) -> Option<i64>
+    ensures { result ≡ int_value (x -ℤ y) }
+{
+    match x.checked_sub(y) {
+        Some(number) => int_of(number),
+        None => None,
+    }
+}
+
+fn product(x: i64, y: i64) -> Option<i64>
+    ensures { result ≡ int_value (x *ℤ y) }
+{
+    match x.checked_mul(y) {
+        Some(number) => int_of(number),
+        None => None,
+    }
+}
+
+fn quotient(x: i64, y: i64) -> Option<i64>
+    ensures { result ≡ binary_value BinaryOp.Div x y }
+{
+    match x.checked_div(y) {
+        Some(number) => int_of(number),
+        None => None,
+    }
+}
+
+fn remainder(x: i64, y: i64) -> Option<i64>
+    ensures { result ≡ binary_value BinaryOp.Rem x y }
+{
+    // The remainder by -1 is 0, which the checked one does not say of the least number.
+    if y == -1 {
+        return Some(0);
+    }
+    match x.checked_rem(y) {
+        Some(number) => int_of(number),
+        None => None,
+    }
+}
+
+fn negated(x: i64) -> Option<i64>
+    ensures { result ≡ int_value (neg_ℤ x) }
+{
+    match x.checked_neg() {
+        Some(number) => int_of(number),
+        None => None,
+    }
+}
+
+fn unary_of(op: UnaryOp, x: i64) -> Option<i64>
+    ensures { result ≡ unary_value op x }
+{
+    match op {
+        UnaryOp::Minus => negated(x),
+        UnaryOp::Plus => Some(x),
+        UnaryOp::Not => None,
+        UnaryOp::Increment => None,
+        UnaryOp::Decrement => None,
+    }
+}
+
+fn binary_of(op: BinaryOp, x: i64, y: i64) -> Option<i64>
+    ensures { result ≡ binary_value op x y }
+{
+    match op {
+        BinaryOp::Or => None,
+        BinaryOp::And => None,
+        BinaryOp::Equal => None,
+        BinaryOp::NotEqual => None,
+        BinaryOp::Less => None,
+        BinaryOp::LessEqual => None,
+        BinaryOp::Greater => None,
+        BinaryOp::GreaterEqual => None,
+        BinaryOp::Add => sum(x, y),
+        BinaryOp::Sub => difference(x, y),
+        BinaryOp::Mul => product(x, y),
+        BinaryOp::Div => quotient(x, y),
+        BinaryOp::Rem => remainder(x, y),
+    }
+}
+
+/// A value as a constant of this base holds it.
+pub fn converted_to(base: &Base, x: i64) -> i64
+    ensures { result ≡ converted base.now x }
+{
+    match base {
+        Base::Void => x,
+        Base::Int => x,
+        Base::Char => x.rem_euclid(CHAR_VALUES),
+        Base::Bool => {
+            if x == 0 {
+                0
+            } else {
+                1
+            }
+        }
+        Base::Condition => x,
+        Base::Cluster => x,
+        Base::Processor => x,
+        Base::Named(_) => x,
+    }
+}
+
+/// The value of an expression, in which these are the values of names.
+#[cycle(value)]
+pub fn value_of(e: &Expr, named: &Named) -> Option<i64>
+    ensures { result ≡ value_in e.now (seen_by named.now) }
+{
+    match &e.form {
+        ExprForm::Number { value } => int_of(*value),
+        ExprForm::Character { byte } => Some(i64::from(*byte)),
+        ExprForm::Truth { value } => Some(i64::from(*value)),
+        ExprForm::Name { name } => named.value(name),
+        ExprForm::Cin => None,
+        ExprForm::Postfix { .. } => None,
+        ExprForm::Unary { op, operand } => match value_of(operand, named) {
+            Some(x) => unary_of(*op, x),
+            None => None,
+        },
+        ExprForm::Chain { first, rest } => {
+            let left = value_of(first, named);
+            value_of_chain(left, rest, named)
+        }
+        ExprForm::Assign { .. } => None,
+    }
+}
+
+#[cycle(value)]
+fn value_of_chain(
+    left: Option<i64>,
+    rest: &[Link],
+    named: &Named,
+) -> Option<i64>
+    ensures { result ≡ chain_value_in (links_of rest.now) left (seen_by named.now) }
+{
+    let mut value = left;
+    for link in rest {
+        value = value_of_link(value, link, named);
+    }
+    value
+}
+
+#[cycle(value)]
+fn value_of_link(
+    left: Option<i64>,
+    link: &Link,
+    named: &Named,
+) -> Option<i64>
+    ensures { result ≡ link_value_in link.now left (seen_by named.now) }
+{
+    let right = value_of(&link.right, named);
+    match left {
+        Some(x) => match right {
+            Some(y) => binary_of(link.op, x, y),
+            None => None,
+        },
+        None => None,
+    }
+}

@@ -1,0 +1,163 @@
+// The cells of a program's classes and routines.
+
+ghost use Rattle.std.specs.Prelude.{◌≡◌, IfOk, length, map};
+ghost use Rattle.uc_tree.specs.Capped.{capped};
+ghost use Rattle.uc_tree.specs.Cells.{class_cells, classes_of, declared_cells, held_by, object_of, param_cells, seen_in};
+ghost use Rattle.uc_tree.specs.Rows.{element_cells};
+ghost use Rattle.uc_sizes.specs.CellTables.{Counted};
+ghost use Rattle.uc_sizes.specs.Held.{rows_by};
+ghost use Rattle.uc_tree.specs.Constants.{constants_of, elements, value_of_name};
+
+use crate::cells::{cells_of, element_cells};
+use crate::circles::circles_of;
+use crate::held::{elements_of, held_by, object_of, rows_of};
+use crate::lists::{classes_in, constants_in};
+use crate::named::Named;
+use crate::tables::values_of;
+use std::alloc::{AllocError, Global};
+use std::marker::Model;
+use uc_tree::class::Class;
+use uc_tree::declare::Declarator;
+use uc_tree::kinds::{Base, Param};
+use uc_tree::name::Name;
+use uc_tree::program::{Constant, Program};
+use uc_tree::rows::{Held, Object};
+
+/// A program of which the values of constants and the cells of classes are known. Contracts see the program.
+#[derive(Drop)]
+pub struct Sizes<'a> {
+    program: &'a Program,
+    classes: Vec<&'a Class>,
+    constants: Vec<&'a Constant>,
+    values: Vec<Option<i64>>,
+    cells: Vec<u64>,
+}
+
+impl<'a> Model for Sizes<'a> {
+    ghost use Rattle.std.specs.Prelude.{map};
+    ghost use Rattle.uc_tree.specs.Programs.{Program};
+    ghost use Rattle.uc_tree.specs.ProgramCodes.{program_coded};
+    ghost use Rattle.uc_sizes.specs.Sized.{IsSized};
+
+    ghost Value = { Program };
+
+    ghost coded = { program_coded };
+
+    ghost view = { λ a. a.program.now };
+
+    ghost invariant = { λ a. IsSized a.program.now (map (λ c. c.now) a.classes.items) (map (λ c. c.now) a.constants.items) a.values.items a.cells.items };
+}
+
+// The cells of each class, by a table of the values of constants.
+fn class_cells(
+    alloc: Global,
+    classes: &[&Class],
+    constants: &[&Constant],
+    values: &[Option<i64>],
+) -> Result<Vec<u64>, AllocError>
+    ensures { IfOk result (λ v. Counted (length (rows_by (map (λ c. c.now) classes.now) (map (λ c. c.now) constants.now) values.now)) (rows_by (map (λ c. c.now) classes.now) (map (λ c. c.now) constants.now) values.now) v.items) }
+{
+    let rows = rows_of(alloc, classes, constants, values)?;
+    let circles = circles_of(alloc, &rows)?;
+    let cells = cells_of(alloc, &rows, &circles)?;
+    Ok(cells)
+}
+
+impl<'a> Sizes<'a> {
+    /// What is to be known of a program.
+    pub fn new(alloc: Global, program: &'a Program) -> Result<Sizes<'a>, AllocError>
+        ensures { IfOk result (λ s. s ≡ program.now) }
+    {
+        let classes = classes_in(alloc, &program.items)?;
+        let constants = constants_in(alloc, &program.items)?;
+        let values = values_of(alloc, &constants)?;
+        let cells = class_cells(alloc, &classes, &constants, &values)?;
+        Ok(Sizes {
+            program,
+            classes,
+            constants,
+            values,
+            cells,
+        })
+    }
+
+    /// The cells of the class with this place among the classes of the program, events included; none beyond the last.
+    /// The greatest number stands for all that are greater.
+    pub fn cells_of_class(&self, place: usize) -> u64
+        ensures { result ≡ capped (class_cells self.now place) }
+    {
+        if place < self.cells.len() {
+            self.cells[place]
+        } else {
+            0
+        }
+    }
+
+    /// The value of a constant, none where no constant of the name has one.
+    pub fn value_of(&self, name: &Name) -> Option<i64>
+        ensures { result ≡ value_of_name (constants_of self.now.items) name.now }
+    {
+        let named = Named {
+            constants: &self.constants,
+            values: &self.values,
+            hidden: &[],
+        };
+        named.value(name)
+    }
+
+    /// How many elements a declarator of a class declares, whose members hide constants of their names.
+    pub fn elements_in(&self, class: &Class, declarator: &Declarator) -> u32
+        ensures { result ≡ elements (seen_in (constants_of self.now.items) class.now) declarator.now }
+    {
+        let named = Named {
+            constants: &self.constants,
+            values: &self.values,
+            hidden: &class.members,
+        };
+        elements_of(&named, declarator)
+    }
+
+    // What a variable holds.
+    fn held(&self, base: &Base, declarator: &Declarator) -> Held
+        ensures { result ≡ held_by (classes_of self.now.items) (value_of_name (constants_of self.now.items)) base.now declarator.now }
+    {
+        let named = Named {
+            constants: &self.constants,
+            values: &self.values,
+            hidden: &[],
+        };
+        held_by(&self.classes, &named, base, declarator)
+    }
+
+    fn object(&self, base: &Base) -> Option<Object>
+        ensures { result ≡ object_of (classes_of self.now.items) base.now }
+    {
+        object_of(&self.classes, base)
+    }
+
+    // The cells of one element.
+    fn cells_of_element(&self, object: Option<Object>) -> u64
+        ensures { result ≡ capped (element_cells (class_cells self.now) object) }
+    {
+        element_cells(&self.cells, object)
+    }
+
+    /// The cells of a variable.
+    #[tactic(auto, using(crate::proofs::CellTables::capped_mul))]
+    pub fn cells_of_variable(&self, base: &Base, declarator: &Declarator) -> u64
+        ensures { result ≡ capped (declared_cells self.now base.now declarator.now) }
+    {
+        let held = self.held(base, declarator);
+        u64::from(held.count).saturating_mul(self.cells_of_element(held.object))
+    }
+
+    /// The cells of a parameter.
+    pub fn cells_of_param(&self, param: &Param) -> u64
+        ensures { result ≡ capped (param_cells self.now param.now) }
+    {
+        if param.by_ref {
+            return 1;
+        }
+        self.cells_of_element(self.object(&param.base))
+    }
+}

@@ -1,0 +1,102 @@
+// The values of the constants of a program, reckoned until no more can be.
+
+ghost use Rattle.std.specs.Prelude.{◌≡◌, ◌<◌, IfOk, IsTrue, IsFalse, length, map, None, Some, get_or, slice_get, slice_set};
+ghost use Rattle.uc_tree.specs.Constants.{own_value, value_of_name};
+ghost use Rattle.uc_tree.specs.Programs.{Constant};
+ghost use Rattle.uc_sizes.specs.Values.{value_at, seen_by};
+ghost use Rattle.uc_sizes.specs.Reckoned.{Under, Sound, Reckoned, known};
+
+use crate::eval::{converted_to, value_of};
+use crate::named::Named;
+use crate::order::order_of;
+use std::alloc::{AllocError, Global};
+use uc_tree::program::Constant;
+
+fn own_value(constant: &Constant, named: &Named) -> Option<i64>
+    ensures { result ≡ own_value (seen_by named.now) constant.now }
+{
+    match value_of(&constant.value, named) {
+        Some(value) => Some(converted_to(&constant.base, value)),
+        None => None,
+    }
+}
+
+// Reckons one constant that has no value yet; says whether it has one now.
+fn reckon(constants: &[&Constant], values: &mut [Option<i64>], place: usize) -> bool
+    requires inside { place < length constants.now }
+    requires full { length values.old ≡ length constants.now }
+    requires sound { Sound (map (λ c. c.now) constants.now) values.old }
+    ensures sound { Sound (map (λ c. c.now) constants.now) values.new }
+    ensures more { IsTrue result → known values.old < known values.new }
+    ensures same { IsFalse result → values.new ≡ values.old }
+    ensures reckoned { IsFalse result → (c : Constant) → slice_get (map (λ c. c.now) constants.now) place ≡ Some c → Under (own_value (value_at (map (λ c. c.now) constants.now) values.old) c) (get_or values.old place None) }
+{
+    if values[place].is_some() {
+        return false;
+    }
+    let named = Named {
+        constants,
+        values,
+        hidden: &[],
+    };
+    let own = own_value(constants[place], &named);
+    if own.is_none() {
+        return false;
+    }
+    values[place] = own;
+    true
+}
+
+// Reckons each constant once; says whether one got a value.
+fn sweep(constants: &[&Constant], values: &mut [Option<i64>]) -> bool
+    requires full { length values.old ≡ length constants.now }
+    requires sound { Sound (map (λ c. c.now) constants.now) values.old }
+    ensures sound { Sound (map (λ c. c.now) constants.now) values.new }
+    ensures more { IsTrue result → known values.old < known values.new }
+    ensures reckoned { IsFalse result → Reckoned (map (λ c. c.now) constants.now) values.new (length constants.now) }
+{
+    let mut changed = false;
+    for place in 0..constants.len() {
+        if reckon(constants, values, place) {
+            changed = true;
+        }
+    }
+    changed
+}
+
+// Reckons the constants in this order.
+fn reckon_all(constants: &[&Constant], order: &[usize], values: &mut [Option<i64>])
+    requires full { length values.old ≡ length constants.now }
+    requires sound { Sound (map (λ c. c.now) constants.now) values.old }
+    ensures { Sound (map (λ c. c.now) constants.now) values.new }
+{
+    for place in order {
+        if *place < constants.len() {
+            let _ = reckon(constants, values, *place);
+        }
+    }
+}
+
+// A table in which each constant was reckoned once, behind those that it names. What is left, the sweeps find.
+fn first_values(alloc: Global, constants: &[&Constant]) -> Result<Vec<Option<i64>>, AllocError>
+    ensures full { IfOk result (λ v. length v.items ≡ length constants.now) }
+    ensures sound { IfOk result (λ v. Sound (map (λ c. c.now) constants.now) v.items) }
+{
+    let order = order_of(alloc, constants)?;
+    let mut values = vec![in alloc; None; constants.len()]?;
+    reckon_all(constants, &order, &mut values);
+    Ok(values)
+}
+
+/// The values of these constants, none for one that has none. A table of them gives each name its value.
+pub fn values_of(alloc: Global, constants: &[&Constant]) -> Result<Vec<Option<i64>>, AllocError>
+    ensures { IfOk result (λ v. value_at (map (λ c. c.now) constants.now) v.items ≡ value_of_name (map (λ c. c.now) constants.now)) }
+{
+    let mut values = first_values(alloc, constants)?;
+    'sweeps: loop {
+        if !sweep(constants, &mut values) {
+            break;
+        }
+    }
+    Ok(values)
+}
