@@ -47,8 +47,8 @@ use Rattle.uc_lower_expr.proofs.Arms.{loaded, converted_at, element_cell}
 pub tree_is : (p : Pos) (f g : ExprForm) (e : tree.Expr) → f ≡ g → expr_at p f ≡ e → expr_at p g ≡ e
 tree_is p f g e h k = ap (λ x. expr_at p x) (sym h) ∙ k
 
-pub as_code : (e t : tree.Expr) (line : ℕ) (old new : Draft) → t ≡ e → Adds (OPS_FOR_SIZE * expr_size t - 1) (ExprCode line (meant old.names t).expr) old new → Adds (OPS_FOR_SIZE * expr_size e - 1) (ExprCode line (meant old.names e).expr) old new
-as_code e t line old new h a = subst (λ (x : tree.Expr). Adds (OPS_FOR_SIZE * expr_size x - 1) (ExprCode line (meant old.names x).expr) old new) h a
+pub as_code : (e t : tree.Expr) (line : ℕ) (old new : Draft) → t ≡ e → Adds (OPS_FOR_SIZE * expr_size t - 2) (ExprCode line (meant old.names t).expr) old new → Adds (OPS_FOR_SIZE * expr_size e - 2) (ExprCode line (meant old.names e).expr) old new
+as_code e t line old new h a = subst (λ (x : tree.Expr). Adds (OPS_FOR_SIZE * expr_size x - 2) (ExprCode line (meant old.names x).expr) old new) h a
 
 -- the same names mean the same
 
@@ -57,16 +57,16 @@ value_in n line ns ms e old new h a = subst (λ (x : List Known). Adds n (ExprCo
 
 -- literals
 
-pub arm_number : (e : tree.Expr) (p : Pos) (n x : ℤ) (line : ℕ) (old new : Draft) → tree.Number p n ≡ e → x ≡ n → Adds 1 (OpCode line (op.Push x)) old new → Adds (OPS_FOR_SIZE * expr_size e - 1) (ExprCode line (meant old.names e).expr) old new
+pub arm_number : (e : tree.Expr) (p : Pos) (n x : ℤ) (line : ℕ) (old new : Draft) → tree.Number p n ≡ e → x ≡ n → Adds 1 (OpCode line (op.Push x)) old new → Adds (OPS_FOR_SIZE * expr_size e - 2) (ExprCode line (meant old.names e).expr) old new
 arm_number e p n x line old new h i k = as_code e (tree.Number p n) line old new h (adds_more (omega arith) (subst (λ (y : ℤ). Adds 1 (OpCode line (op.Push y)) old new) i k))
 
-pub arm_character : (e : tree.Expr) (p : Pos) (b : ℕ) (x : ℤ) (line : ℕ) (old new : Draft) → tree.Character p b ≡ e → x ≡ pos b → Adds 1 (OpCode line (op.Push x)) old new → Adds (OPS_FOR_SIZE * expr_size e - 1) (ExprCode line (meant old.names e).expr) old new
+pub arm_character : (e : tree.Expr) (p : Pos) (b : ℕ) (x : ℤ) (line : ℕ) (old new : Draft) → tree.Character p b ≡ e → x ≡ pos b → Adds 1 (OpCode line (op.Push x)) old new → Adds (OPS_FOR_SIZE * expr_size e - 2) (ExprCode line (meant old.names e).expr) old new
 arm_character e p b x line old new h i k = as_code e (tree.Character p b) line old new h (adds_more (omega arith) (subst (λ (y : ℤ). Adds 1 (OpCode line (op.Push y)) old new) i k))
 
-pub arm_truth : (e : tree.Expr) (p : Pos) (b : Bool) (x : ℤ) (line : ℕ) (old new : Draft) → tree.Truth p b ≡ e → x ≡ truth_value b → Adds 1 (OpCode line (op.Push x)) old new → Adds (OPS_FOR_SIZE * expr_size e - 1) (ExprCode line (meant old.names e).expr) old new
+pub arm_truth : (e : tree.Expr) (p : Pos) (b : Bool) (x : ℤ) (line : ℕ) (old new : Draft) → tree.Truth p b ≡ e → x ≡ truth_value b → Adds 1 (OpCode line (op.Push x)) old new → Adds (OPS_FOR_SIZE * expr_size e - 2) (ExprCode line (meant old.names e).expr) old new
 arm_truth e p b x line old new h i k = as_code e (tree.Truth p b) line old new h (adds_more (omega arith) (subst (λ (y : ℤ). Adds 1 (OpCode line (op.Push y)) old new) i k))
 
-pub arm_cin : (e : tree.Expr) (p : Pos) (line : ℕ) (old new : Draft) → tree.Cin p ≡ e → Adds 1 (OpCode line (op.Push (pos 0))) old new → Adds (OPS_FOR_SIZE * expr_size e - 1) (ExprCode line (meant old.names e).expr) old new
+pub arm_cin : (e : tree.Expr) (p : Pos) (line : ℕ) (old new : Draft) → tree.Cin p ≡ e → Adds 1 (OpCode line (op.Push (pos 0))) old new → Adds (OPS_FOR_SIZE * expr_size e - 2) (ExprCode line (meant old.names e).expr) old new
 arm_cin e p line old new h k = as_code e (tree.Cin p) line old new h (adds_more (omega arith) k)
 
 -- operators before an operand
@@ -326,24 +326,24 @@ some_size (tree.Chain p e ls) = omega arith
 some_size (tree.Assign p s o e f) = omega arith
 
 pub arm_postfix : {E : Type 0} (r : Result Meaning E) (e root0 root : tree.Expr) (p : Pos) (ys xs : List tree.Part) (line a : ℕ) (s : Meaning) (old mid new : Draft) → tree.Postfix p root0 (parts_of ys) ≡ e → root ≡ root0 → xs ≡ ys → a ≡ length old.ops
-    → Adds (OPS_FOR_SIZE * expr_size root - 1) (ExprCode line (meant old.names root).expr) old mid → Tells s (meant old.names root)
+    → Adds (OPS_FOR_SIZE * expr_size root - 2) (ExprCode line (meant old.names root).expr) old mid → Tells s (meant old.names root)
     → IfOk r (λ t. Grows (OPS_FOR_SIZE * parts_size (parts_of xs)) line a (parts_meant mid.names (parts_of xs)) s t mid new)
-    → OnOk r (Adds (OPS_FOR_SIZE * expr_size e - 1) (ExprCode line (meant old.names e).expr) old new)
+    → OnOk r (Adds (OPS_FOR_SIZE * expr_size e - 2) (ExprCode line (meant old.names e).expr) old new)
 arm_postfix r e root0 root p ys xs line a s old mid new h i j al k u w =
     let is : tree.Postfix p root (parts_of xs) ≡ e = ap (λ (x : tree.Expr). tree.Postfix p x (parts_of xs)) i ∙ ap (λ (zs : List tree.Part). tree.Postfix p root0 (parts_of zs)) j ∙ h in
     let w1 : IfOk r (λ t. Grows (OPS_FOR_SIZE * parts_size (parts_of xs)) line (length old.ops) (parts_meant mid.names (parts_of xs)) s t mid new) = subst (λ (b : ℕ). IfOk r (λ t. Grows (OPS_FOR_SIZE * parts_size (parts_of xs)) line b (parts_meant mid.names (parts_of xs)) s t mid new)) al w in
-    subst (λ (x : tree.Expr). OnOk r (Adds (OPS_FOR_SIZE * expr_size x - 1) (ExprCode line (meant old.names x).expr) old new)) is (
-    grown_code r (OPS_FOR_SIZE * expr_size root - 1) (OPS_FOR_SIZE * parts_size (parts_of xs)) (OPS_FOR_SIZE * expr_size (tree.Postfix p root (parts_of xs)) - 1) line (meant old.names root) (parts_meant mid.names (parts_of xs)) (parts_meant old.names (parts_of xs)) s old mid new (let q = some_size root in omega arith) (λ m. ap (λ (ns : List Known). parts_meant ns (parts_of xs) m) (names_added k)) k u w1)
+    subst (λ (x : tree.Expr). OnOk r (Adds (OPS_FOR_SIZE * expr_size x - 2) (ExprCode line (meant old.names x).expr) old new)) is (
+    grown_code r (OPS_FOR_SIZE * expr_size root - 2) (OPS_FOR_SIZE * parts_size (parts_of xs)) (OPS_FOR_SIZE * expr_size (tree.Postfix p root (parts_of xs)) - 2) line (meant old.names root) (parts_meant mid.names (parts_of xs)) (parts_meant old.names (parts_of xs)) s old mid new (let q = some_size root in omega arith) (λ m. ap (λ (ns : List Known). parts_meant ns (parts_of xs) m) (names_added k)) k u w1)
 
 pub told_postfix : {E : Type 0} (r : Result Meaning E) (e root0 root : tree.Expr) (p : Pos) (ys xs : List tree.Part) (line a : ℕ) (s : Meaning) (old mid new : Draft) → tree.Postfix p root0 (parts_of ys) ≡ e → root ≡ root0 → xs ≡ ys → a ≡ length old.ops
-    → Adds (OPS_FOR_SIZE * expr_size root - 1) (ExprCode line (meant old.names root).expr) old mid → Tells s (meant old.names root)
+    → Adds (OPS_FOR_SIZE * expr_size root - 2) (ExprCode line (meant old.names root).expr) old mid → Tells s (meant old.names root)
     → IfOk r (λ t. Grows (OPS_FOR_SIZE * parts_size (parts_of xs)) line a (parts_meant mid.names (parts_of xs)) s t mid new)
     → IfOk r (λ t. Tells t (meant old.names e))
 told_postfix r e root0 root p ys xs line a s old mid new h i j al k u w =
     let is : tree.Postfix p root (parts_of xs) ≡ e = ap (λ (x : tree.Expr). tree.Postfix p x (parts_of xs)) i ∙ ap (λ (zs : List tree.Part). tree.Postfix p root0 (parts_of zs)) j ∙ h in
     let w1 : IfOk r (λ t. Grows (OPS_FOR_SIZE * parts_size (parts_of xs)) line (length old.ops) (parts_meant mid.names (parts_of xs)) s t mid new) = subst (λ (b : ℕ). IfOk r (λ t. Grows (OPS_FOR_SIZE * parts_size (parts_of xs)) line b (parts_meant mid.names (parts_of xs)) s t mid new)) al w in
     subst (λ (x : tree.Expr). IfOk r (λ t. Tells t (meant old.names x))) is (
-    grown_tells r (OPS_FOR_SIZE * expr_size root - 1) (OPS_FOR_SIZE * parts_size (parts_of xs)) line (meant old.names root) (parts_meant mid.names (parts_of xs)) (parts_meant old.names (parts_of xs)) s old mid new (λ m. ap (λ (ns : List Known). parts_meant ns (parts_of xs) m) (names_added k)) k u w1)
+    grown_tells r (OPS_FOR_SIZE * expr_size root - 2) (OPS_FOR_SIZE * parts_size (parts_of xs)) line (meant old.names root) (parts_meant mid.names (parts_of xs)) (parts_meant old.names (parts_of xs)) s old mid new (λ m. ap (λ (ns : List Known). parts_meant ns (parts_of xs) m) (names_added k)) k u w1)
 
 -- where it begins does not matter to a chain
 at_length : {E : Type 0} (r : Result Meaning E) (k line : ℕ) (f : Meant → Meant) (s : Meaning) (a : ℕ) (mid new : Draft) → a ≤ length mid.ops → IfOk r (λ t. (b : ℕ) → b ≤ length mid.ops → Grows k line b f s t mid new) → IfOk r (λ t. Grows k line a f s t mid new)
@@ -351,24 +351,24 @@ at_length (Ok t) k line f s a mid new l h = h a l
 at_length (Err x) k line f s a mid new l h = tt
 
 pub arm_chain : {E : Type 0} (r : Result Meaning E) (e first0 first : tree.Expr) (p : Pos) (ys xs : List tree.Link) (line : ℕ) (s : Meaning) (old mid new : Draft) → tree.Chain p first0 (links_of ys) ≡ e → first ≡ first0 → xs ≡ ys
-    → Adds (OPS_FOR_SIZE * expr_size first - 1) (ExprCode line (meant old.names first).expr) old mid → Tells s (meant old.names first)
+    → Adds (OPS_FOR_SIZE * expr_size first - 2) (ExprCode line (meant old.names first).expr) old mid → Tells s (meant old.names first)
     → IfOk r (λ t. (a : ℕ) → a ≤ length mid.ops → Grows (OPS_FOR_SIZE * links_size (links_of xs)) line a (chain_meant mid.names (links_of xs)) s t mid new)
-    → OnOk r (Adds (OPS_FOR_SIZE * expr_size e - 1) (ExprCode line (meant old.names e).expr) old new)
+    → OnOk r (Adds (OPS_FOR_SIZE * expr_size e - 2) (ExprCode line (meant old.names e).expr) old new)
 arm_chain r e first0 first p ys xs line s old mid new h i j k u w =
     let is : tree.Chain p first (links_of xs) ≡ e = ap (λ (x : tree.Expr). tree.Chain p x (links_of xs)) i ∙ ap (λ (zs : List tree.Link). tree.Chain p first0 (links_of zs)) j ∙ h in
     let w1 = at_length r (OPS_FOR_SIZE * links_size (links_of xs)) line (chain_meant mid.names (links_of xs)) s (length old.ops) mid new k.kept.longer w in
-    subst (λ (x : tree.Expr). OnOk r (Adds (OPS_FOR_SIZE * expr_size x - 1) (ExprCode line (meant old.names x).expr) old new)) is (
-    grown_code r (OPS_FOR_SIZE * expr_size first - 1) (OPS_FOR_SIZE * links_size (links_of xs)) (OPS_FOR_SIZE * expr_size (tree.Chain p first (links_of xs)) - 1) line (meant old.names first) (chain_meant mid.names (links_of xs)) (chain_meant old.names (links_of xs)) s old mid new (let q = some_size first in omega arith) (λ m. ap (λ (ns : List Known). chain_meant ns (links_of xs) m) (names_added k)) k u w1)
+    subst (λ (x : tree.Expr). OnOk r (Adds (OPS_FOR_SIZE * expr_size x - 2) (ExprCode line (meant old.names x).expr) old new)) is (
+    grown_code r (OPS_FOR_SIZE * expr_size first - 2) (OPS_FOR_SIZE * links_size (links_of xs)) (OPS_FOR_SIZE * expr_size (tree.Chain p first (links_of xs)) - 2) line (meant old.names first) (chain_meant mid.names (links_of xs)) (chain_meant old.names (links_of xs)) s old mid new (let q = some_size first in omega arith) (λ m. ap (λ (ns : List Known). chain_meant ns (links_of xs) m) (names_added k)) k u w1)
 
 pub told_chain : {E : Type 0} (r : Result Meaning E) (e first0 first : tree.Expr) (p : Pos) (ys xs : List tree.Link) (line : ℕ) (s : Meaning) (old mid new : Draft) → tree.Chain p first0 (links_of ys) ≡ e → first ≡ first0 → xs ≡ ys
-    → Adds (OPS_FOR_SIZE * expr_size first - 1) (ExprCode line (meant old.names first).expr) old mid → Tells s (meant old.names first)
+    → Adds (OPS_FOR_SIZE * expr_size first - 2) (ExprCode line (meant old.names first).expr) old mid → Tells s (meant old.names first)
     → IfOk r (λ t. (a : ℕ) → a ≤ length mid.ops → Grows (OPS_FOR_SIZE * links_size (links_of xs)) line a (chain_meant mid.names (links_of xs)) s t mid new)
     → IfOk r (λ t. Tells t (meant old.names e))
 told_chain r e first0 first p ys xs line s old mid new h i j k u w =
     let is : tree.Chain p first (links_of xs) ≡ e = ap (λ (x : tree.Expr). tree.Chain p x (links_of xs)) i ∙ ap (λ (zs : List tree.Link). tree.Chain p first0 (links_of zs)) j ∙ h in
     let w1 = at_length r (OPS_FOR_SIZE * links_size (links_of xs)) line (chain_meant mid.names (links_of xs)) s (length old.ops) mid new k.kept.longer w in
     subst (λ (x : tree.Expr). IfOk r (λ t. Tells t (meant old.names x))) is (
-    grown_tells r (OPS_FOR_SIZE * expr_size first - 1) (OPS_FOR_SIZE * links_size (links_of xs)) line (meant old.names first) (chain_meant mid.names (links_of xs)) (chain_meant old.names (links_of xs)) s old mid new (λ m. ap (λ (ns : List Known). chain_meant ns (links_of xs) m) (names_added k)) k u w1)
+    grown_tells r (OPS_FOR_SIZE * expr_size first - 2) (OPS_FOR_SIZE * links_size (links_of xs)) line (meant old.names first) (chain_meant mid.names (links_of xs)) (chain_meant old.names (links_of xs)) s old mid new (λ m. ap (λ (ns : List Known). chain_meant ns (links_of xs) m) (names_added k)) k u w1)
 
 -- what is left for the parts and the links
 

@@ -23,11 +23,12 @@ use uc_tree::expr::{Expr, ExprForm, Link, Part, PartForm};
 use uc_tree::name::Name;
 use uc_tree::ops::{AssignOp, StepOp, UnaryOp};
 
-/// Adds the code of what an expression stands for, which is a place where one is told.
+/// Adds the code of what an expression stands for, which is a place where one is told. Two ops more would still be within
+/// the bound.
 #[cycle(lower)]
 pub fn lower_expr(e: &Expr, line: u32, out: &mut Draft) -> Result<Meaning, AllocError>
     requires { length out.old.ops + OPS_FOR_SIZE * expr_size e.now ≤ PROGRAM_OPS }
-    ensures code { OnOk result (Adds (OPS_FOR_SIZE * expr_size e.now - 1) (ExprCode line (meant out.old.names e.now).expr) out.old out.new) }
+    ensures code { OnOk result (Adds (OPS_FOR_SIZE * expr_size e.now - 2) (ExprCode line (meant out.old.names e.now).expr) out.old out.new) }
     ensures tells { IfOk result (λ told. Tells told (meant out.old.names e.now)) }
 {
     match &e.form {
@@ -88,7 +89,7 @@ fn lower_unary(
     out: &mut Draft,
 ) -> Result<Meaning, AllocError>
     requires { length out.old.ops + OPS_FOR_SIZE * (1 + expr_size operand.now) ≤ PROGRAM_OPS }
-    ensures code { OnOk result (Adds (OPS_FOR_SIZE * (1 + expr_size operand.now) - 1) (ExprCode line (unary_meant op (meant out.old.names operand.now)).expr) out.old out.new) }
+    ensures code { OnOk result (Adds (OPS_FOR_SIZE * (1 + expr_size operand.now) - 2) (ExprCode line (unary_meant op (meant out.old.names operand.now)).expr) out.old out.new) }
     ensures tells { IfOk result (λ told. Tells told (unary_meant op (meant out.old.names operand.now))) }
 {
     match op {
@@ -128,7 +129,7 @@ fn lower_assign(
     out: &mut Draft,
 ) -> Result<Meaning, AllocError>
     requires { length out.old.ops + OPS_FOR_SIZE * (1 + expr_size place.now + expr_size value.now) ≤ PROGRAM_OPS }
-    ensures code { OnOk result (Adds (OPS_FOR_SIZE * (1 + expr_size place.now + expr_size value.now) - 1) (ExprCode line (assign_meant op (meant out.old.names place.now) (meant out.old.names value.now)).expr) out.old out.new) }
+    ensures code { OnOk result (Adds (OPS_FOR_SIZE * (1 + expr_size place.now + expr_size value.now) - 2) (ExprCode line (assign_meant op (meant out.old.names place.now) (meant out.old.names value.now)).expr) out.old out.new) }
     ensures tells { IfOk result (λ told. Tells told (assign_meant op (meant out.old.names place.now) (meant out.old.names value.now))) }
 {
     let told = lower_expr(place, line, out)?;

@@ -21,14 +21,14 @@ lower_assign-lower_value-requires-in-Some t c = let r = c.in_ok-told.ensures.cod
 
 pub lower_assign-returns-in_ok-put-in-None-clause-code : goal.lower_assign-returns-in_ok-put-in-None-clause-code
 lower_assign-returns-in_ok-put-in-None-clause-code t c =
-    arm_set c.args.op (OPS_FOR_SIZE * expr_size c.args.place.now - 1) (OPS_FOR_SIZE * expr_size c.args.value.now) _ c.args.line (meant c.args.out.now.names c.args.place.now) (meant c.args.out.now.names c.args.value.now) _ _ _ _ _ _
+    arm_set c.args.op (OPS_FOR_SIZE * expr_size c.args.place.now - 2) (OPS_FOR_SIZE * expr_size c.args.value.now) _ c.args.line (meant c.args.out.now.names c.args.place.now) (meant c.args.out.now.names c.args.value.now) _ _ _ _ _ _
     c.in-None.ensures (let s = some_size c.args.place.now in omega arith) c.in_ok-told.ensures.tells c.in_ok-told.ensures.code
     (value_in _ c.args.line _ c.args.out.now.names c.args.value.now _ _ (names_added c.in_ok-told.ensures.code) c.in_ok-_value-in-None.ensures.code)
     c.in_ok-put_conversion-in-None.ensures c.in_ok-put-in-None.ensures
 
 pub lower_assign-returns-in_ok-end_update-in-Some-clause-code : goal.lower_assign-returns-in_ok-end_update-in-Some-clause-code
 lower_assign-returns-in_ok-end_update-in-Some-clause-code t c =
-    arm_combine c.args.op c.in-Some.op (OPS_FOR_SIZE * expr_size c.args.place.now - 1) (OPS_FOR_SIZE * expr_size c.args.value.now + 5) _ c.args.line (meant c.args.out.now.names c.args.place.now) (meant c.args.out.now.names c.args.value.now) c.in_ok-told.told _ _ _
+    arm_combine c.args.op c.in-Some.op (OPS_FOR_SIZE * expr_size c.args.place.now - 2) (OPS_FOR_SIZE * expr_size c.args.value.now + 5) _ c.args.line (meant c.args.out.now.names c.args.place.now) (meant c.args.out.now.names c.args.value.now) c.in_ok-told.told _ _ _
     c.in-Some.ensures (let s = some_size c.args.place.now in omega arith) c.in_ok-told.ensures.tells c.in_ok-told.ensures.code
     (arm_update (OPS_FOR_SIZE * expr_size c.args.value.now) _ c.args.line c.in-Some.op (shape_as c.in_ok-told.told.scalar) (value_of (meant c.args.out.now.names c.args.value.now)) _ _ _ _ (omega arith) c.in_ok-begin_update-in-Some.ensures
     (value_in _ c.args.line _ c.args.out.now.names c.args.value.now _ _ (names_added c.in_ok-begin_update-in-Some.ensures ∙ names_added c.in_ok-told.ensures.code) c.in_ok-_value-in-Some.ensures.code)
@@ -141,16 +141,16 @@ pub lower_unary-returns-in_ok-put-in-Not-clause-code : goal.lower_unary-returns-
 lower_unary-returns-in_ok-put-in-Not-clause-code t c = arm_not c.args.op (OPS_FOR_SIZE * expr_size c.args.operand.now) _ c.args.line (meant c.args.out.now.names c.args.operand.now) _ _ _ c.in-Not.is (omega arith) c.in_ok-_told-in-Not.ensures.code c.in_ok-put-in-Not.ensures
 
 pub lower_unary-returns-in_ok-update_by_one-in-Increment-clause-code : goal.lower_unary-returns-in_ok-update_by_one-in-Increment-clause-code
-lower_unary-returns-in_ok-update_by_one-in-Increment-clause-code t c = arm_increment c.args.op (OPS_FOR_SIZE * expr_size c.args.operand.now - 1) _ c.args.line (meant c.args.out.now.names c.args.operand.now) c.in_ok-told-in-Increment.told _ _ _ c.in-Increment.is (let s = some_size c.args.operand.now in omega arith) c.in_ok-told-in-Increment.ensures.tells c.in_ok-told-in-Increment.ensures.code c.in_ok-update_by_one-in-Increment.ensures
+lower_unary-returns-in_ok-update_by_one-in-Increment-clause-code t c = arm_increment c.args.op (OPS_FOR_SIZE * expr_size c.args.operand.now - 2) _ c.args.line (meant c.args.out.now.names c.args.operand.now) c.in_ok-told-in-Increment.told _ _ _ c.in-Increment.is (let s = some_size c.args.operand.now in omega arith) c.in_ok-told-in-Increment.ensures.tells c.in_ok-told-in-Increment.ensures.code c.in_ok-update_by_one-in-Increment.ensures
 
 pub lower_unary-returns-in_ok-update_by_one-in-Decrement-clause-code : goal.lower_unary-returns-in_ok-update_by_one-in-Decrement-clause-code
-lower_unary-returns-in_ok-update_by_one-in-Decrement-clause-code t c = arm_decrement c.args.op (OPS_FOR_SIZE * expr_size c.args.operand.now - 1) _ c.args.line (meant c.args.out.now.names c.args.operand.now) c.in_ok-told-in-Decrement.told _ _ _ c.in-Decrement.is (let s = some_size c.args.operand.now in omega arith) c.in_ok-told-in-Decrement.ensures.tells c.in_ok-told-in-Decrement.ensures.code c.in_ok-update_by_one-in-Decrement.ensures
+lower_unary-returns-in_ok-update_by_one-in-Decrement-clause-code t c = arm_decrement c.args.op (OPS_FOR_SIZE * expr_size c.args.operand.now - 2) _ c.args.line (meant c.args.out.now.names c.args.operand.now) c.in_ok-told-in-Decrement.told _ _ _ c.in-Decrement.is (let s = some_size c.args.operand.now in omega arith) c.in_ok-told-in-Decrement.ensures.tells c.in_ok-told-in-Decrement.ensures.code c.in_ok-update_by_one-in-Decrement.ensures
 
 pub lower_value-put_load-requires : goal.lower_value-put_load-requires
 lower_value-put_load-requires t c = let r = c.in_ok-told.ensures.code.room in let s = some_size c.args.e.now in omega (arith, r, s)
 
 pub lower_value-returns-clause-code : goal.lower_value-returns-clause-code
-lower_value-returns-clause-code t c = adds_more (let s = some_size c.args.e.now in omega arith) (arm_value (OPS_FOR_SIZE * expr_size c.args.e.now - 1) c.args.line (meant c.args.out.now.names c.args.e.now) _ _ _ _ c.in_ok-told.ensures.tells c.in_ok-told.ensures.code c.in_ok-put_load.ensures)
+lower_value-returns-clause-code t c = adds_more (let s = some_size c.args.e.now in omega arith) (arm_value (OPS_FOR_SIZE * expr_size c.args.e.now - 2) c.args.line (meant c.args.out.now.names c.args.e.now) _ _ _ _ c.in_ok-told.ensures.tells c.in_ok-told.ensures.code c.in_ok-put_load.ensures)
 
 pub lower_links-returns : goal.lower_links-returns
 lower_links-returns t c = λ a l. links_end c.args.links.now c.loop-link.link-index c.args.line a _ _ _ _ c.loop-link-test.false (c.loop-link.invariant a l)
