@@ -1,0 +1,6 @@
+pub mod Declaring
+pub mod Joined
+pub mod Kept
+pub mod Printing
+pub mod Routines
+pub mod Stating
