@@ -1,6 +1,6 @@
 // A whole run of the one task.
 
-ghost use Rattle.std.specs.Prelude.{◌≡◌, ◌≤◌, ℕ, IfOk, MatchOption, OnOk, Some, None, [], ◌∷◌, length};
+ghost use Rattle.std.specs.Prelude.{◌≡◌, ◌≤◌, false, ℕ, IfOk, MatchOption, OnOk, Some, None, [], ◌∷◌, length};
 ghost use Rattle.uc_tree.specs.declared.limits.TheConstants.{ENTRIES_MIN, INPUT_BYTES};
 ghost use Rattle.uc_code.specs.Forward.{IsForward};
 ghost use Rattle.uc_tree.specs.Source.{Source};
@@ -94,7 +94,8 @@ fn go_on(
     };
     'requests: loop {
         let asked = ride(code, &mut work)?;
-        match keep(&mut journal, &mut reads, input, entries, asked)? {
+        let kept = keep(&mut journal, &mut reads, input, entries, asked)?;
+        match kept {
             None => return Ok(journal),
             Some(given) => answer(&mut work, given)?,
         }

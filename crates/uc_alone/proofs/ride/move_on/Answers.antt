@@ -1,5 +1,4 @@
-use Rattle.std.proofs.Common.{◌<◌, ◌≤◌, length}
-use Rattle.uc_alone.proofs.Moves.{moves_on, stays, inside_ops}
+use Rattle.uc_alone.proofs.Moves.{moves_on, stays, ended_ops, inside_ops}
 use Rattle.uc_alone.proofs.ride.move_on.Goals as goal
 
 pub returns-clause-on : goal.returns-clause-on
@@ -11,3 +10,6 @@ returns-clause-inside c e = inside_ops c.args.code.now.ops c.args.work.now c.ste
 
 pub returns-clause-stays : goal.returns-clause-stays
 returns-clause-stays c h = stays c.args.code.now.ops c.args.work.now c.step.new.work c.in_ok-how.how (c.in_ok-how.ensures.op) h
+
+pub returns-clause-ended : goal.returns-clause-ended
+returns-clause-ended c h = ended_ops c.args.code.now.ops c.args.work.now c.step.new.work c.in_ok-how.how (c.in_ok-how.ensures.op) h
