@@ -76,4 +76,3 @@ pub record Going (source : Source) (input : List ℕ) (n : ℕ) (j : Journal) (s
 -- the state in which task 0 begins
 abbrev pub start : Source → State
 start source = with_hand ((0, no_members) ∷ []) (first_state (routine_of source source.main) 0)
-

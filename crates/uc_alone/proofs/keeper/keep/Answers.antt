@@ -110,4 +110,3 @@ returns-in-Migrate-clause-kept c h =
 pub returns-in-Gone-clause-kept : goal.returns-in-Gone-clause-kept
 returns-in-Gone-clause-kept c h =
     odd (ap is_few c.in-Gone.is)
-
