@@ -1,7 +1,7 @@
 -- The code of statements leads forward.
 use Rattle.std.proofs.Common.{◌≡◌, ◌<◌, ◌≤◌, ◌⊎◌, inl, inr, ℕ, ◌+◌, pos, List, [], ◌∷◌, Option, Some, None, length, ◌∙◌, sym, ap, subst, arith}
 use Rattle.std.specs.Prelude.{slice_get}
-use Rattle.std.proofs.lemmas.Bool.{cases_lt, cases_eq}
+use Rattle.std.proofs.lemmas.Bool.{cases_lt}
 use Rattle.std.proofs.lemmas.Option.{slice_get_within}
 use Rattle.uc_tree.specs.Source.{Shape, Integer, Character, Truth, Binding, Last, Field, Array, shape_cells, Operator, Plus, Minus, Times, Over, Modulo, Equal, NotEqual, Less, AtMost, Greater, AtLeast, Expr, Literal, Variable, Element, Load, Negated, Not, AsCharacter, AsTruth, Operate, And, Or, Assign, Update, StepBehind, Fail, Item, Show, ShowText, Target, Declared, Stmt, Skip, Block, Evaluate, Declare, Print, PrintTogether, Read, Stmts, Nil, Then, Routine}
 use Rattle.uc_code.specs.declared.op.Op.{Op}
@@ -9,13 +9,12 @@ use Rattle.uc_code.specs.declared.op.Op.TheVariants as op
 use Rattle.uc_code.specs.declared.rows.Instruction.{Instruction}
 use Rattle.uc_code.specs.Forward.{LeadsForward, IsForward}
 use Rattle.uc_code.specs.Ranges.{OpAt, Nothing, One, Both, Fork, Stable}
-use Rattle.uc_code.specs.Lowered.{operator_op, item_op, ExprAt, ValueAt, PiecesAt, StmtAt, StmtsAt}
-use Rattle.uc_code.proofs.Stable.{nothing_stable, one_stable}
+use Rattle.uc_code.specs.Lowered.{operator_op, item_op, ValueAt, PiecesAt, StmtAt, StmtsAt}
+use Rattle.uc_code.proofs.Stable.{one_stable}
 use Rattle.uc_lower_expr.specs.Added.{ExprCode, ConvertCode}
-use Rattle.uc_lower_expr.proofs.Settled.{both, convert_stable, expr_stable}
+use Rattle.uc_lower_expr.proofs.Settled.{both, expr_stable}
 use Rattle.uc_lower_stmt.specs.Pieces.{ItemsCode, ValuesCode, TogetherCode, TargetsCode, StartCode, VariablesCode}
 use Rattle.uc_lower_stmt.specs.Programs.{IsLast}
-use Rattle.uc_lower_stmt.proofs.Kept.{stmts_stable}
 
 -- each op of a range leads forward
 pub record Ahead (B : List Instruction → ℕ → ℕ → Type 0) : Type 0 where

@@ -1,5 +1,5 @@
 -- The code of a straight program.
-use Rattle.std.proofs.Common.{◌≡◌, ◌≤◌, ◌<◌, ◌&&◌, true, false, Bool, ℕ, zero, suc, ◌+◌, ◌*◌, List, [], ◌∷◌, Option, Some, None, length, refl, sym, ap, subst, ◌∙◌, true≢false}
+use Rattle.std.proofs.Common.{◌≡◌, ◌≤◌, ◌&&◌, true, false, Bool, ℕ, zero, suc, List, [], ◌∷◌, Option, Some, None, length, refl, sym, ap, subst, ◌∙◌, true≢false}
 use Rattle.std.specs.Prelude.{slice_get, slice_set, if◌then◌else◌}
 use Rattle.std.proofs.lemmas.Bool.{and_parts}
 use Rattle.uc_tree.specs.declared.limits.TheConstants.{FRAME_CELLS}
@@ -108,7 +108,7 @@ program_lowered p q is c old new sites texts classes code s qe ie eo ew er h se 
     let last : IsLast code.ops meant 0 = subst (λ ops. IsLast ops meant 0) (sym co) (subst (λ (n : ℕ). IsLast new.ops meant n) at l.last) in
     let row : RoutineCode = record { entry = 0; cells = routine_cells p r } in
     let rows : code.routines ≡ row ∷ [] =
-        cr ∙ l.written ∙ ap (λ (n : ℕ). let x : RoutineCode = record { entry = n; cells = routine_cells p r } in slice_set old.routines 0 x) at ∙ ap (λ (k : List RoutineCode). slice_set k 0 row) er in
+    cr ∙ l.written ∙ ap (λ (n : ℕ). let x : RoutineCode = record { entry = n; cells = routine_cells p r } in slice_set old.routines 0 x) at ∙ ap (λ (k : List RoutineCode). slice_set k 0 row) er in
     let code_at : RoutineAt code.ops meant row = record { end = last.end; body = last.body; returns = last.returns; cells = refl } in
     record {
       lowered = record {

@@ -1,12 +1,11 @@
 -- What lowering a routine, and a straight program, gives.
-use Rattle.std.specs.Prelude.{◌≡◌, ℕ, ◌+◌, List, [], ◌∷◌, Some, slice_get, slice_set, length}
+use Rattle.std.specs.Prelude.{◌≡◌, ℕ, ◌+◌, List, [], ◌∷◌, slice_set, length}
 use Rattle.uc_tree.specs.Source as source
 use Rattle.uc_tree.specs.Programs.{Routine, RoutineItem, Program}
 use Rattle.uc_tree.specs.Cells.{routine_cells}
 use Rattle.uc_tree.specs.Resolve.{routine_meant, source_of}
 use Rattle.uc_code.specs.declared.op.Op.TheVariants as op
 use Rattle.uc_code.specs.declared.rows.Instruction.{Instruction}
-use Rattle.uc_code.specs.declared.rows.RoutineCode.{RoutineCode}
 use Rattle.uc_code.specs.Drafts.{Draft}
 use Rattle.uc_code.specs.Ranges.{OpAt}
 use Rattle.uc_code.specs.Lowered.{StmtsAt}

@@ -34,12 +34,7 @@ fn draft_of_one(alloc: Global) -> Result<Draft, AllocError>
 }
 
 // Where an item is a routine, it is routine 0, outside of classes and behind no text literal.
-fn lower_item(
-    alloc: Global,
-    sizes: &Sizes,
-    item: &Item,
-    out: &mut Draft,
-) -> Result<(), AllocError>
+fn lower_item(alloc: Global, sizes: &Sizes, item: &Item, out: &mut Draft) -> Result<(), AllocError>
     requires known { 0 < length out.old.routines }
     requires room { length out.old.ops + OPS_FOR_SIZE * item_size item.now ≤ PROGRAM_OPS }
     requires cells { (r : Lowerable) → item.now ≡ RoutineItem r → routine_cells sizes.now r ≤ FRAME_CELLS }
