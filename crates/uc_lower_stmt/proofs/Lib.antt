@@ -1,3 +1,5 @@
+pub mod Ahead
+pub mod Alone
 pub mod Declaring
 pub mod Joined
 pub mod Kept

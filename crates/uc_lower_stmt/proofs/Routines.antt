@@ -12,9 +12,10 @@ use Rattle.uc_code.specs.declared.op.Op.TheVariants as op
 use Rattle.uc_code.specs.declared.rows.RoutineCode.{RoutineCode}
 use Rattle.uc_code.specs.Drafts.{Draft}
 use Rattle.uc_code.specs.Ranges.{OpAt, Kept}
-use Rattle.uc_code.specs.Lowered.{RoutineAt}
+use Rattle.uc_code.specs.Lowered.{StmtsAt, RoutineAt}
 use Rattle.uc_code.proofs.Stable.{kept_then, kept_same}
 use Rattle.uc_lower_expr.specs.Added.{Adds, OpCode}
+use Rattle.uc_lower_stmt.specs.Programs.{IsLast}
 use Rattle.uc_lower_stmt.specs.Scoped.{LowersStmts}
 use Rattle.uc_lower_stmt.proofs.Kept.{stmts_stable}
 
@@ -23,6 +24,7 @@ pub record Written (p : Program) (r : Routine) (texts number : ℕ) (old new : D
   pub kept : Kept old.ops new.ops
   pub room : length new.ops ≤ length old.ops + OPS_FOR_SIZE * (1 + stmts_size r.body)
   pub code : RoutineAt new.ops (routine_meant p r texts) (record { entry = length old.ops; cells = routine_cells p r })
+  pub last : IsLast new.ops (routine_meant p r texts) (length old.ops)
   pub written : new.routines ≡ slice_set old.routines number (record { entry = length old.ops; cells = routine_cells p r })
   pub rows : new.rows ≡ old.rows
   pub jumps : new.jumps ≡ old.jumps
@@ -38,12 +40,8 @@ arm_routine p r texts number entry cells line place body d0 d1 d2 d3 new be le e
     subst (λ (d : Draft). Written p r texts number d0 d) (sym is) (record {
       kept = kept_then d0.ops d2.ops d3.ops k.kept g.kept;
       room = let x = k.room in let y = g.room in omega arith;
-      code = record {
-        end = length d2.ops;
-        body = (stmts_stable (stmts_meant p r.body (routine_scope p texts))).moves d2.ops d3.ops (length d0.ops) (length d2.ops) (kept_same d2.ops d3.ops (length d0.ops) (length d2.ops) g.kept) k.code;
-        returns = subst (λ (n : ℕ). OpAt d3.ops (length d2.ops) op.Return n) le g.code.here;
-        cells = refl;
-      };
+      code = record { end = length d2.ops; body = body_at; returns = return_at; cells = refl };
+      last = record { end = length d2.ops; body = body_at; returns = return_at; whole = g.code.end };
       written = ap (λ (l : List RoutineCode). slice_set l number (record { entry = length d0.ops; cells = routine_cells p r })) same;
       rows = ap (λ (d : Draft). d.rows) g.rest ∙ ap (λ (d : Draft). d.rows) k.rest;
       jumps = ap (λ (d : Draft). d.jumps) g.rest ∙ ap (λ (d : Draft). d.jumps) k.rest;
@@ -51,6 +49,12 @@ arm_routine p r texts number entry cells line place body d0 d1 d2 d3 new be le e
   where
     k : LowersStmts p r.body (record d0 { place = place; scopes = 0; names = []; cells = 0; texts = texts }) d2
     k = subst (λ (d : Draft). LowersStmts p r.body d d2) e1 (subst (λ (b : Stmts). LowersStmts p b d1 d2) be h)
+
+    body_at : StmtsAt d3.ops (stmts_meant p r.body (routine_scope p texts)) (length d0.ops) (length d2.ops)
+    body_at = (stmts_stable (stmts_meant p r.body (routine_scope p texts))).moves d2.ops d3.ops (length d0.ops) (length d2.ops) (kept_same d2.ops d3.ops (length d0.ops) (length d2.ops) g.kept) k.code
+
+    return_at : OpAt d3.ops (length d2.ops) op.Return r.brace.line
+    return_at = subst (λ (n : ℕ). OpAt d3.ops (length d2.ops) op.Return n) le g.code.here
 
     same : d3.routines ≡ d0.routines
     same = ap (λ (d : Draft). d.routines) g.rest ∙ ap (λ (d : Draft). d.routines) k.rest

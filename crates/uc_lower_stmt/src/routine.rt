@@ -7,6 +7,7 @@ ghost use Rattle.uc_tree.specs.Cells.{routine_cells};
 ghost use Rattle.uc_tree.specs.Resolve.{routine_meant};
 ghost use Rattle.uc_code.specs.Ranges.{Kept};
 ghost use Rattle.uc_code.specs.Lowered.{RoutineAt};
+ghost use Rattle.uc_lower_stmt.specs.Programs.{IsLast};
 
 use crate::stmt::lower_stmts;
 use std::alloc::{AllocError, Global};
@@ -36,6 +37,7 @@ pub fn lower_routine(
     ensures kept { OnOk result (Kept out.old.ops out.new.ops) }
     ensures room { OnOk result (length out.new.ops ≤ length out.old.ops + OPS_FOR_SIZE * (1 + stmts_size routine.now.body)) }
     ensures code { OnOk result (RoutineAt out.new.ops (routine_meant sizes.now routine.now texts) (record { entry = length out.old.ops; cells = routine_cells sizes.now routine.now })) }
+    ensures last { OnOk result (IsLast out.new.ops (routine_meant sizes.now routine.now texts) (length out.old.ops)) }
     ensures written { OnOk result (out.new.routines ≡ slice_set out.old.routines number (record { entry = length out.old.ops; cells = routine_cells sizes.now routine.now })) }
     ensures rows { OnOk result (out.new.rows ≡ out.old.rows) }
     ensures jumps { OnOk result (out.new.jumps ≡ out.old.jumps) }
