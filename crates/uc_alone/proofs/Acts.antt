@@ -16,13 +16,13 @@ use Rattle.uc_meaning.specs.declared.request.Piece.{Piece}
 use Rattle.uc_meaning.specs.declared.request.Request.{Request}
 use Rattle.uc_meaning.specs.declared.request.Request.TheVariants as ask
 use Rattle.uc_meaning.specs.declared.got.Got.{Got}
-use Rattle.uc_meaning.specs.Journal.{Journal, entry, holds, is_over, is_ending, own_object}
+use Rattle.uc_meaning.specs.Journal.{Journal, begin, entry, holds, is_over, is_ending}
 use Rattle.uc_meaning.specs.Queues.{waiting, next, successor, first_ended, ends_first, none_running, none_ready, none_served, all_ticks}
 use Rattle.uc_meaning.specs.Reading.{next_read, bytes_used, has_failed, used_from, used_by, failed_from, fails_by}
 use Rattle.uc_meaning.specs.Acts.{act, entries_of, admission, verdict, ending, fitted, closing, prints, read_entry, truth}
 use Rattle.uc_meaning.proofs.Open.{any_push}
 use Rattle.uc_alone.specs.declared.keeper.Reads.{Reads}
-use Rattle.uc_alone.specs.Alone.{alone_options, Unseen, silent, AllUnseen, none, one, limited, Facts}
+use Rattle.uc_alone.specs.Alone.{alone_options, opening, silent, AllUnseen, none, one, limited, Facts}
 use Rattle.uc_alone.specs.Kept.{Kept, goes, over, Closing, by_done, by_fault, by_limit, Ended, shown, ended, faulted, ReadsOf, reads_after as reads_after_got}
 use Rattle.uc_alone.proofs.Unseen.{print_unseen, read_unseen, fail_unseen}
 use Rattle.uc_alone.proofs.Facts.{silent_act}
@@ -219,3 +219,11 @@ two_more old mid new d e k l m n =
 -- a request is what it was found to be
 pub by_request : (n : ℕ) (input : List ℕ) (old new : Journal) (o : Option Answer) (asked : Asked) (r : Request) → asked.request ≡ r → Kept n input old (record { request = r; line = asked.line }) new o → Kept n input old asked new o
 by_request n input old new o asked r e k = subst (λ q. Kept n input old (record { request = q; line = asked.line }) new o) (sym e) k
+
+pub reads_opening : (n : ℕ) → ReadsOf (opening n) (record { used = 0; failed = false })
+unfolding bytes_used has_failed
+reads_opening n = record { used = refl; failed = refl }
+
+pub opened_by : (n : ℕ) (start mid new : Journal) (b d : Entry) → start ≡ [] → b ≡ begin (alone_options n) → d ≡ silent kind.Dispatch (pos 0) (pos 0) (pos 0) (pos 0) → mid ≡ start ++ b ∷ [] → new ≡ mid ++ d ∷ [] → new ≡ opening n
+opened_by n start mid new b d e k l m w =
+    w ∙ ap (λ j. j ++ d ∷ []) (m ∙ ap (λ j. j ++ b ∷ []) e) ∙ ap (λ x. x ∷ (d ∷ [])) k ∙ ap (λ x. begin (alone_options n) ∷ (x ∷ [])) l

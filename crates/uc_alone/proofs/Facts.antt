@@ -1,18 +1,14 @@
 -- What a journal of one task keeps while no ending stands.
-use Rattle.std.proofs.Common.{◌≡◌, ℕ, ℤ, ◌+◌, ◌≤◌, ◌<◌, Bool, true, false, ◌&&◌, ◌||◌, cond, List, [], ◌∷◌, ◌++◌, Option, Some, None, refl, sym, ap, ◌∙◌, subst, arith, length, add-one, append-nil, append_assoc, length-append}
-use Rattle.std.specs.Prelude.{pos, nat_le}
-use Rattle.std.specs.List.{list_all, list_any, count_by, range_with_len}
-use Rattle.std.proofs.lemmas.Bool.{le-leb}
-use Rattle.std.proofs.lemmas.List.Folds.{list_any-append}
+use Rattle.std.proofs.Common.{◌≡◌, ℕ, ℤ, ◌+◌, Bool, false, ◌&&◌, ◌||◌, cond, List, [], ◌∷◌, ◌++◌, Some, None, refl, sym, ap, ◌∙◌, subst, length, add-one, append-nil, append_assoc}
+use Rattle.std.specs.Prelude.{nat_le}
+use Rattle.std.specs.List.{list_all, count_by, range_with_len}
 use Rattle.uc_meaning.specs.declared.entry.Entry.{Entry}
 use Rattle.uc_meaning.specs.declared.entry.EntryKind.{EntryKind}
 use Rattle.uc_meaning.specs.declared.entry.EntryKind.TheVariants as kind
-use Rattle.uc_meaning.specs.declared.entry.Options.{Options}
-use Rattle.uc_meaning.specs.declared.request.Request.{Request}
 use Rattle.uc_meaning.specs.declared.request.Asked.{Asked}
-use Rattle.uc_meaning.specs.Journal.{Journal, entry, begin, entries_at, is_over, is_fault, held, own_object}
+use Rattle.uc_meaning.specs.Journal.{Journal, entries_at, is_over, held, own_object}
 use Rattle.uc_meaning.specs.Queues.{running, waiting, stacked, used, first_ended, all_ticks, none_running, none_served, none_ready, processor_count, is_processor, is_nobody}
-use Rattle.uc_meaning.specs.Acts.{verdict, act, closing, fitted, ending, entries_of, is_faulty, dispatch}
+use Rattle.uc_meaning.specs.Acts.{verdict, act, closing, fitted, ending, entries_of, is_faulty}
 use Rattle.uc_alone.specs.Alone.{alone_options, opening, Unseen, silent, AllUnseen, none, one, limited, Facts}
 use Rattle.uc_alone.proofs.Unseen.{goes_on, not_ended, same_held, same_own, same_waiting, same_stacked, same_running, same_used, same_ticks}
 

@@ -1,29 +1,22 @@
 -- A prefix of a run from which its one task goes on, and what each of its requests makes of it.
-use Rattle.std.proofs.Common.{◌≡◌, ℕ, suc, ℤ, ◌+◌, ◌-◌, ◌≤◌, ◌<◌, Bool, true, false, cond, ◌&&◌, ◌||◌, List, [], ◌∷◌, ◌++◌, Option, Some, None, refl, sym, ap, ◌∙◌, subst, append-nil, append_assoc, arith, length, map, lit<}
-use Rattle.std.specs.Prelude.{pos, nat_le}
+use Rattle.std.proofs.Common.{◌≡◌, ℕ, ◌+◌, ◌-◌, ◌≤◌, ◌<◌, Bool, true, false, cond, ◌||◌, List, [], ◌∷◌, ◌++◌, Some, refl, sym, ap, ◌∙◌, subst, arith, length, lit<}
 use Rattle.std.specs.List.{Contains}
 use Rattle.std.proofs.lemmas.Bool.{le-leb, lt-leb}
 use Rattle.std.proofs.lemmas.List.Folds.{list_any-append}
-use Rattle.uc_tree.specs.Source.{Source, routine_of}
+use Rattle.uc_tree.specs.Source.{Source}
 use Rattle.uc_meaning.specs.declared.entry.Entry.{Entry}
-use Rattle.uc_meaning.specs.declared.entry.EntryKind.{EntryKind}
-use Rattle.uc_meaning.specs.declared.entry.EntryKind.TheVariants as kind
-use Rattle.uc_meaning.specs.declared.entry.Options.{Options}
 use Rattle.uc_meaning.specs.declared.request.Answer.{Answer}
 use Rattle.uc_meaning.specs.declared.request.Answer.TheVariants as answer
 use Rattle.uc_meaning.specs.declared.request.Asked.{Asked}
 use Rattle.uc_meaning.specs.declared.request.Request.{Request}
-use Rattle.uc_meaning.specs.declared.request.Request.TheVariants as ask
 use Rattle.uc_meaning.specs.Executions.{find}
-use Rattle.uc_meaning.specs.Journal.{Journal, entry, begin, is_over, is_ending, is_fault, held, own_object, first_or_0}
-use Rattle.uc_meaning.specs.Queues.{ready, running, waiting, next, successor, open_processors, first_ended, ends_first, none_running, none_ready, none_served, all_ticks}
-use Rattle.uc_meaning.specs.Reading.{bytes_used, next_read, has_failed}
-use Rattle.uc_meaning.specs.Quiet.{State, Members, first_state, no_members, print_of}
+use Rattle.uc_meaning.specs.Journal.{Journal, begin, is_over, is_ending, held, first_or_0}
+use Rattle.uc_meaning.specs.Queues.{ready, running, open_processors}
+use Rattle.uc_meaning.specs.Quiet.{State, Members}
 use Rattle.uc_meaning.specs.Rides.{Rides}
-use Rattle.uc_meaning.specs.Acts.{act, entries_of, admission, verdict, ending, fitted, closing, prints, read_entry, truth}
-use Rattle.uc_meaning.specs.Runs.{World, Runs, begun, more, acts, gives, Serves, IsPrefix, IsRun, drawn, left, first_world, hand_of, with_hand, world_after, asking, answer_of, answered, or_else}
-use Rattle.uc_meaning.proofs.Open.{any_push}
-use Rattle.uc_alone.specs.Alone.{alone_options, opening, AllUnseen, limited, Facts, Going, start}
+use Rattle.uc_meaning.specs.Acts.{act, entries_of}
+use Rattle.uc_meaning.specs.Runs.{World, Runs, begun, more, acts, gives, Serves, IsRun, drawn, left, first_world, hand_of, with_hand, world_after, asking, answer_of, answered, or_else}
+use Rattle.uc_alone.specs.Alone.{alone_options, opening, AllUnseen, limited, Going, start}
 use Rattle.uc_alone.proofs.Facts.{facts_opening, facts_more, silent_act}
 use Rattle.uc_alone.proofs.Hands.{inside_of, ride_keeps, keys}
 

@@ -1,5 +1,5 @@
 -- A ride keeps the objects that its task is inside.
-use Rattle.std.proofs.Common.{◌≡◌, ℕ, ℤ, ◌+◌, Bool, true, false, cond, List, [], ◌∷◌, Option, Some, None, refl, sym, ap, ◌∙◌, subst, map}
+use Rattle.std.proofs.Common.{◌≡◌, ℕ, Bool, true, false, cond, List, [], ◌∷◌, Option, Some, None, refl, sym, ap, ◌∙◌, subst, map}
 use Rattle.std.specs.Prelude.{nat_eq}
 use Rattle.std.proofs.lemmas.Bool.{eqb-true}
 use Rattle.uc_meaning.specs.declared.exec.Exec.{Exec}
@@ -9,8 +9,8 @@ use Rattle.uc_meaning.specs.declared.exec.Owner.{Owner}
 use Rattle.uc_meaning.specs.declared.exec.Owner.TheVariants.{Frame, Fields}
 use Rattle.uc_meaning.specs.declared.request.Asked.{Asked}
 use Rattle.uc_meaning.specs.declared.request.Piece.{Piece}
-use Rattle.uc_tree.specs.Source.{Shape, Expr, Literal, Variable, Element, Load, Negated, Not, AsCharacter, AsTruth, Operate, And, Or, Assign, Update, StepBehind, Fail, Item, Stmt, Skip, Block, Evaluate, Declare, Print, PrintTogether, Read, Nil, Then}
-use Rattle.uc_meaning.specs.Executions.{update, set_members, members_at, change_in, change, with_frames, with_owned, exec_eq, values_cleared}
+use Rattle.uc_tree.specs.Source.{Shape, Expr, Literal, Variable, Element, Load, Negated, Not, AsCharacter, AsTruth, Operate, And, Or, Assign, Update, StepBehind, Fail, Stmt, Skip, Block, Evaluate, Declare, Print, PrintTogether, Read, Nil, Then}
+use Rattle.uc_meaning.specs.Executions.{update, set_members, members_at, change_in, change, with_owned, exec_eq, values_cleared}
 use Rattle.uc_meaning.specs.Quiet as q
 use Rattle.uc_meaning.specs.Quiet.{State, Env, Members, Todo, Step, Goes, Ticks, Asks, Outcome, Gives, Faults, Eval, LoadNow, ElementNow, NegateNow, NotNow, CharacterNow, TruthNow, OperateNow, CopyNow, CopyBelowNow, DropNow, DropBelowNow, StoreNow, KeepNow, Choose, PrintNow, TextNow, GatherNow, FlushNow, ReadNow, ClearNow, Items, Values, Pieces, Targets, Variables, Do, Rest, Within, Finish, Value, Number, Place, Running, Nothing, quiet, act_todo, act, eval_step, stmt_step, outcome_step, element_step, print_step, flush_step, written, cleared, outcome, int_outcome, index_in, number, top, below}
 use Rattle.uc_meaning.specs.Rides.{Rides, slices, goes_on, ticks, asks}

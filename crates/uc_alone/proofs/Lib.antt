@@ -5,3 +5,5 @@ pub mod Going
 pub mod Acts
 pub mod Moves
 pub mod Rode
+pub mod Started
+pub mod Requests

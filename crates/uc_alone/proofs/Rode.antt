@@ -1,21 +1,18 @@
 -- Ops, one after another, are a ride of the source.
-use Rattle.std.proofs.Common.{◌≡◌, ℕ, suc, List, [], ◌∷◌, Bool, true, false, Option, Some, None, refl, sym, ap, ◌∙◌, subst}
+use Rattle.std.proofs.Common.{◌≡◌, ℕ, suc, List, [], ◌∷◌, true, Option, Some, None, refl, sym, subst}
 use Rattle.uc_meaning.specs.declared.request.Asked.{Asked}
-use Rattle.uc_meaning.specs.declared.request.Request.{Request}
-use Rattle.uc_meaning.specs.declared.request.Request.TheVariants as ask
 use Rattle.uc_meaning.specs.declared.request.Piece.{Piece}
-use Rattle.uc_tree.specs.Source.{Shape, Expr, Literal, Variable, Element, Load, Negated, Not, AsCharacter, AsTruth, Operate, And, Or, Assign, Update, StepBehind, Fail, Item, Stmt, Skip, Block, Evaluate, Declare, Print, PrintTogether, Read, Nil, Then}
-use Rattle.uc_meaning.specs.Quiet.{State, Env, Todo, Step, Goes, Ticks, Asks, Outcome, Gives, Faults, Eval, LoadNow, ElementNow, NegateNow, NotNow, CharacterNow, TruthNow, OperateNow, CopyNow, CopyBelowNow, DropNow, DropBelowNow, StoreNow, KeepNow, Choose, PrintNow, TextNow, GatherNow, FlushNow, ReadNow, ClearNow, Items, Values, Pieces, Targets, Variables, Do, Rest, Within, Finish, Value, quiet, act_todo, act, eval_step, stmt_step, outcome_step, element_step, print_step, flush_step, outcome, int_outcome, index_in, number, top, below}
-use Rattle.uc_meaning.specs.Rides.{Rides, slices, goes_on, ticks, asks, asked_in}
+use Rattle.uc_tree.specs.Source.{Shape, Expr, Literal, Variable, Element, Load, Negated, Not, AsCharacter, AsTruth, Operate, And, Or, Assign, Update, StepBehind, Fail, Stmt, Skip, Block, Evaluate, Declare, Print, PrintTogether, Read, Nil, Then}
+use Rattle.uc_meaning.specs.Quiet.{State, Env, Todo, Step, Goes, Ticks, Asks, Outcome, Gives, Faults, Eval, LoadNow, ElementNow, NegateNow, NotNow, CharacterNow, TruthNow, OperateNow, CopyNow, CopyBelowNow, DropNow, DropBelowNow, StoreNow, KeepNow, Choose, PrintNow, TextNow, GatherNow, FlushNow, ReadNow, ClearNow, Items, Values, Pieces, Targets, Variables, Do, Rest, Within, Finish, Value, quiet, act_todo, act, eval_step, stmt_step, outcome_step, element_step, print_step, flush_step, outcome, index_in, number, top, below}
+use Rattle.uc_meaning.specs.Rides.{Rides, slices, goes_on, ticks, asks}
 use Rattle.uc_code.specs.declared.rows.Instruction.{Instruction}
 use Rattle.uc_frames.specs.Machine.{Machine}
 use Rattle.uc_frames.specs.Stands.{Stands}
-use Rattle.uc_step.specs.declared.stepped.Stepped.{Stepped}
 use Rattle.uc_step.specs.declared.stepped.Stepped.TheVariants.{Quiet, Tick, Ask}
 use Rattle.uc_step.specs.Follow.{StandsAfter, Follow}
-use Rattle.uc_step.proofs.Rode.{Onwards, quiet_rides, Asking, ask_rides}
+use Rattle.uc_step.proofs.Rode.{quiet_rides, ask_rides}
 use Rattle.uc_alone.specs.Kept.{is_few}
-use Rattle.uc_alone.specs.Rode.{Rode, OnWay, HasCome, HasAsked}
+use Rattle.uc_alone.specs.Rode.{HasCome, HasAsked}
 
 -- a step of straight code: no tick, and few requests
 abbrev pub IsPlain : Step → Type 0

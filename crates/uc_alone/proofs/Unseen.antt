@@ -1,5 +1,5 @@
 -- An entry of task 0 that prints, reads or asks for failures, without ticks, changes no filter of a journal.
-use Rattle.std.proofs.Common.{◌≡◌, ℕ, ℤ, Bool, true, false, ◌&&◌, ◌||◌, ◌==◌, add-zero, List, [], ◌∷◌, ◌++◌, Option, None, refl, ap, ◌∙◌, append-nil}
+use Rattle.std.proofs.Common.{◌≡◌, ℕ, ℤ, Bool, true, false, ◌&&◌, ◌||◌, ◌==◌, add-zero, List, [], ◌∷◌, ◌++◌, Option, refl, ap, ◌∙◌, append-nil}
 use Rattle.std.specs.Prelude.{reverse}
 use Rattle.std.specs.List.{filter, sum_by}
 use Rattle.std.proofs.lemmas.List.Elements.{filter-append}
@@ -8,7 +8,7 @@ use Rattle.uc_meaning.specs.declared.entry.Entry.{Entry}
 use Rattle.uc_meaning.specs.declared.entry.EntryKind.{EntryKind}
 use Rattle.uc_meaning.specs.declared.entry.EntryKind.TheVariants as kind
 use Rattle.uc_meaning.specs.Open.{still_open}
-use Rattle.uc_meaning.specs.Journal.{Journal, entry, is_over, is_ending, is_fault, entries_at, held, own_object, owns, first_or_0, where_true, is_task, lets_in, moves}
+use Rattle.uc_meaning.specs.Journal.{Journal, is_over, is_ending, entries_at, held, own_object, owns, first_or_0, where_true, is_task, lets_in, moves}
 use Rattle.uc_meaning.specs.Queues.{Noted, noted, noted_from, actor, clusters, note, running, waiting, stacked, used, first_ended, all_ticks, ends_first, spent, dispatches, puts_on, takes_off, calls, takes, stacks, admits}
 use Rattle.uc_alone.specs.Alone.{Unseen, silent}
 use Rattle.uc_meaning.proofs.Open.{still_open_silent, still_open_begins, any_push, or_false}

@@ -1,5 +1,5 @@
 -- One task on one processor: the options of such a run, its entries, and what a journal of it keeps.
-use Rattle.std.specs.Prelude.{◌≡◌, ℕ, ℤ, pos, Bool, false, List, [], ◌∷◌, Option, None}
+use Rattle.std.specs.Prelude.{◌≡◌, ℕ, ℤ, pos, false, List, [], ◌∷◌, None}
 use Rattle.uc_tree.specs.declared.limits.TheConstants.{PROCESSORS_DEFAULT, SLICE_DEFAULT, TICKS_DEFAULT}
 use Rattle.uc_tree.specs.Source.{Source, routine_of}
 use Rattle.uc_meaning.specs.declared.entry.Entry.{Entry}
@@ -76,4 +76,3 @@ pub record Going (source : Source) (input : List ℕ) (n : ℕ) (j : Journal) (s
 -- the state in which task 0 begins
 abbrev pub start : Source → State
 start source = with_hand ((0, no_members) ∷ []) (first_state (routine_of source source.main) 0)
-

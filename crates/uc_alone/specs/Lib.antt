@@ -1,3 +1,5 @@
 pub mod Alone
 pub mod Kept
+pub mod Loop
 pub mod Rode
+pub mod Run

@@ -1,12 +1,17 @@
 -- What a ride of straight code does: steps up to what the task asks.
-use Rattle.std.specs.Prelude.{◌≡◌, ◌≤◌, ◌<◌, ℕ, List, length}
+use Rattle.std.specs.Prelude.{◌<◌, List, length}
 use Rattle.uc_meaning.specs.declared.request.Asked.{Asked}
+use Rattle.uc_meaning.specs.declared.request.Request.TheVariants as ask
 use Rattle.uc_meaning.specs.Quiet.{State}
 use Rattle.uc_meaning.specs.Rides.{Rides}
 use Rattle.uc_code.specs.declared.rows.Instruction.{Instruction}
 use Rattle.uc_frames.specs.Machine.{Machine}
 use Rattle.uc_frames.specs.Stands.{Stands}
 use Rattle.uc_step.specs.Follow.{StandsAfter}
+
+-- what is asked where no op is left
+abbrev pub end_asked : Asked
+end_asked = record { request = ask.End; line = 0 }
 
 module _ (ops : List Instruction) where
   -- from this state the task asks this, without a tick, and the machine stands for the state that it is then in

@@ -57,7 +57,13 @@ pub fn print_entry(piece: Piece) -> Entry
 pub fn got_entry(form: u8, got: Got, used: u32) -> Entry
     ensures { result ≡ read_entry 0 0 0 form got used }
 {
-    plain_entry(EntryKind::Read, i64::from(form), got.value, number_of(got.failed), i64::from(used) + i64::from(got.taken))
+    plain_entry(
+        EntryKind::Read,
+        i64::from(form),
+        got.value,
+        number_of(got.failed),
+        i64::from(used) + i64::from(got.taken),
+    )
 }
 
 /// The entry that tells whether a read failed.

@@ -167,13 +167,7 @@ fn keep_fault(
         push_limit(journal)?;
         return Ok(None);
     }
-    journal.push(plain_entry(
-        EntryKind::Fault,
-        i64::from(number),
-        i64::from(line),
-        0,
-        0,
-    ))?;
+    journal.push(plain_entry(EntryKind::Fault, i64::from(number), i64::from(line), 0, 0))?;
     Ok(None)
 }
 

@@ -2,5 +2,8 @@
 #![tactic(auto)]
 
 mod entries;
-mod keeper;
+pub mod keeper;
 mod ride;
+mod run;
+
+pub use run::run_alone;

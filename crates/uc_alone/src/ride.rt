@@ -6,7 +6,8 @@ ghost use Rattle.uc_meaning.specs.Quiet.{State};
 ghost use Rattle.uc_frames.specs.Stands.{Stands};
 ghost use Rattle.uc_step.specs.Follow.{Follow};
 ghost use Rattle.uc_step.specs.declared.stepped.Stepped.TheVariants as stepped;
-ghost use Rattle.uc_alone.specs.Rode.{HasAsked, GoesOn};
+ghost use Rattle.uc_meaning.specs.declared.request.Request.TheVariants as ask;
+ghost use Rattle.uc_alone.specs.Rode.{HasAsked, GoesOn, end_asked};
 
 use std::alloc::AllocError;
 use uc_code::code::Code;
@@ -21,6 +22,8 @@ fn move_on(code: &Code, work: &mut Work) -> Result<Stepped, AllocError>
     requires forward { IsForward code.now.ops }
     ensures source { IfOk result (λ how. (s : State) → Stands code.now.ops work.old s → Follow code.now.ops how work.new s) }
     ensures on { IfOk result (λ how. GoesOn code.now.ops work.old work.new) }
+    ensures stays { IfOk result (λ how. length code.now.ops ≤ work.old.control.next → work.new.control.next ≡ work.old.control.next) }
+    ensures ended { IfOk result (λ how. length code.now.ops ≤ work.old.control.next → how ≡ stepped.Ask end_asked) }
     ensures inside { IfOk result (λ how. how ≡ stepped.Quiet → work.old.control.next < length code.now.ops) }
 {
     let how = step(code, work)?;
@@ -33,6 +36,7 @@ pub(crate) fn ride(code: &Code, work: &mut Work) -> Result<Asked, AllocError>
     requires forward { IsForward code.now.ops }
     ensures asked { IfOk result (λ asked. HasAsked code.now.ops work.old asked work.new) }
     ensures on { IfOk result (λ asked. GoesOn code.now.ops work.old work.new) }
+    ensures ended { IfOk result (λ asked. length code.now.ops ≤ work.old.control.next → asked.request ≡ ask.End) }
 {
     'ops: loop {
         let how = move_on(code, work)?;

@@ -13,7 +13,7 @@ use Rattle.uc_code.specs.declared.rows.RoutineCode.{RoutineCode}
 
 -- the ops so far, the rows so far, the jumps that are not patched yet, the place at which lowering stands, how many
 -- scopes the routine has had so far, the names in scope from the outermost on, how many cells the routine has so far,
--- and what is known of each routine
+-- how many text literals stand before this place, and what is known of each routine
 pub record Draft : Type 0 where
   pub ops : List Instruction
   pub rows : List HandlerRow
@@ -22,6 +22,7 @@ pub record Draft : Type 0 where
   pub scopes : ℕ
   pub names : List Known
   pub cells : ℕ
+  pub texts : ℕ
   pub routines : List RoutineCode
 
 -- one more op

@@ -24,6 +24,7 @@ pub struct Draft {
     scopes: u32,
     names: Vec<Known>,
     cells: u32,
+    texts: u32,
     routines: Vec<RoutineCode>,
 }
 
@@ -34,7 +35,7 @@ impl Model for Draft {
 
     ghost Value = { Draft };
 
-    ghost view = { λ d. record { ops = d.ops.items; rows = d.rows.items; jumps = d.jumps.items; place = d.place; scopes = d.scopes; names = d.names.items; cells = d.cells; routines = d.routines.items } };
+    ghost view = { λ d. record { ops = d.ops.items; rows = d.rows.items; jumps = d.jumps.items; place = d.place; scopes = d.scopes; names = d.names.items; cells = d.cells; texts = d.texts; routines = d.routines.items } };
 
     ghost invariant = { λ d. length d.ops.items ≤ PROGRAM_OPS };
 }
@@ -42,7 +43,7 @@ impl Model for Draft {
 impl Draft {
     /// No op, no row and no name. `routines` is the code of each routine, as far as it is known.
     pub fn new(alloc: Global, routines: Vec<RoutineCode>) -> Draft
-        ensures { result ≡ record { ops = []; rows = []; jumps = []; place = record { class = 0; routine = 0; scope = 0 }; scopes = 0; names = []; cells = 0; routines = routines.items } }
+        ensures { result ≡ record { ops = []; rows = []; jumps = []; place = record { class = 0; routine = 0; scope = 0 }; scopes = 0; names = []; cells = 0; texts = 0; routines = routines.items } }
     {
         Draft {
             ops: Vec::new(alloc),
@@ -56,6 +57,7 @@ impl Draft {
             scopes: 0,
             names: Vec::new(alloc),
             cells: 0,
+            texts: 0,
             routines,
         }
     }
@@ -83,6 +85,13 @@ impl Draft {
         ensures { self.new ≡ record self.old { ops = patched self.old.ops at op } }
     {
         patch_op(&mut self.ops, at, op);
+    }
+
+    /// Drops all ops but the first ones, so many.
+    pub fn cut_back(&mut self, count: u32)
+        ensures { self.new ≡ record self.old { ops = take count self.old.ops } }
+    {
+        self.ops.truncate(count as usize);
     }
 
     /// How many rows there are.
@@ -154,9 +163,9 @@ impl Draft {
         self.place
     }
 
-    /// Begins a routine of a class: no name is in scope, and it has no cell yet.
-    pub fn begin_routine(&mut self, class: u32, routine: u32)
-        ensures { self.new ≡ record self.old { place = record { class = class; routine = routine; scope = 0 }; scopes = 0; names = []; cells = 0 } }
+    /// Begins a routine of a class, behind so many text literals: no name is in scope, and it has no cell yet.
+    pub fn begin_routine(&mut self, class: u32, routine: u32, texts: u32)
+        ensures { self.new ≡ record self.old { place = record { class = class; routine = routine; scope = 0 }; scopes = 0; names = []; cells = 0; texts = texts } }
     {
         self.place = Place {
             class,
@@ -166,6 +175,7 @@ impl Draft {
         self.scopes = 0;
         self.names.clear();
         self.cells = 0;
+        self.texts = texts;
     }
 
     /// Writes down where the code of a routine begins, and the cells of its frame.
@@ -204,6 +214,24 @@ impl Draft {
         ensures { result ≡ self.now.cells }
     {
         self.cells
+    }
+
+    /// How many text literals stand before this place in the program.
+    pub fn texts(&self) -> u32
+        ensures { result ≡ self.now.texts }
+    {
+        self.texts
+    }
+
+    /// One more text literal. Its number is how many there were before.
+    pub fn add_text(&mut self) -> u32
+        requires { self.old.texts < PROGRAM_SIZE }
+        ensures number { result ≡ self.old.texts }
+        ensures counted { self.new ≡ record self.old { texts = self.old.texts + 1 } }
+    {
+        let number = self.texts;
+        self.texts += 1;
+        number
     }
 
     /// One more name in scope, whose variable takes the next cells, so many.

@@ -5,7 +5,6 @@ use Rattle.uc_tree.specs.declared.kinds.Base.{Base}
 use Rattle.uc_tree.specs.declared.kinds.Base.TheVariants as base
 use Rattle.uc_tree.specs.Names.{same_name}
 use Rattle.uc_tree.specs.Numbering.{main_name, unhandled_name}
-use Rattle.uc_tree.specs.Expressions.{Expr}
 use Rattle.uc_tree.specs.Statements.{Declarator, Stmt, Declare, Stmts, NoStmts, MoreStmts}
 use Rattle.uc_meaning.specs.declared.rule.Scalar.{Scalar}
 use Rattle.uc_meaning.specs.declared.rule.Scalar.TheVariants as scalar
@@ -43,7 +42,7 @@ scalar_of base.Bool = scalar.Bool
 scalar_of _ = scalar.Int
 
 -- what a variable of this base, with or without a length, stands for
-abbrev pub variable : Scalar → Option Expr → What
+abbrev pub variable : {A : Type 0} → Scalar → Option A → What
 variable s None = what.Place s
 variable s (Some len) = what.Row s
 

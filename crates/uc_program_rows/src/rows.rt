@@ -1,5 +1,7 @@
 // The answer to one text.
 
+ghost use Rattle.std.specs.Prelude.{◌+◌, ◌<◌, ◌^◌, length};
+
 use std::alloc::{AllocError, Global};
 use uc_grammar::fault::ParseFault;
 use uc_lex::{lex, pos_at};
@@ -68,7 +70,9 @@ fn of_text(alloc: Global, text: &[u8]) -> Result<String, AllocError> {
     }
 }
 
-fn of_tokens(alloc: Global, text: &[u8], tokens: &[Token]) -> Result<String, AllocError> {
+fn of_tokens(alloc: Global, text: &[u8], tokens: &[Token]) -> Result<String, AllocError>
+    requires fits { length text.now + 1 < 2 ^ 32 }
+{
     if tokens.len() > PROGRAM_BYTES as usize {
         return format!(in alloc; "too long\n");
     }
@@ -91,7 +95,9 @@ fn at(
     tokens: &[Token],
     token: u32,
     fault: &str,
-) -> Result<String, AllocError> {
+) -> Result<String, AllocError>
+    requires fits { length text.now + 1 < 2 ^ 32 }
+{
     let pos = match tokens.get(token as usize) {
         Some(token) => token.pos,
         None => pos_at(text, text.len() as u32),

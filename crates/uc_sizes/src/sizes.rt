@@ -117,6 +117,18 @@ impl<'a> Sizes<'a> {
         elements_of(&named, declarator)
     }
 
+    /// How many elements a declarator of a routine declares.
+    pub fn elements_of_variable(&self, declarator: &Declarator) -> u32
+        ensures { result ≡ elements (value_of_name (constants_of self.now.items)) declarator.now }
+    {
+        let named = Named {
+            constants: &self.constants,
+            values: &self.values,
+            hidden: &[],
+        };
+        elements_of(&named, declarator)
+    }
+
     // What a variable holds.
     fn held(&self, base: &Base, declarator: &Declarator) -> Held
         ensures { result ≡ held_by (classes_of self.now.items) (value_of_name (constants_of self.now.items)) base.now declarator.now }

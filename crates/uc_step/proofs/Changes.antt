@@ -1,5 +1,5 @@
 -- What is done to a task is done to its parts.
-use Rattle.std.proofs.Common.{◌≡◌, ℕ, List, [], ◌∷◌, length, Option, Some, None, Bool, true, false, refl, sym, subst, ap, ◌∙◌, map}
+use Rattle.std.proofs.Common.{◌≡◌, ℕ, List, Option, Some, None, Bool, true, false, refl, subst, ap, ◌∙◌, map}
 use Rattle.std.specs.Prelude.{nat_eq, if◌then◌else◌}
 use Rattle.std.proofs.Math.ListN.{get_or-map}
 use Rattle.uc_meaning.specs.declared.exec.Exec.{Exec}
@@ -8,8 +8,8 @@ use Rattle.uc_meaning.specs.declared.exec.Home.TheVariants.{Task, Object}
 use Rattle.uc_meaning.specs.declared.exec.Owner.{Owner}
 use Rattle.uc_meaning.specs.declared.exec.Owner.TheVariants.{Frame, Fields}
 use Rattle.uc_meaning.specs.declared.request.Piece.{Piece}
-use Rattle.uc_meaning.specs.Executions.{Execution, Members, Env, find, exec_eq, at_depth, frame_changed, list_in, values_in, frames_in, members_at, set_members, slot_in, parked_at, change_in, change, frames_of, frames_by, frames_changed, with_frames, owned, value_at, with_owned}
-use Rattle.uc_frames.specs.Parts.{Lined, Alike, ExecutionStands, MembersStand, EnvStands}
+use Rattle.uc_meaning.specs.Executions.{Execution, Members, Env, exec_eq, at_depth, frame_changed, list_in, values_in, frames_in, members_at, set_members, slot_in, parked_at, change_in, change, frames_of, frames_by, frames_changed, with_frames, owned, value_at, with_owned}
+use Rattle.uc_frames.specs.Parts.{Alike, ExecutionStands, MembersStand, EnvStands}
 use Rattle.uc_step.proofs.Lists.{find_both, update_both, joined_both, at_map, frame_map}
 
 module _ {A B V W : Type 0} (R : A → B → Type 0) (f : W → V) where

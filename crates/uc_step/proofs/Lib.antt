@@ -3,5 +3,5 @@ pub mod Changes
 pub mod Operands
 pub mod Settle
 pub mod Simulate
-pub mod Begin
+pub mod Starts
 pub mod Rode

@@ -1,3 +1,4 @@
 pub mod Acts
 pub mod Follow
 pub mod Given
+pub mod Starts

@@ -1,6 +1,7 @@
 // One op of a task: what the source machine does in some quiet steps.
 #![tactic(auto)]
 
+pub mod begin;
 mod jumps;
 mod memory;
 mod numbers;

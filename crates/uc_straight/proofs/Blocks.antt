@@ -1,10 +1,9 @@
 -- Behind a block the names are those before it.
-use Rattle.std.proofs.Common.{◌≡◌, ℕ, ◌≤◌, List, [], ◌∷◌, ◌++◌, length, take, refl, sym, ap, ◌∙◌, arith, length-append}
+use Rattle.std.proofs.Common.{◌≡◌, ◌≤◌, List, [], ◌∷◌, length, take, ◌∙◌, arith, length-append}
 use Rattle.std.proofs.Math.Seq.{take-length}
 use Rattle.std.proofs.lemmas.List.{take-append-le}
 use Rattle.uc_tree.specs.declared.kinds.Base.{Base}
 use Rattle.uc_tree.specs.Statements.{Declarator, Stmt, Declare, Stmts, NoStmts, MoreStmts}
-use Rattle.uc_tree.specs.Statements as stmt
 use Rattle.uc_meaning.specs.RulesNames.{Env, opened, declared, seen_as, all_declared, env_after, env_behind}
 
 -- the first names stay, and the innermost scope

@@ -1,5 +1,5 @@
 -- The first of some breaks.
-use Rattle.std.proofs.Common.{◌≡◌, ℕ, List, [], ◌∷◌, Option, Some, None, Bool, true, false, refl, sym, ap, ◌∙◌, subst, arith, ◌⊎◌, inl, inr}
+use Rattle.std.proofs.Common.{◌≡◌, List, [], ◌∷◌, Some, None, Bool, true, false, refl, sym, subst, arith, ◌⊎◌, inl, inr}
 use Rattle.std.specs.Prelude.{Contains}
 use Rattle.std.proofs.lemmas.Bool.Decides.{nat_tests}
 use Rattle.std.proofs.lemmas.List.Elements.{Contains-append_left, Contains-append_right, Contains-push, Contains-push_cases, Contains-append_cases}
@@ -60,7 +60,7 @@ first_is (x ∷ bs) b e =
     let r = from x b bs e in
     record {
       is_break = elim r.is [ inl q ↦ subst (λ y. Contains (x ∷ bs) y) (sym q) (contains_head x bs) | inr p ↦ contains_more x bs b p ];
-      no_earlier = late_all x b bs r.late r.no_earlier
+      no_earlier = late_all x b bs r.late r.no_earlier;
     }
 
 still_test : (a x : Break) (bs : List Break) (t : Bool) → before x a ≡ t → after (sooner (Some a) x) bs ≡ None → ((y : Break) → after (Some y) bs ≡ None → ⊥) → ⊥

@@ -6,7 +6,7 @@ use Rattle.uc_tree.specs.Expressions.{Expr}
 use Rattle.uc_meaning.specs.declared.rule.What.{What}
 use Rattle.uc_meaning.specs.declared.rule.What.TheVariants as what
 use Rattle.uc_meaning.specs.RulesNames.{Env, named}
-use Rattle.uc_meaning.specs.Rules.{constant_of, value_named, length_value}
+use Rattle.uc_meaning.specs.Rules.{constant_of, length_value}
 
 of_what : (w : What) → constant_of w ≡ None
 of_what what.Value = refl

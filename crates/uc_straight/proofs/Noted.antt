@@ -1,10 +1,10 @@
 -- Breaks at visits that are joined.
-use Rattle.std.proofs.Common.{◌≡◌, ℕ, List, [], ◌∷◌, ◌++◌, Option, Some, None, Bool, true, false, ◌&&◌, length, refl, ap, sym, ◌∙◌, arith}
+use Rattle.std.proofs.Common.{◌≡◌, List, [], ◌∷◌, ◌++◌, Option, Bool, true, false, ◌&&◌, length, refl, ap, sym, ◌∙◌, arith}
 use Rattle.uc_tree.specs.Expressions.{Expr, exprs_of}
 use Rattle.uc_meaning.specs.declared.rule.Break.{Break}
 use Rattle.uc_meaning.specs.RulesTypes.{count}
 use Rattle.uc_meaning.specs.RulesVisits.{Visit}
-use Rattle.uc_meaning.specs.Rules.{undeclared, declared_twice, main_called, no_scalar, no_place, no_routine, no_length, no_constant, bad_start, no_stream, breaks_at, breaks_among}
+use Rattle.uc_meaning.specs.Rules.{undeclared, declared_twice, main_called, no_scalar, no_place, no_routine, no_length, no_constant, bad_start, breaks_at, breaks_among}
 use Rattle.uc_straight.specs.Found.{sooner, after, told, noted}
 
 pub after_append : (f : Option Break) (a b : List Break) → after f (a ++ b) ≡ after (after f a) b

@@ -1,3 +1,4 @@
 pub mod Found
 pub mod Starts
 pub mod Judged
+pub mod Laws

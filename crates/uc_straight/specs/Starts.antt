@@ -1,5 +1,5 @@
 -- With how many values a variable starts, and what one alone stands for.
-use Rattle.std.specs.Prelude.{List, [], Bool, true, false, Option, Some, None}
+use Rattle.std.specs.Prelude.{List, [], false, Option, Some, None}
 use Rattle.uc_tree.specs.declared.pos.Pos.{Pos}
 use Rattle.uc_tree.specs.Expressions.{Expr, Exprs, NoExprs, MoreExprs}
 use Rattle.uc_meaning.specs.declared.rule.Break.{Break}

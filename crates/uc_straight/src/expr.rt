@@ -239,23 +239,14 @@ fn ask_unary(op: UnaryOp, what: Option<What>, at: Pos, found: &mut Found) -> Opt
     }
 }
 
-fn ask_index(
-    row: Option<What>,
-    index: Option<What>,
-    sign: Pos,
-    found: &mut Found,
-) -> Option<What>
+fn ask_index(row: Option<What>, index: Option<What>, sign: Pos, found: &mut Found) -> Option<What>
     ensures what { result ≡ of_index row index }
     ensures breaks { found.new ≡ told found.old (AtIndex sign row index) }
 {
     let row = row?;
     let index = index?;
     found.note_unless(is_row(row) && is_scalar(index), 8, sign);
-    if is_scalar(index) {
-        element(row)
-    } else {
-        None
-    }
+    if is_scalar(index) { element(row) } else { None }
 }
 
 fn ask_field(
@@ -401,7 +392,10 @@ pub fn check_expr(names: &Names, e: &Expr, found: &mut Found) -> Option<What>
             check_chain(names, left, rest, found)
         }
         ExprForm::Assign {
-            sign, place, value, ..
+            sign,
+            place,
+            value,
+            ..
         } => {
             let place = check_expr(names, place, found);
             let value = check_expr(names, value, found);
@@ -425,12 +419,7 @@ fn check_root(names: &Names, root: &Expr, parts: &[Part], found: &mut Found) -> 
 
 #[cycle(expr)]
 #[tactic(auto, using(crate::proofs::Noted::noting))]
-fn check_parts(
-    names: &Names,
-    root: Option<What>,
-    parts: &[Part],
-    found: &mut Found,
-) -> Option<What>
+fn check_parts(names: &Names, root: Option<What>, parts: &[Part], found: &mut Found) -> Option<What>
     ensures what { result ≡ parts_what names.now (parts_of parts.now) root }
     ensures breaks { found.new ≡ noted found.old (parts_visits names.now (parts_of parts.now) root) }
 {
@@ -470,12 +459,7 @@ fn check_part(
 
 #[cycle(expr)]
 #[tactic(auto, using(crate::proofs::Noted::noting))]
-fn check_chain(
-    names: &Names,
-    first: Option<What>,
-    rest: &[Link],
-    found: &mut Found,
-) -> Option<What>
+fn check_chain(names: &Names, first: Option<What>, rest: &[Link], found: &mut Found) -> Option<What>
     ensures what { result ≡ chain_what names.now (links_of rest.now) first }
     ensures breaks { found.new ≡ noted found.old (chain_visits names.now (links_of rest.now) first) }
 {
@@ -488,12 +472,7 @@ fn check_chain(
 
 #[cycle(expr)]
 #[tactic(auto, using(crate::proofs::Noted::noting))]
-fn check_link(
-    names: &Names,
-    left: Option<What>,
-    link: &Link,
-    found: &mut Found,
-) -> Option<What>
+fn check_link(names: &Names, left: Option<What>, link: &Link, found: &mut Found) -> Option<What>
     ensures what { result ≡ link_what names.now link.now left }
     ensures breaks { found.new ≡ noted found.old (link_visits names.now link.now left) }
 {

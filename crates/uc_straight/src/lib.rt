@@ -4,6 +4,7 @@
 pub mod check;
 pub mod expr;
 pub mod found;
+pub mod laws;
 pub mod names;
 pub mod stmt;
 pub mod straight;

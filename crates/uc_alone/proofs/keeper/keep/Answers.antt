@@ -1,6 +1,5 @@
-use Rattle.std.proofs.Common.{◌≡◌, refl, sym, subst, ap, length}
-use Rattle.uc_meaning.specs.declared.request.Request.{Request}
-use Rattle.uc_alone.specs.Kept.{Kept, odd, is_few, ReadsOf}
+use Rattle.std.proofs.Common.{ap}
+use Rattle.uc_alone.specs.Kept.{odd, is_few}
 use Rattle.uc_alone.proofs.Acts.{by_request}
 use Rattle.uc_alone.proofs.keeper.keep.Goals as goal
 
@@ -111,4 +110,3 @@ returns-in-Migrate-clause-kept c h =
 pub returns-in-Gone-clause-kept : goal.returns-in-Gone-clause-kept
 returns-in-Gone-clause-kept c h =
     odd (ap is_few c.in-Gone.is)
-

@@ -1,4 +1,4 @@
-use Rattle.std.proofs.Common.{◌≡◌, refl}
+use Rattle.std.proofs.Common.{refl}
 use Rattle.uc_alone.proofs.Acts.{end_goes, two_more}
 use Rattle.uc_alone.proofs.keeper.keep_end.Goals as goal
 

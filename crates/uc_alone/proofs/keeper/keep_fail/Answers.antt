@@ -1,4 +1,4 @@
-use Rattle.std.proofs.Common.{◌≡◌, refl, sym, subst}
+use Rattle.std.proofs.Common.{refl}
 use Rattle.uc_alone.proofs.Acts.{fail_full, fail_more}
 use Rattle.uc_alone.proofs.keeper.keep_fail.Goals as goal
 

@@ -1,4 +1,4 @@
-use Rattle.std.proofs.Common.{◌≡◌, refl, sym, subst}
+use Rattle.std.proofs.Common.{refl, sym, subst}
 use Rattle.uc_alone.specs.Kept.{ReadsOf}
 use Rattle.uc_alone.proofs.Acts.{counted_goes, counted_full, reads_after_prints}
 use Rattle.uc_alone.proofs.keeper.keep_print.Goals as goal

@@ -1,5 +1,4 @@
-use Rattle.std.proofs.Common.{◌≡◌, refl, sym, subst}
-use Rattle.uc_alone.specs.Kept.{ReadsOf, reads_after}
+use Rattle.std.proofs.Common.{refl}
 use Rattle.uc_alone.proofs.Acts.{read_full, read_more}
 use Rattle.uc_alone.proofs.keeper.keep_read.Goals as goal
 

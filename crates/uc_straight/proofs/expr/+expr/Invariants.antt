@@ -10,21 +10,21 @@ abbrev pub invariant-check_all-loop-e : goal.invariant-check_all-loop-e
 invariant-check_all-loop-e l = record {
   size : exprs_size (exprs_of (drop l.e-index l.exprs)) ≤ exprs_size (exprs_of l.exprs);
   sound : l.sound && are_sound l.names (exprs_of (drop l.e-index l.exprs)) ≡ are_sound l.names (exprs_of l.exprs);
-  breaks : noted l.found (all_visits l.names (exprs_of (drop l.e-index l.exprs))) ≡ noted l.fn.found (all_visits l.names (exprs_of l.exprs))
+  breaks : noted l.found (all_visits l.names (exprs_of (drop l.e-index l.exprs))) ≡ noted l.fn.found (all_visits l.names (exprs_of l.exprs));
 }
 
 abbrev pub invariant-check_parts-loop-place : goal.invariant-check_parts-loop-place
 invariant-check_parts-loop-place l = record {
   size : parts_size (parts_of (drop l.place l.parts)) ≤ parts_size (parts_of l.parts);
   what : parts_what l.names (parts_of (drop l.place l.parts)) l.what ≡ parts_what l.names (parts_of l.parts) l.fn.root;
-  breaks : noted l.found (parts_visits l.names (parts_of (drop l.place l.parts)) l.what) ≡ noted l.fn.found (parts_visits l.names (parts_of l.parts) l.fn.root)
+  breaks : noted l.found (parts_visits l.names (parts_of (drop l.place l.parts)) l.what) ≡ noted l.fn.found (parts_visits l.names (parts_of l.parts) l.fn.root);
 }
 
 abbrev pub invariant-check_chain-loop-link : goal.invariant-check_chain-loop-link
 invariant-check_chain-loop-link l = record {
   size : links_size (links_of (drop l.link-index l.rest)) ≤ links_size (links_of l.rest);
   what : chain_what l.names (links_of (drop l.link-index l.rest)) l.left ≡ chain_what l.names (links_of l.rest) l.fn.first;
-  breaks : noted l.found (chain_visits l.names (links_of (drop l.link-index l.rest)) l.left) ≡ noted l.fn.found (chain_visits l.names (links_of l.rest) l.fn.first)
+  breaks : noted l.found (chain_visits l.names (links_of (drop l.link-index l.rest)) l.left) ≡ noted l.fn.found (chain_visits l.names (links_of l.rest) l.fn.first);
 }
 
 abbrev pub decreases-check_expr : goal.decreases-check_expr

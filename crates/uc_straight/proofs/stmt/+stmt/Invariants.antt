@@ -10,7 +10,7 @@ abbrev pub invariant-check_stmts-loop-s : goal.invariant-check_stmts-loop-s
 invariant-check_stmts-loop-s l = record {
   size : stmts_size (stmts_of (drop l.s-index l.body)) ≤ stmts_size (stmts_of l.body);
   names : env_behind l.names (stmts_of (drop l.s-index l.body)) ≡ env_behind l.fn.names (stmts_of l.body);
-  breaks : noted l.found (stmts_visits (stmts_of (drop l.s-index l.body)) l.names) ≡ noted l.fn.found (stmts_visits (stmts_of l.body) l.fn.names)
+  breaks : noted l.found (stmts_visits (stmts_of (drop l.s-index l.body)) l.names) ≡ noted l.fn.found (stmts_visits (stmts_of l.body) l.fn.names);
 }
 
 abbrev pub decreases-check_stmt : goal.decreases-check_stmt

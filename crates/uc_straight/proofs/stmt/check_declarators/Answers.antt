@@ -9,5 +9,5 @@ loop-declarator-preserved c =
     let b = c.args.base.now in
     record {
       names = names_more (λ env d. declared env b d) (λ env ds. all_declared env b ds) (λ env d ds. refl) c.loop-declarator.names _ _ c.args.declarators.now c.loop-declarator.declarator-index c.declarator-item.result c.loop-declarator-test.true c.declarator-item.is c.in_ok-declare.ensures c.loop-declarator.invariant.names;
-      breaks = walked_more declarator_visits (λ env d. declared env b d) (λ env ds. declarators_visits env b ds) (λ env d ds. refl) c.loop-declarator.names _ c.args.declarators.now c.loop-declarator.declarator-index c.declarator-item.result _ _ _ c.loop-declarator-test.true c.declarator-item.is c.in_ok-declare.ensures c.check_declarator.ensures c.loop-declarator.invariant.breaks
+      breaks = walked_more declarator_visits (λ env d. declared env b d) (λ env ds. declarators_visits env b ds) (λ env d ds. refl) c.loop-declarator.names _ c.args.declarators.now c.loop-declarator.declarator-index c.declarator-item.result _ _ _ c.loop-declarator-test.true c.declarator-item.is c.in_ok-declare.ensures c.check_declarator.ensures c.loop-declarator.invariant.breaks;
     }

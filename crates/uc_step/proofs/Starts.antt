@@ -1,5 +1,6 @@
 -- A main as it begins, and answers.
-use Rattle.std.proofs.Common.{◌≡◌, ℕ, ◌+◌, List, [], ◌∷◌, ℤ, pos, refl, ap, map}
+use Rattle.std.proofs.Common.{◌≡◌, ℕ, ◌+◌, List, [], ◌∷◌, Some, ℤ, refl, subst, ap}
+use Rattle.std.specs.Prelude.{slice_get}
 use Rattle.uc_tree.specs.Source.{Routine}
 use Rattle.uc_meaning.specs.declared.request.Answer.{Answer}
 use Rattle.uc_meaning.specs.declared.request.Answer.TheVariants as answer
@@ -9,12 +10,14 @@ use Rattle.uc_meaning.specs.Runs as runs
 use Rattle.uc_meaning.specs.Runs.{with_operand}
 use Rattle.uc_code.specs.declared.rows.Instruction.{Instruction}
 use Rattle.uc_code.specs.declared.rows.RoutineCode.{RoutineCode}
+use Rattle.uc_code.specs.Codes.{Code}
 use Rattle.uc_code.specs.Ranges.{Arrived}
 use Rattle.uc_code.specs.Lowered.{RoutineAt}
 use Rattle.uc_frames.specs.declared.cell.Cell.TheVariants.{Number}
-use Rattle.uc_frames.specs.Machine.{Machine, cell_of, nought, first_machine}
+use Rattle.uc_frames.specs.Machine.{Machine, cell_of, first_machine}
 use Rattle.uc_frames.specs.Stands.{Stands}
 use Rattle.uc_step.specs.Acts.{with_operands, answered}
+use Rattle.uc_step.specs.Starts.{Starts}
 use Rattle.uc_step.proofs.Lists.{replicate_map}
 
 module _ (ops : List Instruction) where
@@ -47,3 +50,12 @@ module _ (ops : List Instruction) where
   answered_stands (answer.Event v x y) m s h = h
   answered_stands answer.Nothing m s h = h
   answered_stands (answer.Value n failed) m s h = pushed n m s h
+
+module _ (code : Code) (main own : ℕ) where
+  one_code : (c d : RoutineCode) → slice_get code.routines main ≡ Some c → slice_get code.routines main ≡ Some d → d ≡ c
+  one_code c d p q = cc
+
+  pub starts_some : (m : Machine) (c : RoutineCode) → slice_get code.routines main ≡ Some c → m ≡ first_machine c own → Starts code main own (Some m)
+  starts_some m c e f source r l q =
+      let h = l.each main r q in
+      rw f (subst (λ d. Stands code.ops (first_machine d own) (first_state r own)) (one_code c h.0 e h.1) (begins code.ops r h.0 own h.2))

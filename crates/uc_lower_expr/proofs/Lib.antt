@@ -1,0 +1,6 @@
+pub mod Adding
+pub mod Arms
+pub mod Growing
+pub mod Naming
+pub mod Settled
+pub mod Walks

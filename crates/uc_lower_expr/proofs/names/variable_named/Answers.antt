@@ -1,0 +1,15 @@
+use Rattle.std.proofs.Common.{ℕ, List, refl, subst}
+use Rattle.uc_code.specs.Drafts.{IsInnermost, IsUnknown}
+use Rattle.uc_lower_expr.proofs.Naming.{unknown_named, innermost_named}
+use Rattle.uc_lower_expr.proofs.names.variable_named.Goals as goal
+
+pub returns-in-Some : goal.returns-in-Some
+returns-in-Some c = record {
+  known = c.in-Some.known.now;
+  is = innermost_named _ _ _ (subst (λ (n : List ℕ). IsInnermost c.args.out.now.names n c.in-Some.known.now) c.bytes.ensures c.in-Some.ensures);
+  cell = refl;
+  tells = record { shape = c.of_base.ensures.shape; len = refl; standing = refl };
+}
+
+pub returns-in-None : goal.returns-in-None
+returns-in-None c = unknown_named _ _ (subst (λ (n : List ℕ). IsUnknown c.args.out.now.names n) c.bytes.ensures c.in-None.ensures)

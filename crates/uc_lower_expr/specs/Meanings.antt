@@ -1,0 +1,26 @@
+-- What lowering tells of an expression besides its code.
+use Rattle.std.specs.Prelude.{◌≡◌}
+use Rattle.uc_tree.specs.Source.{Shape, Integer, Character, Truth}
+use Rattle.uc_tree.specs.Resolve as resolve
+use Rattle.uc_lower_expr.specs.declared.meaning.Scalar.{Scalar}
+use Rattle.uc_lower_expr.specs.declared.meaning.Scalar.TheVariants as scalar
+use Rattle.uc_lower_expr.specs.declared.meaning.Standing.{Standing}
+use Rattle.uc_lower_expr.specs.declared.meaning.Standing.TheVariants as standing
+use Rattle.uc_lower_expr.specs.declared.meaning.Meaning.{Meaning}
+
+abbrev pub shape_as : Scalar → Shape
+shape_as scalar.Number = Integer
+shape_as scalar.Character = Character
+shape_as scalar.Truth = Truth
+
+abbrev pub stands_as : Standing → resolve.Standing
+stands_as standing.Place = resolve.AtPlace
+stands_as standing.Value = resolve.AsValue
+stands_as standing.Input = resolve.AsInput
+stands_as standing.Fail = resolve.AsFail
+
+-- what is told of an expression that stands for this: how its base keeps a number, its length, and its standing
+pub record Tells (told : Meaning) (m : resolve.Meant) : Type 0 where
+  pub shape : resolve.shape_of m.ty.base ≡ shape_as told.scalar
+  pub len : m.ty.len ≡ told.elements
+  pub standing : m.standing ≡ stands_as told.standing

@@ -1,0 +1,8 @@
+// The lowering of expressions: the code of what an expression stands for.
+#![tactic(auto)]
+
+pub mod expr;
+pub mod meaning;
+pub mod names;
+pub mod ops;
+pub mod put;

@@ -1,0 +1,70 @@
+// What lowering tells of an expression besides its code.
+
+ghost use Rattle.std.specs.Prelude.{◌≡◌};
+ghost use Rattle.uc_tree.specs.Resolve.{shape_of, form_of};
+ghost use Rattle.uc_lower_expr.specs.Meanings.{shape_as};
+
+use uc_tree::kinds::Base;
+
+/// How a place of a base keeps a number.
+#[derive(Clone, Copy, PartialEq, Eq, Debug)]
+pub enum Scalar {
+    Number,
+    Character,
+    Truth,
+}
+
+/// What an expression is: a place, a value, `cin`, or the member `fail` of `cin`.
+#[derive(Clone, Copy, PartialEq, Eq, Debug)]
+pub enum Standing {
+    Place,
+    Value,
+    Input,
+    Fail,
+}
+
+/// How the base of an expression's type keeps a number, the length of an array, and what the expression is.
+#[derive(Clone, Copy, PartialEq, Eq, Debug)]
+pub struct Meaning {
+    pub scalar: Scalar,
+    pub elements: Option<u32>,
+    pub standing: Standing,
+}
+
+impl Scalar {
+    /// How a base keeps a number.
+    pub fn of_base(base: &Base) -> Scalar
+        ensures shape { shape_of base.now ≡ shape_as result }
+    {
+        match base {
+            Base::Char => Scalar::Character,
+            Base::Bool => Scalar::Truth,
+            Base::Void => Scalar::Number,
+            Base::Int => Scalar::Number,
+            Base::Condition => Scalar::Number,
+            Base::Cluster => Scalar::Number,
+            Base::Processor => Scalar::Number,
+            Base::Named(_) => Scalar::Number,
+        }
+    }
+}
+
+impl Meaning {
+    /// A scalar value.
+    pub fn value(scalar: Scalar) -> Meaning
+        ensures { result ≡ record { scalar = scalar; elements = None; standing = Standing.Value } }
+    {
+        Meaning {
+            scalar,
+            elements: None,
+            standing: Standing::Value,
+        }
+    }
+
+    /// The same type with another standing.
+    pub fn standing_as(self, standing: Standing) -> Meaning
+        ensures { result ≡ record self { standing = standing } }
+    {
+        Meaning { standing, ..self }
+    }
+}

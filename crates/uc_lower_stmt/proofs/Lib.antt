@@ -1,0 +1,8 @@
+pub mod Ahead
+pub mod Alone
+pub mod Declaring
+pub mod Joined
+pub mod Kept
+pub mod Printing
+pub mod Routines
+pub mod Stating

@@ -1,0 +1,165 @@
+// The code of declarations.
+
+ghost use Rattle.std.specs.Prelude.{◌≡◌, ◌+◌, ◌*◌, ◌≤◌, ◌<◌, [], ◌∷◌, Some, length, OnOk, IfOk};
+ghost use Rattle.uc_tree.specs.declared.limits.TheConstants.{FRAME_CELLS, OPS_FOR_SIZE, PROGRAM_OPS};
+ghost use Rattle.uc_tree.specs.Expressions.{exprs_of};
+ghost use Rattle.uc_tree.specs.ExpressionSizes.{expr_size, exprs_size};
+ghost use Rattle.uc_tree.specs.StatementSizes.{start_size, declarator_size, declarators_size};
+ghost use Rattle.uc_tree.specs.Cells.{declared_cells, declarators_cells};
+ghost use Rattle.uc_tree.specs.Resolve.{meant, value_of, converted, start_meant, first_value, length_of, declared_type, declared_meant, all_declared, with_declared, with_all};
+ghost use Rattle.uc_lower_expr.specs.Meanings.{shape_as};
+ghost use Rattle.uc_lower_expr.specs.Added.{Adds};
+ghost use Rattle.uc_lower_stmt.specs.Scoped.{Lowers, scope_of};
+ghost use Rattle.uc_lower_stmt.specs.Pieces.{StartCode, VariablesCode};
+
+use std::alloc::{AllocError, Global};
+use uc_code::draft::Draft;
+use uc_code::op::Op;
+use uc_lower_expr::expr::lower_value;
+use uc_lower_expr::meaning::Scalar;
+use uc_lower_expr::put::{put, put_conversion};
+use uc_sizes::sizes::Sizes;
+use uc_tree::declare::{Declarator, Start, StartForm};
+use uc_tree::expr::Expr;
+use uc_tree::kinds::{Base, Ty};
+
+// The same base.
+fn copy_of(alloc: Global, base: &Base) -> Result<Base, AllocError>
+    ensures { IfOk result (λ copy. copy ≡ base.now) }
+{
+    match base {
+        Base::Void => Ok(Base::Void),
+        Base::Int => Ok(Base::Int),
+        Base::Char => Ok(Base::Char),
+        Base::Bool => Ok(Base::Bool),
+        Base::Condition => Ok(Base::Condition),
+        Base::Cluster => Ok(Base::Cluster),
+        Base::Processor => Ok(Base::Processor),
+        Base::Named(name) => {
+            let name = name.copy(alloc)?;
+            Ok(Base::Named(name))
+        }
+    }
+}
+
+// The length of an array.
+fn length_of(sizes: &Sizes, declarator: &Declarator) -> Option<u32>
+    ensures { result ≡ length_of sizes.now declarator.now declarator.now.len }
+{
+    match &declarator.len {
+        Some(_) => Some(sizes.elements_of_variable(declarator)),
+        None => None,
+    }
+}
+
+fn type_of(
+    alloc: Global,
+    sizes: &Sizes,
+    base: &Base,
+    declarator: &Declarator,
+) -> Result<Ty, AllocError>
+    ensures { IfOk result (λ ty. ty ≡ declared_type sizes.now base.now declarator.now) }
+{
+    let base = copy_of(alloc, base)?;
+    let len = length_of(sizes, declarator);
+    Ok(Ty {
+        base,
+        by_ref: declarator.by_ref,
+        len,
+    })
+}
+
+// A value is written to a variable.
+fn lower_first(
+    value: &Expr,
+    cell: u32,
+    scalar: Scalar,
+    line: u32,
+    out: &mut Draft,
+) -> Result<(), AllocError>
+    requires { length out.old.ops + OPS_FOR_SIZE * expr_size value.now + 3 ≤ PROGRAM_OPS }
+    ensures { OnOk result (Adds (OPS_FOR_SIZE * expr_size value.now + 3) (StartCode line cell (Some (converted (shape_as scalar) (value_of (meant out.old.names value.now))))) out.old out.new) }
+{
+    put(Op::Local(cell), line, out)?;
+    let _told = lower_value(value, line, out)?;
+    put_conversion(scalar, line, out)?;
+    put(Op::Store, line, out)?;
+    Ok(())
+}
+
+fn lower_start(
+    start: &Start,
+    cell: u32,
+    scalar: Scalar,
+    line: u32,
+    out: &mut Draft,
+) -> Result<(), AllocError>
+    requires { length out.old.ops + OPS_FOR_SIZE * start_size start.now + 3 ≤ PROGRAM_OPS }
+    ensures { OnOk result (Adds (OPS_FOR_SIZE * start_size start.now + 3) (StartCode line cell (start_meant out.old.names (shape_as scalar) start.now)) out.old out.new) }
+{
+    match &start.form {
+        StartForm::Nothing => Ok(()),
+        StartForm::Value { value } => lower_first(value, cell, scalar, line, out),
+        StartForm::Args { args } => lower_args(args, cell, scalar, line, out),
+    }
+}
+
+// The first argument is the value.
+fn lower_args(
+    args: &[Expr],
+    cell: u32,
+    scalar: Scalar,
+    line: u32,
+    out: &mut Draft,
+) -> Result<(), AllocError>
+    requires { length out.old.ops + OPS_FOR_SIZE * exprs_size (exprs_of args.now) + 3 ≤ PROGRAM_OPS }
+    ensures { OnOk result (Adds (OPS_FOR_SIZE * exprs_size (exprs_of args.now) + 3) (StartCode line cell (first_value out.old.names (shape_as scalar) (exprs_of args.now))) out.old out.new) }
+{
+    match args.first() {
+        Some(value) => lower_first(value, cell, scalar, line, out),
+        None => Ok(()),
+    }
+}
+
+// A variable is 0, or starts with its value; then its name is in scope.
+fn lower_declarator(
+    alloc: Global,
+    sizes: &Sizes,
+    base: &Base,
+    declarator: &Declarator,
+    line: u32,
+    out: &mut Draft,
+) -> Result<(), AllocError>
+    requires room { length out.old.ops + OPS_FOR_SIZE * declarator_size declarator.now ≤ PROGRAM_OPS }
+    requires cells { out.old.cells + declared_cells sizes.now base.now declarator.now ≤ FRAME_CELLS }
+    ensures { OnOk result (Lowers (OPS_FOR_SIZE * declarator_size declarator.now) 0 (declared_cells sizes.now base.now declarator.now) (VariablesCode line (declared_meant sizes.now (scope_of out.old) base.now declarator.now ∷ [])) (with_declared sizes.now (scope_of out.old) base.now declarator.now) out.old out.new) }
+{
+    let cells = sizes.cells_of_variable(base, declarator) as u32;
+    let cell = out.cells();
+    put(Op::Clear { cell, cells }, line, out)?;
+    let scalar = Scalar::of_base(base);
+    lower_start(&declarator.start, cell, scalar, line, out)?;
+    let name = declarator.name.copy(alloc)?;
+    let ty = type_of(alloc, sizes, base, declarator)?;
+    out.declare(name, ty, cells)?;
+    Ok(())
+}
+
+/// Adds the code of a declaration.
+pub fn lower_declarators(
+    alloc: Global,
+    sizes: &Sizes,
+    base: &Base,
+    declarators: &[Declarator],
+    line: u32,
+    out: &mut Draft,
+) -> Result<(), AllocError>
+    requires room { length out.old.ops + OPS_FOR_SIZE * declarators_size declarators.now ≤ PROGRAM_OPS }
+    requires cells { out.old.cells + declarators_cells (declared_cells sizes.now base.now) declarators.now ≤ FRAME_CELLS }
+    ensures { OnOk result (Lowers (OPS_FOR_SIZE * declarators_size declarators.now) 0 (declarators_cells (declared_cells sizes.now base.now) declarators.now) (VariablesCode line (all_declared sizes.now (scope_of out.old) base.now declarators.now)) (with_all sizes.now (scope_of out.old) base.now declarators.now) out.old out.new) }
+{
+    for declarator in declarators {
+        lower_declarator(alloc, sizes, base, declarator, line, out)?;
+    }
+    Ok(())
+}
