@@ -19,7 +19,7 @@ use Rattle.uc_top.specs.declared.endings.Ending.{Ending}
 use Rattle.uc_top.specs.declared.refusals.Refusal.{Refusal}
 use Rattle.uc_top.specs.declared.refusals.Refusal.TheVariants.{Word, CannotRead, TooLong, Lexical, NotBuilt, FrameTooLarge, CodeTooLarge, NoMemory}
 use Rattle.uc_words.specs.Words.{Words, IsFirstBad}
-use Rattle.uc_alone_stub.specs.Ends.{alone_options}
+use Rattle.uc_alone.specs.Alone.{alone_options}
 use Rattle.uc_top.proofs.Line.{opts_alone}
 use Rattle.uc_top.specs.Built.{Asks, IsBuilt, HasLargeFrame, HasLargeCode, ProgramRan, HasFault, Spells, IsTextOf, TextRan, ReadsTexts, ReadsInput, HasRun}
 use Rattle.uc_top.specs.Refusals.{Refuses}

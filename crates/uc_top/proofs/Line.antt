@@ -5,7 +5,7 @@ use Rattle.uc_tree.specs.declared.limits.TheConstants.{ENTRIES_MIN, ENTRIES_MAX,
 use Rattle.uc_meaning.specs.declared.entry.Options.{Options}
 use Rattle.uc_words.specs.Words.{Words, Piece, File, Entries, Input, ArePieces, IsRunLine, entries_in, options_with, Command, RunFile}
 use Rattle.uc_top.specs.Built.{Asks}
-use Rattle.uc_alone_stub.specs.Ends.{alone_options}
+use Rattle.uc_alone.specs.Alone.{alone_options}
 
 few_in : (ps : List Piece) (n : ℕ) → ArePieces ps → filter_map entries_in ps ≡ n ∷ [] → ENTRIES_MIN ≤ n
 few_in [] n fit e = absurd (cc)

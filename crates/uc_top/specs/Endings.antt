@@ -1,5 +1,5 @@
 -- What the last entry of a journal makes of a call: its status, and its line on err.
-use Rattle.std.specs.Prelude.{◌≡◌, ℕ, ℤ, pos, negsuc, List, [], ◌∷◌, ◌++◌, codes, decimal, slice_index_or}
+use Rattle.std.specs.Prelude.{◌≡◌, ◌⊎◌, ℕ, ℤ, pos, negsuc, List, [], ◌∷◌, ◌++◌, codes, decimal, slice_index_or}
 use Rattle.std.specs.List.{concat}
 use Rattle.std.specs.Fmt.{signed_decimal}
 use Rattle.uc_meaning.specs.declared.entry.Entry.{Entry}
@@ -20,6 +20,13 @@ abbrev pub Tells : Entry → Ending → Type 0
 Tells e Done = e.kind ≡ kind.Done
 Tells e (Fault number line task) = IsFaultEntry e number line task
 Tells e Limit = e.kind ≡ kind.Limit
+
+-- the last entry is one of the three endings of a lone task
+pub record EndsAlone (journal : Journal) : Type 0 where
+  pub before : Journal
+  pub last : Entry
+  pub is : journal ≡ before ++ last ∷ []
+  pub kind : (last.kind ≡ kind.Done) ⊎ (last.kind ≡ kind.Fault) ⊎ (last.kind ≡ kind.Limit)
 
 -- the journal ends so
 pub record EndsWith (journal : Journal) (ending : Ending) : Type 0 where

@@ -4,7 +4,7 @@ ghost use Rattle.std.specs.Prelude.{◌≡◌, ◌≤◌, ◌<◌, ◌^◌, IfOk
 ghost use Rattle.uc_tree.specs.declared.limits.TheConstants.{PROGRAM_BYTES, INPUT_BYTES, ENTRIES_MIN};
 ghost use Rattle.uc_tree.specs.Tokens.{tokens, Refused};
 ghost use Rattle.uc_outside.specs.Reading.{KeepsFiles, ReadBytes};
-ghost use Rattle.uc_alone_stub.specs.Ends.{alone_options};
+ghost use Rattle.uc_alone.specs.Alone.{alone_options};
 ghost use Rattle.uc_top.specs.Built.{HasRun, TextRan, ReadsTexts, ReadsInput};
 ghost use Rattle.uc_top.specs.Refusals.{Refuses};
 ghost use Rattle.uc_top.specs.Decisions.{TokensRan, TokensRefused, TextRefused, FilesRan, FilesRefused, NotRead, InputNotRead};

@@ -2,8 +2,7 @@
 
 ghost use Rattle.std.specs.Prelude.{◌≡◌, ◌<◌, OnOk, OnErr, [], length, slice_index_or};
 ghost use Rattle.uc_outside.specs.Taking.{Took, TookPrefix, FailedAt};
-ghost use Rattle.uc_alone_stub.specs.Ends.{EndsAlone};
-ghost use Rattle.uc_top.specs.Endings.{Tells, EndsWith, ending_status, ending_text, fault_name, fault_names};
+ghost use Rattle.uc_top.specs.Endings.{Tells, EndsAlone, EndsWith, ending_status, ending_text, fault_name, fault_names};
 
 use crate::refusals::{put_line, put_pieces};
 use itoa::Buffer;

@@ -5,7 +5,7 @@ ghost use Rattle.uc_tree.specs.declared.limits.TheConstants.{ENTRIES_MIN, INPUT_
 ghost use Rattle.uc_tree.specs.Programs.{RoutineItem};
 ghost use Rattle.uc_meaning.specs.Straight.{is_straight};
 ghost use Rattle.uc_meaning.specs.Accepted.{FitFrames, IsAccepted};
-ghost use Rattle.uc_alone_stub.specs.Ends.{alone_options};
+ghost use Rattle.uc_alone.specs.Alone.{alone_options};
 ghost use Rattle.uc_top.specs.Built.{IsBuilt, HasLargeFrame, ProgramRan};
 ghost use Rattle.uc_top.specs.Decisions.{ProgramRefused};
 
@@ -13,8 +13,8 @@ use crate::endings::{Ending, ending_of};
 use crate::printing::printed_bytes;
 use crate::refusals::Refusal;
 use std::alloc::{AllocError, Global};
-use uc_alone_stub::run_alone;
-use uc_lower_stub::lower_main;
+use uc_alone::run_alone;
+use uc_lower_stmt::program::lower_program;
 use uc_meaning::entry::Entry;
 use uc_sizes::frames::cells_of_routine;
 use uc_sizes::sizes::Sizes;
@@ -140,7 +140,7 @@ fn run_accepted(
     requires entries { ENTRIES_MIN ≤ entries }
     ensures { IfOk result (λ run. ProgramRan program.now input.now (alone_options entries) run.journal.items run.output.items run.ending) }
 {
-    let code = lower_main(alloc, sizes, program)?;
+    let code = lower_program(alloc, program, sizes)?;
     let journal = run_alone(alloc, &code, 0, input, entries)?;
     let output = printed_bytes(alloc, code.texts(), &journal)?;
     let ending = ending_of(&journal);
