@@ -18,12 +18,12 @@ use Rattle.uc_outside.specs.Reading.{StoreState, KeepsFiles, ReadBytes}
 use Rattle.uc_top.specs.declared.endings.Ending.{Ending}
 use Rattle.uc_top.specs.declared.refusals.Refusal.{Refusal}
 use Rattle.uc_top.specs.declared.refusals.Refusal.TheVariants.{Word, CannotRead, TooLong, Lexical, NotBuilt, FrameTooLarge, CodeTooLarge, NoMemory}
-use Rattle.uc_words.specs.Words.{Words, IsFirstBad}
+use Rattle.uc_words.specs.Words.{Words, IsFirstBad, Command, RunFile, IsLine}
 use Rattle.uc_alone.specs.Alone.{alone_options}
-use Rattle.uc_top.proofs.Line.{opts_alone}
+use Rattle.uc_top.proofs.Line.{opts_alone, entries_min}
 use Rattle.uc_top.specs.Built.{Asks, IsBuilt, HasLargeFrame, HasLargeCode, ProgramRan, HasFault, Spells, IsTextOf, TextRan, ReadsTexts, ReadsInput, HasRun}
 use Rattle.uc_top.specs.Refusals.{Refuses}
-use Rattle.uc_top.specs.Decisions.{ProgramRefused, AreOf, AreTokensOf, TokensRan, TokensRefused, TextRefused, FilesRan, FilesRefused, NotRead, InputNotRead}
+use Rattle.uc_top.specs.Decisions.{ProgramRefused, AreOf, AreTokensOf, TokensRan, TokensRefused, TextRefused, FilesRan, FilesRefused, NotRead, InputNotRead, HasEntries, JobRan, JobRefused}
 
 -- tokens
 
@@ -148,3 +148,12 @@ has_run_alone {a = a} {b = b} {file = file} {named = named} {journal = journal} 
 
 pub bad_word : {words : Words} (a : StoreState) (r : Refusal) (n : ℕ) (name : List ℕ) → r ≡ Word n → IsFirstBad words n → Refuses words a a r name
 bad_word {words} a r n name e first = subst (λ x. Refuses words a a x name) (sym e) (record { first = first; unread = refl })
+
+pub has_entries : (words : Words) (c : Command) → IsLine words c → HasEntries c
+has_entries words (RunFile file opts named) l = entries_min l
+
+pub job_ran : {words : Words} (a b : StoreState) (c : Command) (journal : Journal) (output : List ℕ) (ending : Ending) → IsLine words c → ((other : Command) → IsLine words other → other ≡ c) → JobRan a b c journal output ending → HasRun words a b journal output ending
+job_ran a b (RunFile file opts named) journal output ending l only r = has_run_alone (record { line = l; only = only }) r
+
+pub job_refused : {words : Words} (a b : StoreState) (c : Command) (r : Refusal) (name : List ℕ) → IsLine words c → ((other : Command) → IsLine words other → other ≡ c) → JobRefused a b c r name → Refuses words a b r name
+job_refused a b (RunFile file opts named) r name l only h = refuses a b name (record { line = l; only = only }) r h

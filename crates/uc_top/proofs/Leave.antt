@@ -51,3 +51,6 @@ fault_line name at by = concat (codes "ucpp: fault " ∷ (name ∷ (codes " at l
 pub fault_said : {a b : SinkState} (name at by name' at' by' : List ℕ) → name ≡ name' → at ≡ at' → by ≡ by' → Took a b (fault_line name at by) → Took a b (fault_line name' at' by')
 fault_said {a} {b} name at by name' at' by' e f g t =
     subst (λ x. Took a b (fault_line name' at' x)) g (subst (λ x. Took a b (fault_line name' x by)) f (subst (λ x. Took a b (fault_line x at by)) e t))
+
+pub fault_same : (n n' l l' : ℤ) (t t' : ℕ) → n ≡ n' → l ≡ l' → t ≡ t' → ending_text (Fault n l t) ≡ ending_text (Fault n' l' t')
+fault_same n n' l l' t t' e f g = ap (λ x. ending_text (Fault x l t)) e ∙ ap (λ x. ending_text (Fault n' x t)) f ∙ ap (λ x. ending_text (Fault n' l' x)) g

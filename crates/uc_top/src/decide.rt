@@ -4,10 +4,11 @@ ghost use Rattle.std.specs.Prelude.{◌≡◌, ◌≤◌, ◌<◌, ◌^◌, IfOk
 ghost use Rattle.uc_tree.specs.declared.limits.TheConstants.{PROGRAM_BYTES, INPUT_BYTES, ENTRIES_MIN};
 ghost use Rattle.uc_tree.specs.Tokens.{tokens, Refused};
 ghost use Rattle.uc_outside.specs.Reading.{KeepsFiles, ReadBytes};
+ghost use Rattle.uc_words.specs.Rest.{command_of, number_of};
 ghost use Rattle.uc_alone.specs.Alone.{alone_options};
 ghost use Rattle.uc_top.specs.Built.{HasRun, TextRan, ReadsTexts, ReadsInput};
 ghost use Rattle.uc_top.specs.Refusals.{Refuses};
-ghost use Rattle.uc_top.specs.Decisions.{TokensRan, TokensRefused, TextRefused, FilesRan, FilesRefused, NotRead, InputNotRead};
+ghost use Rattle.uc_top.specs.Decisions.{TokensRan, TokensRefused, TextRefused, FilesRan, FilesRefused, NotRead, InputNotRead, HasEntries, JobRan, JobRefused};
 
 use crate::program::{Run, run_program};
 use crate::refusals::Refusal;
@@ -38,13 +39,20 @@ pub(crate) fn decide<'a, S: Store>(
     ensures refused { IfErr result (λ why. Refuses (map string_bytes words.now) (S.state store.old) (S.state store.new) why.refusal why.name.now) }
 {
     match read_words(words) {
-        Ok(Job::Run { file, opts, input }) => {
-            match run_files(alloc, file, input, opts.entries, store) {
-                Ok(run) => Ok(run),
-                Err(why) => Err(why),
-            }
-        }
-        Err(WordsFault::Word { number }) => Err(unnamed(Refusal::Word(number))),
+        Ok(job) => match run_job(alloc, job, store) {
+            Ok(run) => Ok(run),
+            Err(why) => Err(why),
+        },
+        Err(fault) => Err(bad_word(fault)),
+    }
+}
+
+// The refusal of words that are no line.
+fn bad_word<'a>(fault: WordsFault) -> Why<'a>
+    ensures { result.refusal ≡ Refusal.Word (number_of fault) }
+{
+    match fault {
+        WordsFault::Word { number } => unnamed(Refusal::Word(number)),
     }
 }
 
@@ -53,6 +61,21 @@ fn unnamed<'a>(refusal: Refusal) -> Why<'a>
     ensures { result.refusal ≡ refusal }
 {
     Why { refusal, name: "" }
+}
+
+fn run_job<'a, S: Store>(alloc: Global, job: Job<'a>, store: &mut S) -> Result<Run, Why<'a>>
+    requires { HasEntries (command_of job) }
+    ensures ran { IfOk result (λ run. JobRan (S.state store.old) (S.state store.new) (command_of job.entry) run.journal.items run.output.items run.ending) }
+    ensures refused { IfErr result (λ why. JobRefused (S.state store.old) (S.state store.new) (command_of job.entry) why.refusal why.name.now) }
+{
+    match job {
+        Job::Run { file, opts, input } => {
+            match run_files(alloc, file, input, opts.entries, store) {
+                Ok(run) => Ok(run),
+                Err(why) => Err(why),
+            }
+        }
+    }
 }
 
 fn run_files<'a, S: Store>(
