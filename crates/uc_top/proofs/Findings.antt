@@ -1,19 +1,15 @@
 -- What the parts of the top call find, put together.
-use Rattle.std.proofs.Common.{◌≡◌, ℕ, zero, suc, ◌+◌, ◌-◌, ◌<◌, ◌≤◌, List, [], ◌∷◌, length, refl, sym, ap, ◌∙◌, subst, inl, inr, arith, false, true, Bool, cond}
-use Rattle.std.specs.Prelude.{Option, Some, None, min, ◌==◌, ◌&&◌, ◌⊎◌}
-use Rattle.uc_tree.specs.declared.limits.TheConstants.{PROGRAM_BYTES, INPUT_BYTES, NESTING, ENTRIES_MIN}
+use Rattle.std.proofs.Common.{◌≡◌, ℕ, ◌≤◌, List, length, refl, sym, ◌∙◌, subst, inl, inr}
+use Rattle.std.specs.Prelude.{Option}
+use Rattle.uc_tree.specs.declared.limits.TheConstants.{PROGRAM_BYTES, NESTING, ENTRIES_MIN}
 use Rattle.uc_tree.specs.declared.pos.Pos.{Pos}
 use Rattle.uc_tree.specs.declared.token.Token.{Token}
 use Rattle.uc_tree.specs.declared.scan.Reason.{Reason}
 use Rattle.uc_tree.specs.Tokens.{tokens, Read, Refused, pos_at}
-use Rattle.uc_tree.specs.Programs.{Program, Routine, Item, RoutineItem}
-use Rattle.uc_tree.specs.Cells.{routine_cells}
-use Rattle.uc_tree.specs.Sizes.{program_size}
-use Rattle.uc_grammar.specs.Text.{IsProgram}
+use Rattle.uc_tree.specs.Programs.{Program}
 use Rattle.uc_parse_class.specs.Found.{OnlyProgram, NoProgram}
 use Rattle.uc_meaning.specs.declared.entry.Options.{Options}
 use Rattle.uc_meaning.specs.Journal.{Journal}
-use Rattle.uc_meaning.specs.Accepted.{FitFrames, IsAccepted}
 use Rattle.uc_outside.specs.Reading.{StoreState, KeepsFiles, ReadBytes}
 use Rattle.uc_top.specs.declared.endings.Ending.{Ending}
 use Rattle.uc_top.specs.declared.refusals.Refusal.{Refusal}
@@ -21,7 +17,7 @@ use Rattle.uc_top.specs.declared.refusals.Refusal.TheVariants.{Word, CannotRead,
 use Rattle.uc_words.specs.Words.{Words, IsFirstBad, Command, RunFile, IsLine}
 use Rattle.uc_alone_stub.specs.Ends.{alone_options}
 use Rattle.uc_top.proofs.Line.{opts_alone, entries_min}
-use Rattle.uc_top.specs.Built.{Asks, IsBuilt, HasLargeFrame, HasLargeCode, ProgramRan, HasFault, Spells, IsTextOf, TextRan, ReadsTexts, ReadsInput, HasRun}
+use Rattle.uc_top.specs.Built.{Asks, IsBuilt, HasLargeFrame, HasLargeCode, ProgramRan, HasFault, IsTextOf, TextRan, ReadsTexts, ReadsInput, HasRun}
 use Rattle.uc_top.specs.Refusals.{Refuses}
 use Rattle.uc_top.specs.Decisions.{ProgramRefused, AreOf, AreTokensOf, TokensRan, TokensRefused, TextRefused, FilesRan, FilesRefused, NotRead, InputNotRead, file_of, input_of, entries_of}
 
