@@ -1,7 +1,7 @@
 -- What each status of the top call says, from what it leaves.
-use Rattle.std.proofs.Common.{◌≡◌, ◌≢◌, ◌<◌, ℕ, List, [], ◌∷◌, ◌⊎◌, inl, inr, refl, sym, ◌∙◌, subst, ap, arith, length}
-use Rattle.std.specs.Prelude.{IsTrue, Option, Some, None}
-use Rattle.uc_tree.specs.declared.limits.TheConstants.{PROGRAM_BYTES, INPUT_BYTES, FRAME_CELLS, PROGRAM_SIZE}
+use Rattle.std.proofs.Common.{◌≡◌, ◌≢◌, ◌<◌, ℕ, List, [], ◌∷◌, ◌⊎◌, inl, inr, refl, sym, ◌∙◌, subst, arith}
+use Rattle.std.specs.Prelude.{IsTrue, Option}
+use Rattle.uc_tree.specs.declared.limits.TheConstants.{PROGRAM_BYTES, FRAME_CELLS}
 use Rattle.uc_tree.specs.declared.pos.Pos.{Pos}
 use Rattle.uc_tree.specs.declared.scan.Reason.{Reason}
 use Rattle.uc_tree.specs.Programs.{Program, Item, Routine, RoutineItem}
@@ -14,15 +14,15 @@ use Rattle.uc_outside.specs.Faults.{CountRose}
 use Rattle.uc_outside.specs.Taking.{SinkState, Took, Stopped}
 use Rattle.uc_outside.proofs.Taken.{fits-no_failure, took-stopped, failed-stopped}
 use Rattle.uc_outside.proofs.Read.{has_file-no_failure, has_file-not_long, has_file-content}
-use Rattle.uc_words.specs.Words.{Words, Command, RunFile, IsLine, IsRunLine}
+use Rattle.uc_words.specs.Words.{Command, RunFile, IsLine}
 use Rattle.uc_top.specs.declared.endings.Ending.{Ending}
 use Rattle.uc_top.specs.declared.endings.Ending.TheVariants as ending
 use Rattle.uc_top.specs.declared.refusals.Refusal.{Refusal}
 use Rattle.uc_top.specs.declared.refusals.Refusal.TheVariants.{Word, CannotRead, TooLong, Lexical, NotBuilt, FrameTooLarge, CodeTooLarge, NoMemory}
 use Rattle.uc_top.specs.Endings.{ending_status, ending_text}
-use Rattle.uc_top.specs.Built.{IsBuilt, HasLargeFrame, HasLargeCode, Spells, IsTextOf, IsAcceptedText, HasFault, GaveTexts, HasInput}
-use Rattle.uc_top.specs.Refusals.{status_of, refusal_text, ProgramUnread, InputUnread, ProgramTooLong, InputTooLong}
-use Rattle.uc_top.specs.Outcomes.{Scene, Ran, Refused, Leaves, ended, refused, out_failed, line_failed, err_failed, Tried, Told, TextTold, OfEnding, Completed, TooHigh, Causes, Stops, HasTexts, HasProgram, Answers, HaveRooms, Completes}
+use Rattle.uc_top.specs.Built.{HasLargeFrame, HasLargeCode, IsTextOf, IsAcceptedText, HasFault, GaveTexts}
+use Rattle.uc_top.specs.Refusals.{status_of, ProgramUnread, InputUnread, ProgramTooLong, InputTooLong}
+use Rattle.uc_top.specs.Outcomes.{Scene, Ran, Refused, Leaves, ended, refused, out_failed, line_failed, err_failed, Tried, Told, OfEnding, TooHigh, Causes, Stops, HasTexts, HasProgram, Answers, HaveRooms, Completes}
 use Rattle.uc_top.proofs.Line.{same_line}
 
 not_high : (s : Scene) {xs ys : List ℕ} → Took s.out s.out_after xs → Took s.err s.err_after ys → TooHigh s → ⊥

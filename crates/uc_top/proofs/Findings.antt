@@ -1,19 +1,15 @@
 -- What the parts of the top call find, put together.
-use Rattle.std.proofs.Common.{◌≡◌, ℕ, zero, suc, ◌+◌, ◌-◌, ◌<◌, ◌≤◌, List, [], ◌∷◌, length, refl, sym, ap, ◌∙◌, subst, inl, inr, arith, false, true, Bool, cond}
-use Rattle.std.specs.Prelude.{Option, Some, None, min, ◌==◌, ◌&&◌, ◌⊎◌}
-use Rattle.uc_tree.specs.declared.limits.TheConstants.{PROGRAM_BYTES, INPUT_BYTES, NESTING, FRAME_CELLS, PROGRAM_SIZE}
+use Rattle.std.proofs.Common.{◌≡◌, ℕ, ◌≤◌, List, length, refl, sym, ◌∙◌, subst, inl, inr}
+use Rattle.std.specs.Prelude.{Option}
+use Rattle.uc_tree.specs.declared.limits.TheConstants.{PROGRAM_BYTES, NESTING, ENTRIES_MIN}
 use Rattle.uc_tree.specs.declared.pos.Pos.{Pos}
 use Rattle.uc_tree.specs.declared.token.Token.{Token}
 use Rattle.uc_tree.specs.declared.scan.Reason.{Reason}
 use Rattle.uc_tree.specs.Tokens.{tokens, Read, Refused, pos_at}
-use Rattle.uc_tree.specs.Programs.{Program, Routine, Item, RoutineItem}
-use Rattle.uc_tree.specs.Cells.{routine_cells}
-use Rattle.uc_tree.specs.Sizes.{program_size}
-use Rattle.uc_grammar.specs.Text.{IsProgram}
+use Rattle.uc_tree.specs.Programs.{Program}
 use Rattle.uc_parse_class.specs.Found.{OnlyProgram, NoProgram}
 use Rattle.uc_meaning.specs.declared.entry.Options.{Options}
 use Rattle.uc_meaning.specs.Journal.{Journal}
-use Rattle.uc_meaning.specs.Accepted.{FitFrames, IsAccepted}
 use Rattle.uc_outside.specs.Reading.{StoreState, KeepsFiles, ReadBytes}
 use Rattle.uc_top.specs.declared.endings.Ending.{Ending}
 use Rattle.uc_top.specs.declared.refusals.Refusal.{Refusal}
@@ -21,9 +17,9 @@ use Rattle.uc_top.specs.declared.refusals.Refusal.TheVariants.{Word, CannotRead,
 use Rattle.uc_words.specs.Words.{Words, IsFirstBad, Command, RunFile, IsLine}
 use Rattle.uc_alone.specs.Alone.{alone_options}
 use Rattle.uc_top.proofs.Line.{opts_alone, entries_min}
-use Rattle.uc_top.specs.Built.{Asks, IsBuilt, HasLargeFrame, HasLargeCode, ProgramRan, HasFault, Spells, IsTextOf, TextRan, ReadsTexts, ReadsInput, HasRun}
+use Rattle.uc_top.specs.Built.{Asks, IsBuilt, HasLargeFrame, HasLargeCode, ProgramRan, HasFault, IsTextOf, TextRan, ReadsTexts, ReadsInput, HasRun}
 use Rattle.uc_top.specs.Refusals.{Refuses}
-use Rattle.uc_top.specs.Decisions.{ProgramRefused, AreOf, AreTokensOf, TokensRan, TokensRefused, TextRefused, FilesRan, FilesRefused, NotRead, InputNotRead, HasEntries, JobRan, JobRefused}
+use Rattle.uc_top.specs.Decisions.{ProgramRefused, AreOf, AreTokensOf, TokensRan, TokensRefused, TextRefused, FilesRan, FilesRefused, NotRead, InputNotRead, file_of, input_of, entries_of}
 
 -- tokens
 
@@ -149,11 +145,15 @@ has_run_alone {a = a} {b = b} {file = file} {named = named} {journal = journal} 
 pub bad_word : {words : Words} (a : StoreState) (r : Refusal) (n : ℕ) (name : List ℕ) → r ≡ Word n → IsFirstBad words n → Refuses words a a r name
 bad_word {words} a r n name e first = subst (λ x. Refuses words a a x name) (sym e) (record { first = first; unread = refl })
 
-pub has_entries : (words : Words) (c : Command) → IsLine words c → HasEntries c
-has_entries words (RunFile file opts named) l = entries_min l
+pub has_entries : (words : Words) (c : Command) (n : ℕ) → IsLine words c → n ≡ entries_of c → ENTRIES_MIN ≤ n
+has_entries words (RunFile file opts named) n l e = subst (λ k. ENTRIES_MIN ≤ k) (sym e) (entries_min l)
 
-pub job_ran : {words : Words} (a b : StoreState) (c : Command) (journal : Journal) (output : List ℕ) (ending : Ending) → IsLine words c → ((other : Command) → IsLine words other → other ≡ c) → JobRan a b c journal output ending → HasRun words a b journal output ending
-job_ran a b (RunFile file opts named) journal output ending l only r = has_run_alone (record { line = l; only = only }) r
+pub job_ran : {words : Words} (a b : StoreState) (c : Command) (file : List ℕ) (named : Option (List ℕ)) (n : ℕ) (journal : Journal) (output : List ℕ) (ending : Ending) → IsLine words c → ((other : Command) → IsLine words other → other ≡ c) → file ≡ file_of c → named ≡ input_of c → n ≡ entries_of c → FilesRan a b file named (alone_options n) journal output ending → HasRun words a b journal output ending
+job_ran a b (RunFile f opts m) file named n journal output ending l only ef en ek r =
+    let s : FilesRan a b f m (alone_options opts.entries) journal output ending = subst (λ k. FilesRan a b f m (alone_options k) journal output ending) ek (subst (λ x. FilesRan a b f x (alone_options n) journal output ending) en (subst (λ x. FilesRan a b x named (alone_options n) journal output ending) ef r)) in
+    has_run_alone (record { line = l; only = only }) s
 
-pub job_refused : {words : Words} (a b : StoreState) (c : Command) (r : Refusal) (name : List ℕ) → IsLine words c → ((other : Command) → IsLine words other → other ≡ c) → JobRefused a b c r name → Refuses words a b r name
-job_refused a b (RunFile file opts named) r name l only h = refuses a b name (record { line = l; only = only }) r h
+pub job_refused : {words : Words} (a b : StoreState) (c : Command) (file : List ℕ) (named : Option (List ℕ)) (r : Refusal) (name : List ℕ) → IsLine words c → ((other : Command) → IsLine words other → other ≡ c) → file ≡ file_of c → named ≡ input_of c → FilesRefused a b file named r name → Refuses words a b r name
+job_refused a b (RunFile f opts m) file named r name l only ef en h =
+    let s : FilesRefused a b f m r name = subst (λ x. FilesRefused a b f x r name) en (subst (λ x. FilesRefused a b x named r name) ef h) in
+    refuses a b name (record { line = l; only = only }) r s

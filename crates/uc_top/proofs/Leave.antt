@@ -1,16 +1,15 @@
 -- What the top call leaves, from what its parts did.
-use Rattle.std.proofs.Common.{◌≡◌, ℕ, List, [], sym, subst, refl, ap, ◌∙◌, inl, inr, ℤ, ◌∷◌}
-use Rattle.std.specs.Prelude.{OnOk, OnErr, Result, Ok, Err, ◌⊎◌, codes, decimal}
+use Rattle.std.proofs.Common.{◌≡◌, ℕ, List, [], sym, subst, ap, ◌∙◌, inl, inr, ℤ, ◌∷◌}
+use Rattle.std.specs.Prelude.{OnOk, OnErr, Result, Ok, Err, codes}
 use Rattle.std.specs.List.{concat}
-use Rattle.std.specs.Fmt.{signed_decimal}
 use Rattle.uc_meaning.specs.Journal.{Journal}
 use Rattle.uc_outside.specs.Taking.{SinkState, Took, TookPrefix, FailedAt}
 use Rattle.uc_top.specs.declared.endings.Ending.{Ending}
 use Rattle.uc_top.specs.declared.endings.Ending.TheVariants.{Fault}
 use Rattle.uc_top.specs.declared.refusals.Refusal.{Refusal}
-use Rattle.uc_top.specs.Endings.{ending_status, ending_text, fault_name}
+use Rattle.uc_top.specs.Endings.{ending_status, ending_text}
 use Rattle.uc_top.specs.Refusals.{status_of, refusal_text}
-use Rattle.uc_top.specs.Outcomes.{Scene, Ran, Refused, Failed, Tried, Leaves, ended, refused, out_failed, line_failed, err_failed}
+use Rattle.uc_top.specs.Outcomes.{Scene, Ran, Refused, Tried, Leaves, ended, refused, out_failed, line_failed, err_failed}
 use Rattle.uc_top.specs.Decisions.{Finished, whole}
 use Rattle.uc_top.specs.Decisions as told
 

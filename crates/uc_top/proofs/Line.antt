@@ -1,9 +1,9 @@
 -- What a line of words says of its options and its files.
-use Rattle.std.proofs.Common.{◌≡◌, ℕ, ◌≤◌, List, [], ◌∷◌, refl, sym, ◌∙◌, ap, subst, arith}
-use Rattle.std.specs.Prelude.{Option, Some, None, option_to_list, filter_map, unwrap_or, flat_map}
-use Rattle.uc_tree.specs.declared.limits.TheConstants.{ENTRIES_MIN, ENTRIES_MAX, ENTRIES_DEFAULT}
+use Rattle.std.proofs.Common.{◌≡◌, ℕ, ◌≤◌, List, [], ◌∷◌, sym, ◌∙◌, ap, subst, arith}
+use Rattle.std.specs.Prelude.{Option, Some, None, option_to_list, filter_map, unwrap_or}
+use Rattle.uc_tree.specs.declared.limits.TheConstants.{ENTRIES_MIN, ENTRIES_DEFAULT}
 use Rattle.uc_meaning.specs.declared.entry.Options.{Options}
-use Rattle.uc_words.specs.Words.{Words, Piece, File, Entries, Input, ArePieces, IsRunLine, entries_in, options_with, Command, RunFile}
+use Rattle.uc_words.specs.Words.{Words, Piece, File, Entries, Input, ArePieces, IsRunLine, entries_in, RunFile}
 use Rattle.uc_top.specs.Built.{Asks}
 use Rattle.uc_alone.specs.Alone.{alone_options}
 

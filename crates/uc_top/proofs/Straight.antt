@@ -1,14 +1,14 @@
 -- The one routine of a straight program.
-use Rattle.std.proofs.Common.{◌≡◌, ◌≢◌, ℕ, suc, ◌≤◌, ◌<◌, ◌&&◌, Bool, true, false, List, [], ◌∷◌, ◌++◌, refl, sym, ◌∙◌, ap, subst, arith, length, cond}
+use Rattle.std.proofs.Common.{◌≡◌, suc, ◌≤◌, ◌<◌, ◌&&◌, Bool, true, false, List, [], ◌∷◌, refl, sym, ◌∙◌, ap, subst, cond}
 use Rattle.uc_tree.specs.declared.limits.TheConstants.{FRAME_CELLS}
 use Rattle.uc_tree.specs.declared.kinds.Owner.{Owner}
 use Rattle.uc_tree.specs.declared.kinds.Owner.TheVariants as owner
 use Rattle.uc_tree.specs.Programs.{Program, Routine, Item, ClassItem, RoutineItem, ConstItem, ProtoItem, ForwardItem, UsingItem}
 use Rattle.uc_tree.specs.Names.{same_name}
 use Rattle.uc_tree.specs.Cells.{routine_cells}
-use Rattle.uc_tree.specs.Numbering.{Defined, defined_by, items_defined, routines_of, main_name}
+use Rattle.uc_tree.specs.Numbering.{defined_by, items_defined, main_name}
 use Rattle.uc_tree.specs.Resolve.{source_of, is_main, is_main_owner, main_place}
-use Rattle.uc_meaning.specs.Straight.{IsStraight, is_straight, is_straight_list, is_straight_item, is_straight_routine, is_of_main, is_plain_role, is_void, no_params, no_inits, are_straight}
+use Rattle.uc_meaning.specs.Straight.{IsStraight, is_straight, is_straight_list, is_straight_routine, is_of_main, is_plain_role, is_void, no_params, no_inits, are_straight}
 use Rattle.uc_meaning.specs.Accepted.{FitFrames}
 use Rattle.uc_top.specs.Built.{IsBuilt, HasLargeFrame}
 

@@ -1,6 +1,6 @@
 -- What the parts of the top call find: of a program, of tokens, of a text, of the files.
-use Rattle.std.specs.Prelude.{◌≡◌, ℕ, ◌≤◌, ◌⊎◌, List, [], length, codes, Option, Some}
-use Rattle.uc_tree.specs.declared.limits.TheConstants.{NESTING, INPUT_BYTES, ENTRIES_MIN}
+use Rattle.std.specs.Prelude.{◌≡◌, ℕ, ◌⊎◌, List, [], length, codes, Option, Some}
+use Rattle.uc_tree.specs.declared.limits.TheConstants.{NESTING, INPUT_BYTES}
 use Rattle.uc_tree.specs.declared.token.Token.{Token}
 use Rattle.uc_tree.specs.Programs.{Program}
 use Rattle.uc_grammar.specs.Text.{IsProgram}
@@ -9,7 +9,6 @@ use Rattle.uc_meaning.specs.Journal.{Journal}
 use Rattle.uc_outside.specs.Reading.{StoreState, ReadFailed, ReadTooLong}
 use Rattle.uc_outside.specs.Taking.{SinkState, Took}
 use Rattle.uc_words.specs.Words.{Command, RunFile}
-use Rattle.uc_alone.specs.Alone.{alone_options}
 use Rattle.uc_top.specs.declared.endings.Ending.{Ending}
 use Rattle.uc_top.specs.declared.refusals.Refusal.{Refusal}
 use Rattle.uc_top.specs.declared.refusals.Refusal.TheVariants.{Word, CannotRead, TooLong, Lexical, NotBuilt, FrameTooLarge, CodeTooLarge, NoMemory}
@@ -102,16 +101,16 @@ FilesRefused before after file named FrameTooLarge name = FilesSuch before after
 FilesRefused before after file named CodeTooLarge name = FilesSuch before after file named (λ text. IsTextOf text HasLargeCode)
 FilesRefused before after file named NoMemory name = after.count ≡ before.count
 
--- what a job asks for: a run under options with room for a journal
+-- what a command names, and its bound on entries
 
-abbrev pub HasEntries : Command → Type 0
-HasEntries (RunFile file opts named) = ENTRIES_MIN ≤ opts.entries
+abbrev pub file_of : Command → List ℕ
+file_of (RunFile file opts named) = file
 
-abbrev pub JobRan : StoreState → StoreState → Command → Journal → List ℕ → Ending → Type 0
-JobRan before after (RunFile file opts named) journal output ending = FilesRan before after file named (alone_options opts.entries) journal output ending
+abbrev pub input_of : Command → Option (List ℕ)
+input_of (RunFile file opts named) = named
 
-abbrev pub JobRefused : StoreState → StoreState → Command → Refusal → List ℕ → Type 0
-JobRefused before after (RunFile file opts named) refusal name = FilesRefused before after file named refusal name
+abbrev pub entries_of : Command → ℕ
+entries_of (RunFile file opts named) = opts.entries
 
 -- a run is told: out got what it printed and err the line of its ending, or one of them failed at it
 pub data Finished (out out_after err err_after : SinkState) (output : List ℕ) (ending : Ending) : ℕ → Type 0 where

@@ -8,7 +8,7 @@ ghost use Rattle.uc_words.specs.Rest.{command_of, number_of};
 ghost use Rattle.uc_alone.specs.Alone.{alone_options};
 ghost use Rattle.uc_top.specs.Built.{HasRun, TextRan, ReadsTexts, ReadsInput};
 ghost use Rattle.uc_top.specs.Refusals.{Refuses};
-ghost use Rattle.uc_top.specs.Decisions.{TokensRan, TokensRefused, TextRefused, FilesRan, FilesRefused, NotRead, InputNotRead, HasEntries, JobRan, JobRefused};
+ghost use Rattle.uc_top.specs.Decisions.{TokensRan, TokensRefused, TextRefused, FilesRan, FilesRefused, NotRead, InputNotRead, file_of, input_of, entries_of};
 
 use crate::program::{Run, run_program};
 use crate::refusals::Refusal;
@@ -39,7 +39,7 @@ pub(crate) fn decide<'a, S: Store>(
     ensures refused { IfErr result (λ why. Refuses (map string_bytes words.now) (S.state store.old) (S.state store.new) why.refusal why.name.now) }
 {
     match read_words(words) {
-        Ok(job) => match run_job(alloc, job, store) {
+        Ok(job) => match run_files(alloc, file_of(job), input_of(job), entries_of(job), store) {
             Ok(run) => Ok(run),
             Err(why) => Err(why),
         },
@@ -63,18 +63,30 @@ fn unnamed<'a>(refusal: Refusal) -> Why<'a>
     Why { refusal, name: "" }
 }
 
-fn run_job<'a, S: Store>(alloc: Global, job: Job<'a>, store: &mut S) -> Result<Run, Why<'a>>
-    requires { HasEntries (command_of job) }
-    ensures ran { IfOk result (λ run. JobRan (S.state store.old) (S.state store.new) (command_of job.entry) run.journal.items run.output.items run.ending) }
-    ensures refused { IfErr result (λ why. JobRefused (S.state store.old) (S.state store.new) (command_of job.entry) why.refusal why.name.now) }
+// The file that a job names.
+fn file_of<'a>(job: Job<'a>) -> &'a str
+    ensures { result.now ≡ file_of (command_of job.entry) }
 {
     match job {
-        Job::Run { file, opts, input } => {
-            match run_files(alloc, file, input, opts.entries, store) {
-                Ok(run) => Ok(run),
-                Err(why) => Err(why),
-            }
-        }
+        Job::Run { file, .. } => file,
+    }
+}
+
+// The input that a job names.
+fn input_of<'a>(job: Job<'a>) -> Option<&'a str>
+    ensures { option_copied result ≡ input_of (command_of job.entry) }
+{
+    match job {
+        Job::Run { input, .. } => input,
+    }
+}
+
+// The bound on entries of a job.
+fn entries_of(job: Job<'_>) -> u32
+    ensures { result ≡ entries_of (command_of job.entry) }
+{
+    match job {
+        Job::Run { opts, .. } => opts.entries,
     }
 }
 

@@ -1,5 +1,4 @@
 use Rattle.std.proofs.Common.{◌≡◌, take}
-use Rattle.std.specs.Prelude.{map}
 use Rattle.uc_meaning.specs.Texts.{printed}
 use Rattle.uc_top.proofs.printing.printed_bytes.Given as goal
 
