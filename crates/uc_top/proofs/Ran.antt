@@ -1,5 +1,6 @@
 -- What the code of an accepted program and its run come to.
-use Rattle.std.proofs.Common.{◌≡◌, ℕ, List, ap, ◌∙◌, subst}
+use Rattle.std.proofs.Common.{◌≡◌, ◌⊎◌, inl, inr, ℕ, List, [], ◌∷◌, refl, sym, ap, ◌∙◌, subst}
+use Rattle.std.specs.Prelude.{slice_get}
 use Rattle.uc_tree.specs.Programs.{Program}
 use Rattle.uc_tree.specs.Source.{Source}
 use Rattle.uc_tree.specs.Resolve.{source_of, routine_meant}
