@@ -217,12 +217,7 @@ fn fault_at(text: &[u8], why: Reason, at: u32) -> Refusal
     Refusal::Lexical(why, pos_at(text, at))
 }
 
-fn run_tokens(
-    alloc: Global,
-    tokens: &[Token],
-    input: &[u8],
-    entries: u32,
-) -> Result<Run, Refusal>
+fn run_tokens(alloc: Global, tokens: &[Token], input: &[u8], entries: u32) -> Result<Run, Refusal>
     requires few { length tokens.now < 2 ^ 32 }
     requires input { length input.now ≤ INPUT_BYTES }
     requires entries { ENTRIES_MIN ≤ entries }

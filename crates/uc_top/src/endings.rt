@@ -92,7 +92,15 @@ fn put_fault<E: Sink>(err: &mut E, number: i64, line: i64, task: u32) -> Result<
     let task = task_buffer.format(task).as_bytes();
     put_pieces(
         err,
-        &[b"ucpp: fault ", name, b" at line ", line, b" in task ", task, b"\n"],
+        &[
+            b"ucpp: fault ",
+            name,
+            b" at line ",
+            line,
+            b" in task ",
+            task,
+            b"\n",
+        ],
     )?;
     Ok(())
 }

@@ -36,12 +36,7 @@ fn print_entry(bytes: &mut Vec<u8>, texts: &[Text], entry: &Entry) -> Result<(),
 }
 
 // Appends the bytes of an item.
-fn print_item(
-    bytes: &mut Vec<u8>,
-    texts: &[Text],
-    form: i64,
-    value: i64,
-) -> Result<(), AllocError>
+fn print_item(bytes: &mut Vec<u8>, texts: &[Text], form: i64, value: i64) -> Result<(), AllocError>
     ensures { OnOk result (bytes.new.items ≡ bytes.old.items ++ bytes_of texts.now form value) }
 {
     if form == 0 {

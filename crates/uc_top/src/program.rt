@@ -52,12 +52,7 @@ pub(crate) fn run_program(
     }
 }
 
-fn run_built(
-    alloc: Global,
-    program: &Program,
-    input: &[u8],
-    entries: u32,
-) -> Result<Run, Refusal>
+fn run_built(alloc: Global, program: &Program, input: &[u8], entries: u32) -> Result<Run, Refusal>
     requires built { IsBuilt program.now }
     requires input { length input.now ≤ INPUT_BYTES }
     requires entries { ENTRIES_MIN ≤ entries }

@@ -52,7 +52,10 @@ fn answer(alloc: Global, row: &Row) -> Result<String, AllocError> {
     let outcome = run_words(alloc, &words, &mut store, &mut out, &mut err, &OpenGate);
     let shown = String::from_utf8_lossy(alloc, out.bytes())?;
     let told = String::from_utf8_lossy(alloc, err.bytes())?;
-    format!(in alloc; "== {}\n{}|\n{}status {}\n", row.words, shown, told, outcome.status)
+    format!(in alloc;
+        "== {}\n{}|\n{}status {}\n",
+        row.words, shown, told, outcome.status
+    )
 }
 
 fn main(rt: HostRuntime) -> io::Result<()> {
