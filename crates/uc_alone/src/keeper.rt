@@ -171,7 +171,8 @@ fn keep_fault(
     Ok(None)
 }
 
-/// The journal after a request of the task: it goes on with an answer, or the run is over.
+/// The journal after a request of the task: it goes on with an answer, or the run is over. A request of which no straight
+/// program makes use ends it without an entry.
 pub(crate) fn keep(
     journal: &mut Vec<Entry>,
     reads: &mut Reads,

@@ -23,8 +23,9 @@ use uc_meaning::list::List;
 use uc_step::begin::begin;
 use uc_step::step::answer;
 
-/// Runs the program's one task, whose main is the routine of this number, on this input; the journal has at most
-/// `entries` entries. Its last entry is the end of the run: done, a run fault, or the limit.
+/// Runs the program's one task, whose main is the routine of this number, on this input. Of code that was lowered from a
+/// source with this main, the journal has at most `entries` entries, and the last one is the end of the run: done, a run
+/// fault, or the limit.
 pub fn run_alone(
     alloc: Global,
     code: &Code,

@@ -7,4 +7,3 @@ pub mod Told
 pub mod Computed
 pub mod Far
 pub mod First
-pub mod Steps

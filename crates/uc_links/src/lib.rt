@@ -1,4 +1,4 @@
-// ucpp: one pool of nodes, linked by raw pointers, that holds each object's entry queue and stack.
+// One pool of nodes, linked by raw pointers, that holds each object's entry queue and stack.
 #![tactic(auto)]
 
 mod chain;

@@ -19,7 +19,7 @@ use std::sync::ledger::Ledger;
 /// at most one list at a time.
 ///
 /// `new` takes the memory of all nodes and `add_object` that of one object; no other call takes memory. Each of the
-/// others visits a fixed number of nodes, whatever waits, and counts one move. The memory is freed when the pool ends.
+/// others visits a fixed number of nodes, whatever waits (no function that changes links has a loop), and counts one move. The memory is freed when the pool ends.
 #[derive(Drop)]
 pub struct Links {
     nodes: Vec<Node, Global>,

@@ -19,8 +19,10 @@ pub use view::Terms;
 /// A value that a lock can hold. Contracts see its key, which no holder may change, and its journal, which a holder may only append to.
 /// The journal is a list of pairs of an item and its maker, the number of the seat that made it.
 pub trait Journaled {
+    /// What of a value no holder may change.
     type Key;
 
+    /// An entry of a value's journal.
     type Item;
 
     ghost key_of: { Self → Self.Key };

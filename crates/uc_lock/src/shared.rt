@@ -33,7 +33,8 @@ impl<V: Journaled> Model for Shared<V> {
 }
 
 impl<V: Journaled> Shared<V> {
-    /// A lock round the value, and its seats. The seat at each place of the list has that place as its number.
+    /// A lock round the value, and its seats, 1 to 64. The seat at each place of the list has that place as its number;
+    /// the value's journal holds no item of these seats.
     /// On `AllocError` the value is gone.
     pub fn new(alloc: Global, v: V, seats: u32) -> Result<(Shared<V>, Vec<Seat<V>>), AllocError>
     where

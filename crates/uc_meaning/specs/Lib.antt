@@ -10,7 +10,6 @@ pub mod Reading
 pub mod Acts
 pub mod Runs
 pub mod Texts
-pub mod Sums
 pub mod Straight
 pub mod RulesNames
 pub mod RulesTypes

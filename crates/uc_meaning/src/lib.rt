@@ -7,4 +7,3 @@ pub mod got;
 pub mod list;
 pub mod request;
 pub mod rule;
-pub mod sums;

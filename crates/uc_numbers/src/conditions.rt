@@ -114,10 +114,20 @@ pub fn condition_number(
     Ok(number)
 }
 
-/// How many conditions a class has, an array counted by its length. The greatest number stands for all that are greater.
-pub fn condition_count(alloc: Global, sizes: &Sizes, class: &Class) -> Result<u64, AllocError>
-    ensures { IfOk result (λ count. count ≡ capped (condition_count sizes.now class.now)) }
+/// How many conditions a class has, an array counted by its length. The place is that of the class among the classes of the
+/// program, events included. A class that has itself in its fields, directly or through others, has none. The greatest number
+/// stands for all that are greater.
+pub fn condition_count(
+    alloc: Global,
+    sizes: &Sizes,
+    place: usize,
+    class: &Class,
+) -> Result<u64, AllocError>
+    ensures { IfOk result (λ count. count ≡ capped (condition_count sizes.now place class.now)) }
 {
+    if sizes.has_itself(place) {
+        return Ok(0);
+    }
     let conditions = conditions_in(alloc, &class.members)?;
     let count = count_of(sizes, class, &conditions);
     Ok(count)

@@ -126,8 +126,8 @@ fn push_name<'a>(names: &mut Vec<&'a Name>, member: &'a Member) -> Result<(), Al
     }
 }
 
-/// The names of the mutex members of a class besides its destructor, in textual order, as far as they have numbers.
-pub fn members_of<'a>(alloc: Global, class: &'a Class) -> Result<Vec<&'a Name>, AllocError>
+// The names of the mutex members of a class besides its destructor, as many as have numbers.
+fn names_in<'a>(alloc: Global, class: &'a Class) -> Result<Vec<&'a Name>, AllocError>
     ensures { IfOk result (λ v. map (λ n. n.now) v.items ≡ take MEMBERS (mutex_members class.now)) }
 {
     let mut names = Vec::new(alloc);
@@ -137,6 +137,15 @@ pub fn members_of<'a>(alloc: Global, class: &'a Class) -> Result<Vec<&'a Name>, 
     for member in &class.members {
         push_name(&mut names, member)?;
     }
+    Ok(names)
+}
+
+/// The names of the mutex members of a class besides its destructor, in textual order, as far as they have numbers.
+pub fn members_of<'a>(alloc: Global, class: &'a Class) -> Result<Vec<&'a Name>, AllocError>
+    ensures names { IfOk result (λ v. map (λ n. n.now) v.items ≡ take MEMBERS (mutex_members class.now)) }
+    ensures few { IfOk result (λ v. length v.items ≤ MEMBERS) }
+{
+    let names = names_in(alloc, class)?;
     Ok(names)
 }
 

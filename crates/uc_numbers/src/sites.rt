@@ -31,6 +31,7 @@ fn listed_number(names: &[&Name], member: &MemberName) -> u8
     }
     match member_number(names, &member.name) {
         Some(number) => number,
+        // A name that is no mutex member stands for 0, as in the definition.
         None => 0,
     }
 }

@@ -30,6 +30,7 @@ impl<'a, R> Model for FileStore<'a, R> {
 }
 
 impl<'a, R: Files> FileStore<'a, R> {
+    /// A store of the files of this runtime, with no failed read so far.
     pub fn new(rt: &'a R) -> FileStore<'a, R>
         ensures { result ≡ 0 }
     {

@@ -17,8 +17,7 @@ pub trait Store {
     fn faults(&self) -> u64
         ensures { result ≡ (state self.now).count };
 
-    /// Reads the bytes of a name, at most `limit` of them, and takes at most one byte more from
-    /// the outside.
+    /// Reads the bytes of a name, at most `limit` of them.
     fn read(&mut self, alloc: Global, name: &str, limit: u32) -> Result<Vec<u8>, StoreFault>
         ensures keeps { KeepsFiles (state self.old) (state self.new) }
         ensures ok { IfOk result (λ v. ReadBytes (state self.old) (state self.new) name.now limit v.items) }

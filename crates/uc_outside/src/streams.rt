@@ -25,6 +25,7 @@ impl<'a, R> Model for StdOut<'a, R> {
 }
 
 impl<'a, R: Print> StdOut<'a, R> {
+    /// The standard output of this runtime, with no failed put so far.
     pub fn new(rt: &'a R) -> StdOut<'a, R>
         ensures { result ≡ record { count = 0; told = None; room = None; failing = false } }
     {
@@ -78,6 +79,7 @@ impl<'a, R> Model for StdErr<'a, R> {
 }
 
 impl<'a, R: ErrorStream> StdErr<'a, R> {
+    /// The standard error of this runtime, with no failed put so far.
     pub fn new(rt: &'a R) -> StdErr<'a, R>
         ensures { result ≡ record { count = 0; told = None; room = None; failing = false } }
     {

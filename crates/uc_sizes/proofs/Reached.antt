@@ -6,7 +6,7 @@ use Rattle.std.proofs.lemmas.List.{get_or-set_other}
 use Rattle.uc_tree.specs.declared.rows.Object.{Object}
 use Rattle.uc_tree.specs.declared.rows.Held.{Held}
 use Rattle.uc_tree.specs.Rows.{Row, row_at, leads, object_leads, reaches, has_itself}
-use Rattle.uc_sizes.specs.Reached.{flag_at, flagged, row_leads, Led, Told}
+use Rattle.uc_sizes.specs.Reached.{flag_at, flagged, row_leads, Led, Told, AreCircles}
 
 or_true : (a b c d : Bool) → (a ≡ true → c ≡ true) → (b ≡ true → d ≡ true) → (a || b) ≡ true → (c || d) ≡ true
 or_true true b c d h k e = let t : c ≡ true = h refl in rw t refl
@@ -85,3 +85,22 @@ itself rows to fs n l t =
     same_truth (flag_at fs to) (reaches (length rows) rows to to)
     (λ f. rw e at (much_further (length rows - flagged fs) (flagged fs) rows to to (l.at to f)))
     (λ r. all_told (length rows) rows to fs t to r)
+
+-- the flags of all classes, and of none beyond the last
+
+past_flag : (fs : List Bool) (i : ℕ) → length fs ≤ i → flag_at fs i ≡ false
+past_flag [] i h = refl
+past_flag (f ∷ fs) zero h = absurd (omega arith)
+past_flag (f ∷ fs) (suc i) h = past_flag fs i (omega arith)
+
+past_reaches : (k : ℕ) (rows : List Row) (to j : ℕ) → length rows ≤ j → reaches k rows to j ≡ false
+unfolding reaches
+past_reaches zero rows to j h = refl
+past_reaches (suc k) rows to j h = past_empty rows j (leads (reaches k rows to) to) h
+
+circle_case : (rows : List Row) (circles : List Bool) → length circles ≡ length rows → AreCircles rows circles (length rows) → (i : ℕ) → (i < length rows) ⊎ (length rows ≤ i) → flag_at circles i ≡ has_itself rows i
+circle_case rows circles n a i (inl inside) = a.at i inside
+circle_case rows circles n a i (inr past) = past_flag circles i (omega arith) ∙ sym (past_reaches (length rows) rows i i past)
+
+pub circle_at : (rows : List Row) (circles : List Bool) → length circles ≡ length rows → AreCircles rows circles (length rows) → (i : ℕ) → flag_at circles i ≡ has_itself rows i
+circle_at rows circles n a i = circle_case rows circles n a i (cases_lt i (length rows))

@@ -1,4 +1,4 @@
-// Cells and numbers of whole programs: the values of constants, the cells of classes and routines, and the numbering.
+// The cells of whole programs: the values of constants, and the cells of classes, variables and routines.
 #![tactic(auto)]
 
 pub mod cells;

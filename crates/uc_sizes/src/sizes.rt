@@ -1,11 +1,9 @@
 // The cells of a program's classes and routines.
 
-ghost use Rattle.std.specs.Prelude.{◌≡◌, IfOk, length, map};
+ghost use Rattle.std.specs.Prelude.{◌≡◌, IfOk};
 ghost use Rattle.uc_tree.specs.Capped.{capped};
-ghost use Rattle.uc_tree.specs.Cells.{class_cells, classes_of, declared_cells, held_by, object_of, param_cells, seen_in};
-ghost use Rattle.uc_tree.specs.Rows.{element_cells};
-ghost use Rattle.uc_sizes.specs.CellTables.{Counted};
-ghost use Rattle.uc_sizes.specs.Held.{rows_by};
+ghost use Rattle.uc_tree.specs.Cells.{class_cells, classes_of, declared_cells, held_by, object_of, param_cells, rows_of, seen_in};
+ghost use Rattle.uc_tree.specs.Rows.{element_cells, has_itself};
 ghost use Rattle.uc_tree.specs.Constants.{constants_of, elements, value_of_name};
 
 use crate::cells::{cells_of, element_cells};
@@ -23,13 +21,15 @@ use uc_tree::name::Name;
 use uc_tree::program::{Constant, Program};
 use uc_tree::rows::{Held, Object};
 
-/// A program of which the values of constants and the cells of classes are known. Contracts see the program.
+/// A program of which the values of constants, the classes that have themselves in their fields, and the cells of classes are
+/// known. Contracts see the program.
 #[derive(Drop)]
 pub struct Sizes<'a> {
     program: &'a Program,
     classes: Vec<&'a Class>,
     constants: Vec<&'a Constant>,
     values: Vec<Option<i64>>,
+    circles: Vec<bool>,
     cells: Vec<u64>,
 }
 
@@ -45,22 +45,7 @@ impl<'a> Model for Sizes<'a> {
 
     ghost view = { λ a. a.program.now };
 
-    ghost invariant = { λ a. IsSized a.program.now (map (λ c. c.now) a.classes.items) (map (λ c. c.now) a.constants.items) a.values.items a.cells.items };
-}
-
-// The cells of each class, by a table of the values of constants.
-fn class_cells(
-    alloc: Global,
-    classes: &[&Class],
-    constants: &[&Constant],
-    values: &[Option<i64>],
-) -> Result<Vec<u64>, AllocError>
-    ensures { IfOk result (λ v. Counted (length (rows_by (map (λ c. c.now) classes.now) (map (λ c. c.now) constants.now) values.now)) (rows_by (map (λ c. c.now) classes.now) (map (λ c. c.now) constants.now) values.now) v.items) }
-{
-    let rows = rows_of(alloc, classes, constants, values)?;
-    let circles = circles_of(alloc, &rows)?;
-    let cells = cells_of(alloc, &rows, &circles)?;
-    Ok(cells)
+    ghost invariant = { λ a. IsSized a.program.now (map (λ c. c.now) a.classes.items) (map (λ c. c.now) a.constants.items) a.values.items a.circles.items a.cells.items };
 }
 
 impl<'a> Sizes<'a> {
@@ -71,12 +56,15 @@ impl<'a> Sizes<'a> {
         let classes = classes_in(alloc, &program.items)?;
         let constants = constants_in(alloc, &program.items)?;
         let values = values_of(alloc, &constants)?;
-        let cells = class_cells(alloc, &classes, &constants, &values)?;
+        let rows = rows_of(alloc, &classes, &constants, &values)?;
+        let circles = circles_of(alloc, &rows)?;
+        let cells = cells_of(alloc, &rows, &circles)?;
         Ok(Sizes {
             program,
             classes,
             constants,
             values,
+            circles,
             cells,
         })
     }
@@ -91,6 +79,14 @@ impl<'a> Sizes<'a> {
         } else {
             0
         }
+    }
+
+    /// Whether the class with this place among the classes of the program, events included, has itself in its fields, directly
+    /// or through others; false beyond the last.
+    pub fn has_itself(&self, place: usize) -> bool
+        ensures { result ≡ has_itself (rows_of self.now) place }
+    {
+        place < self.circles.len() && self.circles[place]
     }
 
     /// The value of a constant, none where no constant of the name has one.

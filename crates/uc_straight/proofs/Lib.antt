@@ -1,7 +1,6 @@
 pub mod Agreed
 pub mod Blocks
 pub mod First
-pub mod Lengths
 pub mod Loops
 pub mod Named
 pub mod Noted

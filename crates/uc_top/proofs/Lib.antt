@@ -4,6 +4,5 @@ pub mod Line
 pub mod Leave
 pub mod Causes
 pub mod Findings
-pub mod Straight
 pub mod Few
 pub mod Ran

@@ -60,7 +60,7 @@ fn told_by(last: Entry) -> Ending
     Ending::Done
 }
 
-/// Puts the line of an ending.
+/// Puts the line of an ending; of one that is done nothing.
 pub(crate) fn put_ending<E: Sink>(err: &mut E, ending: Ending) -> Result<(), SinkFault>
     ensures ok { OnOk result (Took (E.state err.old) (E.state err.new) (ending_text ending)) }
     ensures failed { OnErr result (FailedAt (E.state err.old) (E.state err.new) (ending_text ending)) }

@@ -16,13 +16,13 @@ use std::alloc::{AllocError, Global};
 use uc_alone::run_alone;
 use uc_lower_stmt::program::lower_program;
 use uc_meaning::entry::Entry;
+use uc_program_size::program::size_of_program;
 use uc_sizes::frames::cells_of_routine;
 use uc_sizes::sizes::Sizes;
 use uc_straight::check::{Judged, check_straight};
 use uc_tree::class::Routine;
 use uc_tree::limits::{FRAME_CELLS, PROGRAM_SIZE};
 use uc_tree::program::{ItemForm, Program};
-use uc_tree::program_size::size_of_program;
 
 /// The journal of a run, what it prints, and how it ends.
 #[derive(Drop)]

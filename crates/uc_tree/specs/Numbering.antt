@@ -16,7 +16,8 @@ use Rattle.uc_tree.specs.declared.kinds.Owner.TheVariants as owner
 use Rattle.uc_tree.specs.declared.kinds.MemberName.{MemberName}
 use Rattle.uc_tree.specs.Names.{same_name}
 use Rattle.uc_tree.specs.Constants.{constants_of, elements}
-use Rattle.uc_tree.specs.Cells.{classes_of, seen_in}
+use Rattle.uc_tree.specs.Rows.{has_itself}
+use Rattle.uc_tree.specs.Cells.{classes_of, rows_of, seen_in}
 use Rattle.uc_tree.specs.Statements.{Declarator, OutItem, Endl, Literal, Printed, Stmt, Accept, Print, PrintTogether, MaybeStmt, NoStmt, OneStmt, Clause, Accepts, clause_list}
 use Rattle.uc_tree.specs.Programs.{Sig, Routine, MemberForm, FieldsMember, RoutineMember, ProtoMember, Member, Class, Item, ClassItem, RoutineItem, ConstItem, ProtoItem, ForwardItem, UsingItem, Program, Site}
 use Rattle.uc_tree.specs.Gathered.{gathered_all}
@@ -147,9 +148,10 @@ abbrev pub elements_of : (List ℕ → Option ℤ) → List Declarator → ℕ
 elements_of named [] = 0
 elements_of named (d ∷ ds) = elements named d + elements_of named ds
 
--- how many conditions a class has, an array counted by its length
-abbrev pub condition_count : Program → Class → ℕ
-condition_count p c = elements_of (seen_in (constants_of p.items) c) (conditions_of c.members)
+-- how many conditions the class with this place among the classes of a program has, an array counted by its length; none where
+-- it has itself in its fields
+abbrev pub condition_count : Program → ℕ → Class → ℕ
+condition_count p place c = if has_itself (rows_of p) place then 0 else elements_of (seen_in (constants_of p.items) c) (conditions_of c.members)
 
 -- routines: those with bodies, from 0 in textual order, each with its class, which is 0 outside of classes
 

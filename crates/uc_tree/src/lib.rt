@@ -3,7 +3,6 @@
 
 pub mod class;
 pub mod declare;
-pub mod exits;
 pub mod expr;
 pub mod kinds;
 pub mod limits;
@@ -11,9 +10,7 @@ pub mod name;
 pub mod ops;
 pub mod pos;
 pub mod program;
-pub mod program_size;
 pub mod rows;
 pub mod scan;
-pub mod size;
 pub mod stmt;
 pub mod token;

@@ -10,7 +10,8 @@ use uc_top::run_words;
 
 fn main(rt: HostRuntime) -> ExitCode {
     let alloc = rt.alloc();
-    // Arguments that cannot be read as text are no line of words, and no words are none either.
+    // Arguments that cannot be read as text, or for which memory is wanting, are no line of words, and no words are none
+    // either.
     let words = match read_words(&rt, alloc) {
         Ok(words) => words,
         Err(_) => Vec::new(alloc),

@@ -1,4 +1,4 @@
-use Rattle.std.proofs.Common.{◌≡◌, ℕ, ℤ, List, Option, map, ap, ◌∙◌}
+use Rattle.std.proofs.Common.{◌≡◌, map, ap, ◌∙◌}
 use Rattle.uc_tree.specs.Constants.{constants_of, elements, value_of_name}
 use Rattle.uc_sizes.specs.Values.{value_at}
 use Rattle.uc_sizes.proofs.sizes.Sizes.elements_of_variable.Goals as goal

@@ -1,0 +1,246 @@
+// A program that tries the cells of tasks: each line names what was done and shows what is then read.
+#![tactic(auto)]
+
+mod shown;
+
+use crate::shown::shown;
+use std::alloc::{AllocError, Global};
+use std::io;
+use uc_code::rows::RoutineCode;
+use uc_frames::cell::{Cell, further_on, number_in};
+use uc_frames::members::Members;
+use uc_frames::pieces::print_request;
+use uc_frames::stack::Stack;
+use uc_frames::task::Task;
+use uc_frames::work::{Hand, Work};
+use uc_meaning::exec::{Exec, Home, Owner};
+use uc_meaning::request::{Piece, Request};
+
+const MAIN: RoutineCode = RoutineCode { entry: 7, cells: 3 };
+
+/// A line of a name and cells.
+fn line(alloc: Global, name: &str, cells: &[Cell]) -> Result<String, AllocError> {
+    let mut text = format!(in alloc; "{name}:")?;
+    for cell in cells {
+        let one = shown(alloc, *cell)?;
+        text.push_str(one.as_str())?;
+    }
+    text.push_str("\n")?;
+    Ok(text)
+}
+
+/// The next op, and whether there is a call to go back to.
+fn ops(alloc: Global) -> Result<String, AllocError> {
+    let mut work = Work::first(alloc, MAIN, 4)?;
+    let first = work.next();
+    work.go(2);
+    let cells = [number(first), number(work.next()), truth(work.has_caller())];
+    line(alloc, "ops", cells.as_slice())
+}
+
+fn number(n: u32) -> Cell {
+    Cell::Number(i64::from(n))
+}
+
+fn truth(b: bool) -> Cell {
+    Cell::Number(i64::from(b))
+}
+
+fn operands(alloc: Global) -> Result<String, AllocError> {
+    let mut work = Work::first(alloc, MAIN, 4)?;
+    work.push(Cell::Number(5))?;
+    work.push(Cell::Object(6))?;
+    let cells = [work.top(), work.pop(), work.pop(), work.pop()];
+    line(alloc, "operands", cells.as_slice())
+}
+
+/// Variables of the frame, and past its end.
+fn variables(alloc: Global) -> Result<String, AllocError> {
+    let mut work = Work::first(alloc, MAIN, 4)?;
+    write_all(&mut work);
+    line(alloc, "written", read_all(&work).as_slice())
+}
+
+fn cleared(alloc: Global) -> Result<String, AllocError> {
+    let mut work = Work::first(alloc, MAIN, 4)?;
+    write_all(&mut work);
+    work.clear(1, 9);
+    line(alloc, "cleared", read_all(&work).as_slice())
+}
+
+fn overwritten(alloc: Global) -> Result<String, AllocError> {
+    let mut work = Work::first(alloc, MAIN, 4)?;
+    write_all(&mut work);
+    let place = work.local(1);
+    work.write(place, Cell::Number(0));
+    line(alloc, "overwritten", read_all(&work).as_slice())
+}
+
+fn write_all(work: &mut Work) {
+    for (k, n) in [(0, 10), (1, 11), (2, 12), (3, 13)] {
+        let place = work.local(k);
+        work.write(place, Cell::Number(n));
+    }
+}
+
+fn read_all(work: &Work) -> [Cell; 4] {
+    let start = work.local(0);
+    [
+        work.read(start),
+        work.read(further_on(1, start)),
+        work.read(further_on(2, start)),
+        work.read(further_on(3, start)),
+    ]
+}
+
+/// A binding stays until its cell is cleared.
+fn bindings(alloc: Global) -> Result<String, AllocError> {
+    let mut work = Work::first(alloc, MAIN, 4)?;
+    let place = work.local(1);
+    work.write(place, Cell::Object(6));
+    work.write(place, Cell::Number(1));
+    let bound = work.read(place);
+    work.clear(1, 1);
+    work.write(place, Cell::Number(1));
+    let cells = [bound, work.read(place)];
+    line(alloc, "bindings", cells.as_slice())
+}
+
+/// What is no place holds 0.
+fn no_place(alloc: Global) -> Result<String, AllocError> {
+    let mut work = Work::first(alloc, MAIN, 4)?;
+    work.write(Cell::Number(3), Cell::Number(8));
+    let cells = [
+        work.read(Cell::Object(6)),
+        further_on(1, Cell::Object(6)),
+        Cell::Number(number_in(Cell::Object(6))),
+        Cell::Number(number_in(Cell::Number(7))),
+    ];
+    line(alloc, "no place", cells.as_slice())
+}
+
+/// Fields of an object in hand and of one that is not, and frames that are not there.
+fn fields(alloc: Global) -> Result<String, AllocError> {
+    let mut hand: Hand = Hand::new(alloc);
+    hand.room()?;
+    hand.push((8, Members::new(alloc, 2)?));
+    let mut work = Work::new(Task::first(alloc, MAIN, 4)?, hand);
+    let places = [
+        Cell::Place(Owner::Fields(8), 1),
+        Cell::Place(Owner::Fields(8), 2),
+        Cell::Place(Owner::Fields(9), 1),
+        frame_place(Home::Task(4), 0, 0),
+        frame_place(Home::Task(4), 0, 1),
+        frame_place(Home::Object(8), 0, 0),
+    ];
+    for place in places {
+        work.write(place, Cell::Number(21));
+    }
+    let (task, hand) = work.into_parts();
+    let work = Work::new(task, hand);
+    let cells = [
+        work.read(places[0]),
+        work.read(places[1]),
+        work.read(places[2]),
+        work.read(places[3]),
+        work.read(places[4]),
+        work.read(places[5]),
+    ];
+    line(alloc, "fields and frames", cells.as_slice())
+}
+
+fn frame_place(home: Home, serial: u32, depth: u32) -> Cell {
+    let exec = Exec { home, serial };
+    Cell::Place(Owner::Frame { exec, depth }, 2)
+}
+
+/// A second frame on a stack.
+fn frames(alloc: Global) -> Result<String, AllocError> {
+    let mut stack = Stack::first(alloc, MAIN)?;
+    stack.write(0, 2, Cell::Number(31));
+    stack.push_frame(2)?;
+    stack.write(1, 1, Cell::Number(32));
+    let cells = [
+        number(stack.depth()),
+        stack.read(0, 2),
+        stack.read(1, 1),
+        stack.read(1, 2),
+        stack.read(2, 0),
+    ];
+    line(alloc, "frames", cells.as_slice())
+}
+
+fn one_frame(alloc: Global) -> Result<String, AllocError> {
+    let mut stack = Stack::first(alloc, MAIN)?;
+    stack.push_frame(2)?;
+    stack.pop_frame();
+    let cells = [number(stack.depth())];
+    line(alloc, "one frame", cells.as_slice())
+}
+
+/// Items that are gathered.
+fn gathered(alloc: Global) -> Result<String, AllocError> {
+    let mut work = Work::first(alloc, MAIN, 4)?;
+    work.begin_gather();
+    work.gather(Piece { form: 1, value: 10 })?;
+    work.gather(Piece { form: 0, value: 3 })?;
+    match work.take_gathered() {
+        None => line(alloc, "none gathered", [].as_slice()),
+        Some(pieces) => printed(alloc, &pieces.request()),
+    }
+}
+
+fn gathering(alloc: Global) -> Result<String, AllocError> {
+    let mut work = Work::first(alloc, MAIN, 4)?;
+    let before = work.is_gathering();
+    work.begin_gather();
+    let cells = [truth(before), truth(work.is_gathering())];
+    line(alloc, "gathering", cells.as_slice())
+}
+
+fn item(alloc: Global) -> Result<String, AllocError> {
+    let pieces = [Piece { form: 2, value: 1 }];
+    printed(alloc, &print_request(pieces.as_slice()))
+}
+
+/// How many items, and the form and the value of the first three.
+fn printed(alloc: Global, request: &Request) -> Result<String, AllocError> {
+    match request {
+        Request::Print { n, items } => {
+            let cells = [
+                Cell::Number(i64::from(*n)),
+                Cell::Number(i64::from(items[0].form)),
+                Cell::Number(items[0].value),
+                Cell::Number(i64::from(items[1].form)),
+                Cell::Number(items[1].value),
+                Cell::Number(i64::from(items[2].form)),
+                Cell::Number(items[2].value),
+            ];
+            line(alloc, "items", cells.as_slice())
+        }
+        _ => line(alloc, "no items", [].as_slice()),
+    }
+}
+
+fn main(rt: HostRuntime) -> io::Result<()> {
+    let alloc = rt.alloc();
+    let texts = [
+        ops(alloc)?,
+        operands(alloc)?,
+        variables(alloc)?,
+        cleared(alloc)?,
+        overwritten(alloc)?,
+        bindings(alloc)?,
+        no_place(alloc)?,
+        fields(alloc)?,
+        frames(alloc)?,
+        one_frame(alloc)?,
+        gathered(alloc)?,
+        gathering(alloc)?,
+        item(alloc)?,
+    ];
+    for text in &texts {
+        print!(rt; "{text}")?;
+    }
+    Ok(())
+}
