@@ -1,4 +1,5 @@
-// Every limit of the language, of the kernel and of the program's options. No other place writes such a number.
+// Every limit of the language, of the kernel and of the options of the program. docs/formats.md, "Limits", names the few
+// places where a number that follows from one of them is written again.
 
 /// Bits of an `int`.
 pub const INT_BITS: u32 = 32;
