@@ -149,13 +149,8 @@ fn entry(kind: EntryKind, a: i64, b: i64, c: i64, d: i64) -> Entry {
 
 #[test]
 fn journals(rt: HostRuntime) -> Result<(), Fail> {
-    let left = call(
-        rt.alloc(),
-        "run a.cc",
-        "void uMain::main() { cout << 1 + 2 << endl; }",
-        9,
-    )?;
-    let expected = [
+    let alloc = rt.alloc();
+    let sum = [
         entry(EntryKind::Begin, 1, 1_000, 10_000_000, 200_000),
         entry(EntryKind::Dispatch, 0, 0, 0, 0),
         entry(EntryKind::Print, 0, 3, 0, 0),
@@ -163,7 +158,25 @@ fn journals(rt: HostRuntime) -> Result<(), Fail> {
         entry(EntryKind::End, 0, 0, 0, 0),
         entry(EntryKind::Done, 0, 0, 0, 0),
     ];
-    assert!(rt; left.outcome.journal.as_slice() == expected.as_slice());
+    let nothing = [
+        entry(EntryKind::Begin, 1, 1_000, 10_000_000, 200_000),
+        entry(EntryKind::Dispatch, 0, 0, 0, 0),
+        entry(EntryKind::End, 0, 0, 0, 0),
+        entry(EntryKind::Done, 0, 0, 0, 0),
+    ];
+    for (text, expected, shown) in [
+        (
+            "void uMain::main() { cout << 1 + 2 << endl; }",
+            sum.as_slice(),
+            "3\n",
+        ),
+        ("void uMain::main() { }", nothing.as_slice(), ""),
+    ] {
+        let left = call(alloc, "run a.cc", text, 9)?;
+        assert_eq!(rt; left.outcome.status, 0);
+        assert!(rt; left.outcome.journal.as_slice() == expected);
+        assert!(rt; left.out.bytes() == shown.as_bytes());
+    }
     Ok(())
 }
 
