@@ -41,6 +41,7 @@ pub fn lower_routine(
     ensures written { OnOk result (out.new.routines ≡ slice_set out.old.routines number (record { entry = length out.old.ops; cells = routine_cells sizes.now routine.now })) }
     ensures rows { OnOk result (out.new.rows ≡ out.old.rows) }
     ensures jumps { OnOk result (out.new.jumps ≡ out.old.jumps) }
+    ensures place { OnOk result (out.new.place ≡ record { class = class; routine = number; scope = 0 }) }
 {
     let entry = out.here();
     out.begin_routine(class, number, texts);
