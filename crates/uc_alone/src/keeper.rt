@@ -1,6 +1,6 @@
 // The journal of the one task, as it grows.
 
-ghost use Rattle.std.specs.Prelude.{◌≡◌, ◌≤◌, ◌<◌, IsTrue, IsFalse, ◌+◌, ◌++◌, ◌∷◌, [], length, map, min, IfOk, OnOk, List, ℕ, Some, None};
+ghost use Rattle.std.specs.Prelude.{◌≡◌, ◌≤◌, ◌<◌, IsTrue, IsFalse, ◌+◌, ◌++◌, length, map, min, IfOk, OnOk, List, ℕ, Some, None};
 ghost use Rattle.uc_tree.specs.declared.limits.TheConstants.{INPUT_BYTES};
 ghost use Rattle.uc_meaning.specs.declared.request.Request.TheVariants as ask;
 ghost use Rattle.uc_meaning.specs.Reading.{next_read};

@@ -1,6 +1,6 @@
 // A whole run of the one task.
 
-ghost use Rattle.std.specs.Prelude.{◌≡◌, ◌≤◌, false, ℕ, IfOk, MatchOption, OnOk, Some, None, [], ◌∷◌, length};
+ghost use Rattle.std.specs.Prelude.{◌≡◌, ◌≤◌, false, IfOk, MatchOption, Some, None, length};
 ghost use Rattle.uc_tree.specs.declared.limits.TheConstants.{ENTRIES_MIN, INPUT_BYTES};
 ghost use Rattle.uc_code.specs.Forward.{IsForward};
 ghost use Rattle.uc_tree.specs.Source.{Source};

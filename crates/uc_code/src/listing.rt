@@ -1,6 +1,6 @@
 // The text of code.
 
-ghost use Rattle.std.specs.Prelude.{◌≡◌, ◌+◌, ◌<◌, ◌^◌, ◌++◌, [], ◌∷◌, pos, IfOk, OnOk, codes};
+ghost use Rattle.std.specs.Prelude.{◌≡◌, ◌+◌, ◌<◌, ◌++◌, [], ◌∷◌, pos, IfOk, OnOk};
 ghost use Rattle.uc_code.specs.Listing.{op_line, row_line, listing_of, op_lines, row_lines, spaced, fields_of};
 
 use crate::code::Code;

@@ -1,7 +1,5 @@
 // The answer to one line of input.
 
-ghost use Rattle.std.specs.Prelude.{◌≤◌};
-
 use std::alloc::{AllocError, Global};
 use uc_grammar::fault::ParseFault;
 use uc_lex::lex;

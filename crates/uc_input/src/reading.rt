@@ -1,6 +1,6 @@
 // Numbers and characters at the beginning of a text.
 
-ghost use Rattle.std.specs.Prelude.{◌≡◌, ℕ, ◌≤◌, ◌+◌, ◌<◌, pos, length, IfSome, IfNone, take};
+ghost use Rattle.std.specs.Prelude.{◌≡◌, ℕ, ◌≤◌, ◌+◌, ◌<◌, length, IfSome, IfNone};
 ghost use Rattle.std.specs.List.{prefix_len};
 ghost use Rattle.uc_tree.specs.Bytes.{is_white, is_digit};
 ghost use Rattle.uc_tree.specs.Tokens.{value_of};

@@ -1,9 +1,9 @@
 // The whole text.
 
-ghost use Rattle.std.specs.Prelude.{◌≡◌, ◌+◌, ◌<◌, ◌≤◌, ◌^◌, IfOk, IfErr, IsErr, List, ℕ, length};
+ghost use Rattle.std.specs.Prelude.{◌≡◌, ◌+◌, ◌<◌, ◌^◌, IfOk, IfErr, IsErr, List, ℕ, length};
 ghost use Rattle.uc_tree.specs.Tokens as tokens;
 ghost use Rattle.uc_lex.specs.Faults.{IsFault, StandsIn};
-ghost use Rattle.uc_lex.specs.Places.{InRange, InText};
+ghost use Rattle.uc_lex.specs.Places.{InText};
 
 use crate::bytes::{Class, is_digit, is_letter, is_white, run_length, text_from, text_to};
 use crate::fault::LexFault;

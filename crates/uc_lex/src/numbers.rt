@@ -1,6 +1,6 @@
 // Numbers.
 
-ghost use Rattle.std.specs.Prelude.{◌≡◌, IfSome, IfNone, length, ◌<◌, pos, ◌≤◌};
+ghost use Rattle.std.specs.Prelude.{◌≡◌, IfSome, IfNone, length, ◌<◌, ◌≤◌};
 ghost use Rattle.uc_tree.specs.Tokens as tokens;
 
 use crate::bytes::{Class, run_length};

@@ -1,5 +1,5 @@
 //! Nodes that are linked by raw pointers, each in two orders at once. No function here has a loop.
-ghost use Rattle.std.specs.Prelude.{◌≡◌, ◌≢◌, ℕ, ◌<◌, List, [], ◌∷◌, ◌++◌, length, ⊤};
+ghost use Rattle.std.specs.Prelude.{◌≡◌, ℕ, ◌<◌, List, [], ◌∷◌, ◌++◌, ⊤};
 ghost use Rattle.uc_links.specs.Chain.{place_of, node, IsNode, IsNodeIfSome, Relinked, AfterSet, BeforeSet, Labelled, ChangedWithin, SameNodes, index_of, link, IsChain, Avoids};
 ghost use Rattle.std.specs.Vec.{vec_len, vec_ptr};
 ghost use denote.RawPtr.{InBlock};

@@ -2,8 +2,8 @@
 // lists are printed.
 #![tactic(auto)]
 
-ghost use Rattle.std.specs.Prelude.{◌≡◌, ◌<◌, [], ◌∷◌, IfOk};
-ghost use Rattle.uc_links.specs.Lists.{lists_at, IsEntry, without};
+ghost use Rattle.std.specs.Prelude.{◌≡◌, ◌<◌};
+ghost use Rattle.uc_links.specs.Lists.{IsEntry, without};
 ghost use Rattle.uc_links_orders.specs.Four.{four};
 
 use std::alloc::{AllocError, Global};

@@ -2,7 +2,7 @@
 //! Whoever takes the value finds a journal that begins with all that its seat had seen, and in which just its own items are its own.
 #![tactic(auto)]
 
-ghost use Rattle.std.specs.Prelude.{◌≡◌, ℕ, List};
+ghost use Rattle.std.specs.Prelude.{ℕ, List};
 
 mod plays;
 mod seat;

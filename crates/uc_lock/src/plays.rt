@@ -1,5 +1,4 @@
 // What each move tells the seat that makes it.
-ghost use Rattle.std.specs.Prelude.{◌≡◌};
 ghost use Rattle.uc_lock.specs.Rule.{Draws, Looks, Gives, kept_part, new_part, joined_with, nobody};
 
 use crate::Journaled;

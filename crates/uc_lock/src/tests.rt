@@ -1,5 +1,5 @@
 // Threads that write into one diary, each with a seat of its own.
-ghost use Rattle.std.specs.Prelude.{◌≡◌, ◌++◌, ◌<◌, ◌≤◌, [], ◌∷◌, true, false, IfOk, All, length};
+ghost use Rattle.std.specs.Prelude.{◌≡◌, ◌<◌, ◌≤◌, false, IfOk, All, length};
 ghost use Rattle.uc_lock.specs.Journals.{Extends};
 ghost use Rattle.uc_lock.specs.Meanings.{IsSeatOf};
 

@@ -1,5 +1,4 @@
 // What a lock is made with, what its seats know, and the rule over both. Of these types only a `Setup` is ever made: the rest exist in proofs.
-ghost use Rattle.std.specs.Prelude.{◌≡◌};
 
 use crate::Journaled;
 use atomic_table::TableRule;

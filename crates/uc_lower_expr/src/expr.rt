@@ -1,6 +1,6 @@
 // The code of expressions.
 
-ghost use Rattle.std.specs.Prelude.{◌≡◌, ℕ, ◌+◌, ◌-◌, ◌*◌, ◌<◌, ◌≤◌, length, OnOk, IfOk};
+ghost use Rattle.std.specs.Prelude.{ℕ, ◌+◌, ◌-◌, ◌*◌, ◌<◌, ◌≤◌, length, OnOk, IfOk};
 ghost use Rattle.uc_tree.specs.declared.limits.TheConstants.{PROGRAM_OPS, OPS_FOR_SIZE};
 ghost use Rattle.uc_tree.specs.Expressions.{links_of, parts_of};
 ghost use Rattle.uc_tree.specs.ExpressionSizes.{expr_size, link_size, links_size, part_size, parts_size};

@@ -1,7 +1,6 @@
 // The routines of a program in textual order.
 
-ghost use Rattle.std.specs.Prelude.{◌≡◌, ◌++◌, ◌∷◌, [], IfOk, OnOk, map, option_map, unwrap_or, option_and_then};
-ghost use Rattle.uc_tree.specs.ItemViews.{item_at};
+ghost use Rattle.std.specs.Prelude.{◌≡◌, ◌++◌, [], IfOk, OnOk, map, option_map, unwrap_or, option_and_then};
 ghost use Rattle.uc_tree.specs.ProgramViews.{member_form_at};
 ghost use Rattle.uc_tree.specs.declared.limits.TheConstants.{LAST_CLASS};
 ghost use Rattle.uc_tree.specs.Numbering.{at_most, place_from, class_names, class_named, routines_of};

@@ -1,7 +1,5 @@
 // Outlines of statements: a line for each, and those inside of it below, two blanks further in.
 
-ghost use Rattle.std.specs.Prelude.{◌≤◌};
-
 use crate::expr::{write_args, write_expr, write_name};
 use crate::parts::{
     write_blanks, write_declaration, write_events, write_for_start, write_items, write_maybe_expr,

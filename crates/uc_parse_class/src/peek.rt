@@ -1,6 +1,6 @@
 // What single tokens say of a class or an item.
 
-ghost use Rattle.std.specs.Prelude.{◌≡◌, ◌<◌, ◌≤◌, ◌^◌, ◌↔◌, ℕ, IfOk, IfErr, IsSome, IsTrue, length};
+ghost use Rattle.std.specs.Prelude.{◌≡◌, ◌≢◌, ◌<◌, ◌≤◌, ◌^◌, ◌↔◌, ℕ, IfOk, IfErr, IsSome, IsTrue, length};
 ghost use Rattle.uc_grammar.specs.Form.{Spells, Fails};
 ghost use Rattle.uc_grammar.specs.Grammar.{kind_form, mark_form, scalar_form, inner, faults};
 ghost use Rattle.uc_grammar.specs.Spell.{kind_at, Begins};
@@ -65,6 +65,7 @@ pub fn read_scalar(tokens: &[Token], at: u32) -> Result<(Base, u32), ParseFault>
     ensures fails { IfErr result (λ f. (room : ℕ) → Fails (inner room) (faults room) scalar_form tokens.now at f) }
     ensures moved { IfOk result (λ r. (at < r.1) × (r.1 ≤ length tokens.now)) }
     ensures within { IfErr result (λ f. token_of f ≤ length tokens.now) }
+    ensures takes_no_memory { IfErr result (λ f. f ≢ ParseFault.NoMemory) }
 {
     match word_at(tokens, at) {
         Some(Word::Int) => Ok((Base::Int, at + 1)),
@@ -82,6 +83,7 @@ fn read_mutex_kind(tokens: &[Token], at: u32) -> Result<(Kind, u32), ParseFault>
     ensures fails { IfErr result (λ f. (room : ℕ) → Fails (inner room) (faults room) mutex_kind_form tokens.now at f) }
     ensures moved { IfOk result (λ r. (at < r.1) × (r.1 ≤ length tokens.now)) }
     ensures within { IfErr result (λ f. token_of f ≤ length tokens.now) }
+    ensures takes_no_memory { IfErr result (λ f. f ≢ ParseFault.NoMemory) }
 {
     match word_at(tokens, at) {
         Some(Word::Class) => Ok((Kind::Monitor, at + 1)),
@@ -98,6 +100,7 @@ pub fn read_kind(tokens: &[Token], at: u32) -> Result<(Kind, u32), ParseFault>
     ensures fails { IfErr result (λ f. (room : ℕ) → Fails (inner room) (faults room) kind_form tokens.now at f) }
     ensures moved { IfOk result (λ r. (at < r.1) × (r.1 ≤ length tokens.now)) }
     ensures within { IfErr result (λ f. token_of f ≤ length tokens.now) }
+    ensures takes_no_memory { IfErr result (λ f. f ≢ ParseFault.NoMemory) }
 {
     match word_at(tokens, at) {
         Some(Word::Class) => Ok((Kind::Class, at + 1)),

@@ -1,7 +1,7 @@
 // What single tokens are. A place behind the last token has no token.
 
-ghost use Rattle.std.specs.Prelude.{◌≡◌, ◌≢◌, ◌+◌, ◌<◌, ◌≤◌, ◌^◌, ◌↔◌, ℕ, true, false, IfOk, IfErr, IfSome, IsSome, IsTrue, MatchOption, length};
-ghost use Rattle.uc_grammar.specs.Spell.{kind_at, pos_at, Begins};
+ghost use Rattle.std.specs.Prelude.{◌≡◌, ◌≢◌, ◌+◌, ◌<◌, ◌≤◌, ◌^◌, ◌↔◌, ℕ, true, false, IfOk, IfErr, IsSome, IsTrue, MatchOption, length};
+ghost use Rattle.uc_grammar.specs.Spell.{kind_at, pos_at};
 ghost use Rattle.uc_grammar.specs.Form.{Spells, Fails};
 ghost use Rattle.uc_grammar.specs.Grammar.{name_form, inner, faults};
 ghost use Rattle.uc_grammar.specs.Tables.{sign_of, word_of};

@@ -1,5 +1,5 @@
 -- What each head leads to.
-use Rattle.std.proofs.Common.{◌≡◌, ℕ, ◌+◌, List, Option, Some, refl, inr}
+use Rattle.std.proofs.Common.{◌≡◌, ℕ, ◌+◌, List, Option, Some, refl, inl, inr, subst}
 use Rattle.uc_tree.specs.declared.kinds.HandlerKind.{HandlerKind}
 use Rattle.uc_tree.specs.declared.pos.Pos.{Pos}
 use Rattle.uc_tree.specs.declared.token.Token.{Token}
@@ -13,10 +13,12 @@ use Rattle.uc_tree.specs.Statements as stmt
 use Rattle.uc_grammar.specs.Names.{stmt_name}
 use Rattle.uc_grammar.specs.Tables.{word_of, handler_of, is_or}
 use Rattle.uc_grammar.specs.Spell.{kind_at, pos_at}
-use Rattle.uc_grammar.specs.Form.{Form, empty, skip, bind, apply, listed, inside, Spells}
-use Rattle.uc_grammar.specs.Grammar.{expect_sign, maybe_expr, maybe_stmt, condition_form, for_start_form, events_form, guard_form, members_form, caught_form, block_form, block_rest, braced, handles, handler_by, handler_form, handlers_form, tried, try_rest, clause_form, accepts, accept_form, if_rest, while_rest, do_rest, for_rest, enable_rest, disable_rest, inner}
-use Rattle.uc_parse_stmt.specs.Forms.{do_test, for_test, for_step}
-use Rattle.uc_parse_stmt.specs.Parts.{caught_of}
+use Rattle.uc_grammar.specs.declared.fault.ParseFault.{ParseFault}
+use Rattle.uc_grammar.specs.Form.{Form, empty, skip, bind, apply, listed, inside, Spells, Fails}
+use Rattle.uc_grammar.specs.Grammar.{expect_sign, maybe_expr, maybe_stmt, condition_form, for_start_form, events_form, guard_form, members_form, caught_form, block_form, block_rest, braced, handles, handler_by, handler_form, handlers_form, tried, try_rest, clause_form, accepts, accept_form, if_rest, while_rest, do_rest, for_rest, enable_rest, disable_rest, inner, faults}
+use Rattle.uc_parse_stmt.specs.Forms.{do_condition, do_test, for_test, for_step}
+use Rattle.uc_parse_plain.specs.Parts.{caught_of}
+use Rattle.uc_parse_stmt.specs.declared.head.Head.{Head}
 use Rattle.uc_parse_stmt.specs.declared.head.Head.TheVariants as head
 use Rattle.uc_parse_stmt.specs.declared.head.ClauseHead.{ClauseHead}
 use Rattle.uc_parse_stmt.specs.declared.head.HandlerHead.{HandlerHead}
@@ -46,6 +48,28 @@ module _ (room : ℕ) (ts : List Token) where
 
   pub do_head : (pos : Pos) (from : ℕ) → Leads room ts (do_rest pos) from (heads.head_form pos head.Do) from
   do_head pos from = in_second room ts (inside stmt_name) (λ s. do_test pos s) (λ s. bind (empty NoStmt) (λ o. do_test pos s)) from (λ s at. thin room ts NoStmt (do_test pos s) at (inr (inr refl)))
+
+  -- what stands behind the body of a `do` is its condition
+  pub do_closed : (pos : Pos) (s : Stmt) (e : Expr) (from to : ℕ) → Spells (inner room) do_condition ts from to e → Spells (inner room) (do_test pos s) ts from to (stmt.Do pos s e)
+  do_closed pos s e from to r = (r.0, record { inside = e; spelled = r.1; value = refl })
+
+  pub do_fails : (pos : Pos) (s : Stmt) (from : ℕ) (f : ParseFault) → Fails (inner room) (faults room) do_condition ts from f → Fails (inner room) (faults room) (do_test pos s) ts from f
+  do_fails pos s from f (inl h) = inl h
+  do_fails pos s from f (inr (inl h)) = inr (inl (h.0, inl h.1))
+  do_fails pos s from f (inr (inr h)) = inr (inr h)
+
+  -- what follows a head is the statements inside, and what stands behind them
+  pub headed_found : (pos : Pos) (h : Head) (b : Stmt × MaybeStmt) (from mid to : ℕ) (v : Stmt) → Spells (inner room) (heads.bodies_form (heads.else_of h)) ts from mid b → Spells (inner room) (heads.close_form pos h b.0 b.1) ts mid to v → Spells (inner room) (heads.head_form pos h) ts from to v
+  headed_found pos h b from mid to v r k = record { middle = r.middle; left = r.left; first = r.first; second = record { middle = mid; left = r.second.inside; first = r.second.spelled; second = subst (λ c. Spells (inner room) (heads.close_form pos h c.0 c.1) ts mid to v) r.second.value k } }
+
+  pub bodies_fail : (pos : Pos) (h : Head) (from : ℕ) (f : ParseFault) → Fails (inner room) (faults room) (heads.bodies_form (heads.else_of h)) ts from f → Fails (inner room) (faults room) (heads.head_form pos h) ts from f
+  bodies_fail pos h from f (inl a) = inl a
+  bodies_fail pos h from f (inr (inl (at, s, r, inl m))) = inr (inl (at, s, r, inl m))
+  bodies_fail pos h from f (inr (inl (at, s, r, inr e))) = inr (inr e)
+  bodies_fail pos h from f (inr (inr e)) = inr (inr e)
+
+  pub close_fails : (pos : Pos) (h : Head) (b : Stmt × MaybeStmt) (from mid : ℕ) (f : ParseFault) → Spells (inner room) (heads.bodies_form (heads.else_of h)) ts from mid b → Fails (inner room) (faults room) (heads.close_form pos h b.0 b.1) ts mid f → Fails (inner room) (faults room) (heads.head_form pos h) ts from f
+  close_fails pos h b from mid f r k = inr (inl (r.middle, r.left, r.first, inr (inl (mid, r.second.inside, r.second.spelled, subst (λ c. Fails (inner room) (faults room) (heads.close_form pos h c.0 c.1) ts mid f) r.second.value k))))
 
   pub for_opened : (pos : Pos) (from at : ℕ) → (kind_at ts from ≡ Some (token.Sign sign.OpenParen)) × (at ≡ from + 1) → Leads room ts (for_rest pos) from (bind for_start_form (for_test pos)) at
   for_opened pos from at p = expect_read room ts (token.Sign sign.OpenParen) (bind for_start_form (for_test pos)) from at p

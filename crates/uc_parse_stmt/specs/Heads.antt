@@ -12,7 +12,7 @@ use Rattle.uc_grammar.specs.Form.{Form, empty, skip, bind, apply, listed, inside
 use Rattle.uc_grammar.specs.Tables.{is_or, is_handler, word_of}
 use Rattle.uc_grammar.specs.Grammar.{expect_sign, maybe_stmt, block_rest, block_form, braced, caught_form, handles, handler_form, handlers_form, tried, clause_form, accepts}
 use Rattle.uc_parse_stmt.specs.Forms.{do_test}
-use Rattle.uc_parse_stmt.specs.Parts.{caught_of}
+use Rattle.uc_parse_plain.specs.Parts.{caught_of}
 use Rattle.uc_parse_stmt.specs.declared.head.Head.{Head}
 use Rattle.uc_parse_stmt.specs.declared.head.Head.TheVariants as head
 use Rattle.uc_parse_stmt.specs.declared.head.Begun.{Begun}
@@ -33,6 +33,10 @@ else_of (head.Disable events) = None
 abbrev pub maybe_by : Option Word → Form MaybeStmt
 maybe_by None = empty NoStmt
 maybe_by (Some w) = maybe_stmt w
+
+-- the statement inside of a statement, and the one behind this word
+abbrev pub bodies_form : Option Word → Form (Stmt × MaybeStmt)
+bodies_form w = bind (inside stmt_name) (λ s. apply (λ o. (s, o)) (maybe_by w))
 
 -- what stands behind the statements inside of a statement
 abbrev pub close_form : Pos → Head → Stmt → MaybeStmt → Form Stmt

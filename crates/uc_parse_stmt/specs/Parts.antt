@@ -1,46 +1,11 @@
 -- Parts of statements that no tree has, as the code holds them.
-use Rattle.std.specs.Prelude.{Bool, true, false}
-use Rattle.uc_tree.specs.Statements.{Stmts, stmts_of}
+use Rattle.uc_tree.specs.Statements.{Stmt, Stmts, MaybeStmt, stmts_of, maybe_stmt_of}
 use Rattle.uc_tree.specs.declared.pos.Pos.{Pos}
-use Rattle.uc_grammar.specs.Names.{Simple, Declares, Evaluates}
-use Rattle.uc_grammar.specs.Grammar.{Caught}
-use Rattle.uc_grammar.specs.declared.start.StmtStart.{StmtStart}
-use Rattle.uc_grammar.specs.declared.start.StmtStart.TheVariants as start
-use Rattle.uc_parse_stmt.specs.declared.declare.Simple.{Simple as Held}
-use Rattle.uc_parse_stmt.specs.declared.declare.Simple.TheVariants as held
-use Rattle.uc_parse_stmt.specs.declared.event.Caught.{Caught as HeldCaught}
+use Rattle.uc_parse_stmt.specs.declared.head.Bodies.{Bodies}
 use Rattle.uc_parse_stmt.specs.declared.parse.Body.{Body}
-
-abbrev pub simple_of : Held → Simple
-simple_of (held.Declares pos base declarators) = Declares pos base declarators.items
-simple_of (held.Evaluates pos value) = Evaluates pos value
-
-abbrev pub caught_of : HeldCaught → Caught
-caught_of c = (c.event, c.param)
 
 abbrev pub body_of : Body → Pos × Stmts
 body_of b = (b.brace, stmts_of b.body.items)
 
--- the statements that hold no statement
-abbrev pub is_plain : StmtStart → Bool
-is_plain start.Block = false
-is_plain start.If = false
-is_plain start.While = false
-is_plain start.Do = false
-is_plain start.For = false
-is_plain start.Try = false
-is_plain start.Enable = false
-is_plain start.Disable = false
-is_plain start.Accept = false
-is_plain _ = true
-
--- those of one word or none, and those that begin with neither a word nor a sign of a statement
-abbrev pub is_bare : StmtStart → Bool
-is_bare start.Empty = true
-is_bare start.Break = true
-is_bare start.Continue = true
-is_bare start.Resume = true
-is_bare start.Suspend = true
-is_bare start.Yield = true
-is_bare start.Simple = true
-is_bare _ = false
+abbrev pub bodies_of : Bodies → Stmt × MaybeStmt
+bodies_of b = (b.body, maybe_stmt_of b.other)

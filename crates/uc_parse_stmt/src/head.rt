@@ -5,19 +5,22 @@ ghost use Rattle.uc_grammar.specs.Form.{Spells, Fails};
 ghost use Rattle.uc_grammar.specs.Grammar.{if_rest, while_rest, for_rest, enable_rest, disable_rest, clause_form, handler_form, stmt_by, stmt_form, inner, faults};
 ghost use Rattle.uc_grammar.specs.Spell.{kind_at, pos_at};
 ghost use Rattle.uc_parse_expr.specs.Faults.{token_of};
-ghost use Rattle.uc_tree.specs.Statements.{stmts_of, maybe_stmt_of};
-ghost use Rattle.uc_parse_stmt.specs.Forms.{do_test};
+ghost use Rattle.uc_tree.specs.Statements.{stmts_of};
+ghost use Rattle.uc_parse_stmt.specs.Forms.{do_condition, do_test};
 ghost use Rattle.uc_parse_stmt.specs.Heads.{begun_form, head_form, close_form, clause_rest, clause_of, taken_form, handler_rest, handler_of, else_of, is_open};
 ghost use Rattle.uc_parse_stmt.specs.Leads.{Leads, LeadsOpen};
+ghost use Rattle.uc_parse_stmt.specs.Parts.{bodies_of};
 
-use crate::declare::{read_for_start, read_maybe_expr};
-use crate::event::{Caught, read_caught, read_condition, read_events, read_guard, read_members};
 use crate::peek::{handler_at, start_at};
-use crate::plain::read_plain;
 use std::alloc::Global;
 use uc_grammar::fault::ParseFault;
 use uc_grammar::start::StmtStart;
 use uc_parse_expr::peek::{expect_sign, expect_word, pos_at};
+use uc_parse_plain::declare::{read_for_start, read_maybe_expr};
+use uc_parse_plain::event::{
+    Caught, read_caught, read_condition, read_events, read_guard, read_members,
+};
+use uc_parse_plain::plain::read_plain;
 use uc_tree::declare::ForStart;
 use uc_tree::expr::Expr;
 use uc_tree::kinds::{EventName, HandlerKind, MemberName};
@@ -46,6 +49,13 @@ pub enum Head {
     Disable {
         events: Vec<EventName>,
     },
+}
+
+/// The statement inside of a statement, and the second one where there is one.
+#[derive(Drop)]
+pub struct Bodies {
+    pub body: Stmt,
+    pub other: Option<Stmt>,
 }
 
 /// What stands before the statement of an accept clause.
@@ -395,6 +405,26 @@ pub fn else_of(head: &Head) -> Option<Word>
     }
 }
 
+// The condition of a `do`, with its `while` and `;`.
+fn read_do_condition(
+    alloc: Global,
+    tokens: &[Token],
+    from: u32,
+    room: u16,
+) -> Result<(Expr, u32), ParseFault>
+    requires begins { from ≤ length tokens.now }
+    requires few { length tokens.now < 2 ^ 32 }
+    ensures found { IfOk result (λ r. Spells (inner room) do_condition tokens.now from r.1 r.0) }
+    ensures fails { IfErr result (λ f. Fails (inner room) (faults room) do_condition tokens.now from f) }
+    ensures moved { IfOk result (λ r. (from < r.1) × (r.1 ≤ length tokens.now)) }
+    ensures within { IfErr result (λ f. token_of f ≤ length tokens.now) }
+{
+    let at = expect_word(tokens, from, Word::While)?;
+    let (test, end) = read_condition(alloc, tokens, at, room)?;
+    let to = expect_sign(tokens, end, Sign::Semicolon)?;
+    Ok((test, to))
+}
+
 // What follows the body of a `do`.
 fn read_do_test(
     alloc: Global,
@@ -411,31 +441,29 @@ fn read_do_test(
     ensures moved { IfOk result (λ r. (from ≤ r.1) × (r.1 ≤ length tokens.now)) }
     ensures within { IfErr result (λ f. token_of f ≤ length tokens.now) }
 {
-    let at = expect_word(tokens, from, Word::While)?;
-    let (test, end) = read_condition(alloc, tokens, at, room)?;
-    let to = expect_sign(tokens, end, Sign::Semicolon)?;
+    let (test, to) = read_do_condition(alloc, tokens, from, room)?;
     let s = Stmt::do_of(alloc, pos, body, test)?;
     Ok((s, to))
 }
 
-/// The statement with this head, body and second statement, and what of it stands behind these.
+/// The statement with this head and these statements inside, and what of it stands behind them.
 pub fn read_close(
     alloc: Global,
     tokens: &[Token],
     pos: Pos,
     head: Head,
-    body: Stmt,
-    other: Option<Stmt>,
+    bodies: Bodies,
     from: u32,
     room: u16,
 ) -> Result<(Stmt, u32), ParseFault>
     requires begins { from ≤ length tokens.now }
     requires few { length tokens.now < 2 ^ 32 }
-    ensures found { IfOk result (λ r. Spells (inner room) (close_form pos head body (maybe_stmt_of other)) tokens.now from r.1 r.0) }
-    ensures fails { IfErr result (λ f. Fails (inner room) (faults room) (close_form pos head body (maybe_stmt_of other)) tokens.now from f) }
+    ensures found { IfOk result (λ r. Spells (inner room) (close_form pos head (bodies_of bodies).0 (bodies_of bodies).1) tokens.now from r.1 r.0) }
+    ensures fails { IfErr result (λ f. Fails (inner room) (faults room) (close_form pos head (bodies_of bodies).0 (bodies_of bodies).1) tokens.now from f) }
     ensures moved { IfOk result (λ r. (from ≤ r.1) × (r.1 ≤ length tokens.now)) }
     ensures within { IfErr result (λ f. token_of f ≤ length tokens.now) }
 {
+    let Bodies { body, other } = bodies;
     match head {
         Head::If { test } => {
             let s = Stmt::if_of(alloc, pos, test, body, other)?;

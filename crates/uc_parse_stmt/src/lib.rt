@@ -1,10 +1,6 @@
 // The parser of statements: the one statement that the grammar finds at a token, or where and why there is none.
 #![tactic(auto)]
 
-pub mod declare;
-pub mod event;
 pub mod head;
 pub mod parse;
 pub mod peek;
-pub mod plain;
-pub mod print;

@@ -12,13 +12,13 @@ ghost use Rattle.std.specs.Prelude.{◌-◌, ◌*◌, ℕ};
 ghost use Rattle.uc_grammar.specs.Text.{IsStmt, StmtFails};
 ghost use Rattle.uc_parse_stmt.specs.Found.{OnlyStmt, NeverStmt, NoneHere, FirstTooDeep};
 ghost use Rattle.uc_parse_stmt.specs.Forms.{stmts_form};
-ghost use Rattle.uc_parse_stmt.specs.Heads.{accept_rest, begun_form, clauses_rest, handlers_rest, head_form, is_open, maybe_by, try_form};
-ghost use Rattle.uc_parse_stmt.specs.Parts.{body_of};
+ghost use Rattle.uc_parse_stmt.specs.Heads.{accept_rest, begun_form, bodies_form, clauses_rest, handlers_rest, head_form, is_open, maybe_by, try_form};
+ghost use Rattle.uc_parse_stmt.specs.Parts.{bodies_of, body_of};
 ghost use Rattle.uc_tree.specs.Statements.{maybe_stmt_of, stmts_of};
 
 use crate::head::{
-    Begun, ClauseHead, HandlerHead, Head, begin, clause_of, else_of, handler_of, level_below,
-    read_brace, read_clause_head, read_close, read_handler_head,
+    Begun, Bodies, ClauseHead, HandlerHead, Head, begin, clause_of, else_of, handler_of,
+    level_below, read_brace, read_clause_head, read_close, read_handler_head,
 };
 use crate::peek::{in_braces_at, is_handler_at, is_maybe_word, is_or_at};
 use std::alloc::Global;
@@ -157,10 +157,30 @@ fn read_headed(
     ensures moved { IfOk result (λ r. (from ≤ r.1) × (r.1 ≤ length tokens.now)) }
     ensures within { IfErr result (λ f. token_of f ≤ length tokens.now) }
 {
-    let (body, at) = read_inner_stmt(alloc, tokens, from, room)?;
-    let (other, end) = read_maybe_stmt(alloc, tokens, else_of(&head), at, room)?;
-    let (s, to) = read_close(alloc, tokens, pos, head, body, other, end, room)?;
+    let (bodies, at) = read_bodies(alloc, tokens, else_of(&head), from, room)?;
+    let (s, to) = read_close(alloc, tokens, pos, head, bodies, at, room)?;
     Ok((s, to))
+}
+
+// The statement inside of a statement, and the one behind this word, if it is one and stands there.
+#[cycle(stmt)]
+fn read_bodies(
+    alloc: Global,
+    tokens: &[Token],
+    word: Option<Word>,
+    from: u32,
+    room: u16,
+) -> Result<(Bodies, u32), ParseFault>
+    requires begins { from ≤ length tokens.now }
+    requires few { length tokens.now < 2 ^ 32 }
+    ensures found { IfOk result (λ r. Spells (inner room) (bodies_form word) tokens.now from r.1 (bodies_of r.0)) }
+    ensures fails { IfErr result (λ f. Fails (inner room) (faults room) (bodies_form word) tokens.now from f) }
+    ensures moved { IfOk result (λ r. (from < r.1) × (r.1 ≤ length tokens.now)) }
+    ensures within { IfErr result (λ f. token_of f ≤ length tokens.now) }
+{
+    let (body, at) = read_inner_stmt(alloc, tokens, from, room)?;
+    let (other, end) = read_maybe_stmt(alloc, tokens, word, at, room)?;
+    Ok((Bodies { body, other }, end))
 }
 
 // A statement behind a word, or none where the word does not stand.

@@ -1,6 +1,6 @@
 // What the ways out of scopes count in `Size`.
 
-ghost use Rattle.std.specs.Prelude.{◌≡◌, ℕ, ◌+◌, ◌^◌, ◌<◌, ◌≤◌, length};
+ghost use Rattle.std.specs.Prelude.{◌≡◌, ◌+◌, ◌^◌, ◌<◌, ◌≤◌};
 ghost use Rattle.uc_tree.specs.Capped.{capped};
 ghost use Rattle.uc_tree.specs.Statements.{stmts_of, handlers_of, clauses_of};
 ghost use Rattle.uc_tree.specs.StatementSizes.{for_start_size, stmt_size, stmts_size, maybe_stmt_size, handler_size, handlers_size, clause_size, clauses_size};

@@ -1,6 +1,6 @@
 // `Size` of routines, classes and programs.
 
-ghost use Rattle.std.specs.Prelude.{◌≡◌, ℕ, ◌+◌, ◌^◌, ◌<◌};
+ghost use Rattle.std.specs.Prelude.{◌≡◌, ◌^◌, ◌<◌};
 ghost use Rattle.uc_tree.specs.Capped.{capped};
 ghost use Rattle.uc_tree.specs.Sizes.{inits_size, routine_size, member_form_size, members_size, item_size, items_size, routine_exits, member_form_exits, members_exits, item_exits, items_exits, program_size};
 ghost use Rattle.uc_tree.specs.ProgramViews.{member_form_at};

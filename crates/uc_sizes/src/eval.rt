@@ -1,7 +1,7 @@
 // The values of constant expressions.
 
-ghost use Rattle.std.specs.Prelude.{◌≡◌, ◌+ℤ◌, ◌-ℤ◌, ◌*ℤ◌, int_div, int_rem, neg_ℤ, option_and_then};
-ghost use Rattle.uc_tree.specs.Constants.{int_value, unary_value, binary_value, converted, value_in, link_value_in, chain_value_in, both};
+ghost use Rattle.std.specs.Prelude.{◌≡◌, ◌+ℤ◌, ◌-ℤ◌, ◌*ℤ◌, neg_ℤ};
+ghost use Rattle.uc_tree.specs.Constants.{int_value, unary_value, binary_value, converted, value_in, link_value_in, chain_value_in};
 ghost use Rattle.uc_tree.specs.Expressions.{links_of};
 ghost use Rattle.uc_sizes.specs.Values.{seen_by};
 

@@ -1,6 +1,6 @@
 // The values of the constants of a program, reckoned until no more can be.
 
-ghost use Rattle.std.specs.Prelude.{◌≡◌, ◌<◌, IfOk, IsTrue, IsFalse, length, map, None, Some, get_or, slice_get, slice_set};
+ghost use Rattle.std.specs.Prelude.{◌≡◌, ◌<◌, IfOk, IsTrue, IsFalse, length, map, None, Some, get_or, slice_get};
 ghost use Rattle.uc_tree.specs.Constants.{own_value, value_of_name};
 ghost use Rattle.uc_tree.specs.Programs.{Constant};
 ghost use Rattle.uc_sizes.specs.Values.{value_at, seen_by};

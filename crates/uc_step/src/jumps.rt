@@ -1,6 +1,6 @@
 // The ops that go on elsewhere.
 
-ghost use Rattle.std.specs.Prelude.{◌≡◌, IfOk};
+ghost use Rattle.std.specs.Prelude.{IfOk};
 ghost use Rattle.uc_step.specs.Acts.{Does};
 
 use crate::stepped::Stepped;

@@ -4,7 +4,7 @@ ghost use Rattle.std.specs.Prelude.{◌≡◌, ℤ, neg_ℤ, FitsSigned};
 ghost use Rattle.std.specs.Int.{w64};
 ghost use Rattle.std.specs.Option.{SomeIff};
 ghost use Rattle.uc_tree.specs.Source.{Plus, Minus, Times, Over, Modulo, Equal, NotEqual, Less, AtMost, Greater, AtLeast};
-ghost use Rattle.uc_meaning.specs.Quiet.{Gives, outcome, int_outcome, fits, truth};
+ghost use Rattle.uc_meaning.specs.Quiet.{outcome, int_outcome, fits, truth};
 ghost use Rattle.uc_step.specs.Given.{outcome_of};
 
 use uc_tree::limits::{INT_MAX, INT_MIN};

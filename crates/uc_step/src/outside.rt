@@ -1,6 +1,6 @@
 // The ops that print and read.
 
-ghost use Rattle.std.specs.Prelude.{◌≡◌, IfOk};
+ghost use Rattle.std.specs.Prelude.{IfOk};
 ghost use Rattle.uc_step.specs.Acts.{act_print, Does, Ends};
 
 use crate::stepped::{Stepped, asked};

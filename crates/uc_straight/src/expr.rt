@@ -2,7 +2,7 @@
 
 ghost use Rattle.std.specs.Prelude.{◌≡◌, ◌&&◌, [], drop, if◌then◌else◌};
 ghost use Rattle.uc_tree.specs.Expressions.{exprs_of, parts_of, links_of};
-ghost use Rattle.uc_meaning.specs.RulesTypes.{is_scalar, is_place, is_row, is_main_routine, takes, of_scalar, of_both, of_place, both_scalars, place_and_scalar, unary_what, element, of_index, has_member, of_missing, of_field, given, of_call, count, is_field, is_call, field_follows, call_follows, is_cin, is_input, what, part_what, parts_what, link_what, chain_what, are_sound};
+ghost use Rattle.uc_meaning.specs.RulesTypes.{is_scalar, is_place, is_row, is_main_routine, takes, of_scalar, of_both, of_place, both_scalars, place_and_scalar, unary_what, element, of_index, has_member, of_field, given, of_call, count, is_field, is_call, field_follows, call_follows, is_cin, is_input, what, part_what, parts_what, link_what, chain_what, are_sound};
 ghost use Rattle.uc_meaning.specs.RulesVisits.{AtUse, AtOperand, AtOperands, AtChange, AtAssign, AtField, AtIndex, AtCall, unary_visit, root_what, visits, part_visits, parts_visits, link_visits, chain_visits, all_visits};
 ghost use Rattle.uc_meaning.specs.RulesNames.{named};
 ghost use Rattle.uc_straight.specs.Found.{told, noted};

@@ -1,10 +1,9 @@
 // The names in scope, with what they stand for. A list serves straight code until whole programs have their own table of
 // names.
 
-ghost use Rattle.std.specs.Prelude.{◌≡◌, ◌++◌, ◌∷◌, [], OnOk, IfOk, take, drop, length};
+ghost use Rattle.std.specs.Prelude.{◌≡◌, OnOk, IfOk, take, drop, length};
 ghost use Rattle.std.specs.List.{list_any};
 ghost use Rattle.uc_tree.specs.Names.{same_name};
-ghost use Rattle.uc_tree.specs.Numbering.{main_name, unhandled_name};
 ghost use Rattle.uc_meaning.specs.RulesNames.{named, is_own, opened, declared, scalar_of, variable, seen_as, main_env};
 
 use std::alloc::{AllocError, Global};

@@ -1,11 +1,11 @@
 // The rules on statements.
 
 ghost use Rattle.std.specs.Prelude.{◌≡◌, OnOk};
-ghost use Rattle.uc_tree.specs.Expressions.{exprs_of, expr_pos};
+ghost use Rattle.uc_tree.specs.Expressions.{exprs_of};
 ghost use Rattle.uc_tree.specs.Statements.{stmts_of};
 ghost use Rattle.uc_meaning.specs.RulesNames.{opened, all_declared, env_after, env_behind};
 ghost use Rattle.uc_meaning.specs.RulesTypes.{is_scalar, is_readable};
-ghost use Rattle.uc_meaning.specs.RulesVisits.{AtDeclarator, AtPrinted, AtTogether, AtRead, maybe_visits, start_values, all_visits, declarator_visits, declarators_visits, item_visits, items_visits, place_visits, places_visits, stmt_visits, stmts_visits};
+ghost use Rattle.uc_meaning.specs.RulesVisits.{AtTogether, maybe_visits, start_values, all_visits, declarator_visits, declarators_visits, item_visits, items_visits, place_visits, places_visits, stmt_visits, stmts_visits};
 ghost use Rattle.uc_meaning.specs.Rules.{asked, is_new, length_value, is_length, length_breaks, constant_breaks};
 ghost use Rattle.uc_straight.specs.Found.{after, told, noted};
 ghost use Rattle.uc_straight.specs.Starts.{started, started_breaks};

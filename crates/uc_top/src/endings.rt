@@ -1,6 +1,6 @@
 // How a run ends: the status and the line on err.
 
-ghost use Rattle.std.specs.Prelude.{◌≡◌, ◌<◌, OnOk, OnErr, [], length, slice_index_or};
+ghost use Rattle.std.specs.Prelude.{◌≡◌, ◌<◌, OnOk, OnErr, [], slice_index_or};
 ghost use Rattle.uc_outside.specs.Taking.{Took, TookPrefix, FailedAt};
 ghost use Rattle.uc_top.specs.Endings.{Tells, EndsAlone, EndsWith, ending_status, ending_text, fault_name, fault_names};
 

@@ -1,6 +1,6 @@
 // What the top call refuses, and with which status and text.
 
-ghost use Rattle.std.specs.Prelude.{◌≡◌, OnOk, OnErr, map, take};
+ghost use Rattle.std.specs.Prelude.{◌≡◌, OnOk, OnErr, map};
 ghost use Rattle.std.specs.List.{concat};
 ghost use Rattle.uc_outside.specs.Taking.{Took, TookPrefix, FailedAt};
 ghost use Rattle.uc_top.specs.Refusals.{status_of, lexical_reason, refusal_text, err_line, placed_line};

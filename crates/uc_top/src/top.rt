@@ -1,6 +1,6 @@
 // The top call.
 
-ghost use Rattle.std.specs.Prelude.{◌≡◌, ◌≢◌, map, string_bytes};
+ghost use Rattle.std.specs.Prelude.{◌≢◌, map, string_bytes};
 ghost use Rattle.uc_top.specs.Decisions.{Finished};
 ghost use Rattle.uc_top.specs.Outcomes.{scene_of, Leaves, Causes, Stops, Answers, HaveRooms, Completes};
 

@@ -1,7 +1,7 @@
 // Expressions, which contracts see as trees without pointers.
 
 ghost use Rattle.std.specs.Prelude.{◌≡◌, IfOk};
-ghost use Rattle.uc_tree.specs.Expressions.{Number, Character, Truth, Name, Cin, Postfix, Unary, Chain, Assign, Field, Index, Call, Step, Linked, exprs_of, parts_of, links_of, chained, with_parts, expr_pos};
+ghost use Rattle.uc_tree.specs.Expressions.{Number, Character, Truth, Name, Cin, Postfix, Unary, Chain, Assign, Field, Index, Call, Step, Linked, chained, with_parts, expr_pos};
 
 use crate::name::Name;
 use crate::ops::{AssignOp, BinaryOp, StepOp, UnaryOp};

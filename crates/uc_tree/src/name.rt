@@ -1,6 +1,6 @@
 // Names and the values of text literals.
 
-ghost use Rattle.std.specs.Prelude.{◌≡◌, ◌↔◌, IfOk, IsTrue, List, ℕ, length};
+ghost use Rattle.std.specs.Prelude.{◌≡◌, ◌↔◌, IfOk, IsTrue, List, ℕ};
 ghost use Rattle.uc_tree.specs.Names.{same_name};
 
 use std::alloc::{AllocError, Global};

@@ -1,7 +1,7 @@
 // Statements, which contracts see as trees without pointers.
 
 ghost use Rattle.std.specs.Prelude.{◌≡◌, IfOk};
-ghost use Rattle.uc_tree.specs.Statements.{If, While, Do, For, Enable, Disable, Accept, NoStmt, OneStmt, clauses_of, maybe_stmt_of, stmt_pos};
+ghost use Rattle.uc_tree.specs.Statements.{If, While, Do, For, Enable, Disable, Accept, clauses_of, maybe_stmt_of, stmt_pos};
 ghost use Rattle.uc_tree.specs.StatementViews.{maybe_at};
 
 use crate::declare::{Declarator, ForStart, OutItem, Raised};

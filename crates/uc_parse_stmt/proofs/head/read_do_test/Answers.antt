@@ -1,19 +1,10 @@
-use Rattle.std.proofs.Common.{inl, inr}
 use Rattle.std.proofs.lemmas.Result.{err_from_is_err_and}
-use Rattle.uc_tree.specs.declared.token.TokenKind.TheVariants as token
-use Rattle.uc_tree.specs.declared.token.Sign.TheVariants as sign
-use Rattle.uc_tree.specs.declared.token.Word.TheVariants as word
-use Rattle.uc_tree.specs.Statements.{Do}
-use Rattle.uc_grammar.specs.Form.{apply, Fails}
-use Rattle.uc_grammar.specs.Grammar.{before, condition_form, inner, faults}
+use Rattle.uc_grammar.specs.Form.{Fails}
+use Rattle.uc_grammar.specs.Grammar.{inner, faults}
 use Rattle.uc_parse_stmt.specs.Forms.{do_test}
-use Rattle.uc_parse_stmt.proofs.Steps.{behind_fails}
+use Rattle.uc_parse_stmt.proofs.Heads.{do_fails}
 use Rattle.uc_parse_stmt.proofs.head.read_do_test.Goals as goal
 
 pub returns-in_err-test-clause-fails : goal.returns-in_err-test-clause-fails
-returns-in_err-test-clause-fails c = let h : Fails (inner c.args.room) (faults c.args.room) (do_test c.args.pos c.args.body) c.args.tokens.now c.args.from c.in_err-test.field-0.0 = behind_fails c.args.room c.args.tokens.now (token.Word word.While) (apply (Do c.args.pos c.args.body) (before condition_form sign.Semicolon)) c.args.from c.in_ok-at.at _ c.in_ok-at.ensures.found (inl (inl c.in_err-test.ensures.fails)) in
-    let p = err_from_is_err_and c.from_residual-in_err-test.result c.from_residual-in_err-test.ensures.1 in rw (p.1, p.2) h
-
-pub returns-in_err-to-clause-fails : goal.returns-in_err-to-clause-fails
-returns-in_err-to-clause-fails c = let h : Fails (inner c.args.room) (faults c.args.room) (do_test c.args.pos c.args.body) c.args.tokens.now c.args.from c.in_err-to.field-0.0 = behind_fails c.args.room c.args.tokens.now (token.Word word.While) (apply (Do c.args.pos c.args.body) (before condition_form sign.Semicolon)) c.args.from c.in_ok-at.at _ c.in_ok-at.ensures.found (inl (inr (inl (c.in_ok-test.end, c.in_ok-test.test, c.in_ok-test.ensures.found, inl c.in_err-to.ensures.fails)))) in
-    let p = err_from_is_err_and c.from_residual-in_err-to.result c.from_residual-in_err-to.ensures.1 in rw (p.1, p.2) h
+returns-in_err-test-clause-fails c = let h : Fails (inner c.args.room) (faults c.args.room) (do_test c.args.pos c.args.body) c.args.tokens.now c.args.from c.in_err-test.field-0.0 = do_fails c.args.room c.args.tokens.now c.args.pos c.args.body c.args.from _ c.in_err-test.ensures.fails in
+    let p = err_from_is_err_and c.from_residual.result c.from_residual.ensures.1 in rw (p.1, p.2) h

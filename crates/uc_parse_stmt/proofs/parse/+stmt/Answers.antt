@@ -8,8 +8,10 @@ use Rattle.uc_grammar.specs.Tables.{word_of, is_or, is_handler, in_braces}
 use Rattle.uc_grammar.specs.Grammar.{handler_form, handlers_form, clause_form, stmt_form, inner, faults}
 use Rattle.uc_grammar.proofs.Fit.{run_more, list_more}
 use Rattle.uc_parse_stmt.specs.Forms.{stmts_form}
-use Rattle.uc_parse_stmt.specs.Heads.{accept_rest, handler_rest, handlers_rest, clause_rest, clauses_rest, else_of, head_form, maybe_by, try_form}
+use Rattle.uc_parse_stmt.specs.Heads.{accept_rest, bodies_form, handler_rest, handlers_rest, clause_rest, clauses_rest, else_of, head_form, try_form}
 use Rattle.uc_parse_stmt.specs.Leads.{Leads}
+use Rattle.uc_parse_stmt.specs.Parts.{bodies_of}
+use Rattle.uc_parse_stmt.proofs.Heads.{headed_found, bodies_fail, close_fails}
 use Rattle.uc_parse_stmt.proofs.Leads.{in_listed}
 use Rattle.uc_parse_stmt.proofs.Below.{below_found, below_fails, none_below}
 use Rattle.uc_parse_stmt.proofs.parse.+stmt.Goals as goal
@@ -100,11 +102,22 @@ pub read_accept-returns-in_err-clauses-clause-fails : goal.read_accept-returns-i
 read_accept-returns-in_err-clauses-clause-fails t c = let h : Fails (inner c.args.room) (faults c.args.room) (accept_rest c.args.pos c.args.first) c.args.tokens.now c.args.from c.in_err-clauses.field-0.0 = inl c.in_err-clauses.ensures.fails in
     let p = err_from_is_err_and c.from_residual.result c.from_residual.ensures.1 in rw (p.1, p.2) h
 
-pub read_headed-returns-in_err-other-clause-fails : goal.read_headed-returns-in_err-other-clause-fails
-read_headed-returns-in_err-other-clause-fails t c =
-    let m : Fails (inner c.args.room) (faults c.args.room) (maybe_by (else_of c.args.head)) c.args.tokens.now c.in_ok-body.at c.in_err-other.field-0.0 = subst (λ w. Fails (inner c.args.room) (faults c.args.room) (maybe_by w) c.args.tokens.now c.in_ok-body.at c.in_err-other.field-0.0) c.else_of.ensures c.in_err-other.ensures.fails in
-    let h : Fails (inner c.args.room) (faults c.args.room) (head_form c.args.pos c.args.head) c.args.tokens.now c.args.from c.in_err-other.field-0.0 = inr (inl (c.in_ok-body.at, c.in_ok-body.body, c.in_ok-body.ensures.found, inl m)) in
-    let p = err_from_is_err_and c.from_residual-in_err-other.result c.from_residual-in_err-other.ensures.1 in rw (p.1, p.2) h
+pub read_headed-returns-in_err-bodies-clause-fails : goal.read_headed-returns-in_err-bodies-clause-fails
+read_headed-returns-in_err-bodies-clause-fails t c =
+    let m : Fails (inner c.args.room) (faults c.args.room) (bodies_form (else_of c.args.head)) c.args.tokens.now c.args.from c.in_err-bodies.field-0.0 = subst (λ w. Fails (inner c.args.room) (faults c.args.room) (bodies_form w) c.args.tokens.now c.args.from c.in_err-bodies.field-0.0) c.else_of.ensures c.in_err-bodies.ensures.fails in
+    let h : Fails (inner c.args.room) (faults c.args.room) (head_form c.args.pos c.args.head) c.args.tokens.now c.args.from c.in_err-bodies.field-0.0 = bodies_fail c.args.room c.args.tokens.now c.args.pos c.args.head c.args.from _ m in
+    let p = err_from_is_err_and c.from_residual.result c.from_residual.ensures.1 in rw (p.1, p.2) h
+
+pub read_headed-returns-in_err-s-clause-fails : goal.read_headed-returns-in_err-s-clause-fails
+read_headed-returns-in_err-s-clause-fails t c =
+    let m : Spells (inner c.args.room) (bodies_form (else_of c.args.head)) c.args.tokens.now c.args.from c.in_ok-bodies.at (bodies_of c.in_ok-bodies.bodies) = subst (λ w. Spells (inner c.args.room) (bodies_form w) c.args.tokens.now c.args.from c.in_ok-bodies.at (bodies_of c.in_ok-bodies.bodies)) c.else_of.ensures c.in_ok-bodies.ensures.found in
+    let h : Fails (inner c.args.room) (faults c.args.room) (head_form c.args.pos c.args.head) c.args.tokens.now c.args.from c.in_err-s.field-0.0 = close_fails c.args.room c.args.tokens.now c.args.pos c.args.head (bodies_of c.in_ok-bodies.bodies) c.args.from c.in_ok-bodies.at _ m c.in_err-s.ensures.fails in
+    let p = err_from_is_err_and c.from_residual-in_err-s.result c.from_residual-in_err-s.ensures.1 in rw (p.1, p.2) h
+
+pub read_headed-returns-clause-found : goal.read_headed-returns-clause-found
+read_headed-returns-clause-found t c =
+    let m : Spells (inner c.args.room) (bodies_form (else_of c.args.head)) c.args.tokens.now c.args.from c.in_ok-bodies.at (bodies_of c.in_ok-bodies.bodies) = subst (λ w. Spells (inner c.args.room) (bodies_form w) c.args.tokens.now c.args.from c.in_ok-bodies.at (bodies_of c.in_ok-bodies.bodies)) c.else_of.ensures c.in_ok-bodies.ensures.found in
+    headed_found c.args.room c.args.tokens.now c.args.pos c.args.head (bodies_of c.in_ok-bodies.bodies) c.args.from c.in_ok-bodies.at _ _ m c.in_ok-s.ensures.found
 
 pub read_try-returns-in_err-handlers-clause-fails : goal.read_try-returns-in_err-handlers-clause-fails
 read_try-returns-in_err-handlers-clause-fails t c =

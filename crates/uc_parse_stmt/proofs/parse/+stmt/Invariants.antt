@@ -31,29 +31,32 @@ decreases-read_inner_stmt l = l.room * 12 + 0
 abbrev pub decreases-read_maybe_stmt : goal.decreases-read_maybe_stmt
 decreases-read_maybe_stmt l = l.room * 12 + 1
 
+abbrev pub decreases-read_bodies : goal.decreases-read_bodies
+decreases-read_bodies l = l.room * 12 + 2
+
 abbrev pub decreases-read_headed : goal.decreases-read_headed
-decreases-read_headed l = l.room * 12 + 2
+decreases-read_headed l = l.room * 12 + 3
 
 abbrev pub decreases-read_stmts : goal.decreases-read_stmts
-decreases-read_stmts l = l.room * 12 + 3
+decreases-read_stmts l = l.room * 12 + 4
 
 abbrev pub decreases-read_block_rest : goal.decreases-read_block_rest
-decreases-read_block_rest l = l.room * 12 + 4
+decreases-read_block_rest l = l.room * 12 + 5
 
 abbrev pub decreases-read_handlers : goal.decreases-read_handlers
-decreases-read_handlers l = l.room * 12 + 5
+decreases-read_handlers l = l.room * 12 + 6
 
 abbrev pub decreases-read_try : goal.decreases-read_try
-decreases-read_try l = l.room * 12 + 6
+decreases-read_try l = l.room * 12 + 7
 
 abbrev pub decreases-read_clauses : goal.decreases-read_clauses
-decreases-read_clauses l = l.room * 12 + 7
+decreases-read_clauses l = l.room * 12 + 8
 
 abbrev pub decreases-read_accept : goal.decreases-read_accept
-decreases-read_accept l = l.room * 12 + 8
+decreases-read_accept l = l.room * 12 + 9
 
 abbrev pub decreases-read_begun : goal.decreases-read_begun
-decreases-read_begun l = l.room * 12 + 9
+decreases-read_begun l = l.room * 12 + 10
 
 abbrev pub decreases-read_stmt : goal.decreases-read_stmt
-decreases-read_stmt l = l.room * 12 + 10
+decreases-read_stmt l = l.room * 12 + 11
