@@ -1,1 +1,14 @@
 pub mod Open
+pub mod Noted
+pub mod Times
+pub mod Spots
+pub mod Seats
+pub mod Sound
+pub mod Stood
+pub mod Moves
+pub mod Rows
+pub mod Law
+pub mod Hush
+pub mod Rest
+pub mod Busy
+pub mod Room
