@@ -12,3 +12,5 @@ pub mod Hush
 pub mod Rest
 pub mod Busy
 pub mod Room
+pub mod Acting
+pub mod Others

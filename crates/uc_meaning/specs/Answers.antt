@@ -88,3 +88,12 @@ first_of (x ∷ xs) = Some x
 -- the answer that task t goes on with: what its last request was answered, if it was; before its first request, to go on
 unfoldable pub answer_to : List Site → ℕ → Journal → Option Answer
 answer_to sites t j = first_of (reverse (still_open (λ e. tells sites t e.kind e) (λ e x. asks t e.kind e) j))
+
+-- the object that an entry makes for task t
+abbrev pub makes_for : ℕ → EntryKind → Entry → Option ℕ
+makes_for t kind.Make e = where_true (t == e.task) e.object
+makes_for t _ e = None
+
+-- the object that the last request of task t made, in a list of at most one
+unfoldable pub just_made : ℕ → Journal → List ℕ
+just_made t j = still_open (λ e. makes_for t e.kind e) (λ e o. asks t e.kind e) j

@@ -45,6 +45,10 @@ takes_object _ e o = false
 unfoldable pub made : Journal → List ℕ
 made j = still_open (λ e. makes_object e.kind e) (λ e. takes_object e.kind e) j
 
+-- whether a number stands in a list
+abbrev pub has : List ℕ → ℕ → Bool
+has xs n = list_any (λ x. x == n) xs
+
 -- the task whose own object is that of an entry
 abbrev pub owned : EntryKind → Entry → Option ℕ
 owned kind.Begin e = Some 0
