@@ -14,3 +14,6 @@ pub mod Busy
 pub mod Room
 pub mod Acting
 pub mod Others
+pub mod Held
+pub mod Bounds
+pub mod Goes

@@ -11,6 +11,8 @@ use Rattle.uc_meaning.specs.Journal.{Journal, entries_at, inside, lets_in, moves
 use Rattle.uc_meaning.specs.Queues.{Noted, noted, calls, takes, stacks, admits, waiting, stacked, readies, on_cluster, dispatches, ready, puts_on, takes_off, running}
 use Rattle.uc_meaning.specs.Doors.{blocks, blocked_at, open_at, opens, shuts}
 use Rattle.uc_meaning.specs.Stations.{Ready, Running, Waits, Stacked, Blocked, times, tasks_at}
+use Rattle.uc_meaning.specs.Acts.{dispatch}
+use Rattle.std.proofs.lemmas.Bool.{eq-eqb}
 use Rattle.uc_meaning.proofs.Open.{still_open_push}
 use Rattle.uc_meaning.proofs.Noted.{noted_at, noted_push}
 use Rattle.uc_meaning.proofs.Times.{times_push, times_push_in, times_append}
@@ -213,3 +215,12 @@ running_same p j e h =
     let begins : Noted → Option ℕ = λ x. puts_on x.entry.kind x.entry x.actor in
     let ends : Noted → ℕ → Bool = λ x. takes_off x.entry.kind x.entry in
     ap (still_open begins ends) (on_push p j e true h) ∙ still_open_push begins ends (filter (λ x. x.entry.proc == p) (noted j)) (noted_at j e)
+
+none_stay : (ts : List ℕ) → filter (λ t. false) ts ≡ []
+none_stay [] = refl
+none_stay (t ∷ ts) = none_stay ts
+
+-- a dispatch puts its task on its processor
+pub running_given : (p t : ℕ) (j : Journal) → running p (j ++ dispatch p t ∷ []) ≡ t ∷ []
+running_given p t j =
+    running_same p j (dispatch p t) (eq-eqb p p refl) ∙ ap (λ l. l ++ t ∷ []) (none_stay (running p j))
