@@ -17,3 +17,4 @@ pub mod Others
 pub mod Held
 pub mod Bounds
 pub mod Goes
+pub mod Given

@@ -34,7 +34,7 @@ pub record Foreign (u : ℕ) (e : Entry) : Type 0 where
   pub child : spawns_task u e.kind e ≡ false
   pub acts : is_giving e.kind ≡ false
 
-flip : (a b : ℕ) → (a == b) ≡ false → (b == a) ≡ false
+pub flip : (a b : ℕ) → (a == b) ≡ false → (b == a) ≡ false
 flip a b h = by (b == a) refl
   where
     no_both : (c : Bool) → c ≡ true → c ≡ false → ⊥
