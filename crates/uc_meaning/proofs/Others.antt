@@ -26,7 +26,7 @@ use Rattle.uc_meaning.proofs.Sound.{self_test, sound_step}
 use Rattle.uc_meaning.proofs.Moves.{first_at, known_at, spot_stays, more_tasks}
 use Rattle.uc_meaning.proofs.Rows.{Lawful}
 use Rattle.uc_meaning.proofs.Law.{lawful_act, good_whole}
-use Rattle.uc_meaning.proofs.Acting.{is_own, is_giving, IsBy, AllBy, by_act}
+use Rattle.uc_meaning.proofs.Acting.{is_own, is_giving, object_of, destroys, IsBy, AllBy, by_act}
 
 -- an entry that concerns task u in no way
 pub record Foreign (u : ℕ) (e : Entry) : Type 0 where
@@ -160,8 +160,8 @@ child_not : (k : EntryKind) (e : Entry) (j : Journal) (u : ℕ) → IsNext k e j
 child_not kind.Spawn e j u n lt = ne_eqb u (number e.a) (λ same. absurd (omega (arith, n, lt, same)))
 child_not k e j u n lt = refl
 
-module _ (p t q u : ℕ) (two : (u == t) ≡ false) (apart : (q == p) ≡ false) where
-  foreign : (e : Entry) (j : Journal) → Sound j → Legal e j → IsBy p t e → spot u j ≡ At (Running q) → Foreign u e
+module _ (p t o : ℕ) (A : Type 0) (g : Bool) (q u : ℕ) (two : (u == t) ≡ false) (apart : (q == p) ≡ false) where
+  foreign : (e : Entry) (j : Journal) → Sound j → Legal e j → IsBy p t o A g e → spot u j ≡ At (Running q) → Foreign u e
   foreign e j s l b at =
       let away : (e.proc == q) ≡ false = ap (λ v. v == q) b.proc ∙ flip q p apart in
       let still : mover e.kind e u ≡ false = by (mover e.kind e u) refl away in
@@ -177,7 +177,7 @@ module _ (p t q u : ℕ) (two : (u == t) ≡ false) (apart : (q == p) ≡ false)
           let self = self_test q in
           absurd (not_one (here (Running q) (spot u j)) (ap (here (Running q)) at ∙ simp self) (l.from u h (Running q) (removes_not e.kind e q away b.acts)))
 
-  still_there : (e : Entry) (j : Journal) → Foreign u e → Legal e j → IsBy p t e → spot u j ≡ At (Running q) → spot u (j ++ e ∷ []) ≡ At (Running q)
+  still_there : (e : Entry) (j : Journal) → Foreign u e → Legal e j → IsBy p t o A g e → spot u j ≡ At (Running q) → spot u (j ++ e ∷ []) ≡ At (Running q)
   still_there e j f l b at = by (mover e.kind e u) refl
     where
       by : (m : Bool) → mover e.kind e u ≡ m → spot u (j ++ e ∷ []) ≡ At (Running q)
@@ -187,7 +187,7 @@ module _ (p t q u : ℕ) (two : (u == t) ≡ false) (apart : (q == p) ≡ false)
           let away : (e.proc == q) ≡ false = ap (λ v. v == q) b.proc ∙ flip q p apart in
           absurd (not_one (here (Running q) (spot u j)) (ap (here (Running q)) at ∙ simp self) (l.from u h (Running q) (removes_not e.kind e q away b.acts)))
 
-  untouched : (sites : List Site) (j : Journal) (a : List Entry) → Sound j → Lawful j a → AllBy p t a → spot u j ≡ At (Running q) → Untouched sites j a u
+  untouched : (sites : List Site) (j : Journal) (a : List Entry) → Sound j → Lawful j a → AllBy p t o A g a → spot u j ≡ At (Running q) → Untouched sites j a u
   untouched sites j [] s l b at = record {
     objects = ap (held u) (append-nil j);
     answer = ap (answer_to sites u) (append-nil j);
@@ -206,10 +206,10 @@ module _ (p t q u : ℕ) (two : (u == t) ≡ false) (apart : (q == p) ≡ false)
         born = ap (λ x. x || spawns a u) f.child ∙ rest.born;
       }
 
-pub running_apart : (p t q : ℕ) (j : Journal) (a : List Entry) → (q == p) ≡ false → AllBy p t a → running q (j ++ a) ≡ running q j
-running_apart p t q j [] n b = ap (running q) (append-nil j)
-running_apart p t q j (e ∷ a) n b =
-    ap (running q) (sym (append_assoc j (e ∷ []) a)) ∙ running_apart p t q (j ++ e ∷ []) a n b.1 ∙ running_other q j e (ap (λ v. v == q) b.0.proc ∙ flip q p n)
+pub running_apart : (p t o : ℕ) (A : Type 0) (g : Bool) (q : ℕ) (j : Journal) (a : List Entry) → (q == p) ≡ false → AllBy p t o A g a → running q (j ++ a) ≡ running q j
+running_apart p t o A g q j [] n b = ap (running q) (append-nil j)
+running_apart p t o A g q j (e ∷ a) n b =
+    ap (running q) (sym (append_assoc j (e ∷ []) a)) ∙ running_apart p t o A g q (j ++ e ∷ []) a n b.1 ∙ running_other q j e (ap (λ v. v == q) b.0.proc ∙ flip q p n)
 
 -- tasks that run on two processors are two
 two_tasks : (j : Journal) (s : Sound j) (p q t u : ℕ) → running p j ≡ t ∷ [] → running q j ≡ u ∷ [] → (q == p) ≡ false → (u == t) ≡ false
@@ -226,11 +226,14 @@ two_tasks j s p q t u a b n = by (u == t) refl
         absurd (no_both (q == p) (eq-eqb q p (ap proc_of same)) n)
 
 pub law_elsewhere : LawElsewhere
-law_elsewhere opts sites input j p t k asked r m q n =
-    let s = (good_whole opts sites input r).sound in
+law_elsewhere opts sites input j p t k asked runs m q n =
+    let s = (good_whole opts sites input runs).sound in
     let a = act opts sites input j p t k asked in
-    let b = by_act p t opts sites input j k asked in
+    let r = asked.request in
+    let o = object_of t j r in
+    let g = destroys r in
+    let b = by_act opts sites input j p t k (Unit {0}) asked (λ h. tt) in
     record {
-      runs = running_apart p t q j a n b;
-      untouched = λ u h. untouched p t q u (two_tasks j s p q t u m.runs h n) n sites j a s (lawful_act opts sites input j p t k asked s m) b (first_at j s (Running q) u [] h);
+      runs = running_apart p t o (Unit {0}) g q j a n b;
+      untouched = λ u h. untouched p t o (Unit {0}) g q u (two_tasks j s p q t u m.runs h n) n sites j a s (lawful_act opts sites input j p t k asked s m) b (first_at j s (Running q) u [] h);
     }

@@ -246,7 +246,7 @@ module _ (opts : Options) (sites : List Site) (input : List ℕ) (j : Journal) (
         none_stacked = all_of (λ x. x) t (stacked o j) b.0 (ap (times t) (map-id (stacked o j)) ∙ s.seats t (Stacked o) ∙ ap (here (Stacked o)) at);
       }
 
-  -- no fault stack_at in place of an entry of this row
+  -- no fault stands in place of an entry of this row
   abbrev Calm : Request → Type 0
   Calm r = is_faulty (settled (fault p t 0 10 line) j (row opts sites input j p t k line r)) ≡ false
 

@@ -21,7 +21,7 @@ below_one r (At q) = by (is_same q r)
     by true = omega arith
     by false = omega arith
 
--- a list in which each task stack_at at most once
+-- a list in which each task stands at most once
 once_in : (x : ℕ) (xs : List ℕ) → times x xs ≡ 0 → AllByRecursion (λ y. eqb x y ≡ false) xs
 once_in x [] h = tt
 once_in x (y ∷ xs) h = by (once_in x xs) (eqb x y) refl h
@@ -140,7 +140,7 @@ module _ (j : Journal) (s : Sound j) (o : ℕ) where
       let own = blocked_times t (At (Running p)) at in
       room_of (map (λ b. b.0) (blocked_at o j)) (task_count j) t (λ x. let e = blocked_times x (spot x j) refl in let b = below_one (Blocked o e.0) (spot x j) in omega (arith, e.1, b)) (λ x m c. let e = blocked_times x (spot x j) refl in known_at j s x (Blocked o e.0) (counted_at j s (Blocked o e.0) x m (s.seats x (Blocked o e.0) ∙ sym e.1 ∙ c))) (own.1 ∙ ap (here (Blocked o own.0)) at) known
 
--- a task that stack_at in no list of some tasks, in the words of a pool of nodes
+-- a task that stands in no list of some tasks, in the words of a pool of nodes
 pub in_none : {A : Type 0} (key : A → ℕ) (t : ℕ) (xs : List A) → times t (map key xs) ≡ 0 → AllByRecursion (λ a. key a ≢ t) xs
 in_none key t [] h = tt
 in_none key t (x ∷ xs) h = by (in_none key t xs) (t == key x) refl h

@@ -25,7 +25,7 @@ use Rattle.uc_meaning.proofs.Seats.{inside_after}
 use Rattle.uc_meaning.proofs.Sound.{self_test, objects_push, tasks_push, nothing_open, all_kept_nil, none_kept}
 use Rattle.uc_meaning.proofs.Moves.{counted_at, first_at, known_at, apart, met_counts, from_run, from_waits, from_stacked, from_blocked, legal_still, legal_one, more_objects, more_tasks, object_0, one_inside, inside_now, open_now, spot_stays, spot_moves}
 
--- each entry is legal where it stack_at
+-- each entry is legal where it stands
 abbrev pub Lawful : Journal → List Entry → Type 0
 Lawful j [] = Unit {0}
 Lawful j (e ∷ a) = Legal e j × Lawful (j ++ e ∷ []) a

@@ -101,7 +101,7 @@ stacked_same o j e h =
     let up = still_open (λ e. stacks e.kind e) (λ e. admits e.kind e) (entries_at o j) in
     ap (λ l. reverse (still_open (λ e. stacks e.kind e) (λ e. admits e.kind e) l)) (at_push o j e true h) ∙ ap reverse (still_open_push (λ e. stacks e.kind e) (λ e. admits e.kind e) (entries_at o j) e) ∙ reverse_opt (filter (λ t. not (admits e.kind e t)) up) (stacks e.kind e) ∙ ap (λ l. option_to_list (stacks e.kind e) ++ l) (filter_reverse (λ t. not (admits e.kind e t)) up)
 
--- how often a task stack_at at each place
+-- how often a task stands at each station
 
 times_swap : (t : ℕ) (xs : List ℕ) → times t (reverse xs) ≡ times t xs
 times_swap t [] = refl

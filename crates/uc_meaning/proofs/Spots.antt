@@ -24,7 +24,7 @@ spot_push t j e =
 abbrev pub added : Station → EntryKind → Noted → ℕ → ℕ
 added r k x t = cond (mover k x.entry t) (here r (target k x t)) 0
 
--- what an entry does to the number of times that its task stack_at at a place
+-- what an entry does to the number of times that its task stands at a station
 abbrev pub Counts : Station → EntryKind → Noted → ℕ → ℕ → ℕ → Type 0
 Counts r k x t before after =
     after ≡ cond (mover k x.entry t && removes r k x.entry) 0 before + added r k x t

@@ -1,4 +1,4 @@
--- How often a task stack_at in a filter, when an entry is appended.
+-- How often a task stands in a filter, when an entry is appended.
 use Rattle.std.proofs.Common.{◌≡◌, ℕ, suc, ◌==◌, ◌+◌, Bool, true, false, cond, not, List, [], ◌∷◌, ◌++◌, Option, map, refl, sym, ap, ◌∙◌, arith}
 use Rattle.std.specs.Option.{option_to_list}
 use Rattle.std.specs.List.{filter}
