@@ -29,7 +29,7 @@ no_both : (b : Bool) → b ≡ true → b ≡ false → ⊥
 no_both b t f = cc
 
 module _ (p t : ℕ) (j : Journal) where
-  made_given : made (j ++ dispatch p t ∷ []) ≡ made j
+  pub made_given : made (j ++ dispatch p t ∷ []) ≡ made j
   unfolding made
   made_given =
       still_open_silent (λ e. makes_object e.kind e) (λ e. takes_object e.kind e) j (dispatch p t) refl (λ o. refl)

@@ -13,6 +13,8 @@ pub mod Rest
 pub mod Busy
 pub mod Room
 pub mod Acting
+pub mod Living
+pub mod Counted
 pub mod Others
 pub mod Held
 pub mod Bounds

@@ -98,7 +98,7 @@ silent_or : (b : Bool) (e f : Entry) → is_silent e.kind ≡ true → is_silent
 silent_or true e f h g = (h, tt)
 silent_or false e f h g = (g, tt)
 
-all_of : {A : Type 0} (key : A → ℕ) (t : ℕ) (xs : List A) → list_any (λ x. not (key x == t)) xs ≡ false → times t (map key xs) ≡ 0 → xs ≡ []
+pub all_of : {A : Type 0} (key : A → ℕ) (t : ℕ) (xs : List A) → list_any (λ x. not (key x == t)) xs ≡ false → times t (map key xs) ≡ 0 → xs ≡ []
 all_of key t [] h g = refl
 all_of key t (x ∷ xs) h g = by (key x == t) refl h g
   where
@@ -115,7 +115,7 @@ all_of key t (x ∷ xs) h g = by (key x == t) refl h g
         no_or : true ≡ false → ⊥
         no_or e = cc
 
-or_parts : (a b : Bool) → (a || b) ≡ false → (a ≡ false) × (b ≡ false)
+pub or_parts : (a b : Bool) → (a || b) ≡ false → (a ≡ false) × (b ≡ false)
 or_parts true b h = cc
 or_parts false b h = (refl, h)
 
@@ -326,7 +326,7 @@ module _ (opts : Options) (sites : List Site) (input : List ℕ) (j : Journal) (
   row_rests r f calm v = rest_silent v j (row opts sites input j p t k line r) (refl, tt) (rests v)
 
 -- an act without a fault
-settled_calm : (f : Entry) (j : Journal) (a : List Entry) → is_fault f.kind ≡ true → is_faulty (settled f j a) ≡ false → settled f j a ≡ a
+pub settled_calm : (f : Entry) (j : Journal) (a : List Entry) → is_fault f.kind ≡ true → is_faulty (settled f j a) ≡ false → settled f j a ≡ a
 settled_calm f j [] g h = refl
 settled_calm f j (e ∷ a) g h = by (λ c. settled_calm f (j ++ e ∷ []) a g c) (destroys_busy j e.kind e) refl
   where

@@ -135,6 +135,11 @@ module _ (j : Journal) (s : Sound j) (o : ℕ) where
   blocked_times t P h =
       (0, one_condition t 0 (blocked_at o j) (λ d n. seated t d ∙ ap (here (Blocked o d)) h) ∙ seated t 0)
 
+  -- a task that runs is not blocked
+  pub not_blocked : (p t : ℕ) → spot t j ≡ At (Running p) → times t (map (λ b. b.0) (blocked_at o j)) ≡ 0
+  not_blocked p t at =
+      let own = blocked_times t (At (Running p)) at in own.1 ∙ ap (here (Blocked o own.0)) at
+
   pub room_blocked : (p t : ℕ) → spot t j ≡ At (Running p) → t < task_count j → length (map (λ b. b.0) (blocked_at o j)) < task_count j
   room_blocked p t at known =
       let own = blocked_times t (At (Running p)) at in

@@ -110,7 +110,7 @@ LawDispatch =
 -- an object that a task is inside is made and not gone
 abbrev pub LawMade : Type 0
 LawMade =
-    (opts : Options) (sites : List Site) (input : List ℕ) (j : Journal) → KernelRuns opts sites input j → (t o : ℕ) → has (held t j) o ≡ true → has (made j) o ≡ true
+    (opts : Options) (sites : List Site) (input : List ℕ) (j : Journal) → KernelRuns opts sites input j → is_over j ≡ false → (t o : ℕ) → has (held t j) o ≡ true → has (made j) o ≡ true
 
 -- a task that has just made an object runs, is answered with it, and has entered it last
 pub record IsNew (sites : List Site) (j : Journal) (t o : ℕ) : Type 0 where
