@@ -38,7 +38,7 @@ pub record Counted (j : Journal) : Type 0 where
 has_append : (xs ys : List ℕ) (n : ℕ) → has (xs ++ ys) n ≡ (has xs n || has ys n)
 has_append xs ys n = list_any-append (λ x. x == n) xs ys
 
-has_filter : (p : ℕ → Bool) (xs : List ℕ) (n : ℕ) → has (filter (λ x. not (p x)) xs) n ≡ (has xs n && not (p n))
+pub has_filter : (p : ℕ → Bool) (xs : List ℕ) (n : ℕ) → has (filter (λ x. not (p x)) xs) n ≡ (has xs n && not (p n))
 has_filter p [] n = refl
 has_filter p (x ∷ xs) n = by (p x) (x == n) refl refl (has_filter p xs n)
   where

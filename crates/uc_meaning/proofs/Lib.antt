@@ -15,6 +15,7 @@ pub mod Room
 pub mod Acting
 pub mod Living
 pub mod Counted
+pub mod Making
 pub mod Others
 pub mod Held
 pub mod Bounds
