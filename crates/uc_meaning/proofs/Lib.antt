@@ -16,6 +16,7 @@ pub mod Acting
 pub mod Living
 pub mod Counted
 pub mod Making
+pub mod Sampled
 pub mod Others
 pub mod Held
 pub mod Bounds

@@ -18,6 +18,7 @@ pub mod Reading
 pub mod Acts
 pub mod KernelRuns
 pub mod Laws
+pub mod Samples
 pub mod Runs
 pub mod Texts
 pub mod Straight

@@ -8,3 +8,4 @@ pub mod laws;
 pub mod list;
 pub mod request;
 pub mod rule;
+pub mod samples;
