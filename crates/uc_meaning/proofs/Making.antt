@@ -236,7 +236,7 @@ module _ (opts : Options) (sites : List Site) (input : List ℕ) (j : Journal) (
       let f : Fits opts sites j t r = subst (Fits opts sites j t) e m.fits in
       none (makes_none p t (object_of t j r) (is_quiet r ≡ false) (destroys r) j (row opts sites input j p t k asked.line r) (row_lawful opts sites input j p t k asked.line s m.runs r f) (by_row opts sites input j p t k asked.line (is_quiet r ≡ false) r (λ h. h)) (known_object opts sites j t r n f)) (row_asks opts sites input j p t k asked.line r f)
 
-  making : (r : Request) → asked.request ≡ r → Made opts sites j p t k (row opts sites input j p t k asked.line r) 
+  making : (r : Request) → asked.request ≡ r → Made opts sites j p t k (row opts sites input j p t k asked.line r)
   making (ask.Make class) e =
       by (nat_lt (object_count j) OBJECTS) refl (ap (λ r. is_faulty (settled (fault p t 0 10 asked.line) j (row opts sites input j p t k asked.line r))) (sym e) ∙ (going_row opts sites input j p t k asked going).1)
     where
