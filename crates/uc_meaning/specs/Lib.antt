@@ -4,6 +4,7 @@ pub mod Open
 pub mod Journal
 pub mod Queues
 pub mod Executions
+pub mod Faults
 pub mod Quiet
 pub mod Rides
 pub mod Reading
@@ -11,6 +12,7 @@ pub mod Acts
 pub mod Runs
 pub mod Texts
 pub mod Straight
+pub mod RuleNames
 pub mod RulesNames
 pub mod RulesTypes
 pub mod RulesVisits
