@@ -12,6 +12,7 @@ pub mod Legal
 pub mod Answers
 pub mod Serves
 pub mod Executions
+pub mod Faults
 pub mod Quiet
 pub mod Rides
 pub mod Reading
@@ -22,6 +23,7 @@ pub mod Samples
 pub mod Runs
 pub mod Texts
 pub mod Straight
+pub mod RuleNames
 pub mod RulesNames
 pub mod RulesTypes
 pub mod RulesVisits

@@ -3,6 +3,7 @@
 
 pub mod entry;
 pub mod exec;
+pub mod fault;
 pub mod got;
 pub mod laws;
 pub mod list;
