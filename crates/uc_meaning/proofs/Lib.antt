@@ -17,6 +17,7 @@ pub mod Living
 pub mod Counted
 pub mod Making
 pub mod Sampled
+pub mod Cuts
 pub mod Others
 pub mod Held
 pub mod Bounds

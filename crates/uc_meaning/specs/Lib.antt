@@ -21,6 +21,7 @@ pub mod KernelRuns
 pub mod Laws
 pub mod Samples
 pub mod Runs
+pub mod Cuts
 pub mod Texts
 pub mod Straight
 pub mod RuleNames

@@ -1,5 +1,6 @@
 // The laws of runs: each is a function whose contract is the law.
 
+ghost use Rattle.uc_meaning.specs.Cuts.{LawCut};
 ghost use Rattle.uc_meaning.specs.Laws.{LawInside, LawPlace, LawHeld, LawRoom, LawGoing, LawElsewhere, LawDispatch, LawMade, LawNew, LawMakes};
 
 /// At every moment of every run of a kernel at most one task is inside an object; where an accept is open nobody is, and
@@ -55,4 +56,10 @@ pub fn law_new()
 /// is new and just made by its task, and its task was inside what it takes out.
 pub fn law_makes()
     ensures { LawMakes }
+{}
+
+/// The journal of a program's run has one cut into acts, where each act's request fits; and from each state a task asks
+/// one thing, after so many ticks.
+pub fn law_cut()
+    ensures { LawCut }
 {}
