@@ -22,6 +22,7 @@ pub mod Laws
 pub mod Samples
 pub mod Runs
 pub mod Texts
+pub mod Fit
 pub mod Straight
 pub mod RuleNames
 pub mod RulesNames
