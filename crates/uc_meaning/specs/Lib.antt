@@ -23,6 +23,7 @@ pub mod Samples
 pub mod Runs
 pub mod Cuts
 pub mod Texts
+pub mod Fit
 pub mod Straight
 pub mod RuleNames
 pub mod RulesNames
