@@ -1,5 +1,7 @@
 pub mod CellTables
 pub mod Held
+pub mod Known
+pub mod Places
 pub mod Reached
 pub mod Reckoned
 pub mod Sized

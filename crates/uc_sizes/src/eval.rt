@@ -5,7 +5,7 @@ ghost use Rattle.uc_tree.specs.Constants.{int_value, unary_value, binary_value, 
 ghost use Rattle.uc_tree.specs.Expressions.{links_of};
 ghost use Rattle.uc_sizes.specs.Values.{seen_by};
 
-use crate::named::Named;
+use crate::named::{NameValues, Named};
 use uc_tree::expr::{Expr, ExprForm, Link};
 use uc_tree::kinds::Base;
 use uc_tree::limits::{CHAR_VALUES, INT_MAX, INT_MIN};
@@ -129,9 +129,17 @@ pub fn converted_to(base: &Base, x: i64) -> i64
 }
 
 /// The value of an expression, in which these are the values of names.
-#[cycle(value)]
 pub fn value_of(e: &Expr, named: &Named) -> Option<i64>
     ensures { result ≡ value_in e.now (seen_by named.now) }
+{
+    let value = value_by(e, named);
+    value
+}
+
+/// The value of an expression, by what gives names their values.
+#[cycle(value)]
+pub fn value_by<N: NameValues>(e: &Expr, named: &N) -> Option<i64>
+    ensures { result ≡ value_in e.now (N.value_named named.now) }
 {
     match &e.form {
         ExprForm::Number { value } => int_of(*value),
@@ -140,34 +148,34 @@ pub fn value_of(e: &Expr, named: &Named) -> Option<i64>
         ExprForm::Name { name } => named.value(name),
         ExprForm::Cin => None,
         ExprForm::Postfix { .. } => None,
-        ExprForm::Unary { op, operand } => match value_of(operand, named) {
+        ExprForm::Unary { op, operand } => match value_by(operand, named) {
             Some(x) => unary_of(*op, x),
             None => None,
         },
         ExprForm::Chain { first, rest } => {
-            let left = value_of(first, named);
-            value_of_chain(left, rest, named)
+            let left = value_by(first, named);
+            value_by_chain(left, rest, named)
         }
         ExprForm::Assign { .. } => None,
     }
 }
 
 #[cycle(value)]
-fn value_of_chain(left: Option<i64>, rest: &[Link], named: &Named) -> Option<i64>
-    ensures { result ≡ chain_value_in (links_of rest.now) left (seen_by named.now) }
+fn value_by_chain<N: NameValues>(left: Option<i64>, rest: &[Link], named: &N) -> Option<i64>
+    ensures { result ≡ chain_value_in (links_of rest.now) left (N.value_named named.now) }
 {
     let mut value = left;
     for link in rest {
-        value = value_of_link(value, link, named);
+        value = value_by_link(value, link, named);
     }
     value
 }
 
 #[cycle(value)]
-fn value_of_link(left: Option<i64>, link: &Link, named: &Named) -> Option<i64>
-    ensures { result ≡ link_value_in link.now left (seen_by named.now) }
+fn value_by_link<N: NameValues>(left: Option<i64>, link: &Link, named: &N) -> Option<i64>
+    ensures { result ≡ link_value_in link.now left (N.value_named named.now) }
 {
-    let right = value_of(&link.right, named);
+    let right = value_by(&link.right, named);
     match left {
         Some(x) => match right {
             Some(y) => binary_of(link.op, x, y),

@@ -4,18 +4,18 @@ ghost use Rattle.std.specs.Prelude.{◌≡◌, ◌+◌, ◌++◌, IfOk, OnOk, ma
 ghost use Rattle.uc_tree.specs.Constants.{sound_length, elements};
 ghost use Rattle.uc_tree.specs.Cells.{object_of_kind, object_named, object_of, held_by, member_held, members_held, leading_cells};
 ghost use Rattle.uc_tree.specs.ProgramViews.{member_form_at};
-ghost use Rattle.uc_sizes.specs.Values.{seen_by};
 ghost use Rattle.uc_sizes.specs.Held.{row_by, rows_by};
 
-use crate::eval::value_of;
-use crate::named::Named;
+use crate::eval::value_by;
+use crate::known::{Inside, names_of_members};
+use crate::named::NameValues;
+use crate::places::{Classes, Known};
 use std::alloc::{AllocError, Global};
 use uc_tree::class::{Class, Member, MemberForm};
 use uc_tree::declare::Declarator;
 use uc_tree::kinds::{Base, Kind};
 use uc_tree::limits::ARRAY_LENGTH;
 use uc_tree::name::Name;
-use uc_tree::program::Constant;
 use uc_tree::rows::{Held, Object, Row};
 
 // A length of 1 to `ARRAY_LENGTH`; a broken one counts as 1.
@@ -35,14 +35,14 @@ fn sound_length(value: Option<i64>) -> u32
 }
 
 /// How many elements a declarator declares.
-pub fn elements_of(named: &Named, declarator: &Declarator) -> u32
-    ensures { result ≡ elements (seen_by named.now) declarator.now }
+pub fn elements_of<N: NameValues>(named: &N, declarator: &Declarator) -> u32
+    ensures { result ≡ elements (N.value_named named.now) declarator.now }
 {
     if declarator.by_ref {
         return 1;
     }
     match &declarator.len {
-        Some(length) => sound_length(value_of(length, named)),
+        Some(length) => sound_length(value_by(length, named)),
         None => 1,
     }
 }
@@ -69,20 +69,21 @@ fn object_of_kind(class: usize, kind: Kind) -> Option<Object>
     }
 }
 
-fn object_named(classes: &[&Class], name: &Name) -> Option<Object>
-    ensures { result ≡ object_named (map (λ c. c.now) classes.now) 0 name.now }
+fn object_named(classes: &Classes, name: &Name) -> Option<Object>
+    ensures { result ≡ object_named (map (λ c. c.now) classes.now.list.now) 0 name.now }
 {
-    for (place, class) in classes.iter().enumerate() {
-        if class.name.is(name.bytes()) {
-            return object_of_kind(place, class.kind);
+    match classes.place_of(name) {
+        Some(place) => {
+            let class = classes.list[place];
+            object_of_kind(place, class.kind)
         }
+        None => None,
     }
-    None
 }
 
 /// The object that a field or a variable of this base is, or none.
-pub fn object_of(classes: &[&Class], base: &Base) -> Option<Object>
-    ensures { result ≡ object_of (map (λ c. c.now) classes.now) base.now }
+pub fn object_of(classes: &Classes, base: &Base) -> Option<Object>
+    ensures { result ≡ object_of (map (λ c. c.now) classes.now.list.now) base.now }
 {
     match base {
         Base::Void => None,
@@ -97,8 +98,13 @@ pub fn object_of(classes: &[&Class], base: &Base) -> Option<Object>
 }
 
 /// What a declarator holds.
-pub fn held_by(classes: &[&Class], named: &Named, base: &Base, declarator: &Declarator) -> Held
-    ensures { result ≡ held_by (map (λ c. c.now) classes.now) (seen_by named.now) base.now declarator.now }
+pub fn held_by<N: NameValues>(
+    classes: &Classes,
+    named: &N,
+    base: &Base,
+    declarator: &Declarator,
+) -> Held
+    ensures { result ≡ held_by (map (λ c. c.now) classes.now.list.now) (N.value_named named.now) base.now declarator.now }
 {
     let object = if declarator.by_ref {
         None
@@ -111,14 +117,14 @@ pub fn held_by(classes: &[&Class], named: &Named, base: &Base, declarator: &Decl
     }
 }
 
-fn push_fields(
+fn push_fields<N: NameValues>(
     held: &mut Vec<Held>,
-    classes: &[&Class],
-    named: &Named,
+    classes: &Classes,
+    named: &N,
     base: &Base,
     declarators: &[Declarator],
 ) -> Result<(), AllocError>
-    ensures { OnOk result (held.new.items ≡ held.old.items ++ map (held_by (map (λ c. c.now) classes.now) (seen_by named.now) base.now) declarators.now) }
+    ensures { OnOk result (held.new.items ≡ held.old.items ++ map (held_by (map (λ c. c.now) classes.now.list.now) (N.value_named named.now) base.now) declarators.now) }
 {
     for declarator in declarators {
         held.push(held_by(classes, named, base, declarator))?;
@@ -126,13 +132,13 @@ fn push_fields(
     Ok(())
 }
 
-fn push_member(
+fn push_member<N: NameValues>(
     held: &mut Vec<Held>,
-    classes: &[&Class],
-    named: &Named,
+    classes: &Classes,
+    named: &N,
     form: &MemberForm,
 ) -> Result<(), AllocError>
-    ensures { OnOk result (held.new.items ≡ held.old.items ++ member_held (map (λ c. c.now) classes.now) (seen_by named.now) (member_form_at form.now)) }
+    ensures { OnOk result (held.new.items ≡ held.old.items ++ member_held (map (λ c. c.now) classes.now.list.now) (N.value_named named.now) (member_form_at form.now)) }
 {
     match form {
         MemberForm::Fields {
@@ -148,13 +154,13 @@ fn push_member(
     }
 }
 
-fn members_held(
+fn members_held<N: NameValues>(
     alloc: Global,
-    classes: &[&Class],
-    named: &Named,
+    classes: &Classes,
+    named: &N,
     members: &[Member],
 ) -> Result<Vec<Held>, AllocError>
-    ensures { IfOk result (λ v. v.items ≡ members_held (map (λ c. c.now) classes.now) (seen_by named.now) members.now) }
+    ensures { IfOk result (λ v. v.items ≡ members_held (map (λ c. c.now) classes.now.list.now) (N.value_named named.now) members.now) }
 {
     let mut held = Vec::new(alloc);
     for member in members {
@@ -176,21 +182,15 @@ fn leading_cells(kind: Kind) -> u32
     }
 }
 
-fn row_of(
-    alloc: Global,
-    classes: &[&Class],
-    constants: &[&Constant],
-    values: &[Option<i64>],
-    class: &Class,
-) -> Result<Row, AllocError>
-    ensures { IfOk result (λ r. r ≡ row_by (map (λ c. c.now) classes.now) (map (λ c. c.now) constants.now) values.now class.now) }
+fn row_of(alloc: Global, classes: &Classes, known: &Known, class: &Class) -> Result<Row, AllocError>
+    ensures { IfOk result (λ r. r ≡ row_by (map (λ c. c.now) classes.now.list.now) (map (λ c. c.now) known.now.constants.now) known.now.values.now class.now) }
 {
-    let named = Named {
-        constants,
-        values,
-        hidden: &class.members,
+    let members = names_of_members(alloc, &class.members)?;
+    let inside = Inside {
+        known: *known,
+        members: &members,
     };
-    let held = members_held(alloc, classes, &named, &class.members)?;
+    let held = members_held(alloc, classes, &inside, &class.members)?;
     Ok(Row {
         leading: leading_cells(class.kind),
         held,
@@ -198,17 +198,12 @@ fn row_of(
 }
 
 /// What each of these classes holds.
-pub fn rows_of(
-    alloc: Global,
-    classes: &[&Class],
-    constants: &[&Constant],
-    values: &[Option<i64>],
-) -> Result<Vec<Row>, AllocError>
-    ensures { IfOk result (λ v. v.items ≡ rows_by (map (λ c. c.now) classes.now) (map (λ c. c.now) constants.now) values.now) }
+pub fn rows_of(alloc: Global, classes: &Classes, known: &Known) -> Result<Vec<Row>, AllocError>
+    ensures { IfOk result (λ v. v.items ≡ rows_by (map (λ c. c.now) classes.now.list.now) (map (λ c. c.now) known.now.constants.now) known.now.values.now) }
 {
     let mut rows = Vec::new(alloc);
-    for class in classes {
-        rows.push(row_of(alloc, classes, constants, values, class)?)?;
+    for class in classes.list {
+        rows.push(row_of(alloc, classes, known, class)?)?;
     }
     Ok(rows)
 }

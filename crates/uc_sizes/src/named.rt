@@ -1,6 +1,6 @@
 // What names stand for in constant expressions.
 
-ghost use Rattle.std.specs.Prelude.{◌≡◌, map};
+ghost use Rattle.std.specs.Prelude.{◌≡◌, ℕ, ℤ, List, Option, map};
 ghost use Rattle.std.specs.List.{list_any};
 ghost use Rattle.uc_tree.specs.Cells.{declares_name, member_form_named};
 ghost use Rattle.uc_tree.specs.ProgramViews.{member_form_at};
@@ -11,6 +11,15 @@ use uc_tree::declare::Declarator;
 use uc_tree::name::Name;
 use uc_tree::program::Constant;
 
+/// What gives names their values in constant expressions.
+pub trait NameValues {
+    ghost value_named: { Self → List ℕ → Option ℤ };
+
+    /// The value of a name, none where it has none.
+    fn value(&self, name: &Name) -> Option<i64>
+        ensures { result ≡ value_named self.now name.now };
+}
+
 /// The values of names: of constants, with a value or none for each in the table, but for those that members of a class
 /// hide.
 #[derive(Clone, Copy)]
@@ -20,11 +29,10 @@ pub struct Named<'a> {
     pub hidden: &'a [Member],
 }
 
-impl<'a> Named<'a> {
-    /// The value of a name.
-    pub fn value(&self, name: &Name) -> Option<i64>
-        ensures { result ≡ seen_by self.now name.now }
-    {
+impl<'a> NameValues for Named<'a> {
+    ghost value_named = { seen_by };
+
+    fn value(&self, name: &Name) -> Option<i64> {
         if is_member(self.hidden, name) {
             return None;
         }
@@ -48,7 +56,8 @@ fn is_form_named(form: &MemberForm, name: &Name) -> bool
     }
 }
 
-fn is_member(members: &[Member], name: &Name) -> bool
+/// Whether one of these members has the name.
+pub fn is_member(members: &[Member], name: &Name) -> bool
     ensures { result ≡ list_any (λ m. member_form_named name.now m.form) members.now }
 {
     members.iter().any(|m| is_form_named(&m.form, name))

@@ -1,25 +1,19 @@
 // An order of constants in which each comes behind those that it names, as far as there is one. It only saves work: the
 // values do not depend on it.
 
+use crate::places::Constants;
 use std::alloc::{AllocError, Global};
 use uc_tree::expr::{Expr, ExprForm, Link};
-use uc_tree::name::Name;
-use uc_tree::program::Constant;
-
-// The place of the first constant of a name.
-fn place_of(constants: &[&Constant], name: &Name) -> Option<usize> {
-    constants.iter().position(|c| c.name.is(name.bytes()))
-}
 
 // Adds the places of the constants that an expression names.
 #[cycle(uses)]
-fn push_uses(uses: &mut Vec<usize>, constants: &[&Constant], e: &Expr) -> Result<(), AllocError> {
+fn push_uses(uses: &mut Vec<usize>, constants: &Constants, e: &Expr) -> Result<(), AllocError> {
     match &e.form {
         ExprForm::Number { .. } => Ok(()),
         ExprForm::Character { .. } => Ok(()),
         ExprForm::Truth { .. } => Ok(()),
         ExprForm::Name { name } => {
-            if let Some(place) = place_of(constants, name) {
+            if let Some(place) = constants.place_of(name) {
                 uses.push(place)?;
             }
             Ok(())
@@ -42,7 +36,7 @@ fn push_uses(uses: &mut Vec<usize>, constants: &[&Constant], e: &Expr) -> Result
 #[cycle(uses)]
 fn push_link_uses(
     uses: &mut Vec<usize>,
-    constants: &[&Constant],
+    constants: &Constants,
     links: &[Link],
 ) -> Result<(), AllocError> {
     for link in links {
@@ -51,9 +45,9 @@ fn push_link_uses(
     Ok(())
 }
 
-fn uses_of(alloc: Global, constants: &[&Constant]) -> Result<Vec<Vec<usize>>, AllocError> {
+fn uses_of(alloc: Global, constants: &Constants) -> Result<Vec<Vec<usize>>, AllocError> {
     let mut all = Vec::new(alloc);
-    for constant in constants {
+    for constant in constants.list {
         let mut uses = Vec::new(alloc);
         push_uses(&mut uses, constants, &constant.value)?;
         all.push(uses)?;
@@ -107,12 +101,12 @@ fn walk(
 }
 
 /// The places of these constants, in an order in which each comes behind those that it names where that can be.
-pub fn order_of(alloc: Global, constants: &[&Constant]) -> Result<Vec<usize>, AllocError> {
+pub fn order_of(alloc: Global, constants: &Constants) -> Result<Vec<usize>, AllocError> {
     let all = uses_of(alloc, constants)?;
-    let mut seen = vec![in alloc; false; constants.len()]?;
+    let mut seen = vec![in alloc; false; constants.list.len()]?;
     let mut path = Vec::new(alloc);
     let mut order = Vec::new(alloc);
-    for place in 0..constants.len() {
+    for place in 0..constants.list.len() {
         path.push(Step::Enter(place))?;
         walk(&all, &mut seen, &mut path, &mut order, u64::MAX)?;
     }

@@ -1,25 +1,31 @@
 // The cells of a program's classes and routines.
 
-ghost use Rattle.std.specs.Prelude.{◌≡◌, IfOk};
+ghost use Rattle.std.specs.Prelude.{◌≡◌, IfOk, map};
 ghost use Rattle.uc_tree.specs.Capped.{capped};
 ghost use Rattle.uc_tree.specs.Cells.{class_cells, classes_of, declared_cells, held_by, object_of, param_cells, rows_of, seen_in};
 ghost use Rattle.uc_tree.specs.Rows.{element_cells, has_itself};
+ghost use Rattle.uc_sizes.specs.Known.{known_by};
+ghost use Rattle.uc_sizes.specs.Places.{IsPlaces};
+ghost use Rattle.uc_sizes.specs.Held.{rows_by};
 ghost use Rattle.uc_tree.specs.Constants.{constants_of, elements, value_of_name};
 
 use crate::cells::{cells_of, element_cells};
 use crate::circles::circles_of;
 use crate::held::{elements_of, held_by, object_of, rows_of};
+use crate::known::Shown;
 use crate::lists::{classes_in, constants_in};
-use crate::named::Named;
+use crate::named::NameValues;
+use crate::places::{Classes, Known, places_of_classes, places_of_constants};
 use crate::tables::values_of;
 use std::alloc::{AllocError, Global};
 use std::marker::Model;
+use uc_names::scope::Scope;
 use uc_tree::class::Class;
 use uc_tree::declare::Declarator;
 use uc_tree::kinds::{Base, Param};
 use uc_tree::name::Name;
 use uc_tree::program::{Constant, Program};
-use uc_tree::rows::{Held, Object};
+use uc_tree::rows::{Held, Object, Row};
 
 /// A program of which the values of constants, the classes that have themselves in their fields, and the cells of classes are
 /// known. Contracts see the program.
@@ -27,7 +33,9 @@ use uc_tree::rows::{Held, Object};
 pub struct Sizes<'a> {
     program: &'a Program,
     classes: Vec<&'a Class>,
+    class_places: Scope,
     constants: Vec<&'a Constant>,
+    constant_places: Scope,
     values: Vec<Option<i64>>,
     circles: Vec<bool>,
     cells: Vec<u64>,
@@ -37,6 +45,7 @@ impl<'a> Model for Sizes<'a> {
     ghost use Rattle.std.specs.Prelude.{map};
     ghost use Rattle.uc_tree.specs.Programs.{Program};
     ghost use Rattle.uc_tree.specs.ProgramCodes.{program_coded};
+    ghost use Rattle.uc_sizes.specs.Places.{IsPlaces};
     ghost use Rattle.uc_sizes.specs.Sized.{IsSized};
 
     ghost Value = { Program };
@@ -45,7 +54,33 @@ impl<'a> Model for Sizes<'a> {
 
     ghost view = { λ a. a.program.now };
 
-    ghost invariant = { λ a. IsSized a.program.now (map (λ c. c.now) a.classes.items) (map (λ c. c.now) a.constants.items) a.values.items a.circles.items a.cells.items };
+    ghost invariant = { λ a. IsSized a.program.now (map (λ c. c.now) a.classes.items) (map (λ c. c.now) a.constants.items) a.values.items a.circles.items a.cells.items × IsPlaces (map (λ c. c.now.name) a.classes.items) a.class_places × IsPlaces (map (λ c. c.now.name) a.constants.items) a.constant_places };
+}
+
+// What each of these classes holds.
+fn rows_in<'x, 'y>(
+    alloc: Global,
+    classes: &'x [&'x Class],
+    class_places: &'x Scope,
+    constants: &'y [&'y Constant],
+    constant_places: &'y Scope,
+    values: &'y [Option<i64>],
+) -> Result<Vec<Row>, AllocError>
+    requires classes_placed { IsPlaces (map (λ c. c.now.name) classes.now) class_places.now }
+    requires constants_placed { IsPlaces (map (λ c. c.now.name) constants.now) constant_places.now }
+    ensures { IfOk result (λ v. v.items ≡ rows_by (map (λ c. c.now) classes.now) (map (λ c. c.now) constants.now) values.now) }
+{
+    let classes = Classes {
+        list: classes,
+        places: class_places,
+    };
+    let known = Known {
+        constants,
+        places: constant_places,
+        values,
+    };
+    let rows = rows_of(alloc, &classes, &known)?;
+    Ok(rows)
 }
 
 impl<'a> Sizes<'a> {
@@ -55,14 +90,25 @@ impl<'a> Sizes<'a> {
     {
         let classes = classes_in(alloc, &program.items)?;
         let constants = constants_in(alloc, &program.items)?;
-        let values = values_of(alloc, &constants)?;
-        let rows = rows_of(alloc, &classes, &constants, &values)?;
+        let class_places = places_of_classes(alloc, &classes)?;
+        let constant_places = places_of_constants(alloc, &constants)?;
+        let values = values_of(alloc, &constants, &constant_places)?;
+        let rows = rows_in(
+            alloc,
+            &classes,
+            &class_places,
+            &constants,
+            &constant_places,
+            &values,
+        )?;
         let circles = circles_of(alloc, &rows)?;
         let cells = cells_of(alloc, &rows, &circles)?;
         Ok(Sizes {
             program,
             classes,
+            class_places,
             constants,
+            constant_places,
             values,
             circles,
             cells,
@@ -93,54 +139,58 @@ impl<'a> Sizes<'a> {
     pub fn value_of(&self, name: &Name) -> Option<i64>
         ensures { result ≡ value_of_name (constants_of self.now.items) name.now }
     {
-        let named = Named {
-            constants: &self.constants,
-            values: &self.values,
-            hidden: &[],
-        };
-        named.value(name)
+        let value = self.known().value(name);
+        value
     }
 
     /// How many elements a declarator of a class declares, whose members hide constants of their names.
     pub fn elements_in(&self, class: &Class, declarator: &Declarator) -> u32
         ensures { result ≡ elements (seen_in (constants_of self.now.items) class.now) declarator.now }
     {
-        let named = Named {
-            constants: &self.constants,
-            values: &self.values,
-            hidden: &class.members,
+        let shown = Shown {
+            known: self.known(),
+            members: &class.members,
         };
-        elements_of(&named, declarator)
+        elements_of(&shown, declarator)
     }
 
     /// How many elements a declarator of a routine declares.
     pub fn elements_of_variable(&self, declarator: &Declarator) -> u32
         ensures { result ≡ elements (value_of_name (constants_of self.now.items)) declarator.now }
     {
-        let named = Named {
+        elements_of(&self.known(), declarator)
+    }
+
+    fn classes(&self) -> Classes<'_>
+        ensures { map (λ c. c.now) result.list.now ≡ classes_of self.now.items }
+    {
+        Classes {
+            list: &self.classes,
+            places: &self.class_places,
+        }
+    }
+
+    fn known(&self) -> Known<'_>
+        ensures { known_by result ≡ value_of_name (constants_of self.now.items) }
+    {
+        Known {
             constants: &self.constants,
+            places: &self.constant_places,
             values: &self.values,
-            hidden: &[],
-        };
-        elements_of(&named, declarator)
+        }
     }
 
     // What a variable holds.
     fn held(&self, base: &Base, declarator: &Declarator) -> Held
         ensures { result ≡ held_by (classes_of self.now.items) (value_of_name (constants_of self.now.items)) base.now declarator.now }
     {
-        let named = Named {
-            constants: &self.constants,
-            values: &self.values,
-            hidden: &[],
-        };
-        held_by(&self.classes, &named, base, declarator)
+        held_by(&self.classes(), &self.known(), base, declarator)
     }
 
     fn object(&self, base: &Base) -> Option<Object>
         ensures { result ≡ object_of (classes_of self.now.items) base.now }
     {
-        object_of(&self.classes, base)
+        object_of(&self.classes(), base)
     }
 
     // The cells of one element.

@@ -3,26 +3,35 @@
 ghost use Rattle.std.specs.Prelude.{◌≡◌, ◌<◌, IfOk, IsTrue, IsFalse, length, map, None, Some, get_or, slice_get};
 ghost use Rattle.uc_tree.specs.Constants.{own_value, value_of_name};
 ghost use Rattle.uc_tree.specs.Programs.{Constant};
-ghost use Rattle.uc_sizes.specs.Values.{value_at, seen_by};
+ghost use Rattle.uc_sizes.specs.Known.{known_by};
+ghost use Rattle.uc_sizes.specs.Places.{IsPlaces};
+ghost use Rattle.uc_sizes.specs.Values.{value_at};
 ghost use Rattle.uc_sizes.specs.Reckoned.{Under, Sound, Reckoned, known};
 
-use crate::eval::{converted_to, value_of};
-use crate::named::Named;
+use crate::eval::{converted_to, value_by};
 use crate::order::order_of;
+use crate::places::{Constants, Known};
 use std::alloc::{AllocError, Global};
+use uc_names::scope::Scope;
 use uc_tree::program::Constant;
 
-fn own_value(constant: &Constant, named: &Named) -> Option<i64>
-    ensures { result ≡ own_value (seen_by named.now) constant.now }
+fn own_value(constant: &Constant, known: &Known) -> Option<i64>
+    ensures { result ≡ own_value (known_by known.now) constant.now }
 {
-    match value_of(&constant.value, named) {
+    match value_by(&constant.value, known) {
         Some(value) => Some(converted_to(&constant.base, value)),
         None => None,
     }
 }
 
 // Reckons one constant that has no value yet; says whether it has one now.
-fn reckon(constants: &[&Constant], values: &mut [Option<i64>], place: usize) -> bool
+fn reckon<'x>(
+    constants: &'x [&'x Constant],
+    places: &'x Scope,
+    values: &mut [Option<i64>],
+    place: usize,
+) -> bool
+    requires placed { IsPlaces (map (λ c. c.now.name) constants.now) places.now }
     requires inside { place < length constants.now }
     requires full { length values.old ≡ length constants.now }
     requires sound { Sound (map (λ c. c.now) constants.now) values.old }
@@ -34,12 +43,13 @@ fn reckon(constants: &[&Constant], values: &mut [Option<i64>], place: usize) -> 
     if values[place].is_some() {
         return false;
     }
-    let named = Named {
+    let constant = constants[place];
+    let known = Known {
         constants,
+        places,
         values,
-        hidden: &[],
     };
-    let own = own_value(constants[place], &named);
+    let own = own_value(constant, &known);
     if own.is_none() {
         return false;
     }
@@ -48,7 +58,8 @@ fn reckon(constants: &[&Constant], values: &mut [Option<i64>], place: usize) -> 
 }
 
 // Reckons each constant once; says whether one got a value.
-fn sweep(constants: &[&Constant], values: &mut [Option<i64>]) -> bool
+fn sweep<'x>(constants: &'x [&'x Constant], places: &'x Scope, values: &mut [Option<i64>]) -> bool
+    requires placed { IsPlaces (map (λ c. c.now.name) constants.now) places.now }
     requires full { length values.old ≡ length constants.now }
     requires sound { Sound (map (λ c. c.now) constants.now) values.old }
     ensures sound { Sound (map (λ c. c.now) constants.now) values.new }
@@ -57,7 +68,7 @@ fn sweep(constants: &[&Constant], values: &mut [Option<i64>]) -> bool
 {
     let mut changed = false;
     for place in 0..constants.len() {
-        if reckon(constants, values, place) {
+        if reckon(constants, places, values, place) {
             changed = true;
         }
     }
@@ -65,36 +76,56 @@ fn sweep(constants: &[&Constant], values: &mut [Option<i64>]) -> bool
 }
 
 // Reckons the constants in this order.
-fn reckon_all(constants: &[&Constant], order: &[usize], values: &mut [Option<i64>])
+fn reckon_all<'x>(
+    constants: &'x [&'x Constant],
+    places: &'x Scope,
+    order: &[usize],
+    values: &mut [Option<i64>],
+)
+    requires placed { IsPlaces (map (λ c. c.now.name) constants.now) places.now }
     requires full { length values.old ≡ length constants.now }
     requires sound { Sound (map (λ c. c.now) constants.now) values.old }
     ensures { Sound (map (λ c. c.now) constants.now) values.new }
 {
     for place in order {
         if *place < constants.len() {
-            let _ = reckon(constants, values, *place);
+            let _ = reckon(constants, places, values, *place);
         }
     }
 }
 
 // A table in which each constant was reckoned once, behind those that it names. What is left, the sweeps find.
-fn first_values(alloc: Global, constants: &[&Constant]) -> Result<Vec<Option<i64>>, AllocError>
+fn first_values<'x>(
+    alloc: Global,
+    constants: &'x [&'x Constant],
+    places: &'x Scope,
+) -> Result<Vec<Option<i64>>, AllocError>
+    requires placed { IsPlaces (map (λ c. c.now.name) constants.now) places.now }
     ensures full { IfOk result (λ v. length v.items ≡ length constants.now) }
     ensures sound { IfOk result (λ v. Sound (map (λ c. c.now) constants.now) v.items) }
 {
-    let order = order_of(alloc, constants)?;
+    let named = Constants {
+        list: constants,
+        places,
+    };
+    let order = order_of(alloc, &named)?;
     let mut values = vec![in alloc; None; constants.len()]?;
-    reckon_all(constants, &order, &mut values);
+    reckon_all(constants, places, &order, &mut values);
     Ok(values)
 }
 
 /// The values of these constants, none for one that has none. A table of them gives each name its value.
-pub fn values_of(alloc: Global, constants: &[&Constant]) -> Result<Vec<Option<i64>>, AllocError>
+pub fn values_of<'x>(
+    alloc: Global,
+    constants: &'x [&'x Constant],
+    places: &'x Scope,
+) -> Result<Vec<Option<i64>>, AllocError>
+    requires placed { IsPlaces (map (λ c. c.now.name) constants.now) places.now }
     ensures { IfOk result (λ v. value_at (map (λ c. c.now) constants.now) v.items ≡ value_of_name (map (λ c. c.now) constants.now)) }
 {
-    let mut values = first_values(alloc, constants)?;
+    let mut values = first_values(alloc, constants, places)?;
     'sweeps: loop {
-        if !sweep(constants, &mut values) {
+        if !sweep(constants, places, &mut values) {
             break;
         }
     }

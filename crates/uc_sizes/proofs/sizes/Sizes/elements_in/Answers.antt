@@ -1,13 +1,10 @@
-use Rattle.std.proofs.Common.{◌≡◌, None, map, ap, ◌∙◌, if◌then◌else◌}
+use Rattle.std.proofs.Common.{◌≡◌, None, ap, ◌∙◌, if◌then◌else◌}
 use Rattle.std.specs.List.{list_any}
 use Rattle.uc_tree.specs.Constants.{constants_of, elements, value_of_name}
 use Rattle.uc_tree.specs.Cells.{member_form_named}
-use Rattle.uc_sizes.specs.Values.{value_at}
 use Rattle.uc_sizes.proofs.sizes.Sizes.elements_in.Goals as goal
 
 pub returns : goal.returns
 returns c =
-    let constants : map (λ k. k.now) c.self.inside.constants.items ≡ constants_of c.args.self.now.items = c.self.invariant.constants_are ∙ ap (λ p. constants_of p.items) c.self.view_is in
-    let named : value_at (map (λ k. k.now) c.deref.result.now) c.deref-2.result.now ≡ value_of_name (constants_of c.args.self.now.items) = ap (λ l. value_at (map (λ k. k.now) l) c.deref-2.result.now) c.deref.ensures.value ∙ ap (λ l. value_at (map (λ k. k.now) c.self.inside.constants.items) l) c.deref-2.ensures.value ∙ c.self.invariant.values_are ∙ ap (λ l. value_of_name l) constants in
-    let members : c.deref-3.result.now ≡ c.args.class.now.members = c.deref-3.ensures.value ∙ ap (λ k. k.members) c.class.view_is in
-    c.elements_of.ensures ∙ ap (λ f. elements (λ name. if list_any (λ m. member_form_named name m.form) c.deref-3.result.now then None else f name) c.args.declarator.now) named ∙ ap (λ ms. elements (λ name. if list_any (λ m. member_form_named name m.form) ms then None else value_of_name (constants_of c.args.self.now.items) name) c.args.declarator.now) members
+    let members : c.deref.result.now ≡ c.args.class.now.members = c.deref.ensures.value ∙ ap (λ k. k.members) c.class.view_is in
+    c.elements_of.ensures ∙ ap (λ f. elements (λ name. if list_any (λ m. member_form_named name m.form) c.deref.result.now then None else f name) c.args.declarator.now) c.known.ensures ∙ ap (λ ms. elements (λ name. if list_any (λ m. member_form_named name m.form) ms then None else value_of_name (constants_of c.args.self.now.items) name) c.args.declarator.now) members
