@@ -2,6 +2,7 @@ pub mod Chains
 pub mod Entered
 pub mod Filters
 pub mod Firsts
+pub mod Freed
 pub mod Left
 pub mod Pools
 pub mod Looks

@@ -122,6 +122,13 @@ module _ (v : Nodes) (obs : Objects) (o : ℕ) (r : Option NodePtr) (p : NodePtr
   pub top_node : IsNode v p
   top_node = let f = top_first in subst (IsNode v) (sym f.3) (is_node v hold.0 f.0 f.4)
 
+  pub top_is : (id : ℕ) → id ≡ (node v (index_of v p)).id → Some id ≡ first_of (lists_at (pool_of v obs) o).stack
+  top_is id ei =
+      let f = top_first in
+      let at_i = ap (index_of v) f.3 ∙ index_place v hold.0 f.0 in
+      let same : id ≡ f.0 = ei ∙ ap (λ (j : ℕ). (node v j).id) at_i ∙ hold.1 f.0 f.4 in
+      (λ z. Some (same z)) ∙ ap first_of (sym f.2) ∙ sym (ap (λ (x : Lists). first_of x.stack) (any_lists v obs o))
+
   pub top_gives : (u : Nodes) (b b' : Object) → Same v u → b ≡ slice_index_or obs.items o b → (let top : Option NodePtr = (link 0 v (index_of v p)).next in b' ≡ record b { top = top })
       → Holds u (with_item obs o b') × (pool_of u (with_item obs o b') ≡ popped (pool_of v obs) o)
   top_gives u b b' s eb eb' =

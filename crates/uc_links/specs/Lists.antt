@@ -1,5 +1,5 @@
 -- A pool as its callers see it: how many nodes it has, and for each object a list of entries and a stack.
-use Rattle.std.specs.Prelude.{true, ◌≡◌, ◌≢◌, ℕ, ◌<◌, List, [], ◌∷◌, ◌++◌, length, ◌==◌, not, Option, Some, None, option_map, slice_index_or, slice_set}
+use Rattle.std.specs.Prelude.{true, false, Bool, ◌&&◌, ◌≡◌, ◌≢◌, ℕ, ◌<◌, List, [], ◌∷◌, ◌++◌, length, ◌==◌, not, Option, Some, None, option_map, slice_index_or, slice_set}
 use Rattle.std.specs.List.{AllByRecursion, filter, find, list_any}
 
 -- the members of an object are numbered below this
@@ -42,6 +42,14 @@ first_of (x ∷ xs) = Some x
 -- the task of the oldest entry with the member
 abbrev pub first_with : ℕ → List (ℕ × ℕ) → Option ℕ
 first_with m es = option_map (λ e. e.0) (find (λ e. e.1 == m) es)
+
+-- whether nobody stands in either list
+abbrev pub is_nil : {X : Type 0} → List X → Bool
+is_nil [] = true
+is_nil (x ∷ xs) = false
+
+abbrev pub has_none : Lists → Bool
+has_none l = is_nil l.entries && is_nil l.stack
 
 -- ---- what a call leaves
 abbrev pub empty_pool : ℕ → Pool

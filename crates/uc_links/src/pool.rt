@@ -1,6 +1,6 @@
 //! The pool: each object's entries and stack, in nodes that are taken once.
 ghost use Rattle.std.specs.Prelude.{◌≡◌, ◌<◌, ◌+◌, length, IfOk, IfErr, IfSome};
-ghost use Rattle.uc_links.specs.Lists.{IsFree, IsEntry, lists_at, first_of, first_with, popped, pushed_back, pushed_top, unlinked, empty_pool, with_object, member_limit};
+ghost use Rattle.uc_links.specs.Lists.{IsFree, IsEntry, lists_at, first_of, first_with, popped, pushed_back, pushed_top, unlinked, empty_pool, with_object, member_limit, has_none};
 
 use crate::chain::{Node, blank_node, label_of, node_at};
 use crate::object::{
@@ -69,6 +69,13 @@ impl Links {
         Ok(count as u32)
     }
 
+    /// Whether an object has no entries and an empty stack, or is not known. It visits no node and counts no move.
+    pub fn is_empty(&self, object: u32) -> bool
+        ensures { result ≡ has_none (lists_at self.now object) }
+    {
+        first_entry(&self.objects, object).is_none() && top_of(&self.objects, object).is_none()
+    }
+
     /// Puts task `id`, as a caller of `member`, at the end of an object's entries.
     pub fn push_back<L: Ledger>(&mut self, object: u32, member: u8, id: u32, moves: &mut Steps<L>)
         requires object { object < length self.old.lists }
@@ -88,6 +95,7 @@ impl Links {
     pub fn front<L: Ledger>(&mut self, object: u32, moves: &mut Steps<L>) -> Option<(u32, u8)>
         ensures first { result ≡ first_of (lists_at self.old object).entries }
         ensures entry { IfSome result (λ e. IsEntry e.0 (lists_at self.old object).entries) }
+        ensures known { IfSome result (λ e. e.0 < self.old.count) }
         ensures same { self.new ≡ self.old }
         ensures moves { moves.new ≡ moves.old + 1 }
     {
@@ -107,6 +115,7 @@ impl Links {
     ) -> Option<u32>
         ensures first { result ≡ first_with member (lists_at self.old object).entries }
         ensures entry { IfSome result (λ id. IsEntry id (lists_at self.old object).entries) }
+        ensures known { IfSome result (λ id. id < self.old.count) }
         ensures same { self.new ≡ self.old }
         ensures moves { moves.new ≡ moves.old + 1 }
     {
@@ -120,10 +129,11 @@ impl Links {
         }
     }
 
-    /// Takes task `id`, wherever it stands, out of an object's entries. The others keep their order.
+    /// Takes task `id`, wherever it stands, out of an object's entries. The others keep their order. It is then in no list.
     pub fn unlink<L: Ledger>(&mut self, object: u32, id: u32, moves: &mut Steps<L>)
         requires entry { IsEntry id (lists_at self.old object).entries }
         ensures lists { self.new ≡ unlinked self.old object id }
+        ensures free { IsFree id self.new }
         ensures moves { moves.new ≡ moves.old + 1 }
     {
         moves.tick();
@@ -147,10 +157,12 @@ impl Links {
         stack_on(&mut self.nodes, stacked, object, place);
     }
 
-    /// Takes the top off an object's stack, and returns its task. `None` where the stack is empty.
+    /// Takes the top off an object's stack, and returns its task, which is then in no list. `None` where the stack is empty.
     pub fn pop_top<L: Ledger>(&mut self, object: u32, moves: &mut Steps<L>) -> Option<u32>
         ensures top { result ≡ first_of (lists_at self.old object).stack }
         ensures lists { self.new ≡ popped self.old object }
+        ensures known { IfSome result (λ id. id < self.old.count) }
+        ensures free { IfSome result (λ id. IsFree id self.new) }
         ensures moves { moves.new ≡ moves.old + 1 }
     {
         moves.tick();

@@ -2,6 +2,7 @@ use Rattle.std.proofs.Common.{ap, ◌∙◌}
 use Rattle.uc_links.specs.Lists.{Pool, lists_at, first_of}
 use Rattle.uc_links.proofs.Firsts.{first_is_entry}
 use Rattle.uc_links.proofs.Looks.{front_some, front_node, front_is, front_none, holds_same, pool_same}
+use Rattle.uc_links.proofs.Freed.{entry_is_node}
 use Rattle.uc_links.proofs.pool.Links.front.Goals as goal
 
 pub label_of-requires : goal.label_of-requires
@@ -25,3 +26,6 @@ returns-in-None-clause-first g c =
 
 pub returns-in-Some-clause-entry : goal.returns-in-Some-clause-entry
 returns-in-Some-clause-entry g c = first_is_entry (lists_at c.args.self.now c.args.object).entries c.label_of.result (returns-in-Some-clause-first g c)
+
+pub returns-in-Some-clause-known : goal.returns-in-Some-clause-known
+returns-in-Some-clause-known g c = entry_is_node c.self.inside.nodes c.self.inside.objects c.args.self.now c.args.object c.label_of.result.0 c.self.invariant c.self.view_is (returns-in-Some-clause-entry g c)

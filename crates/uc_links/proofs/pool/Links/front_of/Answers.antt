@@ -3,6 +3,7 @@ use Rattle.uc_links.specs.Lists.{Pool, lists_at, first_with}
 use Rattle.uc_links.proofs.Firsts.{first_with_is_entry}
 use Rattle.uc_links.proofs.Looks.{holds_same, pool_same}
 use Rattle.uc_links.proofs.Pops.{member_node, member_is, member_none}
+use Rattle.uc_links.proofs.Freed.{entry_is_node}
 use Rattle.uc_links.proofs.pool.Links.front_of.Goals as goal
 
 pub label_of-label-requires : goal.label_of-label-requires
@@ -26,3 +27,6 @@ returns-in-None-clause-first g c =
 
 pub returns-in-Some-clause-entry : goal.returns-in-Some-clause-entry
 returns-in-Some-clause-entry g c = first_with_is_entry c.args.member (lists_at c.args.self.now c.args.object).entries c.label_of-label.result.0 (returns-in-Some-clause-first g c)
+
+pub returns-in-Some-clause-known : goal.returns-in-Some-clause-known
+returns-in-Some-clause-known g c = entry_is_node c.self.inside.nodes c.self.inside.objects c.args.self.now c.args.object c.label_of-label.result.0 c.self.invariant c.self.view_is (returns-in-Some-clause-entry g c)

@@ -1,7 +1,8 @@
 use Rattle.std.proofs.Common.{ℕ, ◌<◌, ap, subst, sym, ◌∙◌}
-use Rattle.uc_links.specs.Lists.{Pool, IsEntry, lists_at, unlinked}
+use Rattle.uc_links.specs.Lists.{Pool, IsEntry, IsFree, lists_at, unlinked}
 use Rattle.uc_links.proofs.Pools.{known}
 use Rattle.uc_links.proofs.Looks.{entry_known, entry_at, entry_below, entry_node, node_asked, held_asked, unlink_gives}
+use Rattle.uc_links.proofs.Freed.{unlinked_is_free}
 use Rattle.uc_links.proofs.pool.Links.unlink.Goals as goal
 
 pub node_at-place-requires : goal.node_at-place-requires
@@ -46,3 +47,7 @@ pub index_mut-left-requires : goal.index_mut-left-requires
 index_mut-left-requires g c =
     let v = c.self.inside.nodes in let obs = c.self.inside.objects in
     subst (λ (n : ℕ). c.args.object < n) (sym obs.ok.0) (known v obs c.args.self.now c.self.view_is c.args.object (entry_known c.args.id c.args.self.now c.args.object c.requires.entry))
+
+pub returns-clause-free : goal.returns-clause-free
+returns-clause-free g c =
+    subst (IsFree c.args.id) (sym (returns-clause-lists g c)) (unlinked_is_free c.self.inside.nodes c.self.inside.objects c.args.self.now c.args.object c.args.id c.self.invariant c.self.view_is c.requires.entry)

@@ -1,0 +1,69 @@
+-- The first processor that passes a test, and what the queues keep.
+use Rattle.std.proofs.Common.{◌≡◌, ◌≢◌, ℕ, zero, suc, ◌<◌, ◌≤◌, ◌+◌, ◌||◌, T, eqb→eq, Bool, true, false, cond, List, [], ◌∷◌, ◌++◌, length, get_or, drop, Some, None, refl, sym, ap, ◌∙◌, subst, ◌⊎◌, inl, inr, arith, add-one, slice_index_or, slice_set}
+use Rattle.std.specs.List.{AllByRecursion, IsDistinct, list_any}
+use Rattle.std.proofs.lemmas.List.{at_drop_more, at_drop_all}
+use Rattle.std.proofs.lemmas.Map.Steps.{length-le_from_distinct_below}
+use lib.Dec.{eqb}
+use Rattle.uc_cluster.specs.declared.clusters.Processor.{Processor}
+use Rattle.uc_cluster.specs.Standing.{no_processor, first_from, IsApart, IsKept}
+
+-- ---- the first
+pub first_here : (test : Processor → Bool) (ps : List Processor) (n : ℕ) → n < length ps → test (get_or ps n no_processor) ≡ true → Some n ≡ first_from test n (drop n ps)
+first_here test ps n lt t = sym (at_drop_more (first_from test n) ps n no_processor lt ∙ ap (λ (b : Bool). cond b (Some n) (first_from test (n + 1) (drop (n + 1) ps))) t)
+
+pub first_later : (test : Processor → Bool) (ps : List Processor) (n : ℕ) → n < length ps → test (get_or ps n no_processor) ≡ false → first_from test n (drop n ps) ≡ first_from test (n + 1) (drop (n + 1) ps)
+first_later test ps n lt t = at_drop_more (first_from test n) ps n no_processor lt ∙ ap (λ (b : Bool). cond b (Some n) (first_from test (n + 1) (drop (n + 1) ps))) t
+
+pub first_nowhere : (test : Processor → Bool) (ps : List Processor) (n : ℕ) → length ps ≤ n → None ≡ first_from test n (drop n ps)
+first_nowhere test ps n le = sym (at_drop_all (first_from test n) ps n le)
+
+-- ---- lists whose elements all have a property
+pub all_push : {X : Type 0} (P : X → Type 0) (xs : List X) (x : X) → AllByRecursion P xs → P x → AllByRecursion P (xs ++ x ∷ [])
+all_push P [] x h p = (p, tt)
+all_push P (y ∷ ys) x h p = (h.0, all_push P ys x h.1 p)
+
+pub all_set : {X : Type 0} (P : X → Type 0) (xs : List X) (i : ℕ) (x : X) → AllByRecursion P xs → P x → AllByRecursion P (slice_set xs i x)
+all_set P [] i x h p = tt
+all_set P (y ∷ ys) zero x h p = (p, h.1)
+all_set P (y ∷ ys) (suc i) x h p = (h.0, all_set P ys i x h.1 p)
+
+pub all_at : {X : Type 0} (P : X → Type 0) (xs : List X) (i : ℕ) (d : X) → AllByRecursion P xs → i < length xs → P (slice_index_or xs i d)
+all_at P [] i d h lt = absurd (omega arith)
+all_at P (y ∷ ys) zero d h lt = h.0
+all_at P (y ∷ ys) (suc i) d h lt = all_at P ys i d h.1 (omega arith)
+
+-- ---- a queue has no more tasks than there are
+other_test : (b : Bool) → (b ≡ true → ⊥) → b ≡ false
+other_test true h = absurd (h refl)
+other_test false h = refl
+
+all_more : (P Q : ℕ → Type 0) → ((x : ℕ) → P x → Q x) → (xs : List ℕ) → AllByRecursion P xs → AllByRecursion Q xs
+all_more P Q f [] h = tt
+all_more P Q f (x ∷ xs) h = (f x h.0, all_more P Q f xs h.1)
+
+distinct : (xs : List ℕ) → IsApart xs → IsDistinct eqb xs
+unfolding IsDistinct
+distinct [] h = tt
+distinct (x ∷ xs) h = (all_more (λ j. j ≢ x) (λ y. eqb x y ≡ false) (λ j n. other_test (eqb x j) (λ t. n (sym (eqb→eq x j (subst T (sym t) tt))))) xs h.0, distinct xs h.1)
+
+one_of : (b c : Bool) → (b || c) ≡ true → (b ≡ true) ⊎ (c ≡ true)
+one_of true c e = inl refl
+one_of false c e = inr e
+
+any_below : (n : ℕ) (xs : List ℕ) → AllByRecursion (λ i. i < n) xs → (q : ℕ) → list_any (eqb q) xs ≡ true → q < n
+any_below n [] h q e = cc
+any_below n (x ∷ xs) h q e = elim (one_of (eqb q x) (list_any (eqb q) xs) e) [
+  | inl t ↦ subst (λ (y : ℕ). y < n) (sym (eqb→eq q x (subst T (sym t) tt))) h.0
+  | inr r ↦ any_below n xs h.1 q r
+]
+
+pub has_place : (n t : ℕ) (q : List ℕ) → IsKept n q → t < n → AllByRecursion (λ u. u ≢ t) q → length q + 1 ≤ n
+has_place n t q k lt away = rw add-one (length-le_from_distinct_below (t ∷ q) n (distinct (t ∷ q) (away, k.apart)) (any_below n (t ∷ q) (lt, k.below)))
+
+-- ---- what a queue keeps
+apart_push : (q : List ℕ) (t : ℕ) → IsApart q → AllByRecursion (λ u. u ≢ t) q → IsApart (q ++ t ∷ [])
+apart_push [] t a n = (tt, tt)
+apart_push (x ∷ q) t a n = (all_push (λ u. u ≢ x) q t a.0 (λ e. n.0 (sym e)), apart_push q t a.1 n.1)
+
+pub kept_push : (n t : ℕ) (q : List ℕ) → IsKept n q → t < n → AllByRecursion (λ u. u ≢ t) q → IsKept n (q ++ t ∷ [])
+kept_push n t q k lt away = record { apart = apart_push q t k.apart away; below = all_push (λ u. u < n) q t k.below lt }

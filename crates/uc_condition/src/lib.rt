@@ -1,0 +1,7 @@
+// The tasks that wait on the conditions of a run's mutex objects.
+#![tactic(auto)]
+
+pub mod conditions;
+pub mod laws;
+
+pub use conditions::Conditions;

@@ -1,0 +1,3 @@
+pub mod Mirrors
+pub mod Rows
+pub mod Takes

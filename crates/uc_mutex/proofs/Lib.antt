@@ -1,0 +1,5 @@
+pub mod Mirrors
+pub mod Nexts
+pub mod Offering
+pub mod Rows
+pub mod Views

@@ -1,0 +1,4 @@
+pub mod Doors
+pub mod Laws
+pub mod Offers
+pub mod View
