@@ -3,10 +3,7 @@ use Rattle.std.proofs.Common.{◌≡◌, ◌≢◌, ℕ, zero, suc, ◌+◌, ◌
 use Rattle.std.specs.Prelude.{slice_get, slice_set}
 use Rattle.uc_code.specs.declared.op.Op.{Op}
 use Rattle.uc_code.specs.declared.rows.Instruction.{Instruction}
-use Rattle.uc_code.specs.Drafts.{ops_with, patched, aimed, target_of}
-use Rattle.uc_code.specs.declared.draft_parts.OpenJump.{OpenJump}
-use Rattle.uc_code.specs.declared.op.Op.TheVariants.{Jump}
-use Rattle.std.proofs.lemmas.List.{take_more}
+use Rattle.uc_code.specs.Drafts.{ops_with, patched}
 use Rattle.uc_code.specs.Ranges.{OpAt, One, Same, Kept}
 
 get_front : (xs ys : List Instruction) (i : ℕ) (x : Instruction) → slice_get xs i ≡ Some x → slice_get (xs ++ ys) i ≡ Some x
@@ -72,29 +69,9 @@ patched_past [] at op h = refl
 patched_past (i ∷ is) zero op h = absurd (omega arith)
 patched_past (i ∷ is) (suc at) op h = ap (λ l. i ∷ l) (patched_past is at op (omega arith))
 
-aimed_append : (js ks : List OpenJump) (behind again : ℕ) (ops : List Instruction) → aimed (js ++ ks) behind again ops ≡ aimed ks behind again (aimed js behind again ops)
-aimed_append [] ks behind again ops = refl
-aimed_append (j ∷ js) ks behind again ops = aimed_append js ks behind again (patched ops j.at (Jump (target_of j.exit behind again)))
-
--- one more jump
-pub aimed_more : (jumps : List OpenJump) (i : ℕ) (d : OpenJump) (behind again : ℕ) (ops : List Instruction) → i < length jumps → aimed (take (i + 1) jumps) behind again ops ≡ patched (aimed (take i jumps) behind again ops) (get_or jumps i d).at (Jump (target_of (get_or jumps i d).exit behind again))
-aimed_more jumps i d behind again ops h =
-    ap (λ l. aimed l behind again ops) (take_more jumps i d h) ∙ aimed_append (take i jumps) (get_or jumps i d ∷ []) behind again ops
-
-pub length-aimed : (jumps : List OpenJump) (behind again : ℕ) (ops : List Instruction) → length (aimed jumps behind again ops) ≡ length ops
-length-aimed [] behind again ops = refl
-length-aimed (j ∷ js) behind again ops =
-    length-aimed js behind again (patched ops j.at (Jump (target_of j.exit behind again))) ∙ length-patched ops j.at (Jump (target_of j.exit behind again))
-
 pub patched_then : (ops : List Instruction) (at n : ℕ) (op : Op) (i : Instruction) → n ≡ length ops → at < n → i ≡ get_or ops at i → slice_set ops at (record { op = op; line = i.line }) ≡ patched ops at op
 patched_then ops at n op i e h is =
     ap (λ (j : Instruction). slice_set ops at (record { op = op; line = j.line })) is ∙ patched_set ops at op i (omega arith)
 
 pub patched_else : (ops : List Instruction) (at n : ℕ) (op : Op) → n ≡ length ops → n ≤ at → ops ≡ patched ops at op
 patched_else ops at n op e h = sym (patched_past ops at op (omega arith))
-
-pub aim_step : (jumps : List OpenJump) (i : ℕ) (d : OpenJump) (behind again target : ℕ) (ops before after : List Instruction) → i < length jumps → before ≡ aimed (take i jumps) behind again ops → target ≡ target_of (get_or jumps i d).exit behind again → after ≡ patched before (get_or jumps i d).at (Jump target) → after ≡ aimed (take (i + 1) jumps) behind again ops
-aim_step jumps i d behind again target ops before after h e t a =
-    a ∙ ap (λ l. patched l (get_or jumps i d).at (Jump target)) e
-    ∙ ap (λ n. patched (aimed (take i jumps) behind again ops) (get_or jumps i d).at (Jump n)) t
-    ∙ sym (aimed_more jumps i d behind again ops h)
