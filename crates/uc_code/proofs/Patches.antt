@@ -1,9 +1,10 @@
 -- What appending and patching do to the ops.
-use Rattle.std.proofs.Common.{◌≡◌, ◌≢◌, ℕ, zero, suc, ◌+◌, ◌≤◌, ◌<◌, List, [], ◌∷◌, ◌++◌, length, take, get_or, Some, refl, ap, sym, ◌∙◌, arith, length-append}
+use Rattle.std.proofs.Common.{◌≡◌, ◌≢◌, ℕ, zero, suc, ◌≤◌, ◌<◌, List, [], ◌∷◌, ◌++◌, length, get_or, Some, refl, ap, sym, ◌∙◌, arith, length-append}
 use Rattle.std.specs.Prelude.{slice_get, slice_set}
 use Rattle.uc_code.specs.declared.op.Op.{Op}
 use Rattle.uc_code.specs.declared.rows.Instruction.{Instruction}
 use Rattle.uc_code.specs.Drafts.{ops_with, patched}
+use Rattle.uc_code.specs.Laid.{Laid}
 use Rattle.uc_code.specs.Ranges.{OpAt, One, Same, Kept}
 
 get_front : (xs ys : List Instruction) (i : ℕ) (x : Instruction) → slice_get xs i ≡ Some x → slice_get (xs ++ ys) i ≡ Some x
@@ -16,16 +17,17 @@ get_seam [] ys x = refl
 get_seam (y ∷ xs) ys x = get_seam xs ys x
 
 -- one more op: all others stay, and it stands at the end
-pub kept_with : (ops : List Instruction) (op : Op) (line : ℕ) → Kept ops (ops_with ops op line)
-kept_with ops op line = record {
-  longer = omega (arith, length-append ops (record { op = op; line = line } ∷ []));
-  same = λ i x l o. record { here = get_front ops (record { op = op; line = line } ∷ []) i (record { op = x; line = l }) o.here };
+pub kept_with : (code : Laid) (op : Op) (line : ℕ) → Kept code (record code { ops = ops_with code.ops op line })
+kept_with code op line = record {
+  longer = omega (arith, length-append code.ops (record { op = op; line = line } ∷ []));
+  same = λ i x l o. record { here = get_front code.ops (record { op = op; line = line } ∷ []) i (record { op = x; line = l }) o.here };
+  chains = λ next h. refl;
 }
 
-pub one_with : (ops : List Instruction) (op : Op) (line : ℕ) → One (ops_with ops op line) op line (length ops) (length (ops_with ops op line))
-one_with ops op line = record {
-  here = record { here = get_seam ops [] (record { op = op; line = line }) };
-  end = omega (arith, length-append ops (record { op = op; line = line } ∷ []));
+pub one_with : (code : Laid) (op : Op) (line : ℕ) → One (record code { ops = ops_with code.ops op line }) op line (length code.ops) (length (ops_with code.ops op line))
+one_with code op line = record {
+  here = record { here = get_seam code.ops [] (record { op = op; line = line }) };
+  end = omega (arith, length-append code.ops (record { op = op; line = line } ∷ []));
 }
 
 pub length-patched : (ops : List Instruction) (at : ℕ) (op : Op) → length (patched ops at op) ≡ length ops
@@ -48,17 +50,22 @@ get_unpatched (i ∷ is) (suc at) op zero h = refl
 get_unpatched (i ∷ is) (suc at) op (suc j) h = get_unpatched is at op j (λ e. h (ap suc e))
 
 -- the patched op, on the line that it had
-pub patched_at : (ops : List Instruction) (at : ℕ) (op was : Op) (line : ℕ) → OpAt ops at was line → OpAt (patched ops at op) at op line
-patched_at ops at op was line o = record { here = get_patched ops at op was line o.here }
+pub patched_at : (code : Laid) (at : ℕ) (op was : Op) (line : ℕ) → OpAt code at was line → OpAt (record code { ops = patched code.ops at op }) at op line
+patched_at code at op was line o = record { here = get_patched code.ops at op was line o.here }
 
--- ranges that do not hold the patched op stay
-pub same_before : (ops : List Instruction) (at : ℕ) (op : Op) (a z : ℕ) → z ≤ at → Same ops (patched ops at op) a z
-same_before ops at op a z h = record { same = λ i x l p q o. record { here = get_unpatched ops at op i (λ e. absurd (omega arith)) ∙ o.here } }
+-- pieces before and behind a patched op stay
+pub same_before : (code : Laid) (at : ℕ) (op : Op) (a z : ℕ) → z ≤ at → Same code (record code { ops = patched code.ops at op }) a z
+same_before code at op a z h = record {
+  same = λ i x l m n o. record { here = get_unpatched code.ops at op i (λ e. absurd (omega arith)) ∙ o.here };
+  chains = λ next m n. refl;
+}
 
-pub same_after : (ops : List Instruction) (at : ℕ) (op : Op) (a z : ℕ) → at < a → Same ops (patched ops at op) a z
-same_after ops at op a z h = record { same = λ i x l p q o. record { here = get_unpatched ops at op i (λ e. absurd (omega arith)) ∙ o.here } }
+pub same_after : (code : Laid) (at : ℕ) (op : Op) (a z : ℕ) → at < a → Same code (record code { ops = patched code.ops at op }) a z
+same_after code at op a z h = record {
+  same = λ i x l m n o. record { here = get_unpatched code.ops at op i (λ e. absurd (omega arith)) ∙ o.here };
+  chains = λ next m n. refl;
+}
 
--- a patch is a write to the list
 pub patched_set : (ops : List Instruction) (at : ℕ) (op : Op) (d : Instruction) → at < length ops → slice_set ops at (record { op = op; line = (get_or ops at d).line }) ≡ patched ops at op
 patched_set [] at op d h = refl
 patched_set (i ∷ is) zero op d h = refl

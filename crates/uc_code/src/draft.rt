@@ -1,13 +1,13 @@
 // The draft in which lowering writes code.
 
-ghost use Rattle.std.specs.Prelude.{◌≡◌, ◌+◌, ◌<◌, ◌≤◌, [], ◌∷◌, ◌++◌, length, take, slice_set, slice_get, MatchOption, OnOk, OnErr};
+ghost use Rattle.std.specs.Prelude.{◌≡◌, ◌+◌, ◌<◌, ◌≤◌, [], ◌∷◌, ◌++◌, length, take, drop, slice_set, slice_get, MatchOption, OnOk, OnErr};
 ghost use Rattle.uc_tree.specs.declared.limits.TheConstants.{FRAME_CELLS, PROGRAM_OPS, PROGRAM_SIZE};
 ghost use Rattle.uc_code.specs.Drafts.{ops_with, patched, IsInnermost, IsUnknown};
 
 use crate::code::Code;
 use crate::draft_parts::Outside;
 use crate::op::Op;
-use crate::rows::{HandlerRow, Instruction, RoutineCode};
+use crate::rows::{HandlerRow, Instruction, Mark, RoutineCode};
 use crate::site::Site;
 use std::alloc::{AllocError, Global};
 use std::marker::Model;
@@ -20,6 +20,7 @@ pub struct Draft {
     ops: Vec<Instruction>,
     rows: Vec<HandlerRow>,
     place: Place,
+    marks: Vec<Mark>,
     scopes: u32,
     names: Vec<Known>,
     cells: u32,
@@ -30,12 +31,12 @@ pub struct Draft {
 
 impl Model for Draft {
     ghost use Rattle.uc_code.specs.Drafts.{Draft};
-    ghost use Rattle.std.specs.Prelude.{◌≤◌, length};
+    ghost use Rattle.std.specs.Prelude.{◌≤◌, length, reverse};
     ghost use Rattle.uc_tree.specs.declared.limits.TheConstants.{PROGRAM_OPS};
 
     ghost Value = { Draft };
 
-    ghost view = { λ d. record { ops = d.ops.items; rows = d.rows.items; place = d.place; scopes = d.scopes; names = d.names.items; cells = d.cells; texts = d.texts; sites = d.sites; routines = d.routines.items } };
+    ghost view = { λ d. record { ops = d.ops.items; rows = d.rows.items; place = d.place; marks = reverse d.marks.items; scopes = d.scopes; names = d.names.items; cells = d.cells; texts = d.texts; sites = d.sites; routines = d.routines.items } };
 
     ghost invariant = { λ d. length d.ops.items ≤ PROGRAM_OPS };
 }
@@ -43,7 +44,7 @@ impl Model for Draft {
 impl Draft {
     /// No op, no row and no name. `routines` is the code of each routine, as far as it is known.
     pub fn new(alloc: Global, routines: Vec<RoutineCode>) -> Draft
-        ensures { result ≡ record { ops = []; rows = []; place = record { class = 0; routine = 0; scope = 0 }; scopes = 0; names = []; cells = 0; texts = 0; sites = 0; routines = routines.items } }
+        ensures { result ≡ record { ops = []; rows = []; place = record { class = 0; routine = 0; scope = 0 }; marks = []; scopes = 0; names = []; cells = 0; texts = 0; sites = 0; routines = routines.items } }
     {
         Draft {
             ops: Vec::new(alloc),
@@ -53,6 +54,7 @@ impl Draft {
                 routine: 0,
                 scope: 0,
             },
+            marks: Vec::new(alloc),
             scopes: 0,
             names: Vec::new(alloc),
             cells: 0,
@@ -134,21 +136,38 @@ impl Draft {
         self.place
     }
 
-    /// Begins a routine of a class, behind so many text literals and accept statements: no name is in scope, and it has
-    /// no cell yet.
+    /// Begins a routine of a class, behind so many text literals and accept statements: nothing stands around it, no name
+    /// is in scope, and it has no cell yet.
     pub fn begin_routine(&mut self, class: u32, routine: u32, texts: u32, sites: u32)
-        ensures { self.new ≡ record self.old { place = record { class = class; routine = routine; scope = 0 }; scopes = 0; names = []; cells = 0; texts = texts; sites = sites } }
+        ensures { self.new ≡ record self.old { place = record { class = class; routine = routine; scope = 0 }; marks = []; scopes = 0; names = []; cells = 0; texts = texts; sites = sites } }
     {
         self.place = Place {
             class,
             routine,
             scope: 0,
         };
+        self.marks.clear();
         self.scopes = 0;
         self.names.clear();
         self.cells = 0;
         self.texts = texts;
         self.sites = sites;
+    }
+
+    /// What is lowered from now on stands in this.
+    pub fn enter(&mut self, mark: Mark) -> Result<(), AllocError>
+        ensures ok { OnOk result (self.new ≡ record self.old { marks = mark ∷ self.old.marks }) }
+        ensures err { OnErr result (self.new ≡ self.old) }
+    {
+        self.marks.push(mark)?;
+        Ok(())
+    }
+
+    /// What is lowered from now on stands behind the innermost mark.
+    pub fn leave(&mut self)
+        ensures { self.new ≡ record self.old { marks = drop 1 self.old.marks } }
+    {
+        let _ = self.marks.pop();
     }
 
     /// Writes down where the code of a routine begins, and the cells of its frame.

@@ -20,10 +20,10 @@ use Rattle.uc_tree.specs.Constants.{truth_value, constants_of, value_of_name, el
 use Rattle.uc_tree.specs.Expressions as expr
 use Rattle.uc_tree.specs.Statements as stmt
 use Rattle.uc_tree.specs.Programs as whole
-use Rattle.uc_tree.specs.Cells.{declared_cells, stmt_cells, routine_cells}
+use Rattle.uc_tree.specs.Cells.{classes_of, class_cells, declared_cells, stmt_cells, routine_cells}
 use Rattle.uc_tree.specs.Gathered.{gathered, gathered_all}
-use Rattle.uc_tree.specs.Numbering.{Defined, routines_of, own_texts, own_sites, sites_of, texts_of, main_name}
-use Rattle.uc_tree.specs.Source.{Shape, Integer, Character, Truth, Operator, Plus, Minus, Times, Over, Modulo, Equal, NotEqual, Less, AtMost, Greater, AtLeast, Expr, Literal, Variable, Element, Load, Negated, Not, AsCharacter, AsTruth, Operate, And, Or, Assign, Update, StepBehind, Fail, Item, Show, ShowText, Target, Declared, Stmt, Skip, Block, Evaluate, Declare, Print, PrintTogether, Read, Stmts, Nil, Then, Routine, Source}
+use Rattle.uc_tree.specs.Numbering.{is_event, Defined, routines_of, own_texts, own_sites, sites_of, texts_of, main_name}
+use Rattle.uc_tree.specs.Source.{Shape, Integer, Character, Truth, Operator, Plus, Minus, Times, Over, Modulo, Equal, NotEqual, Less, AtMost, Greater, AtLeast, Expr, Literal, Variable, Element, Load, Negated, Not, AsCharacter, AsTruth, Operate, And, Or, Assign, Update, StepBehind, Fail, Item, Show, ShowText, Target, Declared, Stmt, Skip, Block, Evaluate, Declare, Print, PrintTogether, Read, Stmts, Nil, Then, Purpose, Called, TaskMain, Routine, Class, Source}
 
 -- types
 
@@ -345,15 +345,6 @@ module _ (p : whole.Program) where
   abbrev pub routine_scope : ℕ → ℕ → ℕ → ℕ → Scope
   routine_scope class number texts sites = record { class = class; routine = number; names = []; cells = 0; texts = texts; sites = sites }
 
-  abbrev pub routine_meant : whole.Routine → Scope → Routine
-  routine_meant r s = record { line = r.brace.line; cells = routine_cells p r; body = stmts_meant r.body s }
-
-  -- routines from this number on
-  abbrev pub routines_meant : List Defined → ℕ → ℕ → ℕ → List Routine
-  routines_meant [] number texts sites = []
-  routines_meant (d ∷ ds) number texts sites =
-      routine_meant d.routine (routine_scope d.number number texts sites) ∷ routines_meant ds (number + 1) (texts + length (gathered_all own_texts d.routine.body)) (sites + length (gathered_all (own_sites d.class d.number) d.routine.body))
-
   -- `void uMain::main()` is the program's main
   abbrev pub is_main_owner : Owner → Bool
   is_main_owner owner.Here = false
@@ -363,15 +354,37 @@ module _ (p : whole.Program) where
   abbrev pub is_main : whole.Routine → Bool
   is_main r = is_main_owner r.sig.owner && same_name r.sig.name main_name
 
+  abbrev pub purpose_of : whole.Routine → Purpose
+  purpose_of r = if is_main r then TaskMain else Called
+
+  abbrev pub routine_meant : whole.Routine → Scope → Routine
+  routine_meant r s = record { line = r.brace.line; cells = routine_cells p r; purpose = purpose_of r; body = stmts_meant r.body s }
+
+  -- routines from this number on
+  abbrev pub routines_meant : List Defined → ℕ → ℕ → ℕ → List Routine
+  routines_meant [] number texts sites = []
+  routines_meant (d ∷ ds) number texts sites =
+      routine_meant d.routine (routine_scope d.number number texts sites) ∷ routines_meant ds (number + 1) (texts + length (gathered_all own_texts d.routine.body)) (sites + length (gathered_all (own_sites d.class d.number) d.routine.body))
+
   abbrev pub main_place : List Defined → ℕ
   main_place [] = 0
   main_place (d ∷ ds) = if is_main d.routine then 0 else suc (main_place ds)
+
+  -- the classes among these, the first of which has this place among the classes of the program
+  abbrev pub classes_meant : ℕ → List whole.Class → List Class
+  classes_meant place [] = []
+  classes_meant place (c ∷ cs) = if is_event c.kind then classes_meant (place + 1) cs else record { cells = class_cells p place } ∷ classes_meant (place + 1) cs
+
+  -- uMain, which has no fields, and the classes of the program
+  abbrev pub all_classes : List Class
+  all_classes = record { cells = 0 } ∷ classes_meant 0 (classes_of p.items)
 
   -- the source that a program is
   abbrev pub source_of : Source
   source_of = record {
     routines = routines_meant (routines_of p) 0 0 0;
     main = main_place (routines_of p);
+    classes = all_classes;
     sites = sites_of p;
     texts = texts_of p;
   }
