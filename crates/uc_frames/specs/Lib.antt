@@ -1,3 +1,4 @@
+pub mod Left
 pub mod Machine
 pub mod Numbered
 pub mod Parts
