@@ -71,7 +71,7 @@ pub data Todo : Type 0 where
   Rest : Stmts → Todo
   -- what stands before is of a statement of this line
   Within : ℕ → Todo
-  -- the end of a task's main
+  -- the end of a main, which has a line
   Finish : Todo
 
 -- what a piece is for one who leaves it: nothing, or the end of a main, behind which nothing is to do
@@ -308,7 +308,7 @@ abbrev pub flush_step : Option (List Piece) → List Todo → List Value → Sta
 flush_step None todo vs s = goes todo vs s
 flush_step (Some ps) todo vs s = Asks (print_of ps) (at todo vs (in_env (record s.env { gathered = None }) s))
 
--- the end of an activation, with what it hands over; behind the last one nothing is to do
+-- the end of an activation, with what it hands over; behind the last one the task ends
 abbrev pub return_step : Option Value → List Active → State → Step
 return_step given [] s = Asks ask.End s
 return_step given (c ∷ cs) s = Goes (returned given c cs s.env)
@@ -415,7 +415,7 @@ module _ (source : Source) where
   act (Rest Nil) todo s = turns todo s
   act (Rest (Then a rest)) todo s = turns (Do a ∷ (Rest rest ∷ todo)) s
   act (Within line) todo s = turns todo s
-  act Finish todo s = Asks ask.End (at todo s.run.operands s)
+  act Finish todo s = return_step None s.callers s
 
   abbrev pub act_todo : List Todo → State → Step
   act_todo [] s = return_step None s.callers s
