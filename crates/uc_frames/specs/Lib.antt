@@ -3,3 +3,4 @@ pub mod Machine
 pub mod Numbered
 pub mod Parts
 pub mod Stands
+pub mod Weight

@@ -13,3 +13,5 @@ pub mod Simulate
 pub mod Routines
 pub mod Starts
 pub mod Rode
+pub mod Powers
+pub mod Falls
