@@ -6,6 +6,8 @@ use Rattle.uc_tree.specs.declared.limits.TheConstants.{OPS_FOR_SIZE}
 use Rattle.uc_tree.specs.declared.pos.Pos.{Pos}
 use Rattle.uc_tree.specs.declared.kinds.Base.{Base}
 use Rattle.uc_tree.specs.declared.kinds.Base.TheVariants as base
+use Rattle.uc_tree.specs.declared.kinds.ValueForm.{ValueForm}
+use Rattle.uc_tree.specs.declared.kinds.ValueForm.TheVariants as value_form
 use Rattle.uc_tree.specs.declared.declare.OutForm.{OutForm}
 use Rattle.uc_tree.specs.Expressions as tree
 use Rattle.uc_tree.specs.Expressions.{exprs_of}
@@ -40,14 +42,14 @@ use Rattle.uc_lower_stmt.proofs.Joined.{lowers_adds, lowers_as, lowers_join, low
 
 -- forms
 
-form_in : Shape → ℕ
-form_in Integer = 0
-form_in Character = 1
-form_in Truth = 0
-form_in Binding = 0
-form_in Last = 0
-form_in (Field s t) = 0
-form_in (Array n s) = 0
+form_in : Shape → ValueForm
+form_in Integer = value_form.Number
+form_in Character = value_form.Character
+form_in Truth = value_form.Number
+form_in Binding = value_form.Number
+form_in Last = value_form.Number
+form_in (Field s t) = value_form.Number
+form_in (Array n s) = value_form.Number
 
 form_of_shape : (b : Base) → form_of b ≡ form_in (shape_of b)
 unfolding form_in
@@ -196,14 +198,14 @@ module _ (program : Program) where
         code = record { middle = length old.ops; first = record { end = refl }; second = record { end = refl } };
       }))
 
-  pub op_endl : (i : OutItem) (p : Pos) (s : Scope) → Endl p ≡ i → op.Print 1 ∷ [] ≡ map item_op (items_at s (i ∷ []))
-  op_endl i p s e = subst (λ (x : OutItem). op.Print 1 ∷ [] ≡ map item_op (items_at s (x ∷ []))) e refl
+  pub op_endl : (i : OutItem) (p : Pos) (s : Scope) → Endl p ≡ i → op.Print value_form.Character ∷ [] ≡ map item_op (items_at s (i ∷ []))
+  op_endl i p s e = subst (λ (x : OutItem). op.Print value_form.Character ∷ [] ≡ map item_op (items_at s (x ∷ []))) e refl
 
   pub op_text : (i : OutItem) (p : Pos) (t : List ℕ) (s : Scope) (n : ℕ) → Literal p t ≡ i → n ≡ s.texts → op.Text n ∷ [] ≡ map item_op (items_at s (i ∷ []))
   op_text i p t s n e h = subst (λ (x : OutItem). op.Text n ∷ [] ≡ map item_op (items_at s (x ∷ []))) e (ap (λ (y : ℕ). let l : List Op = op.Text y ∷ [] in l) h)
 
-  pub op_value : (i : OutItem) (p : Pos) (v : tree.Expr) (s : Scope) (t : Meaning) (n : ℕ) → Printed p v ≡ i → n ≡ form_as t.scalar → Tells t (meant (context_at program s) v) → op.Print n ∷ [] ≡ map item_op (items_at s (i ∷ []))
-  op_value i p v s t n e h u = subst (λ (x : OutItem). op.Print n ∷ [] ≡ map item_op (items_at s (x ∷ []))) e (ap (λ (y : ℕ). let l : List Op = op.Print y ∷ [] in l) (h ∙ form_told (meant (context_at program s) v) t u))
+  pub op_value : (i : OutItem) (p : Pos) (v : tree.Expr) (s : Scope) (t : Meaning) (n : ValueForm) → Printed p v ≡ i → n ≡ form_as t.scalar → Tells t (meant (context_at program s) v) → op.Print n ∷ [] ≡ map item_op (items_at s (i ∷ []))
+  op_value i p v s t n e h u = subst (λ (x : OutItem). op.Print n ∷ [] ≡ map item_op (items_at s (x ∷ []))) e (ap (λ (y : ValueForm). let l : List Op = op.Print y ∷ [] in l) (h ∙ form_told (meant (context_at program s) v) t u))
 
   -- an item with its op: where there is one value, its op stands behind it
   one_item : (is : List Item) (o : Op) (line : ℕ) (ms : List Mark) (code : Laid) (a b z : ℕ) → o ∷ [] ≡ map item_op is → ValuesAt code line ms is a b → One code o line b z → ItemsAt code line ms is a z
@@ -223,7 +225,7 @@ module _ (program : Program) where
 
   items_push : (s : Scope) (xs : List OutItem) (x : OutItem) → items_at s xs ++ items_at (with_texts s (texts_among xs)) (x ∷ []) ≡ items_at s (xs ++ x ∷ [])
   items_push s [] x = sym (ap (λ (t : Scope). items_at t (x ∷ [])) (no_text s))
-  items_push s (Endl p ∷ xs) x = ap (λ l. Show 1 newline ∷ l) (items_push s xs x)
+  items_push s (Endl p ∷ xs) x = ap (λ l. Show value_form.Character newline ∷ l) (items_push s xs x)
   items_push s (Literal p t ∷ xs) x =
       let e : s.texts + suc (texts_among xs) ≡ s.texts + 1 + texts_among xs = omega arith in
       ap (λ (n : ℕ). let l : List Item = ShowText s.texts ∷ (items_at (record s { texts = s.texts + 1 }) xs ++ items_at (record s { texts = n }) (x ∷ [])) in l) e
@@ -304,9 +306,9 @@ module _ (program : Program) where
       lowers_as (lowers_put (values_stable line d0.marks is) h1 (adds_both (one_stable op.Hold line) h2 (adds_both (pieces_stable line is) h3' h4))) refl (λ code a z w. w) (omega (arith, n, c)) (omega arith) (omega arith) (omega arith)
 
   -- places that are read
-  pub arm_target : (n line : ℕ) (ms : List Mark) (form : ℕ) (m : Meant) (t : Meaning) (k : ℕ) (d0 d1 d2 d3 : Draft) → n + 2 ≤ k → form ≡ form_as t.scalar → Tells t m → Adds n (ExprCode line ms m.expr) d0 d1 → Adds 1 (OpCode line (op.Read form)) d1 d2 → Adds 1 (OpCode line op.Store) d2 d3 → Adds k (TargetsCode line ms (record { form = form_of m.ty.base; place = m.expr } ∷ [])) d0 d3
+  pub arm_target : (n line : ℕ) (ms : List Mark) (form : ValueForm) (m : Meant) (t : Meaning) (k : ℕ) (d0 d1 d2 d3 : Draft) → n + 2 ≤ k → form ≡ form_as t.scalar → Tells t m → Adds n (ExprCode line ms m.expr) d0 d1 → Adds 1 (OpCode line (op.Read form)) d1 d2 → Adds 1 (OpCode line op.Store) d2 d3 → Adds k (TargetsCode line ms (record { form = form_of m.ty.base; place = m.expr } ∷ [])) d0 d3
   arm_target n line ms form m t k d0 d1 d2 d3 l e u h1 h2 h3 =
-      let h2' : Adds 1 (OpCode line (op.Read (form_of m.ty.base))) d1 d2 = subst (λ (x : ℕ). Adds 1 (OpCode line (op.Read x)) d1 d2) (e ∙ form_told m t u) h2 in
+      let h2' : Adds 1 (OpCode line (op.Read (form_of m.ty.base))) d1 d2 = subst (λ (x : ValueForm). Adds 1 (OpCode line (op.Read x)) d1 d2) (e ∙ form_told m t u) h2 in
       let h3' : Adds 1 (λ code. Both (One code op.Store line) Nothing) d2 d3 = adds_as h3 (λ code a z w. and_none (One code op.Store line) a z w) in
       adds_more (omega arith) (adds_both (expr_stable line ms m.expr) h1 (adds_both (one_stable (op.Read (form_of m.ty.base)) line) h2' h3'))
 

@@ -4,10 +4,16 @@ use Rattle.std.specs.Int.{int_rem_euclid}
 use Rattle.std.specs.Ordering.{int_eq}
 use Rattle.uc_tree.specs.declared.limits.TheConstants.{INT_MIN, INT_MAX, CHAR_VALUES, PRINT_ITEMS}
 use Rattle.uc_tree.specs.Source.{Shape, Character, Truth, shape_cells, field_cells, Operator, Plus, Minus, Times, Over, Modulo, Equal, NotEqual, Less, AtMost, Greater, AtLeast, Expr, Literal, Variable, Element, Load, Negated, Not, AsCharacter, AsTruth, Operate, And, Or, Assign, Update, StepBehind, Fail, Item, Show, ShowText, Target, Declared, Stmt, Skip, Block, Evaluate, Declare, Print, PrintTogether, Read, Stmts, Nil, Then, Purpose, Called, TaskMain, Routine, Source}
+use Rattle.uc_tree.specs.declared.kinds.ValueForm.{ValueForm}
+use Rattle.uc_tree.specs.ValueForms.{form_number}
 use Rattle.uc_meaning.specs.declared.exec.Exec.{Exec}
 use Rattle.uc_meaning.specs.declared.exec.Home.TheVariants as home
 use Rattle.uc_meaning.specs.declared.exec.Owner.{Owner}
 use Rattle.uc_meaning.specs.declared.exec.Owner.TheVariants.{Frame}
+use Rattle.uc_meaning.specs.declared.fault.RunFault.{RunFault}
+use Rattle.uc_meaning.specs.declared.fault.RunFault.TheVariants.{Overflow, DivideByZero, Index}
+use Rattle.uc_meaning.specs.Faults.{fault_number}
+use Rattle.uc_meaning.specs.declared.request.TheConstants.{TEXT_FORM}
 use Rattle.uc_meaning.specs.declared.request.Piece.{Piece}
 use Rattle.uc_meaning.specs.declared.request.Request.{Request}
 use Rattle.uc_meaning.specs.declared.request.Request.TheVariants as ask
@@ -52,12 +58,12 @@ pub data Todo : Type 0 where
   -- the first expression where the newest operand is not 0, else the second
   Choose : Expr → Expr → Todo
   -- print the newest operand in this form, a text literal; gathered items are printed at once
-  PrintNow : ℕ → Todo
+  PrintNow : ValueForm → Todo
   TextNow : ℕ → Todo
   GatherNow : Todo
   FlushNow : Todo
   -- read in this form
-  ReadNow : ℕ → Todo
+  ReadNow : ValueForm → Todo
   -- so many cells of the frame start anew
   ClearNow : ℕ → ℕ → Todo
   -- what is left of a statement's items, of those that are printed at once, of its targets, of its variables
@@ -139,31 +145,21 @@ as_character n = int_rem_euclid n CHAR_VALUES
 abbrev pub as_truth : ℤ → ℤ
 as_truth n = if is_zero n then pos 0 else pos 1
 
--- the numbers of run faults
-abbrev pub OVERFLOW : ℕ
-OVERFLOW = 1
-
-abbrev pub DIVIDE_BY_ZERO : ℕ
-DIVIDE_BY_ZERO = 2
-
-abbrev pub INDEX : ℕ
-INDEX = 3
-
--- what an operator gives: a number, or a fault by its number
+-- what an operator gives: a number, or a fault
 pub data Outcome : Type 0 where
   Gives : ℤ → Outcome
-  Faults : ℕ → Outcome
+  Faults : RunFault → Outcome
 
 -- a number that must be an `int`
 abbrev pub int_outcome : ℤ → Outcome
-int_outcome n = if fits n then Gives n else Faults OVERFLOW
+int_outcome n = if fits n then Gives n else Faults Overflow
 
 abbrev pub outcome : Operator → ℤ → ℤ → Outcome
 outcome Plus x y = int_outcome (x +ℤ y)
 outcome Minus x y = int_outcome (x -ℤ y)
 outcome Times x y = int_outcome (x *ℤ y)
-outcome Over x y = if is_zero y then Faults DIVIDE_BY_ZERO else int_outcome (int_div x y)
-outcome Modulo x y = if is_zero y then Faults DIVIDE_BY_ZERO else int_outcome (int_rem x y)
+outcome Over x y = if is_zero y then Faults DivideByZero else int_outcome (int_div x y)
+outcome Modulo x y = if is_zero y then Faults DivideByZero else int_outcome (int_rem x y)
 outcome Equal x y = Gives (truth (int_eq x y))
 outcome NotEqual x y = Gives (truth (if int_eq x y then false else true))
 outcome Less x y = Gives (truth (int_lt x y))
@@ -255,10 +251,6 @@ piece form n = record { form = form; value = n }
 abbrev pub with_piece : Piece → List Piece → List Piece
 with_piece p ps = if nat_lt (length ps) PRINT_ITEMS then p ∷ ps else ps
 
--- text literals are of form 2
-abbrev pub TEXT : ℕ
-TEXT = 2
-
 -- lines
 
 -- the line of the innermost statement of an activation, 0 before its first statement and after its last
@@ -288,15 +280,15 @@ in_env e s = record s { env = e }
 abbrev pub goes : List Todo → List Value → State → Step
 goes todo operands s = Goes (at todo operands s)
 
-abbrev pub fault : ℕ → List Todo → List Value → State → Step
-fault n todo operands s = Asks (ask.Fault n) (at todo operands s)
+abbrev pub fault : RunFault → List Todo → List Value → State → Step
+fault f todo operands s = Asks (ask.Fault (fault_number f)) (at todo operands s)
 
 abbrev pub outcome_step : Outcome → List Todo → List Value → State → Step
 outcome_step (Gives n) todo vs s = goes todo (Number n ∷ vs) s
-outcome_step (Faults n) todo vs s = fault n todo vs s
+outcome_step (Faults f) todo vs s = fault f todo vs s
 
 abbrev pub element_step : Shape → Option ℕ → List Todo → Value → List Value → State → Step
-element_step k None todo v vs s = fault INDEX todo vs s
+element_step k None todo v vs s = fault Index todo vs s
 element_step k (Some i) todo v vs s = goes todo (further (At k i) v ∷ vs) s
 
 -- an item is printed in an act of its own, or gathered
@@ -394,11 +386,11 @@ module _ (source : Source) where
   act KeepNow todo s =
       goes todo (top s.run.operands ∷ below (below s.run.operands)) (in_env (written (top (below s.run.operands)) (top s.run.operands) s.env) s)
   act (Choose a b) todo s = goes (Eval (if is_zero (number (top s.run.operands)) then b else a) ∷ todo) (below s.run.operands) s
-  act (PrintNow form) todo s = print_step s.env.gathered (piece form (number (top s.run.operands))) todo (below s.run.operands) s
-  act (TextNow k) todo s = print_step s.env.gathered (piece TEXT (pos k)) todo s.run.operands s
+  act (PrintNow form) todo s = print_step s.env.gathered (piece (form_number form) (number (top s.run.operands))) todo (below s.run.operands) s
+  act (TextNow k) todo s = print_step s.env.gathered (piece TEXT_FORM (pos k)) todo s.run.operands s
   act GatherNow todo s = turns todo (in_env (record s.env { gathered = Some [] }) s)
   act FlushNow todo s = flush_step s.env.gathered todo s.run.operands s
-  act (ReadNow form) todo s = Asks (ask.Read form) (at todo s.run.operands s)
+  act (ReadNow form) todo s = Asks (ask.Read (form_number form)) (at todo s.run.operands s)
   act (ClearNow k n) todo s = turns todo (in_env (cleared k n s) s)
   act (Items []) todo s = turns todo s
   act (Items (i ∷ is)) todo s = turns (item_todo i (Items is ∷ todo)) s

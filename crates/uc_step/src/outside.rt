@@ -10,9 +10,8 @@ use uc_code::op::Op;
 use uc_frames::cell::number_in;
 use uc_frames::pieces::print_request;
 use uc_frames::work::Work;
-use uc_meaning::request::{Piece, Request};
-
-const TEXT: u8 = 2;
+use uc_meaning::request::{Piece, Request, TEXT_FORM};
+use uc_tree::kinds::ValueForm;
 
 // A piece is printed, or gathered.
 fn put(code: &Code, line: u32, work: &mut Work, piece: Piece) -> Result<Stepped, AllocError>
@@ -30,12 +29,16 @@ pub(crate) fn print(
     code: &Code,
     line: u32,
     work: &mut Work,
-    form: u8,
+    form: ValueForm,
 ) -> Result<Stepped, AllocError>
     ensures { IfOk result (λ how. Does code.now line (Op.Print form) work.old how work.new) }
 {
     let value = number_in(work.pop());
-    let how = put(code, line, work, Piece { form, value })?;
+    let piece = Piece {
+        form: form.number(),
+        value,
+    };
+    let how = put(code, line, work, piece)?;
     Ok(how)
 }
 
@@ -48,7 +51,7 @@ pub(crate) fn text(
     ensures { IfOk result (λ how. Does code.now line (Op.Text number) work.old how work.new) }
 {
     let piece = Piece {
-        form: TEXT,
+        form: TEXT_FORM,
         value: i64::from(number),
     };
     let how = put(code, line, work, piece)?;
@@ -71,9 +74,10 @@ pub(crate) fn flush(code: &Code, line: u32, work: &mut Work) -> Result<Stepped, 
     }
 }
 
-pub(crate) fn read(code: &Code, line: u32, work: &mut Work, form: u8) -> Result<Stepped, AllocError>
+pub(crate) fn read(code: &Code, line: u32, work: &mut Work, form: ValueForm) -> Result<Stepped, AllocError>
     ensures { IfOk result (λ how. Does code.now line (Op.Read form) work.old how work.new) }
 {
+    let form = form.number();
     Ok(asked(code, line, work, Request::Read { form }))
 }
 

@@ -1,10 +1,13 @@
 // How one op ends.
 
 ghost use Rattle.std.specs.Prelude.{◌≡◌};
+ghost use Rattle.uc_meaning.specs.declared.request.Request.TheVariants as ask;
+ghost use Rattle.uc_meaning.specs.Faults.{fault_number};
 ghost use Rattle.uc_frames.specs.Machine.{line_at};
 
 use uc_code::code::Code;
 use uc_frames::work::Work;
+use uc_meaning::fault::RunFault;
 use uc_meaning::request::{Asked, Request};
 
 /// Going on; going on after a tick; or waiting for the answer to a request.
@@ -21,4 +24,12 @@ pub(crate) fn asked(code: &Code, line: u32, work: &Work, request: Request) -> St
 {
     let line = work.line(code, line);
     Stepped::Ask(Asked { request, line })
+}
+
+// A run fault, by an op of this line.
+pub(crate) fn faulted(code: &Code, line: u32, work: &Work, fault: RunFault) -> Stepped
+    ensures { result ≡ Stepped.Ask (record { request = ask.Fault (fault_number fault); line = line_at code.now.ops line work.now.callers }) }
+{
+    let number = fault.number();
+    asked(code, line, work, Request::Fault { number })
 }
