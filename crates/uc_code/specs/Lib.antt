@@ -1,6 +1,5 @@
 pub mod Codes
 pub mod Drafts
-pub mod Forward
 pub mod Laid
 pub mod Listing
 pub mod Lowered

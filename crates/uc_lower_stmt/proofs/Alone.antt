@@ -18,11 +18,9 @@ use Rattle.uc_meaning.specs.Accepted.{FitFrames}
 use Rattle.uc_code.specs.declared.rows.RoutineCode.{RoutineCode}
 use Rattle.uc_code.specs.Codes.{Code}
 use Rattle.uc_code.specs.Drafts.{Draft}
-use Rattle.uc_code.specs.Forward.{IsForward}
 use Rattle.uc_code.specs.Laid.{Laid, laid_of, laid_in}
 use Rattle.uc_code.specs.Lowered.{RoutineAt, RoutinesAt, Lowered}
 use Rattle.uc_lower_stmt.specs.Programs.{LowersRoutine, HasMain}
-use Rattle.uc_lower_stmt.proofs.Ahead.{alone_forward}
 
 straight_list : (is : List Item) → is_straight_list is ≡ true → (r : Routine) × (is ≡ RoutineItem r ∷ []) × (is_straight_routine r ≡ true)
 straight_list [] e = absurd (true≢false (sym e))
@@ -76,7 +74,6 @@ fit_alone p r is e f = (subst (λ (l : List Item). FitFrames p l) e f).0
 
 pub record IsLowered (p : Program) (code : Code) : Type 0 where
   pub lowered : Lowered (source_of p) code
-  pub forward : IsForward code.ops
   pub rows : code.rows ≡ []
   pub few : length code.ops ≤ OPS_FOR_SIZE * program_size p
 
@@ -112,7 +109,6 @@ program_lowered p q is c old new sites texts classes code s qe ie eo ew er h se 
         sites = ap (λ (x : Code). x.sites) ce ∙ se;
         texts = ap (λ (x : Code). x.texts) ce ∙ te;
       };
-      forward = alone_forward (laid_of code) meant row code_at;
       rows = ap (λ (x : Code). x.rows) ce ∙ l.rows ∙ ew;
       few = let room = l.room in let size = alone_size p r m.only in omega arith;
     }

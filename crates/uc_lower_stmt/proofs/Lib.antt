@@ -1,4 +1,3 @@
-pub mod Ahead
 pub mod Alone
 pub mod Counted
 pub mod Declaring

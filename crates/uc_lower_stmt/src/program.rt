@@ -8,7 +8,7 @@ ghost use Rattle.uc_tree.specs.Sizes.{item_size, items_size, program_size};
 ghost use Rattle.uc_tree.specs.Resolve.{routine_scope, source_of};
 ghost use Rattle.uc_meaning.specs.Straight.{is_straight_item, is_straight_list, IsStraight};
 ghost use Rattle.uc_meaning.specs.Accepted.{FitFrames};
-ghost use Rattle.uc_code.specs.Forward.{IsForward};
+ghost use Rattle.uc_code.specs.Pace.{IsPaced};
 ghost use Rattle.uc_code.specs.Lowered.{Lowered};
 ghost use Rattle.uc_lower_stmt.specs.Programs.{LowersRoutine, HasMain};
 
@@ -83,7 +83,7 @@ pub fn lower_program(alloc: Global, program: &Program, sizes: &Sizes) -> Result<
     requires cells { FitFrames program.now program.now.items }
     requires size { program_size program.now ≤ PROGRAM_SIZE }
     ensures lowered { IfOk result (λ code. Lowered (source_of program.now) code) }
-    ensures forward { IfOk result (λ code. IsForward code.ops) }
+    ensures paced { IfOk result (λ code. IsPaced code.ops) }
     ensures few { IfOk result (λ code. length code.ops ≤ OPS_FOR_SIZE * program_size program.now) }
     ensures main { HasMain program.now }
     ensures rows { IfOk result (λ code. code.rows ≡ []) }
