@@ -10,6 +10,7 @@ ghost use Rattle.uc_meaning.specs.Straight.{is_straight_item, is_straight_list, 
 ghost use Rattle.uc_meaning.specs.Accepted.{FitFrames};
 ghost use Rattle.uc_code.specs.Forward.{IsForward};
 ghost use Rattle.uc_code.specs.Lowered.{Lowered};
+ghost use Rattle.uc_code.specs.Pace.{IsPaced};
 ghost use Rattle.uc_lower_stmt.specs.Programs.{LowersRoutine, HasMain};
 
 use crate::routine::lower_routine;
@@ -76,7 +77,7 @@ fn lower_only(
 }
 
 /// The code of a straight program of which these are the sizes. Its one routine is its main, which has the number 0. It has
-/// at most `OPS_FOR_SIZE` ops for each unit of the program's size.
+/// at most `OPS_FOR_SIZE` ops for each unit of the program's size, and finitely many quiet ops lie between ticks.
 pub fn lower_program(alloc: Global, program: &Program, sizes: &Sizes) -> Result<Code, AllocError>
     requires straight { IsStraight program.now }
     requires sizes { sizes.now ≡ program.now }
@@ -84,6 +85,7 @@ pub fn lower_program(alloc: Global, program: &Program, sizes: &Sizes) -> Result<
     requires size { program_size program.now ≤ PROGRAM_SIZE }
     ensures lowered { IfOk result (λ code. Lowered (source_of program.now) code) }
     ensures forward { IfOk result (λ code. IsForward code.ops) }
+    ensures paced { IfOk result (λ code. IsPaced code.ops) }
     ensures few { IfOk result (λ code. length code.ops ≤ OPS_FOR_SIZE * program_size program.now) }
     ensures main { HasMain program.now }
     ensures rows { IfOk result (λ code. code.rows ≡ []) }
