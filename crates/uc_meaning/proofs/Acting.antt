@@ -1,5 +1,5 @@
 -- The entries of an act are its task's own, or admit and push others; all name its processor.
-use Rattle.std.proofs.Common.{◌≡◌, ℕ, ℤ, zero, suc, Bool, true, false, cond, List, [], ◌∷◌, ◌++◌, Option, Some, None, take, refl, length, ◌+◌, ◌&&◌}
+use Rattle.std.proofs.Common.{◌≡◌, ℕ, ℤ, zero, suc, Bool, true, false, cond, List, [], ◌∷◌, ◌++◌, Option, Some, None, take, refl, length, ◌+◌, ◌&&◌, ◌||◌}
 use Rattle.std.specs.Prelude.{pos, nat_lt, nat_le, not}
 use Rattle.uc_tree.specs.Programs.{Site}
 use Rattle.uc_tree.specs.declared.limits.TheConstants.{TASKS, OBJECTS, PENDING_EVENTS, CLUSTERS, PROCESSORS}
@@ -11,7 +11,7 @@ use Rattle.uc_meaning.specs.declared.request.Asked.{Asked}
 use Rattle.uc_meaning.specs.declared.request.Piece.{Piece}
 use Rattle.uc_meaning.specs.declared.request.Request.{Request}
 use Rattle.uc_meaning.specs.declared.request.Request.TheVariants as ask
-use Rattle.uc_meaning.specs.Journal.{Journal, inside, entry, own_object, first_or_0}
+use Rattle.uc_meaning.specs.Journal.{Journal, holds, stacks_acceptor, inside, entry, own_object, first_or_0}
 use Rattle.uc_meaning.specs.Queues.{next, cluster_count, processor_count, is_in_use, first_ended, none_running, none_ready, none_served, all_ticks}
 use Rattle.uc_meaning.specs.Known.{object_count, task_count, owner, is_gone_by}
 use Rattle.uc_meaning.specs.Pending.{pending, oldest_in}
@@ -65,6 +65,12 @@ abbrev pub destroys : Request → Bool
 destroys (ask.Gone o) = true
 destroys r = false
 
+-- how an accept and a sigblock went
+abbrev pub FieldsFit : EntryKind → Entry → Type 0
+FieldsFit kind.Accept e = (stacks_acceptor e || (holds 2 e.d || holds 3 e.d)) ≡ true
+FieldsFit kind.SignalBlock e = (holds 0 e.b || holds 1 e.b) ≡ true
+FieldsFit k e = Unit {0}
+
 -- an entry of an act of task t on processor p: if it moves a door, that is the door of o, of which A holds; it is a gone only where g holds
 pub record IsBy (p t o : ℕ) (A : Type 0) (g : Bool) (e : Entry) : Type 0 where
   pub proc : e.proc ≡ p
@@ -72,6 +78,7 @@ pub record IsBy (p t o : ℕ) (A : Type 0) (g : Bool) (e : Entry) : Type 0 where
   pub acts : is_giving e.kind ≡ false
   pub door : is_silent e.kind ≡ false → (e.object ≡ o) × A
   pub gone : is_gone_by e.kind ≡ true → g ≡ true
+  pub fields : FieldsFit e.kind e
 
 abbrev pub AllBy : ℕ → ℕ → ℕ → Type 0 → Bool → List Entry → Type 0
 AllBy p t o A g [] = Unit {0}
@@ -84,24 +91,29 @@ by_append p t o A g (e ∷ a) b h k = (h.0, by_append p t o A g a b h.1 k)
 module _ (p t o : ℕ) (A : Type 0) (g : Bool) where
   -- an entry of the task that moves no door
   own : (e : Entry) → e.proc ≡ p → e.task ≡ t → is_giving e.kind ≡ false → is_silent e.kind ≡ true → IsBy p t o A g e
-  own e h f k n = record { proc = h; task = λ own. f; acts = k; door = λ m. absurd (no_both (is_silent e.kind) n m); gone = λ d. absurd (silent_gone e.kind n d) }
+  own e h f k n = record { proc = h; task = λ own. f; acts = k; door = λ m. absurd (no_both (is_silent e.kind) n m); gone = λ d. absurd (silent_gone e.kind n d); fields = silent_fields e.kind n }
     where
       no_both : (b : Bool) → b ≡ true → b ≡ false → ⊥
       no_both b t f = cc
+
+      silent_fields : (k : EntryKind) → is_silent k ≡ true → FieldsFit k e
+      silent_fields kind.Accept n = cc
+      silent_fields kind.SignalBlock n = cc
+      silent_fields k n = tt
 
       silent_gone : (k : EntryKind) → is_silent k ≡ true → is_gone_by k ≡ true → ⊥
       silent_gone kind.Gone a b = cc
       silent_gone k a b = cc
 
   -- one that moves the door of o
-  moving : (e : Entry) → e.proc ≡ p → e.task ≡ t → is_giving e.kind ≡ false → e.object ≡ o → A → (is_gone_by e.kind ≡ true → g ≡ true) → IsBy p t o A g e
-  moving e h f k n a d = record { proc = h; task = λ own. f; acts = k; door = λ m. (n, a); gone = d }
+  moving : (e : Entry) → e.proc ≡ p → e.task ≡ t → is_giving e.kind ≡ false → e.object ≡ o → A → (is_gone_by e.kind ≡ true → g ≡ true) → FieldsFit e.kind e → IsBy p t o A g e
+  moving e h f k n a d q = record { proc = h; task = λ own. f; acts = k; door = λ m. (n, a); gone = d; fields = q }
 
   by_admit : (u way clause : ℕ) → A → IsBy p t o A g (admit p u o way clause)
-  by_admit u way clause a = record { proc = refl; task = λ own. cc; acts = refl; door = λ m. (refl, a); gone = λ d. cc }
+  by_admit u way clause a = record { proc = refl; task = λ own. cc; acts = refl; door = λ m. (refl, a); gone = λ d. cc; fields = tt }
 
   by_push : (u : ℕ) → A → IsBy p t o A g (push p u o)
-  by_push u a = record { proc = refl; task = λ own. cc; acts = refl; door = λ m. (refl, a); gone = λ d. cc }
+  by_push u a = record { proc = refl; task = λ own. cc; acts = refl; door = λ m. (refl, a); gone = λ d. cc; fields = tt }
 
   by_admission : (sites : List Site) (j : Journal) (n : Option (ℕ × ℕ)) → A → AllBy p t o A g (admission sites p o j n)
   by_admission sites j None a = tt
@@ -123,21 +135,21 @@ module _ (p t o : ℕ) (A : Type 0) (g : Bool) where
   by_called sites m (x ∷ xs) (y ∷ rest) a = by_met y.task m (clause_for (offered sites y) m) a
 
   by_took : (k site mask : ℕ) (b : Bool) (m u : ℕ) → A → AllBy p t o A g (took p t k o site mask b m u)
-  by_took k site mask b zero u a = (moving _ refl refl refl refl a (λ d. cc), (by_push u a, tt))
-  by_took k site mask b (suc m) u a = (moving _ refl refl refl refl a (λ d. cc), (by_admit u 1 0 a, tt))
+  by_took k site mask b zero u a = (moving _ refl refl refl refl a (λ d. cc) refl, (by_push u a, tt))
+  by_took k site mask b (suc m) u a = (moving _ refl refl refl refl a (λ d. cc) refl, (by_admit u 1 0 a, tt))
 
   by_accepted : (k site mask : ℕ) (b : Bool) (x : Option Met) → A → AllBy p t o A g (accepted p t k o site mask b x)
   by_accepted k site mask b (Some x) a = by_took k site mask b x.member x.task a
-  by_accepted k site mask true None a = (moving _ refl refl refl refl a (λ d. cc), tt)
-  by_accepted k site mask false None a = (moving _ refl refl refl refl a (λ d. cc), tt)
+  by_accepted k site mask true None a = (moving _ refl refl refl refl a (λ d. cc) refl, tt)
+  by_accepted k site mask false None a = (moving _ refl refl refl refl a (λ d. cc) refl, tt)
 
   by_signalled : (k c : ℕ) (ws : List (ℕ × ℤ)) → A → AllBy p t o A g (signalled p t k o c ws)
   by_signalled k c [] a = (own _ refl refl refl refl, tt)
   by_signalled k c (w ∷ ws) a = (own _ refl refl refl refl, (by_push w.0 a, tt))
 
   by_handed : (k c : ℕ) (ws : List (ℕ × ℤ)) → A → AllBy p t o A g (handed p t k o c ws)
-  by_handed k c [] a = (moving _ refl refl refl refl a (λ d. cc), tt)
-  by_handed k c (w ∷ ws) a = (moving _ refl refl refl refl a (λ d. cc), (by_admit w.0 4 0 a, tt))
+  by_handed k c [] a = (moving _ refl refl refl refl a (λ d. cc) refl, tt)
+  by_handed k c (w ∷ ws) a = (moving _ refl refl refl refl a (λ d. cc) refl, (by_admit w.0 4 0 a, tt))
 
   by_front : (k line v c : ℕ) (ws : List (ℕ × ℤ)) → AllBy p t o A g (front p t k line v c ws)
   by_front k line v c [] = (own _ refl refl refl refl, tt)
@@ -185,24 +197,24 @@ module _ (opts : Options) (sites : List Site) (input : List ℕ) (j : Journal) (
   abbrev Row : Request → Type 0
   Row r = AllBy p t (object_of t j r) A (destroys r) (row opts sites input j p t k line r)
 
-  left_row : (o : ℕ) (e : Entry) → e.proc ≡ p → e.task ≡ t → is_giving e.kind ≡ false → e.object ≡ o → is_gone_by e.kind ≡ false → A → AllBy p t o A false (left_by sites j p o e)
-  left_row o e h f n m d a = (moving p t o A false e h f n m a (λ x. absurd (no_both (is_gone_by e.kind) x d)), by_admission p t o A false sites j (next o j) a)
+  left_row : (o : ℕ) (e : Entry) → e.proc ≡ p → e.task ≡ t → is_giving e.kind ≡ false → e.object ≡ o → is_gone_by e.kind ≡ false → FieldsFit e.kind e → A → AllBy p t o A false (left_by sites j p o e)
+  left_row o e h f n m d q a = (moving p t o A false e h f n m a (λ x. absurd (no_both (is_gone_by e.kind) x d)) q, by_admission p t o A false sites j (next o j) a)
     where
       no_both : (b : Bool) → b ≡ true → b ≡ false → ⊥
       no_both b t f = cc
 
   pub by_row : (r : Request) → (is_quiet r ≡ false → A) → Row r
   by_row (ask.Make class) a =
-      by_or p t (object_count j) A false (nat_lt (object_count j) OBJECTS) _ _ (moving p t (object_count j) A false _ refl refl refl refl (a refl) (λ d. cc)) (own p t (object_count j) A false _ refl refl refl refl)
-  by_row (ask.Made o) a = left_row o _ refl refl refl refl refl (a refl)
+      by_or p t (object_count j) A false (nat_lt (object_count j) OBJECTS) _ _ (moving p t (object_count j) A false _ refl refl refl refl (a refl) (λ d. cc) tt) (own p t (object_count j) A false _ refl refl refl refl)
+  by_row (ask.Made o) a = left_row o _ refl refl refl refl refl tt (a refl)
   by_row (ask.Spawn o) a =
-      by_or p t o A false (nat_lt (task_count j) TASKS) _ _ (moving p t o A false _ refl refl refl refl (a refl) (λ d. cc)) (own p t o A false _ refl refl refl refl)
+      by_or p t o A false (nat_lt (task_count j) TASKS) _ _ (moving p t o A false _ refl refl refl refl (a refl) (λ d. cc) tt) (own p t o A false _ refl refl refl refl)
   by_row (ask.Call o m) a =
-      (moving p t o A false _ refl refl refl refl (a refl) (λ d. cc), by_called p t o A false sites m (inside o j) (open_at o j) (a refl))
-  by_row (ask.Leave o) a = left_row o _ refl refl refl refl refl (a refl)
+      (moving p t o A false _ refl refl refl refl (a refl) (λ d. cc) tt, by_called p t o A false sites m (inside o j) (open_at o j) (a refl))
+  by_row (ask.Leave o) a = left_row o _ refl refl refl refl refl tt (a refl)
   by_row (ask.Accept o site mask) a =
       by_accepted p t o A false k site mask (site_at sites site).has_else (next_met sites site mask o j) (a refl)
-  by_row (ask.Wait o c n) a = left_row o _ refl refl refl refl refl (a refl)
+  by_row (ask.Wait o c n) a = left_row o _ refl refl refl refl refl tt (a refl)
   by_row (ask.Signal o c) a = by_signalled p t o A false k c (blocked o c j) (a refl)
   by_row (ask.SignalBlock o c) a = by_handed p t o A false k c (blocked o c j) (a refl)
   by_row (ask.Empty o c) a = (own p t 0 A false _ refl refl refl refl, tt)
@@ -223,8 +235,8 @@ module _ (opts : Options) (sites : List Site) (input : List ℕ) (j : Journal) (
       by_or p t 0 A false (nat_lt (processor_count opts j) PROCESSORS) _ _ (own p t 0 A false _ refl refl refl refl) (own p t 0 A false _ refl refl refl refl)
   by_row (ask.ProcessorEnd q) a = (own p t 0 A false _ refl refl refl refl, tt)
   by_row (ask.Migrate c) a = (own p t 0 A false _ refl refl refl refl, tt)
-  by_row ask.End a = left_row (own_object t j) _ refl refl refl refl refl (a refl)
-  by_row (ask.Gone o) a = (moving p t o A true _ refl refl refl refl (a refl) (λ d. refl), tt)
+  by_row ask.End a = left_row (own_object t j) _ refl refl refl refl refl tt (a refl)
+  by_row (ask.Gone o) a = (moving p t o A true _ refl refl refl refl (a refl) (λ d. refl) tt, tt)
   by_row (ask.Fault n) a = (own p t 0 A false _ refl refl refl refl, tt)
 
 pub by_act : (opts : Options) (sites : List Site) (input : List ℕ) (j : Journal) (p t k : ℕ) (A : Type 0) (asked : Asked) → (is_quiet asked.request ≡ false → A) → AllBy p t (object_of t j asked.request) A (destroys asked.request) (act opts sites input j p t k asked)

@@ -108,7 +108,7 @@ none_seated t (Waits o) = refl
 none_seated t (Stacked o) = refl
 none_seated t (Blocked o c) = refl
 
-spot_none : (t : ℕ) → spot t [] ≡ Unborn
+pub spot_none : (t : ℕ) → spot t [] ≡ Unborn
 unfolding spot
 spot_none t = refl
 

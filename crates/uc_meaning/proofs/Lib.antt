@@ -16,7 +16,9 @@ pub mod Acting
 pub mod Living
 pub mod Counted
 pub mod Making
+pub mod Answered
 pub mod Sampled
+pub mod Cuts
 pub mod Others
 pub mod Held
 pub mod Bounds

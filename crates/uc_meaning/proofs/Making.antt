@@ -147,11 +147,11 @@ still_none t j (e ∷ a) m h =
     ap (just_made t) (sym (append_assoc j (e ∷ []) a)) ∙ still_none t (j ++ e ∷ []) a m.1 (still_open_push (λ e. makes_for t e.kind e) (λ e v. asks t e.kind e) j e ∙ ap (λ l. filter (λ v. not (asks t e.kind e)) l ++ option_to_list (makes_for t e.kind e)) h ∙ ap option_to_list (made_none t e e.kind m.0))
 
 -- the first entry of a row asks for its task
-record Asks (t : ℕ) (a : List Entry) : Type 0 where
-  first : Entry
-  rest : List Entry
-  is : a ≡ first ∷ rest
-  asks : asks t first.kind first ≡ true
+pub record Asks (t : ℕ) (a : List Entry) : Type 0 where
+  pub first : Entry
+  pub rest : List Entry
+  pub is : a ≡ first ∷ rest
+  pub asks : asks t first.kind first ≡ true
 
 module _ (opts : Options) (sites : List Site) (input : List ℕ) (j : Journal) (p t k line : ℕ) where
   by_first : (e : Entry) (a : List Entry) → asks t e.kind e ≡ true → Asks t (e ∷ a)
@@ -191,7 +191,7 @@ module _ (opts : Options) (sites : List Site) (input : List ℕ) (j : Journal) (
   asks_prints (suc n) [] le h = cc
   asks_prints (suc n) (i ∷ is) le h = by_first _ _ (self_test t)
 
-  row_asks : (r : Request) → Fits opts sites j t r → Asks t (row opts sites input j p t k line r)
+  pub row_asks : (r : Request) → Fits opts sites j t r → Asks t (row opts sites input j p t k line r)
   row_asks (ask.Make class) f = asks_or (nat_lt (object_count j) OBJECTS) _ _ (self_test t) (self_test t)
   row_asks (ask.Spawn o) f = asks_or (nat_lt (task_count j) TASKS) _ _ (self_test t) (self_test t)
   row_asks (ask.Accept o site mask) f = asks_accepted o site mask (site_at sites site).has_else (next_met sites site mask o j)

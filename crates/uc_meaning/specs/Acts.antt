@@ -12,6 +12,8 @@ use Rattle.uc_meaning.specs.declared.request.Piece.{Piece}
 use Rattle.uc_meaning.specs.declared.request.Request.{Request}
 use Rattle.uc_meaning.specs.declared.request.Request.TheVariants as ask
 use Rattle.uc_meaning.specs.declared.got.Got.{Got}
+use Rattle.uc_meaning.specs.declared.fault.RunFault.TheVariants as run_fault
+use Rattle.uc_meaning.specs.Faults.{fault_number}
 use Rattle.uc_meaning.specs.Journal.{Journal, entry, own_object, is_fault, inside, first_or_0}
 use Rattle.uc_meaning.specs.Reading.{bytes_used, has_failed, next_read}
 use Rattle.uc_meaning.specs.Queues.{next, first_ended, none_running, none_ready, none_served, all_ticks, cluster_count, processor_count, cluster_in, processors, is_in_use, is_nobody}
@@ -107,7 +109,7 @@ handed p t k o c (w ∷ ws) = entry kind.SignalBlock p t k o (pos c) (pos 1) ∷
 
 -- the number of the front waiter
 abbrev pub front : ℕ → ℕ → ℕ → ℕ → ℕ → ℕ → List (ℕ × ℤ) → List Entry
-front p t k line o c [] = fault p t k 11 line ∷ []
+front p t k line o c [] = fault p t k (fault_number run_fault.FrontOfEmpty) line ∷ []
 front p t k line o c (w ∷ ws) = entry kind.Front p t k o (pos c) w.1 ∷ []
 
 -- one entry for each item; only the first carries the ticks
@@ -123,10 +125,10 @@ or_fault false e f = f ∷ []
 -- the row of each request of task t on p after k ticks, in a line, before any cut
 abbrev pub row : Options → List Site → List ℕ → Journal → ℕ → ℕ → ℕ → ℕ → Request → List Entry
 row opts sites input j p t k line (ask.Make class) =
-    or_fault (nat_lt (object_count j) OBJECTS) (entry kind.Make p t k (object_count j) (pos class) (pos 0)) (fault p t k 16 line)
+    or_fault (nat_lt (object_count j) OBJECTS) (entry kind.Make p t k (object_count j) (pos class) (pos 0)) (fault p t k (fault_number run_fault.TooManyObjects) line)
 row opts sites input j p t k line (ask.Made o) = left_by sites j p o (entry kind.Made p t k o (pos 0) (pos 0))
 row opts sites input j p t k line (ask.Spawn o) =
-    or_fault (nat_lt (task_count j) TASKS) (entry kind.Spawn p t k o (pos (task_count j)) (pos 0)) (fault p t k 15 line)
+    or_fault (nat_lt (task_count j) TASKS) (entry kind.Spawn p t k o (pos (task_count j)) (pos 0)) (fault p t k (fault_number run_fault.TooManyTasks) line)
 row opts sites input j p t k line (ask.Call o m) =
     entry kind.Call p t k o (pos m) (pos 0) ∷ called sites p t o m (inside o j) (open_at o j)
 row opts sites input j p t k line (ask.Leave o) = left_by sites j p o (entry kind.Leave p t k o (pos 0) (pos 0))
@@ -140,7 +142,7 @@ row opts sites input j p t k line (ask.Empty o c) =
 row opts sites input j p t k line (ask.Front o c) = front p t k line o c (blocked o c j)
 row opts sites input j p t k line (ask.Raise o event x y) =
     let target = first_or_0 (owner o j) in
-    or_fault (nat_lt (length (pending target j)) PENDING_EVENTS) (raise_entry p t k o target event x y) (fault p t k 17 line)
+    or_fault (nat_lt (length (pending target j)) PENDING_EVENTS) (raise_entry p t k o target event x y) (fault p t k (fault_number run_fault.TooManyPending) line)
 row opts sites input j p t k line (ask.Poll mask) = poll_entry p t k mask (oldest_in mask (pending t j)) ∷ []
 row opts sites input j p t k line ask.Yield = entry kind.Yield p t k 0 (pos 0) (pos 0) ∷ []
 row opts sites input j p t k line ask.Slice = entry kind.Slice p t k 0 (pos 0) (pos 0) ∷ []
@@ -148,11 +150,11 @@ row opts sites input j p t k line (ask.Print n items) = prints p t k (take n ite
 row opts sites input j p t k line (ask.Read form) = read_entry p t k form (next_read form input j) (bytes_used j) ∷ []
 row opts sites input j p t k line ask.Fail = entry kind.Fail p t k 0 (pos 0) (truth (has_failed j)) ∷ []
 row opts sites input j p t k line ask.Cluster =
-    or_fault (nat_lt (cluster_count j) CLUSTERS) (entry kind.Cluster p t k 0 (pos (cluster_count j)) (pos 0)) (fault p t k 18 line)
+    or_fault (nat_lt (cluster_count j) CLUSTERS) (entry kind.Cluster p t k 0 (pos (cluster_count j)) (pos 0)) (fault p t k (fault_number run_fault.TooManyProcessors) line)
 row opts sites input j p t k line (ask.ClusterEnd c) =
-    or_fault (not (is_in_use opts c j)) (entry kind.ClusterEnd p t k 0 (pos c) (pos 0)) (fault p t k 10 line)
+    or_fault (not (is_in_use opts c j)) (entry kind.ClusterEnd p t k 0 (pos c) (pos 0)) (fault p t k (fault_number run_fault.DestroyBusy) line)
 row opts sites input j p t k line (ask.Processor c) =
-    or_fault (nat_lt (processor_count opts j) PROCESSORS) (entry kind.Processor p t k 0 (pos (processor_count opts j)) (pos c)) (fault p t k 18 line)
+    or_fault (nat_lt (processor_count opts j) PROCESSORS) (entry kind.Processor p t k 0 (pos (processor_count opts j)) (pos c)) (fault p t k (fault_number run_fault.TooManyProcessors) line)
 row opts sites input j p t k line (ask.ProcessorEnd q) =
     entry kind.ProcessorEnd p t k 0 (pos q) (pos (cluster_in q (processors opts j))) ∷ []
 row opts sites input j p t k line (ask.Migrate c) = entry kind.Migrate p t k 0 (pos c) (pos 0) ∷ []
@@ -169,7 +171,7 @@ settled f j (e ∷ a) =
 
 abbrev pub entries_of : Options → List Site → List ℕ → Journal → ℕ → ℕ → ℕ → Asked → List Entry
 entries_of opts sites input j p t k asked =
-    settled (fault p t 0 10 asked.line) j (row opts sites input j p t k asked.line asked.request)
+    settled (fault p t 0 (fault_number run_fault.DestroyBusy) asked.line) j (row opts sites input j p t k asked.line asked.request)
 
 -- whether a fault is among the entries
 abbrev pub is_faulty : List Entry → Bool

@@ -3,10 +3,11 @@ use Rattle.std.specs.Prelude.{◌≡◌, ℕ, ◌==◌, ◌≤◌, ◌<◌, true
 use Rattle.uc_tree.specs.Programs.{Site}
 use Rattle.uc_meaning.specs.declared.entry.Entry.{Entry}
 use Rattle.uc_meaning.specs.declared.entry.Options.{Options}
+use Rattle.uc_meaning.specs.declared.request.Answer.{Answer}
 use Rattle.uc_meaning.specs.declared.request.Answer.TheVariants as answer
 use Rattle.uc_meaning.specs.declared.request.Asked.{Asked}
 use Rattle.uc_meaning.specs.Journal.{Journal, inside, held, is_over}
-use Rattle.uc_meaning.specs.Queues.{waiting, stacked, running, used}
+use Rattle.uc_meaning.specs.Queues.{waiting, stacked, ready, running, used}
 use Rattle.uc_meaning.specs.Known.{has, has_ended, task_count, made, spawns, takes_out}
 use Rattle.uc_meaning.specs.Answers.{answer_to, just_made}
 use Rattle.uc_meaning.specs.Serves.{Serves}
@@ -138,3 +139,17 @@ pub record Makes (j a : List Entry) (t : ℕ) : Type 0 where
 abbrev pub LawMakes : Type 0
 LawMakes =
     (opts : Options) (sites : List Site) (input : List ℕ) (j : Journal) (p t k : ℕ) (asked : Asked) → KernelRuns opts sites input j → MayAsk opts sites j p t k asked.request → is_over (j ++ act opts sites input j p t k asked) ≡ false → Makes j (act opts sites input j p t k asked) t
+
+-- task t has an answer to go on with
+pub record IsAnswered (sites : List Site) (j : Journal) (t : ℕ) : Type 0 where
+  pub answer : Answer
+  pub told : answer_to sites t j ≡ Some answer
+
+-- so has each task that is ready or runs
+pub record Answered (sites : List Site) (j : Journal) : Type 0 where
+  pub ready : (k t : ℕ) → has (ready k j) t ≡ true → IsAnswered sites j t
+  pub running : (p t : ℕ) → running p j ≡ t ∷ [] → IsAnswered sites j t
+
+abbrev pub LawAnswered : Type 0
+LawAnswered =
+    (opts : Options) (sites : List Site) (input : List ℕ) (j : Journal) → KernelRuns opts sites input j → is_over j ≡ false → Answered sites j

@@ -21,7 +21,9 @@ pub mod KernelRuns
 pub mod Laws
 pub mod Samples
 pub mod Runs
+pub mod Cuts
 pub mod Texts
+pub mod Fit
 pub mod Straight
 pub mod RuleNames
 pub mod RulesNames

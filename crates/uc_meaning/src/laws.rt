@@ -1,6 +1,7 @@
 // The laws of runs: each is a function whose contract is the law.
 
-ghost use Rattle.uc_meaning.specs.Laws.{LawInside, LawPlace, LawHeld, LawRoom, LawGoing, LawElsewhere, LawDispatch, LawMade, LawNew, LawMakes};
+ghost use Rattle.uc_meaning.specs.Cuts.{LawCut};
+ghost use Rattle.uc_meaning.specs.Laws.{LawInside, LawPlace, LawHeld, LawRoom, LawGoing, LawElsewhere, LawDispatch, LawMade, LawNew, LawMakes, LawAnswered};
 
 /// At every moment of every run of a kernel at most one task is inside an object; where an accept is open nobody is, and
 /// its acceptor is on top of the stack. At the end of an act without a fault, an object that nobody is inside and where
@@ -55,4 +56,15 @@ pub fn law_new()
 /// is new and just made by its task, and its task was inside what it takes out.
 pub fn law_makes()
     ensures { LawMakes }
+{}
+
+/// While the run of a kernel goes on, each task that is ready or runs has an answer to go on with.
+pub fn law_answered()
+    ensures { LawAnswered }
+{}
+
+/// The journal of a program's run has one cut into acts, where each act's request fits; and from each state a task asks
+/// one thing, after so many ticks.
+pub fn law_cut()
+    ensures { LawCut }
 {}

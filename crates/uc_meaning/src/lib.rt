@@ -4,6 +4,7 @@
 pub mod entry;
 pub mod exec;
 pub mod fault;
+pub mod field;
 pub mod got;
 pub mod laws;
 pub mod list;

@@ -1,0 +1,5 @@
+mod Digits
+mod Numbers
+mod Words
+mod Entries
+mod Journals

@@ -1,0 +1,15 @@
+// The text of journals: written from entries, and read back.
+#![tactic(auto)]
+
+mod fields;
+mod line;
+mod number;
+mod read;
+#[cfg(test)]
+mod tests;
+mod types;
+mod word;
+mod write;
+
+pub use read::{JournalFault, read_journal};
+pub use write::{write_entry, write_journal};

@@ -1,0 +1,93 @@
+// Writes the text of entries.
+
+ghost use Rattle.std.specs.Prelude.{◌≡◌, ◌≤◌, ◌+◌, ◌++◌, IfOk, take, length, [], ◌∷◌};
+ghost use Rattle.std.specs.Fmt.{signed_decimal};
+ghost use Rattle.uc_meaning.specs.Texts as texts;
+ghost use Rattle.uc_meaning.specs.Fit as fit;
+ghost use Rattle.uc_journal.specs.Fields.{all_spaced};
+
+use crate::word::word_of;
+use itoa::Buffer;
+use std::alloc::{AllocError, Global};
+use uc_meaning::entry::Entry;
+
+/// Bytes of a buffer that takes the text of any entry.
+const LINE_BYTES: usize = 256;
+
+/// Writes the text of an entry to the front of the buffer, and answers how many bytes it has.
+pub fn write_entry(e: &Entry, buffer: &mut [u8; 256]) -> usize
+    ensures text { take result buffer.new ≡ texts.line e.now }
+    ensures within { result ≤ 256 }
+{
+    let at = put(buffer, 0, word_of(e.kind));
+    let at = put_numbers(buffer, at, &numbers_of(e));
+    put(buffer, at, b"\n")
+}
+
+/// The text of a journal: that of each entry in order.
+pub fn write_journal(alloc: Global, j: &[Entry]) -> Result<Vec<u8>, AllocError>
+    ensures { IfOk result (λ text. text.items ≡ texts.text j.now) }
+{
+    let mut text = Vec::new(alloc);
+    let mut buffer = [0; LINE_BYTES];
+    for e in j {
+        let length = write_entry(e, &mut buffer);
+        text.extend_from_slice(&buffer[..length])?;
+    }
+    Ok(text)
+}
+
+// The fields of an entry in their order.
+fn numbers_of(e: &Entry) -> [i64; 8]
+    ensures { result ≡ fit.numbers_of e.now }
+{
+    [
+        i64::from(e.proc),
+        i64::from(e.task),
+        i64::from(e.ticks),
+        i64::from(e.object),
+        e.a,
+        e.b,
+        e.c,
+        e.d,
+    ]
+}
+
+// Writes numbers, each behind a space, from a place on, and answers the place behind them.
+fn put_numbers(buffer: &mut [u8; 256], from: usize, numbers: &[i64; 8]) -> usize
+    requires room { from ≤ 80 }
+    ensures text { take result buffer.new ≡ take from buffer.old ++ all_spaced numbers.now }
+    ensures within { result ≤ from + 168 }
+{
+    let mut at = from;
+    for number in numbers {
+        buffer[at] = b' ';
+        at = put_number(buffer, at + 1, *number);
+    }
+    at
+}
+
+// Writes a number from a place on, and answers the place behind it.
+fn put_number(buffer: &mut [u8; 256], from: usize, number: i64) -> usize
+    requires room { from ≤ 236 }
+    ensures text { take result buffer.new ≡ take from buffer.old ++ signed_decimal number }
+    ensures within { result ≤ from + 20 }
+{
+    if 0 <= number && number < 10 {
+        buffer[from] = b'0' + number as u8;
+        return from + 1;
+    }
+    let mut digits = Buffer::new();
+    put(buffer, from, digits.format(number).as_bytes())
+}
+
+// Writes bytes from a place on, and answers the place behind them.
+fn put(buffer: &mut [u8; 256], from: usize, bytes: &[u8]) -> usize
+    requires room { from + length bytes.now ≤ 256 }
+    ensures text { take result buffer.new ≡ take from buffer.old ++ bytes.now }
+    ensures place { result ≡ from + length bytes.now }
+{
+    let end = from + bytes.len();
+    buffer[from..end].copy_from_slice(bytes);
+    end
+}

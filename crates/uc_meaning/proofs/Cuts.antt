@@ -1,0 +1,236 @@
+-- A journal has one cut into acts.
+use Rattle.std.proofs.Common.{◌≡◌, ℕ, suc, ◌==◌, ◌+◌, ◌<◌, ◌≤◌, Bool, true, false, cond, ◌||◌, ◌&&◌, List, [], ◌∷◌, ◌++◌, Option, Some, None, refl, sym, ap, ◌∙◌, subst, arith, length, append_assoc, append-nil, length-append}
+use Rattle.std.specs.Prelude.{pos, nat_le}
+use Rattle.uc_tree.specs.Source.{Source}
+use Rattle.uc_tree.specs.Programs.{Site}
+use Rattle.uc_meaning.specs.declared.entry.Entry.{Entry}
+use Rattle.uc_meaning.specs.declared.entry.EntryKind.{EntryKind}
+use Rattle.uc_meaning.specs.declared.entry.EntryKind.TheVariants as kind
+use Rattle.uc_meaning.specs.declared.entry.Options.{Options}
+use Rattle.uc_meaning.specs.declared.request.Asked.{Asked}
+use Rattle.uc_meaning.specs.declared.request.Request.{Request}
+use Rattle.uc_meaning.specs.declared.request.Request.TheVariants as ask
+use Rattle.uc_meaning.specs.Journal.{Journal, begin, entry, is_over, first_or_0}
+use Rattle.uc_meaning.specs.Queues.{running}
+use Rattle.uc_meaning.specs.Answers.{asks}
+use Rattle.uc_meaning.specs.Doors.{destroys_busy}
+use Rattle.uc_meaning.specs.Acts.{act, row, settled, fault, entries_of, ending, fitted, dispatch, lone_limit}
+use Rattle.uc_meaning.specs.Serves.{left}
+use Rattle.uc_meaning.specs.KernelRuns.{Fits}
+use Rattle.uc_meaning.specs.Quiet.{State, Goes, Ticks, Asks as AsksNow, quiet}
+use Rattle.uc_meaning.specs.Rides.{asked_in, Rides, slices, goes_on as moves_on, ticks as makes_tick, asks as asks_now}
+use Rattle.uc_meaning.specs.Runs.{World, AsksIn, world_after, drawn, first_world}
+use Rattle.uc_meaning.specs.Cuts.{Step, gives, no_room, acts, Cut, ends, goes_on, OneCut, OneRide, LawCut}
+use Rattle.uc_meaning.proofs.Bounds.{over_limit}
+use Rattle.uc_meaning.proofs.Acting.{is_giving, object_of, destroys, IsBy, AllBy, by_act}
+use Rattle.uc_meaning.proofs.Making.{Asks, row_asks}
+
+no_both : (b : Bool) → b ≡ true → b ≡ false → ⊥
+no_both b t f = cc
+
+-- a ride has one outcome
+same_ride : {s u s' u' : State} {q k q' k' : ℕ} {r r' : Asked} → Rides s q u k r → Rides s' q' u' k' r' → s ≡ s' → q ≡ q' → OneRide u u' k k' r r'
+same_ride slices slices e f = record { state = e; ticks = refl; asked = ap (λ v. asked_in v ask.Slice) e }
+same_ride slices (moves_on x y) e f = absurd (cc f)
+same_ride slices (makes_tick x y) e f = absurd (cc f)
+same_ride slices (asks_now x) e f = absurd (cc f)
+same_ride (moves_on a b) slices e f = absurd (cc f)
+same_ride (moves_on {t} a b) (moves_on {t = t'} x y) e f =
+    let h : Goes t ≡ Goes t' = sym a ∙ ap quiet e ∙ x in same_ride b y (cc h) f
+same_ride (moves_on {t} a b) (makes_tick {t = t'} x y) e f = let h : Goes t ≡ Ticks t' = sym a ∙ ap quiet e ∙ x in absurd (cc h)
+same_ride (moves_on {t} a b) (asks_now {t = t'} {r = r'} x) e f = let h : Goes t ≡ AsksNow r' t' = sym a ∙ ap quiet e ∙ x in absurd (cc h)
+same_ride (makes_tick a b) slices e f = absurd (cc f)
+same_ride (makes_tick {t} a b) (moves_on {t = t'} x y) e f = let h : Ticks t ≡ Goes t' = sym a ∙ ap quiet e ∙ x in absurd (cc h)
+same_ride (makes_tick {t} a b) (makes_tick {t = t'} x y) e f =
+    let h : Ticks t ≡ Ticks t' = sym a ∙ ap quiet e ∙ x in
+    let r = same_ride b y (cc h) (cc f) in
+    record { state = r.state; ticks = ap (λ k. suc k) r.ticks; asked = r.asked }
+same_ride (makes_tick {t} a b) (asks_now {t = t'} {r = r'} x) e f = let h : Ticks t ≡ AsksNow r' t' = sym a ∙ ap quiet e ∙ x in absurd (cc h)
+same_ride (asks_now a) slices e f = absurd (cc f)
+same_ride (asks_now {t} {r} a) (moves_on {t = t'} x y) e f = let h : AsksNow r t ≡ Goes t' = sym a ∙ ap quiet e ∙ x in absurd (cc h)
+same_ride (asks_now {t} {r} a) (makes_tick {t = t'} x y) e f = let h : AsksNow r t ≡ Ticks t' = sym a ∙ ap quiet e ∙ x in absurd (cc h)
+same_ride (asks_now {s} {t} {r} a) (asks_now {s = s'} {t = t'} {r = r'} x) e f =
+    let h : AsksNow r t ≡ AsksNow r' t' = sym a ∙ ap quiet e ∙ x in
+    let same : r ≡ r' = cc h in
+    record { state = cc h; ticks = refl; asked = ap (asked_in s) same ∙ ap (λ v. asked_in v r') e }
+
+-- the first entry of an act
+
+abbrev first_of : List Entry → Entry
+first_of [] = lone_limit
+first_of (e ∷ es) = e
+
+abbrev is_limit : EntryKind → Bool
+is_limit kind.Limit = true
+is_limit k = false
+
+-- an act is the lone limit, or it begins with its task's entry
+data Begins (p t : ℕ) (a : List Entry) : Type 0 where
+  limited : a ≡ entry kind.Limit p t 0 0 (pos 0) (pos 0) ∷ [] → Begins p t a
+  begins : (e : Entry) (rest : List Entry) → a ≡ e ∷ rest → e.proc ≡ p → is_giving e.kind ≡ false → is_limit e.kind ≡ false → Begins p t a
+
+not_limit : (t : ℕ) (k : EntryKind) (e : Entry) → asks t k e ≡ true → is_limit k ≡ false
+not_limit t kind.Limit e h = cc
+not_limit t k e h = refl
+
+module _ (opts : Options) (sites : List Site) (input : List ℕ) (j : Journal) (p t n : ℕ) (asked : Asked) (f : Fits opts sites j t asked.request) where
+  rows : List Entry
+  rows = row opts sites input j p t n asked.line asked.request
+
+  -- the entries of a row that is cut
+  starts : (b : Bool) (e : Entry) (rest : List Entry) → row opts sites input j p t n asked.line asked.request ≡ e ∷ rest → asks t e.kind e ≡ true → destroys_busy j e.kind e ≡ b → (z : List Entry) → (x : Entry) × (y : List Entry) × (settled (fault p t 0 10 asked.line) j (row opts sites input j p t n asked.line asked.request) ++ z ≡ x ∷ y) × (is_limit x.kind ≡ false)
+  starts true e rest h k d z =
+      (fault p t e.ticks 10 asked.line, z, ap (λ l. settled (fault p t 0 10 asked.line) j l ++ z) h ∙ ap (λ b. cond b (fault p t e.ticks 10 asked.line ∷ []) (e ∷ settled (fault p t 0 10 asked.line) (j ++ e ∷ []) rest) ++ z) d, refl)
+  starts false e rest h k d z =
+      (e, settled (fault p t 0 10 asked.line) (j ++ e ∷ []) rest ++ z, ap (λ l. settled (fault p t 0 10 asked.line) j l ++ z) h ∙ ap (λ b. cond b (fault p t e.ticks 10 asked.line ∷ []) (e ∷ settled (fault p t 0 10 asked.line) (j ++ e ∷ []) rest) ++ z) d, not_limit t e.kind e k)
+
+  fitted_begins : (a : List Entry) → (x : Entry) × (y : List Entry) × (a ≡ x ∷ y) × (is_limit x.kind ≡ false) → AllBy p t (object_of t j asked.request) (Unit {0}) (destroys asked.request) (fitted opts j p t a) → Begins p t (fitted opts j p t a)
+  fitted_begins a x b = by (nat_le (length j + length a + 1) opts.entries) b
+    where
+      by : (c : Bool) → AllBy p t (object_of t j asked.request) (Unit {0}) (destroys asked.request) (cond c a (entry kind.Limit p t 0 0 (pos 0) (pos 0) ∷ [])) → Begins p t (cond c a (entry kind.Limit p t 0 0 (pos 0) (pos 0) ∷ []))
+      by false b = limited refl
+      by true b =
+          let h : AllBy p t (object_of t j asked.request) (Unit {0}) (destroys asked.request) (x.0 ∷ x.1) = subst (AllBy p t (object_of t j asked.request) (Unit {0}) (destroys asked.request)) x.2 b in
+          begins x.0 x.1 x.2 h.0.proc h.0.acts x.3
+
+  act_begins : Begins p t (act opts sites input j p t n asked)
+  act_begins =
+      let r = row_asks opts sites input j p t n asked.line asked.request f in
+      let a = entries_of opts sites input j p t n asked in
+      fitted_begins (a ++ ending opts j p t a) (starts (destroys_busy j r.first.kind r.first) r.first r.rest r.is r.asks refl (ending opts j p t a)) (by_act opts sites input j p t n (Unit {0}) asked (λ h. tt))
+
+proc_of : (p t : ℕ) (a x : List Entry) → Begins p t a → (first_of (a ++ x)).proc ≡ p
+proc_of p t a x (limited h) = ap (λ l. (first_of (l ++ x)).proc) h
+proc_of p t a x (begins e rest h k g n) = ap (λ l. (first_of (l ++ x)).proc) h ∙ k
+
+gives_not : (p t : ℕ) (a x : List Entry) → Begins p t a → is_giving (first_of (a ++ x)).kind ≡ false
+gives_not p t a x (limited h) = ap (λ l. is_giving (first_of (l ++ x)).kind) h
+gives_not p t a x (begins e rest h k g n) = ap (λ l. is_giving (first_of (l ++ x)).kind) h ∙ g
+
+some_entry : (p t : ℕ) (a : List Entry) → Begins p t a → 0 < length a
+some_entry p t a (limited h) = let l : length a ≡ 1 = ap length h in omega arith
+some_entry p t a (begins e rest h k g n) = let l : length a ≡ suc (length rest) = ap length h in omega (arith, l)
+
+-- an act that begins with the lone limit is it
+limit_alone : (p t : ℕ) (a x y : List Entry) → Begins p t a → (lone_limit ∷ []) ++ x ≡ a ++ y → lone_limit ∷ [] ≡ a
+limit_alone p t a x y (limited h) e =
+    let first : lone_limit ≡ entry kind.Limit p t 0 0 (pos 0) (pos 0) = ap first_of (e ∙ ap (λ l. l ++ y) h) in
+    ap (λ l. l ∷ []) first ∙ sym h
+limit_alone p t a x y (begins z rest h k g n) e =
+    let first : lone_limit ≡ z = ap first_of (e ∙ ap (λ l. l ++ y) h) in
+    absurd (no_both (is_limit z.kind) (ap (λ l. is_limit l.kind) (sym first)) n)
+
+cancel : (j x y : List Entry) → j ++ x ≡ j ++ y → x ≡ y
+cancel [] x y e = e
+cancel (i ∷ j) x y e = cancel j x y (cc e)
+
+longer : (j a x : List Entry) → j ≡ (j ++ a) ++ x → 0 < length a → ⊥
+longer j a x h lt =
+    let l = ap length h in
+    let m = length-append (j ++ a) x in
+    let n = length-append j a in
+    absurd (omega (arith, l, m, n, lt))
+
+joined : (j a b x y k : List Entry) → k ≡ (j ++ a) ++ x → k ≡ (j ++ b) ++ y → a ++ x ≡ b ++ y
+joined j a b x y k h g = cancel j (a ++ x) (b ++ y) (sym (append_assoc j a x) ∙ sym h ∙ g ∙ append_assoc j b y)
+
+-- two acts that begin alike are one, and while the run goes on they leave one world
+record Same (j a b : List Entry) (v x : World) : Type 0 where
+  entries : a ≡ b
+  world : is_over (j ++ a) ≡ false → v ≡ x
+
+module _ {source : Source} {input : List ℕ} {opts : Options} {j : Journal} {w : World} where
+  step_some : {a : List Entry} {v : World} → Step source input opts j w a v → 0 < length a
+  step_some (gives p t s m) = omega arith
+  step_some (no_room p t s m) = omega arith
+  step_some (acts p t n s asked d f) = some_entry p t (act opts source.sites input j p t n asked) (act_begins opts source.sites input j p t n asked f)
+
+  same_step : {a b : List Entry} {v x : World} → Step source input opts j w a v → Step source input opts j w b x → (y z : List Entry) → a ++ y ≡ b ++ z → Same j a b v x
+  same_step (gives p t s m) (gives p' t' s' m') y z e =
+      let q : p ≡ p' = ap (λ l. (first_of l).proc) e in
+      let u : t ≡ t' = ap (λ l. (first_of l).task) e in
+      record { entries = ap (λ v. dispatch v t ∷ []) q ∙ ap (λ v. dispatch p' v ∷ []) u; world = λ o. refl }
+  same_step (gives p t s m) (no_room p' t' s' m') y z e =
+      absurd (no_both (is_giving (first_of ((dispatch p t ∷ []) ++ y)).kind) refl (ap (λ l. is_giving (first_of l).kind) e))
+  same_step (no_room p t s m) (gives p' t' s' m') y z e =
+      absurd (no_both (is_giving (first_of ((dispatch p' t' ∷ []) ++ z)).kind) refl (ap (λ l. is_giving (first_of l).kind) (sym e)))
+  same_step (gives p t s m) (acts p' t' n' s' asked' d' f') y z e =
+      let b = act opts source.sites input j p' t' n' asked' in
+      absurd (no_both (is_giving (first_of (b ++ z)).kind) (ap (λ l. is_giving (first_of l).kind) (sym e)) (gives_not p' t' b z (act_begins opts source.sites input j p' t' n' asked' f')))
+  same_step (acts p t n s asked d f) (gives p' t' s' m') y z e =
+      let a = act opts source.sites input j p t n asked in
+      absurd (no_both (is_giving (first_of (a ++ y)).kind) (ap (λ l. is_giving (first_of l).kind) e) (gives_not p t a y (act_begins opts source.sites input j p t n asked f)))
+  same_step (no_room p t s m) (no_room p' t' s' m') y z e = record { entries = refl; world = λ o. refl }
+  same_step (no_room p t s m) (acts p' t' n' s' asked' d' f') y z e =
+      let b = act opts source.sites input j p' t' n' asked' in
+      record {
+        entries = limit_alone p' t' b y z (act_begins opts source.sites input j p' t' n' asked' f') e;
+        world = λ o. absurd (no_both (is_over (j ++ lone_limit ∷ [])) (over_limit j 0 0) o);
+      }
+  same_step (acts p t n s asked d f) (no_room p' t' s' m') y z e =
+      let a = act opts source.sites input j p t n asked in
+      let same : lone_limit ∷ [] ≡ a = limit_alone p t a z y (act_begins opts source.sites input j p t n asked f) (sym e) in
+      record {
+        entries = sym same;
+        world = λ o. absurd (no_both (is_over (j ++ a)) (ap (λ l. is_over (j ++ l)) (sym same) ∙ over_limit j 0 0) o);
+      }
+  same_step (acts p t n s asked d f) (acts p' t' n' s' asked' d' f') y z e =
+      let a = act opts source.sites input j p t n asked in
+      let a' = act opts source.sites input j p' t' n' asked' in
+      let q : p ≡ p' = sym (proc_of p t a y (act_begins opts source.sites input j p t n asked f)) ∙ ap (λ l. (first_of l).proc) e ∙ proc_of p' t' a' z (act_begins opts source.sites input j p' t' n' asked' f') in
+      let u : t ≡ t' = ap first_or_0 (sym d.runs ∙ ap (λ z. running z j) q ∙ d'.runs) in
+      let ride = same_ride d.rides d'.rides (ap (drawn j w) u) (ap (left opts j) u) in
+      let same : a ≡ a' = ap (λ z. act opts source.sites input j z t n asked) q ∙ ap (λ z. act opts source.sites input j p' z n asked) u ∙ ap (λ z. act opts source.sites input j p' t' z asked) ride.ticks ∙ ap (λ z. act opts source.sites input j p' t' n' z) ride.asked in
+      record {
+        entries = same;
+        world = λ o. ap (λ z. world_after z w t s asked.request) same ∙ ap (λ z. world_after a' w z s asked.request) u ∙ ap (λ z. world_after a' w t' z asked.request) ride.state ∙ ap (λ z. world_after a' w t' s' z.request) ride.asked;
+      }
+
+-- how a cut begins
+data View (source : Source) (input : List ℕ) (opts : Options) (j : Journal) (w : World) (parts : List (List Entry)) (k : Journal) (u : World) : Type 0 where
+  is_done : parts ≡ [] → k ≡ j → u ≡ w → View source input opts j w parts k u
+  is_more : (a : List Entry) (x : World) (rest : List (List Entry)) → parts ≡ a ∷ rest → is_over j ≡ false → Step source input opts j w a x → Cut source input opts (j ++ a) x rest k u → View source input opts j w parts k u
+
+module _ {source : Source} {input : List ℕ} {opts : Options} where
+  view : {j : Journal} {w : World} {parts : List (List Entry)} {k : Journal} {u : World} → Cut source input opts j w parts k u → View source input opts j w parts k u
+  view ends = is_done refl refl refl
+  view (goes_on o s c) = is_more _ _ _ refl o s c
+
+  rest_of : {j : Journal} {w : World} {parts : List (List Entry)} {k : Journal} {u : World} → Cut source input opts j w parts k u → (x : List Entry) × (k ≡ j ++ x)
+  rest_of {j} ends = ([], sym (append-nil j))
+  rest_of {j} (goes_on {a} o s c) = let r = rest_of c in (a ++ r.0, r.1 ∙ append_assoc j a r.0)
+
+  -- after an ending nothing follows
+  no_more : {j : Journal} {w : World} {parts : List (List Entry)} {k : Journal} {u : World} → is_over j ≡ true → Cut source input opts j w parts k u → (parts ≡ []) × (k ≡ j)
+  no_more {j} h ends = (refl, refl)
+  no_more {j} h (goes_on o s c) = absurd (no_both (is_over j) h o)
+
+  one_cut : {j : Journal} {w : World} {parts others : List (List Entry)} {k : Journal} {u v : World} → Cut source input opts j w parts k u → View source input opts j w others k v → OneCut parts others k u v
+  one_cut ends (is_done a b c) = record { acts = sym a; world = λ o. sym c }
+  one_cut {j} ends (is_more a x rest e o s c) = let r = rest_of c in absurd (longer j a r.0 r.1 (step_some s))
+  one_cut {j} (goes_on {a} o s c) (is_done e f g) =
+      let r = rest_of c in absurd (longer j a r.0 (sym f ∙ r.1) (step_some s))
+  one_cut {j} {others = others} {k} {u} {v} (goes_on {a} {x} {rest} o s c) (is_more b y rest' e o' s' c') =
+      let r = rest_of c in
+      let r' = rest_of c' in
+      let same = same_step s s' r.0 r'.0 (joined j a b r.0 r'.0 k r.1 r'.1) in
+      by (λ d. one_cut c d) (is_over (j ++ a)) refl same
+    where
+      by : (View source input opts (j ++ a) x rest' k v → OneCut rest rest' k u v) → (d : Bool) → is_over (j ++ a) ≡ d → Same j a b x y → OneCut (a ∷ rest) others k u v
+      by ih true d same =
+          let h = no_more d c in
+          let h' = no_more (ap (λ l. is_over (j ++ l)) (sym same.entries) ∙ d) c' in
+          record {
+            acts = ap (λ l. a ∷ l) (h.0 ∙ sym h'.0) ∙ ap (λ l. l ∷ rest') same.entries ∙ sym e;
+            world = λ g. absurd (no_both (is_over k) (ap is_over h.1 ∙ d) g);
+          }
+      by ih false d same =
+          let moved : Cut source input opts (j ++ a) y rest' k v = subst (λ l. Cut source input opts (j ++ l) y rest' k v) (sym same.entries) c' in
+          let h = ih (view (subst (λ z. Cut source input opts (j ++ a) z rest' k v) (sym (same.world d)) moved)) in
+          record { acts = ap (λ l. a ∷ l) h.acts ∙ ap (λ l. l ∷ rest') same.entries ∙ sym e; world = h.world }
+
+pub law_cut : LawCut
+law_cut = record {
+  cut = λ source input opts parts others k u v c d. one_cut c (view d);
+  ride = λ s t u q m n a b r x. same_ride r x refl refl;
+}
