@@ -69,16 +69,16 @@ drawn_again j a w u r x m h e k =
     let w' = world_after a w 0 u r in
     ap (λ os. with_hand (hand_of os w') (w'.tasks 0).state) h ∙ ap (λ o. with_hand ((0, w'.objects 0) ∷ []) (asking r o (with_hand [] u)).state) e ∙ back_in_hand x u ((0, w'.objects 0) ∷ []) ∙ ap (λ hs. answered x (with_hand ((0, or_else (find 0 hs) (w.objects 0)) ∷ []) u)) k ∙ ap (λ hs. answered x (with_hand hs u)) (sym k)
 
-module _ {source : Source} {input : List ℕ} {n : ℕ} {j : Journal} {s u : State} {asked : Asked} (g : Going source input n j s) (r : Rides s 1000 u 0 asked) where
+module _ {source : Source} {input : List ℕ} {n : ℕ} {j : Journal} {s u : State} {asked : Asked} (g : Going source input n j s) (r : Rides source s 1000 u 0 asked) where
   inside_here : inside_of s ≡ 0 ∷ []
   inside_here = ap inside_of (sym g.is_drawn) ∙ keys_of (held 0 j) g.world ∙ g.facts.inside
 
   hand_then : (m : Members) × (u.env.hand ≡ (0, m) ∷ [])
   hand_then = one_of u.env.hand (ride_keeps r ∙ inside_here)
 
-  rides : Rides (drawn j g.world 0) (left (alone_options n) j 0) u 0 asked
+  rides : Rides source (drawn j g.world 0) (left (alone_options n) j 0) u 0 asked
   rides =
-      subst (λ q. Rides (drawn j g.world 0) q u 0 asked) (sym (ap (λ k. 1000 - k) g.facts.ticks)) (subst (λ t. Rides t 1000 u 0 asked) (sym g.is_drawn) r)
+      subst (λ q. Rides source (drawn j g.world 0) q u 0 asked) (sym (ap (λ k. 1000 - k) g.facts.ticks)) (subst (λ t. Rides source t 1000 u 0 asked) (sym g.is_drawn) r)
 
   one_act : (a : List Entry) → Acts n input j asked a → Runs source input (alone_options n) (j ++ a) (world_after a g.world 0 u asked.request)
   one_act a e =

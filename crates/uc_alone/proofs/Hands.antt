@@ -9,10 +9,10 @@ use Rattle.uc_meaning.specs.declared.exec.Owner.{Owner}
 use Rattle.uc_meaning.specs.declared.exec.Owner.TheVariants.{Frame, Fields}
 use Rattle.uc_meaning.specs.declared.request.Asked.{Asked}
 use Rattle.uc_meaning.specs.declared.request.Piece.{Piece}
-use Rattle.uc_tree.specs.Source.{Shape, Expr, Literal, Variable, Element, Load, Negated, Not, AsCharacter, AsTruth, Operate, And, Or, Assign, Update, StepBehind, Fail, Stmt, Skip, Block, Evaluate, Declare, Print, PrintTogether, Read, Nil, Then}
+use Rattle.uc_tree.specs.Source.{Shape, Expr, Literal, Variable, Element, Load, Negated, Not, AsCharacter, AsTruth, Operate, And, Or, Assign, Update, StepBehind, Fail, Stmt, Skip, Block, Evaluate, Declare, Print, PrintTogether, Read, Nil, Then, Source}
 use Rattle.uc_meaning.specs.Executions.{update, set_members, members_at, change_in, change, with_owned, exec_eq, values_cleared}
 use Rattle.uc_meaning.specs.Quiet as q
-use Rattle.uc_meaning.specs.Quiet.{State, Env, Members, Todo, Step, Goes, Ticks, Asks, Outcome, Gives, Faults, Eval, LoadNow, ElementNow, NegateNow, NotNow, CharacterNow, TruthNow, OperateNow, CopyNow, CopyBelowNow, DropNow, DropBelowNow, StoreNow, KeepNow, Choose, PrintNow, TextNow, GatherNow, FlushNow, ReadNow, ClearNow, Items, Values, Pieces, Targets, Variables, Do, Rest, Within, Finish, Value, Number, Place, Running, Nothing, quiet, act_todo, act, eval_step, stmt_step, outcome_step, element_step, print_step, flush_step, written, cleared, outcome, int_outcome, index_in, number, top, below}
+use Rattle.uc_meaning.specs.Quiet.{Active, State, Env, Members, Todo, Step, Goes, Ticks, Asks, Outcome, Gives, Faults, Eval, LoadNow, ElementNow, NegateNow, NotNow, CharacterNow, TruthNow, OperateNow, CopyNow, CopyBelowNow, DropNow, DropBelowNow, StoreNow, KeepNow, Choose, PrintNow, TextNow, GatherNow, FlushNow, ReadNow, ClearNow, Items, Values, Pieces, Targets, Variables, Do, Rest, Within, Finish, Value, Number, Place, Running, Nothing, quiet, act_todo, act, eval_step, stmt_step, outcome_step, element_step, print_step, flush_step, return_step, written, cleared, outcome, int_outcome, index_in, number, top, below}
 use Rattle.uc_meaning.specs.Rides.{Rides, slices, goes_on, ticks, asks}
 
 -- the numbers of the objects in hand
@@ -69,95 +69,102 @@ Keeps ks (Goes s) = inside_of s ≡ ks
 Keeps ks (Ticks s) = inside_of s ≡ ks
 Keeps ks (Asks r s) = inside_of s ≡ ks
 
-outcome_keeps : (o : Outcome) (todo : List Todo) (vs : List Value) (e : Env) → Keeps (keys e.hand) (outcome_step o todo vs e)
-outcome_keeps (Gives n) todo vs e = refl
-outcome_keeps (Faults n) todo vs e = refl
+outcome_keeps : (o : Outcome) (todo : List Todo) (vs : List Value) (s : State) → Keeps (inside_of s) (outcome_step o todo vs s)
+outcome_keeps (Gives n) todo vs s = refl
+outcome_keeps (Faults n) todo vs s = refl
 
-element_keeps : (s : Shape) (i : Option ℕ) (todo : List Todo) (v : Value) (vs : List Value) (e : Env) → Keeps (keys e.hand) (element_step s i todo v vs e)
-element_keeps s None todo v vs e = refl
-element_keeps s (Some i) todo v vs e = refl
+element_keeps : (k : Shape) (i : Option ℕ) (todo : List Todo) (v : Value) (vs : List Value) (s : State) → Keeps (inside_of s) (element_step k i todo v vs s)
+element_keeps k None todo v vs s = refl
+element_keeps k (Some i) todo v vs s = refl
 
-print_keeps : (g : Option (List Piece)) (p : Piece) (todo : List Todo) (vs : List Value) (e : Env) → Keeps (keys e.hand) (print_step g p todo vs e)
-print_keeps None p todo vs e = refl
-print_keeps (Some ps) p todo vs e = refl
+print_keeps : (g : Option (List Piece)) (p : Piece) (todo : List Todo) (vs : List Value) (s : State) → Keeps (inside_of s) (print_step g p todo vs s)
+print_keeps None p todo vs s = refl
+print_keeps (Some ps) p todo vs s = refl
 
-flush_keeps : (g : Option (List Piece)) (todo : List Todo) (vs : List Value) (e : Env) → Keeps (keys e.hand) (flush_step g todo vs e)
-flush_keeps None todo vs e = refl
-flush_keeps (Some ps) todo vs e = refl
+flush_keeps : (g : Option (List Piece)) (todo : List Todo) (vs : List Value) (s : State) → Keeps (inside_of s) (flush_step g todo vs s)
+flush_keeps None todo vs s = refl
+flush_keeps (Some ps) todo vs s = refl
 
-eval_keeps : (a : Expr) (todo : List Todo) (vs : List Value) (e : Env) → Keeps (keys e.hand) (eval_step a todo vs e)
-eval_keeps (Literal n) todo vs e = refl
-eval_keeps (Variable k) todo vs e = refl
-eval_keeps (Element n s a i) todo vs e = refl
-eval_keeps (Load a) todo vs e = refl
-eval_keeps (Negated a) todo vs e = refl
-eval_keeps (Not a) todo vs e = refl
-eval_keeps (AsCharacter a) todo vs e = refl
-eval_keeps (AsTruth a) todo vs e = refl
-eval_keeps (Operate op a b) todo vs e = refl
-eval_keeps (And a b) todo vs e = refl
-eval_keeps (Or a b) todo vs e = refl
-eval_keeps (Assign p a) todo vs e = refl
-eval_keeps (Update op s p a) todo vs e = refl
-eval_keeps (StepBehind op s p) todo vs e = refl
-eval_keeps Fail todo vs e = refl
+return_keeps : (cs : List Active) (s : State) → Keeps (inside_of s) (return_step None cs s)
+return_keeps [] s = refl
+return_keeps (c ∷ cs) s = refl
 
-stmt_keeps : (s : Stmt) (todo : List Todo) (vs : List Value) (e : Env) → Keeps (keys e.hand) (stmt_step s todo vs e)
-stmt_keeps (Skip line) todo vs e = refl
-stmt_keeps (Block line body) todo vs e = refl
-stmt_keeps (Evaluate line a) todo vs e = refl
-stmt_keeps (Declare line ds) todo vs e = refl
-stmt_keeps (Print line items) todo vs e = refl
-stmt_keeps (PrintTogether line items) todo vs e = refl
-stmt_keeps (Read line ts) todo vs e = refl
+eval_keeps : (a : Expr) (todo : List Todo) (s : State) → Keeps (inside_of s) (eval_step a todo s)
+eval_keeps (Literal n) todo s = refl
+eval_keeps (Variable k) todo s = refl
+eval_keeps (Element n k a i) todo s = refl
+eval_keeps (Load a) todo s = refl
+eval_keeps (Negated a) todo s = refl
+eval_keeps (Not a) todo s = refl
+eval_keeps (AsCharacter a) todo s = refl
+eval_keeps (AsTruth a) todo s = refl
+eval_keeps (Operate op a b) todo s = refl
+eval_keeps (And a b) todo s = refl
+eval_keeps (Or a b) todo s = refl
+eval_keeps (Assign p a) todo s = refl
+eval_keeps (Update op k p a) todo s = refl
+eval_keeps (StepBehind op k p) todo s = refl
+eval_keeps Fail todo s = refl
 
-act_keeps : (t : Todo) (todo : List Todo) (vs : List Value) (e : Env) → Keeps (keys e.hand) (act t todo vs e)
-act_keeps (Eval a) todo vs e = eval_keeps a todo vs e
-act_keeps LoadNow todo vs e = refl
-act_keeps (ElementNow n s) todo vs e = element_keeps s (index_in n (number (top vs))) todo (top (below vs)) (below (below vs)) e
-act_keeps NegateNow todo vs e = outcome_keeps _ todo (below vs) e
-act_keeps NotNow todo vs e = refl
-act_keeps CharacterNow todo vs e = refl
-act_keeps TruthNow todo vs e = refl
-act_keeps (OperateNow op) todo vs e = outcome_keeps (outcome op (number (top (below vs))) (number (top vs))) todo (below (below vs)) e
-act_keeps CopyNow todo vs e = refl
-act_keeps CopyBelowNow todo vs e = refl
-act_keeps DropNow todo vs e = refl
-act_keeps DropBelowNow todo vs e = refl
-act_keeps StoreNow todo vs e = written_keys (top (below vs)) (top vs) e
-act_keeps KeepNow todo vs e = written_keys (top (below vs)) (top vs) e
-act_keeps (Choose a b) todo vs e = refl
-act_keeps (PrintNow form) todo vs e = print_keeps e.gathered _ todo (below vs) e
-act_keeps (TextNow k) todo vs e = print_keeps e.gathered _ todo vs e
-act_keeps GatherNow todo vs e = refl
-act_keeps FlushNow todo vs e = flush_keeps e.gathered todo vs e
-act_keeps (ReadNow form) todo vs e = refl
-act_keeps (ClearNow k n) todo vs e = owned_keys (q.this_frame e) (values_cleared k n q.nought) e
-act_keeps (Items []) todo vs e = refl
-act_keeps (Items (i ∷ is)) todo vs e = refl
-act_keeps (Values []) todo vs e = refl
-act_keeps (Values (i ∷ is)) todo vs e = refl
-act_keeps (Pieces []) todo vs e = refl
-act_keeps (Pieces (i ∷ is)) todo vs e = refl
-act_keeps (Targets []) todo vs e = refl
-act_keeps (Targets (t ∷ ts)) todo vs e = refl
-act_keeps (Variables []) todo vs e = refl
-act_keeps (Variables (d ∷ ds)) todo vs e = refl
-act_keeps (Do s) todo vs e = stmt_keeps s todo vs e
-act_keeps (Rest Nil) todo vs e = refl
-act_keeps (Rest (Then s ss)) todo vs e = refl
-act_keeps (Within line) todo vs e = refl
-act_keeps Finish todo vs e = refl
+stmt_keeps : (a : Stmt) (todo : List Todo) (s : State) → Keeps (inside_of s) (stmt_step a todo s)
+stmt_keeps (Skip line) todo s = refl
+stmt_keeps (Block line body) todo s = refl
+stmt_keeps (Evaluate line a) todo s = refl
+stmt_keeps (Declare line ds) todo s = refl
+stmt_keeps (Print line items) todo s = refl
+stmt_keeps (PrintTogether line items) todo s = refl
+stmt_keeps (Read line ts) todo s = refl
 
-todo_keeps : (ts : List Todo) (vs : List Value) (e : Env) → Keeps (keys e.hand) (act_todo ts vs e)
-todo_keeps [] vs e = refl
-todo_keeps (t ∷ ts) vs e = act_keeps t ts vs e
+module _ (source : Source) where
+  act_keeps : (t : Todo) (todo : List Todo) (s : State) → Keeps (inside_of s) (act source t todo s)
+  act_keeps (Eval a) todo s = eval_keeps a todo s
+  act_keeps LoadNow todo s = refl
+  act_keeps (ElementNow n k) todo s =
+      element_keeps k (index_in n (number (top s.run.operands))) todo (top (below s.run.operands)) (below (below s.run.operands)) s
+  act_keeps NegateNow todo s = outcome_keeps _ todo (below s.run.operands) s
+  act_keeps NotNow todo s = refl
+  act_keeps CharacterNow todo s = refl
+  act_keeps TruthNow todo s = refl
+  act_keeps (OperateNow op) todo s =
+      outcome_keeps (outcome op (number (top (below s.run.operands))) (number (top s.run.operands))) todo (below (below s.run.operands)) s
+  act_keeps CopyNow todo s = refl
+  act_keeps CopyBelowNow todo s = refl
+  act_keeps DropNow todo s = refl
+  act_keeps DropBelowNow todo s = refl
+  act_keeps StoreNow todo s = written_keys (top (below s.run.operands)) (top s.run.operands) s.env
+  act_keeps KeepNow todo s = written_keys (top (below s.run.operands)) (top s.run.operands) s.env
+  act_keeps (Choose a b) todo s = refl
+  act_keeps (PrintNow form) todo s = print_keeps s.env.gathered _ todo (below s.run.operands) s
+  act_keeps (TextNow k) todo s = print_keeps s.env.gathered _ todo s.run.operands s
+  act_keeps GatherNow todo s = refl
+  act_keeps FlushNow todo s = flush_keeps s.env.gathered todo s.run.operands s
+  act_keeps (ReadNow form) todo s = refl
+  act_keeps (ClearNow k n) todo s = owned_keys (q.this_frame s) (values_cleared k n q.nought) s.env
+  act_keeps (Items []) todo s = refl
+  act_keeps (Items (i ∷ is)) todo s = refl
+  act_keeps (Values []) todo s = refl
+  act_keeps (Values (i ∷ is)) todo s = refl
+  act_keeps (Pieces []) todo s = refl
+  act_keeps (Pieces (i ∷ is)) todo s = refl
+  act_keeps (Targets []) todo s = refl
+  act_keeps (Targets (t ∷ ts)) todo s = refl
+  act_keeps (Variables []) todo s = refl
+  act_keeps (Variables (d ∷ ds)) todo s = refl
+  act_keeps (Do a) todo s = stmt_keeps a todo s
+  act_keeps (Rest Nil) todo s = refl
+  act_keeps (Rest (Then a rest)) todo s = refl
+  act_keeps (Within line) todo s = refl
+  act_keeps Finish todo s = return_keeps s.callers s
 
-pub quiet_keeps : (s : State) → Keeps (inside_of s) (quiet s)
-quiet_keeps s = todo_keeps s.control s.operands s.env
+  todo_keeps : (ts : List Todo) (s : State) → Keeps (inside_of s) (act_todo source ts s)
+  todo_keeps [] s = return_keeps s.callers s
+  todo_keeps (t ∷ ts) s = act_keeps t ts s
 
-pub ride_keeps : {s u : State} {n k : ℕ} {a : Asked} → Rides s n u k a → inside_of u ≡ inside_of s
+  quiet_keeps : (s : State) → Keeps (inside_of s) (quiet source s)
+  quiet_keeps s = todo_keeps s.run.control s
+
+pub ride_keeps : {source : Source} {s u : State} {n k : ℕ} {a : Asked} → Rides source s n u k a → inside_of u ≡ inside_of s
 ride_keeps slices = refl
-ride_keeps {s} (goes_on {t = t} e r) = ride_keeps r ∙ subst (Keeps (inside_of s)) e (quiet_keeps s)
-ride_keeps {s} (ticks {t = t} e r) = ride_keeps r ∙ subst (Keeps (inside_of s)) e (quiet_keeps s)
-ride_keeps {s} (asks e) = subst (Keeps (inside_of s)) e (quiet_keeps s)
+ride_keeps {source} {s} (goes_on {t = t} e r) = ride_keeps r ∙ subst (Keeps (inside_of s)) e (quiet_keeps source s)
+ride_keeps {source} {s} (ticks {t = t} e r) = ride_keeps r ∙ subst (Keeps (inside_of s)) e (quiet_keeps source s)
+ride_keeps {source} {s} (asks e) = subst (Keeps (inside_of s)) e (quiet_keeps source s)

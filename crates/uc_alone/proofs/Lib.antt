@@ -3,7 +3,6 @@ pub mod Facts
 pub mod Hands
 pub mod Going
 pub mod Acts
-pub mod Moves
 pub mod Rode
 pub mod Started
 pub mod Requests

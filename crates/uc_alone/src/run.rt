@@ -2,7 +2,8 @@
 
 ghost use Rattle.std.specs.Prelude.{◌≡◌, ◌≤◌, false, IfOk, MatchOption, Some, None, length};
 ghost use Rattle.uc_tree.specs.declared.limits.TheConstants.{ENTRIES_MIN, INPUT_BYTES};
-ghost use Rattle.uc_code.specs.Forward.{IsForward};
+ghost use Rattle.uc_code.specs.Pace.{IsPaced};
+ghost use Rattle.uc_code.specs.Laid.{laid_of};
 ghost use Rattle.uc_tree.specs.Source.{Source};
 ghost use Rattle.uc_code.specs.Lowered.{Lowered};
 ghost use Rattle.uc_frames.specs.Stands.{Stands};
@@ -35,7 +36,7 @@ pub fn run_alone(
 ) -> Result<Vec<Entry>, AllocError>
     requires room { ENTRIES_MIN ≤ entries }
     requires small { length input.now ≤ INPUT_BYTES }
-    requires forward { IsForward code.now.ops }
+    requires paced { IsPaced code.now.ops }
     ensures run { IfOk result (λ journal. (source : Source) → Lowered source code.now → source.main ≡ main → HasMain source → IsRunOf source input.now entries journal.items) }
 {
     let mut journal = Vec::new(alloc);
@@ -52,7 +53,7 @@ pub fn run_alone(
 
 // The task at the start of its main, inside its own object.
 fn begin_inside(alloc: Global, code: &Code, main: u32) -> Result<Option<Work>, AllocError>
-    ensures { IfOk result (λ task. (source : Source) → Lowered source code.now → source.main ≡ main → HasMain source → MatchOption task ⊥ (λ w. Stands code.now.ops w (start source))) }
+    ensures { IfOk result (λ task. (source : Source) → Lowered source code.now → source.main ≡ main → HasMain source → MatchOption task ⊥ (λ w. Stands (laid_of code.now) w (start source))) }
 {
     match begin(alloc, code, main, 0)? {
         None => Ok(None),
@@ -83,9 +84,9 @@ fn go_on(
     journal: Vec<Entry>,
 ) -> Result<Vec<Entry>, AllocError>
     requires small { length input.now ≤ INPUT_BYTES }
-    requires forward { IsForward code.now.ops }
+    requires paced { IsPaced code.now.ops }
     requires reads { ReadsOf journal.items (record { used = 0; failed = false }) }
-    ensures { IfOk result (λ all. (source : Source) (s : State) → Going source input.now entries journal.items s → Stands code.now.ops work s → IsRunOf source input.now entries all.items) }
+    ensures { IfOk result (λ all. (source : Source) (s : State) → Lowered source code.now → Going source input.now entries journal.items s → Stands (laid_of code.now) work s → IsRunOf source input.now entries all.items) }
 {
     let mut work = work;
     let mut journal = journal;

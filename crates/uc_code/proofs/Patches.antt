@@ -1,12 +1,10 @@
 -- What appending and patching do to the ops.
-use Rattle.std.proofs.Common.{◌≡◌, ◌≢◌, ℕ, zero, suc, ◌+◌, ◌≤◌, ◌<◌, List, [], ◌∷◌, ◌++◌, length, take, get_or, Some, refl, ap, sym, ◌∙◌, arith, length-append}
+use Rattle.std.proofs.Common.{◌≡◌, ◌≢◌, ℕ, zero, suc, ◌≤◌, ◌<◌, List, [], ◌∷◌, ◌++◌, length, get_or, Some, refl, ap, sym, ◌∙◌, arith, length-append}
 use Rattle.std.specs.Prelude.{slice_get, slice_set}
 use Rattle.uc_code.specs.declared.op.Op.{Op}
 use Rattle.uc_code.specs.declared.rows.Instruction.{Instruction}
-use Rattle.uc_code.specs.Drafts.{ops_with, patched, aimed, target_of}
-use Rattle.uc_code.specs.declared.draft_parts.OpenJump.{OpenJump}
-use Rattle.uc_code.specs.declared.op.Op.TheVariants.{Jump}
-use Rattle.std.proofs.lemmas.List.{take_more}
+use Rattle.uc_code.specs.Drafts.{ops_with, patched}
+use Rattle.uc_code.specs.Laid.{Laid}
 use Rattle.uc_code.specs.Ranges.{OpAt, One, Same, Kept}
 
 get_front : (xs ys : List Instruction) (i : ℕ) (x : Instruction) → slice_get xs i ≡ Some x → slice_get (xs ++ ys) i ≡ Some x
@@ -19,16 +17,17 @@ get_seam [] ys x = refl
 get_seam (y ∷ xs) ys x = get_seam xs ys x
 
 -- one more op: all others stay, and it stands at the end
-pub kept_with : (ops : List Instruction) (op : Op) (line : ℕ) → Kept ops (ops_with ops op line)
-kept_with ops op line = record {
-  longer = omega (arith, length-append ops (record { op = op; line = line } ∷ []));
-  same = λ i x l o. record { here = get_front ops (record { op = op; line = line } ∷ []) i (record { op = x; line = l }) o.here };
+pub kept_with : (code : Laid) (op : Op) (line : ℕ) → Kept code (record code { ops = ops_with code.ops op line })
+kept_with code op line = record {
+  longer = omega (arith, length-append code.ops (record { op = op; line = line } ∷ []));
+  same = λ i x l o. record { here = get_front code.ops (record { op = op; line = line } ∷ []) i (record { op = x; line = l }) o.here };
+  chains = λ next h. refl;
 }
 
-pub one_with : (ops : List Instruction) (op : Op) (line : ℕ) → One (ops_with ops op line) op line (length ops) (length (ops_with ops op line))
-one_with ops op line = record {
-  here = record { here = get_seam ops [] (record { op = op; line = line }) };
-  end = omega (arith, length-append ops (record { op = op; line = line } ∷ []));
+pub one_with : (code : Laid) (op : Op) (line : ℕ) → One (record code { ops = ops_with code.ops op line }) op line (length code.ops) (length (ops_with code.ops op line))
+one_with code op line = record {
+  here = record { here = get_seam code.ops [] (record { op = op; line = line }) };
+  end = omega (arith, length-append code.ops (record { op = op; line = line } ∷ []));
 }
 
 pub length-patched : (ops : List Instruction) (at : ℕ) (op : Op) → length (patched ops at op) ≡ length ops
@@ -51,17 +50,22 @@ get_unpatched (i ∷ is) (suc at) op zero h = refl
 get_unpatched (i ∷ is) (suc at) op (suc j) h = get_unpatched is at op j (λ e. h (ap suc e))
 
 -- the patched op, on the line that it had
-pub patched_at : (ops : List Instruction) (at : ℕ) (op was : Op) (line : ℕ) → OpAt ops at was line → OpAt (patched ops at op) at op line
-patched_at ops at op was line o = record { here = get_patched ops at op was line o.here }
+pub patched_at : (code : Laid) (at : ℕ) (op was : Op) (line : ℕ) → OpAt code at was line → OpAt (record code { ops = patched code.ops at op }) at op line
+patched_at code at op was line o = record { here = get_patched code.ops at op was line o.here }
 
--- ranges that do not hold the patched op stay
-pub same_before : (ops : List Instruction) (at : ℕ) (op : Op) (a z : ℕ) → z ≤ at → Same ops (patched ops at op) a z
-same_before ops at op a z h = record { same = λ i x l p q o. record { here = get_unpatched ops at op i (λ e. absurd (omega arith)) ∙ o.here } }
+-- pieces before and behind a patched op stay
+pub same_before : (code : Laid) (at : ℕ) (op : Op) (a z : ℕ) → z ≤ at → Same code (record code { ops = patched code.ops at op }) a z
+same_before code at op a z h = record {
+  same = λ i x l m n o. record { here = get_unpatched code.ops at op i (λ e. absurd (omega arith)) ∙ o.here };
+  chains = λ next m n. refl;
+}
 
-pub same_after : (ops : List Instruction) (at : ℕ) (op : Op) (a z : ℕ) → at < a → Same ops (patched ops at op) a z
-same_after ops at op a z h = record { same = λ i x l p q o. record { here = get_unpatched ops at op i (λ e. absurd (omega arith)) ∙ o.here } }
+pub same_after : (code : Laid) (at : ℕ) (op : Op) (a z : ℕ) → at < a → Same code (record code { ops = patched code.ops at op }) a z
+same_after code at op a z h = record {
+  same = λ i x l m n o. record { here = get_unpatched code.ops at op i (λ e. absurd (omega arith)) ∙ o.here };
+  chains = λ next m n. refl;
+}
 
--- a patch is a write to the list
 pub patched_set : (ops : List Instruction) (at : ℕ) (op : Op) (d : Instruction) → at < length ops → slice_set ops at (record { op = op; line = (get_or ops at d).line }) ≡ patched ops at op
 patched_set [] at op d h = refl
 patched_set (i ∷ is) zero op d h = refl
@@ -72,29 +76,9 @@ patched_past [] at op h = refl
 patched_past (i ∷ is) zero op h = absurd (omega arith)
 patched_past (i ∷ is) (suc at) op h = ap (λ l. i ∷ l) (patched_past is at op (omega arith))
 
-aimed_append : (js ks : List OpenJump) (behind again : ℕ) (ops : List Instruction) → aimed (js ++ ks) behind again ops ≡ aimed ks behind again (aimed js behind again ops)
-aimed_append [] ks behind again ops = refl
-aimed_append (j ∷ js) ks behind again ops = aimed_append js ks behind again (patched ops j.at (Jump (target_of j.exit behind again)))
-
--- one more jump
-pub aimed_more : (jumps : List OpenJump) (i : ℕ) (d : OpenJump) (behind again : ℕ) (ops : List Instruction) → i < length jumps → aimed (take (i + 1) jumps) behind again ops ≡ patched (aimed (take i jumps) behind again ops) (get_or jumps i d).at (Jump (target_of (get_or jumps i d).exit behind again))
-aimed_more jumps i d behind again ops h =
-    ap (λ l. aimed l behind again ops) (take_more jumps i d h) ∙ aimed_append (take i jumps) (get_or jumps i d ∷ []) behind again ops
-
-pub length-aimed : (jumps : List OpenJump) (behind again : ℕ) (ops : List Instruction) → length (aimed jumps behind again ops) ≡ length ops
-length-aimed [] behind again ops = refl
-length-aimed (j ∷ js) behind again ops =
-    length-aimed js behind again (patched ops j.at (Jump (target_of j.exit behind again))) ∙ length-patched ops j.at (Jump (target_of j.exit behind again))
-
 pub patched_then : (ops : List Instruction) (at n : ℕ) (op : Op) (i : Instruction) → n ≡ length ops → at < n → i ≡ get_or ops at i → slice_set ops at (record { op = op; line = i.line }) ≡ patched ops at op
 patched_then ops at n op i e h is =
     ap (λ (j : Instruction). slice_set ops at (record { op = op; line = j.line })) is ∙ patched_set ops at op i (omega arith)
 
 pub patched_else : (ops : List Instruction) (at n : ℕ) (op : Op) → n ≡ length ops → n ≤ at → ops ≡ patched ops at op
 patched_else ops at n op e h = sym (patched_past ops at op (omega arith))
-
-pub aim_step : (jumps : List OpenJump) (i : ℕ) (d : OpenJump) (behind again target : ℕ) (ops before after : List Instruction) → i < length jumps → before ≡ aimed (take i jumps) behind again ops → target ≡ target_of (get_or jumps i d).exit behind again → after ≡ patched before (get_or jumps i d).at (Jump target) → after ≡ aimed (take (i + 1) jumps) behind again ops
-aim_step jumps i d behind again target ops before after h e t a =
-    a ∙ ap (λ l. patched l (get_or jumps i d).at (Jump target)) e
-    ∙ ap (λ n. patched (aimed (take i jumps) behind again ops) (get_or jumps i d).at (Jump n)) t
-    ∙ sym (aimed_more jumps i d behind again ops h)

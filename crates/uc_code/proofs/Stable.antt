@@ -1,41 +1,52 @@
 -- The code of a piece goes on standing where its own range does not change.
-use Rattle.std.proofs.Common.{ℕ, ◌+◌, ◌≤◌, List, arith}
+use Rattle.std.proofs.Common.{ℕ, ◌+◌, ◌≤◌, length, arith, refl, ◌∙◌}
 use Rattle.uc_code.specs.declared.op.Op.{Op}
-use Rattle.uc_code.specs.declared.op.Op.TheVariants.{Jump, IfZero, IfNonzero, Tick}
-use Rattle.uc_code.specs.declared.rows.Instruction.{Instruction}
-use Rattle.uc_code.specs.Ranges.{Nothing, One, Both, Behind, When, Unless, Fork, Turn, Leads, Arrived, Jumped, Same, Kept, Stable}
+use Rattle.uc_code.specs.declared.op.Op.TheVariants.{Jump, IfZero, IfNonzero}
+use Rattle.uc_code.specs.Laid.{Laid}
+use Rattle.uc_code.specs.Ranges.{Nothing, One, Both, Behind, When, Unless, Fork, Leads, Arrived, Jumped, Same, Kept, Stable}
 
-pub part : (old new : List Instruction) (a z b y : ℕ) → a ≤ b → y ≤ z → Same old new a z → Same old new b y
-part old new a z b y h k s = record { same = λ i op line l m o. s.same i op line (omega arith) (omega arith) o }
+pub part : (old new : Laid) (a z b y : ℕ) → a ≤ b → y ≤ z → Same old new a z → Same old new b y
+part old new a z b y h k s = record {
+  same = λ i op line l m o. s.same i op line (omega arith) (omega arith) o;
+  chains = λ next l m. s.chains next (omega arith) (omega arith);
+}
 
-pub same_then : (b c d : List Instruction) (a z : ℕ) → Same b c a z → Same c d a z → Same b d a z
-same_then b c d a z s t = record { same = λ i op line l m o. t.same i op line l m (s.same i op line l m o) }
+pub same_then : (b c d : Laid) (a z : ℕ) → Same b c a z → Same c d a z → Same b d a z
+same_then b c d a z s t = record {
+  same = λ i op line l m o. t.same i op line l m (s.same i op line l m o);
+  chains = λ next l m. t.chains next l m ∙ s.chains next l m;
+}
 
-pub kept_same : (old new : List Instruction) (a z : ℕ) → Kept old new → Same old new a z
-kept_same old new a z k = record { same = λ i op line l m o. k.same i op line o }
+-- a range that is laid out stays
+pub kept_same : (old new : Laid) (a z : ℕ) → z ≤ length old.ops → Kept old new → Same old new a z
+kept_same old new a z b k = record { same = λ i op line l m o. k.same i op line o; chains = λ next l m. k.chains next (omega arith) }
 
-pub kept_refl : (ops : List Instruction) → Kept ops ops
-kept_refl ops = record { longer = omega arith; same = λ i op line h. h }
+pub kept_refl : (code : Laid) → Kept code code
+kept_refl code = record { longer = omega arith; same = λ i op line h. h; chains = λ next h. refl }
 
-pub kept_then : (a b c : List Instruction) → Kept a b → Kept b c → Kept a c
-kept_then a b c h k = record { longer = let l = h.longer in let m = k.longer in omega arith; same = λ i op line o. k.same i op line (h.same i op line o) }
+pub kept_then : (a b c : Laid) → Kept a b → Kept b c → Kept a c
+kept_then a b c h k = record {
+  longer = let l = h.longer in let m = k.longer in omega arith;
+  same = λ i op line o. k.same i op line (h.same i op line o);
+  chains = λ next l. let m = h.longer in k.chains next (omega arith) ∙ h.chains next l;
+}
 
-pub nothing_stable : Stable (λ ops. Nothing)
+pub nothing_stable : Stable (λ code. Nothing)
 nothing_stable = record {
-  rises = λ ops a z h. let e = h.end in omega arith;
+  rises = λ code a z h. let e = h.end in omega arith;
   moves = λ old new a z s h. record { end = h.end };
 }
 
-pub one_stable : (op : Op) (line : ℕ) → Stable (λ ops. One ops op line)
+pub one_stable : (op : Op) (line : ℕ) → Stable (λ code. One code op line)
 one_stable op line = record {
-  rises = λ ops a z h. let e = h.end in omega arith;
+  rises = λ code a z h. let e = h.end in omega arith;
   moves = λ old new a z s h. let e = h.end in record { here = s.same a op line (omega arith) (omega arith) h.here; end = h.end };
 }
 
-module _ (B : List Instruction → ℕ → ℕ → Type 0) (b : Stable B) where
-  pub when_stable : (line : ℕ) → Stable (λ ops. When ops line (B ops))
+module _ (B : Laid → ℕ → ℕ → Type 0) (b : Stable B) where
+  pub when_stable : (line : ℕ) → Stable (λ code. When code line (B code))
   when_stable line = record {
-    rises = λ ops a z h. let l = b.rises ops (a + 1) z h.body in omega arith;
+    rises = λ code a z h. let l = b.rises code (a + 1) z h.body in omega arith;
     moves = λ old new a z s h.
         let l = b.rises old (a + 1) z h.body in
         record {
@@ -44,9 +55,9 @@ module _ (B : List Instruction → ℕ → ℕ → Type 0) (b : Stable B) where
         };
   }
 
-  pub unless_stable : (line : ℕ) → Stable (λ ops. Unless ops line (B ops))
+  pub unless_stable : (line : ℕ) → Stable (λ code. Unless code line (B code))
   unless_stable line = record {
-    rises = λ ops a z h. let l = b.rises ops (a + 1) z h.body in omega arith;
+    rises = λ code a z h. let l = b.rises code (a + 1) z h.body in omega arith;
     moves = λ old new a z s h.
         let l = b.rises old (a + 1) z h.body in
         record {
@@ -55,10 +66,10 @@ module _ (B : List Instruction → ℕ → ℕ → Type 0) (b : Stable B) where
         };
   }
 
-  module _ (C : List Instruction → ℕ → ℕ → Type 0) (c : Stable C) where
-    pub both_stable : Stable (λ ops. Both (B ops) (C ops))
+  module _ (C : Laid → ℕ → ℕ → Type 0) (c : Stable C) where
+    pub both_stable : Stable (λ code. Both (B code) (C code))
     both_stable = record {
-      rises = λ ops a z h. let l = b.rises ops a h.middle h.first in let k = c.rises ops h.middle z h.second in omega arith;
+      rises = λ code a z h. let l = b.rises code a h.middle h.first in let k = c.rises code h.middle z h.second in omega arith;
       moves = λ old new a z s h.
           let l = b.rises old a h.middle h.first in
           let k = c.rises old h.middle z h.second in
@@ -69,9 +80,9 @@ module _ (B : List Instruction → ℕ → ℕ → Type 0) (b : Stable B) where
           };
     }
 
-    pub fork_stable : (line : ℕ) → Stable (λ ops. Fork ops line (B ops) (C ops))
+    pub fork_stable : (line : ℕ) → Stable (λ code. Fork code line (B code) (C code))
     fork_stable line = record {
-      rises = λ ops a z h. let l = b.rises ops (a + 1) h.middle h.first in let k = c.rises ops (h.middle + 1) z h.second in omega arith;
+      rises = λ code a z h. let l = b.rises code (a + 1) h.middle h.first in let k = c.rises code (h.middle + 1) z h.second in omega arith;
       moves = λ old new a z s h.
           let l = b.rises old (a + 1) h.middle h.first in
           let k = c.rises old (h.middle + 1) z h.second in
@@ -84,38 +95,18 @@ module _ (B : List Instruction → ℕ → ℕ → Type 0) (b : Stable B) where
           };
     }
 
-    -- B is the test and C the body
-    pub turn_stable : (line : ℕ) → Stable (λ ops. Turn ops line (B ops) (C ops))
-    turn_stable line = record {
-      rises = λ ops a z h. let l = c.rises ops (a + 2) h.test_at h.body in let k = b.rises ops h.test_at h.back_at h.test in let e = h.end in omega arith;
-      moves = λ old new a z s h.
-          let l = c.rises old (a + 2) h.test_at h.body in
-          let k = b.rises old h.test_at h.back_at h.test in
-          let e = h.end in
-          record {
-            test_at = h.test_at;
-            back_at = h.back_at;
-            begin = s.same a (Jump h.test_at) line (omega arith) (omega arith) h.begin;
-            tick = s.same (a + 1) Tick line (omega arith) (omega arith) h.tick;
-            body = c.moves old new (a + 2) h.test_at (part old new a z (a + 2) h.test_at (omega arith) (omega arith) s) h.body;
-            test = b.moves old new h.test_at h.back_at (part old new a z h.test_at h.back_at (omega arith) (omega arith) s) h.test;
-            back = s.same h.back_at (IfNonzero (a + 1)) line (omega arith) (omega arith) h.back;
-            end = h.end;
-          };
-    }
-
-pub behind_stable : (B : List Instruction → ℕ → ℕ → Type 0) → Stable B → (op : Op) (line : ℕ) → Stable (λ ops. Behind ops (B ops) op line)
-behind_stable B b op line = both_stable B b (λ ops. One ops op line) (one_stable op line)
+pub behind_stable : (B : Laid → ℕ → ℕ → Type 0) → Stable B → (op : Op) (line : ℕ) → Stable (λ code. Behind code (B code) op line)
+behind_stable B b op line = both_stable B b (λ code. One code op line) (one_stable op line)
 
 -- appending keeps a piece
-pub kept_piece : (B : List Instruction → ℕ → ℕ → Type 0) → Stable B → (old new : List Instruction) (a z : ℕ) → Kept old new → B old a z → B new a z
-kept_piece B b old new a z k h = b.moves old new a z (kept_same old new a z k) h
+pub kept_piece : (B : Laid → ℕ → ℕ → Type 0) → Stable B → (old new : Laid) (a z : ℕ) → z ≤ length old.ops → Kept old new → B old a z → B new a z
+kept_piece B b old new a z l k h = b.moves old new a z (kept_same old new a z l k) h
 
 -- jumps lead on
-pub leads_then : (ops : List Instruction) (a b c : ℕ) → Leads ops a b → Leads ops b c → Leads ops a c
-leads_then ops a _ c (Arrived _) k = k
-leads_then ops a b c (Jumped _ d _ line o h) k = Jumped a d c line o (leads_then ops d b c h k)
+pub leads_then : (code : Laid) (a b c : ℕ) → Leads code a b → Leads code b c → Leads code a c
+leads_then code a _ c (Arrived _) k = k
+leads_then code a b c (Jumped _ d _ line o h) k = Jumped a d c line o (leads_then code d b c h k)
 
-pub leads_kept : (old new : List Instruction) (a z : ℕ) → Kept old new → Leads old a z → Leads new a z
+pub leads_kept : (old new : Laid) (a z : ℕ) → Kept old new → Leads old a z → Leads new a z
 leads_kept old new a _ k (Arrived _) = Arrived a
 leads_kept old new a z k (Jumped _ b _ line o h) = Jumped a b z line (k.same a (Jump b) line o) (leads_kept old new b z k h)

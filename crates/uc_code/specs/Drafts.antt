@@ -2,27 +2,25 @@
 use Rattle.std.specs.Prelude.{◌≡◌, ◌≢◌, ◌<◌, ℕ, zero, suc, List, [], ◌∷◌, ◌++◌, Some, slice_get}
 use Rattle.uc_tree.specs.declared.kinds.Place.{Place}
 use Rattle.uc_code.specs.declared.op.Op.{Op}
-use Rattle.uc_code.specs.declared.op.Op.TheVariants.{Jump}
-use Rattle.uc_code.specs.declared.draft_parts.Exit.{Exit}
-use Rattle.uc_code.specs.declared.draft_parts.Exit.TheVariants.{Break, Continue}
 use Rattle.uc_tree.specs.declared.kinds.Known.{Known}
-use Rattle.uc_code.specs.declared.draft_parts.OpenJump.{OpenJump}
 use Rattle.uc_code.specs.declared.rows.HandlerRow.{HandlerRow}
 use Rattle.uc_code.specs.declared.rows.Instruction.{Instruction}
+use Rattle.uc_code.specs.declared.rows.Mark.{Mark}
 use Rattle.uc_code.specs.declared.rows.RoutineCode.{RoutineCode}
 
--- the ops so far, the rows so far, the jumps that are not patched yet, the place at which lowering stands, how many
--- scopes the routine has had so far, the names in scope from the outermost on, how many cells the routine has so far,
--- how many text literals stand before this place, and what is known of each routine
+-- the ops so far, the rows so far, the place at which lowering stands, what stands around it in the routine, the
+-- innermost first, how many scopes the routine has had so far, the names in scope from the outermost on, how many cells the routine has so far, how many text literals and accept
+-- statements of the program stand before this place, and what is known of each routine
 pub record Draft : Type 0 where
   pub ops : List Instruction
   pub rows : List HandlerRow
-  pub jumps : List OpenJump
   pub place : Place
+  pub marks : List Mark
   pub scopes : ℕ
   pub names : List Known
   pub cells : ℕ
   pub texts : ℕ
+  pub sites : ℕ
   pub routines : List RoutineCode
 
 -- one more op
@@ -34,16 +32,6 @@ abbrev pub patched : List Instruction → ℕ → Op → List Instruction
 patched [] at op = []
 patched (i ∷ is) zero op = record { op = op; line = i.line } ∷ is
 patched (i ∷ is) (suc at) op = i ∷ patched is at op
-
--- where an exit of a loop leads to
-abbrev pub target_of : Exit → ℕ → ℕ → ℕ
-target_of Break behind again = behind
-target_of Continue behind again = again
-
--- the ops with these jumps patched
-abbrev pub aimed : List OpenJump → ℕ → ℕ → List Instruction → List Instruction
-aimed [] behind again ops = ops
-aimed (j ∷ js) behind again ops = aimed js behind again (patched ops j.at (Jump (target_of j.exit behind again)))
 
 -- a declaration of a name behind which no other declares it
 pub record IsInnermost (names : List Known) (name : List ℕ) (known : Known) : Type 0 where

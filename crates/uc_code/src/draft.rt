@@ -1,41 +1,42 @@
 // The draft in which lowering writes code.
 
-ghost use Rattle.std.specs.Prelude.{◌≡◌, ◌+◌, ◌<◌, ◌≤◌, [], ◌∷◌, ◌++◌, length, take, drop, slice_set, slice_get, MatchOption, OnOk};
+ghost use Rattle.std.specs.Prelude.{◌≡◌, ◌+◌, ◌<◌, ◌≤◌, [], ◌∷◌, ◌++◌, length, take, drop, slice_set, slice_get, MatchOption, OnOk, OnErr};
 ghost use Rattle.uc_tree.specs.declared.limits.TheConstants.{FRAME_CELLS, PROGRAM_OPS, PROGRAM_SIZE};
-ghost use Rattle.uc_code.specs.Drafts.{ops_with, patched, target_of, aimed, IsInnermost, IsUnknown};
+ghost use Rattle.uc_code.specs.Drafts.{ops_with, patched, IsInnermost, IsUnknown};
 
 use crate::code::Code;
-use crate::draft_parts::{Exit, OpenJump, Outside};
+use crate::draft_parts::Outside;
 use crate::op::Op;
-use crate::rows::{HandlerRow, Instruction, RoutineCode};
+use crate::rows::{HandlerRow, Instruction, Mark, RoutineCode};
 use std::alloc::{AllocError, Global};
 use std::marker::Model;
 use uc_tree::kinds::{Known, Place, Ty};
 use uc_tree::name::{Name, Text};
 use uc_tree::site::Site;
 
-/// Code while it is written. It holds at most `PROGRAM_OPS` ops. After want of memory it is spent.
+/// Code while it is written. It holds at most `PROGRAM_OPS` ops. A call that wants memory in vain changes nothing.
 #[derive(Drop)]
 pub struct Draft {
     ops: Vec<Instruction>,
     rows: Vec<HandlerRow>,
-    jumps: Vec<OpenJump>,
     place: Place,
+    marks: Vec<Mark>,
     scopes: u32,
     names: Vec<Known>,
     cells: u32,
     texts: u32,
+    sites: u32,
     routines: Vec<RoutineCode>,
 }
 
 impl Model for Draft {
     ghost use Rattle.uc_code.specs.Drafts.{Draft};
-    ghost use Rattle.std.specs.Prelude.{◌≤◌, length};
+    ghost use Rattle.std.specs.Prelude.{◌≤◌, length, reverse};
     ghost use Rattle.uc_tree.specs.declared.limits.TheConstants.{PROGRAM_OPS};
 
     ghost Value = { Draft };
 
-    ghost view = { λ d. record { ops = d.ops.items; rows = d.rows.items; jumps = d.jumps.items; place = d.place; scopes = d.scopes; names = d.names.items; cells = d.cells; texts = d.texts; routines = d.routines.items } };
+    ghost view = { λ d. record { ops = d.ops.items; rows = d.rows.items; place = d.place; marks = reverse d.marks.items; scopes = d.scopes; names = d.names.items; cells = d.cells; texts = d.texts; sites = d.sites; routines = d.routines.items } };
 
     ghost invariant = { λ d. length d.ops.items ≤ PROGRAM_OPS };
 }
@@ -43,21 +44,22 @@ impl Model for Draft {
 impl Draft {
     /// No op, no row and no name. `routines` is the code of each routine, as far as it is known.
     pub fn new(alloc: Global, routines: Vec<RoutineCode>) -> Draft
-        ensures { result ≡ record { ops = []; rows = []; jumps = []; place = record { class = 0; routine = 0; scope = 0 }; scopes = 0; names = []; cells = 0; texts = 0; routines = routines.items } }
+        ensures { result ≡ record { ops = []; rows = []; place = record { class = 0; routine = 0; scope = 0 }; marks = []; scopes = 0; names = []; cells = 0; texts = 0; sites = 0; routines = routines.items } }
     {
         Draft {
             ops: Vec::new(alloc),
             rows: Vec::new(alloc),
-            jumps: Vec::new(alloc),
             place: Place {
                 class: 0,
                 routine: 0,
                 scope: 0,
             },
+            marks: Vec::new(alloc),
             scopes: 0,
             names: Vec::new(alloc),
             cells: 0,
             texts: 0,
+            sites: 0,
             routines,
         }
     }
@@ -73,7 +75,8 @@ impl Draft {
     /// One more op, which comes from this line.
     pub fn emit(&mut self, op: Op, line: u32) -> Result<(), AllocError>
         requires { length self.old.ops < PROGRAM_OPS }
-        ensures { OnOk result (self.new ≡ record self.old { ops = ops_with self.old.ops op line }) }
+        ensures ok { OnOk result (self.new ≡ record self.old { ops = ops_with self.old.ops op line }) }
+        ensures err { OnErr result (self.new ≡ self.old) }
     {
         self.ops.push(Instruction { op, line })?;
         Ok(())
@@ -111,7 +114,8 @@ impl Draft {
 
     /// One more row.
     pub fn add_row(&mut self, row: HandlerRow) -> Result<(), AllocError>
-        ensures { OnOk result (self.new ≡ record self.old { rows = self.old.rows ++ row ∷ [] }) }
+        ensures ok { OnOk result (self.new ≡ record self.old { rows = self.old.rows ++ row ∷ [] }) }
+        ensures err { OnErr result (self.new ≡ self.old) }
     {
         self.rows.push(row)?;
         Ok(())
@@ -125,37 +129,6 @@ impl Draft {
         self.rows[number] = row;
     }
 
-    /// How many jumps are open.
-    pub fn jump_count(&self) -> usize
-        ensures { result ≡ length self.now.jumps }
-    {
-        self.jumps.len()
-    }
-
-    /// A jump that is patched at the end of its loop. It is the next op.
-    pub fn leave_loop(&mut self, exit: Exit, line: u32) -> Result<(), AllocError>
-        requires { length self.old.ops < PROGRAM_OPS }
-        ensures { OnOk result (self.new ≡ record self.old { ops = ops_with self.old.ops (Op.Jump 0) line; jumps = self.old.jumps ++ record { at = length self.old.ops; exit = exit } ∷ [] }) }
-    {
-        let at = self.here();
-        self.jumps.push(OpenJump { at, exit })?;
-        self.ops.push(Instruction {
-            op: Op::Jump(0),
-            line,
-        })?;
-        Ok(())
-    }
-
-    /// Patches the open jumps but the first ones, of which there were `count` before the loop: a `break` goes on at the
-    /// op `behind`, a `continue` at `again`. They are then no longer open.
-    pub fn close_loop(&mut self, count: usize, behind: u32, again: u32)
-        requires { count ≤ length self.old.jumps }
-        ensures { self.new ≡ record self.old { ops = aimed (drop count self.old.jumps) behind again self.old.ops; jumps = take count self.old.jumps } }
-    {
-        aim(&mut self.ops, &self.jumps[count..], behind, again);
-        self.jumps.truncate(count);
-    }
-
     /// Where lowering stands.
     pub fn place(&self) -> Place
         ensures { result ≡ self.now.place }
@@ -163,19 +136,38 @@ impl Draft {
         self.place
     }
 
-    /// Begins a routine of a class, behind so many text literals: no name is in scope, and it has no cell yet.
-    pub fn begin_routine(&mut self, class: u32, routine: u32, texts: u32)
-        ensures { self.new ≡ record self.old { place = record { class = class; routine = routine; scope = 0 }; scopes = 0; names = []; cells = 0; texts = texts } }
+    /// Begins a routine of a class, behind so many text literals and accept statements: nothing stands around it, no name
+    /// is in scope, and it has no cell yet.
+    pub fn begin_routine(&mut self, class: u32, routine: u32, texts: u32, sites: u32)
+        ensures { self.new ≡ record self.old { place = record { class = class; routine = routine; scope = 0 }; marks = []; scopes = 0; names = []; cells = 0; texts = texts; sites = sites } }
     {
         self.place = Place {
             class,
             routine,
             scope: 0,
         };
+        self.marks.clear();
         self.scopes = 0;
         self.names.clear();
         self.cells = 0;
         self.texts = texts;
+        self.sites = sites;
+    }
+
+    /// What is lowered from now on stands in this.
+    pub fn enter(&mut self, mark: Mark) -> Result<(), AllocError>
+        ensures ok { OnOk result (self.new ≡ record self.old { marks = mark ∷ self.old.marks }) }
+        ensures err { OnErr result (self.new ≡ self.old) }
+    {
+        self.marks.push(mark)?;
+        Ok(())
+    }
+
+    /// What is lowered from now on stands behind the innermost mark.
+    pub fn leave(&mut self)
+        ensures { self.new ≡ record self.old { marks = drop 1 self.old.marks } }
+    {
+        let _ = self.marks.pop();
     }
 
     /// Writes down where the code of a routine begins, and the cells of its frame.
@@ -234,10 +226,29 @@ impl Draft {
         number
     }
 
+    /// How many accept statements stand before this place in the program.
+    pub fn sites(&self) -> u32
+        ensures { result ≡ self.now.sites }
+    {
+        self.sites
+    }
+
+    /// One more accept statement. Its number is how many there were before.
+    pub fn add_site(&mut self) -> u32
+        requires { self.old.sites < PROGRAM_SIZE }
+        ensures number { result ≡ self.old.sites }
+        ensures counted { self.new ≡ record self.old { sites = self.old.sites + 1 } }
+    {
+        let number = self.sites;
+        self.sites += 1;
+        number
+    }
+
     /// One more name in scope, whose variable takes the next cells, so many.
     pub fn declare(&mut self, name: Name, ty: Ty, cells: u32) -> Result<(), AllocError>
         requires { self.old.cells + cells ≤ FRAME_CELLS }
-        ensures { OnOk result (self.new ≡ record self.old { names = self.old.names ++ record { name = name; ty = ty; cell = self.old.cells } ∷ []; cells = self.old.cells + cells }) }
+        ensures ok { OnOk result (self.new ≡ record self.old { names = self.old.names ++ record { name = name; ty = ty; cell = self.old.cells } ∷ []; cells = self.old.cells + cells }) }
+        ensures err { OnErr result (self.new ≡ self.old) }
     {
         let cell = self.cells;
         self.names.push(Known { name, ty, cell })?;
@@ -275,26 +286,6 @@ fn patch_op(ops: &mut Vec<Instruction>, at: u32, op: Op)
     if at < ops.len() {
         let line = ops[at].line;
         ops[at] = Instruction { op, line };
-    }
-}
-
-// Patches jumps.
-fn aim(ops: &mut Vec<Instruction>, jumps: &[OpenJump], behind: u32, again: u32)
-    ensures { ops.new.items ≡ aimed jumps.now behind again ops.old.items }
-{
-    for jump in jumps {
-        let target = target(jump.exit, behind, again);
-        patch_op(ops, jump.at, Op::Jump(target));
-    }
-}
-
-// Where an exit of a loop leads to.
-fn target(exit: Exit, behind: u32, again: u32) -> u32
-    ensures { result ≡ target_of exit behind again }
-{
-    match exit {
-        Exit::Break => behind,
-        Exit::Continue => again,
     }
 }
 

@@ -49,6 +49,14 @@ pub struct HandlerRow {
     pub entry: u32,
 }
 
+/// What stands around a statement in its routine: a loop, with the ops to which `break` and `continue` jump; or a guarded
+/// block, whose handlers are so many rows, from this number on.
+#[derive(Clone, Copy, PartialEq, Eq, Debug)]
+pub enum Mark {
+    Loop { leave: u32, again: u32 },
+    Guard { first: u32, count: u32 },
+}
+
 /// Where the code of a routine begins, and the cells of its frame.
 #[derive(Clone, Copy, PartialEq, Eq, Debug)]
 pub struct RoutineCode {

@@ -3,12 +3,12 @@ use Rattle.std.proofs.Common.{◌≡◌, ℕ, List, Option, Some, None, sym, ap,
 use Rattle.std.specs.Prelude.{slice_set}
 use Rattle.uc_meaning.specs.Executions.{Execution, find, joined, update, frames_by, frames_changed}
 use Rattle.uc_frames.specs.declared.cell.Cell.{Cell}
-use Rattle.uc_frames.specs.Machine.{Control, Members}
+use Rattle.uc_frames.specs.Machine.{Members}
 use Rattle.uc_frames.specs.Numbered.{IsAt}
 use Rattle.uc_frames.proofs.Positions.{set_is, set_same, joined_is}
 
 abbrev Slot : Type 0
-Slot = Option (Execution Control Cell)
+Slot = Option (Execution ℕ Cell)
 
 with_parked : (m : Members) (ps qs : List (ℕ × Slot)) → ps ≡ qs → (let r : Members = record m { parked = ps } in r) ≡ record m { parked = qs }
 with_parked m ps qs e = ap (λ (l : List (ℕ × Slot)). let r : Members = record m { parked = l } in r) e
@@ -25,7 +25,7 @@ module _ (k : ℕ) (m : Members) where
     frames_none g q =
         with_parked m _ _ (set_same m.parked i p e h.within) ∙ sym (ap (λ x. frames_by k g x m) (joined_there ∙ q))
 
-    pub frames_there : (g : List (List Cell) → List (List Cell)) (x y : Execution Control Cell) → p.1 ≡ Some x → y ≡ record x { frames = g x.frames } → (let r : Members = record m { parked = slice_set m.parked i (p.0, Some y) } in r) ≡ frames_changed k g m
+    pub frames_there : (g : List (List Cell) → List (List Cell)) (x y : Execution ℕ Cell) → p.1 ≡ Some x → y ≡ record x { frames = g x.frames } → (let r : Members = record m { parked = slice_set m.parked i (p.0, Some y) } in r) ≡ frames_changed k g m
     frames_there g x y q s = slot_there (Some y) (Some (record x { frames = g x.frames })) (ap Some s) ∙ sym (ap (λ z. frames_by k g z m) (joined_there ∙ q))
 
   pub frames_absent : (g : List (List Cell) → List (List Cell)) → find k m.parked ≡ None → m ≡ frames_changed k g m

@@ -1,4 +1,6 @@
+pub mod Left
 pub mod Machine
 pub mod Numbered
 pub mod Parts
 pub mod Stands
+pub mod Weight

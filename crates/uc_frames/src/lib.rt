@@ -1,6 +1,7 @@
 // The cells of tasks: stacks of frames, and what is at home in tasks and mutex objects.
 #![tactic(auto)]
 
+pub mod active;
 pub mod cell;
 mod frames;
 pub mod links;

@@ -7,13 +7,14 @@ use std::alloc::Global;
 use std::marker::Model;
 use uc_meaning::exec::{Exec, Pending, Stage};
 
-/// Who resumed an execution first and last, how far it is, its enabled and pending events, and its counts.
+/// Who resumed an execution first and last, whether its coroutine is live, how far its main is, who destroys it, its enabled and pending events, and its counts.
 #[derive(Drop)]
 pub struct Links {
     starter: Option<Exec>,
     resumer: Option<Exec>,
+    live: bool,
     stage: Stage,
-    unwinding: bool,
+    destroyer: Option<Exec>,
     enabled: u64,
     pending: Vec<Pending>,
     calls: u32,
@@ -26,7 +27,7 @@ impl Model for Links {
 
     ghost Value = { Links };
 
-    ghost view = { λ l. record { starter = l.starter; resumer = l.resumer; stage = l.stage; unwinding = l.unwinding; enabled = l.enabled; pending = l.pending.items; calls = l.calls; mutex_calls = l.mutex_calls; builds = l.builds } };
+    ghost view = { λ l. record { starter = l.starter; resumer = l.resumer; live = l.live; stage = l.stage; destroyer = l.destroyer; enabled = l.enabled; pending = l.pending.items; calls = l.calls; mutex_calls = l.mutex_calls; builds = l.builds } };
 }
 
 impl Links {
@@ -37,8 +38,9 @@ impl Links {
         Links {
             starter: None,
             resumer: None,
+            live: false,
             stage: Stage::Started,
-            unwinding: false,
+            destroyer: None,
             enabled: 0,
             pending: Vec::new(alloc),
             calls: 0,

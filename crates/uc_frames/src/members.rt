@@ -16,8 +16,8 @@ use uc_meaning::list::List;
 #[derive(Drop)]
 pub struct Members {
     cells: Vec<Cell>,
-    serial: u32,
-    parked: List<(u32, Option<Stack>)>,
+    serial: u64,
+    parked: List<(u64, Option<Stack>)>,
 }
 
 impl Model for Members {
@@ -70,7 +70,7 @@ impl Members {
     }
 
     /// The execution of that number, if it is left and does not run.
-    pub fn parked(&self, serial: u32) -> Option<&Stack>
+    pub fn parked(&self, serial: u64) -> Option<&Stack>
         ensures { MatchOption result (joined (find serial self.now.parked) ≡ None) (λ s. joined (find serial self.now.parked) ≡ Some s.now) }
     {
         match position(&self.parked, serial) {
@@ -80,7 +80,7 @@ impl Members {
     }
 
     /// A cell is written to a frame of that execution, if it is left and does not run.
-    pub fn write(&mut self, serial: u32, depth: u32, at: u64, cell: Cell)
+    pub fn write(&mut self, serial: u64, depth: u32, at: u64, cell: Cell)
         ensures { self.new ≡ frames_changed serial (frame_changed depth (cell_written at cell)) self.old }
     {
         if let Some(i) = position(&self.parked, serial) {

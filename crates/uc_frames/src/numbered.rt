@@ -8,7 +8,7 @@ use uc_meaning::exec::{Exec, Home};
 use uc_meaning::list::List;
 
 // Where the thing with that number stands.
-pub(crate) fn position<X>(list: &List<(u32, X)>, key: u32) -> Option<u32>
+pub(crate) fn position<X>(list: &List<(u64, X)>, key: u64) -> Option<u32>
     ensures { MatchOption result (find key list.now.items ≡ None) (λ i. IsAt key list.now.items i) }
 {
     for i in 0..list.len() {

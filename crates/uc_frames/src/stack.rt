@@ -1,53 +1,53 @@
 // The stack of one execution.
 
-ghost use Rattle.std.specs.Prelude.{◌≡◌, ◌∷◌, length, drop, replicate, nat_lt, IfOk, OnOk, OnErr, slice_index_or};
+ghost use Rattle.std.specs.Prelude.{◌≡◌, ◌∷◌, ◌-◌, length, drop, replicate, reverse, nat_lt, IfOk, OnOk, OnErr, slice_get, slice_index_or};
 ghost use Rattle.uc_meaning.specs.Executions.{at_depth, list_in, frame_changed, values_cleared};
-ghost use Rattle.uc_frames.specs.Machine.{Control, nought, top, below, cell_written, first_execution};
+ghost use Rattle.uc_frames.specs.Machine.{nought, top, below, cell_written, first_execution, line_in, line_at};
+ghost use Rattle.uc_frames.specs.Left.{stack_left};
 
+use crate::active::Active;
 use crate::cell::Cell;
 use crate::frames::{clear_in, get_in, put_in, zeros};
 use crate::links::Links;
 use std::alloc::{AllocError, Global};
 use std::marker::Model;
+use uc_code::code::Code;
 use uc_code::rows::RoutineCode;
 
-/// An execution: its next op, where its calls go on, its operands, its frames and its links.
+/// An execution: its newest activation, those that wait for it, its frames and its links.
 #[derive(Drop)]
 pub struct Stack {
     alloc: Global,
-    next: u32,
-    callers: Vec<u32>,
-    operands: Vec<Cell>,
+    running: Active,
+    callers: Vec<Active>,
     frames: Vec<Vec<Cell>>,
     links: Links,
 }
 
 impl Model for Stack {
-    ghost use Rattle.std.specs.Prelude.{◌<◌, ◌^◌, map, reverse, vec_len};
+    ghost use Rattle.std.specs.Prelude.{ℕ, ◌<◌, ◌^◌, map, reverse, vec_len};
     ghost use Rattle.uc_meaning.specs.Executions.{Execution};
     ghost use Rattle.uc_frames.specs.declared.cell.Cell.{Cell};
-    ghost use Rattle.uc_frames.specs.Machine.{Control};
 
-    ghost Value = { Execution Control Cell };
+    ghost Value = { Execution ℕ Cell };
 
-    ghost view = { λ s. record { control = record { next = s.next; callers = reverse s.callers.items }; operands = reverse s.operands.items; frames = reverse (map (λ f. f.items) s.frames.items); links = s.links } };
+    ghost view = { λ s. record { run = s.running; callers = reverse s.callers.items; frames = reverse (map (λ f. f.items) s.frames.items); links = s.links } };
 
     ghost invariant = { λ s. vec_len s.frames < 2 ^ 32 };
 }
 
 impl Stack {
-    /// An execution as it begins, with one frame.
-    pub fn first(alloc: Global, routine: RoutineCode) -> Result<Stack, AllocError>
-        ensures { IfOk result (λ s. s ≡ first_execution routine) }
+    /// An execution as it begins, with one frame, for this object.
+    pub fn first(alloc: Global, routine: RoutineCode, this: Cell) -> Result<Stack, AllocError>
+        ensures { IfOk result (λ s. s ≡ first_execution routine this) }
     {
         let frame = zeros(alloc, routine.cells)?;
         let mut frames = Vec::new(alloc);
         frames.push(frame)?;
         Ok(Stack {
             alloc,
-            next: routine.entry,
+            running: Active::new(alloc, routine.entry, this, 0),
             callers: Vec::new(alloc),
-            operands: Vec::new(alloc),
             frames,
             links: Links::new(alloc),
         })
@@ -55,53 +55,78 @@ impl Stack {
 
     /// The next op.
     pub fn next(&self) -> u32
-        ensures { result ≡ self.now.control.next }
+        ensures { result ≡ self.now.run.control }
     {
-        self.next
+        self.running.next()
     }
 
     /// Another op is next.
     pub fn go(&mut self, to: u32)
-        ensures { self.new ≡ record self.old { control = record self.old.control { next = to } } }
+        ensures { self.new ≡ record self.old { run = record self.old.run { control = to } } }
     {
-        self.next = to;
+        self.running.go(to);
     }
 
-    /// Whether there is a call to go back to.
+    /// Whether an activation waits for the newest one.
     pub fn has_caller(&self) -> bool
-        ensures { result ≡ nat_lt 0 (length self.now.control.callers) }
+        ensures { result ≡ nat_lt 0 (length self.now.callers) }
     {
         0 < self.callers.len()
     }
 
+    /// The newest activation is left with its frame, and the one that waits for it goes on. Where none waits, all stays as
+    /// it is, and the answer is false.
+    pub fn leave(&mut self) -> bool
+        ensures called { result ≡ nat_lt 0 (length self.old.callers) }
+        ensures after { self.new ≡ stack_left self.old.callers self.old }
+    {
+        match self.callers.pop() {
+            None => false,
+            Some(caller) => {
+                self.running = caller;
+                let _ = self.frames.pop();
+                true
+            }
+        }
+    }
+
+    /// The line of an op; for one of no line that of the newest call around it that has one.
+    pub fn line(&self, code: &Code, line: u32) -> u32
+        ensures { result ≡ line_at code.now.ops line self.now.callers }
+    {
+        line_from(code, &self.callers, line)
+    }
+
     /// One more operand.
     pub fn push(&mut self, cell: Cell) -> Result<(), AllocError>
-        ensures ok { OnOk result (self.new ≡ record self.old { operands = cell ∷ self.old.operands }) }
+        ensures ok { OnOk result (self.new ≡ record self.old { run = record self.old.run { operands = cell ∷ self.old.run.operands } }) }
         ensures err { OnErr result (self.new ≡ self.old) }
     {
-        self.operands.push(cell)?;
+        self.running.push(cell)?;
         Ok(())
     }
 
     /// Takes the newest operand; nothing where there is none.
     pub fn pop(&mut self) -> Cell
-        ensures value { result ≡ top self.old.operands }
-        ensures after { self.new ≡ record self.old { operands = below self.old.operands } }
+        ensures value { result ≡ top self.old.run.operands }
+        ensures after { self.new ≡ record self.old { run = record self.old.run { operands = below self.old.run.operands } } }
     {
-        match self.operands.pop() {
-            Some(cell) => cell,
-            None => Cell::Nothing,
-        }
+        let cell = self.running.pop();
+        cell
     }
 
     /// The newest operand; nothing where there is none.
     pub fn top(&self) -> Cell
-        ensures { result ≡ top self.now.operands }
+        ensures { result ≡ top self.now.run.operands }
     {
-        match self.operands.last() {
-            Some(cell) => *cell,
-            None => Cell::Nothing,
-        }
+        self.running.top()
+    }
+
+    /// The depth of the frame whose variables the newest activation uses.
+    pub fn frame(&self) -> u32
+        ensures { result ≡ self.now.run.frame }
+    {
+        self.running.frame()
     }
 
     /// How many frames there are.
@@ -150,5 +175,31 @@ impl Stack {
         ensures { self.new ≡ record self.old { frames = frame_changed depth (values_cleared cell cells nought) self.old.frames } }
     {
         clear_in(&mut self.frames, depth, cell, cells);
+    }
+}
+
+// The line of an op, or of the newest of these calls that has one.
+fn line_from(code: &Code, callers: &[Active], line: u32) -> u32
+    ensures { result ≡ line_at code.now.ops line (reverse callers.now) }
+{
+    match callers.split_last() {
+        None => line,
+        Some((caller, outer)) => {
+            if line == 0 {
+                line_from(code, outer, line_before(code, caller.next()))
+            } else {
+                line
+            }
+        }
+    }
+}
+
+// The line of the op before this one, 0 where there is none.
+fn line_before(code: &Code, next: u32) -> u32
+    ensures { result ≡ line_in (slice_get code.now.ops (next - 1)) }
+{
+    match code.op(next.saturating_sub(1)) {
+        None => 0,
+        Some(instruction) => instruction.line,
     }
 }

@@ -4,7 +4,8 @@ ghost use Rattle.std.specs.Prelude.{◌≡◌, ◌∷◌, [], length, nat_lt, No
 ghost use Rattle.std.specs.Option.{is_some, option_map};
 ghost use Rattle.uc_meaning.specs.Executions.{at_depth, list_in, frame_changed, frames_changed, values_cleared, members_at, change, exec_eq};
 ghost use Rattle.uc_meaning.specs.Quiet.{with_piece};
-ghost use Rattle.uc_frames.specs.Machine.{nought, top, below, cell_written, first_machine};
+ghost use Rattle.uc_frames.specs.Machine.{nought, top, below, cell_written, first_machine, line_at};
+ghost use Rattle.uc_frames.specs.Left.{left};
 
 use crate::cell::Cell;
 use crate::members::Members;
@@ -13,6 +14,7 @@ use crate::pieces::Pieces;
 use crate::stack::Stack;
 use std::alloc::{AllocError, Global};
 use std::marker::Model;
+use uc_code::code::Code;
 use uc_code::rows::RoutineCode;
 use uc_meaning::exec::{Exec, Home};
 use uc_meaning::request::Piece;
@@ -36,7 +38,7 @@ impl Model for Task {
 
     ghost Value = { Machine };
 
-    ghost view = { λ t. record { control = t.running.control; operands = t.running.operands; env = record { frames = t.running.frames; links = t.running.links; exec = t.exec; own = t.own; house = t.house; depths = t.depths.items; hand = []; gathered = t.gathered } } };
+    ghost view = { λ t. record { run = t.running.run; callers = t.running.callers; env = record { frames = t.running.frames; links = t.running.links; exec = t.exec; own = t.own; house = t.house; depths = t.depths.items; hand = []; gathered = t.gathered } } };
 }
 
 impl Task {
@@ -44,7 +46,7 @@ impl Task {
     pub fn first(alloc: Global, main: RoutineCode, own: u32) -> Result<Task, AllocError>
         ensures { IfOk result (λ t. t ≡ first_machine main own) }
     {
-        let running = Stack::first(alloc, main)?;
+        let running = Stack::first(alloc, main, Cell::Object(own))?;
         let house = Members::first(alloc)?;
         let mut depths = Vec::new(alloc);
         depths.push((own, 1))?;
@@ -69,25 +71,25 @@ impl Task {
     }
 
     pub(crate) fn next(&self) -> u32
-        ensures { result ≡ self.now.control.next }
+        ensures { result ≡ self.now.run.control }
     {
         self.running.next()
     }
 
     pub(crate) fn go(&mut self, to: u32)
-        ensures { self.new ≡ record self.old { control = record self.old.control { next = to } } }
+        ensures { self.new ≡ record self.old { run = record self.old.run { control = to } } }
     {
         self.running.go(to);
     }
 
     pub(crate) fn has_caller(&self) -> bool
-        ensures { result ≡ nat_lt 0 (length self.now.control.callers) }
+        ensures { result ≡ nat_lt 0 (length self.now.callers) }
     {
         self.running.has_caller()
     }
 
     pub(crate) fn push(&mut self, cell: Cell) -> Result<(), AllocError>
-        ensures ok { OnOk result (self.new ≡ record self.old { operands = cell ∷ self.old.operands }) }
+        ensures ok { OnOk result (self.new ≡ record self.old { run = record self.old.run { operands = cell ∷ self.old.run.operands } }) }
         ensures err { OnErr result (self.new ≡ self.old) }
     {
         self.running.push(cell)?;
@@ -95,23 +97,37 @@ impl Task {
     }
 
     pub(crate) fn pop(&mut self) -> Cell
-        ensures value { result ≡ top self.old.operands }
-        ensures after { self.new ≡ record self.old { operands = below self.old.operands } }
+        ensures value { result ≡ top self.old.run.operands }
+        ensures after { self.new ≡ record self.old { run = record self.old.run { operands = below self.old.run.operands } } }
     {
         let cell = self.running.pop();
         cell
     }
 
     pub(crate) fn top(&self) -> Cell
-        ensures { result ≡ top self.now.operands }
+        ensures { result ≡ top self.now.run.operands }
     {
         self.running.top()
     }
 
-    pub(crate) fn depth(&self) -> u32
-        ensures { result ≡ length self.now.env.frames }
+    pub(crate) fn frame(&self) -> u32
+        ensures { result ≡ self.now.run.frame }
     {
-        self.running.depth()
+        self.running.frame()
+    }
+
+    pub(crate) fn leave(&mut self) -> bool
+        ensures called { result ≡ nat_lt 0 (length self.old.callers) }
+        ensures after { self.new ≡ left self.old.callers self.old }
+    {
+        let called = self.running.leave();
+        called
+    }
+
+    pub(crate) fn line(&self, code: &Code, line: u32) -> u32
+        ensures { result ≡ line_at code.now.ops line self.now.callers }
+    {
+        self.running.line(code, line)
     }
 
     // Whether this is the execution that runs.
@@ -154,7 +170,7 @@ impl Task {
     }
 
     // A cell is written to a frame of an execution that is at home in the task of that object, if it is this one.
-    pub(crate) fn write_parked(&mut self, task: u32, serial: u32, depth: u32, at: u64, cell: Cell)
+    pub(crate) fn write_parked(&mut self, task: u32, serial: u64, depth: u32, at: u64, cell: Cell)
         ensures { self.new ≡ record self.old { env = change (Home.Task task) (frames_changed serial (frame_changed depth (cell_written at cell))) self.old.env } }
     {
         if task == self.own {

@@ -4,7 +4,8 @@ ghost use Rattle.std.specs.Prelude.{◌≡◌, ◌∷◌, [], length, nat_lt, No
 ghost use Rattle.std.specs.Option.{is_some, option_map};
 ghost use Rattle.uc_meaning.specs.Executions.{frame_changed, frames_changed, members_at, parked_at, change, value_at, with_owned};
 ghost use Rattle.uc_meaning.specs.Quiet.{with_piece};
-ghost use Rattle.uc_frames.specs.Machine.{nought, top, below, cell_written, shifted, loaded, written, this_frame, cleared, with_hand, first_machine};
+ghost use Rattle.uc_frames.specs.Machine.{nought, top, below, cell_written, shifted, loaded, written, this_frame, cleared, with_hand, first_machine, line_at};
+ghost use Rattle.uc_frames.specs.Left.{left};
 
 use crate::cell::Cell;
 use crate::members::Members;
@@ -14,13 +15,14 @@ use crate::stack::Stack;
 use crate::task::Task;
 use std::alloc::{AllocError, Global};
 use std::marker::Model;
+use uc_code::code::Code;
 use uc_code::rows::RoutineCode;
 use uc_meaning::exec::{Exec, Home, Owner};
 use uc_meaning::list::List;
 use uc_meaning::request::Piece;
 
 /// The members of the objects that a task is inside, by the objects' numbers.
-pub type Hand = List<(u32, Members)>;
+pub type Hand = List<(u64, Members)>;
 
 /// A task with its hand. A call that wants memory in vain changes nothing.
 #[derive(Drop)]
@@ -73,28 +75,45 @@ impl Work {
 
     /// The next op.
     pub fn next(&self) -> u32
-        ensures { result ≡ self.now.control.next }
+        ensures { result ≡ self.now.run.control }
     {
         self.task.next()
     }
 
     /// Another op is next.
     pub fn go(&mut self, to: u32)
-        ensures { self.new ≡ record self.old { control = record self.old.control { next = to } } }
+        ensures { self.new ≡ record self.old { run = record self.old.run { control = to } } }
     {
         self.task.go(to);
     }
 
-    /// Whether there is a call to go back to.
+    /// Whether an activation waits for the running one.
     pub fn has_caller(&self) -> bool
-        ensures { result ≡ nat_lt 0 (length self.now.control.callers) }
+        ensures { result ≡ nat_lt 0 (length self.now.callers) }
     {
         self.task.has_caller()
     }
 
+    /// The running activation is left with its frame, and the one that waits for it goes on. Where none waits, all stays as
+    /// it is, and the answer is false.
+    pub fn leave(&mut self) -> bool
+        ensures called { result ≡ nat_lt 0 (length self.old.callers) }
+        ensures after { self.new ≡ left self.old.callers self.old }
+    {
+        let called = self.task.leave();
+        called
+    }
+
+    /// The line of an op; for one of no line that of the newest call around it that has one.
+    pub fn line(&self, code: &Code, line: u32) -> u32
+        ensures { result ≡ line_at code.now.ops line self.now.callers }
+    {
+        self.task.line(code, line)
+    }
+
     /// One more operand.
     pub fn push(&mut self, cell: Cell) -> Result<(), AllocError>
-        ensures ok { OnOk result (self.new ≡ record self.old { operands = cell ∷ self.old.operands }) }
+        ensures ok { OnOk result (self.new ≡ record self.old { run = record self.old.run { operands = cell ∷ self.old.run.operands } }) }
         ensures err { OnErr result (self.new ≡ self.old) }
     {
         self.task.push(cell)?;
@@ -103,8 +122,8 @@ impl Work {
 
     /// Takes the newest operand; nothing where there is none.
     pub fn pop(&mut self) -> Cell
-        ensures value { result ≡ top self.old.operands }
-        ensures after { self.new ≡ record self.old { operands = below self.old.operands } }
+        ensures value { result ≡ top self.old.run.operands }
+        ensures after { self.new ≡ record self.old { run = record self.old.run { operands = below self.old.run.operands } } }
     {
         let cell = self.task.pop();
         cell
@@ -112,18 +131,18 @@ impl Work {
 
     /// The newest operand; nothing where there is none.
     pub fn top(&self) -> Cell
-        ensures { result ≡ top self.now.operands }
+        ensures { result ≡ top self.now.run.operands }
     {
         self.task.top()
     }
 
-    /// The place so many cells into the running frame.
+    /// The place so many cells into the frame of the running activation.
     pub fn local(&self, cell: u32) -> Cell
-        ensures { result ≡ shifted cell (Cell.Place (this_frame self.now.env) 0) }
+        ensures { result ≡ shifted cell (Cell.Place (this_frame self.now) 0) }
     {
         let frame = Owner::Frame {
             exec: self.task.exec(),
-            depth: self.task.depth().saturating_sub(1),
+            depth: self.task.frame(),
         };
         Cell::Place(frame, u64::from(cell))
     }
@@ -164,7 +183,7 @@ impl Work {
     {
         match home {
             Home::Task(task) => self.task.members(task),
-            Home::Object(object) => match position(&self.hand, object) {
+            Home::Object(object) => match position(&self.hand, u64::from(object)) {
                 None => None,
                 Some(i) => Some(&self.hand.get(i).1),
             },
@@ -212,7 +231,7 @@ impl Work {
         match exec.home {
             Home::Task(task) => self.task.write_parked(task, exec.serial, depth, at, cell),
             Home::Object(object) => {
-                if let Some(i) = position(&self.hand, object) {
+                if let Some(i) = position(&self.hand, u64::from(object)) {
                     let slot = self.hand.get_mut(i);
                     slot.1.write(exec.serial, depth, at, cell);
                 }
@@ -223,18 +242,17 @@ impl Work {
     fn write_field(&mut self, object: u32, at: u64, cell: Cell)
         ensures { self.new ≡ record self.old { env = with_owned (Owner.Fields object) (cell_written at cell) self.old.env } }
     {
-        if let Some(i) = position(&self.hand, object) {
+        if let Some(i) = position(&self.hand, u64::from(object)) {
             let slot = self.hand.get_mut(i);
             slot.1.write_field(at, cell);
         }
     }
 
-    /// So many cells of the running frame are 0, from this one on.
+    /// So many cells of the frame of the running activation are 0, from this one on.
     pub fn clear(&mut self, cell: u32, cells: u32)
-        ensures { self.new ≡ record self.old { env = cleared cell cells self.old.env } }
+        ensures { self.new ≡ record self.old { env = cleared cell cells self.old } }
     {
-        let depth = self.task.depth().saturating_sub(1);
-        self.task.clear(depth, cell, cells);
+        self.task.clear(self.task.frame(), cell, cells);
     }
 
     /// Whether items are gathered to be printed at once.

@@ -38,6 +38,14 @@ fn ops(alloc: Global) -> Result<String, AllocError> {
     line(alloc, "ops", cells.as_slice())
 }
 
+/// Nobody waits for a main: it is not left.
+fn left(alloc: Global) -> Result<String, AllocError> {
+    let mut work = Work::first(alloc, MAIN, 4)?;
+    let went = work.leave();
+    let cells = [truth(went), number(work.next()), truth(work.has_caller())];
+    line(alloc, "left", cells.as_slice())
+}
+
 fn number(n: u32) -> Cell {
     Cell::Number(i64::from(n))
 }
@@ -149,14 +157,14 @@ fn fields(alloc: Global) -> Result<String, AllocError> {
     line(alloc, "fields and frames", cells.as_slice())
 }
 
-fn frame_place(home: Home, serial: u32, depth: u32) -> Cell {
+fn frame_place(home: Home, serial: u64, depth: u32) -> Cell {
     let exec = Exec { home, serial };
     Cell::Place(Owner::Frame { exec, depth }, 2)
 }
 
 /// A second frame on a stack.
 fn frames(alloc: Global) -> Result<String, AllocError> {
-    let mut stack = Stack::first(alloc, MAIN)?;
+    let mut stack = Stack::first(alloc, MAIN, Cell::Nothing)?;
     stack.write(0, 2, Cell::Number(31));
     stack.push_frame(2)?;
     stack.write(1, 1, Cell::Number(32));
@@ -171,7 +179,7 @@ fn frames(alloc: Global) -> Result<String, AllocError> {
 }
 
 fn one_frame(alloc: Global) -> Result<String, AllocError> {
-    let mut stack = Stack::first(alloc, MAIN)?;
+    let mut stack = Stack::first(alloc, MAIN, Cell::Nothing)?;
     stack.push_frame(2)?;
     stack.pop_frame();
     let cells = [number(stack.depth())];
@@ -226,6 +234,7 @@ fn main(rt: HostRuntime) -> io::Result<()> {
     let alloc = rt.alloc();
     let texts = [
         ops(alloc)?,
+        left(alloc)?,
         operands(alloc)?,
         variables(alloc)?,
         cleared(alloc)?,

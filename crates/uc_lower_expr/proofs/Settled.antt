@@ -2,17 +2,18 @@
 use Rattle.std.proofs.Common.{ℕ, List, pos}
 use Rattle.uc_tree.specs.Source.{Shape, Integer, Character, Truth, Binding, Last, Field, Array, shape_cells, Expr, Literal, Variable, Element, Load, Negated, Not, AsCharacter, AsTruth, Operate, And, Or, Assign, Update, StepBehind, Fail}
 use Rattle.uc_code.specs.declared.op.Op.TheVariants as op
-use Rattle.uc_code.specs.declared.rows.Instruction.{Instruction}
+use Rattle.uc_code.specs.declared.rows.Mark.{Mark}
+use Rattle.uc_code.specs.Laid.{Laid}
 use Rattle.uc_code.specs.Ranges.{One, Both, Fork, Stable}
 use Rattle.uc_code.specs.Lowered.{operator_op, ExprAt}
 use Rattle.uc_code.proofs.Stable.{nothing_stable, one_stable, both_stable, fork_stable}
 use Rattle.uc_lower_expr.specs.Added.{ExprCode, ConvertCode}
 use Rattle.uc_lower_expr.specs.Parts.{BeginCode}
 
-pub both : {B C : List Instruction → ℕ → ℕ → Type 0} → Stable B → Stable C → Stable (λ ops. Both (B ops) (C ops))
+pub both : {B C : Laid → ℕ → ℕ → Type 0} → Stable B → Stable C → Stable (λ code. Both (B code) (C code))
 both {B} {C} b c = both_stable B b C c
 
-pub fork : {B C : List Instruction → ℕ → ℕ → Type 0} → (line : ℕ) → Stable B → Stable C → Stable (λ ops. Fork ops line (B ops) (C ops))
+pub fork : {B C : Laid → ℕ → ℕ → Type 0} → (line : ℕ) → Stable B → Stable C → Stable (λ code. Fork code line (B code) (C code))
 fork {B} {C} line b c = fork_stable B b C c line
 
 pub convert_stable : (line : ℕ) (s : Shape) → Stable (ConvertCode line s)
@@ -24,25 +25,25 @@ convert_stable line Last = nothing_stable
 convert_stable line (Field s t) = nothing_stable
 convert_stable line (Array n s) = nothing_stable
 
-pub expr_stable : (line : ℕ) (e : Expr) → Stable (ExprCode line e)
-expr_stable line (Literal n) = one_stable (op.Push n) line
-expr_stable line (Variable k) = one_stable (op.Local k) line
-expr_stable line (Element n s a i) = both (expr_stable line a) (both (expr_stable line i) (one_stable (op.Index n (shape_cells s)) line))
-expr_stable line (Load a) = both (expr_stable line a) (one_stable op.Load line)
-expr_stable line (Negated a) = both (expr_stable line a) (one_stable op.Negate line)
-expr_stable line (Not a) = both (expr_stable line a) (one_stable op.Not line)
-expr_stable line (AsCharacter a) = both (expr_stable line a) (one_stable op.ToChar line)
-expr_stable line (AsTruth a) = both (expr_stable line a) (one_stable op.ToBool line)
-expr_stable line (Operate o a b) = both (expr_stable line a) (both (expr_stable line b) (one_stable (operator_op o) line))
-expr_stable line (And a b) = both (expr_stable line a) (fork line (both (expr_stable line b) (one_stable op.ToBool line)) (one_stable (op.Push (pos 0)) line))
-expr_stable line (Or a b) = both (expr_stable line a) (fork line (one_stable (op.Push (pos 1)) line) (both (expr_stable line b) (one_stable op.ToBool line)))
-expr_stable line (Assign p a) = both (expr_stable line p) (both (expr_stable line a) (one_stable op.Keep line))
-expr_stable line (Update o s p a) = both (expr_stable line p) (both (one_stable op.Duplicate line) (both (one_stable op.Load line) (both (expr_stable line a) (both (one_stable (operator_op o) line) (both (convert_stable line s) (one_stable op.Keep line))))))
-expr_stable line (StepBehind o s p) = both (expr_stable line p) (both (one_stable op.Duplicate line) (both (one_stable op.Load line) (both (one_stable op.Over line) (both (one_stable op.Over line) (both (one_stable (op.Push (pos 1)) line) (both (one_stable (operator_op o) line) (both (convert_stable line s) (both (one_stable op.Store line) (one_stable op.DiscardBelow line)))))))))
-expr_stable line Fail = one_stable op.Fail line
+pub expr_stable : (line : ℕ) (ms : List Mark) (e : Expr) → Stable (ExprCode line ms e)
+expr_stable line ms (Literal n) = one_stable (op.Push n) line
+expr_stable line ms (Variable k) = one_stable (op.Local k) line
+expr_stable line ms (Element n s a i) = both (expr_stable line ms a) (both (expr_stable line ms i) (one_stable (op.Index n (shape_cells s)) line))
+expr_stable line ms (Load a) = both (expr_stable line ms a) (one_stable op.Load line)
+expr_stable line ms (Negated a) = both (expr_stable line ms a) (one_stable op.Negate line)
+expr_stable line ms (Not a) = both (expr_stable line ms a) (one_stable op.Not line)
+expr_stable line ms (AsCharacter a) = both (expr_stable line ms a) (one_stable op.ToChar line)
+expr_stable line ms (AsTruth a) = both (expr_stable line ms a) (one_stable op.ToBool line)
+expr_stable line ms (Operate o a b) = both (expr_stable line ms a) (both (expr_stable line ms b) (one_stable (operator_op o) line))
+expr_stable line ms (And a b) = both (expr_stable line ms a) (fork line (both (expr_stable line ms b) (one_stable op.ToBool line)) (one_stable (op.Push (pos 0)) line))
+expr_stable line ms (Or a b) = both (expr_stable line ms a) (fork line (one_stable (op.Push (pos 1)) line) (both (expr_stable line ms b) (one_stable op.ToBool line)))
+expr_stable line ms (Assign p a) = both (expr_stable line ms p) (both (expr_stable line ms a) (one_stable op.Keep line))
+expr_stable line ms (Update o s p a) = both (expr_stable line ms p) (both (one_stable op.Duplicate line) (both (one_stable op.Load line) (both (expr_stable line ms a) (both (one_stable (operator_op o) line) (both (convert_stable line s) (one_stable op.Keep line))))))
+expr_stable line ms (StepBehind o s p) = both (expr_stable line ms p) (both (one_stable op.Duplicate line) (both (one_stable op.Load line) (both (one_stable op.Over line) (both (one_stable op.Over line) (both (one_stable (op.Push (pos 1)) line) (both (one_stable (operator_op o) line) (both (convert_stable line s) (both (one_stable op.Store line) (one_stable op.DiscardBelow line)))))))))
+expr_stable line ms Fail = one_stable op.Fail line
 
 pub begin_stable : (line : ℕ) → Stable (BeginCode line)
 begin_stable line = both (one_stable op.Duplicate line) (one_stable op.Load line)
 
-pub value_truth_stable : (line : ℕ) (e : Expr) → Stable (λ ops. Both (ExprAt ops line e) (One ops op.ToBool line))
-value_truth_stable line e = both (expr_stable line e) (one_stable op.ToBool line)
+pub value_truth_stable : (line : ℕ) (ms : List Mark) (e : Expr) → Stable (λ code. Both (ExprAt code line ms e) (One code op.ToBool line))
+value_truth_stable line ms e = both (expr_stable line ms e) (one_stable op.ToBool line)

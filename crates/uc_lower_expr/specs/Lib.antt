@@ -1,3 +1,4 @@
 pub mod Added
+pub mod Contexts
 pub mod Meanings
 pub mod Parts

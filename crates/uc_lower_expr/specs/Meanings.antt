@@ -18,6 +18,7 @@ stands_as standing.Place = resolve.AtPlace
 stands_as standing.Value = resolve.AsValue
 stands_as standing.Input = resolve.AsInput
 stands_as standing.Fail = resolve.AsFail
+stands_as standing.Nothing = resolve.AsNothing
 
 -- what is told of an expression that stands for this: how its base keeps a number, its length, and its standing
 pub record Tells (told : Meaning) (m : resolve.Meant) : Type 0 where

@@ -11,8 +11,9 @@ use Rattle.uc_tree.specs.Source.{Shape, Expr}
 use Rattle.uc_tree.specs.Resolve.{known_named, known_meant}
 use Rattle.uc_code.specs.declared.op.Op.{Op}
 use Rattle.uc_code.specs.declared.op.Op.TheVariants as op
-use Rattle.uc_code.specs.declared.rows.Instruction.{Instruction}
+use Rattle.uc_code.specs.declared.rows.Mark.{Mark}
 use Rattle.uc_code.specs.Drafts.{Draft}
+use Rattle.uc_code.specs.Laid.{Laid, laid_in}
 use Rattle.uc_code.specs.Ranges.{One, Both, Fork, Same}
 use Rattle.uc_code.specs.Lowered.{ExprAt, ConvertAt}
 use Rattle.uc_lower_expr.specs.declared.meaning.Scalar.{Scalar}
@@ -52,10 +53,10 @@ step_op_of step.Increment = op.Add
 step_op_of step.Decrement = op.Subtract
 
 -- the code behind the value of a left side
-abbrev pub RightCode : ℕ → Joining → Expr → List Instruction → ℕ → ℕ → Type 0
-RightCode line joining.Either e ops = Fork ops line (One ops (op.Push (pos 1)) line) (Both (ExprAt ops line e) (One ops op.ToBool line))
-RightCode line joining.Each e ops = Fork ops line (Both (ExprAt ops line e) (One ops op.ToBool line)) (One ops (op.Push (pos 0)) line)
-RightCode line (joining.By o s) e ops = Both (ExprAt ops line e) (One ops o line)
+abbrev pub RightCode : ℕ → List Mark → Joining → Expr → Laid → ℕ → ℕ → Type 0
+RightCode line ms joining.Either e code = Fork code line (One code (op.Push (pos 1)) line) (Both (ExprAt code line ms e) (One code op.ToBool line))
+RightCode line ms joining.Each e code = Fork code line (Both (ExprAt code line ms e) (One code op.ToBool line)) (One code (op.Push (pos 0)) line)
+RightCode line ms (joining.By o s) e code = Both (ExprAt code line ms e) (One code o line)
 
 abbrev pub scalar_of : Joining → Scalar
 scalar_of joining.Either = scalar.Truth
@@ -63,27 +64,27 @@ scalar_of joining.Each = scalar.Truth
 scalar_of (joining.By o s) = s
 
 -- the code of an update, before and behind the value
-abbrev pub BeginCode : ℕ → List Instruction → ℕ → ℕ → Type 0
-BeginCode line ops = Both (One ops op.Duplicate line) (One ops op.Load line)
+abbrev pub BeginCode : ℕ → Laid → ℕ → ℕ → Type 0
+BeginCode line code = Both (One code op.Duplicate line) (One code op.Load line)
 
-abbrev pub EndCode : ℕ → Op → Shape → List Instruction → ℕ → ℕ → Type 0
-EndCode line o s ops = Both (One ops o line) (Both (ConvertAt ops line s) (One ops op.Keep line))
+abbrev pub EndCode : ℕ → Op → Shape → Laid → ℕ → ℕ → Type 0
+EndCode line o s code = Both (One code o line) (Both (ConvertAt code line s) (One code op.Keep line))
 
-abbrev pub UpdateCode : ℕ → Op → Shape → Expr → List Instruction → ℕ → ℕ → Type 0
-UpdateCode line o s e ops =
-    Both (One ops op.Duplicate line) (Both (One ops op.Load line) (Both (ExprAt ops line e) (Both (One ops o line) (Both (ConvertAt ops line s) (One ops op.Keep line)))))
+abbrev pub UpdateCode : ℕ → List Mark → Op → Shape → Expr → Laid → ℕ → ℕ → Type 0
+UpdateCode line ms o s e code =
+    Both (One code op.Duplicate line) (Both (One code op.Load line) (Both (ExprAt code line ms e) (Both (One code o line) (Both (ConvertAt code line s) (One code op.Keep line)))))
 
 -- the code of a step behind its place
-abbrev pub StepCode : ℕ → Op → Shape → List Instruction → ℕ → ℕ → Type 0
-StepCode line o s ops =
-    Both (One ops op.Duplicate line) (Both (One ops op.Load line) (Both (One ops op.Over line) (Both (One ops op.Over line) (Both (One ops (op.Push (pos 1)) line) (Both (One ops o line) (Both (ConvertAt ops line s) (Both (One ops op.Store line) (One ops op.DiscardBelow line))))))))
+abbrev pub StepCode : ℕ → Op → Shape → Laid → ℕ → ℕ → Type 0
+StepCode line o s code =
+    Both (One code op.Duplicate line) (Both (One code op.Load line) (Both (One code op.Over line) (Both (One code op.Over line) (Both (One code (op.Push (pos 1)) line) (Both (One code o line) (Both (ConvertAt code line s) (Both (One code op.Store line) (One code op.DiscardBelow line))))))))
 
 -- in the place of all ops from a on stands one op
 pub record Restarts (o : Op) (line a : ℕ) (old new : Draft) : Type 0 where
   pub rest : new ≡ record old { ops = new.ops }
-  pub front : Same old.ops new.ops 0 a
+  pub front : Same (laid_in old) (laid_in new) 0 a
   pub end : length new.ops ≡ a + 1
-  pub code : One new.ops o line a (length new.ops)
+  pub code : One (laid_in new) o line a (length new.ops)
 
 -- what a name stands for
 pub record Names (names : List Known) (name : List ℕ) (v : Variable) : Type 0 where

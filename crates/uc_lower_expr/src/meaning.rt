@@ -14,13 +14,14 @@ pub enum Scalar {
     Truth,
 }
 
-/// What an expression is: a place, a value, `cin`, or the member `fail` of `cin`.
+/// What an expression is: a place, a value, `cin`, the member `fail` of `cin`, or nothing, where a rule is broken.
 #[derive(Clone, Copy, PartialEq, Eq, Debug)]
 pub enum Standing {
     Place,
     Value,
     Input,
     Fail,
+    Nothing,
 }
 
 /// How the base of an expression's type keeps a number, the length of an array, and what the expression is.
@@ -58,6 +59,17 @@ impl Meaning {
             scalar,
             elements: None,
             standing: Standing::Value,
+        }
+    }
+
+    /// What breaks a rule: the value 0, which stands for nothing.
+    pub fn nothing() -> Meaning
+        ensures { result ≡ record { scalar = Scalar.Number; elements = None; standing = Standing.Nothing } }
+    {
+        Meaning {
+            scalar: Scalar::Number,
+            elements: None,
+            standing: Standing::Nothing,
         }
     }
 

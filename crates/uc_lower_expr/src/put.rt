@@ -43,6 +43,7 @@ pub fn put_load(standing: Standing, line: u32, out: &mut Draft) -> Result<(), Al
         Standing::Value => Ok(()),
         Standing::Input => Ok(()),
         Standing::Fail => Ok(()),
+        Standing::Nothing => Ok(()),
     }
 }
 
@@ -92,7 +93,7 @@ pub(crate) fn update_by_one(
     out: &mut Draft,
 ) -> Result<(), AllocError>
     requires { length out.old.ops + 6 ≤ PROGRAM_OPS }
-    ensures { OnOk result (Adds 6 (UpdateCode line op (shape_as scalar) (Literal (pos 1))) out.old out.new) }
+    ensures { OnOk result (Adds 6 (UpdateCode line out.old.marks op (shape_as scalar) (Literal (pos 1))) out.old out.new) }
 {
     begin_update(line, out)?;
     put(Op::Push(1), line, out)?;

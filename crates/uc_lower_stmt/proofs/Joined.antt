@@ -1,17 +1,18 @@
 -- How what statements do to a draft is joined.
-use Rattle.std.proofs.Common.{◌≡◌, ℕ, ◌+◌, ◌≤◌, List, length, refl, ap, sym, subst, ◌∙◌, arith}
+use Rattle.std.proofs.Common.{◌≡◌, ℕ, ◌+◌, ◌≤◌, length, refl, ap, sym, subst, ◌∙◌, arith}
 use Rattle.uc_tree.specs.Resolve.{Scope}
-use Rattle.uc_code.specs.declared.rows.Instruction.{Instruction}
 use Rattle.uc_code.specs.Drafts.{Draft}
+use Rattle.uc_code.specs.Laid.{Laid, laid_in}
 use Rattle.uc_code.specs.Ranges.{Nothing, Both, Stable}
 use Rattle.uc_code.proofs.Stable.{kept_refl, kept_then, kept_same}
 use Rattle.uc_lower_expr.specs.Added.{Adds}
 use Rattle.uc_lower_stmt.specs.Scoped.{Lowers, scope_of}
 
-pub lowers_adds : {n : ℕ} {S : List Instruction → ℕ → ℕ → Type 0} {old new : Draft} → (k c : ℕ) → Adds n S old new → Lowers n k c S (scope_of old) old new
+pub lowers_adds : {n : ℕ} {S : Laid → ℕ → ℕ → Type 0} {old new : Draft} → (k c : ℕ) → Adds n S old new → Lowers n k c 0 S (scope_of old) old new
 lowers_adds {n} {S} {old} {new} k c h = record {
-  rest = subst (λ (d : Draft). d ≡ record old { ops = d.ops; names = d.names; cells = d.cells; texts = d.texts; scopes = d.scopes }) (sym h.rest) refl;
+  rest = subst (λ (d : Draft). d ≡ record old { ops = d.ops; scopes = d.scopes; names = d.names; cells = d.cells; texts = d.texts; sites = d.sites }) (sym h.rest) refl;
   scope = ap scope_of h.rest;
+  opened = let e : new.scopes ≡ old.scopes = ap (λ (d : Draft). d.scopes) h.rest in omega arith;
   kept = h.kept;
   room = h.room;
   scopes = let e : new.scopes ≡ old.scopes = ap (λ (d : Draft). d.scopes) h.rest in omega arith;
@@ -20,38 +21,40 @@ lowers_adds {n} {S} {old} {new} k c h = record {
   code = h.code;
 }
 
-pub lowers_nothing : (old : Draft) → Lowers 0 0 0 (λ ops. Nothing) (scope_of old) old old
-lowers_nothing old = record { rest = refl; scope = refl; kept = kept_refl old.ops; room = omega arith; scopes = omega arith; texts = omega arith; cells = omega arith; code = record { end = refl } }
+pub lowers_nothing : (old : Draft) → Lowers 0 0 0 0 (λ code. Nothing) (scope_of old) old old
+lowers_nothing old = record { rest = refl; scope = refl; opened = omega arith; kept = kept_refl (laid_in old); room = omega arith; scopes = omega arith; texts = omega arith; cells = omega arith; code = record { end = refl } }
 
-pub lowers_as : {n k c m j b : ℕ} {S T : List Instruction → ℕ → ℕ → Type 0} {s t : Scope} {old new : Draft} → Lowers n k c S s old new → s ≡ t → ((ops : List Instruction) (a z : ℕ) → S ops a z → T ops a z) → n ≤ m → k ≤ j → c ≤ b → Lowers m j b T t old new
-lowers_as {n} {k} {c} {m} {j} {b} {S} {T} {s} {t} {old} {new} h e f p q r = record {
+pub lowers_as : {n k c o m j b q : ℕ} {S T : Laid → ℕ → ℕ → Type 0} {s t : Scope} {old new : Draft} → Lowers n k c o S s old new → s ≡ t → ((code : Laid) (a z : ℕ) → S code a z → T code a z) → n ≤ m → k ≤ j → c ≤ b → o ≡ q → Lowers m j b q T t old new
+lowers_as {n} {k} {c} {o} {m} {j} {b} {q} {S} {T} {s} {t} {old} {new} h e f l1 l2 l3 l4 = record {
   rest = h.rest;
   scope = h.scope ∙ e;
+  opened = let x = h.opened in omega arith;
   kept = h.kept;
   room = let x = h.room in omega arith;
   scopes = let x = h.scopes in omega arith;
   texts = let x = h.texts in omega arith;
   cells = let x = h.cells in omega arith;
-  code = f new.ops (length old.ops) (length new.ops) h.code;
+  code = f (laid_in new) (length old.ops) (length new.ops) h.code;
 }
 
-pub lowers_join : {n k c m j b : ℕ} {S T : List Instruction → ℕ → ℕ → Type 0} {s t : Scope} {old mid new : Draft} → Stable S → Lowers n k c S s old mid → Lowers m j b T t mid new → Lowers (n + m) (k + j) (c + b) (λ ops. Both (S ops) (T ops)) t old new
-lowers_join {n} {k} {c} {m} {j} {b} {S} {T} {s} {t} {old} {mid} {new} st h g = record {
-  rest = g.rest ∙ ap (λ (d : Draft). let e : Draft = record d { ops = new.ops; names = new.names; cells = new.cells; texts = new.texts; scopes = new.scopes } in e) h.rest;
+pub lowers_join : {n k c o m j b q : ℕ} {S T : Laid → ℕ → ℕ → Type 0} {s t : Scope} {old mid new : Draft} → Stable S → Lowers n k c o S s old mid → Lowers m j b q T t mid new → Lowers (n + m) (k + j) (c + b) (o + q) (λ code. Both (S code) (T code)) t old new
+lowers_join {n} {k} {c} {o} {m} {j} {b} {q} {S} {T} {s} {t} {old} {mid} {new} st h g = record {
+  rest = g.rest ∙ ap (λ (d : Draft). let e : Draft = record d { ops = new.ops; scopes = new.scopes; names = new.names; cells = new.cells; texts = new.texts; sites = new.sites } in e) h.rest;
   scope = g.scope;
-  kept = kept_then old.ops mid.ops new.ops h.kept g.kept;
+  opened = let x = h.opened in let y = g.opened in omega arith;
+  kept = kept_then (laid_in old) (laid_in mid) (laid_in new) h.kept g.kept;
   room = let x = h.room in let y = g.room in omega arith;
   scopes = let x = h.scopes in let y = g.scopes in omega arith;
   texts = let x = h.texts in let y = g.texts in omega arith;
   cells = let x = h.cells in let y = g.cells in omega arith;
   code = record {
     middle = length mid.ops;
-    first = st.moves mid.ops new.ops (length old.ops) (length mid.ops) (kept_same mid.ops new.ops (length old.ops) (length mid.ops) g.kept) h.code;
+    first = st.moves (laid_in mid) (laid_in new) (length old.ops) (length mid.ops) (kept_same (laid_in mid) (laid_in new) (length old.ops) (length mid.ops) (omega arith) g.kept) h.code;
     second = g.code;
   };
 }
 
--- ops behind a piece
-pub lowers_put : {n k c m : ℕ} {S T : List Instruction → ℕ → ℕ → Type 0} {s : Scope} {old mid new : Draft} → Stable S → Lowers n k c S s old mid → Adds m T mid new → Lowers (n + m) k c (λ ops. Both (S ops) (T ops)) s old new
-lowers_put {n} {k} {c} {m} {S} {T} {s} {old} {mid} {new} st h g =
-    lowers_as (lowers_join st h (lowers_adds 0 0 g)) h.scope (λ ops a z x. x) (omega arith) (omega arith) (omega arith)
+-- code behind a piece
+pub lowers_put : {n k c o m : ℕ} {S T : Laid → ℕ → ℕ → Type 0} {s : Scope} {old mid new : Draft} → Stable S → Lowers n k c o S s old mid → Adds m T mid new → Lowers (n + m) k c o (λ code. Both (S code) (T code)) s old new
+lowers_put {n} {k} {c} {o} {m} {S} {T} {s} {old} {mid} {new} st h g =
+    lowers_as (lowers_join st h (lowers_adds 0 0 g)) h.scope (λ code a z x. x) (omega arith) (omega arith) (omega arith) (omega arith)

@@ -3,25 +3,26 @@ use Rattle.std.proofs.Common.{ℕ, List, [], ◌∷◌, Option, Some, None}
 use Rattle.uc_tree.specs.Source.{Expr, Item, Show, ShowText, Target, Declared, Stmt, Skip, Block, Evaluate, Declare, Print, PrintTogether, Read, Stmts, Nil, Then}
 use Rattle.uc_code.specs.declared.op.Op.{Op}
 use Rattle.uc_code.specs.declared.op.Op.TheVariants as op
+use Rattle.uc_code.specs.declared.rows.Mark.{Mark}
 use Rattle.uc_code.specs.Ranges.{Stable}
 use Rattle.uc_code.specs.Lowered.{item_op, ValueAt, PiecesAt, StmtAt, StmtsAt}
 use Rattle.uc_code.proofs.Stable.{nothing_stable, one_stable}
 use Rattle.uc_lower_expr.proofs.Settled.{both, expr_stable}
 use Rattle.uc_lower_stmt.specs.Pieces.{ItemsCode, ValuesCode, TogetherCode, TargetsCode, StartCode, VariablesCode, PiecesCode}
 
-pub value_stable : (line : ℕ) (i : Item) → Stable (λ ops. ValueAt ops line i)
-value_stable line (Show form e) = expr_stable line e
-value_stable line (ShowText k) = nothing_stable
+pub value_stable : (line : ℕ) (ms : List Mark) (i : Item) → Stable (λ code. ValueAt code line ms i)
+value_stable line ms (Show form e) = expr_stable line ms e
+value_stable line ms (ShowText k) = nothing_stable
 
-pub items_stable : (line : ℕ) (is : List Item) → Stable (ItemsCode line is)
-items_stable line [] = nothing_stable
-items_stable line (i ∷ is) = both (value_stable line i) (both (one_stable (item_op i) line) (items_stable line is))
+pub items_stable : (line : ℕ) (ms : List Mark) (is : List Item) → Stable (ItemsCode line ms is)
+items_stable line ms [] = nothing_stable
+items_stable line ms (i ∷ is) = both (value_stable line ms i) (both (one_stable (item_op i) line) (items_stable line ms is))
 
-pub values_stable : (line : ℕ) (is : List Item) → Stable (ValuesCode line is)
-values_stable line [] = nothing_stable
-values_stable line (i ∷ is) = both (value_stable line i) (values_stable line is)
+pub values_stable : (line : ℕ) (ms : List Mark) (is : List Item) → Stable (ValuesCode line ms is)
+values_stable line ms [] = nothing_stable
+values_stable line ms (i ∷ is) = both (value_stable line ms i) (values_stable line ms is)
 
-pub pieces_stable : (line : ℕ) (is : List Item) → Stable (λ ops. PiecesAt ops line is)
+pub pieces_stable : (line : ℕ) (is : List Item) → Stable (λ code. PiecesAt code line is)
 pieces_stable line [] = nothing_stable
 pieces_stable line (i ∷ is) = both (pieces_stable line is) (one_stable (item_op i) line)
 
@@ -29,31 +30,31 @@ pub ops_stable : (line : ℕ) (os : List Op) → Stable (PiecesCode line os)
 ops_stable line [] = nothing_stable
 ops_stable line (o ∷ os) = both (ops_stable line os) (one_stable o line)
 
-together_stable : (line : ℕ) (is : List Item) → Stable (TogetherCode line is)
-together_stable line is = both (values_stable line is) (both (one_stable op.Hold line) (both (pieces_stable line is) (one_stable op.Flush line)))
+together_stable : (line : ℕ) (ms : List Mark) (is : List Item) → Stable (TogetherCode line ms is)
+together_stable line ms is = both (values_stable line ms is) (both (one_stable op.Hold line) (both (pieces_stable line is) (one_stable op.Flush line)))
 
-pub targets_stable : (line : ℕ) (ts : List Target) → Stable (TargetsCode line ts)
-targets_stable line [] = nothing_stable
-targets_stable line (t ∷ ts) = both (expr_stable line t.place) (both (one_stable (op.Read t.form) line) (both (one_stable op.Store line) (targets_stable line ts)))
+pub targets_stable : (line : ℕ) (ms : List Mark) (ts : List Target) → Stable (TargetsCode line ms ts)
+targets_stable line ms [] = nothing_stable
+targets_stable line ms (t ∷ ts) = both (expr_stable line ms t.place) (both (one_stable (op.Read t.form) line) (both (one_stable op.Store line) (targets_stable line ms ts)))
 
-pub start_stable : (line cell : ℕ) (value : Option Expr) → Stable (StartCode line cell value)
-start_stable line cell None = nothing_stable
-start_stable line cell (Some e) = both (one_stable (op.Local cell) line) (both (expr_stable line e) (one_stable op.Store line))
+pub start_stable : (line : ℕ) (ms : List Mark) (cell : ℕ) (value : Option Expr) → Stable (StartCode line ms cell value)
+start_stable line ms cell None = nothing_stable
+start_stable line ms cell (Some e) = both (one_stable (op.Local cell) line) (both (expr_stable line ms e) (one_stable op.Store line))
 
-pub variables_stable : (line : ℕ) (ds : List Declared) → Stable (VariablesCode line ds)
-variables_stable line [] = nothing_stable
-variables_stable line (d ∷ ds) = both (one_stable (op.Clear d.cell d.cells) line) (both (start_stable line d.cell d.value) (variables_stable line ds))
+pub variables_stable : (line : ℕ) (ms : List Mark) (ds : List Declared) → Stable (VariablesCode line ms ds)
+variables_stable line ms [] = nothing_stable
+variables_stable line ms (d ∷ ds) = both (one_stable (op.Clear d.cell d.cells) line) (both (start_stable line ms d.cell d.value) (variables_stable line ms ds))
 
 mutual
-  pub stmt_stable : (s : Stmt) → Stable (λ ops. StmtAt ops s)
-  stmt_stable (Skip line) = nothing_stable
-  stmt_stable (Block line body) = stmts_stable body
-  stmt_stable (Evaluate line e) = both (expr_stable line e) (one_stable op.Discard line)
-  stmt_stable (Declare line ds) = variables_stable line ds
-  stmt_stable (Print line is) = items_stable line is
-  stmt_stable (PrintTogether line is) = together_stable line is
-  stmt_stable (Read line ts) = targets_stable line ts
+  pub stmt_stable : (ms : List Mark) (s : Stmt) → Stable (λ code. StmtAt code ms s)
+  stmt_stable ms (Skip line) = nothing_stable
+  stmt_stable ms (Block line body) = stmts_stable ms body
+  stmt_stable ms (Evaluate line e) = both (expr_stable line ms e) (one_stable op.Discard line)
+  stmt_stable ms (Declare line ds) = variables_stable line ms ds
+  stmt_stable ms (Print line is) = items_stable line ms is
+  stmt_stable ms (PrintTogether line is) = together_stable line ms is
+  stmt_stable ms (Read line ts) = targets_stable line ms ts
 
-  pub stmts_stable : (ss : Stmts) → Stable (λ ops. StmtsAt ops ss)
-  stmts_stable Nil = nothing_stable
-  stmts_stable (Then s ss) = both (stmt_stable s) (stmts_stable ss)
+  pub stmts_stable : (ms : List Mark) (ss : Stmts) → Stable (λ code. StmtsAt code ms ss)
+  stmts_stable ms Nil = nothing_stable
+  stmts_stable ms (Then s ss) = both (stmt_stable ms s) (stmts_stable ms ss)

@@ -1,5 +1,5 @@
-pub mod Ahead
 pub mod Alone
+pub mod Counted
 pub mod Declaring
 pub mod Joined
 pub mod Kept

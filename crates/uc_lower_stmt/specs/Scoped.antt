@@ -1,35 +1,37 @@
 -- What lowering statements does to a draft.
-use Rattle.std.specs.Prelude.{◌≡◌, ℕ, ◌+◌, ◌*◌, ◌≤◌, List, length}
+use Rattle.std.specs.Prelude.{◌≡◌, ℕ, ◌+◌, ◌*◌, ◌≤◌, length}
 use Rattle.uc_tree.specs.declared.limits.TheConstants.{OPS_FOR_SIZE}
 use Rattle.uc_tree.specs.Statements.{Stmt, Stmts}
 use Rattle.uc_tree.specs.StatementSizes.{stmt_size, stmts_size}
+use Rattle.uc_tree.specs.Scopes.{stmt_scopes, stmts_scopes}
 use Rattle.uc_tree.specs.Cells.{declared_cells, stmt_cells, stmts_cells}
 use Rattle.uc_tree.specs.Programs.{Program}
 use Rattle.uc_tree.specs.Resolve.{Scope, stmt_meant, stmts_meant, scope_after, scope_behind}
-use Rattle.uc_code.specs.declared.rows.Instruction.{Instruction}
 use Rattle.uc_code.specs.Drafts.{Draft}
+use Rattle.uc_code.specs.Laid.{Laid, laid_in}
 use Rattle.uc_code.specs.Ranges.{Kept}
 use Rattle.uc_code.specs.Lowered.{StmtAt, StmtsAt}
 
--- the names, cells and text literals that a draft has so far
+-- where a draft stands: its class and routine, its names, and the cells, text literals and accept statements so far
 abbrev pub scope_of : Draft → Scope
-scope_of d = record { names = d.names; cells = d.cells; texts = d.texts }
+scope_of d = record { class = d.place.class; routine = d.place.routine; names = d.names; cells = d.cells; texts = d.texts; sites = d.sites }
 
--- a draft with at most n ops more, for which S holds, in this scope. So many scopes and text literals, and so many
--- cells, are more at most; jumps, rows, routines and the place are as they were.
-pub record Lowers (n k c : ℕ) (S : List Instruction → ℕ → ℕ → Type 0) (after : Scope) (old new : Draft) : Type 0 where
-  pub rest : new ≡ record old { ops = new.ops; names = new.names; cells = new.cells; texts = new.texts; scopes = new.scopes }
+-- a draft with at most n ops more, for which S holds, in this scope, and with o scopes more. No more than k scopes and text
+-- literals, and c cells, came to it; its rows, marks, routines and place are as they were.
+pub record Lowers (n k c o : ℕ) (S : Laid → ℕ → ℕ → Type 0) (after : Scope) (old new : Draft) : Type 0 where
+  pub rest : new ≡ record old { ops = new.ops; scopes = new.scopes; names = new.names; cells = new.cells; texts = new.texts; sites = new.sites }
   pub scope : scope_of new ≡ after
-  pub kept : Kept old.ops new.ops
+  pub opened : new.scopes ≡ old.scopes + o
+  pub kept : Kept (laid_in old) (laid_in new)
   pub room : length new.ops ≤ length old.ops + n
   pub scopes : new.scopes ≤ old.scopes + k
   pub texts : new.texts ≤ old.texts + k
   pub cells : new.cells ≤ old.cells + c
-  pub code : S new.ops (length old.ops) (length new.ops)
+  pub code : S (laid_in new) (length old.ops) (length new.ops)
 
 -- by a statement of a program, and by a list of them
 abbrev pub LowersStmt : Program → Stmt → Draft → Draft → Type 0
-LowersStmt p s old new = Lowers (OPS_FOR_SIZE * stmt_size s) (stmt_size s) (stmt_cells s (declared_cells p)) (λ ops. StmtAt ops (stmt_meant p s (scope_of old))) (scope_after p s (scope_of old)) old new
+LowersStmt p s old new = Lowers (OPS_FOR_SIZE * stmt_size s) (stmt_size s) (stmt_cells s (declared_cells p)) (stmt_scopes s) (λ code. StmtAt code old.marks (stmt_meant p s (scope_of old))) (scope_after p s (scope_of old)) old new
 
 abbrev pub LowersStmts : Program → Stmts → Draft → Draft → Type 0
-LowersStmts p ss old new = Lowers (OPS_FOR_SIZE * stmts_size ss) (stmts_size ss) (stmts_cells ss (declared_cells p)) (λ ops. StmtsAt ops (stmts_meant p ss (scope_of old))) (scope_behind p ss (scope_of old)) old new
+LowersStmts p ss old new = Lowers (OPS_FOR_SIZE * stmts_size ss) (stmts_size ss) (stmts_cells ss (declared_cells p)) (stmts_scopes ss) (λ code. StmtsAt code old.marks (stmts_meant p ss (scope_of old))) (scope_behind p ss (scope_of old)) old new

@@ -9,6 +9,7 @@ ghost use Rattle.uc_tree.specs.Cells.{declared_cells, declarators_cells};
 ghost use Rattle.uc_tree.specs.Resolve.{meant, value_of, converted, start_meant, first_value, length_of, declared_type, declared_meant, all_declared, with_declared, with_all};
 ghost use Rattle.uc_lower_expr.specs.Meanings.{shape_as};
 ghost use Rattle.uc_lower_expr.specs.Added.{Adds};
+ghost use Rattle.uc_lower_expr.specs.Contexts.{context_in};
 ghost use Rattle.uc_lower_stmt.specs.Scoped.{Lowers, scope_of};
 ghost use Rattle.uc_lower_stmt.specs.Pieces.{StartCode, VariablesCode};
 
@@ -75,13 +76,14 @@ fn lower_first(
     cell: u32,
     scalar: Scalar,
     line: u32,
+    sizes: &Sizes,
     out: &mut Draft,
 ) -> Result<(), AllocError>
     requires { length out.old.ops + OPS_FOR_SIZE * expr_size value.now + 3 ≤ PROGRAM_OPS }
-    ensures { OnOk result (Adds (OPS_FOR_SIZE * expr_size value.now + 3) (StartCode line cell (Some (converted (shape_as scalar) (value_of (meant out.old.names value.now))))) out.old out.new) }
+    ensures { OnOk result (Adds (OPS_FOR_SIZE * expr_size value.now + 3) (StartCode line out.old.marks cell (Some (converted (shape_as scalar) (value_of (meant (context_in sizes.now out.old) value.now))))) out.old out.new) }
 {
     put(Op::Local(cell), line, out)?;
-    let _told = lower_value(value, line, out)?;
+    let _told = lower_value(value, line, sizes, out)?;
     put_conversion(scalar, line, out)?;
     put(Op::Store, line, out)?;
     Ok(())
@@ -92,15 +94,16 @@ fn lower_start(
     cell: u32,
     scalar: Scalar,
     line: u32,
+    sizes: &Sizes,
     out: &mut Draft,
 ) -> Result<(), AllocError>
     requires { length out.old.ops + OPS_FOR_SIZE * start_size start.now + 3 ≤ PROGRAM_OPS }
-    ensures { OnOk result (Adds (OPS_FOR_SIZE * start_size start.now + 3) (StartCode line cell (start_meant out.old.names (shape_as scalar) start.now)) out.old out.new) }
+    ensures { OnOk result (Adds (OPS_FOR_SIZE * start_size start.now + 3) (StartCode line out.old.marks cell (start_meant (context_in sizes.now out.old) (shape_as scalar) start.now)) out.old out.new) }
 {
     match &start.form {
         StartForm::Nothing => Ok(()),
-        StartForm::Value { value } => lower_first(value, cell, scalar, line, out),
-        StartForm::Args { args } => lower_args(args, cell, scalar, line, out),
+        StartForm::Value { value } => lower_first(value, cell, scalar, line, sizes, out),
+        StartForm::Args { args } => lower_args(args, cell, scalar, line, sizes, out),
     }
 }
 
@@ -110,13 +113,14 @@ fn lower_args(
     cell: u32,
     scalar: Scalar,
     line: u32,
+    sizes: &Sizes,
     out: &mut Draft,
 ) -> Result<(), AllocError>
     requires { length out.old.ops + OPS_FOR_SIZE * exprs_size (exprs_of args.now) + 3 ≤ PROGRAM_OPS }
-    ensures { OnOk result (Adds (OPS_FOR_SIZE * exprs_size (exprs_of args.now) + 3) (StartCode line cell (first_value out.old.names (shape_as scalar) (exprs_of args.now))) out.old out.new) }
+    ensures { OnOk result (Adds (OPS_FOR_SIZE * exprs_size (exprs_of args.now) + 3) (StartCode line out.old.marks cell (first_value (context_in sizes.now out.old) (shape_as scalar) (exprs_of args.now))) out.old out.new) }
 {
     match args.first() {
-        Some(value) => lower_first(value, cell, scalar, line, out),
+        Some(value) => lower_first(value, cell, scalar, line, sizes, out),
         None => Ok(()),
     }
 }
@@ -132,20 +136,20 @@ fn lower_declarator(
 ) -> Result<(), AllocError>
     requires room { length out.old.ops + OPS_FOR_SIZE * declarator_size declarator.now ≤ PROGRAM_OPS }
     requires cells { out.old.cells + declared_cells sizes.now base.now declarator.now ≤ FRAME_CELLS }
-    ensures { OnOk result (Lowers (OPS_FOR_SIZE * declarator_size declarator.now) 0 (declared_cells sizes.now base.now declarator.now) (VariablesCode line (declared_meant sizes.now (scope_of out.old) base.now declarator.now ∷ [])) (with_declared sizes.now (scope_of out.old) base.now declarator.now) out.old out.new) }
+    ensures { OnOk result (Lowers (OPS_FOR_SIZE * declarator_size declarator.now) 0 (declared_cells sizes.now base.now declarator.now) 0 (VariablesCode line out.old.marks (declared_meant sizes.now (scope_of out.old) base.now declarator.now ∷ [])) (with_declared sizes.now (scope_of out.old) base.now declarator.now) out.old out.new) }
 {
     let cells = sizes.cells_of_variable(base, declarator) as u32;
     let cell = out.cells();
     put(Op::Clear { cell, cells }, line, out)?;
     let scalar = Scalar::of_base(base);
-    lower_start(&declarator.start, cell, scalar, line, out)?;
+    lower_start(&declarator.start, cell, scalar, line, sizes, out)?;
     let name = declarator.name.copy(alloc)?;
     let ty = type_of(alloc, sizes, base, declarator)?;
     out.declare(name, ty, cells)?;
     Ok(())
 }
 
-/// Adds the code of a declaration.
+/// Adds the code of a declaration. After want of memory the draft is spent.
 pub fn lower_declarators(
     alloc: Global,
     sizes: &Sizes,
@@ -156,7 +160,7 @@ pub fn lower_declarators(
 ) -> Result<(), AllocError>
     requires room { length out.old.ops + OPS_FOR_SIZE * declarators_size declarators.now ≤ PROGRAM_OPS }
     requires cells { out.old.cells + declarators_cells (declared_cells sizes.now base.now) declarators.now ≤ FRAME_CELLS }
-    ensures { OnOk result (Lowers (OPS_FOR_SIZE * declarators_size declarators.now) 0 (declarators_cells (declared_cells sizes.now base.now) declarators.now) (VariablesCode line (all_declared sizes.now (scope_of out.old) base.now declarators.now)) (with_all sizes.now (scope_of out.old) base.now declarators.now) out.old out.new) }
+    ensures { OnOk result (Lowers (OPS_FOR_SIZE * declarators_size declarators.now) 0 (declarators_cells (declared_cells sizes.now base.now) declarators.now) 0 (VariablesCode line out.old.marks (all_declared sizes.now (scope_of out.old) base.now declarators.now)) (with_all sizes.now (scope_of out.old) base.now declarators.now) out.old out.new) }
 {
     for declarator in declarators {
         lower_declarator(alloc, sizes, base, declarator, line, out)?;

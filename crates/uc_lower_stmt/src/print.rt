@@ -5,9 +5,11 @@ ghost use Rattle.uc_tree.specs.declared.limits.TheConstants.{OPS_FOR_SIZE, PROGR
 ghost use Rattle.uc_tree.specs.Expressions.{exprs_of};
 ghost use Rattle.uc_tree.specs.ExpressionSizes.{expr_size, exprs_size};
 ghost use Rattle.uc_tree.specs.StatementSizes.{out_item_size, out_items_size};
-ghost use Rattle.uc_tree.specs.Resolve.{items_meant, texts_among, target_meant, targets_meant};
+ghost use Rattle.uc_tree.specs.Numbering.{item_texts};
+ghost use Rattle.uc_tree.specs.Resolve.{items_meant, target_meant, targets_meant};
 ghost use Rattle.uc_code.specs.Lowered.{item_op};
 ghost use Rattle.uc_lower_expr.specs.Added.{Adds};
+ghost use Rattle.uc_lower_expr.specs.Contexts.{context_in};
 ghost use Rattle.uc_lower_stmt.specs.Scoped.{Lowers, scope_of};
 ghost use Rattle.uc_lower_stmt.specs.Pieces.{ItemsCode, ValuesCode, PiecesCode, TogetherCode, TargetsCode, form_as};
 
@@ -17,6 +19,7 @@ use uc_code::op::Op;
 use uc_lower_expr::expr::{lower_expr, lower_value};
 use uc_lower_expr::meaning::Scalar;
 use uc_lower_expr::put::put;
+use uc_sizes::sizes::Sizes;
 use uc_tree::declare::{OutForm, OutItem};
 use uc_tree::expr::Expr;
 use uc_tree::kinds::ValueForm;
@@ -33,11 +36,11 @@ fn form(scalar: Scalar) -> ValueForm
 }
 
 // The value of an item, and the op that prints it.
-fn lower_piece(item: &OutItem, line: u32, out: &mut Draft) -> Result<Op, AllocError>
+fn lower_piece(item: &OutItem, line: u32, sizes: &Sizes, out: &mut Draft) -> Result<Op, AllocError>
     requires room { length out.old.ops + OPS_FOR_SIZE * out_item_size item.now ≤ PROGRAM_OPS }
     requires texts { out.old.texts < PROGRAM_SIZE }
-    ensures code { OnOk result (Lowers (OPS_FOR_SIZE * out_item_size item.now - 1) (out_item_size item.now) 0 (ValuesCode line (items_meant (scope_of out.old) (item.now ∷ []))) (record (scope_of out.old) { texts = out.old.texts + texts_among (item.now ∷ []) }) out.old out.new) }
-    ensures op { IfOk result (λ op. op ∷ [] ≡ map item_op (items_meant (scope_of out.old) (item.now ∷ []))) }
+    ensures code { OnOk result (Lowers (OPS_FOR_SIZE * out_item_size item.now - 1) (out_item_size item.now) 0 0 (ValuesCode line out.old.marks (items_meant (context_in sizes.now out.old) out.old.texts (item.now ∷ []))) (record (scope_of out.old) { texts = out.old.texts + length (item_texts (item.now ∷ [])) }) out.old out.new) }
+    ensures op { IfOk result (λ op. op ∷ [] ≡ map item_op (items_meant (context_in sizes.now out.old) out.old.texts (item.now ∷ []))) }
 {
     match &item.form {
         OutForm::Endl => {
@@ -46,30 +49,35 @@ fn lower_piece(item: &OutItem, line: u32, out: &mut Draft) -> Result<Op, AllocEr
         }
         OutForm::Literal { .. } => Ok(Op::Text(out.add_text())),
         OutForm::Value { value } => {
-            let told = lower_value(value, line, out)?;
+            let told = lower_value(value, line, sizes, out)?;
             Ok(Op::Print(form(told.scalar)))
         }
     }
 }
 
-fn lower_item(item: &OutItem, line: u32, out: &mut Draft) -> Result<(), AllocError>
+fn lower_item(item: &OutItem, line: u32, sizes: &Sizes, out: &mut Draft) -> Result<(), AllocError>
     requires room { length out.old.ops + OPS_FOR_SIZE * out_item_size item.now ≤ PROGRAM_OPS }
     requires texts { out.old.texts < PROGRAM_SIZE }
-    ensures { OnOk result (Lowers (OPS_FOR_SIZE * out_item_size item.now) (out_item_size item.now) 0 (ItemsCode line (items_meant (scope_of out.old) (item.now ∷ []))) (record (scope_of out.old) { texts = out.old.texts + texts_among (item.now ∷ []) }) out.old out.new) }
+    ensures { OnOk result (Lowers (OPS_FOR_SIZE * out_item_size item.now) (out_item_size item.now) 0 0 (ItemsCode line out.old.marks (items_meant (context_in sizes.now out.old) out.old.texts (item.now ∷ []))) (record (scope_of out.old) { texts = out.old.texts + length (item_texts (item.now ∷ [])) }) out.old out.new) }
 {
-    let op = lower_piece(item, line, out)?;
+    let op = lower_piece(item, line, sizes, out)?;
     put(op, line, out)?;
     Ok(())
 }
 
-/// Adds the code that prints items one by one.
-pub fn lower_items(items: &[OutItem], line: u32, out: &mut Draft) -> Result<(), AllocError>
+/// Adds the code that prints items one by one. After want of memory the draft is spent.
+pub fn lower_items(
+    items: &[OutItem],
+    line: u32,
+    sizes: &Sizes,
+    out: &mut Draft,
+) -> Result<(), AllocError>
     requires room { length out.old.ops + OPS_FOR_SIZE * out_items_size items.now ≤ PROGRAM_OPS }
     requires texts { out.old.texts + out_items_size items.now ≤ PROGRAM_SIZE }
-    ensures { OnOk result (Lowers (OPS_FOR_SIZE * out_items_size items.now) (out_items_size items.now) 0 (ItemsCode line (items_meant (scope_of out.old) items.now)) (record (scope_of out.old) { texts = out.old.texts + texts_among items.now }) out.old out.new) }
+    ensures { OnOk result (Lowers (OPS_FOR_SIZE * out_items_size items.now) (out_items_size items.now) 0 0 (ItemsCode line out.old.marks (items_meant (context_in sizes.now out.old) out.old.texts items.now)) (record (scope_of out.old) { texts = out.old.texts + length (item_texts items.now) }) out.old out.new) }
 {
     for item in items {
-        lower_item(item, line, out)?;
+        lower_item(item, line, sizes, out)?;
     }
     Ok(())
 }
@@ -79,16 +87,17 @@ fn lower_pieces(
     alloc: Global,
     items: &[OutItem],
     line: u32,
+    sizes: &Sizes,
     out: &mut Draft,
 ) -> Result<Vec<Op>, AllocError>
     requires room { length out.old.ops + OPS_FOR_SIZE * out_items_size items.now ≤ PROGRAM_OPS }
     requires texts { out.old.texts + out_items_size items.now ≤ PROGRAM_SIZE }
-    ensures code { OnOk result (Lowers (OPS_FOR_SIZE * out_items_size items.now - length items.now) (out_items_size items.now) 0 (ValuesCode line (items_meant (scope_of out.old) items.now)) (record (scope_of out.old) { texts = out.old.texts + texts_among items.now }) out.old out.new) }
-    ensures ops { IfOk result (λ pieces. pieces.items ≡ map item_op (items_meant (scope_of out.old) items.now)) }
+    ensures code { OnOk result (Lowers (OPS_FOR_SIZE * out_items_size items.now - length items.now) (out_items_size items.now) 0 0 (ValuesCode line out.old.marks (items_meant (context_in sizes.now out.old) out.old.texts items.now)) (record (scope_of out.old) { texts = out.old.texts + length (item_texts items.now) }) out.old out.new) }
+    ensures ops { IfOk result (λ pieces. pieces.items ≡ map item_op (items_meant (context_in sizes.now out.old) out.old.texts items.now)) }
 {
     let mut pieces = Vec::new(alloc);
     for item in items {
-        let op = lower_piece(item, line, out)?;
+        let op = lower_piece(item, line, sizes, out)?;
         pieces.push(op)?;
     }
     Ok(pieces)
@@ -107,41 +116,47 @@ fn put_pieces(pieces: &[Op], line: u32, out: &mut Draft) -> Result<(), AllocErro
     Ok(())
 }
 
-/// Adds the code that prints items at once.
+/// Adds the code that prints items at once. After want of memory the draft is spent.
 pub fn lower_together(
     alloc: Global,
     items: &[OutItem],
     line: u32,
+    sizes: &Sizes,
     out: &mut Draft,
 ) -> Result<(), AllocError>
     requires room { length out.old.ops + OPS_FOR_SIZE * (1 + out_items_size items.now) ≤ PROGRAM_OPS }
     requires texts { out.old.texts + out_items_size items.now ≤ PROGRAM_SIZE }
-    ensures { OnOk result (Lowers (OPS_FOR_SIZE * (1 + out_items_size items.now)) (out_items_size items.now) 0 (TogetherCode line (items_meant (scope_of out.old) items.now)) (record (scope_of out.old) { texts = out.old.texts + texts_among items.now }) out.old out.new) }
+    ensures { OnOk result (Lowers (OPS_FOR_SIZE * (1 + out_items_size items.now)) (out_items_size items.now) 0 0 (TogetherCode line out.old.marks (items_meant (context_in sizes.now out.old) out.old.texts items.now)) (record (scope_of out.old) { texts = out.old.texts + length (item_texts items.now) }) out.old out.new) }
 {
-    let pieces = lower_pieces(alloc, items, line, out)?;
+    let pieces = lower_pieces(alloc, items, line, sizes, out)?;
     put(Op::Hold, line, out)?;
     put_pieces(&pieces, line, out)?;
     put(Op::Flush, line, out)?;
     Ok(())
 }
 
-fn lower_target(place: &Expr, line: u32, out: &mut Draft) -> Result<(), AllocError>
+fn lower_target(place: &Expr, line: u32, sizes: &Sizes, out: &mut Draft) -> Result<(), AllocError>
     requires { length out.old.ops + OPS_FOR_SIZE * expr_size place.now ≤ PROGRAM_OPS }
-    ensures { OnOk result (Adds (OPS_FOR_SIZE * expr_size place.now) (TargetsCode line (target_meant out.old.names place.now ∷ [])) out.old out.new) }
+    ensures { OnOk result (Adds (OPS_FOR_SIZE * expr_size place.now) (TargetsCode line out.old.marks (target_meant (context_in sizes.now out.old) place.now ∷ [])) out.old out.new) }
 {
-    let told = lower_expr(place, line, out)?;
+    let told = lower_expr(place, line, sizes, out)?;
     put(Op::Read(form(told.scalar)), line, out)?;
     put(Op::Store, line, out)?;
     Ok(())
 }
 
-/// Adds the code that reads into places.
-pub fn lower_targets(places: &[Expr], line: u32, out: &mut Draft) -> Result<(), AllocError>
+/// Adds the code that reads into places. After want of memory the draft is spent.
+pub fn lower_targets(
+    places: &[Expr],
+    line: u32,
+    sizes: &Sizes,
+    out: &mut Draft,
+) -> Result<(), AllocError>
     requires { length out.old.ops + OPS_FOR_SIZE * exprs_size (exprs_of places.now) ≤ PROGRAM_OPS }
-    ensures { OnOk result (Adds (OPS_FOR_SIZE * exprs_size (exprs_of places.now)) (TargetsCode line (targets_meant out.old.names (exprs_of places.now))) out.old out.new) }
+    ensures { OnOk result (Adds (OPS_FOR_SIZE * exprs_size (exprs_of places.now)) (TargetsCode line out.old.marks (targets_meant (context_in sizes.now out.old) (exprs_of places.now))) out.old out.new) }
 {
     for place in places {
-        lower_target(place, line, out)?;
+        lower_target(place, line, sizes, out)?;
     }
     Ok(())
 }

@@ -1,14 +1,14 @@
 // The code of straight programs.
 
-ghost use Rattle.std.specs.Prelude.{◌≡◌, ◌+◌, ◌*◌, ◌≤◌, ◌<◌, [], ◌∷◌, length, IfOk, OnOk};
+ghost use Rattle.std.specs.Prelude.{◌≡◌, ◌+◌, ◌*◌, ◌≤◌, ◌<◌, [], ◌∷◌, true, length, IfOk, OnOk};
 ghost use Rattle.uc_tree.specs.declared.limits.TheConstants.{FRAME_CELLS, OPS_FOR_SIZE, PROGRAM_OPS, PROGRAM_SIZE};
 ghost use Rattle.uc_tree.specs.Cells.{routine_cells};
 ghost use Rattle.uc_tree.specs.Programs.{Routine as Lowerable, RoutineItem};
 ghost use Rattle.uc_tree.specs.Sizes.{item_size, items_size, program_size};
-ghost use Rattle.uc_tree.specs.Resolve.{source_of};
-ghost use Rattle.uc_meaning.specs.Straight.{IsStraight};
+ghost use Rattle.uc_tree.specs.Resolve.{routine_scope, source_of};
+ghost use Rattle.uc_meaning.specs.Straight.{is_straight_item, is_straight_list, IsStraight};
 ghost use Rattle.uc_meaning.specs.Accepted.{FitFrames};
-ghost use Rattle.uc_code.specs.Forward.{IsForward};
+ghost use Rattle.uc_code.specs.Pace.{IsPaced};
 ghost use Rattle.uc_code.specs.Lowered.{Lowered};
 ghost use Rattle.uc_lower_stmt.specs.Programs.{LowersRoutine, HasMain};
 
@@ -33,18 +33,19 @@ fn draft_of_one(alloc: Global) -> Result<Draft, AllocError>
     Ok(Draft::new(alloc, routines))
 }
 
-// Where an item is a routine, it is routine 0, outside of classes and behind no text literal.
+// Where an item is a routine, it is routine 0, outside of classes and behind no text literal and no accept statement.
 fn lower_item(alloc: Global, sizes: &Sizes, item: &Item, out: &mut Draft) -> Result<(), AllocError>
+    requires straight { is_straight_item item.now ≡ true }
     requires known { 0 < length out.old.routines }
     requires room { length out.old.ops + OPS_FOR_SIZE * item_size item.now ≤ PROGRAM_OPS }
     requires cells { (r : Lowerable) → item.now ≡ RoutineItem r → routine_cells sizes.now r ≤ FRAME_CELLS }
     requires texts { item_size item.now ≤ PROGRAM_SIZE }
-    ensures { OnOk result ((r : Lowerable) → item.now ≡ RoutineItem r → LowersRoutine sizes.now r 0 0 out.old out.new) }
+    ensures { OnOk result ((r : Lowerable) → item.now ≡ RoutineItem r → LowersRoutine sizes.now r (routine_scope sizes.now 0 0 0 0) 0 out.old out.new) }
 {
     match &item.form {
         ItemForm::Class { .. } => Ok(()),
         ItemForm::Routine { routine } => {
-            lower_routine(alloc, sizes, routine, 0, 0, 0, out)?;
+            lower_routine(alloc, sizes, routine, 0, 0, 0, 0, out)?;
             Ok(())
         }
         ItemForm::Constant { .. } => Ok(()),
@@ -61,11 +62,12 @@ fn lower_only(
     items: &[Item],
     out: &mut Draft,
 ) -> Result<(), AllocError>
+    requires straight { is_straight_list items.now ≡ true }
     requires known { 0 < length out.old.routines }
     requires room { length out.old.ops + OPS_FOR_SIZE * items_size items.now ≤ PROGRAM_OPS }
     requires cells { FitFrames sizes.now items.now }
     requires texts { items_size items.now ≤ PROGRAM_SIZE }
-    ensures { OnOk result ((r : Lowerable) → items.now ≡ RoutineItem r ∷ [] → LowersRoutine sizes.now r 0 0 out.old out.new) }
+    ensures { OnOk result ((r : Lowerable) → items.now ≡ RoutineItem r ∷ [] → LowersRoutine sizes.now r (routine_scope sizes.now 0 0 0 0) 0 out.old out.new) }
 {
     match items.first() {
         Some(item) => lower_item(alloc, sizes, item, out),
@@ -73,14 +75,16 @@ fn lower_only(
     }
 }
 
-/// The code of a straight program of which these are the sizes. Its one routine is its main, which has the number 0.
+/// The code of a straight program of which these are the sizes. Its one routine is its main, which has the number 0. It has
+/// at most `OPS_FOR_SIZE` ops for each unit of the program's size.
 pub fn lower_program(alloc: Global, program: &Program, sizes: &Sizes) -> Result<Code, AllocError>
     requires straight { IsStraight program.now }
     requires sizes { sizes.now ≡ program.now }
     requires cells { FitFrames program.now program.now.items }
     requires size { program_size program.now ≤ PROGRAM_SIZE }
     ensures lowered { IfOk result (λ code. Lowered (source_of program.now) code) }
-    ensures forward { IfOk result (λ code. IsForward code.ops) }
+    ensures paced { IfOk result (λ code. IsPaced code.ops) }
+    ensures few { IfOk result (λ code. length code.ops ≤ OPS_FOR_SIZE * program_size program.now) }
     ensures main { HasMain program.now }
     ensures rows { IfOk result (λ code. code.rows ≡ []) }
     ensures classes { IfOk result (λ code. code.classes ≡ 0 ∷ []) }

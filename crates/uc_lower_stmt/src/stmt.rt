@@ -1,10 +1,11 @@
 // The code of statements.
 
-ghost use Rattle.std.specs.Prelude.{◌+◌, ◌*◌, ◌≤◌, length, OnOk};
+ghost use Rattle.std.specs.Prelude.{◌≡◌, true, ◌+◌, ◌*◌, ◌≤◌, length, OnOk};
 ghost use Rattle.uc_tree.specs.declared.limits.TheConstants.{FRAME_CELLS, OPS_FOR_SIZE, PROGRAM_OPS, PROGRAM_SIZE};
 ghost use Rattle.uc_tree.specs.Statements.{stmts_of};
 ghost use Rattle.uc_tree.specs.StatementSizes.{stmt_size, stmts_size};
 ghost use Rattle.uc_tree.specs.Cells.{declared_cells, stmt_cells, stmts_cells};
+ghost use Rattle.uc_meaning.specs.Straight.{is_straight_stmt, are_straight};
 ghost use Rattle.uc_lower_stmt.specs.Scoped.{LowersStmt, LowersStmts};
 
 use crate::declare::lower_declarators;
@@ -17,9 +18,10 @@ use uc_lower_expr::put::put;
 use uc_sizes::sizes::Sizes;
 use uc_tree::stmt::{Stmt, StmtForm};
 
-/// Adds the code of a statement.
+/// Adds the code of a statement, which is of a form that is built. After want of memory the draft is spent.
 #[cycle(stmt)]
 pub fn lower_stmt(alloc: Global, sizes: &Sizes, s: &Stmt, out: &mut Draft) -> Result<(), AllocError>
+    requires straight { is_straight_stmt s.now ≡ true }
     requires room { length out.old.ops + OPS_FOR_SIZE * stmt_size s.now ≤ PROGRAM_OPS }
     requires cells { out.old.cells + stmt_cells s.now (declared_cells sizes.now) ≤ FRAME_CELLS }
     requires scopes { out.old.scopes + stmt_size s.now ≤ PROGRAM_SIZE }
@@ -35,7 +37,7 @@ pub fn lower_stmt(alloc: Global, sizes: &Sizes, s: &Stmt, out: &mut Draft) -> Re
             Ok(())
         }
         StmtForm::Evaluate { value } => {
-            let _told = lower_expr(value, line, out)?;
+            let _told = lower_expr(value, line, sizes, out)?;
             put(Op::Discard, line, out)?;
             Ok(())
         }
@@ -44,15 +46,15 @@ pub fn lower_stmt(alloc: Global, sizes: &Sizes, s: &Stmt, out: &mut Draft) -> Re
             Ok(())
         }
         StmtForm::Print { items } => {
-            lower_items(items, line, out)?;
+            lower_items(items, line, sizes, out)?;
             Ok(())
         }
         StmtForm::PrintTogether { items } => {
-            lower_together(alloc, items, line, out)?;
+            lower_together(alloc, items, line, sizes, out)?;
             Ok(())
         }
         StmtForm::Read { places } => {
-            lower_targets(places, line, out)?;
+            lower_targets(places, line, sizes, out)?;
             Ok(())
         }
         StmtForm::Empty => Ok(()),
@@ -77,7 +79,7 @@ pub fn lower_stmt(alloc: Global, sizes: &Sizes, s: &Stmt, out: &mut Draft) -> Re
     }
 }
 
-/// Adds the code of statements.
+/// Adds the code of statements, which are of forms that are built. After want of memory the draft is spent.
 #[cycle(stmt)]
 pub fn lower_stmts(
     alloc: Global,
@@ -85,6 +87,7 @@ pub fn lower_stmts(
     stmts: &[Stmt],
     out: &mut Draft,
 ) -> Result<(), AllocError>
+    requires straight { are_straight (stmts_of stmts.now) ≡ true }
     requires room { length out.old.ops + OPS_FOR_SIZE * stmts_size (stmts_of stmts.now) ≤ PROGRAM_OPS }
     requires cells { out.old.cells + stmts_cells (stmts_of stmts.now) (declared_cells sizes.now) ≤ FRAME_CELLS }
     requires scopes { out.old.scopes + stmts_size (stmts_of stmts.now) ≤ PROGRAM_SIZE }

@@ -28,31 +28,32 @@ use Rattle.uc_meaning.proofs.Making.{Asks, row_asks}
 no_both : (b : Bool) → b ≡ true → b ≡ false → ⊥
 no_both b t f = cc
 
--- a ride has one outcome
-same_ride : {s u s' u' : State} {q k q' k' : ℕ} {r r' : Asked} → Rides s q u k r → Rides s' q' u' k' r' → s ≡ s' → q ≡ q' → OneRide u u' k k' r r'
-same_ride slices slices e f = record { state = e; ticks = refl; asked = ap (λ v. asked_in v ask.Slice) e }
-same_ride slices (moves_on x y) e f = absurd (cc f)
-same_ride slices (makes_tick x y) e f = absurd (cc f)
-same_ride slices (asks_now x) e f = absurd (cc f)
-same_ride (moves_on a b) slices e f = absurd (cc f)
-same_ride (moves_on {t} a b) (moves_on {t = t'} x y) e f =
-    let h : Goes t ≡ Goes t' = sym a ∙ ap quiet e ∙ x in same_ride b y (cc h) f
-same_ride (moves_on {t} a b) (makes_tick {t = t'} x y) e f = let h : Goes t ≡ Ticks t' = sym a ∙ ap quiet e ∙ x in absurd (cc h)
-same_ride (moves_on {t} a b) (asks_now {t = t'} {r = r'} x) e f = let h : Goes t ≡ AsksNow r' t' = sym a ∙ ap quiet e ∙ x in absurd (cc h)
-same_ride (makes_tick a b) slices e f = absurd (cc f)
-same_ride (makes_tick {t} a b) (moves_on {t = t'} x y) e f = let h : Ticks t ≡ Goes t' = sym a ∙ ap quiet e ∙ x in absurd (cc h)
-same_ride (makes_tick {t} a b) (makes_tick {t = t'} x y) e f =
-    let h : Ticks t ≡ Ticks t' = sym a ∙ ap quiet e ∙ x in
-    let r = same_ride b y (cc h) (cc f) in
-    record { state = r.state; ticks = ap (λ k. suc k) r.ticks; asked = r.asked }
-same_ride (makes_tick {t} a b) (asks_now {t = t'} {r = r'} x) e f = let h : Ticks t ≡ AsksNow r' t' = sym a ∙ ap quiet e ∙ x in absurd (cc h)
-same_ride (asks_now a) slices e f = absurd (cc f)
-same_ride (asks_now {t} {r} a) (moves_on {t = t'} x y) e f = let h : AsksNow r t ≡ Goes t' = sym a ∙ ap quiet e ∙ x in absurd (cc h)
-same_ride (asks_now {t} {r} a) (makes_tick {t = t'} x y) e f = let h : AsksNow r t ≡ Ticks t' = sym a ∙ ap quiet e ∙ x in absurd (cc h)
-same_ride (asks_now {s} {t} {r} a) (asks_now {s = s'} {t = t'} {r = r'} x) e f =
-    let h : AsksNow r t ≡ AsksNow r' t' = sym a ∙ ap quiet e ∙ x in
-    let same : r ≡ r' = cc h in
-    record { state = cc h; ticks = refl; asked = ap (asked_in s) same ∙ ap (λ v. asked_in v r') e }
+module _ (source : Source) where
+  -- a ride has one outcome
+  same_ride : {s u s' u' : State} {q k q' k' : ℕ} {r r' : Asked} → Rides source s q u k r → Rides source s' q' u' k' r' → s ≡ s' → q ≡ q' → OneRide u u' k k' r r'
+  same_ride slices slices e f = record { state = e; ticks = refl; asked = ap (λ v. asked_in v ask.Slice) e }
+  same_ride slices (moves_on x y) e f = absurd (cc f)
+  same_ride slices (makes_tick x y) e f = absurd (cc f)
+  same_ride slices (asks_now x) e f = absurd (cc f)
+  same_ride (moves_on a b) slices e f = absurd (cc f)
+  same_ride (moves_on {t} a b) (moves_on {t = t'} x y) e f =
+      let h : Goes t ≡ Goes t' = sym a ∙ ap (quiet source) e ∙ x in same_ride b y (cc h) f
+  same_ride (moves_on {t} a b) (makes_tick {t = t'} x y) e f = let h : Goes t ≡ Ticks t' = sym a ∙ ap (quiet source) e ∙ x in absurd (cc h)
+  same_ride (moves_on {t} a b) (asks_now {t = t'} {r = r'} x) e f = let h : Goes t ≡ AsksNow r' t' = sym a ∙ ap (quiet source) e ∙ x in absurd (cc h)
+  same_ride (makes_tick a b) slices e f = absurd (cc f)
+  same_ride (makes_tick {t} a b) (moves_on {t = t'} x y) e f = let h : Ticks t ≡ Goes t' = sym a ∙ ap (quiet source) e ∙ x in absurd (cc h)
+  same_ride (makes_tick {t} a b) (makes_tick {t = t'} x y) e f =
+      let h : Ticks t ≡ Ticks t' = sym a ∙ ap (quiet source) e ∙ x in
+      let r = same_ride b y (cc h) (cc f) in
+      record { state = r.state; ticks = ap (λ k. suc k) r.ticks; asked = r.asked }
+  same_ride (makes_tick {t} a b) (asks_now {t = t'} {r = r'} x) e f = let h : Ticks t ≡ AsksNow r' t' = sym a ∙ ap (quiet source) e ∙ x in absurd (cc h)
+  same_ride (asks_now a) slices e f = absurd (cc f)
+  same_ride (asks_now {t} {r} a) (moves_on {t = t'} x y) e f = let h : AsksNow r t ≡ Goes t' = sym a ∙ ap (quiet source) e ∙ x in absurd (cc h)
+  same_ride (asks_now {t} {r} a) (makes_tick {t = t'} x y) e f = let h : AsksNow r t ≡ Ticks t' = sym a ∙ ap (quiet source) e ∙ x in absurd (cc h)
+  same_ride (asks_now {s} {t} {r} a) (asks_now {s = s'} {t = t'} {r = r'} x) e f =
+      let h : AsksNow r t ≡ AsksNow r' t' = sym a ∙ ap (quiet source) e ∙ x in
+      let same : r ≡ r' = cc h in
+      record { state = cc h; ticks = refl; asked = ap (asked_in s) same ∙ ap (λ v. asked_in v r') e }
 
 -- the first entry of an act
 
@@ -179,7 +180,7 @@ module _ {source : Source} {input : List ℕ} {opts : Options} {j : Journal} {w 
       let a' = act opts source.sites input j p' t' n' asked' in
       let q : p ≡ p' = sym (proc_of p t a y (act_begins opts source.sites input j p t n asked f)) ∙ ap (λ l. (first_of l).proc) e ∙ proc_of p' t' a' z (act_begins opts source.sites input j p' t' n' asked' f') in
       let u : t ≡ t' = ap first_or_0 (sym d.runs ∙ ap (λ z. running z j) q ∙ d'.runs) in
-      let ride = same_ride d.rides d'.rides (ap (drawn j w) u) (ap (left opts j) u) in
+      let ride = same_ride source d.rides d'.rides (ap (drawn j w) u) (ap (left opts j) u) in
       let same : a ≡ a' = ap (λ z. act opts source.sites input j z t n asked) q ∙ ap (λ z. act opts source.sites input j p' z n asked) u ∙ ap (λ z. act opts source.sites input j p' t' z asked) ride.ticks ∙ ap (λ z. act opts source.sites input j p' t' n' z) ride.asked in
       record {
         entries = same;
@@ -232,5 +233,5 @@ module _ {source : Source} {input : List ℕ} {opts : Options} where
 pub law_cut : LawCut
 law_cut = record {
   cut = λ source input opts parts others k u v c d. one_cut c (view d);
-  ride = λ s t u q m n a b r x. same_ride r x refl refl;
+  ride = λ source s t u q m n a b r x. same_ride source r x refl refl;
 }

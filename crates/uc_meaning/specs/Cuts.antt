@@ -16,7 +16,7 @@ use Rattle.uc_meaning.specs.Runs.{World, AsksIn, world_after, first_world}
 pub data Step (source : Source) (input : List ℕ) (opts : Options) (j : Journal) (w : World) : List Entry → World → Type 0 where
   gives : (p t : ℕ) → Serves opts j p t → length j + 2 ≤ opts.entries → Step source input opts j w (dispatch p t ∷ []) w
   no_room : (p t : ℕ) → Serves opts j p t → opts.entries < length j + 2 → Step source input opts j w (lone_limit ∷ []) w
-  acts : (p t n : ℕ) (s : State) (asked : Asked) → AsksIn opts j w p t n s asked → Fits opts source.sites j t asked.request → Step source input opts j w (act opts source.sites input j p t n asked) (world_after (act opts source.sites input j p t n asked) w t s asked.request)
+  acts : (p t n : ℕ) (s : State) (asked : Asked) → AsksIn source opts j w p t n s asked → Fits opts source.sites j t asked.request → Step source input opts j w (act opts source.sites input j p t n asked) (world_after (act opts source.sites input j p t n asked) w t s asked.request)
 
 -- these acts lead from one journal and its world to another
 pub data Cut (source : Source) (input : List ℕ) (opts : Options) : Journal → World → List (List Entry) → Journal → World → Type 0 where
@@ -36,4 +36,4 @@ pub record OneRide (s t : State) (m n : ℕ) (a b : Asked) : Type 0 where
 
 pub record LawCut : Type 0 where
   pub cut : (source : Source) (input : List ℕ) (opts : Options) (parts others : List (List Entry)) (k : Journal) (u v : World) → Cut source input opts (begin opts ∷ []) (first_world source) parts k u → Cut source input opts (begin opts ∷ []) (first_world source) others k v → OneCut parts others k u v
-  pub ride : (s t u : State) (q m n : ℕ) (a b : Asked) → Rides s q t m a → Rides s q u n b → OneRide t u m n a b
+  pub ride : (source : Source) (s t u : State) (q m n : ℕ) (a b : Asked) → Rides source s q t m a → Rides source s q u n b → OneRide t u m n a b

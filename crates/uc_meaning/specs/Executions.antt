@@ -1,4 +1,5 @@
--- Executions, where they are at home, and what holds the values of a task: one family for the source and for code.
+-- Activations, executions, where they are at home, and what holds the values of a task: one family for the source and for
+-- code. C is what an activation has to do, V what a cell holds.
 use Rattle.std.specs.Prelude.{ℕ, List, [], ◌∷◌, ◌++◌, length, take, drop, replicate, Option, Some, None, Bool, false, nat_eq, if◌then◌else◌, slice_index_or, slice_set}
 use Rattle.uc_meaning.specs.declared.exec.Exec.{Exec}
 use Rattle.uc_meaning.specs.declared.exec.Home.{Home}
@@ -8,6 +9,8 @@ use Rattle.uc_meaning.specs.declared.exec.Owner.TheVariants.{Frame, Fields}
 use Rattle.uc_meaning.specs.declared.exec.Stage.{Stage}
 use Rattle.uc_meaning.specs.declared.exec.Stage.TheVariants.{Started}
 use Rattle.uc_meaning.specs.declared.exec.Pending.{Pending}
+use Rattle.uc_meaning.specs.declared.exec.Reason.{Reason}
+use Rattle.uc_meaning.specs.declared.exec.Visited.{Visited}
 use Rattle.uc_meaning.specs.declared.request.Piece.{Piece}
 
 -- what travels with an execution besides its stack
@@ -15,9 +18,11 @@ pub record Links : Type 0 where
   -- who resumed it first, and last
   pub starter : Option Exec
   pub resumer : Option Exec
+  -- whether its coroutine is live, and how far its main is
+  pub live : Bool
   pub stage : Stage
-  -- whether it is unwound because its coroutine is destroyed
-  pub unwinding : Bool
+  -- who destroys its coroutine, while it is unwound for that
+  pub destroyer : Option Exec
   -- the enabled events, by their numbers as bits
   pub enabled : ℕ
   -- its pending events, oldest first
@@ -27,10 +32,23 @@ pub record Links : Type 0 where
   pub mutex_calls : ℕ
   pub builds : ℕ
 
--- an execution that does not run: what is to do, its operands (the newest first) and its frames (the newest first)
-pub record Execution (C V : Type 0) : Type 0 where
+-- an activation (of a routine or a handler): what is to do in it, its operands (the newest first), the object of a member's
+-- call, the depth of the frame whose variables it uses, how far the search came where it handles a resumption, why it is
+-- unwound, and what a return that unwinds it hands over
+pub record Activation (C V : Type 0) : Type 0 where
   pub control : C
   pub operands : List V
+  pub this : V
+  pub frame : ℕ
+  pub handles : Option Visited
+  pub raised : Option Reason
+  pub result : V
+
+-- an execution that does not run: its newest activation, those that wait for it (the newest first), its frames (the newest
+-- first) and its links
+pub record Execution (C V : Type 0) : Type 0 where
+  pub run : Activation C V
+  pub callers : List (Activation C V)
   pub frames : List (List V)
   pub links : Links
 
@@ -40,7 +58,7 @@ pub record Members (C V : Type 0) : Type 0 where
   pub serial : ℕ
   pub parked : List (ℕ × Option (Execution C V))
 
--- all of a task and its hand but what the running execution has to do and its operands
+-- all of a task and its hand but the activations of the running execution
 pub record Env (C V : Type 0) : Type 0 where
   pub frames : List (List V)
   pub links : Links
@@ -55,10 +73,10 @@ pub record Env (C V : Type 0) : Type 0 where
   -- the items that are gathered to be printed at once, the first one first
   pub gathered : Option (List Piece)
 
--- a task with its hand
+-- a task with its hand: the running execution is spread out
 pub record State (C V : Type 0) : Type 0 where
-  pub control : C
-  pub operands : List V
+  pub run : Activation C V
+  pub callers : List (Activation C V)
   pub env : Env C V
 
 -- what stands under a number
@@ -71,8 +89,9 @@ abbrev pub no_links : Links
 no_links = record {
   starter = None;
   resumer = None;
+  live = false;
   stage = Started;
-  unwinding = false;
+  destroyer = None;
   enabled = 0;
   pending = [];
   calls = 0;
@@ -107,6 +126,16 @@ set_depth (x ∷ xs) d y = if nat_eq d (length xs) then y ∷ xs else x ∷ set_
 abbrev pub list_in : {X : Type 0} → Option (List X) → List X
 list_in None = []
 list_in (Some xs) = xs
+
+-- all but the newest
+abbrev pub others : {X : Type 0} → List X → List X
+others [] = []
+others (x ∷ xs) = xs
+
+-- one more, if there is one
+abbrev pub handed : {X : Type 0} → Option X → List X → List X
+handed None xs = xs
+handed (Some x) xs = x ∷ xs
 
 abbrev pub joined : {X : Type 0} → Option (Option X) → Option X
 joined None = None
@@ -183,3 +212,11 @@ module _ {C V : Type 0} where
   abbrev pub with_owned : Owner → (List V → List V) → Env C V → Env C V
   with_owned (Frame n d) g e = with_frames n (frame_changed d g) e
   with_owned (Fields o) g e = change (Object o) (λ m. record m { values = g m.values }) e
+
+  -- an activation as it begins, with nothing on its operands
+  abbrev pub begun : C → V → ℕ → V → Activation C V
+  begun todo this frame nothing = record { control = todo; operands = []; this = this; frame = frame; handles = None; raised = None; result = nothing }
+
+  -- the newest activation is left with its frame, and the one that waits for it goes on with what it is handed
+  abbrev pub returned : Option V → Activation C V → List (Activation C V) → Env C V → State C V
+  returned given c cs e = record { run = record c { operands = handed given c.operands }; callers = cs; env = record e { frames = others e.frames } }

@@ -1,9 +1,9 @@
 -- The machine over the resolved tree: one quiet step of a task with its hand.
-use Rattle.std.specs.Prelude.{ℕ, ◌+◌, ◌-◌, ◌*◌, ◌^◌, min, ◌++◌, ◌&&◌, ℤ, pos, negsuc, ◌+ℤ◌, ◌-ℤ◌, ◌*ℤ◌, neg_ℤ, int_div, int_rem, int_le, int_lt, List, [], ◌∷◌, length, replicate, Option, Some, None, Bool, true, false, nat_lt, if◌then◌else◌}
+use Rattle.std.specs.Prelude.{◌≡◌, ℕ, ◌+◌, ◌-◌, ◌*◌, ◌^◌, min, ◌++◌, ◌&&◌, ℤ, pos, negsuc, ◌+ℤ◌, ◌-ℤ◌, ◌*ℤ◌, neg_ℤ, int_div, int_rem, int_le, int_lt, List, [], ◌∷◌, length, replicate, Option, Some, None, Bool, true, false, nat_eq, nat_lt, if◌then◌else◌}
 use Rattle.std.specs.Int.{int_rem_euclid}
 use Rattle.std.specs.Ordering.{int_eq}
 use Rattle.uc_tree.specs.declared.limits.TheConstants.{INT_MIN, INT_MAX, CHAR_VALUES, PRINT_ITEMS}
-use Rattle.uc_tree.specs.Source.{Shape, Character, Truth, shape_cells, field_cells, Operator, Plus, Minus, Times, Over, Modulo, Equal, NotEqual, Less, AtMost, Greater, AtLeast, Expr, Literal, Variable, Element, Load, Negated, Not, AsCharacter, AsTruth, Operate, And, Or, Assign, Update, StepBehind, Fail, Item, Show, ShowText, Target, Declared, Stmt, Skip, Block, Evaluate, Declare, Print, PrintTogether, Read, Stmts, Nil, Then, Routine}
+use Rattle.uc_tree.specs.Source.{Shape, Character, Truth, shape_cells, field_cells, Operator, Plus, Minus, Times, Over, Modulo, Equal, NotEqual, Less, AtMost, Greater, AtLeast, Expr, Literal, Variable, Element, Load, Negated, Not, AsCharacter, AsTruth, Operate, And, Or, Assign, Update, StepBehind, Fail, Item, Show, ShowText, Target, Declared, Stmt, Skip, Block, Evaluate, Declare, Print, PrintTogether, Read, Stmts, Nil, Then, Purpose, Called, TaskMain, Routine, Source}
 use Rattle.uc_tree.specs.declared.kinds.ValueForm.{ValueForm}
 use Rattle.uc_tree.specs.ValueForms.{form_number}
 use Rattle.uc_meaning.specs.declared.exec.Exec.{Exec}
@@ -18,7 +18,7 @@ use Rattle.uc_meaning.specs.declared.request.Piece.{Piece}
 use Rattle.uc_meaning.specs.declared.request.Request.{Request}
 use Rattle.uc_meaning.specs.declared.request.Request.TheVariants as ask
 use Rattle.uc_meaning.specs.Executions as exec
-use Rattle.uc_meaning.specs.Executions.{no_links, value_at, with_owned, value_changed, values_cleared}
+use Rattle.uc_meaning.specs.Executions.{no_links, begun, returned, value_at, with_owned, value_changed, values_cleared}
 
 -- a step of a path: a variable of a frame, by the first of its cells; a field of a class; an element of an array of that shape
 pub data Link : Type 0 where
@@ -34,7 +34,7 @@ pub data Value : Type 0 where
   Object : ℕ → Value
   Nothing : Value
 
--- what an execution has to do, the innermost first
+-- what an activation has to do, the innermost first
 pub data Todo : Type 0 where
   -- find a place, or evaluate
   Eval : Expr → Todo
@@ -77,8 +77,20 @@ pub data Todo : Type 0 where
   Rest : Stmts → Todo
   -- what stands before is of a statement of this line
   Within : ℕ → Todo
-  -- the end of a task's main
+  -- the end of a main, which has a line
   Finish : Todo
+
+-- what a piece is for one who leaves it: nothing, or the end of a main, behind which nothing is to do
+pub data Sort : Type 0 where
+  Simple : Sort
+  IsFinish : Sort
+
+abbrev pub sort : Todo → Sort
+sort Finish = IsFinish
+sort _ = Simple
+
+abbrev pub Active : Type 0
+Active = exec.Activation (List Todo) Value
 
 abbrev pub State : Type 0
 State = exec.State (List Todo) Value
@@ -207,16 +219,16 @@ written (Running x) v e = e
 written (Object o) v e = e
 written Nothing v e = e
 
--- the running frame
-abbrev pub this_frame : Env → Owner
-this_frame e = Frame e.exec (length e.frames - 1)
+-- the frame of the running activation
+abbrev pub this_frame : State → Owner
+this_frame s = Frame s.env.exec s.run.frame
 
-abbrev pub variable_at : ℕ → Env → Value
-variable_at k e = Place (this_frame e) (Slot k ∷ [])
+abbrev pub variable_at : ℕ → State → Value
+variable_at k s = Place (this_frame s) (Slot k ∷ [])
 
--- so many cells of the running frame are 0
-abbrev pub cleared : ℕ → ℕ → Env → Env
-cleared k n e = with_owned (this_frame e) (values_cleared k n nought) e
+-- so many cells of that frame are 0
+abbrev pub cleared : ℕ → ℕ → State → Env
+cleared k n s = with_owned (this_frame s) (values_cleared k n nought) s.env
 
 -- an index below n
 abbrev pub index_in : ℕ → ℤ → Option ℕ
@@ -239,39 +251,59 @@ piece form n = record { form = form; value = n }
 abbrev pub with_piece : Piece → List Piece → List Piece
 with_piece p ps = if nat_lt (length ps) PRINT_ITEMS then p ∷ ps else ps
 
+-- lines
+
+-- the line of the innermost statement of an activation, 0 before its first statement and after its last
+abbrev pub own_line : List Todo → ℕ
+own_line [] = 0
+own_line (Within line ∷ todo) = line
+own_line (_ ∷ todo) = own_line todo
+
+-- an activation without a line of its own has that of its caller
+abbrev pub line_from : ℕ → List Active → ℕ
+line_from l [] = l
+line_from l (c ∷ cs) = if nat_eq l 0 then line_from (own_line c.control) cs else l
+
 -- the line of the innermost statement that runs
-abbrev pub line_of : List Todo → ℕ
-line_of [] = 0
-line_of (Within line ∷ todo) = line
-line_of (_ ∷ todo) = line_of todo
+abbrev pub line_of : State → ℕ
+line_of s = line_from (own_line s.run.control) s.callers
 
 -- steps
 
-abbrev pub state : List Todo → List Value → Env → State
-state todo operands e = record { control = todo; operands = operands; env = e }
+-- this is to do, with these operands
+abbrev pub at : List Todo → List Value → State → State
+at todo operands s = record s { run = record s.run { control = todo; operands = operands } }
 
-abbrev pub goes : List Todo → List Value → Env → Step
-goes todo operands e = Goes (state todo operands e)
+abbrev pub in_env : Env → State → State
+in_env e s = record s { env = e }
 
-abbrev pub fault : RunFault → List Todo → List Value → Env → Step
-fault f todo operands e = Asks (ask.Fault (fault_number f)) (state todo operands e)
+abbrev pub goes : List Todo → List Value → State → Step
+goes todo operands s = Goes (at todo operands s)
 
-abbrev pub outcome_step : Outcome → List Todo → List Value → Env → Step
-outcome_step (Gives n) todo vs e = goes todo (Number n ∷ vs) e
-outcome_step (Faults f) todo vs e = fault f todo vs e
+abbrev pub fault : RunFault → List Todo → List Value → State → Step
+fault f todo operands s = Asks (ask.Fault (fault_number f)) (at todo operands s)
 
-abbrev pub element_step : Shape → Option ℕ → List Todo → Value → List Value → Env → Step
-element_step s None todo v vs e = fault Index todo vs e
-element_step s (Some i) todo v vs e = goes todo (further (At s i) v ∷ vs) e
+abbrev pub outcome_step : Outcome → List Todo → List Value → State → Step
+outcome_step (Gives n) todo vs s = goes todo (Number n ∷ vs) s
+outcome_step (Faults f) todo vs s = fault f todo vs s
+
+abbrev pub element_step : Shape → Option ℕ → List Todo → Value → List Value → State → Step
+element_step k None todo v vs s = fault Index todo vs s
+element_step k (Some i) todo v vs s = goes todo (further (At k i) v ∷ vs) s
 
 -- an item is printed in an act of its own, or gathered
-abbrev pub print_step : Option (List Piece) → Piece → List Todo → List Value → Env → Step
-print_step None p todo vs e = Asks (print_of (p ∷ [])) (state todo vs e)
-print_step (Some ps) p todo vs e = goes todo vs (record e { gathered = Some (with_piece p ps) })
+abbrev pub print_step : Option (List Piece) → Piece → List Todo → List Value → State → Step
+print_step None p todo vs s = Asks (print_of (p ∷ [])) (at todo vs s)
+print_step (Some ps) p todo vs s = goes todo vs (in_env (record s.env { gathered = Some (with_piece p ps) }) s)
 
-abbrev pub flush_step : Option (List Piece) → List Todo → List Value → Env → Step
-flush_step None todo vs e = goes todo vs e
-flush_step (Some ps) todo vs e = Asks (print_of ps) (state todo vs (record e { gathered = None }))
+abbrev pub flush_step : Option (List Piece) → List Todo → List Value → State → Step
+flush_step None todo vs s = goes todo vs s
+flush_step (Some ps) todo vs s = Asks (print_of ps) (at todo vs (in_env (record s.env { gathered = None }) s))
+
+-- the end of an activation, with what it hands over; behind the last one the task ends
+abbrev pub return_step : Option Value → List Active → State → Step
+return_step given [] s = Asks ask.End s
+return_step given (c ∷ cs) s = Goes (returned given c cs s.env)
 
 -- a value as it is kept in a scalar of this shape
 abbrev pub converting : Shape → List Todo → List Todo
@@ -297,88 +329,107 @@ item_piece (ShowText k) = TextNow k
 abbrev pub item_todo : Item → List Todo → List Todo
 item_todo i todo = item_value i (item_piece i ∷ todo)
 
+-- this is to do in the place of a piece, with the same operands
+abbrev pub turns : List Todo → State → Step
+turns todo s = goes todo s.run.operands s
+
 -- to find a place or to evaluate
-abbrev pub eval_step : Expr → List Todo → List Value → Env → Step
-eval_step (Literal n) todo vs e = goes todo (Number n ∷ vs) e
-eval_step (Variable k) todo vs e = goes todo (variable_at k e ∷ vs) e
-eval_step (Element n s a i) todo vs e = goes (Eval a ∷ (Eval i ∷ (ElementNow n s ∷ todo))) vs e
-eval_step (Load a) todo vs e = goes (Eval a ∷ (LoadNow ∷ todo)) vs e
-eval_step (Negated a) todo vs e = goes (Eval a ∷ (NegateNow ∷ todo)) vs e
-eval_step (Not a) todo vs e = goes (Eval a ∷ (NotNow ∷ todo)) vs e
-eval_step (AsCharacter a) todo vs e = goes (Eval a ∷ (CharacterNow ∷ todo)) vs e
-eval_step (AsTruth a) todo vs e = goes (Eval a ∷ (TruthNow ∷ todo)) vs e
-eval_step (Operate op a b) todo vs e = goes (Eval a ∷ (Eval b ∷ (OperateNow op ∷ todo))) vs e
-eval_step (And a b) todo vs e = goes (Eval a ∷ (Choose (AsTruth b) (Literal (pos 0)) ∷ todo)) vs e
-eval_step (Or a b) todo vs e = goes (Eval a ∷ (Choose (Literal (pos 1)) (AsTruth b) ∷ todo)) vs e
-eval_step (Assign p a) todo vs e = goes (Eval p ∷ (Eval a ∷ (KeepNow ∷ todo))) vs e
-eval_step (Update op s p a) todo vs e =
-    goes (Eval p ∷ (CopyNow ∷ (LoadNow ∷ (Eval a ∷ (OperateNow op ∷ converting s (KeepNow ∷ todo)))))) vs e
-eval_step (StepBehind op s p) todo vs e =
-    goes (Eval p ∷ (CopyNow ∷ (LoadNow ∷ (CopyBelowNow ∷ (CopyBelowNow ∷ (Eval (Literal (pos 1)) ∷ (OperateNow op ∷ converting s (StoreNow ∷ (DropBelowNow ∷ todo))))))))) vs e
-eval_step Fail todo vs e = Asks ask.Fail (state todo vs e)
+abbrev pub eval_step : Expr → List Todo → State → Step
+eval_step (Literal n) todo s = goes todo (Number n ∷ s.run.operands) s
+eval_step (Variable k) todo s = goes todo (variable_at k s ∷ s.run.operands) s
+eval_step (Element n k a i) todo s = turns (Eval a ∷ (Eval i ∷ (ElementNow n k ∷ todo))) s
+eval_step (Load a) todo s = turns (Eval a ∷ (LoadNow ∷ todo)) s
+eval_step (Negated a) todo s = turns (Eval a ∷ (NegateNow ∷ todo)) s
+eval_step (Not a) todo s = turns (Eval a ∷ (NotNow ∷ todo)) s
+eval_step (AsCharacter a) todo s = turns (Eval a ∷ (CharacterNow ∷ todo)) s
+eval_step (AsTruth a) todo s = turns (Eval a ∷ (TruthNow ∷ todo)) s
+eval_step (Operate op a b) todo s = turns (Eval a ∷ (Eval b ∷ (OperateNow op ∷ todo))) s
+eval_step (And a b) todo s = turns (Eval a ∷ (Choose (AsTruth b) (Literal (pos 0)) ∷ todo)) s
+eval_step (Or a b) todo s = turns (Eval a ∷ (Choose (Literal (pos 1)) (AsTruth b) ∷ todo)) s
+eval_step (Assign p a) todo s = turns (Eval p ∷ (Eval a ∷ (KeepNow ∷ todo))) s
+eval_step (Update op k p a) todo s =
+    turns (Eval p ∷ (CopyNow ∷ (LoadNow ∷ (Eval a ∷ (OperateNow op ∷ converting k (KeepNow ∷ todo)))))) s
+eval_step (StepBehind op k p) todo s =
+    turns (Eval p ∷ (CopyNow ∷ (LoadNow ∷ (CopyBelowNow ∷ (CopyBelowNow ∷ (Eval (Literal (pos 1)) ∷ (OperateNow op ∷ converting k (StoreNow ∷ (DropBelowNow ∷ todo))))))))) s
+eval_step Fail todo s = Asks ask.Fail (at todo s.run.operands s)
 
 -- to do a statement
-abbrev pub stmt_step : Stmt → List Todo → List Value → Env → Step
-stmt_step (Skip line) todo vs e = goes todo vs e
-stmt_step (Block line body) todo vs e = goes (Rest body ∷ (Within line ∷ todo)) vs e
-stmt_step (Evaluate line a) todo vs e = goes (Eval a ∷ (DropNow ∷ (Within line ∷ todo))) vs e
-stmt_step (Declare line ds) todo vs e = goes (Variables ds ∷ (Within line ∷ todo)) vs e
-stmt_step (Print line items) todo vs e = goes (Items items ∷ (Within line ∷ todo)) vs e
-stmt_step (PrintTogether line items) todo vs e =
-    goes (Values items ∷ (GatherNow ∷ (Pieces items ∷ (FlushNow ∷ (Within line ∷ todo))))) vs e
-stmt_step (Read line ts) todo vs e = goes (Targets ts ∷ (Within line ∷ todo)) vs e
+abbrev pub stmt_step : Stmt → List Todo → State → Step
+stmt_step (Skip line) todo s = turns todo s
+stmt_step (Block line body) todo s = turns (Rest body ∷ (Within line ∷ todo)) s
+stmt_step (Evaluate line a) todo s = turns (Eval a ∷ (DropNow ∷ (Within line ∷ todo))) s
+stmt_step (Declare line ds) todo s = turns (Variables ds ∷ (Within line ∷ todo)) s
+stmt_step (Print line items) todo s = turns (Items items ∷ (Within line ∷ todo)) s
+stmt_step (PrintTogether line items) todo s =
+    turns (Values items ∷ (GatherNow ∷ (Pieces items ∷ (FlushNow ∷ (Within line ∷ todo))))) s
+stmt_step (Read line ts) todo s = turns (Targets ts ∷ (Within line ∷ todo)) s
 
--- the next step, by what is to do
-abbrev pub act : Todo → List Todo → List Value → Env → Step
-act (Eval a) todo vs e = eval_step a todo vs e
-act LoadNow todo vs e = goes todo (loaded (top vs) e ∷ below vs) e
-act (ElementNow n s) todo vs e = element_step s (index_in n (number (top vs))) todo (top (below vs)) (below (below vs)) e
-act NegateNow todo vs e = outcome_step (int_outcome (neg_ℤ (number (top vs)))) todo (below vs) e
-act NotNow todo vs e = goes todo (Number (truth (is_zero (number (top vs)))) ∷ below vs) e
-act CharacterNow todo vs e = goes todo (Number (as_character (number (top vs))) ∷ below vs) e
-act TruthNow todo vs e = goes todo (Number (as_truth (number (top vs))) ∷ below vs) e
-act (OperateNow op) todo vs e = outcome_step (outcome op (number (top (below vs))) (number (top vs))) todo (below (below vs)) e
-act CopyNow todo vs e = goes todo (top vs ∷ vs) e
-act CopyBelowNow todo vs e = goes todo (top (below vs) ∷ (top vs ∷ below vs)) e
-act DropNow todo vs e = goes todo (below vs) e
-act DropBelowNow todo vs e = goes todo (top vs ∷ below (below vs)) e
-act StoreNow todo vs e = goes todo (below (below vs)) (written (top (below vs)) (top vs) e)
-act KeepNow todo vs e = goes todo (top vs ∷ below (below vs)) (written (top (below vs)) (top vs) e)
-act (Choose a b) todo vs e = goes (Eval (if is_zero (number (top vs)) then b else a) ∷ todo) (below vs) e
-act (PrintNow form) todo vs e = print_step e.gathered (piece (form_number form) (number (top vs))) todo (below vs) e
-act (TextNow k) todo vs e = print_step e.gathered (piece TEXT_FORM (pos k)) todo vs e
-act GatherNow todo vs e = goes todo vs (record e { gathered = Some [] })
-act FlushNow todo vs e = flush_step e.gathered todo vs e
-act (ReadNow form) todo vs e = Asks (ask.Read (form_number form)) (state todo vs e)
-act (ClearNow k n) todo vs e = goes todo vs (cleared k n e)
-act (Items []) todo vs e = goes todo vs e
-act (Items (i ∷ is)) todo vs e = goes (item_todo i (Items is ∷ todo)) vs e
--- all values, the first one first, and then the items, the last one first
-act (Values []) todo vs e = goes todo vs e
-act (Values (i ∷ is)) todo vs e = goes (item_value i (Values is ∷ todo)) vs e
-act (Pieces []) todo vs e = goes todo vs e
-act (Pieces (i ∷ is)) todo vs e = goes (Pieces is ∷ (item_piece i ∷ todo)) vs e
-act (Targets []) todo vs e = goes todo vs e
-act (Targets (t ∷ ts)) todo vs e = goes (Eval t.place ∷ (ReadNow t.form ∷ (StoreNow ∷ (Targets ts ∷ todo)))) vs e
-act (Variables []) todo vs e = goes todo vs e
-act (Variables (d ∷ ds)) todo vs e = goes (ClearNow d.cell d.cells ∷ starting d.cell d.value (Variables ds ∷ todo)) vs e
-act (Do s) todo vs e = stmt_step s todo vs e
-act (Rest Nil) todo vs e = goes todo vs e
-act (Rest (Then s ss)) todo vs e = goes (Do s ∷ (Rest ss ∷ todo)) vs e
-act (Within line) todo vs e = goes todo vs e
-act Finish todo vs e = Asks ask.End (state todo vs e)
+-- the next step in a source, by what is to do
+module _ (source : Source) where
+  abbrev pub act : Todo → List Todo → State → Step
+  act (Eval a) todo s = eval_step a todo s
+  act LoadNow todo s = goes todo (loaded (top s.run.operands) s.env ∷ below s.run.operands) s
+  act (ElementNow n k) todo s =
+      element_step k (index_in n (number (top s.run.operands))) todo (top (below s.run.operands)) (below (below s.run.operands)) s
+  act NegateNow todo s = outcome_step (int_outcome (neg_ℤ (number (top s.run.operands)))) todo (below s.run.operands) s
+  act NotNow todo s = goes todo (Number (truth (is_zero (number (top s.run.operands)))) ∷ below s.run.operands) s
+  act CharacterNow todo s = goes todo (Number (as_character (number (top s.run.operands))) ∷ below s.run.operands) s
+  act TruthNow todo s = goes todo (Number (as_truth (number (top s.run.operands))) ∷ below s.run.operands) s
+  act (OperateNow op) todo s =
+      outcome_step (outcome op (number (top (below s.run.operands))) (number (top s.run.operands))) todo (below (below s.run.operands)) s
+  act CopyNow todo s = goes todo (top s.run.operands ∷ s.run.operands) s
+  act CopyBelowNow todo s = goes todo (top (below s.run.operands) ∷ (top s.run.operands ∷ below s.run.operands)) s
+  act DropNow todo s = goes todo (below s.run.operands) s
+  act DropBelowNow todo s = goes todo (top s.run.operands ∷ below (below s.run.operands)) s
+  act StoreNow todo s =
+      goes todo (below (below s.run.operands)) (in_env (written (top (below s.run.operands)) (top s.run.operands) s.env) s)
+  act KeepNow todo s =
+      goes todo (top s.run.operands ∷ below (below s.run.operands)) (in_env (written (top (below s.run.operands)) (top s.run.operands) s.env) s)
+  act (Choose a b) todo s = goes (Eval (if is_zero (number (top s.run.operands)) then b else a) ∷ todo) (below s.run.operands) s
+  act (PrintNow form) todo s = print_step s.env.gathered (piece (form_number form) (number (top s.run.operands))) todo (below s.run.operands) s
+  act (TextNow k) todo s = print_step s.env.gathered (piece TEXT_FORM (pos k)) todo s.run.operands s
+  act GatherNow todo s = turns todo (in_env (record s.env { gathered = Some [] }) s)
+  act FlushNow todo s = flush_step s.env.gathered todo s.run.operands s
+  act (ReadNow form) todo s = Asks (ask.Read (form_number form)) (at todo s.run.operands s)
+  act (ClearNow k n) todo s = turns todo (in_env (cleared k n s) s)
+  act (Items []) todo s = turns todo s
+  act (Items (i ∷ is)) todo s = turns (item_todo i (Items is ∷ todo)) s
+  -- all values, the first one first, and then the items, the last one first
+  act (Values []) todo s = turns todo s
+  act (Values (i ∷ is)) todo s = turns (item_value i (Values is ∷ todo)) s
+  act (Pieces []) todo s = turns todo s
+  act (Pieces (i ∷ is)) todo s = turns (Pieces is ∷ (item_piece i ∷ todo)) s
+  act (Targets []) todo s = turns todo s
+  act (Targets (t ∷ ts)) todo s = turns (Eval t.place ∷ (ReadNow t.form ∷ (StoreNow ∷ (Targets ts ∷ todo)))) s
+  act (Variables []) todo s = turns todo s
+  act (Variables (d ∷ ds)) todo s = turns (ClearNow d.cell d.cells ∷ starting d.cell d.value (Variables ds ∷ todo)) s
+  act (Do a) todo s = stmt_step a todo s
+  act (Rest Nil) todo s = turns todo s
+  act (Rest (Then a rest)) todo s = turns (Do a ∷ (Rest rest ∷ todo)) s
+  act (Within line) todo s = turns todo s
+  act Finish todo s = return_step None s.callers s
 
-abbrev pub act_todo : List Todo → List Value → Env → Step
-act_todo [] vs e = Asks ask.End (state [] vs e)
-act_todo (t ∷ todo) vs e = act t todo vs e
+  abbrev pub act_todo : List Todo → State → Step
+  act_todo [] s = return_step None s.callers s
+  act_todo (t ∷ todo) s = act t todo s
 
--- the step of a state; each state has one
-abbrev pub quiet : State → Step
-quiet s = act_todo s.control s.operands s.env
+  -- the step of a state; each state has one
+  abbrev pub quiet : State → Step
+  quiet s = act_todo s.run.control s
 
--- what is to do as a task's main begins: its body, then its end, which is in the line of the body
-abbrev pub main_todo : Routine → List Todo
-main_todo r = Rest r.body ∷ (Finish ∷ (Within r.line ∷ []))
+  -- some quiet steps lead from one state to another
+  pub data Quietly : State → State → Type 0 where
+    stay : {s : State} → Quietly s s
+    more : {s t u : State} → quiet s ≡ Goes t → Quietly t u → Quietly s u
+
+-- what is to do behind a routine's body: a main ends, in the line of its block
+abbrev pub behind_body : Purpose → ℕ → List Todo
+behind_body Called line = Within line ∷ []
+behind_body TaskMain line = Finish ∷ (Within line ∷ [])
+
+-- what is to do as a routine begins
+abbrev pub routine_todo : Routine → List Todo
+routine_todo r = Rest r.body ∷ behind_body r.purpose r.line
 
 -- nothing is at home there
 abbrev pub no_members : Members
@@ -387,8 +438,8 @@ no_members = record { values = []; serial = 0; parked = [] }
 -- the own execution of the task whose object is o, as its main begins, inside its object
 abbrev pub first_state : Routine → ℕ → State
 first_state r o = record {
-  control = main_todo r;
-  operands = [];
+  run = begun (routine_todo r) (Object o) 0 Nothing;
+  callers = [];
   env = record {
     frames = replicate r.cells nought ∷ [];
     links = no_links;

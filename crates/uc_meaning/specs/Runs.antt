@@ -11,7 +11,6 @@ use Rattle.uc_meaning.specs.Journal.{Journal, begin, held, holds, is_over}
 use Rattle.uc_meaning.specs.Queues.{running}
 use Rattle.uc_meaning.specs.Serves.{Serves, left}
 use Rattle.uc_meaning.specs.Executions.{find}
-use Rattle.uc_tree.specs.Programs.{Site}
 use Rattle.uc_tree.specs.Source.{Source, routine_of}
 use Rattle.uc_meaning.specs.Quiet.{Value, Number, State, Members, no_members, first_state}
 use Rattle.uc_meaning.specs.Rides.{Rides}
@@ -66,7 +65,7 @@ answer_of ask.Slice a = Some answer.Go
 answer_of _ a = None
 
 abbrev pub with_operand : Value → State → State
-with_operand v s = record s { operands = v ∷ s.operands }
+with_operand v s = record s { run = record s.run { operands = v ∷ s.run.operands } }
 
 -- the state that goes on with an answer: a number is its newest operand
 abbrev pub answered : Answer → State → State
@@ -87,20 +86,20 @@ world_after a w t s r = record {
 }
 
 -- task t runs on p, and its ride in this world leads to the state s after these ticks and asks this
-pub record AsksIn (opts : Options) (j : Journal) (w : World) (p t ticks : ℕ) (s : State) (asked : Asked) : Type 0 where
+pub record AsksIn (source : Source) (opts : Options) (j : Journal) (w : World) (p t ticks : ℕ) (s : State) (asked : Asked) : Type 0 where
   pub runs : running p j ≡ t ∷ []
-  pub rides : Rides (drawn j w t) (left opts j t) s ticks asked
+  pub rides : Rides source (drawn j w t) (left opts j t) s ticks asked
 
 -- the act that may follow a journal without an ending, and the world after it
-pub data May (opts : Options) (sites : List Site) (input : List ℕ) (j : Journal) (w : World) : List Entry → World → Type 0 where
-  gives : (p t : ℕ) → Serves opts j p t → length j + 2 ≤ opts.entries → May opts sites input j w (dispatch p t ∷ []) w
-  no_room : (p t : ℕ) → Serves opts j p t → opts.entries < length j + 2 → May opts sites input j w (lone_limit ∷ []) w
-  acts : (p t ticks : ℕ) (s : State) (asked : Asked) → AsksIn opts j w p t ticks s asked → May opts sites input j w (act opts sites input j p t ticks asked) (world_after (act opts sites input j p t ticks asked) w t s asked.request)
+pub data May (source : Source) (opts : Options) (input : List ℕ) (j : Journal) (w : World) : List Entry → World → Type 0 where
+  gives : (p t : ℕ) → Serves opts j p t → length j + 2 ≤ opts.entries → May source opts input j w (dispatch p t ∷ []) w
+  no_room : (p t : ℕ) → Serves opts j p t → opts.entries < length j + 2 → May source opts input j w (lone_limit ∷ []) w
+  acts : (p t ticks : ℕ) (s : State) (asked : Asked) → AsksIn source opts j w p t ticks s asked → May source opts input j w (act opts source.sites input j p t ticks asked) (world_after (act opts source.sites input j p t ticks asked) w t s asked.request)
 
 -- the journal is a prefix of a run of the program under these options, with these bytes as input, and leaves this world
 pub data Runs (source : Source) (input : List ℕ) (opts : Options) : Journal → World → Type 0 where
   begun : Runs source input opts (begin opts ∷ []) (first_world source)
-  more : {j : Journal} {w : World} {a : List Entry} {w' : World} → Runs source input opts j w → is_over j ≡ false → May opts source.sites input j w a w' → Runs source input opts (j ++ a) w'
+  more : {j : Journal} {w : World} {a : List Entry} {w' : World} → Runs source input opts j w → is_over j ≡ false → May source opts input j w a w' → Runs source input opts (j ++ a) w'
 
 -- a prefix of a run
 pub record IsPrefix (source : Source) (input : List ℕ) (opts : Options) (j : Journal) : Type 0 where

@@ -8,19 +8,19 @@ use Rattle.uc_meaning.specs.declared.exec.Home.TheVariants.{Task, Object}
 use Rattle.uc_meaning.specs.declared.exec.Owner.{Owner}
 use Rattle.uc_meaning.specs.declared.exec.Owner.TheVariants.{Frame, Fields}
 use Rattle.uc_meaning.specs.declared.request.Piece.{Piece}
-use Rattle.uc_meaning.specs.Executions.{Execution, Members, Env, exec_eq, at_depth, frame_changed, list_in, values_in, frames_in, members_at, set_members, slot_in, parked_at, change_in, change, frames_of, frames_by, frames_changed, with_frames, owned, value_at, with_owned}
+use Rattle.uc_meaning.specs.Executions.{Activation, Execution, Members, Env, exec_eq, at_depth, frame_changed, list_in, values_in, frames_in, members_at, set_members, slot_in, parked_at, change_in, change, frames_of, frames_by, frames_changed, with_frames, owned, value_at, with_owned}
 use Rattle.uc_frames.specs.Parts.{Alike, ExecutionStands, MembersStand, EnvStands}
 use Rattle.uc_step.proofs.Lists.{find_both, update_both, joined_both, at_map, frame_map}
 
-module _ {A B V W : Type 0} (R : A → B → Type 0) (f : W → V) where
+module _ {A B V W : Type 0} (R K : Activation A V → Activation B W → Type 0) (f : W → V) where
   abbrev Ex : Execution A V → Execution B W → Type 0
-  Ex = ExecutionStands R f
+  Ex = ExecutionStands R K f
 
   abbrev Me : Members A V → Members B W → Type 0
-  Me = MembersStand R f
+  Me = MembersStand R K f
 
   abbrev En : Env A V → Env B W → Type 0
-  En = EnvStands R f
+  En = EnvStands R K f
 
   house_by : (b : Bool) (x : Members A V) (y : Members B W) → Me x y → Alike Me (if b then Some x else None) (if b then Some y else None)
   house_by true x y h = h
@@ -83,7 +83,7 @@ module _ {A B V W : Type 0} (R : A → B → Type 0) (f : W → V) where
   frames_by_both k g j None (Some y) q h c d e = absurd h
   frames_by_both k g j (Some x) None q h c d e = absurd h
   frames_by_both k g j (Some x) (Some y) q h c d e =
-      record { values = e.values; serial = e.serial; parked = update_both (Alike Ex) k _ _ c.parked d.parked (record { control = h.control; operands = h.operands; frames = ap g h.frames ∙ q y.frames; links = h.links }) e.parked }
+      record { values = e.values; serial = e.serial; parked = update_both (Alike Ex) k _ _ c.parked d.parked (record { run = h.run; callers = h.callers; frames = ap g h.frames ∙ q y.frames; links = h.links }) e.parked }
 
   with_frames_both : (n : Exec) (g : List (List V) → List (List V)) (j : List (List W) → List (List W)) (m : Env A V) (s : Env B W) → ((fs : List (List W)) → g (map (map f) fs) ≡ map (map f) (j fs)) → En m s → En (with_frames n g m) (with_frames n j s)
   with_frames_both n g j m s q e =
@@ -115,3 +115,8 @@ module _ {A B V W : Type 0} (R : A → B → Type 0) (f : W → V) where
   pub gathered_both : (x y : Option (List Piece)) (m : Env A V) (s : Env B W) → x ≡ y → En m s → En (record m { gathered = x }) (record s { gathered = y })
   gathered_both x y m s q e =
       record { frames = e.frames; links = e.links; exec = e.exec; own = e.own; house = e.house; depths = e.depths; hand = e.hand; gathered = q }
+
+  -- other frames in the running execution
+  pub framed_both : (m : Env A V) (s : Env B W) (fs : List (List V)) (gs : List (List W)) → fs ≡ map (map f) gs → En m s → En (record m { frames = fs }) (record s { frames = gs })
+  framed_both m s fs gs q e =
+      record { frames = q; links = e.links; exec = e.exec; own = e.own; house = e.house; depths = e.depths; hand = e.hand; gathered = e.gathered }

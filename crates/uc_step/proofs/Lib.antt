@@ -1,7 +1,17 @@
 pub mod Lists
 pub mod Changes
 pub mod Operands
+pub mod Settles
+pub mod SettleExpressions
+pub mod SettleLists
 pub mod Settle
+pub mod Simulates
+pub mod SimulateValues
+pub mod SimulatePlaces
+pub mod SimulateOutside
 pub mod Simulate
+pub mod Routines
 pub mod Starts
 pub mod Rode
+pub mod Powers
+pub mod Falls

@@ -4,24 +4,24 @@ use Rattle.std.specs.Prelude.{nat_eq, if◌then◌else◌, slice_index_or, slice
 use Rattle.std.proofs.lemmas.List.{length-map, map-set, map-append, take-map, drop-map}
 use Rattle.std.proofs.Math.ListN.{get_or-map}
 use Rattle.uc_meaning.specs.Executions.{find, update, at_depth, set_depth, frame_changed, list_in, joined, value_changed, values_cleared}
-use Rattle.uc_frames.specs.Parts.{Lined, Alike}
+use Rattle.uc_frames.specs.Parts.{Numbered, Alike}
 
 module _ {X Y : Type 0} (P : X → Y → Type 0) where
   find_by : (b : Bool) (p : ℕ × X) (q : ℕ × Y) (x : Option X) (y : Option Y) → P p.1 q.1 → Alike P x y → Alike P (if b then Some p.1 else x) (if b then Some q.1 else y)
   find_by true p q x y h r = h
   find_by false p q x y h r = r
 
-  pub find_both : (k : ℕ) (ps : List (ℕ × X)) (qs : List (ℕ × Y)) → Lined P ps qs → Alike P (find k ps) (find k qs)
+  pub find_both : (k : ℕ) (ps : List (ℕ × X)) (qs : List (ℕ × Y)) → Numbered P ps qs → Alike P (find k ps) (find k qs)
   find_both k [] [] h = tt
   find_both k [] (q ∷ qs) h = absurd h
   find_both k (p ∷ ps) [] h = absurd h
   find_both k (p ∷ ps) (q ∷ qs) (e, h, r) = rw e (find_by (nat_eq q.0 k) p q _ _ h (find_both k ps qs r))
 
-  lined_by : (b : Bool) (is ps : List (ℕ × X)) (js qs : List (ℕ × Y)) → Lined P is js → Lined P ps qs → Lined P (if b then is else ps) (if b then js else qs)
+  lined_by : (b : Bool) (is ps : List (ℕ × X)) (js qs : List (ℕ × Y)) → Numbered P is js → Numbered P ps qs → Numbered P (if b then is else ps) (if b then js else qs)
   lined_by true is ps js qs h r = h
   lined_by false is ps js qs h r = r
 
-  pub update_both : (k : ℕ) (x : X) (y : Y) (ps : List (ℕ × X)) (qs : List (ℕ × Y)) → P x y → Lined P ps qs → Lined P (update k x ps) (update k y qs)
+  pub update_both : (k : ℕ) (x : X) (y : Y) (ps : List (ℕ × X)) (qs : List (ℕ × Y)) → P x y → Numbered P ps qs → Numbered P (update k x ps) (update k y qs)
   update_both k x y [] [] h r = tt
   update_both k x y [] (q ∷ qs) h r = absurd r
   update_both k x y (p ∷ ps) [] h r = absurd r

@@ -1,31 +1,44 @@
 -- A main as it begins, and answers.
-use Rattle.std.proofs.Common.{◌≡◌, ℕ, ◌+◌, List, [], ◌∷◌, Some, ℤ, refl, subst, ap}
+use Rattle.std.proofs.Common.{◌≡◌, ℕ, [], ◌∷◌, None, Some, ℤ, refl, sym, subst, ap, ◌∙◌}
 use Rattle.std.specs.Prelude.{slice_get}
-use Rattle.uc_tree.specs.Source.{Routine}
+use Rattle.uc_tree.specs.Source.{Purpose, Called, TaskMain, Routine, Source, line_by}
 use Rattle.uc_meaning.specs.declared.request.Answer.{Answer}
 use Rattle.uc_meaning.specs.declared.request.Answer.TheVariants as answer
 use Rattle.uc_meaning.specs.Quiet as quiet
-use Rattle.uc_meaning.specs.Quiet.{Value, State, first_state}
+use Rattle.uc_meaning.specs.Quiet.{State, Rest, Within, behind_body, routine_todo, first_state}
 use Rattle.uc_meaning.specs.Runs as runs
 use Rattle.uc_meaning.specs.Runs.{with_operand}
-use Rattle.uc_code.specs.declared.rows.Instruction.{Instruction}
+use Rattle.uc_code.specs.declared.op.Op.TheVariants as op
 use Rattle.uc_code.specs.declared.rows.RoutineCode.{RoutineCode}
 use Rattle.uc_code.specs.Codes.{Code}
-use Rattle.uc_code.specs.Ranges.{Arrived}
-use Rattle.uc_code.specs.Lowered.{RoutineAt}
+use Rattle.uc_code.specs.Laid.{Laid, laid_of}
+use Rattle.uc_code.specs.Ranges.{One, Arrived}
+use Rattle.uc_code.specs.Lowered.{RoutineAt, Lowered}
 use Rattle.uc_frames.specs.declared.cell.Cell.TheVariants.{Number}
 use Rattle.uc_frames.specs.Machine.{Machine, cell_of, first_machine}
-use Rattle.uc_frames.specs.Stands.{Stands}
+use Rattle.uc_frames.specs.Stands.{FollowsAt, Stands}
 use Rattle.uc_step.specs.Acts.{with_operands, answered}
 use Rattle.uc_step.specs.Starts.{Starts}
 use Rattle.uc_step.proofs.Lists.{replicate_map}
+use Rattle.uc_step.proofs.Routines.{routine_at}
 
-module _ (ops : List Instruction) where
+module _ (code : Laid) where
+  -- what is behind a routine's body
+  ended : (p : Purpose) (line a z : ℕ) → One code op.Return (line_by p line) a z → FollowsAt code (behind_body p line) [] a
+  ended Called line a z h =
+      record { from = a; to = a; leads = Arrived a; piece = record { end = refl }; on = record { none = refl; end = a; leads = Arrived a; returns = h.here } }
+  ended TaskMain line a z h = record { none = refl; end = a; leads = Arrived a; returns = h.here }
+
+  -- the code of a routine does what is to do in it
+  begun : (r : Routine) (c : RoutineCode) (a z : ℕ) → RoutineAt code r c a z → FollowsAt code (routine_todo r) [] c.entry
+  begun r c a z h =
+      rw (h.entry) (record { from = a; to = h.body.middle; leads = Arrived a; piece = h.body.first; on = ended r.purpose r.line h.body.middle z h.body.second })
+
   -- the first machine of a routine's code stands for the first state of the routine
-  pub begins : (r : Routine) (c : RoutineCode) (o : ℕ) → RoutineAt ops r c → Stands ops (first_machine c o) (first_state r o)
-  begins r c o h = record {
-    control = (c.entry, h.end, Arrived c.entry, h.body, (h.end, h.end + 1, Arrived h.end, record { here = h.returns; end = refl }, refl));
-    operands = refl;
+  pub begins : (r : Routine) (c : RoutineCode) (o a z : ℕ) → RoutineAt code r c a z → Stands code (first_machine c o) (first_state r o)
+  begins r c o a z h = record {
+    run = record { marks = []; follows = begun r c a z h; is = refl };
+    callers = tt;
     env = record {
       frames = rw h.cells (ap (λ f. f ∷ []) (replicate_map cell_of r.cells quiet.nought));
       links = refl;
@@ -38,11 +51,12 @@ module _ (ops : List Instruction) where
     };
   }
 
-  pushed : (n : ℤ) (m : Machine) (s : State) → Stands ops m s → Stands ops (with_operands (Number n ∷ m.operands) m) (with_operand (quiet.Number n) s)
-  pushed n m s h = record { control = h.control; operands = ap (λ cs. Number n ∷ cs) h.operands; env = h.env }
+  pushed : (n : ℤ) (m : Machine) (s : State) → Stands code m s → Stands code (with_operands (Number n ∷ m.run.operands) m) (with_operand (quiet.Number n) s)
+  pushed n m s h =
+      rw (h.run.is) (record { run = record { marks = h.run.marks; follows = h.run.follows; is = refl }; callers = h.callers; env = h.env })
 
   -- an answer
-  pub answered_stands : (a : Answer) (m : Machine) (s : State) → Stands ops m s → Stands ops (answered a m) (runs.answered a s)
+  pub answered_stands : (a : Answer) (m : Machine) (s : State) → Stands code m s → Stands code (answered a m) (runs.answered a s)
   answered_stands answer.Go m s h = h
   answered_stands (answer.Object o) m s h = h
   answered_stands (answer.Number n) m s h = pushed n m s h
@@ -51,11 +65,20 @@ module _ (ops : List Instruction) where
   answered_stands answer.Nothing m s h = h
   answered_stands (answer.Value n failed) m s h = pushed n m s h
 
-module _ (code : Code) (main own : ℕ) where
+none_some : {A B : Type 0} {x : A} → None ≡ Some x → B
+none_some e = absurd (cc)
+
+module _ (code : Code) (main : ℕ) where
   one_code : (c d : RoutineCode) → slice_get code.routines main ≡ Some c → slice_get code.routines main ≡ Some d → d ≡ c
   one_code c d p q = cc
 
-  pub starts_some : (m : Machine) (c : RoutineCode) → slice_get code.routines main ≡ Some c → m ≡ first_machine c own → Starts code main own (Some m)
-  starts_some m c e f source r l q =
-      let h = l.each main r q in
-      rw f (subst (λ d. Stands code.ops (first_machine d own) (first_state r own)) (one_code c h.0 e h.1) (begins code.ops r h.0 own h.2))
+  pub starts_some : (own : ℕ) (m : Machine) (c : RoutineCode) → slice_get code.routines main ≡ Some c → m ≡ first_machine c own → Starts code main own (Some m)
+  starts_some own m c e f source r l q =
+      let h = routine_at (laid_of code) source.routines code.routines _ _ main r l.routines q in
+      rw f (subst (λ d. Stands (laid_of code) (first_machine d own) (first_state r own)) (one_code c h.code e h.there) (begins (laid_of code) r h.code own h.from h.to h.at))
+
+  -- code of a source has the routines of the source
+  pub starts_none : slice_get code.routines main ≡ None → (source : Source) (r : Routine) → Lowered source code → slice_get source.routines main ≡ Some r → ⊥
+  starts_none e source r l q =
+      let h = routine_at (laid_of code) source.routines code.routines _ _ main r l.routines q in
+      none_some (sym e ∙ h.there)

@@ -1,4 +1,5 @@
 pub mod Acts
+pub mod Falls
 pub mod Follow
 pub mod Given
 pub mod Starts

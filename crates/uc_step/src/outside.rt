@@ -5,6 +5,7 @@ ghost use Rattle.uc_step.specs.Acts.{act_print, Does, Ends};
 
 use crate::stepped::{Stepped, asked};
 use std::alloc::AllocError;
+use uc_code::code::Code;
 use uc_code::op::Op;
 use uc_frames::cell::number_in;
 use uc_frames::pieces::print_request;
@@ -13,65 +14,75 @@ use uc_meaning::request::{Piece, Request, TEXT_FORM};
 use uc_tree::kinds::ValueForm;
 
 // A piece is printed, or gathered.
-fn put(line: u32, work: &mut Work, piece: Piece) -> Result<Stepped, AllocError>
-    ensures { IfOk result (λ how. Ends (act_print line work.old.env.gathered piece work.old) how work.new) }
+fn put(code: &Code, line: u32, work: &mut Work, piece: Piece) -> Result<Stepped, AllocError>
+    ensures { IfOk result (λ how. Ends (act_print code.now line work.old.env.gathered piece work.old) how work.new) }
 {
     if work.is_gathering() {
         work.gather(piece)?;
         Ok(Stepped::Quiet)
     } else {
-        Ok(asked(line, print_request(&[piece])))
+        Ok(asked(code, line, work, print_request(&[piece])))
     }
 }
 
-pub(crate) fn print(line: u32, work: &mut Work, form: ValueForm) -> Result<Stepped, AllocError>
-    ensures { IfOk result (λ how. Does line (Op.Print form) work.old how work.new) }
+pub(crate) fn print(
+    code: &Code,
+    line: u32,
+    work: &mut Work,
+    form: ValueForm,
+) -> Result<Stepped, AllocError>
+    ensures { IfOk result (λ how. Does code.now line (Op.Print form) work.old how work.new) }
 {
     let value = number_in(work.pop());
     let piece = Piece {
         form: form.number(),
         value,
     };
-    let how = put(line, work, piece)?;
+    let how = put(code, line, work, piece)?;
     Ok(how)
 }
 
-pub(crate) fn text(line: u32, work: &mut Work, number: u32) -> Result<Stepped, AllocError>
-    ensures { IfOk result (λ how. Does line (Op.Text number) work.old how work.new) }
+pub(crate) fn text(
+    code: &Code,
+    line: u32,
+    work: &mut Work,
+    number: u32,
+) -> Result<Stepped, AllocError>
+    ensures { IfOk result (λ how. Does code.now line (Op.Text number) work.old how work.new) }
 {
     let piece = Piece {
         form: TEXT_FORM,
         value: i64::from(number),
     };
-    let how = put(line, work, piece)?;
+    let how = put(code, line, work, piece)?;
     Ok(how)
 }
 
-pub(crate) fn hold(line: u32, work: &mut Work) -> Result<Stepped, AllocError>
-    ensures { IfOk result (λ how. Does line Op.Hold work.old how work.new) }
+pub(crate) fn hold(code: &Code, line: u32, work: &mut Work) -> Result<Stepped, AllocError>
+    ensures { IfOk result (λ how. Does code.now line Op.Hold work.old how work.new) }
 {
     work.begin_gather();
     Ok(Stepped::Quiet)
 }
 
-pub(crate) fn flush(line: u32, work: &mut Work) -> Result<Stepped, AllocError>
-    ensures { IfOk result (λ how. Does line Op.Flush work.old how work.new) }
+pub(crate) fn flush(code: &Code, line: u32, work: &mut Work) -> Result<Stepped, AllocError>
+    ensures { IfOk result (λ how. Does code.now line Op.Flush work.old how work.new) }
 {
     match work.take_gathered() {
         None => Ok(Stepped::Quiet),
-        Some(pieces) => Ok(asked(line, pieces.request())),
+        Some(pieces) => Ok(asked(code, line, work, pieces.request())),
     }
 }
 
-pub(crate) fn read(line: u32, work: &mut Work, form: ValueForm) -> Result<Stepped, AllocError>
-    ensures { IfOk result (λ how. Does line (Op.Read form) work.old how work.new) }
+pub(crate) fn read(code: &Code, line: u32, work: &mut Work, form: ValueForm) -> Result<Stepped, AllocError>
+    ensures { IfOk result (λ how. Does code.now line (Op.Read form) work.old how work.new) }
 {
     let form = form.number();
-    Ok(asked(line, Request::Read { form }))
+    Ok(asked(code, line, work, Request::Read { form }))
 }
 
-pub(crate) fn fail(line: u32, work: &mut Work) -> Result<Stepped, AllocError>
-    ensures { IfOk result (λ how. Does line Op.Fail work.old how work.new) }
+pub(crate) fn fail(code: &Code, line: u32, work: &mut Work) -> Result<Stepped, AllocError>
+    ensures { IfOk result (λ how. Does code.now line Op.Fail work.old how work.new) }
 {
-    Ok(asked(line, Request::Fail))
+    Ok(asked(code, line, work, Request::Fail))
 }

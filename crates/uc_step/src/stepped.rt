@@ -3,7 +3,10 @@
 ghost use Rattle.std.specs.Prelude.{◌≡◌};
 ghost use Rattle.uc_meaning.specs.declared.request.Request.TheVariants as ask;
 ghost use Rattle.uc_meaning.specs.Faults.{fault_number};
+ghost use Rattle.uc_frames.specs.Machine.{line_at};
 
+use uc_code::code::Code;
+use uc_frames::work::Work;
 use uc_meaning::fault::RunFault;
 use uc_meaning::request::{Asked, Request};
 
@@ -15,17 +18,18 @@ pub enum Stepped {
     Ask(Asked),
 }
 
-// It asks, in this line.
-pub(crate) fn asked(line: u32, request: Request) -> Stepped
-    ensures { result ≡ Stepped.Ask (record { request = request; line = line }) }
+// It asks, by an op of this line.
+pub(crate) fn asked(code: &Code, line: u32, work: &Work, request: Request) -> Stepped
+    ensures { result ≡ Stepped.Ask (record { request = request; line = line_at code.now.ops line work.now.callers }) }
 {
+    let line = work.line(code, line);
     Stepped::Ask(Asked { request, line })
 }
 
-// A run fault, in this line.
-pub(crate) fn faulted(line: u32, fault: RunFault) -> Stepped
-    ensures { result ≡ Stepped.Ask (record { request = ask.Fault (fault_number fault); line = line }) }
+// A run fault, by an op of this line.
+pub(crate) fn faulted(code: &Code, line: u32, work: &Work, fault: RunFault) -> Stepped
+    ensures { result ≡ Stepped.Ask (record { request = ask.Fault (fault_number fault); line = line_at code.now.ops line work.now.callers }) }
 {
     let number = fault.number();
-    asked(line, Request::Fault { number })
+    asked(code, line, work, Request::Fault { number })
 }

@@ -3,7 +3,7 @@ use Rattle.std.proofs.Common.{◌≡◌, ℕ, List, [], ◌∷◌, ◌++◌, map
 use Rattle.uc_tree.specs.declared.kinds.Base.{Base}
 use Rattle.uc_tree.specs.declared.kinds.Known.{Known}
 use Rattle.uc_tree.specs.Names.{same_name}
-use Rattle.uc_tree.specs.Statements.{Declarator, Stmt, Declare, Block, Print, PrintTogether}
+use Rattle.uc_tree.specs.Statements.{Declarator, Stmt, Declare}
 use Rattle.uc_tree.specs.Programs.{Program}
 use Rattle.uc_tree.specs.Resolve.{Scope, known_named, scope_after, routine_scope, length_of, declared_known, with_declared, with_all}
 use Rattle.uc_tree.specs.Resolve as resolve
@@ -45,11 +45,8 @@ next_all p env scope b [] h = h
 next_all p env scope b (d ∷ ds) h = next_all p (declared env b d) (with_declared p scope b d) b ds (next_declared p env scope b d h)
 
 pub next_agrees : (p : Program) (s : Stmt) (env : Env) (scope : Scope) → Agrees env scope → Agrees (env_after env s) (scope_after p s scope)
-next_agrees p (Declare place b ds) env scope h = next_all p env scope b ds h
-next_agrees p (Block place body) env scope h = record { same = h.same }
-next_agrees p (Print place items) env scope h = record { same = h.same }
-next_agrees p (PrintTogether place items) env scope h = record { same = h.same }
-next_agrees p _ env scope h = h
+next_agrees p (Declare place b ds) env scope h = record { same = (next_all p env scope b ds h).same }
+next_agrees p _ env scope h = record { same = h.same }
 
 -- what stands before other names does not matter where one of them is meant
 found_behind : (front back : List Seen) (name : List ℕ) (w : What) → named back name ≡ Some w → named (front ++ back) name ≡ Some w

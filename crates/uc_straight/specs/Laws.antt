@@ -16,7 +16,7 @@ pub record Agrees (env : Env) (scope : Scope) : Type 0 where
   pub same : env.names ≡ main_env.names ++ map known_as scope.names
 
 abbrev pub MainAgrees : Type 0
-MainAgrees = (p : Program) (texts : ℕ) → Agrees main_env (routine_scope p texts)
+MainAgrees = (p : Program) (class number texts sites : ℕ) → Agrees main_env (routine_scope p class number texts sites)
 
 abbrev pub OpenedAgrees : Type 0
 OpenedAgrees = (env : Env) (scope : Scope) → Agrees env scope → Agrees (opened env) scope

@@ -3,7 +3,7 @@ use Rattle.std.proofs.Common.{◌≡◌, ◌⊎◌, inl, inr, ℕ, List, [], ◌
 use Rattle.std.specs.Prelude.{slice_get}
 use Rattle.uc_tree.specs.Programs.{Program}
 use Rattle.uc_tree.specs.Source.{Source}
-use Rattle.uc_tree.specs.Resolve.{source_of, routine_meant}
+use Rattle.uc_tree.specs.Resolve.{source_of, routine_scope, routine_meant}
 use Rattle.uc_code.specs.Codes.{Code}
 use Rattle.uc_code.specs.Lowered.{Lowered}
 use Rattle.uc_meaning.specs.Journal.{Journal}
@@ -22,8 +22,8 @@ use Rattle.uc_lower_stmt.specs.Programs as lowering
 -- the program's main is there
 main_there : (p : Program) → lowering.HasMain p → alone.HasMain (source_of p)
 main_there p main = record {
-  routine = routine_meant p main.routine 0;
-  there = ap (λ rs. slice_get rs (source_of p).main) main.there ∙ ap (λ k. slice_get (routine_meant p main.routine 0 ∷ []) k) main.number;
+  routine = routine_meant p main.routine (routine_scope p 0 0 0 0);
+  there = ap (λ rs. slice_get rs (source_of p).main) main.there ∙ ap (λ k. slice_get (routine_meant p main.routine (routine_scope p 0 0 0 0) ∷ []) k) main.number;
 }
 
 closing_kind : (k : EntryKind) → Closing k → (k ≡ kind.Done) ⊎ (k ≡ kind.Fault) ⊎ (k ≡ kind.Limit)

@@ -18,6 +18,7 @@ pub mod ProgramViews
 pub mod Programs
 pub mod Resolve
 pub mod Rows
+pub mod Scopes
 pub mod Sizes
 pub mod Source
 pub mod Spelling

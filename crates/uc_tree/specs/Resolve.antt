@@ -20,12 +20,12 @@ use Rattle.uc_tree.specs.Constants.{truth_value, constants_of, value_of_name, el
 use Rattle.uc_tree.specs.Expressions as expr
 use Rattle.uc_tree.specs.Statements as stmt
 use Rattle.uc_tree.specs.Programs as whole
-use Rattle.uc_tree.specs.Cells.{declared_cells, routine_cells}
-use Rattle.uc_tree.specs.Gathered.{gathered_all}
-use Rattle.uc_tree.specs.Numbering.{Defined, routines_of, own_texts, sites_of, texts_of, main_name}
+use Rattle.uc_tree.specs.Cells.{classes_of, class_cells, declared_cells, stmt_cells, routine_cells}
+use Rattle.uc_tree.specs.Gathered.{gathered, gathered_all}
+use Rattle.uc_tree.specs.Numbering.{is_event, Defined, routines_of, own_texts, own_sites, sites_of, texts_of, main_name}
 use Rattle.uc_tree.specs.declared.kinds.ValueForm.{ValueForm}
 use Rattle.uc_tree.specs.declared.kinds.ValueForm.TheVariants as value_form
-use Rattle.uc_tree.specs.Source.{Shape, Integer, Character, Truth, Operator, Plus, Minus, Times, Over, Modulo, Equal, NotEqual, Less, AtMost, Greater, AtLeast, Expr, Literal, Variable, Element, Load, Negated, Not, AsCharacter, AsTruth, Operate, And, Or, Assign, Update, StepBehind, Fail, Item, Show, ShowText, Target, Declared, Stmt, Skip, Block, Evaluate, Declare, Print, PrintTogether, Read, Stmts, Nil, Then, Routine, Source}
+use Rattle.uc_tree.specs.Source.{Shape, Integer, Character, Truth, Operator, Plus, Minus, Times, Over, Modulo, Equal, NotEqual, Less, AtMost, Greater, AtLeast, Expr, Literal, Variable, Element, Load, Negated, Not, AsCharacter, AsTruth, Operate, And, Or, Assign, Update, StepBehind, Fail, Item, Show, ShowText, Target, Declared, Stmt, Skip, Block, Evaluate, Declare, Print, PrintTogether, Read, Stmts, Nil, Then, Purpose, Called, TaskMain, Routine, Class, Source}
 
 -- types
 
@@ -57,21 +57,28 @@ converted _ e = e
 
 -- what an expression stands for
 
--- a place, a value, `cin`, or the member `fail` of `cin`
+-- a place, a value, `cin`, the member `fail` of `cin`; a routine, a member of the object at the place, a condition of that
+-- object and an event, by their numbers; or nothing, where a rule is broken
 pub data Standing : Type 0 where
   AtPlace : Standing
   AsValue : Standing
   AsInput : Standing
   AsFail : Standing
+  AsRoutine : ℕ → Standing
+  AsMember : ℕ → Standing
+  AsCondition : ℕ → Standing
+  AsEvent : ℕ → Standing
+  AsNothing : Standing
 
+-- `expr` finds the place or gives the value; of a member and a condition it finds the object
 pub record Meant : Type 0 where
   pub expr : Expr
   pub ty : Ty
   pub standing : Standing
 
--- what stands for an expression that breaks a rule
+-- what stands for an expression that breaks a rule: the value 0
 abbrev pub no_meaning : Meant
-no_meaning = record { expr = Literal (pos 0); ty = int_type; standing = AsValue }
+no_meaning = record { expr = Literal (pos 0); ty = int_type; standing = AsNothing }
 
 abbrev pub value_meant : Expr → Ty → Meant
 value_meant e ty = record { expr = e; ty = ty; standing = AsValue }
@@ -82,6 +89,11 @@ value_by AtPlace e = Load e
 value_by AsValue e = e
 value_by AsInput e = e
 value_by AsFail e = e
+value_by (AsRoutine r) e = e
+value_by (AsMember r) e = e
+value_by (AsCondition k) e = e
+value_by (AsEvent k) e = e
+value_by AsNothing e = e
 
 abbrev pub value_of : Meant → Expr
 value_of m = value_by m.standing m.expr
@@ -144,17 +156,23 @@ assign_meant assign.Rem m v = updated Modulo m (value_of v)
 abbrev pub fail_name : List ℕ
 fail_name = codes "fail"
 
-abbrev pub field_meant : Standing → List ℕ → Meant
-field_meant AsInput name = if same_name name fail_name then record { expr = Literal (pos 0); ty = bool_type; standing = AsFail } else no_meaning
-field_meant AtPlace name = no_meaning
-field_meant AsValue name = no_meaning
-field_meant AsFail name = no_meaning
+-- a field or a member of what the root stands for
+abbrev pub field_by : Standing → Meant → List ℕ → Meant
+field_by AsInput root name = if same_name name fail_name then record { expr = Literal (pos 0); ty = bool_type; standing = AsFail } else no_meaning
+-- to come
+field_by _ root name = no_meaning
 
-abbrev pub call_meant : Standing → Meant
-call_meant AsFail = value_meant Fail bool_type
-call_meant AtPlace = no_meaning
-call_meant AsValue = no_meaning
-call_meant AsInput = no_meaning
+abbrev pub field_meant : Meant → List ℕ → Meant
+field_meant root name = field_by root.standing root name
+
+-- a call of what the root stands for with these arguments
+abbrev pub call_by : Standing → Meant → List Meant → Meant
+call_by AsFail root args = value_meant Fail bool_type
+-- to come
+call_by _ root args = no_meaning
+
+abbrev pub call_meant : Meant → List Meant → Meant
+call_meant root args = call_by root.standing root args
 
 -- an element is a scalar of the array's base
 abbrev pub element_by : Option ℕ → Meant → Expr → Meant
@@ -168,14 +186,22 @@ abbrev pub step_meant : StepOp → Meant → Meant
 step_meant step.Increment m = value_meant (StepBehind Plus (shape_of m.ty.base) m.expr) m.ty
 step_meant step.Decrement m = value_meant (StepBehind Minus (shape_of m.ty.base) m.expr) m.ty
 
--- what expressions stand for where these names are in scope
-module _ (names : List Known) where
+-- where an expression stands: its program, the numbers of its class (0 outside of classes) and of its routine, and the
+-- names in scope, from the outermost on
+pub record Context : Type 0 where
+  pub program : whole.Program
+  pub class : ℕ
+  pub routine : ℕ
+  pub names : List Known
+
+-- what expressions stand for there
+module _ (c : Context) where
   abbrev mutual
     pub meant : expr.Expr → Meant
     meant (expr.Number p n) = value_meant (Literal n) int_type
     meant (expr.Character p byte) = value_meant (Literal (pos byte)) (scalar base.Char)
     meant (expr.Truth p b) = value_meant (Literal (truth_value b)) bool_type
-    meant (expr.Name p name) = known_meant (known_named names name)
+    meant (expr.Name p name) = known_meant (known_named c.names name)
     meant (expr.Cin p) = record { expr = Literal (pos 0); ty = int_type; standing = AsInput }
     meant (expr.Postfix p root parts) = parts_meant parts (meant root)
     meant (expr.Unary p op operand) = unary_meant op (meant operand)
@@ -183,10 +209,14 @@ module _ (names : List Known) where
     meant (expr.Assign p sign op place value) = assign_meant op (meant place) (meant value)
 
     pub part_meant : expr.Part → Meant → Meant
-    part_meant (expr.Field sign name) m = field_meant m.standing name
+    part_meant (expr.Field sign name) m = field_meant m name
     part_meant (expr.Index sign index) m = element_meant m (meant index)
-    part_meant (expr.Call sign args) m = call_meant m.standing
+    part_meant (expr.Call sign args) m = call_meant m (args_meant args)
     part_meant (expr.Step sign op) m = step_meant op m
+
+    pub args_meant : expr.Exprs → List Meant
+    args_meant expr.NoExprs = []
+    args_meant (expr.MoreExprs first rest) = meant first ∷ args_meant rest
 
     pub parts_meant : expr.Parts → Meant → Meant
     parts_meant expr.NoParts m = m
@@ -205,11 +235,15 @@ module _ (names : List Known) where
 
 -- what statements stand for
 
--- the names in scope, from the outermost on, the cells that the routine has so far, and the text literals before
+-- where a statement stands: in which class and routine, the names in scope, from the outermost on, and what stands before it:
+-- cells of its routine, text literals and accept statements of the program
 pub record Scope : Type 0 where
+  pub class : ℕ
+  pub routine : ℕ
   pub names : List Known
   pub cells : ℕ
   pub texts : ℕ
+  pub sites : ℕ
 
 -- the form of a printed value, and of a value that is read: a `char` is a character
 abbrev pub form_of : Base → ValueForm
@@ -220,37 +254,35 @@ form_of _ = value_form.Number
 abbrev pub newline : Expr
 newline = Literal (pos 10)
 
-abbrev pub items_meant : Scope → List stmt.OutItem → List Item
-items_meant s [] = []
-items_meant s (stmt.Endl sign ∷ os) = Show value_form.Character newline ∷ items_meant s os
-items_meant s (stmt.Literal sign text ∷ os) = ShowText s.texts ∷ items_meant (record s { texts = s.texts + 1 }) os
-items_meant s (stmt.Printed sign e ∷ os) = Show (form_of (meant s.names e).ty.base) (value_in_scope s.names e) ∷ items_meant s os
+-- printed items, behind so many text literals
+abbrev pub items_meant : Context → ℕ → List stmt.OutItem → List Item
+items_meant c texts [] = []
+items_meant c texts (stmt.Endl sign ∷ os) = Show value_form.Character newline ∷ items_meant c texts os
+items_meant c texts (stmt.Literal sign text ∷ os) = ShowText texts ∷ items_meant c (texts + 1) os
+items_meant c texts (stmt.Printed sign e ∷ os) = Show (form_of (meant c e).ty.base) (value_in_scope c e) ∷ items_meant c texts os
 
-abbrev pub texts_among : List stmt.OutItem → ℕ
-texts_among [] = 0
-texts_among (stmt.Endl sign ∷ os) = texts_among os
-texts_among (stmt.Literal sign text ∷ os) = suc (texts_among os)
-texts_among (stmt.Printed sign e ∷ os) = texts_among os
+abbrev pub target_meant : Context → expr.Expr → Target
+target_meant c e = record { form = form_of (meant c e).ty.base; place = (meant c e).expr }
 
-abbrev pub target_meant : List Known → expr.Expr → Target
-target_meant names e = record { form = form_of (meant names e).ty.base; place = (meant names e).expr }
-
-abbrev pub targets_meant : List Known → expr.Exprs → List Target
-targets_meant names expr.NoExprs = []
-targets_meant names (expr.MoreExprs e es) = target_meant names e ∷ targets_meant names es
+abbrev pub targets_meant : Context → expr.Exprs → List Target
+targets_meant c expr.NoExprs = []
+targets_meant c (expr.MoreExprs e es) = target_meant c e ∷ targets_meant c es
 
 -- the value that a variable starts with, as a scalar of this shape
-abbrev pub first_value : List Known → Shape → expr.Exprs → Option Expr
-first_value names s expr.NoExprs = None
-first_value names s (expr.MoreExprs e es) = Some (converted s (value_in_scope names e))
+abbrev pub first_value : Context → Shape → expr.Exprs → Option Expr
+first_value c s expr.NoExprs = None
+first_value c s (expr.MoreExprs e es) = Some (converted s (value_in_scope c e))
 
-abbrev pub start_meant : List Known → Shape → stmt.Start → Option Expr
-start_meant names s stmt.NoStart = None
-start_meant names s (stmt.StartValue e) = Some (converted s (value_in_scope names e))
-start_meant names s (stmt.StartArgs es) = first_value names s es
+abbrev pub start_meant : Context → Shape → stmt.Start → Option Expr
+start_meant c s stmt.NoStart = None
+start_meant c s (stmt.StartValue e) = Some (converted s (value_in_scope c e))
+start_meant c s (stmt.StartArgs es) = first_value c s es
 
 -- what statements of a program stand for
 module _ (p : whole.Program) where
+  abbrev pub context_at : Scope → Context
+  context_at s = record { program = p; class = s.class; routine = s.routine; names = s.names }
+
   abbrev pub length_of : stmt.Declarator → Option expr.Expr → Option ℕ
   length_of d None = None
   length_of d (Some e) = Some (elements (value_of_name (constants_of p.items)) d)
@@ -263,10 +295,10 @@ module _ (p : whole.Program) where
   declared_known s b d = record { name = d.name; ty = declared_type b d; cell = s.cells }
 
   abbrev pub with_declared : Scope → Base → stmt.Declarator → Scope
-  with_declared s b d = record { names = s.names ++ declared_known s b d ∷ []; cells = s.cells + declared_cells p b d; texts = s.texts }
+  with_declared s b d = record s { names = s.names ++ declared_known s b d ∷ []; cells = s.cells + declared_cells p b d }
 
   abbrev pub declared_meant : Scope → Base → stmt.Declarator → Declared
-  declared_meant s b d = record { cell = s.cells; cells = declared_cells p b d; value = start_meant s.names (shape_of b) d.start }
+  declared_meant s b d = record { cell = s.cells; cells = declared_cells p b d; value = start_meant (context_at s) (shape_of b) d.start }
 
   abbrev pub all_declared : Scope → Base → List stmt.Declarator → List Declared
   all_declared s b [] = []
@@ -276,32 +308,33 @@ module _ (p : whole.Program) where
   with_all s b [] = s
   with_all s b (d ∷ ds) = with_all (with_declared s b d) b ds
 
-  -- behind a block its names are gone, and its cells and texts stay counted
-  abbrev pub outside : Scope → Scope → Scope
-  outside before inner = record { names = before.names; cells = inner.cells; texts = inner.texts }
+  -- a declaration alone leaves names behind it
+  abbrev pub names_behind : stmt.Stmt → Scope → List Known
+  names_behind (stmt.Declare place b ds) s = (with_all s b ds).names
+  names_behind _ s = s.names
 
-  abbrev mutual
-    -- the scope behind a statement
-    pub scope_after : stmt.Stmt → Scope → Scope
-    scope_after (stmt.Block place body) s = outside s (scope_behind body s)
-    scope_after (stmt.Declare place b ds) s = with_all s b ds
-    scope_after (stmt.Print place items) s = record s { texts = s.texts + texts_among items }
-    scope_after (stmt.PrintTogether place items) s = record s { texts = s.texts + texts_among items }
-    scope_after _ s = s
+  -- the scope behind a statement, and behind statements: what stands before is counted for all statements alike
+  abbrev pub scope_after : stmt.Stmt → Scope → Scope
+  scope_after t s = record s {
+    names = names_behind t s;
+    cells = s.cells + stmt_cells t (declared_cells p);
+    texts = s.texts + length (gathered own_texts t);
+    sites = s.sites + length (gathered (own_sites None 0) t);
+  }
 
-    pub scope_behind : stmt.Stmts → Scope → Scope
-    scope_behind stmt.NoStmts s = s
-    scope_behind (stmt.MoreStmts first rest) s = scope_behind rest (scope_after first s)
+  abbrev pub scope_behind : stmt.Stmts → Scope → Scope
+  scope_behind stmt.NoStmts s = s
+  scope_behind (stmt.MoreStmts first rest) s = scope_behind rest (scope_after first s)
 
   abbrev mutual
     pub stmt_meant : stmt.Stmt → Scope → Stmt
     stmt_meant (stmt.Block place body) s = Block place.line (stmts_meant body s)
     stmt_meant (stmt.Empty place) s = Skip place.line
-    stmt_meant (stmt.Evaluate place e) s = Evaluate place.line (meant s.names e).expr
+    stmt_meant (stmt.Evaluate place e) s = Evaluate place.line (meant (context_at s) e).expr
     stmt_meant (stmt.Declare place b ds) s = Declare place.line (all_declared s b ds)
-    stmt_meant (stmt.Print place items) s = Print place.line (items_meant s items)
-    stmt_meant (stmt.PrintTogether place items) s = PrintTogether place.line (items_meant s items)
-    stmt_meant (stmt.Read place es) s = Read place.line (targets_meant s.names es)
+    stmt_meant (stmt.Print place items) s = Print place.line (items_meant (context_at s) s.texts items)
+    stmt_meant (stmt.PrintTogether place items) s = PrintTogether place.line (items_meant (context_at s) s.texts items)
+    stmt_meant (stmt.Read place es) s = Read place.line (targets_meant (context_at s) es)
     -- to come
     stmt_meant _ s = Skip 0
 
@@ -309,16 +342,10 @@ module _ (p : whole.Program) where
     stmts_meant stmt.NoStmts s = Nil
     stmts_meant (stmt.MoreStmts first rest) s = Then (stmt_meant first s) (stmts_meant rest (scope_after first s))
 
-  -- a routine begins without names and cells, behind the text literals of the routines before it
-  abbrev pub routine_scope : ℕ → Scope
-  routine_scope texts = record { names = []; cells = 0; texts = texts }
-
-  abbrev pub routine_meant : whole.Routine → ℕ → Routine
-  routine_meant r texts = record { line = r.brace.line; cells = routine_cells p r; body = stmts_meant r.body (routine_scope texts) }
-
-  abbrev pub routines_meant : List Defined → ℕ → List Routine
-  routines_meant [] texts = []
-  routines_meant (d ∷ ds) texts = routine_meant d.routine texts ∷ routines_meant ds (texts + length (gathered_all own_texts d.routine.body))
+  -- a routine of this class and number begins without names and cells, behind the text literals and the accept statements of
+  -- the routines before it
+  abbrev pub routine_scope : ℕ → ℕ → ℕ → ℕ → Scope
+  routine_scope class number texts sites = record { class = class; routine = number; names = []; cells = 0; texts = texts; sites = sites }
 
   -- `void uMain::main()` is the program's main
   abbrev pub is_main_owner : Owner → Bool
@@ -329,15 +356,37 @@ module _ (p : whole.Program) where
   abbrev pub is_main : whole.Routine → Bool
   is_main r = is_main_owner r.sig.owner && same_name r.sig.name main_name
 
+  abbrev pub purpose_of : whole.Routine → Purpose
+  purpose_of r = if is_main r then TaskMain else Called
+
+  abbrev pub routine_meant : whole.Routine → Scope → Routine
+  routine_meant r s = record { line = r.brace.line; cells = routine_cells p r; purpose = purpose_of r; body = stmts_meant r.body s }
+
+  -- routines from this number on
+  abbrev pub routines_meant : List Defined → ℕ → ℕ → ℕ → List Routine
+  routines_meant [] number texts sites = []
+  routines_meant (d ∷ ds) number texts sites =
+      routine_meant d.routine (routine_scope d.number number texts sites) ∷ routines_meant ds (number + 1) (texts + length (gathered_all own_texts d.routine.body)) (sites + length (gathered_all (own_sites d.class d.number) d.routine.body))
+
   abbrev pub main_place : List Defined → ℕ
   main_place [] = 0
   main_place (d ∷ ds) = if is_main d.routine then 0 else suc (main_place ds)
 
+  -- the classes among these, the first of which has this place among the classes of the program
+  abbrev pub classes_meant : ℕ → List whole.Class → List Class
+  classes_meant place [] = []
+  classes_meant place (c ∷ cs) = if is_event c.kind then classes_meant (place + 1) cs else record { cells = class_cells p place } ∷ classes_meant (place + 1) cs
+
+  -- uMain, which has no fields, and the classes of the program
+  abbrev pub all_classes : List Class
+  all_classes = record { cells = 0 } ∷ classes_meant 0 (classes_of p.items)
+
   -- the source that a program is
   abbrev pub source_of : Source
   source_of = record {
-    routines = routines_meant (routines_of p) 0;
+    routines = routines_meant (routines_of p) 0 0 0;
     main = main_place (routines_of p);
+    classes = all_classes;
     sites = sites_of p;
     texts = texts_of p;
   }

@@ -34,6 +34,18 @@ field_cells (Field s t) zero = 0
 field_cells (Field s t) (suc i) = shape_cells s + field_cells t i
 field_cells (Array n s) i = 0
 
+-- what leaves statements before their end
+pub data Way : Type 0 where
+  ToBreak : Way
+  ToContinue : Way
+  ToReturn : Way
+
+-- how a loop turns: its test comes first (`while` and `for`), its body comes first (`do`), or it has no test
+pub data Order : Type 0 where
+  TestFirst : Order
+  BodyFirst : Order
+  NoTest : Order
+
 -- an operator of two numbers
 pub data Operator : Type 0 where
   Plus : Operator
@@ -107,21 +119,40 @@ mutual
     Nil : Stmts
     Then : Stmt → Stmts → Stmts
 
--- a routine: the line of its body's block, the cells of its frame, and its body
+-- how a routine begins: it is called, or it is the main of a task
+pub data Purpose : Type 0 where
+  Called : Purpose
+  TaskMain : Purpose
+
+-- a routine: the line of its body's block, the cells of its frame, how it begins, and its body
 pub record Routine : Type 0 where
   pub line : ℕ
   pub cells : ℕ
+  pub purpose : Purpose
   pub body : Stmts
 
--- a program: its routines, the number of its main, its accept statements and its text literals
+-- what ends a main has the line of its block; a call ends in the line of its caller
+abbrev pub line_by : Purpose → ℕ → ℕ
+line_by Called line = 0
+line_by TaskMain line = line
+
+abbrev pub end_line : Routine → ℕ
+end_line r = line_by r.purpose r.line
+
+-- a class: the cells of an object
+pub record Class : Type 0 where
+  pub cells : ℕ
+
+-- a program: its routines, the number of its main, its classes by their numbers, its accept statements and its text literals
 pub record Source : Type 0 where
   pub routines : List Routine
   pub main : ℕ
+  pub classes : List Class
   pub sites : List Site
   pub texts : List (List ℕ)
 
 abbrev pub routine_or_none : Option Routine → Routine
-routine_or_none None = record { line = 0; cells = 0; body = Nil }
+routine_or_none None = record { line = 0; cells = 0; purpose = Called; body = Nil }
 routine_or_none (Some r) = r
 
 -- a routine by its number

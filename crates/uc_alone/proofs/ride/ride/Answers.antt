@@ -1,37 +1,33 @@
-use Rattle.std.proofs.Common.{◌<◌, arith, length, subst}
-use Rattle.uc_meaning.specs.Quiet.{State}
-use Rattle.uc_frames.specs.Stands.{Stands}
-use Rattle.uc_step.specs.Follow.{Follow}
-use Rattle.uc_alone.proofs.Rode.{come_on, come_asked}
-use Rattle.uc_alone.proofs.Moves.{on_way, asked_end}
+use Rattle.std.proofs.Common.{◌<◌, arith, subst}
+use Rattle.uc_frames.specs.Weight.{weight}
+use Rattle.uc_step.specs.declared.stepped.Stepped.TheVariants.{Ask}
+use Rattle.uc_step.specs.Falls.{FallsBelow}
+use Rattle.uc_alone.proofs.Rode.{Stepping, come_on, come_asked, come_ticked, falls_more}
 use Rattle.uc_alone.proofs.ride.ride.Goals as goal
 
 pub ops-preserved : goal.ops-preserved
 ops-preserved c =
-    let ops = c.args.code.now.ops in
-    let f : (s : State) → Stands ops c.ops.work s → Follow ops c.in_ok-how.how c.move_on.new.work s = c.in_ok-how.ensures.source in
-    let k : c.ops.work.control.next < c.move_on.new.work.control.next = c.in_ok-how.ensures.on (c.in_ok-how.ensures.inside c.in-Quiet.is) in
+    let code = c.args.code.now in
+    let f : Stepping code c.ops.work c.in_ok-how.how c.step.new.work = c.in_ok-how.ensures.source in
+    let l : weight code.ops c.step.new.work < weight code.ops c.ops.work = subst (λ h. FallsBelow code.ops (weight code.ops c.ops.work) h c.step.new.work) c.in-Quiet.is (c.in_ok-how.ensures.falls c.requires.paced) in
     record {
-      come = come_on ops c.args.work.now c.ops.work c.move_on.new.work c.ops.invariant.come (λ s st. subst (λ h. Follow ops h c.move_on.new.work s) c.in-Quiet.is (f s st));
-      on = omega (arith, c.ops.invariant.on, k);
+      come = come_on code c.args.work.now c.ops.work c.step.new.work c.ops.invariant.come (subst (λ h. Stepping code c.ops.work h c.step.new.work) c.in-Quiet.is f);
+      less = omega (arith, c.ops.invariant.less, l);
     }
 
-pub returns-in-Tick-clause-on : goal.returns-in-Tick-clause-on
-returns-in-Tick-clause-on c h = on_way (length c.args.code.now.ops) c.args.work.now.control.next c.ops.work.control.next c.move_on.new.work.control.next c.ops.invariant.on (c.in_ok-how.ensures.on) (c.in_ok-how.ensures.stays) h
+pub returns-in-Tick-clause-asked : goal.returns-in-Tick-clause-asked
+returns-in-Tick-clause-asked c =
+    let code = c.args.code.now in
+    let f : Stepping code c.ops.work c.in_ok-how.how c.step.new.work = c.in_ok-how.ensures.source in
+    come_ticked code c.args.work.now c.ops.work c.step.new.work c.no_request.result c.ops.invariant.come (subst (λ h. Stepping code c.ops.work h c.step.new.work) c.in-Tick.is f)
 
 pub returns-in-Ask-clause-asked : goal.returns-in-Ask-clause-asked
 returns-in-Ask-clause-asked c =
-    let ops = c.args.code.now.ops in
-    let f : (s : State) → Stands ops c.ops.work s → Follow ops c.in_ok-how.how c.move_on.new.work s = c.in_ok-how.ensures.source in
-    come_asked ops c.args.work.now c.ops.work c.move_on.new.work c.in-Ask.asked c.ops.invariant.come (λ s st. subst (λ h. Follow ops h c.move_on.new.work s) c.in-Ask.is (f s st))
+    let code = c.args.code.now in
+    let f : Stepping code c.ops.work c.in_ok-how.how c.step.new.work = c.in_ok-how.ensures.source in
+    come_asked code c.args.work.now c.ops.work c.step.new.work c.in-Ask.asked c.ops.invariant.come (subst (λ h. Stepping code c.ops.work h c.step.new.work) c.in-Ask.is f)
 
-pub returns-in-Ask-clause-on : goal.returns-in-Ask-clause-on
-returns-in-Ask-clause-on c h = on_way (length c.args.code.now.ops) c.args.work.now.control.next c.ops.work.control.next c.move_on.new.work.control.next c.ops.invariant.on (c.in_ok-how.ensures.on) (c.in_ok-how.ensures.stays) h
-
-pub returns-in-Ask-clause-ended : goal.returns-in-Ask-clause-ended
-returns-in-Ask-clause-ended c h =
-    asked_end c.in_ok-how.how c.in-Ask.asked c.in-Ask.is (c.in_ok-how.ensures.ended (omega (arith, h, c.ops.invariant.on)))
-
-pub returns-in-Tick-clause-ended : goal.returns-in-Tick-clause-ended
-returns-in-Tick-clause-ended c h =
-    let e = c.in_ok-how.ensures.ended (omega (arith, h, c.ops.invariant.on)) in absurd (cc (e, c.in-Tick.is))
+pub returns-in-Ask-clause-falls : goal.returns-in-Ask-clause-falls
+returns-in-Ask-clause-falls c =
+    let code = c.args.code.now in
+    falls_more code (weight code.ops c.ops.work) (weight code.ops c.args.work.now) (Ask c.in-Ask.asked) c.step.new.work c.ops.invariant.less (subst (λ h. FallsBelow code.ops (weight code.ops c.ops.work) h c.step.new.work) c.in-Ask.is (c.in_ok-how.ensures.falls c.requires.paced))

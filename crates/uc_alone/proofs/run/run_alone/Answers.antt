@@ -1,5 +1,6 @@
 use Rattle.std.proofs.Common.{sym, subst, false}
 use Rattle.std.specs.Prelude.{MatchOption}
+use Rattle.uc_code.specs.Laid.{laid_of}
 use Rattle.uc_frames.specs.Stands.{Stands}
 use Rattle.uc_alone.specs.Alone.{start, Going}
 use Rattle.uc_alone.specs.Kept.{ReadsOf}
@@ -13,12 +14,12 @@ go_on-requires-clause-reads c =
 
 pub returns-in-None : goal.returns-in-None
 returns-in-None c = record {
-  run = λ source l k h. absurd (subst (λ o. MatchOption o ⊥ (λ w. Stands c.args.code.now.ops w (start source))) c.in-None.is (c.in_ok-begin_inside.ensures source l k h));
+  run = λ source l k h. absurd (subst (λ o. MatchOption o ⊥ (λ w. Stands (laid_of c.args.code.now) w (start source))) c.in-None.is (c.in_ok-begin_inside.ensures source l k h));
 }
 
 pub returns-in_ok-journal-in-Some : goal.returns-in_ok-journal-in-Some
 returns-in_ok-journal-in-Some c = record {
   run = λ source l k h.
       let opened = opened_by c.args.entries c.new-journal.result.items c.push.new.self.items c.push-2.new.self.items c.begin_entry.result c.plain_entry.result (c.new-journal.ensures.items) c.begin_entry.ensures c.plain_entry.ensures (c.in_ok-push.ensures.items) (c.in_ok-push-2.ensures.items) in
-      c.in_ok-journal-in-Some.ensures source (start source) (subst (λ j. Going source c.args.input.now c.args.entries j (start source)) (sym opened) (going_first source c.args.input.now c.args.entries c.requires.room)) (subst (λ o. MatchOption o ⊥ (λ w. Stands c.args.code.now.ops w (start source))) c.in-Some.is (c.in_ok-begin_inside.ensures source l k h));
+      c.in_ok-journal-in-Some.ensures source (start source) l (subst (λ j. Going source c.args.input.now c.args.entries j (start source)) (sym opened) (going_first source c.args.input.now c.args.entries c.requires.room)) (subst (λ o. MatchOption o ⊥ (λ w. Stands (laid_of c.args.code.now) w (start source))) c.in-Some.is (c.in_ok-begin_inside.ensures source l k h));
 }

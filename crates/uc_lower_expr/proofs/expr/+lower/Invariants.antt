@@ -4,13 +4,14 @@ use Rattle.uc_tree.specs.Expressions.{parts_of, links_of}
 use Rattle.uc_tree.specs.ExpressionSizes.{expr_size, part_size, parts_size, link_size, links_size}
 use Rattle.uc_tree.specs.Resolve.{parts_meant, chain_meant}
 use Rattle.uc_lower_expr.specs.Added.{Grows}
+use Rattle.uc_lower_expr.specs.Contexts.{context_in}
 use Rattle.uc_lower_expr.proofs.expr.+lower.Given as goal
 
 abbrev pub invariant-lower_links-loop-link : goal.invariant-lower_links-loop-link
-invariant-lower_links-loop-link l = (a : ℕ) → a ≤ length l.initial.out.ops → Grows (OPS_FOR_SIZE * links_size (links_of (take l.link-index l.links))) l.line a (chain_meant l.initial.out.names (links_of (take l.link-index l.links))) l.fn.first l.told l.initial.out l.out
+invariant-lower_links-loop-link l = (a : ℕ) → a ≤ length l.initial.out.ops → Grows (OPS_FOR_SIZE * links_size (links_of (take l.link-index l.links))) l.line l.initial.out.marks a (chain_meant (context_in l.sizes l.initial.out) (links_of (take l.link-index l.links))) l.fn.first l.told l.initial.out l.out
 
 abbrev pub invariant-lower_parts-loop-part : goal.invariant-lower_parts-loop-part
-invariant-lower_parts-loop-part l = Grows (OPS_FOR_SIZE * parts_size (parts_of (take l.part-index l.parts))) l.line l.start (parts_meant l.initial.out.names (parts_of (take l.part-index l.parts))) l.fn.root l.told l.initial.out l.out
+invariant-lower_parts-loop-part l = Grows (OPS_FOR_SIZE * parts_size (parts_of (take l.part-index l.parts))) l.line l.initial.out.marks l.start (parts_meant (context_in l.sizes l.initial.out) (parts_of (take l.part-index l.parts))) l.fn.root l.told l.initial.out l.out
 
 abbrev pub decreases-lower_expr : goal.decreases-lower_expr
 decreases-lower_expr l = 3 * expr_size l.e.now

@@ -8,5 +8,5 @@ use Rattle.uc_lower_expr.proofs.expr.lower_field.Goals as goal
 
 pub returns : goal.returns
 returns c =
-    grows_restart OPS_FOR_SIZE c.args.line c.args.start (λ (m : Meant). field_meant m.standing c.args.name.now) c.args.told c.field.result (op.Push (pos 0)) _ _ (omega arith) c.requires.inside c.in_ok-restart.ensures
-    c.field.ensures (λ m u ops z h. field_code c.args.line m.standing c.args.name.now ops c.args.start z h)
+    grows_restart OPS_FOR_SIZE c.args.line c.args.out.now.marks c.args.start (λ (m : Meant). field_meant m c.args.name.now) c.args.told c.field.result (op.Push (pos 0)) _ _ (omega arith) c.requires.inside c.in_ok-restart.ensures
+    c.field.ensures (λ m u code z h. field_code c.args.out.now.marks c.args.line m.standing m c.args.name.now code c.args.start z h)

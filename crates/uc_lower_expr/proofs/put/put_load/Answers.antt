@@ -1,5 +1,5 @@
 use Rattle.std.proofs.lemmas.Result.{on_ok_weaker}
-use Rattle.uc_lower_expr.proofs.Arms.{load_as, load_value, load_input, load_fail}
+use Rattle.uc_lower_expr.proofs.Arms.{load_as, load_value, load_input, load_fail, load_nothing}
 use Rattle.uc_lower_expr.proofs.put.put_load.Goals as goal
 
 pub returns-in-Place : goal.returns-in-Place
@@ -13,3 +13,6 @@ returns-in-Input c = load_input _ _ _ c.in-Input.is
 
 pub returns-in-Fail : goal.returns-in-Fail
 returns-in-Fail c = load_fail _ _ _ c.in-Fail.is
+
+pub returns-in-Nothing : goal.returns-in-Nothing
+returns-in-Nothing c = load_nothing _ _ _ c.in-Nothing.is

@@ -8,4 +8,4 @@ pub returns : goal.returns
 returns c =
     arm_declared c.args.sizes.now c.args.base.now c.args.declarator.now c.args.line c.cells-cell.result c.cells_of_variable-cells.result c.in_ok-name.name c.in_ok-ty.ty (shape_as c.of_base-scalar.result) c.declarator.inside.start c.args.out.now _ _ _
     c.cells-cell.ensures (uncapped _ _ c.cells_of_variable-cells.ensures (omega arith)) (sym c.of_base-scalar.ensures.shape) (ap (λ (d : Declarator). d.start) c.declarator.view_is) (c.in_ok-name.ensures ∙ ap (λ (d : Declarator). d.name) c.declarator.view_is) c.in_ok-ty.ensures
-    c.in_ok-put.ensures c.in_ok-lower_start.ensures c.in_ok-declare.ensures
+    c.in_ok-put.ensures c.in_ok-lower_start.ensures c.in_ok-declare.ensures.ok

@@ -1,15 +1,14 @@
 use Rattle.std.proofs.Common.{◌≡◌, ◌-◌, ◌*◌, map, take}
 use Rattle.uc_tree.specs.declared.limits.TheConstants.{OPS_FOR_SIZE}
 use Rattle.uc_tree.specs.StatementSizes.{out_items_size}
-use Rattle.uc_tree.specs.Resolve.{items_meant, texts_among}
 use Rattle.uc_code.specs.Lowered.{item_op}
 use Rattle.uc_lower_stmt.specs.Scoped.{Lowers, scope_of}
 use Rattle.uc_lower_stmt.specs.Pieces.{ValuesCode}
-use Rattle.uc_lower_stmt.proofs.Printing.{with_texts}
+use Rattle.uc_lower_stmt.proofs.Printing.{with_texts, texts_among, items_at}
 use Rattle.uc_lower_stmt.proofs.print.lower_pieces.Given as goal
 
 abbrev pub invariant-loop-item : goal.invariant-loop-item
 invariant-loop-item l = record {
-  code : Lowers (OPS_FOR_SIZE * out_items_size (take l.item-index l.items) - l.item-index) (out_items_size (take l.item-index l.items)) 0 (ValuesCode l.line (items_meant (scope_of l.initial.out) (take l.item-index l.items))) (with_texts (scope_of l.initial.out) (texts_among (take l.item-index l.items))) l.initial.out l.out;
-  ops : l.pieces.items ≡ map item_op (items_meant (scope_of l.initial.out) (take l.item-index l.items));
+  code : Lowers (OPS_FOR_SIZE * out_items_size (take l.item-index l.items) - l.item-index) (out_items_size (take l.item-index l.items)) 0 0 (ValuesCode l.line l.initial.out.marks (items_at l.sizes (scope_of l.initial.out) (take l.item-index l.items))) (with_texts (scope_of l.initial.out) (texts_among (take l.item-index l.items))) l.initial.out l.out;
+  ops : l.pieces.items ≡ map item_op (items_at l.sizes (scope_of l.initial.out) (take l.item-index l.items));
 }

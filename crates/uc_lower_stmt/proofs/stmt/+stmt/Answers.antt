@@ -1,6 +1,6 @@
 use Rattle.std.proofs.Common.{refl, rules, arith}
 use Rattle.uc_tree.specs.Cells.{declared_cells}
-use Rattle.uc_lower_stmt.proofs.Stating.{stmt_is, arm_skip, arm_evaluate, arm_declare, arm_print, arm_print_together, arm_read, arm_block, stmts_fit, stmts_step}
+use Rattle.uc_lower_stmt.proofs.Stating.{stmt_is, arm_empty, arm_unasked, arm_evaluate, arm_declare, arm_print, arm_print_together, arm_read, arm_block, stmts_fit, straight_at, stmts_step}
 use Rattle.uc_lower_stmt.proofs.stmt.+stmt.Goals as goal
 
 pub lower_stmts-lower_stmt-requires : goal.lower_stmts-lower_stmt-requires
@@ -12,67 +12,68 @@ lower_stmts-lower_stmt-requires t c =
     let q = c.loop-s.invariant.cells in
     let w = c.loop-s.invariant.scopes in
     let v = c.loop-s.invariant.texts in
-    (search rules, (omega (arith, a, r), (omega (arith, b, q), (omega (arith, a, w), omega (arith, a, v)))))
+    let y = straight_at c.args.stmts.now c.loop-s.s-index c.s-item.result c.requires.straight c.loop-s-test.true c.s-item.is in
+    (search rules, (y, (omega (arith, a, r), (omega (arith, b, q), (omega (arith, a, w), omega (arith, a, v))))))
 
 pub lower_stmts-loop-s-preserved : goal.lower_stmts-loop-s-preserved
 lower_stmts-loop-s-preserved t c = stmts_step c.args.sizes.now c.args.stmts.now c.loop-s.s-index c.s-item.result _ _ _ c.loop-s-test.true c.s-item.is c.loop-s.invariant c.in_ok-lower_stmt.ensures
 
 pub lower_stmt-returns-in-Empty : goal.lower_stmt-returns-in-Empty
-lower_stmt-returns-in-Empty t c = arm_skip c.args.sizes.now c.args.s.now _ _ (stmt_is _ _ _ _ c.in-Empty.is c.s.view_is) (λ ops a. record { end = refl }) refl
+lower_stmt-returns-in-Empty t c = arm_empty c.args.sizes.now c.args.s.now _ _ (stmt_is _ _ _ _ c.in-Empty.is c.s.view_is)
 
 pub lower_stmt-returns-in-If : goal.lower_stmt-returns-in-If
-lower_stmt-returns-in-If t c = arm_skip c.args.sizes.now c.args.s.now _ _ (stmt_is _ _ _ _ c.in-If.is c.s.view_is) (λ ops a. record { end = refl }) refl
+lower_stmt-returns-in-If t c = arm_unasked c.args.sizes.now c.args.s.now _ _ (stmt_is _ _ _ _ c.in-If.is c.s.view_is) c.requires.straight refl
 
 pub lower_stmt-returns-in-While : goal.lower_stmt-returns-in-While
-lower_stmt-returns-in-While t c = arm_skip c.args.sizes.now c.args.s.now _ _ (stmt_is _ _ _ _ c.in-While.is c.s.view_is) (λ ops a. record { end = refl }) refl
+lower_stmt-returns-in-While t c = arm_unasked c.args.sizes.now c.args.s.now _ _ (stmt_is _ _ _ _ c.in-While.is c.s.view_is) c.requires.straight refl
 
 pub lower_stmt-returns-in-Do : goal.lower_stmt-returns-in-Do
-lower_stmt-returns-in-Do t c = arm_skip c.args.sizes.now c.args.s.now _ _ (stmt_is _ _ _ _ c.in-Do.is c.s.view_is) (λ ops a. record { end = refl }) refl
+lower_stmt-returns-in-Do t c = arm_unasked c.args.sizes.now c.args.s.now _ _ (stmt_is _ _ _ _ c.in-Do.is c.s.view_is) c.requires.straight refl
 
 pub lower_stmt-returns-in-For : goal.lower_stmt-returns-in-For
-lower_stmt-returns-in-For t c = arm_skip c.args.sizes.now c.args.s.now _ _ (stmt_is _ _ _ _ c.in-For.is c.s.view_is) (λ ops a. record { end = refl }) refl
+lower_stmt-returns-in-For t c = arm_unasked c.args.sizes.now c.args.s.now _ _ (stmt_is _ _ _ _ c.in-For.is c.s.view_is) c.requires.straight refl
 
 pub lower_stmt-returns-in-Break : goal.lower_stmt-returns-in-Break
-lower_stmt-returns-in-Break t c = arm_skip c.args.sizes.now c.args.s.now _ _ (stmt_is _ _ _ _ c.in-Break.is c.s.view_is) (λ ops a. record { end = refl }) refl
+lower_stmt-returns-in-Break t c = arm_unasked c.args.sizes.now c.args.s.now _ _ (stmt_is _ _ _ _ c.in-Break.is c.s.view_is) c.requires.straight refl
 
 pub lower_stmt-returns-in-Continue : goal.lower_stmt-returns-in-Continue
-lower_stmt-returns-in-Continue t c = arm_skip c.args.sizes.now c.args.s.now _ _ (stmt_is _ _ _ _ c.in-Continue.is c.s.view_is) (λ ops a. record { end = refl }) refl
+lower_stmt-returns-in-Continue t c = arm_unasked c.args.sizes.now c.args.s.now _ _ (stmt_is _ _ _ _ c.in-Continue.is c.s.view_is) c.requires.straight refl
 
 pub lower_stmt-returns-in-Return : goal.lower_stmt-returns-in-Return
-lower_stmt-returns-in-Return t c = arm_skip c.args.sizes.now c.args.s.now _ _ (stmt_is _ _ _ _ c.in-Return.is c.s.view_is) (λ ops a. record { end = refl }) refl
+lower_stmt-returns-in-Return t c = arm_unasked c.args.sizes.now c.args.s.now _ _ (stmt_is _ _ _ _ c.in-Return.is c.s.view_is) c.requires.straight refl
 
 pub lower_stmt-returns-in-Try : goal.lower_stmt-returns-in-Try
-lower_stmt-returns-in-Try t c = arm_skip c.args.sizes.now c.args.s.now _ _ (stmt_is _ _ _ _ c.in-Try.is c.s.view_is) (λ ops a. record { end = refl }) refl
+lower_stmt-returns-in-Try t c = arm_unasked c.args.sizes.now c.args.s.now _ _ (stmt_is _ _ _ _ c.in-Try.is c.s.view_is) c.requires.straight refl
 
 pub lower_stmt-returns-in-Throw : goal.lower_stmt-returns-in-Throw
-lower_stmt-returns-in-Throw t c = arm_skip c.args.sizes.now c.args.s.now _ _ (stmt_is _ _ _ _ c.in-Throw.is c.s.view_is) (λ ops a. record { end = refl }) refl
+lower_stmt-returns-in-Throw t c = arm_unasked c.args.sizes.now c.args.s.now _ _ (stmt_is _ _ _ _ c.in-Throw.is c.s.view_is) c.requires.straight refl
 
 pub lower_stmt-returns-in-Raise : goal.lower_stmt-returns-in-Raise
-lower_stmt-returns-in-Raise t c = arm_skip c.args.sizes.now c.args.s.now _ _ (stmt_is _ _ _ _ c.in-Raise.is c.s.view_is) (λ ops a. record { end = refl }) refl
+lower_stmt-returns-in-Raise t c = arm_unasked c.args.sizes.now c.args.s.now _ _ (stmt_is _ _ _ _ c.in-Raise.is c.s.view_is) c.requires.straight refl
 
 pub lower_stmt-returns-in-RaiseAt : goal.lower_stmt-returns-in-RaiseAt
-lower_stmt-returns-in-RaiseAt t c = arm_skip c.args.sizes.now c.args.s.now _ _ (stmt_is _ _ _ _ c.in-RaiseAt.is c.s.view_is) (λ ops a. record { end = refl }) refl
+lower_stmt-returns-in-RaiseAt t c = arm_unasked c.args.sizes.now c.args.s.now _ _ (stmt_is _ _ _ _ c.in-RaiseAt.is c.s.view_is) c.requires.straight refl
 
 pub lower_stmt-returns-in-Enable : goal.lower_stmt-returns-in-Enable
-lower_stmt-returns-in-Enable t c = arm_skip c.args.sizes.now c.args.s.now _ _ (stmt_is _ _ _ _ c.in-Enable.is c.s.view_is) (λ ops a. record { end = refl }) refl
+lower_stmt-returns-in-Enable t c = arm_unasked c.args.sizes.now c.args.s.now _ _ (stmt_is _ _ _ _ c.in-Enable.is c.s.view_is) c.requires.straight refl
 
 pub lower_stmt-returns-in-Disable : goal.lower_stmt-returns-in-Disable
-lower_stmt-returns-in-Disable t c = arm_skip c.args.sizes.now c.args.s.now _ _ (stmt_is _ _ _ _ c.in-Disable.is c.s.view_is) (λ ops a. record { end = refl }) refl
+lower_stmt-returns-in-Disable t c = arm_unasked c.args.sizes.now c.args.s.now _ _ (stmt_is _ _ _ _ c.in-Disable.is c.s.view_is) c.requires.straight refl
 
 pub lower_stmt-returns-in-Accept : goal.lower_stmt-returns-in-Accept
-lower_stmt-returns-in-Accept t c = arm_skip c.args.sizes.now c.args.s.now _ _ (stmt_is _ _ _ _ c.in-Accept.is c.s.view_is) (λ ops a. record { end = refl }) refl
+lower_stmt-returns-in-Accept t c = arm_unasked c.args.sizes.now c.args.s.now _ _ (stmt_is _ _ _ _ c.in-Accept.is c.s.view_is) c.requires.straight refl
 
 pub lower_stmt-returns-in-Resume : goal.lower_stmt-returns-in-Resume
-lower_stmt-returns-in-Resume t c = arm_skip c.args.sizes.now c.args.s.now _ _ (stmt_is _ _ _ _ c.in-Resume.is c.s.view_is) (λ ops a. record { end = refl }) refl
+lower_stmt-returns-in-Resume t c = arm_unasked c.args.sizes.now c.args.s.now _ _ (stmt_is _ _ _ _ c.in-Resume.is c.s.view_is) c.requires.straight refl
 
 pub lower_stmt-returns-in-Suspend : goal.lower_stmt-returns-in-Suspend
-lower_stmt-returns-in-Suspend t c = arm_skip c.args.sizes.now c.args.s.now _ _ (stmt_is _ _ _ _ c.in-Suspend.is c.s.view_is) (λ ops a. record { end = refl }) refl
+lower_stmt-returns-in-Suspend t c = arm_unasked c.args.sizes.now c.args.s.now _ _ (stmt_is _ _ _ _ c.in-Suspend.is c.s.view_is) c.requires.straight refl
 
 pub lower_stmt-returns-in-Yield : goal.lower_stmt-returns-in-Yield
-lower_stmt-returns-in-Yield t c = arm_skip c.args.sizes.now c.args.s.now _ _ (stmt_is _ _ _ _ c.in-Yield.is c.s.view_is) (λ ops a. record { end = refl }) refl
+lower_stmt-returns-in-Yield t c = arm_unasked c.args.sizes.now c.args.s.now _ _ (stmt_is _ _ _ _ c.in-Yield.is c.s.view_is) c.requires.straight refl
 
 pub lower_stmt-returns-in-Migrate : goal.lower_stmt-returns-in-Migrate
-lower_stmt-returns-in-Migrate t c = arm_skip c.args.sizes.now c.args.s.now _ _ (stmt_is _ _ _ _ c.in-Migrate.is c.s.view_is) (λ ops a. record { end = refl }) refl
+lower_stmt-returns-in-Migrate t c = arm_unasked c.args.sizes.now c.args.s.now _ _ (stmt_is _ _ _ _ c.in-Migrate.is c.s.view_is) c.requires.straight refl
 
 pub lower_stmt-returns-in_ok-put-in-Evaluate : goal.lower_stmt-returns-in_ok-put-in-Evaluate
 lower_stmt-returns-in_ok-put-in-Evaluate t c = arm_evaluate c.args.sizes.now c.args.s.now c.s.inside.pos c.in-Evaluate.value _ _ _ (stmt_is _ _ _ _ c.in-Evaluate.is c.s.view_is) c.in_ok-_told-in-Evaluate.ensures.code c.in_ok-put-in-Evaluate.ensures
