@@ -74,7 +74,12 @@ pub(crate) fn flush(code: &Code, line: u32, work: &mut Work) -> Result<Stepped, 
     }
 }
 
-pub(crate) fn read(code: &Code, line: u32, work: &mut Work, form: ValueForm) -> Result<Stepped, AllocError>
+pub(crate) fn read(
+    code: &Code,
+    line: u32,
+    work: &mut Work,
+    form: ValueForm,
+) -> Result<Stepped, AllocError>
     ensures { IfOk result (λ how. Does code.now line (Op.Read form) work.old how work.new) }
 {
     let form = form.number();
