@@ -1,16 +1,20 @@
 // The routines of a program in textual order.
 
-ghost use Rattle.std.specs.Prelude.{◌≡◌, ◌++◌, [], IfOk, OnOk, map, option_map, unwrap_or, option_and_then};
+ghost use Rattle.std.specs.Prelude.{◌≡◌, ◌<◌, ◌+◌, ◌++◌, [], IfOk, IfSome, OnOk, length, map, unwrap_or};
 ghost use Rattle.uc_tree.specs.ProgramViews.{member_form_at};
 ghost use Rattle.uc_tree.specs.declared.limits.TheConstants.{LAST_CLASS};
-ghost use Rattle.uc_tree.specs.Numbering.{at_most, place_from, class_names, class_named, routines_of};
-ghost use Rattle.uc_numbers.specs.Routines.{defined_at, in_classes, owned, form_in, members_in, item_in, items_in};
+ghost use Rattle.uc_tree.specs.Numbering.{at_most, place_from, routines_of};
+ghost use Rattle.uc_sizes.specs.Places.{IsPlaces};
+ghost use Rattle.uc_numbers.specs.Routines.{AreObjects, defined_at, objects_of, in_classes, owned, form_in, members_in, item_in, items_in};
 
-use crate::classes::{class_number, is_event};
+use crate::classes::is_event;
 use std::alloc::{AllocError, Global};
+use uc_names::scope::Scope;
 use uc_sizes::lists::classes_in;
+use uc_sizes::places::{place_in, places_of_classes};
 use uc_tree::class::{Class, Member, MemberForm, Routine};
 use uc_tree::kinds::Owner;
+use uc_tree::limits::LAST_CLASS;
 use uc_tree::name::Name;
 use uc_tree::program::{Item, ItemForm, Program};
 
@@ -22,33 +26,56 @@ pub struct Defined<'a> {
     pub routine: &'a Routine,
 }
 
-fn class_named<'a>(classes: &[&'a Class], name: &Name) -> Option<&'a Class>
-    ensures { option_map (λ c. c.now) result ≡ class_named (map (λ c. c.now) classes.now) name.now }
+// The classes that are no events.
+fn objects_in<'a>(alloc: Global, classes: &[&'a Class]) -> Result<Vec<&'a Class>, AllocError>
+    ensures { IfOk result (λ v. map (λ c. c.now) v.items ≡ objects_of (map (λ c. c.now) classes.now)) }
 {
+    let mut objects = Vec::new(alloc);
     for class in classes {
-        if class.name.is(name.bytes()) && !is_event(class.kind) {
-            return Some(*class);
+        if !is_event(class.kind) {
+            objects.push(*class)?;
         }
     }
-    None
+    Ok(objects)
 }
 
-fn number_or_none(classes: &[&Class], name: &Name) -> u32
-    ensures { result ≡ unwrap_or (option_and_then (at_most LAST_CLASS) (place_from 1 (class_names (map (λ c. c.now) classes.now)) name.now)) 0 }
+// The number of the class with this place among those that are no events, or 0 beyond the last number.
+fn number_at(place: usize) -> u32
+    ensures { result ≡ unwrap_or (at_most LAST_CLASS (place + 1)) 0 }
 {
-    match class_number(classes, name) {
-        Some(number) => number,
-        None => 0,
+    if place < LAST_CLASS as usize {
+        place as u32 + 1
+    } else {
+        0
     }
 }
 
-fn in_class<'a>(classes: &[&'a Class], name: &Name, routine: &'a Routine) -> Defined<'a>
+fn place_among(classes: &[&Class], places: &Scope, name: &Name) -> Option<usize>
+    requires { IsPlaces (map (λ c. c.now.name) classes.now) places.now }
+    ensures place { result ≡ place_from 0 (map (λ c. c.now.name) classes.now) name.now }
+    ensures within { IfSome result (λ p. p < length classes.now) }
+{
+    let place = place_in(places, name);
+    place
+}
+
+fn in_class<'a>(
+    classes: &[&'a Class],
+    places: &Scope,
+    name: &Name,
+    routine: &'a Routine,
+) -> Defined<'a>
+    requires placed { IsPlaces (map (λ c. c.now.name) classes.now) places.now }
+    requires objects { AreObjects (map (λ c. c.now) classes.now) }
     ensures { defined_at result ≡ in_classes (map (λ c. c.now) classes.now) name.now routine.now }
 {
-    Defined {
-        class: class_named(classes, name),
-        number: number_or_none(classes, name),
-        routine,
+    match place_among(classes, places, name) {
+        Some(place) => Defined {
+            class: Some(classes[place]),
+            number: number_at(place),
+            routine,
+        },
+        None => outside(routine),
     }
 }
 
@@ -62,28 +89,33 @@ fn outside<'a>(routine: &'a Routine) -> Defined<'a>
     }
 }
 
-fn defined_by<'a>(classes: &[&'a Class], routine: &'a Routine) -> Defined<'a>
+fn defined_by<'a>(classes: &[&'a Class], places: &Scope, routine: &'a Routine) -> Defined<'a>
+    requires placed { IsPlaces (map (λ c. c.now.name) classes.now) places.now }
+    requires objects { AreObjects (map (λ c. c.now) classes.now) }
     ensures { defined_at result ≡ owned (map (λ c. c.now) classes.now) routine.now.sig.owner routine.now }
 {
     match &routine.sig.owner {
         Owner::Here => outside(routine),
         Owner::Main => outside(routine),
-        Owner::Class(name) => in_class(classes, name, routine),
+        Owner::Class(name) => in_class(classes, places, name, routine),
     }
 }
 
 fn push_form<'a>(
     found: &mut Vec<Defined<'a>>,
     classes: &[&'a Class],
+    places: &Scope,
     name: &Name,
     form: &'a MemberForm,
 ) -> Result<(), AllocError>
+    requires placed { IsPlaces (map (λ c. c.now.name) classes.now) places.now }
+    requires objects { AreObjects (map (λ c. c.now) classes.now) }
     ensures { OnOk result (map defined_at found.new.items ≡ map defined_at found.old.items ++ form_in (map (λ c. c.now) classes.now) name.now (member_form_at form.now)) }
 {
     match form {
         MemberForm::Fields { .. } => Ok(()),
         MemberForm::Routine { routine } => {
-            found.push(in_class(classes, name, routine))?;
+            found.push(in_class(classes, places, name, routine))?;
             Ok(())
         }
         MemberForm::Proto { .. } => Ok(()),
@@ -93,13 +125,16 @@ fn push_form<'a>(
 fn push_members<'a>(
     found: &mut Vec<Defined<'a>>,
     classes: &[&'a Class],
+    places: &Scope,
     name: &Name,
     members: &'a [Member],
 ) -> Result<(), AllocError>
+    requires placed { IsPlaces (map (λ c. c.now.name) classes.now) places.now }
+    requires objects { AreObjects (map (λ c. c.now) classes.now) }
     ensures { OnOk result (map defined_at found.new.items ≡ map defined_at found.old.items ++ members_in (map (λ c. c.now) classes.now) name.now members.now) }
 {
     for member in members {
-        push_form(found, classes, name, &member.form)?;
+        push_form(found, classes, places, name, &member.form)?;
     }
     Ok(())
 }
@@ -107,17 +142,20 @@ fn push_members<'a>(
 fn push_item<'a>(
     found: &mut Vec<Defined<'a>>,
     classes: &[&'a Class],
+    places: &Scope,
     item: &'a Item,
 ) -> Result<(), AllocError>
+    requires placed { IsPlaces (map (λ c. c.now.name) classes.now) places.now }
+    requires objects { AreObjects (map (λ c. c.now) classes.now) }
     ensures { OnOk result (map defined_at found.new.items ≡ map defined_at found.old.items ++ item_in (map (λ c. c.now) classes.now) item.now) }
 {
     match &item.form {
         ItemForm::Class { class } => {
-            push_members(found, classes, &class.name, &class.members)?;
+            push_members(found, classes, places, &class.name, &class.members)?;
             Ok(())
         }
         ItemForm::Routine { routine } => {
-            found.push(defined_by(classes, routine))?;
+            found.push(defined_by(classes, places, routine))?;
             Ok(())
         }
         ItemForm::Constant { .. } => Ok(()),
@@ -130,23 +168,27 @@ fn push_item<'a>(
 fn routines_in<'a>(
     alloc: Global,
     classes: &[&'a Class],
+    places: &Scope,
     items: &'a [Item],
 ) -> Result<Vec<Defined<'a>>, AllocError>
+    requires placed { IsPlaces (map (λ c. c.now.name) classes.now) places.now }
+    requires objects { AreObjects (map (λ c. c.now) classes.now) }
     ensures { IfOk result (λ v. map defined_at v.items ≡ items_in (map (λ c. c.now) classes.now) items.now) }
 {
     let mut found = Vec::new(alloc);
     for item in items {
-        push_item(&mut found, classes, item)?;
+        push_item(&mut found, classes, places, item)?;
     }
     Ok(found)
 }
 
 /// The routines of a program with bodies, in textual order: the place of one is its number.
-#[tactic(auto, using(crate::proofs::ByClasses::items_are))]
 pub fn routines_of<'a>(alloc: Global, program: &'a Program) -> Result<Vec<Defined<'a>>, AllocError>
     ensures { IfOk result (λ v. map defined_at v.items ≡ routines_of program.now) }
 {
     let classes = classes_in(alloc, &program.items)?;
-    let found = routines_in(alloc, &classes, &program.items)?;
+    let objects = objects_in(alloc, &classes)?;
+    let places = places_of_classes(alloc, &objects)?;
+    let found = routines_in(alloc, &objects, &places, &program.items)?;
     Ok(found)
 }
