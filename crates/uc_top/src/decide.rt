@@ -231,7 +231,12 @@ fn fault_at(text: &[u8], why: Reason, at: u32) -> Refusal
     Refusal::Lexical(why, pos_at(text, at))
 }
 
-fn do_tokens(alloc: Global, tokens: &[Token], input: &[u8], purpose: Purpose) -> Result<Run, Refusal>
+fn do_tokens(
+    alloc: Global,
+    tokens: &[Token],
+    input: &[u8],
+    purpose: Purpose,
+) -> Result<Run, Refusal>
     requires few { length tokens.now < 2 ^ 32 }
     requires input { length input.now ≤ INPUT_BYTES }
     requires purpose { HasEntries purpose }

@@ -97,7 +97,7 @@ goes_number p o word n v none ws c g = record {
   fit = (v, g.fit);
   one_file = g.one_file;
   one_number = λ r. number_step (same_option r o) (number_of_option p.numbers r) n (filter_map (number_in r) g.pieces) (option_to_list (number_of_option g.numbers r)) (none_there p.numbers o none r)
-    (ap (λ t. option_to_list t ++ filter_map (number_in r) g.pieces) (sym (number_told p.numbers o n r)) ∙ g.one_number r);
+      (ap (λ t. option_to_list t ++ filter_map (number_in r) g.pieces) (sym (number_told p.numbers o n r)) ∙ g.one_number r);
   one_journal = g.one_journal;
   one_input = g.one_input;
 }
@@ -182,8 +182,18 @@ next_of p w ws c (File name ∷ ps) g is =
       name = rw same fit.0;
       none = none;
       goes = record {
-        pieces = ps; file = g.file; numbers = g.numbers; journal = g.journal; input = g.input; is = g.is; spells = cc; fit = fit.1;
-        one_file = rw same (rw none at files); one_number = λ r. rw is at (g.one_number r); one_journal = rw is at g.one_journal; one_input = rw is at g.one_input;
+        pieces = ps;
+        file = g.file;
+        numbers = g.numbers;
+        journal = g.journal;
+        input = g.input;
+        is = g.is;
+        spells = cc;
+        fit = fit.1;
+        one_file = rw same (rw none at files);
+        one_number = λ r. rw is at (g.one_number r);
+        one_journal = rw is at g.one_journal;
+        one_input = rw is at g.one_input;
       };
     })
 next_of p w ws c (Number o word n ∷ ps) g is =
@@ -199,10 +209,18 @@ next_of p w ws c (Number o word n ∷ ps) g is =
       value = fit.0;
       none = none;
       goes = record {
-        pieces = ps; file = g.file; numbers = g.numbers; journal = g.journal; input = g.input; is = g.is; spells = refl; fit = fit.1;
+        pieces = ps;
+        file = g.file;
+        numbers = g.numbers;
+        journal = g.journal;
+        input = g.input;
+        is = g.is;
+        spells = refl;
+        fit = fit.1;
         one_file = rw is at g.one_file;
         one_number = λ r. ap (λ t. option_to_list t ++ filter_map (number_in r) ps) (number_told p.numbers o n r) ∙ number_back (same_option r o) (number_of_option p.numbers r) n (filter_map (number_in r) ps) (option_to_list (number_of_option g.numbers r)) (none_there p.numbers o none r) (rw is at (g.one_number r));
-        one_journal = rw is at g.one_journal; one_input = rw is at g.one_input;
+        one_journal = rw is at g.one_journal;
+        one_input = rw is at g.one_input;
       };
     })
 next_of p w ws c (Journal ∷ ps) g is =
@@ -214,8 +232,18 @@ next_of p w ws c (Journal ∷ ps) g is =
       option = cc;
       none = none;
       goes = record {
-        pieces = ps; file = g.file; numbers = g.numbers; journal = g.journal; input = g.input; is = g.is; spells = cc; fit = fit.1;
-        one_file = rw is at g.one_file; one_number = λ r. rw is at (g.one_number r); one_journal = rw none at here; one_input = rw is at g.one_input;
+        pieces = ps;
+        file = g.file;
+        numbers = g.numbers;
+        journal = g.journal;
+        input = g.input;
+        is = g.is;
+        spells = cc;
+        fit = fit.1;
+        one_file = rw is at g.one_file;
+        one_number = λ r. rw is at (g.one_number r);
+        one_journal = rw none at here;
+        one_input = rw is at g.one_input;
       };
     })
 next_of p w ws c (Input name ∷ ps) g is =
@@ -231,8 +259,18 @@ next_of p w ws c (Input name ∷ ps) g is =
       name = fit.0;
       none = none;
       goes = record {
-        pieces = ps; file = g.file; numbers = g.numbers; journal = g.journal; input = g.input; is = g.is; spells = refl; fit = fit.1;
-        one_file = rw is at g.one_file; one_number = λ r. rw is at (g.one_number r); one_journal = rw is at g.one_journal; one_input = rw none at inputs;
+        pieces = ps;
+        file = g.file;
+        numbers = g.numbers;
+        journal = g.journal;
+        input = g.input;
+        is = g.is;
+        spells = refl;
+        fit = fit.1;
+        one_file = rw is at g.one_file;
+        one_number = λ r. rw is at (g.one_number r);
+        one_journal = rw is at g.one_journal;
+        one_input = rw none at inputs;
       };
     })
 
