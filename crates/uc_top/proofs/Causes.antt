@@ -338,26 +338,26 @@ record Used (before after : StoreState) (c : Command) : Type 0 where
   program : Program
   is_text : IsAcceptedText text program
 
-used : {a b : StoreState} {journal : Journal} {output : List ℕ} {e : Ending} (c : Command) → IsOnFile c → CommandDid c a b journal output e → Used a b c
-used (RunFile file opts too named) on d = record { text = d.text; input = d.input; reads = d.reads; program = d.ran.program; is_text = record { spells = d.ran.spells; accepted = d.ran.is.accepted } }
-used (CheckFile file) on d = record { text = d.text; input = d.input; reads = d.reads; program = d.checked.program; is_text = record { spells = d.checked.spells; accepted = d.checked.is } }
-used (LowerFile file) on d = record { text = d.text; input = d.input; reads = d.reads; program = d.lowered.program; is_text = record { spells = d.lowered.spells; accepted = d.lowered.is.accepted } }
-used (MakeProgram n) on d = absurd on
+used : (a b : StoreState) (journal : Journal) (output : List ℕ) (e : Ending) (c : Command) → IsOnFile c → CommandDid c a b journal output e → Used a b c
+used a b journal output e (RunFile file opts too named) on d = record { text = d.text; input = d.input; reads = d.reads; program = d.ran.program; is_text = record { spells = d.ran.spells; accepted = d.ran.is.accepted } }
+used a b journal output e (CheckFile file) on d = record { text = d.text; input = d.input; reads = d.reads; program = d.checked.program; is_text = record { spells = d.checked.spells; accepted = d.checked.is } }
+used a b journal output e (LowerFile file) on d = record { text = d.text; input = d.input; reads = d.reads; program = d.lowered.program; is_text = record { spells = d.lowered.spells; accepted = d.lowered.is.accepted } }
+used a b journal output e (MakeProgram n) on d = absurd on
 
 ran_program : (s : Scene) (h : HasTexts s) {journal : Journal} {output : List ℕ} {e : Ending} → Ran s journal output e → (p : Program) × HasProgram s h p
-ran_program s h ran =
-    let u = used ran.command (subst IsOnFile (sym (same_line h.command ran.asks h.line)) h.on_file) ran.did in
+ran_program s h {journal} {output} {e} ran =
+    let u = used s.store s.store_after journal output e ran.command (subst IsOnFile (sym (same_line h.command ran.asks h.line)) h.on_file) ran.did in
     (u.program, subst (λ t. IsAcceptedText t u.program) (given_by s h ran.asks u.reads) u.is_text)
 
 -- the status of a command that was done
-finishes : {a b : StoreState} {journal : Journal} {output : List ℕ} {e : Ending} (c : Command) → CommandDid c a b journal output e → Finishes c (ending_status e)
-finishes {e = e} (RunFile file opts too named) d = of_ending e
-finishes (CheckFile file) d = ap ending_status d.runs.done
-finishes (LowerFile file) d = ap ending_status d.runs.done
-finishes (MakeProgram n) d = ap ending_status d.runs.done
+finishes : (a b : StoreState) (journal : Journal) (output : List ℕ) (e : Ending) (c : Command) → CommandDid c a b journal output e → Finishes c (ending_status e)
+finishes a b journal output e (RunFile file opts too named) d = of_ending e
+finishes a b journal output e (CheckFile file) d = ap ending_status d.runs.done
+finishes a b journal output e (LowerFile file) d = ap ending_status d.runs.done
+finishes a b journal output e (MakeProgram n) d = ap ending_status d.runs.done
 
 ran_finishes : (s : Scene) (c : Command) → IsLine s.words c → {journal : Journal} {output : List ℕ} {e : Ending} → Ran s journal output e → Finishes c (ending_status e)
-ran_finishes s c line {e = e} ran = subst (λ x. Finishes x (ending_status e)) (same_line c ran.asks line) (finishes ran.command ran.did)
+ran_finishes s c line {journal} {output} {e} ran = subst (λ x. Finishes x (ending_status e)) (same_line c ran.asks line) (finishes s.store s.store_after journal output e ran.command ran.did)
 
 no_program_of : (s : Scene) {status : ℕ} {journal : Journal} → Leaves s status journal → (h : HasTexts s) → ((p : Program) → HasProgram s h p → ⊥) → (status ≡ 1) ⊎ (status ≡ 3) ⊎ (status ≡ 4) ⊎ (status ≡ 8)
 no_program_of s (ended journal output e ran out err) h n = absurd (let p = ran_program s h ran in n p.0 p.1)

@@ -7,10 +7,15 @@ use Rattle.uc_meaning.specs.declared.entry.Options.{Options}
 use Rattle.uc_words.specs.declared.numbers.NumberOption.{NumberOption}
 use Rattle.uc_words.specs.declared.numbers.NumberOption.TheVariants.{Processors, Entries}
 use Rattle.uc_words.specs.Words.{Words, Piece, File, Number, Journal, Input, ArePieces, IsLine, IsRunLine, Command, RunFile, CheckFile, LowerFile, MakeProgram, Numbers, number_of_option, number_in, options_with, least_of, most_of, same_option}
-use Rattle.uc_words.proofs.Goes.{same_is}
 use Rattle.uc_alone.specs.Alone.{alone_options}
 use Rattle.uc_top.specs.Built.{Asks, file_of, input_of}
 use Rattle.uc_top.specs.Decisions.{AreAlone, IsInRange}
+
+same_is : (r o : NumberOption) → same_option r o ≡ true → r ≡ o
+same_is Processors Processors e = refl
+same_is Processors Entries e = absurd (cc)
+same_is Entries Processors e = absurd (cc)
+same_is Entries Entries e = refl
 
 record InRange (o : NumberOption) (n : ℕ) : Type 0 where
   low : least_of o ≤ n

@@ -2,6 +2,7 @@
 use Rattle.std.proofs.Common.{◌≡◌, ◌⊎◌, inl, inr, ℕ, Bool, List, [], ◌∷◌, ◌++◌, refl, sym, ap, ◌∙◌, subst}
 use Rattle.std.specs.Prelude.{slice_get}
 use Rattle.uc_tree.specs.Programs.{Program}
+use Rattle.uc_tree.specs.Numbering.{texts_of}
 use Rattle.uc_tree.specs.Source.{Source}
 use Rattle.uc_tree.specs.Resolve.{source_of, routine_meant}
 use Rattle.uc_code.specs.Codes.{Code}
@@ -44,5 +45,5 @@ program_ran p code input n too journal seen told texts output ending accepted lo
   accepted = accepted;
   run = (run (source_of p) lowered main.number (main_there p main)).run;
   ends = subst (λ j. EndsWith j ending) e ends;
-  prints = prints ∙ ap (λ x. printed x seen ++ told_text too seen) (t ∙ lowered.texts) ∙ ap (λ j. printed _ j ++ told_text too j) s;
+  prints = prints ∙ ap (λ x. printed x seen ++ told_text too seen) (t ∙ lowered.texts) ∙ ap (λ j. printed (texts_of p) j ++ told_text too j) s;
 }
