@@ -1,10 +1,10 @@
 -- Words that go on, and words at fault.
 use Rattle.std.proofs.Common.{◌≡◌, ℕ, zero, suc, ◌+◌, Bool, true, false, List, [], ◌∷◌, ◌++◌, take, refl, sym, ◌∙◌, ap, arith}
-use Rattle.std.specs.Prelude.{codes, IsTrue, Option, Some, None, EachIndex, slice_index, option_to_list, flat_map, filter_map}
+use Rattle.std.specs.Prelude.{codes, IsTrue, Option, Some, None, EachIndex, slice_index, option_to_list, flat_map}
 use Rattle.uc_tree.specs.Bytes.{is_digit}
 use Rattle.uc_words.specs.declared.numbers.NumberOption.{NumberOption}
 use Rattle.uc_words.specs.declared.numbers.NumberOption.TheVariants.{Processors, Entries}
-use Rattle.uc_words.specs.Words.{Words, Piece, File, Number, Journal, Input, Command, RunFile, Numbers, number_of_option, IsValue, option_word, least_of, most_of, spelled, file_in, number_in, journal_in, input_in, once_if, options_with, is_name}
+use Rattle.uc_words.specs.Words.{Words, Piece, File, Number, Journal, Input, Command, RunFile, Numbers, number_of_option, IsValue, option_word, least_of, most_of, spelled, once_if, options_with, is_name}
 use Rattle.uc_words.specs.Rest.{Parts, Goes, BeginsRest, BadRest, Leads, words_of, with_file, with_number, with_journal, with_input}
 use Rattle.uc_words.proofs.Goes.{goes_file, goes_number, goes_journal, goes_input, only_file, only_number, only_journal, only_input}
 

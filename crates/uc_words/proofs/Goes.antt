@@ -5,7 +5,7 @@ use Rattle.std.specs.List.{cons_option}
 use Rattle.std.specs.Cmp.Lexicographic.{other_text}
 use Rattle.uc_words.specs.declared.numbers.NumberOption.{NumberOption}
 use Rattle.uc_words.specs.declared.numbers.NumberOption.TheVariants.{Processors, Entries}
-use Rattle.uc_words.specs.Words.{Words, Piece, File, Number, Journal, Input, Command, RunFile, Numbers, number_of_option, IsValue, option_word, least_of, most_of, same_option, spelled, ArePieces, file_in, number_in, journal_in, input_in, once_if, options_with, is_name}
+use Rattle.uc_words.specs.Words.{Words, Piece, File, Number, Journal, Input, Command, Numbers, number_of_option, IsValue, option_word, least_of, most_of, same_option, spelled, ArePieces, file_in, number_in, journal_in, input_in, once_if, is_name}
 use Rattle.uc_words.specs.Rest.{Parts, Goes, with_file, with_number, numbers_with, with_journal, with_input}
 
 -- what is told twice makes no line

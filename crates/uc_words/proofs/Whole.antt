@@ -6,7 +6,7 @@ use Rattle.uc_tree.specs.Tokens.{value_of}
 use Rattle.uc_tree.specs.declared.limits.TheConstants.{MAKE_MAX}
 use Rattle.uc_words.specs.declared.numbers.NumberOption.{NumberOption}
 use Rattle.uc_words.specs.declared.numbers.NumberOption.TheVariants.{Processors, Entries}
-use Rattle.uc_words.specs.Words.{number_of_option, number_in, Words, Command, RunFile, CheckFile, LowerFile, MakeProgram, IsLine, IsFileLine, IsMakeLine, IsValue, Begins, IsFirstBad, is_name, options_with}
+use Rattle.uc_words.specs.Words.{number_of_option, number_in, Words, Command, RunFile, CheckFile, LowerFile, MakeProgram, IsLine, IsMakeLine, IsValue, Begins, IsFirstBad, is_name, options_with}
 use Rattle.uc_words.specs.Rest.{Goes, BeginsRest, BadRest, nothing}
 use Rattle.uc_words.specs.Commands.{IsFileCommand}
 use Rattle.uc_words.proofs.Faults.{begins_none, digits_1}

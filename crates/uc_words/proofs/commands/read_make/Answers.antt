@@ -1,4 +1,4 @@
-use Rattle.std.proofs.Common.{◌≡◌, ◌∷◌, sym, ap, ◌∙◌, map, string_bytes}
+use Rattle.std.proofs.Common.{◌≡◌, ◌∷◌, map, string_bytes}
 use Rattle.uc_tree.specs.declared.limits.TheConstants.{MAKE_MAX}
 use Rattle.uc_words.proofs.Bridge.{no_items, some_items}
 use Rattle.uc_words.proofs.Whole.{make_missing, make_bad, make_more_in}

@@ -1,6 +1,6 @@
-use Rattle.std.proofs.Common.{◌≡◌, ◌∷◌, codes, inl, inr, refl, sym, ◌∙◌, map, string_bytes}
+use Rattle.std.proofs.Common.{◌≡◌, ◌∷◌, codes, inl, inr, sym, ◌∙◌, map, string_bytes}
 use Rattle.uc_words.proofs.Bridge.{no_items, says, denies}
-use Rattle.uc_words.proofs.Whole.{goes_of, bad_of, bad_none, bad_command, no_leading, only_check, only_lower, only_make}
+use Rattle.uc_words.proofs.Whole.{goes_of, bad_of, bad_none, bad_command, no_leading}
 use Rattle.uc_words.proofs.words.read_words.Goals as goal
 
 pub returns-in_default-clause-fault : goal.returns-in_default-clause-fault
