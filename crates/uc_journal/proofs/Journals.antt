@@ -230,5 +230,6 @@ some_left (x ∷ xs) b e f h = absurd (cc)
 pub none_left : (xs : List ℕ) (b : Bool) → b ≡ (length xs == 0) → b ≡ true → xs ≡ []
 none_left xs b e f = let t : (length xs == 0) ≡ true = sym e ∙ f in nil_from_length xs (grind (arith, nat_tests))
 
-pub wrote_more : (now old piece : List ℕ) (j : Journal) (i : ℕ) (d : Entry) → i < length j → old ≡ text (take i j) → now ≡ old ++ piece → piece ≡ line (get_or j i d) → now ≡ text (take (i + 1) j)
-wrote_more now old piece j i d h a b c = b ∙ ap (λ t. t ++ piece) a ∙ ap (λ t. text (take i j) ++ t) c ∙ sym (written_more j i d h)
+pub wrote_more : (now old front piece : List ℕ) (j : Journal) (i : ℕ) (d : Entry) → i < length j → old ≡ front ++ text (take i j) → now ≡ old ++ piece → piece ≡ line (get_or j i d) → now ≡ front ++ text (take (i + 1) j)
+wrote_more now old front piece j i d h a b c =
+    b ∙ ap (λ t. t ++ piece) a ∙ append_assoc front (text (take i j)) piece ∙ ap (λ t. front ++ (text (take i j) ++ t)) c ∙ ap (λ t. front ++ t) (sym (written_more j i d h))

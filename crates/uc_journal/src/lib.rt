@@ -12,4 +12,4 @@ mod word;
 mod write;
 
 pub use read::{JournalFault, read_journal};
-pub use write::{write_entry, write_journal};
+pub use write::{append_journal, write_entry, write_journal};

@@ -1,6 +1,6 @@
 // Writes the text of entries.
 
-ghost use Rattle.std.specs.Prelude.{◌≡◌, ◌≤◌, ◌+◌, ◌++◌, IfOk, take, length, [], ◌∷◌};
+ghost use Rattle.std.specs.Prelude.{◌≡◌, ◌≤◌, ◌+◌, ◌++◌, IfOk, OnOk, take, length, [], ◌∷◌};
 ghost use Rattle.std.specs.Fmt.{signed_decimal};
 ghost use Rattle.uc_meaning.specs.Texts as texts;
 ghost use Rattle.uc_meaning.specs.Fit as fit;
@@ -29,12 +29,20 @@ pub fn write_journal(alloc: Global, j: &[Entry]) -> Result<Vec<u8>, AllocError>
     ensures { IfOk result (λ text. text.items ≡ texts.text j.now) }
 {
     let mut text = Vec::new(alloc);
+    append_journal(&mut text, j)?;
+    Ok(text)
+}
+
+/// Appends the text of a journal.
+pub fn append_journal(text: &mut Vec<u8>, j: &[Entry]) -> Result<(), AllocError>
+    ensures { OnOk result (text.new.items ≡ text.old.items ++ texts.text j.now) }
+{
     let mut buffer = [0; LINE_BYTES];
     for e in j {
         let length = write_entry(e, &mut buffer);
         text.extend_from_slice(&buffer[..length])?;
     }
-    Ok(text)
+    Ok(())
 }
 
 // The fields of an entry in their order.

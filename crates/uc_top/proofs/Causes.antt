@@ -1,12 +1,11 @@
 -- What each status of the top call says, from what it leaves.
-use Rattle.std.proofs.Common.{◌≡◌, ◌≢◌, ◌<◌, ℕ, List, [], ◌∷◌, ◌⊎◌, inl, inr, refl, sym, ◌∙◌, subst, arith}
+use Rattle.std.proofs.Common.{◌≡◌, ◌≢◌, ◌<◌, ℕ, List, [], ◌∷◌, ◌⊎◌, inl, inr, refl, sym, ◌∙◌, ap, subst, arith}
 use Rattle.std.specs.Prelude.{IsTrue, Option}
 use Rattle.uc_tree.specs.declared.limits.TheConstants.{PROGRAM_BYTES, FRAME_CELLS}
 use Rattle.uc_tree.specs.declared.pos.Pos.{Pos}
 use Rattle.uc_tree.specs.declared.scan.Reason.{Reason}
 use Rattle.uc_tree.specs.Programs.{Program, Item, Routine, RoutineItem}
 use Rattle.uc_tree.specs.Cells.{routine_cells}
-use Rattle.uc_meaning.specs.declared.entry.Options.{Options}
 use Rattle.uc_meaning.specs.Journal.{Journal}
 use Rattle.uc_meaning.specs.Accepted.{FitFrames, IsAccepted}
 use Rattle.uc_outside.specs.Reading.{StoreState, KeepsFiles, ReadBytes, ReadFailed, ReadTooLong, HasFile}
@@ -14,15 +13,15 @@ use Rattle.uc_outside.specs.Faults.{CountRose}
 use Rattle.uc_outside.specs.Taking.{SinkState, Took, Stopped}
 use Rattle.uc_outside.proofs.Taken.{fits-no_failure, took-stopped, failed-stopped}
 use Rattle.uc_outside.proofs.Read.{has_file-no_failure, has_file-not_long, has_file-content}
-use Rattle.uc_words.specs.Words.{Command, RunFile, IsLine}
+use Rattle.uc_words.specs.Words.{Command, RunFile, CheckFile, LowerFile, MakeProgram, IsLine}
 use Rattle.uc_top.specs.declared.endings.Ending.{Ending}
 use Rattle.uc_top.specs.declared.endings.Ending.TheVariants as ending
 use Rattle.uc_top.specs.declared.refusals.Refusal.{Refusal}
 use Rattle.uc_top.specs.declared.refusals.Refusal.TheVariants.{Word, CannotRead, TooLong, Lexical, NotBuilt, FrameTooLarge, CodeTooLarge, NoMemory}
 use Rattle.uc_top.specs.Endings.{ending_status, ending_text}
-use Rattle.uc_top.specs.Built.{HasLargeFrame, HasLargeCode, IsTextOf, IsAcceptedText, HasFault, GaveTexts}
+use Rattle.uc_top.specs.Built.{HasLargeFrame, HasLargeCode, IsTextOf, IsAcceptedText, HasFault, GaveTexts, Asks, IsOnFile, ReadsTexts, CommandDid, file_of, input_of}
 use Rattle.uc_top.specs.Refusals.{status_of, ProgramUnread, InputUnread, ProgramTooLong, InputTooLong}
-use Rattle.uc_top.specs.Outcomes.{Scene, Ran, Refused, Leaves, ended, refused, out_failed, line_failed, err_failed, Tried, Told, OfEnding, TooHigh, Causes, Stops, HasTexts, HasProgram, Answers, HaveRooms, Completes}
+use Rattle.uc_top.specs.Outcomes.{Scene, Ran, Refused, Leaves, ended, refused, out_failed, line_failed, err_failed, Tried, Told, OfEnding, TooHigh, Causes, Stops, HasTexts, HasProgram, Answers, HaveRooms, Completes, Finishes}
 use Rattle.uc_top.proofs.Line.{same_line}
 
 not_high : (s : Scene) {xs ys : List ℕ} → Took s.out s.out_after xs → Took s.err s.err_after ys → TooHigh s → ⊥
@@ -220,16 +219,16 @@ rooms s (err_failed r name cause out err) h eq = fits-no_failure (h.err r name c
 
 no_words : (s : Scene) (r : Refusal) (name : List ℕ) → Refused s r name → ((command : Command) → IsLine s.words command → ⊥) → (status_of r ≡ 2) ⊎ (status_of r ≡ 4)
 no_words s (Word n) name cause h = inl refl
-no_words s CannotRead name cause h = absurd (h (RunFile cause.file cause.opts cause.named) cause.asks.line)
-no_words s TooLong name cause h = absurd (h (RunFile cause.file cause.opts cause.named) cause.asks.line)
-no_words s (Lexical why here) name cause h = absurd (h (RunFile cause.gave.file cause.opts cause.gave.named) cause.gave.asks.line)
-no_words s NotBuilt name cause h = absurd (h (RunFile cause.gave.file cause.opts cause.gave.named) cause.gave.asks.line)
-no_words s FrameTooLarge name cause h = absurd (h (RunFile cause.gave.file cause.opts cause.gave.named) cause.gave.asks.line)
-no_words s CodeTooLarge name cause h = absurd (h (RunFile cause.gave.file cause.opts cause.gave.named) cause.gave.asks.line)
-no_words s NoMemory name cause h = absurd (h (RunFile cause.file cause.opts cause.named) cause.asks.line)
+no_words s CannotRead name cause h = absurd (h cause.command cause.asks.line)
+no_words s TooLong name cause h = absurd (h cause.command cause.asks.line)
+no_words s (Lexical why here) name cause h = absurd (h cause.command cause.gave.asks.line)
+no_words s NotBuilt name cause h = absurd (h cause.command cause.gave.asks.line)
+no_words s FrameTooLarge name cause h = absurd (h cause.command cause.gave.asks.line)
+no_words s CodeTooLarge name cause h = absurd (h cause.command cause.gave.asks.line)
+no_words s NoMemory name cause h = absurd (h cause.command cause.asks.line)
 
 no_line_of : (s : Scene) {status : ℕ} {journal : Journal} → Leaves s status journal → ((command : Command) → IsLine s.words command → ⊥) → (status ≡ 2) ⊎ (status ≡ 4)
-no_line_of s (ended journal output e ran out err) h = absurd (h (RunFile ran.gave.file ran.opts ran.gave.named) ran.gave.asks.line)
+no_line_of s (ended journal output e ran out err) h = absurd (h ran.command ran.asks.line)
 no_line_of s (refused r name cause out err) h = no_words s r name cause h
 no_line_of s (out_failed journal output e ran out err) h = inr refl
 no_line_of s (line_failed journal output e ran out err) h = inr refl
@@ -261,20 +260,20 @@ kept k h = record { files = h.files; is_told = k.same_told ∙ h.is_told; bytes 
 kept_steady : {a b : StoreState} → KeepsFiles a b → IsTrue a.steady → IsTrue b.steady
 kept_steady k st = subst IsTrue (sym k.same_steady) st
 
-not_read_by : (s : Scene) (h : HasTexts s) → IsTrue s.store.steady → (name file : List ℕ) (named : Option (List ℕ)) → file ≡ h.file → named ≡ h.named → ProgramUnread s.store s.store_after file name ⊎ InputUnread s.store s.store_after file named name → ⊥
+not_read_by : (s : Scene) (h : HasTexts s) → IsTrue s.store.steady → (name file : List ℕ) (named : Option (List ℕ)) → file ≡ file_of h.command → named ≡ input_of h.command → ProgramUnread s.store s.store_after file name ⊎ InputUnread s.store s.store_after file named name → ⊥
 not_read_by s h st name file named e f (inl u) = has_file-no_failure st h.program (subst (ReadFailed s.store s.store_after) (u.is_named ∙ e) u.failed)
 not_read_by s h st name file named e f (inr u) = has_file-no_failure (kept_steady u.keeps st) (kept u.keeps (h.input name (sym f ∙ u.is_named))) u.failed
 
 not_read : (s : Scene) (h : HasTexts s) → IsTrue s.store.steady → (name : List ℕ) → Refused s CannotRead name → ⊥
 not_read s h st name cause =
-    let l = same_line cause.asks h.line in not_read_by s h st name cause.file cause.named l.0 l.1 cause.unread
+    let l = same_line h.command cause.asks h.line in not_read_by s h st name (file_of cause.command) (input_of cause.command) (ap file_of l) (ap input_of l) cause.unread
 
-not_long_by : (s : Scene) (h : HasTexts s) (name file : List ℕ) (named : Option (List ℕ)) → file ≡ h.file → named ≡ h.named → ProgramTooLong s.store s.store_after file name ⊎ InputTooLong s.store s.store_after file named name → ⊥
+not_long_by : (s : Scene) (h : HasTexts s) (name file : List ℕ) (named : Option (List ℕ)) → file ≡ file_of h.command → named ≡ input_of h.command → ProgramTooLong s.store s.store_after file name ⊎ InputTooLong s.store s.store_after file named name → ⊥
 not_long_by s h name file named e f (inl u) = has_file-not_long h.program (subst (λ n. ReadTooLong s.store s.store_after n PROGRAM_BYTES) (u.is_named ∙ e) u.long)
 not_long_by s h name file named e f (inr u) = has_file-not_long (kept u.keeps (h.input name (sym f ∙ u.is_named))) u.long
 
 not_long : (s : Scene) (h : HasTexts s) (name : List ℕ) → Refused s TooLong name → ⊥
-not_long s h name cause = let l = same_line cause.asks h.line in not_long_by s h name cause.file cause.named l.0 l.1 cause.long
+not_long s h name cause = let l = same_line h.command cause.asks h.line in not_long_by s h name (file_of cause.command) (input_of cause.command) (ap file_of l) (ap input_of l) cause.long
 
 steady_why : (s : Scene) → HasTexts s → IsTrue s.store.steady → (r : Refusal) (name : List ℕ) → Refused s r name → status_of r ≢ 3
 steady_why s h st CannotRead name cause e = not_read s h st name cause
@@ -294,10 +293,12 @@ steady_of s (line_failed journal output e ran out err) h st eq = absurd (omega (
 steady_of s (err_failed r name cause out err) h st eq = absurd (omega (arith, eq))
 
 -- the text that a store gave is that of the file that it has
-given : (s : Scene) (h : HasTexts s) {opts : Options} {text input : List ℕ} → GaveTexts s.words s.store s.store_after opts text input → text ≡ h.program.bytes
-given s h {text = text} g =
-    let l = same_line g.asks h.line in
-    has_file-content h.program (subst (λ f. ReadBytes s.store g.reads.between f PROGRAM_BYTES text) l.0 g.reads.read)
+given_by : (s : Scene) (h : HasTexts s) {c : Command} {text input : List ℕ} → Asks s.words c → ReadsTexts s.store s.store_after (file_of c) (input_of c) text input → text ≡ h.program.bytes
+given_by s h {text = text} asks reads =
+    has_file-content h.program (subst (λ f. ReadBytes s.store reads.between f PROGRAM_BYTES text) (ap file_of (same_line h.command asks h.line)) reads.read)
+
+given : (s : Scene) (h : HasTexts s) {c : Command} {text input : List ℕ} → GaveTexts s.words s.store s.store_after c text input → text ≡ h.program.bytes
+given s h g = given_by s h g.asks g.reads
 
 -- a text without tokens is no program
 unlexed : {text : List ℕ} {why : Reason} {here : Pos} {p : Program} → HasFault text why here → IsAcceptedText text p → ⊥
@@ -320,7 +321,7 @@ abbrev Left : ℕ → Type 0
 Left status = (status ≡ 3) ⊎ (status ≡ 4) ⊎ (status ≡ 8)
 
 no_program_why : (s : Scene) (h : HasTexts s) (r : Refusal) (name : List ℕ) → Refused s r name → (status_of r ≡ 1) ⊎ Left (status_of r)
-no_program_why s h (Word n) name cause = absurd (cause.first.no_line (RunFile h.file h.opts h.named) h.line)
+no_program_why s h (Word n) name cause = absurd (cause.first.no_line h.command h.line)
 no_program_why s h CannotRead name cause = inr (inl refl)
 no_program_why s h TooLong name cause = inr (inl refl)
 no_program_why s h (Lexical why here) name cause = inl refl
@@ -329,18 +330,44 @@ no_program_why s h FrameTooLarge name cause = inl refl
 no_program_why s h CodeTooLarge name cause = inl refl
 no_program_why s h NoMemory name cause = inr (inr (inr refl))
 
-ran_program : (s : Scene) (h : HasTexts s) {journal : Journal} {output : List ℕ} {e : Ending} → (ran : Ran s journal output e) → HasProgram s h ran.ran.program
-ran_program s h ran = subst (λ t. IsAcceptedText t ran.ran.program) (given s h ran.gave) (record { spells = ran.ran.spells; accepted = ran.ran.is.accepted })
+-- a command on a file was done with the text of an accepted program
+record Used (before after : StoreState) (c : Command) : Type 0 where
+  text : List ℕ
+  input : List ℕ
+  reads : ReadsTexts before after (file_of c) (input_of c) text input
+  program : Program
+  is_text : IsAcceptedText text program
+
+used : (a b : StoreState) (journal : Journal) (output : List ℕ) (e : Ending) (c : Command) → IsOnFile c → CommandDid c a b journal output e → Used a b c
+used a b journal output e (RunFile file opts too named) on d = record { text = d.text; input = d.input; reads = d.reads; program = d.ran.program; is_text = record { spells = d.ran.spells; accepted = d.ran.is.accepted } }
+used a b journal output e (CheckFile file) on d = record { text = d.text; input = d.input; reads = d.reads; program = d.checked.program; is_text = record { spells = d.checked.spells; accepted = d.checked.is } }
+used a b journal output e (LowerFile file) on d = record { text = d.text; input = d.input; reads = d.reads; program = d.lowered.program; is_text = record { spells = d.lowered.spells; accepted = d.lowered.is.accepted } }
+used a b journal output e (MakeProgram n) on d = absurd on
+
+ran_program : (s : Scene) (h : HasTexts s) {journal : Journal} {output : List ℕ} {e : Ending} → Ran s journal output e → (p : Program) × HasProgram s h p
+ran_program s h {journal} {output} {e} ran =
+    let u = used s.store s.store_after journal output e ran.command (subst IsOnFile (sym (same_line h.command ran.asks h.line)) h.on_file) ran.did in
+    (u.program, subst (λ t. IsAcceptedText t u.program) (given_by s h ran.asks u.reads) u.is_text)
+
+-- the status of a command that was done
+finishes : (a b : StoreState) (journal : Journal) (output : List ℕ) (e : Ending) (c : Command) → CommandDid c a b journal output e → Finishes c (ending_status e)
+finishes a b journal output e (RunFile file opts too named) d = of_ending e
+finishes a b journal output e (CheckFile file) d = ap ending_status d.runs.done
+finishes a b journal output e (LowerFile file) d = ap ending_status d.runs.done
+finishes a b journal output e (MakeProgram n) d = ap ending_status d.runs.done
+
+ran_finishes : (s : Scene) (c : Command) → IsLine s.words c → {journal : Journal} {output : List ℕ} {e : Ending} → Ran s journal output e → Finishes c (ending_status e)
+ran_finishes s c line {journal} {output} {e} ran = subst (λ x. Finishes x (ending_status e)) (same_line c ran.asks line) (finishes s.store s.store_after journal output e ran.command ran.did)
 
 no_program_of : (s : Scene) {status : ℕ} {journal : Journal} → Leaves s status journal → (h : HasTexts s) → ((p : Program) → HasProgram s h p → ⊥) → (status ≡ 1) ⊎ (status ≡ 3) ⊎ (status ≡ 4) ⊎ (status ≡ 8)
-no_program_of s (ended journal output e ran out err) h n = absurd (n ran.ran.program (ran_program s h ran))
+no_program_of s (ended journal output e ran out err) h n = absurd (let p = ran_program s h ran in n p.0 p.1)
 no_program_of s (refused r name cause out err) h n = no_program_why s h r name cause
 no_program_of s (out_failed journal output e ran out err) h n = inr (inr (inl refl))
 no_program_of s (line_failed journal output e ran out err) h n = inr (inr (inl refl))
 no_program_of s (err_failed r name cause out err) h n = inr (inr (inl refl))
 
-program_why : (s : Scene) (h : HasTexts s) (p : Program) → HasProgram s h p → (r : Refusal) (name : List ℕ) → Refused s r name → OfEnding (status_of r) ⊎ (status_of r ≡ 3) ⊎ (status_of r ≡ 4) ⊎ (status_of r ≡ 8)
-program_why s h p is (Word n) name cause = absurd (cause.first.no_line (RunFile h.file h.opts h.named) h.line)
+program_why : (s : Scene) (h : HasTexts s) (p : Program) → HasProgram s h p → (r : Refusal) (name : List ℕ) → Refused s r name → Finishes h.command (status_of r) ⊎ (status_of r ≡ 3) ⊎ (status_of r ≡ 4) ⊎ (status_of r ≡ 8)
+program_why s h p is (Word n) name cause = absurd (cause.first.no_line h.command h.line)
 program_why s h p is CannotRead name cause = inr (inl refl)
 program_why s h p is TooLong name cause = inr (inl refl)
 program_why s h p is (Lexical why here) name cause = absurd (unlexed cause.is (subst (λ t. IsAcceptedText t p) (sym (given s h cause.gave)) is))
@@ -351,12 +378,39 @@ program_why s h p is FrameTooLarge name cause = absurd (frame_no cause.is (subst
 program_why s h p is CodeTooLarge name cause = absurd (code_no cause.is (subst (λ t. IsAcceptedText t p) (sym (given s h cause.gave)) is))
 program_why s h p is NoMemory name cause = inr (inr (inr refl))
 
-program_of : (s : Scene) {status : ℕ} {journal : Journal} → Leaves s status journal → (h : HasTexts s) (p : Program) → HasProgram s h p → OfEnding status ⊎ (status ≡ 3) ⊎ (status ≡ 4) ⊎ (status ≡ 8)
-program_of s (ended journal output e ran out err) h p is = inl (of_ending e)
+program_of : (s : Scene) {status : ℕ} {journal : Journal} → Leaves s status journal → (h : HasTexts s) (p : Program) → HasProgram s h p → Finishes h.command status ⊎ (status ≡ 3) ⊎ (status ≡ 4) ⊎ (status ≡ 8)
+program_of s (ended journal output e ran out err) h p is = inl (ran_finishes s h.command h.line ran)
 program_of s (refused r name cause out err) h p is = program_why s h p is r name cause
 program_of s (out_failed journal output e ran out err) h p is = inr (inr (inl refl))
 program_of s (line_failed journal output e ran out err) h p is = inr (inr (inl refl))
 program_of s (err_failed r name cause out err) h p is = inr (inr (inl refl))
+
+-- a generated program
+
+not_on_file : (s : Scene) (n : ℕ) {c : Command} → Asks s.words c → IsOnFile c → IsLine s.words (MakeProgram n) → ⊥
+not_on_file s n asks on line = subst IsOnFile (same_line (MakeProgram n) asks line) on
+
+made_why : (s : Scene) (n : ℕ) → IsLine s.words (MakeProgram n) → (r : Refusal) (name : List ℕ) → Refused s r name → (status_of r ≡ 0) ⊎ (status_of r ≡ 4) ⊎ (status_of r ≡ 8)
+made_why s n line (Word k) name cause = absurd (cause.first.no_line (MakeProgram n) line)
+made_why s n line CannotRead name cause = absurd (not_on_file s n cause.asks cause.on_file line)
+made_why s n line TooLong name cause = absurd (not_on_file s n cause.asks cause.on_file line)
+made_why s n line (Lexical why here) name cause = absurd (not_on_file s n cause.gave.asks cause.gave.on_file line)
+made_why s n line NotBuilt name cause = absurd (not_on_file s n cause.gave.asks cause.gave.on_file line)
+made_why s n line FrameTooLarge name cause = absurd (not_on_file s n cause.gave.asks cause.gave.on_file line)
+made_why s n line CodeTooLarge name cause = absurd (not_on_file s n cause.gave.asks cause.gave.on_file line)
+made_why s n line NoMemory name cause = inr (inr refl)
+
+made_of : (s : Scene) {status : ℕ} {journal : Journal} → Leaves s status journal → (n : ℕ) → IsLine s.words (MakeProgram n) → (status ≡ 0) ⊎ (status ≡ 4) ⊎ (status ≡ 8)
+made_of s (ended journal output e ran out err) n line = inl (ran_finishes s (MakeProgram n) line ran)
+made_of s (refused r name cause out err) n line = made_why s n line r name cause
+made_of s (out_failed journal output e ran out err) n line = inr (inl refl)
+made_of s (line_failed journal output e ran out err) n line = inr (inl refl)
+made_of s (err_failed r name cause out err) n line = inr (inl refl)
+
+one_left : {status : ℕ} → (status ≡ 0) ⊎ (status ≡ 4) ⊎ (status ≡ 8) → status ≢ 4 → (status ≡ 0) ⊎ (status ≡ 8)
+one_left (inl e) n = inl e
+one_left (inr (inl e)) n = absurd (n e)
+one_left (inr (inr e)) n = inr e
 
 pub answers : (s : Scene) {status : ℕ} {journal : Journal} → Leaves s status journal → Answers s status
 answers s leaves = record {
@@ -365,6 +419,7 @@ answers s leaves = record {
   steady = λ h st. steady_of s leaves h st;
   no_program = λ h n. no_program_of s leaves h n;
   program = λ h p is. program_of s leaves h p is;
+  made = made_of s leaves;
 }
 
 two_left : {status : ℕ} {A : Type 0} → A ⊎ (status ≡ 3) ⊎ (status ≡ 4) ⊎ (status ≡ 8) → status ≢ 3 → status ≢ 4 → A ⊎ (status ≡ 8)
@@ -377,4 +432,5 @@ pub completes : (s : Scene) {status : ℕ} {journal : Journal} → Leaves s stat
 completes s leaves = record {
   runs = λ h st r p is. two_left (program_of s leaves h p is) (steady_of s leaves h st) (rooms s leaves r);
   refuses = λ h st r n. two_left (no_program_of s leaves h n) (steady_of s leaves h st) (rooms s leaves r);
+  makes = λ n line r. one_left (made_of s leaves n line) (rooms s leaves r);
 }

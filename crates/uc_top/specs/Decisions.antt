@@ -1,6 +1,6 @@
 -- What the parts of the top call find: of a program, of tokens, of a text, of the files.
-use Rattle.std.specs.Prelude.{◌≡◌, ℕ, ◌⊎◌, List, [], length, codes, Option, Some}
-use Rattle.uc_tree.specs.declared.limits.TheConstants.{NESTING, INPUT_BYTES}
+use Rattle.std.specs.Prelude.{◌≡◌, ℕ, ◌≤◌, ◌⊎◌, List, [], length, codes, Option, Some, None}
+use Rattle.uc_tree.specs.declared.limits.TheConstants.{NESTING, INPUT_BYTES, ENTRIES_MIN, MAKE_MAX}
 use Rattle.uc_tree.specs.declared.token.Token.{Token}
 use Rattle.uc_tree.specs.Programs.{Program}
 use Rattle.uc_grammar.specs.Text.{IsProgram}
@@ -8,14 +8,29 @@ use Rattle.uc_meaning.specs.declared.entry.Options.{Options}
 use Rattle.uc_meaning.specs.Journal.{Journal}
 use Rattle.uc_outside.specs.Reading.{StoreState, ReadFailed, ReadTooLong}
 use Rattle.uc_outside.specs.Taking.{SinkState, Took}
-use Rattle.uc_words.specs.Words.{Command, RunFile}
+use Rattle.uc_words.specs.Words.{Command, RunFile, CheckFile, LowerFile, MakeProgram}
+use Rattle.uc_alone.specs.Alone.{alone_options}
+use Rattle.uc_meaning.specs.Accepted.{IsAccepted}
+use Rattle.uc_top.specs.declared.program.Purpose.{Purpose}
+use Rattle.uc_top.specs.declared.program.Purpose.TheVariants.{Run, Check, Lower}
 use Rattle.uc_top.specs.declared.endings.Ending.{Ending}
 use Rattle.uc_top.specs.declared.refusals.Refusal.{Refusal}
 use Rattle.uc_top.specs.declared.refusals.Refusal.TheVariants.{Word, CannotRead, TooLong, Lexical, NotBuilt, FrameTooLarge, CodeTooLarge, NoMemory}
 use Rattle.uc_top.specs.Endings.{ending_status, ending_text}
-use Rattle.uc_top.specs.Built.{IsBuilt, HasLargeFrame, HasLargeCode, ProgramRan, HasFault, IsNotBuilt, IsTextOf, TextRan, ReadsTexts}
+use Rattle.uc_top.specs.Built.{IsBuilt, HasLargeFrame, HasLargeCode, ProgramRan, IsListingOf, RunsNothing, HasFault, IsNotBuilt, IsTextOf, ReadsTexts}
 use Rattle.uc_top.specs.Refusals.{err_line, ProgramUnread, InputUnread, ProgramTooLong, InputTooLong}
 use Rattle.uc_top.specs.Outcomes.{Failed, Tried}
+
+-- a program is checked, and one is lowered
+
+pub record Checked (program : Program) (journal : Journal) (output : List ℕ) (ending : Ending) : Type 0 where
+  pub accepted : IsAccepted program
+  pub runs : RunsNothing journal ending
+  pub quiet : output ≡ []
+
+pub record Listed (program : Program) (journal : Journal) (output : List ℕ) (ending : Ending) : Type 0 where
+  pub listing : IsListingOf program output
+  pub runs : RunsNothing journal ending
 
 abbrev pub ProgramRefused : Program → Refusal → Type 0
 ProgramRefused program (Word n) = ⊥
@@ -38,8 +53,23 @@ pub record AreTokensOf (list : List Token) (Is : Program → Type 0) : Type 0 wh
   pub only : (other : Program) → AreOf list other → other ≡ program
   pub is : Is program
 
-abbrev pub TokensRan : List Token → List ℕ → Options → Journal → List ℕ → Ending → Type 0
-TokensRan list input opts journal output ending = AreTokensOf list (λ program. ProgramRan program input opts journal output ending)
+-- a run has a bound on its entries that is one
+abbrev pub HasEntries : Purpose → Type 0
+HasEntries (Run entries too) = ENTRIES_MIN ≤ entries
+HasEntries Check = Unit {0}
+HasEntries Lower = Unit {0}
+
+-- what is done with an accepted program
+abbrev pub ProgramDid : Purpose → Program → List ℕ → Journal → List ℕ → Ending → Type 0
+ProgramDid (Run entries too) program input journal output ending = ProgramRan program input (alone_options entries) too journal output ending
+ProgramDid Check program input journal output ending = Checked program journal output ending
+ProgramDid Lower program input journal output ending = Listed program journal output ending
+
+abbrev pub TokensDid : Purpose → List Token → List ℕ → Journal → List ℕ → Ending → Type 0
+TokensDid purpose list input journal output ending = AreTokensOf list (λ program. ProgramDid purpose program input journal output ending)
+
+abbrev pub TextDid : Purpose → List ℕ → List ℕ → Journal → List ℕ → Ending → Type 0
+TextDid purpose text input journal output ending = IsTextOf text (λ program. ProgramDid purpose program input journal output ending)
 
 abbrev pub TokensRefused : List Token → Refusal → Type 0
 TokensRefused list (Word n) = ⊥
@@ -77,12 +107,12 @@ pub record InputNotRead (before after : StoreState) (named : Option (List ℕ)) 
   pub is_named : named ≡ Some name
   pub fault : NotRead before after name INPUT_BYTES refusal
 
--- the files were read, and their program was run
-pub record FilesRan (before after : StoreState) (file : List ℕ) (named : Option (List ℕ)) (opts : Options) (journal : Journal) (output : List ℕ) (ending : Ending) : Type 0 where
+-- the files were read, and what is to be done with their program was done
+pub record FilesDid (before after : StoreState) (file : List ℕ) (named : Option (List ℕ)) (purpose : Purpose) (journal : Journal) (output : List ℕ) (ending : Ending) : Type 0 where
   pub text : List ℕ
   pub input : List ℕ
   pub reads : ReadsTexts before after file named text input
-  pub ran : TextRan text input opts journal output ending
+  pub did : TextDid purpose text input journal output ending
 
 -- the files were read, and this holds of the text
 pub record FilesSuch (before after : StoreState) (file : List ℕ) (named : Option (List ℕ)) (Is : List ℕ → Type 0) : Type 0 where
@@ -101,16 +131,28 @@ FilesRefused before after file named FrameTooLarge name = FilesSuch before after
 FilesRefused before after file named CodeTooLarge name = FilesSuch before after file named (λ text. IsTextOf text HasLargeCode)
 FilesRefused before after file named NoMemory name = after.count ≡ before.count
 
--- what a command names, and its bound on entries
+-- why a command was not done
 
-abbrev pub file_of : Command → List ℕ
-file_of (RunFile file opts named) = file
+pub record NotMade (before after : StoreState) (refusal : Refusal) : Type 0 where
+  pub is : refusal ≡ NoMemory
+  pub unread : after ≡ before
 
-abbrev pub input_of : Command → Option (List ℕ)
-input_of (RunFile file opts named) = named
+abbrev pub CommandRefused : Command → StoreState → StoreState → Refusal → List ℕ → Type 0
+CommandRefused (RunFile file opts too named) before after refusal name = FilesRefused before after file named refusal name
+CommandRefused (CheckFile file) before after refusal name = FilesRefused before after file None refusal name
+CommandRefused (LowerFile file) before after refusal name = FilesRefused before after file None refusal name
+CommandRefused (MakeProgram n) before after refusal name = NotMade before after refusal
 
-abbrev pub entries_of : Command → ℕ
-entries_of (RunFile file opts named) = opts.entries
+-- the numbers of a command are in their ranges
+pub record AreAlone (opts : Options) : Type 0 where
+  pub enough : ENTRIES_MIN ≤ opts.entries
+  pub alone : alone_options opts.entries ≡ opts
+
+abbrev pub IsInRange : Command → Type 0
+IsInRange (RunFile file opts too named) = AreAlone opts
+IsInRange (CheckFile file) = Unit {0}
+IsInRange (LowerFile file) = Unit {0}
+IsInRange (MakeProgram n) = (1 ≤ n) × (n ≤ MAKE_MAX)
 
 -- a run is told: out got what it printed and err the line of its ending, or one of them failed at it
 pub data Finished (out out_after err err_after : SinkState) (output : List ℕ) (ending : Ending) : ℕ → Type 0 where

@@ -1,5 +1,5 @@
 -- What the top call leaves, for each status.
-use Rattle.std.specs.Prelude.{◌≡◌, ◌≢◌, ℕ, ◌<◌, List, [], ◌⊎◌, IsTrue, codes, Option}
+use Rattle.std.specs.Prelude.{◌≡◌, ◌≢◌, ℕ, ◌<◌, List, [], ◌⊎◌, IsTrue, codes}
 use Rattle.uc_tree.specs.declared.limits.TheConstants.{PROGRAM_BYTES}
 use Rattle.uc_tree.specs.declared.pos.Pos.{Pos}
 use Rattle.uc_tree.specs.declared.scan.Reason.{Reason}
@@ -7,14 +7,13 @@ use Rattle.uc_tree.specs.Programs.{Program}
 use Rattle.uc_outside.specs.Faults.{CountRose}
 use Rattle.uc_outside.specs.Reading.{StoreState, HasFile}
 use Rattle.uc_outside.specs.Taking.{SinkState, Took, TookPrefix, FailedAt, HasRoom, Stopped}
-use Rattle.uc_meaning.specs.declared.entry.Options.{Options}
 use Rattle.uc_meaning.specs.Journal.{Journal}
-use Rattle.uc_words.specs.Words.{Words, Command, IsLine, IsRunLine}
+use Rattle.uc_words.specs.Words.{Words, Command, RunFile, CheckFile, LowerFile, MakeProgram, IsLine}
 use Rattle.uc_top.specs.declared.endings.Ending.{Ending}
 use Rattle.uc_top.specs.declared.refusals.Refusal.{Refusal}
 use Rattle.uc_top.specs.declared.refusals.Refusal.TheVariants as refusal
 use Rattle.uc_top.specs.Endings.{ending_status, ending_text}
-use Rattle.uc_top.specs.Built.{IsAcceptedText, HasInput, HasRun}
+use Rattle.uc_top.specs.Built.{IsAcceptedText, HasInput, HasDone, IsOnFile, file_of, input_of}
 use Rattle.uc_top.specs.Refusals.{status_of, err_line, refusal_text, Refuses}
 
 -- a sink failed at this text and took a prefix of it, and no put was made after the failed one
@@ -36,9 +35,9 @@ pub record Scene : Type 0 where
   pub err : SinkState
   pub err_after : SinkState
 
--- the store gave a program, the journal is a run of it that ends so, and the output is what it printed
+-- the words ask for a command, and it was done: this is its journal, what out gets, and how it ends
 abbrev pub Ran : Scene → Journal → List ℕ → Ending → Type 0
-Ran s journal output ending = HasRun s.words s.store s.store_after journal output ending
+Ran s journal output ending = HasDone s.words s.store s.store_after journal output ending
 
 -- nothing was run, for this reason, where this is the file that was not read
 abbrev pub Refused : Scene → Refusal → List ℕ → Type 0
@@ -46,20 +45,20 @@ Refused s r name = Refuses s.words s.store s.store_after r name
 
 -- the status and the journal of a call: what was run, what out and err got
 pub data Leaves (s : Scene) : ℕ → Journal → Type 0 where
-  -- the run has ended: out got what it printed, and err the line of its ending
+  -- the command was done: out got its output, and err the line of its ending
   ended : (journal : Journal) (output : List ℕ) (ending : Ending) → Ran s journal output ending → Took s.out s.out_after output → Took s.err s.err_after (ending_text ending) → Leaves s (ending_status ending) journal
   -- a refusal: out got nothing, and err its line
   refused : (r : Refusal) (name : List ℕ) → Refused s r name → Took s.out s.out_after [] → Took s.err s.err_after (refusal_text r name) → Leaves s (status_of r) []
-  -- out failed at what was printed: it got a prefix, and the journal is a run all the same
+  -- out failed at the output: it got a prefix, and the journal is the command's all the same
   out_failed : (journal : Journal) (output : List ℕ) (ending : Ending) → Ran s journal output ending → Failed s.out s.out_after output → Tried s.err s.err_after (err_line (codes "cannot write") []) → Leaves s 4 journal
-  -- err failed at the line of the ending: out got what was printed
+  -- err failed at the line of the ending: out got the output
   line_failed : (journal : Journal) (output : List ℕ) (ending : Ending) → Ran s journal output ending → Took s.out s.out_after output → Failed s.err s.err_after (ending_text ending) → Leaves s 4 journal
   -- err failed at the line of a refusal: out got nothing
   err_failed : (r : Refusal) (name : List ℕ) → Refused s r name → Took s.out s.out_after [] → Failed s.err s.err_after (refusal_text r name) → Leaves s 4 []
 
 -- What each status says.
 
--- the headline: the journal is a complete run of the accepted program that the store gave, over the input that it gave and under the options of the words; out got what it printed, err the line of its ending, and the status is the ending's
+-- the headline: the command that the words ask for was done, which says of `run` that the journal is a complete run of the accepted program that the store gave, over the input that it gave and under the options of the words, and the output what it printed, with the journal's text behind it where the words ask for it; out got the output, err the line of the ending, and the status is the ending's
 pub record Completed (s : Scene) (status : ℕ) (journal : Journal) : Type 0 where
   pub output : List ℕ
   pub ending : Ending
@@ -105,14 +104,20 @@ pub record Stops (s : Scene) : Type 0 where
   pub out : Stopped s.out s.out_after
   pub err : Stopped s.err s.err_after
 
--- a line of words over a store that tells the texts that the line names, within their lengths
+-- a line of words on a file, over a store that tells the texts that the line names, within their lengths
 pub record HasTexts (s : Scene) : Type 0 where
-  pub file : List ℕ
-  pub opts : Options
-  pub named : Option (List ℕ)
-  pub line : IsRunLine s.words file opts named
-  pub program : HasFile s.store file PROGRAM_BYTES
-  pub input : HasInput s.store named
+  pub command : Command
+  pub line : IsLine s.words command
+  pub on_file : IsOnFile command
+  pub program : HasFile s.store (file_of command) PROGRAM_BYTES
+  pub input : HasInput s.store (input_of command)
+
+-- the statuses with which a command is done: those of endings for `run`, and 0 for the others
+abbrev pub Finishes : Command → ℕ → Type 0
+Finishes (RunFile file opts too named) status = OfEnding status
+Finishes (CheckFile file) status = status ≡ 0
+Finishes (LowerFile file) status = status ≡ 0
+Finishes (MakeProgram n) status = status ≡ 0
 
 abbrev pub HasProgram : (s : Scene) → HasTexts s → Program → Type 0
 HasProgram s h p = IsAcceptedText h.program.bytes p
@@ -125,7 +130,9 @@ pub record Answers (s : Scene) (status : ℕ) : Type 0 where
   -- a store that tells the named texts: a steady one gives them; the text is no accepted program, or one
   pub steady : HasTexts s → IsTrue s.store.steady → status ≢ 3
   pub no_program : (h : HasTexts s) → ((p : Program) → HasProgram s h p → ⊥) → (status ≡ 1) ⊎ (status ≡ 3) ⊎ (status ≡ 4) ⊎ (status ≡ 8)
-  pub program : (h : HasTexts s) (p : Program) → HasProgram s h p → OfEnding status ⊎ (status ≡ 3) ⊎ (status ≡ 4) ⊎ (status ≡ 8)
+  pub program : (h : HasTexts s) (p : Program) → HasProgram s h p → Finishes h.command status ⊎ (status ≡ 3) ⊎ (status ≡ 4) ⊎ (status ≡ 8)
+  -- a generated program needs no text
+  pub made : (n : ℕ) → IsLine s.words (MakeProgram n) → (status ≡ 0) ⊎ (status ≡ 4) ⊎ (status ≡ 8)
 
 -- the sinks have room for all that may be put
 pub record HaveRooms (s : Scene) : Type 0 where
@@ -133,10 +140,11 @@ pub record HaveRooms (s : Scene) : Type 0 where
   pub line : (journal : Journal) (output : List ℕ) (ending : Ending) → Ran s journal output ending → HasRoom s.err (ending_text ending)
   pub err : (r : Refusal) (name : List ℕ) → Refused s r name → HasRoom s.err (refusal_text r name)
 
--- over a steady store that has the named texts, and sinks with room, an accepted program is run to its ending, and every text gets its answer
+-- over a steady store that has the named texts, and sinks with room, an accepted program is run to its ending, checked or lowered, every text gets its answer, and a program is generated
 pub record Completes (s : Scene) (status : ℕ) : Type 0 where
-  pub runs : (h : HasTexts s) → IsTrue s.store.steady → HaveRooms s → (p : Program) → HasProgram s h p → OfEnding status ⊎ (status ≡ 8)
+  pub runs : (h : HasTexts s) → IsTrue s.store.steady → HaveRooms s → (p : Program) → HasProgram s h p → Finishes h.command status ⊎ (status ≡ 8)
   pub refuses : (h : HasTexts s) → IsTrue s.store.steady → HaveRooms s → ((p : Program) → HasProgram s h p → ⊥) → (status ≡ 1) ⊎ (status ≡ 8)
+  pub makes : (n : ℕ) → IsLine s.words (MakeProgram n) → HaveRooms s → (status ≡ 0) ⊎ (status ≡ 8)
 
 abbrev pub scene_of : Words → StoreState → StoreState → SinkState → SinkState → SinkState → SinkState → Scene
 scene_of words store store_after out out_after err err_after = record {

@@ -5,12 +5,11 @@ use Rattle.uc_tree.specs.declared.pos.Pos.{Pos}
 use Rattle.uc_tree.specs.declared.scan.Reason.{Reason}
 use Rattle.uc_tree.specs.declared.scan.Reason.TheVariants as reason
 use Rattle.uc_tree.specs.declared.limits.TheConstants.{PROGRAM_BYTES, INPUT_BYTES}
-use Rattle.uc_meaning.specs.declared.entry.Options.{Options}
 use Rattle.uc_outside.specs.Reading.{StoreState, KeepsFiles, ReadBytes, ReadFailed, ReadTooLong}
-use Rattle.uc_words.specs.Words.{Words, IsFirstBad}
+use Rattle.uc_words.specs.Words.{Words, Command, IsFirstBad}
 use Rattle.uc_top.specs.declared.refusals.Refusal.{Refusal}
 use Rattle.uc_top.specs.declared.refusals.Refusal.TheVariants.{Word, CannotRead, TooLong, Lexical, NotBuilt, FrameTooLarge, CodeTooLarge, NoMemory}
-use Rattle.uc_top.specs.Built.{HasFault, IsNotBuilt, IsTextOf, HasLargeFrame, HasLargeCode, Asks, GaveTexts}
+use Rattle.uc_top.specs.Built.{HasFault, IsNotBuilt, IsTextOf, HasLargeFrame, HasLargeCode, Asks, IsOnFile, file_of, input_of, GaveTexts}
 
 abbrev pub status_of : Refusal → ℕ
 status_of (Word n) = 2
@@ -80,27 +79,26 @@ pub record InputTooLong (before after : StoreState) (file : List ℕ) (named : O
   pub read : ReadBytes before between file PROGRAM_BYTES text
   pub long : ReadTooLong between after name INPUT_BYTES
 
--- the words are a line that names this file and this input, under these options
+-- the words ask for a command on a file, and its file or its input could not be read
 pub record IsUnread (words : Words) (before after : StoreState) (name : List ℕ) : Type 0 where
-  pub file : List ℕ
-  pub opts : Options
-  pub named : Option (List ℕ)
-  pub asks : Asks words file opts named
-  pub unread : ProgramUnread before after file name ⊎ InputUnread before after file named name
+  pub command : Command
+  pub asks : Asks words command
+  pub on_file : IsOnFile command
+  pub unread : ProgramUnread before after (file_of command) name ⊎ InputUnread before after (file_of command) (input_of command) name
 
+-- the same, and one of them is too long
 pub record IsTooLong (words : Words) (before after : StoreState) (name : List ℕ) : Type 0 where
-  pub file : List ℕ
-  pub opts : Options
-  pub named : Option (List ℕ)
-  pub asks : Asks words file opts named
-  pub long : ProgramTooLong before after file name ⊎ InputTooLong before after file named name
+  pub command : Command
+  pub asks : Asks words command
+  pub on_file : IsOnFile command
+  pub long : ProgramTooLong before after (file_of command) name ⊎ InputTooLong before after (file_of command) (input_of command) name
 
 -- the store gave a text of which this holds
 pub record GaveSuch (words : Words) (before after : StoreState) (Is : List ℕ → Type 0) : Type 0 where
-  pub opts : Options
+  pub command : Command
   pub text : List ℕ
   pub input : List ℕ
-  pub gave : GaveTexts words before after opts text input
+  pub gave : GaveTexts words before after command text input
   pub is : Is text
 
 -- the words are no line, and nothing was read
@@ -110,10 +108,8 @@ pub record HasBadWord (words : Words) (before after : StoreState) (number : ℕ)
 
 -- memory was refused to a line of words, and no read failed
 pub record HasNoMemory (words : Words) (before after : StoreState) : Type 0 where
-  pub file : List ℕ
-  pub opts : Options
-  pub named : Option (List ℕ)
-  pub asks : Asks words file opts named
+  pub command : Command
+  pub asks : Asks words command
   pub same_count : after.count ≡ before.count
 
 -- the cause of a refusal

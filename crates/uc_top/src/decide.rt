@@ -1,16 +1,15 @@
 // What the words make of the store: a run, or the reason why there is none.
 
 ghost use Rattle.std.specs.Prelude.{◌≡◌, ◌≤◌, ◌<◌, ◌^◌, IfOk, IfErr, length, map, string_bytes, option_copied};
-ghost use Rattle.uc_tree.specs.declared.limits.TheConstants.{PROGRAM_BYTES, INPUT_BYTES, ENTRIES_MIN};
+ghost use Rattle.uc_tree.specs.declared.limits.TheConstants.{PROGRAM_BYTES, INPUT_BYTES};
 ghost use Rattle.uc_tree.specs.Tokens.{tokens, Refused};
 ghost use Rattle.uc_outside.specs.Reading.{KeepsFiles, ReadBytes};
 ghost use Rattle.uc_words.specs.Rest.{command_of, number_of};
-ghost use Rattle.uc_alone.specs.Alone.{alone_options};
-ghost use Rattle.uc_top.specs.Built.{HasRun, TextRan, ReadsTexts, ReadsInput};
+ghost use Rattle.uc_top.specs.Built.{HasDone, CommandDid, ReadsTexts, ReadsInput};
 ghost use Rattle.uc_top.specs.Refusals.{Refuses};
-ghost use Rattle.uc_top.specs.Decisions.{TokensRan, TokensRefused, TextRefused, FilesRan, FilesRefused, NotRead, InputNotRead, file_of, input_of, entries_of};
+ghost use Rattle.uc_top.specs.Decisions.{IsInRange, CommandRefused, HasEntries, TokensDid, TokensRefused, TextDid, TextRefused, FilesDid, FilesRefused, NotRead, InputNotRead};
 
-use crate::program::{Run, run_program};
+use crate::program::{Purpose, Run, make_program, run_program};
 use crate::refusals::Refusal;
 use std::alloc::Global;
 use uc_grammar::fault::ParseFault;
@@ -35,16 +34,54 @@ pub(crate) fn decide<'a, S: Store>(
     words: &'a [String],
     store: &mut S,
 ) -> Result<Run, Why<'a>>
-    ensures ran { IfOk result (λ run. HasRun (map string_bytes words.now) (S.state store.old) (S.state store.new) run.journal.items run.output.items run.ending) }
+    ensures done { IfOk result (λ run. HasDone (map string_bytes words.now) (S.state store.old) (S.state store.new) run.journal.items run.output.items run.ending) }
     ensures store { KeepsFiles (S.state store.old) (S.state store.new) }
     ensures refused { IfErr result (λ why. Refuses (map string_bytes words.now) (S.state store.old) (S.state store.new) why.refusal why.name.now) }
 {
     match read_words(words) {
-        Ok(job) => match run_files(alloc, file_of(job), input_of(job), entries_of(job), store) {
+        Ok(job) => match do_job(alloc, job, store) {
             Ok(run) => Ok(run),
             Err(why) => Err(why),
         },
         Err(fault) => Err(bad_word(fault)),
+    }
+}
+
+// Does what the words ask for.
+fn do_job<'a, S: Store>(alloc: Global, job: Job<'a>, store: &mut S) -> Result<Run, Why<'a>>
+    requires range { IsInRange (command_of job) }
+    ensures did { IfOk result (λ run. CommandDid (command_of job.entry) (S.state store.old) (S.state store.new) run.journal.items run.output.items run.ending) }
+    ensures store { KeepsFiles (S.state store.old) (S.state store.new) }
+    ensures refused { IfErr result (λ why. CommandRefused (command_of job.entry) (S.state store.old) (S.state store.new) why.refusal why.name.now) }
+{
+    match job {
+        Job::Run {
+            file,
+            opts,
+            journal,
+            input,
+        } => {
+            let purpose = Purpose::Run {
+                entries: opts.entries,
+                journal,
+            };
+            match do_files(alloc, file, input, purpose, store) {
+                Ok(run) => Ok(run),
+                Err(why) => Err(why),
+            }
+        }
+        Job::Check { file } => match do_files(alloc, file, None, Purpose::Check, store) {
+            Ok(run) => Ok(run),
+            Err(why) => Err(why),
+        },
+        Job::Lower { file } => match do_files(alloc, file, None, Purpose::Lower, store) {
+            Ok(run) => Ok(run),
+            Err(why) => Err(why),
+        },
+        Job::Make { n } => match make_program(alloc, n) {
+            Ok(run) => Ok(run),
+            Err(_) => Err(unnamed(Refusal::NoMemory)),
+        },
     }
 }
 
@@ -64,47 +101,20 @@ fn unnamed<'a>(refusal: Refusal) -> Why<'a>
     Why { refusal, name: "" }
 }
 
-// The file that a job names.
-fn file_of<'a>(job: Job<'a>) -> &'a str
-    ensures { result.now ≡ file_of (command_of job.entry) }
-{
-    match job {
-        Job::Run { file, .. } => file,
-    }
-}
-
-// The input that a job names.
-fn input_of<'a>(job: Job<'a>) -> Option<&'a str>
-    ensures { option_copied result ≡ input_of (command_of job.entry) }
-{
-    match job {
-        Job::Run { input, .. } => input,
-    }
-}
-
-// The bound on entries of a job.
-fn entries_of(job: Job<'_>) -> u32
-    ensures { result ≡ entries_of (command_of job.entry) }
-{
-    match job {
-        Job::Run { opts, .. } => opts.entries,
-    }
-}
-
-fn run_files<'a, S: Store>(
+fn do_files<'a, S: Store>(
     alloc: Global,
     file: &'a str,
     named: Option<&'a str>,
-    entries: u32,
+    purpose: Purpose,
     store: &mut S,
 ) -> Result<Run, Why<'a>>
-    requires entries { ENTRIES_MIN ≤ entries }
-    ensures ran { IfOk result (λ run. FilesRan (S.state store.old) (S.state store.new) file.now (option_copied named.entry) (alone_options entries) run.journal.items run.output.items run.ending) }
+    requires purpose { HasEntries purpose }
+    ensures did { IfOk result (λ run. FilesDid (S.state store.old) (S.state store.new) file.now (option_copied named.entry) purpose run.journal.items run.output.items run.ending) }
     ensures store { KeepsFiles (S.state store.old) (S.state store.new) }
     ensures refused { IfErr result (λ why. FilesRefused (S.state store.old) (S.state store.new) file.now (option_copied named.entry) why.refusal why.name.now) }
 {
     match read_texts(alloc, file, named, store) {
-        Ok(texts) => match run_text(alloc, &texts.program, &texts.input, entries) {
+        Ok(texts) => match do_text(alloc, &texts.program, &texts.input, purpose) {
             Ok(run) => Ok(run),
             Err(refusal) => Err(unnamed(refusal)),
         },
@@ -189,15 +199,15 @@ fn read_named<'a, S: Store>(
     }
 }
 
-fn run_text(alloc: Global, text: &[u8], input: &[u8], entries: u32) -> Result<Run, Refusal>
+fn do_text(alloc: Global, text: &[u8], input: &[u8], purpose: Purpose) -> Result<Run, Refusal>
     requires text { length text.now ≤ PROGRAM_BYTES }
     requires input { length input.now ≤ INPUT_BYTES }
-    requires entries { ENTRIES_MIN ≤ entries }
-    ensures ran { IfOk result (λ run. TextRan text.now input.now (alone_options entries) run.journal.items run.output.items run.ending) }
+    requires purpose { HasEntries purpose }
+    ensures did { IfOk result (λ run. TextDid purpose text.now input.now run.journal.items run.output.items run.ending) }
     ensures refused { IfErr result (TextRefused text.now) }
 {
     match lex(alloc, text) {
-        Ok(tokens) => match run_tokens(alloc, &tokens, input, entries) {
+        Ok(tokens) => match do_tokens(alloc, &tokens, input, purpose) {
             Ok(run) => Ok(run),
             Err(refusal) => Err(refusal),
         },
@@ -221,15 +231,20 @@ fn fault_at(text: &[u8], why: Reason, at: u32) -> Refusal
     Refusal::Lexical(why, pos_at(text, at))
 }
 
-fn run_tokens(alloc: Global, tokens: &[Token], input: &[u8], entries: u32) -> Result<Run, Refusal>
+fn do_tokens(
+    alloc: Global,
+    tokens: &[Token],
+    input: &[u8],
+    purpose: Purpose,
+) -> Result<Run, Refusal>
     requires few { length tokens.now < 2 ^ 32 }
     requires input { length input.now ≤ INPUT_BYTES }
-    requires entries { ENTRIES_MIN ≤ entries }
-    ensures ran { IfOk result (λ run. TokensRan tokens.now input.now (alone_options entries) run.journal.items run.output.items run.ending) }
+    requires purpose { HasEntries purpose }
+    ensures did { IfOk result (λ run. TokensDid purpose tokens.now input.now run.journal.items run.output.items run.ending) }
     ensures refused { IfErr result (TokensRefused tokens.now) }
 {
     match parse(alloc, tokens) {
-        Ok(program) => match run_program(alloc, &program, input, entries) {
+        Ok(program) => match run_program(alloc, &program, input, purpose) {
             Ok(run) => Ok(run),
             Err(refusal) => Err(refusal),
         },

@@ -1,15 +1,20 @@
 -- The words behind `run` from one of them on, where some pieces were told before.
-use Rattle.std.specs.Prelude.{◌≡◌, ℕ, suc, ◌+◌, ◌<◌, ◌≤◌, List, ◌++◌, length, take, Option, Some, None, option_copied, option_to_list, flat_map, filter_map}
-use Rattle.uc_words.specs.Words.{Words, Piece, Command, RunFile, spelled, ArePieces, file_in, entries_in, input_in, options_with}
+use Rattle.std.specs.Prelude.{◌≡◌, ℕ, suc, ◌+◌, ◌<◌, ◌≤◌, Bool, true, false, if◌then◌else◌, List, ◌++◌, length, take, Option, Some, None, option_copied, option_to_list, flat_map, filter_map}
+use Rattle.uc_words.specs.Words.{Words, Piece, Command, RunFile, CheckFile, LowerFile, MakeProgram, Numbers, number_of_option, spelled, ArePieces, file_in, number_in, journal_in, input_in, once_if, options_with}
+use Rattle.uc_words.specs.declared.numbers.NumberOption.{NumberOption}
+use Rattle.uc_words.specs.declared.numbers.NumberOption.TheVariants.{Processors, Entries}
 use Rattle.uc_words.specs.declared.job.Job.{Job}
-use Rattle.uc_words.specs.declared.job.Job.TheVariants.{Run}
+use Rattle.uc_words.specs.declared.job.Job.TheVariants.{Run, Check, Lower, Make}
 use Rattle.uc_words.specs.declared.job.WordsFault.{WordsFault}
 use Rattle.uc_words.specs.declared.job.WordsFault.TheVariants.{Word}
 use Rattle.uc_words.specs.declared.told.Told.{Told}
 
 -- what a job says
 abbrev pub command_of : Job → Command
-command_of (Run file opts input) = RunFile file.now opts (option_copied input)
+command_of (Run file opts journal input) = RunFile file.now opts journal (option_copied input)
+command_of (Check file) = CheckFile file.now
+command_of (Lower file) = LowerFile file.now
+command_of (Make n) = MakeProgram n
 
 -- the word that a fault names
 abbrev pub number_of : WordsFault → ℕ
@@ -18,43 +23,67 @@ number_of (Word number) = number
 -- what pieces told
 pub record Parts : Type 0 where
   pub file : Option (List ℕ)
-  pub entries : Option ℕ
+  pub numbers : Numbers
+  pub journal : Bool
   pub input : Option (List ℕ)
 
 abbrev pub parts_of : Told → Parts
-parts_of t = record { file = option_copied t.file; entries = t.entries; input = option_copied t.input }
+parts_of t = record {
+  file = option_copied t.file;
+  numbers = record { processors = t.processors; entries = t.entries };
+  journal = t.journal;
+  input = option_copied t.input;
+}
 
 abbrev pub nothing : Parts
-nothing = record { file = None; entries = None; input = None }
+nothing = record {
+  file = None;
+  numbers = record { processors = None; entries = None };
+  journal = false;
+  input = None;
+}
 
 abbrev pub with_file : Parts → List ℕ → Parts
-with_file p name = record { file = Some name; entries = p.entries; input = p.input }
+with_file p name = record p { file = Some name }
 
-abbrev pub with_entries : Parts → ℕ → Parts
-with_entries p n = record { file = p.file; entries = Some n; input = p.input }
+abbrev pub numbers_with : Numbers → NumberOption → ℕ → Numbers
+numbers_with ns Processors n = record ns { processors = Some n }
+numbers_with ns Entries n = record ns { entries = Some n }
+
+abbrev pub with_number : Parts → NumberOption → ℕ → Parts
+with_number p option n = record p { numbers = numbers_with p.numbers option n }
+
+abbrev pub with_journal : Parts → Parts
+with_journal p = record p { journal = true }
 
 abbrev pub with_input : Parts → List ℕ → Parts
-with_input p name = record { file = p.file; entries = p.entries; input = Some name }
+with_input p name = record p { input = Some name }
 
 abbrev pub worth : {A : Type 0} → Option A → ℕ → ℕ
 worth None n = 0
 worth (Some x) n = n
 
--- how many words told them, with `run`
+-- how many words told the numbers
+abbrev pub words_of_numbers : Numbers → ℕ
+words_of_numbers ns = worth ns.processors 2 + worth ns.entries 2
+
+-- how many words told all parts, with `run`
 abbrev pub words_of : Parts → ℕ
-words_of p = 1 + (worth p.file 1 + (worth p.entries 2 + worth p.input 2))
+words_of p = 1 + (worth p.file 1 + (words_of_numbers p.numbers + ((if p.journal then 1 else 0) + worth p.input 2)))
 
 -- behind the parts, these words make a line
 pub record Goes (p : Parts) (ws : Words) (command : Command) : Type 0 where
   pub pieces : List Piece
   pub file : List ℕ
-  pub entries : Option ℕ
+  pub numbers : Numbers
+  pub journal : Bool
   pub input : Option (List ℕ)
-  pub is : command ≡ RunFile file (options_with entries) input
+  pub is : command ≡ RunFile file (options_with numbers) journal input
   pub spells : ws ≡ flat_map spelled pieces
   pub fit : ArePieces pieces
   pub one_file : option_to_list p.file ++ filter_map file_in pieces ≡ option_to_list (Some file)
-  pub one_entries : option_to_list p.entries ++ filter_map entries_in pieces ≡ option_to_list entries
+  pub one_number : (option : NumberOption) → option_to_list (number_of_option p.numbers option) ++ filter_map (number_in option) pieces ≡ option_to_list (number_of_option numbers option)
+  pub one_journal : once_if p.journal ++ filter_map journal_in pieces ≡ once_if journal
   pub one_input : option_to_list p.input ++ filter_map input_in pieces ≡ option_to_list input
 
 pub record BeginsRest (p : Parts) (ws : Words) : Type 0 where

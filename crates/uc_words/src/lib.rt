@@ -1,8 +1,10 @@
 // The words of a command line: the job that they ask for, or the first word at fault.
 #![tactic(auto)]
 
+mod commands;
 mod job;
 mod number;
+mod numbers;
 mod pieces;
 #[cfg(test)]
 mod tests;

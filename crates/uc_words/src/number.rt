@@ -3,10 +3,12 @@
 ghost use Rattle.std.specs.Prelude.{◌≡◌, ◌↔◌, ℕ, ◌<◌, ◌≤◌, IfSome, IfNone, IsTrue, EachIndex, slice_index};
 ghost use Rattle.uc_tree.specs.Bytes.{is_digit};
 ghost use Rattle.uc_tree.specs.Tokens.{value_of};
+ghost use Rattle.uc_tree.specs.declared.limits.TheConstants.{TICKS_MAX};
 ghost use Rattle.uc_words.specs.Words.{IsValue, is_plain};
 
 /// The number that a word writes, if it is one from `least` to `most`.
-pub fn read_number(word: &str, least: u32, most: u32) -> Option<u32>
+pub fn read_number(word: &str, least: u64, most: u64) -> Option<u64>
+    requires { most ≤ TICKS_MAX }
     ensures number { IfSome result (λ n. IsValue least most word.now n) }
     ensures none { IfNone result ((n : ℕ) → IsValue least most word.now n → ⊥) }
 {
@@ -49,7 +51,8 @@ fn is_digit(byte: u8) -> bool
 }
 
 // The value of digits, unless it is above `most`.
-fn value_up_to(digits: &[u8], most: u32) -> Option<u32>
+fn value_up_to(digits: &[u8], most: u64) -> Option<u64>
+    requires { most ≤ TICKS_MAX }
     ensures value { IfSome result (λ n. n ≡ value_of digits.now) }
     ensures small { IfSome result (λ n. n ≤ most) }
     ensures wide { IfNone result (most < value_of digits.now) }
@@ -57,9 +60,9 @@ fn value_up_to(digits: &[u8], most: u32) -> Option<u32>
     let mut value: u64 = 0;
     for digit in digits {
         value = value * 10 + u64::from(digit.saturating_sub(b'0'));
-        if value > u64::from(most) {
+        if value > most {
             return None;
         }
     }
-    Some(value as u32)
+    Some(value)
 }

@@ -1,16 +1,16 @@
 // Reads one piece of a line `run`: its file, or an option with its value.
 
-ghost use Rattle.std.specs.Prelude.{◌≡◌, ◌+◌, ◌≤◌, [], ◌∷◌, IfOk, IfErr, map, string_bytes, length, codes, if◌then◌else◌, option_copied};
-ghost use Rattle.uc_words.specs.Words.{Command, RunFile, options_with, is_name};
-ghost use Rattle.uc_words.specs.Rest.{command_of, number_of, parts_of, words_of, Goes, BadRest, Leads};
+ghost use Rattle.std.specs.Prelude.{◌≡◌, ◌+◌, ◌≤◌, [], ◌∷◌, IfOk, IfErr, map, string_bytes, length, codes, if◌then◌else◌};
+ghost use Rattle.uc_words.specs.declared.numbers.NumberOption.{NumberOption};
+ghost use Rattle.uc_words.specs.Words.{Command, RunFile, options_with, option_word, is_name};
+ghost use Rattle.uc_words.specs.Rest.{command_of, number_of, parts_of, words_of, words_of_numbers, Goes, BadRest, Leads};
 
 use crate::job::{Job, WordsFault};
 use crate::number::read_number;
-use crate::told::Told;
+use crate::numbers::NumberOption;
+use crate::told::{Told, has_number, with_number};
 use uc_meaning::entry::Options;
-use uc_tree::limits::{
-    ENTRIES_DEFAULT, ENTRIES_MAX, ENTRIES_MIN, PROCESSORS_DEFAULT, SLICE_DEFAULT, TICKS_DEFAULT,
-};
+use uc_tree::limits::{ENTRIES_DEFAULT, PROCESSORS_DEFAULT, SLICE_DEFAULT, TICKS_DEFAULT};
 
 /// What is told once a piece is read, and the words behind it.
 #[derive(Clone, Copy)]
@@ -29,8 +29,12 @@ pub fn read_piece<'a>(
     ensures shorter { IfOk result (λ step. length step.rest.now ≤ length behind.now) }
     ensures fault { IfErr result (λ fault. BadRest (parts_of told.entry) (word.now ∷ map string_bytes behind.now) (number_of fault)) }
 {
-    if word == "--entries" {
-        let step = read_entries(behind, told)?;
+    if let Some(option) = NumberOption::spelled(word) {
+        let step = read_option(option, behind, told)?;
+        return Ok(step);
+    }
+    if word == "--journal" {
+        let step = read_journal(behind, told)?;
         return Ok(step);
     }
     if word == "--input" {
@@ -47,7 +51,8 @@ fn read_file<'a>(
     behind: &'a [String],
     told: Told<'a>,
 ) -> Result<Step<'a>, WordsFault>
-    requires no_entries { word.now ≡ codes "--entries" → ⊥ }
+    requires no_number { (option : NumberOption) → word.now ≡ option_word option → ⊥ }
+    requires no_journal { word.now ≡ codes "--journal" → ⊥ }
     requires no_input { word.now ≡ codes "--input" → ⊥ }
     ensures leads { IfOk result (λ step. Leads (parts_of told.entry) (word.now ∷ map string_bytes behind.now) (parts_of step.told) (map string_bytes step.rest.now)) }
     ensures shorter { IfOk result (λ step. length step.rest.now ≤ length behind.now) }
@@ -69,26 +74,46 @@ fn read_file<'a>(
     })
 }
 
-// Reads the value behind `--entries`.
-fn read_entries<'a>(behind: &'a [String], told: Told<'a>) -> Result<Step<'a>, WordsFault>
-    ensures leads { IfOk result (λ step. Leads (parts_of told.entry) (codes "--entries" ∷ map string_bytes behind.now) (parts_of step.told) (map string_bytes step.rest.now)) }
+// Reads the value behind an option that has a number.
+fn read_option<'a>(
+    option: NumberOption,
+    behind: &'a [String],
+    told: Told<'a>,
+) -> Result<Step<'a>, WordsFault>
+    ensures leads { IfOk result (λ step. Leads (parts_of told.entry) (option_word option ∷ map string_bytes behind.now) (parts_of step.told) (map string_bytes step.rest.now)) }
     ensures shorter { IfOk result (λ step. length step.rest.now ≤ length behind.now) }
-    ensures fault { IfErr result (λ fault. BadRest (parts_of told.entry) (codes "--entries" ∷ map string_bytes behind.now) (number_of fault)) }
+    ensures fault { IfErr result (λ fault. BadRest (parts_of told.entry) (option_word option ∷ map string_bytes behind.now) (number_of fault)) }
 {
-    if told.entries.is_some() {
+    if has_number(told, option) {
         return Err(fault_at(told, 1));
     }
     let Some((digits, rest)) = behind.split_first() else {
         return Err(fault_at(told, 2));
     };
-    let Some(entries) = read_number(digits.as_str(), ENTRIES_MIN, ENTRIES_MAX) else {
+    let Some(number) = read_number(digits.as_str(), option.least(), option.most()) else {
         return Err(fault_at(told, 2));
     };
+    let more = with_number(told, option, number);
+    Ok(Step { told: more, rest })
+}
+
+// Reads `--journal`, which has no value.
+fn read_journal<'a>(behind: &'a [String], told: Told<'a>) -> Result<Step<'a>, WordsFault>
+    ensures leads { IfOk result (λ step. Leads (parts_of told.entry) (codes "--journal" ∷ map string_bytes behind.now) (parts_of step.told) (map string_bytes step.rest.now)) }
+    ensures shorter { IfOk result (λ step. length step.rest.now ≤ length behind.now) }
+    ensures fault { IfErr result (λ fault. BadRest (parts_of told.entry) (codes "--journal" ∷ map string_bytes behind.now) (number_of fault)) }
+{
+    if told.journal {
+        return Err(fault_at(told, 1));
+    }
     let more = Told {
-        entries: Some(entries),
+        journal: true,
         ..told
     };
-    Ok(Step { told: more, rest })
+    Ok(Step {
+        told: more,
+        rest: behind,
+    })
 }
 
 // Reads the name behind `--input`.
@@ -123,25 +148,26 @@ pub fn finish(told: Told<'_>) -> Result<Job<'_>, WordsFault>
     match told.file {
         None => Err(fault_at(told, 1)),
         Some(file) => {
-            let job = job_of(file, told.entries, told.input);
+            let job = job_of(file, told);
             Ok(job)
         }
     }
 }
 
 // The job of a file and what its options say.
-fn job_of<'a>(file: &'a str, entries: Option<u32>, input: Option<&'a str>) -> Job<'a>
-    ensures { command_of result ≡ RunFile file.now (options_with entries) (option_copied input.entry) }
+fn job_of<'a>(file: &'a str, told: Told<'a>) -> Job<'a>
+    ensures { command_of result ≡ RunFile file.now (options_with (parts_of told.entry).numbers) (parts_of told.entry).journal (parts_of told.entry).input }
 {
     Job::Run {
         file,
         opts: Options {
-            processors: PROCESSORS_DEFAULT,
+            processors: told.processors.unwrap_or(PROCESSORS_DEFAULT),
             slice: SLICE_DEFAULT,
             ticks: TICKS_DEFAULT,
-            entries: entries.unwrap_or(ENTRIES_DEFAULT),
+            entries: told.entries.unwrap_or(ENTRIES_DEFAULT),
         },
-        input,
+        journal: told.journal,
+        input: told.input,
     }
 }
 
@@ -151,11 +177,22 @@ fn fault_at(told: Told<'_>, ahead: u32) -> WordsFault
     ensures { number_of result ≡ words_of (parts_of told.entry) + ahead }
 {
     let file = worth(told.file.is_some(), 1);
-    let entries = worth(told.entries.is_some(), 2);
+    let numbers = words_of_numbers(told);
+    let journal = worth(told.journal, 1);
     let input = worth(told.input.is_some(), 2);
     WordsFault::Word {
-        number: 1 + file + entries + input + ahead,
+        number: 1 + file + numbers + journal + input + ahead,
     }
+}
+
+// How many words told the numbers.
+fn words_of_numbers(told: Told<'_>) -> u32
+    ensures words { result ≡ words_of_numbers (parts_of told.entry).numbers }
+    ensures few { result ≤ 4 }
+{
+    let processors = worth(told.processors.is_some(), 2);
+    let entries = worth(told.entries.is_some(), 2);
+    processors + entries
 }
 
 // How many words told a part.
@@ -165,8 +202,8 @@ fn worth(told: bool, words: u32) -> u32
     if told { words } else { 0 }
 }
 
-// Whether a word may be a name: it is not empty and does not begin with `-`.
-fn is_name(word: &str) -> bool
+/// Whether a word may be a name: it is not empty and does not begin with `-`.
+pub(crate) fn is_name(word: &str) -> bool
     ensures { result ≡ is_name word.now }
 {
     match word.as_bytes() {

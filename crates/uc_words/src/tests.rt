@@ -14,6 +14,15 @@ fn words_of(alloc: Global, words: &[&str]) -> Result<Vec<String>, AllocError> {
 }
 
 fn run<'a>(file: &'a str, entries: u32, input: Option<&'a str>) -> Result<Job<'a>, WordsFault> {
+    full(file, entries, false, input)
+}
+
+fn full<'a>(
+    file: &'a str,
+    entries: u32,
+    journal: bool,
+    input: Option<&'a str>,
+) -> Result<Job<'a>, WordsFault> {
     Ok(Job::Run {
         file,
         opts: Options {
@@ -22,6 +31,7 @@ fn run<'a>(file: &'a str, entries: u32, input: Option<&'a str>) -> Result<Job<'a
             ticks: 10_000_000,
             entries,
         },
+        journal,
         input,
     })
 }
@@ -33,7 +43,7 @@ fn bad<'a>(number: u32) -> Result<Job<'a>, WordsFault> {
 #[test]
 fn lines(rt: HostRuntime) -> Result<(), Fail> {
     let alloc = rt.alloc();
-    let table: [(&[&str], Result<Job<'_>, WordsFault>); 30] = [
+    let table: [(&[&str], Result<Job<'_>, WordsFault>); 55] = [
         (&["run", "a.cc"], run("a.cc", 200_000, None)),
         (
             &["run", "--entries", "64", "a.cc", "--input", "b"],
@@ -79,6 +89,72 @@ fn lines(rt: HostRuntime) -> Result<(), Fail> {
             &["run", "--input", "b", "--entries", "64", "--input"],
             bad(6),
         ),
+        (
+            &[
+                "run",
+                "--processors",
+                "1",
+                "--journal",
+                "a.cc",
+                "--entries",
+                "64",
+            ],
+            full("a.cc", 64, true, None),
+        ),
+        (
+            &[
+                "run",
+                "--input",
+                "b",
+                "--entries",
+                "64",
+                "--journal",
+                "a.cc",
+                "--processors",
+                "1",
+            ],
+            full("a.cc", 64, true, Some("b")),
+        ),
+        (
+            &[
+                "run",
+                "--input",
+                "b",
+                "--entries",
+                "64",
+                "--journal",
+                "a.cc",
+                "--processors",
+                "1",
+                "x",
+            ],
+            bad(10),
+        ),
+        (&["run", "a.cc", "--slice", "5"], bad(3)),
+        (&["run", "a.cc", "--processors", "2"], bad(4)),
+        (&["run", "a.cc", "--processors", "0"], bad(4)),
+        (&["run", "a.cc", "--processors"], bad(4)),
+        (&["run", "--journal", "a.cc", "--journal"], bad(4)),
+        (&["run", "--journal", "--journal"], bad(3)),
+        (
+            &["run", "--processors", "1", "--processors", "1", "a.cc"],
+            bad(4),
+        ),
+        (&["run", "--journal"], bad(3)),
+        (&["check", "a.cc"], Ok(Job::Check { file: "a.cc" })),
+        (&["lower", "a.cc"], Ok(Job::Lower { file: "a.cc" })),
+        (&["make", "1"], Ok(Job::Make { n: 1 })),
+        (&["make", "1000"], Ok(Job::Make { n: 1_000 })),
+        (&["check"], bad(2)),
+        (&["check", "-a"], bad(2)),
+        (&["check", "a.cc", "--journal"], bad(3)),
+        (&["lower", ""], bad(2)),
+        (&["lower", "a.cc", "b.cc"], bad(3)),
+        (&["make"], bad(2)),
+        (&["make", "0"], bad(2)),
+        (&["make", "1001"], bad(2)),
+        (&["make", "040"], bad(2)),
+        (&["make", "40", "50"], bad(3)),
     ];
     for (words, answer) in &table {
         let list = words_of(alloc, *words)?;

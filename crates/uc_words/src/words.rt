@@ -4,6 +4,7 @@ ghost use Rattle.std.specs.Prelude.{◌≡◌, ◌↔◌, IfOk, IfErr, IsTrue, c
 ghost use Rattle.uc_words.specs.Words.{Command, IsLine, IsFirstBad};
 ghost use Rattle.uc_words.specs.Rest.{command_of, number_of, nothing, Goes, BadRest};
 
+use crate::commands::{read_make, read_name};
 use crate::job::{Job, WordsFault};
 use crate::pieces::{finish, read_piece};
 use crate::told::Told;
@@ -17,18 +18,32 @@ pub fn read_words(words: &[String]) -> Result<Job<'_>, WordsFault>
     let Some((command, rest)) = words.split_first() else {
         return Err(WordsFault::Word { number: 1 });
     };
-    if !is_run(command.as_str()) {
-        return Err(WordsFault::Word { number: 1 });
+    let command = command.as_str();
+    if command == "run" {
+        return match read_run(rest) {
+            Ok(job) => Ok(job),
+            Err(fault) => Err(fault),
+        };
     }
-    let job = read_run(rest)?;
-    Ok(job)
-}
-
-// Whether a word is the command `run`.
-fn is_run(word: &str) -> bool
-    ensures { IsTrue result ↔ (word.now ≡ codes "run") }
-{
-    word == "run"
+    if command == "check" {
+        return match read_name(rest) {
+            Ok(file) => Ok(Job::Check { file }),
+            Err(fault) => Err(fault),
+        };
+    }
+    if command == "lower" {
+        return match read_name(rest) {
+            Ok(file) => Ok(Job::Lower { file }),
+            Err(fault) => Err(fault),
+        };
+    }
+    if command == "make" {
+        return match read_make(rest) {
+            Ok(n) => Ok(Job::Make { n }),
+            Err(fault) => Err(fault),
+        };
+    }
+    Err(WordsFault::Word { number: 1 })
 }
 
 // What stands behind `run`.
@@ -39,7 +54,9 @@ fn read_run(words: &[String]) -> Result<Job<'_>, WordsFault>
 {
     let mut told = Told {
         file: None,
+        processors: None,
         entries: None,
+        journal: false,
         input: None,
     };
     let mut rest = words;

@@ -3,7 +3,7 @@ use Rattle.uc_top.proofs.Leave.{finish, told_why, untold}
 use Rattle.uc_top.proofs.top.work.Goals as goal
 
 pub returns-in-Ok-clause-leaves : goal.returns-in-Ok-clause-leaves
-returns-in-Ok-clause-leaves g c = finish _ c.in-Ok.ensures.ran c.deref.ensures.value c.put_run-status.ensures
+returns-in-Ok-clause-leaves g c = finish _ c.in-Ok.ensures.done c.deref.ensures.value c.put_run-status.ensures
 
 pub returns-in-Ok-put_refusal-clause-leaves : goal.returns-in-Ok-put_refusal-clause-leaves
 returns-in-Ok-put_refusal-clause-leaves g c =

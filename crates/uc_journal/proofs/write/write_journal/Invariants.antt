@@ -1,6 +1,0 @@
-use Rattle.std.proofs.Common.{◌≡◌, take}
-use Rattle.uc_meaning.specs.Texts as texts
-use Rattle.uc_journal.proofs.write.write_journal.Given as goal
-
-abbrev pub invariant-loop-e : goal.invariant-loop-e
-invariant-loop-e l = l.text.items ≡ texts.text (take l.e-index l.j)
