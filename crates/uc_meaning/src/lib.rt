@@ -7,3 +7,4 @@ pub mod got;
 pub mod list;
 pub mod request;
 pub mod rule;
+pub mod rules;
