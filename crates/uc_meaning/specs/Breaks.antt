@@ -12,7 +12,7 @@ use Rattle.uc_meaning.specs.ProgramVisits.{program_visits, home_member}
 use Rattle.uc_meaning.specs.Entities.{fits}
 use Rattle.uc_meaning.specs.Asked.{unless, asked, of_sort}
 use Rattle.uc_meaning.specs.ExpressionBreaks.{undeclared, is_new, is_maybe_new, main_called, no_scalar, no_place, no_routine, no_loop, length_breaks, length_value_breaks, start_breaks, return_breaks, may_name, bad_clause, no_event, is_no_event, raise_breaks, no_handler, no_stream}
-use Rattle.uc_meaning.specs.ClassBreaks.{is_new_member, is_new_routine, home_leads_back, is_well_mained, sig_breaks, param_breaks, has_room, constant_breaks, is_field_sort, init_count_breaks, may_init, inits_breaks, is_well_built, is_well_marked, is_field_of, is_sound_event}
+use Rattle.uc_meaning.specs.ClassBreaks.{is_new_field, fields_at, is_new_routine, home_leads_back, is_well_mained, sig_breaks, param_breaks, has_room, constant_breaks, is_field_sort, init_count_breaks, may_init, inits_breaks, is_well_built, is_well_marked, is_field_of, is_sound_event}
 use Rattle.uc_meaning.specs.ItemBreaks.{main_breaks, item_name, item_pos, is_new_item, item_breaks, is_sound_member}
 use Rattle.uc_meaning.specs.OwnerBreaks.{unshared_reference, field_outside, called_outside, lone_condition, unbound_reference, unowned_argument, copied_object, no_target, misplaced}
 
@@ -21,8 +21,8 @@ abbrev pub declared_twice : Visit → List Break
 declared_twice (AtVariable env b d) = unless (is_new env d.name) S2 d.pos
 declared_twice (AtParam env x) = unless (is_new env x.name) S2 x.pos
 declared_twice (AtCaught env p name) = unless (is_maybe_new env name) S2 p
-declared_twice (AtField env c a b d field n) = unless (is_new_member c n d.name) S2 d.pos
-declared_twice (AtRoutine env c proto sig member n) = unless (is_new_routine c n sig) S2 sig.pos
+declared_twice (AtField env c a b d field) = unless (is_new_field c field (fields_at c field.member) d.name) S2 d.pos
+declared_twice (AtRoutine env c proto sig member) = unless (is_new_routine c member sig) S2 sig.pos
 declared_twice (AtItem p x place) = unless (is_new_item p x place (item_name x)) S2 (item_pos x)
 declared_twice _ = []
 
@@ -33,12 +33,12 @@ no_main _ = []
 
 -- S4
 abbrev pub within_itself : Visit → List Break
-within_itself (AtField env c a b d field n) = unless (not (home_leads_back env.program env.around.home b d)) S4 d.pos
+within_itself (AtField env c a b d field) = unless (not (home_leads_back env.program env.around.home b d)) S4 d.pos
 within_itself _ = []
 
 -- S5
 abbrev pub badly_defined : Visit → List Break
-badly_defined (AtRoutine env c proto sig member n) = unless (is_sound_member env.program c proto sig member) S5 sig.pos
+badly_defined (AtRoutine env c proto sig member) = unless (is_sound_member env.program c proto sig member) S5 sig.pos
 badly_defined (AtItem p x place) = item_breaks p x place
 badly_defined _ = []
 
@@ -62,27 +62,27 @@ bad_return _ = []
 -- S14
 abbrev pub no_length : Visit → List Break
 no_length (AtVariable env b d) = length_breaks env d.by_ref d.len d.pos
-no_length (AtField env c a b d field n) = length_breaks env d.by_ref d.len d.pos
+no_length (AtField env c a b d field) = length_breaks env d.by_ref d.len d.pos
 no_length (AtClass env c place) = unless (has_room env.program c place) S14 c.pos
 no_length _ = []
 
 -- S15
 abbrev pub no_constant : Visit → List Break
 no_constant (AtVariable env b d) = length_value_breaks env d.len
-no_constant (AtField env c a b d field n) = length_value_breaks env d.len
+no_constant (AtField env c a b d field) = length_value_breaks env d.len
 no_constant (AtConstant env c) = constant_breaks env c
 no_constant _ = []
 
 -- S16
 abbrev pub bad_start : Visit → List Break
 bad_start (AtVariable env b d) = start_breaks env b d d.len
-bad_start (AtField env c a b d field n) = of_sort (sort_of env.program b) (is_field_sort env.program d) S16 d.pos
-bad_start (AtInit env x greatest) = init_count_breaks env x (home_member env.program env.around.home x.name)
+bad_start (AtField env c a b d field) = of_sort (sort_of env.program b) (is_field_sort env.program d) S16 d.pos
+bad_start (AtInit env x last) = init_count_breaks env x (home_member env.program env.around.home x.name)
 bad_start _ = []
 
 -- S17
 abbrev pub bad_init : Visit → List Break
-bad_init (AtInit env x greatest) = unless (may_init greatest (home_member env.program env.around.home x.name)) S17 x.pos
+bad_init (AtInit env x last) = unless (may_init last (home_member env.program env.around.home x.name)) S17 x.pos
 bad_init (AtInits env sig inits) = inits_breaks env sig inits
 bad_init (AtClass env c place) = unless (is_well_built env.program c) S17 c.pos
 bad_init _ = []
@@ -90,7 +90,7 @@ bad_init _ = []
 -- S18
 abbrev pub not_open : Visit → List Break
 not_open (AtMember env sign called name w) = asked w (may_name env name) S18 sign
-not_open (AtField env c a b d field n) = unless (not (is_coroutine c.kind && is_public a)) S18 d.pos
+not_open (AtField env c a b d field) = unless (not (is_coroutine c.kind && is_public a)) S18 d.pos
 not_open _ = []
 
 -- S19
@@ -101,7 +101,7 @@ badly_marked _ = []
 -- S22
 abbrev pub bad_event : Visit → List Break
 bad_event (AtVariable env b d) = of_sort (sort_of env.program b) is_no_event S22 d.pos
-bad_event (AtField env c a b d field n) = of_sort (sort_of env.program b) (is_field_of c.kind d field) S22 d.pos
+bad_event (AtField env c a b d field) = of_sort (sort_of env.program b) (is_field_of c d field) S22 d.pos
 bad_event (AtClass env c place) = unless (is_sound_event env.program c place) S22 c.pos
 bad_event (AtRaise env p name n) = raise_breaks env p name n
 bad_event _ = []

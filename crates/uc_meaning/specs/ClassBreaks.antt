@@ -1,11 +1,10 @@
 -- What the rules ask of classes, signatures and initialisers.
-use Rattle.std.specs.Prelude.{ℕ, List, [], ◌∷◌, ◌++◌, Bool, true, false, not, ◌&&◌, ◌||◌, Option, Some, None, is_some, nat_eq, nat_lt, nat_le, length, take, map, option_and_then, if◌then◌else◌}
+use Rattle.std.specs.Prelude.{ℕ, ◌+◌, List, [], ◌∷◌, ◌++◌, Bool, true, false, not, ◌&&◌, ◌||◌, Option, Some, None, is_some, nat_eq, nat_lt, nat_le, length, take, map, option_and_then, slice_get, if◌then◌else◌}
 use Rattle.std.specs.List.{list_any, list_all}
 use Rattle.uc_tree.specs.declared.limits.TheConstants.{CLASS_CELLS, CLASS_CONDITIONS, EVENT_FIELDS, PROGRAM_EVENTS}
 use Rattle.uc_tree.specs.declared.rows.Object.{Object}
 use Rattle.uc_tree.specs.declared.kinds.Base.{Base}
 use Rattle.uc_tree.specs.declared.kinds.Base.TheVariants as base
-use Rattle.uc_tree.specs.declared.kinds.Kind.{Kind}
 use Rattle.uc_tree.specs.declared.kinds.Mark.{Mark}
 use Rattle.uc_tree.specs.declared.kinds.Mark.TheVariants as mark
 use Rattle.uc_tree.specs.declared.kinds.Owner.{Owner}
@@ -26,10 +25,11 @@ use Rattle.uc_meaning.specs.declared.rules.Entity.{Entity}
 use Rattle.uc_meaning.specs.declared.rules.Entity.TheVariants as entity
 use Rattle.uc_meaning.specs.declared.rules.Origin.{Origin}
 use Rattle.uc_meaning.specs.declared.rules.Origin.TheVariants as origin
+use Rattle.uc_meaning.specs.declared.rules.FieldPlace.{FieldPlace}
 use Rattle.uc_meaning.specs.declared.rules.Meant.{Meant}
 use Rattle.uc_meaning.specs.declared.rules.Home.{Home}
 use Rattle.uc_meaning.specs.Sorts.{is_scalar_sort, is_void, has_main, is_event_class, of_class, sort_of, class_at}
-use Rattle.uc_meaning.specs.Names.{is_constructor, constructor_among, constructor_params}
+use Rattle.uc_meaning.specs.Names.{is_constructor, constructor_among, constructor_params, is_field_before}
 use Rattle.uc_meaning.specs.Scopes.{Env}
 use Rattle.uc_meaning.specs.Entities.{entity_of, is_array, is_of_conditions, count}
 use Rattle.uc_meaning.specs.Asked.{unless, asked, of_sort}
@@ -51,13 +51,34 @@ abbrev pub members_declare : List Member → List (List ℕ)
 members_declare [] = []
 members_declare (m ∷ ms) = form_declares_names m.form ++ members_declare ms
 
--- whether none of the first n names that a class declares is this one
+-- whether none of the members before the place j declares this name
 abbrev pub is_new_member : Class → ℕ → List ℕ → Bool
-is_new_member c n name = not (list_any (λ x. same_name x name) (take n (members_declare c.members)) || same_name name unhandled_name)
+is_new_member c j name = not (list_any (λ x. same_name x name) (members_declare (take j c.members)) || same_name name unhandled_name)
+
+-- nor one of the fields before it in its own list
+abbrev pub is_new_field : Class → FieldPlace → List Declarator → List ℕ → Bool
+is_new_field c place ds name = is_new_member c place.member name && not (list_any (λ d. same_name d.name name) (take place.index ds))
+
+-- the fields of the member with this place
+abbrev pub form_fields : MemberForm → List Declarator
+form_fields (FieldsMember at b ds) = ds
+form_fields (RoutineMember r) = []
+form_fields (ProtoMember sig) = []
+
+abbrev pub member_fields : Option Member → List Declarator
+member_fields None = []
+member_fields (Some m) = form_fields m.form
+
+abbrev pub fields_at : Class → ℕ → List Declarator
+fields_at c j = member_fields (slice_get c.members j)
+
+abbrev pub fields_in : List Member → ℕ
+fields_in [] = 0
+fields_in (m ∷ ms) = length (form_fields m.form) + fields_in ms
 
 -- constructors and destructors have no name of their own
 abbrev pub is_new_routine : Class → ℕ → Sig → Bool
-is_new_routine c n sig = not (is_plain sig.role) || is_new_member c n sig.name
+is_new_routine c j sig = not (is_plain sig.role) || is_new_member c j sig.name
 
 -- S4: a field leads back to its class
 abbrev pub field_object : Program → Base → Declarator → Option Object
@@ -158,16 +179,20 @@ abbrev pub maybe_start : Option Entity → Bool
 maybe_start None = true
 maybe_start (Some w) = may_start w
 
-abbrev pub is_from : ℕ → Origin → Bool
-is_from greatest origin.Local = false
-is_from greatest (origin.Parameter by_ref) = false
-is_from greatest (origin.Field class k access by_ref i) = nat_le greatest i
-is_from greatest (origin.Method class access) = false
-is_from greatest origin.Outer = false
+abbrev pub is_behind : Option FieldPlace → FieldPlace → Bool
+is_behind None field = true
+is_behind (Some last) field = is_field_before last field
 
-abbrev pub may_init : ℕ → Option Meant → Bool
-may_init greatest None = false
-may_init greatest (Some m) = is_from greatest m.origin && maybe_start m.entity
+abbrev pub is_from : Option FieldPlace → Origin → Bool
+is_from last origin.Local = false
+is_from last (origin.Parameter by_ref) = false
+is_from last (origin.Field class k access by_ref i) = is_behind last i
+is_from last (origin.Method class access) = false
+is_from last origin.Outer = false
+
+abbrev pub may_init : Option FieldPlace → Option Meant → Bool
+may_init last None = false
+may_init last (Some m) = is_from last m.origin && maybe_start m.entity
 
 -- the fields that need an initialiser: references, processors, and objects whose constructor has parameters
 abbrev pub sort_needs : Program → Sort → Bool
@@ -236,14 +261,17 @@ abbrev pub is_well_marked : Class → Member → Bool
 is_well_marked c m = (is_unmarked m.mark || (is_mutex c.kind && form_may_be_marked m.form)) && has_number c (exclusive_name m)
 
 -- S22: an event has at most two scalar fields, no other members but a constructor with an empty body; a program has at most 62
-abbrev pub is_event_field : Declarator → ℕ → Sort → Bool
-is_event_field d field s = is_scalar_sort s && (not d.by_ref && (not (is_some d.len) && nat_lt field EVENT_FIELDS))
+abbrev pub fields_before : Class → FieldPlace → ℕ
+fields_before c place = fields_in (take place.member c.members) + place.index
+
+abbrev pub is_event_field : Class → Declarator → FieldPlace → Sort → Bool
+is_event_field c d place s = is_scalar_sort s && (not d.by_ref && (not (is_some d.len) && nat_lt (fields_before c place) EVENT_FIELDS))
 
 abbrev pub is_no_event_sort : Sort → Bool
 is_no_event_sort s = not (of_class is_event_class s)
 
-abbrev pub is_field_of : Kind → Declarator → ℕ → Sort → Bool
-is_field_of k d field s = if is_event k then is_event_field d field s else is_no_event_sort s
+abbrev pub is_field_of : Class → Declarator → FieldPlace → Sort → Bool
+is_field_of c d place s = if is_event c.kind then is_event_field c d place s else is_no_event_sort s
 
 abbrev pub is_empty_body : Stmts → Bool
 is_empty_body NoStmts = true

@@ -1,5 +1,5 @@
 -- What the names of a program stand for: members of classes, and what all of the program sees.
-use Rattle.std.specs.Prelude.{ℕ, ◌+◌, List, [], ◌∷◌, Bool, true, false, not, ◌&&◌, ◌||◌, Option, Some, None, option_map, option_and_then, if◌then◌else◌, length, slice_get}
+use Rattle.std.specs.Prelude.{ℕ, ◌+◌, List, [], ◌∷◌, Bool, true, false, not, ◌&&◌, ◌||◌, Option, Some, None, option_map, option_and_then, if◌then◌else◌, nat_eq, nat_lt, slice_get}
 use Rattle.uc_tree.specs.declared.kinds.Base.{Base}
 use Rattle.uc_tree.specs.declared.kinds.Kind.{Kind}
 use Rattle.uc_tree.specs.declared.kinds.Access.{Access}
@@ -21,6 +21,7 @@ use Rattle.uc_meaning.specs.declared.rules.Entity.{Entity}
 use Rattle.uc_meaning.specs.declared.rules.Entity.TheVariants.{Value, Place, Array, Main, Method, ClassName}
 use Rattle.uc_meaning.specs.declared.rules.Entity.TheVariants as entity
 use Rattle.uc_meaning.specs.declared.rules.Origin.TheVariants as origin
+use Rattle.uc_meaning.specs.declared.rules.FieldPlace.{FieldPlace}
 use Rattle.uc_meaning.specs.declared.rules.Meant.{Meant}
 use Rattle.uc_meaning.specs.Sorts.{sort_of, class_at}
 
@@ -61,16 +62,23 @@ is_nomutex mark.Nomutex = true
 abbrev pub is_inner_only : Kind → Mark → Access → Bool
 is_inner_only k m a = is_mutex k && not (is_exclusive m a || (is_nomutex m && is_public a))
 
-abbrev pub field_meant : Program → Owned → Access → ℕ → Base → Declarator → Meant
-field_meant p o a i b d = record {
+abbrev pub place_in : ℕ → ℕ → FieldPlace
+place_in j i = record { member = j; index = i }
+
+-- whether a field stands before another one of its class
+abbrev pub is_field_before : FieldPlace → FieldPlace → Bool
+is_field_before x y = nat_lt x.member y.member || (nat_eq x.member y.member && nat_lt x.index y.index)
+
+abbrev pub field_meant : Program → Owned → Access → FieldPlace → Base → Declarator → Meant
+field_meant p o a place b d = record {
   entity = declared_entity p b d (elements (seen_in (constants_of p.items) o.class) d);
-  origin = origin.Field o.place o.class.kind a d.by_ref i;
+  origin = origin.Field o.place o.class.kind a d.by_ref place;
 }
 
--- fields, of which the first of the list has the place i among those of the class
-abbrev pub field_named : Program → Owned → Access → ℕ → Base → List Declarator → List ℕ → Option Meant
-field_named p o a i b [] name = None
-field_named p o a i b (d ∷ ds) name = if same_name d.name name then Some (field_meant p o a i b d) else field_named p o a (i + 1) b ds name
+-- the fields of the member with the place j, of which the first has the place i
+abbrev pub field_named : Program → Owned → Access → ℕ → ℕ → Base → List Declarator → List ℕ → Option Meant
+field_named p o a j i b [] name = None
+field_named p o a j i b (d ∷ ds) name = if same_name d.name name then Some (field_meant p o a (place_in j i) b d) else field_named p o a j (i + 1) b ds name
 
 -- constructors and destructors have no name of their own
 abbrev pub method_named : Owned → Mark → Access → ℕ → Sig → List ℕ → Option Meant
@@ -79,28 +87,23 @@ method_named o m a j sig name =
         Some (record { entity = Some (Method o.place j (is_inner_only o.class.kind m a) false); origin = origin.Method o.place a })
     else None
 
-abbrev pub form_named : Program → Owned → Mark → Access → ℕ → ℕ → MemberForm → List ℕ → Option Meant
-form_named p o m a j i (FieldsMember at b ds) name = field_named p o a i b ds name
-form_named p o m a j i (RoutineMember r) name = method_named o m a j r.sig name
-form_named p o m a j i (ProtoMember sig) name = method_named o m a j sig name
-
-abbrev pub fields_in : MemberForm → ℕ
-fields_in (FieldsMember at b ds) = length ds
-fields_in (RoutineMember r) = 0
-fields_in (ProtoMember sig) = 0
+abbrev pub form_named : Program → Owned → Mark → Access → ℕ → MemberForm → List ℕ → Option Meant
+form_named p o m a j (FieldsMember at b ds) name = field_named p o a j 0 b ds name
+form_named p o m a j (RoutineMember r) name = method_named o m a j r.sig name
+form_named p o m a j (ProtoMember sig) name = method_named o m a j sig name
 
 abbrev pub first_of : {A : Type 0} → Option A → Option A → Option A
 first_of (Some x) other = Some x
 first_of None other = other
 
 -- of members with one name the first is meant
-abbrev pub members_named : Program → Owned → ℕ → ℕ → List Member → List ℕ → Option Meant
-members_named p o j i [] name = None
-members_named p o j i (m ∷ ms) name = first_of (form_named p o m.mark m.access j i m.form name) (members_named p o (j + 1) (i + fields_in m.form) ms name)
+abbrev pub members_named : Program → Owned → ℕ → List Member → List ℕ → Option Meant
+members_named p o j [] name = None
+members_named p o j (m ∷ ms) name = first_of (form_named p o m.mark m.access j m.form name) (members_named p o (j + 1) ms name)
 
 abbrev pub member_in : Program → ℕ → Option Class → List ℕ → Option Meant
 member_in p i None name = None
-member_in p i (Some c) name = members_named p (record { place = i; class = c }) 0 0 c.members name
+member_in p i (Some c) name = members_named p (record { place = i; class = c }) 0 c.members name
 
 -- a member of the class with this place
 abbrev pub member_named : Program → ℕ → List ℕ → Option Meant

@@ -1,5 +1,5 @@
 -- The rules on who owns what, each on one visit of the walk.
-use Rattle.std.specs.Prelude.{ℕ, ◌+◌, List, [], ◌∷◌, Bool, true, false, not, ◌&&◌, ◌||◌, Option, Some, None, is_some, nat_eq, nat_lt, if◌then◌else◌}
+use Rattle.std.specs.Prelude.{ℕ, ◌+◌, List, [], ◌∷◌, Bool, true, false, not, ◌&&◌, ◌||◌, Option, Some, None, is_some, if◌then◌else◌}
 use Rattle.std.specs.List.{list_any, list_all}
 use Rattle.uc_tree.specs.declared.pos.Pos.{Pos}
 use Rattle.uc_tree.specs.declared.kinds.Base.{Base}
@@ -18,12 +18,13 @@ use Rattle.uc_meaning.specs.declared.rules.Entity.TheVariants as entity
 use Rattle.uc_meaning.specs.declared.rules.Expected.{Expected}
 use Rattle.uc_meaning.specs.declared.rules.Origin.{Origin}
 use Rattle.uc_meaning.specs.declared.rules.Origin.TheVariants as origin
+use Rattle.uc_meaning.specs.declared.rules.FieldPlace.{FieldPlace}
 use Rattle.uc_meaning.specs.declared.rules.Meant.{Meant}
 use Rattle.uc_meaning.specs.declared.rules.Home.{Home}
 use Rattle.uc_meaning.specs.declared.rules.Bound.{Bound}
 use Rattle.uc_meaning.specs.declared.rules.Around.{Around}
 use Rattle.uc_meaning.specs.Sorts.{is_scalar_sort, is_condition, is_cluster, is_coroutine, is_cormonitor, is_plain_class, is_mutex_class, is_coroutine_class, is_task_class, of_class, sort_of, class_at}
-use Rattle.uc_meaning.specs.Names.{is_constructor, fields_in, member_named}
+use Rattle.uc_meaning.specs.Names.{is_constructor, member_named, place_in, is_field_before}
 use Rattle.uc_meaning.specs.Scopes.{Env, named}
 use Rattle.uc_meaning.specs.Entities.{value_test, none_of, is_object, is_of_conditions, is_operation, path_member}
 use Rattle.uc_meaning.specs.ClassBreaks.{is_owner}
@@ -116,7 +117,7 @@ lone_condition (AtRaiseTarget p w) = asked w is_no_condition O4 p
 lone_condition (AtMigrate p w) = asked w is_no_condition O4 p
 lone_condition (AtVariable env b d) = of_sort (sort_of env.program b) is_no_condition_sort O4 d.pos
 lone_condition (AtParam env x) = of_sort (sort_of env.program x.base) is_no_condition_sort O4 x.pos
-lone_condition (AtField env c a b d field n) = condition_field_breaks env b d
+lone_condition (AtField env c a b d place) = condition_field_breaks env b d
 lone_condition _ = []
 
 -- O5: a reference is bound only as a parameter or by an initialiser, and no scalar or plain object is a reference field of a mutex
@@ -191,7 +192,7 @@ reference_breaks env c (Some h) b d = if d.by_ref && is_mutex h.kind then of_sor
 
 abbrev pub unbound_reference : Visit → List Break
 unbound_reference (AtVariable env b d) = unless (not d.by_ref) O5 d.pos
-unbound_reference (AtField env c a b d field n) = reference_breaks env c env.around.home b d
+unbound_reference (AtField env c a b d place) = reference_breaks env c env.around.home b d
 unbound_reference _ = []
 
 -- O6: an argument of an initialiser for a reference begins with a reference parameter or a field, and its names without a path
@@ -229,36 +230,37 @@ is_bare_field p b d = not d.by_ref && (not (is_some d.len) && is_bare_sort p (so
 abbrev pub may_stand_between : Program → Base → Declarator → Bool
 may_stand_between p b d = is_bare_field p b d || is_simple_field p b d
 
--- the fields of a class from the place i on: those at the places `from` and `to` are bare, and what is between them may stand there
-abbrev pub is_within : ℕ → ℕ → ℕ → Bool
-is_within from to i = not (nat_lt i from) && not (nat_lt to i)
+-- the two fields at the ends are bare, and what is between them may stand there
+abbrev pub is_outside : FieldPlace → FieldPlace → FieldPlace → Bool
+is_outside from to place = is_field_before place from || is_field_before to place
 
-abbrev pub is_end : ℕ → ℕ → ℕ → Bool
-is_end from to i = nat_eq i from || nat_eq i to
+abbrev pub is_inside : FieldPlace → FieldPlace → FieldPlace → Bool
+is_inside from to place = is_field_before from place && is_field_before place to
 
-abbrev pub span_allows : Program → ℕ → ℕ → ℕ → Base → Declarator → Bool
-span_allows p from to i b d = not (is_within from to i) || (if is_end from to i then is_bare_field p b d else may_stand_between p b d)
+abbrev pub span_allows : Program → FieldPlace → FieldPlace → FieldPlace → Base → Declarator → Bool
+span_allows p from to place b d = is_outside from to place || (is_bare_field p b d || (is_inside from to place && may_stand_between p b d))
 
-abbrev pub fields_allow : Program → ℕ → ℕ → ℕ → Base → List Declarator → Bool
-fields_allow p from to i b [] = true
-fields_allow p from to i b (d ∷ ds) = span_allows p from to i b d && fields_allow p from to (i + 1) b ds
+-- the fields of the member with the place j, of which the first has the place i
+abbrev pub fields_allow : Program → FieldPlace → FieldPlace → ℕ → ℕ → Base → List Declarator → Bool
+fields_allow p from to j i b [] = true
+fields_allow p from to j i b (d ∷ ds) = span_allows p from to (place_in j i) b d && fields_allow p from to j (i + 1) b ds
 
-abbrev pub form_allows : Program → ℕ → ℕ → ℕ → MemberForm → Bool
-form_allows p from to i (FieldsMember at b ds) = fields_allow p from to i b ds
-form_allows p from to i (RoutineMember r) = true
-form_allows p from to i (ProtoMember sig) = true
+abbrev pub form_allows : Program → FieldPlace → FieldPlace → ℕ → MemberForm → Bool
+form_allows p from to j (FieldsMember at b ds) = fields_allow p from to j 0 b ds
+form_allows p from to j (RoutineMember r) = true
+form_allows p from to j (ProtoMember sig) = true
 
-abbrev pub members_allow : Program → ℕ → ℕ → ℕ → List Member → Bool
-members_allow p from to i [] = true
-members_allow p from to i (m ∷ ms) = form_allows p from to i m.form && members_allow p from to (i + fields_in m.form) ms
+abbrev pub members_allow : Program → FieldPlace → FieldPlace → ℕ → List Member → Bool
+members_allow p from to j [] = true
+members_allow p from to j (m ∷ ms) = form_allows p from to j m.form && members_allow p from to (j + 1) ms
 
-abbrev pub class_allows : Program → ℕ → ℕ → Option Class → Bool
+abbrev pub class_allows : Program → FieldPlace → FieldPlace → Option Class → Bool
 class_allows p from to None = false
 class_allows p from to (Some c) = members_allow p from to 0 c.members
 
 -- a field with this place in an argument
-abbrev pub may_use_field : Program → Bound → ℕ → ℕ → Bool
-may_use_field p b class i = nat_lt i b.field || (b.whole && (nat_lt b.field i && class_allows p b.field i (class_at p class)))
+abbrev pub may_use_field : Program → Bound → ℕ → FieldPlace → Bool
+may_use_field p b class place = is_field_before place b.field || (b.whole && (is_field_before b.field place && class_allows p b.field place (class_at p class)))
 
 abbrev pub may_use_origin : Program → Bound → Origin → Bool
 may_use_origin p b origin.Local = true

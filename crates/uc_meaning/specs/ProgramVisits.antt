@@ -1,5 +1,5 @@
 -- The walk of the rules through whole programs.
-use Rattle.std.specs.Prelude.{ℕ, ◌+◌, List, [], ◌∷◌, ◌++◌, Bool, true, false, ◌&&◌, Option, Some, None, option_and_then, if◌then◌else◌, length, nat_le}
+use Rattle.std.specs.Prelude.{ℕ, ◌+◌, List, [], ◌∷◌, ◌++◌, Bool, true, false, ◌&&◌, Option, Some, None, option_and_then, if◌then◌else◌}
 use Rattle.uc_tree.specs.declared.kinds.Base.{Base}
 use Rattle.uc_tree.specs.declared.kinds.Access.{Access}
 use Rattle.uc_tree.specs.declared.kinds.Mark.{Mark}
@@ -21,6 +21,7 @@ use Rattle.uc_meaning.specs.declared.rules.Entity.{Entity}
 use Rattle.uc_meaning.specs.declared.rules.Entity.TheVariants as entity
 use Rattle.uc_meaning.specs.declared.rules.Origin.{Origin}
 use Rattle.uc_meaning.specs.declared.rules.Origin.TheVariants as origin
+use Rattle.uc_meaning.specs.declared.rules.FieldPlace.{FieldPlace}
 use Rattle.uc_meaning.specs.declared.rules.Meant.{Meant}
 use Rattle.uc_meaning.specs.declared.rules.Home.{Home}
 use Rattle.uc_meaning.specs.declared.rules.Bound.{Bound}
@@ -29,7 +30,7 @@ use Rattle.uc_meaning.specs.declared.rules.Expected.TheVariants.{Anything, Nothi
 use Rattle.uc_meaning.specs.declared.rules.Target.{Target}
 use Rattle.uc_meaning.specs.declared.rules.Target.TheVariants as target
 use Rattle.uc_meaning.specs.Sorts.{class_named, class_at}
-use Rattle.uc_meaning.specs.Names.{member_named, is_constructor, is_destructor, fields_in}
+use Rattle.uc_meaning.specs.Names.{member_named, is_constructor, is_destructor, place_in, is_field_before}
 use Rattle.uc_meaning.specs.Scopes.{Env, with_around, in_argument, no_around, class_around, plain_env, sig_around, with_param, with_params}
 use Rattle.uc_meaning.specs.Entities.{entity_of, expected}
 use Rattle.uc_meaning.specs.Visits.{Visit, AtBase, AtArgument, AtBound, AtInit, AtInits, AtSig, AtParam, AtField, AtRoutine, AtMark, AtClass, AtConstant, AtItem, AtProgram, visits, maybe_visits, stmts_visits, single_target}
@@ -50,7 +51,7 @@ sig_visits env sig = base_visits env sig ++ (AtSig env sig ∷ params_visits env
 -- initialisers
 
 -- the place of a field among those of its class; none for what is no field
-abbrev pub field_place : Origin → Option ℕ
+abbrev pub field_place : Origin → Option FieldPlace
 field_place origin.Local = None
 field_place (origin.Parameter by_ref) = None
 field_place (origin.Field class k access by_ref i) = Some i
@@ -61,7 +62,7 @@ abbrev pub home_member : Program → Option Home → List ℕ → Option Meant
 home_member p None name = None
 home_member p (Some h) name = member_named p h.class name
 
-abbrev pub field_of : Env → List ℕ → Option ℕ
+abbrev pub field_of : Env → List ℕ → Option FieldPlace
 field_of env name = option_and_then (λ m. field_place m.origin) (home_member env.program env.around.home name)
 
 -- to what the arguments of an initialiser go: a reference is bound to one
@@ -114,68 +115,64 @@ is_reference Nothing = false
 is_reference Scalar = false
 is_reference (Reference s) = true
 
-abbrev pub bound_of : Expr → Expected → ℕ → Bound
+abbrev pub bound_of : Expr → Expected → FieldPlace → Bound
 bound_of e x field = record { pos = expr_pos e; field = field; whole = is_name e && is_reference x }
 
 -- the environment of an argument of an initialiser of a field
-abbrev pub argument_env : Env → Option ℕ → Expr → Expected → Env
+abbrev pub argument_env : Env → Option FieldPlace → Expr → Expected → Env
 argument_env env None e x = env
 argument_env env (Some field) e x = with_around env (in_argument (bound_of e x field) env.around)
 
-abbrev pub init_arg_visits : Env → Option ℕ → Expr → Expected → List Visit
+abbrev pub init_arg_visits : Env → Option FieldPlace → Expr → Expected → List Visit
 init_arg_visits env field e x = visits (argument_env env field e x) e ++ (AtArgument (expr_pos e) x (entity_of (argument_env env field e x) e) ∷ (AtBound env e x ∷ []))
 
-abbrev pub init_args_visits : Env → Option ℕ → Exprs → Target → ℕ → List Visit
+abbrev pub init_args_visits : Env → Option FieldPlace → Exprs → Target → ℕ → List Visit
 init_args_visits env field NoExprs t i = []
 init_args_visits env field (MoreExprs e es) t i = init_arg_visits env field e (expected env.program t i) ++ init_args_visits env field es t (i + 1)
 
--- one more than the greatest place of a field that is named
-abbrev pub behind : ℕ → Option ℕ → ℕ
-behind greatest None = greatest
-behind greatest (Some field) = if nat_le greatest field then field + 1 else greatest
+-- the last of the fields that are named
+abbrev pub later_field : FieldPlace → FieldPlace → FieldPlace
+later_field x y = if is_field_before x y then y else x
 
-abbrev pub inits_visits : Env → ℕ → List Init → List Visit
-inits_visits env greatest [] = []
-inits_visits env greatest (x ∷ xs) = (init_args_visits env (field_of env x.name) x.args (init_target env x.name) 0 ++ AtInit env x greatest ∷ []) ++ inits_visits env (behind greatest (field_of env x.name)) xs
+abbrev pub last_field : Option FieldPlace → Option FieldPlace → Option FieldPlace
+last_field None field = field
+last_field (Some last) None = Some last
+last_field (Some last) (Some field) = Some (later_field last field)
+
+abbrev pub inits_visits : Env → Option FieldPlace → List Init → List Visit
+inits_visits env last [] = []
+inits_visits env last (x ∷ xs) = (init_args_visits env (field_of env x.name) x.args (init_target env x.name) 0 ++ AtInit env x last ∷ []) ++ inits_visits env (last_field last (field_of env x.name)) xs
 
 -- routines: the parameters and the outermost block are one scope
 
 abbrev pub body_visits : Env → Routine → List Visit
-body_visits env r = AtInits env r.sig r.inits ∷ (inits_visits env 0 r.inits ++ stmts_visits r.body env)
+body_visits env r = AtInits env r.sig r.inits ∷ (inits_visits env None r.inits ++ stmts_visits r.body env)
 
 abbrev pub routine_visits : Env → Routine → List Visit
 routine_visits env r = sig_visits env r.sig ++ body_visits (with_params env r.sig.params) r
 
 -- classes
 
-abbrev pub fields_visits : Env → Class → Access → Base → List Declarator → ℕ → ℕ → List Visit
-fields_visits env c a b [] i n = []
-fields_visits env c a b (d ∷ ds) i n = (maybe_visits env d.len ++ AtField env c a b d i n ∷ []) ++ fields_visits env c a b ds (i + 1) (n + 1)
+-- the fields of the member with the place j, of which the first has the place i
+abbrev pub fields_visits : Env → Class → Access → Base → ℕ → ℕ → List Declarator → List Visit
+fields_visits env c a b j i [] = []
+fields_visits env c a b j i (d ∷ ds) = (maybe_visits env d.len ++ AtField env c a b d (place_in j i) ∷ []) ++ fields_visits env c a b j (i + 1) ds
 
 abbrev pub sig_env : Program → Home → Mark → Sig → Env
 sig_env p h m sig = plain_env p (sig_around p (Some h) false m sig)
 
-abbrev pub form_visits : Program → Home → Class → Member → MemberForm → ℕ → ℕ → ℕ → List Visit
-form_visits p h c m (FieldsMember at b ds) j i n = AtBase (plain_env p (class_around h)) at b ∷ fields_visits (plain_env p (class_around h)) c m.access b ds i n
-form_visits p h c m (RoutineMember r) j i n = AtRoutine (plain_env p (class_around h)) c false r.sig j n ∷ routine_visits (sig_env p h m.mark r.sig) r
-form_visits p h c m (ProtoMember sig) j i n = AtRoutine (plain_env p (class_around h)) c true sig j n ∷ sig_visits (sig_env p h m.mark sig) sig
+abbrev pub form_visits : Program → Home → Class → ℕ → Mark → Access → MemberForm → List Visit
+form_visits p h c j m a (FieldsMember at b ds) = AtBase (plain_env p (class_around h)) at b ∷ fields_visits (plain_env p (class_around h)) c a b j 0 ds
+form_visits p h c j m a (RoutineMember r) = AtRoutine (plain_env p (class_around h)) c false r.sig j ∷ routine_visits (sig_env p h m r.sig) r
+form_visits p h c j m a (ProtoMember sig) = AtRoutine (plain_env p (class_around h)) c true sig j ∷ sig_visits (sig_env p h m sig) sig
 
--- how many names a member declares: constructors and destructors have none of their own
-abbrev pub sig_names : Sig → ℕ
-sig_names sig = if is_plain sig.role then 1 else 0
-
-abbrev pub names_in : MemberForm → ℕ
-names_in (FieldsMember at b ds) = length ds
-names_in (RoutineMember r) = sig_names r.sig
-names_in (ProtoMember sig) = sig_names sig
-
--- members, of which the first has the place j; i fields and n names stand before it
-abbrev pub members_visits : Program → Home → Class → List Member → ℕ → ℕ → ℕ → List Visit
-members_visits p h c [] j i n = []
-members_visits p h c (m ∷ ms) j i n = (AtMark (plain_env p (class_around h)) c m ∷ form_visits p h c m m.form j i n) ++ members_visits p h c ms (j + 1) (i + fields_in m.form) (n + names_in m.form)
+-- members, of which the first has the place j
+abbrev pub members_visits : Program → Home → Class → ℕ → List Member → List Visit
+members_visits p h c j [] = []
+members_visits p h c j (m ∷ ms) = (AtMark (plain_env p (class_around h)) c m ∷ form_visits p h c j m.mark m.access m.form) ++ members_visits p h c (j + 1) ms
 
 abbrev pub class_visits : Program → ℕ → Class → List Visit
-class_visits p k c = AtClass (plain_env p (class_around (record { class = k; kind = c.kind }))) c k ∷ members_visits p (record { class = k; kind = c.kind }) c c.members 0 0 0
+class_visits p k c = AtClass (plain_env p (class_around (record { class = k; kind = c.kind }))) c k ∷ members_visits p (record { class = k; kind = c.kind }) c 0 c.members
 
 -- routines that stand outside of their class
 

@@ -17,6 +17,7 @@ use Rattle.uc_meaning.specs.declared.rules.Sort.{Sort}
 use Rattle.uc_meaning.specs.declared.rules.Sort.TheVariants as sort
 use Rattle.uc_meaning.specs.declared.rules.Entity.{Entity}
 use Rattle.uc_meaning.specs.declared.rules.Entity.TheVariants.{Input}
+use Rattle.uc_meaning.specs.declared.rules.FieldPlace.{FieldPlace}
 use Rattle.uc_meaning.specs.declared.rules.Expected.{Expected}
 use Rattle.uc_meaning.specs.declared.rules.Target.{Target}
 use Rattle.uc_meaning.specs.declared.rules.Target.TheVariants as target
@@ -74,16 +75,15 @@ pub data Visit : Type 0 where
   AtSwitch : (env : Env) (pos : Pos) → Visit
   -- the argument of an initialiser, and what is asked of it
   AtBound : (env : Env) (e : Expr) (x : Expected) → Visit
-  -- an initialiser, behind others of which none names a field from this place on
-  AtInit : (env : Env) (init : Init) (greatest : ℕ) → Visit
+  -- an initialiser, behind others, with the last field that they name
+  AtInit : (env : Env) (init : Init) (last : Option FieldPlace) → Visit
   -- a routine with its initialisers
   AtInits : (env : Env) (sig : Sig) (inits : List Init) → Visit
   AtSig : (env : Env) (sig : Sig) → Visit
   AtParam : (env : Env) (param : Param) → Visit
-  -- a field, by its place among those of its class and by how many names the class declares before it
-  AtField : (env : Env) (class : Class) (access : Access) (b : Base) (d : Declarator) (field : ℕ) (names : ℕ) → Visit
-  -- a member that is a routine or a prototype, by its place and by how many names the class declares before it
-  AtRoutine : (env : Env) (class : Class) (proto : Bool) (sig : Sig) (member : ℕ) (names : ℕ) → Visit
+  AtField : (env : Env) (class : Class) (access : Access) (b : Base) (d : Declarator) (field : FieldPlace) → Visit
+  -- a member that is a routine or a prototype, by its place
+  AtRoutine : (env : Env) (class : Class) (proto : Bool) (sig : Sig) (member : ℕ) → Visit
   AtMark : (env : Env) (class : Class) (m : Member) → Visit
   -- a class by its place
   AtClass : (env : Env) (class : Class) (place : ℕ) → Visit

@@ -105,6 +105,13 @@ pub enum Entity {
     Missing,
 }
 
+/// The place of a field in its class: that of its member, and that in the member's list.
+#[derive(Clone, Copy, PartialEq, Eq, Debug)]
+pub struct FieldPlace {
+    pub member: usize,
+    pub index: usize,
+}
+
 /// Where a name comes from.
 #[derive(Clone, Copy, PartialEq, Eq, Debug)]
 pub enum Origin {
@@ -112,13 +119,13 @@ pub enum Origin {
     Parameter {
         by_ref: bool,
     },
-    /// A field, by its place among the fields of its class.
+    /// A field.
     Field {
         class: usize,
         kind: Kind,
         access: Access,
         by_ref: bool,
-        field: usize,
+        field: FieldPlace,
     },
     /// A member routine.
     Method {
@@ -180,12 +187,12 @@ pub struct Home {
     pub kind: Kind,
 }
 
-/// The initialiser in whose argument something stands: the place of the argument, the place of the field among the fields of its
-/// class, and whether the argument is a name that a reference is bound to.
+/// The initialiser in whose argument something stands: the place of the argument, the field, and whether the argument is a name
+/// that a reference is bound to.
 #[derive(Clone, Copy, PartialEq, Eq, Debug)]
 pub struct Bound {
     pub pos: Pos,
-    pub field: usize,
+    pub field: FieldPlace,
     pub whole: bool,
 }
 

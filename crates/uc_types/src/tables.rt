@@ -56,3 +56,105 @@ fn class_sort(classes: &[&Class], name: &Name) -> Option<Sort>
     }
     None
 }
+
+fn is_event_named(sort: Option<Sort>) -> Option<Sort>
+    ensures { result ≡ event_among sort }
+{
+    let sort = sort?;
+    if is_event_sort(sort) { Some(sort) } else { None }
+}
+
+fn variable(by_ref: bool, is_array: bool, len: u32, sort: Sort) -> Entity {
+    if is_array && !by_ref {
+        Entity::Array { sort, len }
+    } else {
+        Entity::Place { sort }
+    }
+}
+
+impl<'a> Tables<'a> {
+    /// The names of a program.
+    pub fn new(alloc: Global, program: &'a Program) -> Result<Tables<'a>, AllocError>
+        ensures { IfOk result (λ t. t ≡ program.now) }
+    {
+        let classes = classes_in(alloc, &program.items)?;
+        let sizes = Sizes::new(alloc, program)?;
+        Ok(Tables {
+            program,
+            classes,
+            sizes,
+        })
+    }
+
+    /// The program.
+    pub fn program(&self) -> &'a Program
+        ensures { result.now ≡ self.now }
+    {
+        self.program
+    }
+
+    /// Its cells and constants.
+    pub fn sizes(&self) -> &Sizes<'a>
+        ensures { result.now ≡ self.now }
+    {
+        &self.sizes
+    }
+
+    /// The class with this place among the classes of the program, events included.
+    pub fn class_at(&self, place: usize) -> Option<&'a Class>
+        ensures { MatchOption result (class_at self.now place ≡ None) (λ c. class_at self.now place ≡ Some c.now) }
+    {
+        match self.classes.get(place) {
+            Some(class) => Some(*class),
+            None => None,
+        }
+    }
+
+    /// The class or event of a name.
+    pub fn class_named(&self, name: &Name) -> Option<Sort>
+        ensures { result ≡ class_named self.now name.now }
+    {
+        class_sort(&self.classes, name)
+    }
+
+    /// The sort that a base names; none where it names no class.
+    pub fn sort_of(&self, base: &Base) -> Option<Sort>
+        ensures { result ≡ sort_of self.now base.now }
+    {
+        match base {
+            Base::Void => Some(Sort::Void),
+            Base::Int => Some(Sort::Int),
+            Base::Char => Some(Sort::Char),
+            Base::Bool => Some(Sort::Bool),
+            Base::Condition => Some(Sort::Condition),
+            Base::Cluster => Some(Sort::Cluster),
+            Base::Processor => Some(Sort::Processor),
+            Base::Named(name) => self.class_named(name),
+        }
+    }
+
+    /// The event of a name, where the program declares it.
+    pub fn event_sort(&self, name: &Name) -> Option<Sort>
+        ensures { result ≡ event_sort self.now name.now }
+    {
+        is_event_named(self.class_named(name))
+    }
+
+    /// What stands for an event that is handled; none where the name is no event.
+    pub fn event_named(&self, name: &Name) -> Option<Entity>
+        ensures { result ≡ event_named self.now name.now }
+    {
+        if name.is(b"uUnhandled") {
+            return Some(Entity::ClassName);
+        }
+        let sort = self.event_sort(name)?;
+        Some(Entity::Place { sort })
+    }
+
+    /// The value of a constant, none where no constant of the name has one.
+    pub fn constant(&self, name: &Name) -> Option<i64>
+        ensures { result ≡ value_of_name (constants_of self.now.items) name.now }
+    {
+        self.sizes.value_of(name)
+    }
+}
