@@ -2,5 +2,6 @@
 #![tactic(auto)]
 
 pub mod found;
+pub mod names;
 pub mod sort;
 pub mod tables;
