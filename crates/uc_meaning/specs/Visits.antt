@@ -138,6 +138,10 @@ module _ (env : Env) where
     args_visits NoExprs t i = []
     args_visits (MoreExprs e es) t i = (visits e ++ AtArgument (expr_pos e) (expected env.program t i) (entity_of env e) ∷ []) ++ args_visits es t (i + 1)
 
+  -- one argument
+  abbrev pub arg_visits : Expr → Expected → List Visit
+  arg_visits e x = visits e ++ AtArgument (expr_pos e) x (entity_of env e) ∷ []
+
 -- the visits in parts of statements
 
 abbrev pub maybe_visits : Env → Option Expr → List Visit

@@ -3,6 +3,7 @@
 
 pub mod ask;
 pub mod entity;
+pub mod expr;
 pub mod found;
 pub mod names;
 pub mod sort;
