@@ -75,7 +75,7 @@ no_constant _ = []
 
 -- S16
 abbrev pub bad_start : Visit → List Break
-bad_start (AtVariable env b d) = start_breaks env b d d.len
+bad_start (AtVariable env b d) = start_breaks env b d
 bad_start (AtField env c a b d field) = of_sort (sort_of env.program b) (is_field_sort env.program d) S16 d.pos
 bad_start (AtInit env x last) = init_count_breaks env x (home_member env.program env.around.home x.name)
 bad_start _ = []

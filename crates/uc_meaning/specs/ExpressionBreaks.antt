@@ -138,25 +138,27 @@ is_element p sort.Cluster = true
 is_element p sort.Processor = false
 is_element p (sort.Object class k) = is_event k || nat_eq (length (constructor_params p class)) 0
 
-abbrev pub object_starts : Program → ℕ → Start → Bool
-object_starts p class start = not (is_value_start start) && nat_eq (count (start_values start)) (length (constructor_params p class))
+-- whether what a variable of this sort starts with is in order: by `=` or not, so many values, and whether one alone is a scalar
+abbrev pub starts_well : Program → Bool → ℕ → Bool → Sort → Bool
+starts_well p by_value n single sort.Void = false
+starts_well p by_value n single sort.Int = single
+starts_well p by_value n single sort.Char = single
+starts_well p by_value n single sort.Bool = single
+starts_well p by_value n single sort.Condition = not by_value
+starts_well p by_value n single sort.Cluster = not by_value
+starts_well p by_value n single sort.Processor = not by_value && nat_eq n 1
+starts_well p by_value n single (sort.Object class k) = is_event k || (not by_value && nat_eq n (length (constructor_params p class)))
 
-abbrev pub starts_well : Env → Start → Sort → Bool
-starts_well env start sort.Void = false
-starts_well env start sort.Int = are_single env (start_values start)
-starts_well env start sort.Char = are_single env (start_values start)
-starts_well env start sort.Bool = are_single env (start_values start)
-starts_well env start sort.Condition = not (is_value_start start)
-starts_well env start sort.Cluster = not (is_value_start start)
-starts_well env start sort.Processor = not (is_value_start start) && nat_eq (count (start_values start)) 1
-starts_well env start (sort.Object class k) = is_event k || object_starts env.program class start
+abbrev pub array_starts_well : Program → ℕ → Sort → Bool
+array_starts_well p n s = is_element p s && nat_eq n 0
 
-abbrev pub array_starts_well : Env → Start → Sort → Bool
-array_starts_well env start s = is_element env.program s && nat_eq (count (start_values start)) 0
+abbrev pub started_breaks : Program → Option Expr → Bool → ℕ → Bool → Pos → Option Sort → List Break
+started_breaks p len by_value n single place None = []
+started_breaks p None by_value n single place (Some s) = unless (starts_well p by_value n single s) S16 place
+started_breaks p (Some len) by_value n single place (Some s) = unless (array_starts_well p n s) S16 place
 
-abbrev pub start_breaks : Env → Base → Declarator → Option Expr → List Break
-start_breaks env b d None = of_sort (sort_of env.program b) (starts_well env d.start) S16 d.pos
-start_breaks env b d (Some len) = of_sort (sort_of env.program b) (array_starts_well env d.start) S16 d.pos
+abbrev pub start_breaks : Env → Base → Declarator → List Break
+start_breaks env b d = started_breaks env.program d.len (is_value_start d.start) (count (start_values d.start)) (are_single env (start_values d.start)) d.pos (sort_of env.program b)
 
 -- S12: a return has a value, a scalar, exactly in routines whose type is a scalar
 abbrev pub return_breaks : Bool → Option (Option Entity) → Pos → List Break
@@ -181,21 +183,30 @@ listed_in (Some c) m = if m.destructor then (if is_mutex c.kind && same_name c.n
 abbrev pub class_of : Env → Option Class
 class_of env = option_and_then (λ h. class_at env.program h.class) env.around.home
 
+abbrev pub is_among : ℕ → List ℕ → Bool
+is_among n seen = list_any (λ m. nat_eq m n) seen
+
+abbrev pub is_fresh : List ℕ → Option ℕ → Bool
+is_fresh seen None = false
+is_fresh seen (Some n) = not (is_among n seen)
+
+abbrev pub with_listed : List ℕ → Option ℕ → List ℕ
+with_listed seen None = seen
+with_listed seen (Some n) = if is_among n seen then seen else seen ++ n ∷ []
+
 abbrev pub are_fresh : List ℕ → List (Option ℕ) → Bool
 are_fresh seen [] = true
-are_fresh seen (None ∷ ns) = false
-are_fresh seen (Some n ∷ ns) = not (list_any (λ m. nat_eq m n) seen) && are_fresh (seen ++ n ∷ []) ns
+are_fresh seen (n ∷ ns) = is_fresh seen n && are_fresh (with_listed seen n) ns
 
-abbrev pub known_numbers : List (Option ℕ) → List ℕ
-known_numbers [] = []
-known_numbers (None ∷ ns) = known_numbers ns
-known_numbers (Some n ∷ ns) = n ∷ known_numbers ns
+abbrev pub all_listed : List ℕ → List (Option ℕ) → List ℕ
+all_listed seen [] = seen
+all_listed seen (n ∷ ns) = all_listed (with_listed seen n) ns
 
 -- clauses, of which the first has the place i, behind others that list the members `seen`
 abbrev pub clauses_breaks : Option Class → ℕ → List ℕ → Clauses → List Break
 clauses_breaks c i seen NoClauses = []
 clauses_breaks c i seen (MoreClauses (Accepts p guard members body) rest) =
-    unless (nat_lt i CLAUSES && are_fresh seen (map (listed_in c) members)) S20 p ++ clauses_breaks c (i + 1) (seen ++ known_numbers (map (listed_in c) members)) rest
+    unless (nat_lt i CLAUSES && are_fresh seen (map (listed_in c) members)) S20 p ++ clauses_breaks c (i + 1) (all_listed seen (map (listed_in c) members)) rest
 
 abbrev pub bad_clause : Visit → List Break
 bad_clause (AtAccept env p cs) = clauses_breaks (class_of env) 0 [] cs

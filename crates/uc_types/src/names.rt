@@ -65,6 +65,11 @@ impl<'a> Names<'a> {
         }
     }
 
+    /// The memory that further names take.
+    pub fn alloc(&self) -> Global {
+        self.alloc
+    }
+
     /// The names of the program.
     pub fn tables(&self) -> &'a Tables<'a>
         ensures { result.now ≡ self.now.program }
