@@ -19,11 +19,11 @@ use Rattle.uc_meaning.specs.declared.got.Got.{Got}
 use Rattle.uc_meaning.specs.Journal.{Journal, begin, entry, holds, is_over, is_ending}
 use Rattle.uc_meaning.specs.Queues.{waiting, next, successor, first_ended, ends_first, none_running, none_ready, none_served, all_ticks}
 use Rattle.uc_meaning.specs.Reading.{next_read, bytes_used, has_failed, used_from, used_by, failed_from, fails_by}
-use Rattle.uc_meaning.specs.Acts.{act, entries_of, admission, verdict, ending, fitted, closing, prints, read_entry, truth}
+use Rattle.uc_meaning.specs.Acts.{settled, fault, admission, verdict, ending, fitted, closing, prints, read_entry, truth}
 use Rattle.uc_meaning.proofs.Open.{any_push}
 use Rattle.uc_alone.specs.declared.keeper.Reads.{Reads}
 use Rattle.uc_alone.specs.Alone.{alone_options, opening, silent, AllUnseen, none, one, limited, Facts}
-use Rattle.uc_alone.specs.Kept.{Kept, goes, over, Closing, by_done, by_fault, by_limit, Ended, shown, ended, faulted, ReadsOf, reads_after as reads_after_got}
+use Rattle.uc_alone.specs.Kept.{Makes, Acts, Kept, goes, over, Closing, by_done, by_fault, by_limit, Ended, shown, ended, faulted, ReadsOf, reads_after as reads_after_got}
 use Rattle.uc_alone.proofs.Unseen.{print_unseen, read_unseen, fail_unseen}
 use Rattle.uc_alone.proofs.Facts.{silent_act}
 
@@ -42,15 +42,15 @@ closed : (old new a : Journal) (e : Entry) → new ≡ old ++ (a ++ e ∷ []) �
 closed old new a e h k = record { before = old ++ a; last = e; is = h ∙ sym (append_assoc old a (e ∷ [])); closing = k }
 
 -- an act that would leave no room, whose entries no filter sees
-full : (n : ℕ) (input : List ℕ) (old new : Journal) (asked : Asked) (es : List Entry) → entries_of input old 0 0 0 asked ≡ es → AllUnseen es → n < length old + length es + 1 → new ≡ old ++ limited → Kept n input old asked new None
+full : (n : ℕ) (input : List ℕ) (old new : Journal) (asked : Asked) (es : List Entry) → Makes n input old asked es → AllUnseen es → n < length old + length es + 1 → new ≡ old ++ limited → Kept n input old asked new None
 full n input old new asked es e h m k =
-    over limited (λ f. silent_act n input old asked es e h f ∙ ap (λ b. cond b es limited) (lt-leb _ _ m)) (over_with old [] (entry kind.Limit 0 0 0 0 (pos 0) (pos 0)) refl) k (closed old new [] (entry kind.Limit 0 0 0 0 (pos 0) (pos 0)) k by_limit)
+    over limited (λ f sites. silent_act n input old asked es e h f sites ∙ ap (λ b. cond b es limited) (lt-leb _ _ m)) (over_with old [] (entry kind.Limit 0 0 0 0 (pos 0) (pos 0)) refl) k (closed old new [] (entry kind.Limit 0 0 0 0 (pos 0) (pos 0)) k by_limit)
 
 -- printing
 
-prints_are : (is : List Piece) → prints 0 0 0 is ≡ map shown is
-prints_are [] = refl
-prints_are (i ∷ is) = ap (λ es. shown i ∷ es) (prints_are is)
+prints_are : (f : Entry) (j : Journal) (is : List Piece) → settled f j (prints 0 0 0 is) ≡ map shown is
+prints_are f j [] = refl
+prints_are f j (i ∷ is) = ap (λ es. shown i ∷ es) (prints_are f (j ++ shown i ∷ []) is)
 
 shown_unseen : (is : List Piece) → AllUnseen (map shown is)
 shown_unseen [] = none
@@ -58,11 +58,11 @@ shown_unseen (i ∷ is) = one kind.Print (pos i.form) i.value (pos 0) (pos 0) (m
 
 pub print_goes : (n : ℕ) (input : List ℕ) (old new : Journal) (k line : ℕ) (items : List Piece) → length old + length (take k items) + 1 ≤ n → new ≡ old ++ map shown (take k items) → Kept n input old (record { request = ask.Print k items; line = line }) new (Some answer.Go)
 print_goes n input old new k line items room e =
-    goes (map shown (take k items)) answer.Go (prints_are (take k items)) (shown_unseen (take k items)) refl (omega (arith, length-map (take k items) shown, room)) e
+    goes (map shown (take k items)) answer.Go (λ sites. prints_are (fault 0 0 0 10 line) old (take k items)) (shown_unseen (take k items)) refl (omega (arith, length-map (take k items) shown, room)) e
 
 pub print_full : (n : ℕ) (input : List ℕ) (old new : Journal) (k line : ℕ) (items : List Piece) → n < length old + length (take k items) + 1 → new ≡ old ++ limited → Kept n input old (record { request = ask.Print k items; line = line }) new None
 print_full n input old new k line items m e =
-    full n input old new (record { request = ask.Print k items; line = line }) (map shown (take k items)) (prints_are (take k items)) (shown_unseen (take k items)) (omega (arith, length-map (take k items) shown, m)) e
+    full n input old new (record { request = ask.Print k items; line = line }) (map shown (take k items)) (λ sites. prints_are (fault 0 0 0 10 line) old (take k items)) (shown_unseen (take k items)) (omega (arith, length-map (take k items) shown, m)) e
 
 -- the same where the items are counted first
 pub counted_goes : (n : ℕ) (input : List ℕ) (old new : Journal) (k line : ℕ) (items : List Piece) (count : ℕ) → count ≡ min k (length items) → length old + count + 1 ≤ n → new ≡ old ++ map shown (take count items) → Kept n input old (record { request = ask.Print k items; line = line }) new (Some answer.Go)
@@ -77,35 +77,35 @@ counted_full n input old new k line items count c m e = print_full n input old n
 read_unseen_here : (form used : ℕ) (g : Got) → AllUnseen (read_entry 0 0 0 form g used ∷ [])
 read_unseen_here form used g = one kind.Read (pos form) g.value (truth g.failed) (pos (used + g.taken)) [] read_unseen none
 
-read_is : (input : List ℕ) (old : Journal) (form line : ℕ) (g : Got) (r : Reads) → ReadsOf old r → g ≡ next_read form input old → entries_of input old 0 0 0 (record { request = ask.Read form; line = line }) ≡ read_entry 0 0 0 form g r.used ∷ []
-read_is input old form line g r h e =
+read_is : (n : ℕ) (input : List ℕ) (old : Journal) (form line : ℕ) (g : Got) (r : Reads) → ReadsOf old r → g ≡ next_read form input old → Makes n input old (record { request = ask.Read form; line = line }) (read_entry 0 0 0 form g r.used ∷ [])
+read_is n input old form line g r h e sites =
     ap (λ x. read_entry 0 0 0 form x (bytes_used old) ∷ []) (sym e) ∙ ap (λ u. read_entry 0 0 0 form g u ∷ []) h.used
 
 pub read_goes : (n : ℕ) (input : List ℕ) (old new : Journal) (form line : ℕ) (g : Got) (r : Reads) → ReadsOf old r → g ≡ next_read form input old → length old + 1 + 1 ≤ n → new ≡ old ++ read_entry 0 0 0 form g r.used ∷ [] → (failed : Bool) → g.failed ≡ failed → Kept n input old (record { request = ask.Read form; line = line }) new (Some (answer.Value g.value failed))
 read_goes n input old new form line g r h e room k true f =
-    goes (read_entry 0 0 0 form g r.used ∷ []) (answer.Value g.value true) (read_is input old form line g r h e) (read_unseen_here form r.used g) (ap (λ b. Some (answer.Value g.value (holds 1 (truth b)))) f) room k
+    goes (read_entry 0 0 0 form g r.used ∷ []) (answer.Value g.value true) (read_is n input old form line g r h e) (read_unseen_here form r.used g) (ap (λ b. Some (answer.Value g.value (holds 1 (truth b)))) f) room k
 read_goes n input old new form line g r h e room k false f =
-    goes (read_entry 0 0 0 form g r.used ∷ []) (answer.Value g.value false) (read_is input old form line g r h e) (read_unseen_here form r.used g) (ap (λ b. Some (answer.Value g.value (holds 1 (truth b)))) f) room k
+    goes (read_entry 0 0 0 form g r.used ∷ []) (answer.Value g.value false) (read_is n input old form line g r h e) (read_unseen_here form r.used g) (ap (λ b. Some (answer.Value g.value (holds 1 (truth b)))) f) room k
 
 pub read_full : (n : ℕ) (input : List ℕ) (old new : Journal) (form line : ℕ) (g : Got) (r : Reads) → ReadsOf old r → g ≡ next_read form input old → n < length old + 1 + 1 → new ≡ old ++ limited → Kept n input old (record { request = ask.Read form; line = line }) new None
 read_full n input old new form line g r h e m k =
-    full n input old new (record { request = ask.Read form; line = line }) (read_entry 0 0 0 form g r.used ∷ []) (read_is input old form line g r h e) (read_unseen_here form r.used g) m k
+    full n input old new (record { request = ask.Read form; line = line }) (read_entry 0 0 0 form g r.used ∷ []) (read_is n input old form line g r h e) (read_unseen_here form r.used g) m k
 
 -- asking for failures
 
-fail_is : (input : List ℕ) (old : Journal) (line : ℕ) (r : Reads) → ReadsOf old r → entries_of input old 0 0 0 (record { request = ask.Fail; line = line }) ≡ entry kind.Fail 0 0 0 0 (pos 0) (truth r.failed) ∷ []
-fail_is input old line r h = ap (λ b. entry kind.Fail 0 0 0 0 (pos 0) (truth b) ∷ []) h.failed
+fail_is : (n : ℕ) (input : List ℕ) (old : Journal) (line : ℕ) (r : Reads) → ReadsOf old r → Makes n input old (record { request = ask.Fail; line = line }) (entry kind.Fail 0 0 0 0 (pos 0) (truth r.failed) ∷ [])
+fail_is n input old line r h sites = ap (λ b. entry kind.Fail 0 0 0 0 (pos 0) (truth b) ∷ []) h.failed
 
 fail_unseen_here : (z : ℤ) → AllUnseen (entry kind.Fail 0 0 0 0 (pos 0) z ∷ [])
 fail_unseen_here z = one kind.Fail (pos 0) z (pos 0) (pos 0) [] fail_unseen none
 
 pub fail_goes : (n : ℕ) (input : List ℕ) (old new : Journal) (line : ℕ) (r : Reads) → ReadsOf old r → length old + 1 + 1 ≤ n → new ≡ old ++ entry kind.Fail 0 0 0 0 (pos 0) (truth r.failed) ∷ [] → Kept n input old (record { request = ask.Fail; line = line }) new (Some (answer.Number (truth r.failed)))
 fail_goes n input old new line r h room k =
-    goes (entry kind.Fail 0 0 0 0 (pos 0) (truth r.failed) ∷ []) (answer.Number (truth r.failed)) (fail_is input old line r h) (fail_unseen_here (truth r.failed)) refl room k
+    goes (entry kind.Fail 0 0 0 0 (pos 0) (truth r.failed) ∷ []) (answer.Number (truth r.failed)) (fail_is n input old line r h) (fail_unseen_here (truth r.failed)) refl room k
 
 pub fail_full : (n : ℕ) (input : List ℕ) (old new : Journal) (line : ℕ) (r : Reads) → ReadsOf old r → n < length old + 1 + 1 → new ≡ old ++ limited → Kept n input old (record { request = ask.Fail; line = line }) new None
 fail_full n input old new line r h m k =
-    full n input old new (record { request = ask.Fail; line = line }) (entry kind.Fail 0 0 0 0 (pos 0) (truth r.failed) ∷ []) (fail_is input old line r h) (fail_unseen_here (truth r.failed)) m k
+    full n input old new (record { request = ask.Fail; line = line }) (entry kind.Fail 0 0 0 0 (pos 0) (truth r.failed) ∷ []) (fail_is n input old line r h) (fail_unseen_here (truth r.failed)) m k
 
 -- the end
 
@@ -119,10 +119,10 @@ ends_it : (j : Journal) → first_ended (j ++ end_entry ∷ []) ≡ true
 unfolding first_ended end_entry
 ends_it j = any_push (λ e. ends_first e.kind e) j end_entry ∙ or_true (first_ended j)
 
-ends_with : (input : List ℕ) (j : Journal) (line : ℕ) → Facts j → entries_of input j 0 0 0 (record { request = ask.End; line = line }) ≡ end_entry ∷ []
+ends_with : (n : ℕ) (input : List ℕ) (j : Journal) (line : ℕ) → Facts j → Makes n input j (record { request = ask.End; line = line }) (end_entry ∷ [])
 unfolding end_entry
-ends_with input j line f =
-    let by : ℕ → Option (ℕ × ℕ) → List Entry = λ o n. entry kind.End 0 0 0 o (pos 0) (pos 0) ∷ admission 0 o n in
+ends_with n input j line f sites =
+    let by : ℕ → Option (ℕ × ℕ) → List Entry = λ o n. settled (fault 0 0 0 10 line) j (entry kind.End 0 0 0 o (pos 0) (pos 0) ∷ admission sites 0 o j n) in
     ap (λ o. by o (next o j)) f.own ∙ ap (λ n. by 0 n) (ap (λ xs. successor xs (waiting 0 j)) f.stacks ∙ ap (λ ws. successor [] ws) f.waits)
 
 -- the rest of a verdict where task 0 goes on
@@ -133,37 +133,37 @@ verdict_after opts j =
     else (if nat_le opts.ticks (all_ticks j) then Some kind.Limit
     else None))
 
-end_act : (n : ℕ) (input : List ℕ) (j : Journal) (line : ℕ) → Facts j → act (alone_options n) input j 0 0 0 (record { request = ask.End; line = line }) ≡ cond (nat_le (length j + 2 + 1) n) ended limited
+end_act : (n : ℕ) (input : List ℕ) (j : Journal) (line : ℕ) → Facts j → Acts n input j (record { request = ask.End; line = line }) (cond (nat_le (length j + 2 + 1) n) ended limited)
 unfolding end_entry done_entry
-end_act n input j line f =
+end_act n input j line f sites =
     let opts = alone_options n in
     let a : List Entry = end_entry ∷ [] in
     let whole : List Entry → List Entry = λ x. fitted opts j 0 0 (x ++ ending opts j 0 0 x) in
     let is_done : verdict opts (j ++ a) ≡ Some kind.Done = ap (λ b. cond b (Some kind.Done) (verdict_after opts (j ++ a))) (ends_it j) in
     let last : ending opts j 0 0 a ≡ done_entry ∷ [] = ap (λ v. closing 0 0 v) is_done in
-    ap whole (ends_with input j line f) ∙ ap (λ x. fitted opts j 0 0 (a ++ x)) last
+    ap whole (ends_with n input j line f sites) ∙ ap (λ x. fitted opts j 0 0 (a ++ x)) last
 
 pub end_goes : (n : ℕ) (input : List ℕ) (old new : Journal) (line : ℕ) → length old + 2 + 1 ≤ n → new ≡ old ++ ended → Kept n input old (record { request = ask.End; line = line }) new None
 unfolding end_entry done_entry
 end_goes n input old new line room k =
-    over ended (λ f. end_act n input old line f ∙ ap (λ b. cond b ended limited) (le-leb _ _ room)) (over_with old (end_entry ∷ []) done_entry refl) k (closed old new (end_entry ∷ []) done_entry k by_done)
+    over ended (λ f sites. end_act n input old line f sites ∙ ap (λ b. cond b ended limited) (le-leb _ _ room)) (over_with old (end_entry ∷ []) done_entry refl) k (closed old new (end_entry ∷ []) done_entry k by_done)
 
 pub end_full : (n : ℕ) (input : List ℕ) (old new : Journal) (line : ℕ) → n < length old + 2 + 1 → new ≡ old ++ limited → Kept n input old (record { request = ask.End; line = line }) new None
 end_full n input old new line m k =
-    over limited (λ f. end_act n input old line f ∙ ap (λ b. cond b ended limited) (lt-leb _ _ m)) (over_with old [] (entry kind.Limit 0 0 0 0 (pos 0) (pos 0)) refl) k (closed old new [] (entry kind.Limit 0 0 0 0 (pos 0) (pos 0)) k by_limit)
+    over limited (λ f sites. end_act n input old line f sites ∙ ap (λ b. cond b ended limited) (lt-leb _ _ m)) (over_with old [] (entry kind.Limit 0 0 0 0 (pos 0) (pos 0)) refl) k (closed old new [] (entry kind.Limit 0 0 0 0 (pos 0) (pos 0)) k by_limit)
 
 -- a fault
 
-fault_act : (n : ℕ) (input : List ℕ) (j : Journal) (number line : ℕ) → act (alone_options n) input j 0 0 0 (record { request = ask.Fault number; line = line }) ≡ cond (nat_le (length j + 1 + 1) n) (faulted number line) limited
-fault_act n input j number line = refl
+fault_act : (n : ℕ) (input : List ℕ) (j : Journal) (number line : ℕ) → Acts n input j (record { request = ask.Fault number; line = line }) (cond (nat_le (length j + 1 + 1) n) (faulted number line) limited)
+fault_act n input j number line sites = refl
 
 pub fault_goes : (n : ℕ) (input : List ℕ) (old new : Journal) (number line : ℕ) → length old + 1 + 1 ≤ n → new ≡ old ++ faulted number line → Kept n input old (record { request = ask.Fault number; line = line }) new None
 fault_goes n input old new number line room k =
-    over (faulted number line) (λ f. fault_act n input old number line ∙ ap (λ b. cond b (faulted number line) limited) (le-leb _ _ room)) (over_with old [] (entry kind.Fault 0 0 0 0 (pos number) (pos line)) refl) k (closed old new [] (entry kind.Fault 0 0 0 0 (pos number) (pos line)) k by_fault)
+    over (faulted number line) (λ f sites. fault_act n input old number line sites ∙ ap (λ b. cond b (faulted number line) limited) (le-leb _ _ room)) (over_with old [] (entry kind.Fault 0 0 0 0 (pos number) (pos line)) refl) k (closed old new [] (entry kind.Fault 0 0 0 0 (pos number) (pos line)) k by_fault)
 
 pub fault_full : (n : ℕ) (input : List ℕ) (old new : Journal) (number line : ℕ) → n < length old + 1 + 1 → new ≡ old ++ limited → Kept n input old (record { request = ask.Fault number; line = line }) new None
 fault_full n input old new number line m k =
-    over limited (λ f. fault_act n input old number line ∙ ap (λ b. cond b (faulted number line) limited) (lt-leb _ _ m)) (over_with old [] (entry kind.Limit 0 0 0 0 (pos 0) (pos 0)) refl) k (closed old new [] (entry kind.Limit 0 0 0 0 (pos 0) (pos 0)) k by_limit)
+    over limited (λ f sites. fault_act n input old number line sites ∙ ap (λ b. cond b (faulted number line) limited) (lt-leb _ _ m)) (over_with old [] (entry kind.Limit 0 0 0 0 (pos 0) (pos 0)) refl) k (closed old new [] (entry kind.Limit 0 0 0 0 (pos 0) (pos 0)) k by_limit)
 
 -- what a journal with one more entry tells of its reads
 

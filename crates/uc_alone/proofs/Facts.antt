@@ -8,8 +8,9 @@ use Rattle.uc_meaning.specs.declared.entry.EntryKind.TheVariants as kind
 use Rattle.uc_meaning.specs.declared.request.Asked.{Asked}
 use Rattle.uc_meaning.specs.Journal.{Journal, entries_at, is_over, held, own_object}
 use Rattle.uc_meaning.specs.Queues.{running, waiting, stacked, used, first_ended, all_ticks, none_running, none_served, none_ready, processor_count, is_processor, is_nobody}
-use Rattle.uc_meaning.specs.Acts.{verdict, act, closing, fitted, ending, entries_of, is_faulty}
+use Rattle.uc_meaning.specs.Acts.{verdict, closing, fitted, ending, is_faulty}
 use Rattle.uc_alone.specs.Alone.{alone_options, opening, Unseen, silent, AllUnseen, none, one, limited, Facts}
+use Rattle.uc_alone.specs.Kept.{Makes, Acts}
 use Rattle.uc_alone.proofs.Unseen.{goes_on, not_ended, same_held, same_own, same_waiting, same_stacked, same_running, same_used, same_ticks}
 
 pub facts_opening : (n : ℕ) → Facts (opening n)
@@ -62,8 +63,8 @@ no_verdict n j f =
     verdict_by (first_ended j) (none_running (alone_options n) j) (none_ready j) (none_served (alone_options n) j) (all_ticks j) n f.ended (someone_runs n j f) f.all
 
 -- an act whose entries no filter sees has no ending, and is made where there is room for it
-pub silent_act : (n : ℕ) (input : List ℕ) (j : Journal) (asked : Asked) (es : List Entry) → entries_of input j 0 0 0 asked ≡ es → AllUnseen es → Facts j → act (alone_options n) input j 0 0 0 asked ≡ (cond (nat_le (length j + length es + 1) n) es limited)
-silent_act n input j asked es e h f =
+pub silent_act : (n : ℕ) (input : List ℕ) (j : Journal) (asked : Asked) (es : List Entry) → Makes n input j asked es → AllUnseen es → Facts j → Acts n input j asked (cond (nat_le (length j + length es + 1) n) es limited)
+silent_act n input j asked es e h f sites =
     let whole : List Entry → List Entry = λ a. fitted (alone_options n) j 0 0 (a ++ ending (alone_options n) j 0 0 a) in
     let ends : ending (alone_options n) j 0 0 es ≡ [] = ap (λ b. cond b [] (closing 0 0 (verdict (alone_options n) (j ++ es)))) (not_faulty es h) ∙ ap (λ v. closing 0 0 v) (no_verdict n (j ++ es) (facts_more es j h f)) in
-    ap whole e ∙ ap (λ x. fitted (alone_options n) j 0 0 (es ++ x)) ends ∙ ap (fitted (alone_options n) j 0 0) (append-nil es)
+    ap whole (e sites) ∙ ap (λ x. fitted (alone_options n) j 0 0 (es ++ x)) ends ∙ ap (fitted (alone_options n) j 0 0) (append-nil es)

@@ -11,17 +11,18 @@ use Rattle.uc_meaning.specs.declared.request.Asked.{Asked}
 use Rattle.uc_meaning.specs.declared.request.Request.{Request}
 use Rattle.uc_meaning.specs.Executions.{find}
 use Rattle.uc_meaning.specs.Journal.{Journal, begin, is_over, is_ending, held, first_or_0}
-use Rattle.uc_meaning.specs.Queues.{ready, running, open_processors}
+use Rattle.uc_meaning.specs.Queues.{ready, running, processors, open_processors}
 use Rattle.uc_meaning.specs.Quiet.{State, Members}
 use Rattle.uc_meaning.specs.Rides.{Rides}
-use Rattle.uc_meaning.specs.Acts.{act, entries_of}
-use Rattle.uc_meaning.specs.Runs.{World, Runs, begun, more, acts, gives, Serves, IsRun, drawn, left, first_world, hand_of, with_hand, world_after, asking, answer_of, answered, or_else}
+use Rattle.uc_meaning.specs.Serves.{Serves, left}
+use Rattle.uc_meaning.specs.Runs.{World, Runs, begun, more, acts, gives, IsRun, drawn, first_world, hand_of, with_hand, world_after, asking, answer_of, answered, or_else}
 use Rattle.uc_alone.specs.Alone.{alone_options, opening, AllUnseen, limited, Going, start}
+use Rattle.uc_alone.specs.Kept.{Makes, Acts}
 use Rattle.uc_alone.proofs.Facts.{facts_opening, facts_more, silent_act}
 use Rattle.uc_alone.proofs.Hands.{inside_of, ride_keeps, keys}
 
 opened : (n : ℕ) → Contains (open_processors (alone_options n) (begin (alone_options n) ∷ [])) (0, 0)
-unfolding open_processors
+unfolding open_processors processors
 opened n = (0, lit< tt, refl)
 
 first_dispatch : (n : ℕ) → Serves (alone_options n) (begin (alone_options n) ∷ []) 0 0
@@ -79,23 +80,23 @@ module _ {source : Source} {input : List ℕ} {n : ℕ} {j : Journal} {s u : Sta
   rides =
       subst (λ q. Rides (drawn j g.world 0) q u 0 asked) (sym (ap (λ k. 1000 - k) g.facts.ticks)) (subst (λ t. Rides t 1000 u 0 asked) (sym g.is_drawn) r)
 
-  one_act : (a : List Entry) → act (alone_options n) input j 0 0 0 asked ≡ a → Runs source input (alone_options n) (j ++ a) (world_after a g.world 0 u asked.request)
+  one_act : (a : List Entry) → Acts n input j asked a → Runs source input (alone_options n) (j ++ a) (world_after a g.world 0 u asked.request)
   one_act a e =
-      subst (λ x. Runs source input (alone_options n) (j ++ x) (world_after x g.world 0 u asked.request)) e (more g.runs g.facts.going (acts 0 0 0 u asked (record { runs = g.facts.runs; rides = rides })))
+      subst (λ x. Runs source input (alone_options n) (j ++ x) (world_after x g.world 0 u asked.request)) (e source.sites) (more g.runs g.facts.going (acts 0 0 0 u asked (record { runs = g.facts.runs; rides = rides })))
 
   -- an act without an ending, which is answered
-  pub goes_on : (es : List Entry) (x : Answer) → entries_of input j 0 0 0 asked ≡ es → AllUnseen es → answer_of asked.request es ≡ Some x → length j + length es + 1 ≤ n → Going source input n (j ++ es) (answered x u)
+  pub goes_on : (es : List Entry) (x : Answer) → Makes n input j asked es → AllUnseen es → answer_of asked.request es ≡ Some x → length j + length es + 1 ≤ n → Going source input n (j ++ es) (answered x u)
   goes_on es x e h k room =
       let f = facts_more es j h g.facts in
       record {
         world = world_after es g.world 0 u asked.request;
-        runs = one_act es (silent_act n input j asked es e h g.facts ∙ ap (λ b. cond b es limited) (le-leb _ _ room));
+        runs = one_act es (λ sites. silent_act n input j asked es e h g.facts sites ∙ ap (λ b. cond b es limited) (le-leb _ _ room));
         facts = f;
         is_drawn = drawn_again j es g.world u asked.request x hand_then.0 f.inside k hand_then.1;
       }
 
   -- an act that ends the run
-  pub ends : (a : List Entry) → act (alone_options n) input j 0 0 0 asked ≡ a → is_over (j ++ a) ≡ true → IsRun source input (alone_options n) (j ++ a)
+  pub ends : (a : List Entry) → Acts n input j asked a → is_over (j ++ a) ≡ true → IsRun source input (alone_options n) (j ++ a)
   ends a e o = record { prefix = record { world = world_after a g.world 0 u asked.request; runs = one_act a e }; over = o }
 
   over_limited : is_over (j ++ limited) ≡ true
@@ -103,5 +104,5 @@ module _ {source : Source} {input : List ℕ} {n : ℕ} {j : Journal} {s u : Sta
   over_limited = list_any-append (λ e. is_ending e.kind) j limited ∙ or_true _
 
   -- an act that would leave no room
-  pub stops : (es : List Entry) → entries_of input j 0 0 0 asked ≡ es → AllUnseen es → n < length j + length es + 1 → IsRun source input (alone_options n) (j ++ limited)
-  stops es e h full = ends limited (silent_act n input j asked es e h g.facts ∙ ap (λ b. cond b es limited) (lt-leb _ _ full)) over_limited
+  pub stops : (es : List Entry) → Makes n input j asked es → AllUnseen es → n < length j + length es + 1 → IsRun source input (alone_options n) (j ++ limited)
+  stops es e h full = ends limited (λ sites. silent_act n input j asked es e h g.facts sites ∙ ap (λ b. cond b es limited) (lt-leb _ _ full)) over_limited

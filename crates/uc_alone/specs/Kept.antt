@@ -1,5 +1,6 @@
 -- What one request of the one task makes of its journal.
 use Rattle.std.specs.Prelude.{◌≡◌, ℕ, pos, ◌+◌, ◌≤◌, ◌||◌, Bool, true, false, List, [], ◌∷◌, ◌++◌, Option, Some, None, length}
+use Rattle.uc_tree.specs.Programs.{Site}
 use Rattle.uc_meaning.specs.declared.entry.EntryKind.{EntryKind}
 use Rattle.uc_meaning.specs.declared.entry.EntryKind.TheVariants as kind
 use Rattle.uc_meaning.specs.Reading.{bytes_used, has_failed}
@@ -38,10 +39,17 @@ pub record Ended (j : Journal) : Type 0 where
   pub is : j ≡ before ++ last ∷ []
   pub closing : Closing last.kind
 
+-- the entries of what task 0 asks, and its act, whatever accept statements there are
+abbrev pub Makes : ℕ → List ℕ → Journal → Asked → List Entry → Type 0
+Makes n input j asked es = (sites : List Site) → entries_of (alone_options n) sites input j 0 0 0 asked ≡ es
+
+abbrev pub Acts : ℕ → List ℕ → Journal → Asked → List Entry → Type 0
+Acts n input j asked a = (sites : List Site) → act (alone_options n) sites input j 0 0 0 asked ≡ a
+
 -- the journal after a request: it goes on with an answer, or the run is over
 pub data Kept (n : ℕ) (input : List ℕ) (old : Journal) (asked : Asked) (new : Journal) : Option Answer → Type 0 where
-  goes : (es : List Entry) (x : Answer) → entries_of input old 0 0 0 asked ≡ es → AllUnseen es → answer_of asked.request es ≡ Some x → length old + length es + 1 ≤ n → new ≡ old ++ es → Kept n input old asked new (Some x)
-  over : (a : List Entry) → (Facts old → act (alone_options n) input old 0 0 0 asked ≡ a) → is_over (old ++ a) ≡ true → new ≡ old ++ a → Ended new → Kept n input old asked new None
+  goes : (es : List Entry) (x : Answer) → Makes n input old asked es → AllUnseen es → answer_of asked.request es ≡ Some x → length old + length es + 1 ≤ n → new ≡ old ++ es → Kept n input old asked new (Some x)
+  over : (a : List Entry) → (Facts old → Acts n input old asked a) → is_over (old ++ a) ≡ true → new ≡ old ++ a → Ended new → Kept n input old asked new None
   odd : is_few asked.request ≡ false → Kept n input old asked new None
 
 -- the entry of a printed item

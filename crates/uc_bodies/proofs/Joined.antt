@@ -1,7 +1,7 @@
 -- Breaks at visits that are joined.
 use Rattle.std.proofs.Common.{◌≡◌, List, [], ◌∷◌, ◌++◌, Option, Bool, true, false, ◌&&◌, length, refl, arith}
 use Rattle.uc_tree.specs.Expressions.{Expr, exprs_of}
-use Rattle.uc_meaning.specs.declared.rules.Break.{Break}
+use Rattle.uc_meaning.specs.declared.rule.Break.{Break}
 use Rattle.uc_meaning.specs.Entities.{count}
 use Rattle.uc_meaning.specs.Firsts.{sooner, after}
 use Rattle.uc_meaning.specs.Visits.{Visit}

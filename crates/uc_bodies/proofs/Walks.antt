@@ -1,9 +1,9 @@
 -- One more of a list that is walked.
 use Rattle.std.proofs.Common.{◌≡◌, ℕ, ◌+◌, ◌<◌, ◌≤◌, List, ◌∷◌, ◌++◌, Option, length, get_or, drop, ap, sym, ◌∙◌, arith}
 use Rattle.std.proofs.lemmas.List.{at_drop_more}
-use Rattle.uc_tree.specs.Statements.{Stmt, stmts_of}
-use Rattle.uc_tree.specs.StatementSizes.{stmt_size, stmts_size}
-use Rattle.uc_meaning.specs.declared.rules.Break.{Break}
+use Rattle.uc_tree.specs.Statements.{Stmt, Handler, Clause, stmts_of, handlers_of, clauses_of}
+use Rattle.uc_tree.specs.StatementSizes.{stmt_size, stmts_size, handler_size, handlers_size, clause_size, clauses_size}
+use Rattle.uc_meaning.specs.declared.rule.Break.{Break}
 use Rattle.uc_meaning.specs.Scopes.{Env}
 use Rattle.uc_meaning.specs.Visits.{Visit}
 use Rattle.uc_types.specs.Told.{noted}
@@ -38,4 +38,14 @@ walked_more own next all opens env now xs i x f g r h k a b inv =
 pub stmts_fall : (ss : List Stmt) (i : ℕ) (s : Stmt) (n : ℕ) → i < length ss → s ≡ get_or ss i s → stmts_size (stmts_of (drop i ss)) ≤ n → stmts_size (stmts_of (drop (i + 1) ss)) ≤ n
 stmts_fall ss i s n h k inv =
     let more : stmts_size (stmts_of (drop i ss)) ≡ stmt_size s + stmts_size (stmts_of (drop (i + 1) ss)) = ap (λ l. stmts_size (stmts_of l)) (split ss i s h k) in
+    omega arith
+
+pub handlers_fall : (hs : List Handler) (i : ℕ) (h : Handler) (n : ℕ) → i < length hs → h ≡ get_or hs i h → handlers_size (handlers_of (drop i hs)) ≤ n → handlers_size (handlers_of (drop (i + 1) hs)) ≤ n
+handlers_fall hs i h n p k inv =
+    let more : handlers_size (handlers_of (drop i hs)) ≡ handler_size h + handlers_size (handlers_of (drop (i + 1) hs)) = ap (λ l. handlers_size (handlers_of l)) (split hs i h p k) in
+    omega arith
+
+pub clauses_fall : (cs : List Clause) (i : ℕ) (x : Clause) (n : ℕ) → i < length cs → x ≡ get_or cs i x → clauses_size (clauses_of (drop i cs)) ≤ n → clauses_size (clauses_of (drop (i + 1) cs)) ≤ n
+clauses_fall cs i x n p k inv =
+    let more : clauses_size (clauses_of (drop i cs)) ≡ clause_size x + clauses_size (clauses_of (drop (i + 1) cs)) = ap (λ l. clauses_size (clauses_of l)) (split cs i x p k) in
     omega arith

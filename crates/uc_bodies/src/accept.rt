@@ -1,6 +1,6 @@
 // The rules on the clauses of accept statements and on lists of handlers.
 
-ghost use Rattle.std.specs.Prelude.{◌≡◌, ◌&&◌, ◌||◌, IfOk, MatchOption, None, OnOk, Some, [], if◌then◌else◌, map, not, take};
+ghost use Rattle.std.specs.Prelude.{◌≡◌, ◌&&◌, ◌||◌, IfOk, MatchOption, None, OnOk, Some, [], false, if◌then◌else◌, map, not, take};
 ghost use Rattle.uc_tree.specs.Names.{same_name};
 ghost use Rattle.uc_tree.specs.Statements.{clauses_of, handlers_of};
 ghost use Rattle.uc_tree.specs.Numbering.{is_mutex, mutex_members};
@@ -12,7 +12,8 @@ ghost use Rattle.uc_meaning.specs.Visits.{AtAccept, AtHandlers};
 ghost use Rattle.uc_types.specs.Told.{told};
 
 use std::alloc::{AllocError, Global};
-use uc_meaning::rules::{Around, Rule};
+use uc_meaning::rule::Rule;
+use uc_meaning::rules::Around;
 use uc_numbers::members::{member_number, members_of};
 use uc_tree::class::Class;
 use uc_tree::kinds::{HandlerKind, MemberName};

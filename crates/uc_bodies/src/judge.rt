@@ -7,7 +7,8 @@ ghost use Rattle.uc_meaning.specs.OwnerBreaks.{is_cluster_place, is_raise_target
 ghost use Rattle.uc_meaning.specs.Visits.{AtAgain, AtBase, AtCaught, AtCondition, AtEvent, AtLoopExit, AtMigrate, AtPrinted, AtRaise, AtRaiseTarget, AtRead, AtReturn, AtStatement, AtSwitch, AtTogether};
 ghost use Rattle.uc_types.specs.Told.{told};
 
-use uc_meaning::rules::{Around, Entity, Rule, Sort};
+use uc_meaning::rule::Rule;
+use uc_meaning::rules::{Around, Entity, Sort};
 use uc_tree::declare::OutItem;
 use uc_tree::kinds::Base;
 use uc_tree::limits::PRINT_ITEMS;

@@ -2,6 +2,7 @@
 use Rattle.std.specs.Prelude.{ℕ, ℤ, pos, ◌+◌, List, [], ◌∷◌, ◌++◌, codes, decimal}
 use Rattle.std.specs.Fmt.{signed_decimal}
 use Rattle.uc_code.specs.declared.op.Op.{Op}
+use Rattle.uc_tree.specs.ValueForms.{form_number}
 use Rattle.uc_code.specs.declared.op.Op.TheVariants.{Push, Duplicate, Discard, Over, DiscardBelow, Local, This, Via, ViaThis, Field, Index, Load, Store, Keep, Clear, Add, Subtract, Multiply, Divide, Remainder, Negate, Not, Equal, NotEqual, Less, AtMost, Greater, AtLeast, ToChar, ToBool, Jump, IfZero, IfNonzero, Tick, Call, CallOn, Return, ReturnValue, NoReturn, Enter, Leave, Make, Made, Spawn, Gone, Coroutine, Live, UnwindCoroutine, Resume, Suspend, EndMain, Throw, Raise, Again, RaiseAt, RaiseAtCoroutine, Handled, Enable, Disable, Restore, Poll, Accept, Wait, Signal, SignalBlock, Empty, Front, Print, Text, Hold, Flush, Read, Fail, Yield, Cluster, ClusterEnd, Processor, ProcessorEnd, Migrate}
 use Rattle.uc_code.specs.declared.rows.HandlerRow.{HandlerRow}
 use Rattle.uc_code.specs.declared.rows.RowKind.{RowKind}
@@ -160,11 +161,11 @@ operands_of Signal = []
 operands_of SignalBlock = []
 operands_of Empty = []
 operands_of Front = []
-operands_of (Print n) = pos n ∷ []
+operands_of (Print form) = pos (form_number form) ∷ []
 operands_of (Text n) = pos n ∷ []
 operands_of Hold = []
 operands_of Flush = []
-operands_of (Read n) = pos n ∷ []
+operands_of (Read form) = pos (form_number form) ∷ []
 operands_of Fail = []
 operands_of Yield = []
 operands_of Cluster = []

@@ -1,14 +1,13 @@
 -- The code of the resolved tree: for each piece what its range of ops must hold. `line` is that of the innermost
 -- statement around the piece.
 use Rattle.std.specs.Prelude.{◌≡◌, ℕ, pos, List, [], ◌∷◌, Option, Some, None, slice_get}
-use Rattle.uc_tree.specs.Programs.{Site}
 use Rattle.uc_tree.specs.Source.{Shape, Integer, Character, Truth, Binding, Last, Field, Array, shape_cells, Operator, Plus, Minus, Times, Over, Modulo, Equal, NotEqual, Less, AtMost, Greater, AtLeast, Expr, Literal, Variable, Element, Load, Negated, Not, AsCharacter, AsTruth, Operate, And, Or, Assign, Update, StepBehind, Fail, Item, Show, ShowText, Target, Declared, Stmt, Skip, Block, Evaluate, Declare, Print, PrintTogether, Read, Stmts, Nil, Then, Routine, Source}
 use Rattle.uc_code.specs.declared.op.Op.{Op}
 use Rattle.uc_code.specs.declared.op.Op.TheVariants as op
 use Rattle.uc_code.specs.declared.rows.Instruction.{Instruction}
 use Rattle.uc_code.specs.declared.rows.RoutineCode.{RoutineCode}
 use Rattle.uc_code.specs.Codes.{Code}
-use Rattle.uc_code.specs.Ranges.{OpAt, Nothing, One, Both, Behind, Fork}
+use Rattle.uc_code.specs.Ranges.{OpAt, Nothing, One, Both, Fork}
 
 -- the op of an operator
 abbrev pub operator_op : Operator → Op

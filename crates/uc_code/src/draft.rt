@@ -8,11 +8,11 @@ use crate::code::Code;
 use crate::draft_parts::{Exit, OpenJump, Outside};
 use crate::op::Op;
 use crate::rows::{HandlerRow, Instruction, RoutineCode};
-use crate::site::Site;
 use std::alloc::{AllocError, Global};
 use std::marker::Model;
 use uc_tree::kinds::{Known, Place, Ty};
 use uc_tree::name::{Name, Text};
+use uc_tree::site::Site;
 
 /// Code while it is written. It holds at most `PROGRAM_OPS` ops. After want of memory it is spent.
 #[derive(Drop)]

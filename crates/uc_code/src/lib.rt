@@ -8,6 +8,5 @@ pub mod listing;
 pub mod op;
 mod operands;
 pub mod rows;
-pub mod site;
 #[cfg(test)]
 mod tests;

@@ -5,6 +5,7 @@ ghost use Rattle.uc_code.specs.Listing.{word_of, operands_of};
 ghost use Rattle.uc_code.specs.Operands.{numbers_of};
 
 use crate::operands::Operands;
+use uc_tree::kinds::ValueForm;
 
 /// An instruction. Values are pushed and popped on the running frame; a cell, a routine, a class, an accept
 /// statement and a text literal go by number, an event and a mutex member too. A jump names the op at which it goes on.
@@ -145,7 +146,7 @@ pub enum Op {
     /// The number that the first waiting task left.
     Front,
     /// Prints the popped value in this form.
-    Print(u8),
+    Print(ValueForm),
     /// Prints the text literal of this number.
     Text(u32),
     /// Gathers printed items until the next flush.
@@ -153,7 +154,7 @@ pub enum Op {
     /// Puts what was gathered.
     Flush,
     /// Reads a value of this form.
-    Read(u8),
+    Read(ValueForm),
     /// Whether a read found no value.
     Fail,
     /// Lets other tasks run.
@@ -330,11 +331,11 @@ impl Op {
             Op::SignalBlock => Operands::Nothing,
             Op::Empty => Operands::Nothing,
             Op::Front => Operands::Nothing,
-            Op::Print(number) => Operands::One(number as u64),
+            Op::Print(form) => Operands::One(form.number() as u64),
             Op::Text(number) => Operands::One(number as u64),
             Op::Hold => Operands::Nothing,
             Op::Flush => Operands::Nothing,
-            Op::Read(number) => Operands::One(number as u64),
+            Op::Read(form) => Operands::One(form.number() as u64),
             Op::Fail => Operands::Nothing,
             Op::Yield => Operands::Nothing,
             Op::Cluster => Operands::Nothing,

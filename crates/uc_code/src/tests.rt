@@ -5,6 +5,7 @@ use crate::listing::listing;
 use crate::op::Op;
 use crate::rows::{ANY_EVENT, HandlerRow, RowKind};
 use std::test::Fail;
+use uc_tree::kinds::ValueForm;
 
 #[test]
 fn listing_of_every_kind_of_operand(rt: HostRuntime) -> Result<(), Fail> {
@@ -24,7 +25,7 @@ fn listing_of_every_kind_of_operand(rt: HostRuntime) -> Result<(), Fail> {
         },
         Op::Throw(63),
         Op::Enable(18446744073709551615),
-        Op::Print(1),
+        Op::Print(ValueForm::Character),
     ];
     let mut draft = Draft::new(alloc, Vec::new(alloc));
     for op in ops {

@@ -1,5 +1,5 @@
 -- The tokens of a whole text, found one after another.
-use Rattle.std.proofs.Common.{subst, ◌≡◌, ℕ, zero, suc, ◌+◌, ◌-◌, ◌<◌, ◌≤◌, List, [], ◌∷◌, ◌++◌, length, take, drop, refl, ap, sym, ◌∙◌, append_assoc, append-nil, drop-drop, length-drop, arith}
+use Rattle.std.proofs.Common.{subst, ◌≡◌, ℕ, zero, suc, ◌+◌, ◌-◌, ◌<◌, ◌≤◌, List, [], ◌∷◌, ◌++◌, length, take, drop, refl, ap, sym, ◌∙◌, append_assoc, length-append, append-nil, drop-drop, length-drop, arith}
 use Rattle.std.proofs.Math.ListN.{drop_of_length-le, length-take}
 use Rattle.uc_tree.specs.declared.token.TokenKind.{TokenKind}
 use Rattle.uc_tree.specs.declared.scan.Reason.{Reason}
@@ -53,6 +53,7 @@ with_one ts t (Refused why at) = refl
 pub record ReadTo (text : List ℕ) (ts : List Token) (p : Place) : Type 0 where
   pub goes_on : tokens text ≡ with_tokens ts (tokens_from p 0 (drop p.at text))
   pub inside : p.at ≤ length text
+  pub few : length ts ≤ p.at
 
 -- the bytes of what was found, and the place behind them
 pub record Passes (text : List ℕ) (p : Place) (rest : List ℕ) (n : ℕ) (bytes : List ℕ) (q : Place) : Type 0 where
@@ -83,12 +84,13 @@ still_inside : {text : List ℕ} {p : Place} {rest : List ℕ} {n : ℕ} {bytes 
 still_inside {text} {p} {rest} {n} {bytes} {q} inside h = omega (arith, inside, h.within, at_behind h, rest_length text p rest h.rest_is)
 
 pub read_start : (text : List ℕ) → ReadTo text [] first_place
-read_start text = record { goes_on = nothing_read (tokens text); inside = omega arith }
+read_start text = record { goes_on = nothing_read (tokens text); inside = omega arith; few = omega arith }
 
 pub read_skip : {text : List ℕ} {ts : List Token} {p : Place} {rest : List ℕ} {n : ℕ} {bytes : List ℕ} {q : Place} → ReadTo text ts p → Passes text p rest n bytes q → 0 < length rest → InText (Skip n) (length rest) → Skip n ≡ found_at p.fresh rest → ReadTo text ts q
 read_skip {text} {ts} {p} {rest} {n} {bytes} {q} so_far passes some inside is = record {
   goes_on = from_here so_far passes.rest_is (Skip n) some inside is ∙ ap (with_tokens ts) (behind_is passes);
   inside = still_inside so_far.inside passes;
+  few = omega (arith, so_far.few, at_behind passes);
 }
 
 pub read_take : {text : List ℕ} {ts : List Token} {p : Place} {rest : List ℕ} {n : ℕ} {bytes : List ℕ} {q : Place} → (kind : TokenKind) → ReadTo text ts p → Passes text p rest n bytes q → 0 < length rest → InText (Take kind n) (length rest) → Take kind n ≡ found_at p.fresh rest → ReadTo text (ts ++ (record { kind = kind; at = p.at; pos = p.pos }) ∷ []) q
@@ -96,6 +98,7 @@ read_take {text} {ts} {p} {rest} {n} {bytes} {q} kind so_far passes some inside 
   goes_on = from_here so_far passes.rest_is (Take kind n) some inside is ∙ ap (λ l. with_tokens ts (with_token (record { kind = kind; at = p.at; pos = p.pos }) l)) (behind_is passes)
       ∙ with_one ts (record { kind = kind; at = p.at; pos = p.pos }) (tokens_from q 0 (drop q.at text));
   inside = still_inside so_far.inside passes;
+  few = omega (arith, so_far.few, at_behind passes, inside.0, length-append ts ((record { kind = kind; at = p.at; pos = p.pos }) ∷ []));
 }
 
 pub read_stop : {text : List ℕ} {ts : List Token} {p : Place} {rest : List ℕ} → (why : Reason) (n : ℕ) → ReadTo text ts p → rest ≡ drop p.at text → 0 < length rest → InText (Stop why n) (length rest) → Stop why n ≡ found_at p.fresh rest → tokens text ≡ Refused why (p.at + n)

@@ -1,6 +1,6 @@
 // The whole text.
 
-ghost use Rattle.std.specs.Prelude.{◌≡◌, ◌+◌, ◌<◌, ◌^◌, IfOk, IfErr, IsErr, List, ℕ, length};
+ghost use Rattle.std.specs.Prelude.{◌≡◌, ◌+◌, ◌<◌, ◌≤◌, ◌^◌, IfOk, IfErr, IsErr, List, ℕ, length};
 ghost use Rattle.uc_tree.specs.Tokens as tokens;
 ghost use Rattle.uc_lex.specs.Faults.{IsFault, StandsIn};
 ghost use Rattle.uc_lex.specs.Places.{InText};
@@ -91,6 +91,7 @@ fn fault_at(why: Reason, at: u32) -> LexFault
 pub fn lex(alloc: Global, text: &[u8]) -> Result<Vec<Token>, LexFault>
     requires { length text.now + 1 < 2 ^ 32 }
     ensures tokens { IfOk result (λ v. tokens.tokens text.now ≡ tokens.Read v.items) }
+    ensures few { IfOk result (λ v. length v.items ≤ length text.now) }
     ensures fault { IfErr result (λ f. IsFault (tokens.tokens text.now) f) }
     ensures inside { IfErr result (λ f. StandsIn f (length text.now)) }
     ensures complete { (ts : List Token) → tokens.tokens text.now ≡ tokens.Read ts → IfErr result (λ f. f ≡ LexFault.NoMemory) }

@@ -7,6 +7,8 @@ use Rattle.uc_tree.specs.declared.pos.Pos.{Pos}
 use Rattle.uc_tree.specs.declared.kinds.Base.{Base}
 use Rattle.uc_tree.specs.declared.kinds.Base.TheVariants as base
 use Rattle.uc_tree.specs.declared.kinds.Known.{Known}
+use Rattle.uc_tree.specs.declared.kinds.ValueForm.{ValueForm}
+use Rattle.uc_tree.specs.declared.kinds.ValueForm.TheVariants as value_form
 use Rattle.uc_tree.specs.declared.declare.OutForm.{OutForm}
 use Rattle.uc_tree.specs.Expressions as tree
 use Rattle.uc_tree.specs.Expressions.{exprs_of}
@@ -38,14 +40,14 @@ use Rattle.uc_lower_stmt.proofs.Joined.{lowers_adds, lowers_as, lowers_join, low
 
 -- forms
 
-form_in : Shape → ℕ
-form_in Integer = 0
-form_in Character = 1
-form_in Truth = 0
-form_in Binding = 0
-form_in Last = 0
-form_in (Field s t) = 0
-form_in (Array n s) = 0
+form_in : Shape → ValueForm
+form_in Integer = value_form.Number
+form_in Character = value_form.Character
+form_in Truth = value_form.Number
+form_in Binding = value_form.Number
+form_in Last = value_form.Number
+form_in (Field s t) = value_form.Number
+form_in (Array n s) = value_form.Number
 
 form_of_shape : (b : Base) → form_of b ≡ form_in (shape_of b)
 unfolding form_in
@@ -104,14 +106,14 @@ piece_text i p t line old new e h = as_piece i (Literal p t) line old new e (
       code = record { middle = length old.ops; first = record { end = refl }; second = record { end = refl } };
     }))
 
-pub op_endl : (i : OutItem) (p : Pos) (s : Scope) → Endl p ≡ i → op.Print 1 ∷ [] ≡ map item_op (items_meant s (i ∷ []))
-op_endl i p s e = subst (λ (x : OutItem). op.Print 1 ∷ [] ≡ map item_op (items_meant s (x ∷ []))) e refl
+pub op_endl : (i : OutItem) (p : Pos) (s : Scope) → Endl p ≡ i → op.Print value_form.Character ∷ [] ≡ map item_op (items_meant s (i ∷ []))
+op_endl i p s e = subst (λ (x : OutItem). op.Print value_form.Character ∷ [] ≡ map item_op (items_meant s (x ∷ []))) e refl
 
 pub op_text : (i : OutItem) (p : Pos) (t : List ℕ) (s : Scope) (n : ℕ) → Literal p t ≡ i → n ≡ s.texts → op.Text n ∷ [] ≡ map item_op (items_meant s (i ∷ []))
 op_text i p t s n e h = subst (λ (x : OutItem). op.Text n ∷ [] ≡ map item_op (items_meant s (x ∷ []))) e (ap (λ (y : ℕ). let l : List Op = op.Text y ∷ [] in l) h)
 
-pub op_value : (i : OutItem) (p : Pos) (v : tree.Expr) (s : Scope) (t : Meaning) (n : ℕ) → Printed p v ≡ i → n ≡ form_as t.scalar → Tells t (meant s.names v) → op.Print n ∷ [] ≡ map item_op (items_meant s (i ∷ []))
-op_value i p v s t n e h u = subst (λ (x : OutItem). op.Print n ∷ [] ≡ map item_op (items_meant s (x ∷ []))) e (ap (λ (y : ℕ). let l : List Op = op.Print y ∷ [] in l) (h ∙ form_told (meant s.names v) t u))
+pub op_value : (i : OutItem) (p : Pos) (v : tree.Expr) (s : Scope) (t : Meaning) (n : ValueForm) → Printed p v ≡ i → n ≡ form_as t.scalar → Tells t (meant s.names v) → op.Print n ∷ [] ≡ map item_op (items_meant s (i ∷ []))
+op_value i p v s t n e h u = subst (λ (x : OutItem). op.Print n ∷ [] ≡ map item_op (items_meant s (x ∷ []))) e (ap (λ (y : ValueForm). let l : List Op = op.Print y ∷ [] in l) (h ∙ form_told (meant s.names v) t u))
 
 -- an item with its op: where there is one value, its op stands behind it
 one_item : (is : List Item) (o : Op) (line : ℕ) (ops : List Instruction) (a b z : ℕ) → o ∷ [] ≡ map item_op is → ValuesAt ops line is a b → One ops o line b z → ItemsAt ops line is a z
@@ -143,7 +145,7 @@ item_counts (Printed p v) = omega arith
 
 items_push : (s : Scope) (xs : List OutItem) (x : OutItem) → items_meant s xs ++ items_meant (with_texts s (texts_among xs)) (x ∷ []) ≡ items_meant s (xs ++ x ∷ [])
 items_push s [] x = sym (ap (λ (t : Scope). items_meant t (x ∷ [])) (no_text s))
-items_push s (Endl p ∷ xs) x = ap (λ l. Show 1 newline ∷ l) (items_push s xs x)
+items_push s (Endl p ∷ xs) x = ap (λ l. Show value_form.Character newline ∷ l) (items_push s xs x)
 items_push s (Literal p t ∷ xs) x =
     let e : s.texts + suc (texts_among xs) ≡ s.texts + 1 + texts_among xs = omega arith in
     ap (λ (n : ℕ). let l : List Item = ShowText s.texts ∷ (items_meant (record s { texts = s.texts + 1 }) xs ++ items_meant (record s { texts = n }) (x ∷ [])) in l) e
@@ -271,9 +273,9 @@ arm_together xs os ps line d0 d1 d2 d3 d4 e i h1 h2 h3 h4 =
 
 -- places that are read
 
-pub arm_target : (n line form : ℕ) (m : Meant) (t : Meaning) (k : ℕ) (d0 d1 d2 d3 : Draft) → n + 2 ≤ k → form ≡ form_as t.scalar → Tells t m → Adds n (ExprCode line m.expr) d0 d1 → Adds 1 (OpCode line (op.Read form)) d1 d2 → Adds 1 (OpCode line op.Store) d2 d3 → Adds k (TargetsCode line (record { form = form_of m.ty.base; place = m.expr } ∷ [])) d0 d3
+pub arm_target : (n line : ℕ) (form : ValueForm) (m : Meant) (t : Meaning) (k : ℕ) (d0 d1 d2 d3 : Draft) → n + 2 ≤ k → form ≡ form_as t.scalar → Tells t m → Adds n (ExprCode line m.expr) d0 d1 → Adds 1 (OpCode line (op.Read form)) d1 d2 → Adds 1 (OpCode line op.Store) d2 d3 → Adds k (TargetsCode line (record { form = form_of m.ty.base; place = m.expr } ∷ [])) d0 d3
 arm_target n line form m t k d0 d1 d2 d3 l e u h1 h2 h3 =
-    let h2' : Adds 1 (OpCode line (op.Read (form_of m.ty.base))) d1 d2 = subst (λ (x : ℕ). Adds 1 (OpCode line (op.Read x)) d1 d2) (e ∙ form_told m t u) h2 in
+    let h2' : Adds 1 (OpCode line (op.Read (form_of m.ty.base))) d1 d2 = subst (λ (x : ValueForm). Adds 1 (OpCode line (op.Read x)) d1 d2) (e ∙ form_told m t u) h2 in
     let h3' : Adds 1 (λ ops. Both (One ops op.Store line) Nothing) d2 d3 = adds_as h3 (λ ops a z w. and_none (One ops op.Store line) a z w) in
     adds_more (omega arith) (adds_both (expr_stable line m.expr) h1 (adds_both (one_stable (op.Read (form_of m.ty.base)) line) h2' h3'))
 

@@ -1,5 +1,7 @@
 -- The code of parts of statements.
 use Rattle.std.specs.Prelude.{ℕ, List, [], ◌∷◌, Option}
+use Rattle.uc_tree.specs.declared.kinds.ValueForm.{ValueForm}
+use Rattle.uc_tree.specs.declared.kinds.ValueForm.TheVariants as value_form
 use Rattle.uc_tree.specs.Source.{Expr, Item, Target, Declared}
 use Rattle.uc_code.specs.declared.op.Op.{Op}
 use Rattle.uc_code.specs.declared.rows.Instruction.{Instruction}
@@ -32,7 +34,7 @@ PiecesCode line [] ops = Nothing
 PiecesCode line (o ∷ os) ops = Both (PiecesCode line os ops) (One ops o line)
 
 -- the form of a scalar that is printed or read
-abbrev pub form_as : Scalar → ℕ
-form_as scalar.Number = 0
-form_as scalar.Character = 1
-form_as scalar.Truth = 0
+abbrev pub form_as : Scalar → ValueForm
+form_as scalar.Number = value_form.Number
+form_as scalar.Character = value_form.Character
+form_as scalar.Truth = value_form.Number

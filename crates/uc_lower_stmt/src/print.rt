@@ -19,15 +19,16 @@ use uc_lower_expr::meaning::Scalar;
 use uc_lower_expr::put::put;
 use uc_tree::declare::{OutForm, OutItem};
 use uc_tree::expr::Expr;
+use uc_tree::kinds::ValueForm;
 
 // A `char` is printed and read as a character, all else as a number.
-fn form(scalar: Scalar) -> u8
+fn form(scalar: Scalar) -> ValueForm
     ensures { result ≡ form_as scalar }
 {
     match scalar {
-        Scalar::Number => 0,
-        Scalar::Character => 1,
-        Scalar::Truth => 0,
+        Scalar::Number => ValueForm::Number,
+        Scalar::Character => ValueForm::Character,
+        Scalar::Truth => ValueForm::Number,
     }
 }
 
@@ -41,7 +42,7 @@ fn lower_piece(item: &OutItem, line: u32, out: &mut Draft) -> Result<Op, AllocEr
     match &item.form {
         OutForm::Endl => {
             put(Op::Push(10), line, out)?;
-            Ok(Op::Print(1))
+            Ok(Op::Print(ValueForm::Character))
         }
         OutForm::Literal { .. } => Ok(Op::Text(out.add_text())),
         OutForm::Value { value } => {

@@ -1,8 +1,8 @@
 -- How rules ask: a break where a test fails, and none where an expression breaks a rule itself.
 use Rattle.std.specs.Prelude.{List, [], ◌∷◌, Bool, true, false, Option, Some, None}
 use Rattle.uc_tree.specs.declared.pos.Pos.{Pos}
-use Rattle.uc_meaning.specs.declared.rules.Rule.{Rule}
-use Rattle.uc_meaning.specs.declared.rules.Break.{Break}
+use Rattle.uc_meaning.specs.declared.rule.Rule.{Rule}
+use Rattle.uc_meaning.specs.declared.rule.Break.{Break}
 use Rattle.uc_meaning.specs.declared.rules.Sort.{Sort}
 use Rattle.uc_meaning.specs.declared.rules.Entity.{Entity}
 

@@ -3,9 +3,9 @@ use Rattle.std.specs.Prelude.{List, [], ◌∷◌, ◌++◌, not, ◌&&◌, Cont
 use Rattle.uc_tree.specs.declared.pos.Pos.{Pos}
 use Rattle.uc_tree.specs.Numbering.{is_public}
 use Rattle.uc_tree.specs.Programs.{Program}
-use Rattle.uc_meaning.specs.declared.rules.Rule.{Rule}
-use Rattle.uc_meaning.specs.declared.rules.Rule.TheVariants.{S2, S4, S5, S6, S11, S14, S16, S17, S18, S19, S22}
-use Rattle.uc_meaning.specs.declared.rules.Break.{Break}
+use Rattle.uc_meaning.specs.declared.rule.Rule.{Rule}
+use Rattle.uc_meaning.specs.declared.rule.Rule.TheVariants.{S2, S4, S5, S6, S11, S14, S16, S17, S18, S19, S22}
+use Rattle.uc_meaning.specs.declared.rule.Break.{Break}
 use Rattle.uc_meaning.specs.Sorts.{is_coroutine, sort_of}
 use Rattle.uc_meaning.specs.Visits.{Visit, AtMember, AtArgument, AtReturn, AtVariable, AtRaise, AtCaught, AtInit, AtInits, AtSig, AtParam, AtField, AtRoutine, AtMark, AtClass, AtConstant, AtItem, AtProgram}
 use Rattle.uc_meaning.specs.ProgramVisits.{program_visits, home_member}

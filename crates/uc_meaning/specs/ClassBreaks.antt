@@ -17,8 +17,8 @@ use Rattle.uc_tree.specs.Numbering.{main_name, unhandled_name, is_event, is_mute
 use Rattle.uc_tree.specs.Expressions.{expr_pos}
 use Rattle.uc_tree.specs.Statements.{Declarator, Stmts, NoStmts, MoreStmts}
 use Rattle.uc_tree.specs.Programs.{Sig, Init, Routine, MemberForm, FieldsMember, RoutineMember, ProtoMember, Member, Class, Constant, Item, ClassItem, RoutineItem, ConstItem, ProtoItem, ForwardItem, UsingItem, Program}
-use Rattle.uc_meaning.specs.declared.rules.Rule.TheVariants.{S11, S12, S15, S16, S17}
-use Rattle.uc_meaning.specs.declared.rules.Break.{Break}
+use Rattle.uc_meaning.specs.declared.rule.Rule.TheVariants.{S11, S12, S15, S16, S17}
+use Rattle.uc_meaning.specs.declared.rule.Break.{Break}
 use Rattle.uc_meaning.specs.declared.rules.Sort.{Sort}
 use Rattle.uc_meaning.specs.declared.rules.Sort.TheVariants as sort
 use Rattle.uc_meaning.specs.declared.rules.Entity.{Entity}

@@ -13,8 +13,8 @@ use Rattle.uc_tree.specs.Numbering.{unhandled_name, is_event, is_mutex, member_n
 use Rattle.uc_tree.specs.Expressions.{Expr, Exprs, NoExprs, MoreExprs, expr_pos}
 use Rattle.uc_tree.specs.Statements.{Start, NoStart, StartValue, StartArgs, Declarator, OutItem, Endl, Literal, Printed, Handles, Handlers, NoHandlers, MoreHandlers, Accepts, Clauses, NoClauses, MoreClauses}
 use Rattle.uc_tree.specs.Programs.{Class, Program}
-use Rattle.uc_meaning.specs.declared.rules.Rule.TheVariants.{S1, S7, S8, S9, S10, S12, S13, S14, S15, S16, S20, S21, S22, S23, S24}
-use Rattle.uc_meaning.specs.declared.rules.Break.{Break}
+use Rattle.uc_meaning.specs.declared.rule.Rule.TheVariants.{S1, S7, S8, S9, S10, S12, S13, S14, S15, S16, S20, S21, S22, S23, S24}
+use Rattle.uc_meaning.specs.declared.rule.Break.{Break}
 use Rattle.uc_meaning.specs.declared.rules.Sort.{Sort}
 use Rattle.uc_meaning.specs.declared.rules.Sort.TheVariants as sort
 use Rattle.uc_meaning.specs.declared.rules.Entity.{Entity}

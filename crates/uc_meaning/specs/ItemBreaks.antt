@@ -13,8 +13,8 @@ use Rattle.uc_tree.specs.declared.kinds.Forward.{Forward}
 use Rattle.uc_tree.specs.Names.{same_name}
 use Rattle.uc_tree.specs.Numbering.{main_name, unhandled_name, is_event, is_plain}
 use Rattle.uc_tree.specs.Programs.{Sig, MemberForm, FieldsMember, RoutineMember, ProtoMember, Class, Item, ClassItem, RoutineItem, ConstItem, ProtoItem, ForwardItem, UsingItem, Program}
-use Rattle.uc_meaning.specs.declared.rules.Rule.TheVariants.{S3, S5}
-use Rattle.uc_meaning.specs.declared.rules.Break.{Break}
+use Rattle.uc_meaning.specs.declared.rule.Rule.TheVariants.{S3, S5}
+use Rattle.uc_meaning.specs.declared.rule.Break.{Break}
 use Rattle.uc_meaning.specs.declared.rules.Home.{Home}
 use Rattle.uc_meaning.specs.Sorts.{class_at, is_coroutine, is_cormonitor, is_task}
 use Rattle.uc_meaning.specs.Names.{is_destructor, is_here}

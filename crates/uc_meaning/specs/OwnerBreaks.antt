@@ -10,8 +10,8 @@ use Rattle.uc_tree.specs.Numbering.{is_mutex}
 use Rattle.uc_tree.specs.Expressions.{Expr, Number, Character, Truth, Name, Cin, Postfix, Unary, Chain, Assign, Exprs, NoExprs, MoreExprs, expr_pos}
 use Rattle.uc_tree.specs.Statements.{Declarator}
 use Rattle.uc_tree.specs.Programs.{Init, Routine, MemberForm, FieldsMember, RoutineMember, ProtoMember, Member, Class, Item, ClassItem, RoutineItem, ConstItem, ProtoItem, ForwardItem, UsingItem, Program}
-use Rattle.uc_meaning.specs.declared.rules.Rule.TheVariants.{O1, O2, O3, O4, O5, O6, O7, O8, O9}
-use Rattle.uc_meaning.specs.declared.rules.Break.{Break}
+use Rattle.uc_meaning.specs.declared.rule.Rule.TheVariants.{O1, O2, O3, O4, O5, O6, O7, O8, O9}
+use Rattle.uc_meaning.specs.declared.rule.Break.{Break}
 use Rattle.uc_meaning.specs.declared.rules.Sort.{Sort}
 use Rattle.uc_meaning.specs.declared.rules.Entity.{Entity}
 use Rattle.uc_meaning.specs.declared.rules.Entity.TheVariants as entity

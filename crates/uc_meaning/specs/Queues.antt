@@ -1,5 +1,5 @@
 -- The queues of the kernel, as filters of the whole journal.
-use Rattle.std.specs.Prelude.{ℕ, ◌==◌, ◌&&◌, ◌+◌, Bool, true, false, not, List, [], ◌∷◌, ◌++◌, Option, Some, None, reverse, map, if◌then◌else◌}
+use Rattle.std.specs.Prelude.{ℕ, ◌==◌, ◌&&◌, ◌||◌, ◌+◌, Bool, true, false, not, List, [], ◌∷◌, ◌++◌, Option, Some, None, reverse, map, if◌then◌else◌}
 use Rattle.std.specs.List.{filter, list_any, list_all, count_by, sum_by, range_with_len}
 use Rattle.uc_meaning.specs.declared.entry.Entry.{Entry}
 use Rattle.uc_meaning.specs.declared.entry.EntryKind.{EntryKind}
@@ -77,6 +77,20 @@ noted_from t on (e ∷ j) = note t on e ∷ noted_from (actor t e.kind e) (clust
 abbrev pub noted : Journal → List Noted
 noted j = noted_from 0 (λ t. 0) j
 
+-- who acts at the end
+abbrev pub last_actor : ℕ → Journal → ℕ
+last_actor t [] = t
+last_actor t (e ∷ j) = last_actor (actor t e.kind e) j
+
+-- the clusters at the end
+abbrev pub last_clusters : (ℕ → ℕ) → Journal → ℕ → ℕ
+last_clusters on [] = on
+last_clusters on (e ∷ j) = last_clusters (clusters on e.kind e) j
+
+-- the cluster that task t is on
+abbrev pub cluster_of : ℕ → Journal → ℕ
+cluster_of t j = last_clusters (λ u. 0) j t
+
 -- the task that an entry makes ready, where the task t acts
 abbrev pub readies : EntryKind → Entry → ℕ → Option ℕ
 readies kind.Begin e t = Some 0
@@ -150,24 +164,55 @@ cluster_count j = count_by (λ e. is_cluster e.kind) j + 1
 unfoldable pub processor_count : Options → Journal → ℕ
 processor_count opts j = count_by (λ e. is_processor e.kind) j + opts.processors
 
+abbrev pub is_nobody : {A : Type 0} → List A → Bool
+is_nobody [] = true
+is_nobody (x ∷ xs) = false
+
 -- a processor that an entry makes, with its cluster
 abbrev pub makes_processor : EntryKind → Entry → Option (ℕ × ℕ)
 makes_processor kind.Processor e = Some (number e.a, number e.b)
 makes_processor _ e = None
 
 -- whether an entry closes processor p
-abbrev pub closes : EntryKind → Entry → ℕ → Bool
-closes kind.ProcessorEnd e p = p == number e.a
-closes _ e p = false
+abbrev pub closes : ℕ → EntryKind → Entry → Bool
+closes p kind.ProcessorEnd e = holds p e.a
+closes p _ e = false
 
--- the processors that are open, each with its cluster
+-- all processors, each with its cluster
+unfoldable pub processors : Options → Journal → List (ℕ × ℕ)
+processors opts j =
+    map (λ p. (p, 0)) (range_with_len 0 opts.processors) ++ still_open (λ e. makes_processor e.kind e) (λ e x. false) j
+
+-- those that are not closed
 unfoldable pub open_processors : Options → Journal → List (ℕ × ℕ)
-open_processors opts j =
-    map (λ p. (p, 0)) (range_with_len 0 opts.processors) ++ still_open (λ e. makes_processor e.kind e) (λ e x. closes e.kind e x.0) j
+open_processors opts j = filter (λ x. not (list_any (λ e. closes x.0 e.kind e) j)) (processors opts j)
 
-abbrev pub is_nobody : {A : Type 0} → List A → Bool
-is_nobody [] = true
-is_nobody (x ∷ xs) = false
+-- the cluster of a processor
+abbrev pub cluster_in : ℕ → List (ℕ × ℕ) → ℕ
+cluster_in p [] = 0
+cluster_in p (x ∷ xs) = if x.0 == p then x.1 else cluster_in p xs
+
+-- the task that comes to stand on its cluster by an entry
+abbrev pub comes_to_stand : EntryKind → Entry → Option ℕ
+comes_to_stand kind.Begin e = Some 0
+comes_to_stand kind.Spawn e = Some (number e.a)
+comes_to_stand kind.Migrate e = Some e.task
+comes_to_stand _ e = None
+
+-- whether an entry takes task t from its cluster
+abbrev pub leaves_cluster : EntryKind → Entry → ℕ → Bool
+leaves_cluster kind.Migrate e t = t == e.task
+leaves_cluster kind.End e t = t == e.task
+leaves_cluster _ e t = false
+
+-- the tasks on cluster k that have not ended
+unfoldable pub tasks_on : ℕ → Journal → List ℕ
+tasks_on k j =
+    still_open (λ x. on_cluster k x.cluster (comes_to_stand x.entry.kind x.entry)) (λ x. leaves_cluster x.entry.kind x.entry) (noted j)
+
+-- whether a task that has not ended, or an open processor, stands on cluster k
+abbrev pub is_in_use : Options → ℕ → Journal → Bool
+is_in_use opts k j = not (is_nobody (tasks_on k j)) || list_any (λ x. x.1 == k) (open_processors opts j)
 
 -- whether no task runs
 unfoldable pub none_running : Options → Journal → Bool

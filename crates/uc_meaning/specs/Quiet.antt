@@ -4,10 +4,16 @@ use Rattle.std.specs.Int.{int_rem_euclid}
 use Rattle.std.specs.Ordering.{int_eq}
 use Rattle.uc_tree.specs.declared.limits.TheConstants.{INT_MIN, INT_MAX, CHAR_VALUES, PRINT_ITEMS}
 use Rattle.uc_tree.specs.Source.{Shape, Character, Truth, shape_cells, field_cells, Operator, Plus, Minus, Times, Over, Modulo, Equal, NotEqual, Less, AtMost, Greater, AtLeast, Expr, Literal, Variable, Element, Load, Negated, Not, AsCharacter, AsTruth, Operate, And, Or, Assign, Update, StepBehind, Fail, Item, Show, ShowText, Target, Declared, Stmt, Skip, Block, Evaluate, Declare, Print, PrintTogether, Read, Stmts, Nil, Then, Routine}
+use Rattle.uc_tree.specs.declared.kinds.ValueForm.{ValueForm}
+use Rattle.uc_tree.specs.ValueForms.{form_number}
 use Rattle.uc_meaning.specs.declared.exec.Exec.{Exec}
 use Rattle.uc_meaning.specs.declared.exec.Home.TheVariants as home
 use Rattle.uc_meaning.specs.declared.exec.Owner.{Owner}
 use Rattle.uc_meaning.specs.declared.exec.Owner.TheVariants.{Frame}
+use Rattle.uc_meaning.specs.declared.fault.RunFault.{RunFault}
+use Rattle.uc_meaning.specs.declared.fault.RunFault.TheVariants.{Overflow, DivideByZero, Index}
+use Rattle.uc_meaning.specs.Faults.{fault_number}
+use Rattle.uc_meaning.specs.declared.request.TheConstants.{TEXT_FORM}
 use Rattle.uc_meaning.specs.declared.request.Piece.{Piece}
 use Rattle.uc_meaning.specs.declared.request.Request.{Request}
 use Rattle.uc_meaning.specs.declared.request.Request.TheVariants as ask
@@ -52,12 +58,12 @@ pub data Todo : Type 0 where
   -- the first expression where the newest operand is not 0, else the second
   Choose : Expr → Expr → Todo
   -- print the newest operand in this form, a text literal; gathered items are printed at once
-  PrintNow : ℕ → Todo
+  PrintNow : ValueForm → Todo
   TextNow : ℕ → Todo
   GatherNow : Todo
   FlushNow : Todo
   -- read in this form
-  ReadNow : ℕ → Todo
+  ReadNow : ValueForm → Todo
   -- so many cells of the frame start anew
   ClearNow : ℕ → ℕ → Todo
   -- what is left of a statement's items, of those that are printed at once, of its targets, of its variables
@@ -127,31 +133,21 @@ as_character n = int_rem_euclid n CHAR_VALUES
 abbrev pub as_truth : ℤ → ℤ
 as_truth n = if is_zero n then pos 0 else pos 1
 
--- the numbers of run faults
-abbrev pub OVERFLOW : ℕ
-OVERFLOW = 1
-
-abbrev pub DIVIDE_BY_ZERO : ℕ
-DIVIDE_BY_ZERO = 2
-
-abbrev pub INDEX : ℕ
-INDEX = 3
-
--- what an operator gives: a number, or a fault by its number
+-- what an operator gives: a number, or a fault
 pub data Outcome : Type 0 where
   Gives : ℤ → Outcome
-  Faults : ℕ → Outcome
+  Faults : RunFault → Outcome
 
 -- a number that must be an `int`
 abbrev pub int_outcome : ℤ → Outcome
-int_outcome n = if fits n then Gives n else Faults OVERFLOW
+int_outcome n = if fits n then Gives n else Faults Overflow
 
 abbrev pub outcome : Operator → ℤ → ℤ → Outcome
 outcome Plus x y = int_outcome (x +ℤ y)
 outcome Minus x y = int_outcome (x -ℤ y)
 outcome Times x y = int_outcome (x *ℤ y)
-outcome Over x y = if is_zero y then Faults DIVIDE_BY_ZERO else int_outcome (int_div x y)
-outcome Modulo x y = if is_zero y then Faults DIVIDE_BY_ZERO else int_outcome (int_rem x y)
+outcome Over x y = if is_zero y then Faults DivideByZero else int_outcome (int_div x y)
+outcome Modulo x y = if is_zero y then Faults DivideByZero else int_outcome (int_rem x y)
 outcome Equal x y = Gives (truth (int_eq x y))
 outcome NotEqual x y = Gives (truth (if int_eq x y then false else true))
 outcome Less x y = Gives (truth (int_lt x y))
@@ -243,10 +239,6 @@ piece form n = record { form = form; value = n }
 abbrev pub with_piece : Piece → List Piece → List Piece
 with_piece p ps = if nat_lt (length ps) PRINT_ITEMS then p ∷ ps else ps
 
--- text literals are of form 2
-abbrev pub TEXT : ℕ
-TEXT = 2
-
 -- the line of the innermost statement that runs
 abbrev pub line_of : List Todo → ℕ
 line_of [] = 0
@@ -261,15 +253,15 @@ state todo operands e = record { control = todo; operands = operands; env = e }
 abbrev pub goes : List Todo → List Value → Env → Step
 goes todo operands e = Goes (state todo operands e)
 
-abbrev pub fault : ℕ → List Todo → List Value → Env → Step
-fault n todo operands e = Asks (ask.Fault n) (state todo operands e)
+abbrev pub fault : RunFault → List Todo → List Value → Env → Step
+fault f todo operands e = Asks (ask.Fault (fault_number f)) (state todo operands e)
 
 abbrev pub outcome_step : Outcome → List Todo → List Value → Env → Step
 outcome_step (Gives n) todo vs e = goes todo (Number n ∷ vs) e
-outcome_step (Faults n) todo vs e = fault n todo vs e
+outcome_step (Faults f) todo vs e = fault f todo vs e
 
 abbrev pub element_step : Shape → Option ℕ → List Todo → Value → List Value → Env → Step
-element_step s None todo v vs e = fault INDEX todo vs e
+element_step s None todo v vs e = fault Index todo vs e
 element_step s (Some i) todo v vs e = goes todo (further (At s i) v ∷ vs) e
 
 -- an item is printed in an act of its own, or gathered
@@ -353,11 +345,11 @@ act DropBelowNow todo vs e = goes todo (top vs ∷ below (below vs)) e
 act StoreNow todo vs e = goes todo (below (below vs)) (written (top (below vs)) (top vs) e)
 act KeepNow todo vs e = goes todo (top vs ∷ below (below vs)) (written (top (below vs)) (top vs) e)
 act (Choose a b) todo vs e = goes (Eval (if is_zero (number (top vs)) then b else a) ∷ todo) (below vs) e
-act (PrintNow form) todo vs e = print_step e.gathered (piece form (number (top vs))) todo (below vs) e
-act (TextNow k) todo vs e = print_step e.gathered (piece TEXT (pos k)) todo vs e
+act (PrintNow form) todo vs e = print_step e.gathered (piece (form_number form) (number (top vs))) todo (below vs) e
+act (TextNow k) todo vs e = print_step e.gathered (piece TEXT_FORM (pos k)) todo vs e
 act GatherNow todo vs e = goes todo vs (record e { gathered = Some [] })
 act FlushNow todo vs e = flush_step e.gathered todo vs e
-act (ReadNow form) todo vs e = Asks (ask.Read form) (state todo vs e)
+act (ReadNow form) todo vs e = Asks (ask.Read (form_number form)) (state todo vs e)
 act (ClearNow k n) todo vs e = goes todo vs (cleared k n e)
 act (Items []) todo vs e = goes todo vs e
 act (Items (i ∷ is)) todo vs e = goes (item_todo i (Items is ∷ todo)) vs e

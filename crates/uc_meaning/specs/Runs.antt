@@ -1,6 +1,5 @@
 -- The world that a journal leaves, what may follow in a journal, and the runs of a program.
-use Rattle.std.specs.Prelude.{◌≡◌, ℕ, ◌-◌, ◌+◌, ◌<◌, ◌≤◌, ◌==◌, true, false, List, [], ◌∷◌, ◌++◌, Option, Some, None, map, length, if◌then◌else◌}
-use Rattle.std.specs.List.{Contains}
+use Rattle.std.specs.Prelude.{◌≡◌, ℕ, ◌+◌, ◌<◌, ◌≤◌, ◌==◌, true, false, List, [], ◌∷◌, ◌++◌, Option, Some, None, map, length, if◌then◌else◌}
 use Rattle.uc_meaning.specs.declared.entry.Entry.{Entry}
 use Rattle.uc_meaning.specs.declared.entry.Options.{Options}
 use Rattle.uc_meaning.specs.declared.request.Answer.{Answer}
@@ -9,8 +8,10 @@ use Rattle.uc_meaning.specs.declared.request.Asked.{Asked}
 use Rattle.uc_meaning.specs.declared.request.Request.{Request}
 use Rattle.uc_meaning.specs.declared.request.Request.TheVariants as ask
 use Rattle.uc_meaning.specs.Journal.{Journal, begin, held, holds, is_over}
-use Rattle.uc_meaning.specs.Queues.{ready, running, used, open_processors}
+use Rattle.uc_meaning.specs.Queues.{running}
+use Rattle.uc_meaning.specs.Serves.{Serves, left}
 use Rattle.uc_meaning.specs.Executions.{find}
+use Rattle.uc_tree.specs.Programs.{Site}
 use Rattle.uc_tree.specs.Source.{Source, routine_of}
 use Rattle.uc_meaning.specs.Quiet.{Value, Number, State, Members, no_members, first_state}
 use Rattle.uc_meaning.specs.Rides.{Rides}
@@ -85,33 +86,21 @@ world_after a w t s r = record {
   objects = λ o. or_else (find o s.env.hand) (w.objects o);
 }
 
--- processor p is open and free, and its cluster's queue begins with task t
-pub record Serves (opts : Options) (j : Journal) (p t : ℕ) : Type 0 where
-  pub cluster : ℕ
-  pub later : List ℕ
-  pub opened : Contains (open_processors opts j) (p, cluster)
-  pub free : running p j ≡ []
-  pub queued : ready cluster j ≡ t ∷ later
-
--- the ticks that a task has left since its dispatch
-abbrev pub left : Options → Journal → ℕ → ℕ
-left opts j t = opts.slice - used t j
-
 -- task t runs on p, and its ride in this world leads to the state s after these ticks and asks this
 pub record AsksIn (opts : Options) (j : Journal) (w : World) (p t ticks : ℕ) (s : State) (asked : Asked) : Type 0 where
   pub runs : running p j ≡ t ∷ []
   pub rides : Rides (drawn j w t) (left opts j t) s ticks asked
 
 -- the act that may follow a journal without an ending, and the world after it
-pub data May (opts : Options) (input : List ℕ) (j : Journal) (w : World) : List Entry → World → Type 0 where
-  gives : (p t : ℕ) → Serves opts j p t → length j + 2 ≤ opts.entries → May opts input j w (dispatch p t ∷ []) w
-  no_room : (p t : ℕ) → Serves opts j p t → opts.entries < length j + 2 → May opts input j w (lone_limit ∷ []) w
-  acts : (p t ticks : ℕ) (s : State) (asked : Asked) → AsksIn opts j w p t ticks s asked → May opts input j w (act opts input j p t ticks asked) (world_after (act opts input j p t ticks asked) w t s asked.request)
+pub data May (opts : Options) (sites : List Site) (input : List ℕ) (j : Journal) (w : World) : List Entry → World → Type 0 where
+  gives : (p t : ℕ) → Serves opts j p t → length j + 2 ≤ opts.entries → May opts sites input j w (dispatch p t ∷ []) w
+  no_room : (p t : ℕ) → Serves opts j p t → opts.entries < length j + 2 → May opts sites input j w (lone_limit ∷ []) w
+  acts : (p t ticks : ℕ) (s : State) (asked : Asked) → AsksIn opts j w p t ticks s asked → May opts sites input j w (act opts sites input j p t ticks asked) (world_after (act opts sites input j p t ticks asked) w t s asked.request)
 
 -- the journal is a prefix of a run of the program under these options, with these bytes as input, and leaves this world
 pub data Runs (source : Source) (input : List ℕ) (opts : Options) : Journal → World → Type 0 where
   begun : Runs source input opts (begin opts ∷ []) (first_world source)
-  more : {j : Journal} {w : World} {a : List Entry} {w' : World} → Runs source input opts j w → is_over j ≡ false → May opts input j w a w' → Runs source input opts (j ++ a) w'
+  more : {j : Journal} {w : World} {a : List Entry} {w' : World} → Runs source input opts j w → is_over j ≡ false → May opts source.sites input j w a w' → Runs source input opts (j ++ a) w'
 
 -- a prefix of a run
 pub record IsPrefix (source : Source) (input : List ℕ) (opts : Options) (j : Journal) : Type 0 where

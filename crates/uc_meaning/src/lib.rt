@@ -3,8 +3,11 @@
 
 pub mod entry;
 pub mod exec;
+pub mod fault;
 pub mod got;
+pub mod laws;
 pub mod list;
 pub mod request;
 pub mod rule;
 pub mod rules;
+pub mod samples;

@@ -2,7 +2,10 @@
 
 use uc_tree::limits::PRINT_ITEMS;
 
-/// One printed item: form 0 is a number, form 1 a character, form 2 a text by its number.
+/// The form of a printed item that is a text literal, by its number. The forms of values are those of `ValueForm`.
+pub const TEXT_FORM: u8 = 2;
+
+/// One printed item: a value in the form of this number, or a text literal.
 #[derive(Clone, Copy, PartialEq, Eq, Debug)]
 pub struct Piece {
     pub form: u8,

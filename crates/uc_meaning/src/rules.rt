@@ -1,53 +1,8 @@
-// The rules of the language, what names and expressions stand for under them, and where they are broken.
+// What names and expressions stand for under the rules of the language.
 
 use uc_tree::kinds::{Access, Kind, Role};
 use uc_tree::name::Name;
 use uc_tree::pos::Pos;
-
-/// A rule of the language: S1 to S24 are its rules on names, types and places, O1 to O9 those on who owns what.
-#[derive(Clone, Copy, PartialEq, Eq, Debug)]
-pub enum Rule {
-    S1,
-    S2,
-    S3,
-    S4,
-    S5,
-    S6,
-    S7,
-    S8,
-    S9,
-    S10,
-    S11,
-    S12,
-    S13,
-    S14,
-    S15,
-    S16,
-    S17,
-    S18,
-    S19,
-    S20,
-    S21,
-    S22,
-    S23,
-    S24,
-    O1,
-    O2,
-    O3,
-    O4,
-    O5,
-    O6,
-    O7,
-    O8,
-    O9,
-}
-
-/// A rule that is broken, and the place.
-#[derive(Clone, Copy, PartialEq, Eq, Debug)]
-pub struct Break {
-    pub rule: Rule,
-    pub pos: Pos,
-}
 
 /// What a variable holds, or a value is. A class has its place among the classes of the program, events included.
 #[derive(Clone, Copy, PartialEq, Eq, Debug)]

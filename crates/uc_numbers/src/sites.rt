@@ -14,12 +14,12 @@ use crate::gathered::statements_of;
 use crate::members::{member_number, members_of};
 use crate::routines::{Defined, routines_of};
 use std::alloc::{AllocError, Global};
-use uc_code::site::{Members, Site};
 use uc_tree::class::Class;
 use uc_tree::kinds::MemberName;
 use uc_tree::limits::DESTRUCTOR;
 use uc_tree::name::Name;
 use uc_tree::program::Program;
+use uc_tree::site::{Members, Site};
 use uc_tree::stmt::{Clause, Stmt, StmtForm};
 
 fn listed_number(names: &[&Name], member: &MemberName) -> u8

@@ -70,14 +70,11 @@ fn read_file<R: Files>(rt: &R, alloc: Global, name: &str, limit: u32) -> Result<
     Ok(bytes)
 }
 
-/// Reads all that a reader has left, at most `limit` bytes, and takes at most one byte more.
-///
-/// `Failed` says that the reader failed, or was interrupted 2^64 times.
-pub fn read_limited<R: Read>(
-    alloc: Global,
-    reader: &mut R,
-    limit: u32,
-) -> Result<Vec<u8>, StoreFault>
+// Reads all that a reader has left, at most `limit` bytes, and takes at most one byte more.
+//
+// `Failed` says that the reader failed, or was interrupted 2^64 times. A reader has no count of faults, so no clause
+// here gives that its cause; `FileStore` counts it.
+fn read_limited<R: Read>(alloc: Global, reader: &mut R, limit: u32) -> Result<Vec<u8>, StoreFault>
     ensures within { IfOk result (λ v. vec_len v ≤ limit) }
     ensures all { IfOk result (λ v. GaveAll (R.remaining reader.old) v.items) }
     ensures fault { IfErr result (GaveFault (R.remaining reader.old) limit) }

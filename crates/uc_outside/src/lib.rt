@@ -13,7 +13,7 @@ mod stores;
 mod streams;
 
 pub use faults::{SinkFault, StoreFault};
-pub use files::{FileStore, read_limited};
+pub use files::FileStore;
 pub use fixed::FixedSink;
 pub use gates::{Gate, OpenGate};
 pub use laws::{law_file_is_read, law_puts_add_up, law_room_holds};

@@ -1,23 +1,20 @@
 // What the operators give for two numbers.
 
-ghost use Rattle.std.specs.Prelude.{◌≡◌, ℤ, neg_ℤ, FitsSigned};
+ghost use Rattle.std.specs.Prelude.{◌≡◌, ◌≢◌, ℤ, pos, neg_ℤ, int_div, FitsSigned};
 ghost use Rattle.std.specs.Int.{w64};
 ghost use Rattle.std.specs.Option.{SomeIff};
 ghost use Rattle.uc_tree.specs.Source.{Plus, Minus, Times, Over, Modulo, Equal, NotEqual, Less, AtMost, Greater, AtLeast};
 ghost use Rattle.uc_meaning.specs.Quiet.{outcome, int_outcome, fits, truth};
 ghost use Rattle.uc_step.specs.Given.{outcome_of};
 
+use uc_meaning::fault::RunFault;
 use uc_tree::limits::{INT_MAX, INT_MIN};
 
-const OVERFLOW: u8 = 1;
-
-const DIVIDE_BY_ZERO: u8 = 2;
-
-// A number, or a fault by its number.
+// A number, or a fault.
 #[derive(Clone, Copy)]
 pub(crate) enum Given {
     Number(i64),
-    Fault(u8),
+    Fault(RunFault),
 }
 
 // Whether a number is an `int`.
@@ -27,19 +24,24 @@ fn is_int(number: i64) -> bool
     INT_MIN <= number && number <= INT_MAX
 }
 
+// A number that must be an `int`.
+fn in_range(number: i64) -> Given
+    ensures { outcome_of result ≡ int_outcome number }
+{
+    if is_int(number) {
+        Given::Number(number)
+    } else {
+        Given::Fault(RunFault::Overflow)
+    }
+}
+
 // A number that must be an `int`; there is none where it does not even fit 64 bits.
 fn as_int(number: Option<i64>) -> Given
     ensures { (z : ℤ) → SomeIff number (FitsSigned w64 z) z → outcome_of result ≡ int_outcome z }
 {
     match number {
-        None => Given::Fault(OVERFLOW),
-        Some(n) => {
-            if is_int(n) {
-                Given::Number(n)
-            } else {
-                Given::Fault(OVERFLOW)
-            }
-        }
+        None => Given::Fault(RunFault::Overflow),
+        Some(number) => in_range(number),
     }
 }
 
@@ -72,9 +74,19 @@ pub(crate) fn over(left: i64, right: i64) -> Given
     ensures { outcome_of result ≡ outcome Over left right }
 {
     if right == 0 {
-        return Given::Fault(DIVIDE_BY_ZERO);
+        return Given::Fault(RunFault::DivideByZero);
     }
-    as_int(left.checked_div(right))
+    quotient(left, right)
+}
+
+fn quotient(left: i64, right: i64) -> Given
+    requires { right ≢ pos 0 }
+    ensures { outcome_of result ≡ int_outcome (int_div left right) }
+{
+    match left.checked_div(right) {
+        None => Given::Fault(RunFault::Overflow),
+        Some(number) => in_range(number),
+    }
 }
 
 // The least number has the remainder 0 by -1, though its quotient does not fit.
@@ -82,14 +94,9 @@ pub(crate) fn modulo(left: i64, right: i64) -> Given
     ensures { outcome_of result ≡ outcome Modulo left right }
 {
     if right == 0 {
-        return Given::Fault(DIVIDE_BY_ZERO);
+        return Given::Fault(RunFault::DivideByZero);
     }
-    let rest = left.wrapping_rem(right);
-    if is_int(rest) {
-        Given::Number(rest)
-    } else {
-        Given::Fault(OVERFLOW)
-    }
+    in_range(left.wrapping_rem(right))
 }
 
 pub(crate) fn negative(number: i64) -> Given

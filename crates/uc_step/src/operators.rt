@@ -7,12 +7,11 @@ ghost use Rattle.uc_step.specs.Given.{outcome_of};
 
 use crate::numbers;
 use crate::numbers::{Given, one_if};
-use crate::stepped::{Stepped, asked};
+use crate::stepped::{Stepped, faulted};
 use std::alloc::AllocError;
 use uc_code::op::Op;
 use uc_frames::cell::{Cell, number_in};
 use uc_frames::work::Work;
-use uc_meaning::request::Request;
 use uc_tree::limits::CHAR_VALUES;
 
 // What was given is pushed, or is a fault.
@@ -24,7 +23,7 @@ fn give(line: u32, work: &mut Work, given: Given) -> Result<Stepped, AllocError>
             work.push(Cell::Number(number))?;
             Ok(Stepped::Quiet)
         }
-        Given::Fault(number) => Ok(asked(line, Request::Fault { number })),
+        Given::Fault(fault) => Ok(faulted(line, fault)),
     }
 }
 

@@ -9,9 +9,8 @@ use uc_code::op::Op;
 use uc_frames::cell::number_in;
 use uc_frames::pieces::print_request;
 use uc_frames::work::Work;
-use uc_meaning::request::{Piece, Request};
-
-const TEXT: u8 = 2;
+use uc_meaning::request::{Piece, Request, TEXT_FORM};
+use uc_tree::kinds::ValueForm;
 
 // A piece is printed, or gathered.
 fn put(line: u32, work: &mut Work, piece: Piece) -> Result<Stepped, AllocError>
@@ -25,11 +24,15 @@ fn put(line: u32, work: &mut Work, piece: Piece) -> Result<Stepped, AllocError>
     }
 }
 
-pub(crate) fn print(line: u32, work: &mut Work, form: u8) -> Result<Stepped, AllocError>
+pub(crate) fn print(line: u32, work: &mut Work, form: ValueForm) -> Result<Stepped, AllocError>
     ensures { IfOk result (λ how. Does line (Op.Print form) work.old how work.new) }
 {
     let value = number_in(work.pop());
-    let how = put(line, work, Piece { form, value })?;
+    let piece = Piece {
+        form: form.number(),
+        value,
+    };
+    let how = put(line, work, piece)?;
     Ok(how)
 }
 
@@ -37,7 +40,7 @@ pub(crate) fn text(line: u32, work: &mut Work, number: u32) -> Result<Stepped, A
     ensures { IfOk result (λ how. Does line (Op.Text number) work.old how work.new) }
 {
     let piece = Piece {
-        form: TEXT,
+        form: TEXT_FORM,
         value: i64::from(number),
     };
     let how = put(line, work, piece)?;
@@ -60,9 +63,10 @@ pub(crate) fn flush(line: u32, work: &mut Work) -> Result<Stepped, AllocError>
     }
 }
 
-pub(crate) fn read(line: u32, work: &mut Work, form: u8) -> Result<Stepped, AllocError>
+pub(crate) fn read(line: u32, work: &mut Work, form: ValueForm) -> Result<Stepped, AllocError>
     ensures { IfOk result (λ how. Does line (Op.Read form) work.old how work.new) }
 {
+    let form = form.number();
     Ok(asked(line, Request::Read { form }))
 }
 

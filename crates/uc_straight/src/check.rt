@@ -11,7 +11,7 @@ use crate::names::Names;
 use crate::stmt::check_stmts;
 use crate::straight::is_straight;
 use std::alloc::{AllocError, Global};
-use uc_meaning::rule::Break;
+use uc_meaning::rule::{Break, Rule};
 use uc_tree::pos::Pos;
 use uc_tree::program::{Item, ItemForm, Program};
 
@@ -23,7 +23,7 @@ pub enum Judged {
     /// It is not straight.
     NotStraight,
     /// It is straight, and this is the first break of a rule.
-    Breaks { rule: u8, pos: Pos },
+    Breaks { rule: Rule, pos: Pos },
 }
 
 fn check_item(alloc: Global, item: &Item, found: &mut Found) -> Result<(), AllocError>

@@ -9,7 +9,7 @@ ghost use Rattle.uc_straight.specs.Found.{told, noted};
 
 use crate::found::Found;
 use crate::names::Names;
-use uc_meaning::rule::What;
+use uc_meaning::rule::{Rule, What};
 use uc_tree::expr::{Expr, ExprForm, Link, Part, PartForm};
 use uc_tree::name::Name;
 use uc_tree::ops::UnaryOp;
@@ -144,7 +144,7 @@ fn ask_operand(what: Option<What>, at: Pos, found: &mut Found) -> Option<What>
     if is_scalar(what) {
         Some(What::Value)
     } else {
-        found.note(8, at);
+        found.note(Rule::S8, at);
         None
     }
 }
@@ -163,7 +163,7 @@ fn ask_operands(
     if is_scalar(left) && is_scalar(right) {
         Some(What::Value)
     } else {
-        found.note(8, sign);
+        found.note(Rule::S8, sign);
         None
     }
 }
@@ -176,31 +176,31 @@ fn ask_change(what: Option<What>, sign: Pos, found: &mut Found) -> Option<What>
     match what {
         What::Place { .. } => Some(What::Value),
         What::Value => {
-            found.note(9, sign);
+            found.note(Rule::S9, sign);
             None
         }
         What::Row { .. } => {
-            found.note(8, sign);
+            found.note(Rule::S8, sign);
             None
         }
         What::Input => {
-            found.note(8, sign);
+            found.note(Rule::S8, sign);
             None
         }
         What::Fail => {
-            found.note(8, sign);
+            found.note(Rule::S8, sign);
             None
         }
         What::Main => {
-            found.note(8, sign);
+            found.note(Rule::S8, sign);
             None
         }
         What::Event => {
-            found.note(8, sign);
+            found.note(Rule::S8, sign);
             None
         }
         What::Missing => {
-            found.note(8, sign);
+            found.note(Rule::S8, sign);
             None
         }
     }
@@ -217,8 +217,8 @@ fn ask_assign(
 {
     let place = place?;
     let value = value?;
-    found.note_unless(is_scalar(place) && is_scalar(value), 8, sign);
-    found.note_unless(is_place(place) || !is_scalar(place), 9, sign);
+    found.note_unless(is_scalar(place) && is_scalar(value), Rule::S8, sign);
+    found.note_unless(is_place(place) || !is_scalar(place), Rule::S9, sign);
     if is_place(place) && is_scalar(value) {
         Some(What::Value)
     } else {
@@ -245,7 +245,7 @@ fn ask_index(row: Option<What>, index: Option<What>, sign: Pos, found: &mut Foun
 {
     let row = row?;
     let index = index?;
-    found.note_unless(is_row(row) && is_scalar(index), 8, sign);
+    found.note_unless(is_row(row) && is_scalar(index), Rule::S8, sign);
     if is_scalar(index) { element(row) } else { None }
 }
 
@@ -266,7 +266,7 @@ fn ask_field(
     if called {
         return Some(What::Missing);
     }
-    found.note(1, sign);
+    found.note(Rule::S1, sign);
     None
 }
 
@@ -284,11 +284,11 @@ fn ask_call(
         return None;
     }
     let what = what?;
-    found.note_unless(!is_main_routine(what), 7, sign);
+    found.note_unless(!is_main_routine(what), Rule::S7, sign);
     if takes(count, what) {
         return given(what);
     }
-    found.note(10, sign);
+    found.note(Rule::S10, sign);
     None
 }
 
@@ -297,7 +297,7 @@ fn ask_use(names: &Names, name: &Name, at: Pos, found: &mut Found) -> Option<Wha
     ensures breaks { found.new ≡ told found.old (AtUse names.now at name.now) }
 {
     let what = names.named(name);
-    found.note_unless(what.is_some(), 1, at);
+    found.note_unless(what.is_some(), Rule::S1, at);
     what
 }
 
@@ -376,7 +376,7 @@ pub fn check_expr(names: &Names, e: &Expr, found: &mut Found) -> Option<What>
         ExprForm::Truth { .. } => Some(What::Value),
         ExprForm::Name { name } => ask_use(names, name, e.pos, found),
         ExprForm::Cin => {
-            found.note(24, e.pos);
+            found.note(Rule::S24, e.pos);
             None
         }
         ExprForm::Postfix { root, parts } => {

@@ -6,7 +6,7 @@ ghost use Rattle.uc_meaning.specs.Rules.{unless};
 ghost use Rattle.uc_straight.specs.Found.{sooner, after};
 
 use std::marker::Model;
-use uc_meaning::rule::Break;
+use uc_meaning::rule::{Break, Rule};
 use uc_tree::pos::Pos;
 
 /// The first break found so far.
@@ -40,7 +40,7 @@ impl Found {
     }
 
     /// One more break.
-    pub fn note(&mut self, rule: u8, pos: Pos)
+    pub fn note(&mut self, rule: Rule, pos: Pos)
         ensures { self.new ≡ sooner self.old (record { rule = rule; pos = pos }) }
     {
         let new = Break { rule, pos };
@@ -55,7 +55,7 @@ impl Found {
     }
 
     /// A break where the test fails.
-    pub fn note_unless(&mut self, holds: bool, rule: u8, pos: Pos)
+    pub fn note_unless(&mut self, holds: bool, rule: Rule, pos: Pos)
         ensures { self.new ≡ after self.old (unless holds rule pos) }
     {
         if !holds {
@@ -69,5 +69,6 @@ fn is_before(a: Break, b: Break) -> bool
 {
     a.pos.line < b.pos.line
         || (a.pos.line == b.pos.line
-            && (a.pos.col < b.pos.col || (a.pos.col == b.pos.col && a.rule < b.rule)))
+            && (a.pos.col < b.pos.col
+                || (a.pos.col == b.pos.col && a.rule.number() < b.rule.number())))
 }

@@ -14,7 +14,7 @@ use crate::expr::{check_all, check_expr, is_scalar};
 use crate::found::Found;
 use crate::names::Names;
 use std::alloc::AllocError;
-use uc_meaning::rule::{Scalar, What};
+use uc_meaning::rule::{Rule, Scalar, What};
 use uc_sizes::eval::value_of;
 use uc_sizes::named::Named;
 use uc_tree::declare::{Declarator, OutForm, OutItem, Start, StartForm};
@@ -110,8 +110,8 @@ fn judge_length(names: &Names, len: &Option<Expr>, at: Pos, found: &mut Found)
     match len {
         Some(len) => {
             let value = length_value(names, len);
-            found.note_unless(is_length(value), 14, at);
-            found.note_unless(value.is_some(), 15, len.first_token());
+            found.note_unless(is_length(value), Rule::S14, at);
+            found.note_unless(value.is_some(), Rule::S15, len.first_token());
         }
         None => {}
     }
@@ -123,18 +123,18 @@ fn judge_start(len: &Option<Expr>, start: Started, at: Pos, found: &mut Found)
     match len {
         Some(_) => match start {
             Started::Without => {}
-            Started::With(_) => found.note(16, at),
-            Started::Several => found.note(16, at),
+            Started::With(_) => found.note(Rule::S16, at),
+            Started::Several => found.note(Rule::S16, at),
         },
         None => match start {
             Started::Without => {}
-            Started::With(what) => judge_scalar(what, 16, at, found),
-            Started::Several => found.note(16, at),
+            Started::With(what) => judge_scalar(what, Rule::S16, at, found),
+            Started::Several => found.note(Rule::S16, at),
         },
     }
 }
 
-fn judge_scalar(what: Option<What>, rule: u8, at: Pos, found: &mut Found)
+fn judge_scalar(what: Option<What>, rule: Rule, at: Pos, found: &mut Found)
     ensures { found.new ≡ after found.old (asked what is_scalar rule at) }
 {
     if let Some(what) = what {
@@ -148,7 +148,7 @@ fn check_declarator(names: &Names, declarator: &Declarator, found: &mut Found)
 {
     check_maybe(names, &declarator.len, found);
     let start = check_start(names, &declarator.start, found);
-    found.note_unless(is_new(names, &declarator.name), 2, declarator.pos);
+    found.note_unless(is_new(names, &declarator.name), Rule::S2, declarator.pos);
     judge_length(names, &declarator.len, declarator.pos, found);
     judge_start(&declarator.len, start, declarator.pos, found);
 }
@@ -179,7 +179,7 @@ fn check_item(names: &Names, item: &OutItem, found: &mut Found)
         OutForm::Literal { .. } => {}
         OutForm::Value { value } => {
             let what = check_expr(names, value, found);
-            judge_scalar(what, 24, item.sign, found);
+            judge_scalar(what, Rule::S24, item.sign, found);
         }
     }
 }
@@ -197,7 +197,7 @@ fn judge_together(items: &[OutItem], found: &mut Found)
     ensures { found.new ≡ told found.old (AtTogether items.now) }
 {
     match items.get(usize::from(PRINT_ITEMS)) {
-        Some(item) => found.note(24, item.sign),
+        Some(item) => found.note(Rule::S24, item.sign),
         None => {}
     }
 }
@@ -227,7 +227,7 @@ fn check_place(names: &Names, place: &Expr, found: &mut Found)
 {
     let what = check_expr(names, place, found);
     match what {
-        Some(what) => found.note_unless(is_readable(what), 24, place.first_token()),
+        Some(what) => found.note_unless(is_readable(what), Rule::S24, place.first_token()),
         None => {}
     }
 }

@@ -4,5 +4,4 @@ pub mod Line
 pub mod Leave
 pub mod Causes
 pub mod Findings
-pub mod Few
 pub mod Ran

@@ -1,9 +1,11 @@
 -- What the last entry of a journal makes of a call: its status, and its line on err.
-use Rattle.std.specs.Prelude.{◌≡◌, ◌⊎◌, ℕ, ℤ, pos, negsuc, List, [], ◌∷◌, ◌++◌, codes, decimal, slice_index_or}
+use Rattle.std.specs.Prelude.{◌≡◌, ◌⊎◌, ℕ, ℤ, List, [], ◌∷◌, ◌++◌, codes, decimal, Option, Some, None}
 use Rattle.std.specs.List.{concat}
 use Rattle.std.specs.Fmt.{signed_decimal}
 use Rattle.uc_meaning.specs.declared.entry.Entry.{Entry}
 use Rattle.uc_meaning.specs.declared.entry.EntryKind.TheVariants as kind
+use Rattle.uc_meaning.specs.declared.fault.RunFault.{RunFault}
+use Rattle.uc_meaning.specs.Faults.{fault_name, fault_of}
 use Rattle.uc_meaning.specs.Journal.{Journal}
 use Rattle.uc_top.specs.declared.endings.Ending.{Ending}
 use Rattle.uc_top.specs.declared.endings.Ending.TheVariants.{Done, Fault, Limit}
@@ -35,14 +37,13 @@ pub record EndsWith (journal : Journal) (ending : Ending) : Type 0 where
   pub is : journal ≡ before ++ last ∷ []
   pub tells : Tells last ending
 
--- the names of the run faults by their numbers, which begin with 1
-abbrev pub fault_names : List (List ℕ)
-fault_names =
-    [] ∷ (codes "Overflow" ∷ (codes "DivideByZero" ∷ (codes "Index" ∷ (codes "Depth" ∷ (codes "ResumeEnded" ∷ (codes "ResumeInUse" ∷ (codes "SuspendWithoutResumer" ∷ (codes "Unhandled" ∷ (codes "BlockedInside" ∷ (codes "DestroyBusy" ∷ (codes "FrontOfEmpty" ∷ (codes "NoReturn" ∷ (codes "EscapeInUnwind" ∷ (codes "SwitchInUnwind" ∷ (codes "TooManyTasks" ∷ (codes "TooManyObjects" ∷ (codes "TooManyPending" ∷ (codes "TooManyProcessors" ∷ (codes "NotLive" ∷ [])))))))))))))))))))
+abbrev pub name_or_none : Option RunFault → List ℕ
+name_or_none None = []
+name_or_none (Some fault) = fault_name fault
 
-abbrev pub fault_name : ℤ → List ℕ
-fault_name (pos n) = slice_index_or fault_names n []
-fault_name (negsuc n) = []
+-- the name of the run fault of a number
+abbrev pub name_of_number : ℤ → List ℕ
+name_of_number n = name_or_none (fault_of n)
 
 abbrev pub ending_status : Ending → ℕ
 ending_status Done = 0
@@ -53,5 +54,5 @@ ending_status Limit = 7
 abbrev pub ending_text : Ending → List ℕ
 ending_text Done = []
 ending_text (Fault number line task) =
-    concat (codes "ucpp: fault " ∷ (fault_name number ∷ (codes " at line " ∷ (signed_decimal line ∷ (codes " in task " ∷ (decimal task ∷ (codes "\n" ∷ [])))))))
+    concat (codes "ucpp: fault " ∷ (name_of_number number ∷ (codes " at line " ∷ (signed_decimal line ∷ (codes " in task " ∷ (decimal task ∷ (codes "\n" ∷ [])))))))
 ending_text Limit = concat (codes "ucpp: " ∷ (codes "limit" ∷ ([] ∷ (codes "\n" ∷ []))))

@@ -36,6 +36,7 @@ pub(crate) fn decide<'a, S: Store>(
     store: &mut S,
 ) -> Result<Run, Why<'a>>
     ensures ran { IfOk result (λ run. HasRun (map string_bytes words.now) (S.state store.old) (S.state store.new) run.journal.items run.output.items run.ending) }
+    ensures store { KeepsFiles (S.state store.old) (S.state store.new) }
     ensures refused { IfErr result (λ why. Refuses (map string_bytes words.now) (S.state store.old) (S.state store.new) why.refusal why.name.now) }
 {
     match read_words(words) {
@@ -99,6 +100,7 @@ fn run_files<'a, S: Store>(
 ) -> Result<Run, Why<'a>>
     requires entries { ENTRIES_MIN ≤ entries }
     ensures ran { IfOk result (λ run. FilesRan (S.state store.old) (S.state store.new) file.now (option_copied named.entry) (alone_options entries) run.journal.items run.output.items run.ending) }
+    ensures store { KeepsFiles (S.state store.old) (S.state store.new) }
     ensures refused { IfErr result (λ why. FilesRefused (S.state store.old) (S.state store.new) file.now (option_copied named.entry) why.refusal why.name.now) }
 {
     match read_texts(alloc, file, named, store) {
@@ -126,6 +128,7 @@ fn read_texts<'a, S: Store>(
     ensures program { IfOk result (λ texts. length texts.program.items ≤ PROGRAM_BYTES) }
     ensures input { IfOk result (λ texts. length texts.input.items ≤ INPUT_BYTES) }
     ensures read { IfOk result (λ texts. ReadsTexts (S.state store.old) (S.state store.new) file.now (option_copied named.entry) texts.program.items texts.input.items) }
+    ensures store { KeepsFiles (S.state store.old) (S.state store.new) }
     ensures refused { IfErr result (λ why. FilesRefused (S.state store.old) (S.state store.new) file.now (option_copied named.entry) why.refusal why.name.now) }
 {
     match read_named(alloc, file, PROGRAM_BYTES, store) {
@@ -146,12 +149,13 @@ fn read_input<'a, S: Store>(
     ensures within { IfOk result (λ v. length v.items ≤ INPUT_BYTES) }
     ensures same { IfOk result (λ v. (S.state store.new).count ≡ (S.state store.old).count) }
     ensures read { IfOk result (λ v. ReadsInput (S.state store.old) (S.state store.new) (option_copied named.entry) v.items) }
+    ensures store { KeepsFiles (S.state store.old) (S.state store.new) }
     ensures refused { IfErr result (λ why. InputNotRead (S.state store.old) (S.state store.new) (option_copied named.entry) why.refusal why.name.now) }
 {
     match named {
         None => Ok(Vec::new(alloc)),
         Some(name) => match read_named(alloc, name, INPUT_BYTES, store) {
-            Ok(bytes) => Ok(bytes),
+            Ok(input) => Ok(input),
             Err(why) => Err(why),
         },
     }
@@ -163,7 +167,7 @@ fn read_named<'a, S: Store>(
     limit: u32,
     store: &mut S,
 ) -> Result<Vec<u8>, Why<'a>>
-    ensures keeps { KeepsFiles (S.state store.old) (S.state store.new) }
+    ensures store { KeepsFiles (S.state store.old) (S.state store.new) }
     ensures read { IfOk result (λ v. ReadBytes (S.state store.old) (S.state store.new) name.now limit v.items) }
     ensures named { IfErr result (λ why. why.name.now ≡ name.now) }
     ensures refused { IfErr result (λ why. NotRead (S.state store.old) (S.state store.new) name.now limit why.refusal) }

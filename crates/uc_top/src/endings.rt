@@ -1,12 +1,13 @@
 // How a run ends: the status and the line on err.
 
-ghost use Rattle.std.specs.Prelude.{◌≡◌, ◌<◌, OnOk, OnErr, [], slice_index_or};
+ghost use Rattle.std.specs.Prelude.{◌≡◌, ◌<◌, OnOk, OnErr};
 ghost use Rattle.uc_outside.specs.Taking.{Took, TookPrefix, FailedAt};
-ghost use Rattle.uc_top.specs.Endings.{Tells, EndsAlone, EndsWith, ending_status, ending_text, fault_name, fault_names};
+ghost use Rattle.uc_top.specs.Endings.{Tells, EndsAlone, EndsWith, ending_status, ending_text, name_of_number};
 
 use crate::refusals::{put_line, put_pieces};
 use itoa::Buffer;
 use uc_meaning::entry::{Entry, EntryKind};
+use uc_meaning::fault::RunFault;
 use uc_outside::{Sink, SinkFault};
 
 /// How the run of one task ends.
@@ -85,7 +86,7 @@ fn put_fault<E: Sink>(err: &mut E, number: i64, line: i64, task: u32) -> Result<
     ensures failed { OnErr result (FailedAt (E.state err.old) (E.state err.new) (ending_text (Ending.Fault number line task))) }
     ensures prefix { OnErr result (TookPrefix (E.state err.old) (E.state err.new) (ending_text (Ending.Fault number line task))) }
 {
-    let name = fault_name(number);
+    let name = name_of_number(number);
     let mut line_buffer = Buffer::new();
     let line = line_buffer.format(line).as_bytes();
     let mut task_buffer = Buffer::new();
@@ -106,42 +107,11 @@ fn put_fault<E: Sink>(err: &mut E, number: i64, line: i64, task: u32) -> Result<
 }
 
 // The name of the run fault of this number.
-fn fault_name(number: i64) -> &'static [u8]
-    ensures { result.now ≡ fault_name number }
+fn name_of_number(number: i64) -> &'static [u8]
+    ensures { result.now ≡ name_of_number number }
 {
-    match usize::try_from(number) {
-        Ok(place) => name_at(place),
-        Err(_) => b"",
+    match RunFault::of_number(number) {
+        Some(fault) => fault.name(),
+        None => b"",
     }
-}
-
-fn name_at(place: usize) -> &'static [u8]
-    ensures { result.now ≡ slice_index_or fault_names place [] }
-{
-    let names: [&'static [u8]; 20] = [
-        b"",
-        b"Overflow",
-        b"DivideByZero",
-        b"Index",
-        b"Depth",
-        b"ResumeEnded",
-        b"ResumeInUse",
-        b"SuspendWithoutResumer",
-        b"Unhandled",
-        b"BlockedInside",
-        b"DestroyBusy",
-        b"FrontOfEmpty",
-        b"NoReturn",
-        b"EscapeInUnwind",
-        b"SwitchInUnwind",
-        b"TooManyTasks",
-        b"TooManyObjects",
-        b"TooManyPending",
-        b"TooManyProcessors",
-        b"NotLive",
-    ];
-    if place < names.len() {
-        return names[place];
-    }
-    b""
 }

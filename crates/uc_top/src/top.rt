@@ -1,6 +1,7 @@
 // The top call.
 
 ghost use Rattle.std.specs.Prelude.{◌≢◌, map, string_bytes};
+ghost use Rattle.uc_outside.specs.Reading.{KeepsFiles};
 ghost use Rattle.uc_top.specs.Decisions.{Finished};
 ghost use Rattle.uc_top.specs.Outcomes.{scene_of, Leaves, Causes, Stops, Answers, HaveRooms, Completes};
 
@@ -41,6 +42,9 @@ pub fn run_words<S: Store, O: Sink, E: Sink, G: Gate + Sync>(
     // No put is made to a sink after one of this call that failed.
     ensures stops { Stops (scene_of (map string_bytes words.now) (S.state store.old) (S.state store.new) (O.state out.old) (O.state out.new) (E.state err.old) (E.state err.new)) }
 
+    // The store keeps its files and its steadiness, and its count does not fall.
+    ensures store { KeepsFiles (S.state store.old) (S.state store.new) }
+
     // What the words and the store make of a call.
     ensures answers { Answers (scene_of (map string_bytes words.now) (S.state store.old) (S.state store.new) (O.state out.old) (O.state out.new) (E.state err.old) (E.state err.new)) result.status }
 
@@ -60,7 +64,8 @@ fn work<S: Store, O: Sink, E: Sink>(
     out: &mut O,
     err: &mut E,
 ) -> Outcome
-    ensures { Leaves (scene_of (map string_bytes words.now) (S.state store.old) (S.state store.new) (O.state out.old) (O.state out.new) (E.state err.old) (E.state err.new)) result.status result.journal.items }
+    ensures leaves { Leaves (scene_of (map string_bytes words.now) (S.state store.old) (S.state store.new) (O.state out.old) (O.state out.new) (E.state err.old) (E.state err.new)) result.status result.journal.items }
+    ensures store { KeepsFiles (S.state store.old) (S.state store.new) }
 {
     match decide(alloc, words, store) {
         Ok(run) => {

@@ -1,6 +1,7 @@
 // Runs whole programs through the top call. In the input a line `== WORDS` begins a text, the bytes of the file a.cc: the
-// lines up to the next such line, parted by newlines; behind ` < ` in that line stand the bytes of the file in. For each
-// text the words are printed, and what the call put to out and to err, and its status.
+// lines up to the next such line, parted by newlines; behind ` < ` in that line stand the bytes of the file in, and behind
+// ` + ` the number of bytes to which spaces fill the text. For each text the words are printed, and what the call put to
+// out and to err, and its status.
 #![tactic(auto)]
 
 #[cfg(test)]
@@ -16,6 +17,7 @@ use uc_top::run_words;
 struct Row {
     words: String,
     input: String,
+    length: usize,
     begun: bool,
     text: String,
 }
@@ -25,20 +27,31 @@ fn row_of(alloc: Global, line: &str) -> Result<Row, AllocError> {
         Some((words, input)) => (words, input),
         None => (line, ""),
     };
+    let (words, length) = match words.split_once(" + ") {
+        Some((words, length)) => (words, length.parse::<usize>().unwrap_or(0)),
+        None => (words, 0),
+    };
     Ok(Row {
         words: String::from_str(alloc, words)?,
         input: String::from_str(alloc, input)?,
+        length,
         begun: false,
         text: String::new(alloc),
     })
 }
 
+// The bytes of the text, with spaces up to its length.
+fn filled_text(alloc: Global, row: &Row) -> Result<Vec<u8>, AllocError> {
+    let mut text = row.text.as_bytes().to_vec(alloc)?;
+    for _k in text.len()..row.length {
+        text.push(b' ')?;
+    }
+    Ok(text)
+}
+
 fn store_of(alloc: Global, row: &Row) -> Result<SteadyStore, AllocError> {
     let mut files = Vec::new(alloc);
-    files.push((
-        String::from_str(alloc, "a.cc")?,
-        row.text.as_bytes().to_vec(alloc)?,
-    ))?;
+    files.push((String::from_str(alloc, "a.cc")?, filled_text(alloc, row)?))?;
     files.push((
         String::from_str(alloc, "in")?,
         row.input.as_bytes().to_vec(alloc)?,

@@ -28,3 +28,4 @@ pub mod StatementSizes
 pub mod StatementViews
 pub mod Statements
 pub mod Tokens
+pub mod ValueForms

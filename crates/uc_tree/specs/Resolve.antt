@@ -1,6 +1,6 @@
 -- What a program's expressions and statements stand for: names and types are looked up here and nowhere else.
 -- Every tree stands for something; what breaks a rule of the language stands for a default.
-use Rattle.std.specs.Prelude.{ℕ, suc, ◌+◌, ℤ, pos, List, [], ◌∷◌, ◌++◌, length, map, take, codes, Bool, true, false, ◌&&◌, Option, Some, None, if◌then◌else◌}
+use Rattle.std.specs.Prelude.{ℕ, suc, ◌+◌, pos, List, [], ◌∷◌, ◌++◌, length, codes, Bool, true, false, ◌&&◌, Option, Some, None, if◌then◌else◌}
 use Rattle.uc_tree.specs.declared.kinds.Base.{Base}
 use Rattle.uc_tree.specs.declared.kinds.Base.TheVariants as base
 use Rattle.uc_tree.specs.declared.kinds.Ty.{Ty}
@@ -23,6 +23,8 @@ use Rattle.uc_tree.specs.Programs as whole
 use Rattle.uc_tree.specs.Cells.{declared_cells, routine_cells}
 use Rattle.uc_tree.specs.Gathered.{gathered_all}
 use Rattle.uc_tree.specs.Numbering.{Defined, routines_of, own_texts, sites_of, texts_of, main_name}
+use Rattle.uc_tree.specs.declared.kinds.ValueForm.{ValueForm}
+use Rattle.uc_tree.specs.declared.kinds.ValueForm.TheVariants as value_form
 use Rattle.uc_tree.specs.Source.{Shape, Integer, Character, Truth, Operator, Plus, Minus, Times, Over, Modulo, Equal, NotEqual, Less, AtMost, Greater, AtLeast, Expr, Literal, Variable, Element, Load, Negated, Not, AsCharacter, AsTruth, Operate, And, Or, Assign, Update, StepBehind, Fail, Item, Show, ShowText, Target, Declared, Stmt, Skip, Block, Evaluate, Declare, Print, PrintTogether, Read, Stmts, Nil, Then, Routine, Source}
 
 -- types
@@ -210,9 +212,9 @@ pub record Scope : Type 0 where
   pub texts : ℕ
 
 -- the form of a printed value, and of a value that is read: a `char` is a character
-abbrev pub form_of : Base → ℕ
-form_of base.Char = 1
-form_of _ = 0
+abbrev pub form_of : Base → ValueForm
+form_of base.Char = value_form.Character
+form_of _ = value_form.Number
 
 -- `endl` prints the byte 10
 abbrev pub newline : Expr
@@ -220,7 +222,7 @@ newline = Literal (pos 10)
 
 abbrev pub items_meant : Scope → List stmt.OutItem → List Item
 items_meant s [] = []
-items_meant s (stmt.Endl sign ∷ os) = Show 1 newline ∷ items_meant s os
+items_meant s (stmt.Endl sign ∷ os) = Show value_form.Character newline ∷ items_meant s os
 items_meant s (stmt.Literal sign text ∷ os) = ShowText s.texts ∷ items_meant (record s { texts = s.texts + 1 }) os
 items_meant s (stmt.Printed sign e ∷ os) = Show (form_of (meant s.names e).ty.base) (value_in_scope s.names e) ∷ items_meant s os
 

@@ -1,5 +1,6 @@
 -- The resolved tree of a program, on which the machine runs: each use carries what it names, and each statement its line.
 use Rattle.std.specs.Prelude.{ℕ, zero, suc, ◌+◌, ◌*◌, ℤ, List, Option, Some, None, slice_get}
+use Rattle.uc_tree.specs.declared.kinds.ValueForm.{ValueForm}
 use Rattle.uc_tree.specs.Programs.{Site}
 
 -- what a place holds: a scalar, a binding (a reference, a mutex object's number, an execution's name), the end of the fields of a class, a field with those after it, an array
@@ -73,14 +74,14 @@ pub data Expr : Type 0 where
   -- whether a read has failed
   Fail : Expr
 
--- a printed item: a value in a form (0 is a number, 1 a character), or a text literal by its number
+-- a printed item: a value in a form, or a text literal by its number
 pub data Item : Type 0 where
-  Show : ℕ → Expr → Item
+  Show : ValueForm → Expr → Item
   ShowText : ℕ → Item
 
--- a place that is read in a form (0 is a number, 1 a character)
+-- a place that is read in a form
 pub record Target : Type 0 where
-  pub form : ℕ
+  pub form : ValueForm
   pub place : Expr
 
 -- a declared variable: the first of its cells in the frame, how many there are, and its value, where one is given

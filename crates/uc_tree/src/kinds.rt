@@ -1,5 +1,8 @@
 // Small parts of declarations.
 
+ghost use Rattle.std.specs.Prelude.{◌≡◌};
+ghost use Rattle.uc_tree.specs.ValueForms.{form_number};
+
 use crate::name::Name;
 use crate::pos::Pos;
 
@@ -28,6 +31,25 @@ pub enum Mark {
     Unmarked,
     Mutex,
     Nomutex,
+}
+
+/// The form in which a value is printed or read: as a number, or as one byte.
+#[derive(Clone, Copy, PartialEq, Eq, Debug)]
+pub enum ValueForm {
+    Number,
+    Character,
+}
+
+impl ValueForm {
+    /// The number of the form in a request, an entry and a listing.
+    pub fn number(self) -> u8
+        ensures { result ≡ form_number self }
+    {
+        match self {
+            ValueForm::Number => 0,
+            ValueForm::Character => 1,
+        }
+    }
 }
 
 /// What a routine is.

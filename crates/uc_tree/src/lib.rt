@@ -12,5 +12,6 @@ pub mod pos;
 pub mod program;
 pub mod rows;
 pub mod scan;
+pub mod site;
 pub mod stmt;
 pub mod token;

@@ -1,6 +1,6 @@
 -- The first break so far, and how visits change it.
 use Rattle.std.specs.Prelude.{List, [], ◌∷◌, Option}
-use Rattle.uc_meaning.specs.declared.rules.Break.{Break}
+use Rattle.uc_meaning.specs.declared.rule.Break.{Break}
 use Rattle.uc_meaning.specs.Firsts.{after}
 use Rattle.uc_meaning.specs.Visits.{Visit}
 use Rattle.uc_meaning.specs.ExpressionBreaks.{undeclared, main_called, no_scalar, no_place, no_routine, no_loop, bad_clause, no_event, no_handler, no_stream}

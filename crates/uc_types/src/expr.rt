@@ -10,7 +10,8 @@ use crate::ask::{ask_argument, ask_assign, ask_call, ask_change, ask_index, ask_
 use crate::entity::{call_target, expected};
 use crate::found::Found;
 use crate::names::Names;
-use uc_meaning::rules::{Entity, Rule, Sort, Target};
+use uc_meaning::rule::Rule;
+use uc_meaning::rules::{Entity, Sort, Target};
 use uc_tree::expr::{Expr, ExprForm, Link, Part, PartForm};
 
 fn is_field(part: &Part) -> bool

@@ -2,16 +2,16 @@ use Rattle.uc_top.proofs.Causes.{causes, stops, answers, rooms, completes}
 use Rattle.uc_top.proofs.top.run_words.Goals as goal
 
 pub returns-clause-causes : goal.returns-clause-causes
-returns-clause-causes g c = causes _ c.work-outcome.ensures
+returns-clause-causes g c = causes _ c.work-outcome.ensures.leaves
 
 pub returns-clause-stops : goal.returns-clause-stops
-returns-clause-stops g c = stops _ c.work-outcome.ensures
+returns-clause-stops g c = stops _ c.work-outcome.ensures.leaves
 
 pub returns-clause-answers : goal.returns-clause-answers
-returns-clause-answers g c = answers _ c.work-outcome.ensures
+returns-clause-answers g c = answers _ c.work-outcome.ensures.leaves
 
 pub returns-clause-rooms : goal.returns-clause-rooms
-returns-clause-rooms g c = rooms _ c.work-outcome.ensures
+returns-clause-rooms g c = rooms _ c.work-outcome.ensures.leaves
 
 pub returns-clause-completes : goal.returns-clause-completes
-returns-clause-completes g c = completes _ c.work-outcome.ensures
+returns-clause-completes g c = completes _ c.work-outcome.ensures.leaves
