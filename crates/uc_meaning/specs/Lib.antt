@@ -32,3 +32,16 @@ pub mod RulesVisits
 pub mod RulesFirst
 pub mod Rules
 pub mod Accepted
+pub mod Sorts
+pub mod Names
+pub mod Scopes
+pub mod Entities
+pub mod Visits
+pub mod ProgramVisits
+pub mod Asked
+pub mod ExpressionBreaks
+pub mod ClassBreaks
+pub mod ItemBreaks
+pub mod OwnerBreaks
+pub mod Breaks
+pub mod Firsts

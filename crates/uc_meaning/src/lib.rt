@@ -10,4 +10,5 @@ pub mod laws;
 pub mod list;
 pub mod request;
 pub mod rule;
+pub mod rules;
 pub mod samples;

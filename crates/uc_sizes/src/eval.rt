@@ -11,8 +11,8 @@ use uc_tree::kinds::Base;
 use uc_tree::limits::{CHAR_VALUES, INT_MAX, INT_MIN};
 use uc_tree::ops::{BinaryOp, UnaryOp};
 
-// The number where it is an `int`.
-fn int_of(number: i64) -> Option<i64>
+/// The number where it is an `int`.
+pub fn int_of(number: i64) -> Option<i64>
     ensures { result ≡ int_value number }
 {
     if INT_MIN <= number && number <= INT_MAX {
@@ -80,7 +80,8 @@ fn negated(x: i64) -> Option<i64>
     }
 }
 
-fn unary_of(op: UnaryOp, x: i64) -> Option<i64>
+/// The value of an operator on one constant.
+pub fn unary_of(op: UnaryOp, x: i64) -> Option<i64>
     ensures { result ≡ unary_value op x }
 {
     match op {
@@ -92,7 +93,8 @@ fn unary_of(op: UnaryOp, x: i64) -> Option<i64>
     }
 }
 
-fn binary_of(op: BinaryOp, x: i64, y: i64) -> Option<i64>
+/// The value of an operator on two constants.
+pub fn binary_of(op: BinaryOp, x: i64, y: i64) -> Option<i64>
     ensures { result ≡ binary_value op x y }
 {
     match op {

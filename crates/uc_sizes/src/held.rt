@@ -18,8 +18,8 @@ use uc_tree::limits::ARRAY_LENGTH;
 use uc_tree::name::Name;
 use uc_tree::rows::{Held, Object, Row};
 
-// A length of 1 to `ARRAY_LENGTH`; a broken one counts as 1.
-fn sound_length(value: Option<i64>) -> u32
+/// A length of 1 to `ARRAY_LENGTH`; a broken one counts as 1.
+pub fn sound_length(value: Option<i64>) -> u32
     ensures { result ≡ sound_length value }
 {
     match value {

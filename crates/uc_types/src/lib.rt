@@ -1,0 +1,11 @@
+// What names and expressions stand for under the rules of the language, and the breaks of rules in expressions.
+#![tactic(auto)]
+
+pub mod ask;
+pub mod entity;
+pub mod expr;
+pub mod found;
+pub mod names;
+pub mod sort;
+pub mod spans;
+pub mod tables;

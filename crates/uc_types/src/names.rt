@@ -1,0 +1,361 @@
+// The names in scope at a place in a program, and what stands round it.
+
+ghost use Rattle.std.specs.Prelude.{◌≡◌, None, OnOk, Some, drop, if◌then◌else◌, length, take};
+ghost use Rattle.std.specs.List.{list_any};
+ghost use Rattle.uc_tree.specs.Constants.{chain_value_in, length_in, link_value_in, value_in};
+ghost use Rattle.uc_tree.specs.Expressions.{links_of};
+ghost use Rattle.uc_tree.specs.Names.{same_name};
+ghost use Rattle.uc_tree.specs.Numbering.{main_name};
+ghost use Rattle.uc_meaning.specs.Scopes.{caught_entity, declared, is_hidden, is_own, local_named, main_meant, named, named_behind, opened, own_named, param_seen, plain_env, seen_as, value_named, with_around, with_caught, with_param, with_seen};
+
+use crate::tables::Tables;
+use std::alloc::{AllocError, Global};
+use std::marker::Model;
+use uc_meaning::rules::{Around, Entity, Meant, Origin, Seen};
+use uc_sizes::eval::{binary_of, int_of, unary_of};
+use uc_sizes::held::sound_length;
+use uc_tree::declare::Declarator;
+use uc_tree::expr::{Expr, ExprForm, Link};
+use uc_tree::kinds::{Base, Param};
+use uc_tree::name::Name;
+
+/// The locals and parameters in scope, from the outermost scope on, with the names of the program. Contracts see them as the
+/// environment of a place.
+#[derive(Drop)]
+pub struct Names<'a> {
+    alloc: Global,
+    tables: &'a Tables<'a>,
+    around: Around,
+    names: Vec<Seen>,
+    outside: usize,
+}
+
+impl<'a> Model for Names<'a> {
+    ghost use Rattle.std.specs.Coded.{codes};
+    ghost use Rattle.uc_tree.specs.ProgramCodes.{program_coded};
+    ghost use Rattle.uc_meaning.specs.Scopes.{Env};
+
+    ghost Value = { Env };
+
+    ghost coded = { Prim.hlevel (codes, program_coded) };
+
+    ghost view = { λ a. record { program = a.tables.now; around = a.around; names = a.names.items; outside = a.outside } };
+}
+
+/// A scope to come back to.
+#[derive(Clone, Copy)]
+pub struct Mark {
+    count: usize,
+    outside: usize,
+    around: Around,
+}
+
+impl<'a> Names<'a> {
+    /// Where no local is in scope.
+    pub fn new(alloc: Global, tables: &'a Tables<'a>, around: Around) -> Names<'a>
+        ensures { result ≡ plain_env tables.now around }
+    {
+        let names = Vec::new(alloc);
+        Names {
+            alloc,
+            tables,
+            around,
+            names,
+            outside: 0,
+        }
+    }
+
+    /// The memory that further names take.
+    pub fn alloc(&self) -> Global {
+        self.alloc
+    }
+
+    /// The names of the program.
+    pub fn tables(&self) -> &'a Tables<'a>
+        ensures { result.now ≡ self.now.program }
+    {
+        self.tables
+    }
+
+    /// What stands round the place.
+    pub fn around(&self) -> Around
+        ensures { result ≡ self.now.around }
+    {
+        self.around
+    }
+
+    /// What stands round the place from now on.
+    pub fn set_around(&mut self, around: Around)
+        ensures { self.new ≡ with_around self.old around }
+    {
+        self.around = around;
+    }
+
+    fn local_named(&self, name: &Name) -> Option<Meant>
+        ensures { result ≡ local_named self.now.names name.now }
+    {
+        find(&self.names, name)
+    }
+
+    fn own_named(&self, name: &Name) -> Option<Meant>
+        ensures { result ≡ own_named self.now.program self.now.around.main self.now.around.home name.now }
+    {
+        let around = self.around;
+        match around.home {
+            Some(home) => {
+                let tables = self.tables;
+                tables.member_named(home.class, name)
+            }
+            None => main_named(around.main, name),
+        }
+    }
+
+    /// What a name stands for.
+    pub fn named(&self, name: &Name) -> Option<Meant>
+        ensures { result ≡ named self.now name.now }
+    {
+        let local = self.local_named(name);
+        if local.is_some() {
+            return local;
+        }
+        let own = self.own_named(name);
+        if own.is_some() {
+            return own;
+        }
+        let tables = self.tables;
+        tables.outer_named(name)
+    }
+
+    fn is_hidden(&self, name: &Name) -> bool
+        ensures { result ≡ is_hidden self.now name.now }
+    {
+        let local = self.local_named(name);
+        let own = self.own_named(name);
+        local.is_some() || own.is_some()
+    }
+
+    /// The value of the constant of a name; none where a local, a parameter or a member hides it.
+    pub fn value_named(&self, name: &Name) -> Option<i64>
+        ensures { result ≡ value_named self.now name.now }
+    {
+        if self.is_hidden(name) {
+            return None;
+        }
+        let tables = self.tables;
+        tables.constant(name)
+    }
+
+    /// Whether the innermost scope has a name.
+    pub fn is_own(&self, name: &Name) -> bool
+        ensures { result ≡ is_own self.now name.now }
+    {
+        has_behind(&self.names, self.outside, name)
+    }
+
+    fn push(&mut self, name: &Name, meant: Meant) -> Result<(), AllocError>
+        ensures { OnOk result (self.new ≡ with_seen self.old (record { name = name.now; meant = meant })) }
+    {
+        let name = name.copy(self.alloc)?;
+        self.names.push(Seen { name, meant })?;
+        Ok(())
+    }
+
+    fn declared_meant(&self, base: &Base, declarator: &Declarator) -> Meant
+        ensures { result ≡ (seen_as self.now base.now declarator.now).meant }
+    {
+        let count = length_of(self, &declarator.len);
+        let tables = self.tables;
+        Meant {
+            entity: tables.declared_entity(base, declarator, count),
+            origin: Origin::Local,
+        }
+    }
+
+    /// One more variable.
+    pub fn declare(&mut self, base: &Base, declarator: &Declarator) -> Result<(), AllocError>
+        ensures { OnOk result (self.new ≡ declared self.old base.now declarator.now) }
+    {
+        let meant = self.declared_meant(base, declarator);
+        self.push(&declarator.name, meant)?;
+        Ok(())
+    }
+
+    fn param_meant(&self, param: &Param) -> Meant
+        ensures { result ≡ (param_seen self.now.program param.now).meant }
+    {
+        let tables = self.tables;
+        let entity = match tables.sort_of(&param.base) {
+            Some(sort) => Some(Entity::Place { sort }),
+            None => None,
+        };
+        Meant {
+            entity,
+            origin: Origin::Parameter {
+                by_ref: param.by_ref,
+            },
+        }
+    }
+
+    /// One more parameter.
+    pub fn add_param(&mut self, param: &Param) -> Result<(), AllocError>
+        ensures { OnOk result (self.new ≡ with_param self.old param.now) }
+    {
+        let meant = self.param_meant(param);
+        self.push(&param.name, meant)?;
+        Ok(())
+    }
+
+    fn caught(&self, event: &Option<Name>) -> Option<Entity>
+        ensures { result ≡ caught_entity self.now.program event.now }
+    {
+        match event {
+            Some(event) => {
+                let tables = self.tables;
+                tables.event_named(event)
+            }
+            None => None,
+        }
+    }
+
+    /// The parameter of a handler, where it has one.
+    pub fn add_caught(
+        &mut self,
+        event: &Option<Name>,
+        param: &Option<Name>,
+    ) -> Result<(), AllocError>
+        ensures { OnOk result (self.new ≡ with_caught self.old event.now param.now) }
+    {
+        match param {
+            Some(param) => {
+                let meant = Meant {
+                    entity: self.caught(event),
+                    origin: Origin::Local,
+                };
+                self.push(param, meant)?;
+                Ok(())
+            }
+            None => Ok(()),
+        }
+    }
+
+    /// Where to come back to.
+    pub fn mark(&self) -> Mark
+        ensures count { result.count ≡ length self.now.names }
+        ensures outside { result.outside ≡ self.now.outside }
+        ensures around { result.around ≡ self.now.around }
+    {
+        Mark {
+            count: self.names.len(),
+            outside: self.outside,
+            around: self.around,
+        }
+    }
+
+    /// A new scope.
+    pub fn open(&mut self)
+        ensures { self.new ≡ opened self.old }
+    {
+        self.outside = self.names.len();
+        self.around.joins = false;
+    }
+
+    /// The innermost scope ends, and the one of the mark is the innermost again.
+    pub fn close(&mut self, mark: Mark)
+        ensures { self.new ≡ record { program = self.old.program; around = mark.around; names = take mark.count self.old.names; outside = mark.outside } }
+    {
+        self.names.truncate(mark.count);
+        self.outside = mark.outside;
+        self.around = mark.around;
+    }
+}
+
+fn main_named(main: bool, name: &Name) -> Option<Meant>
+    ensures { result ≡ (if main then (if same_name main_name name.now then Some main_meant else None) else None) }
+{
+    if main && name.is(b"main") {
+        Some(Meant {
+            entity: Some(Entity::Main),
+            origin: Origin::Outer,
+        })
+    } else {
+        None
+    }
+}
+
+fn find(names: &[Seen], name: &Name) -> Option<Meant>
+    ensures { result ≡ local_named names.now name.now }
+{
+    let mut place = names.len();
+    while 0 < place {
+        place -= 1;
+        let seen = &names[place];
+        if seen.name.is(name.bytes()) {
+            return Some(seen.meant);
+        }
+    }
+    None
+}
+
+fn has_behind(names: &[Seen], outside: usize, name: &Name) -> bool
+    ensures { result ≡ list_any (λ s. same_name s.name name.now) (drop outside names.now) }
+{
+    names.iter().skip(outside).any(|s| s.name.is(name.bytes()))
+}
+
+/// The value of a length; none where it is not constant.
+#[cycle(value)]
+pub fn length_value(names: &Names, e: &Expr) -> Option<i64>
+    ensures { result ≡ value_in e.now (value_named names.now) }
+{
+    match &e.form {
+        ExprForm::Number { value } => int_of(*value),
+        ExprForm::Character { byte } => Some(i64::from(*byte)),
+        ExprForm::Truth { value } => Some(i64::from(*value)),
+        ExprForm::Name { name } => names.value_named(name),
+        ExprForm::Cin => None,
+        ExprForm::Postfix { .. } => None,
+        ExprForm::Unary { op, operand } => match length_value(names, operand) {
+            Some(x) => unary_of(*op, x),
+            None => None,
+        },
+        ExprForm::Chain { first, rest } => {
+            let left = length_value(names, first);
+            chain_value(names, left, rest)
+        }
+        ExprForm::Assign { .. } => None,
+    }
+}
+
+#[cycle(value)]
+fn chain_value(names: &Names, left: Option<i64>, rest: &[Link]) -> Option<i64>
+    ensures { result ≡ chain_value_in (links_of rest.now) left (value_named names.now) }
+{
+    let mut value = left;
+    for link in rest {
+        value = link_value(names, value, link);
+    }
+    value
+}
+
+#[cycle(value)]
+fn link_value(names: &Names, left: Option<i64>, link: &Link) -> Option<i64>
+    ensures { result ≡ link_value_in link.now left (value_named names.now) }
+{
+    let right = length_value(names, &link.right);
+    match left {
+        Some(x) => match right {
+            Some(y) => binary_of(link.op, x, y),
+            None => None,
+        },
+        None => None,
+    }
+}
+
+fn length_of(names: &Names, len: &Option<Expr>) -> u32
+    ensures { result ≡ length_in (value_named names.now) len.now }
+{
+    match len {
+        Some(len) => sound_length(length_value(names, len)),
+        None => 1,
+    }
+}
