@@ -17,7 +17,7 @@ use Rattle.uc_meaning.specs.Known.{object_count, task_count, owner, is_gone_by}
 use Rattle.uc_meaning.specs.Pending.{pending, oldest_in}
 use Rattle.uc_meaning.specs.Doors.{site_at, open_at, offered, clause_for, Met, next_met, blocked, destroys_busy}
 use Rattle.uc_meaning.proofs.Hush.{is_silent}
-use Rattle.uc_meaning.specs.Acts.{admit, push, fault, admission, met_by, called, took, accepted, accept_entry, signalled, handed, front, poll_entry, prints, or_fault, left_by, row, settled, entries_of, is_faulty, verdict, closing, ending, fitted, act}
+use Rattle.uc_meaning.specs.Acts.{admit, push, fault, admission, met_by, called, took, accepted, signalled, handed, front, poll_entry, prints, or_fault, left_by, row, settled, entries_of, is_faulty, verdict, closing, ending, fitted, act}
 
 -- whether an entry is told of its acting task
 abbrev pub is_own : EntryKind → Bool

@@ -1,8 +1,8 @@
 -- A task that is ready or runs has an answer.
-use Rattle.std.proofs.Common.{◌≡◌, ◌⊎◌, inl, inr, ℕ, zero, suc, ◌==◌, ◌&&◌, ◌||◌, Bool, true, false, cond, not, List, [], ◌∷◌, ◌++◌, Option, Some, None, refl, sym, ap, ◌∙◌, subst, append-nil, append_assoc, ⊎_elim}
-use Rattle.std.specs.Prelude.{pos, reverse}
+use Rattle.std.proofs.Common.{◌≡◌, ℕ, suc, ◌==◌, ◌&&◌, ◌||◌, Bool, true, false, not, List, [], ◌∷◌, ◌++◌, Option, Some, None, refl, sym, ap, ◌∙◌, subst, append-nil, append_assoc}
+use Rattle.std.specs.Prelude.{reverse}
 use Rattle.std.specs.Option.{option_to_list}
-use Rattle.std.specs.List.{filter, list_any}
+use Rattle.std.specs.List.{filter}
 use Rattle.std.proofs.lemmas.List.{reverse-append}
 use Rattle.std.proofs.lemmas.Bool.{eqb-true, eq-eqb}
 use Rattle.uc_tree.specs.Programs.{Site}
@@ -12,28 +12,25 @@ use Rattle.uc_meaning.specs.declared.entry.EntryKind.TheVariants as kind
 use Rattle.uc_meaning.specs.declared.entry.Options.{Options}
 use Rattle.uc_meaning.specs.declared.request.Answer.{Answer}
 use Rattle.uc_meaning.specs.declared.request.Answer.TheVariants as answer
-use Rattle.uc_meaning.specs.declared.request.Asked.{Asked}
 use Rattle.uc_meaning.specs.Journal.{Journal, begin, number, holds, where_true, stacks_acceptor, is_over, is_fault}
-use Rattle.uc_meaning.specs.Queues.{Noted, ready, running}
+use Rattle.uc_meaning.specs.Queues.{Noted, ready}
 use Rattle.uc_meaning.specs.Known.{has}
-use Rattle.uc_meaning.specs.Doors.{offered, clause_for, or_0}
-use Rattle.uc_meaning.specs.Answers.{tells, asks, answer_to, first_of, told_if, accept_answer, let_in_answer, poll_answer}
-use Rattle.uc_meaning.specs.Stations.{Ready, Running, times, tasks_at}
-use Rattle.uc_meaning.specs.Sound.{At, Sound, Spot, mover, target, moved_if, own_or_ready, spot}
-use Rattle.uc_meaning.specs.Acts.{row, settled, fault, is_faulty, act, dispatch, lone_limit}
+use Rattle.uc_meaning.specs.Answers.{tells, asks, answer_to, first_of, told_if, accept_answer, let_in_answer}
+use Rattle.uc_meaning.specs.Stations.{Ready, Running, times}
+use Rattle.uc_meaning.specs.Sound.{At, Sound, Spot, mover, target, moved_if, spot}
+use Rattle.uc_meaning.specs.Acts.{row, fault, is_faulty, dispatch, lone_limit}
 use Rattle.uc_meaning.specs.KernelRuns.{KernelMay, KernelRuns, gives, no_room, acts, begun, more}
-use Rattle.uc_meaning.specs.Laws.{LawAnswered, Answered, IsAnswered}
+use Rattle.uc_meaning.specs.Laws.{LawAnswered, IsAnswered}
 use Rattle.uc_meaning.specs.Open.{still_open}
 use Rattle.uc_meaning.proofs.Open.{still_open_push}
 use Rattle.uc_meaning.proofs.Noted.{noted_at}
 use Rattle.uc_meaning.proofs.Spots.{spot_push}
-use Rattle.uc_meaning.proofs.Sound.{self_test}
 use Rattle.uc_meaning.proofs.Moves.{first_at, counted_at}
 use Rattle.uc_meaning.proofs.Law.{good_whole, spot_none}
 use Rattle.uc_meaning.proofs.Rest.{or_parts, settled_calm}
 use Rattle.uc_meaning.proofs.Bounds.{over_limit}
 use Rattle.uc_meaning.proofs.Given.{answer_given}
-use Rattle.uc_meaning.proofs.Acting.{is_giving, object_of, destroys, FieldsFit, IsBy, AllBy, by_row}
+use Rattle.uc_meaning.proofs.Acting.{is_giving, object_of, destroys, FieldsFit, AllBy, by_row}
 use Rattle.uc_meaning.proofs.Living.{going_row}
 
 no_both : (b : Bool) → b ≡ true → b ≡ false → ⊥

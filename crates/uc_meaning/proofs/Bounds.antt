@@ -1,18 +1,15 @@
 -- A journal stays within its bound, and a run that goes on can go on.
-use Rattle.std.proofs.Common.{◌≡◌, ℕ, suc, ◌==◌, ◌+◌, ◌<◌, ◌≤◌, ◌&&◌, ◌||◌, Bool, true, false, cond, not, List, [], ◌∷◌, ◌++◌, Option, Some, None, refl, sym, ap, ◌∙◌, subst, arith, length, length-append, append-nil, lit<}
+use Rattle.std.proofs.Common.{◌≡◌, ℕ, ◌+◌, ◌||◌, Bool, true, false, cond, List, [], ◌∷◌, ◌++◌, refl, ◌∙◌, arith, length, length-append}
 use Rattle.std.specs.Prelude.{pos, nat_le}
-use Rattle.std.specs.List.{list_any, list_all, Contains}
 use Rattle.std.proofs.lemmas.Bool.{leb-true}
 use Rattle.std.proofs.lemmas.List.Folds.{list_any-append}
 use Rattle.uc_tree.specs.Programs.{Site}
 use Rattle.uc_meaning.specs.declared.entry.Entry.{Entry}
 use Rattle.uc_meaning.specs.declared.entry.EntryKind.TheVariants as kind
-use Rattle.uc_meaning.specs.declared.entry.EntryKind.{EntryKind}
 use Rattle.uc_meaning.specs.declared.entry.Options.{Options}
-use Rattle.uc_meaning.specs.declared.request.Asked.{Asked}
-use Rattle.uc_meaning.specs.Journal.{Journal, entry, begin, is_over, is_ending, is_fault}
-use Rattle.uc_meaning.specs.Acts.{entries_of, is_faulty, verdict, closing, ending, fitted, act, dispatch, lone_limit}
-use Rattle.uc_meaning.specs.KernelRuns.{InRange, KernelMay, KernelRuns, gives, no_room, acts, begun, more}
+use Rattle.uc_meaning.specs.Journal.{Journal, entry, is_over, is_ending}
+use Rattle.uc_meaning.specs.Acts.{entries_of, ending, fitted, dispatch, lone_limit}
+use Rattle.uc_meaning.specs.KernelRuns.{KernelMay, gives, no_room, acts, begun, more}
 use Rattle.uc_meaning.specs.Laws.{LawRoom, Room}
 
 or_true : (b : Bool) → (b || true) ≡ true

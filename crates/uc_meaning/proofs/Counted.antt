@@ -1,31 +1,29 @@
 -- The objects that are made and not gone are those below the count that are not gone.
-use Rattle.std.proofs.Common.{◌≡◌, ◌⊎◌, inl, inr, ℕ, suc, ◌==◌, ◌+◌, ◌<◌, ◌≤◌, ◌&&◌, ◌||◌, Bool, true, false, cond, not, List, [], ◌∷◌, ◌++◌, Option, Some, None, refl, sym, ap, ◌∙◌, subst, arith, append-nil, append_assoc, ⊎_elim}
-use Rattle.std.specs.Prelude.{pos, nat_lt}
+use Rattle.std.proofs.Common.{◌≡◌, ◌⊎◌, inl, inr, ℕ, ◌==◌, ◌+◌, ◌<◌, ◌≤◌, ◌&&◌, ◌||◌, Bool, true, false, not, List, [], ◌∷◌, ◌++◌, refl, sym, ap, ◌∙◌, subst, arith, append-nil, append_assoc, ⊎_elim}
 use Rattle.std.specs.Option.{option_to_list}
-use Rattle.std.specs.List.{filter, list_any}
-use Rattle.std.proofs.lemmas.Bool.{eqb-true, eq-eqb, ne_eqb, lt-ltb, ltb-true, ltb-false, cases_lt}
+use Rattle.std.specs.List.{filter}
+use Rattle.std.proofs.lemmas.Bool.{eqb-true, eq-eqb, cases_lt}
 use Rattle.std.proofs.lemmas.List.Folds.{list_any-append}
 use Rattle.uc_tree.specs.Programs.{Site}
 use Rattle.uc_meaning.specs.declared.entry.Entry.{Entry}
 use Rattle.uc_meaning.specs.declared.entry.EntryKind.{EntryKind}
 use Rattle.uc_meaning.specs.declared.entry.EntryKind.TheVariants as kind
 use Rattle.uc_meaning.specs.declared.entry.Options.{Options}
-use Rattle.uc_meaning.specs.declared.request.Asked.{Asked}
-use Rattle.uc_meaning.specs.Journal.{Journal, begin, inside, held, is_over}
-use Rattle.uc_meaning.specs.Known.{has, object_count, is_make, is_gone, is_gone_by, made, makes_object, takes_object, takes_out}
+use Rattle.uc_meaning.specs.Journal.{Journal, begin, inside}
+use Rattle.uc_meaning.specs.Known.{has, object_count, is_make, is_gone, is_gone_by, made, makes_object, takes_object}
 use Rattle.uc_meaning.specs.Sound.{Sound}
 use Rattle.uc_meaning.specs.Legal.{Legal, IsNext}
 use Rattle.uc_meaning.specs.Acts.{act, dispatch, lone_limit}
 use Rattle.uc_meaning.specs.KernelRuns.{KernelMay, KernelRuns, gives, no_room, acts, begun, more}
 use Rattle.uc_meaning.specs.Laws.{LawMade}
 use Rattle.uc_meaning.proofs.Open.{still_open_push, still_open_silent}
-use Rattle.uc_meaning.proofs.Sound.{plus, objects_push, some_object}
+use Rattle.uc_meaning.proofs.Sound.{plus, objects_push}
 use Rattle.uc_meaning.proofs.Rows.{Lawful}
 use Rattle.uc_meaning.proofs.Law.{good_whole, lawful_act}
 use Rattle.uc_meaning.proofs.Given.{made_given}
 use Rattle.uc_meaning.proofs.Held.{law_held}
 use Rattle.uc_meaning.proofs.Acting.{AllBy, is_giving, by_act, object_of, destroys}
-use Rattle.uc_meaning.proofs.Living.{gone_same, gone_other, gone_still, nothing_gone, lived_run, Lived}
+use Rattle.uc_meaning.proofs.Living.{gone_same, gone_other, gone_still, nothing_gone, lived_run}
 
 no_both : (b : Bool) → b ≡ true → b ≡ false → ⊥
 no_both b t f = cc

@@ -1,5 +1,5 @@
 -- A journal has one cut into acts.
-use Rattle.std.proofs.Common.{◌≡◌, ℕ, suc, ◌==◌, ◌+◌, ◌<◌, ◌≤◌, Bool, true, false, cond, ◌||◌, ◌&&◌, List, [], ◌∷◌, ◌++◌, Option, Some, None, refl, sym, ap, ◌∙◌, subst, arith, length, append_assoc, append-nil, length-append}
+use Rattle.std.proofs.Common.{◌≡◌, ℕ, suc, ◌+◌, ◌<◌, Bool, true, false, cond, List, [], ◌∷◌, ◌++◌, refl, sym, ap, ◌∙◌, subst, arith, length, append_assoc, append-nil, length-append}
 use Rattle.std.specs.Prelude.{pos, nat_le}
 use Rattle.uc_tree.specs.Source.{Source}
 use Rattle.uc_tree.specs.Programs.{Site}
@@ -8,9 +8,8 @@ use Rattle.uc_meaning.specs.declared.entry.EntryKind.{EntryKind}
 use Rattle.uc_meaning.specs.declared.entry.EntryKind.TheVariants as kind
 use Rattle.uc_meaning.specs.declared.entry.Options.{Options}
 use Rattle.uc_meaning.specs.declared.request.Asked.{Asked}
-use Rattle.uc_meaning.specs.declared.request.Request.{Request}
 use Rattle.uc_meaning.specs.declared.request.Request.TheVariants as ask
-use Rattle.uc_meaning.specs.Journal.{Journal, begin, entry, is_over, first_or_0}
+use Rattle.uc_meaning.specs.Journal.{Journal, entry, is_over, first_or_0}
 use Rattle.uc_meaning.specs.Queues.{running}
 use Rattle.uc_meaning.specs.Answers.{asks}
 use Rattle.uc_meaning.specs.Doors.{destroys_busy}
@@ -19,11 +18,11 @@ use Rattle.uc_meaning.specs.Serves.{left}
 use Rattle.uc_meaning.specs.KernelRuns.{Fits}
 use Rattle.uc_meaning.specs.Quiet.{State, Goes, Ticks, Asks as AsksNow, quiet}
 use Rattle.uc_meaning.specs.Rides.{asked_in, Rides, slices, goes_on as moves_on, ticks as makes_tick, asks as asks_now}
-use Rattle.uc_meaning.specs.Runs.{World, AsksIn, world_after, drawn, first_world}
+use Rattle.uc_meaning.specs.Runs.{World, world_after, drawn}
 use Rattle.uc_meaning.specs.Cuts.{Step, gives, no_room, acts, Cut, ends, goes_on, OneCut, OneRide, LawCut}
 use Rattle.uc_meaning.proofs.Bounds.{over_limit}
-use Rattle.uc_meaning.proofs.Acting.{is_giving, object_of, destroys, IsBy, AllBy, by_act}
-use Rattle.uc_meaning.proofs.Making.{Asks, row_asks}
+use Rattle.uc_meaning.proofs.Acting.{is_giving, object_of, destroys, AllBy, by_act}
+use Rattle.uc_meaning.proofs.Making.{row_asks}
 
 no_both : (b : Bool) → b ≡ true → b ≡ false → ⊥
 no_both b t f = cc

@@ -1,18 +1,15 @@
 -- A dispatch puts its task on its processor, and leaves everything else alone.
-use Rattle.std.proofs.Common.{◌≡◌, ℕ, ◌==◌, ◌&&◌, Bool, true, false, List, [], ◌∷◌, ◌++◌, Option, None, refl, sym, ap, ◌∙◌, append-nil}
+use Rattle.std.proofs.Common.{◌≡◌, ℕ, ◌==◌, ◌&&◌, Bool, true, false, List, [], ◌∷◌, ◌++◌, refl, sym, ap, ◌∙◌}
 use Rattle.std.specs.Prelude.{reverse}
 use Rattle.std.specs.List.{sum_by}
-use Rattle.std.proofs.lemmas.Bool.{eqb-true, eq-eqb}
+use Rattle.std.proofs.lemmas.Bool.{eqb-true}
 use Rattle.uc_tree.specs.Programs.{Site}
-use Rattle.uc_meaning.specs.declared.entry.Entry.{Entry}
-use Rattle.uc_meaning.specs.declared.entry.Options.{Options}
 use Rattle.uc_meaning.specs.Journal.{Journal, where_true, lets_in, moves, is_task, held}
 use Rattle.uc_meaning.specs.Queues.{running, ready, used, spent, dispatches}
 use Rattle.uc_meaning.specs.Known.{made, makes_object, takes_object}
 use Rattle.uc_meaning.specs.Answers.{tells, asks, answer_to, first_of}
 use Rattle.uc_meaning.specs.Stations.{Ready, Running}
 use Rattle.uc_meaning.specs.Sound.{At, Sound, Spot, spot}
-use Rattle.uc_meaning.specs.Serves.{Serves}
 use Rattle.uc_meaning.specs.Acts.{dispatch}
 use Rattle.uc_meaning.specs.Laws.{LawDispatch, Untouched}
 use Rattle.uc_meaning.proofs.Open.{still_open_silent}

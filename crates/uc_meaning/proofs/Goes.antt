@@ -1,8 +1,7 @@
 -- While a run goes on and nobody runs, somebody can be dispatched.
-use Rattle.std.proofs.Common.{◌≡◌, ℕ, zero, suc, ◌+◌, ◌<◌, ◌≤◌, ◌&&◌, ◌||◌, Bool, true, false, cond, not, List, [], ◌∷◌, ◌++◌, Option, Some, None, refl, sym, ap, ◌∙◌, subst, arith, length, append-nil}
+use Rattle.std.proofs.Common.{◌≡◌, ℕ, zero, suc, ◌+◌, ◌≤◌, ◌&&◌, ◌||◌, Bool, true, false, cond, not, List, [], ◌∷◌, ◌++◌, Option, Some, None, refl, sym, ap, ◌∙◌, subst, arith, length, append-nil}
 use Rattle.std.specs.Prelude.{pos, nat_le, map}
 use Rattle.std.specs.List.{list_any, list_all, Contains, range_with_len, filter}
-use Rattle.std.proofs.lemmas.List.Folds.{list_any-append}
 use Rattle.uc_tree.specs.Programs.{Site}
 use Rattle.uc_meaning.specs.declared.entry.Entry.{Entry}
 use Rattle.uc_meaning.specs.declared.entry.EntryKind.{EntryKind}
@@ -12,8 +11,7 @@ use Rattle.uc_meaning.specs.declared.request.Asked.{Asked}
 use Rattle.uc_meaning.specs.Journal.{Journal, entry, begin, is_over, is_ending, is_fault}
 use Rattle.uc_meaning.specs.Queues.{ready, running, first_ended, none_running, none_ready, none_served, all_ticks, processor_count, processors, open_processors, is_nobody, closes}
 use Rattle.uc_meaning.specs.Acts.{entries_of, is_faulty, verdict, closing, ending, fitted, act, dispatch, lone_limit}
-use Rattle.uc_meaning.specs.KernelRuns.{InRange, KernelMay, KernelRuns, gives, no_room, acts, begun, more}
-use Rattle.uc_meaning.specs.Serves.{Serves}
+use Rattle.uc_meaning.specs.KernelRuns.{KernelMay, gives, no_room, acts, begun, more}
 use Rattle.uc_meaning.specs.Laws.{LawGoing, IsServed}
 use Rattle.uc_meaning.proofs.Seats.{running_given}
 use Rattle.uc_meaning.proofs.Bounds.{over_push, over_limit}

@@ -1,5 +1,5 @@
 -- The objects that a task holds are those that it is inside.
-use Rattle.std.proofs.Common.{◌≡◌, ℕ, suc, ◌==◌, ◌+◌, ◌≤◌, ◌&&◌, ◌||◌, Bool, true, false, cond, List, [], ◌∷◌, ◌++◌, Option, Some, None, refl, sym, ap, ◌∙◌, arith}
+use Rattle.std.proofs.Common.{◌≡◌, ℕ, ◌==◌, ◌+◌, ◌≤◌, ◌&&◌, ◌||◌, Bool, true, false, cond, List, [], ◌∷◌, ◌++◌, Option, Some, None, refl, sym, ap, ◌∙◌, arith}
 use Rattle.std.specs.Prelude.{not}
 use Rattle.std.specs.Option.{option_to_list}
 use Rattle.std.specs.List.{filter, list_any}
@@ -12,7 +12,7 @@ use Rattle.uc_meaning.specs.Open.{still_open}
 use Rattle.uc_meaning.specs.Journal.{Journal, number, where_true, entries_at, lets_in, moves, is_task, inside, held}
 use Rattle.uc_meaning.specs.Known.{has}
 use Rattle.uc_meaning.specs.Stations.{times}
-use Rattle.uc_meaning.specs.Laws.{LawHeld, Held}
+use Rattle.uc_meaning.specs.Laws.{LawHeld}
 use Rattle.uc_meaning.proofs.Times.{times_append}
 use Rattle.uc_meaning.proofs.Sound.{self_test}
 

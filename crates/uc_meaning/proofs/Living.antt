@@ -1,11 +1,9 @@
 -- Nobody is inside an object that is gone, nor in a queue of it.
-use Rattle.std.proofs.Common.{◌≡◌, ℕ, ℤ, suc, ◌==◌, ◌+◌, ◌<◌, ◌≤◌, ◌&&◌, ◌||◌, Bool, true, false, cond, not, List, [], ◌∷◌, ◌++◌, Option, Some, None, map, refl, sym, ap, ◌∙◌, subst, arith, append-nil, append_assoc}
-use Rattle.std.specs.Prelude.{pos, nat_lt}
-use Rattle.std.specs.Option.{option_to_list}
-use Rattle.std.specs.List.{filter, list_any}
-use Rattle.std.proofs.lemmas.Bool.{eqb-true, eq-eqb, lt-ltb, ltb-true, cases_lt}
+use Rattle.std.proofs.Common.{◌≡◌, ℕ, ℤ, ◌==◌, ◌<◌, ◌||◌, Bool, true, false, not, List, [], ◌∷◌, ◌++◌, refl, sym, ap, ◌∙◌, subst, arith, append-nil, append_assoc}
+use Rattle.std.specs.Prelude.{pos}
+use Rattle.std.specs.List.{list_any}
+use Rattle.std.proofs.lemmas.Bool.{eqb-true}
 use Rattle.std.proofs.lemmas.List.{map-id}
-use Rattle.std.proofs.lemmas.List.Folds.{list_any-append}
 use Rattle.uc_tree.specs.Programs.{Site}
 use Rattle.uc_meaning.specs.declared.entry.Entry.{Entry}
 use Rattle.uc_meaning.specs.declared.entry.EntryKind.{EntryKind}
@@ -14,25 +12,25 @@ use Rattle.uc_meaning.specs.declared.entry.Options.{Options}
 use Rattle.uc_meaning.specs.declared.request.Asked.{Asked}
 use Rattle.uc_meaning.specs.declared.request.Request.{Request}
 use Rattle.uc_meaning.specs.declared.request.Request.TheVariants as ask
-use Rattle.uc_meaning.specs.Journal.{Journal, inside, entries_at, entry, is_over, begin, is_fault}
-use Rattle.uc_meaning.specs.Queues.{waiting, stacked, running, takes}
+use Rattle.uc_meaning.specs.Journal.{Journal, inside, entries_at, entry, is_over, begin}
+use Rattle.uc_meaning.specs.Queues.{waiting, stacked, running}
 use Rattle.uc_meaning.specs.Known.{object_count, is_gone, is_gone_by}
-use Rattle.uc_meaning.specs.Doors.{blocked_at, blocks, has_others, destroys_busy, open_at}
-use Rattle.uc_meaning.specs.Stations.{Running, Waits, Stacked, times}
-use Rattle.uc_meaning.specs.Sound.{Sound, spot, here, At}
-use Rattle.uc_meaning.specs.Acts.{row, settled, entries_of, is_faulty, act, fault, dispatch, lone_limit}
-use Rattle.uc_meaning.specs.KernelRuns.{Fits, MayAsk, KernelMay, KernelRuns, gives, no_room, acts, begun, more}
-use Rattle.uc_meaning.proofs.Open.{any_push, filter_true}
-use Rattle.uc_meaning.proofs.Seats.{inside_after, blocked_after, inside_other, waiting_other, stacked_other, blocked_other, blocked_same, at_push, at_other}
-use Rattle.uc_meaning.proofs.Sound.{self_test, objects_push, all_kept, all_kept_nil}
-use Rattle.uc_meaning.proofs.Moves.{inside_now, waiting_now, stacked_now, one_inside, more_objects}
+use Rattle.uc_meaning.specs.Doors.{blocked_at, has_others}
+use Rattle.uc_meaning.specs.Stations.{Waits, Stacked, times}
+use Rattle.uc_meaning.specs.Sound.{Sound, here}
+use Rattle.uc_meaning.specs.Acts.{row, settled, is_faulty, act, fault, dispatch, lone_limit}
+use Rattle.uc_meaning.specs.KernelRuns.{Fits, KernelMay, KernelRuns, gives, no_room, acts, begun, more}
+use Rattle.uc_meaning.proofs.Open.{any_push}
+use Rattle.uc_meaning.proofs.Seats.{blocked_after, inside_other, waiting_other, stacked_other, blocked_other, blocked_same, at_push, at_other}
+use Rattle.uc_meaning.proofs.Sound.{self_test, all_kept, all_kept_nil}
+use Rattle.uc_meaning.proofs.Moves.{waiting_now, stacked_now, one_inside, more_objects}
 use Rattle.uc_meaning.proofs.Rows.{at_run, out_of}
 use Rattle.uc_meaning.proofs.Hush.{is_silent, door_silent}
 use Rattle.uc_meaning.proofs.Law.{good_whole}
 use Rattle.uc_meaning.proofs.Room.{not_blocked}
 use Rattle.uc_meaning.proofs.Rest.{or_parts, all_of, settled_calm}
 use Rattle.uc_meaning.proofs.Goes.{going_act}
-use Rattle.uc_meaning.proofs.Acting.{object_of, is_quiet, destroys, IsBy, AllBy, by_row}
+use Rattle.uc_meaning.proofs.Acting.{object_of, is_quiet, destroys, AllBy, by_row}
 
 no_both : (b : Bool) → b ≡ true → b ≡ false → ⊥
 no_both b t f = cc

@@ -1,8 +1,8 @@
 -- What an act makes of the objects that are there, and who has just made one.
-use Rattle.std.proofs.Common.{◌≡◌, ◌⊎◌, inl, inr, ℕ, ℤ, zero, suc, ◌==◌, ◌+◌, ◌<◌, ◌≤◌, ◌&&◌, ◌||◌, Bool, true, false, cond, not, List, [], ◌∷◌, ◌++◌, Option, Some, None, take, length, refl, sym, ap, ◌∙◌, subst, arith, append-nil, append_assoc, ⊎_elim}
+use Rattle.std.proofs.Common.{◌≡◌, ℕ, ℤ, zero, suc, ◌==◌, ◌+◌, ◌<◌, ◌≤◌, ◌&&◌, ◌||◌, Bool, true, false, not, List, [], ◌∷◌, ◌++◌, Option, Some, None, take, length, refl, sym, ap, ◌∙◌, subst, arith, append-nil, append_assoc, ⊎_elim}
 use Rattle.std.specs.Prelude.{pos, nat_lt, reverse}
 use Rattle.std.specs.Option.{option_to_list}
-use Rattle.std.specs.List.{filter, list_any}
+use Rattle.std.specs.List.{filter}
 use Rattle.std.proofs.lemmas.Bool.{eqb-true, eq-eqb, cases_lt}
 use Rattle.uc_tree.specs.Programs.{Site}
 use Rattle.uc_tree.specs.declared.limits.TheConstants.{TASKS, OBJECTS, PENDING_EVENTS, CLUSTERS, PROCESSORS, PRINT_ITEMS}
@@ -16,29 +16,29 @@ use Rattle.uc_meaning.specs.declared.request.Asked.{Asked}
 use Rattle.uc_meaning.specs.declared.request.Piece.{Piece}
 use Rattle.uc_meaning.specs.declared.request.Request.{Request}
 use Rattle.uc_meaning.specs.declared.request.Request.TheVariants as ask
-use Rattle.uc_meaning.specs.Journal.{Journal, entry, begin, is_over, inside, held, moves, lets_in, is_task, where_true, first_or_0, own_object}
-use Rattle.uc_meaning.specs.Queues.{running, puts_on, takes_off, cluster_count, processor_count, is_in_use, next}
+use Rattle.uc_meaning.specs.Journal.{Journal, entry, begin, is_over, inside, held, moves, lets_in, is_task, where_true, first_or_0}
+use Rattle.uc_meaning.specs.Queues.{running, cluster_count, processor_count, is_in_use}
 use Rattle.uc_meaning.specs.Pending.{pending, oldest_in}
 use Rattle.uc_meaning.specs.Known.{has, object_count, task_count, owner, is_make, is_gone, is_gone_by, made, takes_object, takes_out}
 use Rattle.uc_meaning.specs.Doors.{site_at, Met, next_met, blocked}
 use Rattle.uc_meaning.specs.Answers.{tells, asks, answer_to, first_of, makes_for, just_made}
 use Rattle.uc_meaning.specs.Sound.{Sound}
-use Rattle.uc_meaning.specs.Legal.{Legal, IsNext}
+use Rattle.uc_meaning.specs.Legal.{IsNext}
 use Rattle.uc_meaning.specs.Acts.{row, settled, fault, is_faulty, act, dispatch, lone_limit, or_fault, accepted, took, signalled, handed, front, poll_entry, prints}
 use Rattle.uc_meaning.specs.KernelRuns.{Fits, MayAsk, KernelMay, KernelRuns, gives, no_room, acts, begun, more}
-use Rattle.uc_meaning.specs.Laws.{LawNew, IsNew, LawMakes, Makes, Elsewhere}
+use Rattle.uc_meaning.specs.Laws.{LawNew, IsNew, LawMakes, Elsewhere}
 use Rattle.uc_meaning.specs.Open.{still_open}
 use Rattle.uc_meaning.proofs.Open.{still_open_push, still_open_silent}
-use Rattle.uc_meaning.proofs.Seats.{running_same, running_other}
+use Rattle.uc_meaning.proofs.Seats.{running_same}
 use Rattle.uc_meaning.proofs.Sound.{self_test, plus, objects_push, all_kept_nil}
 use Rattle.uc_meaning.proofs.Rows.{Lawful, row_lawful}
-use Rattle.uc_meaning.proofs.Law.{good_whole, lawful_act}
+use Rattle.uc_meaning.proofs.Law.{good_whole}
 use Rattle.uc_meaning.proofs.Hush.{is_silent}
 use Rattle.uc_meaning.proofs.Held.{law_held}
 use Rattle.uc_meaning.proofs.Bounds.{over_push, over_limit}
-use Rattle.uc_meaning.proofs.Others.{law_elsewhere, flip}
+use Rattle.uc_meaning.proofs.Others.{law_elsewhere}
 use Rattle.uc_meaning.proofs.Given.{law_dispatch}
-use Rattle.uc_meaning.proofs.Acting.{is_own, object_of, is_quiet, destroys, IsBy, AllBy, by_row, by_act}
+use Rattle.uc_meaning.proofs.Acting.{is_own, object_of, is_quiet, destroys, AllBy, by_row, by_act}
 use Rattle.uc_meaning.proofs.Living.{going_row}
 use Rattle.uc_meaning.proofs.Counted.{Counted, counted_run, gone_push, has_filter}
 

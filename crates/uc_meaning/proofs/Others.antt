@@ -1,15 +1,12 @@
 -- What the entries of one task leave of a task that runs on another processor.
-use Rattle.std.proofs.Common.{◌≡◌, ◌≢◌, ℕ, ◌==◌, ◌<◌, ◌&&◌, ◌||◌, Bool, true, false, cond, List, [], ◌∷◌, ◌++◌, Option, Some, None, refl, sym, ap, ◌∙◌, arith, append-nil, append_assoc, add-zero}
+use Rattle.std.proofs.Common.{◌≡◌, ℕ, ◌==◌, ◌<◌, ◌&&◌, ◌||◌, Bool, true, false, List, [], ◌∷◌, ◌++◌, None, refl, sym, ap, ◌∙◌, arith, append-nil, append_assoc}
 use Rattle.std.specs.Prelude.{reverse}
-use Rattle.std.specs.List.{list_any, sum_by}
+use Rattle.std.specs.List.{sum_by}
 use Rattle.std.proofs.lemmas.Bool.{eqb-true, eq-eqb, ne_eqb}
 use Rattle.uc_tree.specs.Programs.{Site}
 use Rattle.uc_meaning.specs.declared.entry.Entry.{Entry}
 use Rattle.uc_meaning.specs.declared.entry.EntryKind.{EntryKind}
 use Rattle.uc_meaning.specs.declared.entry.EntryKind.TheVariants as kind
-use Rattle.uc_meaning.specs.declared.entry.Options.{Options}
-use Rattle.uc_meaning.specs.declared.request.Answer.{Answer}
-use Rattle.uc_meaning.specs.Open.{still_open}
 use Rattle.uc_meaning.specs.Journal.{Journal, number, holds, where_true, stacks_acceptor, lets_in, moves, is_task, held}
 use Rattle.uc_meaning.specs.Queues.{running, used, spent, dispatches}
 use Rattle.uc_meaning.specs.Known.{task_count, spawns, spawns_task}
@@ -17,13 +14,12 @@ use Rattle.uc_meaning.specs.Answers.{tells, asks, answer_to, first_of, told_if, 
 use Rattle.uc_meaning.specs.Stations.{Running}
 use Rattle.uc_meaning.specs.Sound.{At, Sound, Spot, mover, spot, here}
 use Rattle.uc_meaning.specs.Legal.{Legal, IsNext, removes}
-use Rattle.uc_meaning.specs.Laws.{LawElsewhere, Untouched, Elsewhere}
-use Rattle.uc_meaning.specs.KernelRuns.{MayAsk, KernelRuns}
+use Rattle.uc_meaning.specs.Laws.{LawElsewhere, Untouched}
 use Rattle.uc_meaning.specs.Acts.{act}
-use Rattle.uc_meaning.proofs.Open.{still_open_silent, any_push, or_false}
+use Rattle.uc_meaning.proofs.Open.{still_open_silent}
 use Rattle.uc_meaning.proofs.Seats.{running_other}
 use Rattle.uc_meaning.proofs.Sound.{self_test, sound_step}
-use Rattle.uc_meaning.proofs.Moves.{first_at, known_at, spot_stays, more_tasks}
+use Rattle.uc_meaning.proofs.Moves.{first_at, known_at, spot_stays}
 use Rattle.uc_meaning.proofs.Rows.{Lawful}
 use Rattle.uc_meaning.proofs.Law.{lawful_act, good_whole}
 use Rattle.uc_meaning.proofs.Acting.{is_own, is_giving, object_of, destroys, IsBy, AllBy, by_act}

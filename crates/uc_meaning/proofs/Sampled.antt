@@ -1,5 +1,5 @@
 -- The sample journals, worked out.
-use Rattle.std.proofs.Common.{◌≡◌, ℕ, ℤ, ◌+◌, ◌<◌, ◌≤◌, ◌==◌, Bool, true, false, cond, List, [], ◌∷◌, ◌++◌, refl, sym, ap, ◌∙◌, subst, length, lit<}
+use Rattle.std.proofs.Common.{◌≡◌, ℕ, ℤ, ◌+◌, ◌<◌, ◌≤◌, true, false, List, [], ◌∷◌, ◌++◌, refl, ap, subst, length, lit<}
 use Rattle.std.specs.Prelude.{pos, nat_lt, nat_le, replicate}
 use Rattle.std.specs.List.{Contains}
 use Rattle.std.proofs.lemmas.Bool.{leb-true, ltb-true}
@@ -9,10 +9,9 @@ use Rattle.uc_meaning.specs.declared.entry.Entry.{Entry}
 use Rattle.uc_meaning.specs.declared.entry.EntryKind.TheVariants as kind
 use Rattle.uc_meaning.specs.declared.entry.Options.{Options}
 use Rattle.uc_meaning.specs.declared.request.Asked.{Asked}
-use Rattle.uc_meaning.specs.declared.request.Piece.{Piece}
 use Rattle.uc_meaning.specs.declared.request.Request.{Request}
 use Rattle.uc_meaning.specs.declared.request.Request.TheVariants as ask
-use Rattle.uc_meaning.specs.Journal.{Journal, begin, entry, inside, entries_at, own_object, is_over, held}
+use Rattle.uc_meaning.specs.Journal.{Journal, entry, inside, entries_at, own_object, is_over}
 use Rattle.uc_meaning.specs.Queues.{waiting, stacked, ready, running, used, cluster_count, processor_count, processors, open_processors, tasks_on, none_running, none_ready, none_served, first_ended, all_ticks}
 use Rattle.uc_meaning.specs.Known.{has, object_count, task_count, is_gone, owner}
 use Rattle.uc_meaning.specs.Pending.{pending}
@@ -20,8 +19,8 @@ use Rattle.uc_meaning.specs.Reading.{bytes_used, has_failed}
 use Rattle.uc_meaning.specs.Doors.{open_at, offers, stack_at, last_call, blocked_at}
 use Rattle.uc_meaning.specs.Acts.{act, dispatch, or_fault, admit, push, accept_entry}
 use Rattle.uc_meaning.specs.Serves.{Serves, left}
-use Rattle.uc_meaning.specs.KernelRuns.{IsMade, IsAt, IsOutside, Fits, MayAsk, KernelRuns, gives, no_room, acts, begun, more}
-use Rattle.uc_meaning.specs.Samples.{CallSamples, ConditionSamples, AcceptSamples, BusySamples, EventSamples, OtherSamples, BoundSamples, options, slice_options, destructor_site, FirstProgram, AcceptedDestructor, Sliced, Unserved}
+use Rattle.uc_meaning.specs.KernelRuns.{IsAt, Fits, KernelRuns, gives, acts, begun, more}
+use Rattle.uc_meaning.specs.Samples.{CallSamples, ConditionSamples, AcceptSamples, BusySamples, EventSamples, OtherSamples, BoundSamples, FirstProgram, AcceptedDestructor, Sliced, Unserved}
 
 pub call_samples : CallSamples
 unfolding inside waiting stacked ready running entries_at open_at blocked_at last_call none_running none_ready none_served first_ended all_ticks processor_count cluster_count open_processors processors offers own_object stack_at

@@ -1,16 +1,15 @@
 -- Sample journals: whole runs of a kernel, and one small journal for each row of the table of acts that they do not show.
-use Rattle.std.specs.Prelude.{◌≡◌, ℕ, ℤ, pos, negsuc, true, false, List, [], ◌∷◌, ◌++◌, replicate}
+use Rattle.std.specs.Prelude.{◌≡◌, ℕ, pos, negsuc, true, false, List, [], ◌∷◌, ◌++◌, replicate}
 use Rattle.uc_tree.specs.Programs.{Site}
 use Rattle.uc_tree.specs.declared.limits.TheConstants.{PROCESSORS_DEFAULT, SLICE_DEFAULT, TICKS_DEFAULT, ENTRIES_DEFAULT, TASKS, OBJECTS}
 use Rattle.uc_meaning.specs.declared.entry.Entry.{Entry}
 use Rattle.uc_meaning.specs.declared.entry.EntryKind.TheVariants as kind
 use Rattle.uc_meaning.specs.declared.entry.Options.{Options}
-use Rattle.uc_meaning.specs.declared.request.Piece.{Piece}
 use Rattle.uc_meaning.specs.declared.request.Request.{Request}
 use Rattle.uc_meaning.specs.declared.request.Request.TheVariants as ask
 use Rattle.uc_meaning.specs.Journal.{Journal, entry, begin}
 use Rattle.uc_meaning.specs.Known.{object_count, task_count}
-use Rattle.uc_meaning.specs.Acts.{act, row, dispatch, lone_limit, admit, push, fault, accept_entry, raise_entry}
+use Rattle.uc_meaning.specs.Acts.{act, row, dispatch, admit, push, fault, accept_entry, raise_entry}
 use Rattle.uc_meaning.specs.KernelRuns.{KernelRuns}
 
 -- the options where none are given
