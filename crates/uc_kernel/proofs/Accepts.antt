@@ -51,7 +51,7 @@ accept_stacking p t k o site mask b d h =
       calls = refl;
       takes = λ u. refl;
       blocks = refl;
-      stands = λ sites m ss. simp h;
+      stack = λ sites m ss. simp h;
       readies = λ u. refl;
       puts_on = λ u. refl;
       takes_off = simp (self, h);
@@ -70,7 +70,7 @@ accept_idle p t k o site mask b d h g = record {
     opens = simp h;
     shuts = h;
     blocks = refl;
-    stands = λ sites m ss. simp (h, g);
+    stack = λ sites m ss. simp (h, g);
     readies = λ u. refl;
     puts_on = λ u. refl;
   };

@@ -52,7 +52,7 @@ is_at s p t o at =
     let self = self_test t in
     record { inside = ap (list_any (λ x. x == t)) at.within ∙ simp self; known = at.known }
 
-pub can_first : (s : Seen) (p t k line : ℕ) (r : Request) (e : Entry) (a : List Entry) → Sound s.journal → is_over s.journal ≡ false → running p s.journal ≡ t ∷ [] → Fits s.sites no_options s.journal t r → row no_options s.sites [] s.journal p t k line r ≡ e ∷ a → e.object < object_count s.journal → e.proc < s.processors → length s.journal ≤ s.most → CanPut s e
+pub can_first : (s : Seen) (p t k line : ℕ) (r : Request) (e : Entry) (a : List Entry) → Sound s.journal → is_over s.journal ≡ false → running p s.journal ≡ t ∷ [] → Fits no_options s.sites s.journal t r → row no_options s.sites [] s.journal p t k line r ≡ e ∷ a → e.object < object_count s.journal → e.proc < s.processors → length s.journal ≤ s.most → CanPut s e
 can_first s p t k line r e a snd going runs fits is known proc room =
     let l : Lawful s.journal (e ∷ a) = subst (Lawful s.journal) is (row_lawful no_options s.sites [] s.journal p t k line snd runs r fits) in
     record { going = going; legal = l.0; known = known; processor = proc; room = omega arith }
@@ -180,7 +180,7 @@ handed_stacking p t k o c = record {
   calls = refl;
   takes = λ u. refl;
   blocks = refl;
-  stands = λ sites m ss. refl;
+  stack = λ sites m ss. refl;
   readies = λ u. refl;
   puts_on = λ u. refl;
   takes_off = let self = self_test t in simp self;

@@ -185,7 +185,7 @@ with_none p xs x h n =
 module _ (sites : List Site) (j : Journal) (room : ℕ) (doors : List (Line × ℕ)) (queue : List ℕ) (on : List (Option ℕ)) (marks : List Bool) (h : Mirrors sites j room doors queue on marks) where
   left_line : (e : Entry) → LeavesLists e → (d : Line × ℕ) → IsLine sites e.object j d.0 → inside e.object (j ++ e ∷ []) ≡ [] → IsLine sites e.object (j ++ e ∷ []) (leaves d.0)
   left_line e ll d g out =
-      lines.line_leaves sites j d.0 e g out (λ xs. with_none (λ w. takes e.kind e w.0) xs (calls e.kind e) (λ w. ll.takes w.0) ll.calls) (ll.stands sites) (λ xs. with_none (λ a. shuts e.kind e) xs (opens e.kind e) (λ a. ll.shuts) ll.opens) (λ xs. with_none (λ b. takes e.kind e b.0) xs (blocks e.kind e) (λ b. ll.takes b.0) ll.blocks)
+      lines.line_leaves sites j d.0 e g out (λ xs. with_none (λ w. takes e.kind e w.0) xs (calls e.kind e) (λ w. ll.takes w.0) ll.calls) (ll.stack sites) (λ xs. with_none (λ a. shuts e.kind e) xs (opens e.kind e) (λ a. ll.shuts) ll.opens) (λ xs. with_none (λ b. takes e.kind e b.0) xs (blocks e.kind e) (λ b. ll.takes b.0) ll.blocks)
 
   idle_line : (e : Entry) → IsIdle e → (o : ℕ) (l : Line) → IsLine sites o j l → IsLine sites o (j ++ e ∷ []) l
   idle_line e i o l g = by (e.object == o) refl
@@ -193,7 +193,7 @@ module _ (sites : List Site) (j : Journal) (room : ℕ) (doors : List (Line × �
       by : (b : Bool) → (e.object == o) ≡ b → IsLine sites o (j ++ e ∷ []) l
       by false t = lines.line_other sites o j e l t g
       by true t =
-          lines.line_idle sites o j e l t g (λ xs. with_none (λ x. moves e.kind e x) xs (lets_in e.kind e) i.moves i.lets_in) (λ xs. with_none (λ w. takes e.kind e w.0) xs (calls e.kind e) (λ w. i.lists.takes w.0) i.lists.calls) (i.lists.stands sites) (λ xs. with_none (λ a. shuts e.kind e) xs (opens e.kind e) (λ a. i.lists.shuts) i.lists.opens) (λ xs. with_none (λ b. takes e.kind e b.0) xs (blocks e.kind e) (λ b. i.lists.takes b.0) i.lists.blocks) i.lists.last
+          lines.line_idle sites o j e l t g (λ xs. with_none (λ x. moves e.kind e x) xs (lets_in e.kind e) i.moves i.lets_in) (λ xs. with_none (λ w. takes e.kind e w.0) xs (calls e.kind e) (λ w. i.lists.takes w.0) i.lists.calls) (i.lists.stack sites) (λ xs. with_none (λ a. shuts e.kind e) xs (opens e.kind e) (λ a. i.lists.shuts) i.lists.opens) (λ xs. with_none (λ b. takes e.kind e b.0) xs (blocks e.kind e) (λ b. i.lists.takes b.0) i.lists.blocks) i.lists.last
 
   -- a call
   pub m_call : (p t k o m : ℕ) → Legal (entry kind.Call p t k o (pos m) (pos 0)) j → running p j ≡ t ∷ [] → list_any (λ x. x == t) (inside o j) ≡ false → o < object_count j → (d d' : Line × ℕ) → d ≡ get_or doors o d → d'.0 ≡ line_calls d.0 t m → d'.1 ≡ d.1 → Mirrors sites (j ++ entry kind.Call p t k o (pos m) (pos 0) ∷ []) room (set doors o d') queue (set on p None) (set marks t (m == 0))
@@ -263,7 +263,7 @@ module _ (sites : List Site) (j : Journal) (room : ℕ) (doors : List (Line × �
       let f = found sites j room doors queue on marks h e.object known d was in
       let pl = st.plain in
       let l' = line_stacks d.0 e.task opened in
-      let at = lines.line_stacks sites j d.0 e opened f.0 out (λ xs. with_none (λ w. takes e.kind e w.0) xs (calls e.kind e) (λ w. st.takes w.0) st.calls) (offers sites) (st.stands sites) shown (λ xs. with_none (λ b. takes e.kind e b.0) xs (blocks e.kind e) (λ b. st.takes b.0) st.blocks) in
+      let at = lines.line_stacks sites j d.0 e opened f.0 out (λ xs. with_none (λ w. takes e.kind e w.0) xs (calls e.kind e) (λ w. st.takes w.0) st.calls) (offers sites) (st.stack sites) shown (λ xs. with_none (λ b. takes e.kind e b.0) xs (blocks e.kind e) (λ b. st.takes b.0) st.blocks) in
       rw (changed_door d d' (λ l. line_stacks l e.task opened) room line same f.1) (with_lists sites j room doors queue on marks h e lg pl (set doors e.object (l', room)) queue (set on e.proc None) (set marks e.task d.0.destroying) (length-set doors e.object (l', room)) (lines_set sites j room doors queue on marks h e lg pl l' at) (rooms_set sites j room doors queue on marks h e lg pl l' at) (queue_same sites j room doors queue on marks h e lg pl (st.readies _) pl.dispatches) (on_set sites j room doors queue on marks h e lg pl None (off_now sites j room doors queue on marks h e lg pl e.task runs st.takes_off (st.puts_on _))) (marks_in e lg pl e.task d f.0 i st.only st.last (λ v q. eqb-true e.object v (sym (ap (queued_at v) (spot_moves j e e.task st.own ∙ st.target (noted_at j e) e.task)) ∙ q))) (length-set marks e.task d.0.destroying ∙ h.tasks))
 
   -- a task in a queue of an object is pushed there

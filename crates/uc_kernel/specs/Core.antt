@@ -87,7 +87,7 @@ pub record LeavesLists (e : Entry) : Type 0 where
   pub opens : opens e.kind e ≡ None
   pub shuts : shuts e.kind e ≡ false
   pub blocks : blocks e.kind e ≡ None
-  pub stack_at : (sites : List Site) (m : Option ℕ) (ss : List OnStack) → stack_after sites e.kind e m ss ≡ ss
+  pub stack : (sites : List Site) (m : Option ℕ) (ss : List OnStack) → stack_after sites e.kind e m ss ≡ ss
   pub readies : (t : ℕ) → readies e.kind e t ≡ None
   pub puts_on : (t : ℕ) → puts_on e.kind e t ≡ None
 
@@ -110,7 +110,7 @@ pub record IsStacking (e : Entry) (offers : List Site → List (ℕ × ℕ)) : T
   pub calls : calls e.kind e ≡ None
   pub takes : (t : ℕ) → takes e.kind e t ≡ false
   pub blocks : blocks e.kind e ≡ None
-  pub stack_at : (sites : List Site) (m : Option ℕ) (ss : List OnStack) → stack_after sites e.kind e m ss ≡ record { task = e.task; offers = offers sites; clause = 0 } ∷ ss
+  pub stack : (sites : List Site) (m : Option ℕ) (ss : List OnStack) → stack_after sites e.kind e m ss ≡ record { task = e.task; offers = offers sites; clause = 0 } ∷ ss
   pub readies : (t : ℕ) → readies e.kind e t ≡ None
   pub puts_on : (t : ℕ) → puts_on e.kind e t ≡ None
   pub takes_off : takes_off e.kind e e.task ≡ true
@@ -151,7 +151,7 @@ pub record MayActAt (s : Seen) (p t o : ℕ) : Type 0 where
   pub going : is_over s.journal ≡ false
   pub runs : running p s.journal ≡ t ∷ []
   pub within : inside o s.journal ≡ t ∷ []
-  pub stack_at : IsMade o s.journal
+  pub known : IsMade o s.journal
   pub processor : p < s.processors
   pub room : length s.journal ≤ s.most
 
@@ -186,7 +186,7 @@ pub record MayCall (s : Seen) (p t o m : ℕ) : Type 0 where
   pub going : is_over s.journal ≡ false
   pub runs : running p s.journal ≡ t ∷ []
   pub outside : list_any (λ x. x == t) (inside o s.journal) ≡ false
-  pub stack_at : IsMade o s.journal
+  pub known : IsMade o s.journal
   pub member : m ≤ MEMBERS
   pub processor : p < s.processors
   pub room : length s.journal ≤ s.most

@@ -3,6 +3,7 @@
 ghost use Rattle.std.specs.Prelude.{◌≡◌, ◌≢◌, ◌^◌, ℕ, ◌==◌, ◌+◌, ◌<◌, ◌≤◌, false, true, not, List, [], ◌∷◌, ◌++◌, length, map, pos, Option, Some, None, MatchOption};
 ghost use Rattle.std.specs.Option.{option_to_list};
 ghost use Rattle.std.specs.List.{list_any};
+ghost use Rattle.uc_tree.specs.Programs;
 ghost use Rattle.uc_meaning.specs.Journal.{inside, is_ending, is_over, own_object};
 ghost use Rattle.uc_meaning.specs.Queues.{running, last_actor, takes_off, next, waiting};
 ghost use Rattle.uc_meaning.specs.Doors.{open_at, clause_for, offered, site_at, offers, met, blocked, has_others, calls_destructor, destroys_busy};
@@ -16,7 +17,7 @@ ghost use Rattle.uc_kernel.specs.Offers.{triple};
 ghost use Rattle.uc_meaning.specs.declared.entry.Entry.{Entry};
 ghost use Rattle.uc_kernel.specs.Core.{MayCall, IsOpenOf, Offers, Appended, CanPut, LeavesLists, MovesNobody, IsIdle, IsStacking, MeetsTop, queued_at, site_mask, IsNextOf, IsFrontOf, IsAside, MayActAt, rows};
 
-use crate::door::{Door, clause_listing};
+use crate::door::{Door, listing};
 use uc_tree::site::Site;
 use uc_meaning::entry::{Entry, EntryKind};
 use std::collections::VecDeque;
@@ -271,7 +272,7 @@ impl Core {
     {
         match self.sites.get(site as usize) {
             None => None,
-            Some(known) => clause_listing(&known.clauses, mask, member),
+            Some(known) => listing(known, mask, member),
         }
     }
 
@@ -823,7 +824,7 @@ impl Core {
     /// Whoever is inside goes out and onto the stack, and may leave an accept open.
     fn put_stack(&mut self, e: Entry, opened: Option<(u32, u32)>)
         requires can { CanPut self.old e }
-        requires stacking { (offers : List Rattle.uc_meaning.specs.Doors.Site → List (ℕ × ℕ)) × IsStacking e offers }
+        requires stacking { (offers : List Programs.Site → List (ℕ × ℕ)) × IsStacking e offers }
         requires runs { running e.proc self.old.journal ≡ e.task ∷ [] }
         requires within { inside e.object self.old.journal ≡ e.task ∷ [] }
         requires out { inside e.object (self.old.journal ++ e ∷ []) ≡ [] }

@@ -285,3 +285,11 @@ pub fn clause_listing(clauses: &Vec<Members>, mask: u32, member: u8) -> Option<u
     }
     None
 }
+
+/// The first true clause of an accept statement that lists a member.
+pub fn listing(site: &Site, mask: u32, member: u8) -> Option<u8>
+    requires few { length site.now.clauses ≤ 32 }
+    ensures { result ≡ clause_for (offers_from 0 mask site.now.clauses) member }
+{
+    clause_listing(&site.clauses, mask, member)
+}

@@ -19,4 +19,4 @@ returns-in-Some c =
     let same = c.deref.ensures.value in
     let known : c.in-Some.known.now ≡ site_at c.deref.result.now c.args.site = c.in-Some.ensures.lookup.3.1 no_site in
     let there : c.in-Some.known.now ≡ site_at c.args.self.now.sites c.args.site = known ∙ ap (λ xs. site_at xs c.args.site) same ∙ ap (λ s. site_at s.sites c.args.site) c.self.view_is in
-    c.clause_listing.ensures ∙ ap (λ z. clause_for (offers_from 0 c.args.mask z.clauses) c.args.member) there
+    c.listing.ensures ∙ ap (λ z. clause_for (offers_from 0 c.args.mask z.clauses) c.args.member) there
