@@ -18,10 +18,10 @@ ghost use Rattle.uc_meaning.specs.declared.entry.Entry.{Entry};
 ghost use Rattle.uc_kernel.specs.Core.{MayCall, IsOpenOf, Offers, Appended, CanPut, LeavesLists, MovesNobody, IsIdle, IsStacking, MeetsTop, queued_at, site_mask, IsNextOf, IsFrontOf, IsAside, MayActAt, rows};
 
 use crate::door::{Door, listing};
-use uc_tree::site::Site;
-use uc_meaning::entry::{Entry, EntryKind};
 use std::collections::VecDeque;
 use std::marker::Model;
+use uc_meaning::entry::{Entry, EntryKind};
+use uc_tree::site::Site;
 
 /// The journal and the queues.
 #[derive(Drop)]
@@ -438,6 +438,34 @@ impl Core {
                 ));
                 self.put_push(processor, waiter, object);
             }
+        }
+    }
+
+    /// A task asks whether nobody waits on a condition.
+    pub fn empty(&mut self, processor: u8, line: u32, task: u32, ticks: u32, object: u32, cond: u16)
+        requires at { MayActAt self.old processor task object }
+        ensures { Appended self.old self.new (rows self.old processor task ticks line (ask.Empty object cond)) }
+    {
+        self.facts();
+        match self.front_of(object, cond) {
+            None => self.put_idle(flag_entry(
+                EntryKind::Empty,
+                processor,
+                task,
+                ticks,
+                object,
+                cond,
+                1,
+            )),
+            Some(_) => self.put_idle(flag_entry(
+                EntryKind::Empty,
+                processor,
+                task,
+                ticks,
+                object,
+                cond,
+                0,
+            )),
         }
     }
 

@@ -10,9 +10,9 @@ ghost use Rattle.uc_meaning.specs.Pending.{has_bit};
 ghost use Rattle.std.specs.VecDeque.{deque_capacity};
 ghost use Rattle.uc_kernel.specs.Line.{calls, leaves, blocks, stacks, pushes, admits, met_by, next_by, others_in};
 
-use uc_tree::site::{Members, Site};
 use std::collections::VecDeque;
 use std::marker::Model;
+use uc_tree::site::{Members, Site};
 
 /// Who is inside an object, who waits for it, its stack, its open accept, and who is blocked on its conditions.
 #[derive(Drop)]
