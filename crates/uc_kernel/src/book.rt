@@ -359,6 +359,16 @@ impl Core {
         self.admit_next(processor, line, task, object);
     }
 
+    /// A task has built an object, and leaves it.
+    pub fn made(&mut self, processor: u8, line: u32, task: u32, ticks: u32, object: u32)
+        requires at { MayActAt self.old processor task object }
+        ensures { Appended self.old self.new (rows self.old processor task ticks line (ask.Made object)) }
+    {
+        self.facts();
+        self.put_leave(plain_entry(EntryKind::Made, processor, task, ticks, object));
+        self.admit_next(processor, line, task, object);
+    }
+
     /// The main of a task ends.
     pub fn end(&mut self, processor: u8, line: u32, task: u32, ticks: u32, object: u32)
         requires at { MayActAt self.old processor task object }
