@@ -369,6 +369,14 @@ impl Core {
         self.admit_next(processor, line, task, object);
     }
 
+    /// A request that is itself at fault.
+    pub fn fault(&mut self, processor: u8, line: u32, task: u32, ticks: u32, number: u8)
+        requires room { length self.old.journal ≤ self.old.most }
+        ensures { Appended self.old self.new (rows self.old processor task ticks line (ask.Fault number)) }
+    {
+        self.put_fault(fault_entry(processor, task, ticks, number, line));
+    }
+
     /// The main of a task ends.
     pub fn end(&mut self, processor: u8, line: u32, task: u32, ticks: u32, object: u32)
         requires at { MayActAt self.old processor task object }
