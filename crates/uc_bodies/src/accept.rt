@@ -1,6 +1,6 @@
 // The rules on the clauses of accept statements and on lists of handlers.
 
-ghost use Rattle.std.specs.Prelude.{◌≡◌, ◌&&◌, ◌||◌, IfOk, MatchOption, None, OnOk, Some, [], false, if◌then◌else◌, map, not, take};
+ghost use Rattle.std.specs.Prelude.{◌≡◌, ◌≤◌, ◌&&◌, ◌||◌, IfOk, MatchOption, None, OnOk, Some, [], false, if◌then◌else◌, length, map, not, take};
 ghost use Rattle.uc_tree.specs.Names.{same_name};
 ghost use Rattle.uc_tree.specs.Statements.{clauses_of, handlers_of};
 ghost use Rattle.uc_tree.specs.Numbering.{is_mutex, mutex_members};
@@ -59,7 +59,8 @@ fn destructor_of(class: &Class, member: &MemberName) -> Option<u8>
 }
 
 fn listed_in(class: &Class, names: &[&Name], member: &MemberName) -> Option<u8>
-    requires { map (λ n. n.now) names.now ≡ take MEMBERS (mutex_members class.now) }
+    requires names { map (λ n. n.now) names.now ≡ take MEMBERS (mutex_members class.now) }
+    requires few { length names.now ≤ MEMBERS }
     ensures { result ≡ listed_in (Some class.now) member.now }
 {
     if member.destructor {
@@ -75,7 +76,8 @@ fn list_members(
     seen: &mut Vec<u8>,
     members: &[MemberName],
 ) -> Result<bool, AllocError>
-    requires { map (λ n. n.now) names.now ≡ take MEMBERS (mutex_members class.now) }
+    requires names { map (λ n. n.now) names.now ≡ take MEMBERS (mutex_members class.now) }
+    requires few { length names.now ≤ MEMBERS }
     ensures seen { OnOk result (seen.new.items ≡ all_listed seen.old.items (map (listed_in (Some class.now)) members.now)) }
     ensures fresh { IfOk result (λ fresh. fresh ≡ are_fresh seen.old.items (map (listed_in (Some class.now)) members.now)) }
 {

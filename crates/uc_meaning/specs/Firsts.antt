@@ -13,7 +13,7 @@ abbrev pub is_sooner : (number line col other other_line other_col : ℕ) → Bo
 is_sooner number line col other other_line other_col =
     (not (is_owner_number number) && is_owner_number other)
     || (not (is_owner_number number && not (is_owner_number other))
-        && (nat_lt line other_line || (nat_eq line other_line && (nat_lt col other_col || (nat_eq col other_col && nat_lt number other)))))
+    && (nat_lt line other_line || (nat_eq line other_line && (nat_lt col other_col || (nat_eq col other_col && nat_lt number other)))))
 
 -- whether a break comes before another one
 abbrev pub before : Break → Break → Bool

@@ -84,7 +84,7 @@ field_named p o a j i b (d ∷ ds) name = if same_name d.name name then Some (fi
 abbrev pub method_named : Owned → Mark → Access → ℕ → Sig → List ℕ → Option Meant
 method_named o m a j sig name =
     if is_plain sig.role && same_name sig.name name then
-        Some (record { entity = Some (Method o.place j (is_inner_only o.class.kind m a) false); origin = origin.Method o.place a })
+    Some (record { entity = Some (Method o.place j (is_inner_only o.class.kind m a) false); origin = origin.Method o.place a })
     else None
 
 abbrev pub form_named : Program → Owned → Mark → Access → ℕ → MemberForm → List ℕ → Option Meant
@@ -179,4 +179,3 @@ params_in (Some sig) = sig.params
 -- what an object of the class is built with; nothing where it has no constructor
 abbrev pub constructor_params : Program → ℕ → List Param
 constructor_params p i = params_in (option_and_then (λ c. constructor_among c.members) (class_at p i))
-

@@ -31,21 +31,32 @@ pub enum Operation {
 #[derive(Clone, Copy, PartialEq, Eq, Debug)]
 pub enum Entity {
     /// A value without a place; of sort `Void` none.
-    Value { sort: Sort },
+    Value {
+        sort: Sort,
+    },
     /// The place of a variable.
-    Place { sort: Sort },
+    Place {
+        sort: Sort,
+    },
     /// An array.
-    Array { sort: Sort, len: u32 },
+    Array {
+        sort: Sort,
+        len: u32,
+    },
     /// `cin`.
     Input,
     /// The member `fail` of `cin`.
     Fail,
     /// A member of a condition.
-    Operation { operation: Operation },
+    Operation {
+        operation: Operation,
+    },
     /// The main of uMain.
     Main,
     /// A routine or prototype outside of classes, by its place among the items.
-    Routine { item: usize },
+    Routine {
+        item: usize,
+    },
     /// A member routine, by its class and its place among the members. `inner` is one that only inner routines of its class
     /// may call, `by_path` one that was named behind a `.`.
     Method {

@@ -10,7 +10,10 @@ ghost use Rattle.uc_meaning.specs.Scopes.{named};
 ghost use Rattle.uc_meaning.specs.Visits.{AtArgument, AtAssign, AtCall, AtChange, AtIndex, AtMember, AtOperand, AtOperands, AtUse, unary_visit};
 ghost use Rattle.uc_types.specs.Told.{told};
 
-use crate::entity::{binary_gives, built_in, element, fits, given, is_array, is_main, is_object, is_of_conditions, is_place, is_scalar, path_member, takes, value_of};
+use crate::entity::{
+    binary_gives, built_in, element, fits, given, is_array, is_main, is_object, is_of_conditions,
+    is_place, is_scalar, path_member, takes, value_of,
+};
 use crate::found::Found;
 use crate::names::Names;
 use crate::sort::{is_coroutine, is_mutex, is_public};
@@ -96,7 +99,11 @@ pub fn ask_assign(
     found.note_unless(is_scalar(place) && is_scalar(value), Rule::S8, sign);
     found.note_unless(is_place(place) || !is_scalar(place), Rule::S9, sign);
     found.note_unless(!is_object(place) && !is_object(value), Rule::O7, sign);
-    if is_scalar(value) { value_of(place) } else { None }
+    if is_scalar(value) {
+        value_of(place)
+    } else {
+        None
+    }
 }
 
 /// An element of an array.
@@ -112,7 +119,11 @@ pub fn ask_index(
     let array = array?;
     let index = index?;
     found.note_unless(is_array(array) && is_scalar(index), Rule::S8, sign);
-    if is_scalar(index) { element(array) } else { None }
+    if is_scalar(index) {
+        element(array)
+    } else {
+        None
+    }
 }
 
 fn is_home(home: Option<Home>, class: usize) -> bool

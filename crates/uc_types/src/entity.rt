@@ -289,7 +289,11 @@ fn condition_member(sort: Sort, name: &Name) -> Option<Entity>
 fn input_member(name: &Name) -> Option<Entity>
     ensures { result ≡ (if same_name name.now fail_name then Some Fail else None) }
 {
-    if name.is(b"fail") { Some(Entity::Fail) } else { None }
+    if name.is(b"fail") {
+        Some(Entity::Fail)
+    } else {
+        None
+    }
 }
 
 /// The member of a class that is named behind a `.`.

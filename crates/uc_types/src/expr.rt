@@ -6,7 +6,10 @@ ghost use Rattle.uc_meaning.specs.Entities.{are_sound, call_follows, chain_entit
 ghost use Rattle.uc_meaning.specs.Visits.{arg_visits, args_visits, chain_visits, link_visits, part_visits, parts_visits, root_entity, visits};
 ghost use Rattle.uc_types.specs.Told.{noted};
 
-use crate::ask::{ask_argument, ask_assign, ask_call, ask_change, ask_index, ask_member, ask_operands, ask_unary, ask_use};
+use crate::ask::{
+    ask_argument, ask_assign, ask_call, ask_change, ask_index, ask_member, ask_operands, ask_unary,
+    ask_use,
+};
 use crate::entity::{call_target, expected};
 use crate::found::Found;
 use crate::names::Names;
@@ -195,12 +198,7 @@ fn check_chain(
 
 #[cycle(expr)]
 #[tactic(auto, using(crate::proofs::Noted::noting))]
-fn check_link(
-    names: &Names,
-    left: Option<Entity>,
-    link: &Link,
-    found: &mut Found,
-) -> Option<Entity>
+fn check_link(names: &Names, left: Option<Entity>, link: &Link, found: &mut Found) -> Option<Entity>
     ensures entity { result ≡ link_entity names.now link.now left }
     ensures breaks { found.new ≡ noted found.old (link_visits names.now link.now left) }
 {
@@ -210,13 +208,7 @@ fn check_link(
 
 #[cycle(expr)]
 #[tactic(auto, using(crate::proofs::Noted::noting))]
-fn check_arg(
-    names: &Names,
-    arg: &Expr,
-    target: Target,
-    place: usize,
-    found: &mut Found,
-) -> bool
+fn check_arg(names: &Names, arg: &Expr, target: Target, place: usize, found: &mut Found) -> bool
     ensures sound { result ≡ has_fitting (expected names.now.program target place) (entity_of names.now arg.now) }
     ensures breaks { found.new ≡ noted found.old (arg_visits names.now arg.now (expected names.now.program target place)) }
 {

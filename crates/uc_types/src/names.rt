@@ -218,7 +218,11 @@ impl<'a> Names<'a> {
     }
 
     /// The parameter of a handler, where it has one.
-    pub fn add_caught(&mut self, event: &Option<Name>, param: &Option<Name>) -> Result<(), AllocError>
+    pub fn add_caught(
+        &mut self,
+        event: &Option<Name>,
+        param: &Option<Name>,
+    ) -> Result<(), AllocError>
         ensures { OnOk result (self.new ≡ with_caught self.old event.now param.now) }
     {
         match param {

@@ -64,7 +64,11 @@ fn is_event_named(sort: Option<Sort>) -> Option<Sort>
     ensures { result ≡ event_among sort }
 {
     let sort = sort?;
-    if is_event_sort(sort) { Some(sort) } else { None }
+    if is_event_sort(sort) {
+        Some(sort)
+    } else {
+        None
+    }
 }
 
 fn variable(by_ref: bool, len: &Option<Expr>, count: u32, sort: Sort) -> Entity
@@ -79,7 +83,15 @@ fn variable(by_ref: bool, len: &Option<Expr>, count: u32, sort: Sort) -> Entity
     }
 }
 
-fn method_named(at: usize, class: &Class, mark: Mark, access: Access, member: usize, sig: &Sig, name: &Name) -> Option<Meant>
+fn method_named(
+    at: usize,
+    class: &Class,
+    mark: Mark,
+    access: Access,
+    member: usize,
+    sig: &Sig,
+    name: &Name,
+) -> Option<Meant>
     ensures { result ≡ method_named (record { place = at; class = class.now }) mark access member sig.now name.now }
 {
     if !(is_plain(sig.role) && sig.name.is(name.bytes())) {
@@ -273,7 +285,12 @@ impl<'a> Tables<'a> {
     }
 
     /// What a declarator declares, where its length has this value.
-    pub fn declared_entity(&self, base: &Base, declarator: &Declarator, count: u32) -> Option<Entity>
+    pub fn declared_entity(
+        &self,
+        base: &Base,
+        declarator: &Declarator,
+        count: u32,
+    ) -> Option<Entity>
         ensures { result ≡ declared_entity self.now base.now declarator.now count }
     {
         let sort = self.sort_of(base)?;
@@ -287,7 +304,15 @@ impl<'a> Tables<'a> {
         sizes.elements_in(class, declarator)
     }
 
-    fn field_meant(&self, at: usize, class: &Class, access: Access, field: FieldPlace, base: &Base, declarator: &Declarator) -> Meant
+    fn field_meant(
+        &self,
+        at: usize,
+        class: &Class,
+        access: Access,
+        field: FieldPlace,
+        base: &Base,
+        declarator: &Declarator,
+    ) -> Meant
         ensures { result ≡ field_meant self.now (record { place = at; class = class.now }) access field base.now declarator.now }
     {
         let count = self.elements_in(class, declarator);
@@ -303,7 +328,16 @@ impl<'a> Tables<'a> {
         }
     }
 
-    fn field_named(&self, at: usize, class: &Class, access: Access, member: usize, base: &Base, declarators: &[Declarator], name: &Name) -> Option<Meant>
+    fn field_named(
+        &self,
+        at: usize,
+        class: &Class,
+        access: Access,
+        member: usize,
+        base: &Base,
+        declarators: &[Declarator],
+        name: &Name,
+    ) -> Option<Meant>
         ensures { result ≡ field_named self.now (record { place = at; class = class.now }) access member 0 base.now declarators.now name.now }
     {
         for (index, declarator) in declarators.iter().enumerate() {
@@ -315,7 +349,16 @@ impl<'a> Tables<'a> {
         None
     }
 
-    fn form_named(&self, at: usize, class: &Class, mark: Mark, access: Access, member: usize, form: &MemberForm, name: &Name) -> Option<Meant>
+    fn form_named(
+        &self,
+        at: usize,
+        class: &Class,
+        mark: Mark,
+        access: Access,
+        member: usize,
+        form: &MemberForm,
+        name: &Name,
+    ) -> Option<Meant>
         ensures { result ≡ form_named self.now (record { place = at; class = class.now }) mark access member (member_form_at form.now) name.now }
     {
         match form {
@@ -324,7 +367,15 @@ impl<'a> Tables<'a> {
                 declarators,
                 ..
             } => self.field_named(at, class, access, member, base, declarators, name),
-            MemberForm::Routine { routine } => method_named(at, class, mark, access, member, &routine.sig, name),
+            MemberForm::Routine { routine } => method_named(
+                at,
+                class,
+                mark,
+                access,
+                member,
+                &routine.sig,
+                name,
+            ),
             MemberForm::Proto { sig } => method_named(at, class, mark, access, member, sig, name),
         }
     }
@@ -333,7 +384,15 @@ impl<'a> Tables<'a> {
         ensures { result ≡ members_named self.now (record { place = at; class = class.now }) 0 class.now.members name.now }
     {
         for (place, member) in class.members.iter().enumerate() {
-            let meant = self.form_named(at, class, member.mark, member.access, place, &member.form, name);
+            let meant = self.form_named(
+                at,
+                class,
+                member.mark,
+                member.access,
+                place,
+                &member.form,
+                name,
+            );
             if meant.is_some() {
                 return meant;
             }
