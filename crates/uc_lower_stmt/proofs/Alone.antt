@@ -5,12 +5,12 @@ use Rattle.std.proofs.lemmas.Bool.{and_parts}
 use Rattle.uc_tree.specs.declared.limits.TheConstants.{FRAME_CELLS}
 use Rattle.uc_tree.specs.declared.kinds.Owner.{Owner}
 use Rattle.uc_tree.specs.declared.kinds.Owner.TheVariants as owner
-use Rattle.uc_tree.specs.Names.{same_name}
 use Rattle.uc_tree.specs.Cells.{routine_cells}
 use Rattle.uc_tree.specs.Programs.{Routine, Item, ClassItem, RoutineItem, ConstItem, ProtoItem, ForwardItem, UsingItem, Program, Site}
-use Rattle.uc_tree.specs.Numbering.{Defined, defined_by, items_defined, routines_of, main_name, sites_of, texts_of}
+use Rattle.uc_tree.specs.Numbering.{Defined, defined_by, items_defined, routines_of, sites_of, texts_of}
 use Rattle.uc_tree.specs.Source as source
-use Rattle.uc_tree.specs.Resolve.{routine_meant, routines_meant, main_place, is_main_owner, source_of}
+use Rattle.uc_tree.specs.ProgramMain.{is_main_sig, main_among}
+use Rattle.uc_tree.specs.Resolve.{routine_meant, routines_meant, source_of}
 use Rattle.uc_meaning.specs.Straight.{is_of_main, is_straight_routine, is_straight_list, IsStraight}
 use Rattle.uc_meaning.specs.Accepted.{FitFrames}
 use Rattle.uc_code.specs.declared.rows.RoutineCode.{RoutineCode}
@@ -41,26 +41,22 @@ alone r = record { class = None; number = 0; routine = r }
 
 defined_alone : (p : Program) (r : Routine) → p.items ≡ RoutineItem r ∷ [] → is_straight_routine r ≡ true → routines_of p ≡ alone r ∷ []
 defined_alone p r e s =
-    let o : r.sig.owner ≡ owner.Main = of_main r.sig.owner (and_parts _ _ s).0 in
+    let o : r.sig.owner ≡ owner.Main = of_main r.sig.owner (and_parts _ _ (and_parts _ _ s).1).0 in
     ap (λ (is : List Item). items_defined p is) e ∙ ap (λ (w : Owner). defined_by p w r ∷ []) o
 
-main_first : (b c : Bool) → b ≡ true → c ≡ true → (if b && c then 0 else suc zero) ≡ 0
-main_first true true e f = refl
-main_first true false e f = absurd (true≢false (sym f))
-main_first false c e f = absurd (true≢false (sym e))
+main_first : (b : Bool) (n : ℕ) → b ≡ true → (if b then 0 else n) ≡ 0
+main_first true n e = refl
+main_first false n e = absurd (true≢false (sym e))
 
 pub has_main : (p : Program) → IsStraight p → HasMain p
 has_main p s =
     let w = straight_list p.items s in
     let r : Routine = w.0 in
     let d : routines_of p ≡ alone r ∷ [] = defined_alone p r w.1 w.2 in
-    let q = and_parts _ _ w.2 in
-    let n : same_name r.sig.name main_name ≡ true = (and_parts _ _ q.1).0 in
-    let o : is_main_owner p r.sig.owner ≡ true = ap (is_main_owner p) (of_main r.sig.owner q.0) in
     record {
       routine = r;
       only = w.1;
-      number = ap (λ (l : List Defined). main_place p l) d ∙ main_first (is_main_owner p r.sig.owner) (same_name r.sig.name main_name) o n;
+      number = ap (λ (is : List Item). main_among p is) w.1 ∙ main_first (is_main_sig r.sig) _ (and_parts _ _ w.2).0;
       there = ap (λ (l : List Defined). routines_meant p l 0) d;
     }
 

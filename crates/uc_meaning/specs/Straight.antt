@@ -3,13 +3,9 @@
 use Rattle.std.specs.Prelude.{◌≡◌, List, [], ◌∷◌, Bool, true, false, not, ◌&&◌}
 use Rattle.uc_tree.specs.declared.kinds.Base.{Base}
 use Rattle.uc_tree.specs.declared.kinds.Base.TheVariants as base
-use Rattle.uc_tree.specs.declared.kinds.Role.{Role}
-use Rattle.uc_tree.specs.declared.kinds.Role.TheVariants as role
-use Rattle.uc_tree.specs.declared.kinds.Param.{Param}
 use Rattle.uc_tree.specs.declared.kinds.Owner.{Owner}
 use Rattle.uc_tree.specs.declared.kinds.Owner.TheVariants as owner
-use Rattle.uc_tree.specs.Names.{same_name}
-use Rattle.uc_tree.specs.Numbering.{main_name}
+use Rattle.uc_tree.specs.ProgramMain.{is_main_sig}
 use Rattle.uc_tree.specs.Statements.{Declarator, Stmt, Block, Empty, Evaluate, Declare, If, While, Do, For, Break, Continue, Return, Try, Throw, Raise, RaiseAt, Enable, Disable, Accept, Print, PrintTogether, Read, Resume, Suspend, Yield, Migrate, Stmts, NoStmts, MoreStmts}
 use Rattle.uc_tree.specs.Programs.{Init, Routine, Item, ClassItem, RoutineItem, ConstItem, ProtoItem, ForwardItem, UsingItem, Program}
 
@@ -60,25 +56,6 @@ abbrev mutual
   are_straight NoStmts = true
   are_straight (MoreStmts first rest) = is_straight_stmt first && are_straight rest
 
-abbrev pub is_plain_role : Role → Bool
-is_plain_role role.Plain = true
-is_plain_role role.Constructor = false
-is_plain_role role.Destructor = false
-
-abbrev pub is_void : Base → Bool
-is_void base.Void = true
-is_void base.Int = false
-is_void base.Char = false
-is_void base.Bool = false
-is_void base.Condition = false
-is_void base.Cluster = false
-is_void base.Processor = false
-is_void (base.Named name) = false
-
-abbrev pub no_params : List Param → Bool
-no_params [] = true
-no_params (x ∷ xs) = false
-
 abbrev pub no_inits : List Init → Bool
 no_inits [] = true
 no_inits (x ∷ xs) = false
@@ -88,9 +65,9 @@ is_of_main owner.Here = false
 is_of_main owner.Main = true
 is_of_main (owner.Class name) = false
 
--- `void uMain::main()` with a straight body
+-- main, in `uMain`, with a straight body
 abbrev pub is_straight_routine : Routine → Bool
-is_straight_routine r = is_of_main r.sig.owner && (same_name r.sig.name main_name && (is_plain_role r.sig.role && (is_void r.sig.ret && (no_params r.sig.params && (no_inits r.inits && are_straight r.body)))))
+is_straight_routine r = is_main_sig r.sig && (is_of_main r.sig.owner && (no_inits r.inits && are_straight r.body))
 
 abbrev pub is_straight_item : Item → Bool
 is_straight_item (ClassItem class) = false

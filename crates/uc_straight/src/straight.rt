@@ -2,11 +2,11 @@
 
 ghost use Rattle.std.specs.Prelude.{◌≡◌};
 ghost use Rattle.uc_tree.specs.Statements.{stmts_of};
-ghost use Rattle.uc_meaning.specs.Straight.{is_scalar_base, are_plain, is_straight_stmt, are_straight, is_plain_role, is_void, is_of_main, is_straight_routine, is_straight_item, is_straight};
+ghost use Rattle.uc_meaning.specs.Straight.{is_scalar_base, are_plain, is_straight_stmt, are_straight, is_of_main, is_straight_routine, is_straight_item, is_straight};
 
 use uc_tree::class::Routine;
 use uc_tree::declare::Declarator;
-use uc_tree::kinds::{Base, Owner, Role};
+use uc_tree::kinds::{Base, Owner};
 use uc_tree::program::{Item, ItemForm, Program};
 use uc_tree::stmt::{Stmt, StmtForm};
 
@@ -18,21 +18,6 @@ fn is_scalar_base(base: &Base) -> bool
         Base::Int => true,
         Base::Char => true,
         Base::Bool => true,
-        Base::Condition => false,
-        Base::Cluster => false,
-        Base::Processor => false,
-        Base::Named(_) => false,
-    }
-}
-
-fn is_void(base: &Base) -> bool
-    ensures { result ≡ is_void base.now }
-{
-    match base {
-        Base::Void => true,
-        Base::Int => false,
-        Base::Char => false,
-        Base::Bool => false,
         Base::Condition => false,
         Base::Cluster => false,
         Base::Processor => false,
@@ -96,16 +81,6 @@ fn are_straight(stmts: &[Stmt]) -> bool
     true
 }
 
-fn is_plain_role(role: Role) -> bool
-    ensures { result ≡ is_plain_role role }
-{
-    match role {
-        Role::Plain => true,
-        Role::Constructor => false,
-        Role::Destructor => false,
-    }
-}
-
 fn is_of_main(owner: &Owner) -> bool
     ensures { result ≡ is_of_main owner.now }
 {
@@ -120,12 +95,8 @@ fn is_straight_routine(routine: &Routine) -> bool
     ensures { result ≡ is_straight_routine routine.now }
 {
     let sig = &routine.sig;
-    is_of_main(&sig.owner)
-        && (sig.name.is(b"main")
-            && (is_plain_role(sig.role)
-                && (is_void(&sig.ret)
-                    && (sig.params.is_empty()
-                        && (routine.inits.is_empty() && are_straight(&routine.body))))))
+    sig.is_main()
+        && (is_of_main(&sig.owner) && (routine.inits.is_empty() && are_straight(&routine.body)))
 }
 
 fn is_straight_item(item: &Item) -> bool

@@ -15,6 +15,7 @@ pub mod Names
 pub mod Numbering
 pub mod ProgramCodes
 pub mod ProgramViews
+pub mod ProgramMain
 pub mod Programs
 pub mod Resolve
 pub mod Rows

@@ -1,12 +1,10 @@
 -- What a program's expressions and statements stand for: names and types are looked up here and nowhere else.
 -- Every tree stands for something; what breaks a rule of the language stands for a default.
-use Rattle.std.specs.Prelude.{ℕ, suc, ◌+◌, pos, List, [], ◌∷◌, ◌++◌, length, codes, Bool, true, false, ◌&&◌, Option, Some, None, if◌then◌else◌}
+use Rattle.std.specs.Prelude.{ℕ, suc, ◌+◌, pos, List, [], ◌∷◌, ◌++◌, length, codes, false, Option, Some, None, if◌then◌else◌}
 use Rattle.uc_tree.specs.declared.kinds.Base.{Base}
 use Rattle.uc_tree.specs.declared.kinds.Base.TheVariants as base
 use Rattle.uc_tree.specs.declared.kinds.Ty.{Ty}
 use Rattle.uc_tree.specs.declared.kinds.Known.{Known}
-use Rattle.uc_tree.specs.declared.kinds.Owner.{Owner}
-use Rattle.uc_tree.specs.declared.kinds.Owner.TheVariants as owner
 use Rattle.uc_tree.specs.declared.ops.UnaryOp.{UnaryOp}
 use Rattle.uc_tree.specs.declared.ops.UnaryOp.TheVariants as unary
 use Rattle.uc_tree.specs.declared.ops.BinaryOp.{BinaryOp}
@@ -22,7 +20,8 @@ use Rattle.uc_tree.specs.Statements as stmt
 use Rattle.uc_tree.specs.Programs as whole
 use Rattle.uc_tree.specs.Cells.{declared_cells, routine_cells}
 use Rattle.uc_tree.specs.Gathered.{gathered_all}
-use Rattle.uc_tree.specs.Numbering.{Defined, routines_of, own_texts, sites_of, texts_of, main_name}
+use Rattle.uc_tree.specs.Numbering.{Defined, routines_of, own_texts, sites_of, texts_of}
+use Rattle.uc_tree.specs.ProgramMain.{main_number}
 use Rattle.uc_tree.specs.declared.kinds.ValueForm.{ValueForm}
 use Rattle.uc_tree.specs.declared.kinds.ValueForm.TheVariants as value_form
 use Rattle.uc_tree.specs.Source.{Shape, Integer, Character, Truth, Operator, Plus, Minus, Times, Over, Modulo, Equal, NotEqual, Less, AtMost, Greater, AtLeast, Expr, Literal, Variable, Element, Load, Negated, Not, AsCharacter, AsTruth, Operate, And, Or, Assign, Update, StepBehind, Fail, Item, Show, ShowText, Target, Declared, Stmt, Skip, Block, Evaluate, Declare, Print, PrintTogether, Read, Stmts, Nil, Then, Routine, Source}
@@ -320,24 +319,11 @@ module _ (p : whole.Program) where
   routines_meant [] texts = []
   routines_meant (d ∷ ds) texts = routine_meant d.routine texts ∷ routines_meant ds (texts + length (gathered_all own_texts d.routine.body))
 
-  -- `void uMain::main()` is the program's main
-  abbrev pub is_main_owner : Owner → Bool
-  is_main_owner owner.Here = false
-  is_main_owner owner.Main = true
-  is_main_owner (owner.Class name) = false
-
-  abbrev pub is_main : whole.Routine → Bool
-  is_main r = is_main_owner r.sig.owner && same_name r.sig.name main_name
-
-  abbrev pub main_place : List Defined → ℕ
-  main_place [] = 0
-  main_place (d ∷ ds) = if is_main d.routine then 0 else suc (main_place ds)
-
   -- the source that a program is
   abbrev pub source_of : Source
   source_of = record {
     routines = routines_meant (routines_of p) 0;
-    main = main_place (routines_of p);
+    main = main_number p;
     sites = sites_of p;
     texts = texts_of p;
   }
