@@ -1,4 +1,4 @@
--- The value of digits.
+-- The value of digits grows with each of them.
 use Rattle.std.proofs.Common.{◌≡◌, ℕ, suc, ◌<◌, ◌≤◌, List, [], ◌∷◌, length, get_or, drop, ap, arith, drop-cons}
 use Rattle.std.specs.Prelude.{fold}
 use Rattle.uc_tree.specs.Tokens.{with_digit}
