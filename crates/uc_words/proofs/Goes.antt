@@ -2,10 +2,9 @@
 use Rattle.std.proofs.Common.{◌≡◌, ℕ, Bool, true, false, List, [], ◌∷◌, ◌++◌, refl, sym, ◌∙◌, ap, subst}
 use Rattle.std.specs.Prelude.{codes, if◌then◌else◌, IsTrue, Option, Some, None, option_to_list, flat_map, filter_map}
 use Rattle.std.specs.List.{cons_option}
-use Rattle.std.specs.Cmp.Lexicographic.{other_text}
 use Rattle.uc_words.specs.declared.numbers.NumberOption.{NumberOption}
-use Rattle.uc_words.specs.declared.numbers.NumberOption.TheVariants.{Processors, Entries}
-use Rattle.uc_words.specs.Words.{Words, Piece, File, Number, Journal, Input, Command, Numbers, number_of_option, IsValue, option_word, least_of, most_of, same_option, spelled, ArePieces, file_in, number_in, journal_in, input_in, once_if, is_name}
+use Rattle.uc_words.specs.declared.numbers.NumberOption.TheVariants.{Processors, Slice, Ticks, Entries}
+use Rattle.uc_words.specs.Words.{Words, Piece, File, Number, Journal, Input, Command, RunFile, Numbers, number_of_option, IsValue, option_word, least_of, most_of, same_option, spelled, ArePieces, file_in, number_in, journal_in, input_in, once_if, options_with, is_name}
 use Rattle.uc_words.specs.Rest.{Parts, Goes, with_file, with_number, numbers_with, with_journal, with_input}
 
 -- what is told twice makes no line
@@ -24,36 +23,80 @@ once_journal true false xs e = absurd (cc)
 
 pub same_is : (r o : NumberOption) → same_option r o ≡ true → r ≡ o
 same_is Processors Processors e = refl
+same_is Processors Slice e = absurd (cc)
+same_is Processors Ticks e = absurd (cc)
 same_is Processors Entries e = absurd (cc)
+same_is Slice Processors e = absurd (cc)
+same_is Slice Slice e = refl
+same_is Slice Ticks e = absurd (cc)
+same_is Slice Entries e = absurd (cc)
+same_is Ticks Processors e = absurd (cc)
+same_is Ticks Slice e = absurd (cc)
+same_is Ticks Ticks e = refl
+same_is Ticks Entries e = absurd (cc)
 same_is Entries Processors e = absurd (cc)
+same_is Entries Slice e = absurd (cc)
+same_is Entries Ticks e = absurd (cc)
 same_is Entries Entries e = refl
 
 pub same_word : (r o : NumberOption) → option_word r ≡ option_word o → r ≡ o
 same_word Processors Processors e = refl
-same_word Processors Entries e = absurd (other_text (option_word Processors) (option_word Entries) refl e)
-same_word Entries Processors e = absurd (other_text (option_word Entries) (option_word Processors) refl e)
+same_word Processors Slice e = absurd (cc)
+same_word Processors Ticks e = absurd (cc)
+same_word Processors Entries e = absurd (cc)
+same_word Slice Processors e = absurd (cc)
+same_word Slice Slice e = refl
+same_word Slice Ticks e = absurd (cc)
+same_word Slice Entries e = absurd (cc)
+same_word Ticks Processors e = absurd (cc)
+same_word Ticks Slice e = absurd (cc)
+same_word Ticks Ticks e = refl
+same_word Ticks Entries e = absurd (cc)
+same_word Entries Processors e = absurd (cc)
+same_word Entries Slice e = absurd (cc)
+same_word Entries Ticks e = absurd (cc)
 same_word Entries Entries e = refl
 
 same_self : (o : NumberOption) → same_option o o ≡ true
 same_self Processors = refl
+same_self Slice = refl
+same_self Ticks = refl
 same_self Entries = refl
 
 not_name : (o : NumberOption) → IsTrue (is_name (option_word o)) → ⊥
 not_name Processors n = absurd (let e : is_name (option_word Processors) ≡ true = n in cc)
+not_name Slice n = absurd (let e : is_name (option_word Slice) ≡ true = n in cc)
+not_name Ticks n = absurd (let e : is_name (option_word Ticks) ≡ true = n in cc)
 not_name Entries n = absurd (let e : is_name (option_word Entries) ≡ true = n in cc)
 
 not_journal : (o : NumberOption) → option_word o ≡ codes "--journal" → ⊥
-not_journal Processors e = other_text (option_word Processors) (codes "--journal") refl e
-not_journal Entries e = other_text (option_word Entries) (codes "--journal") refl e
+not_journal Processors e = absurd (cc)
+not_journal Slice e = absurd (cc)
+not_journal Ticks e = absurd (cc)
+not_journal Entries e = absurd (cc)
 
 not_input : (o : NumberOption) → option_word o ≡ codes "--input" → ⊥
-not_input Processors e = other_text (option_word Processors) (codes "--input") refl e
-not_input Entries e = other_text (option_word Entries) (codes "--input") refl e
+not_input Processors e = absurd (cc)
+not_input Slice e = absurd (cc)
+not_input Ticks e = absurd (cc)
+not_input Entries e = absurd (cc)
 
 number_told : (ns : Numbers) (o : NumberOption) (n : ℕ) (r : NumberOption) → number_of_option (numbers_with ns o n) r ≡ (if same_option r o then Some n else number_of_option ns r)
 number_told ns Processors n Processors = refl
+number_told ns Processors n Slice = refl
+number_told ns Processors n Ticks = refl
 number_told ns Processors n Entries = refl
+number_told ns Slice n Processors = refl
+number_told ns Slice n Slice = refl
+number_told ns Slice n Ticks = refl
+number_told ns Slice n Entries = refl
+number_told ns Ticks n Processors = refl
+number_told ns Ticks n Slice = refl
+number_told ns Ticks n Ticks = refl
+number_told ns Ticks n Entries = refl
 number_told ns Entries n Processors = refl
+number_told ns Entries n Slice = refl
+number_told ns Entries n Ticks = refl
 number_told ns Entries n Entries = refl
 
 number_step : (b : Bool) (told : Option ℕ) (n : ℕ) (rest end : List ℕ) → (b ≡ true → told ≡ None) → option_to_list (if b then Some n else told) ++ rest ≡ end → option_to_list told ++ cons_option (if b then Some n else None) rest ≡ end
@@ -97,7 +140,7 @@ goes_number p o word n v none ws c g = record {
   fit = (v, g.fit);
   one_file = g.one_file;
   one_number = λ r. number_step (same_option r o) (number_of_option p.numbers r) n (filter_map (number_in r) g.pieces) (option_to_list (number_of_option g.numbers r)) (none_there p.numbers o none r)
-      (ap (λ t. option_to_list t ++ filter_map (number_in r) g.pieces) (sym (number_told p.numbers o n r)) ∙ g.one_number r);
+    (ap (λ t. option_to_list t ++ filter_map (number_in r) g.pieces) (sym (number_told p.numbers o n r)) ∙ g.one_number r);
   one_journal = g.one_journal;
   one_input = g.one_input;
 }
@@ -182,18 +225,8 @@ next_of p w ws c (File name ∷ ps) g is =
       name = rw same fit.0;
       none = none;
       goes = record {
-        pieces = ps;
-        file = g.file;
-        numbers = g.numbers;
-        journal = g.journal;
-        input = g.input;
-        is = g.is;
-        spells = cc;
-        fit = fit.1;
-        one_file = rw same (rw none at files);
-        one_number = λ r. rw is at (g.one_number r);
-        one_journal = rw is at g.one_journal;
-        one_input = rw is at g.one_input;
+        pieces = ps; file = g.file; numbers = g.numbers; journal = g.journal; input = g.input; is = g.is; spells = cc; fit = fit.1;
+        one_file = rw same (rw none at files); one_number = λ r. rw is at (g.one_number r); one_journal = rw is at g.one_journal; one_input = rw is at g.one_input;
       };
     })
 next_of p w ws c (Number o word n ∷ ps) g is =
@@ -209,18 +242,10 @@ next_of p w ws c (Number o word n ∷ ps) g is =
       value = fit.0;
       none = none;
       goes = record {
-        pieces = ps;
-        file = g.file;
-        numbers = g.numbers;
-        journal = g.journal;
-        input = g.input;
-        is = g.is;
-        spells = refl;
-        fit = fit.1;
+        pieces = ps; file = g.file; numbers = g.numbers; journal = g.journal; input = g.input; is = g.is; spells = refl; fit = fit.1;
         one_file = rw is at g.one_file;
         one_number = λ r. ap (λ t. option_to_list t ++ filter_map (number_in r) ps) (number_told p.numbers o n r) ∙ number_back (same_option r o) (number_of_option p.numbers r) n (filter_map (number_in r) ps) (option_to_list (number_of_option g.numbers r)) (none_there p.numbers o none r) (rw is at (g.one_number r));
-        one_journal = rw is at g.one_journal;
-        one_input = rw is at g.one_input;
+        one_journal = rw is at g.one_journal; one_input = rw is at g.one_input;
       };
     })
 next_of p w ws c (Journal ∷ ps) g is =
@@ -232,18 +257,8 @@ next_of p w ws c (Journal ∷ ps) g is =
       option = cc;
       none = none;
       goes = record {
-        pieces = ps;
-        file = g.file;
-        numbers = g.numbers;
-        journal = g.journal;
-        input = g.input;
-        is = g.is;
-        spells = cc;
-        fit = fit.1;
-        one_file = rw is at g.one_file;
-        one_number = λ r. rw is at (g.one_number r);
-        one_journal = rw none at here;
-        one_input = rw is at g.one_input;
+        pieces = ps; file = g.file; numbers = g.numbers; journal = g.journal; input = g.input; is = g.is; spells = cc; fit = fit.1;
+        one_file = rw is at g.one_file; one_number = λ r. rw is at (g.one_number r); one_journal = rw none at here; one_input = rw is at g.one_input;
       };
     })
 next_of p w ws c (Input name ∷ ps) g is =
@@ -259,18 +274,8 @@ next_of p w ws c (Input name ∷ ps) g is =
       name = fit.0;
       none = none;
       goes = record {
-        pieces = ps;
-        file = g.file;
-        numbers = g.numbers;
-        journal = g.journal;
-        input = g.input;
-        is = g.is;
-        spells = refl;
-        fit = fit.1;
-        one_file = rw is at g.one_file;
-        one_number = λ r. rw is at (g.one_number r);
-        one_journal = rw is at g.one_journal;
-        one_input = rw none at inputs;
+        pieces = ps; file = g.file; numbers = g.numbers; journal = g.journal; input = g.input; is = g.is; spells = refl; fit = fit.1;
+        one_file = rw is at g.one_file; one_number = λ r. rw is at (g.one_number r); one_journal = rw is at g.one_journal; one_input = rw none at inputs;
       };
     })
 
@@ -285,7 +290,7 @@ input_no_name w n e = absurd (let a : is_name w ≡ is_name (codes "--input") = 
 
 -- a word that is no option begins a file
 pub only_file : (p : Parts) (w : List ℕ) → ((o : NumberOption) → w ≡ option_word o → ⊥) → (w ≡ codes "--journal" → ⊥) → (w ≡ codes "--input" → ⊥) → (ws : Words) (c : Command) → Goes p (w ∷ ws) c → FileNext p w ws c
-only_file p w nn nj ni ws c g = elim (next p w ws c g) [ IsFile f ↦ f | IsNumber o e n ↦ absurd (nn o e) | IsJournal j ↦ absurd (nj j.option) | IsInput n ↦ absurd (ni n.option) ]
+only_file p w no nj ni ws c g = elim (next p w ws c g) [ IsFile f ↦ f | IsNumber o e n ↦ absurd (no o e) | IsJournal j ↦ absurd (nj j.option) | IsInput n ↦ absurd (ni n.option) ]
 
 number_at : (p : Parts) (o q : NumberOption) (ws : Words) (c : Command) → option_word o ≡ option_word q → NumberNext p q ws c → NumberNext p o ws c
 number_at p o q ws c e n = subst (λ x. NumberNext p x ws c) (sym (same_word o q e)) n
@@ -294,7 +299,7 @@ pub only_number : (p : Parts) (o : NumberOption) (ws : Words) (c : Command) → 
 only_number p o ws c g = elim (next p (option_word o) ws c g) [ IsFile f ↦ absurd (not_name o f.name) | IsNumber q e n ↦ number_at p o q ws c e n | IsJournal j ↦ absurd (not_journal o j.option) | IsInput n ↦ absurd (not_input o n.option) ]
 
 pub only_journal : (p : Parts) (ws : Words) (c : Command) → Goes p (codes "--journal" ∷ ws) c → JournalNext p (codes "--journal") ws c
-only_journal p ws c g = elim (next p (codes "--journal") ws c g) [ IsFile f ↦ absurd (journal_no_name (codes "--journal") f.name refl) | IsNumber o e n ↦ absurd (not_journal o (sym e)) | IsJournal j ↦ j | IsInput n ↦ absurd (other_text (codes "--journal") (codes "--input") refl n.option) ]
+only_journal p ws c g = elim (next p (codes "--journal") ws c g) [ IsFile f ↦ absurd (journal_no_name (codes "--journal") f.name refl) | IsNumber o e n ↦ absurd (not_journal o (sym e)) | IsJournal j ↦ j | IsInput n ↦ absurd (let o = n.option in cc) ]
 
 pub only_input : (p : Parts) (ws : Words) (c : Command) → Goes p (codes "--input" ∷ ws) c → InputNext p (codes "--input") ws c
-only_input p ws c g = elim (next p (codes "--input") ws c g) [ IsFile f ↦ absurd (input_no_name (codes "--input") f.name refl) | IsNumber o e n ↦ absurd (not_input o (sym e)) | IsJournal j ↦ absurd (other_text (codes "--input") (codes "--journal") refl j.option) | IsInput n ↦ n ]
+only_input p ws c g = elim (next p (codes "--input") ws c g) [ IsFile f ↦ absurd (input_no_name (codes "--input") f.name refl) | IsNumber o e n ↦ absurd (not_input o (sym e)) | IsJournal j ↦ absurd (let o = j.option in cc) | IsInput n ↦ n ]

@@ -1,19 +1,12 @@
 -- Whole lines, and the first word at fault among all words.
-use Rattle.std.proofs.Common.{◌≡◌, ℕ, zero, suc, ◌<◌, ◌≤◌, List, [], ◌∷◌, ◌++◌, take, drop, refl, sym, ◌∙◌, ap, inl, inr, arith, append_assoc, subst, map, true}
-use Rattle.std.specs.Prelude.{codes, IsTrue, None, option_to_list, filter_map}
-use Rattle.std.specs.Cmp.Lexicographic.{other_text}
+use Rattle.std.proofs.Common.{◌≡◌, ℕ, zero, suc, ◌<◌, ◌≤◌, List, [], ◌∷◌, ◌++◌, take, drop, refl, sym, ◌∙◌, ap, inl, inr, arith, append_assoc, subst}
+use Rattle.std.specs.Prelude.{codes, IsTrue}
 use Rattle.uc_tree.specs.Tokens.{value_of}
 use Rattle.uc_tree.specs.declared.limits.TheConstants.{MAKE_MAX}
-use Rattle.uc_words.specs.declared.numbers.NumberOption.{NumberOption}
-use Rattle.uc_words.specs.declared.numbers.NumberOption.TheVariants.{Processors, Entries}
-use Rattle.uc_words.specs.Words.{number_of_option, number_in, Words, Command, RunFile, CheckFile, LowerFile, MakeProgram, IsLine, IsMakeLine, IsValue, Begins, IsFirstBad, is_name, options_with}
+use Rattle.uc_words.specs.Words.{Words, Command, RunFile, CheckFile, LowerFile, MakeProgram, IsLine, IsFileLine, IsMakeLine, IsValue, Begins, IsFirstBad, is_name, options_with}
 use Rattle.uc_words.specs.Rest.{Goes, BeginsRest, BadRest, nothing}
 use Rattle.uc_words.specs.Commands.{IsFileCommand}
 use Rattle.uc_words.proofs.Faults.{begins_none, digits_1}
-
-none_told : (o : NumberOption) → number_of_option nothing.numbers o ≡ None
-none_told Processors = refl
-none_told Entries = refl
 
 run_line : (ws : Words) (c : Command) (g : Goes nothing ws c) → IsLine (codes "run" ∷ ws) (RunFile g.file (options_with g.numbers) g.journal g.input)
 run_line ws c g = record {
@@ -22,7 +15,7 @@ run_line ws c g = record {
   spells = ap (λ x. codes "run" ∷ x) g.spells;
   fit = g.fit;
   one_file = g.one_file;
-  one_number = λ o. ap (λ t. option_to_list t ++ filter_map (number_in o) g.pieces) (sym (none_told o)) ∙ g.one_number o;
+  one_number = g.one_number;
   one_journal = g.one_journal;
   one_input = g.one_input;
   options = refl;
@@ -42,7 +35,7 @@ goes_of w ws (RunFile file opts journal input) run l = record {
   spells = let e = l.spells in cc;
   fit = l.fit;
   one_file = l.one_file;
-  one_number = λ o. ap (λ t. option_to_list t ++ filter_map (number_in o) l.pieces) (none_told o) ∙ l.one_number o;
+  one_number = l.one_number;
   one_journal = l.one_journal;
   one_input = l.one_input;
 }
@@ -249,23 +242,17 @@ make_more v y ws n value = third_bad (codes "make") Tasks make_words v y ws (n, 
 
 -- a line asks for one thing
 
-first_word : (x y : List ℕ) (xs ys : Words) → x ∷ xs ≡ y ∷ ys → x ≡ y
-first_word x y xs ys e = cc
-
-apart : (x y w : List ℕ) (xs ys : Words) → (x ≡ y → ⊥) → w ≡ x → w ∷ xs ≡ y ∷ ys → ⊥
-apart x y w xs ys n e s = n (sym e ∙ first_word w y xs ys s)
-
 pub only_check : (w : List ℕ) (ws : Words) (file : List ℕ) → w ≡ codes "check" → ws ≡ file ∷ [] → (c : Command) → IsLine (w ∷ ws) c → c ≡ CheckFile file
-only_check w ws file e f (RunFile g opts journal input) l = absurd (apart (codes "check") (codes "run") w ws _ (other_text (codes "check") (codes "run") refl) e l.spells)
+only_check w ws file e f (RunFile g opts journal input) l = absurd (let s = l.spells in cc)
 only_check w ws file e f (CheckFile g) l = let s = l.spells in cc
-only_check w ws file e f (LowerFile g) l = absurd (apart (codes "check") (codes "lower") w ws _ (other_text (codes "check") (codes "lower") refl) e l.spells)
-only_check w ws file e f (MakeProgram n) l = absurd (apart (codes "check") (codes "make") w ws _ (other_text (codes "check") (codes "make") refl) e l.spells)
+only_check w ws file e f (LowerFile g) l = absurd (let s = l.spells in cc)
+only_check w ws file e f (MakeProgram n) l = absurd (let s = l.spells in cc)
 
 pub only_lower : (w : List ℕ) (ws : Words) (file : List ℕ) → w ≡ codes "lower" → ws ≡ file ∷ [] → (c : Command) → IsLine (w ∷ ws) c → c ≡ LowerFile file
-only_lower w ws file e f (RunFile g opts journal input) l = absurd (apart (codes "lower") (codes "run") w ws _ (other_text (codes "lower") (codes "run") refl) e l.spells)
-only_lower w ws file e f (CheckFile g) l = absurd (apart (codes "lower") (codes "check") w ws _ (other_text (codes "lower") (codes "check") refl) e l.spells)
+only_lower w ws file e f (RunFile g opts journal input) l = absurd (let s = l.spells in cc)
+only_lower w ws file e f (CheckFile g) l = absurd (let s = l.spells in cc)
 only_lower w ws file e f (LowerFile g) l = let s = l.spells in cc
-only_lower w ws file e f (MakeProgram n) l = absurd (apart (codes "lower") (codes "make") w ws _ (other_text (codes "lower") (codes "make") refl) e l.spells)
+only_lower w ws file e f (MakeProgram n) l = absurd (let s = l.spells in cc)
 
 pub only_make : (w : List ℕ) (ws : Words) (n : ℕ) → w ≡ codes "make" → IsMakeLine (codes "make" ∷ ws) n → (c : Command) → IsLine (w ∷ ws) c → c ≡ MakeProgram n
 only_make w ws n e m (RunFile g opts journal input) l = absurd (let s = l.spells in cc)
@@ -277,13 +264,3 @@ only_make w ws n e m (MakeProgram k) l =
     let same : l.word ≡ m.word = cc in
     let value : k ≡ n = l.value.value ∙ ap value_of same ∙ sym m.value.value in
     ap MakeProgram value
-
--- the words behind, as a map of other items
-
-pub file_more_in : {A : Type 0} (w : List ℕ) → IsFileCommand w → (v : List ℕ) (f : A → List ℕ) (xs : List A) → (xs ≡ [] → ⊥) → is_name v ≡ true → IsFirstBad (w ∷ (v ∷ map f xs)) 3
-file_more_in w x v f [] some n = absurd (some refl)
-file_more_in w x v f (y ∷ ys) some n = file_more w x v (f y) (map f ys) n
-
-pub make_more_in : {A : Type 0} (v : List ℕ) (f : A → List ℕ) (xs : List A) (n : ℕ) → (xs ≡ [] → ⊥) → IsValue 1 MAKE_MAX v n → IsFirstBad (codes "make" ∷ (v ∷ map f xs)) 3
-make_more_in v f [] n some value = absurd (some refl)
-make_more_in v f (y ∷ ys) n some value = make_more v (f y) (map f ys) n value

@@ -13,17 +13,11 @@ pub enum Job<'a> {
         input: Option<&'a str>,
     },
     /// To check a file.
-    Check {
-        file: &'a str,
-    },
+    Check { file: &'a str },
     /// To lower a file.
-    Lower {
-        file: &'a str,
-    },
+    Lower { file: &'a str },
     /// To make the program of so many tasks, 1 to `uc_tree::limits::MAKE_MAX`.
-    Make {
-        n: u32,
-    },
+    Make { n: u32 },
 }
 
 /// Why words are no line.

@@ -20,28 +20,20 @@ pub fn read_words(words: &[String]) -> Result<Job<'_>, WordsFault>
     };
     let command = command.as_str();
     if command == "run" {
-        return match read_run(rest) {
-            Ok(job) => Ok(job),
-            Err(fault) => Err(fault),
-        };
+        let job = read_run(rest)?;
+        return Ok(job);
     }
     if command == "check" {
-        return match read_name(rest) {
-            Ok(file) => Ok(Job::Check { file }),
-            Err(fault) => Err(fault),
-        };
+        let file = read_name(rest)?;
+        return Ok(Job::Check { file });
     }
     if command == "lower" {
-        return match read_name(rest) {
-            Ok(file) => Ok(Job::Lower { file }),
-            Err(fault) => Err(fault),
-        };
+        let file = read_name(rest)?;
+        return Ok(Job::Lower { file });
     }
     if command == "make" {
-        return match read_make(rest) {
-            Ok(n) => Ok(Job::Make { n }),
-            Err(fault) => Err(fault),
-        };
+        let n = read_make(rest)?;
+        return Ok(Job::Make { n });
     }
     Err(WordsFault::Word { number: 1 })
 }
@@ -55,6 +47,8 @@ fn read_run(words: &[String]) -> Result<Job<'_>, WordsFault>
     let mut told = Told {
         file: None,
         processors: None,
+        slice: None,
+        ticks: None,
         entries: None,
         journal: false,
         input: None,
