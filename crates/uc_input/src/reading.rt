@@ -8,10 +8,13 @@ ghost use Rattle.uc_tree.specs.declared.limits.TheConstants.{INPUT_BYTES};
 ghost use Rattle.uc_meaning.specs.Reading.{ranged, signed, missed, got, got_int, got_char, got_signed};
 
 use uc_meaning::got::Got;
+use uc_tree::bytes::{digits_value, is_digit, is_white};
 use uc_tree::limits::{INPUT_BYTES, INT_MAX, INT_MIN};
 
-// The greatest number that a digit may be added to: one more than the greatest `int`.
+// The greatest number that may stand behind a sign: one more than the greatest `int`.
 const WIDEST: u64 = 2_147_483_648;
+
+const _: () = prove!(WIDEST == INT_MAX as u64 + 1);
 
 /// What a read of this form takes of the rest of the input: form 1 is a character, any other a number.
 pub fn read_form(form: u8, rest: &[u8]) -> Got
@@ -52,18 +55,6 @@ fn digit_length(rest: &[u8]) -> usize
         }
     }
     rest.len()
-}
-
-fn is_white(b: u8) -> bool
-    ensures { result ≡ is_white b }
-{
-    b == 32 || b == 9 || b == 11 || b == 12 || b == 13 || b == 10
-}
-
-fn is_digit(b: u8) -> bool
-    ensures { result ≡ is_digit b }
-{
-    b'0' <= b && b <= b'9'
 }
 
 fn missed(taken: u32) -> Got
@@ -119,25 +110,10 @@ fn read_signed(white: u32, sign: u32, minus: bool, rest: &[u8]) -> Got
         return missed(white);
     }
     let taken = white + sign + count as u32;
-    match digits_value(&rest[..count]) {
+    match digits_value(&rest[..count], WIDEST) {
         Some(value) => ranged(signed(minus, value), taken),
         None => too_wide(minus, taken),
     }
-}
-
-// The value of digits, unless it is above `WIDEST`.
-fn digits_value(digits: &[u8]) -> Option<u64>
-    ensures value { IfSome result (λ n. (n ≡ value_of digits.now) × (n ≤ 2147483648)) }
-    ensures wide { IfNone result (2147483648 < value_of digits.now) }
-{
-    let mut value: u64 = 0;
-    for digit in digits {
-        value = value * 10 + digit.saturating_sub(b'0') as u64;
-        if value > WIDEST {
-            return None;
-        }
-    }
-    Some(value)
 }
 
 fn signed(minus: bool, value: u64) -> i64

@@ -5,6 +5,8 @@ ghost use Rattle.std.specs.List.{prefix_len};
 ghost use Rattle.uc_tree.specs.Bytes as bytes;
 ghost use Rattle.uc_lex.specs.Runs.{is_in};
 
+use uc_tree::bytes::{is_blank, is_digit, is_newline};
+
 /// What the bytes of a run are.
 #[derive(Clone, Copy)]
 pub enum Class {
@@ -30,34 +32,10 @@ impl Class {
     }
 }
 
-pub fn is_newline(b: u8) -> bool
-    ensures { result ≡ bytes.is_newline b }
-{
-    b == b'\n'
-}
-
-pub fn is_blank(b: u8) -> bool
-    ensures { result ≡ bytes.is_blank b }
-{
-    b == b' ' || b == b'\t' || b == 11 || b == 12 || b == b'\r'
-}
-
-pub fn is_white(b: u8) -> bool
-    ensures { result ≡ bytes.is_white b }
-{
-    is_blank(b) || is_newline(b)
-}
-
 pub fn is_letter(b: u8) -> bool
     ensures { result ≡ bytes.is_letter b }
 {
     (b'a' <= b && b <= b'z') || (b'A' <= b && b <= b'Z') || b == b'_'
-}
-
-pub fn is_digit(b: u8) -> bool
-    ensures { result ≡ bytes.is_digit b }
-{
-    b'0' <= b && b <= b'9'
 }
 
 pub fn is_printable(b: u8) -> bool

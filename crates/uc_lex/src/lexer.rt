@@ -5,7 +5,7 @@ ghost use Rattle.uc_tree.specs.Tokens as tokens;
 ghost use Rattle.uc_lex.specs.Faults.{IsFault, StandsIn};
 ghost use Rattle.uc_lex.specs.Places.{InText};
 
-use crate::bytes::{Class, is_digit, is_letter, is_white, run_length, text_from, text_to};
+use crate::bytes::{Class, is_letter, run_length, text_from, text_to};
 use crate::fault::LexFault;
 use crate::gaps::{comment_at, line_at};
 use crate::literals::{character_at, text_at};
@@ -14,6 +14,7 @@ use crate::numbers::number_at;
 use crate::place::{START, place_behind};
 use crate::signs::sign_at;
 use std::alloc::{AllocError, Global};
+use uc_tree::bytes::{is_digit, is_white};
 use uc_tree::scan::{Found, Reason};
 use uc_tree::token::Token;
 

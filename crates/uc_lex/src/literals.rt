@@ -5,8 +5,9 @@ ghost use Rattle.uc_tree.specs.Tokens as tokens;
 ghost use Rattle.uc_lex.specs.Pieces.{piece_length, ending_of, Moves};
 ghost use Rattle.uc_lex.specs.Pieces as pieces;
 
-use crate::bytes::{byte_at, escaped, is_newline, is_printable, text_from};
+use crate::bytes::{byte_at, escaped, is_printable, text_from};
 use std::alloc::{AllocError, Global};
+use uc_tree::bytes::is_newline;
 use uc_tree::limits::TEXT_BYTES;
 use uc_tree::name::Text;
 use uc_tree::scan::{Found, Reason};

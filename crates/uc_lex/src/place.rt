@@ -4,7 +4,8 @@ ghost use Rattle.std.specs.Prelude.{◌≡◌, ◌+◌, ◌<◌, ◌≤◌, ◌^
 ghost use Rattle.uc_tree.specs.Tokens as tokens;
 ghost use Rattle.uc_lex.specs.Places.{InRange};
 
-use crate::bytes::{is_blank, is_newline, text_to};
+use crate::bytes::text_to;
+use uc_tree::bytes::{is_blank, is_newline};
 use uc_tree::pos::Pos;
 use uc_tree::scan::Place;
 

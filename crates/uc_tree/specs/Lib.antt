@@ -14,6 +14,7 @@ pub mod ItemViews
 pub mod Names
 pub mod Numbering
 pub mod ProgramCodes
+pub mod ProgramMain
 pub mod ProgramViews
 pub mod Programs
 pub mod Resolve

@@ -1,12 +1,15 @@
 -- What a program's expressions and statements stand for: names and types are looked up here and nowhere else.
 -- Every tree stands for something; what breaks a rule of the language stands for a default.
-use Rattle.std.specs.Prelude.{ℕ, suc, ◌+◌, pos, List, [], ◌∷◌, ◌++◌, length, codes, Bool, true, false, ◌&&◌, Option, Some, None, if◌then◌else◌}
+use Rattle.std.specs.Prelude.{ℕ, suc, ◌+◌, ℤ, pos, List, [], ◌∷◌, ◌++◌, length, slice_get, codes, Bool, true, false, ◌&&◌, Option, Some, None, nat_eq, if◌then◌else◌}
 use Rattle.uc_tree.specs.declared.kinds.Base.{Base}
 use Rattle.uc_tree.specs.declared.kinds.Base.TheVariants as base
 use Rattle.uc_tree.specs.declared.kinds.Ty.{Ty}
 use Rattle.uc_tree.specs.declared.kinds.Known.{Known}
 use Rattle.uc_tree.specs.declared.kinds.Owner.{Owner}
 use Rattle.uc_tree.specs.declared.kinds.Owner.TheVariants as owner
+use Rattle.uc_tree.specs.declared.kinds.Role.{Role}
+use Rattle.uc_tree.specs.declared.kinds.Role.TheVariants as role
+use Rattle.uc_tree.specs.declared.kinds.Param.{Param}
 use Rattle.uc_tree.specs.declared.ops.UnaryOp.{UnaryOp}
 use Rattle.uc_tree.specs.declared.ops.UnaryOp.TheVariants as unary
 use Rattle.uc_tree.specs.declared.ops.BinaryOp.{BinaryOp}
@@ -16,16 +19,17 @@ use Rattle.uc_tree.specs.declared.ops.AssignOp.TheVariants as assign
 use Rattle.uc_tree.specs.declared.ops.StepOp.{StepOp}
 use Rattle.uc_tree.specs.declared.ops.StepOp.TheVariants as step
 use Rattle.uc_tree.specs.Names.{same_name}
-use Rattle.uc_tree.specs.Constants.{truth_value, constants_of, value_of_name, elements}
+use Rattle.uc_tree.specs.Constants.{truth_value, constants_of, constant_named, value_of_name, elements}
 use Rattle.uc_tree.specs.Expressions as expr
 use Rattle.uc_tree.specs.Statements as stmt
 use Rattle.uc_tree.specs.Programs as whole
-use Rattle.uc_tree.specs.Cells.{classes_of, class_cells, declared_cells, stmt_cells, routine_cells}
+use Rattle.uc_tree.specs.Cells.{classes_of, class_cells, declared_cells, param_cells, params_cells, stmt_cells, routine_cells}
 use Rattle.uc_tree.specs.Gathered.{gathered, gathered_all}
-use Rattle.uc_tree.specs.Numbering.{is_event, Defined, routines_of, own_texts, own_sites, sites_of, texts_of, main_name}
+use Rattle.uc_tree.specs.Numbering.{is_event, is_plain, Defined, routines_of, own_texts, own_sites, sites_of, texts_of}
+use Rattle.uc_tree.specs.ProgramMain.{is_void, main_number}
 use Rattle.uc_tree.specs.declared.kinds.ValueForm.{ValueForm}
 use Rattle.uc_tree.specs.declared.kinds.ValueForm.TheVariants as value_form
-use Rattle.uc_tree.specs.Source.{Shape, Integer, Character, Truth, Operator, Plus, Minus, Times, Over, Modulo, Equal, NotEqual, Less, AtMost, Greater, AtLeast, Expr, Literal, Variable, Element, Load, Negated, Not, AsCharacter, AsTruth, Operate, And, Or, Assign, Update, StepBehind, Fail, Item, Show, ShowText, Target, Declared, Stmt, Skip, Block, Evaluate, Declare, Print, PrintTogether, Read, Stmts, Nil, Then, Purpose, Called, TaskMain, Routine, Class, Source}
+use Rattle.uc_tree.specs.Source.{Shape, Integer, Character, Truth, Order, TestFirst, BodyFirst, NoTest, Operator, Plus, Minus, Times, Over, Modulo, Equal, NotEqual, Less, AtMost, Greater, AtLeast, Expr, Literal, Variable, Element, Get, Load, Negated, Not, AsCharacter, AsTruth, Operate, And, Or, Set, Assign, First, Update, StepBehind, Fail, Call, Exprs, NoExprs, MoreExprs, Item, Show, ShowText, Target, Declared, Stmt, Skip, Block, Evaluate, Declare, Print, PrintTogether, Read, If, Loop, Break, Continue, Return, Stmts, Nil, Then, Purpose, TaskMain, Procedure, Function, Builder, Routine, Class, Source}
 
 -- types
 
@@ -57,9 +61,11 @@ converted _ e = e
 
 -- what an expression stands for
 
--- a place, a value, `cin`, the member `fail` of `cin`; a routine, a member of the object at the place, a condition of that
--- object and an event, by their numbers; or nothing, where a rule is broken
+-- a variable that is no reference, by its first cell; another place, a value, `cin`, the member `fail` of `cin`; a routine, a
+-- member of the object at the place, a condition of that object and an event, by their numbers; or nothing, where a rule is
+-- broken
 pub data Standing : Type 0 where
+  AtVariable : ℕ → Standing
   AtPlace : Standing
   AsValue : Standing
   AsInput : Standing
@@ -83,8 +89,9 @@ no_meaning = record { expr = Literal (pos 0); ty = int_type; standing = AsNothin
 abbrev pub value_meant : Expr → Ty → Meant
 value_meant e ty = record { expr = e; ty = ty; standing = AsValue }
 
--- the value of what an expression stands for: what a place holds, else itself
+-- the value of what an expression stands for: what a variable or a place holds, else itself
 abbrev pub value_by : Standing → Expr → Expr
+value_by (AtVariable k) e = Get k
 value_by AtPlace e = Load e
 value_by AsValue e = e
 value_by AsInput e = e
@@ -108,9 +115,61 @@ abbrev pub known_named : List Known → List ℕ → Option Known
 known_named [] name = None
 known_named (k ∷ ks) name = later_or (known_named ks name) k name
 
-abbrev pub known_meant : Option Known → Meant
-known_meant None = no_meaning
-known_meant (Some k) = record { expr = Variable k.cell; ty = k.ty; standing = AtPlace }
+-- a reference holds the place that it was bound to
+abbrev pub known_meant : Known → Meant
+known_meant k = if k.ty.by_ref then record { expr = Get k.cell; ty = k.ty; standing = AtPlace } else record { expr = Variable k.cell; ty = k.ty; standing = AtVariable k.cell }
+
+-- constants and routines of the program, which any item may name
+
+abbrev pub value_or_zero : Option ℤ → ℤ
+value_or_zero None = pos 0
+value_or_zero (Some z) = z
+
+-- a routine that is called by its name alone
+abbrev pub is_here : Owner → Bool
+is_here owner.Here = true
+is_here owner.Main = false
+is_here (owner.Class name) = false
+
+abbrev pub is_named : whole.Sig → List ℕ → Bool
+is_named s name = is_here s.owner && (is_plain s.role && same_name s.name name)
+
+-- the number of the first routine of that name among those with bodies outside of classes
+abbrev pub routine_from : List Defined → ℕ → List ℕ → Option ℕ
+routine_from [] r name = None
+routine_from (d ∷ ds) r name = if is_named d.routine.sig name then Some r else routine_from ds (suc r) name
+
+abbrev pub params_in : Option Defined → List Param
+params_in None = []
+params_in (Some d) = d.routine.sig.params
+
+abbrev pub result_in : Option Defined → Base
+result_in None = base.Void
+result_in (Some d) = d.routine.sig.ret
+
+-- the parameters of a routine of the program, and what it returns, by its number
+abbrev pub params_of : whole.Program → ℕ → List Param
+params_of p r = params_in (slice_get (routines_of p) r)
+
+abbrev pub result_of : whole.Program → ℕ → Base
+result_of p r = result_in (slice_get (routines_of p) r)
+
+abbrev pub routine_meant_by : whole.Program → Option ℕ → Meant
+routine_meant_by p None = no_meaning
+routine_meant_by p (Some r) = record { expr = Literal (pos 0); ty = scalar (result_of p r); standing = AsRoutine r }
+
+-- a constant is a literal of its type
+abbrev pub constant_meant_by : whole.Program → List ℕ → Option whole.Constant → Meant
+constant_meant_by p name None = routine_meant_by p (routine_from (routines_of p) 0 name)
+constant_meant_by p name (Some c) = value_meant (Literal (value_or_zero (value_of_name (constants_of p.items) name))) (scalar c.base)
+
+abbrev pub item_meant : whole.Program → List ℕ → Meant
+item_meant p name = constant_meant_by p name (constant_named (constants_of p.items) name)
+
+-- a local hides what the program has under its name
+abbrev pub name_meant : whole.Program → List ℕ → Option Known → Meant
+name_meant p name None = item_meant p name
+name_meant p name (Some k) = known_meant k
 
 -- operators
 
@@ -132,9 +191,23 @@ binary_meant binary.Mul l r = combined Times l r int_type
 binary_meant binary.Div l r = combined Over l r int_type
 binary_meant binary.Rem l r = combined Modulo l r int_type
 
--- a place is combined with a value; the value is what was written
+-- the variable that an expression is, if it is one
+abbrev pub variable_in : Standing → Option ℕ
+variable_in (AtVariable k) = Some k
+variable_in _ = None
+
+-- a value is written to a variable, or to the place that is found before it
+abbrev pub written_by : Option ℕ → Expr → Expr → Expr
+written_by None place e = Assign place e
+written_by (Some k) place e = Set k e
+
+-- a variable or a place is combined with a value; the value is what was written
+abbrev pub updated_by : Option ℕ → Operator → Shape → Expr → Expr → Expr
+updated_by None op s place e = Update op s place e
+updated_by (Some k) op s place e = Set k (converted s (Operate op (Get k) e))
+
 abbrev pub updated : Operator → Meant → Expr → Meant
-updated op m e = value_meant (Update op (shape_of m.ty.base) m.expr e) m.ty
+updated op m e = value_meant (updated_by (variable_in m.standing) op (shape_of m.ty.base) m.expr e) m.ty
 
 abbrev pub unary_meant : UnaryOp → Meant → Meant
 unary_meant unary.Minus m = value_meant (Negated (value_of m)) int_type
@@ -144,7 +217,7 @@ unary_meant unary.Increment m = updated Plus m (Literal (pos 1))
 unary_meant unary.Decrement m = updated Minus m (Literal (pos 1))
 
 abbrev pub assign_meant : AssignOp → Meant → Meant → Meant
-assign_meant assign.Set m v = value_meant (Assign m.expr (converted (shape_of m.ty.base) (value_of v))) m.ty
+assign_meant assign.Set m v = value_meant (written_by (variable_in m.standing) m.expr (converted (shape_of m.ty.base) (value_of v))) m.ty
 assign_meant assign.Add m v = updated Plus m (value_of v)
 assign_meant assign.Sub m v = updated Minus m (value_of v)
 assign_meant assign.Mul m v = updated Times m (value_of v)
@@ -165,14 +238,25 @@ field_by _ root name = no_meaning
 abbrev pub field_meant : Meant → List ℕ → Meant
 field_meant root name = field_by root.standing root name
 
--- a call of what the root stands for with these arguments
-abbrev pub call_by : Standing → Meant → List Meant → Meant
-call_by AsFail root args = value_meant Fail bool_type
--- to come
-call_by _ root args = no_meaning
+-- a reference is bound to the place of its argument, another parameter has its value
+abbrev pub arg_meant : Param → Meant → Expr
+arg_meant x m = if x.by_ref then m.expr else converted (shape_of x.base) (value_of m)
 
-abbrev pub call_meant : Meant → List Meant → Meant
-call_meant root args = call_by root.standing root args
+-- an argument for each parameter
+abbrev pub args_by : List Param → List Meant → Exprs
+args_by [] ms = NoExprs
+args_by (x ∷ xs) [] = NoExprs
+args_by (x ∷ xs) (m ∷ ms) = MoreExprs (arg_meant x m) (args_by xs ms)
+
+-- a call of what the root stands for with these arguments
+abbrev pub call_by : whole.Program → Standing → Meant → List Meant → Meant
+call_by p AsFail root args = value_meant Fail bool_type
+call_by p (AsRoutine r) root args = value_meant (Call r (args_by (params_of p r) args)) root.ty
+-- to come
+call_by p _ root args = no_meaning
+
+abbrev pub call_meant : whole.Program → Meant → List Meant → Meant
+call_meant p root args = call_by p root.standing root args
 
 -- an element is a scalar of the array's base
 abbrev pub element_by : Option ℕ → Meant → Expr → Meant
@@ -182,9 +266,17 @@ element_by (Some n) m i = record { expr = Element n (shape_of m.ty.base) m.expr 
 abbrev pub element_meant : Meant → Meant → Meant
 element_meant m i = element_by m.ty.len m (value_of i)
 
+-- the old value of a variable or a place, which then has one more or one less
+abbrev pub stepped_by : Option ℕ → Operator → Shape → Expr → Expr
+stepped_by None op s place = StepBehind op s place
+stepped_by (Some k) op s place = First (Get k) (Set k (converted s (Operate op (Get k) (Literal (pos 1)))))
+
+abbrev pub stepped : Operator → Meant → Meant
+stepped op m = value_meant (stepped_by (variable_in m.standing) op (shape_of m.ty.base) m.expr) m.ty
+
 abbrev pub step_meant : StepOp → Meant → Meant
-step_meant step.Increment m = value_meant (StepBehind Plus (shape_of m.ty.base) m.expr) m.ty
-step_meant step.Decrement m = value_meant (StepBehind Minus (shape_of m.ty.base) m.expr) m.ty
+step_meant step.Increment m = stepped Plus m
+step_meant step.Decrement m = stepped Minus m
 
 -- where an expression stands: its program, the numbers of its class (0 outside of classes) and of its routine, and the
 -- names in scope, from the outermost on
@@ -201,7 +293,7 @@ module _ (c : Context) where
     meant (expr.Number p n) = value_meant (Literal n) int_type
     meant (expr.Character p byte) = value_meant (Literal (pos byte)) (scalar base.Char)
     meant (expr.Truth p b) = value_meant (Literal (truth_value b)) bool_type
-    meant (expr.Name p name) = known_meant (known_named c.names name)
+    meant (expr.Name p name) = name_meant c.program name (known_named c.names name)
     meant (expr.Cin p) = record { expr = Literal (pos 0); ty = int_type; standing = AsInput }
     meant (expr.Postfix p root parts) = parts_meant parts (meant root)
     meant (expr.Unary p op operand) = unary_meant op (meant operand)
@@ -211,7 +303,7 @@ module _ (c : Context) where
     pub part_meant : expr.Part → Meant → Meant
     part_meant (expr.Field sign name) m = field_meant m name
     part_meant (expr.Index sign index) m = element_meant m (meant index)
-    part_meant (expr.Call sign args) m = call_meant m (args_meant args)
+    part_meant (expr.Call sign args) m = call_meant c.program m (args_meant args)
     part_meant (expr.Step sign op) m = step_meant op m
 
     pub args_meant : expr.Exprs → List Meant
@@ -326,6 +418,39 @@ module _ (p : whole.Program) where
   scope_behind stmt.NoStmts s = s
   scope_behind (stmt.MoreStmts first rest) s = scope_behind rest (scope_after first s)
 
+  -- behind a statement of another one, of which no name is left
+  abbrev pub scope_past : stmt.Stmt → Scope → Scope
+  scope_past t s = record (scope_after t s) { names = s.names }
+
+  -- a value that is handed over is kept as the result of its routine
+  abbrev pub return_meant : Scope → Option expr.Expr → Option Expr
+  return_meant s None = None
+  return_meant s (Some e) = Some (converted (shape_of (result_of p s.routine)) (value_in_scope (context_at s) e))
+
+  -- what a `for` begins with, and the scope that it opens
+  abbrev pub start_of : ℕ → stmt.ForStart → Scope → Stmt
+  start_of line stmt.NoFor s = Skip line
+  start_of line (stmt.ForDeclare place b ds) s = Declare line (all_declared s b ds)
+  start_of line (stmt.ForEvaluate e) s = Evaluate line (meant (context_at s) e).expr
+
+  abbrev pub for_scope : stmt.ForStart → Scope → Scope
+  for_scope stmt.NoFor s = s
+  for_scope (stmt.ForDeclare place b ds) s = with_all s b ds
+  for_scope (stmt.ForEvaluate e) s = s
+
+  -- a `for` without a test goes on
+  abbrev pub order_of : Option expr.Expr → Order
+  order_of None = NoTest
+  order_of (Some e) = TestFirst
+
+  abbrev pub test_of : Scope → Option expr.Expr → Expr
+  test_of s None = Literal (pos 1)
+  test_of s (Some e) = value_in_scope (context_at s) e
+
+  abbrev pub step_of : Scope → Option expr.Expr → Option Expr
+  step_of s None = None
+  step_of s (Some e) = Some (meant (context_at s) e).expr
+
   abbrev mutual
     pub stmt_meant : stmt.Stmt → Scope → Stmt
     stmt_meant (stmt.Block place body) s = Block place.line (stmts_meant body s)
@@ -335,42 +460,65 @@ module _ (p : whole.Program) where
     stmt_meant (stmt.Print place items) s = Print place.line (items_meant (context_at s) s.texts items)
     stmt_meant (stmt.PrintTogether place items) s = PrintTogether place.line (items_meant (context_at s) s.texts items)
     stmt_meant (stmt.Read place es) s = Read place.line (targets_meant (context_at s) es)
+    stmt_meant (stmt.If place test chosen other) s = If place.line (value_in_scope (context_at s) test) (stmt_meant chosen s) (maybe_meant other (scope_past chosen s))
+    stmt_meant (stmt.While place test body) s = Loop place.line TestFirst (value_in_scope (context_at s) test) None (stmt_meant body s)
+    stmt_meant (stmt.Do place body test) s = Loop place.line BodyFirst (value_in_scope (context_at s) test) None (stmt_meant body s)
+    -- the scope of a `for` is a block
+    stmt_meant (stmt.For place start test step body) s =
+        Block place.line (Then (start_of place.line start s) (Then (Loop place.line (order_of test) (test_of (for_scope start s) test) (step_of (for_scope start s) step) (stmt_meant body (for_scope start s))) Nil))
+    stmt_meant (stmt.Break place) s = Break place.line
+    stmt_meant (stmt.Continue place) s = Continue place.line
+    stmt_meant (stmt.Return place value) s = Return place.line (return_meant s value)
     -- to come
     stmt_meant _ s = Skip 0
+
+    pub maybe_meant : stmt.MaybeStmt → Scope → Stmt
+    maybe_meant stmt.NoStmt s = Skip 0
+    maybe_meant (stmt.OneStmt body) s = stmt_meant body s
 
     pub stmts_meant : stmt.Stmts → Scope → Stmts
     stmts_meant stmt.NoStmts s = Nil
     stmts_meant (stmt.MoreStmts first rest) s = Then (stmt_meant first s) (stmts_meant rest (scope_after first s))
 
-  -- a routine of this class and number begins without names and cells, behind the text literals and the accept statements of
-  -- the routines before it
-  abbrev pub routine_scope : ℕ → ℕ → ℕ → ℕ → Scope
-  routine_scope class number texts sites = record { class = class; routine = number; names = []; cells = 0; texts = texts; sites = sites }
+  -- parameters are in scope, and have the first cells
+  abbrev pub param_known : ℕ → Param → Known
+  param_known cell x = record { name = x.name; ty = record { base = x.base; by_ref = x.by_ref; len = None }; cell = cell }
 
-  -- `void uMain::main()` is the program's main
-  abbrev pub is_main_owner : Owner → Bool
-  is_main_owner owner.Here = false
-  is_main_owner owner.Main = true
-  is_main_owner (owner.Class name) = false
+  abbrev pub params_known : ℕ → List Param → List Known
+  params_known cell [] = []
+  params_known cell (x ∷ xs) = param_known cell x ∷ params_known (cell + param_cells p x) xs
 
-  abbrev pub is_main : whole.Routine → Bool
-  is_main r = is_main_owner r.sig.owner && same_name r.sig.name main_name
+  -- a routine of this class and number begins with these parameters, behind the text literals and the accept statements of the
+  -- routines before it
+  abbrev pub routine_scope : List Param → ℕ → ℕ → ℕ → ℕ → Scope
+  routine_scope xs class number texts sites = record { class = class; routine = number; names = params_known 0 xs; cells = params_cells p xs; texts = texts; sites = sites }
 
-  abbrev pub purpose_of : whole.Routine → Purpose
-  purpose_of r = if is_main r then TaskMain else Called
+  abbrev pub value_purpose : Base → Purpose
+  value_purpose b = if is_void b then Procedure else Function
+
+  abbrev pub role_purpose : Role → Base → Purpose
+  role_purpose role.Plain b = value_purpose b
+  role_purpose role.Constructor b = Builder
+  role_purpose role.Destructor b = Builder
+
+  abbrev pub purpose_of : ℕ → whole.Routine → Purpose
+  purpose_of number r = if nat_eq number (main_number p) then TaskMain else role_purpose r.sig.role r.sig.ret
 
   abbrev pub routine_meant : whole.Routine → Scope → Routine
-  routine_meant r s = record { line = r.brace.line; cells = routine_cells p r; purpose = purpose_of r; body = stmts_meant r.body s }
+  routine_meant r s = record {
+    line = r.brace.line;
+    cells = routine_cells p r;
+    params = length r.sig.params;
+    purpose = purpose_of s.routine r;
+    written = true;
+    body = stmts_meant r.body s;
+  }
 
   -- routines from this number on
   abbrev pub routines_meant : List Defined → ℕ → ℕ → ℕ → List Routine
   routines_meant [] number texts sites = []
   routines_meant (d ∷ ds) number texts sites =
-      routine_meant d.routine (routine_scope d.number number texts sites) ∷ routines_meant ds (number + 1) (texts + length (gathered_all own_texts d.routine.body)) (sites + length (gathered_all (own_sites d.class d.number) d.routine.body))
-
-  abbrev pub main_place : List Defined → ℕ
-  main_place [] = 0
-  main_place (d ∷ ds) = if is_main d.routine then 0 else suc (main_place ds)
+      routine_meant d.routine (routine_scope d.routine.sig.params d.number number texts sites) ∷ routines_meant ds (number + 1) (texts + length (gathered_all own_texts d.routine.body)) (sites + length (gathered_all (own_sites d.class d.number) d.routine.body))
 
   -- the classes among these, the first of which has this place among the classes of the program
   abbrev pub classes_meant : ℕ → List whole.Class → List Class
@@ -385,7 +533,7 @@ module _ (p : whole.Program) where
   abbrev pub source_of : Source
   source_of = record {
     routines = routines_meant (routines_of p) 0 0 0;
-    main = main_place (routines_of p);
+    main = main_number p;
     classes = all_classes;
     sites = sites_of p;
     texts = texts_of p;

@@ -1,5 +1,5 @@
 -- The resolved tree of a program, on which the machine runs: each use carries what it names, and each statement its line.
-use Rattle.std.specs.Prelude.{ℕ, zero, suc, ◌+◌, ◌*◌, ℤ, List, Option, Some, None, slice_get}
+use Rattle.std.specs.Prelude.{ℕ, zero, suc, ◌+◌, ◌*◌, ℤ, List, Bool, true, Option, Some, None, slice_get}
 use Rattle.uc_tree.specs.declared.kinds.ValueForm.{ValueForm}
 use Rattle.uc_tree.specs.Programs.{Site}
 
@@ -34,11 +34,12 @@ field_cells (Field s t) zero = 0
 field_cells (Field s t) (suc i) = shape_cells s + field_cells t i
 field_cells (Array n s) i = 0
 
--- what leaves statements before their end
+-- what leaves statements before their end; a return hands over a value, or ends as the routine does
 pub data Way : Type 0 where
   ToBreak : Way
   ToContinue : Way
   ToReturn : Way
+  ToEnd : Way
 
 -- how a loop turns: its test comes first (`while` and `for`), its body comes first (`do`), or it has no test
 pub data Order : Type 0 where
@@ -60,31 +61,62 @@ pub data Operator : Type 0 where
   Greater : Operator
   AtLeast : Operator
 
--- an expression. A place is a variable, by the first of its cells in the frame, or an element of an array, by the length
--- of the array and what an element holds; all others are values.
-pub data Expr : Type 0 where
-  Literal : ℤ → Expr
-  Variable : ℕ → Expr
-  Element : ℕ → Shape → Expr → Expr → Expr
-  -- what a place holds
-  Load : Expr → Expr
-  Negated : Expr → Expr
-  Not : Expr → Expr
-  -- the number as a `char`, as a `bool`
-  AsCharacter : Expr → Expr
-  AsTruth : Expr → Expr
-  Operate : Operator → Expr → Expr → Expr
-  -- `&&` and `||`, which skip their right side where the left decides
-  And : Expr → Expr → Expr
-  Or : Expr → Expr → Expr
-  -- a value is written to a place
-  Assign : Expr → Expr → Expr
-  -- what a place of this shape holds is combined with a value, and written to it
-  Update : Operator → Shape → Expr → Expr → Expr
-  -- one more or one less is written to a place of this shape; the value is the old one
-  StepBehind : Operator → Shape → Expr → Expr
-  -- whether a read has failed
-  Fail : Expr
+mutual
+  -- an expression. A place is a variable, by the first of its cells in the frame, an element of an array, by the length of the
+  -- array and what an element holds, or what a reference holds; all others are values. Each leaves one value.
+  pub data Expr : Type 0 where
+    Literal : ℤ → Expr
+    Variable : ℕ → Expr
+    Element : ℕ → Shape → Expr → Expr → Expr
+    -- what a variable holds: its value, or the place that a reference was bound to
+    Get : ℕ → Expr
+    -- what a place holds
+    Load : Expr → Expr
+    Negated : Expr → Expr
+    Not : Expr → Expr
+    -- the number as a `char`, as a `bool`
+    AsCharacter : Expr → Expr
+    AsTruth : Expr → Expr
+    Operate : Operator → Expr → Expr → Expr
+    -- `&&` and `||`, which skip their right side where the left decides
+    And : Expr → Expr → Expr
+    Or : Expr → Expr → Expr
+    -- a value is written to a variable
+    Set : ℕ → Expr → Expr
+    -- a value is written to a place
+    Assign : Expr → Expr → Expr
+    -- the first of two values; the second is found and left
+    First : Expr → Expr → Expr
+    -- what a place of this shape holds is combined with a value, and written to it
+    Update : Operator → Shape → Expr → Expr → Expr
+    -- one more or one less is written to a place of this shape; the value is the old one
+    StepBehind : Operator → Shape → Expr → Expr
+    -- whether a read has failed
+    Fail : Expr
+    -- a call of a written routine by its number, with the value or the place of each argument
+    Call : ℕ → Exprs → Expr
+    OfObject : ObjectExpr → Expr
+
+  -- expressions in order
+  pub data Exprs : Type 0 where
+    NoExprs : Exprs
+    MoreExprs : Expr → Exprs → Exprs
+
+  -- what asks for an object (to come)
+  pub data ObjectExpr : Type 0 where
+    -- the object of the running member's call
+    This : ObjectExpr
+    -- a field, by its number, of an object of a class of this shape
+    FieldOf : Shape → ℕ → Expr → ObjectExpr
+    -- a member's routine is called at an object; a mutex member, by its number, enters it first
+    CallOn : ℕ → Expr → Exprs → ObjectExpr
+    EnterOn : ℕ → ℕ → Expr → Exprs → ObjectExpr
+    -- conditions of the object of the running call, by their numbers
+    Wait : Expr → Expr → ObjectExpr
+    Signal : Expr → ObjectExpr
+    SignalBlock : Expr → ObjectExpr
+    IsEmpty : Expr → ObjectExpr
+    FrontOf : Expr → ObjectExpr
 
 -- a printed item: a value in a form, or a text literal by its number
 pub data Item : Type 0 where
@@ -102,6 +134,18 @@ pub record Declared : Type 0 where
   pub cells : ℕ
   pub value : Option Expr
 
+-- an event that is raised, by its number: its constructor, where one is written, and the arguments (to come)
+pub record Raised : Type 0 where
+  pub event : ℕ
+  pub constructor : Option ℕ
+  pub args : Exprs
+
+-- what the end of a scope does (to come): the variable of an object is destroyed by a routine; so are the elements of an array,
+-- by a variable that counts them, the first one, how many there are and the cells of each
+pub data CleanUp : Type 0 where
+  Destroys : ℕ → ℕ → CleanUp
+  DestroysAll : ℕ → ℕ → ℕ → ℕ → ℕ → CleanUp
+
 mutual
   -- a statement, with its line
   pub data Stmt : Type 0 where
@@ -113,31 +157,73 @@ mutual
     -- all items are printed at once
     PrintTogether : ℕ → List Item → Stmt
     Read : ℕ → List Target → Stmt
+    -- the first statement where the test is not 0, else the second
+    If : ℕ → Expr → Stmt → Stmt → Stmt
+    -- its test, the step behind its body, and its body
+    Loop : ℕ → Order → Expr → Option Expr → Stmt → Stmt
+    Break : ℕ → Stmt
+    Continue : ℕ → Stmt
+    -- with the value that is handed over, as the routine's result keeps it
+    Return : ℕ → Option Expr → Stmt
+    OfEvents : EventStmt → Stmt
+    OfTasks : TaskStmt → Stmt
 
   -- the statements of a block
   pub data Stmts : Type 0 where
     Nil : Stmts
     Then : Stmt → Stmts → Stmts
+    -- an object is in scope in what is left of the block, whose line this is: what builds it, and what cleans it up (to come)
+    Scoped : ℕ → Expr → CleanUp → Stmts → Stmts
 
--- how a routine begins: it is called, or it is the main of a task
+  -- what raises, handles and enables events, with its line (to come)
+  pub data EventStmt : Type 0 where
+    -- the event, or again the one that is handled
+    Throw : ℕ → Option Raised → EventStmt
+    Raise : ℕ → Option Raised → EventStmt
+    RaiseAt : ℕ → Raised → Expr → EventStmt
+    -- events by their bits
+    Enable : ℕ → ℕ → Stmt → EventStmt
+    Disable : ℕ → ℕ → Stmt → EventStmt
+    Try : ℕ → Stmts → Handlers → EventStmt
+
+  -- handlers in order: whether one takes resumptions, its event or every one, the cell that keeps the event's fields, the line
+  -- of its block, and its body
+  pub data Handlers : Type 0 where
+    NoHandlers : Handlers
+    MoreHandlers : Bool → Option ℕ → ℕ → ℕ → Stmts → Handlers → Handlers
+
+  -- what coroutines and tasks do, with its line (to come)
+  pub data TaskStmt : Type 0 where
+    Resume : ℕ → TaskStmt
+    Suspend : ℕ → TaskStmt
+    Yield : ℕ → TaskStmt
+    Migrate : ℕ → Expr → TaskStmt
+    -- the accept statement of this number, with its clauses
+    Accept : ℕ → ℕ → Clauses → TaskStmt
+
+  -- the clauses of an accept statement: the guard and the branch of each, and the branch of its `_Else`
+  pub data Clauses : Type 0 where
+    NoClauses : Clauses
+    Otherwise : Stmt → Clauses
+    MoreClauses : Option Expr → Stmt → Clauses → Clauses
+
+-- what a routine is: the main of a task; a routine without a value, which hands over 0; a routine with a value, whose end is a
+-- fault; a constructor or a destructor (to come)
 pub data Purpose : Type 0 where
-  Called : Purpose
   TaskMain : Purpose
+  Procedure : Purpose
+  Function : Purpose
+  Builder : Purpose
 
--- a routine: the line of its body's block, the cells of its frame, how it begins, and its body
+-- a routine: the line of its body's block, the cells of its frame, how many of them hold its parameters, what it is, whether
+-- it is written, and its body
 pub record Routine : Type 0 where
   pub line : ℕ
   pub cells : ℕ
+  pub params : ℕ
   pub purpose : Purpose
+  pub written : Bool
   pub body : Stmts
-
--- what ends a main has the line of its block; a call ends in the line of its caller
-abbrev pub line_by : Purpose → ℕ → ℕ
-line_by Called line = 0
-line_by TaskMain line = line
-
-abbrev pub end_line : Routine → ℕ
-end_line r = line_by r.purpose r.line
 
 -- a class: the cells of an object
 pub record Class : Type 0 where
@@ -152,7 +238,7 @@ pub record Source : Type 0 where
   pub texts : List (List ℕ)
 
 abbrev pub routine_or_none : Option Routine → Routine
-routine_or_none None = record { line = 0; cells = 0; purpose = Called; body = Nil }
+routine_or_none None = record { line = 0; cells = 0; params = 0; purpose = Procedure; written = true; body = Nil }
 routine_or_none (Some r) = r
 
 -- a routine by its number

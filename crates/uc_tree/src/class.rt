@@ -1,5 +1,9 @@
 // Routines and classes, which contracts see as trees without pointers.
 
+ghost use Rattle.std.specs.Prelude.{◌≡◌};
+ghost use Rattle.uc_tree.specs.Numbering.{is_plain};
+ghost use Rattle.uc_tree.specs.ProgramMain.{is_void, is_int, returns_as_main, is_main_sig};
+
 use crate::declare::Declarator;
 use crate::expr::Expr;
 use crate::kinds::{Access, Base, Kind, Mark, Owner, Param, Role};
@@ -29,6 +33,68 @@ impl Model for Sig {
     ghost coded = { sig_coded };
 
     ghost view = { λ a. record { pos = a.pos; owner = a.owner; role = a.role; ret = a.ret; name = a.name; params = a.params.items } };
+}
+
+impl Sig {
+    /// Whether this is the signature of the program's main, where it stands outside of classes: `void uMain::main()` or
+    /// `int main()`.
+    pub fn is_main(&self) -> bool
+        ensures { result ≡ is_main_sig self.now }
+    {
+        returns_as_main(&self.owner, &self.ret)
+            && (self.name.is(b"main") && (is_plain(self.role) && self.params.is_empty()))
+    }
+}
+
+// What main returns: nothing in `uMain`, an `int` at the outer level.
+fn returns_as_main(owner: &Owner, ret: &Base) -> bool
+    ensures { result ≡ returns_as_main owner.now ret.now }
+{
+    match owner {
+        Owner::Here => is_int(ret),
+        Owner::Main => is_void(ret),
+        Owner::Class(_) => false,
+    }
+}
+
+fn is_void(base: &Base) -> bool
+    ensures { result ≡ is_void base.now }
+{
+    match base {
+        Base::Void => true,
+        Base::Int => false,
+        Base::Char => false,
+        Base::Bool => false,
+        Base::Condition => false,
+        Base::Cluster => false,
+        Base::Processor => false,
+        Base::Named(_) => false,
+    }
+}
+
+fn is_int(base: &Base) -> bool
+    ensures { result ≡ is_int base.now }
+{
+    match base {
+        Base::Void => false,
+        Base::Int => true,
+        Base::Char => false,
+        Base::Bool => false,
+        Base::Condition => false,
+        Base::Cluster => false,
+        Base::Processor => false,
+        Base::Named(_) => false,
+    }
+}
+
+fn is_plain(role: Role) -> bool
+    ensures { result ≡ is_plain role }
+{
+    match role {
+        Role::Plain => true,
+        Role::Constructor => false,
+        Role::Destructor => false,
+    }
 }
 
 /// An initialiser of a field.

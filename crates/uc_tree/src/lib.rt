@@ -1,9 +1,11 @@
 // Trees and tokens of program texts, their numbering and sizes, and every limit of the language and its kernel.
 #![tactic(auto)]
 
+pub mod bytes;
 pub mod class;
 pub mod declare;
 pub mod expr;
+pub mod int;
 pub mod kinds;
 pub mod limits;
 pub mod name;
