@@ -1,5 +1,5 @@
 -- A journal has one cut into acts.
-use Rattle.std.proofs.Common.{◌≡◌, ℕ, suc, ◌+◌, ◌<◌, Bool, true, false, cond, List, [], ◌∷◌, ◌++◌, refl, sym, ap, ◌∙◌, subst, arith, length, append_assoc, append-nil, length-append}
+use Rattle.std.proofs.Common.{◌≡◌, ℕ, suc, ◌+◌, ◌<◌, ◌≤◌, Bool, true, false, cond, List, [], ◌∷◌, ◌++◌, Some, refl, sym, ap, ◌∙◌, subst, arith, length, append_assoc, append-nil, length-append}
 use Rattle.std.specs.Prelude.{pos, nat_le}
 use Rattle.uc_tree.specs.Source.{Source}
 use Rattle.uc_tree.specs.Programs.{Site}
@@ -9,18 +9,18 @@ use Rattle.uc_meaning.specs.declared.entry.EntryKind.TheVariants as kind
 use Rattle.uc_meaning.specs.declared.entry.Options.{Options}
 use Rattle.uc_meaning.specs.declared.request.Asked.{Asked}
 use Rattle.uc_meaning.specs.declared.request.Request.TheVariants as ask
-use Rattle.uc_meaning.specs.Journal.{Journal, entry, is_over, first_or_0}
+use Rattle.uc_meaning.specs.Journal.{Journal, entry, begin, is_over, first_or_0}
 use Rattle.uc_meaning.specs.Queues.{running}
-use Rattle.uc_meaning.specs.Answers.{asks}
+use Rattle.uc_meaning.specs.Answers.{asks, answer_to}
 use Rattle.uc_meaning.specs.Doors.{destroys_busy}
 use Rattle.uc_meaning.specs.Acts.{act, row, settled, fault, entries_of, ending, fitted, dispatch, lone_limit}
 use Rattle.uc_meaning.specs.Serves.{left}
-use Rattle.uc_meaning.specs.KernelRuns.{Fits}
+use Rattle.uc_meaning.specs.KernelRuns.{InRange, Fits, KernelMay, KernelRuns, begun, more, gives as gives_in, no_room as none_in, acts as acts_in}
 use Rattle.uc_meaning.specs.Quiet.{State, Goes, Ticks, Asks as AsksNow, quiet}
 use Rattle.uc_meaning.specs.Rides.{asked_in, Rides, slices, goes_on as moves_on, ticks as makes_tick, asks as asks_now}
-use Rattle.uc_meaning.specs.Runs.{World, world_after, drawn}
+use Rattle.uc_meaning.specs.Runs.{World, world_after, first_world, drawn, answered}
 use Rattle.uc_meaning.specs.Cuts.{Step, gives, no_room, acts, Cut, ends, goes_on, OneCut, OneRide, LawCut}
-use Rattle.uc_meaning.proofs.Bounds.{over_limit}
+use Rattle.uc_meaning.proofs.Bounds.{over_limit, law_room}
 use Rattle.uc_meaning.proofs.Acting.{is_giving, object_of, destroys, AllBy, by_act}
 use Rattle.uc_meaning.proofs.Making.{row_asks}
 
@@ -179,11 +179,14 @@ module _ {source : Source} {input : List ℕ} {opts : Options} {j : Journal} {w 
       let a' = act opts source.sites input j p' t' n' asked' in
       let q : p ≡ p' = sym (proc_of p t a y (act_begins opts source.sites input j p t n asked f)) ∙ ap (λ l. (first_of l).proc) e ∙ proc_of p' t' a' z (act_begins opts source.sites input j p' t' n' asked' f') in
       let u : t ≡ t' = ap first_or_0 (sym d.runs ∙ ap (λ z. running z j) q ∙ d'.runs) in
-      let ride = same_ride source d.rides d'.rides (ap (drawn j w) u) (ap (left opts j) u) in
+      let told : Some d.given ≡ Some d'.given = sym d.told ∙ ap (λ z. answer_to source.sites z j) u ∙ d'.told in
+      let given : d.given ≡ d'.given = cc told in
+      let starts : answered d.given (drawn j w t) ≡ answered d'.given (drawn j w t') = ap (λ z. answered z (drawn j w t)) given ∙ ap (λ z. answered d'.given (drawn j w z)) u in
+      let ride = same_ride source d.rides d'.rides starts (ap (left opts j) u) in
       let same : a ≡ a' = ap (λ z. act opts source.sites input j z t n asked) q ∙ ap (λ z. act opts source.sites input j p' z n asked) u ∙ ap (λ z. act opts source.sites input j p' t' z asked) ride.ticks ∙ ap (λ z. act opts source.sites input j p' t' n' z) ride.asked in
       record {
         entries = same;
-        world = λ o. ap (λ z. world_after z w t s asked.request) same ∙ ap (λ z. world_after a' w z s asked.request) u ∙ ap (λ z. world_after a' w t' z asked.request) ride.state ∙ ap (λ z. world_after a' w t' s' z.request) ride.asked;
+        world = λ o. ap (λ z. world_after source z w t s) same ∙ ap (λ z. world_after source a' w z s) u ∙ ap (λ z. world_after source a' w t' z) ride.state;
       }
 
 -- how a cut begins
@@ -229,8 +232,42 @@ module _ {source : Source} {input : List ℕ} {opts : Options} where
           let h = ih (view (subst (λ z. Cut source input opts (j ++ a) z rest' k v) (sym (same.world d)) moved)) in
           record { acts = ap (λ l. a ∷ l) h.acts ∙ ap (λ l. l ∷ rest') same.entries ∙ sym e; world = h.world }
 
+-- a ride makes no more ticks than it has
+within : {source : Source} {s u : State} {q k : ℕ} {r : Asked} → Rides source s q u k r → k ≤ q
+within slices = omega arith
+within (moves_on e r) = within r
+within (makes_tick e r) = let h = within r in omega (arith, h)
+within (asks_now e) = omega arith
+
+module _ {source : Source} {input : List ℕ} {opts : Options} where
+  -- acts of a program's run are acts of a run of a kernel
+  kernel_may : {j : Journal} {w : World} {a : List Entry} {x : World} → Step source input opts j w a x → KernelMay opts source.sites input j a
+  kernel_may (gives p t s m) = gives_in p t s m
+  kernel_may (no_room p t s m) = none_in p t s m
+  kernel_may (acts p t n s asked d f) = acts_in p t n asked (record { runs = d.runs; within = within d.rides; fits = f })
+
+  kernel_runs : {j : Journal} {w : World} {parts : List (List Entry)} {k : Journal} {u : World} → KernelRuns opts source.sites input j → Cut source input opts j w parts k u → KernelRuns opts source.sites input k
+  kernel_runs r ends = r
+  kernel_runs r (goes_on o s c) = kernel_runs (more r o (kernel_may s)) c
+
+  -- each act is longer than nothing
+  counts : {j : Journal} {w : World} {parts : List (List Entry)} {k : Journal} {u : World} → Cut source input opts j w parts k u → length j + length parts ≤ length k
+  counts ends = omega arith
+  counts {j} (goes_on {a} o s c) =
+      let h = counts c in
+      let l = length-append j a in
+      let some = step_some s in
+      omega (arith, h, l, some)
+
+  few : (parts : List (List Entry)) (k : Journal) (u : World) → InRange opts → Cut source input opts (begin opts ∷ []) (first_world source) parts k u → length parts < opts.entries
+  few parts k u range c =
+      let h = counts c in
+      let m = (law_room opts source.sites input k range (kernel_runs begun c)).most in
+      omega (arith, h, m)
+
 pub law_cut : LawCut
 law_cut = record {
   cut = λ source input opts parts others k u v c d. one_cut c (view d);
   ride = λ source s t u q m n a b r x. same_ride source r x refl refl;
+  few = λ source input opts parts k u range c. few parts k u range c;
 }

@@ -18,9 +18,12 @@ pub mod Counted
 pub mod Making
 pub mod Answered
 pub mod Sampled
+pub mod RunsSampled
 pub mod Cuts
 pub mod Others
 pub mod Held
 pub mod Bounds
 pub mod Goes
 pub mod Given
+pub mod Filters
+pub mod FitRows

@@ -1,11 +1,11 @@
--- Which programs of straight code are accepted.
+-- Which programs are accepted, of those whose forms run.
 use Rattle.std.specs.Prelude.{◌≡◌, ◌≤◌, List, [], ◌∷◌}
 use Rattle.uc_tree.specs.declared.limits.TheConstants.{FRAME_CELLS, PROGRAM_SIZE}
 use Rattle.uc_tree.specs.Programs.{Item, ClassItem, RoutineItem, ConstItem, ProtoItem, ForwardItem, UsingItem, Program}
 use Rattle.uc_tree.specs.Cells.{routine_cells}
 use Rattle.uc_tree.specs.Sizes.{program_size}
-use Rattle.uc_meaning.specs.Straight.{IsStraight}
-use Rattle.uc_meaning.specs.Rules.{breaks_of}
+use Rattle.uc_meaning.specs.BuiltForms.{IsBuilt}
+use Rattle.uc_meaning.specs.Breaks.{breaks_of}
 
 -- the frame of each routine that stands outside of classes has at most so many cells
 abbrev pub FitFrames : Program → List Item → Type 0
@@ -18,7 +18,7 @@ FitFrames p (ForwardItem forward ∷ is) = FitFrames p is
 FitFrames p (UsingItem place ∷ is) = FitFrames p is
 
 pub record IsAccepted (program : Program) : Type 0 where
-  pub straight : IsStraight program
+  pub built : IsBuilt program
   pub no_break : breaks_of program ≡ []
   pub frames : FitFrames program program.items
   pub size : program_size program ≤ PROGRAM_SIZE

@@ -9,14 +9,14 @@ use Rattle.uc_meaning.specs.Quiet.{State}
 use Rattle.uc_meaning.specs.Rides.{Rides}
 use Rattle.uc_meaning.specs.Acts.{act, dispatch, lone_limit}
 use Rattle.uc_meaning.specs.Serves.{Serves}
-use Rattle.uc_meaning.specs.KernelRuns.{Fits}
+use Rattle.uc_meaning.specs.KernelRuns.{InRange, Fits}
 use Rattle.uc_meaning.specs.Runs.{World, AsksIn, world_after, first_world}
 
 -- one act, whose request fits, and the world after it
 pub data Step (source : Source) (input : List ℕ) (opts : Options) (j : Journal) (w : World) : List Entry → World → Type 0 where
   gives : (p t : ℕ) → Serves opts j p t → length j + 2 ≤ opts.entries → Step source input opts j w (dispatch p t ∷ []) w
   no_room : (p t : ℕ) → Serves opts j p t → opts.entries < length j + 2 → Step source input opts j w (lone_limit ∷ []) w
-  acts : (p t n : ℕ) (s : State) (asked : Asked) → AsksIn source opts j w p t n s asked → Fits opts source.sites j t asked.request → Step source input opts j w (act opts source.sites input j p t n asked) (world_after (act opts source.sites input j p t n asked) w t s asked.request)
+  acts : (p t n : ℕ) (s : State) (asked : Asked) → AsksIn source opts j w p t n s asked → Fits opts source.sites j t asked.request → Step source input opts j w (act opts source.sites input j p t n asked) (world_after source (act opts source.sites input j p t n asked) w t s)
 
 -- these acts lead from one journal and its world to another
 pub data Cut (source : Source) (input : List ℕ) (opts : Options) : Journal → World → List (List Entry) → Journal → World → Type 0 where
@@ -37,3 +37,5 @@ pub record OneRide (s t : State) (m n : ℕ) (a b : Asked) : Type 0 where
 pub record LawCut : Type 0 where
   pub cut : (source : Source) (input : List ℕ) (opts : Options) (parts others : List (List Entry)) (k : Journal) (u v : World) → Cut source input opts (begin opts ∷ []) (first_world source) parts k u → Cut source input opts (begin opts ∷ []) (first_world source) others k v → OneCut parts others k u v
   pub ride : (source : Source) (s t u : State) (q m n : ℕ) (a b : Asked) → Rides source s q t m a → Rides source s q u n b → OneRide t u m n a b
+  -- each act makes an entry, so there are fewer of them than the bound on entries
+  pub few : (source : Source) (input : List ℕ) (opts : Options) (parts : List (List Entry)) (k : Journal) (u : World) → InRange opts → Cut source input opts (begin opts ∷ []) (first_world source) parts k u → length parts < opts.entries

@@ -1,6 +1,6 @@
 -- Activations, executions, where they are at home, and what holds the values of a task: one family for the source and for
 -- code. C is what an activation has to do, V what a cell holds.
-use Rattle.std.specs.Prelude.{ℕ, List, [], ◌∷◌, ◌++◌, length, take, drop, replicate, Option, Some, None, Bool, false, nat_eq, if◌then◌else◌, slice_index_or, slice_set}
+use Rattle.std.specs.Prelude.{ℕ, zero, suc, ◌+◌, ◌-◌, List, [], ◌∷◌, ◌++◌, length, take, drop, replicate, Option, Some, None, Bool, false, nat_eq, if◌then◌else◌, slice_index_or, slice_set}
 use Rattle.uc_meaning.specs.declared.exec.Exec.{Exec}
 use Rattle.uc_meaning.specs.declared.exec.Home.{Home}
 use Rattle.uc_meaning.specs.declared.exec.Home.TheVariants.{Task, Object}
@@ -99,6 +99,13 @@ no_links = record {
   builds = 0;
 }
 
+-- one active call more, and one less
+abbrev pub one_call_more : Links → Links
+one_call_more l = record l { calls = l.calls + 1 }
+
+abbrev pub one_call_less : Links → Links
+one_call_less l = record l { calls = l.calls - 1 }
+
 -- another thing under a number that is there
 abbrev pub update : {X : Type 0} → ℕ → X → List (ℕ × X) → List (ℕ × X)
 update k x [] = []
@@ -131,6 +138,16 @@ list_in (Some xs) = xs
 abbrev pub others : {X : Type 0} → List X → List X
 others [] = []
 others (x ∷ xs) = xs
+
+-- the newest, or this where there is none
+abbrev pub first_or : {X : Type 0} → X → List X → X
+first_or d [] = d
+first_or d (x ∷ xs) = x
+
+-- the newest, so many of them, the oldest first, in front of these
+abbrev pub taken : {X : Type 0} → X → ℕ → List X → List X → List X
+taken d zero xs ys = ys
+taken d (suc n) xs ys = taken d n (others xs) (first_or d xs ∷ ys)
 
 -- one more, if there is one
 abbrev pub handed : {X : Type 0} → Option X → List X → List X
@@ -219,4 +236,8 @@ module _ {C V : Type 0} where
 
   -- the newest activation is left with its frame, and the one that waits for it goes on with what it is handed
   abbrev pub returned : Option V → Activation C V → List (Activation C V) → Env C V → State C V
-  returned given c cs e = record { run = record c { operands = handed given c.operands }; callers = cs; env = record e { frames = others e.frames } }
+  returned given c cs e = record { run = record c { operands = handed given c.operands }; callers = cs; env = record e { frames = others e.frames; links = one_call_less e.links } }
+
+  -- a call: an activation with this to do, for this object, with this frame, before one that waits for it
+  abbrev pub entered : C → V → V → List V → Activation C V → List (Activation C V) → Env C V → State C V
+  entered todo this nothing frame c cs e = record { run = begun todo this (length e.frames) nothing; callers = c ∷ cs; env = record e { frames = frame ∷ e.frames; links = one_call_more e.links } }

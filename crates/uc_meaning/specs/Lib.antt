@@ -21,16 +21,11 @@ pub mod KernelRuns
 pub mod Laws
 pub mod Samples
 pub mod Runs
+pub mod SamplePrograms
 pub mod Cuts
 pub mod Texts
 pub mod Fit
-pub mod Straight
 pub mod RuleNames
-pub mod RulesNames
-pub mod RulesTypes
-pub mod RulesVisits
-pub mod RulesFirst
-pub mod Rules
 pub mod Accepted
 pub mod Sorts
 pub mod Names
@@ -44,4 +39,8 @@ pub mod ClassBreaks
 pub mod ItemBreaks
 pub mod OwnerBreaks
 pub mod Breaks
+pub mod BuiltForms
 pub mod Firsts
+pub mod Typed
+pub mod Unbroken
+pub mod FirstRule

@@ -1,9 +1,9 @@
 -- The machine over the resolved tree: one quiet step of a task with its hand.
-use Rattle.std.specs.Prelude.{◌≡◌, ℕ, ◌+◌, ◌-◌, ◌*◌, ◌^◌, min, ◌++◌, ◌&&◌, ℤ, pos, negsuc, ◌+ℤ◌, ◌-ℤ◌, ◌*ℤ◌, neg_ℤ, int_div, int_rem, int_le, int_lt, List, [], ◌∷◌, length, replicate, Option, Some, None, Bool, true, false, nat_eq, nat_lt, if◌then◌else◌}
+use Rattle.std.specs.Prelude.{◌≡◌, ℕ, ◌+◌, ◌-◌, ◌*◌, ◌^◌, min, ◌++◌, ◌&&◌, ℤ, pos, negsuc, ◌+ℤ◌, ◌-ℤ◌, ◌*ℤ◌, neg_ℤ, int_div, int_rem, int_le, int_lt, List, [], ◌∷◌, length, replicate, drop, slice_get, Option, Some, None, Bool, true, false, nat_eq, nat_lt, if◌then◌else◌}
 use Rattle.std.specs.Int.{int_rem_euclid}
 use Rattle.std.specs.Ordering.{int_eq}
-use Rattle.uc_tree.specs.declared.limits.TheConstants.{INT_MIN, INT_MAX, CHAR_VALUES, PRINT_ITEMS}
-use Rattle.uc_tree.specs.Source.{Shape, Character, Truth, shape_cells, field_cells, Operator, Plus, Minus, Times, Over, Modulo, Equal, NotEqual, Less, AtMost, Greater, AtLeast, Expr, Literal, Variable, Element, Load, Negated, Not, AsCharacter, AsTruth, Operate, And, Or, Assign, Update, StepBehind, Fail, Item, Show, ShowText, Target, Declared, Stmt, Skip, Block, Evaluate, Declare, Print, PrintTogether, Read, Stmts, Nil, Then, Purpose, Called, TaskMain, Routine, Source}
+use Rattle.uc_tree.specs.declared.limits.TheConstants.{INT_MIN, INT_MAX, CHAR_VALUES, PRINT_ITEMS, CALLS}
+use Rattle.uc_tree.specs.Source.{Shape, Character, Truth, shape_cells, field_cells, Operator, Plus, Minus, Times, Over, Modulo, Equal, NotEqual, Less, AtMost, Greater, AtLeast, Expr, Literal, Variable, Element, Load, Negated, Not, AsCharacter, AsTruth, Operate, And, Or, Assign, Update, StepBehind, Fail, Get, Set, First, Call, OfObject, Exprs, NoExprs, MoreExprs, Item, Show, ShowText, Target, Declared, Order, TestFirst, BodyFirst, NoTest, Way, ToBreak, ToContinue, ToReturn, ToEnd, Stmt, Skip, Block, Evaluate, Declare, Print, PrintTogether, Read, If, Loop, Break, Continue, Return, OfEvents, OfTasks, Stmts, Nil, Then, Scoped, Purpose, TaskMain, Procedure, Function, Builder, Routine, Source}
 use Rattle.uc_tree.specs.declared.kinds.ValueForm.{ValueForm}
 use Rattle.uc_tree.specs.ValueForms.{form_number}
 use Rattle.uc_meaning.specs.declared.exec.Exec.{Exec}
@@ -11,14 +11,14 @@ use Rattle.uc_meaning.specs.declared.exec.Home.TheVariants as home
 use Rattle.uc_meaning.specs.declared.exec.Owner.{Owner}
 use Rattle.uc_meaning.specs.declared.exec.Owner.TheVariants.{Frame}
 use Rattle.uc_meaning.specs.declared.fault.RunFault.{RunFault}
-use Rattle.uc_meaning.specs.declared.fault.RunFault.TheVariants.{Overflow, DivideByZero, Index}
+use Rattle.uc_meaning.specs.declared.fault.RunFault.TheVariants.{Overflow, DivideByZero, Index, Depth, NoReturn}
 use Rattle.uc_meaning.specs.Faults.{fault_number}
 use Rattle.uc_meaning.specs.declared.request.TheConstants.{TEXT_FORM}
 use Rattle.uc_meaning.specs.declared.request.Piece.{Piece}
 use Rattle.uc_meaning.specs.declared.request.Request.{Request}
 use Rattle.uc_meaning.specs.declared.request.Request.TheVariants as ask
 use Rattle.uc_meaning.specs.Executions as exec
-use Rattle.uc_meaning.specs.Executions.{no_links, begun, returned, value_at, with_owned, value_changed, values_cleared}
+use Rattle.uc_meaning.specs.Executions.{no_links, taken, begun, entered, returned, value_at, with_owned, value_changed, values_cleared}
 
 -- a step of a path: a variable of a frame, by the first of its cells; a field of a class; an element of an array of that shape
 pub data Link : Type 0 where
@@ -52,11 +52,21 @@ pub data Todo : Type 0 where
   -- the newest operand goes, the one below it goes
   DropNow : Todo
   DropBelowNow : Todo
-  -- the newest operand is written to the place below it, and goes or stays
+  -- the newest operand is written to the place below it, and goes or stays; it is written to a variable, and stays
   StoreNow : Todo
   KeepNow : Todo
-  -- the first expression where the newest operand is not 0, else the second
+  SetNow : ℕ → Todo
+  -- the first expression where the newest operand is not 0, else the second; so for statements
   Choose : Expr → Expr → Todo
+  Branch : Stmt → Stmt → Todo
+  -- what is left of the arguments of a call; a tick; and a call of a routine with the newest operands
+  Arguments : Exprs → Todo
+  TickNow : Todo
+  CallNow : ℕ → Todo
+  -- a turn of a loop begins, by a tick: how it turns, its test, its step and its body; it begins where the newest operand is
+  -- not 0
+  TurnNow : Order → Expr → Option Expr → Stmt → Todo
+  Again : Order → Expr → Option Expr → Stmt → Todo
   -- print the newest operand in this form, a text literal; gathered items are printed at once
   PrintNow : ValueForm → Todo
   TextNow : ℕ → Todo
@@ -77,15 +87,23 @@ pub data Todo : Type 0 where
   Rest : Stmts → Todo
   -- what stands before is of a statement of this line
   Within : ℕ → Todo
+  -- all up to a loop, or to the end of the activation, is left
+  Exit : Way → Todo
+  -- a routine ends without the value that it owes
+  NoReturnNow : Todo
+  -- marks. What stands before is the body of a loop, of a turn of it
+  InLoop : Order → Expr → Option Expr → Stmt → Todo
   -- the end of a main, which has a line
   Finish : Todo
 
--- what a piece is for one who leaves it: nothing, or the end of a main, behind which nothing is to do
+-- what a piece is for one who leaves it: nothing; a loop; or the end of a main, behind which nothing is to do
 pub data Sort : Type 0 where
   Simple : Sort
+  IsLoop : Order → Expr → Option Expr → Stmt → Sort
   IsFinish : Sort
 
 abbrev pub sort : Todo → Sort
+sort (InLoop o t s b) = IsLoop o t s b
 sort Finish = IsFinish
 sort _ = Simple
 
@@ -296,14 +314,16 @@ abbrev pub print_step : Option (List Piece) → Piece → List Todo → List Val
 print_step None p todo vs s = Asks (print_of (p ∷ [])) (at todo vs s)
 print_step (Some ps) p todo vs s = goes todo vs (in_env (record s.env { gathered = Some (with_piece p ps) }) s)
 
+-- what was gathered is printed, if there is anything
 abbrev pub flush_step : Option (List Piece) → List Todo → List Value → State → Step
 flush_step None todo vs s = goes todo vs s
-flush_step (Some ps) todo vs s = Asks (print_of ps) (at todo vs (in_env (record s.env { gathered = None }) s))
+flush_step (Some []) todo vs s = goes todo vs (in_env (record s.env { gathered = None }) s)
+flush_step (Some (p ∷ ps)) todo vs s = Asks (print_of (p ∷ ps)) (at todo vs (in_env (record s.env { gathered = None }) s))
 
 -- the end of an activation, with what it hands over; behind the last one the task ends
-abbrev pub return_step : Option Value → List Active → State → Step
+abbrev pub return_step : Value → List Active → State → Step
 return_step given [] s = Asks ask.End s
-return_step given (c ∷ cs) s = Goes (returned given c cs s.env)
+return_step given (c ∷ cs) s = Goes (returned (Some given) c cs s.env)
 
 -- a value as it is kept in a scalar of this shape
 abbrev pub converting : Shape → List Todo → List Todo
@@ -352,6 +372,58 @@ eval_step (Update op k p a) todo s =
 eval_step (StepBehind op k p) todo s =
     turns (Eval p ∷ (CopyNow ∷ (LoadNow ∷ (CopyBelowNow ∷ (CopyBelowNow ∷ (Eval (Literal (pos 1)) ∷ (OperateNow op ∷ converting k (StoreNow ∷ (DropBelowNow ∷ todo))))))))) s
 eval_step Fail todo s = Asks ask.Fail (at todo s.run.operands s)
+eval_step (Get k) todo s = goes todo (loaded (variable_at k s) s.env ∷ s.run.operands) s
+eval_step (Set k a) todo s = turns (Eval a ∷ (SetNow k ∷ todo)) s
+eval_step (First a b) todo s = turns (Eval a ∷ (Eval b ∷ (DropNow ∷ todo))) s
+eval_step (Call r args) todo s = turns (Arguments args ∷ (TickNow ∷ (CallNow r ∷ todo))) s
+-- to come
+eval_step (OfObject o) todo s = goes todo (nought ∷ s.run.operands) s
+
+-- loops
+
+-- the step behind the body, if there is one
+abbrev pub step_todo : Option Expr → List Todo → List Todo
+step_todo None todo = todo
+step_todo (Some e) todo = Eval e ∷ (DropNow ∷ todo)
+
+-- the test, if there is one, and another turn
+abbrev pub test_todo : Order → Expr → Option Expr → Stmt → List Todo → List Todo
+test_todo TestFirst t e b todo = Eval t ∷ (Again TestFirst t e b ∷ todo)
+test_todo BodyFirst t e b todo = Eval t ∷ (Again BodyFirst t e b ∷ todo)
+test_todo NoTest t e b todo = TurnNow NoTest t e b ∷ todo
+
+-- a loop begins with its test, or with a turn
+abbrev pub loop_todo : Order → Expr → Option Expr → Stmt → List Todo → List Todo
+loop_todo TestFirst t e b todo = test_todo TestFirst t e b todo
+loop_todo BodyFirst t e b todo = TurnNow BodyFirst t e b ∷ todo
+loop_todo NoTest t e b todo = TurnNow NoTest t e b ∷ todo
+
+-- exits
+
+-- the end of an activation: a return hands over the newest operand, all others 0
+abbrev pub end_step : Way → State → Step
+end_step ToReturn s = return_step (top s.run.operands) s.callers s
+end_step ToEnd s = return_step nought s.callers s
+end_step ToBreak s = return_step nought s.callers s
+end_step ToContinue s = return_step nought s.callers s
+
+-- a loop is left, or its next turn comes
+abbrev pub loop_left : Way → Order → Expr → Option Expr → Stmt → List Todo → List Todo
+loop_left ToBreak o t s b todo = todo
+loop_left ToContinue o t s b todo = InLoop o t s b ∷ todo
+loop_left ToReturn o t s b todo = Exit ToReturn ∷ todo
+loop_left ToEnd o t s b todo = Exit ToEnd ∷ todo
+
+-- what is to do once a piece of this sort is left
+abbrev pub left_behind : Way → Sort → List Todo → List Todo
+left_behind w Simple todo = Exit w ∷ todo
+left_behind w (IsLoop o t s b) todo = loop_left w o t s b todo
+left_behind w IsFinish todo = Finish ∷ todo
+
+-- an exit leaves the pieces one by one
+abbrev pub exit_step : Way → List Todo → State → Step
+exit_step w [] s = end_step w s
+exit_step w (p ∷ ps) s = turns (left_behind w (sort p) ps) s
 
 -- to do a statement
 abbrev pub stmt_step : Stmt → List Todo → State → Step
@@ -363,6 +435,45 @@ stmt_step (Print line items) todo s = turns (Items items ∷ (Within line ∷ to
 stmt_step (PrintTogether line items) todo s =
     turns (Values items ∷ (GatherNow ∷ (Pieces items ∷ (FlushNow ∷ (Within line ∷ todo))))) s
 stmt_step (Read line ts) todo s = turns (Targets ts ∷ (Within line ∷ todo)) s
+stmt_step (If line t a b) todo s = turns (Eval t ∷ (Branch a b ∷ (Within line ∷ todo))) s
+stmt_step (Loop line o t e b) todo s = turns (loop_todo o t e b (Within line ∷ todo)) s
+stmt_step (Break line) todo s = turns (Exit ToBreak ∷ todo) s
+stmt_step (Continue line) todo s = turns (Exit ToContinue ∷ todo) s
+stmt_step (Return line None) todo s = turns (Exit ToEnd ∷ todo) s
+stmt_step (Return line (Some e)) todo s = turns (Eval e ∷ (Exit ToReturn ∷ (Within line ∷ todo))) s
+-- to come
+stmt_step (OfEvents a) todo s = turns todo s
+stmt_step (OfTasks a) todo s = turns todo s
+
+-- to do the statements that are left of a block
+abbrev pub rest_step : Stmts → List Todo → State → Step
+rest_step Nil todo s = turns todo s
+rest_step (Then a rest) todo s = turns (Do a ∷ (Rest rest ∷ todo)) s
+-- to come
+rest_step (Scoped line e c rest) todo s = turns todo s
+
+-- what is to do behind a routine's body: a main ends, in the line of its block; where a value is owed, that is a fault there
+abbrev pub behind_body : Purpose → ℕ → List Todo
+behind_body TaskMain line = Finish ∷ (Within line ∷ [])
+behind_body Procedure line = []
+behind_body Function line = NoReturnNow ∷ (Within line ∷ [])
+behind_body Builder line = []
+
+-- what is to do as a routine begins
+abbrev pub routine_todo : Routine → List Todo
+routine_todo r = Rest r.body ∷ behind_body r.purpose r.line
+
+-- the frame of a call: the newest operands are its parameters, and the other cells are 0
+abbrev pub call_frame : Routine → List Value → List Value
+call_frame r vs = taken Nothing r.params vs (replicate (r.cells - r.params) nought)
+
+-- a call; one too many is a fault
+abbrev pub call_step : Option Routine → List Todo → State → Step
+call_step None todo s = Asks ask.End (at todo s.run.operands s)
+call_step (Some r) todo s =
+    if nat_lt s.env.links.calls CALLS
+    then Goes (entered (routine_todo r) Nothing Nothing (call_frame r s.run.operands) (record s.run { control = todo; operands = drop r.params s.run.operands }) s.callers s.env)
+    else fault Depth todo s.run.operands s
 
 -- the next step in a source, by what is to do
 module _ (source : Source) where
@@ -378,14 +489,23 @@ module _ (source : Source) where
   act (OperateNow op) todo s =
       outcome_step (outcome op (number (top (below s.run.operands))) (number (top s.run.operands))) todo (below (below s.run.operands)) s
   act CopyNow todo s = goes todo (top s.run.operands ∷ s.run.operands) s
-  act CopyBelowNow todo s = goes todo (top (below s.run.operands) ∷ (top s.run.operands ∷ below s.run.operands)) s
+  act CopyBelowNow todo s = goes todo (top (below s.run.operands) ∷ s.run.operands) s
   act DropNow todo s = goes todo (below s.run.operands) s
   act DropBelowNow todo s = goes todo (top s.run.operands ∷ below (below s.run.operands)) s
   act StoreNow todo s =
       goes todo (below (below s.run.operands)) (in_env (written (top (below s.run.operands)) (top s.run.operands) s.env) s)
   act KeepNow todo s =
       goes todo (top s.run.operands ∷ below (below s.run.operands)) (in_env (written (top (below s.run.operands)) (top s.run.operands) s.env) s)
+  act (SetNow k) todo s = goes todo s.run.operands (in_env (written (variable_at k s) (top s.run.operands) s.env) s)
   act (Choose a b) todo s = goes (Eval (if is_zero (number (top s.run.operands)) then b else a) ∷ todo) (below s.run.operands) s
+  act (Branch a b) todo s = goes (Do (if is_zero (number (top s.run.operands)) then b else a) ∷ todo) (below s.run.operands) s
+  act TickNow todo s = Ticks (at todo s.run.operands s)
+  act (TurnNow o t e b) todo s = Ticks (at (Do b ∷ (InLoop o t e b ∷ todo)) s.run.operands s)
+  act (Arguments NoExprs) todo s = turns todo s
+  act (Arguments (MoreExprs e es)) todo s = turns (Eval e ∷ (Arguments es ∷ todo)) s
+  act (CallNow r) todo s = call_step (slice_get source.routines r) todo s
+  act (Again o t e b) todo s =
+      goes (if is_zero (number (top s.run.operands)) then todo else TurnNow o t e b ∷ todo) (below s.run.operands) s
   act (PrintNow form) todo s = print_step s.env.gathered (piece (form_number form) (number (top s.run.operands))) todo (below s.run.operands) s
   act (TextNow k) todo s = print_step s.env.gathered (piece TEXT_FORM (pos k)) todo s.run.operands s
   act GatherNow todo s = turns todo (in_env (record s.env { gathered = Some [] }) s)
@@ -404,13 +524,15 @@ module _ (source : Source) where
   act (Variables []) todo s = turns todo s
   act (Variables (d ∷ ds)) todo s = turns (ClearNow d.cell d.cells ∷ starting d.cell d.value (Variables ds ∷ todo)) s
   act (Do a) todo s = stmt_step a todo s
-  act (Rest Nil) todo s = turns todo s
-  act (Rest (Then a rest)) todo s = turns (Do a ∷ (Rest rest ∷ todo)) s
+  act (Rest ss) todo s = rest_step ss todo s
   act (Within line) todo s = turns todo s
-  act Finish todo s = return_step None s.callers s
+  act (Exit w) todo s = exit_step w todo s
+  act NoReturnNow todo s = fault NoReturn todo s.run.operands s
+  act (InLoop o t e b) todo s = turns (step_todo e (test_todo o t e b todo)) s
+  act Finish todo s = return_step nought s.callers s
 
   abbrev pub act_todo : List Todo → State → Step
-  act_todo [] s = return_step None s.callers s
+  act_todo [] s = return_step nought s.callers s
   act_todo (t ∷ todo) s = act t todo s
 
   -- the step of a state; each state has one
@@ -421,15 +543,6 @@ module _ (source : Source) where
   pub data Quietly : State → State → Type 0 where
     stay : {s : State} → Quietly s s
     more : {s t u : State} → quiet s ≡ Goes t → Quietly t u → Quietly s u
-
--- what is to do behind a routine's body: a main ends, in the line of its block
-abbrev pub behind_body : Purpose → ℕ → List Todo
-behind_body Called line = Within line ∷ []
-behind_body TaskMain line = Finish ∷ (Within line ∷ [])
-
--- what is to do as a routine begins
-abbrev pub routine_todo : Routine → List Todo
-routine_todo r = Rest r.body ∷ behind_body r.purpose r.line
 
 -- nothing is at home there
 abbrev pub no_members : Members

@@ -1,100 +1,113 @@
 -- The world that a journal leaves, what may follow in a journal, and the runs of a program.
-use Rattle.std.specs.Prelude.{◌≡◌, ℕ, ◌+◌, ◌<◌, ◌≤◌, ◌==◌, true, false, List, [], ◌∷◌, ◌++◌, Option, Some, None, map, length, if◌then◌else◌}
+use Rattle.std.specs.Prelude.{◌≡◌, ℕ, ◌+◌, ◌<◌, ◌≤◌, ◌==◌, true, false, List, [], ◌∷◌, ◌++◌, Option, Some, None, length, if◌then◌else◌}
 use Rattle.uc_meaning.specs.declared.entry.Entry.{Entry}
 use Rattle.uc_meaning.specs.declared.entry.Options.{Options}
 use Rattle.uc_meaning.specs.declared.request.Answer.{Answer}
 use Rattle.uc_meaning.specs.declared.request.Answer.TheVariants as answer
 use Rattle.uc_meaning.specs.declared.request.Asked.{Asked}
-use Rattle.uc_meaning.specs.declared.request.Request.{Request}
-use Rattle.uc_meaning.specs.declared.request.Request.TheVariants as ask
-use Rattle.uc_meaning.specs.Journal.{Journal, begin, held, holds, is_over}
+use Rattle.uc_meaning.specs.Journal.{Journal, begin, held, is_over, own_object}
+use Rattle.uc_meaning.specs.Known.{spawns, takes_out}
 use Rattle.uc_meaning.specs.Queues.{running}
+use Rattle.uc_meaning.specs.Answers.{answer_to}
 use Rattle.uc_meaning.specs.Serves.{Serves, left}
 use Rattle.uc_meaning.specs.Executions.{find}
 use Rattle.uc_tree.specs.Source.{Source, routine_of}
-use Rattle.uc_meaning.specs.Quiet.{Value, Number, State, Members, no_members, first_state}
+use Rattle.uc_meaning.specs.Quiet.{Value, Number, State, Todo, Members, no_members, first_state}
 use Rattle.uc_meaning.specs.Rides.{Rides}
 use Rattle.uc_meaning.specs.Acts.{act, dispatch, lone_limit}
 
--- a task without its hand, and the request that it has not had answered
-pub record Task : Type 0 where
-  pub state : State
-  pub asks : Option Request
-
--- all tasks, and all mutex objects with what is at home there, by their numbers
+-- each task as its last ride left it, with nothing in hand, and what is at home in each object that is made and not gone, by their numbers
 pub record World : Type 0 where
-  pub tasks : ℕ → Task
-  pub objects : ℕ → Members
+  pub tasks : ℕ → State
+  pub homes : ℕ → Option Members
 
--- the world as a run begins: task 0 at the start of its main, and object 0 without fields
+-- object 0 has no fields, and there is no other
+abbrev pub first_home : ℕ → Option Members
+first_home o = if o == 0 then Some no_members else None
+
+-- the world as a run begins: task 0 at the start of its main, and object 0
 abbrev pub first_world : Source → World
 first_world source = record {
-  tasks = λ t. record { state = first_state (routine_of source source.main) 0; asks = None };
-  objects = λ o. no_members;
+  tasks = λ t. first_state (routine_of source source.main) 0;
+  homes = first_home;
 }
 
 abbrev pub with_hand : List (ℕ × Members) → State → State
 with_hand hand s = record s { env = record s.env { hand = hand } }
 
--- the objects that a task is inside, with what is at home there
-abbrev pub hand_of : List ℕ → World → List (ℕ × Members)
-hand_of os w = map (λ o. (o, w.objects o)) os
+-- a task with nothing in hand
+abbrev pub bare : State → State
+bare s = with_hand [] s
 
--- task t with its hand
+-- the members of an object in front of others, if it has any
+abbrev pub with_home : ℕ → Option Members → List (ℕ × Members) → List (ℕ × Members)
+with_home o None hand = hand
+with_home o (Some m) hand = (o, m) ∷ hand
+
+-- what is at home in these objects, in their order
+abbrev pub hand_of : List ℕ → (ℕ → Option Members) → List (ℕ × Members)
+hand_of [] homes = []
+hand_of (o ∷ os) homes = with_home o (homes o) (hand_of os homes)
+
+-- task t with its hand: the objects that it is inside, in the order in which it entered them
 abbrev pub drawn : Journal → World → ℕ → State
-drawn j w t = with_hand (hand_of (held t j) w) (w.tasks t).state
+drawn j w t = with_hand (hand_of (held t j) w.homes) (w.tasks t)
 
-abbrev pub or_else : {X : Type 0} → Option X → X → X
-or_else None y = y
-or_else (Some x) y = x
-
--- the answer of an act that does not block its task; none for a task that ends or is blocked
-abbrev pub value_answer : List Entry → Option Answer
-value_answer [] = None
-value_answer (e ∷ a) = Some (answer.Value e.b (holds 1 e.c))
-
-abbrev pub number_answer : List Entry → Option Answer
-number_answer [] = None
-number_answer (e ∷ a) = Some (answer.Number e.b)
-
-abbrev pub answer_of : Request → List Entry → Option Answer
-answer_of (ask.Print n items) a = Some answer.Go
-answer_of (ask.Read form) a = value_answer a
-answer_of ask.Fail a = number_answer a
-answer_of ask.Slice a = Some answer.Go
-answer_of _ a = None
-
+-- a task with a new operand
 abbrev pub with_operand : Value → State → State
 with_operand v s = record s { run = record s.run { operands = v ∷ s.run.operands } }
 
--- the state that goes on with an answer: a number is its newest operand
+-- what the object that was asked for begins with, as the innermost piece tells; no piece tells of an object yet
+abbrev pub new_members : List Todo → Option Members
+new_members todo = None
+
+-- a new object is the last in hand
+abbrev pub entered : Option Members → ℕ → State → State
+entered None o s = s
+entered (Some m) o s = with_hand (s.env.hand ++ (o, m) ∷ []) s
+
+-- the state that goes on with an answer: a number is its newest operand, a new object comes into its hand
 abbrev pub answered : Answer → State → State
 answered (answer.Number n) s = with_operand (Number n) s
 answered (answer.Value n failed) s = with_operand (Number n) s
+answered (answer.Object o) s = entered (new_members s.run.control) o s
 answered _ s = s
 
--- a task that asked, with its answer if it has one
-abbrev pub asking : Request → Option Answer → State → Task
-asking r None s = record { state = s; asks = Some r }
-asking r (Some x) s = record { state = answered x s; asks = None }
+-- the main of the task that is spawned, as the innermost piece tells; no piece tells of one yet
+abbrev pub child_main : Source → List Todo → ℕ
+child_main source todo = source.main
 
--- the world after an act a of task t, which asked r in the state s
-abbrev pub world_after : List Entry → World → ℕ → State → Request → World
-world_after a w t s r = record {
-  tasks = λ u. if u == t then asking r (answer_of r a) (with_hand [] s) else w.tasks u;
-  objects = λ o. or_else (find o s.env.hand) (w.objects o);
+-- the task, with its object o, that is spawned by one in this state
+abbrev pub child_of : Source → ℕ → State → State
+child_of source o s = first_state (routine_of source (child_main source s.run.control)) o
+
+-- the first of these, if it is there, or else the second
+abbrev pub or_else : {X : Type 0} → Option X → Option X → Option X
+or_else None y = y
+or_else (Some x) y = Some x
+
+-- the world after an act a of task t, whose ride reached the state s: its hand is laid back, what the act takes out is gone
+abbrev pub world_after : Source → List Entry → World → ℕ → State → World
+world_after source a w t s = record {
+  tasks = λ u.
+      if u == t then bare s
+      else if spawns a u then child_of source (own_object u a) s
+      else w.tasks u;
+  homes = λ o. if takes_out a o then None else or_else (find o s.env.hand) (w.homes o);
 }
 
--- task t runs on p, and its ride in this world leads to the state s after these ticks and asks this
+-- task t runs on p, and from its last answer its ride in this world leads to the state s after these ticks and asks this
 pub record AsksIn (source : Source) (opts : Options) (j : Journal) (w : World) (p t ticks : ℕ) (s : State) (asked : Asked) : Type 0 where
+  pub given : Answer
   pub runs : running p j ≡ t ∷ []
-  pub rides : Rides source (drawn j w t) (left opts j t) s ticks asked
+  pub told : answer_to source.sites t j ≡ Some given
+  pub rides : Rides source (answered given (drawn j w t)) (left opts j t) s ticks asked
 
 -- the act that may follow a journal without an ending, and the world after it
 pub data May (source : Source) (opts : Options) (input : List ℕ) (j : Journal) (w : World) : List Entry → World → Type 0 where
   gives : (p t : ℕ) → Serves opts j p t → length j + 2 ≤ opts.entries → May source opts input j w (dispatch p t ∷ []) w
   no_room : (p t : ℕ) → Serves opts j p t → opts.entries < length j + 2 → May source opts input j w (lone_limit ∷ []) w
-  acts : (p t ticks : ℕ) (s : State) (asked : Asked) → AsksIn source opts j w p t ticks s asked → May source opts input j w (act opts source.sites input j p t ticks asked) (world_after (act opts source.sites input j p t ticks asked) w t s asked.request)
+  acts : (p t ticks : ℕ) (s : State) (asked : Asked) → AsksIn source opts j w p t ticks s asked → May source opts input j w (act opts source.sites input j p t ticks asked) (world_after source (act opts source.sites input j p t ticks asked) w t s)
 
 -- the journal is a prefix of a run of the program under these options, with these bytes as input, and leaves this world
 pub data Runs (source : Source) (input : List ℕ) (opts : Options) : Journal → World → Type 0 where

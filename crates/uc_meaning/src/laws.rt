@@ -1,6 +1,7 @@
 // The laws of runs: each is a function whose contract is the law.
 
 ghost use Rattle.uc_meaning.specs.Cuts.{LawCut};
+ghost use Rattle.uc_meaning.specs.Typed.{LawFit};
 ghost use Rattle.uc_meaning.specs.Laws.{LawInside, LawPlace, LawHeld, LawRoom, LawGoing, LawElsewhere, LawDispatch, LawMade, LawNew, LawMakes, LawAnswered};
 
 /// At every moment of every run of a kernel at most one task is inside an object; where an accept is open nobody is, and
@@ -63,8 +64,14 @@ pub fn law_answered()
     ensures { LawAnswered }
 {}
 
-/// The journal of a program's run has one cut into acts, where each act's request fits; and from each state a task asks
-/// one thing, after so many ticks.
+/// The journal of a program's run has one cut into acts, where each act's request fits, and fewer acts than its bound on
+/// entries; and from each state a task asks one thing, after so many ticks.
 pub fn law_cut()
     ensures { LawCut }
+{}
+
+/// Each entry of a run of a kernel is fit, where the options are in their ranges and the numbers of each request are of
+/// their types. So the text of its journal reads back as that journal.
+pub fn law_fit()
+    ensures { LawFit }
 {}

@@ -1,6 +1,7 @@
 // Samples of the definitions, which the checker works out: runs of a kernel, and rows of the table of acts.
 
 ghost use Rattle.uc_meaning.specs.Samples.{FirstProgram, AcceptedDestructor, Sliced, Unserved, CallSamples, ConditionSamples, AcceptSamples, BusySamples, EventSamples, OtherSamples, BoundSamples};
+ghost use Rattle.uc_meaning.specs.SamplePrograms.{FirstRun, LoopRun, CallRun};
 
 /// The journal of a program that prints one line is a run of a kernel.
 pub fn first_program()
@@ -55,4 +56,19 @@ pub fn others()
 /// Numbers at their bounds.
 pub fn bounds()
     ensures { BoundSamples }
+{}
+
+/// That journal is a run of that program: `cout << 3 << endl;` in its main.
+pub fn first_run()
+    ensures { FirstRun }
+{}
+
+/// The journal of a program with a loop, under a slice of two ticks, is a run of it.
+pub fn loop_run()
+    ensures { LoopRun }
+{}
+
+/// So is that of a program with two calls, of which the second divides by 0.
+pub fn call_run()
+    ensures { CallRun }
 {}
