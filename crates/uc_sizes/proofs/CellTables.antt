@@ -69,7 +69,7 @@ past_table (x ∷ xs) zero h = absurd (omega arith)
 past_table (x ∷ xs) (suc i) h = past_table xs i (omega arith)
 
 counted_case : (k : ℕ) (rows : List Row) (circles : List Bool) (cells next : List ℕ) → AreCircles rows circles (length rows) → length next ≡ length rows → Follows rows circles cells next (length rows) → Counted k rows cells → (i : ℕ) → (i < length rows) ⊎ (length rows ≤ i) → cell_at next i ≡ capped (cells_within (suc k) rows i)
-counted_case k rows circles cells next a n f c i (inl inside) = f.at i inside ∙ ap (λ b. if b then 0 else capped (row_cells (cell_at cells) (row_at rows i))) (a.at i inside) ∙ deeper_at k rows cells c i
+counted_case k rows circles cells next a n f c i (inl inside) = f.at i inside ∙ ap (λ b. if b then 0 else capped (row_cells (cell_at cells) (row_at rows i))) (a.at i inside).itself ∙ deeper_at k rows cells c i
 counted_case k rows circles cells next a n f c i (inr past) = past_table next i (omega arith) ∙ sym (past_cells (suc k) rows i past)
 
 pub counted_more : (k : ℕ) (rows : List Row) (circles : List Bool) (cells next : List ℕ) → AreCircles rows circles (length rows) → length next ≡ length rows → Follows rows circles cells next (length rows) → Counted k rows cells → Counted (suc k) rows next
@@ -115,3 +115,11 @@ follows_case rows circles cells next n x l f e i h (inr last) = let s : i ≡ n 
 
 pub follows_more : (rows : List Row) (circles : List Bool) (cells next : List ℕ) (n x : ℕ) → length next ≡ n → Follows rows circles cells next n → x ≡ next_at rows circles cells n → Follows rows circles cells (next ++ x ∷ []) (n + 1)
 follows_more rows circles cells next n x l f e = record { at = λ i h. follows_case rows circles cells next n x l f e i h (cases_lt i n) }
+
+-- a table of all classes, of which each is counted
+counted_inside : (k : ℕ) (rows : List Row) (cells : List ℕ) → length cells ≡ length rows → ((i : ℕ) → i < length rows → cell_at cells i ≡ capped (cells_within k rows i)) → (i : ℕ) → (i < length rows) ⊎ (length rows ≤ i) → cell_at cells i ≡ capped (cells_within k rows i)
+counted_inside k rows cells n all i (inl inside) = all i inside
+counted_inside k rows cells n all i (inr past) = past_table cells i (omega arith) ∙ sym (past_cells k rows i past)
+
+pub counted_in : (k : ℕ) (rows : List Row) (cells : List ℕ) → length cells ≡ length rows → ((i : ℕ) → i < length rows → cell_at cells i ≡ capped (cells_within k rows i)) → Counted k rows cells
+counted_in k rows cells n all = record { at = λ i. counted_inside k rows cells n all i (cases_lt i (length rows)) }

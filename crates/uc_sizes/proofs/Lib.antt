@@ -4,3 +4,4 @@ pub mod Reached
 pub mod Sized
 pub mod Values
 pub mod Whole
+pub mod SettledLemmas

@@ -1,11 +1,12 @@
 -- Tables of places and the lists that they were made of.
-use Rattle.std.proofs.Common.{◌≡◌, ℕ, ℤ, suc, ◌+◌, ◌-◌, ◌≤◌, ◌<◌, List, [], ◌∷◌, ◌++◌, Bool, true, false, not, Option, Some, None, if◌then◌else◌, length, length-take, take, refl, ap, sym, subst, ◌∙◌, arith, get_or, map, is_some, slice_get, true≢false}
+use Rattle.std.proofs.Common.{◌≡◌, ℕ, ℤ, suc, ◌+◌, ◌-◌, ◌≤◌, ◌<◌, List, [], ◌∷◌, ◌++◌, Bool, true, false, not, Option, Some, None, if◌then◌else◌, length, length-take, take, refl, ap, sym, subst, ◌∙◌, arith, get_or, map, is_some, slice_get, option_map, true≢false}
 use Rattle.std.specs.Prelude.{IfSome}
 use Rattle.std.proofs.lemmas.List.{length-map}
 use Rattle.std.specs.Cmp.Lexicographic.{bytes_decides}
 use Rattle.uc_tree.specs.Names.{same_name}
 use Rattle.uc_tree.specs.Numbering.{place_from}
 use Rattle.uc_tree.specs.Programs.{Class, Constant}
+use Rattle.uc_tree.specs.Constants.{constant_named}
 use Rattle.uc_tree.specs.Cells.{object_named, object_of_kind}
 use Rattle.uc_sizes.specs.Values.{value_from}
 use Rattle.uc_names.specs.Blocks.{Block, id_in, id_or, found, is_declared, declared}
@@ -139,3 +140,27 @@ module _ {A : Type 0} (f : A → Class) where
   pub object_nowhere : (xs : List A) (i : ℕ) (name : List ℕ) → place_from i (map (λ x. (f x).name) xs) name ≡ None → object_named (map f xs) i name ≡ None
   object_nowhere [] i name h = refl
   object_nowhere (x ∷ xs) i name h = nothing_case (same_name (f x).name name) x xs i name (object_nowhere xs (i + 1) name) h
+
+-- the constant of a name is that at the place of its name
+module _ {A : Type 0} (f : A → Constant) where
+  constant_case : (b : Bool) (x : A) (xs : List A) (i : ℕ) (name : List ℕ) (p : ℕ) → (place_from (i + 1) (map (λ x. (f x).name) xs) name ≡ Some p → constant_named (map f xs) name ≡ option_map f (slice_get xs (p - (i + 1)))) → (if b then Some i else place_from (i + 1) (map (λ x. (f x).name) xs) name) ≡ Some p → (if b then Some (f x) else constant_named (map f xs) name) ≡ option_map f (slice_get (x ∷ xs) (p - i))
+  constant_case true x xs i name p more h =
+      let is : i ≡ p = cc in
+      let first : p - i ≡ 0 = omega (arith, is) in
+      sym (ap (λ k. option_map f (slice_get (x ∷ xs) k)) first)
+  constant_case false x xs i name p more h =
+      let low = (place_within (i + 1) (map (λ x. (f x).name) xs) name p h).0 in
+      let next : p - i ≡ suc (p - (i + 1)) = omega (arith, low) in
+      more h ∙ sym (ap (λ k. option_map f (slice_get (x ∷ xs) k)) next)
+
+  pub constant_placed : (xs : List A) (i : ℕ) (name : List ℕ) (p : ℕ) → place_from i (map (λ x. (f x).name) xs) name ≡ Some p → constant_named (map f xs) name ≡ option_map f (slice_get xs (p - i))
+  constant_placed [] i name p h = cc
+  constant_placed (x ∷ xs) i name p h = constant_case (same_name (f x).name name) x xs i name p (constant_placed xs (i + 1) name p) h
+
+  missing_case : (b : Bool) (x : A) (xs : List A) (i : ℕ) (name : List ℕ) → (place_from (i + 1) (map (λ x. (f x).name) xs) name ≡ None → constant_named (map f xs) name ≡ None) → (if b then Some i else place_from (i + 1) (map (λ x. (f x).name) xs) name) ≡ None → (if b then Some (f x) else constant_named (map f xs) name) ≡ None
+  missing_case true x xs i name more h = cc
+  missing_case false x xs i name more h = more h
+
+  pub constant_missing : (xs : List A) (i : ℕ) (name : List ℕ) → place_from i (map (λ x. (f x).name) xs) name ≡ None → constant_named (map f xs) name ≡ None
+  constant_missing [] i name h = refl
+  constant_missing (x ∷ xs) i name h = missing_case (same_name (f x).name name) x xs i name (constant_missing xs (i + 1) name) h

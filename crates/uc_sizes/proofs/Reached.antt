@@ -5,8 +5,8 @@ use Rattle.std.specs.List.{list_any}
 use Rattle.std.proofs.lemmas.List.{get_or-set_other}
 use Rattle.uc_tree.specs.declared.rows.Object.{Object}
 use Rattle.uc_tree.specs.declared.rows.Held.{Held}
-use Rattle.uc_tree.specs.Rows.{Row, row_at, leads, object_leads, reaches, has_itself}
-use Rattle.uc_sizes.specs.Reached.{flag_at, flagged, row_leads, Led, Told, AreCircles}
+use Rattle.uc_tree.specs.Rows.{Row, row_at, leads, object_leads, reaches}
+use Rattle.uc_sizes.specs.Reached.{flag_at, flagged, row_leads, Led, Told, IsCircle, AreCircles, Reaching}
 
 or_true : (a b c d : Bool) → (a ≡ true → c ≡ true) → (b ≡ true → d ≡ true) → (a || b) ≡ true → (c || d) ≡ true
 or_true true b c d h k e = let t : c ≡ true = h refl in rw t refl
@@ -34,7 +34,7 @@ much_further : (m k : ℕ) (rows : List Row) (to from : ℕ) → reaches k rows 
 much_further zero k rows to from e = let z : 0 + k ≡ k = omega arith in rw z e
 much_further (suc m) k rows to from e = let z : suc m + k ≡ suc (m + k) = omega arith in rw z (further (m + k) rows to from (much_further m k rows to from e))
 
-flagged_more : (fs : List Bool) (i : ℕ) → i < length fs → flag_at fs i ≡ false → flagged (set fs i true) ≡ suc (flagged fs)
+pub flagged_more : (fs : List Bool) (i : ℕ) → i < length fs → flag_at fs i ≡ false → flagged (set fs i true) ≡ suc (flagged fs)
 flagged_more [] i h e = absurd (omega arith)
 flagged_more (false ∷ fs) zero h e = omega arith
 flagged_more (true ∷ fs) zero h e = cc
@@ -78,13 +78,25 @@ same_truth true b h k = sym (h refl)
 same_truth false true h k = k refl
 same_truth false false h k = refl
 
-pub itself : (rows : List Row) (to : ℕ) (fs : List Bool) → length fs ≡ length rows → Led rows to fs → Told rows to fs (length rows) → flag_at fs to ≡ has_itself rows to
-itself rows to fs n l t =
+pub reached : (rows : List Row) (to : ℕ) (fs : List Bool) → length fs ≡ length rows → Led rows to fs → Told rows to fs (length rows) → Reaching rows to fs
+reached rows to fs n l t =
     let fits : flagged fs ≤ length rows = omega (arith, flagged_fits fs) in
     let e : length rows - flagged fs + flagged fs ≡ length rows = omega arith in
-    same_truth (flag_at fs to) (reaches (length rows) rows to to)
-    (λ f. rw e at (much_further (length rows - flagged fs) (flagged fs) rows to to (l.at to f)))
-    (λ r. all_told (length rows) rows to fs t to r)
+    record {
+      at = λ j. same_truth (flag_at fs j) (reaches (length rows) rows to j)
+          (λ f. rw e at (much_further (length rows - flagged fs) (flagged fs) rows to j (l.at j f)))
+          (λ r. all_told (length rows) rows to fs t j r);
+    }
+
+not_true : (b : Bool) → (b ≡ true → ⊥) → b ≡ false
+not_true true h = absurd (h refl)
+not_true false h = refl
+
+pub itself : (rows : List Row) (to : ℕ) (fs : List Bool) → length fs ≡ length rows → Led rows to fs → Told rows to fs (length rows) → IsCircle rows to (flag_at fs to)
+itself rows to fs n l t = record {
+  itself = (reached rows to fs n l t).at to;
+  never = λ none steps. not_true (reaches steps rows to to) (λ r. let f : flag_at fs to ≡ true = all_told steps rows to fs t to r in cc);
+}
 
 -- the flags of all classes, and of none beyond the last
 
@@ -98,9 +110,12 @@ unfolding reaches
 past_reaches zero rows to j h = refl
 past_reaches (suc k) rows to j h = past_empty rows j (leads (reaches k rows to) to) h
 
-circle_case : (rows : List Row) (circles : List Bool) → length circles ≡ length rows → AreCircles rows circles (length rows) → (i : ℕ) → (i < length rows) ⊎ (length rows ≤ i) → flag_at circles i ≡ has_itself rows i
+circle_case : (rows : List Row) (circles : List Bool) → length circles ≡ length rows → AreCircles rows circles (length rows) → (i : ℕ) → (i < length rows) ⊎ (length rows ≤ i) → IsCircle rows i (flag_at circles i)
 circle_case rows circles n a i (inl inside) = a.at i inside
-circle_case rows circles n a i (inr past) = past_flag circles i (omega arith) ∙ sym (past_reaches (length rows) rows i i past)
+circle_case rows circles n a i (inr past) = record {
+  itself = past_flag circles i (omega arith) ∙ sym (past_reaches (length rows) rows i i past);
+  never = λ none steps. past_reaches steps rows i i past;
+}
 
-pub circle_at : (rows : List Row) (circles : List Bool) → length circles ≡ length rows → AreCircles rows circles (length rows) → (i : ℕ) → flag_at circles i ≡ has_itself rows i
+pub circle_at : (rows : List Row) (circles : List Bool) → length circles ≡ length rows → AreCircles rows circles (length rows) → (i : ℕ) → IsCircle rows i (flag_at circles i)
 circle_at rows circles n a i = circle_case rows circles n a i (cases_lt i (length rows))

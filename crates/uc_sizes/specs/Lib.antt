@@ -6,3 +6,4 @@ pub mod Reached
 pub mod Reckoned
 pub mod Sized
 pub mod Values
+pub mod Settled

@@ -1,5 +1,5 @@
 -- Which classes have a class in their fields: how far a table of flags has come.
-use Rattle.std.specs.Prelude.{◌≡◌, ℕ, ◌+◌, ◌<◌, List, [], ◌∷◌, Bool, true, false, get_or}
+use Rattle.std.specs.Prelude.{◌≡◌, ℕ, ◌+◌, ◌<◌, List, [], ◌∷◌, Bool, true, false, get_or, length}
 use Rattle.std.specs.List.{list_any}
 use Rattle.uc_tree.specs.Rows.{Row, row_at, leads, reaches, has_itself}
 
@@ -24,6 +24,15 @@ pub record Led (rows : List Row) (to : ℕ) (flags : List Bool) : Type 0 where
 pub record Told (rows : List Row) (to : ℕ) (flags : List Bool) (n : ℕ) : Type 0 where
   pub at : (j : ℕ) → j < n → row_leads rows flags to j ≡ true → flag_at flags j ≡ true
 
+-- whether a class has itself in its fields; of one that has not no way comes back, however long
+pub record IsCircle (rows : List Row) (class : ℕ) (flag : Bool) : Type 0 where
+  pub itself : flag ≡ has_itself rows class
+  pub never : flag ≡ false → (steps : ℕ) → reaches steps rows class class ≡ false
+
 -- which classes have themselves in their fields
 pub record AreCircles (rows : List Row) (flags : List Bool) (n : ℕ) : Type 0 where
-  pub at : (j : ℕ) → j < n → flag_at flags j ≡ has_itself rows j
+  pub at : (j : ℕ) → j < n → IsCircle rows j (flag_at flags j)
+
+-- which classes have the class `to` in their fields
+pub record Reaching (rows : List Row) (to : ℕ) (flags : List Bool) : Type 0 where
+  pub at : (j : ℕ) → flag_at flags j ≡ reaches (length rows) rows to j

@@ -3,15 +3,16 @@ use Rattle.std.specs.Prelude.{◌≡◌, ℕ, ℤ, List, Option, Bool}
 use Rattle.uc_tree.specs.Capped.{capped}
 use Rattle.uc_tree.specs.Programs.{Class, Constant, Program}
 use Rattle.uc_tree.specs.Constants.{constants_of, value_of_name}
-use Rattle.uc_tree.specs.Rows.{has_itself}
+use Rattle.uc_tree.specs.Rows.{Row}
 use Rattle.uc_tree.specs.Cells.{classes_of, rows_of, class_cells}
 use Rattle.uc_sizes.specs.Values.{value_at}
-use Rattle.uc_sizes.specs.Reached.{flag_at}
+use Rattle.uc_sizes.specs.Reached.{flag_at, IsCircle}
 use Rattle.uc_sizes.specs.CellTables.{cell_at}
 
-pub record IsSized (p : Program) (classes : List Class) (constants : List Constant) (values : List (Option ℤ)) (circles : List Bool) (cells : List ℕ) : Type 0 where
+pub record IsSized (p : Program) (classes : List Class) (constants : List Constant) (values : List (Option ℤ)) (rows : List Row) (circles : List Bool) (cells : List ℕ) : Type 0 where
   pub classes_are : classes ≡ classes_of p.items
   pub constants_are : constants ≡ constants_of p.items
   pub values_are : value_at constants values ≡ value_of_name constants
-  pub circles_are : (i : ℕ) → flag_at circles i ≡ has_itself (rows_of p) i
+  pub rows_are : rows ≡ rows_of p
+  pub circles_are : (i : ℕ) → IsCircle (rows_of p) i (flag_at circles i)
   pub cells_are : (i : ℕ) → cell_at cells i ≡ capped (class_cells p i)

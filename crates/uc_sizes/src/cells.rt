@@ -1,11 +1,13 @@
 // The cells of classes. Sums stand still at the greatest number.
 
-ghost use Rattle.std.specs.Prelude.{◌≡◌, ◌<◌, ◌↔◌, IfOk, IsTrue, length};
+ghost use Rattle.std.specs.Prelude.{◌≡◌, ◌<◌, ◌↔◌, ℕ, IfOk, IsTrue, length, true};
 ghost use Rattle.uc_tree.specs.Capped.{capped};
 ghost use Rattle.uc_tree.specs.Rows.{element_cells, held_cells, row_cells};
-ghost use Rattle.uc_sizes.specs.Reached.{AreCircles};
+ghost use Rattle.uc_sizes.specs.Reached.{AreCircles, flag_at};
+ghost use Rattle.uc_sizes.specs.Settled.{Settled};
 ghost use Rattle.uc_sizes.specs.CellTables.{cell_at, Follows, Counted};
 
+use crate::settle::Settlement;
 use std::alloc::{AllocError, Global};
 use uc_tree::rows::{Held, Object, Row};
 
@@ -33,7 +35,8 @@ fn held_cells(cells: &[u64], held: &Held) -> u64
     u64::from(held.count).saturating_mul(element_cells(cells, held.object))
 }
 
-fn row_cells(cells: &[u64], row: &Row) -> u64
+/// The cells of a class, by a table of those of the classes of its fields.
+pub fn row_cells(cells: &[u64], row: &Row) -> u64
     ensures { result ≡ capped (row_cells (cell_at cells.now) row.now) }
 {
     let mut sum = u64::from(row.leading);
@@ -71,8 +74,8 @@ fn is_same(a: &[u64], b: &[u64]) -> bool
     a == b
 }
 
-/// The cells of each class, of which these have themselves in their fields.
-pub fn cells_of(alloc: Global, rows: &[Row], circles: &[bool]) -> Result<Vec<u64>, AllocError>
+// The cells of each class, of which these have themselves in their fields, counted deeper and deeper.
+fn counted_cells(alloc: Global, rows: &[Row], circles: &[bool]) -> Result<Vec<u64>, AllocError>
     requires full { length circles.now ≡ length rows.now }
     requires flags { AreCircles rows.now circles.now (length rows.now) }
     ensures { IfOk result (λ v. Counted (length rows.now) rows.now v.items) }
@@ -85,5 +88,37 @@ pub fn cells_of(alloc: Global, rows: &[Row], circles: &[bool]) -> Result<Vec<u64
         }
         cells = next;
     }
+    Ok(cells)
+}
+
+fn are_all(flags: &[bool]) -> bool
+    ensures { IsTrue result → (i : ℕ) → i < length flags.now → flag_at flags.now i ≡ true }
+{
+    for flag in flags {
+        if !*flag {
+            return false;
+        }
+    }
+    true
+}
+
+/// The cells of each class, of which these have themselves in their fields.
+pub fn cells_of(
+    alloc: Global,
+    rows: &[Row],
+    circles: &[bool],
+    settled: Settlement,
+) -> Result<Vec<u64>, AllocError>
+    requires full { length circles.now ≡ length rows.now }
+    requires flags { AreCircles rows.now circles.now (length rows.now) }
+    requires settled { Settled rows.now settled.flags.items settled.cells.items }
+    requires settled_flags { length settled.flags.items ≡ length rows.now }
+    requires settled_cells { length settled.cells.items ≡ length rows.now }
+    ensures { IfOk result (λ v. Counted (length rows.now) rows.now v.items) }
+{
+    if are_all(&settled.flags) {
+        return Ok(settled.cells);
+    }
+    let cells = counted_cells(alloc, rows, circles)?;
     Ok(cells)
 }

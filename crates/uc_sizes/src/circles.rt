@@ -2,9 +2,11 @@
 
 ghost use Rattle.std.specs.Prelude.{◌≡◌, ◌<◌, IfOk, IsTrue, IsFalse, length, true};
 ghost use Rattle.std.specs.List.{list_any};
-ghost use Rattle.uc_tree.specs.Rows.{leads, has_itself};
-ghost use Rattle.uc_sizes.specs.Reached.{flag_at, flagged, row_leads, Led, Told, AreCircles};
+ghost use Rattle.uc_tree.specs.Rows.{leads};
+ghost use Rattle.uc_sizes.specs.Reached.{flag_at, flagged, row_leads, AreCircles, IsCircle, Led, Reaching, Told};
+ghost use Rattle.uc_sizes.specs.Settled.{Settled};
 
+use crate::settle::Settlement;
 use std::alloc::{AllocError, Global};
 use uc_tree::rows::{Held, Row};
 
@@ -64,8 +66,8 @@ fn mark_all(rows: &[Row], flags: &mut [bool], to: usize) -> bool
     changed
 }
 
-// For each class the classes that have a field of it.
-fn holders_of(alloc: Global, rows: &[Row]) -> Result<Vec<Vec<usize>>, AllocError> {
+/// For each class the classes that have a field of it.
+pub fn holders_of(alloc: Global, rows: &[Row]) -> Result<Vec<Vec<usize>>, AllocError> {
     let mut holders = Vec::new(alloc);
     for _row in rows {
         holders.push(Vec::new(alloc))?;
@@ -142,14 +144,16 @@ fn first_flags(
     Ok(flags)
 }
 
-fn has_itself(
+// The flags of the classes that have this one in their fields.
+fn flags_to(
     alloc: Global,
     rows: &[Row],
     holders: &[Vec<usize>],
     class: usize,
-) -> Result<bool, AllocError>
-    requires { class < length rows.now }
-    ensures { IfOk result (λ b. b ≡ has_itself rows.now class) }
+) -> Result<Vec<bool>, AllocError>
+    ensures full { IfOk result (λ v. length v.items ≡ length rows.now) }
+    ensures led { IfOk result (λ v. Led rows.now class v.items) }
+    ensures told { IfOk result (λ v. Told rows.now class v.items (length rows.now)) }
 {
     let mut flags = first_flags(alloc, rows, holders, class)?;
     'sweeps: loop {
@@ -157,19 +161,71 @@ fn has_itself(
             break;
         }
     }
+    Ok(flags)
+}
+
+fn has_itself(
+    alloc: Global,
+    rows: &[Row],
+    holders: &[Vec<usize>],
+    class: usize,
+) -> Result<bool, AllocError>
+    requires { class < length rows.now }
+    ensures { IfOk result (λ b. IsCircle rows.now class b) }
+{
+    let flags = flags_to(alloc, rows, holders, class)?;
     let found = flags[class];
     Ok(found)
 }
 
+fn circle_of(
+    alloc: Global,
+    rows: &[Row],
+    holders: &[Vec<usize>],
+    settled: &Settlement,
+    class: usize,
+) -> Result<bool, AllocError>
+    requires inside { class < length rows.now }
+    requires settled { Settled rows.now settled.now.flags.items settled.now.cells.items }
+    ensures { IfOk result (λ b. IsCircle rows.now class b) }
+{
+    if flag_at(&settled.flags, class) {
+        return Ok(false);
+    }
+    let found = has_itself(alloc, rows, holders, class)?;
+    Ok(found)
+}
+
 /// For each class whether it has itself in its fields, directly or through others.
-pub fn circles_of(alloc: Global, rows: &[Row]) -> Result<Vec<bool>, AllocError>
+pub fn circles_of(
+    alloc: Global,
+    rows: &[Row],
+    holders: &[Vec<usize>],
+    settled: &Settlement,
+) -> Result<Vec<bool>, AllocError>
+    requires settled { Settled rows.now settled.now.flags.items settled.now.cells.items }
     ensures full { IfOk result (λ v. length v.items ≡ length rows.now) }
     ensures flags { IfOk result (λ v. AreCircles rows.now v.items (length rows.now)) }
 {
-    let holders = holders_of(alloc, rows)?;
     let mut circles = Vec::new(alloc);
     for class in 0..rows.len() {
-        circles.push(has_itself(alloc, rows, &holders, class)?)?;
+        circles.push(circle_of(alloc, rows, holders, settled, class)?)?;
     }
     Ok(circles)
+}
+
+/// The flag at a place; false beyond the last.
+pub fn flag_at(flags: &[bool], place: usize) -> bool
+    ensures { result ≡ flag_at flags.now place }
+{
+    place < flags.len() && flags[place]
+}
+
+/// Which classes have this one in their fields, directly or through others.
+pub fn reaching(alloc: Global, rows: &[Row], class: usize) -> Result<Vec<bool>, AllocError>
+    ensures { IfOk result (λ v. Reaching rows.now class v.items) }
+{
+    let holders = holders_of(alloc, rows)?;
+    let flags = flags_to(alloc, rows, &holders, class)?;
+    Ok(flags)
 }

@@ -1,84 +1,16 @@
 // The values of constant expressions.
 
-ghost use Rattle.std.specs.Prelude.{◌≡◌, ◌+ℤ◌, ◌-ℤ◌, ◌*ℤ◌, neg_ℤ};
-ghost use Rattle.uc_tree.specs.Constants.{int_value, unary_value, binary_value, converted, value_in, link_value_in, chain_value_in};
+ghost use Rattle.std.specs.Prelude.{◌≡◌};
+ghost use Rattle.uc_tree.specs.Constants.{unary_value, binary_value, converted, value_in, link_value_in, chain_value_in};
 ghost use Rattle.uc_tree.specs.Expressions.{links_of};
 ghost use Rattle.uc_sizes.specs.Values.{seen_by};
 
 use crate::named::{NameValues, Named};
 use uc_tree::expr::{Expr, ExprForm, Link};
+use uc_tree::int::{difference, int_of, negated, product, quotient, remainder, sum};
 use uc_tree::kinds::Base;
-use uc_tree::limits::{CHAR_VALUES, INT_MAX, INT_MIN};
+use uc_tree::limits::CHAR_VALUES;
 use uc_tree::ops::{BinaryOp, UnaryOp};
-
-/// The number where it is an `int`.
-pub fn int_of(number: i64) -> Option<i64>
-    ensures { result ≡ int_value number }
-{
-    if INT_MIN <= number && number <= INT_MAX {
-        Some(number)
-    } else {
-        None
-    }
-}
-
-fn sum(x: i64, y: i64) -> Option<i64>
-    ensures { result ≡ int_value (x +ℤ y) }
-{
-    match x.checked_add(y) {
-        Some(number) => int_of(number),
-        None => None,
-    }
-}
-
-fn difference(x: i64, y: i64) -> Option<i64>
-    ensures { result ≡ int_value (x -ℤ y) }
-{
-    match x.checked_sub(y) {
-        Some(number) => int_of(number),
-        None => None,
-    }
-}
-
-fn product(x: i64, y: i64) -> Option<i64>
-    ensures { result ≡ int_value (x *ℤ y) }
-{
-    match x.checked_mul(y) {
-        Some(number) => int_of(number),
-        None => None,
-    }
-}
-
-fn quotient(x: i64, y: i64) -> Option<i64>
-    ensures { result ≡ binary_value BinaryOp.Div x y }
-{
-    match x.checked_div(y) {
-        Some(number) => int_of(number),
-        None => None,
-    }
-}
-
-fn remainder(x: i64, y: i64) -> Option<i64>
-    ensures { result ≡ binary_value BinaryOp.Rem x y }
-{
-    // The remainder by -1 is 0, which the checked one does not say of the least number.
-    if y == -1 {
-        return Some(0);
-    }
-    match x.checked_rem(y) {
-        Some(number) => int_of(number),
-        None => None,
-    }
-}
-
-fn negated(x: i64) -> Option<i64>
-    ensures { result ≡ int_value (neg_ℤ x) }
-{
-    match x.checked_neg() {
-        Some(number) => int_of(number),
-        None => None,
-    }
-}
 
 /// The value of an operator on one constant.
 pub fn unary_of(op: UnaryOp, x: i64) -> Option<i64>

@@ -11,5 +11,6 @@ pub mod lists;
 pub mod named;
 mod order;
 pub mod places;
+pub mod settle;
 pub mod sizes;
 pub mod tables;

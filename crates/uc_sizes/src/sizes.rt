@@ -1,21 +1,23 @@
 // The cells of a program's classes and routines.
 
-ghost use Rattle.std.specs.Prelude.{◌≡◌, IfOk, map};
+ghost use Rattle.std.specs.Prelude.{◌≡◌, ℕ, IfOk, false, map, option_map, slice_get};
 ghost use Rattle.uc_tree.specs.Capped.{capped};
 ghost use Rattle.uc_tree.specs.Cells.{class_cells, classes_of, declared_cells, held_by, object_of, param_cells, rows_of, seen_in};
-ghost use Rattle.uc_tree.specs.Rows.{element_cells, has_itself};
+ghost use Rattle.uc_tree.specs.Rows.{element_cells, has_itself, reaches};
+ghost use Rattle.uc_sizes.specs.Reached.{IsCircle, Reaching};
 ghost use Rattle.uc_sizes.specs.Known.{known_by};
 ghost use Rattle.uc_sizes.specs.Places.{IsPlaces};
 ghost use Rattle.uc_sizes.specs.Held.{rows_by};
-ghost use Rattle.uc_tree.specs.Constants.{constants_of, elements, value_of_name};
+ghost use Rattle.uc_tree.specs.Constants.{constant_named, constants_of, elements, value_of_name};
 
 use crate::cells::{cells_of, element_cells};
-use crate::circles::circles_of;
+use crate::circles::{circles_of, flag_at, holders_of, reaching};
 use crate::held::{elements_of, held_by, object_of, rows_of};
 use crate::known::Shown;
 use crate::lists::{classes_in, constants_in};
 use crate::named::NameValues;
-use crate::places::{Classes, Known, places_of_classes, places_of_constants};
+use crate::places::{Classes, Known, place_in, places_of_classes, places_of_constants};
+use crate::settle::settle_classes;
 use crate::tables::values_of;
 use std::alloc::{AllocError, Global};
 use std::marker::Model;
@@ -37,6 +39,7 @@ pub struct Sizes<'a> {
     constants: Vec<&'a Constant>,
     constant_places: Scope,
     values: Vec<Option<i64>>,
+    rows: Vec<Row>,
     circles: Vec<bool>,
     cells: Vec<u64>,
 }
@@ -54,7 +57,7 @@ impl<'a> Model for Sizes<'a> {
 
     ghost view = { λ a. a.program.now };
 
-    ghost invariant = { λ a. IsSized a.program.now (map (λ c. c.now) a.classes.items) (map (λ c. c.now) a.constants.items) a.values.items a.circles.items a.cells.items × IsPlaces (map (λ c. c.now.name) a.classes.items) a.class_places × IsPlaces (map (λ c. c.now.name) a.constants.items) a.constant_places };
+    ghost invariant = { λ a. IsSized a.program.now (map (λ c. c.now) a.classes.items) (map (λ c. c.now) a.constants.items) a.values.items a.rows.items a.circles.items a.cells.items × IsPlaces (map (λ c. c.now.name) a.classes.items) a.class_places × IsPlaces (map (λ c. c.now.name) a.constants.items) a.constant_places };
 }
 
 // What each of these classes holds.
@@ -83,6 +86,12 @@ fn rows_in<'x, 'y>(
     Ok(rows)
 }
 
+fn constant_at<'a>(constants: &[&'a Constant], place: usize) -> Option<&'a Constant>
+    ensures { result ≡ slice_get constants.now place }
+{
+    constants.get(place).copied()
+}
+
 impl<'a> Sizes<'a> {
     /// What is to be known of a program.
     pub fn new(alloc: Global, program: &'a Program) -> Result<Sizes<'a>, AllocError>
@@ -101,8 +110,10 @@ impl<'a> Sizes<'a> {
             &constant_places,
             &values,
         )?;
-        let circles = circles_of(alloc, &rows)?;
-        let cells = cells_of(alloc, &rows, &circles)?;
+        let holders = holders_of(alloc, &rows)?;
+        let settled = settle_classes(alloc, &rows, &holders)?;
+        let circles = circles_of(alloc, &rows, &holders, &settled)?;
+        let cells = cells_of(alloc, &rows, &circles, settled)?;
         Ok(Sizes {
             program,
             classes,
@@ -110,6 +121,7 @@ impl<'a> Sizes<'a> {
             constants,
             constant_places,
             values,
+            rows,
             circles,
             cells,
         })
@@ -130,9 +142,26 @@ impl<'a> Sizes<'a> {
     /// Whether the class with this place among the classes of the program, events included, has itself in its fields, directly
     /// or through others; false beyond the last.
     pub fn has_itself(&self, place: usize) -> bool
-        ensures { result ≡ has_itself (rows_of self.now) place }
+        ensures itself { result ≡ has_itself (rows_of self.now) place }
+        ensures never { result ≡ false → (steps : ℕ) → reaches steps (rows_of self.now) place place ≡ false }
     {
-        place < self.circles.len() && self.circles[place]
+        let found = self.circle_at(place);
+        found
+    }
+
+    fn circle_at(&self, place: usize) -> bool
+        ensures { IsCircle (rows_of self.now) place result }
+    {
+        let found = flag_at(&self.circles, place);
+        found
+    }
+
+    /// Which classes have the class with this place in their fields, directly or through others, by their places.
+    pub fn holders(&self, alloc: Global, place: usize) -> Result<Vec<bool>, AllocError>
+        ensures { IfOk result (λ v. Reaching (rows_of self.now) place v.items) }
+    {
+        let flags = reaching(alloc, &self.rows, place)?;
+        Ok(flags)
     }
 
     /// The value of a constant, none where no constant of the name has one.
@@ -141,6 +170,16 @@ impl<'a> Sizes<'a> {
     {
         let value = self.known().value(name);
         value
+    }
+
+    /// The constant of a name, none where no constant has it.
+    pub fn constant(&self, name: &Name) -> Option<&Constant>
+        ensures { option_map (λ c. c.now) result ≡ constant_named (constants_of self.now.items) name.now }
+    {
+        match place_in(&self.constant_places, name) {
+            Some(place) => constant_at(&self.constants, place),
+            None => None,
+        }
     }
 
     /// How many elements a declarator of a class declares, whose members hide constants of their names.
@@ -187,7 +226,8 @@ impl<'a> Sizes<'a> {
         held_by(&self.classes(), &self.known(), base, declarator)
     }
 
-    fn object(&self, base: &Base) -> Option<Object>
+    /// The class whose objects a base names, and whether one has the cells of its class.
+    pub fn object(&self, base: &Base) -> Option<Object>
         ensures { result ≡ object_of (classes_of self.now.items) base.now }
     {
         object_of(&self.classes(), base)

@@ -19,9 +19,9 @@ invariant_of-result c =
     ∙ ap (λ l. rows_by (map (λ k. k.now) l) (map (λ k. k.now) c.deref-7.result.now) c.deref-8.result.now) c.deref-6.ensures.value
     ∙ ap (λ l. rows_by (map (λ k. k.now) c.in_ok-classes.classes.items) (map (λ k. k.now) l) c.deref-8.result.now) c.deref-7.ensures.value
     ∙ ap (λ l. rows_by (map (λ k. k.now) c.in_ok-classes.classes.items) (map (λ k. k.now) c.in_ok-constants.constants.items) l) c.deref-8.ensures.value in
-    let full : length c.in_ok-circles.circles.items ≡ length c.in_ok-rows.rows.items = c.in_ok-circles.ensures.full ∙ ap (λ l. length l) c.deref-9.ensures.value in
-    let flags : AreCircles c.in_ok-rows.rows.items c.in_ok-circles.circles.items (length c.in_ok-rows.rows.items) = subst (λ l. AreCircles l c.in_ok-circles.circles.items (length l)) c.deref-9.ensures.value c.in_ok-circles.ensures.flags in
-    let counted : Counted (length c.in_ok-rows.rows.items) c.in_ok-rows.rows.items c.in_ok-cells.cells.items = subst (λ l. Counted (length l) l c.in_ok-cells.cells.items) c.deref-10.ensures.value c.in_ok-cells.ensures in
+    let full : length c.in_ok-circles.circles.items ≡ length c.in_ok-rows.rows.items = c.in_ok-circles.ensures.full ∙ ap (λ l. length l) c.deref-12.ensures.value in
+    let flags : AreCircles c.in_ok-rows.rows.items c.in_ok-circles.circles.items (length c.in_ok-rows.rows.items) = subst (λ l. AreCircles l c.in_ok-circles.circles.items (length l)) c.deref-12.ensures.value c.in_ok-circles.ensures.flags in
+    let counted : Counted (length c.in_ok-rows.rows.items) c.in_ok-rows.rows.items c.in_ok-cells.cells.items = subst (λ l. Counted (length l) l c.in_ok-cells.cells.items) c.deref-14.ensures.value c.in_ok-cells.ensures in
     let classes_placed = subst (λ l. IsPlaces (map (λ b. b.now.name) l) c.in_ok-class_places.class_places) c.deref-3.ensures.value c.in_ok-class_places.ensures in
     let constants_placed = subst (λ l. IsPlaces (map (λ b. b.now.name) l) c.in_ok-constant_places.constant_places) c.deref-4.ensures.value c.in_ok-constant_places.ensures in
     (sized c.args.program.now (map (λ k. k.now) c.in_ok-classes.classes.items) (map (λ k. k.now) c.in_ok-constants.constants.items) c.in_ok-values.values.items c.in_ok-rows.rows.items c.in_ok-circles.circles.items c.in_ok-cells.cells.items classes constants values rows full flags counted, classes_placed, constants_placed)

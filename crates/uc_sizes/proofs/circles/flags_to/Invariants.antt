@@ -1,6 +1,6 @@
 use Rattle.std.proofs.Common.{◌≡◌, ◌-◌, length}
 use Rattle.uc_sizes.specs.Reached.{Led, flagged}
-use Rattle.uc_sizes.proofs.circles.has_itself.Given as goal
+use Rattle.uc_sizes.proofs.circles.flags_to.Given as goal
 
 abbrev pub invariant-sweeps : goal.invariant-sweeps
 invariant-sweeps l = (length l.flags.items ≡ length l.rows) × Led l.rows l.class l.flags.items
