@@ -1,3 +1,4 @@
 pub mod Loops
-pub mod Named
 pub mod Noted
+pub mod Placed
+pub mod Stacks

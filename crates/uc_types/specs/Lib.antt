@@ -1,2 +1,5 @@
 pub mod Told
 pub mod Tabled
+pub mod Listings
+pub mod Lengths
+pub mod Stacked

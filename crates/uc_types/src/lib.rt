@@ -2,9 +2,12 @@
 #![tactic(auto)]
 
 pub mod ask;
+pub mod bases;
+pub mod directory;
 pub mod entity;
 pub mod expr;
 pub mod found;
+pub mod listing;
 pub mod names;
 pub mod sort;
 pub mod spans;

@@ -1,21 +1,25 @@
 // The names in scope at a place in a program, and what stands round it.
 
-ghost use Rattle.std.specs.Prelude.{◌≡◌, None, OnOk, Some, drop, if◌then◌else◌, length, take};
+ghost use Rattle.std.specs.Prelude.{◌≡◌, ◌++◌, ◌∷◌, [], IfOk, None, OnErr, OnOk, Some, drop, if◌then◌else◌, length, take};
 ghost use Rattle.std.specs.List.{list_any};
 ghost use Rattle.uc_tree.specs.Constants.{chain_value_in, length_in, link_value_in, value_in};
 ghost use Rattle.uc_tree.specs.Expressions.{links_of};
 ghost use Rattle.uc_tree.specs.Names.{same_name};
 ghost use Rattle.uc_tree.specs.Numbering.{main_name};
+ghost use Rattle.uc_types.specs.Stacked.{stacked};
 ghost use Rattle.uc_meaning.specs.Scopes.{caught_entity, declared, is_hidden, is_own, local_named, main_meant, named, named_behind, opened, own_named, param_seen, plain_env, seen_as, value_named, with_around, with_caught, with_param, with_seen};
 
+use crate::directory::meant_at;
 use crate::tables::Tables;
 use std::alloc::{AllocError, Global};
 use std::marker::Model;
 use uc_meaning::rules::{Around, Entity, Meant, Origin, Seen};
-use uc_sizes::eval::{binary_of, int_of, unary_of};
+use uc_names::scope::Scope;
+use uc_sizes::eval::{binary_of, unary_of};
 use uc_sizes::held::sound_length;
 use uc_tree::declare::Declarator;
 use uc_tree::expr::{Expr, ExprForm, Link};
+use uc_tree::int::int_of;
 use uc_tree::kinds::{Base, Param};
 use uc_tree::name::Name;
 
@@ -28,18 +32,23 @@ pub struct Names<'a> {
     around: Around,
     names: Vec<Seen>,
     outside: usize,
+    places: Scope,
 }
 
 impl<'a> Model for Names<'a> {
     ghost use Rattle.std.specs.Coded.{codes};
     ghost use Rattle.uc_tree.specs.ProgramCodes.{program_coded};
+    ghost use Rattle.std.specs.Prelude.{◌≡◌, []};
     ghost use Rattle.uc_meaning.specs.Scopes.{Env};
+    ghost use Rattle.uc_types.specs.Stacked.{stacked};
 
     ghost Value = { Env };
 
     ghost coded = { Prim.hlevel (codes, program_coded) };
 
     ghost view = { λ a. record { program = a.tables.now; around = a.around; names = a.names.items; outside = a.outside } };
+
+    ghost invariant = { λ a. a.places ≡ stacked 0 a.names.items [] };
 }
 
 /// A scope to come back to.
@@ -62,6 +71,7 @@ impl<'a> Names<'a> {
             around,
             names,
             outside: 0,
+            places: Scope::new(alloc),
         }
     }
 
@@ -94,7 +104,7 @@ impl<'a> Names<'a> {
     fn local_named(&self, name: &Name) -> Option<Meant>
         ensures { result ≡ local_named self.now.names name.now }
     {
-        find(&self.names, name)
+        find(&self.names, &self.places, name)
     }
 
     fn own_named(&self, name: &Name) -> Option<Meant>
@@ -149,14 +159,13 @@ impl<'a> Names<'a> {
     pub fn is_own(&self, name: &Name) -> bool
         ensures { result ≡ is_own self.now name.now }
     {
-        has_behind(&self.names, self.outside, name)
+        has_behind(&self.names, &self.places, self.outside, name)
     }
 
     fn push(&mut self, name: &Name, meant: Meant) -> Result<(), AllocError>
         ensures { OnOk result (self.new ≡ with_seen self.old (record { name = name.now; meant = meant })) }
     {
-        let name = name.copy(self.alloc)?;
-        self.names.push(Seen { name, meant })?;
+        push_seen(self.alloc, &mut self.names, &mut self.places, name, meant)?;
         Ok(())
     }
 
@@ -263,7 +272,7 @@ impl<'a> Names<'a> {
     pub fn close(&mut self, mark: Mark)
         ensures { self.new ≡ record { program = self.old.program; around = mark.around; names = take mark.count self.old.names; outside = mark.outside } }
     {
-        self.names.truncate(mark.count);
+        close_to(&mut self.names, &mut self.places, mark.count);
         self.outside = mark.outside;
         self.around = mark.around;
     }
@@ -282,24 +291,84 @@ fn main_named(main: bool, name: &Name) -> Option<Meant>
     }
 }
 
-fn find(names: &[Seen], name: &Name) -> Option<Meant>
-    ensures { result ≡ local_named names.now name.now }
+// Declares a name in a block of its own.
+fn declare_alone(places: &mut Scope, name: &Name, id: u32) -> Result<(), AllocError>
+    ensures declared { OnOk result (places.new ≡ ((name.now, id) ∷ []) ∷ places.old) }
+    ensures err { OnErr result (places.new ≡ places.old) }
 {
-    let mut place = names.len();
-    while 0 < place {
-        place -= 1;
-        let seen = &names[place];
-        if seen.name.is(name.bytes()) {
-            return Some(seen.meant);
+    places.open()?;
+    match places.declare(name.bytes(), id) {
+        Ok(_) => Ok(()),
+        Err(fault) => {
+            places.close();
+            Err(fault)
         }
     }
-    None
 }
 
-fn has_behind(names: &[Seen], outside: usize, name: &Name) -> bool
+// One more name. Memory is wanting where its place is not below 2^32.
+fn push_seen(
+    alloc: Global,
+    names: &mut Vec<Seen>,
+    places: &mut Scope,
+    name: &Name,
+    meant: Meant,
+) -> Result<(), AllocError>
+    requires { places.old ≡ stacked 0 names.old.items [] }
+    ensures stacked { places.new ≡ stacked 0 names.new.items [] }
+    ensures pushed { OnOk result (names.new.items ≡ names.old.items ++ record { name = name.now; meant = meant } ∷ []) }
+{
+    let copy = name.copy(alloc)?;
+    let id = place_id(names.len())?;
+    declare_alone(places, name, id)?;
+    if let Err(_) = names.push(Seen { name: copy, meant }) {
+        places.close();
+        return Err(AllocError);
+    }
+    Ok(())
+}
+
+fn place_id(place: usize) -> Result<u32, AllocError>
+    ensures { IfOk result (λ id. id ≡ place) }
+{
+    match u32::try_from(place) {
+        Ok(id) => Ok(id),
+        Err(_) => Err(AllocError),
+    }
+}
+
+// Takes names back until so many are left.
+fn close_to(names: &mut Vec<Seen>, places: &mut Scope, count: usize)
+    requires { places.old ≡ stacked 0 names.old.items [] }
+    ensures stacked { places.new ≡ stacked 0 names.new.items [] }
+    ensures left { names.new.items ≡ take count names.old.items }
+{
+    let mut place = names.len();
+    while count < place {
+        place -= 1;
+        places.close();
+    }
+    names.truncate(place);
+}
+
+fn find(names: &[Seen], places: &Scope, name: &Name) -> Option<Meant>
+    requires { places.now ≡ stacked 0 names.now [] }
+    ensures { result ≡ local_named names.now name.now }
+{
+    match places.find(name.bytes()) {
+        Some(place) => meant_at(names, place as usize),
+        None => None,
+    }
+}
+
+fn has_behind(names: &[Seen], places: &Scope, outside: usize, name: &Name) -> bool
+    requires { places.now ≡ stacked 0 names.now [] }
     ensures { result ≡ list_any (λ s. same_name s.name name.now) (drop outside names.now) }
 {
-    names.iter().skip(outside).any(|s| s.name.is(name.bytes()))
+    match places.find(name.bytes()) {
+        Some(place) => outside <= place as usize,
+        None => false,
+    }
 }
 
 /// The value of a length; none where it is not constant.

@@ -1,0 +1,5 @@
+pub mod Blocks
+pub mod Joined
+pub mod Starts
+pub mod Walks
+pub mod Unlisted

@@ -1,0 +1,211 @@
+// Which forms run so far.
+
+ghost use Rattle.std.specs.Prelude.{◌≡◌};
+ghost use Rattle.std.specs.List.{list_any};
+ghost use Rattle.uc_tree.specs.Statements.{stmts_of};
+ghost use Rattle.uc_tree.specs.ProgramMain.{is_main_item};
+ghost use Rattle.uc_tree.specs.Numbering.{is_plain};
+ghost use Rattle.uc_meaning.specs.BuiltForms.{is_scalar_base, are_plain, is_built_start, is_built_stmt, are_built, is_built_result, are_scalars, is_classless, is_built_sig, is_built_routine, is_built_item, are_built_items, has_main, is_built};
+
+use uc_tree::class::{Routine, Sig};
+use uc_tree::declare::{Declarator, ForForm, ForStart};
+use uc_tree::kinds::{Base, Owner, Param, Role};
+use uc_tree::program::{Item, ItemForm, Program};
+use uc_tree::stmt::{Stmt, StmtForm};
+
+fn is_scalar_base(base: &Base) -> bool
+    ensures { result ≡ is_scalar_base base.now }
+{
+    match base {
+        Base::Void => false,
+        Base::Int => true,
+        Base::Char => true,
+        Base::Bool => true,
+        Base::Condition => false,
+        Base::Cluster => false,
+        Base::Processor => false,
+        Base::Named(_) => false,
+    }
+}
+
+fn are_plain(declarators: &[Declarator]) -> bool
+    ensures { result ≡ are_plain declarators.now }
+{
+    for declarator in declarators {
+        if declarator.by_ref {
+            return false;
+        }
+    }
+    true
+}
+
+fn is_built_start(start: &ForStart) -> bool
+    ensures { result ≡ is_built_start start.now }
+{
+    match &start.form {
+        ForForm::Nothing => true,
+        ForForm::Declare {
+            base,
+            declarators,
+            ..
+        } => is_scalar_base(base) && are_plain(declarators),
+        ForForm::Evaluate { .. } => true,
+    }
+}
+
+#[cycle(forms)]
+fn is_built_stmt(s: &Stmt) -> bool
+    ensures { result ≡ is_built_stmt s.now }
+{
+    match &s.form {
+        StmtForm::Block { body } => are_built(body),
+        StmtForm::Empty => true,
+        StmtForm::Evaluate { .. } => true,
+        StmtForm::Declare { base, declarators } => is_scalar_base(base) && are_plain(declarators),
+        StmtForm::If { chosen, other, .. } => match other {
+            None => is_built_stmt(chosen),
+            Some(other) => is_built_stmt(chosen) && is_built_stmt(other),
+        },
+        StmtForm::While { body, .. } => is_built_stmt(body),
+        StmtForm::Do { body, .. } => is_built_stmt(body),
+        StmtForm::For { start, body, .. } => is_built_start(start) && is_built_stmt(body),
+        StmtForm::Break => true,
+        StmtForm::Continue => true,
+        StmtForm::Return { .. } => true,
+        StmtForm::Try { .. } => false,
+        StmtForm::Throw { .. } => false,
+        StmtForm::Raise { .. } => false,
+        StmtForm::RaiseAt { .. } => false,
+        StmtForm::Enable { .. } => false,
+        StmtForm::Disable { .. } => false,
+        StmtForm::Accept { .. } => false,
+        StmtForm::Print { .. } => true,
+        StmtForm::PrintTogether { .. } => true,
+        StmtForm::Read { .. } => true,
+        StmtForm::Resume => false,
+        StmtForm::Suspend => false,
+        StmtForm::Yield => false,
+        StmtForm::Migrate { .. } => false,
+    }
+}
+
+#[cycle(forms)]
+fn are_built(stmts: &[Stmt]) -> bool
+    ensures { result ≡ are_built (stmts_of stmts.now) }
+{
+    for s in stmts {
+        if !is_built_stmt(s) {
+            return false;
+        }
+    }
+    true
+}
+
+fn is_built_result(base: &Base) -> bool
+    ensures { result ≡ is_built_result base.now }
+{
+    match base {
+        Base::Void => true,
+        Base::Int => true,
+        Base::Char => true,
+        Base::Bool => true,
+        Base::Condition => false,
+        Base::Cluster => false,
+        Base::Processor => false,
+        Base::Named(_) => false,
+    }
+}
+
+fn are_scalars(params: &[Param]) -> bool
+    ensures { result ≡ are_scalars params.now }
+{
+    for param in params {
+        if !is_scalar_base(&param.base) {
+            return false;
+        }
+    }
+    true
+}
+
+fn is_classless(owner: &Owner) -> bool
+    ensures { result ≡ is_classless owner.now }
+{
+    match owner {
+        Owner::Here => true,
+        Owner::Main => true,
+        Owner::Class(_) => false,
+    }
+}
+
+fn is_plain(role: Role) -> bool
+    ensures { result ≡ is_plain role }
+{
+    match role {
+        Role::Plain => true,
+        Role::Constructor => false,
+        Role::Destructor => false,
+    }
+}
+
+fn is_built_sig(sig: &Sig) -> bool
+    ensures { result ≡ is_built_sig sig.now }
+{
+    is_classless(&sig.owner)
+        && (is_plain(sig.role) && (is_built_result(&sig.ret) && are_scalars(&sig.params)))
+}
+
+fn is_built_routine(routine: &Routine) -> bool
+    ensures { result ≡ is_built_routine routine.now }
+{
+    is_built_sig(&routine.sig) && (routine.inits.is_empty() && are_built(&routine.body))
+}
+
+fn is_built_item(item: &Item) -> bool
+    ensures { result ≡ is_built_item item.now }
+{
+    match &item.form {
+        ItemForm::Class { .. } => false,
+        ItemForm::Routine { routine } => is_built_routine(routine),
+        ItemForm::Constant { constant } => is_scalar_base(&constant.base),
+        ItemForm::Proto { sig } => is_built_sig(sig),
+        ItemForm::Forward { .. } => false,
+        ItemForm::Using { .. } => true,
+    }
+}
+
+fn are_built_items(items: &[Item]) -> bool
+    ensures { result ≡ are_built_items items.now }
+{
+    for item in items {
+        if !is_built_item(item) {
+            return false;
+        }
+    }
+    true
+}
+
+fn is_main(item: &Item) -> bool
+    ensures { result ≡ is_main_item item.now }
+{
+    match &item.form {
+        ItemForm::Class { .. } => false,
+        ItemForm::Routine { routine } => routine.sig.is_main(),
+        ItemForm::Constant { .. } => false,
+        ItemForm::Proto { .. } => false,
+        ItemForm::Forward { .. } => false,
+        ItemForm::Using { .. } => false,
+    }
+}
+
+fn has_main(items: &[Item]) -> bool
+    ensures { result ≡ list_any is_main_item items.now }
+{
+    items.iter().any(is_main)
+}
+
+/// Whether a program has its main, and forms alone that run.
+pub(crate) fn is_built_program(program: &Program) -> bool
+    ensures { result ≡ is_built program.now }
+{
+    has_main(&program.items) && are_built_items(&program.items)
+}

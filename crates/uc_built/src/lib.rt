@@ -1,0 +1,17 @@
+// Which programs have forms alone that run so far.
+#![tactic(auto)]
+
+ghost use Rattle.std.specs.Prelude.{◌≡◌};
+ghost use Rattle.uc_meaning.specs.BuiltForms.{is_built};
+
+mod forms;
+
+use crate::forms::is_built_program;
+use uc_tree::program::Program;
+
+/// Whether all forms of a program run so far.
+pub fn is_built(program: &Program) -> bool
+    ensures { result ≡ is_built program.now }
+{
+    is_built_program(program)
+}

@@ -1,0 +1,5 @@
+pub mod Circles
+pub mod Counts
+pub mod First
+pub mod Walked
+pub mod NoBack

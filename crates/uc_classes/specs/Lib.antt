@@ -1,0 +1,3 @@
+pub mod Circling
+pub mod Counted
+pub mod Apart

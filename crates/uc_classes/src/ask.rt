@@ -1,0 +1,427 @@
+// What the rules ask at one place in a class, a signature or an item.
+
+ghost use Rattle.std.specs.Prelude.{◌≡◌, ◌≤◌, ◌&&◌, IfOk, MatchOption, None, OnOk, Some, length, map, nat_le, not, slice_get, take};
+ghost use Rattle.uc_tree.specs.Cells.{class_cells};
+ghost use Rattle.uc_tree.specs.Numbering.{condition_count, is_public, mutex_members};
+ghost use Rattle.uc_tree.specs.declared.limits.TheConstants.{CLASS_CELLS, CLASS_CONDITIONS, MEMBERS};
+ghost use Rattle.uc_meaning.specs.Asked.{asked, of_sort, unless};
+ghost use Rattle.uc_meaning.specs.ClassBreaks.{constant_breaks, entity_takes, events_before, fields_at, has_room, has_unset, home_class, home_leads_back, init_count_breaks, inits_breaks, is_field_of, is_field_sort, is_new_field, param_breaks, sig_breaks};
+ghost use Rattle.uc_meaning.specs.Entities.{count, entity_of};
+ghost use Rattle.uc_meaning.specs.ExpressionBreaks.{length_breaks, length_value_breaks};
+ghost use Rattle.uc_meaning.specs.Firsts.{after};
+ghost use Rattle.uc_meaning.specs.Names.{place_in};
+ghost use Rattle.uc_meaning.specs.ProgramVisits.{home_member};
+ghost use Rattle.uc_meaning.specs.Sorts.{class_at, is_coroutine, sort_of};
+ghost use Rattle.uc_meaning.specs.Visits.{AtClass, AtConstant, AtField, AtInit, AtInits, AtItem, AtMark, AtParam, AtProgram, AtRoutine, AtSig};
+ghost use Rattle.uc_meaning.specs.declared.rule.Rule.TheVariants.{S16, S18, S2, S22, S4};
+ghost use Rattle.uc_types.specs.Told.{told};
+ghost use Rattle.uc_classes.specs.Circling.{AreFields, Walks};
+
+use crate::circle::leads_back;
+use crate::class::{Listed, Walked};
+use std::alloc::AllocError;
+use uc_bodies::declare::{is_element, judge_length};
+use uc_bodies::judge;
+use uc_declares::class::{
+    has_unset, is_field_of, is_new_field, is_new_routine, is_sound_event, is_well_built,
+    is_well_mained, is_well_marked,
+};
+use uc_declares::init::{entity_takes, is_by_ref, may_init};
+use uc_declares::item::{has_one_main, is_new_item, is_sound_item, is_sound_member, item_pos};
+use uc_declares::sig::may_return;
+use uc_meaning::rule::Rule;
+use uc_meaning::rules::{Entity, FieldPlace, Meant, Sort};
+use uc_numbers::conditions::condition_count;
+use uc_owner::judge::{note_field, note_param};
+use uc_tree::class::{Class, Init, Member, Sig};
+use uc_tree::declare::Declarator;
+use uc_tree::kinds::{Access, Kind, Param};
+use uc_tree::limits::{CLASS_CELLS, CLASS_CONDITIONS};
+use uc_tree::name::Name;
+use uc_tree::pos::Pos;
+use uc_tree::program::{Constant, Item, Program};
+use uc_types::found::Found;
+use uc_types::names::{Names, length_value};
+use uc_types::sort::{is_constructor, is_coroutine, is_plain, is_public, is_scalar_sort, is_void};
+use uc_types::tables::Tables;
+
+fn note_value_param(names: &Names, param: &Param, found: &mut Found)
+    ensures { found.new ≡ after found.old (param_breaks names.now param.now) }
+{
+    if param.by_ref {
+        return;
+    }
+    match names.tables().sort_of(&param.base) {
+        Some(sort) => found.note_unless(is_scalar_sort(sort), Rule::S11, param.pos),
+        None => {}
+    }
+}
+
+/// A parameter.
+pub fn ask_param(names: &Names, param: &Param, found: &mut Found)
+    ensures { found.new ≡ told found.old (AtParam names.now param.now) }
+{
+    found.note_unless(judge::is_new(names, &param.name), Rule::S2, param.pos);
+    note_value_param(names, param, found);
+    note_param(names, param, found);
+}
+
+/// A signature.
+pub fn ask_sig(names: &Names, sig: &Sig, found: &mut Found)
+    ensures { found.new ≡ told found.old (AtSig names.now sig.now) }
+{
+    note_returned(names, sig, found);
+}
+
+fn note_returned(names: &Names, sig: &Sig, found: &mut Found)
+    ensures { found.new ≡ after found.old (sig_breaks names.now sig.now) }
+{
+    if !is_plain(sig.role) {
+        return;
+    }
+    match names.tables().sort_of(&sig.ret) {
+        Some(sort) => found.note_unless(may_return(sort), Rule::S12, sig.pos),
+        None => {}
+    }
+}
+
+fn is_field_sort(names: &Names, declarator: &Declarator, sort: Sort) -> bool
+    ensures { result ≡ is_field_sort names.now.program declarator.now sort }
+{
+    !is_void(sort) && (declarator.by_ref || (!declarator.len.is_some() || is_element(names, sort)))
+}
+
+fn note_field_sort(names: &Names, declarator: &Declarator, sort: Option<Sort>, found: &mut Found)
+    ensures { found.new ≡ after found.old (of_sort sort (is_field_sort names.now.program declarator.now) S16 declarator.now.pos) }
+{
+    match sort {
+        Some(sort) => {
+            let holds = is_field_sort(names, declarator, sort);
+            found.note_unless(holds, Rule::S16, declarator.pos);
+        }
+        None => {}
+    }
+}
+
+fn note_event_field(
+    class: &Class,
+    declarator: &Declarator,
+    field: FieldPlace,
+    sort: Option<Sort>,
+    found: &mut Found,
+)
+    ensures { found.new ≡ after found.old (of_sort sort (is_field_of class.now declarator.now field) S22 declarator.now.pos) }
+{
+    match sort {
+        Some(sort) => {
+            let holds = is_field_of(class, declarator, field, sort);
+            found.note_unless(holds, Rule::S22, declarator.pos);
+        }
+        None => {}
+    }
+}
+
+fn is_new(walked: Walked, listed: Listed, index: usize, declarator: &Declarator) -> bool
+    requires fields { AreFields walked.class.now listed.member listed.base.now listed.declarators.now }
+    ensures { result ≡ is_new_field walked.entry.class.now (place_in listed.entry.member index) (fields_at walked.entry.class.now listed.entry.member) declarator.now.name }
+{
+    let field = FieldPlace {
+        member: listed.member,
+        index,
+    };
+    let new = is_new_field(walked.class, field, listed.declarators, &declarator.name);
+    new
+}
+
+fn leads_home(
+    names: &Names,
+    walked: Walked,
+    listed: Listed,
+    index: usize,
+    declarator: &Declarator,
+) -> bool
+    requires home { names.now.around.home ≡ Some walked.home }
+    requires walks { Walks names.now.program walked.home walked.class.now walked.circular walked.holders.now }
+    requires fields { AreFields walked.class.now listed.member listed.base.now listed.declarators.now }
+    requires there { slice_get listed.declarators.now index ≡ Some declarator.now }
+    ensures { result ≡ home_leads_back names.now.program names.now.around.home listed.entry.base.now declarator.now }
+{
+    let back = leads_back(names.tables(), walked, listed, index, declarator);
+    back
+}
+
+// Whether a field of this access is a public one of a coroutine.
+fn is_open(kind: Kind, access: Access) -> bool
+    ensures { result ≡ is_coroutine kind && is_public access }
+{
+    is_coroutine(kind) && is_public(access)
+}
+
+fn note_declared(
+    walked: Walked,
+    listed: Listed,
+    index: usize,
+    declarator: &Declarator,
+    found: &mut Found,
+)
+    requires fields { AreFields walked.class.now listed.member listed.base.now listed.declarators.now }
+    ensures { found.new ≡ after found.old (unless (is_new_field walked.entry.class.now (place_in listed.entry.member index) (fields_at walked.entry.class.now listed.entry.member) declarator.now.name) S2 declarator.now.pos) }
+{
+    let new = is_new(walked, listed, index, declarator);
+    found.note_unless(new, Rule::S2, declarator.pos);
+}
+
+fn note_circle(
+    names: &Names,
+    walked: Walked,
+    listed: Listed,
+    index: usize,
+    declarator: &Declarator,
+    found: &mut Found,
+)
+    requires home { names.now.around.home ≡ Some walked.home }
+    requires walks { Walks names.now.program walked.home walked.class.now walked.circular walked.holders.now }
+    requires fields { AreFields walked.class.now listed.member listed.base.now listed.declarators.now }
+    requires there { slice_get listed.declarators.now index ≡ Some declarator.now }
+    ensures { found.new ≡ after found.old (unless (not (home_leads_back names.now.program names.now.around.home listed.entry.base.now declarator.now)) S4 declarator.now.pos) }
+{
+    let back = leads_home(names, walked, listed, index, declarator);
+    found.note_unless(!back, Rule::S4, declarator.pos);
+}
+
+fn note_length(names: &Names, declarator: &Declarator, found: &mut Found)
+    ensures { found.new ≡ after (after found.old (length_breaks names.now declarator.now.by_ref declarator.now.len declarator.now.pos)) (length_value_breaks names.now declarator.now.len) }
+{
+    judge_length(
+        names,
+        declarator.by_ref,
+        &declarator.len,
+        declarator.pos,
+        found,
+    );
+}
+
+fn note_access(class: &Class, access: Access, declarator: &Declarator, found: &mut Found)
+    ensures { found.new ≡ after found.old (unless (not (is_coroutine class.now.kind && is_public access)) S18 declarator.now.pos) }
+{
+    let open = is_open(class.kind, access);
+    found.note_unless(!open, Rule::S18, declarator.pos);
+}
+
+/// A field of a class, by its place in its list.
+pub fn ask_field(
+    names: &Names,
+    walked: Walked,
+    listed: Listed,
+    index: usize,
+    declarator: &Declarator,
+    found: &mut Found,
+)
+    requires home { names.now.around.home ≡ Some walked.home }
+    requires walks { Walks names.now.program walked.home walked.class.now walked.circular walked.holders.now }
+    requires fields { AreFields walked.class.now listed.member listed.base.now listed.declarators.now }
+    requires there { slice_get listed.declarators.now index ≡ Some declarator.now }
+    ensures { found.new ≡ told found.old (AtField names.now walked.entry.class.now listed.entry.access listed.entry.base.now declarator.now (place_in listed.entry.member index)) }
+{
+    let field = FieldPlace {
+        member: listed.member,
+        index,
+    };
+    let tables = names.tables();
+    let sort = tables.sort_of(listed.base);
+    note_declared(walked, listed, index, declarator, found);
+    note_circle(names, walked, listed, index, declarator, found);
+    note_length(names, declarator, found);
+    note_field_sort(names, declarator, sort, found);
+    note_access(walked.class, listed.access, declarator, found);
+    note_event_field(walked.class, declarator, field, sort, found);
+    note_field(names, walked.class, listed.base, declarator, found);
+}
+
+/// A member that is a routine or a prototype, by its place.
+pub fn ask_routine(
+    names: &Names,
+    class: &Class,
+    proto: bool,
+    sig: &Sig,
+    member: usize,
+    found: &mut Found,
+)
+    ensures { found.new ≡ told found.old (AtRoutine names.now class.now proto sig.now member) }
+{
+    let program = names.tables().program();
+    found.note_unless(is_new_routine(class, member, sig), Rule::S2, sig.pos);
+    let holds = is_sound_member(program, class, proto, sig, member);
+    found.note_unless(holds, Rule::S5, sig.pos);
+}
+
+/// A member with its mark, where the numbered members of its class have these names.
+pub fn ask_mark(
+    names: &Names,
+    class: &Class,
+    numbered: &[&Name],
+    member: &Member,
+    found: &mut Found,
+)
+    requires names { map (λ n. n.now) numbered.now ≡ take MEMBERS (mutex_members class.now) }
+    requires few { length numbered.now ≤ MEMBERS }
+    ensures { found.new ≡ told found.old (AtMark names.now class.now member.now) }
+{
+    found.note_unless(
+        is_well_marked(class, numbered, member),
+        Rule::S19,
+        member.pos,
+    );
+}
+
+fn has_few_conditions(names: &Names, class: &Class, place: usize) -> Result<bool, AllocError>
+    ensures { IfOk result (λ few. few ≡ nat_le (condition_count names.now.program place class.now) CLASS_CONDITIONS) }
+{
+    let tables = names.tables();
+    let count = condition_count(names.alloc(), tables.sizes(), place, class)?;
+    Ok(count <= u64::from(CLASS_CONDITIONS))
+}
+
+fn has_few_cells(tables: &Tables, place: usize) -> bool
+    ensures { result ≡ nat_le (class_cells tables.now place) CLASS_CELLS }
+{
+    tables.sizes().cells_of_class(place) <= CLASS_CELLS
+}
+
+/// A class by its place, before which so many events stand.
+pub fn ask_class(
+    names: &Names,
+    class: &Class,
+    place: usize,
+    events: usize,
+    found: &mut Found,
+) -> Result<(), AllocError>
+    requires { events ≡ events_before names.now.program place }
+    ensures { OnOk result (found.new ≡ told found.old (AtClass names.now class.now place)) }
+{
+    let tables = names.tables();
+    let few = has_few_conditions(names, class, place)?;
+    found.note_unless(is_well_mained(class), Rule::S6, class.pos);
+    found.note_unless(has_few_cells(tables, place) && few, Rule::S14, class.pos);
+    found.note_unless(is_well_built(tables, class), Rule::S17, class.pos);
+    let holds = is_sound_event(tables.program(), class, place, events);
+    found.note_unless(holds, Rule::S22, class.pos);
+    Ok(())
+}
+
+fn note_constant(names: &Names, constant: &Constant, entity: Option<Entity>, found: &mut Found)
+    requires { entity ≡ entity_of names.now constant.now.value }
+    ensures { found.new ≡ after found.old (constant_breaks names.now constant.now) }
+{
+    match entity {
+        Some(_) => {
+            let value = length_value(names, &constant.value);
+            found.note_unless(value.is_some(), Rule::S15, constant.value.first_token());
+        }
+        None => {}
+    }
+}
+
+/// A constant, with what its value stands for.
+pub fn ask_constant(names: &Names, constant: &Constant, entity: Option<Entity>, found: &mut Found)
+    requires { entity ≡ entity_of names.now constant.now.value }
+    ensures { found.new ≡ told found.old (AtConstant names.now constant.now) }
+{
+    note_constant(names, constant, entity, found);
+}
+
+/// An item by its place.
+pub fn ask_item(tables: &Tables, item: &Item, place: usize, found: &mut Found)
+    ensures { found.new ≡ told found.old (AtItem tables.now item.now place) }
+{
+    let at = item_pos(item);
+    found.note_unless(is_new_item(tables.program(), item, place), Rule::S2, at);
+    found.note_unless(is_sound_item(tables, item, place), Rule::S5, at);
+}
+
+/// The program.
+pub fn ask_program(program: &Program, found: &mut Found)
+    ensures { found.new ≡ told found.old (AtProgram program.now) }
+{
+    let first = Pos { line: 1, col: 1 };
+    found.note_unless(has_one_main(&program.items), Rule::S3, first);
+}
+
+fn home_class<'a>(names: &Names<'a>) -> Option<&'a Class>
+    ensures { MatchOption result (home_class names.now ≡ None) (λ c. home_class names.now ≡ Some c.now) }
+{
+    match names.around().home {
+        Some(home) => {
+            let tables = names.tables();
+            tables.class_at(home.class)
+        }
+        None => None,
+    }
+}
+
+fn has_unset_fields(names: &Names, inits: &[Init]) -> bool
+    ensures { result ≡ has_unset names.now.program inits.now (home_class names.now) }
+{
+    match home_class(names) {
+        Some(class) => has_unset(names.tables(), inits, class),
+        None => false,
+    }
+}
+
+fn note_inits(names: &Names, sig: &Sig, inits: &[Init], found: &mut Found)
+    ensures { found.new ≡ after found.old (inits_breaks names.now sig.now inits.now) }
+{
+    if is_constructor(sig.role) {
+        found.note_unless(!has_unset_fields(names, inits), Rule::S17, sig.pos);
+        return;
+    }
+    match inits.first() {
+        Some(init) => found.note(Rule::S17, init.pos),
+        None => {}
+    }
+}
+
+/// A routine with its initialisers.
+pub fn ask_inits(names: &Names, sig: &Sig, inits: &[Init], found: &mut Found)
+    ensures { found.new ≡ told found.old (AtInits names.now sig.now inits.now) }
+{
+    note_inits(names, sig, inits, found);
+}
+
+#[tactic(auto, using(uc_bodies::proofs::Joined::joining))]
+fn note_values(names: &Names, init: &Init, by_ref: bool, entity: Option<Entity>, found: &mut Found)
+    ensures { found.new ≡ after found.old (asked entity (entity_takes names.now.program by_ref (count init.now.args)) S16 init.now.pos) }
+{
+    match entity {
+        Some(entity) => {
+            let count = init.args.len();
+            let holds = entity_takes(names.tables(), by_ref, count, entity);
+            found.note_unless(holds, Rule::S16, init.pos);
+        }
+        None => {}
+    }
+}
+
+fn note_count(names: &Names, init: &Init, meant: Option<Meant>, found: &mut Found)
+    ensures { found.new ≡ after found.old (init_count_breaks names.now init.now meant) }
+{
+    match meant {
+        Some(meant) => note_values(names, init, is_by_ref(meant.origin), meant.entity, found),
+        None => {}
+    }
+}
+
+/// An initialiser behind others, of which `last` is the last field that they name, and what it names.
+pub fn ask_init(
+    names: &Names,
+    init: &Init,
+    last: Option<FieldPlace>,
+    meant: Option<Meant>,
+    found: &mut Found,
+)
+    requires { meant ≡ home_member names.now.program names.now.around.home init.now.name }
+    ensures { found.new ≡ told found.old (AtInit names.now init.now last) }
+{
+    note_count(names, init, meant, found);
+    found.note_unless(may_init(last, meant), Rule::S17, init.pos);
+}

@@ -1,0 +1,24 @@
+// The first rule that a program breaks.
+
+ghost use Rattle.std.specs.Prelude.{◌≡◌, None, IfOk};
+ghost use Rattle.uc_meaning.specs.Breaks.{breaks_of};
+ghost use Rattle.uc_meaning.specs.Firsts.{after};
+
+use crate::ask::ask_program;
+use crate::item::check_items;
+use std::alloc::{AllocError, Global};
+use uc_meaning::rule::Break;
+use uc_tree::program::Program;
+use uc_types::found::Found;
+use uc_types::tables::Tables;
+
+/// The first break of a rule, where a program breaks one.
+pub fn first_break(alloc: Global, program: &Program) -> Result<Option<Break>, AllocError>
+    ensures { IfOk result (λ first. first ≡ after None (breaks_of program.now)) }
+{
+    let tables = Tables::new(alloc, program)?;
+    let mut found = Found::new();
+    ask_program(program, &mut found);
+    check_items(alloc, &tables, &mut found)?;
+    Ok(found.first())
+}

@@ -1,0 +1,280 @@
+// The rules on classes and their members.
+
+ghost use Rattle.std.specs.Prelude.{◌≡◌, ◌≤◌, ℕ, [], ◌∷◌, ◌++◌, IfOk, OnOk, Some, false, length, map, slice_get, take};
+ghost use Rattle.uc_tree.specs.Numbering.{is_mutex, mutex_members};
+ghost use Rattle.uc_tree.specs.ProgramViews.{member_form_at};
+ghost use Rattle.uc_tree.specs.declared.limits.TheConstants.{MEMBERS};
+ghost use Rattle.uc_meaning.specs.ClassBreaks.{events_before};
+ghost use Rattle.uc_meaning.specs.Names.{place_in};
+ghost use Rattle.uc_meaning.specs.ProgramVisits.{class_visits, fields_visits, form_visits, members_visits};
+ghost use Rattle.uc_meaning.specs.Scopes.{class_around, is_inner, plain_env, returns_scalar, sig_around};
+ghost use Rattle.uc_meaning.specs.Visits.{AtField, AtMark, maybe_visits};
+ghost use Rattle.uc_types.specs.Told.{noted};
+ghost use Rattle.uc_tree.specs.Cells.{rows_of};
+ghost use Rattle.uc_tree.specs.Rows.{reaches};
+ghost use Rattle.uc_meaning.specs.Sorts.{class_at};
+ghost use Rattle.uc_classes.specs.Circling.{AreFields, Circling, Walks};
+
+use crate::ask::{ask_class, ask_field, ask_mark, ask_routine};
+use crate::body::{check_routine, check_sig};
+use std::alloc::{AllocError, Global};
+use uc_bodies::declare::check_maybe;
+use uc_bodies::judge::ask_base;
+use uc_meaning::rules::{Around, FieldPlace, Home};
+use uc_numbers::members::members_of;
+use uc_tree::class::{Class, Member, MemberForm, Sig};
+use uc_tree::declare::Declarator;
+use uc_tree::kinds::{Access, Base, Mark, Role};
+use uc_tree::name::Name;
+use uc_types::found::Found;
+use uc_types::names::Names;
+use uc_types::sort::{is_mutex, is_nomutex, is_plain, is_scalar_sort};
+use uc_types::tables::Tables;
+
+/// A class that is walked: its place and kind, whether it has itself in its fields, and then the flags of the classes that
+/// have it in theirs, and the names of its numbered members.
+#[derive(Clone, Copy)]
+pub struct Walked<'a> {
+    pub alloc: Global,
+    pub tables: &'a Tables<'a>,
+    pub class: &'a Class,
+    pub home: Home,
+    pub circular: bool,
+    pub holders: &'a [bool],
+    pub numbered: &'a [&'a Name],
+}
+
+/// A list of fields: the place of its member, the access and the base.
+#[derive(Clone, Copy)]
+pub struct Listed<'a> {
+    pub member: usize,
+    pub access: Access,
+    pub base: &'a Base,
+    pub declarators: &'a [Declarator],
+}
+
+fn class_around(home: Home) -> Around
+    ensures { result ≡ class_around home }
+{
+    Around {
+        home: Some(home),
+        main: false,
+        role: Role::Plain,
+        inner: false,
+        returns: false,
+        in_loop: false,
+        in_handler: false,
+        joins: false,
+        bound: None,
+    }
+}
+
+fn is_inner(home: Home, mark: Mark, sig: &Sig) -> bool
+    ensures { result ≡ is_inner home mark sig.now }
+{
+    is_mutex(home.kind) && (!is_plain(sig.role) || (sig.name.is(b"main") || !is_nomutex(mark)))
+}
+
+fn returns_scalar(tables: &Tables, base: &Base) -> bool
+    ensures { result ≡ returns_scalar tables.now base.now }
+{
+    match tables.sort_of(base) {
+        Some(sort) => is_scalar_sort(sort),
+        None => false,
+    }
+}
+
+/// What stands round a routine of a class, or of none.
+pub fn sig_around(tables: &Tables, home: Option<Home>, main: bool, mark: Mark, sig: &Sig) -> Around
+    ensures { result ≡ sig_around tables.now home main mark sig.now }
+{
+    let inner = match home {
+        Some(home) => is_inner(home, mark, sig),
+        None => false,
+    };
+    Around {
+        home,
+        main,
+        role: sig.role,
+        inner,
+        returns: returns_scalar(tables, &sig.ret),
+        in_loop: false,
+        in_handler: false,
+        joins: false,
+        bound: None,
+    }
+}
+
+#[tactic(auto, using(uc_bodies::proofs::Joined::joining))]
+fn check_field(
+    names: &Names,
+    walked: Walked,
+    listed: Listed,
+    index: usize,
+    declarator: &Declarator,
+    found: &mut Found,
+)
+    requires home { names.now.around.home ≡ Some walked.home }
+    requires walks { Walks names.now.program walked.home walked.class.now walked.circular walked.holders.now }
+    requires fields { AreFields walked.class.now listed.member listed.base.now listed.declarators.now }
+    requires there { slice_get listed.declarators.now index ≡ Some declarator.now }
+    ensures { found.new ≡ noted found.old (maybe_visits names.now declarator.now.len ++ AtField names.now walked.entry.class.now listed.entry.access listed.entry.base.now declarator.now (place_in listed.entry.member index) ∷ []) }
+{
+    check_maybe(names, &declarator.len, found);
+    ask_field(names, walked, listed, index, declarator, found);
+}
+
+#[tactic(auto, using(uc_bodies::proofs::Joined::joining))]
+fn check_fields(names: &Names, walked: Walked, listed: Listed, found: &mut Found)
+    requires home { names.now.around.home ≡ Some walked.home }
+    requires walks { Walks names.now.program walked.home walked.class.now walked.circular walked.holders.now }
+    requires fields { AreFields walked.class.now listed.member listed.base.now listed.declarators.now }
+    ensures { found.new ≡ noted found.old (fields_visits names.now walked.entry.class.now listed.entry.access listed.entry.base.now listed.entry.member 0 listed.entry.declarators.now) }
+{
+    for (index, declarator) in listed.declarators.iter().enumerate() {
+        check_field(names, walked, listed, index, declarator, found);
+    }
+}
+
+#[tactic(auto, using(uc_bodies::proofs::Joined::joining))]
+fn check_form(
+    walked: Walked,
+    place: usize,
+    member: &Member,
+    found: &mut Found,
+) -> Result<(), AllocError>
+    requires at { slice_get walked.class.now.members place ≡ Some member.now }
+    requires walks { Walks walked.tables.now walked.home walked.class.now walked.circular walked.holders.now }
+    ensures { OnOk result (found.new ≡ noted found.old (form_visits walked.entry.tables.now walked.entry.home walked.entry.class.now place member.now.mark member.now.access member.now.form)) }
+{
+    let outer = Names::new(walked.alloc, walked.tables, class_around(walked.home));
+    match &member.form {
+        MemberForm::Fields {
+            at,
+            base,
+            declarators,
+        } => {
+            let listed = Listed {
+                member: place,
+                access: member.access,
+                base,
+                declarators,
+            };
+            ask_base(&outer, base, *at, found);
+            check_fields(&outer, walked, listed, found);
+            Ok(())
+        }
+        MemberForm::Routine { routine } => {
+            ask_routine(&outer, walked.class, false, &routine.sig, place, found);
+            let around = sig_around(
+                walked.tables,
+                Some(walked.home),
+                false,
+                member.mark,
+                &routine.sig,
+            );
+            let mut names = Names::new(walked.alloc, walked.tables, around);
+            check_routine(&mut names, routine, found)?;
+            Ok(())
+        }
+        MemberForm::Proto { sig } => {
+            ask_routine(&outer, walked.class, true, sig, place, found);
+            let around = sig_around(walked.tables, Some(walked.home), false, member.mark, sig);
+            let mut names = Names::new(walked.alloc, walked.tables, around);
+            check_sig(&mut names, sig, found)?;
+            Ok(())
+        }
+    }
+}
+
+#[tactic(auto, using(uc_bodies::proofs::Joined::joining))]
+fn check_member(
+    walked: Walked,
+    place: usize,
+    member: &Member,
+    found: &mut Found,
+) -> Result<(), AllocError>
+    requires at { slice_get walked.class.now.members place ≡ Some member.now }
+    requires walks { Walks walked.tables.now walked.home walked.class.now walked.circular walked.holders.now }
+    requires names { map (λ n. n.now) walked.numbered.now ≡ take MEMBERS (mutex_members walked.class.now) }
+    requires few { length walked.numbered.now ≤ MEMBERS }
+    ensures { OnOk result (found.new ≡ noted found.old (AtMark (plain_env walked.entry.tables.now (class_around walked.entry.home)) walked.entry.class.now member.now ∷ form_visits walked.entry.tables.now walked.entry.home walked.entry.class.now place member.now.mark member.now.access member.now.form)) }
+{
+    let outer = Names::new(walked.alloc, walked.tables, class_around(walked.home));
+    ask_mark(&outer, walked.class, walked.numbered, member, found);
+    check_form(walked, place, member, found)?;
+    Ok(())
+}
+
+#[tactic(auto, using(uc_bodies::proofs::Joined::joining))]
+fn check_members(walked: Walked, found: &mut Found) -> Result<(), AllocError>
+    requires walks { Walks walked.tables.now walked.home walked.class.now walked.circular walked.holders.now }
+    requires names { map (λ n. n.now) walked.numbered.now ≡ take MEMBERS (mutex_members walked.class.now) }
+    requires few { length walked.numbered.now ≤ MEMBERS }
+    ensures { OnOk result (found.new ≡ noted found.old (members_visits walked.entry.tables.now walked.entry.home walked.entry.class.now 0 walked.entry.class.now.members)) }
+{
+    let members = members_in(walked.class);
+    for (place, member) in members.iter().enumerate() {
+        check_member(walked, place, member, found)?;
+    }
+    Ok(())
+}
+
+fn members_in(class: &Class) -> &[Member]
+    ensures { result.now ≡ class.now.members }
+{
+    &class.members
+}
+
+// The flags of the classes that have a class in their fields, where it has itself in its own.
+fn holders_of(
+    alloc: Global,
+    tables: &Tables,
+    place: usize,
+    circular: bool,
+) -> Result<Vec<bool>, AllocError>
+    requires { circular ≡ false → (steps : ℕ) → reaches steps (rows_of tables.now) place place ≡ false }
+    ensures { IfOk result (λ v. Circling tables.now place circular v.items) }
+{
+    if circular {
+        let holders = tables.sizes().holders(alloc, place)?;
+        return Ok(holders);
+    }
+    Ok(Vec::new(alloc))
+}
+
+/// A class by its place among the classes of the program, before which so many events stand.
+#[tactic(auto, using(uc_bodies::proofs::Joined::joining))]
+pub fn check_class(
+    alloc: Global,
+    tables: &Tables,
+    class: &Class,
+    place: usize,
+    events: usize,
+    found: &mut Found,
+) -> Result<(), AllocError>
+    requires events { events ≡ events_before tables.now place }
+    requires at { class_at tables.now place ≡ Some class.now }
+    ensures { OnOk result (found.new ≡ noted found.old (class_visits tables.now place class.now)) }
+{
+    let home = Home {
+        class: place,
+        kind: class.kind,
+    };
+    let outer = Names::new(alloc, tables, class_around(home));
+    ask_class(&outer, class, place, events, found)?;
+    let circular = tables.sizes().has_itself(place);
+    let holders = holders_of(alloc, tables, place, circular)?;
+    let numbered = members_of(alloc, class)?;
+    let walked = Walked {
+        alloc,
+        tables,
+        class,
+        home,
+        circular,
+        holders: &holders,
+        numbered: &numbered,
+    };
+    check_members(walked, found)?;
+    Ok(())
+}

@@ -1,0 +1,192 @@
+// The rules on initialisers.
+
+ghost use Rattle.std.specs.Prelude.{◌≡◌, None, [], ◌∷◌, ◌++◌};
+ghost use Rattle.uc_tree.specs.Expressions.{exprs_of};
+ghost use Rattle.uc_meaning.specs.Entities.{entity_of, expected};
+ghost use Rattle.uc_meaning.specs.ProgramVisits.{argument_env, bound_of, bound_target, field_of, home_member, init_arg_visits, init_args_visits, init_target, inits_visits, is_name, is_reference, maybe_bound_target, meant_target, origin_target};
+ghost use Rattle.uc_meaning.specs.Scopes.{in_argument};
+ghost use Rattle.uc_meaning.specs.Visits.{AtInit};
+ghost use Rattle.uc_types.specs.Told.{noted};
+
+use crate::ask::ask_init;
+use uc_bodies::declare::single_target;
+use uc_declares::init::{home_member, last_field, meant_field};
+use uc_meaning::rules::{Around, Bound, Entity, Expected, FieldPlace, Meant, Origin, Target};
+use uc_owner::judge::{is_reference, note_bound};
+use uc_tree::class::Init;
+use uc_tree::expr::{Expr, ExprForm};
+use uc_tree::name::Name;
+use uc_types::ask::ask_argument;
+use uc_types::entity::expected;
+use uc_types::expr::check_expr;
+use uc_types::found::Found;
+use uc_types::names::Names;
+
+fn bound_target(by_ref: bool, entity: Entity) -> Target
+    ensures { result ≡ bound_target by_ref entity }
+{
+    match entity {
+        Entity::Value { .. } => Target::Unknown,
+        Entity::Place { sort } => {
+            if by_ref {
+                Target::Reference { sort }
+            } else {
+                single_target(sort)
+            }
+        }
+        Entity::Array { .. } => Target::Unknown,
+        Entity::Input => Target::Unknown,
+        Entity::Fail => Target::Unknown,
+        Entity::Operation { .. } => Target::Unknown,
+        Entity::Main => Target::Unknown,
+        Entity::Routine { .. } => Target::Unknown,
+        Entity::Method { .. } => Target::Unknown,
+        Entity::ClassName => Target::Unknown,
+        Entity::Missing => Target::Unknown,
+    }
+}
+
+fn maybe_bound_target(by_ref: bool, entity: Option<Entity>) -> Target
+    ensures { result ≡ maybe_bound_target by_ref entity }
+{
+    match entity {
+        Some(entity) => bound_target(by_ref, entity),
+        None => Target::Unknown,
+    }
+}
+
+fn origin_target(entity: Option<Entity>, origin: Origin) -> Target
+    ensures { result ≡ origin_target entity origin }
+{
+    match origin {
+        Origin::Local => Target::Unknown,
+        Origin::Parameter { .. } => Target::Unknown,
+        Origin::Field { by_ref, .. } => maybe_bound_target(by_ref, entity),
+        Origin::Method { .. } => Target::Unknown,
+        Origin::Outer => Target::Unknown,
+    }
+}
+
+fn meant_target(meant: Option<Meant>) -> Target
+    ensures { result ≡ meant_target meant }
+{
+    match meant {
+        Some(meant) => origin_target(meant.entity, meant.origin),
+        None => Target::Unknown,
+    }
+}
+
+fn is_name(e: &Expr) -> bool
+    ensures { result ≡ is_name e.now }
+{
+    match &e.form {
+        ExprForm::Number { .. } => false,
+        ExprForm::Character { .. } => false,
+        ExprForm::Truth { .. } => false,
+        ExprForm::Name { .. } => true,
+        ExprForm::Cin => false,
+        ExprForm::Postfix { .. } => false,
+        ExprForm::Unary { .. } => false,
+        ExprForm::Chain { .. } => false,
+        ExprForm::Assign { .. } => false,
+    }
+}
+
+fn bound_of(e: &Expr, expected: Expected, field: FieldPlace) -> Bound
+    ensures { result ≡ bound_of e.now expected field }
+{
+    Bound {
+        pos: e.first_token(),
+        field,
+        whole: is_name(e) && is_reference(expected),
+    }
+}
+
+fn in_argument(bound: Bound, around: Around) -> Around
+    ensures { result ≡ in_argument bound around }
+{
+    Around {
+        bound: Some(bound),
+        ..around
+    }
+}
+
+fn enter_argument(names: &mut Names, field: Option<FieldPlace>, e: &Expr, expected: Expected)
+    ensures { names.new ≡ argument_env names.old field e.now expected }
+{
+    match field {
+        Some(field) => {
+            let around = names.around();
+            names.set_around(in_argument(bound_of(e, expected, field), around));
+        }
+        None => {}
+    }
+}
+
+#[tactic(auto, using(uc_bodies::proofs::Joined::joining))]
+fn check_init_arg(
+    names: &mut Names,
+    field: Option<FieldPlace>,
+    e: &Expr,
+    expected: Expected,
+    found: &mut Found,
+)
+    ensures names { names.new ≡ names.old }
+    ensures breaks { found.new ≡ noted found.old (init_arg_visits names.old field e.now expected) }
+{
+    let around = names.around();
+    enter_argument(names, field, e, expected);
+    let entity = check_expr(names, e, found);
+    names.set_around(around);
+    let _fits = ask_argument(e.first_token(), expected, entity, found);
+    note_bound(names, e, expected, found);
+}
+
+#[tactic(auto, using(uc_bodies::proofs::Joined::joining))]
+fn check_init_args(
+    names: &mut Names,
+    field: Option<FieldPlace>,
+    args: &[Expr],
+    target: Target,
+    found: &mut Found,
+)
+    ensures names { names.new ≡ names.old }
+    ensures breaks { found.new ≡ noted found.old (init_args_visits names.old field (exprs_of args.now) target 0) }
+{
+    for (place, arg) in args.iter().enumerate() {
+        let expected = expected(names.tables(), target, place);
+        check_init_arg(names, field, arg, expected, found);
+    }
+}
+
+// An initialiser behind others, of which `last` is the last field that they name; the answer is the field that it names.
+#[tactic(auto, using(uc_bodies::proofs::Joined::joining))]
+fn check_init(
+    names: &mut Names,
+    init: &Init,
+    last: Option<FieldPlace>,
+    found: &mut Found,
+) -> Option<FieldPlace>
+    ensures names { names.new ≡ names.old }
+    ensures field { result ≡ field_of names.old init.now.name }
+    ensures breaks { found.new ≡ noted found.old (init_args_visits names.old (field_of names.old init.now.name) init.now.args (init_target names.old init.now.name) 0 ++ AtInit names.old init.now last ∷ []) }
+{
+    let meant = home_member(names.tables(), names.around().home, &init.name);
+    let field = meant_field(meant);
+    check_init_args(names, field, &init.args, meant_target(meant), found);
+    ask_init(names, init, last, meant, found);
+    field
+}
+
+/// The initialisers of a routine.
+#[tactic(auto, using(uc_bodies::proofs::Joined::joining))]
+pub fn check_inits(names: &mut Names, inits: &[Init], found: &mut Found)
+    ensures names { names.new ≡ names.old }
+    ensures breaks { found.new ≡ noted found.old (inits_visits names.old None inits.now) }
+{
+    let mut last = None;
+    for init in inits {
+        let field = check_init(names, init, last, found);
+        last = last_field(last, field);
+    }
+}

@@ -1,0 +1,251 @@
+// The rules on items.
+
+ghost use Rattle.std.specs.Prelude.{◌≡◌, ◌≤◌, [], ◌∷◌, ◌++◌, OnOk};
+ghost use Rattle.uc_meaning.specs.ClassBreaks.{events_before};
+ghost use Rattle.uc_meaning.specs.ProgramVisits.{classes_in, form_declares, is_of_main, item_visits, items_visits, mark_among, mark_in, outer_env, outer_mark, routine_visits, sig_visits};
+ghost use Rattle.uc_meaning.specs.Scopes.{no_around, plain_env};
+ghost use Rattle.uc_meaning.specs.Sorts.{class_at};
+ghost use Rattle.uc_meaning.specs.Visits.{AtConstant, AtItem, visits};
+ghost use Rattle.uc_tree.specs.ProgramViews.{member_form_at};
+ghost use Rattle.uc_types.specs.Told.{noted};
+ghost use Rattle.uc_classes.specs.Counted.{events_in, ItemAt};
+
+use crate::ask::{ask_constant, ask_item};
+use crate::body::{check_routine, check_sig};
+use crate::class::{check_class, sig_around};
+use std::alloc::{AllocError, Global};
+use uc_declares::item::owner_home;
+use uc_declares::sig::same_role;
+use uc_meaning::rules::{Around, Home};
+use uc_tree::class::{Member, MemberForm, Routine, Sig};
+use uc_tree::kinds::{Mark, Owner, Role};
+use uc_tree::program::{Constant, Item, ItemForm};
+use uc_types::expr::check_expr;
+use uc_types::found::Found;
+use uc_types::names::Names;
+use uc_types::sort::is_event;
+use uc_types::tables::Tables;
+
+fn no_around() -> Around
+    ensures { result ≡ no_around }
+{
+    Around {
+        home: None,
+        main: false,
+        role: Role::Plain,
+        inner: false,
+        returns: false,
+        in_loop: false,
+        in_handler: false,
+        joins: false,
+        bound: None,
+    }
+}
+
+// Whether a member is the prototype of a routine, but for its parameters.
+fn declares(sig: &Sig, form: &MemberForm) -> bool
+    ensures { result ≡ form_declares sig.now (member_form_at form.now) }
+{
+    match form {
+        MemberForm::Fields { .. } => false,
+        MemberForm::Routine { .. } => false,
+        MemberForm::Proto { sig: proto } => {
+            same_role(sig.role, proto.role) && sig.name.is(proto.name.bytes())
+        }
+    }
+}
+
+fn mark_among(sig: &Sig, members: &[Member]) -> Mark
+    ensures { result ≡ mark_among sig.now members.now }
+{
+    for member in members {
+        if declares(sig, &member.form) {
+            return member.mark;
+        }
+    }
+    Mark::Unmarked
+}
+
+fn outer_mark(tables: &Tables, home: Option<Home>, sig: &Sig) -> Mark
+    ensures { result ≡ outer_mark tables.now home sig.now }
+{
+    match home {
+        Some(home) => class_mark(tables, home.class, sig),
+        None => Mark::Unmarked,
+    }
+}
+
+fn class_mark(tables: &Tables, class: usize, sig: &Sig) -> Mark
+    ensures { result ≡ mark_in sig.now (class_at tables.now class) }
+{
+    match tables.class_at(class) {
+        Some(class) => mark_among(sig, &class.members),
+        None => Mark::Unmarked,
+    }
+}
+
+fn is_of_main(owner: &Owner) -> bool
+    ensures { result ≡ is_of_main owner.now }
+{
+    match owner {
+        Owner::Here => false,
+        Owner::Main => true,
+        Owner::Class(_) => false,
+    }
+}
+
+// The environment of a routine that stands outside of classes.
+fn outer_names<'a>(alloc: Global, tables: &'a Tables<'a>, sig: &Sig) -> Names<'a>
+    ensures { result ≡ outer_env tables.now sig.now }
+{
+    let home = owner_home(tables, &sig.owner);
+    let mark = outer_mark(tables, home, sig);
+    let around = sig_around(tables, home, is_of_main(&sig.owner), mark, sig);
+    Names::new(alloc, tables, around)
+}
+
+fn check_outer(
+    alloc: Global,
+    tables: &Tables,
+    routine: &Routine,
+    found: &mut Found,
+) -> Result<(), AllocError>
+    ensures { OnOk result (found.new ≡ noted found.old (routine_visits (outer_env tables.now routine.now.sig) routine.now)) }
+{
+    let mut names = outer_names(alloc, tables, &routine.sig);
+    check_routine(&mut names, routine, found)?;
+    Ok(())
+}
+
+#[tactic(auto, using(uc_bodies::proofs::Joined::joining))]
+fn check_constant(alloc: Global, tables: &Tables, constant: &Constant, found: &mut Found)
+    ensures { found.new ≡ noted found.old (visits (plain_env tables.now no_around) constant.now.value ++ AtConstant (plain_env tables.now no_around) constant.now ∷ []) }
+{
+    let names = Names::new(alloc, tables, no_around());
+    let entity = check_expr(&names, &constant.value, found);
+    ask_constant(&names, constant, entity, found);
+}
+
+fn check_proto(
+    alloc: Global,
+    tables: &Tables,
+    sig: &Sig,
+    found: &mut Found,
+) -> Result<(), AllocError>
+    ensures { OnOk result (found.new ≡ noted found.old (sig_visits (plain_env tables.now no_around) sig.now)) }
+{
+    let mut names = Names::new(alloc, tables, no_around());
+    check_sig(&mut names, sig, found)?;
+    Ok(())
+}
+
+// What stands before an item: so many classes, of which so many are events.
+#[derive(Clone, Copy)]
+struct Before {
+    classes: usize,
+    events: usize,
+}
+
+fn check_item(
+    alloc: Global,
+    tables: &Tables,
+    before: Before,
+    item: &Item,
+    found: &mut Found,
+) -> Result<(), AllocError>
+    requires events { before.events ≡ events_before tables.now before.classes }
+    requires at { ItemAt tables.now before.classes item.now }
+    ensures { OnOk result (found.new ≡ noted found.old (item_visits tables.now before.classes item.now)) }
+{
+    match &item.form {
+        ItemForm::Class { class } => {
+            check_class(alloc, tables, class, before.classes, before.events, found)?;
+            Ok(())
+        }
+        ItemForm::Routine { routine } => {
+            check_outer(alloc, tables, routine, found)?;
+            Ok(())
+        }
+        ItemForm::Constant { constant } => {
+            check_constant(alloc, tables, constant, found);
+            Ok(())
+        }
+        ItemForm::Proto { sig } => {
+            check_proto(alloc, tables, sig, found)?;
+            Ok(())
+        }
+        ItemForm::Forward { .. } => Ok(()),
+        ItemForm::Using { .. } => Ok(()),
+    }
+}
+
+fn class_count(item: &Item) -> usize
+    ensures count { result ≡ classes_in item.now }
+    ensures few { result ≤ 1 }
+{
+    match &item.form {
+        ItemForm::Class { .. } => 1,
+        ItemForm::Routine { .. } => 0,
+        ItemForm::Constant { .. } => 0,
+        ItemForm::Proto { .. } => 0,
+        ItemForm::Forward { .. } => 0,
+        ItemForm::Using { .. } => 0,
+    }
+}
+
+fn event_count(item: &Item) -> usize
+    ensures count { result ≡ events_in item.now }
+    ensures few { result ≤ 1 }
+{
+    match &item.form {
+        ItemForm::Class { class } => usize::from(is_event(class.kind)),
+        ItemForm::Routine { .. } => 0,
+        ItemForm::Constant { .. } => 0,
+        ItemForm::Proto { .. } => 0,
+        ItemForm::Forward { .. } => 0,
+        ItemForm::Using { .. } => 0,
+    }
+}
+
+// An item by its place.
+#[tactic(auto, using(uc_bodies::proofs::Joined::joining))]
+fn check_placed(
+    alloc: Global,
+    tables: &Tables,
+    before: Before,
+    item: &Item,
+    place: usize,
+    found: &mut Found,
+) -> Result<(), AllocError>
+    requires events { before.events ≡ events_before tables.now before.classes }
+    requires at { ItemAt tables.now before.classes item.now }
+    ensures { OnOk result (found.new ≡ noted found.old (AtItem tables.now item.now place ∷ item_visits tables.now before.classes item.now)) }
+{
+    ask_item(tables, item, place, found);
+    check_item(alloc, tables, before, item, found)?;
+    Ok(())
+}
+
+/// The items of a program.
+#[tactic(auto, using(uc_bodies::proofs::Joined::joining))]
+pub fn check_items(alloc: Global, tables: &Tables, found: &mut Found) -> Result<(), AllocError>
+    ensures { OnOk result (found.new ≡ noted found.old (items_visits tables.now 0 0 tables.now.items)) }
+{
+    let items = items_of(tables);
+    let mut classes = 0;
+    let mut events = 0;
+    for (place, item) in items.iter().enumerate() {
+        let before = Before { classes, events };
+        check_placed(alloc, tables, before, item, place, found)?;
+        classes += class_count(item);
+        events += event_count(item);
+    }
+    Ok(())
+}
+
+fn items_of<'a>(tables: &Tables<'a>) -> &'a [Item]
+    ensures { result.now ≡ tables.now.items }
+{
+    let program = tables.program();
+    &program.items
+}

@@ -1,0 +1,468 @@
+// Tests of classes and their members.
+
+ghost use Rattle.std.specs.Prelude.{◌≡◌, ◌≤◌, ◌+◌, MatchOption, None, Some, length, map, nat_lt, take};
+ghost use Rattle.std.specs.List.{list_all, list_any};
+ghost use Rattle.uc_tree.specs.Names.{same_name};
+ghost use Rattle.uc_tree.specs.ProgramViews.{member_form_at};
+ghost use Rattle.uc_tree.specs.Numbering.{exclusive_name, is_exclusive, main_name, member_form_name, mutex_members, sig_name};
+ghost use Rattle.uc_tree.specs.Statements.{stmts_of};
+ghost use Rattle.uc_tree.specs.declared.limits.TheConstants.{EVENT_FIELDS, MEMBERS};
+ghost use Rattle.uc_meaning.specs.ClassBreaks.{builds_more, declared_names, events_before, fields_before, fields_in, form_fields, has_number, is_empty_body, is_empty_constructor, is_event_field, is_event_member, is_field_of, is_owner, is_sound_event, is_well_marked, form_declares_names, form_is_main, form_may_be_marked, form_unset, has_unset, is_new_field, is_new_member, is_new_routine, is_unmarked, is_unset, is_well_built, is_well_mained, maybe_needs, members_declare, needs_init, sig_declares, sort_needs};
+ghost use Rattle.uc_meaning.specs.Names.{constructor_among, constructor_params};
+
+use crate::sig::{is_main_of_class, may_be_marked};
+use uc_meaning::rules::{FieldPlace, Sort};
+use uc_numbers::members::member_number;
+use uc_tree::class::{Class, Init, Member, MemberForm, Routine, Sig};
+use uc_tree::declare::Declarator;
+use uc_tree::kinds::{Access, Base, Mark, Owner};
+use uc_tree::limits::{EVENT_FIELDS, PROGRAM_EVENTS};
+use uc_tree::name::Name;
+use uc_tree::program::{Item, ItemForm, Program};
+use uc_tree::stmt::Stmt;
+use uc_types::sort::{
+    has_main, is_constructor, is_event, is_event_sort, is_mutex, is_plain, is_public,
+    is_scalar_sort,
+};
+use uc_types::tables::{Tables, constructor_among};
+
+fn any_named(declarators: &[Declarator], name: &[u8]) -> bool
+    ensures { result ≡ list_any (λ d. same_name d.name name.now) declarators.now }
+{
+    declarators.iter().any(|d| d.name.is(name))
+}
+
+fn is_declared(declarators: &[Declarator], name: &Name) -> bool
+    ensures { result ≡ list_any (λ x. same_name x name.now) (declared_names declarators.now) }
+{
+    let found = any_named(declarators, name.bytes());
+    found
+}
+
+fn names_main_field(declarators: &[Declarator]) -> bool
+    ensures { result ≡ list_any (λ n. same_name n main_name) (declared_names declarators.now) }
+{
+    let found = any_named(declarators, b"main");
+    found
+}
+
+// Whether one of the first of these has a name.
+fn any_named_before(declarators: &[Declarator], count: usize, name: &Name) -> bool
+    ensures { result ≡ list_any (λ d. same_name d.name name.now) (take count declarators.now) }
+{
+    declarators
+        .iter()
+        .take(count)
+        .any(|d| d.name.is(name.bytes()))
+}
+
+fn declares(sig: &Sig, name: &Name) -> bool
+    ensures { result ≡ list_any (λ x. same_name x name.now) (sig_declares sig.now) }
+{
+    is_plain(sig.role) && sig.name.is(name.bytes())
+}
+
+fn form_declares(form: &MemberForm, name: &Name) -> bool
+    ensures { result ≡ list_any (λ x. same_name x name.now) (form_declares_names (member_form_at form.now)) }
+{
+    match form {
+        MemberForm::Fields { declarators, .. } => is_declared(declarators, name),
+        MemberForm::Routine { routine } => declares(&routine.sig, name),
+        MemberForm::Proto { sig } => declares(sig, name),
+    }
+}
+
+#[tactic(auto, using(crate::proofs::Listed::listing))]
+fn is_declared_in(members: &[Member], name: &Name) -> bool
+    ensures { result ≡ list_any (λ x. same_name x name.now) (members_declare members.now) }
+{
+    for member in members {
+        if form_declares(&member.form, name) {
+            return true;
+        }
+    }
+    false
+}
+
+// Whether one of the first members declares a name.
+#[tactic(auto, using(crate::proofs::Listed::listing))]
+fn is_declared_before(members: &[Member], count: usize, name: &Name) -> bool
+    ensures { result ≡ list_any (λ x. same_name x name.now) (members_declare (take count members.now)) }
+{
+    let end = count.min(members.len());
+    is_declared_in(&members[..end], name)
+}
+
+fn is_new_member(class: &Class, member: usize, name: &Name) -> bool
+    ensures { result ≡ is_new_member class.now member name.now }
+{
+    !(is_declared_before(&class.members, member, name) || name.is(b"uUnhandled"))
+}
+
+/// Whether no member or field before it declares the name of a field.
+pub fn is_new_field(
+    class: &Class,
+    place: FieldPlace,
+    declarators: &[Declarator],
+    name: &Name,
+) -> bool
+    ensures { result ≡ is_new_field class.now place declarators.now name.now }
+{
+    is_new_member(class, place.member, name) && !any_named_before(declarators, place.index, name)
+}
+
+/// Whether no member before it declares the name of a routine.
+pub fn is_new_routine(class: &Class, member: usize, sig: &Sig) -> bool
+    ensures { result ≡ is_new_routine class.now member sig.now }
+{
+    !is_plain(sig.role) || is_new_member(class, member, &sig.name)
+}
+
+fn is_main_form(form: &MemberForm) -> bool
+    ensures { result ≡ form_is_main (member_form_at form.now) }
+{
+    match form {
+        MemberForm::Fields { .. } => false,
+        MemberForm::Routine { routine } => is_main_of_class(&routine.sig),
+        MemberForm::Proto { sig } => is_main_of_class(sig),
+    }
+}
+
+fn has_main_routine(members: &[Member]) -> bool
+    ensures { result ≡ list_any (λ m. form_is_main m.form) members.now }
+{
+    members.iter().any(|m| is_main_form(&m.form))
+}
+
+fn names_main(sig: &Sig) -> bool
+    ensures { result ≡ list_any (λ n. same_name n main_name) (sig_declares sig.now) }
+{
+    is_plain(sig.role) && sig.name.is(b"main")
+}
+
+fn form_names_main(form: &MemberForm) -> bool
+    ensures { result ≡ list_any (λ n. same_name n main_name) (form_declares_names (member_form_at form.now)) }
+{
+    match form {
+        MemberForm::Fields { declarators, .. } => names_main_field(declarators),
+        MemberForm::Routine { routine } => names_main(&routine.sig),
+        MemberForm::Proto { sig } => names_main(sig),
+    }
+}
+
+#[tactic(auto, using(crate::proofs::Listed::listing))]
+fn declares_main(members: &[Member]) -> bool
+    ensures { result ≡ list_any (λ n. same_name n main_name) (members_declare members.now) }
+{
+    for member in members {
+        if form_names_main(&member.form) {
+            return true;
+        }
+    }
+    false
+}
+
+/// Whether a class has a main just where its kind has one.
+pub fn is_well_mained(class: &Class) -> bool
+    ensures { result ≡ is_well_mained class.now }
+{
+    if has_main(class.kind) {
+        has_main_routine(&class.members)
+    } else {
+        !declares_main(&class.members)
+    }
+}
+
+fn is_unmarked(mark: Mark) -> bool
+    ensures { result ≡ is_unmarked mark }
+{
+    match mark {
+        Mark::Unmarked => true,
+        Mark::Mutex => false,
+        Mark::Nomutex => false,
+    }
+}
+
+fn may_form_be_marked(form: &MemberForm) -> bool
+    ensures { result ≡ form_may_be_marked (member_form_at form.now) }
+{
+    match form {
+        MemberForm::Fields { .. } => false,
+        MemberForm::Routine { routine } => may_be_marked(&routine.sig),
+        MemberForm::Proto { sig } => may_be_marked(sig),
+    }
+}
+
+// Whether a member that has a number among the mutex members of its class, if it is to have one, has it: the names are those
+// of the members that have.
+fn has_number(class: &Class, names: &[&Name], member: &Member) -> bool
+    requires names { map (λ n. n.now) names.now ≡ take MEMBERS (mutex_members class.now) }
+    requires few { length names.now ≤ MEMBERS }
+    ensures { result ≡ has_number class.now (exclusive_name member.now) }
+{
+    if !is_exclusive(member.mark, member.access) {
+        return true;
+    }
+    match form_name(&member.form) {
+        Some(name) => !is_mutex(class.kind) || member_number(names, name).is_some(),
+        None => true,
+    }
+}
+
+fn sig_name(sig: &Sig) -> Option<&Name>
+    ensures { MatchOption result (sig_name sig.now ≡ None) (λ n. sig_name sig.now ≡ Some n.now) }
+{
+    if may_be_marked(sig) {
+        Some(&sig.name)
+    } else {
+        None
+    }
+}
+
+// The name of a routine that may be a mutex member.
+fn form_name(form: &MemberForm) -> Option<&Name>
+    ensures { MatchOption result (member_form_name (member_form_at form.now) ≡ None) (λ n. member_form_name (member_form_at form.now) ≡ Some n.now) }
+{
+    match form {
+        MemberForm::Fields { .. } => None,
+        MemberForm::Routine { routine } => sig_name(&routine.sig),
+        MemberForm::Proto { sig } => sig_name(sig),
+    }
+}
+
+fn is_exclusive(mark: Mark, access: Access) -> bool
+    ensures { result ≡ is_exclusive mark access }
+{
+    match mark {
+        Mark::Unmarked => is_public(access),
+        Mark::Mutex => true,
+        Mark::Nomutex => false,
+    }
+}
+
+/// Whether a member may stand as it is marked, and has a number if it is to have one.
+pub fn is_well_marked(class: &Class, names: &[&Name], member: &Member) -> bool
+    requires names { map (λ n. n.now) names.now ≡ take MEMBERS (mutex_members class.now) }
+    requires few { length names.now ≤ MEMBERS }
+    ensures { result ≡ is_well_marked class.now member.now }
+{
+    (is_unmarked(member.mark) || (is_mutex(class.kind) && may_form_be_marked(&member.form)))
+        && has_number(class, names, member)
+}
+
+/// How many parameters the constructor of a class has.
+pub fn count_params(tables: &Tables, class: usize) -> usize
+    ensures { result ≡ length (constructor_params tables.now class) }
+{
+    tables.constructor_params(class).len()
+}
+
+fn sort_needs(tables: &Tables, sort: Sort) -> bool
+    ensures { result ≡ sort_needs tables.now sort }
+{
+    match sort {
+        Sort::Void => false,
+        Sort::Int => false,
+        Sort::Char => false,
+        Sort::Bool => false,
+        Sort::Condition => false,
+        Sort::Cluster => false,
+        Sort::Processor => true,
+        Sort::Object { class, .. } => count_params(tables, class) != 0,
+    }
+}
+
+fn maybe_needs(tables: &Tables, sort: Option<Sort>) -> bool
+    ensures { result ≡ maybe_needs tables.now sort }
+{
+    match sort {
+        Some(sort) => sort_needs(tables, sort),
+        None => false,
+    }
+}
+
+fn needs_init(tables: &Tables, base: &Base, declarator: &Declarator) -> bool
+    ensures { result ≡ needs_init tables.now base.now declarator.now }
+{
+    declarator.by_ref || (!declarator.len.is_some() && maybe_needs(tables, tables.sort_of(base)))
+}
+
+fn is_set(inits: &[Init], name: &Name) -> bool
+    ensures { result ≡ list_any (λ x. same_name x.name name.now) inits.now }
+{
+    inits.iter().any(|x| x.name.is(name.bytes()))
+}
+
+fn is_unset(tables: &Tables, inits: &[Init], base: &Base, declarator: &Declarator) -> bool
+    ensures { result ≡ is_unset tables.now inits.now base.now declarator.now }
+{
+    needs_init(tables, base, declarator) && !is_set(inits, &declarator.name)
+}
+
+fn form_unset(tables: &Tables, inits: &[Init], form: &MemberForm) -> bool
+    ensures { result ≡ form_unset tables.now inits.now (member_form_at form.now) }
+{
+    match form {
+        MemberForm::Fields {
+            base,
+            declarators,
+            ..
+        } => any_unset(tables, inits, base, declarators),
+        MemberForm::Routine { .. } => false,
+        MemberForm::Proto { .. } => false,
+    }
+}
+
+fn any_unset(tables: &Tables, inits: &[Init], base: &Base, declarators: &[Declarator]) -> bool
+    ensures { result ≡ list_any (is_unset tables.now inits.now base.now) declarators.now }
+{
+    declarators.iter().any(|d| is_unset(tables, inits, base, d))
+}
+
+/// Whether a field of the class needs an initialiser that is not among these.
+pub fn has_unset(tables: &Tables, inits: &[Init], class: &Class) -> bool
+    ensures { result ≡ has_unset tables.now inits.now (Some class.now) }
+{
+    class
+        .members
+        .iter()
+        .any(|m| form_unset(tables, inits, &m.form))
+}
+
+/// Whether a class without a constructor needs none.
+pub fn is_well_built(tables: &Tables, class: &Class) -> bool
+    ensures { result ≡ is_well_built tables.now class.now }
+{
+    constructor_among(&class.members).is_some() || !has_unset(tables, &[], class)
+}
+
+fn count_fields(form: &MemberForm) -> usize
+    ensures { result ≡ length (form_fields (member_form_at form.now)) }
+{
+    match form {
+        MemberForm::Fields { declarators, .. } => declarators.len(),
+        MemberForm::Routine { .. } => 0,
+        MemberForm::Proto { .. } => 0,
+    }
+}
+
+// Whether an event may have one more field behind `index` others of its own member and those of the members before it.
+#[tactic(auto, using(crate::proofs::Listed::listing))]
+fn may_have_field(before: &[Member], index: usize) -> bool
+    ensures { result ≡ nat_lt (fields_in before.now + index) EVENT_FIELDS }
+{
+    let mut count = index;
+    for member in before {
+        if count >= usize::from(EVENT_FIELDS) {
+            return false;
+        }
+        count += count_fields(&member.form);
+    }
+    count < usize::from(EVENT_FIELDS)
+}
+
+#[tactic(auto, using(crate::proofs::Listed::listing))]
+fn is_few(class: &Class, place: FieldPlace) -> bool
+    ensures { result ≡ nat_lt (fields_before class.now place) EVENT_FIELDS }
+{
+    let end = place.member.min(class.members.len());
+    may_have_field(&class.members[..end], place.index)
+}
+
+fn is_event_field(class: &Class, declarator: &Declarator, place: FieldPlace, sort: Sort) -> bool
+    ensures { result ≡ is_event_field class.now declarator.now place sort }
+{
+    is_scalar_sort(sort)
+        && (!declarator.by_ref && (!declarator.len.is_some() && is_few(class, place)))
+}
+
+/// Whether a field of this sort may stand in the class: in an event one of at most two scalars, elsewhere no event.
+pub fn is_field_of(class: &Class, declarator: &Declarator, place: FieldPlace, sort: Sort) -> bool
+    ensures { result ≡ is_field_of class.now declarator.now place sort }
+{
+    if is_event(class.kind) {
+        is_event_field(class, declarator, place, sort)
+    } else {
+        !is_event_sort(sort)
+    }
+}
+
+fn is_empty_body(body: &[Stmt]) -> bool
+    ensures { result ≡ is_empty_body (stmts_of body.now) }
+{
+    match body.first() {
+        Some(_) => false,
+        None => true,
+    }
+}
+
+fn is_empty_constructor(routine: &Routine) -> bool
+    ensures { result ≡ is_empty_constructor routine.now }
+{
+    is_constructor(routine.sig.role) && is_empty_body(&routine.body)
+}
+
+/// Whether the owner is the class of a name.
+pub fn is_owner(class: &Name, owner: &Owner) -> bool
+    ensures { result ≡ is_owner class.now owner.now }
+{
+    match owner {
+        Owner::Here => false,
+        Owner::Main => false,
+        Owner::Class(name) => class.is(name.bytes()),
+    }
+}
+
+// Whether it is a constructor of the class that stands outside of it and has a statement.
+fn builds_more(class: &Name, item: &Item) -> bool
+    ensures { result ≡ builds_more class.now item.now }
+{
+    match &item.form {
+        ItemForm::Class { .. } => false,
+        ItemForm::Routine { routine } => {
+            is_owner(class, &routine.sig.owner)
+                && (is_constructor(routine.sig.role) && !is_empty_body(&routine.body))
+        }
+        ItemForm::Constant { .. } => false,
+        ItemForm::Proto { .. } => false,
+        ItemForm::Forward { .. } => false,
+        ItemForm::Using { .. } => false,
+    }
+}
+
+fn has_more(class: &Name, items: &[Item]) -> bool
+    ensures { result ≡ list_any (builds_more class.now) items.now }
+{
+    items.iter().any(|x| builds_more(class, x))
+}
+
+fn is_event_member(program: &Program, class: &Class, form: &MemberForm) -> bool
+    ensures { result ≡ is_event_member program.now class.now (member_form_at form.now) }
+{
+    match form {
+        MemberForm::Fields { .. } => true,
+        MemberForm::Routine { routine } => is_empty_constructor(routine),
+        MemberForm::Proto { sig } => {
+            is_constructor(sig.role) && !has_more(&class.name, &program.items)
+        }
+    }
+}
+
+fn are_event_members(program: &Program, class: &Class, members: &[Member]) -> bool
+    ensures { result ≡ list_all (λ m. is_event_member program.now class.now m.form) members.now }
+{
+    members
+        .iter()
+        .all(|m| is_event_member(program, class, &m.form))
+}
+
+/// Whether an event has no members but fields and a constructor with an empty body, and is among those that a program may
+/// have, where so many events stand before it.
+pub fn is_sound_event(program: &Program, class: &Class, place: usize, events: usize) -> bool
+    requires { events ≡ events_before program.now place }
+    ensures { result ≡ is_sound_event program.now class.now place }
+{
+    !is_event(class.kind)
+        || (are_event_members(program, class, &class.members)
+            && events < usize::from(PROGRAM_EVENTS))
+}

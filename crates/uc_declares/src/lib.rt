@@ -1,0 +1,7 @@
+// Tests of the rules on signatures, classes, initialisers and items.
+#![tactic(auto)]
+
+pub mod class;
+pub mod init;
+pub mod item;
+pub mod sig;

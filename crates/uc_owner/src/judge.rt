@@ -1,0 +1,202 @@
+// The rules on who owns what, at one parameter, field or argument.
+
+ghost use Rattle.std.specs.Prelude.{◌≡◌, not};
+ghost use Rattle.uc_meaning.specs.Asked.{of_sort};
+ghost use Rattle.uc_meaning.specs.declared.rule.Rule.TheVariants.{O4, O5};
+ghost use Rattle.uc_meaning.specs.Firsts.{after};
+ghost use Rattle.uc_meaning.specs.OwnerBreaks.{begins_well, condition_field_breaks, is_home_of, is_no_condition_sort, is_root, is_root_origin, is_shared, is_unshared, lone_condition, may_refer, reference_breaks, root_name, shared_breaks, unbound_reference, unshared_reference};
+ghost use Rattle.uc_meaning.specs.ProgramVisits.{is_reference};
+ghost use Rattle.uc_meaning.specs.Visits.{AtBound, AtField, AtParam};
+ghost use Rattle.uc_tree.specs.declared.kinds.Access.{Access};
+ghost use Rattle.uc_meaning.specs.Sorts.{sort_of};
+ghost use Rattle.uc_tree.specs.Numbering.{is_mutex};
+ghost use Rattle.uc_types.specs.Told.{told};
+ghost use Rattle.uc_meaning.specs.declared.rules.FieldPlace.{FieldPlace};
+
+use crate::bind::{is_bound_inside, root_name};
+use uc_meaning::rule::Rule;
+use uc_meaning::rules::{Expected, Home, Meant, Origin, Sort};
+use uc_tree::class::Class;
+use uc_tree::declare::Declarator;
+use uc_tree::expr::Expr;
+use uc_tree::kinds::{Base, Param};
+use uc_tree::pos::Pos;
+use uc_types::found::Found;
+use uc_types::names::Names;
+use uc_types::sort::{
+    is_cluster, is_condition, is_constructor, is_mutex, is_mutex_sort, is_plain_sort,
+    is_scalar_sort,
+};
+use uc_types::tables::Tables;
+
+fn is_shared(sort: Sort) -> bool
+    ensures { result ≡ is_shared sort }
+{
+    is_cluster(sort) || is_mutex_sort(sort)
+}
+
+fn is_home_of_mutex(home: Option<Home>) -> bool
+    ensures { result ≡ is_home_of is_mutex home }
+{
+    match home {
+        Some(home) => is_mutex(home.kind),
+        None => false,
+    }
+}
+
+fn note_condition(sort: Option<Sort>, at: Pos, found: &mut Found)
+    ensures { found.new ≡ after found.old (of_sort sort is_no_condition_sort O4 at) }
+{
+    match sort {
+        Some(sort) => found.note_unless(!is_condition(sort), Rule::O4, at),
+        None => {}
+    }
+}
+
+fn note_shared(names: &Names, sort: Option<Sort>, param: &Param, found: &mut Found)
+    requires sort { sort ≡ sort_of names.now.program param.now.base }
+    ensures { found.new ≡ after found.old (shared_breaks names.now param.now) }
+{
+    let around = names.around();
+    if param.by_ref && (is_constructor(around.role) && is_home_of_mutex(around.home)) {
+        match sort {
+            Some(sort) => found.note_unless(is_shared(sort), Rule::O1, param.pos),
+            None => {}
+        }
+    }
+}
+
+/// What these rules ask of a parameter.
+pub fn note_param(names: &Names, param: &Param, found: &mut Found)
+    ensures { found.new ≡ after (after found.old (unshared_reference (AtParam names.now param.now))) (lone_condition (AtParam names.now param.now)) }
+{
+    let sort = names.tables().sort_of(&param.base);
+    note_shared(names, sort, param, found);
+    note_condition(sort, param.pos, found);
+}
+
+fn is_unshared(sort: Sort) -> bool
+    ensures { result ≡ is_unshared sort }
+{
+    is_scalar_sort(sort) || is_plain_sort(sort)
+}
+
+fn may_refer(
+    tables: &Tables,
+    class: &Class,
+    place: usize,
+    declarator: &Declarator,
+    sort: Sort,
+) -> bool
+    ensures { result ≡ may_refer tables.now class.now place declarator.now.name sort }
+{
+    !is_unshared(sort) || is_bound_inside(tables, class, place, &declarator.name)
+}
+
+fn note_unshared(
+    tables: &Tables,
+    class: &Class,
+    place: usize,
+    sort: Option<Sort>,
+    declarator: &Declarator,
+    found: &mut Found,
+)
+    ensures { found.new ≡ after found.old (of_sort sort (may_refer tables.now class.now place declarator.now.name) O5 declarator.now.pos) }
+{
+    match sort {
+        Some(sort) => {
+            let holds = may_refer(tables, class, place, declarator, sort);
+            found.note_unless(holds, Rule::O5, declarator.pos);
+        }
+        None => {}
+    }
+}
+
+fn note_reference(
+    names: &Names,
+    class: &Class,
+    sort: Option<Sort>,
+    base: &Base,
+    declarator: &Declarator,
+    found: &mut Found,
+)
+    requires sort { sort ≡ sort_of names.now.program base.now }
+    ensures { found.new ≡ after found.old (reference_breaks names.now class.now names.now.around.home base.now declarator.now) }
+{
+    match names.around().home {
+        Some(home) => {
+            if declarator.by_ref && is_mutex(home.kind) {
+                let tables = names.tables();
+                note_unshared(tables, class, home.class, sort, declarator, found);
+            }
+        }
+        None => {}
+    }
+}
+
+/// What these rules ask of a field.
+pub fn note_field(
+    names: &Names,
+    class: &Class,
+    base: &Base,
+    declarator: &Declarator,
+    found: &mut Found,
+)
+    ensures { (access : Access) (field : FieldPlace) → found.new ≡ after (after found.old (lone_condition (AtField names.now class.now access base.now declarator.now field))) (unbound_reference (AtField names.now class.now access base.now declarator.now field)) }
+{
+    let sort = names.tables().sort_of(base);
+    if !is_home_of_mutex(names.around().home) {
+        note_condition(sort, declarator.pos, found);
+    }
+    note_reference(names, class, sort, base, declarator, found);
+}
+
+/// Whether a reference is asked for.
+pub fn is_reference(expected: Expected) -> bool
+    ensures { result ≡ is_reference expected }
+{
+    match expected {
+        Expected::Anything => false,
+        Expected::Nothing => false,
+        Expected::Scalar => false,
+        Expected::Reference { .. } => true,
+    }
+}
+
+fn is_root_origin(origin: Origin) -> bool
+    ensures { result ≡ is_root_origin origin }
+{
+    match origin {
+        Origin::Local => false,
+        Origin::Parameter { by_ref } => by_ref,
+        Origin::Field { .. } => true,
+        Origin::Method { .. } => false,
+        Origin::Outer => false,
+    }
+}
+
+fn is_root(meant: Option<Meant>) -> bool
+    ensures { result ≡ is_root meant }
+{
+    match meant {
+        Some(meant) => is_root_origin(meant.origin),
+        None => false,
+    }
+}
+
+fn begins_well(names: &Names, e: &Expr) -> bool
+    ensures { result ≡ begins_well names.now (root_name e.now) }
+{
+    match root_name(e) {
+        Some(name) => is_root(names.named(name)),
+        None => false,
+    }
+}
+
+/// What these rules ask of the argument of an initialiser.
+pub fn note_bound(names: &Names, e: &Expr, expected: Expected, found: &mut Found)
+    ensures { found.new ≡ told found.old (AtBound names.now e.now expected) }
+{
+    let holds = !is_reference(expected) || begins_well(names, e);
+    found.note_unless(holds, Rule::O6, e.first_token());
+}

@@ -1,4 +1,0 @@
-pub mod Found
-pub mod Starts
-pub mod Judged
-pub mod Laws

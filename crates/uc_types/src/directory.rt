@@ -1,0 +1,78 @@
+// Tables of names with what they mean.
+
+ghost use Rattle.std.specs.Prelude.{◌≡◌, IfOk, map, option_map, slice_get};
+ghost use Rattle.uc_sizes.specs.Places.{IsPlaces};
+ghost use Rattle.uc_types.specs.Listings.{first_named};
+
+use std::alloc::{AllocError, Global};
+use std::marker::Model;
+use uc_meaning::rules::{Meant, Seen};
+use uc_names::scope::Scope;
+use uc_sizes::places::{no_places, note_place, place_in};
+use uc_tree::name::Name;
+
+/// Names with what they mean; of two with one name the first counts. Contracts see the list.
+#[derive(Drop)]
+pub struct Directory {
+    seen: Vec<Seen>,
+    places: Scope,
+}
+
+impl Model for Directory {
+    ghost use Rattle.std.specs.Prelude.{List, map};
+    ghost use Rattle.uc_meaning.specs.declared.rules.Seen.{Seen};
+    ghost use Rattle.uc_sizes.specs.Places.{IsPlaces};
+
+    ghost Value = { List Seen };
+
+    ghost view = { λ a. a.seen.items };
+
+    ghost invariant = { λ a. IsPlaces (map (λ s. s.name) a.seen.items) a.places };
+}
+
+fn places_of(alloc: Global, seen: &[Seen]) -> Result<Scope, AllocError>
+    ensures { IfOk result (λ places. IsPlaces (map (λ s. s.name) seen.now) places) }
+{
+    let mut places = no_places(alloc)?;
+    for (place, one) in seen.iter().enumerate() {
+        note_place(&mut places, &one.name, place)?;
+    }
+    Ok(places)
+}
+
+/// What the name with this place means.
+pub fn meant_at(seen: &[Seen], place: usize) -> Option<Meant>
+    ensures { result ≡ option_map (λ s. s.meant) (slice_get seen.now place) }
+{
+    match seen.get(place) {
+        Some(one) => Some(one.meant),
+        None => None,
+    }
+}
+
+fn find(seen: &[Seen], places: &Scope, name: &Name) -> Option<Meant>
+    requires { IsPlaces (map (λ s. s.name) seen.now) places.now }
+    ensures { result ≡ first_named seen.now name.now }
+{
+    match place_in(places, name) {
+        Some(place) => meant_at(seen, place),
+        None => None,
+    }
+}
+
+impl Directory {
+    /// The table of these names.
+    pub fn new(alloc: Global, seen: Vec<Seen>) -> Result<Directory, AllocError>
+        ensures { IfOk result (λ d. d ≡ seen.items) }
+    {
+        let places = places_of(alloc, &seen)?;
+        Ok(Directory { seen, places })
+    }
+
+    /// What a name means.
+    pub fn find(&self, name: &Name) -> Option<Meant>
+        ensures { result ≡ first_named self.now name.now }
+    {
+        find(&self.seen, &self.places, name)
+    }
+}
