@@ -1,9 +1,11 @@
 -- The code of a piece goes on standing where its own range does not change.
 use Rattle.std.proofs.Common.{ℕ, ◌+◌, ◌≤◌, length, arith, refl, ◌∙◌}
 use Rattle.uc_code.specs.declared.op.Op.{Op}
-use Rattle.uc_code.specs.declared.op.Op.TheVariants.{Jump, IfZero, IfNonzero}
+use Rattle.uc_tree.specs.Source.{Order, TestFirst, BodyFirst, NoTest}
+use Rattle.uc_code.specs.declared.op.Op.TheVariants.{Jump, IfZero, IfNonzero, Tick}
+use Rattle.uc_code.specs.declared.rows.Mark.{Mark}
 use Rattle.uc_code.specs.Laid.{Laid}
-use Rattle.uc_code.specs.Ranges.{Nothing, One, Both, Behind, When, Unless, Fork, Leads, Arrived, Jumped, Same, Kept, Stable}
+use Rattle.uc_code.specs.Ranges.{Nothing, Never, One, Both, Behind, When, Unless, Fork, Leads, Arrived, Jumped, pads_at, begin_at, BackAt, Turns, Same, Kept, Stable}
 
 pub part : (old new : Laid) (a z b y : ℕ) → a ≤ b → y ≤ z → Same old new a z → Same old new b y
 part old new a z b y h k s = record {
@@ -36,6 +38,9 @@ nothing_stable = record {
   rises = λ code a z h. let e = h.end in omega arith;
   moves = λ old new a z s h. record { end = h.end };
 }
+
+pub never_stable : Stable (λ code. Never)
+never_stable = record { rises = λ code a z h. absurd h; moves = λ old new a z s h. absurd h }
 
 pub one_stable : (op : Op) (line : ℕ) → Stable (λ code. One code op line)
 one_stable op line = record {
@@ -110,3 +115,40 @@ leads_then code a b c (Jumped _ d _ line o h) k = Jumped a d c line o (leads_the
 pub leads_kept : (old new : Laid) (a z : ℕ) → Kept old new → Leads old a z → Leads new a z
 leads_kept old new a _ k (Arrived _) = Arrived a
 leads_kept old new a z k (Jumped _ b _ line o h) = Jumped a b z line (k.same a (Jump b) line o) (leads_kept old new b z k h)
+
+-- loops
+
+pub back_stable : (order : Order) (T : Laid → ℕ → ℕ → Type 0) (turn line : ℕ) → Stable T → Stable (λ code. BackAt code order (T code) turn line)
+back_stable TestFirst T turn line t = both_stable T t (λ code. One code (IfNonzero turn) line) (one_stable (IfNonzero turn) line)
+back_stable BodyFirst T turn line t = both_stable T t (λ code. One code (IfNonzero turn) line) (one_stable (IfNonzero turn) line)
+back_stable NoTest T turn line t = one_stable (Jump turn) line
+
+back_more : (order : Order) (T : Laid → ℕ → ℕ → Type 0) (turn line : ℕ) → Stable T → (code : Laid) (a z : ℕ) → BackAt code order (T code) turn line a z → a + 1 ≤ z
+back_more TestFirst T turn line t code a z h = let l = t.rises code a h.middle h.first in let e = h.second.end in omega arith
+back_more BodyFirst T turn line t code a z h = let l = t.rises code a h.middle h.first in let e = h.second.end in omega arith
+back_more NoTest T turn line t code a z h = let e = h.end in omega arith
+
+module _ (line : ℕ) (order : Order) (T S : Laid → ℕ → ℕ → Type 0) (B : Laid → Mark → ℕ → ℕ → Type 0) (t : Stable T) (s : Stable S) (b : (m : Mark) → Stable (λ code. B code m)) where
+  pub turns_stable : Stable (λ code. Turns code line order (T code) (S code) (B code))
+  turns_stable = record {
+    rises = λ code a z h.
+        let k = (b (pads_at a)).rises code (a + 4) h.step_at h.body in
+        let l = s.rises code h.step_at h.test_at h.step in
+        let r = back_more order T (a + 3) line t code h.test_at z h.back in
+        omega arith;
+    moves = λ old new a z w h.
+        let k = (b (pads_at a)).rises old (a + 4) h.step_at h.body in
+        let l = s.rises old h.step_at h.test_at h.step in
+        let r = back_more order T (a + 3) line t old h.test_at z h.back in
+        record {
+          step_at = h.step_at;
+          test_at = h.test_at;
+          begin = w.same a (Jump (begin_at order (a + 3) h.test_at)) line (omega arith) (omega arith) h.begin;
+          leave = w.same (a + 1) (Jump z) line (omega arith) (omega arith) h.leave;
+          again = w.same (a + 2) (Jump h.step_at) line (omega arith) (omega arith) h.again;
+          tick = w.same (a + 3) Tick line (omega arith) (omega arith) h.tick;
+          body = (b (pads_at a)).moves old new (a + 4) h.step_at (part old new a z (a + 4) h.step_at (omega arith) (omega arith) w) h.body;
+          step = s.moves old new h.step_at h.test_at (part old new a z h.step_at h.test_at (omega arith) (omega arith) w) h.step;
+          back = (back_stable order T (a + 3) line t).moves old new h.test_at z (part old new a z h.test_at z (omega arith) (omega arith) w) h.back;
+        };
+  }

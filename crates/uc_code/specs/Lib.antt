@@ -1,6 +1,7 @@
 pub mod Codes
 pub mod Drafts
 pub mod Laid
+pub mod Leaving
 pub mod Listing
 pub mod Lowered
 pub mod Operands

@@ -3,7 +3,7 @@ use Rattle.std.specs.Prelude.{ℕ, ℤ, pos, ◌+◌, List, [], ◌∷◌, ◌++
 use Rattle.std.specs.Fmt.{signed_decimal}
 use Rattle.uc_code.specs.declared.op.Op.{Op}
 use Rattle.uc_tree.specs.ValueForms.{form_number}
-use Rattle.uc_code.specs.declared.op.Op.TheVariants.{Push, Duplicate, Discard, Over, DiscardBelow, Local, This, Via, ViaThis, Field, Index, Load, Store, Keep, Clear, Add, Subtract, Multiply, Divide, Remainder, Negate, Not, Equal, NotEqual, Less, AtMost, Greater, AtLeast, ToChar, ToBool, Jump, IfZero, IfNonzero, Tick, Call, CallOn, Return, ReturnValue, NoReturn, Enter, Leave, Make, Made, Spawn, Gone, Coroutine, Live, UnwindCoroutine, Resume, Suspend, EndMain, Throw, Raise, Again, RaiseAt, RaiseAtCoroutine, Handled, Enable, Disable, Restore, Poll, Accept, Wait, Signal, SignalBlock, Empty, Front, Print, Text, Hold, Flush, Read, Fail, Yield, Cluster, ClusterEnd, Processor, ProcessorEnd, Migrate}
+use Rattle.uc_code.specs.declared.op.Op.TheVariants.{Push, Duplicate, Discard, Over, DiscardBelow, Local, This, Via, ViaThis, Field, Index, Load, Store, Keep, Set, Clear, Add, Subtract, Multiply, Divide, Remainder, Negate, Not, Equal, NotEqual, Less, AtMost, Greater, AtLeast, ToChar, ToBool, Jump, IfZero, IfNonzero, Tick, Call, CallOn, Return, ReturnValue, NoReturn, Enter, Leave, Make, Made, Spawn, Gone, Coroutine, Live, UnwindCoroutine, Resume, Suspend, EndMain, Throw, Raise, Again, RaiseAt, RaiseAtCoroutine, Handled, Enable, Disable, Restore, Poll, Accept, Wait, Signal, SignalBlock, Empty, Front, Print, Text, Hold, Flush, Read, Fail, Yield, Cluster, ClusterEnd, Processor, ProcessorEnd, Migrate}
 use Rattle.uc_code.specs.declared.rows.HandlerRow.{HandlerRow}
 use Rattle.uc_code.specs.declared.rows.RowKind.{RowKind}
 use Rattle.uc_code.specs.declared.rows.RowKind.TheVariants.{Catch, CatchResume, CleanUp}
@@ -26,6 +26,7 @@ word_of (Index _ _) = codes "index"
 word_of Load = codes "load"
 word_of Store = codes "store"
 word_of Keep = codes "keep"
+word_of (Set _) = codes "set"
 word_of (Clear _ _) = codes "clear"
 word_of Add = codes "add"
 word_of Subtract = codes "sub"
@@ -108,6 +109,7 @@ operands_of (Index length size) = pos length ∷ pos size ∷ []
 operands_of Load = []
 operands_of Store = []
 operands_of Keep = []
+operands_of (Set n) = pos n ∷ []
 operands_of (Clear cell cells) = pos cell ∷ pos cells ∷ []
 operands_of Add = []
 operands_of Subtract = []

@@ -16,6 +16,10 @@ pub record OpAt (code : Laid) (a : ℕ) (op : Op) (line : ℕ) : Type 0 where
 pub record Nothing (a z : ℕ) : Type 0 where
   pub end : z ≡ a
 
+-- no range: the code of what is not built yet
+abbrev pub Never : ℕ → ℕ → Type 0
+Never a z = ⊥
+
 -- one op
 pub record One (code : Laid) (op : Op) (line a z : ℕ) : Type 0 where
   pub here : OpAt code a op line

@@ -1,13 +1,14 @@
 // The draft in which lowering writes code.
 
-ghost use Rattle.std.specs.Prelude.{◌≡◌, ◌+◌, ◌<◌, ◌≤◌, [], ◌∷◌, ◌++◌, length, take, drop, slice_set, slice_get, MatchOption, OnOk, OnErr};
+ghost use Rattle.std.specs.Prelude.{◌≡◌, ◌+◌, ◌<◌, ◌≤◌, [], ◌∷◌, ◌++◌, length, reverse, take, drop, slice_set, slice_get, MatchOption, OnOk, OnErr};
 ghost use Rattle.uc_tree.specs.declared.limits.TheConstants.{FRAME_CELLS, PROGRAM_OPS, PROGRAM_SIZE};
 ghost use Rattle.uc_code.specs.Drafts.{ops_with, patched, IsInnermost, IsUnknown};
+ghost use Rattle.uc_code.specs.Leaving.{exit_by, end_call, exit_in};
 
 use crate::code::Code;
 use crate::draft_parts::Outside;
 use crate::op::Op;
-use crate::rows::{HandlerRow, Instruction, Mark, RoutineCode};
+use crate::rows::{HandlerRow, Instruction, Mark, RoutineCode, Way};
 use std::alloc::{AllocError, Global};
 use std::marker::Model;
 use uc_tree::kinds::{Known, Place, Ty};
@@ -170,6 +171,13 @@ impl Draft {
         let _ = self.marks.pop();
     }
 
+    /// The op that leaves what stands around this place, with its line, from a statement of this line.
+    pub fn exit(&self, way: Way, line: u32) -> Instruction
+        ensures { result ≡ exit_in way self.now.marks line }
+    {
+        exit_among(&self.marks, way, line)
+    }
+
     /// Writes down where the code of a routine begins, and the cells of its frame.
     pub fn set_routine(&mut self, number: u32, code: RoutineCode)
         requires { number < length self.old.routines }
@@ -276,6 +284,58 @@ impl Draft {
             classes,
         }
     }
+}
+
+// How a mark ends a way out, where it does.
+fn exit_by(way: Way, mark: Mark, line: u32) -> Option<Instruction>
+    ensures { result ≡ exit_by way mark line }
+{
+    match mark {
+        Mark::Finish { line } => Some(Instruction {
+            op: Op::Return,
+            line,
+        }),
+        Mark::Loop { leave, again } => match way {
+            Way::Break => Some(Instruction {
+                op: Op::Jump(leave),
+                line,
+            }),
+            Way::Continue => Some(Instruction {
+                op: Op::Jump(again),
+                line,
+            }),
+            Way::Value => None,
+            Way::End => None,
+        },
+        Mark::Guard { .. } => None,
+    }
+}
+
+// The end of a call.
+fn end_call(way: Way) -> Instruction
+    ensures { result ≡ end_call way }
+{
+    let op = match way {
+        Way::Break => Op::Return,
+        Way::Continue => Op::Return,
+        Way::Value => Op::ReturnValue,
+        Way::End => Op::Return,
+    };
+    Instruction { op, line: 0 }
+}
+
+// The way out of these marks, of which the last is the innermost.
+fn exit_among(marks: &[Mark], way: Way, line: u32) -> Instruction
+    ensures { result ≡ exit_in way (reverse marks.now) line }
+{
+    let mut i = marks.len();
+    while i > 0 {
+        i -= 1;
+        if let Some(exit) = exit_by(way, marks[i], line) {
+            return exit;
+        }
+    }
+    end_call(way)
 }
 
 // Another op in the place of one, on the same line.

@@ -25,7 +25,7 @@ pub enum Op {
     Local(u32),
     /// The place of this cell of the object at hand.
     This(u32),
-    /// The place that this cell of the frame holds.
+    /// What this cell of the frame holds: a number, or the place that a reference was bound to.
     Via(u32),
     /// The place that this cell of the object at hand holds.
     ViaThis(u32),
@@ -39,6 +39,8 @@ pub enum Op {
     Store,
     /// Writes a value to a place and leaves the value.
     Keep,
+    /// Writes the top operand to this cell of the frame and leaves it.
+    Set(u32),
     /// So many cells of the frame, from this one on, are 0 again.
     Clear { cell: u32, cells: u32 },
     /// The sum.
@@ -191,6 +193,7 @@ impl Op {
             Op::Load => b"load",
             Op::Store => b"store",
             Op::Keep => b"keep",
+            Op::Set(_) => b"set",
             Op::Clear { .. } => b"clear",
             Op::Add => b"add",
             Op::Subtract => b"sub",
@@ -278,6 +281,7 @@ impl Op {
             Op::Load => Operands::Nothing,
             Op::Store => Operands::Nothing,
             Op::Keep => Operands::Nothing,
+            Op::Set(cell) => Operands::One(cell as u64),
             Op::Clear { cell, cells } => Operands::Two(cell as u64, cells as u64),
             Op::Add => Operands::Nothing,
             Op::Subtract => Operands::Nothing,

@@ -49,17 +49,28 @@ pub struct HandlerRow {
     pub entry: u32,
 }
 
-/// What stands around a statement in its routine: a loop, with the ops to which `break` and `continue` jump; or a guarded
-/// block, whose handlers are so many rows, from this number on.
+/// What stands around a statement in its routine: the main of a task, with the line in which it ends; a loop, with the ops
+/// to which `break` and `continue` jump; or a guarded block, whose handlers are so many rows, from this number on.
 #[derive(Clone, Copy, PartialEq, Eq, Debug)]
 pub enum Mark {
+    Finish { line: u32 },
     Loop { leave: u32, again: u32 },
     Guard { first: u32, count: u32 },
 }
 
-/// Where the code of a routine begins, and the cells of its frame.
+/// What leaves statements before their end: `break`, `continue`, and a return with a value or without one.
+#[derive(Clone, Copy, PartialEq, Eq, Debug)]
+pub enum Way {
+    Break,
+    Continue,
+    Value,
+    End,
+}
+
+/// Where the code of a routine begins, the cells of its frame, and how many of them, from the first on, hold its parameters.
 #[derive(Clone, Copy, PartialEq, Eq, Debug)]
 pub struct RoutineCode {
     pub entry: u32,
     pub cells: u32,
+    pub params: u32,
 }

@@ -11,7 +11,7 @@ use Rattle.uc_code.specs.Lowered.{ExprAt}
 use Rattle.uc_code.proofs.Stable.{kept_same, same_then}
 use Rattle.uc_lower_expr.specs.declared.meaning.Meaning.{Meaning}
 use Rattle.uc_lower_expr.specs.Meanings.{Tells}
-use Rattle.uc_lower_expr.specs.Added.{Adds, ExprCode, Grows, Stood}
+use Rattle.uc_lower_expr.specs.Added.{Adds, Cuts, ExprCode, Grows, Stood}
 use Rattle.uc_lower_expr.specs.Parts.{Restarts}
 use Rattle.uc_lower_expr.proofs.Adding.{rest_then}
 use Rattle.uc_lower_expr.proofs.Settled.{expr_stable}
@@ -64,6 +64,19 @@ grows_restart n line ms a f s t o old new k l h p q = record {
   past = let e = h.end in omega arith;
   room = let e = h.end in omega arith;
   code = λ m st. record { tells = p m st.tells; code = q m st.tells (laid_in new) (length new.ops) h.code };
+}
+
+-- in the place of what stands, more
+pub grows_cut : (n line : ℕ) (ms : List Mark) (a : ℕ) (f : Meant → Meant) (s t : Meaning) (S : Laid → ℕ → ℕ → Type 0) (old mid new : Draft) → a ≤ length old.ops → Cuts a old mid → Adds n S mid new
+    → ((m : Meant) → Tells s m → Tells t (f m))
+    → ((m : Meant) → Tells s m → (code : Laid) (z : ℕ) → S code a z → ExprAt code line ms (f m).expr a z)
+    → Grows n line ms a f s t old new
+grows_cut n line ms a f s t S old mid new l c h p q = record {
+  rest = rest_then old mid new c.rest h.rest;
+  front = same_then (laid_in old) (laid_in mid) (laid_in new) 0 a c.front (kept_same (laid_in mid) (laid_in new) 0 a (let e = c.end in omega arith) h.kept);
+  past = let e = c.end in let k = h.kept.longer in omega arith;
+  room = let e = c.end in let r = h.room in omega arith;
+  code = λ m st. record { tells = p m st.tells; code = q m st.tells (laid_in new) (length new.ops) (subst (λ x. S (laid_in new) x (length new.ops)) c.end h.code) };
 }
 
 -- behind the code of what is meant

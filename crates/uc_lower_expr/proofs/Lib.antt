@@ -2,5 +2,6 @@ pub mod Adding
 pub mod Arms
 pub mod Growing
 pub mod Naming
+pub mod Numbers
 pub mod Settled
 pub mod Walks

@@ -1,13 +1,13 @@
 -- The code of an expression goes on standing where its own range does not change.
 use Rattle.std.proofs.Common.{ℕ, List, pos}
-use Rattle.uc_tree.specs.Source.{Shape, Integer, Character, Truth, Binding, Last, Field, Array, shape_cells, Expr, Literal, Variable, Element, Load, Negated, Not, AsCharacter, AsTruth, Operate, And, Or, Assign, Update, StepBehind, Fail}
+use Rattle.uc_tree.specs.Source.{Shape, Integer, Character, Truth, Binding, Last, Field, Array, shape_cells, Expr, Literal, Variable, Element, Get, Load, Negated, Not, AsCharacter, AsTruth, Operate, And, Or, Set, Assign, First, Update, StepBehind, Fail, Call, OfObject, Exprs, NoExprs, MoreExprs}
 use Rattle.uc_code.specs.declared.op.Op.TheVariants as op
 use Rattle.uc_code.specs.declared.rows.Mark.{Mark}
 use Rattle.uc_code.specs.Laid.{Laid}
 use Rattle.uc_code.specs.Ranges.{One, Both, Fork, Stable}
 use Rattle.uc_code.specs.Lowered.{operator_op, ExprAt}
-use Rattle.uc_code.proofs.Stable.{nothing_stable, one_stable, both_stable, fork_stable}
-use Rattle.uc_lower_expr.specs.Added.{ExprCode, ConvertCode}
+use Rattle.uc_code.proofs.Stable.{nothing_stable, never_stable, one_stable, both_stable, fork_stable}
+use Rattle.uc_lower_expr.specs.Added.{ExprCode, ArgumentsCode, ConvertCode}
 use Rattle.uc_lower_expr.specs.Parts.{BeginCode}
 
 pub both : {B C : Laid → ℕ → ℕ → Type 0} → Stable B → Stable C → Stable (λ code. Both (B code) (C code))
@@ -25,22 +25,32 @@ convert_stable line Last = nothing_stable
 convert_stable line (Field s t) = nothing_stable
 convert_stable line (Array n s) = nothing_stable
 
-pub expr_stable : (line : ℕ) (ms : List Mark) (e : Expr) → Stable (ExprCode line ms e)
-expr_stable line ms (Literal n) = one_stable (op.Push n) line
-expr_stable line ms (Variable k) = one_stable (op.Local k) line
-expr_stable line ms (Element n s a i) = both (expr_stable line ms a) (both (expr_stable line ms i) (one_stable (op.Index n (shape_cells s)) line))
-expr_stable line ms (Load a) = both (expr_stable line ms a) (one_stable op.Load line)
-expr_stable line ms (Negated a) = both (expr_stable line ms a) (one_stable op.Negate line)
-expr_stable line ms (Not a) = both (expr_stable line ms a) (one_stable op.Not line)
-expr_stable line ms (AsCharacter a) = both (expr_stable line ms a) (one_stable op.ToChar line)
-expr_stable line ms (AsTruth a) = both (expr_stable line ms a) (one_stable op.ToBool line)
-expr_stable line ms (Operate o a b) = both (expr_stable line ms a) (both (expr_stable line ms b) (one_stable (operator_op o) line))
-expr_stable line ms (And a b) = both (expr_stable line ms a) (fork line (both (expr_stable line ms b) (one_stable op.ToBool line)) (one_stable (op.Push (pos 0)) line))
-expr_stable line ms (Or a b) = both (expr_stable line ms a) (fork line (one_stable (op.Push (pos 1)) line) (both (expr_stable line ms b) (one_stable op.ToBool line)))
-expr_stable line ms (Assign p a) = both (expr_stable line ms p) (both (expr_stable line ms a) (one_stable op.Keep line))
-expr_stable line ms (Update o s p a) = both (expr_stable line ms p) (both (one_stable op.Duplicate line) (both (one_stable op.Load line) (both (expr_stable line ms a) (both (one_stable (operator_op o) line) (both (convert_stable line s) (one_stable op.Keep line))))))
-expr_stable line ms (StepBehind o s p) = both (expr_stable line ms p) (both (one_stable op.Duplicate line) (both (one_stable op.Load line) (both (one_stable op.Over line) (both (one_stable op.Over line) (both (one_stable (op.Push (pos 1)) line) (both (one_stable (operator_op o) line) (both (convert_stable line s) (both (one_stable op.Store line) (one_stable op.DiscardBelow line)))))))))
-expr_stable line ms Fail = one_stable op.Fail line
+mutual
+  pub expr_stable : (line : ℕ) (ms : List Mark) (e : Expr) → Stable (ExprCode line ms e)
+  expr_stable line ms (Literal n) = one_stable (op.Push n) line
+  expr_stable line ms (Variable k) = one_stable (op.Local k) line
+  expr_stable line ms (Element n s a i) = both (expr_stable line ms a) (both (expr_stable line ms i) (one_stable (op.Index n (shape_cells s)) line))
+  expr_stable line ms (Get k) = one_stable (op.Via k) line
+  expr_stable line ms (Load a) = both (expr_stable line ms a) (one_stable op.Load line)
+  expr_stable line ms (Negated a) = both (expr_stable line ms a) (one_stable op.Negate line)
+  expr_stable line ms (Not a) = both (expr_stable line ms a) (one_stable op.Not line)
+  expr_stable line ms (AsCharacter a) = both (expr_stable line ms a) (one_stable op.ToChar line)
+  expr_stable line ms (AsTruth a) = both (expr_stable line ms a) (one_stable op.ToBool line)
+  expr_stable line ms (Operate o a b) = both (expr_stable line ms a) (both (expr_stable line ms b) (one_stable (operator_op o) line))
+  expr_stable line ms (And a b) = both (expr_stable line ms a) (fork line (both (expr_stable line ms b) (one_stable op.ToBool line)) (one_stable (op.Push (pos 0)) line))
+  expr_stable line ms (Or a b) = both (expr_stable line ms a) (fork line (one_stable (op.Push (pos 1)) line) (both (expr_stable line ms b) (one_stable op.ToBool line)))
+  expr_stable line ms (Set k a) = both (expr_stable line ms a) (one_stable (op.Set k) line)
+  expr_stable line ms (Assign p a) = both (expr_stable line ms p) (both (expr_stable line ms a) (one_stable op.Keep line))
+  expr_stable line ms (First a b) = both (expr_stable line ms a) (both (expr_stable line ms b) (one_stable op.Discard line))
+  expr_stable line ms (Update o s p a) = both (expr_stable line ms p) (both (one_stable op.Duplicate line) (both (one_stable op.Load line) (both (expr_stable line ms a) (both (one_stable (operator_op o) line) (both (convert_stable line s) (one_stable op.Keep line))))))
+  expr_stable line ms (StepBehind o s p) = both (expr_stable line ms p) (both (one_stable op.Duplicate line) (both (one_stable op.Load line) (both (one_stable op.Over line) (both (one_stable op.Over line) (both (one_stable (op.Push (pos 1)) line) (both (one_stable (operator_op o) line) (both (convert_stable line s) (both (one_stable op.Store line) (one_stable op.DiscardBelow line)))))))))
+  expr_stable line ms Fail = one_stable op.Fail line
+  expr_stable line ms (Call r es) = both (args_stable line ms es) (both (one_stable op.Tick line) (one_stable (op.Call r) line))
+  expr_stable line ms (OfObject o) = never_stable
+
+  pub args_stable : (line : ℕ) (ms : List Mark) (es : Exprs) → Stable (ArgumentsCode line ms es)
+  args_stable line ms NoExprs = nothing_stable
+  args_stable line ms (MoreExprs e es) = both (expr_stable line ms e) (args_stable line ms es)
 
 pub begin_stable : (line : ℕ) → Stable (BeginCode line)
 begin_stable line = both (one_stable op.Duplicate line) (one_stable op.Load line)

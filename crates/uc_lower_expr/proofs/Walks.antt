@@ -1,12 +1,13 @@
 -- One lemma for each function that walks over the tree of an expression.
-use Rattle.std.proofs.Common.{◌≡◌, ℕ, zero, suc, ◌+◌, ◌*◌, ◌-◌, ◌≤◌, ◌<◌, ℤ, pos, Bool, List, [], ◌∷◌, ◌++◌, Option, Some, None, Ok, Err, length, take, get_or, refl, ap, sym, subst, ◌∙◌, arith}
-use Rattle.std.specs.Prelude.{Result, OnOk, IfOk}
+use Rattle.std.proofs.Common.{◌≡◌, ℕ, zero, suc, ◌+◌, ◌*◌, ◌-◌, ◌≤◌, ◌<◌, ℤ, pos, Bool, true, false, List, [], ◌∷◌, ◌++◌, Option, Some, None, Ok, Err, length, length-take, take, get_or, refl, ap, sym, subst, ◌∙◌, arith}
+use Rattle.std.specs.Prelude.{Result, OnOk, IfOk, slice_get, if◌then◌else◌}
 use Rattle.std.proofs.lemmas.List.{take_more}
 use Rattle.std.proofs.Common.{take_all}
 use Rattle.uc_tree.specs.declared.limits.TheConstants.{OPS_FOR_SIZE}
 use Rattle.uc_tree.specs.declared.pos.Pos.{Pos}
 use Rattle.uc_tree.specs.declared.expr.ExprForm.{ExprForm}
 use Rattle.uc_tree.specs.declared.expr.PartForm.{PartForm}
+use Rattle.uc_tree.specs.declared.kinds.Param.{Param}
 use Rattle.uc_tree.specs.Programs.{Program}
 use Rattle.uc_tree.specs.declared.ops.UnaryOp.{UnaryOp}
 use Rattle.uc_tree.specs.declared.ops.UnaryOp.TheVariants as unary
@@ -15,44 +16,40 @@ use Rattle.uc_tree.specs.declared.ops.BinaryOp.TheVariants as binary
 use Rattle.uc_tree.specs.declared.ops.AssignOp.{AssignOp}
 use Rattle.uc_tree.specs.declared.ops.AssignOp.TheVariants as assign
 use Rattle.uc_tree.specs.declared.ops.StepOp.{StepOp}
-use Rattle.uc_tree.specs.declared.ops.StepOp.TheVariants as step
 use Rattle.uc_tree.specs.Constants.{truth_value}
 use Rattle.uc_tree.specs.Expressions as tree
-use Rattle.uc_tree.specs.Expressions.{parts_of, links_of}
+use Rattle.uc_tree.specs.Expressions.{exprs_of, parts_of, links_of}
 use Rattle.uc_tree.specs.ExpressionViews.{expr_at, part_at}
-use Rattle.uc_tree.specs.ExpressionSizes.{expr_size, part_size, parts_size, link_size, links_size}
-use Rattle.uc_tree.specs.Source.{Shape, Operator, Plus, Minus, Times, Over, Modulo, Expr, Literal, Assign}
-use Rattle.uc_tree.specs.Resolve.{Meant, Context, meant, value_of, shape_of, converted, Standing, AtPlace, AsValue, AsInput, AsFail, AsRoutine, AsMember, AsCondition, AsEvent, AsNothing, unary_meant, binary_meant, assign_meant, updated, link_meant, chain_meant, part_meant, args_meant, parts_meant, element_by, element_meant, call_by, call_meant, step_meant}
+use Rattle.uc_tree.specs.ExpressionSizes.{expr_size, exprs_size, part_size, parts_size, link_size, links_size}
+use Rattle.uc_tree.specs.Source.{Shape, Plus, Minus, Times, Over, Modulo, Expr, Call, Exprs, NoExprs, MoreExprs}
+use Rattle.uc_tree.specs.Resolve.{Meant, Context, meant, value_by, value_of, shape_of, converted, Standing, AsValue, unary_meant, binary_meant, assign_meant, written_by, variable_in, link_meant, chain_meant, part_meant, args_meant, arg_meant, args_by, params_of, parts_meant, element_by, element_meant, call_by, call_meant, step_meant, no_meaning}
 use Rattle.uc_code.specs.declared.op.Op.{Op}
 use Rattle.uc_code.specs.declared.op.Op.TheVariants as op
 use Rattle.uc_code.specs.declared.rows.Mark.{Mark}
 use Rattle.uc_code.specs.Drafts.{Draft}
-use Rattle.uc_code.specs.Laid.{Laid, laid_in}
-use Rattle.uc_code.specs.Ranges.{One, Both, Stable}
-use Rattle.uc_code.specs.Lowered.{operator_op, ExprAt}
-use Rattle.uc_code.proofs.Stable.{nothing_stable, one_stable}
+use Rattle.uc_code.specs.Laid.{Laid}
+use Rattle.uc_code.specs.Ranges.{One, Both}
+use Rattle.uc_code.specs.Lowered.{ExprAt, ArgumentsAt}
+use Rattle.uc_code.proofs.Stable.{one_stable}
+use Rattle.uc_lower_expr.specs.declared.meaning.Scalar.{Scalar}
 use Rattle.uc_lower_expr.specs.declared.meaning.Scalar.TheVariants as scalar
 use Rattle.uc_lower_expr.specs.declared.meaning.Standing.{Standing as Told}
 use Rattle.uc_lower_expr.specs.declared.meaning.Standing.TheVariants as standing
 use Rattle.uc_lower_expr.specs.declared.meaning.Meaning.{Meaning}
 use Rattle.uc_lower_expr.specs.declared.ops.Joining.{Joining}
 use Rattle.uc_lower_expr.specs.Contexts.{context_in}
-use Rattle.uc_lower_expr.specs.Meanings.{shape_as, stands_as, Tells}
-use Rattle.uc_lower_expr.specs.Added.{Adds, ExprCode, ConvertCode, LoadCode, OpCode, Grows}
-use Rattle.uc_lower_expr.specs.Parts.{joining_of, combining_of, step_op_of, scalar_of, RightCode, UpdateCode, StepCode, Restarts}
-use Rattle.uc_lower_expr.proofs.Adding.{adds_more, adds_as, adds_both}
-use Rattle.uc_lower_expr.proofs.Settled.{expr_stable}
-use Rattle.uc_lower_expr.proofs.Growing.{grows_as, grows_then, grows_adds, grows_restart, adds_grows, tells_grows}
-use Rattle.uc_lower_expr.proofs.Arms.{loaded, converted_at, element_cell}
+use Rattle.uc_lower_expr.specs.Meanings.{cell_in, shape_as, stands_as, Tells}
+use Rattle.uc_lower_expr.specs.Added.{Adds, Cuts, ExprCode, ArgumentsCode, ConvertCode, OpCode, Grows, fetched}
+use Rattle.uc_lower_expr.specs.Parts.{joining_of, combining_of, scalar_of, RightCode, BeginCode, EndCode, SetCode, VariableCode, PlaceCode, ArgumentCode, Restarts, bumped}
+use Rattle.uc_lower_expr.proofs.Adding.{adds_nothing, adds_more, adds_as, adds_both}
+use Rattle.uc_lower_expr.proofs.Settled.{both, expr_stable, args_stable, convert_stable}
+use Rattle.uc_lower_expr.proofs.Growing.{grows_as, grows_then, grows_adds, grows_restart, grows_cut, adds_grows, tells_grows}
+use Rattle.uc_lower_expr.proofs.Arms.{as_value, told_variable, told_no_variable, updated_variable, updated_place, arm_update, converted_at, element_cell}
 
 -- the tree of a form
 
 pub tree_is : (p : Pos) (f g : ExprForm) (e : tree.Expr) → f ≡ g → expr_at p f ≡ e → expr_at p g ≡ e
 tree_is p f g e h k = ap (λ x. expr_at p x) (sym h) ∙ k
-
--- a value of the same type
-as_value : (told t : Meaning) (m : Meant) (e : Expr) → t ≡ record told { standing = standing.Value } → Tells told m → Tells t (record { expr = e; ty = m.ty; standing = AsValue })
-as_value told t m e i u = subst (λ (x : Meaning). Tells x (record { expr = e; ty = m.ty; standing = AsValue })) (sym i) (record { shape = u.shape; len = u.len; standing = refl })
 
 pub assign_tells : (o : AssignOp) (told t : Meaning) (m v : Meant) → t ≡ record told { standing = standing.Value } → Tells told m → Tells t (assign_meant o m v)
 assign_tells assign.Set told t m v i u = as_value told t m _ i u
@@ -63,17 +60,6 @@ assign_tells assign.Div told t m v i u = as_value told t m _ i u
 assign_tells assign.Rem told t m v i u = as_value told t m _ i u
 
 -- operators between two sides
-
-pub load_stable : (line : ℕ) (s : Standing) → Stable (LoadCode line s)
-load_stable line AtPlace = one_stable op.Load line
-load_stable line AsValue = nothing_stable
-load_stable line AsInput = nothing_stable
-load_stable line AsFail = nothing_stable
-load_stable line (AsRoutine r) = nothing_stable
-load_stable line (AsMember r) = nothing_stable
-load_stable line (AsCondition k) = nothing_stable
-load_stable line (AsEvent k) = nothing_stable
-load_stable line AsNothing = nothing_stable
 
 right_tells : (o : BinaryOp) (l r : Meant) → Tells (record { scalar = scalar_of (joining_of o); elements = None; standing = standing.Value }) (binary_meant o l r)
 right_tells binary.Or l r = record { shape = refl; len = refl; standing = refl }
@@ -124,16 +110,42 @@ parts_fit [] i x h e = absurd (omega arith)
 parts_fit (y ∷ ys) zero x h e = let a : part_size x ≡ part_size y = ap part_size e in omega arith
 parts_fit (y ∷ ys) (suc i) x h e = let r = parts_fit ys i x (omega arith) e in omega arith
 
-not_called_tells : (s : Told) (m : Meant) (args : List Meant) → (s ≡ standing.Fail → ⊥) → Tells (record { scalar = scalar.Number; elements = None; standing = standing.Nothing }) (call_by (stands_as s) m args)
-not_called_tells standing.Place m args h = record { shape = refl; len = refl; standing = refl }
-not_called_tells standing.Value m args h = record { shape = refl; len = refl; standing = refl }
-not_called_tells standing.Input m args h = record { shape = refl; len = refl; standing = refl }
-not_called_tells standing.Fail m args h = absurd (h refl)
-not_called_tells standing.Nothing m args h = record { shape = refl; len = refl; standing = refl }
+-- lists of arguments
 
-step_tells : (o : StepOp) (told t : Meaning) (m : Meant) → t ≡ record told { standing = standing.Value } → Tells told m → Tells t (step_meant o m)
-step_tells step.Increment told t m i u = as_value told t m _ i u
-step_tells step.Decrement told t m i u = as_value told t m _ i u
+abbrev pub exprs_push : Exprs → Expr → Exprs
+exprs_push NoExprs e = MoreExprs e NoExprs
+exprs_push (MoreExprs d ds) e = MoreExprs d (exprs_push ds e)
+
+args_by_push : (xs : List Param) (ms : List Meant) (m : Meant) (x : Param) → slice_get xs (length ms) ≡ Some x → args_by xs (ms ++ m ∷ []) ≡ exprs_push (args_by xs ms) (arg_meant x m)
+args_by_push [] ms m x e = cc
+args_by_push (y ∷ ys) [] m x e = let is : y ≡ x = cc in ap (λ (z : Param). MoreExprs (arg_meant z m) (args_by ys [])) is ∙ ap (λ es. MoreExprs (arg_meant x m) es) (none_left ys)
+  where
+    none_left : (zs : List Param) → args_by zs [] ≡ NoExprs
+    none_left [] = refl
+    none_left (z ∷ zs) = refl
+args_by_push (y ∷ ys) (n ∷ ns) m x e = ap (λ es. MoreExprs (arg_meant y n) es) (args_by_push ys ns m x e)
+
+args_by_past : (xs : List Param) (ms : List Meant) (m : Meant) → length xs ≤ length ms → args_by xs (ms ++ m ∷ []) ≡ args_by xs ms
+args_by_past [] ms m l = refl
+args_by_past (y ∷ ys) [] m l = absurd (omega arith)
+args_by_past (y ∷ ys) (n ∷ ns) m l = ap (λ es. MoreExprs (arg_meant y n) es) (args_by_past ys ns m (omega arith))
+
+args_meant_push : (c : Context) (xs : List tree.Expr) (x : tree.Expr) → args_meant c (exprs_of (xs ++ x ∷ [])) ≡ args_meant c (exprs_of xs) ++ meant c x ∷ []
+args_meant_push c [] x = refl
+args_meant_push c (y ∷ ys) x = ap (λ ms. meant c y ∷ ms) (args_meant_push c ys x)
+
+length-args : (c : Context) (xs : List tree.Expr) → length (args_meant c (exprs_of xs)) ≡ length xs
+length-args c [] = refl
+length-args c (x ∷ xs) = ap suc (length-args c xs)
+
+exprs_size_push : (xs : List tree.Expr) (x : tree.Expr) → exprs_size (exprs_of (xs ++ x ∷ [])) ≡ exprs_size (exprs_of xs) + expr_size x
+exprs_size_push [] x = omega arith
+exprs_size_push (y ∷ ys) x = omega (arith, exprs_size_push ys x)
+
+pub args_fit : (xs : List tree.Expr) (i : ℕ) (x : tree.Expr) → i < length xs → x ≡ get_or xs i x → exprs_size (exprs_of (take i xs)) + expr_size x ≤ exprs_size (exprs_of xs)
+args_fit [] i x h e = absurd (omega arith)
+args_fit (y ∷ ys) zero x h e = let a : expr_size x ≡ expr_size y = ap expr_size e in omega arith
+args_fit (y ∷ ys) (suc i) x h e = let r = args_fit ys i x (omega arith) e in omega arith
 
 -- every expression counts
 pub some_size : (e : tree.Expr) → 1 ≤ expr_size e
@@ -167,42 +179,72 @@ module _ (ms : List Mark) where
   pub arm_not : (o : UnaryOp) (n k line : ℕ) (m : Meant) (old mid new : Draft) → o ≡ unary.Not → n + 1 ≤ k → Adds n (ExprCode line ms (value_of m)) old mid → Adds 1 (OpCode line op.Not) mid new → Adds k (ExprCode line ms (unary_meant o m).expr) old new
   arm_not o n k line m old mid new h l a b = unary_as o unary.Not k line m old new h (adds_more l (adds_both (expr_stable line ms (value_of m)) a b))
 
-  -- a place, and what is written to it
-  pub update_of : (n j k line : ℕ) (o : Operator) (m : Meant) (told : Meaning) (e : Expr) (old mid new : Draft) → n + j ≤ k → Tells told m → Adds n (ExprCode line ms m.expr) old mid → Adds j (UpdateCode line ms (operator_op o) (shape_as told.scalar) e) mid new → Adds k (ExprCode line ms (updated o m e).expr) old new
-  update_of n j k line o m told e old mid new l u a b =
-      adds_more l (adds_both (expr_stable line ms m.expr) a (subst (λ (s : Shape). Adds j (UpdateCode line ms (operator_op o) s e) mid new) (sym u.shape) b))
+  -- what is written to a variable, or to a place
 
-  pub arm_increment : (o : UnaryOp) (n k line : ℕ) (m : Meant) (told : Meaning) (old mid new : Draft) → o ≡ unary.Increment → n + 6 ≤ k → Tells told m → Adds n (ExprCode line ms m.expr) old mid → Adds 6 (UpdateCode line ms op.Add (shape_as told.scalar) (Literal (pos 1))) mid new → Adds k (ExprCode line ms (unary_meant o m).expr) old new
-  arm_increment o n k line m told old mid new h l u a b = unary_as o unary.Increment k line m old new h (update_of n 6 k line Plus m told (Literal (pos 1)) old mid new l u a b)
+  set_at : (line k : ℕ) (m : Meant) (e : Expr) (code : Laid) (a z : ℕ) → variable_in m.standing ≡ Some k → SetCode line ms k (shape_of m.ty.base) e code a z → ExprAt code line ms (written_by (variable_in m.standing) m.expr (converted (shape_of m.ty.base) e)) a z
+  set_at line k m e code a z is h =
+      subst (λ (w : Option ℕ). ExprAt code line ms (written_by w m.expr (converted (shape_of m.ty.base) e)) a z) (sym is) (record { middle = h.middle; first = converted_at ms line (shape_of m.ty.base) e code a h.middle h.first; second = h.second })
 
-  pub arm_decrement : (o : UnaryOp) (n k line : ℕ) (m : Meant) (told : Meaning) (old mid new : Draft) → o ≡ unary.Decrement → n + 6 ≤ k → Tells told m → Adds n (ExprCode line ms m.expr) old mid → Adds 6 (UpdateCode line ms op.Subtract (shape_as told.scalar) (Literal (pos 1))) mid new → Adds k (ExprCode line ms (unary_meant o m).expr) old new
-  arm_decrement o n k line m told old mid new h l u a b = unary_as o unary.Decrement k line m old new h (update_of n 6 k line Minus m told (Literal (pos 1)) old mid new l u a b)
+  kept_at : (line : ℕ) (m : Meant) (e : Expr) (code : Laid) (a b z : ℕ) → variable_in m.standing ≡ None → ExprAt code line ms m.expr a b → PlaceCode line ms None (shape_of m.ty.base) e code b z → ExprAt code line ms (written_by (variable_in m.standing) m.expr (converted (shape_of m.ty.base) e)) a z
+  kept_at line m e code a b z is h g =
+      subst (λ (w : Option ℕ). ExprAt code line ms (written_by w m.expr (converted (shape_of m.ty.base) e)) a z) (sym is) (record {
+        middle = b;
+        first = h;
+        second = record {
+          middle = g.second.middle;
+          first = converted_at ms line (shape_of m.ty.base) e code b g.second.middle (record { middle = g.middle; first = g.first; second = g.second.first });
+          second = g.second.second;
+        };
+      })
 
-  set_code : (n j k line : ℕ) (m v : Meant) (told : Meaning) (d0 d1 d2 d3 d4 : Draft) → n + (j + 2) ≤ k → Tells told m → Adds n (ExprCode line ms m.expr) d0 d1 → Adds j (ExprCode line ms (value_of v)) d1 d2 → Adds 1 (ConvertCode line (shape_as told.scalar)) d2 d3 → Adds 1 (OpCode line op.Keep) d3 d4 → Adds k (ExprCode line ms (Assign m.expr (converted (shape_of m.ty.base) (value_of v)))) d0 d4
-  set_code n j k line m v told d0 d1 d2 d3 d4 l u a b c d =
-      let s : Shape = shape_of m.ty.base in
-      let c' : Adds 1 (ConvertCode line s) d2 d3 = subst (λ (x : Shape). Adds 1 (ConvertCode line x) d2 d3) (sym u.shape) c in
-      let value : Adds (j + 1) (ExprCode line ms (converted s (value_of v))) d1 d3 = adds_as (adds_both (expr_stable line ms (value_of v)) b c') (λ code x z h. converted_at ms line s (value_of v) code x z h) in
-      adds_more (omega arith) (adds_both (expr_stable line ms m.expr) a (adds_both (expr_stable line ms (converted s (value_of v))) value d))
+  variable_at : (line k : ℕ) (o : AssignOp) (m v : Meant) (code : Laid) (a z : ℕ) → variable_in m.standing ≡ Some k → VariableCode line ms (combining_of o) k (shape_of m.ty.base) (value_of v) code a z → ExprAt code line ms (assign_meant o m v).expr a z
+  variable_at line k assign.Set m v code a z is h = set_at line k m (value_of v) code a z is h
+  variable_at line k assign.Add m v code a z is h = updated_variable ms line k Plus m (value_of v) code a z is h
+  variable_at line k assign.Sub m v code a z is h = updated_variable ms line k Minus m (value_of v) code a z is h
+  variable_at line k assign.Mul m v code a z is h = updated_variable ms line k Times m (value_of v) code a z is h
+  variable_at line k assign.Div m v code a z is h = updated_variable ms line k Over m (value_of v) code a z is h
+  variable_at line k assign.Rem m v code a z is h = updated_variable ms line k Modulo m (value_of v) code a z is h
 
-  pub arm_set : (o : AssignOp) (n j k line : ℕ) (m v : Meant) (told : Meaning) (d0 d1 d2 d3 d4 : Draft) → None ≡ combining_of o → n + (j + 2) ≤ k → Tells told m → Adds n (ExprCode line ms m.expr) d0 d1 → Adds j (ExprCode line ms (value_of v)) d1 d2 → Adds 1 (ConvertCode line (shape_as told.scalar)) d2 d3 → Adds 1 (OpCode line op.Keep) d3 d4 → Adds k (ExprCode line ms (assign_meant o m v).expr) d0 d4
-  arm_set assign.Set n j k line m v told d0 d1 d2 d3 d4 e l u a b c d = set_code n j k line m v told d0 d1 d2 d3 d4 l u a b c d
-  arm_set assign.Add n j k line m v told d0 d1 d2 d3 d4 e l u a b c d = cc
-  arm_set assign.Sub n j k line m v told d0 d1 d2 d3 d4 e l u a b c d = cc
-  arm_set assign.Mul n j k line m v told d0 d1 d2 d3 d4 e l u a b c d = cc
-  arm_set assign.Div n j k line m v told d0 d1 d2 d3 d4 e l u a b c d = cc
-  arm_set assign.Rem n j k line m v told d0 d1 d2 d3 d4 e l u a b c d = cc
+  place_at : (line : ℕ) (o : AssignOp) (m v : Meant) (code : Laid) (a b z : ℕ) → variable_in m.standing ≡ None → ExprAt code line ms m.expr a b → PlaceCode line ms (combining_of o) (shape_of m.ty.base) (value_of v) code b z → ExprAt code line ms (assign_meant o m v).expr a z
+  place_at line assign.Set m v code a b z is h g = kept_at line m (value_of v) code a b z is h g
+  place_at line assign.Add m v code a b z is h g = updated_place ms line Plus m (value_of v) code a b z is h g
+  place_at line assign.Sub m v code a b z is h g = updated_place ms line Minus m (value_of v) code a b z is h g
+  place_at line assign.Mul m v code a b z is h g = updated_place ms line Times m (value_of v) code a b z is h g
+  place_at line assign.Div m v code a b z is h g = updated_place ms line Over m (value_of v) code a b z is h g
+  place_at line assign.Rem m v code a b z is h g = updated_place ms line Modulo m (value_of v) code a b z is h g
 
-  update_with : (n j k line : ℕ) (o : Operator) (x : Op) (m : Meant) (told : Meaning) (e : Expr) (old mid new : Draft) → x ≡ operator_op o → n + j ≤ k → Tells told m → Adds n (ExprCode line ms m.expr) old mid → Adds j (UpdateCode line ms x (shape_as told.scalar) e) mid new → Adds k (ExprCode line ms (updated o m e).expr) old new
-  update_with n j k line o x m told e old mid new i l u a b = update_of n j k line o m told e old mid new l u a (subst (λ (y : Op). Adds j (UpdateCode line ms y (shape_as told.scalar) e) mid new) i b)
+  pub arm_to_variable : (n line k a : ℕ) (o : AssignOp) (x : Option Op) (v : Meant) (s t : Meaning) (old mid new : Draft) → a ≤ length old.ops → Some k ≡ cell_in s.standing → x ≡ combining_of o → t ≡ record s { standing = standing.Value } → Cuts a old mid → Adds n (VariableCode line ms x k (shape_as s.scalar) (value_of v)) mid new → Grows n line ms a (λ m. assign_meant o m v) s t old new
+  arm_to_variable n line k a o x v s t old mid new l e i j c h =
+      let h2 : Adds n (VariableCode line ms (combining_of o) k (shape_as s.scalar) (value_of v)) mid new = subst (λ (y : Option Op). Adds n (VariableCode line ms y k (shape_as s.scalar) (value_of v)) mid new) i h in
+      grows_cut n line ms a (λ m. assign_meant o m v) s t (VariableCode line ms (combining_of o) k (shape_as s.scalar) (value_of v)) old mid new l c h2
+      (λ m u. assign_tells o s t m v j u)
+      (λ m u code z w. variable_at line k o m v code a z (told_variable s m k u e) (subst (λ (y : Shape). VariableCode line ms (combining_of o) k y (value_of v) code a z) (sym u.shape) w))
 
-  pub arm_combine : (o : AssignOp) (x : Op) (n j k line : ℕ) (m v : Meant) (told : Meaning) (old mid new : Draft) → Some x ≡ combining_of o → n + j ≤ k → Tells told m → Adds n (ExprCode line ms m.expr) old mid → Adds j (UpdateCode line ms x (shape_as told.scalar) (value_of v)) mid new → Adds k (ExprCode line ms (assign_meant o m v).expr) old new
-  arm_combine assign.Set x n j k line m v told old mid new e l u a b = cc
-  arm_combine assign.Add x n j k line m v told old mid new e l u a b = update_with n j k line Plus x m told (value_of v) old mid new (cc) l u a b
-  arm_combine assign.Sub x n j k line m v told old mid new e l u a b = update_with n j k line Minus x m told (value_of v) old mid new (cc) l u a b
-  arm_combine assign.Mul x n j k line m v told old mid new e l u a b = update_with n j k line Times x m told (value_of v) old mid new (cc) l u a b
-  arm_combine assign.Div x n j k line m v told old mid new e l u a b = update_with n j k line Over x m told (value_of v) old mid new (cc) l u a b
-  arm_combine assign.Rem x n j k line m v told old mid new e l u a b = update_with n j k line Modulo x m told (value_of v) old mid new (cc) l u a b
+  pub arm_to_place : (n line a : ℕ) (o : AssignOp) (x : Option Op) (v : Meant) (s t : Meaning) (old new : Draft) → a ≤ length old.ops → None ≡ cell_in s.standing → x ≡ combining_of o → t ≡ record s { standing = standing.Value } → Adds n (PlaceCode line ms x (shape_as s.scalar) (value_of v)) old new → Grows n line ms a (λ m. assign_meant o m v) s t old new
+  arm_to_place n line a o x v s t old new l e i j h =
+      let h2 : Adds n (PlaceCode line ms (combining_of o) (shape_as s.scalar) (value_of v)) old new = subst (λ (y : Option Op). Adds n (PlaceCode line ms y (shape_as s.scalar) (value_of v)) old new) i h in
+      grows_adds n line ms a (λ m. assign_meant o m v) s t (PlaceCode line ms (combining_of o) (shape_as s.scalar) (value_of v)) old new l h2
+      (λ m u. assign_tells o s t m v j u)
+      (λ m u code b z w g. place_at line o m v code a b z (told_no_variable s m u e) w (subst (λ (y : Shape). PlaceCode line ms (combining_of o) y (value_of v) code b z) (sym u.shape) g))
+
+  pub arm_set : (n k line : ℕ) (x : Option Op) (s : Shape) (e : Expr) (d0 d1 d2 d3 : Draft) → x ≡ None → Adds n (ExprCode line ms e) d0 d1 → Adds 1 (ConvertCode line s) d1 d2 → Adds 1 (OpCode line (op.Set k)) d2 d3 → Adds (n + 5) (VariableCode line ms x k s e) d0 d3
+  arm_set n k line x s e d0 d1 d2 d3 i h1 h2 h3 =
+      subst (λ (y : Option Op). Adds (n + 5) (VariableCode line ms y k s e) d0 d3) (sym i) (adds_more (omega arith) (adds_both (both (expr_stable line ms e) (convert_stable line s)) (adds_both (expr_stable line ms e) h1 h2) h3))
+
+  pub arm_set_by : (n k line : ℕ) (o : Op) (x : Option Op) (s : Shape) (e : Expr) (d0 d1 d2 d3 d4 d5 : Draft) → x ≡ Some o → Adds 1 (OpCode line (op.Via k)) d0 d1 → Adds n (ExprCode line ms e) d1 d2 → Adds 1 (OpCode line o) d2 d3 → Adds 1 (ConvertCode line s) d3 d4 → Adds 1 (OpCode line (op.Set k)) d4 d5 → Adds (n + 5) (VariableCode line ms x k s e) d0 d5
+  arm_set_by n k line o x s e d0 d1 d2 d3 d4 d5 i h1 h2 h3 h4 h5 =
+      subst (λ (y : Option Op). Adds (n + 5) (VariableCode line ms y k s e) d0 d5) (sym i) (
+      adds_more (omega arith) (adds_both (both (both (one_stable (op.Via k) line) (both (expr_stable line ms e) (one_stable o line))) (convert_stable line s))
+      (adds_both (both (one_stable (op.Via k) line) (both (expr_stable line ms e) (one_stable o line)))
+      (adds_both (one_stable (op.Via k) line) h1 (adds_both (expr_stable line ms e) h2 h3)) h4) h5))
+
+  pub arm_keep : (n line : ℕ) (x : Option Op) (s : Shape) (e : Expr) (d0 d1 d2 d3 : Draft) → x ≡ None → Adds n (ExprCode line ms e) d0 d1 → Adds 1 (ConvertCode line s) d1 d2 → Adds 1 (OpCode line op.Keep) d2 d3 → Adds (n + 5) (PlaceCode line ms x s e) d0 d3
+  arm_keep n line x s e d0 d1 d2 d3 i h1 h2 h3 =
+      subst (λ (y : Option Op). Adds (n + 5) (PlaceCode line ms y s e) d0 d3) (sym i) (adds_more (omega arith) (adds_both (expr_stable line ms e) h1 (adds_both (convert_stable line s) h2 h3)))
+
+  pub arm_keep_by : (n line : ℕ) (o : Op) (x : Option Op) (s : Shape) (e : Expr) (d0 d1 d2 d3 : Draft) → x ≡ Some o → Adds 2 (BeginCode line) d0 d1 → Adds n (ExprCode line ms e) d1 d2 → Adds 3 (EndCode line o s) d2 d3 → Adds (n + 5) (PlaceCode line ms x s e) d0 d3
+  arm_keep_by n line o x s e d0 d1 d2 d3 i h1 h2 h3 =
+      subst (λ (y : Option Op). Adds (n + 5) (PlaceCode line ms y s e) d0 d3) (sym i) (arm_update ms n (n + 5) line o s e d0 d1 d2 d3 (omega arith) h1 h2 h3)
 
   right_at : (line : ℕ) (o : BinaryOp) (l r : Meant) (code : Laid) (a z : ℕ) → Both (ExprAt code line ms (value_of l)) (RightCode line ms (joining_of o) (value_of r) code) a z → ExprAt code line ms (binary_meant o l r).expr a z
   right_at line binary.Or l r code a z h = h
@@ -220,14 +262,29 @@ module _ (ms : List Mark) where
   right_at line binary.Rem l r code a z h = h
 
   -- behind a left side
-  link_grows : (o : BinaryOp) (r : Meant) (k line a : ℕ) (left : Meaning) (old mid new : Draft) → a ≤ length old.ops → Adds 1 (LoadCode line (stands_as left.standing)) old mid → Adds k (RightCode line ms (joining_of o) (value_of r)) mid new → Grows (1 + k) line ms a (λ l. binary_meant o l r) left (record { scalar = scalar_of (joining_of o); elements = None; standing = standing.Value }) old new
-  link_grows o r k line a left old mid new l h g =
-      grows_adds (1 + k) line ms a (λ l. binary_meant o l r) left (record { scalar = scalar_of (joining_of o); elements = None; standing = standing.Value }) (λ code. Both (LoadCode line (stands_as left.standing) code) (RightCode line ms (joining_of o) (value_of r) code)) old new l
-      (adds_both (load_stable line (stands_as left.standing)) h g)
+  fetched_side : (o : BinaryOp) (l r : Meant) → binary_meant o (fetched l) r ≡ binary_meant o l r
+  fetched_side binary.Or l r = refl
+  fetched_side binary.And l r = refl
+  fetched_side binary.Equal l r = refl
+  fetched_side binary.NotEqual l r = refl
+  fetched_side binary.Less l r = refl
+  fetched_side binary.LessEqual l r = refl
+  fetched_side binary.Greater l r = refl
+  fetched_side binary.GreaterEqual l r = refl
+  fetched_side binary.Add l r = refl
+  fetched_side binary.Sub l r = refl
+  fetched_side binary.Mul l r = refl
+  fetched_side binary.Div l r = refl
+  fetched_side binary.Rem l r = refl
+
+  link_grows : (o : BinaryOp) (r : Meant) (k line a : ℕ) (left t : Meaning) (old mid new : Draft) → t ≡ record left { standing = standing.Value } → Grows 1 line ms a fetched left t old mid → Adds k (RightCode line ms (joining_of o) (value_of r)) mid new → Grows (1 + k) line ms a (λ l. binary_meant o l r) left (record { scalar = scalar_of (joining_of o); elements = None; standing = standing.Value }) old new
+  link_grows o r k line a left t old mid new i h g =
+      grows_as (omega arith) (λ m. fetched_side o m r) (grows_then h (
+      grows_adds k line ms a (λ l. binary_meant o l r) t (record { scalar = scalar_of (joining_of o); elements = None; standing = standing.Value }) (RightCode line ms (joining_of o) (value_of r)) mid new h.past g
       (λ m u. right_tells o m r)
       (λ m u code b z e s.
-      let load : LoadCode line m.standing code b s.middle = subst (λ (x : Standing). LoadCode line x code b s.middle) (sym u.standing) s.first in
-      right_at line o m r code a z (record { middle = s.middle; first = loaded ms line m.standing m.expr code a s.middle (record { middle = b; first = e; second = load }); second = s.second }))
+      let is : m.standing ≡ AsValue = u.standing ∙ ap (λ (x : Meaning). stands_as x.standing) i in
+      right_at line o m r code a z (record { middle = b; first = subst (λ (x : Standing). ExprAt code line ms (value_by x m.expr) a b) (sym is) e; second = s }))))
 
   pub right_as : (i j : Joining) (n line : ℕ) (e : Expr) (old new : Draft) → i ≡ j → Adds n (RightCode line ms j e) old new → Adds n (RightCode line ms i e) old new
   right_as i j n line e old new h a = subst (λ (x : Joining). Adds n (RightCode line ms x e) old new) (sym h) a
@@ -247,40 +304,54 @@ module _ (ms : List Mark) where
       (λ m u code b z w v. subst (λ (o : Option ℕ). ExprAt code line ms (element_by o m (value_of i)).expr a z) (sym (u.len ∙ e))
       (record { middle = b; first = w; second = record { middle = v.middle; first = v.first; second = subst (λ (y : ℕ). One code (op.Index c y) line v.middle z) (sym (element_cell m.ty.base)) v.second } }))
 
-  -- calls and steps
-  pub arm_called : (n line a : ℕ) (args : List Meant) (s t : Meaning) (old new : Draft) → 1 ≤ n → a ≤ length old.ops → s.standing ≡ standing.Fail → t ≡ record { scalar = scalar.Truth; elements = None; standing = standing.Value } → Restarts op.Fail line a old new → Grows n line ms a (λ m. call_meant m args) s t old new
-  arm_called n line a args s t old new k l e q h =
-      grows_restart n line ms a (λ m. call_meant m args) s t op.Fail old new k l h
-      (λ m u. subst (λ (x : Meaning). Tells x (call_meant m args)) (sym q) (subst (λ (o : Standing). Tells (record { scalar = scalar.Truth; elements = None; standing = standing.Value }) (call_by o m args)) (sym (u.standing ∙ ap stands_as e)) (record { shape = refl; len = refl; standing = refl })))
-      (λ m u code z w. subst (λ (o : Standing). ExprAt code line ms (call_by o m args).expr a z) (sym (u.standing ∙ ap stands_as e)) w)
+  -- calls
 
-  not_called : (line : ℕ) (s : Told) (m : Meant) (args : List Meant) (code : Laid) (a z : ℕ) → (s ≡ standing.Fail → ⊥) → One code (op.Push (pos 0)) line a z → ExprAt code line ms (call_by (stands_as s) m args).expr a z
-  not_called line standing.Place m args code a z h w = w
-  not_called line standing.Value m args code a z h w = w
-  not_called line standing.Input m args code a z h w = w
-  not_called line standing.Fail m args code a z h w = absurd (h refl)
-  not_called line standing.Nothing m args code a z h w = w
+  pub arm_called : (p : Program) (n line a : ℕ) (args : List Meant) (s t : Meaning) (old new : Draft) → 1 ≤ n → a ≤ length old.ops → s.standing ≡ standing.Fail → t ≡ record { scalar = scalar.Truth; elements = None; standing = standing.Value } → Restarts op.Fail line a old new → Grows n line ms a (λ m. call_meant p m args) s t old new
+  arm_called p n line a args s t old new k l e q h =
+      grows_restart n line ms a (λ m. call_meant p m args) s t op.Fail old new k l h
+      (λ m u. subst (λ (x : Meaning). Tells x (call_meant p m args)) (sym q) (subst (λ (o : Standing). Tells (record { scalar = scalar.Truth; elements = None; standing = standing.Value }) (call_by p o m args)) (sym (u.standing ∙ ap stands_as e)) (record { shape = refl; len = refl; standing = refl })))
+      (λ m u code z w. subst (λ (o : Standing). ExprAt code line ms (call_by p o m args).expr a z) (sym (u.standing ∙ ap stands_as e)) w)
 
-  pub arm_not_called : (n line a : ℕ) (args : List Meant) (s t : Meaning) (old new : Draft) → 1 ≤ n → a ≤ length old.ops → (s.standing ≡ standing.Fail → ⊥) → t ≡ record { scalar = scalar.Number; elements = None; standing = standing.Nothing } → Restarts (op.Push (pos 0)) line a old new → Grows n line ms a (λ m. call_meant m args) s t old new
-  arm_not_called n line a args s t old new k l e q h =
-      grows_restart n line ms a (λ m. call_meant m args) s t (op.Push (pos 0)) old new k l h
-      (λ m u. subst (λ (x : Meaning). Tells x (call_meant m args)) (sym q) (subst (λ (o : Standing). Tells (record { scalar = scalar.Number; elements = None; standing = standing.Nothing }) (call_by o m args)) (sym u.standing) (not_called_tells s.standing m args e)))
-      (λ m u code z w. subst (λ (o : Standing). ExprAt code line ms (call_by o m args).expr a z) (sym u.standing) (not_called line s.standing m args code a z e w))
+  pub arm_routine : (p : Program) (n k line a r : ℕ) (xs : List Param) (args : List Meant) (s t : Meaning) (old mid d1 d2 new : Draft) → n + 2 ≤ k → a ≤ length old.ops → s.standing ≡ standing.Routine r → xs ≡ params_of p r → t ≡ record s { standing = standing.Value } → Cuts a old mid
+      → Adds n (ArgumentsCode line ms (args_by xs args)) mid d1 → Adds 1 (OpCode line op.Tick) d1 d2 → Adds 1 (OpCode line (op.Call r)) d2 new → Grows k line ms a (λ m. call_meant p m args) s t old new
+  arm_routine p n k line a r xs args s t old mid d1 d2 new le l e x i c h1 h2 h3 =
+      let es : Exprs = args_by (params_of p r) args in
+      let h : Adds n (ArgumentsCode line ms es) mid d1 = subst (λ (ys : List Param). Adds n (ArgumentsCode line ms (args_by ys args)) mid d1) x h1 in
+      grows_cut k line ms a (λ m. call_meant p m args) s t (λ code. Both (ArgumentsCode line ms es code) (Both (One code op.Tick line) (One code (op.Call r) line))) old mid new l c
+      (adds_more (omega arith) (adds_both (args_stable line ms es) h (adds_both (one_stable op.Tick line) h2 h3)))
+      (λ m u. subst (λ (o : Standing). Tells t (call_by p o m args)) (sym (u.standing ∙ ap stands_as e)) (as_value s t m (Call r es) i u))
+      (λ m u code z w. subst (λ (o : Standing). ExprAt code line ms (call_by p o m args).expr a z) (sym (u.standing ∙ ap stands_as e)) w)
 
-  pub called_part : {E : Type 0} (r : Result Meaning E) (c : Context) (x : tree.Part) (sign : Pos) (args : tree.Exprs) (line a : ℕ) (s : Meaning) (old new : Draft) → tree.Call sign args ≡ x → IfOk r (λ t. (xs : List Meant) → Grows OPS_FOR_SIZE line ms a (λ m. call_meant m xs) s t old new) → IfOk r (λ t. Grows (OPS_FOR_SIZE * part_size x) line ms a (part_meant c x) s t old new)
-  called_part (Ok t) c x sign args line a s old new e h = subst (λ (y : tree.Part). Grows (OPS_FOR_SIZE * part_size y) line ms a (part_meant c y) s t old new) e (grows_as (omega arith) (λ m. refl) (h (args_meant c args)))
-  called_part (Err w) c x sign args line a s old new e h = tt
+  pub arm_not_called : (p : Program) (n line a : ℕ) (x : Told) (args : List Meant) (s t : Meaning) (old new : Draft) → 1 ≤ n → a ≤ length old.ops → s.standing ≡ x → ((m : Meant) → call_by p (stands_as x) m args ≡ no_meaning) → t ≡ record { scalar = scalar.Number; elements = None; standing = standing.Nothing } → Restarts (op.Push (pos 0)) line a old new → Grows n line ms a (λ m. call_meant p m args) s t old new
+  arm_not_called p n line a x args s t old new k l e none q h =
+      grows_restart n line ms a (λ m. call_meant p m args) s t (op.Push (pos 0)) old new k l h
+      (λ m u. subst (λ (y : Meaning). Tells y (call_meant p m args)) (sym q) (subst (λ (y : Meant). Tells (record { scalar = scalar.Number; elements = None; standing = standing.Nothing }) y) (sym (ap (λ o. call_by p o m args) (u.standing ∙ ap stands_as e) ∙ none m)) (record { shape = refl; len = refl; standing = refl })))
+      (λ m u code z w. subst (λ (y : Meant). ExprAt code line ms y.expr a z) (sym (ap (λ o. call_by p o m args) (u.standing ∙ ap stands_as e) ∙ none m)) w)
 
-  step_at : (line : ℕ) (o : StepOp) (m : Meant) (code : Laid) (a b z : ℕ) → ExprAt code line ms m.expr a b → StepCode line (step_op_of o) (shape_of m.ty.base) code b z → ExprAt code line ms (step_meant o m).expr a z
-  step_at line step.Increment m code a b z h g = record { middle = b; first = h; second = g }
-  step_at line step.Decrement m code a b z h g = record { middle = b; first = h; second = g }
+  pub not_called : {E : Type 0} (r : Result Meaning E) (p : Program) (n line a : ℕ) (x : Told) (args : List Meant) (s : Meaning) (old new : Draft) → 1 ≤ n → a ≤ length old.ops → s.standing ≡ x → ((m : Meant) → call_by p (stands_as x) m args ≡ no_meaning) → OnOk r (Restarts (op.Push (pos 0)) line a old new) → IfOk r (λ t. t ≡ record { scalar = scalar.Number; elements = None; standing = standing.Nothing }) → IfOk r (λ t. Grows n line ms a (λ m. call_meant p m args) s t old new)
+  not_called (Ok t) p n line a x args s old new k l e none h q = arm_not_called p n line a x args s t old new k l e none q h
+  not_called (Err y) p n line a x args s old new k l e none h q = tt
 
-  pub arm_stepped : (k line : ℕ) (o : StepOp) (x : Op) (s t : Meaning) (old new : Draft) → 9 ≤ k → x ≡ step_op_of o → t ≡ record s { standing = standing.Value } → Adds 9 (StepCode line x (shape_as s.scalar)) old new → (a : ℕ) → a ≤ length old.ops → Grows k line ms a (step_meant o) s t old new
-  arm_stepped k line o x s t old new l i q h a le =
-      grows_adds k line ms a (step_meant o) s t (StepCode line (step_op_of o) (shape_as s.scalar)) old new le
-      (adds_more l (subst (λ (y : Op). Adds 9 (StepCode line y (shape_as s.scalar)) old new) i h))
-      (λ m u. step_tells o s t m q u)
-      (λ m u code b z w v. step_at line o m code a b z w (subst (λ (y : Shape). StepCode line (step_op_of o) y code b z) (sym u.shape) v))
+  pub called_part : {E : Type 0} (r : Result Meaning E) (c : Context) (x : tree.Part) (sign : Pos) (xs ys : List tree.Expr) (line a : ℕ) (s : Meaning) (old new : Draft) → tree.Call sign (exprs_of ys) ≡ x → xs ≡ ys → IfOk r (λ t. Grows (OPS_FOR_SIZE * (1 + exprs_size (exprs_of xs))) line ms a (λ m. call_meant c.program m (args_meant c (exprs_of xs))) s t old new) → IfOk r (λ t. Grows (OPS_FOR_SIZE * part_size x) line ms a (part_meant c x) s t old new)
+  called_part r c x sign xs ys line a s old new e i h =
+      subst (λ (y : tree.Part). IfOk r (λ t. Grows (OPS_FOR_SIZE * part_size y) line ms a (part_meant c y) s t old new)) (ap (λ (zs : List tree.Expr). tree.Call sign (exprs_of zs)) i ∙ e) (as_part r h)
+    where
+      as_part : {E : Type 0} (r : Result Meaning E) → IfOk r (λ t. Grows (OPS_FOR_SIZE * (1 + exprs_size (exprs_of xs))) line ms a (λ m. call_meant c.program m (args_meant c (exprs_of xs))) s t old new) → IfOk r (λ t. Grows (OPS_FOR_SIZE * part_size (tree.Call sign (exprs_of xs))) line ms a (part_meant c (tree.Call sign (exprs_of xs))) s t old new)
+      as_part (Ok t) g = grows_as (omega arith) (λ m. refl) g
+      as_part (Err y) g = tt
+
+  pub stepped_part : {E : Type 0} (r : Result Meaning E) (c : Context) (x : tree.Part) (sign : Pos) (o : StepOp) (line a : ℕ) (s : Meaning) (old new : Draft) → tree.Step sign o ≡ x → IfOk r (λ t. Grows 9 line ms a (step_meant o) s t old new) → IfOk r (λ t. Grows (OPS_FOR_SIZE * part_size x) line ms a (part_meant c x) s t old new)
+  stepped_part (Ok t) c x sign o line a s old new e g = subst (λ (y : tree.Part). Grows (OPS_FOR_SIZE * part_size y) line ms a (part_meant c y) s t old new) e (grows_as (omega arith) (λ m. refl) g)
+  stepped_part (Err y) c x sign o line a s old new e g = tt
+
+  -- arguments
+
+  arguments_push : (line : ℕ) (es : Exprs) (e : Expr) (code : Laid) (a b z : ℕ) → ArgumentsAt code line ms es a b → ExprAt code line ms e b z → ArgumentsAt code line ms (exprs_push es e) a z
+  arguments_push line NoExprs e code a b z h g = record { middle = z; first = subst (λ x. ExprAt code line ms e x z) h.end g; second = record { end = refl } }
+  arguments_push line (MoreExprs d ds) e code a b z h g = record { middle = h.middle; first = h.first; second = arguments_push line ds e code h.middle b z h.second g }
+
+  pub arguments_more : (n k line : ℕ) (es : Exprs) (e : Expr) (old mid new : Draft) → Adds n (ArgumentsCode line ms es) old mid → Adds k (ExprCode line ms e) mid new → Adds (n + k) (ArgumentsCode line ms (exprs_push es e)) old new
+  arguments_more n k line es e old mid new h g = adds_as (adds_both (args_stable line ms es) h g) (λ code a z b. arguments_push line es e code a b.middle z b.first b.second)
 
   -- a root and its parts, a first operand and its links
   grown_code : {E : Type 0} (r : Result Meaning E) (n k l line : ℕ) (m : Meant) (f : Meant → Meant) (s : Meaning) (old mid new : Draft) → n + k ≤ l → Adds n (ExprCode line ms m.expr) old mid → Tells s m → IfOk r (λ t. Grows k line ms (length old.ops) f s t mid new) → OnOk r (Adds l (ExprCode line ms (f m).expr) old new)
@@ -290,11 +361,6 @@ module _ (ms : List Mark) where
   grown_tells : {E : Type 0} (r : Result Meaning E) (n k line : ℕ) (m : Meant) (f : Meant → Meant) (s : Meaning) (old mid new : Draft) → Adds n (ExprCode line ms m.expr) old mid → Tells s m → IfOk r (λ t. Grows k line ms (length old.ops) f s t mid new) → IfOk r (λ t. Tells t (f m))
   grown_tells (Ok t) n k line m f s old mid new h u w = tells_grows {f = f} h u w
   grown_tells (Err x) n k line m f s old mid new h u w = tt
-
-  -- where it begins does not matter to a chain
-  at_length : {E : Type 0} (r : Result Meaning E) (k line : ℕ) (f : Meant → Meant) (s : Meaning) (a : ℕ) (mid new : Draft) → a ≤ length mid.ops → IfOk r (λ t. (b : ℕ) → b ≤ length mid.ops → Grows k line ms b f s t mid new) → IfOk r (λ t. Grows k line ms a f s t mid new)
-  at_length (Ok t) k line f s a mid new l h = h a l
-  at_length (Err x) k line f s a mid new l h = tt
 
 -- in a program
 module _ (program : Program) where
@@ -318,31 +384,121 @@ module _ (program : Program) where
   pub arm_cin : (e : tree.Expr) (p : Pos) (line : ℕ) (old new : Draft) → tree.Cin p ≡ e → Adds 1 (OpCode line (op.Push (pos 0))) old new → Adds (OPS_FOR_SIZE * expr_size e - 2) (ExprCode line old.marks (meant (context_in program old) e).expr) old new
   arm_cin e p line old new h k = as_code e (tree.Cin p) line old new h (adds_more (omega arith) k)
 
-  pub arm_link : (l : tree.Link) (p : Pos) (o : BinaryOp) (right : tree.Expr) (line : ℕ) (left t : Meaning) (j : Joining) (old mid new : Draft) → tree.Linked p o right ≡ l → j ≡ joining_of o → t ≡ record { scalar = scalar_of j; elements = None; standing = standing.Value }
-      → Adds 1 (LoadCode line (stands_as left.standing)) old mid → Adds (OPS_FOR_SIZE * expr_size right + 4) (RightCode line mid.marks j (value_of (meant (context_in program mid) right))) mid new
-      → (a : ℕ) → a ≤ length old.ops → Grows (OPS_FOR_SIZE * link_size l) line old.marks a (link_meant (context_in program old) l) left t old new
-  arm_link l p o right line left t j old mid new i jo e h g a le =
+  pub arm_link : (l : tree.Link) (p : Pos) (o : BinaryOp) (right : tree.Expr) (line a : ℕ) (left s t : Meaning) (j : Joining) (old mid new : Draft) → tree.Linked p o right ≡ l → j ≡ joining_of o → t ≡ record { scalar = scalar_of j; elements = None; standing = standing.Value } → s ≡ record left { standing = standing.Value }
+      → Grows 1 line old.marks a fetched left s old mid → Adds (OPS_FOR_SIZE * expr_size right + 4) (RightCode line mid.marks j (value_of (meant (context_in program mid) right))) mid new
+      → Grows (OPS_FOR_SIZE * link_size l) line old.marks a (link_meant (context_in program old) l) left t old new
+  arm_link l p o right line a left s t j old mid new i jo e v h g =
       let g1 : Adds (OPS_FOR_SIZE * expr_size right + 4) (RightCode line mid.marks (joining_of o) (value_of (meant (context_in program mid) right))) mid new = subst (λ (x : Joining). Adds (OPS_FOR_SIZE * expr_size right + 4) (RightCode line mid.marks x (value_of (meant (context_in program mid) right))) mid new) jo g in
       let g2 : Adds (OPS_FOR_SIZE * expr_size right + 4) (RightCode line old.marks (joining_of o) (value_of (meant (context_in program old) right))) mid new = subst (λ (d : Draft). Adds (OPS_FOR_SIZE * expr_size right + 4) (RightCode line d.marks (joining_of o) (value_of (meant (context_in program d) right))) mid new) h.rest g1 in
       let all : Grows (OPS_FOR_SIZE * (1 + expr_size right)) line old.marks a (link_meant (context_in program old) (tree.Linked p o right)) left (record { scalar = scalar_of (joining_of o); elements = None; standing = standing.Value }) old new =
-      grows_as (omega arith) (λ m. refl) (link_grows old.marks o (meant (context_in program old) right) (OPS_FOR_SIZE * expr_size right + 4) line a left old mid new le h g2) in
+      grows_as (omega arith) (λ m. refl) (link_grows old.marks o (meant (context_in program old) right) (OPS_FOR_SIZE * expr_size right + 4) line a left s old mid new v h g2) in
       let told : record { scalar = scalar_of (joining_of o); elements = None; standing = standing.Value } ≡ t = ap (λ (x : Joining). let m : Meaning = record { scalar = scalar_of x; elements = None; standing = standing.Value } in m) (sym jo) ∙ sym e in
       subst (λ (x : tree.Link). Grows (OPS_FOR_SIZE * link_size x) line old.marks a (link_meant (context_in program old) x) left t old new) i (
       subst (λ (x : Meaning). Grows (OPS_FOR_SIZE * (1 + expr_size right)) line old.marks a (link_meant (context_in program old) (tree.Linked p o right)) left x old new) told all)
 
   -- lists of links and of parts
-  pub links_step : (xs : List tree.Link) (i : ℕ) (x : tree.Link) (line : ℕ) (s t u : Meaning) (old mid new : Draft) → i < length xs → x ≡ get_or xs i x
-      → ((a : ℕ) → a ≤ length old.ops → Grows (OPS_FOR_SIZE * links_size (links_of (take i xs))) line old.marks a (chain_meant (context_in program old) (links_of (take i xs))) s t old mid)
-      → ((a : ℕ) → a ≤ length mid.ops → Grows (OPS_FOR_SIZE * link_size x) line mid.marks a (link_meant (context_in program mid) x) t u mid new)
-      → (a : ℕ) → a ≤ length old.ops → Grows (OPS_FOR_SIZE * links_size (links_of (take (i + 1) xs))) line old.marks a (chain_meant (context_in program old) (links_of (take (i + 1) xs))) s u old new
-  links_step xs i x line s t u old mid new h e g k a l =
+  pub links_step : (xs : List tree.Link) (i : ℕ) (x : tree.Link) (line a : ℕ) (s t u : Meaning) (old mid new : Draft) → i < length xs → x ≡ get_or xs i x
+      → Grows (OPS_FOR_SIZE * links_size (links_of (take i xs))) line old.marks a (chain_meant (context_in program old) (links_of (take i xs))) s t old mid
+      → Grows (OPS_FOR_SIZE * link_size x) line mid.marks a (link_meant (context_in program mid) x) t u mid new
+      → Grows (OPS_FOR_SIZE * links_size (links_of (take (i + 1) xs))) line old.marks a (chain_meant (context_in program old) (links_of (take (i + 1) xs))) s u old new
+  links_step xs i x line a s t u old mid new h e f k =
+      let n : Grows (OPS_FOR_SIZE * link_size x) line old.marks a (link_meant (context_in program old) x) t u mid new = subst (λ (d : Draft). Grows (OPS_FOR_SIZE * link_size x) line d.marks a (link_meant (context_in program d) x) t u mid new) f.rest k in
       let ys : List tree.Link = take i xs in
       let split : ys ++ x ∷ [] ≡ take (i + 1) xs = ap (λ (y : tree.Link). ys ++ y ∷ []) e ∙ sym (take_more xs i x h) in
-      let f = g a l in
-      let past : a ≤ length mid.ops = f.past in
-      let n : Grows (OPS_FOR_SIZE * link_size x) line old.marks a (link_meant (context_in program old) x) t u mid new = subst (λ (d : Draft). Grows (OPS_FOR_SIZE * link_size x) line d.marks a (link_meant (context_in program d) x) t u mid new) f.rest (k a past) in
       subst (λ (zs : List tree.Link). Grows (OPS_FOR_SIZE * links_size (links_of zs)) line old.marks a (chain_meant (context_in program old) (links_of zs)) s u old new) split (
       grows_as (omega (arith, links_push ys x)) (λ m. sym (chain_push (context_in program old) ys x m)) (grows_then f n))
+
+  pub args_begin : (params : List Param) (line : ℕ) (old : Draft) → Adds 0 (ArgumentsCode line old.marks (args_by params [])) old old
+  args_begin [] line old = adds_nothing old
+  args_begin (x ∷ xs) line old = adds_nothing old
+
+  pub args_step : (params : List Param) (xs : List tree.Expr) (i : ℕ) (x : tree.Expr) (y : Param) (line : ℕ) (old mid new : Draft) → i < length xs → x ≡ get_or xs i x → slice_get params i ≡ Some y
+      → Adds (OPS_FOR_SIZE * exprs_size (exprs_of (take i xs))) (ArgumentsCode line old.marks (args_by params (args_meant (context_in program old) (exprs_of (take i xs))))) old mid
+      → Adds (OPS_FOR_SIZE * expr_size x) (ArgumentCode line mid.marks y (meant (context_in program mid) x)) mid new
+      → Adds (OPS_FOR_SIZE * exprs_size (exprs_of (take (i + 1) xs))) (ArgumentsCode line old.marks (args_by params (args_meant (context_in program old) (exprs_of (take (i + 1) xs))))) old new
+  args_step params xs i x y line old mid new h e at f k =
+      let ys : List tree.Expr = take i xs in
+      let c : Context = context_in program old in
+      let n : Adds (OPS_FOR_SIZE * expr_size x) (ExprCode line old.marks (arg_meant y (meant c x))) mid new = subst (λ (d : Draft). Adds (OPS_FOR_SIZE * expr_size x) (ExprCode line d.marks (arg_meant y (meant (context_in program d) x))) mid new) f.rest k in
+      let split : ys ++ x ∷ [] ≡ take (i + 1) xs = ap (λ (z : tree.Expr). ys ++ z ∷ []) e ∙ sym (take_more xs i x h) in
+      let count : length (args_meant c (exprs_of ys)) ≡ i = length-args c ys ∙ omega (arith, length-take i xs, h) in
+      let pushed : args_by params (args_meant c (exprs_of (ys ++ x ∷ []))) ≡ exprs_push (args_by params (args_meant c (exprs_of ys))) (arg_meant y (meant c x)) =
+      ap (args_by params) (args_meant_push c ys x) ∙ args_by_push params (args_meant c (exprs_of ys)) (meant c x) y (ap (slice_get params) count ∙ at) in
+      subst (λ (zs : List tree.Expr). Adds (OPS_FOR_SIZE * exprs_size (exprs_of zs)) (ArgumentsCode line old.marks (args_by params (args_meant c (exprs_of zs)))) old new) split (
+      adds_more (omega (arith, exprs_size_push ys x)) (subst (λ (es : Exprs). Adds (OPS_FOR_SIZE * exprs_size (exprs_of ys) + OPS_FOR_SIZE * expr_size x) (ArgumentsCode line old.marks es) old new) (sym pushed) (
+      arguments_more old.marks (OPS_FOR_SIZE * exprs_size (exprs_of ys)) (OPS_FOR_SIZE * expr_size x) line (args_by params (args_meant c (exprs_of ys))) (arg_meant y (meant c x)) old mid new f n)))
+
+  pub args_skip : (params : List Param) (xs : List tree.Expr) (i : ℕ) (x : tree.Expr) (line : ℕ) (old new : Draft) → i < length xs → x ≡ get_or xs i x → length params ≤ i
+      → Adds (OPS_FOR_SIZE * exprs_size (exprs_of (take i xs))) (ArgumentsCode line old.marks (args_by params (args_meant (context_in program old) (exprs_of (take i xs))))) old new
+      → Adds (OPS_FOR_SIZE * exprs_size (exprs_of (take (i + 1) xs))) (ArgumentsCode line old.marks (args_by params (args_meant (context_in program old) (exprs_of (take (i + 1) xs))))) old new
+  args_skip params xs i x line old new h e past f =
+      let ys : List tree.Expr = take i xs in
+      let c : Context = context_in program old in
+      let split : ys ++ x ∷ [] ≡ take (i + 1) xs = ap (λ (z : tree.Expr). ys ++ z ∷ []) e ∙ sym (take_more xs i x h) in
+      let count : length (args_meant c (exprs_of ys)) ≡ i = length-args c ys ∙ omega (arith, length-take i xs, h) in
+      let same : args_by params (args_meant c (exprs_of (ys ++ x ∷ []))) ≡ args_by params (args_meant c (exprs_of ys)) =
+      ap (args_by params) (args_meant_push c ys x) ∙ args_by_past params (args_meant c (exprs_of ys)) (meant c x) (omega (arith, count, past)) in
+      subst (λ (zs : List tree.Expr). Adds (OPS_FOR_SIZE * exprs_size (exprs_of zs)) (ArgumentsCode line old.marks (args_by params (args_meant c (exprs_of zs)))) old new) split (
+      adds_more (omega (arith, exprs_size_push ys x)) (subst (λ (es : Exprs). Adds (OPS_FOR_SIZE * exprs_size (exprs_of ys)) (ArgumentsCode line old.marks es) old new) (sym same) f))
+
+  pub args_end : (params : List Param) (xs : List tree.Expr) (i line : ℕ) (old new : Draft) → length xs ≤ i
+      → Adds (OPS_FOR_SIZE * exprs_size (exprs_of (take i xs))) (ArgumentsCode line old.marks (args_by params (args_meant (context_in program old) (exprs_of (take i xs))))) old new
+      → Adds (OPS_FOR_SIZE * exprs_size (exprs_of xs)) (ArgumentsCode line old.marks (args_by params (args_meant (context_in program old) (exprs_of xs)))) old new
+  args_end params xs i line old new h f = subst (λ (zs : List tree.Expr). Adds (OPS_FOR_SIZE * exprs_size (exprs_of zs)) (ArgumentsCode line old.marks (args_by params (args_meant (context_in program old) (exprs_of zs)))) old new) (take_all i xs h) f
+
+  -- a value, and the value of an argument
+  pub arm_value : (n line a : ℕ) (e : tree.Expr) (s t : Meaning) (old mid new : Draft) → a ≡ length old.ops → Adds n (ExprCode line old.marks (meant (context_in program old) e).expr) old mid → Tells s (meant (context_in program old) e) → Grows 1 line mid.marks a fetched s t mid new → Adds (n + 1) (ExprCode line old.marks (value_of (meant (context_in program old) e))) old new
+  arm_value n line a e s t old mid new al k u g =
+      let g1 : Grows 1 line old.marks a fetched s t mid new = subst (λ (d : Draft). Grows 1 line d.marks a fetched s t mid new) k.rest g in
+      let g2 : Grows 1 line old.marks (length old.ops) fetched s t mid new = subst (λ (b : ℕ). Grows 1 line old.marks b fetched s t mid new) al g1 in
+      adds_grows {f = fetched} (omega arith) k u g2
+
+  pub arm_argument : (n line a : ℕ) (x : Param) (e : tree.Expr) (v : Scalar) (s t : Meaning) (old mid next new : Draft) → x.by_ref ≡ false → shape_of x.base ≡ shape_as v → a ≡ length old.ops → Adds n (ExprCode line old.marks (meant (context_in program old) e).expr) old mid → Tells s (meant (context_in program old) e) → Grows 1 line mid.marks a fetched s t mid next → Adds 1 (ConvertCode line (shape_as v)) next new → Adds (n + 2) (ArgumentCode line old.marks x (meant (context_in program old) e)) old new
+  arm_argument n line a x e v s t old mid next new none shape al k u g h =
+      let m : Meant = meant (context_in program old) e in
+      let value = arm_value n line a e s t old mid next al k u g in
+      let h2 : Adds 1 (ConvertCode line (shape_of x.base)) next new = subst (λ (y : Shape). Adds 1 (ConvertCode line y) next new) (sym shape) h in
+      adds_more (omega arith) (adds_as (adds_both (expr_stable line old.marks (value_of m)) value h2) (λ code b z w.
+      subst (λ (r : Bool). ExprAt code line old.marks (if r then m.expr else converted (shape_of x.base) (value_of m)) b z) (sym none) (converted_at old.marks line (shape_of x.base) (value_of m) code b z w)))
+
+  pub arm_reference : (n line : ℕ) (x : Param) (e : tree.Expr) (old new : Draft) → x.by_ref ≡ true → Adds n (ExprCode line old.marks (meant (context_in program old) e).expr) old new → Adds (n + 2) (ArgumentCode line old.marks x (meant (context_in program old) e)) old new
+  arm_reference n line x e old new by k =
+      let m : Meant = meant (context_in program old) e in
+      adds_more (omega arith) (adds_as k (λ code b z w. subst (λ (r : Bool). ExprAt code line old.marks (if r then m.expr else converted (shape_of x.base) (value_of m)) b z) (sym by) w))
+
+  -- an operator before its operand that writes to it, and an assignment
+  pub arm_bumped : {E : Type 0} (r : Result Meaning E) (o : UnaryOp) (step : StepOp) (n k line a : ℕ) (e : tree.Expr) (s : Meaning) (old mid new : Draft) → ((m : Meant) → bumped step m ≡ unary_meant o m) → n + 6 ≤ k → a ≡ length old.ops → Adds n (ExprCode line old.marks (meant (context_in program old) e).expr) old mid → Tells s (meant (context_in program old) e) → IfOk r (λ t. Grows 6 line mid.marks a (bumped step) s t mid new) → OnOk r (Adds k (ExprCode line old.marks (unary_meant o (meant (context_in program old) e)).expr) old new)
+  arm_bumped r o step n k line a e s old mid new same l al h u w =
+      let m : Meant = meant (context_in program old) e in
+      let w1 : IfOk r (λ t. Grows 6 line mid.marks (length old.ops) (bumped step) s t mid new) = subst (λ (b : ℕ). IfOk r (λ t. Grows 6 line mid.marks b (bumped step) s t mid new)) al w in
+      let w2 : IfOk r (λ t. Grows 6 line old.marks (length old.ops) (bumped step) s t mid new) = subst (λ (d : Draft). IfOk r (λ t. Grows 6 line d.marks (length old.ops) (bumped step) s t mid new)) h.rest w1 in
+      subst (λ (x : Meant). OnOk r (Adds k (ExprCode line old.marks x.expr) old new)) (same m) (grown_code old.marks r n 6 k line m (bumped step) s old mid new l h u w2)
+
+  pub told_bumped : {E : Type 0} (r : Result Meaning E) (o : UnaryOp) (step : StepOp) (n line a : ℕ) (e : tree.Expr) (s : Meaning) (old mid new : Draft) → ((m : Meant) → bumped step m ≡ unary_meant o m) → a ≡ length old.ops → Adds n (ExprCode line old.marks (meant (context_in program old) e).expr) old mid → Tells s (meant (context_in program old) e) → IfOk r (λ t. Grows 6 line mid.marks a (bumped step) s t mid new) → IfOk r (λ t. Tells t (unary_meant o (meant (context_in program old) e)))
+  told_bumped r o step n line a e s old mid new same al h u w =
+      let m : Meant = meant (context_in program old) e in
+      let w1 : IfOk r (λ t. Grows 6 line mid.marks (length old.ops) (bumped step) s t mid new) = subst (λ (b : ℕ). IfOk r (λ t. Grows 6 line mid.marks b (bumped step) s t mid new)) al w in
+      let w2 : IfOk r (λ t. Grows 6 line old.marks (length old.ops) (bumped step) s t mid new) = subst (λ (d : Draft). IfOk r (λ t. Grows 6 line d.marks (length old.ops) (bumped step) s t mid new)) h.rest w1 in
+      subst (λ (x : Meant). IfOk r (λ t. Tells t x)) (same m) (grown_tells old.marks r n 6 line m (bumped step) s old mid new h u w2)
+
+  pub arm_assigned : {E : Type 0} (r : Result Meaning E) (o : AssignOp) (n j k line a : ℕ) (e v : tree.Expr) (s : Meaning) (old mid new : Draft) → n + j ≤ k → a ≡ length old.ops → Adds n (ExprCode line old.marks (meant (context_in program old) e).expr) old mid → Tells s (meant (context_in program old) e) → IfOk r (λ t. Grows j line mid.marks a (λ m. assign_meant o m (meant (context_in program mid) v)) s t mid new) → OnOk r (Adds k (ExprCode line old.marks (assign_meant o (meant (context_in program old) e) (meant (context_in program old) v)).expr) old new)
+  arm_assigned r o n j k line a e v s old mid new l al h u w =
+      let w1 : IfOk r (λ t. Grows j line mid.marks (length old.ops) (λ m. assign_meant o m (meant (context_in program mid) v)) s t mid new) = subst (λ (b : ℕ). IfOk r (λ t. Grows j line mid.marks b (λ m. assign_meant o m (meant (context_in program mid) v)) s t mid new)) al w in
+      let w2 : IfOk r (λ t. Grows j line old.marks (length old.ops) (λ m. assign_meant o m (meant (context_in program old) v)) s t mid new) = subst (λ (d : Draft). IfOk r (λ t. Grows j line d.marks (length old.ops) (λ m. assign_meant o m (meant (context_in program d) v)) s t mid new)) h.rest w1 in
+      grown_code old.marks r n j k line (meant (context_in program old) e) (λ m. assign_meant o m (meant (context_in program old) v)) s old mid new l h u w2
+
+  pub told_assigned : {E : Type 0} (r : Result Meaning E) (o : AssignOp) (n j line a : ℕ) (e v : tree.Expr) (s : Meaning) (old mid new : Draft) → a ≡ length old.ops → Adds n (ExprCode line old.marks (meant (context_in program old) e).expr) old mid → Tells s (meant (context_in program old) e) → IfOk r (λ t. Grows j line mid.marks a (λ m. assign_meant o m (meant (context_in program mid) v)) s t mid new) → IfOk r (λ t. Tells t (assign_meant o (meant (context_in program old) e) (meant (context_in program old) v)))
+  told_assigned r o n j line a e v s old mid new al h u w =
+      let w1 : IfOk r (λ t. Grows j line mid.marks (length old.ops) (λ m. assign_meant o m (meant (context_in program mid) v)) s t mid new) = subst (λ (b : ℕ). IfOk r (λ t. Grows j line mid.marks b (λ m. assign_meant o m (meant (context_in program mid) v)) s t mid new)) al w in
+      let w2 : IfOk r (λ t. Grows j line old.marks (length old.ops) (λ m. assign_meant o m (meant (context_in program old) v)) s t mid new) = subst (λ (d : Draft). IfOk r (λ t. Grows j line d.marks (length old.ops) (λ m. assign_meant o m (meant (context_in program d) v)) s t mid new)) h.rest w1 in
+      grown_tells old.marks r n j line (meant (context_in program old) e) (λ m. assign_meant o m (meant (context_in program old) v)) s old mid new h u w2
+
+  -- a value that is written where ops were dropped
+  pub variable_in_cut : (n line k a : ℕ) (x : Option Op) (v : tree.Expr) (s : Shape) (old mid new : Draft) → Cuts a old mid → Adds n (VariableCode line mid.marks x k s (value_of (meant (context_in program mid) v))) mid new → Adds n (VariableCode line old.marks x k s (value_of (meant (context_in program old) v))) mid new
+  variable_in_cut n line k a x v s old mid new c h = subst (λ (d : Draft). Adds n (VariableCode line d.marks x k s (value_of (meant (context_in program d) v))) mid new) c.rest h
+
+  pub args_in_cut : (n line a : ℕ) (xs : List Param) (es : tree.Exprs) (old mid new : Draft) → Cuts a old mid → Adds n (ArgumentsCode line mid.marks (args_by xs (args_meant (context_in program mid) es))) mid new → Adds n (ArgumentsCode line old.marks (args_by xs (args_meant (context_in program old) es))) mid new
+  args_in_cut n line a xs es old mid new c h = subst (λ (d : Draft). Adds n (ArgumentsCode line d.marks (args_by xs (args_meant (context_in program d) es))) mid new) c.rest h
 
   pub parts_step : (xs : List tree.Part) (i : ℕ) (x : tree.Part) (line a : ℕ) (s t u : Meaning) (old mid new : Draft) → i < length xs → x ≡ get_or xs i x
       → Grows (OPS_FOR_SIZE * parts_size (parts_of (take i xs))) line old.marks a (parts_meant (context_in program old) (parts_of (take i xs))) s t old mid
@@ -378,24 +534,24 @@ module _ (program : Program) where
       subst (λ (x : tree.Expr). IfOk r (λ t. Tells t (meant (context_in program old) x))) is (
       grown_tells old.marks r (OPS_FOR_SIZE * expr_size root - 2) (OPS_FOR_SIZE * parts_size (parts_of xs)) line (meant (context_in program old) root) (parts_meant (context_in program old) (parts_of xs)) s old mid new k u w2)
 
-  pub arm_chain : {E : Type 0} (r : Result Meaning E) (e first0 first : tree.Expr) (p : Pos) (ys xs : List tree.Link) (line : ℕ) (s : Meaning) (old mid new : Draft) → tree.Chain p first0 (links_of ys) ≡ e → first ≡ first0 → xs ≡ ys
+  pub arm_chain : {E : Type 0} (r : Result Meaning E) (e first0 first : tree.Expr) (p : Pos) (ys xs : List tree.Link) (line a : ℕ) (s : Meaning) (old mid new : Draft) → tree.Chain p first0 (links_of ys) ≡ e → first ≡ first0 → xs ≡ ys → a ≡ length old.ops
       → Adds (OPS_FOR_SIZE * expr_size first - 2) (ExprCode line old.marks (meant (context_in program old) first).expr) old mid → Tells s (meant (context_in program old) first)
-      → IfOk r (λ t. (a : ℕ) → a ≤ length mid.ops → Grows (OPS_FOR_SIZE * links_size (links_of xs)) line mid.marks a (chain_meant (context_in program mid) (links_of xs)) s t mid new)
+      → IfOk r (λ t. Grows (OPS_FOR_SIZE * links_size (links_of xs)) line mid.marks a (chain_meant (context_in program mid) (links_of xs)) s t mid new)
       → OnOk r (Adds (OPS_FOR_SIZE * expr_size e - 2) (ExprCode line old.marks (meant (context_in program old) e).expr) old new)
-  arm_chain r e first0 first p ys xs line s old mid new h i j k u w =
+  arm_chain r e first0 first p ys xs line a s old mid new h i j al k u w =
       let is : tree.Chain p first (links_of xs) ≡ e = ap (λ (x : tree.Expr). tree.Chain p x (links_of xs)) i ∙ ap (λ (zs : List tree.Link). tree.Chain p first0 (links_of zs)) j ∙ h in
-      let w1 = at_length mid.marks r (OPS_FOR_SIZE * links_size (links_of xs)) line (chain_meant (context_in program mid) (links_of xs)) s (length old.ops) mid new k.kept.longer w in
+      let w1 : IfOk r (λ t. Grows (OPS_FOR_SIZE * links_size (links_of xs)) line mid.marks (length old.ops) (chain_meant (context_in program mid) (links_of xs)) s t mid new) = subst (λ (b : ℕ). IfOk r (λ t. Grows (OPS_FOR_SIZE * links_size (links_of xs)) line mid.marks b (chain_meant (context_in program mid) (links_of xs)) s t mid new)) al w in
       let w2 : IfOk r (λ t. Grows (OPS_FOR_SIZE * links_size (links_of xs)) line old.marks (length old.ops) (chain_meant (context_in program old) (links_of xs)) s t mid new) = subst (λ (d : Draft). IfOk r (λ t. Grows (OPS_FOR_SIZE * links_size (links_of xs)) line d.marks (length old.ops) (chain_meant (context_in program d) (links_of xs)) s t mid new)) k.rest w1 in
       subst (λ (x : tree.Expr). OnOk r (Adds (OPS_FOR_SIZE * expr_size x - 2) (ExprCode line old.marks (meant (context_in program old) x).expr) old new)) is (
       grown_code old.marks r (OPS_FOR_SIZE * expr_size first - 2) (OPS_FOR_SIZE * links_size (links_of xs)) (OPS_FOR_SIZE * expr_size (tree.Chain p first (links_of xs)) - 2) line (meant (context_in program old) first) (chain_meant (context_in program old) (links_of xs)) s old mid new (let q = some_size first in omega arith) k u w2)
 
-  pub told_chain : {E : Type 0} (r : Result Meaning E) (e first0 first : tree.Expr) (p : Pos) (ys xs : List tree.Link) (line : ℕ) (s : Meaning) (old mid new : Draft) → tree.Chain p first0 (links_of ys) ≡ e → first ≡ first0 → xs ≡ ys
+  pub told_chain : {E : Type 0} (r : Result Meaning E) (e first0 first : tree.Expr) (p : Pos) (ys xs : List tree.Link) (line a : ℕ) (s : Meaning) (old mid new : Draft) → tree.Chain p first0 (links_of ys) ≡ e → first ≡ first0 → xs ≡ ys → a ≡ length old.ops
       → Adds (OPS_FOR_SIZE * expr_size first - 2) (ExprCode line old.marks (meant (context_in program old) first).expr) old mid → Tells s (meant (context_in program old) first)
-      → IfOk r (λ t. (a : ℕ) → a ≤ length mid.ops → Grows (OPS_FOR_SIZE * links_size (links_of xs)) line mid.marks a (chain_meant (context_in program mid) (links_of xs)) s t mid new)
+      → IfOk r (λ t. Grows (OPS_FOR_SIZE * links_size (links_of xs)) line mid.marks a (chain_meant (context_in program mid) (links_of xs)) s t mid new)
       → IfOk r (λ t. Tells t (meant (context_in program old) e))
-  told_chain r e first0 first p ys xs line s old mid new h i j k u w =
+  told_chain r e first0 first p ys xs line a s old mid new h i j al k u w =
       let is : tree.Chain p first (links_of xs) ≡ e = ap (λ (x : tree.Expr). tree.Chain p x (links_of xs)) i ∙ ap (λ (zs : List tree.Link). tree.Chain p first0 (links_of zs)) j ∙ h in
-      let w1 = at_length mid.marks r (OPS_FOR_SIZE * links_size (links_of xs)) line (chain_meant (context_in program mid) (links_of xs)) s (length old.ops) mid new k.kept.longer w in
+      let w1 : IfOk r (λ t. Grows (OPS_FOR_SIZE * links_size (links_of xs)) line mid.marks (length old.ops) (chain_meant (context_in program mid) (links_of xs)) s t mid new) = subst (λ (b : ℕ). IfOk r (λ t. Grows (OPS_FOR_SIZE * links_size (links_of xs)) line mid.marks b (chain_meant (context_in program mid) (links_of xs)) s t mid new)) al w in
       let w2 : IfOk r (λ t. Grows (OPS_FOR_SIZE * links_size (links_of xs)) line old.marks (length old.ops) (chain_meant (context_in program old) (links_of xs)) s t mid new) = subst (λ (d : Draft). IfOk r (λ t. Grows (OPS_FOR_SIZE * links_size (links_of xs)) line d.marks (length old.ops) (chain_meant (context_in program d) (links_of xs)) s t mid new)) k.rest w1 in
       subst (λ (x : tree.Expr). IfOk r (λ t. Tells t (meant (context_in program old) x))) is (
       grown_tells old.marks r (OPS_FOR_SIZE * expr_size first - 2) (OPS_FOR_SIZE * links_size (links_of xs)) line (meant (context_in program old) first) (chain_meant (context_in program old) (links_of xs)) s old mid new k u w2)

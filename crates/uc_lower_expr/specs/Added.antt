@@ -1,14 +1,13 @@
 -- What lowering does to a draft.
 use Rattle.std.specs.Prelude.{◌≡◌, ℕ, ◌+◌, ◌≤◌, List, length}
-use Rattle.uc_tree.specs.Source.{Shape, Expr}
-use Rattle.uc_tree.specs.Resolve.{Standing, AtPlace, AsValue, AsInput, AsFail, AsRoutine, AsMember, AsCondition, AsEvent, AsNothing, Meant}
+use Rattle.uc_tree.specs.Source.{Shape, Expr, Exprs}
+use Rattle.uc_tree.specs.Resolve.{Meant, value_meant, value_of}
 use Rattle.uc_code.specs.declared.op.Op.{Op}
-use Rattle.uc_code.specs.declared.op.Op.TheVariants as op
 use Rattle.uc_code.specs.declared.rows.Mark.{Mark}
 use Rattle.uc_code.specs.Drafts.{Draft}
 use Rattle.uc_code.specs.Laid.{Laid, laid_in}
-use Rattle.uc_code.specs.Ranges.{Nothing, One, Same, Kept}
-use Rattle.uc_code.specs.Lowered.{ExprAt, ConvertAt}
+use Rattle.uc_code.specs.Ranges.{One, Same, Kept}
+use Rattle.uc_code.specs.Lowered.{ExprAt, ArgumentsAt, ConvertAt}
 use Rattle.uc_lower_expr.specs.declared.meaning.Meaning.{Meaning}
 use Rattle.uc_lower_expr.specs.Meanings.{Tells}
 
@@ -19,23 +18,15 @@ pub record Adds (n : ℕ) (S : Laid → ℕ → ℕ → Type 0) (old new : Draft
   pub room : length new.ops ≤ length old.ops + n
   pub code : S (laid_in new) (length old.ops) (length new.ops)
 
--- the code of an expression under marks, of a conversion, of a load where there is a place, and of one op
+-- the code of an expression under marks, of arguments, of a conversion, and of one op
 abbrev pub ExprCode : ℕ → List Mark → Expr → Laid → ℕ → ℕ → Type 0
 ExprCode line ms e code = ExprAt code line ms e
 
+abbrev pub ArgumentsCode : ℕ → List Mark → Exprs → Laid → ℕ → ℕ → Type 0
+ArgumentsCode line ms es code = ArgumentsAt code line ms es
+
 abbrev pub ConvertCode : ℕ → Shape → Laid → ℕ → ℕ → Type 0
 ConvertCode line s code = ConvertAt code line s
-
-abbrev pub LoadCode : ℕ → Standing → Laid → ℕ → ℕ → Type 0
-LoadCode line AtPlace code = One code op.Load line
-LoadCode line AsValue code = Nothing
-LoadCode line AsInput code = Nothing
-LoadCode line AsFail code = Nothing
-LoadCode line (AsRoutine r) code = Nothing
-LoadCode line (AsMember r) code = Nothing
-LoadCode line (AsCondition k) code = Nothing
-LoadCode line (AsEvent k) code = Nothing
-LoadCode line AsNothing code = Nothing
 
 abbrev pub OpCode : ℕ → Op → Laid → ℕ → ℕ → Type 0
 OpCode line o code = One code o line
@@ -53,3 +44,13 @@ pub record Grows (n line : ℕ) (ms : List Mark) (a : ℕ) (f : Meant → Meant)
   pub past : a ≤ length new.ops
   pub room : length new.ops ≤ length old.ops + n
   pub code : (m : Meant) → Stood line ms a m before old → Stood line ms a (f m) after new
+
+-- the ops from a on are gone
+pub record Cuts (a : ℕ) (old new : Draft) : Type 0 where
+  pub rest : new ≡ record old { ops = new.ops }
+  pub front : Same (laid_in old) (laid_in new) 0 a
+  pub end : length new.ops ≡ a
+
+-- the value of what is meant
+abbrev pub fetched : Meant → Meant
+fetched m = value_meant (value_of m) m.ty

@@ -1,4 +1,5 @@
 pub mod Added
 pub mod Contexts
 pub mod Meanings
+pub mod Numbered
 pub mod Parts

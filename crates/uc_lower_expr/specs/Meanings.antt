@@ -1,5 +1,5 @@
 -- What lowering tells of an expression besides its code.
-use Rattle.std.specs.Prelude.{◌≡◌}
+use Rattle.std.specs.Prelude.{◌≡◌, ℕ, Option, Some, None}
 use Rattle.uc_tree.specs.Source.{Shape, Integer, Character, Truth}
 use Rattle.uc_tree.specs.Resolve as resolve
 use Rattle.uc_lower_expr.specs.declared.meaning.Scalar.{Scalar}
@@ -13,11 +13,23 @@ shape_as scalar.Number = Integer
 shape_as scalar.Character = Character
 shape_as scalar.Truth = Truth
 
+-- the variable that is told of
+abbrev pub cell_in : Standing → Option ℕ
+cell_in (standing.Variable k) = Some k
+cell_in standing.Place = None
+cell_in standing.Value = None
+cell_in standing.Input = None
+cell_in standing.Fail = None
+cell_in (standing.Routine r) = None
+cell_in standing.Nothing = None
+
 abbrev pub stands_as : Standing → resolve.Standing
+stands_as (standing.Variable k) = resolve.AtVariable k
 stands_as standing.Place = resolve.AtPlace
 stands_as standing.Value = resolve.AsValue
 stands_as standing.Input = resolve.AsInput
 stands_as standing.Fail = resolve.AsFail
+stands_as (standing.Routine r) = resolve.AsRoutine r
 stands_as standing.Nothing = resolve.AsNothing
 
 -- what is told of an expression that stands for this: how its base keeps a number, its length, and its standing

@@ -1,5 +1,5 @@
 -- The code behind a left side, and in an update.
-use Rattle.std.specs.Prelude.{◌≡◌, ℕ, ◌+◌, pos, List, Option, Some, None, length}
+use Rattle.std.specs.Prelude.{◌≡◌, ℕ, ◌+◌, pos, List, Bool, Option, Some, None, length, if◌then◌else◌}
 use Rattle.uc_tree.specs.declared.kinds.Known.{Known}
 use Rattle.uc_tree.specs.declared.ops.BinaryOp.{BinaryOp}
 use Rattle.uc_tree.specs.declared.ops.BinaryOp.TheVariants as binary
@@ -7,8 +7,9 @@ use Rattle.uc_tree.specs.declared.ops.AssignOp.{AssignOp}
 use Rattle.uc_tree.specs.declared.ops.AssignOp.TheVariants as assign
 use Rattle.uc_tree.specs.declared.ops.StepOp.{StepOp}
 use Rattle.uc_tree.specs.declared.ops.StepOp.TheVariants as step
-use Rattle.uc_tree.specs.Source.{Shape, Expr}
-use Rattle.uc_tree.specs.Resolve.{known_named, known_meant}
+use Rattle.uc_tree.specs.declared.kinds.Param.{Param}
+use Rattle.uc_tree.specs.Source.{Shape, Plus, Minus, Expr, Literal}
+use Rattle.uc_tree.specs.Resolve.{Meant, known_named, known_meant, updated, arg_meant}
 use Rattle.uc_code.specs.declared.op.Op.{Op}
 use Rattle.uc_code.specs.declared.op.Op.TheVariants as op
 use Rattle.uc_code.specs.declared.rows.Mark.{Mark}
@@ -18,6 +19,8 @@ use Rattle.uc_code.specs.Ranges.{One, Both, Fork, Same}
 use Rattle.uc_code.specs.Lowered.{ExprAt, ConvertAt}
 use Rattle.uc_lower_expr.specs.declared.meaning.Scalar.{Scalar}
 use Rattle.uc_lower_expr.specs.declared.meaning.Scalar.TheVariants as scalar
+use Rattle.uc_lower_expr.specs.declared.meaning.Standing.{Standing}
+use Rattle.uc_lower_expr.specs.declared.meaning.Standing.TheVariants as standing
 use Rattle.uc_lower_expr.specs.declared.ops.Joining.{Joining}
 use Rattle.uc_lower_expr.specs.declared.ops.Joining.TheVariants as joining
 use Rattle.uc_lower_expr.specs.declared.names.Variable.{Variable}
@@ -74,6 +77,31 @@ abbrev pub UpdateCode : ℕ → List Mark → Op → Shape → Expr → Laid →
 UpdateCode line ms o s e code =
     Both (One code op.Duplicate line) (Both (One code op.Load line) (Both (ExprAt code line ms e) (Both (One code o line) (Both (ConvertAt code line s) (One code op.Keep line)))))
 
+-- the code that writes a value to a variable, and what combines the variable with a value
+abbrev pub SetCode : ℕ → List Mark → ℕ → Shape → Expr → Laid → ℕ → ℕ → Type 0
+SetCode line ms k s e code = Both (Both (ExprAt code line ms e) (ConvertAt code line s)) (One code (op.Set k) line)
+
+abbrev pub SetByCode : ℕ → List Mark → ℕ → Op → Shape → Expr → Laid → ℕ → ℕ → Type 0
+SetByCode line ms k o s e code =
+    Both (Both (Both (One code (op.Via k) line) (Both (ExprAt code line ms e) (One code o line))) (ConvertAt code line s)) (One code (op.Set k) line)
+
+-- the code that writes a value to a variable, or to the place before it, combined with the old value where there is an op
+abbrev pub VariableCode : ℕ → List Mark → Option Op → ℕ → Shape → Expr → Laid → ℕ → ℕ → Type 0
+VariableCode line ms None k s e = SetCode line ms k s e
+VariableCode line ms (Some o) k s e = SetByCode line ms k o s e
+
+abbrev pub PlaceCode : ℕ → List Mark → Option Op → Shape → Expr → Laid → ℕ → ℕ → Type 0
+PlaceCode line ms None s e code = Both (ExprAt code line ms e) (Both (ConvertAt code line s) (One code op.Keep line))
+PlaceCode line ms (Some o) s e code = UpdateCode line ms o s e code
+
+-- the code of a step behind a variable: the old value, the new one is written and left
+abbrev pub BehindCode : ℕ → List Mark → ℕ → Op → Shape → Laid → ℕ → ℕ → Type 0
+BehindCode line ms k o s code = Both (One code (op.Via k) line) (Both (SetByCode line ms k o s (Literal (pos 1)) code) (One code op.Discard line))
+
+-- the code of an argument
+abbrev pub ArgumentCode : ℕ → List Mark → Param → Meant → Laid → ℕ → ℕ → Type 0
+ArgumentCode line ms x m code = ExprAt code line ms (arg_meant x m)
+
 -- the code of a step behind its place
 abbrev pub StepCode : ℕ → Op → Shape → Laid → ℕ → ℕ → Type 0
 StepCode line o s code =
@@ -86,9 +114,23 @@ pub record Restarts (o : Op) (line a : ℕ) (old new : Draft) : Type 0 where
   pub end : length new.ops ≡ a + 1
   pub code : One (laid_in new) o line a (length new.ops)
 
--- what a name stands for
-pub record Names (names : List Known) (name : List ℕ) (v : Variable) : Type 0 where
+-- a reference is the place that it holds
+abbrev pub standing_by : Bool → ℕ → Standing
+standing_by by_ref k = if by_ref then standing.Place else standing.Variable k
+
+-- the variable that a name stands for
+pub record IsVariable (names : List Known) (name : List ℕ) (v : Variable) : Type 0 where
   pub known : Known
   pub is : known_named names name ≡ Some known
   pub cell : known.cell ≡ v.cell
-  pub tells : Tells v.told (known_meant (Some known))
+  pub by_ref : known.ty.by_ref ≡ v.by_ref
+  pub tells : Tells v.told (known_meant known)
+
+-- the op that finds the place of a variable
+abbrev pub place_op_of : Bool → ℕ → Op
+place_op_of by_ref k = if by_ref then op.Via k else op.Local k
+
+-- one more or one less is written to what is meant
+abbrev pub bumped : StepOp → Meant → Meant
+bumped step.Increment m = updated Plus m (Literal (pos 1))
+bumped step.Decrement m = updated Minus m (Literal (pos 1))

@@ -1,27 +1,29 @@
 // The code of expressions.
 
-ghost use Rattle.std.specs.Prelude.{ℕ, List, ◌+◌, ◌-◌, ◌*◌, ◌<◌, ◌≤◌, length, OnOk, IfOk};
+ghost use Rattle.std.specs.Prelude.{◌≡◌, ℕ, List, ◌+◌, ◌-◌, ◌*◌, ◌<◌, ◌≤◌, pos, None, length, OnOk, IfOk};
 ghost use Rattle.uc_tree.specs.declared.limits.TheConstants.{PROGRAM_OPS, OPS_FOR_SIZE};
-ghost use Rattle.uc_tree.specs.Expressions.{links_of, parts_of};
-ghost use Rattle.uc_tree.specs.ExpressionSizes.{expr_size, link_size, links_size, part_size, parts_size};
-ghost use Rattle.uc_tree.specs.Resolve.{Meant, meant, value_of, unary_meant, assign_meant, link_meant, chain_meant, part_meant, parts_meant, element_meant, field_meant, call_meant, step_meant, known_named, known_meant};
+ghost use Rattle.uc_tree.specs.Expressions.{exprs_of, links_of, parts_of};
+ghost use Rattle.uc_tree.specs.ExpressionSizes.{expr_size, exprs_size, link_size, links_size, part_size, parts_size};
+ghost use Rattle.uc_tree.specs.Numbering.{routines_of};
+ghost use Rattle.uc_tree.specs.Resolve.{Meant, meant, value_of, unary_meant, assign_meant, link_meant, chain_meant, part_meant, parts_meant, element_meant, field_meant, call_meant, args_meant, args_by, name_meant, item_meant, routine_meant_by, routine_from, known_named};
 ghost use Rattle.uc_lower_expr.specs.Contexts.{context_in};
-ghost use Rattle.uc_lower_expr.specs.Meanings.{Tells};
-ghost use Rattle.uc_lower_expr.specs.Added.{Adds, Grows, ExprCode};
-ghost use Rattle.uc_lower_expr.specs.Parts.{RightCode};
+ghost use Rattle.uc_lower_expr.specs.Meanings.{Tells, shape_as};
+ghost use Rattle.uc_lower_expr.specs.Added.{Adds, Grows, ExprCode, ArgumentsCode};
+ghost use Rattle.uc_lower_expr.specs.Parts.{RightCode, VariableCode, PlaceCode, ArgumentCode, Restarts, place_op_of};
 
 use crate::meaning::{Meaning, Scalar, Standing};
 use crate::names::variable_named;
-use crate::ops::{Joining, combining, joined_by, stepping};
+use crate::ops::{Joining, combining, joined_by};
+use crate::program_names::ProgramNames;
 use crate::put::{
-    begin_update, close_fork, end_update, put, put_conversion, put_load, put_step, restart,
-    update_by_one,
+    begin_update, close_fork, cut, end_update, put, put_bump, put_conversion, put_load,
+    put_stepped, restart,
 };
 use std::alloc::AllocError;
 use uc_code::draft::Draft;
 use uc_code::op::Op;
-use uc_sizes::sizes::Sizes;
 use uc_tree::expr::{Expr, ExprForm, Link, Part, PartForm};
+use uc_tree::kinds::Param;
 use uc_tree::name::Name;
 use uc_tree::ops::{AssignOp, StepOp, UnaryOp};
 
@@ -31,12 +33,12 @@ use uc_tree::ops::{AssignOp, StepOp, UnaryOp};
 pub fn lower_expr(
     e: &Expr,
     line: u32,
-    sizes: &Sizes,
+    names: &ProgramNames,
     out: &mut Draft,
 ) -> Result<Meaning, AllocError>
     requires { length out.old.ops + OPS_FOR_SIZE * expr_size e.now ≤ PROGRAM_OPS }
-    ensures code { OnOk result (Adds (OPS_FOR_SIZE * expr_size e.now - 2) (ExprCode line out.old.marks (meant (context_in sizes.now out.old) e.now).expr) out.old out.new) }
-    ensures tells { IfOk result (λ told. Tells told (meant (context_in sizes.now out.old) e.now)) }
+    ensures code { OnOk result (Adds (OPS_FOR_SIZE * expr_size e.now - 2) (ExprCode line out.old.marks (meant (context_in names.now out.old) e.now).expr) out.old out.new) }
+    ensures tells { IfOk result (λ told. Tells told (meant (context_in names.now out.old) e.now)) }
 {
     match &e.form {
         ExprForm::Number { value } => {
@@ -51,7 +53,7 @@ pub fn lower_expr(
             put(Op::Push(i64::from(*value)), line, out)?;
             Ok(Meaning::value(Scalar::Truth))
         }
-        ExprForm::Name { name } => lower_name(name, line, out),
+        ExprForm::Name { name } => lower_name(name, line, names, out),
         ExprForm::Cin => {
             put(Op::Push(0), line, out)?;
             let value = Meaning::value(Scalar::Number);
@@ -59,20 +61,21 @@ pub fn lower_expr(
         }
         ExprForm::Postfix { root, parts } => {
             let start = out.here();
-            let told = lower_expr(root, line, sizes, out)?;
-            lower_parts(parts, told, start, line, sizes, out)
+            let told = lower_expr(root, line, names, out)?;
+            lower_parts(parts, told, start, line, names, out)
         }
-        ExprForm::Unary { op, operand } => lower_unary(*op, operand, line, sizes, out),
+        ExprForm::Unary { op, operand } => lower_unary(*op, operand, line, names, out),
         ExprForm::Chain { first, rest } => {
-            let told = lower_expr(first, line, sizes, out)?;
-            lower_links(rest, told, line, sizes, out)
+            let start = out.here();
+            let told = lower_expr(first, line, names, out)?;
+            lower_links(rest, told, start, line, names, out)
         }
         ExprForm::Assign {
             op,
             place,
             value,
             ..
-        } => lower_assign(*op, place, value, line, sizes, out),
+        } => lower_assign(*op, place, value, line, names, out),
     }
 }
 
@@ -81,15 +84,16 @@ pub fn lower_expr(
 pub fn lower_value(
     e: &Expr,
     line: u32,
-    sizes: &Sizes,
+    names: &ProgramNames,
     out: &mut Draft,
 ) -> Result<Meaning, AllocError>
     requires { length out.old.ops + OPS_FOR_SIZE * expr_size e.now ≤ PROGRAM_OPS }
-    ensures code { OnOk result (Adds (OPS_FOR_SIZE * expr_size e.now) (ExprCode line out.old.marks (value_of (meant (context_in sizes.now out.old) e.now))) out.old out.new) }
-    ensures tells { IfOk result (λ told. Tells told (meant (context_in sizes.now out.old) e.now)) }
+    ensures code { OnOk result (Adds (OPS_FOR_SIZE * expr_size e.now) (ExprCode line out.old.marks (value_of (meant (context_in names.now out.old) e.now))) out.old out.new) }
+    ensures tells { IfOk result (λ told. Tells told (meant (context_in names.now out.old) e.now)) }
 {
-    let told = lower_expr(e, line, sizes, out)?;
-    put_load(told.standing, line, out)?;
+    let start = out.here();
+    let told = lower_expr(e, line, names, out)?;
+    put_load(told, start, line, out)?;
     Ok(told)
 }
 
@@ -98,37 +102,37 @@ fn lower_unary(
     op: UnaryOp,
     operand: &Expr,
     line: u32,
-    sizes: &Sizes,
+    names: &ProgramNames,
     out: &mut Draft,
 ) -> Result<Meaning, AllocError>
     requires { length out.old.ops + OPS_FOR_SIZE * (1 + expr_size operand.now) ≤ PROGRAM_OPS }
-    ensures code { OnOk result (Adds (OPS_FOR_SIZE * (1 + expr_size operand.now) - 2) (ExprCode line out.old.marks (unary_meant op (meant (context_in sizes.now out.old) operand.now)).expr) out.old out.new) }
-    ensures tells { IfOk result (λ told. Tells told (unary_meant op (meant (context_in sizes.now out.old) operand.now))) }
+    ensures code { OnOk result (Adds (OPS_FOR_SIZE * (1 + expr_size operand.now) - 2) (ExprCode line out.old.marks (unary_meant op (meant (context_in names.now out.old) operand.now)).expr) out.old out.new) }
+    ensures tells { IfOk result (λ told. Tells told (unary_meant op (meant (context_in names.now out.old) operand.now))) }
 {
     match op {
         UnaryOp::Minus => {
-            let _told = lower_value(operand, line, sizes, out)?;
+            let _told = lower_value(operand, line, names, out)?;
             put(Op::Negate, line, out)?;
             Ok(Meaning::value(Scalar::Number))
         }
         UnaryOp::Plus => {
-            let _told = lower_value(operand, line, sizes, out)?;
+            let _told = lower_value(operand, line, names, out)?;
             Ok(Meaning::value(Scalar::Number))
         }
         UnaryOp::Not => {
-            let _told = lower_value(operand, line, sizes, out)?;
+            let _told = lower_value(operand, line, names, out)?;
             put(Op::Not, line, out)?;
             Ok(Meaning::value(Scalar::Truth))
         }
         UnaryOp::Increment => {
-            let told = lower_expr(operand, line, sizes, out)?;
-            update_by_one(Op::Add, told.scalar, line, out)?;
-            Ok(told.standing_as(Standing::Value))
+            let start = out.here();
+            let told = lower_expr(operand, line, names, out)?;
+            put_bump(StepOp::Increment, told, start, line, out)
         }
         UnaryOp::Decrement => {
-            let told = lower_expr(operand, line, sizes, out)?;
-            update_by_one(Op::Subtract, told.scalar, line, out)?;
-            Ok(told.standing_as(Standing::Value))
+            let start = out.here();
+            let told = lower_expr(operand, line, names, out)?;
+            put_bump(StepOp::Decrement, told, start, line, out)
         }
     }
 }
@@ -139,26 +143,101 @@ fn lower_assign(
     place: &Expr,
     value: &Expr,
     line: u32,
-    sizes: &Sizes,
+    names: &ProgramNames,
     out: &mut Draft,
 ) -> Result<Meaning, AllocError>
     requires { length out.old.ops + OPS_FOR_SIZE * (1 + expr_size place.now + expr_size value.now) ≤ PROGRAM_OPS }
-    ensures code { OnOk result (Adds (OPS_FOR_SIZE * (1 + expr_size place.now + expr_size value.now) - 2) (ExprCode line out.old.marks (assign_meant op (meant (context_in sizes.now out.old) place.now) (meant (context_in sizes.now out.old) value.now)).expr) out.old out.new) }
-    ensures tells { IfOk result (λ told. Tells told (assign_meant op (meant (context_in sizes.now out.old) place.now) (meant (context_in sizes.now out.old) value.now))) }
+    ensures code { OnOk result (Adds (OPS_FOR_SIZE * (1 + expr_size place.now + expr_size value.now) - 2) (ExprCode line out.old.marks (assign_meant op (meant (context_in names.now out.old) place.now) (meant (context_in names.now out.old) value.now)).expr) out.old out.new) }
+    ensures tells { IfOk result (λ told. Tells told (assign_meant op (meant (context_in names.now out.old) place.now) (meant (context_in names.now out.old) value.now))) }
 {
-    let told = lower_expr(place, line, sizes, out)?;
-    match combining(op) {
-        None => {
-            let _value = lower_value(value, line, sizes, out)?;
-            put_conversion(told.scalar, line, out)?;
-            put(Op::Keep, line, out)?;
+    let start = out.here();
+    let told = lower_expr(place, line, names, out)?;
+    lower_written(op, told, value, start, line, names, out)
+}
+
+// A value is written to what stands from `start` on.
+#[cycle(lower)]
+fn lower_written(
+    op: AssignOp,
+    told: Meaning,
+    value: &Expr,
+    start: u32,
+    line: u32,
+    names: &ProgramNames,
+    out: &mut Draft,
+) -> Result<Meaning, AllocError>
+    requires inside { start ≤ length out.old.ops }
+    requires room { length out.old.ops + OPS_FOR_SIZE * expr_size value.now + 5 ≤ PROGRAM_OPS }
+    ensures { IfOk result (λ after. Grows (OPS_FOR_SIZE * expr_size value.now + 5) line out.old.marks start (λ m. assign_meant op m (meant (context_in names.now out.old) value.now)) told after out.old out.new) }
+{
+    match told.standing.variable() {
+        Some(cell) => {
+            cut(start, out);
+            lower_to_variable(combining(op), cell, told.scalar, value, line, names, out)?;
             Ok(told.standing_as(Standing::Value))
+        }
+        None => {
+            lower_to_place(combining(op), told.scalar, value, line, names, out)?;
+            Ok(told.standing_as(Standing::Value))
+        }
+    }
+}
+
+#[cycle(lower)]
+fn lower_to_variable(
+    op: Option<Op>,
+    cell: u32,
+    scalar: Scalar,
+    value: &Expr,
+    line: u32,
+    names: &ProgramNames,
+    out: &mut Draft,
+) -> Result<(), AllocError>
+    requires { length out.old.ops + OPS_FOR_SIZE * expr_size value.now + 5 ≤ PROGRAM_OPS }
+    ensures { OnOk result (Adds (OPS_FOR_SIZE * expr_size value.now + 5) (VariableCode line out.old.marks op cell (shape_as scalar) (value_of (meant (context_in names.now out.old) value.now))) out.old out.new) }
+{
+    match op {
+        None => {
+            let _value = lower_value(value, line, names, out)?;
+            put_conversion(scalar, line, out)?;
+            put(Op::Set(cell), line, out)?;
+            Ok(())
+        }
+        Some(op) => {
+            put(Op::Via(cell), line, out)?;
+            let _value = lower_value(value, line, names, out)?;
+            put(op, line, out)?;
+            put_conversion(scalar, line, out)?;
+            put(Op::Set(cell), line, out)?;
+            Ok(())
+        }
+    }
+}
+
+#[cycle(lower)]
+fn lower_to_place(
+    op: Option<Op>,
+    scalar: Scalar,
+    value: &Expr,
+    line: u32,
+    names: &ProgramNames,
+    out: &mut Draft,
+) -> Result<(), AllocError>
+    requires { length out.old.ops + OPS_FOR_SIZE * expr_size value.now + 5 ≤ PROGRAM_OPS }
+    ensures { OnOk result (Adds (OPS_FOR_SIZE * expr_size value.now + 5) (PlaceCode line out.old.marks op (shape_as scalar) (value_of (meant (context_in names.now out.old) value.now))) out.old out.new) }
+{
+    match op {
+        None => {
+            let _value = lower_value(value, line, names, out)?;
+            put_conversion(scalar, line, out)?;
+            put(Op::Keep, line, out)?;
+            Ok(())
         }
         Some(op) => {
             begin_update(line, out)?;
-            let _value = lower_value(value, line, sizes, out)?;
-            end_update(op, told.scalar, line, out)?;
-            Ok(told.standing_as(Standing::Value))
+            let _value = lower_value(value, line, names, out)?;
+            end_update(op, scalar, line, out)?;
+            Ok(())
         }
     }
 }
@@ -167,16 +246,18 @@ fn lower_assign(
 fn lower_links(
     links: &[Link],
     first: Meaning,
+    start: u32,
     line: u32,
-    sizes: &Sizes,
+    names: &ProgramNames,
     out: &mut Draft,
 ) -> Result<Meaning, AllocError>
-    requires { length out.old.ops + OPS_FOR_SIZE * links_size (links_of links.now) ≤ PROGRAM_OPS }
-    ensures { IfOk result (λ told. (a : ℕ) → a ≤ length out.old.ops → Grows (OPS_FOR_SIZE * links_size (links_of links.now)) line out.old.marks a (chain_meant (context_in sizes.now out.old) (links_of links.now)) first told out.old out.new) }
+    requires inside { start ≤ length out.old.ops }
+    requires room { length out.old.ops + OPS_FOR_SIZE * links_size (links_of links.now) ≤ PROGRAM_OPS }
+    ensures { IfOk result (λ told. Grows (OPS_FOR_SIZE * links_size (links_of links.now)) line out.old.marks start (chain_meant (context_in names.now out.old) (links_of links.now)) first told out.old out.new) }
 {
     let mut told = first;
     for link in links {
-        told = lower_link(link, told, line, sizes, out)?;
+        told = lower_link(link, told, start, line, names, out)?;
     }
     Ok(told)
 }
@@ -185,16 +266,18 @@ fn lower_links(
 fn lower_link(
     link: &Link,
     left: Meaning,
+    start: u32,
     line: u32,
-    sizes: &Sizes,
+    names: &ProgramNames,
     out: &mut Draft,
 ) -> Result<Meaning, AllocError>
-    requires { length out.old.ops + OPS_FOR_SIZE * link_size link.now ≤ PROGRAM_OPS }
-    ensures { IfOk result (λ told. (a : ℕ) → a ≤ length out.old.ops → Grows (OPS_FOR_SIZE * link_size link.now) line out.old.marks a (link_meant (context_in sizes.now out.old) link.now) left told out.old out.new) }
+    requires inside { start ≤ length out.old.ops }
+    requires room { length out.old.ops + OPS_FOR_SIZE * link_size link.now ≤ PROGRAM_OPS }
+    ensures { IfOk result (λ told. Grows (OPS_FOR_SIZE * link_size link.now) line out.old.marks start (link_meant (context_in names.now out.old) link.now) left told out.old out.new) }
 {
     let joining = joined_by(link.op);
-    put_load(left.standing, line, out)?;
-    lower_right(joining, &link.right, line, sizes, out)?;
+    put_load(left, start, line, out)?;
+    lower_right(joining, &link.right, line, names, out)?;
     Ok(Meaning::value(joining.scalar()))
 }
 
@@ -203,11 +286,11 @@ fn lower_right(
     joining: Joining,
     right: &Expr,
     line: u32,
-    sizes: &Sizes,
+    names: &ProgramNames,
     out: &mut Draft,
 ) -> Result<(), AllocError>
     requires { length out.old.ops + OPS_FOR_SIZE * expr_size right.now + 4 ≤ PROGRAM_OPS }
-    ensures { OnOk result (Adds (OPS_FOR_SIZE * expr_size right.now + 4) (RightCode line out.old.marks joining (value_of (meant (context_in sizes.now out.old) right.now))) out.old out.new) }
+    ensures { OnOk result (Adds (OPS_FOR_SIZE * expr_size right.now + 4) (RightCode line out.old.marks joining (value_of (meant (context_in names.now out.old) right.now))) out.old out.new) }
 {
     match joining {
         Joining::Either => {
@@ -216,7 +299,7 @@ fn lower_right(
             put(Op::Push(1), line, out)?;
             let leave = out.here();
             put(Op::Jump(0), line, out)?;
-            let _told = lower_value(right, line, sizes, out)?;
+            let _told = lower_value(right, line, names, out)?;
             put(Op::ToBool, line, out)?;
             close_fork(choose, leave, out);
             Ok(())
@@ -224,7 +307,7 @@ fn lower_right(
         Joining::Each => {
             let choose = out.here();
             put(Op::IfZero(0), line, out)?;
-            let _told = lower_value(right, line, sizes, out)?;
+            let _told = lower_value(right, line, names, out)?;
             put(Op::ToBool, line, out)?;
             let leave = out.here();
             put(Op::Jump(0), line, out)?;
@@ -233,7 +316,7 @@ fn lower_right(
             Ok(())
         }
         Joining::By(op, _) => {
-            let _told = lower_value(right, line, sizes, out)?;
+            let _told = lower_value(right, line, names, out)?;
             put(op, line, out)?;
             Ok(())
         }
@@ -246,16 +329,16 @@ fn lower_parts(
     root: Meaning,
     start: u32,
     line: u32,
-    sizes: &Sizes,
+    names: &ProgramNames,
     out: &mut Draft,
 ) -> Result<Meaning, AllocError>
     requires inside { start ≤ length out.old.ops }
     requires room { length out.old.ops + OPS_FOR_SIZE * parts_size (parts_of parts.now) ≤ PROGRAM_OPS }
-    ensures { IfOk result (λ told. Grows (OPS_FOR_SIZE * parts_size (parts_of parts.now)) line out.old.marks start (parts_meant (context_in sizes.now out.old) (parts_of parts.now)) root told out.old out.new) }
+    ensures { IfOk result (λ told. Grows (OPS_FOR_SIZE * parts_size (parts_of parts.now)) line out.old.marks start (parts_meant (context_in names.now out.old) (parts_of parts.now)) root told out.old out.new) }
 {
     let mut told = root;
     for part in parts {
-        told = lower_part(part, told, start, line, sizes, out)?;
+        told = lower_part(part, told, start, line, names, out)?;
     }
     Ok(told)
 }
@@ -266,18 +349,18 @@ fn lower_part(
     told: Meaning,
     start: u32,
     line: u32,
-    sizes: &Sizes,
+    names: &ProgramNames,
     out: &mut Draft,
 ) -> Result<Meaning, AllocError>
     requires inside { start ≤ length out.old.ops }
     requires room { length out.old.ops + OPS_FOR_SIZE * part_size part.now ≤ PROGRAM_OPS }
-    ensures { IfOk result (λ after. Grows (OPS_FOR_SIZE * part_size part.now) line out.old.marks start (part_meant (context_in sizes.now out.old) part.now) told after out.old out.new) }
+    ensures { IfOk result (λ after. Grows (OPS_FOR_SIZE * part_size part.now) line out.old.marks start (part_meant (context_in names.now out.old) part.now) told after out.old out.new) }
 {
     match &part.form {
         PartForm::Field { name } => lower_field(name, told, start, line, out),
-        PartForm::Index { index } => lower_index(index, told, start, line, sizes, out),
-        PartForm::Call { .. } => lower_call(told, start, line, out),
-        PartForm::Step { op } => lower_step(*op, told, line, out),
+        PartForm::Index { index } => lower_index(index, told, start, line, names, out),
+        PartForm::Call { args } => lower_call(args, told, start, line, names, out),
+        PartForm::Step { op } => put_stepped(*op, told, start, line, out),
     }
 }
 
@@ -287,12 +370,12 @@ fn lower_index(
     told: Meaning,
     start: u32,
     line: u32,
-    sizes: &Sizes,
+    names: &ProgramNames,
     out: &mut Draft,
 ) -> Result<Meaning, AllocError>
     requires inside { start ≤ length out.old.ops }
     requires room { length out.old.ops + OPS_FOR_SIZE * (1 + expr_size index.now) ≤ PROGRAM_OPS }
-    ensures { IfOk result (λ after. Grows (OPS_FOR_SIZE * (1 + expr_size index.now)) line out.old.marks start (λ m. element_meant m (meant (context_in sizes.now out.old) index.now)) told after out.old out.new) }
+    ensures { IfOk result (λ after. Grows (OPS_FOR_SIZE * (1 + expr_size index.now)) line out.old.marks start (λ m. element_meant m (meant (context_in names.now out.old) index.now)) told after out.old out.new) }
 {
     match told.elements {
         None => {
@@ -300,7 +383,7 @@ fn lower_index(
             Ok(Meaning::nothing())
         }
         Some(length) => {
-            let _index = lower_value(index, line, sizes, out)?;
+            let _index = lower_value(index, line, names, out)?;
             put(Op::Index { length, size: 1 }, line, out)?;
             Ok(Meaning {
                 scalar: told.scalar,
@@ -311,20 +394,69 @@ fn lower_index(
     }
 }
 
-fn lower_name(name: &Name, line: u32, out: &mut Draft) -> Result<Meaning, AllocError>
+// A name is that of a variable in scope, or of a constant or a routine of the program.
+fn lower_name(
+    name: &Name,
+    line: u32,
+    names: &ProgramNames,
+    out: &mut Draft,
+) -> Result<Meaning, AllocError>
     requires { length out.old.ops < PROGRAM_OPS }
-    ensures code { OnOk result (Adds 1 (ExprCode line out.old.marks (known_meant (known_named out.old.names name.now)).expr) out.old out.new) }
-    ensures tells { IfOk result (λ told. Tells told (known_meant (known_named out.old.names name.now))) }
+    ensures code { OnOk result (Adds 1 (ExprCode line out.old.marks (name_meant names.now name.now (known_named out.old.names name.now)).expr) out.old out.new) }
+    ensures tells { IfOk result (λ told. Tells told (name_meant names.now name.now (known_named out.old.names name.now))) }
 {
     match variable_named(out, name) {
         Some(variable) => {
-            put(Op::Local(variable.cell), line, out)?;
+            put(place_op(variable.by_ref, variable.cell), line, out)?;
             Ok(variable.told)
+        }
+        None => lower_item_name(name, line, names, out),
+    }
+}
+
+// The op that finds the place of a variable: a reference holds it.
+fn place_op(by_ref: bool, cell: u32) -> Op
+    ensures { result ≡ place_op_of by_ref cell }
+{
+    if by_ref {
+        Op::Via(cell)
+    } else {
+        Op::Local(cell)
+    }
+}
+
+fn lower_item_name(
+    name: &Name,
+    line: u32,
+    names: &ProgramNames,
+    out: &mut Draft,
+) -> Result<Meaning, AllocError>
+    requires { length out.old.ops < PROGRAM_OPS }
+    ensures code { OnOk result (Adds 1 (ExprCode line out.old.marks (item_meant names.now name.now).expr) out.old out.new) }
+    ensures tells { IfOk result (λ told. Tells told (item_meant names.now name.now)) }
+{
+    match names.constant(name) {
+        Some(fixed) => {
+            put(Op::Push(fixed.value), line, out)?;
+            Ok(Meaning::value(fixed.scalar))
         }
         None => {
             put(Op::Push(0), line, out)?;
-            Ok(Meaning::nothing())
+            Ok(routine_told(name, names))
         }
+    }
+}
+
+fn routine_told(name: &Name, names: &ProgramNames) -> Meaning
+    ensures { Tells result (routine_meant_by names.now (routine_from (routines_of names.now) 0 name.now)) }
+{
+    match names.routine(name) {
+        Some(routine) => Meaning {
+            scalar: names.result(routine),
+            elements: None,
+            standing: Standing::Routine(routine),
+        },
+        None => Meaning::nothing(),
     }
 }
 
@@ -354,24 +486,88 @@ fn field(told: Meaning, name: &Name) -> Meaning
     Meaning::nothing()
 }
 
-// `cin.fail` is the only routine that is called.
-fn lower_call(told: Meaning, start: u32, line: u32, out: &mut Draft) -> Result<Meaning, AllocError>
+// `cin.fail`, or a routine of the program.
+#[cycle(lower)]
+fn lower_call(
+    args: &[Expr],
+    told: Meaning,
+    start: u32,
+    line: u32,
+    names: &ProgramNames,
+    out: &mut Draft,
+) -> Result<Meaning, AllocError>
     requires inside { start ≤ length out.old.ops }
-    requires room { length out.old.ops + OPS_FOR_SIZE ≤ PROGRAM_OPS }
-    ensures { IfOk result (λ after. (args : List Meant) → Grows OPS_FOR_SIZE line out.old.marks start (λ m. call_meant m args) told after out.old out.new) }
+    requires room { length out.old.ops + OPS_FOR_SIZE * (1 + exprs_size (exprs_of args.now)) ≤ PROGRAM_OPS }
+    ensures { IfOk result (λ after. Grows (OPS_FOR_SIZE * (1 + exprs_size (exprs_of args.now))) line out.old.marks start (λ m. call_meant names.now m (args_meant (context_in names.now out.old) (exprs_of args.now))) told after out.old out.new) }
 {
-    if told.standing == Standing::Fail {
-        restart(Op::Fail, start, line, out)?;
-        return Ok(Meaning::value(Scalar::Truth));
+    match told.standing {
+        Standing::Fail => {
+            restart(Op::Fail, start, line, out)?;
+            Ok(Meaning::value(Scalar::Truth))
+        }
+        Standing::Routine(routine) => {
+            cut(start, out);
+            lower_args(names.params(routine), args, line, names, out)?;
+            put(Op::Tick, line, out)?;
+            put(Op::Call(routine), line, out)?;
+            Ok(told.standing_as(Standing::Value))
+        }
+        Standing::Variable(_) => no_call(start, line, out),
+        Standing::Place => no_call(start, line, out),
+        Standing::Value => no_call(start, line, out),
+        Standing::Input => no_call(start, line, out),
+        Standing::Nothing => no_call(start, line, out),
     }
+}
+
+// What is no routine is not called.
+fn no_call(start: u32, line: u32, out: &mut Draft) -> Result<Meaning, AllocError>
+    requires inside { start ≤ length out.old.ops }
+    requires room { start < PROGRAM_OPS }
+    ensures code { OnOk result (Restarts (Op.Push (pos 0)) line start out.old out.new) }
+    ensures tells { IfOk result (λ told. told ≡ record { scalar = Scalar.Number; elements = None; standing = Standing.Nothing }) }
+{
     restart(Op::Push(0), start, line, out)?;
     Ok(Meaning::nothing())
 }
 
-fn lower_step(op: StepOp, told: Meaning, line: u32, out: &mut Draft) -> Result<Meaning, AllocError>
-    requires { length out.old.ops + OPS_FOR_SIZE ≤ PROGRAM_OPS }
-    ensures { IfOk result (λ after. (a : ℕ) → a ≤ length out.old.ops → Grows OPS_FOR_SIZE line out.old.marks a (step_meant op) told after out.old out.new) }
+// An argument for each parameter, from left to right.
+#[cycle(lower)]
+fn lower_args(
+    params: &[Param],
+    args: &[Expr],
+    line: u32,
+    names: &ProgramNames,
+    out: &mut Draft,
+) -> Result<(), AllocError>
+    requires { length out.old.ops + OPS_FOR_SIZE * exprs_size (exprs_of args.now) ≤ PROGRAM_OPS }
+    ensures { OnOk result (Adds (OPS_FOR_SIZE * exprs_size (exprs_of args.now)) (ArgumentsCode line out.old.marks (args_by params.now (args_meant (context_in names.now out.old) (exprs_of args.now)))) out.old out.new) }
 {
-    put_step(stepping(op), told.scalar, line, out)?;
-    Ok(told.standing_as(Standing::Value))
+    for (place, arg) in args.iter().enumerate() {
+        if place < params.len() {
+            lower_arg(&params[place], arg, line, names, out)?;
+        }
+    }
+    Ok(())
+}
+
+// The place or the value of an argument.
+#[cycle(lower)]
+fn lower_arg(
+    param: &Param,
+    arg: &Expr,
+    line: u32,
+    names: &ProgramNames,
+    out: &mut Draft,
+) -> Result<(), AllocError>
+    requires { length out.old.ops + OPS_FOR_SIZE * expr_size arg.now ≤ PROGRAM_OPS }
+    ensures { OnOk result (Adds (OPS_FOR_SIZE * expr_size arg.now) (ArgumentCode line out.old.marks param.now (meant (context_in names.now out.old) arg.now)) out.old out.new) }
+{
+    let start = out.here();
+    let told = lower_expr(arg, line, names, out)?;
+    if !param.by_ref {
+        put_load(told, start, line, out)?;
+        put_conversion(Scalar::of_base(&param.base), line, out)?;
+    }
+    Ok(())
 }

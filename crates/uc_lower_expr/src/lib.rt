@@ -5,4 +5,5 @@ pub mod expr;
 pub mod meaning;
 pub mod names;
 pub mod ops;
+pub mod program_names;
 pub mod put;

@@ -2,7 +2,7 @@
 
 ghost use Rattle.std.specs.Prelude.{◌≡◌};
 ghost use Rattle.uc_tree.specs.Resolve.{shape_of};
-ghost use Rattle.uc_lower_expr.specs.Meanings.{shape_as};
+ghost use Rattle.uc_lower_expr.specs.Meanings.{cell_in, shape_as};
 
 use uc_tree::kinds::Base;
 
@@ -14,14 +14,34 @@ pub enum Scalar {
     Truth,
 }
 
-/// What an expression is: a place, a value, `cin`, the member `fail` of `cin`, or nothing, where a rule is broken.
+/// What an expression is: a variable that is no reference, by its first cell; another place, a value, `cin`, the member `fail`
+/// of `cin`, a routine by its number, or nothing, where a rule is broken.
 #[derive(Clone, Copy, PartialEq, Eq, Debug)]
 pub enum Standing {
+    Variable(u32),
     Place,
     Value,
     Input,
     Fail,
+    Routine(u32),
     Nothing,
+}
+
+impl Standing {
+    // The variable that an expression is, if it is one.
+    pub(crate) fn variable(self) -> Option<u32>
+        ensures { result ≡ cell_in self }
+    {
+        match self {
+            Standing::Variable(cell) => Some(cell),
+            Standing::Place => None,
+            Standing::Value => None,
+            Standing::Input => None,
+            Standing::Fail => None,
+            Standing::Routine(_) => None,
+            Standing::Nothing => None,
+        }
+    }
 }
 
 /// How the base of an expression's type keeps a number, the length of an array, and what the expression is.

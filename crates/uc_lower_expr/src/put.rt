@@ -1,17 +1,20 @@
 // Ops of one line at the end of a draft.
 
-ghost use Rattle.std.specs.Prelude.{◌≡◌, ◌+◌, ◌<◌, ◌≤◌, pos, length, OnOk};
+ghost use Rattle.std.specs.Prelude.{◌≡◌, ◌+◌, ◌<◌, ◌≤◌, pos, length, IfOk, OnOk};
 ghost use Rattle.uc_tree.specs.declared.limits.TheConstants.{PROGRAM_OPS};
 ghost use Rattle.uc_tree.specs.Source.{Literal};
 ghost use Rattle.uc_code.specs.Drafts.{patched};
-ghost use Rattle.uc_lower_expr.specs.Meanings.{shape_as, stands_as};
-ghost use Rattle.uc_lower_expr.specs.Added.{Adds, OpCode, ConvertCode, LoadCode};
-ghost use Rattle.uc_lower_expr.specs.Parts.{BeginCode, EndCode, UpdateCode, StepCode, Restarts};
+ghost use Rattle.uc_tree.specs.Resolve.{step_meant};
+ghost use Rattle.uc_lower_expr.specs.Meanings.{shape_as};
+ghost use Rattle.uc_lower_expr.specs.Added.{Adds, Cuts, Grows, OpCode, ConvertCode, fetched};
+ghost use Rattle.uc_lower_expr.specs.Parts.{BeginCode, EndCode, UpdateCode, SetByCode, BehindCode, StepCode, Restarts, bumped};
 
-use crate::meaning::{Scalar, Standing};
+use crate::meaning::{Meaning, Scalar, Standing};
+use crate::ops::stepping;
 use std::alloc::AllocError;
 use uc_code::draft::Draft;
 use uc_code::op::Op;
+use uc_tree::ops::StepOp;
 
 /// One more op.
 pub fn put(op: Op, line: u32, out: &mut Draft) -> Result<(), AllocError>
@@ -20,6 +23,14 @@ pub fn put(op: Op, line: u32, out: &mut Draft) -> Result<(), AllocError>
 {
     out.emit(op, line)?;
     Ok(())
+}
+
+/// Drops the ops from `start` on.
+pub(crate) fn cut(start: u32, out: &mut Draft)
+    requires { start ≤ length out.old.ops }
+    ensures { Cuts start out.old out.new }
+{
+    out.cut_back(start);
 }
 
 /// In the place of the ops from `start` on one op.
@@ -33,17 +44,32 @@ pub fn restart(op: Op, start: u32, line: u32, out: &mut Draft) -> Result<(), All
     Ok(())
 }
 
-/// What a place holds, behind a place.
-pub fn put_load(standing: Standing, line: u32, out: &mut Draft) -> Result<(), AllocError>
-    requires { length out.old.ops < PROGRAM_OPS }
-    ensures { OnOk result (Adds 1 (LoadCode line (stands_as standing)) out.old out.new) }
+/// The value of what stands from `start` on: of a variable in its place, of another place behind it.
+pub fn put_load(
+    told: Meaning,
+    start: u32,
+    line: u32,
+    out: &mut Draft,
+) -> Result<Meaning, AllocError>
+    requires inside { start ≤ length out.old.ops }
+    requires room { length out.old.ops < PROGRAM_OPS }
+    ensures code { IfOk result (λ after. Grows 1 line out.old.marks start fetched told after out.old out.new) }
+    ensures tells { IfOk result (λ after. after ≡ record told { standing = Standing.Value }) }
 {
-    match standing {
-        Standing::Place => put(Op::Load, line, out),
-        Standing::Value => Ok(()),
-        Standing::Input => Ok(()),
-        Standing::Fail => Ok(()),
-        Standing::Nothing => Ok(()),
+    match told.standing {
+        Standing::Variable(cell) => {
+            restart(Op::Via(cell), start, line, out)?;
+            Ok(told.standing_as(Standing::Value))
+        }
+        Standing::Place => {
+            put(Op::Load, line, out)?;
+            Ok(told.standing_as(Standing::Value))
+        }
+        Standing::Value => Ok(told.standing_as(Standing::Value)),
+        Standing::Input => Ok(told.standing_as(Standing::Value)),
+        Standing::Fail => Ok(told.standing_as(Standing::Value)),
+        Standing::Routine(_) => Ok(told.standing_as(Standing::Value)),
+        Standing::Nothing => Ok(told.standing_as(Standing::Value)),
     }
 }
 
@@ -101,8 +127,69 @@ pub(crate) fn update_by_one(
     Ok(())
 }
 
-// A step behind a place: the new value is written, the old one left.
-pub(crate) fn put_step(op: Op, scalar: Scalar, line: u32, out: &mut Draft) -> Result<(), AllocError>
+// The value of a variable is combined with 1.
+fn set_by_one(
+    op: Op,
+    cell: u32,
+    scalar: Scalar,
+    line: u32,
+    out: &mut Draft,
+) -> Result<(), AllocError>
+    requires { length out.old.ops + 5 ≤ PROGRAM_OPS }
+    ensures { OnOk result (Adds 5 (SetByCode line out.old.marks cell op (shape_as scalar) (Literal (pos 1))) out.old out.new) }
+{
+    put(Op::Via(cell), line, out)?;
+    put(Op::Push(1), line, out)?;
+    put(op, line, out)?;
+    put_conversion(scalar, line, out)?;
+    put(Op::Set(cell), line, out)?;
+    Ok(())
+}
+
+// A step before what stands from `start` on.
+pub(crate) fn put_bump(
+    step: StepOp,
+    told: Meaning,
+    start: u32,
+    line: u32,
+    out: &mut Draft,
+) -> Result<Meaning, AllocError>
+    requires inside { start ≤ length out.old.ops }
+    requires room { length out.old.ops + 6 ≤ PROGRAM_OPS }
+    ensures { IfOk result (λ after. Grows 6 line out.old.marks start (bumped step) told after out.old out.new) }
+{
+    match told.standing.variable() {
+        Some(cell) => {
+            cut(start, out);
+            set_by_one(stepping(step), cell, told.scalar, line, out)?;
+            Ok(told.standing_as(Standing::Value))
+        }
+        None => {
+            update_by_one(stepping(step), told.scalar, line, out)?;
+            Ok(told.standing_as(Standing::Value))
+        }
+    }
+}
+
+// The old value of a variable, to which the new one is written.
+fn put_behind(
+    op: Op,
+    cell: u32,
+    scalar: Scalar,
+    line: u32,
+    out: &mut Draft,
+) -> Result<(), AllocError>
+    requires { length out.old.ops + 7 ≤ PROGRAM_OPS }
+    ensures { OnOk result (Adds 7 (BehindCode line out.old.marks cell op (shape_as scalar)) out.old out.new) }
+{
+    put(Op::Via(cell), line, out)?;
+    set_by_one(op, cell, scalar, line, out)?;
+    put(Op::Discard, line, out)?;
+    Ok(())
+}
+
+// The old value at a place, to which the new one is written.
+fn put_step(op: Op, scalar: Scalar, line: u32, out: &mut Draft) -> Result<(), AllocError>
     requires { length out.old.ops + 9 ≤ PROGRAM_OPS }
     ensures { OnOk result (Adds 9 (StepCode line op (shape_as scalar)) out.old out.new) }
 {
@@ -116,6 +203,31 @@ pub(crate) fn put_step(op: Op, scalar: Scalar, line: u32, out: &mut Draft) -> Re
     put(Op::Store, line, out)?;
     put(Op::DiscardBelow, line, out)?;
     Ok(())
+}
+
+// A step behind what stands from `start` on.
+pub(crate) fn put_stepped(
+    step: StepOp,
+    told: Meaning,
+    start: u32,
+    line: u32,
+    out: &mut Draft,
+) -> Result<Meaning, AllocError>
+    requires inside { start ≤ length out.old.ops }
+    requires room { length out.old.ops + 9 ≤ PROGRAM_OPS }
+    ensures { IfOk result (λ after. Grows 9 line out.old.marks start (step_meant step) told after out.old out.new) }
+{
+    match told.standing.variable() {
+        Some(cell) => {
+            cut(start, out);
+            put_behind(stepping(step), cell, told.scalar, line, out)?;
+            Ok(told.standing_as(Standing::Value))
+        }
+        None => {
+            put_step(stepping(step), told.scalar, line, out)?;
+            Ok(told.standing_as(Standing::Value))
+        }
+    }
 }
 
 /// Ends a choice of two pieces: the number before them is tested at `choose`, and at `leave` the first piece jumps over

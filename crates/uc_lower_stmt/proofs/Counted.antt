@@ -14,7 +14,7 @@ use Rattle.uc_tree.specs.Resolve.{Scope, with_declared, with_all, scope_after, s
 abbrev pub counted : Scope → List Known → ℕ → ℕ → ℕ → Scope
 counted s names cells texts sites = record s { names = names; cells = cells; texts = texts; sites = sites }
 
-counted_as : (s : Scope) (names : List Known) (c d t u x y : ℕ) → c ≡ d → t ≡ u → x ≡ y → counted s names c t x ≡ counted s names d u y
+pub counted_as : (s : Scope) (names : List Known) (c d t u x y : ℕ) → c ≡ d → t ≡ u → x ≡ y → counted s names c t x ≡ counted s names d u y
 counted_as s names c d t u x y e f g =
     ap (λ (n : ℕ). counted s names n t x) e ∙ ap (λ (n : ℕ). counted s names d n x) f ∙ ap (λ (n : ℕ). counted s names d u n) g
 
@@ -34,7 +34,7 @@ texts_counted s n =
     let x : s.sites ≡ s.sites + 0 = omega arith in
     counted_as s s.names s.cells (s.cells + 0) (s.texts + n) (s.texts + n) s.sites (s.sites + 0) c t x
 
-with_is : (p : Program) (b : Base) (ds : List Declarator) (s : Scope) → with_all p s b ds ≡ counted s (with_all p s b ds).names (s.cells + declarators_cells (declared_cells p b) ds) s.texts s.sites
+pub with_is : (p : Program) (b : Base) (ds : List Declarator) (s : Scope) → with_all p s b ds ≡ counted s (with_all p s b ds).names (s.cells + declarators_cells (declared_cells p b) ds) s.texts s.sites
 with_is p b [] s =
     let c : s.cells ≡ s.cells + 0 = omega arith in
     ap (λ (n : ℕ). counted s s.names n s.texts s.sites) c

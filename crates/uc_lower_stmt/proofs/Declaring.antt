@@ -88,7 +88,6 @@ arm_declared p b d line cell cells name ty x st d0 d1 d2 new le ce xe se ne te h
       opened = omega arith;
       kept = all.kept;
       room = let r = all.room in omega arith;
-      scopes = omega arith;
       texts = omega arith;
       cells = omega arith;
       code = record {

@@ -15,14 +15,13 @@ lowers_adds {n} {S} {old} {new} k c h = record {
   opened = let e : new.scopes ≡ old.scopes = ap (λ (d : Draft). d.scopes) h.rest in omega arith;
   kept = h.kept;
   room = h.room;
-  scopes = let e : new.scopes ≡ old.scopes = ap (λ (d : Draft). d.scopes) h.rest in omega arith;
   texts = let e : new.texts ≡ old.texts = ap (λ (d : Draft). d.texts) h.rest in omega arith;
   cells = let e : new.cells ≡ old.cells = ap (λ (d : Draft). d.cells) h.rest in omega arith;
   code = h.code;
 }
 
 pub lowers_nothing : (old : Draft) → Lowers 0 0 0 0 (λ code. Nothing) (scope_of old) old old
-lowers_nothing old = record { rest = refl; scope = refl; opened = omega arith; kept = kept_refl (laid_in old); room = omega arith; scopes = omega arith; texts = omega arith; cells = omega arith; code = record { end = refl } }
+lowers_nothing old = record { rest = refl; scope = refl; opened = omega arith; kept = kept_refl (laid_in old); room = omega arith; texts = omega arith; cells = omega arith; code = record { end = refl } }
 
 pub lowers_as : {n k c o m j b q : ℕ} {S T : Laid → ℕ → ℕ → Type 0} {s t : Scope} {old new : Draft} → Lowers n k c o S s old new → s ≡ t → ((code : Laid) (a z : ℕ) → S code a z → T code a z) → n ≤ m → k ≤ j → c ≤ b → o ≡ q → Lowers m j b q T t old new
 lowers_as {n} {k} {c} {o} {m} {j} {b} {q} {S} {T} {s} {t} {old} {new} h e f l1 l2 l3 l4 = record {
@@ -31,7 +30,6 @@ lowers_as {n} {k} {c} {o} {m} {j} {b} {q} {S} {T} {s} {t} {old} {new} h e f l1 l
   opened = let x = h.opened in omega arith;
   kept = h.kept;
   room = let x = h.room in omega arith;
-  scopes = let x = h.scopes in omega arith;
   texts = let x = h.texts in omega arith;
   cells = let x = h.cells in omega arith;
   code = f (laid_in new) (length old.ops) (length new.ops) h.code;
@@ -44,7 +42,6 @@ lowers_join {n} {k} {c} {o} {m} {j} {b} {q} {S} {T} {s} {t} {old} {mid} {new} st
   opened = let x = h.opened in let y = g.opened in omega arith;
   kept = kept_then (laid_in old) (laid_in mid) (laid_in new) h.kept g.kept;
   room = let x = h.room in let y = g.room in omega arith;
-  scopes = let x = h.scopes in let y = g.scopes in omega arith;
   texts = let x = h.texts in let y = g.texts in omega arith;
   cells = let x = h.cells in let y = g.cells in omega arith;
   code = record {

@@ -1,8 +1,14 @@
-pub mod Alone
+pub mod Controlling
 pub mod Counted
 pub mod Declaring
 pub mod Joined
 pub mod Kept
+pub mod Opened
+pub mod Parting
 pub mod Printing
 pub mod Routines
+pub mod Scoping
+pub mod Shaping
 pub mod Stating
+pub mod Turned
+pub mod Ways

@@ -192,7 +192,6 @@ module _ (program : Program) where
         opened = omega arith;
         kept = kept_refl (laid_in old);
         room = omega arith;
-        scopes = omega arith;
         texts = omega arith;
         cells = omega arith;
         code = record { middle = length old.ops; first = record { end = refl }; second = record { end = refl } };

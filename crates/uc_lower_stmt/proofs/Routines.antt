@@ -1,68 +1,199 @@
 -- The code of a routine.
-use Rattle.std.proofs.Common.{◌≡◌, ℕ, ◌+◌, ◌*◌, ◌≤◌, Bool, true, false, List, [], length, refl, ap, sym, subst, ◌∙◌, arith}
-use Rattle.std.specs.Prelude.{slice_set, if◌then◌else◌}
+use Rattle.std.proofs.Common.{◌≡◌, ℕ, zero, suc, ◌+◌, ◌*◌, ◌≤◌, ◌<◌, Bool, true, false, true≢false, List, [], ◌∷◌, ◌++◌, length, take, get_or, refl, ap, sym, subst, ◌∙◌, arith, append_assoc, append-nil}
+use Rattle.std.specs.Prelude.{None, slice_set, if◌then◌else◌}
+use Rattle.std.proofs.Common.{take_all}
+use Rattle.std.proofs.lemmas.Bool.{and_parts}
+use Rattle.std.proofs.lemmas.List.{take_more}
 use Rattle.uc_tree.specs.declared.limits.TheConstants.{OPS_FOR_SIZE}
+use Rattle.uc_tree.specs.declared.kinds.Base.{Base}
+use Rattle.uc_tree.specs.declared.kinds.Base.TheVariants as base
+use Rattle.uc_tree.specs.declared.kinds.Known.{Known}
+use Rattle.uc_tree.specs.declared.kinds.Param.{Param}
+use Rattle.uc_tree.specs.Gathered.{gathered_all}
+use Rattle.uc_tree.specs.Numbering.{own_texts, own_sites}
 use Rattle.uc_tree.specs.Statements.{Stmts}
 use Rattle.uc_tree.specs.StatementSizes.{stmts_size}
-use Rattle.uc_tree.specs.Cells.{routine_cells}
+use Rattle.uc_tree.specs.Cells.{classes_of, class_cells, object_of, param_cells, params_cells, routine_cells}
+use Rattle.uc_tree.specs.Rows.{element_cells}
 use Rattle.uc_tree.specs.Programs.{Program, Routine}
-use Rattle.uc_tree.specs.Resolve.{Scope, stmts_meant, routine_scope, routine_meant, is_main, purpose_of}
-use Rattle.uc_tree.specs.Source.{TaskMain, Called, line_by}
+use Rattle.uc_tree.specs.Source as source
+use Rattle.uc_tree.specs.Resolve.{Scope, param_known, params_known, stmts_meant, routine_scope, routine_meant, purpose_of}
+use Rattle.uc_meaning.specs.BuiltForms.{are_scalars, is_scalar_base}
 use Rattle.uc_code.specs.declared.op.Op.TheVariants as op
+use Rattle.uc_code.specs.declared.rows.Mark.{Mark}
 use Rattle.uc_code.specs.declared.rows.RoutineCode.{RoutineCode}
 use Rattle.uc_code.specs.Drafts.{Draft}
 use Rattle.uc_code.specs.Laid.{laid_in}
-use Rattle.uc_code.specs.Ranges.{One, Kept}
-use Rattle.uc_code.specs.Lowered.{StmtsAt, RoutineAt}
-use Rattle.uc_code.proofs.Stable.{kept_then, kept_same}
+use Rattle.uc_code.specs.Ranges.{Kept}
+use Rattle.uc_code.specs.Lowered.{StmtsAt, EndAt, RoutineAt, body_marks}
+use Rattle.uc_code.proofs.Stable.{kept_then, kept_same, one_stable}
 use Rattle.uc_lower_expr.specs.Added.{Adds, OpCode}
-use Rattle.uc_lower_stmt.specs.Scoped.{LowersStmts}
+use Rattle.uc_lower_expr.proofs.Adding.{adds_more, adds_both}
+use Rattle.uc_lower_stmt.specs.Scoped.{LowersStmts, scope_of}
+use Rattle.uc_lower_stmt.specs.declared.routine.Purpose.{Purpose}
+use Rattle.uc_lower_stmt.specs.declared.routine.Purpose.TheVariants as purpose
+use Rattle.uc_lower_stmt.specs.Routines.{EndCode, purpose_as}
 use Rattle.uc_lower_stmt.proofs.Kept.{stmts_stable}
+use Rattle.uc_lower_stmt.proofs.Counted.{behind_counted}
 
--- the line in which a routine ends
+-- parameters one by one
 
-pub main_line : (p : Program) (r : Routine) (b : Bool) (line : ℕ) → b ≡ is_main p r → b ≡ true → line ≡ r.brace.line → line ≡ line_by (purpose_of p r) r.brace.line
-main_line p r b line e t l = l ∙ ap (λ (x : Bool). line_by (if x then TaskMain else Called) r.brace.line) (sym t ∙ e)
+params_push : (p : Program) (cell : ℕ) (xs : List Param) (x : Param) → params_known p cell (xs ++ x ∷ []) ≡ params_known p cell xs ++ param_known p (cell + params_cells p xs) x ∷ []
+params_push p cell [] x = let e : cell ≡ cell + 0 = omega arith in ap (λ (n : ℕ). param_known p n x ∷ []) e
+params_push p cell (y ∷ ys) x =
+    let e : cell + param_cells p y + params_cells p ys ≡ cell + (param_cells p y + params_cells p ys) = omega arith in
+    ap (λ (l : List Known). param_known p cell y ∷ l) (params_push p (cell + param_cells p y) ys x ∙ ap (λ (n : ℕ). params_known p (cell + param_cells p y) ys ++ param_known p n x ∷ []) e)
 
-pub other_line : (p : Program) (r : Routine) (b : Bool) → b ≡ is_main p r → b ≡ false → 0 ≡ line_by (purpose_of p r) r.brace.line
-other_line p r b e f = ap (λ (x : Bool). line_by (if x then TaskMain else Called) r.brace.line) (sym f ∙ e)
+cells_push : (p : Program) (xs : List Param) (x : Param) → params_cells p (xs ++ x ∷ []) ≡ params_cells p xs + param_cells p x
+cells_push p [] x = omega arith
+cells_push p (y ∷ ys) x = omega (arith, cells_push p ys x)
+
+pub params_fit : (p : Program) (xs : List Param) (i : ℕ) (x : Param) → i < length xs → x ≡ get_or xs i x → params_cells p (take i xs) + param_cells p x ≤ params_cells p xs
+params_fit p [] i x h e = absurd (omega arith)
+params_fit p (y ∷ ys) zero x h e = let a : param_cells p x ≡ param_cells p y = ap (param_cells p) e in omega arith
+params_fit p (y ∷ ys) (suc i) x h e = let r = params_fit p ys i x (omega arith) e in omega arith
+
+-- a draft with these parameters
+abbrev pub with_params : Program → List Param → Draft → Draft
+with_params p xs d = record d { names = d.names ++ params_known p d.cells xs; cells = d.cells + params_cells p xs }
+
+params_begin : (p : Program) (d : Draft) → d ≡ with_params p [] d
+params_begin p d =
+    let c : d.cells ≡ d.cells + 0 = omega arith in
+    ap (λ (l : List Known). let x : Draft = record d { names = l } in x) (sym (append-nil d.names)) ∙ ap (λ (n : ℕ). let x : Draft = record d { names = d.names ++ []; cells = n } in x) c
+
+pub params_start : (p : Program) (xs : List Param) (d : Draft) → d ≡ with_params p (take 0 xs) d
+params_start p [] d = params_begin p d
+params_start p (x ∷ xs) d = params_begin p d
+
+pub params_step : (p : Program) (xs : List Param) (i : ℕ) (x : Param) (name : List ℕ) (b : Base) (r : Bool) (cells : ℕ) (old mid new : Draft) → i < length xs → x ≡ get_or xs i x → mid ≡ with_params p (take i xs) old → name ≡ x.name → b ≡ x.base → r ≡ x.by_ref → cells ≡ param_cells p x
+    → new ≡ record mid { names = mid.names ++ record { name = name; ty = record { base = b; by_ref = r; len = None }; cell = mid.cells } ∷ []; cells = mid.cells + cells } → new ≡ with_params p (take (i + 1) xs) old
+params_step p xs i x name b r cells old mid new h e was ne be re ce is =
+    let ys : List Param = take i xs in
+    let split : ys ++ x ∷ [] ≡ take (i + 1) xs = ap (λ (z : Param). ys ++ z ∷ []) e ∙ sym (take_more xs i x h) in
+    let one : new ≡ record mid { names = mid.names ++ param_known p mid.cells x ∷ []; cells = mid.cells + param_cells p x } =
+    is ∙ ap (λ (f : Bool). let d : Draft = record mid { names = mid.names ++ record { name = name; ty = record { base = b; by_ref = f; len = None }; cell = mid.cells } ∷ []; cells = mid.cells + cells } in d) re
+    ∙ ap (λ (n : List ℕ). let d : Draft = record mid { names = mid.names ++ record { name = n; ty = record { base = b; by_ref = x.by_ref; len = None }; cell = mid.cells } ∷ []; cells = mid.cells + cells } in d) ne
+    ∙ ap (λ (w : Base). let d : Draft = record mid { names = mid.names ++ record { name = x.name; ty = record { base = w; by_ref = x.by_ref; len = None }; cell = mid.cells } ∷ []; cells = mid.cells + cells } in d) be
+    ∙ ap (λ (n : ℕ). let d : Draft = record mid { names = mid.names ++ param_known p mid.cells x ∷ []; cells = mid.cells + n } in d) ce in
+    let two : new ≡ record old { names = (old.names ++ params_known p old.cells ys) ++ param_known p (old.cells + params_cells p ys) x ∷ []; cells = old.cells + params_cells p ys + param_cells p x } =
+    one ∙ ap (λ (m : Draft). let d : Draft = record m { names = m.names ++ param_known p m.cells x ∷ []; cells = m.cells + param_cells p x } in d) was in
+    let names : (old.names ++ params_known p old.cells ys) ++ param_known p (old.cells + params_cells p ys) x ∷ [] ≡ old.names ++ params_known p old.cells (ys ++ x ∷ []) =
+    append_assoc old.names (params_known p old.cells ys) (param_known p (old.cells + params_cells p ys) x ∷ []) ∙ ap (λ (l : List Known). old.names ++ l) (sym (params_push p old.cells ys x)) in
+    let count : old.cells + params_cells p ys + param_cells p x ≡ old.cells + params_cells p (ys ++ x ∷ []) = omega (arith, cells_push p ys x) in
+    two ∙ ap (λ (l : List Known). let d : Draft = record old { names = l; cells = old.cells + params_cells p ys + param_cells p x } in d) names
+    ∙ ap (λ (n : ℕ). let d : Draft = record old { names = old.names ++ params_known p old.cells (ys ++ x ∷ []); cells = n } in d) count
+    ∙ ap (λ (zs : List Param). with_params p zs old) split
+
+pub params_end : (p : Program) (xs : List Param) (i : ℕ) (old new : Draft) → length xs ≤ i → new ≡ with_params p (take i xs) old → new ≡ with_params p xs old
+params_end p xs i old new h e = e ∙ ap (λ (zs : List Param). with_params p zs old) (take_all i xs h)
+
+-- a scalar parameter and a reference have a cell each
+
+scalar_cell : (p : Program) (x : Param) → is_scalar_base x.base ≡ true → param_cells p x ≡ 1
+scalar_cell p x e = by_kind x.by_ref x.base e
+  where
+    by_kind : (r : Bool) (b : Base) → is_scalar_base b ≡ true → (if r then 1 else element_cells (class_cells p) (object_of (classes_of p.items) b)) ≡ 1
+    by_kind true b e = refl
+    by_kind false base.Void e = absurd (true≢false (sym e))
+    by_kind false base.Int e = refl
+    by_kind false base.Char e = refl
+    by_kind false base.Bool e = refl
+    by_kind false base.Condition e = absurd (true≢false (sym e))
+    by_kind false base.Cluster e = absurd (true≢false (sym e))
+    by_kind false base.Processor e = absurd (true≢false (sym e))
+    by_kind false (base.Named name) e = absurd (true≢false (sym e))
+
+pub scalars_cells : (p : Program) (xs : List Param) → are_scalars xs ≡ true → params_cells p xs ≡ length xs
+scalars_cells p [] e = refl
+scalars_cells p (x ∷ xs) e = let q = and_parts _ _ e in let a = scalar_cell p x q.0 in let r = scalars_cells p xs q.1 in omega (arith, a, r)
 
 -- what lowering a routine, which begins in this scope, does to a draft
 pub record Written (p : Program) (r : Routine) (s : Scope) (number : ℕ) (old new : Draft) : Type 0 where
   pub kept : Kept (laid_in old) (laid_in new)
   pub room : length new.ops ≤ length old.ops + OPS_FOR_SIZE * (1 + stmts_size r.body)
-  pub code : RoutineAt (laid_in new) (routine_meant p r s) (record { entry = length old.ops; cells = routine_cells p r }) (length old.ops) (length new.ops)
-  pub written : new.routines ≡ slice_set old.routines number (record { entry = length old.ops; cells = routine_cells p r })
+  pub code : RoutineAt (laid_in new) (routine_meant p r s) (record { entry = length old.ops; cells = routine_cells p r; params = length r.sig.params }) (length old.ops) (length new.ops)
+  pub written : new.routines ≡ slice_set old.routines number (record { entry = length old.ops; cells = routine_cells p r; params = length r.sig.params })
   pub rows : new.rows ≡ old.rows
+  pub texts : new.texts ≡ s.texts + length (gathered_all own_texts r.body)
+  pub few_texts : new.texts ≤ s.texts + stmts_size r.body
+  pub sites : new.sites ≡ s.sites + length (gathered_all (own_sites None 0) r.body)
 
--- the body behind where the routine begins, its return, and its row
-pub arm_routine : (p : Program) (r : Routine) (class number texts sites entry cells line : ℕ) (body : Stmts) (d0 d1 d2 d3 new : Draft)
-    → body ≡ r.body → line ≡ line_by (purpose_of p r) r.brace.line → entry ≡ length d0.ops → cells ≡ routine_cells p r
-    → d1 ≡ record d0 { place = record { class = class; routine = number; scope = 0 }; marks = []; scopes = 0; names = []; cells = 0; texts = texts; sites = sites }
-    → LowersStmts p body d1 d2 → Adds 1 (OpCode line op.Return) d2 d3
-    → new ≡ record d3 { routines = slice_set d3.routines number (record { entry = entry; cells = cells }) }
-    → Written p r (routine_scope p class number texts sites) number d0 new
-arm_routine p r class number texts sites entry cells line body d0 d1 d2 d3 new be le ee ce e1 h g e =
-    subst (λ (d : Draft). Written p r (routine_scope p class number texts sites) number d0 d) (sym is) (record {
-      kept = kept_then (laid_in d0) (laid_in d2) (laid_in d3) k.kept g.kept;
-      room = let x = k.room in let y = g.room in omega arith;
-      code = record { entry = refl; cells = refl; body = record { middle = length d2.ops; first = body_at; second = return_at } };
-      written = ap (λ (l : List RoutineCode). slice_set l number (record { entry = length d0.ops; cells = routine_cells p r })) same;
-      rows = ap (λ (d : Draft). d.rows) g.rest ∙ ap (λ (d : Draft). d.rows) k.rest;
-    })
-  where
-    k : LowersStmts p r.body (record d0 { place = record { class = class; routine = number; scope = 0 }; marks = []; scopes = 0; names = []; cells = 0; texts = texts; sites = sites }) d2
-    k = subst (λ (d : Draft). LowersStmts p r.body d d2) e1 (subst (λ (b : Stmts). LowersStmts p b d1 d2) be h)
+-- a draft at the beginning of a routine's statements
+abbrev begun_by : Program → List Param → source.Purpose → ℕ → ℕ → ℕ → ℕ → ℕ → Draft → Draft
+begun_by p xs q line class number texts sites d = record d { place = record { class = class; routine = number; scope = 0 }; marks = body_marks q line ++ []; scopes = 0; names = [] ++ params_known p 0 xs; cells = 0 + params_cells p xs; texts = texts; sites = sites }
 
-    body_at : StmtsAt (laid_in d3) [] (stmts_meant p r.body (routine_scope p class number texts sites)) (length d0.ops) (length d2.ops)
-    body_at = (stmts_stable [] (stmts_meant p r.body (routine_scope p class number texts sites))).moves (laid_in d2) (laid_in d3) (length d0.ops) (length d2.ops) (kept_same (laid_in d2) (laid_in d3) (length d0.ops) (length d2.ops) (omega arith) g.kept) k.code
+abbrev begun : Program → Routine → source.Purpose → ℕ → ℕ → ℕ → ℕ → Draft → Draft
+begun p r q class number texts sites d = begun_by p r.sig.params q r.brace.line class number texts sites d
 
-    return_at : One (laid_in d3) op.Return (line_by (purpose_of p r) r.brace.line) (length d2.ops) (length d3.ops)
-    return_at = subst (λ (n : ℕ). One (laid_in d3) op.Return n (length d2.ops) (length d3.ops)) le g.code
+pub begun_is : (p : Program) (r : Routine) (q : source.Purpose) (class number texts sites line : ℕ) (xs : List Param) (d0 db dp d1 : Draft) → xs ≡ r.sig.params → line ≡ r.brace.line
+    → db ≡ record d0 { place = record { class = class; routine = number; scope = 0 }; marks = []; scopes = 0; names = []; cells = 0; texts = texts; sites = sites }
+    → dp ≡ record db { names = db.names ++ params_known p db.cells xs; cells = db.cells + params_cells p xs } → d1 ≡ record dp { marks = body_marks q line ++ dp.marks } → d1 ≡ begun p r q class number texts sites d0
+begun_is p r q class number texts sites line xs d0 db dp d1 xe le e1 e2 e3 =
+    e3 ∙ ap (λ (x : Draft). let d : Draft = record x { marks = body_marks q line ++ x.marks } in d) (e2 ∙ ap (λ (x : Draft). let d : Draft = record x { names = x.names ++ params_known p x.cells xs; cells = x.cells + params_cells p xs } in d) e1)
+    ∙ ap (λ (ys : List Param). begun_by p ys q line class number texts sites d0) xe ∙ ap (λ (l : ℕ). begun_by p r.sig.params q l class number texts sites d0) le
 
-    same : d3.routines ≡ d0.routines
-    same = ap (λ (d : Draft). d.routines) g.rest ∙ ap (λ (d : Draft). d.routines) k.rest
+module _ (p : Program) (r : Routine) (q : source.Purpose) (class number texts sites entry cells params : ℕ) (body : Stmts) (d0 d1 d2 d3 new : Draft)
+    (be : body ≡ r.body) (qe : q ≡ purpose_of p number r) (ee : entry ≡ length d0.ops) (ce : cells ≡ routine_cells p r) (pe : params ≡ length r.sig.params)
+    (e1 : d1 ≡ begun p r q class number texts sites d0) (h : LowersStmts p body d1 d2) (g : Adds 2 (EndCode q r.brace.line) d2 d3)
+    (e : new ≡ record d3 { routines = slice_set d3.routines number (record { entry = entry; cells = cells; params = params }) }) where
+  abbrev s : Scope
+  s = routine_scope p r.sig.params class number texts sites
 
-    is : new ≡ record d3 { routines = slice_set d3.routines number (record { entry = length d0.ops; cells = routine_cells p r }) }
-    is = e ∙ ap (λ (n : ℕ). let d : Draft = record d3 { routines = slice_set d3.routines number (record { entry = n; cells = cells }) } in d) ee
-        ∙ ap (λ (n : ℕ). let d : Draft = record d3 { routines = slice_set d3.routines number (record { entry = length d0.ops; cells = n }) } in d) ce
+  abbrev first : Draft
+  first = begun p r (purpose_of p number r) class number texts sites d0
+
+  is_first : d1 ≡ first
+  is_first = e1 ∙ ap (λ (x : source.Purpose). begun p r x class number texts sites d0) qe
+
+  k : LowersStmts p r.body first d2
+  k = subst (λ (d : Draft). LowersStmts p r.body d d2) is_first (subst (λ (b : Stmts). LowersStmts p b d1 d2) be h)
+
+  body_at : StmtsAt (laid_in d3) (body_marks (purpose_of p number r) r.brace.line) (stmts_meant p r.body s) (length d0.ops) (length d2.ops)
+  body_at =
+      let zero_less : 0 + params_cells p r.sig.params ≡ params_cells p r.sig.params = omega arith in
+      (stmts_stable (body_marks (purpose_of p number r) r.brace.line) (stmts_meant p r.body s)).moves (laid_in d2) (laid_in d3) (length d0.ops) (length d2.ops) (kept_same (laid_in d2) (laid_in d3) (length d0.ops) (length d2.ops) (omega arith) g.kept)
+      (subst (λ (n : ℕ). StmtsAt (laid_in d2) (body_marks (purpose_of p number r) r.brace.line) (stmts_meant p r.body (record s { cells = n })) (length d0.ops) (length d2.ops)) zero_less
+      (subst (λ (ms : List Mark). StmtsAt (laid_in d2) ms (stmts_meant p r.body (record s { cells = 0 + params_cells p r.sig.params })) (length d0.ops) (length d2.ops)) (append-nil (body_marks (purpose_of p number r) r.brace.line)) k.code))
+
+  end_at : EndAt (laid_in d3) (purpose_of p number r) r.brace.line (length d2.ops) (length d3.ops)
+  end_at = subst (λ (x : source.Purpose). EndAt (laid_in d3) x r.brace.line (length d2.ops) (length d3.ops)) qe g.code
+
+  same : d3.routines ≡ d0.routines
+  same = ap (λ (d : Draft). d.routines) g.rest ∙ ap (λ (d : Draft). d.routines) k.rest
+
+  is : new ≡ record d3 { routines = slice_set d3.routines number (record { entry = length d0.ops; cells = routine_cells p r; params = length r.sig.params }) }
+  is = e ∙ ap (λ (n : ℕ). let d : Draft = record d3 { routines = slice_set d3.routines number (record { entry = n; cells = cells; params = params }) } in d) ee
+      ∙ ap (λ (n : ℕ). let d : Draft = record d3 { routines = slice_set d3.routines number (record { entry = length d0.ops; cells = n; params = params }) } in d) ce
+      ∙ ap (λ (n : ℕ). let d : Draft = record d3 { routines = slice_set d3.routines number (record { entry = length d0.ops; cells = routine_cells p r; params = n }) } in d) pe
+
+  -- the body behind where the routine begins, its end, and its row
+  pub arm_routine : Written p r s number d0 new
+  arm_routine =
+      subst (λ (d : Draft). Written p r s number d0 d) (sym is) (record {
+        kept = kept_then (laid_in d0) (laid_in d2) (laid_in d3) k.kept g.kept;
+        room = let x = k.room in let y = g.room in omega arith;
+        code = record { entry = refl; cells = refl; params = refl; body = record { middle = length d2.ops; first = body_at; second = end_at } };
+        written = ap (λ (l : List RoutineCode). slice_set l number (record { entry = length d0.ops; cells = routine_cells p r; params = length r.sig.params })) same;
+        rows = ap (λ (d : Draft). d.rows) g.rest ∙ ap (λ (d : Draft). d.rows) k.rest;
+        texts = ap (λ (d : Draft). d.texts) g.rest ∙ ap (λ (t : Scope). t.texts) (k.scope ∙ behind_counted p r.body (scope_of first));
+        few_texts = let x : d3.texts ≡ d2.texts = ap (λ (d : Draft). d.texts) g.rest in let y = k.texts in omega arith;
+        sites = ap (λ (d : Draft). d.sites) g.rest ∙ ap (λ (t : Scope). t.sites) (k.scope ∙ behind_counted p r.body (scope_of first));
+      })
+
+-- what is done behind the statements
+
+pub end_of_main : (q : Purpose) (line : ℕ) (old new : Draft) → q ≡ purpose.TaskMain → Adds 1 (OpCode line op.Return) old new → Adds 2 (EndCode (purpose_as q) line) old new
+end_of_main q line old new e a = subst (λ (x : Purpose). Adds 2 (EndCode (purpose_as x) line) old new) (sym e) (adds_more (omega arith) a)
+
+pub end_of_procedure : (q : Purpose) (line : ℕ) (old new : Draft) → q ≡ purpose.Procedure → Adds 1 (OpCode 0 op.Return) old new → Adds 2 (EndCode (purpose_as q) line) old new
+end_of_procedure q line old new e a = subst (λ (x : Purpose). Adds 2 (EndCode (purpose_as x) line) old new) (sym e) (adds_more (omega arith) a)
+
+pub end_of_function : (q : Purpose) (line : ℕ) (old mid new : Draft) → q ≡ purpose.Function → Adds 1 (OpCode line op.NoReturn) old mid → Adds 1 (OpCode 0 op.Return) mid new → Adds 2 (EndCode (purpose_as q) line) old new
+end_of_function q line old mid new e a b = subst (λ (x : Purpose). Adds 2 (EndCode (purpose_as x) line) old new) (sym e) (adds_both (one_stable op.NoReturn line) a b)
+
+pub end_of_builder : (q : Purpose) (line : ℕ) (old new : Draft) → q ≡ purpose.Builder → Adds 1 (OpCode 0 op.Return) old new → Adds 2 (EndCode (purpose_as q) line) old new
+end_of_builder q line old new e a = subst (λ (x : Purpose). Adds 2 (EndCode (purpose_as x) line) old new) (sym e) (adds_more (omega arith) a)
+
+pub end_on : (q : source.Purpose) {k l : ℕ} {old new : Draft} → k ≡ l → Adds 2 (EndCode q k) old new → Adds 2 (EndCode q l) old new
+end_on q {k} {l} {old} {new} e a = subst (λ (n : ℕ). Adds 2 (EndCode q n) old new) e a

@@ -1,42 +1,49 @@
 -- One lemma for each form of statement that lowering writes.
-use Rattle.std.proofs.Common.{◌≡◌, ℕ, zero, suc, ◌+◌, ◌*◌, ◌-◌, ◌≤◌, ◌<◌, true, false, true≢false, None, List, [], ◌∷◌, ◌++◌, length, take, get_or, refl, ap, sym, subst, ◌∙◌, arith, append_assoc, append-nil}
+use Rattle.std.proofs.Common.{◌≡◌, ℕ, zero, suc, ◌+◌, ◌*◌, ◌-◌, ◌≤◌, ◌<◌, true, false, true≢false, Option, Some, None, Bor, List, [], ◌∷◌, ◌++◌, length, length-append, take, get_or, refl, ap, sym, subst, ◌∙◌, arith}
 use Rattle.std.proofs.lemmas.Bool.{and_parts}
 use Rattle.std.proofs.lemmas.List.{take_more}
-use Rattle.std.proofs.Math.Seq.{take-append_seam}
 use Rattle.uc_tree.specs.declared.limits.TheConstants.{OPS_FOR_SIZE}
 use Rattle.uc_tree.specs.declared.pos.Pos.{Pos}
 use Rattle.uc_tree.specs.declared.kinds.Base.{Base}
-use Rattle.uc_tree.specs.declared.kinds.Known.{Known}
 use Rattle.uc_tree.specs.declared.stmt.StmtForm.{StmtForm}
 use Rattle.uc_tree.specs.Expressions as tree
 use Rattle.uc_tree.specs.Expressions.{exprs_of}
 use Rattle.uc_tree.specs.ExpressionSizes.{expr_size, exprs_size}
-use Rattle.uc_tree.specs.Statements.{Declarator, OutItem, Stmt, Block, Empty, Evaluate, Declare, If, While, Do, For, Break, Continue, Return, Try, Throw, Raise, RaiseAt, Enable, Disable, Accept, Print, PrintTogether, Read, Resume, Suspend, Yield, Migrate, Stmts, NoStmts, MoreStmts, stmts_of}
+use Rattle.uc_tree.specs.Statements.{Declarator, OutItem, ForStart, NoFor, ForDeclare, ForEvaluate, Stmt, Block, Empty, Evaluate, Declare, If, While, Do, For, Break, Continue, Return, Print, PrintTogether, Read, Stmts, MaybeStmt, NoStmt, OneStmt, stmts_of}
 use Rattle.uc_tree.specs.StatementForms.{stmt_at}
-use Rattle.uc_tree.specs.StatementSizes.{out_items_size, declarators_size, stmt_size, stmts_size}
+use Rattle.uc_tree.specs.StatementSizes.{out_items_size, declarators_size, maybe_expr_size, stmt_size, stmts_size}
 use Rattle.uc_tree.specs.Cells.{declared_cells, declarators_cells, stmt_cells, stmts_cells}
 use Rattle.uc_tree.specs.Scopes.{stmt_scopes, stmts_scopes}
-use Rattle.uc_tree.specs.Gathered.{gathered_all}
+use Rattle.uc_tree.specs.Gathered.{gathered}
 use Rattle.uc_tree.specs.Numbering.{own_texts, own_sites}
 use Rattle.uc_tree.specs.Programs.{Program}
-use Rattle.uc_tree.specs.Resolve.{Scope, meant, targets_meant, all_declared, with_declared, with_all, declared_known, stmt_meant, stmts_meant, scope_after, scope_behind}
-use Rattle.uc_meaning.specs.Straight.{is_straight_stmt, are_straight}
+use Rattle.uc_tree.specs.Source.{Shape, Expr}
+use Rattle.uc_tree.specs.Resolve.{Scope, meant, value_of, converted, shape_of, result_of, targets_meant, all_declared, with_all, stmt_meant, stmts_meant, scope_past, scope_after, scope_behind}
+use Rattle.uc_meaning.specs.BuiltForms.{is_built_stmt, are_built}
 use Rattle.uc_code.specs.declared.op.Op.TheVariants as op
 use Rattle.uc_code.specs.declared.rows.Mark.{Mark}
+use Rattle.uc_code.specs.declared.rows.Way.TheVariants as way
 use Rattle.uc_code.specs.declared.draft_parts.Outside.{Outside}
 use Rattle.uc_code.specs.Drafts.{Draft}
 use Rattle.uc_code.specs.Laid.{Laid}
+use Rattle.uc_code.specs.Leaving.{way_of}
 use Rattle.uc_code.specs.Lowered.{StmtAt, StmtsAt}
+use Rattle.uc_lower_expr.specs.declared.meaning.Scalar.{Scalar}
 use Rattle.uc_lower_expr.specs.Contexts.{context_in}
-use Rattle.uc_lower_expr.specs.Added.{Adds, ExprCode, OpCode}
-use Rattle.uc_lower_expr.proofs.Adding.{adds_both}
+use Rattle.uc_lower_expr.specs.Meanings.{shape_as}
+use Rattle.uc_lower_expr.specs.Added.{Adds, ExprCode, ConvertCode, OpCode}
+use Rattle.uc_lower_expr.proofs.Adding.{adds_more, adds_as, adds_both}
+use Rattle.uc_lower_expr.proofs.Arms.{converted_at}
 use Rattle.uc_lower_expr.proofs.Settled.{expr_stable}
+use Rattle.uc_lower_stmt.specs.declared.turning.Turning.TheVariants as turning
 use Rattle.uc_lower_stmt.specs.Scoped.{Lowers, LowersStmt, LowersStmts, scope_of}
 use Rattle.uc_lower_stmt.specs.Pieces.{ItemsCode, TogetherCode, TargetsCode, VariablesCode}
+use Rattle.uc_lower_stmt.specs.Control.{ExitCode, ReturnCode, LowersIf, LowersLoop, LowersFor, maybe_past, for_past}
 use Rattle.uc_lower_stmt.proofs.Kept.{stmts_stable}
 use Rattle.uc_lower_stmt.proofs.Joined.{lowers_adds, lowers_nothing, lowers_as, lowers_join}
 use Rattle.uc_lower_stmt.proofs.Printing.{with_texts, texts_among, items_at}
-use Rattle.uc_lower_stmt.proofs.Counted.{counted, nothing_counted, texts_counted, declared_counted, behind_counted}
+use Rattle.uc_lower_stmt.proofs.Counted.{counted, counted_as, with_is, nothing_counted, texts_counted, declared_counted, behind_counted}
+use Rattle.uc_lower_stmt.proofs.Scoping.{opened, lowers_scoped, back_out}
 
 pub stmt_is : (p : Pos) (f g : StmtForm) (s : Stmt) → f ≡ g → stmt_at p f ≡ s → stmt_at p g ≡ s
 stmt_is p f g s h k = ap (λ x. stmt_at p x) (sym h) ∙ k
@@ -49,8 +56,8 @@ pub arm_empty : (p : Program) (s : Stmt) (place : Pos) (old : Draft) → Empty p
 arm_empty p s place old e = as_stmt p s (Empty place) old old e (lowers_as (lowers_nothing old) (nothing_counted (scope_of old)) (λ code a z w. w) (omega arith) (omega arith) (omega arith) (omega arith))
 
 -- no other statement is asked for yet
-pub arm_unasked : (p : Program) (s t : Stmt) (old : Draft) → t ≡ s → is_straight_stmt s ≡ true → is_straight_stmt t ≡ false → LowersStmt p s old old
-arm_unasked p s t old e y n = absurd (true≢false (sym y ∙ ap is_straight_stmt (sym e) ∙ n))
+pub arm_unasked : (p : Program) (s t : Stmt) (old : Draft) → t ≡ s → is_built_stmt s ≡ true → is_built_stmt t ≡ false → LowersStmt p s old old
+arm_unasked p s t old e y n = absurd (true≢false (sym y ∙ ap is_built_stmt (sym e) ∙ n))
 
 pub arm_evaluate : (p : Program) (s : Stmt) (place : Pos) (e : tree.Expr) (old mid new : Draft) → Evaluate place e ≡ s → Adds (OPS_FOR_SIZE * expr_size e - 2) (ExprCode place.line old.marks (meant (context_in p old) e).expr) old mid → Adds 1 (OpCode place.line op.Discard) mid new → LowersStmt p s old new
 arm_evaluate p s place e old mid new h a b =
@@ -73,93 +80,91 @@ pub arm_read : (p : Program) (s : Stmt) (place : Pos) (xs ys : List tree.Expr) (
 arm_read p s place xs ys old new h i a =
     as_stmt p s (Read place (exprs_of xs)) old new (ap (λ (l : List tree.Expr). Read place (exprs_of l)) i ∙ h) (lowers_as (lowers_adds 0 0 a) (nothing_counted (scope_of old)) (λ code x z w. w) (omega arith) (omega arith) (omega arith) (omega arith))
 
--- the names in scope only grow
-
-all_added : (p : Program) (b : Base) (ds : List Declarator) (s : Scope) → (a : List Known) × ((with_all p s b ds).names ≡ s.names ++ a)
-all_added p b [] s = ([], sym (append-nil s.names))
-all_added p b (d ∷ ds) s =
-    let r = all_added p b ds (with_declared p s b d) in
-    (declared_known p s b d ∷ r.0, r.1 ∙ append_assoc s.names (declared_known p s b d ∷ []) r.0)
-
-unchanged : (ns : List Known) → (a : List Known) × (ns ≡ ns ++ a)
-unchanged ns = ([], sym (append-nil ns))
-
-pub stmt_added : (p : Program) (t : Stmt) (s : Scope) → (a : List Known) × ((scope_after p t s).names ≡ s.names ++ a)
-stmt_added p (Block place body) s = unchanged s.names
-stmt_added p (Empty place) s = unchanged s.names
-stmt_added p (Evaluate place e) s = unchanged s.names
-stmt_added p (Declare place b ds) s = all_added p b ds s
-stmt_added p (If place test chosen other) s = unchanged s.names
-stmt_added p (While place test body) s = unchanged s.names
-stmt_added p (Do place body test) s = unchanged s.names
-stmt_added p (For place start test step body) s = unchanged s.names
-stmt_added p (Break place) s = unchanged s.names
-stmt_added p (Continue place) s = unchanged s.names
-stmt_added p (Return place value) s = unchanged s.names
-stmt_added p (Try place brace body hs) s = unchanged s.names
-stmt_added p (Throw place raised) s = unchanged s.names
-stmt_added p (Raise place raised) s = unchanged s.names
-stmt_added p (RaiseAt place raised target) s = unchanged s.names
-stmt_added p (Enable place events body) s = unchanged s.names
-stmt_added p (Disable place events body) s = unchanged s.names
-stmt_added p (Accept place cs other) s = unchanged s.names
-stmt_added p (Print place items) s = unchanged s.names
-stmt_added p (PrintTogether place items) s = unchanged s.names
-stmt_added p (Read place places) s = unchanged s.names
-stmt_added p (Resume place) s = unchanged s.names
-stmt_added p (Suspend place) s = unchanged s.names
-stmt_added p (Yield place) s = unchanged s.names
-stmt_added p (Migrate place cluster) s = unchanged s.names
-
-stmts_added : (p : Program) (ts : Stmts) (s : Scope) → (a : List Known) × ((scope_behind p ts s).names ≡ s.names ++ a)
-stmts_added p NoStmts s = unchanged s.names
-stmts_added p (MoreStmts t ts) s =
-    let f = stmt_added p t s in
-    let r = stmts_added p ts (scope_after p t s) in
-    (f.0 ++ r.0, r.1 ∙ ap (λ (l : List Known). l ++ r.0) f.1 ∙ append_assoc s.names f.0 r.0)
-
-back_out : (p : Program) (ts : Stmts) (s : Scope) → take (length s.names) (scope_behind p ts s).names ≡ s.names
-back_out p ts s = let r = stmts_added p ts s in ap (λ (l : List Known). take (length s.names) l) r.1 ∙ take-append_seam s.names r.0
-
 -- a block
 
 pub arm_block : (p : Program) (s : Stmt) (place : Pos) (xs ys : List Stmt) (out : Outside) (old d1 d2 new : Draft) → Block place (stmts_of ys) ≡ s → xs ≡ ys
-    → out ≡ record { names = length old.names; scope = old.place.scope } → d1 ≡ record old { place = record old.place { scope = old.scopes + 1 }; scopes = old.scopes + 1 }
+    → out ≡ record { names = length old.names; scope = old.place.scope } → d1 ≡ opened old
     → LowersStmts p (stmts_of xs) d1 d2
     → new ≡ record d2 { place = record d2.place { scope = out.scope }; names = take out.names d2.names }
     → LowersStmt p s old new
 arm_block p s place xs ys out old d1 d2 new h i oe e1 k e2 =
+    let ts : Stmts = stmts_of xs in
+    let k1 : LowersStmts p ts (opened old) d2 = subst (λ (d : Draft). LowersStmts p ts d d2) e1 k in
     as_stmt p s (Block place ts) old new (ap (λ (l : List Stmt). Block place (stmts_of l)) i ∙ h) (
-    subst (λ (d : Draft). LowersStmt p (Block place ts) old d) (sym is) (record {
-      rest = refl;
-      scope = scope_same;
-      opened = let o = k2.opened in omega arith;
-      kept = k2.kept;
-      room = let r = k2.room in omega arith;
-      scopes = let r = k2.scopes in omega arith;
-      texts = let r = k2.texts in omega arith;
-      cells = let r = k2.cells in omega arith;
-      code = k2.code;
-    }))
-  where
-    ts : Stmts
-    ts = stmts_of xs
+    lowers_as (lowers_scoped out new oe (back_out p ts (scope_of old)) k1 e2)
+    (ap (λ (x : Scope). let y : Scope = record x { names = old.names } in y) (behind_counted p ts (scope_of old))) (λ code x z w. w) (omega arith) (omega arith) (omega arith) (omega arith))
 
-    k1 : LowersStmts p (stmts_of xs) (record old { place = record old.place { scope = old.scopes + 1 }; scopes = old.scopes + 1 }) d2
-    k1 = subst (λ (d : Draft). LowersStmts p (stmts_of xs) d d2) e1 k
+-- control
 
-    k2 : LowersStmts p (stmts_of xs) (record old { place = record old.place { scope = old.scopes + 1 }; scopes = old.scopes + 1 })
-        (record old { place = record old.place { scope = old.scopes + 1 }; ops = d2.ops; scopes = d2.scopes; names = d2.names; cells = d2.cells; texts = d2.texts; sites = d2.sites })
-    k2 = subst (λ (d : Draft). LowersStmts p (stmts_of xs) (record old { place = record old.place { scope = old.scopes + 1 }; scopes = old.scopes + 1 }) d) k1.rest k1
+if_counted : (p : Program) (place : Pos) (test : tree.Expr) (chosen : Stmt) (other : MaybeStmt) (s : Scope) → maybe_past p other (scope_past p chosen s) ≡ scope_after p (If place test chosen other) s
+if_counted p place test chosen NoStmt s =
+    let c : s.cells + stmt_cells chosen (declared_cells p) ≡ s.cells + (stmt_cells chosen (declared_cells p) + 0) = omega arith in
+    let t : s.texts + length (gathered own_texts chosen) ≡ s.texts + length (gathered own_texts chosen ++ []) = omega (arith, length-append (gathered own_texts chosen) []) in
+    let x : s.sites + length (gathered (own_sites None 0) chosen) ≡ s.sites + length (gathered (own_sites None 0) chosen ++ []) = omega (arith, length-append (gathered (own_sites None 0) chosen) []) in
+    counted_as s s.names _ _ _ _ _ _ c t x
+if_counted p place test chosen (OneStmt body) s =
+    let c : s.cells + stmt_cells chosen (declared_cells p) + stmt_cells body (declared_cells p) ≡ s.cells + (stmt_cells chosen (declared_cells p) + stmt_cells body (declared_cells p)) = omega arith in
+    let t : s.texts + length (gathered own_texts chosen) + length (gathered own_texts body) ≡ s.texts + length (gathered own_texts chosen ++ gathered own_texts body) = omega (arith, length-append (gathered own_texts chosen) (gathered own_texts body)) in
+    let x : s.sites + length (gathered (own_sites None 0) chosen) + length (gathered (own_sites None 0) body) ≡ s.sites + length (gathered (own_sites None 0) chosen ++ gathered (own_sites None 0) body) = omega (arith, length-append (gathered (own_sites None 0) chosen) (gathered (own_sites None 0) body)) in
+    counted_as s s.names _ _ _ _ _ _ c t x
 
-    is : new ≡ record old { ops = d2.ops; scopes = d2.scopes; names = take (length old.names) d2.names; cells = d2.cells; texts = d2.texts; sites = d2.sites }
-    is = e2 ∙ ap (λ (o : Outside). let d : Draft = record d2 { place = record d2.place { scope = o.scope }; names = take o.names d2.names } in d) oe
-        ∙ ap (λ (x : Draft). let d : Draft = record x { place = record x.place { scope = old.place.scope }; names = take (length old.names) d2.names } in d) k1.rest
+pub arm_if : (p : Program) (s : Stmt) (place : Pos) (test : tree.Expr) (chosen chosen0 : Stmt) (other : MaybeStmt) (old new : Draft) → If place test chosen0 other ≡ s → chosen ≡ chosen0 → LowersIf p place.line test chosen other old new → LowersStmt p s old new
+arm_if p s place test chosen chosen0 other old new h i a =
+    as_stmt p s (If place test chosen other) old new (ap (λ (x : Stmt). If place test x other) i ∙ h) (lowers_as a (if_counted p place test chosen other (scope_of old)) (λ code x z w. w) (omega arith) (omega arith) (omega arith) (omega arith))
 
-    scope_same : counted (scope_of old) (take (length old.names) d2.names) d2.cells d2.texts d2.sites ≡ scope_after p (Block place (stmts_of xs)) (scope_of old)
-    scope_same =
-        ap (λ (x : Scope). counted (scope_of old) (take (length old.names) x.names) x.cells x.texts x.sites) (k2.scope ∙ behind_counted p (stmts_of xs) (scope_of old))
-        ∙ ap (λ (l : List Known). counted (scope_of old) l (old.cells + stmts_cells (stmts_of xs) (declared_cells p)) (old.texts + length (gathered_all own_texts (stmts_of xs))) (old.sites + length (gathered_all (own_sites None 0) (stmts_of xs)))) (back_out p (stmts_of xs) (scope_of old))
+pub arm_while : (p : Program) (s : Stmt) (place : Pos) (test : Bor tree.Expr) (step : Option tree.Expr) (body body0 : Stmt) (old new : Draft) → While place test.now body0 ≡ s → body ≡ body0 → step ≡ None → LowersLoop p place.line (turning.TestFirst test) step body old new → LowersStmt p s old new
+arm_while p s place test step body body0 old new h i n a =
+    let a1 : LowersLoop p place.line (turning.TestFirst test) None body old new = subst (λ (o : Option tree.Expr). LowersLoop p place.line (turning.TestFirst test) o body old new) n a in
+    as_stmt p s (While place test.now body) old new (ap (λ (x : Stmt). While place test.now x) i ∙ h) (lowers_as a1 refl (λ code x z w. w) (omega arith) (omega arith) (omega arith) (omega arith))
+
+pub arm_do : (p : Program) (s : Stmt) (place : Pos) (test : Bor tree.Expr) (step : Option tree.Expr) (body body0 : Stmt) (old new : Draft) → Do place body0 test.now ≡ s → body ≡ body0 → step ≡ None → LowersLoop p place.line (turning.BodyFirst test) step body old new → LowersStmt p s old new
+arm_do p s place test step body body0 old new h i n a =
+    let a1 : LowersLoop p place.line (turning.BodyFirst test) None body old new = subst (λ (o : Option tree.Expr). LowersLoop p place.line (turning.BodyFirst test) o body old new) n a in
+    as_stmt p s (Do place body test.now) old new (ap (λ (x : Stmt). Do place x test.now) i ∙ h) (lowers_as a1 refl (λ code x z w. w) (omega arith) (omega arith) (omega arith) (omega arith))
+
+for_counted : (p : Program) (place : Pos) (start : ForStart) (test step : Option tree.Expr) (body : Stmt) (s : Scope) → for_past p start body s ≡ scope_after p (For place start test step body) s
+for_counted p place NoFor test step body s =
+    let c : s.cells + stmt_cells body (declared_cells p) ≡ s.cells + (0 + stmt_cells body (declared_cells p)) = omega arith in
+    ap (λ (n : ℕ). counted s s.names n (s.texts + length (gathered own_texts body)) (s.sites + length (gathered (own_sites None 0) body))) c
+for_counted p place (ForDeclare at b ds) test step body s =
+    let c : s.cells + declarators_cells (declared_cells p b) ds + stmt_cells body (declared_cells p) ≡ s.cells + (declarators_cells (declared_cells p b) ds + stmt_cells body (declared_cells p)) = omega arith in
+    ap (λ (x : Scope). counted x s.names (x.cells + stmt_cells body (declared_cells p)) (x.texts + length (gathered own_texts body)) (x.sites + length (gathered (own_sites None 0) body))) (with_is p b ds s)
+    ∙ ap (λ (n : ℕ). counted s s.names n (s.texts + length (gathered own_texts body)) (s.sites + length (gathered (own_sites None 0) body))) c
+for_counted p place (ForEvaluate e) test step body s =
+    let c : s.cells + stmt_cells body (declared_cells p) ≡ s.cells + (0 + stmt_cells body (declared_cells p)) = omega arith in
+    ap (λ (n : ℕ). counted s s.names n (s.texts + length (gathered own_texts body)) (s.sites + length (gathered (own_sites None 0) body))) c
+
+pub arm_for_stmt : (p : Program) (s : Stmt) (place : Pos) (start : ForStart) (test step : Option tree.Expr) (body body0 : Stmt) (old new : Draft) → For place start test step body0 ≡ s → body ≡ body0 → LowersFor p place.line start test step body old new → LowersStmt p s old new
+arm_for_stmt p s place start test step body body0 old new h i a =
+    as_stmt p s (For place start test step body) old new (ap (λ (x : Stmt). For place start test step x) i ∙ h) (
+    lowers_as a (for_counted p place start test step body (scope_of old))
+    (λ code x z w. record { middle = w.middle; first = w.first; second = record { middle = z; first = w.second; second = record { end = refl } } })
+    (omega arith) (omega arith) (omega arith) (omega arith))
+
+pub arm_break : (p : Program) (s : Stmt) (place : Pos) (old new : Draft) → Break place ≡ s → Adds 1 (ExitCode (way_of way.Break) old.marks) old new → LowersStmt p s old new
+arm_break p s place old new h a = as_stmt p s (Break place) old new h (lowers_as (lowers_adds 0 0 a) (nothing_counted (scope_of old)) (λ code x z w. w) (omega arith) (omega arith) (omega arith) (omega arith))
+
+pub arm_continue : (p : Program) (s : Stmt) (place : Pos) (old new : Draft) → Continue place ≡ s → Adds 1 (ExitCode (way_of way.Continue) old.marks) old new → LowersStmt p s old new
+arm_continue p s place old new h a = as_stmt p s (Continue place) old new h (lowers_as (lowers_adds 0 0 a) (nothing_counted (scope_of old)) (λ code x z w. w) (omega arith) (omega arith) (omega arith) (omega arith))
+
+pub arm_return : (p : Program) (s : Stmt) (place : Pos) (value : Option tree.Expr) (old new : Draft) → Return place value ≡ s → Adds (OPS_FOR_SIZE * (1 + maybe_expr_size value)) (ReturnCode p place.line old.marks (scope_of old) value) old new → LowersStmt p s old new
+arm_return p s place value old new h a = as_stmt p s (Return place value) old new h (lowers_as (lowers_adds 0 0 a) (nothing_counted (scope_of old)) (λ code x z w. w) (omega arith) (omega arith) (omega arith) (omega arith))
+
+-- a return's value
+pub arm_handed : (p : Program) (n line r : ℕ) (value : Option tree.Expr) (e : tree.Expr) (v : Scalar) (d0 d1 d2 d3 : Draft) → value ≡ Some e → r ≡ d1.place.routine → shape_of (result_of p r) ≡ shape_as v → Adds n (ExprCode line d0.marks (value_of (meant (context_in p d0) e))) d0 d1 → Adds 1 (ConvertCode line (shape_as v)) d1 d2 → Adds 1 (ExitCode (way_of way.Value) d2.marks) d2 d3 → Adds (n + 2) (ReturnCode p line d0.marks (scope_of d0) value) d0 d3
+arm_handed p n line r value e v d0 d1 d2 d3 is at shape a b c =
+    let x : Expr = value_of (meant (context_in p d0) e) in
+    let marks : d2.marks ≡ d0.marks = ap (λ (d : Draft). d.marks) b.rest ∙ ap (λ (d : Draft). d.marks) a.rest in
+    let routine : d0.place.routine ≡ r = sym (ap (λ (d : Draft). d.place.routine) a.rest) ∙ sym at in
+    let kept : shape_of (result_of p d0.place.routine) ≡ shape_as v = ap (λ (k : ℕ). shape_of (result_of p k)) routine ∙ shape in
+    let b1 : Adds 1 (ConvertCode line (shape_of (result_of p d0.place.routine))) d1 d2 = subst (λ (y : Shape). Adds 1 (ConvertCode line y) d1 d2) (sym kept) b in
+    let c1 : Adds 1 (ExitCode (way_of way.Value) d0.marks) d2 d3 = subst (λ (ms : List Mark). Adds 1 (ExitCode (way_of way.Value) ms) d2 d3) marks c in
+    let y : Expr = converted (shape_of (result_of p d0.place.routine)) x in
+    let whole : Adds (n + 1) (ExprCode line d0.marks y) d0 d2 = adds_as (adds_both (expr_stable line d0.marks x) a b1) (λ code u z w. converted_at d0.marks line (shape_of (result_of p d0.place.routine)) x code u z w) in
+    subst (λ (o : Option tree.Expr). Adds (n + 2) (ReturnCode p line d0.marks (scope_of d0) o) d0 d3) (sym is) (adds_more (omega arith) (adds_both (expr_stable line d0.marks y) whole c1))
+
+pub arm_ended : (p : Program) (line : ℕ) (value : Option tree.Expr) (d0 d1 : Draft) → value ≡ None → Adds 1 (ExitCode (way_of way.End) d0.marks) d0 d1 → Adds 1 (ReturnCode p line d0.marks (scope_of d0) value) d0 d1
+arm_ended p line value d0 d1 is a = subst (λ (o : Option tree.Expr). Adds 1 (ReturnCode p line d0.marks (scope_of d0) o) d0 d1) (sym is) a
 
 -- lists of statements
 
@@ -188,10 +193,15 @@ stmts_fit f [] i x h e = absurd (omega arith)
 stmts_fit f (y ∷ ys) zero x h e = let a : stmt_size x ≡ stmt_size y = ap stmt_size e in let b : stmt_cells x f ≡ stmt_cells y f = ap (λ (s : Stmt). stmt_cells s f) e in (omega arith, omega arith)
 stmts_fit f (y ∷ ys) (suc i) x h e = let r = stmts_fit f ys i x (omega arith) e in let q = r.0 in let w = r.1 in (omega arith, omega arith)
 
-pub straight_at : (xs : List Stmt) (i : ℕ) (x : Stmt) → are_straight (stmts_of xs) ≡ true → i < length xs → x ≡ get_or xs i x → is_straight_stmt x ≡ true
-straight_at [] i x s h e = absurd (omega arith)
-straight_at (y ∷ ys) zero x s h e = ap is_straight_stmt e ∙ (and_parts _ _ s).0
-straight_at (y ∷ ys) (suc i) x s h e = straight_at ys i x (and_parts _ _ s).1 (omega arith) e
+pub scopes_fit : (xs : List Stmt) (i : ℕ) (x : Stmt) → i < length xs → x ≡ get_or xs i x → stmts_scopes (stmts_of (take i xs)) + stmt_scopes x ≤ stmts_scopes (stmts_of xs)
+scopes_fit [] i x h e = absurd (omega arith)
+scopes_fit (y ∷ ys) zero x h e = let a : stmt_scopes x ≡ stmt_scopes y = ap stmt_scopes e in omega arith
+scopes_fit (y ∷ ys) (suc i) x h e = let r = scopes_fit ys i x (omega arith) e in omega arith
+
+pub built_at : (xs : List Stmt) (i : ℕ) (x : Stmt) → are_built (stmts_of xs) ≡ true → i < length xs → x ≡ get_or xs i x → is_built_stmt x ≡ true
+built_at [] i x s h e = absurd (omega arith)
+built_at (y ∷ ys) zero x s h e = ap is_built_stmt e ∙ (and_parts _ _ s).0
+built_at (y ∷ ys) (suc i) x s h e = built_at ys i x (and_parts _ _ s).1 (omega arith) e
 
 pub stmts_step : (p : Program) (xs : List Stmt) (i : ℕ) (x : Stmt) (old mid new : Draft) → i < length xs → x ≡ get_or xs i x → LowersStmts p (stmts_of (take i xs)) old mid → LowersStmt p x mid new → LowersStmts p (stmts_of (take (i + 1) xs)) old new
 stmts_step p xs i x old mid new h e g k =

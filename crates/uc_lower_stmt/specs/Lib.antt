@@ -1,3 +1,4 @@
+pub mod Control
 pub mod Pieces
-pub mod Programs
+pub mod Routines
 pub mod Scoped

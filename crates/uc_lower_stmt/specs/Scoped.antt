@@ -16,15 +16,14 @@ use Rattle.uc_code.specs.Lowered.{StmtAt, StmtsAt}
 abbrev pub scope_of : Draft → Scope
 scope_of d = record { class = d.place.class; routine = d.place.routine; names = d.names; cells = d.cells; texts = d.texts; sites = d.sites }
 
--- a draft with at most n ops more, for which S holds, in this scope, and with o scopes more. No more than k scopes and text
--- literals, and c cells, came to it; its rows, marks, routines and place are as they were.
+-- a draft with at most n ops more, for which S holds, in this scope, and with o scopes more. No more than k text literals and c
+-- cells came to it; its rows, marks, routines and place are as they were.
 pub record Lowers (n k c o : ℕ) (S : Laid → ℕ → ℕ → Type 0) (after : Scope) (old new : Draft) : Type 0 where
   pub rest : new ≡ record old { ops = new.ops; scopes = new.scopes; names = new.names; cells = new.cells; texts = new.texts; sites = new.sites }
   pub scope : scope_of new ≡ after
   pub opened : new.scopes ≡ old.scopes + o
   pub kept : Kept (laid_in old) (laid_in new)
   pub room : length new.ops ≤ length old.ops + n
-  pub scopes : new.scopes ≤ old.scopes + k
   pub texts : new.texts ≤ old.texts + k
   pub cells : new.cells ≤ old.cells + c
   pub code : S (laid_in new) (length old.ops) (length new.ops)

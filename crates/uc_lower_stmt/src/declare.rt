@@ -18,14 +18,14 @@ use uc_code::draft::Draft;
 use uc_code::op::Op;
 use uc_lower_expr::expr::lower_value;
 use uc_lower_expr::meaning::Scalar;
+use uc_lower_expr::program_names::ProgramNames;
 use uc_lower_expr::put::{put, put_conversion};
-use uc_sizes::sizes::Sizes;
 use uc_tree::declare::{Declarator, Start, StartForm};
 use uc_tree::expr::Expr;
 use uc_tree::kinds::{Base, Ty};
 
 // The same base.
-fn copy_of(alloc: Global, base: &Base) -> Result<Base, AllocError>
+pub(crate) fn copy_of(alloc: Global, base: &Base) -> Result<Base, AllocError>
     ensures { IfOk result (λ copy. copy ≡ base.now) }
 {
     match base {
@@ -44,25 +44,25 @@ fn copy_of(alloc: Global, base: &Base) -> Result<Base, AllocError>
 }
 
 // The length of an array.
-fn length_of(sizes: &Sizes, declarator: &Declarator) -> Option<u32>
-    ensures { result ≡ length_of sizes.now declarator.now declarator.now.len }
+fn length_of(names: &ProgramNames, declarator: &Declarator) -> Option<u32>
+    ensures { result ≡ length_of names.now declarator.now declarator.now.len }
 {
     match &declarator.len {
-        Some(_) => Some(sizes.elements_of_variable(declarator)),
+        Some(_) => Some(names.sizes().elements_of_variable(declarator)),
         None => None,
     }
 }
 
 fn type_of(
     alloc: Global,
-    sizes: &Sizes,
+    names: &ProgramNames,
     base: &Base,
     declarator: &Declarator,
 ) -> Result<Ty, AllocError>
-    ensures { IfOk result (λ ty. ty ≡ declared_type sizes.now base.now declarator.now) }
+    ensures { IfOk result (λ ty. ty ≡ declared_type names.now base.now declarator.now) }
 {
     let base = copy_of(alloc, base)?;
-    let len = length_of(sizes, declarator);
+    let len = length_of(names, declarator);
     Ok(Ty {
         base,
         by_ref: declarator.by_ref,
@@ -76,14 +76,14 @@ fn lower_first(
     cell: u32,
     scalar: Scalar,
     line: u32,
-    sizes: &Sizes,
+    names: &ProgramNames,
     out: &mut Draft,
 ) -> Result<(), AllocError>
     requires { length out.old.ops + OPS_FOR_SIZE * expr_size value.now + 3 ≤ PROGRAM_OPS }
-    ensures { OnOk result (Adds (OPS_FOR_SIZE * expr_size value.now + 3) (StartCode line out.old.marks cell (Some (converted (shape_as scalar) (value_of (meant (context_in sizes.now out.old) value.now))))) out.old out.new) }
+    ensures { OnOk result (Adds (OPS_FOR_SIZE * expr_size value.now + 3) (StartCode line out.old.marks cell (Some (converted (shape_as scalar) (value_of (meant (context_in names.now out.old) value.now))))) out.old out.new) }
 {
     put(Op::Local(cell), line, out)?;
-    let _told = lower_value(value, line, sizes, out)?;
+    let _told = lower_value(value, line, names, out)?;
     put_conversion(scalar, line, out)?;
     put(Op::Store, line, out)?;
     Ok(())
@@ -94,16 +94,16 @@ fn lower_start(
     cell: u32,
     scalar: Scalar,
     line: u32,
-    sizes: &Sizes,
+    names: &ProgramNames,
     out: &mut Draft,
 ) -> Result<(), AllocError>
     requires { length out.old.ops + OPS_FOR_SIZE * start_size start.now + 3 ≤ PROGRAM_OPS }
-    ensures { OnOk result (Adds (OPS_FOR_SIZE * start_size start.now + 3) (StartCode line out.old.marks cell (start_meant (context_in sizes.now out.old) (shape_as scalar) start.now)) out.old out.new) }
+    ensures { OnOk result (Adds (OPS_FOR_SIZE * start_size start.now + 3) (StartCode line out.old.marks cell (start_meant (context_in names.now out.old) (shape_as scalar) start.now)) out.old out.new) }
 {
     match &start.form {
         StartForm::Nothing => Ok(()),
-        StartForm::Value { value } => lower_first(value, cell, scalar, line, sizes, out),
-        StartForm::Args { args } => lower_args(args, cell, scalar, line, sizes, out),
+        StartForm::Value { value } => lower_first(value, cell, scalar, line, names, out),
+        StartForm::Args { args } => lower_args(args, cell, scalar, line, names, out),
     }
 }
 
@@ -113,14 +113,14 @@ fn lower_args(
     cell: u32,
     scalar: Scalar,
     line: u32,
-    sizes: &Sizes,
+    names: &ProgramNames,
     out: &mut Draft,
 ) -> Result<(), AllocError>
     requires { length out.old.ops + OPS_FOR_SIZE * exprs_size (exprs_of args.now) + 3 ≤ PROGRAM_OPS }
-    ensures { OnOk result (Adds (OPS_FOR_SIZE * exprs_size (exprs_of args.now) + 3) (StartCode line out.old.marks cell (first_value (context_in sizes.now out.old) (shape_as scalar) (exprs_of args.now))) out.old out.new) }
+    ensures { OnOk result (Adds (OPS_FOR_SIZE * exprs_size (exprs_of args.now) + 3) (StartCode line out.old.marks cell (first_value (context_in names.now out.old) (shape_as scalar) (exprs_of args.now))) out.old out.new) }
 {
     match args.first() {
-        Some(value) => lower_first(value, cell, scalar, line, sizes, out),
+        Some(value) => lower_first(value, cell, scalar, line, names, out),
         None => Ok(()),
     }
 }
@@ -128,23 +128,23 @@ fn lower_args(
 // A variable is 0, or starts with its value; then its name is in scope.
 fn lower_declarator(
     alloc: Global,
-    sizes: &Sizes,
+    names: &ProgramNames,
     base: &Base,
     declarator: &Declarator,
     line: u32,
     out: &mut Draft,
 ) -> Result<(), AllocError>
     requires room { length out.old.ops + OPS_FOR_SIZE * declarator_size declarator.now ≤ PROGRAM_OPS }
-    requires cells { out.old.cells + declared_cells sizes.now base.now declarator.now ≤ FRAME_CELLS }
-    ensures { OnOk result (Lowers (OPS_FOR_SIZE * declarator_size declarator.now) 0 (declared_cells sizes.now base.now declarator.now) 0 (VariablesCode line out.old.marks (declared_meant sizes.now (scope_of out.old) base.now declarator.now ∷ [])) (with_declared sizes.now (scope_of out.old) base.now declarator.now) out.old out.new) }
+    requires cells { out.old.cells + declared_cells names.now base.now declarator.now ≤ FRAME_CELLS }
+    ensures { OnOk result (Lowers (OPS_FOR_SIZE * declarator_size declarator.now) 0 (declared_cells names.now base.now declarator.now) 0 (VariablesCode line out.old.marks (declared_meant names.now (scope_of out.old) base.now declarator.now ∷ [])) (with_declared names.now (scope_of out.old) base.now declarator.now) out.old out.new) }
 {
-    let cells = sizes.cells_of_variable(base, declarator) as u32;
+    let cells = names.sizes().cells_of_variable(base, declarator) as u32;
     let cell = out.cells();
     put(Op::Clear { cell, cells }, line, out)?;
     let scalar = Scalar::of_base(base);
-    lower_start(&declarator.start, cell, scalar, line, sizes, out)?;
+    lower_start(&declarator.start, cell, scalar, line, names, out)?;
     let name = declarator.name.copy(alloc)?;
-    let ty = type_of(alloc, sizes, base, declarator)?;
+    let ty = type_of(alloc, names, base, declarator)?;
     out.declare(name, ty, cells)?;
     Ok(())
 }
@@ -152,18 +152,18 @@ fn lower_declarator(
 /// Adds the code of a declaration. After want of memory the draft is spent.
 pub fn lower_declarators(
     alloc: Global,
-    sizes: &Sizes,
+    names: &ProgramNames,
     base: &Base,
     declarators: &[Declarator],
     line: u32,
     out: &mut Draft,
 ) -> Result<(), AllocError>
     requires room { length out.old.ops + OPS_FOR_SIZE * declarators_size declarators.now ≤ PROGRAM_OPS }
-    requires cells { out.old.cells + declarators_cells (declared_cells sizes.now base.now) declarators.now ≤ FRAME_CELLS }
-    ensures { OnOk result (Lowers (OPS_FOR_SIZE * declarators_size declarators.now) 0 (declarators_cells (declared_cells sizes.now base.now) declarators.now) 0 (VariablesCode line out.old.marks (all_declared sizes.now (scope_of out.old) base.now declarators.now)) (with_all sizes.now (scope_of out.old) base.now declarators.now) out.old out.new) }
+    requires cells { out.old.cells + declarators_cells (declared_cells names.now base.now) declarators.now ≤ FRAME_CELLS }
+    ensures { OnOk result (Lowers (OPS_FOR_SIZE * declarators_size declarators.now) 0 (declarators_cells (declared_cells names.now base.now) declarators.now) 0 (VariablesCode line out.old.marks (all_declared names.now (scope_of out.old) base.now declarators.now)) (with_all names.now (scope_of out.old) base.now declarators.now) out.old out.new) }
 {
     for declarator in declarators {
-        lower_declarator(alloc, sizes, base, declarator, line, out)?;
+        lower_declarator(alloc, names, base, declarator, line, out)?;
     }
     Ok(())
 }

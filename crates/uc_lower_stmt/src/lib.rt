@@ -3,6 +3,6 @@
 
 pub mod declare;
 pub mod print;
-pub mod program;
 pub mod routine;
 pub mod stmt;
+pub mod turning;

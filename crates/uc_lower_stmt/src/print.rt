@@ -18,8 +18,8 @@ use uc_code::draft::Draft;
 use uc_code::op::Op;
 use uc_lower_expr::expr::{lower_expr, lower_value};
 use uc_lower_expr::meaning::Scalar;
+use uc_lower_expr::program_names::ProgramNames;
 use uc_lower_expr::put::put;
-use uc_sizes::sizes::Sizes;
 use uc_tree::declare::{OutForm, OutItem};
 use uc_tree::expr::Expr;
 use uc_tree::kinds::ValueForm;
@@ -36,11 +36,16 @@ fn form(scalar: Scalar) -> ValueForm
 }
 
 // The value of an item, and the op that prints it.
-fn lower_piece(item: &OutItem, line: u32, sizes: &Sizes, out: &mut Draft) -> Result<Op, AllocError>
+fn lower_piece(
+    item: &OutItem,
+    line: u32,
+    names: &ProgramNames,
+    out: &mut Draft,
+) -> Result<Op, AllocError>
     requires room { length out.old.ops + OPS_FOR_SIZE * out_item_size item.now ≤ PROGRAM_OPS }
     requires texts { out.old.texts < PROGRAM_SIZE }
-    ensures code { OnOk result (Lowers (OPS_FOR_SIZE * out_item_size item.now - 1) (out_item_size item.now) 0 0 (ValuesCode line out.old.marks (items_meant (context_in sizes.now out.old) out.old.texts (item.now ∷ []))) (record (scope_of out.old) { texts = out.old.texts + length (item_texts (item.now ∷ [])) }) out.old out.new) }
-    ensures op { IfOk result (λ op. op ∷ [] ≡ map item_op (items_meant (context_in sizes.now out.old) out.old.texts (item.now ∷ []))) }
+    ensures code { OnOk result (Lowers (OPS_FOR_SIZE * out_item_size item.now - 1) (out_item_size item.now) 0 0 (ValuesCode line out.old.marks (items_meant (context_in names.now out.old) out.old.texts (item.now ∷ []))) (record (scope_of out.old) { texts = out.old.texts + length (item_texts (item.now ∷ [])) }) out.old out.new) }
+    ensures op { IfOk result (λ op. op ∷ [] ≡ map item_op (items_meant (context_in names.now out.old) out.old.texts (item.now ∷ []))) }
 {
     match &item.form {
         OutForm::Endl => {
@@ -49,18 +54,23 @@ fn lower_piece(item: &OutItem, line: u32, sizes: &Sizes, out: &mut Draft) -> Res
         }
         OutForm::Literal { .. } => Ok(Op::Text(out.add_text())),
         OutForm::Value { value } => {
-            let told = lower_value(value, line, sizes, out)?;
+            let told = lower_value(value, line, names, out)?;
             Ok(Op::Print(form(told.scalar)))
         }
     }
 }
 
-fn lower_item(item: &OutItem, line: u32, sizes: &Sizes, out: &mut Draft) -> Result<(), AllocError>
+fn lower_item(
+    item: &OutItem,
+    line: u32,
+    names: &ProgramNames,
+    out: &mut Draft,
+) -> Result<(), AllocError>
     requires room { length out.old.ops + OPS_FOR_SIZE * out_item_size item.now ≤ PROGRAM_OPS }
     requires texts { out.old.texts < PROGRAM_SIZE }
-    ensures { OnOk result (Lowers (OPS_FOR_SIZE * out_item_size item.now) (out_item_size item.now) 0 0 (ItemsCode line out.old.marks (items_meant (context_in sizes.now out.old) out.old.texts (item.now ∷ []))) (record (scope_of out.old) { texts = out.old.texts + length (item_texts (item.now ∷ [])) }) out.old out.new) }
+    ensures { OnOk result (Lowers (OPS_FOR_SIZE * out_item_size item.now) (out_item_size item.now) 0 0 (ItemsCode line out.old.marks (items_meant (context_in names.now out.old) out.old.texts (item.now ∷ []))) (record (scope_of out.old) { texts = out.old.texts + length (item_texts (item.now ∷ [])) }) out.old out.new) }
 {
-    let op = lower_piece(item, line, sizes, out)?;
+    let op = lower_piece(item, line, names, out)?;
     put(op, line, out)?;
     Ok(())
 }
@@ -69,15 +79,15 @@ fn lower_item(item: &OutItem, line: u32, sizes: &Sizes, out: &mut Draft) -> Resu
 pub fn lower_items(
     items: &[OutItem],
     line: u32,
-    sizes: &Sizes,
+    names: &ProgramNames,
     out: &mut Draft,
 ) -> Result<(), AllocError>
     requires room { length out.old.ops + OPS_FOR_SIZE * out_items_size items.now ≤ PROGRAM_OPS }
     requires texts { out.old.texts + out_items_size items.now ≤ PROGRAM_SIZE }
-    ensures { OnOk result (Lowers (OPS_FOR_SIZE * out_items_size items.now) (out_items_size items.now) 0 0 (ItemsCode line out.old.marks (items_meant (context_in sizes.now out.old) out.old.texts items.now)) (record (scope_of out.old) { texts = out.old.texts + length (item_texts items.now) }) out.old out.new) }
+    ensures { OnOk result (Lowers (OPS_FOR_SIZE * out_items_size items.now) (out_items_size items.now) 0 0 (ItemsCode line out.old.marks (items_meant (context_in names.now out.old) out.old.texts items.now)) (record (scope_of out.old) { texts = out.old.texts + length (item_texts items.now) }) out.old out.new) }
 {
     for item in items {
-        lower_item(item, line, sizes, out)?;
+        lower_item(item, line, names, out)?;
     }
     Ok(())
 }
@@ -87,17 +97,17 @@ fn lower_pieces(
     alloc: Global,
     items: &[OutItem],
     line: u32,
-    sizes: &Sizes,
+    names: &ProgramNames,
     out: &mut Draft,
 ) -> Result<Vec<Op>, AllocError>
     requires room { length out.old.ops + OPS_FOR_SIZE * out_items_size items.now ≤ PROGRAM_OPS }
     requires texts { out.old.texts + out_items_size items.now ≤ PROGRAM_SIZE }
-    ensures code { OnOk result (Lowers (OPS_FOR_SIZE * out_items_size items.now - length items.now) (out_items_size items.now) 0 0 (ValuesCode line out.old.marks (items_meant (context_in sizes.now out.old) out.old.texts items.now)) (record (scope_of out.old) { texts = out.old.texts + length (item_texts items.now) }) out.old out.new) }
-    ensures ops { IfOk result (λ pieces. pieces.items ≡ map item_op (items_meant (context_in sizes.now out.old) out.old.texts items.now)) }
+    ensures code { OnOk result (Lowers (OPS_FOR_SIZE * out_items_size items.now - length items.now) (out_items_size items.now) 0 0 (ValuesCode line out.old.marks (items_meant (context_in names.now out.old) out.old.texts items.now)) (record (scope_of out.old) { texts = out.old.texts + length (item_texts items.now) }) out.old out.new) }
+    ensures ops { IfOk result (λ pieces. pieces.items ≡ map item_op (items_meant (context_in names.now out.old) out.old.texts items.now)) }
 {
     let mut pieces = Vec::new(alloc);
     for item in items {
-        let op = lower_piece(item, line, sizes, out)?;
+        let op = lower_piece(item, line, names, out)?;
         pieces.push(op)?;
     }
     Ok(pieces)
@@ -121,25 +131,30 @@ pub fn lower_together(
     alloc: Global,
     items: &[OutItem],
     line: u32,
-    sizes: &Sizes,
+    names: &ProgramNames,
     out: &mut Draft,
 ) -> Result<(), AllocError>
     requires room { length out.old.ops + OPS_FOR_SIZE * (1 + out_items_size items.now) ≤ PROGRAM_OPS }
     requires texts { out.old.texts + out_items_size items.now ≤ PROGRAM_SIZE }
-    ensures { OnOk result (Lowers (OPS_FOR_SIZE * (1 + out_items_size items.now)) (out_items_size items.now) 0 0 (TogetherCode line out.old.marks (items_meant (context_in sizes.now out.old) out.old.texts items.now)) (record (scope_of out.old) { texts = out.old.texts + length (item_texts items.now) }) out.old out.new) }
+    ensures { OnOk result (Lowers (OPS_FOR_SIZE * (1 + out_items_size items.now)) (out_items_size items.now) 0 0 (TogetherCode line out.old.marks (items_meant (context_in names.now out.old) out.old.texts items.now)) (record (scope_of out.old) { texts = out.old.texts + length (item_texts items.now) }) out.old out.new) }
 {
-    let pieces = lower_pieces(alloc, items, line, sizes, out)?;
+    let pieces = lower_pieces(alloc, items, line, names, out)?;
     put(Op::Hold, line, out)?;
     put_pieces(&pieces, line, out)?;
     put(Op::Flush, line, out)?;
     Ok(())
 }
 
-fn lower_target(place: &Expr, line: u32, sizes: &Sizes, out: &mut Draft) -> Result<(), AllocError>
+fn lower_target(
+    place: &Expr,
+    line: u32,
+    names: &ProgramNames,
+    out: &mut Draft,
+) -> Result<(), AllocError>
     requires { length out.old.ops + OPS_FOR_SIZE * expr_size place.now ≤ PROGRAM_OPS }
-    ensures { OnOk result (Adds (OPS_FOR_SIZE * expr_size place.now) (TargetsCode line out.old.marks (target_meant (context_in sizes.now out.old) place.now ∷ [])) out.old out.new) }
+    ensures { OnOk result (Adds (OPS_FOR_SIZE * expr_size place.now) (TargetsCode line out.old.marks (target_meant (context_in names.now out.old) place.now ∷ [])) out.old out.new) }
 {
-    let told = lower_expr(place, line, sizes, out)?;
+    let told = lower_expr(place, line, names, out)?;
     put(Op::Read(form(told.scalar)), line, out)?;
     put(Op::Store, line, out)?;
     Ok(())
@@ -149,14 +164,14 @@ fn lower_target(place: &Expr, line: u32, sizes: &Sizes, out: &mut Draft) -> Resu
 pub fn lower_targets(
     places: &[Expr],
     line: u32,
-    sizes: &Sizes,
+    names: &ProgramNames,
     out: &mut Draft,
 ) -> Result<(), AllocError>
     requires { length out.old.ops + OPS_FOR_SIZE * exprs_size (exprs_of places.now) ≤ PROGRAM_OPS }
-    ensures { OnOk result (Adds (OPS_FOR_SIZE * exprs_size (exprs_of places.now)) (TargetsCode line out.old.marks (targets_meant (context_in sizes.now out.old) (exprs_of places.now))) out.old out.new) }
+    ensures { OnOk result (Adds (OPS_FOR_SIZE * exprs_size (exprs_of places.now)) (TargetsCode line out.old.marks (targets_meant (context_in names.now out.old) (exprs_of places.now))) out.old out.new) }
 {
     for place in places {
-        lower_target(place, line, sizes, out)?;
+        lower_target(place, line, names, out)?;
     }
     Ok(())
 }

@@ -1,8 +1,5 @@
-use Rattle.uc_lower_expr.proofs.Arms.{name_known, name_unknown}
+use Rattle.uc_lower_expr.proofs.Arms.{name_known}
 use Rattle.uc_lower_expr.proofs.expr.lower_name.Goals as goal
 
 pub returns-in_ok-put-in-Some-clause-code : goal.returns-in_ok-put-in-Some-clause-code
-returns-in_ok-put-in-Some-clause-code c = name_known c.args.out.now.marks c.args.line c.args.out.now.names c.args.name.now _ _ _ c.in-Some.ensures c.in_ok-put-in-Some.ensures
-
-pub returns-in_ok-put-in-None-clause-code : goal.returns-in_ok-put-in-None-clause-code
-returns-in_ok-put-in-None-clause-code c = name_unknown c.args.out.now.marks c.args.line c.args.out.now.names c.args.name.now _ _ c.in-None.ensures c.in_ok-put-in-None.ensures
+returns-in_ok-put-in-Some-clause-code c = name_known c.args.out.now.marks c.args.names.now c.args.line c.args.out.now.names c.args.name.now _ _ _ _ c.in-Some.ensures c.place_op.ensures c.in_ok-put-in-Some.ensures

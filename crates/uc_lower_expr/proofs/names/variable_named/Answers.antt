@@ -1,6 +1,7 @@
 use Rattle.std.proofs.Common.{ℕ, List, refl, subst}
 use Rattle.uc_code.specs.Drafts.{IsInnermost, IsUnknown}
 use Rattle.uc_lower_expr.proofs.Naming.{unknown_named, innermost_named}
+use Rattle.uc_lower_expr.proofs.Arms.{told_known}
 use Rattle.uc_lower_expr.proofs.names.variable_named.Goals as goal
 
 pub returns-in-Some : goal.returns-in-Some
@@ -8,7 +9,8 @@ returns-in-Some c = record {
   known = c.in-Some.known.now;
   is = innermost_named _ _ _ (subst (λ (n : List ℕ). IsInnermost c.args.out.now.names n c.in-Some.known.now) c.bytes.ensures c.in-Some.ensures);
   cell = refl;
-  tells = record { shape = c.of_base.ensures.shape; len = refl; standing = refl };
+  by_ref = refl;
+  tells = told_known c.in-Some.known.now _ c.of_base.ensures.shape refl c.standing_of.ensures;
 }
 
 pub returns-in-None : goal.returns-in-None

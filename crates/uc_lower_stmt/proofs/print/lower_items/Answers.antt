@@ -11,4 +11,4 @@ lower_item-requires c =
     record { room = omega (arith, fit, r); texts = omega (arith, fit, q, n) }
 
 pub loop-item-preserved : goal.loop-item-preserved
-loop-item-preserved c = items_step c.args.sizes.now c.args.items.now c.loop-item.item-index c.item-item.result c.args.line _ _ _ c.loop-item-test.true c.item-item.is c.loop-item.invariant c.in_ok-lower_item.ensures
+loop-item-preserved c = items_step c.args.names.now c.args.items.now c.loop-item.item-index c.item-item.result c.args.line _ _ _ c.loop-item-test.true c.item-item.is c.loop-item.invariant c.in_ok-lower_item.ensures

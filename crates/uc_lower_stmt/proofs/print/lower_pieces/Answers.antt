@@ -13,6 +13,6 @@ lower_piece-requires c =
 
 pub loop-item-preserved : goal.loop-item-preserved
 loop-item-preserved c = record {
-  code = pieces_step c.args.sizes.now c.args.items.now c.loop-item.item-index c.item-item.result c.args.line _ _ _ c.loop-item-test.true c.item-item.is c.loop-item.invariant.code c.in_ok-op.ensures.code;
-  ops = ops_step c.args.sizes.now c.args.items.now c.loop-item.item-index c.item-item.result (scope_of c.args.out.now) (scope_of c.loop-item.out) _ _ _ c.loop-item-test.true c.item-item.is c.loop-item.invariant.code.scope c.loop-item.invariant.ops c.in_ok-op.ensures.op c.in_ok-push.ensures.items;
+  code = pieces_step c.args.names.now c.args.items.now c.loop-item.item-index c.item-item.result c.args.line _ _ _ c.loop-item-test.true c.item-item.is c.loop-item.invariant.code c.in_ok-op.ensures.code;
+  ops = ops_step c.args.names.now c.args.items.now c.loop-item.item-index c.item-item.result (scope_of c.args.out.now) (scope_of c.loop-item.out) _ _ _ c.loop-item-test.true c.item-item.is c.loop-item.invariant.code.scope c.loop-item.invariant.ops c.in_ok-op.ensures.op c.in_ok-push.ensures.items;
 }

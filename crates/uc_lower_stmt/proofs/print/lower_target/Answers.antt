@@ -14,4 +14,4 @@ pub put-requires-2 : goal.put-requires-2
 put-requires-2 c = let r = c.in_ok-told.ensures.code.room in let q = c.in_ok-put.ensures.room in let s = some_size c.args.place.now in omega (arith, r, q, s)
 
 pub returns : goal.returns
-returns c = arm_target c.args.sizes.now (OPS_FOR_SIZE * expr_size c.args.place.now - 2) c.args.line c.args.out.now.marks _ (meant (context_in c.args.sizes.now c.args.out.now) c.args.place.now) _ _ _ _ _ _ (let s = some_size c.args.place.now in omega arith) c.form.ensures c.in_ok-told.ensures.tells c.in_ok-told.ensures.code c.in_ok-put.ensures c.in_ok-put-2.ensures
+returns c = arm_target c.args.names.now (OPS_FOR_SIZE * expr_size c.args.place.now - 2) c.args.line c.args.out.now.marks _ (meant (context_in c.args.names.now c.args.out.now) c.args.place.now) _ _ _ _ _ _ (let s = some_size c.args.place.now in omega arith) c.form.ensures c.in_ok-told.ensures.tells c.in_ok-told.ensures.code c.in_ok-put.ensures c.in_ok-put-2.ensures

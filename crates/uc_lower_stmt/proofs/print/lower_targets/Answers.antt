@@ -9,4 +9,4 @@ lower_target-requires c =
     omega (arith, fit, r)
 
 pub loop-place-preserved : goal.loop-place-preserved
-loop-place-preserved c = targets_step c.args.sizes.now c.args.places.now c.loop-place.place-index c.place-item.result c.args.line _ _ _ c.loop-place-test.true c.place-item.is c.loop-place.invariant c.in_ok-lower_target.ensures
+loop-place-preserved c = targets_step c.args.names.now c.args.places.now c.loop-place.place-index c.place-item.result c.args.line _ _ _ c.loop-place-test.true c.place-item.is c.loop-place.invariant c.in_ok-lower_target.ensures

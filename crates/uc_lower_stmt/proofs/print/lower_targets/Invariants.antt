@@ -9,4 +9,4 @@ use Rattle.uc_lower_stmt.specs.Pieces.{TargetsCode}
 use Rattle.uc_lower_stmt.proofs.print.lower_targets.Given as goal
 
 abbrev pub invariant-loop-place : goal.invariant-loop-place
-invariant-loop-place l = Adds (OPS_FOR_SIZE * exprs_size (exprs_of (take l.place-index l.places))) (TargetsCode l.line l.initial.out.marks (targets_meant (context_in l.sizes l.initial.out) (exprs_of (take l.place-index l.places)))) l.initial.out l.out
+invariant-loop-place l = Adds (OPS_FOR_SIZE * exprs_size (exprs_of (take l.place-index l.places))) (TargetsCode l.line l.initial.out.marks (targets_meant (context_in l.names l.initial.out) (exprs_of (take l.place-index l.places)))) l.initial.out l.out

@@ -10,7 +10,7 @@ pub put_pieces-requires : goal.put_pieces-requires
 put_pieces-requires c =
     let r = c.in_ok-pieces.ensures.code.room in
     let q = c.in_ok-put.ensures.room in
-    let n = pieces_count c.args.sizes.now (scope_of c.args.out.now) c.args.items.now c.deref.result.now (c.deref.ensures.value ∙ c.in_ok-pieces.ensures.ops) in
+    let n = pieces_count c.args.names.now (scope_of c.args.out.now) c.args.items.now c.deref.result.now (c.deref.ensures.value ∙ c.in_ok-pieces.ensures.ops) in
     let m = all_count c.args.items.now in
     omega (arith, r, q, n, m)
 
@@ -19,9 +19,9 @@ put-requires-2 c =
     let r = c.in_ok-pieces.ensures.code.room in
     let q = c.in_ok-put.ensures.room in
     let w = c.in_ok-put_pieces.ensures.room in
-    let n = pieces_count c.args.sizes.now (scope_of c.args.out.now) c.args.items.now c.deref.result.now (c.deref.ensures.value ∙ c.in_ok-pieces.ensures.ops) in
+    let n = pieces_count c.args.names.now (scope_of c.args.out.now) c.args.items.now c.deref.result.now (c.deref.ensures.value ∙ c.in_ok-pieces.ensures.ops) in
     let m = all_count c.args.items.now in
     omega (arith, r, q, w, n, m)
 
 pub returns : goal.returns
-returns c = arm_together c.args.sizes.now c.args.items.now c.in_ok-pieces.pieces.items c.deref.result.now c.args.line _ _ _ _ _ c.in_ok-pieces.ensures.ops c.deref.ensures.value c.in_ok-pieces.ensures.code c.in_ok-put.ensures c.in_ok-put_pieces.ensures c.in_ok-put-2.ensures
+returns c = arm_together c.args.names.now c.args.items.now c.in_ok-pieces.pieces.items c.deref.result.now c.args.line _ _ _ _ _ c.in_ok-pieces.ensures.ops c.deref.ensures.value c.in_ok-pieces.ensures.code c.in_ok-put.ensures c.in_ok-put_pieces.ensures c.in_ok-put-2.ensures

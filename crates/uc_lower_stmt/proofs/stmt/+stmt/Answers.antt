@@ -1,94 +1,217 @@
-use Rattle.std.proofs.Common.{refl, rules, arith}
-use Rattle.uc_tree.specs.Cells.{declared_cells}
-use Rattle.uc_lower_stmt.proofs.Stating.{stmt_is, arm_empty, arm_unasked, arm_evaluate, arm_declare, arm_print, arm_print_together, arm_read, arm_block, stmts_fit, straight_at, stmts_step}
+use Rattle.std.proofs.Common.{◌≡◌, Bor, length, ap, sym, refl, rules, arith, ◌∙◌}
+use Rattle.uc_tree.specs.Expressions as tree
+use Rattle.std.proofs.lemmas.Bool.{and_parts}
+use Rattle.uc_tree.specs.Cells.{declared_cells, maybe_cells, stmt_cells}
+use Rattle.uc_tree.specs.Scopes.{alone_scopes, maybe_scopes, stmt_scopes}
+use Rattle.uc_tree.specs.Statements.{If, OneStmt}
+use Rattle.uc_tree.specs.StatementSizes.{maybe_stmt_size, stmt_size}
+use Rattle.uc_tree.specs.StatementViews.{maybe_at}
+use Rattle.uc_meaning.specs.BuiltForms.{is_built_maybe, is_built_stmt}
+use Rattle.uc_lower_stmt.specs.Control.{is_declaration}
+use Rattle.uc_lower_stmt.proofs.Parting.{arm_no_other}
+use Rattle.uc_code.specs.Drafts.{Draft}
+use Rattle.uc_lower_stmt.proofs.Stating.{stmt_is, arm_empty, arm_unasked, arm_evaluate, arm_declare, arm_print, arm_print_together, arm_read, arm_block, arm_if, arm_while, arm_do, arm_for_stmt, arm_break, arm_continue, arm_return, stmts_fit, scopes_fit, built_at, stmts_step}
+use Rattle.uc_lower_stmt.proofs.Scoping.{arm_alone_scoped}
+use Rattle.uc_lower_stmt.proofs.Controlling.{arm_choice, arm_for}
+use Rattle.uc_lower_stmt.proofs.Turned.{arm_turns}
 use Rattle.uc_lower_stmt.proofs.stmt.+stmt.Goals as goal
 
 pub lower_stmts-lower_stmt-requires : goal.lower_stmts-lower_stmt-requires
 lower_stmts-lower_stmt-requires t c =
-    let fit = stmts_fit (declared_cells c.args.sizes.now) c.args.stmts.now c.loop-s.s-index c.s-item.result c.loop-s-test.true c.s-item.is in
+    let fit = stmts_fit (declared_cells c.args.names.now) c.args.stmts.now c.loop-s.s-index c.s-item.result c.loop-s-test.true c.s-item.is in
     let a = fit.0 in
     let b = fit.1 in
     let r = c.loop-s.invariant.room in
     let q = c.loop-s.invariant.cells in
-    let w = c.loop-s.invariant.scopes in
+    let w = c.loop-s.invariant.opened in
+    let z = scopes_fit c.args.stmts.now c.loop-s.s-index c.s-item.result c.loop-s-test.true c.s-item.is in
     let v = c.loop-s.invariant.texts in
-    let y = straight_at c.args.stmts.now c.loop-s.s-index c.s-item.result c.requires.straight c.loop-s-test.true c.s-item.is in
-    (search rules, (y, (omega (arith, a, r), (omega (arith, b, q), (omega (arith, a, w), omega (arith, a, v))))))
+    let y = built_at c.args.stmts.now c.loop-s.s-index c.s-item.result c.requires.built c.loop-s-test.true c.s-item.is in
+    (search rules, (y, (omega (arith, a, r), (omega (arith, b, q), (omega (arith, w, z), omega (arith, a, v))))))
 
 pub lower_stmts-loop-s-preserved : goal.lower_stmts-loop-s-preserved
-lower_stmts-loop-s-preserved t c = stmts_step c.args.sizes.now c.args.stmts.now c.loop-s.s-index c.s-item.result _ _ _ c.loop-s-test.true c.s-item.is c.loop-s.invariant c.in_ok-lower_stmt.ensures
+lower_stmts-loop-s-preserved t c = stmts_step c.args.names.now c.args.stmts.now c.loop-s.s-index c.s-item.result _ _ _ c.loop-s-test.true c.s-item.is c.loop-s.invariant c.in_ok-lower_stmt.ensures
 
 pub lower_stmt-returns-in-Empty : goal.lower_stmt-returns-in-Empty
-lower_stmt-returns-in-Empty t c = arm_empty c.args.sizes.now c.args.s.now _ _ (stmt_is _ _ _ _ c.in-Empty.is c.s.view_is)
-
-pub lower_stmt-returns-in-If : goal.lower_stmt-returns-in-If
-lower_stmt-returns-in-If t c = arm_unasked c.args.sizes.now c.args.s.now _ _ (stmt_is _ _ _ _ c.in-If.is c.s.view_is) c.requires.straight refl
-
-pub lower_stmt-returns-in-While : goal.lower_stmt-returns-in-While
-lower_stmt-returns-in-While t c = arm_unasked c.args.sizes.now c.args.s.now _ _ (stmt_is _ _ _ _ c.in-While.is c.s.view_is) c.requires.straight refl
-
-pub lower_stmt-returns-in-Do : goal.lower_stmt-returns-in-Do
-lower_stmt-returns-in-Do t c = arm_unasked c.args.sizes.now c.args.s.now _ _ (stmt_is _ _ _ _ c.in-Do.is c.s.view_is) c.requires.straight refl
-
-pub lower_stmt-returns-in-For : goal.lower_stmt-returns-in-For
-lower_stmt-returns-in-For t c = arm_unasked c.args.sizes.now c.args.s.now _ _ (stmt_is _ _ _ _ c.in-For.is c.s.view_is) c.requires.straight refl
-
-pub lower_stmt-returns-in-Break : goal.lower_stmt-returns-in-Break
-lower_stmt-returns-in-Break t c = arm_unasked c.args.sizes.now c.args.s.now _ _ (stmt_is _ _ _ _ c.in-Break.is c.s.view_is) c.requires.straight refl
-
-pub lower_stmt-returns-in-Continue : goal.lower_stmt-returns-in-Continue
-lower_stmt-returns-in-Continue t c = arm_unasked c.args.sizes.now c.args.s.now _ _ (stmt_is _ _ _ _ c.in-Continue.is c.s.view_is) c.requires.straight refl
-
-pub lower_stmt-returns-in-Return : goal.lower_stmt-returns-in-Return
-lower_stmt-returns-in-Return t c = arm_unasked c.args.sizes.now c.args.s.now _ _ (stmt_is _ _ _ _ c.in-Return.is c.s.view_is) c.requires.straight refl
+lower_stmt-returns-in-Empty t c = arm_empty c.args.names.now c.args.s.now _ _ (stmt_is _ _ _ _ c.in-Empty.is c.s.view_is)
 
 pub lower_stmt-returns-in-Try : goal.lower_stmt-returns-in-Try
-lower_stmt-returns-in-Try t c = arm_unasked c.args.sizes.now c.args.s.now _ _ (stmt_is _ _ _ _ c.in-Try.is c.s.view_is) c.requires.straight refl
+lower_stmt-returns-in-Try t c = arm_unasked c.args.names.now c.args.s.now _ _ (stmt_is _ _ _ _ c.in-Try.is c.s.view_is) c.requires.built refl
 
 pub lower_stmt-returns-in-Throw : goal.lower_stmt-returns-in-Throw
-lower_stmt-returns-in-Throw t c = arm_unasked c.args.sizes.now c.args.s.now _ _ (stmt_is _ _ _ _ c.in-Throw.is c.s.view_is) c.requires.straight refl
+lower_stmt-returns-in-Throw t c = arm_unasked c.args.names.now c.args.s.now _ _ (stmt_is _ _ _ _ c.in-Throw.is c.s.view_is) c.requires.built refl
 
 pub lower_stmt-returns-in-Raise : goal.lower_stmt-returns-in-Raise
-lower_stmt-returns-in-Raise t c = arm_unasked c.args.sizes.now c.args.s.now _ _ (stmt_is _ _ _ _ c.in-Raise.is c.s.view_is) c.requires.straight refl
+lower_stmt-returns-in-Raise t c = arm_unasked c.args.names.now c.args.s.now _ _ (stmt_is _ _ _ _ c.in-Raise.is c.s.view_is) c.requires.built refl
 
 pub lower_stmt-returns-in-RaiseAt : goal.lower_stmt-returns-in-RaiseAt
-lower_stmt-returns-in-RaiseAt t c = arm_unasked c.args.sizes.now c.args.s.now _ _ (stmt_is _ _ _ _ c.in-RaiseAt.is c.s.view_is) c.requires.straight refl
+lower_stmt-returns-in-RaiseAt t c = arm_unasked c.args.names.now c.args.s.now _ _ (stmt_is _ _ _ _ c.in-RaiseAt.is c.s.view_is) c.requires.built refl
 
 pub lower_stmt-returns-in-Enable : goal.lower_stmt-returns-in-Enable
-lower_stmt-returns-in-Enable t c = arm_unasked c.args.sizes.now c.args.s.now _ _ (stmt_is _ _ _ _ c.in-Enable.is c.s.view_is) c.requires.straight refl
+lower_stmt-returns-in-Enable t c = arm_unasked c.args.names.now c.args.s.now _ _ (stmt_is _ _ _ _ c.in-Enable.is c.s.view_is) c.requires.built refl
 
 pub lower_stmt-returns-in-Disable : goal.lower_stmt-returns-in-Disable
-lower_stmt-returns-in-Disable t c = arm_unasked c.args.sizes.now c.args.s.now _ _ (stmt_is _ _ _ _ c.in-Disable.is c.s.view_is) c.requires.straight refl
+lower_stmt-returns-in-Disable t c = arm_unasked c.args.names.now c.args.s.now _ _ (stmt_is _ _ _ _ c.in-Disable.is c.s.view_is) c.requires.built refl
 
 pub lower_stmt-returns-in-Accept : goal.lower_stmt-returns-in-Accept
-lower_stmt-returns-in-Accept t c = arm_unasked c.args.sizes.now c.args.s.now _ _ (stmt_is _ _ _ _ c.in-Accept.is c.s.view_is) c.requires.straight refl
+lower_stmt-returns-in-Accept t c = arm_unasked c.args.names.now c.args.s.now _ _ (stmt_is _ _ _ _ c.in-Accept.is c.s.view_is) c.requires.built refl
 
 pub lower_stmt-returns-in-Resume : goal.lower_stmt-returns-in-Resume
-lower_stmt-returns-in-Resume t c = arm_unasked c.args.sizes.now c.args.s.now _ _ (stmt_is _ _ _ _ c.in-Resume.is c.s.view_is) c.requires.straight refl
+lower_stmt-returns-in-Resume t c = arm_unasked c.args.names.now c.args.s.now _ _ (stmt_is _ _ _ _ c.in-Resume.is c.s.view_is) c.requires.built refl
 
 pub lower_stmt-returns-in-Suspend : goal.lower_stmt-returns-in-Suspend
-lower_stmt-returns-in-Suspend t c = arm_unasked c.args.sizes.now c.args.s.now _ _ (stmt_is _ _ _ _ c.in-Suspend.is c.s.view_is) c.requires.straight refl
+lower_stmt-returns-in-Suspend t c = arm_unasked c.args.names.now c.args.s.now _ _ (stmt_is _ _ _ _ c.in-Suspend.is c.s.view_is) c.requires.built refl
 
 pub lower_stmt-returns-in-Yield : goal.lower_stmt-returns-in-Yield
-lower_stmt-returns-in-Yield t c = arm_unasked c.args.sizes.now c.args.s.now _ _ (stmt_is _ _ _ _ c.in-Yield.is c.s.view_is) c.requires.straight refl
+lower_stmt-returns-in-Yield t c = arm_unasked c.args.names.now c.args.s.now _ _ (stmt_is _ _ _ _ c.in-Yield.is c.s.view_is) c.requires.built refl
 
 pub lower_stmt-returns-in-Migrate : goal.lower_stmt-returns-in-Migrate
-lower_stmt-returns-in-Migrate t c = arm_unasked c.args.sizes.now c.args.s.now _ _ (stmt_is _ _ _ _ c.in-Migrate.is c.s.view_is) c.requires.straight refl
+lower_stmt-returns-in-Migrate t c = arm_unasked c.args.names.now c.args.s.now _ _ (stmt_is _ _ _ _ c.in-Migrate.is c.s.view_is) c.requires.built refl
 
 pub lower_stmt-returns-in_ok-put-in-Evaluate : goal.lower_stmt-returns-in_ok-put-in-Evaluate
-lower_stmt-returns-in_ok-put-in-Evaluate t c = arm_evaluate c.args.sizes.now c.args.s.now c.s.inside.pos c.in-Evaluate.value _ _ _ (stmt_is _ _ _ _ c.in-Evaluate.is c.s.view_is) c.in_ok-_told-in-Evaluate.ensures.code c.in_ok-put-in-Evaluate.ensures
+lower_stmt-returns-in_ok-put-in-Evaluate t c = arm_evaluate c.args.names.now c.args.s.now c.s.inside.pos c.in-Evaluate.value _ _ _ (stmt_is _ _ _ _ c.in-Evaluate.is c.s.view_is) c.in_ok-_told-in-Evaluate.ensures.code c.in_ok-put-in-Evaluate.ensures
 
 pub lower_stmt-returns-in_ok-lower_declarators-in-Declare : goal.lower_stmt-returns-in_ok-lower_declarators-in-Declare
-lower_stmt-returns-in_ok-lower_declarators-in-Declare t c = arm_declare c.args.sizes.now c.args.s.now c.s.inside.pos c.in-Declare.base c.deref-in-Declare.result.now c.in-Declare.declarators.items _ _ (stmt_is _ _ _ _ c.in-Declare.is c.s.view_is) c.deref-in-Declare.ensures.value c.in_ok-lower_declarators-in-Declare.ensures
+lower_stmt-returns-in_ok-lower_declarators-in-Declare t c = arm_declare c.args.names.now c.args.s.now c.s.inside.pos c.in-Declare.base c.deref-in-Declare.result.now c.in-Declare.declarators.items _ _ (stmt_is _ _ _ _ c.in-Declare.is c.s.view_is) c.deref-in-Declare.ensures.value c.in_ok-lower_declarators-in-Declare.ensures
 
 pub lower_stmt-returns-in_ok-lower_items-in-Print : goal.lower_stmt-returns-in_ok-lower_items-in-Print
-lower_stmt-returns-in_ok-lower_items-in-Print t c = arm_print c.args.sizes.now c.args.s.now c.s.inside.pos c.deref-in-Print.result.now c.in-Print.items.items _ _ (stmt_is _ _ _ _ c.in-Print.is c.s.view_is) c.deref-in-Print.ensures.value c.in_ok-lower_items-in-Print.ensures
+lower_stmt-returns-in_ok-lower_items-in-Print t c = arm_print c.args.names.now c.args.s.now c.s.inside.pos c.deref-in-Print.result.now c.in-Print.items.items _ _ (stmt_is _ _ _ _ c.in-Print.is c.s.view_is) c.deref-in-Print.ensures.value c.in_ok-lower_items-in-Print.ensures
 
 pub lower_stmt-returns-in_ok-lower_together-in-PrintTogether : goal.lower_stmt-returns-in_ok-lower_together-in-PrintTogether
-lower_stmt-returns-in_ok-lower_together-in-PrintTogether t c = arm_print_together c.args.sizes.now c.args.s.now c.s.inside.pos c.deref-in-PrintTogether.result.now c.in-PrintTogether.items.items _ _ (stmt_is _ _ _ _ c.in-PrintTogether.is c.s.view_is) c.deref-in-PrintTogether.ensures.value c.in_ok-lower_together-in-PrintTogether.ensures
+lower_stmt-returns-in_ok-lower_together-in-PrintTogether t c = arm_print_together c.args.names.now c.args.s.now c.s.inside.pos c.deref-in-PrintTogether.result.now c.in-PrintTogether.items.items _ _ (stmt_is _ _ _ _ c.in-PrintTogether.is c.s.view_is) c.deref-in-PrintTogether.ensures.value c.in_ok-lower_together-in-PrintTogether.ensures
 
 pub lower_stmt-returns-in_ok-lower_targets-in-Read : goal.lower_stmt-returns-in_ok-lower_targets-in-Read
-lower_stmt-returns-in_ok-lower_targets-in-Read t c = arm_read c.args.sizes.now c.args.s.now c.s.inside.pos c.deref-in-Read.result.now c.in-Read.places.items _ _ (stmt_is _ _ _ _ c.in-Read.is c.s.view_is) c.deref-in-Read.ensures.value c.in_ok-lower_targets-in-Read.ensures
+lower_stmt-returns-in_ok-lower_targets-in-Read t c = arm_read c.args.names.now c.args.s.now c.s.inside.pos c.deref-in-Read.result.now c.in-Read.places.items _ _ (stmt_is _ _ _ _ c.in-Read.is c.s.view_is) c.deref-in-Read.ensures.value c.in_ok-lower_targets-in-Read.ensures
 
 pub lower_stmt-returns-in_ok-lower_stmts-in-Block : goal.lower_stmt-returns-in_ok-lower_stmts-in-Block
-lower_stmt-returns-in_ok-lower_stmts-in-Block t c = arm_block c.args.sizes.now c.args.s.now c.s.inside.pos c.deref.result.now c.in-Block.body.items _ _ _ _ _ (stmt_is _ _ _ _ c.in-Block.is c.s.view_is) c.deref.ensures.value c.open_scope-outside.ensures.outside c.open_scope-outside.ensures.opened c.in_ok-lower_stmts-in-Block.ensures c.leave_scope.ensures
+lower_stmt-returns-in_ok-lower_stmts-in-Block t c = arm_block c.args.names.now c.args.s.now c.s.inside.pos c.deref.result.now c.in-Block.body.items _ _ _ _ _ (stmt_is _ _ _ _ c.in-Block.is c.s.view_is) c.deref.ensures.value c.open_scope-outside.ensures.outside c.open_scope-outside.ensures.opened c.in_ok-lower_stmts-in-Block.ensures c.leave_scope.ensures
+
+pub lower_stmt-returns-in_ok-lower_if-in-If : goal.lower_stmt-returns-in_ok-lower_if-in-If
+lower_stmt-returns-in_ok-lower_if-in-If t c = arm_if c.args.names.now c.args.s.now c.s.inside.pos c.in-If.test _ _ _ _ _ (stmt_is _ _ _ _ c.in-If.is c.s.view_is) c.deref-in-If.ensures c.in_ok-lower_if-in-If.ensures
+
+pub lower_stmt-returns-in_ok-lower_loop-in-While : goal.lower_stmt-returns-in_ok-lower_loop-in-While
+lower_stmt-returns-in_ok-lower_loop-in-While t c =
+    let test : Bor tree.Expr = record { ref_ptr = (0, 0); now = c.in-While.test } in
+    arm_while c.args.names.now c.args.s.now c.s.inside.pos test _ _ _ _ _ (stmt_is _ _ _ _ c.in-While.is c.s.view_is) c.deref-in-While.ensures refl c.in_ok-lower_loop-in-While.ensures
+
+pub lower_stmt-returns-in_ok-lower_loop-in-Do : goal.lower_stmt-returns-in_ok-lower_loop-in-Do
+lower_stmt-returns-in_ok-lower_loop-in-Do t c =
+    let test : Bor tree.Expr = record { ref_ptr = (0, 0); now = c.in-Do.test } in
+    arm_do c.args.names.now c.args.s.now c.s.inside.pos test _ _ _ _ _ (stmt_is _ _ _ _ c.in-Do.is c.s.view_is) c.deref-in-Do.ensures refl c.in_ok-lower_loop-in-Do.ensures
+
+pub lower_stmt-returns-in_ok-lower_for-in-For : goal.lower_stmt-returns-in_ok-lower_for-in-For
+lower_stmt-returns-in_ok-lower_for-in-For t c = arm_for_stmt c.args.names.now c.args.s.now c.s.inside.pos c.in-For.start c.in-For.test c.in-For.step _ _ _ _ (stmt_is _ _ _ _ c.in-For.is c.s.view_is) c.deref-in-For.ensures c.in_ok-lower_for-in-For.ensures
+
+pub lower_stmt-returns-in_ok-put_exit-in-Break : goal.lower_stmt-returns-in_ok-put_exit-in-Break
+lower_stmt-returns-in_ok-put_exit-in-Break t c = arm_break c.args.names.now c.args.s.now c.s.inside.pos _ _ (stmt_is _ _ _ _ c.in-Break.is c.s.view_is) c.in_ok-put_exit-in-Break.ensures
+
+pub lower_stmt-returns-in_ok-put_exit-in-Continue : goal.lower_stmt-returns-in_ok-put_exit-in-Continue
+lower_stmt-returns-in_ok-put_exit-in-Continue t c = arm_continue c.args.names.now c.args.s.now c.s.inside.pos _ _ (stmt_is _ _ _ _ c.in-Continue.is c.s.view_is) c.in_ok-put_exit-in-Continue.ensures
+
+pub lower_stmt-returns-in_ok-lower_return-in-Return : goal.lower_stmt-returns-in_ok-lower_return-in-Return
+lower_stmt-returns-in_ok-lower_return-in-Return t c = arm_return c.args.names.now c.args.s.now c.s.inside.pos c.in-Return.value _ _ (stmt_is _ _ _ _ c.in-Return.is c.s.view_is) c.in_ok-lower_return-in-Return.ensures
+
+pub lower_if-lower_alone-requires : goal.lower_if-lower_alone-requires
+lower_if-lower_alone-requires t c =
+    let a = c.in_ok-_told.ensures.code in
+    let b = c.in_ok-put.ensures in
+    let ar = a.room in
+    let br = b.room in
+    let cells = ap (λ (d : Draft). d.cells) b.rest ∙ ap (λ (d : Draft). d.cells) a.rest in
+    let scopes = ap (λ (d : Draft). d.scopes) b.rest ∙ ap (λ (d : Draft). d.scopes) a.rest in
+    let texts = ap (λ (d : Draft). d.texts) b.rest ∙ ap (λ (d : Draft). d.texts) a.rest in
+    (search rules, (c.requires.built, (omega (arith, ar, br), (omega (arith, cells), (omega (arith, scopes), omega (arith, texts))))))
+
+pub lower_if-lower_maybe-requires : goal.lower_if-lower_maybe-requires
+lower_if-lower_maybe-requires t c =
+    let a = c.in_ok-_told.ensures.code in
+    let b = c.in_ok-put.ensures in
+    let h = c.in_ok-lower_alone.ensures in
+    let k = c.in_ok-put-2.ensures in
+    let ar = a.room in
+    let br = b.room in
+    let hr = h.room in
+    let kr = k.room in
+    let hc = h.cells in
+    let hs = h.opened in
+    let ht = h.texts in
+    let cells = ap (λ (d : Draft). d.cells) b.rest ∙ ap (λ (d : Draft). d.cells) a.rest in
+    let scopes = ap (λ (d : Draft). d.scopes) b.rest ∙ ap (λ (d : Draft). d.scopes) a.rest in
+    let texts = ap (λ (d : Draft). d.texts) b.rest ∙ ap (λ (d : Draft). d.texts) a.rest in
+    let cells_then = ap (λ (d : Draft). d.cells) k.rest in
+    let scopes_then = ap (λ (d : Draft). d.scopes) k.rest in
+    let texts_then = ap (λ (d : Draft). d.texts) k.rest in
+    (search rules, (c.requires.other_built, (omega (arith, ar, br, hr, kr), (omega (arith, cells, hc, cells_then), (omega (arith, scopes, hs, scopes_then), omega (arith, texts, ht, texts_then))))))
+
+pub lower_if-returns : goal.lower_if-returns
+lower_if-returns t c =
+    arm_choice c.args.names.now c.args.line c.args.test.now c.args.chosen.now _ _ _ _ _ _ _ _ _ _ c.in_ok-_told.ensures.code c.here-choose.ensures.count c.in_ok-put.ensures c.in_ok-lower_alone.ensures c.here-leave.ensures.count c.in_ok-put-2.ensures c.in_ok-lower_maybe.ensures c.close_fork.ensures
+
+pub lower_loop-lower_alone-requires : goal.lower_loop-lower_alone-requires
+lower_loop-lower_alone-requires t c =
+    let a = c.in_ok-begin_loop.ensures in
+    let ar = a.room in
+    let cells = ap (λ (d : Draft). d.cells) c.in_ok-enter.ensures.ok ∙ ap (λ (d : Draft). d.cells) a.rest in
+    let scopes = ap (λ (d : Draft). d.scopes) c.in_ok-enter.ensures.ok ∙ ap (λ (d : Draft). d.scopes) a.rest in
+    let texts = ap (λ (d : Draft). d.texts) c.in_ok-enter.ensures.ok ∙ ap (λ (d : Draft). d.texts) a.rest in
+    let ops = ap (λ (d : Draft). length d.ops) c.in_ok-enter.ensures.ok in
+    (search rules, (c.requires.built, (omega (arith, ar, ops), (omega (arith, cells), (omega (arith, scopes), omega (arith, texts))))))
+
+pub lower_loop-returns : goal.lower_loop-returns
+lower_loop-returns t c =
+    arm_turns c.args.names.now c.args.line c.args.turning c.args.step.now c.args.body.now _ _ _ _ _ _ _ _ _ _ _ c.in_ok-begin_loop.ensures c.here-start.ensures.count c.in_ok-enter.ensures.ok c.in_ok-lower_alone.ensures c.leave.ensures c.here-step_at.ensures.count c.in_ok-lower_step.ensures c.here-test_at.ensures.count c.in_ok-lower_back.ensures c.end_loop.ensures
+
+pub lower_for-lower_loop-requires : goal.lower_for-lower_loop-requires
+lower_for-lower_loop-requires t c =
+    let h = c.in_ok-lower_start.ensures in
+    let hr = h.room in
+    let hc = h.cells in
+    let hs = h.opened in
+    let ht = h.texts in
+    let ops = ap (λ (d : Draft). length d.ops) c.open_scope-outside.ensures.opened in
+    let cells = ap (λ (d : Draft). d.cells) c.open_scope-outside.ensures.opened in
+    let scopes = ap (λ (d : Draft). d.scopes) c.open_scope-outside.ensures.opened in
+    let texts = ap (λ (d : Draft). d.texts) c.open_scope-outside.ensures.opened in
+    let size = c.turning_of.ensures.size in
+    (search rules, (c.requires.built, (omega (arith, hr, ops, size), (omega (arith, hc, cells), (omega (arith, hs, scopes), omega (arith, ht, texts))))))
+
+pub lower_for-returns : goal.lower_for-returns
+lower_for-returns t c =
+    arm_for c.args.names.now c.args.line c.args.start.now c.args.test.now c.args.step.now c.args.body.now c.turning_of.result _ _ _ _ _ _ c.open_scope-outside.ensures.outside c.open_scope-outside.ensures.opened c.in_ok-lower_start.ensures (c.turning_of.ensures.order c.args.names.now) (c.turning_of.ensures.test c.args.names.now) c.turning_of.ensures.size c.in_ok-lower_loop.ensures c.leave_scope.ensures
+
+pub lower_maybe-returns-in-None : goal.lower_maybe-returns-in-None
+lower_maybe-returns-in-None t c = arm_no_other c.args.names.now _ _ (ap maybe_at c.in-None.is)
+
+pub lower_maybe-lower_alone-requires : goal.lower_maybe-lower_alone-requires
+lower_maybe-lower_alone-requires t c =
+    let e : maybe_at c.args.other.now ≡ OneStmt c.deref.result.now = ap maybe_at c.in-Some.is ∙ ap OneStmt (sym c.deref.ensures) in
+    let size = ap maybe_stmt_size e in
+    let cells = ap (λ m. maybe_cells m (declared_cells c.args.names.now)) e in
+    let scopes = ap maybe_scopes e in
+    let r = c.requires.room in
+    let k = c.requires.cells in
+    let q = c.requires.scopes in
+    let w = c.requires.texts in
+    (search rules, (ap is_built_maybe (sym e) ∙ c.requires.built, (omega (arith, size, r), (omega (arith, cells, k), (omega (arith, scopes, q), omega (arith, size, w))))))
+
+pub lower_stmt-lower_if-requires : goal.lower_stmt-lower_if-requires
+lower_stmt-lower_if-requires t c =
+    let is : If c.s.inside.pos c.in-If.test _ _ ≡ c.args.s.now = stmt_is _ _ _ _ c.in-If.is c.s.view_is in
+    let d = c.deref-in-If.ensures in
+    let b = and_parts _ _ (ap is_built_stmt is ∙ c.requires.built) in
+    let size = ap stmt_size is in
+    let size_chosen = ap stmt_size d in
+    let cells = ap (λ s. stmt_cells s (declared_cells c.args.names.now)) is in
+    let cells_chosen = ap (λ s. stmt_cells s (declared_cells c.args.names.now)) d in
+    let scopes = ap stmt_scopes is in
+    let scopes_chosen = ap stmt_scopes d in
+    let alone_chosen = ap alone_scopes d in
+    let r = c.requires.room in
+    let k = c.requires.cells in
+    let q = c.requires.scopes in
+    let w = c.requires.texts in
+    (search rules, (ap is_built_stmt d ∙ b.0, (b.1, (omega (arith, size, size_chosen, r), (omega (arith, cells, cells_chosen, k), (omega (arith, scopes, scopes_chosen, alone_chosen, q), omega (arith, size, size_chosen, w)))))))
+
+pub lower_alone-returns-in_ok-lower_stmt : goal.lower_alone-returns-in_ok-lower_stmt
+lower_alone-returns-in_ok-lower_stmt t c =
+    arm_alone_scoped c.args.names.now c.args.s.now _ c.args.out.now _ _ _ (ap is_declaration (sym c.s.view_is) ∙ sym (c.is_declaration.ensures c.s.inside.pos) ∙ c.if-is_declaration.true) c.open_scope-outside.ensures.outside c.open_scope-outside.ensures.opened c.in_ok-lower_stmt.ensures c.leave_scope.ensures

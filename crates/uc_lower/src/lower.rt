@@ -1,0 +1,133 @@
+// The code of a program.
+
+ghost use Rattle.std.specs.Prelude.{◌≡◌, ◌*◌, ◌≤◌, ◌<◌, [], ◌∷◌, length, map, IfErr, IfOk, MatchOption};
+ghost use Rattle.uc_tree.specs.declared.limits.TheConstants.{OPS_FOR_SIZE};
+ghost use Rattle.uc_tree.specs.Numbering.{routines_of};
+ghost use Rattle.uc_tree.specs.Resolve.{source_of};
+ghost use Rattle.uc_tree.specs.Sizes.{program_size};
+ghost use Rattle.uc_meaning.specs.BuiltForms.{IsBuilt};
+ghost use Rattle.uc_code.specs.Pace.{IsPaced};
+ghost use Rattle.uc_code.specs.Lowered.{Lowered};
+ghost use Rattle.uc_numbers.specs.Routines.{defined_at};
+ghost use Rattle.uc_lower.specs.Refusing.{Fits, FitsAll, IsFirstLarge, Refuses};
+
+use crate::program_main::number_of_main;
+use crate::routines::{lower_routines, no_code, routines_in};
+use std::alloc::{AllocError, Global};
+use uc_code::code::Code;
+use uc_code::draft::Draft;
+use uc_lower_expr::program_names::ProgramNames;
+use uc_numbers::routines::{Defined, routines_of};
+use uc_numbers::sites::sites_of;
+use uc_numbers::texts::texts_of;
+use uc_program_size::program::size_of_program;
+use uc_sizes::frames::cells_of_routine;
+use uc_sizes::sizes::Sizes;
+use uc_tree::limits::{FRAME_CELLS, PROGRAM_SIZE};
+use uc_tree::program::Program;
+
+/// Why a program is not lowered: the frame of this routine, the first such, has too many cells; the program counts too much; or
+/// memory is wanting. The greatest number stands for all that are greater.
+#[derive(Clone, Copy, PartialEq, Eq, Debug)]
+pub enum LowerFault {
+    FrameTooLarge { routine: u32, cells: u64 },
+    CodeTooLarge { size: u64 },
+    NoMemory,
+}
+
+// The first routine with too large a frame.
+fn large_frame(sizes: &Sizes, defined: &[Defined], count: u32) -> Option<LowerFault>
+    requires defined { map defined_at defined.now ≡ routines_of sizes.now }
+    requires count { count ≡ length defined.now }
+    ensures { MatchOption result (FitsAll sizes.now) (λ fault. Refuses sizes.now fault) }
+{
+    for number in 0..count {
+        let cells = cells_of_routine(sizes, defined[number as usize].routine);
+        if cells > FRAME_CELLS {
+            return Some(LowerFault::FrameTooLarge {
+                routine: number,
+                cells,
+            });
+        }
+    }
+    None
+}
+
+// The code of a program that fits.
+fn lower_fit(
+    alloc: Global,
+    program: &Program,
+    sizes: &Sizes,
+    defined: &[Defined],
+    count: u32,
+) -> Result<Code, AllocError>
+    requires built { IsBuilt program.now }
+    requires fits { Fits program.now }
+    requires sizes { sizes.now ≡ program.now }
+    requires defined { map defined_at defined.now ≡ routines_of program.now }
+    requires count { count ≡ length defined.now }
+    ensures lowered { IfOk result (λ code. Lowered (source_of program.now) code) }
+    ensures paced { IfOk result (λ code. IsPaced code.ops code.routines) }
+    ensures few { IfOk result (λ code. length code.ops ≤ OPS_FOR_SIZE * program_size program.now) }
+{
+    let routines = routines_in(alloc, defined)?;
+    let names = ProgramNames::new(alloc, sizes, routines)?;
+    let mut out = Draft::new(alloc, no_code(alloc, count)?);
+    let main = number_of_main(&program.items);
+    lower_routines(alloc, &names, defined, main, count, &mut out)?;
+    let sites = sites_of(alloc, program)?;
+    let texts = texts_of(alloc, program)?;
+    let mut classes = Vec::new(alloc);
+    classes.push(0)?;
+    Ok(out.finish(sites, texts, classes))
+}
+
+fn lower_defined(
+    alloc: Global,
+    program: &Program,
+    sizes: &Sizes,
+    defined: &[Defined],
+    count: u32,
+) -> Result<Code, LowerFault>
+    requires built { IsBuilt program.now }
+    requires sizes { sizes.now ≡ program.now }
+    requires defined { map defined_at defined.now ≡ routines_of program.now }
+    requires count { count ≡ length defined.now }
+    ensures lowered { IfOk result (λ code. Lowered (source_of program.now) code) }
+    ensures paced { IfOk result (λ code. IsPaced code.ops code.routines) }
+    ensures few { IfOk result (λ code. length code.ops ≤ OPS_FOR_SIZE * program_size program.now) }
+    ensures fits { IfOk result (λ code. Fits program.now) }
+    ensures refused { IfErr result (λ fault. Refuses program.now fault) }
+{
+    if let Some(fault) = large_frame(sizes, defined, count) {
+        return Err(fault);
+    }
+    let size = size_of_program(program);
+    if size > PROGRAM_SIZE {
+        return Err(LowerFault::CodeTooLarge { size });
+    }
+    match lower_fit(alloc, program, sizes, defined, count) {
+        Ok(code) => Ok(code),
+        Err(_) => Err(LowerFault::NoMemory),
+    }
+}
+
+/// The code of a program whose forms are built, of which these are the sizes. Its frames are tested first, then its size. The
+/// code has at most `OPS_FOR_SIZE` ops for each unit of the program's size.
+pub fn lower(alloc: Global, program: &Program, sizes: &Sizes) -> Result<Code, LowerFault>
+    requires built { IsBuilt program.now }
+    requires sizes { sizes.now ≡ program.now }
+    ensures lowered { IfOk result (λ code. Lowered (source_of program.now) code) }
+    ensures paced { IfOk result (λ code. IsPaced code.ops code.routines) }
+    ensures few { IfOk result (λ code. length code.ops ≤ OPS_FOR_SIZE * program_size program.now) }
+    ensures fits { IfOk result (λ code. Fits program.now) }
+    ensures refused { IfErr result (λ fault. Refuses program.now fault) }
+{
+    match routines_of(alloc, program) {
+        Ok(defined) => match u32::try_from(defined.len()) {
+            Ok(count) => lower_defined(alloc, program, sizes, &defined, count),
+            Err(_) => Err(LowerFault::NoMemory),
+        },
+        Err(_) => Err(LowerFault::NoMemory),
+    }
+}

@@ -1,0 +1,106 @@
+-- What lowering control does to a draft.
+use Rattle.std.specs.Prelude.{◌≡◌, ℕ, ◌+◌, ◌*◌, pos, List, Bool, true, false, Option, length}
+use Rattle.uc_tree.specs.declared.limits.TheConstants.{OPS_FOR_SIZE}
+use Rattle.uc_tree.specs.Expressions as tree
+use Rattle.uc_tree.specs.ExpressionSizes.{expr_size}
+use Rattle.uc_tree.specs.Statements.{ForStart, Stmt, Declare, MaybeStmt, NoStmt, OneStmt}
+use Rattle.uc_tree.specs.StatementSizes.{for_start_size, maybe_expr_size, maybe_stmt_size, stmt_size}
+use Rattle.uc_tree.specs.Scopes.{alone_scopes, stmt_scopes, maybe_scopes}
+use Rattle.uc_tree.specs.Cells.{declared_cells, for_cells, stmt_cells, maybe_cells}
+use Rattle.uc_tree.specs.Programs.{Program}
+use Rattle.uc_tree.specs.Source as source
+use Rattle.uc_tree.specs.Source.{Way, Order, TestFirst, BodyFirst, NoTest, Expr, Literal}
+use Rattle.uc_tree.specs.Resolve.{Scope, context_at, value_in_scope, stmt_meant, maybe_meant, scope_past, return_meant, start_of, for_scope, order_of, test_of, step_of}
+use Rattle.uc_code.specs.declared.op.Op.TheVariants as op
+use Rattle.uc_code.specs.declared.rows.Mark.{Mark}
+use Rattle.uc_code.specs.Drafts.{Draft, patched}
+use Rattle.uc_code.specs.Laid.{Laid}
+use Rattle.uc_code.specs.Ranges.{One, Both, begin_at, BackAt}
+use Rattle.uc_code.specs.Lowered.{ExprAt, StepAt, ExitAt, StmtAt}
+use Rattle.uc_lower_stmt.specs.declared.turning.Turning.{Turning}
+use Rattle.uc_lower_stmt.specs.declared.turning.Turning.TheVariants as turning
+use Rattle.uc_lower_stmt.specs.Scoped.{Lowers, scope_of}
+
+-- how a loop turns, by what, and how large that is
+
+abbrev pub turning_order : Turning → Order
+turning_order (turning.TestFirst e) = TestFirst
+turning_order (turning.BodyFirst e) = BodyFirst
+turning_order turning.NoTest = NoTest
+
+abbrev pub turning_test : Program → Scope → Turning → Expr
+turning_test p s (turning.TestFirst e) = value_in_scope (context_at p s) e.now
+turning_test p s (turning.BodyFirst e) = value_in_scope (context_at p s) e.now
+turning_test p s turning.NoTest = Literal (pos 1)
+
+abbrev pub turning_size : Turning → ℕ
+turning_size (turning.TestFirst e) = expr_size e.now
+turning_size (turning.BodyFirst e) = expr_size e.now
+turning_size turning.NoTest = 0
+
+-- the code of parts of statements
+
+abbrev pub BeginCode : ℕ → Laid → ℕ → ℕ → Type 0
+BeginCode line code = Both (One code (op.Jump 0) line) (Both (One code (op.Jump 0) line) (Both (One code (op.Jump 0) line) (One code op.Tick line)))
+
+abbrev pub StepCode : Program → ℕ → List Mark → Scope → Option tree.Expr → Laid → ℕ → ℕ → Type 0
+StepCode p line ms s step code = StepAt code line ms (step_of p s step)
+
+abbrev pub BackCode : Program → ℕ → List Mark → Scope → Turning → ℕ → Laid → ℕ → ℕ → Type 0
+BackCode p line ms s t turn code = BackAt code (turning_order t) (ExprAt code line ms (turning_test p s t)) turn line
+
+abbrev pub ExitCode : Way → List Mark → Laid → ℕ → ℕ → Type 0
+ExitCode w ms code = ExitAt code w ms
+
+abbrev pub ReturnCode : Program → ℕ → List Mark → Scope → Option tree.Expr → Laid → ℕ → ℕ → Type 0
+ReturnCode p line ms s value code = StmtAt code ms (source.Return line (return_meant p s value))
+
+-- the jump and the pads of a loop that begins at start
+abbrev pub EndsLoop : Order → ℕ → ℕ → ℕ → Draft → Draft → Type 0
+EndsLoop order start step_at test_at old new = new ≡ record old { ops = patched (patched (patched old.ops start (op.Jump (begin_at order (start + 3) test_at))) (start + 1) (op.Jump (length old.ops))) (start + 2) (op.Jump step_at) }
+
+abbrev pub is_declaration : Stmt → Bool
+is_declaration (Declare place b ds) = true
+is_declaration _ = false
+
+-- a statement that is itself that of another, of which no name is left; one that may be missing
+
+abbrev pub LowersAlone : Program → Stmt → Draft → Draft → Type 0
+LowersAlone p s old new = Lowers (OPS_FOR_SIZE * stmt_size s) (stmt_size s) (stmt_cells s (declared_cells p)) (alone_scopes s + stmt_scopes s) (λ code. StmtAt code old.marks (stmt_meant p s (scope_of old))) (scope_past p s (scope_of old)) old new
+
+abbrev pub maybe_past : Program → MaybeStmt → Scope → Scope
+maybe_past p NoStmt s = s
+maybe_past p (OneStmt body) s = scope_past p body s
+
+abbrev pub LowersMaybe : Program → MaybeStmt → Draft → Draft → Type 0
+LowersMaybe p m old new = Lowers (OPS_FOR_SIZE * maybe_stmt_size m) (maybe_stmt_size m) (maybe_cells m (declared_cells p)) (maybe_scopes m) (λ code. StmtAt code old.marks (maybe_meant p m (scope_of old))) (maybe_past p m (scope_of old)) old new
+
+-- a choice, a loop, a `for`
+
+abbrev pub LowersIf : Program → ℕ → tree.Expr → Stmt → MaybeStmt → Draft → Draft → Type 0
+LowersIf p line test chosen other old new =
+    Lowers (OPS_FOR_SIZE * (1 + expr_size test + stmt_size chosen + maybe_stmt_size other)) (stmt_size chosen + maybe_stmt_size other) (stmt_cells chosen (declared_cells p) + maybe_cells other (declared_cells p)) (alone_scopes chosen + stmt_scopes chosen + maybe_scopes other)
+    (λ code. StmtAt code old.marks (source.If line (value_in_scope (context_at p (scope_of old)) test) (stmt_meant p chosen (scope_of old)) (maybe_meant p other (scope_past p chosen (scope_of old)))))
+    (maybe_past p other (scope_past p chosen (scope_of old))) old new
+
+abbrev pub loop_meant : Program → ℕ → Order → Expr → Option tree.Expr → Stmt → Scope → source.Stmt
+loop_meant p line order test step body s = source.Loop line order test (step_of p s step) (stmt_meant p body s)
+
+abbrev pub LowersLoop : Program → ℕ → Turning → Option tree.Expr → Stmt → Draft → Draft → Type 0
+LowersLoop p line t step body old new =
+    Lowers (OPS_FOR_SIZE * (1 + turning_size t + maybe_expr_size step + stmt_size body)) (stmt_size body) (stmt_cells body (declared_cells p)) (alone_scopes body + stmt_scopes body)
+    (λ code. StmtAt code old.marks (loop_meant p line (turning_order t) (turning_test p (scope_of old) t) step body (scope_of old)))
+    (scope_past p body (scope_of old)) old new
+
+abbrev pub LowersStart : Program → ℕ → ForStart → Draft → Draft → Type 0
+LowersStart p line start old new =
+    Lowers (OPS_FOR_SIZE * for_start_size start) 0 (for_cells start (declared_cells p)) 0 (λ code. StmtAt code old.marks (start_of p line start (scope_of old))) (for_scope p start (scope_of old)) old new
+
+abbrev pub for_past : Program → ForStart → Stmt → Scope → Scope
+for_past p start body s = record (scope_past p body (for_scope p start s)) { names = s.names }
+
+abbrev pub LowersFor : Program → ℕ → ForStart → Option tree.Expr → Option tree.Expr → Stmt → Draft → Draft → Type 0
+LowersFor p line start test step body old new =
+    Lowers (OPS_FOR_SIZE * (1 + for_start_size start + maybe_expr_size test + maybe_expr_size step + stmt_size body)) (stmt_size body) (for_cells start (declared_cells p) + stmt_cells body (declared_cells p)) (1 + alone_scopes body + stmt_scopes body)
+    (λ code. Both (StmtAt code old.marks (start_of p line start (scope_of old))) (StmtAt code old.marks (loop_meant p line (order_of p test) (test_of p (for_scope p start (scope_of old)) test) step body (for_scope p start (scope_of old)))))
+    (for_past p start body (scope_of old)) old new
