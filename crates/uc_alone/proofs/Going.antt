@@ -1,43 +1,74 @@
 -- A prefix of a run from which its one task goes on, and what each of its requests makes of it.
-use Rattle.std.proofs.Common.{◌≡◌, ℕ, ◌+◌, ◌-◌, ◌≤◌, ◌<◌, Bool, true, false, cond, ◌||◌, List, [], ◌∷◌, ◌++◌, Some, refl, sym, ap, ◌∙◌, subst, arith, length, lit<}
+use Rattle.std.proofs.Common.{cond, ◌≡◌, ℕ, ◌-◌, List, [], ◌∷◌, ◌++◌, Some, None, refl, sym, ap, ◌∙◌, subst, arith}
+use Rattle.std.specs.Prelude.{false}
 use Rattle.std.specs.List.{Contains}
-use Rattle.std.proofs.lemmas.Bool.{le-leb, lt-leb}
-use Rattle.std.proofs.lemmas.List.Folds.{list_any-append}
 use Rattle.uc_tree.specs.Source.{Source}
 use Rattle.uc_meaning.specs.declared.entry.Entry.{Entry}
+use Rattle.uc_meaning.specs.declared.entry.Options.{Options}
 use Rattle.uc_meaning.specs.declared.request.Answer.{Answer}
 use Rattle.uc_meaning.specs.declared.request.Answer.TheVariants as answer
 use Rattle.uc_meaning.specs.declared.request.Asked.{Asked}
-use Rattle.uc_meaning.specs.declared.request.Request.{Request}
 use Rattle.uc_meaning.specs.Executions.{find}
-use Rattle.uc_meaning.specs.Journal.{Journal, begin, is_over, is_ending, held, first_or_0}
-use Rattle.uc_meaning.specs.Queues.{ready, running, processors, open_processors}
-use Rattle.uc_meaning.specs.Quiet.{State, Members}
+use Rattle.uc_meaning.specs.Journal.{Journal, begin, is_over, held, first_or_0}
+use Rattle.uc_meaning.specs.Queues.{ready, running}
+use Rattle.uc_meaning.specs.Known.{takes_out}
+use Rattle.uc_meaning.specs.Answers.{answer_to}
+use Rattle.uc_meaning.specs.Acts.{dispatch}
+use Rattle.uc_meaning.specs.Quiet.{State, Members, no_members}
 use Rattle.uc_meaning.specs.Rides.{Rides}
 use Rattle.uc_meaning.specs.Serves.{Serves, left}
-use Rattle.uc_meaning.specs.Runs.{World, Runs, begun, more, acts, gives, IsRun, drawn, first_world, hand_of, with_hand, world_after, asking, answer_of, answered, or_else}
-use Rattle.uc_alone.specs.Alone.{alone_options, opening, AllUnseen, limited, Going, start}
-use Rattle.uc_alone.specs.Kept.{Makes, Acts}
-use Rattle.uc_alone.proofs.Facts.{facts_opening, facts_more, silent_act}
-use Rattle.uc_alone.proofs.Hands.{inside_of, ride_keeps, keys}
+use Rattle.uc_meaning.specs.KernelRuns.{InRange}
+use Rattle.uc_meaning.specs.Runs.{World, Runs, begun, more, acts, gives, no_room, drawn, first_world, hand_of, with_home, with_hand, bare, world_after, answered, or_else}
+use Rattle.uc_alone.specs.declared.tally.Tally.{Tally}
+use Rattle.uc_alone.specs.Alone.{opening, limited, HasOwn, Ready, Tells, Told, Going, start}
+use Rattle.uc_alone.specs.Kept.{Makes, Kept, goes, given, full, over, odd}
+use Rattle.uc_alone.specs.Run.{IsRunOf}
+use Rattle.uc_alone.proofs.Acts.{first_processor, ended_over, running_opening}
+use Rattle.uc_alone.proofs.Hands.{inside_of, ride_keeps, ride_few, keys}
 
-opened : (n : ℕ) → Contains (open_processors (alone_options n) (begin (alone_options n) ∷ [])) (0, 0)
-unfolding open_processors processors
-opened n = (0, lit< tt, refl)
+first_of : (x : ℕ × ℕ) (xs : List (ℕ × ℕ)) → Contains (x ∷ xs) x
+first_of x xs = (0, omega arith, refl)
 
-first_dispatch : (n : ℕ) → Serves (alone_options n) (begin (alone_options n) ∷ []) 0 0
+-- processor 0 may be given the task that is ready
+serves : (opts : Options) → opts.processors ≡ 1 → (j : Journal) → Ready j → Serves opts j 0 0
+serves opts alone j f =
+    let p = first_processor opts alone j f.alone.opened in
+    record {
+      cluster = 0;
+      later = [];
+      opened = subst (λ l. Contains l (0, 0)) (sym p.1) (first_of (0, 0) p.0);
+      free = f.free;
+      queued = f.ready;
+    }
+
+first_dispatch : (opts : Options) → opts.processors ≡ 1 → Serves opts (begin opts ∷ []) 0 0
 unfolding ready running
-first_dispatch n = record { cluster = 0; later = []; opened = opened n; free = refl; queued = refl }
+first_dispatch opts alone =
+    let p = first_processor opts alone (begin opts ∷ []) refl in
+    record {
+      cluster = 0;
+      later = [];
+      opened = subst (λ l. Contains l (0, 0)) (sym p.1) (first_of (0, 0) p.0);
+      free = refl;
+      queued = refl;
+    }
 
-pub going_first : (source : Source) (input : List ℕ) (n : ℕ) → 64 ≤ n → Going source input n (opening n) (start source)
+first_told : (opts : Options) → Told (opening opts) answer.Go
+unfolding answer_to
+first_told opts sites = refl
+
+pub going_first : (source : Source) (input : List ℕ) (opts : Options) → InRange opts → opts.processors ≡ 1 → Going source input opts (opening opts) answer.Go (start source)
 unfolding is_over held
-going_first source input n h =
-    let b : Runs source input (alone_options n) (begin (alone_options n) ∷ []) (first_world source) = begun in
+going_first source input opts range alone =
+    let b : Runs source input opts (begin opts ∷ []) (first_world source) = begun in
+    let le = range.entries_min in
     record {
       world = first_world source;
-      runs = more b refl (gives 0 0 (first_dispatch n) (omega arith));
-      facts = facts_opening n;
+      runs = more b refl (gives 0 0 (first_dispatch opts alone) (omega arith));
+      running = running_opening opts;
+      told = first_told opts;
       is_drawn = refl;
+      own = record { members = no_members; hand = refl };
     }
 
 -- one object in hand
@@ -46,63 +77,75 @@ one_of [] e = absurd (cc e)
 one_of (h ∷ []) e = (h.1, ap (λ k. (k, h.1) ∷ []) (ap first_or_0 e))
 one_of (h ∷ (i ∷ hs)) e = absurd (cc e)
 
-keys_of : (os : List ℕ) (w : World) → keys (hand_of os w) ≡ os
-keys_of [] w = refl
-keys_of (o ∷ os) w = ap (λ ks. o ∷ ks) (keys_of os w)
+-- an answer leaves the hand of a task without objects
+answered_hand : (x : Answer) (s : State) → inside_of (answered x s) ≡ inside_of s
+answered_hand answer.Go s = refl
+answered_hand (answer.Object o) s = refl
+answered_hand (answer.Number n) s = refl
+answered_hand (answer.Clause c) s = refl
+answered_hand (answer.Event e x y) s = refl
+answered_hand answer.Nothing s = refl
+answered_hand (answer.Value v f) s = refl
 
-back_in_hand : (x : Answer) (u : State) (h : List (ℕ × Members)) → with_hand h (answered x (with_hand [] u)) ≡ answered x (with_hand h u)
-back_in_hand answer.Go u h = refl
-back_in_hand (answer.Object o) u h = refl
-back_in_hand (answer.Number n) u h = refl
-back_in_hand (answer.Clause c) u h = refl
-back_in_hand (answer.Event e x y) u h = refl
-back_in_hand answer.Nothing u h = refl
-back_in_hand (answer.Value v f) u h = refl
+-- the state that a ride reached is drawn again
+drawn_again : (source : Source) (j : Journal) (a : List Entry) (w : World) (u : State) (m : Members) → held 0 j ≡ 0 ∷ [] → takes_out a 0 ≡ false → u.env.hand ≡ (0, m) ∷ [] → drawn j (world_after source a w 0 u) 0 ≡ u
+drawn_again source j a w u m h t k =
+    let w' = world_after source a w 0 u in
+    let home : w'.homes 0 ≡ Some m = ap (λ b. cond b None (or_else (find 0 u.env.hand) (w.homes 0))) t ∙ ap (λ hs. or_else (find 0 hs) (w.homes 0)) k in
+    ap (λ os. with_hand (hand_of os w'.homes) (bare u)) h ∙ ap (λ o. with_hand (with_home 0 o []) (bare u)) home ∙ ap (λ hs. with_hand hs u) (sym k)
 
-or_true : (b : Bool) → (b || true) ≡ true
-or_true true = refl
-or_true false = refl
+module _ {source : Source} {input : List ℕ} {opts : Options} {j : Journal} {x : Answer} {s u : State} {ticks : ℕ} {asked : Asked} {tally : Tally} (alone : opts.processors ≡ 1) (g : Going source input opts j x s) (t : Tells j tally) (r : Rides source (answered x s) (opts.slice - tally.since) u ticks asked) where
+  hand_then : HasOwn u
+  hand_then =
+      let one = one_of u.env.hand (ride_keeps r ∙ answered_hand x s ∙ ap keys g.own.hand) in record { members = one.0; hand = one.1 }
 
--- the answer of an act that goes on, taken up again in the next ride
-drawn_again : (j a : Journal) (w : World) (u : State) (r : Request) (x : Answer) (m : Members) → held 0 (j ++ a) ≡ 0 ∷ [] → answer_of r a ≡ Some x → u.env.hand ≡ (0, m) ∷ [] → drawn (j ++ a) (world_after a w 0 u r) 0 ≡ answered x u
-drawn_again j a w u r x m h e k =
-    let w' = world_after a w 0 u r in
-    ap (λ os. with_hand (hand_of os w') (w'.tasks 0).state) h ∙ ap (λ o. with_hand ((0, w'.objects 0) ∷ []) (asking r o (with_hand [] u)).state) e ∙ back_in_hand x u ((0, w'.objects 0) ∷ []) ∙ ap (λ hs. answered x (with_hand ((0, or_else (find 0 hs) (w.objects 0)) ∷ []) u)) k ∙ ap (λ hs. answered x (with_hand hs u)) (sym k)
-
-module _ {source : Source} {input : List ℕ} {n : ℕ} {j : Journal} {s u : State} {asked : Asked} (g : Going source input n j s) (r : Rides source s 1000 u 0 asked) where
-  inside_here : inside_of s ≡ 0 ∷ []
-  inside_here = ap inside_of (sym g.is_drawn) ∙ keys_of (held 0 j) g.world ∙ g.facts.inside
-
-  hand_then : (m : Members) × (u.env.hand ≡ (0, m) ∷ [])
-  hand_then = one_of u.env.hand (ride_keeps r ∙ inside_here)
-
-  rides : Rides source (drawn j g.world 0) (left (alone_options n) j 0) u 0 asked
+  rides : Rides source (answered x (drawn j g.world 0)) (left opts j 0) u ticks asked
   rides =
-      subst (λ q. Rides source (drawn j g.world 0) q u 0 asked) (sym (ap (λ k. 1000 - k) g.facts.ticks)) (subst (λ t. Rides source t 1000 u 0 asked) (sym g.is_drawn) r)
+      subst (λ q. Rides source (answered x (drawn j g.world 0)) q u ticks asked) (sym (ap (λ k. opts.slice - k) t.since)) (subst (λ z. Rides source (answered x z) (opts.slice - tally.since) u ticks asked) (sym g.is_drawn) r)
 
-  one_act : (a : List Entry) → Acts n input j asked a → Runs source input (alone_options n) (j ++ a) (world_after a g.world 0 u asked.request)
+  one_act : (a : List Entry) → Makes opts input j ticks asked a → Runs source input opts (j ++ a) (world_after source a g.world 0 u)
   one_act a e =
-      subst (λ x. Runs source input (alone_options n) (j ++ x) (world_after x g.world 0 u asked.request)) (e source.sites) (more g.runs g.facts.going (acts 0 0 0 u asked (record { runs = g.facts.runs; rides = rides })))
+      subst (λ y. Runs source input opts (j ++ y) (world_after source y g.world 0 u)) (e source.sites) (more g.runs g.running.alone.going (acts 0 0 ticks u asked (record { given = x; runs = g.running.runs; told = g.told source.sites; rides = rides })))
 
-  -- an act without an ending, which is answered
-  pub goes_on : (es : List Entry) (x : Answer) → Makes n input j asked es → AllUnseen es → answer_of asked.request es ≡ Some x → length j + length es + 1 ≤ n → Going source input n (j ++ es) (answered x u)
-  goes_on es x e h k room =
-      let f = facts_more es j h g.facts in
-      record {
-        world = world_after es g.world 0 u asked.request;
-        runs = one_act es (λ sites. silent_act n input j asked es e h g.facts sites ∙ ap (λ b. cond b es limited) (le-leb _ _ room));
-        facts = f;
-        is_drawn = drawn_again j es g.world u asked.request x hand_then.0 f.inside k hand_then.1;
-      }
+  moved : (a : List Entry) (k l : Journal) → k ≡ l → Runs source input opts k (world_after source a g.world 0 u) → Runs source input opts l (world_after source a g.world 0 u)
+  moved a k l e q = subst (λ y. Runs source input opts y (world_after source a g.world 0 u)) e q
 
-  -- an act that ends the run
-  pub ends : (a : List Entry) → Acts n input j asked a → is_over (j ++ a) ≡ true → IsRun source input (alone_options n) (j ++ a)
-  ends a e o = record { prefix = record { world = world_after a g.world 0 u asked.request; runs = one_act a e }; over = o }
+  -- a request behind which the task goes on
+  pub goes_then : (new : Journal) (y : Answer) → Kept opts input j ticks asked new (Some y) → Going source input opts new y u
+  goes_then new y (goes a _ i m o e f told) = record {
+    world = world_after source a g.world 0 u;
+    runs = moved a (j ++ a) new (sym e) (one_act a m);
+    running = f;
+    told = told;
+    is_drawn = drawn_again source new a g.world u hand_then.members f.alone.inside o hand_then.hand;
+    own = hand_then;
+  }
+  goes_then new y (given a mid _ i m o e f told room n h told_then) = record {
+    world = world_after source a g.world 0 u;
+    runs = moved a (mid ++ dispatch 0 0 ∷ []) new (sym n) (more (moved a (j ++ a) mid (sym e) (one_act a m)) f.alone.going (gives 0 0 (serves opts alone mid f) room));
+    running = h;
+    told = told_then;
+    is_drawn = drawn_again source new a g.world u hand_then.members h.alone.inside o hand_then.hand;
+    own = hand_then;
+  }
 
-  over_limited : is_over (j ++ limited) ≡ true
-  unfolding is_over
-  over_limited = list_any-append (λ e. is_ending e.kind) j limited ∙ or_true _
-
-  -- an act that would leave no room
-  pub stops : (es : List Entry) → Makes n input j asked es → AllUnseen es → n < length j + length es + 1 → IsRun source input (alone_options n) (j ++ limited)
-  stops es e h full = ends limited (λ sites. silent_act n input j asked es e h g.facts sites ∙ ap (λ b. cond b es limited) (lt-leb _ _ full)) over_limited
+  -- a request that ends the run
+  pub ends_then : (new : Journal) → Kept opts input j ticks asked new None → IsRunOf source input opts new
+  ends_then new (full a mid m e f less n d) = record {
+    run = record {
+      prefix = record {
+        world = world_after source a g.world 0 u;
+        runs = moved a (mid ++ limited) new (sym n) (more (moved a (j ++ a) mid (sym e) (one_act a m)) f.alone.going (no_room 0 0 (serves opts alone mid f) less));
+      };
+      over = ended_over new d;
+    };
+    ended = d;
+  }
+  ends_then new (over a m e d) = record {
+    run = record {
+      prefix = record { world = world_after source a g.world 0 u; runs = moved a (j ++ a) new (sym e) (one_act a m) };
+      over = ended_over new d;
+    };
+    ended = d;
+  }
+  ends_then new (odd e) = absurd (cc (e, ride_few r))

@@ -1,6 +1,6 @@
--- A ride keeps the objects that its task is inside.
+-- A ride keeps the objects that its task is inside, and asks one of few requests.
 use Rattle.std.proofs.Common.{◌≡◌, ℕ, Bool, true, false, cond, List, [], ◌∷◌, Option, Some, None, refl, sym, ap, ◌∙◌, subst, map}
-use Rattle.std.specs.Prelude.{nat_eq}
+use Rattle.std.specs.Prelude.{nat_eq, nat_lt, slice_get}
 use Rattle.std.proofs.lemmas.Bool.{eqb-true}
 use Rattle.uc_meaning.specs.declared.exec.Exec.{Exec}
 use Rattle.uc_meaning.specs.declared.exec.Home.{Home}
@@ -9,11 +9,13 @@ use Rattle.uc_meaning.specs.declared.exec.Owner.{Owner}
 use Rattle.uc_meaning.specs.declared.exec.Owner.TheVariants.{Frame, Fields}
 use Rattle.uc_meaning.specs.declared.request.Asked.{Asked}
 use Rattle.uc_meaning.specs.declared.request.Piece.{Piece}
-use Rattle.uc_tree.specs.Source.{Shape, Expr, Literal, Variable, Element, Load, Negated, Not, AsCharacter, AsTruth, Operate, And, Or, Assign, Update, StepBehind, Fail, Stmt, Skip, Block, Evaluate, Declare, Print, PrintTogether, Read, Nil, Then, Source}
+use Rattle.uc_tree.specs.Source.{Shape, Expr, Literal, Variable, Element, Load, Negated, Not, AsCharacter, AsTruth, Operate, And, Or, Assign, Update, StepBehind, Fail, Get, Set, First, Call, OfObject, NoExprs, MoreExprs, Way, ToBreak, ToContinue, ToReturn, ToEnd, Stmt, Skip, Block, Evaluate, Declare, Print, PrintTogether, Read, If, Loop, Break, Continue, Return, OfEvents, OfTasks, Stmts, Nil, Then, Scoped, Routine, Source}
 use Rattle.uc_meaning.specs.Executions.{update, set_members, members_at, change_in, change, with_owned, exec_eq, values_cleared}
 use Rattle.uc_meaning.specs.Quiet as q
-use Rattle.uc_meaning.specs.Quiet.{Active, State, Env, Members, Todo, Step, Goes, Ticks, Asks, Outcome, Gives, Faults, Eval, LoadNow, ElementNow, NegateNow, NotNow, CharacterNow, TruthNow, OperateNow, CopyNow, CopyBelowNow, DropNow, DropBelowNow, StoreNow, KeepNow, Choose, PrintNow, TextNow, GatherNow, FlushNow, ReadNow, ClearNow, Items, Values, Pieces, Targets, Variables, Do, Rest, Within, Finish, Value, Number, Place, Running, Nothing, quiet, act_todo, act, eval_step, stmt_step, outcome_step, element_step, print_step, flush_step, return_step, written, cleared, outcome, int_outcome, index_in, number, top, below}
+use Rattle.uc_meaning.specs.Quiet.{Active, State, Env, Members, Todo, Step, Goes, Ticks, Asks, Outcome, Gives, Faults, Eval, LoadNow, ElementNow, NegateNow, NotNow, CharacterNow, TruthNow, OperateNow, CopyNow, CopyBelowNow, DropNow, DropBelowNow, StoreNow, KeepNow, SetNow, Choose, Branch, TickNow, TurnNow, Arguments, CallNow, Again, PrintNow, TextNow, GatherNow, FlushNow, ReadNow, ClearNow, Items, Values, Pieces, Targets, Variables, Do, Rest, Within, Exit, NoReturnNow, InLoop, Finish, Value, Number, Place, Running, Nothing, quiet, act_todo, act, eval_step, stmt_step, rest_step, call_step, exit_step, end_step, outcome_step, element_step, print_step, flush_step, return_step, written, outcome, index_in, number, top, below}
 use Rattle.uc_meaning.specs.Rides.{Rides, slices, goes_on, ticks, asks}
+use Rattle.uc_tree.specs.declared.limits.TheConstants.{CALLS}
+use Rattle.uc_alone.specs.Kept.{is_few}
 
 -- the numbers of the objects in hand
 abbrev pub keys : {X : Type 0} → List (ℕ × X) → List ℕ
@@ -63,31 +65,42 @@ written_keys (Running x) w e = refl
 written_keys (q.Object o) w e = refl
 written_keys Nothing w e = refl
 
--- a step after which the task is inside these objects
+-- a step after which the task is inside these objects, and a request that is one of few
 abbrev pub Keeps : List ℕ → Step → Type 0
 Keeps ks (Goes s) = inside_of s ≡ ks
 Keeps ks (Ticks s) = inside_of s ≡ ks
-Keeps ks (Asks r s) = inside_of s ≡ ks
+Keeps ks (Asks r s) = (is_few r ≡ true) × (inside_of s ≡ ks)
 
 outcome_keeps : (o : Outcome) (todo : List Todo) (vs : List Value) (s : State) → Keeps (inside_of s) (outcome_step o todo vs s)
 outcome_keeps (Gives n) todo vs s = refl
-outcome_keeps (Faults n) todo vs s = refl
+outcome_keeps (Faults n) todo vs s = (refl, refl)
 
 element_keeps : (k : Shape) (i : Option ℕ) (todo : List Todo) (v : Value) (vs : List Value) (s : State) → Keeps (inside_of s) (element_step k i todo v vs s)
-element_keeps k None todo v vs s = refl
+element_keeps k None todo v vs s = (refl, refl)
 element_keeps k (Some i) todo v vs s = refl
 
 print_keeps : (g : Option (List Piece)) (p : Piece) (todo : List Todo) (vs : List Value) (s : State) → Keeps (inside_of s) (print_step g p todo vs s)
-print_keeps None p todo vs s = refl
+print_keeps None p todo vs s = (refl, refl)
 print_keeps (Some ps) p todo vs s = refl
 
 flush_keeps : (g : Option (List Piece)) (todo : List Todo) (vs : List Value) (s : State) → Keeps (inside_of s) (flush_step g todo vs s)
 flush_keeps None todo vs s = refl
-flush_keeps (Some ps) todo vs s = refl
+flush_keeps (Some []) todo vs s = refl
+flush_keeps (Some (p ∷ ps)) todo vs s = (refl, refl)
 
-return_keeps : (cs : List Active) (s : State) → Keeps (inside_of s) (return_step None cs s)
-return_keeps [] s = refl
-return_keeps (c ∷ cs) s = refl
+return_keeps : (v : Value) (cs : List Active) (s : State) → Keeps (inside_of s) (return_step v cs s)
+return_keeps v [] s = (refl, refl)
+return_keeps v (c ∷ cs) s = refl
+
+end_keeps : (w : Way) (s : State) → Keeps (inside_of s) (end_step w s)
+end_keeps ToReturn s = return_keeps (top s.run.operands) s.callers s
+end_keeps ToEnd s = return_keeps q.nought s.callers s
+end_keeps ToBreak s = return_keeps q.nought s.callers s
+end_keeps ToContinue s = return_keeps q.nought s.callers s
+
+exit_keeps : (w : Way) (todo : List Todo) (s : State) → Keeps (inside_of s) (exit_step w todo s)
+exit_keeps w [] s = end_keeps w s
+exit_keeps w (p ∷ ps) s = refl
 
 eval_keeps : (a : Expr) (todo : List Todo) (s : State) → Keeps (inside_of s) (eval_step a todo s)
 eval_keeps (Literal n) todo s = refl
@@ -104,7 +117,12 @@ eval_keeps (Or a b) todo s = refl
 eval_keeps (Assign p a) todo s = refl
 eval_keeps (Update op k p a) todo s = refl
 eval_keeps (StepBehind op k p) todo s = refl
-eval_keeps Fail todo s = refl
+eval_keeps Fail todo s = (refl, refl)
+eval_keeps (Get k) todo s = refl
+eval_keeps (Set k a) todo s = refl
+eval_keeps (First a b) todo s = refl
+eval_keeps (Call r es) todo s = refl
+eval_keeps (OfObject o) todo s = refl
 
 stmt_keeps : (a : Stmt) (todo : List Todo) (s : State) → Keeps (inside_of s) (stmt_step a todo s)
 stmt_keeps (Skip line) todo s = refl
@@ -114,6 +132,28 @@ stmt_keeps (Declare line ds) todo s = refl
 stmt_keeps (Print line items) todo s = refl
 stmt_keeps (PrintTogether line items) todo s = refl
 stmt_keeps (Read line ts) todo s = refl
+stmt_keeps (If line t a b) todo s = refl
+stmt_keeps (Loop line o t e b) todo s = refl
+stmt_keeps (Break line) todo s = refl
+stmt_keeps (Continue line) todo s = refl
+stmt_keeps (Return line None) todo s = refl
+stmt_keeps (Return line (Some e)) todo s = refl
+stmt_keeps (OfEvents a) todo s = refl
+stmt_keeps (OfTasks a) todo s = refl
+
+rest_keeps : (ss : Stmts) (todo : List Todo) (s : State) → Keeps (inside_of s) (rest_step ss todo s)
+rest_keeps Nil todo s = refl
+rest_keeps (Then a rest) todo s = refl
+rest_keeps (Scoped line e c rest) todo s = refl
+
+-- one of two steps
+either_keeps : (b : Bool) (ks : List ℕ) (x y : Step) → Keeps ks x → Keeps ks y → Keeps ks (cond b x y)
+either_keeps true ks x y h g = h
+either_keeps false ks x y h g = g
+
+call_keeps : (r : Option Routine) (todo : List Todo) (s : State) → Keeps (inside_of s) (call_step r todo s)
+call_keeps None todo s = (refl, refl)
+call_keeps (Some r) todo s = either_keeps (nat_lt s.env.links.calls CALLS) (inside_of s) _ _ refl (refl, refl)
 
 module _ (source : Source) where
   act_keeps : (t : Todo) (todo : List Todo) (s : State) → Keeps (inside_of s) (act source t todo s)
@@ -133,12 +173,20 @@ module _ (source : Source) where
   act_keeps DropBelowNow todo s = refl
   act_keeps StoreNow todo s = written_keys (top (below s.run.operands)) (top s.run.operands) s.env
   act_keeps KeepNow todo s = written_keys (top (below s.run.operands)) (top s.run.operands) s.env
+  act_keeps (SetNow k) todo s = written_keys (q.variable_at k s) (top s.run.operands) s.env
   act_keeps (Choose a b) todo s = refl
+  act_keeps (Branch a b) todo s = refl
+  act_keeps TickNow todo s = refl
+  act_keeps (TurnNow o t e b) todo s = refl
+  act_keeps (Arguments NoExprs) todo s = refl
+  act_keeps (Arguments (MoreExprs e es)) todo s = refl
+  act_keeps (CallNow r) todo s = call_keeps (slice_get source.routines r) todo s
+  act_keeps (Again o t e b) todo s = refl
   act_keeps (PrintNow form) todo s = print_keeps s.env.gathered _ todo (below s.run.operands) s
   act_keeps (TextNow k) todo s = print_keeps s.env.gathered _ todo s.run.operands s
   act_keeps GatherNow todo s = refl
   act_keeps FlushNow todo s = flush_keeps s.env.gathered todo s.run.operands s
-  act_keeps (ReadNow form) todo s = refl
+  act_keeps (ReadNow form) todo s = (refl, refl)
   act_keeps (ClearNow k n) todo s = owned_keys (q.this_frame s) (values_cleared k n q.nought) s.env
   act_keeps (Items []) todo s = refl
   act_keeps (Items (i ∷ is)) todo s = refl
@@ -151,13 +199,15 @@ module _ (source : Source) where
   act_keeps (Variables []) todo s = refl
   act_keeps (Variables (d ∷ ds)) todo s = refl
   act_keeps (Do a) todo s = stmt_keeps a todo s
-  act_keeps (Rest Nil) todo s = refl
-  act_keeps (Rest (Then a rest)) todo s = refl
+  act_keeps (Rest ss) todo s = rest_keeps ss todo s
   act_keeps (Within line) todo s = refl
-  act_keeps Finish todo s = return_keeps s.callers s
+  act_keeps (Exit w) todo s = exit_keeps w todo s
+  act_keeps NoReturnNow todo s = (refl, refl)
+  act_keeps (InLoop o t e b) todo s = refl
+  act_keeps Finish todo s = return_keeps q.nought s.callers s
 
   todo_keeps : (ts : List Todo) (s : State) → Keeps (inside_of s) (act_todo source ts s)
-  todo_keeps [] s = return_keeps s.callers s
+  todo_keeps [] s = return_keeps q.nought s.callers s
   todo_keeps (t ∷ ts) s = act_keeps t ts s
 
   quiet_keeps : (s : State) → Keeps (inside_of s) (quiet source s)
@@ -167,4 +217,11 @@ pub ride_keeps : {source : Source} {s u : State} {n k : ℕ} {a : Asked} → Rid
 ride_keeps slices = refl
 ride_keeps {source} {s} (goes_on {t = t} e r) = ride_keeps r ∙ subst (Keeps (inside_of s)) e (quiet_keeps source s)
 ride_keeps {source} {s} (ticks {t = t} e r) = ride_keeps r ∙ subst (Keeps (inside_of s)) e (quiet_keeps source s)
-ride_keeps {source} {s} (asks e) = subst (Keeps (inside_of s)) e (quiet_keeps source s)
+ride_keeps {source} {s} (asks e) = (subst (Keeps (inside_of s)) e (quiet_keeps source s)).1
+
+-- what a ride asks is one of few requests
+pub ride_few : {source : Source} {s u : State} {n k : ℕ} {a : Asked} → Rides source s n u k a → is_few a.request ≡ true
+ride_few slices = refl
+ride_few (goes_on h r) = ride_few r
+ride_few (ticks h r) = ride_few r
+ride_few {source} {s} (asks e) = (subst (Keeps (inside_of s)) e (quiet_keeps source s)).0

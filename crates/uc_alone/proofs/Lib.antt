@@ -1,8 +1,6 @@
-pub mod Unseen
-pub mod Facts
+pub mod EntryLemmas
+pub mod Acts
 pub mod Hands
 pub mod Going
-pub mod Acts
-pub mod Rode
 pub mod Started
 pub mod Requests

@@ -1,32 +1,39 @@
--- One task on one processor: the options of such a run, its entries, and what a journal of it keeps.
-use Rattle.std.specs.Prelude.{◌≡◌, ℕ, ℤ, pos, false, List, [], ◌∷◌, None}
-use Rattle.uc_tree.specs.declared.limits.TheConstants.{PROCESSORS_DEFAULT, SLICE_DEFAULT, TICKS_DEFAULT}
+-- One task on one processor: its entries, what a journal of it keeps, and how far its run has come.
+use Rattle.std.specs.Prelude.{◌≡◌, ℕ, ℤ, pos, false, List, [], ◌∷◌, None, Some}
+use Rattle.std.specs.List.{list_any}
+use Rattle.uc_tree.specs.Programs.{Site}
 use Rattle.uc_tree.specs.Source.{Source, routine_of}
 use Rattle.uc_meaning.specs.declared.entry.Entry.{Entry}
 use Rattle.uc_meaning.specs.declared.entry.EntryKind.{EntryKind}
 use Rattle.uc_meaning.specs.declared.entry.EntryKind.TheVariants as kind
 use Rattle.uc_meaning.specs.declared.entry.Options.{Options}
+use Rattle.uc_meaning.specs.declared.request.Answer.{Answer}
 use Rattle.uc_meaning.specs.Journal.{Journal, entry, begin, is_over, is_ending, is_fault, held, own_object, lets_in, moves, owns}
-use Rattle.uc_meaning.specs.Queues.{running, waiting, stacked, used, first_ended, all_ticks, ends_first, calls, takes, stacks, admits, puts_on, takes_off, dispatches}
+use Rattle.uc_meaning.specs.Queues.{ready, running, waiting, stacked, used, first_ended, all_ticks, ends_first, calls, takes, stacks, admits, puts_on, takes_off, dispatches, readies, clusters, cluster_of, closes}
+use Rattle.uc_meaning.specs.Known.{takes_object}
+use Rattle.uc_meaning.specs.Reading.{bytes_used, has_failed}
+use Rattle.uc_meaning.specs.Answers.{answer_to}
 use Rattle.uc_meaning.specs.Acts.{dispatch}
-use Rattle.uc_meaning.specs.Quiet.{State, first_state, no_members}
+use Rattle.uc_meaning.specs.Quiet.{State, Members, no_members, first_state}
 use Rattle.uc_meaning.specs.Runs.{World, Runs, drawn, with_hand}
-
--- the default options but for the bound on entries
-abbrev pub alone_options : ℕ → Options
-alone_options entries = record {
-  processors = PROCESSORS_DEFAULT;
-  slice = SLICE_DEFAULT;
-  ticks = TICKS_DEFAULT;
-  entries = entries;
-}
+use Rattle.uc_alone.specs.declared.tally.Tally.{Tally}
 
 -- a run opens with its options, and task 0 is dispatched
-abbrev pub opening : ℕ → Journal
-opening n = begin (alone_options n) ∷ (dispatch 0 0 ∷ [])
+abbrev pub opening : Options → Journal
+opening opts = begin opts ∷ (dispatch 0 0 ∷ [])
 
--- a kind of entry that no filter sees
-pub record Unseen (k : EntryKind) : Type 0 where
+-- an entry of task 0 on processor 0 after so many ticks, without an object
+abbrev pub plain : EntryKind → ℕ → ℤ → ℤ → ℤ → ℤ → Entry
+plain k n a b c d = record (entry k 0 0 n 0 a b) { c = c; d = d }
+
+-- the limit in the place of an act of task 0, or behind it
+abbrev pub limited : List Entry
+limited = entry kind.Limit 0 0 0 0 (pos 0) (pos 0) ∷ []
+
+-- kinds of entries, by what they leave as it is
+
+-- no ending, and objects, clusters and processors stay
+pub record Calm (k : EntryKind) : Type 0 where
   pub goes_on : is_ending k ≡ false
   pub faultless : is_fault k ≡ false
   pub ends : (e : Entry) → ends_first k e ≡ false
@@ -37,41 +44,69 @@ pub record Unseen (k : EntryKind) : Type 0 where
   pub takes : (e : Entry) (t : ℕ) → takes k e t ≡ false
   pub stacks : (e : Entry) → stacks k e ≡ None
   pub admits : (e : Entry) (t : ℕ) → admits k e t ≡ false
+  pub clusters : (on : ℕ → ℕ) (e : Entry) → clusters on k e ≡ on
+  pub closes : (p : ℕ) (e : Entry) → closes p k e ≡ false
+  pub out : (e : Entry) (o : ℕ) → takes_object k e o ≡ false
+
+-- and the task that runs goes on running
+pub record Unseen (k : EntryKind) : Type 0 where
+  pub calm : Calm k
+  pub dispatches : (e : Entry) (t : ℕ) → dispatches k e t ≡ false
   pub puts : (e : Entry) (t : ℕ) → puts_on k e t ≡ None
   pub takes_off : (e : Entry) (t : ℕ) → takes_off k e t ≡ false
-  pub dispatches : (e : Entry) (t : ℕ) → dispatches k e t ≡ false
+  pub readies : (e : Entry) (t : ℕ) → readies k e t ≡ None
 
--- an entry of task 0 on processor 0, without ticks and object
-abbrev pub silent : EntryKind → ℤ → ℤ → ℤ → ℤ → Entry
-silent k a b c d = record (entry k 0 0 0 0 a b) { c = c; d = d }
+-- what a journal of one task keeps
 
--- entries that no filter sees
-pub data AllUnseen : List Entry → Type 0 where
-  none : AllUnseen []
-  one : (k : EntryKind) (a b c d : ℤ) (es : List Entry) → Unseen k → AllUnseen es → AllUnseen (silent k a b c d ∷ es)
-
--- the lone limit in the place of an act of task 0
-abbrev pub limited : List Entry
-limited = entry kind.Limit 0 0 0 0 (pos 0) (pos 0) ∷ []
-
--- task 0 runs on processor 0, inside its own object alone, and has made no tick
-pub record Facts (j : Journal) : Type 0 where
+-- task 0 is inside its own object alone, on cluster 0, and processor 0 is open
+pub record Alone (j : Journal) : Type 0 where
   pub going : is_over j ≡ false
   pub ended : first_ended j ≡ false
   pub inside : held 0 j ≡ 0 ∷ []
   pub own : own_object 0 j ≡ 0
   pub waits : waiting 0 j ≡ []
   pub stacks : stacked 0 j ≡ []
-  pub runs : running 0 j ≡ 0 ∷ []
-  pub ticks : used 0 j ≡ 0
-  pub all : all_ticks j ≡ 0
+  pub cluster : cluster_of 0 j ≡ 0
+  pub opened : list_any (λ e. closes 0 e.kind e) j ≡ false
 
--- a prefix of a run, after which task 0 goes on from this state
-pub record Going (source : Source) (input : List ℕ) (n : ℕ) (j : Journal) (s : State) : Type 0 where
+-- it runs on processor 0
+pub record Running (j : Journal) : Type 0 where
+  pub alone : Alone j
+  pub runs : running 0 j ≡ 0 ∷ []
+  pub ready : ready 0 j ≡ []
+
+-- it is ready
+pub record Ready (j : Journal) : Type 0 where
+  pub alone : Alone j
+  pub free : running 0 j ≡ []
+  pub ready : ready 0 j ≡ 0 ∷ []
+
+-- what a journal tells of its reads and of ticks
+pub record Tells (j : Journal) (t : Tally) : Type 0 where
+  pub bytes : bytes_used j ≡ t.bytes
+  pub failed : has_failed j ≡ t.failed
+  pub since : used 0 j ≡ t.since
+  pub all : all_ticks j ≡ t.all
+
+-- task 0 goes on with this answer, whatever accept statements there are
+abbrev pub Told : Journal → Answer → Type 0
+Told j x = (sites : List Site) → answer_to sites 0 j ≡ Some x
+
+-- runs
+
+-- a task that has its own object alone in hand
+pub record HasOwn (s : State) : Type 0 where
+  pub members : Members
+  pub hand : s.env.hand ≡ (0, members) ∷ []
+
+-- a prefix of a run, after which task 0, with its hand, goes on from this state with this answer
+pub record Going (source : Source) (input : List ℕ) (opts : Options) (j : Journal) (x : Answer) (s : State) : Type 0 where
   pub world : World
-  pub runs : Runs source input (alone_options n) j world
-  pub facts : Facts j
+  pub runs : Runs source input opts j world
+  pub running : Running j
+  pub told : Told j x
   pub is_drawn : drawn j world 0 ≡ s
+  pub own : HasOwn s
 
 -- the state in which task 0 begins
 abbrev pub start : Source → State

@@ -1,5 +1,4 @@
 pub mod Alone
 pub mod Kept
 pub mod Loop
-pub mod Rode
 pub mod Run

@@ -1,20 +1,21 @@
 // The entries of task 0 on processor 0.
 
-ghost use Rattle.std.specs.Prelude.{◌≡◌, pos};
+ghost use Rattle.std.specs.Prelude.{◌≡◌, ◌≤◌, pos};
+ghost use Rattle.uc_tree.specs.declared.limits.TheConstants.{TICKS_MAX};
 ghost use Rattle.uc_meaning.specs.Acts.{truth, read_entry};
 ghost use Rattle.uc_meaning.specs.Journal.{begin, entry};
 ghost use Rattle.uc_meaning.specs.declared.entry.EntryKind.TheVariants as kind;
 ghost use Rattle.uc_meaning.specs.declared.request.Answer.TheVariants as answer;
-ghost use Rattle.uc_alone.specs.Alone.{alone_options, silent};
+ghost use Rattle.uc_alone.specs.Alone.{plain};
 
-use uc_meaning::entry::{Entry, EntryKind};
+use uc_meaning::entry::{Entry, EntryKind, Options};
 use uc_meaning::got::Got;
 use uc_meaning::request::{Answer, Piece};
-use uc_tree::limits::{PROCESSORS_DEFAULT, SLICE_DEFAULT, TICKS_DEFAULT};
 
 /// The first entry, which tells the options.
-pub fn begin_entry(entries: u32) -> Entry
-    ensures { result ≡ begin (alone_options entries) }
+pub fn begin_entry(opts: Options) -> Entry
+    requires { opts.ticks ≤ TICKS_MAX }
+    ensures { result ≡ begin opts }
 {
     Entry {
         kind: EntryKind::Begin,
@@ -22,22 +23,22 @@ pub fn begin_entry(entries: u32) -> Entry
         task: 0,
         ticks: 0,
         object: 0,
-        a: i64::from(PROCESSORS_DEFAULT),
-        b: i64::from(SLICE_DEFAULT),
-        c: TICKS_DEFAULT as i64,
-        d: i64::from(entries),
+        a: i64::from(opts.processors),
+        b: i64::from(opts.slice),
+        c: opts.ticks as i64,
+        d: i64::from(opts.entries),
     }
 }
 
-/// An entry without ticks and object.
-pub fn plain_entry(kind: EntryKind, a: i64, b: i64, c: i64, d: i64) -> Entry
-    ensures { result ≡ silent kind a b c d }
+/// An entry after so many ticks, without an object.
+pub fn plain_entry(kind: EntryKind, ticks: u32, a: i64, b: i64, c: i64, d: i64) -> Entry
+    ensures { result ≡ plain kind ticks a b c d }
 {
     Entry {
         kind,
         proc: 0,
         task: 0,
-        ticks: 0,
+        ticks,
         object: 0,
         a,
         b,
@@ -47,18 +48,26 @@ pub fn plain_entry(kind: EntryKind, a: i64, b: i64, c: i64, d: i64) -> Entry
 }
 
 /// The entry that prints an item.
-pub fn print_entry(piece: Piece) -> Entry
-    ensures { result ≡ entry kind.Print 0 0 0 0 (pos piece.form) piece.value }
+pub fn print_entry(ticks: u32, piece: Piece) -> Entry
+    ensures { result ≡ entry kind.Print 0 0 ticks 0 (pos piece.form) piece.value }
 {
-    plain_entry(EntryKind::Print, i64::from(piece.form), piece.value, 0, 0)
+    plain_entry(
+        EntryKind::Print,
+        ticks,
+        i64::from(piece.form),
+        piece.value,
+        0,
+        0,
+    )
 }
 
 /// The entry of a read, where so many bytes of the input were used before.
-pub fn got_entry(form: u8, got: Got, used: u32) -> Entry
-    ensures { result ≡ read_entry 0 0 0 form got used }
+pub fn got_entry(ticks: u32, form: u8, got: Got, used: u32) -> Entry
+    ensures { result ≡ read_entry 0 0 ticks form got used }
 {
     plain_entry(
         EntryKind::Read,
+        ticks,
         i64::from(form),
         got.value,
         number_of(got.failed),
@@ -67,10 +76,10 @@ pub fn got_entry(form: u8, got: Got, used: u32) -> Entry
 }
 
 /// The entry that tells whether a read failed.
-pub fn fail_entry(failed: bool) -> Entry
-    ensures { result ≡ entry kind.Fail 0 0 0 0 (pos 0) (truth failed) }
+pub fn fail_entry(ticks: u32, failed: bool) -> Entry
+    ensures { result ≡ entry kind.Fail 0 0 ticks 0 (pos 0) (truth failed) }
 {
-    plain_entry(EntryKind::Fail, 0, number_of(failed), 0, 0)
+    plain_entry(EntryKind::Fail, ticks, 0, number_of(failed), 0, 0)
 }
 
 /// 1 where it holds, else 0.

@@ -1,213 +1,328 @@
 // The journal of the one task, as it grows.
 
-ghost use Rattle.std.specs.Prelude.{◌≡◌, ◌≤◌, ◌<◌, IsTrue, IsFalse, ◌+◌, ◌++◌, length, map, min, IfOk, OnOk, List, ℕ, Some, None};
-ghost use Rattle.uc_tree.specs.declared.limits.TheConstants.{INPUT_BYTES};
+ghost use Rattle.std.specs.Prelude.{◌≡◌, ◌≤◌, ◌<◌, ◌∷◌, [], true, false, IsTrue, IsFalse, ◌+◌, ◌-◌, ◌++◌, length, take, is_some, min, IfOk, OnOk, List, ℕ, Some, None};
+ghost use Rattle.uc_tree.specs.declared.limits.TheConstants.{INPUT_BYTES, SLICE_MAX, TICKS_MAX};
 ghost use Rattle.uc_meaning.specs.declared.request.Request.TheVariants as ask;
 ghost use Rattle.uc_meaning.specs.Reading.{next_read};
+ghost use Rattle.uc_meaning.specs.Acts.{prints, fault, dispatch};
 ghost use Rattle.uc_meaning.specs.Journal.{Journal};
-ghost use Rattle.uc_alone.specs.Alone.{limited};
-ghost use Rattle.uc_alone.specs.Kept.{Kept, ReadsOf, shown, reads_after};
+ghost use Rattle.uc_meaning.specs.KernelRuns.{InRange};
+ghost use Rattle.uc_alone.specs.Alone.{Tells, limited};
+ghost use Rattle.uc_alone.specs.Kept.{Acted, Fitted, After};
 
 use crate::entries::{fail_answer, fail_entry, got_entry, plain_entry, print_entry, value_answer};
+use crate::tally::{Tally, dispatched, with_read, with_ticks};
 use std::alloc::AllocError;
 use uc_input::reading::read_form;
-use uc_meaning::entry::{Entry, EntryKind};
+use uc_meaning::entry::{Entry, EntryKind, Options};
 use uc_meaning::got::Got;
 use uc_meaning::request::{Answer, Asked, Piece, Request};
 
-/// How many bytes of the input the reads of a journal took, and whether one failed.
-#[derive(Clone, Copy, PartialEq, Eq, Debug)]
-pub struct Reads {
-    pub used: u32,
-    pub failed: bool,
-}
-
 // The next read.
-fn next_got(reads: Reads, form: u8, input: &[u8]) -> Got
-    requires inside { reads.used ≤ length input.now }
+fn next_got(tally: Tally, form: u8, input: &[u8]) -> Got
+    requires inside { tally.bytes ≤ length input.now }
     requires small { length input.now ≤ INPUT_BYTES }
-    ensures got { (j : Journal) → ReadsOf j reads → result ≡ next_read form input.now j }
-    ensures inside { reads.used + result.taken ≤ length input.now }
+    ensures got { (j : Journal) → Tells j tally → result ≡ next_read form input.now j }
+    ensures inside { tally.bytes + result.taken ≤ length input.now }
 {
-    if reads.failed {
+    if tally.failed {
         return Got {
             value: 0,
             failed: true,
             taken: 0,
         };
     }
-    read_form(form, &input[reads.used as usize..])
+    read_form(form, &input[tally.bytes as usize..])
 }
 
 // Whether a journal has room for so many entries and one more.
-fn has_room(journal: &Vec<Entry>, count: usize, entries: u32) -> bool
-    ensures room { IsTrue result → length journal.now.items + count + 1 ≤ entries }
-    ensures full { IsFalse result → entries < length journal.now.items + count + 1 }
+fn has_room(journal: &Vec<Entry>, count: usize, opts: Options) -> bool
+    ensures room { IsTrue result → length journal.now.items + count + 1 ≤ opts.entries }
+    ensures full { IsFalse result → opts.entries < length journal.now.items + count + 1 }
 {
-    let entries = entries as usize;
+    let entries = opts.entries as usize;
     count < entries && journal.len() < entries - count
 }
 
-// The limit in the place of an act.
+// The limit in the place of an act, or behind it.
 fn push_limit(journal: &mut Vec<Entry>) -> Result<(), AllocError>
     ensures { OnOk result (journal.new.items ≡ journal.old.items ++ limited) }
 {
-    journal.push(plain_entry(EntryKind::Limit, 0, 0, 0, 0))?;
+    journal.push(plain_entry(EntryKind::Limit, 0, 0, 0, 0, 0))?;
     Ok(())
 }
 
-fn push_prints(journal: &mut Vec<Entry>, pieces: &[Piece]) -> Result<(), AllocError>
-    ensures { OnOk result (journal.new.items ≡ journal.old.items ++ map shown pieces.now) }
+// The act whose entries stand from `start` on stays where it leaves room for one more entry; else the limit stands in its
+// place. Whether it stays.
+#[tactic(auto, using(crate::proofs::Acts::stays, crate::proofs::Acts::gives_way))]
+fn fit(journal: &mut Vec<Entry>, start: usize, opts: Options) -> Result<bool, AllocError>
+    ensures { IfOk result (λ fits. (old a : Journal) → journal.old.items ≡ old ++ a → length old ≡ start → Fitted opts old a journal.new.items fits) }
 {
+    if has_room(journal, 0, opts) {
+        return Ok(true);
+    }
+    journal.truncate(start);
+    push_limit(journal)?;
+    Ok(false)
+}
+
+// The end of an act whose entries stand from `start` on, behind which the ticks of all are so many. Whether the run goes
+// on.
+#[tactic(auto, using(crate::proofs::Acts::at_bound, crate::proofs::Acts::below_bound))]
+fn finish(
+    journal: &mut Vec<Entry>,
+    start: usize,
+    opts: Options,
+    all: u64,
+) -> Result<bool, AllocError>
+    ensures { IfOk result (λ goes. (old es : Journal) → journal.old.items ≡ old ++ es → length old ≡ start → Acted opts old es all journal.new.items goes) }
+{
+    if opts.ticks <= all {
+        push_limit(journal)?;
+        fit(journal, start, opts)?;
+        return Ok(false);
+    }
+    let fits = fit(journal, start, opts)?;
+    Ok(fits)
+}
+
+// An act of one entry.
+fn enter(
+    journal: &mut Vec<Entry>,
+    opts: Options,
+    all: u64,
+    entry: Entry,
+) -> Result<bool, AllocError>
+    ensures { IfOk result (λ goes. Acted opts journal.old.items (entry ∷ []) all journal.new.items goes) }
+{
+    let start = journal.len();
+    journal.push(entry)?;
+    let goes = finish(journal, start, opts, all)?;
+    Ok(goes)
+}
+
+// One entry for each item; only the first carries ticks.
+fn push_prints(journal: &mut Vec<Entry>, ticks: u32, pieces: &[Piece]) -> Result<(), AllocError>
+    ensures { OnOk result (journal.new.items ≡ journal.old.items ++ prints 0 0 ticks pieces.now) }
+{
+    let mut ticks = ticks;
     for piece in pieces {
-        journal.push(print_entry(*piece))?;
+        journal.push(print_entry(ticks, *piece))?;
+        ticks = 0;
     }
     Ok(())
 }
 
-// The reads with one more.
-fn more_reads(reads: Reads, got: Got) -> Reads
-    requires { reads.used + got.taken ≤ INPUT_BYTES }
-    ensures { result ≡ reads_after reads got }
+fn enter_prints(
+    journal: &mut Vec<Entry>,
+    opts: Options,
+    all: u64,
+    ticks: u32,
+    pieces: &[Piece],
+) -> Result<bool, AllocError>
+    ensures { IfOk result (λ goes. Acted opts journal.old.items (prints 0 0 ticks pieces.now) all journal.new.items goes) }
 {
-    Reads {
-        used: reads.used + got.taken,
-        failed: got.failed || reads.failed,
-    }
+    let start = journal.len();
+    push_prints(journal, ticks, pieces)?;
+    let goes = finish(journal, start, opts, all)?;
+    Ok(goes)
 }
 
-fn least(a: usize, b: usize) -> usize
-    ensures { result ≡ min a b }
-{
-    if a < b { a } else { b }
-}
-
-// The items are printed where there is room for their entries.
-#[tactic(auto, using(crate::proofs::Acts::print_goes, crate::proofs::Acts::print_full, crate::proofs::Acts::reads_after_prints))]
+// Items are printed.
+#[tactic(auto, using(crate::proofs::Acts::print_goes, crate::proofs::Acts::print_stops))]
 fn keep_print(
     journal: &mut Vec<Entry>,
-    entries: u32,
-    n: u8,
-    items: &[Piece],
+    tally: &mut Tally,
+    opts: Options,
+    ticks: u32,
+    pieces: &[Piece],
 ) -> Result<Option<Answer>, AllocError>
-    ensures kept { IfOk result (λ o. (input : List ℕ) (line : ℕ) → Kept entries input journal.old.items (record { request = ask.Print n items.now; line = line }) journal.new.items o) }
-    ensures reads { IfOk result (λ o. (x : Answer) → o ≡ Some x → (r : Reads) → ReadsOf journal.old.items r → ReadsOf journal.new.items r) }
+    requires some { 1 ≤ length pieces.now }
+    requires range { InRange opts }
+    requires alone { opts.processors ≡ 1 }
+    requires since { tally.old.since + ticks ≤ opts.slice }
+    requires all { tally.old.all < opts.ticks }
+    ensures after { IfOk result (λ o. (input : List ℕ) (n line : ℕ) (items : List Piece) → take n items ≡ pieces.now → After opts input journal.old.items tally.old ticks (record { request = ask.Print n items; line = line }) journal.new.items tally.new o) }
+    ensures bytes { IfOk result (λ o. tally.new.bytes ≡ tally.old.bytes) }
 {
-    let count = least(n as usize, items.len());
-    if !has_room(journal, count, entries) {
-        push_limit(journal)?;
+    let next = with_ticks(*tally, ticks);
+    let goes = enter_prints(journal, opts, next.all, ticks, pieces)?;
+    *tally = next;
+    if !goes {
         return Ok(None);
     }
-    push_prints(journal, &items[..count])?;
     Ok(Some(Answer::Go))
 }
 
-#[tactic(auto, using(crate::proofs::Acts::read_goes, crate::proofs::Acts::read_full, crate::proofs::Acts::reads_after_read))]
+#[tactic(auto, using(crate::proofs::Acts::read_goes, crate::proofs::Acts::read_stops))]
 fn keep_read(
     journal: &mut Vec<Entry>,
-    entries: u32,
+    tally: &mut Tally,
+    opts: Options,
+    ticks: u32,
     form: u8,
     got: Got,
-    reads: Reads,
 ) -> Result<Option<Answer>, AllocError>
-    requires small { reads.used + got.taken ≤ INPUT_BYTES }
-    ensures kept { IfOk result (λ o. (input : List ℕ) (line : ℕ) → ReadsOf journal.old.items reads → got ≡ next_read form input journal.old.items → Kept entries input journal.old.items (record { request = ask.Read form; line = line }) journal.new.items o) }
-    ensures reads { IfOk result (λ o. (x : Answer) → o ≡ Some x → ReadsOf journal.old.items reads → ReadsOf journal.new.items (reads_after reads got)) }
+    requires small { tally.old.bytes + got.taken ≤ INPUT_BYTES }
+    requires range { InRange opts }
+    requires alone { opts.processors ≡ 1 }
+    requires since { tally.old.since + ticks ≤ opts.slice }
+    requires all { tally.old.all < opts.ticks }
+    ensures after { IfOk result (λ o. (input : List ℕ) (line : ℕ) → (Tells journal.old.items tally.old → got ≡ next_read form input journal.old.items) → After opts input journal.old.items tally.old ticks (record { request = ask.Read form; line = line }) journal.new.items tally.new o) }
+    ensures bytes { IfOk result (λ o. tally.new.bytes ≡ tally.old.bytes + got.taken) }
 {
-    if !has_room(journal, 1, entries) {
-        push_limit(journal)?;
+    let read = with_read(*tally, got);
+    let next = with_ticks(read, ticks);
+    let entry = got_entry(ticks, form, got, tally.bytes);
+    let goes = enter(journal, opts, next.all, entry)?;
+    *tally = next;
+    if !goes {
         return Ok(None);
     }
-    journal.push(got_entry(form, got, reads.used))?;
     Ok(Some(value_answer(got)))
 }
 
-#[tactic(auto, using(crate::proofs::Acts::fail_goes, crate::proofs::Acts::fail_full, crate::proofs::Acts::reads_after_fail))]
+#[tactic(auto, using(crate::proofs::Acts::fail_goes, crate::proofs::Acts::fail_stops))]
 fn keep_fail(
     journal: &mut Vec<Entry>,
-    entries: u32,
-    reads: Reads,
+    tally: &mut Tally,
+    opts: Options,
+    ticks: u32,
 ) -> Result<Option<Answer>, AllocError>
-    ensures kept { IfOk result (λ o. (input : List ℕ) (line : ℕ) → ReadsOf journal.old.items reads → Kept entries input journal.old.items (record { request = ask.Fail; line = line }) journal.new.items o) }
-    ensures reads { IfOk result (λ o. (x : Answer) → o ≡ Some x → ReadsOf journal.old.items reads → ReadsOf journal.new.items reads) }
+    requires range { InRange opts }
+    requires alone { opts.processors ≡ 1 }
+    requires since { tally.old.since + ticks ≤ opts.slice }
+    requires all { tally.old.all < opts.ticks }
+    ensures after { IfOk result (λ o. (input : List ℕ) (line : ℕ) → After opts input journal.old.items tally.old ticks (record { request = ask.Fail; line = line }) journal.new.items tally.new o) }
+    ensures bytes { IfOk result (λ o. tally.new.bytes ≡ tally.old.bytes) }
 {
-    if !has_room(journal, 1, entries) {
-        push_limit(journal)?;
+    let next = with_ticks(*tally, ticks);
+    let entry = fail_entry(ticks, tally.failed);
+    let goes = enter(journal, opts, next.all, entry)?;
+    *tally = next;
+    if !goes {
         return Ok(None);
     }
-    journal.push(fail_entry(reads.failed))?;
-    Ok(Some(fail_answer(reads.failed)))
+    Ok(Some(fail_answer(next.failed)))
 }
 
-#[tactic(auto, using(crate::proofs::Acts::end_goes, crate::proofs::Acts::end_full))]
-fn keep_end(journal: &mut Vec<Entry>, entries: u32) -> Result<Option<Answer>, AllocError>
-    ensures kept { IfOk result (λ o. (input : List ℕ) (line : ℕ) → Kept entries input journal.old.items (record { request = ask.End; line = line }) journal.new.items o) }
-    ensures over { IfOk result (λ o. o ≡ None) }
+// The ticks of a slice are made: the task is put back, and given the processor again.
+#[tactic(auto, using(crate::proofs::Acts::slice_goes, crate::proofs::Acts::slice_full, crate::proofs::Acts::slice_stops))]
+fn keep_slice(
+    journal: &mut Vec<Entry>,
+    tally: &mut Tally,
+    opts: Options,
+    ticks: u32,
+) -> Result<Option<Answer>, AllocError>
+    requires range { InRange opts }
+    requires alone { opts.processors ≡ 1 }
+    requires since { tally.old.since + ticks ≤ opts.slice }
+    requires all { tally.old.all < opts.ticks }
+    ensures after { IfOk result (λ o. (input : List ℕ) (line : ℕ) → After opts input journal.old.items tally.old ticks (record { request = ask.Slice; line = line }) journal.new.items tally.new o) }
+    ensures bytes { IfOk result (λ o. tally.new.bytes ≡ tally.old.bytes) }
 {
-    if !has_room(journal, 2, entries) {
+    let next = with_ticks(*tally, ticks);
+    let entry = plain_entry(EntryKind::Slice, ticks, 0, 0, 0, 0);
+    let goes = enter(journal, opts, next.all, entry)?;
+    *tally = dispatched(next);
+    if !goes {
+        return Ok(None);
+    }
+    if !has_room(journal, 1, opts) {
         push_limit(journal)?;
         return Ok(None);
     }
-    journal.push(plain_entry(EntryKind::End, 0, 0, 0, 0))?;
-    journal.push(plain_entry(EntryKind::Done, 0, 0, 0, 0))?;
+    journal.push(plain_entry(EntryKind::Dispatch, 0, 0, 0, 0, 0))?;
+    Ok(Some(Answer::Go))
+}
+
+#[tactic(auto, using(crate::proofs::Acts::end_after))]
+fn keep_end(
+    journal: &mut Vec<Entry>,
+    opts: Options,
+    ticks: u32,
+) -> Result<Option<Answer>, AllocError>
+    requires { opts.processors ≡ 1 }
+    ensures { IfOk result (λ o. (input : List ℕ) (told : Tally) (line : ℕ) → After opts input journal.old.items told ticks (record { request = ask.End; line = line }) journal.new.items told o) }
+{
+    let start = journal.len();
+    journal.push(plain_entry(EntryKind::End, ticks, 0, 0, 0, 0))?;
+    journal.push(plain_entry(EntryKind::Done, 0, 0, 0, 0, 0))?;
+    fit(journal, start, opts)?;
     Ok(None)
 }
 
-#[tactic(auto, using(crate::proofs::Acts::fault_goes, crate::proofs::Acts::fault_full))]
+#[tactic(auto, using(crate::proofs::Acts::fault_after))]
 fn keep_fault(
     journal: &mut Vec<Entry>,
-    entries: u32,
+    opts: Options,
+    ticks: u32,
     number: u8,
     line: u32,
 ) -> Result<Option<Answer>, AllocError>
-    ensures kept { IfOk result (λ o. (input : List ℕ) → Kept entries input journal.old.items (record { request = ask.Fault number; line = line }) journal.new.items o) }
-    ensures over { IfOk result (λ o. o ≡ None) }
+    requires { opts.processors ≡ 1 }
+    ensures { IfOk result (λ o. (input : List ℕ) (told : Tally) → After opts input journal.old.items told ticks (record { request = ask.Fault number; line = line }) journal.new.items told o) }
 {
-    if !has_room(journal, 1, entries) {
-        push_limit(journal)?;
-        return Ok(None);
-    }
-    journal.push(plain_entry(EntryKind::Fault, i64::from(number), i64::from(line), 0, 0))?;
+    let start = journal.len();
+    journal.push(plain_entry(
+        EntryKind::Fault,
+        ticks,
+        i64::from(number),
+        i64::from(line),
+        0,
+        0,
+    ))?;
+    fit(journal, start, opts)?;
     Ok(None)
 }
 
-/// The journal after a request of the task: it goes on with an answer, or the run is over. A request of which no straight
-/// program makes use ends it without an entry.
+/// The journal after a request of the task, which it made after so many ticks: it goes on with an answer, or the run is
+/// over. A request that no task without objects makes ends it without an entry.
 pub(crate) fn keep(
     journal: &mut Vec<Entry>,
-    reads: &mut Reads,
+    tally: &mut Tally,
     input: &[u8],
-    entries: u32,
+    opts: Options,
+    ticks: u32,
     asked: Asked,
 ) -> Result<Option<Answer>, AllocError>
-    requires inside { reads.old.used ≤ length input.now }
+    requires inside { tally.old.bytes ≤ length input.now }
     requires small { length input.now ≤ INPUT_BYTES }
-    ensures kept { IfOk result (λ o. ReadsOf journal.old.items reads.old → Kept entries input.now journal.old.items asked journal.new.items o) }
-    ensures reads { IfOk result (λ o. (x : Answer) → o ≡ Some x → ReadsOf journal.old.items reads.old → ReadsOf journal.new.items reads.new) }
-    ensures inside { reads.new.used ≤ length input.now }
-    ensures over { IfOk result (λ o. asked.request ≡ ask.End → o ≡ None) }
+    requires range { InRange opts }
+    requires alone { opts.processors ≡ 1 }
+    requires since { tally.old.since + ticks ≤ opts.slice }
+    requires all { tally.old.all < opts.ticks }
+    ensures after { IfOk result (λ o. After opts input.now journal.old.items tally.old ticks asked journal.new.items tally.new o) }
+    ensures inside { IfOk result (λ o. tally.new.bytes ≤ length input.now) }
 {
     match asked.request {
         Request::Print { n, items } => {
-            let answer = keep_print(journal, entries, n, &items)?;
+            if n == 0 {
+                return Ok(None);
+            }
+            let count = least(n as usize, items.len());
+            let answer = keep_print(journal, tally, opts, ticks, &items[..count])?;
             Ok(answer)
         }
         Request::Read { form } => {
-            let got = next_got(*reads, form, input);
-            let answer = keep_read(journal, entries, form, got, *reads)?;
-            *reads = more_reads(*reads, got);
+            let got = next_got(*tally, form, input);
+            let answer = keep_read(journal, tally, opts, ticks, form, got)?;
             Ok(answer)
         }
         Request::Fail => {
-            let answer = keep_fail(journal, entries, *reads)?;
+            let answer = keep_fail(journal, tally, opts, ticks)?;
+            Ok(answer)
+        }
+        Request::Slice => {
+            let answer = keep_slice(journal, tally, opts, ticks)?;
             Ok(answer)
         }
         Request::End => {
-            let answer = keep_end(journal, entries)?;
+            let answer = keep_end(journal, opts, ticks)?;
             Ok(answer)
         }
         Request::Fault { number } => {
-            let answer = keep_fault(journal, entries, number, asked.line)?;
+            let answer = keep_fault(journal, opts, ticks, number, asked.line)?;
             Ok(answer)
         }
         Request::Make { .. } => Ok(None),
@@ -224,7 +339,6 @@ pub(crate) fn keep(
         Request::Raise { .. } => Ok(None),
         Request::Poll { .. } => Ok(None),
         Request::Yield => Ok(None),
-        Request::Slice => Ok(None),
         Request::Cluster => Ok(None),
         Request::ClusterEnd { .. } => Ok(None),
         Request::Processor { .. } => Ok(None),
@@ -232,4 +346,10 @@ pub(crate) fn keep(
         Request::Migrate { .. } => Ok(None),
         Request::Gone { .. } => Ok(None),
     }
+}
+
+fn least(a: usize, b: usize) -> usize
+    ensures { result ≡ min a b }
+{
+    if a < b { a } else { b }
 }

@@ -2,8 +2,8 @@
 #![tactic(auto)]
 
 mod entries;
-pub mod keeper;
-mod ride;
+mod keeper;
 mod run;
+pub mod tally;
 
 pub use run::run_alone;

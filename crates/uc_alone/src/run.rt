@@ -1,51 +1,55 @@
 // A whole run of the one task.
 
-ghost use Rattle.std.specs.Prelude.{◌≡◌, ◌≤◌, false, IfOk, MatchOption, Some, None, length};
-ghost use Rattle.uc_tree.specs.declared.limits.TheConstants.{ENTRIES_MIN, INPUT_BYTES};
+ghost use Rattle.std.specs.Prelude.{◌≡◌, ◌≤◌, ◌<◌, false, IfOk, MatchOption, Some, None, length};
+ghost use Rattle.uc_tree.specs.declared.limits.TheConstants.{INPUT_BYTES};
+ghost use Rattle.uc_meaning.specs.KernelRuns.{InRange};
 ghost use Rattle.uc_code.specs.Pace.{IsPaced};
 ghost use Rattle.uc_code.specs.Laid.{laid_of};
 ghost use Rattle.uc_tree.specs.Source.{Source};
 ghost use Rattle.uc_code.specs.Lowered.{Lowered};
 ghost use Rattle.uc_frames.specs.Stands.{Stands};
 ghost use Rattle.uc_meaning.specs.Quiet.{State};
-ghost use Rattle.uc_alone.specs.Alone.{Going, start};
-ghost use Rattle.uc_alone.specs.Kept.{ReadsOf};
+ghost use Rattle.uc_meaning.specs.declared.request.Answer.TheVariants as answer;
+ghost use Rattle.uc_alone.specs.Alone.{Going, Tells, start};
 ghost use Rattle.uc_alone.specs.Run.{IsRunOf, HasMain, with_own};
 
 use crate::entries::{begin_entry, plain_entry};
-use crate::keeper::{Reads, keep};
-use crate::ride::ride;
+use crate::keeper::keep;
+use crate::tally::Tally;
 use std::alloc::{AllocError, Global};
 use uc_code::code::Code;
 use uc_frames::members::Members;
 use uc_frames::work::Work;
-use uc_meaning::entry::{Entry, EntryKind};
+use uc_meaning::entry::{Entry, EntryKind, Options};
 use uc_meaning::list::List;
+use uc_meaning::request::Answer;
+use uc_outside::OpenGate;
+use uc_ride::ride::ride;
 use uc_step::begin::begin;
-use uc_step::step::answer;
 
-/// Runs the program's one task, whose main is the routine of this number, on this input. Of code that was lowered from a
-/// source with this main, the journal has at most `entries` entries, and the last one is the end of the run: done, a run
-/// fault, or the limit.
+/// Runs the program's one task, whose main is the routine of this number, on this input under these options, with one
+/// processor. Of code that was lowered from a source with this main, the journal is a complete run: its last entry is its
+/// end, done, a run fault, or the limit. No gate is told of its rides.
 pub fn run_alone(
     alloc: Global,
     code: &Code,
     main: u32,
     input: &[u8],
-    entries: u32,
+    opts: Options,
 ) -> Result<Vec<Entry>, AllocError>
-    requires room { ENTRIES_MIN ≤ entries }
+    requires range { InRange opts }
+    requires alone { opts.processors ≡ 1 }
     requires small { length input.now ≤ INPUT_BYTES }
-    requires paced { IsPaced code.now.ops }
-    ensures run { IfOk result (λ journal. (source : Source) → Lowered source code.now → source.main ≡ main → HasMain source → IsRunOf source input.now entries journal.items) }
+    requires paced { IsPaced code.now.ops code.now.routines }
+    ensures run { IfOk result (λ journal. (source : Source) → Lowered source code.now → source.main ≡ main → HasMain source → IsRunOf source input.now opts journal.items) }
 {
     let mut journal = Vec::new(alloc);
-    journal.push(begin_entry(entries))?;
-    journal.push(plain_entry(EntryKind::Dispatch, 0, 0, 0, 0))?;
+    journal.push(begin_entry(opts))?;
+    journal.push(plain_entry(EntryKind::Dispatch, 0, 0, 0, 0, 0))?;
     match begin_inside(alloc, code, main)? {
         None => Ok(journal),
         Some(work) => {
-            let journal = go_on(code, work, input, entries, journal)?;
+            let journal = go_on(code, work, input, opts, journal)?;
             Ok(journal)
         }
     }
@@ -75,31 +79,45 @@ fn enter_own(alloc: Global, work: Work) -> Result<Work, AllocError>
     Ok(Work::new(task, hand))
 }
 
-// One request after another, to the end of the run.
+// One request after another, to the end of the run: each makes an entry, and there are not more than the options allow.
 fn go_on(
     code: &Code,
     work: Work,
     input: &[u8],
-    entries: u32,
+    opts: Options,
     journal: Vec<Entry>,
 ) -> Result<Vec<Entry>, AllocError>
+    requires range { InRange opts }
+    requires alone { opts.processors ≡ 1 }
     requires small { length input.now ≤ INPUT_BYTES }
-    requires paced { IsPaced code.now.ops }
-    requires reads { ReadsOf journal.items (record { used = 0; failed = false }) }
-    ensures { IfOk result (λ all. (source : Source) (s : State) → Lowered source code.now → Going source input.now entries journal.items s → Stands (laid_of code.now) work s → IsRunOf source input.now entries all.items) }
+    requires paced { IsPaced code.now.ops code.now.routines }
+    requires tells { Tells journal.items (record { bytes = 0; failed = false; since = 0; all = 0 }) }
+    requires room { length journal.items < opts.entries }
+    ensures { IfOk result (λ all. (source : Source) (s : State) → Lowered source code.now → Going source input.now opts journal.items answer.Go s → Stands (laid_of code.now) work s → IsRunOf source input.now opts all.items) }
 {
     let mut work = work;
     let mut journal = journal;
-    let mut reads = Reads {
-        used: 0,
+    let mut given = Answer::Go;
+    let mut tally = Tally {
+        bytes: 0,
         failed: false,
+        since: 0,
+        all: 0,
     };
     'requests: loop {
-        let asked = ride(code, &mut work)?;
-        let kept = keep(&mut journal, &mut reads, input, entries, asked)?;
+        let ridden = ride(code, work, given, opts.slice - tally.since, &OpenGate, 0, 0)?;
+        work = ridden.work;
+        let kept = keep(
+            &mut journal,
+            &mut tally,
+            input,
+            opts,
+            ridden.ticks,
+            ridden.asked,
+        )?;
         match kept {
             None => return Ok(journal),
-            Some(given) => answer(&mut work, given)?,
+            Some(next) => given = next,
         }
     }
 }

@@ -1,12 +1,15 @@
 // An activation of a routine or a handler.
 
-ghost use Rattle.std.specs.Prelude.{◌≡◌, ◌∷◌, OnOk, OnErr};
-ghost use Rattle.uc_meaning.specs.Executions.{begun};
-ghost use Rattle.uc_frames.specs.Machine.{top, below};
+ghost use Rattle.std.specs.Prelude.{◌≡◌, ◌∷◌, ◌-◌, [], drop, reverse, OnOk, OnErr, IfOk, replicate};
+ghost use Rattle.uc_meaning.specs.Executions.{begun, taken};
+ghost use Rattle.uc_frames.specs.Machine.{top, below, nought};
+ghost use Rattle.uc_frames.specs.Left.{call_frame, waiting};
 
 use crate::cell::Cell;
-use std::alloc::{AllocError, Global};
+use crate::operands::{drop_newest, new_frame, put_on_top, put_on_two};
+use std::alloc::AllocError;
 use std::marker::Model;
+use uc_code::rows::RoutineCode;
 use uc_meaning::exec::{Reason, Visited};
 
 /// What is next in an activation, its operands, the object of a member's call, the depth of the frame whose variables it
@@ -33,13 +36,14 @@ impl Model for Active {
 }
 
 impl Active {
-    /// An activation as it begins, at this op.
-    pub fn new(alloc: Global, entry: u32, this: Cell, frame: u32) -> Active
+    /// An activation as it begins, at this op, with an empty list for its operands.
+    pub fn new(operands: Vec<Cell>, entry: u32, this: Cell, frame: u32) -> Active
+        requires { operands.items ≡ [] }
         ensures { result ≡ begun entry this frame Cell.Nothing }
     {
         Active {
             next: entry,
-            operands: Vec::new(alloc),
+            operands,
             this,
             frame,
             handles: None,
@@ -97,5 +101,61 @@ impl Active {
             Some(cell) => *cell,
             None => Cell::Nothing,
         }
+    }
+
+    /// The operand below the newest one; nothing where there is none.
+    pub fn second(&self) -> Cell
+        ensures { result ≡ top (below self.now.operands) }
+    {
+        match self.operands.split_last() {
+            None => Cell::Nothing,
+            Some((_, others)) => match others.last() {
+                None => Cell::Nothing,
+                Some(cell) => *cell,
+            },
+        }
+    }
+
+    /// Another operand in the place of the newest one, if there is one.
+    pub fn replace(&mut self, cell: Cell) -> Result<(), AllocError>
+        ensures ok { OnOk result (self.new ≡ record self.old { operands = cell ∷ below self.old.operands }) }
+        ensures err { OnErr result (self.new ≡ self.old) }
+    {
+        put_on_top(&mut self.operands, cell)?;
+        Ok(())
+    }
+
+    /// Another operand in the place of the two newest ones, as far as there are any.
+    pub fn replace_two(&mut self, cell: Cell) -> Result<(), AllocError>
+        ensures ok { OnOk result (self.new ≡ record self.old { operands = cell ∷ below (below self.old.operands) }) }
+        ensures err { OnErr result (self.new ≡ self.old) }
+    {
+        put_on_two(&mut self.operands, cell)?;
+        Ok(())
+    }
+
+    /// The frame of a call from here, in an empty list: the newest operands are its parameters.
+    pub fn frame_of_call(
+        &self,
+        empty: Vec<Cell>,
+        routine: RoutineCode,
+    ) -> Result<Vec<Cell>, AllocError>
+        requires { empty.items ≡ [] }
+        ensures { IfOk result (λ cells. cells.items ≡ call_frame routine self.now.operands) }
+    {
+        let cells = new_frame(empty, &self.operands, routine)?;
+        Ok(cells)
+    }
+
+    /// It waits for a call: the parameters are no operands any more.
+    pub fn wait_for(&mut self, routine: RoutineCode)
+        ensures { self.new ≡ waiting routine self.old }
+    {
+        drop_newest(&mut self.operands, routine.params);
+    }
+
+    /// The list of its operands, to be used again.
+    pub fn into_operands(self) -> Vec<Cell> {
+        self.operands
     }
 }

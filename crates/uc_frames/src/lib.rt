@@ -7,6 +7,7 @@ mod frames;
 pub mod links;
 pub mod members;
 mod numbered;
+mod operands;
 pub mod pieces;
 pub mod stack;
 pub mod task;

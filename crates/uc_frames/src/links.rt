@@ -1,7 +1,8 @@
 // What travels with an execution besides its stack.
 
-ghost use Rattle.std.specs.Prelude.{◌≡◌};
-ghost use Rattle.uc_meaning.specs.Executions.{no_links};
+ghost use Rattle.std.specs.Prelude.{◌≡◌, ◌<◌};
+ghost use Rattle.uc_meaning.specs.Executions.{no_links, one_call_more, one_call_less};
+ghost use Rattle.uc_tree.specs.declared.limits.TheConstants.{CALLS};
 
 use std::alloc::Global;
 use std::marker::Model;
@@ -47,5 +48,27 @@ impl Links {
             mutex_calls: 0,
             builds: 0,
         }
+    }
+
+    /// How many calls are active.
+    pub fn calls(&self) -> u32
+        ensures { result ≡ self.now.calls }
+    {
+        self.calls
+    }
+
+    /// One active call more.
+    pub fn enter(&mut self)
+        requires { self.old.calls < CALLS }
+        ensures { self.new ≡ one_call_more self.old }
+    {
+        self.calls += 1;
+    }
+
+    /// One active call less.
+    pub fn leave(&mut self)
+        ensures { self.new ≡ one_call_less self.old }
+    {
+        self.calls = self.calls.saturating_sub(1);
     }
 }

@@ -3,6 +3,7 @@
 ghost use Rattle.std.specs.Prelude.{◌≡◌, ◌≤◌, [], length, OnOk, OnErr};
 ghost use Rattle.uc_tree.specs.declared.limits.TheConstants.{PRINT_ITEMS};
 ghost use Rattle.uc_meaning.specs.Quiet.{with_piece, print_of};
+ghost use Rattle.uc_frames.specs.Machine.{request_of};
 
 use std::alloc::{AllocError, Global};
 use std::marker::Model;
@@ -48,11 +49,14 @@ impl Pieces {
         Ok(())
     }
 
-    /// The request to print these items.
-    pub fn request(&self) -> Request
-        ensures { result ≡ print_of self.now }
+    /// The request to print these items, if there are any.
+    pub fn request(&self) -> Option<Request>
+        ensures { result ≡ request_of self.now }
     {
-        print_request(self.items.as_slice())
+        if self.items.is_empty() {
+            return None;
+        }
+        Some(print_request(self.items.as_slice()))
     }
 }
 

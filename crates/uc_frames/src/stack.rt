@@ -1,9 +1,10 @@
 // The stack of one execution.
 
-ghost use Rattle.std.specs.Prelude.{◌≡◌, ◌∷◌, ◌-◌, length, drop, replicate, reverse, nat_lt, IfOk, OnOk, OnErr, slice_get, slice_index_or};
-ghost use Rattle.uc_meaning.specs.Executions.{at_depth, list_in, frame_changed, values_cleared};
+ghost use Rattle.std.specs.Prelude.{◌≡◌, ◌∷◌, ◌-◌, ◌<◌, [], length, drop, replicate, reverse, nat_lt, IfOk, OnOk, OnErr, vec_len, slice_get, slice_index_or};
+ghost use Rattle.uc_meaning.specs.Executions.{at_depth, list_in, frame_changed, values_cleared, one_call_less};
 ghost use Rattle.uc_frames.specs.Machine.{nought, top, below, cell_written, first_execution, line_in, line_at};
-ghost use Rattle.uc_frames.specs.Left.{stack_left};
+ghost use Rattle.uc_frames.specs.Left.{stack_left, stack_entered};
+ghost use Rattle.uc_tree.specs.declared.limits.TheConstants.{CALLS};
 
 use crate::active::Active;
 use crate::cell::Cell;
@@ -11,10 +12,12 @@ use crate::frames::{clear_in, get_in, put_in, zeros};
 use crate::links::Links;
 use std::alloc::{AllocError, Global};
 use std::marker::Model;
+use std::mem;
 use uc_code::code::Code;
 use uc_code::rows::RoutineCode;
 
-/// An execution: its newest activation, those that wait for it, its frames and its links.
+/// An execution: its newest activation, those that wait for it, its frames and its links. The lists of calls that have ended
+/// are kept, so that a call takes memory only where no call before it left enough.
 #[derive(Drop)]
 pub struct Stack {
     alloc: Global,
@@ -22,6 +25,7 @@ pub struct Stack {
     callers: Vec<Active>,
     frames: Vec<Vec<Cell>>,
     links: Links,
+    spare: Vec<Vec<Cell>>,
 }
 
 impl Model for Stack {
@@ -46,10 +50,11 @@ impl Stack {
         frames.push(frame)?;
         Ok(Stack {
             alloc,
-            running: Active::new(alloc, routine.entry, this, 0),
+            running: Active::new(Vec::new(alloc), routine.entry, this, 0),
             callers: Vec::new(alloc),
             frames,
             links: Links::new(alloc),
+            spare: Vec::new(alloc),
         })
     }
 
@@ -74,20 +79,66 @@ impl Stack {
         0 < self.callers.len()
     }
 
-    /// The newest activation is left with its frame, and the one that waits for it goes on. Where none waits, all stays as
-    /// it is, and the answer is false.
-    pub fn leave(&mut self) -> bool
-        ensures called { result ≡ nat_lt 0 (length self.old.callers) }
-        ensures after { self.new ≡ stack_left self.old.callers self.old }
+    /// How many calls are active.
+    pub fn calls(&self) -> u32
+        ensures { result ≡ self.now.links.calls }
+    {
+        self.links.calls()
+    }
+
+    /// Calls a routine for this object: the newest operands are its parameters. A stack of `u32::MAX` frames has no more.
+    pub fn enter(&mut self, routine: RoutineCode, this: Cell) -> Result<(), AllocError>
+        requires { self.old.links.calls < CALLS }
+        ensures ok { OnOk result (self.new ≡ stack_entered routine this self.old) }
+        ensures err { OnErr result (self.new ≡ self.old) }
+    {
+        let depth = self.frames.len() as u32;
+        if depth == u32::MAX {
+            return Err(AllocError);
+        }
+        let empty = take_list(self.alloc, &mut self.spare);
+        let operands = take_list(self.alloc, &mut self.spare);
+        let frame = self.running.frame_of_call(empty, routine)?;
+        self.callers.reserve(1)?;
+        self.frames.push(frame)?;
+        let callee = Active::new(operands, routine.entry, this, depth);
+        let mut caller = mem::replace(&mut self.running, callee);
+        caller.wait_for(routine);
+        self.callers.push_reserved(caller);
+        self.links.enter();
+        Ok(())
+    }
+
+    /// The newest activation is left with its frame, and the one that waits for it goes on with what it is handed. Where none
+    /// waits, all stays as it is, and the answer is false.
+    pub fn leave(&mut self, given: Cell) -> Result<bool, AllocError>
+        ensures called { IfOk result (λ called. called ≡ nat_lt 0 (length self.old.callers)) }
+        ensures after { OnOk result (self.new ≡ stack_left given self.old.callers self.old) }
+        ensures err { OnErr result (self.new ≡ self.old) }
     {
         match self.callers.pop() {
-            None => false,
-            Some(caller) => {
-                self.running = caller;
-                let _ = self.frames.pop();
-                true
+            None => Ok(false),
+            Some(mut caller) => {
+                if caller.push(given).is_err() {
+                    self.callers.push_reserved(caller);
+                    return Err(AllocError);
+                }
+                self.go_back(caller);
+                Ok(true)
             }
         }
+    }
+
+    // This activation goes on in the place of the newest one, which goes with its frame.
+    fn go_back(&mut self, caller: Active)
+        ensures { self.new ≡ record self.old { run = caller; frames = drop 1 self.old.frames; links = one_call_less self.old.links } }
+    {
+        let left = mem::replace(&mut self.running, caller);
+        keep_list(&mut self.spare, left.into_operands());
+        if let Some(frame) = self.frames.pop() {
+            keep_list(&mut self.spare, frame);
+        }
+        self.links.leave();
     }
 
     /// The line of an op; for one of no line that of the newest call around it that has one.
@@ -97,12 +148,44 @@ impl Stack {
         line_from(code, &self.callers, line)
     }
 
+    /// The line of the op before the next one, so found.
+    pub fn line_behind(&self, code: &Code) -> u32
+        ensures { result ≡ line_at code.now.ops (line_in (slice_get code.now.ops (self.now.run.control - 1))) self.now.callers }
+    {
+        self.line(code, line_before(code, self.next()))
+    }
+
     /// One more operand.
     pub fn push(&mut self, cell: Cell) -> Result<(), AllocError>
         ensures ok { OnOk result (self.new ≡ record self.old { run = record self.old.run { operands = cell ∷ self.old.run.operands } }) }
         ensures err { OnErr result (self.new ≡ self.old) }
     {
         self.running.push(cell)?;
+        Ok(())
+    }
+
+    /// The operand below the newest one; nothing where there is none.
+    pub fn second(&self) -> Cell
+        ensures { result ≡ top (below self.now.run.operands) }
+    {
+        self.running.second()
+    }
+
+    /// Another operand in the place of the newest one, if there is one.
+    pub fn replace(&mut self, cell: Cell) -> Result<(), AllocError>
+        ensures ok { OnOk result (self.new ≡ record self.old { run = record self.old.run { operands = cell ∷ below self.old.run.operands } }) }
+        ensures err { OnErr result (self.new ≡ self.old) }
+    {
+        self.running.replace(cell)?;
+        Ok(())
+    }
+
+    /// Another operand in the place of the two newest ones, as far as there are any.
+    pub fn replace_two(&mut self, cell: Cell) -> Result<(), AllocError>
+        ensures ok { OnOk result (self.new ≡ record self.old { run = record self.old.run { operands = cell ∷ below (below self.old.run.operands) } }) }
+        ensures err { OnErr result (self.new ≡ self.old) }
+    {
+        self.running.replace_two(cell)?;
         Ok(())
     }
 
@@ -176,6 +259,25 @@ impl Stack {
     {
         clear_in(&mut self.frames, depth, cell, cells);
     }
+}
+
+// An empty list, one of these if there are any.
+fn take_list(alloc: Global, spare: &mut Vec<Vec<Cell>>) -> Vec<Cell>
+    ensures { result.items ≡ [] }
+{
+    match spare.pop() {
+        None => Vec::new(alloc),
+        Some(list) => {
+            let mut list = list;
+            list.clear();
+            list
+        }
+    }
+}
+
+// A list is kept, if there is room.
+fn keep_list(spare: &mut Vec<Vec<Cell>>, list: Vec<Cell>) {
+    let _ = spare.push(list);
 }
 
 // The line of an op, or of the newest of these calls that has one.

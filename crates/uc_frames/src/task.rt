@@ -1,11 +1,12 @@
 // A task without its hand.
 
-ghost use Rattle.std.specs.Prelude.{◌≡◌, ◌∷◌, [], length, nat_lt, None, Some, IfOk, OnOk, OnErr, MatchOption, slice_index_or};
+ghost use Rattle.std.specs.Prelude.{◌≡◌, ◌-◌, ◌<◌, ◌∷◌, [], length, nat_lt, None, Some, IfOk, OnOk, OnErr, MatchOption, slice_get, slice_index_or};
 ghost use Rattle.std.specs.Option.{is_some, option_map};
 ghost use Rattle.uc_meaning.specs.Executions.{at_depth, list_in, frame_changed, frames_changed, values_cleared, members_at, change, exec_eq};
 ghost use Rattle.uc_meaning.specs.Quiet.{with_piece};
-ghost use Rattle.uc_frames.specs.Machine.{nought, top, below, cell_written, first_machine, line_at};
-ghost use Rattle.uc_frames.specs.Left.{left};
+ghost use Rattle.uc_frames.specs.Machine.{nought, top, below, cell_written, first_machine, line_in, line_at};
+ghost use Rattle.uc_frames.specs.Left.{left, called};
+ghost use Rattle.uc_tree.specs.declared.limits.TheConstants.{CALLS};
 
 use crate::cell::Cell;
 use crate::members::Members;
@@ -96,6 +97,28 @@ impl Task {
         Ok(())
     }
 
+    pub(crate) fn second(&self) -> Cell
+        ensures { result ≡ top (below self.now.run.operands) }
+    {
+        self.running.second()
+    }
+
+    pub(crate) fn replace(&mut self, cell: Cell) -> Result<(), AllocError>
+        ensures ok { OnOk result (self.new ≡ record self.old { run = record self.old.run { operands = cell ∷ below self.old.run.operands } }) }
+        ensures err { OnErr result (self.new ≡ self.old) }
+    {
+        self.running.replace(cell)?;
+        Ok(())
+    }
+
+    pub(crate) fn replace_two(&mut self, cell: Cell) -> Result<(), AllocError>
+        ensures ok { OnOk result (self.new ≡ record self.old { run = record self.old.run { operands = cell ∷ below (below self.old.run.operands) } }) }
+        ensures err { OnErr result (self.new ≡ self.old) }
+    {
+        self.running.replace_two(cell)?;
+        Ok(())
+    }
+
     pub(crate) fn pop(&mut self) -> Cell
         ensures value { result ≡ top self.old.run.operands }
         ensures after { self.new ≡ record self.old { run = record self.old.run { operands = below self.old.run.operands } } }
@@ -116,18 +139,40 @@ impl Task {
         self.running.frame()
     }
 
-    pub(crate) fn leave(&mut self) -> bool
-        ensures called { result ≡ nat_lt 0 (length self.old.callers) }
-        ensures after { self.new ≡ left self.old.callers self.old }
+    pub(crate) fn calls(&self) -> u32
+        ensures { result ≡ self.now.env.links.calls }
     {
-        let called = self.running.leave();
-        called
+        self.running.calls()
+    }
+
+    pub(crate) fn enter(&mut self, routine: RoutineCode, this: Cell) -> Result<(), AllocError>
+        requires { self.old.env.links.calls < CALLS }
+        ensures ok { OnOk result (self.new ≡ called routine this self.old) }
+        ensures err { OnErr result (self.new ≡ self.old) }
+    {
+        self.running.enter(routine, this)?;
+        Ok(())
+    }
+
+    pub(crate) fn leave(&mut self, given: Cell) -> Result<bool, AllocError>
+        ensures called { IfOk result (λ called. called ≡ nat_lt 0 (length self.old.callers)) }
+        ensures after { OnOk result (self.new ≡ left given self.old.callers self.old) }
+        ensures err { OnErr result (self.new ≡ self.old) }
+    {
+        let called = self.running.leave(given)?;
+        Ok(called)
     }
 
     pub(crate) fn line(&self, code: &Code, line: u32) -> u32
         ensures { result ≡ line_at code.now.ops line self.now.callers }
     {
         self.running.line(code, line)
+    }
+
+    pub(crate) fn line_behind(&self, code: &Code) -> u32
+        ensures { result ≡ line_at code.now.ops (line_in (slice_get code.now.ops (self.now.run.control - 1))) self.now.callers }
+    {
+        self.running.line_behind(code)
     }
 
     // Whether this is the execution that runs.

@@ -1,11 +1,12 @@
 // The cells of a task with its hand.
 
-ghost use Rattle.std.specs.Prelude.{◌≡◌, ◌∷◌, [], length, nat_lt, None, Some, IfOk, OnOk, OnErr, MatchOption};
+ghost use Rattle.std.specs.Prelude.{◌≡◌, ◌-◌, ◌<◌, ◌∷◌, [], length, nat_lt, None, Some, IfOk, OnOk, OnErr, MatchOption, slice_get};
 ghost use Rattle.std.specs.Option.{is_some, option_map};
 ghost use Rattle.uc_meaning.specs.Executions.{frame_changed, frames_changed, members_at, parked_at, change, value_at, with_owned};
 ghost use Rattle.uc_meaning.specs.Quiet.{with_piece};
-ghost use Rattle.uc_frames.specs.Machine.{nought, top, below, cell_written, shifted, loaded, written, this_frame, cleared, with_hand, first_machine, line_at};
-ghost use Rattle.uc_frames.specs.Left.{left};
+ghost use Rattle.uc_frames.specs.Machine.{nought, top, below, cell_written, shifted, loaded, written, this_frame, cleared, with_hand, first_machine, line_in, line_at};
+ghost use Rattle.uc_frames.specs.Left.{left, called};
+ghost use Rattle.uc_tree.specs.declared.limits.TheConstants.{CALLS};
 
 use crate::cell::Cell;
 use crate::members::Members;
@@ -94,14 +95,32 @@ impl Work {
         self.task.has_caller()
     }
 
-    /// The running activation is left with its frame, and the one that waits for it goes on. Where none waits, all stays as
-    /// it is, and the answer is false.
-    pub fn leave(&mut self) -> bool
-        ensures called { result ≡ nat_lt 0 (length self.old.callers) }
-        ensures after { self.new ≡ left self.old.callers self.old }
+    /// How many calls are active in the running execution.
+    pub fn calls(&self) -> u32
+        ensures { result ≡ self.now.env.links.calls }
     {
-        let called = self.task.leave();
-        called
+        self.task.calls()
+    }
+
+    /// Calls a routine for this object: the newest operands are its parameters.
+    pub fn enter(&mut self, routine: RoutineCode, this: Cell) -> Result<(), AllocError>
+        requires { self.old.env.links.calls < CALLS }
+        ensures ok { OnOk result (self.new ≡ called routine this self.old) }
+        ensures err { OnErr result (self.new ≡ self.old) }
+    {
+        self.task.enter(routine, this)?;
+        Ok(())
+    }
+
+    /// The running activation is left with its frame, and the one that waits for it goes on with what it is handed. Where none
+    /// waits, all stays as it is, and the answer is false.
+    pub fn leave(&mut self, given: Cell) -> Result<bool, AllocError>
+        ensures called { IfOk result (λ called. called ≡ nat_lt 0 (length self.old.callers)) }
+        ensures after { OnOk result (self.new ≡ left given self.old.callers self.old) }
+        ensures err { OnErr result (self.new ≡ self.old) }
+    {
+        let called = self.task.leave(given)?;
+        Ok(called)
     }
 
     /// The line of an op; for one of no line that of the newest call around it that has one.
@@ -111,12 +130,44 @@ impl Work {
         self.task.line(code, line)
     }
 
+    /// The line of the op before the next one; of one of no line that of the newest call around it that has one.
+    pub fn line_behind(&self, code: &Code) -> u32
+        ensures { result ≡ line_at code.now.ops (line_in (slice_get code.now.ops (self.now.run.control - 1))) self.now.callers }
+    {
+        self.task.line_behind(code)
+    }
+
     /// One more operand.
     pub fn push(&mut self, cell: Cell) -> Result<(), AllocError>
         ensures ok { OnOk result (self.new ≡ record self.old { run = record self.old.run { operands = cell ∷ self.old.run.operands } }) }
         ensures err { OnErr result (self.new ≡ self.old) }
     {
         self.task.push(cell)?;
+        Ok(())
+    }
+
+    /// The operand below the newest one; nothing where there is none.
+    pub fn second(&self) -> Cell
+        ensures { result ≡ top (below self.now.run.operands) }
+    {
+        self.task.second()
+    }
+
+    /// Another operand in the place of the newest one, if there is one.
+    pub fn replace(&mut self, cell: Cell) -> Result<(), AllocError>
+        ensures ok { OnOk result (self.new ≡ record self.old { run = record self.old.run { operands = cell ∷ below self.old.run.operands } }) }
+        ensures err { OnErr result (self.new ≡ self.old) }
+    {
+        self.task.replace(cell)?;
+        Ok(())
+    }
+
+    /// Another operand in the place of the two newest ones, as far as there are any.
+    pub fn replace_two(&mut self, cell: Cell) -> Result<(), AllocError>
+        ensures ok { OnOk result (self.new ≡ record self.old { run = record self.old.run { operands = cell ∷ below (below self.old.run.operands) } }) }
+        ensures err { OnErr result (self.new ≡ self.old) }
+    {
+        self.task.replace_two(cell)?;
         Ok(())
     }
 
@@ -145,6 +196,21 @@ impl Work {
             depth: self.task.frame(),
         };
         Cell::Place(frame, u64::from(cell))
+    }
+
+    /// What a cell of the frame of the running activation holds.
+    pub fn get(&self, cell: u32) -> Cell
+        ensures { result ≡ loaded (shifted cell (Cell.Place (this_frame self.now) 0)) self.now.env }
+    {
+        self.task.read(self.task.frame(), u64::from(cell))
+    }
+
+    /// A cell of the frame of the running activation is written; a binding stays.
+    pub fn set(&mut self, cell: u32, value: Cell)
+        ensures { self.new ≡ record self.old { env = written (shifted cell (Cell.Place (this_frame self.old) 0)) value self.old.env } }
+    {
+        let frame = self.task.frame();
+        self.task.write(frame, u64::from(cell), value);
     }
 
     /// What the place in a cell holds; 0 where the cell is no place, or nothing in hand is there.

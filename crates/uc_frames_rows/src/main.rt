@@ -15,8 +15,19 @@ use uc_frames::task::Task;
 use uc_frames::work::{Hand, Work};
 use uc_meaning::exec::{Exec, Home, Owner};
 use uc_meaning::request::{Piece, Request};
+use uc_tree::limits::CALLS;
 
-const MAIN: RoutineCode = RoutineCode { entry: 7, cells: 3 };
+const MAIN: RoutineCode = RoutineCode {
+    entry: 7,
+    cells: 3,
+    params: 0,
+};
+
+const CALLED: RoutineCode = RoutineCode {
+    entry: 20,
+    cells: 3,
+    params: 2,
+};
 
 /// A line of a name and cells.
 fn line(alloc: Global, name: &str, cells: &[Cell]) -> Result<String, AllocError> {
@@ -41,9 +52,79 @@ fn ops(alloc: Global) -> Result<String, AllocError> {
 /// Nobody waits for a main: it is not left.
 fn left(alloc: Global) -> Result<String, AllocError> {
     let mut work = Work::first(alloc, MAIN, 4)?;
-    let went = work.leave();
+    let went = work.leave(Cell::Number(9))?;
     let cells = [truth(went), number(work.next()), truth(work.has_caller())];
     line(alloc, "left", cells.as_slice())
+}
+
+/// A call takes its parameters off the operands, the last one from the top; its other cells are 0.
+fn called(alloc: Global) -> Result<String, AllocError> {
+    let mut work = Work::first(alloc, MAIN, 4)?;
+    work.push(Cell::Number(4))?;
+    work.push(Cell::Number(5))?;
+    work.push(Cell::Object(6))?;
+    if work.calls() < CALLS {
+        work.enter(CALLED, Cell::Nothing)?;
+    }
+    let cells = [
+        number(work.calls()),
+        number(work.next()),
+        work.get(0),
+        work.get(1),
+        work.get(2),
+        work.get(3),
+        work.top(),
+    ];
+    line(alloc, "called", cells.as_slice())
+}
+
+/// A call without operands for its parameters.
+fn called_bare(alloc: Global) -> Result<String, AllocError> {
+    let mut work = Work::first(alloc, MAIN, 4)?;
+    work.push(Cell::Number(5))?;
+    if work.calls() < CALLS {
+        work.enter(CALLED, Cell::Nothing)?;
+    }
+    let cells = [work.get(0), work.get(1), work.get(2)];
+    line(alloc, "called bare", cells.as_slice())
+}
+
+/// Back from a call with what it hands over.
+fn returned(alloc: Global) -> Result<String, AllocError> {
+    let mut work = Work::first(alloc, MAIN, 4)?;
+    work.set(1, Cell::Number(3));
+    work.push(Cell::Number(4))?;
+    work.push(Cell::Number(5))?;
+    work.push(Cell::Number(6))?;
+    if work.calls() < CALLS {
+        work.enter(CALLED, Cell::Nothing)?;
+    }
+    work.set(1, Cell::Number(70));
+    work.push(Cell::Number(71))?;
+    let went = work.leave(Cell::Number(8))?;
+    let cells = [
+        truth(went),
+        number(work.calls()),
+        number(work.next()),
+        work.get(1),
+        work.pop(),
+        work.pop(),
+        work.pop(),
+    ];
+    line(alloc, "returned", cells.as_slice())
+}
+
+/// One operand in the place of one, and of two.
+fn replaced(alloc: Global) -> Result<String, AllocError> {
+    let mut work = Work::first(alloc, MAIN, 4)?;
+    work.replace(Cell::Number(1))?;
+    work.push(Cell::Number(2))?;
+    work.push(Cell::Number(3))?;
+    let second = work.second();
+    work.replace_two(Cell::Number(7))?;
+    work.replace(Cell::Object(8))?;
+    let cells = [second, work.pop(), work.pop(), work.pop()];
+    line(alloc, "replaced", cells.as_slice())
 }
 
 fn number(n: u32) -> Cell {
@@ -194,7 +275,10 @@ fn gathered(alloc: Global) -> Result<String, AllocError> {
     work.gather(Piece { form: 0, value: 3 })?;
     match work.take_gathered() {
         None => line(alloc, "none gathered", [].as_slice()),
-        Some(pieces) => printed(alloc, &pieces.request()),
+        Some(pieces) => match pieces.request() {
+            None => line(alloc, "no items", [].as_slice()),
+            Some(request) => printed(alloc, &request),
+        },
     }
 }
 
@@ -235,6 +319,10 @@ fn main(rt: HostRuntime) -> io::Result<()> {
     let texts = [
         ops(alloc)?,
         left(alloc)?,
+        called(alloc)?,
+        called_bare(alloc)?,
+        returned(alloc)?,
+        replaced(alloc)?,
         operands(alloc)?,
         variables(alloc)?,
         cleared(alloc)?,

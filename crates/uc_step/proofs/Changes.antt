@@ -8,7 +8,7 @@ use Rattle.uc_meaning.specs.declared.exec.Home.TheVariants.{Task, Object}
 use Rattle.uc_meaning.specs.declared.exec.Owner.{Owner}
 use Rattle.uc_meaning.specs.declared.exec.Owner.TheVariants.{Frame, Fields}
 use Rattle.uc_meaning.specs.declared.request.Piece.{Piece}
-use Rattle.uc_meaning.specs.Executions.{Activation, Execution, Members, Env, exec_eq, at_depth, frame_changed, list_in, values_in, frames_in, members_at, set_members, slot_in, parked_at, change_in, change, frames_of, frames_by, frames_changed, with_frames, owned, value_at, with_owned}
+use Rattle.uc_meaning.specs.Executions.{Activation, Execution, Links, Members, Env, exec_eq, at_depth, frame_changed, list_in, values_in, frames_in, members_at, set_members, slot_in, parked_at, change_in, change, frames_of, frames_by, frames_changed, with_frames, owned, value_at, with_owned}
 use Rattle.uc_frames.specs.Parts.{Alike, ExecutionStands, MembersStand, EnvStands}
 use Rattle.uc_step.proofs.Lists.{find_both, update_both, joined_both, at_map, frame_map}
 
@@ -116,7 +116,7 @@ module _ {A B V W : Type 0} (R K : Activation A V → Activation B W → Type 0)
   gathered_both x y m s q e =
       record { frames = e.frames; links = e.links; exec = e.exec; own = e.own; house = e.house; depths = e.depths; hand = e.hand; gathered = q }
 
-  -- other frames in the running execution
-  pub framed_both : (m : Env A V) (s : Env B W) (fs : List (List V)) (gs : List (List W)) → fs ≡ map (map f) gs → En m s → En (record m { frames = fs }) (record s { frames = gs })
-  framed_both m s fs gs q e =
-      record { frames = q; links = e.links; exec = e.exec; own = e.own; house = e.house; depths = e.depths; hand = e.hand; gathered = e.gathered }
+  -- other frames and links in the running execution
+  pub framed_both : (m : Env A V) (s : Env B W) (fs : List (List V)) (gs : List (List W)) (l k : Links) → fs ≡ map (map f) gs → l ≡ k → En m s → En (record m { frames = fs; links = l }) (record s { frames = gs; links = k })
+  framed_both m s fs gs l k q r e =
+      record { frames = q; links = r; exec = e.exec; own = e.own; house = e.house; depths = e.depths; hand = e.hand; gathered = e.gathered }

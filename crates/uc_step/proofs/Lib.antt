@@ -9,9 +9,12 @@ pub mod Simulates
 pub mod SimulateValues
 pub mod SimulatePlaces
 pub mod SimulateOutside
-pub mod Simulate
 pub mod Routines
 pub mod Starts
+pub mod SimulateControl
+pub mod SimulateCalls
+pub mod Simulate
 pub mod Rode
 pub mod Powers
 pub mod Falls
+pub mod Onwards

@@ -22,3 +22,8 @@ power_rises a b l =
 pub power_less : (a c : ℕ) → a < c → power a < power c
 power_less a zero l = absurd (omega arith)
 power_less a (suc c) l = omega (arith, power_rises a c (omega arith), step c, power_more c)
+
+-- two lower powers together are less
+pub power_both : (a b c : ℕ) → a < c → b < c → power a + power b < power c
+power_both a b zero l k = absurd (omega arith)
+power_both a b (suc c) l k = omega (arith, power_rises a c (omega arith), power_rises b c (omega arith), step c, power_more c)

@@ -5,6 +5,7 @@ use Rattle.uc_tree.specs.Source.{Routine}
 use Rattle.uc_code.specs.declared.rows.RoutineCode.{RoutineCode}
 use Rattle.uc_code.specs.Laid.{Laid}
 use Rattle.uc_code.specs.Lowered.{RoutineAt, RoutinesAt}
+use Rattle.uc_frames.specs.Parts.{Alike}
 
 pub record CodeOf (laid : Laid) (r : Routine) (cs : List RoutineCode) (i : ℕ) : Type 0 where
   pub code : RoutineCode
@@ -28,3 +29,16 @@ routine_at laid (q ∷ rs) (c ∷ cs) a z zero r h e =
 routine_at laid (q ∷ rs) (c ∷ cs) a z (suc i) r h e =
     let o = routine_at laid rs cs h.middle z i r h.second e in
     record { code = o.code; there = o.there; from = o.from; to = o.to; at = o.at }
+
+-- so each routine has its code, and nothing else has
+pub record Stood (laid : Laid) (c : RoutineCode) (r : Routine) : Type 0 where
+  pub from : ℕ
+  pub to : ℕ
+  pub at : RoutineAt laid r c from to
+
+pub routines_alike : (laid : Laid) (rs : List Routine) (cs : List RoutineCode) (a z i : ℕ) → RoutinesAt laid rs cs a z → Alike (Stood laid) (slice_get cs i) (slice_get rs i)
+routines_alike laid [] [] a z i h = tt
+routines_alike laid [] (c ∷ cs) a z i h = absurd h
+routines_alike laid (r ∷ rs) [] a z i h = absurd h
+routines_alike laid (r ∷ rs) (c ∷ cs) a z zero h = record { from = a; to = h.middle; at = h.first }
+routines_alike laid (r ∷ rs) (c ∷ cs) a z (suc i) h = routines_alike laid rs cs h.middle z i h.second

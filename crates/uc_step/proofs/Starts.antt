@@ -1,7 +1,7 @@
 -- A main as it begins, and answers.
 use Rattle.std.proofs.Common.{◌≡◌, ℕ, [], ◌∷◌, None, Some, ℤ, refl, sym, subst, ap, ◌∙◌}
 use Rattle.std.specs.Prelude.{slice_get}
-use Rattle.uc_tree.specs.Source.{Purpose, Called, TaskMain, Routine, Source, line_by}
+use Rattle.uc_tree.specs.Source.{Purpose, TaskMain, Procedure, Function, Builder, Routine, Source}
 use Rattle.uc_meaning.specs.declared.request.Answer.{Answer}
 use Rattle.uc_meaning.specs.declared.request.Answer.TheVariants as answer
 use Rattle.uc_meaning.specs.Quiet as quiet
@@ -12,8 +12,8 @@ use Rattle.uc_code.specs.declared.op.Op.TheVariants as op
 use Rattle.uc_code.specs.declared.rows.RoutineCode.{RoutineCode}
 use Rattle.uc_code.specs.Codes.{Code}
 use Rattle.uc_code.specs.Laid.{Laid, laid_of}
-use Rattle.uc_code.specs.Ranges.{One, Arrived}
-use Rattle.uc_code.specs.Lowered.{RoutineAt, Lowered}
+use Rattle.uc_code.specs.Ranges.{Arrived}
+use Rattle.uc_code.specs.Lowered.{body_marks, EndAt, RoutineAt, Lowered}
 use Rattle.uc_frames.specs.declared.cell.Cell.TheVariants.{Number}
 use Rattle.uc_frames.specs.Machine.{Machine, cell_of, first_machine}
 use Rattle.uc_frames.specs.Stands.{FollowsAt, Stands}
@@ -24,20 +24,25 @@ use Rattle.uc_step.proofs.Routines.{routine_at}
 
 module _ (code : Laid) where
   -- what is behind a routine's body
-  ended : (p : Purpose) (line a z : ℕ) → One code op.Return (line_by p line) a z → FollowsAt code (behind_body p line) [] a
-  ended Called line a z h =
-      record { from = a; to = a; leads = Arrived a; piece = record { end = refl }; on = record { none = refl; end = a; leads = Arrived a; returns = h.here } }
-  ended TaskMain line a z h = record { none = refl; end = a; leads = Arrived a; returns = h.here }
+  ended : (p : Purpose) (line a z : ℕ) → EndAt code p line a z → FollowsAt code (behind_body p line) (body_marks p line) a
+  ended TaskMain line a z h = record { pops = refl; end = a; leads = Arrived a; returns = h.here }
+  ended Procedure line a z h = record { none = refl; end = a; leads = Arrived a; returns = h.here }
+  ended Function line a z h =
+      let m : ℕ = h.middle in
+      let last : FollowsAt code [] [] m = record { none = refl; end = m; leads = Arrived m; returns = h.second.here } in
+      let within : FollowsAt code (Within line ∷ []) [] m = record { from = m; to = m; leads = Arrived m; piece = record { end = refl }; on = last } in
+      record { from = a; to = m; leads = Arrived a; piece = h.first; on = within }
+  ended Builder line a z h = record { none = refl; end = a; leads = Arrived a; returns = h.here }
 
   -- the code of a routine does what is to do in it
-  begun : (r : Routine) (c : RoutineCode) (a z : ℕ) → RoutineAt code r c a z → FollowsAt code (routine_todo r) [] c.entry
+  pub begun : (r : Routine) (c : RoutineCode) (a z : ℕ) → RoutineAt code r c a z → FollowsAt code (routine_todo r) (body_marks r.purpose r.line) c.entry
   begun r c a z h =
       rw (h.entry) (record { from = a; to = h.body.middle; leads = Arrived a; piece = h.body.first; on = ended r.purpose r.line h.body.middle z h.body.second })
 
   -- the first machine of a routine's code stands for the first state of the routine
   pub begins : (r : Routine) (c : RoutineCode) (o a z : ℕ) → RoutineAt code r c a z → Stands code (first_machine c o) (first_state r o)
   begins r c o a z h = record {
-    run = record { marks = []; follows = begun r c a z h; is = refl };
+    run = record { marks = body_marks r.purpose r.line; follows = begun r c a z h; is = refl };
     callers = tt;
     env = record {
       frames = rw h.cells (ap (λ f. f ∷ []) (replicate_map cell_of r.cells quiet.nought));

@@ -1,58 +1,117 @@
-// The ops that go on elsewhere, and the end of an activation.
+// The ops that go on elsewhere, calls, and the ends of activations.
 
-ghost use Rattle.std.specs.Prelude.{IfOk};
-ghost use Rattle.uc_step.specs.Acts.{Does};
+ghost use Rattle.std.specs.Prelude.{◌≡◌, IfOk, OnOk, OnErr, Some};
+ghost use Rattle.uc_step.specs.Acts.{act_call, act_return, Does, Ends};
 
-use crate::stepped::{Stepped, asked};
+use crate::stepped::{Stepped, asked, faulted};
 use std::alloc::AllocError;
 use uc_code::code::Code;
 use uc_code::op::Op;
-use uc_frames::cell::number_in;
+use uc_code::rows::RoutineCode;
+use uc_frames::cell::{Cell, number_in};
 use uc_frames::work::Work;
+use uc_meaning::fault::RunFault;
 use uc_meaning::request::Request;
+use uc_tree::limits::CALLS;
 
-pub(crate) fn jump(code: &Code, line: u32, work: &mut Work, to: u32) -> Result<Stepped, AllocError>
-    ensures { IfOk result (λ how. Does code.now line (Op.Jump to) work.old how work.new) }
+pub(crate) fn jump(code: &Code, line: u32, work: &mut Work, to: u32) -> Result<(), AllocError>
+    ensures ok { OnOk result (Does code.now line (Op.Jump to) work.old Stepped.Quiet work.new) }
+    ensures err { OnErr result (work.new ≡ work.old) }
 {
     work.go(to);
-    Ok(Stepped::Quiet)
+    Ok(())
 }
 
-pub(crate) fn if_zero(
-    code: &Code,
-    line: u32,
-    work: &mut Work,
-    to: u32,
-) -> Result<Stepped, AllocError>
-    ensures { IfOk result (λ how. Does code.now line (Op.IfZero to) work.old how work.new) }
+pub(crate) fn if_zero(code: &Code, line: u32, work: &mut Work, to: u32) -> Result<(), AllocError>
+    ensures ok { OnOk result (Does code.now line (Op.IfZero to) work.old Stepped.Quiet work.new) }
+    ensures err { OnErr result (work.new ≡ work.old) }
 {
     if number_in(work.pop()) == 0 {
         work.go(to);
     }
-    Ok(Stepped::Quiet)
+    Ok(())
 }
 
-pub(crate) fn if_nonzero(
-    code: &Code,
-    line: u32,
-    work: &mut Work,
-    to: u32,
-) -> Result<Stepped, AllocError>
-    ensures { IfOk result (λ how. Does code.now line (Op.IfNonzero to) work.old how work.new) }
+pub(crate) fn if_nonzero(code: &Code, line: u32, work: &mut Work, to: u32) -> Result<(), AllocError>
+    ensures ok { OnOk result (Does code.now line (Op.IfNonzero to) work.old Stepped.Quiet work.new) }
+    ensures err { OnErr result (work.new ≡ work.old) }
 {
     if number_in(work.pop()) != 0 {
         work.go(to);
     }
-    Ok(Stepped::Quiet)
+    Ok(())
 }
 
-// The activation that waits goes on, or the task ends.
+// The activation that waits goes on with 0, or the task ends.
 pub(crate) fn give_back(code: &Code, line: u32, work: &mut Work) -> Result<Stepped, AllocError>
-    ensures { IfOk result (λ how. Does code.now line Op.Return work.old how work.new) }
+    ensures ok { IfOk result (λ how. Does code.now line Op.Return work.old how work.new) }
+    ensures err { OnErr result (work.new ≡ work.old) }
 {
-    if work.leave() {
+    let how = hand_over(code, line, work, Cell::Number(0))?;
+    Ok(how)
+}
+
+pub(crate) fn return_value(code: &Code, line: u32, work: &mut Work) -> Result<Stepped, AllocError>
+    ensures ok { IfOk result (λ how. Does code.now line Op.ReturnValue work.old how work.new) }
+    ensures err { OnErr result (work.new ≡ work.old) }
+{
+    let given = work.top();
+    let how = hand_over(code, line, work, given)?;
+    Ok(how)
+}
+
+// The activation that waits goes on with what it is handed, or the task ends.
+fn hand_over(code: &Code, line: u32, work: &mut Work, given: Cell) -> Result<Stepped, AllocError>
+    ensures ok { IfOk result (λ how. Ends (act_return code.now line given work.old.callers work.old) how work.new) }
+    ensures err { OnErr result (work.new ≡ work.old) }
+{
+    if work.leave(given)? {
         Ok(Stepped::Quiet)
     } else {
         Ok(asked(code, line, work, Request::End))
+    }
+}
+
+// A routine has ended without the value that it owes.
+pub(crate) fn no_return(code: &Code, line: u32, work: &mut Work) -> Result<Stepped, AllocError>
+    ensures ok { IfOk result (λ how. Does code.now line Op.NoReturn work.old how work.new) }
+    ensures err { OnErr result (work.new ≡ work.old) }
+{
+    Ok(faulted(code, line, work, RunFault::NoReturn))
+}
+
+pub(crate) fn call(
+    code: &Code,
+    line: u32,
+    work: &mut Work,
+    number: u32,
+) -> Result<Stepped, AllocError>
+    ensures ok { IfOk result (λ how. Does code.now line (Op.Call number) work.old how work.new) }
+    ensures err { OnErr result (work.new ≡ work.old) }
+{
+    match code.routine(number) {
+        None => Ok(asked(code, line, work, Request::End)),
+        Some(routine) => {
+            let how = enter(code, line, work, routine)?;
+            Ok(how)
+        }
+    }
+}
+
+// A call, unless too many are active.
+fn enter(
+    code: &Code,
+    line: u32,
+    work: &mut Work,
+    routine: RoutineCode,
+) -> Result<Stepped, AllocError>
+    ensures ok { IfOk result (λ how. Ends (act_call code.now line (Some routine) work.old) how work.new) }
+    ensures err { OnErr result (work.new ≡ work.old) }
+{
+    if work.calls() < CALLS {
+        work.enter(routine, Cell::Nothing)?;
+        Ok(Stepped::Quiet)
+    } else {
+        Ok(faulted(code, line, work, RunFault::Depth))
     }
 }

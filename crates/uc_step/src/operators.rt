@@ -1,6 +1,6 @@
 // The ops that compute with the newest operands.
 
-ghost use Rattle.std.specs.Prelude.{◌≡◌, IfOk};
+ghost use Rattle.std.specs.Prelude.{◌≡◌, IfOk, OnOk, OnErr};
 ghost use Rattle.uc_frames.specs.Machine.{top, below, cell_number};
 ghost use Rattle.uc_step.specs.Acts.{act_outcome, with_operands, Does, Ends};
 ghost use Rattle.uc_step.specs.Given.{outcome_of};
@@ -15,154 +15,199 @@ use uc_frames::cell::{Cell, number_in};
 use uc_frames::work::Work;
 use uc_tree::limits::CHAR_VALUES;
 
-// What was given is pushed, or is a fault.
-fn give(code: &Code, line: u32, work: &mut Work, given: Given) -> Result<Stepped, AllocError>
-    ensures { IfOk result (λ how. Ends (act_outcome code.now line (outcome_of given) work.old) how work.new) }
+// What was given takes the place of the newest operand, or is a fault.
+fn give_one(code: &Code, line: u32, work: &mut Work, given: Given) -> Result<Stepped, AllocError>
+    ensures ok { IfOk result (λ how. Ends (act_outcome code.now line (outcome_of given) (with_operands (below work.old.run.operands) work.old)) how work.new) }
+    ensures err { OnErr result (work.new ≡ work.old) }
 {
     match given {
         Given::Number(number) => {
-            work.push(Cell::Number(number))?;
+            work.replace(Cell::Number(number))?;
             Ok(Stepped::Quiet)
         }
-        Given::Fault(fault) => Ok(faulted(code, line, work, fault)),
+        Given::Fault(fault) => {
+            work.pop();
+            Ok(faulted(code, line, work, fault))
+        }
     }
 }
 
-// Takes the newest operand, as a number.
-fn take_number(work: &mut Work) -> i64
-    ensures value { result ≡ cell_number (top work.old.run.operands) }
-    ensures after { work.new ≡ with_operands (below work.old.run.operands) work.old }
+// What was given takes the place of the two newest operands, or is a fault.
+fn give_two(code: &Code, line: u32, work: &mut Work, given: Given) -> Result<Stepped, AllocError>
+    ensures ok { IfOk result (λ how. Ends (act_outcome code.now line (outcome_of given) (with_operands (below (below work.old.run.operands)) work.old)) how work.new) }
+    ensures err { OnErr result (work.new ≡ work.old) }
 {
-    number_in(work.pop())
+    match given {
+        Given::Number(number) => {
+            work.replace_two(Cell::Number(number))?;
+            Ok(Stepped::Quiet)
+        }
+        Given::Fault(fault) => {
+            work.pop();
+            work.pop();
+            Ok(faulted(code, line, work, fault))
+        }
+    }
 }
 
-// Takes the two newest operands, as numbers: the left one is below the right one.
-fn take_numbers(work: &mut Work) -> (i64, i64)
-    ensures left { result.0 ≡ cell_number (top (below work.old.run.operands)) }
-    ensures right { result.1 ≡ cell_number (top work.old.run.operands) }
-    ensures after { work.new ≡ with_operands (below (below work.old.run.operands)) work.old }
+// The newest operand as a number.
+pub(crate) fn newest(work: &Work) -> i64
+    ensures { result ≡ cell_number (top work.now.run.operands) }
 {
-    let right = take_number(work);
-    let left = take_number(work);
-    (left, right)
+    number_in(work.top())
+}
+
+// The operand below it as a number.
+pub(crate) fn second(work: &Work) -> i64
+    ensures { result ≡ cell_number (top (below work.now.run.operands)) }
+{
+    number_in(work.second())
 }
 
 pub(crate) fn add(code: &Code, line: u32, work: &mut Work) -> Result<Stepped, AllocError>
-    ensures { IfOk result (λ how. Does code.now line Op.Add work.old how work.new) }
+    ensures ok { IfOk result (λ how. Does code.now line Op.Add work.old how work.new) }
+    ensures err { OnErr result (work.new ≡ work.old) }
 {
-    let (left, right) = take_numbers(work);
-    let how = give(code, line, work, numbers::plus(left, right))?;
+    let how = give_two(code, line, work, numbers::plus(second(work), newest(work)))?;
     Ok(how)
 }
 
 pub(crate) fn subtract(code: &Code, line: u32, work: &mut Work) -> Result<Stepped, AllocError>
-    ensures { IfOk result (λ how. Does code.now line Op.Subtract work.old how work.new) }
+    ensures ok { IfOk result (λ how. Does code.now line Op.Subtract work.old how work.new) }
+    ensures err { OnErr result (work.new ≡ work.old) }
 {
-    let (left, right) = take_numbers(work);
-    let how = give(code, line, work, numbers::minus(left, right))?;
+    let how = give_two(code, line, work, numbers::minus(second(work), newest(work)))?;
     Ok(how)
 }
 
 pub(crate) fn multiply(code: &Code, line: u32, work: &mut Work) -> Result<Stepped, AllocError>
-    ensures { IfOk result (λ how. Does code.now line Op.Multiply work.old how work.new) }
+    ensures ok { IfOk result (λ how. Does code.now line Op.Multiply work.old how work.new) }
+    ensures err { OnErr result (work.new ≡ work.old) }
 {
-    let (left, right) = take_numbers(work);
-    let how = give(code, line, work, numbers::times(left, right))?;
+    let how = give_two(code, line, work, numbers::times(second(work), newest(work)))?;
     Ok(how)
 }
 
 pub(crate) fn divide(code: &Code, line: u32, work: &mut Work) -> Result<Stepped, AllocError>
-    ensures { IfOk result (λ how. Does code.now line Op.Divide work.old how work.new) }
+    ensures ok { IfOk result (λ how. Does code.now line Op.Divide work.old how work.new) }
+    ensures err { OnErr result (work.new ≡ work.old) }
 {
-    let (left, right) = take_numbers(work);
-    let how = give(code, line, work, numbers::over(left, right))?;
+    let how = give_two(code, line, work, numbers::over(second(work), newest(work)))?;
     Ok(how)
 }
 
 pub(crate) fn remainder(code: &Code, line: u32, work: &mut Work) -> Result<Stepped, AllocError>
-    ensures { IfOk result (λ how. Does code.now line Op.Remainder work.old how work.new) }
+    ensures ok { IfOk result (λ how. Does code.now line Op.Remainder work.old how work.new) }
+    ensures err { OnErr result (work.new ≡ work.old) }
 {
-    let (left, right) = take_numbers(work);
-    let how = give(code, line, work, numbers::modulo(left, right))?;
+    let how = give_two(
+        code,
+        line,
+        work,
+        numbers::modulo(second(work), newest(work)),
+    )?;
     Ok(how)
 }
 
 pub(crate) fn equal(code: &Code, line: u32, work: &mut Work) -> Result<Stepped, AllocError>
-    ensures { IfOk result (λ how. Does code.now line Op.Equal work.old how work.new) }
+    ensures ok { IfOk result (λ how. Does code.now line Op.Equal work.old how work.new) }
+    ensures err { OnErr result (work.new ≡ work.old) }
 {
-    let (left, right) = take_numbers(work);
-    let how = give(code, line, work, numbers::equal(left, right))?;
+    let how = give_two(code, line, work, numbers::equal(second(work), newest(work)))?;
     Ok(how)
 }
 
 pub(crate) fn not_equal(code: &Code, line: u32, work: &mut Work) -> Result<Stepped, AllocError>
-    ensures { IfOk result (λ how. Does code.now line Op.NotEqual work.old how work.new) }
+    ensures ok { IfOk result (λ how. Does code.now line Op.NotEqual work.old how work.new) }
+    ensures err { OnErr result (work.new ≡ work.old) }
 {
-    let (left, right) = take_numbers(work);
-    let how = give(code, line, work, numbers::not_equal(left, right))?;
+    let how = give_two(
+        code,
+        line,
+        work,
+        numbers::not_equal(second(work), newest(work)),
+    )?;
     Ok(how)
 }
 
 pub(crate) fn less(code: &Code, line: u32, work: &mut Work) -> Result<Stepped, AllocError>
-    ensures { IfOk result (λ how. Does code.now line Op.Less work.old how work.new) }
+    ensures ok { IfOk result (λ how. Does code.now line Op.Less work.old how work.new) }
+    ensures err { OnErr result (work.new ≡ work.old) }
 {
-    let (left, right) = take_numbers(work);
-    let how = give(code, line, work, numbers::less(left, right))?;
+    let how = give_two(code, line, work, numbers::less(second(work), newest(work)))?;
     Ok(how)
 }
 
 pub(crate) fn at_most(code: &Code, line: u32, work: &mut Work) -> Result<Stepped, AllocError>
-    ensures { IfOk result (λ how. Does code.now line Op.AtMost work.old how work.new) }
+    ensures ok { IfOk result (λ how. Does code.now line Op.AtMost work.old how work.new) }
+    ensures err { OnErr result (work.new ≡ work.old) }
 {
-    let (left, right) = take_numbers(work);
-    let how = give(code, line, work, numbers::at_most(left, right))?;
+    let how = give_two(
+        code,
+        line,
+        work,
+        numbers::at_most(second(work), newest(work)),
+    )?;
     Ok(how)
 }
 
 pub(crate) fn greater(code: &Code, line: u32, work: &mut Work) -> Result<Stepped, AllocError>
-    ensures { IfOk result (λ how. Does code.now line Op.Greater work.old how work.new) }
+    ensures ok { IfOk result (λ how. Does code.now line Op.Greater work.old how work.new) }
+    ensures err { OnErr result (work.new ≡ work.old) }
 {
-    let (left, right) = take_numbers(work);
-    let how = give(code, line, work, numbers::greater(left, right))?;
+    let how = give_two(
+        code,
+        line,
+        work,
+        numbers::greater(second(work), newest(work)),
+    )?;
     Ok(how)
 }
 
 pub(crate) fn at_least(code: &Code, line: u32, work: &mut Work) -> Result<Stepped, AllocError>
-    ensures { IfOk result (λ how. Does code.now line Op.AtLeast work.old how work.new) }
+    ensures ok { IfOk result (λ how. Does code.now line Op.AtLeast work.old how work.new) }
+    ensures err { OnErr result (work.new ≡ work.old) }
 {
-    let (left, right) = take_numbers(work);
-    let how = give(code, line, work, numbers::at_least(left, right))?;
+    let how = give_two(
+        code,
+        line,
+        work,
+        numbers::at_least(second(work), newest(work)),
+    )?;
     Ok(how)
 }
 
 pub(crate) fn negate(code: &Code, line: u32, work: &mut Work) -> Result<Stepped, AllocError>
-    ensures { IfOk result (λ how. Does code.now line Op.Negate work.old how work.new) }
+    ensures ok { IfOk result (λ how. Does code.now line Op.Negate work.old how work.new) }
+    ensures err { OnErr result (work.new ≡ work.old) }
 {
-    let number = take_number(work);
-    let how = give(code, line, work, numbers::negative(number))?;
+    let how = give_one(code, line, work, numbers::negative(newest(work)))?;
     Ok(how)
 }
 
-pub(crate) fn not(code: &Code, line: u32, work: &mut Work) -> Result<Stepped, AllocError>
-    ensures { IfOk result (λ how. Does code.now line Op.Not work.old how work.new) }
+pub(crate) fn not(code: &Code, line: u32, work: &mut Work) -> Result<(), AllocError>
+    ensures ok { OnOk result (Does code.now line Op.Not work.old Stepped.Quiet work.new) }
+    ensures err { OnErr result (work.new ≡ work.old) }
 {
-    let number = take_number(work);
-    work.push(Cell::Number(one_if(number == 0)))?;
-    Ok(Stepped::Quiet)
+    let number = newest(work);
+    work.replace(Cell::Number(one_if(number == 0)))?;
+    Ok(())
 }
 
-pub(crate) fn to_char(code: &Code, line: u32, work: &mut Work) -> Result<Stepped, AllocError>
-    ensures { IfOk result (λ how. Does code.now line Op.ToChar work.old how work.new) }
+pub(crate) fn to_char(code: &Code, line: u32, work: &mut Work) -> Result<(), AllocError>
+    ensures ok { OnOk result (Does code.now line Op.ToChar work.old Stepped.Quiet work.new) }
+    ensures err { OnErr result (work.new ≡ work.old) }
 {
-    let number = take_number(work);
-    work.push(Cell::Number(number.rem_euclid(CHAR_VALUES)))?;
-    Ok(Stepped::Quiet)
+    let number = newest(work);
+    work.replace(Cell::Number(number.rem_euclid(CHAR_VALUES)))?;
+    Ok(())
 }
 
-pub(crate) fn to_bool(code: &Code, line: u32, work: &mut Work) -> Result<Stepped, AllocError>
-    ensures { IfOk result (λ how. Does code.now line Op.ToBool work.old how work.new) }
+pub(crate) fn to_bool(code: &Code, line: u32, work: &mut Work) -> Result<(), AllocError>
+    ensures ok { OnOk result (Does code.now line Op.ToBool work.old Stepped.Quiet work.new) }
+    ensures err { OnErr result (work.new ≡ work.old) }
 {
-    let number = take_number(work);
-    work.push(Cell::Number(if number == 0 { 0 } else { 1 }))?;
-    Ok(Stepped::Quiet)
+    let number = newest(work);
+    work.replace(Cell::Number(if number == 0 { 0 } else { 1 }))?;
+    Ok(())
 }

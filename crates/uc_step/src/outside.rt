@@ -1,7 +1,7 @@
 // The ops that print and read.
 
-ghost use Rattle.std.specs.Prelude.{IfOk};
-ghost use Rattle.uc_step.specs.Acts.{act_print, Does, Ends};
+ghost use Rattle.std.specs.Prelude.{◌≡◌, IfOk, OnOk, OnErr};
+ghost use Rattle.uc_step.specs.Acts.{Does};
 
 use crate::stepped::{Stepped, asked};
 use std::alloc::AllocError;
@@ -13,33 +13,27 @@ use uc_frames::work::Work;
 use uc_meaning::request::{Piece, Request, TEXT_FORM};
 use uc_tree::kinds::ValueForm;
 
-// A piece is printed, or gathered.
-fn put(code: &Code, line: u32, work: &mut Work, piece: Piece) -> Result<Stepped, AllocError>
-    ensures { IfOk result (λ how. Ends (act_print code.now line work.old.env.gathered piece work.old) how work.new) }
-{
-    if work.is_gathering() {
-        work.gather(piece)?;
-        Ok(Stepped::Quiet)
-    } else {
-        Ok(asked(code, line, work, print_request(&[piece])))
-    }
-}
-
 pub(crate) fn print(
     code: &Code,
     line: u32,
     work: &mut Work,
     form: ValueForm,
 ) -> Result<Stepped, AllocError>
-    ensures { IfOk result (λ how. Does code.now line (Op.Print form) work.old how work.new) }
+    ensures ok { IfOk result (λ how. Does code.now line (Op.Print form) work.old how work.new) }
+    ensures err { OnErr result (work.new ≡ work.old) }
 {
-    let value = number_in(work.pop());
     let piece = Piece {
         form: form.number(),
-        value,
+        value: number_in(work.top()),
     };
-    let how = put(code, line, work, piece)?;
-    Ok(how)
+    if work.is_gathering() {
+        work.gather(piece)?;
+        work.pop();
+        Ok(Stepped::Quiet)
+    } else {
+        work.pop();
+        Ok(asked(code, line, work, print_request(&[piece])))
+    }
 }
 
 pub(crate) fn text(
@@ -48,29 +42,39 @@ pub(crate) fn text(
     work: &mut Work,
     number: u32,
 ) -> Result<Stepped, AllocError>
-    ensures { IfOk result (λ how. Does code.now line (Op.Text number) work.old how work.new) }
+    ensures ok { IfOk result (λ how. Does code.now line (Op.Text number) work.old how work.new) }
+    ensures err { OnErr result (work.new ≡ work.old) }
 {
     let piece = Piece {
         form: TEXT_FORM,
         value: i64::from(number),
     };
-    let how = put(code, line, work, piece)?;
-    Ok(how)
+    if work.is_gathering() {
+        work.gather(piece)?;
+        Ok(Stepped::Quiet)
+    } else {
+        Ok(asked(code, line, work, print_request(&[piece])))
+    }
 }
 
-pub(crate) fn hold(code: &Code, line: u32, work: &mut Work) -> Result<Stepped, AllocError>
-    ensures { IfOk result (λ how. Does code.now line Op.Hold work.old how work.new) }
+pub(crate) fn hold(code: &Code, line: u32, work: &mut Work) -> Result<(), AllocError>
+    ensures ok { OnOk result (Does code.now line Op.Hold work.old Stepped.Quiet work.new) }
+    ensures err { OnErr result (work.new ≡ work.old) }
 {
     work.begin_gather();
-    Ok(Stepped::Quiet)
+    Ok(())
 }
 
 pub(crate) fn flush(code: &Code, line: u32, work: &mut Work) -> Result<Stepped, AllocError>
-    ensures { IfOk result (λ how. Does code.now line Op.Flush work.old how work.new) }
+    ensures ok { IfOk result (λ how. Does code.now line Op.Flush work.old how work.new) }
+    ensures err { OnErr result (work.new ≡ work.old) }
 {
     match work.take_gathered() {
         None => Ok(Stepped::Quiet),
-        Some(pieces) => Ok(asked(code, line, work, pieces.request())),
+        Some(pieces) => match pieces.request() {
+            None => Ok(Stepped::Quiet),
+            Some(request) => Ok(asked(code, line, work, request)),
+        },
     }
 }
 
@@ -80,14 +84,16 @@ pub(crate) fn read(
     work: &mut Work,
     form: ValueForm,
 ) -> Result<Stepped, AllocError>
-    ensures { IfOk result (λ how. Does code.now line (Op.Read form) work.old how work.new) }
+    ensures ok { IfOk result (λ how. Does code.now line (Op.Read form) work.old how work.new) }
+    ensures err { OnErr result (work.new ≡ work.old) }
 {
     let form = form.number();
     Ok(asked(code, line, work, Request::Read { form }))
 }
 
 pub(crate) fn fail(code: &Code, line: u32, work: &mut Work) -> Result<Stepped, AllocError>
-    ensures { IfOk result (λ how. Does code.now line Op.Fail work.old how work.new) }
+    ensures ok { IfOk result (λ how. Does code.now line Op.Fail work.old how work.new) }
+    ensures err { OnErr result (work.new ≡ work.old) }
 {
     Ok(asked(code, line, work, Request::Fail))
 }

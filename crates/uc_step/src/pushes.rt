@@ -1,6 +1,6 @@
 // The ops that only push and drop operands.
 
-ghost use Rattle.std.specs.Prelude.{IfOk};
+ghost use Rattle.std.specs.Prelude.{◌≡◌, IfOk, OnOk, OnErr};
 ghost use Rattle.uc_step.specs.Acts.{Does};
 
 use crate::stepped::Stepped;
@@ -10,48 +10,45 @@ use uc_code::op::Op;
 use uc_frames::cell::Cell;
 use uc_frames::work::Work;
 
-pub(crate) fn push(
-    code: &Code,
-    line: u32,
-    work: &mut Work,
-    number: i64,
-) -> Result<Stepped, AllocError>
-    ensures { IfOk result (λ how. Does code.now line (Op.Push number) work.old how work.new) }
+pub(crate) fn push(code: &Code, line: u32, work: &mut Work, number: i64) -> Result<(), AllocError>
+    ensures ok { OnOk result (Does code.now line (Op.Push number) work.old Stepped.Quiet work.new) }
+    ensures err { OnErr result (work.new ≡ work.old) }
 {
     work.push(Cell::Number(number))?;
-    Ok(Stepped::Quiet)
+    Ok(())
 }
 
-pub(crate) fn duplicate(code: &Code, line: u32, work: &mut Work) -> Result<Stepped, AllocError>
-    ensures { IfOk result (λ how. Does code.now line Op.Duplicate work.old how work.new) }
+pub(crate) fn duplicate(code: &Code, line: u32, work: &mut Work) -> Result<(), AllocError>
+    ensures ok { OnOk result (Does code.now line Op.Duplicate work.old Stepped.Quiet work.new) }
+    ensures err { OnErr result (work.new ≡ work.old) }
 {
     let top = work.top();
     work.push(top)?;
-    Ok(Stepped::Quiet)
+    Ok(())
 }
 
-pub(crate) fn discard(code: &Code, line: u32, work: &mut Work) -> Result<Stepped, AllocError>
-    ensures { IfOk result (λ how. Does code.now line Op.Discard work.old how work.new) }
+pub(crate) fn discard(code: &Code, line: u32, work: &mut Work) -> Result<(), AllocError>
+    ensures ok { OnOk result (Does code.now line Op.Discard work.old Stepped.Quiet work.new) }
+    ensures err { OnErr result (work.new ≡ work.old) }
 {
     work.pop();
-    Ok(Stepped::Quiet)
+    Ok(())
 }
 
-pub(crate) fn over(code: &Code, line: u32, work: &mut Work) -> Result<Stepped, AllocError>
-    ensures { IfOk result (λ how. Does code.now line Op.Over work.old how work.new) }
+pub(crate) fn over(code: &Code, line: u32, work: &mut Work) -> Result<(), AllocError>
+    ensures ok { OnOk result (Does code.now line Op.Over work.old Stepped.Quiet work.new) }
+    ensures err { OnErr result (work.new ≡ work.old) }
 {
-    let top = work.pop();
-    let second = work.top();
-    work.push(top)?;
+    let second = work.second();
     work.push(second)?;
-    Ok(Stepped::Quiet)
+    Ok(())
 }
 
-pub(crate) fn discard_below(code: &Code, line: u32, work: &mut Work) -> Result<Stepped, AllocError>
-    ensures { IfOk result (λ how. Does code.now line Op.DiscardBelow work.old how work.new) }
+pub(crate) fn discard_below(code: &Code, line: u32, work: &mut Work) -> Result<(), AllocError>
+    ensures ok { OnOk result (Does code.now line Op.DiscardBelow work.old Stepped.Quiet work.new) }
+    ensures err { OnErr result (work.new ≡ work.old) }
 {
-    let top = work.pop();
-    work.pop();
-    work.push(top)?;
-    Ok(Stepped::Quiet)
+    let top = work.top();
+    work.replace_two(top)?;
+    Ok(())
 }

@@ -1,112 +1,89 @@
-use Rattle.std.proofs.Common.{ap}
-use Rattle.uc_alone.specs.Kept.{odd, is_few}
-use Rattle.uc_alone.proofs.Acts.{by_request}
+use Rattle.std.proofs.Common.{◌≡◌, length, refl, sym, ap, ◌∙◌, rules}
+use Rattle.std.specs.Prelude.{min}
+use Rattle.uc_alone.proofs.Acts.{by_request, odd_after, none_shown, counted}
 use Rattle.uc_alone.proofs.keeper.keep.Goals as goal
 
-pub returns-in_ok-answer-in-Print-clause-kept : goal.returns-in_ok-answer-in-Print-clause-kept
-returns-in_ok-answer-in-Print-clause-kept c h =
-    by_request c.args.entries c.args.input.now c.args.journal.now.items c.keep_print.new.journal.items c.in_ok-answer-in-Print.answer c.args.asked _ c.in-Print.is (c.in_ok-answer-in-Print.ensures.kept c.args.input.now c.args.asked.line)
+pub returns-then-n-eq0-clause-after : goal.returns-then-n-eq0-clause-after
+returns-then-n-eq0-clause-after c =
+    odd_after c.args.opts c.args.input.now c.args.journal.now.items c.args.tally.now c.args.ticks c.args.asked _ c.in-Print.is (none_shown c.in-Print.n c.in-Print.items (c.if-n-eq0.true))
 
-pub returns-in_ok-answer-in-Fail-clause-kept : goal.returns-in_ok-answer-in-Fail-clause-kept
-returns-in_ok-answer-in-Fail-clause-kept c h =
-    by_request c.args.entries c.args.input.now c.args.journal.now.items c.keep_fail.new.journal.items c.in_ok-answer-in-Fail.answer c.args.asked _ c.in-Fail.is (c.in_ok-answer-in-Fail.ensures.kept c.args.input.now c.args.asked.line h)
+pub returns-in_ok-answer-in-Print-clause-after : goal.returns-in_ok-answer-in-Print-clause-after
+returns-in_ok-answer-in-Print-clause-after c =
+    let all : length c.in-Print.items ≡ 32 = search rules in
+    by_request c.args.asked _ c.in-Print.is (c.in_ok-answer-in-Print.ensures.after c.args.input.now c.in-Print.n c.args.asked.line c.in-Print.items (counted c.in-Print.n c.least-count.result c.in-Print.items (c.least-count.ensures ∙ ap (λ m. min c.in-Print.n m) (sym all))))
 
-pub returns-in_ok-answer-in-End-clause-kept : goal.returns-in_ok-answer-in-End-clause-kept
-returns-in_ok-answer-in-End-clause-kept c h =
-    by_request c.args.entries c.args.input.now c.args.journal.now.items c.keep_end.new.journal.items c.in_ok-answer-in-End.answer c.args.asked _ c.in-End.is (c.in_ok-answer-in-End.ensures.kept c.args.input.now c.args.asked.line)
+pub returns-in_ok-answer-in-Read-clause-after : goal.returns-in_ok-answer-in-Read-clause-after
+returns-in_ok-answer-in-Read-clause-after c =
+    by_request c.args.asked _ c.in-Read.is (c.in_ok-answer-in-Read.ensures.after c.args.input.now c.args.asked.line (c.next_got-got.ensures.got c.args.journal.now.items))
 
-pub returns-in_ok-answer-in-Fault-clause-kept : goal.returns-in_ok-answer-in-Fault-clause-kept
-returns-in_ok-answer-in-Fault-clause-kept c h =
-    by_request c.args.entries c.args.input.now c.args.journal.now.items c.keep_fault.new.journal.items c.in_ok-answer-in-Fault.answer c.args.asked _ c.in-Fault.is (c.in_ok-answer-in-Fault.ensures.kept c.args.input.now)
+pub returns-in_ok-answer-in-Fail-clause-after : goal.returns-in_ok-answer-in-Fail-clause-after
+returns-in_ok-answer-in-Fail-clause-after c = by_request c.args.asked _ c.in-Fail.is (c.in_ok-answer-in-Fail.ensures.after c.args.input.now c.args.asked.line)
 
-pub returns-in_ok-answer-in-Read-clause-kept : goal.returns-in_ok-answer-in-Read-clause-kept
-returns-in_ok-answer-in-Read-clause-kept c h =
-    by_request c.args.entries c.args.input.now c.args.journal.now.items c.keep_read.new.journal.items c.in_ok-answer-in-Read.answer c.args.asked _ c.in-Read.is (c.in_ok-answer-in-Read.ensures.kept c.args.input.now c.args.asked.line h (c.next_got-got.ensures.got c.args.journal.now.items h))
+pub returns-in_ok-answer-in-Slice-clause-after : goal.returns-in_ok-answer-in-Slice-clause-after
+returns-in_ok-answer-in-Slice-clause-after c = by_request c.args.asked _ c.in-Slice.is (c.in_ok-answer-in-Slice.ensures.after c.args.input.now c.args.asked.line)
 
-pub returns-in_ok-answer-in-Print-clause-reads : goal.returns-in_ok-answer-in-Print-clause-reads
-returns-in_ok-answer-in-Print-clause-reads c x e h =
-    c.in_ok-answer-in-Print.ensures.reads x e c.args.reads.now h
+pub returns-in_ok-answer-in-End-clause-after : goal.returns-in_ok-answer-in-End-clause-after
+returns-in_ok-answer-in-End-clause-after c = by_request c.args.asked _ c.in-End.is (c.in_ok-answer-in-End.ensures c.args.input.now c.args.tally.now c.args.asked.line)
 
-pub returns-in-Make-clause-kept : goal.returns-in-Make-clause-kept
-returns-in-Make-clause-kept c h =
-    odd (ap is_few c.in-Make.is)
+pub returns-in_ok-answer-in-Fault-clause-after : goal.returns-in_ok-answer-in-Fault-clause-after
+returns-in_ok-answer-in-Fault-clause-after c = by_request c.args.asked _ c.in-Fault.is (c.in_ok-answer-in-Fault.ensures c.args.input.now c.args.tally.now)
 
-pub returns-in-Made-clause-kept : goal.returns-in-Made-clause-kept
-returns-in-Made-clause-kept c h =
-    odd (ap is_few c.in-Made.is)
+pub returns-in-Make-clause-after : goal.returns-in-Make-clause-after
+returns-in-Make-clause-after c = odd_after c.args.opts c.args.input.now c.args.journal.now.items c.args.tally.now c.args.ticks c.args.asked _ c.in-Make.is refl
 
-pub returns-in-Spawn-clause-kept : goal.returns-in-Spawn-clause-kept
-returns-in-Spawn-clause-kept c h =
-    odd (ap is_few c.in-Spawn.is)
+pub returns-in-Made-clause-after : goal.returns-in-Made-clause-after
+returns-in-Made-clause-after c = odd_after c.args.opts c.args.input.now c.args.journal.now.items c.args.tally.now c.args.ticks c.args.asked _ c.in-Made.is refl
 
-pub returns-in-Call-clause-kept : goal.returns-in-Call-clause-kept
-returns-in-Call-clause-kept c h =
-    odd (ap is_few c.in-Call.is)
+pub returns-in-Spawn-clause-after : goal.returns-in-Spawn-clause-after
+returns-in-Spawn-clause-after c = odd_after c.args.opts c.args.input.now c.args.journal.now.items c.args.tally.now c.args.ticks c.args.asked _ c.in-Spawn.is refl
 
-pub returns-in-Leave-clause-kept : goal.returns-in-Leave-clause-kept
-returns-in-Leave-clause-kept c h =
-    odd (ap is_few c.in-Leave.is)
+pub returns-in-Call-clause-after : goal.returns-in-Call-clause-after
+returns-in-Call-clause-after c = odd_after c.args.opts c.args.input.now c.args.journal.now.items c.args.tally.now c.args.ticks c.args.asked _ c.in-Call.is refl
 
-pub returns-in-Accept-clause-kept : goal.returns-in-Accept-clause-kept
-returns-in-Accept-clause-kept c h =
-    odd (ap is_few c.in-Accept.is)
+pub returns-in-Leave-clause-after : goal.returns-in-Leave-clause-after
+returns-in-Leave-clause-after c = odd_after c.args.opts c.args.input.now c.args.journal.now.items c.args.tally.now c.args.ticks c.args.asked _ c.in-Leave.is refl
 
-pub returns-in-Wait-clause-kept : goal.returns-in-Wait-clause-kept
-returns-in-Wait-clause-kept c h =
-    odd (ap is_few c.in-Wait.is)
+pub returns-in-Accept-clause-after : goal.returns-in-Accept-clause-after
+returns-in-Accept-clause-after c = odd_after c.args.opts c.args.input.now c.args.journal.now.items c.args.tally.now c.args.ticks c.args.asked _ c.in-Accept.is refl
 
-pub returns-in-Signal-clause-kept : goal.returns-in-Signal-clause-kept
-returns-in-Signal-clause-kept c h =
-    odd (ap is_few c.in-Signal.is)
+pub returns-in-Wait-clause-after : goal.returns-in-Wait-clause-after
+returns-in-Wait-clause-after c = odd_after c.args.opts c.args.input.now c.args.journal.now.items c.args.tally.now c.args.ticks c.args.asked _ c.in-Wait.is refl
 
-pub returns-in-SignalBlock-clause-kept : goal.returns-in-SignalBlock-clause-kept
-returns-in-SignalBlock-clause-kept c h =
-    odd (ap is_few c.in-SignalBlock.is)
+pub returns-in-Signal-clause-after : goal.returns-in-Signal-clause-after
+returns-in-Signal-clause-after c = odd_after c.args.opts c.args.input.now c.args.journal.now.items c.args.tally.now c.args.ticks c.args.asked _ c.in-Signal.is refl
 
-pub returns-in-Empty-clause-kept : goal.returns-in-Empty-clause-kept
-returns-in-Empty-clause-kept c h =
-    odd (ap is_few c.in-Empty.is)
+pub returns-in-SignalBlock-clause-after : goal.returns-in-SignalBlock-clause-after
+returns-in-SignalBlock-clause-after c = odd_after c.args.opts c.args.input.now c.args.journal.now.items c.args.tally.now c.args.ticks c.args.asked _ c.in-SignalBlock.is refl
 
-pub returns-in-Front-clause-kept : goal.returns-in-Front-clause-kept
-returns-in-Front-clause-kept c h =
-    odd (ap is_few c.in-Front.is)
+pub returns-in-Empty-clause-after : goal.returns-in-Empty-clause-after
+returns-in-Empty-clause-after c = odd_after c.args.opts c.args.input.now c.args.journal.now.items c.args.tally.now c.args.ticks c.args.asked _ c.in-Empty.is refl
 
-pub returns-in-Raise-clause-kept : goal.returns-in-Raise-clause-kept
-returns-in-Raise-clause-kept c h =
-    odd (ap is_few c.in-Raise.is)
+pub returns-in-Front-clause-after : goal.returns-in-Front-clause-after
+returns-in-Front-clause-after c = odd_after c.args.opts c.args.input.now c.args.journal.now.items c.args.tally.now c.args.ticks c.args.asked _ c.in-Front.is refl
 
-pub returns-in-Poll-clause-kept : goal.returns-in-Poll-clause-kept
-returns-in-Poll-clause-kept c h =
-    odd (ap is_few c.in-Poll.is)
+pub returns-in-Raise-clause-after : goal.returns-in-Raise-clause-after
+returns-in-Raise-clause-after c = odd_after c.args.opts c.args.input.now c.args.journal.now.items c.args.tally.now c.args.ticks c.args.asked _ c.in-Raise.is refl
 
-pub returns-in-Yield-clause-kept : goal.returns-in-Yield-clause-kept
-returns-in-Yield-clause-kept c h =
-    odd (ap is_few c.in-Yield.is)
+pub returns-in-Poll-clause-after : goal.returns-in-Poll-clause-after
+returns-in-Poll-clause-after c = odd_after c.args.opts c.args.input.now c.args.journal.now.items c.args.tally.now c.args.ticks c.args.asked _ c.in-Poll.is refl
 
-pub returns-in-Slice-clause-kept : goal.returns-in-Slice-clause-kept
-returns-in-Slice-clause-kept c h =
-    odd (ap is_few c.in-Slice.is)
+pub returns-in-Yield-clause-after : goal.returns-in-Yield-clause-after
+returns-in-Yield-clause-after c = odd_after c.args.opts c.args.input.now c.args.journal.now.items c.args.tally.now c.args.ticks c.args.asked _ c.in-Yield.is refl
 
-pub returns-in-Cluster-clause-kept : goal.returns-in-Cluster-clause-kept
-returns-in-Cluster-clause-kept c h =
-    odd (ap is_few c.in-Cluster.is)
+pub returns-in-Cluster-clause-after : goal.returns-in-Cluster-clause-after
+returns-in-Cluster-clause-after c = odd_after c.args.opts c.args.input.now c.args.journal.now.items c.args.tally.now c.args.ticks c.args.asked _ c.in-Cluster.is refl
 
-pub returns-in-ClusterEnd-clause-kept : goal.returns-in-ClusterEnd-clause-kept
-returns-in-ClusterEnd-clause-kept c h =
-    odd (ap is_few c.in-ClusterEnd.is)
+pub returns-in-ClusterEnd-clause-after : goal.returns-in-ClusterEnd-clause-after
+returns-in-ClusterEnd-clause-after c = odd_after c.args.opts c.args.input.now c.args.journal.now.items c.args.tally.now c.args.ticks c.args.asked _ c.in-ClusterEnd.is refl
 
-pub returns-in-Processor-clause-kept : goal.returns-in-Processor-clause-kept
-returns-in-Processor-clause-kept c h =
-    odd (ap is_few c.in-Processor.is)
+pub returns-in-Processor-clause-after : goal.returns-in-Processor-clause-after
+returns-in-Processor-clause-after c = odd_after c.args.opts c.args.input.now c.args.journal.now.items c.args.tally.now c.args.ticks c.args.asked _ c.in-Processor.is refl
 
-pub returns-in-ProcessorEnd-clause-kept : goal.returns-in-ProcessorEnd-clause-kept
-returns-in-ProcessorEnd-clause-kept c h =
-    odd (ap is_few c.in-ProcessorEnd.is)
+pub returns-in-ProcessorEnd-clause-after : goal.returns-in-ProcessorEnd-clause-after
+returns-in-ProcessorEnd-clause-after c = odd_after c.args.opts c.args.input.now c.args.journal.now.items c.args.tally.now c.args.ticks c.args.asked _ c.in-ProcessorEnd.is refl
 
-pub returns-in-Migrate-clause-kept : goal.returns-in-Migrate-clause-kept
-returns-in-Migrate-clause-kept c h =
-    odd (ap is_few c.in-Migrate.is)
+pub returns-in-Migrate-clause-after : goal.returns-in-Migrate-clause-after
+returns-in-Migrate-clause-after c = odd_after c.args.opts c.args.input.now c.args.journal.now.items c.args.tally.now c.args.ticks c.args.asked _ c.in-Migrate.is refl
 
-pub returns-in-Gone-clause-kept : goal.returns-in-Gone-clause-kept
-returns-in-Gone-clause-kept c h =
-    odd (ap is_few c.in-Gone.is)
+pub returns-in-Gone-clause-after : goal.returns-in-Gone-clause-after
+returns-in-Gone-clause-after c = odd_after c.args.opts c.args.input.now c.args.journal.now.items c.args.tally.now c.args.ticks c.args.asked _ c.in-Gone.is refl

@@ -1,11 +1,14 @@
-use Rattle.std.proofs.Common.{refl}
-use Rattle.uc_alone.proofs.Acts.{fail_full, fail_more}
+use Rattle.std.proofs.Common.{◌≡◌, rules}
+use Rattle.uc_meaning.specs.declared.request.Answer.TheVariants as answer
+use Rattle.uc_meaning.specs.Acts.{truth}
+use Rattle.uc_alone.proofs.Acts.{fail_goes, fail_stops}
 use Rattle.uc_alone.proofs.keeper.keep_fail.Goals as goal
 
-pub returns-then-not-has_room-clause-kept : goal.returns-then-not-has_room-clause-kept
-returns-then-not-has_room-clause-kept c input line h =
-    fail_full c.args.entries input c.args.journal.now.items c.push_limit.new.journal.items line c.args.reads h (c.if-not-has_room.ensures.full refl) (c.in_ok-push_limit.ensures)
+pub returns-then-not-goes-clause-after : goal.returns-then-not-goes-clause-after
+returns-then-not-goes-clause-after c input line =
+    fail_stops c.args.opts c.requires.alone input c.args.journal.now.items c.enter.new.journal.items c.args.tally.now c.args.ticks line c.with_ticks-next.result c.fail_entry-entry.result c.in_ok-goes.goes (c.with_ticks-next.ensures) (c.fail_entry-entry.ensures) (c.in_ok-goes.ensures) (c.if-not-goes.true)
 
-pub returns-clause-reads : goal.returns-clause-reads
-returns-clause-reads c x e h =
-    fail_more c.args.journal.now.items c.push.new.self.items c.args.reads c.fail_entry.result c.fail_entry.ensures (c.in_ok-push.ensures.items) h
+pub returns-clause-after : goal.returns-clause-after
+returns-clause-after c input line =
+    let x : c.fail_answer.result ≡ answer.Number (truth c.args.tally.now.failed) = search rules in
+    fail_goes c.args.opts c.requires.alone input c.args.journal.now.items c.enter.new.journal.items c.args.tally.now c.args.ticks line c.with_ticks-next.result c.fail_entry-entry.result c.in_ok-goes.goes c.fail_answer.result (c.with_ticks-next.ensures) (c.fail_entry-entry.ensures) x (c.in_ok-goes.ensures) (c.if-not-goes.false)

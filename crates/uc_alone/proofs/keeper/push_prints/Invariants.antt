@@ -1,7 +1,7 @@
-use Rattle.std.proofs.Common.{◌≡◌, ◌++◌, map, take}
-use Rattle.uc_alone.specs.Kept.{shown}
+use Rattle.std.proofs.Common.{◌≡◌, ◌++◌, drop}
+use Rattle.uc_meaning.specs.Acts.{prints}
 use Rattle.uc_alone.proofs.keeper.push_prints.Given as goal
 
--- the entries of the items so far stand
+-- with the entries of the items that are left, all entries stand
 abbrev pub invariant-loop-piece : goal.invariant-loop-piece
-invariant-loop-piece l = l.journal.items ≡ l.fn.journal.items ++ map shown (take l.piece-index l.pieces)
+invariant-loop-piece l = l.journal.items ++ prints 0 0 l.ticks (drop l.piece-index l.pieces) ≡ l.fn.journal.items ++ prints 0 0 l.fn.ticks l.pieces

@@ -1,0 +1,64 @@
+// Operands, the newest last.
+
+ghost use Rattle.std.specs.Prelude.{◌≡◌, ◌∷◌, ◌-◌, [], drop, reverse, replicate, OnOk, OnErr, IfOk};
+ghost use Rattle.uc_meaning.specs.Executions.{taken};
+ghost use Rattle.uc_frames.specs.Machine.{below, nought};
+ghost use Rattle.uc_frames.specs.Left.{call_frame};
+
+use crate::cell::Cell;
+use std::alloc::AllocError;
+use uc_code::rows::RoutineCode;
+
+// One in the place of the newest, if there is one.
+pub(crate) fn put_on_top(operands: &mut Vec<Cell>, cell: Cell) -> Result<(), AllocError>
+    ensures ok { OnOk result (reverse operands.new.items ≡ cell ∷ below (reverse operands.old.items)) }
+    ensures err { OnErr result (operands.new.items ≡ operands.old.items) }
+{
+    match operands.pop() {
+        None => operands.push(cell)?,
+        Some(_) => operands.push_reserved(cell),
+    }
+    Ok(())
+}
+
+// One in the place of the two newest, as far as there are any.
+pub(crate) fn put_on_two(operands: &mut Vec<Cell>, cell: Cell) -> Result<(), AllocError>
+    ensures ok { OnOk result (reverse operands.new.items ≡ cell ∷ below (below (reverse operands.old.items))) }
+    ensures err { OnErr result (operands.new.items ≡ operands.old.items) }
+{
+    match operands.pop() {
+        None => operands.push(cell)?,
+        Some(_) => {
+            operands.pop();
+            operands.push_reserved(cell);
+        }
+    }
+    Ok(())
+}
+
+// The newest ones go, so many of them.
+pub(crate) fn drop_newest(operands: &mut Vec<Cell>, count: u32)
+    ensures { reverse operands.new.items ≡ drop count (reverse operands.old.items) }
+{
+    let left = operands.len().saturating_sub(count as usize);
+    operands.truncate(left);
+}
+
+// The frame of a call, in an empty list: the newest operands are its parameters, nothing where there are none, and its other
+// cells are 0.
+pub(crate) fn new_frame(
+    empty: Vec<Cell>,
+    operands: &[Cell],
+    routine: RoutineCode,
+) -> Result<Vec<Cell>, AllocError>
+    requires { empty.items ≡ [] }
+    ensures { IfOk result (λ cells. cells.items ≡ call_frame routine (reverse operands.now)) }
+{
+    let params = routine.params as usize;
+    let others = routine.cells.saturating_sub(routine.params) as usize;
+    let mut cells = empty;
+    cells.resize(params.saturating_sub(operands.len()), Cell::Nothing)?;
+    cells.extend_from_slice(&operands[operands.len().saturating_sub(params)..])?;
+    cells.resize(cells.len() + others, Cell::Number(0))?;
+    Ok(cells)
+}

@@ -1,0 +1,110 @@
+-- Ops, one after another, are a ride of the source.
+use Rattle.std.proofs.Common.{◌≡◌, ℕ, zero, suc, ◌+◌, ◌<◌, Option, Some, None, refl, sym, subst, arith}
+use Rattle.uc_tree.specs.Source.{Source}
+use Rattle.uc_meaning.specs.declared.request.Asked.{Asked}
+use Rattle.uc_meaning.specs.declared.request.Request.TheVariants as ask
+use Rattle.uc_meaning.specs.Quiet.{State, line_of}
+use Rattle.uc_meaning.specs.Rides.{Rides, slices, asked_in}
+use Rattle.uc_code.specs.Codes.{Code}
+use Rattle.uc_code.specs.Laid.{laid_of}
+use Rattle.uc_code.specs.Lowered.{Lowered}
+use Rattle.uc_frames.specs.Machine.{Machine}
+use Rattle.uc_frames.specs.Stands.{Stands}
+use Rattle.uc_step.specs.declared.stepped.Stepped.{Stepped}
+use Rattle.uc_step.specs.declared.stepped.Stepped.TheVariants.{Quiet, Tick, Ask}
+use Rattle.uc_step.specs.declared.onward.Onward.{Onward}
+use Rattle.uc_step.specs.declared.onward.Onward.TheVariants.{Asks}
+use Rattle.uc_step.specs.Follow.{behind_line, StandsAfter, Follow}
+use Rattle.uc_step.specs.Onwards.{OnwardFollow}
+use Rattle.uc_step.proofs.Rode.{quiet_rides, tick_rides, ask_rides}
+use Rattle.uc_ride.specs.Rode.{OnWay, HasCome, HasBurst, IsOnWay, HasRidden}
+
+module _ (code : Code) where
+  pub come_first : (m : Machine) → HasCome code m m
+  come_first m source s l h = record { now = s; stands = h; rides = λ q k u a r. r }
+
+  -- what a step says of each source
+  abbrev pub Stepping : Machine → Stepped → Machine → Type 0
+  Stepping m how n = (source : Source) (s : State) → Lowered source code → Stands (laid_of code) m s → Follow (laid_of code) source how n s
+
+  pub come_on : (old m n : Machine) → HasCome code old m → Stepping m Quiet n → HasCome code old n
+  come_on old m n h f source s l st =
+      let w = h source s l st in
+      let o = quiet_rides source (laid_of code) n w.now (f source w.now l w.stands) in
+      record { now = o.reached; stands = o.stands; rides = λ q k u a r. w.rides q k u a (o.rides q k u a r) }
+
+  -- what `go_onward` says of each source
+  abbrev pub Onwarding : Machine → Onward → Machine → Type 0
+  Onwarding m how n = (source : Source) (s : State) → Lowered source code → Stands (laid_of code) m s → OnwardFollow (laid_of code) source how n s
+
+  pub come_same : (old m n : Machine) → HasCome code old m → Onwarding m Asks n → HasCome code old n
+  come_same old m n h f source s l st =
+      let w = h source s l st in
+      record { now = w.now; stands = f source w.now l w.stands; rides = w.rides }
+
+  pub come_ticked : (old m n : Machine) → HasCome code old m → Stepping m Tick n → HasBurst code old None n
+  come_ticked old m n h f source s l st =
+      let w = h source s l st in
+      let o = tick_rides source (laid_of code) n w.now (f source w.now l w.stands) in
+      record { now = o.reached; line = o.line; stands = o.stands; rides = λ q k u a r. w.rides q (suc k) u a (o.rides q k u a r) }
+
+  pub come_asked : (old m n : Machine) (asked : Asked) → HasCome code old m → Stepping m (Ask asked) n → HasBurst code old (Some asked) n
+  come_asked old m n asked h f source s l st =
+      let w = h source s l st in
+      let o = ask_rides source (laid_of code) asked n w.now (f source w.now l w.stands) in
+      record {
+        reached = o.reached;
+        rides = λ q. w.rides q 0 o.reached asked (o.rides q);
+        stands = subst (λ r. StandsAfter (laid_of code) r n o.reached) (sym o.same) o.stands;
+      }
+
+  pub way_first : (quantum : ℕ) (m : Machine) → IsOnWay code quantum m 0 m
+  way_first quantum m source s l h = record {
+    now = s;
+    left = quantum;
+    together = omega arith;
+    stands = h;
+    rides = λ k u a r. let e : 0 + k ≡ k = omega arith in rw e r;
+  }
+
+  -- what is left is one more than what is left behind a tick
+  one_left : (ticks left quantum : ℕ) → ticks + left ≡ quantum → ticks < quantum → (n : ℕ) × (left ≡ suc n)
+  one_left ticks zero quantum e l = absurd (omega (arith, e, l))
+  one_left ticks (suc n) quantum e l = (n, refl)
+
+  pub way_ticked : (quantum ticks : ℕ) (old m n : Machine) → ticks < quantum → IsOnWay code quantum old ticks m → HasBurst code m None n → IsOnWay code quantum old (ticks + 1) n
+  way_ticked quantum ticks old m n lt h b source s l st =
+      let w = h source s l st in
+      let t = b source w.now l w.stands in
+      let o = one_left ticks w.left quantum w.together lt in
+      record {
+        now = t.now;
+        left = o.0;
+        together = omega (arith, w.together, o.1);
+        stands = t.stands;
+        rides = λ k u a r.
+            let e : ticks + suc k ≡ (ticks + 1) + k = omega arith in
+            rw e at (w.rides (suc k) u a (rw o.1 (t.rides o.0 k u a r)));
+      }
+
+  pub way_asked : (quantum ticks : ℕ) (old m n : Machine) (asked : Asked) → ticks < quantum → IsOnWay code quantum old ticks m → HasBurst code m (Some asked) n → HasRidden code quantum old ticks asked n
+  way_asked quantum ticks old m n asked lt h b source s l st =
+      let w = h source s l st in
+      let t = b source w.now l w.stands in
+      let o = one_left ticks w.left quantum w.together lt in
+      let e : ticks + 0 ≡ ticks = omega arith in
+      record { reached = t.reached; rides = rw e at (w.rides 0 t.reached asked (rw o.1 (t.rides o.0))); stands = t.stands }
+
+  pub way_sliced : (quantum ticks : ℕ) (old m n : Machine) (asked : Asked) → ticks + 1 ≡ quantum → IsOnWay code quantum old ticks m → HasBurst code m None n → asked ≡ record { request = ask.Slice; line = behind_line (laid_of code) n } → HasRidden code quantum old (ticks + 1) asked n
+  way_sliced quantum ticks old m n asked eq h b q source s l st =
+      let w = h source s l st in
+      let t = b source w.now l w.stands in
+      let one : w.left ≡ suc 0 = omega (arith, w.together, eq) in
+      let e : ticks + suc 0 ≡ ticks + 1 = omega arith in
+      let same : asked_in t.now ask.Slice ≡ asked = rw q (rw t.line refl) in
+      let r : Rides source w.now w.left t.now (suc 0) (asked_in t.now ask.Slice) = rw one (t.rides 0 0 t.now (asked_in t.now ask.Slice) slices) in
+      record {
+        reached = t.now;
+        rides = subst (λ a. Rides source s quantum t.now (ticks + 1) a) same (rw e at (w.rides (suc 0) t.now (asked_in t.now ask.Slice) r));
+        stands = rw q t.stands;
+      }

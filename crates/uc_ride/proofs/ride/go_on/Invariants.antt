@@ -1,0 +1,13 @@
+use Rattle.std.proofs.Common.{◌<◌, ◌-◌}
+use Rattle.uc_ride.specs.Rode.{IsOnWay}
+use Rattle.uc_ride.proofs.ride.go_on.Given as goal
+
+-- each ride from here is one from the start
+abbrev pub invariant-ticks : goal.invariant-ticks
+invariant-ticks l = record {
+  way : IsOnWay l.code l.quantum l.fn.work l.ticks l.work;
+  few : l.ticks < l.quantum;
+}
+
+abbrev pub decreases-ticks : goal.decreases-ticks
+decreases-ticks l = l.quantum - l.ticks

@@ -1,0 +1,119 @@
+// Rides of a task.
+
+ghost use Rattle.std.specs.Prelude.{◌≡◌, ◌≤◌, ◌<◌, None, IfOk};
+ghost use Rattle.uc_tree.specs.Source.{Source};
+ghost use Rattle.uc_meaning.specs.declared.request.Request.TheVariants as ask;
+ghost use Rattle.uc_meaning.specs.Quiet.{State};
+ghost use Rattle.uc_meaning.specs.Runs as runs;
+ghost use Rattle.uc_code.specs.Laid.{laid_of};
+ghost use Rattle.uc_code.specs.Lowered.{Lowered};
+ghost use Rattle.uc_code.specs.Pace.{IsPaced};
+ghost use Rattle.uc_frames.specs.Stands.{Stands};
+ghost use Rattle.uc_step.specs.Acts.{answered};
+ghost use Rattle.uc_step.specs.Follow.{behind_line};
+ghost use Rattle.uc_ride.specs.Rode.{Rode, HasBurst, HasRidden};
+
+use std::alloc::AllocError;
+use uc_code::code::Code;
+use uc_frames::task::Task;
+use uc_frames::work::Work;
+use uc_meaning::request::{Answer, Asked, Request};
+use uc_outside::Gate;
+use uc_step::onward::{Onward, go_onward};
+use uc_step::step::{answer as give, step};
+use uc_step::stepped::Stepped;
+
+/// How a ride ended: the task with its hand, a new task where one was made, the ticks, and what is asked.
+#[derive(Drop)]
+pub struct Ridden {
+    pub work: Work,
+    pub child: Option<Task>,
+    pub ticks: u32,
+    pub asked: Asked,
+}
+
+/// Goes on with an answer up to a request, or up to so many ticks, and then asks for a slice. Where `dispatches` is not 0 it
+/// tells the gate first. No answer depends on the last three arguments. No task makes another one yet. Without memory the
+/// task is lost.
+pub fn ride<G: Gate>(
+    code: &Code,
+    work: Work,
+    answer: Answer,
+    quantum: u32,
+    gate: &G,
+    processor: u32,
+    dispatches: u64,
+) -> Result<Ridden, AllocError>
+    requires some { 1 ≤ quantum }
+    requires paced { IsPaced code.now.ops code.now.routines }
+    ensures rides { IfOk result (λ r. (source : Source) (s : State) → Lowered source code.now → Stands (laid_of code.now) work s → Rode source (laid_of code.now) (runs.answered answer s) quantum r.ticks r.asked r.work) }
+    ensures few { IfOk result (λ r. r.ticks ≤ quantum) }
+    ensures early { IfOk result (λ r. (r.asked.request ≡ ask.Slice → ⊥) → r.ticks < quantum) }
+    ensures child { IfOk result (λ r. r.child ≡ None) }
+{
+    if dispatches != 0 {
+        gate.ride(processor, dispatches);
+    }
+    let mut work = work;
+    give(&mut work, answer)?;
+    let (ticks, asked) = go_on(code, &mut work, quantum)?;
+    Ok(Ridden {
+        work,
+        child: None,
+        ticks,
+        asked,
+    })
+}
+
+// Bursts up to a request, or up to so many ticks.
+fn go_on(code: &Code, work: &mut Work, quantum: u32) -> Result<(u32, Asked), AllocError>
+    requires some { 1 ≤ quantum }
+    requires paced { IsPaced code.now.ops code.now.routines }
+    ensures rides { IfOk result (λ r. HasRidden code.now quantum work.old r.0 r.1 work.new) }
+    ensures few { IfOk result (λ r. r.0 ≤ quantum) }
+    ensures early { IfOk result (λ r. (r.1.request ≡ ask.Slice → ⊥) → r.0 < quantum) }
+{
+    let mut ticks = 0;
+    'ticks: loop {
+        match burst(code, work)? {
+            Some(asked) => return Ok((ticks, asked)),
+            None => {
+                ticks += 1;
+                if ticks == quantum {
+                    return Ok((ticks, slice(code, work)));
+                }
+            }
+        }
+    }
+}
+
+// Ops up to a tick, or up to a request.
+fn burst(code: &Code, work: &mut Work) -> Result<Option<Asked>, AllocError>
+    requires paced { IsPaced code.now.ops code.now.routines }
+    ensures { IfOk result (λ asked. HasBurst code.now work.old asked work.new) }
+{
+    'ops: loop {
+        match go_onward(code, work)? {
+            Onward::Quiet => {}
+            Onward::Tick => return Ok(None),
+            Onward::Asks => {
+                let how = step(code, work)?;
+                match how {
+                    Stepped::Quiet => {}
+                    Stepped::Tick => return Ok(None),
+                    Stepped::Ask(asked) => return Ok(Some(asked)),
+                }
+            }
+        }
+    }
+}
+
+// A slice is asked, in the line of the tick.
+fn slice(code: &Code, work: &Work) -> Asked
+    ensures { result ≡ record { request = ask.Slice; line = behind_line (laid_of code.now) work.now } }
+{
+    Asked {
+        request: Request::Slice,
+        line: work.line_behind(code),
+    }
+}
