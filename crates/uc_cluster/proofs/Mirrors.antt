@@ -1,5 +1,5 @@
 -- What one entry more does to the ready queues, and to what runs.
-use Rattle.std.proofs.Common.{◌≡◌, ◌≢◌, ℕ, ◌<◌, ◌==◌, T, eqb→eq, Bool, true, false, not, cond, List, [], ◌∷◌, ◌++◌, length, Option, Some, None, refl, sym, ap, ◌∙◌, subst, inl, inr, length-set, get_or-set_same, get_or-set_other}
+use Rattle.std.proofs.Common.{◌≡◌, ◌≢◌, ℕ, zero, suc, ◌<◌, ◌==◌, T, eqb→eq, Bool, true, false, not, cond, List, [], ◌∷◌, ◌++◌, length, Option, Some, None, refl, sym, ap, ◌∙◌, subst, inl, inr, arith, length-set, get_or-set_same, get_or-set_other}
 use Rattle.std.specs.Option.{option_to_list}
 use Rattle.std.specs.List.{AllByRecursion, filter}
 use Rattle.std.proofs.lemmas.Bool.{cases_eq}
@@ -16,7 +16,7 @@ use Rattle.uc_meaning.proofs.Sound.{self_test, all_kept}
 use Rattle.uc_cluster.specs.declared.clusters.Processor.{Processor}
 use Rattle.uc_cluster.specs.Standing.{no_processor, queue_at, processor_at, place_of, or_0, made_ready, with_processor, started, front_at, front_or_0, rest_of}
 use Rattle.uc_cluster.specs.Standing.{running as runs}
-use Rattle.uc_cluster.specs.Laws.{is_dispatch, actor_at, LawReady, LawUnready, LawTakes, LawStarts, LawFrees, LawStays}
+use Rattle.uc_cluster.specs.Laws.{is_dispatch, actor_at, LawReady, LawUnready, LawTakes, LawStarts, LawFrees, LawStays, LawKeeps}
 
 other_test : (b : Bool) → (b ≡ true → ⊥) → b ≡ false
 other_test true h = absurd (h refl)
@@ -50,24 +50,24 @@ ready_now c t j e off is =
     ∙ ap (λ (k : ℕ). ready c j ++ cond (k == c) (t ∷ []) []) (cluster_now t j e)
 
 pub ready_one : LawReady
-ready_one v j e t off is on lt are c lc =
+ready_one v j e t off is on lt are c =
     let k = or_0 (place_of v t) in
     let now = ready_now c t j e off is ∙ ap (λ (n : ℕ). ready c j ++ cond (n == c) (t ∷ []) []) on in
     elim (cases_eq c k) [
       | inl at ↦ subst (λ (x : ℕ). queue_at (made_ready t v).queues x ≡ ready x (j ++ e ∷ [])) (sym at) (
           get_or-set_same v.queues k (queue_at v.queues k ++ t ∷ []) [] lt
-          ∙ ap (λ (q : List ℕ). q ++ t ∷ []) (are k lt)
+          ∙ ap (λ (q : List ℕ). q ++ t ∷ []) (are k)
           ∙ sym (ready_now k t j e off is ∙ ap (λ (n : ℕ). ready k j ++ cond (n == k) (t ∷ []) []) on ∙ ap (λ (b : Bool). ready k j ++ cond b (t ∷ []) []) (self_test k))
           )
       | inr n ↦
           get_or-set_other v.queues k c (queue_at v.queues k ++ t ∷ []) [] n
-          ∙ are c (subst (λ (m : ℕ). c < m) (length-set v.queues k (queue_at v.queues k ++ t ∷ [])) lc)
+          ∙ are c
           ∙ sym (now ∙ ap (λ (b : Bool). ready c j ++ cond b (t ∷ []) []) (apart_test k c n) ∙ append-nil (ready c j))
     ]
 
 pub unready : LawUnready
-unready v j e off none are c lc =
-    are c lc
+unready v j e off none are c =
+    are c
     ∙ sym (ready_push c j e
     ∙ ap (λ (l : List ℕ). l ++ option_to_list (on_cluster c (noted_at j e).cluster (readies e.kind e (actor_at j e)))) (kept_ready e.kind e (ready c j) off)
     ∙ ap (λ (q : Option ℕ). ready c j ++ option_to_list (on_cluster c (noted_at j e).cluster q)) none
@@ -84,28 +84,33 @@ nobody_off t (u ∷ q) h = ap (λ (b : Bool). cond (not b) (u ∷ off t q) (off 
 front_off : (t : ℕ) (q : List ℕ) → AllByRecursion (λ u. u ≢ t) q → off t (t ∷ q) ≡ q
 front_off t q h = ap (λ (b : Bool). cond (not b) (t ∷ off t q) (off t q)) (self_test t) ∙ nobody_off t q h
 
+-- nobody is in a queue of a cluster that is not known
+unready_all : (qs : List (List ℕ)) (t : ℕ) → ((k : ℕ) → k < length qs → AllByRecursion (λ u. u ≢ t) (queue_at qs k)) → (k : ℕ) → AllByRecursion (λ u. u ≢ t) (queue_at qs k)
+unready_all [] t h k = tt
+unready_all (q ∷ qs) t h zero = h 0 (omega arith)
+unready_all (q ∷ qs) t h (suc k) = unready_all qs t (λ i lt. h (suc i) (omega arith)) k
+
 dispatched_now : (c p t : ℕ) (j : Journal) → ready c (j ++ dispatch p t ∷ []) ≡ off t (ready c j)
 dispatched_now c p t j = ready_push c j (dispatch p t) ∙ append-nil (off t (ready c j))
 
 pub takes : LawTakes
-takes v j p t rest front lt away are c lc =
+takes v j p t rest front lt away are c =
     let k = (processor_at v p).cluster in let q = rest_of (queue_at v.queues k) in
     let same : q ≡ rest = ap rest_of front in
-    let known = subst (λ (m : ℕ). c < m) (length-set v.queues k q) lc in
     elim (cases_eq c k) [
       | inl at ↦ subst (λ (x : ℕ). queue_at (started v p).queues x ≡ ready x (j ++ dispatch p t ∷ [])) (sym at) (
           let here = get_or-set_same v.queues k q [] lt in
           let none = subst (AllByRecursion (λ u. u ≢ t)) (here ∙ same) (away k (subst (λ (m : ℕ). k < m) (sym (length-set v.queues k q)) lt)) in
-          here ∙ same ∙ sym (front_off t rest none) ∙ ap (off t) (sym front ∙ are k lt) ∙ sym (dispatched_now k p t j)
+          here ∙ same ∙ sym (front_off t rest none) ∙ ap (off t) (sym front ∙ are k) ∙ sym (dispatched_now k p t j)
           )
       | inr n ↦
           let here = get_or-set_other v.queues k c q [] n in
-          let none = subst (AllByRecursion (λ u. u ≢ t)) here (away c lc) in
-          here ∙ sym (nobody_off t (queue_at v.queues c) none) ∙ ap (off t) (are c known) ∙ sym (dispatched_now c p t j)
+          let none = subst (AllByRecursion (λ u. u ≢ t)) here (unready_all (started v p).queues t away c) in
+          here ∙ sym (nobody_off t (queue_at v.queues c) none) ∙ ap (off t) (are c) ∙ sym (dispatched_now c p t j)
     ]
 
 pub starts : LawStarts
-starts v j p t rest front lt are q lq =
+starts v j p t rest front lt are q =
     let x = runs (Some (front_at v p)) (processor_at v p) in
     elim (cases_eq q p) [
       | inl at ↦ subst (λ (y : ℕ). option_to_list (processor_at (started v p) y).task ≡ running y (j ++ dispatch p t ∷ [])) (sym at) (
@@ -115,7 +120,7 @@ starts v j p t rest front lt are q lq =
           )
       | inr n ↦
           ap (λ (y : Processor). option_to_list y.task) (get_or-set_other v.processors p q x no_processor n)
-          ∙ are q (subst (λ (m : ℕ). q < m) (length-set v.processors p x) lq)
+          ∙ are q
           ∙ sym (running_other q j (dispatch p t) (apart_test p q n))
     ]
 
@@ -124,7 +129,7 @@ one_off : (t : ℕ) (f : ℕ → Bool) → f t ≡ true → filter (λ u. not (f
 one_off t f h = ap (λ (b : Bool). cond (not b) (t ∷ []) []) h
 
 pub frees : LawFrees
-frees v j e t lt one out none are q lq =
+frees v j e t lt one out none are q =
     let x = runs None (processor_at v e.proc) in
     elim (cases_eq q e.proc) [
       | inl at ↦ subst (λ (y : ℕ). option_to_list (processor_at (with_processor v e.proc x) y).task ≡ running y (j ++ e ∷ [])) (sym at) (
@@ -136,22 +141,47 @@ frees v j e t lt one out none are q lq =
           )
       | inr n ↦
           ap (λ (y : Processor). option_to_list y.task) (get_or-set_other v.processors e.proc q x no_processor n)
-          ∙ are q (subst (λ (m : ℕ). q < m) (length-set v.processors e.proc x) lq)
+          ∙ are q
           ∙ sym (running_other q j e (apart_test e.proc q n))
     ]
 
-none_off : (f : ℕ → Bool) → ((t : ℕ) → f t ≡ false) → (xs : List ℕ) → filter (λ u. not (f u)) xs ≡ xs
-none_off f h [] = refl
-none_off f h (x ∷ xs) = ap (λ (b : Bool). cond (not b) (x ∷ filter (λ u. not (f u)) xs) (filter (λ u. not (f u)) xs)) (h x) ∙ ap (λ (l : List ℕ). x ∷ l) (none_off f h xs)
+kept_one : (f : ℕ → Bool) (o : Option ℕ) → ((t : ℕ) → o ≡ Some t → f t ≡ false) → filter (λ u. not (f u)) (option_to_list o) ≡ option_to_list o
+kept_one f None h = refl
+kept_one f (Some t) h = ap (λ (b : Bool). cond (not b) (t ∷ []) []) (h t refl)
 
 pub stays : LawStays
-stays v j e out none are q lq = elim (cases_eq q e.proc) [
-  | inl at ↦ subst (λ (y : ℕ). option_to_list (processor_at v y).task ≡ running y (j ++ e ∷ [])) (sym at) (
-      are e.proc (subst (λ (y : ℕ). y < length v.processors) at lq)
-      ∙ sym (running_same e.proc j e (self_test e.proc)
-      ∙ ap (λ (l : List ℕ). l ++ option_to_list (puts_on e.kind e (actor_at j e))) (none_off (takes_off e.kind e) out (running e.proc j))
-      ∙ ap (λ (o : Option ℕ). running e.proc j ++ option_to_list o) none
-      ∙ append-nil (running e.proc j))
-      )
-  | inr n ↦ are q lq ∙ sym (running_other q j e (apart_test e.proc q n))
-]
+stays v j e out none are q =
+    let task = (processor_at v e.proc).task in
+    elim (cases_eq q e.proc) [
+      | inl at ↦ subst (λ (y : ℕ). option_to_list (processor_at v y).task ≡ running y (j ++ e ∷ [])) (sym at) (
+          sym (running_same e.proc j e (self_test e.proc)
+          ∙ ap (λ (l : List ℕ). filter (λ u. not (takes_off e.kind e u)) l ++ option_to_list (puts_on e.kind e (actor_at j e))) (sym (are e.proc))
+          ∙ ap (λ (l : List ℕ). l ++ option_to_list (puts_on e.kind e (actor_at j e))) (kept_one (takes_off e.kind e) task out)
+          ∙ ap (λ (o : Option ℕ). option_to_list task ++ option_to_list o) none
+          ∙ append-nil (option_to_list task))
+          )
+      | inr n ↦ are q ∙ sym (running_other q j e (apart_test e.proc q n))
+    ]
+
+-- off and on again
+off_now : (j : Journal) (e : Entry) (t : ℕ) → running e.proc j ≡ t ∷ [] → takes_off e.kind e t ≡ true → puts_on e.kind e (actor_at j e) ≡ None → running e.proc (j ++ e ∷ []) ≡ []
+off_now j e t one out none =
+    running_same e.proc j e (self_test e.proc)
+    ∙ ap (λ (l : List ℕ). filter (λ u. not (takes_off e.kind e u)) l ++ option_to_list (puts_on e.kind e (actor_at j e))) one
+    ∙ ap (λ (l : List ℕ). l ++ option_to_list (puts_on e.kind e (actor_at j e))) (one_off t (takes_off e.kind e) out)
+    ∙ ap option_to_list none
+
+pub keeps : LawKeeps
+keeps v j e f t same task out none on are q =
+    let i = j ++ e ∷ [] in
+    let one : running e.proc j ≡ t ∷ [] = ap (λ (p : ℕ). running p j) same ∙ sym (are f.proc) ∙ ap option_to_list task in
+    let gone : running f.proc i ≡ [] = ap (λ (p : ℕ). running p i) (sym same) ∙ off_now j e t one out none in
+    elim (cases_eq q f.proc) [
+      | inl at ↦ subst (λ (y : ℕ). option_to_list (processor_at v y).task ≡ running y (i ++ f ∷ [])) (sym at) (
+          ap option_to_list task
+          ∙ sym (running_same f.proc i f (self_test f.proc)
+          ∙ ap (λ (l : List ℕ). filter (λ u. not (takes_off f.kind f u)) l ++ option_to_list (puts_on f.kind f (actor_at i f))) gone
+          ∙ ap option_to_list on)
+          )
+      | inr n ↦ are q ∙ sym (running_other q i f (apart_test f.proc q n) ∙ running_other q j e (apart_test e.proc q (λ z. n (z ∙ same))))
+    ]

@@ -1,26 +1,18 @@
--- The first processor that passes a test, and what the queues keep.
-use Rattle.std.proofs.Common.{◌≡◌, ◌≢◌, ℕ, zero, suc, ◌<◌, ◌≤◌, ◌+◌, ◌||◌, T, eqb→eq, Bool, true, false, cond, List, [], ◌∷◌, ◌++◌, length, get_or, drop, Some, None, refl, sym, ap, ◌∙◌, subst, ◌⊎◌, inl, inr, arith, add-one, slice_index_or, slice_set}
+-- What the queues keep.
+use Rattle.std.proofs.Common.{◌≡◌, ◌≢◌, ℕ, zero, suc, ◌<◌, ◌≤◌, ◌+◌, ◌||◌, T, eqb→eq, Bool, true, false, List, [], ◌∷◌, ◌++◌, length, refl, sym, subst, ◌⊎◌, inl, inr, arith, add-one, slice_index_or, slice_set}
 use Rattle.std.specs.List.{AllByRecursion, IsDistinct, list_any}
-use Rattle.std.proofs.lemmas.List.{at_drop_more, at_drop_all}
 use Rattle.std.proofs.lemmas.Map.Steps.{length-le_from_distinct_below}
 use lib.Dec.{eqb}
-use Rattle.uc_cluster.specs.declared.clusters.Processor.{Processor}
-use Rattle.uc_cluster.specs.Standing.{no_processor, first_from, IsApart, IsKept}
-
--- ---- the first
-pub first_here : (test : Processor → Bool) (ps : List Processor) (n : ℕ) → n < length ps → test (get_or ps n no_processor) ≡ true → Some n ≡ first_from test n (drop n ps)
-first_here test ps n lt t = sym (at_drop_more (first_from test n) ps n no_processor lt ∙ ap (λ (b : Bool). cond b (Some n) (first_from test (n + 1) (drop (n + 1) ps))) t)
-
-pub first_later : (test : Processor → Bool) (ps : List Processor) (n : ℕ) → n < length ps → test (get_or ps n no_processor) ≡ false → first_from test n (drop n ps) ≡ first_from test (n + 1) (drop (n + 1) ps)
-first_later test ps n lt t = at_drop_more (first_from test n) ps n no_processor lt ∙ ap (λ (b : Bool). cond b (Some n) (first_from test (n + 1) (drop (n + 1) ps))) t
-
-pub first_nowhere : (test : Processor → Bool) (ps : List Processor) (n : ℕ) → length ps ≤ n → None ≡ first_from test n (drop n ps)
-first_nowhere test ps n le = sym (at_drop_all (first_from test n) ps n le)
+use Rattle.uc_cluster.specs.Standing.{IsApart, IsKept, rest_of}
 
 -- ---- lists whose elements all have a property
 pub all_push : {X : Type 0} (P : X → Type 0) (xs : List X) (x : X) → AllByRecursion P xs → P x → AllByRecursion P (xs ++ x ∷ [])
 all_push P [] x h p = (p, tt)
 all_push P (y ∷ ys) x h p = (h.0, all_push P ys x h.1 p)
+
+pub all_unpush : {X : Type 0} (P : X → Type 0) (xs : List X) (x : X) → AllByRecursion P (xs ++ x ∷ []) → AllByRecursion P xs × P x
+all_unpush P [] x h = (tt, h.0)
+all_unpush P (y ∷ ys) x h = let rest = all_unpush P ys x h.1 in ((h.0, rest.0), rest.1)
 
 pub all_set : {X : Type 0} (P : X → Type 0) (xs : List X) (i : ℕ) (x : X) → AllByRecursion P xs → P x → AllByRecursion P (slice_set xs i x)
 all_set P [] i x h p = tt
@@ -67,3 +59,7 @@ apart_push (x ∷ q) t a n = (all_push (λ u. u ≢ x) q t a.0 (λ e. n.0 (sym e
 
 pub kept_push : (n t : ℕ) (q : List ℕ) → IsKept n q → t < n → AllByRecursion (λ u. u ≢ t) q → IsKept n (q ++ t ∷ [])
 kept_push n t q k lt away = record { apart = apart_push q t k.apart away; below = all_push (λ u. u < n) q t k.below lt }
+
+pub kept_rest : (n : ℕ) (q : List ℕ) → IsKept n q → IsKept n (rest_of q)
+kept_rest n [] k = k
+kept_rest n (t ∷ q) k = record { apart = k.apart.1; below = k.below.1 }

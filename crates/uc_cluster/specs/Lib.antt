@@ -1,2 +1,3 @@
 pub mod Laws
+pub mod ProcessorSet
 pub mod Standing

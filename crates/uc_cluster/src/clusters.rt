@@ -2,8 +2,10 @@
 ghost use Rattle.std.specs.Prelude.{◌≡◌, ◌<◌, ◌≤◌, ◌==◌, ◌+◌, ◌&&◌, [], true, length, not, replicate, slice_set, vec_capacity, IfOk, IfSome, IfNone, Some, None, nat_lt, if◌then◌else◌, is_some};
 ghost use Rattle.std.specs.List.{AllByRecursion, list_any};
 ghost use Rattle.uc_tree.specs.declared.limits.TheConstants.{CLUSTERS, PROCESSORS, TASKS};
+ghost use Rattle.uc_cluster.specs.ProcessorSet.{has, set_at, no_set};
 ghost use Rattle.uc_cluster.specs.Standing.{IsPlaced, IsUnready, queue_at, processor_at, place_of, with_processor, with_place, running, closed, opening, made_ready, with_cluster, one_more_processor, is_nobody, taking, dispatched, after_dispatch, started, may_take, front_at, is_in_use, is_on, stall_of, none_runs, none_ready, none_served, new_number, new_processor, or_0};
 
+use crate::processor_set::ProcessorSet;
 use crate::queue::Queue;
 use std::alloc::{AllocError, Global};
 use std::marker::Model;
@@ -39,6 +41,10 @@ pub struct Clusters {
     spare: Vec<Queue>,
     processors: Vec<Processor>,
     places: Vec<Option<u32>>,
+    // The processors of each cluster, the ones that are open and free, and the ones whose cluster has a ready task.
+    members: Vec<ProcessorSet>,
+    idle: ProcessorSet,
+    served: ProcessorSet,
 }
 
 impl Model for Clusters {
@@ -46,13 +52,15 @@ impl Model for Clusters {
     ghost use Rattle.std.specs.List.{AllByRecursion, list_any};
     ghost use Rattle.uc_tree.specs.declared.limits.TheConstants.{CLUSTERS, PROCESSORS, TASKS};
     ghost use Rattle.uc_cluster.specs.Standing.{Standing, IsKept};
+    ghost use Rattle.uc_cluster.specs.ProcessorSet.{IsMarked};
 
     ghost Value = { Standing };
 
     ghost view = { λ c. record { queues = c.queues.items; processors = c.processors.items; places = c.places.items } };
 
     ghost invariant = { λ c. (length c.queues.items + length c.spare.items ≡ CLUSTERS) × (CLUSTERS ≤ vec_capacity c.queues) × AllByRecursion (λ q. q ≡ []) c.spare.items
-        × (PROCESSORS ≤ vec_capacity c.processors) × (length c.processors.items ≤ PROCESSORS) × (length c.places.items ≤ TASKS) × AllByRecursion (IsKept (length c.places.items)) c.queues.items };
+        × (PROCESSORS ≤ vec_capacity c.processors) × (length c.processors.items ≤ PROCESSORS) × (length c.places.items ≤ TASKS) × AllByRecursion (IsKept (length c.places.items)) c.queues.items
+        × IsMarked c.queues.items c.processors.items c.members.items c.idle c.served × (CLUSTERS ≤ vec_capacity c.members) };
 }
 
 impl Clusters {
@@ -63,16 +71,22 @@ impl Clusters {
         ensures { IfOk result (λ c. c ≡ opening processors tasks) }
     {
         let spare = spare_queues(alloc)?;
+        let idle = ProcessorSet::first(processors);
         let processors = opening_processors(alloc, processors)?;
         let places = opening_places(alloc, tasks)?;
         let first = Queue::new(alloc)?;
         let mut queues = Vec::with_capacity(alloc, CLUSTERS as usize)?;
         queues.push_reserved(first);
+        let mut members = Vec::with_capacity(alloc, CLUSTERS as usize)?;
+        members.push_reserved(idle);
         Ok(Clusters {
             queues,
             spare,
             processors,
             places,
+            members,
+            idle,
+            served: ProcessorSet::empty(),
         })
     }
 
@@ -107,7 +121,9 @@ impl Clusters {
         requires { processor < length self.old.processors }
         ensures { self.new ≡ with_processor self.old processor (running None (processor_at self.old processor)) }
     {
+        let is_open = self.processors[processor as usize].is_open;
         self.processors[processor as usize].task = None;
+        self.idle = self.idle.set(processor, is_open);
     }
 
     /// A processor takes no dispatch any more. The task that runs on it goes on.
@@ -116,6 +132,7 @@ impl Clusters {
         ensures { self.new ≡ with_processor self.old processor (closed (processor_at self.old processor)) }
     {
         self.processors[processor as usize].is_open = false;
+        self.idle = self.idle.set(processor, false);
     }
 
     /// The cluster of a processor.
@@ -163,6 +180,7 @@ impl Clusters {
     {
         if let Some(cluster) = self.place(task) {
             self.queues[cluster as usize].push(task);
+            self.served = self.served.or(set_at(&self.members, cluster));
         }
     }
 
@@ -190,6 +208,7 @@ impl Clusters {
         match self.spare.pop() {
             Some(queue) => {
                 self.queues.push_reserved(queue);
+                self.members.push_reserved(ProcessorSet::empty());
                 Some(number)
             }
             None => None,
@@ -204,11 +223,16 @@ impl Clusters {
     {
         let number = self.processors.len() as u32;
         if number < PROCESSORS {
+            let has_ready = self.has_ready(cluster);
+            let members = set_at(&self.members, cluster).set(number, true);
             self.processors.push_reserved(Processor {
                 cluster,
                 is_open: true,
                 task: None,
             });
+            self.members[cluster as usize] = members;
+            self.idle = self.idle.set(number, true);
+            self.served = self.served.set(number, has_ready);
             return Some(number);
         }
         None
@@ -259,20 +283,7 @@ impl Clusters {
         ensures known { IfSome result (λ p. p < length self.now.processors) }
         ensures ready { IfSome result (λ p. may_take self.now.queues (processor_at self.now p) ≡ true) }
     {
-        for at in 0..self.processors.len() {
-            if self.may_take(at) {
-                return Some(at as u32);
-            }
-        }
-        None
-    }
-
-    fn may_take(&self, at: usize) -> bool
-        requires { at < length self.now.processors }
-        ensures { result ≡ may_take self.now.queues (processor_at self.now at) }
-    {
-        let one = self.processors[at];
-        one.is_open && (one.task.is_none() && self.has_ready(one.cluster))
+        self.idle.and(self.served).least()
     }
 
     fn has_ready(&self, cluster: u32) -> bool
@@ -293,7 +304,10 @@ impl Clusters {
     {
         let cluster = self.processors[processor as usize].cluster;
         let task = self.queues[cluster as usize].shift();
+        let is_last = self.queues[cluster as usize].is_empty();
         self.processors[processor as usize].task = Some(task);
+        self.idle = self.idle.set(processor, false);
+        self.served = self.served.but(is_last, set_at(&self.members, cluster));
         task
     }
 
@@ -302,6 +316,15 @@ impl Clusters {
         ensures { result ≡ place_of self.now task }
     {
         self.places[task as usize]
+    }
+}
+
+fn set_at(sets: &Vec<ProcessorSet>, cluster: u32) -> ProcessorSet
+    ensures { result ≡ set_at sets.now.items cluster }
+{
+    match sets.get(cluster as usize) {
+        Some(set) => *set,
+        None => ProcessorSet::empty(),
     }
 }
 

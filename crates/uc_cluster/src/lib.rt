@@ -3,6 +3,7 @@
 
 pub mod clusters;
 pub mod laws;
+mod processor_set;
 mod queue;
 
 pub use clusters::{Clusters, Stalled};

@@ -7,12 +7,12 @@ use Rattle.std.proofs.lemmas.List.Elements.{filter-append}
 use Rattle.uc_meaning.specs.declared.entry.Entry.{Entry}
 use Rattle.uc_meaning.specs.declared.entry.EntryKind.{EntryKind}
 use Rattle.uc_meaning.specs.declared.entry.EntryKind.TheVariants as kind
-use Rattle.uc_meaning.specs.Journal.{Journal, entry}
+use Rattle.uc_meaning.specs.Journal.{Journal, entry, entries_at}
 use Rattle.uc_meaning.specs.Doors.{blocked, blocked_at}
 use Rattle.uc_meaning.proofs.Seats.{blocked_other, blocked_same, blocked_after}
 use Rattle.uc_meaning.proofs.Sound.{self_test, all_kept, all_kept_nil}
 use Rattle.uc_condition.specs.Waiting.{put, queue_at, first_task, rest_of}
-use Rattle.uc_condition.specs.Laws.{takes_out, is_silent, LawWait, LawTake, LawElsewhere, LawOthers}
+use Rattle.uc_condition.specs.Laws.{takes_out, is_silent, LawOpening, LawWait, LawTake, LawElsewhere, LawOthers}
 
 abbrev Triple : Type 0
 Triple = ℕ × ℕ × ℤ
@@ -129,3 +129,11 @@ others v j e h are q d = elim (cases_eq q e.object) [
   | inl at ↦ subst (λ (x : ℕ). queue_at v x d ≡ blocked x d (j ++ e ∷ [])) (sym at) (are e.object d ∙ sym (here_blocked d j e ∙ ap (seen d) (silent_after e.kind e (blocked_at e.object j) h)))
   | inr n ↦ are q d ∙ sym (elsewhere_blocked q d j e n)
 ]
+
+-- ---- the opening
+none_blocked : (o c : ℕ) → blocked o c [] ≡ []
+unfolding blocked_at entries_at
+none_blocked o c = refl
+
+pub opening : LawOpening
+opening v none o c = none o c ∙ sym (none_blocked o c)

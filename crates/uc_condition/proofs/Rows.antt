@@ -1,6 +1,6 @@
 -- Worked rows: the queues of conditions, by hand.
 use Rattle.std.proofs.Common.{◌≡◌, ℕ, pos, List, [], ◌∷◌, Some, None, refl}
-use Rattle.uc_condition.specs.declared.conditions.Wait.{Wait}
+use Rattle.uc_condition.specs.Waiting.{Wait}
 use Rattle.uc_condition.specs.Waiting.{queue_of, first_task, first_number, rest_of}
 
 abbrev wait : ℕ → ℕ → ℕ → ℕ → Wait

@@ -24,6 +24,10 @@ is_silent kind.Push = false
 is_silent kind.Admit = false
 is_silent _ = true
 
+-- before the first entry nobody waits
+abbrev pub LawOpening : Type 0
+LawOpening = (v : Waiting) → ((o c : ℕ) → queue_at v o c ≡ []) → AreBlocked v []
+
 abbrev pub LawWait : Type 0
 LawWait = (v w : Waiting) (j : Journal) (p t k o c : ℕ) (n : ℤ) → AreBlocked v j → Became v w o c (queue_at v o c ++ (t, n) ∷ []) → AreBlocked w (j ++ entry kind.Wait p t k o (pos c) n ∷ [])
 

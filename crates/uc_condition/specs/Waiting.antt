@@ -1,13 +1,24 @@
 -- The tasks that wait on conditions, as one queue for each condition of each object.
-use Rattle.std.specs.Prelude.{◌≡◌, ◌≢◌, ℕ, ℤ, pos, ◌<◌, take, slice_index_or, ◌==◌, ◌&&◌, Bool, true, false, List, [], ◌∷◌, map, length, Option, Some, None, if◌then◌else◌}
+use Rattle.std.specs.Prelude.{◌≡◌, ◌≢◌, ℕ, ℤ, pos, ◌<◌, ◌+◌, ◌*◌, ◌%◌, take, slice_index_or, ◌==◌, ◌&&◌, Bool, true, false, List, [], ◌∷◌, map, length, Option, Some, None, if◌then◌else◌}
 use Rattle.std.specs.List.{AllByRecursion, filter}
-use Rattle.uc_condition.specs.declared.conditions.Wait.{Wait}
+use Rattle.uc_condition.specs.declared.buckets.TheConstants.{BUCKETS, SPREAD}
 
--- How many tasks and objects are known, and all waits, oldest first.
+-- A task that waits on a condition of an object, with the number that it gave.
+pub record Wait : Type 0 where
+  pub object : ℕ
+  pub cond : ℕ
+  pub task : ℕ
+  pub n : ℤ
+
+-- How many tasks and objects are known, and the waits by bucket, oldest first.
 pub record Waiting : Type 0 where
   pub tasks : ℕ
   pub objects : ℕ
-  pub waits : List Wait
+  pub buckets : List (List Wait)
+
+-- the bucket of a condition of an object
+unfoldable pub place : ℕ → ℕ → ℕ
+place o c = (o * SPREAD + c) % BUCKETS
 
 abbrev pub no_wait : Wait
 no_wait = record { object = 0; cond = 0; task = 0; n = pos 0 }
@@ -23,7 +34,7 @@ queue_of ws o c = map with_number (filter (is_at o c) ws)
 
 -- the queue of a condition of an object: the tasks that wait, each with the number that it gave, oldest first
 abbrev pub queue_at : Waiting → ℕ → ℕ → List (ℕ × ℤ)
-queue_at v o c = queue_of v.waits o c
+queue_at v o c = queue_of (slice_index_or v.buckets (place o c) []) o c
 
 -- the task waits on no condition
 abbrev pub IsFree : ℕ → Waiting → Type 0
@@ -63,14 +74,19 @@ is_nobody (w ∷ ws) = false
 abbrev pub IsBusy : ℕ → Waiting → Type 0
 IsBusy o v = (c : ℕ) × (is_nobody (queue_at v o c) ≡ false)
 
--- no task waits twice, and each is the number of a task
+-- no task stands twice in a list
 abbrev pub IsApart : List ℕ → Type 0
 IsApart [] = Unit {0}
 IsApart (t ∷ ts) = AllByRecursion (λ u. u ≢ t) ts × IsApart ts
 
-pub record IsKept (tasks : ℕ) (ts : List ℕ) : Type 0 where
-  pub apart : IsApart ts
-  pub below : AllByRecursion (λ t. t < tasks) ts
+-- how many waits are on conditions of an object
+abbrev pub waits_at : ℕ → List Wait → ℕ
+waits_at o [] = 0
+waits_at o (w ∷ ws) = (if w.object == o then 1 else 0) + waits_at o ws
+
+abbrev pub all_at : ℕ → List (List Wait) → ℕ
+all_at o [] = 0
+all_at o (ws ∷ bs) = waits_at o ws + all_at o bs
 
 -- the first wait on this condition stands at this place
 pub record IsFirstAt (o c : ℕ) (ws : List Wait) (n : ℕ) : Type 0 where

@@ -1,41 +1,38 @@
 //! The queues of conditions.
-ghost use Rattle.std.specs.Prelude.{◌≡◌, ◌<◌, ◌==◌, ◌++◌, ◌∷◌, [], true, false, max, OnOk, OnErr, IfSome, IfNone, ℕ};
-ghost use Rattle.std.specs.List.{filter, list_any};
-ghost use Rattle.uc_condition.specs.Waiting.{IsFree, Became, queue_at, SameQueues, first_task, first_number, rest_of, is_at, IsBusy, IsFirstAt};
+ghost use Rattle.std.specs.Prelude.{◌≡◌, ◌<◌, ◌++◌, ◌-◌, ◌∷◌, [], true, false, length, max, replicate, slice_index_or, OnOk, OnErr, IfSome, ℕ};
+ghost use Rattle.uc_condition.specs.Waiting.{IsFree, Became, queue_at, SameQueues, first_task, first_number, rest_of, IsBusy};
+ghost use Rattle.uc_condition.specs.Buckets.{no_row, no_bucket, bucket_at};
+ghost use Rattle.uc_condition.specs.declared.buckets.TheConstants.{BUCKETS};
 
+use crate::buckets::{BUCKETS, Bucket, Row, find, link, place, unlink};
 use std::alloc::{AllocError, Global};
 use std::marker::Model;
-
-/// A task that waits, and the number that it gave.
-#[derive(Clone, Copy)]
-pub struct Wait {
-    object: u32,
-    cond: u16,
-    task: u32,
-    n: i64,
-}
 
 /// The tasks that wait on conditions. Contracts see one queue for each condition of each object: the tasks, each with the number
 /// that it gave, oldest first.
 ///
-/// `reserve` takes all memory; the other calls take none.
+/// `reserve` takes all memory; the other calls take none. The waits stand in a table of buckets by object and condition. A call
+/// looks at those waits of its bucket that are older than the one that it is about, which are waits on other conditions.
 #[derive(Drop)]
 pub struct Conditions {
-    // Oldest first.
-    waits: Vec<Wait>,
+    // By the task, for those that wait.
+    rows: Vec<Row>,
+    buckets: Vec<Bucket>,
+    // By the object: how many tasks wait on its conditions.
+    counts: Vec<u64>,
     tasks: u32,
     objects: u32,
 }
 
 impl Model for Conditions {
-    ghost use Rattle.std.specs.Prelude.{◌≤◌, map, vec_capacity};
-    ghost use Rattle.uc_condition.specs.Waiting.{Waiting, IsKept};
+    ghost use Rattle.uc_condition.specs.Waiting.{Waiting};
+    ghost use Rattle.uc_condition.specs.Buckets.{IsTable, all_waits};
 
     ghost Value = { Waiting };
 
-    ghost view = { λ c. record { tasks = c.tasks; objects = c.objects; waits = c.waits.items } };
+    ghost view = { λ c. record { tasks = c.tasks; objects = c.objects; buckets = all_waits c.rows.items c.buckets.items } };
 
-    ghost invariant = { λ c. (c.tasks ≤ vec_capacity c.waits) × IsKept c.tasks (map (λ w. w.task) c.waits.items) };
+    ghost invariant = { λ c. IsTable c.tasks c.objects c.rows.items c.buckets.items c.counts.items };
 }
 
 impl Conditions {
@@ -45,7 +42,9 @@ impl Conditions {
         ensures queues { (o c : ℕ) → queue_at result o c ≡ [] }
     {
         Conditions {
-            waits: Vec::new(alloc),
+            rows: Vec::new(alloc),
+            buckets: Vec::new(alloc),
+            counts: Vec::new(alloc),
             tasks: 0,
             objects: 0,
         }
@@ -58,10 +57,10 @@ impl Conditions {
         ensures same { SameQueues self.old self.new }
         ensures err { OnErr result ((self.new.tasks ≡ self.old.tasks) × (self.new.objects ≡ self.old.objects)) }
     {
-        if tasks > self.tasks {
-            self.waits.reserve(tasks as usize)?;
-            self.tasks = tasks;
-        }
+        add_buckets(&mut self.buckets)?;
+        add_rows(&mut self.rows, tasks)?;
+        add_counts(&mut self.counts, objects)?;
+        self.tasks = self.tasks.max(tasks);
         self.objects = self.objects.max(objects);
         Ok(())
     }
@@ -73,12 +72,17 @@ impl Conditions {
         requires free { IsFree task self.old }
         ensures { Became self.old self.new object cond (queue_at self.old object cond ++ (task, n) ∷ []) }
     {
-        self.waits.push_reserved(Wait {
+        let at = place(object, cond);
+        let bucket = bucket_at(&self.buckets, at);
+        let row = Row {
             object,
             cond,
-            task,
             n,
-        });
+            next: 0,
+        };
+        let longer = link(&mut self.rows, bucket, task, row);
+        self.buckets[at] = longer;
+        self.counts[object as usize] += 1;
     }
 
     /// Takes the oldest task out of a queue. `None`, and nothing changes, exactly where nobody waits there.
@@ -87,10 +91,14 @@ impl Conditions {
         ensures queues { Became self.old self.new object cond (rest_of (queue_at self.old object cond)) }
         ensures free { IfSome result (λ t. IsFree t self.new) }
     {
-        match find(&self.waits, object, cond) {
-            Some(at) => {
-                let wait = self.waits.remove(at);
-                Some(wait.task)
+        let at = place(object, cond);
+        let bucket = bucket_at(&self.buckets, at);
+        match find(&self.rows, bucket, object, cond) {
+            Some(found) => {
+                let shorter = unlink(&mut self.rows, bucket, found);
+                self.buckets[at] = shorter;
+                self.counts[object as usize] -= 1;
+                Some(found.task)
             }
             None => None,
         }
@@ -100,10 +108,11 @@ impl Conditions {
     pub fn front(&self, object: u32, cond: u16) -> Option<i64>
         ensures { result ≡ first_number (queue_at self.now object cond) }
     {
-        match find(&self.waits, object, cond) {
-            Some(at) => {
-                let wait = self.waits[at];
-                Some(wait.n)
+        let bucket = bucket_at(&self.buckets, place(object, cond));
+        match find(&self.rows, bucket, object, cond) {
+            Some(found) => {
+                let row = self.rows[found.task as usize];
+                Some(row.n)
             }
             None => None,
         }
@@ -114,31 +123,67 @@ impl Conditions {
         ensures busy { result ≡ true → IsBusy object self.now }
         ensures idle { result ≡ false → (c : ℕ) → queue_at self.now object c ≡ [] }
     {
-        self.has_wait(object)
-    }
-
-    fn has_wait(&self, object: u32) -> bool
-        ensures { result ≡ list_any (λ w. w.object == object) self.now.waits }
-    {
-        self.waits.iter().any(|wait| wait.object == object)
+        count_at(&self.counts, object) > 0
     }
 }
 
-/// Where the first wait on a condition stands.
-fn find(waits: &Vec<Wait>, object: u32, cond: u16) -> Option<usize>
-    ensures some { IfSome result (λ n. IsFirstAt object cond waits.now.items n) }
-    ensures none { IfNone result (filter (is_at object cond) waits.now.items ≡ []) }
+const NO_ROW: Row = Row {
+    object: 0,
+    cond: 0,
+    n: 0,
+    next: 0,
+};
+
+const NO_BUCKET: Bucket = Bucket {
+    count: 0,
+    first: 0,
+    last: 0,
+};
+
+fn bucket_at(buckets: &Vec<Bucket>, at: usize) -> Bucket
+    ensures { result ≡ bucket_at buckets.now.items at }
 {
-    for at in 0..waits.len() {
-        if is_at(waits[at], object, cond) {
-            return Some(at);
-        }
+    match buckets.get(at) {
+        Some(bucket) => *bucket,
+        None => NO_BUCKET,
     }
-    None
 }
 
-fn is_at(wait: Wait, object: u32, cond: u16) -> bool
-    ensures { result ≡ is_at object cond wait }
+fn count_at(counts: &Vec<u64>, object: u32) -> u64
+    ensures { result ≡ slice_index_or counts.now.items object 0 }
 {
-    wait.object == object && wait.cond == cond
+    match counts.get(object as usize) {
+        Some(count) => *count,
+        None => 0,
+    }
+}
+
+fn add_rows(rows: &mut Vec<Row>, tasks: u32) -> Result<(), AllocError>
+    ensures ok { OnOk result (rows.new.items ≡ rows.old.items ++ replicate (tasks - length rows.old.items) no_row) }
+    ensures err { OnErr result (rows.new.items ≡ rows.old.items) }
+{
+    if rows.len() < tasks as usize {
+        rows.resize(tasks as usize, NO_ROW)?;
+    }
+    Ok(())
+}
+
+fn add_buckets(buckets: &mut Vec<Bucket>) -> Result<(), AllocError>
+    ensures ok { OnOk result (buckets.new.items ≡ buckets.old.items ++ replicate (BUCKETS - length buckets.old.items) no_bucket) }
+    ensures err { OnErr result (buckets.new.items ≡ buckets.old.items) }
+{
+    if buckets.len() < BUCKETS as usize {
+        buckets.resize(BUCKETS as usize, NO_BUCKET)?;
+    }
+    Ok(())
+}
+
+fn add_counts(counts: &mut Vec<u64>, objects: u32) -> Result<(), AllocError>
+    ensures ok { OnOk result (counts.new.items ≡ counts.old.items ++ replicate (objects - length counts.old.items) 0) }
+    ensures err { OnErr result (counts.new.items ≡ counts.old.items) }
+{
+    if counts.len() < objects as usize {
+        counts.resize(objects as usize, 0)?;
+    }
+    Ok(())
 }

@@ -1,5 +1,10 @@
 //! The queues are those that a journal tells of, entry by entry: each law is a function whose contract is the law.
-ghost use Rattle.uc_condition.specs.Laws.{LawWait, LawTake, LawElsewhere, LawOthers};
+ghost use Rattle.uc_condition.specs.Laws.{LawOpening, LawWait, LawTake, LawElsewhere, LawOthers};
+
+/// Before the first entry nobody waits, here and in a journal.
+pub fn law_opening()
+    ensures { LawOpening }
+{}
 
 /// Where the queues are what a journal tells is blocked, they are so with a wait more that was made here too.
 pub fn law_wait()

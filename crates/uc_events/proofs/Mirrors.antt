@@ -1,5 +1,5 @@
 -- What one entry more does to what is pending.
-use Rattle.std.proofs.Common.{◌≡◌, ◌≢◌, ℕ, pos, ◌<◌, ◌+◌, ◌==◌, T, eqb→eq, Bool, true, false, cond, List, [], ◌∷◌, ◌++◌, length, Option, Some, None, refl, sym, ap, ◌∙◌, subst, inl, inr, arith, rules, length-set, get_or-set_same, get_or-set_other}
+use Rattle.std.proofs.Common.{◌≡◌, ◌≢◌, ℕ, zero, suc, pos, ◌<◌, ◌+◌, ◌==◌, T, eqb→eq, Bool, true, false, cond, List, [], ◌∷◌, ◌++◌, length, replicate, Option, Some, None, refl, sym, ap, ◌∙◌, subst, inl, inr, arith, rules, length-set, get_or-set_same, get_or-set_other}
 use Rattle.std.proofs.lemmas.Bool.{cases_eq}
 use Rattle.std.proofs.lemmas.List.Sums.{fold_push}
 use Rattle.uc_meaning.specs.declared.entry.Entry.{Entry}
@@ -9,7 +9,7 @@ use Rattle.uc_meaning.specs.Journal.{Journal, holds}
 use Rattle.uc_meaning.specs.Acts.{raise_entry, poll_entry}
 use Rattle.uc_meaning.specs.Pending.{pending, pending_by, oldest_in, has_bit, drop_first}
 use Rattle.uc_events.specs.Pending.{Event, pending_at, with_pending, raised, without_oldest}
-use Rattle.uc_events.specs.Laws.{ArePending, tells, LawRaise, LawPoll, LawOthers}
+use Rattle.uc_events.specs.Laws.{LawOpening, ArePending, tells, LawRaise, LawPoll, LawOthers}
 
 pending_push : (t : ℕ) (j : Journal) (e : Entry) → pending t (j ++ e ∷ []) ≡ pending_by t (pending t j) e.kind e
 unfolding pending
@@ -122,3 +122,16 @@ silent t ps _ e h = refl
 
 pub others : LawOthers
 others all j e h are t lt = are t lt ∙ sym (pending_push t j e ∙ silent t (pending t j) e.kind e h)
+
+-- ---- the opening
+none_pending : (t : ℕ) → pending t [] ≡ []
+unfolding pending
+none_pending t = refl
+
+no_lists : (n t : ℕ) → pending_at (replicate n []) t ≡ []
+no_lists zero t = refl
+no_lists (suc n) zero = refl
+no_lists (suc n) (suc t) = no_lists n t
+
+pub opening : LawOpening
+opening tasks t lt = no_lists tasks t ∙ sym (none_pending t)

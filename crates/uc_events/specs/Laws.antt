@@ -1,5 +1,5 @@
 -- The lists are the filters of the journal, entry by entry.
-use Rattle.std.specs.Prelude.{◌≡◌, ℕ, ℤ, ◌<◌, Bool, true, false, List, [], ◌∷◌, ◌++◌, length}
+use Rattle.std.specs.Prelude.{◌≡◌, ℕ, ℤ, ◌<◌, Bool, true, false, List, [], ◌∷◌, ◌++◌, length, replicate}
 use Rattle.uc_meaning.specs.declared.entry.Entry.{Entry}
 use Rattle.uc_meaning.specs.declared.entry.EntryKind.{EntryKind}
 use Rattle.uc_meaning.specs.declared.entry.EntryKind.TheVariants as kind
@@ -17,6 +17,10 @@ abbrev pub tells : EntryKind → Bool
 tells kind.Raise = true
 tells kind.Poll = true
 tells _ = false
+
+-- before the first entry nothing is pending
+abbrev pub LawOpening : Type 0
+LawOpening = (tasks : ℕ) → ArePending (replicate tasks []) []
 
 abbrev pub LawRaise : Type 0
 LawRaise = (all : List (List Event)) (j : Journal) (p actor k o t event : ℕ) (x y : ℤ) → t < length all → has_room (pending_at all t) ≡ true → ArePending all j

@@ -7,11 +7,12 @@ use Rattle.uc_links.specs.Lists.{without}
 use Rattle.uc_meaning.specs.declared.entry.Entry.{Entry}
 use Rattle.uc_meaning.specs.declared.entry.EntryKind.{EntryKind}
 use Rattle.uc_meaning.specs.declared.entry.EntryKind.TheVariants as kind
-use Rattle.uc_meaning.specs.Journal.{Journal, entry, holds, inside}
+use Rattle.uc_meaning.specs.declared.entry.Options.{Options}
+use Rattle.uc_meaning.specs.Journal.{Journal, begin, entry, number, holds, inside, stacks_acceptor}
 use Rattle.uc_meaning.specs.Queues.{waiting}
 use Rattle.uc_meaning.specs.Doors.{OnStack, open_at, offers, offered, stack_at, taken_off, last_call, clause_for, or_0}
 use Rattle.uc_meaning.specs.Acts.{admit, push, accept_entry}
-use Rattle.uc_mutex.specs.Doors.{Door, behind, inside_is}
+use Rattle.uc_mutex.specs.Doors.{Door, no_door, behind, inside_is}
 use Rattle.uc_mutex.specs.Offers.{clauses_of}
 
 abbrev pub pair : OnStack → ℕ × ℕ
@@ -56,7 +57,40 @@ goes_out kind.Wait = true
 goes_out kind.Gone = true
 goes_out _ = false
 
+-- the entries that tell nothing of their object's door: of an accept those that open nothing and let nobody in, of a signalBlock
+-- those that find nobody
+abbrev pub is_still : EntryKind → Entry → Bool
+is_still kind.Begin e = false
+is_still kind.Make e = false
+is_still kind.Spawn e = false
+is_still kind.Call e = false
+is_still kind.Made e = false
+is_still kind.Leave e = false
+is_still kind.End e = false
+is_still kind.Wait e = false
+is_still kind.Gone e = false
+is_still kind.Push e = false
+is_still kind.Admit e = false
+is_still kind.Accept e = not (stacks_acceptor e)
+is_still kind.SignalBlock e = not (holds 1 e.b)
+is_still _ e = true
+
 -- ---- the laws
+-- before the first entry nobody is anywhere, and after it task 0 is inside object 0
+abbrev pub LawOpening : Type 0
+LawOpening = (sites : List Site) (opts : Options) → ((o : ℕ) → IsDoor sites o [] no_door) × IsDoor sites 0 (begin opts ∷ []) (inside_is (Some 0) no_door)
+
+-- the creator is inside a new object
+abbrev pub LawMake : Type 0
+LawMake = (sites : List Site) (j : Journal) (e : Entry) → e.kind ≡ kind.Make → IsDoor sites e.object j no_door → IsDoor sites e.object (j ++ e ∷ []) (inside_is (Some e.task) no_door)
+
+-- a new task is inside in place of its creator
+abbrev pub LawSpawn : Type 0
+LawSpawn = (sites : List Site) (j : Journal) (d : Door) (e : Entry) → e.kind ≡ kind.Spawn → inside e.object j ≡ e.task ∷ [] → IsDoor sites e.object j d → IsDoor sites e.object (j ++ e ∷ []) (inside_is (Some (number e.a)) d)
+
+abbrev pub LawStill : Type 0
+LawStill = (sites : List Site) (j : Journal) (d : Door) (e : Entry) → is_still e.kind e ≡ true → IsDoor sites e.object j d → IsDoor sites e.object (j ++ e ∷ []) d
+
 abbrev pub LawElsewhere : Type 0
 LawElsewhere = (sites : List Site) (o : ℕ) (j : Journal) (e : Entry) (d : Door) → (e.object == o) ≡ false → IsDoor sites o j d → IsDoor sites o (j ++ e ∷ []) d
 

@@ -310,7 +310,8 @@ impl Entries {
         self.doorways[object as usize] = doorway;
     }
 
-    fn enter(&mut self, object: u32, task: u32)
+    /// A task is let in, in place of whoever was inside, and an open accept is closed. It stays where it stands in the lists.
+    pub fn enter(&mut self, object: u32, task: u32)
         requires object { object < length self.old.doors }
         ensures { self.new ≡ with_door self.old object (doorway_is (Some task) None (door_at self.old object)) }
     {
@@ -336,7 +337,8 @@ impl Entries {
         );
     }
 
-    fn leave(&mut self, object: u32)
+    /// Whoever is inside goes out, and nobody comes in.
+    pub fn leave(&mut self, object: u32)
         requires object { object < length self.old.doors }
         ensures { self.new ≡ with_door self.old object (inside_is None (door_at self.old object)) }
     {

@@ -1,5 +1,25 @@
 //! A door is what a journal tells of its object, entry by entry: each law is a function whose contract is the law.
-ghost use Rattle.uc_mutex.specs.Laws.{LawElsewhere, LawCall, LawOut, LawOpens, LawAccepts, LawSignalBlock, LawPush, LawAdmit, LawMeets};
+ghost use Rattle.uc_mutex.specs.Laws.{LawOpening, LawMake, LawSpawn, LawStill, LawElsewhere, LawCall, LawOut, LawOpens, LawAccepts, LawSignalBlock, LawPush, LawAdmit, LawMeets};
+
+/// Before the first entry nobody is at any door, and after it task 0 is inside object 0.
+pub fn law_opening()
+    ensures { LawOpening }
+{}
+
+/// With an entry more that makes an object, its creator is inside.
+pub fn law_make()
+    ensures { LawMake }
+{}
+
+/// With a spawn more the new task is inside in place of its creator.
+pub fn law_spawn()
+    ensures { LawSpawn }
+{}
+
+/// With one entry more that tells nothing of its object's door, the door is as it was.
+pub fn law_still()
+    ensures { LawStill }
+{}
 
 /// Where a door is its object's in a journal, it is so with one entry more at another object.
 pub fn law_elsewhere()

@@ -1,7 +1,10 @@
-use Rattle.std.proofs.Common.{◌≢◌, ℕ, ◌<◌, ◌+◌, List, ◌++◌, ◌∷◌, [], Option, ◌∙◌, ap, sym, subst, arith, length, length-set}
+use Rattle.std.proofs.Common.{◌≢◌, ℕ, ◌<◌, ◌+◌, List, ◌++◌, ◌∷◌, [], Option, ◌∙◌, ap, sym, subst, arith, length, length-set, slice_set, ◌||◌}
 use Rattle.std.specs.List.{AllByRecursion}
 use Rattle.std.proofs.lemmas.List.{get_or_default}
+use Rattle.uc_cluster.specs.declared.processor_set.ProcessorSet.{ProcessorSet}
 use Rattle.uc_cluster.specs.Standing.{Standing, IsKept, queue_at, or_0}
+use Rattle.uc_cluster.specs.ProcessorSet.{has, IsMarked}
+use Rattle.uc_cluster.proofs.Marks.{pushed}
 use Rattle.uc_cluster.proofs.Queues.{all_at, all_set, has_place, kept_push}
 use Rattle.uc_cluster.proofs.clusters.Clusters.ready.Goals as goal
 
@@ -28,4 +31,8 @@ invariant_of-self c =
     let n = length s.places.items in
     let now = subst (IsKept n) (sym (c.push.ensures ∙ ap (λ (q : List ℕ). q ++ t ∷ []) is)) (kept_push n t (queue_at s.queues.items k) kept below away) in
     let inv = c.self.invariant in
-    (ap (λ (m : ℕ). m + length s.spare.items) (length-set s.queues.items k c.push.new.self) ∙ inv.0, inv.1, inv.2, inv.3, inv.4, inv.5, all_set (IsKept n) s.queues.items k c.push.new.self inv.6 now)
+    let push_is = c.push.ensures ∙ ap (λ (q : List ℕ). q ++ t ∷ []) is in
+    let marked = subst (λ (q : List ℕ). IsMarked (slice_set s.queues.items k q) s.processors.items s.members.items s.idle c.or-self-inside.result) (sym push_is)
+    (pushed s.queues.items s.processors.items s.members.items s.idle s.served c.or-self-inside.result k t lt inv.4
+    (λ p. c.or-self-inside.ensures p ∙ ap (λ (z : ProcessorSet). has s.served p || has z p) c.set_at.ensures) inv.7) in
+    (ap (λ (m : ℕ). m + length s.spare.items) (length-set s.queues.items k c.push.new.self) ∙ inv.0, inv.1, inv.2, inv.3, inv.4, inv.5, all_set (IsKept n) s.queues.items k c.push.new.self inv.6 now, marked, inv.8)

@@ -1,0 +1,5 @@
+// The kernel: each act follows the journal.
+#![tactic(auto)]
+
+pub mod book;
+pub mod entries;
