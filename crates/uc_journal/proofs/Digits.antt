@@ -1,5 +1,5 @@
 -- Runs of digits, and the numbers that they write.
-use Rattle.std.proofs.Common.{◌≡◌, ℕ, zero, suc, ◌+◌, ◌<◌, ◌≤◌, ◌^◌, Bool, true, false, cond, List, [], ◌∷◌, ◌++◌, length, get_or, take, drop, refl, sym, ◌∙◌, ap, arith, rules, tests, drop-cons}
+use Rattle.std.proofs.Common.{◌≡◌, ℕ, zero, suc, ◌+◌, ◌<◌, ◌≤◌, ◌^◌, Bool, true, false, cond, List, [], ◌∷◌, ◌++◌, length, get_or, take, drop, refl, sym, ◌∙◌, ap, arith, rules, tests}
 use Rattle.std.specs.Prelude.{fold, decimal}
 use Rattle.std.specs.List.{prefix_len}
 use Rattle.std.proofs.lemmas.List.{take_at, drop_at, take-append-drop}
@@ -122,11 +122,3 @@ natural_of bs n some plain is small =
     let ds = take count bs in
     let d : decimal n ≡ ds = rw (← is) (decimal_of_value ds (taken bs) (some_taken bs some) (plain_taken bs some plain) (rw is small)) in
     record { is = sym (take-append-drop count bs) ∙ ap (λ t. t ++ drop count bs) (sym d); ends = left bs }
-
--- Further digits never make a number less.
-pub fold-with_digit-grows : (n : ℕ) (digits : List ℕ) → n ≤ fold with_digit n digits
-fold-with_digit-grows n [] = omega arith
-fold-with_digit-grows n (digit ∷ digits) = omega (arith, fold-with_digit-grows (with_digit n digit) digits)
-
-pub fold-drop : (n : ℕ) (xs : List ℕ) (i : ℕ) → i < length xs → fold with_digit n (drop i xs) ≡ fold with_digit (with_digit n (get_or xs i 0)) (drop (suc i) xs)
-fold-drop n xs i h = ap (fold with_digit n) (drop-cons xs i 0 h)

@@ -5,8 +5,6 @@ mod fields;
 mod line;
 mod number;
 mod read;
-#[cfg(test)]
-mod tests;
 mod types;
 mod word;
 mod write;

@@ -5,6 +5,7 @@ ghost use Rattle.std.specs.Fmt.{signed_decimal};
 ghost use Rattle.uc_meaning.specs.Texts as texts;
 ghost use Rattle.uc_meaning.specs.Fit as fit;
 ghost use Rattle.uc_journal.specs.Fields.{all_spaced};
+ghost use Rattle.uc_journal.specs.Lines.{IsTextOf};
 
 use crate::word::word_of;
 use itoa::Buffer;
@@ -24,9 +25,11 @@ pub fn write_entry(e: &Entry, buffer: &mut [u8; 256]) -> usize
     put(buffer, at, b"\n")
 }
 
-/// The text of a journal: that of each entry in order.
+/// The text of a journal: that of each entry in order. Where the entries are fit, it is the text that reads back as this
+/// journal alone.
 pub fn write_journal(alloc: Global, j: &[Entry]) -> Result<Vec<u8>, AllocError>
-    ensures { IfOk result (λ text. text.items ≡ texts.text j.now) }
+    ensures text { IfOk result (λ text. text.items ≡ texts.text j.now) }
+    ensures back { IfOk result (λ text. fit.AreFit j.now → IsTextOf text.items j.now) }
 {
     let mut text = Vec::new(alloc);
     append_journal(&mut text, j)?;

@@ -1,13 +1,20 @@
 -- What each status of the top call says, from what it leaves.
-use Rattle.std.proofs.Common.{◌≡◌, ◌≢◌, ◌<◌, ℕ, List, [], ◌∷◌, ◌⊎◌, inl, inr, refl, sym, ◌∙◌, ap, subst, arith}
-use Rattle.std.specs.Prelude.{IsTrue, Option}
-use Rattle.uc_tree.specs.declared.limits.TheConstants.{PROGRAM_BYTES, FRAME_CELLS}
+use Rattle.std.proofs.Common.{◌≡◌, ◌≢◌, ℕ, List, [], ◌⊎◌, inl, inr, true, false, length, refl, sym, ◌∙◌, ap, subst, arith}
+use Rattle.std.specs.Prelude.{IsTrue, Option, Contains}
+use Rattle.uc_tree.specs.declared.limits.TheConstants.{PROGRAM_BYTES, NESTING}
 use Rattle.uc_tree.specs.declared.pos.Pos.{Pos}
 use Rattle.uc_tree.specs.declared.scan.Reason.{Reason}
-use Rattle.uc_tree.specs.Programs.{Program, Item, Routine, RoutineItem}
-use Rattle.uc_tree.specs.Cells.{routine_cells}
+use Rattle.uc_tree.specs.declared.token.Token.{Token}
+use Rattle.uc_tree.specs.Tokens.{tokens, Read}
+use Rattle.uc_grammar.specs.Text.{IsProgram}
+use Rattle.uc_meaning.specs.declared.rule.Rule.{Rule}
+use Rattle.uc_meaning.specs.declared.rule.Break.{Break}
+use Rattle.uc_meaning.specs.Breaks.{breaks_of}
+use Rattle.uc_meaning.specs.BuiltForms.{is_built}
+use Rattle.uc_tree.specs.Programs.{Program}
 use Rattle.uc_meaning.specs.Journal.{Journal}
-use Rattle.uc_meaning.specs.Accepted.{FitFrames, IsAccepted}
+use Rattle.uc_meaning.specs.Accepted.{IsAccepted}
+use Rattle.uc_top.proofs.Frames.{no_large}
 use Rattle.uc_outside.specs.Reading.{StoreState, KeepsFiles, ReadBytes, ReadFailed, ReadTooLong, HasFile}
 use Rattle.uc_outside.specs.Faults.{CountRose}
 use Rattle.uc_outside.specs.Taking.{SinkState, Took, Stopped}
@@ -17,11 +24,11 @@ use Rattle.uc_words.specs.Words.{Command, RunFile, CheckFile, LowerFile, MakePro
 use Rattle.uc_top.specs.declared.endings.Ending.{Ending}
 use Rattle.uc_top.specs.declared.endings.Ending.TheVariants as ending
 use Rattle.uc_top.specs.declared.refusals.Refusal.{Refusal}
-use Rattle.uc_top.specs.declared.refusals.Refusal.TheVariants.{Word, CannotRead, TooLong, Lexical, NotBuilt, FrameTooLarge, CodeTooLarge, NoMemory}
+use Rattle.uc_top.specs.declared.refusals.Refusal.TheVariants.{Word, CannotRead, TooLong, Lexical, Syntax, TooDeep, Broken, NotBuilt, FrameTooLarge, CodeTooLarge, NoMemory}
 use Rattle.uc_top.specs.Endings.{ending_status, ending_text}
-use Rattle.uc_top.specs.Built.{HasLargeFrame, HasLargeCode, IsTextOf, IsAcceptedText, HasFault, GaveTexts, Asks, IsOnFile, ReadsTexts, CommandDid, file_of, input_of}
+use Rattle.uc_top.specs.Built.{HasLargeFrame, HasLargeCode, HasSyntaxFault, HasDeepFault, BreaksFirst, IsUnbuilt, IsTextOf, IsAcceptedText, HasFault, GaveTexts, Asks, IsOnFile, ReadsTexts, CommandDid, file_of, input_of}
 use Rattle.uc_top.specs.Refusals.{status_of, ProgramUnread, InputUnread, ProgramTooLong, InputTooLong}
-use Rattle.uc_top.specs.Outcomes.{Scene, Ran, Refused, Leaves, ended, refused, out_failed, line_failed, err_failed, Tried, Told, OfEnding, TooHigh, Causes, Stops, HasTexts, HasProgram, Answers, HaveRooms, Completes, Finishes}
+use Rattle.uc_top.specs.Outcomes.{Scene, Ran, Refused, Leaves, ended, refused, out_failed, line_failed, err_failed, Tried, Told, OfEnding, lexical, syntax, deep, broken, not_built, large_frame, large_code, TooHigh, Causes, Stops, HasTexts, HasProgram, Answers, HaveRooms, Completes, Finishes}
 use Rattle.uc_top.proofs.Line.{same_line}
 
 not_high : (s : Scene) {xs ys : List ℕ} → Took s.out s.out_after xs → Took s.err s.err_after ys → TooHigh s → ⊥
@@ -110,7 +117,37 @@ told_causes s TooLong t = record {
 }
 told_causes s (Lexical why here) t = record {
   ended = λ h. not_ending 1 (λ e. absurd (omega (arith, e))) (λ e. absurd (omega (arith, e))) (λ e. absurd (omega (arith, e))) h;
-  refused = λ e. record { cause = Lexical why here; told = t; is = inl (why, here, refl) };
+  refused = λ e. record { cause = Lexical why here; told = t; is = lexical why here };
+  bad_word = λ e. absurd (omega (arith, e));
+  unread = λ e. absurd (omega (arith, e));
+  unwritten = λ e. absurd (omega (arith, e));
+  counted = λ h. absurd (not_high s t.out t.err h);
+  no_memory = λ e. absurd (omega (arith, e));
+  no_other = inr (inl refl);
+}
+told_causes s (Syntax here) t = record {
+  ended = λ h. not_ending 1 (λ e. absurd (omega (arith, e))) (λ e. absurd (omega (arith, e))) (λ e. absurd (omega (arith, e))) h;
+  refused = λ e. record { cause = Syntax here; told = t; is = syntax here };
+  bad_word = λ e. absurd (omega (arith, e));
+  unread = λ e. absurd (omega (arith, e));
+  unwritten = λ e. absurd (omega (arith, e));
+  counted = λ h. absurd (not_high s t.out t.err h);
+  no_memory = λ e. absurd (omega (arith, e));
+  no_other = inr (inl refl);
+}
+told_causes s (TooDeep here) t = record {
+  ended = λ h. not_ending 1 (λ e. absurd (omega (arith, e))) (λ e. absurd (omega (arith, e))) (λ e. absurd (omega (arith, e))) h;
+  refused = λ e. record { cause = TooDeep here; told = t; is = deep here };
+  bad_word = λ e. absurd (omega (arith, e));
+  unread = λ e. absurd (omega (arith, e));
+  unwritten = λ e. absurd (omega (arith, e));
+  counted = λ h. absurd (not_high s t.out t.err h);
+  no_memory = λ e. absurd (omega (arith, e));
+  no_other = inr (inl refl);
+}
+told_causes s (Broken rule here) t = record {
+  ended = λ h. not_ending 1 (λ e. absurd (omega (arith, e))) (λ e. absurd (omega (arith, e))) (λ e. absurd (omega (arith, e))) h;
+  refused = λ e. record { cause = Broken rule here; told = t; is = broken rule here };
   bad_word = λ e. absurd (omega (arith, e));
   unread = λ e. absurd (omega (arith, e));
   unwritten = λ e. absurd (omega (arith, e));
@@ -120,7 +157,7 @@ told_causes s (Lexical why here) t = record {
 }
 told_causes s NotBuilt t = record {
   ended = λ h. not_ending 1 (λ e. absurd (omega (arith, e))) (λ e. absurd (omega (arith, e))) (λ e. absurd (omega (arith, e))) h;
-  refused = λ e. record { cause = NotBuilt; told = t; is = inr (inl refl) };
+  refused = λ e. record { cause = NotBuilt; told = t; is = not_built };
   bad_word = λ e. absurd (omega (arith, e));
   unread = λ e. absurd (omega (arith, e));
   unwritten = λ e. absurd (omega (arith, e));
@@ -130,7 +167,7 @@ told_causes s NotBuilt t = record {
 }
 told_causes s FrameTooLarge t = record {
   ended = λ h. not_ending 1 (λ e. absurd (omega (arith, e))) (λ e. absurd (omega (arith, e))) (λ e. absurd (omega (arith, e))) h;
-  refused = λ e. record { cause = FrameTooLarge; told = t; is = inr (inr (inl refl)) };
+  refused = λ e. record { cause = FrameTooLarge; told = t; is = large_frame };
   bad_word = λ e. absurd (omega (arith, e));
   unread = λ e. absurd (omega (arith, e));
   unwritten = λ e. absurd (omega (arith, e));
@@ -140,7 +177,7 @@ told_causes s FrameTooLarge t = record {
 }
 told_causes s CodeTooLarge t = record {
   ended = λ h. not_ending 1 (λ e. absurd (omega (arith, e))) (λ e. absurd (omega (arith, e))) (λ e. absurd (omega (arith, e))) h;
-  refused = λ e. record { cause = CodeTooLarge; told = t; is = inr (inr (inr refl)) };
+  refused = λ e. record { cause = CodeTooLarge; told = t; is = large_code };
   bad_word = λ e. absurd (omega (arith, e));
   unread = λ e. absurd (omega (arith, e));
   unwritten = λ e. absurd (omega (arith, e));
@@ -203,6 +240,9 @@ refusal_not_4 (Word n) e = absurd (omega (arith, e))
 refusal_not_4 CannotRead e = absurd (omega (arith, e))
 refusal_not_4 TooLong e = absurd (omega (arith, e))
 refusal_not_4 (Lexical why here) e = absurd (omega (arith, e))
+refusal_not_4 (Syntax here) e = absurd (omega (arith, e))
+refusal_not_4 (TooDeep here) e = absurd (omega (arith, e))
+refusal_not_4 (Broken rule here) e = absurd (omega (arith, e))
 refusal_not_4 NotBuilt e = absurd (omega (arith, e))
 refusal_not_4 FrameTooLarge e = absurd (omega (arith, e))
 refusal_not_4 CodeTooLarge e = absurd (omega (arith, e))
@@ -222,6 +262,9 @@ no_words s (Word n) name cause h = inl refl
 no_words s CannotRead name cause h = absurd (h cause.command cause.asks.line)
 no_words s TooLong name cause h = absurd (h cause.command cause.asks.line)
 no_words s (Lexical why here) name cause h = absurd (h cause.command cause.gave.asks.line)
+no_words s (Syntax here) name cause h = absurd (h cause.command cause.gave.asks.line)
+no_words s (TooDeep here) name cause h = absurd (h cause.command cause.gave.asks.line)
+no_words s (Broken rule here) name cause h = absurd (h cause.command cause.gave.asks.line)
 no_words s NotBuilt name cause h = absurd (h cause.command cause.gave.asks.line)
 no_words s FrameTooLarge name cause h = absurd (h cause.command cause.gave.asks.line)
 no_words s CodeTooLarge name cause h = absurd (h cause.command cause.gave.asks.line)
@@ -239,6 +282,9 @@ words_not_2 s (Word n) name cause command l e = cause.first.no_line command l
 words_not_2 s CannotRead name cause command l e = absurd (omega (arith, e))
 words_not_2 s TooLong name cause command l e = absurd (omega (arith, e))
 words_not_2 s (Lexical why here) name cause command l e = absurd (omega (arith, e))
+words_not_2 s (Syntax here) name cause command l e = absurd (omega (arith, e))
+words_not_2 s (TooDeep here) name cause command l e = absurd (omega (arith, e))
+words_not_2 s (Broken rule here) name cause command l e = absurd (omega (arith, e))
 words_not_2 s NotBuilt name cause command l e = absurd (omega (arith, e))
 words_not_2 s FrameTooLarge name cause command l e = absurd (omega (arith, e))
 words_not_2 s CodeTooLarge name cause command l e = absurd (omega (arith, e))
@@ -280,6 +326,9 @@ steady_why s h st CannotRead name cause e = not_read s h st name cause
 steady_why s h st TooLong name cause e = not_long s h name cause
 steady_why s h st (Word n) name cause e = absurd (omega (arith, e))
 steady_why s h st (Lexical why here) name cause e = absurd (omega (arith, e))
+steady_why s h st (Syntax here) name cause e = absurd (omega (arith, e))
+steady_why s h st (TooDeep here) name cause e = absurd (omega (arith, e))
+steady_why s h st (Broken rule here) name cause e = absurd (omega (arith, e))
 steady_why s h st NotBuilt name cause e = absurd (omega (arith, e))
 steady_why s h st FrameTooLarge name cause e = absurd (omega (arith, e))
 steady_why s h st CodeTooLarge name cause e = absurd (omega (arith, e))
@@ -304,13 +353,39 @@ given s h g = given_by s h g.asks g.reads
 unlexed : {text : List ℕ} {why : Reason} {here : Pos} {p : Program} → HasFault text why here → IsAcceptedText text p → ⊥
 unlexed f is = absurd (let e = sym f.lexed ∙ is.spells.lexed in cc)
 
-large_frame : (p : Program) (items : List Item) (main : Routine) → items ≡ RoutineItem main ∷ [] → FRAME_CELLS < routine_cells p main → FitFrames p items → ⊥
-large_frame p items main e large fit = let f : FitFrames p (RoutineItem main ∷ []) = subst (FitFrames p) e fit in absurd (omega (arith, large, f.0))
+-- nor is one whose tokens are no program
+spelled : {text : List ℕ} {list : List Token} {p : Program} → tokens text ≡ Read list → IsAcceptedText text p → (to : ℕ) × IsProgram NESTING list 0 to p
+spelled {text} {list} {p} lexed is = let e : is.spells.list ≡ list = let f = sym is.spells.lexed ∙ lexed in cc in (length is.spells.list, subst (λ l. IsProgram NESTING l 0 (length is.spells.list) p) e is.spells.spelled)
+
+no_syntax : {text : List ℕ} {here : Pos} {p : Program} → HasSyntaxFault text here → IsAcceptedText text p → ⊥
+no_syntax {p = p} f is = let q = spelled f.lexed is in f.fault.none q.0 p q.1
+
+not_deep : {text : List ℕ} {here : Pos} {p : Program} → HasDeepFault text here → IsAcceptedText text p → ⊥
+not_deep {p = p} f is = let q = spelled f.lexed is in f.fault.none q.0 p q.1
+
+-- nor one of a program that breaks a rule, or that has a form that does not run
+none_there : (bs : List Break) (b : Break) → bs ≡ [] → Contains bs b → ⊥
+none_there bs b e h =
+    let few = h.1 in
+    let short : length bs ≡ 0 = ap length e in
+    absurd (omega (arith, few, short))
+
+unbroken : {text : List ℕ} {rule : Rule} {here : Pos} {p : Program} → IsTextOf text (BreaksFirst rule here) → IsAcceptedText text p → ⊥
+unbroken {text} {rule} {here} {p} t is =
+    let a : IsAccepted t.program = subst IsAccepted (t.only p is.spells) is.accepted in
+    none_there (breaks_of t.program) (record { rule = rule; pos = here }) a.no_break t.is.is_break
+
+built_no : {text : List ℕ} {p : Program} → IsTextOf text IsUnbuilt → IsAcceptedText text p → ⊥
+built_no {text} {p} t is =
+    let a : IsAccepted t.program = subst IsAccepted (t.only p is.spells) is.accepted in
+    let yes : is_built t.program ≡ true = a.built in
+    let no : is_built t.program ≡ false = t.is.unbuilt in
+    absurd (cc)
 
 frame_no : {text : List ℕ} {p : Program} → IsTextOf text HasLargeFrame → IsAcceptedText text p → ⊥
 frame_no {text} {p} t is =
     let a : IsAccepted t.program = subst IsAccepted (t.only p is.spells) is.accepted in
-    large_frame t.program t.program.items t.is.main t.is.is_main t.is.large a.frames
+    no_large t.program t.is a
 
 code_no : {text : List ℕ} {p : Program} → IsTextOf text HasLargeCode → IsAcceptedText text p → ⊥
 code_no {text} {p} t is =
@@ -325,6 +400,9 @@ no_program_why s h (Word n) name cause = absurd (cause.first.no_line h.command h
 no_program_why s h CannotRead name cause = inr (inl refl)
 no_program_why s h TooLong name cause = inr (inl refl)
 no_program_why s h (Lexical why here) name cause = inl refl
+no_program_why s h (Syntax here) name cause = inl refl
+no_program_why s h (TooDeep here) name cause = inl refl
+no_program_why s h (Broken rule here) name cause = inl refl
 no_program_why s h NotBuilt name cause = inl refl
 no_program_why s h FrameTooLarge name cause = inl refl
 no_program_why s h CodeTooLarge name cause = inl refl
@@ -371,9 +449,10 @@ program_why s h p is (Word n) name cause = absurd (cause.first.no_line h.command
 program_why s h p is CannotRead name cause = inr (inl refl)
 program_why s h p is TooLong name cause = inr (inl refl)
 program_why s h p is (Lexical why here) name cause = absurd (unlexed cause.is (subst (λ t. IsAcceptedText t p) (sym (given s h cause.gave)) is))
-program_why s h p is NotBuilt name cause =
-    let a : IsAcceptedText cause.text p = subst (λ t. IsAcceptedText t p) (sym (given s h cause.gave)) is in
-    absurd (cause.is.none p (record { spells = a.spells; built = record { straight = a.accepted.straight; no_break = a.accepted.no_break } }))
+program_why s h p is (Syntax here) name cause = absurd (no_syntax cause.is (subst (λ t. IsAcceptedText t p) (sym (given s h cause.gave)) is))
+program_why s h p is (TooDeep here) name cause = absurd (not_deep cause.is (subst (λ t. IsAcceptedText t p) (sym (given s h cause.gave)) is))
+program_why s h p is (Broken rule here) name cause = absurd (unbroken cause.is (subst (λ t. IsAcceptedText t p) (sym (given s h cause.gave)) is))
+program_why s h p is NotBuilt name cause = absurd (built_no cause.is (subst (λ t. IsAcceptedText t p) (sym (given s h cause.gave)) is))
 program_why s h p is FrameTooLarge name cause = absurd (frame_no cause.is (subst (λ t. IsAcceptedText t p) (sym (given s h cause.gave)) is))
 program_why s h p is CodeTooLarge name cause = absurd (code_no cause.is (subst (λ t. IsAcceptedText t p) (sym (given s h cause.gave)) is))
 program_why s h p is NoMemory name cause = inr (inr (inr refl))
@@ -395,6 +474,9 @@ made_why s n line (Word k) name cause = absurd (cause.first.no_line (MakeProgram
 made_why s n line CannotRead name cause = absurd (not_on_file s n cause.asks cause.on_file line)
 made_why s n line TooLong name cause = absurd (not_on_file s n cause.asks cause.on_file line)
 made_why s n line (Lexical why here) name cause = absurd (not_on_file s n cause.gave.asks cause.gave.on_file line)
+made_why s n line (Syntax here) name cause = absurd (not_on_file s n cause.gave.asks cause.gave.on_file line)
+made_why s n line (TooDeep here) name cause = absurd (not_on_file s n cause.gave.asks cause.gave.on_file line)
+made_why s n line (Broken rule here) name cause = absurd (not_on_file s n cause.gave.asks cause.gave.on_file line)
 made_why s n line NotBuilt name cause = absurd (not_on_file s n cause.gave.asks cause.gave.on_file line)
 made_why s n line FrameTooLarge name cause = absurd (not_on_file s n cause.gave.asks cause.gave.on_file line)
 made_why s n line CodeTooLarge name cause = absurd (not_on_file s n cause.gave.asks cause.gave.on_file line)

@@ -5,24 +5,23 @@ use Rattle.uc_meaning.specs.declared.entry.Options.{Options}
 use Rattle.uc_meaning.specs.Journal.{Journal}
 use Rattle.uc_outside.specs.Reading.{StoreState}
 use Rattle.uc_words.specs.Words.{Words, IsFirstBad, Command, RunFile, CheckFile, LowerFile, MakeProgram, IsLine}
-use Rattle.uc_alone.specs.Alone.{alone_options}
 use Rattle.uc_make.specs.Generated.{generated}
 use Rattle.uc_top.specs.declared.endings.Ending.{Ending}
 use Rattle.uc_top.specs.declared.program.Purpose.TheVariants as purpose
 use Rattle.uc_top.specs.declared.refusals.Refusal.{Refusal}
-use Rattle.uc_top.specs.declared.refusals.Refusal.TheVariants.{Word, CannotRead, TooLong, Lexical, NotBuilt, FrameTooLarge, CodeTooLarge, NoMemory}
-use Rattle.uc_top.specs.Built.{Asks, IsOnFile, file_of, input_of, ProgramRan, RunsNothing, IsTextOf, FilesRan, FileChecked, FileLowered, ProgramMade, CommandDid, HasDone}
+use Rattle.uc_top.specs.declared.refusals.Refusal.TheVariants.{Word, CannotRead, TooLong, Lexical, Syntax, TooDeep, Broken, NotBuilt, FrameTooLarge, CodeTooLarge, NoMemory}
+use Rattle.uc_top.specs.Built.{Asks, IsOnFile, file_of, input_of, RunsNothing, FilesRan, FileChecked, FileLowered, ProgramMade, CommandDid, HasDone}
 use Rattle.uc_top.specs.Refusals.{Refuses}
-use Rattle.uc_top.specs.Decisions.{FilesDid, FilesRefused, NotMade, CommandRefused, AreAlone}
+use Rattle.uc_top.specs.Decisions.{FilesDid, FilesRefused, NotMade, CommandRefused}
 
 -- what was done with the text, for each command
 
-pub run_did : {a b : StoreState} {file : List ℕ} {named : Option (List ℕ)} {too : Bool} {journal : Journal} {output : List ℕ} {ending : Ending} (opts : Options) → AreAlone opts → FilesDid a b file named (purpose.Run opts.entries too) journal output ending → FilesRan a b file named opts too journal output ending
-run_did {too = too} {journal = journal} {output = output} {ending = ending} opts alone d = record {
+pub run_did : {a b : StoreState} {file : List ℕ} {named : Option (List ℕ)} {too : Bool} {journal : Journal} {output : List ℕ} {ending : Ending} (opts : Options) → FilesDid a b file named (purpose.Run opts too) journal output ending → FilesRan a b file named opts too journal output ending
+run_did opts d = record {
   text = d.text;
   input = d.input;
   reads = d.reads;
-  ran = subst (λ o. IsTextOf d.text (λ p. ProgramRan p d.input o too journal output ending)) alone.alone d.did;
+  ran = d.did;
 }
 
 pub check_did : {a b : StoreState} {file : List ℕ} {journal : Journal} {output : List ℕ} {ending : Ending} → FilesDid a b file None purpose.Check journal output ending → FileChecked a b file journal output ending
@@ -57,6 +56,9 @@ on_file a b c on asks name (Word n) h = absurd h
 on_file a b c on asks name CannotRead h = record { command = c; asks = asks; on_file = on; unread = h }
 on_file a b c on asks name TooLong h = record { command = c; asks = asks; on_file = on; long = h }
 on_file a b c on asks name (Lexical why here) h = record { command = c; text = h.text; input = h.input; gave = record { asks = asks; on_file = on; reads = h.reads }; is = h.is }
+on_file a b c on asks name (Syntax here) h = record { command = c; text = h.text; input = h.input; gave = record { asks = asks; on_file = on; reads = h.reads }; is = h.is }
+on_file a b c on asks name (TooDeep here) h = record { command = c; text = h.text; input = h.input; gave = record { asks = asks; on_file = on; reads = h.reads }; is = h.is }
+on_file a b c on asks name (Broken rule here) h = record { command = c; text = h.text; input = h.input; gave = record { asks = asks; on_file = on; reads = h.reads }; is = h.is }
 on_file a b c on asks name NotBuilt h = record { command = c; text = h.text; input = h.input; gave = record { asks = asks; on_file = on; reads = h.reads }; is = h.is }
 on_file a b c on asks name FrameTooLarge h = record { command = c; text = h.text; input = h.input; gave = record { asks = asks; on_file = on; reads = h.reads }; is = h.is }
 on_file a b c on asks name CodeTooLarge h = record { command = c; text = h.text; input = h.input; gave = record { asks = asks; on_file = on; reads = h.reads }; is = h.is }

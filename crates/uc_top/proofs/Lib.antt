@@ -2,6 +2,8 @@ pub mod Prints
 pub mod Pieces
 pub mod Line
 pub mod Leave
+pub mod Frames
 pub mod Causes
 pub mod Findings
 pub mod Ran
+pub mod Places

@@ -1,20 +1,24 @@
 -- Which texts are programs that are built, and what a run of one gives.
-use Rattle.std.specs.Prelude.{◌≡◌, ℕ, ◌<◌, Bool, true, false, List, [], ◌∷◌, ◌++◌, length, Option, Some, None}
+use Rattle.std.specs.Prelude.{◌≡◌, ℕ, zero, suc, ◌<◌, ◌≤◌, Bool, true, false, List, [], ◌∷◌, ◌++◌, length, slice_get, Option, Some, None}
 use Rattle.uc_tree.specs.declared.limits.TheConstants.{PROGRAM_BYTES, INPUT_BYTES, NESTING, FRAME_CELLS, PROGRAM_SIZE}
 use Rattle.uc_tree.specs.declared.token.Token.{Token}
 use Rattle.uc_tree.specs.declared.pos.Pos.{Pos}
 use Rattle.uc_tree.specs.declared.scan.Reason.{Reason}
 use Rattle.uc_tree.specs.Tokens.{tokens, Read, Refused, pos_at}
-use Rattle.uc_tree.specs.Programs.{Program, Routine, RoutineItem}
+use Rattle.uc_tree.specs.Programs.{Program}
 use Rattle.uc_tree.specs.Cells.{routine_cells}
 use Rattle.uc_tree.specs.Sizes.{program_size}
-use Rattle.uc_tree.specs.Numbering.{texts_of}
+use Rattle.uc_tree.specs.Numbering.{Defined, routines_of, texts_of}
 use Rattle.uc_tree.specs.Resolve.{source_of}
-use Rattle.uc_grammar.specs.Text.{IsProgram}
+use Rattle.uc_grammar.specs.declared.fault.ParseFault.TheVariants.{Syntax, TooDeep}
+use Rattle.uc_grammar.specs.Text.{IsProgram, ProgramFails}
+use Rattle.uc_parse_class.specs.Found.{FirstTooDeep, NeverProgram, NoProgram}
 use Rattle.uc_meaning.specs.declared.entry.Options.{Options}
 use Rattle.uc_meaning.specs.Journal.{Journal}
-use Rattle.uc_meaning.specs.Straight.{IsStraight}
-use Rattle.uc_meaning.specs.Rules.{breaks_of}
+use Rattle.uc_meaning.specs.declared.rule.Rule.{Rule}
+use Rattle.uc_meaning.specs.BuiltForms.{IsBuilt, is_built}
+use Rattle.uc_meaning.specs.Breaks.{breaks_of}
+use Rattle.uc_meaning.specs.Firsts.{IsFirst}
 use Rattle.uc_meaning.specs.Accepted.{FitFrames, IsAccepted}
 use Rattle.uc_meaning.specs.Runs.{IsRun}
 use Rattle.uc_meaning.specs.Texts as texts
@@ -30,21 +34,31 @@ use Rattle.uc_top.specs.Endings.{EndsWith}
 
 -- programs
 
--- a straight program that breaks no rule
-pub record IsBuilt (program : Program) : Type 0 where
-  pub straight : IsStraight program
+-- a program that breaks no rule, and whose forms run
+pub record IsRunnable (program : Program) : Type 0 where
+  pub built : IsBuilt program
   pub no_break : breaks_of program ≡ []
 
--- one whose main has more cells than a frame may have
+-- a program that breaks no rule, and has a form that does not run yet
+pub record IsUnbuilt (program : Program) : Type 0 where
+  pub no_break : breaks_of program ≡ []
+  pub unbuilt : is_built program ≡ false
+
+-- a program of which this is the first break
+abbrev pub BreaksFirst : Rule → Pos → Program → Type 0
+BreaksFirst rule place program = IsFirst (breaks_of program) (record { rule = rule; pos = place })
+
+-- one of whose routines has more cells than a frame may have
 pub record HasLargeFrame (program : Program) : Type 0 where
-  pub built : IsBuilt program
-  pub main : Routine
-  pub is_main : program.items ≡ RoutineItem main ∷ []
-  pub large : FRAME_CELLS < routine_cells program main
+  pub runnable : IsRunnable program
+  pub number : ℕ
+  pub routine : Defined
+  pub there : slice_get (routines_of program) number ≡ Some routine
+  pub large : FRAME_CELLS < routine_cells program routine.routine
 
 -- one whose frames fit, and whose size is greater than that of a program may be
 pub record HasLargeCode (program : Program) : Type 0 where
-  pub built : IsBuilt program
+  pub runnable : IsRunnable program
   pub frames : FitFrames program program.items
   pub large : PROGRAM_SIZE < program_size program
 
@@ -83,10 +97,19 @@ pub record Spells (text : List ℕ) (program : Program) : Type 0 where
 abbrev pub SpellsOnly : List ℕ → Program → Type 0
 SpellsOnly text program = (other : Program) → Spells text other → other ≡ program
 
--- the text is that of a program that is built
-pub record IsBuiltText (text : List ℕ) (program : Program) : Type 0 where
-  pub spells : Spells text program
-  pub built : IsBuilt program
+-- at this token the tokens stop being the beginning of a program: none that begin with it and all before it are one
+pub record SyntaxFault (list : List Token) (token : ℕ) : Type 0 where
+  pub fails : ProgramFails NESTING list 0 (Syntax token)
+  pub never : NeverProgram list token
+  pub none : NoProgram NESTING list
+  pub within : token ≤ length list
+
+-- at this token a piece begins that is nested deeper than may be
+pub record DeepFault (list : List Token) (token : ℕ) : Type 0 where
+  pub fails : ProgramFails NESTING list 0 (TooDeep token)
+  pub first : FirstTooDeep NESTING list token
+  pub none : NoProgram NESTING list
+  pub within : token ≤ length list
 
 -- the text is that of an accepted program
 pub record IsAcceptedText (text : List ℕ) (program : Program) : Type 0 where
@@ -99,11 +122,27 @@ pub record HasFault (text : List ℕ) (why : Reason) (pos : Pos) : Type 0 where
   pub lexed : tokens text ≡ Refused why at
   pub place : pos ≡ pos_at text at
 
--- the text has tokens, and they are those of no program that is built
-pub record IsNotBuilt (text : List ℕ) : Type 0 where
+-- the place of a token by its number; behind the last one it is that just past the last byte
+abbrev pub place_of : List ℕ → List Token → ℕ → Pos
+place_of text [] k = pos_at text (length text)
+place_of text (t ∷ ts) zero = t.pos
+place_of text (t ∷ ts) (suc k) = place_of text ts k
+
+-- the text has tokens, and at the token at this place it stops being the beginning of a program
+pub record HasSyntaxFault (text : List ℕ) (pos : Pos) : Type 0 where
   pub list : List Token
   pub lexed : tokens text ≡ Read list
-  pub none : (program : Program) → IsBuiltText text program → ⊥
+  pub token : ℕ
+  pub fault : SyntaxFault list token
+  pub place : pos ≡ place_of text list token
+
+-- the text has tokens, and at the token at this place a piece begins that is nested too deep
+pub record HasDeepFault (text : List ℕ) (pos : Pos) : Type 0 where
+  pub list : List Token
+  pub lexed : tokens text ≡ Read list
+  pub token : ℕ
+  pub fault : DeepFault list token
+  pub place : pos ≡ place_of text list token
 
 -- the text is that of one program, and it is such a one
 pub record IsTextOf (text : List ℕ) (Is : Program → Type 0) : Type 0 where

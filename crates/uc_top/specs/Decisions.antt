@@ -1,23 +1,24 @@
 -- What the parts of the top call find: of a program, of tokens, of a text, of the files.
 use Rattle.std.specs.Prelude.{◌≡◌, ℕ, ◌≤◌, ◌⊎◌, List, [], length, codes, Option, Some, None}
-use Rattle.uc_tree.specs.declared.limits.TheConstants.{NESTING, INPUT_BYTES, ENTRIES_MIN, MAKE_MAX}
+use Rattle.uc_tree.specs.declared.limits.TheConstants.{NESTING, INPUT_BYTES, PROCESSORS_MIN, MAKE_MAX}
+use Rattle.uc_tree.specs.declared.pos.Pos.{Pos}
 use Rattle.uc_tree.specs.declared.token.Token.{Token}
 use Rattle.uc_tree.specs.Programs.{Program}
 use Rattle.uc_grammar.specs.Text.{IsProgram}
 use Rattle.uc_meaning.specs.declared.entry.Options.{Options}
 use Rattle.uc_meaning.specs.Journal.{Journal}
+use Rattle.uc_meaning.specs.KernelRuns.{InRange}
 use Rattle.uc_outside.specs.Reading.{StoreState, ReadFailed, ReadTooLong}
 use Rattle.uc_outside.specs.Taking.{SinkState, Took}
 use Rattle.uc_words.specs.Words.{Command, RunFile, CheckFile, LowerFile, MakeProgram}
-use Rattle.uc_alone.specs.Alone.{alone_options}
 use Rattle.uc_meaning.specs.Accepted.{IsAccepted}
 use Rattle.uc_top.specs.declared.program.Purpose.{Purpose}
 use Rattle.uc_top.specs.declared.program.Purpose.TheVariants.{Run, Check, Lower}
 use Rattle.uc_top.specs.declared.endings.Ending.{Ending}
 use Rattle.uc_top.specs.declared.refusals.Refusal.{Refusal}
-use Rattle.uc_top.specs.declared.refusals.Refusal.TheVariants.{Word, CannotRead, TooLong, Lexical, NotBuilt, FrameTooLarge, CodeTooLarge, NoMemory}
+use Rattle.uc_top.specs.declared.refusals.Refusal.TheVariants.{Word, CannotRead, TooLong, Lexical, Syntax, TooDeep, Broken, NotBuilt, FrameTooLarge, CodeTooLarge, NoMemory}
 use Rattle.uc_top.specs.Endings.{ending_status, ending_text}
-use Rattle.uc_top.specs.Built.{IsBuilt, HasLargeFrame, HasLargeCode, ProgramRan, IsListingOf, RunsNothing, HasFault, IsNotBuilt, IsTextOf, ReadsTexts}
+use Rattle.uc_top.specs.Built.{IsUnbuilt, BreaksFirst, HasLargeFrame, HasLargeCode, ProgramRan, IsListingOf, RunsNothing, HasFault, SyntaxFault, DeepFault, HasSyntaxFault, HasDeepFault, IsTextOf, ReadsTexts, place_of}
 use Rattle.uc_top.specs.Refusals.{err_line, ProgramUnread, InputUnread, ProgramTooLong, InputTooLong}
 use Rattle.uc_top.specs.Outcomes.{Failed, Tried}
 
@@ -37,7 +38,10 @@ ProgramRefused program (Word n) = ⊥
 ProgramRefused program CannotRead = ⊥
 ProgramRefused program TooLong = ⊥
 ProgramRefused program (Lexical why pos) = ⊥
-ProgramRefused program NotBuilt = IsBuilt program → ⊥
+ProgramRefused program (Syntax pos) = ⊥
+ProgramRefused program (TooDeep pos) = ⊥
+ProgramRefused program (Broken rule pos) = BreaksFirst rule pos program
+ProgramRefused program NotBuilt = IsUnbuilt program
 ProgramRefused program FrameTooLarge = HasLargeFrame program
 ProgramRefused program CodeTooLarge = HasLargeCode program
 ProgramRefused program NoMemory = Unit {0}
@@ -53,15 +57,19 @@ pub record AreTokensOf (list : List Token) (Is : Program → Type 0) : Type 0 wh
   pub only : (other : Program) → AreOf list other → other ≡ program
   pub is : Is program
 
--- a run has a bound on its entries that is one
+-- the options of a run are in their ranges, and there is one processor
+pub record AreAlone (opts : Options) : Type 0 where
+  pub range : InRange opts
+  pub one : opts.processors ≡ PROCESSORS_MIN
+
 abbrev pub HasEntries : Purpose → Type 0
-HasEntries (Run entries too) = ENTRIES_MIN ≤ entries
+HasEntries (Run opts too) = AreAlone opts
 HasEntries Check = Unit {0}
 HasEntries Lower = Unit {0}
 
 -- what is done with an accepted program
 abbrev pub ProgramDid : Purpose → Program → List ℕ → Journal → List ℕ → Ending → Type 0
-ProgramDid (Run entries too) program input journal output ending = ProgramRan program input (alone_options entries) too journal output ending
+ProgramDid (Run opts too) program input journal output ending = ProgramRan program input opts too journal output ending
 ProgramDid Check program input journal output ending = Checked program journal output ending
 ProgramDid Lower program input journal output ending = Listed program journal output ending
 
@@ -71,22 +79,34 @@ TokensDid purpose list input journal output ending = AreTokensOf list (λ progra
 abbrev pub TextDid : Purpose → List ℕ → List ℕ → Journal → List ℕ → Ending → Type 0
 TextDid purpose text input journal output ending = IsTextOf text (λ program. ProgramDid purpose program input journal output ending)
 
-abbrev pub TokensRefused : List Token → Refusal → Type 0
-TokensRefused list (Word n) = ⊥
-TokensRefused list CannotRead = ⊥
-TokensRefused list TooLong = ⊥
-TokensRefused list (Lexical why pos) = ⊥
-TokensRefused list NotBuilt = (program : Program) → AreOf list program → IsBuilt program → ⊥
-TokensRefused list FrameTooLarge = AreTokensOf list HasLargeFrame
-TokensRefused list CodeTooLarge = AreTokensOf list HasLargeCode
-TokensRefused list NoMemory = Unit {0}
+-- at the token at this place the tokens of a text fail
+pub record FailsAt (text : List ℕ) (list : List Token) (pos : Pos) (Is : ℕ → Type 0) : Type 0 where
+  pub token : ℕ
+  pub fault : Is token
+  pub place : pos ≡ place_of text list token
+
+abbrev pub TokensRefused : List ℕ → List Token → Refusal → Type 0
+TokensRefused text list (Word n) = ⊥
+TokensRefused text list CannotRead = ⊥
+TokensRefused text list TooLong = ⊥
+TokensRefused text list (Lexical why pos) = ⊥
+TokensRefused text list (Syntax pos) = FailsAt text list pos (SyntaxFault list)
+TokensRefused text list (TooDeep pos) = FailsAt text list pos (DeepFault list)
+TokensRefused text list (Broken rule pos) = AreTokensOf list (BreaksFirst rule pos)
+TokensRefused text list NotBuilt = AreTokensOf list IsUnbuilt
+TokensRefused text list FrameTooLarge = AreTokensOf list HasLargeFrame
+TokensRefused text list CodeTooLarge = AreTokensOf list HasLargeCode
+TokensRefused text list NoMemory = Unit {0}
 
 abbrev pub TextRefused : List ℕ → Refusal → Type 0
 TextRefused text (Word n) = ⊥
 TextRefused text CannotRead = ⊥
 TextRefused text TooLong = ⊥
 TextRefused text (Lexical why pos) = HasFault text why pos
-TextRefused text NotBuilt = IsNotBuilt text
+TextRefused text (Syntax pos) = HasSyntaxFault text pos
+TextRefused text (TooDeep pos) = HasDeepFault text pos
+TextRefused text (Broken rule pos) = IsTextOf text (BreaksFirst rule pos)
+TextRefused text NotBuilt = IsTextOf text IsUnbuilt
 TextRefused text FrameTooLarge = IsTextOf text HasLargeFrame
 TextRefused text CodeTooLarge = IsTextOf text HasLargeCode
 TextRefused text NoMemory = Unit {0}
@@ -97,6 +117,9 @@ NotRead before after name limit (Word n) = ⊥
 NotRead before after name limit CannotRead = ReadFailed before after name
 NotRead before after name limit TooLong = ReadTooLong before after name limit
 NotRead before after name limit (Lexical why pos) = ⊥
+NotRead before after name limit (Syntax pos) = ⊥
+NotRead before after name limit (TooDeep pos) = ⊥
+NotRead before after name limit (Broken rule pos) = ⊥
 NotRead before after name limit NotBuilt = ⊥
 NotRead before after name limit FrameTooLarge = ⊥
 NotRead before after name limit CodeTooLarge = ⊥
@@ -126,7 +149,10 @@ FilesRefused before after file named (Word n) name = ⊥
 FilesRefused before after file named CannotRead name = ProgramUnread before after file name ⊎ InputUnread before after file named name
 FilesRefused before after file named TooLong name = ProgramTooLong before after file name ⊎ InputTooLong before after file named name
 FilesRefused before after file named (Lexical why pos) name = FilesSuch before after file named (λ text. HasFault text why pos)
-FilesRefused before after file named NotBuilt name = FilesSuch before after file named IsNotBuilt
+FilesRefused before after file named (Syntax pos) name = FilesSuch before after file named (λ text. HasSyntaxFault text pos)
+FilesRefused before after file named (TooDeep pos) name = FilesSuch before after file named (λ text. HasDeepFault text pos)
+FilesRefused before after file named (Broken rule pos) name = FilesSuch before after file named (λ text. IsTextOf text (BreaksFirst rule pos))
+FilesRefused before after file named NotBuilt name = FilesSuch before after file named (λ text. IsTextOf text IsUnbuilt)
 FilesRefused before after file named FrameTooLarge name = FilesSuch before after file named (λ text. IsTextOf text HasLargeFrame)
 FilesRefused before after file named CodeTooLarge name = FilesSuch before after file named (λ text. IsTextOf text HasLargeCode)
 FilesRefused before after file named NoMemory name = after.count ≡ before.count
@@ -144,10 +170,6 @@ CommandRefused (LowerFile file) before after refusal name = FilesRefused before 
 CommandRefused (MakeProgram n) before after refusal name = NotMade before after refusal
 
 -- the numbers of a command are in their ranges
-pub record AreAlone (opts : Options) : Type 0 where
-  pub enough : ENTRIES_MIN ≤ opts.entries
-  pub alone : alone_options opts.entries ≡ opts
-
 abbrev pub IsInRange : Command → Type 0
 IsInRange (RunFile file opts too named) = AreAlone opts
 IsInRange (CheckFile file) = Unit {0}

@@ -7,6 +7,7 @@ use Rattle.uc_tree.specs.Programs.{Program}
 use Rattle.uc_outside.specs.Faults.{CountRose}
 use Rattle.uc_outside.specs.Reading.{StoreState, HasFile}
 use Rattle.uc_outside.specs.Taking.{SinkState, Took, TookPrefix, FailedAt, HasRoom, Stopped}
+use Rattle.uc_meaning.specs.declared.rule.Rule.{Rule}
 use Rattle.uc_meaning.specs.Journal.{Journal}
 use Rattle.uc_words.specs.Words.{Words, Command, RunFile, CheckFile, LowerFile, MakeProgram, IsLine}
 use Rattle.uc_top.specs.declared.endings.Ending.{Ending}
@@ -79,11 +80,21 @@ pub record Told (s : Scene) (r : Refusal) (journal : Journal) : Type 0 where
 abbrev pub OfEnding : ℕ → Type 0
 OfEnding status = (status ≡ 0) ⊎ (status ≡ 5) ⊎ (status ≡ 7)
 
+-- the refusals of texts
+pub data OfText : Refusal → Type 0 where
+  lexical : (why : Reason) (pos : Pos) → OfText (refusal.Lexical why pos)
+  syntax : (pos : Pos) → OfText (refusal.Syntax pos)
+  deep : (pos : Pos) → OfText (refusal.TooDeep pos)
+  broken : (rule : Rule) (pos : Pos) → OfText (refusal.Broken rule pos)
+  not_built : OfText refusal.NotBuilt
+  large_frame : OfText refusal.FrameTooLarge
+  large_code : OfText refusal.CodeTooLarge
+
 -- the text is refused
 pub record TextTold (s : Scene) (journal : Journal) : Type 0 where
   pub cause : Refusal
   pub told : Told s cause journal
-  pub is : ((why : Reason) × (pos : Pos) × (cause ≡ refusal.Lexical why pos)) ⊎ (cause ≡ refusal.NotBuilt) ⊎ (cause ≡ refusal.FrameTooLarge) ⊎ (cause ≡ refusal.CodeTooLarge)
+  pub is : OfText cause
 
 abbrev pub TooHigh : Scene → Type 0
 TooHigh s = (s.out.count < s.out_after.count) ⊎ (s.err.count < s.err_after.count)

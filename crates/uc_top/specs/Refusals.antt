@@ -5,17 +5,21 @@ use Rattle.uc_tree.specs.declared.pos.Pos.{Pos}
 use Rattle.uc_tree.specs.declared.scan.Reason.{Reason}
 use Rattle.uc_tree.specs.declared.scan.Reason.TheVariants as reason
 use Rattle.uc_tree.specs.declared.limits.TheConstants.{PROGRAM_BYTES, INPUT_BYTES}
+use Rattle.uc_meaning.specs.RuleNames.{rule_name}
 use Rattle.uc_outside.specs.Reading.{StoreState, KeepsFiles, ReadBytes, ReadFailed, ReadTooLong}
 use Rattle.uc_words.specs.Words.{Words, Command, IsFirstBad}
 use Rattle.uc_top.specs.declared.refusals.Refusal.{Refusal}
-use Rattle.uc_top.specs.declared.refusals.Refusal.TheVariants.{Word, CannotRead, TooLong, Lexical, NotBuilt, FrameTooLarge, CodeTooLarge, NoMemory}
-use Rattle.uc_top.specs.Built.{HasFault, IsNotBuilt, IsTextOf, HasLargeFrame, HasLargeCode, Asks, IsOnFile, file_of, input_of, GaveTexts}
+use Rattle.uc_top.specs.declared.refusals.Refusal.TheVariants.{Word, CannotRead, TooLong, Lexical, Syntax, TooDeep, Broken, NotBuilt, FrameTooLarge, CodeTooLarge, NoMemory}
+use Rattle.uc_top.specs.Built.{HasFault, HasSyntaxFault, HasDeepFault, BreaksFirst, IsUnbuilt, IsTextOf, HasLargeFrame, HasLargeCode, Asks, IsOnFile, file_of, input_of, GaveTexts}
 
 abbrev pub status_of : Refusal → ℕ
 status_of (Word n) = 2
 status_of CannotRead = 3
 status_of TooLong = 3
 status_of (Lexical why pos) = 1
+status_of (Syntax pos) = 1
+status_of (TooDeep pos) = 1
+status_of (Broken rule pos) = 1
 status_of NotBuilt = 1
 status_of FrameTooLarge = 1
 status_of CodeTooLarge = 1
@@ -44,6 +48,9 @@ refusal_text (Word n) name = err_line (codes "word ") (decimal n)
 refusal_text CannotRead name = err_line (codes "cannot read ") name
 refusal_text TooLong name = err_line (codes "too long ") name
 refusal_text (Lexical why pos) name = placed_line pos (lexical_reason why)
+refusal_text (Syntax pos) name = placed_line pos (codes "syntax")
+refusal_text (TooDeep pos) name = placed_line pos (codes "too deep")
+refusal_text (Broken rule pos) name = placed_line pos (rule_name rule)
 refusal_text NotBuilt name = err_line (codes "not built") []
 refusal_text FrameTooLarge name = err_line (codes "frame too large") []
 refusal_text CodeTooLarge name = err_line (codes "code too large") []
@@ -118,7 +125,10 @@ Refuses words before after (Word n) name = HasBadWord words before after n
 Refuses words before after CannotRead name = IsUnread words before after name
 Refuses words before after TooLong name = IsTooLong words before after name
 Refuses words before after (Lexical why pos) name = GaveSuch words before after (λ text. HasFault text why pos)
-Refuses words before after NotBuilt name = GaveSuch words before after IsNotBuilt
+Refuses words before after (Syntax pos) name = GaveSuch words before after (λ text. HasSyntaxFault text pos)
+Refuses words before after (TooDeep pos) name = GaveSuch words before after (λ text. HasDeepFault text pos)
+Refuses words before after (Broken rule pos) name = GaveSuch words before after (λ text. IsTextOf text (BreaksFirst rule pos))
+Refuses words before after NotBuilt name = GaveSuch words before after (λ text. IsTextOf text IsUnbuilt)
 Refuses words before after FrameTooLarge name = GaveSuch words before after (λ text. IsTextOf text HasLargeFrame)
 Refuses words before after CodeTooLarge name = GaveSuch words before after (λ text. IsTextOf text HasLargeCode)
 Refuses words before after NoMemory name = HasNoMemory words before after

@@ -5,18 +5,22 @@ ghost use Rattle.uc_tree.specs.declared.limits.TheConstants.{PROGRAM_BYTES, INPU
 ghost use Rattle.uc_tree.specs.Tokens.{tokens, Refused};
 ghost use Rattle.uc_outside.specs.Reading.{KeepsFiles, ReadBytes};
 ghost use Rattle.uc_words.specs.Rest.{command_of, number_of};
-ghost use Rattle.uc_top.specs.Built.{HasDone, CommandDid, ReadsTexts, ReadsInput};
+ghost use Rattle.uc_top.specs.Built.{HasDone, CommandDid, ReadsTexts, ReadsInput, place_of};
 ghost use Rattle.uc_top.specs.Refusals.{Refuses};
-ghost use Rattle.uc_top.specs.Decisions.{IsInRange, CommandRefused, HasEntries, TokensDid, TokensRefused, TextDid, TextRefused, FilesDid, FilesRefused, NotRead, InputNotRead};
+ghost use Rattle.uc_top.specs.Decisions.{IsInRange, CommandRefused, HasEntries, ProgramDid, ProgramRefused, TokensDid, TokensRefused, TextDid, TextRefused, FilesDid, FilesRefused, NotRead, InputNotRead};
 
 use crate::program::{Purpose, Run, make_program, run_program};
 use crate::refusals::Refusal;
 use std::alloc::Global;
+use uc_front::check;
 use uc_grammar::fault::ParseFault;
 use uc_lex::{LexFault, lex, pos_at};
+use uc_meaning::checked::RuleFault;
 use uc_outside::{Store, StoreFault};
 use uc_parse_class::parse::parse;
 use uc_tree::limits::{INPUT_BYTES, PROGRAM_BYTES};
+use uc_tree::pos::Pos;
+use uc_tree::program::Program;
 use uc_tree::scan::Reason;
 use uc_tree::token::Token;
 use uc_words::{Job, WordsFault, read_words};
@@ -61,10 +65,7 @@ fn do_job<'a, S: Store>(alloc: Global, job: Job<'a>, store: &mut S) -> Result<Ru
             journal,
             input,
         } => {
-            let purpose = Purpose::Run {
-                entries: opts.entries,
-                journal,
-            };
+            let purpose = Purpose::Run { opts, journal };
             match do_files(alloc, file, input, purpose, store) {
                 Ok(run) => Ok(run),
                 Err(why) => Err(why),
@@ -207,7 +208,7 @@ fn do_text(alloc: Global, text: &[u8], input: &[u8], purpose: Purpose) -> Result
     ensures refused { IfErr result (TextRefused text.now) }
 {
     match lex(alloc, text) {
-        Ok(tokens) => match do_tokens(alloc, &tokens, input, purpose) {
+        Ok(tokens) => match do_tokens(alloc, text, &tokens, input, purpose) {
             Ok(run) => Ok(run),
             Err(refusal) => Err(refusal),
         },
@@ -233,23 +234,60 @@ fn fault_at(text: &[u8], why: Reason, at: u32) -> Refusal
 
 fn do_tokens(
     alloc: Global,
+    text: &[u8],
     tokens: &[Token],
     input: &[u8],
     purpose: Purpose,
 ) -> Result<Run, Refusal>
+    requires text { length text.now ≤ PROGRAM_BYTES }
     requires few { length tokens.now < 2 ^ 32 }
     requires input { length input.now ≤ INPUT_BYTES }
     requires purpose { HasEntries purpose }
     ensures did { IfOk result (λ run. TokensDid purpose tokens.now input.now run.journal.items run.output.items run.ending) }
-    ensures refused { IfErr result (TokensRefused tokens.now) }
+    ensures refused { IfErr result (TokensRefused text.now tokens.now) }
 {
     match parse(alloc, tokens) {
-        Ok(program) => match run_program(alloc, &program, input, purpose) {
+        Ok(program) => match do_program(alloc, program, input, purpose) {
             Ok(run) => Ok(run),
             Err(refusal) => Err(refusal),
         },
-        Err(ParseFault::Syntax { .. }) => Err(Refusal::NotBuilt),
-        Err(ParseFault::TooDeep { .. }) => Err(Refusal::NotBuilt),
+        Err(ParseFault::Syntax { token }) => Err(Refusal::Syntax(place_of(text, tokens, token))),
+        Err(ParseFault::TooDeep { token }) => {
+            Err(Refusal::TooDeep(place_of(text, tokens, token)))
+        }
         Err(ParseFault::NoMemory) => Err(Refusal::NoMemory),
+    }
+}
+
+// The place of a token by its number; behind the last one it is that just past the last byte.
+fn place_of(text: &[u8], tokens: &[Token], token: u32) -> Pos
+    requires text { length text.now ≤ PROGRAM_BYTES }
+    ensures { result ≡ place_of text.now tokens.now token }
+{
+    match tokens.get(token as usize) {
+        Some(token) => token.pos,
+        None => pos_at(text, text.len() as u32),
+    }
+}
+
+// What was done with a program that is checked first, or why it was not.
+fn do_program(
+    alloc: Global,
+    program: Program,
+    input: &[u8],
+    purpose: Purpose,
+) -> Result<Run, Refusal>
+    requires input { length input.now ≤ INPUT_BYTES }
+    requires purpose { HasEntries purpose }
+    ensures did { IfOk result (λ run. ProgramDid purpose program input.now run.journal.items run.output.items run.ending) }
+    ensures refused { IfErr result (ProgramRefused program) }
+{
+    match check(alloc, program) {
+        Ok(checked) => match run_program(alloc, checked.program(), input, purpose) {
+            Ok(run) => Ok(run),
+            Err(refusal) => Err(refusal),
+        },
+        Err(RuleFault::Rule { rule, pos }) => Err(Refusal::Broken(rule, pos)),
+        Err(RuleFault::NoMemory) => Err(Refusal::NoMemory),
     }
 }

@@ -6,6 +6,7 @@ ghost use Rattle.uc_outside.specs.Taking.{Took, TookPrefix, FailedAt};
 ghost use Rattle.uc_top.specs.Refusals.{status_of, lexical_reason, refusal_text, err_line, placed_line};
 
 use itoa::Buffer;
+use uc_meaning::rule::Rule;
 use uc_outside::{Sink, SinkFault, put_all};
 use uc_tree::pos::Pos;
 use uc_tree::scan::Reason;
@@ -21,7 +22,13 @@ pub enum Refusal {
     TooLong,
     /// The text has no tokens, and where it stops having them.
     Lexical(Reason, Pos),
-    /// The text has tokens, and is no program that is built so far.
+    /// Where the text stops being the beginning of a program.
+    Syntax(Pos),
+    /// Where a piece begins that is nested too deep.
+    TooDeep(Pos),
+    /// The first rule that the program breaks, and where.
+    Broken(Rule, Pos),
+    /// The program breaks no rule, and has a form that does not run yet.
     NotBuilt,
     /// `main` has more cells than a frame may have.
     FrameTooLarge,
@@ -41,6 +48,9 @@ impl Refusal {
             Refusal::CannotRead => 3,
             Refusal::TooLong => 3,
             Refusal::Lexical(_, _) => 1,
+            Refusal::Syntax(_) => 1,
+            Refusal::TooDeep(_) => 1,
+            Refusal::Broken(_, _) => 1,
             Refusal::NotBuilt => 1,
             Refusal::FrameTooLarge => 1,
             Refusal::CodeTooLarge => 1,
@@ -67,6 +77,9 @@ pub(crate) fn put_refusal<E: Sink>(
         Refusal::CannotRead => put_line(err, b"cannot read ", name.as_bytes())?,
         Refusal::TooLong => put_line(err, b"too long ", name.as_bytes())?,
         Refusal::Lexical(why, pos) => put_placed(err, pos, lexical_text(why))?,
+        Refusal::Syntax(pos) => put_placed(err, pos, b"syntax")?,
+        Refusal::TooDeep(pos) => put_placed(err, pos, b"too deep")?,
+        Refusal::Broken(rule, pos) => put_placed(err, pos, rule.name())?,
         Refusal::NotBuilt => put_line(err, b"not built", b"")?,
         Refusal::FrameTooLarge => put_line(err, b"frame too large", b"")?,
         Refusal::CodeTooLarge => put_line(err, b"code too large", b"")?,

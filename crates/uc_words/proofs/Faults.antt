@@ -3,7 +3,7 @@ use Rattle.std.proofs.Common.{◌≡◌, ℕ, zero, suc, ◌+◌, Bool, true, fa
 use Rattle.std.specs.Prelude.{codes, IsTrue, Option, Some, None, EachIndex, slice_index, option_to_list, flat_map}
 use Rattle.uc_tree.specs.Bytes.{is_digit}
 use Rattle.uc_words.specs.declared.numbers.NumberOption.{NumberOption}
-use Rattle.uc_words.specs.declared.numbers.NumberOption.TheVariants.{Processors, Entries}
+use Rattle.uc_words.specs.declared.numbers.NumberOption.TheVariants.{Processors, Slice, Ticks, Entries}
 use Rattle.uc_words.specs.Words.{Words, Piece, File, Number, Journal, Input, Command, RunFile, Numbers, number_of_option, IsValue, option_word, least_of, most_of, spelled, once_if, options_with, is_name}
 use Rattle.uc_words.specs.Rest.{Parts, Goes, BeginsRest, BadRest, Leads, words_of, with_file, with_number, with_journal, with_input}
 use Rattle.uc_words.proofs.Goes.{goes_file, goes_number, goes_journal, goes_input, only_file, only_number, only_journal, only_input}
@@ -58,11 +58,15 @@ digits_1 (suc k) h = absurd (omega (arith, h))
 
 least_word : NumberOption → List ℕ
 least_word Processors = codes "1"
+least_word Slice = codes "1"
+least_word Ticks = codes "1"
 least_word Entries = codes "64"
 
 least_value : (o : NumberOption) → IsValue (least_of o) (most_of o) (least_word o) (least_of o)
 unfolding least_word
 least_value Processors = record { digits = digits_1; plain = refl; value = refl; low = omega arith; high = omega arith }
+least_value Slice = record { digits = digits_1; plain = refl; value = refl; low = omega arith; high = omega arith }
+least_value Ticks = record { digits = digits_1; plain = refl; value = refl; low = omega arith; high = omega arith }
 least_value Entries = record { digits = digits_64; plain = refl; value = refl; low = omega arith; high = omega arith }
 
 pub begins_number : (p : Parts) (o : NumberOption) → number_of_option p.numbers o ≡ None → BeginsRest p (option_word o ∷ [])
@@ -123,6 +127,8 @@ number_back p o v n value rest c g =
 
 words_more : (p : Parts) (o : NumberOption) (n : ℕ) → number_of_option p.numbers o ≡ None → words_of (with_number p o n) ≡ words_of p + 2
 words_more p Processors n none = rw none (omega arith)
+words_more p Slice n none = rw none (omega arith)
+words_more p Ticks n none = rw none (omega arith)
 words_more p Entries n none = rw none (omega arith)
 
 pub leads_number : (p : Parts) (o : NumberOption) (v : List ℕ) (n : ℕ) (ws : Words) → number_of_option p.numbers o ≡ None → IsValue (least_of o) (most_of o) v n → Leads p (option_word o ∷ (v ∷ ws)) (with_number p o n) ws
@@ -237,7 +243,10 @@ same_flag false false e = refl
 
 same_numbers : (ms ns : Numbers) → ((o : NumberOption) → number_of_option ms o ≡ number_of_option ns o) → ms ≡ ns
 same_numbers ms ns e =
-    ap (λ x. record { processors = x; entries = ms.entries }) (e Processors) ∙ ap (λ x. record { processors = ns.processors; entries = x }) (e Entries)
+    ap (λ x. record { processors = x; slice = ms.slice; ticks = ms.ticks; entries = ms.entries }) (e Processors)
+    ∙ ap (λ x. record { processors = ns.processors; slice = x; ticks = ms.ticks; entries = ms.entries }) (e Slice)
+    ∙ ap (λ x. record { processors = ns.processors; slice = ns.slice; ticks = x; entries = ms.entries }) (e Ticks)
+    ∙ ap (λ x. record { processors = ns.processors; slice = ns.slice; ticks = ns.ticks; entries = x }) (e Entries)
 
 no_piece : (ps : List Piece) → [] ≡ flat_map spelled ps → ps ≡ []
 no_piece [] e = refl

@@ -4,7 +4,7 @@ use Rattle.std.specs.Prelude.{codes, if◌then◌else◌, IsTrue, Option, Some, 
 use Rattle.std.specs.List.{cons_option}
 use Rattle.std.specs.Cmp.Lexicographic.{other_text}
 use Rattle.uc_words.specs.declared.numbers.NumberOption.{NumberOption}
-use Rattle.uc_words.specs.declared.numbers.NumberOption.TheVariants.{Processors, Entries}
+use Rattle.uc_words.specs.declared.numbers.NumberOption.TheVariants.{Processors, Slice, Ticks, Entries}
 use Rattle.uc_words.specs.Words.{Words, Piece, File, Number, Journal, Input, Command, Numbers, number_of_option, IsValue, option_word, least_of, most_of, same_option, spelled, ArePieces, file_in, number_in, journal_in, input_in, once_if, is_name}
 use Rattle.uc_words.specs.Rest.{Parts, Goes, with_file, with_number, numbers_with, with_journal, with_input}
 
@@ -24,36 +24,80 @@ once_journal true false xs e = absurd (cc)
 
 pub same_is : (r o : NumberOption) → same_option r o ≡ true → r ≡ o
 same_is Processors Processors e = refl
+same_is Processors Slice e = absurd (cc)
+same_is Processors Ticks e = absurd (cc)
 same_is Processors Entries e = absurd (cc)
+same_is Slice Processors e = absurd (cc)
+same_is Slice Slice e = refl
+same_is Slice Ticks e = absurd (cc)
+same_is Slice Entries e = absurd (cc)
+same_is Ticks Processors e = absurd (cc)
+same_is Ticks Slice e = absurd (cc)
+same_is Ticks Ticks e = refl
+same_is Ticks Entries e = absurd (cc)
 same_is Entries Processors e = absurd (cc)
+same_is Entries Slice e = absurd (cc)
+same_is Entries Ticks e = absurd (cc)
 same_is Entries Entries e = refl
 
 pub same_word : (r o : NumberOption) → option_word r ≡ option_word o → r ≡ o
 same_word Processors Processors e = refl
+same_word Processors Slice e = absurd (other_text (option_word Processors) (option_word Slice) refl e)
+same_word Processors Ticks e = absurd (other_text (option_word Processors) (option_word Ticks) refl e)
 same_word Processors Entries e = absurd (other_text (option_word Processors) (option_word Entries) refl e)
+same_word Slice Processors e = absurd (other_text (option_word Slice) (option_word Processors) refl e)
+same_word Slice Slice e = refl
+same_word Slice Ticks e = absurd (other_text (option_word Slice) (option_word Ticks) refl e)
+same_word Slice Entries e = absurd (other_text (option_word Slice) (option_word Entries) refl e)
+same_word Ticks Processors e = absurd (other_text (option_word Ticks) (option_word Processors) refl e)
+same_word Ticks Slice e = absurd (other_text (option_word Ticks) (option_word Slice) refl e)
+same_word Ticks Ticks e = refl
+same_word Ticks Entries e = absurd (other_text (option_word Ticks) (option_word Entries) refl e)
 same_word Entries Processors e = absurd (other_text (option_word Entries) (option_word Processors) refl e)
+same_word Entries Slice e = absurd (other_text (option_word Entries) (option_word Slice) refl e)
+same_word Entries Ticks e = absurd (other_text (option_word Entries) (option_word Ticks) refl e)
 same_word Entries Entries e = refl
 
 same_self : (o : NumberOption) → same_option o o ≡ true
 same_self Processors = refl
+same_self Slice = refl
+same_self Ticks = refl
 same_self Entries = refl
 
 not_name : (o : NumberOption) → IsTrue (is_name (option_word o)) → ⊥
 not_name Processors n = absurd (let e : is_name (option_word Processors) ≡ true = n in cc)
+not_name Slice n = absurd (let e : is_name (option_word Slice) ≡ true = n in cc)
+not_name Ticks n = absurd (let e : is_name (option_word Ticks) ≡ true = n in cc)
 not_name Entries n = absurd (let e : is_name (option_word Entries) ≡ true = n in cc)
 
 not_journal : (o : NumberOption) → option_word o ≡ codes "--journal" → ⊥
 not_journal Processors e = other_text (option_word Processors) (codes "--journal") refl e
+not_journal Slice e = other_text (option_word Slice) (codes "--journal") refl e
+not_journal Ticks e = other_text (option_word Ticks) (codes "--journal") refl e
 not_journal Entries e = other_text (option_word Entries) (codes "--journal") refl e
 
 not_input : (o : NumberOption) → option_word o ≡ codes "--input" → ⊥
 not_input Processors e = other_text (option_word Processors) (codes "--input") refl e
+not_input Slice e = other_text (option_word Slice) (codes "--input") refl e
+not_input Ticks e = other_text (option_word Ticks) (codes "--input") refl e
 not_input Entries e = other_text (option_word Entries) (codes "--input") refl e
 
 number_told : (ns : Numbers) (o : NumberOption) (n : ℕ) (r : NumberOption) → number_of_option (numbers_with ns o n) r ≡ (if same_option r o then Some n else number_of_option ns r)
 number_told ns Processors n Processors = refl
+number_told ns Processors n Slice = refl
+number_told ns Processors n Ticks = refl
 number_told ns Processors n Entries = refl
+number_told ns Slice n Processors = refl
+number_told ns Slice n Slice = refl
+number_told ns Slice n Ticks = refl
+number_told ns Slice n Entries = refl
+number_told ns Ticks n Processors = refl
+number_told ns Ticks n Slice = refl
+number_told ns Ticks n Ticks = refl
+number_told ns Ticks n Entries = refl
 number_told ns Entries n Processors = refl
+number_told ns Entries n Slice = refl
+number_told ns Entries n Ticks = refl
 number_told ns Entries n Entries = refl
 
 number_step : (b : Bool) (told : Option ℕ) (n : ℕ) (rest end : List ℕ) → (b ≡ true → told ≡ None) → option_to_list (if b then Some n else told) ++ rest ≡ end → option_to_list told ++ cons_option (if b then Some n else None) rest ≡ end

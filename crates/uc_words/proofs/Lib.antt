@@ -1,5 +1,4 @@
 mod Goes
 mod Faults
 mod Whole
-mod Values
 mod Bridge

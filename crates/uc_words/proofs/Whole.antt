@@ -5,7 +5,7 @@ use Rattle.std.specs.Cmp.Lexicographic.{other_text}
 use Rattle.uc_tree.specs.Tokens.{value_of}
 use Rattle.uc_tree.specs.declared.limits.TheConstants.{MAKE_MAX}
 use Rattle.uc_words.specs.declared.numbers.NumberOption.{NumberOption}
-use Rattle.uc_words.specs.declared.numbers.NumberOption.TheVariants.{Processors, Entries}
+use Rattle.uc_words.specs.declared.numbers.NumberOption.TheVariants.{Processors, Slice, Ticks, Entries}
 use Rattle.uc_words.specs.Words.{number_of_option, number_in, Words, Command, RunFile, CheckFile, LowerFile, MakeProgram, IsLine, IsMakeLine, IsValue, Begins, IsFirstBad, is_name, options_with}
 use Rattle.uc_words.specs.Rest.{Goes, BeginsRest, BadRest, nothing}
 use Rattle.uc_words.specs.Commands.{IsFileCommand}
@@ -13,6 +13,8 @@ use Rattle.uc_words.proofs.Faults.{begins_none, digits_1}
 
 none_told : (o : NumberOption) → number_of_option nothing.numbers o ≡ None
 none_told Processors = refl
+none_told Slice = refl
+none_told Ticks = refl
 none_told Entries = refl
 
 run_line : (ws : Words) (c : Command) (g : Goes nothing ws c) → IsLine (codes "run" ∷ ws) (RunFile g.file (options_with g.numbers) g.journal g.input)

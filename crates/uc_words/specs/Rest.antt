@@ -2,7 +2,7 @@
 use Rattle.std.specs.Prelude.{◌≡◌, ℕ, suc, ◌+◌, ◌<◌, ◌≤◌, Bool, true, false, if◌then◌else◌, List, ◌++◌, length, take, Option, Some, None, option_copied, option_to_list, flat_map, filter_map}
 use Rattle.uc_words.specs.Words.{Words, Piece, Command, RunFile, CheckFile, LowerFile, MakeProgram, Numbers, number_of_option, spelled, ArePieces, file_in, number_in, journal_in, input_in, once_if, options_with}
 use Rattle.uc_words.specs.declared.numbers.NumberOption.{NumberOption}
-use Rattle.uc_words.specs.declared.numbers.NumberOption.TheVariants.{Processors, Entries}
+use Rattle.uc_words.specs.declared.numbers.NumberOption.TheVariants.{Processors, Slice, Ticks, Entries}
 use Rattle.uc_words.specs.declared.job.Job.{Job}
 use Rattle.uc_words.specs.declared.job.Job.TheVariants.{Run, Check, Lower, Make}
 use Rattle.uc_words.specs.declared.job.WordsFault.{WordsFault}
@@ -30,7 +30,7 @@ pub record Parts : Type 0 where
 abbrev pub parts_of : Told → Parts
 parts_of t = record {
   file = option_copied t.file;
-  numbers = record { processors = t.processors; entries = t.entries };
+  numbers = record { processors = t.processors; slice = t.slice; ticks = t.ticks; entries = t.entries };
   journal = t.journal;
   input = option_copied t.input;
 }
@@ -38,7 +38,7 @@ parts_of t = record {
 abbrev pub nothing : Parts
 nothing = record {
   file = None;
-  numbers = record { processors = None; entries = None };
+  numbers = record { processors = None; slice = None; ticks = None; entries = None };
   journal = false;
   input = None;
 }
@@ -48,6 +48,8 @@ with_file p name = record p { file = Some name }
 
 abbrev pub numbers_with : Numbers → NumberOption → ℕ → Numbers
 numbers_with ns Processors n = record ns { processors = Some n }
+numbers_with ns Slice n = record ns { slice = Some n }
+numbers_with ns Ticks n = record ns { ticks = Some n }
 numbers_with ns Entries n = record ns { entries = Some n }
 
 abbrev pub with_number : Parts → NumberOption → ℕ → Parts
@@ -65,7 +67,7 @@ worth (Some x) n = n
 
 -- how many words told the numbers
 abbrev pub words_of_numbers : Numbers → ℕ
-words_of_numbers ns = worth ns.processors 2 + worth ns.entries 2
+words_of_numbers ns = worth ns.processors 2 + (worth ns.slice 2 + (worth ns.ticks 2 + worth ns.entries 2))
 
 -- how many words told all parts, with `run`
 abbrev pub words_of : Parts → ℕ

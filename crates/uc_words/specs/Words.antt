@@ -2,10 +2,10 @@
 use Rattle.std.specs.Prelude.{◌≡◌, ℕ, ◌+◌, ◌<◌, ◌≤◌, ◌==◌, Bool, true, false, not, if◌then◌else◌, List, [], ◌∷◌, ◌++◌, length, take, codes, slice_index, EachIndex, IsTrue, Option, Some, None, unwrap_or, option_to_list, flat_map, filter_map}
 use Rattle.uc_tree.specs.Bytes.{is_digit}
 use Rattle.uc_tree.specs.Tokens.{value_of}
-use Rattle.uc_tree.specs.declared.limits.TheConstants.{PROCESSORS_MIN, PROCESSORS_DEFAULT, SLICE_DEFAULT, TICKS_DEFAULT, ENTRIES_MIN, ENTRIES_MAX, ENTRIES_DEFAULT, MAKE_MAX}
+use Rattle.uc_tree.specs.declared.limits.TheConstants.{PROCESSORS_MIN, PROCESSORS_DEFAULT, SLICE_MIN, SLICE_MAX, SLICE_DEFAULT, TICKS_MIN, TICKS_MAX, TICKS_DEFAULT, ENTRIES_MIN, ENTRIES_MAX, ENTRIES_DEFAULT, MAKE_MAX}
 use Rattle.uc_meaning.specs.declared.entry.Options.{Options}
 use Rattle.uc_words.specs.declared.numbers.NumberOption.{NumberOption}
-use Rattle.uc_words.specs.declared.numbers.NumberOption.TheVariants.{Processors, Entries}
+use Rattle.uc_words.specs.declared.numbers.NumberOption.TheVariants.{Processors, Slice, Ticks, Entries}
 
 abbrev pub Words : Type 0
 Words = List (List ℕ)
@@ -33,19 +33,27 @@ pub record IsValue (least most : ℕ) (word : List ℕ) (n : ℕ) : Type 0 where
 
 abbrev pub option_word : NumberOption → List ℕ
 option_word Processors = codes "--processors"
+option_word Slice = codes "--slice"
+option_word Ticks = codes "--ticks"
 option_word Entries = codes "--entries"
 
 abbrev pub least_of : NumberOption → ℕ
 least_of Processors = PROCESSORS_MIN
+least_of Slice = SLICE_MIN
+least_of Ticks = TICKS_MIN
 least_of Entries = ENTRIES_MIN
 
 -- until several processors run, their number is the least one
 abbrev pub most_of : NumberOption → ℕ
 most_of Processors = PROCESSORS_MIN
+most_of Slice = SLICE_MAX
+most_of Ticks = TICKS_MAX
 most_of Entries = ENTRIES_MAX
 
 abbrev pub same_option : NumberOption → NumberOption → Bool
 same_option Processors Processors = true
+same_option Slice Slice = true
+same_option Ticks Ticks = true
 same_option Entries Entries = true
 same_option _ _ = false
 
@@ -108,18 +116,22 @@ once_if false = []
 -- the numbers that the options of a line give, where they do
 pub record Numbers : Type 0 where
   pub processors : Option ℕ
+  pub slice : Option ℕ
+  pub ticks : Option ℕ
   pub entries : Option ℕ
 
 abbrev pub number_of_option : Numbers → NumberOption → Option ℕ
 number_of_option ns Processors = ns.processors
+number_of_option ns Slice = ns.slice
+number_of_option ns Ticks = ns.ticks
 number_of_option ns Entries = ns.entries
 
 -- the options of a run, each its default where no number is given
 abbrev pub options_with : Numbers → Options
 options_with ns = record {
   processors = unwrap_or ns.processors PROCESSORS_DEFAULT;
-  slice = SLICE_DEFAULT;
-  ticks = TICKS_DEFAULT;
+  slice = unwrap_or ns.slice SLICE_DEFAULT;
+  ticks = unwrap_or ns.ticks TICKS_DEFAULT;
   entries = unwrap_or ns.entries ENTRIES_DEFAULT;
 }
 

@@ -5,12 +5,16 @@ ghost use Rattle.uc_tree.specs.declared.limits.TheConstants.{TICKS_MAX};
 ghost use Rattle.uc_words.specs.declared.numbers.NumberOption.{NumberOption};
 ghost use Rattle.uc_words.specs.Words as words;
 
-use uc_tree::limits::{ENTRIES_MAX, ENTRIES_MIN, PROCESSORS_MIN};
+use uc_tree::limits::{
+    ENTRIES_MAX, ENTRIES_MIN, PROCESSORS_MIN, SLICE_MAX, SLICE_MIN, TICKS_MAX, TICKS_MIN,
+};
 
 /// An option of `run` that has a number.
 #[derive(Clone, Copy, PartialEq, Eq, Debug)]
 pub enum NumberOption {
     Processors,
+    Slice,
+    Ticks,
     Entries,
 }
 
@@ -22,6 +26,12 @@ impl NumberOption {
     {
         if word == "--processors" {
             return Some(NumberOption::Processors);
+        }
+        if word == "--slice" {
+            return Some(NumberOption::Slice);
+        }
+        if word == "--ticks" {
+            return Some(NumberOption::Ticks);
         }
         if word == "--entries" {
             return Some(NumberOption::Entries);
@@ -35,6 +45,8 @@ impl NumberOption {
     {
         match self {
             NumberOption::Processors => u64::from(PROCESSORS_MIN),
+            NumberOption::Slice => u64::from(SLICE_MIN),
+            NumberOption::Ticks => TICKS_MIN,
             NumberOption::Entries => u64::from(ENTRIES_MIN),
         }
     }
@@ -46,6 +58,8 @@ impl NumberOption {
     {
         match self {
             NumberOption::Processors => u64::from(PROCESSORS_MIN),
+            NumberOption::Slice => u64::from(SLICE_MAX),
+            NumberOption::Ticks => TICKS_MAX,
             NumberOption::Entries => u64::from(ENTRIES_MAX),
         }
     }

@@ -162,8 +162,8 @@ fn job_of<'a>(file: &'a str, told: Told<'a>) -> Job<'a>
         file,
         opts: Options {
             processors: told.processors.unwrap_or(PROCESSORS_DEFAULT),
-            slice: SLICE_DEFAULT,
-            ticks: TICKS_DEFAULT,
+            slice: told.slice.unwrap_or(SLICE_DEFAULT),
+            ticks: told.ticks.unwrap_or(TICKS_DEFAULT),
             entries: told.entries.unwrap_or(ENTRIES_DEFAULT),
         },
         journal: told.journal,
@@ -188,11 +188,13 @@ fn fault_at(told: Told<'_>, ahead: u32) -> WordsFault
 // How many words told the numbers.
 fn words_of_numbers(told: Told<'_>) -> u32
     ensures words { result ≡ words_of_numbers (parts_of told.entry).numbers }
-    ensures few { result ≤ 4 }
+    ensures few { result ≤ 8 }
 {
     let processors = worth(told.processors.is_some(), 2);
+    let slice = worth(told.slice.is_some(), 2);
+    let ticks = worth(told.ticks.is_some(), 2);
     let entries = worth(told.entries.is_some(), 2);
-    processors + entries
+    processors + slice + ticks + entries
 }
 
 // How many words told a part.

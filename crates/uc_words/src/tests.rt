@@ -14,11 +14,13 @@ fn words_of(alloc: Global, words: &[&str]) -> Result<Vec<String>, AllocError> {
 }
 
 fn run<'a>(file: &'a str, entries: u32, input: Option<&'a str>) -> Result<Job<'a>, WordsFault> {
-    full(file, entries, false, input)
+    full(file, 1_000, 10_000_000, entries, false, input)
 }
 
 fn full<'a>(
     file: &'a str,
+    slice: u32,
+    ticks: u64,
     entries: u32,
     journal: bool,
     input: Option<&'a str>,
@@ -27,8 +29,8 @@ fn full<'a>(
         file,
         opts: Options {
             processors: 1,
-            slice: 1_000,
-            ticks: 10_000_000,
+            slice,
+            ticks,
             entries,
         },
         journal,
@@ -43,7 +45,7 @@ fn bad<'a>(number: u32) -> Result<Job<'a>, WordsFault> {
 #[test]
 fn lines(rt: HostRuntime) -> Result<(), Fail> {
     let alloc = rt.alloc();
-    let table: [(&[&str], Result<Job<'_>, WordsFault>); 55] = [
+    let table: [(&[&str], Result<Job<'_>, WordsFault>); 62] = [
         (&["run", "a.cc"], run("a.cc", 200_000, None)),
         (
             &["run", "--entries", "64", "a.cc", "--input", "b"],
@@ -96,16 +98,22 @@ fn lines(rt: HostRuntime) -> Result<(), Fail> {
                 "1",
                 "--journal",
                 "a.cc",
-                "--entries",
-                "64",
+                "--ticks",
+                "1000000000000",
+                "--slice",
+                "1",
             ],
-            full("a.cc", 64, true, None),
+            full("a.cc", 1, 1_000_000_000_000, 200_000, true, None),
         ),
         (
             &[
                 "run",
                 "--input",
                 "b",
+                "--ticks",
+                "1",
+                "--slice",
+                "1000000",
                 "--entries",
                 "64",
                 "--journal",
@@ -113,13 +121,17 @@ fn lines(rt: HostRuntime) -> Result<(), Fail> {
                 "--processors",
                 "1",
             ],
-            full("a.cc", 64, true, Some("b")),
+            full("a.cc", 1_000_000, 1, 64, true, Some("b")),
         ),
         (
             &[
                 "run",
                 "--input",
                 "b",
+                "--ticks",
+                "1",
+                "--slice",
+                "1000000",
                 "--entries",
                 "64",
                 "--journal",
@@ -128,9 +140,16 @@ fn lines(rt: HostRuntime) -> Result<(), Fail> {
                 "1",
                 "x",
             ],
-            bad(10),
+            bad(14),
         ),
-        (&["run", "a.cc", "--slice", "5"], bad(3)),
+        (&["run", "a.cc", "--slices", "5"], bad(3)),
+        (&["run", "a.cc", "--slice"], bad(4)),
+        (&["run", "a.cc", "--slice", "0"], bad(4)),
+        (&["run", "a.cc", "--slice", "1000001"], bad(4)),
+        (&["run", "a.cc", "--ticks", "0"], bad(4)),
+        (&["run", "a.cc", "--ticks", "1000000000001"], bad(4)),
+        (&["run", "--slice", "5", "--slice", "5", "a.cc"], bad(4)),
+        (&["run", "--ticks", "5", "a.cc", "--ticks", "5"], bad(5)),
         (&["run", "a.cc", "--processors", "2"], bad(4)),
         (&["run", "a.cc", "--processors", "0"], bad(4)),
         (&["run", "a.cc", "--processors"], bad(4)),

@@ -11,6 +11,8 @@ use crate::numbers::NumberOption;
 pub struct Told<'a> {
     pub file: Option<&'a str>,
     pub processors: Option<u32>,
+    pub slice: Option<u32>,
+    pub ticks: Option<u64>,
     pub entries: Option<u32>,
     pub journal: bool,
     pub input: Option<&'a str>,
@@ -22,6 +24,8 @@ pub(crate) fn has_number(told: Told<'_>, option: NumberOption) -> bool
 {
     match option {
         NumberOption::Processors => told.processors.is_some(),
+        NumberOption::Slice => told.slice.is_some(),
+        NumberOption::Ticks => told.ticks.is_some(),
         NumberOption::Entries => told.entries.is_some(),
     }
 }
@@ -34,6 +38,14 @@ pub(crate) fn with_number<'a>(told: Told<'a>, option: NumberOption, n: u64) -> T
     match option {
         NumberOption::Processors => Told {
             processors: Some(n as u32),
+            ..told
+        },
+        NumberOption::Slice => Told {
+            slice: Some(n as u32),
+            ..told
+        },
+        NumberOption::Ticks => Told {
+            ticks: Some(n),
             ..told
         },
         NumberOption::Entries => Told {

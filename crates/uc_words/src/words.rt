@@ -55,6 +55,8 @@ fn read_run(words: &[String]) -> Result<Job<'_>, WordsFault>
     let mut told = Told {
         file: None,
         processors: None,
+        slice: None,
+        ticks: None,
         entries: None,
         journal: false,
         input: None,

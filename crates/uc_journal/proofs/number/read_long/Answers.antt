@@ -4,8 +4,8 @@ use Rattle.std.proofs.lemmas.List.{take_rest}
 use Rattle.uc_tree.specs.Bytes.{is_digit}
 use Rattle.uc_tree.specs.Tokens.{value_of}
 use Rattle.uc_journal.proofs.Digits.{begins, natural_of, value}
-use Rattle.uc_journal.proofs.number.read_natural.Goals as goal
-use Rattle.uc_journal.proofs.number.read_natural.Goals.{else-count-gt1-via-then-count-gt1+else-text-eq48, else-count-gt1-via-else-count-gt1}
+use Rattle.uc_journal.proofs.number.read_long.Goals as goal
+use Rattle.uc_journal.proofs.number.read_long.Goals.{else-count-gt1-via-then-count-gt1+else-text-eq48, else-count-gt1-via-else-count-gt1}
 
 pub returns-then-count-eq0-clause-none : goal.returns-then-count-eq0-clause-none
 returns-then-count-eq0-clause-none c n h rest a =

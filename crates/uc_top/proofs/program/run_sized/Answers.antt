@@ -1,0 +1,17 @@
+use Rattle.std.proofs.Common.{subst}
+use Rattle.uc_lower.specs.Refusing.{Refuses, IsLarge}
+use Rattle.uc_top.proofs.Frames.{accepted, fit_frames}
+use Rattle.uc_top.proofs.program.run_sized.Goals as goal
+
+pub do_code-requires-clause-accepted : goal.do_code-requires-clause-accepted
+do_code-requires-clause-accepted c = accepted c.args.program.now c.requires.runnable c.in-Ok.ensures.fits
+
+pub returns-in-Err-CodeTooLarge-clause-refused : goal.returns-in-Err-CodeTooLarge-clause-refused
+returns-in-Err-CodeTooLarge-clause-refused c =
+    let p = c.args.program.now in
+    let large : IsLarge p c.in-Err-CodeTooLarge.field-0-0 = subst (Refuses p) c.in-Err-CodeTooLarge.field-0-is c.in-Err-CodeTooLarge.ensures.refused in
+    record {
+      runnable = c.requires.runnable;
+      frames = fit_frames p c.requires.runnable.built large.frames;
+      large = large.large;
+    }
