@@ -22,7 +22,7 @@ fn number(alloc: Global, program: Program) -> Result<Checked, AllocError>
 }
 
 /// The program, unchanged, with its numbering, where it breaks no rule; else the first break, or want of memory.
-#[tactic(auto, using(uc_classes::proofs::First::firsts))]
+#[tactic(auto, using(uc_classes::proofs::First::first_is, uc_classes::proofs::First::none_is))]
 pub fn check(alloc: Global, program: Program) -> Result<Checked, RuleFault>
     ensures checked { IfOk result (λ checked. checked ≡ program) }
     ensures unbroken { IfOk result (λ checked. breaks_of program ≡ []) }
