@@ -1,0 +1,21 @@
+use Rattle.std.proofs.Common.{◌<◌, sym, subst}
+use Rattle.std.specs.Prelude.{pos}
+use Rattle.uc_meaning.specs.Journal.{entry}
+use Rattle.uc_meaning.specs.Known.{object_count}
+use Rattle.uc_meaning.specs.declared.entry.EntryKind.TheVariants as kind
+use Rattle.uc_book.specs.Mirrors.{CanPut, Seen}
+use Rattle.uc_book.proofs.Blocking as blocking
+use Rattle.uc_book.proofs.book.Book.put_unheard.Goals as goal
+
+pub invariant_of-self : goal.invariant_of-self
+invariant_of-self c =
+    let w = c.args.who in
+    let e = entry kind.SignalBlock w.processor w.task w.ticks c.args.object (pos c.args.cond) (pos 0) in
+    let k = subst (λ (s : Seen). CanPut s e) (sym c.self.view_is) c.requires.can in
+    let n = subst (λ (s : Seen). c.args.object < object_count s.journal) (sym c.self.view_is) c.requires.known in
+    let old = c.self.invariant in
+    record {
+      mirrors = λ _. rw (c.push.ensures, c.condition_entry.ensures) (blocking.m_unheard _ _ _ _ _ _ _ _ _ _ _ (old.mirrors k.going) w.processor w.task w.ticks c.args.object c.args.cond k.legal n);
+      space = rw c.push.ensures old.space;
+      tasks = rw c.push.ensures old.tasks;
+    }

@@ -1,0 +1,3 @@
+pub mod Mirrors
+pub mod Acting
+pub mod Waiters

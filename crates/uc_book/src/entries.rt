@@ -1,0 +1,313 @@
+//! Entries of a journal, one function for each shape.
+ghost use Rattle.std.specs.Prelude.{◌≡◌, ◌+◌, not, pos};
+ghost use Rattle.uc_meaning.specs.Acts;
+ghost use Rattle.uc_meaning.specs.Acts.{truth, signed_64};
+ghost use Rattle.uc_meaning.specs.Journal;
+ghost use Rattle.uc_meaning.specs.declared.entry.EntryKind.TheVariants as kind;
+
+use uc_meaning::entry::{Entry, EntryKind};
+use uc_meaning::got::Got;
+use uc_meaning::request::Piece;
+
+/// The task that acts: its processor, its ticks since its last entry, and the line of its request.
+#[derive(Clone, Copy)]
+pub struct Actor {
+    pub processor: u8,
+    pub task: u32,
+    pub ticks: u32,
+    pub line: u32,
+}
+
+pub(crate) fn entry(
+    kind: EntryKind,
+    proc: u8,
+    task: u32,
+    ticks: u32,
+    object: u32,
+    a: i64,
+    b: i64,
+) -> Entry
+    ensures { result ≡ Journal.entry kind proc task ticks object a b }
+{
+    Entry {
+        kind,
+        proc,
+        task,
+        ticks,
+        object,
+        a,
+        b,
+        c: 0,
+        d: 0,
+    }
+}
+
+/// An entry of the acting task without fields.
+pub(crate) fn plain_entry(kind: EntryKind, who: Actor, object: u32) -> Entry
+    ensures { result ≡ Journal.entry kind who.processor who.task who.ticks object (pos 0) (pos 0) }
+{
+    entry(kind, who.processor, who.task, who.ticks, object, 0, 0)
+}
+
+/// An entry of the acting task that names one or two numbers.
+pub(crate) fn number_entry(kind: EntryKind, who: Actor, a: u32, b: u32) -> Entry
+    ensures { result ≡ Journal.entry kind who.processor who.task who.ticks 0 (pos a) (pos b) }
+{
+    entry(
+        kind,
+        who.processor,
+        who.task,
+        who.ticks,
+        0,
+        i64::from(a),
+        i64::from(b),
+    )
+}
+
+/// An entry of the acting task that names an object and a number.
+pub(crate) fn object_entry(kind: EntryKind, who: Actor, object: u32, a: u32) -> Entry
+    ensures { result ≡ Journal.entry kind who.processor who.task who.ticks object (pos a) (pos 0) }
+{
+    entry(
+        kind,
+        who.processor,
+        who.task,
+        who.ticks,
+        object,
+        i64::from(a),
+        0,
+    )
+}
+
+/// How a run ends, without ticks.
+pub(crate) fn closing_entry(kind: EntryKind, processor: u8, task: u32) -> Entry
+    ensures { result ≡ Journal.entry kind processor task 0 0 (pos 0) (pos 0) }
+{
+    entry(kind, processor, task, 0, 0, 0, 0)
+}
+
+/// A processor is given a task.
+pub(crate) fn dispatch_entry(processor: u8, task: u32) -> Entry
+    ensures { result ≡ Acts.dispatch processor task }
+{
+    entry(EntryKind::Dispatch, processor, task, 0, 0, 0, 0)
+}
+
+pub(crate) fn print_entry(who: Actor, ticks: u32, piece: Piece) -> Entry
+    ensures { result ≡ Journal.entry kind.Print who.processor who.task ticks 0 (pos piece.form) piece.value }
+{
+    entry(
+        EntryKind::Print,
+        who.processor,
+        who.task,
+        ticks,
+        0,
+        i64::from(piece.form),
+        piece.value,
+    )
+}
+
+/// What was read, and the bytes of the input that are used then.
+pub(crate) fn read_entry(who: Actor, form: u8, got: Got, used: u32, now: u32) -> Entry
+    requires { now ≡ used + got.taken }
+    ensures { result ≡ Acts.read_entry who.processor who.task who.ticks form got used }
+{
+    Entry {
+        kind: EntryKind::Read,
+        proc: who.processor,
+        task: who.task,
+        ticks: who.ticks,
+        object: 0,
+        a: i64::from(form),
+        b: got.value,
+        c: number_of(got.failed),
+        d: i64::from(now),
+    }
+}
+
+pub(crate) fn number_of(holds: bool) -> i64
+    ensures { result ≡ truth holds }
+{
+    if holds {
+        return 1;
+    }
+    0
+}
+
+/// Whether a read has failed.
+pub(crate) fn fail_entry(who: Actor, failed: bool) -> Entry
+    ensures { result ≡ Journal.entry kind.Fail who.processor who.task who.ticks 0 (pos 0) (truth failed) }
+{
+    let holds = number_of(failed);
+    entry(
+        EntryKind::Fail,
+        who.processor,
+        who.task,
+        who.ticks,
+        0,
+        0,
+        holds,
+    )
+}
+
+/// A fault after these ticks.
+pub(crate) fn fault_entry(who: Actor, ticks: u32, number: u8) -> Entry
+    ensures { result ≡ Acts.fault who.processor who.task ticks number who.line }
+{
+    entry(
+        EntryKind::Fault,
+        who.processor,
+        who.task,
+        ticks,
+        0,
+        i64::from(number),
+        i64::from(who.line),
+    )
+}
+
+pub(crate) fn call_entry(who: Actor, object: u32, member: u8) -> Entry
+    ensures { result ≡ Journal.entry kind.Call who.processor who.task who.ticks object (pos member) (pos 0) }
+{
+    entry(
+        EntryKind::Call,
+        who.processor,
+        who.task,
+        who.ticks,
+        object,
+        i64::from(member),
+        0,
+    )
+}
+
+/// A task is let in by a way, an acceptor with its clause.
+pub(crate) fn admit_entry(who: Actor, task: u32, object: u32, way: u8, clause: u8) -> Entry
+    ensures { result ≡ Acts.admit who.processor task object way clause }
+{
+    entry(
+        EntryKind::Admit,
+        who.processor,
+        task,
+        0,
+        object,
+        i64::from(way),
+        i64::from(clause),
+    )
+}
+
+pub(crate) fn push_entry(who: Actor, task: u32, object: u32) -> Entry
+    ensures { result ≡ Acts.push who.processor task object }
+{
+    entry(EntryKind::Push, who.processor, task, 0, object, 0, 0)
+}
+
+/// An entry that names a condition.
+pub(crate) fn condition_entry(kind: EntryKind, who: Actor, object: u32, cond: u16, b: i64) -> Entry
+    ensures { result ≡ Journal.entry kind who.processor who.task who.ticks object (pos cond) b }
+{
+    entry(
+        kind,
+        who.processor,
+        who.task,
+        who.ticks,
+        object,
+        i64::from(cond),
+        b,
+    )
+}
+
+/// What a poll of a mask delivers: an event, or none.
+pub(crate) fn poll_entry(who: Actor, mask: u64, found: Option<(u8, i64, i64)>) -> Entry
+    ensures { result ≡ Acts.poll_entry who.processor who.task who.ticks mask found }
+{
+    let mask = signed(mask);
+    match found {
+        None => entry(
+            EntryKind::Poll,
+            who.processor,
+            who.task,
+            who.ticks,
+            0,
+            0,
+            mask,
+        ),
+        Some((event, x, y)) => Entry {
+            kind: EntryKind::Poll,
+            proc: who.processor,
+            task: who.task,
+            ticks: who.ticks,
+            object: 0,
+            a: i64::from(event) + 1,
+            b: mask,
+            c: x,
+            d: y,
+        },
+    }
+}
+
+/// A 64-bit pattern as a number with a sign.
+fn signed(bits: u64) -> i64
+    ensures { result ≡ signed_64 bits }
+{
+    if bits < 9223372036854775808 {
+        return bits as i64;
+    }
+    -((18446744073709551615 - bits) as i64) - 1
+}
+
+/// Whether nobody waits on a condition.
+pub(crate) fn empty_entry(who: Actor, object: u32, cond: u16, nobody: bool) -> Entry
+    ensures { result ≡ Journal.entry kind.Empty who.processor who.task who.ticks object (pos cond) (truth nobody) }
+{
+    let holds = number_of(nobody);
+    condition_entry(EntryKind::Empty, who, object, cond, holds)
+}
+
+/// A signal of a condition, and whether nobody waits there.
+pub(crate) fn signal_entry(who: Actor, object: u32, cond: u16, nobody: bool) -> Entry
+    ensures { result ≡ Journal.entry kind.Signal who.processor who.task who.ticks object (pos cond) (truth (not nobody)) }
+{
+    let found = number_of(!nobody);
+    condition_entry(EntryKind::Signal, who, object, cond, found)
+}
+
+/// An accept of a site with a mask of its true clauses, and how it went.
+pub(crate) fn accept_entry(
+    who: Actor,
+    object: u32,
+    site: u32,
+    mask: u32,
+    has_else: bool,
+    how: u8,
+) -> Entry
+    ensures { result ≡ Acts.accept_entry who.processor who.task who.ticks object site mask has_else how }
+{
+    let has_else = number_of(has_else);
+    Entry {
+        kind: EntryKind::Accept,
+        proc: who.processor,
+        task: who.task,
+        ticks: who.ticks,
+        object,
+        a: i64::from(site),
+        b: i64::from(mask),
+        c: has_else,
+        d: i64::from(how),
+    }
+}
+
+/// An event with its fields, raised at a task.
+pub(crate) fn raise_entry(who: Actor, object: u32, target: u32, event: u8, x: i64, y: i64) -> Entry
+    ensures { result ≡ Acts.raise_entry who.processor who.task who.ticks object target event x y }
+{
+    Entry {
+        kind: EntryKind::Raise,
+        proc: who.processor,
+        task: who.task,
+        ticks: who.ticks,
+        object,
+        a: i64::from(target),
+        b: i64::from(event),
+        c: x,
+        d: y,
+    }
+}
