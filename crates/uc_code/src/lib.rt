@@ -8,5 +8,3 @@ pub mod listing;
 pub mod op;
 mod operands;
 pub mod rows;
-#[cfg(test)]
-mod tests;

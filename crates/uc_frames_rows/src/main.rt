@@ -1,8 +1,11 @@
-// A program that tries the cells of tasks: each line names what was done and shows what is then read.
+// A program that tries the cells of tasks: each line names what was done and shows what is then read. Behind them stands
+// the listing of a small code.
 #![tactic(auto)]
 
+mod listed;
 mod shown;
 
+use crate::listed::listed;
 use crate::shown::shown;
 use std::alloc::{AllocError, Global};
 use std::io;
@@ -335,6 +338,7 @@ fn main(rt: HostRuntime) -> io::Result<()> {
         gathered(alloc)?,
         gathering(alloc)?,
         item(alloc)?,
+        listed(alloc)?,
     ];
     for text in &texts {
         print!(rt; "{text}")?;

@@ -14,6 +14,3 @@ mod signs;
 pub use fault::LexFault;
 pub use lexer::lex;
 pub use place::pos_at;
-
-#[cfg(test)]
-mod tests;

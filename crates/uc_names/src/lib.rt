@@ -3,5 +3,3 @@
 
 mod newest;
 pub mod scope;
-#[cfg(test)]
-mod tests;

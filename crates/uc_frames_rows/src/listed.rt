@@ -1,16 +1,15 @@
-// The listing of a small code with every kind of operand, against text written by hand.
+// The listing of a small code with every kind of operand, and with handler rows.
 
-use crate::draft::Draft;
-use crate::listing::listing;
-use crate::op::Op;
-use crate::rows::{ANY_EVENT, HandlerRow, RowKind};
-use std::test::Fail;
+use std::alloc::{AllocError, Global};
+use uc_code::draft::Draft;
+use uc_code::listing::listing;
+use uc_code::op::Op;
+use uc_code::rows::{ANY_EVENT, HandlerRow, RowKind};
 use uc_tree::kinds::ValueForm;
+use uc_tree::limits::PROGRAM_OPS;
 
-#[test]
-fn listing_of_every_kind_of_operand(rt: HostRuntime) -> Result<(), Fail> {
-    let alloc = rt.alloc();
-    let ops = [
+fn ops() -> [Op; 9] {
+    [
         Op::Push(-2147483648),
         Op::Local(3),
         Op::Index {
@@ -26,11 +25,16 @@ fn listing_of_every_kind_of_operand(rt: HostRuntime) -> Result<(), Fail> {
         Op::Throw(63),
         Op::Enable(18446744073709551615),
         Op::Print(ValueForm::Character),
-    ];
+    ]
+}
+
+/// The lines of the ops and of the rows.
+pub(crate) fn listed(alloc: Global) -> Result<String, AllocError> {
     let mut draft = Draft::new(alloc, Vec::new(alloc));
-    for op in ops {
-        assert!(rt; draft.here() < 100);
-        draft.emit(op, 1)?;
+    for op in ops() {
+        if draft.here() < PROGRAM_OPS {
+            draft.emit(op, 1)?;
+        }
     }
     draft.add_row(HandlerRow {
         from: 0,
@@ -50,8 +54,5 @@ fn listing_of_every_kind_of_operand(rt: HostRuntime) -> Result<(), Fail> {
     })?;
     let code = draft.finish(Vec::new(alloc), Vec::new(alloc), Vec::new(alloc));
     let text = listing(alloc, &code)?;
-    let wanted: &[u8] =
-        b"0: push -2147483648\n1: local 3\n2: index 65536 2\n3: le\n4: zero 16777215\n5: enter 31 7\n6: throw 63\n7: enable 18446744073709551615\n8: print 1\nrow 0: 0 4 2 0 2 5\nrow 1: 0 6 0 2 255 8\n";
-    assert_eq!(rt; text.as_slice(), wanted);
-    Ok(())
+    String::from_utf8_lossy(alloc, text.as_slice())
 }
