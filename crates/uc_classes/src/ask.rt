@@ -5,24 +5,22 @@ ghost use Rattle.uc_tree.specs.Cells.{class_cells};
 ghost use Rattle.uc_tree.specs.Numbering.{condition_count, is_public, mutex_members};
 ghost use Rattle.uc_tree.specs.declared.limits.TheConstants.{CLASS_CELLS, CLASS_CONDITIONS, MEMBERS};
 ghost use Rattle.uc_meaning.specs.Asked.{asked, of_sort, unless};
-ghost use Rattle.uc_meaning.specs.ClassBreaks.{constant_breaks, entity_takes, events_before, fields_at, has_room, has_unset, home_class, home_leads_back, init_count_breaks, inits_breaks, is_field_of, is_field_sort, is_new_field, is_new_routine, is_sound_event, param_breaks, sig_breaks};
+ghost use Rattle.uc_meaning.specs.ClassBreaks.{constant_breaks, entity_takes, events_before, fields_at, has_room, has_unset, home_class, home_leads_back, init_count_breaks, inits_breaks, is_field_of, is_field_sort, is_new_field, is_new_routine, param_breaks, sig_breaks};
 ghost use Rattle.uc_meaning.specs.Entities.{count, entity_of};
 ghost use Rattle.uc_meaning.specs.ExpressionBreaks.{length_breaks, length_value_breaks};
 ghost use Rattle.uc_meaning.specs.Firsts.{after};
 ghost use Rattle.uc_meaning.specs.ItemBreaks.{is_sound_member};
 ghost use Rattle.uc_meaning.specs.Names.{place_in};
-ghost use Rattle.uc_meaning.specs.declared.rules.FieldPlace.{FieldPlace};
-ghost use Rattle.uc_tree.specs.declared.kinds.Access.{Access};
 ghost use Rattle.uc_meaning.specs.ProgramVisits.{home_member};
 ghost use Rattle.uc_meaning.specs.Sorts.{class_at, is_coroutine, sort_of};
 ghost use Rattle.uc_meaning.specs.Visits.{AtClass, AtConstant, AtField, AtInit, AtInits, AtItem, AtMark, AtParam, AtProgram, AtRoutine, AtSig};
 ghost use Rattle.uc_meaning.specs.declared.rule.Rule.TheVariants.{S16, S17, S18, S2, S22, S4, S5};
-ghost use Rattle.uc_types.specs.Told.{told, told_forms, told_names, told_owners, told_uses, told_values};
+ghost use Rattle.uc_types.specs.Told.{told};
 ghost use Rattle.uc_classes.specs.Circling.{AreFields, Walks};
 
 use crate::circle::leads_back;
-use crate::class::{Listed, Walked};
 use crate::conditions::count_conditions;
+use crate::class::{Listed, Walked};
 use std::alloc::{AllocError, Global};
 use uc_bodies::declare::{is_element, judge_length};
 use uc_bodies::judge;
@@ -39,7 +37,7 @@ use uc_meaning::rules::{Entity, FieldPlace, Meant, Sort};
 use uc_owner::judge::{note_field, note_param};
 use uc_tree::class::{Class, Init, Member, Sig};
 use uc_tree::declare::Declarator;
-use uc_tree::kinds::{Access, Base, Kind, Param};
+use uc_tree::kinds::{Access, Kind, Param};
 use uc_tree::limits::{CLASS_CELLS, CLASS_CONDITIONS};
 use uc_tree::name::Name;
 use uc_tree::pos::Pos;
@@ -145,7 +143,7 @@ fn is_new(
     index: usize,
     declarator: &Declarator,
 ) -> bool
-    requires walks { Walks names.now.program walked.home walked.class.now walked.circular walked.holders.now walked.bound.known walked.bound.names.now }
+    requires walks { Walks names.now.program walked.home walked.class.now walked.bound.known walked.bound.names.now }
     ensures { result ≡ is_new_field walked.entry.class.now (place_in listed.entry.member index) (fields_at walked.entry.class.now listed.entry.member) declarator.now.name }
 {
     let field = FieldPlace {
@@ -164,7 +162,7 @@ fn leads_home(
     declarator: &Declarator,
 ) -> bool
     requires home { names.now.around.home ≡ Some walked.home }
-    requires walks { Walks names.now.program walked.home walked.class.now walked.circular walked.holders.now walked.bound.known walked.bound.names.now }
+    requires walks { Walks names.now.program walked.home walked.class.now walked.bound.known walked.bound.names.now }
     requires fields { AreFields walked.class.now listed.member listed.base.now listed.declarators.now }
     requires there { slice_get listed.declarators.now index ≡ Some declarator.now }
     ensures { result ≡ home_leads_back names.now.program names.now.around.home listed.entry.base.now declarator.now }
@@ -188,7 +186,7 @@ fn note_declared(
     declarator: &Declarator,
     found: &mut Found,
 )
-    requires walks { Walks names.now.program walked.home walked.class.now walked.circular walked.holders.now walked.bound.known walked.bound.names.now }
+    requires walks { Walks names.now.program walked.home walked.class.now walked.bound.known walked.bound.names.now }
     ensures { found.new ≡ after found.old (unless (is_new_field walked.entry.class.now (place_in listed.entry.member index) (fields_at walked.entry.class.now listed.entry.member) declarator.now.name) S2 declarator.now.pos) }
 {
     let new = is_new(names, walked, listed, index, declarator);
@@ -204,7 +202,7 @@ fn note_circle(
     found: &mut Found,
 )
     requires home { names.now.around.home ≡ Some walked.home }
-    requires walks { Walks names.now.program walked.home walked.class.now walked.circular walked.holders.now walked.bound.known walked.bound.names.now }
+    requires walks { Walks names.now.program walked.home walked.class.now walked.bound.known walked.bound.names.now }
     requires fields { AreFields walked.class.now listed.member listed.base.now listed.declarators.now }
     requires there { slice_get listed.declarators.now index ≡ Some declarator.now }
     ensures { found.new ≡ after found.old (unless (not (home_leads_back names.now.program names.now.around.home listed.entry.base.now declarator.now)) S4 declarator.now.pos) }
@@ -232,20 +230,20 @@ fn note_access(class: &Class, access: Access, declarator: &Declarator, found: &m
     found.note_unless(!open, Rule::S18, declarator.pos);
 }
 
-// What the rules on names, types and places ask of a field.
-fn note_text(
+/// A field of a class, by its place in its list.
+pub fn ask_field(
     names: &Names,
     walked: Walked,
     listed: Listed,
     index: usize,
     declarator: &Declarator,
     found: &mut Found,
-)
+) -> Result<(), AllocError>
     requires home { names.now.around.home ≡ Some walked.home }
-    requires walks { Walks names.now.program walked.home walked.class.now walked.circular walked.holders.now walked.bound.known walked.bound.names.now }
+    requires walks { Walks names.now.program walked.home walked.class.now walked.bound.known walked.bound.names.now }
     requires fields { AreFields walked.class.now listed.member listed.base.now listed.declarators.now }
     requires there { slice_get listed.declarators.now index ≡ Some declarator.now }
-    ensures { found.new ≡ told_forms (told_values (told_uses (told_names found.old (AtField names.now walked.entry.class.now listed.entry.access listed.entry.base.now declarator.now (place_in listed.entry.member index))) (AtField names.now walked.entry.class.now listed.entry.access listed.entry.base.now declarator.now (place_in listed.entry.member index))) (AtField names.now walked.entry.class.now listed.entry.access listed.entry.base.now declarator.now (place_in listed.entry.member index))) (AtField names.now walked.entry.class.now listed.entry.access listed.entry.base.now declarator.now (place_in listed.entry.member index)) }
+    ensures { OnOk result (found.new ≡ told found.old (AtField names.now walked.entry.class.now listed.entry.access listed.entry.base.now declarator.now (place_in listed.entry.member index))) }
 {
     let field = FieldPlace {
         member: listed.member,
@@ -259,41 +257,14 @@ fn note_text(
     note_field_sort(names, declarator, sort, found);
     note_access(walked.class, listed.access, declarator, found);
     note_event_field(walked.class, declarator, field, sort, found);
-}
-
-// What the rules on who owns what ask of a field.
-fn note_owned(
-    names: &Names,
-    walked: Walked,
-    base: &Base,
-    declarator: &Declarator,
-    found: &mut Found,
-) -> Result<(), AllocError>
-    requires home { names.now.around.home ≡ Some walked.home }
-    requires walks { Walks names.now.program walked.home walked.class.now walked.circular walked.holders.now walked.bound.known walked.bound.names.now }
-    ensures { OnOk result ((access : Access) (field : FieldPlace) → found.new ≡ told_owners found.old (AtField names.now walked.entry.class.now access base.now declarator.now field)) }
-{
-    note_field(names, walked.class, walked.bound, base, declarator, found)?;
-    Ok(())
-}
-
-/// A field of a class, by its place in its list.
-pub fn ask_field(
-    names: &Names,
-    walked: Walked,
-    listed: Listed,
-    index: usize,
-    declarator: &Declarator,
-    found: &mut Found,
-) -> Result<(), AllocError>
-    requires home { names.now.around.home ≡ Some walked.home }
-    requires walks { Walks names.now.program walked.home walked.class.now walked.circular walked.holders.now walked.bound.known walked.bound.names.now }
-    requires fields { AreFields walked.class.now listed.member listed.base.now listed.declarators.now }
-    requires there { slice_get listed.declarators.now index ≡ Some declarator.now }
-    ensures { OnOk result (found.new ≡ told found.old (AtField names.now walked.entry.class.now listed.entry.access listed.entry.base.now declarator.now (place_in listed.entry.member index))) }
-{
-    note_text(names, walked, listed, index, declarator, found);
-    note_owned(names, walked, listed.base, declarator, found)?;
+    note_field(
+        names,
+        walked.class,
+        walked.bound,
+        listed.base,
+        declarator,
+        found,
+    )?;
     Ok(())
 }
 
@@ -332,20 +303,12 @@ fn note_sound(
     Ok(())
 }
 
-fn is_free(names: &Names, walked: Walked, sig: &Sig, member: usize) -> bool
-    requires walks { Walks names.now.program walked.home walked.class.now walked.circular walked.holders.now walked.bound.known walked.bound.names.now }
-    ensures { result ≡ is_new_routine walked.entry.class.now member sig.now }
-{
-    let new = is_new_routine(names.tables(), walked.home.class, member, sig);
-    new
-}
-
 fn note_routine(names: &Names, walked: Walked, sig: &Sig, member: usize, found: &mut Found)
-    requires walks { Walks names.now.program walked.home walked.class.now walked.circular walked.holders.now walked.bound.known walked.bound.names.now }
+    requires walks { Walks names.now.program walked.home walked.class.now walked.bound.known walked.bound.names.now }
     ensures { found.new ≡ after found.old (unless (is_new_routine walked.entry.class.now member sig.now) S2 sig.now.pos) }
 {
-    let free = is_free(names, walked, sig, member);
-    found.note_unless(free, Rule::S2, sig.pos);
+    let new = is_new_routine(names.tables(), walked.home.class, member, sig);
+    found.note_unless(new, Rule::S2, sig.pos);
 }
 
 /// A member that is a routine or a prototype, by its place.
@@ -357,7 +320,7 @@ pub fn ask_routine(
     member: usize,
     found: &mut Found,
 ) -> Result<(), AllocError>
-    requires walks { Walks names.now.program walked.home walked.class.now walked.circular walked.holders.now walked.bound.known walked.bound.names.now }
+    requires walks { Walks names.now.program walked.home walked.class.now walked.bound.known walked.bound.names.now }
     requires indexed { walked.index.now ≡ names.now.program }
     ensures { OnOk result (found.new ≡ told found.old (AtRoutine names.now walked.entry.class.now proto sig.now member)) }
 {
@@ -400,7 +363,13 @@ fn has_few_cells(tables: &Tables, place: usize) -> bool
 }
 
 // Whether an event is sound, in the program of the names.
-fn is_event_sound(names: &Names, index: &Index, class: &Class, place: usize, events: usize) -> bool
+fn is_event_sound(
+    names: &Names,
+    index: &Index,
+    class: &Class,
+    place: usize,
+    events: usize,
+) -> bool
     requires indexed { index.now ≡ names.now.program }
     requires events { events ≡ events_before names.now.program place }
     ensures { result ≡ is_sound_event names.now.program class.now place }
@@ -532,7 +501,12 @@ fn note_unset(names: &Names, inits: &[Init], at: Pos, found: &mut Found) -> Resu
     Ok(())
 }
 
-fn note_inits(names: &Names, sig: &Sig, inits: &[Init], found: &mut Found) -> Result<(), AllocError>
+fn note_inits(
+    names: &Names,
+    sig: &Sig,
+    inits: &[Init],
+    found: &mut Found,
+) -> Result<(), AllocError>
     ensures { OnOk result (found.new ≡ after found.old (inits_breaks names.now sig.now inits.now)) }
 {
     if is_constructor(sig.role) {

@@ -10,10 +10,8 @@ ghost use Rattle.uc_meaning.specs.ProgramVisits.{class_visits, fields_visits, fo
 ghost use Rattle.uc_meaning.specs.Scopes.{class_around, is_inner, plain_env, returns_scalar, sig_around};
 ghost use Rattle.uc_meaning.specs.Visits.{AtField, AtMark, maybe_visits};
 ghost use Rattle.uc_types.specs.Told.{noted};
-ghost use Rattle.uc_tree.specs.Cells.{rows_of};
-ghost use Rattle.uc_tree.specs.Rows.{reaches};
 ghost use Rattle.uc_meaning.specs.Sorts.{class_at};
-ghost use Rattle.uc_classes.specs.Circling.{AreFields, Circling, Walks};
+ghost use Rattle.uc_classes.specs.Circling.{AreFields, Walks};
 
 use crate::ask::{ask_class, ask_field, ask_mark, ask_routine};
 use crate::body::{check_routine, check_sig};
@@ -33,8 +31,7 @@ use uc_types::names::Names;
 use uc_types::sort::{is_mutex, is_nomutex, is_plain, is_scalar_sort};
 use uc_types::tables::Tables;
 
-/// A class that is walked: its place and kind, whether it has itself in its fields, and then the flags of the classes that
-/// have it in theirs, the fields that its constructors bind to fields of the same object, and the names of its numbered
+/// A class that is walked: its place and kind, the fields that its constructors bind to fields of the same object, and the names of its numbered
 /// members.
 #[derive(Clone, Copy)]
 pub struct Walked<'a> {
@@ -43,8 +40,6 @@ pub struct Walked<'a> {
     pub index: &'a Index<'a>,
     pub class: &'a Class,
     pub home: Home,
-    pub circular: bool,
-    pub holders: &'a [bool],
     pub bound: BoundFields<'a>,
     pub numbered: &'a [&'a Name],
     ghost indexed: { index.now ≡ tables.now },
@@ -122,7 +117,7 @@ fn check_field(
     found: &mut Found,
 ) -> Result<(), AllocError>
     requires home { names.now.around.home ≡ Some walked.home }
-    requires walks { Walks names.now.program walked.home walked.class.now walked.circular walked.holders.now walked.bound.known walked.bound.names.now }
+    requires walks { Walks names.now.program walked.home walked.class.now walked.bound.known walked.bound.names.now }
     requires fields { AreFields walked.class.now listed.member listed.base.now listed.declarators.now }
     requires there { slice_get listed.declarators.now index ≡ Some declarator.now }
     ensures { OnOk result (found.new ≡ noted found.old (maybe_visits names.now declarator.now.len ++ AtField names.now walked.entry.class.now listed.entry.access listed.entry.base.now declarator.now (place_in listed.entry.member index) ∷ [])) }
@@ -140,7 +135,7 @@ fn check_fields(
     found: &mut Found,
 ) -> Result<(), AllocError>
     requires home { names.now.around.home ≡ Some walked.home }
-    requires walks { Walks names.now.program walked.home walked.class.now walked.circular walked.holders.now walked.bound.known walked.bound.names.now }
+    requires walks { Walks names.now.program walked.home walked.class.now walked.bound.known walked.bound.names.now }
     requires fields { AreFields walked.class.now listed.member listed.base.now listed.declarators.now }
     ensures { OnOk result (found.new ≡ noted found.old (fields_visits names.now walked.entry.class.now listed.entry.access listed.entry.base.now listed.entry.member 0 listed.entry.declarators.now)) }
 {
@@ -158,7 +153,7 @@ fn check_form(
     found: &mut Found,
 ) -> Result<(), AllocError>
     requires at { slice_get walked.class.now.members place ≡ Some member.now }
-    requires walks { Walks walked.tables.now walked.home walked.class.now walked.circular walked.holders.now walked.bound.known walked.bound.names.now }
+    requires walks { Walks walked.tables.now walked.home walked.class.now walked.bound.known walked.bound.names.now }
     ensures { OnOk result (found.new ≡ noted found.old (form_visits walked.entry.tables.now walked.entry.home walked.entry.class.now place member.now.mark member.now.access member.now.form)) }
 {
     let outer = Names::new(walked.alloc, walked.tables, class_around(walked.home));
@@ -209,7 +204,7 @@ fn check_member(
     found: &mut Found,
 ) -> Result<(), AllocError>
     requires at { slice_get walked.class.now.members place ≡ Some member.now }
-    requires walks { Walks walked.tables.now walked.home walked.class.now walked.circular walked.holders.now walked.bound.known walked.bound.names.now }
+    requires walks { Walks walked.tables.now walked.home walked.class.now walked.bound.known walked.bound.names.now }
     requires names { map (λ n. n.now) walked.numbered.now ≡ take MEMBERS (mutex_members walked.class.now) }
     requires few { length walked.numbered.now ≤ MEMBERS }
     ensures { OnOk result (found.new ≡ noted found.old (AtMark (plain_env walked.entry.tables.now (class_around walked.entry.home)) walked.entry.class.now member.now ∷ form_visits walked.entry.tables.now walked.entry.home walked.entry.class.now place member.now.mark member.now.access member.now.form)) }
@@ -222,7 +217,7 @@ fn check_member(
 
 #[tactic(auto, using(uc_bodies::proofs::Joined::joining))]
 fn check_members(walked: Walked, found: &mut Found) -> Result<(), AllocError>
-    requires walks { Walks walked.tables.now walked.home walked.class.now walked.circular walked.holders.now walked.bound.known walked.bound.names.now }
+    requires walks { Walks walked.tables.now walked.home walked.class.now walked.bound.known walked.bound.names.now }
     requires names { map (λ n. n.now) walked.numbered.now ≡ take MEMBERS (mutex_members walked.class.now) }
     requires few { length walked.numbered.now ≤ MEMBERS }
     ensures { OnOk result (found.new ≡ noted found.old (members_visits walked.entry.tables.now walked.entry.home walked.entry.class.now 0 walked.entry.class.now.members)) }
@@ -238,23 +233,6 @@ fn members_in(class: &Class) -> &[Member]
     ensures { result.now ≡ class.now.members }
 {
     &class.members
-}
-
-// The flags of the classes that have a class in their fields, where it has itself in its own.
-fn holders_of(
-    alloc: Global,
-    tables: &Tables,
-    place: usize,
-    circular: bool,
-) -> Result<Vec<bool>, AllocError>
-    requires { circular ≡ false → (steps : ℕ) → reaches steps (rows_of tables.now) place place ≡ false }
-    ensures { IfOk result (λ v. Circling tables.now place circular v.items) }
-{
-    if circular {
-        let holders = tables.sizes().holders(alloc, place)?;
-        return Ok(holders);
-    }
-    Ok(Vec::new(alloc))
 }
 
 /// A class by its place among the classes of the program, before which so many events stand.
@@ -279,8 +257,6 @@ pub fn check_class(
     };
     let outer = Names::new(alloc, tables, class_around(home));
     ask_class(&outer, index, class, place, events, found)?;
-    let circular = tables.sizes().has_itself(place);
-    let holders = holders_of(alloc, tables, place, circular)?;
     let known = is_mutex(class.kind) && found.is_open(Rule::O5, class.pos);
     let names = bound_fields(alloc, tables, class, place, known)?;
     let walked = Walked {
@@ -289,8 +265,6 @@ pub fn check_class(
         index,
         class,
         home,
-        circular,
-        holders: &holders,
         bound: BoundFields {
             known,
             names: &names,

@@ -41,7 +41,12 @@ pub fn no_around() -> Around
     }
 }
 
-fn mark_of(alloc: Global, index: &Index, home: Option<Home>, sig: &Sig) -> Result<Mark, AllocError>
+fn mark_of(
+    alloc: Global,
+    index: &Index,
+    home: Option<Home>,
+    sig: &Sig,
+) -> Result<Mark, AllocError>
     ensures { IfOk result (λ mark. mark ≡ outer_mark index.now home sig.now) }
 {
     match home {
@@ -153,15 +158,7 @@ fn check_item(
 {
     match &item.form {
         ItemForm::Class { class } => {
-            check_class(
-                alloc,
-                tables,
-                index,
-                class,
-                before.classes,
-                before.events,
-                found,
-            )?;
+            check_class(alloc, tables, index, class, before.classes, before.events, found)?;
             Ok(())
         }
         ItemForm::Routine { routine } => {

@@ -1,8 +1,8 @@
 -- The constructors of a class that stand outside of it bind what the items of the program bind.
-use Rattle.std.proofs.Common.{◌≡◌, ℕ, List, [], ◌∷◌, Bool, true, false, ◌&&◌, ◌||◌, if◌then◌else◌, refl, ap, sym, ◌∙◌}
+use Rattle.std.proofs.Common.{◌≡◌, ℕ, List, [], ◌∷◌, ◌++◌, Bool, true, false, ◌&&◌, ◌||◌, if◌then◌else◌, refl, ap, sym, ◌∙◌}
 use Rattle.std.specs.List.{list_any}
 use Rattle.std.proofs.lemmas.List.Folds.{list_any-append}
-use Rattle.uc_tree.specs.Programs.{Item, ClassItem, RoutineItem, ConstItem, ProtoItem, ForwardItem, UsingItem, Program, Routine}
+use Rattle.uc_tree.specs.Programs.{Class, Item, ClassItem, RoutineItem, ConstItem, ProtoItem, ForwardItem, UsingItem, Program, Routine}
 use Rattle.uc_meaning.specs.ClassBreaks.{is_owner}
 use Rattle.uc_meaning.specs.Names.{is_constructor}
 use Rattle.uc_meaning.specs.OwnerBreaks.{init_binds, item_binds, routine_binds}

@@ -1,5 +1,5 @@
 -- The constructors of a class among groups.
-use Rattle.std.proofs.Common.{◌≡◌, ℕ, zero, suc, ◌+◌, ◌-◌, ◌≤◌, ◌<◌, List, [], ◌∷◌, ◌++◌, Bool, true, false, Some, None, if◌then◌else◌, option_map, unwrap_or, slice_get, get_or, drop, length, map, refl, ap, sym, ◌∙◌, arith, append_assoc, set}
+use Rattle.std.proofs.Common.{◌≡◌, ℕ, zero, suc, ◌+◌, ◌-◌, ◌≤◌, ◌<◌, List, [], ◌∷◌, ◌++◌, Bool, true, false, Option, Some, None, if◌then◌else◌, option_map, unwrap_or, slice_get, get_or, drop, length, map, refl, ap, sym, ◌∙◌, arith, append_assoc, set}
 use Rattle.std.proofs.lemmas.List.{append-nil}
 use Rattle.std.specs.Cmp.Lexicographic.{bytes_decides}
 use Rattle.uc_tree.specs.Names.{same_name}
@@ -47,9 +47,9 @@ apart : (g x name : List ℕ) (r : Routine) → same_name g x ≡ false → same
 apart g x name r differs same =
     let is : g ≡ name = (bytes_decides g name).0 same in
     apart_case x name r (same_name x name) refl (λ e.
-    let also : x ≡ name = (bytes_decides x name).0 e in
-    let both : g ≡ x = is ∙ sym also in
-    sym ((bytes_decides g x).1 both) ∙ differs)
+      let also : x ≡ name = (bytes_decides x name).0 e in
+      let both : g ≡ x = is ∙ sym also in
+      sym ((bytes_decides g x).1 both) ∙ differs)
 
 -- one more in a group
 pub owners_kept : (gs : List Group) (i : ℕ) (r : Routine) → owners (grown_at gs i r) ≡ owners gs

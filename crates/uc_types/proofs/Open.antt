@@ -1,5 +1,5 @@
 -- Where a break would not be the first, nothing that asks for it changes what was found.
-use Rattle.std.proofs.Common.{◌≡◌, Bool, true, false, Some, if◌then◌else◌, refl, ap}
+use Rattle.std.proofs.Common.{◌≡◌, [], ◌∷◌, Bool, true, false, Option, Some, if◌then◌else◌, refl, ap}
 use Rattle.uc_tree.specs.declared.pos.Pos.{Pos}
 use Rattle.uc_meaning.specs.declared.rule.Rule.{Rule}
 use Rattle.uc_meaning.specs.declared.rule.Break.{Break}

@@ -1,4 +1,4 @@
-use Rattle.std.proofs.Common.{◌||◌, List, Bool, ap, ◌∙◌, map}
+use Rattle.std.proofs.Common.{◌≡◌, ◌||◌, List, Bool, ap, ◌∙◌, map}
 use Rattle.std.specs.List.{list_any}
 use Rattle.uc_tree.specs.Programs.{Member, Routine}
 use Rattle.uc_meaning.specs.OwnerBreaks.{form_binds, is_bound_inside, routine_binds}
