@@ -23,7 +23,8 @@ use uc_frames::work::Work;
 use uc_meaning::entry::{Entry, EntryKind, Options};
 use uc_meaning::list::List;
 use uc_meaning::request::Answer;
-use uc_ride::ride::ride_on;
+use uc_outside::OpenGate;
+use uc_ride::ride::ride;
 use uc_step::begin::begin;
 
 /// Runs the program's one task, whose main is the routine of this number, on this input under these options, with one
@@ -104,7 +105,8 @@ fn go_on(
         all: 0,
     };
     'requests: loop {
-        let ridden = ride_on(code, &mut work, given, opts.slice - tally.since)?;
+        let ridden = ride(code, work, given, opts.slice - tally.since, &OpenGate, 0, 0)?;
+        work = ridden.work;
         let kept = keep(
             &mut journal,
             &mut tally,

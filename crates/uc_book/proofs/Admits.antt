@@ -38,7 +38,7 @@ use Rattle.uc_book.proofs.Marks.{last_all, marks_by, marked_same, marked_set, en
 use Rattle.uc_book.proofs.Steps.{with_parts, freed, run_processor}
 
 -- a task in a queue of an object
-pub queued_spot : (o : ℕ) (P : Spot) → queued_at o P ≡ true → is_at P ≡ true
+queued_spot : (o : ℕ) (P : Spot) → queued_at o P ≡ true → is_at P ≡ true
 queued_spot o (At q) h = refl
 queued_spot o Unborn h = cc
 queued_spot o Ended h = cc

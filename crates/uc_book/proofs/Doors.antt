@@ -1,5 +1,5 @@
 -- The doors, the waits and the pending events with one entry more.
-use Rattle.std.proofs.Common.{◌≡◌, ◌≢◌, ℕ, ℤ, ◌==◌, ◌+◌, ◌<◌, Bool, true, false, List, [], ◌∷◌, ◌++◌, Option, None, map, refl, sym, ap, ◌∙◌, subst, arith, length, get_or-set_same, get_or-set_other, length-set}
+use Rattle.std.proofs.Common.{◌≡◌, ◌≢◌, ℕ, ◌==◌, ◌+◌, ◌<◌, Bool, true, false, List, [], ◌∷◌, ◌++◌, Option, None, map, refl, sym, ap, ◌∙◌, subst, arith, length, get_or-set_same, get_or-set_other, length-set}
 use Rattle.std.specs.List.{AllByRecursion}
 use Rattle.std.proofs.lemmas.Bool.{eqb-true, eq-eqb}
 use Rattle.uc_tree.specs.Programs.{Site}
@@ -30,9 +30,7 @@ use Rattle.uc_condition.proofs.Mirrors.{others as other_waits}
 use Rattle.uc_events.specs.Pending.{Event}
 use Rattle.uc_events.specs.Laws.{tells}
 use Rattle.uc_events.proofs.Mirrors.{others as other_events}
-use Rattle.uc_meaning.specs.Pending.{pending_by}
 use Rattle.uc_book.specs.Mirrors.{DoorsAre, WaitsAre, EventsAre, OwnersAre}
-use Rattle.uc_book.proofs.Fresh.{pending_other}
 
 pub no_both : (b : Bool) → b ≡ true → b ≡ false → ⊥
 no_both b t f = cc
@@ -104,7 +102,7 @@ module _ (sites : List Site) (j : Journal) (v : Doors) (h : DoorsAre sites j v) 
           subst (λ u. IsDoor sites u (j ++ e ∷ []) (door_at (with_door v e.object d) u)) same (rw (get_or-set_same v.doors e.object d _ lt') at)
 
 -- a task that waits at no object and is on no stack
-pub stacks_apart : (t : ℕ) (ss : List OnStack) (xs : List (ℕ × ℕ)) → xs ≡ map pair ss → times t (map (λ s. s.task) ss) ≡ 0 → AllByRecursion (λ s. s.0 ≢ t) xs
+stacks_apart : (t : ℕ) (ss : List OnStack) (xs : List (ℕ × ℕ)) → xs ≡ map pair ss → times t (map (λ s. s.task) ss) ≡ 0 → AllByRecursion (λ s. s.0 ≢ t) xs
 stacks_apart t ss xs is h = subst (AllByRecursion (λ s. s.0 ≢ t)) (sym is) (in_none (λ s. s.0) t (map pair ss) (ap (times t) (firsts ss) ∙ h))
   where
     firsts : (ss : List OnStack) → map (λ s. s.0) (map pair ss) ≡ map (λ s. s.task) ss
@@ -131,20 +129,14 @@ idle_by j v h s t b o c =
     subst (AllByRecursion (λ w. w.0 ≢ t)) (sym (h.blocked o c)) (in_none (λ w. w.0) t (blocked o c j) (s.seats t (Blocked o c) ∙ b o c))
 
 -- ---- pending events
-pub no_event : (k : EntryKind) (e : Entry) (t : ℕ) (ps : List (ℕ × ℤ × ℤ)) → tells k ≡ false → pending_by t ps k e ≡ ps
-no_event kind.Raise e t ps h = cc
-no_event kind.Poll e t ps h = cc
-no_event k e t ps h = refl
-
 pub events_silent : (j : Journal) (all : List (List Event)) (e : Entry) → EventsAre j all → is_spawn e.kind ≡ false → tells e.kind ≡ false → EventsAre (j ++ e ∷ []) all
 events_silent j all e h n s = record {
   pending = other_events all j e s h.pending;
-  known = h.known ∙ sym (same_tasks j e n);
-  fresh = λ t le. pending_other t j e (λ ps. no_event e.kind e t ps s) ∙ h.fresh t le;
+  known = rw (same_tasks j e n) h.known;
 }
 
 -- ---- own objects
-pub owner_other : (o : ℕ) (j : Journal) (e : Entry) → owned e.kind e ≡ None → owner o (j ++ e ∷ []) ≡ owner o j
+owner_other : (o : ℕ) (j : Journal) (e : Entry) → owned e.kind e ≡ None → owner o (j ++ e ∷ []) ≡ owner o j
 unfolding owner
 owner_other o j e n = by (e.object == o) refl
   where
@@ -152,7 +144,7 @@ owner_other o j e n = by (e.object == o) refl
     by false g = ap (still_open (λ e. owned e.kind e) (λ e t. false)) (at_other o j e g)
     by true g = ap (still_open (λ e. owned e.kind e) (λ e t. false)) (at_push o j e true g) ∙ still_open_silent (λ e. owned e.kind e) (λ e t. false) (entries_at o j) e n (λ a. refl)
 
-pub own_other : (t : ℕ) (j : Journal) (e : Entry) → owns t e.kind e ≡ None → own_object t (j ++ e ∷ []) ≡ own_object t j
+own_other : (t : ℕ) (j : Journal) (e : Entry) → owns t e.kind e ≡ None → own_object t (j ++ e ∷ []) ≡ own_object t j
 unfolding own_object
 own_other t j e n = ap first_or_0 (still_open_silent (λ e. owns t e.kind e) (λ e o. false) j e n (λ a. refl))
 

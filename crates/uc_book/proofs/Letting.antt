@@ -60,9 +60,6 @@ still_there opts sites j doors waits events standing marks ins owners own h o d 
   few = h.few;
   sound = h.sound;
   stood = h.stood;
-  known_sites = h.known_sites;
-  owned = h.owned;
-  fresh = h.fresh;
 }
 
 module _ (opts : Options) (sites : List Site) (j : Journal) (doors : Doors) (waits : Waiting) (events : List (List Event)) (standing : Standing) (marks ins : List Bool) (owners : List (Option ℕ)) (own : List ℕ) (h : Mirrors opts sites j doors waits events standing marks ins owners own) (o : ℕ) (known : o < object_count j) where

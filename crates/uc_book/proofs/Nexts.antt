@@ -70,7 +70,7 @@ module _ (sites : List Site) (o : ℕ) (j : Journal) (d : Door) (at : IsDoor sit
   stack_tasks = ap (map (λ x. x.0)) at.stacked ∙ firsts (stack_at sites o j) ∙ st.tasks o
 
   -- a task stands once at its station
-  pub once : (t : ℕ) (ts : List ℕ) (r : Station) → spot t j ≡ At r → times t (t ∷ ts) ≡ here r (spot t j) → times t ts ≡ 0
+  once : (t : ℕ) (ts : List ℕ) (r : Station) → spot t j ≡ At r → times t (t ∷ ts) ≡ here r (spot t j) → times t ts ≡ 0
   once t ts r p h =
       let self = self_test t in
       let one : suc (times t ts) ≡ one_if (is_same r r) = simp self at (h ∙ ap (here r) p) in
@@ -80,7 +80,7 @@ module _ (sites : List Site) (o : ℕ) (j : Journal) (d : Door) (at : IsDoor sit
       by true e = omega arith
       by false e = absurd (omega arith)
 
-  pub waits_none : (t : ℕ) → here (Waits o) (spot t j) ≡ 0 → AllByRecursion (λ w. w.0 ≢ t) d.waiting
+  waits_none : (t : ℕ) → here (Waits o) (spot t j) ≡ 0 → AllByRecursion (λ w. w.0 ≢ t) d.waiting
   waits_none t h = subst (AllByRecursion (λ w. w.0 ≢ t)) (sym at.waiting) (in_none (λ w. w.0) t (waiting o j) (s.seats t (Waits o) ∙ h))
 
   -- what a door answers to who is next

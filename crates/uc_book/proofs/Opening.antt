@@ -24,9 +24,7 @@ use Rattle.uc_events.specs.Pending.{pending_at}
 use Rattle.uc_cluster.specs.Standing.{opening, made_ready, place_of, or_0}
 use Rattle.uc_cluster.specs.Standing.{queue_at as cluster_queue}
 use Rattle.uc_cluster.proofs.Asked.{opens_so}
-use Rattle.uc_book.specs.Mirrors.{Mirrors, AreKnownSites, queued_at, is_at}
-use Rattle.uc_book.proofs.Owners.{owner_made, no_owner}
-use Rattle.uc_book.proofs.Fresh.{fresh_step, fresh_none}
+use Rattle.uc_book.specs.Mirrors.{Mirrors, queued_at, is_at}
 
 stood_none : (sites : List Site) → Stood sites []
 unfolding waiting stacked stack_at open_at entries_at
@@ -84,8 +82,8 @@ not_there opts t h = ap is_at (spot_stays [] (begin opts) t h ∙ spot_none t)
 clash : {A : Type 0} → true ≡ false → A
 clash e = cc
 
-pub mirrors_begin : (sites : List Site) → AreKnownSites sites → (opts : Options) (n : ℕ) → n ≡ TASKS → (waits : Waiting) → waits.tasks ≡ TASKS → waits.objects ≡ 1 → ((o c : ℕ) → queue_at waits o c ≡ []) → Mirrors opts sites (begin opts ∷ []) (with_new (no_doors n) 0) waits ([] ∷ []) (made_ready 0 (opening opts.processors n)) (replicate n false) (false ∷ []) (Some 0 ∷ []) (replicate n 0)
-mirrors_begin sites known opts n size waits pool objects none = record {
+pub mirrors_begin : (sites : List Site) (opts : Options) (n : ℕ) → n ≡ TASKS → (waits : Waiting) → waits.tasks ≡ TASKS → waits.objects ≡ 1 → ((o c : ℕ) → queue_at waits o c ≡ []) → Mirrors opts sites (begin opts ∷ []) (with_new (no_doors n) 0) waits ([] ∷ []) (made_ready 0 (opening opts.processors n)) (replicate n false) (false ∷ []) (Some 0 ∷ []) (replicate n 0)
+mirrors_begin sites opts n size waits pool objects none = record {
   doors_are = record {
     made = sym (counts_begin opts).0;
     pool = size;
@@ -98,8 +96,7 @@ mirrors_begin sites known opts n size waits pool objects none = record {
   };
   events_are = record {
     pending = λ t lt. first_pending t lt;
-    known = sym (counts_begin opts).1;
-    fresh = λ t le. nothing_pending opts t;
+    known = rw (counts_begin opts).1 (omega arith);
   };
   clusters_are = record {
     ready_are = (opens_so opts n some).0;
@@ -126,9 +123,6 @@ mirrors_begin sites known opts n size waits pool objects none = record {
   few = rw (counts_begin opts).1 (omega arith);
   sound = (good_begin opts).sound;
   stood = stood_step sites (begin opts) [] sound_none (legal_begin opts) (stood_none sites);
-  known_sites = known;
-  owned = owner_made [] (begin opts) refl (λ o t h. absurd (no_owner o t h));
-  fresh = fresh_step (begin opts) [] (legal_begin opts) fresh_none;
 }
   where
     some : 0 < n

@@ -1,5 +1,5 @@
 -- All parts with one entry more.
-use Rattle.std.proofs.Common.{◌≡◌, ℕ, ℤ, ◌==◌, ◌<◌, ◌≤◌, cond, Bool, true, false, List, [], ◌∷◌, ◌++◌, Option, Some, None, refl, sym, ap, ◌∙◌, subst, arith, length, length-set}
+use Rattle.std.proofs.Common.{◌≡◌, ℕ, ◌==◌, ◌<◌, Bool, true, false, List, [], ◌∷◌, ◌++◌, Option, Some, None, refl, sym, ap, ◌∙◌, subst, arith, length, length-set}
 use Rattle.std.specs.Option.{is_some}
 use Rattle.std.proofs.lemmas.Bool.{eqb-true, eq-eqb}
 use Rattle.uc_tree.specs.declared.limits.TheConstants.{TASKS}
@@ -29,7 +29,7 @@ use Rattle.uc_events.specs.Pending.{Event}
 use Rattle.uc_events.specs.Laws.{tells, ArePending}
 use Rattle.uc_events.specs.Pending.{pending_at, with_pending, without_oldest}
 use Rattle.uc_events.proofs.Mirrors.{poll}
-use Rattle.uc_meaning.specs.Pending.{pending, pending_by, oldest_in}
+use Rattle.uc_meaning.specs.Pending.{pending, oldest_in}
 use Rattle.uc_meaning.specs.Acts.{poll_entry}
 use Rattle.uc_cluster.specs.Standing.{Standing, IsPlaced, IsUnready, queue_at, processor_at, place_of, with_processor, with_place, made_ready, or_0}
 use Rattle.uc_cluster.proofs.Places.{ended}
@@ -44,8 +44,6 @@ use Rattle.uc_cluster.proofs.Desks.{open_stays}
 use Rattle.uc_book.specs.Mirrors.{Mirrors, DoorsAre, WaitsAre, EventsAre, ClustersAre, MarksAre, OwnersAre, queued_at, is_at, is_quiet, is_still, is_calm, is_leave, is_back}
 use Rattle.uc_book.proofs.Doors.{same_tasks, doors_silent, doors_set, waits_silent, events_silent, owners_silent}
 use Rattle.uc_book.proofs.Clusters.{Keeps, cluster_stays, clusters_by, ready_stays, ready_back, run_stays, run_set, off_now, known_processor, unready_by}
-use Rattle.uc_book.proofs.Owners.{owner_made}
-use Rattle.uc_book.proofs.Fresh.{fresh_step, pending_push}
 use Rattle.uc_book.proofs.Marks.{last_all, marks_by, marked_same, entered_same}
 
 -- what an entry leaves alone: all but doors and pending events
@@ -120,9 +118,6 @@ module _ (opts : Options) (sites : List Site) (j : Journal) (doors : Doors) (wai
     few = rw (same_tasks j e sp) h.few;
     sound = sound_step e j h.sound l;
     stood = stood_step sites e j h.sound l h.stood;
-    known_sites = h.known_sites;
-    owned = owner_made j e sp h.owned;
-    fresh = fresh_step e j l h.fresh;
   }
 
 still_door : (k : EntryKind) → is_still k ≡ true → is_silent k ≡ true
@@ -210,19 +205,6 @@ pub m_quiet : (opts : Options) (sites : List Site) (j : Journal) (doors : Doors)
 m_quiet opts sites j doors waits events standing marks ins owners own h e l k =
     let q = calm_now e.kind e (still_calm e.kind (quiet_still e.kind k)) in
     m_still opts sites j doors waits events standing marks ins owners own h e l (quiet_still e.kind k) events (events_silent j events e h.events_are q.spawn (quiet_events e.kind k))
-
--- a poll finds nothing where nothing is pending
-poll_none : (p t k mask u : ℕ) (x : Option (ℕ × ℤ × ℤ)) → pending_by u [] (poll_entry p t k mask x).kind (poll_entry p t k mask x) ≡ []
-poll_none p t k mask u None = by (t == u)
-  where
-    by : (b : Bool) → cond {A = List (ℕ × ℤ × ℤ)} b [] [] ≡ []
-    by true = refl
-    by false = refl
-poll_none p t k mask u (Some r) = by (t == u)
-  where
-    by : (b : Bool) → cond {A = List (ℕ × ℤ × ℤ)} b [] [] ≡ []
-    by true = refl
-    by false = refl
 
 -- what an entry of a kind that sends its task to the back does
 pub record Back (k : EntryKind) (e : Entry) : Type 0 where
@@ -423,12 +405,8 @@ module _ (opts : Options) (sites : List Site) (j : Journal) (doors : Doors) (wai
       let spawn : is_spawn e.kind ≡ false = (calm_now e.kind e (still_calm e.kind still)).spawn in
       m_still opts sites j doors waits events standing marks ins owners own h e l still (with_pending events t (without_oldest mask (pending_at events t))) (record {
         pending = subst (λ (x : Entry). ArePending (with_pending events t (without_oldest mask (pending_at events t))) (j ++ x ∷ [])) (sym is) (poll events j p t k mask lt h.events_are.pending);
-        known = length-set events t (without_oldest mask (pending_at events t)) ∙ h.events_are.known ∙ sym (same_tasks j e spawn);
-        fresh = λ u g. poll_fresh u (subst (λ n. n ≤ u) (length-set events t (without_oldest mask (pending_at events t))) g);
+        known = rw (same_tasks j e spawn, length-set events t (without_oldest mask (pending_at events t))) h.events_are.known;
       })
-    where
-      poll_fresh : (u : ℕ) → length events ≤ u → pending u (j ++ e ∷ []) ≡ []
-      poll_fresh u g = subst (λ (x : Entry). pending u (j ++ x ∷ []) ≡ []) (sym is) (pending_push u j (poll_entry p t k mask (oldest_in mask (pending_at events t))) ∙ ap (λ ps. pending_by u ps (poll_entry p t k mask (oldest_in mask (pending_at events t))).kind (poll_entry p t k mask (oldest_in mask (pending_at events t)))) (h.events_are.fresh u g) ∙ poll_none p t k mask u (oldest_in mask (pending_at events t)))
 
   pub poll_found : (p t mask : ℕ) → running p j ≡ t ∷ [] → oldest_in mask (pending_at events t) ≡ oldest_in mask (pending t j)
   poll_found p t mask r =

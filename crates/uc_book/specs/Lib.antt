@@ -1,3 +1,1 @@
 pub mod Mirrors
-pub mod Acting
-pub mod Waiters

@@ -1,7 +1,6 @@
 -- What contracts see of a kernel's core, and how its parts mirror the journal.
-use Rattle.std.specs.Prelude.{◌≡◌, ◌⊎◌, ℕ, pos, ◌==◌, ◌+◌, ◌<◌, ◌≤◌, Bool, true, false, List, [], ◌∷◌, ◌++◌, Option, Some, None, length, slice_index_or}
+use Rattle.std.specs.Prelude.{◌≡◌, ◌⊎◌, ℕ, pos, ◌==◌, ◌+◌, ◌<◌, ◌≤◌, Bool, true, false, List, [], ◌∷◌, ◌++◌, Option, Some, length, slice_index_or}
 use Rattle.std.specs.Option.{option_to_list}
-use Rattle.std.specs.List.{AllByRecursion, list_any}
 use Rattle.uc_tree.specs.Programs.{Site}
 use Rattle.uc_tree.specs.declared.limits.TheConstants.{TASKS}
 use Rattle.uc_meaning.specs.declared.entry.Entry.{Entry}
@@ -9,12 +8,10 @@ use Rattle.uc_meaning.specs.declared.entry.EntryKind.{EntryKind}
 use Rattle.uc_meaning.specs.declared.entry.EntryKind.TheVariants as kind
 use Rattle.uc_meaning.specs.declared.entry.Options.{Options}
 use Rattle.uc_meaning.specs.declared.request.Request.{Request}
-use Rattle.uc_meaning.specs.Journal.{Journal, inside, own_object, owns, entries_at, is_over, holds}
-use Rattle.uc_meaning.specs.Queues.{running, cluster_of, next, last_actor, tasks_on}
-use Rattle.uc_meaning.specs.Doors.{calls_destructor, last_call}
+use Rattle.uc_meaning.specs.Journal.{Journal, inside, own_object, is_over, holds}
+use Rattle.uc_meaning.specs.Queues.{running, cluster_of, next, last_actor}
+use Rattle.uc_meaning.specs.Doors.{calls_destructor}
 use Rattle.uc_meaning.specs.Known.{object_count, task_count, owner}
-use Rattle.uc_meaning.specs.Open.{still_open}
-use Rattle.uc_meaning.specs.Pending.{pending as pending_at_task}
 use Rattle.uc_meaning.specs.Stations.{Waits, Stacked, Blocked}
 use Rattle.uc_meaning.specs.Sound.{Spot, At, spot, here, Sound, Stood}
 use Rattle.uc_meaning.specs.Acts.{entries_of, clause_by_way}
@@ -22,7 +19,6 @@ use Rattle.uc_meaning.specs.Legal.{Legal}
 use Rattle.uc_mutex.specs.Doors.{Doors, door_at}
 use Rattle.uc_mutex.specs.declared.called.Passed.{Passed}
 use Rattle.uc_mutex.specs.Laws.{IsDoor}
-use Rattle.uc_mutex.specs.Offers.{IsKnownSite}
 use Rattle.uc_condition.specs.Waiting.{Waiting}
 use Rattle.uc_condition.specs.Laws.{AreBlocked}
 use Rattle.uc_events.specs.Pending.{Event}
@@ -43,10 +39,6 @@ abbrev pub is_at : Spot → Bool
 is_at (At q) = true
 is_at _ = false
 
--- accept statements that the kernel may be asked for
-abbrev pub AreKnownSites : List Site → Type 0
-AreKnownSites sites = AllByRecursion IsKnownSite sites
-
 -- ---- each part mirrors the journal
 pub record DoorsAre (sites : List Site) (j : Journal) (v : Doors) : Type 0 where
   pub made : length v.doors ≡ object_count j
@@ -60,8 +52,7 @@ pub record WaitsAre (j : Journal) (v : Waiting) : Type 0 where
 
 pub record EventsAre (j : Journal) (all : List (List Event)) : Type 0 where
   pub pending : ArePending all j
-  pub known : length all ≡ task_count j
-  pub fresh : (t : ℕ) → length all ≤ t → pending_at_task t j ≡ []
+  pub known : task_count j ≤ length all
 
 pub record ClustersAre (opts : Options) (j : Journal) (v : Standing) : Type 0 where
   pub ready_are : AreReady v j
@@ -87,17 +78,6 @@ pub record OwnersAre (j : Journal) (owners : List (Option ℕ)) (own : List ℕ)
   pub objects : length owners ≡ object_count j
   pub tasks : length own ≡ TASKS
 
--- the objects whose task is t
-abbrev pub own_objects : ℕ → Journal → List ℕ
-own_objects t j = still_open (λ e. owns t e.kind e) (λ e o. false) j
-
--- of objects and tasks that are not made yet the journal tells nothing
-pub record Fresh (j : Journal) : Type 0 where
-  pub at : (o : ℕ) → object_count j ≤ o → entries_at o j ≡ []
-  pub uncalled : (o t : ℕ) → task_count j ≤ t → last_call o j t ≡ None
-  pub unowned : (t : ℕ) → task_count j ≤ t → own_objects t j ≡ []
-  pub unplaced : (k t : ℕ) → task_count j ≤ t → list_any (λ u. u == t) (tasks_on k j) ≡ false
-
 pub record Mirrors (opts : Options) (sites : List Site) (j : Journal) (doors : Doors) (waits : Waiting) (events : List (List Event)) (standing : Standing) (marks inside_marks : List Bool) (owners : List (Option ℕ)) (own : List ℕ) : Type 0 where
   pub doors_are : DoorsAre sites j doors
   pub waits_are : WaitsAre j waits
@@ -108,10 +88,6 @@ pub record Mirrors (opts : Options) (sites : List Site) (j : Journal) (doors : D
   pub few : task_count j ≤ TASKS
   pub sound : Sound j
   pub stood : Stood sites j
-  pub known_sites : AreKnownSites sites
-  -- whoever owns an object is a task
-  pub owned : (o t : ℕ) → owner o j ≡ t ∷ [] → t < task_count j
-  pub fresh : Fresh j
 
 -- ---- what contracts see
 pub record Seen : Type 0 where

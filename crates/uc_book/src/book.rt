@@ -10,13 +10,14 @@ ghost use Rattle.uc_meaning.specs.Doors.{has_others, blocked};
 ghost use Rattle.uc_meaning.specs.Known.{object_count, task_count};
 ghost use Rattle.uc_meaning.specs.declared.request.Request.TheVariants as ask;
 ghost use Rattle.uc_chronicle.specs.Saying.{IsSayable};
+ghost use Rattle.uc_chronicle.specs.Told.{AreShort};
 ghost use Rattle.uc_cluster.specs.Standing.{opening, made_ready};
 ghost use Rattle.uc_meaning.specs.Acts.{fault, settled, admission};
 ghost use Rattle.uc_meaning.specs.Queues.{next, is_nobody};
 ghost use Rattle.uc_meaning.specs.KernelRuns.{IsAt, InRange};
 ghost use Rattle.uc_mutex.specs.Doors.{door_at, has_tasks, no_doors, with_new};
 ghost use Rattle.uc_condition.specs.Waiting.{IsBusy, queue_at, first_number};
-ghost use Rattle.uc_book.specs.Mirrors.{AreKnownSites, Appended, CanPut, IsAside, MayAct, rows, is_back, is_leave, is_quiet};
+ghost use Rattle.uc_book.specs.Mirrors.{Appended, CanPut, IsAside, MayAct, rows, is_back, is_leave, is_quiet};
 ghost use Rattle.uc_meaning.specs.Reading.{next_read, read_after, bytes_used, has_failed};
 ghost use Rattle.uc_tree.specs.declared.limits.TheConstants.{INPUT_BYTES};
 
@@ -41,21 +42,21 @@ use uc_tree::site::Site;
 /// The journal of a run and the queues of its kernel.
 #[derive(Drop)]
 pub struct Book {
-    pub(crate) told: Chronicle,
-    pub(crate) entries: Entries,
-    pub(crate) conditions: Conditions,
-    pub(crate) events: Events,
-    pub(crate) clusters: Clusters,
+    told: Chronicle,
+    entries: Entries,
+    conditions: Conditions,
+    events: Events,
+    clusters: Clusters,
     // By the task: whether the last call of an object in whose queue it is was of the destructor.
-    pub(crate) marks: Vec<bool>,
+    marks: Vec<bool>,
     // The same of the task inside, by the object.
-    pub(crate) inside_marks: Vec<bool>,
+    inside_marks: Vec<bool>,
     // By the object: the task whose own object it is.
-    pub(crate) owners: Vec<Option<u32>>,
+    owners: Vec<Option<u32>>,
     // By the task: its own object.
-    pub(crate) own: Vec<u32>,
-    pub(crate) opts: Options,
-    pub(crate) input: Vec<u8>,
+    own: Vec<u32>,
+    opts: Options,
+    input: Vec<u8>,
 }
 
 impl Model for Book {
@@ -77,7 +78,7 @@ impl Book {
         input: Vec<u8>,
     ) -> Result<Book, AllocError>
         requires options { InRange opts.now }
-        requires sites { AreKnownSites sites.items }
+        requires sites { AreShort sites.items }
         ensures { IfOk result (λ b. b ≡ record { journal = begin opts.now ∷ []; sites = sites.items; opts = opts.now; input = input.items }) }
     {
         let told = Chronicle::new(alloc, opts, sites, TASKS, opts.entries + 40)?;
@@ -119,7 +120,7 @@ impl Book {
     }
 
     /// What is known of the journal while the run goes on.
-    pub(crate) fn facts(&self, processor: u8, task: u32)
+    fn facts(&self, processor: u8, task: u32)
         requires may { MayAct self.now processor task }
         ensures known { task < TASKS }
         ensures sound { Sound self.now.journal }
@@ -131,7 +132,7 @@ impl Book {
     }
 
     /// An entry that touches no queue.
-    pub(crate) fn put_quiet(&mut self, e: Entry)
+    fn put_quiet(&mut self, e: Entry)
         requires can { CanPut self.old e }
         requires quiet { is_quiet e.kind ≡ true }
         requires sayable { IsSayable TASKS e.kind e }
@@ -141,7 +142,7 @@ impl Book {
     }
 
     /// An entry that ends the run.
-    pub(crate) fn put_ending(&mut self, e: Entry)
+    fn put_ending(&mut self, e: Entry)
         requires going { is_over self.old.journal ≡ false }
         requires ends { is_ending e.kind ≡ true }
         requires room { length self.old.journal < self.old.opts.entries + 40 }
@@ -152,7 +153,7 @@ impl Book {
     }
 
     /// An entry by which its task goes to the back of the ready queue of its cluster.
-    pub(crate) fn put_back(&mut self, e: Entry)
+    fn put_back(&mut self, e: Entry)
         requires can { CanPut self.old e }
         requires back { is_back e.kind ≡ true }
         requires runs { running e.proc self.old.journal ≡ e.task ∷ [] }
@@ -164,7 +165,7 @@ impl Book {
     }
 
     /// Whoever is inside goes out, and goes on to run.
-    pub(crate) fn put_out(&mut self, e: Entry)
+    fn put_out(&mut self, e: Entry)
         requires can { CanPut self.old e }
         requires leaves { is_leave e.kind ≡ true }
         requires within { inside e.object self.old.journal ≡ e.task ∷ [] }
@@ -176,7 +177,7 @@ impl Book {
     }
 
     /// Lets in whoever is next at an object that nobody is inside, or ends the run where that would destroy what is in use.
-    pub(crate) fn admit_next(&mut self, who: Actor, object: u32)
+    fn admit_next(&mut self, who: Actor, object: u32)
         requires going { is_over self.old.journal ≡ false }
         requires known { object < object_count self.old.journal }
         requires room { length self.old.journal < self.old.opts.entries + 40 }
@@ -201,7 +202,7 @@ impl Book {
     }
 
     /// A task leaves an object.
-    pub(crate) fn leave(&mut self, who: Actor, object: u32)
+    pub fn leave(&mut self, who: Actor, object: u32)
         requires may { MayAct self.old who.processor who.task }
         requires at { IsAt who.task object self.old.journal }
         ensures { Appended self.old self.new (rows self.old who.processor who.task who.ticks who.line (ask.Leave object)) }
@@ -212,7 +213,7 @@ impl Book {
     }
 
     /// A task has built an object, and leaves it.
-    pub(crate) fn made(&mut self, who: Actor, object: u32)
+    pub fn made(&mut self, who: Actor, object: u32)
         requires may { MayAct self.old who.processor who.task }
         requires at { IsAt who.task object self.old.journal }
         ensures { Appended self.old self.new (rows self.old who.processor who.task who.ticks who.line (ask.Made object)) }
@@ -223,7 +224,7 @@ impl Book {
     }
 
     /// The main of a task ends: its task goes out of its own object, and runs and stands nowhere any more.
-    pub(crate) fn put_end(&mut self, e: Entry)
+    fn put_end(&mut self, e: Entry)
         requires can { CanPut self.old e }
         requires ends { e.kind ≡ kind.End }
         requires runs { running e.proc self.old.journal ≡ e.task ∷ [] }
@@ -237,7 +238,7 @@ impl Book {
         self.clusters.end_task(e.task);
     }
 
-    pub(crate) fn own_object(&self, task: u32) -> u32
+    fn own_object(&self, task: u32) -> u32
         requires going { is_over self.now.journal ≡ false }
         requires known { task < TASKS }
         ensures { result ≡ own_object task self.now.journal }
@@ -246,7 +247,7 @@ impl Book {
     }
 
     /// The main of a task ends.
-    pub(crate) fn end(&mut self, who: Actor)
+    pub fn end(&mut self, who: Actor)
         requires may { MayAct self.old who.processor who.task }
         requires at { IsAt who.task (own_object who.task self.old.journal) self.old.journal }
         ensures { Appended self.old self.new (rows self.old who.processor who.task who.ticks who.line ask.End) }
@@ -258,7 +259,7 @@ impl Book {
     }
 
     /// Whether a task other than the acting one is in a queue of an object.
-    pub(crate) fn has_others(&self, who: Actor, object: u32) -> bool
+    fn has_others(&self, who: Actor, object: u32) -> bool
         requires may { MayAct self.now who.processor who.task }
         requires known { object < object_count self.now.journal }
         ensures { result ≡ has_others object who.task self.now.journal }
@@ -267,7 +268,7 @@ impl Book {
     }
 
     /// A task has destroyed an object.
-    pub(crate) fn gone(&mut self, who: Actor, object: u32)
+    pub fn gone(&mut self, who: Actor, object: u32)
         requires may { MayAct self.old who.processor who.task }
         requires at { IsAt who.task object self.old.journal }
         ensures { Appended self.old self.new (rows self.old who.processor who.task who.ticks who.line (ask.Gone object)) }
@@ -288,7 +289,7 @@ impl Book {
         self.conditions.front(object, cond)
     }
 
-    pub(crate) fn nobody_on(&self, object: u32, cond: u16) -> bool
+    fn nobody_on(&self, object: u32, cond: u16) -> bool
         requires going { is_over self.now.journal ≡ false }
         ensures { result ≡ is_nobody (blocked object cond self.now.journal) }
     {
@@ -299,7 +300,7 @@ impl Book {
     }
 
     /// A task asks whether nobody waits on a condition.
-    pub(crate) fn empty(&mut self, who: Actor, object: u32, cond: u16)
+    pub fn empty(&mut self, who: Actor, object: u32, cond: u16)
         requires may { MayAct self.old who.processor who.task }
         requires at { IsAt who.task object self.old.journal }
         ensures { Appended self.old self.new (rows self.old who.processor who.task who.ticks who.line (ask.Empty object cond)) }
@@ -310,7 +311,7 @@ impl Book {
     }
 
     /// A task asks for the number of the front waiter of a condition.
-    pub(crate) fn front(&mut self, who: Actor, object: u32, cond: u16)
+    pub fn front(&mut self, who: Actor, object: u32, cond: u16)
         requires may { MayAct self.old who.processor who.task }
         requires at { IsAt who.task object self.old.journal }
         ensures { Appended self.old self.new (rows self.old who.processor who.task who.ticks who.line (ask.Front object cond)) }
@@ -323,7 +324,7 @@ impl Book {
     }
 
     /// A task takes the oldest event of the mask that is pending at it.
-    pub(crate) fn poll(&mut self, who: Actor, mask: u64)
+    pub fn poll(&mut self, who: Actor, mask: u64)
         requires may { MayAct self.old who.processor who.task }
         ensures { Appended self.old self.new (rows self.old who.processor who.task who.ticks who.line (ask.Poll mask)) }
     {
@@ -333,7 +334,7 @@ impl Book {
     }
 
     /// A request that is itself at fault.
-    pub(crate) fn fault(&mut self, who: Actor, number: u8)
+    pub fn fault(&mut self, who: Actor, number: u8)
         requires may { MayAct self.old who.processor who.task }
         ensures { Appended self.old self.new (rows self.old who.processor who.task who.ticks who.line (ask.Fault number)) }
     {
@@ -342,7 +343,7 @@ impl Book {
     }
 
     /// A task asks whether a read has failed.
-    pub(crate) fn fail(&mut self, who: Actor)
+    pub fn fail(&mut self, who: Actor)
         requires may { MayAct self.old who.processor who.task }
         ensures { Appended self.old self.new (rows self.old who.processor who.task who.ticks who.line ask.Fail) }
     {
@@ -352,7 +353,7 @@ impl Book {
     }
 
     /// A task goes to the back, after its slice.
-    pub(crate) fn slice(&mut self, who: Actor)
+    pub fn slice(&mut self, who: Actor)
         requires may { MayAct self.old who.processor who.task }
         ensures { Appended self.old self.new (rows self.old who.processor who.task who.ticks who.line ask.Slice) }
     {
@@ -361,7 +362,7 @@ impl Book {
     }
 
     /// A task goes to the back at will.
-    pub(crate) fn yields(&mut self, who: Actor)
+    pub fn yields(&mut self, who: Actor)
         requires may { MayAct self.old who.processor who.task }
         ensures { Appended self.old self.new (rows self.old who.processor who.task who.ticks who.line ask.Yield) }
     {
@@ -370,7 +371,7 @@ impl Book {
     }
 
     /// A task prints: one entry for each item, of which the first alone carries the ticks.
-    pub(crate) fn print(&mut self, who: Actor, n: u8, items: &[Piece; 32])
+    pub fn print(&mut self, who: Actor, n: u8, items: &[Piece; 32])
         requires may { MayAct self.old who.processor who.task }
         requires items { (1 ≤ n) × (n ≤ 32) }
         ensures { Appended self.old self.new (rows self.old who.processor who.task who.ticks who.line (ask.Print n items.now)) }
@@ -422,7 +423,7 @@ impl Book {
     }
 
     /// A task reads.
-    pub(crate) fn read(&mut self, who: Actor, form: u8)
+    pub fn read(&mut self, who: Actor, form: u8)
         requires may { MayAct self.old who.processor who.task }
         requires small { length self.old.input ≤ INPUT_BYTES }
         requires form { form ≤ 1 }
@@ -436,12 +437,7 @@ impl Book {
 }
 
 // Whether the caller of a destructor was let in where others wait, are stacked or are blocked.
-pub(crate) fn destroys_busy(
-    mark: bool,
-    entries: &Entries,
-    conditions: &Conditions,
-    object: u32,
-) -> bool
+fn destroys_busy(mark: bool, entries: &Entries, conditions: &Conditions, object: u32) -> bool
     ensures yes { result ≡ true → (mark ≡ true) × ((has_tasks (door_at entries.now object) ≡ true) ⊎ IsBusy object conditions.now) }
     ensures no { result ≡ false → (mark ≡ false) ⊎ ((has_tasks (door_at entries.now object) ≡ false) × ((c : ℕ) → queue_at conditions.now object c ≡ [])) }
 {

@@ -1,5 +1,5 @@
 //! Entries of a journal, one function for each shape.
-ghost use Rattle.std.specs.Prelude.{◌≡◌, ◌+◌, not, pos};
+ghost use Rattle.std.specs.Prelude.{◌≡◌, ◌+◌, pos};
 ghost use Rattle.uc_meaning.specs.Acts;
 ghost use Rattle.uc_meaning.specs.Acts.{truth, signed_64};
 ghost use Rattle.uc_meaning.specs.Journal;
@@ -47,50 +47,6 @@ pub(crate) fn plain_entry(kind: EntryKind, who: Actor, object: u32) -> Entry
     ensures { result ≡ Journal.entry kind who.processor who.task who.ticks object (pos 0) (pos 0) }
 {
     entry(kind, who.processor, who.task, who.ticks, object, 0, 0)
-}
-
-/// An entry of the acting task that names one or two numbers.
-pub(crate) fn number_entry(kind: EntryKind, who: Actor, a: u32, b: u32) -> Entry
-    ensures { result ≡ Journal.entry kind who.processor who.task who.ticks 0 (pos a) (pos b) }
-{
-    entry(
-        kind,
-        who.processor,
-        who.task,
-        who.ticks,
-        0,
-        i64::from(a),
-        i64::from(b),
-    )
-}
-
-/// An entry of the acting task that names an object and a number.
-pub(crate) fn object_entry(kind: EntryKind, who: Actor, object: u32, a: u32) -> Entry
-    ensures { result ≡ Journal.entry kind who.processor who.task who.ticks object (pos a) (pos 0) }
-{
-    entry(
-        kind,
-        who.processor,
-        who.task,
-        who.ticks,
-        object,
-        i64::from(a),
-        0,
-    )
-}
-
-/// How a run ends, without ticks.
-pub(crate) fn closing_entry(kind: EntryKind, processor: u8, task: u32) -> Entry
-    ensures { result ≡ Journal.entry kind processor task 0 0 (pos 0) (pos 0) }
-{
-    entry(kind, processor, task, 0, 0, 0, 0)
-}
-
-/// A processor is given a task.
-pub(crate) fn dispatch_entry(processor: u8, task: u32) -> Entry
-    ensures { result ≡ Acts.dispatch processor task }
-{
-    entry(EntryKind::Dispatch, processor, task, 0, 0, 0, 0)
 }
 
 pub(crate) fn print_entry(who: Actor, ticks: u32, piece: Piece) -> Entry
@@ -260,54 +216,4 @@ pub(crate) fn empty_entry(who: Actor, object: u32, cond: u16, nobody: bool) -> E
 {
     let holds = number_of(nobody);
     condition_entry(EntryKind::Empty, who, object, cond, holds)
-}
-
-/// A signal of a condition, and whether nobody waits there.
-pub(crate) fn signal_entry(who: Actor, object: u32, cond: u16, nobody: bool) -> Entry
-    ensures { result ≡ Journal.entry kind.Signal who.processor who.task who.ticks object (pos cond) (truth (not nobody)) }
-{
-    let found = number_of(!nobody);
-    condition_entry(EntryKind::Signal, who, object, cond, found)
-}
-
-/// An accept of a site with a mask of its true clauses, and how it went.
-pub(crate) fn accept_entry(
-    who: Actor,
-    object: u32,
-    site: u32,
-    mask: u32,
-    has_else: bool,
-    how: u8,
-) -> Entry
-    ensures { result ≡ Acts.accept_entry who.processor who.task who.ticks object site mask has_else how }
-{
-    let has_else = number_of(has_else);
-    Entry {
-        kind: EntryKind::Accept,
-        proc: who.processor,
-        task: who.task,
-        ticks: who.ticks,
-        object,
-        a: i64::from(site),
-        b: i64::from(mask),
-        c: has_else,
-        d: i64::from(how),
-    }
-}
-
-/// An event with its fields, raised at a task.
-pub(crate) fn raise_entry(who: Actor, object: u32, target: u32, event: u8, x: i64, y: i64) -> Entry
-    ensures { result ≡ Acts.raise_entry who.processor who.task who.ticks object target event x y }
-{
-    Entry {
-        kind: EntryKind::Raise,
-        proc: who.processor,
-        task: who.task,
-        ticks: who.ticks,
-        object,
-        a: i64::from(target),
-        b: i64::from(event),
-        c: x,
-        d: y,
-    }
 }

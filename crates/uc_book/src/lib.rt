@@ -1,16 +1,5 @@
-// The core of a kernel: each act follows the journal.
+// The kernel: each act follows the journal.
 #![tactic(auto)]
 
-mod accepts;
-mod act;
-mod answers;
 pub mod book;
-mod calls;
-mod dispatch;
 pub mod entries;
-mod finish;
-mod processors;
-mod raises;
-mod tasks;
-mod uncounted;
-mod waits;

@@ -4,10 +4,8 @@ use Rattle.std.specs.List.{AllByRecursion}
 use Rattle.uc_tree.specs.Programs.{Site}
 use Rattle.uc_tree.specs.declared.limits.TheConstants.{CLAUSES}
 use Rattle.uc_meaning.specs.declared.entry.Entry.{Entry}
-use Rattle.uc_meaning.specs.declared.entry.EntryKind.{EntryKind}
-use Rattle.uc_meaning.specs.declared.entry.EntryKind.TheVariants as kind
 use Rattle.uc_meaning.specs.declared.request.Answer.{Answer}
-use Rattle.uc_meaning.specs.Journal.{Journal, is_over, is_ending}
+use Rattle.uc_meaning.specs.Journal.{Journal, is_over}
 use Rattle.uc_meaning.specs.Queues.{used, all_ticks, first_ended}
 use Rattle.uc_meaning.specs.Reading.{bytes_used, has_failed}
 use Rattle.uc_meaning.specs.Answers.{answer_to}
@@ -43,12 +41,6 @@ pub record Tells (sites : List Site) (j : Journal) (total : ℕ) (each : List �
   pub failed : missed ≡ has_failed j
   pub ended : over ≡ first_ended j
 
--- the kind of the last entry
-abbrev pub last_kind : Journal → EntryKind
-last_kind [] = kind.Begin
-last_kind (e ∷ []) = e.kind
-last_kind (e ∷ f ∷ j) = last_kind (f ∷ j)
-
 -- while the run goes on
 pub record IsTold (sites : List Site) (j : Journal) (ticks : ℕ) (spent : List ℕ) (answers : List (Option Answer)) (bytes : ℕ) (failed ended : Bool) (room tasks : ℕ) : Type 0 where
   pub tells : is_over j ≡ false → Tells sites j ticks spent answers bytes failed ended
@@ -57,5 +49,3 @@ pub record IsTold (sites : List Site) (j : Journal) (ticks : ℕ) (spent : List 
   pub tasks_answers : length answers ≡ tasks
   pub short : AreShort sites
   pub narrow : room ≤ 4294967295
-  -- only the last entry may end the run
-  pub last : is_over j ≡ is_ending (last_kind j)

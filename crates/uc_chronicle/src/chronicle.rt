@@ -1,6 +1,5 @@
 //! The journal of a run, with what it tells at once.
-ghost use Rattle.std.specs.Prelude.{◌≡◌, ◌≤◌, ◌<◌, ◌++◌, ◌∷◌, [], false, true, length, take, replicate, slice_set, IfOk, IfSome, Some, None};
-ghost use Rattle.std.specs.Option.{is_some};
+ghost use Rattle.std.specs.Prelude.{◌≡◌, ◌≤◌, ◌<◌, ◌++◌, ◌∷◌, [], false, true, length, take, replicate, slice_set, IfOk, Some, None};
 ghost use Rattle.uc_meaning.specs.declared.request.Answer.TheVariants as answer;
 ghost use Rattle.uc_meaning.specs.Journal.{begin, is_over, is_ending};
 ghost use Rattle.uc_meaning.specs.KernelRuns.{InRange};
@@ -8,7 +7,7 @@ ghost use Rattle.uc_meaning.specs.Queues.{used, all_ticks, first_ended};
 ghost use Rattle.uc_meaning.specs.Reading.{bytes_used, has_failed};
 ghost use Rattle.uc_meaning.specs.Answers.{answer_to};
 ghost use Rattle.uc_chronicle.specs.Saying.{IsSayable};
-ghost use Rattle.uc_chronicle.specs.Told.{AreShort, told_more, with_journal, last_kind};
+ghost use Rattle.uc_chronicle.specs.Told.{AreShort, told_more, with_journal};
 
 use crate::notes::{note_answers, note_bytes, note_ended, note_failed, note_spent};
 use std::alloc::{AllocError, Global};
@@ -124,8 +123,7 @@ impl Chronicle {
 
     /// How many entries there are.
     pub fn len(&self) -> usize
-        ensures count { result ≡ length self.now.journal }
-        ensures begun { 1 ≤ result }
+        ensures { result ≡ length self.now.journal }
     {
         self.journal.len()
     }
@@ -180,18 +178,6 @@ impl Chronicle {
         self.ended
     }
 
-    /// The kind of the entry that ends the run, if there is one.
-    pub fn ending(&self) -> Option<EntryKind>
-        ensures over { is_some result ≡ is_over self.now.journal }
-        ensures last { IfSome result (λ k. k ≡ last_kind self.now.journal) }
-    {
-        let kind = self.journal[self.journal.len() - 1].kind;
-        if is_ending(kind) {
-            return Some(kind);
-        }
-        None
-    }
-
     /// The accept statements.
     pub fn sites(&self) -> &[Site]
         ensures { result.now ≡ self.now.sites }
@@ -204,19 +190,6 @@ impl Chronicle {
         ensures { result.items ≡ self.journal }
     {
         self.journal
-    }
-}
-
-fn is_ending(kind: EntryKind) -> bool
-    ensures { result ≡ is_ending kind }
-{
-    match kind {
-        EntryKind::Fault => true,
-        EntryKind::Done => true,
-        EntryKind::Deadlock => true,
-        EntryKind::NoProcessor => true,
-        EntryKind::Limit => true,
-        _ => false,
     }
 }
 

@@ -143,16 +143,6 @@ impl Clusters {
         self.processors[processor as usize].cluster
     }
 
-    /// The task that runs on a processor; none where there is no such processor.
-    pub fn task_on(&self, processor: u32) -> Option<u32>
-        ensures { result ≡ (processor_at self.now processor).task }
-    {
-        match self.processors.get(processor as usize) {
-            Some(one) => one.task,
-            None => None,
-        }
-    }
-
     /// Ends a cluster. False, exactly where a task that has not ended, or an open processor, stands on it.
     pub fn close_cluster(&mut self, cluster: u32) -> bool
         requires { cluster < length self.old.queues }
@@ -199,7 +189,6 @@ impl Clusters {
     pub fn dispatch(&mut self) -> Option<(u32, u32)>
         ensures value { result ≡ dispatched self.old }
         ensures standing { self.new ≡ after_dispatch self.old }
-        ensures known { IfSome result (λ r. r.0 < PROCESSORS) }
     {
         match self.taking() {
             Some(processor) => {
@@ -292,7 +281,6 @@ impl Clusters {
     fn taking(&self) -> Option<u32>
         ensures value { result ≡ taking self.now }
         ensures known { IfSome result (λ p. p < length self.now.processors) }
-        ensures few { IfSome result (λ p. p < PROCESSORS) }
         ensures ready { IfSome result (λ p. may_take self.now.queues (processor_at self.now p) ≡ true) }
     {
         self.idle.and(self.served).least()

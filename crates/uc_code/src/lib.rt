@@ -8,3 +8,5 @@ pub mod listing;
 pub mod op;
 mod operands;
 pub mod rows;
+#[cfg(test)]
+mod tests;

@@ -51,13 +51,6 @@ impl Events {
         Ok(())
     }
 
-    /// How many tasks are known.
-    pub fn count(&self) -> usize
-        ensures { result ≡ length self.now }
-    {
-        self.tasks.len()
-    }
-
     fn add_task(&mut self) -> Result<(), AllocError>
         ensures ok { OnOk result (self.new ≡ self.old ++ [] ∷ []) }
         ensures err { OnErr result (self.new ≡ self.old) }

@@ -1,6 +1,5 @@
 // The answer to one line of input.
 
-use crate::tokens::{of_lex, of_place};
 use std::alloc::{AllocError, Global};
 use uc_grammar::fault::ParseFault;
 use uc_lex::lex;
@@ -12,27 +11,12 @@ use uc_tree::token::Token;
 /// The answer to a line.
 pub(crate) fn row(alloc: Global, line: &str) -> Result<String, AllocError> {
     match line.split_once(' ') {
-        Some(("lex", rest)) => match numbered(rest) {
-            Some((count, text)) => of_lex(alloc, count as usize, text),
-            None => format!(in alloc; "no count"),
-        },
-        Some(("place", rest)) => match numbered(rest) {
-            Some((at, text)) => of_place(alloc, at, text),
-            None => format!(in alloc; "no offset"),
-        },
         Some((depth, text)) => match depth.parse::<u16>() {
             Ok(depth) => of_text(alloc, depth, text),
             Err(_) => format!(in alloc; "no depth"),
         },
         None => format!(in alloc; "no text"),
     }
-}
-
-// A number and the text behind it.
-fn numbered(rest: &str) -> Option<(u32, &str)> {
-    let (number, text) = rest.split_once(' ')?;
-    let number = number.parse::<u32>().ok()?;
-    Some((number, text))
 }
 
 fn of_text(alloc: Global, depth: u16, text: &str) -> Result<String, AllocError> {

@@ -1,11 +1,8 @@
-// A program that tries the cells of tasks: each line names what was done and shows what is then read. Behind them stands
-// the listing of a small code.
+// A program that tries the cells of tasks: each line names what was done and shows what is then read.
 #![tactic(auto)]
 
-mod listed;
 mod shown;
 
-use crate::listed::listed;
 use crate::shown::shown;
 use std::alloc::{AllocError, Global};
 use std::io;
@@ -338,7 +335,6 @@ fn main(rt: HostRuntime) -> io::Result<()> {
         gathered(alloc)?,
         gathering(alloc)?,
         item(alloc)?,
-        listed(alloc)?,
     ];
     for text in &texts {
         print!(rt; "{text}")?;

@@ -1,5 +1,5 @@
 -- The environment at a place of a program: the way there from an item, or a member of a class, through the statements.
-use Rattle.std.specs.Prelude.{ℕ, zero, suc, List, [], ◌∷◌, Bool, true, false, Option, Some, None, option_and_then, length, take, slice_get, nat_eq, if◌then◌else◌}
+use Rattle.std.specs.Prelude.{ℕ, zero, suc, ◌+◌, List, [], ◌∷◌, Bool, true, false, Option, Some, None, option_and_then, length, take, slice_get, nat_eq, if◌then◌else◌}
 use Rattle.uc_tree.specs.declared.kinds.Base.{Base}
 use Rattle.uc_tree.specs.declared.kinds.Mark.{Mark}
 use Rattle.uc_tree.specs.Cells.{classes_of}

@@ -14,3 +14,6 @@ mod signs;
 pub use fault::LexFault;
 pub use lexer::lex;
 pub use place::pos_at;
+
+#[cfg(test)]
+mod tests;

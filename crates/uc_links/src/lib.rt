@@ -6,6 +6,8 @@ mod object;
 pub mod pool;
 mod raw;
 pub mod steps;
+#[cfg(test)]
+mod tests;
 
 pub use object::MEMBERS;
 pub use pool::Links;

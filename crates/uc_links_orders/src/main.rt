@@ -1,14 +1,11 @@
 // A program that tries the pool: four nodes of two members are unlinked in each of the 24 orders, and after each move both
-// lists are printed; and then what looks see between other moves.
+// lists are printed.
 #![tactic(auto)]
-
-mod moves;
 
 ghost use Rattle.std.specs.Prelude.{◌≡◌, ◌<◌};
 ghost use Rattle.uc_links.specs.Lists.{IsEntry, without};
 ghost use Rattle.uc_links_orders.specs.Four.{four};
 
-use crate::moves::moves_text;
 use std::alloc::{AllocError, Global};
 use std::io;
 use std::marker::Brand;
@@ -172,8 +169,6 @@ fn report<L: Ledger>(blank: Blank, alloc: Global) -> Result<String, AllocError>
         let lines = order_text(order, alloc, &mut moves)?;
         text.push_str(lines.as_str())?;
     }
-    let lines = moves_text(alloc, &mut moves)?;
-    text.push_str(lines.as_str())?;
     Ok(text)
 }
 

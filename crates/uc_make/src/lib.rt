@@ -2,5 +2,7 @@
 #![tactic(auto)]
 
 mod program;
+#[cfg(test)]
+mod tests;
 
 pub use program::make;

@@ -3,3 +3,5 @@
 
 mod newest;
 pub mod scope;
+#[cfg(test)]
+mod tests;

@@ -32,13 +32,6 @@ pub struct Ridden {
     pub asked: Asked,
 }
 
-/// How a ride in place ended: the ticks, and what is asked.
-#[derive(Drop)]
-pub struct RideEnd {
-    pub ticks: u32,
-    pub asked: Asked,
-}
-
 /// Goes on with an answer up to a request, or up to so many ticks, and then asks for a slice. Where `dispatches` is not 0 it
 /// tells the gate first. No answer depends on the last three arguments. No task makes another one yet. Without memory the
 /// task is lost.
@@ -62,32 +55,14 @@ pub fn ride<G: Gate>(
         gate.ride(processor, dispatches);
     }
     let mut work = work;
-    let end = ride_on(code, &mut work, answer, quantum)?;
+    give(&mut work, answer)?;
+    let (ticks, asked) = go_on(code, &mut work, quantum)?;
     Ok(Ridden {
         work,
         child: None,
-        ticks: end.ticks,
-        asked: end.asked,
+        ticks,
+        asked,
     })
-}
-
-/// The same ride of a task that stays where it is, without a gate. Without memory the task is spent: it has made a part of
-/// the ride.
-pub fn ride_on(
-    code: &Code,
-    work: &mut Work,
-    answer: Answer,
-    quantum: u32,
-) -> Result<RideEnd, AllocError>
-    requires some { 1 ≤ quantum }
-    requires paced { IsPaced code.now.ops code.now.routines }
-    ensures rides { IfOk result (λ r. (source : Source) (s : State) → Lowered source code.now → Stands (laid_of code.now) work.old s → Rode source (laid_of code.now) (runs.answered answer s) quantum r.ticks r.asked work.new) }
-    ensures few { IfOk result (λ r. r.ticks ≤ quantum) }
-    ensures early { IfOk result (λ r. (r.asked.request ≡ ask.Slice → ⊥) → r.ticks < quantum) }
-{
-    give(work, answer)?;
-    let (ticks, asked) = go_on(code, work, quantum)?;
-    Ok(RideEnd { ticks, asked })
 }
 
 // Bursts up to a request, or up to so many ticks.

@@ -1,5 +1,6 @@
 -- A text that is refused gets just its refusal.
-use Rattle.std.proofs.Common.{◌≡◌, ℕ, List, [], inl, inr, refl, subst}
+use Rattle.std.proofs.Common.{◌≡◌, ◌≢◌, ℕ, List, [], ◌⊎◌, inl, inr, refl, sym, subst}
+use Rattle.std.specs.Prelude.{IsTrue}
 use Rattle.uc_tree.specs.Programs.{Program}
 use Rattle.uc_meaning.specs.Journal.{Journal}
 use Rattle.uc_outside.specs.Taking.{Took}
@@ -7,7 +8,7 @@ use Rattle.uc_top.specs.declared.refusals.Refusal.{Refusal}
 use Rattle.uc_top.specs.declared.refusals.Refusal.TheVariants.{Word, CannotRead, TooLong, Lexical, Syntax, TooDeep, Broken, NotBuilt, FrameTooLarge, CodeTooLarge, NoMemory}
 use Rattle.uc_top.specs.Built.{IsAcceptedText}
 use Rattle.uc_top.specs.Decisions.{TextRefused}
-use Rattle.uc_top.specs.Outcomes.{Scene, Refused, Leaves, ended, refused, out_failed, line_failed, err_failed, OfText, lexical, syntax, deep, broken, not_built, large_frame, large_code, HasTexts}
+use Rattle.uc_top.specs.Outcomes.{Scene, Refused, Leaves, ended, refused, out_failed, line_failed, err_failed, Told, OfText, lexical, syntax, deep, broken, not_built, large_frame, large_code, HasTexts, HaveRooms}
 use Rattle.uc_top.specs.Refusals.{status_of, refusal_text}
 use Rattle.uc_top.specs.TextAnswers.{ToldAs, GetsJust, TextAnswers}
 use Rattle.uc_top.proofs.Causes.{given, ran_program, rooms, steady_of, two_left, unlexed, no_syntax, not_deep, unbroken, built_no, frame_no, code_no}

@@ -1,11 +1,11 @@
 -- Tokens that are no program have one fault.
-use Rattle.std.proofs.Common.{◌≡◌, ℕ, zero, suc, ◌+◌, List, [], ◌∷◌, Bool, Option, refl, sym, ◌∙◌, subst, inl, inr}
+use Rattle.std.proofs.Common.{◌≡◌, ℕ, zero, suc, ◌+◌, List, [], ◌∷◌, Bool, Option, Some, refl, sym, ◌∙◌, subst, inl, inr}
 use Rattle.uc_tree.specs.declared.token.Token.{Token}
 use Rattle.uc_tree.specs.declared.token.TokenKind.{TokenKind}
 use Rattle.uc_grammar.specs.declared.fault.ParseFault.{ParseFault}
 use Rattle.uc_grammar.specs.declared.fault.ParseFault.TheVariants.{Syntax, TooDeep, NoMemory}
 use Rattle.uc_grammar.specs.Names.{Name}
-use Rattle.uc_grammar.specs.Spell.{kind_at, pos_at, Rel, Run, ListRun}
+use Rattle.uc_grammar.specs.Spell.{kind_at, pos_at, Rel, Begins, Run, ListRun}
 use Rattle.uc_grammar.specs.Form.{Form, nothing, empty, skip, expect, token_or, look, here, bind, apply, many, listed, inside, Spells, Fails}
 use Rattle.uc_grammar.specs.Grammar.{form_of, inner, faults, program_form}
 use Rattle.uc_grammar.specs.Text.{ProgramFails}

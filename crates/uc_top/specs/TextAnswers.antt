@@ -1,5 +1,5 @@
 -- What a call answers to a text that is refused: just that refusal, with its place.
-use Rattle.std.specs.Prelude.{◌≡◌, ℕ, ◌⊎◌, IsTrue}
+use Rattle.std.specs.Prelude.{◌≡◌, ℕ, List, ◌⊎◌, IsTrue}
 use Rattle.uc_tree.specs.declared.pos.Pos.{Pos}
 use Rattle.uc_tree.specs.declared.scan.Reason.{Reason}
 use Rattle.uc_meaning.specs.declared.rule.Rule.{Rule}

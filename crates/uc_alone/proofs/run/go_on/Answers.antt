@@ -5,14 +5,14 @@ use Rattle.uc_alone.proofs.run.go_on.Goals as goal
 
 pub returns-in-None : goal.returns-in-None
 returns-in-None c source s low g st =
-    request_ends source c.args.input.now c.args.opts c.requires.alone c.args.code.now c.requests.journal.items c.keep.new.journal.items c.requests.tally c.keep.new.tally c.in_ok-ridden.ridden.ticks _ c.requests.work c.ride_on.new.work c.in_ok-ridden.ridden.asked c.requests.given (c.requests.invariant.come source s low g st) (c.requests.invariant.tells) low (c.in_ok-ridden.ensures.rides) refl (subst (After c.args.opts c.args.input.now c.requests.journal.items c.requests.tally c.in_ok-ridden.ridden.ticks c.in_ok-ridden.ridden.asked c.keep.new.journal.items c.keep.new.tally) c.in-None.is (c.in_ok-kept.ensures.after))
+    request_ends source c.args.input.now c.args.opts c.requires.alone c.args.code.now c.requests.journal.items c.keep.new.journal.items c.requests.tally c.keep.new.tally c.in_ok-ridden.ridden.ticks _ c.requests.work c.in_ok-ridden.ridden.work c.in_ok-ridden.ridden.asked c.requests.given (c.requests.invariant.come source s low g st) (c.requests.invariant.tells) low (c.in_ok-ridden.ensures.rides) refl (subst (After c.args.opts c.args.input.now c.requests.journal.items c.requests.tally c.in_ok-ridden.ridden.ticks c.in_ok-ridden.ridden.asked c.keep.new.journal.items c.keep.new.tally) c.in-None.is (c.in_ok-kept.ensures.after))
 
 pub requests-preserved : goal.requests-preserved
 requests-preserved c =
     let after : After c.args.opts c.args.input.now c.requests.journal.items c.requests.tally c.in_ok-ridden.ridden.ticks c.in_ok-ridden.ridden.asked c.keep.new.journal.items c.keep.new.tally (Some c.in-Some.next) = subst (After c.args.opts c.args.input.now c.requests.journal.items c.requests.tally c.in_ok-ridden.ridden.ticks c.in_ok-ridden.ridden.asked c.keep.new.journal.items c.keep.new.tally) c.in-Some.is (c.in_ok-kept.ensures.after) in
     let since = c.requests.invariant.since in
     record {
-      come = λ source s low g st. request_goes source c.args.input.now c.args.opts c.requires.alone c.args.code.now c.requests.journal.items c.keep.new.journal.items c.requests.tally c.keep.new.tally c.in_ok-ridden.ridden.ticks _ c.requests.work c.ride_on.new.work c.in_ok-ridden.ridden.asked c.requests.given (c.requests.invariant.come source s low g st) (c.requests.invariant.tells) low (c.in_ok-ridden.ensures.rides) refl c.in-Some.next after;
+      come = λ source s low g st. request_goes source c.args.input.now c.args.opts c.requires.alone c.args.code.now c.requests.journal.items c.keep.new.journal.items c.requests.tally c.keep.new.tally c.in_ok-ridden.ridden.ticks _ c.requests.work c.in_ok-ridden.ridden.work c.in_ok-ridden.ridden.asked c.requests.given (c.requests.invariant.come source s low g st) (c.requests.invariant.tells) low (c.in_ok-ridden.ensures.rides) refl c.in-Some.next after;
       tells = after.tells c.in-Some.next refl (c.requests.invariant.tells);
       inside = c.in_ok-kept.ensures.inside;
       room = after.room c.in-Some.next refl;

@@ -1,6 +1,6 @@
-use Rattle.std.proofs.Common.{rules}
+use Rattle.std.proofs.Common.{rules, ◌≡◌, None, Some, sym, ap, ◌∙◌}
 use Rattle.uc_meaning.specs.Visits.{statement_visits}
-use Rattle.uc_front.specs.Typed.{statement_breaks}
+use Rattle.uc_front.specs.Typed.{statement_breaks, text_break}
 use Rattle.uc_front.proofs.TypeLemmas.{broken_by, found_is, kept_by}
 use Rattle.uc_front.proofs.typed.type_in.Goals as goal
 
