@@ -53,7 +53,8 @@ pub struct Listed<'a> {
     pub declarators: &'a [Declarator],
 }
 
-fn class_around(home: Home) -> Around
+/// What stands round the members of a class, outside of its routines.
+pub fn class_around(home: Home) -> Around
     ensures { result ≡ class_around home }
 {
     Around {

@@ -26,7 +26,8 @@ use uc_types::names::Names;
 use uc_types::sort::is_event;
 use uc_types::tables::Tables;
 
-fn no_around() -> Around
+/// What stands round what is in no class and no routine.
+pub fn no_around() -> Around
     ensures { result ≡ no_around }
 {
     Around {
@@ -94,8 +95,8 @@ fn is_of_main(owner: &Owner) -> bool
     }
 }
 
-// The environment of a routine that stands outside of classes.
-fn outer_names<'a>(alloc: Global, tables: &'a Tables<'a>, sig: &Sig) -> Names<'a>
+/// The environment of a routine that stands outside of classes, before its parameters.
+pub fn outer_names<'a>(alloc: Global, tables: &'a Tables<'a>, sig: &Sig) -> Names<'a>
     ensures { result ≡ outer_env tables.now sig.now }
 {
     let home = owner_home(tables, &sig.owner);

@@ -1,4 +1,4 @@
-use Rattle.std.proofs.Common.{◌≡◌, None, [], ◌&&◌, map, nat_lt, ap, sym, ◌∙◌}
+use Rattle.std.proofs.Common.{◌≡◌, None, [], ◌&&◌, map, nat_lt, ap, ◌∙◌}
 use Rattle.uc_tree.specs.declared.limits.TheConstants.{CLAUSES}
 use Rattle.uc_meaning.specs.declared.rule.Rule.TheVariants.{S20}
 use Rattle.uc_meaning.specs.Asked.{unless}
