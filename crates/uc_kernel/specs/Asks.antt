@@ -1,0 +1,13 @@
+-- Who may act.
+use Rattle.std.specs.Prelude.{◌≡◌, ℕ, false, [], ◌∷◌}
+use Rattle.uc_meaning.specs.declared.entry.Options.{Options}
+use Rattle.uc_meaning.specs.Journal.{Journal, is_over}
+use Rattle.uc_meaning.specs.Queues.{running}
+use Rattle.uc_meaning.specs.Serves.{left}
+use Rattle.uc_kernel.specs.declared.asks.Runner.{Runner}
+
+-- the run goes on, and this task runs on processor p
+pub record IsRunner (opts : Options) (j : Journal) (p : ℕ) (r : Runner) : Type 0 where
+  pub going : is_over j ≡ false
+  pub runs : running p j ≡ r.task ∷ []
+  pub left : r.left ≡ left opts j r.task

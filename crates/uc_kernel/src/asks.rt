@@ -1,0 +1,33 @@
+//! Who may act.
+ghost use Rattle.std.specs.Prelude.{◌≡◌, [], false, IfNone, IfSome};
+ghost use Rattle.uc_meaning.specs.Journal;
+ghost use Rattle.uc_meaning.specs.Queues.{running};
+ghost use Rattle.uc_kernel.specs.Asks.{IsRunner};
+
+use crate::kernel::Kernel;
+
+/// A task that runs, and the ticks that it has left.
+#[derive(Clone, Copy, PartialEq, Eq, Debug)]
+pub struct Runner {
+    pub task: u32,
+    pub left: u32,
+}
+
+impl<T, M> Kernel<T, M> {
+    /// Who runs on a processor. None where nobody does, or the run is over.
+    pub fn runner(&self, processor: u8) -> Option<Runner>
+        ensures none { IfNone result (Journal.is_over self.now.journal ≡ false → running processor self.now.journal ≡ []) }
+        ensures some { IfSome result (λ r. IsRunner self.now.opts self.now.journal processor r) }
+    {
+        if self.book.ending().is_some() {
+            return None;
+        }
+        match self.book.runner(processor) {
+            None => None,
+            Some(task) => Some(Runner {
+                task,
+                left: self.book.left(task),
+            }),
+        }
+    }
+}

@@ -1,0 +1,42 @@
+//! What a kernel is opened with, what it hands out, and what is brought back to it.
+
+use uc_meaning::list::List;
+use uc_meaning::request::{Answer, Asked};
+use uc_tree::site::Site;
+
+/// What a kernel is to know of a program: its accept statements by their numbers.
+#[derive(Drop)]
+pub struct Shape {
+    pub sites: Vec<Site>,
+}
+
+/// A task that goes on: its processor, its value, the members of the objects that it is inside in the order in which it
+/// entered them, what its last request is answered, and the ticks that it has left.
+#[derive(Drop)]
+pub struct Given<T, M> {
+    pub processor: u8,
+    pub task: T,
+    pub members: List<(u32, M)>,
+    pub answer: Answer,
+    pub left: u32,
+}
+
+/// A task that asks: its processor, its value, its members as they were handed out, with those of an object that it has made
+/// since, the ticks that it made, and what it asks in which line. With a spawn comes the value of the new task.
+#[derive(Drop)]
+pub struct Back<T, M> {
+    pub processor: u8,
+    pub task: T,
+    pub members: List<(u32, M)>,
+    pub child: Option<T>,
+    pub ticks: u32,
+    pub asked: Asked,
+}
+
+/// What comes next on a processor: its task goes on, or has left it, or the run is over.
+#[derive(Drop)]
+pub enum Next<T, M> {
+    Go(Given<T, M>),
+    Blocked,
+    Ended,
+}
