@@ -5,16 +5,17 @@ ghost use Rattle.uc_tree.specs.Names.{same_name};
 ghost use Rattle.uc_tree.specs.Statements.{clauses_of, handlers_of};
 ghost use Rattle.uc_tree.specs.Numbering.{is_mutex, mutex_members};
 ghost use Rattle.uc_tree.specs.declared.limits.TheConstants.{CLAUSES, DESTRUCTOR, MEMBERS};
-ghost use Rattle.uc_meaning.specs.ExpressionBreaks.{all_listed, are_fresh, behind_all, class_of, clauses_breaks, handlers_breaks, is_among, is_catch, is_event_or_all, is_fresh, listed_in, with_listed};
+ghost use Rattle.uc_meaning.specs.ExpressionBreaks.{all_listed, are_fresh, behind_all, clauses_breaks, handlers_breaks, is_among, is_catch, is_event_or_all, is_fresh, listed_in, with_listed};
 ghost use Rattle.uc_meaning.specs.Firsts.{after};
 ghost use Rattle.uc_meaning.specs.OwnerBreaks.{may_accept};
+ghost use Rattle.uc_meaning.specs.Sorts.{class_at};
 ghost use Rattle.uc_meaning.specs.Visits.{AtAccept, AtHandlers};
 ghost use Rattle.uc_types.specs.Told.{told};
 
 use std::alloc::{AllocError, Global};
 use uc_meaning::rule::Rule;
 use uc_meaning::rules::Around;
-use uc_numbers::members::{member_number, members_of};
+use uc_numbers::members::member_number;
 use uc_tree::class::Class;
 use uc_tree::kinds::{HandlerKind, MemberName};
 use uc_tree::limits::{CLAUSES, DESTRUCTOR};
@@ -100,15 +101,17 @@ fn both(a: bool, b: bool) -> bool
 fn note_clauses(
     alloc: Global,
     class: &Class,
+    names: &[&Name],
     clauses: &[Clause],
     found: &mut Found,
 ) -> Result<(), AllocError>
+    requires names { map (λ n. n.now) names.now ≡ take MEMBERS (mutex_members class.now) }
+    requires few { length names.now ≤ MEMBERS }
     ensures { OnOk result (found.new ≡ after found.old (clauses_breaks (Some class.now) 0 [] (clauses_of clauses.now))) }
 {
-    let names = members_of(alloc, class)?;
     let mut seen = Vec::new(alloc);
     for (place, clause) in clauses.iter().enumerate() {
-        let fresh = list_members(class, &names, &mut seen, &clause.members)?;
+        let fresh = list_members(class, names, &mut seen, &clause.members)?;
         let holds = place < usize::from(CLAUSES) && fresh;
         found.note_unless(holds, Rule::S20, clause.pos);
     }
@@ -146,16 +149,25 @@ fn may_accept(around: Around) -> bool
     around.inner && !is_constructor(around.role)
 }
 
-/// The class in whose routine a place stands.
-fn class_of<'a>(names: &Names<'a>) -> Option<&'a Class>
-    ensures { MatchOption result (class_of names.now ≡ None) (λ c. class_of names.now ≡ Some c.now) }
+// The clauses of an accept statement in a routine of the class with this place.
+fn note_owned(
+    names: &Names,
+    place: usize,
+    clauses: &[Clause],
+    found: &mut Found,
+) -> Result<(), AllocError>
+    ensures { OnOk result (found.new ≡ after found.old (clauses_breaks (class_at names.now.program place) 0 [] (clauses_of clauses.now))) }
 {
-    match names.around().home {
-        Some(home) => {
-            let tables = names.tables();
-            tables.class_at(home.class)
+    let tables = names.tables();
+    match tables.class_at(place) {
+        Some(class) => {
+            note_clauses(names.alloc(), class, tables.numbered(place), clauses, found)?;
+            Ok(())
         }
-        None => None,
+        None => {
+            note_unowned(clauses, found);
+            Ok(())
+        }
     }
 }
 
@@ -168,8 +180,8 @@ pub fn ask_accept(
 ) -> Result<(), AllocError>
     ensures { OnOk result (found.new ≡ told found.old (AtAccept names.now at (clauses_of clauses.now))) }
 {
-    match class_of(names) {
-        Some(class) => note_clauses(names.alloc(), class, clauses, found)?,
+    match names.around().home {
+        Some(home) => note_owned(names, home.class, clauses, found)?,
         None => note_unowned(clauses, found),
     }
     found.note_unless(may_accept(names.around()), Rule::O9, at);

@@ -6,8 +6,9 @@ ghost use Rattle.uc_tree.specs.Statements.{RaiseAt, clauses_of, handlers_of, stm
 ghost use Rattle.uc_tree.specs.StatementViews.{maybe_at};
 ghost use Rattle.uc_meaning.specs.Scopes.{block_env, env_after, env_behind, for_declared, in_handler, in_loop, opened, with_around, with_joins};
 ghost use Rattle.uc_meaning.specs.Entities.{entity_of};
-ghost use Rattle.uc_meaning.specs.Visits.{AtMigrate, clause_visits, clauses_visits, for_visits, handler_visits, handlers_visits, joined, looped, maybe_condition_visits, maybe_statement_visits, maybe_stmt_visits, stmt_visits, stmts_visits, visits};
+ghost use Rattle.uc_meaning.specs.Visits.{AtAccept, AtHandlers, AtMigrate, AtTogether, clause_visits, clauses_visits, condition_visits, events_visits, for_visits, handler_visits, handlers_visits, joined, looped, maybe_condition_visits, maybe_statement_visits, maybe_stmt_visits, outs_visits, stmt_visits, stmts_visits, visits};
 ghost use Rattle.uc_types.specs.Told.{noted};
+ghost use Rattle.uc_bodies.specs.Alone.{alone_visits};
 
 use crate::accept::{ask_accept, ask_handlers};
 use crate::declare::check_declaration;
@@ -20,15 +21,17 @@ use crate::parts::{
 };
 use std::alloc::AllocError;
 use uc_meaning::rules::Around;
-use uc_tree::declare::{ForForm, ForStart, Raised};
+use uc_tree::declare::{ForForm, ForStart, OutItem, Raised};
 use uc_tree::expr::Expr;
+use uc_tree::kinds::EventName;
 use uc_tree::pos::Pos;
 use uc_tree::stmt::{Clause, Handler, Stmt, StmtForm};
 use uc_types::expr::check_expr;
 use uc_types::found::Found;
 use uc_types::names::Names;
 
-fn in_loop(around: Around) -> Around
+/// What stands round the body of a loop.
+pub fn in_loop(around: Around) -> Around
     ensures { result ≡ in_loop around }
 {
     Around {
@@ -37,7 +40,8 @@ fn in_loop(around: Around) -> Around
     }
 }
 
-fn in_handler(around: Around) -> Around
+/// What stands round the block of a handler.
+pub fn in_handler(around: Around) -> Around
     ensures { result ≡ in_handler around }
 {
     Around {
@@ -47,7 +51,8 @@ fn in_handler(around: Around) -> Around
     }
 }
 
-fn with_joins(joins: bool, around: Around) -> Around
+/// The same with whether a block that stands there is one scope with what stands round it.
+pub fn with_joins(joins: bool, around: Around) -> Around
     ensures { result ≡ with_joins joins around }
 {
     Around { joins, ..around }
@@ -99,122 +104,190 @@ pub fn check_stmt(names: &mut Names, s: &Stmt, found: &mut Found) -> Result<(), 
     ensures names { OnOk result (names.new ≡ env_after names.old s.now) }
     ensures breaks { OnOk result (found.new ≡ noted found.old (stmt_visits s.now names.old)) }
 {
+    check_alone(names, s, found);
     match &s.form {
-        StmtForm::Block { body } => {
-            check_block(names, body, found)?;
-            Ok(())
-        }
-        StmtForm::Empty => Ok(()),
-        StmtForm::Evaluate { value } => {
-            check_statement(names, value, found);
-            Ok(())
-        }
+        StmtForm::Block { body } => check_block(names, body, found),
         StmtForm::Declare { base, declarators } => {
-            check_declaration(names, s.pos, base, declarators, found)?;
-            Ok(())
+            check_declaration(names, s.pos, base, declarators, found)
         }
         StmtForm::If {
             test,
             chosen,
             other,
-        } => {
-            check_condition(names, test, found);
-            check_inner(names, names.around(), chosen, found)?;
-            check_maybe_inner(names, other, found)?;
-            Ok(())
-        }
-        StmtForm::While { test, body } => {
-            check_condition(names, test, found);
-            check_inner(names, in_loop(names.around()), body, found)?;
-            Ok(())
-        }
-        StmtForm::Do { body, test } => {
-            check_inner(names, in_loop(names.around()), body, found)?;
-            check_condition(names, test, found);
-            Ok(())
-        }
+        } => check_if(names, test, chosen, other, found),
+        StmtForm::While { test, body } => check_while(names, test, body, found),
+        StmtForm::Do { body, test } => check_do(names, body, test, found),
         StmtForm::For {
             start,
             test,
             step,
             body,
-        } => {
-            check_for(names, start, test, step, body, found)?;
-            Ok(())
-        }
-        StmtForm::Break => {
-            ask_loop_exit(names, s.pos, found);
-            Ok(())
-        }
-        StmtForm::Continue => {
-            ask_loop_exit(names, s.pos, found);
-            Ok(())
-        }
-        StmtForm::Return { value } => {
-            check_return(names, value, s.pos, found);
-            Ok(())
-        }
-        StmtForm::Try { body, handlers, .. } => {
-            check_guarded(names, body, found)?;
-            ask_handlers(names, handlers, found);
-            check_handlers(names, handlers, found)?;
-            Ok(())
-        }
-        StmtForm::Throw { raised } => {
-            check_raise(names, raised, s.pos, found);
-            Ok(())
-        }
-        StmtForm::Raise { raised } => {
-            check_raise(names, raised, s.pos, found);
-            Ok(())
-        }
+        } => check_for(names, start, test, step, body, found),
+        StmtForm::Try { body, handlers, .. } => check_try(names, body, handlers, found),
+        StmtForm::Enable { events, body } => check_masked(names, events, body, found),
+        StmtForm::Disable { events, body } => check_masked(names, events, body, found),
+        StmtForm::Accept { clauses, other } => check_accept(names, clauses, other, s.pos, found),
+        StmtForm::Empty => Ok(()),
+        StmtForm::Evaluate { .. } => Ok(()),
+        StmtForm::Break => Ok(()),
+        StmtForm::Continue => Ok(()),
+        StmtForm::Return { .. } => Ok(()),
+        StmtForm::Throw { .. } => Ok(()),
+        StmtForm::Raise { .. } => Ok(()),
+        StmtForm::RaiseAt { .. } => Ok(()),
+        StmtForm::Print { .. } => Ok(()),
+        StmtForm::PrintTogether { .. } => Ok(()),
+        StmtForm::Read { .. } => Ok(()),
+        StmtForm::Resume => Ok(()),
+        StmtForm::Suspend => Ok(()),
+        StmtForm::Yield => Ok(()),
+        StmtForm::Migrate { .. } => Ok(()),
+    }
+}
+
+// Notes the breaks of a statement that holds no other one and declares nothing; of the others none.
+fn check_alone(names: &Names, s: &Stmt, found: &mut Found)
+    ensures { found.new ≡ noted found.old (alone_visits s.now names.now) }
+{
+    match &s.form {
+        StmtForm::Evaluate { value } => check_statement(names, value, found),
+        StmtForm::Break => ask_loop_exit(names, s.pos, found),
+        StmtForm::Continue => ask_loop_exit(names, s.pos, found),
+        StmtForm::Return { value } => check_return(names, value, s.pos, found),
+        StmtForm::Throw { raised } => check_raise(names, raised, s.pos, found),
+        StmtForm::Raise { raised } => check_raise(names, raised, s.pos, found),
         StmtForm::RaiseAt { raised, target } => {
             check_raise_at(names, raised, target, s.pos, found);
-            Ok(())
         }
-        StmtForm::Enable { events, body } => {
-            check_events(names, events, found);
-            check_inner(names, names.around(), body, found)?;
-            Ok(())
-        }
-        StmtForm::Disable { events, body } => {
-            check_events(names, events, found);
-            check_inner(names, names.around(), body, found)?;
-            Ok(())
-        }
-        StmtForm::Accept { clauses, other } => {
-            ask_accept(names, clauses, s.pos, found)?;
-            check_clauses(names, clauses, found)?;
-            check_maybe_inner(names, other, found)?;
-            Ok(())
-        }
-        StmtForm::Print { items } => {
-            check_items(names, items, found);
-            Ok(())
-        }
-        StmtForm::PrintTogether { items } => {
-            check_items(names, items, found);
-            ask_together(items, found);
-            Ok(())
-        }
-        StmtForm::Read { places } => {
-            check_places(names, places, found);
-            Ok(())
-        }
-        StmtForm::Resume => {
-            ask_switch(names, s.pos, found);
-            Ok(())
-        }
-        StmtForm::Suspend => {
-            ask_switch(names, s.pos, found);
-            Ok(())
-        }
-        StmtForm::Yield => Ok(()),
-        StmtForm::Migrate { cluster } => {
-            check_migrate(names, cluster, found);
-            Ok(())
-        }
+        StmtForm::Print { items } => check_items(names, items, found),
+        StmtForm::PrintTogether { items } => check_together(names, items, found),
+        StmtForm::Read { places } => check_places(names, places, found),
+        StmtForm::Resume => ask_switch(names, s.pos, found),
+        StmtForm::Suspend => ask_switch(names, s.pos, found),
+        StmtForm::Migrate { cluster } => check_migrate(names, cluster, found),
+        StmtForm::Empty => {}
+        StmtForm::Yield => {}
+        StmtForm::Block { .. } => {}
+        StmtForm::Declare { .. } => {}
+        StmtForm::If { .. } => {}
+        StmtForm::While { .. } => {}
+        StmtForm::Do { .. } => {}
+        StmtForm::For { .. } => {}
+        StmtForm::Try { .. } => {}
+        StmtForm::Enable { .. } => {}
+        StmtForm::Disable { .. } => {}
+        StmtForm::Accept { .. } => {}
     }
+}
+
+#[tactic(auto, using(crate::proofs::Joined::joining))]
+fn check_together(names: &Names, items: &[OutItem], found: &mut Found)
+    ensures { found.new ≡ noted found.old (outs_visits names.now items.now ++ AtTogether items.now ∷ []) }
+{
+    check_items(names, items, found);
+    ask_together(items, found);
+}
+
+#[cycle(stmt)]
+#[tactic(auto, using(crate::proofs::Joined::joining))]
+fn check_if(
+    names: &mut Names,
+    test: &Expr,
+    chosen: &Stmt,
+    other: &Option<Box<Stmt>>,
+    found: &mut Found,
+) -> Result<(), AllocError>
+    ensures names { OnOk result (names.new ≡ names.old) }
+    ensures breaks { OnOk result (found.new ≡ noted found.old (condition_visits names.old test.now ++ (stmt_visits chosen.now (opened names.old) ++ maybe_stmt_visits (maybe_at other.now) names.old))) }
+{
+    check_condition(names, test, found);
+    check_inner(names, names.around(), chosen, found)?;
+    check_maybe_inner(names, other, found)?;
+    Ok(())
+}
+
+#[cycle(stmt)]
+#[tactic(auto, using(crate::proofs::Joined::joining))]
+fn check_while(
+    names: &mut Names,
+    test: &Expr,
+    body: &Stmt,
+    found: &mut Found,
+) -> Result<(), AllocError>
+    ensures names { OnOk result (names.new ≡ names.old) }
+    ensures breaks { OnOk result (found.new ≡ noted found.old (condition_visits names.old test.now ++ stmt_visits body.now (opened (looped names.old)))) }
+{
+    check_condition(names, test, found);
+    check_inner(names, in_loop(names.around()), body, found)?;
+    Ok(())
+}
+
+#[cycle(stmt)]
+#[tactic(auto, using(crate::proofs::Joined::joining))]
+fn check_do(
+    names: &mut Names,
+    body: &Stmt,
+    test: &Expr,
+    found: &mut Found,
+) -> Result<(), AllocError>
+    ensures names { OnOk result (names.new ≡ names.old) }
+    ensures breaks { OnOk result (found.new ≡ noted found.old (stmt_visits body.now (opened (looped names.old)) ++ condition_visits names.old test.now)) }
+{
+    check_inner(names, in_loop(names.around()), body, found)?;
+    check_condition(names, test, found);
+    Ok(())
+}
+
+#[cycle(stmt)]
+#[tactic(auto, using(crate::proofs::Joined::joining))]
+fn check_try(
+    names: &mut Names,
+    body: &[Stmt],
+    handlers: &[Handler],
+    found: &mut Found,
+) -> Result<(), AllocError>
+    ensures names { OnOk result (names.new ≡ names.old) }
+    ensures breaks { OnOk result (found.new ≡ noted found.old (stmts_visits (stmts_of body.now) (opened names.old) ++ (AtHandlers names.old (handlers_of handlers.now) ∷ handlers_visits (handlers_of handlers.now) names.old))) }
+{
+    check_guarded(names, body, found)?;
+    ask_handlers(names, handlers, found);
+    check_handlers(names, handlers, found)?;
+    Ok(())
+}
+
+// An `_Enable` or a `_Disable`.
+#[cycle(stmt)]
+#[tactic(auto, using(crate::proofs::Joined::joining))]
+fn check_masked(
+    names: &mut Names,
+    events: &[EventName],
+    body: &Stmt,
+    found: &mut Found,
+) -> Result<(), AllocError>
+    ensures names { OnOk result (names.new ≡ names.old) }
+    ensures breaks { OnOk result (found.new ≡ noted found.old (events_visits names.old events.now ++ stmt_visits body.now (opened names.old))) }
+{
+    check_events(names, events, found);
+    check_inner(names, names.around(), body, found)?;
+    Ok(())
+}
+
+#[cycle(stmt)]
+#[tactic(auto, using(crate::proofs::Joined::joining))]
+fn check_accept(
+    names: &mut Names,
+    clauses: &[Clause],
+    other: &Option<Box<Stmt>>,
+    at: Pos,
+    found: &mut Found,
+) -> Result<(), AllocError>
+    ensures names { OnOk result (names.new ≡ names.old) }
+    ensures breaks { OnOk result (found.new ≡ noted found.old (AtAccept names.old at (clauses_of clauses.now) ∷ (clauses_visits (clauses_of clauses.now) names.old ++ maybe_stmt_visits (maybe_at other.now) names.old))) }
+{
+    ask_accept(names, clauses, at, found)?;
+    check_clauses(names, clauses, found)?;
+    check_maybe_inner(names, other, found)?;
+    Ok(())
 }
 
 /// The same of a body.
@@ -243,7 +316,8 @@ fn check_block(names: &mut Names, body: &[Stmt], found: &mut Found) -> Result<()
     Ok(())
 }
 
-fn open_block(names: &mut Names)
+/// The scope of a block: that of the `for` where it is its statement.
+pub fn open_block(names: &mut Names)
     ensures { names.new ≡ block_env names.old }
 {
     let around = names.around();

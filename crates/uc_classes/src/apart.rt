@@ -1,12 +1,10 @@
 // The rules on names, types and places, and those on who owns what, each by themselves.
 
-ghost use Rattle.std.specs.Prelude.{◌≡◌, [], Contains, IfErr, OnOk, true};
-ghost use Rattle.uc_meaning.specs.declared.rule.Break as rule;
+ghost use Rattle.std.specs.Prelude.{◌≡◌, [], IfErr, OnOk};
 ghost use Rattle.uc_meaning.specs.Breaks.{breaks_of};
 ghost use Rattle.uc_meaning.specs.FirstRule.{IsFaultOf};
 ghost use Rattle.uc_meaning.specs.Firsts.{is_owner_number};
-ghost use Rattle.uc_meaning.specs.RuleNames.{rule_number};
-ghost use Rattle.uc_classes.specs.Apart.{IsTextFault};
+ghost use Rattle.uc_classes.specs.Apart.{IsOwnerFault, IsTextFault, KeepsText};
 
 use crate::check::first_break;
 use std::alloc::Global;
@@ -32,7 +30,7 @@ fn fault_of(first: Break) -> RuleFault
 /// Whether a program breaks none of the rules S1 to S24; else the first of these that it breaks.
 #[tactic(auto, using(crate::proofs::First::firsts))]
 pub fn check_classes(alloc: Global, program: &Program) -> Result<(), RuleFault>
-    ensures kept { OnOk result ((b : rule.Break) → Contains (breaks_of program.now) b → is_owner_number (rule_number b.rule) ≡ true) }
+    ensures kept { OnOk result (KeepsText program.now) }
     ensures broken { IfErr result (λ fault. IsFaultOf program.now fault) }
     ensures text { IfErr result (λ fault. IsTextFault fault) }
 {
@@ -49,11 +47,13 @@ pub fn check_classes(alloc: Global, program: &Program) -> Result<(), RuleFault>
     }
 }
 
-/// Whether a program, which breaks none of the rules S1 to S24, breaks none of O1 to O9 either; else the first that it breaks.
+/// Whether a program, which breaks none of the rules S1 to S24, breaks none of O1 to O9 either; else the first of these that
+/// it breaks.
 #[tactic(auto, using(crate::proofs::First::firsts))]
 pub fn check_owner(alloc: Global, program: &Program) -> Result<(), RuleFault>
     ensures kept { OnOk result (breaks_of program.now ≡ []) }
     ensures broken { IfErr result (λ fault. IsFaultOf program.now fault) }
+    ensures owner { KeepsText program.now → IfErr result (λ fault. IsOwnerFault fault) }
 {
     match first_break(alloc, program) {
         Ok(Some(first)) => Err(fault_of(first)),

@@ -5,37 +5,41 @@ ghost use Rattle.uc_tree.specs.Cells.{class_cells};
 ghost use Rattle.uc_tree.specs.Numbering.{condition_count, is_public, mutex_members};
 ghost use Rattle.uc_tree.specs.declared.limits.TheConstants.{CLASS_CELLS, CLASS_CONDITIONS, MEMBERS};
 ghost use Rattle.uc_meaning.specs.Asked.{asked, of_sort, unless};
-ghost use Rattle.uc_meaning.specs.ClassBreaks.{constant_breaks, entity_takes, events_before, fields_at, has_room, has_unset, home_class, home_leads_back, init_count_breaks, inits_breaks, is_field_of, is_field_sort, is_new_field, param_breaks, sig_breaks};
+ghost use Rattle.uc_meaning.specs.ClassBreaks.{constant_breaks, entity_takes, events_before, fields_at, has_room, has_unset, home_class, home_leads_back, init_count_breaks, inits_breaks, is_field_of, is_field_sort, is_new_field, is_new_routine, is_sound_event, param_breaks, sig_breaks};
 ghost use Rattle.uc_meaning.specs.Entities.{count, entity_of};
 ghost use Rattle.uc_meaning.specs.ExpressionBreaks.{length_breaks, length_value_breaks};
 ghost use Rattle.uc_meaning.specs.Firsts.{after};
+ghost use Rattle.uc_meaning.specs.ItemBreaks.{is_sound_member};
 ghost use Rattle.uc_meaning.specs.Names.{place_in};
+ghost use Rattle.uc_meaning.specs.declared.rules.FieldPlace.{FieldPlace};
+ghost use Rattle.uc_tree.specs.declared.kinds.Access.{Access};
 ghost use Rattle.uc_meaning.specs.ProgramVisits.{home_member};
 ghost use Rattle.uc_meaning.specs.Sorts.{class_at, is_coroutine, sort_of};
 ghost use Rattle.uc_meaning.specs.Visits.{AtClass, AtConstant, AtField, AtInit, AtInits, AtItem, AtMark, AtParam, AtProgram, AtRoutine, AtSig};
-ghost use Rattle.uc_meaning.specs.declared.rule.Rule.TheVariants.{S16, S18, S2, S22, S4};
-ghost use Rattle.uc_types.specs.Told.{told};
+ghost use Rattle.uc_meaning.specs.declared.rule.Rule.TheVariants.{S16, S17, S18, S2, S22, S4, S5};
+ghost use Rattle.uc_types.specs.Told.{told, told_forms, told_names, told_owners, told_uses, told_values};
 ghost use Rattle.uc_classes.specs.Circling.{AreFields, Walks};
 
 use crate::circle::leads_back;
 use crate::class::{Listed, Walked};
-use std::alloc::AllocError;
+use crate::conditions::count_conditions;
+use std::alloc::{AllocError, Global};
 use uc_bodies::declare::{is_element, judge_length};
 use uc_bodies::judge;
 use uc_declares::class::{
-    has_unset, is_field_of, is_new_field, is_new_routine, is_sound_event, is_well_built,
-    is_well_mained, is_well_marked,
+    has_unset, is_field_of, is_sound_event, is_well_built, is_well_mained, is_well_marked,
 };
+use uc_declares::earlier::{is_new_field, is_new_routine};
 use uc_declares::init::{entity_takes, is_by_ref, may_init};
 use uc_declares::item::{has_one_main, is_new_item, is_sound_item, is_sound_member, item_pos};
 use uc_declares::sig::may_return;
+use uc_index::index::Index;
 use uc_meaning::rule::Rule;
 use uc_meaning::rules::{Entity, FieldPlace, Meant, Sort};
-use uc_numbers::conditions::condition_count;
 use uc_owner::judge::{note_field, note_param};
 use uc_tree::class::{Class, Init, Member, Sig};
 use uc_tree::declare::Declarator;
-use uc_tree::kinds::{Access, Kind, Param};
+use uc_tree::kinds::{Access, Base, Kind, Param};
 use uc_tree::limits::{CLASS_CELLS, CLASS_CONDITIONS};
 use uc_tree::name::Name;
 use uc_tree::pos::Pos;
@@ -103,6 +107,22 @@ fn note_field_sort(names: &Names, declarator: &Declarator, sort: Option<Sort>, f
     }
 }
 
+// Behind the first field too many no further one is counted.
+fn note_event_sort(
+    class: &Class,
+    declarator: &Declarator,
+    field: FieldPlace,
+    sort: Sort,
+    found: &mut Found,
+)
+    ensures { found.new ≡ after found.old (unless (is_field_of class.now declarator.now field sort) S22 declarator.now.pos) }
+{
+    if found.is_open(Rule::S22, declarator.pos) {
+        let holds = is_field_of(class, declarator, field, sort);
+        found.note_unless(holds, Rule::S22, declarator.pos);
+    }
+}
+
 fn note_event_field(
     class: &Class,
     declarator: &Declarator,
@@ -113,23 +133,26 @@ fn note_event_field(
     ensures { found.new ≡ after found.old (of_sort sort (is_field_of class.now declarator.now field) S22 declarator.now.pos) }
 {
     match sort {
-        Some(sort) => {
-            let holds = is_field_of(class, declarator, field, sort);
-            found.note_unless(holds, Rule::S22, declarator.pos);
-        }
+        Some(sort) => note_event_sort(class, declarator, field, sort, found),
         None => {}
     }
 }
 
-fn is_new(walked: Walked, listed: Listed, index: usize, declarator: &Declarator) -> bool
-    requires fields { AreFields walked.class.now listed.member listed.base.now listed.declarators.now }
+fn is_new(
+    names: &Names,
+    walked: Walked,
+    listed: Listed,
+    index: usize,
+    declarator: &Declarator,
+) -> bool
+    requires walks { Walks names.now.program walked.home walked.class.now walked.circular walked.holders.now walked.bound.known walked.bound.names.now }
     ensures { result ≡ is_new_field walked.entry.class.now (place_in listed.entry.member index) (fields_at walked.entry.class.now listed.entry.member) declarator.now.name }
 {
     let field = FieldPlace {
         member: listed.member,
         index,
     };
-    let new = is_new_field(walked.class, field, listed.declarators, &declarator.name);
+    let new = is_new_field(names.tables(), walked.home.class, field, &declarator.name);
     new
 }
 
@@ -141,7 +164,7 @@ fn leads_home(
     declarator: &Declarator,
 ) -> bool
     requires home { names.now.around.home ≡ Some walked.home }
-    requires walks { Walks names.now.program walked.home walked.class.now walked.circular walked.holders.now }
+    requires walks { Walks names.now.program walked.home walked.class.now walked.circular walked.holders.now walked.bound.known walked.bound.names.now }
     requires fields { AreFields walked.class.now listed.member listed.base.now listed.declarators.now }
     requires there { slice_get listed.declarators.now index ≡ Some declarator.now }
     ensures { result ≡ home_leads_back names.now.program names.now.around.home listed.entry.base.now declarator.now }
@@ -158,16 +181,17 @@ fn is_open(kind: Kind, access: Access) -> bool
 }
 
 fn note_declared(
+    names: &Names,
     walked: Walked,
     listed: Listed,
     index: usize,
     declarator: &Declarator,
     found: &mut Found,
 )
-    requires fields { AreFields walked.class.now listed.member listed.base.now listed.declarators.now }
+    requires walks { Walks names.now.program walked.home walked.class.now walked.circular walked.holders.now walked.bound.known walked.bound.names.now }
     ensures { found.new ≡ after found.old (unless (is_new_field walked.entry.class.now (place_in listed.entry.member index) (fields_at walked.entry.class.now listed.entry.member) declarator.now.name) S2 declarator.now.pos) }
 {
-    let new = is_new(walked, listed, index, declarator);
+    let new = is_new(names, walked, listed, index, declarator);
     found.note_unless(new, Rule::S2, declarator.pos);
 }
 
@@ -180,7 +204,7 @@ fn note_circle(
     found: &mut Found,
 )
     requires home { names.now.around.home ≡ Some walked.home }
-    requires walks { Walks names.now.program walked.home walked.class.now walked.circular walked.holders.now }
+    requires walks { Walks names.now.program walked.home walked.class.now walked.circular walked.holders.now walked.bound.known walked.bound.names.now }
     requires fields { AreFields walked.class.now listed.member listed.base.now listed.declarators.now }
     requires there { slice_get listed.declarators.now index ≡ Some declarator.now }
     ensures { found.new ≡ after found.old (unless (not (home_leads_back names.now.program names.now.around.home listed.entry.base.now declarator.now)) S4 declarator.now.pos) }
@@ -208,8 +232,8 @@ fn note_access(class: &Class, access: Access, declarator: &Declarator, found: &m
     found.note_unless(!open, Rule::S18, declarator.pos);
 }
 
-/// A field of a class, by its place in its list.
-pub fn ask_field(
+// What the rules on names, types and places ask of a field.
+fn note_text(
     names: &Names,
     walked: Walked,
     listed: Listed,
@@ -218,10 +242,10 @@ pub fn ask_field(
     found: &mut Found,
 )
     requires home { names.now.around.home ≡ Some walked.home }
-    requires walks { Walks names.now.program walked.home walked.class.now walked.circular walked.holders.now }
+    requires walks { Walks names.now.program walked.home walked.class.now walked.circular walked.holders.now walked.bound.known walked.bound.names.now }
     requires fields { AreFields walked.class.now listed.member listed.base.now listed.declarators.now }
     requires there { slice_get listed.declarators.now index ≡ Some declarator.now }
-    ensures { found.new ≡ told found.old (AtField names.now walked.entry.class.now listed.entry.access listed.entry.base.now declarator.now (place_in listed.entry.member index)) }
+    ensures { found.new ≡ told_forms (told_values (told_uses (told_names found.old (AtField names.now walked.entry.class.now listed.entry.access listed.entry.base.now declarator.now (place_in listed.entry.member index))) (AtField names.now walked.entry.class.now listed.entry.access listed.entry.base.now declarator.now (place_in listed.entry.member index))) (AtField names.now walked.entry.class.now listed.entry.access listed.entry.base.now declarator.now (place_in listed.entry.member index))) (AtField names.now walked.entry.class.now listed.entry.access listed.entry.base.now declarator.now (place_in listed.entry.member index)) }
 {
     let field = FieldPlace {
         member: listed.member,
@@ -229,30 +253,117 @@ pub fn ask_field(
     };
     let tables = names.tables();
     let sort = tables.sort_of(listed.base);
-    note_declared(walked, listed, index, declarator, found);
+    note_declared(names, walked, listed, index, declarator, found);
     note_circle(names, walked, listed, index, declarator, found);
     note_length(names, declarator, found);
     note_field_sort(names, declarator, sort, found);
     note_access(walked.class, listed.access, declarator, found);
     note_event_field(walked.class, declarator, field, sort, found);
-    note_field(names, walked.class, listed.base, declarator, found);
+}
+
+// What the rules on who owns what ask of a field.
+fn note_owned(
+    names: &Names,
+    walked: Walked,
+    base: &Base,
+    declarator: &Declarator,
+    found: &mut Found,
+) -> Result<(), AllocError>
+    requires home { names.now.around.home ≡ Some walked.home }
+    requires walks { Walks names.now.program walked.home walked.class.now walked.circular walked.holders.now walked.bound.known walked.bound.names.now }
+    ensures { OnOk result ((access : Access) (field : FieldPlace) → found.new ≡ told_owners found.old (AtField names.now walked.entry.class.now access base.now declarator.now field)) }
+{
+    note_field(names, walked.class, walked.bound, base, declarator, found)?;
+    Ok(())
+}
+
+/// A field of a class, by its place in its list.
+pub fn ask_field(
+    names: &Names,
+    walked: Walked,
+    listed: Listed,
+    index: usize,
+    declarator: &Declarator,
+    found: &mut Found,
+) -> Result<(), AllocError>
+    requires home { names.now.around.home ≡ Some walked.home }
+    requires walks { Walks names.now.program walked.home walked.class.now walked.circular walked.holders.now walked.bound.known walked.bound.names.now }
+    requires fields { AreFields walked.class.now listed.member listed.base.now listed.declarators.now }
+    requires there { slice_get listed.declarators.now index ≡ Some declarator.now }
+    ensures { OnOk result (found.new ≡ told found.old (AtField names.now walked.entry.class.now listed.entry.access listed.entry.base.now declarator.now (place_in listed.entry.member index))) }
+{
+    note_text(names, walked, listed, index, declarator, found);
+    note_owned(names, walked, listed.base, declarator, found)?;
+    Ok(())
+}
+
+// Whether a member is sound, in the program of the names.
+fn is_sound(
+    names: &Names,
+    walked: Walked,
+    proto: bool,
+    sig: &Sig,
+    member: usize,
+) -> Result<bool, AllocError>
+    requires { walked.index.now ≡ names.now.program }
+    ensures { IfOk result (λ b. b ≡ is_sound_member names.now.program walked.entry.class.now proto sig.now member) }
+{
+    let alloc = walked.alloc;
+    let holds = is_sound_member(alloc, walked.index, walked.class, proto, sig, member)?;
+    Ok(holds)
+}
+
+// Behind the second constructor of a class no further one goes through the members before it.
+fn note_sound(
+    names: &Names,
+    walked: Walked,
+    proto: bool,
+    sig: &Sig,
+    member: usize,
+    found: &mut Found,
+) -> Result<(), AllocError>
+    requires { walked.index.now ≡ names.now.program }
+    ensures { OnOk result (found.new ≡ after found.old (unless (is_sound_member names.now.program walked.entry.class.now proto sig.now member) S5 sig.now.pos)) }
+{
+    if found.is_open(Rule::S5, sig.pos) {
+        let holds = is_sound(names, walked, proto, sig, member)?;
+        found.note_unless(holds, Rule::S5, sig.pos);
+    }
+    Ok(())
+}
+
+fn is_free(names: &Names, walked: Walked, sig: &Sig, member: usize) -> bool
+    requires walks { Walks names.now.program walked.home walked.class.now walked.circular walked.holders.now walked.bound.known walked.bound.names.now }
+    ensures { result ≡ is_new_routine walked.entry.class.now member sig.now }
+{
+    let new = is_new_routine(names.tables(), walked.home.class, member, sig);
+    new
+}
+
+fn note_routine(names: &Names, walked: Walked, sig: &Sig, member: usize, found: &mut Found)
+    requires walks { Walks names.now.program walked.home walked.class.now walked.circular walked.holders.now walked.bound.known walked.bound.names.now }
+    ensures { found.new ≡ after found.old (unless (is_new_routine walked.entry.class.now member sig.now) S2 sig.now.pos) }
+{
+    let free = is_free(names, walked, sig, member);
+    found.note_unless(free, Rule::S2, sig.pos);
 }
 
 /// A member that is a routine or a prototype, by its place.
 pub fn ask_routine(
     names: &Names,
-    class: &Class,
+    walked: Walked,
     proto: bool,
     sig: &Sig,
     member: usize,
     found: &mut Found,
-)
-    ensures { found.new ≡ told found.old (AtRoutine names.now class.now proto sig.now member) }
+) -> Result<(), AllocError>
+    requires walks { Walks names.now.program walked.home walked.class.now walked.circular walked.holders.now walked.bound.known walked.bound.names.now }
+    requires indexed { walked.index.now ≡ names.now.program }
+    ensures { OnOk result (found.new ≡ told found.old (AtRoutine names.now walked.entry.class.now proto sig.now member)) }
 {
-    let program = names.tables().program();
-    found.note_unless(is_new_routine(class, member, sig), Rule::S2, sig.pos);
-    let holds = is_sound_member(program, class, proto, sig, member);
-    found.note_unless(holds, Rule::S5, sig.pos);
+    note_routine(names, walked, sig, member, found);
+    note_sound(names, walked, proto, sig, member, found)?;
+    Ok(())
 }
 
 /// A member with its mark, where the numbered members of its class have these names.
@@ -278,7 +389,7 @@ fn has_few_conditions(names: &Names, class: &Class, place: usize) -> Result<bool
     ensures { IfOk result (λ few. few ≡ nat_le (condition_count names.now.program place class.now) CLASS_CONDITIONS) }
 {
     let tables = names.tables();
-    let count = condition_count(names.alloc(), tables.sizes(), place, class)?;
+    let count = count_conditions(names.alloc(), tables, place, class)?;
     Ok(count <= u64::from(CLASS_CONDITIONS))
 }
 
@@ -288,23 +399,36 @@ fn has_few_cells(tables: &Tables, place: usize) -> bool
     tables.sizes().cells_of_class(place) <= CLASS_CELLS
 }
 
+// Whether an event is sound, in the program of the names.
+fn is_event_sound(names: &Names, index: &Index, class: &Class, place: usize, events: usize) -> bool
+    requires indexed { index.now ≡ names.now.program }
+    requires events { events ≡ events_before names.now.program place }
+    ensures { result ≡ is_sound_event names.now.program class.now place }
+{
+    let holds = is_sound_event(index, class, place, events);
+    holds
+}
+
 /// A class by its place, before which so many events stand.
 pub fn ask_class(
     names: &Names,
+    index: &Index,
     class: &Class,
     place: usize,
     events: usize,
     found: &mut Found,
 ) -> Result<(), AllocError>
-    requires { events ≡ events_before names.now.program place }
+    requires indexed { index.now ≡ names.now.program }
+    requires events { events ≡ events_before names.now.program place }
     ensures { OnOk result (found.new ≡ told found.old (AtClass names.now class.now place)) }
 {
     let tables = names.tables();
     let few = has_few_conditions(names, class, place)?;
     found.note_unless(is_well_mained(class), Rule::S6, class.pos);
     found.note_unless(has_few_cells(tables, place) && few, Rule::S14, class.pos);
-    found.note_unless(is_well_built(tables, class), Rule::S17, class.pos);
-    let holds = is_sound_event(tables.program(), class, place, events);
+    let built = is_well_built(names.alloc(), tables, class);
+    found.note_unless(built, Rule::S17, class.pos);
+    let holds = is_event_sound(names, index, class, place, events);
     found.note_unless(holds, Rule::S22, class.pos);
     Ok(())
 }
@@ -330,13 +454,38 @@ pub fn ask_constant(names: &Names, constant: &Constant, entity: Option<Entity>, 
     note_constant(names, constant, entity, found);
 }
 
-/// An item by its place.
-pub fn ask_item(tables: &Tables, item: &Item, place: usize, found: &mut Found)
-    ensures { found.new ≡ told found.old (AtItem tables.now item.now place) }
+fn note_item(
+    alloc: Global,
+    tables: &Tables,
+    index: &Index,
+    item: &Item,
+    place: usize,
+    found: &mut Found,
+) -> Result<(), AllocError>
+    requires { index.now ≡ tables.now }
+    ensures { OnOk result (found.new ≡ told found.old (AtItem index.now item.now place)) }
 {
     let at = item_pos(item);
-    found.note_unless(is_new_item(tables.program(), item, place), Rule::S2, at);
-    found.note_unless(is_sound_item(tables, item, place), Rule::S5, at);
+    found.note_unless(is_new_item(index, item, place), Rule::S2, at);
+    let holds = is_sound_item(alloc, tables, index, item, place)?;
+    found.note_unless(holds, Rule::S5, at);
+    Ok(())
+}
+
+/// An item by its place.
+pub fn ask_item(
+    alloc: Global,
+    tables: &Tables,
+    index: &Index,
+    item: &Item,
+    place: usize,
+    found: &mut Found,
+) -> Result<(), AllocError>
+    requires { index.now ≡ tables.now }
+    ensures { OnOk result (found.new ≡ told found.old (AtItem tables.now item.now place)) }
+{
+    note_item(alloc, tables, index, item, place, found)?;
+    Ok(())
 }
 
 /// The program.
@@ -359,33 +508,57 @@ fn home_class<'a>(names: &Names<'a>) -> Option<&'a Class>
     }
 }
 
-fn has_unset_fields(names: &Names, inits: &[Init]) -> bool
-    ensures { result ≡ has_unset names.now.program inits.now (home_class names.now) }
+fn has_unset_fields(names: &Names, inits: &[Init]) -> Result<bool, AllocError>
+    ensures { IfOk result (λ unset. unset ≡ has_unset names.now.program inits.now (home_class names.now)) }
 {
     match home_class(names) {
-        Some(class) => has_unset(names.tables(), inits, class),
-        None => false,
+        Some(class) => {
+            let unset = has_unset(names.alloc(), names.tables(), inits, class)?;
+            Ok(unset)
+        }
+        None => Ok(false),
     }
 }
 
-fn note_inits(names: &Names, sig: &Sig, inits: &[Init], found: &mut Found)
-    ensures { found.new ≡ after found.old (inits_breaks names.now sig.now inits.now) }
+// Behind the second constructor of a class no further one goes through its fields.
+fn note_unset(names: &Names, inits: &[Init], at: Pos, found: &mut Found) -> Result<(), AllocError>
+    ensures { OnOk result (found.new ≡ after found.old (unless (not (has_unset names.now.program inits.now (home_class names.now))) S17 at)) }
+{
+    if !found.is_open(Rule::S17, at) {
+        return Ok(());
+    }
+    let unset = has_unset_fields(names, inits)?;
+    found.note_unless(!unset, Rule::S17, at);
+    Ok(())
+}
+
+fn note_inits(names: &Names, sig: &Sig, inits: &[Init], found: &mut Found) -> Result<(), AllocError>
+    ensures { OnOk result (found.new ≡ after found.old (inits_breaks names.now sig.now inits.now)) }
 {
     if is_constructor(sig.role) {
-        found.note_unless(!has_unset_fields(names, inits), Rule::S17, sig.pos);
-        return;
+        note_unset(names, inits, sig.pos, found)?;
+        return Ok(());
     }
     match inits.first() {
-        Some(init) => found.note(Rule::S17, init.pos),
-        None => {}
+        Some(init) => {
+            found.note(Rule::S17, init.pos);
+            Ok(())
+        }
+        None => Ok(()),
     }
 }
 
 /// A routine with its initialisers.
-pub fn ask_inits(names: &Names, sig: &Sig, inits: &[Init], found: &mut Found)
-    ensures { found.new ≡ told found.old (AtInits names.now sig.now inits.now) }
+pub fn ask_inits(
+    names: &Names,
+    sig: &Sig,
+    inits: &[Init],
+    found: &mut Found,
+) -> Result<(), AllocError>
+    ensures { OnOk result (found.new ≡ told found.old (AtInits names.now sig.now inits.now)) }
 {
-    note_inits(names, sig, inits, found);
+    note_inits(names, sig, inits, found)?;
+    Ok(())
 }
 
 #[tactic(auto, using(uc_bodies::proofs::Joined::joining))]

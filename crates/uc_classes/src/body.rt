@@ -60,7 +60,7 @@ pub fn check_sig(names: &mut Names, sig: &Sig, found: &mut Found) -> Result<(), 
 fn check_body(names: &mut Names, routine: &Routine, found: &mut Found) -> Result<(), AllocError>
     ensures { OnOk result (found.new ≡ noted found.old (body_visits names.old routine.now)) }
 {
-    ask_inits(names, &routine.sig, &routine.inits, found);
+    ask_inits(names, &routine.sig, &routine.inits, found)?;
     check_inits(names, &routine.inits, found);
     check_stmts(names, &routine.body, found)?;
     Ok(())

@@ -6,19 +6,21 @@ ghost use Rattle.uc_meaning.specs.Firsts.{after};
 
 use crate::ask::ask_program;
 use crate::item::check_items;
+use crate::tabled::tables_of;
 use std::alloc::{AllocError, Global};
+use uc_index::index::Index;
 use uc_meaning::rule::Break;
 use uc_tree::program::Program;
 use uc_types::found::Found;
-use uc_types::tables::Tables;
 
 /// The first break of a rule, where a program breaks one.
 pub fn first_break(alloc: Global, program: &Program) -> Result<Option<Break>, AllocError>
     ensures { IfOk result (λ first. first ≡ after None (breaks_of program.now)) }
 {
-    let tables = Tables::new(alloc, program)?;
+    let tables = tables_of(alloc, program)?;
+    let index = Index::new(alloc, program)?;
     let mut found = Found::new();
     ask_program(program, &mut found);
-    check_items(alloc, &tables, &mut found)?;
+    check_items(alloc, &tables, &index, &mut found)?;
     Ok(found.first())
 }

@@ -20,8 +20,10 @@ use crate::body::{check_routine, check_sig};
 use std::alloc::{AllocError, Global};
 use uc_bodies::declare::check_maybe;
 use uc_bodies::judge::ask_base;
+use uc_index::index::Index;
+use uc_meaning::rule::Rule;
 use uc_meaning::rules::{Around, FieldPlace, Home};
-use uc_numbers::members::members_of;
+use uc_owner::bind::{BoundFields, bound_fields};
 use uc_tree::class::{Class, Member, MemberForm, Sig};
 use uc_tree::declare::Declarator;
 use uc_tree::kinds::{Access, Base, Mark, Role};
@@ -32,16 +34,20 @@ use uc_types::sort::{is_mutex, is_nomutex, is_plain, is_scalar_sort};
 use uc_types::tables::Tables;
 
 /// A class that is walked: its place and kind, whether it has itself in its fields, and then the flags of the classes that
-/// have it in theirs, and the names of its numbered members.
+/// have it in theirs, the fields that its constructors bind to fields of the same object, and the names of its numbered
+/// members.
 #[derive(Clone, Copy)]
 pub struct Walked<'a> {
     pub alloc: Global,
     pub tables: &'a Tables<'a>,
+    pub index: &'a Index<'a>,
     pub class: &'a Class,
     pub home: Home,
     pub circular: bool,
     pub holders: &'a [bool],
+    pub bound: BoundFields<'a>,
     pub numbered: &'a [&'a Name],
+    ghost indexed: { index.now ≡ tables.now },
 }
 
 /// A list of fields: the place of its member, the access and the base.
@@ -53,7 +59,8 @@ pub struct Listed<'a> {
     pub declarators: &'a [Declarator],
 }
 
-fn class_around(home: Home) -> Around
+/// What stands round the members of a class, outside of its routines.
+pub fn class_around(home: Home) -> Around
     ensures { result ≡ class_around home }
 {
     Around {
@@ -113,27 +120,34 @@ fn check_field(
     index: usize,
     declarator: &Declarator,
     found: &mut Found,
-)
+) -> Result<(), AllocError>
     requires home { names.now.around.home ≡ Some walked.home }
-    requires walks { Walks names.now.program walked.home walked.class.now walked.circular walked.holders.now }
+    requires walks { Walks names.now.program walked.home walked.class.now walked.circular walked.holders.now walked.bound.known walked.bound.names.now }
     requires fields { AreFields walked.class.now listed.member listed.base.now listed.declarators.now }
     requires there { slice_get listed.declarators.now index ≡ Some declarator.now }
-    ensures { found.new ≡ noted found.old (maybe_visits names.now declarator.now.len ++ AtField names.now walked.entry.class.now listed.entry.access listed.entry.base.now declarator.now (place_in listed.entry.member index) ∷ []) }
+    ensures { OnOk result (found.new ≡ noted found.old (maybe_visits names.now declarator.now.len ++ AtField names.now walked.entry.class.now listed.entry.access listed.entry.base.now declarator.now (place_in listed.entry.member index) ∷ [])) }
 {
     check_maybe(names, &declarator.len, found);
-    ask_field(names, walked, listed, index, declarator, found);
+    ask_field(names, walked, listed, index, declarator, found)?;
+    Ok(())
 }
 
 #[tactic(auto, using(uc_bodies::proofs::Joined::joining))]
-fn check_fields(names: &Names, walked: Walked, listed: Listed, found: &mut Found)
+fn check_fields(
+    names: &Names,
+    walked: Walked,
+    listed: Listed,
+    found: &mut Found,
+) -> Result<(), AllocError>
     requires home { names.now.around.home ≡ Some walked.home }
-    requires walks { Walks names.now.program walked.home walked.class.now walked.circular walked.holders.now }
+    requires walks { Walks names.now.program walked.home walked.class.now walked.circular walked.holders.now walked.bound.known walked.bound.names.now }
     requires fields { AreFields walked.class.now listed.member listed.base.now listed.declarators.now }
-    ensures { found.new ≡ noted found.old (fields_visits names.now walked.entry.class.now listed.entry.access listed.entry.base.now listed.entry.member 0 listed.entry.declarators.now) }
+    ensures { OnOk result (found.new ≡ noted found.old (fields_visits names.now walked.entry.class.now listed.entry.access listed.entry.base.now listed.entry.member 0 listed.entry.declarators.now)) }
 {
     for (index, declarator) in listed.declarators.iter().enumerate() {
-        check_field(names, walked, listed, index, declarator, found);
+        check_field(names, walked, listed, index, declarator, found)?;
     }
+    Ok(())
 }
 
 #[tactic(auto, using(uc_bodies::proofs::Joined::joining))]
@@ -144,7 +158,7 @@ fn check_form(
     found: &mut Found,
 ) -> Result<(), AllocError>
     requires at { slice_get walked.class.now.members place ≡ Some member.now }
-    requires walks { Walks walked.tables.now walked.home walked.class.now walked.circular walked.holders.now }
+    requires walks { Walks walked.tables.now walked.home walked.class.now walked.circular walked.holders.now walked.bound.known walked.bound.names.now }
     ensures { OnOk result (found.new ≡ noted found.old (form_visits walked.entry.tables.now walked.entry.home walked.entry.class.now place member.now.mark member.now.access member.now.form)) }
 {
     let outer = Names::new(walked.alloc, walked.tables, class_around(walked.home));
@@ -161,11 +175,11 @@ fn check_form(
                 declarators,
             };
             ask_base(&outer, base, *at, found);
-            check_fields(&outer, walked, listed, found);
+            check_fields(&outer, walked, listed, found)?;
             Ok(())
         }
         MemberForm::Routine { routine } => {
-            ask_routine(&outer, walked.class, false, &routine.sig, place, found);
+            ask_routine(&outer, walked, false, &routine.sig, place, found)?;
             let around = sig_around(
                 walked.tables,
                 Some(walked.home),
@@ -178,7 +192,7 @@ fn check_form(
             Ok(())
         }
         MemberForm::Proto { sig } => {
-            ask_routine(&outer, walked.class, true, sig, place, found);
+            ask_routine(&outer, walked, true, sig, place, found)?;
             let around = sig_around(walked.tables, Some(walked.home), false, member.mark, sig);
             let mut names = Names::new(walked.alloc, walked.tables, around);
             check_sig(&mut names, sig, found)?;
@@ -195,7 +209,7 @@ fn check_member(
     found: &mut Found,
 ) -> Result<(), AllocError>
     requires at { slice_get walked.class.now.members place ≡ Some member.now }
-    requires walks { Walks walked.tables.now walked.home walked.class.now walked.circular walked.holders.now }
+    requires walks { Walks walked.tables.now walked.home walked.class.now walked.circular walked.holders.now walked.bound.known walked.bound.names.now }
     requires names { map (λ n. n.now) walked.numbered.now ≡ take MEMBERS (mutex_members walked.class.now) }
     requires few { length walked.numbered.now ≤ MEMBERS }
     ensures { OnOk result (found.new ≡ noted found.old (AtMark (plain_env walked.entry.tables.now (class_around walked.entry.home)) walked.entry.class.now member.now ∷ form_visits walked.entry.tables.now walked.entry.home walked.entry.class.now place member.now.mark member.now.access member.now.form)) }
@@ -208,7 +222,7 @@ fn check_member(
 
 #[tactic(auto, using(uc_bodies::proofs::Joined::joining))]
 fn check_members(walked: Walked, found: &mut Found) -> Result<(), AllocError>
-    requires walks { Walks walked.tables.now walked.home walked.class.now walked.circular walked.holders.now }
+    requires walks { Walks walked.tables.now walked.home walked.class.now walked.circular walked.holders.now walked.bound.known walked.bound.names.now }
     requires names { map (λ n. n.now) walked.numbered.now ≡ take MEMBERS (mutex_members walked.class.now) }
     requires few { length walked.numbered.now ≤ MEMBERS }
     ensures { OnOk result (found.new ≡ noted found.old (members_visits walked.entry.tables.now walked.entry.home walked.entry.class.now 0 walked.entry.class.now.members)) }
@@ -248,11 +262,13 @@ fn holders_of(
 pub fn check_class(
     alloc: Global,
     tables: &Tables,
+    index: &Index,
     class: &Class,
     place: usize,
     events: usize,
     found: &mut Found,
 ) -> Result<(), AllocError>
+    requires indexed { index.now ≡ tables.now }
     requires events { events ≡ events_before tables.now place }
     requires at { class_at tables.now place ≡ Some class.now }
     ensures { OnOk result (found.new ≡ noted found.old (class_visits tables.now place class.now)) }
@@ -262,18 +278,24 @@ pub fn check_class(
         kind: class.kind,
     };
     let outer = Names::new(alloc, tables, class_around(home));
-    ask_class(&outer, class, place, events, found)?;
+    ask_class(&outer, index, class, place, events, found)?;
     let circular = tables.sizes().has_itself(place);
     let holders = holders_of(alloc, tables, place, circular)?;
-    let numbered = members_of(alloc, class)?;
+    let known = is_mutex(class.kind) && found.is_open(Rule::O5, class.pos);
+    let names = bound_fields(alloc, tables, class, place, known)?;
     let walked = Walked {
         alloc,
         tables,
+        index,
         class,
         home,
         circular,
         holders: &holders,
-        numbered: &numbered,
+        bound: BoundFields {
+            known,
+            names: &names,
+        },
+        numbered: tables.numbered(place),
     };
     check_members(walked, found)?;
     Ok(())

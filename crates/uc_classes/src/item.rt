@@ -1,12 +1,10 @@
 // The rules on items.
 
-ghost use Rattle.std.specs.Prelude.{◌≡◌, ◌≤◌, [], ◌∷◌, ◌++◌, OnOk};
+ghost use Rattle.std.specs.Prelude.{◌≡◌, ◌≤◌, [], ◌∷◌, ◌++◌, IfOk, OnOk};
 ghost use Rattle.uc_meaning.specs.ClassBreaks.{events_before};
-ghost use Rattle.uc_meaning.specs.ProgramVisits.{classes_in, form_declares, is_of_main, item_visits, items_visits, mark_among, mark_in, outer_env, outer_mark, routine_visits, sig_visits};
+ghost use Rattle.uc_meaning.specs.ProgramVisits.{classes_in, is_of_main, item_visits, items_visits, outer_env, outer_mark, routine_visits, sig_visits};
 ghost use Rattle.uc_meaning.specs.Scopes.{no_around, plain_env};
-ghost use Rattle.uc_meaning.specs.Sorts.{class_at};
 ghost use Rattle.uc_meaning.specs.Visits.{AtConstant, AtItem, visits};
-ghost use Rattle.uc_tree.specs.ProgramViews.{member_form_at};
 ghost use Rattle.uc_types.specs.Told.{noted};
 ghost use Rattle.uc_classes.specs.Counted.{events_in, ItemAt};
 
@@ -15,9 +13,9 @@ use crate::body::{check_routine, check_sig};
 use crate::class::{check_class, sig_around};
 use std::alloc::{AllocError, Global};
 use uc_declares::item::owner_home;
-use uc_declares::sig::same_role;
+use uc_index::index::Index;
 use uc_meaning::rules::{Around, Home};
-use uc_tree::class::{Member, MemberForm, Routine, Sig};
+use uc_tree::class::{Routine, Sig};
 use uc_tree::kinds::{Mark, Owner, Role};
 use uc_tree::program::{Constant, Item, ItemForm};
 use uc_types::expr::check_expr;
@@ -26,7 +24,8 @@ use uc_types::names::Names;
 use uc_types::sort::is_event;
 use uc_types::tables::Tables;
 
-fn no_around() -> Around
+/// What stands round what is in no class and no routine.
+pub fn no_around() -> Around
     ensures { result ≡ no_around }
 {
     Around {
@@ -42,46 +41,31 @@ fn no_around() -> Around
     }
 }
 
-// Whether a member is the prototype of a routine, but for its parameters.
-fn declares(sig: &Sig, form: &MemberForm) -> bool
-    ensures { result ≡ form_declares sig.now (member_form_at form.now) }
-{
-    match form {
-        MemberForm::Fields { .. } => false,
-        MemberForm::Routine { .. } => false,
-        MemberForm::Proto { sig: proto } => {
-            same_role(sig.role, proto.role) && sig.name.is(proto.name.bytes())
-        }
-    }
-}
-
-fn mark_among(sig: &Sig, members: &[Member]) -> Mark
-    ensures { result ≡ mark_among sig.now members.now }
-{
-    for member in members {
-        if declares(sig, &member.form) {
-            return member.mark;
-        }
-    }
-    Mark::Unmarked
-}
-
-fn outer_mark(tables: &Tables, home: Option<Home>, sig: &Sig) -> Mark
-    ensures { result ≡ outer_mark tables.now home sig.now }
+fn mark_of(alloc: Global, index: &Index, home: Option<Home>, sig: &Sig) -> Result<Mark, AllocError>
+    ensures { IfOk result (λ mark. mark ≡ outer_mark index.now home sig.now) }
 {
     match home {
-        Some(home) => class_mark(tables, home.class, sig),
-        None => Mark::Unmarked,
+        Some(home) => {
+            let mark = index.mark_in(alloc, home.class, sig)?;
+            Ok(mark)
+        }
+        None => Ok(Mark::Unmarked),
     }
 }
 
-fn class_mark(tables: &Tables, class: usize, sig: &Sig) -> Mark
-    ensures { result ≡ mark_in sig.now (class_at tables.now class) }
+// The mark of a routine in its class, in the program of the tables.
+fn outer_mark(
+    alloc: Global,
+    tables: &Tables,
+    index: &Index,
+    home: Option<Home>,
+    sig: &Sig,
+) -> Result<Mark, AllocError>
+    requires { index.now ≡ tables.now }
+    ensures { IfOk result (λ mark. mark ≡ outer_mark tables.now home sig.now) }
 {
-    match tables.class_at(class) {
-        Some(class) => mark_among(sig, &class.members),
-        None => Mark::Unmarked,
-    }
+    let mark = mark_of(alloc, index, home, sig)?;
+    Ok(mark)
 }
 
 fn is_of_main(owner: &Owner) -> bool
@@ -94,25 +78,33 @@ fn is_of_main(owner: &Owner) -> bool
     }
 }
 
-// The environment of a routine that stands outside of classes.
-fn outer_names<'a>(alloc: Global, tables: &'a Tables<'a>, sig: &Sig) -> Names<'a>
-    ensures { result ≡ outer_env tables.now sig.now }
+/// The environment of a routine that stands outside of classes, before its parameters.
+pub fn outer_names<'a>(
+    alloc: Global,
+    tables: &'a Tables<'a>,
+    index: &Index,
+    sig: &Sig,
+) -> Result<Names<'a>, AllocError>
+    requires { index.now ≡ tables.now }
+    ensures { IfOk result (λ names. names ≡ outer_env tables.now sig.now) }
 {
     let home = owner_home(tables, &sig.owner);
-    let mark = outer_mark(tables, home, sig);
+    let mark = outer_mark(alloc, tables, index, home, sig)?;
     let around = sig_around(tables, home, is_of_main(&sig.owner), mark, sig);
-    Names::new(alloc, tables, around)
+    Ok(Names::new(alloc, tables, around))
 }
 
 fn check_outer(
     alloc: Global,
     tables: &Tables,
+    index: &Index,
     routine: &Routine,
     found: &mut Found,
 ) -> Result<(), AllocError>
+    requires { index.now ≡ tables.now }
     ensures { OnOk result (found.new ≡ noted found.old (routine_visits (outer_env tables.now routine.now.sig) routine.now)) }
 {
-    let mut names = outer_names(alloc, tables, &routine.sig);
+    let mut names = outer_names(alloc, tables, index, &routine.sig)?;
     check_routine(&mut names, routine, found)?;
     Ok(())
 }
@@ -149,21 +141,31 @@ struct Before {
 fn check_item(
     alloc: Global,
     tables: &Tables,
+    index: &Index,
     before: Before,
     item: &Item,
     found: &mut Found,
 ) -> Result<(), AllocError>
+    requires indexed { index.now ≡ tables.now }
     requires events { before.events ≡ events_before tables.now before.classes }
     requires at { ItemAt tables.now before.classes item.now }
     ensures { OnOk result (found.new ≡ noted found.old (item_visits tables.now before.classes item.now)) }
 {
     match &item.form {
         ItemForm::Class { class } => {
-            check_class(alloc, tables, class, before.classes, before.events, found)?;
+            check_class(
+                alloc,
+                tables,
+                index,
+                class,
+                before.classes,
+                before.events,
+                found,
+            )?;
             Ok(())
         }
         ItemForm::Routine { routine } => {
-            check_outer(alloc, tables, routine, found)?;
+            check_outer(alloc, tables, index, routine, found)?;
             Ok(())
         }
         ItemForm::Constant { constant } => {
@@ -212,23 +214,31 @@ fn event_count(item: &Item) -> usize
 fn check_placed(
     alloc: Global,
     tables: &Tables,
+    index: &Index,
     before: Before,
     item: &Item,
     place: usize,
     found: &mut Found,
 ) -> Result<(), AllocError>
+    requires indexed { index.now ≡ tables.now }
     requires events { before.events ≡ events_before tables.now before.classes }
     requires at { ItemAt tables.now before.classes item.now }
     ensures { OnOk result (found.new ≡ noted found.old (AtItem tables.now item.now place ∷ item_visits tables.now before.classes item.now)) }
 {
-    ask_item(tables, item, place, found);
-    check_item(alloc, tables, before, item, found)?;
+    ask_item(alloc, tables, index, item, place, found)?;
+    check_item(alloc, tables, index, before, item, found)?;
     Ok(())
 }
 
 /// The items of a program.
 #[tactic(auto, using(uc_bodies::proofs::Joined::joining))]
-pub fn check_items(alloc: Global, tables: &Tables, found: &mut Found) -> Result<(), AllocError>
+pub fn check_items(
+    alloc: Global,
+    tables: &Tables,
+    index: &Index,
+    found: &mut Found,
+) -> Result<(), AllocError>
+    requires { index.now ≡ tables.now }
     ensures { OnOk result (found.new ≡ noted found.old (items_visits tables.now 0 0 tables.now.items)) }
 {
     let items = items_of(tables);
@@ -236,7 +246,7 @@ pub fn check_items(alloc: Global, tables: &Tables, found: &mut Found) -> Result<
     let mut events = 0;
     for (place, item) in items.iter().enumerate() {
         let before = Before { classes, events };
-        check_placed(alloc, tables, before, item, place, found)?;
+        check_placed(alloc, tables, index, before, item, place, found)?;
         classes += class_count(item);
         events += event_count(item);
     }

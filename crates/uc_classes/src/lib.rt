@@ -7,5 +7,7 @@ pub mod body;
 pub mod check;
 pub mod circle;
 pub mod class;
+pub mod conditions;
 pub mod init;
 pub mod item;
+pub mod tabled;

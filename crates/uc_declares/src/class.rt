@@ -1,25 +1,29 @@
 // Tests of classes and their members.
 
-ghost use Rattle.std.specs.Prelude.{◌≡◌, ◌≤◌, ◌+◌, MatchOption, None, Some, length, map, nat_lt, take};
+ghost use Rattle.std.specs.Prelude.{◌≡◌, ◌≤◌, ◌+◌, [], ℕ, List, IfOk, MatchOption, None, Some, is_some, length, map, nat_lt, take};
 ghost use Rattle.std.specs.List.{list_all, list_any};
+ghost use Rattle.uc_names.specs.Blocks.{found};
 ghost use Rattle.uc_tree.specs.Names.{same_name};
 ghost use Rattle.uc_tree.specs.ProgramViews.{member_form_at};
 ghost use Rattle.uc_tree.specs.Numbering.{exclusive_name, is_exclusive, main_name, member_form_name, mutex_members, sig_name};
 ghost use Rattle.uc_tree.specs.Statements.{stmts_of};
 ghost use Rattle.uc_tree.specs.declared.limits.TheConstants.{EVENT_FIELDS, MEMBERS};
-ghost use Rattle.uc_meaning.specs.ClassBreaks.{builds_more, declared_names, events_before, fields_before, fields_in, form_fields, has_number, is_empty_body, is_empty_constructor, is_event_field, is_event_member, is_field_of, is_owner, is_sound_event, is_well_marked, form_declares_names, form_is_main, form_may_be_marked, form_unset, has_unset, is_new_field, is_new_member, is_new_routine, is_unmarked, is_unset, is_well_built, is_well_mained, maybe_needs, members_declare, needs_init, sig_declares, sort_needs};
+ghost use Rattle.uc_meaning.specs.ClassBreaks.{declared_names, events_before, fields_before, fields_in, form_fields, has_number, is_empty_body, is_empty_constructor, is_event_field, is_event_member, is_field_of, is_owner, is_sound_event, is_well_marked, form_declares_names, form_is_main, form_may_be_marked, form_unset, has_unset, is_unmarked, is_unset, is_well_built, is_well_mained, maybe_needs, members_declare, needs_init, sig_declares, sort_needs};
 ghost use Rattle.uc_meaning.specs.Names.{constructor_among, constructor_params};
 
 use crate::sig::{is_main_of_class, may_be_marked};
+use std::alloc::{AllocError, Global};
+use uc_index::index::Index;
 use uc_meaning::rules::{FieldPlace, Sort};
+use uc_names::scope::Scope;
 use uc_numbers::members::member_number;
 use uc_tree::class::{Class, Init, Member, MemberForm, Routine, Sig};
 use uc_tree::declare::Declarator;
 use uc_tree::kinds::{Access, Base, Mark, Owner};
 use uc_tree::limits::{EVENT_FIELDS, PROGRAM_EVENTS};
 use uc_tree::name::Name;
-use uc_tree::program::{Item, ItemForm, Program};
 use uc_tree::stmt::Stmt;
+use uc_types::sets::{has_name, names_of_inits};
 use uc_types::sort::{
     has_main, is_constructor, is_event, is_event_sort, is_mutex, is_plain, is_public,
     is_scalar_sort,
@@ -32,90 +36,11 @@ fn any_named(declarators: &[Declarator], name: &[u8]) -> bool
     declarators.iter().any(|d| d.name.is(name))
 }
 
-fn is_declared(declarators: &[Declarator], name: &Name) -> bool
-    ensures { result ≡ list_any (λ x. same_name x name.now) (declared_names declarators.now) }
-{
-    let found = any_named(declarators, name.bytes());
-    found
-}
-
 fn names_main_field(declarators: &[Declarator]) -> bool
     ensures { result ≡ list_any (λ n. same_name n main_name) (declared_names declarators.now) }
 {
     let found = any_named(declarators, b"main");
     found
-}
-
-// Whether one of the first of these has a name.
-fn any_named_before(declarators: &[Declarator], count: usize, name: &Name) -> bool
-    ensures { result ≡ list_any (λ d. same_name d.name name.now) (take count declarators.now) }
-{
-    declarators
-        .iter()
-        .take(count)
-        .any(|d| d.name.is(name.bytes()))
-}
-
-fn declares(sig: &Sig, name: &Name) -> bool
-    ensures { result ≡ list_any (λ x. same_name x name.now) (sig_declares sig.now) }
-{
-    is_plain(sig.role) && sig.name.is(name.bytes())
-}
-
-fn form_declares(form: &MemberForm, name: &Name) -> bool
-    ensures { result ≡ list_any (λ x. same_name x name.now) (form_declares_names (member_form_at form.now)) }
-{
-    match form {
-        MemberForm::Fields { declarators, .. } => is_declared(declarators, name),
-        MemberForm::Routine { routine } => declares(&routine.sig, name),
-        MemberForm::Proto { sig } => declares(sig, name),
-    }
-}
-
-#[tactic(auto, using(crate::proofs::Listed::listing))]
-fn is_declared_in(members: &[Member], name: &Name) -> bool
-    ensures { result ≡ list_any (λ x. same_name x name.now) (members_declare members.now) }
-{
-    for member in members {
-        if form_declares(&member.form, name) {
-            return true;
-        }
-    }
-    false
-}
-
-// Whether one of the first members declares a name.
-#[tactic(auto, using(crate::proofs::Listed::listing))]
-fn is_declared_before(members: &[Member], count: usize, name: &Name) -> bool
-    ensures { result ≡ list_any (λ x. same_name x name.now) (members_declare (take count members.now)) }
-{
-    let end = count.min(members.len());
-    is_declared_in(&members[..end], name)
-}
-
-fn is_new_member(class: &Class, member: usize, name: &Name) -> bool
-    ensures { result ≡ is_new_member class.now member name.now }
-{
-    !(is_declared_before(&class.members, member, name) || name.is(b"uUnhandled"))
-}
-
-/// Whether no member or field before it declares the name of a field.
-pub fn is_new_field(
-    class: &Class,
-    place: FieldPlace,
-    declarators: &[Declarator],
-    name: &Name,
-) -> bool
-    ensures { result ≡ is_new_field class.now place declarators.now name.now }
-{
-    is_new_member(class, place.member, name) && !any_named_before(declarators, place.index, name)
-}
-
-/// Whether no member before it declares the name of a routine.
-pub fn is_new_routine(class: &Class, member: usize, sig: &Sig) -> bool
-    ensures { result ≡ is_new_routine class.now member sig.now }
-{
-    !is_plain(sig.role) || is_new_member(class, member, &sig.name)
 }
 
 fn is_main_form(form: &MemberForm) -> bool
@@ -287,20 +212,29 @@ fn needs_init(tables: &Tables, base: &Base, declarator: &Declarator) -> bool
     declarator.by_ref || (!declarator.len.is_some() && maybe_needs(tables, tables.sort_of(base)))
 }
 
-fn is_set(inits: &[Init], name: &Name) -> bool
-    ensures { result ≡ list_any (λ x. same_name x.name name.now) inits.now }
-{
-    inits.iter().any(|x| x.name.is(name.bytes()))
+/// Initialisers with their names.
+#[derive(Clone, Copy)]
+pub struct Inits<'a> {
+    pub list: &'a [Init],
+    pub names: &'a Scope,
+    ghost named: { (x : List ℕ) → is_some (found names.now x) ≡ list_any (λ i. same_name i.name x) list.now },
 }
 
-fn is_unset(tables: &Tables, inits: &[Init], base: &Base, declarator: &Declarator) -> bool
-    ensures { result ≡ is_unset tables.now inits.now base.now declarator.now }
+fn is_set(inits: &Inits, name: &Name) -> bool
+    ensures { result ≡ list_any (λ x. same_name x.name name.now) inits.now.list.now }
+{
+    let set = has_name(inits.names, name);
+    set
+}
+
+fn is_unset(tables: &Tables, inits: &Inits, base: &Base, declarator: &Declarator) -> bool
+    ensures { result ≡ is_unset tables.now inits.now.list.now base.now declarator.now }
 {
     needs_init(tables, base, declarator) && !is_set(inits, &declarator.name)
 }
 
-fn form_unset(tables: &Tables, inits: &[Init], form: &MemberForm) -> bool
-    ensures { result ≡ form_unset tables.now inits.now (member_form_at form.now) }
+fn form_unset(tables: &Tables, inits: &Inits, form: &MemberForm) -> bool
+    ensures { result ≡ form_unset tables.now inits.now.list.now (member_form_at form.now) }
 {
     match form {
         MemberForm::Fields {
@@ -313,15 +247,14 @@ fn form_unset(tables: &Tables, inits: &[Init], form: &MemberForm) -> bool
     }
 }
 
-fn any_unset(tables: &Tables, inits: &[Init], base: &Base, declarators: &[Declarator]) -> bool
-    ensures { result ≡ list_any (is_unset tables.now inits.now base.now) declarators.now }
+fn any_unset(tables: &Tables, inits: &Inits, base: &Base, declarators: &[Declarator]) -> bool
+    ensures { result ≡ list_any (is_unset tables.now inits.now.list.now base.now) declarators.now }
 {
     declarators.iter().any(|d| is_unset(tables, inits, base, d))
 }
 
-/// Whether a field of the class needs an initialiser that is not among these.
-pub fn has_unset(tables: &Tables, inits: &[Init], class: &Class) -> bool
-    ensures { result ≡ has_unset tables.now inits.now (Some class.now) }
+fn has_unset_among(tables: &Tables, inits: &Inits, class: &Class) -> bool
+    ensures { result ≡ has_unset tables.now inits.now.list.now (Some class.now) }
 {
     class
         .members
@@ -329,11 +262,42 @@ pub fn has_unset(tables: &Tables, inits: &[Init], class: &Class) -> bool
         .any(|m| form_unset(tables, inits, &m.form))
 }
 
+/// Whether a field of the class needs an initialiser that is not among these.
+pub fn has_unset(
+    alloc: Global,
+    tables: &Tables,
+    inits: &[Init],
+    class: &Class,
+) -> Result<bool, AllocError>
+    ensures { IfOk result (λ unset. unset ≡ has_unset tables.now inits.now (Some class.now)) }
+{
+    let names = names_of_inits(alloc, inits)?;
+    let inits = Inits {
+        list: inits,
+        names: &names,
+    };
+    let unset = has_unset_among(tables, &inits, class);
+    Ok(unset)
+}
+
+// The same without initialisers.
+fn needs_inits(alloc: Global, tables: &Tables, class: &Class) -> bool
+    ensures { result ≡ has_unset tables.now [] (Some class.now) }
+{
+    let names = Scope::new(alloc);
+    let inits = Inits {
+        list: &[],
+        names: &names,
+    };
+    let unset = has_unset_among(tables, &inits, class);
+    unset
+}
+
 /// Whether a class without a constructor needs none.
-pub fn is_well_built(tables: &Tables, class: &Class) -> bool
+pub fn is_well_built(alloc: Global, tables: &Tables, class: &Class) -> bool
     ensures { result ≡ is_well_built tables.now class.now }
 {
-    constructor_among(&class.members).is_some() || !has_unset(tables, &[], class)
+    constructor_among(&class.members).is_some() || !needs_inits(alloc, tables, class)
 }
 
 fn count_fields(form: &MemberForm) -> usize
@@ -413,56 +377,30 @@ pub fn is_owner(class: &Name, owner: &Owner) -> bool
     }
 }
 
-// Whether it is a constructor of the class that stands outside of it and has a statement.
-fn builds_more(class: &Name, item: &Item) -> bool
-    ensures { result ≡ builds_more class.now item.now }
-{
-    match &item.form {
-        ItemForm::Class { .. } => false,
-        ItemForm::Routine { routine } => {
-            is_owner(class, &routine.sig.owner)
-                && (is_constructor(routine.sig.role) && !is_empty_body(&routine.body))
-        }
-        ItemForm::Constant { .. } => false,
-        ItemForm::Proto { .. } => false,
-        ItemForm::Forward { .. } => false,
-        ItemForm::Using { .. } => false,
-    }
-}
-
-fn has_more(class: &Name, items: &[Item]) -> bool
-    ensures { result ≡ list_any (builds_more class.now) items.now }
-{
-    items.iter().any(|x| builds_more(class, x))
-}
-
-fn is_event_member(program: &Program, class: &Class, form: &MemberForm) -> bool
-    ensures { result ≡ is_event_member program.now class.now (member_form_at form.now) }
+fn is_event_member(index: &Index, class: &Class, form: &MemberForm) -> bool
+    ensures { result ≡ is_event_member index.now class.now (member_form_at form.now) }
 {
     match form {
         MemberForm::Fields { .. } => true,
         MemberForm::Routine { routine } => is_empty_constructor(routine),
-        MemberForm::Proto { sig } => {
-            is_constructor(sig.role) && !has_more(&class.name, &program.items)
-        }
+        MemberForm::Proto { sig } => { is_constructor(sig.role) && !index.builds_more(&class.name) }
     }
 }
 
-fn are_event_members(program: &Program, class: &Class, members: &[Member]) -> bool
-    ensures { result ≡ list_all (λ m. is_event_member program.now class.now m.form) members.now }
+fn are_event_members(index: &Index, class: &Class, members: &[Member]) -> bool
+    ensures { result ≡ list_all (λ m. is_event_member index.now class.now m.form) members.now }
 {
     members
         .iter()
-        .all(|m| is_event_member(program, class, &m.form))
+        .all(|m| is_event_member(index, class, &m.form))
 }
 
 /// Whether an event has no members but fields and a constructor with an empty body, and is among those that a program may
 /// have, where so many events stand before it.
-pub fn is_sound_event(program: &Program, class: &Class, place: usize, events: usize) -> bool
-    requires { events ≡ events_before program.now place }
-    ensures { result ≡ is_sound_event program.now class.now place }
+pub fn is_sound_event(index: &Index, class: &Class, place: usize, events: usize) -> bool
+    requires { events ≡ events_before index.now place }
+    ensures { result ≡ is_sound_event index.now class.now place }
 {
     !is_event(class.kind)
-        || (are_event_members(program, class, &class.members)
-            && events < usize::from(PROGRAM_EVENTS))
+        || (are_event_members(index, class, &class.members) && events < usize::from(PROGRAM_EVENTS))
 }

@@ -2,6 +2,7 @@
 #![tactic(auto)]
 
 pub mod class;
+pub mod earlier;
 pub mod init;
 pub mod item;
 pub mod sig;

@@ -2,12 +2,12 @@
 
 ghost use Rattle.std.specs.Prelude.{◌≡◌, ◌&&◌};
 ghost use Rattle.uc_meaning.specs.ClassBreaks.{is_main_of_class, is_void_base, may_return, sig_may_be_marked};
-ghost use Rattle.uc_meaning.specs.ItemBreaks.{has_class_name, is_base_named, is_bool_base, is_char_base, is_cluster_base, is_condition_base, is_int_base, is_main_base, is_processor_base, is_program_main, same_base, same_flag, same_params, same_sig};
+ghost use Rattle.uc_meaning.specs.ItemBreaks.{has_class_name, is_int_base, is_main_base, is_program_main};
 ghost use Rattle.uc_meaning.specs.ProgramVisits.{same_role};
 
 use uc_meaning::rules::Sort;
 use uc_tree::class::Sig;
-use uc_tree::kinds::{Base, Owner, Param, Role};
+use uc_tree::kinds::{Base, Owner, Role};
 use uc_tree::name::Name;
 use uc_types::sort::{is_constructor, is_destructor, is_plain, is_scalar_sort, is_void};
 
@@ -43,111 +43,6 @@ pub fn is_int_base(base: &Base) -> bool
     }
 }
 
-fn is_char_base(base: &Base) -> bool
-    ensures { result ≡ is_char_base base.now }
-{
-    match base {
-        Base::Void => false,
-        Base::Int => false,
-        Base::Char => true,
-        Base::Bool => false,
-        Base::Condition => false,
-        Base::Cluster => false,
-        Base::Processor => false,
-        Base::Named(_) => false,
-    }
-}
-
-fn is_bool_base(base: &Base) -> bool
-    ensures { result ≡ is_bool_base base.now }
-{
-    match base {
-        Base::Void => false,
-        Base::Int => false,
-        Base::Char => false,
-        Base::Bool => true,
-        Base::Condition => false,
-        Base::Cluster => false,
-        Base::Processor => false,
-        Base::Named(_) => false,
-    }
-}
-
-fn is_condition_base(base: &Base) -> bool
-    ensures { result ≡ is_condition_base base.now }
-{
-    match base {
-        Base::Void => false,
-        Base::Int => false,
-        Base::Char => false,
-        Base::Bool => false,
-        Base::Condition => true,
-        Base::Cluster => false,
-        Base::Processor => false,
-        Base::Named(_) => false,
-    }
-}
-
-fn is_cluster_base(base: &Base) -> bool
-    ensures { result ≡ is_cluster_base base.now }
-{
-    match base {
-        Base::Void => false,
-        Base::Int => false,
-        Base::Char => false,
-        Base::Bool => false,
-        Base::Condition => false,
-        Base::Cluster => true,
-        Base::Processor => false,
-        Base::Named(_) => false,
-    }
-}
-
-fn is_processor_base(base: &Base) -> bool
-    ensures { result ≡ is_processor_base base.now }
-{
-    match base {
-        Base::Void => false,
-        Base::Int => false,
-        Base::Char => false,
-        Base::Bool => false,
-        Base::Condition => false,
-        Base::Cluster => false,
-        Base::Processor => true,
-        Base::Named(_) => false,
-    }
-}
-
-fn is_base_named(name: &Name, base: &Base) -> bool
-    ensures { result ≡ is_base_named name.now base.now }
-{
-    match base {
-        Base::Void => false,
-        Base::Int => false,
-        Base::Char => false,
-        Base::Bool => false,
-        Base::Condition => false,
-        Base::Cluster => false,
-        Base::Processor => false,
-        Base::Named(other) => name.is(other.bytes()),
-    }
-}
-
-fn same_base(a: &Base, b: &Base) -> bool
-    ensures { result ≡ same_base a.now b.now }
-{
-    match a {
-        Base::Void => is_void_base(b),
-        Base::Int => is_int_base(b),
-        Base::Char => is_char_base(b),
-        Base::Bool => is_bool_base(b),
-        Base::Condition => is_condition_base(b),
-        Base::Cluster => is_cluster_base(b),
-        Base::Processor => is_processor_base(b),
-        Base::Named(name) => is_base_named(name, b),
-    }
-}
-
 /// Whether two roles are the same.
 pub fn same_role(a: Role, b: Role) -> bool
     ensures { result ≡ same_role a b }
@@ -157,41 +52,6 @@ pub fn same_role(a: Role, b: Role) -> bool
         Role::Constructor => is_constructor(b),
         Role::Destructor => is_destructor(b),
     }
-}
-
-fn same_flag(a: bool, b: bool) -> bool
-    ensures { result ≡ same_flag a b }
-{
-    if a { b } else { !b }
-}
-
-fn same_param(a: &Param, b: &Param) -> bool
-    ensures { result ≡ (same_base a.now.base b.now.base && same_flag a.now.by_ref b.now.by_ref) }
-{
-    same_base(&a.base, &b.base) && same_flag(a.by_ref, b.by_ref)
-}
-
-fn same_params(a: &[Param], b: &[Param]) -> bool
-    ensures { result ≡ same_params a.now b.now }
-{
-    if a.len() != b.len() {
-        return false;
-    }
-    for (place, param) in a.iter().enumerate() {
-        if !same_param(param, &b[place]) {
-            return false;
-        }
-    }
-    true
-}
-
-/// Whether two signatures are the same, but for the names of parameters and for their owners.
-pub fn same_sig(a: &Sig, b: &Sig) -> bool
-    ensures { result ≡ same_sig a.now b.now }
-{
-    same_role(a.role, b.role)
-        && (a.name.is(b.name.bytes())
-            && (same_base(&a.ret, &b.ret) && same_params(&a.params, &b.params)))
 }
 
 fn is_main_base(owner: &Owner, base: &Base) -> bool

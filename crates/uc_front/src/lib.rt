@@ -1,9 +1,14 @@
-// Programs are checked by the rules of the language, and numbered.
+// Programs are checked by the rules of the language, and numbered; expressions have types at the places of a program.
 #![tactic(auto)]
 
 ghost use Rattle.std.specs.Prelude.{◌≡◌, [], IfErr, IfOk};
 ghost use Rattle.uc_meaning.specs.Breaks.{breaks_of};
 ghost use Rattle.uc_meaning.specs.FirstRule.{IsFaultOf};
+
+mod item;
+pub mod place;
+pub mod typed;
+mod walk;
 
 use std::alloc::{AllocError, Global};
 use uc_classes::check::first_break;

@@ -2,7 +2,5 @@
 #![tactic(auto)]
 
 mod program;
-#[cfg(test)]
-mod tests;
 
 pub use program::make;

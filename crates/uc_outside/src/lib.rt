@@ -21,6 +21,3 @@ pub use sinks::{Sink, put_all};
 pub use steady::SteadyStore;
 pub use stores::Store;
 pub use streams::{ErrorStream, StdErr, StdOut};
-
-#[cfg(test)]
-mod tests;

@@ -1,19 +1,21 @@
 // What references are bound to.
 
-ghost use Rattle.std.specs.Prelude.{◌≡◌, MatchOption, None, Some, not};
+ghost use Rattle.std.specs.Prelude.{◌≡◌, ◌<◌, ◌||◌, ℕ, List, IfOk, MatchOption, None, OnOk, Some, is_some, length, map};
 ghost use Rattle.std.specs.List.{list_any};
+ghost use Rattle.uc_names.specs.Blocks.{found};
 ghost use Rattle.uc_tree.specs.Expressions.{exprs_of};
 ghost use Rattle.uc_tree.specs.Names.{same_name};
 ghost use Rattle.uc_tree.specs.ProgramViews.{member_form_at};
-ghost use Rattle.uc_meaning.specs.ClassBreaks.{is_owner};
-ghost use Rattle.uc_meaning.specs.OwnerBreaks.{binds_own, form_binds, init_binds, is_bound_inside, is_field_meant, is_field_origin, item_binds, names_own_field, root_name, routine_binds};
+ghost use Rattle.uc_meaning.specs.OwnerBreaks.{binds_own, form_binds, init_binds, is_bound_inside, is_field_meant, is_field_origin, names_own_field, root_name, routine_binds};
+ghost use Rattle.uc_owner.specs.Bound.{AreBound};
 
+use std::alloc::{AllocError, Global};
 use uc_meaning::rules::{Meant, Origin};
+use uc_names::scope::Scope;
 use uc_tree::class::{Class, Init, Member, MemberForm, Routine};
 use uc_tree::expr::{Expr, ExprForm};
-use uc_tree::kinds::{Owner, Param};
 use uc_tree::name::Name;
-use uc_tree::program::{Item, ItemForm};
+use uc_types::sets::{has_name, names_of_params, no_names, note_name};
 use uc_types::sort::is_constructor;
 use uc_types::tables::Tables;
 
@@ -55,119 +57,216 @@ fn is_field_meant(meant: Option<Meant>) -> bool
     }
 }
 
-fn is_param(params: &[Param], name: &Name) -> bool
-    ensures { result ≡ list_any (λ x. same_name x.name name.now) params.now }
-{
-    params.iter().any(|x| x.name.is(name.bytes()))
+// A constructor of the class with this place, with the names of its parameters.
+#[derive(Clone, Copy)]
+struct Built<'a> {
+    tables: &'a Tables<'a>,
+    class: usize,
+    routine: &'a Routine,
+    params: &'a Scope,
+    ghost params_are: { (x : List ℕ) → is_some (found params.now x) ≡ list_any (λ p. same_name p.name x) routine.now.sig.params },
 }
 
-// Whether a name stands for a field of the class in a routine of it.
-fn is_own_field(tables: &Tables, class: usize, routine: &Routine, name: &Name) -> bool
-    ensures { result ≡ names_own_field tables.now class routine.now (Some name.now) }
+// Whether a name stands for a field of the class in the constructor.
+fn is_own_field(built: &Built, name: &Name) -> bool
+    ensures { result ≡ names_own_field built.now.tables.now built.now.class built.now.routine.now (Some name.now) }
 {
-    !is_param(&routine.sig.params, name) && is_field_meant(tables.member_named(class, name))
+    !has_name(built.params, name) && is_field_meant(built.tables.member_named(built.class, name))
 }
 
-fn begins_with_own(tables: &Tables, class: usize, routine: &Routine, e: &Expr) -> bool
-    ensures { result ≡ names_own_field tables.now class routine.now (root_name e.now) }
+fn begins_with_own(built: &Built, e: &Expr) -> bool
+    ensures { result ≡ names_own_field built.now.tables.now built.now.class built.now.routine.now (root_name e.now) }
 {
     match root_name(e) {
-        Some(name) => is_own_field(tables, class, routine, name),
+        Some(name) => is_own_field(built, name),
         None => false,
     }
 }
 
-fn binds_own(tables: &Tables, class: usize, routine: &Routine, args: &[Expr]) -> bool
-    ensures { result ≡ binds_own tables.now class routine.now (exprs_of args.now) }
+fn binds_own(built: &Built, args: &[Expr]) -> bool
+    ensures { result ≡ binds_own built.now.tables.now built.now.class built.now.routine.now (exprs_of args.now) }
 {
-    args.len() == 1 && begins_with_own(tables, class, routine, &args[0])
+    args.len() == 1 && begins_with_own(built, &args[0])
 }
 
-fn init_binds(tables: &Tables, class: usize, name: &Name, routine: &Routine, init: &Init) -> bool
-    ensures { result ≡ init_binds tables.now class name.now routine.now init.now }
+fn note_init(names: &mut Scope, built: &Built, init: &Init) -> Result<(), AllocError>
+    requires { 0 < length names.old }
+    ensures open { OnOk result (0 < length names.new) }
+    ensures noted { OnOk result ((x : List ℕ) → is_some (found names.new x) ≡ (is_some (found names.old x) || init_binds built.now.tables.now built.now.class x built.now.routine.now init.now)) }
 {
-    init.name.is(name.bytes()) && binds_own(tables, class, routine, &init.args)
+    if binds_own(built, &init.args) {
+        note_name(names, &init.name)?;
+        return Ok(());
+    }
+    Ok(())
 }
 
-fn inits_bind(tables: &Tables, class: usize, name: &Name, routine: &Routine, inits: &[Init]) -> bool
-    ensures { result ≡ list_any (init_binds tables.now class name.now routine.now) inits.now }
+fn note_inits(names: &mut Scope, built: &Built, inits: &[Init]) -> Result<(), AllocError>
+    requires { 0 < length names.old }
+    ensures open { OnOk result (0 < length names.new) }
+    ensures noted { OnOk result ((x : List ℕ) → is_some (found names.new x) ≡ (is_some (found names.old x) || list_any (init_binds built.now.tables.now built.now.class x built.now.routine.now) inits.now)) }
 {
     for init in inits {
-        if init_binds(tables, class, name, routine, init) {
-            return true;
-        }
+        note_init(names, built, init)?;
     }
-    false
+    Ok(())
 }
 
-fn routine_binds(tables: &Tables, class: usize, name: &Name, routine: &Routine) -> bool
-    ensures { result ≡ routine_binds tables.now class name.now routine.now }
+fn note_constructor(
+    alloc: Global,
+    names: &mut Scope,
+    tables: &Tables,
+    class: usize,
+    routine: &Routine,
+) -> Result<(), AllocError>
+    requires { 0 < length names.old }
+    ensures open { OnOk result (0 < length names.new) }
+    ensures noted { OnOk result ((x : List ℕ) → is_some (found names.new x) ≡ (is_some (found names.old x) || list_any (init_binds tables.now class x routine.now) routine.now.inits)) }
 {
-    is_constructor(routine.sig.role) && inits_bind(tables, class, name, routine, &routine.inits)
+    let params = names_of_params(alloc, &routine.sig.params)?;
+    let built = Built {
+        tables,
+        class,
+        routine,
+        params: &params,
+    };
+    note_inits(names, &built, &routine.inits)?;
+    Ok(())
 }
 
-fn form_binds(tables: &Tables, class: usize, name: &Name, form: &MemberForm) -> bool
-    ensures { result ≡ form_binds tables.now class name.now (member_form_at form.now) }
+fn note_routine(
+    alloc: Global,
+    names: &mut Scope,
+    tables: &Tables,
+    class: usize,
+    routine: &Routine,
+) -> Result<(), AllocError>
+    requires { 0 < length names.old }
+    ensures open { OnOk result (0 < length names.new) }
+    ensures noted { OnOk result ((x : List ℕ) → is_some (found names.new x) ≡ (is_some (found names.old x) || routine_binds tables.now class x routine.now)) }
+{
+    if is_constructor(routine.sig.role) {
+        note_constructor(alloc, names, tables, class, routine)?;
+        return Ok(());
+    }
+    Ok(())
+}
+
+fn note_form(
+    alloc: Global,
+    names: &mut Scope,
+    tables: &Tables,
+    class: usize,
+    form: &MemberForm,
+) -> Result<(), AllocError>
+    requires { 0 < length names.old }
+    ensures open { OnOk result (0 < length names.new) }
+    ensures noted { OnOk result ((x : List ℕ) → is_some (found names.new x) ≡ (is_some (found names.old x) || form_binds tables.now class x (member_form_at form.now))) }
 {
     match form {
-        MemberForm::Fields { .. } => false,
-        MemberForm::Routine { routine } => routine_binds(tables, class, name, routine),
-        MemberForm::Proto { .. } => false,
-    }
-}
-
-fn is_owner(class: &Name, owner: &Owner) -> bool
-    ensures { result ≡ is_owner class.now owner.now }
-{
-    match owner {
-        Owner::Here => false,
-        Owner::Main => false,
-        Owner::Class(name) => name.is(class.bytes()),
-    }
-}
-
-fn item_binds(tables: &Tables, class: usize, owner: &Name, name: &Name, item: &Item) -> bool
-    ensures { result ≡ item_binds tables.now class owner.now name.now item.now }
-{
-    match &item.form {
-        ItemForm::Class { .. } => false,
-        ItemForm::Routine { routine } => {
-            is_owner(owner, &routine.sig.owner) && routine_binds(tables, class, name, routine)
+        MemberForm::Fields { .. } => Ok(()),
+        MemberForm::Routine { routine } => {
+            note_routine(alloc, names, tables, class, routine)?;
+            Ok(())
         }
-        ItemForm::Constant { .. } => false,
-        ItemForm::Proto { .. } => false,
-        ItemForm::Forward { .. } => false,
-        ItemForm::Using { .. } => false,
+        MemberForm::Proto { .. } => Ok(()),
     }
 }
 
-fn members_bind(tables: &Tables, class: usize, name: &Name, members: &[Member]) -> bool
-    ensures { result ≡ list_any (λ m. form_binds tables.now class name.now m.form) members.now }
+fn note_members(
+    alloc: Global,
+    names: &mut Scope,
+    tables: &Tables,
+    class: usize,
+    members: &[Member],
+) -> Result<(), AllocError>
+    requires { 0 < length names.old }
+    ensures open { OnOk result (0 < length names.new) }
+    ensures noted { OnOk result ((x : List ℕ) → is_some (found names.new x) ≡ (is_some (found names.old x) || list_any (λ m. form_binds tables.now class x m.form) members.now)) }
 {
     for member in members {
-        if form_binds(tables, class, name, &member.form) {
-            return true;
-        }
+        note_form(alloc, names, tables, class, &member.form)?;
     }
-    false
+    Ok(())
 }
 
-fn items_bind(tables: &Tables, class: usize, owner: &Name, name: &Name, items: &[Item]) -> bool
-    ensures { result ≡ list_any (item_binds tables.now class owner.now name.now) items.now }
+fn note_routines(
+    alloc: Global,
+    names: &mut Scope,
+    tables: &Tables,
+    class: usize,
+    routines: &[&Routine],
+) -> Result<(), AllocError>
+    requires { 0 < length names.old }
+    ensures open { OnOk result (0 < length names.new) }
+    ensures noted { OnOk result ((x : List ℕ) → is_some (found names.new x) ≡ (is_some (found names.old x) || list_any (routine_binds tables.now class x) (map (λ r. r.now) routines.now))) }
 {
-    for item in items {
-        if item_binds(tables, class, owner, name, item) {
-            return true;
-        }
+    for routine in routines {
+        note_routine(alloc, names, tables, class, routine)?;
     }
-    false
+    Ok(())
+}
+
+/// The names of the fields of a class that its constructors bind to fields of the same object.
+pub fn names_bound(
+    alloc: Global,
+    tables: &Tables,
+    class: &Class,
+    place: usize,
+) -> Result<Scope, AllocError>
+    ensures { IfOk result (λ names. (x : List ℕ) → is_some (found names x) ≡ is_bound_inside tables.now class.now place x) }
+{
+    let mut names = no_names(alloc)?;
+    note_members(alloc, &mut names, tables, place, &class.members)?;
+    note_routines(
+        alloc,
+        &mut names,
+        tables,
+        place,
+        tables.constructors_of(&class.name),
+    )?;
+    Ok(names)
+}
+
+/// The same where they are asked for; else none are known.
+pub fn bound_fields(
+    alloc: Global,
+    tables: &Tables,
+    class: &Class,
+    place: usize,
+    known: bool,
+) -> Result<Scope, AllocError>
+    ensures { IfOk result (λ names. AreBound tables.now class.now place known names) }
+{
+    if known {
+        let names = names_bound(alloc, tables, class, place)?;
+        return Ok(names);
+    }
+    Ok(Scope::new(alloc))
+}
+
+/// The fields of a class that its constructors bind to fields of the same object, where they are known.
+#[derive(Clone, Copy)]
+pub struct BoundFields<'a> {
+    pub known: bool,
+    pub names: &'a Scope,
 }
 
 /// Whether a constructor of a class binds the field of this name to a field of the same object.
-pub fn is_bound_inside(tables: &Tables, class: &Class, place: usize, name: &Name) -> bool
-    ensures { result ≡ is_bound_inside tables.now class.now place name.now }
+pub fn is_bound_inside(
+    alloc: Global,
+    tables: &Tables,
+    class: &Class,
+    place: usize,
+    bound: BoundFields,
+    name: &Name,
+) -> Result<bool, AllocError>
+    requires { AreBound tables.now class.now place bound.known bound.names.now }
+    ensures { IfOk result (λ inside. inside ≡ is_bound_inside tables.now class.now place name.now) }
 {
-    let program = tables.program();
-    members_bind(tables, place, name, &class.members)
-        || items_bind(tables, place, &class.name, name, &program.items)
+    if bound.known {
+        return Ok(has_name(bound.names, name));
+    }
+    let names = names_bound(alloc, tables, class, place)?;
+    Ok(has_name(&names, name))
 }

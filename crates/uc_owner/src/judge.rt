@@ -1,7 +1,7 @@
 // The rules on who owns what, at one parameter, field or argument.
 
-ghost use Rattle.std.specs.Prelude.{◌≡◌, not};
-ghost use Rattle.uc_meaning.specs.Asked.{of_sort};
+ghost use Rattle.std.specs.Prelude.{◌≡◌, IfOk, OnOk, Some, not};
+ghost use Rattle.uc_meaning.specs.Asked.{of_sort, unless};
 ghost use Rattle.uc_meaning.specs.declared.rule.Rule.TheVariants.{O4, O5};
 ghost use Rattle.uc_meaning.specs.Firsts.{after};
 ghost use Rattle.uc_meaning.specs.OwnerBreaks.{begins_well, condition_field_breaks, is_home_of, is_no_condition_sort, is_root, is_root_origin, is_shared, is_unshared, lone_condition, may_refer, reference_breaks, root_name, shared_breaks, unbound_reference, unshared_reference};
@@ -12,8 +12,12 @@ ghost use Rattle.uc_meaning.specs.Sorts.{sort_of};
 ghost use Rattle.uc_tree.specs.Numbering.{is_mutex};
 ghost use Rattle.uc_types.specs.Told.{told};
 ghost use Rattle.uc_meaning.specs.declared.rules.FieldPlace.{FieldPlace};
+ghost use Rattle.uc_meaning.specs.declared.rules.Home as rules;
+ghost use Rattle.uc_tree.specs.declared.kinds.Base as base;
+ghost use Rattle.uc_owner.specs.Bound.{AreBound};
 
-use crate::bind::{is_bound_inside, root_name};
+use crate::bind::{BoundFields, is_bound_inside, root_name};
+use std::alloc::AllocError;
 use uc_meaning::rule::Rule;
 use uc_meaning::rules::{Expected, Home, Meant, Origin, Sort};
 use uc_tree::class::Class;
@@ -82,55 +86,109 @@ fn is_unshared(sort: Sort) -> bool
 }
 
 fn may_refer(
-    tables: &Tables,
+    names: &Names,
     class: &Class,
     place: usize,
+    bound: BoundFields,
     declarator: &Declarator,
     sort: Sort,
-) -> bool
-    ensures { result ≡ may_refer tables.now class.now place declarator.now.name sort }
+) -> Result<bool, AllocError>
+    requires { AreBound names.now.program class.now place bound.known bound.names.now }
+    ensures { IfOk result (λ holds. holds ≡ may_refer names.now.program class.now place declarator.now.name sort) }
 {
-    !is_unshared(sort) || is_bound_inside(tables, class, place, &declarator.name)
+    if !is_unshared(sort) {
+        return Ok(true);
+    }
+    let inside = is_bound_inside(
+        names.alloc(),
+        names.tables(),
+        class,
+        place,
+        bound,
+        &declarator.name,
+    )?;
+    Ok(inside)
+}
+
+// Behind another break nothing is asked.
+fn note_referred(
+    names: &Names,
+    class: &Class,
+    place: usize,
+    bound: BoundFields,
+    declarator: &Declarator,
+    sort: Sort,
+    found: &mut Found,
+) -> Result<(), AllocError>
+    requires { AreBound names.now.program class.now place bound.known bound.names.now }
+    ensures { OnOk result (found.new ≡ after found.old (unless (may_refer names.now.program class.now place declarator.now.name sort) O5 declarator.now.pos)) }
+{
+    if !found.is_open(Rule::O5, declarator.pos) {
+        return Ok(());
+    }
+    let holds = may_refer(names, class, place, bound, declarator, sort)?;
+    found.note_unless(holds, Rule::O5, declarator.pos);
+    Ok(())
 }
 
 fn note_unshared(
-    tables: &Tables,
+    names: &Names,
     class: &Class,
     place: usize,
+    bound: BoundFields,
     sort: Option<Sort>,
     declarator: &Declarator,
     found: &mut Found,
-)
-    ensures { found.new ≡ after found.old (of_sort sort (may_refer tables.now class.now place declarator.now.name) O5 declarator.now.pos) }
+) -> Result<(), AllocError>
+    requires { AreBound names.now.program class.now place bound.known bound.names.now }
+    ensures { OnOk result (found.new ≡ after found.old (of_sort sort (may_refer names.now.program class.now place declarator.now.name) O5 declarator.now.pos)) }
 {
     match sort {
         Some(sort) => {
-            let holds = may_refer(tables, class, place, declarator, sort);
-            found.note_unless(holds, Rule::O5, declarator.pos);
+            note_referred(names, class, place, bound, declarator, sort, found)?;
+            Ok(())
         }
-        None => {}
+        None => Ok(()),
     }
+}
+
+// A field of a class that has this place and kind.
+fn note_home(
+    names: &Names,
+    class: &Class,
+    home: Home,
+    bound: BoundFields,
+    sort: Option<Sort>,
+    declarator: &Declarator,
+    found: &mut Found,
+) -> Result<(), AllocError>
+    requires bound { AreBound names.now.program class.now home.class bound.known bound.names.now }
+    ensures { OnOk result ((b : base.Base) → sort ≡ sort_of names.now.program b → found.new ≡ after found.old (reference_breaks names.now class.now (Some home) b declarator.now)) }
+{
+    if declarator.by_ref && is_mutex(home.kind) {
+        note_unshared(names, class, home.class, bound, sort, declarator, found)?;
+        return Ok(());
+    }
+    Ok(())
 }
 
 fn note_reference(
     names: &Names,
     class: &Class,
+    bound: BoundFields,
     sort: Option<Sort>,
-    base: &Base,
     declarator: &Declarator,
     found: &mut Found,
-)
-    requires sort { sort ≡ sort_of names.now.program base.now }
-    ensures { found.new ≡ after found.old (reference_breaks names.now class.now names.now.around.home base.now declarator.now) }
+) -> Result<(), AllocError>
+    requires bound { (home : rules.Home) → names.now.around.home ≡ Some home → AreBound names.now.program class.now home.class bound.known bound.names.now }
+    ensures { OnOk result ((b : base.Base) → sort ≡ sort_of names.now.program b → found.new ≡ after found.old (reference_breaks names.now class.now names.now.around.home b declarator.now)) }
 {
     match names.around().home {
         Some(home) => {
-            if declarator.by_ref && is_mutex(home.kind) {
-                let tables = names.tables();
-                note_unshared(tables, class, home.class, sort, declarator, found);
-            }
+            note_home(names, class, home, bound, sort, declarator, found)?;
+            Ok(())
         }
-        None => {}
+        None => Ok(()),
     }
 }
 
@@ -138,17 +196,31 @@ fn note_reference(
 pub fn note_field(
     names: &Names,
     class: &Class,
+    bound: BoundFields,
     base: &Base,
     declarator: &Declarator,
     found: &mut Found,
-)
-    ensures { (access : Access) (field : FieldPlace) → found.new ≡ after (after found.old (lone_condition (AtField names.now class.now access base.now declarator.now field))) (unbound_reference (AtField names.now class.now access base.now declarator.now field)) }
+) -> Result<(), AllocError>
+    requires bound { (home : rules.Home) → names.now.around.home ≡ Some home → AreBound names.now.program class.now home.class bound.known bound.names.now }
+    ensures { OnOk result ((access : Access) (field : FieldPlace) → found.new ≡ after (after found.old (lone_condition (AtField names.now class.now access base.now declarator.now field))) (unbound_reference (AtField names.now class.now access base.now declarator.now field))) }
 {
     let sort = names.tables().sort_of(base);
+    note_field_condition(names, sort, declarator, found);
+    note_reference(names, class, bound, sort, declarator, found)?;
+    Ok(())
+}
+
+fn note_field_condition(
+    names: &Names,
+    sort: Option<Sort>,
+    declarator: &Declarator,
+    found: &mut Found,
+)
+    ensures { (b : base.Base) → sort ≡ sort_of names.now.program b → found.new ≡ after found.old (condition_field_breaks names.now b declarator.now) }
+{
     if !is_home_of_mutex(names.around().home) {
         note_condition(sort, declarator.pos, found);
     }
-    note_reference(names, class, sort, base, declarator, found);
 }
 
 /// Whether a reference is asked for.

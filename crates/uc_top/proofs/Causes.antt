@@ -334,7 +334,7 @@ steady_why s h st FrameTooLarge name cause e = absurd (omega (arith, e))
 steady_why s h st CodeTooLarge name cause e = absurd (omega (arith, e))
 steady_why s h st NoMemory name cause e = absurd (omega (arith, e))
 
-steady_of : (s : Scene) {status : ℕ} {journal : Journal} → Leaves s status journal → HasTexts s → IsTrue s.store.steady → status ≢ 3
+pub steady_of : (s : Scene) {status : ℕ} {journal : Journal} → Leaves s status journal → HasTexts s → IsTrue s.store.steady → status ≢ 3
 steady_of s (ended journal output e ran out err) h st eq = ending_not_3 e eq
 steady_of s (refused r name cause out err) h st eq = steady_why s h st r name cause eq
 steady_of s (out_failed journal output e ran out err) h st eq = absurd (omega (arith, eq))
@@ -346,21 +346,21 @@ given_by : (s : Scene) (h : HasTexts s) {c : Command} {text input : List ℕ} �
 given_by s h {text = text} asks reads =
     has_file-content h.program (subst (λ f. ReadBytes s.store reads.between f PROGRAM_BYTES text) (ap file_of (same_line h.command asks h.line)) reads.read)
 
-given : (s : Scene) (h : HasTexts s) {c : Command} {text input : List ℕ} → GaveTexts s.words s.store s.store_after c text input → text ≡ h.program.bytes
+pub given : (s : Scene) (h : HasTexts s) {c : Command} {text input : List ℕ} → GaveTexts s.words s.store s.store_after c text input → text ≡ h.program.bytes
 given s h g = given_by s h g.asks g.reads
 
 -- a text without tokens is no program
-unlexed : {text : List ℕ} {why : Reason} {here : Pos} {p : Program} → HasFault text why here → IsAcceptedText text p → ⊥
+pub unlexed : {text : List ℕ} {why : Reason} {here : Pos} {p : Program} → HasFault text why here → IsAcceptedText text p → ⊥
 unlexed f is = absurd (let e = sym f.lexed ∙ is.spells.lexed in cc)
 
 -- nor is one whose tokens are no program
 spelled : {text : List ℕ} {list : List Token} {p : Program} → tokens text ≡ Read list → IsAcceptedText text p → (to : ℕ) × IsProgram NESTING list 0 to p
 spelled {text} {list} {p} lexed is = let e : is.spells.list ≡ list = let f = sym is.spells.lexed ∙ lexed in cc in (length is.spells.list, subst (λ l. IsProgram NESTING l 0 (length is.spells.list) p) e is.spells.spelled)
 
-no_syntax : {text : List ℕ} {here : Pos} {p : Program} → HasSyntaxFault text here → IsAcceptedText text p → ⊥
+pub no_syntax : {text : List ℕ} {here : Pos} {p : Program} → HasSyntaxFault text here → IsAcceptedText text p → ⊥
 no_syntax {p = p} f is = let q = spelled f.lexed is in f.fault.none q.0 p q.1
 
-not_deep : {text : List ℕ} {here : Pos} {p : Program} → HasDeepFault text here → IsAcceptedText text p → ⊥
+pub not_deep : {text : List ℕ} {here : Pos} {p : Program} → HasDeepFault text here → IsAcceptedText text p → ⊥
 not_deep {p = p} f is = let q = spelled f.lexed is in f.fault.none q.0 p q.1
 
 -- nor one of a program that breaks a rule, or that has a form that does not run
@@ -370,24 +370,24 @@ none_there bs b e h =
     let short : length bs ≡ 0 = ap length e in
     absurd (omega (arith, few, short))
 
-unbroken : {text : List ℕ} {rule : Rule} {here : Pos} {p : Program} → IsTextOf text (BreaksFirst rule here) → IsAcceptedText text p → ⊥
+pub unbroken : {text : List ℕ} {rule : Rule} {here : Pos} {p : Program} → IsTextOf text (BreaksFirst rule here) → IsAcceptedText text p → ⊥
 unbroken {text} {rule} {here} {p} t is =
     let a : IsAccepted t.program = subst IsAccepted (t.only p is.spells) is.accepted in
     none_there (breaks_of t.program) (record { rule = rule; pos = here }) a.no_break t.is.is_break
 
-built_no : {text : List ℕ} {p : Program} → IsTextOf text IsUnbuilt → IsAcceptedText text p → ⊥
+pub built_no : {text : List ℕ} {p : Program} → IsTextOf text IsUnbuilt → IsAcceptedText text p → ⊥
 built_no {text} {p} t is =
     let a : IsAccepted t.program = subst IsAccepted (t.only p is.spells) is.accepted in
     let yes : is_built t.program ≡ true = a.built in
     let no : is_built t.program ≡ false = t.is.unbuilt in
     absurd (cc)
 
-frame_no : {text : List ℕ} {p : Program} → IsTextOf text HasLargeFrame → IsAcceptedText text p → ⊥
+pub frame_no : {text : List ℕ} {p : Program} → IsTextOf text HasLargeFrame → IsAcceptedText text p → ⊥
 frame_no {text} {p} t is =
     let a : IsAccepted t.program = subst IsAccepted (t.only p is.spells) is.accepted in
     no_large t.program t.is a
 
-code_no : {text : List ℕ} {p : Program} → IsTextOf text HasLargeCode → IsAcceptedText text p → ⊥
+pub code_no : {text : List ℕ} {p : Program} → IsTextOf text HasLargeCode → IsAcceptedText text p → ⊥
 code_no {text} {p} t is =
     let a : IsAccepted t.program = subst IsAccepted (t.only p is.spells) is.accepted in absurd (omega (arith, t.is.large, a.size))
 
@@ -422,7 +422,7 @@ used a b journal output e (CheckFile file) on d = record { text = d.text; input 
 used a b journal output e (LowerFile file) on d = record { text = d.text; input = d.input; reads = d.reads; program = d.lowered.program; is_text = record { spells = d.lowered.spells; accepted = d.lowered.is.accepted } }
 used a b journal output e (MakeProgram n) on d = absurd on
 
-ran_program : (s : Scene) (h : HasTexts s) {journal : Journal} {output : List ℕ} {e : Ending} → Ran s journal output e → (p : Program) × HasProgram s h p
+pub ran_program : (s : Scene) (h : HasTexts s) {journal : Journal} {output : List ℕ} {e : Ending} → Ran s journal output e → (p : Program) × HasProgram s h p
 ran_program s h {journal} {output} {e} ran =
     let u = used s.store s.store_after journal output e ran.command (subst IsOnFile (sym (same_line h.command ran.asks h.line)) h.on_file) ran.did in
     (u.program, subst (λ t. IsAcceptedText t u.program) (given_by s h ran.asks u.reads) u.is_text)
@@ -504,7 +504,7 @@ answers s leaves = record {
   made = made_of s leaves;
 }
 
-two_left : {status : ℕ} {A : Type 0} → A ⊎ (status ≡ 3) ⊎ (status ≡ 4) ⊎ (status ≡ 8) → status ≢ 3 → status ≢ 4 → A ⊎ (status ≡ 8)
+pub two_left : {status : ℕ} {A : Type 0} → A ⊎ (status ≡ 3) ⊎ (status ≡ 4) ⊎ (status ≡ 8) → status ≢ 3 → status ≢ 4 → A ⊎ (status ≡ 8)
 two_left (inl e) n m = inl e
 two_left (inr (inl e)) n m = absurd (n e)
 two_left (inr (inr (inl e))) n m = absurd (m e)

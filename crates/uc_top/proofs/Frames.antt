@@ -114,9 +114,13 @@ module _ (p : Program) where
   pub fit_frames : IsBuilt p → FitsAll p → FitFrames p p.items
   fit_frames b f = frames_fit p.items (both (has_main p) (are_built_items p.items) b).1 f.each
 
-  -- an accepted program has no such frame
-  pub no_large : HasLargeFrame p → IsAccepted p → ⊥
-  no_large h a =
-      let fits = frames_each p.items (both (has_main p) (are_built_items p.items) a.built).1 a.frames h.number h.routine h.there in
+  -- where all frames fit, none is too large
+  pub not_fit : HasLargeFrame p → FitFrames p p.items → ⊥
+  not_fit h frames =
+      let fits = frames_each p.items (both (has_main p) (are_built_items p.items) h.runnable.built).1 frames h.number h.routine h.there in
       let large = h.large in
       absurd (omega (arith, fits, large))
+
+  -- an accepted program has no such frame
+  pub no_large : HasLargeFrame p → IsAccepted p → ⊥
+  no_large h a = not_fit h a.frames

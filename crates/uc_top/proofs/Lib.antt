@@ -7,3 +7,7 @@ pub mod Causes
 pub mod Findings
 pub mod Ran
 pub mod Places
+pub mod FaultLemmas
+pub mod FirstLemmas
+pub mod CauseLemmas
+pub mod AnswerLemmas

@@ -3,3 +3,4 @@ pub mod Built
 pub mod Refusals
 pub mod Outcomes
 pub mod Decisions
+pub mod TextAnswers

@@ -4,6 +4,7 @@ ghost use Rattle.std.specs.Prelude.{◌≢◌, map, string_bytes};
 ghost use Rattle.uc_outside.specs.Reading.{KeepsFiles};
 ghost use Rattle.uc_top.specs.Decisions.{Finished};
 ghost use Rattle.uc_top.specs.Outcomes.{scene_of, Leaves, Causes, Stops, Answers, HaveRooms, Completes};
+ghost use Rattle.uc_top.specs.TextAnswers.{TextAnswers};
 
 use crate::decide::decide;
 use crate::endings::{Ending, put_ending};
@@ -47,6 +48,9 @@ pub fn run_words<S: Store, O: Sink, E: Sink, G: Gate + Sync>(
 
     // What the words and the store make of a call.
     ensures answers { Answers (scene_of (map string_bytes words.now) (S.state store.old) (S.state store.new) (O.state out.old) (O.state out.new) (E.state err.old) (E.state err.new)) result.status }
+
+    // A text that is refused gets just its refusal, with its place.
+    ensures texts { TextAnswers (scene_of (map string_bytes words.now) (S.state store.old) (S.state store.new) (O.state out.old) (O.state out.new) (E.state err.old) (E.state err.new)) result.status result.journal.items }
 
     // Sinks with room do not fail, and an accepted program is run where nothing fails.
     ensures rooms { HaveRooms (scene_of (map string_bytes words.now) (S.state store.old) (S.state store.new) (O.state out.old) (O.state out.new) (E.state err.old) (E.state err.new)) → result.status ≢ 4 }

@@ -1,49 +1,68 @@
 // Runs whole programs through the top call. In the input a line `== WORDS` begins a text, the bytes of the file a.cc: the
-// lines up to the next such line, parted by newlines; behind ` < ` in that line stand the bytes of the file in, and behind
-// ` + ` the number of bytes to which spaces fill the text. For each text the words are printed, and what the call put to
-// out and to err, and its status.
+// lines up to the next such line, parted by newlines. A word `''` is empty. Behind the words may stand, in this order,
+//
+// - ` ! OUT ERR`: both sinks take a byte a put, and each fails once, when it has taken so many bytes;
+// - ` > ROOM`: out has room for so many bytes, and not for 10,000;
+// - ` * COUNT`: each `@` of the text stands for so many semicolons;
+// - ` + LENGTH`: spaces fill the text to so many bytes;
+// - ` < INPUT`: the bytes of the file in.
+//
+// For each text the words are printed, and what the call put to out and to err, and its status. A line `-- NAME LIMIT`
+// reads a file of the folder in which the program runs, and a line `!! TEXT` puts the text to the error stream. The last
+// two rows are long, and stand last for that.
 #![tactic(auto)]
 
-#[cfg(test)]
-mod tests;
+mod failing;
+mod header;
+mod outside;
 
+use crate::failing::FailsOnce;
+use crate::header::Header;
 use std::alloc::{AllocError, Global};
 use std::io;
 use uc_outside::{FixedSink, OpenGate, SteadyStore};
 use uc_top::run_words;
 
-/// A text with its words and its input.
+/// A text with what stands before it.
 #[derive(Drop)]
 struct Row {
-    words: String,
-    input: String,
-    length: usize,
+    header: Header,
     begun: bool,
     text: String,
 }
 
-fn row_of(alloc: Global, line: &str) -> Result<Row, AllocError> {
-    let (words, input) = match line.split_once(" < ") {
-        Some((words, input)) => (words, input),
-        None => (line, ""),
-    };
-    let (words, length) = match words.split_once(" + ") {
-        Some((words, length)) => (words, length.parse::<usize>().unwrap_or(0)),
-        None => (words, 0),
-    };
-    Ok(Row {
-        words: String::from_str(alloc, words)?,
-        input: String::from_str(alloc, input)?,
-        length,
-        begun: false,
-        text: String::new(alloc),
-    })
+impl Row {
+    fn new(alloc: Global, line: &str) -> Result<Row, AllocError> {
+        Ok(Row {
+            header: Header::read(alloc, line)?,
+            begun: false,
+            text: String::new(alloc),
+        })
+    }
+
+    fn add(&mut self, line: &str) -> Result<(), AllocError> {
+        if self.begun {
+            self.text.push('\n')?;
+        }
+        self.begun = true;
+        self.text.push_str(line)?;
+        Ok(())
+    }
 }
 
-// The bytes of the text, with spaces up to its length.
+// The bytes of the text, with semicolons for each `@`, and with spaces up to its length.
 fn filled_text(alloc: Global, row: &Row) -> Result<Vec<u8>, AllocError> {
-    let mut text = row.text.as_bytes().to_vec(alloc)?;
-    for _k in text.len()..row.length {
+    let mut text = Vec::new(alloc);
+    for byte in row.text.as_bytes() {
+        if *byte == b'@' {
+            for _k in 0..row.header.count {
+                text.push(b';')?;
+            }
+        } else {
+            text.push(*byte)?;
+        }
+    }
+    for _k in text.len()..row.header.length {
         text.push(b' ')?;
     }
     Ok(text)
@@ -54,26 +73,69 @@ fn store_of(alloc: Global, row: &Row) -> Result<SteadyStore, AllocError> {
     files.push((String::from_str(alloc, "a.cc")?, filled_text(alloc, row)?))?;
     files.push((
         String::from_str(alloc, "in")?,
-        row.input.as_bytes().to_vec(alloc)?,
+        row.header.input.as_bytes().to_vec(alloc)?,
     ))?;
     Ok(SteadyStore::new(files))
 }
 
-fn answer(alloc: Global, row: &Row) -> Result<String, AllocError> {
+fn words_of(alloc: Global, row: &Row) -> Result<Vec<String>, AllocError> {
     let mut words = Vec::new(alloc);
-    for word in row.words.as_str().split_whitespace() {
+    for word in row.header.words.as_str().split_whitespace() {
+        let word = if word == "''" { "" } else { word };
         words.push(String::from_str(alloc, word)?)?;
     }
+    Ok(words)
+}
+
+fn answer(alloc: Global, row: &Row) -> Result<String, AllocError> {
+    let words = words_of(alloc, row)?;
     let mut store = store_of(alloc, row)?;
-    let mut out = FixedSink::new(alloc, 10_000)?;
+    let mut out = FixedSink::new(alloc, row.header.room)?;
     let mut err = FixedSink::new(alloc, 1_000)?;
     let outcome = run_words(alloc, &words, &mut store, &mut out, &mut err, &OpenGate);
     let shown = String::from_utf8_lossy(alloc, out.bytes())?;
     let told = String::from_utf8_lossy(alloc, err.bytes())?;
     format!(in alloc;
         "== {}\n{}|\n{}status {}\n",
-        row.words, shown, told, outcome.status
+        row.header.words, shown, told, outcome.status
     )
+}
+
+// Of each sink how many bytes it took, its faults, and the puts after its fault; and how many entries the journal has.
+fn answer_of_failing(
+    alloc: Global,
+    row: &Row,
+    out_most: u64,
+    err_most: u64,
+) -> Result<String, AllocError> {
+    let words = words_of(alloc, row)?;
+    let mut store = store_of(alloc, row)?;
+    let mut out = FailsOnce::new(out_most);
+    let mut err = FailsOnce::new(err_most);
+    let outcome = run_words(alloc, &words, &mut store, &mut out, &mut err, &OpenGate);
+    let entries = outcome.journal.len();
+    format!(in alloc;
+        "== {}\nout {} {} {}\nerr {} {} {}\nentries {}\nstatus {}\n",
+        row.header.words,
+        out.taken,
+        out.faults,
+        out.after,
+        err.taken,
+        err.faults,
+        err.after,
+        entries,
+        outcome.status
+    )
+}
+
+fn any_answer(alloc: Global, row: &Option<Row>) -> Result<String, AllocError> {
+    match row {
+        Some(row) => match row.header.fails {
+            Some((out, err)) => answer_of_failing(alloc, row, out, err),
+            None => answer(alloc, row),
+        },
+        None => Ok(String::new(alloc)),
+    }
 }
 
 fn main(rt: HostRuntime) -> io::Result<()> {
@@ -81,26 +143,18 @@ fn main(rt: HostRuntime) -> io::Result<()> {
     let mut row: Option<Row> = None;
     for line in rt.lines(alloc) {
         let line = line?;
-        match line.as_str().strip_prefix("== ") {
-            Some(words) => {
-                if let Some(row) = &row {
-                    print!(rt; "{}", answer(alloc, row)?)?;
-                }
-                row = Some(row_of(alloc, words)?);
-            }
-            None => {
-                if let Some(row) = &mut row {
-                    if row.begun {
-                        row.text.push('\n')?;
-                    }
-                    row.begun = true;
-                    row.text.push_str(line.as_str())?;
-                }
-            }
+        let line = line.as_str();
+        if let Some(words) = line.strip_prefix("== ") {
+            print!(rt; "{}", any_answer(alloc, &row)?)?;
+            row = Some(Row::new(alloc, words)?);
+        } else if let Some(file) = line.strip_prefix("-- ") {
+            print!(rt; "{}", outside::answer(&rt, alloc, file)?)?;
+        } else if let Some(text) = line.strip_prefix("!! ") {
+            print!(rt; "{}", outside::told(&rt, alloc, text)?)?;
+        } else if let Some(row) = &mut row {
+            row.add(line)?;
         }
     }
-    if let Some(row) = &row {
-        print!(rt; "{}", answer(alloc, row)?)?;
-    }
+    print!(rt; "{}", any_answer(alloc, &row)?)?;
     Ok(())
 }

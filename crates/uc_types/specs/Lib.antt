@@ -1,4 +1,6 @@
 pub mod Told
+pub mod Members
+pub mod Outside
 pub mod Tabled
 pub mod Listings
 pub mod Lengths

@@ -1,6 +1,6 @@
 // The first break found so far.
 
-ghost use Rattle.std.specs.Prelude.{◌≡◌, None};
+ghost use Rattle.std.specs.Prelude.{◌≡◌, Bool, None, Some, false, true};
 ghost use Rattle.uc_meaning.specs.Asked.{unless};
 ghost use Rattle.uc_meaning.specs.Firsts.{after, before, is_owner_number, sooner};
 
@@ -36,6 +36,18 @@ impl Found {
         ensures { result ≡ self.now }
     {
         self.first
+    }
+
+    /// Whether a break of this rule at this place would be the first. Where it would not, what it rests on need not be tested.
+    #[tactic(auto, using(crate::proofs::Open::opening))]
+    pub fn is_open(&self, rule: Rule, pos: Pos) -> bool
+        ensures open { result ≡ true → after self.now (unless false rule pos) ≡ Some (record { rule = rule; pos = pos }) }
+        ensures shut { result ≡ false → (holds : Bool) → after self.now (unless holds rule pos) ≡ self.now }
+    {
+        match self.first {
+            None => true,
+            Some(old) => is_before(Break { rule, pos }, old),
+        }
     }
 
     /// One more break.

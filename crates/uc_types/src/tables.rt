@@ -1,10 +1,15 @@
 // What the names of a program stand for, by class and for all of the program.
 
-ghost use Rattle.std.specs.Prelude.{◌≡◌, IfOk, MatchOption, None, Some, option_and_then, slice_get};
+ghost use Rattle.std.specs.Prelude.{◌≡◌, ◌≤◌, IfOk, MatchOption, None, Some, length, map, option_and_then, slice_get, take};
 ghost use Rattle.uc_types.specs.Listings.{first_named};
+ghost use Rattle.uc_types.specs.Members.{numbered_in};
+ghost use Rattle.uc_types.specs.Outside.{constructors_in};
 ghost use Rattle.uc_tree.specs.Cells.{classes_of};
 ghost use Rattle.uc_tree.specs.Constants.{constants_of, value_of_name};
+ghost use Rattle.uc_tree.specs.Numbering.{mutex_members};
+ghost use Rattle.uc_tree.specs.Programs.{Class};
 ghost use Rattle.uc_tree.specs.ProgramViews.{member_form_at};
+ghost use Rattle.uc_tree.specs.declared.limits.TheConstants.{MEMBERS};
 ghost use Rattle.uc_meaning.specs.Names.{constructor_among, constructor_form, constructor_params, declared_entity, form_sig, item_sig, items_named, member_named, method_sig, outer_named, routine_sig};
 ghost use Rattle.uc_meaning.specs.Scopes.{event_named, event_sort};
 ghost use Rattle.uc_meaning.specs.Sorts.{class_at, class_named, sort_of};
@@ -12,12 +17,14 @@ ghost use Rattle.uc_meaning.specs.Sorts.{class_at, class_named, sort_of};
 use crate::bases::Bases;
 use crate::directory::Directory;
 use crate::listing::{names_in_classes, names_outside, outer};
+use crate::members::{names_at, params_at, params_in_each};
+use crate::outside::OuterConstructors;
 use crate::sort::is_constructor;
 use std::alloc::{AllocError, Global};
 use std::marker::Model;
 use uc_meaning::rules::{Entity, Meant, Sort};
 use uc_sizes::sizes::Sizes;
-use uc_tree::class::{Class, Member, MemberForm, Sig};
+use uc_tree::class::{Class, Member, MemberForm, Routine, Sig};
 use uc_tree::declare::Declarator;
 use uc_tree::kinds::{Base, Param};
 use uc_tree::name::Name;
@@ -29,12 +36,16 @@ pub struct Tables<'a> {
     bases: Bases<'a>,
     members: Vec<Directory>,
     outer: Directory,
+    params: Vec<&'a [Param]>,
+    numbered: Vec<Vec<&'a Name>>,
+    constructors: OuterConstructors<'a>,
 }
 
 impl<'a> Model for Tables<'a> {
     ghost use Rattle.uc_tree.specs.Programs.{Program};
     ghost use Rattle.uc_tree.specs.ProgramCodes.{program_coded};
-    ghost use Rattle.uc_types.specs.Tabled.{IsListed};
+    ghost use Rattle.std.specs.Prelude.{map};
+    ghost use Rattle.uc_types.specs.Tabled.{AreMembers, IsListed};
 
     ghost Value = { Program };
 
@@ -42,7 +53,7 @@ impl<'a> Model for Tables<'a> {
 
     ghost view = { λ a. a.bases };
 
-    ghost invariant = { λ a. IsListed a.bases a.members.items a.outer };
+    ghost invariant = { λ a. IsListed a.bases a.members.items a.outer × AreMembers a.bases (map (λ x. x.now) a.params.items) (map (λ ns. map (λ n. n.now) ns.items) a.numbered.items) a.constructors };
 }
 
 fn constructor_form(form: &MemberForm) -> Option<&Sig>
@@ -112,17 +123,27 @@ fn named_in(directories: &[Directory], class: usize, name: &Name) -> Option<Mean
 }
 
 impl<'a> Tables<'a> {
-    /// The names of a program.
-    pub fn new(alloc: Global, program: &'a Program) -> Result<Tables<'a>, AllocError>
+    /// The names of a program, of whose classes these are the names of the mutex members, as far as they have numbers.
+    pub fn new(
+        alloc: Global,
+        program: &'a Program,
+        numbered: Vec<Vec<&'a Name>>,
+    ) -> Result<Tables<'a>, AllocError>
+        requires { map (λ ns. map (λ n. n.now) ns.items) numbered.items ≡ map numbered_in (classes_of program.now.items) }
         ensures { IfOk result (λ t. t ≡ program.now) }
     {
         let bases = Bases::new(alloc, program)?;
         let members = names_in_classes(alloc, &bases)?;
         let outer = names_outside(alloc, &bases)?;
+        let params = params_in_each(alloc, bases.classes())?;
+        let constructors = OuterConstructors::new(alloc, &program.items)?;
         Ok(Tables {
             bases,
             members,
             outer,
+            params,
+            numbered,
+            constructors,
         })
     }
 
@@ -239,13 +260,23 @@ impl<'a> Tables<'a> {
     pub fn constructor_params(&self, class: usize) -> &'a [Param]
         ensures { result.now ≡ constructor_params self.now class }
     {
-        match self.class_at(class) {
-            Some(found) => match constructor_among(&found.members) {
-                Some(sig) => &sig.params,
-                None => &[],
-            },
-            None => &[],
-        }
+        params_at(&self.params, class)
+    }
+
+    /// The names of the mutex members of the class with this place besides its destructor, as far as they have numbers.
+    pub fn numbered(&self, class: usize) -> &[&Name]
+        ensures names { (c : Class) → class_at self.now class ≡ Some c → map (λ n. n.now) result.now ≡ take MEMBERS (mutex_members c) }
+        ensures few { length result.now ≤ MEMBERS }
+    {
+        names_at(&self.numbered, class)
+    }
+
+    /// The constructors outside of classes of the class of this name, in order.
+    pub fn constructors_of<'x>(&'x self, name: &Name) -> &'x [&'x Routine]
+        ensures { map (λ r. r.now) result.now ≡ constructors_in name.now self.now.items }
+    {
+        let routines = self.constructors.of_class(name);
+        routines
     }
 
     /// The value of a constant, none where no constant of the name has one.

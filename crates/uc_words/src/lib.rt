@@ -6,8 +6,6 @@ mod job;
 mod number;
 mod numbers;
 mod pieces;
-#[cfg(test)]
-mod tests;
 mod told;
 mod words;
 

@@ -60,3 +60,21 @@ decreases-check_clause l = 4 * clause_size l.clause.now
 
 abbrev pub decreases-check_clauses : goal.decreases-check_clauses
 decreases-check_clauses l = 4 * clauses_size (clauses_of l.clauses.now) + 1
+
+abbrev pub decreases-check_if : goal.decreases-check_if
+decreases-check_if l = 4 * (stmt_size l.chosen.now + maybe_stmt_size (maybe_at l.other.now)) + 3
+
+abbrev pub decreases-check_while : goal.decreases-check_while
+decreases-check_while l = 4 * stmt_size l.body.now + 3
+
+abbrev pub decreases-check_do : goal.decreases-check_do
+decreases-check_do l = 4 * stmt_size l.body.now + 3
+
+abbrev pub decreases-check_try : goal.decreases-check_try
+decreases-check_try l = 4 * (stmts_size (stmts_of l.body.now) + handlers_size (handlers_of l.handlers.now)) + 3
+
+abbrev pub decreases-check_masked : goal.decreases-check_masked
+decreases-check_masked l = 4 * stmt_size l.body.now + 3
+
+abbrev pub decreases-check_accept : goal.decreases-check_accept
+decreases-check_accept l = 4 * (clauses_size (clauses_of l.clauses.now) + maybe_stmt_size (maybe_at l.other.now)) + 3

@@ -12,4 +12,4 @@ loop-index-preserved c =
     let access = c.args.listed.access in
     let base = c.args.listed.base.now in
     let member = c.args.listed.member in
-    walked_by (λ i d. maybe_visits env d.len ++ AtField env class access base d (place_in member i) ∷ []) (λ i d. i + 1) (λ i ds. fields_visits env class access base member i ds) (λ i d ds. refl) c.loop-index.index (c.loop-index.index + 1) c.args.listed.declarators.now c.loop-index.index c.declarator-item.result _ _ _ c.loop-index-test.true c.declarator-item.is refl c.check_field.ensures c.loop-index.invariant
+    walked_by (λ i d. maybe_visits env d.len ++ AtField env class access base d (place_in member i) ∷ []) (λ i d. i + 1) (λ i ds. fields_visits env class access base member i ds) (λ i d ds. refl) c.loop-index.index (c.loop-index.index + 1) c.args.listed.declarators.now c.loop-index.index c.declarator-item.result _ _ _ c.loop-index-test.true c.declarator-item.is refl c.in_ok-check_field.ensures c.loop-index.invariant

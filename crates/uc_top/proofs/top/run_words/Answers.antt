@@ -1,4 +1,5 @@
 use Rattle.uc_top.proofs.Causes.{causes, stops, answers, rooms, completes}
+use Rattle.uc_top.proofs.AnswerLemmas.{text_answers}
 use Rattle.uc_top.proofs.top.run_words.Goals as goal
 
 pub returns-clause-causes : goal.returns-clause-causes
@@ -15,3 +16,6 @@ returns-clause-rooms g c = rooms _ c.work-outcome.ensures.leaves
 
 pub returns-clause-completes : goal.returns-clause-completes
 returns-clause-completes g c = completes _ c.work-outcome.ensures.leaves
+
+pub returns-clause-texts : goal.returns-clause-texts
+returns-clause-texts g c = text_answers _ c.work-outcome.ensures.leaves

@@ -1,0 +1,36 @@
+-- Statements that hold no other one and declare nothing.
+use Rattle.std.specs.Prelude.{List, [], Bool, true, false, if◌then◌else◌}
+use Rattle.uc_tree.specs.Statements.{Stmt, Block, Empty, Evaluate, Declare, If, While, Do, For, Break, Continue, Return, Try, Throw, Raise, RaiseAt, Enable, Disable, Accept, Print, PrintTogether, Read, Resume, Suspend, Yield, Migrate}
+use Rattle.uc_meaning.specs.Scopes.{Env}
+use Rattle.uc_meaning.specs.Visits.{Visit, stmt_visits}
+
+abbrev pub is_alone : Stmt → Bool
+is_alone (Block p body) = false
+is_alone (Empty p) = true
+is_alone (Evaluate p e) = true
+is_alone (Declare p b ds) = false
+is_alone (If p test chosen other) = false
+is_alone (While p test body) = false
+is_alone (Do p body test) = false
+is_alone (For p start test step body) = false
+is_alone (Break p) = true
+is_alone (Continue p) = true
+is_alone (Return p value) = true
+is_alone (Try p brace body hs) = false
+is_alone (Throw p raised) = true
+is_alone (Raise p raised) = true
+is_alone (RaiseAt p raised target) = true
+is_alone (Enable p events body) = false
+is_alone (Disable p events body) = false
+is_alone (Accept p cs other) = false
+is_alone (Print p items) = true
+is_alone (PrintTogether p items) = true
+is_alone (Read p es) = true
+is_alone (Resume p) = true
+is_alone (Suspend p) = true
+is_alone (Yield p) = true
+is_alone (Migrate p e) = true
+
+-- the visits of such a statement; of the others none
+abbrev pub alone_visits : Stmt → Env → List Visit
+alone_visits s env = if is_alone s then stmt_visits s env else []

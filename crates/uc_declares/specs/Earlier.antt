@@ -1,0 +1,40 @@
+-- Whether what a name of a class means stands before a place in it: a field by its place, a routine by that of its member.
+use Rattle.std.specs.Prelude.{Bool, false, Option, Some, None, nat_lt}
+use Rattle.uc_meaning.specs.declared.rules.Entity.{Entity}
+use Rattle.uc_meaning.specs.declared.rules.Entity.TheVariants as entity
+use Rattle.uc_meaning.specs.declared.rules.FieldPlace.{FieldPlace}
+use Rattle.uc_meaning.specs.declared.rules.Meant.{Meant}
+use Rattle.uc_meaning.specs.declared.rules.Origin.{Origin}
+use Rattle.uc_meaning.specs.declared.rules.Origin.TheVariants as origin
+use Rattle.uc_meaning.specs.Names.{is_field_before}
+
+abbrev pub entity_before : FieldPlace → Entity → Bool
+entity_before place (entity.Value s) = false
+entity_before place (entity.Place s) = false
+entity_before place (entity.Array s n) = false
+entity_before place entity.Input = false
+entity_before place entity.Fail = false
+entity_before place (entity.Operation o) = false
+entity_before place entity.Main = false
+entity_before place (entity.Routine i) = false
+entity_before place (entity.Method i j inner by_path) = nat_lt j place.member
+entity_before place entity.ClassName = false
+entity_before place entity.Missing = false
+
+abbrev pub method_before : FieldPlace → Option Entity → Bool
+method_before place None = false
+method_before place (Some w) = entity_before place w
+
+abbrev pub origin_before : FieldPlace → Option Entity → Origin → Bool
+origin_before place w origin.Local = false
+origin_before place w (origin.Parameter by_ref) = false
+origin_before place w (origin.Field class k access by_ref i) = is_field_before i place
+origin_before place w (origin.Method class access) = method_before place w
+origin_before place w origin.Outer = false
+
+abbrev pub meant_before : FieldPlace → Meant → Bool
+meant_before place m = origin_before place m.entity m.origin
+
+abbrev pub stands_before : FieldPlace → Option Meant → Bool
+stands_before place None = false
+stands_before place (Some m) = meant_before place m

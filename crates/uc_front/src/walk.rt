@@ -1,0 +1,568 @@
+// The names in scope at a place of a program.
+
+ghost use Rattle.std.specs.Prelude.{◌≡◌, IfOk, OnOk, Option, Some, length};
+ghost use Rattle.uc_tree.specs.StatementViews.{maybe_at};
+ghost use Rattle.uc_tree.specs.Statements.{clauses_of, handlers_of, stmts_of};
+ghost use Rattle.uc_meaning.specs.Scopes.{Env, all_declared, block_env, env_after, env_behind, for_declared, opened, with_params};
+ghost use Rattle.uc_meaning.specs.Visits.{looped};
+ghost use Rattle.uc_front.specs.Places.{AtBody, AtLeaf, AtStmt, accept_node, accepted_node, behind_node, block_node, body_node, clause_node, declaration_node, env_along, env_from, for_node, handler_node, handling_node, head_node, held_node, if_node, inner_node, lone_node, maybe_node, nth_node, reached, try_node};
+
+use crate::place::Step;
+use std::alloc::AllocError;
+use uc_bodies::stmt::{in_handler, in_loop, open_block, with_joins};
+use uc_tree::declare::{Declarator, ForForm, ForStart};
+use uc_tree::kinds::{Base, Param};
+use uc_tree::stmt::{Clause, Handler, Stmt, StmtForm};
+use uc_types::names::Names;
+
+/// Brings these parameters into scope.
+pub(crate) fn add_params(names: &mut Names, params: &[Param]) -> Result<(), AllocError>
+    ensures { OnOk result (names.new ≡ with_params names.old params.now) }
+{
+    for param in params {
+        names.add_param(param)?;
+    }
+    Ok(())
+}
+
+fn declare_all(names: &mut Names, base: &Base, declarators: &[Declarator]) -> Result<(), AllocError>
+    ensures { OnOk result (names.new ≡ all_declared names.old base.now declarators.now) }
+{
+    for declarator in declarators {
+        names.declare(base, declarator)?;
+    }
+    Ok(())
+}
+
+// Brings into scope what a statement declares.
+fn pass(names: &mut Names, s: &Stmt) -> Result<(), AllocError>
+    ensures { OnOk result (names.new ≡ env_after names.old s.now) }
+{
+    match &s.form {
+        StmtForm::Declare { base, declarators } => {
+            declare_all(names, base, declarators)?;
+            Ok(())
+        }
+        StmtForm::Block { .. } => Ok(()),
+        StmtForm::Empty => Ok(()),
+        StmtForm::Evaluate { .. } => Ok(()),
+        StmtForm::If { .. } => Ok(()),
+        StmtForm::While { .. } => Ok(()),
+        StmtForm::Do { .. } => Ok(()),
+        StmtForm::For { .. } => Ok(()),
+        StmtForm::Break => Ok(()),
+        StmtForm::Continue => Ok(()),
+        StmtForm::Return { .. } => Ok(()),
+        StmtForm::Try { .. } => Ok(()),
+        StmtForm::Throw { .. } => Ok(()),
+        StmtForm::Raise { .. } => Ok(()),
+        StmtForm::RaiseAt { .. } => Ok(()),
+        StmtForm::Enable { .. } => Ok(()),
+        StmtForm::Disable { .. } => Ok(()),
+        StmtForm::Accept { .. } => Ok(()),
+        StmtForm::Print { .. } => Ok(()),
+        StmtForm::PrintTogether { .. } => Ok(()),
+        StmtForm::Read { .. } => Ok(()),
+        StmtForm::Resume => Ok(()),
+        StmtForm::Suspend => Ok(()),
+        StmtForm::Yield => Ok(()),
+        StmtForm::Migrate { .. } => Ok(()),
+    }
+}
+
+fn pass_all(names: &mut Names, body: &[Stmt]) -> Result<(), AllocError>
+    ensures { OnOk result (names.new ≡ env_behind names.old (stmts_of body.now)) }
+{
+    for s in body {
+        pass(names, s)?;
+    }
+    Ok(())
+}
+
+fn declare_start(names: &mut Names, start: &ForStart) -> Result<(), AllocError>
+    ensures { OnOk result (names.new ≡ for_declared names.old start.now) }
+{
+    match &start.form {
+        ForForm::Nothing => Ok(()),
+        ForForm::Declare {
+            base,
+            declarators,
+            ..
+        } => {
+            declare_all(names, base, declarators)?;
+            Ok(())
+        }
+        ForForm::Evaluate { .. } => Ok(()),
+    }
+}
+
+/// Whether a way ends where nothing stands.
+pub(crate) fn is_end(steps: &[Step]) -> bool
+    ensures { (env : Env) → env_along (AtLeaf env) steps.now ≡ reached result env }
+{
+    match steps.split_first() {
+        Some(_) => false,
+        None => true,
+    }
+}
+
+fn is_alone(number: usize, steps: &[Step]) -> bool
+    ensures { (env : Env) → env_from (lone_node env number) steps.now ≡ reached result env }
+{
+    if number == 0 {
+        return is_end(steps);
+    }
+    false
+}
+
+fn enter_behind(
+    names: &mut Names,
+    base: &Base,
+    declarators: &[Declarator],
+    number: usize,
+    steps: &[Step],
+) -> Result<bool, AllocError>
+    ensures { IfOk result (λ there. env_from (behind_node names.old base.now declarators.now number) steps.now ≡ reached there names.new) }
+{
+    if declarators.len() < number {
+        return Ok(false);
+    }
+    declare_all(names, base, &declarators[..number])?;
+    Ok(is_end(steps))
+}
+
+fn enter_head(
+    names: &mut Names,
+    start: &ForStart,
+    number: usize,
+    steps: &[Step],
+) -> Result<bool, AllocError>
+    ensures { IfOk result (λ there. env_from (head_node names.old start.now number) steps.now ≡ reached there names.new) }
+{
+    match &start.form {
+        ForForm::Nothing => Ok(is_alone(number, steps)),
+        ForForm::Declare {
+            base,
+            declarators,
+            ..
+        } => {
+            let there = enter_behind(names, base, declarators, number, steps)?;
+            Ok(there)
+        }
+        ForForm::Evaluate { .. } => Ok(is_alone(number, steps)),
+    }
+}
+
+/// Goes a way from a body on, and says whether it leads anywhere; then the names are those there.
+#[cycle(follow)]
+pub(crate) fn follow_body(
+    names: &mut Names,
+    body: &[Stmt],
+    steps: &[Step],
+) -> Result<bool, AllocError>
+    ensures { IfOk result (λ there. env_along (AtBody names.old (stmts_of body.now)) steps.now ≡ reached there names.new) }
+{
+    match steps.split_first() {
+        Some((step, rest)) => {
+            let there = enter_body(names, body, *step, rest)?;
+            Ok(there)
+        }
+        None => Ok(true),
+    }
+}
+
+#[cycle(follow)]
+fn enter_body(
+    names: &mut Names,
+    body: &[Stmt],
+    step: Step,
+    steps: &[Step],
+) -> Result<bool, AllocError>
+    ensures { IfOk result (λ there. env_from (body_node names.old (stmts_of body.now) step) steps.now ≡ reached there names.new) }
+{
+    match step {
+        Step::At { number } => {
+            let there = enter_nth(names, body, number, steps)?;
+            Ok(there)
+        }
+        Step::Head { .. } => Ok(false),
+        Step::Body => Ok(false),
+        Step::Other => Ok(false),
+        Step::Handler { .. } => Ok(false),
+        Step::Clause { .. } => Ok(false),
+    }
+}
+
+#[cycle(follow)]
+fn enter_nth(
+    names: &mut Names,
+    body: &[Stmt],
+    number: usize,
+    steps: &[Step],
+) -> Result<bool, AllocError>
+    ensures { IfOk result (λ there. env_from (nth_node names.old (stmts_of body.now) number) steps.now ≡ reached there names.new) }
+{
+    if body.len() < number {
+        return Ok(false);
+    }
+    pass_all(names, &body[..number])?;
+    match body.get(number) {
+        Some(s) => {
+            let there = follow_stmt(names, s, steps)?;
+            Ok(there)
+        }
+        None => Ok(is_end(steps)),
+    }
+}
+
+#[cycle(follow)]
+fn follow_stmt(names: &mut Names, s: &Stmt, steps: &[Step]) -> Result<bool, AllocError>
+    ensures { IfOk result (λ there. env_along (AtStmt names.old s.now) steps.now ≡ reached there names.new) }
+{
+    match steps.split_first() {
+        Some((step, rest)) => {
+            let there = enter_stmt(names, s, *step, rest)?;
+            Ok(there)
+        }
+        None => Ok(true),
+    }
+}
+
+#[cycle(follow)]
+fn enter_stmt(names: &mut Names, s: &Stmt, step: Step, steps: &[Step]) -> Result<bool, AllocError>
+    ensures { IfOk result (λ there. env_from (inner_node names.old s.now step) steps.now ≡ reached there names.new) }
+{
+    match &s.form {
+        StmtForm::Block { body } => {
+            let there = enter_block(names, body, step, steps)?;
+            Ok(there)
+        }
+        StmtForm::Declare { base, declarators } => {
+            let there = enter_declaration(names, base, declarators, step, steps)?;
+            Ok(there)
+        }
+        StmtForm::If { chosen, other, .. } => {
+            let there = enter_if(names, chosen, other, step, steps)?;
+            Ok(there)
+        }
+        StmtForm::While { body, .. } => {
+            let there = enter_loop(names, body, step, steps)?;
+            Ok(there)
+        }
+        StmtForm::Do { body, .. } => {
+            let there = enter_loop(names, body, step, steps)?;
+            Ok(there)
+        }
+        StmtForm::For { start, body, .. } => {
+            let there = enter_for(names, start, body, step, steps)?;
+            Ok(there)
+        }
+        StmtForm::Try { body, handlers, .. } => {
+            let there = enter_try(names, body, handlers, step, steps)?;
+            Ok(there)
+        }
+        StmtForm::Enable { body, .. } => {
+            let there = enter_masked(names, body, step, steps)?;
+            Ok(there)
+        }
+        StmtForm::Disable { body, .. } => {
+            let there = enter_masked(names, body, step, steps)?;
+            Ok(there)
+        }
+        StmtForm::Accept { clauses, other } => {
+            let there = enter_accept(names, clauses, other, step, steps)?;
+            Ok(there)
+        }
+        StmtForm::Empty => Ok(false),
+        StmtForm::Evaluate { .. } => Ok(false),
+        StmtForm::Break => Ok(false),
+        StmtForm::Continue => Ok(false),
+        StmtForm::Return { .. } => Ok(false),
+        StmtForm::Throw { .. } => Ok(false),
+        StmtForm::Raise { .. } => Ok(false),
+        StmtForm::RaiseAt { .. } => Ok(false),
+        StmtForm::Print { .. } => Ok(false),
+        StmtForm::PrintTogether { .. } => Ok(false),
+        StmtForm::Read { .. } => Ok(false),
+        StmtForm::Resume => Ok(false),
+        StmtForm::Suspend => Ok(false),
+        StmtForm::Yield => Ok(false),
+        StmtForm::Migrate { .. } => Ok(false),
+    }
+}
+
+#[cycle(follow)]
+fn enter_block(
+    names: &mut Names,
+    body: &[Stmt],
+    step: Step,
+    steps: &[Step],
+) -> Result<bool, AllocError>
+    ensures { IfOk result (λ there. env_from (block_node (block_env names.old) (stmts_of body.now) step) steps.now ≡ reached there names.new) }
+{
+    match step {
+        Step::At { .. } => Ok(false),
+        Step::Head { .. } => Ok(false),
+        Step::Body => {
+            open_block(names);
+            let there = follow_body(names, body, steps)?;
+            Ok(there)
+        }
+        Step::Other => Ok(false),
+        Step::Handler { .. } => Ok(false),
+        Step::Clause { .. } => Ok(false),
+    }
+}
+
+fn enter_declaration(
+    names: &mut Names,
+    base: &Base,
+    declarators: &[Declarator],
+    step: Step,
+    steps: &[Step],
+) -> Result<bool, AllocError>
+    ensures { IfOk result (λ there. env_from (declaration_node names.old base.now declarators.now step) steps.now ≡ reached there names.new) }
+{
+    match step {
+        Step::At { number } => {
+            let there = enter_behind(names, base, declarators, number, steps)?;
+            Ok(there)
+        }
+        Step::Head { .. } => Ok(false),
+        Step::Body => Ok(false),
+        Step::Other => Ok(false),
+        Step::Handler { .. } => Ok(false),
+        Step::Clause { .. } => Ok(false),
+    }
+}
+
+#[cycle(follow)]
+fn enter_if(
+    names: &mut Names,
+    chosen: &Stmt,
+    other: &Option<Box<Stmt>>,
+    step: Step,
+    steps: &[Step],
+) -> Result<bool, AllocError>
+    ensures { IfOk result (λ there. env_from (if_node names.old chosen.now (maybe_at other.now) step) steps.now ≡ reached there names.new) }
+{
+    match step {
+        Step::At { .. } => Ok(false),
+        Step::Head { .. } => Ok(false),
+        Step::Body => {
+            let there = enter_inner(names, chosen, steps)?;
+            Ok(there)
+        }
+        Step::Other => {
+            let there = enter_maybe(names, other, steps)?;
+            Ok(there)
+        }
+        Step::Handler { .. } => Ok(false),
+        Step::Clause { .. } => Ok(false),
+    }
+}
+
+#[cycle(follow)]
+fn enter_loop(
+    names: &mut Names,
+    body: &Stmt,
+    step: Step,
+    steps: &[Step],
+) -> Result<bool, AllocError>
+    ensures { IfOk result (λ there. env_from (held_node (looped names.old) body.now step) steps.now ≡ reached there names.new) }
+{
+    match step {
+        Step::At { .. } => Ok(false),
+        Step::Head { .. } => Ok(false),
+        Step::Body => {
+            names.set_around(in_loop(names.around()));
+            let there = enter_inner(names, body, steps)?;
+            Ok(there)
+        }
+        Step::Other => Ok(false),
+        Step::Handler { .. } => Ok(false),
+        Step::Clause { .. } => Ok(false),
+    }
+}
+
+#[cycle(follow)]
+fn enter_for(
+    names: &mut Names,
+    start: &ForStart,
+    body: &Stmt,
+    step: Step,
+    steps: &[Step],
+) -> Result<bool, AllocError>
+    ensures { IfOk result (λ there. env_from (for_node (opened names.old) start.now body.now step) steps.now ≡ reached there names.new) }
+{
+    names.open();
+    match step {
+        Step::At { .. } => Ok(false),
+        Step::Head { number } => {
+            let there = enter_head(names, start, number, steps)?;
+            Ok(there)
+        }
+        Step::Body => {
+            declare_start(names, start)?;
+            names.set_around(with_joins(true, in_loop(names.around())));
+            let there = follow_stmt(names, body, steps)?;
+            Ok(there)
+        }
+        Step::Other => Ok(false),
+        Step::Handler { .. } => Ok(false),
+        Step::Clause { .. } => Ok(false),
+    }
+}
+
+#[cycle(follow)]
+fn enter_try(
+    names: &mut Names,
+    body: &[Stmt],
+    handlers: &[Handler],
+    step: Step,
+    steps: &[Step],
+) -> Result<bool, AllocError>
+    ensures { IfOk result (λ there. env_from (try_node names.old (stmts_of body.now) (handlers_of handlers.now) step) steps.now ≡ reached there names.new) }
+{
+    match step {
+        Step::At { .. } => Ok(false),
+        Step::Head { .. } => Ok(false),
+        Step::Body => {
+            names.open();
+            let there = follow_body(names, body, steps)?;
+            Ok(there)
+        }
+        Step::Other => Ok(false),
+        Step::Handler { number } => {
+            let there = enter_handlers(names, handlers, number, steps)?;
+            Ok(there)
+        }
+        Step::Clause { .. } => Ok(false),
+    }
+}
+
+#[cycle(follow)]
+fn enter_masked(
+    names: &mut Names,
+    body: &Stmt,
+    step: Step,
+    steps: &[Step],
+) -> Result<bool, AllocError>
+    ensures { IfOk result (λ there. env_from (held_node names.old body.now step) steps.now ≡ reached there names.new) }
+{
+    match step {
+        Step::At { .. } => Ok(false),
+        Step::Head { .. } => Ok(false),
+        Step::Body => {
+            let there = enter_inner(names, body, steps)?;
+            Ok(there)
+        }
+        Step::Other => Ok(false),
+        Step::Handler { .. } => Ok(false),
+        Step::Clause { .. } => Ok(false),
+    }
+}
+
+#[cycle(follow)]
+fn enter_accept(
+    names: &mut Names,
+    clauses: &[Clause],
+    other: &Option<Box<Stmt>>,
+    step: Step,
+    steps: &[Step],
+) -> Result<bool, AllocError>
+    ensures { IfOk result (λ there. env_from (accept_node names.old (clauses_of clauses.now) (maybe_at other.now) step) steps.now ≡ reached there names.new) }
+{
+    match step {
+        Step::At { .. } => Ok(false),
+        Step::Head { .. } => Ok(false),
+        Step::Body => Ok(false),
+        Step::Other => {
+            let there = enter_maybe(names, other, steps)?;
+            Ok(there)
+        }
+        Step::Handler { .. } => Ok(false),
+        Step::Clause { number } => {
+            let there = enter_clauses(names, clauses, number, steps)?;
+            Ok(there)
+        }
+    }
+}
+
+// A statement that stands in another one.
+#[cycle(follow)]
+fn enter_inner(names: &mut Names, s: &Stmt, steps: &[Step]) -> Result<bool, AllocError>
+    ensures { IfOk result (λ there. env_along (AtStmt (opened names.old) s.now) steps.now ≡ reached there names.new) }
+{
+    names.open();
+    let there = follow_stmt(names, s, steps)?;
+    Ok(there)
+}
+
+#[cycle(follow)]
+fn enter_maybe(names: &mut Names, s: &Option<Box<Stmt>>, steps: &[Step]) -> Result<bool, AllocError>
+    ensures { IfOk result (λ there. env_from (maybe_node names.old (maybe_at s.now)) steps.now ≡ reached there names.new) }
+{
+    match s {
+        Some(s) => {
+            let there = enter_inner(names, s, steps)?;
+            Ok(there)
+        }
+        None => Ok(false),
+    }
+}
+
+#[cycle(follow)]
+fn enter_handlers(
+    names: &mut Names,
+    handlers: &[Handler],
+    number: usize,
+    steps: &[Step],
+) -> Result<bool, AllocError>
+    ensures { IfOk result (λ there. env_from (handler_node names.old (handlers_of handlers.now) number) steps.now ≡ reached there names.new) }
+{
+    match handlers.get(number) {
+        Some(handler) => {
+            let there = enter_handler(names, handler, steps)?;
+            Ok(there)
+        }
+        None => Ok(false),
+    }
+}
+
+#[cycle(follow)]
+fn enter_handler(names: &mut Names, handler: &Handler, steps: &[Step]) -> Result<bool, AllocError>
+    ensures { IfOk result (λ there. env_along (handling_node names.old handler.now) steps.now ≡ reached there names.new) }
+{
+    names.set_around(in_handler(names.around()));
+    names.open();
+    names.add_caught(&handler.event, &handler.param)?;
+    let there = follow_body(names, &handler.body, steps)?;
+    Ok(there)
+}
+
+#[cycle(follow)]
+fn enter_clauses(
+    names: &mut Names,
+    clauses: &[Clause],
+    number: usize,
+    steps: &[Step],
+) -> Result<bool, AllocError>
+    ensures { IfOk result (λ there. env_from (clause_node names.old (clauses_of clauses.now) number) steps.now ≡ reached there names.new) }
+{
+    match clauses.get(number) {
+        Some(clause) => {
+            let there = enter_clause(names, clause, steps)?;
+            Ok(there)
+        }
+        None => Ok(false),
+    }
+}
+
+#[cycle(follow)]
+fn enter_clause(names: &mut Names, clause: &Clause, steps: &[Step]) -> Result<bool, AllocError>
+    ensures { IfOk result (λ there. env_along (accepted_node names.old clause.now) steps.now ≡ reached there names.new) }
+{
+    let there = enter_inner(names, &clause.body, steps)?;
+    Ok(there)
+}

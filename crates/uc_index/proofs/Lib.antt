@@ -1,0 +1,5 @@
+pub mod FirstsLemmas
+pub mod KeysLemmas
+pub mod Askings
+pub mod Clashes
+pub mod Marks

@@ -1,0 +1,48 @@
+// What stands before a text.
+
+use std::alloc::{AllocError, Global};
+
+/// The words and what else a line says of a call.
+#[derive(Drop)]
+pub(crate) struct Header {
+    pub(crate) words: String,
+    pub(crate) fails: Option<(u64, u64)>,
+    pub(crate) room: usize,
+    pub(crate) count: usize,
+    pub(crate) length: usize,
+    pub(crate) input: String,
+}
+
+impl Header {
+    pub(crate) fn read(alloc: Global, line: &str) -> Result<Header, AllocError> {
+        let (line, input) = parted(line, " < ");
+        let (line, length) = parted(line, " + ");
+        let (line, count) = parted(line, " * ");
+        let (line, room) = parted(line, " > ");
+        let (words, fails) = parted(line, " ! ");
+        Ok(Header {
+            words: String::from_str(alloc, words)?,
+            fails: most_of(fails),
+            room: room.parse::<usize>().unwrap_or(10_000),
+            count: count.parse::<usize>().unwrap_or(0),
+            length: length.parse::<usize>().unwrap_or(0),
+            input: String::from_str(alloc, input)?,
+        })
+    }
+}
+
+// What stands before a mark, and what stands behind it.
+fn parted<'a>(line: &'a str, mark: &str) -> (&'a str, &'a str) {
+    match line.split_once(mark) {
+        Some(parts) => parts,
+        None => (line, ""),
+    }
+}
+
+// The two numbers of bytes.
+fn most_of(text: &str) -> Option<(u64, u64)> {
+    let (out, err) = text.split_once(' ')?;
+    let out = out.parse::<u64>().ok()?;
+    let err = err.parse::<u64>().ok()?;
+    Some((out, err))
+}
