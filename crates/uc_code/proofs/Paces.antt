@@ -2,7 +2,7 @@
 use Rattle.std.proofs.Common.{◌≡◌, ℕ, zero, suc, ◌+◌, ◌<◌, ◌≤◌, pos, List, [], ◌∷◌, Option, Some, None, length, refl, sym, subst, arith}
 use Rattle.std.specs.Prelude.{slice_get}
 use Rattle.std.proofs.lemmas.Option.{slice_get_within}
-use Rattle.uc_tree.specs.Source.{Shape, Integer, Character, Truth, Binding, Last, Field, Array, shape_cells, Order, TestFirst, BodyFirst, NoTest, Operator, Plus, Minus, Times, Over, Modulo, Equal, NotEqual, Less, AtMost, Greater, AtLeast, Expr, Literal, Variable, Element, Get, Load, Negated, Not, AsCharacter, AsTruth, Operate, And, Or, Set, Assign, First, Update, StepBehind, Fail, Call, OfObject, Exprs, NoExprs, MoreExprs, Item, Show, ShowText, Target, Declared, Stmt, Skip, Block, Evaluate, Declare, Print, PrintTogether, Read, If, Loop, Break, Continue, Return, OfEvents, OfTasks, Stmts, Nil, Then, Scoped, Way, ToBreak, ToContinue, ToReturn, ToEnd, Purpose, TaskMain, Procedure, Function, Builder, Routine, Source}
+use Rattle.uc_tree.specs.Source.{Shape, Integer, Character, Truth, Binding, Last, Field, Array, shape_cells, Order, TestFirst, BodyFirst, NoTest, Operator, Plus, Minus, Times, Over, Modulo, Equal, NotEqual, Less, AtMost, Greater, AtLeast, Expr, Literal, Variable, Element, Get, Load, Negated, Not, AsCharacter, AsTruth, Operate, And, Or, Set, Assign, First, Update, StepBehind, Fail, Call, OfObject, Exprs, NoExprs, MoreExprs, Item, Show, ShowText, Target, Declared, Stmt, Skip, Block, Evaluate, Declare, Print, PrintTogether, Read, If, Loop, Break, Continue, Return, Fill, OfEvents, OfTasks, Stmts, Nil, Then, Scoped, Built, Way, ToBreak, ToContinue, ToReturn, ToEnd, Purpose, TaskMain, Procedure, Function, Builder, Routine, Source}
 use Rattle.uc_code.specs.declared.op.Op.{Op}
 use Rattle.uc_code.specs.declared.op.Op.TheVariants as op
 use Rattle.uc_code.specs.declared.rows.Mark.{Mark}
@@ -312,13 +312,15 @@ module _ (code : Laid) (table : List RoutineCode) where
     stmt_paces ms (Continue line) = exit_paces ToContinue ms
     stmt_paces ms (Return line None) = exit_paces ToEnd ms
     stmt_paces ms (Return line (Some e)) = both ms (expr_paces ms line e) (exit_paces ToReturn ms)
+    stmt_paces ms (Fill line n b d) = never_paces ms
     stmt_paces ms (OfEvents s) = never_paces ms
     stmt_paces ms (OfTasks s) = never_paces ms
 
     stmts_paces : (ms : List Mark) (ss : Stmts) → Paces ms (StmtsAt code ms ss)
     stmts_paces ms Nil = nothing_paces ms
     stmts_paces ms (Then s ss) = both ms (stmt_paces ms s) (stmts_paces ms ss)
-    stmts_paces ms (Scoped line e c ss) = never_paces ms
+    stmts_paces ms (Scoped c ss) = never_paces ms
+    stmts_paces ms (Built c ss) = never_paces ms
 
   -- each routine ends in a return, whatever stands behind it
 

@@ -13,14 +13,16 @@ use uc_code::rows::RoutineCode;
 use uc_meaning::exec::{Reason, Visited};
 
 /// What is next in an activation, its operands, the object of a member's call, the depth of the frame whose variables it
-/// uses, how far the search came where it handles a resumption, why it is unwound, and what a return that unwinds it hands
-/// over. A call that wants memory in vain changes nothing.
+/// uses, whether it counts as an active call, how many elements stand of the array that it builds or destroys, how far the search
+/// came where it handles a resumption, why it is unwound, and what a return that unwinds it hands over. A call that wants memory in vain changes nothing.
 #[derive(Drop)]
 pub struct Active {
     next: u32,
     operands: Vec<Cell>,
     this: Cell,
     frame: u32,
+    counts: bool,
+    elements: u32,
     handles: Option<Visited>,
     raised: Option<Reason>,
     result: Cell,
@@ -32,20 +34,22 @@ impl Model for Active {
 
     ghost Value = { Active };
 
-    ghost view = { λ a. record { control = a.next; operands = reverse a.operands.items; this = a.this; frame = a.frame; handles = a.handles; raised = a.raised; result = a.result } };
+    ghost view = { λ a. record { control = a.next; operands = reverse a.operands.items; this = a.this; frame = a.frame; counts = a.counts; elements = a.elements; handles = a.handles; raised = a.raised; result = a.result } };
 }
 
 impl Active {
     /// An activation as it begins, at this op, with an empty list for its operands.
-    pub fn new(operands: Vec<Cell>, entry: u32, this: Cell, frame: u32) -> Active
+    pub fn new(operands: Vec<Cell>, entry: u32, this: Cell, frame: u32, counts: bool) -> Active
         requires { operands.items ≡ [] }
-        ensures { result ≡ begun entry this frame Cell.Nothing }
+        ensures { result ≡ begun entry this frame Cell.Nothing counts }
     {
         Active {
             next: entry,
             operands,
             this,
             frame,
+            counts,
+            elements: 0,
             handles: None,
             raised: None,
             result: Cell::Nothing,
@@ -64,6 +68,13 @@ impl Active {
         ensures { self.new ≡ record self.old { control = to } }
     {
         self.next = to;
+    }
+
+    /// Whether it counts as an active call.
+    pub fn counts(&self) -> bool
+        ensures { result ≡ self.now.counts }
+    {
+        self.counts
     }
 
     /// The depth of the frame whose variables it uses.

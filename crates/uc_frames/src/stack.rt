@@ -50,7 +50,7 @@ impl Stack {
         frames.push(frame)?;
         Ok(Stack {
             alloc,
-            running: Active::new(Vec::new(alloc), routine.entry, this, 0),
+            running: Active::new(Vec::new(alloc), routine.entry, this, 0, false),
             callers: Vec::new(alloc),
             frames,
             links: Links::new(alloc),
@@ -101,7 +101,7 @@ impl Stack {
         let frame = self.running.frame_of_call(empty, routine)?;
         self.callers.reserve(1)?;
         self.frames.push(frame)?;
-        let callee = Active::new(operands, routine.entry, this, depth);
+        let callee = Active::new(operands, routine.entry, this, depth, true);
         let mut caller = mem::replace(&mut self.running, callee);
         caller.wait_for(routine);
         self.callers.push_reserved(caller);
@@ -131,14 +131,14 @@ impl Stack {
 
     // This activation goes on in the place of the newest one, which goes with its frame.
     fn go_back(&mut self, caller: Active)
-        ensures { self.new ≡ record self.old { run = caller; frames = drop 1 self.old.frames; links = one_call_less self.old.links } }
+        ensures { self.new ≡ record self.old { run = caller; frames = drop 1 self.old.frames; links = one_call_less self.old.run.counts self.old.links } }
     {
         let left = mem::replace(&mut self.running, caller);
+        self.links.leave(left.counts());
         keep_list(&mut self.spare, left.into_operands());
         if let Some(frame) = self.frames.pop() {
             keep_list(&mut self.spare, frame);
         }
-        self.links.leave();
     }
 
     /// The line of an op; for one of no line that of the newest call around it that has one.

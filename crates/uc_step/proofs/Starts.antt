@@ -26,7 +26,9 @@ module _ (code : Laid) where
   -- what is behind a routine's body
   ended : (p : Purpose) (line a z : ℕ) → EndAt code p line a z → FollowsAt code (behind_body p line) (body_marks p line) a
   ended TaskMain line a z h = record { pops = refl; end = a; leads = Arrived a; returns = h.here }
-  ended Procedure line a z h = record { none = refl; end = a; leads = Arrived a; returns = h.here }
+  ended Procedure line a z h =
+      let last : FollowsAt code [] [] a = record { none = refl; end = a; leads = Arrived a; returns = h.here } in
+      record { from = a; to = a; leads = Arrived a; piece = record { end = refl }; on = last }
   ended Function line a z h =
       let m : ℕ = h.middle in
       let last : FollowsAt code [] [] m = record { none = refl; end = m; leads = Arrived m; returns = h.second.here } in
