@@ -1,3 +1,4 @@
+pub mod Called
 pub mod Heights
 pub mod Lines
 pub mod Names

@@ -1,5 +1,5 @@
 -- The code of a piece goes on standing where its own range does not change.
-use Rattle.std.proofs.Common.{ℕ, ◌+◌, ◌≤◌, length, arith, refl, ◌∙◌}
+use Rattle.std.proofs.Common.{ℕ, ◌+◌, ◌^◌, ◌≤◌, ◌<◌, List, ◌∷◌, length, arith, refl, ◌∙◌}
 use Rattle.uc_code.specs.declared.op.Op.{Op}
 use Rattle.uc_tree.specs.Source.{Order, TestFirst, BodyFirst, NoTest}
 use Rattle.uc_code.specs.declared.op.Op.TheVariants.{Jump, IfZero, IfNonzero, Tick}
@@ -11,26 +11,29 @@ pub part : (old new : Laid) (a z b y : ℕ) → a ≤ b → y ≤ z → Same old
 part old new a z b y h k s = record {
   same = λ i op line l m o. s.same i op line (omega arith) (omega arith) o;
   chains = λ next l m. s.chains next (omega arith) (omega arith);
+  handlers = s.handlers;
 }
 
 pub same_then : (b c d : Laid) (a z : ℕ) → Same b c a z → Same c d a z → Same b d a z
 same_then b c d a z s t = record {
   same = λ i op line l m o. t.same i op line l m (s.same i op line l m o);
   chains = λ next l m. t.chains next l m ∙ s.chains next l m;
+  handlers = λ k e h. t.handlers k e (s.handlers k e h);
 }
 
 -- a range that is laid out stays
 pub kept_same : (old new : Laid) (a z : ℕ) → z ≤ length old.ops → Kept old new → Same old new a z
-kept_same old new a z b k = record { same = λ i op line l m o. k.same i op line o; chains = λ next l m. k.chains next (omega arith) }
+kept_same old new a z b k = record { same = λ i op line l m o. k.same i op line o; chains = λ next l m. k.chains next (omega arith); handlers = k.handlers }
 
 pub kept_refl : (code : Laid) → Kept code code
-kept_refl code = record { longer = omega arith; same = λ i op line h. h; chains = λ next h. refl }
+kept_refl code = record { longer = omega arith; same = λ i op line h. h; chains = λ next h. refl; handlers = λ k e h. h }
 
 pub kept_then : (a b c : Laid) → Kept a b → Kept b c → Kept a c
 kept_then a b c h k = record {
   longer = let l = h.longer in let m = k.longer in omega arith;
   same = λ i op line o. k.same i op line (h.same i op line o);
   chains = λ next l. let m = h.longer in k.chains next (omega arith) ∙ h.chains next l;
+  handlers = λ n e o. k.handlers n e (h.handlers n e o);
 }
 
 pub nothing_stable : Stable (λ code. Nothing)

@@ -71,7 +71,7 @@ pub data Todo : Type 0 where
   -- so many elements of an array stand; one more
   CountNow : ℕ → Todo
   MoreNow : Todo
-  -- elements are built up to so many: what builds and what destroys the one that is counted
+  -- a mark too: elements are built up to so many: what builds and what destroys the one that is counted
   FillNow : ℕ → Expr → Expr → Todo
   -- a turn of a loop begins, by a tick: how it turns, its test, its step and its body; it begins where the newest operand is
   -- not 0
@@ -112,12 +112,13 @@ pub data Todo : Type 0 where
   -- the end of a main, which has a line
   Finish : Todo
 
--- what a piece is for one who leaves it: nothing; a loop; the scope of an object; an array that is being destroyed; a part of an
--- object that is being built; or the end of a main, behind which nothing is to do
+-- what a piece is for one who leaves it: nothing; a loop; the scope of an object; an array that is being built or destroyed; a part
+-- of an object that is being built; or the end of a main, behind which nothing is to do
 pub data Sort : Type 0 where
   Simple : Sort
   IsLoop : Order → Expr → Option Expr → Stmt → Sort
   IsClean : CleanUp → Sort
+  IsFill : ℕ → Expr → Expr → Sort
   IsSweep : Expr → Sort
   IsPart : CleanUp → Sort
   IsFinish : Sort
@@ -125,6 +126,7 @@ pub data Sort : Type 0 where
 abbrev pub sort : Todo → Sort
 sort (InLoop o t s b) = IsLoop o t s b
 sort (Clean c) = IsClean c
+sort (FillNow n b d) = IsFill n b d
 sort (Sweep e) = IsSweep e
 sort (Part c) = IsPart c
 sort Finish = IsFinish
@@ -457,9 +459,10 @@ loop_left ToEnd o t s b todo = Exit ToEnd ∷ todo
 abbrev pub left_behind : Way → Sort → List Todo → List Todo
 left_behind w Simple todo = Exit w ∷ todo
 left_behind w (IsLoop o t s b) todo = loop_left w o t s b todo
--- an object is cleaned up, and then the exit goes on; a part stays as it is
+-- an object is cleaned up, and then the exit goes on; a part stays as it is, and no statement stands in what goes over elements
 left_behind w (IsClean c) todo = Clean c ∷ (Exit w ∷ todo)
-left_behind w (IsSweep e) todo = Sweep e ∷ (Exit w ∷ todo)
+left_behind w (IsFill n b d) todo = Exit w ∷ todo
+left_behind w (IsSweep e) todo = Exit w ∷ todo
 left_behind w (IsPart c) todo = Exit w ∷ todo
 left_behind w IsFinish todo = Finish ∷ todo
 
@@ -469,6 +472,10 @@ exit_step w [] s = end_step w s
 exit_step w (p ∷ ps) s = turns (left_behind w (sort p) ps) s
 
 -- objects
+
+-- elements are counted up to the largest number
+abbrev pub MOST_ELEMENTS : ℕ
+MOST_ELEMENTS = 2 ^ 32 - 1
 
 -- so many elements stand
 abbrev pub with_elements : ℕ → State → State
@@ -594,7 +601,7 @@ module _ (source : Source) where
   act (CallOnNow r) todo s = call_on_step (slice_get source.routines r) todo s
   act (CallUnwrittenNow r) todo s = call_unwritten_step (slice_get source.routines r) todo s
   act (CountNow n) todo s = turns todo (with_elements n s)
-  act MoreNow todo s = turns todo (with_elements (s.run.elements + 1) s)
+  act MoreNow todo s = turns todo (with_elements (min (s.run.elements + 1) MOST_ELEMENTS) s)
   act (FillNow n b d) todo s = turns (fill_todo (nat_lt s.run.elements n) n b d todo) s
   act (Again o t e b) todo s =
       goes (if is_zero (number (top s.run.operands)) then todo else TurnNow o t e b ∷ todo) (below s.run.operands) s
