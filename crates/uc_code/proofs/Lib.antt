@@ -1,10 +1,13 @@
 pub mod Called
+pub mod Closing
 pub mod Heights
 pub mod Lines
 pub mod Names
+pub mod Nesting
 pub mod Paces
 pub mod Patches
 pub mod Powers
 pub mod Rounds
+pub mod Settled
 pub mod Stable
 pub mod Turning

@@ -736,7 +736,6 @@ module _ (code : Laid) (table : List RoutineCode) where
   routines_start number (r ∷ rs) (d ∷ cs) a z h o (suc k) c e = routines_start (number + 1) rs cs h.middle z h.second o k c e
 
 pub lowered_paced : (source : Source) (code : Code) → Lowered source code → IsPaced code.ops code.routines
-
 lowered_paced source code h =
     let o = outside_end (laid_of code) code.routines in
     let starts = routines_start (laid_of code) code.routines 0 source.routines code.routines 0 (length code.ops) h.routines o in

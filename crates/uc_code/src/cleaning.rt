@@ -7,7 +7,6 @@ ghost use Rattle.uc_code.specs.Leaving.{way_of};
 ghost use Rattle.uc_code.specs.Lowered.{CallAt, CleanAt, ExitAt};
 ghost use Rattle.uc_code.specs.Open.{StandsBehind, clean_room, exit_room};
 ghost use Rattle.uc_code.specs.Puts.{Puts};
-ghost use Rattle.uc_code.specs.Pace.{IsPaced};
 
 use crate::draft::Draft;
 use crate::op::Op;
