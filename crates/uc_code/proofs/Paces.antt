@@ -179,7 +179,7 @@ module _ (code : Laid) (table : List RoutineCode) where
     expr_paces ms line (OfObject o) = object_paces ms line o
 
     object_paces : (ms : List Mark) (line : ℕ) (o : ObjectExpr) → Paces ms (ObjectAt code line ms o)
-    object_paces ms line This = onward_paces ms (op.This 0) line (λ n k h. refl) (λ k t. refl) (λ at l. l)
+    object_paces ms line This = onward_paces ms op.Own line (λ n k h. refl) (λ k t. refl) (λ at l. l)
     object_paces ms line (OwnField s i) = onward_paces ms (op.This (field_cells s i)) line (λ n k h. refl) (λ k t. refl) (λ at l. l)
     object_paces ms line (GetOwn s i) = onward_paces ms (op.ViaThis (field_cells s i)) line (λ n k h. refl) (λ k t. refl) (λ at l. l)
     object_paces ms line (FieldOf s i e) = both ms (expr_paces ms line e) (onward_paces ms (op.Field (field_cells s i)) line (λ n k h. refl) (λ k t. refl) (λ at l. l))

@@ -241,3 +241,13 @@ handler_row (mark.Outward below row ∷ ms) k e = absurd (cc)
 
 pub handler_none : (ms : List Mark) (k : ℕ) → row_in ms ≡ None → handler_in ms ≡ Some k → ⊥
 handler_none ms k e h = let f : Some k ≡ None = sym (handler_row ms k h) ∙ e in absurd (cc)
+
+same_some : (a b : ℕ) → (let o : Option ℕ = Some a in o ≡ Some b) → a ≡ b
+same_some a b e = cc
+
+-- the row that is closed is the one that the innermost mark has
+pub handler_closed : (entry : ℕ) (ops : List Instruction) (settled : ℕ) (rows : List HandlerRow) (ms : List Mark) (k : ℕ) → IsSettled (length ops) settled rows ms → row_in ms ≡ Some k → 0 < entry → (row : ℕ) → handler_in ms ≡ Some row → HandlerAt (record { ops = ops; rows = closed_rows (length ops) entry k rows }) row entry
+handler_closed entry ops settled rows ms k s e l row h =
+    let q : k ≡ row = same_some k row (sym e ∙ handler_row ms row h) in
+    let g : handler_in ms ≡ Some k = h ∙ ap (λ (n : ℕ). Some n) (sym q) in
+    subst (λ n. HandlerAt (record { ops = ops; rows = closed_rows (length ops) entry k rows }) n entry) q (handler_close entry ops settled rows ms k s e l g)
