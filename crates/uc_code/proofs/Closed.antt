@@ -34,12 +34,15 @@ reverse_take marks i d p l =
     ap (λ k. reverse (take k marks)) e ∙ last_take marks (i - 1) d (omega arith)
 
 -- all but the last
-pub reverse_rest : (marks rest : List Mark) → rest ≡ take (length marks - 1) marks → reverse rest ≡ drop 1 (reverse marks)
-reverse_rest [] rest e = rw e refl
-reverse_rest (m ∷ ms) rest e =
+rest_is : (marks rest : List Mark) → rest ≡ take (length marks - 1) marks → reverse rest ≡ drop 1 (reverse marks)
+rest_is [] rest e = rw e refl
+rest_is (m ∷ ms) rest e =
     let n : ℕ = length ms in
     let f : length (m ∷ ms) - 1 ≡ n = omega arith in
     let all : take (n + 1) (m ∷ ms) ≡ m ∷ ms = take_all (n + 1) (m ∷ ms) (omega arith) in
     let g : reverse (m ∷ ms) ≡ get_or (m ∷ ms) n m ∷ reverse (take n (m ∷ ms)) = ap reverse (sym all) ∙ last_take (m ∷ ms) n m (omega arith) in
     let h : rest ≡ take n (m ∷ ms) = e ∙ ap (λ k. take k (m ∷ ms)) f in
     ap reverse h ∙ sym (ap (λ q. drop 1 q) g)
+
+pub reverse_rest : (marks rest : List Mark) (n : ℕ) → n ≡ length marks → rest ≡ take (n - 1) marks → reverse rest ≡ drop 1 (reverse marks)
+reverse_rest marks rest n e h = rest_is marks rest (h ∙ ap (λ k. take (k - 1) marks) e)

@@ -192,7 +192,7 @@ impl Active {
     }
 
     /// It waits for a call, which takes so many operands.
-    pub fn wait_for(&mut self, taken: u32)
+    pub fn wait_for(&mut self, taken: u64)
         ensures { self.new ≡ waiting taken self.old }
     {
         drop_newest(&mut self.operands, taken);

@@ -9,6 +9,6 @@ use uc_code::rows::RoutineCode;
 pub struct Call {
     pub routine: RoutineCode,
     pub this: Cell,
-    pub taken: u32,
+    pub taken: u64,
     pub counts: bool,
 }

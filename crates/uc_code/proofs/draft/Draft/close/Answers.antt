@@ -10,7 +10,7 @@ use Rattle.uc_code.proofs.draft.Draft.close.Goals as goal
 pub invariant_of-self : goal.invariant_of-self
 invariant_of-self c =
     let h : c.len-here.result ≡ length c.self.inside.ops.items = search rules in
-    let m : reverse c.pop.new.self.items ≡ drop 1 (reverse c.self.inside.marks.items) = reverse_rest c.self.inside.marks.items c.pop.new.self.items c.pop.ensures.rest in
+    let m : reverse c.pop.new.self.items ≡ drop 1 (reverse c.self.inside.marks.items) = reverse_rest c.self.inside.marks.items c.pop.new.self.items _ (search rules) c.pop.ensures.rest in
     let r : row_in (reverse c.self.inside.marks.items) ≡ Some c.in-Some.number = ap (λ l. row_in (reverse l)) (sym c.deref.ensures.value) ∙ (sym c.row_of.ensures ∙ c.in-Some.is) in
     (c.self.invariant.0, rw (c.close_row.ensures, m, h) (settled_close (length c.self.inside.ops.items + c.args.ahead) c.self.inside.ops.items c.self.inside.settled c.self.inside.rows.items (reverse c.self.inside.marks.items) c.in-Some.number c.self.invariant.1 r))
 
