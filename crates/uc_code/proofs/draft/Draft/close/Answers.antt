@@ -1,3 +1,5 @@
+use Rattle.uc_code.proofs.Sweeping.{swept}
+use Rattle.uc_code.proofs.Paces.{lowered_paced}
 use Rattle.std.proofs.Common.{◌≡◌, ◌∙◌, ◌<◌, ◌≤◌, ◌+◌, ℕ, List, length, reverse, drop, Some, ap, sym, subst, arith, rules}
 use Rattle.uc_tree.specs.declared.limits.TheConstants.{PROGRAM_OPS}
 use Rattle.uc_code.specs.Drafts.{Draft}
