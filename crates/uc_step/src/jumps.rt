@@ -1,7 +1,7 @@
 // The ops that go on elsewhere, calls, and the ends of activations.
 
 ghost use Rattle.std.specs.Prelude.{◌≡◌, IfOk, OnOk, OnErr, Some};
-ghost use Rattle.uc_step.specs.Acts.{act_call, act_call_on, act_return, Does, Ends};
+ghost use Rattle.uc_step.specs.Acts.{act_enter, act_return, Does, Ends};
 ghost use Rattle.uc_frames.specs.Left.{plain_call, object_call};
 
 use crate::stepped::{Stepped, asked, faulted};
@@ -94,24 +94,19 @@ pub(crate) fn call(
     match code.routine(number) {
         None => Ok(asked(code, line, work, Request::End)),
         Some(routine) => {
-            let how = enter(code, line, work, routine)?;
+            let how = enter(code, line, work, plain_call(routine))?;
             Ok(how)
         }
     }
 }
 
-// A call, unless too many are active.
-fn enter(
-    code: &Code,
-    line: u32,
-    work: &mut Work,
-    routine: RoutineCode,
-) -> Result<Stepped, AllocError>
-    ensures ok { IfOk result (λ how. Ends (act_call code.now line (Some routine) work.old) how work.new) }
+// An active call, unless there are too many.
+fn enter(code: &Code, line: u32, work: &mut Work, call: Call) -> Result<Stepped, AllocError>
+    ensures ok { IfOk result (λ how. Ends (act_enter code.now line call work.old) how work.new) }
     ensures err { OnErr result (work.new ≡ work.old) }
 {
     if work.calls() < CALLS {
-        work.enter(plain_call(routine))?;
+        work.enter(call)?;
         Ok(Stepped::Quiet)
     } else {
         Ok(faulted(code, line, work, RunFault::Depth))
@@ -154,28 +149,10 @@ pub(crate) fn call_on(
     match code.routine(number) {
         None => Ok(asked(code, line, work, Request::End)),
         Some(routine) => {
-            let how = enter_on(code, line, work, routine)?;
+            let call = object_call(routine, true, work);
+            let how = enter(code, line, work, call)?;
             Ok(how)
         }
-    }
-}
-
-// A call at the object below the arguments, unless too many are active.
-fn enter_on(
-    code: &Code,
-    line: u32,
-    work: &mut Work,
-    routine: RoutineCode,
-) -> Result<Stepped, AllocError>
-    ensures ok { IfOk result (λ how. Ends (act_call_on code.now line (Some routine) work.old) how work.new) }
-    ensures err { OnErr result (work.new ≡ work.old) }
-{
-    if work.calls() < CALLS {
-        let call = object_call(routine, true, work);
-        work.enter(call)?;
-        Ok(Stepped::Quiet)
-    } else {
-        Ok(faulted(code, line, work, RunFault::Depth))
     }
 }
 
