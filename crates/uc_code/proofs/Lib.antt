@@ -1,6 +1,7 @@
 pub mod Called
 pub mod Closed
 pub mod Closing
+pub mod Exiting
 pub mod Heights
 pub mod Lines
 pub mod Names

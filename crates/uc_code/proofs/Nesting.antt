@@ -12,13 +12,9 @@ use Rattle.uc_code.specs.declared.rows.Mark.TheVariants as mark
 use Rattle.uc_code.specs.declared.rows.Opening.{Opening}
 use Rattle.uc_code.specs.declared.rows.Opening.TheVariants as opening
 use Rattle.uc_code.specs.Laid.{under, handlers, covers, takes_events, same_block, block_before, block_by, from_row, from_newest, chain}
-use Rattle.uc_code.specs.Open.{first_in, name_of, named_by, row_in, handler_in, opening_mark, opening_event, opening_around, Nested, Bare, Ended, InBody, InMain, InLoop, InRow, closed_row, closed_rows}
+use Rattle.uc_code.specs.Open.{first_in, name_of, named_by, row_in, handler_in, opening_mark, opening_event, opening_around, Below, Falling, Nested, Bare, Ended, InBody, InMain, InLoop, InRow, closed_row, closed_rows}
 
 -- numbers below another
-
-abbrev pub Below : ℕ → List ℕ → Type 0
-Below k [] = Unit {0}
-Below k (n ∷ ns) = (n < k) × Below k ns
 
 below_rise : (k l : ℕ) (ns : List ℕ) → k ≤ l → Below k ns → Below l ns
 below_rise k l [] h b = tt
@@ -27,7 +23,7 @@ below_rise k l (n ∷ ns) h b = let m = b.0 in (omega arith, below_rise k l ns h
 under_take : (below n : ℕ) (ns : List ℕ) → n < below → under below (n ∷ ns) ≡ n ∷ under below ns
 under_take below n ns h = rw (lt-ltb n below h) refl
 
-under_drop : (below n : ℕ) (ns : List ℕ) → below ≤ n → under below (n ∷ ns) ≡ under below ns
+pub under_drop : (below n : ℕ) (ns : List ℕ) → below ≤ n → under below (n ∷ ns) ≡ under below ns
 under_drop below n ns h = rw (le-ltb n below h) refl
 
 pub under_all : (below : ℕ) (ns : List ℕ) → Below below ns → under below ns ≡ ns
@@ -166,3 +162,15 @@ nested_rise here there g rs ms (InBody routine _ qs n) = InBody routine rs qs (n
 nested_rise here there g rs ms (InMain routine line _ qs n) = InMain routine line rs qs (nested_rise here there g rs qs n)
 nested_rise here there g rs ms (InLoop leave again _ qs n) = InLoop leave again rs qs (nested_rise here there g rs qs n)
 nested_rise here there g rs ms (InRow o from qs ns l n) = InRow o from qs ns (omega arith) (nested_rise here there g qs ns n)
+
+-- the rows of the marks fall
+pub falls : (here : ℕ) (rs : List HandlerRow) (ms : List Mark) → Nested here rs ms → Falling ms
+falls here rs ms Bare = tt
+falls here rs ms (Ended r qs _ l n) = falls here qs ms n
+falls here rs ms (InBody routine _ qs n) = falls here rs qs n
+falls here rs ms (InMain routine line _ qs n) = falls here rs qs n
+falls here rs ms (InLoop leave again _ qs n) = falls here rs qs n
+falls here rs ms (InRow (opening.Object what line) from qs ns l n) = (all_below here qs ns n, falls here qs ns n)
+falls here rs ms (InRow opening.Part from qs ns l n) = (all_below here qs ns n, falls here qs ns n)
+falls here rs ms (InRow opening.Elements from qs ns l n) = (all_below here qs ns n, falls here qs ns n)
+falls here rs ms (InRow (opening.Outward below) from qs ns l n) = falls here qs ns n

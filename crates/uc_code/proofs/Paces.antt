@@ -575,7 +575,10 @@ module _ (code : Laid) (table : List RoutineCode) where
   exit_paces w (mark.Clean what line row ∷ ms) = under_mark (mark.Clean what line row) ms (λ z r. r) (both ms (clean_paces ms line what) (exit_paces w ms))
   exit_paces w (mark.Part row ∷ ms) = under_mark (mark.Part row) ms (λ z r. r) (exit_paces w ms)
   exit_paces w (mark.Elements row ∷ ms) = under_mark (mark.Elements row) ms (λ z r. r) (exit_paces w ms)
-  exit_paces w (mark.Outward below row ∷ ms) = under_mark (mark.Outward below row) ms (λ z r. r) (exit_paces w ms)
+  exit_paces ToBreak (mark.Outward below row ∷ ms) = return_paces (mark.Outward below row ∷ ms) 0
+  exit_paces ToContinue (mark.Outward below row ∷ ms) = return_paces (mark.Outward below row ∷ ms) 0
+  exit_paces ToReturn (mark.Outward below row ∷ ms) = value_return_paces (mark.Outward below row ∷ ms) 0
+  exit_paces ToEnd (mark.Outward below row ∷ ms) = return_paces (mark.Outward below row ∷ ms) 0
 
   step_paces : (ms : List Mark) (line : ℕ) (step : Option Expr) → Paces ms (StepAt code line ms step)
   step_paces ms line None = nothing_paces ms

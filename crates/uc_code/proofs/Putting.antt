@@ -14,10 +14,10 @@ use Rattle.uc_code.specs.Drafts.{Draft, ops_with}
 use Rattle.uc_code.specs.Laid.{Laid, laid_in, handlers, routine_in}
 use Rattle.uc_code.specs.Ranges.{OpAt, Nothing, One, Risk, CallsBehind, HandlerAt, Both, Rounds, OverElements, Kept, Stable}
 use Rattle.uc_code.specs.Lowered.{spot_op, SpotAt, CalledAt, CallAt, CallDone, CleanBy, CleanAt}
-use Rattle.uc_code.specs.Open.{opened, closed, clean_room}
+use Rattle.uc_code.specs.Open.{StandsBehind}
 use Rattle.uc_code.specs.Puts.{Puts, place_length, called_length, done_length, clean_by, clean_length}
 use Rattle.uc_code.proofs.Patches.{kept_with, one_with}
-use Rattle.uc_code.proofs.Stable.{kept_refl, kept_then, kept_same, kept_piece, nothing_stable, one_stable, risk_stable, calls_behind_stable, both_stable}
+use Rattle.uc_code.proofs.Stable.{elements_stable, kept_refl, kept_then, kept_same, kept_piece, nothing_stable, one_stable, risk_stable, calls_behind_stable, both_stable}
 
 -- a draft with other ops and rows, and once more
 
@@ -79,6 +79,13 @@ call_stable line what ms = both (place_stable line what.spot what.array) (called
 pub done_stable : (line : ℕ) (what : ObjectCall) (ms : List Mark) → Stable (λ code. CallDone code line what ms)
 done_stable line what ms = both (call_stable line what ms) (one_stable op.Discard line)
 
+pub clean_by_stable : (line : ℕ) (o : Option Array) (what : ObjectCall) (ms : List Mark) → Stable (λ code. CleanBy code line o what ms)
+clean_by_stable line None what ms = done_stable line what ms
+clean_by_stable line (Some x) what ms = elements_stable line ms x.length x.length op.Sweep op.Sweep (λ code ns. CallDone code line what ns) (λ code ns. CallDone code line what ns) (λ ns. done_stable line what ns) (λ ns. done_stable line what ns)
+
+pub clean_stable : (line : ℕ) (what : ObjectCall) (ms : List Mark) → Stable (λ code. CleanAt code line what ms)
+clean_stable line what ms = clean_by_stable line what.array what ms
+
 -- how long they are
 
 place_is : (code : Laid) (line : ℕ) (s : Spot) (o : Option Array) (a z : ℕ) → SpotAt code line s o a z → z ≡ a + place_length o
@@ -115,3 +122,22 @@ clean_is code line what ms a z h = clean_by_is code line what.array what ms a z 
 -- what is behind the call of a routine that nobody wrote
 pub puts_behind : (r line : ℕ) (old new : Draft) → routine_in old.marks < r → Puts 1 (λ code. Risk code old.marks (op.CallUnwritten r) line) old new → Puts 1 (λ code. CallsBehind code old.marks r line) old new
 puts_behind r line old new l h = puts_as h (λ code a z k. record { risk = k; behind = l })
+
+-- the parts of a call
+
+pub puts_call : (line : ℕ) (what : ObjectCall) (old mid new : Draft) → Puts 3 (λ code. SpotAt code line what.spot what.array) old mid → Puts 2 (λ code. CalledAt code line mid.marks what.written what.routine) mid new → Puts 5 (λ code. CallAt code line what old.marks) old new
+puts_call line what old mid new p q =
+    let r : Puts 2 (λ code. CalledAt code line old.marks what.written what.routine) mid new = subst (λ (ms : List Mark). Puts 2 (λ code. CalledAt code line ms what.written what.routine) mid new) (marks_of p) q in
+    puts_both (place_stable line what.spot what.array) p r
+
+pub puts_done : (line : ℕ) (what : ObjectCall) (old mid new : Draft) → Puts 5 (λ code. CallAt code line what old.marks) old mid → Puts 1 (λ code. One code op.Discard line) mid new → Puts 6 (λ code. CallDone code line what old.marks) old new
+puts_done line what old mid new p q = puts_both (call_stable line what old.marks) p q
+
+pub puts_written : (line r : ℕ) (old mid new : Draft) → Puts 1 (λ code. One code op.Tick line) old mid → Puts 1 (λ code. Risk code mid.marks (op.CallOn r) line) mid new → Puts 2 (λ code. CalledAt code line old.marks true r) old new
+puts_written line r old mid new p q =
+    let s : Puts 1 (λ code. Risk code old.marks (op.CallOn r) line) mid new = subst (λ (ms : List Mark). Puts 1 (λ code. Risk code ms (op.CallOn r) line) mid new) (marks_of p) q in
+    puts_as (puts_both (one_stable op.Tick line) p s) (λ code a z h. record { middle = a; first = record { end = refl }; second = h })
+
+-- a call is of a routine further on also in a draft with the same marks
+pub behind_stays : {n : ℕ} {S : Laid → ℕ → ℕ → Type 0} {old new : Draft} → (what : ObjectCall) → StandsBehind old.marks what → Puts n S old new → StandsBehind new.marks what
+behind_stays what b p = subst (λ (ms : List Mark). StandsBehind ms what) (sym (marks_of p)) b

@@ -234,7 +234,11 @@ module _ (code : Laid) where
   ExitAt w (mark.Clean what line row ∷ ms) = Both (CleanAt code line what ms) (ExitAt w ms)
   ExitAt w (mark.Part row ∷ ms) = ExitAt w ms
   ExitAt w (mark.Elements row ∷ ms) = ExitAt w ms
-  ExitAt w (mark.Outward below row ∷ ms) = ExitAt w ms
+  -- an exit ends in another one
+  ExitAt ToBreak (mark.Outward below row ∷ ms) = One code op.Return 0
+  ExitAt ToContinue (mark.Outward below row ∷ ms) = One code op.Return 0
+  ExitAt ToReturn (mark.Outward below row ∷ ms) = One code op.ReturnValue 0
+  ExitAt ToEnd (mark.Outward below row ∷ ms) = One code op.Return 0
 
   -- a statement sets its own line
   abbrev mutual

@@ -118,6 +118,23 @@ pub data Nested (here : ℕ) : List HandlerRow → List Mark → Type 0 where
   InLoop : (leave again : ℕ) (rs : List HandlerRow) (ms : List Mark) → Nested here rs ms → Nested here rs (mark.Loop leave again ∷ ms)
   InRow : (o : Opening) (from : ℕ) (rs : List HandlerRow) (ms : List Mark) → from ≤ here → Nested here rs ms → Nested here (record { from = from; to = OPEN_END; outer = named_by (opening_around o ms); kind = CleanUp; event = opening_event o; entry = 0 } ∷ rs) (opening_mark o (length rs) ∷ ms)
 
+-- numbers below another
+abbrev pub Below : ℕ → List ℕ → Type 0
+Below k [] = Unit {0}
+Below k (n ∷ ns) = (n < k) × Below k ns
+
+-- the rows of marks are newer than those of the marks around them
+abbrev pub Falling : List Mark → Type 0
+Falling [] = Unit {0}
+Falling (mark.Body routine ∷ ms) = Falling ms
+Falling (mark.Finish routine line ∷ ms) = Falling ms
+Falling (mark.Loop leave again ∷ ms) = Falling ms
+Falling (mark.Guard first count ∷ ms) = Falling ms
+Falling (mark.Clean what line row ∷ ms) = Below row (handlers ms) × Falling ms
+Falling (mark.Part row ∷ ms) = Below row (handlers ms) × Falling ms
+Falling (mark.Elements row ∷ ms) = Below row (handlers ms) × Falling ms
+Falling (mark.Outward below row ∷ ms) = Falling ms
+
 -- a draft's ops from a place on have the handlers of its marks, of which it has so few that a number names each
 pub record IsSettled (ops settled : ℕ) (rows : List HandlerRow) (ms : List Mark) : Type 0 where
   pub past : settled ≤ ops
@@ -198,4 +215,4 @@ exit_room (mark.Guard first count ∷ ms) = exit_room ms
 exit_room (mark.Clean what line row ∷ ms) = clean_room + exit_room ms
 exit_room (mark.Part row ∷ ms) = exit_room ms
 exit_room (mark.Elements row ∷ ms) = exit_room ms
-exit_room (mark.Outward below row ∷ ms) = exit_room ms
+exit_room (mark.Outward below row ∷ ms) = 1

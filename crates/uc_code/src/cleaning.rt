@@ -6,7 +6,7 @@ ghost use Rattle.uc_code.specs.Leaving.{way_of};
 ghost use Rattle.uc_code.specs.Ranges.{One, Risk};
 ghost use Rattle.uc_code.specs.Lowered.{spot_op, SpotAt, CalledAt, CallAt, CallDone, CleanBy, CleanAt, ExitAt};
 ghost use Rattle.uc_code.specs.Open.{StandsBehind, clean_room, exit_room};
-ghost use Rattle.uc_code.specs.Puts.{Puts, done_length, clean_length, end_op, ends_at};
+ghost use Rattle.uc_code.specs.Puts.{Puts, PutsLeft, done_length, clean_length, end_op, ends_at};
 
 use crate::draft::Draft;
 use crate::op::Op;
@@ -70,8 +70,14 @@ fn put_place(
     ensures { OnOk result (Puts 3 (λ code. SpotAt code line spot array) out.old out.new) }
 {
     match array {
-        Some(array) => put_element(spot, array, line, out),
-        None => put(spot_op(spot), line, out),
+        Some(array) => {
+            put_element(spot, array, line, out)?;
+            Ok(())
+        }
+        None => {
+            put(spot_op(spot), line, out)?;
+            Ok(())
+        }
     }
 }
 
@@ -92,9 +98,11 @@ fn put_called(what: ObjectCall, line: u32, out: &mut Draft) -> Result<(), AllocE
     ensures { OnOk result (Puts 2 (λ code. CalledAt code line out.old.marks what.written what.routine) out.old out.new) }
 {
     if what.written {
-        put_written(what.routine, line, out)
+        put_written(what.routine, line, out)?;
+        Ok(())
     } else {
-        put_at_risk(Op::CallUnwritten(what.routine), line, out)
+        put_at_risk(Op::CallUnwritten(what.routine), line, out)?;
+        Ok(())
     }
 }
 
@@ -172,8 +180,14 @@ pub fn put_clean(what: ObjectCall, line: u32, out: &mut Draft) -> Result<(), All
     ensures { OnOk result (Puts clean_room (λ code. CleanAt code line what out.old.marks) out.old out.new) }
 {
     match what.array {
-        Some(array) => put_sweep(what, array, line, out),
-        None => put_done(what, line, out),
+        Some(array) => {
+            put_sweep(what, array, line, out)?;
+            Ok(())
+        }
+        None => {
+            put_done(what, line, out)?;
+            Ok(())
+        }
     }
 }
 
@@ -206,13 +220,15 @@ fn ends_at(way: Way, mark: Mark, line: u32) -> Option<(Op, u32)>
         Mark::Clean { .. } => None,
         Mark::Part { .. } => None,
         Mark::Elements { .. } => None,
-        Mark::Outward { .. } => None,
+        Mark::Outward { .. } => Some((end_op(way), 0)),
     }
 }
 
 // An object is cleaned up on the way out of its scope, whose row is left for the while.
 fn put_left(what: ObjectCall, row: u32, line: u32, out: &mut Draft) -> Result<(), AllocError>
     requires room { length out.old.ops + clean_room ≤ PROGRAM_OPS }
+    requires behind { StandsBehind out.old.marks what }
+    ensures { OnOk result (PutsLeft what row line out.old out.new) }
 {
     let _row = out.open(Opening::Outward { below: row })?;
     put_clean(what, line, out)?;

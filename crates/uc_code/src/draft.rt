@@ -5,7 +5,7 @@ ghost use Rattle.uc_tree.specs.declared.limits.TheConstants.{FRAME_CELLS, PROGRA
 ghost use Rattle.uc_code.specs.Drafts.{ops_with, patched, IsInnermost, IsUnknown};
 ghost use Rattle.uc_code.specs.Laid.{laid_in};
 ghost use Rattle.uc_code.specs.declared.rows.Mark.TheVariants as mark;
-ghost use Rattle.uc_code.specs.Open.{AllBehind, OpensBehind, handler_in, opened, closed, left_marks};
+ghost use Rattle.uc_code.specs.Open.{AllBehind, Falling, OpensBehind, handler_in, opened, closed, left_marks};
 ghost use Rattle.uc_code.specs.Ranges.{HandlerAt, Kept, Risk};
 
 use crate::code::Code;
@@ -247,6 +247,7 @@ impl Draft {
     pub fn marks(&self) -> &[Mark]
         ensures marks { reverse result.now ≡ self.now.marks }
         ensures behind { AllBehind self.now.marks }
+        ensures falling { Falling self.now.marks }
     {
         &self.marks
     }

@@ -1,4 +1,4 @@
-use Rattle.uc_code.proofs.Sweeping.{swept}
+use Rattle.uc_code.proofs.Exiting.{puts_left}
 use Rattle.uc_code.proofs.Paces.{lowered_paced}
 use Rattle.std.proofs.Common.{◌≡◌, ◌∙◌, ◌<◌, ◌≤◌, ◌+◌, ℕ, List, length, reverse, drop, Some, ap, sym, subst, arith, rules}
 use Rattle.uc_tree.specs.declared.limits.TheConstants.{PROGRAM_OPS}
