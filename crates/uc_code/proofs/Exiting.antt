@@ -109,7 +109,7 @@ pub record Passing (all rest : List Mark) : Type 0 where
   pub falling : Falling rest
   pub behind : AllBehind rest
 
-bound_of : List ℕ → ℕ
+abbrev bound_of : List ℕ → ℕ
 bound_of [] = 0
 bound_of (n ∷ ns) = max (suc n) (bound_of ns)
 

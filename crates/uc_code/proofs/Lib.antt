@@ -11,6 +11,7 @@ pub mod Patches
 pub mod Powers
 pub mod Putting
 pub mod Rounds
+pub mod Seeing
 pub mod Settled
 pub mod Stable
 pub mod Sweeping

@@ -20,7 +20,7 @@ below_rise : (k l : ℕ) (ns : List ℕ) → k ≤ l → Below k ns → Below l 
 below_rise k l [] h b = tt
 below_rise k l (n ∷ ns) h b = let m = b.0 in (omega arith, below_rise k l ns h b.1)
 
-under_take : (below n : ℕ) (ns : List ℕ) → n < below → under below (n ∷ ns) ≡ n ∷ under below ns
+pub under_take : (below n : ℕ) (ns : List ℕ) → n < below → under below (n ∷ ns) ≡ n ∷ under below ns
 under_take below n ns h = rw (lt-ltb n below h) refl
 
 pub under_drop : (below n : ℕ) (ns : List ℕ) → below ≤ n → under below (n ∷ ns) ≡ under below ns
@@ -30,7 +30,7 @@ pub under_all : (below : ℕ) (ns : List ℕ) → Below below ns → under below
 under_all below [] b = refl
 under_all below (n ∷ ns) b = under_take below n ns b.0 ∙ ap (λ l. n ∷ l) (under_all below ns b.1)
 
-below_under : (k below : ℕ) (ns : List ℕ) → Below k ns → Below k (under below ns)
+pub below_under : (k below : ℕ) (ns : List ℕ) → Below k ns → Below k (under below ns)
 below_under k below [] b = tt
 below_under k below (n ∷ ns) b = elim (cases_lt n below) [
   | inl h ↦ subst (Below k) (sym (under_take below n ns h)) (b.0, below_under k below ns b.1)

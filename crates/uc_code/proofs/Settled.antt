@@ -16,11 +16,11 @@ use Rattle.uc_code.specs.declared.rows.ObjectCall.{ObjectCall}
 use Rattle.uc_code.specs.declared.rows.Opening.{Opening}
 use Rattle.uc_code.specs.declared.rows.Opening.TheVariants as opening
 use Rattle.uc_code.specs.Drafts.{Draft, ops_with}
-use Rattle.uc_code.specs.Laid.{Laid, handlers, routine_in, covers, from_newest, chain}
+use Rattle.uc_code.specs.Laid.{Laid, under, handlers, routine_in, covers, from_newest, chain}
 use Rattle.uc_code.specs.Ranges.{OpAt, Risk, HandlerAt, Kept}
-use Rattle.uc_code.specs.Open.{named_by, row_in, handler_in, opening_mark, opening_event, opening_around, OpensBehind, AllBehind, StandsBehind, Nested, Bare, Ended, InBody, InMain, InLoop, InRow, IsSettled, closed_row, closed_rows, left_marks, is_rowless}
+use Rattle.uc_code.specs.Open.{Below, first_in, named_by, opening_bound, row_in, handler_in, opening_mark, opening_event, opening_around, OpensBehind, AllBehind, StandsBehind, Nested, Bare, Ended, InBody, InMain, InLoop, InRow, IsSettled, closed_row, closed_rows, left_marks, is_rowless}
 use Rattle.uc_code.proofs.Patches.{one_with}
-use Rattle.uc_code.proofs.Nesting.{made, newest, nested_rise, all_below}
+use Rattle.uc_code.proofs.Nesting.{made, newest, nested_rise, all_below, under_all, below_under}
 use Rattle.uc_code.proofs.Closing.{Closes, Leaves, leaves, closes_list, closes_newest, reverse_push}
 
 -- the op that comes next has the handlers of the marks
@@ -129,6 +129,26 @@ settled_open o ops settled rows ms l h s =
       nested = subst (λ qs. Nested ops qs (opening_mark o (length rows) ∷ ms)) (sym (reverse_push rows r)) m;
       behind = behind_opening o (length rows) ms h s.behind;
     }
+
+rows_below : (ops settled : ℕ) (rows : List HandlerRow) (ms : List Mark) → IsSettled ops settled rows ms → Below (length rows) (handlers ms)
+rows_below ops settled rows ms s = subst (λ k. Below k (handlers ms)) (length-reverse rows) (all_below settled (reverse rows) ms s.nested)
+
+-- the row around a new one
+pub outer_is : (o : Opening) (ops settled : ℕ) (rows : List HandlerRow) (ms : List Mark) → IsSettled ops settled rows ms → first_in (under (opening_bound o (length rows)) (handlers ms)) ≡ first_in (opening_around o ms)
+outer_is (opening.Object what line) ops settled rows ms s = ap first_in (under_all (length rows) (handlers ms) (rows_below ops settled rows ms s))
+outer_is opening.Part ops settled rows ms s = ap first_in (under_all (length rows) (handlers ms) (rows_below ops settled rows ms s))
+outer_is opening.Elements ops settled rows ms s = ap first_in (under_all (length rows) (handlers ms) (rows_below ops settled rows ms s))
+outer_is (opening.Outward below) ops settled rows ms s = refl
+
+first_small : (k : ℕ) (ns : List ℕ) (n : ℕ) → Below k ns → first_in ns ≡ Some n → n < k
+first_small k [] n b e = absurd (cc)
+first_small k (m ∷ ns) n b e = let f : m ≡ n = cc in let l = b.0 in omega arith
+
+-- its name fits
+pub outer_fits : (b ops settled : ℕ) (rows : List HandlerRow) (ms : List Mark) (row : Option ℕ) → length rows < OPEN_END → row ≡ first_in (under b (handlers ms)) → IsSettled ops settled rows ms → (n : ℕ) → row ≡ Some n → n + 1 < 2 ^ 32
+outer_fits b ops settled rows ms row l e s n q =
+    let k : n < length rows = first_small (length rows) (under b (handlers ms)) n (below_under (length rows) b (handlers ms) (rows_below ops settled rows ms s)) (sym e ∙ q) in
+    omega arith
 
 covers_later : (r : HandlerRow) (next : ℕ) → next ≤ r.from → covers r next ≡ false
 covers_later r next h = rw (le-ltb r.from next h) refl
@@ -251,3 +271,7 @@ handler_closed entry ops settled rows ms k s e l row h =
     let q : k ≡ row = same_some k row (sym e ∙ handler_row ms row h) in
     let g : handler_in ms ≡ Some k = h ∙ ap (λ (n : ℕ). Some n) (sym q) in
     subst (λ n. HandlerAt (record { ops = ops; rows = closed_rows (length ops) entry k rows }) n entry) q (handler_close entry ops settled rows ms k s e l g)
+
+-- the row that is made
+pub row_made : (o : Opening) (ops from outer event : ℕ) (ms : List Mark) → from ≡ ops → outer ≡ named_by (opening_around o ms) → event ≡ opening_event o → (let r : HandlerRow = record { from = from; to = OPEN_END; outer = outer; kind = kind.CleanUp; event = event; entry = 0 } in r ≡ made o ops ms)
+row_made o ops from outer event ms e f g = rw (e, f, g) refl
