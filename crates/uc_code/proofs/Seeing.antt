@@ -78,12 +78,12 @@ seen_next (mark.Outward below row) ms bound k e = ap first_in (under_under bound
 
 -- the steps of the loop
 
-pub row_found : (marks : List Mark) (i below bound k : ℕ) (m : Mark) → 0 < i → i ≤ length marks → m ≡ get_or marks (i - 1) m → first_in (under below (handlers (reverse marks))) ≡ first_in (under bound (handlers (reverse (take i marks)))) → seen_at m bound ≡ seen.Row k → first_in (under below (handlers (reverse marks))) ≡ Some k
-row_found marks i below bound k m p l is inv e =
-    let t : reverse (take i marks) ≡ m ∷ reverse (take (i - 1) marks) = reverse_take marks i m p l ∙ ap (λ x. x ∷ reverse (take (i - 1) marks)) (sym is) in
-    inv ∙ (ap (λ ms. first_in (under bound (handlers ms))) t ∙ seen_first m (reverse (take (i - 1) marks)) bound k e)
+pub row_found : (marks : List Mark) (i below bound k : ℕ) (d : Mark) → 0 < i → i ≤ length marks → first_in (under below (handlers (reverse marks))) ≡ first_in (under bound (handlers (reverse (take i marks)))) → seen_at (get_or marks (i - 1) d) bound ≡ seen.Row k → first_in (under below (handlers (reverse marks))) ≡ Some k
+row_found marks i below bound k d p l inv e =
+    let t : reverse (take i marks) ≡ get_or marks (i - 1) d ∷ reverse (take (i - 1) marks) = reverse_take marks i d p l in
+    inv ∙ (ap (λ ms. first_in (under bound (handlers ms))) t ∙ seen_first (get_or marks (i - 1) d) (reverse (take (i - 1) marks)) bound k e)
 
-pub row_passed : (marks : List Mark) (i below bound k : ℕ) (m : Mark) → 0 < i → i ≤ length marks → m ≡ get_or marks (i - 1) m → first_in (under below (handlers (reverse marks))) ≡ first_in (under bound (handlers (reverse (take i marks)))) → seen_at m bound ≡ seen.Bound k → first_in (under below (handlers (reverse marks))) ≡ first_in (under k (handlers (reverse (take (i - 1) marks))))
-row_passed marks i below bound k m p l is inv e =
-    let t : reverse (take i marks) ≡ m ∷ reverse (take (i - 1) marks) = reverse_take marks i m p l ∙ ap (λ x. x ∷ reverse (take (i - 1) marks)) (sym is) in
-    inv ∙ (ap (λ ms. first_in (under bound (handlers ms))) t ∙ seen_next m (reverse (take (i - 1) marks)) bound k e)
+pub row_passed : (marks : List Mark) (i below bound k : ℕ) (d : Mark) → 0 < i → i ≤ length marks → first_in (under below (handlers (reverse marks))) ≡ first_in (under bound (handlers (reverse (take i marks)))) → seen_at (get_or marks (i - 1) d) bound ≡ seen.Bound k → first_in (under below (handlers (reverse marks))) ≡ first_in (under k (handlers (reverse (take (i - 1) marks))))
+row_passed marks i below bound k d p l inv e =
+    let t : reverse (take i marks) ≡ get_or marks (i - 1) d ∷ reverse (take (i - 1) marks) = reverse_take marks i d p l in
+    inv ∙ (ap (λ ms. first_in (under bound (handlers ms))) t ∙ seen_next (get_or marks (i - 1) d) (reverse (take (i - 1) marks)) bound k e)

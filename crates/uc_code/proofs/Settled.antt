@@ -109,6 +109,10 @@ left_not (mark.Part row ∷ ms) e = refl
 left_not (mark.Elements row ∷ ms) e = refl
 left_not (mark.Outward below row ∷ ms) e = refl
 
+pub left_tail : (ms : List Mark) → is_rowless ms ≡ true → left_marks ms ≡ drop 1 ms
+left_tail [] e = refl
+left_tail (m ∷ ms) e = left_rowless m ms e
+
 -- opening
 
 behind_opening : (o : Opening) (n : ℕ) (ms : List Mark) → OpensBehind o ms → AllBehind ms → AllBehind (opening_mark o n ∷ ms)
