@@ -4,4 +4,7 @@ pub mod Lines
 pub mod Names
 pub mod Paces
 pub mod Patches
+pub mod Powers
+pub mod Rounds
 pub mod Stable
+pub mod Turning
