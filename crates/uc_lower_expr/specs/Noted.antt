@@ -34,9 +34,15 @@ pub data AreNoted (p : Program) (held : List Held) : ℕ → ℕ → List ClassF
   NoMore : (place cells : ℕ) → AreNoted p held place cells [] [] cells
   OneMore : (place cells last : ℕ) (f : ClassField) (v : Field) (fs : List ClassField) (vs : List Field) → IsNoted p cells (get_or held place one_scalar) f v → AreNoted p held (place + 1) (capped (cells + held_cells (class_cells p) (get_or held place one_scalar))) fs vs last → AreNoted p held place cells (f ∷ fs) (v ∷ vs) last
 
+-- a table has the places of its fields by some names
+pub record HasNames (t : FieldTable) : Type 0 where
+  pub names : List (List ℕ)
+  pub are : IsPlaces names t.names
+  pub long : length names ≡ length t.fields.items
+
 -- a table with these fields more
 pub record Notes (p : Program) (held : List Held) (fs : List ClassField) (old new : FieldTable) : Type 0 where
-  pub one : length new.names ≡ 1
+  pub still : HasNames new
   pub named : (names : List (List ℕ)) → length names ≡ length old.fields.items → IsPlaces names old.names → IsPlaces (names ++ map (λ f. f.declarator.name) fs) new.names
   pub more : List Field
   pub fields : new.fields.items ≡ old.fields.items ++ more

@@ -1,12 +1,12 @@
 // The fields of classes, by their names.
 
-ghost use Rattle.std.specs.Prelude.{◌≡◌, ◌+◌, ◌++◌, ◌∷◌, [], List, None, Some, IfOk, OnOk, MatchOption, get_or, length, ℕ};
+ghost use Rattle.std.specs.Prelude.{◌≡◌, ◌∷◌, [], ℕ, None, Some, IfOk, OnOk, MatchOption, get_or};
 ghost use Rattle.uc_tree.specs.Objects.{class_at, declared_fields, fields_of, form_fields, plain_class, shape_of};
 ghost use Rattle.uc_tree.specs.Programs.{Class as Whole, Program};
 ghost use Rattle.uc_tree.specs.ProgramViews.{member_form_at};
 ghost use Rattle.uc_lower_expr.specs.Meanings.{shape_as};
 ghost use Rattle.uc_lower_expr.specs.Members.{AreFields, FitClasses, IsField, no_field};
-ghost use Rattle.uc_lower_expr.specs.Noted.{Notes, length_by, one_scalar};
+ghost use Rattle.uc_lower_expr.specs.Noted.{HasNames, Notes, length_by, one_scalar};
 
 use crate::meaning::{Meaning, Scalar, Standing};
 use std::alloc::{AllocError, Global};
@@ -83,7 +83,7 @@ fn note_field(
     base: &Base,
     declarator: &Declarator,
 ) -> Result<(), AllocError>
-    requires { length table.old.names ≡ 1 }
+    requires { HasNames table.old }
     ensures { OnOk result (Notes sizes.now held.now (record { base = base.now; declarator = declarator.now } ∷ []) table.old table.new) }
 {
     let place = table.fields.len();
@@ -115,7 +115,7 @@ fn note_declarators(
     base: &Base,
     declarators: &[Declarator],
 ) -> Result<(), AllocError>
-    requires { length table.old.names ≡ 1 }
+    requires { HasNames table.old }
     ensures { OnOk result (Notes sizes.now held.now (declared_fields base.now declarators.now) table.old table.new) }
 {
     for declarator in declarators {
@@ -130,7 +130,7 @@ fn note_member(
     held: &[Held],
     form: &MemberForm,
 ) -> Result<(), AllocError>
-    requires { length table.old.names ≡ 1 }
+    requires { HasNames table.old }
     ensures { OnOk result (Notes sizes.now held.now (form_fields (member_form_at form.now)) table.old table.new) }
 {
     match form {
@@ -153,7 +153,7 @@ fn note_members(
     held: &[Held],
     members: &[Member],
 ) -> Result<(), AllocError>
-    requires { length table.old.names ≡ 1 }
+    requires { HasNames table.old }
     ensures { OnOk result (Notes sizes.now held.now (fields_of members.now) table.old table.new) }
 {
     for member in members {

@@ -1,0 +1,35 @@
+-- The end of the scopes of objects in a block.
+use Rattle.std.specs.Prelude.{◌≡◌, ℕ, ◌≤◌, ◌<◌, List, [], length, false}
+use Rattle.uc_tree.specs.declared.kinds.Role.{Role}
+use Rattle.uc_tree.specs.Programs.{Program}
+use Rattle.uc_tree.specs.Source.{Stmts}
+use Rattle.uc_tree.specs.Statements.{Start, NoStart, StartValue, StartArgs}
+use Rattle.uc_tree.specs.Resolve.{Context, Meant, args_meant}
+use Rattle.uc_code.specs.declared.rows.Mark.{Mark}
+use Rattle.uc_code.specs.Drafts.{Draft}
+use Rattle.uc_code.specs.Laid.{laid_in, routine_in}
+use Rattle.uc_code.specs.Ranges.{Kept}
+use Rattle.uc_code.specs.Lowered.{StmtsAt}
+use Rattle.uc_lower_expr.specs.Members.{routine_for}
+use Rattle.uc_lower_stmt.specs.Marked.{taken}
+use Rattle.uc_lower_stmt.specs.Pending.{Step, Pending, block_of}
+
+-- what builds and destroys the objects of the class with the place i, and nobody wrote, stands further on than the routine of these
+-- marks
+pub record AllStandBehind (p : Program) (i : ℕ) (ms : List Mark) : Type 0 where
+  pub each : (wanted : Role) → (routine_for p i wanted).written ≡ false → routine_in ms < (routine_for p i wanted).number
+
+-- a draft in which the scopes of the objects behind the first marks, so many, have ended: steps of a block that were laid out under
+-- these marks, and statements behind them, are a block under the first ones
+pub record EndsScopes (count : ℕ) (old new : Draft) : Type 0 where
+  pub rest : new ≡ record old { ops = new.ops; rows = new.rows; settled = new.settled; marks = new.marks }
+  pub kept : Kept (laid_in old) (laid_in new)
+  pub room : taken new ≤ taken old
+  pub block : (line a y : ℕ) (ks : List Step) (ms : List Mark) (ss : Stmts) → length ms ≡ count → Pending (laid_in old) line ms a ks old.marks y → StmtsAt (laid_in old) old.marks line ss y (length old.ops) → StmtsAt (laid_in new) ms line (block_of ks ss) a (length new.ops)
+  pub marks : (line a y : ℕ) (ks : List Step) (ms : List Mark) → length ms ≡ count → Pending (laid_in old) line ms a ks old.marks y → new.marks ≡ ms
+
+-- the arguments with which an object starts
+abbrev pub started_args : Context → Start → List Meant
+started_args c NoStart = []
+started_args c (StartValue e) = []
+started_args c (StartArgs es) = args_meant c es
