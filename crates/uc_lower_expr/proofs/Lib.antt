@@ -1,5 +1,6 @@
 pub mod Adding
 pub mod Arms
+pub mod Fields
 pub mod Growing
 pub mod Members
 pub mod Naming
