@@ -179,7 +179,7 @@ module _ (code : Laid) (table : List RoutineCode) where
     expr_paces ms line (OfObject o) = object_paces ms line o
 
     object_paces : (ms : List Mark) (line : ℕ) (o : ObjectExpr) → Paces ms (ObjectAt code line ms o)
-    object_paces ms line This = onward_paces ms (op.This 0) line (λ n k h. refl) (λ k t. refl) (λ at l. l)
+    object_paces ms line This = onward_paces ms op.Own line (λ n k h. refl) (λ k t. refl) (λ at l. l)
     object_paces ms line (OwnField s i) = onward_paces ms (op.This (field_cells s i)) line (λ n k h. refl) (λ k t. refl) (λ at l. l)
     object_paces ms line (GetOwn s i) = onward_paces ms (op.ViaThis (field_cells s i)) line (λ n k h. refl) (λ k t. refl) (λ at l. l)
     object_paces ms line (FieldOf s i e) = both ms (expr_paces ms line e) (onward_paces ms (op.Field (field_cells s i)) line (λ n k h. refl) (λ k t. refl) (λ at l. l))
@@ -736,7 +736,6 @@ module _ (code : Laid) (table : List RoutineCode) where
   routines_start number (r ∷ rs) (d ∷ cs) a z h o (suc k) c e = routines_start (number + 1) rs cs h.middle z h.second o k c e
 
 pub lowered_paced : (source : Source) (code : Code) → Lowered source code → IsPaced code.ops code.routines
-
 lowered_paced source code h =
     let o = outside_end (laid_of code) code.routines in
     let starts = routines_start (laid_of code) code.routines 0 source.routines code.routines 0 (length code.ops) h.routines o in

@@ -97,7 +97,7 @@ module _ (code : Laid) (line : ℕ) where
     ExprAt ms (OfObject o) = ObjectAt ms o
 
     pub ObjectAt : List Mark → ObjectExpr → ℕ → ℕ → Type 0
-    ObjectAt ms This = Is (op.This 0)
+    ObjectAt ms This = Is op.Own
     ObjectAt ms (OwnField s i) = Is (op.This (field_cells s i))
     ObjectAt ms (GetOwn s i) = Is (op.ViaThis (field_cells s i))
     ObjectAt ms (FieldOf s i e) = Both (ExprAt ms e) (Is (op.Field (field_cells s i)))

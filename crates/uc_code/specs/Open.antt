@@ -187,7 +187,7 @@ seen_at (mark.Outward below row) bound = seen.Bound (min bound below)
 -- how many ops clean-ups and exits take
 
 abbrev pub clean_room : ℕ
-clean_room = 19
+clean_room = 17
 
 abbrev pub exit_room : List Mark → ℕ
 exit_room [] = 1

@@ -1,32 +1,101 @@
 // The code of clean-ups and of exits.
 
-ghost use Rattle.std.specs.Prelude.{◌≡◌, ◌+◌, ◌≤◌, length, reverse, take, OnOk};
+ghost use Rattle.std.specs.Prelude.{◌≡◌, ◌+◌, ◌≤◌, ◌<◌, true, Some, length, OnOk};
 ghost use Rattle.uc_tree.specs.declared.limits.TheConstants.{PROGRAM_OPS};
-ghost use Rattle.uc_code.specs.Drafts.{ops_with};
 ghost use Rattle.uc_code.specs.Leaving.{way_of};
-ghost use Rattle.uc_code.specs.Lowered.{CallAt, CleanAt, ExitAt};
+ghost use Rattle.uc_code.specs.Ranges.{One, Risk};
+ghost use Rattle.uc_code.specs.Lowered.{spot_op, SpotAt, CalledAt, CallAt, CallDone, CleanBy, CleanAt, ExitAt};
 ghost use Rattle.uc_code.specs.Open.{StandsBehind, clean_room, exit_room};
-ghost use Rattle.uc_code.specs.Puts.{Puts};
-ghost use Rattle.uc_code.specs.Pace.{IsPaced};
+ghost use Rattle.uc_code.specs.Puts.{Puts, done_length, clean_length, end_op, ends_at};
 
 use crate::draft::Draft;
 use crate::op::Op;
 use crate::rows::{Array, Mark, ObjectCall, Opening, Spot, Way};
 use std::alloc::AllocError;
 
-// Where the object lies, or the element that is counted.
-fn put_spot(what: ObjectCall, line: u32, out: &mut Draft) -> Result<(), AllocError>
-    requires { length out.old.ops + 3 ≤ PROGRAM_OPS }
+// One op.
+fn put(op: Op, line: u32, out: &mut Draft) -> Result<(), AllocError>
+    requires { length out.old.ops < PROGRAM_OPS }
+    ensures { OnOk result (Puts 1 (λ code. One code op line) out.old out.new) }
 {
-    match what.spot {
-        Spot::Local(cell) => out.emit(Op::Local(cell), line)?,
-        Spot::This(cell) => out.emit(Op::This(cell), line)?,
-    }
-    if let Some(Array { length, size }) = what.array {
-        out.emit(Op::Counted, line)?;
-        out.emit(Op::Index { length, size }, line)?;
-    }
+    out.emit(op, line)?;
     Ok(())
+}
+
+// One op from which an event may come.
+fn put_at_risk(op: Op, line: u32, out: &mut Draft) -> Result<(), AllocError>
+    requires { length out.old.ops < PROGRAM_OPS }
+    ensures { OnOk result (Puts 1 (λ code. Risk code out.old.marks op line) out.old out.new) }
+{
+    out.emit_at_risk(op, line)?;
+    Ok(())
+}
+
+// Where an object begins.
+fn spot_op(spot: Spot) -> Op
+    ensures { result ≡ spot_op spot }
+{
+    match spot {
+        Spot::Local(cell) => Op::Local(cell),
+        Spot::This(cell) => Op::This(cell),
+    }
+}
+
+// The element that is counted.
+fn put_element(spot: Spot, array: Array, line: u32, out: &mut Draft) -> Result<(), AllocError>
+    requires { length out.old.ops + 3 ≤ PROGRAM_OPS }
+    ensures { OnOk result (Puts 3 (λ code. SpotAt code line spot (Some array)) out.old out.new) }
+{
+    put(spot_op(spot), line, out)?;
+    put(Op::Counted, line, out)?;
+    put(
+        Op::Index {
+            length: array.length,
+            size: array.size,
+        },
+        line,
+        out,
+    )?;
+    Ok(())
+}
+
+// Where the object lies, or the element that is counted.
+fn put_place(
+    spot: Spot,
+    array: Option<Array>,
+    line: u32,
+    out: &mut Draft,
+) -> Result<(), AllocError>
+    requires { length out.old.ops + 3 ≤ PROGRAM_OPS }
+    ensures { OnOk result (Puts 3 (λ code. SpotAt code line spot array) out.old out.new) }
+{
+    match array {
+        Some(array) => put_element(spot, array, line, out),
+        None => put(spot_op(spot), line, out),
+    }
+}
+
+// A written routine is called behind a tick.
+fn put_written(routine: u32, line: u32, out: &mut Draft) -> Result<(), AllocError>
+    requires { length out.old.ops + 2 ≤ PROGRAM_OPS }
+    ensures { OnOk result (Puts 2 (λ code. CalledAt code line out.old.marks true routine) out.old out.new) }
+{
+    put(Op::Tick, line, out)?;
+    put_at_risk(Op::CallOn(routine), line, out)?;
+    Ok(())
+}
+
+// The routine is called at the place that is found.
+fn put_called(what: ObjectCall, line: u32, out: &mut Draft) -> Result<(), AllocError>
+    requires room { length out.old.ops + 2 ≤ PROGRAM_OPS }
+    requires behind { StandsBehind out.old.marks what }
+    ensures { OnOk result (Puts 2 (λ code. CalledAt code line out.old.marks what.written what.routine) out.old out.new) }
+{
+    if what.written {
+        put_written(what.routine, line, out)
+    } else {
+        put_at_risk(Op::CallUnwritten(what.routine), line, out)
+    }
 }
 
 /// Adds the call of a constructor or a destructor without arguments. After want of memory the draft is spent.
@@ -35,56 +104,63 @@ pub fn put_call(what: ObjectCall, line: u32, out: &mut Draft) -> Result<(), Allo
     requires behind { StandsBehind out.old.marks what }
     ensures { OnOk result (Puts 5 (λ code. CallAt code line what out.old.marks) out.old out.new) }
 {
-    put_spot(what, line, out)?;
-    if what.written {
-        out.emit(Op::Tick, line)?;
-        out.emit_at_risk(Op::CallOn(what.routine), line)?;
-    } else {
-        out.emit_at_risk(Op::CallUnwritten(what.routine), line)?;
-    }
+    put_place(what.spot, what.array, line, out)?;
+    put_called(what, line, out)?;
     Ok(())
 }
 
-// A call whose value goes.
-fn put_done(what: ObjectCall, line: u32, out: &mut Draft) -> Result<(), AllocError>
+/// Adds such a call and drops its value. After want of memory the draft is spent.
+pub fn put_done(what: ObjectCall, line: u32, out: &mut Draft) -> Result<(), AllocError>
     requires room { length out.old.ops + 6 ≤ PROGRAM_OPS }
     requires behind { StandsBehind out.old.marks what }
+    ensures { OnOk result (Puts 6 (λ code. CallDone code line what out.old.marks) out.old out.new) }
 {
     put_call(what, line, out)?;
-    out.emit(Op::Discard, line)?;
+    put(Op::Discard, line, out)?;
     Ok(())
+}
+
+// How many ops a call and the drop of its value take.
+fn done_length(what: ObjectCall) -> u32
+    ensures { result ≡ done_length what }
+{
+    let place = if what.array.is_some() { 3 } else { 1 };
+    let called = if what.written { 2 } else { 1 };
+    place + called + 1
+}
+
+/// How many ops a clean-up takes.
+pub fn clean_length(what: ObjectCall) -> u32
+    ensures { result ≡ clean_length what }
+{
+    match what.array {
+        Some(_) => 2 * done_length(what) + 5,
+        None => done_length(what),
+    }
 }
 
 // All elements of an array are cleaned up.
-fn put_sweep(what: ObjectCall, count: u32, line: u32, out: &mut Draft) -> Result<(), AllocError>
+fn put_sweep(what: ObjectCall, array: Array, line: u32, out: &mut Draft) -> Result<(), AllocError>
     requires room { length out.old.ops + clean_room ≤ PROGRAM_OPS }
     requires behind { StandsBehind out.old.marks what }
+    ensures { OnOk result (Puts clean_room (λ code. CleanBy code line (Some array) what out.old.marks) out.old out.new) }
 {
     let start = out.here();
-    out.emit(
-        Op::Count {
-            elements: count,
-            test: 0,
-        },
-        line,
-    )?;
+    let test = start + 1 + done_length(what);
+    let entry = test + 2 + done_length(what);
+    let count = Op::Count {
+        elements: array.length,
+        test,
+    };
+    put(count, line, out)?;
     let _row = out.open(Opening::Elements)?;
     put_done(what, line, out)?;
-    let test = out.here();
-    out.emit(Op::Sweep(start + 1), line)?;
-    out.emit(Op::Jump(0), line)?;
+    put(Op::Sweep(start + 1), line, out)?;
+    put(Op::Jump(entry + 2), line, out)?;
     put_done(what, line, out)?;
     out.close(0);
-    out.emit(Op::Sweep(test + 2), line)?;
-    out.emit_at_risk(Op::Unwind, line)?;
-    out.patch(
-        start,
-        Op::Count {
-            elements: count,
-            test,
-        },
-    );
-    out.patch(test + 1, Op::Jump(out.here()));
+    put(Op::Sweep(test + 2), line, out)?;
+    put_at_risk(Op::Unwind, line, out)?;
     Ok(())
 }
 
@@ -96,15 +172,29 @@ pub fn put_clean(what: ObjectCall, line: u32, out: &mut Draft) -> Result<(), All
     ensures { OnOk result (Puts clean_room (λ code. CleanAt code line what out.old.marks) out.old out.new) }
 {
     match what.array {
-        Some(Array { length, .. }) => put_sweep(what, length, line, out),
+        Some(array) => put_sweep(what, array, line, out),
         None => put_done(what, line, out),
     }
 }
 
-// How a way out ends, where the mark ends it.
-fn end_at(way: Way, mark: Mark, line: u32) -> Option<(Op, u32)> {
+// The end of a call.
+fn end_op(way: Way) -> Op
+    ensures { result ≡ end_op way }
+{
+    match way {
+        Way::Break => Op::Return,
+        Way::Continue => Op::Return,
+        Way::Value => Op::ReturnValue,
+        Way::End => Op::Return,
+    }
+}
+
+// How a way out ends at a mark, where it does: its last op, and the line of that.
+fn ends_at(way: Way, mark: Mark, line: u32) -> Option<(Op, u32)>
+    ensures { result ≡ ends_at way mark line }
+{
     match mark {
-        Mark::Body { .. } => Some((end_of(way), 0)),
+        Mark::Body { .. } => Some((end_op(way), 0)),
         Mark::Finish { line, .. } => Some((Op::Return, line)),
         Mark::Loop { leave, again } => match way {
             Way::Break => Some((Op::Jump(leave), line)),
@@ -120,21 +210,13 @@ fn end_at(way: Way, mark: Mark, line: u32) -> Option<(Op, u32)> {
     }
 }
 
-// The end of a call.
-fn end_of(way: Way) -> Op {
-    match way {
-        Way::Break => Op::Return,
-        Way::Continue => Op::Return,
-        Way::Value => Op::ReturnValue,
-        Way::End => Op::Return,
-    }
-}
-
-// What stands around an object is left, and it is cleaned up.
-fn put_left(what: ObjectCall, row: u32, line: u32, out: &mut Draft) -> Result<(), AllocError> {
+// An object is cleaned up on the way out of its scope, whose row is left for the while.
+fn put_left(what: ObjectCall, row: u32, line: u32, out: &mut Draft) -> Result<(), AllocError>
+    requires room { length out.old.ops + clean_room ≤ PROGRAM_OPS }
+{
     let _row = out.open(Opening::Outward { below: row })?;
     put_clean(what, line, out)?;
-    out.close(0);
+    out.close(1);
     Ok(())
 }
 
@@ -148,14 +230,14 @@ pub fn put_exit(way: Way, line: u32, out: &mut Draft) -> Result<(), AllocError>
     while i > 0 {
         i -= 1;
         let mark = out.marks()[i];
-        if let Some((op, line)) = end_at(way, mark, line) {
-            out.emit(op, line)?;
+        if let Some((op, line)) = ends_at(way, mark, line) {
+            put(op, line, out)?;
             return Ok(());
         }
         if let Mark::Clean { what, line, row } = mark {
             put_left(what, row, line, out)?;
         }
     }
-    out.emit(end_of(way), 0)?;
+    put(end_op(way), 0, out)?;
     Ok(())
 }

@@ -23,6 +23,8 @@ pub enum Op {
     DiscardBelow,
     /// The place of this cell of the frame.
     Local(u32),
+    /// The object at hand.
+    Own,
     /// The place of this cell of the object at hand.
     This(u32),
     /// What this cell of the frame holds: a number, or the place that a reference was bound to.
@@ -199,6 +201,7 @@ impl Op {
             Op::Over => b"over",
             Op::DiscardBelow => b"nip",
             Op::Local(_) => b"local",
+            Op::Own => b"own",
             Op::This(_) => b"this",
             Op::Via(_) => b"via",
             Op::ViaThis(_) => b"viathis",
@@ -294,6 +297,7 @@ impl Op {
             Op::Over => Operands::Nothing,
             Op::DiscardBelow => Operands::Nothing,
             Op::Local(number) => Operands::One(number as u64),
+            Op::Own => Operands::Nothing,
             Op::This(number) => Operands::One(number as u64),
             Op::Via(number) => Operands::One(number as u64),
             Op::ViaThis(number) => Operands::One(number as u64),

@@ -84,6 +84,27 @@ impl Active {
         self.frame
     }
 
+    /// The object of a member's call.
+    pub fn this(&self) -> Cell
+        ensures { result ≡ self.now.this }
+    {
+        self.this
+    }
+
+    /// How many elements stand of the array that it builds or destroys.
+    pub fn elements(&self) -> u32
+        ensures { result ≡ self.now.elements }
+    {
+        self.elements
+    }
+
+    /// So many elements stand.
+    pub fn set_elements(&mut self, count: u32)
+        ensures { self.new ≡ record self.old { elements = count } }
+    {
+        self.elements = count;
+    }
+
     /// One more operand.
     pub fn push(&mut self, cell: Cell) -> Result<(), AllocError>
         ensures ok { OnOk result (self.new ≡ record self.old { operands = cell ∷ self.old.operands }) }
@@ -127,6 +148,18 @@ impl Active {
         }
     }
 
+    /// The operand below so many of the newest ones; nothing where there is none.
+    pub fn below(&self, count: u32) -> Cell
+        ensures { result ≡ top (drop count self.now.operands) }
+    {
+        let count = count as usize;
+        if count < self.operands.len() {
+            self.operands[self.operands.len() - 1 - count]
+        } else {
+            Cell::Nothing
+        }
+    }
+
     /// Another operand in the place of the newest one, if there is one.
     pub fn replace(&mut self, cell: Cell) -> Result<(), AllocError>
         ensures ok { OnOk result (self.new ≡ record self.old { operands = cell ∷ below self.old.operands }) }
@@ -158,11 +191,11 @@ impl Active {
         Ok(cells)
     }
 
-    /// It waits for a call: the parameters are no operands any more.
-    pub fn wait_for(&mut self, routine: RoutineCode)
-        ensures { self.new ≡ waiting routine self.old }
+    /// It waits for a call, which takes so many operands.
+    pub fn wait_for(&mut self, taken: u32)
+        ensures { self.new ≡ waiting taken self.old }
     {
-        drop_newest(&mut self.operands, routine.params);
+        drop_newest(&mut self.operands, taken);
     }
 
     /// The list of its operands, to be used again.

@@ -57,12 +57,14 @@ impl Links {
         self.calls
     }
 
-    /// One active call more.
-    pub fn enter(&mut self)
-        requires { self.old.calls < CALLS }
-        ensures { self.new ≡ one_call_more true self.old }
+    /// One active call more, where it counts.
+    pub fn enter(&mut self, counts: bool)
+        requires { counts ≡ true → self.old.calls < CALLS }
+        ensures { self.new ≡ one_call_more counts self.old }
     {
-        self.calls += 1;
+        if counts {
+            self.calls += 1;
+        }
     }
 
     /// One active call less, where it counts.
