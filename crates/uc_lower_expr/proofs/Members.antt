@@ -107,7 +107,7 @@ module _ (ms : List Mark) (line : ℕ) where
       adds_as h (λ code a z w. own_code_by f.numbered.field.declarator.by_ref (class_shape p i) f.numbered.number v.cell (field_type p f.class f.numbered.field) code a z f.at.cell (
       subst (λ (b : Bool). One code (own_place_op b v.cell) line a z) (sym f.at.by_ref) (subst (λ (x : Op). One code x line a z) e w))))
 
-  pub own_method_code : (p : Program) (i r : ℕ) (name : List ℕ) (old new : Draft) → no_field p i name (class_at p i) → member_at p i name (class_at p i) ≡ Some r → Adds 1 (OpCode line (op.This 0)) old new → Adds 1 (ExprCode line ms (own_meant p (Some i) name).expr) old new
+  pub own_method_code : (p : Program) (i r : ℕ) (name : List ℕ) (old new : Draft) → no_field p i name (class_at p i) → member_at p i name (class_at p i) ≡ Some r → Adds 1 (OpCode line op.Own) old new → Adds 1 (ExprCode line ms (own_meant p (Some i) name).expr) old new
   own_method_code p i r name old new h k w = subst (λ (m : Meant). Adds 1 (ExprCode line ms m.expr) old new) (sym (own_method p i name r h k)) w
 
   -- a field behind the place of its object

@@ -49,7 +49,7 @@ mutual
   expr_stable line ms (OfObject o) = object_stable line ms o
 
   object_stable : (line : ℕ) (ms : List Mark) (o : ObjectExpr) → Stable (λ code. ObjectAt code line ms o)
-  object_stable line ms This = one_stable (op.This 0) line
+  object_stable line ms This = one_stable op.Own line
   object_stable line ms (OwnField s i) = one_stable (op.This (field_cells s i)) line
   object_stable line ms (GetOwn s i) = one_stable (op.ViaThis (field_cells s i)) line
   object_stable line ms (FieldOf s i e) = both (expr_stable line ms e) (one_stable (op.Field (field_cells s i)) line)

@@ -484,7 +484,7 @@ fn lower_own_member(
 {
     match names.member(class, name) {
         Some(routine) => {
-            put(Op::This(0), line, out)?;
+            put(Op::Own, line, out)?;
             Ok(names
                 .result(routine)
                 .standing_as(Standing::Member(routine)))

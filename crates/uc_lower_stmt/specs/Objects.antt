@@ -1,5 +1,5 @@
 -- The code that builds objects and ends their scopes.
-use Rattle.std.specs.Prelude.{◌≡◌, ℕ, ◌+◌, ◌*◌, ◌≤◌, List, ◌∷◌, Bool, true, false, Option, Some, None, length}
+use Rattle.std.specs.Prelude.{◌≡◌, ℕ, ◌+◌, ◌*◌, ◌≤◌, List, ◌∷◌, Option, Some, None, length}
 use Rattle.uc_tree.specs.Programs.{Program}
 use Rattle.uc_tree.specs.Cells.{class_cells}
 use Rattle.uc_code.specs.declared.op.Op.TheVariants as op
@@ -29,19 +29,6 @@ fill_room = 20
 
 abbrev pub FillCode : ℕ → List Mark → ObjectCall → ObjectCall → ℕ → Laid → ℕ → ℕ → Type 0
 FillCode line ms builder destroyer n code = OverElements code line ms 0 n (op.Fill n) op.Sweep (CallBuilt code line builder) (CallDone code line destroyer)
-
--- how many ops clean up an object, and the elements of an array
-
-abbrev pub call_length : Bool → ℕ
-call_length true = 2
-call_length false = 1
-
-abbrev pub clean_by : Option Array → Bool → ℕ
-clean_by None written = 1 + call_length written + 1
-clean_by (Some a) written = 2 * (3 + call_length written + 1) + 5
-
-abbrev pub clean_length : ObjectCall → ℕ
-clean_length what = clean_by what.array what.written
 
 -- a draft in which the scope of the innermost mark, of an object, has ended: what was laid out under it is the body of a scope under the
 -- other marks

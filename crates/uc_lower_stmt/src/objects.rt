@@ -15,10 +15,10 @@ ghost use Rattle.uc_code.specs.Puts.{Puts};
 ghost use Rattle.uc_lower_expr.specs.Added.{Adds, ExprCode};
 ghost use Rattle.uc_lower_expr.specs.Contexts.{context_in};
 ghost use Rattle.uc_lower_expr.specs.Members.{routine_for};
-ghost use Rattle.uc_lower_stmt.specs.Objects.{ClosesPart, ClosesScope, FillCode, array_by, call_by, clean_length, fill_room};
+ghost use Rattle.uc_lower_stmt.specs.Objects.{ClosesPart, ClosesScope, FillCode, array_by, call_by, fill_room};
 
 use std::alloc::AllocError;
-use uc_code::cleaning::{put_call, put_clean};
+use uc_code::cleaning::{clean_length, put_call, put_clean, put_done};
 use uc_code::draft::Draft;
 use uc_code::op::Op;
 use uc_code::rows::{Array, ObjectCall, Opening, Spot};
@@ -28,6 +28,7 @@ use uc_lower_expr::program_names::ProgramNames;
 use uc_lower_expr::put::{put, put_at_risk};
 use uc_tree::expr::Expr;
 
+// Where an object begins.
 fn spot_op(spot: Spot) -> Op
     ensures { result ≡ spot_op spot }
 {
@@ -144,8 +145,7 @@ fn put_fill(
         out,
     )?;
     put(Op::Jump(0), line, out)?;
-    put_call(destroyer, line, out)?;
-    put(Op::Discard, line, out)?;
+    put_done(destroyer, line, out)?;
     out.close(0);
     put(Op::Sweep(test + 2), line, out)?;
     put_at_risk(Op::Unwind, line, out)?;
@@ -184,17 +184,6 @@ pub fn lower_build(
             put_fill(builder, destroyer, count, line, out)?;
             Ok(())
         }
-    }
-}
-
-// How many ops clean up an object or the elements of an array.
-fn clean_length(what: ObjectCall) -> u32
-    ensures { result ≡ clean_length what }
-{
-    let call = if what.written { 2 } else { 1 };
-    match what.array {
-        Some(_) => 2 * (3 + call + 1) + 5,
-        None => 1 + call + 1,
     }
 }
 
