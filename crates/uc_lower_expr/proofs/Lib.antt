@@ -5,5 +5,6 @@ pub mod Growing
 pub mod Members
 pub mod Naming
 pub mod Numbers
+pub mod Routing
 pub mod Settled
 pub mod Walks
