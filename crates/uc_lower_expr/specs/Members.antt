@@ -44,6 +44,22 @@ abbrev pub no_field : Program → ℕ → List ℕ → Option Class → Type 0
 no_field p i name None = Unit {0}
 no_field p i name (Some c) = field_named (leading_cells c.kind) (fields_of c.members) name ≡ None
 
+-- the field with this place among those of the class with the place i
+pub record IsNthField (p : Program) (i place : ℕ) (v : Field) : Type 0 where
+  pub class : Class
+  pub there : class_at p i ≡ Some class
+  pub field : ClassField
+  pub is : slice_get (fields_of class.members) place ≡ Some field
+  pub at : IsFieldAt p class i (leading_cells class.kind + place) field v
+
+abbrev pub no_field_at : ℕ → Option Class → Type 0
+no_field_at place None = Unit {0}
+no_field_at place (Some c) = slice_get (fields_of c.members) place ≡ None
+
+abbrev pub count_fields : Option Class → ℕ
+count_fields None = 0
+count_fields (Some c) = length (fields_of c.members)
+
 -- a table of the fields of the class c with the place i
 pub record AreFields (p : Program) (i : ℕ) (c : Class) (t : FieldTable) : Type 0 where
   pub named : IsPlaces (map (λ f. f.declarator.name) (fields_of c.members)) t.names

@@ -13,7 +13,7 @@ ghost use Rattle.uc_tree.specs.Source.{Expr, shape_cells};
 ghost use Rattle.uc_tree.specs.Resolve.{AsValue, is_here, routine_from, params_of, result_of, scalar};
 ghost use Rattle.uc_lower_expr.specs.Meanings.{Tells, shape_as};
 ghost use Rattle.uc_lower_expr.specs.Numbered.{is_called_alone, AreAmong, IsFixed, IsNumbering};
-ghost use Rattle.uc_lower_expr.specs.Members.{AreTables, FitClasses, IsField, member_at, no_field, object_places, routine_for};
+ghost use Rattle.uc_lower_expr.specs.Members.{AreTables, FitClasses, IsField, IsNthField, count_fields, member_at, no_field, no_field_at, object_places, routine_for};
 ghost use Rattle.uc_lower_expr.specs.Known.{HasRoutines, NotesFields, place_among, routine_or};
 
 use crate::fields::{Field, FieldTable, field_in, fields_of, value_of_base};
@@ -328,6 +328,26 @@ impl<'a> ProgramNames<'a> {
         match self.fields.get(class) {
             Some(table) => field_in(table, name),
             None => None,
+        }
+    }
+
+    /// The field with this place among those of the class with this place.
+    pub fn field_at(&self, class: usize, place: usize) -> Option<Field>
+        ensures { MatchOption result (no_field_at place (class_at self.now class)) (λ v. IsNthField self.now class place v) }
+    {
+        match self.fields.get(class) {
+            Some(table) => table.fields.get(place).copied(),
+            None => None,
+        }
+    }
+
+    /// How many fields the class with this place has.
+    pub fn field_count(&self, class: usize) -> usize
+        ensures { result ≡ count_fields (class_at self.now class) }
+    {
+        match self.fields.get(class) {
+            Some(table) => table.fields.len(),
+            None => 0,
         }
     }
 
