@@ -173,7 +173,7 @@ module _ (p : Program) (fit : FitClasses p) where
   unless_circle true s e = cc
   unless_circle false s e = refl
 
-  within : (d j : ℕ) → shape_cells (shape_within d p j) ≡ cells_within d (rows_of p) j
+  pub within : (d j : ℕ) → shape_cells (shape_within d p j) ≡ cells_within d (rows_of p) j
   unfolding shape_within cells_within
   within zero j = refl
   within (suc d) j = unless_circle (has_itself (rows_of p) j) (form_shape (shape_within d p) p (class_at p j)) (fit.apart j) ∙ form_all (shape_within d p) (cells_within d (rows_of p)) (within d) j (class_at p j) refl ∙ sym (cells_next (rows_of p) fit.apart d j)

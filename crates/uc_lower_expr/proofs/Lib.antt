@@ -2,6 +2,7 @@ pub mod Adding
 pub mod Arms
 pub mod Fields
 pub mod Growing
+pub mod Knowing
 pub mod Members
 pub mod Naming
 pub mod Numbers
