@@ -91,7 +91,7 @@ told_known k t s c l e = told_by k t k.ty.by_ref s c l e
 
 variable_told : (x : Told) (s : Standing) → StandsAs x s → variable_in s ≡ cell_in x
 variable_told (standing.Variable k) s h = ap variable_in h
-variable_told (standing.Field k) (AtField s i) (Begins s i e) = refl
+variable_told (standing.Field k) s (Begins t i e) = refl
 variable_told standing.Place s h = ap variable_in h
 variable_told standing.Value s h = ap variable_in h
 variable_told standing.Input s h = ap variable_in h
@@ -171,7 +171,7 @@ module _ (ms : List Mark) where
       (λ m u code z w. subst (λ (o : Standing). ExprAt code line ms (value_by o m.expr) a z) (sym (stands s m (standing.Variable k) u e)) w)
 
   field_value : (line k : ℕ) (s : Standing) (e : Expr) (code : Laid) (a z : ℕ) → FieldAt k s → One code (op.ViaThis k) line a z → ExprAt code line ms (value_by s e) a z
-  field_value line k (AtField s i) e code a z (Begins s i is) h = subst (λ (n : ℕ). One code (op.ViaThis n) line a z) (sym is) h
+  field_value line k s e code a z (Begins t i is) h = subst (λ (n : ℕ). One code (op.ViaThis n) line a z) (sym is) h
 
   pub load_field : {p : Program} → (line a k : ℕ) (s t : Meaning) (old new : Draft) → a ≤ length old.ops → s.standing ≡ standing.Field k → t ≡ record s { standing = standing.Value } → Restarts (op.ViaThis k) line a old new → Grows p 1 line ms a fetched s t old new
   load_field line a k s t old new l e i h =

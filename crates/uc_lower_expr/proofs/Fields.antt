@@ -31,12 +31,11 @@ use Rattle.uc_lower_expr.specs.Noted.{one_scalar, length_by, IsNoted, AreNoted, 
 
 -- what the fields of a class hold
 
-held_of : List Class → (List ℕ → Option ℤ) → ClassField → Held
+abbrev held_of : List Class → (List ℕ → Option ℤ) → ClassField → Held
 held_of cs named f = held_by cs named f.base f.declarator
 
 module _ (cs : List Class) (named : List ℕ → Option ℤ) where
   declared_held : (b : Base) (ds : List Declarator) → map (held_by cs named b) ds ≡ map (held_of cs named) (declared_fields b ds)
-  unfolding held_of
   declared_held b [] = refl
   declared_held b (d ∷ ds) = ap (λ hs. held_by cs named b d ∷ hs) (declared_held b ds)
 
@@ -79,29 +78,29 @@ module _ (cs : List Class) (named : List ℕ → Option ℤ) where
     one_cells false (Some e) b = ap (λ x. length_in named (Some e) * x) (kept_cells (object_of cs b) b)
 
     shape_held : (f : ClassField) → shape_cells (field_shape shapes cs named f.base f.declarator) ≡ held_cells cells (held_of cs named f)
-    unfolding held_of
     shape_held f = one_cells f.declarator.by_ref f.declarator.len f.base
 
 -- the cells of the first so many of these
-first_cells : (ℕ → ℕ) → List Held → ℕ → ℕ
+abbrev first_cells : (ℕ → ℕ) → List Held → ℕ → ℕ
 first_cells cells [] k = 0
 first_cells cells (h ∷ hs) zero = 0
 first_cells cells (h ∷ hs) (suc k) = held_cells cells h + first_cells cells hs k
 
 first_few : (cells : ℕ → ℕ) (hs : List Held) (k : ℕ) → first_cells cells hs k ≤ all_held_cells cells hs
-unfolding first_cells
 first_few cells [] k = omega arith
 first_few cells (h ∷ hs) zero = omega arith
 first_few cells (h ∷ hs) (suc k) = let r = first_few cells hs k in omega arith
 
 -- the cells before a field in a shape
 
+zero_more : (k : ℕ) → 0 + k ≡ k
+zero_more k = omega arith
+
 before_bindings : (n k : ℕ) (s : Shape) → field_cells (behind_bindings n s) (n + k) ≡ n + field_cells s k
-before_bindings zero k s = let e : 0 + k ≡ k = omega arith in rw e omega arith
-before_bindings (suc n) k s = let h = before_bindings n k s in let e : suc n + k ≡ suc (n + k) = omega arith in rw e (omega (arith, h))
+before_bindings zero k s = ap (λ n. field_cells s n) (zero_more k) ∙ sym (zero_more (field_cells s k))
+before_bindings (suc n) k s = let h = before_bindings n k s in let e : suc n + k ≡ suc (n + k) = omega arith in ap (λ m. field_cells (behind_bindings (suc n) s) m) e ∙ omega (arith, h)
 
 before_fields : (shapes : ℕ → Shape) (cells : ℕ → ℕ) → ((j : ℕ) → shape_cells (shapes j) ≡ cells j) → (cs : List Class) (named : List ℕ → Option ℤ) (fs : List ClassField) (k : ℕ) → field_cells (fields_shape shapes cs named fs) k ≡ first_cells cells (map (held_of cs named) fs) k
-unfolding first_cells
 before_fields shapes cells same cs named [] k = refl
 before_fields shapes cells same cs named (f ∷ fs) zero = refl
 before_fields shapes cells same cs named (f ∷ fs) (suc k) =
@@ -119,7 +118,6 @@ one_same f g n (Some o) w = ap (λ k. n * k) (elim o.plain as (λ b. (if b then 
 ])
 
 first_same : (f g : ℕ → ℕ) (hs : List Held) (k : ℕ) → ((o : Object) → Holds hs o → f o.class ≡ g o.class) → first_cells f hs k ≡ first_cells g hs k
-unfolding first_cells
 first_same f g [] k w = refl
 first_same f g (h ∷ hs) zero w = refl
 first_same f g (h ∷ hs) (suc k) w =
@@ -253,17 +251,15 @@ module _ (p : Program) (fit : FitClasses p) (i : ℕ) (c : Class) (there : class
 -- what is noted of fields
 
 -- the cells of so many fields from a place on
-cells_from : (ℕ → ℕ) → List Held → ℕ → ℕ → ℕ
+abbrev cells_from : (ℕ → ℕ) → List Held → ℕ → ℕ → ℕ
 cells_from cells hs place zero = 0
 cells_from cells hs place (suc k) = held_cells cells (get_or hs place one_scalar) + cells_from cells hs (place + 1) k
 
 from_later : (cells : ℕ → ℕ) (h : Held) (hs : List Held) (place k : ℕ) → cells_from cells (h ∷ hs) (suc place) k ≡ cells_from cells hs place k
-unfolding cells_from
 from_later cells h hs place zero = refl
-from_later cells h hs place (suc k) = let r = from_later cells h hs (place + 1) k in let e : suc place + 1 ≡ suc (place + 1) = omega arith in rw e (ap (λ n. held_cells cells (get_or hs place one_scalar) + n) r)
+from_later cells h hs place (suc k) = let r = from_later cells h hs (place + 1) k in let e : suc place + 1 ≡ suc (place + 1) = omega arith in ap (λ n. held_cells cells (get_or hs place one_scalar) + cells_from cells (h ∷ hs) n k) e ∙ ap (λ n. held_cells cells (get_or hs place one_scalar) + n) r
 
 from_first : (cells : ℕ → ℕ) (hs : List Held) (k : ℕ) → k ≤ length hs → cells_from cells hs 0 k ≡ first_cells cells hs k
-unfolding cells_from first_cells
 from_first cells [] zero l = refl
 from_first cells [] (suc k) l = absurd (omega arith)
 from_first cells (h ∷ hs) zero l = refl
@@ -274,26 +270,25 @@ from_first cells (h ∷ hs) (suc k) l =
 
 module _ (p : Program) (held : List Held) where
   noted_at : (place cells last : ℕ) (fs : List ClassField) (vs : List Field) → AreNoted p held place cells fs vs last → ((j : ℕ) → j ≤ length fs → cells + cells_from (class_cells p) held place j ≤ CLASS_CELLS) → (k : ℕ) (f : ClassField) (v : Field) → slice_get fs k ≡ Some f → slice_get vs k ≡ Some v → IsNoted p (cells + cells_from (class_cells p) held place k) (get_or held (place + k) one_scalar) f v
-  unfolding cells_from
-  noted_at place cells last fs vs (NoMore place cells) few k f v e g = cc
-  noted_at place cells last fs vs (OneMore place cells last x y xs ys h more) few zero f v e g =
+  noted_at place cells last fs vs (NoMore q n) few k f v e g = cc
+  noted_at place cells last fs vs (OneMore q n l x y xs ys h more) few zero f v e g =
       let a : x ≡ f = cc in
       let b : y ≡ v = cc in
-      let c : cells + 0 ≡ cells = omega arith in
-      let d : place + 0 ≡ place = omega arith in
-      rw c (rw d (subst (λ (q : ClassField). IsNoted p cells (get_or held place one_scalar) q v) a (subst (λ (w : Field). IsNoted p cells (get_or held place one_scalar) x w) b h)))
-  noted_at place cells last fs vs (OneMore place cells last x y xs ys h more) few (suc k) f v e g =
-      let one = held_cells (class_cells p) (get_or held place one_scalar) in
+      let c : n ≡ n + 0 = omega arith in
+      let d : q ≡ q + 0 = omega arith in
+      subst (λ m. IsNoted p m (get_or held (q + 0) one_scalar) f v) c (subst (λ m. IsNoted p n (get_or held m one_scalar) f v) d (subst (λ (r : ClassField). IsNoted p n (get_or held q one_scalar) r v) a (subst (λ (w : Field). IsNoted p n (get_or held q one_scalar) x w) b h)))
+  noted_at place cells last fs vs (OneMore q n l x y xs ys h more) few (suc k) f v e g =
+      let one = held_cells (class_cells p) (get_or held q one_scalar) in
       let low = few 1 (omega arith) in
-      let same : capped (cells + one) ≡ cells + one = omega arith in
-      let r = noted_at (place + 1) (capped (cells + one)) last xs ys more (λ j l. let w = few (suc j) (omega arith) in omega (arith, same, w)) k f v e g in
-      let c : capped (cells + one) + cells_from (class_cells p) held (place + 1) k ≡ cells + (one + cells_from (class_cells p) held (place + 1) k) = omega (arith, same) in
-      let d : place + 1 + k ≡ place + suc k = omega arith in
-      subst (λ n. IsNoted p (cells + (one + cells_from (class_cells p) held (place + 1) k)) (get_or held n one_scalar) f v) d (subst (λ n. IsNoted p n (get_or held (place + 1 + k) one_scalar) f v) c r)
+      let same : capped (n + one) ≡ n + one = omega arith in
+      let r = noted_at (q + 1) (capped (n + one)) l xs ys more (λ j l. let w = few (suc j) (omega arith) in omega (arith, same, w)) k f v e g in
+      let c : capped (n + one) + cells_from (class_cells p) held (q + 1) k ≡ n + (one + cells_from (class_cells p) held (q + 1) k) = omega (arith, same) in
+      let d : q + 1 + k ≡ q + suc k = omega arith in
+      subst (λ m. IsNoted p (n + (one + cells_from (class_cells p) held (q + 1) k)) (get_or held m one_scalar) f v) d (subst (λ m. IsNoted p m (get_or held (q + 1 + k) one_scalar) f v) c r)
 
   noted_long : (place cells last : ℕ) (fs : List ClassField) (vs : List Field) → AreNoted p held place cells fs vs last → length vs ≡ length fs
-  noted_long place cells last fs vs (NoMore place cells) = refl
-  noted_long place cells last fs vs (OneMore place cells last x y xs ys h more) = ap suc (noted_long (place + 1) _ last xs ys more)
+  noted_long place cells last fs vs (NoMore q n) = refl
+  noted_long place cells last fs vs (OneMore q n l x y xs ys h more) = ap suc (noted_long (q + 1) _ l xs ys more)
 
 map_long : {A B : Type 0} (f : A → B) (xs : List A) → length (map f xs) ≡ length xs
 map_long f [] = refl
@@ -311,7 +306,6 @@ get_long (y ∷ ys) (suc k) x e = let r = get_long ys k x e in omega arith
 
 module _ (p : Program) (fit : FitClasses p) (i : ℕ) (c : Class) (there : class_at p i ≡ Some c) where
   length_is : (f : ClassField) (l : Option Expr) → length_by l (held_of (classes_of p.items) (seen_in (constants_of p.items) c) f).count ≡ field_length (seen_in (constants_of p.items) c) f.declarator l
-  unfolding held_of
   length_is f None = refl
   length_is f (Some e) = refl
 

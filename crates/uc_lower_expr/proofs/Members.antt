@@ -187,7 +187,7 @@ variable_part : (p : Program) (name : List ℕ) (k : ℕ) (s : Meaning) → s.st
 variable_part p name k s e m u = sym (ap (λ (o : Standing). field_by p o m name) (stands s m (standing.Variable k) u e))
 
 field_part_by : (p : Program) (name : List ℕ) (k : ℕ) (o : Standing) (m : Meant) → FieldAt k o → place_member p m.ty.len m name ≡ field_by p o m name
-field_part_by p name k (AtField s i) m (Begins s i e) = refl
+field_part_by p name k o m (Begins t i e) = refl
 
 place_part : (p : Program) (name : List ℕ) (s : Meaning) → s.standing ≡ standing.Place → (m : Meant) → Tells p s m → place_member p m.ty.len m name ≡ field_meant p m name
 place_part p name s e m u = sym (ap (λ (o : Standing). field_by p o m name) (stands s m standing.Place u e))

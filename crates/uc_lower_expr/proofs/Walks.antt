@@ -24,7 +24,7 @@ use Rattle.uc_tree.specs.ExpressionViews.{expr_at, part_at}
 use Rattle.uc_tree.specs.ExpressionSizes.{expr_size, exprs_size, part_size, parts_size, link_size, links_size}
 use Rattle.uc_tree.specs.Source.{Shape, shape_cells, Plus, Minus, Times, Over, Modulo, Expr, Call, OfObject, CallOn, Exprs, NoExprs, MoreExprs}
 use Rattle.uc_tree.specs.Objects.{plain_class, base_shape, shape_of}
-use Rattle.uc_tree.specs.Resolve.{Meant, Context, meant, value_by, value_of, converted, Standing, AtField, AsValue, unary_meant, binary_meant, assign_meant, written_by, variable_in, link_meant, chain_meant, part_meant, args_meant, arg_meant, args_by, params_of, parts_meant, element_by, element_meant, call_by, call_meant, step_meant, no_meaning}
+use Rattle.uc_tree.specs.Resolve.{Meant, Context, meant, value_by, value_of, converted, Standing, AsValue, unary_meant, binary_meant, assign_meant, written_by, variable_in, link_meant, chain_meant, part_meant, args_meant, arg_meant, args_by, params_of, parts_meant, element_by, element_meant, call_by, call_meant, step_meant, no_meaning}
 use Rattle.uc_code.specs.declared.op.Op.{Op}
 use Rattle.uc_code.specs.declared.op.Op.TheVariants as op
 use Rattle.uc_code.specs.declared.rows.Mark.{Mark}
@@ -80,7 +80,7 @@ right_tells binary.Rem l r = record { shape = refl; class = refl; len = refl; st
 
 -- a field is no routine
 pub field_not_called : (p : Program) (k : ℕ) (args : List Meant) (o : Standing) (m : Meant) → FieldAt k o → call_by p o m args ≡ no_meaning
-field_not_called p k args (AtField s i) m (Begins s i e) = refl
+field_not_called p k args o m (Begins t i e) = refl
 
 -- of one program
 pub grown_in : {E : Type 0} (r : Result Meaning E) (p : Program) (n line : ℕ) (ms : List Mark) (a : ℕ) (f : Meant → Meant) (s : Meaning) (old new : Draft) → IfOk r (λ t. (q : Program) → Grows q n line ms a f s t old new) → IfOk r (λ t. Grows p n line ms a f s t old new)

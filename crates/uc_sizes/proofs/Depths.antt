@@ -18,8 +18,8 @@ data Way (rows : List Row) : ℕ → ℕ → ℕ → Type 0 where
   Through : (k from to : ℕ) (o : Object) → Holds (row_at rows from).held o → Way rows k o.class to → Way rows (suc k) from to
 
 way_on : (rows : List Row) (k from to : ℕ) (o : Object) → Way rows k from to → Holds (row_at rows to).held o → Way rows (suc k) from o.class
-way_on rows k from to o (Direct from q h) g = Through 1 from o.class q h (Direct q.class o g)
-way_on rows k from to o (Through j from to q h w) g = Through (suc j) from o.class q h (way_on rows j q.class to o w g)
+way_on rows k from to o (Direct f q h) g = Through 1 f o.class q h (Direct q.class o g)
+way_on rows k from to o (Through j f t q h w) g = Through (suc j) f o.class q h (way_on rows j q.class t o w g)
 
 same_eq : (n : ℕ) → nat_eq n n ≡ true
 same_eq zero = refl
@@ -33,13 +33,13 @@ or_right true b e = refl
 or_right false b e = e
 
 holds_any : (p : Held → Bool) (hs : List Held) (o : Object) → Holds hs o → ((h : Held) → h.object ≡ Some o → p h ≡ true) → list_any p hs ≡ true
-holds_any p (h ∷ hs) o (First h hs o e) w = or_left (p h) (list_any p hs) (w h e)
-holds_any p (h ∷ hs) o (Later h hs o g) w = or_right (p h) (list_any p hs) (holds_any p hs o g w)
+holds_any p hs o (First x xs q e) w = or_left (p x) (list_any p xs) (w x e)
+holds_any p hs o (Later x xs q g) w = or_right (p x) (list_any p xs) (holds_any p xs q g w)
 
 way_reaches : (rows : List Row) (k from to : ℕ) → Way rows k from to → reaches k rows to from ≡ true
 unfolding reaches
-way_reaches rows k from to (Direct from o h) = holds_any (leads (reaches 0 rows o.class) o.class) (row_at rows from).held o h (λ x e. ap (object_leads (reaches 0 rows o.class) o.class) e ∙ or_left (nat_eq o.class o.class) (reaches 0 rows o.class o.class) (same_eq o.class))
-way_reaches rows k from to (Through j from to o h w) = holds_any (leads (reaches j rows to) to) (row_at rows from).held o h (λ x e. ap (object_leads (reaches j rows to) to) e ∙ or_right (nat_eq o.class to) (reaches j rows to o.class) (way_reaches rows j o.class to w))
+way_reaches rows k from to (Direct f o h) = holds_any (leads (reaches 0 rows o.class) o.class) (row_at rows f).held o h (λ x e. ap (object_leads (reaches 0 rows o.class) o.class) e ∙ or_left (nat_eq o.class o.class) (reaches 0 rows o.class o.class) (same_eq o.class))
+way_reaches rows k from to (Through j f t o h w) = holds_any (leads (reaches j rows t) t) (row_at rows f).held o h (λ x e. ap (object_leads (reaches j rows t) t) e ∙ or_right (nat_eq o.class t) (reaches j rows t o.class) (way_reaches rows j o.class t w))
 
 -- a way to a class, shorter than the count of flags
 record Near (rows : List Row) (flags : List Bool) (from to : ℕ) : Type 0 where
@@ -92,12 +92,11 @@ module _ (rows : List Row) (apart : (i : ℕ) → has_itself rows i ≡ false) w
     past j zero h = base j
     past j (suc d) h = next d j ∙ ap (G (F d)) (row_past rows j h) ∙ none (F d)
 
-    Deep : ℕ → Type 0
+    abbrev Deep : ℕ → Type 0
     Deep k = (flags : List Bool) (i : ℕ) → length flags ≡ length rows → flag_at flags i ≡ true → Visits rows flags i → length rows ≤ flagged flags + k → F (suc k) i ≡ F (suc (suc k)) i
 
     -- what a class holds, where one level less is known to be deep enough
     unseen : (k : ℕ) (flags : List Bool) (i : ℕ) (o : Object) → Deep k → length flags ≡ length rows → flag_at flags i ≡ true → Visits rows flags i → length rows ≤ flagged flags + suc k → Holds (row_at rows i).held o → o.class < length flags → flag_at flags o.class ≡ false → F (suc k) o.class ≡ F (suc (suc k)) o.class
-    unfolding Deep
     unseen k flags i o deep l f v h g inside new =
         let m = flagged_more flags o.class inside new in
         let s = length-set flags o.class true in
@@ -122,12 +121,11 @@ module _ (rows : List Row) (apart : (i : ℕ) → has_itself rows i ≡ false) w
     held_deep k flags i o deep l f v h g = held_by (suc k) flags i o (λ new inside. unseen k flags i o deep l f v h g inside new) l f v g (cases_lt o.class (length rows)) (flag_at flags o.class) refl
 
     deep : (k : ℕ) → Deep k
-    unfolding Deep
     deep zero flags i l f v h = next 0 i ∙ alike (F 0) (F 1) (row_at rows i) (λ o g. held_last flags i o l f v h g) ∙ sym (next 1 i)
     deep (suc k) flags i l f v h = next (suc k) i ∙ alike (F (suc k)) (F (suc (suc k))) (row_at rows i) (λ o g. held_deep k flags i o (deep k) l f v h g) ∙ sym (next (suc (suc k)) i)
 
     -- the flag of one class alone
-    one : (i : ℕ) → List Bool
+    abbrev one : (i : ℕ) → List Bool
     one i = set (replicate (length rows) false) i true
 
     no_flag : (n i : ℕ) → flag_at (replicate n false) i ≡ false
@@ -144,7 +142,6 @@ module _ (rows : List Row) (apart : (i : ℕ) → has_itself rows i ≡ false) w
     length_none (suc n) = ap suc (length_none n)
 
     one_by : (i v : ℕ) → flag_at (one i) v ≡ true → (v ≡ i) ⊎ (v ≢ i) → (v ≡ i) ⊎ Near rows (one i) v i
-    unfolding one
     one_by i v h (inl e) = inl e
     one_by i v h (inr other) = absurd (true≢false (sym h ∙ get_or-set_other (replicate (length rows) false) i v true false other ∙ no_flag (length rows) v))
 
@@ -152,7 +149,6 @@ module _ (rows : List Row) (apart : (i : ℕ) → has_itself rows i ≡ false) w
     one_visits i = record { each = λ v h. one_by i v h (cases_eq v i) }
 
     pub held_is : (m i : ℕ) (o : Object) → length rows ≡ suc m → i < length rows → Holds (row_at rows i).held o → F m o.class ≡ F (suc m) o.class
-    unfolding one
     held_is zero i o e inside g =
         let n = length_none (length rows) in
         let k = no_flags (length rows) in
@@ -217,8 +213,8 @@ heights_deep rows apart m i o e inside g =
     held_is rows apart (λ d j. height_within d rows j) (λ f r. tallest f r.held) (height_base rows) (height_next rows) (λ f k r w. tallest_same f k r.held w) (λ f. refl) m i o e inside g
 
 tallest_holds : (f : ℕ → ℕ) (hs : List Held) (o : Object) → Holds hs o → suc (f o.class) ≤ tallest f hs
-tallest_holds f (h ∷ hs) o (First h hs o e) = let a : object_height f h.object ≡ suc (f o.class) = ap (object_height f) e in omega arith
-tallest_holds f (h ∷ hs) o (Later h hs o g) = let r = tallest_holds f hs o g in omega arith
+tallest_holds f hs o (First x xs q e) = let a : object_height f x.object ≡ suc (f q.class) = ap (object_height f) e in omega arith
+tallest_holds f hs o (Later x xs q g) = let r = tallest_holds f xs q g in omega arith
 
 -- a class is deeper than those of its fields
 pub heights_fall : (rows : List Row) → ((i : ℕ) → has_itself rows i ≡ false) → (m i : ℕ) (o : Object) → length rows ≡ suc m → i < length rows → Holds (row_at rows i).held o → height_within (suc m) rows o.class < height_within (suc m) rows i
