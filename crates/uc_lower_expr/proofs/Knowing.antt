@@ -12,9 +12,15 @@ use Rattle.uc_tree.specs.Names.{same_name}
 use Rattle.uc_tree.specs.Programs.{Class, Program}
 use Rattle.uc_tree.specs.Cells.{classes_of, class_cells, object_of_kind, object_named, object_of, rows_of}
 use Rattle.uc_tree.specs.Numbering.{is_event, at_most, class_names, class_number, place_from as name_from}
-use Rattle.uc_tree.specs.Source.{Shape, Binding, shape_cells}
+use Rattle.uc_tree.specs.Source.{Shape, Binding, Expr, shape_cells}
+use Rattle.uc_tree.specs.Resolve.{AsValue, result_of, scalar}
 use Rattle.uc_tree.specs.Objects.{class_at, number_in, number_at, place_from, place_of, plain_in, plain_class, shape_of, kept_shape, class_shape, base_shape, written_at, unwritten_number}
+use Rattle.uc_lower_expr.specs.declared.meaning.Meaning.{Meaning}
+use Rattle.uc_lower_expr.specs.declared.meaning.Scalar.TheVariants as scalars
+use Rattle.uc_lower_expr.specs.declared.meaning.Standing.{Standing as Told}
+use Rattle.uc_lower_expr.specs.declared.meaning.Standing.TheVariants as standing
 use Rattle.uc_lower_expr.specs.declared.numbering.ClassRoutine.{ClassRoutine}
+use Rattle.uc_lower_expr.specs.Meanings.{StandsAs, Tells, shape_as}
 use Rattle.uc_lower_expr.specs.Known.{place_among, routine_or}
 use Rattle.uc_lower_expr.specs.Members.{FitClasses, object_places, routine_by, routine_for}
 use Rattle.uc_lower_expr.specs.Numbered.{number_of_class}
@@ -114,6 +120,14 @@ module _ (p : Program) (fit : FitClasses p) where
 
   pub element_of_none : (b : Base) → plain_class p b ≡ None → shape_cells (base_shape p b) ≡ 1
   element_of_none b e = other_size (object_of (classes_of p.items) b) b e
+
+-- what a routine hands over
+
+pub result_told : (p : Program) (r : ℕ) (b : Base) (t : Meaning) (e : Expr) → result_of p r ≡ b → shape_of b ≡ shape_as t.scalar → plain_class p b ≡ t.class → t.elements ≡ None → t.standing ≡ standing.Value → Tells p t (record { expr = e; ty = scalar (result_of p r); standing = AsValue })
+result_told p r b t e is s c l h = record { shape = ap shape_of is ∙ s; class = ap (plain_class p) is ∙ c; len = sym l; standing = subst (λ (x : Told). StandsAs x AsValue) (sym h) refl }
+
+pub result_none : (p : Program) (r : ℕ) (t : Meaning) (e : Expr) → result_of p r ≡ base.Void → t ≡ record { scalar = scalars.Number; class = None; elements = None; standing = standing.Value } → Tells p t (record { expr = e; ty = scalar (result_of p r); standing = AsValue })
+result_none p r t e is h = subst (λ (x : Meaning). Tells p x (record { expr = e; ty = scalar (result_of p r); standing = AsValue })) (sym h) (record { shape = ap shape_of is; class = ap (plain_class p) is; len = refl; standing = refl })
 
 -- what builds and destroys
 

@@ -1,6 +1,7 @@
 pub mod Adding
 pub mod Arms
 pub mod Fields
+pub mod Finding
 pub mod Growing
 pub mod Knowing
 pub mod Members

@@ -1,11 +1,11 @@
 // The fields of classes, by their names.
 
-ghost use Rattle.std.specs.Prelude.{◌≡◌, ◌∷◌, [], ℕ, None, Some, IfOk, OnOk, MatchOption, get_or};
+ghost use Rattle.std.specs.Prelude.{◌≡◌, ◌∷◌, [], ℕ, None, Some, IfOk, OnOk, MatchOption, get_or, slice_get};
 ghost use Rattle.uc_tree.specs.Objects.{class_at, declared_fields, fields_of, form_fields, plain_class, shape_of};
 ghost use Rattle.uc_tree.specs.Programs.{Class as Whole, Program};
 ghost use Rattle.uc_tree.specs.ProgramViews.{member_form_at};
 ghost use Rattle.uc_lower_expr.specs.Meanings.{shape_as};
-ghost use Rattle.uc_lower_expr.specs.Members.{AreFields, FitClasses, IsField, no_field};
+ghost use Rattle.uc_lower_expr.specs.Members.{AreFields, AreTables, FitClasses, IsField, IsNthField, count_fields, no_field, no_field_at};
 ghost use Rattle.uc_lower_expr.specs.Noted.{HasNames, Notes, length_by, one_scalar};
 
 use crate::meaning::{Meaning, Scalar, Standing};
@@ -182,12 +182,48 @@ pub fn fields_of(
     Ok(table)
 }
 
-/// The field of a name, by the table of its class.
-pub fn field_in(table: &FieldTable, name: &Name) -> Option<Field>
+fn field_at(fields: &[Field], place: usize) -> Option<Field>
+    ensures { result ≡ slice_get fields.now place }
+{
+    fields.get(place).copied()
+}
+
+// The field of a name, by the table of its class.
+fn field_in(table: &FieldTable, name: &Name) -> Option<Field>
     ensures { (p : Program) (i : ℕ) (c : Whole) → class_at p i ≡ Some c → AreFields p i c table.now → MatchOption result (no_field p i name.now (Some c)) (λ v. IsField p i name.now v) }
 {
     match place_in(&table.names, name) {
-        Some(place) => table.fields.get(place).copied(),
+        Some(place) => field_at(&table.fields, place),
         None => None,
+    }
+}
+
+/// The field of a name in the class with this place, by the tables of all classes.
+pub fn field_of(tables: &[FieldTable], class: usize, name: &Name) -> Option<Field>
+    ensures { (p : Program) → AreTables p tables.now → MatchOption result (no_field p class name.now (class_at p class)) (λ v. IsField p class name.now v) }
+{
+    match tables.get(class) {
+        Some(table) => field_in(table, name),
+        None => None,
+    }
+}
+
+/// The field with this place in the class with this place.
+pub fn nth_field(tables: &[FieldTable], class: usize, place: usize) -> Option<Field>
+    ensures { (p : Program) → AreTables p tables.now → MatchOption result (no_field_at place (class_at p class)) (λ v. IsNthField p class place v) }
+{
+    match tables.get(class) {
+        Some(table) => field_at(&table.fields, place),
+        None => None,
+    }
+}
+
+/// How many fields the class with this place has.
+pub fn count_of(tables: &[FieldTable], class: usize) -> usize
+    ensures { (p : Program) → AreTables p tables.now → result ≡ count_fields (class_at p class) }
+{
+    match tables.get(class) {
+        Some(table) => table.fields.len(),
+        None => 0,
     }
 }

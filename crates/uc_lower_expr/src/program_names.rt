@@ -16,10 +16,10 @@ ghost use Rattle.uc_lower_expr.specs.Numbered.{is_called_alone, AreAmong, IsFixe
 ghost use Rattle.uc_lower_expr.specs.Members.{AreTables, FitClasses, IsField, IsNthField, count_fields, member_at, no_field, no_field_at, object_places, routine_for};
 ghost use Rattle.uc_lower_expr.specs.Known.{HasRoutines, NotesFields, place_among, routine_or};
 
-use crate::fields::{Field, FieldTable, field_in, fields_of, value_of_base};
+use crate::fields::{Field, FieldTable, count_of, field_of, fields_of, nth_field, value_of_base};
 use crate::meaning::{Meaning, Scalar};
 use crate::numbering::{ClassRoutine, Fixed, Numbering};
-use crate::routine_table::{RoutineTable, member_in, tables_of};
+use crate::routine_table::{RoutineTable, member_in, table_of, tables_of};
 use std::alloc::{AllocError, Global};
 use std::marker::Model;
 use uc_names::scope::Scope;
@@ -325,40 +325,32 @@ impl<'a> ProgramNames<'a> {
     pub fn field(&self, class: usize, name: &Name) -> Option<Field>
         ensures { MatchOption result (no_field self.now class name.now (class_at self.now class)) (λ v. IsField self.now class name.now v) }
     {
-        match self.fields.get(class) {
-            Some(table) => field_in(table, name),
-            None => None,
-        }
+        let field = field_of(&self.fields, class, name);
+        field
     }
 
     /// The field with this place among those of the class with this place.
     pub fn field_at(&self, class: usize, place: usize) -> Option<Field>
         ensures { MatchOption result (no_field_at place (class_at self.now class)) (λ v. IsNthField self.now class place v) }
     {
-        match self.fields.get(class) {
-            Some(table) => table.fields.get(place).copied(),
-            None => None,
-        }
+        let field = nth_field(&self.fields, class, place);
+        field
     }
 
     /// How many fields the class with this place has.
     pub fn field_count(&self, class: usize) -> usize
         ensures { result ≡ count_fields (class_at self.now class) }
     {
-        match self.fields.get(class) {
-            Some(table) => table.fields.len(),
-            None => 0,
-        }
+        let count = count_of(&self.fields, class);
+        count
     }
 
     // The routines of the class with this place.
     fn routines_of(&self, class: usize) -> Option<&RoutineTable>
         ensures { MatchOption result (class_at self.now class ≡ None) (λ t. HasRoutines self.now class t.now) }
     {
-        match self.numbering.classes.get(class) {
-            Some(number) => self.routines.get(*number as usize),
-            None => None,
-        }
+        let table = table_of(&self.routines, &self.numbering.classes, class);
+        table
     }
 
     /// The number of the member of a name in the class with this place.
