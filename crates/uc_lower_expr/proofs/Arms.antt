@@ -72,7 +72,7 @@ arm_behind ms line k o s d0 d1 d2 d3 h1 h2 h3 = adds_more (omega arith) (adds_bo
 
 -- a value of the same type
 pub as_value : {p : Program} → (told t : Meaning) (m : Meant) (e : Expr) → t ≡ record told { standing = standing.Value } → Tells p told m → Tells p t (record { expr = e; ty = m.ty; standing = AsValue })
-as_value told t m e i u = subst (λ (x : Meaning). Tells p x (record { expr = e; ty = m.ty; standing = AsValue })) (sym i) (record { shape = u.shape; class = u.class; len = u.len; standing = refl })
+as_value {p} told t m e i u = subst (λ (x : Meaning). Tells p x (record { expr = e; ty = m.ty; standing = AsValue })) (sym i) (record { shape = u.shape; class = u.class; len = u.len; standing = refl })
 
 -- names and the cells of an element
 

@@ -24,7 +24,7 @@ use Rattle.uc_lower_expr.specs.Meanings.{StandsAs, Tells, shape_as}
 use Rattle.uc_lower_expr.specs.Known.{place_among, routine_or}
 use Rattle.uc_lower_expr.specs.Members.{FitClasses, object_places, routine_by, routine_for}
 use Rattle.uc_lower_expr.specs.Numbered.{number_of_class}
-use Rattle.uc_lower_expr.proofs.Fields.{within}
+use Rattle.uc_lower_expr.proofs.FieldLemmas.{within}
 
 -- the places of classes by their numbers
 

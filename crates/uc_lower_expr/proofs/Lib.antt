@@ -1,6 +1,6 @@
 pub mod Adding
 pub mod Arms
-pub mod Fields
+pub mod FieldLemmas
 pub mod Finding
 pub mod Growing
 pub mod Knowing
