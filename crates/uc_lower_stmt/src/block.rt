@@ -1,13 +1,13 @@
 // The scopes of objects in a block: each is opened where the object is declared, and all are ended behind the block, the last one
 // first.
 
-ghost use Rattle.std.specs.Prelude.{◌≡◌, ◌+◌, ◌*◌, ◌≤◌, ◌<◌, length, OnOk};
+ghost use Rattle.std.specs.Prelude.{◌≡◌, ◌+◌, ◌*◌, ◌≤◌, ◌<◌, length, reverse, OnOk};
 ghost use Rattle.uc_tree.specs.declared.limits.TheConstants.{FRAME_CELLS, OPS_FOR_SIZE, PROGRAM_OPS};
 ghost use Rattle.uc_tree.specs.Cells.{classes_of, declared_cells, declarators_cells};
 ghost use Rattle.uc_tree.specs.StatementSizes.{declarator_size, declarators_size};
 ghost use Rattle.uc_tree.specs.Expressions.{exprs_of};
 ghost use Rattle.uc_tree.specs.Resolve.{Context, args_meant, object_scoped, objects_scoped, with_all, with_declared};
-ghost use Rattle.uc_lower_stmt.specs.Blocks.{AllStandBehind, EndsScopes, started_args};
+ghost use Rattle.uc_lower_stmt.specs.Blocks.{AllStandBehind, EndsScopes, innermost_in, scope_at, started_args};
 ghost use Rattle.uc_lower_stmt.specs.Marked.{taken};
 ghost use Rattle.uc_lower_stmt.specs.Pending.{Lays};
 ghost use Rattle.uc_lower_stmt.specs.Scoped.{scope_of};
@@ -17,7 +17,7 @@ use crate::objects::{clean_call, close_scope, lower_build};
 use std::alloc::{AllocError, Global};
 use uc_code::draft::Draft;
 use uc_code::op::Op;
-use uc_code::rows::{Mark, Opening, Spot};
+use uc_code::rows::{Mark, ObjectCall, Opening, Spot};
 use uc_lower_expr::program_names::ProgramNames;
 use uc_lower_expr::put::put;
 use uc_tree::declare::{Declarator, Start, StartForm};
@@ -90,20 +90,48 @@ pub(crate) fn lower_objects(
     Ok(())
 }
 
+// The scope of an object: the call that cleans it up, and the line of its block.
+#[derive(Clone, Copy)]
+pub(crate) struct ObjectScope {
+    what: ObjectCall,
+    line: u32,
+}
+
+fn scope_at(mark: Mark) -> Option<ObjectScope>
+    ensures { result ≡ scope_at mark }
+{
+    match mark {
+        Mark::Clean { what, line, .. } => Some(ObjectScope { what, line }),
+        Mark::Body { .. } => None,
+        Mark::Finish { .. } => None,
+        Mark::Loop { .. } => None,
+        Mark::Guard { .. } => None,
+        Mark::Part { .. } => None,
+        Mark::Elements { .. } => None,
+        Mark::Outward { .. } => None,
+    }
+}
+
+// The innermost scope of an object, where more marks stand than so many.
+fn innermost(marks: &[Mark], count: usize) -> Option<ObjectScope>
+    ensures { result ≡ innermost_in (reverse marks.now) count }
+{
+    if marks.len() <= count {
+        return None;
+    }
+    match marks.last() {
+        Some(mark) => scope_at(*mark),
+        None => None,
+    }
+}
+
 /// Ends the scopes of all objects behind the first marks, so many, the last one first. After want of memory the draft is spent.
-pub(crate) fn close_scopes(count: usize, out: &mut Draft) -> Result<(), AllocError>
+pub fn close_scopes(count: usize, out: &mut Draft) -> Result<(), AllocError>
     requires { taken out.old ≤ PROGRAM_OPS }
     ensures { OnOk result (EndsScopes count out.old out.new) }
 {
-    while out.marks().len() > count {
-        match out.marks().last() {
-            Some(Mark::Clean { what, line, .. }) => {
-                let what = *what;
-                let line = *line;
-                close_scope(what, line, out)?;
-            }
-            _ => return Ok(()),
-        }
+    while let Some(scope) = innermost(out.marks(), count) {
+        close_scope(scope.what, scope.line, out)?;
     }
     Ok(())
 }

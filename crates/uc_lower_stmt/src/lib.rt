@@ -1,7 +1,7 @@
 // The lowering of statements and routines.
 #![tactic(auto)]
 
-mod block;
+pub mod block;
 pub mod declare;
 pub mod objects;
 pub mod print;
