@@ -1,7 +1,6 @@
 -- The cells before the fields of a class, as they are noted and as its shape has them.
 use Rattle.std.proofs.Common.{◌≡◌, ℕ, zero, suc, ◌+◌, ◌-◌, ◌*◌, ◌^◌, ◌≤◌, ◌<◌, ℤ, List, [], ◌∷◌, ◌++◌, Bool, true, false, Option, Some, None, if◌then◌else◌, length, map, get_or, refl, ap, sym, subst, ◌∙◌, arith}
 use Rattle.std.specs.Prelude.{slice_get}
-use Rattle.std.proofs.lemmas.List.{length-map}
 use Rattle.uc_tree.specs.declared.limits.TheConstants.{CLASS_CELLS}
 use Rattle.uc_tree.specs.declared.kinds.Base.{Base}
 use Rattle.uc_tree.specs.declared.kinds.Ty.{Ty}
@@ -127,6 +126,10 @@ first_same f g (h ∷ hs) (suc k) w =
 
 -- the row of a class
 
+map_long : {A B : Type 0} (f : A → B) (xs : List A) → length (map f xs) ≡ length xs
+map_long f [] = refl
+map_long f (x ∷ xs) = ap suc (map_long f xs)
+
 row_here : (cs xs : List Class) (ks : List Constant) (i : ℕ) (c : Class) → slice_get xs i ≡ Some c → row_at (map (row_of cs ks) xs) i ≡ row_of cs ks c
 row_here cs [] ks i c e = cc
 row_here cs (x ∷ xs) ks zero c e = let is : x ≡ c = cc in ap (row_of cs ks) is
@@ -178,7 +181,7 @@ module _ (p : Program) (fit : FitClasses p) where
 
 module _ (p : Program) (fit : FitClasses p) (i : ℕ) (c : Class) (there : class_at p i ≡ Some c) where
   rows_long : length (rows_of p) ≡ length (classes_of p.items)
-  rows_long = length-map (row_of (classes_of p.items) (constants_of p.items)) (classes_of p.items)
+  rows_long = map_long (row_of (classes_of p.items) (constants_of p.items)) (classes_of p.items)
 
   inside : i < length (rows_of p)
   inside = let l = rows_long in let h = inside_here (classes_of p.items) i c there in omega arith
@@ -289,10 +292,6 @@ module _ (p : Program) (held : List Held) where
   noted_long : (place cells last : ℕ) (fs : List ClassField) (vs : List Field) → AreNoted p held place cells fs vs last → length vs ≡ length fs
   noted_long place cells last fs vs (NoMore q n) = refl
   noted_long place cells last fs vs (OneMore q n l x y xs ys h more) = ap suc (noted_long (q + 1) _ l xs ys more)
-
-map_long : {A B : Type 0} (f : A → B) (xs : List A) → length (map f xs) ≡ length xs
-map_long f [] = refl
-map_long f (x ∷ xs) = ap suc (map_long f xs)
 
 get_map : {A : Type 0} (f : A → Held) (xs : List A) (k : ℕ) (x : A) → slice_get xs k ≡ Some x → get_or (map f xs) k one_scalar ≡ f x
 get_map f [] k x e = cc

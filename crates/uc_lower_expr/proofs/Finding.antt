@@ -23,21 +23,21 @@ names_long (x ∷ xs) = ap suc (names_long xs)
 
 -- a place is at least that of the first, and at most that of the last
 
+low_case : (i k : ℕ) (b : Bool) (o : Option ℕ) → (o ≡ Some k → i + 1 ≤ k) → (if b then Some i else o) ≡ Some k → i ≤ k
+low_case i k true o r h = let is : i ≡ k = cc in omega (arith, is)
+low_case i k false o r h = let q = r h in omega (arith, q)
+
 low : (names : List (List ℕ)) (i : ℕ) (name : List ℕ) (k : ℕ) → place_from i names name ≡ Some k → i ≤ k
 low [] i name k e = cc
-low (n ∷ ns) i name k e = low_case (same_name n name) e
-  where
-    low_case : (b : Bool) → (if b then Some i else place_from (i + 1) ns name) ≡ Some k → i ≤ k
-    low_case true h = let is : i ≡ k = cc in omega (arith, is)
-    low_case false h = let r = low ns (i + 1) name k h in omega (arith, r)
+low (n ∷ ns) i name k e = low_case i k (same_name n name) (place_from (i + 1) ns name) (low ns (i + 1) name k) e
 
-high : (names : List (List ℕ)) (i : ℕ) (name : List ℕ) (k : ℕ) → place_from i names name ≡ Some k → k < i + length names
+high_case : (i k m : ℕ) (b : Bool) (o : Option ℕ) → (o ≡ Some k → k < i + 1 + m) → (if b then Some i else o) ≡ Some k → k < i + suc m
+high_case i k m true o r h = let is : i ≡ k = cc in omega (arith, is)
+high_case i k m false o r h = let q = r h in omega (arith, q)
+
+pub high : (names : List (List ℕ)) (i : ℕ) (name : List ℕ) (k : ℕ) → place_from i names name ≡ Some k → k < i + length names
 high [] i name k e = cc
-high (n ∷ ns) i name k e = high_case (same_name n name) e
-  where
-    high_case : (b : Bool) → (if b then Some i else place_from (i + 1) ns name) ≡ Some k → k < i + suc (length ns)
-    high_case true h = let is : i ≡ k = cc in omega (arith, is)
-    high_case false h = let r = high ns (i + 1) name k h in omega (arith, r)
+high (n ∷ ns) i name k e = high_case i k (length ns) (same_name n name) (place_from (i + 1) ns name) (high ns (i + 1) name k) e
 
 -- the field there
 

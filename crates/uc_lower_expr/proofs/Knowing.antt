@@ -1,5 +1,5 @@
 -- What tables tell of the names of a program.
-use Rattle.std.proofs.Common.{◌≡◌, ℕ, zero, suc, ◌+◌, ◌≤◌, ◌<◌, List, [], ◌∷◌, ◌++◌, Bool, true, false, Option, Some, None, if◌then◌else◌, nat_eq, nat_le, length, map, refl, ap, sym, subst, ◌∙◌, arith}
+use Rattle.std.proofs.Common.{◌≡◌, ℕ, zero, suc, ◌+◌, ◌≤◌, ◌<◌, List, [], ◌∷◌, ◌++◌, Bool, true, false, Option, Some, None, if◌then◌else◌, nat_eq, ne_eqb, nat_le, length, map, refl, ap, sym, subst, ◌∙◌, arith}
 use Rattle.std.specs.Prelude.{slice_get, unwrap_or, option_and_then}
 use Rattle.uc_tree.specs.declared.limits.TheConstants.{LAST_CLASS}
 use Rattle.uc_tree.specs.declared.kinds.Base.{Base}
@@ -25,13 +25,14 @@ use Rattle.uc_lower_expr.specs.Known.{place_among, routine_or}
 use Rattle.uc_lower_expr.specs.Members.{FitClasses, object_places, routine_by, routine_for}
 use Rattle.uc_lower_expr.specs.Numbered.{number_of_class}
 use Rattle.uc_lower_expr.proofs.FieldLemmas.{within}
+use Rattle.uc_lower_expr.proofs.Finding.{high}
 
 -- the places of classes by their numbers
 
 among_case : (e : Bool) (cs : List Class) (i n : ℕ) → ((m : ℕ) → place_from cs (i + 1) (suc m) ≡ slice_get (object_places cs (i + 1)) m) → (if e then place_from cs (i + 1) (suc n) else (if nat_eq n 0 then Some i else place_from cs (i + 1) n)) ≡ slice_get (if e then object_places cs (i + 1) else i ∷ object_places cs (i + 1)) n
 among_case true cs i n h = h n
 among_case false cs i zero h = refl
-among_case false cs i (suc n) h = h n
+among_case false cs i (suc n) h = ap (λ (b : Bool). if b then Some i else place_from cs (i + 1) (suc n)) (ne_eqb (suc n) 0 (λ e. omega arith)) ∙ h n
 
 among : (cs : List Class) (i n : ℕ) → place_from cs i (suc n) ≡ slice_get (object_places cs i) n
 among [] i n = refl
@@ -65,13 +66,13 @@ kind_class i kind.Cormonitor j e = cc
 kind_class i kind.Task j e = cc
 kind_class i kind.Event j e = cc
 
+named_case : (i j m : ℕ) (k : Kind) (b : Bool) (o : Option Object) → (plain_in o ≡ Some j → j < i + 1 + m) → plain_in (if b then object_of_kind i k else o) ≡ Some j → j < i + suc m
+named_case i j m k true o r h = let w = kind_class i k j h in omega (arith, w)
+named_case i j m k false o r h = let w = r h in omega (arith, w)
+
 named_within : (cs : List Class) (i : ℕ) (name : List ℕ) (j : ℕ) → plain_in (object_named cs i name) ≡ Some j → j < i + length cs
 named_within [] i name j e = cc
-named_within (c ∷ cs) i name j e = named_case (same_name c.name name) e
-  where
-    named_case : (b : Bool) → plain_in (if b then object_of_kind i c.kind else object_named cs (i + 1) name) ≡ Some j → j < i + suc (length cs)
-    named_case true h = let k = kind_class i c.kind j h in omega (arith, k)
-    named_case false h = let k = named_within cs (i + 1) name j h in omega (arith, k)
+named_within (c ∷ cs) i name j e = named_case i j (length cs) c.kind (same_name c.name name) (object_named cs (i + 1) name) (named_within cs (i + 1) name j) e
 
 pub plain_within : (p : Program) (b : Base) (j : ℕ) → plain_class p b ≡ Some j → j < length (classes_of p.items)
 plain_within p base.Void j e = cc
@@ -151,14 +152,6 @@ names_few (c ∷ cs) = few_case (is_event c.kind) (names_few cs)
     few_case true h = omega arith
     few_case false h = omega arith
 
-name_few : (names : List (List ℕ)) (i : ℕ) (name : List ℕ) (k : ℕ) → name_from i names name ≡ Some k → k < i + length names
-name_few [] i name k e = cc
-name_few (n ∷ ns) i name k e = name_case (same_name n name) e
-  where
-    name_case : (b : Bool) → (if b then Some i else name_from (i + 1) ns name) ≡ Some k → k < i + suc (length ns)
-    name_case true h = let is : i ≡ k = cc in omega (arith, is)
-    name_case false h = let r = name_few ns (i + 1) name k h in omega (arith, r)
-
 most_few : (o : Option ℕ) (n : ℕ) → ((k : ℕ) → o ≡ Some k → k < 1 + n) → unwrap_or (option_and_then (at_most LAST_CLASS) o) 0 ≤ n
 most_few None n h = omega arith
 most_few (Some k) n h = most_case (nat_le k LAST_CLASS)
@@ -171,4 +164,4 @@ pub number_few : (p : Program) (c : Class) → number_of_class p c ≤ length (c
 number_few p c =
     let cs = classes_of p.items in
     let few = names_few cs in
-    most_few (name_from 1 (class_names cs) c.name) (length cs) (λ k e. let h = name_few (class_names cs) 1 c.name k e in omega (arith, h, few))
+    most_few (name_from 1 (class_names cs) c.name) (length cs) (λ k e. let h = high (class_names cs) 1 c.name k e in omega (arith, h, few))

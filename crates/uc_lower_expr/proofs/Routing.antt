@@ -1,5 +1,5 @@
 -- Tables of the routines of classes, and the routines that they were made of.
-use Rattle.std.proofs.Common.{◌≡◌, ◌≢◌, ℕ, zero, suc, ◌+◌, ◌<◌, List, [], ◌∷◌, ◌++◌, Bool, true, false, not, ◌&&◌, Option, Some, None, if◌then◌else◌, nat_eq, length, refl, ap, sym, subst, ◌∙◌, arith, is_some}
+use Rattle.std.proofs.Common.{◌≡◌, ◌≢◌, ℕ, zero, suc, ◌+◌, ◌<◌, List, [], ◌∷◌, ◌++◌, Bool, true, false, not, ◌&&◌, Option, Some, None, if◌then◌else◌, nat_eq, eq-eqb, ne_eqb, length, refl, ap, sym, subst, ◌∙◌, arith, is_some}
 use Rattle.std.specs.Prelude.{unwrap_or}
 use Rattle.uc_names.specs.Blocks.{Block, id_in, id_or, found, is_declared, declared}
 use Rattle.uc_tree.specs.declared.kinds.Role.{Role}
@@ -58,14 +58,10 @@ some_or None k = refl
 some_or (Some i) k = refl
 
 same_eq : (n : ℕ) → nat_eq n n ≡ true
-same_eq zero = refl
-same_eq (suc n) = same_eq n
+same_eq n = eq-eqb n n refl
 
 other_eq : (a b : ℕ) → a ≢ b → nat_eq a b ≡ false
-other_eq zero zero h = absurd (h refl)
-other_eq zero (suc b) h = refl
-other_eq (suc a) zero h = refl
-other_eq (suc a) (suc b) h = other_eq a b (λ e. h (ap suc e))
+other_eq a b h = ne_eqb a b h
 
 -- a routine of another class
 

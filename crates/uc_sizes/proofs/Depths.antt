@@ -1,5 +1,5 @@
 -- Where no class has itself in its fields, what is counted so many classes deep as there are classes but one is all there is.
-use Rattle.std.proofs.Common.{◌≡◌, ℕ, zero, suc, ◌+◌, ◌-◌, ◌*◌, ◌≤◌, ◌<◌, max, List, [], ◌∷◌, Bool, true, false, Option, Some, None, ◌||◌, nat_eq, if◌then◌else◌, length, replicate, refl, ap, sym, subst, ◌∙◌, arith, set, get_or, length-set, ◌⊎◌, inl, inr, ◌≢◌, true≢false}
+use Rattle.std.proofs.Common.{◌≡◌, ℕ, zero, suc, ◌+◌, ◌-◌, ◌*◌, ◌≤◌, ◌<◌, max, List, [], ◌∷◌, Bool, true, false, Option, Some, None, ◌||◌, nat_eq, if◌then◌else◌, length, replicate, refl, ap, sym, subst, ◌∙◌, arith, set, get_or, length-set, eq-eqb, ◌⊎◌, inl, inr, ◌≢◌, true≢false}
 use Rattle.std.proofs.lemmas.Bool.{cases_eq, cases_lt}
 use Rattle.std.proofs.lemmas.List.{get_or-set_same, get_or-set_other}
 use Rattle.std.specs.List.{list_any}
@@ -22,8 +22,7 @@ way_on rows k from to o (Direct f q h) g = Through 1 f o.class q h (Direct q.cla
 way_on rows k from to o (Through j f t q h w) g = Through (suc j) f o.class q h (way_on rows j q.class t o w g)
 
 same_eq : (n : ℕ) → nat_eq n n ≡ true
-same_eq zero = refl
-same_eq (suc n) = same_eq n
+same_eq n = eq-eqb n n refl
 
 or_left : (a b : Bool) → a ≡ true → (a || b) ≡ true
 or_left a b e = ap (λ x. x || b) e
@@ -177,7 +176,7 @@ all_same f g (h ∷ hs) w =
     let b = all_same f g hs (λ o x. w o (Later h hs o x)) in
     omega arith
 
-cells_next : (rows : List Row) → ((i : ℕ) → has_itself rows i ≡ false) → (d j : ℕ) → cells_within (suc d) rows j ≡ row_cells (cells_within d rows) (row_at rows j)
+pub cells_next : (rows : List Row) → ((i : ℕ) → has_itself rows i ≡ false) → (d j : ℕ) → cells_within (suc d) rows j ≡ row_cells (cells_within d rows) (row_at rows j)
 unfolding cells_within
 cells_next rows apart d j = ap (λ (b : Bool). if b then 0 else row_cells (cells_within d rows) (row_at rows j)) (apart j)
 
