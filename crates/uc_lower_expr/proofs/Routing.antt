@@ -1,5 +1,6 @@
 -- Tables of the routines of classes, and the routines that they were made of.
-use Rattle.std.proofs.Common.{◌≡◌, ◌≢◌, ℕ, zero, suc, ◌+◌, ◌<◌, List, [], ◌∷◌, ◌++◌, Bool, true, false, not, ◌&&◌, Option, Some, None, if◌then◌else◌, nat_eq, eq-eqb, ne_eqb, length, refl, ap, sym, subst, ◌∙◌, arith, is_some}
+use Rattle.std.proofs.Common.{◌≡◌, ◌≢◌, ℕ, zero, suc, ◌+◌, ◌<◌, List, [], ◌∷◌, ◌++◌, Bool, true, false, not, ◌&&◌, Option, Some, None, if◌then◌else◌, nat_eq, length, refl, ap, sym, subst, ◌∙◌, arith, is_some}
+use Rattle.std.proofs.lemmas.Bool.{eq-eqb, ne_eqb}
 use Rattle.std.specs.Prelude.{unwrap_or}
 use Rattle.uc_names.specs.Blocks.{Block, id_in, id_or, found, is_declared, declared}
 use Rattle.uc_tree.specs.declared.kinds.Role.{Role}

@@ -1,6 +1,6 @@
 -- Where no class has itself in its fields, what is counted so many classes deep as there are classes but one is all there is.
-use Rattle.std.proofs.Common.{◌≡◌, ℕ, zero, suc, ◌+◌, ◌-◌, ◌*◌, ◌≤◌, ◌<◌, max, List, [], ◌∷◌, Bool, true, false, Option, Some, None, ◌||◌, nat_eq, if◌then◌else◌, length, replicate, refl, ap, sym, subst, ◌∙◌, arith, set, get_or, length-set, eq-eqb, ◌⊎◌, inl, inr, ◌≢◌, true≢false}
-use Rattle.std.proofs.lemmas.Bool.{cases_eq, cases_lt}
+use Rattle.std.proofs.Common.{◌≡◌, ℕ, zero, suc, ◌+◌, ◌-◌, ◌*◌, ◌≤◌, ◌<◌, max, List, [], ◌∷◌, Bool, true, false, Option, Some, None, ◌||◌, nat_eq, if◌then◌else◌, length, replicate, refl, ap, sym, subst, ◌∙◌, arith, set, get_or, length-set, ◌⊎◌, inl, inr, ◌≢◌, true≢false}
+use Rattle.std.proofs.lemmas.Bool.{cases_eq, cases_lt, eq-eqb}
 use Rattle.std.proofs.lemmas.List.{get_or-set_same, get_or-set_other}
 use Rattle.std.specs.List.{list_any}
 use Rattle.uc_tree.specs.declared.rows.Object.{Object}
