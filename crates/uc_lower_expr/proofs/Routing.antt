@@ -80,11 +80,14 @@ module _ (ds : List Defined) (d : Defined) (number : ℕ) (is : d.number ≡ num
   here : nat_eq d.number number ≡ true
   here = ap (λ n. nat_eq n number) is ∙ same_eq number
 
+  count : 0 + length ds ≡ length ds
+  count = omega arith
+
   member_by : (r : Role) (name : List ℕ) → d.routine.sig.role ≡ r → member_from (ds ++ d ∷ []) 0 number name ≡ id_or (member_from ds 0 number name) (if is_plain r && same_name d.routine.sig.name name then Some (length ds) else None)
-  member_by r name e = member_last 0 ds d number name ∙ ap (λ (b : Bool). id_or (member_from ds 0 number name) (if b && (is_plain d.routine.sig.role && same_name d.routine.sig.name name) then Some (length ds) else None)) here ∙ ap (λ (q : Role). id_or (member_from ds 0 number name) (if is_plain q && same_name d.routine.sig.name name then Some (length ds) else None)) e
+  member_by r name e = member_last 0 ds d number name ∙ ap (λ (b : Bool). id_or (member_from ds 0 number name) (if b && (is_plain d.routine.sig.role && same_name d.routine.sig.name name) then Some (0 + length ds) else None)) here ∙ ap (λ (q : Role). id_or (member_from ds 0 number name) (if is_plain q && same_name d.routine.sig.name name then Some (0 + length ds) else None)) e ∙ ap (λ k. id_or (member_from ds 0 number name) (if is_plain r && same_name d.routine.sig.name name then Some k else None)) count
 
   role_by : (r wanted : Role) → d.routine.sig.role ≡ r → role_from (ds ++ d ∷ []) 0 number wanted ≡ id_or (role_from ds 0 number wanted) (if same_role wanted r then Some (length ds) else None)
-  role_by r wanted e = role_last 0 ds d number wanted ∙ ap (λ (b : Bool). id_or (role_from ds 0 number wanted) (if b && same_role wanted d.routine.sig.role then Some (length ds) else None)) here ∙ ap (λ (q : Role). id_or (role_from ds 0 number wanted) (if same_role wanted q then Some (length ds) else None)) e
+  role_by r wanted e = role_last 0 ds d number wanted ∙ ap (λ (b : Bool). id_or (role_from ds 0 number wanted) (if b && same_role wanted d.routine.sig.role then Some (0 + length ds) else None)) here ∙ ap (λ (q : Role). id_or (role_from ds 0 number wanted) (if same_role wanted q then Some (0 + length ds) else None)) e ∙ ap (λ k. id_or (role_from ds 0 number wanted) (if same_role wanted r then Some k else None)) count
 
   routine_by : (r : Role) (t : RoutineTable) → d.routine.sig.role ≡ r → AreRoutines ds number t → AreRoutines (ds ++ d ∷ []) number (routed r d.routine.sig.name (length ds) t)
   routine_by role.Plain t e was = record {
