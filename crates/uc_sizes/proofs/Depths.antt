@@ -222,3 +222,20 @@ heights_fall rows apart m i o e inside g =
     let b = height_next rows m i in
     let c = tallest_holds (height_within m rows) (row_at rows i).held o g in
     omega arith
+
+-- a class counted so many classes deep is at most so deep
+tallest_few : (f : ℕ → ℕ) (n : ℕ) → ((i : ℕ) → f i ≤ n) → (hs : List Held) → tallest f hs ≤ suc n
+tallest_few f n w [] = omega arith
+tallest_few f n w (h ∷ hs) =
+    let a = height_few f n w h.object in
+    let b = tallest_few f n w hs in
+    omega (arith, a, b)
+  where
+    height_few : (f : ℕ → ℕ) (n : ℕ) → ((i : ℕ) → f i ≤ n) → (o : Option Object) → object_height f o ≤ suc n
+    height_few f n w None = omega arith
+    height_few f n w (Some o) = let a = w o.class in omega (arith, a)
+
+pub heights_few : (d : ℕ) (rows : List Row) (i : ℕ) → height_within d rows i ≤ d
+unfolding height_within
+heights_few zero rows i = omega arith
+heights_few (suc d) rows i = tallest_few (height_within d rows) d (heights_few d rows) (row_at rows i).held
