@@ -24,7 +24,7 @@ use Rattle.uc_lower_expr.specs.declared.meaning.Standing.{Standing as Told}
 use Rattle.uc_lower_expr.specs.declared.meaning.Standing.TheVariants as standing
 use Rattle.uc_lower_expr.specs.declared.meaning.Meaning.{Meaning}
 use Rattle.uc_lower_expr.specs.declared.names.Variable.{Variable}
-use Rattle.uc_lower_expr.specs.declared.program_names.Fixed.{Fixed}
+use Rattle.uc_lower_expr.specs.declared.numbering.Fixed.{Fixed}
 use Rattle.uc_lower_expr.specs.Numbered.{IsFixed}
 use Rattle.uc_lower_expr.specs.Meanings.{FieldAt, Begins, StandsAs, cell_in, shape_as, Tells}
 use Rattle.uc_lower_expr.specs.Added.{Adds, Cuts, Grows, ExprCode, ConvertCode, OpCode, fetched}

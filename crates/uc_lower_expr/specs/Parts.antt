@@ -1,5 +1,5 @@
 -- The code behind a left side, and in an update.
-use Rattle.std.specs.Prelude.{◌≡◌, ℕ, ◌+◌, pos, List, Bool, Option, Some, None, length, if◌then◌else◌}
+use Rattle.std.specs.Prelude.{◌≡◌, ℕ, ◌+◌, pos, List, Bool, true, false, Option, Some, None, length, if◌then◌else◌}
 use Rattle.uc_tree.specs.declared.kinds.Known.{Known}
 use Rattle.uc_tree.specs.declared.ops.BinaryOp.{BinaryOp}
 use Rattle.uc_tree.specs.declared.ops.BinaryOp.TheVariants as binary
