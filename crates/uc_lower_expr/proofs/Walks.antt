@@ -362,16 +362,16 @@ module _ (ms : List Mark) where
   pub not_called : {E : Type 0} (r : Result Meaning E) (p : Program) (n line a : ℕ) (x : Told) (args : List Meant) (s : Meaning) (old new : Draft) → 1 ≤ n → a ≤ length old.ops → s.standing ≡ x → ((o : Standing) (m : Meant) → StandsAs x o → call_by p o m args ≡ no_meaning) → OnOk r (Restarts (op.Push (pos 0)) line a old new) → IfOk r (λ t. t ≡ record { scalar = scalar.Number; class = None; elements = None; standing = standing.Nothing }) → IfOk r (λ t. Grows p n line ms a (λ m. call_meant p m args) s t old new)
   not_called r p n line a x args s old new k l e none h q = put_for_nothing r p n line a (λ m. call_meant p m args) s old new k l (nothing_called p x args none s e) h q
 
-  pub called_part : {p : Program} → {E : Type 0} (r : Result Meaning E) (c : Context) (x : tree.Part) (sign : Pos) (xs ys : List tree.Expr) (line a : ℕ) (s : Meaning) (old new : Draft) → tree.Call sign (exprs_of ys) ≡ x → xs ≡ ys → IfOk r (λ t. Grows p (OPS_FOR_SIZE * (1 + exprs_size (exprs_of xs))) line ms a (λ m. call_meant c.program m (args_meant c (exprs_of xs))) s t old new) → IfOk r (λ t. Grows p (OPS_FOR_SIZE * part_size x) line ms a (part_meant c x) s t old new)
-  called_part {p} r c x sign xs ys line a s old new e i h =
-      subst (λ (y : tree.Part). IfOk r (λ t. Grows p (OPS_FOR_SIZE * part_size y) line ms a (part_meant c y) s t old new)) (ap (λ (zs : List tree.Expr). tree.Call sign (exprs_of zs)) i ∙ e) (as_part r h)
+  pub called_part : {E : Type 0} (r : Result Meaning E) (c : Context) (x : tree.Part) (sign : Pos) (xs ys : List tree.Expr) (line a : ℕ) (s : Meaning) (old new : Draft) → tree.Call sign (exprs_of ys) ≡ x → xs ≡ ys → IfOk r (λ t. Grows c.program (OPS_FOR_SIZE * (1 + exprs_size (exprs_of xs))) line ms a (λ m. call_meant c.program m (args_meant c (exprs_of xs))) s t old new) → IfOk r (λ t. Grows c.program (OPS_FOR_SIZE * part_size x) line ms a (part_meant c x) s t old new)
+  called_part r c x sign xs ys line a s old new e i h =
+      subst (λ (y : tree.Part). IfOk r (λ t. Grows c.program (OPS_FOR_SIZE * part_size y) line ms a (part_meant c y) s t old new)) (ap (λ (zs : List tree.Expr). tree.Call sign (exprs_of zs)) i ∙ e) (as_part r h)
     where
-      as_part : {p : Program} → {E : Type 0} (r : Result Meaning E) → IfOk r (λ t. Grows p (OPS_FOR_SIZE * (1 + exprs_size (exprs_of xs))) line ms a (λ m. call_meant c.program m (args_meant c (exprs_of xs))) s t old new) → IfOk r (λ t. Grows p (OPS_FOR_SIZE * part_size (tree.Call sign (exprs_of xs))) line ms a (part_meant c (tree.Call sign (exprs_of xs))) s t old new)
+      as_part : {E : Type 0} (r : Result Meaning E) → IfOk r (λ t. Grows c.program (OPS_FOR_SIZE * (1 + exprs_size (exprs_of xs))) line ms a (λ m. call_meant c.program m (args_meant c (exprs_of xs))) s t old new) → IfOk r (λ t. Grows c.program (OPS_FOR_SIZE * part_size (tree.Call sign (exprs_of xs))) line ms a (part_meant c (tree.Call sign (exprs_of xs))) s t old new)
       as_part (Ok t) g = grows_as (omega arith) (λ m. refl) g
       as_part (Err y) g = tt
 
-  pub stepped_part : {p : Program} → {E : Type 0} (r : Result Meaning E) (c : Context) (x : tree.Part) (sign : Pos) (o : StepOp) (line a : ℕ) (s : Meaning) (old new : Draft) → tree.Step sign o ≡ x → IfOk r (λ t. Grows p 9 line ms a (step_meant o) s t old new) → IfOk r (λ t. Grows p (OPS_FOR_SIZE * part_size x) line ms a (part_meant c x) s t old new)
-  stepped_part {p} (Ok t) c x sign o line a s old new e g = subst (λ (y : tree.Part). Grows p (OPS_FOR_SIZE * part_size y) line ms a (part_meant c y) s t old new) e (grows_as (omega arith) (λ m. refl) g)
+  pub stepped_part : {E : Type 0} (r : Result Meaning E) (c : Context) (x : tree.Part) (sign : Pos) (o : StepOp) (line a : ℕ) (s : Meaning) (old new : Draft) → tree.Step sign o ≡ x → IfOk r (λ t. Grows c.program 9 line ms a (step_meant o) s t old new) → IfOk r (λ t. Grows c.program (OPS_FOR_SIZE * part_size x) line ms a (part_meant c x) s t old new)
+  stepped_part (Ok t) c x sign o line a s old new e g = subst (λ (y : tree.Part). Grows c.program (OPS_FOR_SIZE * part_size y) line ms a (part_meant c y) s t old new) e (grows_as (omega arith) (λ m. refl) g)
   stepped_part (Err y) c x sign o line a s old new e g = tt
 
   -- arguments
