@@ -20,8 +20,7 @@ pub(crate) struct Part {
 }
 
 /// The part that a field is. A reference names no object of its own.
-pub(crate) fn part_of(field: Field) -> Option<Part>
-{
+pub(crate) fn part_of(field: Field) -> Option<Part> {
     if field.by_ref {
         return None;
     }
@@ -92,10 +91,7 @@ pub(crate) fn lower_left(
 }
 
 /// Ends what follows these parts, the last one first.
-pub(crate) fn close_parts(
-    parts: &mut Vec<ObjectCall>,
-    out: &mut Draft,
-) -> Result<(), AllocError> {
+pub(crate) fn close_parts(parts: &mut Vec<ObjectCall>, out: &mut Draft) -> Result<(), AllocError> {
     while let Some(what) = parts.pop() {
         close_part(what, 0, out)?;
     }

@@ -209,9 +209,9 @@ module _ (p : Program) (fit : FitClasses p) (i : ℕ) (c : Class) (there : class
       ap (λ s. field_cells s (leading_cells c.kind + k)) (shape_is m e)
       ∙ before_bindings (leading_cells c.kind) k (fields_shape (shape_within m p) cs named (fields_of c.members))
       ∙ ap (λ n. leading_cells c.kind + n) (
-        before_fields (shape_within m p) (cells_within m (rows_of p)) (within p fit m) cs named (fields_of c.members) k
-        ∙ ap (λ hs. first_cells (cells_within m (rows_of p)) hs k) (sym held_is)
-        ∙ first_same (cells_within m (rows_of p)) (class_cells p) (row_at (rows_of p) i).held k (λ o h. cells_deep (rows_of p) fit.apart m i o e inside h ∙ ap (λ n. cells_within n (rows_of p) o.class) (sym e)))
+      before_fields (shape_within m p) (cells_within m (rows_of p)) (within p fit m) cs named (fields_of c.members) k
+      ∙ ap (λ hs. first_cells (cells_within m (rows_of p)) hs k) (sym held_is)
+      ∙ first_same (cells_within m (rows_of p)) (class_cells p) (row_at (rows_of p) i).held k (λ o h. cells_deep (rows_of p) fit.apart m i o e inside h ∙ ap (λ n. cells_within n (rows_of p) o.class) (sym e)))
 
   some_rows : (n : ℕ) → i < n → n ≡ suc (n - 1)
   some_rows n h = omega arith

@@ -442,7 +442,11 @@ fn lower_own_name(
     match names.field(class, name) {
         Some(field) => {
             put(own_place_op(field.by_ref, field.cell), line, out)?;
-            Ok(field.told.standing_as(own_standing(field.by_ref, field.cell)))
+            Ok(
+                field
+                    .told
+                    .standing_as(own_standing(field.by_ref, field.cell)),
+            )
         }
         None => lower_own_member(class, name, line, names, out),
     }
@@ -485,9 +489,7 @@ fn lower_own_member(
     match names.member(class, name) {
         Some(routine) => {
             put(Op::Own, line, out)?;
-            Ok(names
-                .result(routine)
-                .standing_as(Standing::Member(routine)))
+            Ok(names.result(routine).standing_as(Standing::Member(routine)))
         }
         None => lower_item_name(name, line, names, out),
     }
@@ -646,9 +648,7 @@ fn lower_member_of(
             Ok(field.told)
         }
         None => match names.member(class, name) {
-            Some(routine) => Ok(names
-                .result(routine)
-                .standing_as(Standing::Member(routine))),
+            Some(routine) => Ok(names.result(routine).standing_as(Standing::Member(routine))),
             None => put_nothing(start, line, out),
         },
     }

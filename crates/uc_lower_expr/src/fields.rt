@@ -178,7 +178,12 @@ pub fn fields_of(
         fields: Vec::new(alloc),
         cells: u64::from(leading_cells(class.kind)),
     };
-    note_members(&mut table, sizes, sizes.held_by_class(place), &class.members)?;
+    note_members(
+        &mut table,
+        sizes,
+        sizes.held_by_class(place),
+        &class.members,
+    )?;
     Ok(table)
 }
 

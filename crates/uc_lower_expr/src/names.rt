@@ -28,11 +28,7 @@ fn standing_of(by_ref: bool, cell: u32) -> Standing
     }
 }
 
-pub(crate) fn variable_named(
-    out: &Draft,
-    names: &ProgramNames,
-    name: &Name,
-) -> Option<Variable>
+pub(crate) fn variable_named(out: &Draft, names: &ProgramNames, name: &Name) -> Option<Variable>
     ensures { MatchOption result (known_named out.now.names name.now ≡ None) (λ v. IsVariable names.now out.now.names name.now v) }
 {
     match out.find(name.bytes()) {

@@ -22,4 +22,3 @@ close_room = 40
 
 abbrev pub taken : Draft → ℕ
 taken d = length d.ops + close_room * objects_in d.marks
-

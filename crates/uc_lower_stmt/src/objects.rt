@@ -65,12 +65,7 @@ fn array_of(class: usize, length: Option<u32>, names: &ProgramNames) -> Option<A
 
 /// The call that cleans up an object of the class with this place, or each element of an array of this length, which begins in a
 /// spot.
-pub fn clean_call(
-    class: usize,
-    spot: Spot,
-    length: Option<u32>,
-    names: &ProgramNames,
-) -> ObjectCall
+pub fn clean_call(class: usize, spot: Spot, length: Option<u32>, names: &ProgramNames) -> ObjectCall
     requires { class < length (classes_of names.now.items) }
     ensures call { result ≡ call_by (routine_for names.now class role.Destructor) spot (array_by names.now class length) }
     ensures cleans { (place : Place) → BeginsAt place spot → Cleans (clean_up names.now class length place) result }
