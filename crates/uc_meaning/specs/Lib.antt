@@ -13,6 +13,7 @@ pub mod Answers
 pub mod Serves
 pub mod Executions
 pub mod Faults
+pub mod Switches
 pub mod Quiet
 pub mod Rides
 pub mod Reading

@@ -3,7 +3,7 @@ use Rattle.std.specs.Prelude.{◌≡◌, ℕ, zero, suc, ◌+◌, ◌-◌, ◌*�
 use Rattle.std.specs.Int.{int_rem_euclid}
 use Rattle.std.specs.Ordering.{int_eq}
 use Rattle.uc_tree.specs.declared.limits.TheConstants.{INT_MIN, INT_MAX, CHAR_VALUES, PRINT_ITEMS, CALLS}
-use Rattle.uc_tree.specs.Source.{Shape, Character, Truth, shape_cells, field_cells, Operator, Plus, Minus, Times, Over, Modulo, Equal, NotEqual, Less, AtMost, Greater, AtLeast, Expr, Literal, Variable, Element, Load, Negated, Not, AsCharacter, AsTruth, Operate, And, Or, Assign, Update, StepBehind, Fail, Get, Set, First, Call, OfObject, ObjectExpr, This, OwnField, GetOwn, FieldOf, Counted, CallOn, CallUnwritten, EnterOn, Wait, Signal, SignalBlock, IsEmpty, FrontOf, Exprs, NoExprs, MoreExprs, Item, Show, ShowText, Target, Declared, Order, TestFirst, BodyFirst, NoTest, Way, ToBreak, ToContinue, ToReturn, ToEnd, Stmt, Skip, Block, Evaluate, Declare, Print, PrintTogether, Read, If, Loop, Break, Continue, Return, Fill, OfEvents, OfTasks, CleanUp, Destroys, DestroysAll, Stmts, Nil, Then, Scoped, Built, Purpose, TaskMain, Procedure, Function, Builder, Routine, Source}
+use Rattle.uc_tree.specs.Source.{routine_of, Shape, Character, Truth, shape_cells, field_cells, Operator, Plus, Minus, Times, Over, Modulo, Equal, NotEqual, Less, AtMost, Greater, AtLeast, Expr, Literal, Variable, Element, Load, Negated, Not, AsCharacter, AsTruth, Operate, And, Or, Assign, Update, StepBehind, Fail, Get, Set, First, Call, OfObject, ObjectExpr, This, OwnField, GetOwn, FieldOf, Counted, CallOn, CallUnwritten, CallLive, EnterOn, Wait, Signal, SignalBlock, IsEmpty, FrontOf, Exprs, NoExprs, MoreExprs, Item, Show, ShowText, Target, Declared, Order, TestFirst, BodyFirst, NoTest, Way, ToBreak, ToContinue, ToReturn, ToEnd, Stmt, Skip, Block, Whole, Evaluate, Declare, Print, PrintTogether, Read, If, Loop, Break, Continue, Return, Fill, OfEvents, OfTasks, Raised, Plainly, BuiltIn, AgainFrom, EventStmt, Throw, Raise, Try, Handlers, NoHandlers, MoreHandlers, TaskStmt, Resume, Suspend, SetUp, UnwindIt, CleanUp, Destroys, DestroysAll, Unwinds, Forgets, Stmts, Nil, Then, Scoped, Built, Purpose, TaskMain, Procedure, Function, Builder, Routine, Source}
 use Rattle.uc_tree.specs.declared.kinds.ValueForm.{ValueForm}
 use Rattle.uc_tree.specs.ValueForms.{form_number}
 use Rattle.uc_meaning.specs.declared.exec.Exec.{Exec}
@@ -11,14 +11,19 @@ use Rattle.uc_meaning.specs.declared.exec.Home.TheVariants as home
 use Rattle.uc_meaning.specs.declared.exec.Owner.{Owner}
 use Rattle.uc_meaning.specs.declared.exec.Owner.TheVariants.{Frame}
 use Rattle.uc_meaning.specs.declared.fault.RunFault.{RunFault}
-use Rattle.uc_meaning.specs.declared.fault.RunFault.TheVariants.{Overflow, DivideByZero, Index, Depth, NoReturn}
+use Rattle.uc_meaning.specs.declared.fault.RunFault.TheVariants.{Overflow, DivideByZero, Index, Depth, NoReturn, EscapeInUnwind, NotLive}
 use Rattle.uc_meaning.specs.Faults.{fault_number}
 use Rattle.uc_meaning.specs.declared.request.TheConstants.{TEXT_FORM}
 use Rattle.uc_meaning.specs.declared.request.Piece.{Piece}
 use Rattle.uc_meaning.specs.declared.request.Request.{Request}
 use Rattle.uc_meaning.specs.declared.request.Request.TheVariants as ask
 use Rattle.uc_meaning.specs.Executions as exec
-use Rattle.uc_meaning.specs.Executions.{no_links, taken, begun, entered, returned, value_at, with_owned, value_changed, values_cleared}
+use Rattle.uc_meaning.specs.declared.exec.Stage.TheVariants.{Fresh}
+use Rattle.uc_meaning.specs.declared.exec.Reason.{Reason}
+use Rattle.uc_meaning.specs.declared.exec.Reason.TheVariants.{Event, ReturnTo, Destroyed}
+use Rattle.uc_meaning.specs.declared.exec.Visited.{Visited}
+use Rattle.uc_meaning.specs.Switches.{Moved, To, Stops, wake, suspend, finish, left, uncoro, forgotten, enlivened, alive, born, new_exec, escapes, is_own}
+use Rattle.uc_meaning.specs.Executions.{others, one_call_less, no_links, taken, begun, entered, returned, value_at, with_owned, value_changed, values_cleared}
 
 -- a step of a path: a variable of a frame, by the first of its cells; a field of a class; an element of an array of that shape
 pub data Link : Type 0 where
@@ -109,6 +114,28 @@ pub data Todo : Type 0 where
   Sweep : Expr → Todo
   -- what stands before builds an object, of which this part is built: only an event that leaves it cleans the part up (to come)
   Part : CleanUp → Todo
+  -- what stands before is the body of a constructor or a destructor
+  InWhole : Todo
+  -- a guarded block with its handlers
+  Guard : Handlers → Todo
+  -- all up to a handler, to the routine of a handler that returns, or to the end of an execution is left
+  Unwind : Todo
+  -- an event is thrown, or resumed: its number and its fields are the newest operands, the second field first
+  ThrowNow : Todo
+  RaiseNow : Todo
+  -- the object below the arguments of this routine is a coroutine that is live: its class has this shape
+  AliveNow : ℕ → Shape → Todo
+  -- the execution that is the newest operand is resumed; the last resumer goes on
+  ResumeNow : Todo
+  SuspendNow : Todo
+  -- here an execution stands that does not run: it goes on, or is unwound
+  Land : Todo
+  -- an execution is made for the object below, with this main, and written to the newest place; the newest operand is live, is
+  -- unwound, is gone
+  SetUpNow : ℕ → Todo
+  EnlivenNow : Todo
+  UncoroNow : Todo
+  ForgetNow : Todo
   -- the end of a main, which has a line
   Finish : Todo
 
@@ -121,6 +148,8 @@ pub data Sort : Type 0 where
   IsFill : ℕ → Expr → Expr → Sort
   IsSweep : Expr → Sort
   IsPart : CleanUp → Sort
+  IsWhole : Sort
+  IsGuard : Handlers → Sort
   IsFinish : Sort
 
 abbrev pub sort : Todo → Sort
@@ -129,6 +158,8 @@ sort (Clean c) = IsClean c
 sort (FillNow n b d) = IsFill n b d
 sort (Sweep e) = IsSweep e
 sort (Part c) = IsPart c
+sort InWhole = IsWhole
+sort (Guard hs) = IsGuard hs
 sort Finish = IsFinish
 sort _ = Simple
 
@@ -386,6 +417,7 @@ object_step (GetOwn k i) todo s = goes todo (loaded (further (FieldAt k i) s.run
 object_step Counted todo s = goes todo (Number (pos s.run.elements) ∷ s.run.operands) s
 object_step (FieldOf k i a) todo s = turns (Eval a ∷ (FieldNow k i ∷ todo)) s
 object_step (CallOn r a args) todo s = turns (Eval a ∷ (Arguments args ∷ (TickNow ∷ (CallOnNow r ∷ todo)))) s
+object_step (CallLive r k a args) todo s = turns (Eval a ∷ (Arguments args ∷ (TickNow ∷ (AliveNow r k ∷ (CallOnNow r ∷ todo))))) s
 object_step (CallUnwritten r a) todo s = turns (Eval a ∷ (CallUnwrittenNow r ∷ todo)) s
 -- to come
 object_step (EnterOn m r a args) todo s = goes todo (nought ∷ s.run.operands) s
@@ -439,12 +471,41 @@ loop_todo TestFirst t e b todo = test_todo TestFirst t e b todo
 loop_todo BodyFirst t e b todo = TurnNow BodyFirst t e b ∷ todo
 loop_todo NoTest t e b todo = TurnNow NoTest t e b ∷ todo
 
+-- clean-ups
+
+-- an object is destroyed; so are all elements of an array
+abbrev pub clean_todo : CleanUp → List Todo → List Todo
+clean_todo (Destroys e) todo = Eval e ∷ (DropNow ∷ todo)
+clean_todo (DestroysAll n e) todo = CountNow n ∷ (Sweep e ∷ todo)
+clean_todo (Unwinds e) todo = Eval e ∷ (UncoroNow ∷ todo)
+clean_todo (Forgets e) todo = Eval e ∷ (ForgetNow ∷ todo)
+
+-- a part is passed: a coroutine whose construction ends is live
+abbrev pub passed_todo : CleanUp → List Todo → List Todo
+passed_todo (Destroys e) todo = todo
+passed_todo (DestroysAll n e) todo = todo
+passed_todo (Unwinds e) todo = Eval e ∷ (EnlivenNow ∷ todo)
+passed_todo (Forgets e) todo = todo
+
 -- exits
 
 -- the end of an activation: a return hands over the newest operand, all others 0
+-- a return from a resumption handler unwinds all from the raise on, up to the call of the routine in which the handler stands
+abbrev pub return_past : Visited → Value → List Active → State → Step
+return_past v given [] s = Asks ask.End s
+return_past v given (c ∷ cs) s = Goes (record {
+  run = record c { control = Unwind ∷ c.control; operands = []; raised = Some (ReturnTo v.home); result = given };
+  callers = cs;
+  env = record s.env { frames = others s.env.frames };
+})
+
+abbrev pub value_step : Option Visited → Value → State → Step
+value_step None given s = return_step given s.callers s
+value_step (Some v) given s = return_past v given s.callers s
+
 abbrev pub end_step : Way → State → Step
-end_step ToReturn s = return_step (top s.run.operands) s.callers s
-end_step ToEnd s = return_step nought s.callers s
+end_step ToReturn s = value_step s.run.handles (top s.run.operands) s
+end_step ToEnd s = value_step s.run.handles nought s
 end_step ToBreak s = return_step nought s.callers s
 end_step ToContinue s = return_step nought s.callers s
 
@@ -463,7 +524,9 @@ left_behind w (IsLoop o t s b) todo = loop_left w o t s b todo
 left_behind w (IsClean c) todo = Clean c ∷ (Exit w ∷ todo)
 left_behind w (IsFill n b d) todo = Exit w ∷ todo
 left_behind w (IsSweep e) todo = Exit w ∷ todo
-left_behind w (IsPart c) todo = Exit w ∷ todo
+left_behind w (IsPart c) todo = passed_todo c (Exit w ∷ todo)
+left_behind w IsWhole todo = todo
+left_behind w (IsGuard hs) todo = Exit w ∷ todo
 left_behind w IsFinish todo = Finish ∷ todo
 
 -- an exit leaves the pieces one by one
@@ -491,15 +554,196 @@ abbrev pub sweep_step : ℕ → Expr → List Todo → State → Step
 sweep_step zero e todo s = turns todo s
 sweep_step (suc n) e todo s = turns (Eval e ∷ (DropNow ∷ (Sweep e ∷ todo))) (with_elements n s)
 
--- an object is destroyed; so are all elements of an array
-abbrev pub clean_todo : CleanUp → List Todo → List Todo
-clean_todo (Destroys e) todo = Eval e ∷ (DropNow ∷ todo)
-clean_todo (DestroysAll n e) todo = CountNow n ∷ (Sweep e ∷ todo)
+-- events
+
+-- a switch, or a fault in this state
+abbrev pub moves : Moved (List Todo) Value → State → Step
+moves (To t) s = Goes t
+moves (Stops f) s = Asks (ask.Fault (fault_number f)) s
+
+-- an event that is raised: its number and its fields
+abbrev pub raised_todo : Raised → List Todo → List Todo
+raised_todo (Plainly n) todo = Eval (Literal (pos n)) ∷ (Eval (Literal (pos 0)) ∷ (Eval (Literal (pos 0)) ∷ todo))
+raised_todo (BuiltIn n k e) todo = ClearNow k 2 ∷ (Eval e ∷ (DropNow ∷ (Eval (Literal (pos n)) ∷ (Eval (Get k) ∷ (Eval (Get (k + 1)) ∷ todo)))))
+raised_todo (AgainFrom k) todo = Eval (Get k) ∷ (Eval (Get (k + 1)) ∷ (Eval (Get (k + 2)) ∷ todo))
+
+abbrev pub event_stmt_step : EventStmt → List Todo → State → Step
+event_stmt_step (Throw line r) todo s = turns (raised_todo r (ThrowNow ∷ (Within line ∷ todo))) s
+event_stmt_step (Raise line r) todo s = turns (raised_todo r (RaiseNow ∷ (Within line ∷ todo))) s
+event_stmt_step (Try line body hs) todo s = turns (Rest body ∷ (Guard hs ∷ (Within line ∷ todo))) s
+event_stmt_step a todo s = turns todo s
+
+abbrev pub task_stmt_step : TaskStmt → List Todo → State → Step
+task_stmt_step (Resume line e) todo s = turns (Eval e ∷ (ResumeNow ∷ (Within line ∷ todo))) s
+task_stmt_step (Suspend line) todo s = turns (SuspendNow ∷ (Within line ∷ todo)) s
+task_stmt_step (SetUp r a b) todo s = turns (Eval a ∷ (Eval b ∷ (SetUpNow r ∷ todo))) s
+task_stmt_step (UnwindIt e) todo s = turns (Eval e ∷ (UncoroNow ∷ todo)) s
+task_stmt_step a todo s = turns todo s
+
+-- whether a handler takes an event
+abbrev pub takes : Option ℕ → ℤ → Bool
+takes None e = true
+takes (Some k) e = int_eq (pos k) e
+
+-- a handler: where it keeps its event, the line of its block, and its body
+pub record Chosen : Type 0 where
+  pub cell : ℕ
+  pub line : ℕ
+  pub body : Stmts
+
+abbrev pub same_kind : Bool → Bool → Bool
+same_kind true b = b
+same_kind false b = if b then false else true
+
+-- the first handler of this kind that takes an event
+abbrev pub handler_for : Bool → ℤ → Handlers → Option Chosen
+handler_for kind e NoHandlers = None
+handler_for kind e (MoreHandlers resumes event cell line body rest) =
+    if same_kind kind resumes && takes event e then Some (record { cell = cell; line = line; body = body }) else handler_for kind e rest
+
+-- three cells from the k-th on of a frame
+abbrev pub kept : ℕ → ℤ → ℤ → ℤ → List Value → List Value
+kept k e x y vs = value_changed (k + 2) (λ v. Number y) nought (value_changed (k + 1) (λ v. Number x) nought (value_changed k (λ v. Number e) nought vs))
+
+abbrev pub with_kept : ℕ → ℕ → ℤ → ℤ → ℤ → State → Env
+with_kept depth k e x y s = with_owned (Frame s.env.exec depth) (kept k e x y) s.env
+
+-- the handler that stops an unwinding; no guarded block stops a return or the destruction of a coroutine
+abbrev pub catches : Handlers → Option Reason → Option Chosen
+catches hs (Some (Event e x y)) = handler_for false (pos e) hs
+catches hs r = None
+
+abbrev pub catch_step : Option Chosen → Option Reason → List Todo → State → Step
+catch_step (Some t) (Some (Event e x y)) todo s = Goes (record s {
+  run = record s.run { control = Rest t.body ∷ (Within t.line ∷ todo); operands = []; raised = None };
+  env = with_kept s.run.frame t.cell (pos e) x y s;
+})
+catch_step t r todo s = goes (Unwind ∷ todo) [] s
+
+-- whether an unwinding leads to the activation with so many below it
+abbrev pub arrives : Option Reason → ℕ → Bool
+arrives (Some (ReturnTo n)) k = nat_eq n k
+arrives r k = false
+
+-- it comes to the end of the body of a constructor or a destructor: a return to it is over there
+abbrev pub whole_left : Bool → List Todo → State → Step
+whole_left true todo s = Goes (record s { run = record s.run { control = todo; operands = []; raised = None } })
+whole_left false todo s = goes (Unwind ∷ todo) [] s
+
+-- an unwinding comes to the end of a main: a return ends it
+abbrev pub main_left : Option Reason → List Todo → State → Step
+main_left (Some (ReturnTo n)) todo s = Goes (record s { run = record s.run { control = Finish ∷ todo; operands = []; raised = None } })
+main_left r todo s = moves (left r (at todo [] s)) s
+
+-- an unwinding leaves the pieces one by one
+abbrev pub unwind_past : Sort → List Todo → State → Step
+unwind_past (IsClean c) todo s = goes (clean_todo c (Unwind ∷ todo)) [] s
+unwind_past (IsFill n b d) todo s = goes (Sweep d ∷ (Unwind ∷ todo)) [] s
+unwind_past (IsSweep e) todo s = goes (Sweep e ∷ (Unwind ∷ todo)) [] s
+unwind_past (IsPart c) todo s = goes (clean_todo c (Unwind ∷ todo)) [] s
+unwind_past IsWhole todo s = whole_left (arrives s.run.raised (length s.callers)) todo s
+unwind_past (IsGuard hs) todo s = catch_step (catches hs s.run.raised) s.run.raised todo s
+unwind_past IsFinish todo s = main_left s.run.raised todo s
+unwind_past o todo s = goes (Unwind ∷ todo) [] s
+
+-- it leaves an activation: where that below is unwound already, an event has escaped from a clean-up
+abbrev pub escape_step : Bool → Active → List Active → State → Step
+escape_step true c cs s = Asks (ask.Fault (fault_number EscapeInUnwind)) s
+escape_step false c cs s = Goes (record {
+  run = record c { control = Unwind ∷ c.control; operands = []; raised = s.run.raised; result = s.run.result };
+  callers = cs;
+  env = record s.env { frames = others s.env.frames; links = one_call_less s.run.counts s.env.links };
+})
+
+abbrev pub leave_step : List Active → State → Step
+leave_step [] s = Asks ask.End s
+leave_step (c ∷ cs) s =
+    if arrives s.run.raised (length (c ∷ cs))
+    then return_step s.run.result (c ∷ cs) s
+    else escape_step (escapes s.run.raised c.raised) c cs s
+
+abbrev pub unwind_step : List Todo → State → Step
+unwind_step [] s = leave_step s.callers s
+unwind_step (p ∷ ps) s = unwind_past (sort p) ps s
+
+abbrev pub nat_of : ℤ → ℕ
+nat_of (pos n) = n
+nat_of (negsuc n) = 0
+
+abbrev pub throw_step : ℤ → ℤ → ℤ → List Todo → State → Step
+throw_step e x y todo s = Goes (record s { run = record s.run { control = Unwind ∷ todo; operands = []; raised = Some (Event (nat_of e) x y) } })
+
+-- the search for a resumption handler
+
+-- how many guarded blocks there are, and what is left with so many of them
+abbrev pub guards_by : Sort → ℕ → ℕ
+guards_by (IsGuard hs) n = suc n
+guards_by o n = n
+
+abbrev pub guards : List Todo → ℕ
+guards [] = 0
+guards (p ∷ ps) = guards_by (sort p) (guards ps)
+
+abbrev pub past : ℕ → List Todo → List Todo
+past n [] = []
+past n (p ∷ ps) = if nat_eq (guards (p ∷ ps)) n then p ∷ ps else past n ps
+
+-- a handler that was found, and how many guarded blocks stand outwards of its own
+pub record Hit : Type 0 where
+  pub what : Chosen
+  pub rest : ℕ
+
+abbrev pub hit_or : Option Chosen → ℕ → Option Hit → Option Hit
+hit_or None n other = other
+hit_or (Some t) n other = Some (record { what = t; rest = n })
+
+abbrev pub find_by : Sort → ℕ → ℤ → Option Hit → Option Hit
+find_by (IsGuard hs) n e other = hit_or (handler_for true e hs) n other
+find_by o n e other = other
+
+abbrev pub find_in : List Todo → ℤ → Option Hit
+find_in [] e = None
+find_in (p ∷ ps) e = find_by (sort p) (guards ps) e (find_in ps e)
+
+-- the handler of a resumption, how far the search came, and what the handler uses: an object and a frame
+pub record Found : Type 0 where
+  pub handler : Chosen
+  pub visited : Visited
+  pub this : Value
+  pub frame : ℕ
+
+-- how many wait below the call to which an activation belongs
+abbrev pub home_of : Option Visited → ℕ → ℕ
+home_of None n = n
+home_of (Some v) n = v.home
+
+abbrev pub look : Option Hit → Active → List Active → Option Found → Option Found
+look None c cs other = other
+look (Some h) c cs other = Some (record { handler = h.what; visited = record { level = length cs; rest = h.rest; home = home_of c.handles (length cs) }; this = c.this; frame = c.frame })
+
+-- over the activations outwards; behind one that handles a resumption all is passed over that its search has visited
+abbrev pub seek : Option Visited → ℤ → List Active → Option Found
+seek o e [] = None
+seek None e (c ∷ cs) = look (find_in c.control e) c cs (seek c.handles e cs)
+seek (Some v) e (c ∷ cs) =
+    if nat_eq (length cs) v.level
+    then look (find_in (past v.rest c.control) e) c cs (seek c.handles e cs)
+    else seek (Some v) e cs
+
+-- the handler runs on top, with the variables of its routine; without one the event is thrown
+abbrev pub raise_step : Option Found → ℤ → ℤ → ℤ → List Todo → State → Step
+raise_step None e x y todo s = throw_step e x y todo s
+raise_step (Some t) e x y todo s = Goes (record {
+  run = record (begun (Rest t.handler.body ∷ (Within t.handler.line ∷ [])) t.this t.frame Nothing false) { handles = Some t.visited };
+  callers = record s.run { control = DropNow ∷ todo; operands = below (below (below s.run.operands)) } ∷ s.callers;
+  env = record (with_kept t.frame t.handler.cell e x y s) { frames = [] ∷ (with_kept t.frame t.handler.cell e x y s).frames };
+})
 
 -- to do a statement
 abbrev pub stmt_step : Stmt → List Todo → State → Step
 stmt_step (Skip line) todo s = turns todo s
 stmt_step (Block line body) todo s = turns (Rest body ∷ (Within line ∷ todo)) s
+stmt_step (Whole line body) todo s = turns (Rest body ∷ (InWhole ∷ (Within line ∷ todo))) s
 stmt_step (Evaluate line a) todo s = turns (Eval a ∷ (DropNow ∷ (Within line ∷ todo))) s
 stmt_step (Declare line ds) todo s = turns (Variables ds ∷ (Within line ∷ todo)) s
 stmt_step (Print line items) todo s = turns (Items items ∷ (Within line ∷ todo)) s
@@ -513,9 +757,8 @@ stmt_step (Continue line) todo s = turns (Exit ToContinue ∷ todo) s
 stmt_step (Return line None) todo s = turns (Exit ToEnd ∷ todo) s
 stmt_step (Return line (Some e)) todo s = turns (Eval e ∷ (Exit ToReturn ∷ (Within line ∷ todo))) s
 stmt_step (Fill line n b d) todo s = turns (CountNow 0 ∷ (FillNow n b d ∷ (Within line ∷ todo))) s
--- to come
-stmt_step (OfEvents a) todo s = turns todo s
-stmt_step (OfTasks a) todo s = turns todo s
+stmt_step (OfEvents a) todo s = event_stmt_step a todo s
+stmt_step (OfTasks a) todo s = task_stmt_step a todo s
 
 -- to do the statements that are left of a block
 abbrev pub rest_step : Stmts → List Todo → State → Step
@@ -567,6 +810,36 @@ abbrev pub call_unwritten_step : Option Routine → List Todo → State → Step
 call_unwritten_step None todo s = Asks ask.End (at todo s.run.operands s)
 call_unwritten_step (Some r) todo s =
     begun_step r (top (drop r.params s.run.operands)) false todo (below (drop r.params s.run.operands)) s
+
+-- coroutines
+
+abbrev pub exec_in : Value → Option Exec
+exec_in (Running n) = Some n
+exec_in v = None
+
+abbrev pub land_step : Option Reason → List Todo → State → Step
+land_step None todo s = turns todo s
+land_step (Some r) todo s = goes (Unwind ∷ todo) [] s
+
+-- an execution for this object, whose main has not begun
+abbrev pub fresh : Value → Routine → exec.Execution (List Todo) Value
+fresh this r = record { run = begun (routine_todo r) this 0 Nothing false; callers = []; frames = replicate r.cells nought ∷ []; links = record no_links { stage = Fresh } }
+
+abbrev pub set_up_step : Routine → List Todo → State → Step
+set_up_step r todo s =
+    goes todo (below (below s.run.operands)) (in_env (written (top s.run.operands) (Running (new_exec s.env)) (born (fresh (top (below s.run.operands)) r) s.env)) s)
+
+-- a coroutine is live, as far as what its place holds tells
+abbrev pub alive_step : Option Routine → Shape → List Todo → State → Step
+alive_step None k todo s = turns todo s
+alive_step (Some r) k todo s =
+    if alive (exec_in (loaded (further (FieldAt k 0) (top (drop r.params s.run.operands))) s.env)) s.env
+    then turns todo s
+    else fault NotLive todo s.run.operands s
+
+-- the end of a main: of a task, which asks for its end, or of a coroutine
+abbrev pub finish_step : List Todo → State → Step
+finish_step todo s = if is_own s.env then return_step nought s.callers s else moves (finish (at todo [] s)) s
 
 -- the next step in a source, by what is to do
 module _ (source : Source) where
@@ -630,8 +903,21 @@ module _ (source : Source) where
   act (InLoop o t e b) todo s = turns (step_todo e (test_todo o t e b todo)) s
   act (Clean c) todo s = turns (clean_todo c todo) s
   act (Sweep e) todo s = sweep_step s.run.elements e todo s
-  act (Part c) todo s = turns todo s
-  act Finish todo s = return_step nought s.callers s
+  act (Part c) todo s = turns (passed_todo c todo) s
+  act Finish todo s = finish_step todo s
+  act InWhole todo s = turns todo s
+  act (Guard hs) todo s = turns todo s
+  act Unwind todo s = unwind_step todo s
+  act ThrowNow todo s = throw_step (number (top (below (below s.run.operands)))) (number (top (below s.run.operands))) (number (top s.run.operands)) todo s
+  act RaiseNow todo s = raise_step (seek None (number (top (below (below s.run.operands)))) (record s.run { control = todo } ∷ s.callers)) (number (top (below (below s.run.operands)))) (number (top (below s.run.operands))) (number (top s.run.operands)) todo s
+  act (AliveNow r k) todo s = alive_step (slice_get source.routines r) k todo s
+  act ResumeNow todo s = moves (wake (exec_in (top s.run.operands)) (at (Land ∷ todo) (below s.run.operands) s)) s
+  act SuspendNow todo s = moves (suspend (at (Land ∷ todo) s.run.operands s)) s
+  act Land todo s = land_step s.run.raised todo s
+  act (SetUpNow r) todo s = set_up_step (routine_of source r) todo s
+  act EnlivenNow todo s = goes todo (below s.run.operands) (in_env (enlivened (exec_in (top s.run.operands)) s.env) s)
+  act UncoroNow todo s = moves (uncoro (exec_in (top s.run.operands)) (at todo (below s.run.operands) s)) s
+  act ForgetNow todo s = goes todo (below s.run.operands) (in_env (forgotten (exec_in (top s.run.operands)) s.env) s)
 
   abbrev pub act_todo : List Todo → State → Step
   act_todo [] s = return_step nought s.callers s

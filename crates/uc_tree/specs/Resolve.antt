@@ -1,6 +1,6 @@
 -- What a program's expressions and statements stand for: names and types are looked up here and nowhere else.
 -- Every tree stands for something; what breaks a rule of the language stands for a default.
-use Rattle.std.specs.Prelude.{ℕ, suc, ◌+◌, ℤ, pos, List, [], ◌∷◌, ◌++◌, length, slice_get, codes, Bool, true, false, ◌&&◌, Option, Some, None, nat_eq, if◌then◌else◌}
+use Rattle.std.specs.Prelude.{ℕ, suc, ◌+◌, ℤ, pos, List, [], ◌∷◌, ◌++◌, length, unwrap_or, slice_get, codes, Bool, true, false, ◌&&◌, Option, Some, None, nat_eq, if◌then◌else◌}
 use Rattle.uc_tree.specs.declared.kinds.Base.{Base}
 use Rattle.uc_tree.specs.declared.kinds.Base.TheVariants as base
 use Rattle.uc_tree.specs.declared.kinds.Ty.{Ty}
@@ -10,6 +10,8 @@ use Rattle.uc_tree.specs.declared.kinds.Owner.TheVariants as owner
 use Rattle.uc_tree.specs.declared.kinds.Role.{Role}
 use Rattle.uc_tree.specs.declared.kinds.Role.TheVariants as role
 use Rattle.uc_tree.specs.declared.kinds.Param.{Param}
+use Rattle.uc_tree.specs.declared.kinds.HandlerKind.{HandlerKind}
+use Rattle.uc_tree.specs.declared.kinds.HandlerKind.TheVariants as handler_kind
 use Rattle.uc_tree.specs.declared.ops.UnaryOp.{UnaryOp}
 use Rattle.uc_tree.specs.declared.ops.UnaryOp.TheVariants as unary
 use Rattle.uc_tree.specs.declared.ops.BinaryOp.{BinaryOp}
@@ -23,14 +25,14 @@ use Rattle.uc_tree.specs.Constants.{truth_value, constants_of, constant_named, v
 use Rattle.uc_tree.specs.Expressions as expr
 use Rattle.uc_tree.specs.Statements as stmt
 use Rattle.uc_tree.specs.Programs as whole
-use Rattle.uc_tree.specs.Cells.{classes_of, class_cells, declared_cells, param_cells, params_cells, stmt_cells, routine_cells, leading_cells, seen_in}
+use Rattle.uc_tree.specs.Cells.{classes_of, class_cells, declared_cells, param_cells, params_cells, stmt_cells, stmts_cells, routine_cells, leading_cells, seen_in}
 use Rattle.uc_tree.specs.Gathered.{gathered, gathered_all}
-use Rattle.uc_tree.specs.Numbering.{is_event, is_plain, Defined, routines_of, own_texts, own_sites, sites_of, texts_of}
-use Rattle.uc_tree.specs.Objects.{class_at, number_at, place_of, plain_class, ClassField, fields_of, shape_of, class_shape, base_shape, member_from, written_at, Unwritten, unwritten_of, unwritten_number}
+use Rattle.uc_tree.specs.Numbering.{is_event, event_number, main_name, is_plain, Defined, routines_of, own_texts, own_sites, sites_of, texts_of}
+use Rattle.uc_tree.specs.Objects.{is_constructor, class_at, number_at, place_of, plain_class, ClassField, fields_of, shape_of, class_shape, base_shape, member_from, written_at, Unwritten, unwritten_of, unwritten_number}
 use Rattle.uc_tree.specs.ProgramMain.{is_void, main_number}
 use Rattle.uc_tree.specs.declared.kinds.ValueForm.{ValueForm}
 use Rattle.uc_tree.specs.declared.kinds.ValueForm.TheVariants as value_form
-use Rattle.uc_tree.specs.Source.{Shape, Character, Truth, Order, TestFirst, BodyFirst, NoTest, Operator, Plus, Minus, Times, Over, Modulo, Equal, NotEqual, Less, AtMost, Greater, AtLeast, Expr, Literal, Variable, Element, Get, Load, Negated, Not, AsCharacter, AsTruth, Operate, And, Or, Set, Assign, First, Update, StepBehind, Fail, Call, OfObject, This, OwnField, GetOwn, FieldOf, Counted, CallOn, CallUnwritten, Exprs, NoExprs, MoreExprs, Item, Show, ShowText, Target, Declared, CleanUp, Destroys, DestroysAll, Stmt, Skip, Block, Evaluate, Declare, Print, PrintTogether, Read, If, Loop, Break, Continue, Return, Fill, Stmts, Nil, Then, Scoped, Built, Purpose, TaskMain, Procedure, Function, Builder, Routine, Class, Source}
+use Rattle.uc_tree.specs.Source.{Shape, Character, Truth, Order, TestFirst, BodyFirst, NoTest, Operator, Plus, Minus, Times, Over, Modulo, Equal, NotEqual, Less, AtMost, Greater, AtLeast, Expr, Literal, Variable, Element, Get, Load, Negated, Not, AsCharacter, AsTruth, Operate, And, Or, Set, Assign, First, Update, StepBehind, Fail, Call, OfObject, This, OwnField, GetOwn, FieldOf, Counted, CallOn, CallUnwritten, CallLive, Exprs, NoExprs, MoreExprs, Item, Show, ShowText, Target, Declared, CleanUp, Destroys, DestroysAll, Unwinds, Forgets, Stmt, Skip, Block, Whole, Evaluate, Declare, Print, PrintTogether, Read, If, Loop, Break, Continue, Return, Fill, OfEvents, OfTasks, Raised, Plainly, BuiltIn, AgainFrom, EventStmt, Throw, Raise, Try, Handlers, NoHandlers, MoreHandlers, TaskStmt, Resume, Suspend, SetUp, UnwindIt, Stmts, Nil, Then, Scoped, Built, Purpose, TaskMain, Procedure, Function, Builder, Routine, Class, Source}
 
 -- types
 
@@ -64,6 +66,7 @@ pub data Standing : Type 0 where
   AsFail : Standing
   AsRoutine : ℕ → Standing
   AsMember : ℕ → Standing
+  AsLiveMember : ℕ → Shape → Standing
   AsCondition : ℕ → Standing
   AsEvent : ℕ → Standing
   AsNothing : Standing
@@ -91,6 +94,7 @@ value_by AsInput e = e
 value_by AsFail e = e
 value_by (AsRoutine r) e = e
 value_by (AsMember r) e = e
+value_by (AsLiveMember r s) e = e
 value_by (AsCondition k) e = e
 value_by (AsEvent k) e = e
 value_by AsNothing e = e
@@ -130,7 +134,7 @@ is_named s name = is_here s.owner && (is_plain s.role && same_name s.name name)
 -- the number of the first routine of that name among those with bodies outside of classes
 abbrev pub routine_from : List Defined → ℕ → List ℕ → Option ℕ
 routine_from [] r name = None
-routine_from (d ∷ ds) r name = if is_named d.routine.sig name then Some r else routine_from ds (suc r) name
+routine_from (d ∷ ds) r name = if nat_eq d.number 0 && is_named d.routine.sig name then Some r else routine_from ds (suc r) name
 
 abbrev pub params_in : Option Defined → List Param
 params_in None = []
@@ -210,13 +214,24 @@ field_by_ref true s i whose ty = record { expr = field_held s i whose; ty = ty; 
 abbrev pub field_found : whole.Program → whole.Class → ℕ → Whose → NumberedField → Meant
 field_found p c i whose f = field_by_ref f.field.declarator.by_ref (class_shape p i) f.number whose (field_type p c f.field)
 
-abbrev pub method_by : whole.Program → Whose → Option ℕ → Meant
-method_by p whose None = no_meaning
-method_by p whose (Some r) = record { expr = object_of_whose whose; ty = scalar (result_of p r); standing = AsMember r }
+abbrev pub is_coroutine_in : Option whole.Class → Bool
+is_coroutine_in None = false
+is_coroutine_in (Some c) = nat_eq (leading_cells c.kind) 1
+
+abbrev pub is_coroutine_at : whole.Program → ℕ → Bool
+is_coroutine_at p i = is_coroutine_in (class_at p i)
+
+abbrev pub member_standing : whole.Program → ℕ → Whose → ℕ → Standing
+member_standing p i Own r = AsMember r
+member_standing p i (Of object) r = if is_coroutine_at p i then AsLiveMember r (class_shape p i) else AsMember r
+
+abbrev pub method_by : whole.Program → ℕ → Whose → Option ℕ → Meant
+method_by p i whose None = no_meaning
+method_by p i whose (Some r) = record { expr = object_of_whose whose; ty = scalar (result_of p r); standing = member_standing p i whose r }
 
 -- a member's routine stands inside or outside of its class
 abbrev pub method_meant : whole.Program → ℕ → Whose → List ℕ → Meant
-method_meant p i whose name = method_by p whose (member_from (routines_of p) 0 (number_at p i) name)
+method_meant p i whose name = method_by p i whose (member_from (routines_of p) 0 (number_at p i) name)
 
 abbrev pub member_by : whole.Program → whole.Class → ℕ → Whose → List ℕ → Option NumberedField → Meant
 member_by p c i whose name None = method_meant p i whose name
@@ -241,8 +256,8 @@ own_meant p None name = item_meant p name
 own_meant p (Some i) name = meant_or (member_meant p i Own name).standing (member_meant p i Own name) (item_meant p name)
 
 -- a local hides what its class and the program have under its name
-abbrev pub name_meant : whole.Program → ℕ → List ℕ → Option Known → Meant
-name_meant p class name None = own_meant p (place_of p class) name
+abbrev pub name_meant : whole.Program → Option ℕ → List ℕ → Option Known → Meant
+name_meant p class name None = own_meant p class name
 name_meant p class name (Some k) = known_meant k
 
 -- operators
@@ -307,9 +322,22 @@ abbrev pub object_member : whole.Program → Option ℕ → Expr → List ℕ �
 object_member p None object name = no_meaning
 object_member p (Some i) object name = member_meant p i (Of object) name
 
--- an array has no members
+-- the event that a base names, by its place among the classes
+abbrev pub event_from : List whole.Class → ℕ → List ℕ → Option ℕ
+event_from [] i name = None
+event_from (c ∷ cs) i name = if same_name c.name name then (if is_event c.kind then Some i else None) else event_from cs (i + 1) name
+
+abbrev pub event_place : whole.Program → Base → Option ℕ
+event_place p (base.Named name) = event_from (classes_of p.items) 0 name
+event_place p b = None
+
+abbrev pub either : Option ℕ → Option ℕ → Option ℕ
+either None o = o
+either (Some i) o = Some i
+
+-- an array has no members; a handler's parameter has the fields of its event
 abbrev pub place_member : whole.Program → Option ℕ → Meant → List ℕ → Meant
-place_member p None root name = object_member p (plain_class p root.ty.base) root.expr name
+place_member p None root name = object_member p (either (plain_class p root.ty.base) (event_place p root.ty.base)) root.expr name
 place_member p (Some n) root name = no_meaning
 
 -- a field or a member of what the root stands for. Members of mutex types are to come
@@ -338,6 +366,7 @@ abbrev pub call_by : whole.Program → Standing → Meant → List Meant → Mea
 call_by p AsFail root args = value_meant Fail bool_type
 call_by p (AsRoutine r) root args = value_meant (Call r (args_by (params_of p r) args)) root.ty
 call_by p (AsMember r) root args = value_meant (OfObject (CallOn r root.expr (args_by (params_of p r) args))) root.ty
+call_by p (AsLiveMember r s) root args = value_meant (OfObject (CallLive r s root.expr (args_by (params_of p r) args))) root.ty
 -- to come
 call_by p _ root args = no_meaning
 
@@ -368,7 +397,7 @@ step_meant step.Decrement m = stepped Minus m
 -- names in scope, from the outermost on
 pub record Context : Type 0 where
   pub program : whole.Program
-  pub class : ℕ
+  pub class : Option ℕ
   pub routine : ℕ
   pub names : List Known
 
@@ -416,9 +445,13 @@ module _ (c : Context) where
 -- where a statement stands: in which class and routine, the names in scope, from the outermost on, and what stands before it:
 -- cells of its routine, text literals and accept statements of the program
 pub record Scope : Type 0 where
-  pub class : ℕ
+  pub class : Option ℕ
   pub routine : ℕ
   pub names : List Known
+  -- where the innermost handler keeps its event
+  pub handled : ℕ
+  -- the cells before those of what stands here: of variables, and hidden ones, which lie behind all variables
+  pub hidden : ℕ
   pub cells : ℕ
   pub texts : ℕ
   pub sites : ℕ
@@ -482,6 +515,57 @@ build p line i (Some n) place args = Fill line n (constructed p i (counted_eleme
 abbrev pub clean_up : whole.Program → ℕ → Option ℕ → Expr → CleanUp
 clean_up p i None place = Destroys (destroyed p i place)
 clean_up p i (Some n) place = DestroysAll n (destroyed p i (counted_element p i n place))
+
+-- events
+
+-- the number of the constructor of the event of this name, where one is written
+abbrev pub event_builder_from : List Defined → ℕ → List ℕ → Option ℕ
+event_builder_from [] r name = None
+event_builder_from (d ∷ ds) r name = if nat_eq d.number 0 && (is_constructor d.routine.sig.role && same_name d.routine.sig.name name) then Some r else event_builder_from ds (suc r) name
+
+abbrev pub event_builder : whole.Program → List ℕ → Option ℕ
+event_builder p name = event_builder_from (routines_of p) 0 name
+
+-- hidden cells of a routine: two for each event that is built where it is raised, three for each handler
+
+abbrev pub raised_cells : Option stmt.Raised → ℕ
+raised_cells None = 0
+raised_cells (Some r) = 2
+
+abbrev mutual
+  pub hidden_in : stmt.Stmt → ℕ
+  hidden_in (stmt.Block pos body) = hidden_in_all body
+  hidden_in (stmt.If pos test chosen other) = hidden_in chosen + hidden_in_maybe other
+  hidden_in (stmt.While pos test body) = hidden_in body
+  hidden_in (stmt.Do pos body test) = hidden_in body
+  hidden_in (stmt.For pos start test step body) = hidden_in body
+  hidden_in (stmt.Try pos brace body hs) = hidden_in_all body + hidden_in_handlers hs
+  hidden_in (stmt.Throw pos raised) = raised_cells raised
+  hidden_in (stmt.Raise pos raised) = raised_cells raised
+  hidden_in _ = 0
+
+  pub hidden_in_all : stmt.Stmts → ℕ
+  hidden_in_all stmt.NoStmts = 0
+  hidden_in_all (stmt.MoreStmts first rest) = hidden_in first + hidden_in_all rest
+
+  pub hidden_in_maybe : stmt.MaybeStmt → ℕ
+  hidden_in_maybe stmt.NoStmt = 0
+  hidden_in_maybe (stmt.OneStmt body) = hidden_in body
+
+  pub hidden_in_handler : stmt.Handler → ℕ
+  hidden_in_handler (stmt.Handles pos kind event param brace body) = 3 + hidden_in_all body
+
+  pub hidden_in_handlers : stmt.Handlers → ℕ
+  hidden_in_handlers stmt.NoHandlers = 0
+  hidden_in_handlers (stmt.MoreHandlers first rest) = hidden_in_handler first + hidden_in_handlers rest
+
+abbrev pub takes_resumptions : HandlerKind → Bool
+takes_resumptions handler_kind.Catch = false
+takes_resumptions handler_kind.CatchResume = true
+
+abbrev pub handled_event : whole.Program → Option (List ℕ) → Option ℕ
+handled_event p None = None
+handled_event p (Some name) = Some (unwrap_or (event_number p name) 0)
 
 -- what statements of a program stand for
 module _ (p : whole.Program) where
@@ -549,6 +633,7 @@ module _ (p : whole.Program) where
   abbrev pub scope_after : stmt.Stmt → Scope → Scope
   scope_after t s = record s {
     names = names_behind t s;
+    hidden = s.hidden + hidden_in t;
     cells = s.cells + stmt_cells t (declared_cells p);
     texts = s.texts + length (gathered own_texts t);
     sites = s.sites + length (gathered (own_sites None 0) t);
@@ -557,6 +642,35 @@ module _ (p : whole.Program) where
   abbrev pub scope_behind : stmt.Stmts → Scope → Scope
   scope_behind stmt.NoStmts s = s
   scope_behind (stmt.MoreStmts first rest) s = scope_behind rest (scope_after first s)
+
+  abbrev pub built_event : Scope → ℕ → Option ℕ → List Meant → Raised
+  built_event s event None args = Plainly event
+  built_event s event (Some r) args = BuiltIn event s.hidden (OfObject (CallOn r (Variable s.hidden) (args_by (params_of p r) args)))
+
+  abbrev pub raised_meant : Scope → Option stmt.Raised → Raised
+  raised_meant s None = AgainFrom s.handled
+  raised_meant s (Some r) = built_event s (unwrap_or (event_number p r.name) 0) (event_builder p r.name) (args_meant (context_at s) r.args)
+
+  -- a handler's parameter names the fields of the event that it keeps
+  abbrev pub with_event : Option (List ℕ) → Option (List ℕ) → Scope → Scope
+  with_event None event s = s
+  with_event (Some name) None s = s
+  with_event (Some name) (Some event) s = record s { names = s.names ++ record { name = name; ty = scalar (base.Named event); cell = s.hidden + 1 } ∷ [] }
+
+  -- where the body of a handler stands, and behind it
+  abbrev pub in_handler : stmt.Handler → Scope → Scope
+  in_handler (stmt.Handles pos kind event param brace body) s = record (with_event param event s) { handled = s.hidden; hidden = s.hidden + 3 }
+
+  abbrev pub past_stmts : stmt.Stmts → Scope → Scope
+  past_stmts body s = record s {
+    hidden = s.hidden + hidden_in_all body;
+    cells = s.cells + stmts_cells body (declared_cells p);
+    texts = s.texts + length (gathered_all own_texts body);
+    sites = s.sites + length (gathered_all (own_sites None 0) body);
+  }
+
+  abbrev pub past_handler : stmt.Handler → Scope → Scope
+  past_handler (stmt.Handles pos kind event param brace body) s = past_stmts body (record s { hidden = s.hidden + 3 })
 
   -- behind a statement of another one, of which no name is left
   abbrev pub scope_past : stmt.Stmt → Scope → Scope
@@ -591,6 +705,15 @@ module _ (p : whole.Program) where
   step_of s None = None
   step_of s (Some e) = Some (meant (context_at s) e).expr
 
+  -- the place at which the object of the running call has its execution, and what it holds
+  abbrev pub execution_place : Option ℕ → Expr
+  execution_place None = OfObject This
+  execution_place (Some i) = OfObject (OwnField (class_shape p i) 0)
+
+  abbrev pub own_execution : Option ℕ → Expr
+  own_execution None = Literal (pos 0)
+  own_execution (Some i) = OfObject (GetOwn (class_shape p i) 0)
+
   -- a statement, which stands for this, and what follows it in its block
   abbrev pub stmt_then : stmt.Stmt → Scope → Stmt → Stmts → Stmts
   stmt_then (stmt.Declare place b ds) s t rest = declared_then (plain_class p b) place.line b ds s rest
@@ -614,8 +737,21 @@ module _ (p : whole.Program) where
     stmt_meant (stmt.Break place) s = Break place.line
     stmt_meant (stmt.Continue place) s = Continue place.line
     stmt_meant (stmt.Return place value) s = Return place.line (return_meant s value)
+    stmt_meant (stmt.Throw place raised) s = OfEvents (Throw place.line (raised_meant s raised))
+    stmt_meant (stmt.Raise place raised) s = OfEvents (Raise place.line (raised_meant s raised))
+    stmt_meant (stmt.Try place brace body hs) s = OfEvents (Try place.line (Then (Block brace.line (stmts_meant body s)) Nil) (handlers_meant hs (past_stmts body s)))
+    stmt_meant (stmt.Resume place) s = OfTasks (Resume place.line (own_execution s.class))
+    stmt_meant (stmt.Suspend place) s = OfTasks (Suspend place.line)
     -- to come
     stmt_meant _ s = Skip 0
+
+    pub handlers_meant : stmt.Handlers → Scope → Handlers
+    handlers_meant stmt.NoHandlers s = NoHandlers
+    handlers_meant (stmt.MoreHandlers first rest) s = handler_then first s (handlers_meant rest (past_handler first s))
+
+    pub handler_then : stmt.Handler → Scope → Handlers → Handlers
+    handler_then (stmt.Handles pos kind event param brace body) s rest =
+        MoreHandlers (takes_resumptions kind) (handled_event p event) s.hidden brace.line (stmts_meant body (in_handler (stmt.Handles pos kind event param brace body) s)) rest
 
     pub maybe_meant : stmt.MaybeStmt → Scope → Stmt
     maybe_meant stmt.NoStmt s = Skip 0
@@ -635,8 +771,12 @@ module _ (p : whole.Program) where
 
   -- a routine of this class and number begins with these parameters, behind the text literals and the accept statements of the
   -- routines before it
-  abbrev pub routine_scope : List Param → ℕ → ℕ → ℕ → ℕ → Scope
-  routine_scope xs class number texts sites = record { class = class; routine = number; names = params_known 0 xs; cells = params_cells p xs; texts = texts; sites = sites }
+  abbrev pub routine_scope : List Param → ℕ → Option ℕ → ℕ → ℕ → ℕ → Scope
+  routine_scope xs hidden class number texts sites = record { class = class; routine = number; names = params_known 0 xs; handled = 0; hidden = hidden; cells = params_cells p xs; texts = texts; sites = sites }
+
+  -- the place of the class of a routine: a constructor of no class is that of an event
+  abbrev pub place_by : Defined → Option ℕ
+  place_by d = if nat_eq d.number 0 && is_constructor d.routine.sig.role then event_place p (base.Named d.routine.sig.name) else place_of p d.number
 
   -- fields, which are built and destroyed in no statement, and so in the line of what calls the constructor or the destructor
 
@@ -685,13 +825,34 @@ module _ (p : whole.Program) where
         field_left (field_class f) (length_in_class f) (field_place (class_shape p i) number Own) (fields_left fs (suc number) rest)
 
   -- the statements of a constructor and of a destructor, with these of its body
+  abbrev pub main_of : ℕ → ℕ
+  main_of i = unwrap_or (member_from (routines_of p) 0 (number_at p i) main_name) 0
+
+  -- a coroutine has an execution from the start of its construction to the end of its destruction, and is live between the end of
+  -- the one and the start of the other
+  abbrev pub set_up : Bool → ℕ → Stmts → Stmts
+  set_up false i rest = rest
+  set_up true i rest = Then (OfTasks (SetUp (main_of i) (OfObject This) (execution_place (Some i)))) (Built (Forgets (own_execution (Some i))) rest)
+
+  abbrev pub enlivened : Bool → ℕ → Stmts → Stmts
+  enlivened false i body = body
+  enlivened true i body = Built (Unwinds (own_execution (Some i))) body
+
+  abbrev pub taken_down : Bool → ℕ → Stmts → Stmts
+  taken_down false i body = body
+  taken_down true i body = Scoped (Forgets (own_execution (Some i))) body
+
+  abbrev pub unwound : Bool → ℕ → Stmts → Stmts
+  unwound false i body = body
+  unwound true i body = Then (OfTasks (UnwindIt (own_execution (Some i)))) body
+
   abbrev pub construction : Option whole.Class → ℕ → List whole.Init → Scope → Stmts → Stmts
   construction None i inits s body = body
-  construction (Some c) i inits s body = fields_built c i inits s (fields_of c.members) (leading_cells c.kind) body
+  construction (Some c) i inits s body = set_up (is_coroutine_at p i) i (fields_built c i inits s (fields_of c.members) (leading_cells c.kind) (enlivened (is_coroutine_at p i) i body))
 
   abbrev pub destruction : Option whole.Class → ℕ → Stmts → Stmts
   destruction None i body = body
-  destruction (Some c) i body = fields_left c i (fields_of c.members) (leading_cells c.kind) body
+  destruction (Some c) i body = taken_down (is_coroutine_at p i) i (fields_left c i (fields_of c.members) (leading_cells c.kind) (unwound (is_coroutine_at p i) i body))
 
   -- the class of a number, where it has a place
   abbrev pub class_by : Option ℕ → Option whole.Class
@@ -711,20 +872,20 @@ module _ (p : whole.Program) where
   role_purpose role.Destructor b = Builder
 
   abbrev pub purpose_of : ℕ → whole.Routine → Purpose
-  purpose_of number r = if nat_eq number (main_number p) then TaskMain else role_purpose r.sig.role r.sig.ret
+  purpose_of number r = if nat_eq number (main_number p) then TaskMain else if is_plain r.sig.role && same_name r.sig.name main_name then TaskMain else role_purpose r.sig.role r.sig.ret
 
   -- the body of a constructor and of a destructor is a block, behind the construction of the fields and before their destruction
   abbrev pub body_by : Role → whole.Routine → Scope → Stmts
   body_by role.Plain r s = stmts_meant r.body s
   body_by role.Constructor r s =
-      construction (class_by (place_of p s.class)) (place_or_zero (place_of p s.class)) r.inits s (Then (Block r.brace.line (stmts_meant r.body s)) Nil)
+      construction (class_by s.class) (place_or_zero s.class) r.inits s (Then (Whole r.brace.line (stmts_meant r.body s)) Nil)
   body_by role.Destructor r s =
-      destruction (class_by (place_of p s.class)) (place_or_zero (place_of p s.class)) (Then (Block r.brace.line (stmts_meant r.body s)) Nil)
+      destruction (class_by s.class) (place_or_zero s.class) (Then (Whole r.brace.line (stmts_meant r.body s)) Nil)
 
   abbrev pub routine_meant : whole.Routine → Scope → Routine
   routine_meant r s = record {
     line = r.brace.line;
-    cells = routine_cells p r;
+    cells = routine_cells p r + hidden_in_all r.body;
     params = length r.sig.params;
     purpose = purpose_of s.routine r;
     written = true;
@@ -735,12 +896,12 @@ module _ (p : whole.Program) where
   abbrev pub routines_meant : List Defined → ℕ → ℕ → ℕ → List Routine
   routines_meant [] number texts sites = []
   routines_meant (d ∷ ds) number texts sites =
-      routine_meant d.routine (routine_scope d.routine.sig.params d.number number texts sites) ∷ routines_meant ds (number + 1) (texts + length (gathered_all own_texts d.routine.body)) (sites + length (gathered_all (own_sites d.class d.number) d.routine.body))
+      routine_meant d.routine (routine_scope d.routine.sig.params (routine_cells p d.routine) (place_by d) number texts sites) ∷ routines_meant ds (number + 1) (texts + length (gathered_all own_texts d.routine.body)) (sites + length (gathered_all (own_sites d.class d.number) d.routine.body))
 
   -- constructors and destructors that nobody wrote: they have no parameters, no initialisers and no body
 
   abbrev pub nowhere : Scope
-  nowhere = record { class = 0; routine = 0; names = []; cells = 0; texts = 0; sites = 0 }
+  nowhere = record { class = None; routine = 0; names = []; handled = 0; hidden = 0; cells = 0; texts = 0; sites = 0 }
 
   abbrev pub unwritten_body : Role → ℕ → Stmts
   unwritten_body role.Plain i = Nil

@@ -117,6 +117,8 @@ mutual
     CallOn : ℕ → Expr → Exprs → ObjectExpr
     -- so is a constructor or a destructor that nobody wrote, which has no parameters and makes no tick
     CallUnwritten : ℕ → Expr → ObjectExpr
+    -- a member is called through a path, at a coroutine, whose class has this shape: it must be live
+    CallLive : ℕ → Shape → Expr → Exprs → ObjectExpr
     -- a mutex member, by its number, enters its object first (to come)
     EnterOn : ℕ → ℕ → Expr → Exprs → ObjectExpr
     -- conditions of the object of the running call, by their numbers (to come)
@@ -142,22 +144,28 @@ pub record Declared : Type 0 where
   pub cells : ℕ
   pub value : Option Expr
 
--- an event that is raised, by its number: its constructor, where one is written, and the arguments (to come)
-pub record Raised : Type 0 where
-  pub event : ℕ
-  pub constructor : Option ℕ
-  pub args : Exprs
+-- an event that is raised: by its number, with fields that are 0; by its number, where this call of its constructor builds its
+-- fields in cells of the frame, the first of which is named; or again the one that a handler keeps from this cell on
+pub data Raised : Type 0 where
+  Plainly : ℕ → Raised
+  BuiltIn : ℕ → ℕ → Expr → Raised
+  AgainFrom : ℕ → Raised
 
 -- what cleans up an object: its destruction; of an array of so many objects, the destruction of the one that is counted
+-- the execution that a place holds is unwound, if it is started and has not ended; it is gone
 pub data CleanUp : Type 0 where
   Destroys : Expr → CleanUp
   DestroysAll : ℕ → Expr → CleanUp
+  Unwinds : Expr → CleanUp
+  Forgets : Expr → CleanUp
 
 mutual
   -- a statement, with its line
   pub data Stmt : Type 0 where
     Skip : ℕ → Stmt
     Block : ℕ → Stmts → Stmt
+    -- the body of a constructor or a destructor: a return leaves it as a whole
+    Whole : ℕ → Stmts → Stmt
     Evaluate : ℕ → Expr → Stmt
     Declare : ℕ → List Declared → Stmt
     Print : ℕ → List Item → Stmt
@@ -190,8 +198,8 @@ mutual
   -- what raises, handles and enables events, with its line (to come)
   pub data EventStmt : Type 0 where
     -- the event, or again the one that is handled
-    Throw : ℕ → Option Raised → EventStmt
-    Raise : ℕ → Option Raised → EventStmt
+    Throw : ℕ → Raised → EventStmt
+    Raise : ℕ → Raised → EventStmt
     RaiseAt : ℕ → Raised → Expr → EventStmt
     -- events by their bits
     Enable : ℕ → ℕ → Stmt → EventStmt
@@ -206,8 +214,13 @@ mutual
 
   -- what coroutines and tasks do, with its line (to come)
   pub data TaskStmt : Type 0 where
-    Resume : ℕ → TaskStmt
+    -- of the execution that this holds
+    Resume : ℕ → Expr → TaskStmt
     Suspend : ℕ → TaskStmt
+    -- an execution is made for the coroutine at a place, with the main of this number, and bound to a place;
+    -- it is live no more, and is unwound
+    SetUp : ℕ → Expr → Expr → TaskStmt
+    UnwindIt : Expr → TaskStmt
     Yield : ℕ → TaskStmt
     Migrate : ℕ → Expr → TaskStmt
     -- the accept statement of this number, with its clauses
