@@ -1,15 +1,16 @@
 // The rules on classes and their members.
 
-ghost use Rattle.std.specs.Prelude.{◌≡◌, ◌≤◌, ℕ, [], ◌∷◌, ◌++◌, IfOk, OnOk, Some, false, length, map, slice_get, take};
+ghost use Rattle.std.specs.Prelude.{◌≡◌, ◌≤◌, ℕ, [], ◌∷◌, ◌++◌, IfOk, OnOk, Some, false, length, map, slice_get, take, true};
 ghost use Rattle.uc_tree.specs.Numbering.{is_mutex, mutex_members};
 ghost use Rattle.uc_tree.specs.ProgramViews.{member_form_at};
 ghost use Rattle.uc_tree.specs.declared.limits.TheConstants.{MEMBERS};
 ghost use Rattle.uc_meaning.specs.ClassBreaks.{events_before};
 ghost use Rattle.uc_meaning.specs.Names.{place_in};
-ghost use Rattle.uc_meaning.specs.ProgramVisits.{class_visits, fields_visits, form_visits, members_visits};
+ghost use Rattle.uc_meaning.specs.ProgramVisits.{class_visits, fields_visits, form_visits, members_visits, routine_visits, sig_env, sig_visits};
 ghost use Rattle.uc_meaning.specs.Scopes.{class_around, is_inner, plain_env, returns_scalar, sig_around};
-ghost use Rattle.uc_meaning.specs.Visits.{AtField, AtMark, maybe_visits};
-ghost use Rattle.uc_types.specs.Told.{noted};
+ghost use Rattle.uc_meaning.specs.Visits.{AtBase, AtClass, AtField, AtMark, AtRoutine, maybe_visits};
+ghost use Rattle.uc_owner.specs.Bound.{AreBound};
+ghost use Rattle.uc_types.specs.Told.{noted, told};
 ghost use Rattle.uc_tree.specs.Cells.{rows_of};
 ghost use Rattle.uc_tree.specs.Rows.{reaches};
 ghost use Rattle.uc_meaning.specs.Sorts.{class_at};
@@ -24,10 +25,11 @@ use uc_index::index::Index;
 use uc_meaning::rule::Rule;
 use uc_meaning::rules::{Around, FieldPlace, Home};
 use uc_owner::bind::{BoundFields, bound_fields};
-use uc_tree::class::{Class, Member, MemberForm, Sig};
+use uc_tree::class::{Class, Member, MemberForm, Routine, Sig};
 use uc_tree::declare::Declarator;
 use uc_tree::kinds::{Access, Base, Mark, Role};
 use uc_tree::name::Name;
+use uc_tree::pos::Pos;
 use uc_types::found::Found;
 use uc_types::names::Names;
 use uc_types::sort::{is_mutex, is_nomutex, is_plain, is_scalar_sort};
@@ -48,6 +50,13 @@ pub struct Walked<'a> {
     pub bound: BoundFields<'a>,
     pub numbered: &'a [&'a Name],
     ghost indexed: { index.now ≡ tables.now },
+}
+
+// Whether a class has itself in its fields, and then the flags of the classes that have it in theirs.
+#[derive(Clone, Copy)]
+struct Circle<'a> {
+    circular: bool,
+    holders: &'a [bool],
 }
 
 /// A list of fields: the place of its member, the access and the base.
@@ -150,7 +159,77 @@ fn check_fields(
     Ok(())
 }
 
-#[tactic(auto, using(uc_bodies::proofs::Joined::joining))]
+fn check_listed(
+    walked: Walked,
+    listed: Listed,
+    at: Pos,
+    found: &mut Found,
+) -> Result<(), AllocError>
+    requires walks { Walks walked.tables.now walked.home walked.class.now walked.circular walked.holders.now walked.bound.known walked.bound.names.now }
+    requires fields { AreFields walked.class.now listed.member listed.base.now listed.declarators.now }
+    ensures { OnOk result (found.new ≡ noted found.old (AtBase (plain_env walked.entry.tables.now (class_around walked.entry.home)) at listed.entry.base.now ∷ fields_visits (plain_env walked.entry.tables.now (class_around walked.entry.home)) walked.entry.class.now listed.entry.access listed.entry.base.now listed.entry.member 0 listed.entry.declarators.now)) }
+{
+    let outer = Names::new(walked.alloc, walked.tables, class_around(walked.home));
+    ask_base(&outer, listed.base, at, found);
+    check_fields(&outer, walked, listed, found)?;
+    Ok(())
+}
+
+fn ask_inner(
+    walked: Walked,
+    proto: bool,
+    sig: &Sig,
+    place: usize,
+    found: &mut Found,
+) -> Result<(), AllocError>
+    requires { Walks walked.tables.now walked.home walked.class.now walked.circular walked.holders.now walked.bound.known walked.bound.names.now }
+    ensures { OnOk result (found.new ≡ told found.old (AtRoutine (plain_env walked.entry.tables.now (class_around walked.entry.home)) walked.entry.class.now proto sig.now place)) }
+{
+    let outer = Names::new(walked.alloc, walked.tables, class_around(walked.home));
+    ask_routine(&outer, walked, proto, sig, place, found)?;
+    Ok(())
+}
+
+// The environment of a routine in its class, before its parameters.
+fn inner_names<'a>(walked: Walked<'a>, mark: Mark, sig: &Sig) -> Names<'a>
+    ensures { result ≡ sig_env walked.entry.tables.now walked.entry.home mark sig.now }
+{
+    let around = sig_around(walked.tables, Some(walked.home), false, mark, sig);
+    Names::new(walked.alloc, walked.tables, around)
+}
+
+fn check_inner(
+    walked: Walked,
+    place: usize,
+    mark: Mark,
+    routine: &Routine,
+    found: &mut Found,
+) -> Result<(), AllocError>
+    requires { Walks walked.tables.now walked.home walked.class.now walked.circular walked.holders.now walked.bound.known walked.bound.names.now }
+    ensures { OnOk result (found.new ≡ noted found.old (AtRoutine (plain_env walked.entry.tables.now (class_around walked.entry.home)) walked.entry.class.now false routine.now.sig place ∷ routine_visits (sig_env walked.entry.tables.now walked.entry.home mark routine.now.sig) routine.now)) }
+{
+    ask_inner(walked, false, &routine.sig, place, found)?;
+    let mut names = inner_names(walked, mark, &routine.sig);
+    check_routine(&mut names, routine, found)?;
+    Ok(())
+}
+
+fn check_proto(
+    walked: Walked,
+    place: usize,
+    mark: Mark,
+    sig: &Sig,
+    found: &mut Found,
+) -> Result<(), AllocError>
+    requires { Walks walked.tables.now walked.home walked.class.now walked.circular walked.holders.now walked.bound.known walked.bound.names.now }
+    ensures { OnOk result (found.new ≡ noted found.old (AtRoutine (plain_env walked.entry.tables.now (class_around walked.entry.home)) walked.entry.class.now true sig.now place ∷ sig_visits (sig_env walked.entry.tables.now walked.entry.home mark sig.now) sig.now)) }
+{
+    ask_inner(walked, true, sig, place, found)?;
+    let mut names = inner_names(walked, mark, sig);
+    check_sig(&mut names, sig, found)?;
+    Ok(())
+}
+
 fn check_form(
     walked: Walked,
     place: usize,
@@ -161,7 +240,6 @@ fn check_form(
     requires walks { Walks walked.tables.now walked.home walked.class.now walked.circular walked.holders.now walked.bound.known walked.bound.names.now }
     ensures { OnOk result (found.new ≡ noted found.old (form_visits walked.entry.tables.now walked.entry.home walked.entry.class.now place member.now.mark member.now.access member.now.form)) }
 {
-    let outer = Names::new(walked.alloc, walked.tables, class_around(walked.home));
     match &member.form {
         MemberForm::Fields {
             at,
@@ -174,28 +252,15 @@ fn check_form(
                 base,
                 declarators,
             };
-            ask_base(&outer, base, *at, found);
-            check_fields(&outer, walked, listed, found)?;
+            check_listed(walked, listed, *at, found)?;
             Ok(())
         }
         MemberForm::Routine { routine } => {
-            ask_routine(&outer, walked, false, &routine.sig, place, found)?;
-            let around = sig_around(
-                walked.tables,
-                Some(walked.home),
-                false,
-                member.mark,
-                &routine.sig,
-            );
-            let mut names = Names::new(walked.alloc, walked.tables, around);
-            check_routine(&mut names, routine, found)?;
+            check_inner(walked, place, member.mark, routine, found)?;
             Ok(())
         }
         MemberForm::Proto { sig } => {
-            ask_routine(&outer, walked, true, sig, place, found)?;
-            let around = sig_around(walked.tables, Some(walked.home), false, member.mark, sig);
-            let mut names = Names::new(walked.alloc, walked.tables, around);
-            check_sig(&mut names, sig, found)?;
+            check_proto(walked, place, member.mark, sig, found)?;
             Ok(())
         }
     }
@@ -257,8 +322,83 @@ fn holders_of(
     Ok(Vec::new(alloc))
 }
 
+// What the rules ask of a class as a whole.
+fn ask_whole(
+    alloc: Global,
+    tables: &Tables,
+    index: &Index,
+    class: &Class,
+    home: Home,
+    events: usize,
+    found: &mut Found,
+) -> Result<(), AllocError>
+    requires indexed { index.now ≡ tables.now }
+    requires events { events ≡ events_before tables.now home.class }
+    ensures { OnOk result (found.new ≡ told found.old (AtClass (plain_env tables.now (class_around home)) class.now home.class)) }
+{
+    let outer = Names::new(alloc, tables, class_around(home));
+    ask_class(&outer, index, class, home.class, events, found)?;
+    Ok(())
+}
+
+// The members of a class, with the flags of the classes that have it in their fields.
+fn check_held<'x>(
+    alloc: Global,
+    tables: &'x Tables<'x>,
+    index: &'x Index<'x>,
+    class: &'x Class,
+    home: Home,
+    circle: Circle<'x>,
+    found: &mut Found,
+) -> Result<(), AllocError>
+    requires indexed { index.now ≡ tables.now }
+    requires at { class_at tables.now home.class ≡ Some class.now }
+    requires circle { Circling tables.now home.class circle.circular circle.holders.now }
+    ensures { OnOk result (found.new ≡ noted found.old (members_visits tables.now home class.now 0 class.now.members)) }
+{
+    let known = is_mutex(class.kind) && found.is_open(Rule::O5, class.pos);
+    let names = bound_fields(alloc, tables, class, home.class, known)?;
+    let walked = Walked {
+        alloc,
+        tables,
+        index,
+        class,
+        home,
+        circular: circle.circular,
+        holders: circle.holders,
+        bound: BoundFields {
+            known,
+            names: &names,
+        },
+        numbered: tables.numbered(home.class),
+    };
+    check_members(walked, found)?;
+    Ok(())
+}
+
+fn check_inside(
+    alloc: Global,
+    tables: &Tables,
+    index: &Index,
+    class: &Class,
+    home: Home,
+    found: &mut Found,
+) -> Result<(), AllocError>
+    requires indexed { index.now ≡ tables.now }
+    requires at { class_at tables.now home.class ≡ Some class.now }
+    ensures { OnOk result (found.new ≡ noted found.old (members_visits tables.now home class.now 0 class.now.members)) }
+{
+    let circular = tables.sizes().has_itself(home.class);
+    let holders = holders_of(alloc, tables, home.class, circular)?;
+    let circle = Circle {
+        circular,
+        holders: &holders,
+    };
+    check_held(alloc, tables, index, class, home, circle, found)?;
+    Ok(())
+}
+
 /// A class by its place among the classes of the program, before which so many events stand.
-#[tactic(auto, using(uc_bodies::proofs::Joined::joining))]
 pub fn check_class(
     alloc: Global,
     tables: &Tables,
@@ -277,26 +417,7 @@ pub fn check_class(
         class: place,
         kind: class.kind,
     };
-    let outer = Names::new(alloc, tables, class_around(home));
-    ask_class(&outer, index, class, place, events, found)?;
-    let circular = tables.sizes().has_itself(place);
-    let holders = holders_of(alloc, tables, place, circular)?;
-    let known = is_mutex(class.kind) && found.is_open(Rule::O5, class.pos);
-    let names = bound_fields(alloc, tables, class, place, known)?;
-    let walked = Walked {
-        alloc,
-        tables,
-        index,
-        class,
-        home,
-        circular,
-        holders: &holders,
-        bound: BoundFields {
-            known,
-            names: &names,
-        },
-        numbered: tables.numbered(place),
-    };
-    check_members(walked, found)?;
+    ask_whole(alloc, tables, index, class, home, events, found)?;
+    check_inside(alloc, tables, index, class, home, found)?;
     Ok(())
 }

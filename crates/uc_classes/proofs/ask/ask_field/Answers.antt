@@ -4,8 +4,8 @@ use Rattle.uc_meaning.specs.Visits.{AtField}
 use Rattle.uc_types.specs.Told.{told_owners}
 use Rattle.uc_classes.proofs.ask.ask_field.Goals as goal
 
-pub returns-in_ok-note_owned : goal.returns-in_ok-note_owned
-returns-in_ok-note_owned c =
+pub returns : goal.returns
+returns c =
     let place = place_in c.args.listed.member c.args.index in
     let visit = AtField c.args.names.now c.args.walked.class.now c.args.listed.access c.args.listed.base.now c.args.declarator.now place in
     c.in_ok-note_owned.ensures c.args.listed.access place ∙ ap (λ g. told_owners g visit) c.note_text.ensures

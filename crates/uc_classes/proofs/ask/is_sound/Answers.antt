@@ -2,5 +2,5 @@ use Rattle.std.proofs.Common.{ap, ◌∙◌}
 use Rattle.uc_meaning.specs.ItemBreaks.{is_sound_member}
 use Rattle.uc_classes.proofs.ask.is_sound.Goals as goal
 
-pub returns-in_ok-holds : goal.returns-in_ok-holds
-returns-in_ok-holds c = c.in_ok-holds.ensures ∙ ap (λ p. is_sound_member p c.args.walked.class.now c.args.proto c.args.sig.now c.args.member) c.requires
+pub returns : goal.returns
+returns c = c.in_ok-holds.ensures ∙ ap (λ p. is_sound_member p c.args.walked.class.now c.args.proto c.args.sig.now c.args.member) c.requires
