@@ -3,5 +3,5 @@ use Rattle.uc_meaning.specs.Visits.{AtItem}
 use Rattle.uc_types.specs.Told.{told}
 use Rattle.uc_classes.proofs.ask.ask_item.Goals as goal
 
-pub returns-in_ok-note_item : goal.returns-in_ok-note_item
-returns-in_ok-note_item c = c.in_ok-note_item.ensures ∙ ap (λ p. told c.args.found.now (AtItem p c.args.item.now c.args.place)) c.requires
+pub returns : goal.returns
+returns c = c.in_ok-note_item.ensures ∙ ap (λ p. told c.args.found.now (AtItem p c.args.item.now c.args.place)) c.requires
