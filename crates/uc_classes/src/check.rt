@@ -12,15 +12,44 @@ use uc_index::index::Index;
 use uc_meaning::rule::Break;
 use uc_tree::program::Program;
 use uc_types::found::Found;
+use uc_types::tables::Tables;
+
+// With the tables of the names and of the items.
+fn first_among(
+    alloc: Global,
+    tables: &Tables,
+    index: &Index,
+    program: &Program,
+) -> Result<Option<Break>, AllocError>
+    requires tables { tables.now ≡ program.now }
+    requires index { index.now ≡ program.now }
+    ensures { IfOk result (λ first. first ≡ after None (breaks_of program.now)) }
+{
+    let mut found = Found::new();
+    ask_program(program, &mut found);
+    check_items(alloc, tables, index, &mut found)?;
+    Ok(found.first())
+}
+
+// An owned table has one way to its end: behind the call that reads it no `?` stands.
+fn first_by(
+    alloc: Global,
+    tables: &Tables,
+    program: &Program,
+) -> Result<Option<Break>, AllocError>
+    requires { tables.now ≡ program.now }
+    ensures { IfOk result (λ first. first ≡ after None (breaks_of program.now)) }
+{
+    let index = Index::new(alloc, program)?;
+    let first = first_among(alloc, tables, &index, program);
+    first
+}
 
 /// The first break of a rule, where a program breaks one.
 pub fn first_break(alloc: Global, program: &Program) -> Result<Option<Break>, AllocError>
     ensures { IfOk result (λ first. first ≡ after None (breaks_of program.now)) }
 {
     let tables = tables_of(alloc, program)?;
-    let index = Index::new(alloc, program)?;
-    let mut found = Found::new();
-    ask_program(program, &mut found);
-    check_items(alloc, &tables, &index, &mut found)?;
-    Ok(found.first())
+    let first = first_by(alloc, &tables, program);
+    first
 }

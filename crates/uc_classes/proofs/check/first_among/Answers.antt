@@ -3,13 +3,13 @@ use Rattle.uc_meaning.specs.ProgramVisits.{items_visits, program_visits}
 use Rattle.uc_meaning.specs.Visits.{AtProgram}
 use Rattle.uc_types.specs.Told.{noted, told}
 use Rattle.uc_types.proofs.Noted.{noted_is}
-use Rattle.uc_classes.proofs.check.first_break.Goals as goal
+use Rattle.uc_classes.proofs.check.first_among.Goals as goal
 
 pub returns : goal.returns
 returns c =
     let p = c.args.program.now in
     c.first.ensures
     ∙ c.in_ok-check_items.ensures
-    ∙ ap (λ q. noted c.ask_program.new.found (items_visits q 0 0 q.items)) c.in_ok-tables.ensures
+    ∙ ap (λ q. noted c.ask_program.new.found (items_visits q 0 0 q.items)) c.requires.tables
     ∙ ap (λ g. noted g (items_visits p 0 0 p.items)) (c.ask_program.ensures ∙ ap (λ g. told g (AtProgram p)) c.new-found.ensures)
     ∙ noted_is None (program_visits p)
