@@ -32,11 +32,7 @@ fn first_among(
 }
 
 // An owned table has one way to its end: behind the call that reads it no `?` stands.
-fn first_by(
-    alloc: Global,
-    tables: &Tables,
-    program: &Program,
-) -> Result<Option<Break>, AllocError>
+fn first_by(alloc: Global, tables: &Tables, program: &Program) -> Result<Option<Break>, AllocError>
     requires { tables.now ≡ program.now }
     ensures { IfOk result (λ first. first ≡ after None (breaks_of program.now)) }
 {
