@@ -1,5 +1,5 @@
 -- One more item of those before which classes and events are counted.
-use Rattle.std.proofs.Common.{◌≡◌, ℕ, zero, suc, ◌+◌, ◌<◌, List, [], ◌∷◌, ◌++◌, Bool, true, false, Some, if◌then◌else◌, length, get_or, take, drop, refl, ap, sym, ◌∙◌, add-one, arith, length-append}
+use Rattle.std.proofs.Common.{◌≡◌, ℕ, zero, suc, ◌+◌, List, [], ◌∷◌, ◌++◌, true, false, Some, if◌then◌else◌, length, take, drop, refl, ap, ◌∙◌, add-one, arith, length-append}
 use Rattle.std.specs.Prelude.{slice_get}
 use Rattle.uc_tree.specs.Programs.{Class, Program, Item, ClassItem, RoutineItem, ConstItem, ProtoItem, ForwardItem, UsingItem}
 use Rattle.uc_tree.specs.Cells.{classes_of}

@@ -1,5 +1,5 @@
 -- No field of a class that has not itself in its fields leads back to it.
-use Rattle.std.proofs.Common.{◌≡◌, ℕ, zero, suc, ◌+◌, ◌<◌, List, [], ◌∷◌, ◌++◌, Bool, true, false, Option, Some, None, ◌||◌, length, map, refl, ap, sym, ◌∙◌}
+use Rattle.std.proofs.Common.{◌≡◌, ℕ, zero, suc, List, [], ◌∷◌, Bool, true, false, Option, Some, ◌||◌, length, map, refl, ap, sym, ◌∙◌}
 use Rattle.std.specs.Prelude.{slice_get, ℤ}
 use Rattle.std.specs.List.{list_any}
 use Rattle.std.proofs.lemmas.List.Folds.{list_any-append}
@@ -9,7 +9,7 @@ use Rattle.uc_tree.specs.Rows.{Row, row_at, leads, reaches}
 use Rattle.uc_tree.specs.Constants.{constants_of}
 use Rattle.uc_tree.specs.Cells.{classes_of, rows_of, row_of, held_by, member_held, members_held, seen_in}
 use Rattle.uc_tree.specs.Statements.{Declarator}
-use Rattle.uc_tree.specs.Programs.{Class, Member, FieldsMember, Program}
+use Rattle.uc_tree.specs.Programs.{Class, Member, Program}
 use Rattle.uc_meaning.specs.Sorts.{class_at}
 use Rattle.uc_meaning.specs.ClassBreaks.{fields_at, form_fields, leads_back, member_fields}
 use Rattle.uc_classes.specs.Circling.{AreFields}

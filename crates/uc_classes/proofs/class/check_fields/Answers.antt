@@ -1,4 +1,4 @@
-use Rattle.std.proofs.Common.{◌≡◌, ◌+◌, [], ◌∷◌, ◌++◌, refl}
+use Rattle.std.proofs.Common.{◌+◌, [], ◌∷◌, ◌++◌, refl}
 use Rattle.uc_meaning.specs.Names.{place_in}
 use Rattle.uc_meaning.specs.ProgramVisits.{fields_visits}
 use Rattle.uc_meaning.specs.Visits.{AtField, maybe_visits}

@@ -1,4 +1,4 @@
-use Rattle.std.proofs.Common.{◌≡◌, ℕ, ◌+◌, ◌∷◌, drop, refl, ap, subst, sym, ◌∙◌, arith}
+use Rattle.std.proofs.Common.{ℕ, ◌+◌, ◌∷◌, drop, refl, ap, subst, sym, arith}
 use Rattle.uc_meaning.specs.ProgramVisits.{classes_in, item_visits, items_visits}
 use Rattle.uc_meaning.specs.Visits.{AtItem}
 use Rattle.uc_types.specs.Told.{noted}
