@@ -5,3 +5,6 @@ pub mod Sized
 pub mod Values
 pub mod Whole
 pub mod SettledLemmas
+pub mod ComponentLemmas
+pub mod CellsKnownLemmas
+pub mod BackLemmas

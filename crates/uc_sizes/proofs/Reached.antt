@@ -14,7 +14,7 @@ or_true false true false d h k e = k refl
 or_true false true true d h k e = refl
 or_true false false c d h k e = cc
 
-any_true : (p q : Held → Bool) → ((h : Held) → p h ≡ true → q h ≡ true) → (hs : List Held) → list_any p hs ≡ true → list_any q hs ≡ true
+pub any_true : (p q : Held → Bool) → ((h : Held) → p h ≡ true → q h ≡ true) → (hs : List Held) → list_any p hs ≡ true → list_any q hs ≡ true
 any_true p q w [] e = e
 any_true p q w (h ∷ hs) e = or_true (p h) (list_any p hs) (q h) (list_any q hs) (w h) (any_true p q w hs) e
 
@@ -30,7 +30,7 @@ unfolding reaches
 further zero rows to from e = cc
 further (suc k) rows to from e = leads_true (reaches k rows to) (reaches (suc k) rows to) to (λ i. further k rows to i) (row_at rows from).held e
 
-much_further : (m k : ℕ) (rows : List Row) (to from : ℕ) → reaches k rows to from ≡ true → reaches (m + k) rows to from ≡ true
+pub much_further : (m k : ℕ) (rows : List Row) (to from : ℕ) → reaches k rows to from ≡ true → reaches (m + k) rows to from ≡ true
 much_further zero k rows to from e = let z : 0 + k ≡ k = omega arith in rw z e
 much_further (suc m) k rows to from e = let z : suc m + k ≡ suc (m + k) = omega arith in rw z (further (m + k) rows to from (much_further m k rows to from e))
 
@@ -59,7 +59,7 @@ led_more rows to fs i h e l t = (record { at = λ j f. ap (λ n. reaches n rows 
 
 -- at the end
 
-past_empty : (rows : List Row) (j : ℕ) (p : Held → Bool) → length rows ≤ j → list_any p (row_at rows j).held ≡ false
+pub past_empty : (rows : List Row) (j : ℕ) (p : Held → Bool) → length rows ≤ j → list_any p (row_at rows j).held ≡ false
 past_empty [] j p h = refl
 past_empty (r ∷ rs) zero p h = absurd (omega arith)
 past_empty (r ∷ rs) (suc j) p h = past_empty rs j p (omega arith)
@@ -68,7 +68,7 @@ told_anywhere : (rows : List Row) (to : ℕ) (fs : List Bool) → Told rows to f
 told_anywhere rows to fs t j e (inl in_range) = t.at j in_range e
 told_anywhere rows to fs t j e (inr past) = let f : row_leads rows fs to j ≡ false = past_empty rows j (leads (flag_at fs) to) past in cc
 
-all_told : (k : ℕ) (rows : List Row) (to : ℕ) (fs : List Bool) → Told rows to fs (length rows) → (j : ℕ) → reaches k rows to j ≡ true → flag_at fs j ≡ true
+pub all_told : (k : ℕ) (rows : List Row) (to : ℕ) (fs : List Bool) → Told rows to fs (length rows) → (j : ℕ) → reaches k rows to j ≡ true → flag_at fs j ≡ true
 unfolding reaches
 all_told zero rows to fs t j e = cc
 all_told (suc k) rows to fs t j e = told_anywhere rows to fs t j (leads_true (reaches k rows to) (flag_at fs) to (all_told k rows to fs t) (row_at rows j).held e) (cases_lt j (length rows))

@@ -71,7 +71,7 @@ all_in : (s : ℕ → Bool) (f g : ℕ → ℕ) → ((i : ℕ) → s i ≡ true 
 all_in s f g e [] h = refl
 all_in s f g e (x ∷ xs) h = let b = and_both (held_settled s x) (list_all (held_settled s) xs) h in add_both (held_cells f x) (all_held_cells f xs) (held_cells g x) (all_held_cells g xs) (element_in s f g e x.count x.object b.0) (all_in s f g e xs b.1)
 
-row_in : (s : ℕ → Bool) (f g : ℕ → ℕ) → ((i : ℕ) → s i ≡ true → f i ≡ capped (g i)) → (r : Row) → list_all (held_settled s) r.held ≡ true → capped (row_cells f r) ≡ capped (row_cells g r)
+pub row_in : (s : ℕ → Bool) (f g : ℕ → ℕ) → ((i : ℕ) → s i ≡ true → f i ≡ capped (g i)) → (r : Row) → list_all (held_settled s) r.held ≡ true → capped (row_cells f r) ≡ capped (row_cells g r)
 row_in s f g e r h = add_both r.leading (all_held_cells f r.held) r.leading (all_held_cells g r.held) refl (all_in s f g e r.held h)
 
 own_cells : (k : ℕ) (rows : List Row) (flags : List Bool) (cells : List ℕ) (i : ℕ) → Settled rows flags cells → has_itself rows i ≡ false → list_all (held_settled (flag_at flags)) (row_at rows i).held ≡ true → suc (flagged flags) ≤ k → capped (row_cells (cell_at cells) (row_at rows i)) ≡ capped (cells_within k rows i)
@@ -83,7 +83,7 @@ own_cells (suc k) rows flags cells i was none held h =
     ∙ ap (λ b. capped (if b then 0 else row_cells (cells_within k rows) (row_at rows i))) (sym none)
 
 -- lists with one more element set
-set_same : {A : Type 0} (xs : List A) (i : ℕ) (x d : A) → i < length xs → get_or (set xs i x) i d ≡ x
+pub set_same : {A : Type 0} (xs : List A) (i : ℕ) (x d : A) → i < length xs → get_or (set xs i x) i d ≡ x
 set_same [] i x d h = absurd (omega arith)
 set_same (y ∷ ys) zero x d h = refl
 set_same (y ∷ ys) (suc i) x d h = set_same ys i x d (omega arith)

@@ -7,3 +7,6 @@ pub mod Reckoned
 pub mod Sized
 pub mod Values
 pub mod Settled
+pub mod Components
+pub mod CellsKnown
+pub mod Backs

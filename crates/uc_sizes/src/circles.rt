@@ -3,10 +3,8 @@
 ghost use Rattle.std.specs.Prelude.{◌≡◌, ◌<◌, IfOk, IsTrue, IsFalse, length, true};
 ghost use Rattle.std.specs.List.{list_any};
 ghost use Rattle.uc_tree.specs.Rows.{leads};
-ghost use Rattle.uc_sizes.specs.Reached.{flag_at, flagged, row_leads, AreCircles, IsCircle, Led, Reaching, Told};
-ghost use Rattle.uc_sizes.specs.Settled.{Settled};
+ghost use Rattle.uc_sizes.specs.Reached.{flag_at, flagged, row_leads, Led, Reaching, Told};
 
-use crate::settle::Settlement;
 use std::alloc::{AllocError, Global};
 use uc_tree::rows::{Held, Row};
 
@@ -164,56 +162,6 @@ fn flags_to(
     Ok(flags)
 }
 
-fn has_itself(
-    alloc: Global,
-    rows: &[Row],
-    holders: &[Vec<usize>],
-    class: usize,
-) -> Result<bool, AllocError>
-    requires { class < length rows.now }
-    ensures { IfOk result (λ b. IsCircle rows.now class b) }
-{
-    let flags = flags_to(alloc, rows, holders, class)?;
-    let found = flags[class];
-    Ok(found)
-}
-
-fn circle_of(
-    alloc: Global,
-    rows: &[Row],
-    holders: &[Vec<usize>],
-    settled: &Settlement,
-    class: usize,
-) -> Result<bool, AllocError>
-    requires inside { class < length rows.now }
-    requires settled { Settled rows.now settled.now.flags.items settled.now.cells.items }
-    ensures { IfOk result (λ b. IsCircle rows.now class b) }
-{
-    if flag_at(&settled.flags, class) {
-        return Ok(false);
-    }
-    let found = has_itself(alloc, rows, holders, class)?;
-    Ok(found)
-}
-
-/// For each class whether it has itself in its fields, directly or through others.
-pub fn circles_of(
-    alloc: Global,
-    rows: &[Row],
-    holders: &[Vec<usize>],
-    settled: &Settlement,
-) -> Result<Vec<bool>, AllocError>
-    requires settled { Settled rows.now settled.now.flags.items settled.now.cells.items }
-    ensures full { IfOk result (λ v. length v.items ≡ length rows.now) }
-    ensures flags { IfOk result (λ v. AreCircles rows.now v.items (length rows.now)) }
-{
-    let mut circles = Vec::new(alloc);
-    for class in 0..rows.len() {
-        circles.push(circle_of(alloc, rows, holders, settled, class)?)?;
-    }
-    Ok(circles)
-}
-
 /// The flag at a place; false beyond the last.
 pub fn flag_at(flags: &[bool], place: usize) -> bool
     ensures { result ≡ flag_at flags.now place }
@@ -222,10 +170,14 @@ pub fn flag_at(flags: &[bool], place: usize) -> bool
 }
 
 /// Which classes have this one in their fields, directly or through others.
-pub fn reaching(alloc: Global, rows: &[Row], class: usize) -> Result<Vec<bool>, AllocError>
+pub fn reaching_by(
+    alloc: Global,
+    rows: &[Row],
+    holders: &[Vec<usize>],
+    class: usize,
+) -> Result<Vec<bool>, AllocError>
     ensures { IfOk result (λ v. Reaching rows.now class v.items) }
 {
-    let holders = holders_of(alloc, rows)?;
-    let flags = flags_to(alloc, rows, &holders, class)?;
+    let flags = flags_to(alloc, rows, holders, class)?;
     Ok(flags)
 }

@@ -3,6 +3,8 @@
 
 pub mod cells;
 pub mod circles;
+pub mod backs;
+mod components;
 pub mod eval;
 pub mod frames;
 pub mod held;

@@ -26,7 +26,8 @@ fn is_settled(flags: &[bool], held: &Held) -> bool
     }
 }
 
-fn are_settled(flags: &[bool], held: &[Held]) -> bool
+/// Whether these fields hold no classes but settled ones.
+pub fn are_settled(flags: &[bool], held: &[Held]) -> bool
     ensures { result ≡ list_all (held_settled (flag_at flags.now)) held.now }
 {
     held.iter().all(|h| is_settled(flags, h))

@@ -4,14 +4,16 @@ ghost use Rattle.std.specs.Prelude.{◌≡◌, ℕ, IfOk, false, map, option_map
 ghost use Rattle.uc_tree.specs.Capped.{capped};
 ghost use Rattle.uc_tree.specs.Cells.{class_cells, classes_of, declared_cells, held_by, object_of, param_cells, rows_of, seen_in};
 ghost use Rattle.uc_tree.specs.Rows.{element_cells, has_itself, reaches};
-ghost use Rattle.uc_sizes.specs.Reached.{IsCircle, Reaching};
+ghost use Rattle.uc_sizes.specs.Backs.{HasField, object_back};
+ghost use Rattle.uc_sizes.specs.Reached.{IsCircle};
 ghost use Rattle.uc_sizes.specs.Known.{known_by};
 ghost use Rattle.uc_sizes.specs.Places.{IsPlaces};
 ghost use Rattle.uc_sizes.specs.Held.{rows_by};
 ghost use Rattle.uc_tree.specs.Constants.{constant_named, constants_of, elements, value_of_name};
 
 use crate::cells::{cells_of, element_cells};
-use crate::circles::{circles_of, flag_at, holders_of, reaching};
+use crate::backs::{Backs, backs_of, circles_of, leads_back};
+use crate::circles::{flag_at, holders_of};
 use crate::held::{elements_of, held_by, object_of, rows_of};
 use crate::known::Shown;
 use crate::lists::{classes_in, constants_in};
@@ -40,6 +42,7 @@ pub struct Sizes<'a> {
     constant_places: Scope,
     values: Vec<Option<i64>>,
     rows: Vec<Row>,
+    backs: Backs,
     circles: Vec<bool>,
     cells: Vec<u64>,
 }
@@ -50,6 +53,7 @@ impl<'a> Model for Sizes<'a> {
     ghost use Rattle.uc_tree.specs.ProgramCodes.{program_coded};
     ghost use Rattle.uc_sizes.specs.Places.{IsPlaces};
     ghost use Rattle.uc_sizes.specs.Sized.{IsSized};
+    ghost use Rattle.uc_sizes.specs.Backs.{TellBack};
 
     ghost Value = { Program };
 
@@ -57,7 +61,7 @@ impl<'a> Model for Sizes<'a> {
 
     ghost view = { λ a. a.program.now };
 
-    ghost invariant = { λ a. IsSized a.program.now (map (λ c. c.now) a.classes.items) (map (λ c. c.now) a.constants.items) a.values.items a.rows.items a.circles.items a.cells.items × IsPlaces (map (λ c. c.now.name) a.classes.items) a.class_places × IsPlaces (map (λ c. c.now.name) a.constants.items) a.constant_places };
+    ghost invariant = { λ a. IsSized a.program.now (map (λ c. c.now) a.classes.items) (map (λ c. c.now) a.constants.items) a.values.items a.rows.items a.circles.items a.cells.items × IsPlaces (map (λ c. c.now.name) a.classes.items) a.class_places × IsPlaces (map (λ c. c.now.name) a.constants.items) a.constant_places × TellBack a.rows.items a.backs };
 }
 
 // What each of these classes holds.
@@ -112,7 +116,8 @@ impl<'a> Sizes<'a> {
         )?;
         let holders = holders_of(alloc, &rows)?;
         let settled = settle_classes(alloc, &rows, &holders)?;
-        let circles = circles_of(alloc, &rows, &holders, &settled)?;
+        let backs = backs_of(alloc, &rows, &holders)?;
+        let circles = circles_of(alloc, &rows, &backs, &settled)?;
         let cells = cells_of(alloc, &rows, &circles, settled)?;
         Ok(Sizes {
             program,
@@ -122,6 +127,7 @@ impl<'a> Sizes<'a> {
             constant_places,
             values,
             rows,
+            backs,
             circles,
             cells,
         })
@@ -156,12 +162,12 @@ impl<'a> Sizes<'a> {
         found
     }
 
-    /// Which classes have the class with this place in their fields, directly or through others, by their places.
-    pub fn holders(&self, alloc: Global, place: usize) -> Result<Vec<bool>, AllocError>
-        ensures { IfOk result (λ v. Reaching (rows_of self.now) place v.items) }
+    /// Whether an object of a field of the class with this place leads back to the class.
+    pub fn leads_back(&self, place: usize, object: Option<Object>) -> bool
+        requires field { HasField (rows_of self.now) place object }
+        ensures { result ≡ object_back (rows_of self.now) place object }
     {
-        let flags = reaching(alloc, &self.rows, place)?;
-        Ok(flags)
+        place < self.rows.len() && leads_back(&self.rows, &self.backs, place, object)
     }
 
     /// The value of a constant, none where no constant of the name has one.
