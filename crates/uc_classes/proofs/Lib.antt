@@ -1,5 +1,4 @@
-pub mod Circles
 pub mod Counts
 pub mod First
 pub mod Walked
-pub mod NoBack
+pub mod FieldLemmas

@@ -145,7 +145,7 @@ fn is_new(
     index: usize,
     declarator: &Declarator,
 ) -> bool
-    requires walks { Walks names.now.program walked.home walked.class.now walked.circular walked.holders.now walked.bound.known walked.bound.names.now }
+    requires walks { Walks names.now.program walked.home walked.class.now walked.bound.known walked.bound.names.now }
     ensures { result ≡ is_new_field walked.entry.class.now (place_in listed.entry.member index) (fields_at walked.entry.class.now listed.entry.member) declarator.now.name }
 {
     let field = FieldPlace {
@@ -164,7 +164,7 @@ fn leads_home(
     declarator: &Declarator,
 ) -> bool
     requires home { names.now.around.home ≡ Some walked.home }
-    requires walks { Walks names.now.program walked.home walked.class.now walked.circular walked.holders.now walked.bound.known walked.bound.names.now }
+    requires walks { Walks names.now.program walked.home walked.class.now walked.bound.known walked.bound.names.now }
     requires fields { AreFields walked.class.now listed.member listed.base.now listed.declarators.now }
     requires there { slice_get listed.declarators.now index ≡ Some declarator.now }
     ensures { result ≡ home_leads_back names.now.program names.now.around.home listed.entry.base.now declarator.now }
@@ -188,7 +188,7 @@ fn note_declared(
     declarator: &Declarator,
     found: &mut Found,
 )
-    requires walks { Walks names.now.program walked.home walked.class.now walked.circular walked.holders.now walked.bound.known walked.bound.names.now }
+    requires walks { Walks names.now.program walked.home walked.class.now walked.bound.known walked.bound.names.now }
     ensures { found.new ≡ after found.old (unless (is_new_field walked.entry.class.now (place_in listed.entry.member index) (fields_at walked.entry.class.now listed.entry.member) declarator.now.name) S2 declarator.now.pos) }
 {
     let new = is_new(names, walked, listed, index, declarator);
@@ -204,7 +204,7 @@ fn note_circle(
     found: &mut Found,
 )
     requires home { names.now.around.home ≡ Some walked.home }
-    requires walks { Walks names.now.program walked.home walked.class.now walked.circular walked.holders.now walked.bound.known walked.bound.names.now }
+    requires walks { Walks names.now.program walked.home walked.class.now walked.bound.known walked.bound.names.now }
     requires fields { AreFields walked.class.now listed.member listed.base.now listed.declarators.now }
     requires there { slice_get listed.declarators.now index ≡ Some declarator.now }
     ensures { found.new ≡ after found.old (unless (not (home_leads_back names.now.program names.now.around.home listed.entry.base.now declarator.now)) S4 declarator.now.pos) }
@@ -242,7 +242,7 @@ fn note_text(
     found: &mut Found,
 )
     requires home { names.now.around.home ≡ Some walked.home }
-    requires walks { Walks names.now.program walked.home walked.class.now walked.circular walked.holders.now walked.bound.known walked.bound.names.now }
+    requires walks { Walks names.now.program walked.home walked.class.now walked.bound.known walked.bound.names.now }
     requires fields { AreFields walked.class.now listed.member listed.base.now listed.declarators.now }
     requires there { slice_get listed.declarators.now index ≡ Some declarator.now }
     ensures { found.new ≡ told_forms (told_values (told_uses (told_names found.old (AtField names.now walked.entry.class.now listed.entry.access listed.entry.base.now declarator.now (place_in listed.entry.member index))) (AtField names.now walked.entry.class.now listed.entry.access listed.entry.base.now declarator.now (place_in listed.entry.member index))) (AtField names.now walked.entry.class.now listed.entry.access listed.entry.base.now declarator.now (place_in listed.entry.member index))) (AtField names.now walked.entry.class.now listed.entry.access listed.entry.base.now declarator.now (place_in listed.entry.member index)) }
@@ -270,7 +270,7 @@ fn note_owned(
     found: &mut Found,
 ) -> Result<(), AllocError>
     requires home { names.now.around.home ≡ Some walked.home }
-    requires walks { Walks names.now.program walked.home walked.class.now walked.circular walked.holders.now walked.bound.known walked.bound.names.now }
+    requires walks { Walks names.now.program walked.home walked.class.now walked.bound.known walked.bound.names.now }
     ensures { OnOk result ((access : Access) (field : FieldPlace) → found.new ≡ told_owners found.old (AtField names.now walked.entry.class.now access base.now declarator.now field)) }
 {
     note_field(names, walked.class, walked.bound, base, declarator, found)?;
@@ -287,7 +287,7 @@ pub fn ask_field(
     found: &mut Found,
 ) -> Result<(), AllocError>
     requires home { names.now.around.home ≡ Some walked.home }
-    requires walks { Walks names.now.program walked.home walked.class.now walked.circular walked.holders.now walked.bound.known walked.bound.names.now }
+    requires walks { Walks names.now.program walked.home walked.class.now walked.bound.known walked.bound.names.now }
     requires fields { AreFields walked.class.now listed.member listed.base.now listed.declarators.now }
     requires there { slice_get listed.declarators.now index ≡ Some declarator.now }
     ensures { OnOk result (found.new ≡ told found.old (AtField names.now walked.entry.class.now listed.entry.access listed.entry.base.now declarator.now (place_in listed.entry.member index))) }
@@ -333,7 +333,7 @@ fn note_sound(
 }
 
 fn is_free(names: &Names, walked: Walked, sig: &Sig, member: usize) -> bool
-    requires walks { Walks names.now.program walked.home walked.class.now walked.circular walked.holders.now walked.bound.known walked.bound.names.now }
+    requires walks { Walks names.now.program walked.home walked.class.now walked.bound.known walked.bound.names.now }
     ensures { result ≡ is_new_routine walked.entry.class.now member sig.now }
 {
     let new = is_new_routine(names.tables(), walked.home.class, member, sig);
@@ -341,7 +341,7 @@ fn is_free(names: &Names, walked: Walked, sig: &Sig, member: usize) -> bool
 }
 
 fn note_routine(names: &Names, walked: Walked, sig: &Sig, member: usize, found: &mut Found)
-    requires walks { Walks names.now.program walked.home walked.class.now walked.circular walked.holders.now walked.bound.known walked.bound.names.now }
+    requires walks { Walks names.now.program walked.home walked.class.now walked.bound.known walked.bound.names.now }
     ensures { found.new ≡ after found.old (unless (is_new_routine walked.entry.class.now member sig.now) S2 sig.now.pos) }
 {
     let free = is_free(names, walked, sig, member);
@@ -357,7 +357,7 @@ pub fn ask_routine(
     member: usize,
     found: &mut Found,
 ) -> Result<(), AllocError>
-    requires walks { Walks names.now.program walked.home walked.class.now walked.circular walked.holders.now walked.bound.known walked.bound.names.now }
+    requires walks { Walks names.now.program walked.home walked.class.now walked.bound.known walked.bound.names.now }
     requires indexed { walked.index.now ≡ names.now.program }
     ensures { OnOk result (found.new ≡ told found.old (AtRoutine names.now walked.entry.class.now proto sig.now member)) }
 {

@@ -9,12 +9,9 @@ ghost use Rattle.uc_meaning.specs.Names.{place_in};
 ghost use Rattle.uc_meaning.specs.ProgramVisits.{class_visits, fields_visits, form_visits, members_visits, routine_visits, sig_env, sig_visits};
 ghost use Rattle.uc_meaning.specs.Scopes.{class_around, is_inner, plain_env, returns_scalar, sig_around};
 ghost use Rattle.uc_meaning.specs.Visits.{AtBase, AtClass, AtField, AtMark, AtRoutine, maybe_visits};
-ghost use Rattle.uc_owner.specs.Bound.{AreBound};
 ghost use Rattle.uc_types.specs.Told.{noted, told};
-ghost use Rattle.uc_tree.specs.Cells.{rows_of};
-ghost use Rattle.uc_tree.specs.Rows.{reaches};
 ghost use Rattle.uc_meaning.specs.Sorts.{class_at};
-ghost use Rattle.uc_classes.specs.Circling.{AreFields, Circling, Walks};
+ghost use Rattle.uc_classes.specs.Circling.{AreFields, Walks};
 
 use crate::ask::{ask_class, ask_field, ask_mark, ask_routine};
 use crate::body::{check_routine, check_sig};
@@ -35,9 +32,8 @@ use uc_types::names::Names;
 use uc_types::sort::{is_mutex, is_nomutex, is_plain, is_scalar_sort};
 use uc_types::tables::Tables;
 
-/// A class that is walked: its place and kind, whether it has itself in its fields, and then the flags of the classes that
-/// have it in theirs, the fields that its constructors bind to fields of the same object, and the names of its numbered
-/// members.
+/// A class that is walked: its place and kind, the fields that its constructors bind to fields of the same object, and the
+/// names of its numbered members.
 #[derive(Clone, Copy)]
 pub struct Walked<'a> {
     pub alloc: Global,
@@ -45,18 +41,9 @@ pub struct Walked<'a> {
     pub index: &'a Index<'a>,
     pub class: &'a Class,
     pub home: Home,
-    pub circular: bool,
-    pub holders: &'a [bool],
     pub bound: BoundFields<'a>,
     pub numbered: &'a [&'a Name],
     ghost indexed: { index.now ≡ tables.now },
-}
-
-// Whether a class has itself in its fields, and then the flags of the classes that have it in theirs.
-#[derive(Clone, Copy)]
-struct Circle<'a> {
-    circular: bool,
-    holders: &'a [bool],
 }
 
 /// A list of fields: the place of its member, the access and the base.
@@ -131,7 +118,7 @@ fn check_field(
     found: &mut Found,
 ) -> Result<(), AllocError>
     requires home { names.now.around.home ≡ Some walked.home }
-    requires walks { Walks names.now.program walked.home walked.class.now walked.circular walked.holders.now walked.bound.known walked.bound.names.now }
+    requires walks { Walks names.now.program walked.home walked.class.now walked.bound.known walked.bound.names.now }
     requires fields { AreFields walked.class.now listed.member listed.base.now listed.declarators.now }
     requires there { slice_get listed.declarators.now index ≡ Some declarator.now }
     ensures { OnOk result (found.new ≡ noted found.old (maybe_visits names.now declarator.now.len ++ AtField names.now walked.entry.class.now listed.entry.access listed.entry.base.now declarator.now (place_in listed.entry.member index) ∷ [])) }
@@ -149,7 +136,7 @@ fn check_fields(
     found: &mut Found,
 ) -> Result<(), AllocError>
     requires home { names.now.around.home ≡ Some walked.home }
-    requires walks { Walks names.now.program walked.home walked.class.now walked.circular walked.holders.now walked.bound.known walked.bound.names.now }
+    requires walks { Walks names.now.program walked.home walked.class.now walked.bound.known walked.bound.names.now }
     requires fields { AreFields walked.class.now listed.member listed.base.now listed.declarators.now }
     ensures { OnOk result (found.new ≡ noted found.old (fields_visits names.now walked.entry.class.now listed.entry.access listed.entry.base.now listed.entry.member 0 listed.entry.declarators.now)) }
 {
@@ -165,7 +152,7 @@ fn check_listed(
     at: Pos,
     found: &mut Found,
 ) -> Result<(), AllocError>
-    requires walks { Walks walked.tables.now walked.home walked.class.now walked.circular walked.holders.now walked.bound.known walked.bound.names.now }
+    requires walks { Walks walked.tables.now walked.home walked.class.now walked.bound.known walked.bound.names.now }
     requires fields { AreFields walked.class.now listed.member listed.base.now listed.declarators.now }
     ensures { OnOk result (found.new ≡ noted found.old (AtBase (plain_env walked.entry.tables.now (class_around walked.entry.home)) at listed.entry.base.now ∷ fields_visits (plain_env walked.entry.tables.now (class_around walked.entry.home)) walked.entry.class.now listed.entry.access listed.entry.base.now listed.entry.member 0 listed.entry.declarators.now)) }
 {
@@ -182,7 +169,7 @@ fn ask_inner(
     place: usize,
     found: &mut Found,
 ) -> Result<(), AllocError>
-    requires { Walks walked.tables.now walked.home walked.class.now walked.circular walked.holders.now walked.bound.known walked.bound.names.now }
+    requires { Walks walked.tables.now walked.home walked.class.now walked.bound.known walked.bound.names.now }
     ensures { OnOk result (found.new ≡ told found.old (AtRoutine (plain_env walked.entry.tables.now (class_around walked.entry.home)) walked.entry.class.now proto sig.now place)) }
 {
     let outer = Names::new(walked.alloc, walked.tables, class_around(walked.home));
@@ -205,7 +192,7 @@ fn check_inner(
     routine: &Routine,
     found: &mut Found,
 ) -> Result<(), AllocError>
-    requires { Walks walked.tables.now walked.home walked.class.now walked.circular walked.holders.now walked.bound.known walked.bound.names.now }
+    requires { Walks walked.tables.now walked.home walked.class.now walked.bound.known walked.bound.names.now }
     ensures { OnOk result (found.new ≡ noted found.old (AtRoutine (plain_env walked.entry.tables.now (class_around walked.entry.home)) walked.entry.class.now false routine.now.sig place ∷ routine_visits (sig_env walked.entry.tables.now walked.entry.home mark routine.now.sig) routine.now)) }
 {
     ask_inner(walked, false, &routine.sig, place, found)?;
@@ -221,7 +208,7 @@ fn check_proto(
     sig: &Sig,
     found: &mut Found,
 ) -> Result<(), AllocError>
-    requires { Walks walked.tables.now walked.home walked.class.now walked.circular walked.holders.now walked.bound.known walked.bound.names.now }
+    requires { Walks walked.tables.now walked.home walked.class.now walked.bound.known walked.bound.names.now }
     ensures { OnOk result (found.new ≡ noted found.old (AtRoutine (plain_env walked.entry.tables.now (class_around walked.entry.home)) walked.entry.class.now true sig.now place ∷ sig_visits (sig_env walked.entry.tables.now walked.entry.home mark sig.now) sig.now)) }
 {
     ask_inner(walked, true, sig, place, found)?;
@@ -237,7 +224,7 @@ fn check_form(
     found: &mut Found,
 ) -> Result<(), AllocError>
     requires at { slice_get walked.class.now.members place ≡ Some member.now }
-    requires walks { Walks walked.tables.now walked.home walked.class.now walked.circular walked.holders.now walked.bound.known walked.bound.names.now }
+    requires walks { Walks walked.tables.now walked.home walked.class.now walked.bound.known walked.bound.names.now }
     ensures { OnOk result (found.new ≡ noted found.old (form_visits walked.entry.tables.now walked.entry.home walked.entry.class.now place member.now.mark member.now.access member.now.form)) }
 {
     match &member.form {
@@ -274,7 +261,7 @@ fn check_member(
     found: &mut Found,
 ) -> Result<(), AllocError>
     requires at { slice_get walked.class.now.members place ≡ Some member.now }
-    requires walks { Walks walked.tables.now walked.home walked.class.now walked.circular walked.holders.now walked.bound.known walked.bound.names.now }
+    requires walks { Walks walked.tables.now walked.home walked.class.now walked.bound.known walked.bound.names.now }
     requires names { map (λ n. n.now) walked.numbered.now ≡ take MEMBERS (mutex_members walked.class.now) }
     requires few { length walked.numbered.now ≤ MEMBERS }
     ensures { OnOk result (found.new ≡ noted found.old (AtMark (plain_env walked.entry.tables.now (class_around walked.entry.home)) walked.entry.class.now member.now ∷ form_visits walked.entry.tables.now walked.entry.home walked.entry.class.now place member.now.mark member.now.access member.now.form)) }
@@ -287,7 +274,7 @@ fn check_member(
 
 #[tactic(auto, using(uc_bodies::proofs::Joined::joining))]
 fn check_members(walked: Walked, found: &mut Found) -> Result<(), AllocError>
-    requires walks { Walks walked.tables.now walked.home walked.class.now walked.circular walked.holders.now walked.bound.known walked.bound.names.now }
+    requires walks { Walks walked.tables.now walked.home walked.class.now walked.bound.known walked.bound.names.now }
     requires names { map (λ n. n.now) walked.numbered.now ≡ take MEMBERS (mutex_members walked.class.now) }
     requires few { length walked.numbered.now ≤ MEMBERS }
     ensures { OnOk result (found.new ≡ noted found.old (members_visits walked.entry.tables.now walked.entry.home walked.entry.class.now 0 walked.entry.class.now.members)) }
@@ -303,23 +290,6 @@ fn members_in(class: &Class) -> &[Member]
     ensures { result.now ≡ class.now.members }
 {
     &class.members
-}
-
-// The flags of the classes that have a class in their fields, where it has itself in its own.
-fn holders_of(
-    alloc: Global,
-    tables: &Tables,
-    place: usize,
-    circular: bool,
-) -> Result<Vec<bool>, AllocError>
-    requires { circular ≡ false → (steps : ℕ) → reaches steps (rows_of tables.now) place place ≡ false }
-    ensures { IfOk result (λ v. Circling tables.now place circular v.items) }
-{
-    if circular {
-        let holders = tables.sizes().holders(alloc, place)?;
-        return Ok(holders);
-    }
-    Ok(Vec::new(alloc))
 }
 
 // What the rules ask of a class as a whole.
@@ -341,19 +311,17 @@ fn ask_whole(
     Ok(())
 }
 
-// The members of a class, with the flags of the classes that have it in their fields.
+// The members of a class, with the fields that its constructors bind to fields of the same object.
 fn check_held<'x>(
     alloc: Global,
     tables: &'x Tables<'x>,
     index: &'x Index<'x>,
     class: &'x Class,
     home: Home,
-    circle: Circle<'x>,
     found: &mut Found,
 ) -> Result<(), AllocError>
     requires indexed { index.now ≡ tables.now }
     requires at { class_at tables.now home.class ≡ Some class.now }
-    requires circle { Circling tables.now home.class circle.circular circle.holders.now }
     ensures { OnOk result (found.new ≡ noted found.old (members_visits tables.now home class.now 0 class.now.members)) }
 {
     let known = is_mutex(class.kind) && found.is_open(Rule::O5, class.pos);
@@ -364,8 +332,6 @@ fn check_held<'x>(
         index,
         class,
         home,
-        circular: circle.circular,
-        holders: circle.holders,
         bound: BoundFields {
             known,
             names: &names,
@@ -373,28 +339,6 @@ fn check_held<'x>(
         numbered: tables.numbered(home.class),
     };
     check_members(walked, found)?;
-    Ok(())
-}
-
-fn check_inside(
-    alloc: Global,
-    tables: &Tables,
-    index: &Index,
-    class: &Class,
-    home: Home,
-    found: &mut Found,
-) -> Result<(), AllocError>
-    requires indexed { index.now ≡ tables.now }
-    requires at { class_at tables.now home.class ≡ Some class.now }
-    ensures { OnOk result (found.new ≡ noted found.old (members_visits tables.now home class.now 0 class.now.members)) }
-{
-    let circular = tables.sizes().has_itself(home.class);
-    let holders = holders_of(alloc, tables, home.class, circular)?;
-    let circle = Circle {
-        circular,
-        holders: &holders,
-    };
-    check_held(alloc, tables, index, class, home, circle, found)?;
     Ok(())
 }
 
@@ -418,6 +362,6 @@ pub fn check_class(
         kind: class.kind,
     };
     ask_whole(alloc, tables, index, class, home, events, found)?;
-    check_inside(alloc, tables, index, class, home, found)?;
+    check_held(alloc, tables, index, class, home, found)?;
     Ok(())
 }

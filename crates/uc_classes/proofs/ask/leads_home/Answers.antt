@@ -1,10 +1,10 @@
-use Rattle.std.proofs.Common.{ap, subst, sym, ◌∙◌}
+use Rattle.std.proofs.Common.{◌≡◌, Some, ap, subst, sym, ◌∙◌}
 use Rattle.uc_meaning.specs.ClassBreaks.{home_leads_back, leads_back}
 use Rattle.uc_classes.specs.Circling.{Walks}
 use Rattle.uc_classes.proofs.ask.leads_home.Goals as goal
 
 pub leads_back-back-requires-clause-walks : goal.leads_back-back-requires-clause-walks
-leads_back-back-requires-clause-walks c = subst (λ p. Walks p c.args.walked.home c.args.walked.class.now c.args.walked.circular c.args.walked.holders.now c.args.walked.bound.known c.args.walked.bound.names.now) (sym c.tables.ensures) c.requires.walks
+leads_back-back-requires-clause-walks c = subst (λ p. Walks p c.args.walked.home c.args.walked.class.now c.args.walked.bound.known c.args.walked.bound.names.now) (sym c.tables.ensures) c.requires.walks
 
 pub returns : goal.returns
 returns c =

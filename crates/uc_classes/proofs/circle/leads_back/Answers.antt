@@ -1,11 +1,16 @@
-use Rattle.std.proofs.Common.{false, subst, sym}
-use Rattle.uc_classes.specs.Circling.{Circling}
-use Rattle.uc_classes.proofs.NoBack.{no_back}
+use Rattle.std.proofs.Common.{ap, subst, sym, ◌∙◌}
+use Rattle.uc_tree.specs.Cells.{rows_of}
+use Rattle.uc_meaning.specs.ClassBreaks.{field_object}
+use Rattle.uc_sizes.specs.Backs.{HasField, object_back}
+use Rattle.uc_classes.proofs.FieldLemmas.{has_field}
 use Rattle.uc_classes.proofs.circle.leads_back.Goals as goal
 
-pub returns-then-not-walked : goal.returns-then-not-walked
-returns-then-not-walked c =
+pub leads_back-back-requires-clause-field : goal.leads_back-back-requires-clause-field
+leads_back-back-requires-clause-field c =
     let p = c.args.tables.now in
     let k = c.args.walked.home.class in
-    let never : Circling p k false c.args.walked.holders.now = subst (λ b. Circling p k b c.args.walked.holders.now) c.if-not-walked.true c.requires.walks.circle in
-    sym (no_back p k c.args.walked.class.now c.args.listed.member c.args.index c.args.listed.base.now c.args.listed.declarators.now c.args.declarator.now c.requires.walks.at c.requires.fields c.requires.there never)
+    let field = has_field p k c.args.walked.class.now c.args.listed.member c.args.index c.args.listed.base.now c.args.listed.declarators.now c.args.declarator.now c.requires.walks.at c.requires.fields c.requires.there in
+    subst (λ o. HasField (rows_of p) k o) (sym c.field_object-object.ensures) field
+
+pub returns : goal.returns
+returns c = c.leads_back-back.ensures ∙ ap (λ o. object_back (rows_of c.args.tables.now) c.args.walked.home.class o) c.field_object-object.ensures

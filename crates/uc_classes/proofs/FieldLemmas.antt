@@ -1,17 +1,18 @@
--- No field of a class that has not itself in its fields leads back to it.
-use Rattle.std.proofs.Common.{◌≡◌, ℕ, zero, suc, List, [], ◌∷◌, Bool, true, false, Option, Some, ◌||◌, length, map, refl, ap, sym, ◌∙◌}
+-- The fields of a class, as the declarators of its members.
+use Rattle.std.proofs.Common.{◌≡◌, ℕ, zero, suc, ◌+◌, ◌<◌, List, [], ◌∷◌, ◌++◌, Bool, true, false, Option, Some, None, ◌||◌, length, map, refl, ap, sym, ◌∙◌}
 use Rattle.std.specs.Prelude.{slice_get, ℤ}
 use Rattle.std.specs.List.{list_any}
 use Rattle.std.proofs.lemmas.List.Folds.{list_any-append}
 use Rattle.uc_tree.specs.declared.kinds.Base.{Base}
 use Rattle.uc_tree.specs.declared.rows.Held.{Held}
-use Rattle.uc_tree.specs.Rows.{Row, row_at, leads, reaches}
+use Rattle.uc_tree.specs.Rows.{Row, row_at}
 use Rattle.uc_tree.specs.Constants.{constants_of}
 use Rattle.uc_tree.specs.Cells.{classes_of, rows_of, row_of, held_by, member_held, members_held, seen_in}
 use Rattle.uc_tree.specs.Statements.{Declarator}
-use Rattle.uc_tree.specs.Programs.{Class, Member, Program}
+use Rattle.uc_tree.specs.Programs.{Class, Member, FieldsMember, Program}
 use Rattle.uc_meaning.specs.Sorts.{class_at}
-use Rattle.uc_meaning.specs.ClassBreaks.{fields_at, form_fields, leads_back, member_fields}
+use Rattle.uc_meaning.specs.ClassBreaks.{field_object, fields_at, form_fields, member_fields}
+use Rattle.uc_sizes.specs.Backs.{HasField}
 use Rattle.uc_classes.specs.Circling.{AreFields}
 
 or_left : (a b : Bool) → a ≡ true → (a || b) ≡ true
@@ -43,23 +44,16 @@ row_there f [] (suc k) c h = absurd (cc)
 row_there f (x ∷ cs) zero c h = let same : x ≡ c = cc in ap f same
 row_there f (x ∷ cs) (suc k) c h = row_there f cs k c h
 
-not_true : (b : Bool) → (b ≡ true → ⊥) → b ≡ false
-not_true true h = absurd (h refl)
-not_true false h = refl
-
-back_reaches : (p : Program) (k : ℕ) (c : Class) (j i : ℕ) (b : Base) (ds : List Declarator) (d : Declarator) → class_at p k ≡ Some c → AreFields c j b ds → slice_get ds i ≡ Some d → leads_back p k b d ≡ true → reaches (suc (length (rows_of p))) (rows_of p) k k ≡ true
-unfolding reaches
-back_reaches p k c j i b ds d at f there e =
-    let n = length (rows_of p) in
-    let q = leads (reaches n (rows_of p) k) k in
+pub has_field : (p : Program) (k : ℕ) (c : Class) (j i : ℕ) (b : Base) (ds : List Declarator) (d : Declarator) → class_at p k ≡ Some c → AreFields c j b ds → slice_get ds i ≡ Some d → HasField (rows_of p) k (field_object p b d)
+has_field p k c j i b ds d at f there =
     let named = seen_in (constants_of p.items) c in
     let cs = classes_of p.items in
-    let here : list_any q (map (held_by cs named b) ds) ≡ true = any_at (held_by cs named b) q ds i d there e in
-    let form : list_any q (member_held cs named f.member.form) ≡ true = ap (λ x. list_any q (member_held cs named x)) f.form ∙ here in
-    ap (λ r. list_any q r.held) (row_there (row_of cs (constants_of p.items)) cs k c at) ∙ member_any cs named q c.members j f.member f.there form
-
-pub no_back : (p : Program) (k : ℕ) (c : Class) (j i : ℕ) (b : Base) (ds : List Declarator) (d : Declarator) → class_at p k ≡ Some c → AreFields c j b ds → slice_get ds i ≡ Some d → ((steps : ℕ) → reaches steps (rows_of p) k k ≡ false) → leads_back p k b d ≡ false
-no_back p k c j i b ds d at f there never = not_true (leads_back p k b d) (λ e. let r : reaches (suc (length (rows_of p))) (rows_of p) k k ≡ true = back_reaches p k c j i b ds d at f there e in let s : reaches (suc (length (rows_of p))) (rows_of p) k k ≡ false = never (suc (length (rows_of p))) in absurd (cc))
+    record {
+      any = λ q same.
+          let here : list_any q (map (held_by cs named b) ds) ≡ true = any_at (held_by cs named b) q ds i d there (same (held_by cs named b d) refl) in
+          let form : list_any q (member_held cs named f.member.form) ≡ true = ap (λ x. list_any q (member_held cs named x)) f.form ∙ here in
+          ap (λ r. list_any q r.held) (row_there (row_of cs (constants_of p.items)) cs k c at) ∙ member_any cs named q c.members j f.member f.there form;
+    }
 
 pub fields_are : (c : Class) (j : ℕ) (b : Base) (ds : List Declarator) → AreFields c j b ds → ds ≡ fields_at c j
 fields_are c j b ds f = sym (ap member_fields f.there ∙ ap form_fields f.form)
