@@ -10,6 +10,7 @@ use crate::shown::shown;
 use std::alloc::{AllocError, Global};
 use std::io;
 use uc_code::rows::RoutineCode;
+use uc_frames::call::Call;
 use uc_frames::cell::{Cell, further_on, number_in};
 use uc_frames::members::Members;
 use uc_frames::pieces::print_request;
@@ -30,6 +31,13 @@ const CALLED: RoutineCode = RoutineCode {
     entry: 20,
     cells: 3,
     params: 2,
+};
+
+const CALL: Call = Call {
+    routine: CALLED,
+    this: Cell::Nothing,
+    taken: 2,
+    counts: true,
 };
 
 /// A line of a name and cells.
@@ -67,7 +75,7 @@ fn called(alloc: Global) -> Result<String, AllocError> {
     work.push(Cell::Number(5))?;
     work.push(Cell::Object(6))?;
     if work.calls() < CALLS {
-        work.enter(CALLED, Cell::Nothing)?;
+        work.enter(CALL)?;
     }
     let cells = [
         number(work.calls()),
@@ -86,7 +94,7 @@ fn called_bare(alloc: Global) -> Result<String, AllocError> {
     let mut work = Work::first(alloc, MAIN, 4)?;
     work.push(Cell::Number(5))?;
     if work.calls() < CALLS {
-        work.enter(CALLED, Cell::Nothing)?;
+        work.enter(CALL)?;
     }
     let cells = [work.get(0), work.get(1), work.get(2)];
     line(alloc, "called bare", cells.as_slice())
@@ -100,7 +108,7 @@ fn returned(alloc: Global) -> Result<String, AllocError> {
     work.push(Cell::Number(5))?;
     work.push(Cell::Number(6))?;
     if work.calls() < CALLS {
-        work.enter(CALLED, Cell::Nothing)?;
+        work.enter(CALL)?;
     }
     work.set(1, Cell::Number(70));
     work.push(Cell::Number(71))?;

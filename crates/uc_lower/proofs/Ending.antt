@@ -10,6 +10,7 @@ use Rattle.uc_tree.specs.Gathered.{gathered_all}
 use Rattle.uc_tree.specs.Numbering.{Defined, is_plain, own_texts, own_sites, routines_of, sites_of, texts_of}
 use Rattle.uc_tree.specs.Programs.{Class, Program, Sig}
 use Rattle.uc_tree.specs.Resolve.{routine_scope, routine_meant, routines_meant, classes_meant, source_of}
+use Rattle.uc_tree.proofs.Classless.{routines_are}
 use Rattle.uc_tree.specs.Sizes.{program_size}
 use Rattle.uc_tree.specs.Source as source
 use Rattle.uc_tree.specs.StatementSizes.{stmts_size}
@@ -55,6 +56,13 @@ built_params p b i x at =
     let after = (and_parts (is_plain s.role) (is_built_result s.ret && are_scalars s.params) behind).1 in
     (and_parts (is_built_result s.ret) (are_scalars s.params) after).1
 
+built_plain : (p : Program) → IsBuilt p → (i : ℕ) (x : Defined) → slice_get (routines_of p) i ≡ Some x → is_plain x.routine.sig.role ≡ true
+built_plain p b i x at =
+    let s : Sig = x.routine.sig in
+    let whole : is_built_sig s ≡ true = (and_parts (is_built_sig s) (no_inits x.routine.inits && are_built x.routine.body) (built_routine p b i x at)).0 in
+    let behind = (and_parts (is_classless s.owner) (is_plain s.role && (is_built_result s.ret && are_scalars s.params)) whole).1 in
+    (and_parts (is_plain s.role) (is_built_result s.ret && are_scalars s.params) behind).0
+
 -- so many routines stand, and are counted
 pub record Stands (p : Program) (i t s : ℕ) (out : Draft) : Type 0 where
   pub lays : Lays p (routines_of p) i out
@@ -69,6 +77,7 @@ pub record Follows (p : Program) (t i : ℕ) (x : Defined) (out : Draft) : Type 
   pub texts : t + stmts_size x.routine.body ≤ PROGRAM_SIZE
   pub built : are_built x.routine.body ≡ true
   pub scalars : are_scalars x.routine.sig.params ≡ true
+  pub plain : is_plain x.routine.sig.role ≡ true
 
 pub follows : (p : Program) (i texts sites : ℕ) (x : Defined) (out : Draft) → IsBuilt p → Fits p → slice_get (routines_of p) i ≡ Some x → Stands p i texts sites out → Follows p texts i x out
 follows p i texts sites x out b f at h =
@@ -86,6 +95,7 @@ follows p i texts sites x out b f at h =
       texts = omega (arith, few, all, size, counted);
       built = built_body p b i x at;
       scalars = built_params p b i x at;
+      plain = built_plain p b i x at;
     }
 
 pub stands_none : (p : Program) (d : Draft) → Lays p (routines_of p) 0 d → Stands p 0 0 0 d
@@ -130,7 +140,7 @@ whole p count new sites texts classes code b n h se te le ce =
     subst (λ (k : List Defined). RoutinesAt (laid_in new) (routines_meant p k 0 0 0) (take count new.routines) 0 (length new.ops)) all h.code) in
     let objects : (source_of p).classes ≡ record { cells = 0 } ∷ [] = ap (λ (l : List Class). record { cells = 0 } ∷ classes_meant p 0 l) (no_classes p b) in
     record {
-      routines = subst (λ (x : Laid). RoutinesAt x (routines_meant p (routines_of p) 0 0 0) code.routines 0 (length x.ops)) laid at;
+      routines = subst (λ (l : List source.Routine). RoutinesAt (laid_of code) l code.routines 0 (length code.ops)) (sym (routines_are p (no_classes p b))) (subst (λ (x : Laid). RoutinesAt x (routines_meant p (routines_of p) 0 0 0) code.routines 0 (length x.ops)) laid at);
       rows = ap (λ (x : Code). x.rows) ce ∙ h.rows;
       classes = ap (λ (x : Code). x.classes) ce ∙ le ∙ sym (ap (λ (k : List source.Class). map (λ (x : source.Class). x.cells) k) objects);
       sites = ap (λ (x : Code). x.sites) ce ∙ se;

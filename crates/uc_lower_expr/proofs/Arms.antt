@@ -11,7 +11,8 @@ use Rattle.uc_tree.specs.Programs.{Constant, Program}
 use Rattle.uc_tree.specs.Constants.{constants_of, constant_named}
 use Rattle.uc_tree.specs.Numbering.{routines_of}
 use Rattle.uc_tree.specs.Source.{Shape, Integer, Character, Truth, Binding, Last, Field, Array, shape_cells, Operator, Plus, Minus, Expr, Literal, Variable as Var, Get, Operate, Set}
-use Rattle.uc_tree.specs.Resolve.{Meant, shape_of, converted, value_by, value_of, Standing, AtVariable, AtPlace, AsValue, AsInput, AsFail, AsRoutine, AsMember, AsCondition, AsEvent, AsNothing, known_named, known_meant, name_meant, item_meant, constant_meant_by, routine_meant_by, routine_from, variable_in, updated, updated_by, stepped, stepped_by, step_meant, field_by, fail_name, bool_type, no_meaning}
+use Rattle.uc_tree.specs.Objects.{shape_of}
+use Rattle.uc_tree.specs.Resolve.{Meant, converted, value_by, value_of, Standing, AtVariable, AtField, AtPlace, AsValue, AsInput, AsFail, AsRoutine, AsMember, AsCondition, AsEvent, AsNothing, known_named, known_meant, name_meant, item_meant, constant_meant_by, routine_meant_by, routine_from, variable_in, updated, updated_by, stepped, stepped_by, step_meant, field_by, fail_name, bool_type, no_meaning}
 use Rattle.uc_code.specs.declared.op.Op.{Op}
 use Rattle.uc_code.specs.declared.op.Op.TheVariants as op
 use Rattle.uc_code.specs.declared.rows.Mark.{Mark}
@@ -28,7 +29,7 @@ use Rattle.uc_lower_expr.specs.declared.meaning.Meaning.{Meaning}
 use Rattle.uc_lower_expr.specs.declared.names.Variable.{Variable}
 use Rattle.uc_lower_expr.specs.declared.program_names.Fixed.{Fixed}
 use Rattle.uc_lower_expr.specs.Numbered.{IsFixed}
-use Rattle.uc_lower_expr.specs.Meanings.{cell_in, shape_as, stands_as, Tells}
+use Rattle.uc_lower_expr.specs.Meanings.{input_member, cell_in, shape_as, stands_as, Tells}
 use Rattle.uc_lower_expr.specs.Added.{Adds, Cuts, Grows, ExprCode, ConvertCode, OpCode, fetched}
 use Rattle.uc_lower_expr.specs.Parts.{BeginCode, EndCode, UpdateCode, SetByCode, BehindCode, StepCode, Restarts, step_op_of, place_op_of, standing_by, bumped, IsVariable}
 use Rattle.uc_lower_expr.proofs.Adding.{adds_nothing, adds_more, adds_as, adds_both, regroup, and_nothing}
@@ -147,9 +148,9 @@ module _ (ms : List Mark) where
   known_code : (line : ℕ) (k : Known) (b : Bool) (old new : Draft) → k.ty.by_ref ≡ b → Adds 1 (OpCode line (place_op_of b k.cell)) old new → Adds 1 (ExprCode line ms (known_meant k).expr) old new
   known_code line k b old new e h = subst (λ (x : Bool). Adds 1 (ExprCode line ms (meant_by x k).expr) old new) (sym e) (known_by line k b old new h)
 
-  pub name_known : (p : Program) (line : ℕ) (names : List Known) (name : List ℕ) (v : Variable) (o : Op) (old new : Draft) → IsVariable names name v → o ≡ place_op_of v.by_ref v.cell → Adds 1 (OpCode line o) old new → Adds 1 (ExprCode line ms (name_meant p name (known_named names name)).expr) old new
-  name_known p line names name v o old new n i h =
-      subst (λ (x : Option Known). Adds 1 (ExprCode line ms (name_meant p name x).expr) old new) (sym n.is) (
+  pub name_known : (p : Program) (class line : ℕ) (names : List Known) (name : List ℕ) (v : Variable) (o : Op) (old new : Draft) → IsVariable names name v → o ≡ place_op_of v.by_ref v.cell → Adds 1 (OpCode line o) old new → Adds 1 (ExprCode line ms (name_meant p class name (known_named names name)).expr) old new
+  name_known p class line names name v o old new n i h =
+      subst (λ (x : Option Known). Adds 1 (ExprCode line ms (name_meant p class name x).expr) old new) (sym n.is) (
       known_code line n.known v.by_ref old new n.by_ref (
       subst (λ (k : ℕ). Adds 1 (OpCode line (place_op_of v.by_ref k)) old new) (sym n.cell) (
       subst (λ (x : Op). Adds 1 (OpCode line x) old new) i h)))
@@ -158,17 +159,18 @@ module _ (ms : List Mark) where
   field_input line true code a z h = h
   field_input line false code a z h = h
 
-  pub field_code : (line : ℕ) (s : Standing) (m : Meant) (name : List ℕ) (code : Laid) (a z : ℕ) → One code (op.Push (pos 0)) line a z → ExprAt code line ms (field_by s m name).expr a z
-  field_code line (AtVariable k) m name code a z h = h
-  field_code line AtPlace m name code a z h = h
-  field_code line AsValue m name code a z h = h
-  field_code line AsFail m name code a z h = h
-  field_code line (AsRoutine r) m name code a z h = h
-  field_code line (AsMember r) m name code a z h = h
-  field_code line (AsCondition k) m name code a z h = h
-  field_code line (AsEvent k) m name code a z h = h
-  field_code line AsNothing m name code a z h = h
-  field_code line AsInput m name code a z h = field_input line (same_name name fail_name) code a z h
+  pub field_code : (line : ℕ) (s : Standing) (name : List ℕ) (code : Laid) (a z : ℕ) → One code (op.Push (pos 0)) line a z → ExprAt code line ms (input_member s name).expr a z
+  field_code line (AtVariable k) name code a z h = h
+  field_code line (AtField s i) name code a z h = h
+  field_code line AtPlace name code a z h = h
+  field_code line AsValue name code a z h = h
+  field_code line AsFail name code a z h = h
+  field_code line (AsRoutine r) name code a z h = h
+  field_code line (AsMember r) name code a z h = h
+  field_code line (AsCondition k) name code a z h = h
+  field_code line (AsEvent k) name code a z h = h
+  field_code line AsNothing name code a z h = h
+  field_code line AsInput name code a z h = field_input line (same_name name fail_name) code a z h
 
   pub item_fixed : (p : Program) (line : ℕ) (name : List ℕ) (v : Fixed) (x : ℤ) (old new : Draft) → IsFixed p name v → x ≡ v.value → Adds 1 (OpCode line (op.Push x)) old new → Adds 1 (ExprCode line ms (item_meant p name).expr) old new
   item_fixed p line name v x old new f e h =

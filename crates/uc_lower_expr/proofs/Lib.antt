@@ -1,6 +1,7 @@
 pub mod Adding
 pub mod Arms
 pub mod Growing
+pub mod Members
 pub mod Naming
 pub mod Numbers
 pub mod Settled

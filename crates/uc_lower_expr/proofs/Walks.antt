@@ -21,8 +21,11 @@ use Rattle.uc_tree.specs.Expressions as tree
 use Rattle.uc_tree.specs.Expressions.{exprs_of, parts_of, links_of}
 use Rattle.uc_tree.specs.ExpressionViews.{expr_at, part_at}
 use Rattle.uc_tree.specs.ExpressionSizes.{expr_size, exprs_size, part_size, parts_size, link_size, links_size}
-use Rattle.uc_tree.specs.Source.{Shape, Plus, Minus, Times, Over, Modulo, Expr, Call, Exprs, NoExprs, MoreExprs}
-use Rattle.uc_tree.specs.Resolve.{Meant, Context, meant, value_by, value_of, shape_of, converted, Standing, AsValue, unary_meant, binary_meant, assign_meant, written_by, variable_in, link_meant, chain_meant, part_meant, args_meant, arg_meant, args_by, params_of, parts_meant, element_by, element_meant, call_by, call_meant, step_meant, no_meaning}
+use Rattle.uc_tree.specs.Cells.{classes_of}
+use Rattle.uc_tree.proofs.Classless.{base_is}
+use Rattle.uc_tree.specs.Source.{Shape, shape_cells, Plus, Minus, Times, Over, Modulo, Expr, Call, Exprs, NoExprs, MoreExprs}
+use Rattle.uc_tree.specs.Objects.{shape_of}
+use Rattle.uc_tree.specs.Resolve.{Meant, Context, meant, value_by, value_of, converted, Standing, AsValue, unary_meant, binary_meant, assign_meant, written_by, variable_in, link_meant, chain_meant, part_meant, args_meant, arg_meant, args_by, params_of, parts_meant, element_by, element_meant, call_by, call_meant, step_meant, no_meaning}
 use Rattle.uc_code.specs.declared.op.Op.{Op}
 use Rattle.uc_code.specs.declared.op.Op.TheVariants as op
 use Rattle.uc_code.specs.declared.rows.Mark.{Mark}
@@ -290,19 +293,19 @@ module _ (ms : List Mark) where
   right_as i j n line e old new h a = subst (λ (x : Joining). Adds n (RightCode line ms x e) old new) (sym h) a
 
   -- an element
-  pub arm_no_element : (n line a : ℕ) (i : Meant) (s t : Meaning) (old new : Draft) → 1 ≤ n → a ≤ length old.ops → s.elements ≡ None → t ≡ record { scalar = scalar.Number; elements = None; standing = standing.Nothing } → Restarts (op.Push (pos 0)) line a old new → Grows n line ms a (λ m. element_meant m i) s t old new
-  arm_no_element n line a i s t old new k l e q h =
-      grows_restart n line ms a (λ m. element_meant m i) s t (op.Push (pos 0)) old new k l h
-      (λ m u. subst (λ (x : Meaning). Tells x (element_meant m i)) (sym q) (subst (λ (o : Option ℕ). Tells (record { scalar = scalar.Number; elements = None; standing = standing.Nothing }) (element_by o m (value_of i))) (sym (u.len ∙ e)) (record { shape = refl; len = refl; standing = refl })))
-      (λ m u code z w. subst (λ (o : Option ℕ). ExprAt code line ms (element_by o m (value_of i)).expr a z) (sym (u.len ∙ e)) w)
+  pub arm_no_element : (p : Program) (n line a : ℕ) (i : Meant) (s t : Meaning) (old new : Draft) → 1 ≤ n → a ≤ length old.ops → s.elements ≡ None → t ≡ record { scalar = scalar.Number; elements = None; standing = standing.Nothing } → Restarts (op.Push (pos 0)) line a old new → Grows n line ms a (λ m. element_meant p m i) s t old new
+  arm_no_element p n line a i s t old new k l e q h =
+      grows_restart n line ms a (λ m. element_meant p m i) s t (op.Push (pos 0)) old new k l h
+      (λ m u. subst (λ (x : Meaning). Tells x (element_meant p m i)) (sym q) (subst (λ (o : Option ℕ). Tells (record { scalar = scalar.Number; elements = None; standing = standing.Nothing }) (element_by p o m (value_of i))) (sym (u.len ∙ e)) (record { shape = refl; len = refl; standing = refl })))
+      (λ m u code z w. subst (λ (o : Option ℕ). ExprAt code line ms (element_by p o m (value_of i)).expr a z) (sym (u.len ∙ e)) w)
 
-  pub arm_element : (n k line a length_of : ℕ) (i : Meant) (s : Meaning) (old mid new : Draft) → n + 1 ≤ k → a ≤ length old.ops → s.elements ≡ Some length_of → Adds n (ExprCode line ms (value_of i)) old mid → Adds 1 (OpCode line (op.Index length_of 1)) mid new → Grows k line ms a (λ m. element_meant m i) s (record { scalar = s.scalar; elements = None; standing = standing.Place }) old new
-  arm_element n k line a c i s old mid new r l e h g =
-      grows_adds k line ms a (λ m. element_meant m i) s (record { scalar = s.scalar; elements = None; standing = standing.Place }) (λ code. Both (ExprAt code line ms (value_of i)) (One code (op.Index c 1) line)) old new l
+  pub arm_element : (p : Program) → classes_of p.items ≡ [] → (n k line a length_of : ℕ) (i : Meant) (s : Meaning) (old mid new : Draft) → n + 1 ≤ k → a ≤ length old.ops → s.elements ≡ Some length_of → Adds n (ExprCode line ms (value_of i)) old mid → Adds 1 (OpCode line (op.Index length_of 1)) mid new → Grows k line ms a (λ m. element_meant p m i) s (record { scalar = s.scalar; elements = None; standing = standing.Place }) old new
+  arm_element p none n k line a c i s old mid new r l e h g =
+      grows_adds k line ms a (λ m. element_meant p m i) s (record { scalar = s.scalar; elements = None; standing = standing.Place }) (λ code. Both (ExprAt code line ms (value_of i)) (One code (op.Index c 1) line)) old new l
       (adds_more r (adds_both (expr_stable line ms (value_of i)) h g))
-      (λ m u. subst (λ (o : Option ℕ). Tells (record { scalar = s.scalar; elements = None; standing = standing.Place }) (element_by o m (value_of i))) (sym (u.len ∙ e)) (record { shape = u.shape; len = refl; standing = refl }))
-      (λ m u code b z w v. subst (λ (o : Option ℕ). ExprAt code line ms (element_by o m (value_of i)).expr a z) (sym (u.len ∙ e))
-      (record { middle = b; first = w; second = record { middle = v.middle; first = v.first; second = subst (λ (y : ℕ). One code (op.Index c y) line v.middle z) (sym (element_cell m.ty.base)) v.second } }))
+      (λ m u. subst (λ (o : Option ℕ). Tells (record { scalar = s.scalar; elements = None; standing = standing.Place }) (element_by p o m (value_of i))) (sym (u.len ∙ e)) (record { shape = u.shape; len = refl; standing = refl }))
+      (λ m u code b z w v. subst (λ (o : Option ℕ). ExprAt code line ms (element_by p o m (value_of i)).expr a z) (sym (u.len ∙ e))
+      (record { middle = b; first = w; second = record { middle = v.middle; first = v.first; second = subst (λ (y : ℕ). One code (op.Index c y) line v.middle z) (sym (ap shape_cells (base_is p none m.ty.base) ∙ element_cell m.ty.base)) v.second } }))
 
   -- calls
 

@@ -1,6 +1,8 @@
 -- What lowering tells of an expression besides its code.
-use Rattle.std.specs.Prelude.{◌≡◌, ℕ, Option, Some, None}
-use Rattle.uc_tree.specs.Source.{Shape, Integer, Character, Truth}
+use Rattle.std.specs.Prelude.{◌≡◌, ℕ, List, pos, Option, Some, None, if◌then◌else◌}
+use Rattle.uc_tree.specs.Names.{same_name}
+use Rattle.uc_tree.specs.Source.{Shape, Integer, Character, Truth, Literal}
+use Rattle.uc_tree.specs.Objects.{shape_of}
 use Rattle.uc_tree.specs.Resolve as resolve
 use Rattle.uc_lower_expr.specs.declared.meaning.Scalar.{Scalar}
 use Rattle.uc_lower_expr.specs.declared.meaning.Scalar.TheVariants as scalar
@@ -34,6 +36,11 @@ stands_as standing.Nothing = resolve.AsNothing
 
 -- what is told of an expression that stands for this: how its base keeps a number, its length, and its standing
 pub record Tells (told : Meaning) (m : resolve.Meant) : Type 0 where
-  pub shape : resolve.shape_of m.ty.base ≡ shape_as told.scalar
+  pub shape : shape_of m.ty.base ≡ shape_as told.scalar
   pub len : m.ty.len ≡ told.elements
   pub standing : m.standing ≡ stands_as told.standing
+
+-- a part behind what stands so, in a program without classes: only `cin` has one
+abbrev pub input_member : resolve.Standing → List ℕ → resolve.Meant
+input_member resolve.AsInput name = if same_name name resolve.fail_name then record { expr = Literal (pos 0); ty = resolve.bool_type; standing = resolve.AsFail } else resolve.no_meaning
+input_member _ name = resolve.no_meaning

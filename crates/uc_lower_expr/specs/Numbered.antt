@@ -3,8 +3,10 @@ use Rattle.std.specs.Prelude.{◌≡◌, ℕ, suc, List, [], ◌∷◌, Bool, �
 use Rattle.uc_names.specs.Blocks.{Block, found}
 use Rattle.uc_tree.specs.Programs.{Sig, Routine, Constant, Program}
 use Rattle.uc_tree.specs.Constants.{constants_of, constant_named, value_of_name}
+use Rattle.uc_tree.specs.Cells.{classes_of}
 use Rattle.uc_tree.specs.Numbering.{is_plain, routines_of}
-use Rattle.uc_tree.specs.Resolve.{is_here, is_named, routine_from, value_or_zero, shape_of}
+use Rattle.uc_tree.specs.Objects.{shape_of}
+use Rattle.uc_tree.specs.Resolve.{is_here, is_named, routine_from, value_or_zero}
 use Rattle.uc_lower_expr.specs.Meanings.{shape_as}
 use Rattle.uc_lower_expr.specs.declared.program_names.Fixed.{Fixed}
 
@@ -21,7 +23,9 @@ pub record AreAmong (routines : List Routine) (numbers : List Block) : Type 0 wh
   pub one : length numbers ≡ 1
   pub at : (name : List ℕ) → found numbers name ≡ number_among routines 0 name
 
+-- so they are of a program without classes
 pub record AreNumbered (p : Program) (routines : List Routine) (numbers : List Block) : Type 0 where
+  pub classless : classes_of p.items ≡ []
   pub are : routines ≡ map (λ d. d.routine) (routines_of p)
   pub at : (name : List ℕ) → found numbers name ≡ routine_from (routines_of p) 0 name
 

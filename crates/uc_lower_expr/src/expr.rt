@@ -7,7 +7,7 @@ ghost use Rattle.uc_tree.specs.ExpressionSizes.{expr_size, exprs_size, link_size
 ghost use Rattle.uc_tree.specs.Numbering.{routines_of};
 ghost use Rattle.uc_tree.specs.Resolve.{Meant, meant, value_of, unary_meant, assign_meant, link_meant, chain_meant, part_meant, parts_meant, element_meant, field_meant, call_meant, args_meant, args_by, name_meant, item_meant, routine_meant_by, routine_from, known_named};
 ghost use Rattle.uc_lower_expr.specs.Contexts.{context_in};
-ghost use Rattle.uc_lower_expr.specs.Meanings.{Tells, shape_as};
+ghost use Rattle.uc_lower_expr.specs.Meanings.{Tells, shape_as, input_member};
 ghost use Rattle.uc_lower_expr.specs.Added.{Adds, Grows, ExprCode, ArgumentsCode};
 ghost use Rattle.uc_lower_expr.specs.Parts.{RightCode, VariableCode, PlaceCode, ArgumentCode, Restarts, place_op_of};
 
@@ -357,7 +357,7 @@ fn lower_part(
     ensures { IfOk result (λ after. Grows (OPS_FOR_SIZE * part_size part.now) line out.old.marks start (part_meant (context_in names.now out.old) part.now) told after out.old out.new) }
 {
     match &part.form {
-        PartForm::Field { name } => lower_field(name, told, start, line, out),
+        PartForm::Field { name } => lower_field(name, told, start, line, names, out),
         PartForm::Index { index } => lower_index(index, told, start, line, names, out),
         PartForm::Call { args } => lower_call(args, told, start, line, names, out),
         PartForm::Step { op } => put_stepped(*op, told, start, line, out),
@@ -375,7 +375,7 @@ fn lower_index(
 ) -> Result<Meaning, AllocError>
     requires inside { start ≤ length out.old.ops }
     requires room { length out.old.ops + OPS_FOR_SIZE * (1 + expr_size index.now) ≤ PROGRAM_OPS }
-    ensures { IfOk result (λ after. Grows (OPS_FOR_SIZE * (1 + expr_size index.now)) line out.old.marks start (λ m. element_meant m (meant (context_in names.now out.old) index.now)) told after out.old out.new) }
+    ensures { IfOk result (λ after. Grows (OPS_FOR_SIZE * (1 + expr_size index.now)) line out.old.marks start (λ m. element_meant names.now m (meant (context_in names.now out.old) index.now)) told after out.old out.new) }
 {
     match told.elements {
         None => {
@@ -383,6 +383,7 @@ fn lower_index(
             Ok(Meaning::nothing())
         }
         Some(length) => {
+            names.classless();
             let _index = lower_value(index, line, names, out)?;
             put(Op::Index { length, size: 1 }, line, out)?;
             Ok(Meaning {
@@ -402,15 +403,18 @@ fn lower_name(
     out: &mut Draft,
 ) -> Result<Meaning, AllocError>
     requires { length out.old.ops < PROGRAM_OPS }
-    ensures code { OnOk result (Adds 1 (ExprCode line out.old.marks (name_meant names.now name.now (known_named out.old.names name.now)).expr) out.old out.new) }
-    ensures tells { IfOk result (λ told. Tells told (name_meant names.now name.now (known_named out.old.names name.now))) }
+    ensures code { OnOk result (Adds 1 (ExprCode line out.old.marks (name_meant names.now out.old.place.class name.now (known_named out.old.names name.now)).expr) out.old out.new) }
+    ensures tells { IfOk result (λ told. Tells told (name_meant names.now out.old.place.class name.now (known_named out.old.names name.now))) }
 {
     match variable_named(out, name) {
         Some(variable) => {
             put(place_op(variable.by_ref, variable.cell), line, out)?;
             Ok(variable.told)
         }
-        None => lower_item_name(name, line, names, out),
+        None => {
+            names.classless();
+            lower_item_name(name, line, names, out)
+        }
     }
 }
 
@@ -466,18 +470,20 @@ fn lower_field(
     told: Meaning,
     start: u32,
     line: u32,
+    names: &ProgramNames,
     out: &mut Draft,
 ) -> Result<Meaning, AllocError>
     requires inside { start ≤ length out.old.ops }
     requires room { length out.old.ops + OPS_FOR_SIZE ≤ PROGRAM_OPS }
-    ensures { IfOk result (λ after. Grows OPS_FOR_SIZE line out.old.marks start (λ m. field_meant m name.now) told after out.old out.new) }
+    ensures { IfOk result (λ after. Grows OPS_FOR_SIZE line out.old.marks start (λ m. field_meant names.now m name.now) told after out.old out.new) }
 {
+    names.classless();
     restart(Op::Push(0), start, line, out)?;
     Ok(field(told, name))
 }
 
 fn field(told: Meaning, name: &Name) -> Meaning
-    ensures { (m : Meant) → Tells told m → Tells result (field_meant m name.now) }
+    ensures { (m : Meant) → Tells told m → Tells result (input_member m.standing name.now) }
 {
     if told.standing == Standing::Input && name.is(b"fail") {
         let member = Meaning::value(Scalar::Truth);

@@ -1,7 +1,7 @@
 // What lowering tells of an expression besides its code.
 
 ghost use Rattle.std.specs.Prelude.{◌≡◌};
-ghost use Rattle.uc_tree.specs.Resolve.{shape_of};
+ghost use Rattle.uc_tree.specs.Objects.{shape_of};
 ghost use Rattle.uc_lower_expr.specs.Meanings.{cell_in, shape_as};
 
 use uc_tree::kinds::Base;

@@ -5,7 +5,9 @@ ghost use Rattle.uc_names.specs.Blocks.{found};
 ghost use Rattle.uc_tree.specs.Programs.{Routine as Defined};
 ghost use Rattle.uc_tree.specs.Constants.{constants_of, constant_named};
 ghost use Rattle.uc_tree.specs.Numbering.{is_plain, routines_of};
-ghost use Rattle.uc_tree.specs.Resolve.{is_here, routine_from, params_of, result_of, shape_of};
+ghost use Rattle.uc_tree.specs.Cells.{classes_of};
+ghost use Rattle.uc_tree.specs.Objects.{shape_of};
+ghost use Rattle.uc_tree.specs.Resolve.{is_here, routine_from, params_of, result_of};
 ghost use Rattle.uc_lower_expr.specs.Meanings.{shape_as};
 ghost use Rattle.uc_lower_expr.specs.Numbered.{is_called_alone, AreAmong, AreNumbered, IsFixed};
 
@@ -25,7 +27,8 @@ pub struct Fixed {
     pub value: i64,
 }
 
-/// A program whose constants, and whose routines with their numbers, are known by their names. Contracts see the program.
+/// A program without classes whose constants, and whose routines with their numbers, are known by their names. Contracts see
+/// the program.
 #[derive(Drop)]
 pub struct ProgramNames<'a> {
     sizes: &'a Sizes<'a>,
@@ -144,7 +147,8 @@ impl<'a> ProgramNames<'a> {
         sizes: &'a Sizes<'a>,
         routines: Vec<&'a Routine>,
     ) -> Result<ProgramNames<'a>, AllocError>
-        requires { map (λ r. r.now) routines.items ≡ map (λ d. d.routine) (routines_of sizes.now) }
+        requires routines { map (λ r. r.now) routines.items ≡ map (λ d. d.routine) (routines_of sizes.now) }
+        requires classless { classes_of sizes.now.items ≡ [] }
         ensures { IfOk result (λ names. names ≡ sizes.now) }
     {
         let numbers = numbers_of(alloc, &routines)?;
@@ -154,6 +158,11 @@ impl<'a> ProgramNames<'a> {
             numbers,
         })
     }
+
+    /// The program has no classes.
+    pub fn classless(&self)
+        ensures { classes_of self.now.items ≡ [] }
+    {}
 
     /// What is known of the sizes of the program.
     pub fn sizes(&self) -> &Sizes<'a>

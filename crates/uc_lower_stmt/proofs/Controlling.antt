@@ -9,7 +9,7 @@ use Rattle.uc_tree.specs.Scopes.{alone_scopes, stmt_scopes, maybe_scopes}
 use Rattle.uc_tree.specs.Cells.{declared_cells, stmt_cells, maybe_cells}
 use Rattle.uc_tree.specs.Programs.{Program}
 use Rattle.uc_tree.specs.Source.{Order, Expr}
-use Rattle.uc_tree.specs.Resolve.{Scope, meant, value_of, stmt_meant, maybe_meant, scope_past, start_of, for_scope, order_of, test_of}
+use Rattle.uc_tree.specs.Resolve.{Scope, meant, value_of, stmt_meant, maybe_meant, scope_past, for_scope, order_of, test_of}
 use Rattle.uc_code.specs.declared.op.Op.TheVariants as op
 use Rattle.uc_code.specs.declared.rows.Instruction.{Instruction}
 use Rattle.uc_code.specs.declared.rows.Mark.{Mark}
@@ -24,7 +24,7 @@ use Rattle.uc_lower_expr.proofs.Adding.{adds_both, adds_fork}
 use Rattle.uc_lower_expr.proofs.Settled.{both, expr_stable}
 use Rattle.uc_lower_stmt.specs.declared.turning.Turning.{Turning}
 use Rattle.uc_lower_stmt.specs.Scoped.{Lowers, scope_of}
-use Rattle.uc_lower_stmt.specs.Control.{LowersAlone, LowersMaybe, LowersIf, LowersLoop, LowersStart, LowersFor, loop_meant, maybe_past, turning_order, turning_test, turning_size}
+use Rattle.uc_lower_stmt.specs.Control.{start_of, LowersAlone, LowersMaybe, LowersIf, LowersLoop, LowersStart, LowersFor, loop_meant, maybe_past, turning_order, turning_test, turning_size}
 use Rattle.uc_lower_stmt.proofs.Joined.{lowers_adds, lowers_as, lowers_join, lowers_put}
 use Rattle.uc_lower_stmt.proofs.Kept.{stmt_stable}
 use Rattle.uc_lower_stmt.proofs.Shaping.{ops_in, adds_on, lowers_on, lowers_done}

@@ -1,6 +1,6 @@
 -- The code of statements goes on standing where its own range does not change.
 use Rattle.std.proofs.Common.{ℕ, List, [], ◌∷◌, Option, Some, None}
-use Rattle.uc_tree.specs.Source.{Expr, Item, Show, ShowText, Target, Declared, Stmt, Skip, Block, Evaluate, Declare, Print, PrintTogether, Read, If, Loop, Break, Continue, Return, OfEvents, OfTasks, Stmts, Nil, Then, Scoped, Way, ToBreak, ToContinue, ToReturn, ToEnd, Purpose, TaskMain, Procedure, Function, Builder}
+use Rattle.uc_tree.specs.Source.{Expr, Item, Show, ShowText, Target, Declared, Stmt, Skip, Block, Evaluate, Declare, Print, PrintTogether, Read, If, Loop, Break, Continue, Return, Fill, OfEvents, OfTasks, Stmts, Nil, Then, Scoped, Built, Way, ToBreak, ToContinue, ToReturn, ToEnd, Purpose, TaskMain, Procedure, Function, Builder}
 use Rattle.uc_code.specs.declared.op.Op.{Op}
 use Rattle.uc_code.specs.declared.op.Op.TheVariants as op
 use Rattle.uc_code.specs.declared.rows.Mark.{Mark}
@@ -92,13 +92,15 @@ mutual
   stmt_stable ms (Continue line) = exit_stable ToContinue ms
   stmt_stable ms (Return line None) = exit_stable ToEnd ms
   stmt_stable ms (Return line (Some e)) = both (expr_stable line ms e) (exit_stable ToReturn ms)
+  stmt_stable ms (Fill line n b d) = never_stable
   stmt_stable ms (OfEvents s) = never_stable
   stmt_stable ms (OfTasks s) = never_stable
 
   pub stmts_stable : (ms : List Mark) (ss : Stmts) → Stable (λ code. StmtsAt code ms ss)
   stmts_stable ms Nil = nothing_stable
   stmts_stable ms (Then s ss) = both (stmt_stable ms s) (stmts_stable ms ss)
-  stmts_stable ms (Scoped line e c ss) = never_stable
+  stmts_stable ms (Scoped c ss) = never_stable
+  stmts_stable ms (Built c ss) = never_stable
 
 pub end_stable : (p : Purpose) (line : ℕ) → Stable (λ code. EndAt code p line)
 end_stable TaskMain line = one_stable op.Return line

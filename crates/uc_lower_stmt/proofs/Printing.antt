@@ -18,7 +18,8 @@ use Rattle.uc_tree.specs.StatementSizes.{out_item_size, out_items_size}
 use Rattle.uc_tree.specs.Source.{Shape, Integer, Character, Truth, Binding, Last, Field, Array, Item, Show, ShowText, Target}
 use Rattle.uc_tree.specs.Numbering.{item_texts}
 use Rattle.uc_tree.specs.Programs.{Program}
-use Rattle.uc_tree.specs.Resolve.{Scope, Context, Meant, meant, value_of, shape_of, form_of, newline, context_at, items_meant, target_meant, targets_meant}
+use Rattle.uc_tree.specs.Objects.{shape_of}
+use Rattle.uc_tree.specs.Resolve.{Scope, Context, Meant, meant, value_of, form_of, newline, context_at, items_meant, target_meant, targets_meant}
 use Rattle.uc_code.specs.declared.op.Op.{Op}
 use Rattle.uc_code.specs.declared.op.Op.TheVariants as op
 use Rattle.uc_code.specs.declared.rows.Mark.{Mark}

@@ -9,15 +9,17 @@ use Rattle.uc_tree.specs.declared.kinds.Base.{Base}
 use Rattle.uc_tree.specs.declared.kinds.Base.TheVariants as base
 use Rattle.uc_tree.specs.declared.kinds.Known.{Known}
 use Rattle.uc_tree.specs.declared.kinds.Param.{Param}
+use Rattle.uc_tree.specs.declared.kinds.Role.{Role}
+use Rattle.uc_tree.specs.declared.kinds.Role.TheVariants as role
 use Rattle.uc_tree.specs.Gathered.{gathered_all}
-use Rattle.uc_tree.specs.Numbering.{own_texts, own_sites}
+use Rattle.uc_tree.specs.Numbering.{is_plain, own_texts, own_sites}
 use Rattle.uc_tree.specs.Statements.{Stmts}
 use Rattle.uc_tree.specs.StatementSizes.{stmts_size}
 use Rattle.uc_tree.specs.Cells.{classes_of, class_cells, object_of, param_cells, params_cells, routine_cells}
 use Rattle.uc_tree.specs.Rows.{element_cells}
 use Rattle.uc_tree.specs.Programs.{Program, Routine}
 use Rattle.uc_tree.specs.Source as source
-use Rattle.uc_tree.specs.Resolve.{Scope, param_known, params_known, stmts_meant, routine_scope, routine_meant, purpose_of}
+use Rattle.uc_tree.specs.Resolve.{Scope, param_known, params_known, stmts_meant, routine_scope, body_by, routine_meant, purpose_of}
 use Rattle.uc_meaning.specs.BuiltForms.{are_scalars, is_scalar_base}
 use Rattle.uc_code.specs.declared.op.Op.TheVariants as op
 use Rattle.uc_code.specs.declared.rows.Mark.{Mark}
@@ -108,6 +110,11 @@ pub scalars_cells : (p : Program) (xs : List Param) → are_scalars xs ≡ true 
 scalars_cells p [] e = refl
 scalars_cells p (x ∷ xs) e = let q = and_parts _ _ e in let a = scalar_cell p x q.0 in let r = scalars_cells p xs q.1 in omega (arith, a, r)
 
+pub plain_role : (x : Role) → is_plain x ≡ true → x ≡ role.Plain
+plain_role role.Plain e = refl
+plain_role role.Constructor e = absurd (true≢false (sym e))
+plain_role role.Destructor e = absurd (true≢false (sym e))
+
 -- what lowering a routine, which begins in this scope, does to a draft
 pub record Written (p : Program) (r : Routine) (s : Scope) (number : ℕ) (old new : Draft) : Type 0 where
   pub kept : Kept (laid_in old) (laid_in new)
@@ -133,7 +140,7 @@ begun_is p r q class number texts sites line xs d0 db dp d1 xe le e1 e2 e3 =
     e3 ∙ ap (λ (x : Draft). let d : Draft = record x { marks = body_marks q line ++ x.marks } in d) (e2 ∙ ap (λ (x : Draft). let d : Draft = record x { names = x.names ++ params_known p x.cells xs; cells = x.cells + params_cells p xs } in d) e1)
     ∙ ap (λ (ys : List Param). begun_by p ys q line class number texts sites d0) xe ∙ ap (λ (l : ℕ). begun_by p r.sig.params q l class number texts sites d0) le
 
-module _ (p : Program) (r : Routine) (q : source.Purpose) (class number texts sites entry cells params : ℕ) (body : Stmts) (d0 d1 d2 d3 new : Draft)
+module _ (p : Program) (r : Routine) (plain : r.sig.role ≡ role.Plain) (q : source.Purpose) (class number texts sites entry cells params : ℕ) (body : Stmts) (d0 d1 d2 d3 new : Draft)
     (be : body ≡ r.body) (qe : q ≡ purpose_of p number r) (ee : entry ≡ length d0.ops) (ce : cells ≡ routine_cells p r) (pe : params ≡ length r.sig.params)
     (e1 : d1 ≡ begun p r q class number texts sites d0) (h : LowersStmts p body d1 d2) (g : Adds 2 (EndCode q r.brace.line) d2 d3)
     (e : new ≡ record d3 { routines = slice_set d3.routines number (record { entry = entry; cells = cells; params = params }) }) where
@@ -173,7 +180,7 @@ module _ (p : Program) (r : Routine) (q : source.Purpose) (class number texts si
       subst (λ (d : Draft). Written p r s number d0 d) (sym is) (record {
         kept = kept_then (laid_in d0) (laid_in d2) (laid_in d3) k.kept g.kept;
         room = let x = k.room in let y = g.room in omega arith;
-        code = record { entry = refl; cells = refl; params = refl; body = record { middle = length d2.ops; first = body_at; second = end_at } };
+        code = record { entry = refl; cells = refl; params = refl; body = record { middle = length d2.ops; first = subst (λ (x : Role). StmtsAt (laid_in d3) (body_marks (purpose_of p number r) r.brace.line) (body_by p x r s) (length d0.ops) (length d2.ops)) (sym plain) body_at; second = end_at } };
         written = ap (λ (l : List RoutineCode). slice_set l number (record { entry = length d0.ops; cells = routine_cells p r; params = length r.sig.params })) same;
         rows = ap (λ (d : Draft). d.rows) g.rest ∙ ap (λ (d : Draft). d.rows) k.rest;
         texts = ap (λ (d : Draft). d.texts) g.rest ∙ ap (λ (t : Scope). t.texts) (k.scope ∙ behind_counted p r.body (scope_of first));

@@ -12,13 +12,16 @@ use Rattle.uc_tree.specs.ExpressionSizes.{expr_size, exprs_size}
 use Rattle.uc_tree.specs.Statements.{Declarator, OutItem, ForStart, NoFor, ForDeclare, ForEvaluate, Stmt, Block, Empty, Evaluate, Declare, If, While, Do, For, Break, Continue, Return, Print, PrintTogether, Read, Stmts, MaybeStmt, NoStmt, OneStmt, stmts_of}
 use Rattle.uc_tree.specs.StatementForms.{stmt_at}
 use Rattle.uc_tree.specs.StatementSizes.{out_items_size, declarators_size, maybe_expr_size, stmt_size, stmts_size}
-use Rattle.uc_tree.specs.Cells.{declared_cells, declarators_cells, stmt_cells, stmts_cells}
+use Rattle.uc_tree.specs.Cells.{classes_of, declared_cells, declarators_cells, stmt_cells, stmts_cells}
 use Rattle.uc_tree.specs.Scopes.{stmt_scopes, stmts_scopes}
 use Rattle.uc_tree.specs.Gathered.{gathered}
 use Rattle.uc_tree.specs.Numbering.{own_texts, own_sites}
 use Rattle.uc_tree.specs.Programs.{Program}
+use Rattle.uc_tree.specs.Source as source
 use Rattle.uc_tree.specs.Source.{Shape, Expr}
-use Rattle.uc_tree.specs.Resolve.{Scope, meant, value_of, converted, shape_of, result_of, targets_meant, all_declared, with_all, stmt_meant, stmts_meant, scope_past, scope_after, scope_behind}
+use Rattle.uc_tree.specs.Objects.{plain_class, shape_of}
+use Rattle.uc_tree.proofs.Classless.{no_class}
+use Rattle.uc_tree.specs.Resolve.{Scope, meant, value_of, converted, result_of, targets_meant, all_declared, with_all, declared_then, declared_alone, start_then, stmt_then, stmt_meant, stmts_meant, scope_past, scope_after, scope_behind}
 use Rattle.uc_meaning.specs.BuiltForms.{is_built_stmt, are_built}
 use Rattle.uc_code.specs.declared.op.Op.TheVariants as op
 use Rattle.uc_code.specs.declared.rows.Mark.{Mark}
@@ -38,12 +41,27 @@ use Rattle.uc_lower_expr.proofs.Settled.{expr_stable}
 use Rattle.uc_lower_stmt.specs.declared.turning.Turning.TheVariants as turning
 use Rattle.uc_lower_stmt.specs.Scoped.{Lowers, LowersStmt, LowersStmts, scope_of}
 use Rattle.uc_lower_stmt.specs.Pieces.{ItemsCode, TogetherCode, TargetsCode, VariablesCode}
-use Rattle.uc_lower_stmt.specs.Control.{ExitCode, ReturnCode, LowersIf, LowersLoop, LowersFor, maybe_past, for_past}
+use Rattle.uc_lower_stmt.specs.Control.{ExitCode, ReturnCode, LowersIf, LowersLoop, LowersFor, maybe_past, for_past, start_of}
 use Rattle.uc_lower_stmt.proofs.Kept.{stmts_stable}
 use Rattle.uc_lower_stmt.proofs.Joined.{lowers_adds, lowers_nothing, lowers_as, lowers_join}
 use Rattle.uc_lower_stmt.proofs.Printing.{with_texts, texts_among, items_at}
 use Rattle.uc_lower_stmt.proofs.Counted.{counted, counted_as, with_is, nothing_counted, texts_counted, declared_counted, behind_counted}
 use Rattle.uc_lower_stmt.proofs.Scoping.{opened, lowers_scoped, back_out}
+
+-- in a program without classes a statement stands alone in front of what follows it
+
+alone_then : (p : Program) (line : ℕ) (b : Base) (ds : List Declarator) (s : Scope) (rest : source.Stmts) (o : Option ℕ) → o ≡ None → declared_then p o line b ds s rest ≡ source.Then (declared_alone p o line b ds s) rest
+alone_then p line b ds s rest None e = refl
+alone_then p line b ds s rest (Some i) e = absurd (cc e)
+
+stmt_is_then : (p : Program) → classes_of p.items ≡ [] → (t : Stmt) (s : Scope) (rest : source.Stmts) → stmt_then p t s (stmt_meant p t s) rest ≡ source.Then (stmt_meant p t s) rest
+stmt_is_then p none (Declare place b ds) s rest = alone_then p place.line b ds s rest (plain_class p b) (no_class p none b)
+stmt_is_then p none t s rest = refl
+
+start_is_then : (p : Program) → classes_of p.items ≡ [] → (line : ℕ) (start : ForStart) (s : Scope) (rest : source.Stmts) → start_then p line start s rest ≡ source.Then (start_of p line start s) rest
+start_is_then p none line NoFor s rest = refl
+start_is_then p none line (ForDeclare place b ds) s rest = ap (λ o. declared_then p o line b ds s rest) (no_class p none b)
+start_is_then p none line (ForEvaluate e) s rest = refl
 
 pub stmt_is : (p : Pos) (f g : StmtForm) (s : Stmt) → f ≡ g → stmt_at p f ≡ s → stmt_at p g ≡ s
 stmt_is p f g s h k = ap (λ x. stmt_at p x) (sym h) ∙ k
@@ -64,9 +82,9 @@ arm_evaluate p s place e old mid new h a b =
     as_stmt p s (Evaluate place e) old new h (
     lowers_as (lowers_adds 0 0 (adds_both (expr_stable place.line old.marks (meant (context_in p old) e).expr) a b)) (nothing_counted (scope_of old)) (λ code x z w. w) (omega arith) (omega arith) (omega arith) (omega arith))
 
-pub arm_declare : (p : Program) (s : Stmt) (place : Pos) (b : Base) (xs ys : List Declarator) (old new : Draft) → Declare place b ys ≡ s → xs ≡ ys → Lowers (OPS_FOR_SIZE * declarators_size xs) 0 (declarators_cells (declared_cells p b) xs) 0 (VariablesCode place.line old.marks (all_declared p (scope_of old) b xs)) (with_all p (scope_of old) b xs) old new → LowersStmt p s old new
-arm_declare p s place b xs ys old new h i a =
-    as_stmt p s (Declare place b xs) old new (ap (λ (l : List Declarator). Declare place b l) i ∙ h) (lowers_as a (declared_counted p place b xs (scope_of old)) (λ code x z w. w) (omega arith) (omega arith) (omega arith) (omega arith))
+pub arm_declare : (p : Program) (none : classes_of p.items ≡ []) (s : Stmt) (place : Pos) (b : Base) (xs ys : List Declarator) (old new : Draft) → Declare place b ys ≡ s → xs ≡ ys → Lowers (OPS_FOR_SIZE * declarators_size xs) 0 (declarators_cells (declared_cells p b) xs) 0 (VariablesCode place.line old.marks (all_declared p (scope_of old) b xs)) (with_all p (scope_of old) b xs) old new → LowersStmt p s old new
+arm_declare p none s place b xs ys old new h i a =
+    as_stmt p s (Declare place b xs) old new (ap (λ (l : List Declarator). Declare place b l) i ∙ h) (lowers_as a (declared_counted p place b xs (scope_of old)) (λ code x z w. subst (λ (o : Option ℕ). StmtAt code old.marks (declared_alone p o place.line b xs (scope_of old)) x z) (sym (no_class p none b)) w) (omega arith) (omega arith) (omega arith) (omega arith))
 
 pub arm_print : (p : Program) (s : Stmt) (place : Pos) (xs ys : List OutItem) (old new : Draft) → Print place ys ≡ s → xs ≡ ys → Lowers (OPS_FOR_SIZE * out_items_size xs) (out_items_size xs) 0 0 (ItemsCode place.line old.marks (items_at p (scope_of old) xs)) (with_texts (scope_of old) (texts_among xs)) old new → LowersStmt p s old new
 arm_print p s place xs ys old new h i a =
@@ -134,11 +152,11 @@ for_counted p place (ForEvaluate e) test step body s =
     let c : s.cells + stmt_cells body (declared_cells p) ≡ s.cells + (0 + stmt_cells body (declared_cells p)) = omega arith in
     ap (λ (n : ℕ). counted s s.names n (s.texts + length (gathered own_texts body)) (s.sites + length (gathered (own_sites None 0) body))) c
 
-pub arm_for_stmt : (p : Program) (s : Stmt) (place : Pos) (start : ForStart) (test step : Option tree.Expr) (body body0 : Stmt) (old new : Draft) → For place start test step body0 ≡ s → body ≡ body0 → LowersFor p place.line start test step body old new → LowersStmt p s old new
-arm_for_stmt p s place start test step body body0 old new h i a =
+pub arm_for_stmt : (p : Program) (none : classes_of p.items ≡ []) (s : Stmt) (place : Pos) (start : ForStart) (test step : Option tree.Expr) (body body0 : Stmt) (old new : Draft) → For place start test step body0 ≡ s → body ≡ body0 → LowersFor p place.line start test step body old new → LowersStmt p s old new
+arm_for_stmt p none s place start test step body body0 old new h i a =
     as_stmt p s (For place start test step body) old new (ap (λ (x : Stmt). For place start test step x) i ∙ h) (
     lowers_as a (for_counted p place start test step body (scope_of old))
-    (λ code x z w. record { middle = w.middle; first = w.first; second = record { middle = z; first = w.second; second = record { end = refl } } })
+    (λ code x z w. subst (λ (ss : source.Stmts). StmtsAt code old.marks ss x z) (sym (start_is_then p none place.line start (scope_of old) _)) (record { middle = w.middle; first = w.first; second = record { middle = z; first = w.second; second = record { end = refl } } }))
     (omega arith) (omega arith) (omega arith) (omega arith))
 
 pub arm_break : (p : Program) (s : Stmt) (place : Pos) (old new : Draft) → Break place ≡ s → Adds 1 (ExitCode (way_of way.Break) old.marks) old new → LowersStmt p s old new
@@ -168,9 +186,12 @@ arm_ended p line value d0 d1 is a = subst (λ (o : Option tree.Expr). Adds 1 (Re
 
 -- lists of statements
 
-stmts_push : (p : Program) (ms : List Mark) (code : Laid) (xs : List Stmt) (x : Stmt) (s : Scope) (a b z : ℕ) → StmtsAt code ms (stmts_meant p (stmts_of xs) s) a b → StmtAt code ms (stmt_meant p x (scope_behind p (stmts_of xs) s)) b z → StmtsAt code ms (stmts_meant p (stmts_of (xs ++ x ∷ [])) s) a z
-stmts_push p ms code [] x s a b z h g = record { middle = z; first = subst (λ y. StmtAt code ms (stmt_meant p x s) y z) h.end g; second = record { end = refl } }
-stmts_push p ms code (y ∷ ys) x s a b z h g = record { middle = h.middle; first = h.first; second = stmts_push p ms code ys x (scope_after p y s) h.middle b z h.second g }
+stmts_push : (p : Program) (none : classes_of p.items ≡ []) (ms : List Mark) (code : Laid) (xs : List Stmt) (x : Stmt) (s : Scope) (a b z : ℕ) → StmtsAt code ms (stmts_meant p (stmts_of xs) s) a b → StmtAt code ms (stmt_meant p x (scope_behind p (stmts_of xs) s)) b z → StmtsAt code ms (stmts_meant p (stmts_of (xs ++ x ∷ [])) s) a z
+stmts_push p none ms code [] x s a b z h g =
+    subst (λ (ss : source.Stmts). StmtsAt code ms ss a z) (sym (stmt_is_then p none x s source.Nil)) (record { middle = z; first = subst (λ y. StmtAt code ms (stmt_meant p x s) y z) h.end g; second = record { end = refl } })
+stmts_push p none ms code (y ∷ ys) x s a b z h g =
+    let k : StmtsAt code ms (source.Then (stmt_meant p y s) (stmts_meant p (stmts_of ys) (scope_after p y s))) a b = subst (λ (ss : source.Stmts). StmtsAt code ms ss a b) (stmt_is_then p none y s (stmts_meant p (stmts_of ys) (scope_after p y s))) h in
+    subst (λ (ss : source.Stmts). StmtsAt code ms ss a z) (sym (stmt_is_then p none y s (stmts_meant p (stmts_of (ys ++ x ∷ [])) (scope_after p y s)))) (record { middle = k.middle; first = k.first; second = stmts_push p none ms code ys x (scope_after p y s) k.middle b z k.second g })
 
 scope_push : (p : Program) (xs : List Stmt) (x : Stmt) (s : Scope) → scope_after p x (scope_behind p (stmts_of xs) s) ≡ scope_behind p (stmts_of (xs ++ x ∷ [])) s
 scope_push p [] x s = refl
@@ -203,8 +224,8 @@ built_at [] i x s h e = absurd (omega arith)
 built_at (y ∷ ys) zero x s h e = ap is_built_stmt e ∙ (and_parts _ _ s).0
 built_at (y ∷ ys) (suc i) x s h e = built_at ys i x (and_parts _ _ s).1 (omega arith) e
 
-pub stmts_step : (p : Program) (xs : List Stmt) (i : ℕ) (x : Stmt) (old mid new : Draft) → i < length xs → x ≡ get_or xs i x → LowersStmts p (stmts_of (take i xs)) old mid → LowersStmt p x mid new → LowersStmts p (stmts_of (take (i + 1) xs)) old new
-stmts_step p xs i x old mid new h e g k =
+pub stmts_step : (p : Program) (none : classes_of p.items ≡ []) (xs : List Stmt) (i : ℕ) (x : Stmt) (old mid new : Draft) → i < length xs → x ≡ get_or xs i x → LowersStmts p (stmts_of (take i xs)) old mid → LowersStmt p x mid new → LowersStmts p (stmts_of (take (i + 1) xs)) old new
+stmts_step p none xs i x old mid new h e g k =
     let ys : List Stmt = take i xs in
     let s : Scope = scope_of old in
     let split : ys ++ x ∷ [] ≡ take (i + 1) xs = ap (λ (y : Stmt). ys ++ y ∷ []) e ∙ sym (take_more xs i x h) in
@@ -213,5 +234,5 @@ stmts_step p xs i x old mid new h e g k =
     let k1 : Lowers (OPS_FOR_SIZE * stmt_size x) (stmt_size x) (stmt_cells x (declared_cells p)) (stmt_scopes x) (λ code. StmtAt code old.marks (stmt_meant p x (scope_behind p (stmts_of ys) s))) (scope_after p x (scope_behind p (stmts_of ys) s)) mid new =
     subst (λ (t : Scope). Lowers (OPS_FOR_SIZE * stmt_size x) (stmt_size x) (stmt_cells x (declared_cells p)) (stmt_scopes x) (λ code. StmtAt code old.marks (stmt_meant p x t)) (scope_after p x t) mid new) g.scope k0 in
     subst (λ (zs : List Stmt). LowersStmts p (stmts_of zs) old new) split (
-    lowers_as (lowers_join (stmts_stable old.marks (stmts_meant p (stmts_of ys) s)) g k1) (scope_push p ys x s) (λ code a z w. stmts_push p old.marks code ys x s a w.middle z w.first w.second)
+    lowers_as (lowers_join (stmts_stable old.marks (stmts_meant p (stmts_of ys) s)) g k1) (scope_push p ys x s) (λ code a z w. stmts_push p none old.marks code ys x s a w.middle z w.first w.second)
     (omega (arith, sizes_push ys x)) (omega (arith, sizes_push ys x)) (omega (arith, cells_push (declared_cells p) ys x)) (omega (arith, scopes_push ys x)))

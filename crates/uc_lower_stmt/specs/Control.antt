@@ -3,14 +3,14 @@ use Rattle.std.specs.Prelude.{◌≡◌, ℕ, ◌+◌, ◌*◌, pos, List, Bool,
 use Rattle.uc_tree.specs.declared.limits.TheConstants.{OPS_FOR_SIZE}
 use Rattle.uc_tree.specs.Expressions as tree
 use Rattle.uc_tree.specs.ExpressionSizes.{expr_size}
-use Rattle.uc_tree.specs.Statements.{ForStart, Stmt, Declare, MaybeStmt, NoStmt, OneStmt}
+use Rattle.uc_tree.specs.Statements.{ForStart, NoFor, ForDeclare, ForEvaluate, Stmt, Declare, MaybeStmt, NoStmt, OneStmt}
 use Rattle.uc_tree.specs.StatementSizes.{for_start_size, maybe_expr_size, maybe_stmt_size, stmt_size}
 use Rattle.uc_tree.specs.Scopes.{alone_scopes, stmt_scopes, maybe_scopes}
 use Rattle.uc_tree.specs.Cells.{declared_cells, for_cells, stmt_cells, maybe_cells}
 use Rattle.uc_tree.specs.Programs.{Program}
 use Rattle.uc_tree.specs.Source as source
 use Rattle.uc_tree.specs.Source.{Way, Order, TestFirst, BodyFirst, NoTest, Expr, Literal}
-use Rattle.uc_tree.specs.Resolve.{Scope, context_at, value_in_scope, stmt_meant, maybe_meant, scope_past, return_meant, start_of, for_scope, order_of, test_of, step_of}
+use Rattle.uc_tree.specs.Resolve.{Scope, meant, context_at, value_in_scope, stmt_meant, maybe_meant, scope_past, return_meant, all_declared, for_scope, order_of, test_of, step_of}
 use Rattle.uc_code.specs.declared.op.Op.TheVariants as op
 use Rattle.uc_code.specs.declared.rows.Mark.{Mark}
 use Rattle.uc_code.specs.Drafts.{Draft, patched}
@@ -91,6 +91,12 @@ LowersLoop p line t step body old new =
     Lowers (OPS_FOR_SIZE * (1 + turning_size t + maybe_expr_size step + stmt_size body)) (stmt_size body) (stmt_cells body (declared_cells p)) (alone_scopes body + stmt_scopes body)
     (λ code. StmtAt code old.marks (loop_meant p line (turning_order t) (turning_test p (scope_of old) t) step body (scope_of old)))
     (scope_past p body (scope_of old)) old new
+
+-- what a `for` begins with, where it declares no objects
+abbrev pub start_of : Program → ℕ → ForStart → Scope → source.Stmt
+start_of p line NoFor s = source.Skip line
+start_of p line (ForDeclare place b ds) s = source.Declare line (all_declared p s b ds)
+start_of p line (ForEvaluate e) s = source.Evaluate line (meant (context_at p s) e).expr
 
 abbrev pub LowersStart : Program → ℕ → ForStart → Draft → Draft → Type 0
 LowersStart p line start old new =

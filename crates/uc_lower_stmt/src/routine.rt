@@ -6,7 +6,7 @@ ghost use Rattle.uc_tree.specs.Statements.{stmts_of};
 ghost use Rattle.uc_tree.specs.StatementSizes.{stmts_size};
 ghost use Rattle.uc_tree.specs.Cells.{params_cells, routine_cells};
 ghost use Rattle.uc_tree.specs.Gathered.{gathered_all};
-ghost use Rattle.uc_tree.specs.Numbering.{own_sites, own_texts};
+ghost use Rattle.uc_tree.specs.Numbering.{is_plain, own_sites, own_texts};
 ghost use Rattle.uc_tree.specs.ProgramMain.{main_number};
 ghost use Rattle.uc_tree.specs.Programs.{Program};
 ghost use Rattle.uc_tree.specs.Resolve.{params_known, role_purpose, value_purpose, routine_scope, routine_meant};
@@ -151,7 +151,7 @@ fn put_end(purpose: Purpose, line: u32, out: &mut Draft) -> Result<(), AllocErro
     }
 }
 
-/// Adds the code of a routine of a class, behind so many text literals and accept statements of the program, and writes down
+/// Adds the code of a routine that is no constructor and no destructor, behind so many text literals and accept statements of the program, and writes down
 /// under its number where it begins; `main` says whether it is the program's main. Its parameters are scalars and references to
 /// scalars, and its statements are of forms that are built. After want of memory the draft is spent.
 pub fn lower_routine(
@@ -165,6 +165,7 @@ pub fn lower_routine(
     sites: u32,
     out: &mut Draft,
 ) -> Result<(), AllocError>
+    requires plain { is_plain routine.now.sig.role ≡ true }
     requires main { main ≡ nat_eq number (main_number names.now) }
     requires built { are_built routine.now.body ≡ true }
     requires scalars { are_scalars routine.now.sig.params ≡ true }

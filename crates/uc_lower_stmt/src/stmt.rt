@@ -63,6 +63,7 @@ pub fn lower_stmt(
             Ok(())
         }
         StmtForm::Declare { base, declarators } => {
+            names.classless();
             lower_declarators(alloc, names, base, declarators, line, out)?;
             Ok(())
         }
@@ -116,6 +117,7 @@ pub fn lower_stmt(
             step,
             body,
         } => {
+            names.classless();
             lower_for(alloc, names, start, test, step, body, line, out)?;
             Ok(())
         }
@@ -162,6 +164,7 @@ pub fn lower_stmts(
     ensures { OnOk result (LowersStmts names.now (stmts_of stmts.now) out.old out.new) }
 {
     for s in stmts {
+        names.classless();
         lower_stmt(alloc, names, s, out)?;
     }
     Ok(())

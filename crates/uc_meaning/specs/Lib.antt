@@ -22,6 +22,7 @@ pub mod Laws
 pub mod Samples
 pub mod Runs
 pub mod SamplePrograms
+pub mod ObjectSamples
 pub mod Cuts
 pub mod Texts
 pub mod Fit

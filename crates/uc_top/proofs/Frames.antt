@@ -12,6 +12,8 @@ use Rattle.uc_tree.specs.Numbering.{Defined, defined_by, items_defined, own_text
 use Rattle.uc_tree.specs.ProgramMain.{is_main_item, main_among}
 use Rattle.uc_tree.specs.Resolve.{routine_scope, routine_meant, routines_meant, source_of}
 use Rattle.uc_tree.specs.Source as source
+use Rattle.uc_tree.proofs.Classless.{routines_are}
+use Rattle.uc_lower.proofs.Built.{no_classes}
 use Rattle.uc_meaning.specs.Accepted.{FitFrames, IsAccepted}
 use Rattle.uc_meaning.specs.BuiltForms.{is_built_item, are_built_items, has_main, IsBuilt}
 use Rattle.uc_lower.specs.Refusing.{Fits, FitsAll}
@@ -101,7 +103,7 @@ module _ (p : Program) where
   main_there b =
       let parts = both (has_main p) (are_built_items p.items) b in
       let t = main_in p.items 0 0 0 parts.1 parts.0 in
-      record { routine = t.0; there = t.1 }
+      record { routine = t.0; there = ap (λ l. slice_get l (main_among p p.items)) (routines_are p (no_classes p b)) ∙ t.1 }
 
   pub accepted : IsRunnable p → Fits p → IsAccepted p
   accepted r f = record {

@@ -6,8 +6,13 @@ use Rattle.uc_meaning.specs.BuiltForms.{IsBuilt}
 use Rattle.uc_code.proofs.Paces.{lowered_paced}
 use Rattle.uc_lower.specs.Laying.{Lays}
 use Rattle.uc_lower.specs.Refusing.{Fits}
+use Rattle.uc_tree.specs.Cells.{classes_of}
+use Rattle.uc_lower.proofs.Built.{no_classes}
 use Rattle.uc_lower.proofs.Ending.{as_many, whole, whole_few}
 use Rattle.uc_lower.proofs.lower.lower_fit.Goals as goal
+
+pub new-names-requires-clause-classless : goal.new-names-requires-clause-classless
+new-names-requires-clause-classless c = subst (λ (q : Program). classes_of q.items ≡ []) (sym c.requires.sizes) (no_classes c.args.program.now c.requires.built)
 
 pub lower_routines-requires-clause-built : goal.lower_routines-requires-clause-built
 lower_routines-requires-clause-built c = subst IsBuilt (sym (c.in_ok-names.ensures ∙ c.requires.sizes)) c.requires.built

@@ -15,6 +15,9 @@ loop-number-init c =
 pub lower_routine-requires-clause-built : goal.lower_routine-requires-clause-built
 lower_routine-requires-clause-built c = (follows c.args.names.now c.loop-number.number c.loop-number.texts c.loop-number.sites (defined_at c.index-defined-number.result) c.loop-number.out c.requires.built c.requires.fits (found_at c.args.defined.now (routines_of c.args.names.now) c.loop-number.number c.index-defined-number.result c.requires.defined (let n = c.requires.count in let l = c.loop-number-test.true in omega (arith, n, l)) c.index-defined-number.is) c.loop-number.invariant).built
 
+pub lower_routine-requires-clause-plain : goal.lower_routine-requires-clause-plain
+lower_routine-requires-clause-plain c = (follows c.args.names.now c.loop-number.number c.loop-number.texts c.loop-number.sites (defined_at c.index-defined-number.result) c.loop-number.out c.requires.built c.requires.fits (found_at c.args.defined.now (routines_of c.args.names.now) c.loop-number.number c.index-defined-number.result c.requires.defined (let n = c.requires.count in let l = c.loop-number-test.true in omega (arith, n, l)) c.index-defined-number.is) c.loop-number.invariant).plain
+
 pub lower_routine-requires-clause-scalars : goal.lower_routine-requires-clause-scalars
 lower_routine-requires-clause-scalars c = (follows c.args.names.now c.loop-number.number c.loop-number.texts c.loop-number.sites (defined_at c.index-defined-number.result) c.loop-number.out c.requires.built c.requires.fits (found_at c.args.defined.now (routines_of c.args.names.now) c.loop-number.number c.index-defined-number.result c.requires.defined (let n = c.requires.count in let l = c.loop-number-test.true in omega (arith, n, l)) c.index-defined-number.is) c.loop-number.invariant).scalars
 

@@ -49,10 +49,10 @@ lower_expr-returns-in_ok-told-in-Postfix-clause-tells t c =
     told_postfix c.args.names.now c.lower_parts.result _ _ _ _ _ c.deref-in-Postfix.result.now _ _ _ _ _ _ (tree_is _ _ _ _ c.in-Postfix.is c.e.view_is) c.deref.ensures c.deref-in-Postfix.ensures.value c.here-start.ensures.count c.in_ok-told-in-Postfix.ensures.code c.in_ok-told-in-Postfix.ensures.tells c.lower_parts.ensures
 
 pub lower_index-returns-in_ok-restart-in-None : goal.lower_index-returns-in_ok-restart-in-None
-lower_index-returns-in_ok-restart-in-None t c = arm_no_element c.args.out.now.marks _ _ _ (meant (context_in c.args.names.now c.args.out.now) c.args.index.now) _ _ _ _ (omega arith) c.requires.inside c.in-None.is c.nothing.ensures c.in_ok-restart-in-None.ensures
+lower_index-returns-in_ok-restart-in-None t c = arm_no_element c.args.out.now.marks c.args.names.now _ _ _ (meant (context_in c.args.names.now c.args.out.now) c.args.index.now) _ _ _ _ (omega arith) c.requires.inside c.in-None.is c.nothing.ensures c.in_ok-restart-in-None.ensures
 
 pub lower_index-returns-in_ok-put-in-Some : goal.lower_index-returns-in_ok-put-in-Some
-lower_index-returns-in_ok-put-in-Some t c = arm_element c.args.out.now.marks (OPS_FOR_SIZE * expr_size c.args.index.now) _ c.args.line _ c.in-Some.length (meant (context_in c.args.names.now c.args.out.now) c.args.index.now) c.args.told _ _ _ (omega arith) c.requires.inside c.in-Some.is c.in_ok-_index-in-Some.ensures.code c.in_ok-put-in-Some.ensures
+lower_index-returns-in_ok-put-in-Some t c = arm_element c.args.out.now.marks c.args.names.now c.classless.ensures (OPS_FOR_SIZE * expr_size c.args.index.now) _ c.args.line _ c.in-Some.length (meant (context_in c.args.names.now c.args.out.now) c.args.index.now) c.args.told _ _ _ (omega arith) c.requires.inside c.in-Some.is c.in_ok-_index-in-Some.ensures.code c.in_ok-put-in-Some.ensures
 
 pub lower_parts-lower_part-requires : goal.lower_parts-lower_part-requires
 lower_parts-lower_part-requires t c =

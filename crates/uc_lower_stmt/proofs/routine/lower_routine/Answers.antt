@@ -9,7 +9,7 @@ use Rattle.uc_code.specs.Drafts.{Draft}
 use Rattle.uc_lower_stmt.specs.Routines.{purpose_as, purpose_by}
 use Rattle.uc_lower_stmt.proofs.Declaring.{uncapped}
 use Rattle.uc_lower_stmt.proofs.Opened.{stmts_few}
-use Rattle.uc_lower_stmt.proofs.Routines.{arm_routine, begun_is, end_on, scalars_cells}
+use Rattle.uc_lower_stmt.proofs.Routines.{arm_routine, begun_is, end_on, plain_role, scalars_cells}
 use Rattle.uc_lower_stmt.proofs.routine.lower_routine.Goals as goal
 
 pub lower_stmts-requires-clause-scopes : goal.lower_stmts-requires-clause-scopes
@@ -39,7 +39,7 @@ returns-clause-code c =
     let begins =
     begun_is p r (purpose_as c.purpose_of-purpose.result) c.args.class c.args.number c.args.texts c.args.sites c.line_of-line.result c.params_of-params.result.now c.args.out.now c.begin_routine.new.self c.declare_params.new.out c.enter_body.new.out
     xs c.line_of-line.ensures c.begin_routine.ensures c.in_ok-declare_params.ensures c.in_ok-enter_body.ensures in
-    (arm_routine p r (purpose_as c.purpose_of-purpose.result) c.args.class c.args.number c.args.texts c.args.sites c.here-entry.result c.cells_of_routine-cells.result (length c.params_of-params.result.now) (stmts_of c.body_of.result.now)
+    (arm_routine p r (plain_role r.sig.role c.requires.plain) (purpose_as c.purpose_of-purpose.result) c.args.class c.args.number c.args.texts c.args.sites c.here-entry.result c.cells_of_routine-cells.result (length c.params_of-params.result.now) (stmts_of c.body_of.result.now)
     c.args.out.now c.enter_body.new.out c.lower_stmts.new.out c.put_end.new.out c.set_routine.new.self
     c.body_of.ensures purpose c.here-entry.ensures.count cells (ap length xs) begins c.in_ok-lower_stmts.ensures (end_on (purpose_as c.purpose_of-purpose.result) c.line_of-line.ensures c.in_ok-put_end.ensures) c.set_routine.ensures).code
 
@@ -54,7 +54,7 @@ returns-clause-texts c =
     let begins =
     begun_is p r (purpose_as c.purpose_of-purpose.result) c.args.class c.args.number c.args.texts c.args.sites c.line_of-line.result c.params_of-params.result.now c.args.out.now c.begin_routine.new.self c.declare_params.new.out c.enter_body.new.out
     xs c.line_of-line.ensures c.begin_routine.ensures c.in_ok-declare_params.ensures c.in_ok-enter_body.ensures in
-    (arm_routine p r (purpose_as c.purpose_of-purpose.result) c.args.class c.args.number c.args.texts c.args.sites c.here-entry.result c.cells_of_routine-cells.result (length c.params_of-params.result.now) (stmts_of c.body_of.result.now)
+    (arm_routine p r (plain_role r.sig.role c.requires.plain) (purpose_as c.purpose_of-purpose.result) c.args.class c.args.number c.args.texts c.args.sites c.here-entry.result c.cells_of_routine-cells.result (length c.params_of-params.result.now) (stmts_of c.body_of.result.now)
     c.args.out.now c.enter_body.new.out c.lower_stmts.new.out c.put_end.new.out c.set_routine.new.self
     c.body_of.ensures purpose c.here-entry.ensures.count cells (ap length xs) begins c.in_ok-lower_stmts.ensures (end_on (purpose_as c.purpose_of-purpose.result) c.line_of-line.ensures c.in_ok-put_end.ensures) c.set_routine.ensures).texts
 
@@ -69,6 +69,6 @@ returns-clause-sites c =
     let begins =
     begun_is p r (purpose_as c.purpose_of-purpose.result) c.args.class c.args.number c.args.texts c.args.sites c.line_of-line.result c.params_of-params.result.now c.args.out.now c.begin_routine.new.self c.declare_params.new.out c.enter_body.new.out
     xs c.line_of-line.ensures c.begin_routine.ensures c.in_ok-declare_params.ensures c.in_ok-enter_body.ensures in
-    (arm_routine p r (purpose_as c.purpose_of-purpose.result) c.args.class c.args.number c.args.texts c.args.sites c.here-entry.result c.cells_of_routine-cells.result (length c.params_of-params.result.now) (stmts_of c.body_of.result.now)
+    (arm_routine p r (plain_role r.sig.role c.requires.plain) (purpose_as c.purpose_of-purpose.result) c.args.class c.args.number c.args.texts c.args.sites c.here-entry.result c.cells_of_routine-cells.result (length c.params_of-params.result.now) (stmts_of c.body_of.result.now)
     c.args.out.now c.enter_body.new.out c.lower_stmts.new.out c.put_end.new.out c.set_routine.new.self
     c.body_of.ensures purpose c.here-entry.ensures.count cells (ap length xs) begins c.in_ok-lower_stmts.ensures (end_on (purpose_as c.purpose_of-purpose.result) c.line_of-line.ensures c.in_ok-put_end.ensures) c.set_routine.ensures).sites

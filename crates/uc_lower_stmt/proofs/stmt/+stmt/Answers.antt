@@ -30,7 +30,7 @@ lower_stmts-lower_stmt-requires t c =
     (search rules, (y, (omega (arith, a, r), (omega (arith, b, q), (omega (arith, w, z), omega (arith, a, v))))))
 
 pub lower_stmts-loop-s-preserved : goal.lower_stmts-loop-s-preserved
-lower_stmts-loop-s-preserved t c = stmts_step c.args.names.now c.args.stmts.now c.loop-s.s-index c.s-item.result _ _ _ c.loop-s-test.true c.s-item.is c.loop-s.invariant c.in_ok-lower_stmt.ensures
+lower_stmts-loop-s-preserved t c = stmts_step c.args.names.now c.classless.ensures c.args.stmts.now c.loop-s.s-index c.s-item.result _ _ _ c.loop-s-test.true c.s-item.is c.loop-s.invariant c.in_ok-lower_stmt.ensures
 
 pub lower_stmt-returns-in-Empty : goal.lower_stmt-returns-in-Empty
 lower_stmt-returns-in-Empty t c = arm_empty c.args.names.now c.args.s.now _ _ (stmt_is _ _ _ _ c.in-Empty.is c.s.view_is)
@@ -72,7 +72,7 @@ pub lower_stmt-returns-in_ok-put-in-Evaluate : goal.lower_stmt-returns-in_ok-put
 lower_stmt-returns-in_ok-put-in-Evaluate t c = arm_evaluate c.args.names.now c.args.s.now c.s.inside.pos c.in-Evaluate.value _ _ _ (stmt_is _ _ _ _ c.in-Evaluate.is c.s.view_is) c.in_ok-_told-in-Evaluate.ensures.code c.in_ok-put-in-Evaluate.ensures
 
 pub lower_stmt-returns-in_ok-lower_declarators-in-Declare : goal.lower_stmt-returns-in_ok-lower_declarators-in-Declare
-lower_stmt-returns-in_ok-lower_declarators-in-Declare t c = arm_declare c.args.names.now c.args.s.now c.s.inside.pos c.in-Declare.base c.deref-in-Declare.result.now c.in-Declare.declarators.items _ _ (stmt_is _ _ _ _ c.in-Declare.is c.s.view_is) c.deref-in-Declare.ensures.value c.in_ok-lower_declarators-in-Declare.ensures
+lower_stmt-returns-in_ok-lower_declarators-in-Declare t c = arm_declare c.args.names.now c.classless-in-Declare.ensures c.args.s.now c.s.inside.pos c.in-Declare.base c.deref-in-Declare.result.now c.in-Declare.declarators.items _ _ (stmt_is _ _ _ _ c.in-Declare.is c.s.view_is) c.deref-in-Declare.ensures.value c.in_ok-lower_declarators-in-Declare.ensures
 
 pub lower_stmt-returns-in_ok-lower_items-in-Print : goal.lower_stmt-returns-in_ok-lower_items-in-Print
 lower_stmt-returns-in_ok-lower_items-in-Print t c = arm_print c.args.names.now c.args.s.now c.s.inside.pos c.deref-in-Print.result.now c.in-Print.items.items _ _ (stmt_is _ _ _ _ c.in-Print.is c.s.view_is) c.deref-in-Print.ensures.value c.in_ok-lower_items-in-Print.ensures
@@ -100,7 +100,7 @@ lower_stmt-returns-in_ok-lower_loop-in-Do t c =
     arm_do c.args.names.now c.args.s.now c.s.inside.pos test _ _ _ _ _ (stmt_is _ _ _ _ c.in-Do.is c.s.view_is) c.deref-in-Do.ensures refl c.in_ok-lower_loop-in-Do.ensures
 
 pub lower_stmt-returns-in_ok-lower_for-in-For : goal.lower_stmt-returns-in_ok-lower_for-in-For
-lower_stmt-returns-in_ok-lower_for-in-For t c = arm_for_stmt c.args.names.now c.args.s.now c.s.inside.pos c.in-For.start c.in-For.test c.in-For.step _ _ _ _ (stmt_is _ _ _ _ c.in-For.is c.s.view_is) c.deref-in-For.ensures c.in_ok-lower_for-in-For.ensures
+lower_stmt-returns-in_ok-lower_for-in-For t c = arm_for_stmt c.args.names.now c.classless-in-For.ensures c.args.s.now c.s.inside.pos c.in-For.start c.in-For.test c.in-For.step _ _ _ _ (stmt_is _ _ _ _ c.in-For.is c.s.view_is) c.deref-in-For.ensures c.in_ok-lower_for-in-For.ensures
 
 pub lower_stmt-returns-in_ok-put_exit-in-Break : goal.lower_stmt-returns-in_ok-put_exit-in-Break
 lower_stmt-returns-in_ok-put_exit-in-Break t c = arm_break c.args.names.now c.args.s.now c.s.inside.pos _ _ (stmt_is _ _ _ _ c.in-Break.is c.s.view_is) c.in_ok-put_exit-in-Break.ensures

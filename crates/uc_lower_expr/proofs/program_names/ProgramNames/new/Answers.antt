@@ -11,10 +11,11 @@ held r = r.now
 
 pub invariant_of-result : goal.invariant_of-result
 invariant_of-result c = record {
-  are = c.requires;
+  classless = c.requires.classless;
+  are = c.requires.routines;
   at = λ name.
       c.in_ok-numbers.ensures.at name
       ∙ ap (λ (rs : List (Bor Held)). number_among (map held rs) 0 name) c.deref.ensures.value
-      ∙ ap (λ (rs : List Routine). number_among rs 0 name) c.requires
+      ∙ ap (λ (rs : List Routine). number_among rs 0 name) c.requires.routines
       ∙ among_from (routines_of c.args.sizes.now) 0 name;
 }

@@ -1,0 +1,8 @@
+use Rattle.std.proofs.Common.{List, reverse}
+use Rattle.uc_code.specs.Drafts.{Draft}
+use Rattle.uc_code.specs.Open.{Falling}
+use Rattle.uc_code.proofs.Nesting.{falls}
+use Rattle.uc_code.proofs.draft.Draft.marks.Goals as goal
+
+pub returns-clause-falling : goal.returns-clause-falling
+returns-clause-falling c = rw (← c.self.view_is) (falls c.self.inside.settled (reverse c.self.inside.rows.items) (reverse c.self.inside.marks.items) c.self.invariant.1.nested)
