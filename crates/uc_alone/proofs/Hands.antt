@@ -9,10 +9,10 @@ use Rattle.uc_meaning.specs.declared.exec.Owner.{Owner}
 use Rattle.uc_meaning.specs.declared.exec.Owner.TheVariants.{Frame, Fields}
 use Rattle.uc_meaning.specs.declared.request.Asked.{Asked}
 use Rattle.uc_meaning.specs.declared.request.Piece.{Piece}
-use Rattle.uc_tree.specs.Source.{Shape, Expr, Literal, Variable, Element, Load, Negated, Not, AsCharacter, AsTruth, Operate, And, Or, Assign, Update, StepBehind, Fail, Get, Set, First, Call, OfObject, ObjectExpr, This, OwnField, GetOwn, FieldOf, Counted, CallOn, CallUnwritten, EnterOn, Wait, Signal, SignalBlock, IsEmpty, FrontOf, NoExprs, MoreExprs, Way, ToBreak, ToContinue, ToReturn, ToEnd, Stmt, Skip, Block, Evaluate, Declare, Print, PrintTogether, Read, If, Loop, Break, Continue, Return, Fill, OfEvents, OfTasks, Stmts, Nil, Then, Scoped, Built, Routine, Source}
+use Rattle.uc_tree.specs.Source.{Shape, Expr, Literal, Variable, Element, Load, Negated, Not, AsCharacter, AsTruth, Operate, And, Or, Assign, Update, StepBehind, Fail, Get, Set, First, Call, OfObject, ObjectExpr, This, OwnField, GetOwn, FieldOf, Counted, CallOn, CallUnwritten, EnterOn, Wait, Signal, SignalBlock, IsEmpty, FrontOf, NoExprs, MoreExprs, Way, ToBreak, ToContinue, ToReturn, ToEnd, Stmt, Skip, Block, Whole, Evaluate, Declare, Print, PrintTogether, Read, If, Loop, Break, Continue, Return, Fill, OfEvents, OfTasks, Stmts, Nil, Then, Scoped, Built, Routine, Source}
 use Rattle.uc_meaning.specs.Executions.{update, set_members, members_at, change_in, change, with_owned, exec_eq, values_cleared}
 use Rattle.uc_meaning.specs.Quiet as q
-use Rattle.uc_meaning.specs.Quiet.{Active, State, Env, Members, Todo, Step, Goes, Ticks, Asks, Outcome, Gives, Faults, Eval, LoadNow, ElementNow, FieldNow, NegateNow, NotNow, CharacterNow, TruthNow, OperateNow, CopyNow, CopyBelowNow, DropNow, DropBelowNow, StoreNow, KeepNow, SetNow, Choose, Branch, TickNow, TurnNow, Arguments, CallNow, CallOnNow, CallUnwrittenNow, CountNow, MoreNow, FillNow, Again, PrintNow, TextNow, GatherNow, FlushNow, ReadNow, ClearNow, Items, Values, Pieces, Targets, Variables, Do, Rest, Within, Exit, NoReturnNow, InLoop, Clean, Sweep, Part, Finish, Value, Number, Place, Running, Nothing, quiet, act_todo, act, object_step, eval_step, stmt_step, rest_step, call_step, call_on_step, call_unwritten_step, sweep_step, exit_step, end_step, outcome_step, element_step, print_step, flush_step, return_step, written, outcome, index_in, number, top, below}
+use Rattle.uc_meaning.specs.Quiet.{Active, State, Env, Members, Todo, Step, Goes, Ticks, Asks, Outcome, Gives, Faults, Eval, LoadNow, ElementNow, FieldNow, NegateNow, NotNow, CharacterNow, TruthNow, OperateNow, CopyNow, CopyBelowNow, DropNow, DropBelowNow, StoreNow, KeepNow, SetNow, Choose, Branch, TickNow, TurnNow, Arguments, CallNow, CallOnNow, CallUnwrittenNow, CountNow, MoreNow, FillNow, Again, PrintNow, TextNow, GatherNow, FlushNow, ReadNow, ClearNow, Items, Values, Pieces, Targets, Variables, Do, Rest, Within, Exit, NoReturnNow, InLoop, InWhole, Clean, Sweep, Part, Finish, Value, Number, Place, Running, Nothing, quiet, act_todo, act, object_step, eval_step, stmt_step, rest_step, call_step, call_on_step, call_unwritten_step, sweep_step, exit_step, end_step, outcome_step, element_step, print_step, flush_step, return_step, written, outcome, index_in, number, top, below}
 use Rattle.uc_meaning.specs.Rides.{Rides, slices, goes_on, ticks, asks}
 use Rattle.uc_tree.specs.declared.limits.TheConstants.{CALLS}
 use Rattle.uc_alone.specs.Kept.{is_few}
@@ -142,6 +142,7 @@ eval_keeps (OfObject o) todo s = object_keeps o todo s
 stmt_keeps : (a : Stmt) (todo : List Todo) (s : State) → Keeps (inside_of s) (stmt_step a todo s)
 stmt_keeps (Skip line) todo s = refl
 stmt_keeps (Block line body) todo s = refl
+stmt_keeps (Whole line body) todo s = refl
 stmt_keeps (Evaluate line a) todo s = refl
 stmt_keeps (Declare line ds) todo s = refl
 stmt_keeps (Print line items) todo s = refl
@@ -239,6 +240,7 @@ module _ (source : Source) where
   act_keeps (Exit w) todo s = exit_keeps w todo s
   act_keeps NoReturnNow todo s = (refl, refl)
   act_keeps (InLoop o t e b) todo s = refl
+  act_keeps InWhole todo s = refl
   act_keeps (Clean c) todo s = refl
   act_keeps (Sweep e) todo s = sweep_keeps s.run.elements e todo s
   act_keeps (Part c) todo s = refl

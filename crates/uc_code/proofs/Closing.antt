@@ -13,7 +13,7 @@ use Rattle.uc_code.specs.declared.rows.Opening.{Opening}
 use Rattle.uc_code.specs.declared.rows.Opening.TheVariants as opening
 use Rattle.uc_code.specs.Laid.{Laid, handlers, covers, takes_events, same_block, block_before, block_by, from_row, from_newest, chain}
 use Rattle.uc_code.specs.Ranges.{HandlerAt}
-use Rattle.uc_code.specs.Open.{row_in, handler_in, opening_mark, opening_event, opening_around, Nested, Bare, Ended, InBody, InMain, InLoop, InRow, closed_row, closed_rows}
+use Rattle.uc_code.specs.Open.{row_in, handler_in, opening_mark, opening_event, opening_around, Nested, Bare, Ended, InBody, InMain, InLoop, InWhole, InRow, closed_row, closed_rows}
 use Rattle.uc_code.proofs.Nesting.{made, nested_rise}
 
 pub reverse_cons : {X : Type 0} → (x : X) (xs : List X) → reverse (x ∷ xs) ≡ reverse xs ++ x ∷ []
@@ -150,6 +150,7 @@ module _ (here entry : ℕ) where
   leaves at rs ms k g (InBody routine _ qs n) e = absurd (cc)
   leaves at rs ms k g (InMain routine line _ qs n) e = absurd (cc)
   leaves at rs ms k g (InLoop leave again _ qs n) e = absurd (cc)
+  leaves at rs ms k g (InWhole leave _ qs n) e = absurd (cc)
   leaves at rs ms k g (InRow o from qs ns l n) e =
       let q : length qs ≡ k = row_is o (length qs) k ns e in
       let r : HandlerRow = made o from ns in

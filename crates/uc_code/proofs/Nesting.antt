@@ -12,7 +12,7 @@ use Rattle.uc_code.specs.declared.rows.Mark.TheVariants as mark
 use Rattle.uc_code.specs.declared.rows.Opening.{Opening}
 use Rattle.uc_code.specs.declared.rows.Opening.TheVariants as opening
 use Rattle.uc_code.specs.Laid.{under, handlers, covers, takes_events, same_block, block_before, block_by, from_row, from_newest, chain}
-use Rattle.uc_code.specs.Open.{first_in, name_of, named_by, row_in, handler_in, opening_mark, opening_event, opening_around, Below, Falling, Nested, Bare, Ended, InBody, InMain, InLoop, InRow, closed_row, closed_rows}
+use Rattle.uc_code.specs.Open.{first_in, name_of, named_by, row_in, handler_in, opening_mark, opening_event, opening_around, Below, Falling, Nested, Bare, Ended, InBody, InMain, InLoop, InWhole, InRow, closed_row, closed_rows}
 
 -- numbers below another
 
@@ -89,6 +89,7 @@ module _ (here : ℕ) where
   all_below rs ms (InBody routine _ qs n) = all_below rs qs n
   all_below rs ms (InMain routine line _ qs n) = all_below rs qs n
   all_below rs ms (InLoop leave again _ qs n) = all_below rs qs n
+  all_below rs ms (InWhole leave _ qs n) = all_below rs qs n
   all_below rs ms (InRow (opening.Object what line) from qs ns l n) = (omega arith, below_rise (length qs) (length rs) (handlers ns) (omega arith) (all_below qs ns n))
   all_below rs ms (InRow opening.Part from qs ns l n) = (omega arith, below_rise (length qs) (length rs) (handlers ns) (omega arith) (all_below qs ns n))
   all_below rs ms (InRow opening.Elements from qs ns l n) = (omega arith, below_rise (length qs) (length rs) (handlers ns) (omega arith) (all_below qs ns n))
@@ -118,6 +119,7 @@ module _ (here : ℕ) where
   named rs ms (InBody routine _ qs n) below = named rs qs n below
   named rs ms (InMain routine line _ qs n) below = named rs qs n below
   named rs ms (InLoop leave again _ qs n) below = named rs qs n below
+  named rs ms (InWhole leave _ qs n) below = named rs qs n below
   named rs ms (InRow (opening.Object what line) from qs ns l n) below = named_own (opening.Object what line) from below qs ns (all_below qs ns n) (λ b. named qs ns n b) refl refl
   named rs ms (InRow opening.Part from qs ns l n) below = named_own opening.Part from below qs ns (all_below qs ns n) (λ b. named qs ns n b) refl refl
   named rs ms (InRow opening.Elements from qs ns l n) below = named_own opening.Elements from below qs ns (all_below qs ns n) (λ b. named qs ns n b) refl refl
@@ -148,6 +150,7 @@ module _ (here : ℕ) where
   newest rs ms (InBody routine _ qs n) next g m = newest rs qs n next g m
   newest rs ms (InMain routine line _ qs n) next g m = newest rs qs n next g m
   newest rs ms (InLoop leave again _ qs n) next g m = newest rs qs n next g m
+  newest rs ms (InWhole leave _ qs n) next g m = newest rs qs n next g m
   newest rs ms (InRow o from qs ns l n) next g m =
       let r : HandlerRow = made o from ns in
       let c : covers r next ≡ true = covers_open r next (omega arith) m in
@@ -161,6 +164,7 @@ nested_rise here there g rs ms (Ended r qs _ l n) = Ended r qs ms (omega arith) 
 nested_rise here there g rs ms (InBody routine _ qs n) = InBody routine rs qs (nested_rise here there g rs qs n)
 nested_rise here there g rs ms (InMain routine line _ qs n) = InMain routine line rs qs (nested_rise here there g rs qs n)
 nested_rise here there g rs ms (InLoop leave again _ qs n) = InLoop leave again rs qs (nested_rise here there g rs qs n)
+nested_rise here there g rs ms (InWhole leave _ qs n) = InWhole leave rs qs (nested_rise here there g rs qs n)
 nested_rise here there g rs ms (InRow o from qs ns l n) = InRow o from qs ns (omega arith) (nested_rise here there g qs ns n)
 
 -- the rows of the marks fall
@@ -170,6 +174,7 @@ falls here rs ms (Ended r qs _ l n) = falls here qs ms n
 falls here rs ms (InBody routine _ qs n) = falls here rs qs n
 falls here rs ms (InMain routine line _ qs n) = falls here rs qs n
 falls here rs ms (InLoop leave again _ qs n) = falls here rs qs n
+falls here rs ms (InWhole leave _ qs n) = falls here rs qs n
 falls here rs ms (InRow (opening.Object what line) from qs ns l n) = (all_below here qs ns n, falls here qs ns n)
 falls here rs ms (InRow opening.Part from qs ns l n) = (all_below here qs ns n, falls here qs ns n)
 falls here rs ms (InRow opening.Elements from qs ns l n) = (all_below here qs ns n, falls here qs ns n)

@@ -2,7 +2,7 @@
 use Rattle.std.proofs.Common.{◌≡◌, ℕ, zero, suc, ◌+◌, ◌-◌, ◌^◌, ◌<◌, ◌≤◌, pos, List, [], ◌∷◌, Bool, true, false, Option, Some, None, length, refl, sym, subst, arith}
 use Rattle.std.specs.Prelude.{slice_get}
 use Rattle.std.proofs.lemmas.Option.{slice_get_within}
-use Rattle.uc_tree.specs.Source.{Shape, Integer, Character, Truth, Binding, Last, Field, Array, shape_cells, field_cells, Order, TestFirst, BodyFirst, NoTest, Operator, Plus, Minus, Times, Over, Modulo, Equal, NotEqual, Less, AtMost, Greater, AtLeast, Expr, Literal, Variable, Element, Get, Load, Negated, Not, AsCharacter, AsTruth, Operate, And, Or, Set, Assign, First, Update, StepBehind, Fail, Call, OfObject, ObjectExpr, This, OwnField, GetOwn, FieldOf, Counted, CallOn, CallUnwritten, EnterOn, Wait, Signal, SignalBlock, IsEmpty, FrontOf, Exprs, NoExprs, MoreExprs, Item, Show, ShowText, Target, Declared, Stmt, Skip, Block, Evaluate, Declare, Print, PrintTogether, Read, If, Loop, Break, Continue, Return, Fill, OfEvents, OfTasks, CleanUp, Stmts, Nil, Then, Scoped, Built, Way, ToBreak, ToContinue, ToReturn, ToEnd, Purpose, TaskMain, Procedure, Function, Builder, Routine, Source}
+use Rattle.uc_tree.specs.Source.{Shape, Integer, Character, Truth, Binding, Last, Field, Array, shape_cells, field_cells, Order, TestFirst, BodyFirst, NoTest, Operator, Plus, Minus, Times, Over, Modulo, Equal, NotEqual, Less, AtMost, Greater, AtLeast, Expr, Literal, Variable, Element, Get, Load, Negated, Not, AsCharacter, AsTruth, Operate, And, Or, Set, Assign, First, Update, StepBehind, Fail, Call, OfObject, ObjectExpr, This, OwnField, GetOwn, FieldOf, Counted, CallOn, CallUnwritten, EnterOn, Wait, Signal, SignalBlock, IsEmpty, FrontOf, Exprs, NoExprs, MoreExprs, Item, Show, ShowText, Target, Declared, Stmt, Skip, Block, Whole, Evaluate, Declare, Print, PrintTogether, Read, If, Loop, Break, Continue, Return, Fill, OfEvents, OfTasks, CleanUp, Stmts, Nil, Then, Scoped, Built, Way, ToBreak, ToContinue, ToReturn, ToEnd, Purpose, TaskMain, Procedure, Function, Builder, Routine, Source}
 use Rattle.uc_code.specs.declared.op.Op.{Op}
 use Rattle.uc_code.specs.declared.op.Op.TheVariants as op
 use Rattle.uc_code.specs.declared.rows.Array.{Array as ArrayOf}
@@ -15,7 +15,7 @@ use Rattle.uc_code.specs.Codes.{Code}
 use Rattle.uc_code.specs.Laid.{Laid, laid_of, routine_in}
 use Rattle.uc_code.specs.Pace.{behind, climb_op, height, Test, test_by, burden, Onward, Paced, IsPaced}
 use Rattle.uc_code.specs.declared.rows.Mark.TheVariants as mark
-use Rattle.uc_code.specs.Ranges.{OpAt, Nothing, Never, One, Risk, CallsBehind, Both, Fork, pads_at, begin_at, BackAt, Turns, Rounds, OverElements, ScopeOf, BehindPart}
+use Rattle.uc_code.specs.Ranges.{OpAt, Nothing, Never, One, Risk, CallsBehind, Both, Fork, pads_at, begin_at, BackAt, Turns, WholeAt, Rounds, OverElements, ScopeOf, BehindPart}
 use Rattle.uc_code.specs.Lowered.{operator_op, item_op, ConvertAt, ExprAt, ObjectAt, ArgumentsAt, ValueAt, ItemsAt, ValuesAt, PiecesAt, TogetherAt, TargetsAt, StartAt, VariablesAt, spot_op, SpotAt, CalledAt, CallAt, CallDone, CallBuilt, CleanBy, CleanAt, FilledAt, ScopedAt, BuiltAt, Any, ExitAt, StepAt, StmtAt, StmtsAt, body_mark, body_line, EndAt, BodyAt, RoutineAt, RoutinesAt, Lowered}
 use Rattle.uc_code.proofs.Heights.{Low, Outside, Plain, PacedAt, Each, Around, around_less, further_of, paced_by, none, only, join, within, onward_plain, onward_falls, own_plain, outside_next, jump_plain, jump_plain_at, jump_paced_at, jump_outside, jump_paced, zero_paced, tick_plain, tick_paced, back_paced, back_test_paced, exit_paced, Starts, Further, calling, high_calling, PadTo, height_is, down, outside_end}
 use Rattle.uc_code.proofs.Turning.{In}
@@ -328,6 +328,13 @@ module _ (code : Laid) (table : List RoutineCode) where
     each = λ q a z h r p. only code table a z h.one.end (exit_paced code table a again h.line h.one.here (subst (PadTo code table again) h.one.end r.1) (subst (Outside code table) h.one.end p.outside));
   }
 
+  whole_exit_paces : (ms : List Mark) (leave : ℕ) → Paces (mark.Whole leave ∷ ms) (Any code (op.Jump leave))
+  whole_exit_paces ms leave = record {
+    rises = λ a z h. let e = h.one.end in omega arith;
+    plain = λ a z h p. jump_plain code table a leave h.line h.one.here (subst (Outside code table) h.one.end p.outside);
+    each = λ q a z h r p. only code table a z h.one.end (exit_paced code table a leave h.line h.one.here (subst (PadTo code table leave) h.one.end r.0) (subst (Outside code table) h.one.end p.outside));
+  }
+
   in_loop : {B : ℕ → ℕ → Type 0} → (ms : List Mark) (leave again : ℕ) → Paces ms B → Paces (mark.Loop leave again ∷ ms) B
   in_loop ms leave again b = record { rises = b.rises; plain = b.plain; each = λ q a z h r p. b.each q a z h r.2 p }
 
@@ -571,6 +578,7 @@ module _ (code : Laid) (table : List RoutineCode) where
   exit_paces ToContinue (mark.Loop leave again ∷ ms) = again_paces ms leave again
   exit_paces ToReturn (mark.Loop leave again ∷ ms) = in_loop ms leave again (exit_paces ToReturn ms)
   exit_paces ToEnd (mark.Loop leave again ∷ ms) = in_loop ms leave again (exit_paces ToEnd ms)
+  exit_paces w (mark.Whole leave ∷ ms) = whole_exit_paces ms leave
   exit_paces w (mark.Guard first count ∷ ms) = under_mark (mark.Guard first count) ms (λ z r. r) (exit_paces w ms)
   exit_paces w (mark.Clean what line row ∷ ms) = under_mark (mark.Clean what line row) ms (λ z r. r) (both ms (clean_paces ms line what) (exit_paces w ms))
   exit_paces w (mark.Part row ∷ ms) = under_mark (mark.Part row) ms (λ z r. r) (exit_paces w ms)
@@ -580,6 +588,26 @@ module _ (code : Laid) (table : List RoutineCode) where
   exit_paces ToReturn (mark.Outward below row ∷ ms) = value_return_paces (mark.Outward below row ∷ ms) 0
   exit_paces ToEnd (mark.Outward below row ∷ ms) = return_paces (mark.Outward below row ∷ ms) 0
 
+  -- a block that is left as a whole
+  whole_paces : (ms : List Mark) (line : ℕ) (B : Mark → ℕ → ℕ → Type 0) → ((m : Mark) → Paces (m ∷ ms) (B m)) → Paces ms (WholeAt code line B)
+  whole_paces ms line B b = record {
+    rises = λ a z h. let l = (b (mark.Whole (a + 1))).rises (a + 2) z h.body in omega arith;
+    plain = λ a z h p.
+        let body = (b (mark.Whole (a + 1))).plain (a + 2) z h.body p in
+        let e : a + 2 ≡ (a + 1) + 1 = omega arith in
+        jump_plain code table a (a + 2) line h.begin (jump_outside code table (a + 1) z line h.leave (subst (Outside code table) e body.outside));
+    each = λ q a z h r p.
+        let l = (b (mark.Whole (a + 1))).rises (a + 2) z h.body in
+        let body = (b (mark.Whole (a + 1))).plain (a + 2) z h.body p in
+        let e : a + 2 ≡ (a + 1) + 1 = omega arith in
+        let inner : Outside code table ((a + 1) + 1) = subst (Outside code table) e body.outside in
+        let pad : Outside code table (a + 1) = jump_outside code table (a + 1) z line h.leave inner in
+        let around : Around code table (mark.Whole (a + 1) ∷ ms) z = (record { to = z; line = line; is = h.leave; forward = omega arith; past = omega arith; outside = pad }, r) in
+        join code table a (a + 1) z (only code table a (a + 1) refl (jump_paced code table a (a + 2) line h.begin (omega arith) pad body)) (
+        join code table (a + 1) (a + 2) z (only code table (a + 1) (a + 2) (omega arith) (jump_paced code table (a + 1) z line h.leave (omega arith) inner p))
+        ((b (mark.Whole (a + 1))).each q (a + 2) z h.body around p));
+  }
+
   step_paces : (ms : List Mark) (line : ℕ) (step : Option Expr) → Paces ms (StepAt code line ms step)
   step_paces ms line None = nothing_paces ms
   step_paces ms line (Some e) = both ms (expr_paces ms line e) (onward_paces ms op.Discard line (λ n k h. refl) (λ k t. refl) (λ at l. l))
@@ -588,6 +616,7 @@ module _ (code : Laid) (table : List RoutineCode) where
     stmt_paces : (ms : List Mark) (s : Stmt) → Paces ms (StmtAt code ms s)
     stmt_paces ms (Skip line) = nothing_paces ms
     stmt_paces ms (Block line body) = stmts_paces ms line body
+    stmt_paces ms (Whole line body) = whole_paces ms line (λ m. StmtsAt code (m ∷ ms) line body) (λ m. stmts_paces (m ∷ ms) line body)
     stmt_paces ms (Evaluate line e) = both ms (expr_paces ms line e) (onward_paces ms op.Discard line (λ n k h. refl) (λ k t. refl) (λ at l. l))
     stmt_paces ms (Declare line ds) = variables_paces ms line ds
     stmt_paces ms (Print line is) = items_paces ms line is

@@ -18,7 +18,7 @@ use Rattle.uc_code.specs.declared.rows.Opening.TheVariants as opening
 use Rattle.uc_code.specs.Drafts.{Draft, ops_with}
 use Rattle.uc_code.specs.Laid.{Laid, under, handlers, routine_in, covers, from_newest, chain}
 use Rattle.uc_code.specs.Ranges.{OpAt, Risk, HandlerAt, Kept}
-use Rattle.uc_code.specs.Open.{Below, first_in, named_by, opening_bound, row_in, handler_in, opening_mark, opening_event, opening_around, OpensBehind, AllBehind, StandsBehind, Nested, Bare, Ended, InBody, InMain, InLoop, InRow, IsSettled, closed_row, closed_rows, left_marks, is_rowless}
+use Rattle.uc_code.specs.Open.{Below, first_in, named_by, opening_bound, row_in, handler_in, opening_mark, opening_event, opening_around, OpensBehind, AllBehind, StandsBehind, Nested, Bare, Ended, InBody, InMain, InLoop, InWhole, InRow, IsSettled, closed_row, closed_rows, left_marks, is_rowless}
 use Rattle.uc_code.proofs.Patches.{one_with}
 use Rattle.uc_code.proofs.Nesting.{made, newest, nested_rise, all_below, under_all, below_under}
 use Rattle.uc_code.proofs.Closing.{Closes, Leaves, leaves, closes_list, closes_newest, reverse_push}
@@ -46,6 +46,9 @@ settled_cut ops count settled rows ms l s = record { past = let p = s.past in om
 
 -- marks without rows
 
+pub settled_whole : (ops settled leave : ℕ) (rows : List HandlerRow) (ms : List Mark) → IsSettled ops settled rows ms → IsSettled ops settled rows (mark.Whole leave ∷ ms)
+settled_whole ops settled leave rows ms s = record { past = s.past; few = s.few; nested = InWhole leave (reverse rows) ms s.nested; behind = s.behind }
+
 pub settled_body : (ops settled routine : ℕ) (rows : List HandlerRow) (ms : List Mark) → IsSettled ops settled rows ms → IsSettled ops settled rows (mark.Body routine ∷ ms)
 settled_body ops settled routine rows ms s = record { past = s.past; few = s.few; nested = InBody routine (reverse rows) ms s.nested; behind = s.behind }
 
@@ -71,6 +74,7 @@ nested_left here rs ms (Ended r qs _ l n) e = Ended r qs (left_marks ms) l (nest
 nested_left here rs ms (InBody routine _ qs n) e = n
 nested_left here rs ms (InMain routine line _ qs n) e = n
 nested_left here rs ms (InLoop leave again _ qs n) e = n
+nested_left here rs ms (InWhole leave _ qs n) e = n
 nested_left here rs ms (InRow o from qs ns l n) e = let f : true ≡ false = sym e ∙ rowless_opening o (length qs) ns in absurd (cc)
 
 behind_left : (ms : List Mark) → AllBehind ms → AllBehind (left_marks ms)
@@ -78,6 +82,7 @@ behind_left [] b = b
 behind_left (mark.Body routine ∷ ms) b = b
 behind_left (mark.Finish routine line ∷ ms) b = b
 behind_left (mark.Loop leave again ∷ ms) b = b
+behind_left (mark.Whole leave ∷ ms) b = b
 behind_left (mark.Guard first count ∷ ms) b = b
 behind_left (mark.Clean what line row ∷ ms) b = b
 behind_left (mark.Part row ∷ ms) b = b
@@ -92,6 +97,7 @@ pub left_rowless : (m : Mark) (ms : List Mark) → is_rowless (m ∷ ms) ≡ tru
 left_rowless (mark.Body routine) ms e = refl
 left_rowless (mark.Finish routine line) ms e = refl
 left_rowless (mark.Loop leave again) ms e = refl
+left_rowless (mark.Whole leave) ms e = refl
 left_rowless (mark.Guard first count) ms e = absurd (cc)
 left_rowless (mark.Clean what line row) ms e = absurd (cc)
 left_rowless (mark.Part row) ms e = absurd (cc)
@@ -103,6 +109,7 @@ left_not [] e = refl
 left_not (mark.Body routine ∷ ms) e = absurd (cc)
 left_not (mark.Finish routine line ∷ ms) e = absurd (cc)
 left_not (mark.Loop leave again ∷ ms) e = absurd (cc)
+left_not (mark.Whole leave ∷ ms) e = absurd (cc)
 left_not (mark.Guard first count ∷ ms) e = refl
 left_not (mark.Clean what line row ∷ ms) e = refl
 left_not (mark.Part row ∷ ms) e = refl
@@ -196,6 +203,7 @@ behind_tail [] b = b
 behind_tail (mark.Body routine ∷ ms) b = b
 behind_tail (mark.Finish routine line ∷ ms) b = b
 behind_tail (mark.Loop leave again ∷ ms) b = b
+behind_tail (mark.Whole leave ∷ ms) b = b
 behind_tail (mark.Guard first count ∷ ms) b = b
 behind_tail (mark.Clean what line row ∷ ms) b = b.1
 behind_tail (mark.Part row ∷ ms) b = b
@@ -257,6 +265,7 @@ handler_row [] k e = absurd (cc)
 handler_row (mark.Body routine ∷ ms) k e = absurd (cc)
 handler_row (mark.Finish routine line ∷ ms) k e = absurd (cc)
 handler_row (mark.Loop leave again ∷ ms) k e = absurd (cc)
+handler_row (mark.Whole leave ∷ ms) k e = absurd (cc)
 handler_row (mark.Guard first count ∷ ms) k e = absurd (cc)
 handler_row (mark.Clean what line row ∷ ms) k e = e
 handler_row (mark.Part row ∷ ms) k e = e

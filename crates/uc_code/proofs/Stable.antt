@@ -4,9 +4,9 @@ use Rattle.uc_code.specs.declared.op.Op.{Op}
 use Rattle.uc_tree.specs.Source.{Order, TestFirst, BodyFirst, NoTest}
 use Rattle.uc_code.specs.declared.op.Op.TheVariants.{Jump, IfZero, IfNonzero, Tick, CallUnwritten, Count, Unwind}
 use Rattle.uc_code.specs.declared.rows.Mark.{Mark}
-use Rattle.uc_code.specs.declared.rows.Mark.TheVariants.{Elements}
+use Rattle.uc_code.specs.declared.rows.Mark.TheVariants.{Whole, Elements}
 use Rattle.uc_code.specs.Laid.{Laid}
-use Rattle.uc_code.specs.Ranges.{Nothing, Never, One, Risk, CallsBehind, Both, Behind, When, Unless, Fork, Leads, Arrived, Jumped, pads_at, begin_at, BackAt, Turns, Rounds, OverElements, ScopeOf, BehindPart, Same, Kept, Stable}
+use Rattle.uc_code.specs.Ranges.{Nothing, Never, One, Risk, CallsBehind, Both, Behind, When, Unless, Fork, Leads, Arrived, Jumped, pads_at, begin_at, BackAt, Turns, WholeAt, Rounds, OverElements, ScopeOf, BehindPart, Same, Kept, Stable}
 
 pub part : (old new : Laid) (a z b y : ℕ) → a ≤ b → y ≤ z → Same old new a z → Same old new b y
 part old new a z b y h k s = record {
@@ -170,6 +170,20 @@ module _ (line : ℕ) (order : Order) (T S : Laid → ℕ → ℕ → Type 0) (B
           back = (back_stable order T (a + 3) line t).moves old new h.test_at z (part old new a z h.test_at z (omega arith) (omega arith) w) h.back;
         };
   }
+
+-- a block that is left as a whole
+
+pub whole_stable : (line : ℕ) (B : Laid → Mark → ℕ → ℕ → Type 0) → ((m : Mark) → Stable (λ code. B code m)) → Stable (λ code. WholeAt code line (B code))
+whole_stable line B b = record {
+  rises = λ code a z h. let l = (b (Whole (a + 1))).rises code (a + 2) z h.body in omega arith;
+  moves = λ old new a z s h.
+      let l = (b (Whole (a + 1))).rises old (a + 2) z h.body in
+      record {
+        begin = s.same a (Jump (a + 2)) line (omega arith) (omega arith) h.begin;
+        leave = s.same (a + 1) (Jump z) line (omega arith) (omega arith) h.leave;
+        body = (b (Whole (a + 1))).moves old new (a + 2) z (part old new a z (a + 2) z (omega arith) (omega arith) s) h.body;
+      };
+}
 
 -- turns over elements
 

@@ -1,7 +1,7 @@
 -- The code of the resolved tree: for each piece what its range of ops must hold. `line` is that of the innermost
 -- statement around the piece, and the marks are what stands around it in its routine, the innermost first.
 use Rattle.std.specs.Prelude.{◌≡◌, ℕ, ◌+◌, pos, List, [], ◌∷◌, Bool, true, false, Option, Some, None, length, map}
-use Rattle.uc_tree.specs.Source.{Shape, Integer, Character, Truth, Binding, Last, Field, Array, shape_cells, field_cells, Operator, Plus, Minus, Times, Over, Modulo, Equal, NotEqual, Less, AtMost, Greater, AtLeast, Expr, Literal, Variable, Element, Get, Load, Negated, Not, AsCharacter, AsTruth, Operate, And, Or, Set, Assign, First, Update, StepBehind, Fail, Call, OfObject, ObjectExpr, This, OwnField, GetOwn, FieldOf, Counted, CallOn, CallUnwritten, EnterOn, Wait, Signal, SignalBlock, IsEmpty, FrontOf, Exprs, NoExprs, MoreExprs, Item, Show, ShowText, Target, Declared, Stmt, Skip, Block, Evaluate, Declare, Print, PrintTogether, Read, If, Loop, Break, Continue, Return, Fill, OfEvents, OfTasks, CleanUp, Stmts, Nil, Then, Scoped, Built, Way, ToBreak, ToContinue, ToReturn, ToEnd, Purpose, TaskMain, Procedure, Function, Builder, Routine, Source}
+use Rattle.uc_tree.specs.Source.{Shape, Integer, Character, Truth, Binding, Last, Field, Array, shape_cells, field_cells, Operator, Plus, Minus, Times, Over, Modulo, Equal, NotEqual, Less, AtMost, Greater, AtLeast, Expr, Literal, Variable, Element, Get, Load, Negated, Not, AsCharacter, AsTruth, Operate, And, Or, Set, Assign, First, Update, StepBehind, Fail, Call, OfObject, ObjectExpr, This, OwnField, GetOwn, FieldOf, Counted, CallOn, CallUnwritten, EnterOn, Wait, Signal, SignalBlock, IsEmpty, FrontOf, Exprs, NoExprs, MoreExprs, Item, Show, ShowText, Target, Declared, Stmt, Skip, Block, Whole, Evaluate, Declare, Print, PrintTogether, Read, If, Loop, Break, Continue, Return, Fill, OfEvents, OfTasks, CleanUp, Stmts, Nil, Then, Scoped, Built, Way, ToBreak, ToContinue, ToReturn, ToEnd, Purpose, TaskMain, Procedure, Function, Builder, Routine, Source}
 use Rattle.uc_code.specs.declared.op.Op.{Op}
 use Rattle.uc_code.specs.declared.op.Op.TheVariants as op
 use Rattle.uc_code.specs.declared.rows.Mark.{Mark}
@@ -13,7 +13,7 @@ use Rattle.uc_code.specs.declared.rows.ObjectCall.{ObjectCall}
 use Rattle.uc_code.specs.declared.rows.RoutineCode.{RoutineCode}
 use Rattle.uc_code.specs.Codes.{Code}
 use Rattle.uc_code.specs.Laid.{Laid, laid_of}
-use Rattle.uc_code.specs.Ranges.{OpAt, Nothing, Never, One, Risk, CallsBehind, Both, Fork, Turns, OverElements, ScopeOf, BehindPart}
+use Rattle.uc_code.specs.Ranges.{OpAt, Nothing, Never, One, Risk, CallsBehind, Both, Fork, Turns, WholeAt, OverElements, ScopeOf, BehindPart}
 use Rattle.uc_code.specs.ObjectCalls.{Calls, Cleans}
 
 -- the op of an operator
@@ -211,7 +211,7 @@ module _ (code : Laid) where
     pub one : One code o line a z
 
   -- what leaves the statements of a routine: the objects in whose scope it stands are cleaned up, the innermost first, each in the
-  -- line of its block; then comes a jump to a pad of the innermost loop, or a return. A main ends in the line of its block, a call
+  -- line of its block; then comes a jump to a pad of the innermost loop or of a block that is left as a whole, or a return. A main ends in the line of its block, a call
   -- in that of its caller.
   abbrev pub ExitAt : Way → List Mark → ℕ → ℕ → Type 0
   ExitAt ToBreak [] = One code op.Return 0
@@ -230,6 +230,7 @@ module _ (code : Laid) where
   ExitAt ToContinue (mark.Loop leave again ∷ ms) = Any (op.Jump again)
   ExitAt ToReturn (mark.Loop leave again ∷ ms) = ExitAt ToReturn ms
   ExitAt ToEnd (mark.Loop leave again ∷ ms) = ExitAt ToEnd ms
+  ExitAt w (mark.Whole leave ∷ ms) = Any (op.Jump leave)
   ExitAt w (mark.Guard first count ∷ ms) = ExitAt w ms
   ExitAt w (mark.Clean what line row ∷ ms) = Both (CleanAt code line what ms) (ExitAt w ms)
   ExitAt w (mark.Part row ∷ ms) = ExitAt w ms
@@ -245,6 +246,7 @@ module _ (code : Laid) where
     pub StmtAt : List Mark → Stmt → ℕ → ℕ → Type 0
     StmtAt ms (Skip line) = Nothing
     StmtAt ms (Block line body) = StmtsAt ms line body
+    StmtAt ms (Whole line body) = WholeAt code line (λ m. StmtsAt (m ∷ ms) line body)
     StmtAt ms (Evaluate line e) = Both (ExprAt code line ms e) (One code op.Discard line)
     StmtAt ms (Declare line ds) = VariablesAt code line ms ds
     StmtAt ms (Print line is) = ItemsAt code line ms is

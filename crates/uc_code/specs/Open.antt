@@ -32,6 +32,7 @@ row_in [] = None
 row_in (mark.Body routine ∷ ms) = None
 row_in (mark.Finish routine line ∷ ms) = None
 row_in (mark.Loop leave again ∷ ms) = None
+row_in (mark.Whole leave ∷ ms) = None
 row_in (mark.Guard first count ∷ ms) = None
 row_in (mark.Clean what line row ∷ ms) = Some row
 row_in (mark.Part row ∷ ms) = Some row
@@ -44,6 +45,7 @@ handler_in [] = None
 handler_in (mark.Body routine ∷ ms) = None
 handler_in (mark.Finish routine line ∷ ms) = None
 handler_in (mark.Loop leave again ∷ ms) = None
+handler_in (mark.Whole leave ∷ ms) = None
 handler_in (mark.Guard first count ∷ ms) = None
 handler_in (mark.Clean what line row ∷ ms) = Some row
 handler_in (mark.Part row ∷ ms) = Some row
@@ -102,6 +104,7 @@ AllBehind [] = Unit {0}
 AllBehind (mark.Body routine ∷ ms) = AllBehind ms
 AllBehind (mark.Finish routine line ∷ ms) = AllBehind ms
 AllBehind (mark.Loop leave again ∷ ms) = AllBehind ms
+AllBehind (mark.Whole leave ∷ ms) = AllBehind ms
 AllBehind (mark.Guard first count ∷ ms) = AllBehind ms
 AllBehind (mark.Clean what line row ∷ ms) = StandsBehind ms what × AllBehind ms
 AllBehind (mark.Part row ∷ ms) = AllBehind ms
@@ -116,6 +119,7 @@ pub data Nested (here : ℕ) : List HandlerRow → List Mark → Type 0 where
   InBody : (routine : ℕ) (rs : List HandlerRow) (ms : List Mark) → Nested here rs ms → Nested here rs (mark.Body routine ∷ ms)
   InMain : (routine line : ℕ) (rs : List HandlerRow) (ms : List Mark) → Nested here rs ms → Nested here rs (mark.Finish routine line ∷ ms)
   InLoop : (leave again : ℕ) (rs : List HandlerRow) (ms : List Mark) → Nested here rs ms → Nested here rs (mark.Loop leave again ∷ ms)
+  InWhole : (leave : ℕ) (rs : List HandlerRow) (ms : List Mark) → Nested here rs ms → Nested here rs (mark.Whole leave ∷ ms)
   InRow : (o : Opening) (from : ℕ) (rs : List HandlerRow) (ms : List Mark) → from ≤ here → Nested here rs ms → Nested here (record { from = from; to = OPEN_END; outer = named_by (opening_around o ms); kind = CleanUp; event = opening_event o; entry = 0 } ∷ rs) (opening_mark o (length rs) ∷ ms)
 
 -- numbers below another
@@ -169,6 +173,7 @@ is_rowless [] = false
 is_rowless (mark.Body routine ∷ ms) = true
 is_rowless (mark.Finish routine line ∷ ms) = true
 is_rowless (mark.Loop leave again ∷ ms) = true
+is_rowless (mark.Whole leave ∷ ms) = true
 is_rowless (mark.Guard first count ∷ ms) = false
 is_rowless (mark.Clean what line row ∷ ms) = false
 is_rowless (mark.Part row ∷ ms) = false
@@ -180,6 +185,7 @@ left_marks [] = []
 left_marks (mark.Body routine ∷ ms) = ms
 left_marks (mark.Finish routine line ∷ ms) = ms
 left_marks (mark.Loop leave again ∷ ms) = ms
+left_marks (mark.Whole leave ∷ ms) = ms
 left_marks (mark.Guard first count ∷ ms) = mark.Guard first count ∷ ms
 left_marks (mark.Clean what line row ∷ ms) = mark.Clean what line row ∷ ms
 left_marks (mark.Part row ∷ ms) = mark.Part row ∷ ms
@@ -195,6 +201,7 @@ abbrev pub seen_at : Mark → ℕ → Seen
 seen_at (mark.Body routine) bound = seen.Bound bound
 seen_at (mark.Finish routine line) bound = seen.Bound bound
 seen_at (mark.Loop leave again) bound = seen.Bound bound
+seen_at (mark.Whole leave) bound = seen.Bound bound
 seen_at (mark.Guard first count) bound = seen_row (nat_lt 0 count) first bound
 seen_at (mark.Clean what line row) bound = seen_row true row bound
 seen_at (mark.Part row) bound = seen_row true row bound
@@ -211,6 +218,7 @@ exit_room [] = 1
 exit_room (mark.Body routine ∷ ms) = 1
 exit_room (mark.Finish routine line ∷ ms) = 1
 exit_room (mark.Loop leave again ∷ ms) = exit_room ms
+exit_room (mark.Whole leave ∷ ms) = 1
 exit_room (mark.Guard first count ∷ ms) = exit_room ms
 exit_room (mark.Clean what line row ∷ ms) = clean_room + exit_room ms
 exit_room (mark.Part row ∷ ms) = exit_room ms

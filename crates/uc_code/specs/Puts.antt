@@ -59,6 +59,7 @@ ends_at way.Break (mark.Loop leave again) line = Some (op.Jump leave, line)
 ends_at way.Continue (mark.Loop leave again) line = Some (op.Jump again, line)
 ends_at way.Value (mark.Loop leave again) line = None
 ends_at way.End (mark.Loop leave again) line = None
+ends_at w (mark.Whole leave) line = Some (op.Jump leave, line)
 ends_at w (mark.Guard first count) line = None
 ends_at w (mark.Clean what last row) line = None
 ends_at w (mark.Part row) line = None

@@ -7,7 +7,7 @@ use Rattle.uc_code.specs.declared.rows.HandlerRow.{HandlerRow}
 use Rattle.uc_code.specs.declared.rows.RowKind.TheVariants.{CleanUp}
 use Rattle.uc_code.specs.declared.rows.TheConstants.{ANY_EVENT}
 use Rattle.uc_code.specs.declared.rows.Mark.{Mark}
-use Rattle.uc_code.specs.declared.rows.Mark.TheVariants.{Loop, Elements}
+use Rattle.uc_code.specs.declared.rows.Mark.TheVariants.{Loop, Whole, Elements}
 use Rattle.uc_tree.specs.Source.{Order, TestFirst, BodyFirst, NoTest}
 use Rattle.uc_code.specs.Laid.{Laid, handlers, routine_in, chain}
 
@@ -103,6 +103,12 @@ pub record Turns (code : Laid) (line : ℕ) (order : Order) (T S : ℕ → ℕ �
   pub body : B (pads_at a) (a + 4) step_at
   pub step : S step_at test_at
   pub back : BackAt code order T (a + 3) line test_at z
+
+-- a block that is left as a whole: a jump over the pad by which whatever leaves it goes on behind it
+pub record WholeAt (code : Laid) (line : ℕ) (B : Mark → ℕ → ℕ → Type 0) (a z : ℕ) : Type 0 where
+  pub begin : OpAt code a (Jump (a + 2)) line
+  pub leave : OpAt code (a + 1) (Jump z) line
+  pub body : B (Whole (a + 1)) (a + 2) z
 
 -- turns over elements, and the test behind them, which leads back to where a turn begins
 pub record Rounds (code : Laid) (line : ℕ) (back : ℕ → Op) (T : ℕ → ℕ → Type 0) (test a z : ℕ) : Type 0 where

@@ -216,6 +216,7 @@ fn ends_at(way: Way, mark: Mark, line: u32) -> Option<(Op, u32)>
             Way::Value => None,
             Way::End => None,
         },
+        Mark::Whole { leave } => Some((Op::Jump(leave), line)),
         Mark::Guard { .. } => None,
         Mark::Clean { .. } => None,
         Mark::Part { .. } => None,

@@ -234,6 +234,15 @@ impl Draft {
         Ok(())
     }
 
+    /// What is lowered from now on stands in a block that is left as a whole, by this pad.
+    pub fn enter_whole(&mut self, leave: u32) -> Result<(), AllocError>
+        ensures ok { OnOk result (self.new ≡ record self.old { marks = mark.Whole leave ∷ self.old.marks }) }
+        ensures err { OnErr result (self.new ≡ self.old) }
+    {
+        self.marks.push(Mark::Whole { leave })?;
+        Ok(())
+    }
+
     /// What is lowered from now on stands behind the innermost mark, if that has no row.
     pub fn leave(&mut self)
         ensures { self.new ≡ record self.old { marks = left_marks self.old.marks } }

@@ -80,7 +80,8 @@ pub struct ObjectCall {
 }
 
 /// What stands around a statement in its routine: the statements of the routine of this number, which is the main of a task
-/// where it has the line in which that ends; a loop, with the ops to which `break` and `continue` jump; a guarded block, whose
+/// where it has the line in which that ends; a loop, with the ops to which `break` and `continue` jump; a
+/// block that is left as a whole, with the op to which whatever leaves it jumps; a guarded block, whose
 /// handlers are so many rows, from this number on; the scope of an object, with the call that cleans it up, the line of its
 /// block, and its row; a part of an object under construction, with its row; the turns over the elements of an array, with
 /// their row; or the code of an exit, which has left all marks with rows from this number on.
@@ -89,6 +90,7 @@ pub enum Mark {
     Body { routine: u32 },
     Finish { routine: u32, line: u32 },
     Loop { leave: u32, again: u32 },
+    Whole { leave: u32 },
     Guard { first: u32, count: u32 },
     Clean { what: ObjectCall, line: u32, row: u32 },
     Part { row: u32 },

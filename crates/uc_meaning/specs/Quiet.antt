@@ -3,7 +3,7 @@ use Rattle.std.specs.Prelude.{◌≡◌, ℕ, zero, suc, ◌+◌, ◌-◌, ◌*�
 use Rattle.std.specs.Int.{int_rem_euclid}
 use Rattle.std.specs.Ordering.{int_eq}
 use Rattle.uc_tree.specs.declared.limits.TheConstants.{INT_MIN, INT_MAX, CHAR_VALUES, PRINT_ITEMS, CALLS}
-use Rattle.uc_tree.specs.Source.{Shape, Character, Truth, shape_cells, field_cells, Operator, Plus, Minus, Times, Over, Modulo, Equal, NotEqual, Less, AtMost, Greater, AtLeast, Expr, Literal, Variable, Element, Load, Negated, Not, AsCharacter, AsTruth, Operate, And, Or, Assign, Update, StepBehind, Fail, Get, Set, First, Call, OfObject, ObjectExpr, This, OwnField, GetOwn, FieldOf, Counted, CallOn, CallUnwritten, EnterOn, Wait, Signal, SignalBlock, IsEmpty, FrontOf, Exprs, NoExprs, MoreExprs, Item, Show, ShowText, Target, Declared, Order, TestFirst, BodyFirst, NoTest, Way, ToBreak, ToContinue, ToReturn, ToEnd, Stmt, Skip, Block, Evaluate, Declare, Print, PrintTogether, Read, If, Loop, Break, Continue, Return, Fill, OfEvents, OfTasks, CleanUp, Destroys, DestroysAll, Stmts, Nil, Then, Scoped, Built, Purpose, TaskMain, Procedure, Function, Builder, Routine, Source}
+use Rattle.uc_tree.specs.Source.{Shape, Character, Truth, shape_cells, field_cells, Operator, Plus, Minus, Times, Over, Modulo, Equal, NotEqual, Less, AtMost, Greater, AtLeast, Expr, Literal, Variable, Element, Load, Negated, Not, AsCharacter, AsTruth, Operate, And, Or, Assign, Update, StepBehind, Fail, Get, Set, First, Call, OfObject, ObjectExpr, This, OwnField, GetOwn, FieldOf, Counted, CallOn, CallUnwritten, EnterOn, Wait, Signal, SignalBlock, IsEmpty, FrontOf, Exprs, NoExprs, MoreExprs, Item, Show, ShowText, Target, Declared, Order, TestFirst, BodyFirst, NoTest, Way, ToBreak, ToContinue, ToReturn, ToEnd, Stmt, Skip, Block, Whole, Evaluate, Declare, Print, PrintTogether, Read, If, Loop, Break, Continue, Return, Fill, OfEvents, OfTasks, CleanUp, Destroys, DestroysAll, Stmts, Nil, Then, Scoped, Built, Purpose, TaskMain, Procedure, Function, Builder, Routine, Source}
 use Rattle.uc_tree.specs.declared.kinds.ValueForm.{ValueForm}
 use Rattle.uc_tree.specs.ValueForms.{form_number}
 use Rattle.uc_meaning.specs.declared.exec.Exec.{Exec}
@@ -103,6 +103,8 @@ pub data Todo : Type 0 where
   NoReturnNow : Todo
   -- marks. What stands before is the body of a loop, of a turn of it
   InLoop : Order → Expr → Option Expr → Stmt → Todo
+  -- what stands before is a block that is left as a whole
+  InWhole : Todo
   -- an object is in scope in what stands before: it is cleaned up here
   Clean : CleanUp → Todo
   -- elements are destroyed, the last one first
@@ -112,11 +114,12 @@ pub data Todo : Type 0 where
   -- the end of a main, which has a line
   Finish : Todo
 
--- what a piece is for one who leaves it: nothing; a loop; the scope of an object; an array that is being built or destroyed; a part
+-- what a piece is for one who leaves it: nothing; a loop; a block that is left as a whole; the scope of an object; an array that is being built or destroyed; a part
 -- of an object that is being built; or the end of a main, behind which nothing is to do
 pub data Sort : Type 0 where
   Simple : Sort
   IsLoop : Order → Expr → Option Expr → Stmt → Sort
+  IsWhole : Sort
   IsClean : CleanUp → Sort
   IsFill : ℕ → Expr → Expr → Sort
   IsSweep : Expr → Sort
@@ -125,6 +128,7 @@ pub data Sort : Type 0 where
 
 abbrev pub sort : Todo → Sort
 sort (InLoop o t s b) = IsLoop o t s b
+sort InWhole = IsWhole
 sort (Clean c) = IsClean c
 sort (FillNow n b d) = IsFill n b d
 sort (Sweep e) = IsSweep e
@@ -459,6 +463,7 @@ loop_left ToEnd o t s b todo = Exit ToEnd ∷ todo
 abbrev pub left_behind : Way → Sort → List Todo → List Todo
 left_behind w Simple todo = Exit w ∷ todo
 left_behind w (IsLoop o t s b) todo = loop_left w o t s b todo
+left_behind w IsWhole todo = todo
 -- an object is cleaned up, and then the exit goes on; a part stays as it is, and no statement stands in what goes over elements
 left_behind w (IsClean c) todo = Clean c ∷ (Exit w ∷ todo)
 left_behind w (IsFill n b d) todo = Exit w ∷ todo
@@ -500,6 +505,7 @@ clean_todo (DestroysAll n e) todo = CountNow n ∷ (Sweep e ∷ todo)
 abbrev pub stmt_step : Stmt → List Todo → State → Step
 stmt_step (Skip line) todo s = turns todo s
 stmt_step (Block line body) todo s = turns (Rest body ∷ (Within line ∷ todo)) s
+stmt_step (Whole line body) todo s = turns (Rest body ∷ (InWhole ∷ (Within line ∷ todo))) s
 stmt_step (Evaluate line a) todo s = turns (Eval a ∷ (DropNow ∷ (Within line ∷ todo))) s
 stmt_step (Declare line ds) todo s = turns (Variables ds ∷ (Within line ∷ todo)) s
 stmt_step (Print line items) todo s = turns (Items items ∷ (Within line ∷ todo)) s
@@ -628,6 +634,7 @@ module _ (source : Source) where
   act (Exit w) todo s = exit_step w todo s
   act NoReturnNow todo s = fault NoReturn todo s.run.operands s
   act (InLoop o t e b) todo s = turns (step_todo e (test_todo o t e b todo)) s
+  act InWhole todo s = turns todo s
   act (Clean c) todo s = turns (clean_todo c todo) s
   act (Sweep e) todo s = sweep_step s.run.elements e todo s
   act (Part c) todo s = turns todo s

@@ -30,7 +30,7 @@ use Rattle.uc_tree.specs.Objects.{class_at, number_at, place_of, plain_class, Cl
 use Rattle.uc_tree.specs.ProgramMain.{is_void, main_number}
 use Rattle.uc_tree.specs.declared.kinds.ValueForm.{ValueForm}
 use Rattle.uc_tree.specs.declared.kinds.ValueForm.TheVariants as value_form
-use Rattle.uc_tree.specs.Source.{Shape, Character, Truth, Order, TestFirst, BodyFirst, NoTest, Operator, Plus, Minus, Times, Over, Modulo, Equal, NotEqual, Less, AtMost, Greater, AtLeast, Expr, Literal, Variable, Element, Get, Load, Negated, Not, AsCharacter, AsTruth, Operate, And, Or, Set, Assign, First, Update, StepBehind, Fail, Call, OfObject, This, OwnField, GetOwn, FieldOf, Counted, CallOn, CallUnwritten, Exprs, NoExprs, MoreExprs, Item, Show, ShowText, Target, Declared, CleanUp, Destroys, DestroysAll, Stmt, Skip, Block, Evaluate, Declare, Print, PrintTogether, Read, If, Loop, Break, Continue, Return, Fill, Stmts, Nil, Then, Scoped, Built, Purpose, TaskMain, Procedure, Function, Builder, Routine, Class, Source}
+use Rattle.uc_tree.specs.Source.{Shape, Character, Truth, Order, TestFirst, BodyFirst, NoTest, Operator, Plus, Minus, Times, Over, Modulo, Equal, NotEqual, Less, AtMost, Greater, AtLeast, Expr, Literal, Variable, Element, Get, Load, Negated, Not, AsCharacter, AsTruth, Operate, And, Or, Set, Assign, First, Update, StepBehind, Fail, Call, OfObject, This, OwnField, GetOwn, FieldOf, Counted, CallOn, CallUnwritten, Exprs, NoExprs, MoreExprs, Item, Show, ShowText, Target, Declared, CleanUp, Destroys, DestroysAll, Stmt, Skip, Block, Whole, Evaluate, Declare, Print, PrintTogether, Read, If, Loop, Break, Continue, Return, Fill, Stmts, Nil, Then, Scoped, Built, Purpose, TaskMain, Procedure, Function, Builder, Routine, Class, Source}
 
 -- types
 
@@ -130,7 +130,7 @@ is_named s name = is_here s.owner && (is_plain s.role && same_name s.name name)
 -- the number of the first routine of that name among those with bodies outside of classes
 abbrev pub routine_from : List Defined → ℕ → List ℕ → Option ℕ
 routine_from [] r name = None
-routine_from (d ∷ ds) r name = if is_named d.routine.sig name then Some r else routine_from ds (suc r) name
+routine_from (d ∷ ds) r name = if nat_eq d.number 0 && is_named d.routine.sig name then Some r else routine_from ds (suc r) name
 
 abbrev pub params_in : Option Defined → List Param
 params_in None = []
@@ -713,13 +713,13 @@ module _ (p : whole.Program) where
   abbrev pub purpose_of : ℕ → whole.Routine → Purpose
   purpose_of number r = if nat_eq number (main_number p) then TaskMain else role_purpose r.sig.role r.sig.ret
 
-  -- the body of a constructor and of a destructor is a block, behind the construction of the fields and before their destruction
+  -- the body of a constructor and of a destructor is a block that is left as a whole, behind the construction of the fields and before their destruction
   abbrev pub body_by : Role → whole.Routine → Scope → Stmts
   body_by role.Plain r s = stmts_meant r.body s
   body_by role.Constructor r s =
-      construction (class_by (place_of p s.class)) (place_or_zero (place_of p s.class)) r.inits s (Then (Block r.brace.line (stmts_meant r.body s)) Nil)
+      construction (class_by (place_of p s.class)) (place_or_zero (place_of p s.class)) r.inits s (Then (Whole r.brace.line (stmts_meant r.body s)) Nil)
   body_by role.Destructor r s =
-      destruction (class_by (place_of p s.class)) (place_or_zero (place_of p s.class)) (Then (Block r.brace.line (stmts_meant r.body s)) Nil)
+      destruction (class_by (place_of p s.class)) (place_or_zero (place_of p s.class)) (Then (Whole r.brace.line (stmts_meant r.body s)) Nil)
 
   abbrev pub routine_meant : whole.Routine → Scope → Routine
   routine_meant r s = record {

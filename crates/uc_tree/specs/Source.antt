@@ -158,6 +158,8 @@ mutual
   pub data Stmt : Type 0 where
     Skip : ℕ → Stmt
     Block : ℕ → Stmts → Stmt
+    -- a block that is left as a whole: whatever leaves its statements goes on behind it
+    Whole : ℕ → Stmts → Stmt
     Evaluate : ℕ → Expr → Stmt
     Declare : ℕ → List Declared → Stmt
     Print : ℕ → List Item → Stmt
