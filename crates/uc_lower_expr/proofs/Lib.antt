@@ -1,8 +1,12 @@
 pub mod Adding
 pub mod Arms
+pub mod FieldLemmas
+pub mod Finding
 pub mod Growing
+pub mod Knowing
 pub mod Members
 pub mod Naming
 pub mod Numbers
+pub mod Routing
 pub mod Settled
 pub mod Walks

@@ -43,20 +43,20 @@ none_or : (o : Option ℕ) → id_or o None ≡ o
 none_or None = refl
 none_or (Some i) = refl
 
-found_one : (b : Block) (name : List ℕ) → found (b ∷ []) name ≡ id_in b name
+pub found_one : (b : Block) (name : List ℕ) → found (b ∷ []) name ≡ id_in b name
 found_one b name = none_or (id_in b name)
 
 no_id : (o : Option ℕ) → is_some o ≡ false → o ≡ None
 no_id None h = refl
 no_id (Some j) h = absurd (true≢false h)
 
-stood_case : (b : Block) (x name : List ℕ) (o : Option ℕ) (i : ℕ) → o ≡ id_in b name → is_some (id_in b x) ≡ true → (t : Bool) → same_name x name ≡ t → id_or o (if t then Some i else None) ≡ o
+pub stood_case : (b : Block) (x name : List ℕ) (o : Option ℕ) (i : ℕ) → o ≡ id_in b name → is_some (id_in b x) ≡ true → (t : Bool) → same_name x name ≡ t → id_or o (if t then Some i else None) ≡ o
 stood_case b x name o i is stood true e =
     let same : x ≡ name = (bytes_decides x name).0 e in
     known_or o (Some i) (ap is_some is ∙ ap (λ n. is_some (id_in b n)) (sym same) ∙ stood)
 stood_case b x name o i is stood false e = none_or o
 
-new_case : (b : Block) (x name : List ℕ) (i : ℕ) → is_some (id_in b x) ≡ false → (t : Bool) → same_name x name ≡ t → (if t then Some i else id_in b name) ≡ id_or (id_in b name) (if t then Some i else None)
+pub new_case : (b : Block) (x name : List ℕ) (i : ℕ) → is_some (id_in b x) ≡ false → (t : Bool) → same_name x name ≡ t → (if t then Some i else id_in b name) ≡ id_or (id_in b name) (if t then Some i else None)
 new_case b x name i new true e =
     let same : x ≡ name = (bytes_decides x name).0 e in
     let nothing : id_in b name ≡ None = no_id (id_in b name) (ap (λ n. is_some (id_in b n)) (sym same) ∙ new) in

@@ -1,14 +1,16 @@
--- The routines of a program by their numbers, and the numbers of those that are called by their names alone.
-use Rattle.std.specs.Prelude.{◌≡◌, ℕ, suc, List, [], ◌∷◌, Bool, ◌&&◌, Option, Some, None, length, map, if◌then◌else◌}
+-- The routines of a program by their numbers, and what names stand for outside of routines.
+use Rattle.std.specs.Prelude.{◌≡◌, ℕ, suc, List, [], ◌∷◌, Bool, ◌&&◌, Option, Some, None, length, map, unwrap_or, slice_get, if◌then◌else◌}
 use Rattle.uc_names.specs.Blocks.{Block, found}
-use Rattle.uc_tree.specs.Programs.{Sig, Routine, Constant, Program}
+use Rattle.uc_tree.specs.declared.kinds.Role.TheVariants as role
+use Rattle.uc_tree.specs.Programs.{Sig, Routine, Constant, Class, Program}
 use Rattle.uc_tree.specs.Constants.{constants_of, constant_named, value_of_name}
 use Rattle.uc_tree.specs.Cells.{classes_of}
-use Rattle.uc_tree.specs.Numbering.{is_plain, routines_of}
-use Rattle.uc_tree.specs.Objects.{shape_of}
-use Rattle.uc_tree.specs.Resolve.{is_here, is_named, routine_from, value_or_zero}
+use Rattle.uc_tree.specs.Numbering.{is_plain, class_number, routines_of}
+use Rattle.uc_tree.specs.Objects.{shape_of, unwritten_number}
+use Rattle.uc_tree.specs.Resolve.{is_here, is_named, value_or_zero}
 use Rattle.uc_lower_expr.specs.Meanings.{shape_as}
-use Rattle.uc_lower_expr.specs.declared.program_names.Fixed.{Fixed}
+use Rattle.uc_lower_expr.specs.declared.numbering.Fixed.{Fixed}
+use Rattle.uc_lower_expr.specs.declared.numbering.Numbering.{Numbering}
 
 abbrev pub is_called_alone : Sig → Bool
 is_called_alone s = is_here s.owner && is_plain s.role
@@ -23,11 +25,23 @@ pub record AreAmong (routines : List Routine) (numbers : List Block) : Type 0 wh
   pub one : length numbers ≡ 1
   pub at : (name : List ℕ) → found numbers name ≡ number_among routines 0 name
 
--- so they are of a program without classes
-pub record AreNumbered (p : Program) (routines : List Routine) (numbers : List Block) : Type 0 where
-  pub classless : classes_of p.items ≡ []
-  pub are : routines ≡ map (λ d. d.routine) (routines_of p)
-  pub at : (name : List ℕ) → found numbers name ≡ routine_from (routines_of p) 0 name
+-- the number of a class; an event has none, and counts as 0
+abbrev pub number_of_class : Program → Class → ℕ
+number_of_class p c = unwrap_or (class_number p c.name) 0
+
+-- numbers by the places of classes, those of the constructors and of the destructors that nobody wrote among them
+pub record AreUnwritten (p : Program) (constructors destructors : List ℕ) : Type 0 where
+  pub builds : (i n : ℕ) → slice_get constructors i ≡ Some n → unwritten_number p i role.Constructor ≡ n
+  pub destroys : (i n : ℕ) → slice_get destructors i ≡ Some n → unwritten_number p i role.Destructor ≡ n
+  pub builders : length constructors ≡ length (classes_of p.items)
+  pub destroyers : length destructors ≡ length (classes_of p.items)
+
+-- what is numbered in a program
+pub record IsNumbering (p : Program) (n : Numbering) : Type 0 where
+  pub routines : map (λ r. r.now) n.routines.items ≡ map (λ d. d.routine) (routines_of p)
+  pub owners : n.owners.items ≡ map (λ d. d.number) (routines_of p)
+  pub classes : n.classes.items ≡ map (number_of_class p) (classes_of p.items)
+  pub unwritten : AreUnwritten p n.constructors.items n.destructors.items
 
 -- the constant of a name, with its value
 pub record IsFixed (p : Program) (name : List ℕ) (v : Fixed) : Type 0 where

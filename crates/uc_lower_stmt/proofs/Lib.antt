@@ -1,3 +1,4 @@
+pub mod Blocks
 pub mod Controlling
 pub mod Counted
 pub mod Declaring

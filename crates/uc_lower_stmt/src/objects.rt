@@ -1,0 +1,214 @@
+// Objects that are declared: each is built, and cleaned up at the end of its block.
+
+ghost use Rattle.std.specs.Prelude.{◌≡◌, ◌+◌, ◌*◌, ◌≤◌, ◌<◌, None, length, OnOk};
+ghost use Rattle.uc_tree.specs.declared.kinds.Role.TheVariants as role;
+ghost use Rattle.uc_tree.specs.declared.limits.TheConstants.{OPS_FOR_SIZE, PROGRAM_OPS};
+ghost use Rattle.uc_tree.specs.Expressions.{exprs_of};
+ghost use Rattle.uc_tree.specs.ExpressionSizes.{exprs_size};
+ghost use Rattle.uc_tree.specs.Cells.{classes_of};
+ghost use Rattle.uc_tree.specs.Source.{Expr as Place};
+ghost use Rattle.uc_tree.specs.Resolve.{args_meant, build, clean_up, constructed};
+ghost use Rattle.uc_code.specs.Lowered.{StmtAt, spot_op};
+ghost use Rattle.uc_code.specs.ObjectCalls.{BeginsAt, Cleans};
+ghost use Rattle.uc_code.specs.Open.{StandsBehind, clean_room};
+ghost use Rattle.uc_code.specs.Puts.{Puts};
+ghost use Rattle.uc_lower_expr.specs.Added.{Adds, ExprCode};
+ghost use Rattle.uc_lower_expr.specs.Contexts.{context_in};
+ghost use Rattle.uc_lower_expr.specs.Members.{routine_for};
+ghost use Rattle.uc_lower_stmt.specs.Objects.{ClosesPart, ClosesScope, FillCode, array_by, call_by, fill_room};
+
+use std::alloc::AllocError;
+use uc_code::cleaning::{clean_length, put_call, put_clean, put_done};
+use uc_code::draft::Draft;
+use uc_code::op::Op;
+use uc_code::rows::{Array, ObjectCall, Opening, Spot};
+use uc_lower_expr::expr::lower_args;
+use uc_lower_expr::numbering::ClassRoutine;
+use uc_lower_expr::program_names::ProgramNames;
+use uc_lower_expr::put::{put, put_at_risk};
+use uc_tree::expr::Expr;
+
+// Where an object begins.
+fn spot_op(spot: Spot) -> Op
+    ensures { result ≡ spot_op spot }
+{
+    match spot {
+        Spot::Local(cell) => Op::Local(cell),
+        Spot::This(cell) => Op::This(cell),
+    }
+}
+
+// A call of a routine without arguments.
+fn call_by(routine: ClassRoutine, spot: Spot, array: Option<Array>) -> ObjectCall
+    ensures { result ≡ call_by routine spot array }
+{
+    ObjectCall {
+        spot,
+        array,
+        routine: routine.number,
+        written: routine.written,
+    }
+}
+
+// The elements of an array of objects of the class with this place, if it is one.
+fn array_of(class: usize, length: Option<u32>, names: &ProgramNames) -> Option<Array>
+    ensures { result ≡ array_by names.now class length }
+{
+    match length {
+        Some(length) => Some(Array {
+            length,
+            size: names.element_size(Some(class)),
+        }),
+        None => None,
+    }
+}
+
+/// The call that cleans up an object of the class with this place, or each element of an array of this length, which begins in a
+/// spot.
+pub fn clean_call(class: usize, spot: Spot, length: Option<u32>, names: &ProgramNames) -> ObjectCall
+    requires { class < length (classes_of names.now.items) }
+    ensures call { result ≡ call_by (routine_for names.now class role.Destructor) spot (array_by names.now class length) }
+    ensures cleans { (place : Place) → BeginsAt place spot → Cleans (clean_up names.now class length place) result }
+{
+    call_by(
+        names.destructor_of(class),
+        spot,
+        array_of(class, length, names),
+    )
+}
+
+/// Adds the code that builds an object of the class with this place, which begins in a spot. After want of memory the draft is
+/// spent.
+pub fn lower_construction(
+    class: usize,
+    spot: Spot,
+    args: &[Expr],
+    line: u32,
+    names: &ProgramNames,
+    out: &mut Draft,
+) -> Result<(), AllocError>
+    requires class { class < length (classes_of names.now.items) }
+    requires room { length out.old.ops + OPS_FOR_SIZE * exprs_size (exprs_of args.now) + 3 ≤ PROGRAM_OPS }
+    requires behind { StandsBehind out.old.marks (call_by (routine_for names.now class role.Constructor) spot None) }
+    ensures { OnOk result ((place : Place) → BeginsAt place spot → Adds (OPS_FOR_SIZE * exprs_size (exprs_of args.now) + 3) (ExprCode line out.old.marks (constructed names.now class place (args_meant (context_in names.now out.old) (exprs_of args.now)))) out.old out.new) }
+{
+    let routine = names.constructor_of(class);
+    put(spot_op(spot), line, out)?;
+    if routine.written {
+        lower_args(names.params(routine.number), args, line, names, out)?;
+        put(Op::Tick, line, out)?;
+        put_at_risk(Op::CallOn(routine.number), line, out)?;
+    } else {
+        put_at_risk(Op::CallUnwritten(routine.number), line, out)?;
+    }
+    Ok(())
+}
+
+// Turns over the elements of an array, which build them, and those that destroy what stands where an event comes.
+fn put_fill(
+    builder: ObjectCall,
+    destroyer: ObjectCall,
+    length: u32,
+    line: u32,
+    out: &mut Draft,
+) -> Result<(), AllocError>
+    requires room { length out.old.ops + fill_room ≤ PROGRAM_OPS }
+    requires builds { StandsBehind out.old.marks builder }
+    requires destroys { StandsBehind out.old.marks destroyer }
+    ensures { OnOk result (Puts fill_room (FillCode line out.old.marks builder destroyer length) out.old out.new) }
+{
+    let start = out.here();
+    put(
+        Op::Count {
+            elements: 0,
+            test: 0,
+        },
+        line,
+        out,
+    )?;
+    let _row = out.open(Opening::Elements)?;
+    put_call(builder, line, out)?;
+    put(Op::Discard, line, out)?;
+    put(Op::More, line, out)?;
+    let test = out.here();
+    put(
+        Op::Fill {
+            length,
+            turn: start + 1,
+        },
+        line,
+        out,
+    )?;
+    put(Op::Jump(0), line, out)?;
+    put_done(destroyer, line, out)?;
+    out.close(0);
+    put(Op::Sweep(test + 2), line, out)?;
+    put_at_risk(Op::Unwind, line, out)?;
+    out.patch(start, Op::Count { elements: 0, test });
+    out.patch(test + 1, Op::Jump(out.here()));
+    Ok(())
+}
+
+/// Adds the code of the statement that builds an object of the class with this place, or the elements of an array of them, without
+/// arguments. After want of memory the draft is spent.
+pub fn lower_build(
+    class: usize,
+    spot: Spot,
+    length: Option<u32>,
+    args: &[Expr],
+    line: u32,
+    names: &ProgramNames,
+    out: &mut Draft,
+) -> Result<(), AllocError>
+    requires class { class < length (classes_of names.now.items) }
+    requires room { length out.old.ops + OPS_FOR_SIZE * exprs_size (exprs_of args.now) + fill_room ≤ PROGRAM_OPS }
+    requires builds { StandsBehind out.old.marks (call_by (routine_for names.now class role.Constructor) spot (array_by names.now class length)) }
+    requires destroys { StandsBehind out.old.marks (call_by (routine_for names.now class role.Destructor) spot (array_by names.now class length)) }
+    ensures { OnOk result ((place : Place) → BeginsAt place spot → Puts (OPS_FOR_SIZE * exprs_size (exprs_of args.now) + fill_room) (λ code. StmtAt code out.old.marks (build names.now line class length place (args_meant (context_in names.now out.old) (exprs_of args.now)))) out.old out.new) }
+{
+    match length {
+        None => {
+            lower_construction(class, spot, args, line, names, out)?;
+            put(Op::Discard, line, out)?;
+            Ok(())
+        }
+        Some(count) => {
+            let array = array_of(class, length, names);
+            let builder = call_by(names.constructor_of(class), spot, array);
+            let destroyer = call_by(names.destructor_of(class), spot, array);
+            put_fill(builder, destroyer, count, line, out)?;
+            Ok(())
+        }
+    }
+}
+
+/// Ends the scope of the object of the innermost mark: it is cleaned up, and once more for unwinding. After want of memory the draft
+/// is spent.
+pub fn close_scope(what: ObjectCall, line: u32, out: &mut Draft) -> Result<(), AllocError>
+    requires room { length out.old.ops + (2 * clean_room + 2) ≤ PROGRAM_OPS }
+    ensures { OnOk result (ClosesScope what line out.old out.new) }
+{
+    out.close(clean_length(what) + 1);
+    put_clean(what, line, out)?;
+    let leave = out.here();
+    put(Op::Jump(0), line, out)?;
+    put_clean(what, line, out)?;
+    put_at_risk(Op::Unwind, line, out)?;
+    out.patch(leave, Op::Jump(out.here()));
+    Ok(())
+}
+
+/// Ends the scope of the part of an object under construction of the innermost mark: it is cleaned up for unwinding alone. After
+/// want of memory the draft is spent.
+pub fn close_part(what: ObjectCall, line: u32, out: &mut Draft) -> Result<(), AllocError>
+    requires room { length out.old.ops + (clean_room + 2) ≤ PROGRAM_OPS }
+    ensures { OnOk result (ClosesPart what line out.old out.new) }
+{
+    let leave = out.here();
+    out.close(1);
+    put(Op::Jump(0), line, out)?;
+    put_clean(what, line, out)?;
+    put_at_risk(Op::Unwind, line, out)?;
+    out.patch(leave, Op::Jump(out.here()));
+    Ok(())
+}
