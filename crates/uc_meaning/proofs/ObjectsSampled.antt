@@ -5,7 +5,7 @@ use Rattle.uc_tree.specs.Constants.{constant_value}
 use Rattle.uc_tree.specs.Rows.{reaches, cells_within}
 use Rattle.uc_tree.specs.Objects.{shape_within, height_within}
 use Rattle.uc_tree.specs.Resolve.{source_of}
-use Rattle.uc_tree.specs.Source.{Shape, Integer, Binding, Last, Field as FieldIn, Array, Source, Builder, TaskMain, Procedure, Function, NoTest, Plus, Minus, Over, Call, Expr, Literal, Variable, Element, Get, Load, Assign, Operate, OfObject, This, OwnField, GetOwn, Counted, CallOn, CallUnwritten, NoExprs, MoreExprs, Show, ShowText, CleanUp, Destroys, DestroysAll, Skip, Block, Evaluate, Declare, Print, Loop, Break, Return, Fill, Stmts, Nil, Then, Scoped, Built, Routine}
+use Rattle.uc_tree.specs.Source.{Shape, Integer, Binding, Last, Field as FieldIn, Array, Source, Builder, TaskMain, Procedure, Function, NoTest, Plus, Minus, Over, Call, Expr, Literal, Variable, Element, Get, Load, Assign, Operate, OfObject, This, OwnField, GetOwn, Counted, CallOn, CallUnwritten, NoExprs, MoreExprs, Show, ShowText, CleanUp, Destroys, DestroysAll, Skip, Block, Whole, Evaluate, Declare, Print, Loop, Break, Return, Fill, Stmts, Nil, Then, Scoped, Built, Routine}
 use Rattle.uc_meaning.specs.declared.request.Answer.TheVariants as answer
 use Rattle.uc_meaning.specs.declared.entry.EntryKind.TheVariants as kind
 use Rattle.uc_meaning.specs.Journal.{entry, begin, is_over, inside, own_object, entries_at}
@@ -33,8 +33,12 @@ one_int = FieldIn Integer Last
 abbrev call_at : ℕ → Expr → Expr
 call_at r place = OfObject (CallOn r place NoExprs)
 
+-- the body of a constructor or a destructor, and a block
 abbrev in_block : ℕ → Stmts → Stmts
-in_block line body = Then (Block line body) Nil
+in_block line body = Then (Whole line body) Nil
+
+abbrev in_plain : ℕ → Stmts → Stmts
+in_plain line body = Then (Block line body) Nil
 
 -- `class A` and `class B` of the first sample, and its main
 abbrev nested_source : Source
@@ -82,7 +86,7 @@ swept = Element 2 one_int (Variable 0) (OfObject Counted)
 
 abbrev array_source : Source
 array_source = record {
-  routines = record { line = 1; cells = 0; params = 0; purpose = Builder; written = true; body = in_block 1 (Then (Print 1 (Show value_form.Character (Literal (pos 43)) ∷ [])) Nil) } ∷ (record { line = 1; cells = 1; params = 1; purpose = Procedure; written = true; body = Then (Evaluate 1 (Assign (own_field one_int 0) (Get 0))) Nil } ∷ (record { line = 1; cells = 0; params = 0; purpose = Builder; written = true; body = in_block 1 (Then (Print 1 (Show value_form.Character (Literal (pos 45)) ∷ (Show value_form.Number (own_value one_int 0) ∷ []))) Nil) } ∷ (record { line = 2; cells = 2; params = 0; purpose = TaskMain; written = true; body = in_block 2 (Then (Skip 2) (Then (Loop 2 NoTest (Literal (pos 1)) None (Block 2 (Then (Declare 2 (record { cell = 0; cells = 2; value = None } ∷ [])) (Then (Fill 2 2 (call_at 0 swept) (call_at 2 swept)) (Scoped (DestroysAll 2 (call_at 2 swept)) (Then (Evaluate 2 (OfObject (CallOn 1 (Element 2 one_int (Variable 0) (Literal (pos 1))) (MoreExprs (Literal (pos 7)) NoExprs)))) (Then (Break 2) Nil))))))) Nil)) } ∷ [])));
+  routines = record { line = 1; cells = 0; params = 0; purpose = Builder; written = true; body = in_block 1 (Then (Print 1 (Show value_form.Character (Literal (pos 43)) ∷ [])) Nil) } ∷ (record { line = 1; cells = 1; params = 1; purpose = Procedure; written = true; body = Then (Evaluate 1 (Assign (own_field one_int 0) (Get 0))) Nil } ∷ (record { line = 1; cells = 0; params = 0; purpose = Builder; written = true; body = in_block 1 (Then (Print 1 (Show value_form.Character (Literal (pos 45)) ∷ (Show value_form.Number (own_value one_int 0) ∷ []))) Nil) } ∷ (record { line = 2; cells = 2; params = 0; purpose = TaskMain; written = true; body = in_plain 2 (Then (Skip 2) (Then (Loop 2 NoTest (Literal (pos 1)) None (Block 2 (Then (Declare 2 (record { cell = 0; cells = 2; value = None } ∷ [])) (Then (Fill 2 2 (call_at 0 swept) (call_at 2 swept)) (Scoped (DestroysAll 2 (call_at 2 swept)) (Then (Evaluate 2 (OfObject (CallOn 1 (Element 2 one_int (Variable 0) (Literal (pos 1))) (MoreExprs (Literal (pos 7)) NoExprs)))) (Then (Break 2) Nil))))))) Nil)) } ∷ [])));
   main = 3;
   classes = record { cells = 0 } ∷ (record { cells = 1 } ∷ []);
   sites = [];
