@@ -56,7 +56,7 @@ some_flagged (true ∷ fs) i e = omega arith
 some_flagged (false ∷ fs) zero e = cc
 some_flagged (false ∷ fs) (suc i) e = some_flagged fs i e
 
-row_past : (rows : List Row) (j : ℕ) → length rows ≤ j → row_at rows j ≡ record { leading = 0; held = [] }
+pub row_past : (rows : List Row) (j : ℕ) → length rows ≤ j → row_at rows j ≡ record { leading = 0; held = [] }
 row_past [] j h = refl
 row_past (r ∷ rs) zero h = absurd (omega arith)
 row_past (r ∷ rs) (suc j) h = row_past rs j (omega arith)
