@@ -11,7 +11,7 @@ use uc_lower_stmt::block::close_scopes;
 use uc_lower_stmt::routine::{body_of, declare_params, line_of};
 use uc_lower_stmt::stmt::lower_stmts;
 use uc_names::scope::Scope;
-use uc_numbers::unwritten::Unwritten;
+use uc_unwritten::unwritten::Unwritten;
 use uc_sizes::frames::cells_of_routine;
 use uc_sizes::places::{no_places, note_place, place_in};
 use uc_tree::class::{Class, Init, Member, MemberForm, Routine};

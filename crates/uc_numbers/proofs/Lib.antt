@@ -3,4 +3,3 @@ pub mod Flat
 pub mod Listed
 pub mod Past
 pub mod Places
-pub mod Order

@@ -4,9 +4,7 @@
 pub mod classes;
 pub mod conditions;
 pub mod gathered;
-mod heights;
 pub mod members;
 pub mod routines;
 pub mod sites;
 pub mod texts;
-pub mod unwritten;

@@ -3,7 +3,7 @@
 ghost use Rattle.std.specs.Prelude.{◌≡◌, ◌<◌, ◌≤◌, ℕ, IfOk, IsTrue, length};
 ghost use Rattle.uc_tree.specs.Cells.{classes_of, rows_of};
 ghost use Rattle.uc_tree.specs.Objects.{tallest};
-ghost use Rattle.uc_numbers.specs.Heights.{AreDeep, AreHeights, AreSettled, height_at, height_in};
+ghost use Rattle.uc_unwritten.specs.Heights.{AreDeep, AreHeights, AreSettled, height_at, height_in};
 
 use std::alloc::{AllocError, Global};
 use uc_sizes::sizes::Sizes;
