@@ -1,0 +1,1 @@
+use Rattle.uc_code.proofs.cleaning.put_past.Goals as goal
