@@ -11,7 +11,7 @@ use Rattle.uc_code.specs.Open.{first_in, seen_row, seen_at}
 use Rattle.uc_code.proofs.Nesting.{under_take, under_drop, under_under}
 use Rattle.uc_code.proofs.Closed.{reverse_take}
 
-rows_dropped : (bound first n : ℕ) (hs : List ℕ) → bound ≤ first → under bound (rows_from first n ++ hs) ≡ under bound hs
+pub rows_dropped : (bound first n : ℕ) (hs : List ℕ) → bound ≤ first → under bound (rows_from first n ++ hs) ≡ under bound hs
 rows_dropped bound first zero hs l = refl
 rows_dropped bound first (suc n) hs l = under_drop bound first (rows_from (suc first) n ++ hs) l ∙ rows_dropped bound (suc first) n hs (omega arith)
 
