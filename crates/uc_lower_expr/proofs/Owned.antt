@@ -1,5 +1,5 @@
 -- Routines with the numbers of their classes, from two lists side by side.
-use Rattle.std.proofs.Common.{◌≡◌, ℕ, zero, suc, List, [], ◌∷◌, ◌++◌, Some, take, length, map, refl, ap, cc}
+use Rattle.std.proofs.Common.{◌≡◌, ℕ, zero, suc, List, [], ◌∷◌, ◌++◌, Some, take, length, map, refl, ap}
 use Rattle.std.specs.Prelude.{slice_get}
 use Rattle.uc_tree.specs.Programs.{Routine}
 use Rattle.uc_tree.specs.Numbering.{Defined}
@@ -19,7 +19,7 @@ pub record IsNext (ds : List Defined) (k : ℕ) (r : Routine) (n : ℕ) : Type 0
   pub number : one.number ≡ n
 
 pub next_is : (ds : List Defined) (k : ℕ) (r : Routine) (n : ℕ) → slice_get (routines_in ds) k ≡ Some r → slice_get (owners_in ds) k ≡ Some n → IsNext ds k r n
-next_is [] k r n e f = cc
+next_is [] k r n e f = absurd (cc)
 next_is (d ∷ ds) zero r n e f = record { one = d; more = refl; long = refl; routine = cc; number = cc }
 next_is (d ∷ ds) (suc k) r n e f =
     let h = next_is ds k r n e f in
