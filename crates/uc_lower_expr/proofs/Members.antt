@@ -109,6 +109,13 @@ pub fixed_named : (p : Program) (name : List ℕ) (v : Fixed) (t : Meaning) → 
 fixed_named p name v t f e =
     subst (λ (o : Option Constant). Tells p t (constant_meant_by p name o)) (sym f.is) (subst (λ (y : Meaning). Tells p y (constant_meant_by p name (Some f.constant))) (sym e) (record { shape = f.shape; class = f.class; len = refl; standing = refl }))
 
+-- behind the place of its object, a field that is no reference, and one that is
+pub arm_plain_field : (line : ℕ) (b : Bool) (k : ℕ) (old new : Draft) → b ≡ false → Adds 1 (OpCode line (op.Field k)) old new → Adds 2 (FieldCode line b k) old new
+arm_plain_field line b k old new e h = subst (λ (x : Bool). Adds 2 (FieldCode line x k) old new) (sym e) (adds_more (omega arith) h)
+
+pub arm_held_field : (line : ℕ) (b : Bool) (k : ℕ) (old mid new : Draft) → b ≡ true → Adds 1 (OpCode line (op.Field k)) old mid → Adds 1 (OpCode line op.Load) mid new → Adds 2 (FieldCode line b k) old new
+arm_held_field line b k old mid new e h g = subst (λ (x : Bool). Adds 2 (FieldCode line x k) old new) (sym e) (adds_both (one_stable (op.Field k) line) h g)
+
 -- the code of own names
 module _ (ms : List Mark) (line : ℕ) where
   own_code_by : (b : Bool) (s : Shape) (n k : ℕ) (ty : Ty) (code : Laid) (a z : ℕ) → field_cells s n ≡ k → One code (own_place_op b k) line a z → ExprAt code line ms (field_by_ref b s n Own ty).expr a z
@@ -123,13 +130,6 @@ module _ (ms : List Mark) (line : ℕ) where
 
   pub own_method_code : (p : Program) (i r : ℕ) (name : List ℕ) (old new : Draft) → no_field p i name (class_at p i) → member_at p i name (class_at p i) ≡ Some r → Adds 1 (OpCode line op.Own) old new → Adds 1 (ExprCode line ms (own_meant p (Some i) name).expr) old new
   own_method_code p i r name old new h k w = subst (λ (m : Meant). Adds 1 (ExprCode line ms m.expr) old new) (sym (own_method p i name r h k)) w
-
-  -- behind the place of its object, a field that is no reference, and one that is
-  pub arm_plain_field : (b : Bool) (k : ℕ) (old new : Draft) → b ≡ false → Adds 1 (OpCode line (op.Field k)) old new → Adds 2 (FieldCode line b k) old new
-  arm_plain_field b k old new e h = subst (λ (x : Bool). Adds 2 (FieldCode line x k) old new) (sym e) (adds_more (omega arith) h)
-
-  pub arm_held_field : (b : Bool) (k : ℕ) (old mid new : Draft) → b ≡ true → Adds 1 (OpCode line (op.Field k)) old mid → Adds 1 (OpCode line op.Load) mid new → Adds 2 (FieldCode line b k) old new
-  arm_held_field b k old mid new e h g = subst (λ (x : Bool). Adds 2 (FieldCode line x k) old new) (sym e) (adds_both (one_stable (op.Field k) line) h g)
 
   field_code_by : (b : Bool) (s : Shape) (n k : ℕ) (ty : Ty) (e : Expr) (code : Laid) (a c z : ℕ) → field_cells s n ≡ k → ExprAt code line ms e a c → FieldCode line b k code c z → ExprAt code line ms (field_by_ref b s n (Of e) ty).expr a z
   field_code_by false s n k ty e code a c z is h g = record { middle = c; first = h; second = subst (λ (x : ℕ). One code (op.Field x) line c z) (sym is) g }
