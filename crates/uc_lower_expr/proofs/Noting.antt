@@ -1,7 +1,8 @@
 -- Fields that are noted one after another, and the tables of all classes.
-use Rattle.std.proofs.Common.{◌≡◌, ◌≢◌, ⊥, ℕ, zero, suc, ◌+◌, ◌≤◌, ◌<◌, List, [], ◌∷◌, ◌++◌, Bool, true, false, Option, Some, None, if◌then◌else◌, take, length, map, get_or, refl, ap, sym, subst, ◌∙◌, arith}
+use Rattle.std.proofs.Common.{◌≡◌, ℕ, zero, suc, ◌+◌, ◌≤◌, ◌<◌, List, [], ◌∷◌, ◌++◌, Bool, true, false, Option, Some, None, if◌then◌else◌, take, length, map, get_or, refl, ap, sym, subst, ◌∙◌, arith}
 use Rattle.std.proofs.lemmas.List.{append-nil, append_assoc, map-append, length-append, length-map}
 use Rattle.std.specs.Prelude.{slice_get, MatchOption}
+use Rattle.std.proofs.lemmas.Option.{slice_get-get_or}
 use Rattle.uc_tree.specs.declared.kinds.Base.{Base}
 use Rattle.uc_tree.specs.declared.rows.Held.{Held}
 use Rattle.uc_tree.specs.Capped.{capped}
@@ -71,6 +72,9 @@ module _ (p : Program) (held : List Held) where
         noted = noted_both (length a.fields.items) a.cells b.cells c.cells fs gs x.more y.more x.noted (subst (λ k. AreNoted p held k b.cells gs y.more c.cells) long y.noted);
       }
 
+pub sum_capped : (a x b r : ℕ) → x ≡ capped b → r ≡ capped (a + x) → r ≡ capped (a + b)
+sum_capped a x b r e f = omega (arith, e, f)
+
 -- tables by the places of classes
 
 -- an element of a list with one more
@@ -94,6 +98,10 @@ pub beyond : {A : Type 0} (xs : List A) (k : ℕ) → length xs ≤ k → slice_
 beyond [] k h = refl
 beyond (x ∷ xs) zero h = absurd (omega (arith, h))
 beyond (x ∷ xs) (suc k) h = beyond xs k (omega (arith, h))
+
+-- what a look-up tells
+pub got : {A : Type 0} (xs : List A) (k : ℕ) (x : A) → k < length xs → x ≡ get_or xs k x → slice_get xs k ≡ Some x
+got xs k x h e = slice_get-get_or xs k x h ∙ ap (λ y. Some y) (sym e)
 
 module _ (p : Program) (ts : List FieldTable) (are : AreTables p ts) (i : ℕ) where
   class_by : (t : FieldTable) → slice_get ts i ≡ Some t → (R : Option Class → Type 0) → ((c : Class) → class_at p i ≡ Some c → AreFields p i c t → R (Some c)) → (o : Option Class) → class_at p i ≡ o → R o

@@ -1,5 +1,5 @@
 -- Tables of the routines of classes, as routine after routine is noted in them.
-use Rattle.std.proofs.Common.{◌≡◌, ◌≢◌, ⊥, ℕ, zero, suc, ◌+◌, ◌≤◌, ◌<◌, List, [], ◌∷◌, ◌++◌, Option, Some, None, take, length, map, refl, ap, sym, subst, ◌∙◌, arith}
+use Rattle.std.proofs.Common.{◌≡◌, ◌≢◌, Bor, ℕ, zero, suc, ◌+◌, ◌≤◌, ◌<◌, List, [], ◌∷◌, ◌++◌, Option, Some, None, take, length, map, refl, ap, sym, subst, ◌∙◌, arith}
 use Rattle.std.proofs.lemmas.List.{length-append, length-map, take_all}
 use Rattle.std.specs.Prelude.{slice_get, slice_set, MatchOption, option_map}
 use Rattle.std.proofs.lemmas.Option.{slice_get-map}
@@ -11,6 +11,7 @@ use Rattle.uc_tree.specs.Cells.{classes_of}
 use Rattle.uc_tree.specs.Numbering.{Defined, routines_of}
 use Rattle.uc_tree.specs.Objects.{class_at, number_at}
 use Rattle.uc_lower_expr.specs.declared.routine_table.RoutineTable.{RoutineTable}
+use Rattle.uc_lower_expr.specs.Known.{HasRoutines}
 use Rattle.uc_lower_expr.specs.Members.{AreByNumber, AreRoutines}
 use Rattle.uc_lower_expr.specs.Numbered.{AreAmong, number_of_class}
 use Rattle.uc_lower_expr.specs.Routed.{NoteOne, noted_in, routed}
@@ -131,11 +132,16 @@ module _ (p : Program) (numbers : List ℕ) (i : ℕ) (are : numbers ≡ map (nu
       let long = by.long in
       (omega (arith, is, few, long), sym is ∙ sym (number_here p i c h))
 
-  pub table_here : (ts : List RoutineTable) (n : ℕ) (t : RoutineTable) → slice_get numbers i ≡ Some n → slice_get ts n ≡ Some t → AreByNumber p ts → AreRoutines (routines_of p) (number_at p i) t
-  table_here ts n t e g by = let w = number_case ts n e by (class_at p i) refl in subst (λ k. AreRoutines (routines_of p) k t) w.1 (by.each n t g)
+  class_here : (n : ℕ) → slice_get numbers i ≡ Some n → (t : RoutineTable) → AreRoutines (routines_of p) (number_at p i) t → (o : Option Class) → class_at p i ≡ o → HasRoutines p i t
+  class_here n e t h None f = let g : None ≡ Some n = number_by n e None f in absurd (cc)
+  class_here n e t h (Some c) f = record { class = c; there = f; routines = h }
 
-  pub table_there : (ts : List RoutineTable) (n : ℕ) → slice_get numbers i ≡ Some n → slice_get ts n ≡ None → AreByNumber p ts → ⊥
-  table_there ts n e g by = let w = (number_case ts n e by (class_at p i) refl).0 in let h = past ts n g in omega (arith, w, h)
+  pub table_here : (ts : List RoutineTable) (n : ℕ) (t : RoutineTable) → slice_get numbers i ≡ Some n → slice_get ts n ≡ Some t → AreByNumber p ts → HasRoutines p i t
+  table_here ts n t e g by = let w = number_case ts n e by (class_at p i) refl in class_here n e t (subst (λ k. AreRoutines (routines_of p) k t) w.1 (by.each n t g)) (class_at p i) refl
+
+  pub table_told : (ts : List RoutineTable) (n : ℕ) → slice_get numbers i ≡ Some n → AreByNumber p ts → (o : Option (Bor RoutineTable)) → MatchOption o (slice_get ts n ≡ None) (λ t. slice_get ts n ≡ Some t.now) → MatchOption o (class_at p i ≡ None) (λ t. HasRoutines p i t.now)
+  table_told ts n e by None g = let w = (number_case ts n e by (class_at p i) refl).0 in let h = past ts n g in absurd (omega (arith, w, h))
+  table_told ts n e by (Some t) g = table_here ts n t.now e g by
 
   pub no_table : slice_get numbers i ≡ None → class_at p i ≡ None
   no_table e =

@@ -277,7 +277,9 @@ impl<'a> ProgramNames<'a> {
     /// Each class fits, and none has itself in its fields.
     pub fn fit(&self)
         ensures { FitClasses self.now }
-    {}
+    {
+        let _ = &self.sizes;
+    }
 
     /// The constant of a name. One that has no value counts as 0.
     pub fn constant(&self, name: &Name) -> Option<Fixed>
