@@ -60,12 +60,7 @@ fn put_element(spot: Spot, array: Array, line: u32, out: &mut Draft) -> Result<(
 }
 
 // Where the object lies, or the element that is counted.
-fn put_place(
-    spot: Spot,
-    array: Option<Array>,
-    line: u32,
-    out: &mut Draft,
-) -> Result<(), AllocError>
+fn put_place(spot: Spot, array: Option<Array>, line: u32, out: &mut Draft) -> Result<(), AllocError>
     requires { length out.old.ops + 3 ≤ PROGRAM_OPS }
     ensures { OnOk result (Puts 3 (λ code. SpotAt code line spot array) out.old out.new) }
 {
