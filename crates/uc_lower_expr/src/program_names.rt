@@ -289,6 +289,7 @@ impl<'a> ProgramNames<'a> {
         match self.sizes.constant(name) {
             Some(constant) => Some(Fixed {
                 scalar: Scalar::of_base(&constant.base),
+                class: self.sizes.plain_class(&constant.base),
                 value: self.sizes.value_of(name).unwrap_or(0),
             }),
             None => None,
