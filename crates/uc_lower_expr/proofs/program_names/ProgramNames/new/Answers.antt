@@ -1,8 +1,10 @@
 use Rattle.std.proofs.Common.{◌≡◌, ◌+◌, List, Bor, length, map, ap, sym, ◌∙◌, rules, arith}
+use Rattle.std.proofs.lemmas.List.{length-map}
 use Rattle.uc_tree.specs.declared.class.Routine.{Routine as Held}
 use Rattle.uc_tree.specs.Programs.{Routine}
 use Rattle.uc_tree.specs.Cells.{classes_of}
 use Rattle.uc_tree.specs.Numbering.{routines_of}
+use Rattle.uc_lower_expr.specs.Numbered.{number_of_class}
 use Rattle.uc_lower_expr.proofs.Owned.{owners_in, routines_in}
 use Rattle.uc_lower_expr.proofs.program_names.ProgramNames.new.Goals as goal
 
@@ -17,7 +19,8 @@ invariant_of-result c =
     let owners : owners_in ds ≡ c.deref-2.result.now = sym n.owners ∙ sym c.deref-2.ensures.value in
     let routines_too : routines_in ds ≡ map held c.deref-3.result.now = sym n.routines ∙ sym (ap (λ rs. map held rs) c.deref-3.ensures.value) in
     let owners_too : owners_in ds ≡ c.deref-4.result.now = sym n.owners ∙ sym c.deref-4.ensures.value in
-    let count : c.len-count.result ≡ length (classes_of c.args.sizes.now.items) = search rules in
+    let classes : c.len-count.result ≡ length c.args.numbering.classes.items = search rules in
+    let count : c.len-count.result ≡ length (classes_of c.args.sizes.now.items) = classes ∙ ap length n.classes ∙ length-map (classes_of c.args.sizes.now.items) (number_of_class c.args.sizes.now) in
     let long = c.in_ok-routines.ensures.long in
     record {
       fit = c.requires.fit;
