@@ -5,7 +5,7 @@ ghost use Rattle.std.specs.List.{list_any};
 ghost use Rattle.uc_tree.specs.Statements.{stmts_of};
 ghost use Rattle.uc_tree.specs.ProgramMain.{is_main_item};
 ghost use Rattle.uc_tree.specs.Numbering.{is_plain};
-ghost use Rattle.uc_meaning.specs.BuiltForms.{is_scalar_base, are_plain, is_built_start, is_built_stmt, are_built, is_built_result, are_scalars, is_classless, is_built_sig, is_built_routine, is_built_item, are_built_items, has_main, is_built};
+ghost use Rattle.uc_built.specs.BuiltForms.{is_scalar_base, are_plain, is_built_start, is_built_stmt, are_built, is_built_result, are_scalars, is_classless, is_built_sig, is_built_routine, is_built_item, are_built_items, has_main, is_built};
 
 use uc_tree::class::{Routine, Sig};
 use uc_tree::declare::{Declarator, ForForm, ForStart};

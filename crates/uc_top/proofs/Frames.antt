@@ -14,8 +14,8 @@ use Rattle.uc_tree.specs.Resolve.{routine_scope, routine_meant, routines_meant, 
 use Rattle.uc_tree.specs.Source as source
 use Rattle.uc_tree.proofs.Classless.{routines_are}
 use Rattle.uc_lower.proofs.Built.{no_classes}
-use Rattle.uc_meaning.specs.Accepted.{FitFrames, IsAccepted}
-use Rattle.uc_meaning.specs.BuiltForms.{is_built_item, are_built_items, has_main, IsBuilt}
+use Rattle.uc_built.specs.Accepted.{FitFrames, IsAccepted}
+use Rattle.uc_built.specs.BuiltForms.{is_built_item, are_built_items, has_main, IsBuilt}
 use Rattle.uc_lower.specs.Refusing.{Fits, FitsAll}
 use Rattle.uc_alone.specs.Run.{HasMain}
 use Rattle.uc_top.specs.Built.{IsRunnable, HasLargeFrame}

@@ -16,10 +16,10 @@ use Rattle.uc_parse_class.specs.Found.{FirstTooDeep, NeverProgram, NoProgram}
 use Rattle.uc_meaning.specs.declared.entry.Options.{Options}
 use Rattle.uc_meaning.specs.Journal.{Journal}
 use Rattle.uc_meaning.specs.declared.rule.Rule.{Rule}
-use Rattle.uc_meaning.specs.BuiltForms.{IsBuilt, is_built}
+use Rattle.uc_built.specs.BuiltForms.{IsBuilt, is_built}
 use Rattle.uc_meaning.specs.Breaks.{breaks_of}
 use Rattle.uc_meaning.specs.Firsts.{IsFirst}
-use Rattle.uc_meaning.specs.Accepted.{FitFrames, IsAccepted}
+use Rattle.uc_built.specs.Accepted.{FitFrames, IsAccepted}
 use Rattle.uc_meaning.specs.Runs.{IsRun}
 use Rattle.uc_meaning.specs.Texts as texts
 use Rattle.uc_outside.specs.Reading.{StoreState, KeepsFiles, ReadBytes, HasFile}

@@ -4,7 +4,7 @@ use Rattle.uc_tree.specs.declared.limits.TheConstants.{FRAME_CELLS, PROGRAM_SIZE
 use Rattle.uc_tree.specs.Programs.{Item, ClassItem, RoutineItem, ConstItem, ProtoItem, ForwardItem, UsingItem, Program}
 use Rattle.uc_tree.specs.Cells.{routine_cells}
 use Rattle.uc_tree.specs.Sizes.{program_size}
-use Rattle.uc_meaning.specs.BuiltForms.{IsBuilt}
+use Rattle.uc_built.specs.BuiltForms.{IsBuilt}
 use Rattle.uc_meaning.specs.Breaks.{breaks_of}
 
 -- the frame of each routine that stands outside of classes has at most so many cells
