@@ -59,7 +59,7 @@ pub record HasLargeFrame (program : Program) : Type 0 where
 -- one whose frames fit, and whose size is greater than that of a program may be
 pub record HasLargeCode (program : Program) : Type 0 where
   pub runnable : IsRunnable program
-  pub frames : FitFrames program program.items
+  pub frames : FitFrames program
   pub large : PROGRAM_SIZE < program_size program
 
 -- the text of a journal, where it is asked for
