@@ -96,7 +96,7 @@ module _ (what : ObjectCall) (row line : ℕ) (d0 d1 d2 d3 : Draft) (o1 : d1 ≡
 
 -- which marks are passed
 
-below_least : (a b : ℕ) (ns : List ℕ) → Below a ns → Below b ns → Below (min a b) ns
+pub below_least : (a b : ℕ) (ns : List ℕ) → Below a ns → Below b ns → Below (min a b) ns
 below_least a b [] h k = tt
 below_least a b (n ∷ ns) h k = let l = h.0 in let m = k.0 in (omega arith, below_least a b ns h.1 k.1)
 
