@@ -1,16 +1,16 @@
 -- The code that builds an object, and the calls that build and destroy one.
-use Rattle.std.proofs.Common.{◌≡◌, ℕ, ◌+◌, ◌*◌, ◌≤◌, List, [], ◌∷◌, Bool, true, false, true≢false, Option, Some, None, length, refl, ap, sym, subst, ◌∙◌, arith}
+use Rattle.std.proofs.Common.{◌≡◌, ℕ, ◌+◌, ◌*◌, ◌≤◌, ◌<◌, List, [], ◌∷◌, Bool, true, false, true≢false, Option, Some, None, length, refl, ap, sym, subst, ◌∙◌, arith}
 use Rattle.uc_tree.specs.declared.kinds.Param.{Param}
 use Rattle.uc_tree.specs.declared.kinds.Role.{Role}
 use Rattle.uc_tree.specs.declared.kinds.Role.TheVariants as role
 use Rattle.uc_tree.specs.declared.limits.TheConstants.{CLASS_CELLS}
 use Rattle.uc_tree.specs.Capped.{capped}
 use Rattle.uc_tree.specs.Cells.{class_cells}
+use Rattle.uc_tree.specs.Laws.{LawCells}
 use Rattle.uc_tree.specs.Programs.{Program}
 use Rattle.uc_tree.specs.Objects.{class_shape, unwritten_number, written_at}
 use Rattle.uc_tree.specs.Source.{shape_cells, Expr, Element, OfObject, Counted, CallOn, CallUnwritten, Exprs, NoExprs, CleanUp, Destroys, DestroysAll}
 use Rattle.uc_tree.specs.Resolve.{Meant, args_by, params_of, called_by, constructed, counted_element, build, clean_up}
-use Rattle.uc_tree.proofs.Shapes.{law_cells}
 use Rattle.uc_code.specs.declared.op.Op.TheVariants as op
 use Rattle.uc_code.specs.declared.rows.Array.{Array}
 use Rattle.uc_code.specs.declared.rows.Mark.{Mark}
@@ -55,16 +55,16 @@ module _ (p : Program) (i : ℕ) where
   pub calls_of : (wanted : Role) (e : Expr) (spot : Spot) (array : Option Array) → LiesAt e spot array → Calls (called_by p i wanted e [] (written_at p i wanted)) (call_by (routine_for p i wanted) spot array)
   calls_of wanted e spot array l = calls_at wanted e spot array l (written_at p i wanted)
 
-  element_lies : (n : ℕ) (place : Expr) (spot : Spot) → BeginsAt place spot → LiesAt (counted_element p i n place) spot (array_by p i (Some n))
-  element_lies n place spot b =
-      subst (λ (k : ℕ). LiesAt (counted_element p i n place) spot (Some (record { length = n; size = k }))) (law_cells.cells p i) (Part n (class_shape p i) place spot b)
+  element_lies : LawCells → (n : ℕ) (place : Expr) (spot : Spot) → BeginsAt place spot → LiesAt (counted_element p i n place) spot (array_by p i (Some n))
+  element_lies laws n place spot b =
+      subst (λ (k : ℕ). LiesAt (counted_element p i n place) spot (Some (record { length = n; size = k }))) (laws.cells p i) (Part n (class_shape p i) place spot b)
 
-  cleans_by : (length : Option ℕ) (place : Expr) (spot : Spot) → BeginsAt place spot → Cleans (clean_up p i length place) (call_by (routine_for p i role.Destructor) spot (array_by p i length))
-  cleans_by None place spot b = CleansOne _ _ (calls_of role.Destructor place spot None (Whole place spot b)) refl
-  cleans_by (Some n) place spot b = All n (class_cells p i) _ _ (calls_of role.Destructor (counted_element p i n place) spot (array_by p i (Some n)) (element_lies n place spot b)) refl
+  cleans_by : LawCells → (length : Option ℕ) (place : Expr) (spot : Spot) → BeginsAt place spot → Cleans (clean_up p i length place) (call_by (routine_for p i role.Destructor) spot (array_by p i length))
+  cleans_by laws None place spot b = CleansOne _ _ (calls_of role.Destructor place spot None (Whole place spot b)) refl
+  cleans_by laws (Some n) place spot b = All n (class_cells p i) _ _ (calls_of role.Destructor (counted_element p i n place) spot (array_by p i (Some n)) (element_lies laws n place spot b)) refl
 
-  pub cleans_is : (length : Option ℕ) (spot : Spot) (what : ObjectCall) → what ≡ call_by (routine_for p i role.Destructor) spot (array_by p i length) → (place : Expr) → BeginsAt place spot → Cleans (clean_up p i length place) what
-  cleans_is length spot what e place b = subst (λ (c : ObjectCall). Cleans (clean_up p i length place) c) (sym e) (cleans_by length place spot b)
+  pub cleans_is : LawCells → (length : Option ℕ) (spot : Spot) (what : ObjectCall) → what ≡ call_by (routine_for p i role.Destructor) spot (array_by p i length) → (place : Expr) → BeginsAt place spot → Cleans (clean_up p i length place) what
+  cleans_is laws length spot what e place b = subst (λ (c : ObjectCall). Cleans (clean_up p i length place) c) (sym e) (cleans_by laws length place spot b)
 
   -- an object is built
 
@@ -115,10 +115,10 @@ module _ (p : Program) (i : ℕ) where
       subst (λ (o : Option ℕ). Puts (n + build_room o) (λ code. StmtAt code old.marks (build p line i o place args)) old new) (sym e) (
       puts_adds (adds_more (omega arith) (adds_both (expr_stable line old.marks (constructed p i place args)) (a place h) b)))
 
-  pub arm_all : (line : ℕ) (spot : Spot) (length : Option ℕ) (array : Option Array) (args : List Meant) (n count : ℕ) (builder destroyer : ObjectCall) (old new : Draft) → length ≡ Some count → array ≡ array_by p i length
+  pub arm_all : LawCells → (line : ℕ) (spot : Spot) (length : Option ℕ) (array : Option Array) (args : List Meant) (n count : ℕ) (builder destroyer : ObjectCall) (old new : Draft) → length ≡ Some count → array ≡ array_by p i length
       → builder ≡ call_by (routine_for p i role.Constructor) spot array → destroyer ≡ call_by (routine_for p i role.Destructor) spot array → Puts 18 (FillCode line old.marks builder destroyer count) old new
       → (place : Expr) → BeginsAt place spot → Puts (n + build_room length) (λ code. StmtAt code old.marks (build p line i length place args)) old new
-  arm_all line spot length array args n count builder destroyer old new e ae be de h place b =
+  arm_all laws line spot length array args n count builder destroyer old new e ae be de h place b =
       let f : array ≡ array_by p i (Some count) = ae ∙ ap (λ (o : Option ℕ). array_by p i o) e in
       let g : builder ≡ call_by (routine_for p i role.Constructor) spot (array_by p i (Some count)) = be ∙ ap (λ (o : Option Array). call_by (routine_for p i role.Constructor) spot o) f in
       let k : destroyer ≡ call_by (routine_for p i role.Destructor) spot (array_by p i (Some count)) = de ∙ ap (λ (o : Option Array). call_by (routine_for p i role.Destructor) spot o) f in
@@ -126,7 +126,7 @@ module _ (p : Program) (i : ℕ) where
       puts_more (omega arith) (puts_as h (λ code x z w. record {
         builder = builder;
         destroyer = destroyer;
-        builds = subst (λ (c : ObjectCall). Calls (constructed p i (counted_element p i count place) []) c) (sym g) (calls_of role.Constructor (counted_element p i count place) spot (array_by p i (Some count)) (element_lies count place spot b));
-        destroys = subst (λ (c : ObjectCall). Calls (called_by p i role.Destructor (counted_element p i count place) [] (written_at p i role.Destructor)) c) (sym k) (calls_of role.Destructor (counted_element p i count place) spot (array_by p i (Some count)) (element_lies count place spot b));
+        builds = subst (λ (c : ObjectCall). Calls (constructed p i (counted_element p i count place) []) c) (sym g) (calls_of role.Constructor (counted_element p i count place) spot (array_by p i (Some count)) (element_lies laws count place spot b));
+        destroys = subst (λ (c : ObjectCall). Calls (called_by p i role.Destructor (counted_element p i count place) [] (written_at p i role.Destructor)) c) (sym k) (calls_of role.Destructor (counted_element p i count place) spot (array_by p i (Some count)) (element_lies laws count place spot b));
         filled = w;
       })))

@@ -27,6 +27,7 @@ use uc_lower_expr::numbering::ClassRoutine;
 use uc_lower_expr::program_names::ProgramNames;
 use uc_lower_expr::put::{put, put_at_risk};
 use uc_tree::expr::Expr;
+use uc_tree::laws::law_cells;
 
 // Where an object begins.
 fn spot_op(spot: Spot) -> Op
@@ -78,11 +79,9 @@ pub fn clean_call(class: usize, spot: Spot, length: Option<u32>, names: &Program
     ensures call { result ≡ call_by (routine_for names.now class role.Destructor) spot (array_by names.now class length) }
     ensures cleans { (place : Place) → BeginsAt place spot → Cleans (clean_up names.now class length place) result }
 {
-    call_by(
-        names.destructor_of(class),
-        spot,
-        array_of(class, length, names),
-    )
+    law_cells();
+    let array = array_of(class, length, names);
+    call_by(names.destructor_of(class), spot, array)
 }
 
 /// Adds the code that builds an object of the class with this place, which begins in a spot. After want of memory the draft is
@@ -177,6 +176,7 @@ pub fn lower_build(
             Ok(())
         }
         Some(count) => {
+            law_cells();
             let array = array_of(class, length, names);
             let builder = call_by(names.constructor_of(class), spot, array);
             let destroyer = call_by(names.destructor_of(class), spot, array);
