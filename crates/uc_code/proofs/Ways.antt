@@ -1,5 +1,5 @@
 -- How an exit passes the marks, one after another, from the innermost one on.
-use Rattle.std.proofs.Common.{◌≡◌, ℕ, zero, suc, ◌+◌, ◌-◌, ◌≤◌, ◌<◌, min, List, [], ◌∷◌, ◌++◌, length, get_or, reverse, take, Option, Some, None, refl, ap, sym, subst, ◌∙◌, arith}
+use Rattle.std.proofs.Common.{◌≡◌, ℕ, zero, suc, ◌+◌, ◌-◌, ◌≤◌, ◌<◌, min, List, [], ◌∷◌, ◌++◌, length, get_or, reverse, take, Some, None, refl, ap, sym, subst, ◌∙◌, arith}
 use Rattle.std.proofs.lemmas.List.{reverse-reverse, length-reverse, take_all}
 use Rattle.uc_tree.specs.Source as source
 use Rattle.uc_code.specs.declared.op.Op.{Op}
@@ -9,7 +9,7 @@ use Rattle.uc_code.specs.declared.rows.Mark.TheVariants as mark
 use Rattle.uc_code.specs.declared.rows.Way.{Way}
 use Rattle.uc_code.specs.declared.rows.Way.TheVariants as way
 use Rattle.uc_code.specs.Drafts.{Draft}
-use Rattle.uc_code.specs.Laid.{Laid, handlers, under, rows_from}
+use Rattle.uc_code.specs.Laid.{Laid, handlers, rows_from}
 use Rattle.uc_code.specs.Leaving.{way_of}
 use Rattle.uc_code.specs.Ranges.{One}
 use Rattle.uc_code.specs.Lowered.{Any, ExitAt}

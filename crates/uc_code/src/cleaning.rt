@@ -60,12 +60,7 @@ fn put_element(spot: Spot, array: Array, line: u32, out: &mut Draft) -> Result<(
 }
 
 // Where the object lies, or the element that is counted.
-fn put_place(
-    spot: Spot,
-    array: Option<Array>,
-    line: u32,
-    out: &mut Draft,
-) -> Result<(), AllocError>
+fn put_place(spot: Spot, array: Option<Array>, line: u32, out: &mut Draft) -> Result<(), AllocError>
     requires { length out.old.ops + 3 ≤ PROGRAM_OPS }
     ensures { OnOk result (Puts 3 (λ code. SpotAt code line spot array) out.old out.new) }
 {
@@ -128,8 +123,8 @@ pub fn put_done(what: ObjectCall, line: u32, out: &mut Draft) -> Result<(), Allo
     Ok(())
 }
 
-// How many ops a call and the drop of its value take.
-fn done_length(what: ObjectCall) -> u32
+/// How many ops a call without arguments and the drop of its value take.
+pub fn done_length(what: ObjectCall) -> u32
     ensures { result ≡ done_length what }
 {
     let place = if what.array.is_some() { 3 } else { 1 };

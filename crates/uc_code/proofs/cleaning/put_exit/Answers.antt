@@ -1,4 +1,4 @@
-use Rattle.std.proofs.Common.{◌≡◌, ◌∙◌, [], ◌∷◌, ◌-◌, ◌≤◌, ◌<◌, ℕ, List, length, get_or, reverse, ap, sym, subst, arith, rules, refl}
+use Rattle.std.proofs.Common.{◌≡◌, ◌∙◌, [], ◌∷◌, ◌-◌, ℕ, List, length, get_or, ap, sym, subst, arith, rules}
 use Rattle.std.proofs.lemmas.List.{length-reverse}
 use Rattle.uc_tree.specs.declared.limits.TheConstants.{PROGRAM_OPS}
 use Rattle.uc_code.specs.declared.op.Op.{Op}

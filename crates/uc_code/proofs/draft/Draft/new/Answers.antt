@@ -1,4 +1,4 @@
-use Rattle.std.proofs.Common.{◌≤◌, arith}
+use Rattle.std.proofs.Common.{arith}
 use Rattle.uc_code.specs.Open.{Bare}
 use Rattle.uc_code.proofs.draft.Draft.new.Goals as goal
 
