@@ -129,8 +129,8 @@ ending_none count d = record {
   block = λ line a y ks ms ss l n p h. record { steps = ks; none = n; behind = ss; middle = y; before = p; code = h; same = refl };
 }
 
-same_mark : (what : ObjectCall) (line row : ℕ) (os : List Mark) (w : ObjectCall) (k r : ℕ) (ps : List Mark) → mark.Clean what line row ∷ os ≡ mark.Clean w k r ∷ ps → (what ≡ w) × ((line ≡ k) × ((row ≡ r) × (os ≡ ps)))
-same_mark what line row os w k r ps e = (cc, (cc, (cc, cc)))
+same_mark : (what : ObjectCall) (line row : ℕ) (os : List Mark) (w : ObjectCall) (k r : ℕ) (ps : List Mark) → mark.Clean what line row ∷ os ≡ mark.Clean w k r ∷ ps → (what ≡ w) × (line ≡ k)
+same_mark what line row os w k r ps e = (cc, cc)
 
 module _ (count : ℕ) (scope : ObjectScope) (now next : Draft) (at : innermost_in now.marks count ≡ Some scope) (all : AllBehind now.marks) (h : ClosesScope scope.what scope.line now next) where
   scope_next : (line : ℕ) (ms : List Mark) (whole : Stmts) (a : ℕ) → length ms ≡ count → Unended line ms whole a now → Unended line ms whole a next
