@@ -11,13 +11,15 @@ use Rattle.uc_tree.specs.Programs.{MemberForm, Member, Class, Program}
 use Rattle.uc_tree.specs.Rows.{held_cells}
 use Rattle.uc_tree.specs.Cells.{classes_of, class_cells, leading_cells}
 use Rattle.uc_tree.specs.Objects.{class_at, ClassField, declared_fields, form_fields, fields_of}
+use Rattle.uc_names.specs.Blocks.{Block}
 use Rattle.uc_sizes.specs.Places.{IsPlaces}
 use Rattle.uc_lower_expr.specs.declared.fields.Field.{Field}
 use Rattle.uc_lower_expr.specs.declared.fields.FieldTable.{FieldTable}
-use Rattle.uc_lower_expr.specs.Members.{AreFields, AreTables, IsNthField, count_fields, no_field_at}
+use Rattle.uc_lower_expr.specs.Members.{AreFields, AreTables, IsNthField, no_field_at, object_places}
 use Rattle.uc_lower_expr.specs.Noted.{one_scalar, IsNoted, AreNoted, NoMore, OneMore, HasNames, Notes}
 use Rattle.uc_lower_expr.proofs.FieldLemmas.{noted_long}
 use Rattle.uc_lower_expr.proofs.Finding.{names_of}
+use Rattle.uc_lower_expr.proofs.Knowing.{places_push}
 
 -- lists of fields
 
@@ -123,6 +125,31 @@ nth_by p i place c t there are v e (Some f) h = record { class = c; there = ther
 pub nth_is : (p : Program) (i place : ℕ) (c : Class) (t : FieldTable) → class_at p i ≡ Some c → AreFields p i c t → (r : Option Field) → r ≡ slice_get t.fields.items place → MatchOption r (no_field_at place (Some c)) (λ v. IsNthField p i place v)
 nth_is p i place c t there are None e = let a = past t.fields.items place (sym e) in let l = are.long in beyond (fields_of c.members) place (omega (arith, a, l))
 nth_is p i place c t there are (Some v) e = nth_by p i place c t there are v (sym e) (slice_get (fields_of c.members) place) refl
+
+-- one element more of a list
+
+taken_more : {A : Type 0} (xs : List A) (k : ℕ) (x : A) → slice_get xs k ≡ Some x → take (suc k) xs ≡ take k xs ++ x ∷ []
+taken_more [] k x e = absurd (cc)
+taken_more (y ∷ ys) zero x e = let is : y ≡ x = cc in ap (λ z. z ∷ []) is
+taken_more (y ∷ ys) (suc k) x e = ap (λ zs. y ∷ zs) (taken_more ys k x e)
+
+taken_long : {A : Type 0} (xs : List A) (k : ℕ) (x : A) → slice_get xs k ≡ Some x → length (take k xs) ≡ k
+taken_long [] k x e = absurd (cc)
+taken_long (y ∷ ys) zero x e = refl
+taken_long (y ∷ ys) (suc k) x e = ap suc (taken_long ys k x e)
+
+pub objects_more : (cs : List Class) (k : ℕ) (c : Class) → slice_get cs k ≡ Some c → object_places (take (k + 1) cs) 0 ≡ object_places (take k cs) 0 ++ object_places (c ∷ []) k
+objects_more cs k c e =
+    let one : k + 1 ≡ suc k = omega arith in
+    let long : 0 + length (take k cs) ≡ k = let l = taken_long cs k c e in omega (arith, l) in
+    ap (λ n. object_places (take n cs) 0) one
+    ∙ ap (λ xs. object_places xs 0) (taken_more cs k c e)
+    ∙ places_push (take k cs) c 0
+    ∙ ap (λ n. object_places (take k cs) 0 ++ object_places (c ∷ []) n) long
+
+pub no_names : (names : List (List ℕ)) (places : List Block) → length names ≡ 0 → IsPlaces [] places → IsPlaces names places
+no_names [] places l h = h
+no_names (x ∷ xs) places l h = absurd (omega (arith, l))
 
 -- tables of the first so many classes
 pub record AreFirst (p : Program) (count : ℕ) (ts : List FieldTable) : Type 0 where

@@ -1,6 +1,5 @@
 -- Routines with the numbers of their classes, from two lists side by side.
-use Rattle.std.proofs.Common.{◌≡◌, ℕ, zero, suc, List, [], ◌∷◌, ◌++◌, Some, take, length, map, refl, ap, sym, ◌∙◌}
-use Rattle.std.proofs.lemmas.List.{length-map}
+use Rattle.std.proofs.Common.{◌≡◌, ℕ, zero, suc, List, [], ◌∷◌, ◌++◌, Some, take, length, map, refl, ap}
 use Rattle.std.specs.Prelude.{slice_get}
 use Rattle.uc_tree.specs.Programs.{Routine}
 use Rattle.uc_tree.specs.Numbering.{Defined}
@@ -25,6 +24,3 @@ next_is (d ∷ ds) zero r n e f = record { one = d; more = refl; long = refl; ro
 next_is (d ∷ ds) (suc k) r n e f =
     let h = next_is ds k r n e f in
     record { one = h.one; more = ap (λ xs. d ∷ xs) h.more; long = ap suc h.long; routine = h.routine; number = h.number }
-
-pub same_long : {A : Type 0} (ds : List Defined) (f : A → Routine) (xs : List A) (ns : List ℕ) → routines_in ds ≡ map f xs → owners_in ds ≡ ns → length ns ≡ length xs
-same_long ds f xs ns e g = sym (ap length g) ∙ length-map ds (λ (d : Defined). d.number) ∙ sym (length-map ds (λ (d : Defined). d.routine)) ∙ ap length e ∙ length-map xs f

@@ -101,11 +101,11 @@ module _ (rs : List Routine) (ns : List ℕ) (count place : ℕ) (r : Routine) (
   through_more old new e h = subst (λ ts. AreThrough rs ns count (place + 1) ts) (sym e) (through_by old h (slice_get old n) refl)
 
   -- the names of routines outside of classes
-  pub among_more : (ds : List Defined) (numbers : List Block) → routines_in ds ≡ rs → owners_in ds ≡ ns → ((xs : List Defined) (d : Defined) → d.routine ≡ r → d.number ≡ n → length xs ≡ place → AreAmong (xs ++ d ∷ []) numbers) → AreAmong (take (place + 1) ds) numbers
+  pub among_more : (ds : List Defined) (numbers : List Block) → routines_in ds ≡ rs → owners_in ds ≡ ns → ((d : Defined) → d.routine ≡ r → d.number ≡ n → length (take place ds) ≡ place → AreAmong (take place ds ++ d ∷ []) numbers) → AreAmong (take (place + 1) ds) numbers
   among_more ds numbers a b h =
       let x = next ds a b in
       let e : place + 1 ≡ suc place = omega arith in
-      subst (λ k. AreAmong (take k ds) numbers) (sym e) (subst (λ xs. AreAmong xs numbers) (sym x.more) (h (take place ds) x.one x.routine x.number x.long))
+      subst (λ k. AreAmong (take k ds) numbers) (sym e) (subst (λ xs. AreAmong xs numbers) (sym x.more) (h x.one x.routine x.number x.long))
 
 pub all_taken : (ds : List Defined) (rs : List Routine) (k : ℕ) → routines_in ds ≡ rs → length rs ≡ k → take k ds ≡ ds
 all_taken ds rs k e l =

@@ -200,8 +200,9 @@ fn note_classes(
     ensures objects { OnOk result (objects.new.items ≡ object_places (classes_of sizes.now.items) 0) }
 {
     for place in 0..count {
-        if let Some(class) = sizes.class(place) {
-            note_class(alloc, sizes, place, class, fields, objects)?;
+        match sizes.class(place) {
+            Some(class) => note_class(alloc, sizes, place, class, fields, objects)?,
+            None => return Ok(()),
         }
     }
     Ok(())
