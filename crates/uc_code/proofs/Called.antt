@@ -1,15 +1,14 @@
 -- Code of a call of a constructor or a destructor is code of what the resolved tree has there.
-use Rattle.std.proofs.Common.{◌≡◌, ℕ, List, Option, Some, None, Bool, true, false, refl, subst, sym}
-use Rattle.uc_tree.specs.Source.{Shape, field_cells, Expr, CleanUp, Destroys, DestroysAll}
-use Rattle.uc_code.specs.declared.op.Op.TheVariants as op
+use Rattle.std.proofs.Common.{ℕ, List, Option}
+use Rattle.uc_tree.specs.Source.{Expr}
 use Rattle.uc_code.specs.declared.rows.Spot.{Spot}
 use Rattle.uc_code.specs.declared.rows.Array.{Array}
 use Rattle.uc_code.specs.declared.rows.ObjectCall.{ObjectCall}
 use Rattle.uc_code.specs.declared.rows.Mark.{Mark}
 use Rattle.uc_code.specs.Laid.{Laid}
-use Rattle.uc_code.specs.Ranges.{One, Both, OverElements}
-use Rattle.uc_code.specs.ObjectCalls.{BeginsAt, InFrame, InObject, LiesAt, Whole, Part, Calls, Written, Unwritten, Cleans, One as CleansOne, All}
-use Rattle.uc_code.specs.Lowered.{spot_op, SpotAt, CalledAt, CallAt, CallDone, CleanBy, CleanAt, ExprAt}
+use Rattle.uc_code.specs.Ranges.{One}
+use Rattle.uc_code.specs.ObjectCalls.{BeginsAt, InFrame, InObject, LiesAt, Whole, Part, Calls, Written, Unwritten}
+use Rattle.uc_code.specs.Lowered.{spot_op, SpotAt, CallAt, ExprAt}
 
 module _ (code : Laid) (line : ℕ) (ms : List Mark) where
   begins : (e : Expr) (s : Spot) → BeginsAt e s → (a z : ℕ) → One code (spot_op s) line a z → ExprAt code line ms e a z

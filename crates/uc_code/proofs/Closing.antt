@@ -1,19 +1,17 @@
 -- A row is opened or closed: what stands before keeps its handlers, and the clean-ups that are set stay.
-use Rattle.std.proofs.Common.{◌≡◌, ◌≢◌, ℕ, zero, suc, ◌+◌, ◌<◌, ◌≤◌, List, [], ◌∷◌, ◌++◌, length, reverse, drop, Bool, true, false, Option, Some, None, refl, ap, sym, subst, ◌∙◌, arith, length-append}
-use Rattle.std.specs.Prelude.{slice_get, nat_eq, nat_lt, nat_le, ◌&&◌, if◌then◌else◌}
-use Rattle.std.proofs.lemmas.Bool.{lt-ltb, le-ltb, le-leb, lt-leb}
-use Rattle.std.proofs.lemmas.List.{reverse-append, reverse-reverse, length-reverse}
+use Rattle.std.proofs.Common.{◌≡◌, ℕ, zero, suc, ◌<◌, ◌≤◌, List, [], ◌∷◌, ◌++◌, length, reverse, drop, false, Option, Some, refl, ap, sym, subst, ◌∙◌, arith}
+use Rattle.std.specs.Prelude.{slice_get}
+use Rattle.std.proofs.lemmas.Bool.{le-leb}
+use Rattle.std.proofs.lemmas.List.{reverse-append, length-reverse}
 use Rattle.uc_code.specs.declared.rows.HandlerRow.{HandlerRow}
 use Rattle.uc_code.specs.declared.rows.RowKind.{RowKind}
 use Rattle.uc_code.specs.declared.rows.RowKind.TheVariants as kind
-use Rattle.uc_code.specs.declared.rows.TheConstants.{ANY_EVENT, NO_EVENT, OPEN_END}
+use Rattle.uc_code.specs.declared.rows.TheConstants.{ANY_EVENT, OPEN_END}
 use Rattle.uc_code.specs.declared.rows.Mark.{Mark}
-use Rattle.uc_code.specs.declared.rows.Mark.TheVariants as mark
 use Rattle.uc_code.specs.declared.rows.Opening.{Opening}
 use Rattle.uc_code.specs.declared.rows.Opening.TheVariants as opening
-use Rattle.uc_code.specs.Laid.{Laid, handlers, covers, takes_events, same_block, block_before, block_by, from_row, from_newest, chain}
-use Rattle.uc_code.specs.Ranges.{HandlerAt}
-use Rattle.uc_code.specs.Open.{row_in, handler_in, opening_mark, opening_event, opening_around, Nested, Bare, Ended, InBody, InMain, InLoop, InWhole, InRow, closed_row, closed_rows}
+use Rattle.uc_code.specs.Laid.{covers, same_block, block_before, block_by, from_row, from_newest}
+use Rattle.uc_code.specs.Open.{row_in, handler_in, opening_mark, opening_event, Nested, Bare, Ended, InBody, InMain, InLoop, InWhole, InRow, closed_row, closed_rows}
 use Rattle.uc_code.proofs.Nesting.{made, nested_rise}
 
 pub reverse_cons : {X : Type 0} → (x : X) (xs : List X) → reverse (x ∷ xs) ≡ reverse xs ++ x ∷ []

@@ -1,6 +1,5 @@
 -- The code of exits, mark by mark.
-use Rattle.std.proofs.Common.{◌≡◌, ℕ, zero, suc, ◌+◌, ◌≤◌, ◌<◌, min, max, List, [], ◌∷◌, ◌++◌, length, reverse, take, drop, Bool, true, false, Option, Some, None, refl, ap, sym, subst, ◌∙◌, arith, inl, inr}
-use Rattle.std.proofs.lemmas.Bool.{cases_lt}
+use Rattle.std.proofs.Common.{◌≡◌, ℕ, suc, ◌+◌, ◌≤◌, min, max, List, [], ◌∷◌, length, drop, Bool, true, false, Option, Some, None, refl, ap, sym, subst, ◌∙◌, arith}
 use Rattle.uc_tree.specs.Source.{Way, ToBreak, ToContinue, ToReturn, ToEnd}
 use Rattle.uc_code.specs.declared.op.Op.{Op}
 use Rattle.uc_code.specs.declared.op.Op.TheVariants as op
@@ -10,15 +9,15 @@ use Rattle.uc_code.specs.declared.rows.Mark.TheVariants as mark
 use Rattle.uc_code.specs.declared.rows.ObjectCall.{ObjectCall}
 use Rattle.uc_code.specs.declared.rows.Opening.TheVariants as opening
 use Rattle.uc_code.specs.Drafts.{Draft}
-use Rattle.uc_code.specs.Laid.{Laid, laid_in, handlers, under, rows_from, routine_in}
-use Rattle.uc_code.specs.Ranges.{OpAt, One, Risk, CallsBehind, Both, Rounds, OverElements, Kept}
-use Rattle.uc_code.specs.Lowered.{CalledAt, CallAt, CallDone, CleanBy, CleanAt, Any, ExitAt}
-use Rattle.uc_code.specs.Open.{Below, Falling, AllBehind, StandsBehind, row_in, opened, closed, exit_room}
+use Rattle.uc_code.specs.Laid.{Laid, laid_in, handlers, under, routine_in}
+use Rattle.uc_code.specs.Ranges.{One, Risk, Both, Kept}
+use Rattle.uc_code.specs.Lowered.{CalledAt, CallDone, CleanBy, CleanAt, ExitAt}
+use Rattle.uc_code.specs.Open.{Below, Falling, AllBehind, row_in, opened, closed, exit_room}
 use Rattle.uc_code.specs.Puts.{Puts, PutsLeft, Leaves}
 use Rattle.uc_code.proofs.Stable.{kept_then, kept_piece, kept_refl}
 use Rattle.uc_code.proofs.Nesting.{under_all, under_drop}
 use Rattle.uc_code.proofs.Putting.{clean_stable, marks_of}
-use Rattle.uc_code.proofs.Sweeping.{Like, like_puts, like_opened, like_closed, like_rest, closed_ops, closed_marks}
+use Rattle.uc_code.proofs.Sweeping.{like_puts, like_opened, like_closed, like_rest, closed_ops, closed_marks}
 
 -- a clean-up is the same under marks with the same handlers in the same routine
 
@@ -96,7 +95,7 @@ module _ (what : ObjectCall) (row line : ℕ) (d0 d1 d2 d3 : Draft) (o1 : d1 ≡
 
 -- which marks are passed
 
-below_least : (a b : ℕ) (ns : List ℕ) → Below a ns → Below b ns → Below (min a b) ns
+pub below_least : (a b : ℕ) (ns : List ℕ) → Below a ns → Below b ns → Below (min a b) ns
 below_least a b [] h k = tt
 below_least a b (n ∷ ns) h k = let l = h.0 in let m = k.0 in (omega arith, below_least a b ns h.1 k.1)
 

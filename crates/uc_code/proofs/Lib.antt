@@ -16,3 +16,4 @@ pub mod Settled
 pub mod Stable
 pub mod Sweeping
 pub mod Turning
+pub mod Ways

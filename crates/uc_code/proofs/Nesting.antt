@@ -1,18 +1,16 @@
 -- Marks and rows that fit one another: what comes next has the handlers of the marks, and what is opened or closed changes nothing
 -- before it.
-use Rattle.std.proofs.Common.{◌≡◌, ◌≢◌, ℕ, zero, suc, ◌+◌, ◌<◌, ◌≤◌, min, List, [], ◌∷◌, ◌++◌, length, reverse, drop, Bool, true, false, Option, Some, None, refl, ap, sym, subst, ◌∙◌, arith, inl, inr, length-append}
-use Rattle.std.specs.Prelude.{slice_get, nat_eq, nat_lt, nat_le, ◌&&◌, if◌then◌else◌}
+use Rattle.std.proofs.Common.{◌≡◌, ℕ, suc, ◌<◌, ◌≤◌, min, List, [], ◌∷◌, ◌++◌, length, Bool, true, false, refl, ap, sym, subst, ◌∙◌, arith, inl, inr}
+use Rattle.std.specs.Prelude.{nat_eq, nat_lt}
 use Rattle.std.proofs.lemmas.Bool.{cases_lt, eq-eqb, ne_eqb, lt-ltb, le-ltb, le-leb, lt-leb}
 use Rattle.uc_code.specs.declared.rows.HandlerRow.{HandlerRow}
-use Rattle.uc_code.specs.declared.rows.RowKind.{RowKind}
 use Rattle.uc_code.specs.declared.rows.RowKind.TheVariants as kind
-use Rattle.uc_code.specs.declared.rows.TheConstants.{ANY_EVENT, NO_EVENT, OPEN_END}
+use Rattle.uc_code.specs.declared.rows.TheConstants.{OPEN_END}
 use Rattle.uc_code.specs.declared.rows.Mark.{Mark}
-use Rattle.uc_code.specs.declared.rows.Mark.TheVariants as mark
 use Rattle.uc_code.specs.declared.rows.Opening.{Opening}
 use Rattle.uc_code.specs.declared.rows.Opening.TheVariants as opening
-use Rattle.uc_code.specs.Laid.{under, handlers, covers, takes_events, same_block, block_before, block_by, from_row, from_newest, chain}
-use Rattle.uc_code.specs.Open.{first_in, name_of, named_by, row_in, handler_in, opening_mark, opening_event, opening_around, Below, Falling, Nested, Bare, Ended, InBody, InMain, InLoop, InWhole, InRow, closed_row, closed_rows}
+use Rattle.uc_code.specs.Laid.{under, handlers, covers, block_by, from_row, from_newest}
+use Rattle.uc_code.specs.Open.{named_by, opening_mark, opening_event, opening_around, Below, Falling, Nested, Bare, Ended, InBody, InMain, InLoop, InWhole, InRow}
 
 -- numbers below another
 

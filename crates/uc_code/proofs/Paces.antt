@@ -17,7 +17,7 @@ use Rattle.uc_code.specs.Pace.{behind, climb_op, height, Test, test_by, burden, 
 use Rattle.uc_code.specs.declared.rows.Mark.TheVariants as mark
 use Rattle.uc_code.specs.Ranges.{OpAt, Nothing, Never, One, Risk, CallsBehind, Both, Fork, pads_at, begin_at, BackAt, Turns, WholeAt, Rounds, OverElements, ScopeOf, BehindPart}
 use Rattle.uc_code.specs.Lowered.{operator_op, item_op, ConvertAt, ExprAt, ObjectAt, ArgumentsAt, ValueAt, ItemsAt, ValuesAt, PiecesAt, TogetherAt, TargetsAt, StartAt, VariablesAt, spot_op, SpotAt, CalledAt, CallAt, CallDone, CallBuilt, CleanBy, CleanAt, FilledAt, ScopedAt, BuiltAt, Any, ExitAt, StepAt, StmtAt, StmtsAt, body_mark, body_line, EndAt, BodyAt, RoutineAt, RoutinesAt, Lowered}
-use Rattle.uc_code.proofs.Heights.{Low, Outside, Plain, PacedAt, Each, Around, around_less, further_of, paced_by, none, only, join, within, onward_plain, onward_falls, own_plain, outside_next, jump_plain, jump_plain_at, jump_paced_at, jump_outside, jump_paced, zero_paced, tick_plain, tick_paced, back_paced, back_test_paced, exit_paced, Starts, Further, calling, high_calling, PadTo, height_is, down, outside_end}
+use Rattle.uc_code.proofs.Heights.{Outside, Plain, PacedAt, Each, Around, around_less, further_of, paced_by, none, only, join, within, onward_plain, onward_falls, own_plain, outside_next, jump_plain, jump_plain_at, jump_paced_at, jump_outside, jump_paced, zero_paced, tick_plain, tick_paced, back_paced, back_test_paced, exit_paced, Starts, Further, calling, high_calling, PadTo, height_is, down, outside_end}
 use Rattle.uc_code.proofs.Turning.{In}
 use Rattle.uc_code.proofs.Rounds.{before_turns, test_falls, sweep_test, sweep_in, sweep_low, sweep_low_test, sweep_each, sweep_begins, fill_test, fill_in, fill_low, fill_low_test, fill_each, fill_begins}
 

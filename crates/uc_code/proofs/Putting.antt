@@ -1,23 +1,20 @@
 -- How what is added to a draft is joined, and the code of calls, clean-ups and exits.
-use Rattle.std.proofs.Common.{◌≡◌, ℕ, zero, suc, ◌+◌, ◌*◌, ◌^◌, ◌≤◌, ◌<◌, List, [], ◌∷◌, length, length-append, drop, Bool, true, false, Option, Some, None, refl, ap, sym, subst, ◌∙◌, arith}
+use Rattle.std.proofs.Common.{◌≡◌, ℕ, ◌+◌, ◌*◌, ◌≤◌, ◌<◌, List, [], ◌∷◌, length, length-append, Bool, true, false, Option, Some, None, refl, ap, sym, subst, ◌∙◌, arith}
 use Rattle.uc_code.specs.declared.op.Op.{Op}
 use Rattle.uc_code.specs.declared.op.Op.TheVariants as op
 use Rattle.uc_code.specs.declared.rows.Array.{Array}
-use Rattle.uc_code.specs.declared.rows.Instruction.{Instruction}
 use Rattle.uc_code.specs.declared.rows.Mark.{Mark}
 use Rattle.uc_code.specs.declared.rows.Mark.TheVariants as mark
 use Rattle.uc_code.specs.declared.rows.ObjectCall.{ObjectCall}
-use Rattle.uc_code.specs.declared.rows.Opening.TheVariants as opening
 use Rattle.uc_code.specs.declared.rows.Spot.{Spot}
-use Rattle.uc_code.specs.declared.rows.Spot.TheVariants as spot
 use Rattle.uc_code.specs.Drafts.{Draft, ops_with}
-use Rattle.uc_code.specs.Laid.{Laid, laid_in, handlers, routine_in}
-use Rattle.uc_code.specs.Ranges.{OpAt, Nothing, One, Risk, CallsBehind, HandlerAt, Both, Rounds, OverElements, Kept, Stable}
+use Rattle.uc_code.specs.Laid.{Laid, laid_in, routine_in}
+use Rattle.uc_code.specs.Ranges.{One, Risk, CallsBehind, Both, OverElements, Stable}
 use Rattle.uc_code.specs.Lowered.{spot_op, SpotAt, CalledAt, CallAt, CallDone, CleanBy, CleanAt}
 use Rattle.uc_code.specs.Open.{StandsBehind}
 use Rattle.uc_code.specs.Puts.{Puts, place_length, called_length, done_length, clean_by, clean_length}
 use Rattle.uc_code.proofs.Patches.{kept_with, one_with}
-use Rattle.uc_code.proofs.Stable.{elements_stable, kept_refl, kept_then, kept_same, kept_piece, nothing_stable, one_stable, risk_stable, calls_behind_stable, both_stable}
+use Rattle.uc_code.proofs.Stable.{elements_stable, kept_then, kept_same, nothing_stable, one_stable, risk_stable, calls_behind_stable, both_stable}
 
 -- a draft with other ops and rows, and once more
 

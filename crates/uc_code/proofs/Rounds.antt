@@ -1,18 +1,17 @@
 -- The turns of a destruction and of a construction, with their tests.
-use Rattle.std.proofs.Common.{◌≡◌, ℕ, zero, suc, ◌+◌, ◌-◌, ◌*◌, ◌^◌, ◌<◌, ◌≤◌, min, List, Bool, true, false, Option, Some, None, length, refl, ap, sym, subst, ◌∙◌, arith}
-use Rattle.std.specs.Prelude.{slice_get}
+use Rattle.std.proofs.Common.{◌≡◌, ℕ, suc, ◌+◌, ◌-◌, ◌*◌, ◌^◌, ◌<◌, ◌≤◌, min, List, Option, Some, length, refl, ap, subst, ◌∙◌, arith}
 use Rattle.uc_code.specs.declared.op.Op.{Op}
 use Rattle.uc_code.specs.declared.op.Op.TheVariants as op
 use Rattle.uc_code.specs.declared.rows.Mark.{Mark}
 use Rattle.uc_code.specs.declared.rows.ObjectCall.{ObjectCall}
 use Rattle.uc_code.specs.declared.rows.RoutineCode.{RoutineCode}
 use Rattle.uc_code.specs.Laid.{Laid, routine_in}
-use Rattle.uc_code.specs.Pace.{behind, height, power, Test, test_by, test_of, burden, Onward, Paced}
-use Rattle.uc_code.specs.Ranges.{OpAt, One, Both, Rounds}
-use Rattle.uc_code.specs.Lowered.{CallAt, CallDone, CallBuilt}
+use Rattle.uc_code.specs.Pace.{behind, height, power, Test, test_by, test_of, burden}
+use Rattle.uc_code.specs.Ranges.{OpAt, Rounds}
+use Rattle.uc_code.specs.Lowered.{CallDone, CallBuilt}
 use Rattle.uc_code.proofs.Powers.{power_more, power_less, power_few, times_rise, times_one_more}
 use Rattle.uc_code.proofs.Heights.{Low, Outside, Plain, PacedAt, Each, paced_by, only, join, within, height_is, test_is, burden_is, onward_low, onward_lower, Starts, Further}
-use Rattle.uc_code.proofs.Turning.{In, burden_in, burden_test, in_next, Turns, call_turns}
+use Rattle.uc_code.proofs.Turning.{In, burden_in, burden_test, in_next, call_turns}
 
 module _ (code : Laid) (table : List RoutineCode) where
   -- right before a turn nothing is left of it
@@ -73,17 +72,17 @@ module _ (code : Laid) (table : List RoutineCode) where
         let q : Plain code table (test + 1) = subst (Plain code table) g p in
         let v = q.low in
         let drop : PacedAt code table c.middle = paced_by code table c.middle op.Discard line c.second.here (λ a.
-            let i : burden code.ops c.middle a ≡ power (height code.ops c.middle) + a * power (height code.ops turn) = burden_in code table test turn (op.Sweep turn) c.middle a m (omega arith) in
-            let j : burden code.ops test a ≡ power (height code.ops test) + a * power (height code.ops turn) = burden_test code table test turn (op.Sweep turn) a n in
-            let r : burden code.ops (c.middle + 1) a ≡ power (height code.ops (c.middle + 1)) + a * power (height code.ops turn) = subst (λ u. burden code.ops u a ≡ power (height code.ops u) + a * power (height code.ops turn)) e j in
-            rw (i, r) (omega (arith, power_less (height code.ops (c.middle + 1)) (height code.ops c.middle) d))) in
+        let i : burden code.ops c.middle a ≡ power (height code.ops c.middle) + a * power (height code.ops turn) = burden_in code table test turn (op.Sweep turn) c.middle a m (omega arith) in
+        let j : burden code.ops test a ≡ power (height code.ops test) + a * power (height code.ops turn) = burden_test code table test turn (op.Sweep turn) a n in
+        let r : burden code.ops (c.middle + 1) a ≡ power (height code.ops (c.middle + 1)) + a * power (height code.ops turn) = subst (λ u. burden code.ops u a ≡ power (height code.ops u) + a * power (height code.ops turn)) e j in
+        rw (i, r) (omega (arith, power_less (height code.ops (c.middle + 1)) (height code.ops c.middle) d))) in
         let tested : PacedAt code table test = paced_by code table test (op.Sweep turn) line h.again (
-            (λ a.
-                let i : burden code.ops turn a ≡ power (height code.ops turn) + a * power (height code.ops turn) = burden_in code table test turn (op.Sweep turn) turn a b (omega arith) in
-                let j : burden code.ops test (suc a) ≡ power (height code.ops test) + suc a * power (height code.ops turn) = burden_test code table test turn (op.Sweep turn) (suc a) n in
-                rw (i, j) (omega (arith, times_one_more (suc a) a (power (height code.ops turn)) (omega arith), power_more (height code.ops test)))),
-            (let j : burden code.ops test 0 ≡ power (height code.ops test) + 0 * power (height code.ops turn) = burden_test code table test turn (op.Sweep turn) 0 n in
-            rw (burden_is code table (test + 1) 0 q.outside, j) (omega (arith, power_less (height code.ops (test + 1)) (height code.ops test) (omega arith)))),
+          (λ a.
+              let i : burden code.ops turn a ≡ power (height code.ops turn) + a * power (height code.ops turn) = burden_in code table test turn (op.Sweep turn) turn a b (omega arith) in
+              let j : burden code.ops test (suc a) ≡ power (height code.ops test) + suc a * power (height code.ops turn) = burden_test code table test turn (op.Sweep turn) (suc a) n in
+              rw (i, j) (omega (arith, times_one_more (suc a) a (power (height code.ops turn)) (omega arith), power_more (height code.ops test)))),
+          (let j : burden code.ops test 0 ≡ power (height code.ops test) + 0 * power (height code.ops turn) = burden_test code table test turn (op.Sweep turn) 0 n in
+              rw (burden_is code table (test + 1) 0 q.outside, j) (omega (arith, power_less (height code.ops (test + 1)) (height code.ops test) (omega arith)))),
         ) in
         join code table turn c.middle z
         (t.each s turn c.middle c.first (omega arith) (omega arith) (λ r d u o. let i = f r d u o in omega arith) m y)
@@ -151,12 +150,12 @@ module _ (code : Laid) (table : List RoutineCode) where
           let d : height code.ops (c.second.middle + 1) < height code.ops c.second.middle = onward_lower code table c.second.middle op.More line c.second.second.here (λ n k h. refl) in
           let p : ℕ = power (height code.ops turn) in
           paced_by code table c.second.middle op.More line c.second.second.here (λ a.
-              let m : ℕ = min (a + 1) (2 ^ 32 - 1) in
-              let i : burden code.ops c.second.middle a ≡ power (height code.ops c.second.middle) + (most - (a + 1)) * p = burden_in code table test turn (op.Fill most turn) c.second.middle a (fill_more h) (omega arith) in
-              let j : burden code.ops test m ≡ power (height code.ops test) + (most - m) * p = burden_test code table test turn (op.Fill most turn) m (fill_test h) in
-              let r : burden code.ops (c.second.middle + 1) m ≡ power (height code.ops (c.second.middle + 1)) + (most - m) * p = subst (λ u. burden code.ops u m ≡ power (height code.ops u) + (most - m) * p) g j in
-              let t : (most - m) * p ≤ (most - (a + 1)) * p = times_rise (most - m) (most - (a + 1)) p (capped a) in
-              rw (i, r) (omega (arith, power_less (height code.ops (c.second.middle + 1)) (height code.ops c.second.middle) d)))
+          let m : ℕ = min (a + 1) (2 ^ 32 - 1) in
+          let i : burden code.ops c.second.middle a ≡ power (height code.ops c.second.middle) + (most - (a + 1)) * p = burden_in code table test turn (op.Fill most turn) c.second.middle a (fill_more h) (omega arith) in
+          let j : burden code.ops test m ≡ power (height code.ops test) + (most - m) * p = burden_test code table test turn (op.Fill most turn) m (fill_test h) in
+          let r : burden code.ops (c.second.middle + 1) m ≡ power (height code.ops (c.second.middle + 1)) + (most - m) * p = subst (λ u. burden code.ops u m ≡ power (height code.ops u) + (most - m) * p) g j in
+          let t : (most - m) * p ≤ (most - (a + 1)) * p = times_rise (most - m) (most - (a + 1)) p (capped a) in
+          rw (i, r) (omega (arith, power_less (height code.ops (c.second.middle + 1)) (height code.ops c.second.middle) d)))
 
       drop_paced : (h : Filling) → PacedAt code table h.turn.middle
       drop_paced h =
@@ -166,10 +165,10 @@ module _ (code : Laid) (table : List RoutineCode) where
           let p : ℕ = power (height code.ops turn) in
           let d : height code.ops (c.middle + 1) < height code.ops c.middle = onward_lower code table c.middle op.Discard line c.second.first.here (λ n k h. refl) in
           paced_by code table c.middle op.Discard line c.second.first.here (λ a.
-              let i : burden code.ops c.middle a ≡ power (height code.ops c.middle) + (most - (a + 1)) * p = burden_in code table test turn (op.Fill most turn) c.middle a (fill_drop h) (omega arith) in
-              let j : burden code.ops c.second.middle a ≡ power (height code.ops c.second.middle) + (most - (a + 1)) * p = burden_in code table test turn (op.Fill most turn) c.second.middle a (fill_more h) (omega arith) in
-              let r : burden code.ops (c.middle + 1) a ≡ power (height code.ops (c.middle + 1)) + (most - (a + 1)) * p = subst (λ u. burden code.ops u a ≡ power (height code.ops u) + (most - (a + 1)) * p) e j in
-              rw (i, r) (omega (arith, power_less (height code.ops (c.middle + 1)) (height code.ops c.middle) d)))
+          let i : burden code.ops c.middle a ≡ power (height code.ops c.middle) + (most - (a + 1)) * p = burden_in code table test turn (op.Fill most turn) c.middle a (fill_drop h) (omega arith) in
+          let j : burden code.ops c.second.middle a ≡ power (height code.ops c.second.middle) + (most - (a + 1)) * p = burden_in code table test turn (op.Fill most turn) c.second.middle a (fill_more h) (omega arith) in
+          let r : burden code.ops (c.middle + 1) a ≡ power (height code.ops (c.middle + 1)) + (most - (a + 1)) * p = subst (λ u. burden code.ops u a ≡ power (height code.ops u) + (most - (a + 1)) * p) e j in
+          rw (i, r) (omega (arith, power_less (height code.ops (c.middle + 1)) (height code.ops c.middle) d)))
 
       test_paced : Filling → Plain code table z → PacedAt code table test
       test_paced h y =
@@ -183,14 +182,14 @@ module _ (code : Laid) (table : List RoutineCode) where
           let q : Plain code table (test + 1) = subst (Plain code table) h.end y in
           let v = q.low in
           paced_by code table test (op.Fill most turn) line h.again (
-              (λ a l.
-                  let i : burden code.ops turn a ≡ p + (most - (a + 1)) * p = burden_in code table test turn (op.Fill most turn) turn a (fill_in h) (omega arith) in
-                  let j : burden code.ops test a ≡ power (height code.ops test) + (most - a) * p = burden_test code table test turn (op.Fill most turn) a (fill_test h) in
-                  let t : (most - a) * p ≡ (most - (a + 1)) * p + p = times_one_more (most - a) (most - (a + 1)) p (omega arith) in
-                  rw (i, j) (omega (arith, power_more (height code.ops test)))),
-              (λ a l.
-                  let j : burden code.ops test a ≡ power (height code.ops test) + (most - a) * p = burden_test code table test turn (op.Fill most turn) a (fill_test h) in
-                  rw (burden_is code table (test + 1) a q.outside, j) (omega (arith, power_less (height code.ops (test + 1)) (height code.ops test) (omega arith)))),
+            (λ a l.
+                let i : burden code.ops turn a ≡ p + (most - (a + 1)) * p = burden_in code table test turn (op.Fill most turn) turn a (fill_in h) (omega arith) in
+                let j : burden code.ops test a ≡ power (height code.ops test) + (most - a) * p = burden_test code table test turn (op.Fill most turn) a (fill_test h) in
+                let t : (most - a) * p ≡ (most - (a + 1)) * p + p = times_one_more (most - a) (most - (a + 1)) p (omega arith) in
+                rw (i, j) (omega (arith, power_more (height code.ops test)))),
+            (λ a l.
+                let j : burden code.ops test a ≡ power (height code.ops test) + (most - a) * p = burden_test code table test turn (op.Fill most turn) a (fill_test h) in
+                rw (burden_is code table (test + 1) a q.outside, j) (omega (arith, power_less (height code.ops (test + 1)) (height code.ops test) (omega arith)))),
           )
 
       pub fill_each : Filling → Starts code table → Further code table (routine_in ms) z → Plain code table z → Each code table turn z

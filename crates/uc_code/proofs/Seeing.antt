@@ -1,6 +1,6 @@
 -- The innermost row of marks that is below a number.
-use Rattle.std.proofs.Common.{◌≡◌, ℕ, zero, suc, ◌+◌, ◌-◌, ◌<◌, ◌≤◌, min, List, [], ◌∷◌, ◌++◌, length, get_or, reverse, take, Bool, true, false, Option, Some, None, refl, ap, sym, subst, ◌∙◌, arith, inl, inr}
-use Rattle.std.specs.Prelude.{nat_lt, ◌&&◌, if◌then◌else◌}
+use Rattle.std.proofs.Common.{◌≡◌, ℕ, zero, suc, ◌-◌, ◌<◌, ◌≤◌, min, List, ◌∷◌, ◌++◌, length, get_or, reverse, take, true, Some, refl, ap, sym, ◌∙◌, arith, inl, inr}
+use Rattle.std.specs.Prelude.{nat_lt}
 use Rattle.std.proofs.lemmas.Bool.{cases_lt, lt-ltb, le-ltb}
 use Rattle.uc_code.specs.declared.rows.Mark.{Mark}
 use Rattle.uc_code.specs.declared.rows.Mark.TheVariants as mark
@@ -11,7 +11,7 @@ use Rattle.uc_code.specs.Open.{first_in, seen_row, seen_at}
 use Rattle.uc_code.proofs.Nesting.{under_take, under_drop, under_under}
 use Rattle.uc_code.proofs.Closed.{reverse_take}
 
-rows_dropped : (bound first n : ℕ) (hs : List ℕ) → bound ≤ first → under bound (rows_from first n ++ hs) ≡ under bound hs
+pub rows_dropped : (bound first n : ℕ) (hs : List ℕ) → bound ≤ first → under bound (rows_from first n ++ hs) ≡ under bound hs
 rows_dropped bound first zero hs l = refl
 rows_dropped bound first (suc n) hs l = under_drop bound first (rows_from (suc first) n ++ hs) l ∙ rows_dropped bound (suc first) n hs (omega arith)
 
@@ -52,6 +52,7 @@ pub seen_first : (m : Mark) (ms : List Mark) (bound k : ℕ) → seen_at m bound
 seen_first (mark.Body routine) ms bound k e = no_row bound k e
 seen_first (mark.Finish routine line) ms bound k e = no_row bound k e
 seen_first (mark.Loop leave again) ms bound k e = no_row bound k e
+seen_first (mark.Whole leave) ms bound k e = no_row bound k e
 seen_first (mark.Guard first zero) ms bound k e = no_row bound k e
 seen_first (mark.Guard first (suc n)) ms bound k e = row_first first bound k (rows_from (suc first) n ++ handlers ms) (guard_seen first n bound (seen.Row k) e)
 seen_first (mark.Clean what line row) ms bound k e = row_first row bound k (handlers ms) e
@@ -69,6 +70,7 @@ pub seen_next : (m : Mark) (ms : List Mark) (bound k : ℕ) → seen_at m bound 
 seen_next (mark.Body routine) ms bound k e = ap (λ b. first_in (under b (handlers ms))) (same_bound bound k e)
 seen_next (mark.Finish routine line) ms bound k e = ap (λ b. first_in (under b (handlers ms))) (same_bound bound k e)
 seen_next (mark.Loop leave again) ms bound k e = ap (λ b. first_in (under b (handlers ms))) (same_bound bound k e)
+seen_next (mark.Whole leave) ms bound k e = ap (λ b. first_in (under b (handlers ms))) (same_bound bound k e)
 seen_next (mark.Guard first zero) ms bound k e = ap (λ b. first_in (under b (handlers ms))) (same_bound bound k e)
 seen_next (mark.Guard first (suc n)) ms bound k e = guard_next first n bound k (handlers ms) (guard_seen first n bound (seen.Bound k) e)
 seen_next (mark.Clean what line row) ms bound k e = row_next row bound k (handlers ms) e

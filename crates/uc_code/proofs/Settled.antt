@@ -1,27 +1,25 @@
 -- What a draft's invariant says of its rows, through each change of a draft.
-use Rattle.std.proofs.Common.{◌≡◌, ◌≢◌, ℕ, zero, suc, ◌+◌, ◌<◌, ◌≤◌, ◌^◌, min, List, [], ◌∷◌, ◌++◌, length, reverse, take, drop, Bool, true, false, Option, Some, None, refl, ap, sym, subst, ◌∙◌, arith, inl, inr, length-append}
-use Rattle.std.specs.Prelude.{slice_get, nat_lt, nat_le}
-use Rattle.std.proofs.lemmas.Bool.{cases_eq, le-ltb}
+use Rattle.std.proofs.Common.{◌≡◌, ◌≢◌, ℕ, zero, suc, ◌+◌, ◌<◌, ◌≤◌, ◌^◌, min, List, [], ◌∷◌, ◌++◌, length, reverse, drop, true, false, Option, Some, None, refl, ap, sym, subst, ◌∙◌, arith, length-append}
+use Rattle.std.specs.Prelude.{slice_get}
+use Rattle.std.proofs.lemmas.Bool.{le-ltb}
 use Rattle.std.proofs.lemmas.List.{reverse-reverse, length-reverse}
-use Rattle.std.proofs.lemmas.Option.{slice_get_within}
 use Rattle.uc_tree.specs.declared.limits.TheConstants.{PROGRAM_OPS}
 use Rattle.uc_code.specs.declared.op.Op.{Op}
 use Rattle.uc_code.specs.declared.rows.HandlerRow.{HandlerRow}
 use Rattle.uc_code.specs.declared.rows.Instruction.{Instruction}
 use Rattle.uc_code.specs.declared.rows.RowKind.TheVariants as kind
-use Rattle.uc_code.specs.declared.rows.TheConstants.{ANY_EVENT, OPEN_END}
+use Rattle.uc_code.specs.declared.rows.TheConstants.{OPEN_END}
 use Rattle.uc_code.specs.declared.rows.Mark.{Mark}
 use Rattle.uc_code.specs.declared.rows.Mark.TheVariants as mark
-use Rattle.uc_code.specs.declared.rows.ObjectCall.{ObjectCall}
 use Rattle.uc_code.specs.declared.rows.Opening.{Opening}
 use Rattle.uc_code.specs.declared.rows.Opening.TheVariants as opening
-use Rattle.uc_code.specs.Drafts.{Draft, ops_with}
-use Rattle.uc_code.specs.Laid.{Laid, under, handlers, routine_in, covers, from_newest, chain}
-use Rattle.uc_code.specs.Ranges.{OpAt, Risk, HandlerAt, Kept}
-use Rattle.uc_code.specs.Open.{Below, first_in, named_by, opening_bound, row_in, handler_in, opening_mark, opening_event, opening_around, OpensBehind, AllBehind, StandsBehind, Nested, Bare, Ended, InBody, InMain, InLoop, InWhole, InRow, IsSettled, closed_row, closed_rows, left_marks, is_rowless}
+use Rattle.uc_code.specs.Drafts.{ops_with}
+use Rattle.uc_code.specs.Laid.{Laid, under, handlers, covers, from_newest}
+use Rattle.uc_code.specs.Ranges.{Risk, HandlerAt, Kept}
+use Rattle.uc_code.specs.Open.{Below, first_in, named_by, opening_bound, row_in, handler_in, opening_mark, opening_event, opening_around, OpensBehind, AllBehind, Nested, Bare, Ended, InBody, InMain, InLoop, InWhole, InRow, IsSettled, closed_row, closed_rows, left_marks, is_rowless}
 use Rattle.uc_code.proofs.Patches.{one_with}
 use Rattle.uc_code.proofs.Nesting.{made, newest, nested_rise, all_below, under_all, below_under}
-use Rattle.uc_code.proofs.Closing.{Closes, Leaves, leaves, closes_list, closes_newest, reverse_push}
+use Rattle.uc_code.proofs.Closing.{Leaves, leaves, closes_list, closes_newest, reverse_push}
 
 -- the op that comes next has the handlers of the marks
 pub risk_with : (ops : List Instruction) (settled : ℕ) (rows : List HandlerRow) (ms : List Mark) (o : Op) (line : ℕ) → length ops < PROGRAM_OPS → IsSettled (length ops) settled rows ms → Risk (record { ops = ops_with ops o line; rows = rows }) ms o line (length ops) (length (ops_with ops o line))

@@ -1,6 +1,5 @@
 -- The code that cleans up all elements of an array, as it is added to a draft.
-use Rattle.std.proofs.Common.{◌≡◌, ℕ, zero, suc, ◌+◌, ◌*◌, ◌^◌, ◌≤◌, ◌<◌, List, [], ◌∷◌, ◌++◌, length, drop, Option, Some, None, refl, ap, sym, subst, ◌∙◌, arith}
-use Rattle.uc_code.specs.declared.op.Op.{Op}
+use Rattle.std.proofs.Common.{◌≡◌, ℕ, ◌+◌, ◌^◌, ◌<◌, List, ◌∷◌, length, drop, Option, Some, None, refl, ap, sym, subst, ◌∙◌, arith}
 use Rattle.uc_code.specs.declared.op.Op.TheVariants as op
 use Rattle.uc_code.specs.declared.rows.Instruction.{Instruction}
 use Rattle.uc_code.specs.declared.rows.HandlerRow.{HandlerRow}
@@ -11,9 +10,9 @@ use Rattle.uc_code.specs.declared.rows.Opening.{Opening}
 use Rattle.uc_code.specs.declared.rows.Opening.TheVariants as opening
 use Rattle.uc_code.specs.Drafts.{Draft}
 use Rattle.uc_code.specs.Laid.{Laid, laid_in}
-use Rattle.uc_code.specs.Ranges.{OpAt, One, Risk, HandlerAt, Rounds, OverElements, Kept}
+use Rattle.uc_code.specs.Ranges.{OpAt, One, Risk, HandlerAt, OverElements, Kept}
 use Rattle.uc_code.specs.Lowered.{CallDone}
-use Rattle.uc_code.specs.Open.{row_in, handler_in, opening_mark, opened, closed, closed_by}
+use Rattle.uc_code.specs.Open.{row_in, handler_in, opened, closed, closed_by}
 use Rattle.uc_code.specs.Puts.{Puts, done_length}
 use Rattle.uc_code.proofs.Stable.{kept_then, kept_piece}
 use Rattle.uc_code.proofs.Putting.{done_stable, done_is, marks_of}

@@ -1,6 +1,6 @@
 -- Turns over elements are paced: each one leaves fewer of them.
-use Rattle.std.proofs.Common.{◌≡◌, ℕ, zero, suc, ◌+◌, ◌-◌, ◌*◌, ◌^◌, ◌<◌, ◌≤◌, min, List, Bool, true, false, Option, Some, None, length, refl, ap, sym, subst, ◌∙◌, arith}
-use Rattle.std.specs.Prelude.{slice_get, nat_eq, nat_lt}
+use Rattle.std.proofs.Common.{◌≡◌, ℕ, suc, ◌+◌, ◌*◌, ◌<◌, ◌≤◌, List, Bool, true, false, Option, Some, None, refl, ap, sym, subst, ◌∙◌, arith}
+use Rattle.std.specs.Prelude.{slice_get, nat_eq}
 use Rattle.std.proofs.lemmas.Bool.{eq-eqb, ne_eqb}
 use Rattle.uc_code.specs.declared.op.Op.{Op}
 use Rattle.uc_code.specs.declared.op.Op.TheVariants as op
@@ -11,11 +11,11 @@ use Rattle.uc_code.specs.declared.rows.RoutineCode.{RoutineCode}
 use Rattle.uc_code.specs.declared.rows.Spot.{Spot}
 use Rattle.uc_code.specs.declared.rows.Spot.TheVariants as spot
 use Rattle.uc_code.specs.Laid.{Laid, routine_in}
-use Rattle.uc_code.specs.Pace.{behind, climb_op, height, power, Test, test_by, test_of, turns_left, left_at, turn_height, burden, Onward, Calling, Paced}
-use Rattle.uc_code.specs.Ranges.{OpAt, Nothing, One, Risk, CallsBehind, Both, Rounds}
-use Rattle.uc_code.specs.Lowered.{spot_op, SpotAt, CalledAt, CallAt, CallDone, CallBuilt}
-use Rattle.uc_code.proofs.Powers.{power_more, power_less, power_both, power_few, times_rise, times_one_more}
-use Rattle.uc_code.proofs.Heights.{Low, Outside, Plain, PacedAt, Each, paced_by, none, only, join, within, height_is, test_is, burden_is, onward_low, onward_lower, Starts, Further, if_ge}
+use Rattle.uc_code.specs.Pace.{climb_op, height, power, Test, test_by, test_of, turns_left, left_at, turn_height, burden, Onward, Calling, Paced}
+use Rattle.uc_code.specs.Ranges.{OpAt, Nothing, One, Risk, CallsBehind, Both}
+use Rattle.uc_code.specs.Lowered.{spot_op, SpotAt, CalledAt, CallAt}
+use Rattle.uc_code.proofs.Powers.{power_less, power_both}
+use Rattle.uc_code.proofs.Heights.{Low, Plain, Each, paced_by, none, only, join, within, height_is, test_is, burden_is, onward_low, onward_lower, Starts, Further, if_ge}
 
 module _ (code : Laid) (table : List RoutineCode) (test turn : ℕ) (o : Op) where
   -- a place in a turn, of which this op is the test

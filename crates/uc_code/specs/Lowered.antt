@@ -13,7 +13,7 @@ use Rattle.uc_code.specs.declared.rows.ObjectCall.{ObjectCall}
 use Rattle.uc_code.specs.declared.rows.RoutineCode.{RoutineCode}
 use Rattle.uc_code.specs.Codes.{Code}
 use Rattle.uc_code.specs.Laid.{Laid, laid_of}
-use Rattle.uc_code.specs.Ranges.{OpAt, Nothing, Never, One, Risk, CallsBehind, Both, Fork, Turns, WholeAt, OverElements, ScopeOf, BehindPart}
+use Rattle.uc_code.specs.Ranges.{Nothing, Never, One, Risk, CallsBehind, Both, Fork, Turns, WholeAt, OverElements, ScopeOf, BehindPart}
 use Rattle.uc_code.specs.ObjectCalls.{Calls, Cleans}
 
 -- the op of an operator

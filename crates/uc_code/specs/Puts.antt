@@ -1,5 +1,5 @@
 -- What calls that add code do to a draft.
-use Rattle.std.specs.Prelude.{◌≡◌, ℕ, ◌+◌, ◌*◌, ◌≤◌, length, List, ◌∷◌, Bool, true, false, Option, Some, None}
+use Rattle.std.specs.Prelude.{◌≡◌, ℕ, ◌+◌, ◌*◌, ◌≤◌, length, reverse, take, List, Bool, true, false, Option, Some, None}
 use Rattle.uc_code.specs.declared.op.Op.{Op}
 use Rattle.uc_code.specs.declared.op.Op.TheVariants as op
 use Rattle.uc_code.specs.declared.rows.Array.{Array}
@@ -13,7 +13,7 @@ use Rattle.uc_tree.specs.Source as source
 use Rattle.uc_code.specs.Laid.{Laid, laid_in, handlers, under, routine_in}
 use Rattle.uc_code.specs.Ranges.{Kept}
 use Rattle.uc_code.specs.Lowered.{CleanAt, ExitAt}
-use Rattle.uc_code.specs.Open.{clean_room, exit_room}
+use Rattle.uc_code.specs.Open.{StandsBehind, clean_room, exit_room}
 
 -- a draft with at most n ops more, for which S holds, and with rows that are closed; else it is as it was
 pub record Puts (n : ℕ) (S : Laid → ℕ → ℕ → Type 0) (old new : Draft) : Type 0 where
@@ -72,6 +72,25 @@ pub record PutsLeft (what : ObjectCall) (row line : ℕ) (old new : Draft) : Typ
   pub kept : Kept (laid_in old) (laid_in new)
   pub room : length new.ops ≤ length old.ops + clean_room
   pub code : (ms : List Mark) → handlers ms ≡ under row (handlers old.marks) → routine_in ms ≡ routine_in old.marks → CleanAt (laid_in new) line what ms (length old.ops) (length new.ops)
+
+-- what a mark needs that is left on the way: an object is cleaned up in whose scope the way stands
+
+abbrev pub past_room : Mark → ℕ
+past_room (mark.Clean what line row) = clean_room
+past_room _ = 0
+
+abbrev pub PastBehind : Mark → List Mark → Type 0
+PastBehind (mark.Clean what line row) ms = StandsBehind ms what
+PastBehind _ ms = Unit {0}
+
+-- what leaving it does to a draft
+abbrev pub PutsPast : Mark → Draft → Draft → Type 0
+PutsPast (mark.Clean what line row) old new = PutsLeft what row line old new
+PutsPast _ old new = new ≡ old
+
+-- the marks that are left when all but the outermost ones are passed, so many
+abbrev pub outermost : ℕ → List Mark → List Mark
+outermost n ms = reverse (take n (reverse ms))
 
 -- what is left of an exit: its ops so far lead to those of the marks that are left
 pub record Leaves (w : source.Way) (old now : Draft) (rest : List Mark) : Type 0 where

@@ -6,7 +6,7 @@ ghost use Rattle.uc_code.specs.Leaving.{way_of};
 ghost use Rattle.uc_code.specs.Ranges.{One, Risk};
 ghost use Rattle.uc_code.specs.Lowered.{spot_op, SpotAt, CalledAt, CallAt, CallDone, CleanBy, CleanAt, ExitAt};
 ghost use Rattle.uc_code.specs.Open.{StandsBehind, clean_room, exit_room};
-ghost use Rattle.uc_code.specs.Puts.{Puts, PutsLeft, done_length, clean_length, end_op, ends_at};
+ghost use Rattle.uc_code.specs.Puts.{Puts, PutsLeft, PastBehind, PutsPast, past_room, done_length, clean_length, end_op, ends_at};
 
 use crate::draft::Draft;
 use crate::op::Op;
@@ -60,12 +60,7 @@ fn put_element(spot: Spot, array: Array, line: u32, out: &mut Draft) -> Result<(
 }
 
 // Where the object lies, or the element that is counted.
-fn put_place(
-    spot: Spot,
-    array: Option<Array>,
-    line: u32,
-    out: &mut Draft,
-) -> Result<(), AllocError>
+fn put_place(spot: Spot, array: Option<Array>, line: u32, out: &mut Draft) -> Result<(), AllocError>
     requires { length out.old.ops + 3 ≤ PROGRAM_OPS }
     ensures { OnOk result (Puts 3 (λ code. SpotAt code line spot array) out.old out.new) }
 {
@@ -237,6 +232,28 @@ fn put_left(what: ObjectCall, row: u32, line: u32, out: &mut Draft) -> Result<()
     Ok(())
 }
 
+// A mark is left on the way out.
+fn put_past(mark: Mark, out: &mut Draft) -> Result<(), AllocError>
+    requires room { length out.old.ops + past_room mark ≤ PROGRAM_OPS }
+    requires behind { PastBehind mark out.old.marks }
+    ensures { OnOk result (PutsPast mark out.old out.new) }
+{
+    match mark {
+        Mark::Body { .. } => Ok(()),
+        Mark::Finish { .. } => Ok(()),
+        Mark::Loop { .. } => Ok(()),
+        Mark::Whole { .. } => Ok(()),
+        Mark::Guard { .. } => Ok(()),
+        Mark::Clean { what, line, row } => {
+            put_left(what, row, line, out)?;
+            Ok(())
+        }
+        Mark::Part { .. } => Ok(()),
+        Mark::Elements { .. } => Ok(()),
+        Mark::Outward { .. } => Ok(()),
+    }
+}
+
 /// Adds the code that leaves the statements around this place, up to what ends the way, from a statement of this line. After want
 /// of memory the draft is spent.
 pub fn put_exit(way: Way, line: u32, out: &mut Draft) -> Result<(), AllocError>
@@ -251,9 +268,7 @@ pub fn put_exit(way: Way, line: u32, out: &mut Draft) -> Result<(), AllocError>
             put(op, line, out)?;
             return Ok(());
         }
-        if let Mark::Clean { what, line, row } = mark {
-            put_left(what, row, line, out)?;
-        }
+        put_past(mark, out)?;
     }
     put(end_op(way), 0, out)?;
     Ok(())

@@ -10,7 +10,9 @@ ghost use Rattle.uc_code.specs.Ranges.{HandlerAt, Kept, Risk};
 
 use crate::code::Code;
 use crate::draft_parts::Outside;
-use crate::marks::{bound_of, close_row, event_of, has_no_row, mark_of, name_of, row_below, row_of};
+use crate::marks::{
+    bound_of, close_row, event_of, has_no_row, mark_of, name_of, row_below, row_of,
+};
 use crate::op::Op;
 use crate::rows::{HandlerRow, Instruction, Mark, OPEN_END, Opening, RoutineCode, RowKind};
 use std::alloc::{AllocError, Global};

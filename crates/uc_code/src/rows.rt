@@ -87,15 +87,39 @@ pub struct ObjectCall {
 /// their row; or the code of an exit, which has left all marks with rows from this number on.
 #[derive(Clone, Copy, PartialEq, Eq, Debug)]
 pub enum Mark {
-    Body { routine: u32 },
-    Finish { routine: u32, line: u32 },
-    Loop { leave: u32, again: u32 },
-    Whole { leave: u32 },
-    Guard { first: u32, count: u32 },
-    Clean { what: ObjectCall, line: u32, row: u32 },
-    Part { row: u32 },
-    Elements { row: u32 },
-    Outward { below: u32, row: u32 },
+    Body {
+        routine: u32,
+    },
+    Finish {
+        routine: u32,
+        line: u32,
+    },
+    Loop {
+        leave: u32,
+        again: u32,
+    },
+    Whole {
+        leave: u32,
+    },
+    Guard {
+        first: u32,
+        count: u32,
+    },
+    Clean {
+        what: ObjectCall,
+        line: u32,
+        row: u32,
+    },
+    Part {
+        row: u32,
+    },
+    Elements {
+        row: u32,
+    },
+    Outward {
+        below: u32,
+        row: u32,
+    },
 }
 
 /// What opens a row: the scope of an object, with the call that cleans it up and the line of its block; a part of an object under

@@ -11,7 +11,7 @@ use Rattle.uc_tree.specs.Gathered.{gathered, gathered_all, gathered_maybe}
 use Rattle.uc_tree.specs.Cells.{classes_of}
 use Rattle.uc_tree.specs.Numbering.{Defined, defined_by, item_defined, items_defined, routines_of, own_sites}
 use Rattle.uc_tree.specs.Programs.{Class, Routine, Item, ClassItem, RoutineItem, ConstItem, ProtoItem, ForwardItem, UsingItem, Program}
-use Rattle.uc_meaning.specs.BuiltForms.{is_built_stmt, are_built, is_built_maybe, is_built_routine, is_built_item, are_built_items, IsBuilt}
+use Rattle.uc_built.specs.BuiltForms.{is_built_stmt, are_built, is_built_maybe, is_built_routine, is_built_item, are_built_items, IsBuilt}
 use Rattle.uc_lower.specs.Laying.{defined_size}
 use Rattle.uc_lower.specs.Mains.{routines_in}
 

@@ -14,7 +14,7 @@ use Rattle.uc_tree.proofs.Classless.{routines_are}
 use Rattle.uc_tree.specs.Sizes.{program_size}
 use Rattle.uc_tree.specs.Source as source
 use Rattle.uc_tree.specs.StatementSizes.{stmts_size}
-use Rattle.uc_meaning.specs.BuiltForms.{are_built, are_scalars, is_built_result, is_built_sig, is_classless, no_inits, IsBuilt}
+use Rattle.uc_built.specs.BuiltForms.{are_built, are_scalars, is_built_result, is_built_sig, is_classless, no_inits, IsBuilt}
 use Rattle.uc_code.specs.declared.rows.RoutineCode.{RoutineCode}
 use Rattle.uc_code.specs.Codes.{Code}
 use Rattle.uc_code.specs.Drafts.{Draft}

@@ -9,7 +9,7 @@ use Rattle.uc_tree.specs.Cells.{routine_cells}
 use Rattle.uc_tree.specs.Programs.{Program}
 use Rattle.uc_tree.specs.Source as source
 use Rattle.uc_tree.specs.Resolve.{routine_scope, routine_meant, routines_meant}
-use Rattle.uc_meaning.specs.BuiltForms.{are_built}
+use Rattle.uc_built.specs.BuiltForms.{are_built}
 use Rattle.uc_code.specs.declared.rows.RoutineCode.{RoutineCode}
 use Rattle.uc_code.specs.Drafts.{Draft}
 use Rattle.uc_code.specs.Laid.{Laid, laid_in}

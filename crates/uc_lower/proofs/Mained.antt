@@ -4,7 +4,7 @@ use Rattle.std.proofs.lemmas.Bool.{and_parts}
 use Rattle.uc_tree.specs.Programs.{Item, Program}
 use Rattle.uc_tree.specs.Numbering.{item_defined}
 use Rattle.uc_tree.specs.ProgramMain.{is_main_item, main_among}
-use Rattle.uc_meaning.specs.BuiltForms.{is_built_item, are_built_items}
+use Rattle.uc_built.specs.BuiltForms.{is_built_item, are_built_items}
 use Rattle.uc_lower.specs.Mains.{routines_in}
 use Rattle.uc_lower.proofs.Built.{item_count}
 

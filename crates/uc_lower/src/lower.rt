@@ -5,7 +5,7 @@ ghost use Rattle.uc_tree.specs.declared.limits.TheConstants.{OPS_FOR_SIZE};
 ghost use Rattle.uc_tree.specs.Numbering.{routines_of};
 ghost use Rattle.uc_tree.specs.Resolve.{source_of};
 ghost use Rattle.uc_tree.specs.Sizes.{program_size};
-ghost use Rattle.uc_meaning.specs.BuiltForms.{IsBuilt};
+ghost use Rattle.uc_built.specs.BuiltForms.{IsBuilt};
 ghost use Rattle.uc_code.specs.Pace.{IsPaced};
 ghost use Rattle.uc_code.specs.Lowered.{Lowered};
 ghost use Rattle.uc_numbers.specs.Routines.{defined_at};

@@ -3,7 +3,7 @@
 ghost use Rattle.std.specs.Prelude.{◌≡◌, ◌≤◌, true};
 ghost use Rattle.uc_tree.specs.Programs.{Program};
 ghost use Rattle.uc_tree.specs.ProgramMain.{is_main_item, main_among};
-ghost use Rattle.uc_meaning.specs.BuiltForms.{are_built_items};
+ghost use Rattle.uc_built.specs.BuiltForms.{are_built_items};
 ghost use Rattle.uc_lower.specs.Mains.{routines_in};
 
 use uc_tree::program::{Item, ItemForm};

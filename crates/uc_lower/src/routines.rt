@@ -5,7 +5,7 @@ ghost use Rattle.uc_tree.specs.declared.limits.TheConstants.{PROGRAM_SIZE};
 ghost use Rattle.uc_tree.specs.Numbering.{routines_of};
 ghost use Rattle.uc_tree.specs.ProgramMain.{main_number};
 ghost use Rattle.uc_tree.specs.Sizes.{program_size};
-ghost use Rattle.uc_meaning.specs.BuiltForms.{IsBuilt};
+ghost use Rattle.uc_built.specs.BuiltForms.{IsBuilt};
 ghost use Rattle.uc_numbers.specs.Routines.{defined_at};
 ghost use Rattle.uc_lower.specs.Laying.{Lays};
 ghost use Rattle.uc_lower.specs.Refusing.{Fits};

@@ -20,7 +20,7 @@ use Rattle.uc_tree.specs.Rows.{element_cells}
 use Rattle.uc_tree.specs.Programs.{Program, Routine}
 use Rattle.uc_tree.specs.Source as source
 use Rattle.uc_tree.specs.Resolve.{Scope, param_known, params_known, stmts_meant, routine_scope, body_by, routine_meant, purpose_of}
-use Rattle.uc_meaning.specs.BuiltForms.{are_scalars, is_scalar_base}
+use Rattle.uc_built.specs.BuiltForms.{are_scalars, is_scalar_base}
 use Rattle.uc_code.specs.declared.op.Op.TheVariants as op
 use Rattle.uc_code.specs.declared.rows.Mark.{Mark}
 use Rattle.uc_code.specs.declared.rows.RoutineCode.{RoutineCode}

@@ -22,7 +22,7 @@ use Rattle.uc_tree.specs.Source.{Shape, Expr}
 use Rattle.uc_tree.specs.Objects.{plain_class, shape_of}
 use Rattle.uc_tree.proofs.Classless.{no_class}
 use Rattle.uc_tree.specs.Resolve.{Scope, meant, value_of, converted, result_of, targets_meant, all_declared, with_all, declared_then, declared_alone, start_then, stmt_then, stmt_meant, stmts_meant, scope_past, scope_after, scope_behind}
-use Rattle.uc_meaning.specs.BuiltForms.{is_built_stmt, are_built}
+use Rattle.uc_built.specs.BuiltForms.{is_built_stmt, are_built}
 use Rattle.uc_code.specs.declared.op.Op.TheVariants as op
 use Rattle.uc_code.specs.declared.rows.Mark.{Mark}
 use Rattle.uc_code.specs.declared.rows.Way.TheVariants as way

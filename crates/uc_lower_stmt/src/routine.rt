@@ -10,7 +10,7 @@ ghost use Rattle.uc_tree.specs.Numbering.{is_plain, own_sites, own_texts, routin
 ghost use Rattle.uc_tree.specs.ProgramMain.{main_number};
 ghost use Rattle.uc_tree.specs.Programs.{Program};
 ghost use Rattle.uc_tree.specs.Resolve.{params_known, role_purpose, value_purpose, routine_scope, routine_meant};
-ghost use Rattle.uc_meaning.specs.BuiltForms.{are_built, are_scalars};
+ghost use Rattle.uc_built.specs.BuiltForms.{are_built, are_scalars};
 ghost use Rattle.uc_code.specs.Laid.{laid_in};
 ghost use Rattle.uc_code.specs.Ranges.{Kept};
 ghost use Rattle.uc_code.specs.Lowered.{RoutineAt, body_mark};

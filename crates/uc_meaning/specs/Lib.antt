@@ -27,7 +27,6 @@ pub mod Cuts
 pub mod Texts
 pub mod Fit
 pub mod RuleNames
-pub mod Accepted
 pub mod Sorts
 pub mod Names
 pub mod Scopes
@@ -40,7 +39,6 @@ pub mod ClassBreaks
 pub mod ItemBreaks
 pub mod OwnerBreaks
 pub mod Breaks
-pub mod BuiltForms
 pub mod Firsts
 pub mod Typed
 pub mod Unbroken

@@ -4,7 +4,7 @@ ghost use Rattle.std.specs.Prelude.{◌≡◌, ◌≤◌, ◌∷◌, ◌++◌, [
 ghost use Rattle.uc_tree.specs.declared.limits.TheConstants.{INPUT_BYTES, MAKE_MAX};
 ghost use Rattle.uc_tree.specs.Resolve.{source_of};
 ghost use Rattle.uc_meaning.specs.Breaks.{breaks_of};
-ghost use Rattle.uc_meaning.specs.Accepted.{IsAccepted};
+ghost use Rattle.uc_built.specs.Accepted.{IsAccepted};
 ghost use Rattle.uc_code.specs.Pace.{IsPaced};
 ghost use Rattle.uc_code.specs.Lowered.{Lowered};
 ghost use Rattle.uc_meaning.specs.Texts.{printed};

@@ -1,4 +1,4 @@
-use Rattle.std.proofs.Common.{◌≤◌, Bool, sym, subst, arith}
+use Rattle.std.proofs.Common.{Bool, sym, subst, arith}
 use Rattle.uc_code.specs.Lowered.{CalledAt}
 use Rattle.uc_code.specs.Puts.{Puts}
 use Rattle.uc_code.proofs.Putting.{puts_more, puts_behind}

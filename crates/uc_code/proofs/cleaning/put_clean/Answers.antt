@@ -1,4 +1,4 @@
-use Rattle.std.proofs.Common.{◌≤◌, Option, Some, None, sym, subst, arith}
+use Rattle.std.proofs.Common.{Option, sym, subst, arith}
 use Rattle.uc_code.specs.declared.rows.Array.{Array}
 use Rattle.uc_code.specs.Lowered.{CleanBy}
 use Rattle.uc_code.specs.Puts.{Puts}

@@ -1,4 +1,4 @@
-use Rattle.std.proofs.Common.{◌∙◌, ◌≤◌, sym, arith}
+use Rattle.std.proofs.Common.{◌∙◌, sym, arith}
 use Rattle.uc_code.proofs.Seeing.{row_found, row_passed}
 use Rattle.uc_code.proofs.marks.row_below.Goals as goal
 

@@ -2,7 +2,7 @@ use Rattle.std.proofs.Common.{◌≡◌, ℕ, List, [], ◌∷◌, ◌++◌, ap,
 use Rattle.uc_tree.specs.Numbering.{routines_of}
 use Rattle.uc_tree.specs.Programs.{Program}
 use Rattle.uc_tree.specs.Resolve.{source_of}
-use Rattle.uc_meaning.specs.BuiltForms.{IsBuilt}
+use Rattle.uc_built.specs.BuiltForms.{IsBuilt}
 use Rattle.uc_code.proofs.Paces.{lowered_paced}
 use Rattle.uc_lower.specs.Laying.{Lays}
 use Rattle.uc_lower.specs.Refusing.{Fits}

@@ -6,7 +6,7 @@ use Rattle.uc_tree.specs.Scopes.{alone_scopes, maybe_scopes, stmt_scopes}
 use Rattle.uc_tree.specs.Statements.{If, OneStmt}
 use Rattle.uc_tree.specs.StatementSizes.{maybe_stmt_size, stmt_size}
 use Rattle.uc_tree.specs.StatementViews.{maybe_at}
-use Rattle.uc_meaning.specs.BuiltForms.{is_built_maybe, is_built_stmt}
+use Rattle.uc_built.specs.BuiltForms.{is_built_maybe, is_built_stmt}
 use Rattle.uc_lower_stmt.specs.Control.{is_declaration}
 use Rattle.uc_lower_stmt.proofs.Parting.{arm_no_other}
 use Rattle.uc_code.specs.Drafts.{Draft}

@@ -1,10 +1,6 @@
-use Rattle.uc_code.proofs.Exiting.{puts_left}
-use Rattle.uc_code.proofs.Paces.{lowered_paced}
-use Rattle.std.proofs.Common.{◌≡◌, ◌∙◌, ◌<◌, ◌≤◌, ◌+◌, ℕ, List, length, reverse, drop, Some, ap, sym, subst, arith, rules}
-use Rattle.uc_tree.specs.declared.limits.TheConstants.{PROGRAM_OPS}
+use Rattle.std.proofs.Common.{◌≡◌, ◌∙◌, ◌+◌, length, reverse, drop, Some, ap, sym, arith, rules}
 use Rattle.uc_code.specs.Drafts.{Draft}
-use Rattle.uc_code.specs.Laid.{laid_in}
-use Rattle.uc_code.specs.Open.{row_in, IsSettled, closed_rows}
+use Rattle.uc_code.specs.Open.{row_in}
 use Rattle.uc_code.proofs.Closed.{reverse_rest}
 use Rattle.uc_code.proofs.Settled.{settled_close, kept_close, handler_closed}
 use Rattle.uc_code.proofs.draft.Draft.close.Goals as goal

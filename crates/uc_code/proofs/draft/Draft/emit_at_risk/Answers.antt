@@ -1,4 +1,4 @@
-use Rattle.std.proofs.Common.{◌≡◌, ◌<◌, length, reverse, ap, sym, arith}
+use Rattle.std.proofs.Common.{◌≡◌, ◌<◌, length, reverse, ap, arith}
 use Rattle.uc_tree.specs.declared.limits.TheConstants.{PROGRAM_OPS}
 use Rattle.uc_code.specs.Drafts.{Draft}
 use Rattle.uc_code.proofs.Settled.{risk_with}

@@ -1,6 +1,4 @@
-use Rattle.std.proofs.Common.{List, reverse}
-use Rattle.uc_code.specs.Drafts.{Draft}
-use Rattle.uc_code.specs.Open.{Falling}
+use Rattle.std.proofs.Common.{reverse}
 use Rattle.uc_code.proofs.Nesting.{falls}
 use Rattle.uc_code.proofs.draft.Draft.marks.Goals as goal
 
