@@ -1,7 +1,10 @@
 pub mod Blocks
+pub mod Building
 pub mod Controlling
 pub mod Counted
 pub mod Declaring
+pub mod Ending
+pub mod Filling
 pub mod Joined
 pub mod Kept
 pub mod Opened

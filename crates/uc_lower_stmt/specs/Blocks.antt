@@ -43,6 +43,7 @@ scope_at (mark.Clean what line row) = Some (record { what = what; line = line })
 scope_at (mark.Body routine) = None
 scope_at (mark.Finish routine line) = None
 scope_at (mark.Loop leave again) = None
+scope_at (mark.Whole leave) = None
 scope_at (mark.Guard first count) = None
 scope_at (mark.Part row) = None
 scope_at (mark.Elements row) = None

@@ -105,6 +105,7 @@ fn scope_at(mark: Mark) -> Option<ObjectScope>
         Mark::Body { .. } => None,
         Mark::Finish { .. } => None,
         Mark::Loop { .. } => None,
+        Mark::Whole { .. } => None,
         Mark::Guard { .. } => None,
         Mark::Part { .. } => None,
         Mark::Elements { .. } => None,
