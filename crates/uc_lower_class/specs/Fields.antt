@@ -1,17 +1,20 @@
 -- The fields of a class, as its constructor builds them and its destructor leaves them.
-use Rattle.std.specs.Prelude.{◌≡◌, ℕ, ◌+◌, ◌*◌, ◌<◌, List, [], ◌∷◌, Option, Some, None, false, option_map, length, slice_get, if◌then◌else◌}
+use Rattle.std.specs.Prelude.{◌≡◌, ℕ, ◌+◌, ◌*◌, ◌<◌, Bool, List, [], ◌∷◌, Option, Some, None, false, option_map, length, slice_get, if◌then◌else◌}
 use Rattle.uc_tree.specs.declared.limits.TheConstants.{OPS_FOR_SIZE}
 use Rattle.uc_tree.specs.declared.kinds.Role.{Role}
-use Rattle.uc_tree.specs.Expressions.{Expr, Exprs}
+use Rattle.uc_tree.specs.Expressions as tree
 use Rattle.uc_tree.specs.ExpressionSizes.{exprs_size}
 use Rattle.uc_tree.specs.Programs.{Class, Init, Program}
 use Rattle.uc_tree.specs.Cells.{leading_cells}
 use Rattle.uc_tree.specs.Objects.{ClassField, class_at, class_shape, fields_of}
-use Rattle.uc_tree.specs.Source.{Stmts}
-use Rattle.uc_tree.specs.Resolve.{Meant, Own, Scope, field_built, field_class, field_left, field_place, field_started, fields_built, fields_left, length_in_class}
+use Rattle.uc_tree.specs.Source.{Expr, Shape, Stmts}
+use Rattle.uc_tree.specs.Resolve.{Meant, Own, Scope, converted, value_of, field_built, field_class, field_left, field_place, field_started, fields_built, fields_left, length_in_class}
 use Rattle.uc_code.specs.declared.rows.Mark.{Mark}
 use Rattle.uc_code.specs.declared.rows.Spot.TheVariants as spot
-use Rattle.uc_code.specs.Laid.{routine_in}
+use Rattle.uc_code.specs.declared.op.Op.TheVariants as op
+use Rattle.uc_code.specs.Laid.{Laid}
+use Rattle.uc_code.specs.Ranges.{Both, One}
+use Rattle.uc_code.specs.Lowered.{ExprAt}
 use Rattle.uc_lower_expr.specs.declared.fields.Field.{Field}
 use Rattle.uc_lower_expr.specs.Members.{routine_for}
 use Rattle.uc_lower_stmt.specs.Blocks.{AllStandBehind}
@@ -28,7 +31,7 @@ part_room None = 12
 part_room (Some n) = 40
 
 -- the same of a field, by the length that its declarator has
-abbrev pub room_by : Option Expr → ℕ
+abbrev pub room_by : Option tree.Expr → ℕ
 room_by None = 12
 room_by (Some e) = 40
 
@@ -54,6 +57,13 @@ left_then p c i number f rest = field_left p (field_class p f) (length_in_class 
 
 abbrev pub started_then : Program → ℕ → ℕ → ClassField → List Meant → Stmts → Stmts
 started_then p i number f args rest = field_started p f (field_place (class_shape p i) number Own) args rest
+
+-- what a reference is bound to, and the value that a scalar keeps; the code that writes it to the field that begins at this cell
+abbrev pub held_by : Bool → Shape → Meant → Expr
+held_by by_ref s m = if by_ref then m.expr else converted s (value_of m)
+
+abbrev pub StartedCode : List Mark → ℕ → Expr → Laid → ℕ → ℕ → Type 0
+StartedCode ms cell e code = Both (Both (One code (op.This cell) 0) (Both (ExprAt code 0 ms e) (One code op.Keep 0))) (One code op.Discard 0)
 
 -- all of the fields of the class with the place i
 abbrev pub all_built : Program → ℕ → List Init → Scope → Option Class → Stmts → Stmts

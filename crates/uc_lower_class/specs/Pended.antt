@@ -1,11 +1,12 @@
 -- Parts of an object under construction that are built, while what follows them is still to come.
-use Rattle.std.specs.Prelude.{◌≡◌, ℕ, ◌+◌, ◌≤◌, List, [], ◌∷◌, ◌++◌, Option, Some, None, length, reverse}
+use Rattle.std.specs.Prelude.{◌≡◌, ℕ, ◌+◌, ◌≤◌, List, [], ◌∷◌, ◌++◌, drop, length, reverse}
 use Rattle.uc_tree.specs.Source.{CleanUp, Stmt, Stmts}
 use Rattle.uc_code.specs.declared.rows.Mark.{Mark}
 use Rattle.uc_code.specs.declared.rows.Mark.TheVariants as mark
 use Rattle.uc_code.specs.declared.rows.ObjectCall.{ObjectCall}
 use Rattle.uc_code.specs.Drafts.{Draft}
-use Rattle.uc_code.specs.Laid.{Laid, laid_in}
+use Rattle.uc_code.specs.Laid.{Laid, laid_in, routine_in}
+use Rattle.uc_code.specs.Open.{StandsBehind}
 use Rattle.uc_code.specs.Ranges.{Kept}
 use Rattle.uc_code.specs.Lowered.{StmtAt, StmtsAt}
 use Rattle.uc_code.specs.ObjectCalls.{Cleans}
@@ -20,6 +21,11 @@ pub data Pended (code : Laid) (ms : List Mark) (a : ℕ) : List ObjectCall → L
   Done : (ws : List ObjectCall) (ks : List Step) (ns : List Mark) (y z : ℕ) (s : Stmt) → Pended code ms a ws ks ns y → StmtAt code ns s y z → Pended code ms a ws (Does s ∷ ks) ns z
   Parted : (ws : List ObjectCall) (ks : List Step) (ns : List Mark) (z row : ℕ) (c : CleanUp) (what : ObjectCall) → Pended code ms a ws ks ns z → Cleans c what → Pended code ms a (what ∷ ws) (Builds c ∷ ks) (mark.Part row ∷ ns) z
 
+-- these parts are those of the innermost marks
+pub data PartsIn : List ObjectCall → List Mark → Type 0 where
+  NoParts : (ms : List Mark) → PartsIn [] ms
+  MoreParts : (what : ObjectCall) (ws : List ObjectCall) (row : ℕ) (ms : List Mark) → StandsBehind ms what → PartsIn ws ms → PartsIn (what ∷ ws) (mark.Part row ∷ ms)
+
 -- the ops that end what follows these parts
 abbrev pub end_room : List ObjectCall → ℕ
 end_room [] = 0
@@ -31,6 +37,8 @@ pub record Constructs (n : ℕ) (F : Stmts → Stmts) (ws : List ObjectCall) (ol
   pub rest : new ≡ record old { ops = new.ops; rows = new.rows; settled = new.settled; marks = new.marks }
   pub kept : Kept (laid_in old) (laid_in new)
   pub room : length new.ops + end_room us ≤ length old.ops + end_room ws + n
+  pub parts : PartsIn (reverse ws) old.marks → PartsIn (reverse us) new.marks
+  pub inside : routine_in new.marks ≡ routine_in old.marks
   pub steps : List Step
   pub block : (ss : Stmts) → block_of steps ss ≡ F ss
   pub code : (ms : List Mark) (a : ℕ) (ks : List Step) → Pended (laid_in old) ms a (reverse ws) ks old.marks (length old.ops) → Pended (laid_in new) ms a (reverse us) (steps ++ ks) new.marks (length new.ops)
@@ -41,12 +49,13 @@ pub record EndsParts (ws : List ObjectCall) (old new : Draft) : Type 0 where
   pub kept : Kept (laid_in old) (laid_in new)
   pub room : length new.ops ≤ length old.ops + end_room ws
   pub block : (ms : List Mark) (a y : ℕ) (ks : List Step) (ss : Stmts) → Pended (laid_in old) ms a ws ks old.marks y → StmtsAt (laid_in old) old.marks 0 ss y (length old.ops) → StmtsAt (laid_in new) ms 0 (block_of ks ss) a (length new.ops)
-  pub marks : (ms : List Mark) (a y : ℕ) (ks : List Step) → Pended (laid_in old) ms a ws ks old.marks y → new.marks ≡ ms
+  pub marks : new.marks ≡ drop (length ws) old.marks
 
 -- the scopes of some fields are opened, of at most so many objects
 pub record Opens (n : ℕ) (F : Stmts → Stmts) (old new : Draft) : Type 0 where
   pub rest : new ≡ record old { rows = new.rows; settled = new.settled; marks = new.marks }
   pub kept : Kept (laid_in old) (laid_in new)
+  pub inside : routine_in new.marks ≡ routine_in old.marks
   pub objects : objects_in new.marks ≤ objects_in old.marks + n
   pub steps : List Step
   pub block : (ss : Stmts) → block_of steps ss ≡ F ss

@@ -12,7 +12,7 @@ ghost use Rattle.uc_tree.specs.Scopes.{stmts_scopes};
 ghost use Rattle.uc_tree.specs.Resolve.{class_by, nowhere, routine_meant, routine_scope, unwritten_meant};
 ghost use Rattle.uc_lower_expr.specs.Members.{count_fields};
 ghost use Rattle.uc_tree.specs.declared.kinds.Role.TheVariants as role;
-ghost use Rattle.uc_meaning.specs.BuiltForms.{are_built};
+ghost use Rattle.uc_built.specs.BuiltForms.{are_built};
 ghost use Rattle.uc_code.specs.Laid.{laid_in, routine_in};
 ghost use Rattle.uc_code.specs.Lowered.{RoutineAt};
 ghost use Rattle.uc_code.specs.Ranges.{Kept};

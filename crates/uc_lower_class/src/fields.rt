@@ -66,6 +66,25 @@ pub(crate) fn build_all(
     }
 }
 
+// The scopes of the fields of a class with this place are opened, in order.
+fn leave_fields(
+    at: &Class,
+    class: usize,
+    names: &ProgramNames,
+    out: &mut Draft,
+) -> Result<(), AllocError>
+    requires there { class_at names.now class ≡ Some at.now }
+    requires behind { FieldsBehind names.now class (routine_in out.old.marks) }
+    ensures { OnOk result (Opens (count_fields (Some at.now)) (all_left names.now class (Some at.now)) out.old out.new) }
+{
+    for place in 0..names.field_count(class) {
+        if let Some(field) = names.field_at(class, place) {
+            lower_left(field, names, out)?;
+        }
+    }
+    Ok(())
+}
+
 /// The scopes of the fields of the class with this place are opened, in order, in no line. After want of memory the draft is spent.
 pub(crate) fn leave_all(
     class: usize,
@@ -75,10 +94,11 @@ pub(crate) fn leave_all(
     requires { FieldsBehind names.now class (routine_in out.old.marks) }
     ensures { OnOk result (Opens (count_fields (class_at names.now class)) (all_left names.now class (class_at names.now class)) out.old out.new) }
 {
-    for place in 0..names.field_count(class) {
-        if let Some(field) = names.field_at(class, place) {
-            lower_left(field, names, out)?;
+    match names.sizes().class(class) {
+        Some(at) => {
+            leave_fields(at, class, names, out)?;
+            Ok(())
         }
+        None => Ok(()),
     }
-    Ok(())
 }

@@ -4,18 +4,20 @@ ghost use Rattle.std.specs.Prelude.{◌≡◌, ◌+◌, ◌*◌, ◌<◌, ◌≤
 ghost use Rattle.uc_tree.specs.declared.limits.TheConstants.{OPS_FOR_SIZE, PROGRAM_OPS};
 ghost use Rattle.uc_tree.specs.Cells.{classes_of};
 ghost use Rattle.uc_tree.specs.Expressions.{exprs_of};
-ghost use Rattle.uc_tree.specs.ExpressionSizes.{exprs_size};
+ghost use Rattle.uc_tree.specs.ExpressionSizes.{expr_size, exprs_size};
 ghost use Rattle.uc_tree.specs.Objects.{ClassField};
 ghost use Rattle.uc_tree.specs.Programs.{Class};
 ghost use Rattle.uc_tree.specs.Source.{Built, Expr as Place, Scoped, Then};
-ghost use Rattle.uc_tree.specs.Resolve.{args_meant, build, clean_up};
+ghost use Rattle.uc_tree.specs.Resolve.{args_meant, build, clean_up, meant};
 ghost use Rattle.uc_code.specs.declared.rows.ObjectCall.{ObjectCall as Call};
 ghost use Rattle.uc_code.specs.ObjectCalls.{BeginsAt};
+ghost use Rattle.uc_lower_expr.specs.Added.{Adds, ExprCode};
 ghost use Rattle.uc_lower_expr.specs.Contexts.{context_in};
+ghost use Rattle.uc_lower_expr.specs.Meanings.{shape_as};
 ghost use Rattle.uc_lower_expr.specs.Members.{IsFieldAt};
 ghost use Rattle.uc_lower_stmt.specs.Blocks.{AllStandBehind};
-ghost use Rattle.uc_lower_class.specs.Fields.{PartBehind, field_then, left_then, part_in, part_room, started_then};
-ghost use Rattle.uc_lower_class.specs.Pended.{Constructs, EndsParts, Opens, end_room};
+ghost use Rattle.uc_lower_class.specs.Fields.{PartBehind, StartedCode, field_then, held_by, left_then, part_in, part_room, started_then};
+ghost use Rattle.uc_lower_class.specs.Pended.{Constructs, EndsParts, Opens, PartsIn, end_room};
 
 use std::alloc::AllocError;
 use uc_code::draft::Draft;
@@ -53,30 +55,60 @@ fn part_of(field: Field) -> Option<Part>
     }
 }
 
-// A reference is bound to its argument, a scalar has the value of its; without one they stay as they are.
+// The place of its argument for a reference, the value as it is kept for a scalar.
+fn put_held(
+    field: Field,
+    value: &Expr,
+    names: &ProgramNames,
+    out: &mut Draft,
+) -> Result<(), AllocError>
+    requires { length out.old.ops + (OPS_FOR_SIZE * expr_size value.now + 1) ≤ PROGRAM_OPS }
+    ensures { OnOk result (Adds (OPS_FOR_SIZE * expr_size value.now + 1) (ExprCode 0 out.old.marks (held_by field.by_ref (shape_as field.told.scalar) (meant (context_in names.now out.old) value.now))) out.old out.new) }
+{
+    if field.by_ref {
+        let _told = lower_expr(value, 0, names, out)?;
+        Ok(())
+    } else {
+        let _told = lower_value(value, 0, names, out)?;
+        put_conversion(field.told.scalar, 0, out)?;
+        Ok(())
+    }
+}
+
+// A reference is bound to its argument, a scalar has the value of its.
+fn put_started(
+    field: Field,
+    value: &Expr,
+    names: &ProgramNames,
+    out: &mut Draft,
+) -> Result<(), AllocError>
+    requires { length out.old.ops + (OPS_FOR_SIZE * expr_size value.now + 4) ≤ PROGRAM_OPS }
+    ensures { OnOk result (Adds (OPS_FOR_SIZE * expr_size value.now + 4) (StartedCode out.old.marks field.cell (held_by field.by_ref (shape_as field.told.scalar) (meant (context_in names.now out.old) value.now))) out.old out.new) }
+{
+    put(Op::This(field.cell), 0, out)?;
+    put_held(field, value, names, out)?;
+    put(Op::Keep, 0, out)?;
+    put(Op::Discard, 0, out)?;
+    Ok(())
+}
+
+// Without an argument it stays as it is.
 fn lower_started(
     field: Field,
     args: &[Expr],
     names: &ProgramNames,
     out: &mut Draft,
 ) -> Result<(), AllocError>
-    requires { length out.old.ops + OPS_FOR_SIZE * exprs_size (exprs_of args.now) + 4 ≤ PROGRAM_OPS }
+    requires { length out.old.ops + (OPS_FOR_SIZE * exprs_size (exprs_of args.now) + 4) ≤ PROGRAM_OPS }
     ensures { OnOk result ((c : Class) (i number : ℕ) (f : ClassField) (parts : List Call) → IsFieldAt names.now c i number f field → Constructs (OPS_FOR_SIZE * exprs_size (exprs_of args.now) + 4) (started_then names.now i number f (args_meant (context_in names.now out.old) (exprs_of args.now))) parts out.old parts out.new) }
 {
-    let value = match args.first() {
-        Some(value) => value,
-        None => return Ok(()),
-    };
-    put(Op::This(field.cell), 0, out)?;
-    if field.by_ref {
-        let _told = lower_expr(value, 0, names, out)?;
-    } else {
-        let _told = lower_value(value, 0, names, out)?;
-        put_conversion(field.told.scalar, 0, out)?;
+    match args.first() {
+        Some(value) => {
+            put_started(field, value, names, out)?;
+            Ok(())
+        }
+        None => Ok(()),
     }
-    put(Op::Keep, 0, out)?;
-    put(Op::Discard, 0, out)?;
-    Ok(())
 }
 
 // An object is built, and what follows stands behind it, as a part of the object under construction.
@@ -146,7 +178,8 @@ pub(crate) fn lower_left(
 
 /// Ends what follows these parts, the last one first. After want of memory the draft is spent.
 pub(crate) fn close_parts(parts: &mut Vec<ObjectCall>, out: &mut Draft) -> Result<(), AllocError>
-    requires { length out.old.ops + end_room parts.old.items ≤ PROGRAM_OPS }
+    requires parts { PartsIn (reverse parts.old.items) out.old.marks }
+    requires room { length out.old.ops + end_room parts.old.items ≤ PROGRAM_OPS }
     ensures { OnOk result (EndsParts (reverse parts.old.items) out.old out.new) }
 {
     while let Some(what) = parts.pop() {
