@@ -10,7 +10,7 @@ use Rattle.uc_code.specs.Drafts.{Draft}
 use Rattle.uc_code.specs.Laid.{Laid, laid_in, routine_in}
 use Rattle.uc_code.specs.Ranges.{OpAt, Both, One, Risk, HandlerAt, ScopeOf, BehindPart, Kept}
 use Rattle.uc_code.specs.Lowered.{CleanAt}
-use Rattle.uc_code.specs.Open.{AllBehind, StandsBehind, handler_in, row_in, closed}
+use Rattle.uc_code.specs.Open.{StandsBehind, handler_in, row_in, closed}
 use Rattle.uc_code.specs.Puts.{Puts, place_length, called_length, clean_by, clean_length}
 use Rattle.uc_code.proofs.Stable.{kept_then, kept_piece}
 use Rattle.uc_code.proofs.Putting.{clean_is, clean_stable, marks_of}
@@ -56,11 +56,10 @@ clean_few what = clean_by_few what.array what
 
 -- under marks from which the innermost one is gone, a routine still stands further on
 
-pub behind_scope : (what : ObjectCall) (line : ℕ) (ms ns : List Mark) → InScope what line ms → AllBehind ms → ns ≡ drop 1 ms → StandsBehind ns what
-behind_scope what line ms ns h b e =
-    let a : AllBehind (mark.Clean what line h.row ∷ h.outer) = subst AllBehind h.is b in
+pub behind_scope : (what : ObjectCall) (line : ℕ) (ms ns : List Mark) → InScope what line ms → ns ≡ drop 1 ms → StandsBehind ns what
+behind_scope what line ms ns h e =
     let f : ns ≡ h.outer = e ∙ ap (λ (l : List Mark). drop 1 l) h.is in
-    subst (λ (l : List Mark). StandsBehind l what) (sym f) a.0
+    subst (λ (l : List Mark). StandsBehind l what) (sym f) h.behind
 
 pub behind_part : (what : ObjectCall) (ms ns : List Mark) → InPart ms → StandsBehind ms what → ns ≡ drop 1 ms → StandsBehind ns what
 behind_part what ms ns h b e =

@@ -7,6 +7,7 @@ pub mod Ending
 pub mod Filling
 pub mod Joined
 pub mod Kept
+pub mod Laying
 pub mod Opened
 pub mod Parting
 pub mod Printing

@@ -10,7 +10,7 @@ use Rattle.uc_code.specs.declared.rows.ObjectCall.{ObjectCall}
 use Rattle.uc_code.specs.declared.rows.Spot.{Spot}
 use Rattle.uc_code.specs.Drafts.{Draft}
 use Rattle.uc_code.specs.Laid.{Laid, laid_in}
-use Rattle.uc_code.specs.Open.{clean_room}
+use Rattle.uc_code.specs.Open.{StandsBehind, clean_room}
 use Rattle.uc_code.specs.Puts.{clean_length}
 use Rattle.uc_code.specs.Ranges.{OpAt, Both, Risk, HandlerAt, OverElements, Kept}
 use Rattle.uc_code.specs.Lowered.{CallBuilt, CallDone, CleanAt}
@@ -40,6 +40,7 @@ pub record InScope (what : ObjectCall) (line : ℕ) (ms : List Mark) : Type 0 wh
   pub row : ℕ
   pub outer : List Mark
   pub is : ms ≡ mark.Clean what line row ∷ outer
+  pub behind : StandsBehind outer what
 
 pub record InPart (ms : List Mark) : Type 0 where
   pub row : ℕ

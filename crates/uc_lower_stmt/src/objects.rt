@@ -11,7 +11,7 @@ ghost use Rattle.uc_tree.specs.Resolve.{args_meant, build, clean_up, constructed
 ghost use Rattle.uc_code.specs.Lowered.{CallBuilt, StmtAt, spot_op};
 ghost use Rattle.uc_code.specs.ObjectCalls.{BeginsAt, Cleans};
 ghost use Rattle.uc_code.specs.Open.{StandsBehind, clean_room};
-ghost use Rattle.uc_code.specs.Puts.{Puts, clean_length};
+ghost use Rattle.uc_code.specs.Puts.{Puts};
 ghost use Rattle.uc_lower_expr.specs.Added.{Adds, ExprCode};
 ghost use Rattle.uc_lower_expr.specs.Contexts.{context_in};
 ghost use Rattle.uc_lower_expr.specs.Members.{routine_for};
@@ -60,10 +60,10 @@ fn cells_of(class: usize, names: &ProgramNames) -> u32
 }
 
 // The elements of an array of objects of the class with this place, if it is one.
-fn array_of(class: usize, length: Option<u32>, names: &ProgramNames) -> Option<Array>
-    ensures { result ≡ array_by names.now class length }
+fn array_of(class: usize, elements: Option<u32>, names: &ProgramNames) -> Option<Array>
+    ensures { result ≡ array_by names.now class elements }
 {
-    match length {
+    match elements {
         Some(length) => Some(Array {
             length,
             size: cells_of(class, names),
@@ -72,15 +72,20 @@ fn array_of(class: usize, length: Option<u32>, names: &ProgramNames) -> Option<A
     }
 }
 
-/// The call that cleans up an object of the class with this place, or each element of an array of this length, which begins in a
+/// The call that cleans up an object of the class with this place, or each of so many elements of an array, which begins in a
 /// spot.
-pub fn clean_call(class: usize, spot: Spot, length: Option<u32>, names: &ProgramNames) -> ObjectCall
+pub fn clean_call(
+    class: usize,
+    spot: Spot,
+    elements: Option<u32>,
+    names: &ProgramNames,
+) -> ObjectCall
     requires { class < length (classes_of names.now.items) }
-    ensures call { result ≡ call_by (routine_for names.now class role.Destructor) spot (array_by names.now class length) }
-    ensures cleans { (place : Place) → BeginsAt place spot → Cleans (clean_up names.now class length place) result }
+    ensures call { result ≡ call_by (routine_for names.now class role.Destructor) spot (array_by names.now class elements) }
+    ensures cleans { (place : Place) → BeginsAt place spot → Cleans (clean_up names.now class elements place) result }
 {
     law_cells();
-    let array = array_of(class, length, names);
+    let array = array_of(class, elements, names);
     call_by(names.destructor_of(class), spot, array)
 }
 
@@ -127,14 +132,14 @@ fn put_built(builder: ObjectCall, line: u32, out: &mut Draft) -> Result<(), Allo
 fn put_fill(
     builder: ObjectCall,
     destroyer: ObjectCall,
-    length: u32,
+    count: u32,
     line: u32,
     out: &mut Draft,
 ) -> Result<(), AllocError>
     requires room { length out.old.ops + fill_room ≤ PROGRAM_OPS }
     requires builds { StandsBehind out.old.marks builder }
     requires destroys { StandsBehind out.old.marks destroyer }
-    ensures { OnOk result (Puts fill_room (FillCode line out.old.marks builder destroyer length) out.old out.new) }
+    ensures { OnOk result (Puts fill_room (FillCode line out.old.marks builder destroyer count) out.old out.new) }
 {
     let start = out.here();
     let test = start + 2 + done_length(builder);
@@ -143,7 +148,14 @@ fn put_fill(
     let _row = out.open(Opening::Elements)?;
     put_built(builder, line, out)?;
     let turn = start + 1;
-    put(Op::Fill { length, turn }, line, out)?;
+    put(
+        Op::Fill {
+            length: count,
+            turn,
+        },
+        line,
+        out,
+    )?;
     put(Op::Jump(entry + 2), line, out)?;
     put_done(destroyer, line, out)?;
     out.close(0);
@@ -157,19 +169,19 @@ fn put_fill(
 pub fn lower_build(
     class: usize,
     spot: Spot,
-    length: Option<u32>,
+    elements: Option<u32>,
     args: &[Expr],
     line: u32,
     names: &ProgramNames,
     out: &mut Draft,
 ) -> Result<(), AllocError>
     requires class { class < length (classes_of names.now.items) }
-    requires room { length out.old.ops + OPS_FOR_SIZE * exprs_size (exprs_of args.now) + build_room length ≤ PROGRAM_OPS }
-    requires builds { StandsBehind out.old.marks (call_by (routine_for names.now class role.Constructor) spot (array_by names.now class length)) }
-    requires destroys { StandsBehind out.old.marks (call_by (routine_for names.now class role.Destructor) spot (array_by names.now class length)) }
-    ensures { OnOk result ((place : Place) → BeginsAt place spot → Puts (OPS_FOR_SIZE * exprs_size (exprs_of args.now) + build_room length) (λ code. StmtAt code out.old.marks (build names.now line class length place (args_meant (context_in names.now out.old) (exprs_of args.now)))) out.old out.new) }
+    requires room { length out.old.ops + OPS_FOR_SIZE * exprs_size (exprs_of args.now) + build_room elements ≤ PROGRAM_OPS }
+    requires builds { StandsBehind out.old.marks (call_by (routine_for names.now class role.Constructor) spot (array_by names.now class elements)) }
+    requires destroys { StandsBehind out.old.marks (call_by (routine_for names.now class role.Destructor) spot (array_by names.now class elements)) }
+    ensures { OnOk result ((place : Place) → BeginsAt place spot → Puts (OPS_FOR_SIZE * exprs_size (exprs_of args.now) + build_room elements) (λ code. StmtAt code out.old.marks (build names.now line class elements place (args_meant (context_in names.now out.old) (exprs_of args.now)))) out.old out.new) }
 {
-    match length {
+    match elements {
         None => {
             lower_construction(class, spot, args, line, names, out)?;
             put(Op::Discard, line, out)?;
@@ -177,7 +189,7 @@ pub fn lower_build(
         }
         Some(count) => {
             law_cells();
-            let array = array_of(class, length, names);
+            let array = array_of(class, elements, names);
             let builder = call_by(names.constructor_of(class), spot, array);
             let destroyer = call_by(names.destructor_of(class), spot, array);
             put_fill(builder, destroyer, count, line, out)?;
@@ -193,9 +205,9 @@ pub fn close_scope(what: ObjectCall, line: u32, out: &mut Draft) -> Result<(), A
     requires room { length out.old.ops + (2 * clean_room + 2) ≤ PROGRAM_OPS }
     ensures { OnOk result (ClosesScope what line out.old out.new) }
 {
-    let length = clean_length(what);
-    let end = out.here() + 2 * length + 2;
-    out.close(length + 1);
+    let long = clean_length(what);
+    let end = out.here() + 2 * long + 2;
+    out.close(long + 1);
     put_clean(what, line, out)?;
     put(Op::Jump(end), line, out)?;
     put_clean(what, line, out)?;
@@ -208,7 +220,7 @@ pub fn close_scope(what: ObjectCall, line: u32, out: &mut Draft) -> Result<(), A
 pub fn close_part(what: ObjectCall, line: u32, out: &mut Draft) -> Result<(), AllocError>
     requires part { InPart out.old.marks }
     requires behind { StandsBehind out.old.marks what }
-    requires room { length out.old.ops + (clean_length what + 2) ≤ PROGRAM_OPS }
+    requires room { length out.old.ops + (clean_room + 2) ≤ PROGRAM_OPS }
     ensures { OnOk result (ClosesPart what line out.old out.new) }
 {
     let end = out.here() + clean_length(what) + 2;
