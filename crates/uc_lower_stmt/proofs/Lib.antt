@@ -1,9 +1,13 @@
 pub mod Blocks
+pub mod Building
 pub mod Controlling
 pub mod Counted
 pub mod Declaring
+pub mod Ending
+pub mod Filling
 pub mod Joined
 pub mod Kept
+pub mod Laying
 pub mod Opened
 pub mod Parting
 pub mod Printing
