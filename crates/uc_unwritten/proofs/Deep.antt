@@ -1,5 +1,5 @@
 -- Tables of heights, reckoned of one another, count one class deeper each; one that is reckoned of itself counts all.
-use Rattle.std.proofs.Common.{◌≡◌, ℕ, zero, suc, ◌+◌, ◌≤◌, ◌<◌, max, List, [], ◌∷◌, ◌++◌, Option, Some, None, length, replicate, set, length-set, refl, ap, sym, ◌∙◌, subst, arith, get_or, ◌⊎◌, inl, inr, ◌≢◌}
+use Rattle.std.proofs.Common.{◌≡◌, ℕ, zero, suc, ◌+◌, ◌≤◌, ◌<◌, List, [], ◌∷◌, ◌++◌, Option, Some, None, length, replicate, set, length-set, refl, ap, sym, ◌∙◌, subst, arith, ◌⊎◌, inl, inr, ◌≢◌}
 use Rattle.std.proofs.lemmas.Bool.{cases_eq, cases_lt}
 use Rattle.std.proofs.lemmas.List.{get_or_past, get_or_append_left, get_or_push, get_or-set_same, get_or-set_other, length-map}
 use Rattle.uc_tree.specs.declared.rows.Object.{Object}
@@ -8,7 +8,7 @@ use Rattle.uc_tree.specs.Programs.{Program}
 use Rattle.uc_tree.specs.Rows.{Row, row_at}
 use Rattle.uc_tree.specs.Constants.{constants_of}
 use Rattle.uc_tree.specs.Cells.{classes_of, rows_of, row_of}
-use Rattle.uc_tree.specs.Objects.{object_height, tallest, height_within, class_height}
+use Rattle.uc_tree.specs.Objects.{object_height, tallest, height_within}
 use Rattle.uc_sizes.proofs.Depths.{row_past, heights_few}
 use Rattle.uc_unwritten.specs.Heights.{height_at, AreBelow, AreDeep, AreNext, AreHeights}
 

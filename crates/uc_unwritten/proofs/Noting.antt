@@ -1,5 +1,5 @@
 -- Flags of classes with written routines, numbers that are noted, and the numbers of classes.
-use Rattle.std.proofs.Common.{◌≡◌, ◌≢◌, ℕ, zero, suc, ◌+◌, ◌≤◌, ◌<◌, List, [], ◌∷◌, ◌++◌, Bool, true, false, ◌&&◌, ◌||◌, Option, Some, None, if◌then◌else◌, nat_eq, nat_lt, nat_le, length, replicate, set, length-set, refl, ap, sym, subst, ◌∙◌, arith, get_or, map, is_some, unwrap_or, slice_get, ◌⊎◌, inl, inr, true≢false}
+use Rattle.std.proofs.Common.{◌≡◌, ◌≢◌, ℕ, zero, suc, ◌+◌, ◌≤◌, ◌<◌, List, [], ◌∷◌, Bool, true, false, ◌&&◌, ◌||◌, Option, Some, None, if◌then◌else◌, nat_eq, nat_lt, nat_le, length, replicate, set, length-set, refl, ap, sym, subst, ◌∙◌, arith, get_or, map, is_some, unwrap_or, slice_get, ◌⊎◌, inl, inr}
 use Rattle.std.specs.Prelude.{option_and_then, option_map}
 use Rattle.std.proofs.lemmas.Bool.{cases_eq, cases_lt, eq-eqb, ne_eqb, lt-ltb, le-ltb}
 use Rattle.std.proofs.lemmas.List.{get_or-set_same, get_or-set_other, get_or-replicate, length-replicate}
@@ -8,7 +8,7 @@ use Rattle.uc_tree.specs.declared.kinds.Role.{Role}
 use Rattle.uc_tree.specs.Names.{same_name}
 use Rattle.uc_tree.specs.Programs.{Class, Program}
 use Rattle.uc_tree.specs.Cells.{classes_of}
-use Rattle.uc_tree.specs.Numbering.{Defined, at_most, is_event, place_from, class_names, class_number}
+use Rattle.uc_tree.specs.Numbering.{Defined, at_most, is_event, place_from, class_names}
 use Rattle.uc_tree.specs.Objects.{Unwritten, class_at, has_role, number_at, number_in, place_among, role_from, same_role}
 use Rattle.uc_sizes.proofs.PlacesLemmas.{place_within}
 use Rattle.uc_unwritten.specs.Numbers.{number_by, objects_of}

@@ -1,6 +1,6 @@
-use Rattle.std.proofs.Common.{◌≡◌, replicate, subst, sym, rules, arith}
+use Rattle.std.proofs.Common.{◌≡◌, replicate, subst, rules, arith}
 use Rattle.uc_tree.specs.Cells.{rows_of}
-use Rattle.uc_unwritten.specs.Heights.{AreDeep, AreNext}
+use Rattle.uc_unwritten.specs.Heights.{AreNext}
 use Rattle.uc_unwritten.proofs.Deep.{zeros_deep, deep_below, deep_heights, deep_more}
 use Rattle.uc_unwritten.proofs.heights.deep_heights.Goals as goal
 

@@ -1,4 +1,4 @@
-use Rattle.std.proofs.Common.{◌≡◌, ◌<◌, sym, subst, ap, ◌∙◌, length, rules, refl}
+use Rattle.std.proofs.Common.{subst, rules}
 use Rattle.uc_tree.specs.Cells.{rows_of}
 use Rattle.uc_unwritten.specs.Heights.{AreNext}
 use Rattle.uc_unwritten.proofs.Deep.{settled_heights}

@@ -1,6 +1,6 @@
-use Rattle.std.proofs.Common.{◌≡◌, ap, subst, sym, ◌∙◌, map}
+use Rattle.std.proofs.Common.{◌≡◌, ap, ◌∙◌, map}
 use Rattle.uc_tree.specs.Cells.{classes_of}
-use Rattle.uc_unwritten.specs.Numbers.{number_by, objects_of}
+use Rattle.uc_unwritten.specs.Numbers.{objects_of}
 use Rattle.uc_unwritten.proofs.Noting.{numbers_are}
 use Rattle.uc_unwritten.proofs.numbers.numbers_of_classes.Goals as goal
 
