@@ -289,7 +289,7 @@ module _ (p : Program) (held : List Held) where
       let d : q + 1 + k ≡ q + suc k = omega arith in
       subst (λ m. IsNoted p (n + (one + cells_from (class_cells p) held (q + 1) k)) (get_or held m one_scalar) f v) d (subst (λ m. IsNoted p m (get_or held (q + 1 + k) one_scalar) f v) c r)
 
-  noted_long : (place cells last : ℕ) (fs : List ClassField) (vs : List Field) → AreNoted p held place cells fs vs last → length vs ≡ length fs
+  pub noted_long : (place cells last : ℕ) (fs : List ClassField) (vs : List Field) → AreNoted p held place cells fs vs last → length vs ≡ length fs
   noted_long place cells last fs vs (NoMore q n) = refl
   noted_long place cells last fs vs (OneMore q n l x y xs ys h more) = ap suc (noted_long (q + 1) _ l xs ys more)
 

@@ -25,7 +25,7 @@ found_noted [] x k name l = absurd (omega (arith, l))
 found_noted (b ∷ []) x k name l = noted_by b x k name (is_some (id_in b x)) refl
 found_noted (b ∷ c ∷ bs) x k name l = absurd (omega (arith, l))
 
-noted_long : (bs : List Block) (x : List ℕ) (k : ℕ) → length (noted_name bs x k) ≡ length bs
+pub noted_long : (bs : List Block) (x : List ℕ) (k : ℕ) → length (noted_name bs x k) ≡ length bs
 noted_long [] x k = refl
 noted_long (b ∷ bs) x k = elim (is_some (id_in b x)) as (λ t. length (if t then (b ∷ bs) else declared (b ∷ bs) x k) ≡ length (b ∷ bs)) [
   | true ↦ refl
