@@ -1,5 +1,5 @@
 -- What tables tell of the names of a program.
-use Rattle.std.proofs.Common.{◌≡◌, ℕ, zero, suc, ◌+◌, ◌≤◌, ◌<◌, List, [], ◌∷◌, ◌++◌, Bool, true, false, Option, Some, None, if◌then◌else◌, nat_eq, nat_le, length, map, get_or, refl, ap, sym, subst, ◌∙◌, arith}
+use Rattle.std.proofs.Common.{◌≡◌, ℕ, zero, suc, ◌+◌, ◌≤◌, ◌<◌, List, [], ◌∷◌, ◌++◌, Bool, true, false, Option, Some, None, if◌then◌else◌, nat_eq, nat_le, length, get_or, refl, ap, sym, subst, ◌∙◌, arith}
 use Rattle.std.proofs.lemmas.Bool.{ne_eqb}
 use Rattle.std.proofs.lemmas.Option.{slice_get-get_or}
 use Rattle.std.specs.Prelude.{slice_get, unwrap_or, option_and_then}
@@ -14,15 +14,14 @@ use Rattle.uc_tree.specs.declared.rows.Object.{Object}
 use Rattle.uc_tree.specs.Names.{same_name}
 use Rattle.uc_tree.specs.Programs.{Class, Program}
 use Rattle.uc_tree.specs.Cells.{classes_of, class_cells, object_of_kind, object_named, object_of, rows_of}
-use Rattle.uc_tree.specs.Numbering.{is_event, at_most, class_names, class_number, place_from as name_from}
-use Rattle.uc_tree.specs.Source.{Shape, Binding, Expr, shape_cells}
+use Rattle.uc_tree.specs.Numbering.{is_event, at_most, class_names, place_from as name_from}
+use Rattle.uc_tree.specs.Source.{Binding, Expr, shape_cells}
 use Rattle.uc_tree.specs.Resolve.{AsValue, result_of, scalar}
 use Rattle.uc_tree.specs.Objects.{class_at, number_in, number_at, place_from, place_of, plain_in, plain_class, shape_of, kept_shape, class_shape, base_shape, written_at, unwritten_number}
 use Rattle.uc_lower_expr.specs.declared.meaning.Meaning.{Meaning}
 use Rattle.uc_lower_expr.specs.declared.meaning.Scalar.TheVariants as scalars
 use Rattle.uc_lower_expr.specs.declared.meaning.Standing.{Standing as Told}
 use Rattle.uc_lower_expr.specs.declared.meaning.Standing.TheVariants as standing
-use Rattle.uc_lower_expr.specs.declared.numbering.ClassRoutine.{ClassRoutine}
 use Rattle.uc_lower_expr.specs.Meanings.{StandsAs, Tells, shape_as}
 use Rattle.uc_lower_expr.specs.Known.{place_among, routine_or}
 use Rattle.uc_lower_expr.specs.Members.{FitClasses, object_places, routine_by, routine_for}

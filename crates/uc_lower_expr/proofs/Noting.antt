@@ -1,5 +1,5 @@
 -- Fields that are noted one after another, and the tables of all classes.
-use Rattle.std.proofs.Common.{◌≡◌, ℕ, zero, suc, ◌+◌, ◌≤◌, ◌<◌, List, [], ◌∷◌, ◌++◌, Bool, true, false, Option, Some, None, if◌then◌else◌, take, length, map, get_or, refl, ap, sym, subst, ◌∙◌, arith}
+use Rattle.std.proofs.Common.{◌≡◌, ℕ, zero, suc, ◌+◌, ◌≤◌, ◌<◌, List, [], ◌∷◌, ◌++◌, Option, Some, None, take, length, get_or, refl, ap, sym, subst, ◌∙◌, arith}
 use Rattle.std.proofs.lemmas.List.{append-nil, append_assoc, map-append, length-append, length-map}
 use Rattle.std.specs.Prelude.{slice_get, MatchOption}
 use Rattle.std.proofs.lemmas.Option.{slice_get-get_or}
@@ -7,9 +7,9 @@ use Rattle.uc_tree.specs.declared.kinds.Base.{Base}
 use Rattle.uc_tree.specs.declared.rows.Held.{Held}
 use Rattle.uc_tree.specs.Capped.{capped}
 use Rattle.uc_tree.specs.Statements.{Declarator}
-use Rattle.uc_tree.specs.Programs.{MemberForm, Member, Class, Program}
+use Rattle.uc_tree.specs.Programs.{Member, Class, Program}
 use Rattle.uc_tree.specs.Rows.{held_cells}
-use Rattle.uc_tree.specs.Cells.{classes_of, class_cells, leading_cells}
+use Rattle.uc_tree.specs.Cells.{classes_of, class_cells}
 use Rattle.uc_tree.specs.Objects.{class_at, ClassField, declared_fields, form_fields, fields_of}
 use Rattle.uc_names.specs.Blocks.{Block}
 use Rattle.uc_sizes.specs.Places.{IsPlaces}

@@ -1,12 +1,11 @@
 -- Tables of the routines of classes, and the routines that they were made of.
-use Rattle.std.proofs.Common.{◌≡◌, ◌≢◌, ℕ, zero, suc, ◌+◌, ◌<◌, List, [], ◌∷◌, ◌++◌, Bool, true, false, not, ◌&&◌, Option, Some, None, if◌then◌else◌, nat_eq, length, refl, ap, sym, subst, ◌∙◌, arith, is_some}
+use Rattle.std.proofs.Common.{◌≡◌, ◌≢◌, ℕ, suc, ◌+◌, List, [], ◌∷◌, ◌++◌, Bool, true, false, ◌&&◌, Option, Some, None, if◌then◌else◌, nat_eq, length, refl, ap, sym, ◌∙◌, arith, is_some}
 use Rattle.std.proofs.lemmas.Bool.{eq-eqb, ne_eqb}
 use Rattle.std.specs.Prelude.{unwrap_or}
-use Rattle.uc_names.specs.Blocks.{Block, id_in, id_or, found, is_declared, declared}
+use Rattle.uc_names.specs.Blocks.{Block, id_in, id_or, found, declared}
 use Rattle.uc_tree.specs.declared.kinds.Role.{Role}
 use Rattle.uc_tree.specs.declared.kinds.Role.TheVariants as role
 use Rattle.uc_tree.specs.Names.{same_name}
-use Rattle.uc_tree.specs.Programs.{Routine}
 use Rattle.uc_tree.specs.Numbering.{Defined, is_plain}
 use Rattle.uc_tree.specs.Objects.{same_role, has_role, role_from, is_member, member_from}
 use Rattle.uc_lower_expr.specs.declared.routine_table.RoutineTable.{RoutineTable}

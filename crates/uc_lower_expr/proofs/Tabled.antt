@@ -1,5 +1,5 @@
 -- Tables of the routines of classes, as routine after routine is noted in them.
-use Rattle.std.proofs.Common.{◌≡◌, ◌≢◌, Bor, ℕ, zero, suc, ◌+◌, ◌≤◌, ◌<◌, List, [], ◌∷◌, ◌++◌, Option, Some, None, take, length, map, refl, ap, sym, subst, ◌∙◌, arith}
+use Rattle.std.proofs.Common.{◌≡◌, ◌≢◌, Bor, ℕ, zero, suc, ◌+◌, ◌<◌, List, [], ◌∷◌, ◌++◌, Option, Some, None, take, length, map, refl, ap, sym, subst, ◌∙◌, arith}
 use Rattle.std.proofs.lemmas.List.{length-append, length-map, take_all}
 use Rattle.std.specs.Prelude.{slice_get, slice_set, MatchOption, option_map}
 use Rattle.std.proofs.lemmas.Option.{slice_get-map}
@@ -16,7 +16,7 @@ use Rattle.uc_lower_expr.specs.Members.{AreByNumber, AreRoutines}
 use Rattle.uc_lower_expr.specs.Numbered.{AreAmong, number_of_class}
 use Rattle.uc_lower_expr.specs.Routed.{NoteOne, noted_in, routed}
 use Rattle.uc_lower_expr.proofs.Knowing.{number_here, number_few}
-use Rattle.uc_lower_expr.proofs.Noting.{last_of, past, beyond, within}
+use Rattle.uc_lower_expr.proofs.Noting.{last_of, past, beyond}
 use Rattle.uc_lower_expr.proofs.Owned.{routines_in, owners_in, IsNext, next_is}
 use Rattle.uc_lower_expr.proofs.Routing.{own_routine, other_routine, noted_long}
 

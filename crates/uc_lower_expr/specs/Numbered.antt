@@ -1,5 +1,5 @@
 -- The routines of a program by their numbers, and what names stand for outside of routines.
-use Rattle.std.specs.Prelude.{◌≡◌, ℕ, List, Bool, ◌&&◌, Option, Some, length, map, unwrap_or, nat_eq, slice_get}
+use Rattle.std.specs.Prelude.{◌≡◌, ℕ, List, Bool, ◌&&◌, Some, length, map, unwrap_or, nat_eq, slice_get}
 use Rattle.uc_names.specs.Blocks.{Block, found}
 use Rattle.uc_tree.specs.declared.kinds.Role.TheVariants as role
 use Rattle.uc_tree.specs.Programs.{Sig, Constant, Class, Program}

@@ -1,4 +1,4 @@
-use Rattle.std.proofs.Common.{rules, ◌≡◌, ◌+◌, ◌++◌, ◌∷◌, [], ℕ, List, length, get_or, refl, ap, sym, subst, ◌∙◌, arith}
+use Rattle.std.proofs.Common.{rules, ◌≡◌, ◌+◌, ◌++◌, ◌∷◌, [], length, get_or, refl, ap, sym, subst, ◌∙◌}
 use Rattle.uc_tree.specs.declared.rows.Held.{Held}
 use Rattle.uc_tree.specs.Capped.{capped}
 use Rattle.uc_tree.specs.Cells.{class_cells}

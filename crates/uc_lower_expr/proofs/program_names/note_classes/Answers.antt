@@ -1,8 +1,8 @@
-use Rattle.std.proofs.Common.{rules, ◌≡◌, ◌<◌, ◌+◌, ◌++◌, ◌∷◌, [], Some, length, take, ap, sym, subst, ◌∙◌, arith}
+use Rattle.std.proofs.Common.{◌≡◌, ◌+◌, ◌++◌, ◌∷◌, [], Some, ap, sym, subst, ◌∙◌}
 use Rattle.uc_tree.specs.Cells.{classes_of}
 use Rattle.uc_tree.specs.Objects.{class_at}
 use Rattle.uc_lower_expr.specs.Members.{object_places}
-use Rattle.uc_lower_expr.proofs.Noting.{AreFirst, first_more, objects_more, past}
+use Rattle.uc_lower_expr.proofs.Noting.{AreFirst, first_more, objects_more}
 use Rattle.uc_lower_expr.proofs.program_names.note_classes.Goals as goal
 
 pub loop-place-preserved : goal.loop-place-preserved

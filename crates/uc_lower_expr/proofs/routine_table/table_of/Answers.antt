@@ -1,4 +1,4 @@
-use Rattle.std.proofs.Common.{◌≡◌, Some, ap}
+use Rattle.std.proofs.Common.{◌≡◌, Some}
 use Rattle.std.specs.Prelude.{slice_get}
 use Rattle.uc_lower_expr.proofs.Noting.{beyond, got}
 use Rattle.uc_lower_expr.proofs.Tabled.{no_table, table_told}

@@ -1,4 +1,4 @@
-use Rattle.std.proofs.Common.{◌≡◌, ◌+◌, List, Bor, length, map, ap, sym, ◌∙◌, rules, arith}
+use Rattle.std.proofs.Common.{◌≡◌, Bor, length, map, ap, sym, ◌∙◌, rules, arith}
 use Rattle.std.proofs.lemmas.List.{length-map}
 use Rattle.uc_tree.specs.declared.class.Routine.{Routine as Held}
 use Rattle.uc_tree.specs.Programs.{Routine}
