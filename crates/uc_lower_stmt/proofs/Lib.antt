@@ -5,10 +5,14 @@ pub mod Counted
 pub mod Declaring
 pub mod Ending
 pub mod Filling
+pub mod Fors
+pub mod Growth
 pub mod Joined
 pub mod Kept
 pub mod Laying
+pub mod Listing
 pub mod Opened
+pub mod Openings
 pub mod Parting
 pub mod Printing
 pub mod Routines
