@@ -1,22 +1,20 @@
 -- What names of members stand for, and their code.
-use Rattle.std.proofs.Common.{◌≡◌, ℕ, ◌+◌, ◌≤◌, pos, List, Bool, true, false, Option, Some, None, Ok, Err, length, refl, ap, sym, subst, ◌∙◌, arith}
+use Rattle.std.proofs.Common.{◌≡◌, ℕ, ◌≤◌, pos, List, Bool, true, false, Option, Some, None, Ok, Err, length, refl, ap, sym, subst, ◌∙◌, arith}
 use Rattle.std.specs.Prelude.{Result, OnOk, IfOk, if◌then◌else◌}
 use Rattle.uc_tree.specs.declared.limits.TheConstants.{OPS_FOR_SIZE}
 use Rattle.uc_tree.specs.declared.kinds.Ty.{Ty}
 use Rattle.uc_tree.specs.declared.kinds.Known.{Known}
 use Rattle.uc_tree.specs.Names.{same_name}
 use Rattle.uc_tree.specs.Programs.{Class, Constant, Program}
-use Rattle.uc_tree.specs.Cells.{leading_cells}
-use Rattle.uc_tree.specs.Numbering.{routines_of}
 use Rattle.uc_tree.specs.Source.{Shape, Expr, Literal, field_cells}
-use Rattle.uc_tree.specs.Objects.{class_at, fields_of, class_shape, number_at, place_of, plain_class, member_from}
-use Rattle.uc_tree.specs.Resolve.{Meant, Standing, AtVariable, AtField, AtPlace, AsValue, AsInput, AsFail, AsRoutine, AsMember, AsNothing, no_meaning, NumberedField, field_named, field_type, Whose, Own, Of, field_by_ref, field_found, method_by, member_by, member_in, member_meant, meant_or, own_meant, item_meant, constant_meant_by, routine_meant_by, name_meant, object_member, place_member, field_by, field_meant, fail_name, bool_type, result_of, scalar}
+use Rattle.uc_tree.specs.Objects.{class_at, class_shape, place_of}
+use Rattle.uc_tree.specs.Resolve.{Meant, Standing, AtPlace, AsValue, AsInput, AsFail, no_meaning, NumberedField, field_type, Whose, Own, Of, field_by_ref, field_found, method_by, member_by, member_in, member_meant, meant_or, own_meant, item_meant, constant_meant_by, routine_meant_by, name_meant, object_member, place_member, field_by, field_meant, fail_name, bool_type, result_of, scalar}
 use Rattle.uc_code.specs.declared.op.Op.{Op}
 use Rattle.uc_code.specs.declared.op.Op.TheVariants as op
 use Rattle.uc_code.specs.declared.rows.Mark.{Mark}
 use Rattle.uc_code.specs.Drafts.{Draft}
 use Rattle.uc_code.specs.Laid.{Laid}
-use Rattle.uc_code.specs.Ranges.{One, Both}
+use Rattle.uc_code.specs.Ranges.{One}
 use Rattle.uc_code.specs.Lowered.{ExprAt}
 use Rattle.uc_code.proofs.Stable.{one_stable}
 use Rattle.uc_lower_expr.specs.declared.meaning.Scalar.TheVariants as shape
@@ -31,7 +29,7 @@ use Rattle.uc_lower_expr.specs.Members.{IsFieldAt, IsField, no_field, member_at}
 use Rattle.uc_lower_expr.specs.Added.{Adds, ExprCode, Grows, OpCode}
 use Rattle.uc_lower_expr.specs.Parts.{FieldCode, Restarts, own_place_op, own_standing, input_told}
 use Rattle.uc_lower_expr.proofs.Adding.{adds_as, adds_more, adds_both}
-use Rattle.uc_lower_expr.proofs.Growing.{grows_as, grows_adds, grows_restart, grows_none}
+use Rattle.uc_lower_expr.proofs.Growing.{grows_adds, grows_restart}
 use Rattle.uc_lower_expr.proofs.Arms.{stands}
 use Rattle.uc_lower_expr.proofs.Walks.{put_for_nothing}
 
