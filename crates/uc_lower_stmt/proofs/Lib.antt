@@ -1,5 +1,6 @@
 pub mod Blocks
 pub mod Building
+pub mod Choosing
 pub mod Controlling
 pub mod Counted
 pub mod Declaring
