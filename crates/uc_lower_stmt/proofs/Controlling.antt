@@ -112,25 +112,3 @@ module _ (p : Program) (line : ℕ) (test : tree.Expr) (chosen : Stmt) (other : 
       let three = both two (one_stable (op.Jump 0) line) in
       let all = lowers_join three (lowers_put two (lowers_join one (lowers_put (expr_stable line ms value) (lowers_adds 0 0 a) b) first) c) second in
       lowers_as (lowers_done all (f ∙ ap (λ (l : List Instruction). let d : Draft = record e5 { ops = l } in d) (sym is)) whole) refl (λ code x z w. w) (omega arith) (omega arith) (omega arith) (omega arith)
-
--- a `for`: what it begins with and its loop, in a scope
-
-loop_as : (p : Program) (line : ℕ) (t : Turning) (test step : Option tree.Expr) (body : Stmt) (ms : List Mark) (s : Scope) (old new : Draft) → old.marks ≡ ms → scope_of old ≡ s → turning_order t ≡ order_of p test → turning_test p s t ≡ test_of p s test → LowersLoop p line t step body old new
-    → Lowers (OPS_FOR_SIZE * (1 + turning_size t + maybe_expr_size step + stmt_size body)) (stmt_size body) (stmt_cells body (declared_cells p)) (alone_scopes body + stmt_scopes body) (λ code. StmtAt code ms (loop_meant p line (order_of p test) (test_of p s test) step body s)) (scope_past p body s) old new
-loop_as p line t test step body ms s old new e f o q h =
-    subst (λ (x : Expr). Lowers (OPS_FOR_SIZE * (1 + turning_size t + maybe_expr_size step + stmt_size body)) (stmt_size body) (stmt_cells body (declared_cells p)) (alone_scopes body + stmt_scopes body) (λ code. StmtAt code ms (loop_meant p line (order_of p test) x step body s)) (scope_past p body s) old new) q (
-    subst (λ (x : Order). Lowers (OPS_FOR_SIZE * (1 + turning_size t + maybe_expr_size step + stmt_size body)) (stmt_size body) (stmt_cells body (declared_cells p)) (alone_scopes body + stmt_scopes body) (λ code. StmtAt code ms (loop_meant p line x (turning_test p s t) step body s)) (scope_past p body s) old new) o (
-    subst (λ (u : Scope). Lowers (OPS_FOR_SIZE * (1 + turning_size t + maybe_expr_size step + stmt_size body)) (stmt_size body) (stmt_cells body (declared_cells p)) (alone_scopes body + stmt_scopes body) (λ code. StmtAt code ms (loop_meant p line (turning_order t) (turning_test p u t) step body u)) (scope_past p body u) old new) f (
-    subst (λ (ns : List Mark). Lowers (OPS_FOR_SIZE * (1 + turning_size t + maybe_expr_size step + stmt_size body)) (stmt_size body) (stmt_cells body (declared_cells p)) (alone_scopes body + stmt_scopes body) (λ code. StmtAt code ns (loop_meant p line (turning_order t) (turning_test p (scope_of old) t) step body (scope_of old))) (scope_past p body (scope_of old)) old new) e h)))
-
-pub arm_for : (p : Program) (line : ℕ) (start : ForStart) (test step : Option tree.Expr) (body : Stmt) (t : Turning) (out : Outside) (old d1 d2 d3 new : Draft) → out ≡ record { names = length old.names; scope = old.place.scope } → d1 ≡ opened old
-    → LowersStart p line start d1 d2 → turning_order t ≡ order_of p test → ((s : Scope) → turning_test p s t ≡ test_of p s test) → turning_size t ≡ maybe_expr_size test → LowersLoop p line t step body d2 d3
-    → new ≡ record d3 { place = record d3.place { scope = out.scope }; names = take out.names d3.names } → LowersFor p line start test step body old new
-arm_for p line start test step body t out old d1 d2 d3 new oe e1 h o q z k e2 =
-    let s : Scope = scope_of old in
-    let fs : Scope = for_scope p start s in
-    let h1 : LowersStart p line start (opened old) d2 = subst (λ (d : Draft). LowersStart p line start d d2) e1 h in
-    let marks : d2.marks ≡ old.marks = ap (λ (d : Draft). d.marks) h1.rest in
-    let k1 = loop_as p line t test step body old.marks fs d2 d3 marks h1.scope o (q fs) k in
-    let r = for_added p start s in
-    lowers_as (lowers_scoped out new oe (taken old.names fs.names r.0 r.1) (lowers_join (stmt_stable old.marks (start_of p line start s)) h1 k1) e2) refl (λ code x y w. w) (omega (arith, z)) (omega arith) (omega arith) (omega arith)
