@@ -21,7 +21,7 @@ use Rattle.uc_lower_expr.proofs.Settled.{expr_stable}
 use Rattle.uc_lower_expr.proofs.Walks.{some_size}
 use Rattle.uc_lower_stmt.specs.declared.turning.Turning.{Turning}
 use Rattle.uc_lower_stmt.specs.declared.turning.Turning.TheVariants as turning
-use Rattle.uc_lower_stmt.specs.Control.{StepCode, BackCode, LowersMaybe, LowersStart, turning_size}
+use Rattle.uc_lower_stmt.specs.Control.{StepCode, BackCode, LowersMaybe, turning_size}
 use Rattle.uc_lower_stmt.specs.Pieces.{VariablesCode}
 use Rattle.uc_lower_stmt.specs.Scoped.{Lowers, scope_of}
 use Rattle.uc_lower_stmt.proofs.Joined.{lowers_adds, lowers_as, lowers_nothing}
