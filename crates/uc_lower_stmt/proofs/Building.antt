@@ -31,7 +31,7 @@ use Rattle.uc_lower_expr.specs.Added.{Adds, ExprCode, ArgumentsCode, OpCode, Ris
 use Rattle.uc_lower_expr.proofs.Adding.{adds_as, adds_both, adds_more}
 use Rattle.uc_lower_expr.proofs.Settled.{args_stable, expr_stable}
 use Rattle.uc_lower_stmt.specs.Objects.{FillCode, array_by, build_room, call_by}
-use Rattle.uc_lower_stmt.proofs.Ending.{puts_adds}
+use Rattle.uc_lower_stmt.proofs.Joined.{puts_adds}
 
 -- cells that are not capped
 pub cells_kept : (n x : ℕ) → x ≡ capped n → n ≤ CLASS_CELLS → x ≡ n
