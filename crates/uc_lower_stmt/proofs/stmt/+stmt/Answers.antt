@@ -1,4 +1,4 @@
-use Rattle.std.proofs.Common.{◌≡◌, ◌+◌, ℕ, Bor, None, length, subst, ap, sym, refl, rules, arith, ◌∙◌}
+use Rattle.std.proofs.Common.{◌≡◌, ◌+◌, ℕ, List, Bor, None, length, subst, ap, sym, refl, rules, arith, ◌∙◌}
 use Rattle.uc_tree.specs.Expressions as tree
 use Rattle.std.proofs.lemmas.Bool.{and_parts}
 use Rattle.uc_tree.specs.Cells.{declared_cells, maybe_cells, stmt_cells}
@@ -9,6 +9,7 @@ use Rattle.uc_tree.specs.StatementViews.{maybe_at}
 use Rattle.uc_built.specs.BuiltForms.{is_built_maybe, is_built_stmt}
 use Rattle.uc_lower_stmt.specs.Control.{is_declaration}
 use Rattle.uc_lower_stmt.proofs.Parting.{arm_no_other}
+use Rattle.uc_code.specs.declared.rows.Mark.{Mark}
 use Rattle.uc_code.specs.Drafts.{Draft}
 use Rattle.uc_lower_stmt.proofs.Stating.{stmt_is, arm_empty, arm_unasked, arm_evaluate, arm_declare, arm_print, arm_print_together, arm_read, arm_block, arm_if, arm_while, arm_do, arm_for_stmt, arm_break, arm_continue, arm_return, built_at, sizes_at_item}
 use Rattle.uc_lower_stmt.proofs.Scoping.{arm_alone_scoped}
@@ -17,7 +18,7 @@ use Rattle.uc_tree.specs.Exits.{for_declares}
 use Rattle.uc_tree.specs.Sizes.{size_at}
 use Rattle.uc_tree.specs.StatementForms.{stmt_at}
 use Rattle.uc_code.specs.Laid.{routine_in}
-use Rattle.uc_lower_stmt.specs.Control.{DeclaresObjects}
+use Rattle.uc_lower_stmt.specs.Control.{DeclaresObjects, maybe_at_size}
 use Rattle.uc_lower_stmt.specs.Marked.{objects_in, taken}
 use Rattle.uc_lower_stmt.proofs.Choosing.{arm_choice}
 use Rattle.uc_lower_stmt.proofs.Fors.{arm_for, loop_room}
@@ -145,10 +146,14 @@ lower_if-lower_alone-requires t c =
     let b = c.in_ok-put.ensures in
     let ar = a.room in
     let br = b.room in
+    let ms : c.put.new.out.marks ≡ c.args.out.now.marks = ap (λ (d : Draft). d.marks) b.rest ∙ ap (λ (d : Draft). d.marks) a.rest in
+    let inside = ap routine_in ms in
+    let objects = ap objects_in ms in
+    let size = ap (λ (l : List Mark). size_at c.args.chosen.now (objects_in l)) ms in
     let cells = ap (λ (d : Draft). d.cells) b.rest ∙ ap (λ (d : Draft). d.cells) a.rest in
     let scopes = ap (λ (d : Draft). d.scopes) b.rest ∙ ap (λ (d : Draft). d.scopes) a.rest in
     let texts = ap (λ (d : Draft). d.texts) b.rest ∙ ap (λ (d : Draft). d.texts) a.rest in
-    (search rules, (c.requires.built, (omega (arith, ar, br), (omega (arith, cells), (omega (arith, scopes), omega (arith, texts))))))
+    (search rules, (c.requires.built, (omega (arith, inside, c.requires.inside), (omega (arith, ar, br, objects, size, c.requires.room), (omega (arith, cells, c.requires.cells), (omega (arith, scopes, c.requires.scopes), omega (arith, texts, c.requires.texts)))))))
 
 pub lower_if-lower_maybe-requires : goal.lower_if-lower_maybe-requires
 lower_if-lower_maybe-requires t c =
@@ -163,13 +168,19 @@ lower_if-lower_maybe-requires t c =
     let hc = h.cells in
     let hs = h.opened in
     let ht = h.texts in
+    let ms : c.put.new.out.marks ≡ c.args.out.now.marks = ap (λ (d : Draft). d.marks) b.rest ∙ ap (λ (d : Draft). d.marks) a.rest in
+    let ns : c.put-2.new.out.marks ≡ c.args.out.now.marks = ap (λ (d : Draft). d.marks) k.rest ∙ ap (λ (d : Draft). d.marks) h.rest ∙ ms in
+    let inside = ap routine_in ns in
+    let objects = ap objects_in ns in
+    let size = ap (λ (l : List Mark). size_at c.args.chosen.now (objects_in l)) ms in
+    let other = ap (λ (l : List Mark). maybe_at_size (maybe_at c.args.other.now) (objects_in l)) ns in
     let cells = ap (λ (d : Draft). d.cells) b.rest ∙ ap (λ (d : Draft). d.cells) a.rest in
     let scopes = ap (λ (d : Draft). d.scopes) b.rest ∙ ap (λ (d : Draft). d.scopes) a.rest in
     let texts = ap (λ (d : Draft). d.texts) b.rest ∙ ap (λ (d : Draft). d.texts) a.rest in
     let cells_then = ap (λ (d : Draft). d.cells) k.rest in
     let scopes_then = ap (λ (d : Draft). d.scopes) k.rest in
     let texts_then = ap (λ (d : Draft). d.texts) k.rest in
-    (search rules, (c.requires.other_built, (omega (arith, ar, br, hr, kr), (omega (arith, cells, hc, cells_then), (omega (arith, scopes, hs, scopes_then), omega (arith, texts, ht, texts_then))))))
+    (search rules, (c.requires.other_built, (omega (arith, inside, c.requires.inside), (omega (arith, ar, br, hr, kr, objects, size, other, c.requires.room), (omega (arith, cells, hc, cells_then, c.requires.cells), (omega (arith, scopes, hs, scopes_then, c.requires.scopes), omega (arith, texts, ht, texts_then, c.requires.texts)))))))
 
 pub lower_if-returns : goal.lower_if-returns
 lower_if-returns t c =
@@ -179,11 +190,38 @@ pub lower_loop-lower_alone-requires : goal.lower_loop-lower_alone-requires
 lower_loop-lower_alone-requires t c =
     let a = c.in_ok-begin_loop.ensures in
     let ar = a.room in
-    let cells = ap (λ (d : Draft). d.cells) c.in_ok-enter_loop.ensures.ok ∙ ap (λ (d : Draft). d.cells) a.rest in
-    let scopes = ap (λ (d : Draft). d.scopes) c.in_ok-enter_loop.ensures.ok ∙ ap (λ (d : Draft). d.scopes) a.rest in
-    let texts = ap (λ (d : Draft). d.texts) c.in_ok-enter_loop.ensures.ok ∙ ap (λ (d : Draft). d.texts) a.rest in
-    let ops = ap (λ (d : Draft). length d.ops) c.in_ok-enter_loop.ensures.ok in
-    (search rules, (c.requires.built, (omega (arith, ar, ops), (omega (arith, cells), (omega (arith, scopes), omega (arith, texts))))))
+    let en = c.in_ok-enter_loop.ensures.ok in
+    let inside = ap (λ (d : Draft). routine_in d.marks) en ∙ ap (λ (d : Draft). routine_in d.marks) a.rest in
+    let objects = ap (λ (d : Draft). objects_in d.marks) en ∙ ap (λ (d : Draft). objects_in d.marks) a.rest in
+    let size = ap (λ (d : Draft). size_at c.args.body.now (objects_in d.marks)) en ∙ ap (λ (d : Draft). size_at c.args.body.now (objects_in d.marks)) a.rest in
+    let cells = ap (λ (d : Draft). d.cells) en ∙ ap (λ (d : Draft). d.cells) a.rest in
+    let scopes = ap (λ (d : Draft). d.scopes) en ∙ ap (λ (d : Draft). d.scopes) a.rest in
+    let texts = ap (λ (d : Draft). d.texts) en ∙ ap (λ (d : Draft). d.texts) a.rest in
+    let ops = ap (λ (d : Draft). length d.ops) en in
+    (search rules, (c.requires.built, (omega (arith, inside, c.requires.inside), (omega (arith, ar, ops, objects, size, c.requires.room), (omega (arith, cells, c.requires.cells), (omega (arith, scopes, c.requires.scopes), omega (arith, texts, c.requires.texts)))))))
+
+pub lower_loop-lower_step-requires : goal.lower_loop-lower_step-requires
+lower_loop-lower_step-requires t c =
+    let a = c.in_ok-begin_loop.ensures in
+    let en = c.in_ok-enter_loop.ensures.ok in
+    let ar = a.room in
+    let hr = c.in_ok-lower_alone.ensures.room in
+    let size = ap (λ (d : Draft). size_at c.args.body.now (objects_in d.marks)) en ∙ ap (λ (d : Draft). size_at c.args.body.now (objects_in d.marks)) a.rest in
+    let ops = ap (λ (d : Draft). length d.ops) en in
+    let left = ap (λ (d : Draft). length d.ops) c.leave.ensures in
+    omega (arith, ar, hr, size, ops, left, c.requires.room)
+
+pub lower_loop-lower_back-requires : goal.lower_loop-lower_back-requires
+lower_loop-lower_back-requires t c =
+    let a = c.in_ok-begin_loop.ensures in
+    let en = c.in_ok-enter_loop.ensures.ok in
+    let ar = a.room in
+    let hr = c.in_ok-lower_alone.ensures.room in
+    let kr = c.in_ok-lower_step.ensures.room in
+    let size = ap (λ (d : Draft). size_at c.args.body.now (objects_in d.marks)) en ∙ ap (λ (d : Draft). size_at c.args.body.now (objects_in d.marks)) a.rest in
+    let ops = ap (λ (d : Draft). length d.ops) en in
+    let left = ap (λ (d : Draft). length d.ops) c.leave.ensures in
+    omega (arith, ar, hr, kr, size, ops, left, c.requires.room)
 
 pub lower_loop-returns : goal.lower_loop-returns
 lower_loop-returns t c =
