@@ -31,6 +31,13 @@ pub declare_variable-requires-clause-cells : goal.declare_variable-requires-clau
 declare_variable-requires-clause-cells c =
     uncapped _ _ (c.cells_of_variable-cells.ensures ∙ ap (λ (p : Program). capped (declared_cells p c.args.base.now c.args.declarator.now)) c.sizes.ensures) (omega arith)
 
+pub declare_variable-requires-clause-room : goal.declare_variable-requires-clause-room
+declare_variable-requires-clause-room c =
+    let cells = uncapped _ _ (c.cells_of_variable-cells.ensures ∙ ap (λ (p : Program). capped (declared_cells p c.args.base.now c.args.declarator.now)) c.sizes.ensures) (omega arith) in
+    let built = c.in_ok-lower_build.ensures (Variable c.cells-cell.result) (InFrame c.cells-cell.result) in
+    let same = ap (λ (d : Draft). d.cells) c.in_ok-_row.ensures.ok ∙ (ap (λ (d : Draft). d.cells) built.rest ∙ ap (λ (d : Draft). d.cells) c.in_ok-put.ensures.rest) in
+    omega (arith, cells, same, c.requires.cells)
+
 pub returns : goal.returns
 returns c =
     let same = c.declarator.view_is in

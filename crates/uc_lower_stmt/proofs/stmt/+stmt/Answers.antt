@@ -51,7 +51,7 @@ pub lower_stmts-loop-s-preserved : goal.lower_stmts-loop-s-preserved
 lower_stmts-loop-s-preserved t c = list_step c.args.names.now c.args.line c.args.stmts.now c.loop-s.s-index c.s-item.result _ _ c.loop-s-test.true c.s-item.is c.loop-s.invariant _ c.in_ok-lower_next.ensures
 
 pub lower_stmts-returns : goal.lower_stmts-returns
-lower_stmts-returns t c = list_ended c.args.names.now c.args.line c.len-depth.result c.loop-s.s-index c.args.stmts.now _ _ _ (marks_count c.marks.result.now _ _ (search rules) c.marks.ensures.marks) c.loop-s-test.false c.loop-s.invariant c.in_ok-close_scopes.ensures
+lower_stmts-returns t c = list_ended c.args.names.now c.args.line (length c.marks-depth.result.now) c.loop-s.s-index c.args.stmts.now _ _ _ (marks_count c.marks-depth.result.now _ _ refl c.marks-depth.ensures.marks) c.loop-s-test.false c.loop-s.invariant c.in_ok-close_scopes.ensures
 
 pub lower_next-returns-in_ok-lower_objects-in-Some : goal.lower_next-returns-in_ok-lower_objects-in-Some
 lower_next-returns-in_ok-lower_objects-in-Some t c =
@@ -250,7 +250,7 @@ lower_for-lower_loop-requires t c =
 
 pub lower_for-returns : goal.lower_for-returns
 lower_for-returns t c =
-    arm_for c.args.names.now c.args.line c.len-depth.result c.args.start.now c.args.test.now c.args.step.now c.args.body.now c.turning_of.result _ _ _ _ _ _ _ c.open_scope-outside.ensures.outside c.open_scope-outside.ensures.opened (marks_count c.marks.result.now _ _ (search rules) c.marks.ensures.marks) c.in_ok-lower_start.ensures (c.turning_of.ensures.order c.args.names.now) (c.turning_of.ensures.test c.args.names.now) c.turning_of.ensures.size c.in_ok-lower_loop.ensures c.in_ok-close_scopes.ensures c.leave_scope.ensures
+    arm_for c.args.names.now c.args.line (length c.marks-depth.result.now) c.args.start.now c.args.test.now c.args.step.now c.args.body.now c.turning_of.result _ _ _ _ _ _ _ c.open_scope-outside.ensures.outside c.open_scope-outside.ensures.opened (marks_count c.marks-depth.result.now _ _ refl c.marks-depth.ensures.marks) c.in_ok-lower_start.ensures (c.turning_of.ensures.order c.args.names.now) (c.turning_of.ensures.test c.args.names.now) c.turning_of.ensures.size c.in_ok-lower_loop.ensures c.in_ok-close_scopes.ensures c.leave_scope.ensures
 
 pub lower_maybe-returns-in-None : goal.lower_maybe-returns-in-None
 lower_maybe-returns-in-None t c = arm_no_other c.args.names.now _ _ (ap maybe_at c.in-None.is)

@@ -1,4 +1,4 @@
-use Rattle.std.proofs.Common.{◌≡◌, ◌+◌, ◌*◌, Some, None, arith, rules, ap, sym, ◌∙◌}
+use Rattle.std.proofs.Common.{◌≡◌, Some, None, length, refl, ap, sym, ◌∙◌}
 use Rattle.uc_tree.specs.Objects.{plain_class}
 use Rattle.uc_tree.specs.Programs.{Program}
 use Rattle.uc_lower_expr.proofs.Knowing.{plain_within}
@@ -14,8 +14,8 @@ lower_objects-requires-clause-behind c = all_behind c.args.names.now c.in-Some.c
 
 pub returns-in_ok-close_scopes-in-Some : goal.returns-in_ok-close_scopes-in-Some
 returns-in_ok-close_scopes-in-Some c =
-    alone_objects c.args.names.now c.args.line c.args.base.now c.args.declarators.now c.in-Some.class c.len-depth-in-Some.result c.args.out.now _ _ (sym (c.plain_class.ensures ∙ ap (λ (p : Program). plain_class p c.args.base.now) c.sizes.ensures) ∙ c.in-Some.is)
-    (marks_count c.marks-in-Some.result.now _ _ (search rules) c.marks-in-Some.ensures.marks) c.in_ok-lower_objects-in-Some.ensures c.in_ok-close_scopes-in-Some.ensures
+    alone_objects c.args.names.now c.args.line c.args.base.now c.args.declarators.now c.in-Some.class (length c.marks-depth.result.now) c.args.out.now _ _ (sym (c.plain_class.ensures ∙ ap (λ (p : Program). plain_class p c.args.base.now) c.sizes.ensures) ∙ c.in-Some.is)
+    (marks_count c.marks-depth.result.now _ _ refl c.marks-depth.ensures.marks) c.in_ok-lower_objects-in-Some.ensures c.in_ok-close_scopes-in-Some.ensures
 
 pub returns-in_ok-lower_declarators-in-None : goal.returns-in_ok-lower_declarators-in-None
 returns-in_ok-lower_declarators-in-None c =
