@@ -31,7 +31,7 @@ use Rattle.uc_lower_expr.specs.Added.{Adds, ExprCode, ArgumentsCode, OpCode, Ris
 use Rattle.uc_lower_expr.proofs.Adding.{adds_as, adds_both, adds_more}
 use Rattle.uc_lower_expr.proofs.Settled.{args_stable, expr_stable}
 use Rattle.uc_lower_stmt.specs.Objects.{FillCode, array_by, build_room, call_by}
-use Rattle.uc_lower_stmt.proofs.Ending.{puts_adds}
+use Rattle.uc_lower_stmt.proofs.Joined.{puts_adds}
 
 -- cells that are not capped
 pub cells_kept : (n x : ℕ) → x ≡ capped n → n ≤ CLASS_CELLS → x ≡ n
@@ -115,13 +115,12 @@ module _ (p : Program) (i : ℕ) where
       subst (λ (o : Option ℕ). Puts (n + build_room o) (λ code. StmtAt code old.marks (build p line i o place args)) old new) (sym e) (
       puts_adds (adds_more (omega arith) (adds_both (expr_stable line old.marks (constructed p i place args)) (a place h) b)))
 
-  pub arm_all : LawCells → (line : ℕ) (spot : Spot) (length : Option ℕ) (array : Option Array) (args : List Meant) (n count : ℕ) (builder destroyer : ObjectCall) (old new : Draft) → length ≡ Some count → array ≡ array_by p i length
+  pub arm_all : LawCells → (line : ℕ) (spot : Spot) (length : Option ℕ) (array : Option Array) (args : List Meant) (n count : ℕ) (builder destroyer : ObjectCall) (old new : Draft) → length ≡ Some count → array ≡ array_by p i (Some count)
       → builder ≡ call_by (routine_for p i role.Constructor) spot array → destroyer ≡ call_by (routine_for p i role.Destructor) spot array → Puts 18 (FillCode line old.marks builder destroyer count) old new
       → (place : Expr) → BeginsAt place spot → Puts (n + build_room length) (λ code. StmtAt code old.marks (build p line i length place args)) old new
   arm_all laws line spot length array args n count builder destroyer old new e ae be de h place b =
-      let f : array ≡ array_by p i (Some count) = ae ∙ ap (λ (o : Option ℕ). array_by p i o) e in
-      let g : builder ≡ call_by (routine_for p i role.Constructor) spot (array_by p i (Some count)) = be ∙ ap (λ (o : Option Array). call_by (routine_for p i role.Constructor) spot o) f in
-      let k : destroyer ≡ call_by (routine_for p i role.Destructor) spot (array_by p i (Some count)) = de ∙ ap (λ (o : Option Array). call_by (routine_for p i role.Destructor) spot o) f in
+      let g : builder ≡ call_by (routine_for p i role.Constructor) spot (array_by p i (Some count)) = be ∙ ap (λ (o : Option Array). call_by (routine_for p i role.Constructor) spot o) ae in
+      let k : destroyer ≡ call_by (routine_for p i role.Destructor) spot (array_by p i (Some count)) = de ∙ ap (λ (o : Option Array). call_by (routine_for p i role.Destructor) spot o) ae in
       subst (λ (o : Option ℕ). Puts (n + build_room o) (λ code. StmtAt code old.marks (build p line i o place args)) old new) (sym e) (
       puts_more (omega arith) (puts_as h (λ code x z w. record {
         builder = builder;

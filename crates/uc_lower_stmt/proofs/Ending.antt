@@ -15,17 +15,7 @@ use Rattle.uc_code.specs.Puts.{Puts, place_length, called_length, clean_by, clea
 use Rattle.uc_code.proofs.Stable.{kept_then, kept_piece}
 use Rattle.uc_code.proofs.Putting.{clean_is, clean_stable, marks_of}
 use Rattle.uc_code.proofs.Sweeping.{like_puts, like_closed, closed_ops, closed_marks}
-use Rattle.uc_lower_expr.specs.Added.{Adds, OpCode, RiskCode}
 use Rattle.uc_lower_stmt.specs.Objects.{InScope, InPart, ScopeEnds, PartEnds, ClosesScope, ClosesPart}
-
--- code that is added without rows
-pub puts_adds : {n : ℕ} {S : Laid → ℕ → ℕ → Type 0} {old new : Draft} → Adds n S old new → Puts n S old new
-puts_adds {n} {S} {old} {new} h = record {
-  rest = subst (λ (d : Draft). d ≡ record old { ops = d.ops; rows = d.rows; settled = d.settled }) (sym h.rest) refl;
-  kept = h.kept;
-  room = h.room;
-  code = h.code;
-}
 
 -- what stands in a scope, and its end
 

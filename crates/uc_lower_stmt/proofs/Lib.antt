@@ -1,7 +1,6 @@
 pub mod Blocks
 pub mod Building
 pub mod Choosing
-pub mod Controlling
 pub mod Counted
 pub mod Declaring
 pub mod Ending
@@ -21,4 +20,3 @@ pub mod Scoping
 pub mod Shaping
 pub mod Stating
 pub mod Turned
-pub mod Ways

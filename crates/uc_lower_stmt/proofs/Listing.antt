@@ -127,6 +127,44 @@ pub arm_next_objects : (p : Program) (block : ℕ) (pos : Pos) (f : StmtForm) (t
     → LaysStmt p block t old new
 arm_next_objects p block pos f t o old new e d h = subst (λ (u : Stmt). LaysStmt p block u old new) e (next_declared p block pos f o old new d h)
 
+-- what such a declaration takes
+pub record DeclaredFits (p : Program) (t : Stmt) (o : Objects) : Type 0 where
+  pub class : plain_class p o.base.now ≡ Some o.class
+  pub size : declarators_size o.declarators.now ≤ stmt_size t
+  pub cells : declarators_cells (declared_cells p o.base.now) o.declarators.now ≤ stmt_cells t (declared_cells p)
+
+declared_fits : (p : Program) (pos : Pos) (f : StmtForm) (o : Objects) → DeclaresObjects p (stmt_at pos f) (Some o) → DeclaredFits p (stmt_at pos f) o
+declared_fits p pos (form.Declare base ds) o d =
+    subst (λ (xs : List Declarator). DeclaredFits p (Declare pos base xs) o) (sym d.1.1) (
+    subst (λ (b : Base). DeclaredFits p (Declare pos b o.declarators.now) o) (sym d.1.0) (record { class = ap (λ (b : Base). plain_class p b) (sym d.1.0) ∙ d.0; size = omega arith; cells = omega arith }))
+declared_fits p pos (form.Block body) o d = absurd d
+declared_fits p pos form.Empty o d = absurd d
+declared_fits p pos (form.Evaluate value) o d = absurd d
+declared_fits p pos (form.If test chosen other) o d = absurd d
+declared_fits p pos (form.While test body) o d = absurd d
+declared_fits p pos (form.Do body test) o d = absurd d
+declared_fits p pos (form.For start test step body) o d = absurd d
+declared_fits p pos form.Break o d = absurd d
+declared_fits p pos form.Continue o d = absurd d
+declared_fits p pos (form.Return value) o d = absurd d
+declared_fits p pos (form.Try brace body hs) o d = absurd d
+declared_fits p pos (form.Throw raised) o d = absurd d
+declared_fits p pos (form.Raise raised) o d = absurd d
+declared_fits p pos (form.RaiseAt raised target) o d = absurd d
+declared_fits p pos (form.Enable events body) o d = absurd d
+declared_fits p pos (form.Disable events body) o d = absurd d
+declared_fits p pos (form.Accept cs other) o d = absurd d
+declared_fits p pos (form.Print items) o d = absurd d
+declared_fits p pos (form.PrintTogether items) o d = absurd d
+declared_fits p pos (form.Read places) o d = absurd d
+declared_fits p pos form.Resume o d = absurd d
+declared_fits p pos form.Suspend o d = absurd d
+declared_fits p pos form.Yield o d = absurd d
+declared_fits p pos (form.Migrate cluster) o d = absurd d
+
+pub next_fits : (p : Program) (pos : Pos) (f : StmtForm) (t : Stmt) (o : Objects) → stmt_at pos f ≡ t → DeclaresObjects p (stmt_at pos f) (Some o) → DeclaredFits p t o
+next_fits p pos f t o e d = subst (λ (u : Stmt). DeclaredFits p u o) e (declared_fits p pos f o d)
+
 -- one that is a statement of its own
 pub alone_objects : (p : Program) (line : ℕ) (b : Base) (ds : List Declarator) (i count : ℕ) (old mid new : Draft) → plain_class p b ≡ Some i → count ≡ length old.marks
     → Lays (OPS_FOR_SIZE * declarators_size ds) 0 (declarators_cells (declared_cells p b) ds) (length ds) 0 line (objects_scoped p i line b ds (scope_of old)) (with_all p (scope_of old) b ds) old mid → EndsScopes count mid new → LowersDeclaration p line b ds old new

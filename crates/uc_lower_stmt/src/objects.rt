@@ -102,7 +102,8 @@ pub fn lower_construction(
     requires class { class < length (classes_of names.now.items) }
     requires room { length out.old.ops + OPS_FOR_SIZE * exprs_size (exprs_of args.now) + 3 ≤ PROGRAM_OPS }
     requires behind { StandsBehind out.old.marks (call_by (routine_for names.now class role.Constructor) spot None) }
-    ensures { OnOk result ((place : Place) → BeginsAt place spot → Adds (OPS_FOR_SIZE * exprs_size (exprs_of args.now) + 3) (ExprCode line out.old.marks (constructed names.now class place (args_meant (context_in names.now out.old) (exprs_of args.now)))) out.old out.new) }
+    ensures room { OnOk result (length out.new.ops ≤ length out.old.ops + (OPS_FOR_SIZE * exprs_size (exprs_of args.now) + 3)) }
+    ensures code { OnOk result ((place : Place) → BeginsAt place spot → Adds (OPS_FOR_SIZE * exprs_size (exprs_of args.now) + 3) (ExprCode line out.old.marks (constructed names.now class place (args_meant (context_in names.now out.old) (exprs_of args.now)))) out.old out.new) }
 {
     let routine = names.constructor_of(class);
     put(spot_op(spot), line, out)?;

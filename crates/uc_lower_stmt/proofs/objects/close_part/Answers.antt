@@ -1,7 +1,8 @@
 use Rattle.std.proofs.Common.{◌≡◌, ◌+◌, ap, arith, ◌∙◌}
 use Rattle.uc_code.specs.Puts.{clean_length}
 use Rattle.uc_code.proofs.Putting.{marks_of}
-use Rattle.uc_lower_stmt.proofs.Ending.{behind_part, marks_past_part, puts_adds, part_closed}
+use Rattle.uc_lower_stmt.proofs.Joined.{puts_adds}
+use Rattle.uc_lower_stmt.proofs.Ending.{behind_part, marks_past_part, part_closed}
 use Rattle.uc_lower_stmt.proofs.objects.close_part.Goals as goal
 
 pub put_clean-requires-clause-behind : goal.put_clean-requires-clause-behind

@@ -1,4 +1,4 @@
-use Rattle.uc_lower_stmt.proofs.Ending.{puts_adds}
+use Rattle.uc_lower_stmt.proofs.Joined.{puts_adds}
 use Rattle.uc_lower_stmt.proofs.Filling.{puts_built}
 use Rattle.uc_lower_stmt.proofs.objects.put_built.Goals as goal
 
