@@ -234,15 +234,15 @@ lower_for-lower_loop-requires t c =
     let hc = h.cells in
     let hs = h.opened in
     let ht = h.texts in
-    let open : c.open_scope-outside.new.self ≡ _ = c.open_scope-outside.ensures.opened in
-    let room = ap taken open in
-    let marks = ap (λ (d : Draft). d.marks) open in
-    let objects = ap (λ (d : Draft). objects_in d.marks) open in
-    let inside : routine_in c.open_scope-outside.new.self.marks ≡ routine_in c.args.out.now.marks = ap (λ (d : Draft). routine_in d.marks) open in
+    let begun : c.open_scope-outside.new.self ≡ _ = c.open_scope-outside.ensures.opened in
+    let room = ap taken begun in
+    let marks = ap (λ (d : Draft). d.marks) begun in
+    let objects = ap (λ (d : Draft). objects_in d.marks) begun in
+    let inside : routine_in c.open_scope-outside.new.self.marks ≡ routine_in c.args.out.now.marks = ap (λ (d : Draft). routine_in d.marks) begun in
     let same = lays_routine h in
-    let cells = ap (λ (d : Draft). d.cells) open in
-    let scopes = ap (λ (d : Draft). d.scopes) open in
-    let texts = ap (λ (d : Draft). d.texts) open in
+    let cells = ap (λ (d : Draft). d.cells) begun in
+    let scopes = ap (λ (d : Draft). d.scopes) begun in
+    let texts = ap (λ (d : Draft). d.texts) begun in
     let size = c.turning_of.ensures.size in
     let less = loop_room c.args.names.now c.args.line c.args.start.now c.args.body.now _ _ h in
     let grow : size_at c.args.body.now (objects_in c.open_scope-outside.new.self.marks + for_declares c.args.start.now) ≡ size_at c.args.body.now (objects_in c.args.out.now.marks + for_declares c.args.start.now) = ap (λ (k : ℕ). size_at c.args.body.now (k + for_declares c.args.start.now)) objects in
@@ -258,6 +258,7 @@ lower_maybe-returns-in-None t c = arm_no_other c.args.names.now _ _ (ap maybe_at
 pub lower_maybe-lower_alone-requires : goal.lower_maybe-lower_alone-requires
 lower_maybe-lower_alone-requires t c =
     let e : maybe_at c.args.other.now ≡ OneStmt c.deref.result.now = ap maybe_at c.in-Some.is ∙ ap OneStmt (sym c.deref.ensures) in
+    let all = ap (λ m. maybe_at_size m (objects_in c.args.out.now.marks)) e in
     let size = ap maybe_stmt_size e in
     let cells = ap (λ m. maybe_cells m (declared_cells c.args.names.now)) e in
     let scopes = ap maybe_scopes e in
@@ -265,13 +266,15 @@ lower_maybe-lower_alone-requires t c =
     let k = c.requires.cells in
     let q = c.requires.scopes in
     let w = c.requires.texts in
-    (search rules, (ap is_built_maybe (sym e) ∙ c.requires.built, (omega (arith, size, r), (omega (arith, cells, k), (omega (arith, scopes, q), omega (arith, size, w))))))
+    (search rules, (ap is_built_maybe (sym e) ∙ c.requires.built, (c.requires.inside, (omega (arith, all, r), (omega (arith, cells, k), (omega (arith, scopes, q), omega (arith, size, w)))))))
 
 pub lower_stmt-lower_if-requires : goal.lower_stmt-lower_if-requires
 lower_stmt-lower_if-requires t c =
     let is : If c.s.inside.pos c.in-If.test _ _ ≡ c.args.s.now = stmt_is _ _ _ _ c.in-If.is c.s.view_is in
     let d = c.deref-in-If.ensures in
     let b = and_parts _ _ (ap is_built_stmt is ∙ c.requires.built) in
+    let all = ap (λ s. size_at s (objects_in c.args.out.now.marks)) is in
+    let all_chosen = ap (λ s. size_at s (objects_in c.args.out.now.marks)) d in
     let size = ap stmt_size is in
     let size_chosen = ap stmt_size d in
     let cells = ap (λ s. stmt_cells s (declared_cells c.args.names.now)) is in
@@ -283,7 +286,7 @@ lower_stmt-lower_if-requires t c =
     let k = c.requires.cells in
     let q = c.requires.scopes in
     let w = c.requires.texts in
-    (search rules, (ap is_built_stmt d ∙ b.0, (b.1, (omega (arith, size, size_chosen, r), (omega (arith, cells, cells_chosen, k), (omega (arith, scopes, scopes_chosen, alone_chosen, q), omega (arith, size, size_chosen, w)))))))
+    (search rules, (ap is_built_stmt d ∙ b.0, (b.1, (c.requires.inside, (omega (arith, all, all_chosen, r), (omega (arith, cells, cells_chosen, k), (omega (arith, scopes, scopes_chosen, alone_chosen, q), omega (arith, size, size_chosen, w))))))))
 
 pub lower_alone-returns-in_ok-lower_stmt : goal.lower_alone-returns-in_ok-lower_stmt
 lower_alone-returns-in_ok-lower_stmt t c =
