@@ -15,6 +15,7 @@ use Rattle.uc_code.specs.declared.rows.ObjectCall.{ObjectCall}
 use Rattle.uc_code.specs.Drafts.{Draft}
 use Rattle.uc_code.specs.Laid.{routine_in}
 use Rattle.uc_lower_stmt.specs.Scoped.{scope_of}
+use Rattle.uc_lower_stmt.proofs.Laying.{lays_routine}
 use Rattle.uc_lower_class.specs.Inits.{init_exprs, names_of}
 use Rattle.uc_lower_class.specs.Fields.{field_then, fields_room, left_then, part_room, room_by}
 use Rattle.uc_lower_class.specs.Pended.{Constructs, Opens, end_room}
@@ -146,11 +147,11 @@ module _ (p : Program) (c : Class) (i : ℕ) where
       let split = drop_at fs place f e in
       let next : lead + (place + 1) ≡ suc (lead + place) = omega arith in
       record {
-        inside = h.inside ∙ b.inside;
+        inside = lays_routine h ∙ b.inside;
         on = λ new g. b.on new (subst (λ (xs : List ClassField). Opens (length xs) (fields_left p c i xs (lead + place)) now new) (sym split) (
             opens_as (opens_then h g) (omega arith) (λ ss. ap (λ (k : ℕ). left_then p c i (lead + place) f (fields_left p c i (drop (place + 1) fs) k ss)) next)));
       }
 
   pub leaving_end : (old : Draft) (place : ℕ) (now : Draft) → Leaving old place now → length fs ≤ place → Opens (length fs) (fields_left p c i fs lead) old now
   leaving_end old place now b h =
-      b.on now (subst (λ (xs : List ClassField). Opens (length xs) (fields_left p c i xs (lead + place)) now now) (sym (drop_past fs place h)) (opens_nothing now))
+      b.on now (subst (λ (xs : List ClassField). Opens (length xs) (fields_left p c i xs (lead + place)) now now) (sym (drop_past fs place h)) (opens_nothing 0 now))

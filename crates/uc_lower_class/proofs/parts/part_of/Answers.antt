@@ -1,0 +1,3 @@
+use Rattle.uc_lower_class.proofs.Parting.{ends_part}
+use Rattle.uc_lower_class.proofs.Fielding.{part_fits}
+use Rattle.uc_lower_class.proofs.Looping.{leaving_end}
