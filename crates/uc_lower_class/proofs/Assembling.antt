@@ -29,7 +29,7 @@ use Rattle.uc_lower_stmt.proofs.Joined.{lowers_as}
 use Rattle.uc_lower_stmt.proofs.Laying.{lays_ended, lays_join, lays_one}
 use Rattle.uc_lower_class.specs.Bodies.{LowersBody, LowersUnwritten, LowersWhole, built_at, built_room, left_at, left_room, role_room, unwritten_room, whole_room}
 use Rattle.uc_lower_class.specs.Fields.{all_built, all_left, all_room, part_room}
-use Rattle.uc_lower_class.specs.Pended.{Constructs, EndsParts, Opens}
+use Rattle.uc_lower_class.specs.Pended.{Constructs, EndsParts, NoParts, Opens, PartsIn}
 use Rattle.uc_lower_class.proofs.Fielding.{part_fits}
 use Rattle.uc_lower_class.proofs.Parting.{constructs_as, constructs_does, constructs_part, constructs_then}
 use Rattle.uc_lower_class.proofs.Wholes.{arm_alone, arm_built}
@@ -118,3 +118,7 @@ pub unwritten_left : (p : Program) (i depth : ℕ) (d0 d1 new : Draft) → depth
 unwritten_left p i depth d0 d1 new q h g =
     let all = lays_ended depth q h g in
     subst (λ (ss : Stmts). low_bare (left_room (class_at p i)) ss d0 new) (all_destruction p i (class_at p i) Nil) (lowers_as all refl (λ code x z y. y) (omega arith) (omega arith) (omega arith) (omega arith))
+
+-- the parts of fields that are built are those of the marks, behind a block too
+pub parts_on : {n : ℕ} {F : Stmts → Stmts} (us : List ObjectCall) (d0 d1 d2 : Draft) → Constructs n F [] d0 us d1 → d2.marks ≡ d1.marks → PartsIn (reverse us) d2.marks
+parts_on us d0 d1 d2 h e = subst (λ (ms : List Mark). PartsIn (reverse us) ms) (sym e) (h.parts (NoParts d0.marks))
