@@ -28,7 +28,8 @@ use Rattle.uc_lower_stmt.specs.Scoped.{Lowers, scope_of}
 use Rattle.uc_lower_stmt.proofs.Joined.{lowers_as}
 use Rattle.uc_lower_stmt.proofs.Laying.{lays_ended, lays_join, lays_one}
 use Rattle.uc_lower_class.specs.Bodies.{LowersBody, LowersUnwritten, LowersWhole, built_at, built_room, left_at, left_room, role_room, unwritten_room, whole_room}
-use Rattle.uc_lower_class.specs.Fields.{all_built, all_left, all_room, part_room}
+use Rattle.uc_lower_class.specs.Fields.{PartBehind, all_built, all_left, all_room, part_room}
+use Rattle.uc_lower_class.specs.declared.parts.Part.{Part}
 use Rattle.uc_lower_class.specs.Pended.{Constructs, EndsParts, NoParts, Opens, PartsIn}
 use Rattle.uc_lower_class.proofs.Fielding.{part_fits}
 use Rattle.uc_lower_class.proofs.Parting.{constructs_as, constructs_does, constructs_part, constructs_then}
@@ -122,3 +123,17 @@ unwritten_left p i depth d0 d1 new q h g =
 -- the parts of fields that are built are those of the marks, behind a block too
 pub parts_on : {n : ℕ} {F : Stmts → Stmts} (us : List ObjectCall) (d0 d1 d2 : Draft) → Constructs n F [] d0 us d1 → d2.marks ≡ d1.marks → PartsIn (reverse us) d2.marks
 parts_on us d0 d1 d2 h e = subst (λ (ms : List Mark). PartsIn (reverse us) ms) (sym e) (h.parts (NoParts d0.marks))
+
+-- how many ops a part takes
+
+pub build_few : (l : Option ℕ) → build_room l ≤ part_room l
+build_few None = omega arith
+build_few (Some n) = omega arith
+
+pub none_room : (l : Option ℕ) → 4 ≤ part_room l
+none_room None = omega arith
+none_room (Some n) = omega arith
+
+-- what stands further on than a part's routine
+pub behind_in : (p : Program) (ms : List Mark) (o : Option Part) (part : Part) → o ≡ Some part → PartBehind p ms o → AllStandBehind p part.class ms
+behind_in p ms o part e b = subst (λ (x : Option Part). PartBehind p ms x) e b
