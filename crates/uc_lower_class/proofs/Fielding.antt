@@ -1,11 +1,15 @@
 -- A field of a class: what is told of it, how it is built, and how its scope is opened.
 use Rattle.std.proofs.Common.{◌≡◌, ℕ, ◌+◌, ◌*◌, ◌≤◌, ◌<◌, pos, List, [], ◌∷◌, ◌++◌, Bool, true, false, Option, Some, None, if◌then◌else◌, length, refl, ap, sym, subst, ◌∙◌, arith}
-use Rattle.std.specs.Prelude.{option_map}
+use Rattle.std.specs.Prelude.{option_map, slice_get}
+use Rattle.uc_tree.specs.Expressions as tree
+use Rattle.uc_tree.specs.Expressions.{exprs_of}
+use Rattle.uc_tree.specs.ExpressionSizes.{expr_size, exprs_size}
+use Rattle.uc_lower_expr.specs.Contexts.{context_in}
 use Rattle.uc_tree.specs.declared.limits.TheConstants.{OPS_FOR_SIZE}
 use Rattle.uc_tree.specs.Programs.{Class, Program}
 use Rattle.uc_tree.specs.Objects.{ClassField, class_shape, plain_class, shape_of}
-use Rattle.uc_tree.specs.Source.{CleanUp, Expr, Literal, OfObject, OwnField, Shape, Stmt, Stmts, Assign, Evaluate, Then, Built, Scoped}
-use Rattle.uc_tree.specs.Resolve.{Meant, AtPlace, build, clean_up, converted, value_of, field_built, field_class, field_left, field_started, field_type, length_in_class}
+use Rattle.uc_tree.specs.Source.{field_cells, CleanUp, Expr, Literal, OfObject, OwnField, Shape, Stmt, Stmts, Assign, Evaluate, Then, Built, Scoped}
+use Rattle.uc_tree.specs.Resolve.{Meant, AtPlace, args_meant, meant, build, clean_up, converted, value_of, field_built, field_class, field_left, field_started, field_type, length_in_class}
 use Rattle.uc_code.specs.declared.op.Op.TheVariants as op
 use Rattle.uc_code.specs.declared.rows.Mark.{Mark}
 use Rattle.uc_code.specs.declared.rows.Array.{Array}
@@ -44,7 +48,7 @@ module _ (p : Program) (c : Class) (i number : ℕ) (f : ClassField) (v : Field)
   pub told_class : plain_class p f.base ≡ v.told.class
   told_class = told.class
 
-  pub told_length : length_in_class p c f ≡ v.told.elements
+  pub told_length : length_in_class p c i f ≡ v.told.elements
   told_length = told.len
 
   pub told_shape : shape_of f.base ≡ shape_as v.told.scalar
@@ -96,28 +100,28 @@ module _ (p : Program) (c : Class) (i number : ℕ) (f : ClassField) (v : Field)
 
   pub field_begins : (part : Part) → part_in v ≡ Some part → BeginsAt place part.spot
   field_begins part e =
-      let same : spot.This _ ≡ part.spot = ap spot.This h.cell ∙ sym (parts_by v.by_ref v.told.class v.cell v.told.elements part e).begins in
+      let same : spot.This (field_cells (class_shape p i) number) ≡ part.spot = ap spot.This h.cell ∙ sym (parts_by v.by_ref v.told.class v.cell v.told.elements part e).begins in
       subst (λ (s : Spot). BeginsAt place s) same (InObject (class_shape p i) number)
 
-  length_is : (part : Part) → part_in v ≡ Some part → length_in_class p c f ≡ part.length
+  length_is : (part : Part) → part_in v ≡ Some part → length_in_class p c i f ≡ part.length
   length_is part e = told_length p c i number f v h ∙ sym (part_long v part e)
 
   pub field_part : (part : Part) → part_in v ≡ Some part → (args : List Meant) (rest : Stmts) → Then (build p 0 part.class part.length place args) (Built (clean_up p part.class part.length place) rest) ≡ field_then p c i number f args rest
   field_part part e args rest =
-      sym (ap (λ (o : Option ℕ). field_built p o f (length_in_class p c f) place args rest) (field_object part e) ∙ ap (λ (l : Option ℕ). field_built p (Some part.class) f l place args rest) (length_is part e))
+      sym (ap (λ (o : Option ℕ). field_built p o f (length_in_class p c i f) place args rest) (field_object part e) ∙ ap (λ (l : Option ℕ). field_built p (Some part.class) f l place args rest) (length_is part e))
 
   pub left_part : (part : Part) → part_in v ≡ Some part → (rest : Stmts) → Scoped (clean_up p part.class part.length place) rest ≡ left_then p c i number f rest
   left_part part e rest =
-      sym (ap (λ (o : Option ℕ). field_left p o (length_in_class p c f) place rest) (field_object part e) ∙ ap (λ (l : Option ℕ). field_left p (Some part.class) l place rest) (length_is part e))
+      sym (ap (λ (o : Option ℕ). field_left p o (length_in_class p c i f) place rest) (field_object part e) ∙ ap (λ (l : Option ℕ). field_left p (Some part.class) l place rest) (length_is part e))
 
   no_class : part_in v ≡ None → field_class p f ≡ None
   no_class e = class_told p c i number f v h ∙ no_part v.by_ref v.told.class v.cell v.told.elements e
 
   pub field_plain : part_in v ≡ None → (args : List Meant) (rest : Stmts) → started_then p i number f args rest ≡ field_then p c i number f args rest
-  field_plain e args rest = sym (ap (λ (o : Option ℕ). field_built p o f (length_in_class p c f) place args rest) (no_class e))
+  field_plain e args rest = sym (ap (λ (o : Option ℕ). field_built p o f (length_in_class p c i f) place args rest) (no_class e))
 
   pub left_plain : part_in v ≡ None → (rest : Stmts) → rest ≡ left_then p c i number f rest
-  left_plain e rest = sym (ap (λ (o : Option ℕ). field_left p o (length_in_class p c f) place rest) (no_class e))
+  left_plain e rest = sym (ap (λ (o : Option ℕ). field_left p o (length_in_class p c i f) place rest) (no_class e))
 
   -- a field that is no object
 
@@ -127,7 +131,7 @@ module _ (p : Program) (c : Class) (i number : ℕ) (f : ClassField) (v : Field)
   pub started_on : {n : ℕ} {old new : Draft} → (m : Meant) (ms : List Meant) (ws : List ObjectCall) → Adds n (StartedCode old.marks v.cell (held_by v.by_ref (shape_as v.told.scalar) m)) old new → Constructs n (started_then p i number f (m ∷ ms)) ws old ws new
   started_on {n} {old} {new} m ms ws g =
       let by_cell = subst (λ (k : ℕ). Adds n (StartedCode old.marks k (held_by v.by_ref (shape_as v.told.scalar) m)) old new) (sym h.cell) g in
-      let by_value = subst (λ (e : Expr). Adds n (StartedCode old.marks _ e) old new) (held_same m) by_cell in
+      let by_value = subst (λ (e : Expr). Adds n (StartedCode old.marks (field_cells (class_shape p i) number) e) old new) (held_same m) by_cell in
       constructs_does (Evaluate 0 (Assign place (if f.declarator.by_ref then m.expr else converted (shape_of f.base) (value_of m)))) ws (puts_adds by_value)
 
 pub started_none : (p : Program) (i number n : ℕ) (f : ClassField) (ws : List ObjectCall) (old : Draft) → Constructs n (started_then p i number f []) ws old ws old
@@ -158,3 +162,26 @@ part_fits p j r s l = by_written p j r.number r.written s l
     by_written p j k false s None = omega arith
     by_written p j k true s (Some n) = omega arith
     by_written p j k false s (Some n) = omega arith
+
+-- arguments, of which the first counts
+
+pub started_some : (p : Program) (v : Field) (args : List tree.Expr) (e : tree.Expr) (old new : Draft) → Some e ≡ slice_get args 0 → Adds (OPS_FOR_SIZE * expr_size e + 4) (StartedCode old.marks v.cell (held_by v.by_ref (shape_as v.told.scalar) (meant (context_in p old) e))) old new
+    → (c : Class) (i number : ℕ) (f : ClassField) (parts : List ObjectCall) → IsFieldAt p c i number f v → Constructs (OPS_FOR_SIZE * exprs_size (exprs_of args) + 4) (started_then p i number f (args_meant (context_in p old) (exprs_of args))) parts old parts new
+started_some p v [] e old new is h c i number f parts at = cc
+started_some p v (x ∷ xs) e old new is h c i number f parts at =
+    let same : e ≡ x = cc in
+    let one : Adds (OPS_FOR_SIZE * expr_size x + 4) (StartedCode old.marks v.cell (held_by v.by_ref (shape_as v.told.scalar) (meant (context_in p old) x))) old new =
+    subst (λ (y : tree.Expr). Adds (OPS_FOR_SIZE * expr_size y + 4) (StartedCode old.marks v.cell (held_by v.by_ref (shape_as v.told.scalar) (meant (context_in p old) y))) old new) same h in
+    constructs_as (started_on p c i number f v at (meant (context_in p old) x) (args_meant (context_in p old) (exprs_of xs)) parts one) (omega arith) (λ ss. refl)
+
+pub started_nothing : (p : Program) (v : Field) (args : List tree.Expr) (old : Draft) → None ≡ slice_get args 0
+    → (c : Class) (i number : ℕ) (f : ClassField) (parts : List ObjectCall) → IsFieldAt p c i number f v → Constructs (OPS_FOR_SIZE * exprs_size (exprs_of args) + 4) (started_then p i number f (args_meant (context_in p old) (exprs_of args))) parts old parts old
+started_nothing p v [] old is c i number f parts at = started_none p i number (OPS_FOR_SIZE * 0 + 4) f parts old
+started_nothing p v (x ∷ xs) old is c i number f parts at = cc
+
+-- in a draft with the same names and marks
+pub started_in : (n cell : ℕ) (p : Program) (r : Bool) (s : Shape) (value : tree.Expr) (d0 d1 d2 d3 d4 : Draft) → Adds 1 (OpCode 0 (op.This cell)) d0 d1 → Adds n (ExprCode 0 d1.marks (held_by r s (meant (context_in p d1) value))) d1 d2 → Adds 1 (OpCode 0 op.Keep) d2 d3 → Adds 1 (OpCode 0 op.Discard) d3 d4
+    → Adds (n + 3) (StartedCode d0.marks cell (held_by r s (meant (context_in p d0) value))) d0 d4
+started_in n cell p r s value d0 d1 d2 d3 d4 h1 h2 h3 h4 =
+    let same : held_by r s (meant (context_in p d1) value) ≡ held_by r s (meant (context_in p d0) value) = ap (λ (d : Draft). held_by r s (meant (context_in p d) value)) h1.rest in
+    started_code n cell (held_by r s (meant (context_in p d0) value)) d0 d1 d2 d3 d4 h1 (subst (λ (e : Expr). Adds n (ExprCode 0 d1.marks e) d1 d2) same h2) h3 h4

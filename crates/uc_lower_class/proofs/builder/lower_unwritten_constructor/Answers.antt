@@ -1,0 +1,5 @@
+use Rattle.uc_lower_class.proofs.Assembling.{unwritten_built}
+use Rattle.uc_lower_class.proofs.builder.lower_unwritten_constructor.Goals as goal
+
+pub returns : goal.returns
+returns c = unwritten_built c.args.names.now c.args.class c.build_all.new.parts.items c.args.out.now c.build_all.new.out c.close_parts.new.out c.requires.nowhere c.in_ok-build_all.ensures c.in_ok-close_parts.ensures
