@@ -97,7 +97,7 @@ pub(crate) fn lower_routines(
     alloc: Global,
     names: &ProgramNames,
     defined: &[Defined],
-    main: usize,
+    main: u32,
     count: u32,
     out: &mut Draft,
 ) -> Result<(), AllocError>
@@ -116,7 +116,7 @@ pub(crate) fn lower_routines(
     let mut sites: u32 = 0;
     for number in 0..count {
         let d = &defined[number as usize];
-        let is_main = number as usize == main;
+        let is_main = number == main;
         lower_written(alloc, names, d, is_main, number, texts, sites, out)?;
         texts = out.texts();
         sites = out.sites();
