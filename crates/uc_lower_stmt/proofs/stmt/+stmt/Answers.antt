@@ -1,4 +1,4 @@
-use Rattle.std.proofs.Common.{◌≡◌, Bor, length, ap, sym, refl, rules, arith, ◌∙◌}
+use Rattle.std.proofs.Common.{◌≡◌, ◌+◌, ℕ, Bor, None, length, subst, ap, sym, refl, rules, arith, ◌∙◌}
 use Rattle.uc_tree.specs.Expressions as tree
 use Rattle.std.proofs.lemmas.Bool.{and_parts}
 use Rattle.uc_tree.specs.Cells.{declared_cells, maybe_cells, stmt_cells}
@@ -10,27 +10,55 @@ use Rattle.uc_built.specs.BuiltForms.{is_built_maybe, is_built_stmt}
 use Rattle.uc_lower_stmt.specs.Control.{is_declaration}
 use Rattle.uc_lower_stmt.proofs.Parting.{arm_no_other}
 use Rattle.uc_code.specs.Drafts.{Draft}
-use Rattle.uc_lower_stmt.proofs.Stating.{stmt_is, arm_empty, arm_unasked, arm_evaluate, arm_declare, arm_print, arm_print_together, arm_read, arm_block, arm_if, arm_while, arm_do, arm_for_stmt, arm_break, arm_continue, arm_return, stmts_fit, scopes_fit, built_at, stmts_step}
+use Rattle.uc_lower_stmt.proofs.Stating.{stmt_is, arm_empty, arm_unasked, arm_evaluate, arm_declare, arm_print, arm_print_together, arm_read, arm_block, arm_if, arm_while, arm_do, arm_for_stmt, arm_break, arm_continue, arm_return, built_at, sizes_at_item}
 use Rattle.uc_lower_stmt.proofs.Scoping.{arm_alone_scoped}
-use Rattle.uc_lower_stmt.proofs.Controlling.{arm_choice, arm_for}
+use Rattle.uc_tree.specs.declared.limits.TheConstants.{FRAME_CELLS, PROGRAM_OPS, PROGRAM_SIZE}
+use Rattle.uc_tree.specs.Exits.{for_declares}
+use Rattle.uc_tree.specs.Sizes.{size_at}
+use Rattle.uc_tree.specs.StatementForms.{stmt_at}
+use Rattle.uc_code.specs.Laid.{routine_in}
+use Rattle.uc_lower_stmt.specs.Control.{DeclaresObjects}
+use Rattle.uc_lower_stmt.specs.Marked.{objects_in, taken}
+use Rattle.uc_lower_stmt.proofs.Choosing.{arm_choice}
+use Rattle.uc_lower_stmt.proofs.Fors.{arm_for, loop_room}
+use Rattle.uc_lower_stmt.proofs.Laying.{lays_routine}
+use Rattle.uc_lower_stmt.proofs.Listing.{arm_next, arm_next_objects, list_ended, list_start, list_step, marks_count, next_cells, next_room, next_scopes, next_texts}
 use Rattle.uc_lower_stmt.proofs.Turned.{arm_turns}
 use Rattle.uc_lower_stmt.proofs.stmt.+stmt.Goals as goal
 
-pub lower_stmts-lower_stmt-requires : goal.lower_stmts-lower_stmt-requires
-lower_stmts-lower_stmt-requires t c =
-    let fit = stmts_fit (declared_cells c.args.names.now) c.args.stmts.now c.loop-s.s-index c.s-item.result c.loop-s-test.true c.s-item.is in
-    let a = fit.0 in
-    let b = fit.1 in
-    let r = c.loop-s.invariant.room in
-    let q = c.loop-s.invariant.cells in
-    let w = c.loop-s.invariant.opened in
-    let z = scopes_fit c.args.stmts.now c.loop-s.s-index c.s-item.result c.loop-s-test.true c.s-item.is in
-    let v = c.loop-s.invariant.texts in
-    let y = built_at c.args.stmts.now c.loop-s.s-index c.s-item.result c.requires.built c.loop-s-test.true c.s-item.is in
-    (search rules, (y, (omega (arith, a, r), (omega (arith, b, q), (omega (arith, w, z), omega (arith, a, v))))))
+pub lower_stmts-loop-s-init : goal.lower_stmts-loop-s-init
+lower_stmts-loop-s-init t c = list_start c.args.names.now c.args.line c.args.stmts.now c.args.out.now
+
+pub lower_stmts-lower_next-requires : goal.lower_stmts-lower_next-requires
+lower_stmts-lower_next-requires t c =
+    let p = c.args.names.now in
+    let l = c.args.line in
+    let xs = c.args.stmts.now in
+    let i = c.loop-s.s-index in
+    let x = c.s-item.result in
+    let old = c.args.out.now in
+    let mid = c.loop-s.out in
+    let less = c.loop-s-test.true in
+    let is = c.s-item.is in
+    let h = c.loop-s.invariant in
+    let size = sizes_at_item xs i x less is in
+    let same = lays_routine h in
+    let inside = c.requires.inside in
+    (omega (arith, size), (built_at xs i x c.requires.built less is, (omega (arith, same, inside), (next_room p l xs i x old mid less is h PROGRAM_OPS c.requires.room, (next_cells p l xs i x old mid less is h FRAME_CELLS c.requires.cells, (next_scopes p l xs i x old mid less is h PROGRAM_SIZE c.requires.scopes, next_texts p l xs i x old mid less is h PROGRAM_SIZE c.requires.texts))))))
 
 pub lower_stmts-loop-s-preserved : goal.lower_stmts-loop-s-preserved
-lower_stmts-loop-s-preserved t c = stmts_step c.args.names.now c.classless.ensures c.args.stmts.now c.loop-s.s-index c.s-item.result _ _ _ c.loop-s-test.true c.s-item.is c.loop-s.invariant c.in_ok-lower_stmt.ensures
+lower_stmts-loop-s-preserved t c = list_step c.args.names.now c.args.line c.args.stmts.now c.loop-s.s-index c.s-item.result _ _ c.loop-s-test.true c.s-item.is c.loop-s.invariant _ c.in_ok-lower_next.ensures
+
+pub lower_stmts-returns : goal.lower_stmts-returns
+lower_stmts-returns t c = list_ended c.args.names.now c.args.line c.len-depth.result c.loop-s.s-index c.args.stmts.now _ _ _ (marks_count c.marks.result.now _ _ (search rules) c.marks.ensures.marks) c.loop-s-test.false c.loop-s.invariant c.in_ok-close_scopes.ensures
+
+pub lower_next-returns-in_ok-lower_objects-in-Some : goal.lower_next-returns-in_ok-lower_objects-in-Some
+lower_next-returns-in_ok-lower_objects-in-Some t c =
+    arm_next_objects c.args.names.now c.args.line c.s.inside.pos c.s.inside.form c.args.s.now c.in-Some.declared _ _ c.s.view_is (subst (λ o. DeclaresObjects c.args.names.now (stmt_at c.s.inside.pos c.s.inside.form) o) c.in-Some.is (c.declared_in.ensures c.s.inside.pos)) c.in_ok-lower_objects-in-Some.ensures
+
+pub lower_next-returns-in_ok-lower_stmt-in-None : goal.lower_next-returns-in_ok-lower_stmt-in-None
+lower_next-returns-in_ok-lower_stmt-in-None t c =
+    arm_next c.args.names.now c.args.line c.args.s.now _ _ (subst (λ u. DeclaresObjects c.args.names.now u None) c.s.view_is (subst (λ o. DeclaresObjects c.args.names.now (stmt_at c.s.inside.pos c.s.inside.form) o) c.in-None.is (c.declared_in.ensures c.s.inside.pos))) c.in_ok-lower_stmt-in-None.ensures
 
 pub lower_stmt-returns-in-Empty : goal.lower_stmt-returns-in-Empty
 lower_stmt-returns-in-Empty t c = arm_empty c.args.names.now c.args.s.now _ _ (stmt_is _ _ _ _ c.in-Empty.is c.s.view_is)
@@ -71,8 +99,8 @@ lower_stmt-returns-in-Migrate t c = arm_unasked c.args.names.now c.args.s.now _ 
 pub lower_stmt-returns-in_ok-put-in-Evaluate : goal.lower_stmt-returns-in_ok-put-in-Evaluate
 lower_stmt-returns-in_ok-put-in-Evaluate t c = arm_evaluate c.args.names.now c.args.s.now c.s.inside.pos c.in-Evaluate.value _ _ _ (stmt_is _ _ _ _ c.in-Evaluate.is c.s.view_is) c.in_ok-_told-in-Evaluate.ensures.code c.in_ok-put-in-Evaluate.ensures
 
-pub lower_stmt-returns-in_ok-lower_declarators-in-Declare : goal.lower_stmt-returns-in_ok-lower_declarators-in-Declare
-lower_stmt-returns-in_ok-lower_declarators-in-Declare t c = arm_declare c.args.names.now c.classless-in-Declare.ensures c.args.s.now c.s.inside.pos c.in-Declare.base c.deref-in-Declare.result.now c.in-Declare.declarators.items _ _ (stmt_is _ _ _ _ c.in-Declare.is c.s.view_is) c.deref-in-Declare.ensures.value c.in_ok-lower_declarators-in-Declare.ensures
+pub lower_stmt-returns-in_ok-lower_declaration-in-Declare : goal.lower_stmt-returns-in_ok-lower_declaration-in-Declare
+lower_stmt-returns-in_ok-lower_declaration-in-Declare t c = arm_declare c.args.names.now c.args.s.now c.s.inside.pos c.in-Declare.base c.deref-in-Declare.result.now c.in-Declare.declarators.items _ _ (stmt_is _ _ _ _ c.in-Declare.is c.s.view_is) c.deref-in-Declare.ensures.value c.in_ok-lower_declaration-in-Declare.ensures
 
 pub lower_stmt-returns-in_ok-lower_items-in-Print : goal.lower_stmt-returns-in_ok-lower_items-in-Print
 lower_stmt-returns-in_ok-lower_items-in-Print t c = arm_print c.args.names.now c.args.s.now c.s.inside.pos c.deref-in-Print.result.now c.in-Print.items.items _ _ (stmt_is _ _ _ _ c.in-Print.is c.s.view_is) c.deref-in-Print.ensures.value c.in_ok-lower_items-in-Print.ensures
@@ -100,7 +128,7 @@ lower_stmt-returns-in_ok-lower_loop-in-Do t c =
     arm_do c.args.names.now c.args.s.now c.s.inside.pos test _ _ _ _ _ (stmt_is _ _ _ _ c.in-Do.is c.s.view_is) c.deref-in-Do.ensures refl c.in_ok-lower_loop-in-Do.ensures
 
 pub lower_stmt-returns-in_ok-lower_for-in-For : goal.lower_stmt-returns-in_ok-lower_for-in-For
-lower_stmt-returns-in_ok-lower_for-in-For t c = arm_for_stmt c.args.names.now c.classless-in-For.ensures c.args.s.now c.s.inside.pos c.in-For.start c.in-For.test c.in-For.step _ _ _ _ (stmt_is _ _ _ _ c.in-For.is c.s.view_is) c.deref-in-For.ensures c.in_ok-lower_for-in-For.ensures
+lower_stmt-returns-in_ok-lower_for-in-For t c = arm_for_stmt c.args.names.now c.args.s.now c.s.inside.pos c.in-For.start c.in-For.test c.in-For.step _ _ _ _ (stmt_is _ _ _ _ c.in-For.is c.s.view_is) c.deref-in-For.ensures c.in_ok-lower_for-in-For.ensures
 
 pub lower_stmt-returns-in_ok-put_exit-in-Break : goal.lower_stmt-returns-in_ok-put_exit-in-Break
 lower_stmt-returns-in_ok-put_exit-in-Break t c = arm_break c.args.names.now c.args.s.now c.s.inside.pos _ _ (stmt_is _ _ _ _ c.in-Break.is c.s.view_is) c.in_ok-put_exit-in-Break.ensures
@@ -151,15 +179,15 @@ pub lower_loop-lower_alone-requires : goal.lower_loop-lower_alone-requires
 lower_loop-lower_alone-requires t c =
     let a = c.in_ok-begin_loop.ensures in
     let ar = a.room in
-    let cells = ap (λ (d : Draft). d.cells) c.in_ok-enter.ensures.ok ∙ ap (λ (d : Draft). d.cells) a.rest in
-    let scopes = ap (λ (d : Draft). d.scopes) c.in_ok-enter.ensures.ok ∙ ap (λ (d : Draft). d.scopes) a.rest in
-    let texts = ap (λ (d : Draft). d.texts) c.in_ok-enter.ensures.ok ∙ ap (λ (d : Draft). d.texts) a.rest in
-    let ops = ap (λ (d : Draft). length d.ops) c.in_ok-enter.ensures.ok in
+    let cells = ap (λ (d : Draft). d.cells) c.in_ok-enter_loop.ensures.ok ∙ ap (λ (d : Draft). d.cells) a.rest in
+    let scopes = ap (λ (d : Draft). d.scopes) c.in_ok-enter_loop.ensures.ok ∙ ap (λ (d : Draft). d.scopes) a.rest in
+    let texts = ap (λ (d : Draft). d.texts) c.in_ok-enter_loop.ensures.ok ∙ ap (λ (d : Draft). d.texts) a.rest in
+    let ops = ap (λ (d : Draft). length d.ops) c.in_ok-enter_loop.ensures.ok in
     (search rules, (c.requires.built, (omega (arith, ar, ops), (omega (arith, cells), (omega (arith, scopes), omega (arith, texts))))))
 
 pub lower_loop-returns : goal.lower_loop-returns
 lower_loop-returns t c =
-    arm_turns c.args.names.now c.args.line c.args.turning c.args.step.now c.args.body.now _ _ _ _ _ _ _ _ _ _ _ c.in_ok-begin_loop.ensures c.here-start.ensures.count c.in_ok-enter.ensures.ok c.in_ok-lower_alone.ensures c.leave.ensures c.here-step_at.ensures.count c.in_ok-lower_step.ensures c.here-test_at.ensures.count c.in_ok-lower_back.ensures c.end_loop.ensures
+    arm_turns c.args.names.now c.args.line c.args.turning c.args.step.now c.args.body.now _ _ _ _ _ _ _ _ _ _ _ c.in_ok-begin_loop.ensures c.here-start.ensures.count c.in_ok-enter_loop.ensures.ok c.in_ok-lower_alone.ensures c.leave.ensures c.here-step_at.ensures.count c.in_ok-lower_step.ensures c.here-test_at.ensures.count c.in_ok-lower_back.ensures c.end_loop.ensures
 
 pub lower_for-lower_loop-requires : goal.lower_for-lower_loop-requires
 lower_for-lower_loop-requires t c =
@@ -168,16 +196,23 @@ lower_for-lower_loop-requires t c =
     let hc = h.cells in
     let hs = h.opened in
     let ht = h.texts in
-    let ops = ap (λ (d : Draft). length d.ops) c.open_scope-outside.ensures.opened in
-    let cells = ap (λ (d : Draft). d.cells) c.open_scope-outside.ensures.opened in
-    let scopes = ap (λ (d : Draft). d.scopes) c.open_scope-outside.ensures.opened in
-    let texts = ap (λ (d : Draft). d.texts) c.open_scope-outside.ensures.opened in
+    let open : c.open_scope-outside.new.self ≡ _ = c.open_scope-outside.ensures.opened in
+    let room = ap taken open in
+    let marks = ap (λ (d : Draft). d.marks) open in
+    let objects = ap (λ (d : Draft). objects_in d.marks) open in
+    let inside : routine_in c.open_scope-outside.new.self.marks ≡ routine_in c.args.out.now.marks = ap (λ (d : Draft). routine_in d.marks) open in
+    let same = lays_routine h in
+    let cells = ap (λ (d : Draft). d.cells) open in
+    let scopes = ap (λ (d : Draft). d.scopes) open in
+    let texts = ap (λ (d : Draft). d.texts) open in
     let size = c.turning_of.ensures.size in
-    (search rules, (c.requires.built, (omega (arith, hr, ops, size), (omega (arith, hc, cells), (omega (arith, hs, scopes), omega (arith, ht, texts))))))
+    let less = loop_room c.args.names.now c.args.line c.args.start.now c.args.body.now _ _ h in
+    let grow : size_at c.args.body.now (objects_in c.open_scope-outside.new.self.marks + for_declares c.args.start.now) ≡ size_at c.args.body.now (objects_in c.args.out.now.marks + for_declares c.args.start.now) = ap (λ (k : ℕ). size_at c.args.body.now (k + for_declares c.args.start.now)) objects in
+    (search rules, (c.requires.built, (omega (arith, inside, same, c.requires.inside), (omega (arith, hr, room, size, less, grow, c.requires.room), (omega (arith, hc, cells), (omega (arith, hs, scopes), omega (arith, ht, texts)))))))
 
 pub lower_for-returns : goal.lower_for-returns
 lower_for-returns t c =
-    arm_for c.args.names.now c.args.line c.args.start.now c.args.test.now c.args.step.now c.args.body.now c.turning_of.result _ _ _ _ _ _ c.open_scope-outside.ensures.outside c.open_scope-outside.ensures.opened c.in_ok-lower_start.ensures (c.turning_of.ensures.order c.args.names.now) (c.turning_of.ensures.test c.args.names.now) c.turning_of.ensures.size c.in_ok-lower_loop.ensures c.leave_scope.ensures
+    arm_for c.args.names.now c.args.line c.len-depth.result c.args.start.now c.args.test.now c.args.step.now c.args.body.now c.turning_of.result _ _ _ _ _ _ _ c.open_scope-outside.ensures.outside c.open_scope-outside.ensures.opened (marks_count c.marks.result.now _ _ (search rules) c.marks.ensures.marks) c.in_ok-lower_start.ensures (c.turning_of.ensures.order c.args.names.now) (c.turning_of.ensures.test c.args.names.now) c.turning_of.ensures.size c.in_ok-lower_loop.ensures c.in_ok-close_scopes.ensures c.leave_scope.ensures
 
 pub lower_maybe-returns-in-None : goal.lower_maybe-returns-in-None
 lower_maybe-returns-in-None t c = arm_no_other c.args.names.now _ _ (ap maybe_at c.in-None.is)
