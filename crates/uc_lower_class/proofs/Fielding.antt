@@ -4,7 +4,7 @@ use Rattle.std.specs.Prelude.{option_map}
 use Rattle.uc_tree.specs.declared.limits.TheConstants.{OPS_FOR_SIZE}
 use Rattle.uc_tree.specs.Programs.{Class, Program}
 use Rattle.uc_tree.specs.Objects.{ClassField, class_shape, plain_class, shape_of}
-use Rattle.uc_tree.specs.Source.{CleanUp, Expr, Literal, OfObject, OwnField, Shape, Stmt, Stmts, Assign, Evaluate, Then, Built, Scoped}
+use Rattle.uc_tree.specs.Source.{field_cells, CleanUp, Expr, Literal, OfObject, OwnField, Shape, Stmt, Stmts, Assign, Evaluate, Then, Built, Scoped}
 use Rattle.uc_tree.specs.Resolve.{Meant, AtPlace, build, clean_up, converted, value_of, field_built, field_class, field_left, field_started, field_type, length_in_class}
 use Rattle.uc_code.specs.declared.op.Op.TheVariants as op
 use Rattle.uc_code.specs.declared.rows.Mark.{Mark}
@@ -44,7 +44,7 @@ module _ (p : Program) (c : Class) (i number : ℕ) (f : ClassField) (v : Field)
   pub told_class : plain_class p f.base ≡ v.told.class
   told_class = told.class
 
-  pub told_length : length_in_class p c f ≡ v.told.elements
+  pub told_length : length_in_class p c i f ≡ v.told.elements
   told_length = told.len
 
   pub told_shape : shape_of f.base ≡ shape_as v.told.scalar
@@ -96,28 +96,28 @@ module _ (p : Program) (c : Class) (i number : ℕ) (f : ClassField) (v : Field)
 
   pub field_begins : (part : Part) → part_in v ≡ Some part → BeginsAt place part.spot
   field_begins part e =
-      let same : spot.This _ ≡ part.spot = ap spot.This h.cell ∙ sym (parts_by v.by_ref v.told.class v.cell v.told.elements part e).begins in
+      let same : spot.This (field_cells (class_shape p i) number) ≡ part.spot = ap spot.This h.cell ∙ sym (parts_by v.by_ref v.told.class v.cell v.told.elements part e).begins in
       subst (λ (s : Spot). BeginsAt place s) same (InObject (class_shape p i) number)
 
-  length_is : (part : Part) → part_in v ≡ Some part → length_in_class p c f ≡ part.length
+  length_is : (part : Part) → part_in v ≡ Some part → length_in_class p c i f ≡ part.length
   length_is part e = told_length p c i number f v h ∙ sym (part_long v part e)
 
   pub field_part : (part : Part) → part_in v ≡ Some part → (args : List Meant) (rest : Stmts) → Then (build p 0 part.class part.length place args) (Built (clean_up p part.class part.length place) rest) ≡ field_then p c i number f args rest
   field_part part e args rest =
-      sym (ap (λ (o : Option ℕ). field_built p o f (length_in_class p c f) place args rest) (field_object part e) ∙ ap (λ (l : Option ℕ). field_built p (Some part.class) f l place args rest) (length_is part e))
+      sym (ap (λ (o : Option ℕ). field_built p o f (length_in_class p c i f) place args rest) (field_object part e) ∙ ap (λ (l : Option ℕ). field_built p (Some part.class) f l place args rest) (length_is part e))
 
   pub left_part : (part : Part) → part_in v ≡ Some part → (rest : Stmts) → Scoped (clean_up p part.class part.length place) rest ≡ left_then p c i number f rest
   left_part part e rest =
-      sym (ap (λ (o : Option ℕ). field_left p o (length_in_class p c f) place rest) (field_object part e) ∙ ap (λ (l : Option ℕ). field_left p (Some part.class) l place rest) (length_is part e))
+      sym (ap (λ (o : Option ℕ). field_left p o (length_in_class p c i f) place rest) (field_object part e) ∙ ap (λ (l : Option ℕ). field_left p (Some part.class) l place rest) (length_is part e))
 
   no_class : part_in v ≡ None → field_class p f ≡ None
   no_class e = class_told p c i number f v h ∙ no_part v.by_ref v.told.class v.cell v.told.elements e
 
   pub field_plain : part_in v ≡ None → (args : List Meant) (rest : Stmts) → started_then p i number f args rest ≡ field_then p c i number f args rest
-  field_plain e args rest = sym (ap (λ (o : Option ℕ). field_built p o f (length_in_class p c f) place args rest) (no_class e))
+  field_plain e args rest = sym (ap (λ (o : Option ℕ). field_built p o f (length_in_class p c i f) place args rest) (no_class e))
 
   pub left_plain : part_in v ≡ None → (rest : Stmts) → rest ≡ left_then p c i number f rest
-  left_plain e rest = sym (ap (λ (o : Option ℕ). field_left p o (length_in_class p c f) place rest) (no_class e))
+  left_plain e rest = sym (ap (λ (o : Option ℕ). field_left p o (length_in_class p c i f) place rest) (no_class e))
 
   -- a field that is no object
 
@@ -127,7 +127,7 @@ module _ (p : Program) (c : Class) (i number : ℕ) (f : ClassField) (v : Field)
   pub started_on : {n : ℕ} {old new : Draft} → (m : Meant) (ms : List Meant) (ws : List ObjectCall) → Adds n (StartedCode old.marks v.cell (held_by v.by_ref (shape_as v.told.scalar) m)) old new → Constructs n (started_then p i number f (m ∷ ms)) ws old ws new
   started_on {n} {old} {new} m ms ws g =
       let by_cell = subst (λ (k : ℕ). Adds n (StartedCode old.marks k (held_by v.by_ref (shape_as v.told.scalar) m)) old new) (sym h.cell) g in
-      let by_value = subst (λ (e : Expr). Adds n (StartedCode old.marks _ e) old new) (held_same m) by_cell in
+      let by_value = subst (λ (e : Expr). Adds n (StartedCode old.marks (field_cells (class_shape p i) number) e) old new) (held_same m) by_cell in
       constructs_does (Evaluate 0 (Assign place (if f.declarator.by_ref then m.expr else converted (shape_of f.base) (value_of m)))) ws (puts_adds by_value)
 
 pub started_none : (p : Program) (i number n : ℕ) (f : ClassField) (ws : List ObjectCall) (old : Draft) → Constructs n (started_then p i number f []) ws old ws old

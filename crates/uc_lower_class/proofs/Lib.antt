@@ -1,4 +1,9 @@
+pub mod Builders
 pub mod Fielding
+pub mod Further
 pub mod Leaving
 pub mod Looping
+pub mod Naming
 pub mod Parting
+pub mod Stepping
+pub mod Wholes

@@ -7,7 +7,8 @@ use Rattle.uc_tree.specs.Expressions as tree
 use Rattle.uc_tree.specs.ExpressionSizes.{exprs_size}
 use Rattle.uc_tree.specs.Names.{same_name}
 use Rattle.uc_tree.specs.Programs.{Class, Init, Program}
-use Rattle.uc_tree.specs.Cells.{leading_cells}
+use Rattle.uc_tree.specs.Cells.{leading_cells, seen_in}
+use Rattle.uc_tree.specs.Constants.{constants_of}
 use Rattle.uc_tree.specs.Objects.{ClassField, class_shape, fields_of}
 use Rattle.uc_tree.specs.Source.{OfObject, OwnField, Stmts}
 use Rattle.uc_tree.specs.Resolve.{Meant, Own, Scope, args_meant, context_at, field_built, field_class, field_left, field_length, field_place, fields_built, fields_left, init_args, init_named, length_in_class}
@@ -15,6 +16,7 @@ use Rattle.uc_code.specs.declared.rows.ObjectCall.{ObjectCall}
 use Rattle.uc_code.specs.Drafts.{Draft}
 use Rattle.uc_code.specs.Laid.{routine_in}
 use Rattle.uc_lower_stmt.specs.Scoped.{scope_of}
+use Rattle.uc_lower_stmt.proofs.Laying.{lays_routine}
 use Rattle.uc_lower_class.specs.Inits.{init_exprs, names_of}
 use Rattle.uc_lower_class.specs.Fields.{field_then, fields_room, left_then, part_room, room_by}
 use Rattle.uc_lower_class.specs.Pended.{Constructs, Opens, end_room}
@@ -27,12 +29,15 @@ pub drop_none : {A : Type 0} (xs : List A) → drop 0 xs ≡ xs
 drop_none [] = refl
 drop_none (x ∷ xs) = refl
 
-pub drop_at : {A : Type 0} (xs : List A) (k : ℕ) (x : A) → slice_get xs k ≡ Some x → drop k xs ≡ x ∷ drop (k + 1) xs
-drop_at [] k x e = cc
-drop_at (y ∷ ys) zero x e =
+drop_suc : {A : Type 0} (xs : List A) (k : ℕ) (x : A) → slice_get xs k ≡ Some x → drop k xs ≡ x ∷ drop (suc k) xs
+drop_suc [] k x e = cc
+drop_suc (y ∷ ys) zero x e =
     let is : y ≡ x = cc in
     ap (λ z. z ∷ ys) is ∙ ap (λ zs. x ∷ zs) (sym (drop_none ys))
-drop_at (y ∷ ys) (suc k) x e = drop_at ys k x e
+drop_suc (y ∷ ys) (suc k) x e = drop_suc ys k x e
+
+pub drop_at : {A : Type 0} (xs : List A) (k : ℕ) (x : A) → slice_get xs k ≡ Some x → drop k xs ≡ x ∷ drop (k + 1) xs
+drop_at xs k x e = let n : suc k ≡ k + 1 = omega arith in drop_suc xs k x e ∙ ap (λ m. x ∷ drop m xs) n
 
 pub drop_past : {A : Type 0} (xs : List A) (k : ℕ) → length xs ≤ k → drop k xs ≡ []
 drop_past [] zero h = refl
@@ -71,10 +76,10 @@ pub init_same : (p : Program) (s : Scope) (xs : List Init) (name : List ℕ) →
 init_same p s [] name = refl
 init_same p s (x ∷ xs) name = init_case p s x xs name (same_name x.name name) (init_same p s xs name)
 
-pub room_same : (p : Program) (c : Class) (f : ClassField) (l : Option ℕ) → length_in_class p c f ≡ l → part_room l ≡ room_by f.declarator.len
-room_same p c f l e = ap part_room (sym e) ∙ by_length f.declarator.len
+pub room_same : (p : Program) (c : Class) (i : ℕ) (f : ClassField) (l : Option ℕ) → length_in_class p c i f ≡ l → part_room l ≡ room_by f.declarator.len
+room_same p c i f l e = ap part_room (sym e) ∙ by_length f.declarator.len
   where
-    by_length : (o : Option tree.Expr) → part_room (field_length _ f.declarator o) ≡ room_by o
+    by_length : (o : Option tree.Expr) → part_room (field_length (seen_in (constants_of p.items) c) f.declarator o) ≡ room_by o
     by_length None = refl
     by_length (Some e) = refl
 
@@ -109,8 +114,8 @@ module _ (p : Program) (c : Class) (i : ℕ) where
       → Constructs (fields_room inits xs) (fields_built p c i inits s xs m) vs mid ts new → Constructs (fields_room inits (f ∷ xs)) (fields_built p c i inits s (f ∷ xs) n) us now ts new
   one_more inits s f xs n m us vs ts now mid new e h g =
       constructs_as (constructs_then h g) (omega arith) (λ ss.
-      ap (λ (args : List Meant). field_built p (field_class p f) f (length_in_class p c f) (field_place (class_shape p i) n Own) args (fields_built p c i inits s xs m ss)) (sym (init_same p s inits f.declarator.name))
-      ∙ ap (λ (k : ℕ). field_built p (field_class p f) f (length_in_class p c f) (field_place (class_shape p i) n Own) (init_args p s (init_named p inits f.declarator.name)) (fields_built p c i inits s xs k ss)) e)
+      ap (λ (args : List Meant). field_built p (field_class p f) f (length_in_class p c i f) (field_place (class_shape p i) n Own) args (fields_built p c i inits s xs m ss)) (sym (init_same p s inits f.declarator.name))
+      ∙ ap (λ (k : ℕ). field_built p (field_class p f) f (length_in_class p c i f) (field_place (class_shape p i) n Own) (init_args p s (init_named p inits f.declarator.name)) (fields_built p c i inits s xs k ss)) e)
 
   pub building_step : (inits : List Init) (s : Scope) (ws : List ObjectCall) (old : Draft) (place : ℕ) (us : List ObjectCall) (now : Draft) (f : ClassField) (vs : List ObjectCall) (mid : Draft) → Building inits s ws old place us now → slice_get fs place ≡ Some f
       → Constructs (field_room inits f) (field_then p c i (lead + place) f (args_meant (context_at p s) (init_exprs inits f.declarator.name))) us now vs mid → Building inits s ws old (place + 1) vs mid
@@ -146,11 +151,11 @@ module _ (p : Program) (c : Class) (i : ℕ) where
       let split = drop_at fs place f e in
       let next : lead + (place + 1) ≡ suc (lead + place) = omega arith in
       record {
-        inside = h.inside ∙ b.inside;
+        inside = lays_routine h ∙ b.inside;
         on = λ new g. b.on new (subst (λ (xs : List ClassField). Opens (length xs) (fields_left p c i xs (lead + place)) now new) (sym split) (
             opens_as (opens_then h g) (omega arith) (λ ss. ap (λ (k : ℕ). left_then p c i (lead + place) f (fields_left p c i (drop (place + 1) fs) k ss)) next)));
       }
 
   pub leaving_end : (old : Draft) (place : ℕ) (now : Draft) → Leaving old place now → length fs ≤ place → Opens (length fs) (fields_left p c i fs lead) old now
   leaving_end old place now b h =
-      b.on now (subst (λ (xs : List ClassField). Opens (length xs) (fields_left p c i xs (lead + place)) now now) (sym (drop_past fs place h)) (opens_nothing now))
+      b.on now (subst (λ (xs : List ClassField). Opens (length xs) (fields_left p c i xs (lead + place)) now now) (sym (drop_past fs place h)) (opens_nothing 0 now))

@@ -239,3 +239,29 @@ constructs_part c what ws us old new e f k g b =
     subst (λ (d : Draft). Constructs (clean_length what + 2) (λ ss. Built c ss) ws old us d) (sym e) (
     subst (λ (vs : List ObjectCall). Constructs (clean_length what + 2) (λ ss. Built c ss) ws old vs (opened opening.Part old)) (sym f) (
     parts_push c what ws old (subst (λ (d : Draft). Kept (laid_in old) (laid_in d)) e k) g b))
+
+-- parts that have ended one after another: whatever ends the others from here ends all
+pub record Ending (ws : List ObjectCall) (old : Draft) (us : List ObjectCall) (now : Draft) : Type 0 where
+  pub parts : PartsIn us now.marks
+  pub room : length now.ops + end_room us ≤ length old.ops + end_room ws
+  pub on : (new : Draft) → EndsParts us now new → EndsParts ws old new
+
+pub ending_begin : (ws : List ObjectCall) (old : Draft) → PartsIn ws old.marks → Ending ws old ws old
+ending_begin ws old p = record { parts = p; room = omega arith; on = λ new e. e }
+
+pub ending_step : (ws : List ObjectCall) (old : Draft) (what : ObjectCall) (us : List ObjectCall) (now mid : Draft) → Ending ws old (what ∷ us) now → ClosesPart what 0 now mid → Ending ws old us mid
+ending_step ws old what us now mid b h =
+    let q = in_part what us now.marks b.parts in
+    let marks : mid.marks ≡ drop 1 now.marks = h.marks q.row q.outer q.is ∙ sym (ap (λ (ns : List Mark). drop 1 ns) q.is ∙ drop_none q.outer) in
+    record {
+      parts = parts_behind what us now.marks mid.marks marks b.parts;
+      room = let x = h.room in let y = b.room in omega arith;
+      on = λ new e. b.on new (ends_part what us now mid new q h e);
+    }
+
+pub ending_end : (ws : List ObjectCall) (old now : Draft) → Ending ws old [] now → EndsParts ws old now
+ending_end ws old now b = b.on now (ends_nothing now)
+
+-- the newest part stands last in a list of the oldest first
+pub reverse_pop : (vs us : List ObjectCall) (what : ObjectCall) → vs ≡ us ++ what ∷ [] → reverse vs ≡ what ∷ reverse us
+reverse_pop vs us what e = ap reverse e ∙ reverse_push us what

@@ -4,31 +4,20 @@ use Rattle.uc_tree.specs.declared.limits.TheConstants.{OPS_FOR_SIZE}
 use Rattle.uc_tree.specs.declared.kinds.Role.{Role}
 use Rattle.uc_tree.specs.declared.kinds.Role.TheVariants as role
 use Rattle.uc_tree.specs.StatementSizes.{stmts_size}
+use Rattle.uc_tree.specs.Cells.{declared_cells, stmts_cells}
+use Rattle.uc_tree.specs.Scopes.{stmts_scopes}
 use Rattle.uc_tree.specs.Programs.{Class, Init, Program, Routine}
 use Rattle.uc_tree.specs.Numbering.{is_event, is_plain}
 use Rattle.uc_tree.specs.Objects.{Unwritten, class_at, place_of, written_at, unwritten_number}
 use Rattle.uc_tree.specs.Source.{Stmts, Whole}
 use Rattle.uc_tree.specs.Resolve.{Scope, body_by, class_by, place_or_zero, scope_behind, stmts_meant, unwritten_body}
-use Rattle.uc_code.specs.declared.rows.RoutineCode.{RoutineCode}
 use Rattle.uc_code.specs.Drafts.{Draft}
-use Rattle.uc_code.specs.Laid.{Laid, laid_in}
-use Rattle.uc_code.specs.Ranges.{Kept}
 use Rattle.uc_code.specs.Lowered.{StmtAt, StmtsAt}
+use Rattle.uc_code.specs.Open.{clean_room}
 use Rattle.uc_lower_expr.specs.Members.{count_fields}
 use Rattle.uc_lower_stmt.specs.Marked.{close_room}
-use Rattle.uc_lower_stmt.specs.Scoped.{scope_of, sizes_at}
+use Rattle.uc_lower_stmt.specs.Scoped.{Lowers, scope_of, sizes_at}
 use Rattle.uc_lower_class.specs.Fields.{all_built, all_left, all_room}
-
--- a draft with at most n ops more, for which S holds, in this scope. No more than k text literals came to it; its marks and routines
--- are as they were.
-pub record Bodied (n k : ℕ) (S : Laid → ℕ → ℕ → Type 0) (after : Scope) (old new : Draft) : Type 0 where
-  pub marks : new.marks ≡ old.marks
-  pub routines : new.routines ≡ old.routines
-  pub scope : scope_of new ≡ after
-  pub kept : Kept (laid_in old) (laid_in new)
-  pub room : length new.ops ≤ length old.ops + n
-  pub texts : new.texts ≤ old.texts + k
-  pub code : S (laid_in new) (length old.ops) (length new.ops)
 
 -- a body, and the block that it is
 
@@ -37,7 +26,7 @@ whole_room r = 2 + OPS_FOR_SIZE * sizes_at r.body 0
 
 abbrev pub LowersWhole : Program → Routine → Draft → Draft → Type 0
 LowersWhole p r old new =
-    Bodied (whole_room r) (stmts_size r.body) (λ code. StmtAt code old.marks (Whole r.brace.line (stmts_meant p r.body (scope_of old)))) (scope_behind p r.body (scope_of old)) old new
+    Lowers (whole_room r) (stmts_size r.body) (stmts_cells r.body (declared_cells p)) (stmts_scopes r.body) (λ code. StmtAt code old.marks (Whole r.brace.line (stmts_meant p r.body (scope_of old)))) (scope_behind p r.body (scope_of old)) old new
 
 -- the fields of the class with a place, where there is one
 
@@ -57,9 +46,13 @@ built_room p place r = all_room r.inits (class_by p place)
 abbrev pub left_room : Option Class → ℕ
 left_room c = close_room * count_fields c
 
+-- what the end of a part may take at most
+abbrev pub part_end : ℕ
+part_end = clean_room + 2
+
 abbrev pub role_room : Program → Role → Option ℕ → Routine → ℕ
 role_room p role.Plain place r = 0
-role_room p role.Constructor place r = built_room p place r + whole_room r
+role_room p role.Constructor place r = built_room p place r + whole_room r + part_end
 role_room p role.Destructor place r = left_room (class_by p place) + whole_room r
 
 -- the code of a written routine of this class, its return included
@@ -68,7 +61,7 @@ builder_room p r class = role_room p r.sig.role (place_of p class) r + 1
 
 abbrev pub LowersBody : Program → Role → Routine → Draft → Draft → Type 0
 LowersBody p wanted r old new =
-    Bodied (role_room p wanted (place_of p old.place.class) r) (stmts_size r.body) (λ code. StmtsAt code old.marks 0 (body_by p wanted r (scope_of old))) (scope_behind p r.body (scope_of old)) old new
+    Lowers (role_room p wanted (place_of p old.place.class) r) (stmts_size r.body) (stmts_cells r.body (declared_cells p)) (stmts_scopes r.body) (λ code. StmtsAt code old.marks 0 (body_by p wanted r (scope_of old))) (scope_behind p r.body (scope_of old)) old new
 
 -- one that nobody wrote: its place among the routines, its code
 pub record IsUnwritten (p : Program) (u : Unwritten) (number : ℕ) : Type 0 where
@@ -81,8 +74,8 @@ pub record IsUnwritten (p : Program) (u : Unwritten) (number : ℕ) : Type 0 whe
 
 abbrev pub unwritten_room : Role → Option Class → ℕ
 unwritten_room role.Plain c = 0
-unwritten_room role.Constructor c = all_room [] c
+unwritten_room role.Constructor c = all_room [] c + part_end
 unwritten_room role.Destructor c = left_room c
 
 abbrev pub LowersUnwritten : Program → Role → ℕ → Draft → Draft → Type 0
-LowersUnwritten p wanted i old new = Bodied (unwritten_room wanted (class_at p i)) 0 (λ code. StmtsAt code old.marks 0 (unwritten_body p wanted i)) (scope_of old) old new
+LowersUnwritten p wanted i old new = Lowers (unwritten_room wanted (class_at p i)) 0 0 0 (λ code. StmtsAt code old.marks 0 (unwritten_body p wanted i)) (scope_of old) old new

@@ -50,10 +50,10 @@ pub record FieldsBehind (p : Program) (i number : ℕ) : Type 0 where
 
 -- a field of the class c with the place i is built with these arguments, before other statements; and it is in scope in them
 abbrev pub field_then : Program → Class → ℕ → ℕ → ClassField → List Meant → Stmts → Stmts
-field_then p c i number f args rest = field_built p (field_class p f) f (length_in_class p c f) (field_place (class_shape p i) number Own) args rest
+field_then p c i number f args rest = field_built p (field_class p f) f (length_in_class p c i f) (field_place (class_shape p i) number Own) args rest
 
 abbrev pub left_then : Program → Class → ℕ → ℕ → ClassField → Stmts → Stmts
-left_then p c i number f rest = field_left p (field_class p f) (length_in_class p c f) (field_place (class_shape p i) number Own) rest
+left_then p c i number f rest = field_left p (field_class p f) (length_in_class p c i f) (field_place (class_shape p i) number Own) rest
 
 abbrev pub started_then : Program → ℕ → ℕ → ClassField → List Meant → Stmts → Stmts
 started_then p i number f args rest = field_started p f (field_place (class_shape p i) number Own) args rest

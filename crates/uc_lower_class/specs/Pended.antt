@@ -1,5 +1,5 @@
 -- Parts of an object under construction that are built, while what follows them is still to come.
-use Rattle.std.specs.Prelude.{◌≡◌, ℕ, ◌+◌, ◌≤◌, List, [], ◌∷◌, ◌++◌, drop, length, reverse}
+use Rattle.std.specs.Prelude.{◌≡◌, ℕ, ◌+◌, ◌*◌, ◌≤◌, List, [], ◌∷◌, ◌++◌, drop, length, reverse}
 use Rattle.uc_tree.specs.Source.{CleanUp, Stmt, Stmts}
 use Rattle.uc_code.specs.declared.rows.Mark.{Mark}
 use Rattle.uc_code.specs.declared.rows.Mark.TheVariants as mark
@@ -11,8 +11,9 @@ use Rattle.uc_code.specs.Ranges.{Kept}
 use Rattle.uc_code.specs.Lowered.{StmtAt, StmtsAt}
 use Rattle.uc_code.specs.ObjectCalls.{Cleans}
 use Rattle.uc_code.specs.Puts.{clean_length}
-use Rattle.uc_lower_stmt.specs.Marked.{objects_in}
-use Rattle.uc_lower_stmt.specs.Pending.{Step, Does, Builds, block_of, Pending}
+use Rattle.uc_lower_stmt.specs.Marked.{close_room}
+use Rattle.uc_lower_stmt.specs.Pending.{Step, Does, Builds, Lays, block_of}
+use Rattle.uc_lower_stmt.specs.Scoped.{scope_of}
 
 -- steps that are laid out in no line, from these marks and this place to those marks and that place, with the clean-ups of the parts
 -- among them; the newest stands first
@@ -52,11 +53,5 @@ pub record EndsParts (ws : List ObjectCall) (old new : Draft) : Type 0 where
   pub marks : new.marks ≡ drop (length ws) old.marks
 
 -- the scopes of some fields are opened, of at most so many objects
-pub record Opens (n : ℕ) (F : Stmts → Stmts) (old new : Draft) : Type 0 where
-  pub rest : new ≡ record old { rows = new.rows; settled = new.settled; marks = new.marks }
-  pub kept : Kept (laid_in old) (laid_in new)
-  pub inside : routine_in new.marks ≡ routine_in old.marks
-  pub objects : objects_in new.marks ≤ objects_in old.marks + n
-  pub steps : List Step
-  pub block : (ss : Stmts) → block_of steps ss ≡ F ss
-  pub code : (ms : List Mark) (a : ℕ) (ks : List Step) → Pending (laid_in old) 0 ms a ks old.marks (length old.ops) → Pending (laid_in new) 0 ms a (steps ++ ks) new.marks (length new.ops)
+abbrev pub Opens : ℕ → (Stmts → Stmts) → Draft → Draft → Type 0
+Opens n F old new = Lays (close_room * n) 0 0 n 0 0 F (scope_of old) old new

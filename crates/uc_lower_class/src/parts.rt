@@ -11,6 +11,7 @@ ghost use Rattle.uc_tree.specs.Source.{Built, Expr as Place, Scoped, Then};
 ghost use Rattle.uc_tree.specs.Resolve.{args_meant, build, clean_up, meant};
 ghost use Rattle.uc_code.specs.declared.rows.ObjectCall.{ObjectCall as Call};
 ghost use Rattle.uc_code.specs.ObjectCalls.{BeginsAt};
+ghost use Rattle.uc_code.specs.Open.{clean_room};
 ghost use Rattle.uc_lower_expr.specs.Added.{Adds, ExprCode};
 ghost use Rattle.uc_lower_expr.specs.Contexts.{context_in};
 ghost use Rattle.uc_lower_expr.specs.Meanings.{shape_as};
@@ -179,7 +180,7 @@ pub(crate) fn lower_left(
 /// Ends what follows these parts, the last one first. After want of memory the draft is spent.
 pub(crate) fn close_parts(parts: &mut Vec<ObjectCall>, out: &mut Draft) -> Result<(), AllocError>
     requires parts { PartsIn (reverse parts.old.items) out.old.marks }
-    requires room { length out.old.ops + end_room parts.old.items ≤ PROGRAM_OPS }
+    requires room { length out.old.ops + end_room parts.old.items + (clean_room + 2) ≤ PROGRAM_OPS }
     ensures { OnOk result (EndsParts (reverse parts.old.items) out.old out.new) }
 {
     while let Some(what) = parts.pop() {
