@@ -1,7 +1,7 @@
 -- What the fields of a class cost in its constructor and in its destructor is counted by its declarators, and the rest of a routine
 -- by the routine.
-use Rattle.std.proofs.Common.{◌≡◌, ℕ, zero, suc, ◌+◌, ◌*◌, ◌≤◌, ◌<◌, List, [], ◌∷◌, ◌++◌, Option, Some, None, length, refl, ap, sym, ◌∙◌, arith}
-use Rattle.std.proofs.lemmas.List.{length-append}
+use Rattle.std.proofs.Common.{◌≡◌, ℕ, zero, suc, ◌+◌, ◌*◌, ◌≤◌, ◌<◌, List, [], ◌∷◌, ◌++◌, Option, Some, None, length, take, refl, ap, sym, ◌∙◌, arith}
+use Rattle.std.specs.Prelude.{slice_get}
 use Rattle.uc_tree.specs.declared.kinds.Base.{Base}
 use Rattle.uc_tree.specs.declared.kinds.Owner.{Owner}
 use Rattle.uc_tree.specs.declared.kinds.Owner.TheVariants as owner
@@ -55,7 +55,7 @@ fields_few (f ∷ fs) =
 -- the size of a program: its routines, and the fields of its classes
 
 abbrev pub own_size : Routine → ℕ
-own_size r = inits_size r.inits + stmts_size r.body + exits_all r.body 0
+own_size r = length r.sig.params + inits_size r.inits + stmts_size r.body + exits_all r.body 0
 
 abbrev pub owns : List Defined → ℕ
 owns [] = 0
@@ -134,3 +134,12 @@ module _ (p : Program) where
 
   pub size_split : owns (routines_of p) + class_sizes (classes_of p.items) ≤ program_size p
   size_split = items_split p.items
+
+pub owns_push : (xs : List Defined) (x : Defined) → owns (xs ++ x ∷ []) ≡ owns xs + (1 + own_size x.routine)
+owns_push xs x = let h = owns_join xs (x ∷ []) in omega (arith, h)
+
+-- one routine among them
+pub own_few : (ds : List Defined) (i : ℕ) (d : Defined) → slice_get ds i ≡ Some d → owns (take i ds) + (1 + own_size d.routine) ≤ owns ds
+own_few [] i d e = cc
+own_few (x ∷ xs) zero d e = let is : x ≡ d = cc in let s : own_size x.routine ≡ own_size d.routine = ap (λ (y : Defined). own_size y.routine) is in omega (arith, s)
+own_few (x ∷ xs) (suc i) d e = let h = own_few xs i d e in omega (arith, h)

@@ -73,7 +73,7 @@ named_sizes is (n ∷ ns) = init_size is n + named_sizes is ns
 
 pub none_named : (ns : List (List ℕ)) → named_sizes [] ns ≡ 0
 none_named [] = refl
-none_named (n ∷ ns) = none_named ns
+none_named (n ∷ ns) = let h = none_named ns in omega (arith, h)
 
 first_named : (x : Init) (xs : List Init) (ns : List (List ℕ)) → named_sizes (x ∷ xs) ns ≤ counted x.name (exprs_size x.args) ns + named_sizes xs ns
 first_named x xs [] = omega arith

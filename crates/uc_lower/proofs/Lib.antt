@@ -13,3 +13,4 @@ pub mod Refused
 pub mod Ruled
 mod Rooms
 mod Sums
+mod Unwritten

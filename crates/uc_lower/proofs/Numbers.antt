@@ -61,13 +61,13 @@ pub record IsNamed (cs : List Class) (j : ℕ) (name : List ℕ) : Type 0 where
   pub there : slice_get cs j ≡ Some class
   pub named : class.name ≡ name
 
+abbrev Rest : List Class → ℕ → ℕ → List ℕ → Type 0
+Rest cs i0 i name = (b t : ℕ) → place_from b (class_names cs) name ≡ Some (b + t) → objects.place_from cs (i0 + 1) (suc t) ≡ Some i → (i0 + 1 ≤ i) × IsNamed cs (i - (i0 + 1)) name
+
 ranked : (cs : List Class) (b t i0 i : ℕ) (name : List ℕ) → place_from b (class_names cs) name ≡ Some (b + t) → objects.place_from cs i0 (suc t) ≡ Some i → (i0 ≤ i) × IsNamed cs (i - i0) name
 ranked [] b t i0 i name e f = cc
 ranked (c ∷ cs) b t i0 i name e f = by_kind (λ b t e f. ranked cs b t (i0 + 1) i name e f) (is_event c.kind) e f
   where
-    abbrev Rest : Type 0
-    Rest = (b t : ℕ) → place_from b (class_names cs) name ≡ Some (b + t) → objects.place_from cs (i0 + 1) (suc t) ≡ Some i → (i0 + 1 ≤ i) × IsNamed cs (i - (i0 + 1)) name
-
     later : (j : ℕ) → (i0 + 1 ≤ j) × IsNamed cs (j - (i0 + 1)) name → (i0 ≤ j) × IsNamed (c ∷ cs) (j - i0) name
     later j h =
         let low = h.0 in
@@ -78,11 +78,11 @@ ranked (c ∷ cs) b t i0 i name e f = by_kind (λ b t e f. ranked cs b t (i0 + 1
     here : i0 ≡ i → c.name ≡ name → (i0 ≤ i) × IsNamed (c ∷ cs) (i - i0) name
     here is e = let first : i - i0 ≡ 0 = omega (arith, is) in (omega (arith, is), record { class = c; there = ap (slice_get (c ∷ cs)) first; named = e })
 
-    next_case : Rest → (s : ℕ) → t ≡ s → place_from (b + 1) (class_names cs) name ≡ Some (b + t) → (if nat_eq s 0 then Some i0 else objects.place_from cs (i0 + 1) s) ≡ Some i → (i0 ≤ i) × IsNamed (c ∷ cs) (i - i0) name
+    next_case : Rest cs i0 i name → (s : ℕ) → t ≡ s → place_from (b + 1) (class_names cs) name ≡ Some (b + t) → (if nat_eq s 0 then Some i0 else objects.place_from cs (i0 + 1) s) ≡ Some i → (i0 ≤ i) × IsNamed (c ∷ cs) (i - i0) name
     next_case rest zero is e f = let w = (place_within (b + 1) (class_names cs) name (b + t) e).0 in absurd (omega (arith, w, is))
     next_case rest (suc s) is e f = let z : b + t ≡ b + 1 + s = omega (arith, is) in later i (rest (b + 1) s (e ∙ ap Some z) f)
 
-    first_case : Rest → (s : Bool) → same_name c.name name ≡ s → (if s then Some b else place_from (b + 1) (class_names cs) name) ≡ Some (b + t) → (if nat_eq t 0 then Some i0 else objects.place_from cs (i0 + 1) t) ≡ Some i → (i0 ≤ i) × IsNamed (c ∷ cs) (i - i0) name
+    first_case : Rest cs i0 i name → (s : Bool) → same_name c.name name ≡ s → (if s then Some b else place_from (b + 1) (class_names cs) name) ≡ Some (b + t) → (if nat_eq t 0 then Some i0 else objects.place_from cs (i0 + 1) t) ≡ Some i → (i0 ≤ i) × IsNamed (c ∷ cs) (i - i0) name
     first_case rest true x e f =
         let is : b ≡ b + t = cc in
         let none : t ≡ 0 = omega (arith, is) in
@@ -91,7 +91,7 @@ ranked (c ∷ cs) b t i0 i name e f = by_kind (λ b t e f. ranked cs b t (i0 + 1
         here same ((bytes_decides c.name name).0 x)
     first_case rest false x e f = next_case rest t refl e f
 
-    by_kind : Rest → (v : Bool) → place_from b (if v then class_names cs else c.name ∷ class_names cs) name ≡ Some (b + t) → (if v then objects.place_from cs (i0 + 1) (suc t) else (if nat_eq t 0 then Some i0 else objects.place_from cs (i0 + 1) t)) ≡ Some i → (i0 ≤ i) × IsNamed (c ∷ cs) (i - i0) name
+    by_kind : Rest cs i0 i name → (v : Bool) → place_from b (if v then class_names cs else c.name ∷ class_names cs) name ≡ Some (b + t) → (if v then objects.place_from cs (i0 + 1) (suc t) else (if nat_eq t 0 then Some i0 else objects.place_from cs (i0 + 1) t)) ≡ Some i → (i0 ≤ i) × IsNamed (c ∷ cs) (i - i0) name
     by_kind rest true e f = later i (rest b t e f)
     by_kind rest false e f = first_case rest (same_name c.name name) refl e f
 
