@@ -154,11 +154,11 @@ class_index (x ∷ is) (suc j) c e = later x (class_index is j c e)
   where
     later : (x : Item) → IsClass is c → IsClass (x ∷ is) c
     later (ClassItem y) h = record { place = suc h.place; there = h.there }
-    later (RoutineItem y) h = h
-    later (ConstItem y) h = h
-    later (ProtoItem y) h = h
-    later (ForwardItem y) h = h
-    later (UsingItem y) h = h
+    later (RoutineItem y) h = record { place = h.place; there = h.there }
+    later (ConstItem y) h = record { place = h.place; there = h.there }
+    later (ProtoItem y) h = record { place = h.place; there = h.there }
+    later (ForwardItem y) h = record { place = h.place; there = h.there }
+    later (UsingItem y) h = record { place = h.place; there = h.there }
 
 -- routines of members
 

@@ -7,6 +7,7 @@ mod Ending
 pub mod Laying
 pub mod Mained
 mod Named
+mod Numbered
 mod Numbers
 mod Owed
 pub mod Refused

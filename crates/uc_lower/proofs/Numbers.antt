@@ -2,6 +2,7 @@
 use Rattle.std.proofs.Common.{◌≡◌, ℕ, zero, suc, ◌+◌, ◌-◌, ◌≤◌, ◌<◌, List, [], ◌∷◌, ◌++◌, Bool, true, false, ◌||◌, Option, Some, None, if◌then◌else◌, map, nat_eq, nat_le, unwrap_or, refl, ap, sym, subst, ◌∙◌, arith, true≢false}
 use Rattle.std.specs.Prelude.{option_and_then, slice_get}
 use Rattle.std.specs.List.{list_any}
+use Rattle.std.proofs.lemmas.Bool.{ne_eqb}
 use Rattle.std.specs.Cmp.Lexicographic.{bytes_decides}
 use Rattle.uc_tree.specs.declared.limits.TheConstants.{LAST_CLASS}
 use Rattle.uc_tree.specs.declared.kinds.Kind.{Kind}
@@ -80,7 +81,7 @@ ranked (c ∷ cs) b t i0 i name e f = by_kind (λ b t e f. ranked cs b t (i0 + 1
 
     next_case : Rest cs i0 i name → (s : ℕ) → t ≡ s → place_from (b + 1) (class_names cs) name ≡ Some (b + t) → (if nat_eq s 0 then Some i0 else objects.place_from cs (i0 + 1) s) ≡ Some i → (i0 ≤ i) × IsNamed (c ∷ cs) (i - i0) name
     next_case rest zero is e f = let w = (place_within (b + 1) (class_names cs) name (b + t) e).0 in absurd (omega (arith, w, is))
-    next_case rest (suc s) is e f = let z : b + t ≡ b + 1 + s = omega (arith, is) in later i (rest (b + 1) s (e ∙ ap Some z) f)
+    next_case rest (suc s) is e f = let z : b + t ≡ b + 1 + s = omega (arith, is) in let g : objects.place_from cs (i0 + 1) (suc s) ≡ Some i = sym (ap (λ (t : Bool). if t then Some i0 else objects.place_from cs (i0 + 1) (suc s)) (ne_eqb (suc s) 0 (λ q. absurd (omega (arith, q))))) ∙ f in later i (rest (b + 1) s (e ∙ ap Some z) g)
 
     first_case : Rest cs i0 i name → (s : Bool) → same_name c.name name ≡ s → (if s then Some b else place_from (b + 1) (class_names cs) name) ≡ Some (b + t) → (if nat_eq t 0 then Some i0 else objects.place_from cs (i0 + 1) t) ≡ Some i → (i0 ≤ i) × IsNamed (c ∷ cs) (i - i0) name
     first_case rest true x e f =

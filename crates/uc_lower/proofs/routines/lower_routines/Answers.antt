@@ -1,4 +1,4 @@
-use Rattle.std.proofs.Common.{◌≡◌, ◌+◌, ◌<◌, ◌≤◌, ℕ, Some, length, refl, sym, subst, ap, arith}
+use Rattle.std.proofs.Common.{◌≡◌, ◌+◌, ◌<◌, ◌≤◌, ℕ, Some, length, nat_eq, refl, sym, subst, ap, ◌∙◌, arith}
 use Rattle.std.specs.Prelude.{slice_get}
 use Rattle.uc_tree.specs.Numbering.{routines_of}
 use Rattle.uc_numbers.specs.Routines.{defined_at}
@@ -17,7 +17,7 @@ lower_written-requires-clause-alone c =
     let t = c.requires.table in
     let at = found_at c.args.defined.now (routines_of c.args.names.now) c.loop-number.number c.index-defined-number.result c.requires.defined (omega (arith, k, l)) c.index-defined-number.is in
     let f = follows c.args.names.now (length c.args.out.now.routines) c.loop-number.number c.loop-number.texts c.loop-number.sites (defined_at c.index-defined-number.result) c.loop-number.out c.requires.built c.requires.unbroken c.requires.fits (omega (arith, n, k, t)) at c.loop-number.invariant in
-    ?
+    λ e. ap (nat_eq c.loop-number.number) c.requires.main ∙ f.alone e
 
 pub lower_written-requires-clause-built : goal.lower_written-requires-clause-built
 lower_written-requires-clause-built c =
