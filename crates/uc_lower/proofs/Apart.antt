@@ -206,9 +206,10 @@ module _ (p : Program) (none : breaks_of p ≡ []) where
       by_form : (f : MemberForm) → m.form ≡ f → AreApart p (items_defined p before ++ members_defined p c.name (first ++ m ∷ [])) (members_defined p c.name ms) → AreApart p (items_defined p before ++ members_defined p c.name first) (form_defined p c.name f ++ members_defined p c.name ms)
       by_form (FieldsMember at b ds) g a = subst (λ xs. AreApart p (items_defined p before ++ xs) (members_defined p c.name ms)) (members_join first m ∙ ap (λ f. members_defined p c.name first ++ form_defined p c.name f) g ∙ append-nil (members_defined p c.name first)) a
       by_form (ProtoMember s) g a = subst (λ xs. AreApart p (items_defined p before ++ xs) (members_defined p c.name ms)) (members_join first m ∙ ap (λ f. members_defined p c.name first ++ form_defined p c.name f) g ∙ append-nil (members_defined p c.name first)) a
-      by_form (RoutineMember r) g a =
-          (record { at = λ i e. number_back p c.name i e; alone = λ i e b. none_of (items_defined p before ++ members_defined p c.name first) 0 (unwrap_or (class_number p c.name) 0) r.sig.role (clash r g i e b) },
-           subst (λ xs. AreApart p xs (members_defined p c.name ms)) (ap (λ xs. items_defined p before ++ xs) (members_join first m ∙ ap (λ f. members_defined p c.name first ++ form_defined p c.name f) g) ∙ sym (append_assoc (items_defined p before) (members_defined p c.name first) (in_class p c.name r ∷ []))) a)
+      by_form (RoutineMember r) g a = (
+        record { at = λ i e. number_back p c.name i e; alone = λ i e b. none_of (items_defined p before ++ members_defined p c.name first) 0 (unwrap_or (class_number p c.name) 0) r.sig.role (clash r g i e b) },
+        subst (λ xs. AreApart p xs (members_defined p c.name ms)) (ap (λ xs. items_defined p before ++ xs) (members_join first m ∙ ap (λ f. members_defined p c.name first ++ form_defined p c.name f) g) ∙ sym (append_assoc (items_defined p before) (members_defined p c.name first) (in_class p c.name r ∷ []))) a,
+      )
 
   outside_apart : (before : List Item) (r : Routine) (after : List Item) → p.items ≡ before ++ RoutineItem r ∷ after → (o : Owner) → r.sig.owner ≡ o → IsApart p (items_defined p before) (defined_by p o r)
   outside_apart before r after is owner.Here own = record { at = λ i e. absurd (zero_nowhere (classes_of p.items) 0 i e); alone = λ i e b. absurd (zero_nowhere (classes_of p.items) 0 i e) }

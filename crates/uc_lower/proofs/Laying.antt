@@ -1,5 +1,5 @@
 -- Routines are laid out one after another.
-use Rattle.std.proofs.Common.{◌≡◌, ℕ, zero, suc, ◌+◌, ◌*◌, ◌≤◌, ◌<◌, true, List, [], ◌∷◌, ◌++◌, Some, length, length-take, take, refl, ap, sym, subst, ◌∙◌, arith, append_assoc}
+use Rattle.std.proofs.Common.{◌≡◌, ℕ, zero, suc, ◌+◌, ◌*◌, ◌≤◌, ◌<◌, true, false, List, [], ◌∷◌, ◌++◌, Some, length, length-take, take, refl, ap, sym, subst, ◌∙◌, arith, append_assoc}
 use Rattle.std.specs.Prelude.{slice_get, slice_set}
 use Rattle.std.proofs.lemmas.List.{append-nil, length-append}
 use Rattle.uc_tree.specs.Gathered.{gathered_all}
@@ -17,7 +17,13 @@ use Rattle.uc_code.specs.Ranges.{Kept}
 use Rattle.uc_code.specs.Lowered.{StmtsAt, EndAt, RoutineAt, RoutinesAt, body_line, body_mark}
 use Rattle.uc_code.proofs.Stable.{both_stable, kept_same}
 use Rattle.uc_lower_stmt.proofs.Kept.{stmts_stable, end_stable}
-use Rattle.uc_lower.specs.Laying.{Lays, LaysAll, defined_texts, own_room, routine_room, unwritten_rooms, written_room}
+use Rattle.uc_tree.specs.declared.limits.TheConstants.{OPS_FOR_SIZE}
+use Rattle.uc_tree.specs.declared.kinds.Role.{Role}
+use Rattle.uc_tree.specs.declared.kinds.Role.TheVariants as role
+use Rattle.uc_tree.specs.Numbering.{is_plain}
+use Rattle.uc_lower_stmt.specs.Scoped.{sizes_at}
+use Rattle.uc_lower_class.specs.Bodies.{builder_room}
+use Rattle.uc_lower.specs.Laying.{Lays, LaysAll, defined_texts, own_room, role_room_of, routine_room, unwritten_rooms, written_room}
 use Rattle.uc_lower.proofs.Built.{stmts_sites}
 
 routine_moves : (old new : Laid) (n : ℕ) (r : source.Routine) (c : RoutineCode) (a z : ℕ) → z ≤ length old.ops → Kept old new → RoutineAt old n r c a z → RoutineAt new n r c a z
@@ -120,6 +126,16 @@ within (y ∷ ys) zero x e = omega arith
 within (y ∷ ys) (suc i) x e = let h = within ys i x e in omega arith
 
 -- how many ops they take at most
+
+pub plain_room : (p : Program) (d : Defined) (r : Role) → d.routine.sig.role ≡ r → is_plain r ≡ true → routine_room p d ≡ OPS_FOR_SIZE * (1 + sizes_at d.routine.body 0)
+plain_room p d role.Plain e b = ap (λ (r : Role). role_room_of p r d) e
+plain_room p d role.Constructor e b = cc
+plain_room p d role.Destructor e b = cc
+
+pub builder_room_is : (p : Program) (d : Defined) (r : Role) → d.routine.sig.role ≡ r → is_plain r ≡ false → routine_room p d ≡ builder_room p d.routine d.number
+builder_room_is p d role.Plain e b = cc
+builder_room_is p d role.Constructor e b = ap (λ (r : Role). role_room_of p r d) e
+builder_room_is p d role.Destructor e b = ap (λ (r : Role). role_room_of p r d) e
 
 room_push : (p : Program) (xs : List Defined) (x : Defined) → written_room p (xs ++ x ∷ []) ≡ written_room p xs + routine_room p x
 room_push p [] x = omega arith

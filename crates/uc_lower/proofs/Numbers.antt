@@ -42,6 +42,7 @@ number_by p (Some n) i e = by_case (nat_le n LAST_CLASS) e
     no_place : (cs : List Class) → objects.place_from cs 0 0 ≡ Some i → ⊥
     no_place [] e = cc
     no_place (c ∷ cs) e = cc
+
     by_case : (t : Bool) → place_of p (unwrap_or (if t then Some n else None) 0) ≡ Some i → Some n ≡ Some (unwrap_or (if t then Some n else None) 0)
     by_case true e = refl
     by_case false e = absurd (no_place (classes_of p.items) e)

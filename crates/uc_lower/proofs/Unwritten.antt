@@ -74,12 +74,14 @@ not_true false h = refl
 -- two lists that have nothing in common
 once_join : (xs ys : List Unwritten) → Once xs → Once ys → ((i : ℕ) (r : Role) → stands xs i r ≡ true → stands ys i r ≡ false) → Once (xs ++ ys)
 once_join [] ys a b f = b
-once_join (x ∷ xs) ys a b f =
-    (join_stands xs ys x.class x.role ∙ or_none (stands xs x.class x.role) (stands ys x.class x.role) a.0 (f x.class x.role (first (is_it x.class x.role x) (stands xs x.class x.role) (ap (λ b. b && same_role x.role x.role) (eq-eqb x.class x.class refl) ∙ same_self x.role))),
-     once_join xs ys a.1 b (λ i r s. f i r (later (is_it i r x) (stands xs i r) s)))
+once_join (x ∷ xs) ys a b f = (
+  join_stands xs ys x.class x.role ∙ or_none (stands xs x.class x.role) (stands ys x.class x.role) a.0 (f x.class x.role (first (is_it x.class x.role x) (stands xs x.class x.role) (ap (λ b. b && same_role x.role x.role) (eq-eqb x.class x.class refl) ∙ same_self x.role))),
+  once_join xs ys a.1 b (λ i r s. f i r (later (is_it i r x) (stands xs i r) s)),
+)
   where
     first : (a b : Bool) → a ≡ true → (a || b) ≡ true
     first a b e = ap (λ t. t || b) e
+
     later : (a b : Bool) → b ≡ true → (a || b) ≡ true
     later true b e = refl
     later false b e = e
@@ -103,6 +105,7 @@ by_role None i j r s e = second (nat_eq i j) (same_role s r) (whole (nat_eq i j 
     whole : (a : Bool) → (a || false) ≡ true → a ≡ true
     whole true e = refl
     whole false e = cc
+
     second : (a b : Bool) → (a && b) ≡ true → b ≡ true
     second true b e = e
     second false b e = cc
@@ -127,6 +130,7 @@ later_stands p h (c ∷ cs) first i r e =
     own_part : (b rest : Bool) → stands (unwritten_at p first) i r ≡ b → (rest ≡ true → first + 1 ≤ i) → (b || rest) ≡ true → first ≤ i
     own_part true rest s f e = let is = own_at p first i r s in omega (arith, is)
     own_part false rest s f e = let l = f e in omega (arith, l)
+
     by_part : (stands (unwritten_of_height p h cs (first + 1)) i r ≡ true → first + 1 ≤ i) → (v b : Bool) → (stands (if not v && b then unwritten_at p first else []) i r || stands (unwritten_of_height p h cs (first + 1)) i r) ≡ true → first ≤ i
     by_part f true b e = let l = f e in omega (arith, l)
     by_part f false false e = let l = f e in omega (arith, l)
@@ -189,6 +193,7 @@ placed (x ∷ xs) (suc k) u o e = by_case (is_it u.class u.role x) refl (placed 
     both : (a b : Bool) → (a && b) ≡ true → (a ≡ true) × (b ≡ true)
     both true b e = (refl, e)
     both false b e = cc
+
     by_case : (b : Bool) → is_it u.class u.role x ≡ b → place_among xs u.class u.role ≡ k → (if b then 0 else suc (place_among xs u.class u.role)) ≡ suc k
     by_case true t m =
         let q = both (nat_eq x.class u.class) (same_role u.role x.role) t in
