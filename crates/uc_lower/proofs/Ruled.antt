@@ -112,6 +112,7 @@ module _ (p : Program) where
       or_first : (a b : Bool) → (a || b) ≡ false → a ≡ false
       or_first true b e = cc
       or_first false b e = refl
+
       or_second : (a b : Bool) → (a || b) ≡ false → b ≡ false
       or_second true b e = cc
       or_second false b e = e

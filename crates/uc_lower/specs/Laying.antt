@@ -16,13 +16,13 @@ use Rattle.uc_lower_class.specs.Bodies.{builder_room, unwritten_room}
 
 -- how many ops a routine takes at most
 
-abbrev pub room_by : Program → Role → Defined → ℕ
-room_by p role.Plain d = OPS_FOR_SIZE * (1 + sizes_at d.routine.body 0)
-room_by p role.Constructor d = builder_room p d.routine d.number
-room_by p role.Destructor d = builder_room p d.routine d.number
+abbrev pub role_room_of : Program → Role → Defined → ℕ
+role_room_of p role.Plain d = OPS_FOR_SIZE * (1 + sizes_at d.routine.body 0)
+role_room_of p role.Constructor d = builder_room p d.routine d.number
+role_room_of p role.Destructor d = builder_room p d.routine d.number
 
 abbrev pub routine_room : Program → Defined → ℕ
-routine_room p d = room_by p d.routine.sig.role d
+routine_room p d = role_room_of p d.routine.sig.role d
 
 abbrev pub written_room : Program → List Defined → ℕ
 written_room p [] = 0

@@ -18,7 +18,3 @@ routines_in (ConstItem constant) = 0
 routines_in (ProtoItem sig) = 0
 routines_in (ForwardItem forward) = 0
 routines_in (UsingItem place) = 0
-
-abbrev pub routines_in_all : List Item → ℕ
-routines_in_all [] = 0
-routines_in_all (i ∷ is) = routines_in i + routines_in_all is

@@ -86,7 +86,10 @@ fn lower_all(
     let numbering = numbering_of(alloc, defined, count, unwritten, numbers)?;
     let names = ProgramNames::new(alloc, sizes, numbering)?;
     let mut out = Draft::new(alloc, no_code(alloc, defined.len() + unwritten.len())?);
-    let main = number_of_main(&program.items, defined.len());
+    let main = match number_of_main(&program.items) {
+        Some(main) => main,
+        None => return Err(AllocError),
+    };
     lower_routines(alloc, &names, defined, main, count, &mut out)?;
     lower_all_unwritten(alloc, &names, unwritten, count, &mut out)?;
     let sites = sites_of(alloc, program)?;

@@ -1,11 +1,11 @@
 // What is numbered in a program, for names; and the cells of its classes.
 
-ghost use Rattle.std.specs.Prelude.{◌≡◌, ◌+◌, ◌<◌, ◌^◌, length, map, IfOk};
-ghost use Rattle.uc_tree.specs.Cells.{classes_of};
+ghost use Rattle.std.specs.Prelude.{◌≡◌, ◌++◌, [], ◌∷◌, length, map, IfOk, OnOk};
+ghost use Rattle.uc_tree.specs.Cells.{class_cells, classes_of};
 ghost use Rattle.uc_tree.specs.Numbering.{routines_of};
 ghost use Rattle.uc_tree.specs.Objects.{unwritten_of};
 ghost use Rattle.uc_tree.specs.Programs.{Program};
-ghost use Rattle.uc_tree.specs.Resolve.{all_classes};
+ghost use Rattle.uc_tree.specs.Resolve.{all_classes, classes_meant};
 ghost use Rattle.uc_lower_expr.specs.Members.{FitClasses};
 ghost use Rattle.uc_lower_expr.specs.Numbered.{IsNumbering};
 ghost use Rattle.uc_numbers.specs.Routines.{defined_at};
@@ -68,6 +68,31 @@ pub(crate) fn numbering_of<'a>(
     })
 }
 
+// The cells of the class with this place, which has room.
+fn cells_at(sizes: &Sizes, place: usize) -> u32
+    requires { FitClasses sizes.now }
+    ensures { result ≡ class_cells sizes.now place }
+{
+    sizes.cells_of_class(place) as u32
+}
+
+// Those of one class more, which has this place; an event has none.
+fn push_cells(
+    cells: &mut Vec<u32>,
+    sizes: &Sizes,
+    place: usize,
+    class: &Class,
+) -> Result<(), AllocError>
+    requires { FitClasses sizes.now }
+    ensures { OnOk result (cells.new.items ≡ cells.old.items ++ map (λ c. c.cells) (classes_meant sizes.now place (class.now ∷ []))) }
+{
+    if is_event(class.kind) {
+        return Ok(());
+    }
+    cells.push(cells_at(sizes, place))?;
+    Ok(())
+}
+
 // The cells of these classes, events apart.
 fn cells_in(alloc: Global, sizes: &Sizes, classes: &[&Class]) -> Result<Vec<u32>, AllocError>
     requires fit { FitClasses sizes.now }
@@ -77,9 +102,7 @@ fn cells_in(alloc: Global, sizes: &Sizes, classes: &[&Class]) -> Result<Vec<u32>
     let mut cells = Vec::new(alloc);
     cells.push(0)?;
     for (place, class) in classes.iter().enumerate() {
-        if !is_event(class.kind) {
-            cells.push(sizes.cells_of_class(place) as u32)?;
-        }
+        push_cells(&mut cells, sizes, place, class)?;
     }
     Ok(cells)
 }

@@ -1,9 +1,9 @@
 // The program's main among its routines.
 
-ghost use Rattle.std.specs.Prelude.{◌≡◌, ◌≤◌, length};
+ghost use Rattle.std.specs.Prelude.{◌≡◌, ◌+◌, ◌≤◌, length, IfSome};
 ghost use Rattle.uc_tree.specs.Programs.{Program};
 ghost use Rattle.uc_tree.specs.ProgramMain.{is_main_item, main_among};
-ghost use Rattle.uc_lower.specs.Mains.{routines_in, routines_in_all, routines_in_form, routines_in_members};
+ghost use Rattle.uc_lower.specs.Mains.{routines_in, routines_in_form, routines_in_members};
 
 use uc_tree::class::{Member, MemberForm};
 use uc_tree::program::{Item, ItemForm};
@@ -56,18 +56,27 @@ fn routines_in(item: &Item) -> usize
     }
 }
 
-/// The number of the program's main among its routines, of which there are at most `most`; where there is no main it is that of no
-/// routine.
-pub fn number_of_main(items: &[Item], most: usize) -> usize
-    requires { routines_in_all items.now ≤ most }
-    ensures { (p : Program) → result ≡ main_among p items.now }
+// The number behind so many routines more.
+fn number_behind(number: u32, more: usize) -> Option<u32>
+    ensures { IfSome result (λ n. n ≡ number + more) }
 {
-    let mut number: usize = 0;
+    match u32::try_from(more) {
+        Ok(more) => number.checked_add(more),
+        Err(_) => None,
+    }
+}
+
+/// The number of the program's main among its routines; where there is no main it is that of no routine. None where a number is
+/// not below 2^32.
+pub fn number_of_main(items: &[Item]) -> Option<u32>
+    ensures { IfSome result (λ n. (p : Program) → n ≡ main_among p items.now) }
+{
+    let mut number: u32 = 0;
     for item in items {
         if is_main(item) {
-            return number;
+            return Some(number);
         }
-        number += routines_in(item);
+        number = number_behind(number, routines_in(item))?;
     }
-    number
+    Some(number)
 }

@@ -26,6 +26,7 @@ use uc_lower_class::builder::{lower_builder, lower_unwritten};
 use uc_lower_expr::program_names::{ProgramNames, sig_of};
 use uc_lower_stmt::routine::lower_routine;
 use uc_numbers::routines::Defined;
+use uc_tree::class::Sig;
 use uc_tree::kinds::Role;
 use uc_unwritten::unwritten::Unwritten;
 
@@ -40,6 +41,17 @@ pub(crate) fn no_code(alloc: Global, count: usize) -> Result<Vec<RoutineCode>, A
     };
     let rows = vec![in alloc; none; count]?;
     Ok(rows)
+}
+
+// Whether a routine is no constructor and no destructor.
+fn is_plain(sig: &Sig) -> bool
+    ensures { result ≡ is_plain sig.now.role }
+{
+    match sig.role {
+        Role::Plain => true,
+        Role::Constructor => false,
+        Role::Destructor => false,
+    }
 }
 
 // Adds the code of a written routine, behind so many text literals and accept statements of the program.
@@ -73,23 +85,14 @@ fn lower_written(
     ensures sites { OnOk result (out.new.sites ≡ sites + length (gathered_all (own_sites None 0) one.now.routine.now.body)) }
 {
     let routine = one.routine;
-    let sig = sig_of(routine);
-    match sig.role {
-        Role::Plain => {
-            lower_routine(
-                alloc, names, routine, main, one.number, number, texts, sites, out,
-            )?;
-            Ok(())
-        }
-        Role::Constructor => {
-            lower_builder(alloc, names, routine, one.number, number, texts, sites, out)?;
-            Ok(())
-        }
-        Role::Destructor => {
-            lower_builder(alloc, names, routine, one.number, number, texts, sites, out)?;
-            Ok(())
-        }
+    if is_plain(sig_of(routine)) {
+        lower_routine(
+            alloc, names, routine, main, one.number, number, texts, sites, out,
+        )?;
+        return Ok(());
     }
+    lower_builder(alloc, names, routine, one.number, number, texts, sites, out)?;
+    Ok(())
 }
 
 // Adds the code of all written routines to a draft without ops, of so many routines in all.
@@ -97,7 +100,7 @@ pub(crate) fn lower_routines(
     alloc: Global,
     names: &ProgramNames,
     defined: &[Defined],
-    main: usize,
+    main: u32,
     count: u32,
     out: &mut Draft,
 ) -> Result<(), AllocError>
@@ -116,7 +119,7 @@ pub(crate) fn lower_routines(
     let mut sites: u32 = 0;
     for number in 0..count {
         let d = &defined[number as usize];
-        let is_main = number as usize == main;
+        let is_main = number == main;
         lower_written(alloc, names, d, is_main, number, texts, sites, out)?;
         texts = out.texts();
         sites = out.sites();

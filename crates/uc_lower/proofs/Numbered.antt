@@ -1,0 +1,27 @@
+-- The cells of classes, one after another; and the numbers of what nobody wrote.
+use Rattle.std.proofs.Common.{◌≡◌, ℕ, zero, suc, ◌+◌, ◌<◌, List, [], ◌∷◌, ◌++◌, Bool, true, false, if◌then◌else◌, length, map, drop, refl, ap, sym, ◌∙◌, arith}
+use Rattle.std.proofs.lemmas.List.{length-map}
+use Rattle.uc_tree.specs.declared.kinds.Role.{Role}
+use Rattle.uc_tree.specs.Programs.{Class, Program}
+use Rattle.uc_tree.specs.Cells.{class_cells}
+use Rattle.uc_tree.specs.Numbering.{Defined, is_event, routines_of}
+use Rattle.uc_tree.specs.Objects.{Unwritten, place_among, unwritten_number, unwritten_of}
+use Rattle.uc_tree.specs.Resolve.{classes_meant}
+use Rattle.uc_tree.specs.Source as source
+use Rattle.uc_numbers.specs.declared.routines.Defined.{Defined as Found}
+use Rattle.uc_numbers.specs.Routines.{defined_at}
+
+abbrev pub cells_of : List source.Class → List ℕ
+cells_of cs = map (λ (c : source.Class). c.cells) cs
+
+pub first_cells : (p : Program) (i : ℕ) (c : Class) (cs : List Class) → cells_of (classes_meant p i (c ∷ cs)) ≡ cells_of (classes_meant p i (c ∷ [])) ++ cells_of (classes_meant p (i + 1) cs)
+first_cells p i c cs = by_kind (is_event c.kind)
+  where
+    by_kind : (b : Bool) → cells_of (if b then classes_meant p (i + 1) cs else record { cells = class_cells p i } ∷ classes_meant p (i + 1) cs) ≡ cells_of (if b then [] else record { cells = class_cells p i } ∷ []) ++ cells_of (classes_meant p (i + 1) cs)
+    by_kind true = refl
+    by_kind false = refl
+
+pub number_is : (p : Program) (defined : List Found) (us : List Unwritten) (count : ℕ) → map defined_at defined ≡ routines_of p → us ≡ unwritten_of p → count ≡ length defined → (i : ℕ) (r : Role) → count + place_among us i r ≡ unwritten_number p i r
+number_is p defined us count d u n i r =
+    let long : length defined ≡ length (routines_of p) = sym (length-map defined defined_at) ∙ ap length d in
+    ap (λ xs. count + place_among xs i r) u ∙ ap (λ k. k + place_among (unwritten_of p) i r) (n ∙ long)
