@@ -123,8 +123,8 @@ pub fn put_done(what: ObjectCall, line: u32, out: &mut Draft) -> Result<(), Allo
     Ok(())
 }
 
-// How many ops a call and the drop of its value take.
-fn done_length(what: ObjectCall) -> u32
+/// How many ops a call without arguments and the drop of its value take.
+pub fn done_length(what: ObjectCall) -> u32
     ensures { result ≡ done_length what }
 {
     let place = if what.array.is_some() { 3 } else { 1 };

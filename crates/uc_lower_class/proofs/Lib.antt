@@ -1,0 +1,4 @@
+pub mod Fielding
+pub mod Leaving
+pub mod Looping
+pub mod Parting

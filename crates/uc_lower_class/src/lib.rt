@@ -2,4 +2,7 @@
 #![tactic(auto)]
 
 pub mod builder;
+mod fields;
+mod inits;
 mod parts;
+mod whole;

@@ -17,6 +17,10 @@ rest_then a b c h k = k ∙ ap (λ d. let e : Draft = record d { ops = c.ops } i
 pub rest_behind : {n : ℕ} {S : Laid → ℕ → ℕ → Type 0} {b c : Draft} → (a : Draft) → b ≡ record a { ops = b.ops } → Adds n S b c → c ≡ record a { ops = c.ops }
 rest_behind {n} {S} {b} {c} a h k = rest_then a b c h k.rest
 
+-- the rows are settled as far as they were
+pub adds_settled : {n : ℕ} {S : Laid → ℕ → ℕ → Type 0} {old new : Draft} → Adds n S old new → new.settled ≡ old.settled
+adds_settled h = ap (λ (d : Draft). d.settled) h.rest
+
 pub adds_nothing : (old : Draft) → Adds 0 (λ code. Nothing) old old
 adds_nothing old = record { rest = refl; kept = kept_refl (laid_in old); room = omega arith; code = record { end = refl } }
 

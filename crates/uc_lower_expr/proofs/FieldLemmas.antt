@@ -1,5 +1,5 @@
 -- The cells before the fields of a class, as they are noted and as its shape has them.
-use Rattle.std.proofs.Common.{◌≡◌, ℕ, zero, suc, ◌+◌, ◌-◌, ◌*◌, ◌^◌, ◌≤◌, ◌<◌, ℤ, List, [], ◌∷◌, ◌++◌, Bool, true, false, Option, Some, None, if◌then◌else◌, length, map, get_or, refl, ap, sym, subst, ◌∙◌, arith}
+use Rattle.std.proofs.Common.{◌≡◌, ℕ, zero, suc, ◌+◌, ◌-◌, ◌*◌, ◌≤◌, ◌<◌, ℤ, List, [], ◌∷◌, ◌++◌, Bool, true, false, Option, Some, None, if◌then◌else◌, length, map, get_or, refl, ap, sym, subst, ◌∙◌, arith}
 use Rattle.std.specs.Prelude.{slice_get}
 use Rattle.uc_tree.specs.declared.limits.TheConstants.{CLASS_CELLS}
 use Rattle.uc_tree.specs.declared.kinds.Base.{Base}
@@ -8,7 +8,7 @@ use Rattle.uc_tree.specs.declared.kinds.Base.TheVariants as base
 use Rattle.uc_tree.specs.declared.rows.Object.{Object}
 use Rattle.uc_tree.specs.declared.rows.Held.{Held}
 use Rattle.uc_tree.specs.Capped.{capped}
-use Rattle.uc_tree.specs.Constants.{constants_of, elements, length_in}
+use Rattle.uc_tree.specs.Constants.{constants_of, length_in}
 use Rattle.uc_tree.specs.Expressions.{Expr}
 use Rattle.uc_tree.specs.Statements.{Declarator}
 use Rattle.uc_tree.specs.Programs.{MemberForm, FieldsMember, RoutineMember, ProtoMember, Member, Class, Constant, Program}
@@ -16,15 +16,14 @@ use Rattle.uc_tree.specs.Rows.{Row, row_at, has_itself, element_cells, held_cell
 use Rattle.uc_tree.specs.Cells.{classes_of, class_cells, object_of, held_by, member_held, members_held, row_of, rows_of, leading_cells, seen_in}
 use Rattle.uc_tree.specs.Source.{Shape, Binding, Last, shape_cells, field_cells}
 use Rattle.uc_tree.specs.Objects.{class_at, ClassField, declared_fields, form_fields, fields_of, shape_of, kept_shape, arrayed, field_shape, fields_shape, behind_bindings, form_shape, shape_within, class_shape, plain_class}
-use Rattle.uc_tree.specs.Resolve.{Meant, AtPlace, field_length, field_type}
+use Rattle.uc_tree.specs.Resolve.{field_length}
 use Rattle.uc_sizes.specs.Places.{IsPlaces}
 use Rattle.uc_sizes.specs.Depths.{Holds, First, Later}
 use Rattle.uc_sizes.proofs.Depths.{cells_deep, cells_next}
 use Rattle.uc_lower_expr.specs.declared.meaning.Standing.{Standing as Told}
-use Rattle.uc_lower_expr.specs.declared.meaning.Standing.TheVariants as standing
 use Rattle.uc_lower_expr.specs.declared.fields.Field.{Field}
 use Rattle.uc_lower_expr.specs.declared.fields.FieldTable.{FieldTable}
-use Rattle.uc_lower_expr.specs.Meanings.{StandsAs, Tells, shape_as}
+use Rattle.uc_lower_expr.specs.Meanings.{StandsAs}
 use Rattle.uc_lower_expr.specs.Members.{FitClasses, IsFieldAt, AreFields}
 use Rattle.uc_lower_expr.specs.Noted.{one_scalar, length_by, IsNoted, AreNoted, NoMore, OneMore, Notes}
 
@@ -289,7 +288,7 @@ module _ (p : Program) (held : List Held) where
       let d : q + 1 + k ≡ q + suc k = omega arith in
       subst (λ m. IsNoted p (n + (one + cells_from (class_cells p) held (q + 1) k)) (get_or held m one_scalar) f v) d (subst (λ m. IsNoted p m (get_or held (q + 1 + k) one_scalar) f v) c r)
 
-  noted_long : (place cells last : ℕ) (fs : List ClassField) (vs : List Field) → AreNoted p held place cells fs vs last → length vs ≡ length fs
+  pub noted_long : (place cells last : ℕ) (fs : List ClassField) (vs : List Field) → AreNoted p held place cells fs vs last → length vs ≡ length fs
   noted_long place cells last fs vs (NoMore q n) = refl
   noted_long place cells last fs vs (OneMore q n l x y xs ys h more) = ap suc (noted_long (q + 1) _ l xs ys more)
 

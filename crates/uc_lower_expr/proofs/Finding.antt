@@ -11,7 +11,7 @@ use Rattle.uc_lower_expr.specs.declared.fields.Field.{Field}
 use Rattle.uc_lower_expr.specs.declared.fields.FieldTable.{FieldTable}
 use Rattle.uc_lower_expr.specs.Members.{AreFields, IsField, no_field}
 
-abbrev names_of : List ClassField → List (List ℕ)
+abbrev pub names_of : List ClassField → List (List ℕ)
 names_of fs = map (λ f. f.declarator.name) fs
 
 abbrev numbered : ℕ → ClassField → NumberedField

@@ -17,6 +17,10 @@ use Rattle.uc_lower_expr.specs.Parts.{Restarts}
 use Rattle.uc_lower_expr.proofs.Adding.{rest_then}
 use Rattle.uc_lower_expr.proofs.Settled.{expr_stable}
 
+-- the rows are settled as far as they were
+pub grows_settled : {p : Program} {n line : ℕ} {ms : List Mark} {a : ℕ} {f : Meant → Meant} {s t : Meaning} {old new : Draft} → Grows p n line ms a f s t old new → new.settled ≡ old.settled
+grows_settled h = ap (λ (d : Draft). d.settled) h.rest
+
 pub grows_as : {p : Program} {n k line : ℕ} {ms : List Mark} {a : ℕ} {f g : Meant → Meant} {s t : Meaning} {old new : Draft} → n ≤ k → ((m : Meant) → f m ≡ g m) → Grows p n line ms a f s t old new → Grows p k line ms a g s t old new
 grows_as {p} {n} {k} {line} {ms} {a} {f} {g} {s} {t} {old} {new} l e h = record {
   rest = h.rest;

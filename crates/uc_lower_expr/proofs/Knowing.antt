@@ -1,6 +1,7 @@
 -- What tables tell of the names of a program.
-use Rattle.std.proofs.Common.{◌≡◌, ℕ, zero, suc, ◌+◌, ◌≤◌, ◌<◌, List, [], ◌∷◌, ◌++◌, Bool, true, false, Option, Some, None, if◌then◌else◌, nat_eq, nat_le, length, map, refl, ap, sym, subst, ◌∙◌, arith}
+use Rattle.std.proofs.Common.{◌≡◌, ℕ, zero, suc, ◌+◌, ◌≤◌, ◌<◌, List, [], ◌∷◌, ◌++◌, Bool, true, false, Option, Some, None, if◌then◌else◌, nat_eq, nat_le, length, get_or, refl, ap, sym, subst, ◌∙◌, arith}
 use Rattle.std.proofs.lemmas.Bool.{ne_eqb}
+use Rattle.std.proofs.lemmas.Option.{slice_get-get_or}
 use Rattle.std.specs.Prelude.{slice_get, unwrap_or, option_and_then}
 use Rattle.uc_tree.specs.declared.limits.TheConstants.{LAST_CLASS}
 use Rattle.uc_tree.specs.declared.kinds.Base.{Base}
@@ -8,23 +9,23 @@ use Rattle.uc_tree.specs.declared.kinds.Base.TheVariants as base
 use Rattle.uc_tree.specs.declared.kinds.Kind.{Kind}
 use Rattle.uc_tree.specs.declared.kinds.Kind.TheVariants as kind
 use Rattle.uc_tree.specs.declared.kinds.Role.{Role}
+use Rattle.uc_tree.specs.declared.kinds.Role.TheVariants as role
 use Rattle.uc_tree.specs.declared.rows.Object.{Object}
 use Rattle.uc_tree.specs.Names.{same_name}
 use Rattle.uc_tree.specs.Programs.{Class, Program}
 use Rattle.uc_tree.specs.Cells.{classes_of, class_cells, object_of_kind, object_named, object_of, rows_of}
-use Rattle.uc_tree.specs.Numbering.{is_event, at_most, class_names, class_number, place_from as name_from}
-use Rattle.uc_tree.specs.Source.{Shape, Binding, Expr, shape_cells}
+use Rattle.uc_tree.specs.Numbering.{is_event, at_most, class_names, place_from as name_from}
+use Rattle.uc_tree.specs.Source.{Binding, Expr, shape_cells}
 use Rattle.uc_tree.specs.Resolve.{AsValue, result_of, scalar}
 use Rattle.uc_tree.specs.Objects.{class_at, number_in, number_at, place_from, place_of, plain_in, plain_class, shape_of, kept_shape, class_shape, base_shape, written_at, unwritten_number}
 use Rattle.uc_lower_expr.specs.declared.meaning.Meaning.{Meaning}
 use Rattle.uc_lower_expr.specs.declared.meaning.Scalar.TheVariants as scalars
 use Rattle.uc_lower_expr.specs.declared.meaning.Standing.{Standing as Told}
 use Rattle.uc_lower_expr.specs.declared.meaning.Standing.TheVariants as standing
-use Rattle.uc_lower_expr.specs.declared.numbering.ClassRoutine.{ClassRoutine}
 use Rattle.uc_lower_expr.specs.Meanings.{StandsAs, Tells, shape_as}
 use Rattle.uc_lower_expr.specs.Known.{place_among, routine_or}
 use Rattle.uc_lower_expr.specs.Members.{FitClasses, object_places, routine_by, routine_for}
-use Rattle.uc_lower_expr.specs.Numbered.{number_of_class}
+use Rattle.uc_lower_expr.specs.Numbered.{AreUnwritten, number_of_class}
 use Rattle.uc_lower_expr.proofs.FieldLemmas.{within}
 use Rattle.uc_lower_expr.proofs.Finding.{high}
 
@@ -139,6 +140,13 @@ routine_case p i wanted (Some r) = refl
 
 pub routine_is : (p : Program) (i : ℕ) (wanted : Role) (o : Option ℕ) (n : ℕ) → o ≡ written_at p i wanted → n ≡ unwritten_number p i wanted → routine_or o n ≡ routine_for p i wanted
 routine_is p i wanted o n e h = ap (λ k. routine_or o k) h ∙ routine_case p i wanted o ∙ ap (routine_by p i wanted) e
+
+module _ (p : Program) (cs ds : List ℕ) (are : AreUnwritten p cs ds) (i : ℕ) (inside : i < length (classes_of p.items)) where
+  pub unwritten_built : get_or cs i 0 ≡ unwritten_number p i role.Constructor
+  unwritten_built = let l = are.builders in sym (are.builds i (get_or cs i 0) (slice_get-get_or cs i 0 (omega (arith, l, inside))))
+
+  pub unwritten_destroyed : get_or ds i 0 ≡ unwritten_number p i role.Destructor
+  unwritten_destroyed = let l = are.destroyers in sym (are.destroys i (get_or ds i 0) (slice_get-get_or ds i 0 (omega (arith, l, inside))))
 
 -- the number of a class is at most the count of classes
 

@@ -1,34 +1,35 @@
 -- What names of members stand for, and their code.
-use Rattle.std.proofs.Common.{◌≡◌, ℕ, ◌+◌, ◌≤◌, pos, List, Bool, true, false, Option, Some, None, Ok, Err, length, refl, ap, sym, subst, ◌∙◌, arith}
+use Rattle.std.proofs.Common.{◌≡◌, ℕ, ◌≤◌, pos, List, Bool, true, false, Option, Some, None, Ok, Err, length, refl, ap, sym, subst, ◌∙◌, arith}
 use Rattle.std.specs.Prelude.{Result, OnOk, IfOk, if◌then◌else◌}
 use Rattle.uc_tree.specs.declared.limits.TheConstants.{OPS_FOR_SIZE}
 use Rattle.uc_tree.specs.declared.kinds.Ty.{Ty}
 use Rattle.uc_tree.specs.declared.kinds.Known.{Known}
 use Rattle.uc_tree.specs.Names.{same_name}
-use Rattle.uc_tree.specs.Programs.{Class, Program}
-use Rattle.uc_tree.specs.Cells.{leading_cells}
-use Rattle.uc_tree.specs.Numbering.{routines_of}
+use Rattle.uc_tree.specs.Programs.{Class, Constant, Program}
 use Rattle.uc_tree.specs.Source.{Shape, Expr, Literal, field_cells}
-use Rattle.uc_tree.specs.Objects.{class_at, fields_of, class_shape, number_at, place_of, plain_class, member_from}
-use Rattle.uc_tree.specs.Resolve.{Meant, Standing, AtVariable, AtField, AtPlace, AsValue, AsInput, AsFail, AsRoutine, AsMember, AsNothing, no_meaning, NumberedField, field_named, field_type, Whose, Own, Of, field_by_ref, field_found, method_by, member_by, member_in, member_meant, meant_or, own_meant, item_meant, name_meant, object_member, place_member, field_by, field_meant, fail_name, bool_type, result_of, scalar}
+use Rattle.uc_tree.specs.Objects.{class_at, class_shape, place_of}
+use Rattle.uc_tree.specs.Resolve.{Meant, Standing, AtPlace, AsValue, AsInput, AsFail, no_meaning, NumberedField, field_type, Whose, Own, Of, field_by_ref, field_found, method_by, member_by, member_in, member_meant, meant_or, own_meant, item_meant, constant_meant_by, routine_meant_by, name_meant, object_member, place_member, field_by, field_meant, fail_name, bool_type, result_of, scalar}
 use Rattle.uc_code.specs.declared.op.Op.{Op}
 use Rattle.uc_code.specs.declared.op.Op.TheVariants as op
 use Rattle.uc_code.specs.declared.rows.Mark.{Mark}
 use Rattle.uc_code.specs.Drafts.{Draft}
 use Rattle.uc_code.specs.Laid.{Laid}
-use Rattle.uc_code.specs.Ranges.{One, Both}
+use Rattle.uc_code.specs.Ranges.{One}
 use Rattle.uc_code.specs.Lowered.{ExprAt}
+use Rattle.uc_code.proofs.Stable.{one_stable}
 use Rattle.uc_lower_expr.specs.declared.meaning.Scalar.TheVariants as shape
 use Rattle.uc_lower_expr.specs.declared.meaning.Standing.{Standing as Told}
 use Rattle.uc_lower_expr.specs.declared.meaning.Standing.TheVariants as standing
 use Rattle.uc_lower_expr.specs.declared.meaning.Meaning.{Meaning}
 use Rattle.uc_lower_expr.specs.declared.fields.Field.{Field}
+use Rattle.uc_lower_expr.specs.declared.numbering.Fixed.{Fixed}
+use Rattle.uc_lower_expr.specs.Numbered.{IsFixed}
 use Rattle.uc_lower_expr.specs.Meanings.{FieldAt, Begins, StandsAs, Tells}
 use Rattle.uc_lower_expr.specs.Members.{IsFieldAt, IsField, no_field, member_at}
 use Rattle.uc_lower_expr.specs.Added.{Adds, ExprCode, Grows, OpCode}
 use Rattle.uc_lower_expr.specs.Parts.{FieldCode, Restarts, own_place_op, own_standing, input_told}
-use Rattle.uc_lower_expr.proofs.Adding.{adds_as, adds_more}
-use Rattle.uc_lower_expr.proofs.Growing.{grows_as, grows_adds, grows_restart, grows_none}
+use Rattle.uc_lower_expr.proofs.Adding.{adds_as, adds_more, adds_both}
+use Rattle.uc_lower_expr.proofs.Growing.{grows_adds, grows_restart}
 use Rattle.uc_lower_expr.proofs.Arms.{stands}
 use Rattle.uc_lower_expr.proofs.Walks.{put_for_nothing}
 
@@ -95,6 +96,24 @@ method_told p r u t whose h e =
     let v = h (Literal (pos 0)) in
     subst (λ (y : Meaning). Tells p y (method_by p whose (Some r))) (sym e) (record { shape = v.shape; class = v.class; len = v.len; standing = refl })
 
+-- what a name of the program stands for is told
+
+pub routine_named : (p : Program) (r : ℕ) (o : Option ℕ) (u t : Meaning) → ((e : Expr) → Tells p u (record { expr = e; ty = scalar (result_of p r); standing = AsValue })) → t ≡ record u { standing = standing.Routine r } → o ≡ Some r → Tells p t (routine_meant_by p o)
+routine_named p r o u t h e is =
+    let v = h (Literal (pos 0)) in
+    subst (λ (x : Option ℕ). Tells p t (routine_meant_by p x)) (sym is) (subst (λ (y : Meaning). Tells p y (routine_meant_by p (Some r))) (sym e) (record { shape = v.shape; class = v.class; len = v.len; standing = refl }))
+
+pub fixed_named : (p : Program) (name : List ℕ) (v : Fixed) (t : Meaning) → IsFixed p name v → t ≡ record { scalar = v.scalar; class = v.class; elements = None; standing = standing.Value } → Tells p t (item_meant p name)
+fixed_named p name v t f e =
+    subst (λ (o : Option Constant). Tells p t (constant_meant_by p name o)) (sym f.is) (subst (λ (y : Meaning). Tells p y (constant_meant_by p name (Some f.constant))) (sym e) (record { shape = f.shape; class = f.class; len = refl; standing = refl }))
+
+-- behind the place of its object, a field that is no reference, and one that is
+pub arm_plain_field : (line : ℕ) (b : Bool) (k : ℕ) (old new : Draft) → b ≡ false → Adds 1 (OpCode line (op.Field k)) old new → Adds 2 (FieldCode line b k) old new
+arm_plain_field line b k old new e h = subst (λ (x : Bool). Adds 2 (FieldCode line x k) old new) (sym e) (adds_more (omega arith) h)
+
+pub arm_held_field : (line : ℕ) (b : Bool) (k : ℕ) (old mid new : Draft) → b ≡ true → Adds 1 (OpCode line (op.Field k)) old mid → Adds 1 (OpCode line op.Load) mid new → Adds 2 (FieldCode line b k) old new
+arm_held_field line b k old mid new e h g = subst (λ (x : Bool). Adds 2 (FieldCode line x k) old new) (sym e) (adds_both (one_stable (op.Field k) line) h g)
+
 -- the code of own names
 module _ (ms : List Mark) (line : ℕ) where
   own_code_by : (b : Bool) (s : Shape) (n k : ℕ) (ty : Ty) (code : Laid) (a z : ℕ) → field_cells s n ≡ k → One code (own_place_op b k) line a z → ExprAt code line ms (field_by_ref b s n Own ty).expr a z
@@ -110,7 +129,6 @@ module _ (ms : List Mark) (line : ℕ) where
   pub own_method_code : (p : Program) (i r : ℕ) (name : List ℕ) (old new : Draft) → no_field p i name (class_at p i) → member_at p i name (class_at p i) ≡ Some r → Adds 1 (OpCode line op.Own) old new → Adds 1 (ExprCode line ms (own_meant p (Some i) name).expr) old new
   own_method_code p i r name old new h k w = subst (λ (m : Meant). Adds 1 (ExprCode line ms m.expr) old new) (sym (own_method p i name r h k)) w
 
-  -- a field behind the place of its object
   field_code_by : (b : Bool) (s : Shape) (n k : ℕ) (ty : Ty) (e : Expr) (code : Laid) (a c z : ℕ) → field_cells s n ≡ k → ExprAt code line ms e a c → FieldCode line b k code c z → ExprAt code line ms (field_by_ref b s n (Of e) ty).expr a z
   field_code_by false s n k ty e code a c z is h g = record { middle = c; first = h; second = subst (λ (x : ℕ). One code (op.Field x) line c z) (sym is) g }
   field_code_by true s n k ty e code a c z is h g = record { middle = g.middle; first = record { middle = c; first = h; second = subst (λ (x : ℕ). One code (op.Field x) line c g.middle) (sym is) g.first }; second = g.second }

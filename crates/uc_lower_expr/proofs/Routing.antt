@@ -1,12 +1,11 @@
 -- Tables of the routines of classes, and the routines that they were made of.
-use Rattle.std.proofs.Common.{◌≡◌, ◌≢◌, ℕ, zero, suc, ◌+◌, ◌<◌, List, [], ◌∷◌, ◌++◌, Bool, true, false, not, ◌&&◌, Option, Some, None, if◌then◌else◌, nat_eq, length, refl, ap, sym, subst, ◌∙◌, arith, is_some}
+use Rattle.std.proofs.Common.{◌≡◌, ◌≢◌, ℕ, suc, ◌+◌, List, [], ◌∷◌, ◌++◌, Bool, true, false, ◌&&◌, Option, Some, None, if◌then◌else◌, nat_eq, length, refl, ap, sym, ◌∙◌, arith, is_some}
 use Rattle.std.proofs.lemmas.Bool.{eq-eqb, ne_eqb}
 use Rattle.std.specs.Prelude.{unwrap_or}
-use Rattle.uc_names.specs.Blocks.{Block, id_in, id_or, found, is_declared, declared}
+use Rattle.uc_names.specs.Blocks.{Block, id_in, id_or, found, declared}
 use Rattle.uc_tree.specs.declared.kinds.Role.{Role}
 use Rattle.uc_tree.specs.declared.kinds.Role.TheVariants as role
 use Rattle.uc_tree.specs.Names.{same_name}
-use Rattle.uc_tree.specs.Programs.{Routine}
 use Rattle.uc_tree.specs.Numbering.{Defined, is_plain}
 use Rattle.uc_tree.specs.Objects.{same_role, has_role, role_from, is_member, member_from}
 use Rattle.uc_lower_expr.specs.declared.routine_table.RoutineTable.{RoutineTable}
@@ -25,7 +24,7 @@ found_noted [] x k name l = absurd (omega (arith, l))
 found_noted (b ∷ []) x k name l = noted_by b x k name (is_some (id_in b x)) refl
 found_noted (b ∷ c ∷ bs) x k name l = absurd (omega (arith, l))
 
-noted_long : (bs : List Block) (x : List ℕ) (k : ℕ) → length (noted_name bs x k) ≡ length bs
+pub noted_long : (bs : List Block) (x : List ℕ) (k : ℕ) → length (noted_name bs x k) ≡ length bs
 noted_long [] x k = refl
 noted_long (b ∷ bs) x k = elim (is_some (id_in b x)) as (λ t. length (if t then (b ∷ bs) else declared (b ∷ bs) x k) ≡ length (b ∷ bs)) [
   | true ↦ refl

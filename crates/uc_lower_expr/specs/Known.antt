@@ -4,7 +4,7 @@ use Rattle.uc_names.specs.Blocks.{Block, found}
 use Rattle.uc_tree.specs.Programs.{Class, Program}
 use Rattle.uc_tree.specs.Cells.{classes_of}
 use Rattle.uc_tree.specs.Numbering.{routines_of}
-use Rattle.uc_tree.specs.Objects.{number_at}
+use Rattle.uc_tree.specs.Objects.{class_at, number_at}
 use Rattle.uc_tree.specs.Resolve.{routine_from}
 use Rattle.uc_lower_expr.specs.Numbered.{IsNumbering}
 use Rattle.uc_lower_expr.specs.Members.{AreByNumber, AreFields, AreRoutines, AreTables, FitClasses, object_places}
@@ -27,9 +27,11 @@ pub record NotesFields (p : Program) (place : ℕ) (c : Class) (old new : List F
   pub is : new ≡ old ++ table ∷ []
   pub fields : AreFields p place c table
 
--- the routines of the class with the place i
-abbrev pub HasRoutines : Program → ℕ → RoutineTable → Type 0
-HasRoutines p i t = AreRoutines (routines_of p) (number_at p i) t
+-- a table of the routines of the class with the place i
+pub record HasRoutines (p : Program) (i : ℕ) (t : RoutineTable) : Type 0 where
+  pub class : Class
+  pub there : class_at p i ≡ Some class
+  pub routines : AreRoutines (routines_of p) (number_at p i) t
 
 -- the place of the class of a number among those of the classes that are no events
 abbrev pub place_among : List ℕ → ℕ → Option ℕ

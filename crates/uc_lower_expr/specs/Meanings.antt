@@ -1,5 +1,5 @@
 -- What lowering tells of an expression besides its code.
-use Rattle.std.specs.Prelude.{◌≡◌, ℕ, List, Option, Some, None}
+use Rattle.std.specs.Prelude.{◌≡◌, ℕ, Option, Some, None}
 use Rattle.uc_tree.specs.Source.{Shape, Integer, Character, Truth, field_cells}
 use Rattle.uc_tree.specs.Objects.{shape_of, plain_class}
 use Rattle.uc_tree.specs.Programs.{Program}

@@ -1,6 +1,6 @@
 -- Members of classes: fields with the cells before them, and routines by the numbers of their classes.
-use Rattle.std.specs.Prelude.{◌≡◌, ℕ, suc, ◌+◌, ◌≤◌, ◌<◌, List, [], ◌∷◌, Bool, true, false, Option, Some, None, length, map, option_map, slice_get, if◌then◌else◌}
-use Rattle.uc_names.specs.Blocks.{Block, found}
+use Rattle.std.specs.Prelude.{◌≡◌, ℕ, ◌+◌, ◌≤◌, ◌<◌, List, [], ◌∷◌, true, false, Option, Some, None, length, map, slice_get, if◌then◌else◌}
+use Rattle.uc_names.specs.Blocks.{found}
 use Rattle.uc_sizes.specs.Places.{IsPlaces}
 use Rattle.uc_tree.specs.declared.limits.TheConstants.{CLASS_CELLS}
 use Rattle.uc_tree.specs.declared.kinds.Role.{Role}

@@ -1,5 +1,5 @@
 -- What noting a routine does to the tables of the routines of classes.
-use Rattle.std.specs.Prelude.{◌≡◌, ℕ, List, Option, Some, None, Bool, false, length, slice_get, slice_set, unwrap_or, not, if◌then◌else◌}
+use Rattle.std.specs.Prelude.{◌≡◌, ℕ, List, Option, Some, None, slice_get, slice_set, unwrap_or, if◌then◌else◌}
 use Rattle.uc_names.specs.Blocks.{Block, declared, is_declared}
 use Rattle.uc_tree.specs.declared.kinds.Role.{Role}
 use Rattle.uc_tree.specs.declared.kinds.Role.TheVariants as role

@@ -16,6 +16,7 @@ ghost use Rattle.uc_lower_expr.specs.Parts.{RightCode, VariableCode, PlaceCode, 
 use crate::fields::Field;
 use crate::meaning::{Meaning, Scalar, Standing};
 use crate::names::variable_named;
+use crate::numbering::Fixed;
 use crate::ops::{Joining, combining, joined_by};
 use crate::program_names::ProgramNames;
 use crate::put::{
@@ -519,12 +520,24 @@ fn lower_item_name(
     match names.constant(name) {
         Some(fixed) => {
             put(Op::Push(fixed.value), line, out)?;
-            Ok(Meaning::value(fixed.scalar))
+            Ok(fixed_told(fixed))
         }
         None => {
             put(Op::Push(0), line, out)?;
             Ok(routine_told(name, names))
         }
+    }
+}
+
+// A constant is a value of its type.
+fn fixed_told(fixed: Fixed) -> Meaning
+    ensures { result ≡ record { scalar = fixed.scalar; class = fixed.class; elements = None; standing = Standing.Value } }
+{
+    Meaning {
+        scalar: fixed.scalar,
+        class: fixed.class,
+        elements: None,
+        standing: Standing::Value,
     }
 }
 

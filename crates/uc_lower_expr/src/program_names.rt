@@ -4,9 +4,8 @@ ghost use Rattle.std.specs.Prelude.{◌≡◌, ◌<◌, ◌++◌, [], ◌∷◌,
 ghost use Rattle.uc_names.specs.Blocks.{found};
 ghost use Rattle.uc_tree.specs.declared.kinds.Base.{Base as Named};
 ghost use Rattle.uc_tree.specs.declared.kinds.Role.TheVariants as role;
-ghost use Rattle.uc_tree.specs.Programs.{Routine as Defined};
 ghost use Rattle.uc_tree.specs.Constants.{constants_of, constant_named};
-ghost use Rattle.uc_tree.specs.Numbering.{is_event, is_plain, routines_of};
+ghost use Rattle.uc_tree.specs.Numbering.{Defined, is_event, is_plain, routines_of};
 ghost use Rattle.uc_tree.specs.Cells.{classes_of, class_cells};
 ghost use Rattle.uc_tree.specs.Objects.{class_at, place_of, plain_class, base_shape, shape_of};
 ghost use Rattle.uc_tree.specs.Source.{Expr, shape_cells};
@@ -23,6 +22,7 @@ use crate::routine_table::{RoutineTable, member_in, table_of, tables_of};
 use std::alloc::{AllocError, Global};
 use std::marker::Model;
 use uc_names::scope::Scope;
+use uc_sizes::places::no_places;
 use uc_sizes::sizes::Sizes;
 use uc_tree::class::{Class, Routine, Sig};
 use uc_tree::kinds::{Base, Kind, Owner, Param, Role};
@@ -74,10 +74,11 @@ fn is_plain(role: Role) -> bool
     }
 }
 
-fn is_called_alone(sig: &Sig) -> bool
-    ensures { result ≡ is_called_alone sig.now }
+// `owner` is the number of the routine's class.
+fn is_called_alone(owner: u32, sig: &Sig) -> bool
+    ensures { result ≡ is_called_alone owner sig.now }
 {
-    is_here(&sig.owner) && is_plain(sig.role)
+    owner == 0 && is_here(&sig.owner) && is_plain(sig.role)
 }
 
 /// The signature of a routine.
@@ -107,14 +108,19 @@ pub fn params_of(sig: &Sig) -> &[Param]
     &sig.params
 }
 
-// One more routine, with this number. Memory is wanting where the number is not below 2^32.
-fn note_routine(numbers: &mut Scope, routine: &Routine, number: usize) -> Result<(), AllocError>
+// One more routine, with this number and that of its class. Memory is wanting where its own is not below 2^32.
+fn note_alone(
+    numbers: &mut Scope,
+    owner: u32,
+    routine: &Routine,
+    number: usize,
+) -> Result<(), AllocError>
     requires { length numbers.old ≡ 1 }
     ensures one { OnOk result (length numbers.new ≡ 1) }
-    ensures noted { OnOk result ((rs : List Defined) → length rs ≡ number → AreAmong rs numbers.old → AreAmong (rs ++ routine.now ∷ []) numbers.new) }
+    ensures noted { OnOk result ((ds : List Defined) (d : Defined) → d.routine ≡ routine.now → d.number ≡ owner → length ds ≡ number → AreAmong ds numbers.old → AreAmong (ds ++ d ∷ []) numbers.new) }
 {
     let sig = sig_of(routine);
-    if !is_called_alone(sig) {
+    if !is_called_alone(owner, sig) {
         return Ok(());
     }
     match u32::try_from(number) {
@@ -126,14 +132,14 @@ fn note_routine(numbers: &mut Scope, routine: &Routine, number: usize) -> Result
     }
 }
 
-// The numbers of routines by name.
-fn numbers_of(alloc: Global, routines: &[&Routine]) -> Result<Scope, AllocError>
-    ensures { IfOk result (λ numbers. AreAmong (map (λ r. r.now) routines.now) numbers) }
+// The numbers of those of these routines that are called by their names alone. `owners` are the numbers of their classes.
+fn numbers_of(alloc: Global, routines: &[&Routine], owners: &[u32]) -> Result<Scope, AllocError>
+    requires { length owners.now ≡ length routines.now }
+    ensures { IfOk result (λ numbers. (ds : List Defined) → map (λ d. d.routine) ds ≡ map (λ r. r.now) routines.now → map (λ d. d.number) ds ≡ owners.now → AreAmong ds numbers) }
 {
-    let mut numbers = Scope::new(alloc);
-    numbers.open()?;
-    for (number, routine) in routines.iter().enumerate() {
-        note_routine(&mut numbers, routine, number)?;
+    let mut numbers = no_places(alloc)?;
+    for place in 0..routines.len() {
+        note_alone(&mut numbers, owners[place], routines[place], place)?;
     }
     Ok(numbers)
 }
@@ -194,8 +200,9 @@ fn note_classes(
     ensures objects { OnOk result (objects.new.items ≡ object_places (classes_of sizes.now.items) 0) }
 {
     for place in 0..count {
-        if let Some(class) = sizes.class(place) {
-            note_class(alloc, sizes, place, class, fields, objects)?;
+        match sizes.class(place) {
+            Some(class) => note_class(alloc, sizes, place, class, fields, objects)?,
+            None => return Ok(()),
         }
     }
     Ok(())
@@ -246,7 +253,7 @@ impl<'a> ProgramNames<'a> {
         ensures { IfOk result (λ names. names ≡ sizes.now) }
     {
         let count = numbering.classes.len();
-        let alone = numbers_of(alloc, &numbering.routines)?;
+        let alone = numbers_of(alloc, &numbering.routines, &numbering.owners)?;
         let routines = tables_of(alloc, count + 1, &numbering.routines, &numbering.owners)?;
         let mut fields = Vec::new(alloc);
         let mut objects = Vec::new(alloc);
@@ -271,7 +278,9 @@ impl<'a> ProgramNames<'a> {
     /// Each class fits, and none has itself in its fields.
     pub fn fit(&self)
         ensures { FitClasses self.now }
-    {}
+    {
+        let _ = &self.sizes;
+    }
 
     /// The constant of a name. One that has no value counts as 0.
     pub fn constant(&self, name: &Name) -> Option<Fixed>
@@ -280,6 +289,7 @@ impl<'a> ProgramNames<'a> {
         match self.sizes.constant(name) {
             Some(constant) => Some(Fixed {
                 scalar: Scalar::of_base(&constant.base),
+                class: self.sizes.plain_class(&constant.base),
                 value: self.sizes.value_of(name).unwrap_or(0),
             }),
             None => None,

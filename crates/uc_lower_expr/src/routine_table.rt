@@ -2,10 +2,11 @@
 
 ghost use Rattle.std.specs.Prelude.{◌≡◌, ℕ, List, [], Some, None, IfOk, OnOk, MatchOption, length, map, slice_get, unwrap_or};
 ghost use Rattle.uc_tree.specs.Cells.{classes_of};
-ghost use Rattle.uc_tree.specs.Numbering.{Defined, routines_of};
+ghost use Rattle.uc_tree.specs.Numbering.{Defined};
 ghost use Rattle.uc_tree.specs.Programs.{Program};
 ghost use Rattle.uc_lower_expr.specs.declared.routine_table.RoutineTable.{RoutineTable as Table};
-ghost use Rattle.uc_tree.specs.Objects.{class_at, member_from, number_at};
+ghost use Rattle.uc_tree.specs.Objects.{class_at, member_from};
+ghost use Rattle.uc_lower_expr.specs.Known.{HasRoutines};
 ghost use Rattle.uc_lower_expr.specs.Members.{AreByNumber, AreRoutines};
 ghost use Rattle.uc_lower_expr.specs.Numbered.{number_of_class};
 ghost use Rattle.uc_lower_expr.specs.Routed.{NoteOne, Routes};
@@ -126,16 +127,22 @@ pub fn member_in(table: &RoutineTable, name: &Name) -> Option<u32>
     number
 }
 
+fn table_at(tables: &[RoutineTable], number: u32) -> Option<&RoutineTable>
+    ensures { MatchOption result (slice_get tables.now number ≡ None) (λ t. slice_get tables.now number ≡ Some t.now) }
+{
+    tables.get(number as usize)
+}
+
 /// The routines of the class with this place, by the numbers of classes and the tables by these numbers.
 pub fn table_of<'a>(
     tables: &'a [RoutineTable],
     numbers: &[u32],
     class: usize,
 ) -> Option<&'a RoutineTable>
-    ensures { (p : Program) → numbers.now ≡ map (number_of_class p) (classes_of p.items) → AreByNumber p tables.now → MatchOption result (class_at p class ≡ None) (λ t. AreRoutines (routines_of p) (number_at p class) t.now) }
+    ensures { (p : Program) → numbers.now ≡ map (number_of_class p) (classes_of p.items) → AreByNumber p tables.now → MatchOption result (class_at p class ≡ None) (λ t. HasRoutines p class t.now) }
 {
     match numbers.get(class) {
-        Some(number) => tables.get(*number as usize),
+        Some(number) => table_at(tables, *number),
         None => None,
     }
 }

@@ -4,12 +4,13 @@ use Rattle.uc_code.specs.declared.rows.Mark.{Mark}
 use Rattle.uc_code.specs.declared.rows.Mark.TheVariants as mark
 use Rattle.uc_code.specs.Drafts.{Draft}
 
--- how many objects are in scope under marks
+-- how many objects are in scope under marks, in the innermost block that is left as a whole
 abbrev pub objects_in : List Mark → ℕ
 objects_in [] = 0
 objects_in (mark.Body routine ∷ ms) = objects_in ms
 objects_in (mark.Finish routine line ∷ ms) = objects_in ms
 objects_in (mark.Loop leave again ∷ ms) = objects_in ms
+objects_in (mark.Whole leave ∷ ms) = 0
 objects_in (mark.Guard first count ∷ ms) = objects_in ms
 objects_in (mark.Clean what line row ∷ ms) = 1 + objects_in ms
 objects_in (mark.Part row ∷ ms) = objects_in ms

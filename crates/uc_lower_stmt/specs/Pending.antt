@@ -27,6 +27,13 @@ block_of (Does s ∷ ks) ss = block_of ks (Then s ss)
 block_of (Opens c ∷ ks) ss = block_of ks (Scoped c ss)
 block_of (Builds c ∷ ks) ss = block_of ks (Built c ss)
 
+-- no part of an object under construction is among them
+abbrev pub NoParts : List Step → Type 0
+NoParts [] = Unit {0}
+NoParts (Does s ∷ ks) = NoParts ks
+NoParts (Opens c ∷ ks) = NoParts ks
+NoParts (Builds c ∷ ks) = ⊥
+
 -- steps that are laid out in a block of this line: from these marks and this place to those marks and that place
 pub data Pending (code : Laid) (line : ℕ) (ms : List Mark) (a : ℕ) : List Step → List Mark → ℕ → Type 0 where
   Begins : Pending code line ms a [] ms a
@@ -46,5 +53,6 @@ pub record Lays (n k c d o line : ℕ) (f : Stmts → Stmts) (after : Scope) (ol
   pub cells : new.cells ≤ old.cells + c
   pub objects : objects_in new.marks ≤ objects_in old.marks + d
   pub steps : List Step
+  pub none : NoParts steps
   pub block : (ss : Stmts) → block_of steps ss ≡ f ss
   pub code : Pending (laid_in new) line old.marks (length old.ops) steps new.marks (length new.ops)

@@ -4,7 +4,8 @@
 ghost use Rattle.std.specs.Prelude.{◌≡◌, ◌+◌, ◌*◌, ◌≤◌, ◌<◌, length, reverse, OnOk};
 ghost use Rattle.uc_tree.specs.declared.limits.TheConstants.{FRAME_CELLS, OPS_FOR_SIZE, PROGRAM_OPS};
 ghost use Rattle.uc_tree.specs.Cells.{classes_of, declared_cells, declarators_cells};
-ghost use Rattle.uc_tree.specs.StatementSizes.{declarator_size, declarators_size};
+ghost use Rattle.uc_tree.specs.ExpressionSizes.{exprs_size};
+ghost use Rattle.uc_tree.specs.StatementSizes.{declarator_size, declarators_size, start_size};
 ghost use Rattle.uc_tree.specs.Expressions.{exprs_of};
 ghost use Rattle.uc_tree.specs.Resolve.{Context, args_meant, object_scoped, objects_scoped, with_all, with_declared};
 ghost use Rattle.uc_lower_stmt.specs.Blocks.{AllStandBehind, EndsScopes, innermost_in, scope_at, started_args};
@@ -26,7 +27,8 @@ use uc_tree::kinds::Base;
 
 // The arguments of the constructor of a declared object.
 fn args_of(start: &Start) -> &[Expr]
-    ensures { (c : Context) → args_meant c (exprs_of result.now) ≡ started_args c start.now }
+    ensures meant { (c : Context) → args_meant c (exprs_of result.now) ≡ started_args c start.now }
+    ensures size { exprs_size (exprs_of result.now) ≤ start_size start.now }
 {
     match &start.form {
         StartForm::Nothing => &[],
@@ -57,10 +59,10 @@ fn lower_object(
     let cell = out.cells();
     put(Op::Clear { cell, cells }, line, out)?;
     let spot = Spot::Local(cell);
-    let length = length_of(names, declarator);
+    let elements = length_of(names, declarator);
     let args = args_of(&declarator.start);
-    lower_build(class, spot, length, args, line, names, out)?;
-    let what = clean_call(class, spot, length, names);
+    lower_build(class, spot, elements, args, line, names, out)?;
+    let what = clean_call(class, spot, elements, names);
     let _row = out.open(Opening::Object { what, line: block })?;
     declare_variable(alloc, names, base, declarator, cells, out)?;
     Ok(())
@@ -105,6 +107,7 @@ fn scope_at(mark: Mark) -> Option<ObjectScope>
         Mark::Body { .. } => None,
         Mark::Finish { .. } => None,
         Mark::Loop { .. } => None,
+        Mark::Whole { .. } => None,
         Mark::Guard { .. } => None,
         Mark::Part { .. } => None,
         Mark::Elements { .. } => None,

@@ -10,7 +10,7 @@ ghost use Rattle.uc_tree.specs.Numbering.{is_plain, own_sites, own_texts, routin
 ghost use Rattle.uc_tree.specs.ProgramMain.{main_number};
 ghost use Rattle.uc_tree.specs.Programs.{Program};
 ghost use Rattle.uc_tree.specs.Resolve.{params_known, role_purpose, value_purpose, routine_scope, routine_meant};
-ghost use Rattle.uc_built.specs.BuiltForms.{are_built, are_scalars};
+ghost use Rattle.uc_built.specs.BuiltForms.{are_built};
 ghost use Rattle.uc_code.specs.Laid.{laid_in};
 ghost use Rattle.uc_code.specs.Ranges.{Kept};
 ghost use Rattle.uc_code.specs.Lowered.{RoutineAt, body_mark};
@@ -168,9 +168,9 @@ pub fn put_end(purpose: Purpose, line: u32, out: &mut Draft) -> Result<(), Alloc
     }
 }
 
-/// Adds the code of a routine that is no constructor and no destructor, behind so many text literals and accept statements of the program, and writes down
-/// under its number where it begins; `main` says whether it is the program's main. Its parameters are scalars and references to
-/// scalars, and its statements are of forms that are built. After want of memory the draft is spent.
+/// Adds the code of a routine that is no constructor and no destructor, behind so many text literals and accept statements of the
+/// program, and writes down under its number where it begins; `main` says whether it is the program's main. Its statements are of
+/// forms that are built. After want of memory the draft is spent.
 pub fn lower_routine(
     alloc: Global,
     names: &ProgramNames,
@@ -185,7 +185,7 @@ pub fn lower_routine(
     requires plain { is_plain routine.now.sig.role ≡ true }
     requires main { main ≡ nat_eq number (main_number names.now) }
     requires built { are_built routine.now.body ≡ true }
-    requires scalars { are_scalars routine.now.sig.params ≡ true }
+    requires few_params { length routine.now.sig.params ≤ PROGRAM_SIZE }
     requires known { number < length out.old.routines }
     requires written { number < length (routines_of names.now) }
     requires outside { out.old.marks ≡ [] }

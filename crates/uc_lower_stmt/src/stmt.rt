@@ -630,7 +630,7 @@ fn lower_return(
     match value {
         Some(value) => {
             let _told = lower_value(value, line, names, out)?;
-            put_conversion(names.result(out.place().routine), line, out)?;
+            put_conversion(names.result(out.place().routine).scalar, line, out)?;
             put_exit(Way::Value, line, out)?;
             Ok(())
         }

@@ -2,19 +2,19 @@ use Rattle.std.proofs.Common.{◌+◌, ◌*◌, ◌-◌, pos, length, take, refl
 use Rattle.std.proofs.lemmas.Option.{slice_get_read}
 use Rattle.uc_code.specs.Drafts.{Draft}
 use Rattle.uc_tree.specs.declared.limits.TheConstants.{OPS_FOR_SIZE}
-use Rattle.uc_tree.specs.ExpressionSizes.{expr_size}
+use Rattle.uc_tree.specs.ExpressionSizes.{expr_size, exprs_size, link_size}
 use Rattle.uc_tree.specs.Resolve.{Context, args_by, meant, value_of}
 use Rattle.uc_code.specs.declared.op.Op.TheVariants as op
 use Rattle.uc_lower_expr.specs.declared.ops.Joining.TheVariants as joining
 use Rattle.uc_lower_expr.specs.Contexts.{context_in}
-use Rattle.uc_lower_expr.proofs.Adding.{rest_behind, rest_then, risk_in, adds_more, adds_both, adds_fork}
+use Rattle.uc_lower_expr.proofs.Adding.{adds_settled, rest_behind, rest_then, risk_in, adds_more, adds_both, adds_fork}
+use Rattle.uc_lower_expr.proofs.Growing.{grows_settled}
 use Rattle.uc_lower_expr.proofs.Settled.{expr_stable, value_truth_stable}
 use Rattle.uc_code.proofs.Stable.{one_stable}
 use Rattle.uc_lower_expr.specs.declared.meaning.Standing.TheVariants as standing
 use Rattle.uc_tree.specs.declared.ops.UnaryOp.{UnaryOp}
 use Rattle.uc_tree.specs.declared.ops.StepOp.TheVariants as step
 use Rattle.uc_tree.specs.Expressions.{exprs_of}
-use Rattle.uc_tree.specs.ExpressionSizes.{exprs_size}
 use Rattle.uc_tree.specs.Resolve.{Standing, args_meant, call_by, unary_meant}
 use Rattle.uc_lower_expr.proofs.Walks.{tree_is, value_in, arm_number, arm_character, arm_truth, arm_cin, arm_minus, arm_not, arm_value, arm_argument, arm_bumped, told_bumped, arm_assigned, told_assigned, arm_to_variable, arm_to_place, arm_set, arm_set_by, arm_keep, arm_keep_by, variable_in_cut, args_in_cut, arm_link, right_as, links_fit, links_step, links_end, part_is, arm_called, arm_routine, arm_member_called, field_not_called, grown_in, not_called, called_part, stepped_part, args_begin, args_step, args_skip, args_fit, parts_fit, parts_step, arm_no_element, arm_element, some_size, arm_postfix, told_postfix, arm_chain, told_chain, postfix_size, chain_size}
 use Rattle.uc_lower_expr.specs.Added.{Adds, ArgumentsCode}
@@ -26,7 +26,7 @@ lower_expr-lower_parts-requires t c =
     let z = postfix_size c.args.e.now _ c.deref.result.now _ _ c.deref-in-Postfix.result.now (tree_is _ _ _ _ c.in-Postfix.is c.e.view_is) c.deref.ensures c.deref-in-Postfix.ensures.value in
     let r = c.in_ok-told-in-Postfix.ensures.code.room in
     let l = c.in_ok-told-in-Postfix.ensures.code.kept.longer in
-    let w = ap (λ (d : Draft). d.settled) c.in_ok-told-in-Postfix.ensures.code.rest in
+    let w = adds_settled c.in_ok-told-in-Postfix.ensures.code in
     let h = c.here-start.ensures.settled in
     (search rules, (omega (arith, w, h), (omega (arith, l), omega (arith, z, r))))
 
@@ -60,7 +60,7 @@ pub lower_parts-lower_part-requires : goal.lower_parts-lower_part-requires
 lower_parts-lower_part-requires t c =
     let r = c.loop-part.invariant.room in
     let fit = parts_fit c.args.parts.now c.loop-part.part-index c.part-item.result c.loop-part-test.true c.part-item.is in
-    let w = ap (λ (d : Draft). d.settled) c.loop-part.invariant.rest in
+    let w = grows_settled c.loop-part.invariant in
     let h = c.requires.settled in
     (search rules, (omega (arith, w, h), (c.loop-part.invariant.past, omega (arith, r, fit))))
 
@@ -106,7 +106,7 @@ lower_expr-lower_links-requires t c =
     let z = chain_size c.args.e.now _ c.deref-in-Chain.result.now _ _ c.deref-in-Chain-2.result.now (tree_is _ _ _ _ c.in-Chain.is c.e.view_is) c.deref-in-Chain.ensures c.deref-in-Chain-2.ensures.value in
     let r = c.in_ok-told-in-Chain.ensures.code.room in
     let l = c.in_ok-told-in-Chain.ensures.code.kept.longer in
-    let w = ap (λ (d : Draft). d.settled) c.in_ok-told-in-Chain.ensures.code.rest in
+    let w = adds_settled c.in_ok-told-in-Chain.ensures.code in
     let h = c.here-start-in-Chain.ensures.settled in
     (search rules, (omega (arith, w, h), (omega (arith, l), omega (arith, z, r))))
 
@@ -118,6 +118,12 @@ pub lower_expr-returns-in_ok-told-in-Chain-clause-tells : goal.lower_expr-return
 lower_expr-returns-in_ok-told-in-Chain-clause-tells t c =
     told_chain c.args.names.now c.lower_links.result _ _ _ _ _ c.deref-in-Chain-2.result.now _ _ _ _ _ _ (tree_is _ _ _ _ c.in-Chain.is c.e.view_is) c.deref-in-Chain.ensures c.deref-in-Chain-2.ensures.value c.here-start-in-Chain.ensures.count c.in_ok-told-in-Chain.ensures.code c.in_ok-told-in-Chain.ensures.tells c.lower_links.ensures
 
+pub lower_link-lower_right-requires : goal.lower_link-lower_right-requires
+lower_link-lower_right-requires t c =
+    let q = (c.in_ok-put_load.ensures.code c.args.names.now).room in
+    let z = ap link_size c.link.view_is in
+    (search rules, omega (arith, q, z))
+
 pub lower_link-returns : goal.lower_link-returns
 lower_link-returns t c = arm_link c.args.names.now c.args.link.now c.link.inside.sign c.link.inside.op c.link.inside.right c.args.line c.args.start c.args.left _ c.value.result c.joined_by-joining.result _ _ _ c.link.view_is c.joined_by-joining.ensures (cc) c.in_ok-put_load.ensures.tells (c.in_ok-put_load.ensures.code c.args.names.now) c.in_ok-lower_right.ensures
 
@@ -125,7 +131,7 @@ pub lower_links-lower_link-requires : goal.lower_links-lower_link-requires
 lower_links-lower_link-requires t c =
     let r = c.loop-link.invariant.room in
     let fit = links_fit c.args.links.now c.loop-link.link-index c.link-item.result c.loop-link-test.true c.link-item.is in
-    let w = ap (λ (d : Draft). d.settled) c.loop-link.invariant.rest in
+    let w = grows_settled c.loop-link.invariant in
     let h = c.requires.settled in
     (search rules, (omega (arith, w, h), (c.loop-link.invariant.past, omega (arith, r, fit))))
 
@@ -140,7 +146,7 @@ lower_value-put_load-requires t c =
     let r = c.in_ok-told.ensures.code.room in
     let l = c.in_ok-told.ensures.code.kept.longer in
     let s = some_size c.args.e.now in
-    let w = ap (λ (d : Draft). d.settled) c.in_ok-told.ensures.code.rest in
+    let w = adds_settled c.in_ok-told.ensures.code in
     let h = c.here-start.ensures.settled in
     record { settled = omega (arith, w, h); inside = omega (arith, l); room = omega (arith, r, s) }
 
@@ -160,14 +166,14 @@ lower_arg-put_load-requires t c =
     let r = c.in_ok-told.ensures.code.room in
     let l = c.in_ok-told.ensures.code.kept.longer in
     let s = some_size c.args.arg.now in
-    let w = ap (λ (d : Draft). d.settled) c.in_ok-told.ensures.code.rest in
+    let w = adds_settled c.in_ok-told.ensures.code in
     let h = c.here-start.ensures.settled in
     record { settled = omega (arith, w, h); inside = omega (arith, l); room = omega (arith, r, s) }
 
 pub lower_arg-put_conversion-requires : goal.lower_arg-put_conversion-requires
 lower_arg-put_conversion-requires t c =
     let r = c.in_ok-told.ensures.code.room in
-    let q = c.in_ok-put_load.ensures.code.room in
+    let q = (c.in_ok-put_load.ensures.code c.args.names.now).room in
     let s = some_size c.args.arg.now in
     omega (arith, r, q, s)
 
@@ -189,7 +195,7 @@ lower_assign-lower_written-requires t c =
     let r = c.in_ok-told.ensures.code.room in
     let l = c.in_ok-told.ensures.code.kept.longer in
     let s = some_size c.args.place.now in
-    let w = ap (λ (d : Draft). d.settled) c.in_ok-told.ensures.code.rest in
+    let w = adds_settled c.in_ok-told.ensures.code in
     let h = c.here-start.ensures.settled in
     (search rules, (omega (arith, w, h), (omega (arith, l), omega (arith, r, s))))
 

@@ -8,10 +8,10 @@ pub returns-in-Some : goal.returns-in-Some
 returns-in-Some c =
     put_for_nothing c.args.out.now.marks c.put_nothing.result c.args.names.now _ c.args.line c.args.start (λ m. place_member c.args.names.now m.ty.len m c.args.name.now) c.args.told _ _ (omega arith) c.requires.inside (array_none c.args.names.now c.args.name.now c.args.told c.in-Some.field-0 c.in-Some.is) c.put_nothing.ensures.code c.put_nothing.ensures.tells
 
-pub returns-in-None-in-Some : goal.returns-in-None-in-Some
-returns-in-None-in-Some c =
-    grown_told c.lower_member_of.result c.args.names.now _ c.args.line c.args.out.now.marks c.args.start (λ m. member_meant c.args.names.now c.in-None-in-Some.class (Of m.expr) c.args.name.now) (λ m. place_member c.args.names.now m.ty.len m c.args.name.now) c.args.told _ _ (λ m u. sym (object_is c.args.names.now c.args.name.now c.args.told c.in-None-in-Some.class c.in-None.is c.in-None-in-Some.is m u)) c.lower_member_of.ensures
+pub returns-in-Some-class : goal.returns-in-Some-class
+returns-in-Some-class c =
+    grown_told c.lower_member_of.result c.args.names.now _ c.args.line c.args.out.now.marks c.args.start (λ m. member_meant c.args.names.now c.in-Some-class.class (Of m.expr) c.args.name.now) (λ m. place_member c.args.names.now m.ty.len m c.args.name.now) c.args.told _ _ (λ m u. sym (object_is c.args.names.now c.args.name.now c.args.told c.in-Some-class.class c.in-None.is c.in-Some-class.is m u)) c.lower_member_of.ensures
 
-pub returns-in-None-in-None : goal.returns-in-None-in-None
-returns-in-None-in-None c =
-    put_for_nothing c.args.out.now.marks c.put_nothing-in-None-in-None.result c.args.names.now _ c.args.line c.args.start (λ m. place_member c.args.names.now m.ty.len m c.args.name.now) c.args.told _ _ (omega arith) c.requires.inside (scalar_none c.args.names.now c.args.name.now c.args.told c.in-None.is c.in-None-in-None.is) c.put_nothing-in-None-in-None.ensures.code c.put_nothing-in-None-in-None.ensures.tells
+pub returns-in-None-class : goal.returns-in-None-class
+returns-in-None-class c =
+    put_for_nothing c.args.out.now.marks c.put_nothing-in-None-class.result c.args.names.now _ c.args.line c.args.start (λ m. place_member c.args.names.now m.ty.len m c.args.name.now) c.args.told _ _ (omega arith) c.requires.inside (scalar_none c.args.names.now c.args.name.now c.args.told c.in-None.is c.in-None-class.is) c.put_nothing-in-None-class.ensures.code c.put_nothing-in-None-class.ensures.tells

@@ -1,11 +1,4 @@
-use Rattle.std.proofs.Common.{Some, None, subst, sym, ◌∙◌}
-use Rattle.std.specs.Prelude.{OnOk, IfOk}
-use Rattle.uc_tree.specs.Resolve.{Meant, known_named}
-use Rattle.uc_lower_expr.specs.Added.{Adds, ExprCode}
-use Rattle.uc_lower_expr.specs.Meanings.{Tells}
-use Rattle.uc_lower_expr.specs.declared.meaning.Meaning.{Meaning}
 use Rattle.uc_lower_expr.proofs.Arms.{name_known, name_told}
-use Rattle.uc_lower_expr.proofs.Members.{other_name}
 use Rattle.uc_lower_expr.proofs.expr.lower_name.Goals as goal
 
 pub returns-in_ok-put-in-Some-clause-code : goal.returns-in_ok-put-in-Some-clause-code

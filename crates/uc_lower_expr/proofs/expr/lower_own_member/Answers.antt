@@ -1,4 +1,4 @@
-use Rattle.std.proofs.Common.{List, subst, sym, ◌∙◌}
+use Rattle.std.proofs.Common.{subst, sym, ◌∙◌}
 use Rattle.std.specs.Prelude.{OnOk, IfOk}
 use Rattle.uc_tree.specs.Resolve.{Meant, Own}
 use Rattle.uc_lower_expr.specs.Added.{Adds, ExprCode}
