@@ -40,6 +40,13 @@ const CALL: Call = Call {
     counts: true,
 };
 
+const CALL_ON: Call = Call {
+    routine: CALLED,
+    this: Cell::Object(6),
+    taken: 3,
+    counts: false,
+};
+
 /// A line of a name and cells.
 fn line(alloc: Global, name: &str, cells: &[Cell]) -> Result<String, AllocError> {
     let mut text = format!(in alloc; "{name}:")?;
@@ -98,6 +105,50 @@ fn called_bare(alloc: Global) -> Result<String, AllocError> {
     }
     let cells = [work.get(0), work.get(1), work.get(2)];
     line(alloc, "called bare", cells.as_slice())
+}
+
+/// A call at an object, which goes with the arguments above it. It does not count, and in it no element stands.
+fn called_on(alloc: Global) -> Result<String, AllocError> {
+    let mut work = Work::first(alloc, MAIN, 4)?;
+    work.set_elements(2);
+    work.push(Cell::Number(4))?;
+    work.push(Cell::Object(6))?;
+    work.push(Cell::Number(5))?;
+    work.push(Cell::Number(7))?;
+    let object = work.below(2);
+    if work.calls() < CALLS {
+        work.enter(CALL_ON)?;
+    }
+    let cells = [
+        object,
+        work.this(),
+        number(work.calls()),
+        number(work.elements()),
+        work.get(0),
+        work.get(1),
+        work.top(),
+    ];
+    line(alloc, "called on", cells.as_slice())
+}
+
+/// Back from such a call.
+fn returned_from(alloc: Global) -> Result<String, AllocError> {
+    let mut work = Work::first(alloc, MAIN, 4)?;
+    work.set_elements(2);
+    work.push(Cell::Number(4))?;
+    if work.calls() < CALLS {
+        work.enter(CALL_ON)?;
+    }
+    work.set_elements(9);
+    let went = work.leave(Cell::Number(8))?;
+    let cells = [
+        truth(went),
+        work.this(),
+        number(work.elements()),
+        work.pop(),
+        work.pop(),
+    ];
+    line(alloc, "returned from", cells.as_slice())
 }
 
 /// Back from a call with what it hands over.
@@ -332,7 +383,9 @@ fn main(rt: HostRuntime) -> io::Result<()> {
         left(alloc)?,
         called(alloc)?,
         called_bare(alloc)?,
+        called_on(alloc)?,
         returned(alloc)?,
+        returned_from(alloc)?,
         replaced(alloc)?,
         operands(alloc)?,
         variables(alloc)?,
