@@ -1,17 +1,17 @@
 -- The end of the scopes of a block: what was laid out step by step becomes the code of its statements.
-use Rattle.std.proofs.Common.{◌≡◌, ℕ, suc, ◌+◌, ◌*◌, ◌≤◌, ◌<◌, List, [], ◌∷◌, ◌++◌, Bool, true, false, Option, Some, None, length, drop, reverse, refl, sym, subst, ap, ◌∙◌, arith}
+use Rattle.std.proofs.Common.{◌≡◌, ℕ, suc, ◌+◌, ◌≤◌, ◌<◌, List, [], ◌∷◌, ◌++◌, Bool, true, false, Option, Some, None, length, refl, sym, subst, ap, ◌∙◌, arith}
 use Rattle.std.specs.Prelude.{nat_le}
 use Rattle.std.proofs.lemmas.Bool.{lt-leb, le-leb}
-use Rattle.uc_tree.specs.Source.{CleanUp, Stmt, Stmts, Then, Scoped, Built}
+use Rattle.uc_tree.specs.Source.{CleanUp, Stmts, Then, Scoped, Built}
 use Rattle.uc_code.specs.declared.rows.Mark.{Mark}
 use Rattle.uc_code.specs.declared.rows.Mark.TheVariants as mark
 use Rattle.uc_code.specs.declared.rows.ObjectCall.{ObjectCall}
 use Rattle.uc_code.specs.Drafts.{Draft}
 use Rattle.uc_code.specs.Laid.{Laid, laid_in, routine_in}
-use Rattle.uc_code.specs.Ranges.{Kept, Nothing, ScopeOf, BehindPart}
+use Rattle.uc_code.specs.Ranges.{Kept, ScopeOf}
 use Rattle.uc_code.specs.ObjectCalls.{Cleans}
 use Rattle.uc_code.specs.Open.{AllBehind, StandsBehind}
-use Rattle.uc_code.specs.Lowered.{CleanAt, ScopedAt, BuiltAt, StmtAt, StmtsAt}
+use Rattle.uc_code.specs.Lowered.{CleanAt, StmtAt, StmtsAt}
 use Rattle.uc_code.proofs.Stable.{kept_refl, kept_then, kept_piece}
 use Rattle.uc_lower_stmt.specs.declared.block.ObjectScope.{ObjectScope}
 use Rattle.uc_lower_stmt.specs.Blocks.{BlockStands, EndsScopes, EndingScopes, Unended, innermost_by, innermost_in, scope_at}
@@ -145,15 +145,15 @@ module _ (count : ℕ) (scope : ObjectScope) (now next : Draft) (at : innermost_
           let ends = h.scope row os f in
           let marks : next.marks ≡ os = h.marks row os f in
           let body : StmtsAt (laid_in next) (mark.Clean what line row ∷ os) line ss y (length now.ops) =
-              subst (λ (xs : List Mark). StmtsAt (laid_in next) xs line ss y (length now.ops)) e (kept_piece (λ k. StmtsAt k now.marks line ss) (stmts_stable now.marks line ss) (laid_in now) (laid_in next) y (length now.ops) (omega arith) h.kept s) in
+          subst (λ (xs : List Mark). StmtsAt (laid_in next) xs line ss y (length now.ops)) e (kept_piece (λ k. StmtsAt k now.marks line ss) (stmts_stable now.marks line ss) (laid_in now) (laid_in next) y (length now.ops) (omega arith) h.kept s) in
           let rises = (stmts_stable now.marks line ss).rises (laid_in now) y (length now.ops) s in
           let there = pending_kept (laid_in now) line ms a (laid_in next) ks os y (omega arith) h.kept p in
           let ended =
-              subst (λ (x : ObjectCall). ScopeOf (laid_in next) line os (λ r. mark.Clean x line r) (CleanAt (laid_in next) line x os) (λ xs. StmtsAt (laid_in next) xs line ss) y (length next.ops)) (sym m.0) (
-              subst (λ (k : ℕ). ScopeOf (laid_in next) k os (λ r. mark.Clean scope.what k r) (CleanAt (laid_in next) k scope.what os) (λ xs. StmtsAt (laid_in next) xs line ss) y (length next.ops)) (sym m.1) (
-              scope_ended (laid_in next) scope.line os scope.what row (λ xs. StmtsAt (laid_in next) xs line ss) y (length now.ops) (length next.ops) (
-              subst (λ (k : ℕ). StmtsAt (laid_in next) (mark.Clean scope.what k row ∷ os) line ss y (length now.ops)) m.1 (
-              subst (λ (x : ObjectCall). StmtsAt (laid_in next) (mark.Clean x line row ∷ os) line ss y (length now.ops)) m.0 body)) ends)) in
+          subst (λ (x : ObjectCall). ScopeOf (laid_in next) line os (λ r. mark.Clean x line r) (CleanAt (laid_in next) line x os) (λ xs. StmtsAt (laid_in next) xs line ss) y (length next.ops)) (sym m.0) (
+          subst (λ (k : ℕ). ScopeOf (laid_in next) k os (λ r. mark.Clean scope.what k r) (CleanAt (laid_in next) k scope.what os) (λ xs. StmtsAt (laid_in next) xs line ss) y (length next.ops)) (sym m.1) (
+          scope_ended (laid_in next) scope.line os scope.what row (λ xs. StmtsAt (laid_in next) xs line ss) y (length now.ops) (length next.ops) (
+          subst (λ (k : ℕ). StmtsAt (laid_in next) (mark.Clean scope.what k row ∷ os) line ss y (length now.ops)) m.1 (
+          subst (λ (x : ObjectCall). StmtsAt (laid_in next) (mark.Clean x line row ∷ os) line ss y (length now.ops)) m.0 body)) ends)) in
           record {
             steps = ks;
             none = n;

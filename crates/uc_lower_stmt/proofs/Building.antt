@@ -1,5 +1,5 @@
 -- The code that builds an object, and the calls that build and destroy one.
-use Rattle.std.proofs.Common.{◌≡◌, ℕ, ◌+◌, ◌*◌, ◌≤◌, ◌<◌, List, [], ◌∷◌, Bool, true, false, true≢false, Option, Some, None, length, refl, ap, sym, subst, ◌∙◌, arith}
+use Rattle.std.proofs.Common.{◌≡◌, ℕ, ◌+◌, ◌≤◌, ◌<◌, List, [], ◌∷◌, true, false, true≢false, Option, Some, None, length, refl, ap, sym, subst, ◌∙◌, arith}
 use Rattle.uc_tree.specs.declared.kinds.Param.{Param}
 use Rattle.uc_tree.specs.declared.kinds.Role.{Role}
 use Rattle.uc_tree.specs.declared.kinds.Role.TheVariants as role
@@ -9,7 +9,7 @@ use Rattle.uc_tree.specs.Cells.{class_cells}
 use Rattle.uc_tree.specs.Laws.{LawCells}
 use Rattle.uc_tree.specs.Programs.{Program}
 use Rattle.uc_tree.specs.Objects.{class_shape, unwritten_number, written_at}
-use Rattle.uc_tree.specs.Source.{shape_cells, Expr, Element, OfObject, Counted, CallOn, CallUnwritten, Exprs, NoExprs, CleanUp, Destroys, DestroysAll}
+use Rattle.uc_tree.specs.Source.{Expr, OfObject, CallOn, CallUnwritten, Exprs, NoExprs}
 use Rattle.uc_tree.specs.Resolve.{Meant, args_by, params_of, called_by, constructed, counted_element, build, clean_up}
 use Rattle.uc_code.specs.declared.op.Op.TheVariants as op
 use Rattle.uc_code.specs.declared.rows.Array.{Array}
@@ -17,14 +17,14 @@ use Rattle.uc_code.specs.declared.rows.Mark.{Mark}
 use Rattle.uc_code.specs.declared.rows.ObjectCall.{ObjectCall}
 use Rattle.uc_code.specs.declared.rows.Spot.{Spot}
 use Rattle.uc_code.specs.Drafts.{Draft}
-use Rattle.uc_code.specs.Laid.{Laid, laid_in, routine_in}
-use Rattle.uc_code.specs.Ranges.{One, Risk, CallsBehind, Both}
+use Rattle.uc_code.specs.Laid.{Laid, routine_in}
+use Rattle.uc_code.specs.Ranges.{One}
 use Rattle.uc_code.specs.ObjectCalls.{BeginsAt, InFrame, InObject, LiesAt, Whole, Part, Calls, Written, Unwritten, Cleans, One as CleansOne, All}
-use Rattle.uc_code.specs.Lowered.{spot_op, ExprAt, ArgumentsAt, StmtAt}
+use Rattle.uc_code.specs.Lowered.{spot_op, ExprAt, StmtAt}
 use Rattle.uc_code.specs.Open.{StandsBehind}
 use Rattle.uc_code.specs.Puts.{Puts}
 use Rattle.uc_code.proofs.Stable.{one_stable}
-use Rattle.uc_code.proofs.Putting.{puts_as, puts_both, puts_more}
+use Rattle.uc_code.proofs.Putting.{puts_as, puts_more}
 use Rattle.uc_lower_expr.specs.declared.numbering.ClassRoutine.{ClassRoutine}
 use Rattle.uc_lower_expr.specs.Members.{routine_by, routine_for}
 use Rattle.uc_lower_expr.specs.Added.{Adds, ExprCode, ArgumentsCode, OpCode, RiskCode}

@@ -1,14 +1,13 @@
 -- The end of the scope of an object, and of what follows a part of one.
-use Rattle.std.proofs.Common.{◌≡◌, ℕ, ◌+◌, ◌*◌, ◌≤◌, ◌<◌, List, [], ◌∷◌, length, drop, Option, Some, None, Bool, true, false, refl, ap, sym, subst, ◌∙◌, arith}
-use Rattle.uc_code.specs.declared.op.Op.{Op}
+use Rattle.std.proofs.Common.{◌≡◌, ℕ, ◌+◌, ◌*◌, ◌≤◌, List, ◌∷◌, length, drop, Option, Some, None, Bool, true, false, refl, ap, sym, subst, ◌∙◌, arith}
 use Rattle.uc_code.specs.declared.op.Op.TheVariants as op
 use Rattle.uc_code.specs.declared.rows.Array.{Array}
 use Rattle.uc_code.specs.declared.rows.Mark.{Mark}
 use Rattle.uc_code.specs.declared.rows.Mark.TheVariants as mark
 use Rattle.uc_code.specs.declared.rows.ObjectCall.{ObjectCall}
 use Rattle.uc_code.specs.Drafts.{Draft}
-use Rattle.uc_code.specs.Laid.{Laid, laid_in, routine_in}
-use Rattle.uc_code.specs.Ranges.{OpAt, Both, One, Risk, HandlerAt, ScopeOf, BehindPart, Kept}
+use Rattle.uc_code.specs.Laid.{Laid, laid_in}
+use Rattle.uc_code.specs.Ranges.{OpAt, One, Risk, HandlerAt, ScopeOf, BehindPart, Kept}
 use Rattle.uc_code.specs.Lowered.{CleanAt}
 use Rattle.uc_code.specs.Open.{StandsBehind, handler_in, row_in, closed}
 use Rattle.uc_code.specs.Puts.{Puts, place_length, called_length, clean_by, clean_length}

@@ -1,6 +1,5 @@
 -- The code that builds all elements of an array, as it is added to a draft.
-use Rattle.std.proofs.Common.{◌≡◌, ℕ, ◌+◌, ◌^◌, ◌≤◌, ◌<◌, List, [], ◌∷◌, length, drop, Option, Some, None, refl, ap, sym, subst, ◌∙◌, arith}
-use Rattle.uc_code.specs.declared.op.Op.{Op}
+use Rattle.std.proofs.Common.{◌≡◌, ℕ, ◌+◌, ◌^◌, ◌<◌, List, ◌∷◌, length, drop, Some, refl, ap, sym, subst, ◌∙◌, arith}
 use Rattle.uc_code.specs.declared.op.Op.TheVariants as op
 use Rattle.uc_code.specs.declared.rows.Mark.{Mark}
 use Rattle.uc_code.specs.declared.rows.Mark.TheVariants as mark
@@ -8,7 +7,7 @@ use Rattle.uc_code.specs.declared.rows.ObjectCall.{ObjectCall}
 use Rattle.uc_code.specs.declared.rows.Opening.TheVariants as opening
 use Rattle.uc_code.specs.Drafts.{Draft}
 use Rattle.uc_code.specs.Laid.{Laid, laid_in}
-use Rattle.uc_code.specs.Ranges.{OpAt, Both, One, Risk, HandlerAt, Rounds, OverElements, Kept, Stable}
+use Rattle.uc_code.specs.Ranges.{OpAt, One, Risk, HandlerAt, Kept, Stable}
 use Rattle.uc_code.specs.Lowered.{CallAt, CallBuilt, CallDone}
 use Rattle.uc_code.specs.Open.{handler_in, row_in, opened, closed}
 use Rattle.uc_code.specs.Puts.{Puts, done_length}

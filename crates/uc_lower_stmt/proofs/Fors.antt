@@ -8,30 +8,27 @@ use Rattle.uc_tree.specs.StatementViews.{for_at}
 use Rattle.uc_tree.specs.Expressions as tree
 use Rattle.uc_tree.specs.ExpressionSizes.{expr_size}
 use Rattle.uc_tree.specs.Statements.{Declarator, ForStart, NoFor, ForDeclare, ForEvaluate, Stmt}
-use Rattle.uc_tree.specs.StatementSizes.{for_start_size, maybe_expr_size, stmt_size}
-use Rattle.uc_tree.specs.Exits.{exits, for_declares}
+use Rattle.uc_tree.specs.StatementSizes.{maybe_expr_size, stmt_size}
+use Rattle.uc_tree.specs.Exits.{for_declares}
 use Rattle.uc_tree.specs.Sizes.{size_at}
 use Rattle.uc_tree.specs.Scopes.{alone_scopes, stmt_scopes}
-use Rattle.uc_tree.specs.Cells.{declared_cells, for_cells, stmt_cells}
+use Rattle.uc_tree.specs.Cells.{declared_cells, stmt_cells}
 use Rattle.uc_tree.specs.Programs.{Program}
 use Rattle.uc_tree.specs.Source as source
 use Rattle.uc_tree.specs.Source.{Order, Expr}
-use Rattle.uc_tree.specs.Resolve.{Scope, meant, scope_past, for_scope, start_then, order_of, test_of}
+use Rattle.uc_tree.specs.Resolve.{Scope, meant, scope_past, for_scope, order_of, test_of}
 use Rattle.uc_code.specs.declared.op.Op.TheVariants as op
-use Rattle.uc_code.specs.declared.rows.Mark.{Mark}
 use Rattle.uc_code.specs.declared.draft_parts.Outside.{Outside}
 use Rattle.uc_code.specs.Drafts.{Draft}
-use Rattle.uc_code.specs.Laid.{Laid}
-use Rattle.uc_code.specs.Lowered.{StmtAt, StmtsAt}
+use Rattle.uc_code.specs.Lowered.{StmtAt}
 use Rattle.uc_lower_expr.specs.Added.{Adds, ExprCode, OpCode}
 use Rattle.uc_lower_expr.specs.Contexts.{context_in}
 use Rattle.uc_lower_expr.proofs.Adding.{adds_both}
 use Rattle.uc_lower_expr.proofs.Settled.{expr_stable}
 use Rattle.uc_lower_stmt.specs.declared.turning.Turning.{Turning}
 use Rattle.uc_lower_stmt.specs.Blocks.{EndsScopes}
-use Rattle.uc_lower_stmt.specs.Control.{LaysDeclaration, LaysStart, LowersFor, LowersLoop, for_past, loop_meant, turning_order, turning_size, turning_test}
+use Rattle.uc_lower_stmt.specs.Control.{LaysDeclaration, LaysStart, LowersFor, LowersLoop, loop_meant, turning_order, turning_size, turning_test}
 use Rattle.uc_lower_stmt.specs.Marked.{objects_in}
-use Rattle.uc_lower_stmt.specs.Pending.{Lays}
 use Rattle.uc_lower_stmt.specs.Scoped.{Lowers, scope_of}
 use Rattle.uc_lower_stmt.proofs.Growth.{exits_grow}
 use Rattle.uc_lower_stmt.proofs.Joined.{lowers_adds, lowers_as, lowers_nothing}
@@ -54,7 +51,7 @@ arm_start_declare p line y place b xs ys old new e i a = start_as p line (ForDec
 pub arm_start_evaluate : (p : Program) (line : ℕ) (y : ForStart) (e : tree.Expr) (old mid new : Draft) → ForEvaluate e ≡ y → 1 ≤ expr_size e → Adds (OPS_FOR_SIZE * expr_size e - 2) (ExprCode line old.marks (meant (context_in p old) e).expr) old mid → Adds 1 (OpCode line op.Discard) mid new → LaysStart p line y old new
 arm_start_evaluate p line y e old mid new is l a b =
     let one : Lowers (OPS_FOR_SIZE * expr_size e - 2 + 1) 0 0 0 (λ code. StmtAt code old.marks (source.Evaluate line (meant (context_in p old) e).expr)) (scope_of old) old new =
-        lowers_adds 0 0 (adds_both (expr_stable line old.marks (meant (context_in p old) e).expr) a b) in
+    lowers_adds 0 0 (adds_both (expr_stable line old.marks (meant (context_in p old) e).expr) a b) in
     start_as p line (ForEvaluate e) y old new is (lays_as (lays_one line one) refl (λ ss. refl) (omega (arith, l)) (omega arith) (omega arith) (omega arith) (omega arith))
 
 pub for_is : (f g : ForForm) (s : ForStart) → f ≡ g → for_at f ≡ s → for_at g ≡ s

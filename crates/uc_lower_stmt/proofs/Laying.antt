@@ -1,5 +1,5 @@
 -- Steps of a block in a draft: one after another, a statement as one step, and the block at their end.
-use Rattle.std.proofs.Common.{◌≡◌, ℕ, ◌+◌, ◌*◌, ◌≤◌, List, [], ◌∷◌, ◌++◌, length, refl, ap, sym, subst, ◌∙◌, arith}
+use Rattle.std.proofs.Common.{◌≡◌, ℕ, ◌+◌, ◌≤◌, List, [], ◌∷◌, ◌++◌, length, refl, ap, sym, subst, ◌∙◌, arith}
 use Rattle.uc_tree.specs.Source.{Stmt, Stmts, Nil, Then}
 use Rattle.uc_tree.specs.Resolve.{Scope}
 use Rattle.uc_code.specs.declared.rows.Mark.{Mark}
@@ -8,8 +8,8 @@ use Rattle.uc_code.specs.Laid.{Laid, laid_in, routine_in}
 use Rattle.uc_code.specs.Lowered.{StmtAt, StmtsAt}
 use Rattle.uc_code.proofs.Stable.{kept_refl, kept_then}
 use Rattle.uc_lower_stmt.specs.Blocks.{BlockStands, EndsScopes}
-use Rattle.uc_lower_stmt.specs.Marked.{objects_in, taken}
-use Rattle.uc_lower_stmt.specs.Pending.{Step, Does, block_of, Pending, Begins, Done, Lays}
+use Rattle.uc_lower_stmt.specs.Marked.{objects_in}
+use Rattle.uc_lower_stmt.specs.Pending.{Does, block_of, Pending, Begins, Done, Lays}
 use Rattle.uc_lower_stmt.specs.Scoped.{Lowers, scope_of}
 use Rattle.uc_lower_stmt.proofs.Blocks.{block_join, none_join, pending_join, pending_kept, pending_routine}
 
@@ -107,7 +107,7 @@ lays_ended {n} {k} {c} {d} {o} {line} {f} {t} {old} {mid} {new} count ce h w =
     rests : new.marks ≡ old.marks → new ≡ record old { ops = new.ops; rows = new.rows; settled = new.settled; scopes = new.scopes; names = new.names; cells = new.cells; texts = new.texts; sites = new.sites }
     rests m =
         let a : new ≡ record old { ops = new.ops; rows = new.rows; settled = new.settled; marks = new.marks; scopes = mid.scopes; names = mid.names; cells = mid.cells; texts = mid.texts; sites = mid.sites } =
-            w.rest ∙ ap (λ (x : Draft). let y : Draft = record x { ops = new.ops; rows = new.rows; settled = new.settled; marks = new.marks } in y) h.rest in
+        w.rest ∙ ap (λ (x : Draft). let y : Draft = record x { ops = new.ops; rows = new.rows; settled = new.settled; marks = new.marks } in y) h.rest in
         subst (λ (x : Draft). new ≡ record old { ops = new.ops; rows = new.rows; settled = new.settled; scopes = x.scopes; names = x.names; cells = x.cells; texts = x.texts; sites = x.sites }) (sym w.rest) (
         a ∙ ap (λ (ms : List Mark). let y : Draft = record old { ops = new.ops; rows = new.rows; settled = new.settled; marks = ms; scopes = mid.scopes; names = mid.names; cells = mid.cells; texts = mid.texts; sites = mid.sites } in y) m)
 

@@ -1,5 +1,5 @@
 -- Statements of a block, one after another, in a draft.
-use Rattle.std.proofs.Common.{◌≡◌, ℕ, zero, suc, ◌+◌, ◌*◌, ◌≤◌, ◌<◌, List, [], ◌∷◌, ◌++◌, Option, Some, None, Bool, true, false, length, take, get_or, refl, ap, sym, subst, ◌∙◌, arith}
+use Rattle.std.proofs.Common.{◌≡◌, ℕ, zero, suc, ◌+◌, ◌*◌, ◌≤◌, ◌<◌, List, [], ◌∷◌, ◌++◌, Option, Some, None, length, take, get_or, refl, ap, sym, subst, ◌∙◌, arith}
 use Rattle.std.proofs.Common.{reverse, take_all}
 use Rattle.std.proofs.lemmas.List.{take_more, length-reverse}
 use Rattle.uc_tree.specs.declared.limits.TheConstants.{OPS_FOR_SIZE}
@@ -8,7 +8,7 @@ use Rattle.uc_tree.specs.declared.kinds.Base.{Base}
 use Rattle.uc_tree.specs.declared.stmt.StmtForm.{StmtForm}
 use Rattle.uc_tree.specs.declared.stmt.StmtForm.TheVariants as form
 use Rattle.uc_tree.specs.StatementForms.{stmt_at}
-use Rattle.uc_tree.specs.Statements.{Declarator, ForStart, NoFor, ForDeclare, ForEvaluate, Stmt, Block, Empty, Evaluate, Declare, If, While, Do, For, Break, Continue, Return, Try, Throw, Raise, RaiseAt, Enable, Disable, Accept, Print, PrintTogether, Read, Resume, Suspend, Yield, Migrate, stmts_of}
+use Rattle.uc_tree.specs.Statements.{Declarator, Stmt, Block, Empty, Evaluate, Declare, If, While, Do, For, Break, Continue, Return, Try, Throw, Raise, RaiseAt, Enable, Disable, Accept, Print, PrintTogether, Read, Resume, Suspend, Yield, Migrate, stmts_of}
 use Rattle.uc_tree.specs.StatementSizes.{declarators_size, stmt_size, stmts_size}
 use Rattle.uc_tree.specs.Exits.{declares, exits, exits_all}
 use Rattle.uc_tree.specs.Sizes.{size_at}
@@ -20,7 +20,6 @@ use Rattle.uc_tree.specs.Source as source
 use Rattle.uc_tree.specs.Resolve.{Scope, all_declared, declared_alone, declared_then, objects_scoped, stmt_meant, stmts_meant, stmt_then, scope_after, scope_behind, with_all}
 use Rattle.uc_code.specs.declared.rows.Mark.{Mark}
 use Rattle.uc_code.specs.Drafts.{Draft}
-use Rattle.uc_code.specs.Laid.{Laid}
 use Rattle.uc_code.specs.Lowered.{StmtAt, StmtsAt}
 use Rattle.uc_lower_stmt.specs.declared.stmt.Objects.{Objects}
 use Rattle.uc_lower_stmt.specs.Blocks.{EndsScopes}
@@ -33,7 +32,7 @@ use Rattle.uc_lower_stmt.specs.Scoped.{Lowers, LowersStmt, LowersStmts, scope_of
 use Rattle.uc_lower_stmt.proofs.Counted.{declared_counted}
 use Rattle.uc_lower_stmt.proofs.Growth.{exits_grow}
 use Rattle.uc_lower_stmt.proofs.Joined.{lowers_as}
-use Rattle.uc_lower_stmt.proofs.Laying.{lays_as, lays_ended, lays_join, lays_nothing, lays_one, lays_routine}
+use Rattle.uc_lower_stmt.proofs.Laying.{lays_as, lays_ended, lays_join, lays_nothing, lays_one}
 
 -- one statement
 
@@ -294,7 +293,7 @@ module _ (p : Program) (line : ℕ) (xs : List Stmt) (i : ℕ) (x : Stmt) (old m
       let s1 = size_push ys x in
       let s2 = exits_push ys x k in
       let h1 : Lays (OPS_FOR_SIZE * size_at x (objects_in mid.marks)) (stmt_size x) (stmt_cells x (declared_cells p)) (declares x) (stmt_scopes x) line (stmt_then p x t (stmt_meant p x t)) (scope_after p x t) mid new =
-          subst (λ (u : Scope). Lays (OPS_FOR_SIZE * size_at x (objects_in mid.marks)) (stmt_size x) (stmt_cells x (declared_cells p)) (declares x) (stmt_scopes x) line (stmt_then p x u (stmt_meant p x u)) (scope_after p x u) mid new) g.scope h in
+      subst (λ (u : Scope). Lays (OPS_FOR_SIZE * size_at x (objects_in mid.marks)) (stmt_size x) (stmt_cells x (declared_cells p)) (declares x) (stmt_scopes x) line (stmt_then p x u (stmt_meant p x u)) (scope_after p x u) mid new) g.scope h in
       subst (λ (zs : List Stmt). LaysStmts p line zs old new) split (
       lays_as (lays_join g h1) (scope_push p ys x s) (λ ss. then_push p ys x s ss) (omega arith) (omega (arith, s1)) (omega (arith, cells_push (declared_cells p) ys x)) (omega (arith, declares_push ys x)) (omega (arith, scopes_push ys x)))
 

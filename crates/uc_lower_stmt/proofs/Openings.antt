@@ -1,5 +1,5 @@
 -- Declarations of objects in a block: each object is built, and its scope is open from then on.
-use Rattle.std.proofs.Common.{◌≡◌, ℕ, zero, suc, ◌+◌, ◌*◌, ◌≤◌, ◌<◌, List, [], ◌∷◌, ◌++◌, Option, Some, None, Bool, true, false, length, length-append, take, get_or, refl, ap, sym, subst, ◌∙◌, arith}
+use Rattle.std.proofs.Common.{◌≡◌, ℕ, ◌+◌, ◌*◌, ◌≤◌, ◌<◌, List, [], ◌∷◌, ◌++◌, Option, Some, None, false, length, length-append, take, get_or, refl, ap, sym, subst, ◌∙◌, arith}
 use Rattle.std.proofs.Common.{take_all}
 use Rattle.std.proofs.lemmas.List.{take_more}
 use Rattle.uc_tree.specs.declared.limits.TheConstants.{OPS_FOR_SIZE}
@@ -13,11 +13,10 @@ use Rattle.uc_tree.specs.StatementSizes.{start_size, declarator_size, declarator
 use Rattle.uc_tree.specs.Cells.{declared_cells, declarators_cells}
 use Rattle.uc_tree.specs.Numbering.{routines_of}
 use Rattle.uc_tree.specs.Programs.{Program}
-use Rattle.uc_tree.specs.Objects.{unwritten_of, place_among, written_at}
+use Rattle.uc_tree.specs.Objects.{written_at}
 use Rattle.uc_tree.specs.Source.{Expr, Variable, CleanUp, Stmt, Stmts, Declare}
 use Rattle.uc_tree.specs.Resolve.{Scope, Context, Meant, args_meant, context_at, length_of, start_args, declared_known, with_declared, with_all, object_scoped, objects_scoped, build, clean_up}
 use Rattle.uc_code.specs.declared.op.Op.TheVariants as op
-use Rattle.uc_code.specs.declared.rows.HandlerRow.{HandlerRow}
 use Rattle.uc_code.specs.declared.rows.Array.{Array}
 use Rattle.uc_code.specs.declared.rows.Mark.{Mark}
 use Rattle.uc_code.specs.declared.rows.Mark.TheVariants as mark
@@ -26,25 +25,22 @@ use Rattle.uc_code.specs.declared.rows.Opening.TheVariants as opening
 use Rattle.uc_code.specs.declared.rows.Spot.{Spot}
 use Rattle.uc_code.specs.declared.rows.Spot.TheVariants.{Local}
 use Rattle.uc_code.specs.Drafts.{Draft}
-use Rattle.uc_code.specs.Laid.{Laid, laid_in, routine_in}
+use Rattle.uc_code.specs.Laid.{laid_in, routine_in}
 use Rattle.uc_code.specs.ObjectCalls.{BeginsAt, InFrame, Cleans}
 use Rattle.uc_code.specs.Open.{StandsBehind, opened}
 use Rattle.uc_code.specs.Puts.{Puts}
-use Rattle.uc_code.specs.Ranges.{One, Both, Kept}
+use Rattle.uc_code.specs.Ranges.{One, Kept}
 use Rattle.uc_code.specs.Lowered.{StmtAt}
-use Rattle.uc_code.proofs.Putting.{marks_of}
 use Rattle.uc_code.proofs.Stable.{kept_then, kept_piece, one_stable}
 use Rattle.uc_lower_expr.specs.Added.{Adds, OpCode}
 use Rattle.uc_lower_expr.specs.Contexts.{context_in}
 use Rattle.uc_lower_expr.specs.Members.{routine_by, routine_for}
-use Rattle.uc_lower_expr.specs.declared.numbering.ClassRoutine.{ClassRoutine}
 use Rattle.uc_lower_stmt.specs.Blocks.{AllStandBehind, started_args}
-use Rattle.uc_lower_stmt.specs.Marked.{objects_in, taken}
-use Rattle.uc_lower_stmt.specs.Objects.{array_by, build_room, call_by}
-use Rattle.uc_lower_stmt.specs.Pending.{Step, Does, Opens, Pending, Begins, Done, Opened, Lays}
+use Rattle.uc_lower_stmt.specs.Objects.{build_room, call_by}
+use Rattle.uc_lower_stmt.specs.Pending.{Does, Opens, Begins, Done, Opened, Lays}
 use Rattle.uc_lower_stmt.specs.Scoped.{scope_of}
 use Rattle.uc_lower_stmt.proofs.Kept.{stmt_stable}
-use Rattle.uc_lower_stmt.proofs.Laying.{lays_as, lays_join, lays_nothing, lays_routine}
+use Rattle.uc_lower_stmt.proofs.Laying.{lays_as, lays_join, lays_nothing}
 
 -- routines that nobody wrote stand behind all others
 
@@ -200,7 +196,7 @@ objects_step p i b xs k x line block old mid new l e g h =
     let s : Scope = scope_of old in
     let split : ys ++ x ∷ [] ≡ take (k + 1) xs = ap (λ (y : Declarator). ys ++ y ∷ []) e ∙ sym (take_more xs k x l) in
     let h1 : Lays (OPS_FOR_SIZE * declarator_size x) 0 (declared_cells p b x) 1 0 block (object_scoped p i line b x (with_all p s b ys)) (with_declared p (with_all p s b ys) b x) mid new =
-        subst (λ (t : Scope). Lays (OPS_FOR_SIZE * declarator_size x) 0 (declared_cells p b x) 1 0 block (object_scoped p i line b x t) (with_declared p t b x) mid new) g.scope h in
+    subst (λ (t : Scope). Lays (OPS_FOR_SIZE * declarator_size x) 0 (declared_cells p b x) 1 0 block (object_scoped p i line b x t) (with_declared p t b x) mid new) g.scope h in
     let long = length-append ys (x ∷ []) in
     subst (λ (zs : List Declarator). Lays (OPS_FOR_SIZE * declarators_size zs) 0 (declarators_cells (declared_cells p b) zs) (length zs) 0 block (objects_scoped p i line b zs s) (with_all p s b zs) old new) split (
     lays_as (lays_join g h1) (with_push p b ys x s) (λ ss. objects_push p i line b ys x s ss) (omega (arith, sizes_push ys x)) (omega arith) (omega (arith, cells_push (declared_cells p b) ys x)) (omega (arith, long)) (omega arith))

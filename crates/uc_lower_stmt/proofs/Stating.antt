@@ -10,16 +10,14 @@ use Rattle.uc_tree.specs.Expressions.{exprs_of}
 use Rattle.uc_tree.specs.ExpressionSizes.{expr_size, exprs_size}
 use Rattle.uc_tree.specs.Statements.{Declarator, OutItem, ForStart, NoFor, ForDeclare, ForEvaluate, Stmt, Block, Empty, Evaluate, Declare, If, While, Do, For, Break, Continue, Return, Print, PrintTogether, Read, Stmts, MaybeStmt, NoStmt, OneStmt, stmts_of}
 use Rattle.uc_tree.specs.StatementForms.{stmt_at}
-use Rattle.uc_tree.specs.StatementSizes.{out_items_size, declarators_size, maybe_expr_size, stmt_size, stmts_size}
-use Rattle.uc_tree.specs.Cells.{declared_cells, declarators_cells, stmt_cells, stmts_cells}
-use Rattle.uc_tree.specs.Scopes.{stmt_scopes, stmts_scopes}
+use Rattle.uc_tree.specs.StatementSizes.{out_items_size, maybe_expr_size, stmt_size, stmts_size}
+use Rattle.uc_tree.specs.Cells.{declared_cells, declarators_cells, stmt_cells}
 use Rattle.uc_tree.specs.Gathered.{gathered}
 use Rattle.uc_tree.specs.Numbering.{own_texts, own_sites}
 use Rattle.uc_tree.specs.Programs.{Program}
-use Rattle.uc_tree.specs.Source as source
 use Rattle.uc_tree.specs.Source.{Shape, Expr}
 use Rattle.uc_tree.specs.Objects.{shape_of}
-use Rattle.uc_tree.specs.Resolve.{Scope, meant, value_of, converted, result_of, targets_meant, all_declared, with_all, scope_past, scope_after}
+use Rattle.uc_tree.specs.Resolve.{Scope, meant, value_of, converted, result_of, targets_meant, scope_past, scope_after}
 use Rattle.uc_built.specs.BuiltForms.{is_built_stmt, are_built}
 use Rattle.uc_code.specs.declared.op.Op.TheVariants as op
 use Rattle.uc_code.specs.declared.rows.Mark.{Mark}
@@ -27,9 +25,8 @@ use Rattle.uc_code.specs.declared.rows.Mark.TheVariants as mark
 use Rattle.uc_code.specs.declared.rows.Way.TheVariants as way
 use Rattle.uc_code.specs.declared.draft_parts.Outside.{Outside}
 use Rattle.uc_code.specs.Drafts.{Draft}
-use Rattle.uc_code.specs.Laid.{Laid}
 use Rattle.uc_code.specs.Leaving.{way_of}
-use Rattle.uc_code.specs.Lowered.{ExitAt, StmtAt}
+use Rattle.uc_code.specs.Lowered.{ExitAt}
 use Rattle.uc_code.specs.Open.{exit_room}
 use Rattle.uc_code.specs.Puts.{Puts}
 use Rattle.uc_code.proofs.Putting.{puts_both}
@@ -37,7 +34,7 @@ use Rattle.uc_lower_expr.specs.declared.meaning.Scalar.{Scalar}
 use Rattle.uc_lower_expr.specs.Contexts.{context_in}
 use Rattle.uc_lower_expr.specs.Meanings.{shape_as}
 use Rattle.uc_lower_expr.specs.Added.{Adds, ExprCode, ConvertCode, OpCode}
-use Rattle.uc_lower_expr.proofs.Adding.{adds_more, adds_as, adds_both}
+use Rattle.uc_lower_expr.proofs.Adding.{adds_as, adds_both}
 use Rattle.uc_lower_expr.proofs.Arms.{converted_at}
 use Rattle.uc_lower_expr.proofs.Settled.{expr_stable}
 use Rattle.uc_lower_stmt.specs.declared.turning.Turning.TheVariants as turning

@@ -1,4 +1,4 @@
-use Rattle.std.proofs.Common.{ap, sym, ◌∙◌, arith}
+use Rattle.std.proofs.Common.{ap, ◌∙◌, arith}
 use Rattle.uc_tree.specs.declared.kinds.Role.TheVariants as role
 use Rattle.uc_tree.specs.Capped.{capped}
 use Rattle.uc_tree.specs.Cells.{declared_cells}
@@ -7,7 +7,6 @@ use Rattle.uc_tree.specs.Resolve.{length_of}
 use Rattle.uc_tree.specs.Source.{Variable}
 use Rattle.uc_tree.specs.Statements.{Declarator}
 use Rattle.uc_tree.specs.StatementSizes.{start_size}
-use Rattle.uc_code.specs.declared.rows.Spot.TheVariants.{Local}
 use Rattle.uc_code.specs.Drafts.{Draft}
 use Rattle.uc_code.specs.ObjectCalls.{InFrame}
 use Rattle.uc_code.proofs.Putting.{marks_of}

@@ -1,4 +1,4 @@
-use Rattle.std.proofs.Common.{◌*◌, List, ap, subst}
+use Rattle.std.proofs.Common.{◌*◌, List, subst}
 use Rattle.uc_tree.specs.declared.kinds.Param.{Param}
 use Rattle.uc_tree.specs.declared.kinds.Role.TheVariants as role
 use Rattle.uc_tree.specs.declared.limits.TheConstants.{OPS_FOR_SIZE}

@@ -3,7 +3,7 @@ use Rattle.uc_tree.specs.Expressions as tree
 use Rattle.std.proofs.lemmas.Bool.{and_parts}
 use Rattle.uc_tree.specs.Cells.{declared_cells, maybe_cells, stmt_cells}
 use Rattle.uc_tree.specs.Scopes.{alone_scopes, maybe_scopes, stmt_scopes}
-use Rattle.uc_tree.specs.Statements.{If, OneStmt}
+use Rattle.uc_tree.specs.Statements.{Break, Continue, If, OneStmt}
 use Rattle.uc_tree.specs.StatementSizes.{maybe_stmt_size, stmt_size}
 use Rattle.uc_tree.specs.StatementViews.{maybe_at}
 use Rattle.uc_built.specs.BuiltForms.{is_built_maybe, is_built_stmt}
@@ -11,7 +11,7 @@ use Rattle.uc_lower_stmt.specs.Control.{is_declaration}
 use Rattle.uc_lower_stmt.proofs.Parting.{arm_no_other}
 use Rattle.uc_code.specs.declared.rows.Mark.{Mark}
 use Rattle.uc_code.specs.Drafts.{Draft}
-use Rattle.uc_lower_stmt.proofs.Stating.{stmt_is, arm_empty, arm_unasked, arm_evaluate, arm_declare, arm_print, arm_print_together, arm_read, arm_block, arm_if, arm_while, arm_do, arm_for_stmt, arm_break, arm_continue, arm_return, built_at, sizes_at_item}
+use Rattle.uc_lower_stmt.proofs.Stating.{stmt_is, arm_empty, arm_unasked, arm_evaluate, arm_declare, arm_print, arm_print_together, arm_read, arm_block, arm_if, arm_while, arm_do, arm_for_stmt, arm_break, arm_continue, arm_return, built_at, exit_few, sizes_at_item}
 use Rattle.uc_lower_stmt.proofs.Scoping.{arm_alone_scoped}
 use Rattle.uc_tree.specs.declared.limits.TheConstants.{FRAME_CELLS, PROGRAM_OPS, PROGRAM_SIZE}
 use Rattle.uc_tree.specs.Exits.{for_declares}
@@ -20,10 +20,12 @@ use Rattle.uc_tree.specs.StatementForms.{stmt_at}
 use Rattle.uc_code.specs.Laid.{routine_in}
 use Rattle.uc_lower_stmt.specs.Control.{DeclaresObjects, maybe_at_size}
 use Rattle.uc_lower_stmt.specs.Marked.{objects_in, taken}
+use Rattle.uc_lower_expr.proofs.Knowing.{plain_within}
+use Rattle.uc_lower_stmt.proofs.Openings.{all_behind}
 use Rattle.uc_lower_stmt.proofs.Choosing.{arm_choice}
 use Rattle.uc_lower_stmt.proofs.Fors.{arm_for, loop_room}
 use Rattle.uc_lower_stmt.proofs.Laying.{lays_routine}
-use Rattle.uc_lower_stmt.proofs.Listing.{arm_next, arm_next_objects, list_ended, list_start, list_step, marks_count, next_cells, next_room, next_scopes, next_texts}
+use Rattle.uc_lower_stmt.proofs.Listing.{arm_next, arm_next_objects, list_ended, list_start, list_step, marks_count, next_cells, next_fits, next_room, next_scopes, next_texts}
 use Rattle.uc_lower_stmt.proofs.Turned.{arm_turns}
 use Rattle.uc_lower_stmt.proofs.stmt.+stmt.Goals as goal
 
@@ -60,6 +62,40 @@ lower_next-returns-in_ok-lower_objects-in-Some t c =
 pub lower_next-returns-in_ok-lower_stmt-in-None : goal.lower_next-returns-in_ok-lower_stmt-in-None
 lower_next-returns-in_ok-lower_stmt-in-None t c =
     arm_next c.args.names.now c.args.line c.args.s.now _ _ (subst (λ u. DeclaresObjects c.args.names.now u None) c.s.view_is (subst (λ o. DeclaresObjects c.args.names.now (stmt_at c.s.inside.pos c.s.inside.form) o) c.in-None.is (c.declared_in.ensures c.s.inside.pos))) c.in_ok-lower_stmt-in-None.ensures
+
+pub lower_next-lower_objects-requires-clause-class : goal.lower_next-lower_objects-requires-clause-class
+lower_next-lower_objects-requires-clause-class t c =
+    let d = subst (λ o. DeclaresObjects c.args.names.now (stmt_at c.s.inside.pos c.s.inside.form) o) c.in-Some.is (c.declared_in.ensures c.s.inside.pos) in
+    plain_within c.args.names.now c.in-Some.declared.base.now c.in-Some.declared.class (next_fits c.args.names.now c.s.inside.pos c.s.inside.form c.args.s.now c.in-Some.declared c.s.view_is d).class
+
+pub lower_next-lower_objects-requires-clause-behind : goal.lower_next-lower_objects-requires-clause-behind
+lower_next-lower_objects-requires-clause-behind t c = all_behind c.args.names.now c.in-Some.declared.class c.args.out.now.marks c.requires.inside
+
+pub lower_next-lower_objects-requires-clause-room : goal.lower_next-lower_objects-requires-clause-room
+lower_next-lower_objects-requires-clause-room t c =
+    let d = subst (λ o. DeclaresObjects c.args.names.now (stmt_at c.s.inside.pos c.s.inside.form) o) c.in-Some.is (c.declared_in.ensures c.s.inside.pos) in
+    let size = (next_fits c.args.names.now c.s.inside.pos c.s.inside.form c.args.s.now c.in-Some.declared c.s.view_is d).size in
+    omega (arith, size, c.requires.room)
+
+pub lower_next-lower_objects-requires-clause-cells : goal.lower_next-lower_objects-requires-clause-cells
+lower_next-lower_objects-requires-clause-cells t c =
+    let d = subst (λ o. DeclaresObjects c.args.names.now (stmt_at c.s.inside.pos c.s.inside.form) o) c.in-Some.is (c.declared_in.ensures c.s.inside.pos) in
+    let cells = (next_fits c.args.names.now c.s.inside.pos c.s.inside.form c.args.s.now c.in-Some.declared c.s.view_is d).cells in
+    omega (arith, cells, c.requires.cells)
+
+pub lower_stmt-put_exit-requires : goal.lower_stmt-put_exit-requires
+lower_stmt-put_exit-requires t c =
+    let is : Break c.s.inside.pos ≡ c.args.s.now = stmt_is _ _ _ _ c.in-Break.is c.s.view_is in
+    let size = ap (λ s. size_at s (objects_in c.args.out.now.marks)) is in
+    let few = exit_few c.args.out.now.marks in
+    omega (arith, size, few, c.requires.room)
+
+pub lower_stmt-put_exit-requires-in-Continue : goal.lower_stmt-put_exit-requires-in-Continue
+lower_stmt-put_exit-requires-in-Continue t c =
+    let is : Continue c.s.inside.pos ≡ c.args.s.now = stmt_is _ _ _ _ c.in-Continue.is c.s.view_is in
+    let size = ap (λ s. size_at s (objects_in c.args.out.now.marks)) is in
+    let few = exit_few c.args.out.now.marks in
+    omega (arith, size, few, c.requires.room)
 
 pub lower_stmt-returns-in-Empty : goal.lower_stmt-returns-in-Empty
 lower_stmt-returns-in-Empty t c = arm_empty c.args.names.now c.args.s.now _ _ (stmt_is _ _ _ _ c.in-Empty.is c.s.view_is)
@@ -247,6 +283,20 @@ lower_for-lower_loop-requires t c =
     let less = loop_room c.args.names.now c.args.line c.args.start.now c.args.body.now _ _ h in
     let grow : size_at c.args.body.now (objects_in c.open_scope-outside.new.self.marks + for_declares c.args.start.now) ≡ size_at c.args.body.now (objects_in c.args.out.now.marks + for_declares c.args.start.now) = ap (λ (k : ℕ). size_at c.args.body.now (k + for_declares c.args.start.now)) objects in
     (search rules, (c.requires.built, (omega (arith, inside, same, c.requires.inside), (omega (arith, hr, room, size, less, grow, c.requires.room), (omega (arith, hc, cells), (omega (arith, hs, scopes), omega (arith, ht, texts)))))))
+
+pub lower_for-close_scopes-requires : goal.lower_for-close_scopes-requires
+lower_for-close_scopes-requires t c =
+    let h = c.in_ok-lower_start.ensures in
+    let hr = h.room in
+    let begun : c.open_scope-outside.new.self ≡ _ = c.open_scope-outside.ensures.opened in
+    let room = ap taken begun in
+    let objects = ap (λ (d : Draft). objects_in d.marks) begun in
+    let size = c.turning_of.ensures.size in
+    let less = loop_room c.args.names.now c.args.line c.args.start.now c.args.body.now _ _ h in
+    let grow : size_at c.args.body.now (objects_in c.open_scope-outside.new.self.marks + for_declares c.args.start.now) ≡ size_at c.args.body.now (objects_in c.args.out.now.marks + for_declares c.args.start.now) = ap (λ (k : ℕ). size_at c.args.body.now (k + for_declares c.args.start.now)) objects in
+    let lr = c.in_ok-lower_loop.ensures.room in
+    let same = ap (λ (d : Draft). objects_in d.marks) c.in_ok-lower_loop.ensures.rest in
+    omega (arith, hr, room, size, less, grow, lr, same, c.requires.room)
 
 pub lower_for-returns : goal.lower_for-returns
 lower_for-returns t c =
