@@ -8,17 +8,17 @@ use Rattle.uc_lower_class.proofs.Fielding.{field_begins, field_part, field_plain
 use Rattle.uc_lower_class.proofs.Parting.{constructs_as}
 use Rattle.uc_lower_class.proofs.parts.lower_built.Goals as goal
 
-pub lower_part-requires-in-Some-clause-class : goal.lower_part-requires-in-Some-clause-class
-lower_part-requires-in-Some-clause-class c = c.requires.class c.in-Some.part.class (part_class c.args.field c.in-Some.part (sym c.part_of.ensures ∙ c.in-Some.is))
+pub lower_part-requires-clause-class : goal.lower_part-requires-clause-class
+lower_part-requires-clause-class c = c.requires.class c.in-Some.part.class (part_class c.args.field c.in-Some.part (sym c.part_of.ensures ∙ c.in-Some.is))
 
-pub lower_part-requires-in-Some-clause-room : goal.lower_part-requires-in-Some-clause-room
-lower_part-requires-in-Some-clause-room c =
+pub lower_part-requires-clause-room : goal.lower_part-requires-clause-room
+lower_part-requires-clause-room c =
     let long = ap (λ l. part_room l) (part_long c.args.field c.in-Some.part (sym c.part_of.ensures ∙ c.in-Some.is)) in
     let room = c.requires.room in
     omega (arith, long, room)
 
-pub lower_part-requires-in-Some-clause-behind : goal.lower_part-requires-in-Some-clause-behind
-lower_part-requires-in-Some-clause-behind c = behind_in c.args.names.now c.args.out.now.marks (part_in c.args.field) c.in-Some.part (sym c.part_of.ensures ∙ c.in-Some.is) c.requires.behind
+pub lower_part-requires-clause-behind : goal.lower_part-requires-clause-behind
+lower_part-requires-clause-behind c = behind_in c.args.names.now c.args.out.now.marks (part_in c.args.field) c.in-Some.part (sym c.part_of.ensures ∙ c.in-Some.is) c.requires.behind
 
 pub returns-in_ok-lower_part-in-Some : goal.returns-in_ok-lower_part-in-Some
 returns-in_ok-lower_part-in-Some c = λ cl i number f at.
@@ -27,8 +27,8 @@ returns-in_ok-lower_part-in-Some c = λ cl i number f at.
     let long = ap (λ l. part_room l) (part_long c.args.field c.in-Some.part is) in
     constructs_as (c.in_ok-lower_part-in-Some.ensures _ (field_begins p cl i number f c.args.field at c.in-Some.part is)) (omega (arith, long)) (λ ss. field_part p cl i number f c.args.field at c.in-Some.part is (args_meant (context_in p c.args.out.now) (exprs_of c.args.args.now)) ss)
 
-pub lower_started-requires-in-None : goal.lower_started-requires-in-None
-lower_started-requires-in-None c = let few = none_room c.args.field.told.elements in let room = c.requires.room in omega (arith, few, room)
+pub lower_started-requires : goal.lower_started-requires
+lower_started-requires c = let few = none_room c.args.field.told.elements in let room = c.requires.room in omega (arith, few, room)
 
 pub returns-in_ok-lower_started-in-None : goal.returns-in_ok-lower_started-in-None
 returns-in_ok-lower_started-in-None c = λ cl i number f at.
