@@ -135,8 +135,8 @@ module _ (p : Program) (none : breaks_of p ≡ []) where
 
   builds_few : (i : ℕ) (c : Class) → class_at p i ≡ Some c → own_room p (record { class = i; role = role.Constructor }) ≤ cost role.Constructor (Some c) + 1
   builds_few i c e =
-      let a : unwritten_room role.Constructor (class_at p i) ≡ unwritten_room role.Constructor (Some c) = ap (unwritten_room role.Constructor) e in
-      let b = no_inits (fields_of c.members) in
+      let a : own_room p (record { class = i; role = role.Constructor }) ≡ all_room [] (Some c) + 1 = ap (λ (o : Option Class). all_room [] o + 1) e in
+      let b : all_room [] (Some c) ≡ cost role.Constructor (Some c) = no_inits (fields_of c.members) in
       omega (arith, a, b)
 
   destroys_few : (i : ℕ) (c : Class) → class_at p i ≡ Some c → own_room p (record { class = i; role = role.Destructor }) ≤ cost role.Destructor (Some c) + 1
