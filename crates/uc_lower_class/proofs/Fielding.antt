@@ -1,11 +1,15 @@
 -- A field of a class: what is told of it, how it is built, and how its scope is opened.
 use Rattle.std.proofs.Common.{◌≡◌, ℕ, ◌+◌, ◌*◌, ◌≤◌, ◌<◌, pos, List, [], ◌∷◌, ◌++◌, Bool, true, false, Option, Some, None, if◌then◌else◌, length, refl, ap, sym, subst, ◌∙◌, arith}
-use Rattle.std.specs.Prelude.{option_map}
+use Rattle.std.specs.Prelude.{option_map, slice_get}
+use Rattle.uc_tree.specs.Expressions as tree
+use Rattle.uc_tree.specs.Expressions.{exprs_of}
+use Rattle.uc_tree.specs.ExpressionSizes.{expr_size, exprs_size}
+use Rattle.uc_lower_expr.specs.Contexts.{context_in}
 use Rattle.uc_tree.specs.declared.limits.TheConstants.{OPS_FOR_SIZE}
 use Rattle.uc_tree.specs.Programs.{Class, Program}
 use Rattle.uc_tree.specs.Objects.{ClassField, class_shape, plain_class, shape_of}
 use Rattle.uc_tree.specs.Source.{field_cells, CleanUp, Expr, Literal, OfObject, OwnField, Shape, Stmt, Stmts, Assign, Evaluate, Then, Built, Scoped}
-use Rattle.uc_tree.specs.Resolve.{Meant, AtPlace, build, clean_up, converted, value_of, field_built, field_class, field_left, field_started, field_type, length_in_class}
+use Rattle.uc_tree.specs.Resolve.{Meant, AtPlace, args_meant, meant, build, clean_up, converted, value_of, field_built, field_class, field_left, field_started, field_type, length_in_class}
 use Rattle.uc_code.specs.declared.op.Op.TheVariants as op
 use Rattle.uc_code.specs.declared.rows.Mark.{Mark}
 use Rattle.uc_code.specs.declared.rows.Array.{Array}
@@ -158,3 +162,26 @@ part_fits p j r s l = by_written p j r.number r.written s l
     by_written p j k false s None = omega arith
     by_written p j k true s (Some n) = omega arith
     by_written p j k false s (Some n) = omega arith
+
+-- arguments, of which the first counts
+
+pub started_some : (p : Program) (v : Field) (args : List tree.Expr) (e : tree.Expr) (old new : Draft) → Some e ≡ slice_get args 0 → Adds (OPS_FOR_SIZE * expr_size e + 4) (StartedCode old.marks v.cell (held_by v.by_ref (shape_as v.told.scalar) (meant (context_in p old) e))) old new
+    → (c : Class) (i number : ℕ) (f : ClassField) (parts : List ObjectCall) → IsFieldAt p c i number f v → Constructs (OPS_FOR_SIZE * exprs_size (exprs_of args) + 4) (started_then p i number f (args_meant (context_in p old) (exprs_of args))) parts old parts new
+started_some p v [] e old new is h c i number f parts at = cc
+started_some p v (x ∷ xs) e old new is h c i number f parts at =
+    let same : e ≡ x = cc in
+    let one : Adds (OPS_FOR_SIZE * expr_size x + 4) (StartedCode old.marks v.cell (held_by v.by_ref (shape_as v.told.scalar) (meant (context_in p old) x))) old new =
+    subst (λ (y : tree.Expr). Adds (OPS_FOR_SIZE * expr_size y + 4) (StartedCode old.marks v.cell (held_by v.by_ref (shape_as v.told.scalar) (meant (context_in p old) y))) old new) same h in
+    constructs_as (started_on p c i number f v at (meant (context_in p old) x) (args_meant (context_in p old) (exprs_of xs)) parts one) (omega arith) (λ ss. refl)
+
+pub started_nothing : (p : Program) (v : Field) (args : List tree.Expr) (old : Draft) → None ≡ slice_get args 0
+    → (c : Class) (i number : ℕ) (f : ClassField) (parts : List ObjectCall) → IsFieldAt p c i number f v → Constructs (OPS_FOR_SIZE * exprs_size (exprs_of args) + 4) (started_then p i number f (args_meant (context_in p old) (exprs_of args))) parts old parts old
+started_nothing p v [] old is c i number f parts at = started_none p i number (OPS_FOR_SIZE * 0 + 4) f parts old
+started_nothing p v (x ∷ xs) old is c i number f parts at = cc
+
+-- in a draft with the same names and marks
+pub started_in : (n cell : ℕ) (p : Program) (r : Bool) (s : Shape) (value : tree.Expr) (d0 d1 d2 d3 d4 : Draft) → Adds 1 (OpCode 0 (op.This cell)) d0 d1 → Adds n (ExprCode 0 d1.marks (held_by r s (meant (context_in p d1) value))) d1 d2 → Adds 1 (OpCode 0 op.Keep) d2 d3 → Adds 1 (OpCode 0 op.Discard) d3 d4
+    → Adds (n + 3) (StartedCode d0.marks cell (held_by r s (meant (context_in p d0) value))) d0 d4
+started_in n cell p r s value d0 d1 d2 d3 d4 h1 h2 h3 h4 =
+    let same : held_by r s (meant (context_in p d1) value) ≡ held_by r s (meant (context_in p d0) value) = ap (λ (d : Draft). held_by r s (meant (context_in p d) value)) h1.rest in
+    started_code n cell (held_by r s (meant (context_in p d0) value)) d0 d1 d2 d3 d4 h1 (subst (λ (e : Expr). Adds n (ExprCode 0 d1.marks e) d1 d2) same h2) h3 h4

@@ -1,3 +1,4 @@
+pub mod Assembling
 pub mod Builders
 pub mod Fielding
 pub mod Further
@@ -5,5 +6,6 @@ pub mod Leaving
 pub mod Looping
 pub mod Naming
 pub mod Parting
+pub mod Rooms
 pub mod Stepping
 pub mod Wholes

@@ -3,16 +3,23 @@ use Rattle.std.proofs.Common.{◌≡◌, ℕ, zero, suc, ◌+◌, ◌-◌, ◌�
 use Rattle.std.proofs.lemmas.List.{map-append, map_more, take_more}
 use Rattle.std.specs.Prelude.{slice_get}
 use Rattle.uc_tree.specs.Expressions.{Exprs, NoExprs}
+use Rattle.uc_tree.specs.declared.kinds.Base.{Base}
 use Rattle.uc_tree.specs.Names.{same_name}
+use Rattle.uc_tree.specs.Statements.{Declarator}
 use Rattle.uc_tree.specs.Numbering.{place_from}
 use Rattle.uc_tree.specs.Programs.{Init, Member}
-use Rattle.uc_tree.specs.Objects.{ClassField, fields_of, form_fields}
+use Rattle.uc_tree.specs.Objects.{ClassField, declared_fields, fields_of, form_fields}
 use Rattle.uc_lower_class.specs.Inits.{init_exprs, names_of}
 
 -- one name more
 pub push_names : {A B : Type 0} (f : A → List ℕ) (g : B → List ℕ) (xs ys : List A) (x : A) (ds : List B) (d : B) (k : ℕ) (base : List (List ℕ)) → ys ≡ xs ++ x ∷ [] → map f xs ≡ base ++ map g (take k ds) → f x ≡ g d → d ≡ get_or ds k d → k < length ds → map f ys ≡ base ++ map g (take (k + 1) ds)
 push_names f g xs ys x ds d k base y e n is h =
     ap (map f) y ∙ map-append f xs (x ∷ []) ∙ ap (λ l. l ++ f x ∷ []) e ∙ append_assoc base (map g (take k ds)) (f x ∷ []) ∙ ap (λ l. base ++ l) (ap (λ m. map g (take k ds) ++ m ∷ []) (n ∙ ap g is) ∙ sym (map_more g ds k d h))
+
+-- the names that a declaration of fields has
+pub names_declared : (b : Base) (ds : List Declarator) → map (λ (d : Declarator). d.name) ds ≡ names_of (declared_fields b ds)
+names_declared b [] = refl
+names_declared b (d ∷ ds) = ap (λ ns. d.name ∷ ns) (names_declared b ds)
 
 -- the names of one member more
 

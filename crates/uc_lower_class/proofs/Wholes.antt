@@ -3,7 +3,13 @@ use Rattle.std.proofs.Common.{◌≡◌, ℕ, ◌+◌, ◌*◌, ◌≤◌, ◌<�
 use Rattle.std.proofs.lemmas.List.{append-nil}
 use Rattle.std.proofs.lemmas.Option.{slice_get_within}
 use Rattle.uc_tree.specs.Source.{Stmt, Stmts, Nil, Then, Whole}
-use Rattle.uc_tree.specs.Resolve.{Scope}
+use Rattle.uc_tree.specs.declared.limits.TheConstants.{OPS_FOR_SIZE}
+use Rattle.uc_tree.specs.Statements as tree
+use Rattle.uc_tree.specs.StatementSizes.{stmts_size}
+use Rattle.uc_tree.specs.Cells.{declared_cells, stmts_cells}
+use Rattle.uc_tree.specs.Scopes.{stmts_scopes}
+use Rattle.uc_tree.specs.Programs.{Program, Routine}
+use Rattle.uc_tree.specs.Resolve.{Scope, scope_behind, stmts_meant}
 use Rattle.uc_code.specs.declared.op.Op.{Op}
 use Rattle.uc_code.specs.declared.op.Op.TheVariants as op
 use Rattle.uc_code.specs.declared.rows.Instruction.{Instruction}
@@ -19,7 +25,9 @@ use Rattle.uc_code.proofs.Patches.{handler_stays, length-patched, patched_at, sa
 use Rattle.uc_code.proofs.Stable.{kept_then, kept_same}
 use Rattle.uc_lower_expr.specs.Added.{Adds, OpCode}
 use Rattle.uc_lower_stmt.specs.Pending.{Step, block_of}
-use Rattle.uc_lower_stmt.specs.Scoped.{Lowers, scope_of}
+use Rattle.uc_lower_stmt.specs.Marked.{objects_in}
+use Rattle.uc_lower_stmt.specs.Scoped.{Lowers, LowersStmts, scope_of, sizes_at}
+use Rattle.uc_lower_class.specs.Bodies.{LowersWhole, whole_room}
 use Rattle.uc_lower_stmt.proofs.Kept.{stmts_stable}
 use Rattle.uc_lower_class.specs.Pended.{Pended, Begins, Constructs, EndsParts, end_room}
 use Rattle.uc_lower_class.proofs.Parting.{block_join, end_reverse, marks_behind, pended_kept}
@@ -220,3 +228,16 @@ module _ (n : ℕ) (F : Stmts → Stmts) (us : List ObjectCall) (d0 d1 new : Dra
         cells = omega arith;
         code = subst (λ (ss : Stmts). StmtsAt (laid_in new) d0.marks 0 ss (length d0.ops) (length new.ops)) block (e.block d0.marks (length d0.ops) (length d1.ops) (h.steps ++ []) Nil laid-alone (record { end = refl }));
       }
+
+-- a routine's body as such a block
+pub whole_laid : (p : Program) (r : Routine) (line start end : ℕ) (body : tree.Stmts) (d0 d1 d2 d3 d4 d5 new : Draft) → line ≡ r.brace.line → body ≡ r.body → start ≡ length d0.ops → Adds 1 (OpCode line (op.Jump (start + 2))) d0 d1 → Adds 1 (OpCode line (op.Jump 0)) d1 d2
+    → d3 ≡ record d2 { marks = mark.Whole (start + 1) ∷ d2.marks } → LowersStmts p line body d3 d4 → d5 ≡ record d4 { marks = left_marks d4.marks } → end ≡ length d5.ops → new ≡ record d5 { ops = patched d5.ops (start + 1) (op.Jump end) } → LowersWhole p r d0 new
+whole_laid p r line start end body d0 d1 d2 d3 d4 d5 new le be st g1 g2 en h lv ee pt =
+    let scope : scope_of d3 ≡ scope_of d0 = ap scope_of en ∙ ap scope_of g2.rest ∙ ap scope_of g1.rest in
+    let objects : objects_in d3.marks ≡ 0 = ap (λ (d : Draft). objects_in d.marks) en in
+    let one : Lowers (OPS_FOR_SIZE * sizes_at r.body 0) (stmts_size r.body) (stmts_cells r.body (declared_cells p)) (stmts_scopes r.body) (λ code. StmtsAt code d3.marks line (stmts_meant p r.body (scope_of d0))) (scope_behind p r.body (scope_of d0)) d3 d4 =
+    subst (λ (s : Scope). Lowers (OPS_FOR_SIZE * sizes_at r.body 0) (stmts_size r.body) (stmts_cells r.body (declared_cells p)) (stmts_scopes r.body) (λ code. StmtsAt code d3.marks line (stmts_meant p r.body s)) (scope_behind p r.body s) d3 d4) scope (
+    subst (λ (k : ℕ). Lowers (OPS_FOR_SIZE * sizes_at r.body k) (stmts_size r.body) (stmts_cells r.body (declared_cells p)) (stmts_scopes r.body) (λ code. StmtsAt code d3.marks line (stmts_meant p r.body (scope_of d3))) (scope_behind p r.body (scope_of d3)) d3 d4) objects (
+    subst (λ (b : tree.Stmts). LowersStmts p line b d3 d4) be h)) in
+    let all = arm_whole line start end (OPS_FOR_SIZE * sizes_at r.body 0) (stmts_size r.body) (stmts_cells r.body (declared_cells p)) (stmts_scopes r.body) (stmts_meant p r.body (scope_of d0)) (scope_behind p r.body (scope_of d0)) d0 d1 d2 d3 d4 d5 new st g1 g2 en one lv ee pt in
+    subst (λ (l : ℕ). Lowers (whole_room r) (stmts_size r.body) (stmts_cells r.body (declared_cells p)) (stmts_scopes r.body) (λ code. StmtAt code d0.marks (Whole l (stmts_meant p r.body (scope_of d0)))) (scope_behind p r.body (scope_of d0)) d0 new) le all

@@ -297,6 +297,7 @@ pub fn lower_unwritten(
     ensures outside { OnOk result (out.new.marks ≡ []) }
 {
     let entry = out.here();
+    names.fit();
     out.begin_routine(0, 0, 0, 0);
     out.enter_body(number)?;
     lower_unwritten_body(alloc, names, one.role, one.class, out)?;
