@@ -26,8 +26,6 @@ use Rattle.uc_code.specs.Lowered.{RoutineAt, RoutinesAt, Lowered}
 use Rattle.uc_code.specs.Ranges.{Kept}
 use Rattle.uc_numbers.specs.declared.routines.Defined.{Defined as Found}
 use Rattle.uc_numbers.specs.Routines.{defined_at}
-use Rattle.uc_unwritten.specs.declared.unwritten.Unwritten.{Unwritten as Nobody}
-use Rattle.uc_unwritten.specs.Unwritten.{unwritten_as}
 use Rattle.uc_lower.specs.Laying.{Lays, LaysAll, defined_texts, own_room, routine_room, unwritten_rooms, written_room}
 use Rattle.uc_lower.specs.Refusing.{Fits}
 use Rattle.uc_lower.proofs.Built.{built_routine, owned_alone, stmts_sites}
@@ -47,14 +45,6 @@ found_at ds rs i d m h e = ap (λ l. slice_get l i) (sym m) ∙ at_mapped ds i d
 
 pub as_many : (ds : List Found) (rs : List Defined) → map defined_at ds ≡ rs → length rs ≡ length ds
 as_many ds rs m = ap length (sym m) ∙ length-map ds defined_at
-
-unwritten_mapped : (xs : List Nobody) (i : ℕ) (u : Nobody) → i < length xs → u ≡ get_or xs i u → slice_get (map unwritten_as xs) i ≡ Some (unwritten_as u)
-unwritten_mapped [] i u h e = absurd (omega arith)
-unwritten_mapped (x ∷ xs) zero u h e = ap (λ k. Some (unwritten_as k)) (sym e)
-unwritten_mapped (x ∷ xs) (suc i) u h e = unwritten_mapped xs i u (omega arith) e
-
-pub unwritten_found : (xs : List Nobody) (us : List Unwritten) (i : ℕ) (u : Nobody) → map unwritten_as xs ≡ us → i < length xs → u ≡ get_or xs i u → slice_get us i ≡ Some (unwritten_as u)
-unwritten_found xs us i u m h e = ap (λ l. slice_get l i) (sym m) ∙ unwritten_mapped xs i u h e
 
 -- what is asked of the next routine
 

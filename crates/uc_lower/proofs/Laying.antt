@@ -54,7 +54,7 @@ moves old new k n (r ∷ rs) (c ∷ cs) a z l h =
 snoc : (code : Laid) (n : ℕ) (rs : List source.Routine) (cs : List RoutineCode) (r : source.Routine) (c : RoutineCode) (a m z : ℕ) → RoutinesAt code n rs cs a m → RoutineAt code (n + length rs) r c m z → RoutinesAt code n (rs ++ r ∷ []) (cs ++ c ∷ []) a z
 snoc code n [] [] r c a m z h g =
     let y : n + 0 ≡ n = omega arith in
-    record { middle = z; first = subst (λ x. RoutineAt code x r c a z) y (subst (λ x. RoutineAt code (n + 0) r c x z) (sym h.end) g); second = record { end = refl } }
+    record { middle = z; first = subst (λ x. RoutineAt code x r c a z) y (subst (λ x. RoutineAt code (n + 0) r c x z) h.end g); second = record { end = refl } }
 snoc code n [] (d ∷ cs) r c a m z h g = absurd h
 snoc code n (q ∷ rs) [] r c a m z h g = absurd h
 snoc code n (q ∷ rs) (d ∷ cs) r c a m z h g =

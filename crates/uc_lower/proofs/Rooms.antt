@@ -18,7 +18,7 @@ use Rattle.uc_meaning.specs.Breaks.{breaks_among, breaks_of}
 use Rattle.uc_meaning.specs.ProgramVisits.{class_visits, items_visits, members_visits}
 use Rattle.uc_meaning.specs.Scopes.{class_around, plain_env}
 use Rattle.uc_meaning.specs.Visits.{AtClass, AtProgram}
-use Rattle.uc_lower_class.specs.Bodies.{builder_room, left_room, role_room, unwritten_room}
+use Rattle.uc_lower_class.specs.Bodies.{builder_room, left_room, part_end, role_room, unwritten_room}
 use Rattle.uc_lower_class.specs.Fields.{all_room, fields_room, room_by}
 use Rattle.uc_lower_class.specs.Inits.{init_exprs}
 use Rattle.uc_lower.specs.Laying.{own_room, role_room_of, routine_room, unwritten_rooms, written_room}
@@ -129,17 +129,18 @@ module _ (p : Program) (none : breaks_of p ≡ []) where
   same_weight (u ∷ us) = ap (λ n. own_room p u + n) (same_weight us)
 
   -- one of them, written or not
-  one_few : (r : Role) (i : ℕ) (c : Class) → class_at p i ≡ Some c → own_room p (record { class = i; role = r }) ≤ cost r (Some c) + 1 → (o : Option ℕ) → (if is_some o then cost r (Some c) else 0) + weight p (own_room p) (unwritten_by o i r) ≤ cost r (Some c) + 1
-  one_few r i c e l None = omega (arith, l)
-  one_few r i c e l (Some n) = omega arith
+  one_few : (r : Role) (i : ℕ) (c : Class) → own_room p (record { class = i; role = r }) ≤ cost r (Some c) + 20 → (o : Option ℕ) → (if is_some o then cost r (Some c) else 0) + weight p (own_room p) (unwritten_by o i r) ≤ cost r (Some c) + 20
+  one_few r i c l None = omega (arith, l)
+  one_few r i c l (Some n) = omega arith
 
-  builds_few : (i : ℕ) (c : Class) → class_at p i ≡ Some c → own_room p (record { class = i; role = role.Constructor }) ≤ cost role.Constructor (Some c) + 1
+  builds_few : (i : ℕ) (c : Class) → class_at p i ≡ Some c → own_room p (record { class = i; role = role.Constructor }) ≤ cost role.Constructor (Some c) + 20
   builds_few i c e =
-      let a : unwritten_room role.Constructor (class_at p i) ≡ unwritten_room role.Constructor (Some c) = ap (unwritten_room role.Constructor) e in
-      let b = no_inits (fields_of c.members) in
-      omega (arith, a, b)
+      let a : own_room p (record { class = i; role = role.Constructor }) ≡ unwritten_room role.Constructor (Some c) + 1 = ap (λ (o : Option Class). unwritten_room role.Constructor o + 1) e in
+      let b : all_room [] (Some c) ≡ cost role.Constructor (Some c) = no_inits (fields_of c.members) in
+      let d : unwritten_room role.Constructor (Some c) ≡ all_room [] (Some c) + part_end = refl in
+      omega (arith, a, b, d)
 
-  destroys_few : (i : ℕ) (c : Class) → class_at p i ≡ Some c → own_room p (record { class = i; role = role.Destructor }) ≤ cost role.Destructor (Some c) + 1
+  destroys_few : (i : ℕ) (c : Class) → class_at p i ≡ Some c → own_room p (record { class = i; role = role.Destructor }) ≤ cost role.Destructor (Some c) + 20
   destroys_few i c e =
       let a : unwritten_room role.Destructor (class_at p i) ≡ unwritten_room role.Destructor (Some c) = ap (unwritten_room role.Destructor) e in
       omega (arith, a)
@@ -147,8 +148,8 @@ module _ (p : Program) (none : breaks_of p ≡ []) where
   class_few : (i : ℕ) (c : Class) → class_at p i ≡ Some c → paid p cost cost_plain cost_none (routines_of p) c i + weight p (own_room p) (unwritten_at p i) ≤ 64 * (1 + fields_size (fields_of c.members))
   class_few i c e =
       let j = weight_join p (own_room p) (unwritten_by (written_at p i role.Constructor) i role.Constructor) (unwritten_by (written_at p i role.Destructor) i role.Destructor) in
-      let a = one_few role.Constructor i c e (builds_few i c e) (written_at p i role.Constructor) in
-      let b = one_few role.Destructor i c e (destroys_few i c e) (written_at p i role.Destructor) in
+      let a = one_few role.Constructor i c (builds_few i c e) (written_at p i role.Constructor) in
+      let b = one_few role.Destructor i c (destroys_few i c e) (written_at p i role.Destructor) in
       let f = fields_few (fields_of c.members) in
       omega (arith, j, a, b, f)
 

@@ -1,6 +1,6 @@
 // The code of all routines, one after another.
 
-ghost use Rattle.std.specs.Prelude.{◌≡◌, ◌+◌, ◌*◌, ◌^◌, ◌≤◌, ◌<◌, [], true, false, None, length, map, nat_eq, slice_set, IfOk, OnOk};
+ghost use Rattle.std.specs.Prelude.{◌≡◌, ◌+◌, ◌*◌, ◌^◌, ◌≤◌, ◌<◌, [], true, false, None, Some, length, map, nat_eq, slice_get, slice_set, IfOk, OnOk};
 ghost use Rattle.uc_tree.specs.declared.limits.TheConstants.{FRAME_CELLS, OPS_FOR_SIZE, PROGRAM_OPS, PROGRAM_SIZE};
 ghost use Rattle.uc_tree.specs.StatementSizes.{stmts_size};
 ghost use Rattle.uc_tree.specs.Cells.{routine_cells};
@@ -127,6 +127,14 @@ pub(crate) fn lower_routines(
     Ok(())
 }
 
+#[tactic(auto, using(crate::proofs::Numbered::mapped_get, crate::proofs::Numbered::mapped_is))]
+fn nth(unwritten: &[Unwritten], place: usize) -> Unwritten
+    requires { place < length unwritten.now }
+    ensures { slice_get (map unwritten_as unwritten.now) place ≡ Some (unwritten_as result) }
+{
+    unwritten[place]
+}
+
 // Adds the code of the routines that nobody wrote to a draft in which the written ones stand, so many.
 pub(crate) fn lower_all_unwritten(
     alloc: Global,
@@ -145,8 +153,9 @@ pub(crate) fn lower_all_unwritten(
     ensures { OnOk result (LaysAll names.now (routines_of names.now) (unwritten_of names.now) (count + length unwritten.now) (length unwritten.now) out.new) }
 {
     let mut number = count;
-    for one in unwritten {
-        lower_unwritten(alloc, names, *one, number, out)?;
+    for place in 0..unwritten.len() {
+        let one = nth(unwritten, place);
+        lower_unwritten(alloc, names, one, number, out)?;
         number += 1;
     }
     Ok(())

@@ -20,8 +20,8 @@ returns c =
       owners = c.in_ok-owners.ensures ∙ ap (map (λ (x : Defined). x.number)) d;
       classes = k;
       unwritten = record {
-        builds = λ i n g. sym (c.in_ok-constructors.ensures.each i n g ∙ number_is p c.args.defined.now us c.args.count d u c.requires i role.Constructor);
-        destroys = λ i n g. sym (c.in_ok-destructors.ensures.each i n g ∙ number_is p c.args.defined.now us c.args.count d u c.requires i role.Destructor);
+        builds = λ i n g. sym (c.in_ok-constructors.ensures.each i n g ∙ number_is p c.args.defined.now us c.args.count d u c.requires.count i role.Constructor);
+        destroys = λ i n g. sym (c.in_ok-destructors.ensures.each i n g ∙ number_is p c.args.defined.now us c.args.count d u c.requires.count i role.Destructor);
         builders = omega (arith, long, ok, first);
         destroyers = omega (arith, long, ok, second);
       };

@@ -4,5 +4,5 @@ use Rattle.uc_tree.specs.Objects.{unwritten_of}
 use Rattle.uc_lower.specs.Laying.{LaysAll}
 use Rattle.uc_lower.proofs.routines.lower_all_unwritten.Given as goal
 
-abbrev pub invariant-loop-one : goal.invariant-loop-one
-invariant-loop-one l = (l.number ≡ l.count + l.one-index) × LaysAll l.names (routines_of l.names) (unwritten_of l.names) (l.count + length l.unwritten) l.one-index l.out
+abbrev pub invariant-loop-place : goal.invariant-loop-place
+invariant-loop-place l = (l.number ≡ l.count + l.place) × LaysAll l.names (routines_of l.names) (unwritten_of l.names) (l.count + length l.unwritten) l.place l.out
