@@ -8,7 +8,6 @@ use Rattle.uc_meaning.specs.Quiet as quiet
 use Rattle.uc_meaning.specs.Quiet.{State, Rest, Within, own_line, behind_body, routine_todo, first_state}
 use Rattle.uc_meaning.specs.Runs as runs
 use Rattle.uc_meaning.specs.Runs.{with_operand}
-use Rattle.uc_code.specs.declared.op.Op.TheVariants as op
 use Rattle.uc_code.specs.declared.rows.Mark.TheVariants as mark
 use Rattle.uc_code.specs.declared.rows.RoutineCode.{RoutineCode}
 use Rattle.uc_code.specs.Codes.{Code}

@@ -19,7 +19,12 @@ pub(crate) fn own(code: &Code, line: u32, work: &mut Work) -> Result<(), AllocEr
     Ok(())
 }
 
-pub(crate) fn own_place(code: &Code, line: u32, work: &mut Work, cell: u32) -> Result<(), AllocError>
+pub(crate) fn own_place(
+    code: &Code,
+    line: u32,
+    work: &mut Work,
+    cell: u32,
+) -> Result<(), AllocError>
     ensures ok { OnOk result (Does code.now line (Op.This cell) work.old Stepped.Quiet work.new) }
     ensures err { OnErr result (work.new ≡ work.old) }
 {
@@ -28,7 +33,12 @@ pub(crate) fn own_place(code: &Code, line: u32, work: &mut Work, cell: u32) -> R
     Ok(())
 }
 
-pub(crate) fn held_by_own(code: &Code, line: u32, work: &mut Work, cell: u32) -> Result<(), AllocError>
+pub(crate) fn held_by_own(
+    code: &Code,
+    line: u32,
+    work: &mut Work,
+    cell: u32,
+) -> Result<(), AllocError>
     ensures ok { OnOk result (Does code.now line (Op.ViaThis cell) work.old Stepped.Quiet work.new) }
     ensures err { OnErr result (work.new ≡ work.old) }
 {
