@@ -302,12 +302,10 @@ impl<'a> Sizes<'a> {
     }
 
     /// The cells of a variable.
-    #[tactic(auto, using(crate::proofs::CellTables::capped_mul))]
     pub fn cells_of_variable(&self, base: &Base, declarator: &Declarator) -> u64
         ensures { result ≡ capped (declared_cells self.now base.now declarator.now) }
     {
-        let held = self.held(base, declarator);
-        u64::from(held.count).saturating_mul(self.cells_of_element(held.object))
+        self.cells_of_held(&self.held(base, declarator))
     }
 
     /// The cells of a parameter.

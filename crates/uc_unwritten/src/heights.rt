@@ -1,24 +1,26 @@
 // How many classes deep each class is.
 
-ghost use Rattle.std.specs.Prelude.{◌≡◌, ◌<◌, ◌≤◌, ℕ, IfOk, IsTrue, length};
+ghost use Rattle.std.specs.Prelude.{◌≡◌, ◌<◌, ◌≤◌, ◌+◌, ℕ, IfOk, IsTrue, length};
 ghost use Rattle.uc_tree.specs.Cells.{classes_of, rows_of};
-ghost use Rattle.uc_tree.specs.Objects.{tallest};
-ghost use Rattle.uc_unwritten.specs.Heights.{AreDeep, AreHeights, AreSettled, height_at, height_in};
+ghost use Rattle.uc_tree.specs.Objects.{object_height, tallest};
+ghost use Rattle.uc_unwritten.specs.Heights.{AreBelow, AreDeep, AreHeights, AreNext, height_at};
 
 use std::alloc::{AllocError, Global};
 use uc_sizes::sizes::Sizes;
 use uc_tree::rows::Held;
 
-// The height of the class of a field; 0 where it holds none.
-fn height_of(heights: &[usize], held: &Held) -> usize
-    ensures { result ≡ height_in (height_at heights.now) held.now.object }
+// One more than the height of the class of a field; 0 where it holds none.
+fn object_height(heights: &[usize], held: &Held, count: usize) -> usize
+    requires { AreBelow count heights.now }
+    ensures height { result ≡ object_height (height_at heights.now) held.now.object }
+    ensures few { result ≤ count }
 {
     match held.object {
         Some(object) => {
             if object.class < heights.len() {
-                heights[object.class]
+                heights[object.class] + 1
             } else {
-                0
+                1
             }
         }
         None => 0,
@@ -27,15 +29,13 @@ fn height_of(heights: &[usize], held: &Held) -> usize
 
 // The height of a class with these fields, by those of the classes of its fields, which are below `count`.
 fn tallest(heights: &[usize], held: &[Held], count: usize) -> usize
-    requires { (i : ℕ) → height_at heights.now i < count }
+    requires { AreBelow count heights.now }
     ensures height { result ≡ tallest (height_at heights.now) held.now }
     ensures few { result ≤ count }
 {
     let mut height: usize = 0;
     for field in held {
-        if field.object.is_some() {
-            height = height.max(height_of(heights, field) + 1);
-        }
+        height = height.max(object_height(heights, field, count));
     }
     height
 }
@@ -103,6 +103,19 @@ fn count_down(
     Ok(())
 }
 
+// The height of one class anew, where it is below the count of classes.
+fn reckon(sizes: &Sizes, heights: &mut [usize], place: usize, count: usize)
+    requires inside { place < length heights.old }
+    requires few { AreBelow count heights.old }
+    ensures long { length heights.new ≡ length heights.old }
+    ensures few { AreBelow count heights.new }
+{
+    let height = tallest(heights, sizes.held_by_class(place), count);
+    if height < count {
+        heights[place] = height;
+    }
+}
+
 // Heights reckoned once in an order; each is below the count of classes.
 fn first_heights(
     alloc: Global,
@@ -111,15 +124,12 @@ fn first_heights(
     count: usize,
 ) -> Result<Vec<usize>, AllocError>
     ensures long { IfOk result (λ v. length v.items ≡ count) }
-    ensures few { IfOk result (λ v. (i : ℕ) → i < count → height_at v.items i < count) }
+    ensures few { IfOk result (λ v. 0 < count → AreBelow count v.items) }
 {
     let mut heights = vec![in alloc; 0; count]?;
     for place in order {
         if *place < count {
-            let height = tallest(&heights, sizes.held_by_class(*place), count);
-            if height < count {
-                heights[*place] = height;
-            }
+            reckon(sizes, &mut heights, *place, count);
         }
     }
     Ok(heights)
@@ -127,8 +137,9 @@ fn first_heights(
 
 // Whether each height is that of a class with its fields.
 fn are_settled(sizes: &Sizes, heights: &[usize], count: usize) -> bool
-    requires { (i : ℕ) → height_at heights.now i < count }
-    ensures { IsTrue result → AreSettled (rows_of sizes.now) heights.now count }
+    requires long { length heights.now ≡ count }
+    requires few { 0 < count → AreBelow count heights.now }
+    ensures { IsTrue result → AreNext (rows_of sizes.now) heights.now heights.now count }
 {
     for place in 0..count {
         if heights[place] != tallest(heights, sizes.held_by_class(place), count) {
@@ -145,7 +156,9 @@ fn next_heights(
     heights: &[usize],
     count: usize,
 ) -> Result<Vec<usize>, AllocError>
-    ensures { IfOk result (λ v. (d : ℕ) → AreDeep d (rows_of sizes.now) heights.now → AreDeep (d + 1) (rows_of sizes.now) v.items) }
+    requires { AreBelow count heights.now }
+    ensures long { IfOk result (λ v. length v.items ≡ count) }
+    ensures next { IfOk result (λ v. AreNext (rows_of sizes.now) heights.now v.items count) }
 {
     let mut next = Vec::new(alloc);
     for place in 0..count {

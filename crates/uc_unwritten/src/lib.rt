@@ -2,4 +2,5 @@
 #![tactic(auto)]
 
 mod heights;
+pub mod numbers;
 pub mod unwritten;

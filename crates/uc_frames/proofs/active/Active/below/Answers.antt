@@ -1,4 +1,4 @@
-use Rattle.std.proofs.Common.{rules, arith, ◌≡◌, ◌<◌, ◌+◌, ◌-◌, length}
+use Rattle.std.proofs.Common.{rules, arith, ◌≡◌, ◌<◌, ◌-◌, length}
 use Rattle.uc_frames.proofs.Newest.{top_below}
 use Rattle.uc_frames.proofs.active.Active.below.Goals as goal
 
