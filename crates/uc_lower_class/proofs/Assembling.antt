@@ -25,13 +25,14 @@ use Rattle.uc_lower_expr.specs.Members.{count_fields, routine_for}
 use Rattle.uc_lower_stmt.specs.Blocks.{AllStandBehind, EndsScopes}
 use Rattle.uc_lower_stmt.specs.Objects.{array_by, build_room, call_by}
 use Rattle.uc_lower_stmt.specs.Scoped.{Lowers, scope_of}
-use Rattle.uc_lower_stmt.proofs.Joined.{lowers_as}
+use Rattle.uc_lower_stmt.proofs.Joined.{lowers_as, lowers_nothing}
 use Rattle.uc_lower_stmt.proofs.Laying.{lays_ended, lays_join, lays_one}
 use Rattle.uc_lower_class.specs.Bodies.{LowersBody, LowersUnwritten, LowersWhole, built_at, built_room, left_at, left_room, role_room, unwritten_room, whole_room}
 use Rattle.uc_lower_class.specs.Fields.{PartBehind, all_built, all_left, all_room, part_room}
 use Rattle.uc_lower_class.specs.declared.parts.Part.{Part}
 use Rattle.uc_lower_class.specs.Pended.{Constructs, EndsParts, NoParts, Opens, PartsIn}
 use Rattle.uc_lower_class.proofs.Fielding.{part_fits}
+use Rattle.uc_lower_class.proofs.Leaving.{opens_nothing}
 use Rattle.uc_lower_class.proofs.Parting.{constructs_as, constructs_does, constructs_part, constructs_then}
 use Rattle.uc_lower_class.proofs.Wholes.{arm_alone, arm_built}
 
@@ -137,3 +138,18 @@ none_room (Some n) = omega arith
 -- what stands further on than a part's routine
 pub behind_in : (p : Program) (ms : List Mark) (o : Option Part) (part : Part) → o ≡ Some part → PartBehind p ms o → AllStandBehind p part.class ms
 behind_in p ms o part e b = subst (λ (x : Option Part). PartBehind p ms x) e b
+
+-- no part stands at first
+pub from_none : {n : ℕ} {F : Stmts → Stmts} {ws us : List ObjectCall} {old new : Draft} → ws ≡ [] → Constructs n F ws old us new → Constructs n F [] old us new
+from_none {n} {F} {ws} {us} {old} {new} e h = subst (λ (vs : List ObjectCall). Constructs n F vs old us new) e h
+
+-- where there is no class, and where there is no role
+
+pub left_none : (p : Program) (i : ℕ) (o : Option Class) (d : Draft) → o ≡ None → Opens (count_fields o) (all_left p i o) d d
+left_none p i o d e = subst (λ (x : Option Class). Opens (count_fields x) (all_left p i x) d d) (sym e) (opens_nothing 0 d)
+
+pub left_at_none : (p : Program) (o : Option ℕ) (d : Draft) → o ≡ None → Opens (count_fields (class_by p o)) (left_at p o) d d
+left_at_none p o d e = subst (λ (x : Option ℕ). Opens (count_fields (class_by p x)) (left_at p x) d d) (sym e) (opens_nothing 0 d)
+
+pub plain_none : (p : Program) (wanted : Role) (i : ℕ) (d : Draft) → wanted ≡ role.Plain → LowersUnwritten p wanted i d d
+plain_none p wanted i d e = subst (λ (x : Role). LowersUnwritten p x i d d) (sym e) (lowers_nothing d)

@@ -9,6 +9,7 @@ use Rattle.uc_tree.specs.Statements.{Declarator}
 use Rattle.uc_tree.specs.Numbering.{place_from}
 use Rattle.uc_tree.specs.Programs.{Init, Member}
 use Rattle.uc_tree.specs.Objects.{ClassField, declared_fields, fields_of, form_fields}
+use Rattle.uc_sizes.proofs.PlacesLemmas.{place_within}
 use Rattle.uc_lower_class.specs.Inits.{init_exprs, names_of}
 
 -- one name more
@@ -71,3 +72,22 @@ init_nowhere (x ∷ xs) i name e = by_name x xs i name (same_name x.name name) (
     by_name : (x : Init) (xs : List Init) (i : ℕ) (name : List ℕ) (b : Bool) → (place_from (i + 1) (map (λ z. z.name) xs) name ≡ None → init_exprs xs name ≡ NoExprs) → (if b then Some i else place_from (i + 1) (map (λ z. z.name) xs) name) ≡ None → (if b then x.args else init_exprs xs name) ≡ NoExprs
     by_name x xs i name true r e = cc
     by_name x xs i name false r e = r e
+
+-- by what is read at the place
+
+got : (xs : List Init) (k : ℕ) (y : Init) → k < length xs → y ≡ get_or xs k y → slice_get xs k ≡ Some y
+got [] k y h e = absurd (omega arith)
+got (x ∷ xs) zero y h e = ap (λ (z : Init). Some z) (sym e)
+got (x ∷ xs) (suc k) y h e = got xs k y (omega arith) e
+
+long_names : (xs : List Init) → length (map (λ (z : Init). z.name) xs) ≡ length xs
+long_names [] = refl
+long_names (x ∷ xs) = ap suc (long_names xs)
+
+pub init_few : (xs : List Init) (p : ℕ) (name : List ℕ) → place_from 0 (map (λ z. z.name) xs) name ≡ Some p → p < length xs
+init_few xs p name e = let w = place_within 0 (map (λ z. z.name) xs) name p e in let l = long_names xs in let few = w.1 in omega (arith, few, l)
+
+pub init_got : (xs : List Init) (p : ℕ) (name : List ℕ) (y : Init) → place_from 0 (map (λ z. z.name) xs) name ≡ Some p → y ≡ get_or xs p y → init_exprs xs name ≡ y.args
+init_got xs p name y e g =
+    let z : p - 0 ≡ p = omega arith in
+    init_placed xs 0 p name y e (ap (slice_get xs) z ∙ got xs p y (init_few xs p name e) g)

@@ -35,9 +35,12 @@ fn build_fields(
     let places = places_of(alloc, inits)?;
     let fields = names_of_fields(alloc, at)?;
     for (place, name) in fields.iter().enumerate() {
-        if let Some(field) = names.field_at(class, place) {
-            let args = args_for(inits, &places, name);
-            lower_built(field, args, names, parts, out)?;
+        match names.field_at(class, place) {
+            Some(field) => {
+                let args = args_for(inits, &places, name);
+                lower_built(field, args, names, parts, out)?;
+            }
+            None => {}
         }
     }
     Ok(())
@@ -78,8 +81,9 @@ fn leave_fields(
     ensures { OnOk result (Opens (count_fields (Some at.now)) (all_left names.now class (Some at.now)) out.old out.new) }
 {
     for place in 0..names.field_count(class) {
-        if let Some(field) = names.field_at(class, place) {
-            lower_left(field, names, out)?;
+        match names.field_at(class, place) {
+            Some(field) => lower_left(field, names, out)?,
+            None => {}
         }
     }
     Ok(())

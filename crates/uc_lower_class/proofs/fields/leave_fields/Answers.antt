@@ -1,6 +1,6 @@
 use Rattle.std.proofs.Common.{◌≡◌, ◌≤◌, length, ap, sym, ◌∙◌, arith}
 use Rattle.uc_lower_class.proofs.Looping.{leaving_begin, leaving_end}
-use Rattle.uc_lower_class.proofs.Stepping.{class_few, leave_next, nth_here, part_stands}
+use Rattle.uc_lower_class.proofs.Stepping.{class_few, leave_next, nth_here, nth_none, part_stands}
 use Rattle.uc_lower_class.proofs.fields.leave_fields.Goals as goal
 
 pub loop-place-init : goal.loop-place-init
@@ -22,4 +22,11 @@ loop-place-preserved-in-Some c =
 
 pub returns : goal.returns
 returns c =
-    leaving_end c.args.names.now c.args.at.now c.args.class c.args.out.now c.loop-place.place c.loop-place.out c.loop-place.invariant (let count = c.field_count.ensures in let past = c.loop-place-test.false in omega (arith, count, past))
+    leaving_end c.args.names.now c.args.at.now c.args.class c.args.out.now c.loop-place.place c.loop-place.out c.loop-place.invariant (let count = c.field_count-place-end.ensures in let past = c.loop-place-test.false in omega (arith, count, past))
+
+pub loop-place-preserved-in-None : goal.loop-place-preserved-in-None
+loop-place-preserved-in-None c =
+    let past = nth_none c.args.names.now c.args.at.now c.args.class c.loop-place.place c.requires.there c.in-None.ensures in
+    let within = c.loop-place-test.true in
+    let count = c.field_count-place-end.ensures in
+    absurd (omega (arith, past, within, count))
