@@ -16,13 +16,13 @@ use Rattle.uc_lower.proofs.Ending.{as_many, whole, whole_few}
 use Rattle.uc_lower.proofs.Ruled.{fit_classes}
 use Rattle.uc_lower.proofs.lower.lower_all.Goals as goal
 
-pub new-names-requires-clause-numbering : goal.new-names-requires-clause-numbering
-new-names-requires-clause-numbering c =
+pub new-requires-clause-numbering : goal.new-requires-clause-numbering
+new-requires-clause-numbering c =
     let e = sym c.requires.sizes in
     c.in_ok-numbering.ensures c.args.sizes.now (c.requires.defined ∙ ap routines_of e) (c.requires.unwritten ∙ ap unwritten_of e) (c.requires.numbers ∙ ap (λ (q : Program). map (number_of_class q) (classes_of q.items)) e)
 
-pub new-names-requires-clause-fit : goal.new-names-requires-clause-fit
-new-names-requires-clause-fit c = subst FitClasses (sym c.requires.sizes) (fit_classes c.args.program.now c.requires.unbroken)
+pub new-requires-clause-fit : goal.new-requires-clause-fit
+new-requires-clause-fit c = subst FitClasses (sym c.requires.sizes) (fit_classes c.args.program.now c.requires.unbroken)
 
 pub lower_routines-requires-clause-built : goal.lower_routines-requires-clause-built
 lower_routines-requires-clause-built c = subst IsBuilt (sym (c.in_ok-names.ensures ∙ c.requires.sizes)) c.requires.built
