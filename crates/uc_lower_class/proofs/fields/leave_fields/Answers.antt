@@ -1,4 +1,5 @@
 use Rattle.std.proofs.Common.{◌≡◌, ◌≤◌, length, ap, sym, ◌∙◌, arith}
+use Rattle.uc_lower_expr.specs.Members.{count_fields}
 use Rattle.uc_lower_class.proofs.Looping.{leaving_begin, leaving_end}
 use Rattle.uc_lower_class.proofs.Stepping.{class_few, leave_next, nth_here, nth_none, part_stands}
 use Rattle.uc_lower_class.proofs.fields.leave_fields.Goals as goal
@@ -22,7 +23,7 @@ loop-place-preserved-in-Some c =
 
 pub returns : goal.returns
 returns c =
-    leaving_end c.args.names.now c.args.at.now c.args.class c.args.out.now c.loop-place.place c.loop-place.out c.loop-place.invariant (let count = c.field_count-place-end.ensures in let past = c.loop-place-test.false in omega (arith, count, past))
+    leaving_end c.args.names.now c.args.at.now c.args.class c.args.out.now c.loop-place.place c.loop-place.out c.loop-place.invariant (let count = c.field_count-place-end.ensures ∙ ap count_fields c.requires.there in let past = c.loop-place-test.false in omega (arith, count, past))
 
 pub loop-place-preserved-in-None : goal.loop-place-preserved-in-None
 loop-place-preserved-in-None c =
