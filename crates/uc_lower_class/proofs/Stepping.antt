@@ -1,5 +1,5 @@
 -- One field of a class, as the loops over them meet it.
-use Rattle.std.proofs.Common.{◌≡◌, ℕ, suc, ◌+◌, ◌*◌, ◌≤◌, ◌<◌, List, [], ◌∷◌, Bool, true, false, Option, Some, None, if◌then◌else◌, drop, length, refl, ap, sym, subst, ◌∙◌, arith}
+use Rattle.std.proofs.Common.{◌≡◌, ℕ, zero, suc, ◌+◌, ◌*◌, ◌≤◌, ◌<◌, List, [], ◌∷◌, Bool, true, false, Option, Some, None, if◌then◌else◌, drop, length, refl, ap, sym, subst, ◌∙◌, arith}
 use Rattle.std.specs.Prelude.{slice_get}
 use Rattle.uc_tree.specs.declared.limits.TheConstants.{OPS_FOR_SIZE, PROGRAM_OPS}
 use Rattle.uc_tree.specs.Expressions.{Exprs}
@@ -84,3 +84,60 @@ module _ (p : Program) (c : Class) (i place : ℕ) (v : Field) (n : Nth p c i pl
 
   pub leave_next : (old now mid : Draft) → Leaving p c i old place now → ((c : Class) (i number : ℕ) (f : ClassField) → IsFieldAt p c i number f v → Opens 1 (left_then p c i number f) now mid) → Leaving p c i old (place + 1) mid
   leave_next old now mid b h = leaving_step p c i old place now n.field mid b n.is (h c i (leading_cells c.kind + place) n.field n.at)
+
+-- one turn
+
+pub none_here : (p : Program) (c : Class) (i place : ℕ) (f : ClassField) → class_at p i ≡ Some c → no_field_at place (class_at p i) → slice_get (fields_of c.members) place ≡ Some f → ⊥
+none_here p c i place f e h is =
+    let none : slice_get (fields_of c.members) place ≡ None = subst (λ (o : Option Class). no_field_at place o) e h in
+    let both : None ≡ Some f = sym none ∙ is in
+    cc
+
+pub built_here : {ws us : List ObjectCall} {old new : Draft} → (p : Program) (c : Class) (i place : ℕ) (v : Field) (n : Nth p c i place v) (f : ClassField) (size : ℕ) (args : List Meant) → slice_get (fields_of c.members) place ≡ Some f
+    → ((c : Class) (i number : ℕ) (f : ClassField) → IsFieldAt p c i number f v → Constructs (size + part_room v.told.elements) (field_then p c i number f args) ws old us new) → Constructs (size + room_by f.declarator.len) (field_then p c i (leading_cells c.kind + place) f args) ws old us new
+built_here {ws} {us} {old} {new} p c i place v n f size args is h =
+    let both : Some n.field ≡ Some f = sym n.is ∙ is in
+    let same : n.field ≡ f = cc in
+    let room = room_of p c i place v n in
+    subst (λ (g : ClassField). Constructs (size + room_by g.declarator.len) (field_then p c i (leading_cells c.kind + place) g args) ws old us new) same (constructs_as (h c i (leading_cells c.kind + place) n.field n.at) (omega (arith, room)) (λ ss. refl))
+
+pub left_here : {old new : Draft} → (p : Program) (c : Class) (i place : ℕ) (v : Field) (n : Nth p c i place v) (f : ClassField) → slice_get (fields_of c.members) place ≡ Some f
+    → ((c : Class) (i number : ℕ) (f : ClassField) → IsFieldAt p c i number f v → Opens 1 (left_then p c i number f) old new) → Opens 1 (left_then p c i (leading_cells c.kind + place) f) old new
+left_here {old} {new} p c i place v n f is h =
+    let both : Some n.field ≡ Some f = sym n.is ∙ is in
+    let same : n.field ≡ f = cc in
+    subst (λ (g : ClassField). Opens 1 (left_then p c i (leading_cells c.kind + place) g) old new) same (h c i (leading_cells c.kind + place) n.field n.at)
+
+pub room_here : (p : Program) (i place most size : ℕ) (v : Field) (n : IsNthField p i place v) → ((c : Class) (f : ClassField) → class_at p i ≡ Some c → slice_get (fields_of c.members) place ≡ Some f → most + (size + room_by f.declarator.len) ≤ PROGRAM_OPS) → most + (size + part_room v.told.elements) ≤ PROGRAM_OPS
+room_here p i place most size v n h =
+    let few = h n.class n.field n.there n.is in
+    let room = room_of p n.class i place v (nth_here p n.class i place v n.there n) in
+    omega (arith, few, room)
+
+pub record There (fs : List ClassField) (k : ℕ) : Type 0 where
+  pub field : ClassField
+  pub is : slice_get fs k ≡ Some field
+
+pub there_is : (fs : List ClassField) (k : ℕ) → k < length fs → There fs k
+there_is [] k h = absurd (omega arith)
+there_is (f ∷ fs) zero h = record { field = f; is = refl }
+there_is (f ∷ fs) (suc k) h = let t = there_is fs k (omega arith) in record { field = t.field; is = t.is }
+
+module _ (p : Program) (c : Class) (i place : ℕ) (f : ClassField) (is : slice_get (fields_of c.members) place ≡ Some f) where
+  pub turn_room : (inits : List Init) (args : Exprs) (name : List ℕ) → args ≡ init_exprs inits name → name ≡ f.declarator.name → fields_room inits (drop place (fields_of c.members)) ≡ OPS_FOR_SIZE * exprs_size args + room_by f.declarator.len + fields_room inits (drop (place + 1) (fields_of c.members))
+  turn_room inits args name a e =
+      let split : fields_room inits (drop place (fields_of c.members)) ≡ fields_room inits (f ∷ drop (place + 1) (fields_of c.members)) = ap (fields_room inits) (drop_at (fields_of c.members) place f is) in
+      let size : exprs_size args ≡ exprs_size (init_exprs inits f.declarator.name) = ap exprs_size (a ∙ ap (init_exprs inits) e) in
+      omega (arith, split, size)
+
+  pub build_turn : (inits : List Init) (args : Exprs) (name : List ℕ) (ws us vs : List ObjectCall) (old now mid : Draft) → args ≡ init_exprs inits name → name ≡ f.declarator.name → Building p c i inits (scope_of old) ws old place us now
+      → Constructs (OPS_FOR_SIZE * exprs_size args + room_by f.declarator.len) (field_then p c i (leading_cells c.kind + place) f (args_meant (context_in p now) args)) us now vs mid → Building p c i inits (scope_of old) ws old (place + 1) vs mid
+  build_turn inits args name ws us vs old now mid a e b one =
+      let values : args ≡ init_exprs inits f.declarator.name = a ∙ ap (init_exprs inits) e in
+      let size : exprs_size args ≡ exprs_size (init_exprs inits f.declarator.name) = ap exprs_size values in
+      let scope : scope_of now ≡ scope_of old = ap scope_of b.same in
+      let meant : args_meant (context_in p now) args ≡ args_meant (context_at p (scope_of old)) (init_exprs inits f.declarator.name) = ap (λ (s : Scope). args_meant (context_at p s) args) scope ∙ ap (args_meant (context_at p (scope_of old))) values in
+      building_step p c i inits (scope_of old) ws old place us now f vs mid b is (constructs_as one (omega (arith, size)) (λ ss. ap (λ (ms : List Meant). field_then p c i (leading_cells c.kind + place) f ms ss) meant))
+
+pub same_class : (p : Program) (i : ℕ) (c d : Class) → class_at p i ≡ Some c → class_at p i ≡ Some d → c ≡ d
+same_class p i c d e f = let both : Some c ≡ Some d = sym e ∙ f in cc

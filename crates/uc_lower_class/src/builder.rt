@@ -35,9 +35,15 @@ use uc_lower_expr::put::put;
 use uc_lower_stmt::block::close_scopes;
 use uc_lower_stmt::routine::declare_params;
 use uc_sizes::frames::cells_of_routine;
-use uc_tree::class::{Init, Routine};
+use uc_tree::class::{Init, Routine, Sig};
 use uc_tree::kinds::Role;
 use uc_unwritten::unwritten::Unwritten;
+
+fn role_of(sig: &Sig) -> Role
+    ensures { result ≡ sig.now.role }
+{
+    sig.role
+}
 
 fn inits_of(routine: &Routine) -> &[Init]
     ensures { result.now ≡ routine.now.inits }
@@ -202,7 +208,9 @@ pub fn lower_builder(
     out.begin_routine(class, number, texts, sites);
     declare_params(alloc, names, params, out)?;
     out.enter_body(number)?;
-    lower_body(alloc, names, sig.role, names.class_of(class), routine, out)?;
+    let role = role_of(sig);
+    let place = names.class_of(class);
+    lower_body(alloc, names, role, place, routine, out)?;
     out.leave();
     put(Op::Return, 0, out)?;
     let cells = cells_of_routine(names.sizes(), routine) as u32;

@@ -1,12 +1,18 @@
 // The fields of a class, in order.
 
-ghost use Rattle.std.specs.Prelude.{◌≡◌, ◌+◌, ◌≤◌, Some, OnOk, length};
-ghost use Rattle.uc_tree.specs.declared.limits.TheConstants.{PROGRAM_OPS};
-ghost use Rattle.uc_tree.specs.Objects.{class_at};
+ghost use Rattle.std.specs.Prelude.{◌≡◌, ◌+◌, ◌*◌, ◌≤◌, Some, OnOk, length, slice_get};
+ghost use Rattle.uc_tree.specs.declared.limits.TheConstants.{OPS_FOR_SIZE, PROGRAM_OPS};
+ghost use Rattle.uc_tree.specs.Cells.{leading_cells};
+ghost use Rattle.uc_tree.specs.Expressions.{exprs_of};
+ghost use Rattle.uc_tree.specs.ExpressionSizes.{exprs_size};
+ghost use Rattle.uc_tree.specs.Objects.{ClassField, class_at, fields_of};
+ghost use Rattle.uc_tree.specs.Programs.{Class as Whole};
+ghost use Rattle.uc_tree.specs.Resolve.{args_meant};
+ghost use Rattle.uc_lower_expr.specs.Contexts.{context_in};
 ghost use Rattle.uc_code.specs.Laid.{routine_in};
 ghost use Rattle.uc_lower_stmt.specs.Scoped.{scope_of};
 ghost use Rattle.uc_lower_expr.specs.Members.{count_fields};
-ghost use Rattle.uc_lower_class.specs.Fields.{FieldsBehind, all_built, all_left, all_room};
+ghost use Rattle.uc_lower_class.specs.Fields.{FieldsBehind, all_built, all_left, all_room, field_then, left_then, room_by};
 ghost use Rattle.uc_lower_class.specs.Pended.{Constructs, Opens, end_room};
 
 use crate::inits::{args_for, names_of_fields, places_of};
@@ -16,6 +22,29 @@ use uc_code::draft::Draft;
 use uc_code::rows::ObjectCall;
 use uc_lower_expr::program_names::ProgramNames;
 use uc_tree::class::{Class, Init};
+use uc_tree::expr::Expr;
+
+// The field with this place in a class is built with these arguments.
+fn build_field(
+    class: usize,
+    place: usize,
+    args: &[Expr],
+    names: &ProgramNames,
+    parts: &mut Vec<ObjectCall>,
+    out: &mut Draft,
+) -> Result<(), AllocError>
+    requires room { (c : Whole) (f : ClassField) → class_at names.now class ≡ Some c → slice_get (fields_of c.members) place ≡ Some f → length out.old.ops + end_room parts.old.items + (OPS_FOR_SIZE * exprs_size (exprs_of args.now) + room_by f.declarator.len) ≤ PROGRAM_OPS }
+    requires behind { FieldsBehind names.now class (routine_in out.old.marks) }
+    ensures { OnOk result ((c : Whole) (f : ClassField) → class_at names.now class ≡ Some c → slice_get (fields_of c.members) place ≡ Some f → Constructs (OPS_FOR_SIZE * exprs_size (exprs_of args.now) + room_by f.declarator.len) (field_then names.now c class (leading_cells c.kind + place) f (args_meant (context_in names.now out.old) (exprs_of args.now))) parts.old.items out.old parts.new.items out.new) }
+{
+    match names.field_at(class, place) {
+        Some(field) => {
+            lower_built(field, args, names, parts, out)?;
+            Ok(())
+        }
+        None => Ok(()),
+    }
+}
 
 // The fields of a class with this place are built, in order, with these initialisers.
 fn build_fields(
@@ -35,13 +64,8 @@ fn build_fields(
     let places = places_of(alloc, inits)?;
     let fields = names_of_fields(alloc, at)?;
     for (place, name) in fields.iter().enumerate() {
-        match names.field_at(class, place) {
-            Some(field) => {
-                let args = args_for(inits, &places, name);
-                lower_built(field, args, names, parts, out)?;
-            }
-            None => {}
-        }
+        let args = args_for(inits, &places, name);
+        build_field(class, place, args, names, parts, out)?;
     }
     Ok(())
 }
@@ -69,6 +93,25 @@ pub(crate) fn build_all(
     }
 }
 
+// The scope of the field with this place in a class is opened.
+fn leave_field(
+    class: usize,
+    place: usize,
+    names: &ProgramNames,
+    out: &mut Draft,
+) -> Result<(), AllocError>
+    requires { FieldsBehind names.now class (routine_in out.old.marks) }
+    ensures { OnOk result ((c : Whole) (f : ClassField) → class_at names.now class ≡ Some c → slice_get (fields_of c.members) place ≡ Some f → Opens 1 (left_then names.now c class (leading_cells c.kind + place) f) out.old out.new) }
+{
+    match names.field_at(class, place) {
+        Some(field) => {
+            lower_left(field, names, out)?;
+            Ok(())
+        }
+        None => Ok(()),
+    }
+}
+
 // The scopes of the fields of a class with this place are opened, in order.
 fn leave_fields(
     at: &Class,
@@ -81,10 +124,7 @@ fn leave_fields(
     ensures { OnOk result (Opens (count_fields (Some at.now)) (all_left names.now class (Some at.now)) out.old out.new) }
 {
     for place in 0..names.field_count(class) {
-        match names.field_at(class, place) {
-            Some(field) => lower_left(field, names, out)?,
-            None => {}
-        }
+        leave_field(class, place, names, out)?;
     }
     Ok(())
 }

@@ -1,4 +1,5 @@
 use Rattle.std.proofs.Common.{◌≡◌, ◌<◌, length, Some, ap, sym, ◌∙◌, map, arith}
+use Rattle.std.proofs.lemmas.Bool.{ltb-false}
 use Rattle.uc_tree.specs.Programs.{Init}
 use Rattle.uc_lower_class.proofs.Naming.{init_few, init_got, init_nowhere}
 use Rattle.uc_lower_class.proofs.inits.args_for.Goals as goal
@@ -15,4 +16,5 @@ pub returns-in-None-get : goal.returns-in-None-get
 returns-in-None-get c =
     let place = sym (c.place_in.ensures (map (λ (x : Init). x.name) c.args.inits.now) c.requires) ∙ c.in-Some.is in
     let few : c.in-Some.place < length c.args.inits.now = init_few c.args.inits.now c.in-Some.place c.args.name.now place in
-    absurd (?)
+    let past = ltb-false c.in-Some.place (length c.args.inits.now) (sym c.in-None-get.ensures.lookup.0) in
+    absurd (omega (arith, few, past))

@@ -1,4 +1,4 @@
-use Rattle.std.proofs.Common.{◌≡◌, ◌∷◌, reverse, ap, sym, subst, ◌∙◌, arith}
+use Rattle.std.proofs.Common.{rules, ◌≡◌, [], ◌∷◌, reverse, ap, sym, subst, ◌∙◌, arith}
 use Rattle.uc_lower_class.specs.Pended.{PartsIn}
 use Rattle.uc_lower_class.proofs.Parting.{Ending, end_reverse, ending_begin, ending_end, ending_step, in_part, part_behind, reverse_pop}
 use Rattle.uc_lower_class.proofs.parts.close_parts.Goals as goal
@@ -29,4 +29,6 @@ loop-what-preserved c =
     ending_step (reverse c.args.parts.now.items) c.args.out.now c.in-Some.what (reverse c.pop.new.self.items) c.loop-what.out c.close_part.new.out (subst (λ ws. Ending (reverse c.args.parts.now.items) c.args.out.now ws c.loop-what.out) e c.loop-what.invariant) c.in_ok-close_part.ensures
 
 pub returns : goal.returns
-returns c = ending_end (reverse c.args.parts.now.items) c.args.out.now c.loop-what.out (subst (λ ws. Ending (reverse c.args.parts.now.items) c.args.out.now ws c.loop-what.out) (ap reverse c.in_default.ensures.items) c.loop-what.invariant)
+returns c =
+    let none : c.loop-what.parts.items ≡ [] = search rules in
+    ending_end (reverse c.args.parts.now.items) c.args.out.now c.loop-what.out (subst (λ ws. Ending (reverse c.args.parts.now.items) c.args.out.now ws c.loop-what.out) (ap reverse none) c.loop-what.invariant)
