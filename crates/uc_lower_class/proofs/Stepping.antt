@@ -111,7 +111,7 @@ left_here {old} {new} p c i place v n f is h =
 pub room_here : (p : Program) (i place most size : ℕ) (v : Field) (n : IsNthField p i place v) → ((c : Class) (f : ClassField) → class_at p i ≡ Some c → slice_get (fields_of c.members) place ≡ Some f → most + (size + room_by f.declarator.len) ≤ PROGRAM_OPS) → most + (size + part_room v.told.elements) ≤ PROGRAM_OPS
 room_here p i place most size v n h =
     let few = h n.class n.field n.there n.is in
-    let room = room_of p n.class i place v (nth_here p n.class i place v n.there n) in
+    let room = room_same p n.class i n.field v.told.elements (told_length p n.class i (leading_cells n.class.kind + place) n.field v n.at) in
     omega (arith, few, room)
 
 pub record There (fs : List ClassField) (k : ℕ) : Type 0 where
