@@ -170,7 +170,7 @@ module _ (n m k c o : ℕ) (F : Stmts → Stmts) (us : List ObjectCall) (s : Stm
   built_code : StmtsAt (laid_in new) d0.marks 0 (F (Then s Nil)) (length d0.ops) (length new.ops)
   built_code =
       let before : Pended (laid_in d2) d0.marks (length d0.ops) (reverse us) (h.steps ++ []) d2.marks (length d1.ops) = subst (λ (ns : List Mark). Pended (laid_in d2) d0.marks (length d0.ops) (reverse us) (h.steps ++ []) ns (length d1.ops)) (sym marks_two-built)
-          (pended_kept (laid_in d1) (laid_in d2) d0.marks (length d0.ops) (reverse us) (h.steps ++ []) d1.marks (length d1.ops) w.kept (omega arith) laid) in
+      (pended_kept (laid_in d1) (laid_in d2) d0.marks (length d0.ops) (reverse us) (h.steps ++ []) d1.marks (length d1.ops) w.kept (omega arith) laid) in
       let behind : StmtsAt (laid_in d2) d2.marks 0 (Then s Nil) (length d1.ops) (length d2.ops) = subst (λ (ns : List Mark). StmtsAt (laid_in d2) ns 0 (Then s Nil) (length d1.ops) (length d2.ops)) (sym marks_two-built) (record { middle = length d2.ops; first = w.code; second = record { end = refl } }) in
       subst (λ (ss : Stmts). StmtsAt (laid_in new) d0.marks 0 ss (length d0.ops) (length new.ops)) block_is (e.block d0.marks (length d0.ops) (length d1.ops) (h.steps ++ []) (Then s Nil) before behind)
 

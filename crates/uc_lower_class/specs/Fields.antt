@@ -77,4 +77,3 @@ all_left p i (Some c) rest = fields_left p c i (fields_of c.members) (leading_ce
 abbrev pub all_room : List Init → Option Class → ℕ
 all_room inits None = 0
 all_room inits (Some c) = fields_room inits (fields_of c.members)
-

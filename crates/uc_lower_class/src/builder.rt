@@ -74,11 +74,7 @@ fn build_own(
 }
 
 // The scopes of the fields of the class of a destructor are opened.
-fn leave_own(
-    class: Option<usize>,
-    names: &ProgramNames,
-    out: &mut Draft,
-) -> Result<(), AllocError>
+fn leave_own(class: Option<usize>, names: &ProgramNames, out: &mut Draft) -> Result<(), AllocError>
     requires { routine_in out.old.marks < length (routines_of names.now) }
     ensures { OnOk result (Opens (count_fields (class_by names.now class)) (left_at names.now class) out.old out.new) }
 {
