@@ -1,22 +1,20 @@
 -- A class has at most one constructor and at most one destructor where the rules are kept.
-use Rattle.std.proofs.Common.{◌≡◌, ℕ, zero, suc, ◌+◌, ◌≤◌, ◌<◌, List, [], ◌∷◌, ◌++◌, Bool, true, false, not, ◌&&◌, ◌||◌, Option, Some, None, if◌then◌else◌, is_some, length, map, nat_eq, take, refl, ap, sym, subst, ◌∙◌, arith, append_assoc, true≢false, ◌⊎◌, inl, inr}
-use Rattle.std.specs.Prelude.{option_and_then, slice_get, unwrap_or}
+use Rattle.std.proofs.Common.{◌≡◌, ℕ, zero, suc, ◌+◌, ◌≤◌, ◌<◌, List, [], ◌∷◌, ◌++◌, Bool, true, false, not, ◌&&◌, ◌||◌, Option, Some, None, length, nat_eq, take, refl, ap, sym, subst, ◌∙◌, arith, append_assoc, true≢false, ◌⊎◌, inl, inr}
+use Rattle.std.specs.Prelude.{option_and_then, slice_get}
 use Rattle.std.specs.List.{list_any}
-use Rattle.std.specs.Cmp.Lexicographic.{bytes_decides}
 use Rattle.std.proofs.lemmas.Bool.{and_parts, cases_eq, cases_lt}
-use Rattle.std.proofs.lemmas.List.{append-nil, length-append, take_at}
+use Rattle.std.proofs.lemmas.List.{append-nil, take_at}
 use Rattle.uc_tree.specs.declared.kinds.Kind.{Kind}
 use Rattle.uc_tree.specs.declared.kinds.Mark.{Mark}
 use Rattle.uc_tree.specs.declared.kinds.Access.{Access}
-use Rattle.uc_tree.specs.declared.kinds.Owner.{Owner}
 use Rattle.uc_tree.specs.declared.kinds.Owner.TheVariants as owner
 use Rattle.uc_tree.specs.declared.kinds.Role.{Role}
 use Rattle.uc_tree.specs.declared.kinds.Role.TheVariants as role
 use Rattle.uc_tree.specs.Names.{same_name}
 use Rattle.uc_tree.specs.Programs.{Sig, Routine, MemberForm, FieldsMember, RoutineMember, ProtoMember, Member, Class, Item, ClassItem, RoutineItem, ConstItem, ProtoItem, ForwardItem, UsingItem, Program}
 use Rattle.uc_tree.specs.Cells.{classes_of}
-use Rattle.uc_tree.specs.Numbering.{Defined, class_number, defined_by, form_defined, in_class, is_plain, item_defined, items_defined, members_defined, routines_of, unhandled_name}
-use Rattle.uc_tree.specs.Objects.{has_role, number_at, place_of, role_from, same_role}
+use Rattle.uc_tree.specs.Numbering.{is_plain, unhandled_name}
+use Rattle.uc_tree.specs.Objects.{same_role}
 use Rattle.uc_meaning.specs.declared.rules.Home.{Home}
 use Rattle.uc_meaning.specs.declared.rules.Sort.{Sort}
 use Rattle.uc_meaning.specs.declared.rules.Sort.TheVariants as sort
@@ -28,12 +26,11 @@ use Rattle.uc_meaning.specs.ProgramVisits as visits
 use Rattle.uc_meaning.specs.ProgramVisits.{class_visits, classes_in, form_visits, home_of, item_visits, items_visits, members_visits, owner_home, program_visits, routine_visits, sig_env, sig_visits}
 use Rattle.uc_meaning.specs.Names.{is_destructor}
 use Rattle.uc_meaning.specs.Scopes.{class_around, plain_env}
-use Rattle.uc_meaning.specs.Sorts.{class_at, class_named, class_sort}
-use Rattle.uc_meaning.specs.Visits.{Visit, AtClass, AtItem, AtMark, AtProgram, AtRoutine}
+use Rattle.uc_meaning.specs.Sorts.{class_at, class_named}
+use Rattle.uc_meaning.specs.Visits.{AtClass, AtItem, AtMark, AtProgram, AtRoutine}
 use Rattle.uc_lower.proofs.Ruled.{among_left, among_right, class_none, first_none, rest_none, no_left, no_right, holds}
-use Rattle.uc_lower.proofs.Distinct.{Fresh, same_self}
-use Rattle.uc_lower.proofs.Numbers.{first_named, names_in, number_back, same_number}
-use Rattle.uc_lower.proofs.Owed.{IsApart, AreApart}
+use Rattle.uc_lower.proofs.Distinct.{Fresh}
+use Rattle.uc_lower.proofs.Numbers.{first_named, names_in}
 
 -- tests
 

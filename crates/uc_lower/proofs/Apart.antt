@@ -1,10 +1,10 @@
 -- No two written routines build, or destroy, the objects of one class where the rules are kept.
-use Rattle.std.proofs.Common.{◌≡◌, ◌≢◌, ℕ, zero, suc, ◌+◌, ◌<◌, List, [], ◌∷◌, ◌++◌, Bool, true, false, ◌&&◌, ◌||◌, Option, Some, None, if◌then◌else◌, is_some, length, map, nat_eq, take, refl, ap, sym, subst, ◌∙◌, arith, append_assoc, true≢false, ◌⊎◌, inl, inr}
+use Rattle.std.proofs.Common.{◌≡◌, ◌≢◌, ℕ, zero, suc, List, [], ◌∷◌, ◌++◌, Bool, true, false, ◌&&◌, Some, if◌then◌else◌, is_some, length, nat_eq, take, refl, ap, sym, subst, ◌∙◌, arith, append_assoc, true≢false, ◌⊎◌, inl, inr}
 use Rattle.std.specs.Prelude.{slice_get, unwrap_or}
 use Rattle.std.specs.List.{list_any}
 use Rattle.std.specs.Cmp.Lexicographic.{bytes_decides}
-use Rattle.std.proofs.lemmas.Bool.{and_parts, cases_eq, cases_lt, ne_eqb}
-use Rattle.std.proofs.lemmas.List.{append-nil, length-append, take_at}
+use Rattle.std.proofs.lemmas.Bool.{and_parts, cases_eq, ne_eqb}
+use Rattle.std.proofs.lemmas.List.{append-nil, take_at}
 use Rattle.uc_tree.specs.declared.kinds.Owner.{Owner}
 use Rattle.uc_tree.specs.declared.kinds.Owner.TheVariants as owner
 use Rattle.uc_tree.specs.declared.kinds.Role.{Role}
@@ -21,7 +21,7 @@ use Rattle.uc_meaning.specs.ProgramVisits as visits
 use Rattle.uc_lower.proofs.Distinct.{same_self}
 use Rattle.uc_lower.proofs.Numbers.{names_in, number_back, same_number}
 use Rattle.uc_lower.proofs.Owed.{IsApart, AreApart}
-use Rattle.uc_lower.proofs.Alone.{IsClass, any_at, behind_at, builder_named, class_index, class_new, form_sig, home_at, inside, joined_at, not_both, own_role, role_is, same_roles, two_ways}
+use Rattle.uc_lower.proofs.Alone.{any_at, behind_at, builder_named, class_index, class_new, form_sig, home_at, inside, joined_at, not_both, own_role, role_is, same_roles, two_ways}
 
 -- where an element stands
 

@@ -1,6 +1,6 @@
 -- What the fields of a class cost in its constructor and in its destructor is counted by its declarators, and the rest of a routine
 -- by the routine.
-use Rattle.std.proofs.Common.{◌≡◌, ℕ, zero, suc, ◌+◌, ◌*◌, ◌≤◌, ◌<◌, List, [], ◌∷◌, ◌++◌, Option, Some, None, length, take, refl, ap, sym, ◌∙◌, arith}
+use Rattle.std.proofs.Common.{◌≡◌, ℕ, zero, suc, ◌+◌, ◌*◌, ◌≤◌, List, [], ◌∷◌, ◌++◌, Option, Some, None, length, take, refl, ap, arith}
 use Rattle.std.specs.Prelude.{slice_get}
 use Rattle.uc_tree.specs.declared.kinds.Base.{Base}
 use Rattle.uc_tree.specs.declared.kinds.Owner.{Owner}
@@ -10,7 +10,7 @@ use Rattle.uc_tree.specs.Expressions.{Expr, Number, Character, Truth, Name, Cin,
 use Rattle.uc_tree.specs.ExpressionSizes.{expr_size}
 use Rattle.uc_tree.specs.Statements.{Declarator}
 use Rattle.uc_tree.specs.StatementSizes.{declarator_size, declarators_size, maybe_expr_size, start_size, stmts_size}
-use Rattle.uc_tree.specs.Sizes.{inits_size, item_exits, item_size, items_exits, items_size, member_form_exits, member_form_size, members_exits, members_size, program_size, routine_exits, routine_size}
+use Rattle.uc_tree.specs.Sizes.{inits_size, item_exits, item_size, items_exits, items_size, member_form_exits, member_form_size, members_exits, members_size, program_size}
 use Rattle.uc_tree.specs.Programs.{Routine, MemberForm, FieldsMember, RoutineMember, ProtoMember, Member, Class, Item, ClassItem, RoutineItem, ConstItem, ProtoItem, ForwardItem, UsingItem, Program}
 use Rattle.uc_tree.specs.Cells.{classes_of}
 use Rattle.uc_tree.specs.Numbering.{Defined, defined_by, form_defined, item_defined, items_defined, members_defined, routines_of}

@@ -1,8 +1,8 @@
 -- The routines of a program are laid out, one after another, until the program's code is whole.
-use Rattle.std.proofs.Common.{◌≡◌, ℕ, zero, suc, ◌+◌, ◌*◌, ◌≤◌, ◌<◌, ◌&&◌, Bool, true, false, List, [], ◌∷◌, ◌++◌, Option, Some, None, if◌then◌else◌, length, map, take, get_or, take_all, nat_eq, refl, ap, sym, subst, ◌∙◌, arith, ◌⊎◌, inl, inr, ◌≢◌, true≢false}
+use Rattle.std.proofs.Common.{◌≡◌, ℕ, zero, suc, ◌+◌, ◌*◌, ◌≤◌, ◌<◌, ◌&&◌, Bool, true, false, List, [], ◌∷◌, ◌++◌, Some, None, if◌then◌else◌, length, map, take, get_or, take_all, nat_eq, refl, ap, sym, subst, ◌∙◌, arith, ◌⊎◌, inl, inr, ◌≢◌, true≢false}
 use Rattle.std.specs.Prelude.{slice_get, slice_set}
 use Rattle.std.proofs.lemmas.Bool.{and_parts, cases_eq, ne_eqb}
-use Rattle.std.proofs.lemmas.List.{length-append, length-map}
+use Rattle.std.proofs.lemmas.List.{length-map}
 use Rattle.uc_tree.specs.declared.limits.TheConstants.{FRAME_CELLS, OPS_FOR_SIZE, PROGRAM_OPS, PROGRAM_SIZE}
 use Rattle.uc_tree.specs.declared.site.Site.{Site}
 use Rattle.uc_tree.specs.Cells.{routine_cells}
@@ -11,7 +11,7 @@ use Rattle.uc_tree.specs.Numbering.{Defined, is_plain, defined_by, item_defined,
 use Rattle.uc_tree.specs.Names.{same_name}
 use Rattle.uc_tree.specs.Objects.{Unwritten, unwritten_of}
 use Rattle.uc_tree.specs.ProgramMain.{is_main_item, is_main_sig, main_among, main_number, no_params, returns_as_main}
-use Rattle.uc_tree.specs.Programs.{Class, Routine, Item, ClassItem, RoutineItem, ConstItem, ProtoItem, ForwardItem, UsingItem, Program, Sig}
+use Rattle.uc_tree.specs.Programs.{Routine, Item, ClassItem, RoutineItem, ConstItem, ProtoItem, ForwardItem, UsingItem, Program, Sig}
 use Rattle.uc_tree.specs.Resolve.{all_classes, all_unwritten, routine_scope, routine_meant, routines_meant, source_of}
 use Rattle.uc_tree.specs.Sizes.{program_size}
 use Rattle.uc_tree.specs.Source as source
@@ -26,7 +26,7 @@ use Rattle.uc_code.specs.Lowered.{RoutineAt, RoutinesAt, Lowered}
 use Rattle.uc_code.specs.Ranges.{Kept}
 use Rattle.uc_numbers.specs.declared.routines.Defined.{Defined as Found}
 use Rattle.uc_numbers.specs.Routines.{defined_at}
-use Rattle.uc_lower.specs.Laying.{Lays, LaysAll, defined_texts, own_room, routine_room, unwritten_rooms, written_room}
+use Rattle.uc_lower.specs.Laying.{Lays, LaysAll, defined_texts, own_room, routine_room, unwritten_rooms}
 use Rattle.uc_lower.specs.Refusing.{Fits}
 use Rattle.uc_lower.proofs.Built.{built_routine, owned_alone, stmts_sites}
 use Rattle.uc_lower.proofs.Costs.{own_few, own_size, owns, owns_push, size_split}

@@ -1,5 +1,5 @@
 -- The fields of a class have names of their own where the rules are kept.
-use Rattle.std.proofs.Common.{◌≡◌, ℕ, zero, suc, ◌+◌, ◌≤◌, ◌<◌, List, [], ◌∷◌, ◌++◌, Bool, true, false, not, ◌&&◌, ◌||◌, Option, Some, None, length, map, take, refl, ap, sym, subst, ◌∙◌, arith, append_assoc}
+use Rattle.std.proofs.Common.{◌≡◌, ℕ, ◌+◌, List, [], ◌∷◌, ◌++◌, Bool, true, false, not, ◌||◌, Some, length, map, take, refl, ap, sym, subst, ◌∙◌, arith, append_assoc}
 use Rattle.std.specs.Prelude.{slice_get}
 use Rattle.std.specs.List.{list_any}
 use Rattle.std.proofs.lemmas.Bool.{and_parts}
@@ -9,19 +9,18 @@ use Rattle.uc_tree.specs.declared.kinds.Access.{Access}
 use Rattle.uc_tree.specs.declared.kinds.Base.{Base}
 use Rattle.uc_tree.specs.declared.kinds.Mark.{Mark}
 use Rattle.uc_tree.specs.Names.{same_name}
-use Rattle.uc_tree.specs.Numbering.{is_plain, unhandled_name}
+use Rattle.uc_tree.specs.Numbering.{unhandled_name}
 use Rattle.uc_tree.specs.Statements.{Declarator}
-use Rattle.uc_tree.specs.Programs.{Sig, MemberForm, FieldsMember, RoutineMember, ProtoMember, Member, Class, Program}
+use Rattle.uc_tree.specs.Programs.{MemberForm, FieldsMember, RoutineMember, ProtoMember, Member, Class, Program}
 use Rattle.uc_tree.specs.Objects.{ClassField, declared_fields, fields_of, form_fields}
 use Rattle.uc_meaning.specs.declared.rules.Home.{Home}
-use Rattle.uc_meaning.specs.declared.rule.Rule.TheVariants.{S2}
 use Rattle.uc_meaning.specs.Breaks.{breaks_at, breaks_among}
 use Rattle.uc_meaning.specs.ClassBreaks.{declared_names, fields_at, form_declares_names, is_new_field, is_new_member, member_fields, members_declare, sig_declares}
 use Rattle.uc_meaning.specs.ClassBreaks as rules
 use Rattle.uc_meaning.specs.ProgramVisits.{fields_visits, form_visits, members_visits}
 use Rattle.uc_meaning.specs.Scopes.{class_around, plain_env}
 use Rattle.uc_meaning.specs.Names.{place_in}
-use Rattle.uc_meaning.specs.Visits.{Visit, AtBase, AtField, AtMark, maybe_visits}
+use Rattle.uc_meaning.specs.Visits.{AtBase, AtField, AtMark, maybe_visits}
 use Rattle.uc_lower.proofs.Ruled.{among_left, among_right, first_none, rest_none, no_left, holds}
 use Rattle.uc_lower.proofs.Distinct.{Fresh}
 

@@ -4,7 +4,7 @@ use Rattle.std.proofs.lemmas.List.{length-map}
 use Rattle.uc_tree.specs.declared.kinds.Role.{Role}
 use Rattle.uc_tree.specs.Programs.{Class, Program}
 use Rattle.uc_tree.specs.Cells.{class_cells}
-use Rattle.uc_tree.specs.Numbering.{Defined, is_event, routines_of}
+use Rattle.uc_tree.specs.Numbering.{is_event, routines_of}
 use Rattle.uc_tree.specs.Objects.{Unwritten, place_among, unwritten_number, unwritten_of}
 use Rattle.uc_tree.specs.Resolve.{classes_meant}
 use Rattle.uc_tree.specs.Source as source

@@ -1,5 +1,5 @@
 -- Numbers of classes, their names and their places.
-use Rattle.std.proofs.Common.{◌≡◌, ℕ, zero, suc, ◌+◌, ◌-◌, ◌≤◌, ◌<◌, List, [], ◌∷◌, ◌++◌, Bool, true, false, ◌||◌, Option, Some, None, if◌then◌else◌, map, nat_eq, nat_le, unwrap_or, refl, ap, sym, subst, ◌∙◌, arith, true≢false}
+use Rattle.std.proofs.Common.{◌≡◌, ℕ, zero, suc, ◌+◌, ◌-◌, ◌≤◌, List, [], ◌∷◌, ◌++◌, Bool, true, false, Option, Some, None, if◌then◌else◌, map, nat_eq, nat_le, unwrap_or, refl, ap, sym, ◌∙◌, arith, true≢false}
 use Rattle.std.specs.Prelude.{option_and_then, slice_get}
 use Rattle.std.specs.List.{list_any}
 use Rattle.std.proofs.lemmas.Bool.{ne_eqb}
@@ -13,7 +13,6 @@ use Rattle.uc_tree.specs.Numbering.{at_most, class_names, class_number, is_event
 use Rattle.uc_tree.specs.Objects.{class_at, number_at, number_in, place_of}
 use Rattle.uc_tree.specs.Objects as objects
 use Rattle.uc_sizes.proofs.PlacesLemmas.{place_within}
-use Rattle.uc_meaning.specs.declared.rules.Sort.{Sort}
 use Rattle.uc_meaning.specs.declared.rules.Sort.TheVariants.{Object}
 use Rattle.uc_meaning.specs.Sorts.{class_sort}
 use Rattle.uc_lower.proofs.Distinct.{Fresh, any_last, any_new, same_self}

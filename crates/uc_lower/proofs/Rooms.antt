@@ -1,6 +1,5 @@
 -- All routines together take no more ops than the size of their program allows.
-use Rattle.std.proofs.Common.{◌≡◌, ℕ, zero, suc, ◌+◌, ◌*◌, ◌≤◌, List, [], ◌∷◌, ◌++◌, Bool, true, false, Option, Some, None, if◌then◌else◌, is_some, length, refl, ap, sym, subst, ◌∙◌, arith}
-use Rattle.std.specs.Prelude.{slice_get}
+use Rattle.std.proofs.Common.{◌≡◌, ℕ, ◌+◌, ◌*◌, ◌≤◌, List, [], ◌∷◌, Bool, true, false, Option, Some, None, if◌then◌else◌, is_some, length, refl, ap, ◌∙◌, arith}
 use Rattle.uc_tree.specs.declared.limits.TheConstants.{OPS_FOR_SIZE}
 use Rattle.uc_tree.specs.declared.kinds.Role.{Role}
 use Rattle.uc_tree.specs.declared.kinds.Role.TheVariants as role
@@ -11,11 +10,11 @@ use Rattle.uc_tree.specs.Sizes.{inits_size, program_size}
 use Rattle.uc_tree.specs.Programs.{Init, Routine, Class, Program}
 use Rattle.uc_tree.specs.Cells.{classes_of}
 use Rattle.uc_tree.specs.Numbering.{Defined, routines_of}
-use Rattle.uc_tree.specs.Objects.{ClassField, Unwritten, class_at, fields_of, number_at, place_of, role_from, unwritten_at, unwritten_by, unwritten_of, written_at}
+use Rattle.uc_tree.specs.Objects.{ClassField, Unwritten, class_at, fields_of, place_of, unwritten_at, unwritten_by, unwritten_of, written_at}
 use Rattle.uc_tree.specs.Resolve.{class_by}
 use Rattle.uc_meaning.specs.declared.rules.Home.{Home}
 use Rattle.uc_meaning.specs.Breaks.{breaks_among, breaks_of}
-use Rattle.uc_meaning.specs.ProgramVisits.{class_visits, items_visits, members_visits}
+use Rattle.uc_meaning.specs.ProgramVisits.{items_visits, members_visits}
 use Rattle.uc_meaning.specs.Scopes.{class_around, plain_env}
 use Rattle.uc_meaning.specs.Visits.{AtClass, AtProgram}
 use Rattle.uc_lower_class.specs.Bodies.{builder_room, left_room, part_end, role_room, unwritten_room}
@@ -26,7 +25,7 @@ use Rattle.uc_lower.proofs.Ruled.{class_none, rest_none}
 use Rattle.uc_lower.proofs.Costs.{class_sizes, fields_cost, fields_few, fields_size, length_cost, own_size, owns, size_split}
 use Rattle.uc_lower.proofs.Distinct.{Fresh, init_size, inits_few, named_sizes, none_named}
 use Rattle.uc_lower.proofs.Named.{all_fresh, names_of}
-use Rattle.uc_lower.proofs.Owed.{AreApart, all_owed, one, owed, owed_few, paid}
+use Rattle.uc_lower.proofs.Owed.{all_owed, owed_few, paid}
 use Rattle.uc_lower.proofs.Apart.{routines_apart}
 use Rattle.uc_lower.proofs.Sums.{all_weight, sum, sum_add, sum_le_at, weight, weight_join}
 

@@ -1,5 +1,5 @@
 -- What a program has that breaks no rule: no class has itself in its fields, and each has room.
-use Rattle.std.proofs.Common.{◌≡◌, ℕ, ℤ, zero, suc, ◌+◌, ◌≤◌, ◌<◌, List, [], ◌∷◌, ◌++◌, Bool, true, false, not, ◌&&◌, ◌||◌, Option, Some, None, if◌then◌else◌, length, map, nat_eq, nat_le, refl, ap, sym, subst, ◌∙◌, arith, ◌⊎◌, inl, inr, true≢false}
+use Rattle.std.proofs.Common.{◌≡◌, ℕ, ℤ, zero, suc, ◌+◌, ◌≤◌, ◌<◌, List, [], ◌∷◌, ◌++◌, Bool, true, false, not, ◌||◌, Option, Some, None, length, map, nat_eq, nat_le, refl, ap, sym, subst, ◌∙◌, arith, ◌⊎◌, inl, inr, true≢false}
 use Rattle.std.specs.Prelude.{slice_get}
 use Rattle.std.specs.List.{list_any}
 use Rattle.std.proofs.lemmas.Bool.{and_parts, cases_lt, leb-true}
@@ -14,21 +14,20 @@ use Rattle.uc_tree.specs.Constants.{constants_of}
 use Rattle.uc_tree.specs.Statements.{Declarator}
 use Rattle.uc_tree.specs.Programs.{MemberForm, FieldsMember, RoutineMember, ProtoMember, Member, Class, Item, ClassItem, RoutineItem, ConstItem, ProtoItem, ForwardItem, UsingItem, Program}
 use Rattle.uc_tree.specs.Rows.{Row, row_at, row_cells, leads, object_leads, reaches, has_itself, cells_within}
-use Rattle.uc_tree.specs.Cells.{classes_of, class_cells, held_by, member_held, members_held, object_of, row_of, rows_of, seen_in}
+use Rattle.uc_tree.specs.Cells.{classes_of, class_cells, held_by, member_held, members_held, row_of, rows_of, seen_in}
 use Rattle.uc_tree.specs.Numbering.{condition_count}
 use Rattle.uc_sizes.proofs.Depths.{row_past, cells_next}
 use Rattle.uc_sizes.proofs.Reached.{further}
 use Rattle.uc_unwritten.proofs.Deep.{count_rows}
 use Rattle.uc_meaning.specs.declared.rule.Rule.{Rule}
-use Rattle.uc_meaning.specs.declared.rule.Break.{Break}
 use Rattle.uc_meaning.specs.declared.rules.Home.{Home}
 use Rattle.uc_meaning.specs.Asked.{unless}
-use Rattle.uc_meaning.specs.Breaks.{breaks_at, breaks_among, breaks_of, declared_twice, within_itself, badly_defined, badly_mained, no_length}
+use Rattle.uc_meaning.specs.Breaks.{breaks_at, breaks_among, breaks_of}
 use Rattle.uc_meaning.specs.ClassBreaks.{has_room, field_object, leads_back}
-use Rattle.uc_meaning.specs.ProgramVisits.{classes_in, class_visits, fields_visits, form_visits, item_visits, items_visits, members_visits}
+use Rattle.uc_meaning.specs.ProgramVisits.{class_visits, fields_visits, form_visits, item_visits, items_visits, members_visits}
 use Rattle.uc_meaning.specs.Scopes.{Env, class_around, plain_env}
 use Rattle.uc_meaning.specs.Names.{place_in}
-use Rattle.uc_meaning.specs.Visits.{Visit, AtField, AtBase, AtClass, AtItem, AtMark, AtProgram, AtRoutine, maybe_visits}
+use Rattle.uc_meaning.specs.Visits.{Visit, AtField, AtBase, AtClass, AtItem, AtMark, AtProgram, maybe_visits}
 use Rattle.uc_lower_expr.specs.Members.{FitClasses}
 
 -- what is empty has empty parts

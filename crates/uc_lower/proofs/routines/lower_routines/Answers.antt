@@ -1,5 +1,4 @@
-use Rattle.std.proofs.Common.{◌≡◌, ◌+◌, ◌<◌, ◌≤◌, ℕ, Some, length, nat_eq, refl, sym, subst, ap, ◌∙◌, arith}
-use Rattle.std.specs.Prelude.{slice_get}
+use Rattle.std.proofs.Common.{◌+◌, ℕ, length, nat_eq, refl, sym, subst, ap, ◌∙◌, arith}
 use Rattle.uc_tree.specs.Numbering.{routines_of}
 use Rattle.uc_numbers.specs.Routines.{defined_at}
 use Rattle.uc_lower.proofs.Ending.{Stands, found_at, as_many, follows, stands_none, stands_next}
