@@ -13,6 +13,8 @@ pub mod Answers
 pub mod Serves
 pub mod Executions
 pub mod Faults
+pub mod Pieces
+pub mod Raising
 pub mod Quiet
 pub mod Rides
 pub mod Reading
