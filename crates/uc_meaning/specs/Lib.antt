@@ -25,6 +25,7 @@ pub mod Samples
 pub mod Runs
 pub mod SamplePrograms
 pub mod ObjectSamples
+pub mod RaisingSamples
 pub mod Cuts
 pub mod Texts
 pub mod Fit
