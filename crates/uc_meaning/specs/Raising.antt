@@ -1,5 +1,5 @@
 -- Events: how one is raised, how a handler is found, and how activations are unwound.
-use Rattle.std.specs.Prelude.{ℕ, suc, ◌+◌, ◌&&◌, ℤ, pos, negsuc, List, [], ◌∷◌, length, Option, Some, None, Bool, true, false, nat_eq, if◌then◌else◌, not}
+use Rattle.std.specs.Prelude.{ℕ, suc, ◌+◌, ◌&&◌, ℤ, pos, negsuc, List, [], ◌∷◌, length, Option, Some, None, Bool, true, false, nat_eq, nat_lt, ◌^◌, if◌then◌else◌, not}
 use Rattle.uc_tree.specs.Hidden.{EVENT_FIELDS}
 use Rattle.uc_tree.specs.Source.{Literal, Get, Stmts, Handlers, NoHandlers, MoreHandlers, Raised, Plainly, BuiltAt, AgainFrom}
 use Rattle.uc_meaning.specs.declared.exec.Owner.TheVariants.{Frame}
@@ -18,13 +18,14 @@ pub record Event : Type 0 where
   pub x : ℤ
   pub y : ℤ
 
-abbrev pub natural : ℤ → ℕ
-natural (pos n) = n
-natural (negsuc n) = 0
+-- the number of an event is a byte
+abbrev pub as_event : ℤ → ℕ
+as_event (pos n) = if nat_lt n (2 ^ 8) then n else 0
+as_event (negsuc n) = 0
 
 -- the event that the newest operands are
 abbrev pub event_in : List Value → Event
-event_in vs = record { number = natural (number (top (below (below vs)))); x = number (top (below vs)); y = number (top vs) }
+event_in vs = record { number = as_event (number (top (below (below vs)))); x = number (top (below vs)); y = number (top vs) }
 
 -- to find the event that is raised: its number, then its fields
 abbrev pub raised_todo : Raised → List Todo → List Todo
@@ -145,21 +146,33 @@ unwind_step (p ∷ ps) s = unwind_past (sort p) ps s
 
 -- the search for a handler of a resumption
 
--- how many guarded blocks stand round what is done first
-abbrev pub guards_by : Sort → ℕ → ℕ
-guards_by (IsGuard hs) n = suc n
-guards_by _ n = n
+abbrev pub handler_count : Handlers → ℕ
+handler_count NoHandlers = 0
+handler_count (MoreHandlers resumes event cell line body rest) = suc (handler_count rest)
 
-abbrev pub guards : List Todo → ℕ
-guards [] = 0
-guards (p ∷ ps) = guards_by (sort p) (guards ps)
+-- how many handlers and clean-ups a piece stands for
+abbrev pub count_by : Sort → ℕ
+count_by Simple = 0
+count_by (IsLoop o t e b) = 0
+count_by IsWhole = 0
+count_by (IsClean c) = 1
+count_by (IsFill n b d) = 1
+count_by (IsSweep e) = 1
+count_by (IsPart c) = 1
+count_by (IsGuard hs) = handler_count hs
+count_by IsFinish = 0
+
+-- how many stand round what is done first
+abbrev pub count_round : List Todo → ℕ
+count_round [] = 0
+count_round (p ∷ ps) = count_by (sort p) + count_round ps
 
 -- what stands within so many of them alone
 abbrev pub within : ℕ → List Todo → List Todo
 within n [] = []
-within n (p ∷ ps) = if nat_eq (guards (p ∷ ps)) n then p ∷ ps else within n ps
+within n (p ∷ ps) = if nat_eq (count_round (p ∷ ps)) n then p ∷ ps else within n ps
 
--- a handler that is found, and how many guarded blocks stand outwards of its own
+-- a handler that is found, and how many handlers and clean-ups stand outwards of its guarded block
 pub record Hit : Type 0 where
   pub handler : Handler
   pub rest : ℕ
@@ -175,7 +188,7 @@ hit_by _ n e other = other
 -- the first one from the innermost piece outwards
 abbrev pub hit_in : Event → List Todo → Option Hit
 hit_in e [] = None
-hit_in e (p ∷ ps) = hit_by (sort p) (guards ps) e (hit_in e ps)
+hit_in e (p ∷ ps) = hit_by (sort p) (count_round ps) e (hit_in e ps)
 
 -- the handler of a resumption, how far the search for it came, and the object and the frame that it uses
 pub record Found : Type 0 where

@@ -231,10 +231,10 @@ module _ (p : whole.Program) where
 
   -- where the body of a handler stands, and what stands behind the handler
   abbrev pub in_handler : stmt.Handler → Scope → Scope
-  in_handler (stmt.Handles pos kind event param brace body) s = record (with_event param event s) { handled = s.hidden; hidden = s.hidden + KEPT_CELLS }
+  in_handler (stmt.Handles place kind event param brace body) s = record (with_event param event s) { handled = s.hidden; hidden = s.hidden + KEPT_CELLS }
 
   abbrev pub scope_past_handler : stmt.Handler → Scope → Scope
-  scope_past_handler (stmt.Handles pos kind event param brace body) s = scope_past_all body (record s { hidden = s.hidden + KEPT_CELLS })
+  scope_past_handler (stmt.Handles place kind event param brace body) s = scope_past_all body (record s { hidden = s.hidden + KEPT_CELLS })
 
   -- a value that is handed over is kept as the result of its routine
   abbrev pub return_meant : Scope → Option expr.Expr → Option Expr
@@ -301,8 +301,8 @@ module _ (p : whole.Program) where
     handlers_meant (stmt.MoreHandlers first rest) s = handler_then first s (handlers_meant rest (scope_past_handler first s))
 
     pub handler_then : stmt.Handler → Scope → Handlers → Handlers
-    handler_then (stmt.Handles pos kind event param brace body) s rest =
-        MoreHandlers (takes_resumptions kind) (event_of_handler p event) s.hidden brace.line (stmts_meant body (in_handler (stmt.Handles pos kind event param brace body) s)) rest
+    handler_then (stmt.Handles place kind event param brace body) s rest =
+        MoreHandlers (takes_resumptions kind) (event_of_handler p event) s.hidden brace.line (stmts_meant body (in_handler (stmt.Handles place kind event param brace body) s)) rest
 
     pub maybe_meant : stmt.MaybeStmt → Scope → Stmt
     maybe_meant stmt.NoStmt s = Skip 0
