@@ -1,5 +1,5 @@
 -- The journals of sample programs with events are runs of them, step by step.
-use Rattle.std.proofs.Common.{◌≡◌, ℕ, zero, suc, ◌+◌, false, true, List, [], ◌∷◌, ◌++◌, Option, Some, None, refl, sym, subst, pos, lit<}
+use Rattle.std.proofs.Common.{◌≡◌, ℕ, false, true, [], ◌∷◌, Some, None, refl, sym, subst, pos, lit<}
 use Rattle.uc_tree.specs.declared.kinds.ValueForm.TheVariants as value_form
 use Rattle.uc_tree.specs.Constants.{constant_value}
 use Rattle.uc_tree.specs.Rows.{reaches, cells_within}

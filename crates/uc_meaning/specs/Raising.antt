@@ -215,11 +215,11 @@ found_or (Some h) a below_it other = Some (record {
 -- own guarded block included
 abbrev pub seek : Option Visited → Event → List Active → Option Found
 seek visited e [] = None
-seek None e (a ∷ as) = found_or (hit_in e a.control) a as (seek a.handles e as)
-seek (Some v) e (a ∷ as) =
-    if nat_eq (length as) v.level
-    then found_or (hit_in e (within v.rest a.control)) a as (seek a.handles e as)
-    else seek (Some v) e as
+seek None e (a ∷ others) = found_or (hit_in e a.control) a others (seek a.handles e others)
+seek (Some v) e (a ∷ others) =
+    if nat_eq (length others) v.level
+    then found_or (hit_in e (within v.rest a.control)) a others (seek a.handles e others)
+    else seek (Some v) e others
 
 -- the handler runs before the activation that raised the event, which drops what it hands over; without a handler the event is thrown
 abbrev pub handle_step : Option Found → Event → List Todo → State → Step

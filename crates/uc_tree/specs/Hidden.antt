@@ -1,7 +1,7 @@
 -- Hidden cells of a routine, which lie behind its variables: the fields of each event that is built where it is raised, and each
 -- handler's event with its fields. A handler runs at most once at a time in one call of its routine, so that these suffice.
 use Rattle.std.specs.Prelude.{ℕ, ◌+◌, Option, Some, None}
-use Rattle.uc_tree.specs.Statements.{Raised, Stmt, Block, Empty, Evaluate, Declare, If, While, Do, For, Break, Continue, Return, Try, Throw, Raise, RaiseAt, Enable, Disable, Accept, Print, PrintTogether, Read, Resume, Suspend, Yield, Migrate, Stmts, NoStmts, MoreStmts, MaybeStmt, NoStmt, OneStmt, Handler, Handles, Handlers, NoHandlers, MoreHandlers, Clause, Accepts, Clauses, NoClauses, MoreClauses}
+use Rattle.uc_tree.specs.Statements.{Raised, Stmt, Block, If, While, Do, For, Try, Throw, Raise, RaiseAt, Enable, Disable, Accept, Stmts, NoStmts, MoreStmts, MaybeStmt, NoStmt, OneStmt, Handler, Handles, Handlers, NoHandlers, MoreHandlers, Clause, Accepts, Clauses, NoClauses, MoreClauses}
 
 abbrev pub EVENT_FIELDS : ℕ
 EVENT_FIELDS = 2

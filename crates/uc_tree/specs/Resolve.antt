@@ -22,7 +22,7 @@ use Rattle.uc_tree.specs.Objects.{is_constructor, class_at, place_of, plain_clas
 use Rattle.uc_tree.specs.ProgramMain.{is_void, main_number}
 use Rattle.uc_tree.specs.declared.kinds.ValueForm.{ValueForm}
 use Rattle.uc_tree.specs.declared.kinds.ValueForm.TheVariants as value_form
-use Rattle.uc_tree.specs.Source.{Shape, Character, Order, TestFirst, BodyFirst, NoTest, Expr, Literal, Variable, Element, Assign, OfObject, Counted, CallOn, CallUnwritten, Exprs, NoExprs, MoreExprs, Item, Show, ShowText, Target, Declared, CleanUp, Destroys, DestroysAll, Stmt, Skip, Block, Whole, Evaluate, Declare, Print, PrintTogether, Read, If, Loop, Break, Continue, Return, Fill, OfEvents, Raised, Plainly, BuiltAt, AgainFrom, Throw, Raise, Try, Handlers, NoHandlers, MoreHandlers, Stmts, Nil, Then, Scoped, Built, Purpose, TaskMain, Procedure, Function, Builder, Routine, Class, Source}
+use Rattle.uc_tree.specs.Source.{Shape, Order, TestFirst, BodyFirst, NoTest, Expr, Literal, Variable, Element, Assign, OfObject, Counted, CallOn, CallUnwritten, Item, Show, ShowText, Target, Declared, CleanUp, Destroys, DestroysAll, Stmt, Skip, Block, Whole, Evaluate, Declare, Print, PrintTogether, Read, If, Loop, Break, Continue, Return, Fill, OfEvents, Raised, Plainly, BuiltAt, AgainFrom, Throw, Raise, Try, Handlers, NoHandlers, MoreHandlers, Stmts, Nil, Then, Scoped, Built, Purpose, TaskMain, Procedure, Function, Builder, Routine, Class, Source}
 use Rattle.uc_tree.specs.Hidden.{KEPT_CELLS, hidden_in, hidden_in_all}
 pub use Rattle.uc_tree.specs.Standings.{scalar, int_type, bool_type, converted, Standing, Meant, no_meaning, value_meant, value_by, value_of, later_or, known_named, known_meant, value_or_zero, is_here, is_named, routine_from, params_in, result_in, params_of, result_of, routine_meant_by, constant_meant_by, item_meant, NumberedField, field_named, field_length, field_type, Whose, object_of_whose, field_place, field_held, field_standing, field_by_ref, field_found, method_by, method_meant, member_by, member_in, member_meant, meant_or, own_meant, name_meant, combined, binary_meant, variable_in, written_by, updated_by, updated, unary_meant, assign_meant, fail_name, object_member, event_from, event_place, class_or_event, place_member, field_by, field_meant, arg_meant, args_by, call_by, call_meant, element_by, element_meant, stepped_by, stepped, step_meant, Context, meant, part_meant, args_meant, parts_meant, link_meant, chain_meant, value_in_scope, AtVariable, AtField, AtPlace, AsValue, AsInput, AsFail, AsRoutine, AsMember, AsCondition, AsEvent, AsNothing, Own, Of}
 

@@ -24,7 +24,7 @@ use Rattle.uc_tree.specs.Programs as whole
 use Rattle.uc_tree.specs.Cells.{classes_of, leading_cells, seen_in}
 use Rattle.uc_tree.specs.Numbering.{is_event, is_plain, Defined, routines_of}
 use Rattle.uc_tree.specs.Objects.{class_at, number_at, plain_class, ClassField, fields_of, shape_of, class_shape, base_shape, member_from}
-use Rattle.uc_tree.specs.Source.{Shape, Character, Truth, Operator, Plus, Minus, Times, Over, Modulo, Equal, NotEqual, Less, AtMost, Greater, AtLeast, Expr, Literal, Variable, Element, Get, Load, Negated, Not, AsCharacter, AsTruth, Operate, And, Or, Set, Assign, First, Update, StepBehind, Fail, Call, OfObject, This, OwnField, GetOwn, FieldOf, CallOn, Exprs, NoExprs, MoreExprs, Class}
+use Rattle.uc_tree.specs.Source.{Shape, Character, Truth, Operator, Plus, Minus, Times, Over, Modulo, Equal, NotEqual, Less, AtMost, Greater, AtLeast, Expr, Literal, Variable, Element, Get, Load, Negated, Not, AsCharacter, AsTruth, Operate, And, Or, Set, Assign, First, Update, StepBehind, Fail, Call, OfObject, This, OwnField, GetOwn, FieldOf, CallOn, Exprs, NoExprs, MoreExprs}
 
 -- types
 
