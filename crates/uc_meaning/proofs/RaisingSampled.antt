@@ -5,7 +5,7 @@ use Rattle.uc_tree.specs.Constants.{constant_value}
 use Rattle.uc_tree.specs.Rows.{reaches, cells_within}
 use Rattle.uc_tree.specs.Objects.{shape_within, height_within}
 use Rattle.uc_tree.specs.Resolve.{source_of}
-use Rattle.uc_tree.specs.Source.{Source, Builder, TaskMain, Procedure, Call, Expr, Literal, Variable, Get, Load, Assign, OfObject, FieldOf, CallOn, CallUnwritten, NoExprs, MoreExprs, Show, Destroys, Block, Evaluate, Declare, Print, OfEvents, BuiltAt, Plainly, AgainFrom, Throw, Raise, Try, NoHandlers, MoreHandlers, Stmts, Nil, Then, Scoped, Routine}
+use Rattle.uc_tree.specs.Source.{Source, Builder, TaskMain, Procedure, Function, Call, Expr, Literal, Variable, Get, Load, Assign, OfObject, FieldOf, CallOn, CallUnwritten, NoExprs, MoreExprs, Show, Destroys, Block, Evaluate, Declare, Print, Return, OfEvents, BuiltAt, Plainly, AgainFrom, Throw, Raise, Try, NoHandlers, MoreHandlers, Stmts, Nil, Then, Scoped, Routine}
 use Rattle.uc_meaning.specs.declared.request.Answer.TheVariants as answer
 use Rattle.uc_meaning.specs.declared.entry.EntryKind.TheVariants as kind
 use Rattle.uc_meaning.specs.Journal.{entry, begin, is_over, inside, own_object, entries_at}
@@ -16,7 +16,7 @@ use Rattle.uc_meaning.specs.Journal.{held}
 use Rattle.uc_meaning.specs.Answers.{answer_to}
 use Rattle.uc_meaning.specs.Runs.{Runs, IsRun, begun, first_world}
 use Rattle.uc_meaning.specs.Samples.{options}
-use Rattle.uc_meaning.specs.RaisingSamples.{thrown_text, thrown_journal, ThrownRun, resumed_text, resumed_journal, ResumedRun, escaped_text, escaped_journal, EscapedRun}
+use Rattle.uc_meaning.specs.RaisingSamples.{thrown_text, thrown_journal, ThrownRun, resumed_text, resumed_journal, ResumedRun, escaped_text, escaped_journal, EscapedRun, returned_text, returned_journal, ReturnedRun}
 use Rattle.uc_meaning.proofs.RunsSampled.{given, acted, printed, the_end}
 use Rattle.uc_meaning.proofs.ObjectsSampled.{own_field, one_int, call_at, in_block}
 
@@ -113,3 +113,34 @@ escaped_runs =
 
 pub escaped_run : EscapedRun
 escaped_run = record { run = subst (λ s. IsRun s [] options escaped_journal) (sym escaped_is) escaped_runs }
+
+-- an object of the class `A` without cells, and what stands in its scope
+abbrev in_scope : Stmts → Stmts
+in_scope rest = Then (Declare 3 (record { cell = 0; cells = 0; value = None } ∷ [])) (Then (Evaluate 3 (OfObject (CallUnwritten 3 (Variable 0)))) (Scoped (Destroys (call_at 0 (Variable 0))) rest))
+
+abbrev returned_source : Source
+returned_source = record {
+  routines = record { line = 2; cells = 0; params = 0; purpose = Builder; written = true; body = in_block 2 (Then (Print 2 (Show value_form.Character (Literal (pos 45)) ∷ [])) Nil) } ∷ (record { line = 3; cells = 5; params = 0; purpose = Function; written = true; body = in_scope (Then (OfEvents (Try 3 (guarding 3 (in_scope (Then (OfEvents (Raise 3 (Plainly 2))) (Then (Print 3 (Show value_form.Character (Literal (pos 43)) ∷ [])) Nil)))) (MoreHandlers true (Some 2) 2 3 (Then (Return 3 (Some (Literal (pos 7)))) Nil) NoHandlers))) (Then (Return 3 (Some (Literal (pos 1)))) Nil)) } ∷ (record { line = 4; cells = 0; params = 0; purpose = TaskMain; written = true; body = Then (Print 4 (Show value_form.Number (Call 1 NoExprs) ∷ [])) Nil } ∷ (unwritten_builder ∷ [])));
+  main = 2;
+  classes = record { cells = 0 } ∷ (record { cells = 0 } ∷ []);
+  sites = [];
+  texts = [];
+}
+
+returned_is : source_of returned_text ≡ returned_source
+unfolding constant_value reaches cells_within shape_within height_within
+returned_is = refl
+
+returned_runs : IsRun returned_source [] options returned_journal
+unfolding inside held waiting stacked ready running entries_at open_at blocked_at last_call none_running none_ready none_served first_ended all_ticks processor_count cluster_count open_processors processors offers own_object stack_at used object_count task_count is_gone owner is_over tasks_on answer_to
+returned_runs =
+    let r0 : Runs returned_source [] options (begin options ∷ []) (first_world returned_source) = begun in
+    let r1 = given r0 refl (0, lit< tt, refl) refl refl refl in
+    let r2 = acted answer.Go _ (printed 2 1 45) r1 refl refl refl refl refl in
+    let r3 = acted answer.Go _ (printed 1 1 45) r2 refl refl refl refl refl in
+    let r4 = acted answer.Go _ (printed 0 0 7) r3 refl refl refl refl refl in
+    let r5 = acted answer.Go _ the_end r4 refl refl refl refl refl in
+    record { prefix = record { world = _; runs = r5 }; over = refl }
+
+pub returned_run : ReturnedRun
+returned_run = record { run = subst (λ s. IsRun s [] options returned_journal) (sym returned_is) returned_runs }

@@ -8,7 +8,7 @@ use Rattle.uc_tree.specs.declared.kinds.Kind.TheVariants as kind_of
 use Rattle.uc_tree.specs.declared.kinds.HandlerKind.{HandlerKind}
 use Rattle.uc_tree.specs.declared.kinds.HandlerKind.TheVariants as handler_kind
 use Rattle.uc_tree.specs.Expressions.{Expr, Postfix, exprs_of, Field, parts_of}
-use Rattle.uc_tree.specs.Statements.{NoStart, StartValue, Raised, Stmt, Evaluate, Declare, Print, Try, Throw, Raise, stmts_of, Handler, Handles, handlers_of}
+use Rattle.uc_tree.specs.Statements.{NoStart, StartValue, Raised, Stmt, Evaluate, Declare, Print, Return, Try, Throw, Raise, stmts_of, Handler, Handles, handlers_of}
 use Rattle.uc_tree.specs.Programs.{Item, ClassItem, RoutineItem, FieldsMember, Member, Program}
 use Rattle.uc_tree.specs.Resolve.{source_of}
 use Rattle.uc_meaning.specs.declared.entry.EntryKind.TheVariants as kind
@@ -90,3 +90,25 @@ escaped_journal = opening ++ entry kind.Fault 0 0 1 0 (pos 13) (pos 4) ∷ []
 
 pub record EscapedRun : Type 0 where
   pub run : IsRun (source_of escaped_text) [] options escaped_journal
+
+-- line 1: _Event E {};
+-- line 2: class A { public: ~A() { cout << '-'; } };
+-- line 3: int f() { A a; try { A b; _Resume E(); cout << '+'; } _CatchResume (E & e) { return 7; } return 1; }
+-- line 4: void uMain::main() { cout << f(); }
+abbrev object : List ℕ → Stmt
+object name = Declare (at 3) (base.Named (codes "A")) (variable 3 name NoStart ∷ [])
+
+abbrev handing : ℕ → Stmt
+handing n = Return (at 3) (Some (number 3 n))
+
+abbrev pub returned_text : Program
+returned_text = record {
+  items = event 1 (codes "E") [] ∷ class 2 (codes "A") (destructor 2 (codes "A") (Print (at 2) (character 2 45 ∷ []) ∷ []) ∷ []) ∷ RoutineItem (routine 3 (sig 3 owner.Here role.Plain base.Int (codes "f") []) [] (object (codes "a") ∷ guarded 3 (object (codes "b") ∷ Raise (at 3) (raised 3 []) ∷ Print (at 3) (character 3 43 ∷ []) ∷ []) (handles 3 handler_kind.CatchResume (handing 7 ∷ [])) ∷ handing 1 ∷ [])) ∷ main 4 (Print (at 4) (value 4 (called 4 (codes "f") []) ∷ []) ∷ []) ∷ [];
+}
+
+-- --7: a return in a resumption handler leaves the routine in which the handler stands, from the raise on
+abbrev pub returned_journal : Journal
+returned_journal = opening ++ prints 2 1 45 ∷ prints 1 1 45 ∷ prints 0 0 7 ∷ done
+
+pub record ReturnedRun : Type 0 where
+  pub run : IsRun (source_of returned_text) [] options returned_journal

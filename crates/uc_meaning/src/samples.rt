@@ -3,7 +3,7 @@
 ghost use Rattle.uc_meaning.specs.Samples.{FirstProgram, AcceptedDestructor, Sliced, Unserved, CallSamples, ConditionSamples, AcceptSamples, BusySamples, EventSamples, OtherSamples, BoundSamples};
 ghost use Rattle.uc_meaning.specs.SamplePrograms.{FirstRun, LoopRun, CallRun};
 ghost use Rattle.uc_meaning.specs.ObjectSamples.{NestedRun, ArrayRun, MemberRun, UnwrittenRun, ReferenceRun};
-ghost use Rattle.uc_meaning.specs.RaisingSamples.{ThrownRun, ResumedRun, EscapedRun};
+ghost use Rattle.uc_meaning.specs.RaisingSamples.{ThrownRun, ResumedRun, EscapedRun, ReturnedRun};
 
 /// The journal of a program that prints one line is a run of a kernel.
 pub fn first_program()
@@ -114,4 +114,9 @@ pub fn resumed_run()
 /// So is that of a program in which an event escapes from a destructor while its block is unwound.
 pub fn escaped_run()
     ensures { EscapedRun }
+{}
+
+/// So is that of a program in which a resumption handler returns: all from the raise on is unwound.
+pub fn returned_run()
+    ensures { ReturnedRun }
 {}
