@@ -150,17 +150,17 @@ abbrev pub handler_count : Handlers → ℕ
 handler_count NoHandlers = 0
 handler_count (MoreHandlers resumes event cell line body rest) = suc (handler_count rest)
 
--- how many handlers and clean-ups a piece stands for
+-- how many handlers and clean-ups a piece stands for: what ends a return, or all unwinding, is one
 abbrev pub count_by : Sort → ℕ
 count_by Simple = 0
 count_by (IsLoop o t e b) = 0
-count_by IsWhole = 0
+count_by IsWhole = 1
 count_by (IsClean c) = 1
 count_by (IsFill n b d) = 1
 count_by (IsSweep e) = 1
 count_by (IsPart c) = 1
 count_by (IsGuard hs) = handler_count hs
-count_by IsFinish = 0
+count_by IsFinish = 1
 
 -- how many stand round what is done first
 abbrev pub count_round : List Todo → ℕ
