@@ -253,11 +253,11 @@ module _ {C V : Type 0} where
   abbrev pub left_for : Bool → Activation C V → List (Activation C V) → Env C V → State C V
   left_for counts c cs e = record { run = c; callers = cs; env = record e { frames = others e.frames; links = one_call_less counts e.links } }
 
-  -- a resumption handler begins with this to do, for this object, with the variables of the frame of this depth and an empty frame of
+  -- a resumption handler begins with this to do, these operands, for this object, with the variables of the frame of this depth and an empty frame of
   -- its own, and with how far the search for it came, before one that waits for it
-  abbrev pub handler_entered : C → V → ℕ → V → Visited → Activation C V → List (Activation C V) → Env C V → State C V
-  handler_entered todo this frame nothing v c cs e =
-      record { run = record (begun todo this frame nothing false) { handles = Some v }; callers = c ∷ cs; env = record e { frames = [] ∷ e.frames } }
+  abbrev pub handler_entered : C → List V → V → ℕ → V → Visited → Activation C V → List (Activation C V) → Env C V → State C V
+  handler_entered todo operands this frame nothing v c cs e =
+      record { run = record (begun todo this frame nothing false) { operands = operands; handles = Some v }; callers = c ∷ cs; env = record e { frames = [] ∷ e.frames } }
 
   -- an activation is unwound for this reason, with this to do; where a return arrives, it hands over this
   abbrev pub unwound : C → Reason → V → Activation C V → Activation C V

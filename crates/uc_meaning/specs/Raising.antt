@@ -2,7 +2,6 @@
 use Rattle.std.specs.Prelude.{ℕ, suc, ◌+◌, ◌&&◌, ℤ, pos, negsuc, List, [], ◌∷◌, length, Option, Some, None, Bool, true, false, nat_eq, nat_lt, ◌^◌, if◌then◌else◌, not}
 use Rattle.uc_tree.specs.Hidden.{EVENT_FIELDS}
 use Rattle.uc_tree.specs.Source.{Literal, Get, Stmts, Handlers, NoHandlers, MoreHandlers, Raised, Plainly, BuiltAt, AgainFrom}
-use Rattle.uc_meaning.specs.declared.exec.Owner.TheVariants.{Frame}
 use Rattle.uc_meaning.specs.declared.fault.RunFault.TheVariants.{Unhandled, EscapeInUnwind}
 use Rattle.uc_meaning.specs.Faults.{fault_number}
 use Rattle.uc_meaning.specs.declared.request.Request.TheVariants as ask
@@ -10,7 +9,7 @@ use Rattle.uc_meaning.specs.Executions.{left_for, handler_entered, unwound, calm
 use Rattle.uc_meaning.specs.declared.exec.Reason.{Reason}
 use Rattle.uc_meaning.specs.declared.exec.Reason.TheVariants as reason
 use Rattle.uc_meaning.specs.declared.exec.Visited.{Visited}
-use Rattle.uc_meaning.specs.Pieces.{Value, Todo, Sort, sort, Active, State, Env, Step, top, below, number, written, goes, fault, return_step, clean_todo, Slot, Number, Place, Nothing, Eval, DropNow, ClearNow, Rest, Within, Sweep, Unwind, Finish, Simple, IsLoop, IsWhole, IsClean, IsFill, IsSweep, IsPart, IsGuard, IsFinish, Goes, Asks}
+use Rattle.uc_meaning.specs.Pieces.{Value, Todo, Sort, sort, Active, State, Step, top, below, number, goes, fault, return_step, clean_todo, Number, Nothing, Eval, SetNow, DropNow, ClearNow, Rest, Within, Sweep, Unwind, Finish, Simple, IsLoop, IsWhole, IsClean, IsFill, IsSweep, IsPart, IsGuard, IsFinish, Goes, Asks}
 
 -- an event with its fields, which are 0 where it has none
 pub record Event : Type 0 where
@@ -57,17 +56,13 @@ handler_for kind e NoHandlers = None
 handler_for kind e (MoreHandlers resumes event cell line body rest) =
     if same_kind kind resumes && takes event e then Some (record { cell = cell; line = line; body = body }) else handler_for kind e rest
 
+-- a handler keeps its event, which it finds as its newest operands, and then does its statements
 abbrev pub handler_todo : Handler → List Todo → List Todo
-handler_todo h todo = Rest h.body ∷ (Within h.line ∷ todo)
+handler_todo h todo =
+    SetNow (h.cell + 2) ∷ (DropNow ∷ (SetNow (h.cell + 1) ∷ (DropNow ∷ (SetNow h.cell ∷ (DropNow ∷ (Rest h.body ∷ (Within h.line ∷ todo)))))))
 
--- a variable of the frame of this depth
-abbrev pub slot_at : ℕ → ℕ → State → Value
-slot_at depth k s = Place (Frame s.env.exec depth) (Slot k ∷ [])
-
--- a handler that uses the frame of this depth keeps its event there
-abbrev pub with_event : ℕ → ℕ → Event → State → Env
-with_event depth k e s =
-    written (slot_at depth (k + 2) s) (Number e.y) (written (slot_at depth (k + 1) s) (Number e.x) (written (slot_at depth k s) (Number (pos e.number)) s.env))
+abbrev pub operands_of : Event → List Value
+operands_of e = Number e.y ∷ (Number e.x ∷ (Number (pos e.number) ∷ []))
 
 -- unwinding: the pieces of an activation are left one by one, then the activation, for the one that waits for it
 
@@ -82,7 +77,7 @@ unwinds todo s = goes (Unwind ∷ todo) [] s
 -- the handler that catches an event runs behind its guarded block
 abbrev pub catch_step : Option Handler → Event → List Todo → State → Step
 catch_step None e todo s = unwinds todo s
-catch_step (Some h) e todo s = Goes (record s { run = calmed (handler_todo h todo) s.run; env = with_event s.run.frame h.cell e s })
+catch_step (Some h) e todo s = Goes (record s { run = record (calmed (handler_todo h todo) s.run) { operands = operands_of e } })
 
 -- a guarded block is left; none stops a return
 abbrev pub guard_left : Handlers → Option Reason → List Todo → State → Step
@@ -225,7 +220,7 @@ seek (Some v) e (a ∷ others) =
 abbrev pub handle_step : Option Found → Event → List Todo → State → Step
 handle_step None e todo s = throw_step e todo s
 handle_step (Some f) e todo s =
-    Goes (handler_entered (handler_todo f.handler []) f.this f.frame Nothing f.visited (record s.run { control = DropNow ∷ todo; operands = below (below (below s.run.operands)) }) s.callers (with_event f.frame f.handler.cell e s))
+    Goes (handler_entered (handler_todo f.handler []) (operands_of e) f.this f.frame Nothing f.visited (record s.run { control = DropNow ∷ todo; operands = below (below (below s.run.operands)) }) s.callers s.env)
 
 -- an event is resumed
 abbrev pub raise_step : Event → List Todo → State → Step
