@@ -1,5 +1,5 @@
 -- A ride keeps the objects that its task is inside, and asks one of few requests.
-use Rattle.std.proofs.Common.{◌≡◌, ℕ, Bool, true, false, cond, List, [], ◌∷◌, Option, Some, None, refl, sym, ap, ◌∙◌, subst, map}
+use Rattle.std.proofs.Common.{◌≡◌, ℕ, zero, suc, Bool, true, false, cond, List, [], ◌∷◌, Option, Some, None, refl, sym, ap, ◌∙◌, subst, map}
 use Rattle.std.specs.Prelude.{nat_eq, nat_lt, slice_get}
 use Rattle.std.proofs.lemmas.Bool.{eqb-true}
 use Rattle.uc_meaning.specs.declared.exec.Exec.{Exec}
@@ -9,10 +9,10 @@ use Rattle.uc_meaning.specs.declared.exec.Owner.{Owner}
 use Rattle.uc_meaning.specs.declared.exec.Owner.TheVariants.{Frame, Fields}
 use Rattle.uc_meaning.specs.declared.request.Asked.{Asked}
 use Rattle.uc_meaning.specs.declared.request.Piece.{Piece}
-use Rattle.uc_tree.specs.Source.{Shape, Expr, Literal, Variable, Element, Load, Negated, Not, AsCharacter, AsTruth, Operate, And, Or, Assign, Update, StepBehind, Fail, Get, Set, First, Call, OfObject, NoExprs, MoreExprs, Way, ToBreak, ToContinue, ToReturn, ToEnd, Stmt, Skip, Block, Evaluate, Declare, Print, PrintTogether, Read, If, Loop, Break, Continue, Return, OfEvents, OfTasks, Stmts, Nil, Then, Scoped, Routine, Source}
+use Rattle.uc_tree.specs.Source.{Shape, Expr, Literal, Variable, Element, Load, Negated, Not, AsCharacter, AsTruth, Operate, And, Or, Assign, Update, StepBehind, Fail, Get, Set, First, Call, OfObject, ObjectExpr, This, OwnField, GetOwn, FieldOf, Counted, CallOn, CallUnwritten, EnterOn, Wait, Signal, SignalBlock, IsEmpty, FrontOf, NoExprs, MoreExprs, Way, ToBreak, ToContinue, ToReturn, ToEnd, Stmt, Skip, Block, Whole, Evaluate, Declare, Print, PrintTogether, Read, If, Loop, Break, Continue, Return, Fill, OfEvents, OfTasks, Stmts, Nil, Then, Scoped, Built, Routine, Source}
 use Rattle.uc_meaning.specs.Executions.{update, set_members, members_at, change_in, change, with_owned, exec_eq, values_cleared}
 use Rattle.uc_meaning.specs.Quiet as q
-use Rattle.uc_meaning.specs.Quiet.{Active, State, Env, Members, Todo, Step, Goes, Ticks, Asks, Outcome, Gives, Faults, Eval, LoadNow, ElementNow, NegateNow, NotNow, CharacterNow, TruthNow, OperateNow, CopyNow, CopyBelowNow, DropNow, DropBelowNow, StoreNow, KeepNow, SetNow, Choose, Branch, TickNow, TurnNow, Arguments, CallNow, Again, PrintNow, TextNow, GatherNow, FlushNow, ReadNow, ClearNow, Items, Values, Pieces, Targets, Variables, Do, Rest, Within, Exit, NoReturnNow, InLoop, Finish, Value, Number, Place, Running, Nothing, quiet, act_todo, act, eval_step, stmt_step, rest_step, call_step, exit_step, end_step, outcome_step, element_step, print_step, flush_step, return_step, written, outcome, index_in, number, top, below}
+use Rattle.uc_meaning.specs.Quiet.{Active, State, Env, Members, Todo, Step, Goes, Ticks, Asks, Outcome, Gives, Faults, Eval, LoadNow, ElementNow, FieldNow, NegateNow, NotNow, CharacterNow, TruthNow, OperateNow, CopyNow, CopyBelowNow, DropNow, DropBelowNow, StoreNow, KeepNow, SetNow, Choose, Branch, TickNow, TurnNow, Arguments, CallNow, CallOnNow, CallUnwrittenNow, CountNow, MoreNow, FillNow, Again, PrintNow, TextNow, GatherNow, FlushNow, ReadNow, ClearNow, Items, Values, Pieces, Targets, Variables, Do, Rest, Within, Exit, NoReturnNow, InLoop, InWhole, Clean, Sweep, Part, Finish, Value, Number, Place, Running, Nothing, quiet, act_todo, act, object_step, eval_step, stmt_step, rest_step, call_step, call_on_step, call_unwritten_step, sweep_step, exit_step, end_step, outcome_step, element_step, print_step, flush_step, return_step, written, outcome, index_in, number, top, below}
 use Rattle.uc_meaning.specs.Rides.{Rides, slices, goes_on, ticks, asks}
 use Rattle.uc_tree.specs.declared.limits.TheConstants.{CALLS}
 use Rattle.uc_alone.specs.Kept.{is_few}
@@ -102,6 +102,21 @@ exit_keeps : (w : Way) (todo : List Todo) (s : State) → Keeps (inside_of s) (e
 exit_keeps w [] s = end_keeps w s
 exit_keeps w (p ∷ ps) s = refl
 
+object_keeps : (o : ObjectExpr) (todo : List Todo) (s : State) → Keeps (inside_of s) (object_step o todo s)
+object_keeps This todo s = refl
+object_keeps (OwnField k i) todo s = refl
+object_keeps (GetOwn k i) todo s = refl
+object_keeps (FieldOf k i a) todo s = refl
+object_keeps Counted todo s = refl
+object_keeps (CallOn r a es) todo s = refl
+object_keeps (CallUnwritten r a) todo s = refl
+object_keeps (EnterOn m r a es) todo s = refl
+object_keeps (Wait a b) todo s = refl
+object_keeps (Signal a) todo s = refl
+object_keeps (SignalBlock a) todo s = refl
+object_keeps (IsEmpty a) todo s = refl
+object_keeps (FrontOf a) todo s = refl
+
 eval_keeps : (a : Expr) (todo : List Todo) (s : State) → Keeps (inside_of s) (eval_step a todo s)
 eval_keeps (Literal n) todo s = refl
 eval_keeps (Variable k) todo s = refl
@@ -122,11 +137,12 @@ eval_keeps (Get k) todo s = refl
 eval_keeps (Set k a) todo s = refl
 eval_keeps (First a b) todo s = refl
 eval_keeps (Call r es) todo s = refl
-eval_keeps (OfObject o) todo s = refl
+eval_keeps (OfObject o) todo s = object_keeps o todo s
 
 stmt_keeps : (a : Stmt) (todo : List Todo) (s : State) → Keeps (inside_of s) (stmt_step a todo s)
 stmt_keeps (Skip line) todo s = refl
 stmt_keeps (Block line body) todo s = refl
+stmt_keeps (Whole line body) todo s = refl
 stmt_keeps (Evaluate line a) todo s = refl
 stmt_keeps (Declare line ds) todo s = refl
 stmt_keeps (Print line items) todo s = refl
@@ -138,13 +154,15 @@ stmt_keeps (Break line) todo s = refl
 stmt_keeps (Continue line) todo s = refl
 stmt_keeps (Return line None) todo s = refl
 stmt_keeps (Return line (Some e)) todo s = refl
+stmt_keeps (Fill line n b d) todo s = refl
 stmt_keeps (OfEvents a) todo s = refl
 stmt_keeps (OfTasks a) todo s = refl
 
 rest_keeps : (ss : Stmts) (todo : List Todo) (s : State) → Keeps (inside_of s) (rest_step ss todo s)
 rest_keeps Nil todo s = refl
 rest_keeps (Then a rest) todo s = refl
-rest_keeps (Scoped line e c rest) todo s = refl
+rest_keeps (Scoped c rest) todo s = refl
+rest_keeps (Built c rest) todo s = refl
 
 -- one of two steps
 either_keeps : (b : Bool) (ks : List ℕ) (x y : Step) → Keeps ks x → Keeps ks y → Keeps ks (cond b x y)
@@ -155,12 +173,25 @@ call_keeps : (r : Option Routine) (todo : List Todo) (s : State) → Keeps (insi
 call_keeps None todo s = (refl, refl)
 call_keeps (Some r) todo s = either_keeps (nat_lt s.env.links.calls CALLS) (inside_of s) _ _ refl (refl, refl)
 
+call_on_keeps : (r : Option Routine) (todo : List Todo) (s : State) → Keeps (inside_of s) (call_on_step r todo s)
+call_on_keeps None todo s = (refl, refl)
+call_on_keeps (Some r) todo s = either_keeps (nat_lt s.env.links.calls CALLS) (inside_of s) _ _ refl (refl, refl)
+
+sweep_keeps : (n : ℕ) (e : Expr) (todo : List Todo) (s : State) → Keeps (inside_of s) (sweep_step n e todo s)
+sweep_keeps zero e todo s = refl
+sweep_keeps (suc n) e todo s = refl
+
+call_unwritten_keeps : (r : Option Routine) (todo : List Todo) (s : State) → Keeps (inside_of s) (call_unwritten_step r todo s)
+call_unwritten_keeps None todo s = (refl, refl)
+call_unwritten_keeps (Some r) todo s = refl
+
 module _ (source : Source) where
   act_keeps : (t : Todo) (todo : List Todo) (s : State) → Keeps (inside_of s) (act source t todo s)
   act_keeps (Eval a) todo s = eval_keeps a todo s
   act_keeps LoadNow todo s = refl
   act_keeps (ElementNow n k) todo s =
       element_keeps k (index_in n (number (top s.run.operands))) todo (top (below s.run.operands)) (below (below s.run.operands)) s
+  act_keeps (FieldNow k i) todo s = refl
   act_keeps NegateNow todo s = outcome_keeps _ todo (below s.run.operands) s
   act_keeps NotNow todo s = refl
   act_keeps CharacterNow todo s = refl
@@ -181,6 +212,11 @@ module _ (source : Source) where
   act_keeps (Arguments NoExprs) todo s = refl
   act_keeps (Arguments (MoreExprs e es)) todo s = refl
   act_keeps (CallNow r) todo s = call_keeps (slice_get source.routines r) todo s
+  act_keeps (CallOnNow r) todo s = call_on_keeps (slice_get source.routines r) todo s
+  act_keeps (CallUnwrittenNow r) todo s = call_unwritten_keeps (slice_get source.routines r) todo s
+  act_keeps (CountNow n) todo s = refl
+  act_keeps MoreNow todo s = refl
+  act_keeps (FillNow n b d) todo s = refl
   act_keeps (Again o t e b) todo s = refl
   act_keeps (PrintNow form) todo s = print_keeps s.env.gathered _ todo (below s.run.operands) s
   act_keeps (TextNow k) todo s = print_keeps s.env.gathered _ todo s.run.operands s
@@ -204,6 +240,10 @@ module _ (source : Source) where
   act_keeps (Exit w) todo s = exit_keeps w todo s
   act_keeps NoReturnNow todo s = (refl, refl)
   act_keeps (InLoop o t e b) todo s = refl
+  act_keeps InWhole todo s = refl
+  act_keeps (Clean c) todo s = refl
+  act_keeps (Sweep e) todo s = sweep_keeps s.run.elements e todo s
+  act_keeps (Part c) todo s = refl
   act_keeps Finish todo s = return_keeps q.nought s.callers s
 
   todo_keeps : (ts : List Todo) (s : State) → Keeps (inside_of s) (act_todo source ts s)

@@ -1,0 +1,2 @@
+pub mod BuiltForms
+pub mod Accepted

@@ -4,12 +4,11 @@ ghost use Rattle.std.specs.Prelude.{◌≡◌};
 ghost use Rattle.std.specs.List.{list_any};
 ghost use Rattle.uc_tree.specs.Statements.{stmts_of};
 ghost use Rattle.uc_tree.specs.ProgramMain.{is_main_item};
-ghost use Rattle.uc_tree.specs.Numbering.{is_plain};
-ghost use Rattle.uc_meaning.specs.BuiltForms.{is_scalar_base, are_plain, is_built_start, is_built_stmt, are_built, is_built_result, are_scalars, is_classless, is_built_sig, is_built_routine, is_built_item, are_built_items, has_main, is_built};
+ghost use Rattle.uc_built.specs.BuiltForms.{are_built, are_built_items, are_built_members, are_built_params, are_plain, has_main, is_built, is_built_base, is_built_class, is_built_item, is_built_member, is_built_result, is_built_routine, is_built_sig, is_built_start, is_built_stmt, is_class_kind, is_scalar_base};
 
-use uc_tree::class::{Routine, Sig};
+use uc_tree::class::{Class, Member, MemberForm, Routine, Sig};
 use uc_tree::declare::{Declarator, ForForm, ForStart};
-use uc_tree::kinds::{Base, Owner, Param, Role};
+use uc_tree::kinds::{Base, Kind, Param};
 use uc_tree::program::{Item, ItemForm, Program};
 use uc_tree::stmt::{Stmt, StmtForm};
 
@@ -25,6 +24,21 @@ fn is_scalar_base(base: &Base) -> bool
         Base::Cluster => false,
         Base::Processor => false,
         Base::Named(_) => false,
+    }
+}
+
+fn is_built_base(base: &Base) -> bool
+    ensures { result ≡ is_built_base base.now }
+{
+    match base {
+        Base::Void => false,
+        Base::Int => true,
+        Base::Char => true,
+        Base::Bool => true,
+        Base::Condition => false,
+        Base::Cluster => false,
+        Base::Processor => false,
+        Base::Named(_) => true,
     }
 }
 
@@ -48,7 +62,7 @@ fn is_built_start(start: &ForStart) -> bool
             base,
             declarators,
             ..
-        } => is_scalar_base(base) && are_plain(declarators),
+        } => is_built_base(base) && are_plain(declarators),
         ForForm::Evaluate { .. } => true,
     }
 }
@@ -61,7 +75,7 @@ fn is_built_stmt(s: &Stmt) -> bool
         StmtForm::Block { body } => are_built(body),
         StmtForm::Empty => true,
         StmtForm::Evaluate { .. } => true,
-        StmtForm::Declare { base, declarators } => is_scalar_base(base) && are_plain(declarators),
+        StmtForm::Declare { base, declarators } => is_built_base(base) && are_plain(declarators),
         StmtForm::If { chosen, other, .. } => match other {
             None => is_built_stmt(chosen),
             Some(other) => is_built_stmt(chosen) && is_built_stmt(other),
@@ -116,59 +130,78 @@ fn is_built_result(base: &Base) -> bool
     }
 }
 
-fn are_scalars(params: &[Param]) -> bool
-    ensures { result ≡ are_scalars params.now }
+fn are_built_params(params: &[Param]) -> bool
+    ensures { result ≡ are_built_params params.now }
 {
     for param in params {
-        if !is_scalar_base(&param.base) {
+        if !is_built_base(&param.base) {
             return false;
         }
     }
     true
 }
 
-fn is_classless(owner: &Owner) -> bool
-    ensures { result ≡ is_classless owner.now }
-{
-    match owner {
-        Owner::Here => true,
-        Owner::Main => true,
-        Owner::Class(_) => false,
-    }
-}
-
-fn is_plain(role: Role) -> bool
-    ensures { result ≡ is_plain role }
-{
-    match role {
-        Role::Plain => true,
-        Role::Constructor => false,
-        Role::Destructor => false,
-    }
-}
-
 fn is_built_sig(sig: &Sig) -> bool
     ensures { result ≡ is_built_sig sig.now }
 {
-    is_classless(&sig.owner)
-        && (is_plain(sig.role) && (is_built_result(&sig.ret) && are_scalars(&sig.params)))
+    is_built_result(&sig.ret) && are_built_params(&sig.params)
 }
 
 fn is_built_routine(routine: &Routine) -> bool
     ensures { result ≡ is_built_routine routine.now }
 {
-    is_built_sig(&routine.sig) && (routine.inits.is_empty() && are_built(&routine.body))
+    is_built_sig(&routine.sig) && are_built(&routine.body)
+}
+
+fn is_class_kind(kind: Kind) -> bool
+    ensures { result ≡ is_class_kind kind }
+{
+    match kind {
+        Kind::Class => true,
+        Kind::Coroutine => false,
+        Kind::Monitor => false,
+        Kind::Cormonitor => false,
+        Kind::Task => false,
+        Kind::Event => false,
+    }
+}
+
+fn is_built_member(member: &Member) -> bool
+    ensures { result ≡ is_built_member member.now.form }
+{
+    match &member.form {
+        MemberForm::Fields { base, .. } => is_built_base(base),
+        MemberForm::Routine { routine } => is_built_routine(routine),
+        MemberForm::Proto { sig } => is_built_sig(sig),
+    }
+}
+
+fn are_built_members(members: &[Member]) -> bool
+    ensures { result ≡ are_built_members members.now }
+{
+    for member in members {
+        if !is_built_member(member) {
+            return false;
+        }
+    }
+    true
+}
+
+fn is_built_class(class: &Class) -> bool
+    ensures { result ≡ is_built_class class.now }
+{
+    is_class_kind(class.kind) && are_built_members(&class.members)
 }
 
 fn is_built_item(item: &Item) -> bool
     ensures { result ≡ is_built_item item.now }
 {
     match &item.form {
-        ItemForm::Class { .. } => false,
+        ItemForm::Class { class } => is_built_class(class),
         ItemForm::Routine { routine } => is_built_routine(routine),
         ItemForm::Constant { constant } => is_scalar_base(&constant.base),
         ItemForm::Proto { sig } => is_built_sig(sig),
-        ItemForm::Forward { .. } => false,
+        ItemForm::Forward { forward } => is_class_kind(forward.kind),
         ItemForm::Using { .. } => true,
     }
 }

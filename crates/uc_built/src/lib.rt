@@ -2,7 +2,7 @@
 #![tactic(auto)]
 
 ghost use Rattle.std.specs.Prelude.{◌≡◌};
-ghost use Rattle.uc_meaning.specs.BuiltForms.{is_built};
+ghost use Rattle.uc_built.specs.BuiltForms.{is_built};
 
 mod forms;
 

@@ -5,7 +5,18 @@ use Rattle.uc_code.specs.declared.op.Op.{Op}
 use Rattle.uc_code.specs.declared.rows.Instruction.{Instruction}
 use Rattle.uc_code.specs.Drafts.{ops_with, patched}
 use Rattle.uc_code.specs.Laid.{Laid}
-use Rattle.uc_code.specs.Ranges.{OpAt, One, Same, Kept}
+use Rattle.uc_code.specs.Ranges.{OpAt, HandlerAt, One, Same, Kept}
+
+-- a clean-up stays where the rows do
+pub handler_stays : (old new : Laid) → new.rows ≡ old.rows → (number entry : ℕ) → HandlerAt old number entry → HandlerAt new number entry
+handler_stays old new e number entry h = record {
+  row = h.row;
+  there = ap (λ rs. slice_get rs number) e ∙ h.there;
+  kind = h.kind;
+  event = h.event;
+  entry_is = h.entry_is;
+  is_set = h.is_set;
+}
 
 get_front : (xs ys : List Instruction) (i : ℕ) (x : Instruction) → slice_get xs i ≡ Some x → slice_get (xs ++ ys) i ≡ Some x
 get_front [] ys i x e = cc
@@ -22,6 +33,7 @@ kept_with code op line = record {
   longer = omega (arith, length-append code.ops (record { op = op; line = line } ∷ []));
   same = λ i x l o. record { here = get_front code.ops (record { op = op; line = line } ∷ []) i (record { op = x; line = l }) o.here };
   chains = λ next h. refl;
+  handlers = handler_stays code (record code { ops = ops_with code.ops op line }) refl;
 }
 
 pub one_with : (code : Laid) (op : Op) (line : ℕ) → One (record code { ops = ops_with code.ops op line }) op line (length code.ops) (length (ops_with code.ops op line))
@@ -58,12 +70,14 @@ pub same_before : (code : Laid) (at : ℕ) (op : Op) (a z : ℕ) → z ≤ at �
 same_before code at op a z h = record {
   same = λ i x l m n o. record { here = get_unpatched code.ops at op i (λ e. absurd (omega arith)) ∙ o.here };
   chains = λ next m n. refl;
+  handlers = handler_stays code (record code { ops = patched code.ops at op }) refl;
 }
 
 pub same_after : (code : Laid) (at : ℕ) (op : Op) (a z : ℕ) → at < a → Same code (record code { ops = patched code.ops at op }) a z
 same_after code at op a z h = record {
   same = λ i x l m n o. record { here = get_unpatched code.ops at op i (λ e. absurd (omega arith)) ∙ o.here };
   chains = λ next m n. refl;
+  handlers = handler_stays code (record code { ops = patched code.ops at op }) refl;
 }
 
 pub patched_set : (ops : List Instruction) (at : ℕ) (op : Op) (d : Instruction) → at < length ops → slice_set ops at (record { op = op; line = (get_or ops at d).line }) ≡ patched ops at op

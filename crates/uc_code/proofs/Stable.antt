@@ -1,36 +1,40 @@
 -- The code of a piece goes on standing where its own range does not change.
-use Rattle.std.proofs.Common.{ℕ, ◌+◌, ◌≤◌, length, arith, refl, ◌∙◌}
+use Rattle.std.proofs.Common.{ℕ, ◌+◌, ◌≤◌, List, ◌∷◌, length, arith, refl, ◌∙◌}
 use Rattle.uc_code.specs.declared.op.Op.{Op}
 use Rattle.uc_tree.specs.Source.{Order, TestFirst, BodyFirst, NoTest}
-use Rattle.uc_code.specs.declared.op.Op.TheVariants.{Jump, IfZero, IfNonzero, Tick}
+use Rattle.uc_code.specs.declared.op.Op.TheVariants.{Jump, IfZero, IfNonzero, Tick, CallUnwritten, Count, Unwind}
 use Rattle.uc_code.specs.declared.rows.Mark.{Mark}
+use Rattle.uc_code.specs.declared.rows.Mark.TheVariants.{Whole, Elements}
 use Rattle.uc_code.specs.Laid.{Laid}
-use Rattle.uc_code.specs.Ranges.{Nothing, Never, One, Both, Behind, When, Unless, Fork, Leads, Arrived, Jumped, pads_at, begin_at, BackAt, Turns, Same, Kept, Stable}
+use Rattle.uc_code.specs.Ranges.{Nothing, Never, One, Risk, CallsBehind, Both, Behind, When, Unless, Fork, Leads, Arrived, Jumped, pads_at, begin_at, BackAt, Turns, WholeAt, Rounds, OverElements, ScopeOf, BehindPart, Same, Kept, Stable}
 
 pub part : (old new : Laid) (a z b y : ℕ) → a ≤ b → y ≤ z → Same old new a z → Same old new b y
 part old new a z b y h k s = record {
   same = λ i op line l m o. s.same i op line (omega arith) (omega arith) o;
   chains = λ next l m. s.chains next (omega arith) (omega arith);
+  handlers = s.handlers;
 }
 
 pub same_then : (b c d : Laid) (a z : ℕ) → Same b c a z → Same c d a z → Same b d a z
 same_then b c d a z s t = record {
   same = λ i op line l m o. t.same i op line l m (s.same i op line l m o);
   chains = λ next l m. t.chains next l m ∙ s.chains next l m;
+  handlers = λ k e h. t.handlers k e (s.handlers k e h);
 }
 
 -- a range that is laid out stays
 pub kept_same : (old new : Laid) (a z : ℕ) → z ≤ length old.ops → Kept old new → Same old new a z
-kept_same old new a z b k = record { same = λ i op line l m o. k.same i op line o; chains = λ next l m. k.chains next (omega arith) }
+kept_same old new a z b k = record { same = λ i op line l m o. k.same i op line o; chains = λ next l m. k.chains next (omega arith); handlers = k.handlers }
 
 pub kept_refl : (code : Laid) → Kept code code
-kept_refl code = record { longer = omega arith; same = λ i op line h. h; chains = λ next h. refl }
+kept_refl code = record { longer = omega arith; same = λ i op line h. h; chains = λ next h. refl; handlers = λ k e h. h }
 
 pub kept_then : (a b c : Laid) → Kept a b → Kept b c → Kept a c
 kept_then a b c h k = record {
   longer = let l = h.longer in let m = k.longer in omega arith;
   same = λ i op line o. k.same i op line (h.same i op line o);
   chains = λ next l. let m = h.longer in k.chains next (omega arith) ∙ h.chains next l;
+  handlers = λ n e o. k.handlers n e (h.handlers n e o);
 }
 
 pub nothing_stable : Stable (λ code. Nothing)
@@ -46,6 +50,20 @@ pub one_stable : (op : Op) (line : ℕ) → Stable (λ code. One code op line)
 one_stable op line = record {
   rises = λ code a z h. let e = h.end in omega arith;
   moves = λ old new a z s h. let e = h.end in record { here = s.same a op line (omega arith) (omega arith) h.here; end = h.end };
+}
+
+pub risk_stable : (ms : List Mark) (op : Op) (line : ℕ) → Stable (λ code. Risk code ms op line)
+risk_stable ms op line = record {
+  rises = λ code a z h. let e = h.end in omega arith;
+  moves = λ old new a z s h.
+      let e = h.end in
+      record { here = s.same a op line (omega arith) (omega arith) h.here; end = h.end; under = s.chains z (omega arith) (omega arith) ∙ h.under };
+}
+
+pub calls_behind_stable : (ms : List Mark) (r line : ℕ) → Stable (λ code. CallsBehind code ms r line)
+calls_behind_stable ms r line = record {
+  rises = λ code a z h. (risk_stable ms (CallUnwritten r) line).rises code a z h.risk;
+  moves = λ old new a z s h. record { risk = (risk_stable ms (CallUnwritten r) line).moves old new a z s h.risk; behind = h.behind };
 }
 
 module _ (B : Laid → ℕ → ℕ → Type 0) (b : Stable B) where
@@ -150,5 +168,113 @@ module _ (line : ℕ) (order : Order) (T S : Laid → ℕ → ℕ → Type 0) (B
           body = (b (pads_at a)).moves old new (a + 4) h.step_at (part old new a z (a + 4) h.step_at (omega arith) (omega arith) w) h.body;
           step = s.moves old new h.step_at h.test_at (part old new a z h.step_at h.test_at (omega arith) (omega arith) w) h.step;
           back = (back_stable order T (a + 3) line t).moves old new h.test_at z (part old new a z h.test_at z (omega arith) (omega arith) w) h.back;
+        };
+  }
+
+-- a block that is left as a whole
+
+pub whole_stable : (line : ℕ) (B : Laid → Mark → ℕ → ℕ → Type 0) → ((m : Mark) → Stable (λ code. B code m)) → Stable (λ code. WholeAt code line (B code))
+whole_stable line B b = record {
+  rises = λ code a z h. let l = (b (Whole (a + 1))).rises code (a + 2) z h.body in omega arith;
+  moves = λ old new a z s h.
+      let l = (b (Whole (a + 1))).rises old (a + 2) z h.body in
+      record {
+        begin = s.same a (Jump (a + 2)) line (omega arith) (omega arith) h.begin;
+        leave = s.same (a + 1) (Jump z) line (omega arith) (omega arith) h.leave;
+        body = (b (Whole (a + 1))).moves old new (a + 2) z (part old new a z (a + 2) z (omega arith) (omega arith) s) h.body;
+      };
+}
+
+-- turns over elements
+
+module _ (line : ℕ) (back : ℕ → Op) (T : Laid → ℕ → ℕ → Type 0) (t : Stable T) (test : ℕ) where
+  pub rounds_rise : (code : Laid) (a z : ℕ) → Rounds code line back (T code) test a z → a + 1 ≤ z
+  rounds_rise code a z h = let l = t.rises code a test h.turn in let e = h.end in omega arith
+
+  pub rounds_stable : Stable (λ code. Rounds code line back (T code) test)
+  rounds_stable = record {
+    rises = λ code a z h. let l = rounds_rise code a z h in omega arith;
+    moves = λ old new a z s h.
+        let l = t.rises old a test h.turn in
+        let e = h.end in
+        record {
+          turn = t.moves old new a test (part old new a z a test (omega arith) (omega arith) s) h.turn;
+          again = s.same test (back a) line (omega arith) (omega arith) h.again;
+          end = h.end;
+        };
+  }
+
+module _ (line : ℕ) (ms : List Mark) (first most : ℕ) (back undo : ℕ → Op) (T D : Laid → List Mark → ℕ → ℕ → Type 0) (t : (ns : List Mark) → Stable (λ code. T code ns)) (d : (ns : List Mark) → Stable (λ code. D code ns)) where
+  pub elements_stable : Stable (λ code. OverElements code line ms first most back undo (T code) (D code))
+  elements_stable = record {
+    rises = λ code a z h.
+        let k = (rounds_stable line back (λ c. T c (Elements h.row ∷ ms)) (t (Elements h.row ∷ ms)) h.test).rises code (a + 1) (h.test + 1) h.rounds in
+        let l = (rounds_stable line undo (λ c. D c (Elements h.row ∷ ms)) (d (Elements h.row ∷ ms)) h.entry).rises code (h.test + 2) h.end h.undoes in
+        let r = (risk_stable ms Unwind line).rises code h.end z h.unwind in
+        omega arith;
+    moves = λ old new a z s h.
+        let k = (rounds_stable line back (λ c. T c (Elements h.row ∷ ms)) (t (Elements h.row ∷ ms)) h.test).rises old (a + 1) (h.test + 1) h.rounds in
+        let l = (rounds_stable line undo (λ c. D c (Elements h.row ∷ ms)) (d (Elements h.row ∷ ms)) h.entry).rises old (h.test + 2) h.end h.undoes in
+        let e = h.unwind.end in
+        record {
+          row = h.row;
+          test = h.test;
+          entry = h.entry;
+          end = h.end;
+          few = h.few;
+          begin = s.same a (Count first h.test) line (omega arith) (omega arith) h.begin;
+          rounds = (rounds_stable line back (λ c. T c (Elements h.row ∷ ms)) (t (Elements h.row ∷ ms)) h.test).moves old new (a + 1) (h.test + 1) (part old new a z (a + 1) (h.test + 1) (omega arith) (omega arith) s) h.rounds;
+          leave = s.same (h.test + 1) (Jump z) line (omega arith) (omega arith) h.leave;
+          undoes = (rounds_stable line undo (λ c. D c (Elements h.row ∷ ms)) (d (Elements h.row ∷ ms)) h.entry).moves old new (h.test + 2) h.end (part old new a z (h.test + 2) h.end (omega arith) (omega arith) s) h.undoes;
+          unwind = (risk_stable ms Unwind line).moves old new h.end z (part old new a z h.end z (omega arith) (omega arith) s) h.unwind;
+          handler = s.handlers h.row h.entry h.handler;
+        };
+  }
+
+-- scopes of objects, and what follows a part
+
+module _ (line : ℕ) (ms : List Mark) (M : ℕ → Mark) (C : Laid → ℕ → ℕ → Type 0) (B : Laid → List Mark → ℕ → ℕ → Type 0) (c : Stable C) (b : (ns : List Mark) → Stable (λ code. B code ns)) where
+  unwinds_stable : Stable (λ code. Both (C code) (Risk code ms Unwind line))
+  unwinds_stable = both_stable C c (λ code. Risk code ms Unwind line) (risk_stable ms Unwind line)
+
+  pub scope_stable : Stable (λ code. ScopeOf code line ms M (C code) (B code))
+  scope_stable = record {
+    rises = λ code a z h.
+        let k = (b (M h.row ∷ ms)).rises code a h.body_end h.body in
+        let l = c.rises code h.body_end h.clean_end h.clean in
+        let r = unwinds_stable.rises code (h.clean_end + 1) z h.unwinds in
+        omega arith;
+    moves = λ old new a z s h.
+        let k = (b (M h.row ∷ ms)).rises old a h.body_end h.body in
+        let l = c.rises old h.body_end h.clean_end h.clean in
+        let r = unwinds_stable.rises old (h.clean_end + 1) z h.unwinds in
+        record {
+          row = h.row;
+          body_end = h.body_end;
+          clean_end = h.clean_end;
+          body = (b (M h.row ∷ ms)).moves old new a h.body_end (part old new a z a h.body_end (omega arith) (omega arith) s) h.body;
+          clean = c.moves old new h.body_end h.clean_end (part old new a z h.body_end h.clean_end (omega arith) (omega arith) s) h.clean;
+          leave = s.same h.clean_end (Jump z) line (omega arith) (omega arith) h.leave;
+          unwinds = unwinds_stable.moves old new (h.clean_end + 1) z (part old new a z (h.clean_end + 1) z (omega arith) (omega arith) s) h.unwinds;
+          handler = s.handlers h.row (h.clean_end + 1) h.handler;
+        };
+  }
+
+  pub behind_part_stable : Stable (λ code. BehindPart code line ms M (C code) (B code))
+  behind_part_stable = record {
+    rises = λ code a z h.
+        let k = (b (M h.row ∷ ms)).rises code a h.body_end h.body in
+        let r = unwinds_stable.rises code (h.body_end + 1) z h.unwinds in
+        omega arith;
+    moves = λ old new a z s h.
+        let k = (b (M h.row ∷ ms)).rises old a h.body_end h.body in
+        let r = unwinds_stable.rises old (h.body_end + 1) z h.unwinds in
+        record {
+          row = h.row;
+          body_end = h.body_end;
+          body = (b (M h.row ∷ ms)).moves old new a h.body_end (part old new a z a h.body_end (omega arith) (omega arith) s) h.body;
+          leave = s.same h.body_end (Jump z) line (omega arith) (omega arith) h.leave;
+          unwinds = unwinds_stable.moves old new (h.body_end + 1) z (part old new a z (h.body_end + 1) z (omega arith) (omega arith) s) h.unwinds;
+          handler = s.handlers h.row (h.body_end + 1) h.handler;
         };
   }

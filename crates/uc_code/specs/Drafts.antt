@@ -8,12 +8,13 @@ use Rattle.uc_code.specs.declared.rows.Instruction.{Instruction}
 use Rattle.uc_code.specs.declared.rows.Mark.{Mark}
 use Rattle.uc_code.specs.declared.rows.RoutineCode.{RoutineCode}
 
--- the ops so far, the rows so far, the place at which lowering stands, what stands around it in the routine, the
--- innermost first, how many scopes the routine has had so far, the names in scope from the outermost on, how many cells the routine has so far, how many text literals and accept
+-- the ops so far, the rows so far, the op from which on they are those of the marks, the place at which lowering stands, what
+-- stands around it in the routine, the innermost first, how many scopes the routine has had so far, the names in scope from the outermost on, how many cells the routine has so far, how many text literals and accept
 -- statements of the program stand before this place, and what is known of each routine
 pub record Draft : Type 0 where
   pub ops : List Instruction
   pub rows : List HandlerRow
+  pub settled : ℕ
   pub place : Place
   pub marks : List Mark
   pub scopes : ℕ

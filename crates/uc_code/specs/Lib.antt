@@ -4,6 +4,9 @@ pub mod Laid
 pub mod Leaving
 pub mod Listing
 pub mod Lowered
+pub mod ObjectCalls
+pub mod Open
 pub mod Operands
 pub mod Pace
+pub mod Puts
 pub mod Ranges

@@ -3,7 +3,7 @@ use Rattle.std.specs.Prelude.{ℕ, ℤ, pos, ◌+◌, List, [], ◌∷◌, ◌++
 use Rattle.std.specs.Fmt.{signed_decimal}
 use Rattle.uc_code.specs.declared.op.Op.{Op}
 use Rattle.uc_tree.specs.ValueForms.{form_number}
-use Rattle.uc_code.specs.declared.op.Op.TheVariants.{Push, Duplicate, Discard, Over, DiscardBelow, Local, This, Via, ViaThis, Field, Index, Load, Store, Keep, Set, Clear, Add, Subtract, Multiply, Divide, Remainder, Negate, Not, Equal, NotEqual, Less, AtMost, Greater, AtLeast, ToChar, ToBool, Jump, IfZero, IfNonzero, Tick, Call, CallOn, Return, ReturnValue, NoReturn, Enter, Leave, Make, Made, Spawn, Gone, Coroutine, Live, UnwindCoroutine, Resume, Suspend, EndMain, Throw, Raise, Again, RaiseAt, RaiseAtCoroutine, Handled, Enable, Disable, Restore, Poll, Accept, Wait, Signal, SignalBlock, Empty, Front, Print, Text, Hold, Flush, Read, Fail, Yield, Cluster, ClusterEnd, Processor, ProcessorEnd, Migrate}
+use Rattle.uc_code.specs.declared.op.Op.TheVariants.{Push, Duplicate, Discard, Over, DiscardBelow, Local, Own, This, Via, ViaThis, Field, Counted, Index, Load, Store, Keep, Set, Clear, Add, Subtract, Multiply, Divide, Remainder, Negate, Not, Equal, NotEqual, Less, AtMost, Greater, AtLeast, ToChar, ToBool, Jump, IfZero, IfNonzero, Count, More, Fill, Sweep, Tick, Call, CallOn, CallUnwritten, Return, ReturnValue, NoReturn, Enter, Leave, Make, Made, Spawn, Gone, Coroutine, Live, UnwindCoroutine, Resume, Suspend, EndMain, Throw, Raise, Again, RaiseAt, RaiseAtCoroutine, Handled, Unwind, Enable, Disable, Restore, Poll, Accept, Wait, Signal, SignalBlock, Empty, Front, Print, Text, Hold, Flush, Read, Fail, Yield, Cluster, ClusterEnd, Processor, ProcessorEnd, Migrate}
 use Rattle.uc_code.specs.declared.rows.HandlerRow.{HandlerRow}
 use Rattle.uc_code.specs.declared.rows.RowKind.{RowKind}
 use Rattle.uc_code.specs.declared.rows.RowKind.TheVariants.{Catch, CatchResume, CleanUp}
@@ -18,10 +18,12 @@ word_of Discard = codes "drop"
 word_of Over = codes "over"
 word_of DiscardBelow = codes "nip"
 word_of (Local _) = codes "local"
+word_of Own = codes "own"
 word_of (This _) = codes "this"
 word_of (Via _) = codes "via"
 word_of (ViaThis _) = codes "viathis"
 word_of (Field _) = codes "field"
+word_of Counted = codes "counted"
 word_of (Index _ _) = codes "index"
 word_of Load = codes "load"
 word_of Store = codes "store"
@@ -46,9 +48,14 @@ word_of ToBool = codes "bool"
 word_of (Jump _) = codes "jump"
 word_of (IfZero _) = codes "zero"
 word_of (IfNonzero _) = codes "nonzero"
+word_of (Count _ _) = codes "count"
+word_of More = codes "more"
+word_of (Fill _ _) = codes "fill"
+word_of (Sweep _) = codes "sweep"
 word_of Tick = codes "tick"
 word_of (Call _) = codes "call"
 word_of (CallOn _) = codes "callon"
+word_of (CallUnwritten _) = codes "callun"
 word_of Return = codes "ret"
 word_of ReturnValue = codes "retval"
 word_of NoReturn = codes "noret"
@@ -70,6 +77,7 @@ word_of Again = codes "again"
 word_of (RaiseAt _) = codes "at"
 word_of (RaiseAtCoroutine _) = codes "atcoro"
 word_of Handled = codes "handled"
+word_of Unwind = codes "unwind"
 word_of (Enable _) = codes "enable"
 word_of (Disable _) = codes "disable"
 word_of Restore = codes "restore"
@@ -101,10 +109,12 @@ operands_of Discard = []
 operands_of Over = []
 operands_of DiscardBelow = []
 operands_of (Local n) = pos n ∷ []
+operands_of Own = []
 operands_of (This n) = pos n ∷ []
 operands_of (Via n) = pos n ∷ []
 operands_of (ViaThis n) = pos n ∷ []
 operands_of (Field n) = pos n ∷ []
+operands_of Counted = []
 operands_of (Index length size) = pos length ∷ pos size ∷ []
 operands_of Load = []
 operands_of Store = []
@@ -129,9 +139,14 @@ operands_of ToBool = []
 operands_of (Jump n) = pos n ∷ []
 operands_of (IfZero n) = pos n ∷ []
 operands_of (IfNonzero n) = pos n ∷ []
+operands_of (Count elements test) = pos elements ∷ pos test ∷ []
+operands_of More = []
+operands_of (Fill length turn) = pos length ∷ pos turn ∷ []
+operands_of (Sweep n) = pos n ∷ []
 operands_of Tick = []
 operands_of (Call n) = pos n ∷ []
 operands_of (CallOn n) = pos n ∷ []
+operands_of (CallUnwritten n) = pos n ∷ []
 operands_of Return = []
 operands_of ReturnValue = []
 operands_of NoReturn = []
@@ -153,6 +168,7 @@ operands_of Again = []
 operands_of (RaiseAt n) = pos n ∷ []
 operands_of (RaiseAtCoroutine n) = pos n ∷ []
 operands_of Handled = []
+operands_of Unwind = []
 operands_of (Enable n) = pos n ∷ []
 operands_of (Disable n) = pos n ∷ []
 operands_of Restore = []

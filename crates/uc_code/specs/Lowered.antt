@@ -1,15 +1,20 @@
 -- The code of the resolved tree: for each piece what its range of ops must hold. `line` is that of the innermost
 -- statement around the piece, and the marks are what stands around it in its routine, the innermost first.
-use Rattle.std.specs.Prelude.{◌≡◌, ℕ, pos, List, [], ◌∷◌, Option, Some, None, length, map}
-use Rattle.uc_tree.specs.Source.{Shape, Integer, Character, Truth, Binding, Last, Field, Array, shape_cells, Operator, Plus, Minus, Times, Over, Modulo, Equal, NotEqual, Less, AtMost, Greater, AtLeast, Expr, Literal, Variable, Element, Get, Load, Negated, Not, AsCharacter, AsTruth, Operate, And, Or, Set, Assign, First, Update, StepBehind, Fail, Call, OfObject, Exprs, NoExprs, MoreExprs, Item, Show, ShowText, Target, Declared, Stmt, Skip, Block, Evaluate, Declare, Print, PrintTogether, Read, If, Loop, Break, Continue, Return, OfEvents, OfTasks, Stmts, Nil, Then, Scoped, Way, ToBreak, ToContinue, ToReturn, ToEnd, Purpose, TaskMain, Procedure, Function, Builder, Routine, Source}
+use Rattle.std.specs.Prelude.{◌≡◌, ℕ, ◌+◌, pos, List, [], ◌∷◌, Bool, true, false, Option, Some, None, length, map}
+use Rattle.uc_tree.specs.Source.{Shape, Integer, Character, Truth, Binding, Last, Field, Array, shape_cells, field_cells, Operator, Plus, Minus, Times, Over, Modulo, Equal, NotEqual, Less, AtMost, Greater, AtLeast, Expr, Literal, Variable, Element, Get, Load, Negated, Not, AsCharacter, AsTruth, Operate, And, Or, Set, Assign, First, Update, StepBehind, Fail, Call, OfObject, ObjectExpr, This, OwnField, GetOwn, FieldOf, Counted, CallOn, CallUnwritten, EnterOn, Wait, Signal, SignalBlock, IsEmpty, FrontOf, Exprs, NoExprs, MoreExprs, Item, Show, ShowText, Target, Declared, Stmt, Skip, Block, Whole, Evaluate, Declare, Print, PrintTogether, Read, If, Loop, Break, Continue, Return, Fill, OfEvents, OfTasks, CleanUp, Stmts, Nil, Then, Scoped, Built, Way, ToBreak, ToContinue, ToReturn, ToEnd, Purpose, TaskMain, Procedure, Function, Builder, Routine, Source}
 use Rattle.uc_code.specs.declared.op.Op.{Op}
 use Rattle.uc_code.specs.declared.op.Op.TheVariants as op
 use Rattle.uc_code.specs.declared.rows.Mark.{Mark}
 use Rattle.uc_code.specs.declared.rows.Mark.TheVariants as mark
+use Rattle.uc_code.specs.declared.rows.Spot.{Spot}
+use Rattle.uc_code.specs.declared.rows.Spot.TheVariants as spot
+use Rattle.uc_code.specs.declared.rows.Array.{Array as ArrayOf}
+use Rattle.uc_code.specs.declared.rows.ObjectCall.{ObjectCall}
 use Rattle.uc_code.specs.declared.rows.RoutineCode.{RoutineCode}
 use Rattle.uc_code.specs.Codes.{Code}
 use Rattle.uc_code.specs.Laid.{Laid, laid_of}
-use Rattle.uc_code.specs.Ranges.{Nothing, Never, One, Both, Fork, Turns}
+use Rattle.uc_code.specs.Ranges.{Nothing, Never, One, Risk, CallsBehind, Both, Fork, Turns, WholeAt, OverElements, ScopeOf, BehindPart}
+use Rattle.uc_code.specs.ObjectCalls.{Calls, Cleans}
 
 -- the op of an operator
 abbrev pub operator_op : Operator → Op
@@ -30,12 +35,24 @@ abbrev pub item_op : Item → Op
 item_op (Show form e) = op.Print form
 item_op (ShowText k) = op.Text k
 
--- the marks of a routine's statements: a main has the line of its block
-abbrev pub body_marks : Purpose → ℕ → List Mark
-body_marks TaskMain line = mark.Finish line ∷ []
-body_marks Procedure line = []
-body_marks Function line = []
-body_marks Builder line = []
+-- the mark of the statements of the routine of this number: a main has the line of its block
+abbrev pub body_mark : Purpose → ℕ → ℕ → Mark
+body_mark TaskMain routine line = mark.Finish routine line
+body_mark Procedure routine line = mark.Body routine
+body_mark Function routine line = mark.Body routine
+body_mark Builder routine line = mark.Body routine
+
+-- the line of these statements: what builds and destroys the fields of an object has none
+abbrev pub body_line : Purpose → ℕ → ℕ
+body_line TaskMain line = line
+body_line Procedure line = line
+body_line Function line = line
+body_line Builder line = 0
+
+-- where an object begins
+abbrev pub spot_op : Spot → Op
+spot_op (spot.Local k) = op.Local k
+spot_op (spot.This k) = op.This k
 
 module _ (code : Laid) (line : ℕ) where
   -- a range of one op, of this line
@@ -76,8 +93,23 @@ module _ (code : Laid) (line : ℕ) where
     ExprAt ms (StepBehind o s p) =
         Both (ExprAt ms p) (Both (Is op.Duplicate) (Both (Is op.Load) (Both (Is op.Over) (Both (Is op.Over) (Both (Is (op.Push (pos 1))) (Both (Is (operator_op o)) (Both (ConvertAt s) (Both (Is op.Store) (Is op.DiscardBelow)))))))))
     ExprAt ms Fail = Is op.Fail
-    ExprAt ms (Call r es) = Both (ArgumentsAt ms es) (Both (Is op.Tick) (Is (op.Call r)))
-    ExprAt ms (OfObject o) = Never
+    ExprAt ms (Call r es) = Both (ArgumentsAt ms es) (Both (Is op.Tick) (Risk code ms (op.Call r) line))
+    ExprAt ms (OfObject o) = ObjectAt ms o
+
+    pub ObjectAt : List Mark → ObjectExpr → ℕ → ℕ → Type 0
+    ObjectAt ms This = Is op.Own
+    ObjectAt ms (OwnField s i) = Is (op.This (field_cells s i))
+    ObjectAt ms (GetOwn s i) = Is (op.ViaThis (field_cells s i))
+    ObjectAt ms (FieldOf s i e) = Both (ExprAt ms e) (Is (op.Field (field_cells s i)))
+    ObjectAt ms Counted = Is op.Counted
+    ObjectAt ms (CallOn r e es) = Both (ExprAt ms e) (Both (ArgumentsAt ms es) (Both (Is op.Tick) (Risk code ms (op.CallOn r) line)))
+    ObjectAt ms (CallUnwritten r e) = Both (ExprAt ms e) (CallsBehind code ms r line)
+    ObjectAt ms (EnterOn m r e es) = Never
+    ObjectAt ms (Wait c n) = Never
+    ObjectAt ms (Signal c) = Never
+    ObjectAt ms (SignalBlock c) = Never
+    ObjectAt ms (IsEmpty c) = Never
+    ObjectAt ms (FrontOf c) = Never
 
     -- arguments, from left to right
     pub ArgumentsAt : List Mark → Exprs → ℕ → ℕ → Type 0
@@ -122,37 +154,99 @@ module _ (code : Laid) (line : ℕ) where
   StepAt ms None = Nothing
   StepAt ms (Some e) = Both (ExprAt ms e) (Is op.Discard)
 
+  -- calls of constructors and destructors without arguments
+
+  -- where the object lies, or the element that is counted
+  abbrev pub SpotAt : Spot → Option ArrayOf → ℕ → ℕ → Type 0
+  SpotAt s None = Is (spot_op s)
+  SpotAt s (Some a) = Both (Is (spot_op s)) (Both (Is op.Counted) (Is (op.Index a.length a.size)))
+
+  -- a written routine is called behind a tick, without arguments
+  abbrev pub CalledAt : List Mark → Bool → ℕ → ℕ → ℕ → Type 0
+  CalledAt ms true r = Both Nothing (Both (Is op.Tick) (Risk code ms (op.CallOn r) line))
+  CalledAt ms false r = CallsBehind code ms r line
+
+  abbrev pub CallAt : ObjectCall → List Mark → ℕ → ℕ → Type 0
+  CallAt what ms = Both (SpotAt what.spot what.array) (CalledAt ms what.written what.routine)
+
+  -- such a call, whose value goes; and before one more element stands
+  abbrev pub CallDone : ObjectCall → List Mark → ℕ → ℕ → Type 0
+  CallDone what ms = Both (CallAt what ms) (Is op.Discard)
+
+  abbrev pub CallBuilt : ObjectCall → List Mark → ℕ → ℕ → Type 0
+  CallBuilt what ms = Both (CallAt what ms) (Both (Is op.Discard) (Is op.More))
+
+  -- an object is cleaned up; all elements of an array are, the last one first
+  abbrev pub CleanBy : Option ArrayOf → ObjectCall → List Mark → ℕ → ℕ → Type 0
+  CleanBy None what ms = CallDone what ms
+  CleanBy (Some a) what ms = OverElements code line ms a.length a.length op.Sweep op.Sweep (CallDone what) (CallDone what)
+
+  abbrev pub CleanAt : ObjectCall → List Mark → ℕ → ℕ → Type 0
+  CleanAt what ms = CleanBy what.array what ms
+
+  -- the elements of an array are built, the first one first
+  pub record FilledAt (ms : List Mark) (n : ℕ) (b d : Expr) (a z : ℕ) : Type 0 where
+    pub builder : ObjectCall
+    pub destroyer : ObjectCall
+    pub builds : Calls b builder
+    pub destroys : Calls d destroyer
+    pub filled : OverElements code line ms 0 n (op.Fill n) op.Sweep (CallBuilt builder) (CallDone destroyer) a z
+
+  -- what follows in the scope of an object
+  pub record ScopedAt (ms : List Mark) (c : CleanUp) (B : List Mark → ℕ → ℕ → Type 0) (a z : ℕ) : Type 0 where
+    pub what : ObjectCall
+    pub cleans : Cleans c what
+    pub scope : ScopeOf code line ms (λ row. mark.Clean what line row) (CleanAt what ms) B a z
+
+  -- what follows a part of an object under construction
+  pub record BuiltAt (ms : List Mark) (c : CleanUp) (B : List Mark → ℕ → ℕ → Type 0) (a z : ℕ) : Type 0 where
+    pub what : ObjectCall
+    pub cleans : Cleans c what
+    pub part : BehindPart code line ms (λ row. mark.Part row) (CleanAt what ms) B a z
+
 module _ (code : Laid) where
   -- an op of any line
   pub record Any (o : Op) (a z : ℕ) : Type 0 where
     pub line : ℕ
     pub one : One code o line a z
 
-  -- what leaves the statements of a routine: a jump to a pad of the innermost loop, or a return. A main ends in the line of its
-  -- block, a call in that of its caller.
+  -- what leaves the statements of a routine: the objects in whose scope it stands are cleaned up, the innermost first, each in the
+  -- line of its block; then comes a jump to a pad of the innermost loop or of a block that is left as a whole, or a return. A main ends in the line of its block, a call
+  -- in that of its caller.
   abbrev pub ExitAt : Way → List Mark → ℕ → ℕ → Type 0
   ExitAt ToBreak [] = One code op.Return 0
   ExitAt ToContinue [] = One code op.Return 0
   ExitAt ToReturn [] = One code op.ReturnValue 0
   ExitAt ToEnd [] = One code op.Return 0
-  ExitAt ToBreak (mark.Finish line ∷ ms) = One code op.Return line
-  ExitAt ToContinue (mark.Finish line ∷ ms) = One code op.Return line
-  ExitAt ToReturn (mark.Finish line ∷ ms) = One code op.Return line
-  ExitAt ToEnd (mark.Finish line ∷ ms) = One code op.Return line
+  ExitAt ToBreak (mark.Body routine ∷ ms) = One code op.Return 0
+  ExitAt ToContinue (mark.Body routine ∷ ms) = One code op.Return 0
+  ExitAt ToReturn (mark.Body routine ∷ ms) = One code op.ReturnValue 0
+  ExitAt ToEnd (mark.Body routine ∷ ms) = One code op.Return 0
+  ExitAt ToBreak (mark.Finish routine line ∷ ms) = One code op.Return line
+  ExitAt ToContinue (mark.Finish routine line ∷ ms) = One code op.Return line
+  ExitAt ToReturn (mark.Finish routine line ∷ ms) = One code op.Return line
+  ExitAt ToEnd (mark.Finish routine line ∷ ms) = One code op.Return line
   ExitAt ToBreak (mark.Loop leave again ∷ ms) = Any (op.Jump leave)
   ExitAt ToContinue (mark.Loop leave again ∷ ms) = Any (op.Jump again)
   ExitAt ToReturn (mark.Loop leave again ∷ ms) = ExitAt ToReturn ms
   ExitAt ToEnd (mark.Loop leave again ∷ ms) = ExitAt ToEnd ms
-  ExitAt ToBreak (mark.Guard first count ∷ ms) = ExitAt ToBreak ms
-  ExitAt ToContinue (mark.Guard first count ∷ ms) = ExitAt ToContinue ms
-  ExitAt ToReturn (mark.Guard first count ∷ ms) = ExitAt ToReturn ms
-  ExitAt ToEnd (mark.Guard first count ∷ ms) = ExitAt ToEnd ms
+  ExitAt w (mark.Whole leave ∷ ms) = Any (op.Jump leave)
+  ExitAt w (mark.Guard first count ∷ ms) = ExitAt w ms
+  ExitAt w (mark.Clean what line row ∷ ms) = Both (CleanAt code line what ms) (ExitAt w ms)
+  ExitAt w (mark.Part row ∷ ms) = ExitAt w ms
+  ExitAt w (mark.Elements row ∷ ms) = ExitAt w ms
+  -- an exit ends in another one
+  ExitAt ToBreak (mark.Outward below row ∷ ms) = One code op.Return 0
+  ExitAt ToContinue (mark.Outward below row ∷ ms) = One code op.Return 0
+  ExitAt ToReturn (mark.Outward below row ∷ ms) = One code op.ReturnValue 0
+  ExitAt ToEnd (mark.Outward below row ∷ ms) = One code op.Return 0
 
   -- a statement sets its own line
   abbrev mutual
     pub StmtAt : List Mark → Stmt → ℕ → ℕ → Type 0
     StmtAt ms (Skip line) = Nothing
-    StmtAt ms (Block line body) = StmtsAt ms body
+    StmtAt ms (Block line body) = StmtsAt ms line body
+    StmtAt ms (Whole line body) = WholeAt code line (λ m. StmtsAt (m ∷ ms) line body)
     StmtAt ms (Evaluate line e) = Both (ExprAt code line ms e) (One code op.Discard line)
     StmtAt ms (Declare line ds) = VariablesAt code line ms ds
     StmtAt ms (Print line is) = ItemsAt code line ms is
@@ -164,13 +258,16 @@ module _ (code : Laid) where
     StmtAt ms (Continue line) = ExitAt ToContinue ms
     StmtAt ms (Return line None) = ExitAt ToEnd ms
     StmtAt ms (Return line (Some e)) = Both (ExprAt code line ms e) (ExitAt ToReturn ms)
+    StmtAt ms (Fill line n b d) = FilledAt code line ms n b d
     StmtAt ms (OfEvents s) = Never
     StmtAt ms (OfTasks s) = Never
 
-    pub StmtsAt : List Mark → Stmts → ℕ → ℕ → Type 0
-    StmtsAt ms Nil = Nothing
-    StmtsAt ms (Then s ss) = Both (StmtAt ms s) (StmtsAt ms ss)
-    StmtsAt ms (Scoped line e c ss) = Never
+    -- the statements of a block of this line
+    pub StmtsAt : List Mark → ℕ → Stmts → ℕ → ℕ → Type 0
+    StmtsAt ms line Nil = Nothing
+    StmtsAt ms line (Then s ss) = Both (StmtAt ms s) (StmtsAt ms line ss)
+    StmtsAt ms line (Scoped c ss) = ScopedAt code line ms c (λ ns. StmtsAt ns line ss)
+    StmtsAt ms line (Built c ss) = BuiltAt code line ms c (λ ns. StmtsAt ns line ss)
 
   -- what is done behind the statements of a routine whose block has this line
   abbrev pub EndAt : Purpose → ℕ → ℕ → ℕ → Type 0
@@ -179,24 +276,26 @@ module _ (code : Laid) where
   EndAt Function line = Both (One code op.NoReturn line) (One code op.Return 0)
   EndAt Builder line = One code op.Return 0
 
-  -- a routine's code: its body, and its end
-  pub record RoutineAt (routine : Routine) (begins : RoutineCode) (a z : ℕ) : Type 0 where
+  abbrev pub BodyAt : ℕ → Routine → ℕ → ℕ → Type 0
+  BodyAt number routine = StmtsAt (body_mark routine.purpose number routine.line ∷ []) (body_line routine.purpose routine.line) routine.body
+
+  -- the code of the routine of this number: its body, and its end
+  pub record RoutineAt (number : ℕ) (routine : Routine) (begins : RoutineCode) (a z : ℕ) : Type 0 where
     pub entry : begins.entry ≡ a
     pub cells : begins.cells ≡ routine.cells
     pub params : begins.params ≡ routine.params
-    pub body : Both (StmtsAt (body_marks routine.purpose routine.line) routine.body) (EndAt routine.purpose routine.line) a z
+    pub body : Both (BodyAt number routine) (EndAt routine.purpose routine.line) a z
 
-  -- routines, one after another
-  abbrev pub RoutinesAt : List Routine → List RoutineCode → ℕ → ℕ → Type 0
-  RoutinesAt [] [] = Nothing
-  RoutinesAt [] (c ∷ cs) = λ a z. ⊥
-  RoutinesAt (r ∷ rs) [] = λ a z. ⊥
-  RoutinesAt (r ∷ rs) (c ∷ cs) = Both (RoutineAt r c) (RoutinesAt rs cs)
+  -- routines, from this number on, one after another
+  abbrev pub RoutinesAt : ℕ → List Routine → List RoutineCode → ℕ → ℕ → Type 0
+  RoutinesAt number [] [] = Nothing
+  RoutinesAt number [] (c ∷ cs) = λ a z. ⊥
+  RoutinesAt number (r ∷ rs) [] = λ a z. ⊥
+  RoutinesAt number (r ∷ rs) (c ∷ cs) = Both (RoutineAt number r c) (RoutinesAt (number + 1) rs cs)
 
--- the code of a program: its routines, and nothing else. No statement that is built has a handler.
+-- the code of a program: its routines, and nothing else.
 pub record Lowered (source : Source) (code : Code) : Type 0 where
-  pub routines : RoutinesAt (laid_of code) source.routines code.routines 0 (length code.ops)
-  pub rows : code.rows ≡ []
+  pub routines : RoutinesAt (laid_of code) 0 source.routines code.routines 0 (length code.ops)
   pub classes : code.classes ≡ map (λ c. c.cells) source.classes
   pub sites : code.sites ≡ source.sites
   pub texts : code.texts ≡ source.texts

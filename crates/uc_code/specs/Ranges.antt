@@ -1,12 +1,15 @@
 -- Where the code of a piece stands. A piece has a range of ops, from a place up to before another; what a range must
 -- hold is said by cases on the piece, and these are the parts of which such cases are made.
-use Rattle.std.specs.Prelude.{◌≡◌, ℕ, ◌+◌, ◌≤◌, ◌<◌, List, Some, slice_get, length}
+use Rattle.std.specs.Prelude.{◌≡◌, ℕ, ◌+◌, ◌^◌, ◌≤◌, ◌<◌, List, ◌∷◌, Some, slice_get, length}
 use Rattle.uc_code.specs.declared.op.Op.{Op}
-use Rattle.uc_code.specs.declared.op.Op.TheVariants.{Jump, IfZero, IfNonzero, Tick}
+use Rattle.uc_code.specs.declared.op.Op.TheVariants.{Jump, IfZero, IfNonzero, Tick, CallUnwritten, Count, Unwind}
+use Rattle.uc_code.specs.declared.rows.HandlerRow.{HandlerRow}
+use Rattle.uc_code.specs.declared.rows.RowKind.TheVariants.{CleanUp}
+use Rattle.uc_code.specs.declared.rows.TheConstants.{ANY_EVENT}
 use Rattle.uc_code.specs.declared.rows.Mark.{Mark}
-use Rattle.uc_code.specs.declared.rows.Mark.TheVariants.{Loop}
+use Rattle.uc_code.specs.declared.rows.Mark.TheVariants.{Loop, Whole, Elements}
 use Rattle.uc_tree.specs.Source.{Order, TestFirst, BodyFirst, NoTest}
-use Rattle.uc_code.specs.Laid.{Laid, handlers, chain}
+use Rattle.uc_code.specs.Laid.{Laid, handlers, routine_in, chain}
 
 -- the op at a place, with its line
 pub record OpAt (code : Laid) (a : ℕ) (op : Op) (line : ℕ) : Type 0 where
@@ -30,6 +33,20 @@ pub record Risk (code : Laid) (marks : List Mark) (op : Op) (line a z : ℕ) : T
   pub here : OpAt code a op line
   pub end : z ≡ a + 1
   pub under : chain code.rows z ≡ handlers marks
+
+-- a call of a constructor or a destructor that nobody wrote, which stands further on among the routines
+pub record CallsBehind (code : Laid) (marks : List Mark) (routine line a z : ℕ) : Type 0 where
+  pub risk : Risk code marks (CallUnwritten routine) line a z
+  pub behind : routine_in marks < routine
+
+-- the clean-up of this row begins at this op; an open row has none yet
+pub record HandlerAt (code : Laid) (number entry : ℕ) : Type 0 where
+  pub row : HandlerRow
+  pub there : slice_get code.rows number ≡ Some row
+  pub kind : row.kind ≡ CleanUp
+  pub event : row.event ≡ ANY_EVENT
+  pub entry_is : row.entry ≡ entry
+  pub is_set : 0 < entry
 
 -- two pieces, one after another
 pub record Both (B C : ℕ → ℕ → Type 0) (a z : ℕ) : Type 0 where
@@ -87,6 +104,53 @@ pub record Turns (code : Laid) (line : ℕ) (order : Order) (T S : ℕ → ℕ �
   pub step : S step_at test_at
   pub back : BackAt code order T (a + 3) line test_at z
 
+-- a block that is left as a whole: a jump over the pad by which whatever leaves it goes on behind it
+pub record WholeAt (code : Laid) (line : ℕ) (B : Mark → ℕ → ℕ → Type 0) (a z : ℕ) : Type 0 where
+  pub begin : OpAt code a (Jump (a + 2)) line
+  pub leave : OpAt code (a + 1) (Jump z) line
+  pub body : B (Whole (a + 1)) (a + 2) z
+
+-- turns over elements, and the test behind them, which leads back to where a turn begins
+pub record Rounds (code : Laid) (line : ℕ) (back : ℕ → Op) (T : ℕ → ℕ → Type 0) (test a z : ℕ) : Type 0 where
+  pub turn : T a test
+  pub again : OpAt code test (back a) line
+  pub end : z ≡ test + 1
+
+-- turns over the elements of an array of a length: so many stand at first, which are tested before a turn. Where an event comes, those
+-- that stand are destroyed by turns of the second form, from the test on, and unwinding goes on.
+pub record OverElements (code : Laid) (line : ℕ) (ms : List Mark) (first most : ℕ) (back undo : ℕ → Op) (T D : List Mark → ℕ → ℕ → Type 0) (a z : ℕ) : Type 0 where
+  pub row : ℕ
+  pub test : ℕ
+  pub entry : ℕ
+  pub end : ℕ
+  pub few : most < 2 ^ 32
+  pub begin : OpAt code a (Count first test) line
+  pub rounds : Rounds code line back (T (Elements row ∷ ms)) test (a + 1) (test + 1)
+  pub leave : OpAt code (test + 1) (Jump z) line
+  pub undoes : Rounds code line undo (D (Elements row ∷ ms)) entry (test + 2) end
+  pub unwind : Risk code ms Unwind line end z
+  pub handler : HandlerAt code row entry
+
+-- what follows an object that is built: statements in its scope, its clean-up, and its clean-up once more, for unwinding
+pub record ScopeOf (code : Laid) (line : ℕ) (ms : List Mark) (M : ℕ → Mark) (C : ℕ → ℕ → Type 0) (B : List Mark → ℕ → ℕ → Type 0) (a z : ℕ) : Type 0 where
+  pub row : ℕ
+  pub body_end : ℕ
+  pub clean_end : ℕ
+  pub body : B (M row ∷ ms) a body_end
+  pub clean : C body_end clean_end
+  pub leave : OpAt code clean_end (Jump z) line
+  pub unwinds : Both C (Risk code ms Unwind line) (clean_end + 1) z
+  pub handler : HandlerAt code row (clean_end + 1)
+
+-- what follows a part of an object that is built: the other parts and the body, and behind them its clean-up, for unwinding alone
+pub record BehindPart (code : Laid) (line : ℕ) (ms : List Mark) (M : ℕ → Mark) (C : ℕ → ℕ → Type 0) (B : List Mark → ℕ → ℕ → Type 0) (a z : ℕ) : Type 0 where
+  pub row : ℕ
+  pub body_end : ℕ
+  pub body : B (M row ∷ ms) a body_end
+  pub leave : OpAt code body_end (Jump z) line
+  pub unwinds : Both C (Risk code ms Unwind line) (body_end + 1) z
+  pub handler : HandlerAt code row (body_end + 1)
+
 -- jumps alone lead from a place to another
 pub data Leads (code : Laid) : ℕ → ℕ → Type 0 where
   Arrived : (a : ℕ) → Leads code a a
@@ -96,12 +160,14 @@ pub data Leads (code : Laid) : ℕ → ℕ → Type 0 where
 pub record Same (old new : Laid) (a z : ℕ) : Type 0 where
   pub same : (i : ℕ) (op : Op) (line : ℕ) → a ≤ i → i < z → OpAt old i op line → OpAt new i op line
   pub chains : (next : ℕ) → a < next → next ≤ z → chain new.rows next ≡ chain old.rows next
+  pub handlers : (number entry : ℕ) → HandlerAt old number entry → HandlerAt new number entry
 
 -- all ops stay with their handlers, and more may come behind them
 pub record Kept (old new : Laid) : Type 0 where
   pub longer : length old.ops ≤ length new.ops
   pub same : (i : ℕ) (op : Op) (line : ℕ) → OpAt old i op line → OpAt new i op line
   pub chains : (next : ℕ) → next ≤ length old.ops → chain new.rows next ≡ chain old.rows next
+  pub handlers : (number entry : ℕ) → HandlerAt old number entry → HandlerAt new number entry
 
 -- what a piece's code must be: its range does not run backwards, and depends on no op outside of it
 pub record Stable (B : Laid → ℕ → ℕ → Type 0) : Type 0 where

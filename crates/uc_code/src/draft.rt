@@ -1,14 +1,20 @@
 // The draft in which lowering writes code.
 
-ghost use Rattle.std.specs.Prelude.{◌≡◌, ◌+◌, ◌<◌, ◌≤◌, [], ◌∷◌, ◌++◌, length, reverse, take, drop, slice_set, slice_get, MatchOption, OnOk, OnErr};
+ghost use Rattle.std.specs.Prelude.{◌≡◌, ◌+◌, ◌<◌, ◌≤◌, ℕ, Some, [], ◌∷◌, ◌++◌, length, reverse, take, slice_set, slice_get, MatchOption, IfOk, OnOk, OnErr};
 ghost use Rattle.uc_tree.specs.declared.limits.TheConstants.{FRAME_CELLS, PROGRAM_OPS, PROGRAM_SIZE};
 ghost use Rattle.uc_code.specs.Drafts.{ops_with, patched, IsInnermost, IsUnknown};
-ghost use Rattle.uc_code.specs.Leaving.{exit_by, end_call, exit_in};
+ghost use Rattle.uc_code.specs.Laid.{laid_in};
+ghost use Rattle.uc_code.specs.declared.rows.Mark.TheVariants as mark;
+ghost use Rattle.uc_code.specs.Open.{AllBehind, Falling, OpensBehind, handler_in, opened, closed, left_marks};
+ghost use Rattle.uc_code.specs.Ranges.{HandlerAt, Kept, Risk};
 
 use crate::code::Code;
 use crate::draft_parts::Outside;
+use crate::marks::{
+    bound_of, close_row, event_of, has_no_row, mark_of, name_of, row_below, row_of,
+};
 use crate::op::Op;
-use crate::rows::{HandlerRow, Instruction, Mark, RoutineCode, Way};
+use crate::rows::{HandlerRow, Instruction, Mark, OPEN_END, Opening, RoutineCode, RowKind};
 use std::alloc::{AllocError, Global};
 use std::marker::Model;
 use uc_tree::kinds::{Known, Place, Ty};
@@ -20,6 +26,7 @@ use uc_tree::site::Site;
 pub struct Draft {
     ops: Vec<Instruction>,
     rows: Vec<HandlerRow>,
+    settled: u32,
     place: Place,
     marks: Vec<Mark>,
     scopes: u32,
@@ -34,22 +41,24 @@ impl Model for Draft {
     ghost use Rattle.uc_code.specs.Drafts.{Draft};
     ghost use Rattle.std.specs.Prelude.{◌≤◌, length, reverse};
     ghost use Rattle.uc_tree.specs.declared.limits.TheConstants.{PROGRAM_OPS};
+    ghost use Rattle.uc_code.specs.Open.{IsSettled};
 
     ghost Value = { Draft };
 
-    ghost view = { λ d. record { ops = d.ops.items; rows = d.rows.items; place = d.place; marks = reverse d.marks.items; scopes = d.scopes; names = d.names.items; cells = d.cells; texts = d.texts; sites = d.sites; routines = d.routines.items } };
+    ghost view = { λ d. record { ops = d.ops.items; rows = d.rows.items; settled = d.settled; place = d.place; marks = reverse d.marks.items; scopes = d.scopes; names = d.names.items; cells = d.cells; texts = d.texts; sites = d.sites; routines = d.routines.items } };
 
-    ghost invariant = { λ d. length d.ops.items ≤ PROGRAM_OPS };
+    ghost invariant = { λ d. (length d.ops.items ≤ PROGRAM_OPS) × IsSettled (length d.ops.items) d.settled d.rows.items (reverse d.marks.items) };
 }
 
 impl Draft {
     /// No op, no row and no name. `routines` is the code of each routine, as far as it is known.
     pub fn new(alloc: Global, routines: Vec<RoutineCode>) -> Draft
-        ensures { result ≡ record { ops = []; rows = []; place = record { class = 0; routine = 0; scope = 0 }; marks = []; scopes = 0; names = []; cells = 0; texts = 0; sites = 0; routines = routines.items } }
+        ensures { result ≡ record { ops = []; rows = []; settled = 0; place = record { class = 0; routine = 0; scope = 0 }; marks = []; scopes = 0; names = []; cells = 0; texts = 0; sites = 0; routines = routines.items } }
     {
         Draft {
             ops: Vec::new(alloc),
             rows: Vec::new(alloc),
+            settled: 0,
             place: Place {
                 class: 0,
                 routine: 0,
@@ -69,6 +78,7 @@ impl Draft {
     pub fn here(&self) -> u32
         ensures count { result ≡ length self.now.ops }
         ensures few { result ≤ PROGRAM_OPS }
+        ensures settled { self.now.settled ≤ result }
     {
         self.ops.len() as u32
     }
@@ -83,6 +93,17 @@ impl Draft {
         Ok(())
     }
 
+    /// One more op, from which an event may come: its handlers are those of the marks.
+    pub fn emit_at_risk(&mut self, op: Op, line: u32) -> Result<(), AllocError>
+        requires { length self.old.ops < PROGRAM_OPS }
+        ensures ok { OnOk result (self.new ≡ record self.old { ops = ops_with self.old.ops op line }) }
+        ensures risk { OnOk result (Risk (laid_in self.new) self.old.marks op line (length self.old.ops) (length self.new.ops)) }
+        ensures err { OnErr result (self.new ≡ self.old) }
+    {
+        self.ops.push(Instruction { op, line })?;
+        Ok(())
+    }
+
     /// Another op in the place of one, on the same line.
     pub fn patch(&mut self, at: u32, op: Op)
         requires { at < length self.old.ops }
@@ -91,8 +112,9 @@ impl Draft {
         patch_op(&mut self.ops, at, op);
     }
 
-    /// Drops all ops but the first ones, so many.
+    /// Drops all ops but the first ones, so many; no row was opened or closed behind them.
     pub fn cut_back(&mut self, count: u32)
+        requires { self.old.settled ≤ count }
         ensures { self.new ≡ record self.old { ops = take count self.old.ops } }
     {
         self.ops.truncate(count as usize);
@@ -113,21 +135,52 @@ impl Draft {
         rows.get(number).copied()
     }
 
-    /// One more row.
-    pub fn add_row(&mut self, row: HandlerRow) -> Result<(), AllocError>
-        ensures ok { OnOk result (self.new ≡ record self.old { rows = self.old.rows ++ row ∷ [] }) }
+    /// Opens a row: what is lowered from now on stands in its mark. The result is its number. A code of too many rows is want of
+    /// memory.
+    pub fn open(&mut self, opening: Opening) -> Result<u32, AllocError>
+        requires { OpensBehind opening self.old.marks }
+        ensures number { IfOk result (λ number. number ≡ length self.old.rows) }
+        ensures ok { OnOk result (self.new ≡ opened opening self.old) }
+        ensures kept { OnOk result (Kept (laid_in self.old) (laid_in self.new)) }
         ensures err { OnErr result (self.new ≡ self.old) }
     {
-        self.rows.push(row)?;
-        Ok(())
+        let number = self.rows.len();
+        if number >= OPEN_END as usize {
+            return Err(AllocError);
+        }
+        let number = number as u32;
+        let outer = name_of(row_below(&self.marks, bound_of(opening, number)));
+        let row = HandlerRow {
+            from: self.ops.len() as u32,
+            to: OPEN_END,
+            outer,
+            kind: RowKind::CleanUp,
+            event: event_of(opening),
+            entry: 0,
+        };
+        self.marks.push(mark_of(opening, number))?;
+        if let Err(error) = self.rows.push(row) {
+            let _ = self.marks.pop();
+            return Err(error.into());
+        }
+        self.settled = self.ops.len() as u32;
+        Ok(number)
     }
 
-    /// Another row in the place of one.
-    pub fn set_row(&mut self, number: usize, row: HandlerRow)
-        requires { number < length self.old.rows }
-        ensures { self.new ≡ record self.old { rows = slice_set self.old.rows number row } }
+    /// Closes the row of the innermost mark, if it has one, and leaves the mark. The row's clean-up begins so many ops further on.
+    pub fn close(&mut self, ahead: u32)
+        requires ahead { ahead ≤ PROGRAM_OPS }
+        requires entry { 0 < length self.old.ops + ahead }
+        ensures closed { self.new ≡ closed ahead self.old }
+        ensures kept { Kept (laid_in self.old) (laid_in self.new) }
+        ensures handler { (row : ℕ) → handler_in self.old.marks ≡ Some row → HandlerAt (laid_in self.new) row (length self.old.ops + ahead) }
     {
-        self.rows[number] = row;
+        let here = self.ops.len() as u32;
+        if let Some(number) = row_of(&self.marks) {
+            close_row(&mut self.rows, number, here, here + ahead);
+            self.settled = here;
+            let _ = self.marks.pop();
+        }
     }
 
     /// Where lowering stands.
@@ -140,6 +193,7 @@ impl Draft {
     /// Begins a routine of a class, behind so many text literals and accept statements: nothing stands around it, no name
     /// is in scope, and it has no cell yet.
     pub fn begin_routine(&mut self, class: u32, routine: u32, texts: u32, sites: u32)
+        requires { self.old.marks ≡ [] }
         ensures { self.new ≡ record self.old { place = record { class = class; routine = routine; scope = 0 }; marks = []; scopes = 0; names = []; cells = 0; texts = texts; sites = sites } }
     {
         self.place = Place {
@@ -155,27 +209,58 @@ impl Draft {
         self.sites = sites;
     }
 
-    /// What is lowered from now on stands in this.
-    pub fn enter(&mut self, mark: Mark) -> Result<(), AllocError>
-        ensures ok { OnOk result (self.new ≡ record self.old { marks = mark ∷ self.old.marks }) }
+    /// What is lowered from now on are the statements of this routine.
+    pub fn enter_body(&mut self, routine: u32) -> Result<(), AllocError>
+        ensures ok { OnOk result (self.new ≡ record self.old { marks = mark.Body routine ∷ self.old.marks }) }
         ensures err { OnErr result (self.new ≡ self.old) }
     {
-        self.marks.push(mark)?;
+        self.marks.push(Mark::Body { routine })?;
         Ok(())
     }
 
-    /// What is lowered from now on stands behind the innermost mark.
-    pub fn leave(&mut self)
-        ensures { self.new ≡ record self.old { marks = drop 1 self.old.marks } }
+    /// What is lowered from now on are the statements of this routine, which is the main of a task and ends in this line.
+    pub fn enter_main(&mut self, routine: u32, line: u32) -> Result<(), AllocError>
+        ensures ok { OnOk result (self.new ≡ record self.old { marks = mark.Finish routine line ∷ self.old.marks }) }
+        ensures err { OnErr result (self.new ≡ self.old) }
     {
-        let _ = self.marks.pop();
+        self.marks.push(Mark::Finish { routine, line })?;
+        Ok(())
     }
 
-    /// The op that leaves what stands around this place, with its line, from a statement of this line.
-    pub fn exit(&self, way: Way, line: u32) -> Instruction
-        ensures { result ≡ exit_in way self.now.marks line }
+    /// What is lowered from now on stands in the loop with these pads.
+    pub fn enter_loop(&mut self, leave: u32, again: u32) -> Result<(), AllocError>
+        ensures ok { OnOk result (self.new ≡ record self.old { marks = mark.Loop leave again ∷ self.old.marks }) }
+        ensures err { OnErr result (self.new ≡ self.old) }
     {
-        exit_among(&self.marks, way, line)
+        self.marks.push(Mark::Loop { leave, again })?;
+        Ok(())
+    }
+
+    /// What is lowered from now on stands in a block that is left as a whole, by this pad.
+    pub fn enter_whole(&mut self, leave: u32) -> Result<(), AllocError>
+        ensures ok { OnOk result (self.new ≡ record self.old { marks = mark.Whole leave ∷ self.old.marks }) }
+        ensures err { OnErr result (self.new ≡ self.old) }
+    {
+        self.marks.push(Mark::Whole { leave })?;
+        Ok(())
+    }
+
+    /// What is lowered from now on stands behind the innermost mark, if that has no row.
+    pub fn leave(&mut self)
+        ensures { self.new ≡ record self.old { marks = left_marks self.old.marks } }
+    {
+        if has_no_row(&self.marks) {
+            let _ = self.marks.pop();
+        }
+    }
+
+    /// What stands around this place, the innermost last.
+    pub fn marks(&self) -> &[Mark]
+        ensures marks { reverse result.now ≡ self.now.marks }
+        ensures behind { AllBehind self.now.marks }
+        ensures falling { Falling self.now.marks }
+    {
+        &self.marks
     }
 
     /// Writes down where the code of a routine begins, and the cells of its frame.
@@ -284,58 +369,6 @@ impl Draft {
             classes,
         }
     }
-}
-
-// How a mark ends a way out, where it does.
-fn exit_by(way: Way, mark: Mark, line: u32) -> Option<Instruction>
-    ensures { result ≡ exit_by way mark line }
-{
-    match mark {
-        Mark::Finish { line } => Some(Instruction {
-            op: Op::Return,
-            line,
-        }),
-        Mark::Loop { leave, again } => match way {
-            Way::Break => Some(Instruction {
-                op: Op::Jump(leave),
-                line,
-            }),
-            Way::Continue => Some(Instruction {
-                op: Op::Jump(again),
-                line,
-            }),
-            Way::Value => None,
-            Way::End => None,
-        },
-        Mark::Guard { .. } => None,
-    }
-}
-
-// The end of a call.
-fn end_call(way: Way) -> Instruction
-    ensures { result ≡ end_call way }
-{
-    let op = match way {
-        Way::Break => Op::Return,
-        Way::Continue => Op::Return,
-        Way::Value => Op::ReturnValue,
-        Way::End => Op::Return,
-    };
-    Instruction { op, line: 0 }
-}
-
-// The way out of these marks, of which the last is the innermost.
-fn exit_among(marks: &[Mark], way: Way, line: u32) -> Instruction
-    ensures { result ≡ exit_in way (reverse marks.now) line }
-{
-    let mut i = marks.len();
-    while i > 0 {
-        i -= 1;
-        if let Some(exit) = exit_by(way, marks[i], line) {
-            return exit;
-        }
-    }
-    end_call(way)
 }
 
 // Another op in the place of one, on the same line.

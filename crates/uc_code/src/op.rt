@@ -23,6 +23,8 @@ pub enum Op {
     DiscardBelow,
     /// The place of this cell of the frame.
     Local(u32),
+    /// The object at hand.
+    Own,
     /// The place of this cell of the object at hand.
     This(u32),
     /// What this cell of the frame holds: a number, or the place that a reference was bound to.
@@ -31,6 +33,8 @@ pub enum Op {
     ViaThis(u32),
     /// The popped place, so many cells on.
     Field(u32),
+    /// How many elements stand of the array that is built or destroyed.
+    Counted,
     /// The popped place at the popped index of an array of this length, whose elements have this size.
     Index { length: u32, size: u32 },
     /// What the popped place holds.
@@ -79,12 +83,22 @@ pub enum Op {
     IfZero(u32),
     /// Goes on at this op where the popped number is not 0.
     IfNonzero(u32),
+    /// So many elements stand of an array that is built or destroyed; goes on at the test of the turns over them.
+    Count { elements: u32, test: u32 },
+    /// One more element stands.
+    More,
+    /// Goes on at a turn of the building where fewer elements stand than this length.
+    Fill { length: u32, turn: u32 },
+    /// Where an element stands, one less stands, and a turn of the destruction comes.
+    Sweep(u32),
     /// Takes one tick.
     Tick,
     /// Calls the routine.
     Call(u32),
     /// Calls the routine as a member of the popped place.
     CallOn(u32),
+    /// The same for a constructor or a destructor that nobody wrote, which is no active call.
+    CallUnwritten(u32),
     /// Returns from a routine.
     Return,
     /// Returns the popped value.
@@ -127,6 +141,8 @@ pub enum Op {
     RaiseAtCoroutine(u8),
     /// Ends a handler.
     Handled,
+    /// Ends a clean-up that unwinding performs, and goes on unwinding.
+    Unwind,
     /// Enables the events of the mask.
     Enable(u64),
     /// Disables the events of the mask.
@@ -185,10 +201,12 @@ impl Op {
             Op::Over => b"over",
             Op::DiscardBelow => b"nip",
             Op::Local(_) => b"local",
+            Op::Own => b"own",
             Op::This(_) => b"this",
             Op::Via(_) => b"via",
             Op::ViaThis(_) => b"viathis",
             Op::Field(_) => b"field",
+            Op::Counted => b"counted",
             Op::Index { .. } => b"index",
             Op::Load => b"load",
             Op::Store => b"store",
@@ -213,9 +231,14 @@ impl Op {
             Op::Jump(_) => b"jump",
             Op::IfZero(_) => b"zero",
             Op::IfNonzero(_) => b"nonzero",
+            Op::Count { .. } => b"count",
+            Op::More => b"more",
+            Op::Fill { .. } => b"fill",
+            Op::Sweep(_) => b"sweep",
             Op::Tick => b"tick",
             Op::Call(_) => b"call",
             Op::CallOn(_) => b"callon",
+            Op::CallUnwritten(_) => b"callun",
             Op::Return => b"ret",
             Op::ReturnValue => b"retval",
             Op::NoReturn => b"noret",
@@ -237,6 +260,7 @@ impl Op {
             Op::RaiseAt(_) => b"at",
             Op::RaiseAtCoroutine(_) => b"atcoro",
             Op::Handled => b"handled",
+            Op::Unwind => b"unwind",
             Op::Enable(_) => b"enable",
             Op::Disable(_) => b"disable",
             Op::Restore => b"restore",
@@ -273,10 +297,12 @@ impl Op {
             Op::Over => Operands::Nothing,
             Op::DiscardBelow => Operands::Nothing,
             Op::Local(number) => Operands::One(number as u64),
+            Op::Own => Operands::Nothing,
             Op::This(number) => Operands::One(number as u64),
             Op::Via(number) => Operands::One(number as u64),
             Op::ViaThis(number) => Operands::One(number as u64),
             Op::Field(number) => Operands::One(number as u64),
+            Op::Counted => Operands::Nothing,
             Op::Index { length, size } => Operands::Two(length as u64, size as u64),
             Op::Load => Operands::Nothing,
             Op::Store => Operands::Nothing,
@@ -301,9 +327,14 @@ impl Op {
             Op::Jump(number) => Operands::One(number as u64),
             Op::IfZero(number) => Operands::One(number as u64),
             Op::IfNonzero(number) => Operands::One(number as u64),
+            Op::Count { elements, test } => Operands::Two(elements as u64, test as u64),
+            Op::More => Operands::Nothing,
+            Op::Fill { length, turn } => Operands::Two(length as u64, turn as u64),
+            Op::Sweep(number) => Operands::One(number as u64),
             Op::Tick => Operands::Nothing,
             Op::Call(number) => Operands::One(number as u64),
             Op::CallOn(number) => Operands::One(number as u64),
+            Op::CallUnwritten(number) => Operands::One(number as u64),
             Op::Return => Operands::Nothing,
             Op::ReturnValue => Operands::Nothing,
             Op::NoReturn => Operands::Nothing,
@@ -325,6 +356,7 @@ impl Op {
             Op::RaiseAt(number) => Operands::One(number as u64),
             Op::RaiseAtCoroutine(number) => Operands::One(number as u64),
             Op::Handled => Operands::Nothing,
+            Op::Unwind => Operands::Nothing,
             Op::Enable(number) => Operands::One(number),
             Op::Disable(number) => Operands::One(number),
             Op::Restore => Operands::Nothing,

@@ -1,9 +1,11 @@
 -- The newest operands: those that a call takes, and those that it leaves.
-use Rattle.std.proofs.Common.{◌≡◌, ℕ, zero, suc, ◌+◌, ◌-◌, ◌<◌, ◌≤◌, List, [], ◌∷◌, ◌++◌, length, take, drop, replicate, reverse, refl, sym, ap, ◌∙◌, arith, inl, inr}
+use Rattle.std.proofs.Common.{◌≡◌, ℕ, zero, suc, ◌+◌, ◌-◌, ◌<◌, List, [], ◌∷◌, ◌++◌, length, take, drop, replicate, reverse, refl, sym, ap, ◌∙◌, arith, inl, inr, get_or}
 use Rattle.std.proofs.lemmas.Bool.{cases_lt}
-use Rattle.std.proofs.lemmas.List.{append-nil, append_assoc, reverse-append, reverse-reverse, length-reverse, length-drop, take-append-drop, replicate-append-replicate, drop_at, drop_all, take_all}
-use Rattle.std.proofs.lemmas.Grind.{common_steps, replicate_next, reverse_onto}
+use Rattle.std.proofs.lemmas.List.{append_assoc, reverse-append, reverse-reverse, length-reverse, length-drop, take-append-drop, drop_at, drop_all, take_all, take_more}
+use Rattle.std.proofs.lemmas.Grind.{common_steps}
 use Rattle.uc_meaning.specs.Executions.{taken}
+use Rattle.uc_frames.specs.declared.cell.Cell.{Cell}
+use Rattle.uc_frames.specs.Machine.{top}
 
 module _ {X : Type 0} where
   parts : (xs : List X) (k : ℕ) → reverse xs ≡ reverse (drop k xs) ++ reverse (take k xs)
@@ -66,3 +68,10 @@ module _ {X : Type 0} where
       let t : taken d params (reverse ops) os ≡ replicate (params - length ops) d ++ (drop (length ops - params) ops ++ os) =
       taken_is d params (reverse ops) os ∙ ap (λ k. replicate (params - k) d ++ (reverse (take params (reverse ops)) ++ os)) l ∙ ap (λ xs. replicate (params - length ops) d ++ (xs ++ os)) n in
       f ∙ ap (λ xs. xs ++ os) e ∙ append_assoc (replicate (params - length ops) d) (drop (length ops - params) ops) os ∙ sym t
+
+-- the one below the n newest
+pub top_below : (xs : List Cell) (n i : ℕ) (v : Cell) → i < length xs → length xs - n ≡ i + 1 → v ≡ get_or xs i v → v ≡ top (drop n (reverse xs))
+top_below xs n i v l q e =
+    let a : reverse (take (i + 1) xs) ≡ drop n (reverse xs) = ap (λ k. reverse (take k xs)) (sym q) ∙ left_below xs n in
+    let b : reverse (take (i + 1) xs) ≡ get_or xs i v ∷ reverse (take i xs) = ap reverse (take_more xs i v l) ∙ reverse-append (take i xs) (get_or xs i v ∷ []) in
+    e ∙ ap top (sym b ∙ a)

@@ -13,14 +13,16 @@ use uc_code::rows::RoutineCode;
 use uc_meaning::exec::{Reason, Visited};
 
 /// What is next in an activation, its operands, the object of a member's call, the depth of the frame whose variables it
-/// uses, how far the search came where it handles a resumption, why it is unwound, and what a return that unwinds it hands
-/// over. A call that wants memory in vain changes nothing.
+/// uses, whether it counts as an active call, how many elements stand of the array that it builds or destroys, how far the search
+/// came where it handles a resumption, why it is unwound, and what a return that unwinds it hands over. A call that wants memory in vain changes nothing.
 #[derive(Drop)]
 pub struct Active {
     next: u32,
     operands: Vec<Cell>,
     this: Cell,
     frame: u32,
+    counts: bool,
+    elements: u32,
     handles: Option<Visited>,
     raised: Option<Reason>,
     result: Cell,
@@ -32,20 +34,22 @@ impl Model for Active {
 
     ghost Value = { Active };
 
-    ghost view = { λ a. record { control = a.next; operands = reverse a.operands.items; this = a.this; frame = a.frame; handles = a.handles; raised = a.raised; result = a.result } };
+    ghost view = { λ a. record { control = a.next; operands = reverse a.operands.items; this = a.this; frame = a.frame; counts = a.counts; elements = a.elements; handles = a.handles; raised = a.raised; result = a.result } };
 }
 
 impl Active {
     /// An activation as it begins, at this op, with an empty list for its operands.
-    pub fn new(operands: Vec<Cell>, entry: u32, this: Cell, frame: u32) -> Active
+    pub fn new(operands: Vec<Cell>, entry: u32, this: Cell, frame: u32, counts: bool) -> Active
         requires { operands.items ≡ [] }
-        ensures { result ≡ begun entry this frame Cell.Nothing }
+        ensures { result ≡ begun entry this frame Cell.Nothing counts }
     {
         Active {
             next: entry,
             operands,
             this,
             frame,
+            counts,
+            elements: 0,
             handles: None,
             raised: None,
             result: Cell::Nothing,
@@ -66,11 +70,39 @@ impl Active {
         self.next = to;
     }
 
+    /// Whether it counts as an active call.
+    pub fn counts(&self) -> bool
+        ensures { result ≡ self.now.counts }
+    {
+        self.counts
+    }
+
     /// The depth of the frame whose variables it uses.
     pub fn frame(&self) -> u32
         ensures { result ≡ self.now.frame }
     {
         self.frame
+    }
+
+    /// The object of a member's call.
+    pub fn this(&self) -> Cell
+        ensures { result ≡ self.now.this }
+    {
+        self.this
+    }
+
+    /// How many elements stand of the array that it builds or destroys.
+    pub fn elements(&self) -> u32
+        ensures { result ≡ self.now.elements }
+    {
+        self.elements
+    }
+
+    /// So many elements stand.
+    pub fn set_elements(&mut self, count: u32)
+        ensures { self.new ≡ record self.old { elements = count } }
+    {
+        self.elements = count;
     }
 
     /// One more operand.
@@ -116,6 +148,18 @@ impl Active {
         }
     }
 
+    /// The operand below so many of the newest ones; nothing where there is none.
+    pub fn below(&self, count: u32) -> Cell
+        ensures { result ≡ top (drop count self.now.operands) }
+    {
+        let count = count as usize;
+        if count < self.operands.len() {
+            self.operands[self.operands.len() - 1 - count]
+        } else {
+            Cell::Nothing
+        }
+    }
+
     /// Another operand in the place of the newest one, if there is one.
     pub fn replace(&mut self, cell: Cell) -> Result<(), AllocError>
         ensures ok { OnOk result (self.new ≡ record self.old { operands = cell ∷ below self.old.operands }) }
@@ -147,11 +191,11 @@ impl Active {
         Ok(cells)
     }
 
-    /// It waits for a call: the parameters are no operands any more.
-    pub fn wait_for(&mut self, routine: RoutineCode)
-        ensures { self.new ≡ waiting routine self.old }
+    /// It waits for a call, which takes so many operands.
+    pub fn wait_for(&mut self, taken: u64)
+        ensures { self.new ≡ waiting taken self.old }
     {
-        drop_newest(&mut self.operands, routine.params);
+        drop_newest(&mut self.operands, taken);
     }
 
     /// The list of its operands, to be used again.

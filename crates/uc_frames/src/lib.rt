@@ -2,6 +2,7 @@
 #![tactic(auto)]
 
 pub mod active;
+pub mod call;
 pub mod cell;
 mod frames;
 pub mod links;

@@ -1,6 +1,6 @@
 // What travels with an execution besides its stack.
 
-ghost use Rattle.std.specs.Prelude.{◌≡◌, ◌<◌};
+ghost use Rattle.std.specs.Prelude.{◌≡◌, ◌<◌, true};
 ghost use Rattle.uc_meaning.specs.Executions.{no_links, one_call_more, one_call_less};
 ghost use Rattle.uc_tree.specs.declared.limits.TheConstants.{CALLS};
 
@@ -57,18 +57,22 @@ impl Links {
         self.calls
     }
 
-    /// One active call more.
-    pub fn enter(&mut self)
-        requires { self.old.calls < CALLS }
-        ensures { self.new ≡ one_call_more self.old }
+    /// One active call more, where it counts.
+    pub fn enter(&mut self, counts: bool)
+        requires { counts ≡ true → self.old.calls < CALLS }
+        ensures { self.new ≡ one_call_more counts self.old }
     {
-        self.calls += 1;
+        if counts {
+            self.calls += 1;
+        }
     }
 
-    /// One active call less.
-    pub fn leave(&mut self)
-        ensures { self.new ≡ one_call_less self.old }
+    /// One active call less, where it counts.
+    pub fn leave(&mut self, counts: bool)
+        ensures { self.new ≡ one_call_less counts self.old }
     {
-        self.calls = self.calls.saturating_sub(1);
+        if counts {
+            self.calls = self.calls.saturating_sub(1);
+        }
     }
 }

@@ -37,7 +37,7 @@ pub(crate) fn put_on_two(operands: &mut Vec<Cell>, cell: Cell) -> Result<(), All
 }
 
 // The newest ones go, so many of them.
-pub(crate) fn drop_newest(operands: &mut Vec<Cell>, count: u32)
+pub(crate) fn drop_newest(operands: &mut Vec<Cell>, count: u64)
     ensures { reverse operands.new.items ≡ drop count (reverse operands.old.items) }
 {
     let left = operands.len().saturating_sub(count as usize);

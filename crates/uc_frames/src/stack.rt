@@ -1,12 +1,13 @@
 // The stack of one execution.
 
-ghost use Rattle.std.specs.Prelude.{◌≡◌, ◌∷◌, ◌-◌, ◌<◌, [], length, drop, replicate, reverse, nat_lt, IfOk, OnOk, OnErr, vec_len, slice_get, slice_index_or};
+ghost use Rattle.std.specs.Prelude.{◌≡◌, ◌∷◌, ◌-◌, ◌<◌, [], length, drop, replicate, reverse, nat_lt, IfOk, OnOk, OnErr, vec_len, slice_get, slice_index_or, true};
 ghost use Rattle.uc_meaning.specs.Executions.{at_depth, list_in, frame_changed, values_cleared, one_call_less};
 ghost use Rattle.uc_frames.specs.Machine.{nought, top, below, cell_written, first_execution, line_in, line_at};
 ghost use Rattle.uc_frames.specs.Left.{stack_left, stack_entered};
 ghost use Rattle.uc_tree.specs.declared.limits.TheConstants.{CALLS};
 
 use crate::active::Active;
+use crate::call::Call;
 use crate::cell::Cell;
 use crate::frames::{clear_in, get_in, put_in, zeros};
 use crate::links::Links;
@@ -50,7 +51,7 @@ impl Stack {
         frames.push(frame)?;
         Ok(Stack {
             alloc,
-            running: Active::new(Vec::new(alloc), routine.entry, this, 0),
+            running: Active::new(Vec::new(alloc), routine.entry, this, 0, false),
             callers: Vec::new(alloc),
             frames,
             links: Links::new(alloc),
@@ -86,10 +87,10 @@ impl Stack {
         self.links.calls()
     }
 
-    /// Calls a routine for this object: the newest operands are its parameters. A stack of `u32::MAX` frames has no more.
-    pub fn enter(&mut self, routine: RoutineCode, this: Cell) -> Result<(), AllocError>
-        requires { self.old.links.calls < CALLS }
-        ensures ok { OnOk result (self.new ≡ stack_entered routine this self.old) }
+    /// Makes a call: the newest operands are the routine's parameters. A stack of `u32::MAX` frames has no more.
+    pub fn enter(&mut self, call: Call) -> Result<(), AllocError>
+        requires { call.counts ≡ true → self.old.links.calls < CALLS }
+        ensures ok { OnOk result (self.new ≡ stack_entered call self.old) }
         ensures err { OnErr result (self.new ≡ self.old) }
     {
         let depth = self.frames.len() as u32;
@@ -98,14 +99,14 @@ impl Stack {
         }
         let empty = take_list(self.alloc, &mut self.spare);
         let operands = take_list(self.alloc, &mut self.spare);
-        let frame = self.running.frame_of_call(empty, routine)?;
+        let frame = self.running.frame_of_call(empty, call.routine)?;
         self.callers.reserve(1)?;
         self.frames.push(frame)?;
-        let callee = Active::new(operands, routine.entry, this, depth);
+        let callee = Active::new(operands, call.routine.entry, call.this, depth, call.counts);
         let mut caller = mem::replace(&mut self.running, callee);
-        caller.wait_for(routine);
+        caller.wait_for(call.taken);
         self.callers.push_reserved(caller);
-        self.links.enter();
+        self.links.enter(call.counts);
         Ok(())
     }
 
@@ -131,14 +132,14 @@ impl Stack {
 
     // This activation goes on in the place of the newest one, which goes with its frame.
     fn go_back(&mut self, caller: Active)
-        ensures { self.new ≡ record self.old { run = caller; frames = drop 1 self.old.frames; links = one_call_less self.old.links } }
+        ensures { self.new ≡ record self.old { run = caller; frames = drop 1 self.old.frames; links = one_call_less self.old.run.counts self.old.links } }
     {
         let left = mem::replace(&mut self.running, caller);
+        self.links.leave(left.counts());
         keep_list(&mut self.spare, left.into_operands());
         if let Some(frame) = self.frames.pop() {
             keep_list(&mut self.spare, frame);
         }
-        self.links.leave();
     }
 
     /// The line of an op; for one of no line that of the newest call around it that has one.
@@ -162,6 +163,34 @@ impl Stack {
     {
         self.running.push(cell)?;
         Ok(())
+    }
+
+    /// The object of the running activation.
+    pub fn this(&self) -> Cell
+        ensures { result ≡ self.now.run.this }
+    {
+        self.running.this()
+    }
+
+    /// How many elements stand of the array that the running activation builds or destroys.
+    pub fn elements(&self) -> u32
+        ensures { result ≡ self.now.run.elements }
+    {
+        self.running.elements()
+    }
+
+    /// So many elements stand.
+    pub fn set_elements(&mut self, count: u32)
+        ensures { self.new ≡ record self.old { run = record self.old.run { elements = count } } }
+    {
+        self.running.set_elements(count);
+    }
+
+    /// The operand below so many of the newest ones; nothing where there is none.
+    pub fn below(&self, count: u32) -> Cell
+        ensures { result ≡ top (drop count self.now.run.operands) }
+    {
+        self.running.below(count)
     }
 
     /// The operand below the newest one; nothing where there is none.

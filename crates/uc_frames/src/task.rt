@@ -1,6 +1,6 @@
 // A task without its hand.
 
-ghost use Rattle.std.specs.Prelude.{◌≡◌, ◌-◌, ◌<◌, ◌∷◌, [], length, nat_lt, None, Some, IfOk, OnOk, OnErr, MatchOption, slice_get, slice_index_or};
+ghost use Rattle.std.specs.Prelude.{◌≡◌, ◌-◌, ◌<◌, ◌∷◌, [], length, nat_lt, None, Some, IfOk, OnOk, OnErr, MatchOption, slice_get, slice_index_or, drop, true};
 ghost use Rattle.std.specs.Option.{is_some, option_map};
 ghost use Rattle.uc_meaning.specs.Executions.{at_depth, list_in, frame_changed, frames_changed, values_cleared, members_at, change, exec_eq};
 ghost use Rattle.uc_meaning.specs.Quiet.{with_piece};
@@ -8,6 +8,7 @@ ghost use Rattle.uc_frames.specs.Machine.{nought, top, below, cell_written, firs
 ghost use Rattle.uc_frames.specs.Left.{left, called};
 ghost use Rattle.uc_tree.specs.declared.limits.TheConstants.{CALLS};
 
+use crate::call::Call;
 use crate::cell::Cell;
 use crate::members::Members;
 use crate::numbered::is_same;
@@ -97,6 +98,30 @@ impl Task {
         Ok(())
     }
 
+    pub(crate) fn this(&self) -> Cell
+        ensures { result ≡ self.now.run.this }
+    {
+        self.running.this()
+    }
+
+    pub(crate) fn elements(&self) -> u32
+        ensures { result ≡ self.now.run.elements }
+    {
+        self.running.elements()
+    }
+
+    pub(crate) fn set_elements(&mut self, count: u32)
+        ensures { self.new ≡ record self.old { run = record self.old.run { elements = count } } }
+    {
+        self.running.set_elements(count);
+    }
+
+    pub(crate) fn below(&self, count: u32) -> Cell
+        ensures { result ≡ top (drop count self.now.run.operands) }
+    {
+        self.running.below(count)
+    }
+
     pub(crate) fn second(&self) -> Cell
         ensures { result ≡ top (below self.now.run.operands) }
     {
@@ -145,12 +170,12 @@ impl Task {
         self.running.calls()
     }
 
-    pub(crate) fn enter(&mut self, routine: RoutineCode, this: Cell) -> Result<(), AllocError>
-        requires { self.old.env.links.calls < CALLS }
-        ensures ok { OnOk result (self.new ≡ called routine this self.old) }
+    pub(crate) fn enter(&mut self, call: Call) -> Result<(), AllocError>
+        requires { call.counts ≡ true → self.old.env.links.calls < CALLS }
+        ensures ok { OnOk result (self.new ≡ called call self.old) }
         ensures err { OnErr result (self.new ≡ self.old) }
     {
-        self.running.enter(routine, this)?;
+        self.running.enter(call)?;
         Ok(())
     }
 

@@ -1,6 +1,6 @@
 // The cells of a task with its hand.
 
-ghost use Rattle.std.specs.Prelude.{◌≡◌, ◌-◌, ◌<◌, ◌∷◌, [], length, nat_lt, None, Some, IfOk, OnOk, OnErr, MatchOption, slice_get};
+ghost use Rattle.std.specs.Prelude.{◌≡◌, ◌-◌, ◌<◌, ◌∷◌, [], length, nat_lt, None, Some, IfOk, OnOk, OnErr, MatchOption, slice_get, drop, true};
 ghost use Rattle.std.specs.Option.{is_some, option_map};
 ghost use Rattle.uc_meaning.specs.Executions.{frame_changed, frames_changed, members_at, parked_at, change, value_at, with_owned};
 ghost use Rattle.uc_meaning.specs.Quiet.{with_piece};
@@ -8,6 +8,7 @@ ghost use Rattle.uc_frames.specs.Machine.{nought, top, below, cell_written, shif
 ghost use Rattle.uc_frames.specs.Left.{left, called};
 ghost use Rattle.uc_tree.specs.declared.limits.TheConstants.{CALLS};
 
+use crate::call::Call;
 use crate::cell::Cell;
 use crate::members::Members;
 use crate::numbered::position;
@@ -102,13 +103,13 @@ impl Work {
         self.task.calls()
     }
 
-    /// Calls a routine for this object: the newest operands are its parameters.
-    pub fn enter(&mut self, routine: RoutineCode, this: Cell) -> Result<(), AllocError>
-        requires { self.old.env.links.calls < CALLS }
-        ensures ok { OnOk result (self.new ≡ called routine this self.old) }
+    /// Makes a call: the newest operands are the routine's parameters.
+    pub fn enter(&mut self, call: Call) -> Result<(), AllocError>
+        requires { call.counts ≡ true → self.old.env.links.calls < CALLS }
+        ensures ok { OnOk result (self.new ≡ called call self.old) }
         ensures err { OnErr result (self.new ≡ self.old) }
     {
-        self.task.enter(routine, this)?;
+        self.task.enter(call)?;
         Ok(())
     }
 
@@ -144,6 +145,34 @@ impl Work {
     {
         self.task.push(cell)?;
         Ok(())
+    }
+
+    /// The object of the running activation.
+    pub fn this(&self) -> Cell
+        ensures { result ≡ self.now.run.this }
+    {
+        self.task.this()
+    }
+
+    /// How many elements stand of the array that the running activation builds or destroys.
+    pub fn elements(&self) -> u32
+        ensures { result ≡ self.now.run.elements }
+    {
+        self.task.elements()
+    }
+
+    /// So many elements stand.
+    pub fn set_elements(&mut self, count: u32)
+        ensures { self.new ≡ record self.old { run = record self.old.run { elements = count } } }
+    {
+        self.task.set_elements(count);
+    }
+
+    /// The operand below so many of the newest ones; nothing where there is none.
+    pub fn below(&self, count: u32) -> Cell
+        ensures { result ≡ top (drop count self.now.run.operands) }
+    {
+        self.task.below(count)
     }
 
     /// The operand below the newest one; nothing where there is none.

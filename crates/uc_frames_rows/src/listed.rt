@@ -4,7 +4,7 @@ use std::alloc::{AllocError, Global};
 use uc_code::draft::Draft;
 use uc_code::listing::listing;
 use uc_code::op::Op;
-use uc_code::rows::{ANY_EVENT, HandlerRow, RowKind};
+use uc_code::rows::Opening;
 use uc_tree::kinds::ValueForm;
 use uc_tree::limits::PROGRAM_OPS;
 
@@ -28,30 +28,26 @@ fn ops() -> [Op; 9] {
     ]
 }
 
-/// The lines of the ops and of the rows.
-pub(crate) fn listed(alloc: Global) -> Result<String, AllocError> {
-    let mut draft = Draft::new(alloc, Vec::new(alloc));
-    for op in ops() {
+// Adds ops, as far as there is room.
+fn put(draft: &mut Draft, ops: &[Op]) -> Result<(), AllocError> {
+    for op in ops {
         if draft.here() < PROGRAM_OPS {
-            draft.emit(op, 1)?;
+            draft.emit(*op, 1)?;
         }
     }
-    draft.add_row(HandlerRow {
-        from: 0,
-        to: 4,
-        outer: 2,
-        kind: RowKind::Catch,
-        event: 2,
-        entry: 5,
-    })?;
-    draft.add_row(HandlerRow {
-        from: 0,
-        to: 6,
-        outer: 0,
-        kind: RowKind::CleanUp,
-        event: ANY_EVENT,
-        entry: 8,
-    })?;
+    Ok(())
+}
+
+/// The lines of the ops and of the rows: one row around all ops, and one in it.
+pub(crate) fn listed(alloc: Global) -> Result<String, AllocError> {
+    let mut draft = Draft::new(alloc, Vec::new(alloc));
+    let _whole = draft.open(Opening::Part)?;
+    put(&mut draft, &ops()[..4])?;
+    let _inner = draft.open(Opening::Elements)?;
+    put(&mut draft, &ops()[4..6])?;
+    draft.close(2);
+    put(&mut draft, &ops()[6..])?;
+    draft.close(1);
     let code = draft.finish(Vec::new(alloc), Vec::new(alloc), Vec::new(alloc));
     let text = listing(alloc, &code)?;
     String::from_utf8_lossy(alloc, text.as_slice())

@@ -10,6 +10,7 @@ use crate::shown::shown;
 use std::alloc::{AllocError, Global};
 use std::io;
 use uc_code::rows::RoutineCode;
+use uc_frames::call::Call;
 use uc_frames::cell::{Cell, further_on, number_in};
 use uc_frames::members::Members;
 use uc_frames::pieces::print_request;
@@ -30,6 +31,20 @@ const CALLED: RoutineCode = RoutineCode {
     entry: 20,
     cells: 3,
     params: 2,
+};
+
+const CALL: Call = Call {
+    routine: CALLED,
+    this: Cell::Nothing,
+    taken: 2,
+    counts: true,
+};
+
+const CALL_ON: Call = Call {
+    routine: CALLED,
+    this: Cell::Object(6),
+    taken: 3,
+    counts: false,
 };
 
 /// A line of a name and cells.
@@ -67,7 +82,7 @@ fn called(alloc: Global) -> Result<String, AllocError> {
     work.push(Cell::Number(5))?;
     work.push(Cell::Object(6))?;
     if work.calls() < CALLS {
-        work.enter(CALLED, Cell::Nothing)?;
+        work.enter(CALL)?;
     }
     let cells = [
         number(work.calls()),
@@ -86,10 +101,54 @@ fn called_bare(alloc: Global) -> Result<String, AllocError> {
     let mut work = Work::first(alloc, MAIN, 4)?;
     work.push(Cell::Number(5))?;
     if work.calls() < CALLS {
-        work.enter(CALLED, Cell::Nothing)?;
+        work.enter(CALL)?;
     }
     let cells = [work.get(0), work.get(1), work.get(2)];
     line(alloc, "called bare", cells.as_slice())
+}
+
+/// A call at an object, which goes with the arguments above it. It does not count, and in it no element stands.
+fn called_on(alloc: Global) -> Result<String, AllocError> {
+    let mut work = Work::first(alloc, MAIN, 4)?;
+    work.set_elements(2);
+    work.push(Cell::Number(4))?;
+    work.push(Cell::Object(6))?;
+    work.push(Cell::Number(5))?;
+    work.push(Cell::Number(7))?;
+    let object = work.below(2);
+    if work.calls() < CALLS {
+        work.enter(CALL_ON)?;
+    }
+    let cells = [
+        object,
+        work.this(),
+        number(work.calls()),
+        number(work.elements()),
+        work.get(0),
+        work.get(1),
+        work.top(),
+    ];
+    line(alloc, "called on", cells.as_slice())
+}
+
+/// Back from such a call.
+fn returned_from(alloc: Global) -> Result<String, AllocError> {
+    let mut work = Work::first(alloc, MAIN, 4)?;
+    work.set_elements(2);
+    work.push(Cell::Number(4))?;
+    if work.calls() < CALLS {
+        work.enter(CALL_ON)?;
+    }
+    work.set_elements(9);
+    let went = work.leave(Cell::Number(8))?;
+    let cells = [
+        truth(went),
+        work.this(),
+        number(work.elements()),
+        work.pop(),
+        work.pop(),
+    ];
+    line(alloc, "returned from", cells.as_slice())
 }
 
 /// Back from a call with what it hands over.
@@ -100,7 +159,7 @@ fn returned(alloc: Global) -> Result<String, AllocError> {
     work.push(Cell::Number(5))?;
     work.push(Cell::Number(6))?;
     if work.calls() < CALLS {
-        work.enter(CALLED, Cell::Nothing)?;
+        work.enter(CALL)?;
     }
     work.set(1, Cell::Number(70));
     work.push(Cell::Number(71))?;
@@ -324,7 +383,9 @@ fn main(rt: HostRuntime) -> io::Result<()> {
         left(alloc)?,
         called(alloc)?,
         called_bare(alloc)?,
+        called_on(alloc)?,
         returned(alloc)?,
+        returned_from(alloc)?,
         replaced(alloc)?,
         operands(alloc)?,
         variables(alloc)?,

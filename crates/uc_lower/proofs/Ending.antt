@@ -1,19 +1,23 @@
 -- The routines of a program are laid out, one after another, until the program's code is whole.
-use Rattle.std.proofs.Common.{◌≡◌, ℕ, zero, suc, ◌+◌, ◌*◌, ◌≤◌, ◌<◌, ◌&&◌, true, List, [], ◌∷◌, ◌++◌, Some, None, length, map, take, get_or, take_all, refl, ap, sym, subst, ◌∙◌, arith}
+use Rattle.std.proofs.Common.{◌≡◌, ℕ, zero, suc, ◌+◌, ◌*◌, ◌≤◌, ◌<◌, ◌&&◌, Bool, true, false, List, [], ◌∷◌, ◌++◌, Some, None, if◌then◌else◌, length, map, take, get_or, take_all, nat_eq, refl, ap, sym, subst, ◌∙◌, arith, ◌⊎◌, inl, inr, ◌≢◌, true≢false}
 use Rattle.std.specs.Prelude.{slice_get, slice_set}
-use Rattle.std.proofs.lemmas.Bool.{and_parts}
+use Rattle.std.proofs.lemmas.Bool.{and_parts, cases_eq, ne_eqb}
 use Rattle.std.proofs.lemmas.List.{length-map}
 use Rattle.uc_tree.specs.declared.limits.TheConstants.{FRAME_CELLS, OPS_FOR_SIZE, PROGRAM_OPS, PROGRAM_SIZE}
 use Rattle.uc_tree.specs.declared.site.Site.{Site}
 use Rattle.uc_tree.specs.Cells.{routine_cells}
 use Rattle.uc_tree.specs.Gathered.{gathered_all}
-use Rattle.uc_tree.specs.Numbering.{Defined, is_plain, own_texts, own_sites, routines_of, sites_of, texts_of}
-use Rattle.uc_tree.specs.Programs.{Class, Program, Sig}
-use Rattle.uc_tree.specs.Resolve.{routine_scope, routine_meant, routines_meant, classes_meant, source_of}
+use Rattle.uc_tree.specs.Numbering.{Defined, is_plain, defined_by, item_defined, items_defined, main_name, own_texts, own_sites, routines_of, sites_of, texts_of}
+use Rattle.uc_tree.specs.Names.{same_name}
+use Rattle.uc_tree.specs.Objects.{Unwritten, unwritten_of}
+use Rattle.uc_tree.specs.ProgramMain.{is_main_item, is_main_sig, main_among, main_number, no_params, returns_as_main}
+use Rattle.uc_tree.specs.Programs.{Routine, Item, ClassItem, RoutineItem, ConstItem, ProtoItem, ForwardItem, UsingItem, Program, Sig}
+use Rattle.uc_tree.specs.Resolve.{all_classes, all_unwritten, routine_scope, routine_meant, routines_meant, source_of}
 use Rattle.uc_tree.specs.Sizes.{program_size}
 use Rattle.uc_tree.specs.Source as source
 use Rattle.uc_tree.specs.StatementSizes.{stmts_size}
-use Rattle.uc_meaning.specs.BuiltForms.{are_built, are_scalars, is_built_result, is_built_sig, is_classless, no_inits, IsBuilt}
+use Rattle.uc_built.specs.BuiltForms.{are_built, is_built_sig, IsBuilt}
+use Rattle.uc_meaning.specs.Breaks.{breaks_of}
 use Rattle.uc_code.specs.declared.rows.RoutineCode.{RoutineCode}
 use Rattle.uc_code.specs.Codes.{Code}
 use Rattle.uc_code.specs.Drafts.{Draft}
@@ -22,10 +26,12 @@ use Rattle.uc_code.specs.Lowered.{RoutineAt, RoutinesAt, Lowered}
 use Rattle.uc_code.specs.Ranges.{Kept}
 use Rattle.uc_numbers.specs.declared.routines.Defined.{Defined as Found}
 use Rattle.uc_numbers.specs.Routines.{defined_at}
-use Rattle.uc_lower.specs.Laying.{Lays, defined_size, defined_texts}
+use Rattle.uc_lower.specs.Laying.{Lays, LaysAll, defined_texts, own_room, routine_room, unwritten_rooms}
 use Rattle.uc_lower.specs.Refusing.{Fits}
-use Rattle.uc_lower.proofs.Built.{built_routine, routines_few, no_classes, stmts_sites}
-use Rattle.uc_lower.proofs.Laying.{lays_step, size_within, taken_more, size_push, texts_push, within}
+use Rattle.uc_lower.proofs.Built.{built_routine, owned_alone, stmts_sites}
+use Rattle.uc_lower.proofs.Costs.{own_few, own_size, owns, owns_push, size_split}
+use Rattle.uc_lower.proofs.Laying.{lays_step, room_within, rooms_within, taken_more, texts_push, within}
+use Rattle.uc_lower.proofs.Rooms.{rooms_fit}
 
 -- a routine that was found is that of the program
 
@@ -43,105 +49,143 @@ as_many ds rs m = ap length (sym m) ∙ length-map ds defined_at
 -- what is asked of the next routine
 
 built_body : (p : Program) → IsBuilt p → (i : ℕ) (x : Defined) → slice_get (routines_of p) i ≡ Some x → are_built x.routine.body ≡ true
-built_body p b i x at =
-    let after = (and_parts (is_built_sig x.routine.sig) (no_inits x.routine.inits && are_built x.routine.body) (built_routine p b i x at)).1 in
-    (and_parts (no_inits x.routine.inits) (are_built x.routine.body) after).1
+built_body p b i x at = (and_parts (is_built_sig x.routine.sig) (are_built x.routine.body) (built_routine p b i x at)).1
 
-built_params : (p : Program) → IsBuilt p → (i : ℕ) (x : Defined) → slice_get (routines_of p) i ≡ Some x → are_scalars x.routine.sig.params ≡ true
-built_params p b i x at =
-    let s : Sig = x.routine.sig in
-    let whole : is_built_sig s ≡ true = (and_parts (is_built_sig s) (no_inits x.routine.inits && are_built x.routine.body) (built_routine p b i x at)).0 in
-    let behind = (and_parts (is_classless s.owner) (is_plain s.role && (is_built_result s.ret && are_scalars s.params)) whole).1 in
-    let after = (and_parts (is_plain s.role) (is_built_result s.ret && are_scalars s.params) behind).1 in
-    (and_parts (is_built_result s.ret) (are_scalars s.params) after).1
+-- main is no constructor and no destructor
+
+sig_plain : (s : Sig) → is_main_sig s ≡ true → is_plain s.role ≡ true
+sig_plain s e =
+    let a = and_parts (returns_as_main s.owner s.ret) (same_name s.name main_name && (is_plain s.role && no_params s.params)) e in
+    let b = and_parts (same_name s.name main_name) (is_plain s.role && no_params s.params) a.1 in
+    (and_parts (is_plain s.role) (no_params s.params) b.1).0
+
+first_plain : (p : Program) (i : Item) (rest : List Defined) (x : Defined) → is_main_item i ≡ true → slice_get (item_defined p i ++ rest) 0 ≡ Some x → is_plain x.routine.sig.role ≡ true
+first_plain p (ClassItem c) rest x m e = cc
+first_plain p (RoutineItem r) rest x m e =
+    let is : defined_by p r.sig.owner r ≡ x = cc in
+    ap (λ (y : Defined). is_plain y.routine.sig.role) (sym is) ∙ ap (λ (y : Routine). is_plain y.sig.role) (owned_alone p r.sig.owner r) ∙ sig_plain r.sig m
+first_plain p (ConstItem c) rest x m e = cc
+first_plain p (ProtoItem c) rest x m e = cc
+first_plain p (ForwardItem c) rest x m e = cc
+first_plain p (UsingItem c) rest x m e = cc
+
+get_behind : (xs ys : List Defined) (k : ℕ) → slice_get (xs ++ ys) (length xs + k) ≡ slice_get ys k
+get_behind [] ys k = let z : 0 + k ≡ k = omega arith in ap (slice_get ys) z
+get_behind (x ∷ xs) ys k = let z : suc (length xs) + k ≡ suc (length xs + k) = omega arith in ap (slice_get (x ∷ (xs ++ ys))) z ∙ get_behind xs ys k
+
+main_plain_in : (p : Program) (is : List Item) (x : Defined) → slice_get (items_defined p is) (main_among p is) ≡ Some x → is_plain x.routine.sig.role ≡ true
+main_plain_in p [] x e = cc
+main_plain_in p (i ∷ is) x e = by_case (is_main_item i) refl (main_plain_in p is x) e
+  where
+    by_case : (b : Bool) → is_main_item i ≡ b → (slice_get (items_defined p is) (main_among p is) ≡ Some x → is_plain x.routine.sig.role ≡ true) → slice_get (item_defined p i ++ items_defined p is) (if b then 0 else length (item_defined p i) + main_among p is) ≡ Some x → is_plain x.routine.sig.role ≡ true
+    by_case true m more e = first_plain p i (items_defined p is) x m e
+    by_case false m more e = more (sym (get_behind (item_defined p i) (items_defined p is) (main_among p is)) ∙ e)
+
+no_main : (p : Program) (i : ℕ) (x : Defined) → slice_get (routines_of p) i ≡ Some x → is_plain x.routine.sig.role ≡ false → (i ≡ main_number p) ⊎ (i ≢ main_number p) → nat_eq i (main_number p) ≡ false
+no_main p i x e b (inl is) = absurd (true≢false (sym (main_plain_in p p.items x (ap (slice_get (routines_of p)) (sym is) ∙ e)) ∙ b))
+no_main p i x e b (inr n) = ne_eqb i (main_number p) n
 
 -- so many routines stand, and are counted
-pub record Stands (p : Program) (i t s : ℕ) (out : Draft) : Type 0 where
-  pub lays : Lays p (routines_of p) i out
+pub record Stands (p : Program) (all i t s : ℕ) (out : Draft) : Type 0 where
+  pub lays : Lays p (routines_of p) all i out
   pub texts : t ≡ defined_texts (take i (routines_of p))
-  pub few : t ≤ defined_size (take i (routines_of p))
+  pub few : t ≤ owns (take i (routines_of p))
   pub sites : s ≡ 0
 
 pub record Follows (p : Program) (t i : ℕ) (x : Defined) (out : Draft) : Type 0 where
+  pub alone : is_plain x.routine.sig.role ≡ false → nat_eq i (main_number p) ≡ false
   pub known : i < length out.routines
-  pub room : length out.ops + OPS_FOR_SIZE * (1 + stmts_size x.routine.body) ≤ PROGRAM_OPS
+  pub written : i < length (routines_of p)
+  pub room : length out.ops + routine_room p x ≤ PROGRAM_OPS
   pub cells : routine_cells p x.routine ≤ FRAME_CELLS
   pub texts : t + stmts_size x.routine.body ≤ PROGRAM_SIZE
+  pub params : length x.routine.sig.params ≤ PROGRAM_SIZE
   pub built : are_built x.routine.body ≡ true
-  pub scalars : are_scalars x.routine.sig.params ≡ true
 
-pub follows : (p : Program) (i texts sites : ℕ) (x : Defined) (out : Draft) → IsBuilt p → Fits p → slice_get (routines_of p) i ≡ Some x → Stands p i texts sites out → Follows p texts i x out
-follows p i texts sites x out b f at h =
-    let few = size_within (routines_of p) i x at in
-    let all = routines_few p b in
+pub follows : (p : Program) (all i texts sites : ℕ) (x : Defined) (out : Draft) → IsBuilt p → breaks_of p ≡ [] → Fits p → length (routines_of p) ≤ all → slice_get (routines_of p) i ≡ Some x → Stands p all i texts sites out → Follows p texts i x out
+follows p all i texts sites x out b none f enough at h =
+    let few = room_within p (routines_of p) i x at in
+    let fit = rooms_fit p none in
+    let own = own_few (routines_of p) i x at in
+    let split = size_split p in
     let size = f.size in
     let room = h.lays.room in
-    let table : length out.routines ≡ length (routines_of p) = h.lays.table in
+    let table : length out.routines ≡ all = h.lays.table in
     let there : i < length (routines_of p) = within (routines_of p) i x at in
     let counted = h.few in
     record {
-      known = omega (arith, table, there);
-      room = omega (arith, few, all, size, room);
+      alone = λ e. no_main p i x at e (cases_eq i (main_number p));
+      known = omega (arith, table, there, enough);
+      written = there;
+      room = omega (arith, few, fit, size, room);
       cells = f.frames.each i x at;
-      texts = omega (arith, few, all, size, counted);
+      texts = omega (arith, own, split, size, counted);
+      params = omega (arith, own, split, size);
       built = built_body p b i x at;
-      scalars = built_params p b i x at;
     }
 
-pub stands_none : (p : Program) (d : Draft) → Lays p (routines_of p) 0 d → Stands p 0 0 0 d
-stands_none p d h = record { lays = h; texts = none (routines_of p); few = omega arith; sites = refl }
+pub stands_none : (p : Program) (all : ℕ) (d : Draft) → Lays p (routines_of p) all 0 d → Stands p all 0 0 0 d
+stands_none p all d h = record { lays = h; texts = none (routines_of p); few = omega arith; sites = refl }
   where
     none : (ds : List Defined) → 0 ≡ defined_texts (take 0 ds)
     none [] = refl
     none (x ∷ xs) = refl
 
-pub stands_next : (p : Program) (i texts sites : ℕ) (x : Defined) (old new : Draft) → IsBuilt p → slice_get (routines_of p) i ≡ Some x → Stands p i texts sites old
-    → Kept (laid_in old) (laid_in new) → length new.ops ≤ length old.ops + OPS_FOR_SIZE * (1 + stmts_size x.routine.body)
-    → RoutineAt (laid_in new) (routine_meant p x.routine (routine_scope p x.routine.sig.params x.number i texts sites)) (record { entry = length old.ops; cells = routine_cells p x.routine; params = length x.routine.sig.params }) (length old.ops) (length new.ops)
-    → new.routines ≡ slice_set old.routines i (record { entry = length old.ops; cells = routine_cells p x.routine; params = length x.routine.sig.params }) → new.rows ≡ old.rows
+pub stands_next : (p : Program) (all i texts sites : ℕ) (x : Defined) (old new : Draft) → IsBuilt p → length (routines_of p) ≤ all → slice_get (routines_of p) i ≡ Some x → Stands p all i texts sites old
+    → Kept (laid_in old) (laid_in new) → length new.ops ≤ length old.ops + routine_room p x
+    → RoutineAt (laid_in new) i (routine_meant p x.routine (routine_scope p x.routine.sig.params x.number i texts sites)) (record { entry = length old.ops; cells = routine_cells p x.routine; params = length x.routine.sig.params }) (length old.ops) (length new.ops)
+    → new.routines ≡ slice_set old.routines i (record { entry = length old.ops; cells = routine_cells p x.routine; params = length x.routine.sig.params }) → new.marks ≡ []
     → new.texts ≡ texts + length (gathered_all own_texts x.routine.body) → new.texts ≤ texts + stmts_size x.routine.body → new.sites ≡ sites + length (gathered_all (own_sites None 0) x.routine.body)
-    → Stands p (i + 1) new.texts new.sites new
-stands_next p i texts sites x old new b at h k r c w rows te tf se =
+    → Stands p all (i + 1) new.texts new.sites new
+stands_next p all i texts sites x old new b enough at h k r c w marks te tf se =
     let split : take (i + 1) (routines_of p) ≡ take i (routines_of p) ++ x ∷ [] = taken_more (routines_of p) i x at in
     let t : defined_texts (take (i + 1) (routines_of p)) ≡ defined_texts (take i (routines_of p)) + length (gathered_all own_texts x.routine.body) = ap defined_texts split ∙ texts_push (take i (routines_of p)) x in
-    let s : defined_size (take (i + 1) (routines_of p)) ≡ defined_size (take i (routines_of p)) + (1 + stmts_size x.routine.body) = ap defined_size split ∙ size_push (take i (routines_of p)) x in
+    let s : owns (take (i + 1) (routines_of p)) ≡ owns (take i (routines_of p)) + (1 + own_size x.routine) = ap owns split ∙ owns_push (take i (routines_of p)) x in
     let none : length (gathered_all (own_sites None 0) x.routine.body) ≡ 0 = ap length (stmts_sites None 0 x.routine.body (built_body p b i x at)) in
+    let there : i < length (routines_of p) = within (routines_of p) i x at in
     let ht = h.texts in
     let hf = h.few in
     let hs = h.sites in
     record {
-      lays = lays_step p (routines_of p) i texts sites x old new (built_body p b) at h.lays h.texts h.sites k r c w rows;
+      lays = lays_step p (routines_of p) all i texts sites x old new (built_body p b) at (omega (arith, there, enough)) h.lays h.texts h.sites k r c w marks;
       texts = te ∙ ap (λ (n : ℕ). n + length (gathered_all own_texts x.routine.body)) ht ∙ sym t;
       few = omega (arith, s, hf, tf);
       sites = omega (arith, se, hs, none);
     }
 
+-- the room of one that nobody wrote
+pub unwritten_fits : (p : Program) (all i : ℕ) (u : Unwritten) (out : Draft) → breaks_of p ≡ [] → Fits p → slice_get (unwritten_of p) i ≡ Some u → LaysAll p (routines_of p) (unwritten_of p) all i out → length out.ops + own_room p u ≤ PROGRAM_OPS
+unwritten_fits p all i u out none f at h =
+    let few = rooms_within p (unwritten_of p) i u at in
+    let fit = rooms_fit p none in
+    let size = f.size in
+    let room = h.room in
+    omega (arith, few, fit, size, room)
+
 -- the code of the program is whole
 
-pub whole : (p : Program) (count : ℕ) (new : Draft) (sites : List Site) (texts : List (List ℕ)) (classes : List ℕ) (code : Code) → IsBuilt p → count ≡ length (routines_of p) → Lays p (routines_of p) count new → sites ≡ sites_of p → texts ≡ texts_of p → classes ≡ 0 ∷ []
+pub whole : (p : Program) (all count : ℕ) (new : Draft) (sites : List Site) (texts : List (List ℕ)) (classes : List ℕ) (code : Code) → count ≡ length (unwritten_of p) → all ≡ length (routines_of p) + count → LaysAll p (routines_of p) (unwritten_of p) all count new → sites ≡ sites_of p → texts ≡ texts_of p → classes ≡ map (λ (c : source.Class). c.cells) (all_classes p)
     → code ≡ record { ops = new.ops; rows = new.rows; sites = sites; texts = texts; routines = new.routines; classes = classes } → Lowered (source_of p) code
-whole p count new sites texts classes code b n h se te le ce =
+whole p all count new sites texts classes code n m h se te le ce =
     let laid : laid_in new ≡ laid_of code = ap laid_of (sym ce) in
-    let table : length new.routines ≡ length (routines_of p) = h.table in
-    let all : take count (routines_of p) ≡ routines_of p = take_all count (routines_of p) (omega (arith, n)) in
-    let rows : take count new.routines ≡ code.routines = take_all count new.routines (omega (arith, n, table)) ∙ ap (λ (x : Code). x.routines) (sym ce) in
-    let at : RoutinesAt (laid_in new) (routines_meant p (routines_of p) 0 0 0) code.routines 0 (length new.ops) =
-    subst (λ (k : List RoutineCode). RoutinesAt (laid_in new) (routines_meant p (routines_of p) 0 0 0) k 0 (length new.ops)) rows (
-    subst (λ (k : List Defined). RoutinesAt (laid_in new) (routines_meant p k 0 0 0) (take count new.routines) 0 (length new.ops)) all h.code) in
-    let objects : (source_of p).classes ≡ record { cells = 0 } ∷ [] = ap (λ (l : List Class). record { cells = 0 } ∷ classes_meant p 0 l) (no_classes p b) in
+    let table : length new.routines ≡ all = h.table in
+    let us : take count (unwritten_of p) ≡ unwritten_of p = take_all count (unwritten_of p) (omega (arith, n)) in
+    let rows : take (length (routines_of p) + count) new.routines ≡ code.routines = take_all (length (routines_of p) + count) new.routines (omega (arith, m, table)) ∙ ap (λ (x : Code). x.routines) (sym ce) in
+    let at : RoutinesAt (laid_in new) 0 (source_of p).routines code.routines 0 (length new.ops) =
+    subst (λ (k : List RoutineCode). RoutinesAt (laid_in new) 0 (source_of p).routines k 0 (length new.ops)) rows (
+    subst (λ (k : List Unwritten). RoutinesAt (laid_in new) 0 (routines_meant p (routines_of p) 0 0 0 ++ all_unwritten p k) (take (length (routines_of p) + count) new.routines) 0 (length new.ops)) us h.code) in
     record {
-      routines = subst (λ (x : Laid). RoutinesAt x (routines_meant p (routines_of p) 0 0 0) code.routines 0 (length x.ops)) laid at;
-      rows = ap (λ (x : Code). x.rows) ce ∙ h.rows;
-      classes = ap (λ (x : Code). x.classes) ce ∙ le ∙ sym (ap (λ (k : List source.Class). map (λ (x : source.Class). x.cells) k) objects);
+      routines = subst (λ (x : Laid). RoutinesAt x 0 (source_of p).routines code.routines 0 (length x.ops)) laid at;
+      classes = ap (λ (x : Code). x.classes) ce ∙ le;
       sites = ap (λ (x : Code). x.sites) ce ∙ se;
       texts = ap (λ (x : Code). x.texts) ce ∙ te;
     }
 
-pub whole_few : (p : Program) (count : ℕ) (new : Draft) (sites : List Site) (texts : List (List ℕ)) (classes : List ℕ) (code : Code) → IsBuilt p → count ≡ length (routines_of p) → Lays p (routines_of p) count new
+pub whole_few : (p : Program) (all count : ℕ) (new : Draft) (sites : List Site) (texts : List (List ℕ)) (classes : List ℕ) (code : Code) → breaks_of p ≡ [] → count ≡ length (unwritten_of p) → LaysAll p (routines_of p) (unwritten_of p) all count new
     → code ≡ record { ops = new.ops; rows = new.rows; sites = sites; texts = texts; routines = new.routines; classes = classes } → length code.ops ≤ OPS_FOR_SIZE * program_size p
-whole_few p count new sites texts classes code b n h ce =
+whole_few p all count new sites texts classes code none n h ce =
     let co : length new.ops ≡ length code.ops = ap (λ (x : Code). length x.ops) (sym ce) in
-    let all : defined_size (take count (routines_of p)) ≡ defined_size (routines_of p) = ap defined_size (take_all count (routines_of p) (omega (arith, n))) in
+    let us : unwritten_rooms p (take count (unwritten_of p)) ≡ unwritten_rooms p (unwritten_of p) = ap (unwritten_rooms p) (take_all count (unwritten_of p) (omega (arith, n))) in
     let room = h.room in
-    let few = routines_few p b in
-    omega (arith, co, all, room, few)
+    let fit = rooms_fit p none in
+    omega (arith, co, us, room, fit)

@@ -1,5 +1,17 @@
-pub mod Built
-pub mod Ending
+mod Alone
+mod Apart
+mod Built
+mod Costs
+mod Distinct
+mod Ending
 pub mod Laying
 pub mod Mained
+mod Named
+mod Numbered
+mod Numbers
+mod Owed
 pub mod Refused
+pub mod Ruled
+mod Rooms
+mod Sums
+mod Unwritten

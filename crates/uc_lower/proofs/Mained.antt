@@ -1,27 +1,42 @@
--- The program's main is found among the items from the first on.
-use Rattle.std.proofs.Common.{◌≡◌, ℕ, zero, suc, ◌+◌, true, false, List, [], ◌∷◌, length, drop, if◌then◌else◌, refl, ap, sym, ◌∙◌}
-use Rattle.std.proofs.lemmas.Bool.{and_parts}
-use Rattle.uc_tree.specs.Programs.{Item, Program}
-use Rattle.uc_tree.specs.Numbering.{item_defined}
+-- The number of main among the routines of items.
+use Rattle.std.proofs.Common.{◌≡◌, ℕ, ◌+◌, ◌∷◌, List, [], Bool, true, false, if◌then◌else◌, length, drop, ap, ◌∙◌, refl, arith}
+use Rattle.std.proofs.lemmas.List.{length-append}
+use Rattle.uc_tree.specs.Programs.{MemberForm, FieldsMember, RoutineMember, ProtoMember, Member, Item, ClassItem, RoutineItem, ConstItem, ProtoItem, ForwardItem, UsingItem, Program}
+use Rattle.uc_tree.specs.Numbering.{form_defined, item_defined, members_defined}
 use Rattle.uc_tree.specs.ProgramMain.{is_main_item, main_among}
-use Rattle.uc_meaning.specs.BuiltForms.{is_built_item, are_built_items}
-use Rattle.uc_lower.specs.Mains.{routines_in}
-use Rattle.uc_lower.proofs.Built.{item_count}
+use Rattle.uc_lower.specs.Mains.{routines_in, routines_in_form, routines_in_members}
 
-built_drop : (xs : List Item) (i : ℕ) → are_built_items xs ≡ true → are_built_items (drop i xs) ≡ true
-built_drop [] zero e = refl
-built_drop [] (suc i) e = refl
-built_drop (x ∷ xs) zero e = e
-built_drop (x ∷ xs) (suc i) e = built_drop xs i (and_parts _ _ e).1
+form_count : (p : Program) (name : List ℕ) (f : MemberForm) → length (form_defined p name f) ≡ routines_in_form f
+form_count p name (FieldsMember at b ds) = refl
+form_count p name (RoutineMember r) = refl
+form_count p name (ProtoMember s) = refl
 
-built_here : (xs rest : List Item) (i : ℕ) (x : Item) → are_built_items xs ≡ true → drop i xs ≡ x ∷ rest → is_built_item x ≡ true
-built_here xs rest i x e h = (and_parts _ _ (ap are_built_items (sym h) ∙ built_drop xs i e)).0
+members_count : (p : Program) (name : List ℕ) (ms : List Member) → length (members_defined p name ms) ≡ routines_in_members ms
+members_count p name [] = refl
+members_count p name (m ∷ ms) =
+    let a = length-append (form_defined p name m.form) (members_defined p name ms) in
+    let b = form_count p name m.form in
+    let d = members_count p name ms in
+    omega (arith, a, b, d)
+
+item_count : (p : Program) (i : Item) → length (item_defined p i) ≡ routines_in i
+item_count p (ClassItem c) = members_count p c.name c.members
+item_count p (RoutineItem r) = refl
+item_count p (ConstItem c) = refl
+item_count p (ProtoItem s) = refl
+item_count p (ForwardItem f) = refl
+item_count p (UsingItem at) = refl
+
+case_main : (b : Bool) (k m : ℕ) → b ≡ true → (if b then 0 else k + m) ≡ 0
+case_main true k m e = refl
+case_main false k m e = cc
+
+case_step : (b : Bool) (k m : ℕ) → b ≡ false → (if b then 0 else k + m) ≡ k + m
+case_step true k m e = cc
+case_step false k m e = refl
 
 pub main_here : (p : Program) (xs rest : List Item) (i : ℕ) (x : Item) → drop i xs ≡ x ∷ rest → is_main_item x ≡ true → main_among p (drop i xs) ≡ 0
-main_here p xs rest i x h m =
-    ap (λ l. main_among p l) h ∙ ap (λ b. if b then 0 else length (item_defined p x) + main_among p rest) m
+main_here p xs rest i x h e = ap (main_among p) h ∙ case_main (is_main_item x) (length (item_defined p x)) (main_among p rest) e
 
-pub main_step : (p : Program) (xs rest : List Item) (i : ℕ) (x : Item) → are_built_items xs ≡ true → drop i xs ≡ x ∷ rest → is_main_item x ≡ false → main_among p (drop i xs) ≡ routines_in x + main_among p rest
-main_step p xs rest i x e h m =
-    ap (λ l. main_among p l) h ∙ ap (λ b. if b then 0 else length (item_defined p x) + main_among p rest) m
-    ∙ ap (λ (n : ℕ). n + main_among p rest) (item_count p x (built_here xs rest i x e h))
+pub main_step : (p : Program) (xs rest : List Item) (i : ℕ) (x : Item) → drop i xs ≡ x ∷ rest → is_main_item x ≡ false → main_among p (drop i xs) ≡ routines_in x + main_among p rest
+main_step p xs rest i x h e = ap (main_among p) h ∙ case_step (is_main_item x) (length (item_defined p x)) (main_among p rest) e ∙ ap (λ k. k + main_among p rest) (item_count p x)

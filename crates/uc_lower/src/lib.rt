@@ -2,5 +2,6 @@
 #![tactic(auto)]
 
 pub mod lower;
+mod numbering;
 pub mod program_main;
 pub mod routines;

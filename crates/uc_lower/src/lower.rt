@@ -1,18 +1,23 @@
 // The code of a program.
 
-ghost use Rattle.std.specs.Prelude.{◌≡◌, ◌*◌, ◌≤◌, ◌<◌, [], ◌∷◌, length, map, IfErr, IfOk, MatchOption};
+ghost use Rattle.std.specs.Prelude.{◌≡◌, ◌+◌, ◌*◌, ◌^◌, ◌≤◌, ◌<◌, [], length, map, IfErr, IfOk, IsTrue, MatchOption};
 ghost use Rattle.uc_tree.specs.declared.limits.TheConstants.{OPS_FOR_SIZE};
+ghost use Rattle.uc_tree.specs.Cells.{classes_of};
 ghost use Rattle.uc_tree.specs.Numbering.{routines_of};
+ghost use Rattle.uc_tree.specs.Objects.{unwritten_of};
 ghost use Rattle.uc_tree.specs.Resolve.{source_of};
 ghost use Rattle.uc_tree.specs.Sizes.{program_size};
-ghost use Rattle.uc_meaning.specs.BuiltForms.{IsBuilt};
+ghost use Rattle.uc_built.specs.BuiltForms.{IsBuilt};
+ghost use Rattle.uc_meaning.specs.Breaks.{breaks_of};
 ghost use Rattle.uc_code.specs.Pace.{IsPaced};
 ghost use Rattle.uc_code.specs.Lowered.{Lowered};
 ghost use Rattle.uc_numbers.specs.Routines.{defined_at};
+ghost use Rattle.uc_unwritten.specs.Unwritten.{number_of_class, unwritten_as};
 ghost use Rattle.uc_lower.specs.Refusing.{Fits, FitsAll, IsFirstLarge, Refuses};
 
+use crate::numbering::{cells_of_classes, numbering_of};
 use crate::program_main::number_of_main;
-use crate::routines::{lower_routines, no_code, routines_in};
+use crate::routines::{lower_all_unwritten, lower_routines, no_code};
 use std::alloc::{AllocError, Global};
 use uc_code::code::Code;
 use uc_code::draft::Draft;
@@ -25,6 +30,8 @@ use uc_sizes::frames::cells_of_routine;
 use uc_sizes::sizes::Sizes;
 use uc_tree::limits::{FRAME_CELLS, PROGRAM_SIZE};
 use uc_tree::program::Program;
+use uc_unwritten::numbers::numbers_of_classes;
+use uc_unwritten::unwritten::{Unwritten, unwritten_of};
 
 /// Why a program is not lowered: the frame of this routine, the first such, has too many cells; the program counts too much; or
 /// memory is wanting. The greatest number stands for all that are greater.
@@ -53,6 +60,54 @@ fn large_frame(sizes: &Sizes, defined: &[Defined], count: u32) -> Option<LowerFa
     None
 }
 
+// The code of a program that fits, of whose classes these are the numbers, and these the routines that nobody wrote.
+fn lower_all(
+    alloc: Global,
+    program: &Program,
+    sizes: &Sizes,
+    defined: &[Defined],
+    count: u32,
+    unwritten: &[Unwritten],
+    numbers: Vec<u32>,
+) -> Result<Code, AllocError>
+    requires built { IsBuilt program.now }
+    requires unbroken { breaks_of program.now ≡ [] }
+    requires fits { Fits program.now }
+    requires sizes { sizes.now ≡ program.now }
+    requires defined { map defined_at defined.now ≡ routines_of program.now }
+    requires count { count ≡ length defined.now }
+    requires unwritten { map unwritten_as unwritten.now ≡ unwritten_of program.now }
+    requires few { count + length unwritten.now < 2 ^ 32 }
+    requires numbers { numbers.items ≡ map (number_of_class program.now) (classes_of program.now.items) }
+    ensures lowered { IfOk result (λ code. Lowered (source_of program.now) code) }
+    ensures paced { IfOk result (λ code. IsPaced code.ops code.routines) }
+    ensures few { IfOk result (λ code. length code.ops ≤ OPS_FOR_SIZE * program_size program.now) }
+{
+    let numbering = numbering_of(alloc, defined, count, unwritten, numbers)?;
+    let names = ProgramNames::new(alloc, sizes, numbering)?;
+    let mut out = Draft::new(alloc, no_code(alloc, defined.len() + unwritten.len())?);
+    let main = match number_of_main(&program.items) {
+        Some(main) => main,
+        None => return Err(AllocError),
+    };
+    lower_routines(alloc, &names, defined, main, count, &mut out)?;
+    lower_all_unwritten(alloc, &names, unwritten, count, &mut out)?;
+    let sites = sites_of(alloc, program)?;
+    let texts = texts_of(alloc, program)?;
+    let classes = cells_of_classes(alloc, program, sizes)?;
+    Ok(out.finish(sites, texts, classes))
+}
+
+// Whether all routines have numbers.
+fn are_few(count: u32, unwritten: usize) -> bool
+    ensures { IsTrue result → count + unwritten < 2 ^ 32 }
+{
+    match u32::try_from(unwritten) {
+        Ok(more) => count.checked_add(more).is_some(),
+        Err(_) => false,
+    }
+}
+
 // The code of a program that fits.
 fn lower_fit(
     alloc: Global,
@@ -62,6 +117,7 @@ fn lower_fit(
     count: u32,
 ) -> Result<Code, AllocError>
     requires built { IsBuilt program.now }
+    requires unbroken { breaks_of program.now ≡ [] }
     requires fits { Fits program.now }
     requires sizes { sizes.now ≡ program.now }
     requires defined { map defined_at defined.now ≡ routines_of program.now }
@@ -70,16 +126,13 @@ fn lower_fit(
     ensures paced { IfOk result (λ code. IsPaced code.ops code.routines) }
     ensures few { IfOk result (λ code. length code.ops ≤ OPS_FOR_SIZE * program_size program.now) }
 {
-    let routines = routines_in(alloc, defined)?;
-    let names = ProgramNames::new(alloc, sizes, routines)?;
-    let mut out = Draft::new(alloc, no_code(alloc, count)?);
-    let main = number_of_main(&program.items);
-    lower_routines(alloc, &names, defined, main, count, &mut out)?;
-    let sites = sites_of(alloc, program)?;
-    let texts = texts_of(alloc, program)?;
-    let mut classes = Vec::new(alloc);
-    classes.push(0)?;
-    Ok(out.finish(sites, texts, classes))
+    let numbers = numbers_of_classes(alloc, program)?;
+    let unwritten = unwritten_of(alloc, sizes, defined, &numbers)?;
+    if !are_few(count, unwritten.len()) {
+        return Err(AllocError);
+    }
+    let code = lower_all(alloc, program, sizes, defined, count, &unwritten, numbers)?;
+    Ok(code)
 }
 
 fn lower_defined(
@@ -90,6 +143,7 @@ fn lower_defined(
     count: u32,
 ) -> Result<Code, LowerFault>
     requires built { IsBuilt program.now }
+    requires unbroken { breaks_of program.now ≡ [] }
     requires sizes { sizes.now ≡ program.now }
     requires defined { map defined_at defined.now ≡ routines_of program.now }
     requires count { count ≡ length defined.now }
@@ -112,10 +166,11 @@ fn lower_defined(
     }
 }
 
-/// The code of a program whose forms are built, of which these are the sizes. Its frames are tested first, then its size. The
+/// The code of a program whose forms are built and that breaks no rule, of which these are the sizes. Its frames are tested first, then its size. The
 /// code has at most `OPS_FOR_SIZE` ops for each unit of the program's size.
 pub fn lower(alloc: Global, program: &Program, sizes: &Sizes) -> Result<Code, LowerFault>
     requires built { IsBuilt program.now }
+    requires unbroken { breaks_of program.now ≡ [] }
     requires sizes { sizes.now ≡ program.now }
     ensures lowered { IfOk result (λ code. Lowered (source_of program.now) code) }
     ensures paced { IfOk result (λ code. IsPaced code.ops code.routines) }

@@ -1,11 +1,11 @@
 // The program's main among its routines.
 
-ghost use Rattle.std.specs.Prelude.{◌≡◌, ◌≤◌, true};
+ghost use Rattle.std.specs.Prelude.{◌≡◌, ◌+◌, ◌≤◌, length, IfSome};
 ghost use Rattle.uc_tree.specs.Programs.{Program};
 ghost use Rattle.uc_tree.specs.ProgramMain.{is_main_item, main_among};
-ghost use Rattle.uc_meaning.specs.BuiltForms.{are_built_items};
-ghost use Rattle.uc_lower.specs.Mains.{routines_in};
+ghost use Rattle.uc_lower.specs.Mains.{routines_in, routines_in_form, routines_in_members};
 
+use uc_tree::class::{Member, MemberForm};
 use uc_tree::program::{Item, ItemForm};
 
 fn is_main(item: &Item) -> bool
@@ -21,13 +21,33 @@ fn is_main(item: &Item) -> bool
     }
 }
 
-// How many routines an item outside of classes is.
+fn routines_in_form(member: &Member) -> usize
+    ensures { result ≡ routines_in_form member.now.form }
+{
+    match &member.form {
+        MemberForm::Fields { .. } => 0,
+        MemberForm::Routine { .. } => 1,
+        MemberForm::Proto { .. } => 0,
+    }
+}
+
+fn routines_in_members(members: &[Member]) -> usize
+    ensures number { result ≡ routines_in_members members.now }
+    ensures few { result ≤ length members.now }
+{
+    let mut number: usize = 0;
+    for member in members {
+        number += routines_in_form(member);
+    }
+    number
+}
+
+// How many routines an item is, or has.
 fn routines_in(item: &Item) -> usize
-    ensures number { result ≡ routines_in item.now }
-    ensures few { result ≤ 1 }
+    ensures { result ≡ routines_in item.now }
 {
     match &item.form {
-        ItemForm::Class { .. } => 0,
+        ItemForm::Class { class } => routines_in_members(&class.members),
         ItemForm::Routine { .. } => 1,
         ItemForm::Constant { .. } => 0,
         ItemForm::Proto { .. } => 0,
@@ -36,18 +56,27 @@ fn routines_in(item: &Item) -> usize
     }
 }
 
-/// The number of the program's main among its routines, where its items are of forms that are built; where there is no main it
-/// is that of no routine.
-pub fn number_of_main(items: &[Item]) -> usize
-    requires { are_built_items items.now ≡ true }
-    ensures { (p : Program) → result ≡ main_among p items.now }
+// The number behind so many routines more.
+fn number_behind(number: u32, more: usize) -> Option<u32>
+    ensures { IfSome result (λ n. n ≡ number + more) }
 {
-    let mut number: usize = 0;
+    match u32::try_from(more) {
+        Ok(more) => number.checked_add(more),
+        Err(_) => None,
+    }
+}
+
+/// The number of the program's main among its routines; where there is no main it is that of no routine. None where a number is
+/// not below 2^32.
+pub fn number_of_main(items: &[Item]) -> Option<u32>
+    ensures { IfSome result (λ n. (p : Program) → n ≡ main_among p items.now) }
+{
+    let mut number: u32 = 0;
     for item in items {
         if is_main(item) {
-            return number;
+            return Some(number);
         }
-        number += routines_in(item);
+        number = number_behind(number, routines_in(item))?;
     }
-    number
+    Some(number)
 }

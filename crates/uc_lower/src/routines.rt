@@ -1,39 +1,37 @@
 // The code of all routines, one after another.
 
-ghost use Rattle.std.specs.Prelude.{◌≡◌, ◌≤◌, [], true, length, map, IfOk, OnOk};
-ghost use Rattle.uc_tree.specs.declared.limits.TheConstants.{PROGRAM_SIZE};
-ghost use Rattle.uc_tree.specs.Numbering.{routines_of};
+ghost use Rattle.std.specs.Prelude.{◌≡◌, ◌+◌, ◌*◌, ◌^◌, ◌≤◌, ◌<◌, [], true, false, None, Some, length, map, nat_eq, slice_get, slice_set, IfOk, OnOk};
+ghost use Rattle.uc_tree.specs.declared.limits.TheConstants.{FRAME_CELLS, OPS_FOR_SIZE, PROGRAM_OPS, PROGRAM_SIZE};
+ghost use Rattle.uc_tree.specs.StatementSizes.{stmts_size};
+ghost use Rattle.uc_tree.specs.Cells.{routine_cells};
+ghost use Rattle.uc_tree.specs.Gathered.{gathered_all};
+ghost use Rattle.uc_tree.specs.Numbering.{is_plain, own_sites, own_texts, routines_of};
+ghost use Rattle.uc_tree.specs.Objects.{unwritten_of};
 ghost use Rattle.uc_tree.specs.ProgramMain.{main_number};
-ghost use Rattle.uc_tree.specs.Sizes.{program_size};
-ghost use Rattle.uc_meaning.specs.BuiltForms.{IsBuilt};
+ghost use Rattle.uc_tree.specs.Resolve.{routine_meant, routine_scope};
+ghost use Rattle.uc_built.specs.BuiltForms.{are_built, IsBuilt};
+ghost use Rattle.uc_meaning.specs.Breaks.{breaks_of};
+ghost use Rattle.uc_code.specs.Laid.{laid_in};
+ghost use Rattle.uc_code.specs.Lowered.{RoutineAt};
+ghost use Rattle.uc_code.specs.Ranges.{Kept};
 ghost use Rattle.uc_numbers.specs.Routines.{defined_at};
-ghost use Rattle.uc_lower.specs.Laying.{Lays};
+ghost use Rattle.uc_unwritten.specs.Unwritten.{unwritten_as};
+ghost use Rattle.uc_lower.specs.Laying.{Lays, LaysAll, routine_room};
 ghost use Rattle.uc_lower.specs.Refusing.{Fits};
 
 use std::alloc::{AllocError, Global};
 use uc_code::draft::Draft;
 use uc_code::rows::RoutineCode;
-use uc_lower_expr::program_names::ProgramNames;
+use uc_lower_class::builder::{lower_builder, lower_unwritten};
+use uc_lower_expr::program_names::{ProgramNames, sig_of};
 use uc_lower_stmt::routine::lower_routine;
 use uc_numbers::routines::Defined;
-use uc_tree::class::Routine;
-
-// The routines alone.
-pub(crate) fn routines_in<'a>(
-    alloc: Global,
-    defined: &[Defined<'a>],
-) -> Result<Vec<&'a Routine>, AllocError>
-    ensures { IfOk result (λ v. map (λ r. r.now) v.items ≡ map (λ d. d.routine) (map defined_at defined.now)) }
-{
-    let mut routines = Vec::new(alloc);
-    for d in defined {
-        routines.push(d.routine)?;
-    }
-    Ok(routines)
-}
+use uc_tree::class::Sig;
+use uc_tree::kinds::Role;
+use uc_unwritten::unwritten::Unwritten;
 
 // A row for each routine, of which nothing is known.
-pub(crate) fn no_code(alloc: Global, count: u32) -> Result<Vec<RoutineCode>, AllocError>
+pub(crate) fn no_code(alloc: Global, count: usize) -> Result<Vec<RoutineCode>, AllocError>
     ensures { IfOk result (λ v. length v.items ≡ count) }
 {
     let none = RoutineCode {
@@ -41,39 +39,124 @@ pub(crate) fn no_code(alloc: Global, count: u32) -> Result<Vec<RoutineCode>, All
         cells: 0,
         params: 0,
     };
-    let rows = vec![in alloc; none; count as usize]?;
+    let rows = vec![in alloc; none; count]?;
     Ok(rows)
 }
 
-// Adds the code of all routines to a draft without ops.
+// Whether a routine is no constructor and no destructor.
+fn is_plain(sig: &Sig) -> bool
+    ensures { result ≡ is_plain sig.now.role }
+{
+    match sig.role {
+        Role::Plain => true,
+        Role::Constructor => false,
+        Role::Destructor => false,
+    }
+}
+
+// Adds the code of a written routine, behind so many text literals and accept statements of the program.
+fn lower_written(
+    alloc: Global,
+    names: &ProgramNames,
+    one: &Defined,
+    main: bool,
+    number: u32,
+    texts: u32,
+    sites: u32,
+    out: &mut Draft,
+) -> Result<(), AllocError>
+    requires main { main ≡ nat_eq number (main_number names.now) }
+    requires alone { is_plain one.now.routine.now.sig.role ≡ false → main ≡ false }
+    requires built { are_built one.now.routine.now.body ≡ true }
+    requires params { length one.now.routine.now.sig.params ≤ PROGRAM_SIZE }
+    requires known { number < length out.old.routines }
+    requires written { number < length (routines_of names.now) }
+    requires outside { out.old.marks ≡ [] }
+    requires room { length out.old.ops + routine_room names.now (defined_at one.now) ≤ PROGRAM_OPS }
+    requires cells { routine_cells names.now one.now.routine.now ≤ FRAME_CELLS }
+    requires texts { texts + stmts_size one.now.routine.now.body ≤ PROGRAM_SIZE }
+    ensures kept { OnOk result (Kept (laid_in out.old) (laid_in out.new)) }
+    ensures room { OnOk result (length out.new.ops ≤ length out.old.ops + routine_room names.now (defined_at one.now)) }
+    ensures code { OnOk result (RoutineAt (laid_in out.new) number (routine_meant names.now one.now.routine.now (routine_scope names.now one.now.routine.now.sig.params one.now.number number texts sites)) (record { entry = length out.old.ops; cells = routine_cells names.now one.now.routine.now; params = length one.now.routine.now.sig.params }) (length out.old.ops) (length out.new.ops)) }
+    ensures written { OnOk result (out.new.routines ≡ slice_set out.old.routines number (record { entry = length out.old.ops; cells = routine_cells names.now one.now.routine.now; params = length one.now.routine.now.sig.params })) }
+    ensures outside { OnOk result (out.new.marks ≡ []) }
+    ensures texts { OnOk result (out.new.texts ≡ texts + length (gathered_all own_texts one.now.routine.now.body)) }
+    ensures few_texts { OnOk result (out.new.texts ≤ texts + stmts_size one.now.routine.now.body) }
+    ensures sites { OnOk result (out.new.sites ≡ sites + length (gathered_all (own_sites None 0) one.now.routine.now.body)) }
+{
+    let routine = one.routine;
+    if is_plain(sig_of(routine)) {
+        lower_routine(
+            alloc, names, routine, main, one.number, number, texts, sites, out,
+        )?;
+        return Ok(());
+    }
+    lower_builder(alloc, names, routine, one.number, number, texts, sites, out)?;
+    Ok(())
+}
+
+// Adds the code of all written routines to a draft without ops, of so many routines in all.
 pub(crate) fn lower_routines(
     alloc: Global,
     names: &ProgramNames,
     defined: &[Defined],
-    main: usize,
+    main: u32,
     count: u32,
     out: &mut Draft,
 ) -> Result<(), AllocError>
     requires built { IsBuilt names.now }
+    requires unbroken { breaks_of names.now ≡ [] }
     requires fits { Fits names.now }
     requires defined { map defined_at defined.now ≡ routines_of names.now }
     requires main { main ≡ main_number names.now }
     requires count { count ≡ length defined.now }
-    requires table { length out.old.routines ≡ count }
+    requires table { count ≤ length out.old.routines }
     requires ops { out.old.ops ≡ [] }
-    requires rows { out.old.rows ≡ [] }
-    ensures { OnOk result (Lays names.now (routines_of names.now) count out.new) }
+    requires outside { out.old.marks ≡ [] }
+    ensures { OnOk result (Lays names.now (routines_of names.now) (length out.old.routines) count out.new) }
 {
     let mut texts: u32 = 0;
     let mut sites: u32 = 0;
     for number in 0..count {
         let d = &defined[number as usize];
-        let is_main = number as usize == main;
-        lower_routine(
-            alloc, names, d.routine, is_main, d.number, number, texts, sites, out,
-        )?;
+        let is_main = number == main;
+        lower_written(alloc, names, d, is_main, number, texts, sites, out)?;
         texts = out.texts();
         sites = out.sites();
+    }
+    Ok(())
+}
+
+#[tactic(auto, using(crate::proofs::Numbered::mapped_get, crate::proofs::Numbered::mapped_is))]
+fn nth(unwritten: &[Unwritten], place: usize) -> Unwritten
+    requires { place < length unwritten.now }
+    ensures { slice_get (map unwritten_as unwritten.now) place ≡ Some (unwritten_as result) }
+{
+    unwritten[place]
+}
+
+// Adds the code of the routines that nobody wrote to a draft in which the written ones stand, so many.
+pub(crate) fn lower_all_unwritten(
+    alloc: Global,
+    names: &ProgramNames,
+    unwritten: &[Unwritten],
+    count: u32,
+    out: &mut Draft,
+) -> Result<(), AllocError>
+    requires built { IsBuilt names.now }
+    requires unbroken { breaks_of names.now ≡ [] }
+    requires fits { Fits names.now }
+    requires unwritten { map unwritten_as unwritten.now ≡ unwritten_of names.now }
+    requires count { count ≡ length (routines_of names.now) }
+    requires few { count + length unwritten.now < 2 ^ 32 }
+    requires lays { Lays names.now (routines_of names.now) (count + length unwritten.now) count out.old }
+    ensures { OnOk result (LaysAll names.now (routines_of names.now) (unwritten_of names.now) (count + length unwritten.now) (length unwritten.now) out.new) }
+{
+    let mut number = count;
+    for place in 0..unwritten.len() {
+        let one = nth(unwritten, place);
+        lower_unwritten(alloc, names, one, number, out)?;
+        number += 1;
     }
     Ok(())
 }

@@ -6,16 +6,20 @@ use Rattle.uc_code.specs.declared.op.Op.TheVariants as op
 use Rattle.uc_code.specs.declared.rows.Instruction.{Instruction}
 use Rattle.uc_code.specs.Laid.{Laid, laid_in}
 use Rattle.uc_code.specs.Drafts.{Draft, ops_with, patched}
-use Rattle.uc_code.specs.Ranges.{OpAt, Nothing, Both, Fork, Same, Kept, Stable}
+use Rattle.uc_code.specs.Ranges.{OpAt, Nothing, Risk, Both, Fork, Same, Kept, Stable}
 use Rattle.uc_code.proofs.Stable.{kept_refl, kept_then, kept_same, same_then}
 use Rattle.uc_code.proofs.Patches.{kept_with, one_with, length-patched, patched_at, same_before, same_after}
-use Rattle.uc_lower_expr.specs.Added.{Adds, OpCode}
+use Rattle.uc_lower_expr.specs.Added.{Adds, OpCode, RiskCode}
 
 pub rest_then : (a b c : Draft) → b ≡ record a { ops = b.ops } → c ≡ record b { ops = c.ops } → c ≡ record a { ops = c.ops }
 rest_then a b c h k = k ∙ ap (λ d. let e : Draft = record d { ops = c.ops } in e) h
 
 pub rest_behind : {n : ℕ} {S : Laid → ℕ → ℕ → Type 0} {b c : Draft} → (a : Draft) → b ≡ record a { ops = b.ops } → Adds n S b c → c ≡ record a { ops = c.ops }
 rest_behind {n} {S} {b} {c} a h k = rest_then a b c h k.rest
+
+-- the rows are settled as far as they were
+pub adds_settled : {n : ℕ} {S : Laid → ℕ → ℕ → Type 0} {old new : Draft} → Adds n S old new → new.settled ≡ old.settled
+adds_settled h = ap (λ (d : Draft). d.settled) h.rest
 
 pub adds_nothing : (old : Draft) → Adds 0 (λ code. Nothing) old old
 adds_nothing old = record { rest = refl; kept = kept_refl (laid_in old); room = omega arith; code = record { end = refl } }
@@ -28,6 +32,14 @@ adds_put o line old new e = subst (λ (d : Draft). Adds 1 (OpCode line o) old d)
   room = omega (arith, length-append old.ops (record { op = o; line = line } ∷ []));
   code = one_with (laid_in old) o line;
 })
+
+-- one op more from which an event may come
+pub adds_risk : (o : Op) (line : ℕ) (old new : Draft) → new ≡ record old { ops = ops_with old.ops o line } → Risk (laid_in new) old.marks o line (length old.ops) (length new.ops) → Adds 1 (RiskCode line old.marks o) old new
+adds_risk o line old new e r = let h = adds_put o line old new e in record { rest = h.rest; kept = h.kept; room = h.room; code = r }
+
+-- its handlers are those of the marks of a draft with fewer ops
+pub risk_in : (line : ℕ) (o : Op) (was old new : Draft) → old ≡ record was { ops = old.ops } → Adds 1 (RiskCode line old.marks o) old new → Adds 1 (RiskCode line was.marks o) old new
+risk_in line o was old new e h = subst (λ (d : Draft). Adds 1 (RiskCode line d.marks o) old new) e h
 
 pub adds_more : {m n : ℕ} {B : Laid → ℕ → ℕ → Type 0} {old new : Draft} → m ≤ n → Adds m B old new → Adds n B old new
 adds_more l h = record { rest = h.rest; kept = h.kept; room = let r = h.room in omega arith; code = h.code }
@@ -119,6 +131,7 @@ module _ (line : ℕ) (m k : ℕ) (B C : Laid → ℕ → ℕ → Type 0) (b : S
       longer = let l = from_start.longer in let e = long in omega arith;
       same = λ i o l h. let w = slice_get_within d0.ops i (record { op = o; line = l }) h.here in (before (length d0.ops) (omega arith)).same i o l (omega arith) w (from_start.same i o l h);
       chains = λ next l. from_start.chains next l;
+      handlers = λ k e h. (before (length d0.ops) (omega arith)).handlers k e (from_start.handlers k e h);
     };
     room = let r1 = hole.room in let r2 = first.room in let r3 = jump.room in let r4 = second.room in let e = long in omega arith;
     code = record {

@@ -1,17 +1,15 @@
 -- One lemma for each piece of code that lowering adds.
 use Rattle.std.proofs.Common.{◌≡◌, ℕ, ℤ, ◌+◌, ◌≤◌, pos, Bool, true, false, List, Option, Some, None, length, refl, ap, sym, subst, ◌∙◌, arith}
 use Rattle.std.specs.Prelude.{if◌then◌else◌}
-use Rattle.uc_tree.specs.Names.{same_name}
-use Rattle.uc_tree.specs.declared.kinds.Base.{Base}
-use Rattle.uc_tree.specs.declared.kinds.Base.TheVariants as base
 use Rattle.uc_tree.specs.declared.kinds.Known.{Known}
 use Rattle.uc_tree.specs.declared.ops.StepOp.{StepOp}
 use Rattle.uc_tree.specs.declared.ops.StepOp.TheVariants as step
 use Rattle.uc_tree.specs.Programs.{Constant, Program}
 use Rattle.uc_tree.specs.Constants.{constants_of, constant_named}
 use Rattle.uc_tree.specs.Numbering.{routines_of}
-use Rattle.uc_tree.specs.Source.{Shape, Integer, Character, Truth, Binding, Last, Field, Array, shape_cells, Operator, Plus, Minus, Expr, Literal, Variable as Var, Get, Operate, Set}
-use Rattle.uc_tree.specs.Resolve.{Meant, shape_of, converted, value_by, value_of, Standing, AtVariable, AtPlace, AsValue, AsInput, AsFail, AsRoutine, AsMember, AsCondition, AsEvent, AsNothing, known_named, known_meant, name_meant, item_meant, constant_meant_by, routine_meant_by, routine_from, variable_in, updated, updated_by, stepped, stepped_by, step_meant, field_by, fail_name, bool_type, no_meaning}
+use Rattle.uc_tree.specs.Source.{Shape, Integer, Character, Truth, Binding, Last, Field, Array, Operator, Plus, Minus, Expr, Literal, Variable as Var, Get, Operate, Set}
+use Rattle.uc_tree.specs.Objects.{plain_class, shape_of}
+use Rattle.uc_tree.specs.Resolve.{Meant, converted, value_by, value_of, Standing, AtVariable, AtPlace, AsValue, known_named, known_meant, name_meant, item_meant, constant_meant_by, routine_meant_by, routine_from, variable_in, updated, updated_by, stepped, stepped_by, step_meant}
 use Rattle.uc_code.specs.declared.op.Op.{Op}
 use Rattle.uc_code.specs.declared.op.Op.TheVariants as op
 use Rattle.uc_code.specs.declared.rows.Mark.{Mark}
@@ -26,9 +24,9 @@ use Rattle.uc_lower_expr.specs.declared.meaning.Standing.{Standing as Told}
 use Rattle.uc_lower_expr.specs.declared.meaning.Standing.TheVariants as standing
 use Rattle.uc_lower_expr.specs.declared.meaning.Meaning.{Meaning}
 use Rattle.uc_lower_expr.specs.declared.names.Variable.{Variable}
-use Rattle.uc_lower_expr.specs.declared.program_names.Fixed.{Fixed}
+use Rattle.uc_lower_expr.specs.declared.numbering.Fixed.{Fixed}
 use Rattle.uc_lower_expr.specs.Numbered.{IsFixed}
-use Rattle.uc_lower_expr.specs.Meanings.{cell_in, shape_as, stands_as, Tells}
+use Rattle.uc_lower_expr.specs.Meanings.{FieldAt, Begins, StandsAs, cell_in, shape_as, Tells}
 use Rattle.uc_lower_expr.specs.Added.{Adds, Cuts, Grows, ExprCode, ConvertCode, OpCode, fetched}
 use Rattle.uc_lower_expr.specs.Parts.{BeginCode, EndCode, UpdateCode, SetByCode, BehindCode, StepCode, Restarts, step_op_of, place_op_of, standing_by, bumped, IsVariable}
 use Rattle.uc_lower_expr.proofs.Adding.{adds_nothing, adds_more, adds_as, adds_both, regroup, and_nothing}
@@ -73,8 +71,8 @@ pub arm_behind : (ms : List Mark) (line k : ℕ) (o : Op) (s : Shape) (d0 d1 d2 
 arm_behind ms line k o s d0 d1 d2 d3 h1 h2 h3 = adds_more (omega arith) (adds_both (one_stable (op.Via k) line) h1 (adds_both (set_by_stable ms line k o s (Literal (pos 1))) h2 h3))
 
 -- a value of the same type
-pub as_value : (told t : Meaning) (m : Meant) (e : Expr) → t ≡ record told { standing = standing.Value } → Tells told m → Tells t (record { expr = e; ty = m.ty; standing = AsValue })
-as_value told t m e i u = subst (λ (x : Meaning). Tells x (record { expr = e; ty = m.ty; standing = AsValue })) (sym i) (record { shape = u.shape; len = u.len; standing = refl })
+pub as_value : {p : Program} → (told t : Meaning) (m : Meant) (e : Expr) → t ≡ record told { standing = standing.Value } → Tells p told m → Tells p t (record { expr = e; ty = m.ty; standing = AsValue })
+as_value {p} told t m e i u = subst (λ (x : Meaning). Tells p x (record { expr = e; ty = m.ty; standing = AsValue })) (sym i) (record { shape = u.shape; class = u.class; len = u.len; standing = refl })
 
 -- names and the cells of an element
 
@@ -82,47 +80,46 @@ as_value told t m e i u = subst (λ (x : Meaning). Tells x (record { expr = e; t
 abbrev meant_by : Bool → Known → Meant
 meant_by b k = if b then record { expr = Get k.cell; ty = k.ty; standing = AtPlace } else record { expr = Var k.cell; ty = k.ty; standing = AtVariable k.cell }
 
-told_by : (k : Known) (t : Meaning) (b : Bool) → shape_of k.ty.base ≡ shape_as t.scalar → k.ty.len ≡ t.elements → t.standing ≡ standing_by b k.cell → Tells t (meant_by b k)
-told_by k t true s l e = record { shape = s; len = l; standing = ap stands_as (sym e) }
-told_by k t false s l e = record { shape = s; len = l; standing = ap stands_as (sym e) }
+told_by : {p : Program} → (k : Known) (t : Meaning) (b : Bool) → shape_of k.ty.base ≡ shape_as t.scalar → plain_class p k.ty.base ≡ t.class → k.ty.len ≡ t.elements → t.standing ≡ standing_by b k.cell → Tells p t (meant_by b k)
+told_by k t true s c l e = record { shape = s; class = c; len = l; standing = subst (λ (x : Told). StandsAs x AtPlace) (sym e) refl }
+told_by k t false s c l e = record { shape = s; class = c; len = l; standing = subst (λ (x : Told). StandsAs x (AtVariable k.cell)) (sym e) refl }
 
-pub told_known : (k : Known) (t : Meaning) → shape_of k.ty.base ≡ shape_as t.scalar → k.ty.len ≡ t.elements → t.standing ≡ standing_by k.ty.by_ref k.cell → Tells t (known_meant k)
-told_known k t s l e = told_by k t k.ty.by_ref s l e
-
-pub element_cell : (b : Base) → shape_cells (shape_of b) ≡ 1
-element_cell base.Void = refl
-element_cell base.Int = refl
-element_cell base.Char = refl
-element_cell base.Bool = refl
-element_cell base.Condition = refl
-element_cell base.Cluster = refl
-element_cell base.Processor = refl
-element_cell (base.Named name) = refl
+pub told_known : {p : Program} → (k : Known) (t : Meaning) → shape_of k.ty.base ≡ shape_as t.scalar → plain_class p k.ty.base ≡ t.class → k.ty.len ≡ t.elements → t.standing ≡ standing_by k.ty.by_ref k.cell → Tells p t (known_meant k)
+told_known k t s c l e = told_by k t k.ty.by_ref s c l e
 
 -- the variable that is told of
 
-variable_told : (s : Told) → variable_in (stands_as s) ≡ cell_in s
-variable_told (standing.Variable k) = refl
-variable_told standing.Place = refl
-variable_told standing.Value = refl
-variable_told standing.Input = refl
-variable_told standing.Fail = refl
-variable_told (standing.Routine r) = refl
-variable_told standing.Nothing = refl
+variable_told : (x : Told) (s : Standing) → StandsAs x s → variable_in s ≡ cell_in x
+variable_told (standing.Variable k) s h = ap variable_in h
+variable_told (standing.Field k) s (Begins t i e) = refl
+variable_told standing.Place s h = ap variable_in h
+variable_told standing.Value s h = ap variable_in h
+variable_told standing.Input s h = ap variable_in h
+variable_told standing.Fail s h = ap variable_in h
+variable_told (standing.Routine r) s h = ap variable_in h
+variable_told (standing.Member r) s h = ap variable_in h
+variable_told standing.Nothing s h = ap variable_in h
 
-pub told_variable : (s : Meaning) (m : Meant) (k : ℕ) → Tells s m → Some k ≡ cell_in s.standing → variable_in m.standing ≡ Some k
-told_variable s m k u e = ap variable_in u.standing ∙ variable_told s.standing ∙ sym e
+pub told_variable : {p : Program} → (s : Meaning) (m : Meant) (k : ℕ) → Tells p s m → Some k ≡ cell_in s.standing → variable_in m.standing ≡ Some k
+told_variable s m k u e = variable_told s.standing m.standing u.standing ∙ sym e
 
-pub told_no_variable : (s : Meaning) (m : Meant) → Tells s m → None ≡ cell_in s.standing → variable_in m.standing ≡ None
-told_no_variable s m u e = ap variable_in u.standing ∙ variable_told s.standing ∙ sym e
+pub told_no_variable : {p : Program} → (s : Meaning) (m : Meant) → Tells p s m → None ≡ cell_in s.standing → variable_in m.standing ≡ None
+told_no_variable s m u e = variable_told s.standing m.standing u.standing ∙ sym e
 
-bumped_tells : (o : StepOp) (told t : Meaning) (m : Meant) → t ≡ record told { standing = standing.Value } → Tells told m → Tells t (bumped o m)
+-- the standing that is told, where it is this
+pub stands : {p : Program} → (s : Meaning) (m : Meant) (x : Told) → Tells p s m → s.standing ≡ x → StandsAs x m.standing
+stands s m x u e = subst (λ (y : Told). StandsAs y m.standing) e u.standing
+
+bumped_tells : {p : Program} → (o : StepOp) (told t : Meaning) (m : Meant) → t ≡ record told { standing = standing.Value } → Tells p told m → Tells p t (bumped o m)
 bumped_tells step.Increment told t m i u = as_value told t m _ i u
 bumped_tells step.Decrement told t m i u = as_value told t m _ i u
 
-step_tells : (o : StepOp) (told t : Meaning) (m : Meant) → t ≡ record told { standing = standing.Value } → Tells told m → Tells t (step_meant o m)
+step_tells : {p : Program} → (o : StepOp) (told t : Meaning) (m : Meant) → t ≡ record told { standing = standing.Value } → Tells p told m → Tells p t (step_meant o m)
 step_tells step.Increment told t m i u = as_value told t m _ i u
 step_tells step.Decrement told t m i u = as_value told t m _ i u
+
+pub name_told : (p : Program) (class : ℕ) (names : List Known) (name : List ℕ) (v : Variable) → IsVariable p names name v → Tells p v.told (name_meant p class name (known_named names name))
+name_told p class names name v n = subst (λ (o : Option Known). Tells p v.told (name_meant p class name o)) (sym n.is) n.tells
 
 -- under marks
 module _ (ms : List Mark) where
@@ -147,28 +144,12 @@ module _ (ms : List Mark) where
   known_code : (line : ℕ) (k : Known) (b : Bool) (old new : Draft) → k.ty.by_ref ≡ b → Adds 1 (OpCode line (place_op_of b k.cell)) old new → Adds 1 (ExprCode line ms (known_meant k).expr) old new
   known_code line k b old new e h = subst (λ (x : Bool). Adds 1 (ExprCode line ms (meant_by x k).expr) old new) (sym e) (known_by line k b old new h)
 
-  pub name_known : (p : Program) (line : ℕ) (names : List Known) (name : List ℕ) (v : Variable) (o : Op) (old new : Draft) → IsVariable names name v → o ≡ place_op_of v.by_ref v.cell → Adds 1 (OpCode line o) old new → Adds 1 (ExprCode line ms (name_meant p name (known_named names name)).expr) old new
-  name_known p line names name v o old new n i h =
-      subst (λ (x : Option Known). Adds 1 (ExprCode line ms (name_meant p name x).expr) old new) (sym n.is) (
+  pub name_known : (p : Program) (class line : ℕ) (names : List Known) (name : List ℕ) (v : Variable) (o : Op) (old new : Draft) → IsVariable p names name v → o ≡ place_op_of v.by_ref v.cell → Adds 1 (OpCode line o) old new → Adds 1 (ExprCode line ms (name_meant p class name (known_named names name)).expr) old new
+  name_known p class line names name v o old new n i h =
+      subst (λ (x : Option Known). Adds 1 (ExprCode line ms (name_meant p class name x).expr) old new) (sym n.is) (
       known_code line n.known v.by_ref old new n.by_ref (
       subst (λ (k : ℕ). Adds 1 (OpCode line (place_op_of v.by_ref k)) old new) (sym n.cell) (
       subst (λ (x : Op). Adds 1 (OpCode line x) old new) i h)))
-
-  field_input : (line : ℕ) (b : Bool) (code : Laid) (a z : ℕ) → One code (op.Push (pos 0)) line a z → ExprAt code line ms (if b then record { expr = Literal (pos 0); ty = bool_type; standing = AsFail } else no_meaning).expr a z
-  field_input line true code a z h = h
-  field_input line false code a z h = h
-
-  pub field_code : (line : ℕ) (s : Standing) (m : Meant) (name : List ℕ) (code : Laid) (a z : ℕ) → One code (op.Push (pos 0)) line a z → ExprAt code line ms (field_by s m name).expr a z
-  field_code line (AtVariable k) m name code a z h = h
-  field_code line AtPlace m name code a z h = h
-  field_code line AsValue m name code a z h = h
-  field_code line AsFail m name code a z h = h
-  field_code line (AsRoutine r) m name code a z h = h
-  field_code line (AsMember r) m name code a z h = h
-  field_code line (AsCondition k) m name code a z h = h
-  field_code line (AsEvent k) m name code a z h = h
-  field_code line AsNothing m name code a z h = h
-  field_code line AsInput m name code a z h = field_input line (same_name name fail_name) code a z h
 
   pub item_fixed : (p : Program) (line : ℕ) (name : List ℕ) (v : Fixed) (x : ℤ) (old new : Draft) → IsFixed p name v → x ≡ v.value → Adds 1 (OpCode line (op.Push x)) old new → Adds 1 (ExprCode line ms (item_meant p name).expr) old new
   item_fixed p line name v x old new f e h =
@@ -182,28 +163,37 @@ module _ (ms : List Mark) where
   item_routine p line name old new e h =
       subst (λ (o : Option Constant). Adds 1 (ExprCode line ms (constant_meant_by p name o).expr) old new) (sym e) (routine_code p line (routine_from (routines_of p) 0 name) old new h)
 
-  -- the value of a variable, of another place, and of what is a value
-  pub load_variable : (line a k : ℕ) (s t : Meaning) (old new : Draft) → a ≤ length old.ops → s.standing ≡ standing.Variable k → t ≡ record s { standing = standing.Value } → Restarts (op.Via k) line a old new → Grows 1 line ms a fetched s t old new
+  -- the value of a variable, of an own field, of another place, and of what is a value
+  pub load_variable : {p : Program} → (line a k : ℕ) (s t : Meaning) (old new : Draft) → a ≤ length old.ops → s.standing ≡ standing.Variable k → t ≡ record s { standing = standing.Value } → Restarts (op.Via k) line a old new → Grows p 1 line ms a fetched s t old new
   load_variable line a k s t old new l e i h =
       grows_restart 1 line ms a fetched s t (op.Via k) old new (omega arith) l h
       (λ m u. as_value s t m (value_of m) i u)
-      (λ m u code z w. subst (λ (o : Standing). ExprAt code line ms (value_by o m.expr) a z) (sym (u.standing ∙ ap stands_as e)) w)
+      (λ m u code z w. subst (λ (o : Standing). ExprAt code line ms (value_by o m.expr) a z) (sym (stands s m (standing.Variable k) u e)) w)
 
-  pub load_place : (line a : ℕ) (s t : Meaning) (old new : Draft) → a ≤ length old.ops → s.standing ≡ standing.Place → t ≡ record s { standing = standing.Value } → Adds 1 (OpCode line op.Load) old new → Grows 1 line ms a fetched s t old new
+  field_value : (line k : ℕ) (s : Standing) (e : Expr) (code : Laid) (a z : ℕ) → FieldAt k s → One code (op.ViaThis k) line a z → ExprAt code line ms (value_by s e) a z
+  field_value line k s e code a z (Begins t i is) h = subst (λ (n : ℕ). One code (op.ViaThis n) line a z) (sym is) h
+
+  pub load_field : {p : Program} → (line a k : ℕ) (s t : Meaning) (old new : Draft) → a ≤ length old.ops → s.standing ≡ standing.Field k → t ≡ record s { standing = standing.Value } → Restarts (op.ViaThis k) line a old new → Grows p 1 line ms a fetched s t old new
+  load_field line a k s t old new l e i h =
+      grows_restart 1 line ms a fetched s t (op.ViaThis k) old new (omega arith) l h
+      (λ m u. as_value s t m (value_of m) i u)
+      (λ m u code z w. field_value line k m.standing m.expr code a z (stands s m (standing.Field k) u e) w)
+
+  pub load_place : {p : Program} → (line a : ℕ) (s t : Meaning) (old new : Draft) → a ≤ length old.ops → s.standing ≡ standing.Place → t ≡ record s { standing = standing.Value } → Adds 1 (OpCode line op.Load) old new → Grows p 1 line ms a fetched s t old new
   load_place line a s t old new l e i h =
       grows_adds 1 line ms a fetched s t (OpCode line op.Load) old new l h
       (λ m u. as_value s t m (value_of m) i u)
-      (λ m u code b z w v. subst (λ (o : Standing). ExprAt code line ms (value_by o m.expr) a z) (sym (u.standing ∙ ap stands_as e)) (record { middle = b; first = w; second = v }))
+      (λ m u code b z w v. subst (λ (o : Standing). ExprAt code line ms (value_by o m.expr) a z) (sym (stands s m standing.Place u e)) (record { middle = b; first = w; second = v }))
 
-  pub load_none : (line a : ℕ) (x : Told) (s t : Meaning) (old : Draft) → a ≤ length old.ops → s.standing ≡ x → ((e : Expr) → value_by (stands_as x) e ≡ e) → t ≡ record s { standing = standing.Value } → Grows 1 line ms a fetched s t old old
+  pub load_none : {p : Program} → (line a : ℕ) (x : Told) (s t : Meaning) (old : Draft) → a ≤ length old.ops → s.standing ≡ x → ((o : Standing) (e : Expr) → StandsAs x o → value_by o e ≡ e) → t ≡ record s { standing = standing.Value } → Grows p 1 line ms a fetched s t old old
   load_none line a x s t old l e same i = record {
     rest = refl;
-    front = record { same = λ j o n p q h. h; chains = λ next p h. refl };
+    front = record { same = λ j o n p q h. h; chains = λ next p h. refl; handlers = λ k e h. h };
     past = l;
     room = omega arith;
     code = λ m st. record {
       tells = as_value s t m (value_of m) i st.tells;
-      code = subst (λ (y : Expr). ExprAt (laid_in old) line ms y a (length old.ops)) (sym (ap (λ o. value_by o m.expr) (st.tells.standing ∙ ap stands_as e) ∙ same m.expr)) st.code;
+      code = subst (λ (y : Expr). ExprAt (laid_in old) line ms y a (length old.ops)) (sym (same m.standing m.expr (stands s m x st.tells e))) st.code;
     };
   }
 
@@ -246,7 +236,7 @@ module _ (ms : List Mark) where
   step_place_at line step.Increment m code a b z is h g = stepped_place line Plus m code a b z is h g
   step_place_at line step.Decrement m code a b z is h g = stepped_place line Minus m code a b z is h g
 
-  pub arm_bump_variable : (line k a : ℕ) (o : StepOp) (x : Op) (s t : Meaning) (old mid new : Draft) → a ≤ length old.ops → Some k ≡ cell_in s.standing → x ≡ step_op_of o → t ≡ record s { standing = standing.Value } → ms ≡ old.marks → Cuts a old mid → Adds 5 (SetByCode line mid.marks k x (shape_as s.scalar) (Literal (pos 1))) mid new → Grows 6 line ms a (bumped o) s t old new
+  pub arm_bump_variable : {p : Program} → (line k a : ℕ) (o : StepOp) (x : Op) (s t : Meaning) (old mid new : Draft) → a ≤ length old.ops → Some k ≡ cell_in s.standing → x ≡ step_op_of o → t ≡ record s { standing = standing.Value } → ms ≡ old.marks → Cuts a old mid → Adds 5 (SetByCode line mid.marks k x (shape_as s.scalar) (Literal (pos 1))) mid new → Grows p 6 line ms a (bumped o) s t old new
   arm_bump_variable line k a o x s t old mid new l e i j w c h =
       let h1 : Adds 5 (SetByCode line ms k x (shape_as s.scalar) (Literal (pos 1))) mid new = subst (λ (ns : List Mark). Adds 5 (SetByCode line ns k x (shape_as s.scalar) (Literal (pos 1))) mid new) (ap (λ (d : Draft). d.marks) c.rest ∙ sym w) h in
       let h2 : Adds 5 (SetByCode line ms k (step_op_of o) (shape_as s.scalar) (Literal (pos 1))) mid new = subst (λ (y : Op). Adds 5 (SetByCode line ms k y (shape_as s.scalar) (Literal (pos 1))) mid new) i h1 in
@@ -254,14 +244,14 @@ module _ (ms : List Mark) where
       (λ m u. bumped_tells o s t m j u)
       (λ m u code z v. bump_variable_at line k o m code a z (told_variable s m k u e) (subst (λ (y : Shape). SetByCode line ms k (step_op_of o) y (Literal (pos 1)) code a z) (sym u.shape) v))
 
-  pub arm_bump_place : (line a : ℕ) (o : StepOp) (x : Op) (s t : Meaning) (old new : Draft) → a ≤ length old.ops → None ≡ cell_in s.standing → x ≡ step_op_of o → t ≡ record s { standing = standing.Value } → Adds 6 (UpdateCode line ms x (shape_as s.scalar) (Literal (pos 1))) old new → Grows 6 line ms a (bumped o) s t old new
+  pub arm_bump_place : {p : Program} → (line a : ℕ) (o : StepOp) (x : Op) (s t : Meaning) (old new : Draft) → a ≤ length old.ops → None ≡ cell_in s.standing → x ≡ step_op_of o → t ≡ record s { standing = standing.Value } → Adds 6 (UpdateCode line ms x (shape_as s.scalar) (Literal (pos 1))) old new → Grows p 6 line ms a (bumped o) s t old new
   arm_bump_place line a o x s t old new l e i j h =
       let h2 : Adds 6 (UpdateCode line ms (step_op_of o) (shape_as s.scalar) (Literal (pos 1))) old new = subst (λ (y : Op). Adds 6 (UpdateCode line ms y (shape_as s.scalar) (Literal (pos 1))) old new) i h in
       grows_adds 6 line ms a (bumped o) s t (UpdateCode line ms (step_op_of o) (shape_as s.scalar) (Literal (pos 1))) old new l h2
       (λ m u. bumped_tells o s t m j u)
       (λ m u code b z w v. bump_place_at line o m code a b z (told_no_variable s m u e) w (subst (λ (y : Shape). UpdateCode line ms (step_op_of o) y (Literal (pos 1)) code b z) (sym u.shape) v))
 
-  pub arm_step_variable : (line k a : ℕ) (o : StepOp) (x : Op) (s t : Meaning) (old mid new : Draft) → a ≤ length old.ops → Some k ≡ cell_in s.standing → x ≡ step_op_of o → t ≡ record s { standing = standing.Value } → ms ≡ old.marks → Cuts a old mid → Adds 7 (BehindCode line mid.marks k x (shape_as s.scalar)) mid new → Grows 9 line ms a (step_meant o) s t old new
+  pub arm_step_variable : {p : Program} → (line k a : ℕ) (o : StepOp) (x : Op) (s t : Meaning) (old mid new : Draft) → a ≤ length old.ops → Some k ≡ cell_in s.standing → x ≡ step_op_of o → t ≡ record s { standing = standing.Value } → ms ≡ old.marks → Cuts a old mid → Adds 7 (BehindCode line mid.marks k x (shape_as s.scalar)) mid new → Grows p 9 line ms a (step_meant o) s t old new
   arm_step_variable line k a o x s t old mid new l e i j w c h =
       let h1 : Adds 7 (BehindCode line ms k x (shape_as s.scalar)) mid new = subst (λ (ns : List Mark). Adds 7 (BehindCode line ns k x (shape_as s.scalar)) mid new) (ap (λ (d : Draft). d.marks) c.rest ∙ sym w) h in
       let h2 : Adds 7 (BehindCode line ms k (step_op_of o) (shape_as s.scalar)) mid new = subst (λ (y : Op). Adds 7 (BehindCode line ms k y (shape_as s.scalar)) mid new) i h1 in
@@ -269,7 +259,7 @@ module _ (ms : List Mark) where
       (λ m u. step_tells o s t m j u)
       (λ m u code z v. step_variable_at line k o m code a z (told_variable s m k u e) (subst (λ (y : Shape). BehindCode line ms k (step_op_of o) y code a z) (sym u.shape) v))
 
-  pub arm_step_place : (line a : ℕ) (o : StepOp) (x : Op) (s t : Meaning) (old new : Draft) → a ≤ length old.ops → None ≡ cell_in s.standing → x ≡ step_op_of o → t ≡ record s { standing = standing.Value } → Adds 9 (StepCode line x (shape_as s.scalar)) old new → Grows 9 line ms a (step_meant o) s t old new
+  pub arm_step_place : {p : Program} → (line a : ℕ) (o : StepOp) (x : Op) (s t : Meaning) (old new : Draft) → a ≤ length old.ops → None ≡ cell_in s.standing → x ≡ step_op_of o → t ≡ record s { standing = standing.Value } → Adds 9 (StepCode line x (shape_as s.scalar)) old new → Grows p 9 line ms a (step_meant o) s t old new
   arm_step_place line a o x s t old new l e i j h =
       let h2 : Adds 9 (StepCode line (step_op_of o) (shape_as s.scalar)) old new = subst (λ (y : Op). Adds 9 (StepCode line y (shape_as s.scalar)) old new) i h in
       grows_adds 9 line ms a (step_meant o) s t (StepCode line (step_op_of o) (shape_as s.scalar)) old new l h2

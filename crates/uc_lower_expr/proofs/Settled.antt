@@ -1,12 +1,12 @@
 -- The code of an expression goes on standing where its own range does not change.
 use Rattle.std.proofs.Common.{ℕ, List, pos}
-use Rattle.uc_tree.specs.Source.{Shape, Integer, Character, Truth, Binding, Last, Field, Array, shape_cells, Expr, Literal, Variable, Element, Get, Load, Negated, Not, AsCharacter, AsTruth, Operate, And, Or, Set, Assign, First, Update, StepBehind, Fail, Call, OfObject, Exprs, NoExprs, MoreExprs}
+use Rattle.uc_tree.specs.Source.{Shape, Integer, Character, Truth, Binding, Last, Field, Array, shape_cells, field_cells, Expr, Literal, Variable, Element, Get, Load, Negated, Not, AsCharacter, AsTruth, Operate, And, Or, Set, Assign, First, Update, StepBehind, Fail, Call, OfObject, ObjectExpr, This, OwnField, GetOwn, FieldOf, Counted, CallOn, CallUnwritten, EnterOn, Wait, Signal, SignalBlock, IsEmpty, FrontOf, Exprs, NoExprs, MoreExprs}
 use Rattle.uc_code.specs.declared.op.Op.TheVariants as op
 use Rattle.uc_code.specs.declared.rows.Mark.{Mark}
 use Rattle.uc_code.specs.Laid.{Laid}
 use Rattle.uc_code.specs.Ranges.{One, Both, Fork, Stable}
-use Rattle.uc_code.specs.Lowered.{operator_op, ExprAt}
-use Rattle.uc_code.proofs.Stable.{nothing_stable, never_stable, one_stable, both_stable, fork_stable}
+use Rattle.uc_code.specs.Lowered.{operator_op, ExprAt, ObjectAt}
+use Rattle.uc_code.proofs.Stable.{nothing_stable, never_stable, one_stable, risk_stable, calls_behind_stable, both_stable, fork_stable}
 use Rattle.uc_lower_expr.specs.Added.{ExprCode, ArgumentsCode, ConvertCode}
 use Rattle.uc_lower_expr.specs.Parts.{BeginCode}
 
@@ -45,8 +45,23 @@ mutual
   expr_stable line ms (Update o s p a) = both (expr_stable line ms p) (both (one_stable op.Duplicate line) (both (one_stable op.Load line) (both (expr_stable line ms a) (both (one_stable (operator_op o) line) (both (convert_stable line s) (one_stable op.Keep line))))))
   expr_stable line ms (StepBehind o s p) = both (expr_stable line ms p) (both (one_stable op.Duplicate line) (both (one_stable op.Load line) (both (one_stable op.Over line) (both (one_stable op.Over line) (both (one_stable (op.Push (pos 1)) line) (both (one_stable (operator_op o) line) (both (convert_stable line s) (both (one_stable op.Store line) (one_stable op.DiscardBelow line)))))))))
   expr_stable line ms Fail = one_stable op.Fail line
-  expr_stable line ms (Call r es) = both (args_stable line ms es) (both (one_stable op.Tick line) (one_stable (op.Call r) line))
-  expr_stable line ms (OfObject o) = never_stable
+  expr_stable line ms (Call r es) = both (args_stable line ms es) (both (one_stable op.Tick line) (risk_stable ms (op.Call r) line))
+  expr_stable line ms (OfObject o) = object_stable line ms o
+
+  object_stable : (line : ℕ) (ms : List Mark) (o : ObjectExpr) → Stable (λ code. ObjectAt code line ms o)
+  object_stable line ms This = one_stable op.Own line
+  object_stable line ms (OwnField s i) = one_stable (op.This (field_cells s i)) line
+  object_stable line ms (GetOwn s i) = one_stable (op.ViaThis (field_cells s i)) line
+  object_stable line ms (FieldOf s i e) = both (expr_stable line ms e) (one_stable (op.Field (field_cells s i)) line)
+  object_stable line ms Counted = one_stable op.Counted line
+  object_stable line ms (CallOn r e es) = both (expr_stable line ms e) (both (args_stable line ms es) (both (one_stable op.Tick line) (risk_stable ms (op.CallOn r) line)))
+  object_stable line ms (CallUnwritten r e) = both (expr_stable line ms e) (calls_behind_stable ms r line)
+  object_stable line ms (EnterOn m r e es) = never_stable
+  object_stable line ms (Wait c n) = never_stable
+  object_stable line ms (Signal c) = never_stable
+  object_stable line ms (SignalBlock c) = never_stable
+  object_stable line ms (IsEmpty c) = never_stable
+  object_stable line ms (FrontOf c) = never_stable
 
   pub args_stable : (line : ℕ) (ms : List Mark) (es : Exprs) → Stable (ArgumentsCode line ms es)
   args_stable line ms NoExprs = nothing_stable

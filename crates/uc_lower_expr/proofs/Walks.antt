@@ -7,6 +7,7 @@ use Rattle.uc_tree.specs.declared.limits.TheConstants.{OPS_FOR_SIZE}
 use Rattle.uc_tree.specs.declared.pos.Pos.{Pos}
 use Rattle.uc_tree.specs.declared.expr.ExprForm.{ExprForm}
 use Rattle.uc_tree.specs.declared.expr.PartForm.{PartForm}
+use Rattle.uc_tree.specs.declared.kinds.Base.{Base}
 use Rattle.uc_tree.specs.declared.kinds.Param.{Param}
 use Rattle.uc_tree.specs.Programs.{Program}
 use Rattle.uc_tree.specs.declared.ops.UnaryOp.{UnaryOp}
@@ -21,14 +22,15 @@ use Rattle.uc_tree.specs.Expressions as tree
 use Rattle.uc_tree.specs.Expressions.{exprs_of, parts_of, links_of}
 use Rattle.uc_tree.specs.ExpressionViews.{expr_at, part_at}
 use Rattle.uc_tree.specs.ExpressionSizes.{expr_size, exprs_size, part_size, parts_size, link_size, links_size}
-use Rattle.uc_tree.specs.Source.{Shape, Plus, Minus, Times, Over, Modulo, Expr, Call, Exprs, NoExprs, MoreExprs}
-use Rattle.uc_tree.specs.Resolve.{Meant, Context, meant, value_by, value_of, shape_of, converted, Standing, AsValue, unary_meant, binary_meant, assign_meant, written_by, variable_in, link_meant, chain_meant, part_meant, args_meant, arg_meant, args_by, params_of, parts_meant, element_by, element_meant, call_by, call_meant, step_meant, no_meaning}
+use Rattle.uc_tree.specs.Source.{Shape, shape_cells, Plus, Minus, Times, Over, Modulo, Expr, Call, OfObject, CallOn, Exprs, NoExprs, MoreExprs}
+use Rattle.uc_tree.specs.Objects.{plain_class, base_shape, shape_of}
+use Rattle.uc_tree.specs.Resolve.{Meant, Context, meant, value_by, value_of, converted, Standing, AsValue, unary_meant, binary_meant, assign_meant, written_by, variable_in, link_meant, chain_meant, part_meant, args_meant, arg_meant, args_by, params_of, parts_meant, element_by, element_meant, call_by, call_meant, step_meant, no_meaning}
 use Rattle.uc_code.specs.declared.op.Op.{Op}
 use Rattle.uc_code.specs.declared.op.Op.TheVariants as op
 use Rattle.uc_code.specs.declared.rows.Mark.{Mark}
 use Rattle.uc_code.specs.Drafts.{Draft}
 use Rattle.uc_code.specs.Laid.{Laid}
-use Rattle.uc_code.specs.Ranges.{One, Both}
+use Rattle.uc_code.specs.Ranges.{One, Risk, Both}
 use Rattle.uc_code.specs.Lowered.{ExprAt, ArgumentsAt}
 use Rattle.uc_code.proofs.Stable.{one_stable}
 use Rattle.uc_lower_expr.specs.declared.meaning.Scalar.{Scalar}
@@ -38,20 +40,20 @@ use Rattle.uc_lower_expr.specs.declared.meaning.Standing.TheVariants as standing
 use Rattle.uc_lower_expr.specs.declared.meaning.Meaning.{Meaning}
 use Rattle.uc_lower_expr.specs.declared.ops.Joining.{Joining}
 use Rattle.uc_lower_expr.specs.Contexts.{context_in}
-use Rattle.uc_lower_expr.specs.Meanings.{cell_in, shape_as, stands_as, Tells}
-use Rattle.uc_lower_expr.specs.Added.{Adds, Cuts, ExprCode, ArgumentsCode, ConvertCode, OpCode, Grows, fetched}
+use Rattle.uc_lower_expr.specs.Meanings.{FieldAt, Begins, StandsAs, cell_in, shape_as, Tells}
+use Rattle.uc_lower_expr.specs.Added.{Adds, Cuts, ExprCode, ArgumentsCode, ConvertCode, OpCode, RiskCode, Grows, fetched}
 use Rattle.uc_lower_expr.specs.Parts.{joining_of, combining_of, scalar_of, RightCode, BeginCode, EndCode, SetCode, VariableCode, PlaceCode, ArgumentCode, Restarts, bumped}
 use Rattle.uc_lower_expr.proofs.Adding.{adds_nothing, adds_more, adds_as, adds_both}
 use Rattle.uc_lower_expr.proofs.Settled.{both, expr_stable, args_stable, convert_stable}
 use Rattle.uc_lower_expr.proofs.Growing.{grows_as, grows_then, grows_adds, grows_restart, grows_cut, adds_grows, tells_grows}
-use Rattle.uc_lower_expr.proofs.Arms.{as_value, told_variable, told_no_variable, updated_variable, updated_place, arm_update, converted_at, element_cell}
+use Rattle.uc_lower_expr.proofs.Arms.{as_value, told_variable, told_no_variable, updated_variable, updated_place, arm_update, converted_at, stands}
 
 -- the tree of a form
 
 pub tree_is : (p : Pos) (f g : ExprForm) (e : tree.Expr) → f ≡ g → expr_at p f ≡ e → expr_at p g ≡ e
 tree_is p f g e h k = ap (λ x. expr_at p x) (sym h) ∙ k
 
-pub assign_tells : (o : AssignOp) (told t : Meaning) (m v : Meant) → t ≡ record told { standing = standing.Value } → Tells told m → Tells t (assign_meant o m v)
+pub assign_tells : {p : Program} → (o : AssignOp) (told t : Meaning) (m v : Meant) → t ≡ record told { standing = standing.Value } → Tells p told m → Tells p t (assign_meant o m v)
 assign_tells assign.Set told t m v i u = as_value told t m _ i u
 assign_tells assign.Add told t m v i u = as_value told t m _ i u
 assign_tells assign.Sub told t m v i u = as_value told t m _ i u
@@ -61,20 +63,29 @@ assign_tells assign.Rem told t m v i u = as_value told t m _ i u
 
 -- operators between two sides
 
-right_tells : (o : BinaryOp) (l r : Meant) → Tells (record { scalar = scalar_of (joining_of o); elements = None; standing = standing.Value }) (binary_meant o l r)
-right_tells binary.Or l r = record { shape = refl; len = refl; standing = refl }
-right_tells binary.And l r = record { shape = refl; len = refl; standing = refl }
-right_tells binary.Equal l r = record { shape = refl; len = refl; standing = refl }
-right_tells binary.NotEqual l r = record { shape = refl; len = refl; standing = refl }
-right_tells binary.Less l r = record { shape = refl; len = refl; standing = refl }
-right_tells binary.LessEqual l r = record { shape = refl; len = refl; standing = refl }
-right_tells binary.Greater l r = record { shape = refl; len = refl; standing = refl }
-right_tells binary.GreaterEqual l r = record { shape = refl; len = refl; standing = refl }
-right_tells binary.Add l r = record { shape = refl; len = refl; standing = refl }
-right_tells binary.Sub l r = record { shape = refl; len = refl; standing = refl }
-right_tells binary.Mul l r = record { shape = refl; len = refl; standing = refl }
-right_tells binary.Div l r = record { shape = refl; len = refl; standing = refl }
-right_tells binary.Rem l r = record { shape = refl; len = refl; standing = refl }
+right_tells : {p : Program} → (o : BinaryOp) (l r : Meant) → Tells p (record { scalar = scalar_of (joining_of o); class = None; elements = None; standing = standing.Value }) (binary_meant o l r)
+right_tells binary.Or l r = record { shape = refl; class = refl; len = refl; standing = refl }
+right_tells binary.And l r = record { shape = refl; class = refl; len = refl; standing = refl }
+right_tells binary.Equal l r = record { shape = refl; class = refl; len = refl; standing = refl }
+right_tells binary.NotEqual l r = record { shape = refl; class = refl; len = refl; standing = refl }
+right_tells binary.Less l r = record { shape = refl; class = refl; len = refl; standing = refl }
+right_tells binary.LessEqual l r = record { shape = refl; class = refl; len = refl; standing = refl }
+right_tells binary.Greater l r = record { shape = refl; class = refl; len = refl; standing = refl }
+right_tells binary.GreaterEqual l r = record { shape = refl; class = refl; len = refl; standing = refl }
+right_tells binary.Add l r = record { shape = refl; class = refl; len = refl; standing = refl }
+right_tells binary.Sub l r = record { shape = refl; class = refl; len = refl; standing = refl }
+right_tells binary.Mul l r = record { shape = refl; class = refl; len = refl; standing = refl }
+right_tells binary.Div l r = record { shape = refl; class = refl; len = refl; standing = refl }
+right_tells binary.Rem l r = record { shape = refl; class = refl; len = refl; standing = refl }
+
+-- a field is no routine
+pub field_not_called : (p : Program) (k : ℕ) (args : List Meant) (o : Standing) (m : Meant) → FieldAt k o → call_by p o m args ≡ no_meaning
+field_not_called p k args o m (Begins t i e) = refl
+
+-- of one program
+pub grown_in : {E : Type 0} (r : Result Meaning E) (p : Program) (n line : ℕ) (ms : List Mark) (a : ℕ) (f : Meant → Meant) (s : Meaning) (old new : Draft) → IfOk r (λ t. (q : Program) → Grows q n line ms a f s t old new) → IfOk r (λ t. Grows p n line ms a f s t old new)
+grown_in (Ok t) p n line ms a f s old new h = h p
+grown_in (Err x) p n line ms a f s old new h = tt
 
 -- the tree of a part
 pub part_is : (p : Pos) (f g : PartForm) (x : tree.Part) → f ≡ g → part_at p f ≡ x → part_at p g ≡ x
@@ -213,14 +224,14 @@ module _ (ms : List Mark) where
   place_at line assign.Div m v code a b z is h g = updated_place ms line Over m (value_of v) code a b z is h g
   place_at line assign.Rem m v code a b z is h g = updated_place ms line Modulo m (value_of v) code a b z is h g
 
-  pub arm_to_variable : (n line k a : ℕ) (o : AssignOp) (x : Option Op) (v : Meant) (s t : Meaning) (old mid new : Draft) → a ≤ length old.ops → Some k ≡ cell_in s.standing → x ≡ combining_of o → t ≡ record s { standing = standing.Value } → Cuts a old mid → Adds n (VariableCode line ms x k (shape_as s.scalar) (value_of v)) mid new → Grows n line ms a (λ m. assign_meant o m v) s t old new
+  pub arm_to_variable : {p : Program} → (n line k a : ℕ) (o : AssignOp) (x : Option Op) (v : Meant) (s t : Meaning) (old mid new : Draft) → a ≤ length old.ops → Some k ≡ cell_in s.standing → x ≡ combining_of o → t ≡ record s { standing = standing.Value } → Cuts a old mid → Adds n (VariableCode line ms x k (shape_as s.scalar) (value_of v)) mid new → Grows p n line ms a (λ m. assign_meant o m v) s t old new
   arm_to_variable n line k a o x v s t old mid new l e i j c h =
       let h2 : Adds n (VariableCode line ms (combining_of o) k (shape_as s.scalar) (value_of v)) mid new = subst (λ (y : Option Op). Adds n (VariableCode line ms y k (shape_as s.scalar) (value_of v)) mid new) i h in
       grows_cut n line ms a (λ m. assign_meant o m v) s t (VariableCode line ms (combining_of o) k (shape_as s.scalar) (value_of v)) old mid new l c h2
       (λ m u. assign_tells o s t m v j u)
       (λ m u code z w. variable_at line k o m v code a z (told_variable s m k u e) (subst (λ (y : Shape). VariableCode line ms (combining_of o) k y (value_of v) code a z) (sym u.shape) w))
 
-  pub arm_to_place : (n line a : ℕ) (o : AssignOp) (x : Option Op) (v : Meant) (s t : Meaning) (old new : Draft) → a ≤ length old.ops → None ≡ cell_in s.standing → x ≡ combining_of o → t ≡ record s { standing = standing.Value } → Adds n (PlaceCode line ms x (shape_as s.scalar) (value_of v)) old new → Grows n line ms a (λ m. assign_meant o m v) s t old new
+  pub arm_to_place : {p : Program} → (n line a : ℕ) (o : AssignOp) (x : Option Op) (v : Meant) (s t : Meaning) (old new : Draft) → a ≤ length old.ops → None ≡ cell_in s.standing → x ≡ combining_of o → t ≡ record s { standing = standing.Value } → Adds n (PlaceCode line ms x (shape_as s.scalar) (value_of v)) old new → Grows p n line ms a (λ m. assign_meant o m v) s t old new
   arm_to_place n line a o x v s t old new l e i j h =
       let h2 : Adds n (PlaceCode line ms (combining_of o) (shape_as s.scalar) (value_of v)) old new = subst (λ (y : Option Op). Adds n (PlaceCode line ms y (shape_as s.scalar) (value_of v)) old new) i h in
       grows_adds n line ms a (λ m. assign_meant o m v) s t (PlaceCode line ms (combining_of o) (shape_as s.scalar) (value_of v)) old new l h2
@@ -277,71 +288,90 @@ module _ (ms : List Mark) where
   fetched_side binary.Div l r = refl
   fetched_side binary.Rem l r = refl
 
-  link_grows : (o : BinaryOp) (r : Meant) (k line a : ℕ) (left t : Meaning) (old mid new : Draft) → t ≡ record left { standing = standing.Value } → Grows 1 line ms a fetched left t old mid → Adds k (RightCode line ms (joining_of o) (value_of r)) mid new → Grows (1 + k) line ms a (λ l. binary_meant o l r) left (record { scalar = scalar_of (joining_of o); elements = None; standing = standing.Value }) old new
+  link_grows : {p : Program} → (o : BinaryOp) (r : Meant) (k line a : ℕ) (left t : Meaning) (old mid new : Draft) → t ≡ record left { standing = standing.Value } → Grows p 1 line ms a fetched left t old mid → Adds k (RightCode line ms (joining_of o) (value_of r)) mid new → Grows p (1 + k) line ms a (λ l. binary_meant o l r) left (record { scalar = scalar_of (joining_of o); class = None; elements = None; standing = standing.Value }) old new
   link_grows o r k line a left t old mid new i h g =
       grows_as (omega arith) (λ m. fetched_side o m r) (grows_then h (
-      grows_adds k line ms a (λ l. binary_meant o l r) t (record { scalar = scalar_of (joining_of o); elements = None; standing = standing.Value }) (RightCode line ms (joining_of o) (value_of r)) mid new h.past g
+      grows_adds k line ms a (λ l. binary_meant o l r) t (record { scalar = scalar_of (joining_of o); class = None; elements = None; standing = standing.Value }) (RightCode line ms (joining_of o) (value_of r)) mid new h.past g
       (λ m u. right_tells o m r)
       (λ m u code b z e s.
-      let is : m.standing ≡ AsValue = u.standing ∙ ap (λ (x : Meaning). stands_as x.standing) i in
+      let is : m.standing ≡ AsValue = stands t m standing.Value u (ap (λ (x : Meaning). x.standing) i) in
       right_at line o m r code a z (record { middle = b; first = subst (λ (x : Standing). ExprAt code line ms (value_by x m.expr) a b) (sym is) e; second = s }))))
 
   pub right_as : (i j : Joining) (n line : ℕ) (e : Expr) (old new : Draft) → i ≡ j → Adds n (RightCode line ms j e) old new → Adds n (RightCode line ms i e) old new
   right_as i j n line e old new h a = subst (λ (x : Joining). Adds n (RightCode line ms x e) old new) (sym h) a
 
   -- an element
-  pub arm_no_element : (n line a : ℕ) (i : Meant) (s t : Meaning) (old new : Draft) → 1 ≤ n → a ≤ length old.ops → s.elements ≡ None → t ≡ record { scalar = scalar.Number; elements = None; standing = standing.Nothing } → Restarts (op.Push (pos 0)) line a old new → Grows n line ms a (λ m. element_meant m i) s t old new
-  arm_no_element n line a i s t old new k l e q h =
-      grows_restart n line ms a (λ m. element_meant m i) s t (op.Push (pos 0)) old new k l h
-      (λ m u. subst (λ (x : Meaning). Tells x (element_meant m i)) (sym q) (subst (λ (o : Option ℕ). Tells (record { scalar = scalar.Number; elements = None; standing = standing.Nothing }) (element_by o m (value_of i))) (sym (u.len ∙ e)) (record { shape = refl; len = refl; standing = refl })))
-      (λ m u code z w. subst (λ (o : Option ℕ). ExprAt code line ms (element_by o m (value_of i)).expr a z) (sym (u.len ∙ e)) w)
+  pub arm_no_element : (p : Program) (n line a : ℕ) (i : Meant) (s t : Meaning) (old new : Draft) → 1 ≤ n → a ≤ length old.ops → s.elements ≡ None → t ≡ record { scalar = scalar.Number; class = None; elements = None; standing = standing.Nothing } → Restarts (op.Push (pos 0)) line a old new → Grows p n line ms a (λ m. element_meant p m i) s t old new
+  arm_no_element p n line a i s t old new k l e q h =
+      grows_restart n line ms a (λ m. element_meant p m i) s t (op.Push (pos 0)) old new k l h
+      (λ m u. subst (λ (x : Meaning). Tells p x (element_meant p m i)) (sym q) (subst (λ (o : Option ℕ). Tells p (record { scalar = scalar.Number; class = None; elements = None; standing = standing.Nothing }) (element_by p o m (value_of i))) (sym (u.len ∙ e)) (record { shape = refl; class = refl; len = refl; standing = refl })))
+      (λ m u code z w. subst (λ (o : Option ℕ). ExprAt code line ms (element_by p o m (value_of i)).expr a z) (sym (u.len ∙ e)) w)
 
-  pub arm_element : (n k line a length_of : ℕ) (i : Meant) (s : Meaning) (old mid new : Draft) → n + 1 ≤ k → a ≤ length old.ops → s.elements ≡ Some length_of → Adds n (ExprCode line ms (value_of i)) old mid → Adds 1 (OpCode line (op.Index length_of 1)) mid new → Grows k line ms a (λ m. element_meant m i) s (record { scalar = s.scalar; elements = None; standing = standing.Place }) old new
-  arm_element n k line a c i s old mid new r l e h g =
-      grows_adds k line ms a (λ m. element_meant m i) s (record { scalar = s.scalar; elements = None; standing = standing.Place }) (λ code. Both (ExprAt code line ms (value_of i)) (One code (op.Index c 1) line)) old new l
+  pub arm_element : (p : Program) (n k line a length_of size : ℕ) (i : Meant) (s : Meaning) (old mid new : Draft) → ((b : Base) → plain_class p b ≡ s.class → size ≡ shape_cells (base_shape p b)) → n + 1 ≤ k → a ≤ length old.ops → s.elements ≡ Some length_of → Adds n (ExprCode line ms (value_of i)) old mid → Adds 1 (OpCode line (op.Index length_of size)) mid new → Grows p k line ms a (λ m. element_meant p m i) s (record s { elements = None; standing = standing.Place }) old new
+  arm_element p n k line a c size i s old mid new sized r l e h g =
+      grows_adds k line ms a (λ m. element_meant p m i) s (record s { elements = None; standing = standing.Place }) (λ code. Both (ExprAt code line ms (value_of i)) (One code (op.Index c size) line)) old new l
       (adds_more r (adds_both (expr_stable line ms (value_of i)) h g))
-      (λ m u. subst (λ (o : Option ℕ). Tells (record { scalar = s.scalar; elements = None; standing = standing.Place }) (element_by o m (value_of i))) (sym (u.len ∙ e)) (record { shape = u.shape; len = refl; standing = refl }))
-      (λ m u code b z w v. subst (λ (o : Option ℕ). ExprAt code line ms (element_by o m (value_of i)).expr a z) (sym (u.len ∙ e))
-      (record { middle = b; first = w; second = record { middle = v.middle; first = v.first; second = subst (λ (y : ℕ). One code (op.Index c y) line v.middle z) (sym (element_cell m.ty.base)) v.second } }))
+      (λ m u. subst (λ (o : Option ℕ). Tells p (record s { elements = None; standing = standing.Place }) (element_by p o m (value_of i))) (sym (u.len ∙ e)) (record { shape = u.shape; class = u.class; len = refl; standing = refl }))
+      (λ m u code b z w v. subst (λ (o : Option ℕ). ExprAt code line ms (element_by p o m (value_of i)).expr a z) (sym (u.len ∙ e))
+      (record { middle = b; first = w; second = record { middle = v.middle; first = v.first; second = subst (λ (y : ℕ). One code (op.Index c y) line v.middle z) (sized m.ty.base u.class) v.second } }))
 
   -- calls
 
-  pub arm_called : (p : Program) (n line a : ℕ) (args : List Meant) (s t : Meaning) (old new : Draft) → 1 ≤ n → a ≤ length old.ops → s.standing ≡ standing.Fail → t ≡ record { scalar = scalar.Truth; elements = None; standing = standing.Value } → Restarts op.Fail line a old new → Grows n line ms a (λ m. call_meant p m args) s t old new
+  pub arm_called : (p : Program) (n line a : ℕ) (args : List Meant) (s t : Meaning) (old new : Draft) → 1 ≤ n → a ≤ length old.ops → s.standing ≡ standing.Fail → t ≡ record { scalar = scalar.Truth; class = None; elements = None; standing = standing.Value } → Restarts op.Fail line a old new → Grows p n line ms a (λ m. call_meant p m args) s t old new
   arm_called p n line a args s t old new k l e q h =
       grows_restart n line ms a (λ m. call_meant p m args) s t op.Fail old new k l h
-      (λ m u. subst (λ (x : Meaning). Tells x (call_meant p m args)) (sym q) (subst (λ (o : Standing). Tells (record { scalar = scalar.Truth; elements = None; standing = standing.Value }) (call_by p o m args)) (sym (u.standing ∙ ap stands_as e)) (record { shape = refl; len = refl; standing = refl })))
-      (λ m u code z w. subst (λ (o : Standing). ExprAt code line ms (call_by p o m args).expr a z) (sym (u.standing ∙ ap stands_as e)) w)
+      (λ m u. subst (λ (x : Meaning). Tells p x (call_meant p m args)) (sym q) (subst (λ (o : Standing). Tells p (record { scalar = scalar.Truth; class = None; elements = None; standing = standing.Value }) (call_by p o m args)) (sym (stands s m standing.Fail u e)) (record { shape = refl; class = refl; len = refl; standing = refl })))
+      (λ m u code z w. subst (λ (o : Standing). ExprAt code line ms (call_by p o m args).expr a z) (sym (stands s m standing.Fail u e)) w)
 
   pub arm_routine : (p : Program) (n k line a r : ℕ) (xs : List Param) (args : List Meant) (s t : Meaning) (old mid d1 d2 new : Draft) → n + 2 ≤ k → a ≤ length old.ops → s.standing ≡ standing.Routine r → xs ≡ params_of p r → t ≡ record s { standing = standing.Value } → Cuts a old mid
-      → Adds n (ArgumentsCode line ms (args_by xs args)) mid d1 → Adds 1 (OpCode line op.Tick) d1 d2 → Adds 1 (OpCode line (op.Call r)) d2 new → Grows k line ms a (λ m. call_meant p m args) s t old new
+      → Adds n (ArgumentsCode line ms (args_by xs args)) mid d1 → Adds 1 (OpCode line op.Tick) d1 d2 → Adds 1 (RiskCode line ms (op.Call r)) d2 new → Grows p k line ms a (λ m. call_meant p m args) s t old new
   arm_routine p n k line a r xs args s t old mid d1 d2 new le l e x i c h1 h2 h3 =
       let es : Exprs = args_by (params_of p r) args in
       let h : Adds n (ArgumentsCode line ms es) mid d1 = subst (λ (ys : List Param). Adds n (ArgumentsCode line ms (args_by ys args)) mid d1) x h1 in
-      grows_cut k line ms a (λ m. call_meant p m args) s t (λ code. Both (ArgumentsCode line ms es code) (Both (One code op.Tick line) (One code (op.Call r) line))) old mid new l c
+      grows_cut k line ms a (λ m. call_meant p m args) s t (λ code. Both (ArgumentsCode line ms es code) (Both (One code op.Tick line) (Risk code ms (op.Call r) line))) old mid new l c
       (adds_more (omega arith) (adds_both (args_stable line ms es) h (adds_both (one_stable op.Tick line) h2 h3)))
-      (λ m u. subst (λ (o : Standing). Tells t (call_by p o m args)) (sym (u.standing ∙ ap stands_as e)) (as_value s t m (Call r es) i u))
-      (λ m u code z w. subst (λ (o : Standing). ExprAt code line ms (call_by p o m args).expr a z) (sym (u.standing ∙ ap stands_as e)) w)
+      (λ m u. subst (λ (o : Standing). Tells p t (call_by p o m args)) (sym (stands s m (standing.Routine r) u e)) (as_value s t m (Call r es) i u))
+      (λ m u code z w. subst (λ (o : Standing). ExprAt code line ms (call_by p o m args).expr a z) (sym (stands s m (standing.Routine r) u e)) w)
 
-  pub arm_not_called : (p : Program) (n line a : ℕ) (x : Told) (args : List Meant) (s t : Meaning) (old new : Draft) → 1 ≤ n → a ≤ length old.ops → s.standing ≡ x → ((m : Meant) → call_by p (stands_as x) m args ≡ no_meaning) → t ≡ record { scalar = scalar.Number; elements = None; standing = standing.Nothing } → Restarts (op.Push (pos 0)) line a old new → Grows n line ms a (λ m. call_meant p m args) s t old new
-  arm_not_called p n line a x args s t old new k l e none q h =
-      grows_restart n line ms a (λ m. call_meant p m args) s t (op.Push (pos 0)) old new k l h
-      (λ m u. subst (λ (y : Meaning). Tells y (call_meant p m args)) (sym q) (subst (λ (y : Meant). Tells (record { scalar = scalar.Number; elements = None; standing = standing.Nothing }) y) (sym (ap (λ o. call_by p o m args) (u.standing ∙ ap stands_as e) ∙ none m)) (record { shape = refl; len = refl; standing = refl })))
-      (λ m u code z w. subst (λ (y : Meant). ExprAt code line ms y.expr a z) (sym (ap (λ o. call_by p o m args) (u.standing ∙ ap stands_as e) ∙ none m)) w)
+  -- behind the object
+  pub arm_member_called : (p : Program) (n k line a r : ℕ) (xs : List Param) (args : List Meant) (s t : Meaning) (old d1 d2 new : Draft) → n + 2 ≤ k → a ≤ length old.ops → s.standing ≡ standing.Member r → xs ≡ params_of p r → t ≡ record s { standing = standing.Value }
+      → Adds n (ArgumentsCode line ms (args_by xs args)) old d1 → Adds 1 (OpCode line op.Tick) d1 d2 → Adds 1 (RiskCode line ms (op.CallOn r)) d2 new → Grows p k line ms a (λ m. call_meant p m args) s t old new
+  arm_member_called p n k line a r xs args s t old d1 d2 new le l e x i h1 h2 h3 =
+      let es : Exprs = args_by (params_of p r) args in
+      let h : Adds n (ArgumentsCode line ms es) old d1 = subst (λ (ys : List Param). Adds n (ArgumentsCode line ms (args_by ys args)) old d1) x h1 in
+      grows_adds k line ms a (λ m. call_meant p m args) s t (λ code. Both (ArgumentsCode line ms es code) (Both (One code op.Tick line) (Risk code ms (op.CallOn r) line))) old new l
+      (adds_more (omega arith) (adds_both (args_stable line ms es) h (adds_both (one_stable op.Tick line) h2 h3)))
+      (λ m u. subst (λ (o : Standing). Tells p t (call_by p o m args)) (sym (stands s m (standing.Member r) u e)) (as_value s t m (OfObject (CallOn r m.expr es)) i u))
+      (λ m u code b z w v. subst (λ (o : Standing). ExprAt code line ms (call_by p o m args).expr a z) (sym (stands s m (standing.Member r) u e)) (record { middle = b; first = w; second = v }))
 
-  pub not_called : {E : Type 0} (r : Result Meaning E) (p : Program) (n line a : ℕ) (x : Told) (args : List Meant) (s : Meaning) (old new : Draft) → 1 ≤ n → a ≤ length old.ops → s.standing ≡ x → ((m : Meant) → call_by p (stands_as x) m args ≡ no_meaning) → OnOk r (Restarts (op.Push (pos 0)) line a old new) → IfOk r (λ t. t ≡ record { scalar = scalar.Number; elements = None; standing = standing.Nothing }) → IfOk r (λ t. Grows n line ms a (λ m. call_meant p m args) s t old new)
-  not_called (Ok t) p n line a x args s old new k l e none h q = arm_not_called p n line a x args s t old new k l e none q h
-  not_called (Err y) p n line a x args s old new k l e none h q = tt
+  -- in the place of what stands, 0, which stands for nothing
+  pub arm_nothing : (p : Program) (n line a : ℕ) (f : Meant → Meant) (s t : Meaning) (old new : Draft) → 1 ≤ n → a ≤ length old.ops → ((m : Meant) → Tells p s m → f m ≡ no_meaning) → t ≡ record { scalar = scalar.Number; class = None; elements = None; standing = standing.Nothing } → Restarts (op.Push (pos 0)) line a old new → Grows p n line ms a f s t old new
+  arm_nothing p n line a f s t old new k l none q h =
+      grows_restart n line ms a f s t (op.Push (pos 0)) old new k l h
+      (λ m u. subst (λ (y : Meaning). Tells p y (f m)) (sym q) (subst (λ (y : Meant). Tells p (record { scalar = scalar.Number; class = None; elements = None; standing = standing.Nothing }) y) (sym (none m u)) (record { shape = refl; class = refl; len = refl; standing = refl })))
+      (λ m u code z w. subst (λ (y : Meant). ExprAt code line ms y.expr a z) (sym (none m u)) w)
 
-  pub called_part : {E : Type 0} (r : Result Meaning E) (c : Context) (x : tree.Part) (sign : Pos) (xs ys : List tree.Expr) (line a : ℕ) (s : Meaning) (old new : Draft) → tree.Call sign (exprs_of ys) ≡ x → xs ≡ ys → IfOk r (λ t. Grows (OPS_FOR_SIZE * (1 + exprs_size (exprs_of xs))) line ms a (λ m. call_meant c.program m (args_meant c (exprs_of xs))) s t old new) → IfOk r (λ t. Grows (OPS_FOR_SIZE * part_size x) line ms a (part_meant c x) s t old new)
+  pub put_for_nothing : {E : Type 0} (r : Result Meaning E) (p : Program) (n line a : ℕ) (f : Meant → Meant) (s : Meaning) (old new : Draft) → 1 ≤ n → a ≤ length old.ops → ((m : Meant) → Tells p s m → f m ≡ no_meaning) → OnOk r (Restarts (op.Push (pos 0)) line a old new) → IfOk r (λ t. t ≡ record { scalar = scalar.Number; class = None; elements = None; standing = standing.Nothing }) → IfOk r (λ t. Grows p n line ms a f s t old new)
+  put_for_nothing (Ok t) p n line a f s old new k l none h q = arm_nothing p n line a f s t old new k l none q h
+  put_for_nothing (Err y) p n line a f s old new k l none h q = tt
+
+  -- what is called where nothing can be
+  nothing_called : (p : Program) (x : Told) (args : List Meant) → ((o : Standing) (m : Meant) → StandsAs x o → call_by p o m args ≡ no_meaning) → (s : Meaning) → s.standing ≡ x → (m : Meant) → Tells p s m → call_meant p m args ≡ no_meaning
+  nothing_called p x args none s e m u = none m.standing m (stands s m x u e)
+
+  pub not_called : {E : Type 0} (r : Result Meaning E) (p : Program) (n line a : ℕ) (x : Told) (args : List Meant) (s : Meaning) (old new : Draft) → 1 ≤ n → a ≤ length old.ops → s.standing ≡ x → ((o : Standing) (m : Meant) → StandsAs x o → call_by p o m args ≡ no_meaning) → OnOk r (Restarts (op.Push (pos 0)) line a old new) → IfOk r (λ t. t ≡ record { scalar = scalar.Number; class = None; elements = None; standing = standing.Nothing }) → IfOk r (λ t. Grows p n line ms a (λ m. call_meant p m args) s t old new)
+  not_called r p n line a x args s old new k l e none h q = put_for_nothing r p n line a (λ m. call_meant p m args) s old new k l (nothing_called p x args none s e) h q
+
+  pub called_part : {E : Type 0} (r : Result Meaning E) (c : Context) (x : tree.Part) (sign : Pos) (xs ys : List tree.Expr) (line a : ℕ) (s : Meaning) (old new : Draft) → tree.Call sign (exprs_of ys) ≡ x → xs ≡ ys → IfOk r (λ t. Grows c.program (OPS_FOR_SIZE * (1 + exprs_size (exprs_of xs))) line ms a (λ m. call_meant c.program m (args_meant c (exprs_of xs))) s t old new) → IfOk r (λ t. Grows c.program (OPS_FOR_SIZE * part_size x) line ms a (part_meant c x) s t old new)
   called_part r c x sign xs ys line a s old new e i h =
-      subst (λ (y : tree.Part). IfOk r (λ t. Grows (OPS_FOR_SIZE * part_size y) line ms a (part_meant c y) s t old new)) (ap (λ (zs : List tree.Expr). tree.Call sign (exprs_of zs)) i ∙ e) (as_part r h)
+      subst (λ (y : tree.Part). IfOk r (λ t. Grows c.program (OPS_FOR_SIZE * part_size y) line ms a (part_meant c y) s t old new)) (ap (λ (zs : List tree.Expr). tree.Call sign (exprs_of zs)) i ∙ e) (as_part r h)
     where
-      as_part : {E : Type 0} (r : Result Meaning E) → IfOk r (λ t. Grows (OPS_FOR_SIZE * (1 + exprs_size (exprs_of xs))) line ms a (λ m. call_meant c.program m (args_meant c (exprs_of xs))) s t old new) → IfOk r (λ t. Grows (OPS_FOR_SIZE * part_size (tree.Call sign (exprs_of xs))) line ms a (part_meant c (tree.Call sign (exprs_of xs))) s t old new)
+      as_part : {E : Type 0} (r : Result Meaning E) → IfOk r (λ t. Grows c.program (OPS_FOR_SIZE * (1 + exprs_size (exprs_of xs))) line ms a (λ m. call_meant c.program m (args_meant c (exprs_of xs))) s t old new) → IfOk r (λ t. Grows c.program (OPS_FOR_SIZE * part_size (tree.Call sign (exprs_of xs))) line ms a (part_meant c (tree.Call sign (exprs_of xs))) s t old new)
       as_part (Ok t) g = grows_as (omega arith) (λ m. refl) g
       as_part (Err y) g = tt
 
-  pub stepped_part : {E : Type 0} (r : Result Meaning E) (c : Context) (x : tree.Part) (sign : Pos) (o : StepOp) (line a : ℕ) (s : Meaning) (old new : Draft) → tree.Step sign o ≡ x → IfOk r (λ t. Grows 9 line ms a (step_meant o) s t old new) → IfOk r (λ t. Grows (OPS_FOR_SIZE * part_size x) line ms a (part_meant c x) s t old new)
-  stepped_part (Ok t) c x sign o line a s old new e g = subst (λ (y : tree.Part). Grows (OPS_FOR_SIZE * part_size y) line ms a (part_meant c y) s t old new) e (grows_as (omega arith) (λ m. refl) g)
+  pub stepped_part : {E : Type 0} (r : Result Meaning E) (c : Context) (x : tree.Part) (sign : Pos) (o : StepOp) (line a : ℕ) (s : Meaning) (old new : Draft) → tree.Step sign o ≡ x → IfOk r (λ t. Grows c.program 9 line ms a (step_meant o) s t old new) → IfOk r (λ t. Grows c.program (OPS_FOR_SIZE * part_size x) line ms a (part_meant c x) s t old new)
+  stepped_part (Ok t) c x sign o line a s old new e g = subst (λ (y : tree.Part). Grows c.program (OPS_FOR_SIZE * part_size y) line ms a (part_meant c y) s t old new) e (grows_as (omega arith) (λ m. refl) g)
   stepped_part (Err y) c x sign o line a s old new e g = tt
 
   -- arguments
@@ -354,11 +384,11 @@ module _ (ms : List Mark) where
   arguments_more n k line es e old mid new h g = adds_as (adds_both (args_stable line ms es) h g) (λ code a z b. arguments_push line es e code a b.middle z b.first b.second)
 
   -- a root and its parts, a first operand and its links
-  grown_code : {E : Type 0} (r : Result Meaning E) (n k l line : ℕ) (m : Meant) (f : Meant → Meant) (s : Meaning) (old mid new : Draft) → n + k ≤ l → Adds n (ExprCode line ms m.expr) old mid → Tells s m → IfOk r (λ t. Grows k line ms (length old.ops) f s t mid new) → OnOk r (Adds l (ExprCode line ms (f m).expr) old new)
+  grown_code : {p : Program} → {E : Type 0} (r : Result Meaning E) (n k l line : ℕ) (m : Meant) (f : Meant → Meant) (s : Meaning) (old mid new : Draft) → n + k ≤ l → Adds n (ExprCode line ms m.expr) old mid → Tells p s m → IfOk r (λ t. Grows p k line ms (length old.ops) f s t mid new) → OnOk r (Adds l (ExprCode line ms (f m).expr) old new)
   grown_code (Ok t) n k l line m f s old mid new le h u w = adds_grows {f = f} le h u w
   grown_code (Err x) n k l line m f s old mid new le h u w = tt
 
-  grown_tells : {E : Type 0} (r : Result Meaning E) (n k line : ℕ) (m : Meant) (f : Meant → Meant) (s : Meaning) (old mid new : Draft) → Adds n (ExprCode line ms m.expr) old mid → Tells s m → IfOk r (λ t. Grows k line ms (length old.ops) f s t mid new) → IfOk r (λ t. Tells t (f m))
+  grown_tells : {p : Program} → {E : Type 0} (r : Result Meaning E) (n k line : ℕ) (m : Meant) (f : Meant → Meant) (s : Meaning) (old mid new : Draft) → Adds n (ExprCode line ms m.expr) old mid → Tells p s m → IfOk r (λ t. Grows p k line ms (length old.ops) f s t mid new) → IfOk r (λ t. Tells p t (f m))
   grown_tells (Ok t) n k line m f s old mid new h u w = tells_grows {f = f} h u w
   grown_tells (Err x) n k line m f s old mid new h u w = tt
 
@@ -384,28 +414,28 @@ module _ (program : Program) where
   pub arm_cin : (e : tree.Expr) (p : Pos) (line : ℕ) (old new : Draft) → tree.Cin p ≡ e → Adds 1 (OpCode line (op.Push (pos 0))) old new → Adds (OPS_FOR_SIZE * expr_size e - 2) (ExprCode line old.marks (meant (context_in program old) e).expr) old new
   arm_cin e p line old new h k = as_code e (tree.Cin p) line old new h (adds_more (omega arith) k)
 
-  pub arm_link : (l : tree.Link) (p : Pos) (o : BinaryOp) (right : tree.Expr) (line a : ℕ) (left s t : Meaning) (j : Joining) (old mid new : Draft) → tree.Linked p o right ≡ l → j ≡ joining_of o → t ≡ record { scalar = scalar_of j; elements = None; standing = standing.Value } → s ≡ record left { standing = standing.Value }
-      → Grows 1 line old.marks a fetched left s old mid → Adds (OPS_FOR_SIZE * expr_size right + 4) (RightCode line mid.marks j (value_of (meant (context_in program mid) right))) mid new
-      → Grows (OPS_FOR_SIZE * link_size l) line old.marks a (link_meant (context_in program old) l) left t old new
+  pub arm_link : (l : tree.Link) (p : Pos) (o : BinaryOp) (right : tree.Expr) (line a : ℕ) (left s t : Meaning) (j : Joining) (old mid new : Draft) → tree.Linked p o right ≡ l → j ≡ joining_of o → t ≡ record { scalar = scalar_of j; class = None; elements = None; standing = standing.Value } → s ≡ record left { standing = standing.Value }
+      → Grows program 1 line old.marks a fetched left s old mid → Adds (OPS_FOR_SIZE * expr_size right + 4) (RightCode line mid.marks j (value_of (meant (context_in program mid) right))) mid new
+      → Grows program (OPS_FOR_SIZE * link_size l) line old.marks a (link_meant (context_in program old) l) left t old new
   arm_link l p o right line a left s t j old mid new i jo e v h g =
       let g1 : Adds (OPS_FOR_SIZE * expr_size right + 4) (RightCode line mid.marks (joining_of o) (value_of (meant (context_in program mid) right))) mid new = subst (λ (x : Joining). Adds (OPS_FOR_SIZE * expr_size right + 4) (RightCode line mid.marks x (value_of (meant (context_in program mid) right))) mid new) jo g in
       let g2 : Adds (OPS_FOR_SIZE * expr_size right + 4) (RightCode line old.marks (joining_of o) (value_of (meant (context_in program old) right))) mid new = subst (λ (d : Draft). Adds (OPS_FOR_SIZE * expr_size right + 4) (RightCode line d.marks (joining_of o) (value_of (meant (context_in program d) right))) mid new) h.rest g1 in
-      let all : Grows (OPS_FOR_SIZE * (1 + expr_size right)) line old.marks a (link_meant (context_in program old) (tree.Linked p o right)) left (record { scalar = scalar_of (joining_of o); elements = None; standing = standing.Value }) old new =
+      let all : Grows program (OPS_FOR_SIZE * (1 + expr_size right)) line old.marks a (link_meant (context_in program old) (tree.Linked p o right)) left (record { scalar = scalar_of (joining_of o); class = None; elements = None; standing = standing.Value }) old new =
       grows_as (omega arith) (λ m. refl) (link_grows old.marks o (meant (context_in program old) right) (OPS_FOR_SIZE * expr_size right + 4) line a left s old mid new v h g2) in
-      let told : record { scalar = scalar_of (joining_of o); elements = None; standing = standing.Value } ≡ t = ap (λ (x : Joining). let m : Meaning = record { scalar = scalar_of x; elements = None; standing = standing.Value } in m) (sym jo) ∙ sym e in
-      subst (λ (x : tree.Link). Grows (OPS_FOR_SIZE * link_size x) line old.marks a (link_meant (context_in program old) x) left t old new) i (
-      subst (λ (x : Meaning). Grows (OPS_FOR_SIZE * (1 + expr_size right)) line old.marks a (link_meant (context_in program old) (tree.Linked p o right)) left x old new) told all)
+      let told : record { scalar = scalar_of (joining_of o); class = None; elements = None; standing = standing.Value } ≡ t = ap (λ (x : Joining). let m : Meaning = record { scalar = scalar_of x; class = None; elements = None; standing = standing.Value } in m) (sym jo) ∙ sym e in
+      subst (λ (x : tree.Link). Grows program (OPS_FOR_SIZE * link_size x) line old.marks a (link_meant (context_in program old) x) left t old new) i (
+      subst (λ (x : Meaning). Grows program (OPS_FOR_SIZE * (1 + expr_size right)) line old.marks a (link_meant (context_in program old) (tree.Linked p o right)) left x old new) told all)
 
   -- lists of links and of parts
   pub links_step : (xs : List tree.Link) (i : ℕ) (x : tree.Link) (line a : ℕ) (s t u : Meaning) (old mid new : Draft) → i < length xs → x ≡ get_or xs i x
-      → Grows (OPS_FOR_SIZE * links_size (links_of (take i xs))) line old.marks a (chain_meant (context_in program old) (links_of (take i xs))) s t old mid
-      → Grows (OPS_FOR_SIZE * link_size x) line mid.marks a (link_meant (context_in program mid) x) t u mid new
-      → Grows (OPS_FOR_SIZE * links_size (links_of (take (i + 1) xs))) line old.marks a (chain_meant (context_in program old) (links_of (take (i + 1) xs))) s u old new
+      → Grows program (OPS_FOR_SIZE * links_size (links_of (take i xs))) line old.marks a (chain_meant (context_in program old) (links_of (take i xs))) s t old mid
+      → Grows program (OPS_FOR_SIZE * link_size x) line mid.marks a (link_meant (context_in program mid) x) t u mid new
+      → Grows program (OPS_FOR_SIZE * links_size (links_of (take (i + 1) xs))) line old.marks a (chain_meant (context_in program old) (links_of (take (i + 1) xs))) s u old new
   links_step xs i x line a s t u old mid new h e f k =
-      let n : Grows (OPS_FOR_SIZE * link_size x) line old.marks a (link_meant (context_in program old) x) t u mid new = subst (λ (d : Draft). Grows (OPS_FOR_SIZE * link_size x) line d.marks a (link_meant (context_in program d) x) t u mid new) f.rest k in
+      let n : Grows program (OPS_FOR_SIZE * link_size x) line old.marks a (link_meant (context_in program old) x) t u mid new = subst (λ (d : Draft). Grows program (OPS_FOR_SIZE * link_size x) line d.marks a (link_meant (context_in program d) x) t u mid new) f.rest k in
       let ys : List tree.Link = take i xs in
       let split : ys ++ x ∷ [] ≡ take (i + 1) xs = ap (λ (y : tree.Link). ys ++ y ∷ []) e ∙ sym (take_more xs i x h) in
-      subst (λ (zs : List tree.Link). Grows (OPS_FOR_SIZE * links_size (links_of zs)) line old.marks a (chain_meant (context_in program old) (links_of zs)) s u old new) split (
+      subst (λ (zs : List tree.Link). Grows program (OPS_FOR_SIZE * links_size (links_of zs)) line old.marks a (chain_meant (context_in program old) (links_of zs)) s u old new) split (
       grows_as (omega (arith, links_push ys x)) (λ m. sym (chain_push (context_in program old) ys x m)) (grows_then f n))
 
   pub args_begin : (params : List Param) (line : ℕ) (old : Draft) → Adds 0 (ArgumentsCode line old.marks (args_by params [])) old old
@@ -447,13 +477,13 @@ module _ (program : Program) where
   args_end params xs i line old new h f = subst (λ (zs : List tree.Expr). Adds (OPS_FOR_SIZE * exprs_size (exprs_of zs)) (ArgumentsCode line old.marks (args_by params (args_meant (context_in program old) (exprs_of zs)))) old new) (take_all i xs h) f
 
   -- a value, and the value of an argument
-  pub arm_value : (n line a : ℕ) (e : tree.Expr) (s t : Meaning) (old mid new : Draft) → a ≡ length old.ops → Adds n (ExprCode line old.marks (meant (context_in program old) e).expr) old mid → Tells s (meant (context_in program old) e) → Grows 1 line mid.marks a fetched s t mid new → Adds (n + 1) (ExprCode line old.marks (value_of (meant (context_in program old) e))) old new
+  pub arm_value : (n line a : ℕ) (e : tree.Expr) (s t : Meaning) (old mid new : Draft) → a ≡ length old.ops → Adds n (ExprCode line old.marks (meant (context_in program old) e).expr) old mid → Tells program s (meant (context_in program old) e) → Grows program 1 line mid.marks a fetched s t mid new → Adds (n + 1) (ExprCode line old.marks (value_of (meant (context_in program old) e))) old new
   arm_value n line a e s t old mid new al k u g =
-      let g1 : Grows 1 line old.marks a fetched s t mid new = subst (λ (d : Draft). Grows 1 line d.marks a fetched s t mid new) k.rest g in
-      let g2 : Grows 1 line old.marks (length old.ops) fetched s t mid new = subst (λ (b : ℕ). Grows 1 line old.marks b fetched s t mid new) al g1 in
+      let g1 : Grows program 1 line old.marks a fetched s t mid new = subst (λ (d : Draft). Grows program 1 line d.marks a fetched s t mid new) k.rest g in
+      let g2 : Grows program 1 line old.marks (length old.ops) fetched s t mid new = subst (λ (b : ℕ). Grows program 1 line old.marks b fetched s t mid new) al g1 in
       adds_grows {f = fetched} (omega arith) k u g2
 
-  pub arm_argument : (n line a : ℕ) (x : Param) (e : tree.Expr) (v : Scalar) (s t : Meaning) (old mid next new : Draft) → x.by_ref ≡ false → shape_of x.base ≡ shape_as v → a ≡ length old.ops → Adds n (ExprCode line old.marks (meant (context_in program old) e).expr) old mid → Tells s (meant (context_in program old) e) → Grows 1 line mid.marks a fetched s t mid next → Adds 1 (ConvertCode line (shape_as v)) next new → Adds (n + 2) (ArgumentCode line old.marks x (meant (context_in program old) e)) old new
+  pub arm_argument : (n line a : ℕ) (x : Param) (e : tree.Expr) (v : Scalar) (s t : Meaning) (old mid next new : Draft) → x.by_ref ≡ false → shape_of x.base ≡ shape_as v → a ≡ length old.ops → Adds n (ExprCode line old.marks (meant (context_in program old) e).expr) old mid → Tells program s (meant (context_in program old) e) → Grows program 1 line mid.marks a fetched s t mid next → Adds 1 (ConvertCode line (shape_as v)) next new → Adds (n + 2) (ArgumentCode line old.marks x (meant (context_in program old) e)) old new
   arm_argument n line a x e v s t old mid next new none shape al k u g h =
       let m : Meant = meant (context_in program old) e in
       let value = arm_value n line a e s t old mid next al k u g in
@@ -467,30 +497,30 @@ module _ (program : Program) where
       adds_more (omega arith) (adds_as k (λ code b z w. subst (λ (r : Bool). ExprAt code line old.marks (if r then m.expr else converted (shape_of x.base) (value_of m)) b z) (sym by) w))
 
   -- an operator before its operand that writes to it, and an assignment
-  pub arm_bumped : {E : Type 0} (r : Result Meaning E) (o : UnaryOp) (step : StepOp) (n k line a : ℕ) (e : tree.Expr) (s : Meaning) (old mid new : Draft) → ((m : Meant) → bumped step m ≡ unary_meant o m) → n + 6 ≤ k → a ≡ length old.ops → Adds n (ExprCode line old.marks (meant (context_in program old) e).expr) old mid → Tells s (meant (context_in program old) e) → IfOk r (λ t. Grows 6 line mid.marks a (bumped step) s t mid new) → OnOk r (Adds k (ExprCode line old.marks (unary_meant o (meant (context_in program old) e)).expr) old new)
+  pub arm_bumped : {E : Type 0} (r : Result Meaning E) (o : UnaryOp) (step : StepOp) (n k line a : ℕ) (e : tree.Expr) (s : Meaning) (old mid new : Draft) → ((m : Meant) → bumped step m ≡ unary_meant o m) → n + 6 ≤ k → a ≡ length old.ops → Adds n (ExprCode line old.marks (meant (context_in program old) e).expr) old mid → Tells program s (meant (context_in program old) e) → IfOk r (λ t. Grows program 6 line mid.marks a (bumped step) s t mid new) → OnOk r (Adds k (ExprCode line old.marks (unary_meant o (meant (context_in program old) e)).expr) old new)
   arm_bumped r o step n k line a e s old mid new same l al h u w =
       let m : Meant = meant (context_in program old) e in
-      let w1 : IfOk r (λ t. Grows 6 line mid.marks (length old.ops) (bumped step) s t mid new) = subst (λ (b : ℕ). IfOk r (λ t. Grows 6 line mid.marks b (bumped step) s t mid new)) al w in
-      let w2 : IfOk r (λ t. Grows 6 line old.marks (length old.ops) (bumped step) s t mid new) = subst (λ (d : Draft). IfOk r (λ t. Grows 6 line d.marks (length old.ops) (bumped step) s t mid new)) h.rest w1 in
+      let w1 : IfOk r (λ t. Grows program 6 line mid.marks (length old.ops) (bumped step) s t mid new) = subst (λ (b : ℕ). IfOk r (λ t. Grows program 6 line mid.marks b (bumped step) s t mid new)) al w in
+      let w2 : IfOk r (λ t. Grows program 6 line old.marks (length old.ops) (bumped step) s t mid new) = subst (λ (d : Draft). IfOk r (λ t. Grows program 6 line d.marks (length old.ops) (bumped step) s t mid new)) h.rest w1 in
       subst (λ (x : Meant). OnOk r (Adds k (ExprCode line old.marks x.expr) old new)) (same m) (grown_code old.marks r n 6 k line m (bumped step) s old mid new l h u w2)
 
-  pub told_bumped : {E : Type 0} (r : Result Meaning E) (o : UnaryOp) (step : StepOp) (n line a : ℕ) (e : tree.Expr) (s : Meaning) (old mid new : Draft) → ((m : Meant) → bumped step m ≡ unary_meant o m) → a ≡ length old.ops → Adds n (ExprCode line old.marks (meant (context_in program old) e).expr) old mid → Tells s (meant (context_in program old) e) → IfOk r (λ t. Grows 6 line mid.marks a (bumped step) s t mid new) → IfOk r (λ t. Tells t (unary_meant o (meant (context_in program old) e)))
+  pub told_bumped : {E : Type 0} (r : Result Meaning E) (o : UnaryOp) (step : StepOp) (n line a : ℕ) (e : tree.Expr) (s : Meaning) (old mid new : Draft) → ((m : Meant) → bumped step m ≡ unary_meant o m) → a ≡ length old.ops → Adds n (ExprCode line old.marks (meant (context_in program old) e).expr) old mid → Tells program s (meant (context_in program old) e) → IfOk r (λ t. Grows program 6 line mid.marks a (bumped step) s t mid new) → IfOk r (λ t. Tells program t (unary_meant o (meant (context_in program old) e)))
   told_bumped r o step n line a e s old mid new same al h u w =
       let m : Meant = meant (context_in program old) e in
-      let w1 : IfOk r (λ t. Grows 6 line mid.marks (length old.ops) (bumped step) s t mid new) = subst (λ (b : ℕ). IfOk r (λ t. Grows 6 line mid.marks b (bumped step) s t mid new)) al w in
-      let w2 : IfOk r (λ t. Grows 6 line old.marks (length old.ops) (bumped step) s t mid new) = subst (λ (d : Draft). IfOk r (λ t. Grows 6 line d.marks (length old.ops) (bumped step) s t mid new)) h.rest w1 in
-      subst (λ (x : Meant). IfOk r (λ t. Tells t x)) (same m) (grown_tells old.marks r n 6 line m (bumped step) s old mid new h u w2)
+      let w1 : IfOk r (λ t. Grows program 6 line mid.marks (length old.ops) (bumped step) s t mid new) = subst (λ (b : ℕ). IfOk r (λ t. Grows program 6 line mid.marks b (bumped step) s t mid new)) al w in
+      let w2 : IfOk r (λ t. Grows program 6 line old.marks (length old.ops) (bumped step) s t mid new) = subst (λ (d : Draft). IfOk r (λ t. Grows program 6 line d.marks (length old.ops) (bumped step) s t mid new)) h.rest w1 in
+      subst (λ (x : Meant). IfOk r (λ t. Tells program t x)) (same m) (grown_tells old.marks r n 6 line m (bumped step) s old mid new h u w2)
 
-  pub arm_assigned : {E : Type 0} (r : Result Meaning E) (o : AssignOp) (n j k line a : ℕ) (e v : tree.Expr) (s : Meaning) (old mid new : Draft) → n + j ≤ k → a ≡ length old.ops → Adds n (ExprCode line old.marks (meant (context_in program old) e).expr) old mid → Tells s (meant (context_in program old) e) → IfOk r (λ t. Grows j line mid.marks a (λ m. assign_meant o m (meant (context_in program mid) v)) s t mid new) → OnOk r (Adds k (ExprCode line old.marks (assign_meant o (meant (context_in program old) e) (meant (context_in program old) v)).expr) old new)
+  pub arm_assigned : {E : Type 0} (r : Result Meaning E) (o : AssignOp) (n j k line a : ℕ) (e v : tree.Expr) (s : Meaning) (old mid new : Draft) → n + j ≤ k → a ≡ length old.ops → Adds n (ExprCode line old.marks (meant (context_in program old) e).expr) old mid → Tells program s (meant (context_in program old) e) → IfOk r (λ t. Grows program j line mid.marks a (λ m. assign_meant o m (meant (context_in program mid) v)) s t mid new) → OnOk r (Adds k (ExprCode line old.marks (assign_meant o (meant (context_in program old) e) (meant (context_in program old) v)).expr) old new)
   arm_assigned r o n j k line a e v s old mid new l al h u w =
-      let w1 : IfOk r (λ t. Grows j line mid.marks (length old.ops) (λ m. assign_meant o m (meant (context_in program mid) v)) s t mid new) = subst (λ (b : ℕ). IfOk r (λ t. Grows j line mid.marks b (λ m. assign_meant o m (meant (context_in program mid) v)) s t mid new)) al w in
-      let w2 : IfOk r (λ t. Grows j line old.marks (length old.ops) (λ m. assign_meant o m (meant (context_in program old) v)) s t mid new) = subst (λ (d : Draft). IfOk r (λ t. Grows j line d.marks (length old.ops) (λ m. assign_meant o m (meant (context_in program d) v)) s t mid new)) h.rest w1 in
+      let w1 : IfOk r (λ t. Grows program j line mid.marks (length old.ops) (λ m. assign_meant o m (meant (context_in program mid) v)) s t mid new) = subst (λ (b : ℕ). IfOk r (λ t. Grows program j line mid.marks b (λ m. assign_meant o m (meant (context_in program mid) v)) s t mid new)) al w in
+      let w2 : IfOk r (λ t. Grows program j line old.marks (length old.ops) (λ m. assign_meant o m (meant (context_in program old) v)) s t mid new) = subst (λ (d : Draft). IfOk r (λ t. Grows program j line d.marks (length old.ops) (λ m. assign_meant o m (meant (context_in program d) v)) s t mid new)) h.rest w1 in
       grown_code old.marks r n j k line (meant (context_in program old) e) (λ m. assign_meant o m (meant (context_in program old) v)) s old mid new l h u w2
 
-  pub told_assigned : {E : Type 0} (r : Result Meaning E) (o : AssignOp) (n j line a : ℕ) (e v : tree.Expr) (s : Meaning) (old mid new : Draft) → a ≡ length old.ops → Adds n (ExprCode line old.marks (meant (context_in program old) e).expr) old mid → Tells s (meant (context_in program old) e) → IfOk r (λ t. Grows j line mid.marks a (λ m. assign_meant o m (meant (context_in program mid) v)) s t mid new) → IfOk r (λ t. Tells t (assign_meant o (meant (context_in program old) e) (meant (context_in program old) v)))
+  pub told_assigned : {E : Type 0} (r : Result Meaning E) (o : AssignOp) (n j line a : ℕ) (e v : tree.Expr) (s : Meaning) (old mid new : Draft) → a ≡ length old.ops → Adds n (ExprCode line old.marks (meant (context_in program old) e).expr) old mid → Tells program s (meant (context_in program old) e) → IfOk r (λ t. Grows program j line mid.marks a (λ m. assign_meant o m (meant (context_in program mid) v)) s t mid new) → IfOk r (λ t. Tells program t (assign_meant o (meant (context_in program old) e) (meant (context_in program old) v)))
   told_assigned r o n j line a e v s old mid new al h u w =
-      let w1 : IfOk r (λ t. Grows j line mid.marks (length old.ops) (λ m. assign_meant o m (meant (context_in program mid) v)) s t mid new) = subst (λ (b : ℕ). IfOk r (λ t. Grows j line mid.marks b (λ m. assign_meant o m (meant (context_in program mid) v)) s t mid new)) al w in
-      let w2 : IfOk r (λ t. Grows j line old.marks (length old.ops) (λ m. assign_meant o m (meant (context_in program old) v)) s t mid new) = subst (λ (d : Draft). IfOk r (λ t. Grows j line d.marks (length old.ops) (λ m. assign_meant o m (meant (context_in program d) v)) s t mid new)) h.rest w1 in
+      let w1 : IfOk r (λ t. Grows program j line mid.marks (length old.ops) (λ m. assign_meant o m (meant (context_in program mid) v)) s t mid new) = subst (λ (b : ℕ). IfOk r (λ t. Grows program j line mid.marks b (λ m. assign_meant o m (meant (context_in program mid) v)) s t mid new)) al w in
+      let w2 : IfOk r (λ t. Grows program j line old.marks (length old.ops) (λ m. assign_meant o m (meant (context_in program old) v)) s t mid new) = subst (λ (d : Draft). IfOk r (λ t. Grows program j line d.marks (length old.ops) (λ m. assign_meant o m (meant (context_in program d) v)) s t mid new)) h.rest w1 in
       grown_tells old.marks r n j line (meant (context_in program old) e) (λ m. assign_meant o m (meant (context_in program old) v)) s old mid new h u w2
 
   -- a value that is written where ops were dropped
@@ -501,60 +531,60 @@ module _ (program : Program) where
   args_in_cut n line a xs es old mid new c h = subst (λ (d : Draft). Adds n (ArgumentsCode line d.marks (args_by xs (args_meant (context_in program d) es))) mid new) c.rest h
 
   pub parts_step : (xs : List tree.Part) (i : ℕ) (x : tree.Part) (line a : ℕ) (s t u : Meaning) (old mid new : Draft) → i < length xs → x ≡ get_or xs i x
-      → Grows (OPS_FOR_SIZE * parts_size (parts_of (take i xs))) line old.marks a (parts_meant (context_in program old) (parts_of (take i xs))) s t old mid
-      → Grows (OPS_FOR_SIZE * part_size x) line mid.marks a (part_meant (context_in program mid) x) t u mid new
-      → Grows (OPS_FOR_SIZE * parts_size (parts_of (take (i + 1) xs))) line old.marks a (parts_meant (context_in program old) (parts_of (take (i + 1) xs))) s u old new
+      → Grows program (OPS_FOR_SIZE * parts_size (parts_of (take i xs))) line old.marks a (parts_meant (context_in program old) (parts_of (take i xs))) s t old mid
+      → Grows program (OPS_FOR_SIZE * part_size x) line mid.marks a (part_meant (context_in program mid) x) t u mid new
+      → Grows program (OPS_FOR_SIZE * parts_size (parts_of (take (i + 1) xs))) line old.marks a (parts_meant (context_in program old) (parts_of (take (i + 1) xs))) s u old new
   parts_step xs i x line a s t u old mid new h e f k =
-      let n : Grows (OPS_FOR_SIZE * part_size x) line old.marks a (part_meant (context_in program old) x) t u mid new = subst (λ (d : Draft). Grows (OPS_FOR_SIZE * part_size x) line d.marks a (part_meant (context_in program d) x) t u mid new) f.rest k in
+      let n : Grows program (OPS_FOR_SIZE * part_size x) line old.marks a (part_meant (context_in program old) x) t u mid new = subst (λ (d : Draft). Grows program (OPS_FOR_SIZE * part_size x) line d.marks a (part_meant (context_in program d) x) t u mid new) f.rest k in
       let ys : List tree.Part = take i xs in
       let split : ys ++ x ∷ [] ≡ take (i + 1) xs = ap (λ (y : tree.Part). ys ++ y ∷ []) e ∙ sym (take_more xs i x h) in
-      subst (λ (zs : List tree.Part). Grows (OPS_FOR_SIZE * parts_size (parts_of zs)) line old.marks a (parts_meant (context_in program old) (parts_of zs)) s u old new) split (
+      subst (λ (zs : List tree.Part). Grows program (OPS_FOR_SIZE * parts_size (parts_of zs)) line old.marks a (parts_meant (context_in program old) (parts_of zs)) s u old new) split (
       grows_as (omega (arith, parts_push ys x)) (λ m. sym (parts_push_meant (context_in program old) ys x m)) (grows_then f n))
 
   -- a root and its parts, a first operand and its links
   pub arm_postfix : {E : Type 0} (r : Result Meaning E) (e root0 root : tree.Expr) (p : Pos) (ys xs : List tree.Part) (line a : ℕ) (s : Meaning) (old mid new : Draft) → tree.Postfix p root0 (parts_of ys) ≡ e → root ≡ root0 → xs ≡ ys → a ≡ length old.ops
-      → Adds (OPS_FOR_SIZE * expr_size root - 2) (ExprCode line old.marks (meant (context_in program old) root).expr) old mid → Tells s (meant (context_in program old) root)
-      → IfOk r (λ t. Grows (OPS_FOR_SIZE * parts_size (parts_of xs)) line mid.marks a (parts_meant (context_in program mid) (parts_of xs)) s t mid new)
+      → Adds (OPS_FOR_SIZE * expr_size root - 2) (ExprCode line old.marks (meant (context_in program old) root).expr) old mid → Tells program s (meant (context_in program old) root)
+      → IfOk r (λ t. Grows program (OPS_FOR_SIZE * parts_size (parts_of xs)) line mid.marks a (parts_meant (context_in program mid) (parts_of xs)) s t mid new)
       → OnOk r (Adds (OPS_FOR_SIZE * expr_size e - 2) (ExprCode line old.marks (meant (context_in program old) e).expr) old new)
   arm_postfix r e root0 root p ys xs line a s old mid new h i j al k u w =
       let is : tree.Postfix p root (parts_of xs) ≡ e = ap (λ (x : tree.Expr). tree.Postfix p x (parts_of xs)) i ∙ ap (λ (zs : List tree.Part). tree.Postfix p root0 (parts_of zs)) j ∙ h in
-      let w1 : IfOk r (λ t. Grows (OPS_FOR_SIZE * parts_size (parts_of xs)) line mid.marks (length old.ops) (parts_meant (context_in program mid) (parts_of xs)) s t mid new) = subst (λ (b : ℕ). IfOk r (λ t. Grows (OPS_FOR_SIZE * parts_size (parts_of xs)) line mid.marks b (parts_meant (context_in program mid) (parts_of xs)) s t mid new)) al w in
-      let w2 : IfOk r (λ t. Grows (OPS_FOR_SIZE * parts_size (parts_of xs)) line old.marks (length old.ops) (parts_meant (context_in program old) (parts_of xs)) s t mid new) = subst (λ (d : Draft). IfOk r (λ t. Grows (OPS_FOR_SIZE * parts_size (parts_of xs)) line d.marks (length old.ops) (parts_meant (context_in program d) (parts_of xs)) s t mid new)) k.rest w1 in
+      let w1 : IfOk r (λ t. Grows program (OPS_FOR_SIZE * parts_size (parts_of xs)) line mid.marks (length old.ops) (parts_meant (context_in program mid) (parts_of xs)) s t mid new) = subst (λ (b : ℕ). IfOk r (λ t. Grows program (OPS_FOR_SIZE * parts_size (parts_of xs)) line mid.marks b (parts_meant (context_in program mid) (parts_of xs)) s t mid new)) al w in
+      let w2 : IfOk r (λ t. Grows program (OPS_FOR_SIZE * parts_size (parts_of xs)) line old.marks (length old.ops) (parts_meant (context_in program old) (parts_of xs)) s t mid new) = subst (λ (d : Draft). IfOk r (λ t. Grows program (OPS_FOR_SIZE * parts_size (parts_of xs)) line d.marks (length old.ops) (parts_meant (context_in program d) (parts_of xs)) s t mid new)) k.rest w1 in
       subst (λ (x : tree.Expr). OnOk r (Adds (OPS_FOR_SIZE * expr_size x - 2) (ExprCode line old.marks (meant (context_in program old) x).expr) old new)) is (
       grown_code old.marks r (OPS_FOR_SIZE * expr_size root - 2) (OPS_FOR_SIZE * parts_size (parts_of xs)) (OPS_FOR_SIZE * expr_size (tree.Postfix p root (parts_of xs)) - 2) line (meant (context_in program old) root) (parts_meant (context_in program old) (parts_of xs)) s old mid new (let q = some_size root in omega arith) k u w2)
 
   pub told_postfix : {E : Type 0} (r : Result Meaning E) (e root0 root : tree.Expr) (p : Pos) (ys xs : List tree.Part) (line a : ℕ) (s : Meaning) (old mid new : Draft) → tree.Postfix p root0 (parts_of ys) ≡ e → root ≡ root0 → xs ≡ ys → a ≡ length old.ops
-      → Adds (OPS_FOR_SIZE * expr_size root - 2) (ExprCode line old.marks (meant (context_in program old) root).expr) old mid → Tells s (meant (context_in program old) root)
-      → IfOk r (λ t. Grows (OPS_FOR_SIZE * parts_size (parts_of xs)) line mid.marks a (parts_meant (context_in program mid) (parts_of xs)) s t mid new)
-      → IfOk r (λ t. Tells t (meant (context_in program old) e))
+      → Adds (OPS_FOR_SIZE * expr_size root - 2) (ExprCode line old.marks (meant (context_in program old) root).expr) old mid → Tells program s (meant (context_in program old) root)
+      → IfOk r (λ t. Grows program (OPS_FOR_SIZE * parts_size (parts_of xs)) line mid.marks a (parts_meant (context_in program mid) (parts_of xs)) s t mid new)
+      → IfOk r (λ t. Tells program t (meant (context_in program old) e))
   told_postfix r e root0 root p ys xs line a s old mid new h i j al k u w =
       let is : tree.Postfix p root (parts_of xs) ≡ e = ap (λ (x : tree.Expr). tree.Postfix p x (parts_of xs)) i ∙ ap (λ (zs : List tree.Part). tree.Postfix p root0 (parts_of zs)) j ∙ h in
-      let w1 : IfOk r (λ t. Grows (OPS_FOR_SIZE * parts_size (parts_of xs)) line mid.marks (length old.ops) (parts_meant (context_in program mid) (parts_of xs)) s t mid new) = subst (λ (b : ℕ). IfOk r (λ t. Grows (OPS_FOR_SIZE * parts_size (parts_of xs)) line mid.marks b (parts_meant (context_in program mid) (parts_of xs)) s t mid new)) al w in
-      let w2 : IfOk r (λ t. Grows (OPS_FOR_SIZE * parts_size (parts_of xs)) line old.marks (length old.ops) (parts_meant (context_in program old) (parts_of xs)) s t mid new) = subst (λ (d : Draft). IfOk r (λ t. Grows (OPS_FOR_SIZE * parts_size (parts_of xs)) line d.marks (length old.ops) (parts_meant (context_in program d) (parts_of xs)) s t mid new)) k.rest w1 in
-      subst (λ (x : tree.Expr). IfOk r (λ t. Tells t (meant (context_in program old) x))) is (
+      let w1 : IfOk r (λ t. Grows program (OPS_FOR_SIZE * parts_size (parts_of xs)) line mid.marks (length old.ops) (parts_meant (context_in program mid) (parts_of xs)) s t mid new) = subst (λ (b : ℕ). IfOk r (λ t. Grows program (OPS_FOR_SIZE * parts_size (parts_of xs)) line mid.marks b (parts_meant (context_in program mid) (parts_of xs)) s t mid new)) al w in
+      let w2 : IfOk r (λ t. Grows program (OPS_FOR_SIZE * parts_size (parts_of xs)) line old.marks (length old.ops) (parts_meant (context_in program old) (parts_of xs)) s t mid new) = subst (λ (d : Draft). IfOk r (λ t. Grows program (OPS_FOR_SIZE * parts_size (parts_of xs)) line d.marks (length old.ops) (parts_meant (context_in program d) (parts_of xs)) s t mid new)) k.rest w1 in
+      subst (λ (x : tree.Expr). IfOk r (λ t. Tells program t (meant (context_in program old) x))) is (
       grown_tells old.marks r (OPS_FOR_SIZE * expr_size root - 2) (OPS_FOR_SIZE * parts_size (parts_of xs)) line (meant (context_in program old) root) (parts_meant (context_in program old) (parts_of xs)) s old mid new k u w2)
 
   pub arm_chain : {E : Type 0} (r : Result Meaning E) (e first0 first : tree.Expr) (p : Pos) (ys xs : List tree.Link) (line a : ℕ) (s : Meaning) (old mid new : Draft) → tree.Chain p first0 (links_of ys) ≡ e → first ≡ first0 → xs ≡ ys → a ≡ length old.ops
-      → Adds (OPS_FOR_SIZE * expr_size first - 2) (ExprCode line old.marks (meant (context_in program old) first).expr) old mid → Tells s (meant (context_in program old) first)
-      → IfOk r (λ t. Grows (OPS_FOR_SIZE * links_size (links_of xs)) line mid.marks a (chain_meant (context_in program mid) (links_of xs)) s t mid new)
+      → Adds (OPS_FOR_SIZE * expr_size first - 2) (ExprCode line old.marks (meant (context_in program old) first).expr) old mid → Tells program s (meant (context_in program old) first)
+      → IfOk r (λ t. Grows program (OPS_FOR_SIZE * links_size (links_of xs)) line mid.marks a (chain_meant (context_in program mid) (links_of xs)) s t mid new)
       → OnOk r (Adds (OPS_FOR_SIZE * expr_size e - 2) (ExprCode line old.marks (meant (context_in program old) e).expr) old new)
   arm_chain r e first0 first p ys xs line a s old mid new h i j al k u w =
       let is : tree.Chain p first (links_of xs) ≡ e = ap (λ (x : tree.Expr). tree.Chain p x (links_of xs)) i ∙ ap (λ (zs : List tree.Link). tree.Chain p first0 (links_of zs)) j ∙ h in
-      let w1 : IfOk r (λ t. Grows (OPS_FOR_SIZE * links_size (links_of xs)) line mid.marks (length old.ops) (chain_meant (context_in program mid) (links_of xs)) s t mid new) = subst (λ (b : ℕ). IfOk r (λ t. Grows (OPS_FOR_SIZE * links_size (links_of xs)) line mid.marks b (chain_meant (context_in program mid) (links_of xs)) s t mid new)) al w in
-      let w2 : IfOk r (λ t. Grows (OPS_FOR_SIZE * links_size (links_of xs)) line old.marks (length old.ops) (chain_meant (context_in program old) (links_of xs)) s t mid new) = subst (λ (d : Draft). IfOk r (λ t. Grows (OPS_FOR_SIZE * links_size (links_of xs)) line d.marks (length old.ops) (chain_meant (context_in program d) (links_of xs)) s t mid new)) k.rest w1 in
+      let w1 : IfOk r (λ t. Grows program (OPS_FOR_SIZE * links_size (links_of xs)) line mid.marks (length old.ops) (chain_meant (context_in program mid) (links_of xs)) s t mid new) = subst (λ (b : ℕ). IfOk r (λ t. Grows program (OPS_FOR_SIZE * links_size (links_of xs)) line mid.marks b (chain_meant (context_in program mid) (links_of xs)) s t mid new)) al w in
+      let w2 : IfOk r (λ t. Grows program (OPS_FOR_SIZE * links_size (links_of xs)) line old.marks (length old.ops) (chain_meant (context_in program old) (links_of xs)) s t mid new) = subst (λ (d : Draft). IfOk r (λ t. Grows program (OPS_FOR_SIZE * links_size (links_of xs)) line d.marks (length old.ops) (chain_meant (context_in program d) (links_of xs)) s t mid new)) k.rest w1 in
       subst (λ (x : tree.Expr). OnOk r (Adds (OPS_FOR_SIZE * expr_size x - 2) (ExprCode line old.marks (meant (context_in program old) x).expr) old new)) is (
       grown_code old.marks r (OPS_FOR_SIZE * expr_size first - 2) (OPS_FOR_SIZE * links_size (links_of xs)) (OPS_FOR_SIZE * expr_size (tree.Chain p first (links_of xs)) - 2) line (meant (context_in program old) first) (chain_meant (context_in program old) (links_of xs)) s old mid new (let q = some_size first in omega arith) k u w2)
 
   pub told_chain : {E : Type 0} (r : Result Meaning E) (e first0 first : tree.Expr) (p : Pos) (ys xs : List tree.Link) (line a : ℕ) (s : Meaning) (old mid new : Draft) → tree.Chain p first0 (links_of ys) ≡ e → first ≡ first0 → xs ≡ ys → a ≡ length old.ops
-      → Adds (OPS_FOR_SIZE * expr_size first - 2) (ExprCode line old.marks (meant (context_in program old) first).expr) old mid → Tells s (meant (context_in program old) first)
-      → IfOk r (λ t. Grows (OPS_FOR_SIZE * links_size (links_of xs)) line mid.marks a (chain_meant (context_in program mid) (links_of xs)) s t mid new)
-      → IfOk r (λ t. Tells t (meant (context_in program old) e))
+      → Adds (OPS_FOR_SIZE * expr_size first - 2) (ExprCode line old.marks (meant (context_in program old) first).expr) old mid → Tells program s (meant (context_in program old) first)
+      → IfOk r (λ t. Grows program (OPS_FOR_SIZE * links_size (links_of xs)) line mid.marks a (chain_meant (context_in program mid) (links_of xs)) s t mid new)
+      → IfOk r (λ t. Tells program t (meant (context_in program old) e))
   told_chain r e first0 first p ys xs line a s old mid new h i j al k u w =
       let is : tree.Chain p first (links_of xs) ≡ e = ap (λ (x : tree.Expr). tree.Chain p x (links_of xs)) i ∙ ap (λ (zs : List tree.Link). tree.Chain p first0 (links_of zs)) j ∙ h in
-      let w1 : IfOk r (λ t. Grows (OPS_FOR_SIZE * links_size (links_of xs)) line mid.marks (length old.ops) (chain_meant (context_in program mid) (links_of xs)) s t mid new) = subst (λ (b : ℕ). IfOk r (λ t. Grows (OPS_FOR_SIZE * links_size (links_of xs)) line mid.marks b (chain_meant (context_in program mid) (links_of xs)) s t mid new)) al w in
-      let w2 : IfOk r (λ t. Grows (OPS_FOR_SIZE * links_size (links_of xs)) line old.marks (length old.ops) (chain_meant (context_in program old) (links_of xs)) s t mid new) = subst (λ (d : Draft). IfOk r (λ t. Grows (OPS_FOR_SIZE * links_size (links_of xs)) line d.marks (length old.ops) (chain_meant (context_in program d) (links_of xs)) s t mid new)) k.rest w1 in
-      subst (λ (x : tree.Expr). IfOk r (λ t. Tells t (meant (context_in program old) x))) is (
+      let w1 : IfOk r (λ t. Grows program (OPS_FOR_SIZE * links_size (links_of xs)) line mid.marks (length old.ops) (chain_meant (context_in program mid) (links_of xs)) s t mid new) = subst (λ (b : ℕ). IfOk r (λ t. Grows program (OPS_FOR_SIZE * links_size (links_of xs)) line mid.marks b (chain_meant (context_in program mid) (links_of xs)) s t mid new)) al w in
+      let w2 : IfOk r (λ t. Grows program (OPS_FOR_SIZE * links_size (links_of xs)) line old.marks (length old.ops) (chain_meant (context_in program old) (links_of xs)) s t mid new) = subst (λ (d : Draft). IfOk r (λ t. Grows program (OPS_FOR_SIZE * links_size (links_of xs)) line d.marks (length old.ops) (chain_meant (context_in program d) (links_of xs)) s t mid new)) k.rest w1 in
+      subst (λ (x : tree.Expr). IfOk r (λ t. Tells program t (meant (context_in program old) x))) is (
       grown_tells old.marks r (OPS_FOR_SIZE * expr_size first - 2) (OPS_FOR_SIZE * links_size (links_of xs)) line (meant (context_in program old) first) (chain_meant (context_in program old) (links_of xs)) s old mid new k u w2)
 
-  pub links_end : (xs : List tree.Link) (i line a : ℕ) (s t : Meaning) (old new : Draft) → length xs ≤ i → Grows (OPS_FOR_SIZE * links_size (links_of (take i xs))) line old.marks a (chain_meant (context_in program old) (links_of (take i xs))) s t old new → Grows (OPS_FOR_SIZE * links_size (links_of xs)) line old.marks a (chain_meant (context_in program old) (links_of xs)) s t old new
-  links_end xs i line a s t old new h g = subst (λ (ys : List tree.Link). Grows (OPS_FOR_SIZE * links_size (links_of ys)) line old.marks a (chain_meant (context_in program old) (links_of ys)) s t old new) (take_all i xs h) g
+  pub links_end : (xs : List tree.Link) (i line a : ℕ) (s t : Meaning) (old new : Draft) → length xs ≤ i → Grows program (OPS_FOR_SIZE * links_size (links_of (take i xs))) line old.marks a (chain_meant (context_in program old) (links_of (take i xs))) s t old new → Grows program (OPS_FOR_SIZE * links_size (links_of xs)) line old.marks a (chain_meant (context_in program old) (links_of xs)) s t old new
+  links_end xs i line a s t old new h g = subst (λ (ys : List tree.Link). Grows program (OPS_FOR_SIZE * links_size (links_of ys)) line old.marks a (chain_meant (context_in program old) (links_of ys)) s t old new) (take_all i xs h) g

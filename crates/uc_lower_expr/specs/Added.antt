@@ -1,12 +1,13 @@
 -- What lowering does to a draft.
 use Rattle.std.specs.Prelude.{◌≡◌, ℕ, ◌+◌, ◌≤◌, List, length}
+use Rattle.uc_tree.specs.Programs.{Program}
 use Rattle.uc_tree.specs.Source.{Shape, Expr, Exprs}
 use Rattle.uc_tree.specs.Resolve.{Meant, value_meant, value_of}
 use Rattle.uc_code.specs.declared.op.Op.{Op}
 use Rattle.uc_code.specs.declared.rows.Mark.{Mark}
 use Rattle.uc_code.specs.Drafts.{Draft}
 use Rattle.uc_code.specs.Laid.{Laid, laid_in}
-use Rattle.uc_code.specs.Ranges.{One, Same, Kept}
+use Rattle.uc_code.specs.Ranges.{One, Risk, Same, Kept}
 use Rattle.uc_code.specs.Lowered.{ExprAt, ArgumentsAt, ConvertAt}
 use Rattle.uc_lower_expr.specs.declared.meaning.Meaning.{Meaning}
 use Rattle.uc_lower_expr.specs.Meanings.{Tells}
@@ -31,19 +32,23 @@ ConvertCode line s code = ConvertAt code line s
 abbrev pub OpCode : ℕ → Op → Laid → ℕ → ℕ → Type 0
 OpCode line o code = One code o line
 
--- a draft whose ops from a on are the code, under marks, of what is meant, which is told
-pub record Stood (line : ℕ) (ms : List Mark) (a : ℕ) (m : Meant) (told : Meaning) (d : Draft) : Type 0 where
-  pub tells : Tells told m
+-- of one op from which an event may come
+abbrev pub RiskCode : ℕ → List Mark → Op → Laid → ℕ → ℕ → Type 0
+RiskCode line ms o code = Risk code ms o line
+
+-- a draft whose ops from a on are the code, under marks, of what is meant in a program, which is told
+pub record Stood (p : Program) (line : ℕ) (ms : List Mark) (a : ℕ) (m : Meant) (told : Meaning) (d : Draft) : Type 0 where
+  pub tells : Tells p told m
   pub code : ExprAt (laid_in d) line ms m.expr a (length d.ops)
 
 -- from the code of anything meant, at a, on to the code of what f makes of it, by at most n ops more. What stands
 -- before a stays.
-pub record Grows (n line : ℕ) (ms : List Mark) (a : ℕ) (f : Meant → Meant) (before after : Meaning) (old new : Draft) : Type 0 where
+pub record Grows (p : Program) (n line : ℕ) (ms : List Mark) (a : ℕ) (f : Meant → Meant) (before after : Meaning) (old new : Draft) : Type 0 where
   pub rest : new ≡ record old { ops = new.ops }
   pub front : Same (laid_in old) (laid_in new) 0 a
   pub past : a ≤ length new.ops
   pub room : length new.ops ≤ length old.ops + n
-  pub code : (m : Meant) → Stood line ms a m before old → Stood line ms a (f m) after new
+  pub code : (m : Meant) → Stood p line ms a m before old → Stood p line ms a (f m) after new
 
 -- the ops from a on are gone
 pub record Cuts (a : ℕ) (old new : Draft) : Type 0 where

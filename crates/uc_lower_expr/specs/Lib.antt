@@ -1,5 +1,9 @@
 pub mod Added
 pub mod Contexts
+pub mod Known
 pub mod Meanings
+pub mod Members
+pub mod Noted
 pub mod Numbered
 pub mod Parts
+pub mod Routed

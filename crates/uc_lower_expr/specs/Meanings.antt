@@ -1,6 +1,8 @@
 -- What lowering tells of an expression besides its code.
 use Rattle.std.specs.Prelude.{◌≡◌, ℕ, Option, Some, None}
-use Rattle.uc_tree.specs.Source.{Shape, Integer, Character, Truth}
+use Rattle.uc_tree.specs.Source.{Shape, Integer, Character, Truth, field_cells}
+use Rattle.uc_tree.specs.Objects.{shape_of, plain_class}
+use Rattle.uc_tree.specs.Programs.{Program}
 use Rattle.uc_tree.specs.Resolve as resolve
 use Rattle.uc_lower_expr.specs.declared.meaning.Scalar.{Scalar}
 use Rattle.uc_lower_expr.specs.declared.meaning.Scalar.TheVariants as scalar
@@ -16,24 +18,35 @@ shape_as scalar.Truth = Truth
 -- the variable that is told of
 abbrev pub cell_in : Standing → Option ℕ
 cell_in (standing.Variable k) = Some k
+cell_in (standing.Field k) = None
 cell_in standing.Place = None
 cell_in standing.Value = None
 cell_in standing.Input = None
 cell_in standing.Fail = None
 cell_in (standing.Routine r) = None
+cell_in (standing.Member r) = None
 cell_in standing.Nothing = None
 
-abbrev pub stands_as : Standing → resolve.Standing
-stands_as (standing.Variable k) = resolve.AtVariable k
-stands_as standing.Place = resolve.AtPlace
-stands_as standing.Value = resolve.AsValue
-stands_as standing.Input = resolve.AsInput
-stands_as standing.Fail = resolve.AsFail
-stands_as (standing.Routine r) = resolve.AsRoutine r
-stands_as standing.Nothing = resolve.AsNothing
+-- a field of the object of the running call, which begins at this cell of it
+pub data FieldAt (k : ℕ) : resolve.Standing → Type 0 where
+  Begins : (s : Shape) (i : ℕ) → field_cells s i ≡ k → FieldAt k (resolve.AtField s i)
 
--- what is told of an expression that stands for this: how its base keeps a number, its length, and its standing
-pub record Tells (told : Meaning) (m : resolve.Meant) : Type 0 where
-  pub shape : resolve.shape_of m.ty.base ≡ shape_as told.scalar
+-- the standing that is told
+abbrev pub StandsAs : Standing → resolve.Standing → Type 0
+StandsAs (standing.Variable k) s = s ≡ resolve.AtVariable k
+StandsAs (standing.Field k) s = FieldAt k s
+StandsAs standing.Place s = s ≡ resolve.AtPlace
+StandsAs standing.Value s = s ≡ resolve.AsValue
+StandsAs standing.Input s = s ≡ resolve.AsInput
+StandsAs standing.Fail s = s ≡ resolve.AsFail
+StandsAs (standing.Routine r) s = s ≡ resolve.AsRoutine r
+StandsAs (standing.Member r) s = s ≡ resolve.AsMember r
+StandsAs standing.Nothing s = s ≡ resolve.AsNothing
+
+-- what is told of an expression of a program that stands for this: how its base keeps a number, the class that it names, its
+-- length, and its standing
+pub record Tells (p : Program) (told : Meaning) (m : resolve.Meant) : Type 0 where
+  pub shape : shape_of m.ty.base ≡ shape_as told.scalar
+  pub class : plain_class p m.ty.base ≡ told.class
   pub len : m.ty.len ≡ told.elements
-  pub standing : m.standing ≡ stands_as told.standing
+  pub standing : StandsAs told.standing m.standing

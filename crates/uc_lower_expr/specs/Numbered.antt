@@ -1,29 +1,43 @@
--- The routines of a program by their numbers, and the numbers of those that are called by their names alone.
-use Rattle.std.specs.Prelude.{◌≡◌, ℕ, suc, List, [], ◌∷◌, Bool, ◌&&◌, Option, Some, None, length, map, if◌then◌else◌}
+-- The routines of a program by their numbers, and what names stand for outside of routines.
+use Rattle.std.specs.Prelude.{◌≡◌, ℕ, List, Bool, ◌&&◌, Some, length, map, unwrap_or, nat_eq, slice_get}
 use Rattle.uc_names.specs.Blocks.{Block, found}
-use Rattle.uc_tree.specs.Programs.{Sig, Routine, Constant, Program}
+use Rattle.uc_tree.specs.declared.kinds.Role.TheVariants as role
+use Rattle.uc_tree.specs.Programs.{Sig, Constant, Class, Program}
 use Rattle.uc_tree.specs.Constants.{constants_of, constant_named, value_of_name}
-use Rattle.uc_tree.specs.Numbering.{is_plain, routines_of}
-use Rattle.uc_tree.specs.Resolve.{is_here, is_named, routine_from, value_or_zero, shape_of}
+use Rattle.uc_tree.specs.Cells.{classes_of}
+use Rattle.uc_tree.specs.Numbering.{Defined, is_plain, class_number, routines_of}
+use Rattle.uc_tree.specs.Objects.{plain_class, shape_of, unwritten_number}
+use Rattle.uc_tree.specs.Resolve.{is_here, routine_from, value_or_zero}
 use Rattle.uc_lower_expr.specs.Meanings.{shape_as}
-use Rattle.uc_lower_expr.specs.declared.program_names.Fixed.{Fixed}
+use Rattle.uc_lower_expr.specs.declared.numbering.Fixed.{Fixed}
+use Rattle.uc_lower_expr.specs.declared.numbering.Numbering.{Numbering}
 
-abbrev pub is_called_alone : Sig → Bool
-is_called_alone s = is_here s.owner && is_plain s.role
+-- a routine that is called by its name alone: the number of its class is 0
+abbrev pub is_called_alone : ℕ → Sig → Bool
+is_called_alone number s = nat_eq number 0 && (is_here s.owner && is_plain s.role)
 
--- the number of the first of these routines that is called by this name; the first of the list has the number r
-abbrev pub number_among : List Routine → ℕ → List ℕ → Option ℕ
-number_among [] r name = None
-number_among (x ∷ xs) r name = if is_named x.sig name then Some r else number_among xs (suc r) name
-
--- tables of these numbers
-pub record AreAmong (routines : List Routine) (numbers : List Block) : Type 0 where
+-- a table of those of these routines that are called by their names alone
+pub record AreAmong (ds : List Defined) (numbers : List Block) : Type 0 where
   pub one : length numbers ≡ 1
-  pub at : (name : List ℕ) → found numbers name ≡ number_among routines 0 name
+  pub at : (name : List ℕ) → found numbers name ≡ routine_from ds 0 name
 
-pub record AreNumbered (p : Program) (routines : List Routine) (numbers : List Block) : Type 0 where
-  pub are : routines ≡ map (λ d. d.routine) (routines_of p)
-  pub at : (name : List ℕ) → found numbers name ≡ routine_from (routines_of p) 0 name
+-- the number of a class; an event has none, and counts as 0
+abbrev pub number_of_class : Program → Class → ℕ
+number_of_class p c = unwrap_or (class_number p c.name) 0
+
+-- numbers by the places of classes, those of the constructors and of the destructors that nobody wrote among them
+pub record AreUnwritten (p : Program) (constructors destructors : List ℕ) : Type 0 where
+  pub builds : (i n : ℕ) → slice_get constructors i ≡ Some n → unwritten_number p i role.Constructor ≡ n
+  pub destroys : (i n : ℕ) → slice_get destructors i ≡ Some n → unwritten_number p i role.Destructor ≡ n
+  pub builders : length constructors ≡ length (classes_of p.items)
+  pub destroyers : length destructors ≡ length (classes_of p.items)
+
+-- what is numbered in a program
+pub record IsNumbering (p : Program) (n : Numbering) : Type 0 where
+  pub routines : map (λ r. r.now) n.routines.items ≡ map (λ d. d.routine) (routines_of p)
+  pub owners : n.owners.items ≡ map (λ d. d.number) (routines_of p)
+  pub classes : n.classes.items ≡ map (number_of_class p) (classes_of p.items)
+  pub unwritten : AreUnwritten p n.constructors.items n.destructors.items
 
 -- the constant of a name, with its value
 pub record IsFixed (p : Program) (name : List ℕ) (v : Fixed) : Type 0 where
@@ -31,3 +45,4 @@ pub record IsFixed (p : Program) (name : List ℕ) (v : Fixed) : Type 0 where
   pub is : constant_named (constants_of p.items) name ≡ Some constant
   pub value : v.value ≡ value_or_zero (value_of_name (constants_of p.items) name)
   pub shape : shape_of constant.base ≡ shape_as v.scalar
+  pub class : plain_class p constant.base ≡ v.class

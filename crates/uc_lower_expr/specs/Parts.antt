@@ -1,5 +1,5 @@
 -- The code behind a left side, and in an update.
-use Rattle.std.specs.Prelude.{◌≡◌, ℕ, ◌+◌, pos, List, Bool, Option, Some, None, length, if◌then◌else◌}
+use Rattle.std.specs.Prelude.{◌≡◌, ℕ, ◌+◌, pos, List, Bool, true, false, Option, Some, None, length, if◌then◌else◌}
 use Rattle.uc_tree.specs.declared.kinds.Known.{Known}
 use Rattle.uc_tree.specs.declared.ops.BinaryOp.{BinaryOp}
 use Rattle.uc_tree.specs.declared.ops.BinaryOp.TheVariants as binary
@@ -9,7 +9,9 @@ use Rattle.uc_tree.specs.declared.ops.StepOp.{StepOp}
 use Rattle.uc_tree.specs.declared.ops.StepOp.TheVariants as step
 use Rattle.uc_tree.specs.declared.kinds.Param.{Param}
 use Rattle.uc_tree.specs.Source.{Shape, Plus, Minus, Expr, Literal}
-use Rattle.uc_tree.specs.Resolve.{Meant, known_named, known_meant, updated, arg_meant}
+use Rattle.uc_tree.specs.Names.{same_name}
+use Rattle.uc_tree.specs.Programs.{Program}
+use Rattle.uc_tree.specs.Resolve.{Meant, known_named, known_meant, updated, arg_meant, fail_name}
 use Rattle.uc_code.specs.declared.op.Op.{Op}
 use Rattle.uc_code.specs.declared.op.Op.TheVariants as op
 use Rattle.uc_code.specs.declared.rows.Mark.{Mark}
@@ -21,6 +23,7 @@ use Rattle.uc_lower_expr.specs.declared.meaning.Scalar.{Scalar}
 use Rattle.uc_lower_expr.specs.declared.meaning.Scalar.TheVariants as scalar
 use Rattle.uc_lower_expr.specs.declared.meaning.Standing.{Standing}
 use Rattle.uc_lower_expr.specs.declared.meaning.Standing.TheVariants as standing
+use Rattle.uc_lower_expr.specs.declared.meaning.Meaning.{Meaning}
 use Rattle.uc_lower_expr.specs.declared.ops.Joining.{Joining}
 use Rattle.uc_lower_expr.specs.declared.ops.Joining.TheVariants as joining
 use Rattle.uc_lower_expr.specs.declared.names.Variable.{Variable}
@@ -118,13 +121,26 @@ pub record Restarts (o : Op) (line a : ℕ) (old new : Draft) : Type 0 where
 abbrev pub standing_by : Bool → ℕ → Standing
 standing_by by_ref k = if by_ref then standing.Place else standing.Variable k
 
--- the variable that a name stands for
-pub record IsVariable (names : List Known) (name : List ℕ) (v : Variable) : Type 0 where
+-- the op that finds the place of a field of the object of the running call; the op that does so where the object stands below
+abbrev pub own_place_op : Bool → ℕ → Op
+own_place_op by_ref k = if by_ref then op.ViaThis k else op.This k
+
+-- a field of the object of the running call, by whether it is a reference
+abbrev pub own_standing : Bool → ℕ → Standing
+own_standing by_ref k = if by_ref then standing.Place else standing.Field k
+
+-- the code behind the place of an object that finds a field of it: a reference holds its place
+abbrev pub FieldCode : ℕ → Bool → ℕ → Laid → ℕ → ℕ → Type 0
+FieldCode line false k code = One code (op.Field k) line
+FieldCode line true k code = Both (One code (op.Field k) line) (One code op.Load line)
+
+-- the variable of a program that a name stands for
+pub record IsVariable (p : Program) (names : List Known) (name : List ℕ) (v : Variable) : Type 0 where
   pub known : Known
   pub is : known_named names name ≡ Some known
   pub cell : known.cell ≡ v.cell
   pub by_ref : known.ty.by_ref ≡ v.by_ref
-  pub tells : Tells v.told (known_meant known)
+  pub tells : Tells p v.told (known_meant known)
 
 -- the op that finds the place of a variable
 abbrev pub place_op_of : Bool → ℕ → Op
@@ -134,3 +150,7 @@ place_op_of by_ref k = if by_ref then op.Via k else op.Local k
 abbrev pub bumped : StepOp → Meant → Meant
 bumped step.Increment m = updated Plus m (Literal (pos 1))
 bumped step.Decrement m = updated Minus m (Literal (pos 1))
+
+-- what is told of a member of `cin`
+abbrev pub input_told : List ℕ → Meaning
+input_told name = if same_name name fail_name then record { scalar = scalar.Truth; class = None; elements = None; standing = standing.Fail } else record { scalar = scalar.Number; class = None; elements = None; standing = standing.Nothing }

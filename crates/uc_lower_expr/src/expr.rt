@@ -1,23 +1,27 @@
 // The code of expressions.
 
-ghost use Rattle.std.specs.Prelude.{◌≡◌, ℕ, List, ◌+◌, ◌-◌, ◌*◌, ◌<◌, ◌≤◌, pos, None, length, OnOk, IfOk};
+ghost use Rattle.std.specs.Prelude.{◌≡◌, ℕ, List, ◌+◌, ◌-◌, ◌*◌, ◌<◌, ◌≤◌, pos, None, Some, length, OnOk, IfOk};
 ghost use Rattle.uc_tree.specs.declared.limits.TheConstants.{PROGRAM_OPS, OPS_FOR_SIZE};
 ghost use Rattle.uc_tree.specs.Expressions.{exprs_of, links_of, parts_of};
 ghost use Rattle.uc_tree.specs.ExpressionSizes.{expr_size, exprs_size, link_size, links_size, part_size, parts_size};
 ghost use Rattle.uc_tree.specs.Numbering.{routines_of};
-ghost use Rattle.uc_tree.specs.Resolve.{Meant, meant, value_of, unary_meant, assign_meant, link_meant, chain_meant, part_meant, parts_meant, element_meant, field_meant, call_meant, args_meant, args_by, name_meant, item_meant, routine_meant_by, routine_from, known_named};
+ghost use Rattle.uc_tree.specs.Objects.{class_at};
+ghost use Rattle.uc_tree.specs.Resolve.{Meant, meant, value_of, unary_meant, assign_meant, link_meant, chain_meant, part_meant, parts_meant, element_meant, field_meant, call_meant, args_meant, args_by, name_meant, own_meant, place_member, member_meant, Of, item_meant, routine_meant_by, routine_from, known_named};
 ghost use Rattle.uc_lower_expr.specs.Contexts.{context_in};
 ghost use Rattle.uc_lower_expr.specs.Meanings.{Tells, shape_as};
 ghost use Rattle.uc_lower_expr.specs.Added.{Adds, Grows, ExprCode, ArgumentsCode};
-ghost use Rattle.uc_lower_expr.specs.Parts.{RightCode, VariableCode, PlaceCode, ArgumentCode, Restarts, place_op_of};
+ghost use Rattle.uc_lower_expr.specs.Members.{no_field};
+ghost use Rattle.uc_lower_expr.specs.Parts.{RightCode, VariableCode, PlaceCode, ArgumentCode, FieldCode, Restarts, place_op_of, own_place_op, own_standing, input_told};
 
+use crate::fields::Field;
 use crate::meaning::{Meaning, Scalar, Standing};
 use crate::names::variable_named;
+use crate::numbering::Fixed;
 use crate::ops::{Joining, combining, joined_by};
 use crate::program_names::ProgramNames;
 use crate::put::{
-    begin_update, close_fork, cut, end_update, put, put_bump, put_conversion, put_load,
-    put_stepped, restart,
+    begin_update, close_fork, cut, end_update, put, put_at_risk, put_bump, put_conversion,
+    put_load, put_stepped, restart,
 };
 use std::alloc::AllocError;
 use uc_code::draft::Draft;
@@ -38,7 +42,7 @@ pub fn lower_expr(
 ) -> Result<Meaning, AllocError>
     requires { length out.old.ops + OPS_FOR_SIZE * expr_size e.now ≤ PROGRAM_OPS }
     ensures code { OnOk result (Adds (OPS_FOR_SIZE * expr_size e.now - 2) (ExprCode line out.old.marks (meant (context_in names.now out.old) e.now).expr) out.old out.new) }
-    ensures tells { IfOk result (λ told. Tells told (meant (context_in names.now out.old) e.now)) }
+    ensures tells { IfOk result (λ told. Tells names.now told (meant (context_in names.now out.old) e.now)) }
 {
     match &e.form {
         ExprForm::Number { value } => {
@@ -89,7 +93,7 @@ pub fn lower_value(
 ) -> Result<Meaning, AllocError>
     requires { length out.old.ops + OPS_FOR_SIZE * expr_size e.now ≤ PROGRAM_OPS }
     ensures code { OnOk result (Adds (OPS_FOR_SIZE * expr_size e.now) (ExprCode line out.old.marks (value_of (meant (context_in names.now out.old) e.now))) out.old out.new) }
-    ensures tells { IfOk result (λ told. Tells told (meant (context_in names.now out.old) e.now)) }
+    ensures tells { IfOk result (λ told. Tells names.now told (meant (context_in names.now out.old) e.now)) }
 {
     let start = out.here();
     let told = lower_expr(e, line, names, out)?;
@@ -107,7 +111,7 @@ fn lower_unary(
 ) -> Result<Meaning, AllocError>
     requires { length out.old.ops + OPS_FOR_SIZE * (1 + expr_size operand.now) ≤ PROGRAM_OPS }
     ensures code { OnOk result (Adds (OPS_FOR_SIZE * (1 + expr_size operand.now) - 2) (ExprCode line out.old.marks (unary_meant op (meant (context_in names.now out.old) operand.now)).expr) out.old out.new) }
-    ensures tells { IfOk result (λ told. Tells told (unary_meant op (meant (context_in names.now out.old) operand.now))) }
+    ensures tells { IfOk result (λ told. Tells names.now told (unary_meant op (meant (context_in names.now out.old) operand.now))) }
 {
     match op {
         UnaryOp::Minus => {
@@ -148,7 +152,7 @@ fn lower_assign(
 ) -> Result<Meaning, AllocError>
     requires { length out.old.ops + OPS_FOR_SIZE * (1 + expr_size place.now + expr_size value.now) ≤ PROGRAM_OPS }
     ensures code { OnOk result (Adds (OPS_FOR_SIZE * (1 + expr_size place.now + expr_size value.now) - 2) (ExprCode line out.old.marks (assign_meant op (meant (context_in names.now out.old) place.now) (meant (context_in names.now out.old) value.now)).expr) out.old out.new) }
-    ensures tells { IfOk result (λ told. Tells told (assign_meant op (meant (context_in names.now out.old) place.now) (meant (context_in names.now out.old) value.now))) }
+    ensures tells { IfOk result (λ told. Tells names.now told (assign_meant op (meant (context_in names.now out.old) place.now) (meant (context_in names.now out.old) value.now))) }
 {
     let start = out.here();
     let told = lower_expr(place, line, names, out)?;
@@ -166,9 +170,10 @@ fn lower_written(
     names: &ProgramNames,
     out: &mut Draft,
 ) -> Result<Meaning, AllocError>
+    requires settled { out.old.settled ≤ start }
     requires inside { start ≤ length out.old.ops }
     requires room { length out.old.ops + OPS_FOR_SIZE * expr_size value.now + 5 ≤ PROGRAM_OPS }
-    ensures { IfOk result (λ after. Grows (OPS_FOR_SIZE * expr_size value.now + 5) line out.old.marks start (λ m. assign_meant op m (meant (context_in names.now out.old) value.now)) told after out.old out.new) }
+    ensures { IfOk result (λ after. Grows names.now (OPS_FOR_SIZE * expr_size value.now + 5) line out.old.marks start (λ m. assign_meant op m (meant (context_in names.now out.old) value.now)) told after out.old out.new) }
 {
     match told.standing.variable() {
         Some(cell) => {
@@ -251,9 +256,10 @@ fn lower_links(
     names: &ProgramNames,
     out: &mut Draft,
 ) -> Result<Meaning, AllocError>
+    requires settled { out.old.settled ≤ start }
     requires inside { start ≤ length out.old.ops }
     requires room { length out.old.ops + OPS_FOR_SIZE * links_size (links_of links.now) ≤ PROGRAM_OPS }
-    ensures { IfOk result (λ told. Grows (OPS_FOR_SIZE * links_size (links_of links.now)) line out.old.marks start (chain_meant (context_in names.now out.old) (links_of links.now)) first told out.old out.new) }
+    ensures { IfOk result (λ told. Grows names.now (OPS_FOR_SIZE * links_size (links_of links.now)) line out.old.marks start (chain_meant (context_in names.now out.old) (links_of links.now)) first told out.old out.new) }
 {
     let mut told = first;
     for link in links {
@@ -271,9 +277,10 @@ fn lower_link(
     names: &ProgramNames,
     out: &mut Draft,
 ) -> Result<Meaning, AllocError>
+    requires settled { out.old.settled ≤ start }
     requires inside { start ≤ length out.old.ops }
     requires room { length out.old.ops + OPS_FOR_SIZE * link_size link.now ≤ PROGRAM_OPS }
-    ensures { IfOk result (λ told. Grows (OPS_FOR_SIZE * link_size link.now) line out.old.marks start (link_meant (context_in names.now out.old) link.now) left told out.old out.new) }
+    ensures { IfOk result (λ told. Grows names.now (OPS_FOR_SIZE * link_size link.now) line out.old.marks start (link_meant (context_in names.now out.old) link.now) left told out.old out.new) }
 {
     let joining = joined_by(link.op);
     put_load(left, start, line, out)?;
@@ -332,9 +339,10 @@ fn lower_parts(
     names: &ProgramNames,
     out: &mut Draft,
 ) -> Result<Meaning, AllocError>
+    requires settled { out.old.settled ≤ start }
     requires inside { start ≤ length out.old.ops }
     requires room { length out.old.ops + OPS_FOR_SIZE * parts_size (parts_of parts.now) ≤ PROGRAM_OPS }
-    ensures { IfOk result (λ told. Grows (OPS_FOR_SIZE * parts_size (parts_of parts.now)) line out.old.marks start (parts_meant (context_in names.now out.old) (parts_of parts.now)) root told out.old out.new) }
+    ensures { IfOk result (λ told. Grows names.now (OPS_FOR_SIZE * parts_size (parts_of parts.now)) line out.old.marks start (parts_meant (context_in names.now out.old) (parts_of parts.now)) root told out.old out.new) }
 {
     let mut told = root;
     for part in parts {
@@ -352,12 +360,13 @@ fn lower_part(
     names: &ProgramNames,
     out: &mut Draft,
 ) -> Result<Meaning, AllocError>
+    requires settled { out.old.settled ≤ start }
     requires inside { start ≤ length out.old.ops }
     requires room { length out.old.ops + OPS_FOR_SIZE * part_size part.now ≤ PROGRAM_OPS }
-    ensures { IfOk result (λ after. Grows (OPS_FOR_SIZE * part_size part.now) line out.old.marks start (part_meant (context_in names.now out.old) part.now) told after out.old out.new) }
+    ensures { IfOk result (λ after. Grows names.now (OPS_FOR_SIZE * part_size part.now) line out.old.marks start (part_meant (context_in names.now out.old) part.now) told after out.old out.new) }
 {
     match &part.form {
-        PartForm::Field { name } => lower_field(name, told, start, line, out),
+        PartForm::Field { name } => lower_field(name, told, start, line, names, out),
         PartForm::Index { index } => lower_index(index, told, start, line, names, out),
         PartForm::Call { args } => lower_call(args, told, start, line, names, out),
         PartForm::Step { op } => put_stepped(*op, told, start, line, out),
@@ -373,9 +382,10 @@ fn lower_index(
     names: &ProgramNames,
     out: &mut Draft,
 ) -> Result<Meaning, AllocError>
+    requires settled { out.old.settled ≤ start }
     requires inside { start ≤ length out.old.ops }
     requires room { length out.old.ops + OPS_FOR_SIZE * (1 + expr_size index.now) ≤ PROGRAM_OPS }
-    ensures { IfOk result (λ after. Grows (OPS_FOR_SIZE * (1 + expr_size index.now)) line out.old.marks start (λ m. element_meant m (meant (context_in names.now out.old) index.now)) told after out.old out.new) }
+    ensures { IfOk result (λ after. Grows names.now (OPS_FOR_SIZE * (1 + expr_size index.now)) line out.old.marks start (λ m. element_meant names.now m (meant (context_in names.now out.old) index.now)) told after out.old out.new) }
 {
     match told.elements {
         None => {
@@ -383,18 +393,19 @@ fn lower_index(
             Ok(Meaning::nothing())
         }
         Some(length) => {
+            let size = names.element_size(told.class);
             let _index = lower_value(index, line, names, out)?;
-            put(Op::Index { length, size: 1 }, line, out)?;
+            put(Op::Index { length, size }, line, out)?;
             Ok(Meaning {
-                scalar: told.scalar,
                 elements: None,
                 standing: Standing::Place,
+                ..told
             })
         }
     }
 }
 
-// A name is that of a variable in scope, or of a constant or a routine of the program.
+// A name is that of a variable in scope, of a member of the class, or of a constant or a routine of the program.
 fn lower_name(
     name: &Name,
     line: u32,
@@ -402,13 +413,84 @@ fn lower_name(
     out: &mut Draft,
 ) -> Result<Meaning, AllocError>
     requires { length out.old.ops < PROGRAM_OPS }
-    ensures code { OnOk result (Adds 1 (ExprCode line out.old.marks (name_meant names.now name.now (known_named out.old.names name.now)).expr) out.old out.new) }
-    ensures tells { IfOk result (λ told. Tells told (name_meant names.now name.now (known_named out.old.names name.now))) }
+    ensures code { OnOk result (Adds 1 (ExprCode line out.old.marks (name_meant names.now out.old.place.class name.now (known_named out.old.names name.now)).expr) out.old out.new) }
+    ensures tells { IfOk result (λ told. Tells names.now told (name_meant names.now out.old.place.class name.now (known_named out.old.names name.now))) }
 {
-    match variable_named(out, name) {
+    match variable_named(out, names, name) {
         Some(variable) => {
             put(place_op(variable.by_ref, variable.cell), line, out)?;
             Ok(variable.told)
+        }
+        None => match names.class_of(out.place().class) {
+            Some(class) => lower_own_name(class, name, line, names, out),
+            None => lower_item_name(name, line, names, out),
+        },
+    }
+}
+
+// A name in a routine of the class with this place, whose members hide what the program has under their names.
+fn lower_own_name(
+    class: usize,
+    name: &Name,
+    line: u32,
+    names: &ProgramNames,
+    out: &mut Draft,
+) -> Result<Meaning, AllocError>
+    requires { length out.old.ops < PROGRAM_OPS }
+    ensures code { OnOk result (Adds 1 (ExprCode line out.old.marks (own_meant names.now (Some class) name.now).expr) out.old out.new) }
+    ensures tells { IfOk result (λ told. Tells names.now told (own_meant names.now (Some class) name.now)) }
+{
+    match names.field(class, name) {
+        Some(field) => {
+            put(own_place_op(field.by_ref, field.cell), line, out)?;
+            Ok(
+                field
+                    .told
+                    .standing_as(own_standing(field.by_ref, field.cell)),
+            )
+        }
+        None => lower_own_member(class, name, line, names, out),
+    }
+}
+
+// The op that finds the place of a field of the object of the running call.
+fn own_place_op(by_ref: bool, cell: u32) -> Op
+    ensures { result ≡ own_place_op by_ref cell }
+{
+    if by_ref {
+        Op::ViaThis(cell)
+    } else {
+        Op::This(cell)
+    }
+}
+
+fn own_standing(by_ref: bool, cell: u32) -> Standing
+    ensures { result ≡ own_standing by_ref cell }
+{
+    if by_ref {
+        Standing::Place
+    } else {
+        Standing::Field(cell)
+    }
+}
+
+// A name that is that of no field of the class.
+fn lower_own_member(
+    class: usize,
+    name: &Name,
+    line: u32,
+    names: &ProgramNames,
+    out: &mut Draft,
+) -> Result<Meaning, AllocError>
+    requires room { length out.old.ops < PROGRAM_OPS }
+    requires no_field { no_field names.now class name.now (class_at names.now class) }
+    ensures code { OnOk result (Adds 1 (ExprCode line out.old.marks (own_meant names.now (Some class) name.now).expr) out.old out.new) }
+    ensures tells { IfOk result (λ told. Tells names.now told (own_meant names.now (Some class) name.now)) }
+{
+    match names.member(class, name) {
+        Some(routine) => {
+            put(Op::Own, line, out)?;
+            Ok(names.result(routine).standing_as(Standing::Member(routine)))
         }
         None => lower_item_name(name, line, names, out),
     }
@@ -433,12 +515,12 @@ fn lower_item_name(
 ) -> Result<Meaning, AllocError>
     requires { length out.old.ops < PROGRAM_OPS }
     ensures code { OnOk result (Adds 1 (ExprCode line out.old.marks (item_meant names.now name.now).expr) out.old out.new) }
-    ensures tells { IfOk result (λ told. Tells told (item_meant names.now name.now)) }
+    ensures tells { IfOk result (λ told. Tells names.now told (item_meant names.now name.now)) }
 {
     match names.constant(name) {
         Some(fixed) => {
             put(Op::Push(fixed.value), line, out)?;
-            Ok(Meaning::value(fixed.scalar))
+            Ok(fixed_told(fixed))
         }
         None => {
             put(Op::Push(0), line, out)?;
@@ -447,46 +529,157 @@ fn lower_item_name(
     }
 }
 
+// A constant is a value of its type.
+fn fixed_told(fixed: Fixed) -> Meaning
+    ensures { result ≡ record { scalar = fixed.scalar; class = fixed.class; elements = None; standing = Standing.Value } }
+{
+    Meaning {
+        scalar: fixed.scalar,
+        class: fixed.class,
+        elements: None,
+        standing: Standing::Value,
+    }
+}
+
 fn routine_told(name: &Name, names: &ProgramNames) -> Meaning
-    ensures { Tells result (routine_meant_by names.now (routine_from (routines_of names.now) 0 name.now)) }
+    ensures { Tells names.now result (routine_meant_by names.now (routine_from (routines_of names.now) 0 name.now)) }
 {
     match names.routine(name) {
-        Some(routine) => Meaning {
-            scalar: names.result(routine),
-            elements: None,
-            standing: Standing::Routine(routine),
-        },
+        Some(routine) => names
+            .result(routine)
+            .standing_as(Standing::Routine(routine)),
         None => Meaning::nothing(),
     }
 }
 
-// `fail` is the only field, and `cin` has it.
+// A field or a member of what stands from `start` on. `fail` is the only one of `cin`.
 fn lower_field(
     name: &Name,
     told: Meaning,
     start: u32,
     line: u32,
+    names: &ProgramNames,
     out: &mut Draft,
 ) -> Result<Meaning, AllocError>
+    requires settled { out.old.settled ≤ start }
     requires inside { start ≤ length out.old.ops }
     requires room { length out.old.ops + OPS_FOR_SIZE ≤ PROGRAM_OPS }
-    ensures { IfOk result (λ after. Grows OPS_FOR_SIZE line out.old.marks start (λ m. field_meant m name.now) told after out.old out.new) }
+    ensures { IfOk result (λ after. Grows names.now OPS_FOR_SIZE line out.old.marks start (λ m. field_meant names.now m name.now) told after out.old out.new) }
 {
-    restart(Op::Push(0), start, line, out)?;
-    Ok(field(told, name))
+    match told.standing {
+        Standing::Input => lower_input_member(name, start, line, out),
+        Standing::Variable(_) => lower_member(name, told, start, line, names, out),
+        Standing::Field(_) => lower_member(name, told, start, line, names, out),
+        Standing::Place => lower_member(name, told, start, line, names, out),
+        Standing::Value => put_nothing(start, line, out),
+        Standing::Fail => put_nothing(start, line, out),
+        Standing::Routine(_) => put_nothing(start, line, out),
+        Standing::Member(_) => put_nothing(start, line, out),
+        Standing::Nothing => put_nothing(start, line, out),
+    }
 }
 
-fn field(told: Meaning, name: &Name) -> Meaning
-    ensures { (m : Meant) → Tells told m → Tells result (field_meant m name.now) }
+// What breaks a rule stands for 0 and for nothing.
+fn put_nothing(start: u32, line: u32, out: &mut Draft) -> Result<Meaning, AllocError>
+    requires settled { out.old.settled ≤ start }
+    requires inside { start ≤ length out.old.ops }
+    requires room { start < PROGRAM_OPS }
+    ensures code { OnOk result (Restarts (Op.Push (pos 0)) line start out.old out.new) }
+    ensures tells { IfOk result (λ told. told ≡ record { scalar = Scalar.Number; class = None; elements = None; standing = Standing.Nothing }) }
 {
-    if told.standing == Standing::Input && name.is(b"fail") {
+    restart(Op::Push(0), start, line, out)?;
+    Ok(Meaning::nothing())
+}
+
+fn lower_input_member(
+    name: &Name,
+    start: u32,
+    line: u32,
+    out: &mut Draft,
+) -> Result<Meaning, AllocError>
+    requires settled { out.old.settled ≤ start }
+    requires inside { start ≤ length out.old.ops }
+    requires room { start < PROGRAM_OPS }
+    ensures code { OnOk result (Restarts (Op.Push (pos 0)) line start out.old out.new) }
+    ensures tells { IfOk result (λ told. told ≡ input_told name.now) }
+{
+    restart(Op::Push(0), start, line, out)?;
+    Ok(input_told(name))
+}
+
+fn input_told(name: &Name) -> Meaning
+    ensures { result ≡ input_told name.now }
+{
+    if name.is(b"fail") {
         let member = Meaning::value(Scalar::Truth);
         return member.standing_as(Standing::Fail);
     }
     Meaning::nothing()
 }
 
-// `cin.fail`, or a routine of the program.
+// A member of an object at the place that stands from `start` on. An array has none.
+fn lower_member(
+    name: &Name,
+    told: Meaning,
+    start: u32,
+    line: u32,
+    names: &ProgramNames,
+    out: &mut Draft,
+) -> Result<Meaning, AllocError>
+    requires settled { out.old.settled ≤ start }
+    requires inside { start ≤ length out.old.ops }
+    requires room { length out.old.ops + OPS_FOR_SIZE ≤ PROGRAM_OPS }
+    ensures { IfOk result (λ after. Grows names.now OPS_FOR_SIZE line out.old.marks start (λ m. place_member names.now m.ty.len m name.now) told after out.old out.new) }
+{
+    match told.elements {
+        Some(_) => put_nothing(start, line, out),
+        None => match told.class {
+            Some(class) => lower_member_of(class, name, told, start, line, names, out),
+            None => put_nothing(start, line, out),
+        },
+    }
+}
+
+// A member of an object of the class with this place.
+fn lower_member_of(
+    class: usize,
+    name: &Name,
+    told: Meaning,
+    start: u32,
+    line: u32,
+    names: &ProgramNames,
+    out: &mut Draft,
+) -> Result<Meaning, AllocError>
+    requires settled { out.old.settled ≤ start }
+    requires inside { start ≤ length out.old.ops }
+    requires room { length out.old.ops + OPS_FOR_SIZE ≤ PROGRAM_OPS }
+    ensures { IfOk result (λ after. Grows names.now OPS_FOR_SIZE line out.old.marks start (λ m. member_meant names.now class (Of m.expr) name.now) told after out.old out.new) }
+{
+    match names.field(class, name) {
+        Some(field) => {
+            put_field(field, line, out)?;
+            Ok(field.told)
+        }
+        None => match names.member(class, name) {
+            Some(routine) => Ok(names.result(routine).standing_as(Standing::Member(routine))),
+            None => put_nothing(start, line, out),
+        },
+    }
+}
+
+// Behind the place of an object that of a field: a reference holds it.
+fn put_field(field: Field, line: u32, out: &mut Draft) -> Result<(), AllocError>
+    requires { length out.old.ops + 2 ≤ PROGRAM_OPS }
+    ensures { OnOk result (Adds 2 (FieldCode line field.by_ref field.cell) out.old out.new) }
+{
+    put(Op::Field(field.cell), line, out)?;
+    if field.by_ref {
+        put(Op::Load, line, out)?;
+    }
+    Ok(())
+}
+
+// `cin.fail`, a routine of the program, or a member of the object whose place stands from `start` on.
 #[cycle(lower)]
 fn lower_call(
     args: &[Expr],
@@ -496,9 +689,10 @@ fn lower_call(
     names: &ProgramNames,
     out: &mut Draft,
 ) -> Result<Meaning, AllocError>
+    requires settled { out.old.settled ≤ start }
     requires inside { start ≤ length out.old.ops }
     requires room { length out.old.ops + OPS_FOR_SIZE * (1 + exprs_size (exprs_of args.now)) ≤ PROGRAM_OPS }
-    ensures { IfOk result (λ after. Grows (OPS_FOR_SIZE * (1 + exprs_size (exprs_of args.now))) line out.old.marks start (λ m. call_meant names.now m (args_meant (context_in names.now out.old) (exprs_of args.now))) told after out.old out.new) }
+    ensures { IfOk result (λ after. Grows names.now (OPS_FOR_SIZE * (1 + exprs_size (exprs_of args.now))) line out.old.marks start (λ m. call_meant names.now m (args_meant (context_in names.now out.old) (exprs_of args.now))) told after out.old out.new) }
 {
     match told.standing {
         Standing::Fail => {
@@ -509,31 +703,27 @@ fn lower_call(
             cut(start, out);
             lower_args(names.params(routine), args, line, names, out)?;
             put(Op::Tick, line, out)?;
-            put(Op::Call(routine), line, out)?;
+            put_at_risk(Op::Call(routine), line, out)?;
             Ok(told.standing_as(Standing::Value))
         }
-        Standing::Variable(_) => no_call(start, line, out),
-        Standing::Place => no_call(start, line, out),
-        Standing::Value => no_call(start, line, out),
-        Standing::Input => no_call(start, line, out),
-        Standing::Nothing => no_call(start, line, out),
+        Standing::Member(routine) => {
+            lower_args(names.params(routine), args, line, names, out)?;
+            put(Op::Tick, line, out)?;
+            put_at_risk(Op::CallOn(routine), line, out)?;
+            Ok(told.standing_as(Standing::Value))
+        }
+        Standing::Variable(_) => put_nothing(start, line, out),
+        Standing::Field(_) => put_nothing(start, line, out),
+        Standing::Place => put_nothing(start, line, out),
+        Standing::Value => put_nothing(start, line, out),
+        Standing::Input => put_nothing(start, line, out),
+        Standing::Nothing => put_nothing(start, line, out),
     }
 }
 
-// What is no routine is not called.
-fn no_call(start: u32, line: u32, out: &mut Draft) -> Result<Meaning, AllocError>
-    requires inside { start ≤ length out.old.ops }
-    requires room { start < PROGRAM_OPS }
-    ensures code { OnOk result (Restarts (Op.Push (pos 0)) line start out.old out.new) }
-    ensures tells { IfOk result (λ told. told ≡ record { scalar = Scalar.Number; elements = None; standing = Standing.Nothing }) }
-{
-    restart(Op::Push(0), start, line, out)?;
-    Ok(Meaning::nothing())
-}
-
-// An argument for each parameter, from left to right.
+/// Adds the code of an argument for each parameter, from left to right. After want of memory the draft is spent.
 #[cycle(lower)]
-fn lower_args(
+pub fn lower_args(
     params: &[Param],
     args: &[Expr],
     line: u32,

@@ -5,6 +5,7 @@ ghost use Rattle.uc_tree.specs.Resolve.{known_named};
 ghost use Rattle.uc_lower_expr.specs.Parts.{IsVariable, standing_by};
 
 use crate::meaning::{Meaning, Scalar, Standing};
+use crate::program_names::ProgramNames;
 use uc_code::draft::Draft;
 use uc_tree::name::Name;
 
@@ -27,8 +28,8 @@ fn standing_of(by_ref: bool, cell: u32) -> Standing
     }
 }
 
-pub(crate) fn variable_named(out: &Draft, name: &Name) -> Option<Variable>
-    ensures { MatchOption result (known_named out.now.names name.now ≡ None) (λ v. IsVariable out.now.names name.now v) }
+pub(crate) fn variable_named(out: &Draft, names: &ProgramNames, name: &Name) -> Option<Variable>
+    ensures { MatchOption result (known_named out.now.names name.now ≡ None) (λ v. IsVariable names.now out.now.names name.now v) }
 {
     match out.find(name.bytes()) {
         Some(known) => Some(Variable {
@@ -36,6 +37,7 @@ pub(crate) fn variable_named(out: &Draft, name: &Name) -> Option<Variable>
             by_ref: known.ty.by_ref,
             told: Meaning {
                 scalar: Scalar::of_base(&known.ty.base),
+                class: names.sizes().plain_class(&known.ty.base),
                 elements: known.ty.len,
                 standing: standing_of(known.ty.by_ref, known.cell),
             },

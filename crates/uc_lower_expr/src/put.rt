@@ -2,11 +2,12 @@
 
 ghost use Rattle.std.specs.Prelude.{◌≡◌, ◌+◌, ◌<◌, ◌≤◌, pos, length, IfOk, OnOk};
 ghost use Rattle.uc_tree.specs.declared.limits.TheConstants.{PROGRAM_OPS};
+ghost use Rattle.uc_tree.specs.Programs.{Program};
 ghost use Rattle.uc_tree.specs.Source.{Literal};
 ghost use Rattle.uc_code.specs.Drafts.{patched};
 ghost use Rattle.uc_tree.specs.Resolve.{step_meant};
 ghost use Rattle.uc_lower_expr.specs.Meanings.{shape_as};
-ghost use Rattle.uc_lower_expr.specs.Added.{Adds, Cuts, Grows, OpCode, ConvertCode, fetched};
+ghost use Rattle.uc_lower_expr.specs.Added.{Adds, Cuts, Grows, OpCode, RiskCode, ConvertCode, fetched};
 ghost use Rattle.uc_lower_expr.specs.Parts.{BeginCode, EndCode, UpdateCode, SetByCode, BehindCode, StepCode, Restarts, bumped};
 
 use crate::meaning::{Meaning, Scalar, Standing};
@@ -25,9 +26,19 @@ pub fn put(op: Op, line: u32, out: &mut Draft) -> Result<(), AllocError>
     Ok(())
 }
 
+/// One more op from which an event may come: its handlers are those of the marks.
+pub fn put_at_risk(op: Op, line: u32, out: &mut Draft) -> Result<(), AllocError>
+    requires { length out.old.ops < PROGRAM_OPS }
+    ensures { OnOk result (Adds 1 (RiskCode line out.old.marks op) out.old out.new) }
+{
+    out.emit_at_risk(op, line)?;
+    Ok(())
+}
+
 /// Drops the ops from `start` on.
 pub(crate) fn cut(start: u32, out: &mut Draft)
-    requires { start ≤ length out.old.ops }
+    requires settled { out.old.settled ≤ start }
+    requires inside { start ≤ length out.old.ops }
     ensures { Cuts start out.old out.new }
 {
     out.cut_back(start);
@@ -35,6 +46,7 @@ pub(crate) fn cut(start: u32, out: &mut Draft)
 
 /// In the place of the ops from `start` on one op.
 pub fn restart(op: Op, start: u32, line: u32, out: &mut Draft) -> Result<(), AllocError>
+    requires settled { out.old.settled ≤ start }
     requires inside { start ≤ length out.old.ops }
     requires room { start < PROGRAM_OPS }
     ensures { OnOk result (Restarts op line start out.old out.new) }
@@ -44,21 +56,26 @@ pub fn restart(op: Op, start: u32, line: u32, out: &mut Draft) -> Result<(), All
     Ok(())
 }
 
-/// The value of what stands from `start` on: of a variable in its place, of another place behind it.
+/// The value of what stands from `start` on: of a variable and of an own field in its place, of another place behind it.
 pub fn put_load(
     told: Meaning,
     start: u32,
     line: u32,
     out: &mut Draft,
 ) -> Result<Meaning, AllocError>
+    requires settled { out.old.settled ≤ start }
     requires inside { start ≤ length out.old.ops }
     requires room { length out.old.ops < PROGRAM_OPS }
-    ensures code { IfOk result (λ after. Grows 1 line out.old.marks start fetched told after out.old out.new) }
+    ensures code { IfOk result (λ after. (p : Program) → Grows p 1 line out.old.marks start fetched told after out.old out.new) }
     ensures tells { IfOk result (λ after. after ≡ record told { standing = Standing.Value }) }
 {
     match told.standing {
         Standing::Variable(cell) => {
             restart(Op::Via(cell), start, line, out)?;
+            Ok(told.standing_as(Standing::Value))
+        }
+        Standing::Field(cell) => {
+            restart(Op::ViaThis(cell), start, line, out)?;
             Ok(told.standing_as(Standing::Value))
         }
         Standing::Place => {
@@ -69,6 +86,7 @@ pub fn put_load(
         Standing::Input => Ok(told.standing_as(Standing::Value)),
         Standing::Fail => Ok(told.standing_as(Standing::Value)),
         Standing::Routine(_) => Ok(told.standing_as(Standing::Value)),
+        Standing::Member(_) => Ok(told.standing_as(Standing::Value)),
         Standing::Nothing => Ok(told.standing_as(Standing::Value)),
     }
 }
@@ -154,9 +172,10 @@ pub(crate) fn put_bump(
     line: u32,
     out: &mut Draft,
 ) -> Result<Meaning, AllocError>
+    requires settled { out.old.settled ≤ start }
     requires inside { start ≤ length out.old.ops }
     requires room { length out.old.ops + 6 ≤ PROGRAM_OPS }
-    ensures { IfOk result (λ after. Grows 6 line out.old.marks start (bumped step) told after out.old out.new) }
+    ensures { IfOk result (λ after. (p : Program) → Grows p 6 line out.old.marks start (bumped step) told after out.old out.new) }
 {
     match told.standing.variable() {
         Some(cell) => {
@@ -213,9 +232,10 @@ pub(crate) fn put_stepped(
     line: u32,
     out: &mut Draft,
 ) -> Result<Meaning, AllocError>
+    requires settled { out.old.settled ≤ start }
     requires inside { start ≤ length out.old.ops }
     requires room { length out.old.ops + 9 ≤ PROGRAM_OPS }
-    ensures { IfOk result (λ after. Grows 9 line out.old.marks start (step_meant step) told after out.old out.new) }
+    ensures { IfOk result (λ after. (p : Program) → Grows p 9 line out.old.marks start (step_meant step) told after out.old out.new) }
 {
     match told.standing.variable() {
         Some(cell) => {

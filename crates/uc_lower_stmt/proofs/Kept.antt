@@ -1,14 +1,19 @@
 -- The code of statements goes on standing where its own range does not change.
 use Rattle.std.proofs.Common.{ℕ, List, [], ◌∷◌, Option, Some, None}
-use Rattle.uc_tree.specs.Source.{Expr, Item, Show, ShowText, Target, Declared, Stmt, Skip, Block, Evaluate, Declare, Print, PrintTogether, Read, If, Loop, Break, Continue, Return, OfEvents, OfTasks, Stmts, Nil, Then, Scoped, Way, ToBreak, ToContinue, ToReturn, ToEnd, Purpose, TaskMain, Procedure, Function, Builder}
+use Rattle.uc_tree.specs.Source.{Expr, CleanUp, Item, Show, ShowText, Target, Declared, Stmt, Skip, Block, Whole, Evaluate, Declare, Print, PrintTogether, Read, If, Loop, Break, Continue, Return, Fill, OfEvents, OfTasks, Stmts, Nil, Then, Scoped, Built, Way, ToBreak, ToContinue, ToReturn, ToEnd, Purpose, TaskMain, Procedure, Function, Builder}
 use Rattle.uc_code.specs.declared.op.Op.{Op}
 use Rattle.uc_code.specs.declared.op.Op.TheVariants as op
 use Rattle.uc_code.specs.declared.rows.Mark.{Mark}
 use Rattle.uc_code.specs.declared.rows.Mark.TheVariants as mark
 use Rattle.uc_code.specs.Ranges.{Stable}
-use Rattle.uc_code.specs.Lowered.{item_op, ExprAt, ValueAt, PiecesAt, StepAt, Any, ExitAt, StmtAt, StmtsAt, EndAt}
-use Rattle.uc_code.proofs.Stable.{nothing_stable, never_stable, one_stable, turns_stable}
+use Rattle.uc_code.specs.Laid.{Laid}
+use Rattle.uc_code.specs.declared.rows.ObjectCall.{ObjectCall}
+use Rattle.uc_code.specs.Lowered.{item_op, ExprAt, ValueAt, PiecesAt, StepAt, Any, ExitAt, CallBuilt, CallDone, CleanAt, FilledAt, ScopedAt, BuiltAt, StmtAt, StmtsAt, EndAt}
+use Rattle.uc_code.proofs.Stable.{nothing_stable, never_stable, one_stable, turns_stable, whole_stable, elements_stable, scope_stable, behind_part_stable}
+use Rattle.uc_code.proofs.Putting.{clean_stable, done_stable}
 use Rattle.uc_lower_expr.proofs.Settled.{both, fork, expr_stable}
+use Rattle.uc_lower_stmt.specs.Objects.{FillCode}
+use Rattle.uc_lower_stmt.proofs.Filling.{built_stable}
 use Rattle.uc_lower_stmt.specs.Pieces.{ItemsCode, ValuesCode, TogetherCode, TargetsCode, StartCode, VariablesCode, PiecesCode}
 
 pub value_stable : (line : ℕ) (ms : List Mark) (i : Item) → Stable (λ code. ValueAt code line ms i)
@@ -59,27 +64,77 @@ exit_stable ToBreak [] = one_stable op.Return 0
 exit_stable ToContinue [] = one_stable op.Return 0
 exit_stable ToReturn [] = one_stable op.ReturnValue 0
 exit_stable ToEnd [] = one_stable op.Return 0
-exit_stable ToBreak (mark.Finish line ∷ ms) = one_stable op.Return line
-exit_stable ToContinue (mark.Finish line ∷ ms) = one_stable op.Return line
-exit_stable ToReturn (mark.Finish line ∷ ms) = one_stable op.Return line
-exit_stable ToEnd (mark.Finish line ∷ ms) = one_stable op.Return line
+exit_stable ToBreak (mark.Body routine ∷ ms) = one_stable op.Return 0
+exit_stable ToContinue (mark.Body routine ∷ ms) = one_stable op.Return 0
+exit_stable ToReturn (mark.Body routine ∷ ms) = one_stable op.ReturnValue 0
+exit_stable ToEnd (mark.Body routine ∷ ms) = one_stable op.Return 0
+exit_stable ToBreak (mark.Finish routine line ∷ ms) = one_stable op.Return line
+exit_stable ToContinue (mark.Finish routine line ∷ ms) = one_stable op.Return line
+exit_stable ToReturn (mark.Finish routine line ∷ ms) = one_stable op.Return line
+exit_stable ToEnd (mark.Finish routine line ∷ ms) = one_stable op.Return line
 exit_stable ToBreak (mark.Loop leave again ∷ ms) = any_stable (op.Jump leave)
 exit_stable ToContinue (mark.Loop leave again ∷ ms) = any_stable (op.Jump again)
 exit_stable ToReturn (mark.Loop leave again ∷ ms) = exit_stable ToReturn ms
 exit_stable ToEnd (mark.Loop leave again ∷ ms) = exit_stable ToEnd ms
+exit_stable ToBreak (mark.Whole leave ∷ ms) = any_stable (op.Jump leave)
+exit_stable ToContinue (mark.Whole leave ∷ ms) = any_stable (op.Jump leave)
+exit_stable ToReturn (mark.Whole leave ∷ ms) = any_stable (op.Jump leave)
+exit_stable ToEnd (mark.Whole leave ∷ ms) = any_stable (op.Jump leave)
 exit_stable ToBreak (mark.Guard first count ∷ ms) = exit_stable ToBreak ms
 exit_stable ToContinue (mark.Guard first count ∷ ms) = exit_stable ToContinue ms
 exit_stable ToReturn (mark.Guard first count ∷ ms) = exit_stable ToReturn ms
 exit_stable ToEnd (mark.Guard first count ∷ ms) = exit_stable ToEnd ms
+exit_stable ToBreak (mark.Clean what line row ∷ ms) = both (clean_stable line what ms) (exit_stable ToBreak ms)
+exit_stable ToContinue (mark.Clean what line row ∷ ms) = both (clean_stable line what ms) (exit_stable ToContinue ms)
+exit_stable ToReturn (mark.Clean what line row ∷ ms) = both (clean_stable line what ms) (exit_stable ToReturn ms)
+exit_stable ToEnd (mark.Clean what line row ∷ ms) = both (clean_stable line what ms) (exit_stable ToEnd ms)
+exit_stable ToBreak (mark.Part row ∷ ms) = exit_stable ToBreak ms
+exit_stable ToContinue (mark.Part row ∷ ms) = exit_stable ToContinue ms
+exit_stable ToReturn (mark.Part row ∷ ms) = exit_stable ToReturn ms
+exit_stable ToEnd (mark.Part row ∷ ms) = exit_stable ToEnd ms
+exit_stable ToBreak (mark.Elements row ∷ ms) = exit_stable ToBreak ms
+exit_stable ToContinue (mark.Elements row ∷ ms) = exit_stable ToContinue ms
+exit_stable ToReturn (mark.Elements row ∷ ms) = exit_stable ToReturn ms
+exit_stable ToEnd (mark.Elements row ∷ ms) = exit_stable ToEnd ms
+exit_stable ToBreak (mark.Outward below row ∷ ms) = one_stable op.Return 0
+exit_stable ToContinue (mark.Outward below row ∷ ms) = one_stable op.Return 0
+exit_stable ToReturn (mark.Outward below row ∷ ms) = one_stable op.ReturnValue 0
+exit_stable ToEnd (mark.Outward below row ∷ ms) = one_stable op.Return 0
 
 pub step_stable : (line : ℕ) (ms : List Mark) (step : Option Expr) → Stable (λ code. StepAt code line ms step)
 step_stable line ms None = nothing_stable
 step_stable line ms (Some e) = both (expr_stable line ms e) (one_stable op.Discard line)
 
+-- objects
+
+fill_code_stable : (line : ℕ) (ms : List Mark) (n : ℕ) (b d : ObjectCall) → Stable (FillCode line ms b d n)
+fill_code_stable line ms n b d =
+    elements_stable line ms 0 n (op.Fill n) op.Sweep (λ code ns. CallBuilt code line b ns) (λ code ns. CallDone code line d ns) (λ ns. built_stable line b ns) (λ ns. done_stable line d ns)
+
+filled_stable : (line : ℕ) (ms : List Mark) (n : ℕ) (b d : Expr) → Stable (λ code. FilledAt code line ms n b d)
+filled_stable line ms n b d = record {
+  rises = λ code a z h. (fill_code_stable line ms n h.builder h.destroyer).rises code a z h.filled;
+  moves = λ old new a z s h. record { builder = h.builder; destroyer = h.destroyer; builds = h.builds; destroys = h.destroys; filled = (fill_code_stable line ms n h.builder h.destroyer).moves old new a z s h.filled };
+}
+
+module _ (line : ℕ) (ms : List Mark) (c : CleanUp) (B : Laid → List Mark → ℕ → ℕ → Type 0) (b : (ns : List Mark) → Stable (λ code. B code ns)) where
+  pub scoped_stable : Stable (λ code. ScopedAt code line ms c (B code))
+  scoped_stable = record {
+    rises = λ code a z h. (scope_stable line ms (λ r. mark.Clean h.what line r) (λ k. CleanAt k line h.what ms) B (clean_stable line h.what ms) b).rises code a z h.scope;
+    moves = λ old new a z s h. record { what = h.what; cleans = h.cleans; scope = (scope_stable line ms (λ r. mark.Clean h.what line r) (λ k. CleanAt k line h.what ms) B (clean_stable line h.what ms) b).moves old new a z s h.scope };
+  }
+
+  pub parted_stable : Stable (λ code. BuiltAt code line ms c (B code))
+  parted_stable = record {
+    rises = λ code a z h. (behind_part_stable line ms (λ r. mark.Part r) (λ k. CleanAt k line h.what ms) B (clean_stable line h.what ms) b).rises code a z h.part;
+    moves = λ old new a z s h. record { what = h.what; cleans = h.cleans; part = (behind_part_stable line ms (λ r. mark.Part r) (λ k. CleanAt k line h.what ms) B (clean_stable line h.what ms) b).moves old new a z s h.part };
+  }
+
 mutual
   pub stmt_stable : (ms : List Mark) (s : Stmt) → Stable (λ code. StmtAt code ms s)
   stmt_stable ms (Skip line) = nothing_stable
-  stmt_stable ms (Block line body) = stmts_stable ms body
+  stmt_stable ms (Block line body) = stmts_stable ms line body
+  stmt_stable ms (Whole line body) = whole_stable line (λ code m. StmtsAt code (m ∷ ms) line body) (λ m. stmts_stable (m ∷ ms) line body)
   stmt_stable ms (Evaluate line e) = both (expr_stable line ms e) (one_stable op.Discard line)
   stmt_stable ms (Declare line ds) = variables_stable line ms ds
   stmt_stable ms (Print line is) = items_stable line ms is
@@ -92,13 +147,15 @@ mutual
   stmt_stable ms (Continue line) = exit_stable ToContinue ms
   stmt_stable ms (Return line None) = exit_stable ToEnd ms
   stmt_stable ms (Return line (Some e)) = both (expr_stable line ms e) (exit_stable ToReturn ms)
+  stmt_stable ms (Fill line n b d) = filled_stable line ms n b d
   stmt_stable ms (OfEvents s) = never_stable
   stmt_stable ms (OfTasks s) = never_stable
 
-  pub stmts_stable : (ms : List Mark) (ss : Stmts) → Stable (λ code. StmtsAt code ms ss)
-  stmts_stable ms Nil = nothing_stable
-  stmts_stable ms (Then s ss) = both (stmt_stable ms s) (stmts_stable ms ss)
-  stmts_stable ms (Scoped line e c ss) = never_stable
+  pub stmts_stable : (ms : List Mark) (line : ℕ) (ss : Stmts) → Stable (λ code. StmtsAt code ms line ss)
+  stmts_stable ms line Nil = nothing_stable
+  stmts_stable ms line (Then s ss) = both (stmt_stable ms s) (stmts_stable ms line ss)
+  stmts_stable ms line (Scoped c ss) = scoped_stable line ms c (λ code ns. StmtsAt code ns line ss) (λ ns. stmts_stable ns line ss)
+  stmts_stable ms line (Built c ss) = parted_stable line ms c (λ code ns. StmtsAt code ns line ss) (λ ns. stmts_stable ns line ss)
 
 pub end_stable : (p : Purpose) (line : ℕ) → Stable (λ code. EndAt code p line)
 end_stable TaskMain line = one_stable op.Return line

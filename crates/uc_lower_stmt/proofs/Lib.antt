@@ -1,9 +1,18 @@
-pub mod Controlling
+pub mod Blocks
+pub mod Building
+pub mod Choosing
 pub mod Counted
 pub mod Declaring
+pub mod Ending
+pub mod Filling
+pub mod Fors
+pub mod Growth
 pub mod Joined
 pub mod Kept
+pub mod Laying
+pub mod Listing
 pub mod Opened
+pub mod Openings
 pub mod Parting
 pub mod Printing
 pub mod Routines
@@ -11,4 +20,3 @@ pub mod Scoping
 pub mod Shaping
 pub mod Stating
 pub mod Turned
-pub mod Ways

@@ -21,7 +21,7 @@ use Rattle.uc_lower_expr.proofs.Settled.{expr_stable}
 use Rattle.uc_lower_expr.proofs.Walks.{some_size}
 use Rattle.uc_lower_stmt.specs.declared.turning.Turning.{Turning}
 use Rattle.uc_lower_stmt.specs.declared.turning.Turning.TheVariants as turning
-use Rattle.uc_lower_stmt.specs.Control.{StepCode, BackCode, LowersMaybe, LowersStart, turning_size}
+use Rattle.uc_lower_stmt.specs.Control.{StepCode, BackCode, LowersMaybe, turning_size}
 use Rattle.uc_lower_stmt.specs.Pieces.{VariablesCode}
 use Rattle.uc_lower_stmt.specs.Scoped.{Lowers, scope_of}
 use Rattle.uc_lower_stmt.proofs.Joined.{lowers_adds, lowers_as, lowers_nothing}
@@ -55,28 +55,6 @@ arm_back_behind p line turn t e old mid new is a b =
 pub arm_back_alone : (p : Program) (line turn : ℕ) (t : Turning) (old new : Draft) → t ≡ turning.NoTest → Adds 1 (OpCode line (op.Jump turn)) old new → Adds (OPS_FOR_SIZE * turning_size t + 1) (BackCode p line old.marks (scope_of old) t turn) old new
 arm_back_alone p line turn t old new is a =
     subst (λ (x : Turning). Adds (OPS_FOR_SIZE * turning_size x + 1) (BackCode p line old.marks (scope_of old) x turn) old new) (sym is) (adds_more (omega arith) a)
-
--- what a `for` begins with
-
-start_as : (p : Program) (line : ℕ) (x y : ForStart) (old new : Draft) → x ≡ y → LowersStart p line x old new → LowersStart p line y old new
-start_as p line x y old new e h = subst (λ z. LowersStart p line z old new) e h
-
-pub arm_start_nothing : (p : Program) (line : ℕ) (y : ForStart) (old : Draft) → NoFor ≡ y → LowersStart p line y old old
-arm_start_nothing p line y old e = start_as p line NoFor y old old e (lowers_as (lowers_nothing old) refl (λ code a z w. w) (omega arith) (omega arith) (omega arith) (omega arith))
-
-pub arm_start_declare : (p : Program) (line : ℕ) (y : ForStart) (place : Pos) (b : Base) (xs ys : List Declarator) (old new : Draft) → ForDeclare place b ys ≡ y → xs ≡ ys
-    → Lowers (OPS_FOR_SIZE * declarators_size xs) 0 (declarators_cells (declared_cells p b) xs) 0 (VariablesCode line old.marks (all_declared p (scope_of old) b xs)) (with_all p (scope_of old) b xs) old new → LowersStart p line y old new
-arm_start_declare p line y place b xs ys old new e i a =
-    start_as p line (ForDeclare place b xs) y old new (ap (λ (l : List Declarator). ForDeclare place b l) i ∙ e) (lowers_as a refl (λ code x z w. w) (omega arith) (omega arith) (omega arith) (omega arith))
-
-pub arm_start_evaluate : (p : Program) (line : ℕ) (y : ForStart) (e : tree.Expr) (old mid new : Draft) → ForEvaluate e ≡ y → Adds (OPS_FOR_SIZE * expr_size e - 2) (ExprCode line old.marks (meant (context_in p old) e).expr) old mid → Adds 1 (OpCode line op.Discard) mid new → LowersStart p line y old new
-arm_start_evaluate p line y e old mid new is a b =
-    let s = some_size e in
-    start_as p line (ForEvaluate e) y old new is (
-    lowers_as (lowers_adds 0 0 (adds_both (expr_stable line old.marks (meant (context_in p old) e).expr) a b)) refl (λ code x z w. w) (omega (arith, s)) (omega arith) (omega arith) (omega arith))
-
-pub for_is : (f g : ForForm) (s : ForStart) → f ≡ g → for_at f ≡ s → for_at g ≡ s
-for_is f g s e h = ap for_at (sym e) ∙ h
 
 -- no `else`
 

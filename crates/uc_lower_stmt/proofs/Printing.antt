@@ -18,7 +18,8 @@ use Rattle.uc_tree.specs.StatementSizes.{out_item_size, out_items_size}
 use Rattle.uc_tree.specs.Source.{Shape, Integer, Character, Truth, Binding, Last, Field, Array, Item, Show, ShowText, Target}
 use Rattle.uc_tree.specs.Numbering.{item_texts}
 use Rattle.uc_tree.specs.Programs.{Program}
-use Rattle.uc_tree.specs.Resolve.{Scope, Context, Meant, meant, value_of, shape_of, form_of, newline, context_at, items_meant, target_meant, targets_meant}
+use Rattle.uc_tree.specs.Objects.{shape_of}
+use Rattle.uc_tree.specs.Resolve.{Scope, Context, Meant, meant, value_of, form_of, newline, context_at, items_meant, target_meant, targets_meant}
 use Rattle.uc_code.specs.declared.op.Op.{Op}
 use Rattle.uc_code.specs.declared.op.Op.TheVariants as op
 use Rattle.uc_code.specs.declared.rows.Mark.{Mark}
@@ -68,8 +69,8 @@ form_as_shape scalar.Number = refl
 form_as_shape scalar.Character = refl
 form_as_shape scalar.Truth = refl
 
-pub form_told : (m : Meant) (t : Meaning) → Tells t m → form_as t.scalar ≡ form_of m.ty.base
-form_told m t u = form_as_shape t.scalar ∙ sym (ap form_in u.shape) ∙ sym (form_of_shape m.ty.base)
+pub form_told : (p : Program) (m : Meant) (t : Meaning) → Tells p t m → form_as t.scalar ≡ form_of m.ty.base
+form_told p m t u = form_as_shape t.scalar ∙ sym (ap form_in u.shape) ∙ sym (form_of_shape m.ty.base)
 
 -- single items
 
@@ -203,8 +204,8 @@ module _ (program : Program) where
   pub op_text : (i : OutItem) (p : Pos) (t : List ℕ) (s : Scope) (n : ℕ) → Literal p t ≡ i → n ≡ s.texts → op.Text n ∷ [] ≡ map item_op (items_at s (i ∷ []))
   op_text i p t s n e h = subst (λ (x : OutItem). op.Text n ∷ [] ≡ map item_op (items_at s (x ∷ []))) e (ap (λ (y : ℕ). let l : List Op = op.Text y ∷ [] in l) h)
 
-  pub op_value : (i : OutItem) (p : Pos) (v : tree.Expr) (s : Scope) (t : Meaning) (n : ValueForm) → Printed p v ≡ i → n ≡ form_as t.scalar → Tells t (meant (context_at program s) v) → op.Print n ∷ [] ≡ map item_op (items_at s (i ∷ []))
-  op_value i p v s t n e h u = subst (λ (x : OutItem). op.Print n ∷ [] ≡ map item_op (items_at s (x ∷ []))) e (ap (λ (y : ValueForm). let l : List Op = op.Print y ∷ [] in l) (h ∙ form_told (meant (context_at program s) v) t u))
+  pub op_value : (i : OutItem) (p : Pos) (v : tree.Expr) (s : Scope) (t : Meaning) (n : ValueForm) → Printed p v ≡ i → n ≡ form_as t.scalar → Tells program t (meant (context_at program s) v) → op.Print n ∷ [] ≡ map item_op (items_at s (i ∷ []))
+  op_value i p v s t n e h u = subst (λ (x : OutItem). op.Print n ∷ [] ≡ map item_op (items_at s (x ∷ []))) e (ap (λ (y : ValueForm). let l : List Op = op.Print y ∷ [] in l) (h ∙ form_told program (meant (context_at program s) v) t u))
 
   -- an item with its op: where there is one value, its op stands behind it
   one_item : (is : List Item) (o : Op) (line : ℕ) (ms : List Mark) (code : Laid) (a b z : ℕ) → o ∷ [] ≡ map item_op is → ValuesAt code line ms is a b → One code o line b z → ItemsAt code line ms is a z
@@ -305,9 +306,9 @@ module _ (program : Program) where
       lowers_as (lowers_put (values_stable line d0.marks is) h1 (adds_both (one_stable op.Hold line) h2 (adds_both (pieces_stable line is) h3' h4))) refl (λ code a z w. w) (omega (arith, n, c)) (omega arith) (omega arith) (omega arith)
 
   -- places that are read
-  pub arm_target : (n line : ℕ) (ms : List Mark) (form : ValueForm) (m : Meant) (t : Meaning) (k : ℕ) (d0 d1 d2 d3 : Draft) → n + 2 ≤ k → form ≡ form_as t.scalar → Tells t m → Adds n (ExprCode line ms m.expr) d0 d1 → Adds 1 (OpCode line (op.Read form)) d1 d2 → Adds 1 (OpCode line op.Store) d2 d3 → Adds k (TargetsCode line ms (record { form = form_of m.ty.base; place = m.expr } ∷ [])) d0 d3
+  pub arm_target : (n line : ℕ) (ms : List Mark) (form : ValueForm) (m : Meant) (t : Meaning) (k : ℕ) (d0 d1 d2 d3 : Draft) → n + 2 ≤ k → form ≡ form_as t.scalar → Tells program t m → Adds n (ExprCode line ms m.expr) d0 d1 → Adds 1 (OpCode line (op.Read form)) d1 d2 → Adds 1 (OpCode line op.Store) d2 d3 → Adds k (TargetsCode line ms (record { form = form_of m.ty.base; place = m.expr } ∷ [])) d0 d3
   arm_target n line ms form m t k d0 d1 d2 d3 l e u h1 h2 h3 =
-      let h2' : Adds 1 (OpCode line (op.Read (form_of m.ty.base))) d1 d2 = subst (λ (x : ValueForm). Adds 1 (OpCode line (op.Read x)) d1 d2) (e ∙ form_told m t u) h2 in
+      let h2' : Adds 1 (OpCode line (op.Read (form_of m.ty.base))) d1 d2 = subst (λ (x : ValueForm). Adds 1 (OpCode line (op.Read x)) d1 d2) (e ∙ form_told program m t u) h2 in
       let h3' : Adds 1 (λ code. Both (One code op.Store line) Nothing) d2 d3 = adds_as h3 (λ code a z w. and_none (One code op.Store line) a z w) in
       adds_more (omega arith) (adds_both (expr_stable line ms m.expr) h1 (adds_both (one_stable (op.Read (form_of m.ty.base)) line) h2' h3'))
 

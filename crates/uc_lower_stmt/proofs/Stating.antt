@@ -1,7 +1,6 @@
 -- One lemma for each form of statement that lowering writes.
 use Rattle.std.proofs.Common.{◌≡◌, ℕ, zero, suc, ◌+◌, ◌*◌, ◌-◌, ◌≤◌, ◌<◌, true, false, true≢false, Option, Some, None, Bor, List, [], ◌∷◌, ◌++◌, length, length-append, take, get_or, refl, ap, sym, subst, ◌∙◌, arith}
 use Rattle.std.proofs.lemmas.Bool.{and_parts}
-use Rattle.std.proofs.lemmas.List.{take_more}
 use Rattle.uc_tree.specs.declared.limits.TheConstants.{OPS_FOR_SIZE}
 use Rattle.uc_tree.specs.declared.pos.Pos.{Pos}
 use Rattle.uc_tree.specs.declared.kinds.Base.{Base}
@@ -11,36 +10,39 @@ use Rattle.uc_tree.specs.Expressions.{exprs_of}
 use Rattle.uc_tree.specs.ExpressionSizes.{expr_size, exprs_size}
 use Rattle.uc_tree.specs.Statements.{Declarator, OutItem, ForStart, NoFor, ForDeclare, ForEvaluate, Stmt, Block, Empty, Evaluate, Declare, If, While, Do, For, Break, Continue, Return, Print, PrintTogether, Read, Stmts, MaybeStmt, NoStmt, OneStmt, stmts_of}
 use Rattle.uc_tree.specs.StatementForms.{stmt_at}
-use Rattle.uc_tree.specs.StatementSizes.{out_items_size, declarators_size, maybe_expr_size, stmt_size, stmts_size}
-use Rattle.uc_tree.specs.Cells.{declared_cells, declarators_cells, stmt_cells, stmts_cells}
-use Rattle.uc_tree.specs.Scopes.{stmt_scopes, stmts_scopes}
+use Rattle.uc_tree.specs.StatementSizes.{out_items_size, maybe_expr_size, stmt_size, stmts_size}
+use Rattle.uc_tree.specs.Cells.{declared_cells, declarators_cells, stmt_cells}
 use Rattle.uc_tree.specs.Gathered.{gathered}
 use Rattle.uc_tree.specs.Numbering.{own_texts, own_sites}
 use Rattle.uc_tree.specs.Programs.{Program}
 use Rattle.uc_tree.specs.Source.{Shape, Expr}
-use Rattle.uc_tree.specs.Resolve.{Scope, meant, value_of, converted, shape_of, result_of, targets_meant, all_declared, with_all, stmt_meant, stmts_meant, scope_past, scope_after, scope_behind}
-use Rattle.uc_meaning.specs.BuiltForms.{is_built_stmt, are_built}
+use Rattle.uc_tree.specs.Objects.{shape_of}
+use Rattle.uc_tree.specs.Resolve.{Scope, meant, value_of, converted, result_of, targets_meant, scope_past, scope_after}
+use Rattle.uc_built.specs.BuiltForms.{is_built_stmt, are_built}
 use Rattle.uc_code.specs.declared.op.Op.TheVariants as op
 use Rattle.uc_code.specs.declared.rows.Mark.{Mark}
+use Rattle.uc_code.specs.declared.rows.Mark.TheVariants as mark
 use Rattle.uc_code.specs.declared.rows.Way.TheVariants as way
 use Rattle.uc_code.specs.declared.draft_parts.Outside.{Outside}
 use Rattle.uc_code.specs.Drafts.{Draft}
-use Rattle.uc_code.specs.Laid.{Laid}
 use Rattle.uc_code.specs.Leaving.{way_of}
-use Rattle.uc_code.specs.Lowered.{StmtAt, StmtsAt}
+use Rattle.uc_code.specs.Lowered.{ExitAt}
+use Rattle.uc_code.specs.Open.{exit_room}
+use Rattle.uc_code.specs.Puts.{Puts}
+use Rattle.uc_code.proofs.Putting.{puts_both}
 use Rattle.uc_lower_expr.specs.declared.meaning.Scalar.{Scalar}
 use Rattle.uc_lower_expr.specs.Contexts.{context_in}
 use Rattle.uc_lower_expr.specs.Meanings.{shape_as}
 use Rattle.uc_lower_expr.specs.Added.{Adds, ExprCode, ConvertCode, OpCode}
-use Rattle.uc_lower_expr.proofs.Adding.{adds_more, adds_as, adds_both}
+use Rattle.uc_lower_expr.proofs.Adding.{adds_as, adds_both}
 use Rattle.uc_lower_expr.proofs.Arms.{converted_at}
 use Rattle.uc_lower_expr.proofs.Settled.{expr_stable}
 use Rattle.uc_lower_stmt.specs.declared.turning.Turning.TheVariants as turning
 use Rattle.uc_lower_stmt.specs.Scoped.{Lowers, LowersStmt, LowersStmts, scope_of}
-use Rattle.uc_lower_stmt.specs.Pieces.{ItemsCode, TogetherCode, TargetsCode, VariablesCode}
-use Rattle.uc_lower_stmt.specs.Control.{ExitCode, ReturnCode, LowersIf, LowersLoop, LowersFor, maybe_past, for_past}
-use Rattle.uc_lower_stmt.proofs.Kept.{stmts_stable}
-use Rattle.uc_lower_stmt.proofs.Joined.{lowers_adds, lowers_nothing, lowers_as, lowers_join}
+use Rattle.uc_lower_stmt.specs.Marked.{objects_in}
+use Rattle.uc_lower_stmt.specs.Pieces.{ItemsCode, TogetherCode, TargetsCode}
+use Rattle.uc_lower_stmt.specs.Control.{ReturnCode, LowersDeclaration, LowersIf, LowersLoop, LowersFor, maybe_past, for_past}
+use Rattle.uc_lower_stmt.proofs.Joined.{lowers_adds, lowers_nothing, lowers_as, lowers_puts, puts_adds}
 use Rattle.uc_lower_stmt.proofs.Printing.{with_texts, texts_among, items_at}
 use Rattle.uc_lower_stmt.proofs.Counted.{counted, counted_as, with_is, nothing_counted, texts_counted, declared_counted, behind_counted}
 use Rattle.uc_lower_stmt.proofs.Scoping.{opened, lowers_scoped, back_out}
@@ -64,7 +66,7 @@ arm_evaluate p s place e old mid new h a b =
     as_stmt p s (Evaluate place e) old new h (
     lowers_as (lowers_adds 0 0 (adds_both (expr_stable place.line old.marks (meant (context_in p old) e).expr) a b)) (nothing_counted (scope_of old)) (λ code x z w. w) (omega arith) (omega arith) (omega arith) (omega arith))
 
-pub arm_declare : (p : Program) (s : Stmt) (place : Pos) (b : Base) (xs ys : List Declarator) (old new : Draft) → Declare place b ys ≡ s → xs ≡ ys → Lowers (OPS_FOR_SIZE * declarators_size xs) 0 (declarators_cells (declared_cells p b) xs) 0 (VariablesCode place.line old.marks (all_declared p (scope_of old) b xs)) (with_all p (scope_of old) b xs) old new → LowersStmt p s old new
+pub arm_declare : (p : Program) (s : Stmt) (place : Pos) (b : Base) (xs ys : List Declarator) (old new : Draft) → Declare place b ys ≡ s → xs ≡ ys → LowersDeclaration p place.line b xs old new → LowersStmt p s old new
 arm_declare p s place b xs ys old new h i a =
     as_stmt p s (Declare place b xs) old new (ap (λ (l : List Declarator). Declare place b l) i ∙ h) (lowers_as a (declared_counted p place b xs (scope_of old)) (λ code x z w. w) (omega arith) (omega arith) (omega arith) (omega arith))
 
@@ -84,12 +86,12 @@ arm_read p s place xs ys old new h i a =
 
 pub arm_block : (p : Program) (s : Stmt) (place : Pos) (xs ys : List Stmt) (out : Outside) (old d1 d2 new : Draft) → Block place (stmts_of ys) ≡ s → xs ≡ ys
     → out ≡ record { names = length old.names; scope = old.place.scope } → d1 ≡ opened old
-    → LowersStmts p (stmts_of xs) d1 d2
+    → LowersStmts p place.line (stmts_of xs) d1 d2
     → new ≡ record d2 { place = record d2.place { scope = out.scope }; names = take out.names d2.names }
     → LowersStmt p s old new
 arm_block p s place xs ys out old d1 d2 new h i oe e1 k e2 =
     let ts : Stmts = stmts_of xs in
-    let k1 : LowersStmts p ts (opened old) d2 = subst (λ (d : Draft). LowersStmts p ts d d2) e1 k in
+    let k1 : LowersStmts p place.line ts (opened old) d2 = subst (λ (d : Draft). LowersStmts p place.line ts d d2) e1 k in
     as_stmt p s (Block place ts) old new (ap (λ (l : List Stmt). Block place (stmts_of l)) i ∙ h) (
     lowers_as (lowers_scoped out new oe (back_out p ts (scope_of old)) k1 e2)
     (ap (λ (x : Scope). let y : Scope = record x { names = old.names } in y) (behind_counted p ts (scope_of old))) (λ code x z w. w) (omega arith) (omega arith) (omega arith) (omega arith))
@@ -137,81 +139,59 @@ for_counted p place (ForEvaluate e) test step body s =
 pub arm_for_stmt : (p : Program) (s : Stmt) (place : Pos) (start : ForStart) (test step : Option tree.Expr) (body body0 : Stmt) (old new : Draft) → For place start test step body0 ≡ s → body ≡ body0 → LowersFor p place.line start test step body old new → LowersStmt p s old new
 arm_for_stmt p s place start test step body body0 old new h i a =
     as_stmt p s (For place start test step body) old new (ap (λ (x : Stmt). For place start test step x) i ∙ h) (
-    lowers_as a (for_counted p place start test step body (scope_of old))
-    (λ code x z w. record { middle = w.middle; first = w.first; second = record { middle = z; first = w.second; second = record { end = refl } } })
-    (omega arith) (omega arith) (omega arith) (omega arith))
+    lowers_as a (for_counted p place start test step body (scope_of old)) (λ code x z w. w) (omega arith) (omega arith) (omega arith) (omega arith))
 
-pub arm_break : (p : Program) (s : Stmt) (place : Pos) (old new : Draft) → Break place ≡ s → Adds 1 (ExitCode (way_of way.Break) old.marks) old new → LowersStmt p s old new
-arm_break p s place old new h a = as_stmt p s (Break place) old new h (lowers_as (lowers_adds 0 0 a) (nothing_counted (scope_of old)) (λ code x z w. w) (omega arith) (omega arith) (omega arith) (omega arith))
+-- an exit cleans up each object in scope
+pub exit_few : (ms : List Mark) → exit_room ms ≤ 1 + 17 * objects_in ms
+exit_few [] = omega arith
+exit_few (mark.Body routine ∷ ms) = omega arith
+exit_few (mark.Finish routine line ∷ ms) = omega arith
+exit_few (mark.Loop leave again ∷ ms) = exit_few ms
+exit_few (mark.Whole leave ∷ ms) = omega arith
+exit_few (mark.Guard first count ∷ ms) = exit_few ms
+exit_few (mark.Clean what line row ∷ ms) = let h = exit_few ms in omega arith
+exit_few (mark.Part row ∷ ms) = exit_few ms
+exit_few (mark.Elements row ∷ ms) = exit_few ms
+exit_few (mark.Outward below row ∷ ms) = omega arith
 
-pub arm_continue : (p : Program) (s : Stmt) (place : Pos) (old new : Draft) → Continue place ≡ s → Adds 1 (ExitCode (way_of way.Continue) old.marks) old new → LowersStmt p s old new
-arm_continue p s place old new h a = as_stmt p s (Continue place) old new h (lowers_as (lowers_adds 0 0 a) (nothing_counted (scope_of old)) (λ code x z w. w) (omega arith) (omega arith) (omega arith) (omega arith))
+pub arm_break : (p : Program) (s : Stmt) (place : Pos) (old new : Draft) → Break place ≡ s → Puts (exit_room old.marks) (λ code. ExitAt code (way_of way.Break) old.marks) old new → LowersStmt p s old new
+arm_break p s place old new h a =
+    let few = exit_few old.marks in
+    as_stmt p s (Break place) old new h (lowers_as (lowers_puts 0 0 a) (nothing_counted (scope_of old)) (λ code x z w. w) (omega arith) (omega arith) (omega arith) (omega arith))
 
-pub arm_return : (p : Program) (s : Stmt) (place : Pos) (value : Option tree.Expr) (old new : Draft) → Return place value ≡ s → Adds (OPS_FOR_SIZE * (1 + maybe_expr_size value)) (ReturnCode p place.line old.marks (scope_of old) value) old new → LowersStmt p s old new
-arm_return p s place value old new h a = as_stmt p s (Return place value) old new h (lowers_as (lowers_adds 0 0 a) (nothing_counted (scope_of old)) (λ code x z w. w) (omega arith) (omega arith) (omega arith) (omega arith))
+pub arm_continue : (p : Program) (s : Stmt) (place : Pos) (old new : Draft) → Continue place ≡ s → Puts (exit_room old.marks) (λ code. ExitAt code (way_of way.Continue) old.marks) old new → LowersStmt p s old new
+arm_continue p s place old new h a =
+    let few = exit_few old.marks in
+    as_stmt p s (Continue place) old new h (lowers_as (lowers_puts 0 0 a) (nothing_counted (scope_of old)) (λ code x z w. w) (omega arith) (omega arith) (omega arith) (omega arith))
+
+pub arm_return : (p : Program) (s : Stmt) (place : Pos) (value : Option tree.Expr) (old new : Draft) → Return place value ≡ s → Puts (OPS_FOR_SIZE * (1 + maybe_expr_size value + objects_in old.marks)) (ReturnCode p place.line old.marks (scope_of old) value) old new → LowersStmt p s old new
+arm_return p s place value old new h a = as_stmt p s (Return place value) old new h (lowers_as (lowers_puts 0 0 a) (nothing_counted (scope_of old)) (λ code x z w. w) (omega arith) (omega arith) (omega arith) (omega arith))
 
 -- a return's value
-pub arm_handed : (p : Program) (n line r : ℕ) (value : Option tree.Expr) (e : tree.Expr) (v : Scalar) (d0 d1 d2 d3 : Draft) → value ≡ Some e → r ≡ d1.place.routine → shape_of (result_of p r) ≡ shape_as v → Adds n (ExprCode line d0.marks (value_of (meant (context_in p d0) e))) d0 d1 → Adds 1 (ConvertCode line (shape_as v)) d1 d2 → Adds 1 (ExitCode (way_of way.Value) d2.marks) d2 d3 → Adds (n + 2) (ReturnCode p line d0.marks (scope_of d0) value) d0 d3
+pub arm_handed : (p : Program) (n line r : ℕ) (value : Option tree.Expr) (e : tree.Expr) (v : Scalar) (d0 d1 d2 d3 : Draft) → value ≡ Some e → r ≡ d1.place.routine → shape_of (result_of p r) ≡ shape_as v → Adds n (ExprCode line d0.marks (value_of (meant (context_in p d0) e))) d0 d1 → Adds 1 (ConvertCode line (shape_as v)) d1 d2
+    → Puts (exit_room d2.marks) (λ code. ExitAt code (way_of way.Value) d2.marks) d2 d3 → Puts (n + 1 + exit_room d0.marks) (ReturnCode p line d0.marks (scope_of d0) value) d0 d3
 arm_handed p n line r value e v d0 d1 d2 d3 is at shape a b c =
     let x : Expr = value_of (meant (context_in p d0) e) in
     let marks : d2.marks ≡ d0.marks = ap (λ (d : Draft). d.marks) b.rest ∙ ap (λ (d : Draft). d.marks) a.rest in
     let routine : d0.place.routine ≡ r = sym (ap (λ (d : Draft). d.place.routine) a.rest) ∙ sym at in
     let kept : shape_of (result_of p d0.place.routine) ≡ shape_as v = ap (λ (k : ℕ). shape_of (result_of p k)) routine ∙ shape in
     let b1 : Adds 1 (ConvertCode line (shape_of (result_of p d0.place.routine))) d1 d2 = subst (λ (y : Shape). Adds 1 (ConvertCode line y) d1 d2) (sym kept) b in
-    let c1 : Adds 1 (ExitCode (way_of way.Value) d0.marks) d2 d3 = subst (λ (ms : List Mark). Adds 1 (ExitCode (way_of way.Value) ms) d2 d3) marks c in
+    let c1 : Puts (exit_room d0.marks) (λ code. ExitAt code (way_of way.Value) d0.marks) d2 d3 = subst (λ (ms : List Mark). Puts (exit_room ms) (λ code. ExitAt code (way_of way.Value) ms) d2 d3) marks c in
     let y : Expr = converted (shape_of (result_of p d0.place.routine)) x in
     let whole : Adds (n + 1) (ExprCode line d0.marks y) d0 d2 = adds_as (adds_both (expr_stable line d0.marks x) a b1) (λ code u z w. converted_at d0.marks line (shape_of (result_of p d0.place.routine)) x code u z w) in
-    subst (λ (o : Option tree.Expr). Adds (n + 2) (ReturnCode p line d0.marks (scope_of d0) o) d0 d3) (sym is) (adds_more (omega arith) (adds_both (expr_stable line d0.marks y) whole c1))
+    subst (λ (o : Option tree.Expr). Puts (n + 1 + exit_room d0.marks) (ReturnCode p line d0.marks (scope_of d0) o) d0 d3) (sym is) (puts_both (expr_stable line d0.marks y) (puts_adds whole) c1)
 
-pub arm_ended : (p : Program) (line : ℕ) (value : Option tree.Expr) (d0 d1 : Draft) → value ≡ None → Adds 1 (ExitCode (way_of way.End) d0.marks) d0 d1 → Adds 1 (ReturnCode p line d0.marks (scope_of d0) value) d0 d1
-arm_ended p line value d0 d1 is a = subst (λ (o : Option tree.Expr). Adds 1 (ReturnCode p line d0.marks (scope_of d0) o) d0 d1) (sym is) a
+pub arm_ended : (p : Program) (line : ℕ) (value : Option tree.Expr) (d0 d1 : Draft) → value ≡ None → Puts (exit_room d0.marks) (λ code. ExitAt code (way_of way.End) d0.marks) d0 d1 → Puts (exit_room d0.marks) (ReturnCode p line d0.marks (scope_of d0) value) d0 d1
+arm_ended p line value d0 d1 is a = subst (λ (o : Option tree.Expr). Puts (exit_room d0.marks) (ReturnCode p line d0.marks (scope_of d0) o) d0 d1) (sym is) a
 
 -- lists of statements
-
-stmts_push : (p : Program) (ms : List Mark) (code : Laid) (xs : List Stmt) (x : Stmt) (s : Scope) (a b z : ℕ) → StmtsAt code ms (stmts_meant p (stmts_of xs) s) a b → StmtAt code ms (stmt_meant p x (scope_behind p (stmts_of xs) s)) b z → StmtsAt code ms (stmts_meant p (stmts_of (xs ++ x ∷ [])) s) a z
-stmts_push p ms code [] x s a b z h g = record { middle = z; first = subst (λ y. StmtAt code ms (stmt_meant p x s) y z) h.end g; second = record { end = refl } }
-stmts_push p ms code (y ∷ ys) x s a b z h g = record { middle = h.middle; first = h.first; second = stmts_push p ms code ys x (scope_after p y s) h.middle b z h.second g }
-
-scope_push : (p : Program) (xs : List Stmt) (x : Stmt) (s : Scope) → scope_after p x (scope_behind p (stmts_of xs) s) ≡ scope_behind p (stmts_of (xs ++ x ∷ [])) s
-scope_push p [] x s = refl
-scope_push p (y ∷ ys) x s = scope_push p ys x (scope_after p y s)
-
-sizes_push : (xs : List Stmt) (x : Stmt) → stmts_size (stmts_of (xs ++ x ∷ [])) ≡ stmts_size (stmts_of xs) + stmt_size x
-sizes_push [] x = omega arith
-sizes_push (y ∷ ys) x = omega (arith, sizes_push ys x)
-
-scopes_push : (xs : List Stmt) (x : Stmt) → stmts_scopes (stmts_of (xs ++ x ∷ [])) ≡ stmts_scopes (stmts_of xs) + stmt_scopes x
-scopes_push [] x = omega arith
-scopes_push (y ∷ ys) x = omega (arith, scopes_push ys x)
-
-cells_push : (f : Base → Declarator → ℕ) (xs : List Stmt) (x : Stmt) → stmts_cells (stmts_of (xs ++ x ∷ [])) f ≡ stmts_cells (stmts_of xs) f + stmt_cells x f
-cells_push f [] x = omega arith
-cells_push f (y ∷ ys) x = omega (arith, cells_push f ys x)
-
-pub stmts_fit : (f : Base → Declarator → ℕ) (xs : List Stmt) (i : ℕ) (x : Stmt) → i < length xs → x ≡ get_or xs i x → (stmts_size (stmts_of (take i xs)) + stmt_size x ≤ stmts_size (stmts_of xs)) × (stmts_cells (stmts_of (take i xs)) f + stmt_cells x f ≤ stmts_cells (stmts_of xs) f)
-stmts_fit f [] i x h e = absurd (omega arith)
-stmts_fit f (y ∷ ys) zero x h e = let a : stmt_size x ≡ stmt_size y = ap stmt_size e in let b : stmt_cells x f ≡ stmt_cells y f = ap (λ (s : Stmt). stmt_cells s f) e in (omega arith, omega arith)
-stmts_fit f (y ∷ ys) (suc i) x h e = let r = stmts_fit f ys i x (omega arith) e in let q = r.0 in let w = r.1 in (omega arith, omega arith)
-
-pub scopes_fit : (xs : List Stmt) (i : ℕ) (x : Stmt) → i < length xs → x ≡ get_or xs i x → stmts_scopes (stmts_of (take i xs)) + stmt_scopes x ≤ stmts_scopes (stmts_of xs)
-scopes_fit [] i x h e = absurd (omega arith)
-scopes_fit (y ∷ ys) zero x h e = let a : stmt_scopes x ≡ stmt_scopes y = ap stmt_scopes e in omega arith
-scopes_fit (y ∷ ys) (suc i) x h e = let r = scopes_fit ys i x (omega arith) e in omega arith
 
 pub built_at : (xs : List Stmt) (i : ℕ) (x : Stmt) → are_built (stmts_of xs) ≡ true → i < length xs → x ≡ get_or xs i x → is_built_stmt x ≡ true
 built_at [] i x s h e = absurd (omega arith)
 built_at (y ∷ ys) zero x s h e = ap is_built_stmt e ∙ (and_parts _ _ s).0
 built_at (y ∷ ys) (suc i) x s h e = built_at ys i x (and_parts _ _ s).1 (omega arith) e
 
-pub stmts_step : (p : Program) (xs : List Stmt) (i : ℕ) (x : Stmt) (old mid new : Draft) → i < length xs → x ≡ get_or xs i x → LowersStmts p (stmts_of (take i xs)) old mid → LowersStmt p x mid new → LowersStmts p (stmts_of (take (i + 1) xs)) old new
-stmts_step p xs i x old mid new h e g k =
-    let ys : List Stmt = take i xs in
-    let s : Scope = scope_of old in
-    let split : ys ++ x ∷ [] ≡ take (i + 1) xs = ap (λ (y : Stmt). ys ++ y ∷ []) e ∙ sym (take_more xs i x h) in
-    let k0 : Lowers (OPS_FOR_SIZE * stmt_size x) (stmt_size x) (stmt_cells x (declared_cells p)) (stmt_scopes x) (λ code. StmtAt code old.marks (stmt_meant p x (scope_of mid))) (scope_after p x (scope_of mid)) mid new =
-    subst (λ (l : List Mark). Lowers (OPS_FOR_SIZE * stmt_size x) (stmt_size x) (stmt_cells x (declared_cells p)) (stmt_scopes x) (λ code. StmtAt code l (stmt_meant p x (scope_of mid))) (scope_after p x (scope_of mid)) mid new) (ap (λ (d : Draft). d.marks) g.rest) k in
-    let k1 : Lowers (OPS_FOR_SIZE * stmt_size x) (stmt_size x) (stmt_cells x (declared_cells p)) (stmt_scopes x) (λ code. StmtAt code old.marks (stmt_meant p x (scope_behind p (stmts_of ys) s))) (scope_after p x (scope_behind p (stmts_of ys) s)) mid new =
-    subst (λ (t : Scope). Lowers (OPS_FOR_SIZE * stmt_size x) (stmt_size x) (stmt_cells x (declared_cells p)) (stmt_scopes x) (λ code. StmtAt code old.marks (stmt_meant p x t)) (scope_after p x t) mid new) g.scope k0 in
-    subst (λ (zs : List Stmt). LowersStmts p (stmts_of zs) old new) split (
-    lowers_as (lowers_join (stmts_stable old.marks (stmts_meant p (stmts_of ys) s)) g k1) (scope_push p ys x s) (λ code a z w. stmts_push p old.marks code ys x s a w.middle z w.first w.second)
-    (omega (arith, sizes_push ys x)) (omega (arith, sizes_push ys x)) (omega (arith, cells_push (declared_cells p) ys x)) (omega (arith, scopes_push ys x)))
+pub sizes_at_item : (xs : List Stmt) (i : ℕ) (x : Stmt) → i < length xs → x ≡ get_or xs i x → stmt_size x ≤ stmts_size (stmts_of xs)
+sizes_at_item [] i x h e = absurd (omega arith)
+sizes_at_item (y ∷ ys) zero x h e = let a : stmt_size x ≡ stmt_size y = ap stmt_size e in omega arith
+sizes_at_item (y ∷ ys) (suc i) x h e = let r = sizes_at_item ys i x (omega arith) e in omega arith

@@ -1,9 +1,10 @@
 -- What lowering a loop does to a draft.
-use Rattle.std.proofs.Common.{◌≡◌, ℕ, ◌+◌, ◌*◌, List, ◌∷◌, drop, Option, Some, None, length, refl, ap, sym, subst, ◌∙◌, arith}
+use Rattle.std.proofs.Common.{◌≡◌, ℕ, ◌+◌, ◌*◌, List, ◌∷◌, Option, Some, None, length, refl, ap, sym, subst, ◌∙◌, arith}
 use Rattle.uc_tree.specs.declared.limits.TheConstants.{OPS_FOR_SIZE}
 use Rattle.uc_tree.specs.Expressions as tree
 use Rattle.uc_tree.specs.Statements.{Stmt}
 use Rattle.uc_tree.specs.StatementSizes.{maybe_expr_size, stmt_size}
+use Rattle.uc_tree.specs.Sizes.{size_at}
 use Rattle.uc_tree.specs.Scopes.{alone_scopes, stmt_scopes}
 use Rattle.uc_tree.specs.Cells.{declared_cells, stmt_cells}
 use Rattle.uc_tree.specs.Programs.{Program}
@@ -14,7 +15,8 @@ use Rattle.uc_code.specs.declared.rows.Instruction.{Instruction}
 use Rattle.uc_code.specs.declared.rows.Mark.{Mark}
 use Rattle.uc_code.specs.declared.rows.Mark.TheVariants as mark
 use Rattle.uc_code.specs.Drafts.{Draft, patched}
-use Rattle.uc_code.specs.Laid.{Laid}
+use Rattle.uc_code.specs.Laid.{Laid, laid_in}
+use Rattle.uc_code.specs.Open.{left_marks}
 use Rattle.uc_code.specs.Ranges.{Stable, pads_at, begin_at, BackAt, Turns}
 use Rattle.uc_code.specs.Lowered.{ExprAt, StepAt, StmtAt}
 use Rattle.uc_code.proofs.Stable.{one_stable}
@@ -22,12 +24,13 @@ use Rattle.uc_lower_expr.specs.Added.{Adds}
 use Rattle.uc_lower_expr.proofs.Settled.{both, expr_stable}
 use Rattle.uc_lower_stmt.specs.declared.turning.Turning.{Turning}
 use Rattle.uc_lower_stmt.specs.declared.turning.Turning.TheVariants as turning
+use Rattle.uc_lower_stmt.specs.Marked.{objects_in}
 use Rattle.uc_lower_stmt.specs.Scoped.{Lowers, scope_of}
 use Rattle.uc_lower_stmt.specs.Control.{BeginCode, StepCode, BackCode, EndsLoop, LowersAlone, LowersLoop, turning_order, turning_test, turning_size}
 use Rattle.uc_lower_stmt.proofs.Joined.{lowers_adds, lowers_as, lowers_join, lowers_put}
 use Rattle.uc_lower_stmt.proofs.Kept.{stmt_stable, step_stable}
-use Rattle.uc_lower_stmt.proofs.Shaping.{ops_in, adds_on, lowers_on, lowers_done, lowers_marked, adds_turns}
-use Rattle.uc_lower_stmt.proofs.Controlling.{alone_as}
+use Rattle.uc_lower_stmt.proofs.Shaping.{Longer, adds_longer, lowers_longer, longer_turns, lowers_done, lowers_marked}
+use Rattle.uc_lower_stmt.proofs.Choosing.{AloneIn, alone_as}
 
 -- what a loop asks of the scope of its body is the same behind it
 
@@ -48,7 +51,7 @@ abbrev looped : Order → ℕ → ℕ → ℕ → List Instruction → List Inst
 looped order start step_at test_at ops = patched (patched (patched ops start (op.Jump (begin_at order (start + 3) test_at))) (start + 1) (op.Jump (length ops))) (start + 2) (op.Jump step_at)
 
 module _ (p : Program) (line : ℕ) (t : Turning) (step : Option tree.Expr) (body : Stmt) (old e1 m1 m2 e2 e3 e4 new : Draft) (start step_at test_at : ℕ)
-    (g : Adds 4 (BeginCode line) old e1) (st : start ≡ length old.ops) (en : m1 ≡ record e1 { marks = mark.Loop (start + 1) (start + 2) ∷ e1.marks }) (h : LowersAlone p body m1 m2) (lv : e2 ≡ record m2 { marks = drop 1 m2.marks })
+    (g : Adds 4 (BeginCode line) old e1) (st : start ≡ length old.ops) (en : m1 ≡ record e1 { marks = mark.Loop (start + 1) (start + 2) ∷ e1.marks }) (h : LowersAlone p body m1 m2) (lv : e2 ≡ record m2 { marks = left_marks m2.marks })
     (sa : step_at ≡ length e2.ops) (k : Adds (OPS_FOR_SIZE * maybe_expr_size step) (StepCode p line e2.marks (scope_of e2) step) e2 e3) (ta : test_at ≡ length e3.ops)
     (j : Adds (OPS_FOR_SIZE * turning_size t + 1) (BackCode p line e3.marks (scope_of e3) t (start + 3)) e3 e4) (f : EndsLoop (turning_order t) start step_at test_at e4 new) where
   abbrev s : Scope
@@ -69,8 +72,8 @@ module _ (p : Program) (line : ℕ) (t : Turning) (step : Option tree.Expr) (bod
   scope_in : scope_of m1 ≡ s
   scope_in = ap scope_of enters ∙ ap scope_of g.rest
 
-  turn : Lowers (OPS_FOR_SIZE * stmt_size body) (stmt_size body) (stmt_cells body (declared_cells p)) (alone_scopes body + stmt_scopes body) (λ code. StmtAt code (pads_at n ∷ ms) (stmt_meant p body s)) (scope_past p body s) e1 e2
-  turn = alone_as p body (pads_at n ∷ ms) s m1 e1 e2 marks_in scope_in (lowers_marked (pads_at n) e1 e2 enters lv h)
+  turn : AloneIn p body (pads_at n ∷ ms) s e1 e2
+  turn = alone_as p body (pads_at n ∷ ms) s m1 e1 e2 marks_in scope_in (lowers_marked (pads_at n) e1 e2 refl enters lv h)
 
   marks_two : e2.marks ≡ ms
   marks_two = ap (λ (d : Draft). d.marks) turn.rest ∙ ap (λ (d : Draft). d.marks) g.rest
@@ -89,15 +92,6 @@ module _ (p : Program) (line : ℕ) (t : Turning) (step : Option tree.Expr) (bod
       subst (λ (x : Expr). Adds (OPS_FOR_SIZE * turning_size t + 1) (λ code. BackAt code (turning_order t) (ExprAt code line ms x) (start + 3) line) e3 e4) (ap (λ (u : Scope). turning_test p u t) (ap scope_of k.rest ∙ turn.scope) ∙ test_same p body s t) (
       subst (λ (ns : List Mark). Adds (OPS_FOR_SIZE * turning_size t + 1) (λ code. BackAt code (turning_order t) (ExprAt code line ns (turning_test p (scope_of e3) t)) (start + 3) line) e3 e4) marks_three j))
 
-  rows_one : e1.rows ≡ old.rows
-  rows_one = ap (λ (d : Draft). d.rows) g.rest
-
-  rows_two : e2.rows ≡ old.rows
-  rows_two = ap (λ (d : Draft). d.rows) turn.rest ∙ rows_one
-
-  rows_three : e3.rows ≡ old.rows
-  rows_three = ap (λ (d : Draft). d.rows) k.rest ∙ rows_two
-
   is : new.ops ≡ looped (turning_order t) n (length e2.ops) (length e3.ops) e4.ops
   is = ap (λ (d : Draft). d.ops) f
       ∙ ap (λ (x : ℕ). looped (turning_order t) x step_at test_at e4.ops) st
@@ -107,20 +101,22 @@ module _ (p : Program) (line : ℕ) (t : Turning) (step : Option tree.Expr) (bod
   abbrev LoopCode : Laid → ℕ → ℕ → Type 0
   LoopCode code = Turns code line (turning_order t) (ExprAt code line ms (turning_test p s t)) (StepAt code line ms (step_of p s step)) (λ m. StmtAt code (m ∷ ms) (stmt_meant p body s))
 
-  abbrev total : ℕ
-  total = 4 + OPS_FOR_SIZE * stmt_size body + OPS_FOR_SIZE * maybe_expr_size step + (OPS_FOR_SIZE * turning_size t + 1)
+  abbrev inner : ℕ
+  inner = OPS_FOR_SIZE * size_at body (objects_in ms)
 
-  turned : Adds total LoopCode old (ops_in old (looped (turning_order t) n (length e2.ops) (length e3.ops) e4.ops))
+  abbrev total : ℕ
+  total = 4 + inner + OPS_FOR_SIZE * maybe_expr_size step + (OPS_FOR_SIZE * turning_size t + 1)
+
+  turned : Longer total LoopCode (laid_in old) (record { ops = looped (turning_order t) n (length e2.ops) (length e3.ops) e4.ops; rows = e4.rows })
   turned =
-      adds_turns line (turning_order t) (OPS_FOR_SIZE * stmt_size body) (OPS_FOR_SIZE * maybe_expr_size step) (OPS_FOR_SIZE * turning_size t + 1)
+      longer_turns line (turning_order t) inner (OPS_FOR_SIZE * maybe_expr_size step) (OPS_FOR_SIZE * turning_size t + 1)
       (λ code. ExprAt code line ms (turning_test p s t)) (λ code. StepAt code line ms (step_of p s step)) (λ code m. StmtAt code (m ∷ ms) (stmt_meant p body s))
       (expr_stable line ms (turning_test p s t)) (step_stable line ms (step_of p s step)) (λ m. stmt_stable (m ∷ ms) (stmt_meant p body s))
-      old (ops_in old e1.ops) (ops_in old e2.ops) (ops_in old e3.ops) (ops_in old e4.ops)
-      (adds_on old refl g) (lowers_on old rows_one turn) (adds_on old rows_two steps) (adds_on old rows_three tests)
+      (laid_in old) (laid_in e1) (laid_in e2) (laid_in e3) (laid_in e4) (adds_longer g) (lowers_longer turn) (adds_longer steps) (adds_longer tests)
 
   pub arm_turns : LowersLoop p line t step body old new
   arm_turns =
-      let whole : Adds total LoopCode old (ops_in old new.ops) = subst (λ (l : List Instruction). Adds total LoopCode old (ops_in old l)) (sym is) turned in
+      let whole : Longer total LoopCode (laid_in old) (record { ops = new.ops; rows = e4.rows }) = subst (λ (l : List Instruction). Longer total LoopCode (laid_in old) (record { ops = l; rows = e4.rows })) (sym is) turned in
       let one = both (begin_stable line) (stmt_stable (pads_at n ∷ ms) (stmt_meant p body s)) in
       let two = both one (step_stable line ms (step_of p s step)) in
       let all = lowers_put two (lowers_put one (lowers_join (begin_stable line) (lowers_adds 0 0 g) turn) steps) tests in

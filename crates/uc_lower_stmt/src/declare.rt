@@ -1,12 +1,12 @@
 // The code of declarations.
 
-ghost use Rattle.std.specs.Prelude.{◌≡◌, ◌+◌, ◌*◌, ◌≤◌, ◌<◌, [], ◌∷◌, Some, length, OnOk, IfOk};
+ghost use Rattle.std.specs.Prelude.{◌≡◌, ◌+◌, ◌*◌, ◌≤◌, ◌<◌, [], ◌∷◌, ◌++◌, Some, length, OnOk, IfOk};
 ghost use Rattle.uc_tree.specs.declared.limits.TheConstants.{FRAME_CELLS, OPS_FOR_SIZE, PROGRAM_OPS};
 ghost use Rattle.uc_tree.specs.Expressions.{exprs_of};
 ghost use Rattle.uc_tree.specs.ExpressionSizes.{expr_size, exprs_size};
 ghost use Rattle.uc_tree.specs.StatementSizes.{start_size, declarator_size, declarators_size};
 ghost use Rattle.uc_tree.specs.Cells.{declared_cells, declarators_cells};
-ghost use Rattle.uc_tree.specs.Resolve.{meant, value_of, converted, start_meant, first_value, length_of, declared_type, declared_meant, all_declared, with_declared, with_all};
+ghost use Rattle.uc_tree.specs.Resolve.{meant, value_of, converted, start_meant, first_value, length_of, declared_known, declared_type, declared_meant, all_declared, with_declared, with_all};
 ghost use Rattle.uc_lower_expr.specs.Meanings.{shape_as};
 ghost use Rattle.uc_lower_expr.specs.Added.{Adds};
 ghost use Rattle.uc_lower_expr.specs.Contexts.{context_in};
@@ -44,7 +44,7 @@ pub(crate) fn copy_of(alloc: Global, base: &Base) -> Result<Base, AllocError>
 }
 
 // The length of an array.
-fn length_of(names: &ProgramNames, declarator: &Declarator) -> Option<u32>
+pub(crate) fn length_of(names: &ProgramNames, declarator: &Declarator) -> Option<u32>
     ensures { result ≡ length_of names.now declarator.now declarator.now.len }
 {
     match &declarator.len {
@@ -143,6 +143,23 @@ fn lower_declarator(
     put(Op::Clear { cell, cells }, line, out)?;
     let scalar = Scalar::of_base(base);
     lower_start(&declarator.start, cell, scalar, line, names, out)?;
+    declare_variable(alloc, names, base, declarator, cells, out)?;
+    Ok(())
+}
+
+/// A variable with so many cells is in scope from here on.
+pub(crate) fn declare_variable(
+    alloc: Global,
+    names: &ProgramNames,
+    base: &Base,
+    declarator: &Declarator,
+    cells: u32,
+    out: &mut Draft,
+) -> Result<(), AllocError>
+    requires cells { cells ≡ declared_cells names.now base.now declarator.now }
+    requires room { out.old.cells + cells ≤ FRAME_CELLS }
+    ensures { OnOk result (out.new ≡ record out.old { names = out.old.names ++ declared_known names.now (scope_of out.old) base.now declarator.now ∷ []; cells = out.old.cells + cells }) }
+{
     let name = declarator.name.copy(alloc)?;
     let ty = type_of(alloc, names, base, declarator)?;
     out.declare(name, ty, cells)?;

@@ -1,7 +1,9 @@
 // The lowering of statements and routines.
 #![tactic(auto)]
 
+pub mod block;
 pub mod declare;
+pub mod objects;
 pub mod print;
 pub mod routine;
 pub mod stmt;

@@ -1,20 +1,21 @@
 // The code of routines.
 
-ghost use Rattle.std.specs.Prelude.{◌≡◌, ◌+◌, ◌*◌, ◌≤◌, ◌<◌, ◌++◌, [], true, None, length, nat_eq, slice_set, OnOk};
+ghost use Rattle.std.specs.Prelude.{◌≡◌, ◌+◌, ◌*◌, ◌≤◌, ◌<◌, ◌++◌, ◌∷◌, [], true, None, length, nat_eq, slice_set, OnOk};
 ghost use Rattle.uc_tree.specs.declared.limits.TheConstants.{FRAME_CELLS, OPS_FOR_SIZE, PROGRAM_OPS, PROGRAM_SIZE};
 ghost use Rattle.uc_tree.specs.Statements.{stmts_of};
 ghost use Rattle.uc_tree.specs.StatementSizes.{stmts_size};
 ghost use Rattle.uc_tree.specs.Cells.{params_cells, routine_cells};
 ghost use Rattle.uc_tree.specs.Gathered.{gathered_all};
-ghost use Rattle.uc_tree.specs.Numbering.{own_sites, own_texts};
+ghost use Rattle.uc_tree.specs.Numbering.{is_plain, own_sites, own_texts, routines_of};
 ghost use Rattle.uc_tree.specs.ProgramMain.{main_number};
 ghost use Rattle.uc_tree.specs.Programs.{Program};
 ghost use Rattle.uc_tree.specs.Resolve.{params_known, role_purpose, value_purpose, routine_scope, routine_meant};
-ghost use Rattle.uc_meaning.specs.BuiltForms.{are_built, are_scalars};
+ghost use Rattle.uc_built.specs.BuiltForms.{are_built};
 ghost use Rattle.uc_code.specs.Laid.{laid_in};
 ghost use Rattle.uc_code.specs.Ranges.{Kept};
-ghost use Rattle.uc_code.specs.Lowered.{RoutineAt, body_marks};
+ghost use Rattle.uc_code.specs.Lowered.{RoutineAt, body_mark};
 ghost use Rattle.uc_lower_expr.specs.Added.{Adds};
+ghost use Rattle.uc_lower_stmt.specs.Scoped.{sizes_at};
 ghost use Rattle.uc_lower_stmt.specs.Routines.{EndCode, purpose_as, purpose_by};
 
 use crate::declare::copy_of;
@@ -22,7 +23,7 @@ use crate::stmt::lower_stmts;
 use std::alloc::{AllocError, Global};
 use uc_code::draft::Draft;
 use uc_code::op::Op;
-use uc_code::rows::{Mark, RoutineCode};
+use uc_code::rows::RoutineCode;
 use uc_lower_expr::program_names::{ProgramNames, params_of, sig_of};
 use uc_lower_expr::put::put;
 use uc_sizes::frames::cells_of_routine;
@@ -74,20 +75,22 @@ fn purpose_of(main: bool, sig: &Sig) -> Purpose
     }
 }
 
-fn body_of(routine: &Routine) -> &[Stmt]
+/// The statements of a routine's body.
+pub fn body_of(routine: &Routine) -> &[Stmt]
     ensures { stmts_of result.now ≡ routine.now.body }
 {
     &routine.body
 }
 
-fn line_of(routine: &Routine) -> u32
+/// The line of the block that is a routine's body.
+pub fn line_of(routine: &Routine) -> u32
     ensures { result ≡ routine.now.brace.line }
 {
     routine.brace.line
 }
 
-// Parameters are in scope, and have the first cells.
-fn declare_params(
+/// Parameters are in scope, and have the first cells.
+pub fn declare_params(
     alloc: Global,
     names: &ProgramNames,
     params: &[Param],
@@ -110,23 +113,37 @@ fn declare_params(
     Ok(())
 }
 
-// What stands around the statements of a routine.
-fn enter_body(purpose: Purpose, line: u32, out: &mut Draft) -> Result<(), AllocError>
-    ensures { OnOk result (out.new ≡ record out.old { marks = body_marks (purpose_as purpose) line ++ out.old.marks }) }
+/// What is lowered from now on are the statements of the routine of this number.
+pub fn enter_body(
+    purpose: Purpose,
+    number: u32,
+    line: u32,
+    out: &mut Draft,
+) -> Result<(), AllocError>
+    ensures { OnOk result (out.new ≡ record out.old { marks = body_mark (purpose_as purpose) number line ∷ out.old.marks }) }
 {
     match purpose {
         Purpose::TaskMain => {
-            out.enter(Mark::Finish { line })?;
+            out.enter_main(number, line)?;
             Ok(())
         }
-        Purpose::Procedure => Ok(()),
-        Purpose::Function => Ok(()),
-        Purpose::Builder => Ok(()),
+        Purpose::Procedure => {
+            out.enter_body(number)?;
+            Ok(())
+        }
+        Purpose::Function => {
+            out.enter_body(number)?;
+            Ok(())
+        }
+        Purpose::Builder => {
+            out.enter_body(number)?;
+            Ok(())
+        }
     }
 }
 
-// What is done behind the statements of a routine.
-fn put_end(purpose: Purpose, line: u32, out: &mut Draft) -> Result<(), AllocError>
+/// Adds what is done behind the statements of a routine.
+pub fn put_end(purpose: Purpose, line: u32, out: &mut Draft) -> Result<(), AllocError>
     requires { length out.old.ops + 2 ≤ PROGRAM_OPS }
     ensures { OnOk result (Adds 2 (EndCode (purpose_as purpose) line) out.old out.new) }
 {
@@ -151,9 +168,9 @@ fn put_end(purpose: Purpose, line: u32, out: &mut Draft) -> Result<(), AllocErro
     }
 }
 
-/// Adds the code of a routine of a class, behind so many text literals and accept statements of the program, and writes down
-/// under its number where it begins; `main` says whether it is the program's main. Its parameters are scalars and references to
-/// scalars, and its statements are of forms that are built. After want of memory the draft is spent.
+/// Adds the code of a routine that is no constructor and no destructor, behind so many text literals and accept statements of the
+/// program, and writes down under its number where it begins; `main` says whether it is the program's main. Its statements are of
+/// forms that are built. After want of memory the draft is spent.
 pub fn lower_routine(
     alloc: Global,
     names: &ProgramNames,
@@ -165,18 +182,21 @@ pub fn lower_routine(
     sites: u32,
     out: &mut Draft,
 ) -> Result<(), AllocError>
+    requires plain { is_plain routine.now.sig.role ≡ true }
     requires main { main ≡ nat_eq number (main_number names.now) }
     requires built { are_built routine.now.body ≡ true }
-    requires scalars { are_scalars routine.now.sig.params ≡ true }
+    requires few_params { length routine.now.sig.params ≤ PROGRAM_SIZE }
     requires known { number < length out.old.routines }
-    requires room { length out.old.ops + OPS_FOR_SIZE * (1 + stmts_size routine.now.body) ≤ PROGRAM_OPS }
+    requires written { number < length (routines_of names.now) }
+    requires outside { out.old.marks ≡ [] }
+    requires room { length out.old.ops + OPS_FOR_SIZE * (1 + sizes_at routine.now.body 0) ≤ PROGRAM_OPS }
     requires cells { routine_cells names.now routine.now ≤ FRAME_CELLS }
     requires texts { texts + stmts_size routine.now.body ≤ PROGRAM_SIZE }
     ensures kept { OnOk result (Kept (laid_in out.old) (laid_in out.new)) }
-    ensures room { OnOk result (length out.new.ops ≤ length out.old.ops + OPS_FOR_SIZE * (1 + stmts_size routine.now.body)) }
-    ensures code { OnOk result (RoutineAt (laid_in out.new) (routine_meant names.now routine.now (routine_scope names.now routine.now.sig.params class number texts sites)) (record { entry = length out.old.ops; cells = routine_cells names.now routine.now; params = length routine.now.sig.params }) (length out.old.ops) (length out.new.ops)) }
+    ensures room { OnOk result (length out.new.ops ≤ length out.old.ops + OPS_FOR_SIZE * (1 + sizes_at routine.now.body 0)) }
+    ensures code { OnOk result (RoutineAt (laid_in out.new) number (routine_meant names.now routine.now (routine_scope names.now routine.now.sig.params class number texts sites)) (record { entry = length out.old.ops; cells = routine_cells names.now routine.now; params = length routine.now.sig.params }) (length out.old.ops) (length out.new.ops)) }
     ensures written { OnOk result (out.new.routines ≡ slice_set out.old.routines number (record { entry = length out.old.ops; cells = routine_cells names.now routine.now; params = length routine.now.sig.params })) }
-    ensures rows { OnOk result (out.new.rows ≡ out.old.rows) }
+    ensures outside { OnOk result (out.new.marks ≡ []) }
     ensures texts { OnOk result (out.new.texts ≡ texts + length (gathered_all own_texts routine.now.body)) }
     ensures few_texts { OnOk result (out.new.texts ≤ texts + stmts_size routine.now.body) }
     ensures sites { OnOk result (out.new.sites ≡ sites + length (gathered_all (own_sites None 0) routine.now.body)) }
@@ -188,8 +208,9 @@ pub fn lower_routine(
     let purpose = purpose_of(main, sig);
     out.begin_routine(class, number, texts, sites);
     declare_params(alloc, names, params, out)?;
-    enter_body(purpose, line, out)?;
-    lower_stmts(alloc, names, body_of(routine), out)?;
+    enter_body(purpose, number, line, out)?;
+    lower_stmts(alloc, names, body_of(routine), line, out)?;
+    out.leave();
     put_end(purpose, line, out)?;
     let cells = cells_of_routine(names.sizes(), routine) as u32;
     let count = params.len() as u32;

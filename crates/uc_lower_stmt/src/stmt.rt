@@ -5,33 +5,41 @@ ghost use Rattle.uc_tree.specs.declared.limits.TheConstants.{FRAME_CELLS, OPS_FO
 ghost use Rattle.uc_tree.specs.Expressions.{Expr as Tested};
 ghost use Rattle.uc_tree.specs.Programs.{Program as Whole};
 ghost use Rattle.uc_tree.specs.Statements.{stmts_of};
-ghost use Rattle.uc_tree.specs.StatementSizes.{for_start_size, maybe_expr_size, maybe_stmt_size, stmt_size, stmts_size};
+ghost use Rattle.uc_tree.specs.StatementSizes.{declarators_size, for_start_size, maybe_expr_size, maybe_stmt_size, stmt_size, stmts_size};
 ghost use Rattle.uc_tree.specs.declared.pos.Pos.{Pos};
 ghost use Rattle.uc_tree.specs.StatementForms.{stmt_at};
 ghost use Rattle.uc_tree.specs.StatementViews.{maybe_at};
+ghost use Rattle.uc_tree.specs.Exits.{for_declares};
+ghost use Rattle.uc_tree.specs.Numbering.{routines_of};
+ghost use Rattle.uc_tree.specs.Sizes.{size_at};
 ghost use Rattle.uc_tree.specs.Scopes.{alone_scopes, maybe_scopes, stmt_scopes, stmts_scopes};
 ghost use Rattle.uc_tree.specs.ExpressionSizes.{expr_size};
-ghost use Rattle.uc_tree.specs.Cells.{declared_cells, for_cells, maybe_cells, stmt_cells, stmts_cells};
+ghost use Rattle.uc_tree.specs.Cells.{declared_cells, declarators_cells, for_cells, maybe_cells, stmt_cells, stmts_cells};
 ghost use Rattle.uc_tree.specs.Resolve.{Scope, order_of, test_of};
-ghost use Rattle.uc_meaning.specs.BuiltForms.{is_built_maybe, is_built_start, is_built_stmt, are_built};
-ghost use Rattle.uc_code.specs.Leaving.{way_of};
+ghost use Rattle.uc_built.specs.BuiltForms.{is_built_maybe, is_built_start, is_built_stmt, are_built};
+ghost use Rattle.uc_code.specs.Laid.{routine_in};
+ghost use Rattle.uc_code.specs.Puts.{Puts};
 ghost use Rattle.uc_code.specs.Ranges.{begin_at};
 ghost use Rattle.uc_lower_expr.specs.Added.{Adds};
-ghost use Rattle.uc_lower_stmt.specs.Scoped.{LowersStmt, LowersStmts, scope_of};
-ghost use Rattle.uc_lower_stmt.specs.Control.{BackCode, BeginCode, EndsLoop, ExitCode, is_declaration, LowersAlone, LowersFor, LowersIf, LowersLoop, LowersMaybe, LowersStart, ReturnCode, StepCode, turning_order, turning_size, turning_test};
+ghost use Rattle.uc_lower_stmt.specs.Marked.{objects_in, taken};
+ghost use Rattle.uc_lower_stmt.specs.Scoped.{LowersStmt, LowersStmts, scope_of, sizes_at};
+ghost use Rattle.uc_lower_stmt.specs.Control.{BackCode, BeginCode, DeclaresObjects, EndsLoop, is_declaration, LaysDeclaration, LaysStart, LaysStmt, LowersAlone, LowersDeclaration, LowersFor, LowersIf, LowersLoop, LowersMaybe, maybe_at_size, ReturnCode, StepCode, turning_order, turning_size, turning_test};
 
+use crate::block::{close_scopes, lower_objects};
 use crate::declare::lower_declarators;
 use crate::print::{lower_items, lower_targets, lower_together};
 use crate::turning::Turning;
 use std::alloc::{AllocError, Global};
+use uc_code::cleaning::put_exit;
 use uc_code::draft::Draft;
 use uc_code::op::Op;
-use uc_code::rows::{Mark, Way};
+use uc_code::rows::Way;
 use uc_lower_expr::expr::{lower_expr, lower_value};
 use uc_lower_expr::program_names::ProgramNames;
 use uc_lower_expr::put::{close_fork, put, put_conversion};
-use uc_tree::declare::{ForForm, ForStart};
+use uc_tree::declare::{Declarator, ForForm, ForStart};
 use uc_tree::expr::Expr;
+use uc_tree::kinds::Base;
 use uc_tree::stmt::{Stmt, StmtForm};
 
 /// Adds the code of a statement, which is of a form that is built. After want of memory the draft is spent.
@@ -43,7 +51,8 @@ pub fn lower_stmt(
     out: &mut Draft,
 ) -> Result<(), AllocError>
     requires built { is_built_stmt s.now ≡ true }
-    requires room { length out.old.ops + OPS_FOR_SIZE * stmt_size s.now ≤ PROGRAM_OPS }
+    requires inside { routine_in out.old.marks < length (routines_of names.now) }
+    requires room { taken out.old + OPS_FOR_SIZE * size_at s.now (objects_in out.old.marks) ≤ PROGRAM_OPS }
     requires cells { out.old.cells + stmt_cells s.now (declared_cells names.now) ≤ FRAME_CELLS }
     requires scopes { out.old.scopes + stmt_scopes s.now ≤ PROGRAM_SIZE }
     requires texts { out.old.texts + stmt_size s.now ≤ PROGRAM_SIZE }
@@ -53,7 +62,7 @@ pub fn lower_stmt(
     match &s.form {
         StmtForm::Block { body } => {
             let outside = out.open_scope();
-            lower_stmts(alloc, names, body, out)?;
+            lower_stmts(alloc, names, body, line, out)?;
             out.leave_scope(outside);
             Ok(())
         }
@@ -63,7 +72,7 @@ pub fn lower_stmt(
             Ok(())
         }
         StmtForm::Declare { base, declarators } => {
-            lower_declarators(alloc, names, base, declarators, line, out)?;
+            lower_declaration(alloc, names, base, declarators, line, out)?;
             Ok(())
         }
         StmtForm::Print { items } => {
@@ -146,25 +155,142 @@ pub fn lower_stmt(
     }
 }
 
-/// Adds the code of statements, which are of forms that are built. After want of memory the draft is spent.
+/// Adds the code of the statements of a block of this line, which are of forms that are built. After want of memory the draft is spent.
 #[cycle(stmt)]
 pub fn lower_stmts(
     alloc: Global,
     names: &ProgramNames,
     stmts: &[Stmt],
+    line: u32,
     out: &mut Draft,
 ) -> Result<(), AllocError>
     requires built { are_built (stmts_of stmts.now) ≡ true }
-    requires room { length out.old.ops + OPS_FOR_SIZE * stmts_size (stmts_of stmts.now) ≤ PROGRAM_OPS }
+    requires inside { routine_in out.old.marks < length (routines_of names.now) }
+    requires room { taken out.old + OPS_FOR_SIZE * sizes_at (stmts_of stmts.now) (objects_in out.old.marks) ≤ PROGRAM_OPS }
     requires cells { out.old.cells + stmts_cells (stmts_of stmts.now) (declared_cells names.now) ≤ FRAME_CELLS }
     requires scopes { out.old.scopes + stmts_scopes (stmts_of stmts.now) ≤ PROGRAM_SIZE }
     requires texts { out.old.texts + stmts_size (stmts_of stmts.now) ≤ PROGRAM_SIZE }
-    ensures { OnOk result (LowersStmts names.now (stmts_of stmts.now) out.old out.new) }
+    ensures { OnOk result (LowersStmts names.now line (stmts_of stmts.now) out.old out.new) }
 {
+    let depth = out.marks().len();
     for s in stmts {
-        lower_stmt(alloc, names, s, out)?;
+        lower_next(alloc, names, s, line, out)?;
     }
+    close_scopes(depth, out)?;
     Ok(())
+}
+
+// A statement in a block of this line: objects that it declares are in scope in what follows.
+#[cycle(stmt)]
+fn lower_next(
+    alloc: Global,
+    names: &ProgramNames,
+    s: &Stmt,
+    line: u32,
+    out: &mut Draft,
+) -> Result<(), AllocError>
+    requires built { is_built_stmt s.now ≡ true }
+    requires inside { routine_in out.old.marks < length (routines_of names.now) }
+    requires room { taken out.old + OPS_FOR_SIZE * size_at s.now (objects_in out.old.marks) ≤ PROGRAM_OPS }
+    requires cells { out.old.cells + stmt_cells s.now (declared_cells names.now) ≤ FRAME_CELLS }
+    requires scopes { out.old.scopes + stmt_scopes s.now ≤ PROGRAM_SIZE }
+    requires texts { out.old.texts + stmt_size s.now ≤ PROGRAM_SIZE }
+    ensures { OnOk result (LaysStmt names.now line s.now out.old out.new) }
+{
+    match declared_in(&s.form, names) {
+        Some(declared) => {
+            lower_objects(
+                alloc,
+                names,
+                declared.class,
+                declared.base,
+                declared.declarators,
+                s.pos.line,
+                line,
+                out,
+            )?;
+            Ok(())
+        }
+        None => {
+            lower_stmt(alloc, names, s, out)?;
+            Ok(())
+        }
+    }
+}
+
+// A declaration of objects of the class with this place.
+#[derive(Clone, Copy)]
+struct Objects<'a> {
+    class: usize,
+    base: &'a Base,
+    declarators: &'a [Declarator],
+}
+
+fn declared_in<'a>(form: &'a StmtForm, names: &ProgramNames) -> Option<Objects<'a>>
+    ensures { (pos : Pos) → DeclaresObjects names.now (stmt_at pos form.now) result }
+{
+    match form {
+        StmtForm::Declare { base, declarators } => match names.sizes().plain_class(base) {
+            Some(class) => Some(Objects {
+                class,
+                base,
+                declarators,
+            }),
+            None => None,
+        },
+        StmtForm::Block { .. } => None,
+        StmtForm::Empty => None,
+        StmtForm::Evaluate { .. } => None,
+        StmtForm::If { .. } => None,
+        StmtForm::While { .. } => None,
+        StmtForm::Do { .. } => None,
+        StmtForm::For { .. } => None,
+        StmtForm::Break => None,
+        StmtForm::Continue => None,
+        StmtForm::Return { .. } => None,
+        StmtForm::Try { .. } => None,
+        StmtForm::Throw { .. } => None,
+        StmtForm::Raise { .. } => None,
+        StmtForm::RaiseAt { .. } => None,
+        StmtForm::Enable { .. } => None,
+        StmtForm::Disable { .. } => None,
+        StmtForm::Accept { .. } => None,
+        StmtForm::Print { .. } => None,
+        StmtForm::PrintTogether { .. } => None,
+        StmtForm::Read { .. } => None,
+        StmtForm::Resume => None,
+        StmtForm::Suspend => None,
+        StmtForm::Yield => None,
+        StmtForm::Migrate { .. } => None,
+    }
+}
+
+// A declaration that is a statement of its own: its objects are destroyed behind it.
+fn lower_declaration(
+    alloc: Global,
+    names: &ProgramNames,
+    base: &Base,
+    declarators: &[Declarator],
+    line: u32,
+    out: &mut Draft,
+) -> Result<(), AllocError>
+    requires inside { routine_in out.old.marks < length (routines_of names.now) }
+    requires room { taken out.old + OPS_FOR_SIZE * declarators_size declarators.now ≤ PROGRAM_OPS }
+    requires cells { out.old.cells + declarators_cells (declared_cells names.now base.now) declarators.now ≤ FRAME_CELLS }
+    ensures { OnOk result (LowersDeclaration names.now line base.now declarators.now out.old out.new) }
+{
+    match names.sizes().plain_class(base) {
+        Some(class) => {
+            let depth = out.marks().len();
+            lower_objects(alloc, names, class, base, declarators, line, line, out)?;
+            close_scopes(depth, out)?;
+            Ok(())
+        }
+        None => {
+            lower_declarators(alloc, names, base, declarators, line, out)?;
+            Ok(())
+        }
+    }
 }
 
 fn is_declaration(form: &StmtForm) -> bool
@@ -208,7 +334,8 @@ fn lower_alone(
     out: &mut Draft,
 ) -> Result<(), AllocError>
     requires built { is_built_stmt s.now ≡ true }
-    requires room { length out.old.ops + OPS_FOR_SIZE * stmt_size s.now ≤ PROGRAM_OPS }
+    requires inside { routine_in out.old.marks < length (routines_of names.now) }
+    requires room { taken out.old + OPS_FOR_SIZE * size_at s.now (objects_in out.old.marks) ≤ PROGRAM_OPS }
     requires cells { out.old.cells + stmt_cells s.now (declared_cells names.now) ≤ FRAME_CELLS }
     requires scopes { out.old.scopes + (alone_scopes s.now + stmt_scopes s.now) ≤ PROGRAM_SIZE }
     requires texts { out.old.texts + stmt_size s.now ≤ PROGRAM_SIZE }
@@ -233,7 +360,8 @@ fn lower_maybe(
     out: &mut Draft,
 ) -> Result<(), AllocError>
     requires built { is_built_maybe (maybe_at other.now) ≡ true }
-    requires room { length out.old.ops + OPS_FOR_SIZE * maybe_stmt_size (maybe_at other.now) ≤ PROGRAM_OPS }
+    requires inside { routine_in out.old.marks < length (routines_of names.now) }
+    requires room { taken out.old + OPS_FOR_SIZE * maybe_at_size (maybe_at other.now) (objects_in out.old.marks) ≤ PROGRAM_OPS }
     requires cells { out.old.cells + maybe_cells (maybe_at other.now) (declared_cells names.now) ≤ FRAME_CELLS }
     requires scopes { out.old.scopes + maybe_scopes (maybe_at other.now) ≤ PROGRAM_SIZE }
     requires texts { out.old.texts + maybe_stmt_size (maybe_at other.now) ≤ PROGRAM_SIZE }
@@ -260,7 +388,8 @@ fn lower_if(
 ) -> Result<(), AllocError>
     requires built { is_built_stmt chosen.now ≡ true }
     requires other_built { is_built_maybe (maybe_at other.now) ≡ true }
-    requires room { length out.old.ops + OPS_FOR_SIZE * (1 + expr_size test.now + stmt_size chosen.now + maybe_stmt_size (maybe_at other.now)) ≤ PROGRAM_OPS }
+    requires inside { routine_in out.old.marks < length (routines_of names.now) }
+    requires room { taken out.old + OPS_FOR_SIZE * (1 + expr_size test.now + size_at chosen.now (objects_in out.old.marks) + maybe_at_size (maybe_at other.now) (objects_in out.old.marks)) ≤ PROGRAM_OPS }
     requires cells { out.old.cells + (stmt_cells chosen.now (declared_cells names.now) + maybe_cells (maybe_at other.now) (declared_cells names.now)) ≤ FRAME_CELLS }
     requires scopes { out.old.scopes + (alone_scopes chosen.now + stmt_scopes chosen.now + maybe_scopes (maybe_at other.now)) ≤ PROGRAM_SIZE }
     requires texts { out.old.texts + (stmt_size chosen.now + maybe_stmt_size (maybe_at other.now)) ≤ PROGRAM_SIZE }
@@ -372,7 +501,8 @@ fn lower_loop(
     out: &mut Draft,
 ) -> Result<(), AllocError>
     requires built { is_built_stmt body.now ≡ true }
-    requires room { length out.old.ops + OPS_FOR_SIZE * (1 + turning_size turning + maybe_expr_size step.now + stmt_size body.now) ≤ PROGRAM_OPS }
+    requires inside { routine_in out.old.marks < length (routines_of names.now) }
+    requires room { taken out.old + OPS_FOR_SIZE * (1 + turning_size turning + maybe_expr_size step.now + size_at body.now (objects_in out.old.marks)) ≤ PROGRAM_OPS }
     requires cells { out.old.cells + stmt_cells body.now (declared_cells names.now) ≤ FRAME_CELLS }
     requires scopes { out.old.scopes + (alone_scopes body.now + stmt_scopes body.now) ≤ PROGRAM_SIZE }
     requires texts { out.old.texts + stmt_size body.now ≤ PROGRAM_SIZE }
@@ -380,10 +510,7 @@ fn lower_loop(
 {
     let start = out.here();
     begin_loop(line, out)?;
-    out.enter(Mark::Loop {
-        leave: start + 1,
-        again: start + 2,
-    })?;
+    out.enter_loop(start + 1, start + 2)?;
     lower_alone(alloc, names, body, out)?;
     out.leave();
     let step_at = out.here();
@@ -394,7 +521,7 @@ fn lower_loop(
     Ok(())
 }
 
-// What a `for` begins with.
+// What a `for` of this line begins with: objects that it declares are in scope in the loop.
 fn lower_start(
     alloc: Global,
     names: &ProgramNames,
@@ -402,9 +529,10 @@ fn lower_start(
     line: u32,
     out: &mut Draft,
 ) -> Result<(), AllocError>
-    requires room { length out.old.ops + OPS_FOR_SIZE * for_start_size start.now ≤ PROGRAM_OPS }
+    requires inside { routine_in out.old.marks < length (routines_of names.now) }
+    requires room { taken out.old + OPS_FOR_SIZE * for_start_size start.now ≤ PROGRAM_OPS }
     requires cells { out.old.cells + for_cells start.now (declared_cells names.now) ≤ FRAME_CELLS }
-    ensures { OnOk result (LowersStart names.now line start.now out.old out.new) }
+    ensures { OnOk result (LaysStart names.now line start.now out.old out.new) }
 {
     match &start.form {
         ForForm::Nothing => Ok(()),
@@ -413,12 +541,37 @@ fn lower_start(
             declarators,
             ..
         } => {
-            lower_declarators(alloc, names, base, declarators, line, out)?;
+            lower_for_declaration(alloc, names, base, declarators, line, out)?;
             Ok(())
         }
         ForForm::Evaluate { value } => {
             let _told = lower_expr(value, line, names, out)?;
             put(Op::Discard, line, out)?;
+            Ok(())
+        }
+    }
+}
+
+fn lower_for_declaration(
+    alloc: Global,
+    names: &ProgramNames,
+    base: &Base,
+    declarators: &[Declarator],
+    line: u32,
+    out: &mut Draft,
+) -> Result<(), AllocError>
+    requires inside { routine_in out.old.marks < length (routines_of names.now) }
+    requires room { taken out.old + OPS_FOR_SIZE * declarators_size declarators.now ≤ PROGRAM_OPS }
+    requires cells { out.old.cells + declarators_cells (declared_cells names.now base.now) declarators.now ≤ FRAME_CELLS }
+    ensures { OnOk result (LaysDeclaration names.now line line base.now declarators.now out.old out.new) }
+{
+    match names.sizes().plain_class(base) {
+        Some(class) => {
+            lower_objects(alloc, names, class, base, declarators, line, line, out)?;
+            Ok(())
+        }
+        None => {
+            lower_declarators(alloc, names, base, declarators, line, out)?;
             Ok(())
         }
     }
@@ -448,26 +601,19 @@ fn lower_for(
     out: &mut Draft,
 ) -> Result<(), AllocError>
     requires built { is_built_stmt body.now ≡ true }
-    requires room { length out.old.ops + OPS_FOR_SIZE * (1 + for_start_size start.now + maybe_expr_size test.now + maybe_expr_size step.now + stmt_size body.now) ≤ PROGRAM_OPS }
+    requires inside { routine_in out.old.marks < length (routines_of names.now) }
+    requires room { taken out.old + OPS_FOR_SIZE * (1 + for_start_size start.now + maybe_expr_size test.now + maybe_expr_size step.now + size_at body.now (objects_in out.old.marks + for_declares start.now)) ≤ PROGRAM_OPS }
     requires cells { out.old.cells + (for_cells start.now (declared_cells names.now) + stmt_cells body.now (declared_cells names.now)) ≤ FRAME_CELLS }
     requires scopes { out.old.scopes + (1 + alone_scopes body.now + stmt_scopes body.now) ≤ PROGRAM_SIZE }
     requires texts { out.old.texts + stmt_size body.now ≤ PROGRAM_SIZE }
     ensures { OnOk result (LowersFor names.now line start.now test.now step.now body.now out.old out.new) }
 {
     let outside = out.open_scope();
+    let depth = out.marks().len();
     lower_start(alloc, names, start, line, out)?;
     lower_loop(alloc, names, turning_of(test), step, body, line, out)?;
+    close_scopes(depth, out)?;
     out.leave_scope(outside);
-    Ok(())
-}
-
-// The op of a way out.
-fn put_exit(way: Way, line: u32, out: &mut Draft) -> Result<(), AllocError>
-    requires { length out.old.ops < PROGRAM_OPS }
-    ensures { OnOk result (Adds 1 (ExitCode (way_of way) out.old.marks) out.old out.new) }
-{
-    let exit = out.exit(way, line);
-    put(exit.op, exit.line, out)?;
     Ok(())
 }
 
@@ -478,13 +624,13 @@ fn lower_return(
     names: &ProgramNames,
     out: &mut Draft,
 ) -> Result<(), AllocError>
-    requires { length out.old.ops + OPS_FOR_SIZE * (1 + maybe_expr_size value.now) ≤ PROGRAM_OPS }
-    ensures { OnOk result (Adds (OPS_FOR_SIZE * (1 + maybe_expr_size value.now)) (ReturnCode names.now line out.old.marks (scope_of out.old) value.now) out.old out.new) }
+    requires { taken out.old + OPS_FOR_SIZE * (1 + maybe_expr_size value.now + objects_in out.old.marks) ≤ PROGRAM_OPS }
+    ensures { OnOk result (Puts (OPS_FOR_SIZE * (1 + maybe_expr_size value.now + objects_in out.old.marks)) (ReturnCode names.now line out.old.marks (scope_of out.old) value.now) out.old out.new) }
 {
     match value {
         Some(value) => {
             let _told = lower_value(value, line, names, out)?;
-            put_conversion(names.result(out.place().routine), line, out)?;
+            put_conversion(names.result(out.place().routine).scalar, line, out)?;
             put_exit(Way::Value, line, out)?;
             Ok(())
         }

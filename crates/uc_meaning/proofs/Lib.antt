@@ -19,6 +19,7 @@ pub mod Making
 pub mod Answered
 pub mod Sampled
 pub mod RunsSampled
+pub mod ObjectsSampled
 pub mod Cuts
 pub mod Others
 pub mod Held

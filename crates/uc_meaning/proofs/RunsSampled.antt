@@ -27,27 +27,27 @@ use Rattle.uc_meaning.specs.Samples.{options, first_journal}
 use Rattle.uc_meaning.specs.SamplePrograms.{first_text, FirstRun, loop_text, two_ticks, loop_journal, LoopRun, call_text, call_journal, CallRun}
 
 -- where a ride leads: the state, its ticks, and what is asked
-record Ridden : Type 0 where
-  reached : State
-  made : ℕ
-  asked : Asked
+pub record Ridden : Type 0 where
+  pub reached : State
+  pub made : ℕ
+  pub asked : Asked
 
-abbrev one_tick : Option Ridden → Option Ridden
+abbrev pub one_tick : Option Ridden → Option Ridden
 one_tick None = None
 one_tick (Some r) = Some (record r { made = suc r.made })
 
-abbrev ridden_or : Ridden → Option Ridden → Ridden
+abbrev pub ridden_or : Ridden → Option Ridden → Ridden
 ridden_or r None = r
 ridden_or r (Some x) = x
 
 -- a ride of at most so many steps
 module _ (source : Source) where
-  abbrev by_step : (State → Option Ridden) → (State → Option Ridden) → State → Step → Option Ridden
+  abbrev pub by_step : (State → Option Ridden) → (State → Option Ridden) → State → Step → Option Ridden
   by_step on ticked s (Goes t) = on t
   by_step on ticked s (Ticks t) = one_tick (ticked t)
   by_step on ticked s (Asks r t) = Some (record { reached = t; made = 0; asked = asked_in s r })
 
-  abbrev ride : ℕ → ℕ → State → Option Ridden
+  abbrev pub ride : ℕ → ℕ → State → Option Ridden
   ride zero q s = None
   ride (suc f) zero s = Some (record { reached = s; made = 0; asked = asked_in s ask.Slice })
   ride (suc f) (suc q) s = by_step (λ t. ride f (suc q) t) (λ t. ride f q t) s (quiet source s)
@@ -79,11 +79,11 @@ module _ (source : Source) where
 -- runs, step by step
 
 module _ {source : Source} {opts : Options} where
-  given : {j : Journal} {w : World} → Runs source [] opts j w → is_over j ≡ false → Contains (open_processors opts j) (0, 0) → running 0 j ≡ [] → ready 0 j ≡ 0 ∷ [] → nat_le (length j + 2) opts.entries ≡ true → Runs source [] opts (j ++ dispatch 0 0 ∷ []) w
+  pub given : {j : Journal} {w : World} → Runs source [] opts j w → is_over j ≡ false → Contains (open_processors opts j) (0, 0) → running 0 j ≡ [] → ready 0 j ≡ 0 ∷ [] → nat_le (length j + 2) opts.entries ≡ true → Runs source [] opts (j ++ dispatch 0 0 ∷ []) w
   given {j} r o c f q h =
       more r o (gives 0 0 (record { cluster = 0; later = []; opened = c; free = f; queued = q }) (leb-true (length j + 2) opts.entries h))
 
-  acted : {j : Journal} {w : World} (x : Answer) (r : Ridden) (a : List Entry) → Runs source [] opts j w → is_over j ≡ false → running 0 j ≡ 0 ∷ [] → answer_to source.sites 0 j ≡ Some x → ride source 100 (left opts j 0) (answered x (drawn j w 0)) ≡ Some r → act opts source.sites [] j 0 0 r.made r.asked ≡ a → Runs source [] opts (j ++ a) (world_after source a w 0 r.reached)
+  pub acted : {j : Journal} {w : World} (x : Answer) (r : Ridden) (a : List Entry) → Runs source [] opts j w → is_over j ≡ false → running 0 j ≡ 0 ∷ [] → answer_to source.sites 0 j ≡ Some x → ride source 100 (left opts j 0) (answered x (drawn j w 0)) ≡ Some r → act opts source.sites [] j 0 0 r.made r.asked ≡ a → Runs source [] opts (j ++ a) (world_after source a w 0 r.reached)
   acted {j} {w} x r a run o h told e k =
       subst (λ y. Runs source [] opts (j ++ y) (world_after source y w 0 r.reached)) k (more run o (acts 0 0 r.made r.reached r.asked (record { given = x; runs = h; told = told; rides = leads source 100 (left opts j 0) (answered x (drawn j w 0)) r e })))
 
@@ -99,10 +99,10 @@ first_source = record {
 first_is : source_of first_text ≡ first_source
 first_is = refl
 
-abbrev printed : ℕ → ℕ → ℕ → List Entry
+abbrev pub printed : ℕ → ℕ → ℕ → List Entry
 printed k form value = entry kind.Print 0 0 k 0 (pos form) (pos value) ∷ []
 
-abbrev the_end : List Entry
+abbrev pub the_end : List Entry
 the_end = entry kind.End 0 0 0 0 (pos 0) (pos 0) ∷ (entry kind.Done 0 0 0 0 (pos 0) (pos 0) ∷ [])
 
 first_runs : IsRun first_source [] options first_journal

@@ -1,6 +1,6 @@
 -- Activations, executions, where they are at home, and what holds the values of a task: one family for the source and for
 -- code. C is what an activation has to do, V what a cell holds.
-use Rattle.std.specs.Prelude.{ℕ, zero, suc, ◌+◌, ◌-◌, List, [], ◌∷◌, ◌++◌, length, take, drop, replicate, Option, Some, None, Bool, false, nat_eq, if◌then◌else◌, slice_index_or, slice_set}
+use Rattle.std.specs.Prelude.{ℕ, zero, suc, ◌+◌, ◌-◌, List, [], ◌∷◌, ◌++◌, length, take, drop, replicate, Option, Some, None, Bool, true, false, nat_eq, if◌then◌else◌, slice_index_or, slice_set}
 use Rattle.uc_meaning.specs.declared.exec.Exec.{Exec}
 use Rattle.uc_meaning.specs.declared.exec.Home.{Home}
 use Rattle.uc_meaning.specs.declared.exec.Home.TheVariants.{Task, Object}
@@ -33,13 +33,16 @@ pub record Links : Type 0 where
   pub builds : ℕ
 
 -- an activation (of a routine or a handler): what is to do in it, its operands (the newest first), the object of a member's
--- call, the depth of the frame whose variables it uses, how far the search came where it handles a resumption, why it is
--- unwound, and what a return that unwinds it hands over
+-- call, the depth of the frame whose variables it uses, whether it counts as an active call, how many elements stand of the array
+-- that it builds or destroys, how far the search came where it handles a resumption, why it is unwound, and what a return that
+-- unwinds it hands over
 pub record Activation (C V : Type 0) : Type 0 where
   pub control : C
   pub operands : List V
   pub this : V
   pub frame : ℕ
+  pub counts : Bool
+  pub elements : ℕ
   pub handles : Option Visited
   pub raised : Option Reason
   pub result : V
@@ -99,12 +102,14 @@ no_links = record {
   builds = 0;
 }
 
--- one active call more, and one less
-abbrev pub one_call_more : Links → Links
-one_call_more l = record l { calls = l.calls + 1 }
+-- one active call more, and one less, where it counts
+abbrev pub one_call_more : Bool → Links → Links
+one_call_more true l = record l { calls = l.calls + 1 }
+one_call_more false l = l
 
-abbrev pub one_call_less : Links → Links
-one_call_less l = record l { calls = l.calls - 1 }
+abbrev pub one_call_less : Bool → Links → Links
+one_call_less true l = record l { calls = l.calls - 1 }
+one_call_less false l = l
 
 -- another thing under a number that is there
 abbrev pub update : {X : Type 0} → ℕ → X → List (ℕ × X) → List (ℕ × X)
@@ -231,13 +236,15 @@ module _ {C V : Type 0} where
   with_owned (Fields o) g e = change (Object o) (λ m. record m { values = g m.values }) e
 
   -- an activation as it begins, with nothing on its operands
-  abbrev pub begun : C → V → ℕ → V → Activation C V
-  begun todo this frame nothing = record { control = todo; operands = []; this = this; frame = frame; handles = None; raised = None; result = nothing }
+  abbrev pub begun : C → V → ℕ → V → Bool → Activation C V
+  begun todo this frame nothing counts = record { control = todo; operands = []; this = this; frame = frame; counts = counts; elements = 0; handles = None; raised = None; result = nothing }
 
-  -- the newest activation is left with its frame, and the one that waits for it goes on with what it is handed
-  abbrev pub returned : Option V → Activation C V → List (Activation C V) → Env C V → State C V
-  returned given c cs e = record { run = record c { operands = handed given c.operands }; callers = cs; env = record e { frames = others e.frames; links = one_call_less e.links } }
+  -- the newest activation, which counts or does not, is left with its frame, and the one that waits for it goes on with what it
+  -- is handed
+  abbrev pub returned : Option V → Bool → Activation C V → List (Activation C V) → Env C V → State C V
+  returned given counts c cs e = record { run = record c { operands = handed given c.operands }; callers = cs; env = record e { frames = others e.frames; links = one_call_less counts e.links } }
 
-  -- a call: an activation with this to do, for this object, with this frame, before one that waits for it
-  abbrev pub entered : C → V → V → List V → Activation C V → List (Activation C V) → Env C V → State C V
-  entered todo this nothing frame c cs e = record { run = begun todo this (length e.frames) nothing; callers = c ∷ cs; env = record e { frames = frame ∷ e.frames; links = one_call_more e.links } }
+  -- a call, which counts or does not: an activation with this to do, for this object, with this frame, before one that waits for
+  -- it
+  abbrev pub entered : C → V → V → List V → Bool → Activation C V → List (Activation C V) → Env C V → State C V
+  entered todo this nothing frame counts c cs e = record { run = begun todo this (length e.frames) nothing counts; callers = c ∷ cs; env = record e { frames = frame ∷ e.frames; links = one_call_more counts e.links } }

@@ -22,11 +22,11 @@ pub mod Laws
 pub mod Samples
 pub mod Runs
 pub mod SamplePrograms
+pub mod ObjectSamples
 pub mod Cuts
 pub mod Texts
 pub mod Fit
 pub mod RuleNames
-pub mod Accepted
 pub mod Sorts
 pub mod Names
 pub mod Scopes
@@ -39,7 +39,6 @@ pub mod ClassBreaks
 pub mod ItemBreaks
 pub mod OwnerBreaks
 pub mod Breaks
-pub mod BuiltForms
 pub mod Firsts
 pub mod Typed
 pub mod Unbroken

@@ -1,9 +1,9 @@
 -- The machine over the resolved tree: one quiet step of a task with its hand.
-use Rattle.std.specs.Prelude.{◌≡◌, ℕ, ◌+◌, ◌-◌, ◌*◌, ◌^◌, min, ◌++◌, ◌&&◌, ℤ, pos, negsuc, ◌+ℤ◌, ◌-ℤ◌, ◌*ℤ◌, neg_ℤ, int_div, int_rem, int_le, int_lt, List, [], ◌∷◌, length, replicate, drop, slice_get, Option, Some, None, Bool, true, false, nat_eq, nat_lt, if◌then◌else◌}
+use Rattle.std.specs.Prelude.{◌≡◌, ℕ, zero, suc, ◌+◌, ◌-◌, ◌*◌, ◌^◌, min, ◌++◌, ◌&&◌, ℤ, pos, negsuc, ◌+ℤ◌, ◌-ℤ◌, ◌*ℤ◌, neg_ℤ, int_div, int_rem, int_le, int_lt, List, [], ◌∷◌, length, replicate, drop, slice_get, Option, Some, None, Bool, true, false, nat_eq, nat_lt, if◌then◌else◌}
 use Rattle.std.specs.Int.{int_rem_euclid}
 use Rattle.std.specs.Ordering.{int_eq}
 use Rattle.uc_tree.specs.declared.limits.TheConstants.{INT_MIN, INT_MAX, CHAR_VALUES, PRINT_ITEMS, CALLS}
-use Rattle.uc_tree.specs.Source.{Shape, Character, Truth, shape_cells, field_cells, Operator, Plus, Minus, Times, Over, Modulo, Equal, NotEqual, Less, AtMost, Greater, AtLeast, Expr, Literal, Variable, Element, Load, Negated, Not, AsCharacter, AsTruth, Operate, And, Or, Assign, Update, StepBehind, Fail, Get, Set, First, Call, OfObject, Exprs, NoExprs, MoreExprs, Item, Show, ShowText, Target, Declared, Order, TestFirst, BodyFirst, NoTest, Way, ToBreak, ToContinue, ToReturn, ToEnd, Stmt, Skip, Block, Evaluate, Declare, Print, PrintTogether, Read, If, Loop, Break, Continue, Return, OfEvents, OfTasks, Stmts, Nil, Then, Scoped, Purpose, TaskMain, Procedure, Function, Builder, Routine, Source}
+use Rattle.uc_tree.specs.Source.{Shape, Character, Truth, shape_cells, field_cells, Operator, Plus, Minus, Times, Over, Modulo, Equal, NotEqual, Less, AtMost, Greater, AtLeast, Expr, Literal, Variable, Element, Load, Negated, Not, AsCharacter, AsTruth, Operate, And, Or, Assign, Update, StepBehind, Fail, Get, Set, First, Call, OfObject, ObjectExpr, This, OwnField, GetOwn, FieldOf, Counted, CallOn, CallUnwritten, EnterOn, Wait, Signal, SignalBlock, IsEmpty, FrontOf, Exprs, NoExprs, MoreExprs, Item, Show, ShowText, Target, Declared, Order, TestFirst, BodyFirst, NoTest, Way, ToBreak, ToContinue, ToReturn, ToEnd, Stmt, Skip, Block, Whole, Evaluate, Declare, Print, PrintTogether, Read, If, Loop, Break, Continue, Return, Fill, OfEvents, OfTasks, CleanUp, Destroys, DestroysAll, Stmts, Nil, Then, Scoped, Built, Purpose, TaskMain, Procedure, Function, Builder, Routine, Source}
 use Rattle.uc_tree.specs.declared.kinds.ValueForm.{ValueForm}
 use Rattle.uc_tree.specs.ValueForms.{form_number}
 use Rattle.uc_meaning.specs.declared.exec.Exec.{Exec}
@@ -23,7 +23,7 @@ use Rattle.uc_meaning.specs.Executions.{no_links, taken, begun, entered, returne
 -- a step of a path: a variable of a frame, by the first of its cells; a field of a class; an element of an array of that shape
 pub data Link : Type 0 where
   Slot : ℕ → Link
-  Part : Shape → ℕ → Link
+  FieldAt : Shape → ℕ → Link
   At : Shape → ℕ → Link
 
 -- a number; a place, by what holds it and the path there, its last step first; an execution; a mutex object; or nothing
@@ -41,6 +41,8 @@ pub data Todo : Type 0 where
   -- one thing with the newest operands
   LoadNow : Todo
   ElementNow : ℕ → Shape → Todo
+  -- the place of a field, by its number, in the object at the newest operand, whose class has this shape
+  FieldNow : Shape → ℕ → Todo
   NegateNow : Todo
   NotNow : Todo
   CharacterNow : Todo
@@ -63,6 +65,14 @@ pub data Todo : Type 0 where
   Arguments : Exprs → Todo
   TickNow : Todo
   CallNow : ℕ → Todo
+  -- the same of a routine of a class at the object below its arguments; and of one that nobody wrote
+  CallOnNow : ℕ → Todo
+  CallUnwrittenNow : ℕ → Todo
+  -- so many elements of an array stand; one more
+  CountNow : ℕ → Todo
+  MoreNow : Todo
+  -- a mark too: elements are built up to so many: what builds and what destroys the one that is counted
+  FillNow : ℕ → Expr → Expr → Todo
   -- a turn of a loop begins, by a tick: how it turns, its test, its step and its body; it begins where the newest operand is
   -- not 0
   TurnNow : Order → Expr → Option Expr → Stmt → Todo
@@ -93,17 +103,36 @@ pub data Todo : Type 0 where
   NoReturnNow : Todo
   -- marks. What stands before is the body of a loop, of a turn of it
   InLoop : Order → Expr → Option Expr → Stmt → Todo
+  -- what stands before is a block that is left as a whole
+  InWhole : Todo
+  -- an object is in scope in what stands before: it is cleaned up here
+  Clean : CleanUp → Todo
+  -- elements are destroyed, the last one first
+  Sweep : Expr → Todo
+  -- what stands before builds an object, of which this part is built: only an event that leaves it cleans the part up (to come)
+  Part : CleanUp → Todo
   -- the end of a main, which has a line
   Finish : Todo
 
--- what a piece is for one who leaves it: nothing; a loop; or the end of a main, behind which nothing is to do
+-- what a piece is for one who leaves it: nothing; a loop; a block that is left as a whole; the scope of an object; an array that is being built or destroyed; a part
+-- of an object that is being built; or the end of a main, behind which nothing is to do
 pub data Sort : Type 0 where
   Simple : Sort
   IsLoop : Order → Expr → Option Expr → Stmt → Sort
+  IsWhole : Sort
+  IsClean : CleanUp → Sort
+  IsFill : ℕ → Expr → Expr → Sort
+  IsSweep : Expr → Sort
+  IsPart : CleanUp → Sort
   IsFinish : Sort
 
 abbrev pub sort : Todo → Sort
 sort (InLoop o t s b) = IsLoop o t s b
+sort InWhole = IsWhole
+sort (Clean c) = IsClean c
+sort (FillNow n b d) = IsFill n b d
+sort (Sweep e) = IsSweep e
+sort (Part c) = IsPart c
 sort Finish = IsFinish
 sort _ = Simple
 
@@ -190,7 +219,7 @@ outcome AtLeast x y = Gives (truth (int_le y x))
 -- how far a step leads
 abbrev pub link_cells : Link → ℕ
 link_cells (Slot k) = k
-link_cells (Part s i) = field_cells s i
+link_cells (FieldAt s i) = field_cells s i
 link_cells (At s i) = i * shape_cells s
 
 -- addresses go up to the largest number
@@ -323,7 +352,7 @@ flush_step (Some (p ∷ ps)) todo vs s = Asks (print_of (p ∷ ps)) (at todo vs 
 -- the end of an activation, with what it hands over; behind the last one the task ends
 abbrev pub return_step : Value → List Active → State → Step
 return_step given [] s = Asks ask.End s
-return_step given (c ∷ cs) s = Goes (returned (Some given) c cs s.env)
+return_step given (c ∷ cs) s = Goes (returned (Some given) s.run.counts c cs s.env)
 
 -- a value as it is kept in a scalar of this shape
 abbrev pub converting : Shape → List Todo → List Todo
@@ -353,6 +382,23 @@ item_todo i todo = item_value i (item_piece i ∷ todo)
 abbrev pub turns : List Todo → State → Step
 turns todo s = goes todo s.run.operands s
 
+-- to find an object, a field, or to call a routine of a class
+abbrev pub object_step : ObjectExpr → List Todo → State → Step
+object_step This todo s = goes todo (s.run.this ∷ s.run.operands) s
+object_step (OwnField k i) todo s = goes todo (further (FieldAt k i) s.run.this ∷ s.run.operands) s
+object_step (GetOwn k i) todo s = goes todo (loaded (further (FieldAt k i) s.run.this) s.env ∷ s.run.operands) s
+object_step Counted todo s = goes todo (Number (pos s.run.elements) ∷ s.run.operands) s
+object_step (FieldOf k i a) todo s = turns (Eval a ∷ (FieldNow k i ∷ todo)) s
+object_step (CallOn r a args) todo s = turns (Eval a ∷ (Arguments args ∷ (TickNow ∷ (CallOnNow r ∷ todo)))) s
+object_step (CallUnwritten r a) todo s = turns (Eval a ∷ (CallUnwrittenNow r ∷ todo)) s
+-- to come
+object_step (EnterOn m r a args) todo s = goes todo (nought ∷ s.run.operands) s
+object_step (Wait a b) todo s = goes todo (nought ∷ s.run.operands) s
+object_step (Signal a) todo s = goes todo (nought ∷ s.run.operands) s
+object_step (SignalBlock a) todo s = goes todo (nought ∷ s.run.operands) s
+object_step (IsEmpty a) todo s = goes todo (nought ∷ s.run.operands) s
+object_step (FrontOf a) todo s = goes todo (nought ∷ s.run.operands) s
+
 -- to find a place or to evaluate
 abbrev pub eval_step : Expr → List Todo → State → Step
 eval_step (Literal n) todo s = goes todo (Number n ∷ s.run.operands) s
@@ -376,8 +422,7 @@ eval_step (Get k) todo s = goes todo (loaded (variable_at k s) s.env ∷ s.run.o
 eval_step (Set k a) todo s = turns (Eval a ∷ (SetNow k ∷ todo)) s
 eval_step (First a b) todo s = turns (Eval a ∷ (Eval b ∷ (DropNow ∷ todo))) s
 eval_step (Call r args) todo s = turns (Arguments args ∷ (TickNow ∷ (CallNow r ∷ todo))) s
--- to come
-eval_step (OfObject o) todo s = goes todo (nought ∷ s.run.operands) s
+eval_step (OfObject o) todo s = object_step o todo s
 
 -- loops
 
@@ -418,6 +463,12 @@ loop_left ToEnd o t s b todo = Exit ToEnd ∷ todo
 abbrev pub left_behind : Way → Sort → List Todo → List Todo
 left_behind w Simple todo = Exit w ∷ todo
 left_behind w (IsLoop o t s b) todo = loop_left w o t s b todo
+left_behind w IsWhole todo = todo
+-- an object is cleaned up, and then the exit goes on; a part stays as it is, and no statement stands in what goes over elements
+left_behind w (IsClean c) todo = Clean c ∷ (Exit w ∷ todo)
+left_behind w (IsFill n b d) todo = Exit w ∷ todo
+left_behind w (IsSweep e) todo = Exit w ∷ todo
+left_behind w (IsPart c) todo = Exit w ∷ todo
 left_behind w IsFinish todo = Finish ∷ todo
 
 -- an exit leaves the pieces one by one
@@ -425,10 +476,36 @@ abbrev pub exit_step : Way → List Todo → State → Step
 exit_step w [] s = end_step w s
 exit_step w (p ∷ ps) s = turns (left_behind w (sort p) ps) s
 
+-- objects
+
+-- elements are counted up to the largest number
+abbrev pub MOST_ELEMENTS : ℕ
+MOST_ELEMENTS = 2 ^ 32 - 1
+
+-- so many elements stand
+abbrev pub with_elements : ℕ → State → State
+with_elements n s = record s { run = record s.run { elements = n } }
+
+-- elements are built one after another, while fewer stand; one stands once it is built
+abbrev pub fill_todo : Bool → ℕ → Expr → Expr → List Todo → List Todo
+fill_todo false n b d todo = todo
+fill_todo true n b d todo = Eval b ∷ (DropNow ∷ (MoreNow ∷ (FillNow n b d ∷ todo)))
+
+-- the last one that stands is destroyed, and stands no more as that begins
+abbrev pub sweep_step : ℕ → Expr → List Todo → State → Step
+sweep_step zero e todo s = turns todo s
+sweep_step (suc n) e todo s = turns (Eval e ∷ (DropNow ∷ (Sweep e ∷ todo))) (with_elements n s)
+
+-- an object is destroyed; so are all elements of an array
+abbrev pub clean_todo : CleanUp → List Todo → List Todo
+clean_todo (Destroys e) todo = Eval e ∷ (DropNow ∷ todo)
+clean_todo (DestroysAll n e) todo = CountNow n ∷ (Sweep e ∷ todo)
+
 -- to do a statement
 abbrev pub stmt_step : Stmt → List Todo → State → Step
 stmt_step (Skip line) todo s = turns todo s
 stmt_step (Block line body) todo s = turns (Rest body ∷ (Within line ∷ todo)) s
+stmt_step (Whole line body) todo s = turns (Rest body ∷ (InWhole ∷ (Within line ∷ todo))) s
 stmt_step (Evaluate line a) todo s = turns (Eval a ∷ (DropNow ∷ (Within line ∷ todo))) s
 stmt_step (Declare line ds) todo s = turns (Variables ds ∷ (Within line ∷ todo)) s
 stmt_step (Print line items) todo s = turns (Items items ∷ (Within line ∷ todo)) s
@@ -441,6 +518,7 @@ stmt_step (Break line) todo s = turns (Exit ToBreak ∷ todo) s
 stmt_step (Continue line) todo s = turns (Exit ToContinue ∷ todo) s
 stmt_step (Return line None) todo s = turns (Exit ToEnd ∷ todo) s
 stmt_step (Return line (Some e)) todo s = turns (Eval e ∷ (Exit ToReturn ∷ (Within line ∷ todo))) s
+stmt_step (Fill line n b d) todo s = turns (CountNow 0 ∷ (FillNow n b d ∷ (Within line ∷ todo))) s
 -- to come
 stmt_step (OfEvents a) todo s = turns todo s
 stmt_step (OfTasks a) todo s = turns todo s
@@ -449,13 +527,14 @@ stmt_step (OfTasks a) todo s = turns todo s
 abbrev pub rest_step : Stmts → List Todo → State → Step
 rest_step Nil todo s = turns todo s
 rest_step (Then a rest) todo s = turns (Do a ∷ (Rest rest ∷ todo)) s
--- to come
-rest_step (Scoped line e c rest) todo s = turns todo s
+rest_step (Scoped c rest) todo s = turns (Rest rest ∷ (Clean c ∷ todo)) s
+rest_step (Built c rest) todo s = turns (Rest rest ∷ (Part c ∷ todo)) s
 
--- what is to do behind a routine's body: a main ends, in the line of its block; where a value is owed, that is a fault there
+-- what is to do behind a routine's statements, and their line: a main ends; where a value is owed, that is a fault. What builds
+-- and destroys the fields of an object is in no statement, and the body in one of its own
 abbrev pub behind_body : Purpose → ℕ → List Todo
 behind_body TaskMain line = Finish ∷ (Within line ∷ [])
-behind_body Procedure line = []
+behind_body Procedure line = Within line ∷ []
 behind_body Function line = NoReturnNow ∷ (Within line ∷ [])
 behind_body Builder line = []
 
@@ -467,13 +546,33 @@ routine_todo r = Rest r.body ∷ behind_body r.purpose r.line
 abbrev pub call_frame : Routine → List Value → List Value
 call_frame r vs = taken Nothing r.params vs (replicate (r.cells - r.params) nought)
 
+-- a routine begins with the newest operands as its parameters, for this object, as a call that counts or does not; this is left
+-- to do and these operands are left to its caller
+abbrev pub begun_step : Routine → Value → Bool → List Todo → List Value → State → Step
+begun_step r this counts todo vs s =
+    Goes (entered (routine_todo r) this Nothing (call_frame r s.run.operands) counts (record s.run { control = todo; operands = vs }) s.callers s.env)
+
 -- a call; one too many is a fault
 abbrev pub call_step : Option Routine → List Todo → State → Step
 call_step None todo s = Asks ask.End (at todo s.run.operands s)
 call_step (Some r) todo s =
     if nat_lt s.env.links.calls CALLS
-    then Goes (entered (routine_todo r) Nothing Nothing (call_frame r s.run.operands) (record s.run { control = todo; operands = drop r.params s.run.operands }) s.callers s.env)
+    then begun_step r Nothing true todo (drop r.params s.run.operands) s
     else fault Depth todo s.run.operands s
+
+-- the same at the object below the arguments
+abbrev pub call_on_step : Option Routine → List Todo → State → Step
+call_on_step None todo s = Asks ask.End (at todo s.run.operands s)
+call_on_step (Some r) todo s =
+    if nat_lt s.env.links.calls CALLS
+    then begun_step r (top (drop r.params s.run.operands)) true todo (below (drop r.params s.run.operands)) s
+    else fault Depth todo s.run.operands s
+
+-- what nobody wrote is no active call
+abbrev pub call_unwritten_step : Option Routine → List Todo → State → Step
+call_unwritten_step None todo s = Asks ask.End (at todo s.run.operands s)
+call_unwritten_step (Some r) todo s =
+    begun_step r (top (drop r.params s.run.operands)) false todo (below (drop r.params s.run.operands)) s
 
 -- the next step in a source, by what is to do
 module _ (source : Source) where
@@ -482,6 +581,7 @@ module _ (source : Source) where
   act LoadNow todo s = goes todo (loaded (top s.run.operands) s.env ∷ below s.run.operands) s
   act (ElementNow n k) todo s =
       element_step k (index_in n (number (top s.run.operands))) todo (top (below s.run.operands)) (below (below s.run.operands)) s
+  act (FieldNow k i) todo s = goes todo (further (FieldAt k i) (top s.run.operands) ∷ below s.run.operands) s
   act NegateNow todo s = outcome_step (int_outcome (neg_ℤ (number (top s.run.operands)))) todo (below s.run.operands) s
   act NotNow todo s = goes todo (Number (truth (is_zero (number (top s.run.operands)))) ∷ below s.run.operands) s
   act CharacterNow todo s = goes todo (Number (as_character (number (top s.run.operands))) ∷ below s.run.operands) s
@@ -504,6 +604,11 @@ module _ (source : Source) where
   act (Arguments NoExprs) todo s = turns todo s
   act (Arguments (MoreExprs e es)) todo s = turns (Eval e ∷ (Arguments es ∷ todo)) s
   act (CallNow r) todo s = call_step (slice_get source.routines r) todo s
+  act (CallOnNow r) todo s = call_on_step (slice_get source.routines r) todo s
+  act (CallUnwrittenNow r) todo s = call_unwritten_step (slice_get source.routines r) todo s
+  act (CountNow n) todo s = turns todo (with_elements n s)
+  act MoreNow todo s = turns todo (with_elements (min (s.run.elements + 1) MOST_ELEMENTS) s)
+  act (FillNow n b d) todo s = turns (fill_todo (nat_lt s.run.elements n) n b d todo) s
   act (Again o t e b) todo s =
       goes (if is_zero (number (top s.run.operands)) then todo else TurnNow o t e b ∷ todo) (below s.run.operands) s
   act (PrintNow form) todo s = print_step s.env.gathered (piece (form_number form) (number (top s.run.operands))) todo (below s.run.operands) s
@@ -529,6 +634,10 @@ module _ (source : Source) where
   act (Exit w) todo s = exit_step w todo s
   act NoReturnNow todo s = fault NoReturn todo s.run.operands s
   act (InLoop o t e b) todo s = turns (step_todo e (test_todo o t e b todo)) s
+  act InWhole todo s = turns todo s
+  act (Clean c) todo s = turns (clean_todo c todo) s
+  act (Sweep e) todo s = sweep_step s.run.elements e todo s
+  act (Part c) todo s = turns todo s
   act Finish todo s = return_step nought s.callers s
 
   abbrev pub act_todo : List Todo → State → Step
@@ -551,7 +660,7 @@ no_members = record { values = []; serial = 0; parked = [] }
 -- the own execution of the task whose object is o, as its main begins, inside its object
 abbrev pub first_state : Routine → ℕ → State
 first_state r o = record {
-  run = begun (routine_todo r) (Object o) 0 Nothing;
+  run = begun (routine_todo r) (Object o) 0 Nothing false;
   callers = [];
   env = record {
     frames = replicate r.cells nought ∷ [];

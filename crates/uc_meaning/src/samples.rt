@@ -2,6 +2,7 @@
 
 ghost use Rattle.uc_meaning.specs.Samples.{FirstProgram, AcceptedDestructor, Sliced, Unserved, CallSamples, ConditionSamples, AcceptSamples, BusySamples, EventSamples, OtherSamples, BoundSamples};
 ghost use Rattle.uc_meaning.specs.SamplePrograms.{FirstRun, LoopRun, CallRun};
+ghost use Rattle.uc_meaning.specs.ObjectSamples.{NestedRun, ArrayRun, MemberRun, UnwrittenRun, ReferenceRun};
 
 /// The journal of a program that prints one line is a run of a kernel.
 pub fn first_program()
@@ -71,4 +72,30 @@ pub fn loop_run()
 /// So is that of a program with two calls, of which the second divides by 0.
 pub fn call_run()
     ensures { CallRun }
+{}
+
+/// The journal of a program whose objects have objects as fields is a run of it: fields are built in order and before the body,
+/// and destroyed in reverse and behind it.
+pub fn nested_run()
+    ensures { NestedRun }
+{}
+
+/// So is that of a program in which `break` leaves an array of objects.
+pub fn array_run()
+    ensures { ArrayRun }
+{}
+
+/// So is that of a program with a member that calls another one, and that stands outside of its class.
+pub fn member_run()
+    ensures { MemberRun }
+{}
+
+/// So is that of a program with a class of which neither constructor nor destructor is written.
+pub fn unwritten_run()
+    ensures { UnwrittenRun }
+{}
+
+/// So is that of a program with references as parameters and fields, and with a fault in an initialiser.
+pub fn reference_run()
+    ensures { ReferenceRun }
 {}

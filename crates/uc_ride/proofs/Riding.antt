@@ -1,9 +1,9 @@
 -- Ops, one after another, are a ride of the source.
-use Rattle.std.proofs.Common.{◌≡◌, ℕ, zero, suc, ◌+◌, ◌<◌, Option, Some, None, refl, sym, subst, arith}
+use Rattle.std.proofs.Common.{◌≡◌, ℕ, zero, suc, ◌+◌, ◌<◌, Some, None, refl, sym, subst, arith}
 use Rattle.uc_tree.specs.Source.{Source}
 use Rattle.uc_meaning.specs.declared.request.Asked.{Asked}
 use Rattle.uc_meaning.specs.declared.request.Request.TheVariants as ask
-use Rattle.uc_meaning.specs.Quiet.{State, line_of}
+use Rattle.uc_meaning.specs.Quiet.{State}
 use Rattle.uc_meaning.specs.Rides.{Rides, slices, asked_in}
 use Rattle.uc_code.specs.Codes.{Code}
 use Rattle.uc_code.specs.Laid.{laid_of}
@@ -17,7 +17,7 @@ use Rattle.uc_step.specs.declared.onward.Onward.TheVariants.{Asks}
 use Rattle.uc_step.specs.Follow.{behind_line, StandsAfter, Follow}
 use Rattle.uc_step.specs.Onwards.{OnwardFollow}
 use Rattle.uc_step.proofs.Rode.{quiet_rides, tick_rides, ask_rides}
-use Rattle.uc_ride.specs.Rode.{OnWay, HasCome, HasBurst, IsOnWay, HasRidden}
+use Rattle.uc_ride.specs.Rode.{HasCome, HasBurst, IsOnWay, HasRidden}
 
 module _ (code : Code) where
   pub come_first : (m : Machine) → HasCome code m m

@@ -1,4 +1,5 @@
 pub mod CellTables
+pub mod Depths
 pub mod PlacesLemmas
 pub mod Reached
 pub mod Sized

@@ -30,7 +30,7 @@ unfolding reaches
 further zero rows to from e = cc
 further (suc k) rows to from e = leads_true (reaches k rows to) (reaches (suc k) rows to) to (λ i. further k rows to i) (row_at rows from).held e
 
-much_further : (m k : ℕ) (rows : List Row) (to from : ℕ) → reaches k rows to from ≡ true → reaches (m + k) rows to from ≡ true
+pub much_further : (m k : ℕ) (rows : List Row) (to from : ℕ) → reaches k rows to from ≡ true → reaches (m + k) rows to from ≡ true
 much_further zero k rows to from e = let z : 0 + k ≡ k = omega arith in rw z e
 much_further (suc m) k rows to from e = let z : suc m + k ≡ suc (m + k) = omega arith in rw z (further (m + k) rows to from (much_further m k rows to from e))
 

@@ -1,4 +1,5 @@
 pub mod CellTables
+pub mod Depths
 pub mod Held
 pub mod Known
 pub mod Places

@@ -169,7 +169,8 @@ fn members_held<N: NameValues>(
     Ok(held)
 }
 
-fn leading_cells(kind: Kind) -> u32
+/// The cells before the fields of an object of a class of this kind.
+pub fn leading_cells(kind: Kind) -> u32
     ensures { result ≡ leading_cells kind }
 {
     match kind {

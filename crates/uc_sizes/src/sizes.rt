@@ -3,7 +3,8 @@
 ghost use Rattle.std.specs.Prelude.{◌≡◌, ℕ, IfOk, false, map, option_map, slice_get};
 ghost use Rattle.uc_tree.specs.Capped.{capped};
 ghost use Rattle.uc_tree.specs.Cells.{class_cells, classes_of, declared_cells, held_by, object_of, param_cells, rows_of, seen_in};
-ghost use Rattle.uc_tree.specs.Rows.{element_cells, has_itself, reaches};
+ghost use Rattle.uc_tree.specs.Objects.{class_at, plain_class, plain_in};
+ghost use Rattle.uc_tree.specs.Rows.{element_cells, has_itself, held_cells, reaches, row_at};
 ghost use Rattle.uc_sizes.specs.Reached.{IsCircle, Reaching};
 ghost use Rattle.uc_sizes.specs.Known.{known_by};
 ghost use Rattle.uc_sizes.specs.Places.{IsPlaces};
@@ -86,6 +87,37 @@ fn rows_in<'x, 'y>(
     Ok(rows)
 }
 
+fn class_at<'a>(classes: &[&'a Class], place: usize) -> Option<&'a Class>
+    ensures { option_map (λ c. c.now) result ≡ slice_get (map (λ c. c.now) classes.now) place }
+{
+    classes.get(place).copied()
+}
+
+// What the class with this place holds; nothing beyond the last.
+fn held_at(rows: &[Row], place: usize) -> &[Held]
+    ensures { result.now ≡ (row_at rows.now place).held }
+{
+    match rows.get(place) {
+        Some(row) => &row.held,
+        None => &[],
+    }
+}
+
+fn plain_in(object: Option<Object>) -> Option<usize>
+    ensures { result ≡ plain_in object }
+{
+    match object {
+        Some(object) => {
+            if object.plain {
+                Some(object.class)
+            } else {
+                None
+            }
+        }
+        None => None,
+    }
+}
+
 fn constant_at<'a>(constants: &[&'a Constant], place: usize) -> Option<&'a Constant>
     ensures { result ≡ slice_get constants.now place }
 {
@@ -147,6 +179,20 @@ impl<'a> Sizes<'a> {
     {
         let found = self.circle_at(place);
         found
+    }
+
+    /// The class with this place among the classes of the program, events included.
+    pub fn class(&self, place: usize) -> Option<&'a Class>
+        ensures { option_map (λ c. c.now) result ≡ class_at self.now place }
+    {
+        class_at(&self.classes, place)
+    }
+
+    /// What the fields of the class with this place hold, in order; nothing beyond the last class.
+    pub fn held_by_class(&self, place: usize) -> &[Held]
+        ensures { result.now ≡ (row_at (rows_of self.now) place).held }
+    {
+        held_at(&self.rows, place)
     }
 
     fn circle_at(&self, place: usize) -> bool
@@ -233,6 +279,21 @@ impl<'a> Sizes<'a> {
         object_of(&self.classes(), base)
     }
 
+    /// The class of plain objects that a base names, by its place.
+    pub fn plain_class(&self, base: &Base) -> Option<usize>
+        ensures { result ≡ plain_class self.now base.now }
+    {
+        plain_in(self.object(base))
+    }
+
+    /// The cells of what a field holds.
+    #[tactic(auto, using(crate::proofs::CellTables::capped_mul))]
+    pub fn cells_of_held(&self, held: &Held) -> u64
+        ensures { result ≡ capped (held_cells (class_cells self.now) held.now) }
+    {
+        u64::from(held.count).saturating_mul(self.cells_of_element(held.object))
+    }
+
     // The cells of one element.
     fn cells_of_element(&self, object: Option<Object>) -> u64
         ensures { result ≡ capped (element_cells (class_cells self.now) object) }
@@ -241,12 +302,10 @@ impl<'a> Sizes<'a> {
     }
 
     /// The cells of a variable.
-    #[tactic(auto, using(crate::proofs::CellTables::capped_mul))]
     pub fn cells_of_variable(&self, base: &Base, declarator: &Declarator) -> u64
         ensures { result ≡ capped (declared_cells self.now base.now declarator.now) }
     {
-        let held = self.held(base, declarator);
-        u64::from(held.count).saturating_mul(self.cells_of_element(held.object))
+        self.cells_of_held(&self.held(base, declarator))
     }
 
     /// The cells of a parameter.

@@ -12,9 +12,9 @@ pub mod SimulateOutside
 pub mod Routines
 pub mod Starts
 pub mod SimulateControl
+pub mod SimulateElements
 pub mod SimulateCalls
 pub mod Simulate
 pub mod Rode
-pub mod Powers
 pub mod Falls
 pub mod Onwards

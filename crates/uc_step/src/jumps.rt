@@ -1,13 +1,15 @@
 // The ops that go on elsewhere, calls, and the ends of activations.
 
 ghost use Rattle.std.specs.Prelude.{◌≡◌, IfOk, OnOk, OnErr, Some};
-ghost use Rattle.uc_step.specs.Acts.{act_call, act_return, Does, Ends};
+ghost use Rattle.uc_step.specs.Acts.{act_enter, act_return, Does, Ends};
+ghost use Rattle.uc_frames.specs.Left.{plain_call, object_call};
 
 use crate::stepped::{Stepped, asked, faulted};
 use std::alloc::AllocError;
 use uc_code::code::Code;
 use uc_code::op::Op;
 use uc_code::rows::RoutineCode;
+use uc_frames::call::Call;
 use uc_frames::cell::{Cell, number_in};
 use uc_frames::work::Work;
 use uc_meaning::fault::RunFault;
@@ -92,26 +94,84 @@ pub(crate) fn call(
     match code.routine(number) {
         None => Ok(asked(code, line, work, Request::End)),
         Some(routine) => {
-            let how = enter(code, line, work, routine)?;
+            let how = enter(code, line, work, plain_call(routine))?;
             Ok(how)
         }
     }
 }
 
-// A call, unless too many are active.
-fn enter(
-    code: &Code,
-    line: u32,
-    work: &mut Work,
-    routine: RoutineCode,
-) -> Result<Stepped, AllocError>
-    ensures ok { IfOk result (λ how. Ends (act_call code.now line (Some routine) work.old) how work.new) }
+// An active call, unless there are too many.
+fn enter(code: &Code, line: u32, work: &mut Work, call: Call) -> Result<Stepped, AllocError>
+    ensures ok { IfOk result (λ how. Ends (act_enter code.now line call work.old) how work.new) }
     ensures err { OnErr result (work.new ≡ work.old) }
 {
     if work.calls() < CALLS {
-        work.enter(routine, Cell::Nothing)?;
+        work.enter(call)?;
         Ok(Stepped::Quiet)
     } else {
         Ok(faulted(code, line, work, RunFault::Depth))
+    }
+}
+
+// A call without an object, which counts.
+pub(crate) fn plain_call(routine: RoutineCode) -> Call
+    ensures { result ≡ plain_call routine }
+{
+    Call {
+        routine,
+        this: Cell::Nothing,
+        taken: u64::from(routine.params),
+        counts: true,
+    }
+}
+
+// A call at the object below the arguments.
+pub(crate) fn object_call(routine: RoutineCode, counts: bool, work: &Work) -> Call
+    ensures { result ≡ object_call routine counts work.now }
+{
+    Call {
+        routine,
+        this: work.below(routine.params),
+        taken: u64::from(routine.params) + 1,
+        counts,
+    }
+}
+
+pub(crate) fn call_on(
+    code: &Code,
+    line: u32,
+    work: &mut Work,
+    number: u32,
+) -> Result<Stepped, AllocError>
+    ensures ok { IfOk result (λ how. Does code.now line (Op.CallOn number) work.old how work.new) }
+    ensures err { OnErr result (work.new ≡ work.old) }
+{
+    match code.routine(number) {
+        None => Ok(asked(code, line, work, Request::End)),
+        Some(routine) => {
+            let call = object_call(routine, true, work);
+            let how = enter(code, line, work, call)?;
+            Ok(how)
+        }
+    }
+}
+
+// A call of what nobody wrote, which is no active call.
+pub(crate) fn call_unwritten(
+    code: &Code,
+    line: u32,
+    work: &mut Work,
+    number: u32,
+) -> Result<Stepped, AllocError>
+    ensures ok { IfOk result (λ how. Does code.now line (Op.CallUnwritten number) work.old how work.new) }
+    ensures err { OnErr result (work.new ≡ work.old) }
+{
+    match code.routine(number) {
+        None => Ok(asked(code, line, work, Request::End)),
+        Some(routine) => {
+            let call = object_call(routine, false, work);
+            work.enter(call)?;
+            Ok(Stepped::Quiet)
+        }
     }
 }

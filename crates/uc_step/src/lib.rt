@@ -5,6 +5,7 @@ pub mod begin;
 mod jumps;
 mod memory;
 mod numbers;
+mod objects;
 pub mod onward;
 mod operators;
 mod outside;

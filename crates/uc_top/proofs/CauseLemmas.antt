@@ -14,7 +14,7 @@ use Rattle.uc_parse_class.specs.Found.{NoProgram}
 use Rattle.uc_meaning.specs.declared.rule.Rule.{Rule}
 use Rattle.uc_meaning.specs.declared.rule.Break.{Break}
 use Rattle.uc_meaning.specs.Breaks.{breaks_of}
-use Rattle.uc_meaning.specs.BuiltForms.{IsBuilt, is_built}
+use Rattle.uc_built.specs.BuiltForms.{IsBuilt, is_built}
 use Rattle.uc_top.specs.declared.refusals.Refusal.{Refusal}
 use Rattle.uc_top.specs.declared.refusals.Refusal.TheVariants.{Lexical, Syntax, TooDeep, Broken}
 use Rattle.uc_top.specs.Built.{BreaksFirst, HasDeepFault, HasFault, HasLargeCode, HasLargeFrame, HasSyntaxFault, IsTextOf, IsUnbuilt, Spells, place_of}

@@ -10,7 +10,7 @@ use Rattle.uc_code.specs.Lowered.{Lowered}
 use Rattle.uc_meaning.specs.declared.entry.Options.{Options}
 use Rattle.uc_meaning.specs.Journal.{Journal}
 use Rattle.uc_meaning.specs.Texts.{printed}
-use Rattle.uc_meaning.specs.Accepted.{IsAccepted}
+use Rattle.uc_built.specs.Accepted.{IsAccepted}
 use Rattle.uc_top.specs.declared.endings.Ending.{Ending}
 use Rattle.uc_top.specs.Endings.{EndsWith, EndsAlone}
 use Rattle.uc_top.specs.Built.{ProgramRan, told_text}

@@ -16,10 +16,10 @@ use Rattle.uc_parse_class.specs.Found.{FirstTooDeep, NeverProgram, NoProgram}
 use Rattle.uc_meaning.specs.declared.entry.Options.{Options}
 use Rattle.uc_meaning.specs.Journal.{Journal}
 use Rattle.uc_meaning.specs.declared.rule.Rule.{Rule}
-use Rattle.uc_meaning.specs.BuiltForms.{IsBuilt, is_built}
+use Rattle.uc_built.specs.BuiltForms.{IsBuilt, is_built}
 use Rattle.uc_meaning.specs.Breaks.{breaks_of}
 use Rattle.uc_meaning.specs.Firsts.{IsFirst}
-use Rattle.uc_meaning.specs.Accepted.{FitFrames, IsAccepted}
+use Rattle.uc_built.specs.Accepted.{FitFrames, IsAccepted}
 use Rattle.uc_meaning.specs.Runs.{IsRun}
 use Rattle.uc_meaning.specs.Texts as texts
 use Rattle.uc_outside.specs.Reading.{StoreState, KeepsFiles, ReadBytes, HasFile}
@@ -59,7 +59,7 @@ pub record HasLargeFrame (program : Program) : Type 0 where
 -- one whose frames fit, and whose size is greater than that of a program may be
 pub record HasLargeCode (program : Program) : Type 0 where
   pub runnable : IsRunnable program
-  pub frames : FitFrames program program.items
+  pub frames : FitFrames program
   pub large : PROGRAM_SIZE < program_size program
 
 -- the text of a journal, where it is asked for

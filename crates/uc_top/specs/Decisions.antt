@@ -11,7 +11,7 @@ use Rattle.uc_meaning.specs.KernelRuns.{InRange}
 use Rattle.uc_outside.specs.Reading.{StoreState, ReadFailed, ReadTooLong}
 use Rattle.uc_outside.specs.Taking.{SinkState, Took}
 use Rattle.uc_words.specs.Words.{Command, RunFile, CheckFile, LowerFile, MakeProgram}
-use Rattle.uc_meaning.specs.Accepted.{IsAccepted}
+use Rattle.uc_built.specs.Accepted.{IsAccepted}
 use Rattle.uc_top.specs.declared.program.Purpose.{Purpose}
 use Rattle.uc_top.specs.declared.program.Purpose.TheVariants.{Run, Check, Lower}
 use Rattle.uc_top.specs.declared.endings.Ending.{Ending}

@@ -4,7 +4,7 @@ ghost use Rattle.std.specs.Prelude.{◌≡◌, ◌≤◌, ◌∷◌, ◌++◌, [
 ghost use Rattle.uc_tree.specs.declared.limits.TheConstants.{INPUT_BYTES, MAKE_MAX};
 ghost use Rattle.uc_tree.specs.Resolve.{source_of};
 ghost use Rattle.uc_meaning.specs.Breaks.{breaks_of};
-ghost use Rattle.uc_meaning.specs.Accepted.{IsAccepted};
+ghost use Rattle.uc_built.specs.Accepted.{IsAccepted};
 ghost use Rattle.uc_code.specs.Pace.{IsPaced};
 ghost use Rattle.uc_code.specs.Lowered.{Lowered};
 ghost use Rattle.uc_meaning.specs.Texts.{printed};
@@ -180,8 +180,8 @@ fn run_code(
     requires options { AreAlone opts }
     ensures { IfOk result (λ run. ProgramRan program.now input.now opts too run.journal.items run.output.items run.ending) }
 {
-    // There are fewer items than bytes of a text.
-    let Ok(main) = u32::try_from(number_of_main(&program.items)) else {
+    // There are fewer routines than bytes of a text.
+    let Some(main) = number_of_main(&program.items) else {
         return Err(AllocError);
     };
     let journal = run_alone(alloc, code, main, input, opts)?;

@@ -11,8 +11,11 @@ pub mod ExpressionViews
 pub mod Expressions
 pub mod Gathered
 pub mod ItemViews
+pub mod Laws
 pub mod Names
 pub mod Numbering
+pub mod Objects
+pub mod Paths
 pub mod ProgramCodes
 pub mod ProgramMain
 pub mod ProgramViews

@@ -102,16 +102,24 @@ mutual
     NoExprs : Exprs
     MoreExprs : Expr → Exprs → Exprs
 
-  -- what asks for an object (to come)
+  -- what asks for an object
   pub data ObjectExpr : Type 0 where
     -- the object of the running member's call
     This : ObjectExpr
-    -- a field, by its number, of an object of a class of this shape
+    -- the place of a field of that object, by its number, where its class has this shape; and what that place holds
+    OwnField : Shape → ℕ → ObjectExpr
+    GetOwn : Shape → ℕ → ObjectExpr
+    -- the place of a field of the object at a place
     FieldOf : Shape → ℕ → Expr → ObjectExpr
-    -- a member's routine is called at an object; a mutex member, by its number, enters it first
+    -- the number of the element of an array that is built or destroyed
+    Counted : ObjectExpr
+    -- a written routine of a class is called at an object: a member, a constructor or a destructor
     CallOn : ℕ → Expr → Exprs → ObjectExpr
+    -- so is a constructor or a destructor that nobody wrote, which has no parameters and makes no tick
+    CallUnwritten : ℕ → Expr → ObjectExpr
+    -- a mutex member, by its number, enters its object first (to come)
     EnterOn : ℕ → ℕ → Expr → Exprs → ObjectExpr
-    -- conditions of the object of the running call, by their numbers
+    -- conditions of the object of the running call, by their numbers (to come)
     Wait : Expr → Expr → ObjectExpr
     Signal : Expr → ObjectExpr
     SignalBlock : Expr → ObjectExpr
@@ -140,17 +148,18 @@ pub record Raised : Type 0 where
   pub constructor : Option ℕ
   pub args : Exprs
 
--- what the end of a scope does (to come): the variable of an object is destroyed by a routine; so are the elements of an array,
--- by a variable that counts them, the first one, how many there are and the cells of each
+-- what cleans up an object: its destruction; of an array of so many objects, the destruction of the one that is counted
 pub data CleanUp : Type 0 where
-  Destroys : ℕ → ℕ → CleanUp
-  DestroysAll : ℕ → ℕ → ℕ → ℕ → ℕ → CleanUp
+  Destroys : Expr → CleanUp
+  DestroysAll : ℕ → Expr → CleanUp
 
 mutual
   -- a statement, with its line
   pub data Stmt : Type 0 where
     Skip : ℕ → Stmt
     Block : ℕ → Stmts → Stmt
+    -- a block that is left as a whole: whatever leaves its statements goes on behind it
+    Whole : ℕ → Stmts → Stmt
     Evaluate : ℕ → Expr → Stmt
     Declare : ℕ → List Declared → Stmt
     Print : ℕ → List Item → Stmt
@@ -165,6 +174,9 @@ mutual
     Continue : ℕ → Stmt
     -- with the value that is handed over, as the routine's result keeps it
     Return : ℕ → Option Expr → Stmt
+    -- so many objects are built from the first one on: what builds the one that is counted, and what destroys it where an event
+    -- comes before all are built (to come)
+    Fill : ℕ → ℕ → Expr → Expr → Stmt
     OfEvents : EventStmt → Stmt
     OfTasks : TaskStmt → Stmt
 
@@ -172,8 +184,10 @@ mutual
   pub data Stmts : Type 0 where
     Nil : Stmts
     Then : Stmt → Stmts → Stmts
-    -- an object is in scope in what is left of the block, whose line this is: what builds it, and what cleans it up (to come)
-    Scoped : ℕ → Expr → CleanUp → Stmts → Stmts
+    -- an object is in scope in these statements: it is cleaned up behind them, and by what leaves them
+    Scoped : CleanUp → Stmts → Stmts
+    -- a part of the object that is under construction is built: an event that leaves these statements cleans it up (to come)
+    Built : CleanUp → Stmts → Stmts
 
   -- what raises, handles and enables events, with its line (to come)
   pub data EventStmt : Type 0 where
@@ -208,7 +222,7 @@ mutual
     MoreClauses : Option Expr → Stmt → Clauses → Clauses
 
 -- what a routine is: the main of a task; a routine without a value, which hands over 0; a routine with a value, whose end is a
--- fault; a constructor or a destructor (to come)
+-- fault; a constructor or a destructor, of whose statements the body is a block
 pub data Purpose : Type 0 where
   TaskMain : Purpose
   Procedure : Purpose
@@ -216,7 +230,8 @@ pub data Purpose : Type 0 where
   Builder : Purpose
 
 -- a routine: the line of its body's block, the cells of its frame, how many of them hold its parameters, what it is, whether
--- it is written, and its body
+-- it is written, and its statements: those of its body, in a constructor behind what builds the fields, in a destructor before
+-- what destroys them
 pub record Routine : Type 0 where
   pub line : ℕ
   pub cells : ℕ

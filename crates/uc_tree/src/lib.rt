@@ -7,6 +7,7 @@ pub mod declare;
 pub mod expr;
 pub mod int;
 pub mod kinds;
+pub mod laws;
 pub mod limits;
 pub mod name;
 pub mod ops;

@@ -1,7 +1,7 @@
 use Rattle.std.proofs.Common.{◌≡◌, ◌≤◌, ◌+◌, ◌*◌, drop}
 use Rattle.uc_tree.specs.Statements.{stmts_of}
 use Rattle.uc_tree.specs.StatementSizes.{stmt_size, stmts_size}
-use Rattle.uc_meaning.specs.BuiltForms.{are_built}
+use Rattle.uc_built.specs.BuiltForms.{are_built}
 use Rattle.uc_built.proofs.forms.+forms.Given as goal
 
 abbrev pub invariant-are_built-loop-s : goal.invariant-are_built-loop-s

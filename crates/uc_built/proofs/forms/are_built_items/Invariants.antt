@@ -1,5 +1,5 @@
 use Rattle.std.proofs.Common.{◌≡◌, drop}
-use Rattle.uc_meaning.specs.BuiltForms.{are_built_items}
+use Rattle.uc_built.specs.BuiltForms.{are_built_items}
 use Rattle.uc_built.proofs.forms.are_built_items.Given as goal
 
 abbrev pub invariant-loop-item : goal.invariant-loop-item

@@ -1,5 +1,5 @@
 use Rattle.std.proofs.Common.{◌≡◌, drop}
-use Rattle.uc_meaning.specs.BuiltForms.{are_plain}
+use Rattle.uc_built.specs.BuiltForms.{are_plain}
 use Rattle.uc_built.proofs.forms.are_plain.Given as goal
 
 abbrev pub invariant-loop-declarator : goal.invariant-loop-declarator

@@ -1,7 +1,7 @@
-use Rattle.std.proofs.Common.{◌≡◌, ◌+◌, ◌≤◌, drop}
+use Rattle.std.proofs.Common.{◌≡◌, ◌+◌, drop}
 use Rattle.uc_tree.specs.Programs.{Program}
 use Rattle.uc_tree.specs.ProgramMain.{main_among}
 use Rattle.uc_lower.proofs.program_main.number_of_main.Given as goal
 
 abbrev pub invariant-loop-item : goal.invariant-loop-item
-invariant-loop-item l = (l.number ≤ l.item-index) × ((p : Program) → l.number + main_among p (drop l.item-index l.items) ≡ main_among p l.items)
+invariant-loop-item l = (p : Program) → l.number + main_among p (drop l.item-index l.items) ≡ main_among p l.items

@@ -1,4 +1,4 @@
-use Rattle.std.proofs.Common.{ℕ, ◌+◌, sym, subst, arith}
+use Rattle.std.proofs.Common.{◌+◌, ℕ, length, nat_eq, refl, sym, subst, ap, ◌∙◌, arith}
 use Rattle.uc_tree.specs.Numbering.{routines_of}
 use Rattle.uc_numbers.specs.Routines.{defined_at}
 use Rattle.uc_lower.proofs.Ending.{Stands, found_at, as_many, follows, stands_none, stands_next}
@@ -6,37 +6,103 @@ use Rattle.uc_lower.proofs.Laying.{lays_none}
 use Rattle.uc_lower.proofs.routines.lower_routines.Goals as goal
 
 pub loop-number-init : goal.loop-number-init
-loop-number-init c =
+loop-number-init c = stands_none c.args.names.now (length c.args.out.now.routines) c.args.out.now (lays_none c.args.names.now (routines_of c.args.names.now) (length c.args.out.now.routines) c.args.out.now c.requires.ops c.requires.outside refl)
+
+pub lower_written-requires-clause-alone : goal.lower_written-requires-clause-alone
+lower_written-requires-clause-alone c =
     let n = as_many c.args.defined.now (routines_of c.args.names.now) c.requires.defined in
-    let t = c.requires.table in
     let k = c.requires.count in
-    stands_none c.args.names.now c.args.out.now (lays_none c.args.names.now (routines_of c.args.names.now) c.args.out.now c.requires.ops c.requires.rows (omega (arith, n, t, k)))
+    let l = c.loop-number-test.true in
+    let t = c.requires.table in
+    let at = found_at c.args.defined.now (routines_of c.args.names.now) c.loop-number.number c.index-defined-number.result c.requires.defined (omega (arith, k, l)) c.index-defined-number.is in
+    let f = follows c.args.names.now (length c.args.out.now.routines) c.loop-number.number c.loop-number.texts c.loop-number.sites (defined_at c.index-defined-number.result) c.loop-number.out c.requires.built c.requires.unbroken c.requires.fits (omega (arith, n, k, t)) at c.loop-number.invariant in
+    λ e. ap (nat_eq c.loop-number.number) c.requires.main ∙ f.alone e
 
-pub lower_routine-requires-clause-built : goal.lower_routine-requires-clause-built
-lower_routine-requires-clause-built c = (follows c.args.names.now c.loop-number.number c.loop-number.texts c.loop-number.sites (defined_at c.index-defined-number.result) c.loop-number.out c.requires.built c.requires.fits (found_at c.args.defined.now (routines_of c.args.names.now) c.loop-number.number c.index-defined-number.result c.requires.defined (let n = c.requires.count in let l = c.loop-number-test.true in omega (arith, n, l)) c.index-defined-number.is) c.loop-number.invariant).built
+pub lower_written-requires-clause-built : goal.lower_written-requires-clause-built
+lower_written-requires-clause-built c =
+    let n = as_many c.args.defined.now (routines_of c.args.names.now) c.requires.defined in
+    let k = c.requires.count in
+    let l = c.loop-number-test.true in
+    let t = c.requires.table in
+    let at = found_at c.args.defined.now (routines_of c.args.names.now) c.loop-number.number c.index-defined-number.result c.requires.defined (omega (arith, k, l)) c.index-defined-number.is in
+    let f = follows c.args.names.now (length c.args.out.now.routines) c.loop-number.number c.loop-number.texts c.loop-number.sites (defined_at c.index-defined-number.result) c.loop-number.out c.requires.built c.requires.unbroken c.requires.fits (omega (arith, n, k, t)) at c.loop-number.invariant in
+    f.built
 
-pub lower_routine-requires-clause-scalars : goal.lower_routine-requires-clause-scalars
-lower_routine-requires-clause-scalars c = (follows c.args.names.now c.loop-number.number c.loop-number.texts c.loop-number.sites (defined_at c.index-defined-number.result) c.loop-number.out c.requires.built c.requires.fits (found_at c.args.defined.now (routines_of c.args.names.now) c.loop-number.number c.index-defined-number.result c.requires.defined (let n = c.requires.count in let l = c.loop-number-test.true in omega (arith, n, l)) c.index-defined-number.is) c.loop-number.invariant).scalars
+pub lower_written-requires-clause-params : goal.lower_written-requires-clause-params
+lower_written-requires-clause-params c =
+    let n = as_many c.args.defined.now (routines_of c.args.names.now) c.requires.defined in
+    let k = c.requires.count in
+    let l = c.loop-number-test.true in
+    let t = c.requires.table in
+    let at = found_at c.args.defined.now (routines_of c.args.names.now) c.loop-number.number c.index-defined-number.result c.requires.defined (omega (arith, k, l)) c.index-defined-number.is in
+    let f = follows c.args.names.now (length c.args.out.now.routines) c.loop-number.number c.loop-number.texts c.loop-number.sites (defined_at c.index-defined-number.result) c.loop-number.out c.requires.built c.requires.unbroken c.requires.fits (omega (arith, n, k, t)) at c.loop-number.invariant in
+    f.params
 
-pub lower_routine-requires-clause-known : goal.lower_routine-requires-clause-known
-lower_routine-requires-clause-known c = (follows c.args.names.now c.loop-number.number c.loop-number.texts c.loop-number.sites (defined_at c.index-defined-number.result) c.loop-number.out c.requires.built c.requires.fits (found_at c.args.defined.now (routines_of c.args.names.now) c.loop-number.number c.index-defined-number.result c.requires.defined (let n = c.requires.count in let l = c.loop-number-test.true in omega (arith, n, l)) c.index-defined-number.is) c.loop-number.invariant).known
+pub lower_written-requires-clause-known : goal.lower_written-requires-clause-known
+lower_written-requires-clause-known c =
+    let n = as_many c.args.defined.now (routines_of c.args.names.now) c.requires.defined in
+    let k = c.requires.count in
+    let l = c.loop-number-test.true in
+    let t = c.requires.table in
+    let at = found_at c.args.defined.now (routines_of c.args.names.now) c.loop-number.number c.index-defined-number.result c.requires.defined (omega (arith, k, l)) c.index-defined-number.is in
+    let f = follows c.args.names.now (length c.args.out.now.routines) c.loop-number.number c.loop-number.texts c.loop-number.sites (defined_at c.index-defined-number.result) c.loop-number.out c.requires.built c.requires.unbroken c.requires.fits (omega (arith, n, k, t)) at c.loop-number.invariant in
+    f.known
 
-pub lower_routine-requires-clause-room : goal.lower_routine-requires-clause-room
-lower_routine-requires-clause-room c = (follows c.args.names.now c.loop-number.number c.loop-number.texts c.loop-number.sites (defined_at c.index-defined-number.result) c.loop-number.out c.requires.built c.requires.fits (found_at c.args.defined.now (routines_of c.args.names.now) c.loop-number.number c.index-defined-number.result c.requires.defined (let n = c.requires.count in let l = c.loop-number-test.true in omega (arith, n, l)) c.index-defined-number.is) c.loop-number.invariant).room
+pub lower_written-requires-clause-written : goal.lower_written-requires-clause-written
+lower_written-requires-clause-written c =
+    let n = as_many c.args.defined.now (routines_of c.args.names.now) c.requires.defined in
+    let k = c.requires.count in
+    let l = c.loop-number-test.true in
+    let t = c.requires.table in
+    let at = found_at c.args.defined.now (routines_of c.args.names.now) c.loop-number.number c.index-defined-number.result c.requires.defined (omega (arith, k, l)) c.index-defined-number.is in
+    let f = follows c.args.names.now (length c.args.out.now.routines) c.loop-number.number c.loop-number.texts c.loop-number.sites (defined_at c.index-defined-number.result) c.loop-number.out c.requires.built c.requires.unbroken c.requires.fits (omega (arith, n, k, t)) at c.loop-number.invariant in
+    f.written
 
-pub lower_routine-requires-clause-cells : goal.lower_routine-requires-clause-cells
-lower_routine-requires-clause-cells c = (follows c.args.names.now c.loop-number.number c.loop-number.texts c.loop-number.sites (defined_at c.index-defined-number.result) c.loop-number.out c.requires.built c.requires.fits (found_at c.args.defined.now (routines_of c.args.names.now) c.loop-number.number c.index-defined-number.result c.requires.defined (let n = c.requires.count in let l = c.loop-number-test.true in omega (arith, n, l)) c.index-defined-number.is) c.loop-number.invariant).cells
+pub lower_written-requires-clause-outside : goal.lower_written-requires-clause-outside
+lower_written-requires-clause-outside c = c.loop-number.invariant.lays.outside
 
-pub lower_routine-requires-clause-texts : goal.lower_routine-requires-clause-texts
-lower_routine-requires-clause-texts c = (follows c.args.names.now c.loop-number.number c.loop-number.texts c.loop-number.sites (defined_at c.index-defined-number.result) c.loop-number.out c.requires.built c.requires.fits (found_at c.args.defined.now (routines_of c.args.names.now) c.loop-number.number c.index-defined-number.result c.requires.defined (let n = c.requires.count in let l = c.loop-number-test.true in omega (arith, n, l)) c.index-defined-number.is) c.loop-number.invariant).texts
+pub lower_written-requires-clause-room : goal.lower_written-requires-clause-room
+lower_written-requires-clause-room c =
+    let n = as_many c.args.defined.now (routines_of c.args.names.now) c.requires.defined in
+    let k = c.requires.count in
+    let l = c.loop-number-test.true in
+    let t = c.requires.table in
+    let at = found_at c.args.defined.now (routines_of c.args.names.now) c.loop-number.number c.index-defined-number.result c.requires.defined (omega (arith, k, l)) c.index-defined-number.is in
+    let f = follows c.args.names.now (length c.args.out.now.routines) c.loop-number.number c.loop-number.texts c.loop-number.sites (defined_at c.index-defined-number.result) c.loop-number.out c.requires.built c.requires.unbroken c.requires.fits (omega (arith, n, k, t)) at c.loop-number.invariant in
+    f.room
+
+pub lower_written-requires-clause-cells : goal.lower_written-requires-clause-cells
+lower_written-requires-clause-cells c =
+    let n = as_many c.args.defined.now (routines_of c.args.names.now) c.requires.defined in
+    let k = c.requires.count in
+    let l = c.loop-number-test.true in
+    let t = c.requires.table in
+    let at = found_at c.args.defined.now (routines_of c.args.names.now) c.loop-number.number c.index-defined-number.result c.requires.defined (omega (arith, k, l)) c.index-defined-number.is in
+    let f = follows c.args.names.now (length c.args.out.now.routines) c.loop-number.number c.loop-number.texts c.loop-number.sites (defined_at c.index-defined-number.result) c.loop-number.out c.requires.built c.requires.unbroken c.requires.fits (omega (arith, n, k, t)) at c.loop-number.invariant in
+    f.cells
+
+pub lower_written-requires-clause-texts : goal.lower_written-requires-clause-texts
+lower_written-requires-clause-texts c =
+    let n = as_many c.args.defined.now (routines_of c.args.names.now) c.requires.defined in
+    let k = c.requires.count in
+    let l = c.loop-number-test.true in
+    let t = c.requires.table in
+    let at = found_at c.args.defined.now (routines_of c.args.names.now) c.loop-number.number c.index-defined-number.result c.requires.defined (omega (arith, k, l)) c.index-defined-number.is in
+    let f = follows c.args.names.now (length c.args.out.now.routines) c.loop-number.number c.loop-number.texts c.loop-number.sites (defined_at c.index-defined-number.result) c.loop-number.out c.requires.built c.requires.unbroken c.requires.fits (omega (arith, n, k, t)) at c.loop-number.invariant in
+    f.texts
 
 pub loop-number-preserved : goal.loop-number-preserved
 loop-number-preserved c =
     let i = c.loop-number.number in
     let x = c.index-defined-number.result in
-    let at = found_at c.args.defined.now (routines_of c.args.names.now) i x c.requires.defined (let n = c.requires.count in let l = c.loop-number-test.true in omega (arith, n, l)) c.index-defined-number.is in
-    let out = c.lower_routine.new.out in
-    subst (λ (s : ℕ). Stands c.args.names.now (i + 1) c.texts-texts.result s out) (sym c.sites-sites.ensures) (
-    subst (λ (t : ℕ). Stands c.args.names.now (i + 1) t out.sites out) (sym c.texts-texts.ensures) (
-    stands_next c.args.names.now i c.loop-number.texts c.loop-number.sites (defined_at x) c.loop-number.out out c.requires.built at c.loop-number.invariant
-    c.in_ok-lower_routine.ensures.kept c.in_ok-lower_routine.ensures.room c.in_ok-lower_routine.ensures.code c.in_ok-lower_routine.ensures.written c.in_ok-lower_routine.ensures.rows c.in_ok-lower_routine.ensures.texts c.in_ok-lower_routine.ensures.few_texts c.in_ok-lower_routine.ensures.sites))
+    let n = as_many c.args.defined.now (routines_of c.args.names.now) c.requires.defined in
+    let k = c.requires.count in
+    let l = c.loop-number-test.true in
+    let t = c.requires.table in
+    let at = found_at c.args.defined.now (routines_of c.args.names.now) i x c.requires.defined (omega (arith, k, l)) c.index-defined-number.is in
+    let out = c.lower_written.new.out in
+    let all : ℕ = length c.args.out.now.routines in
+    subst (λ (s : ℕ). Stands c.args.names.now all (i + 1) c.texts-texts.result s out) (sym c.sites-sites.ensures) (
+    subst (λ (t : ℕ). Stands c.args.names.now all (i + 1) t out.sites out) (sym c.texts-texts.ensures) (
+    stands_next c.args.names.now all i c.loop-number.texts c.loop-number.sites (defined_at x) c.loop-number.out out c.requires.built (omega (arith, n, k, t)) at c.loop-number.invariant
+    c.in_ok-lower_written.ensures.kept c.in_ok-lower_written.ensures.room c.in_ok-lower_written.ensures.code c.in_ok-lower_written.ensures.written c.in_ok-lower_written.ensures.outside c.in_ok-lower_written.ensures.texts c.in_ok-lower_written.ensures.few_texts c.in_ok-lower_written.ensures.sites))

@@ -2,21 +2,21 @@ use Rattle.std.proofs.Common.{◌+◌, ◌*◌, ◌-◌, pos, length, take, refl
 use Rattle.std.proofs.lemmas.Option.{slice_get_read}
 use Rattle.uc_code.specs.Drafts.{Draft}
 use Rattle.uc_tree.specs.declared.limits.TheConstants.{OPS_FOR_SIZE}
-use Rattle.uc_tree.specs.ExpressionSizes.{expr_size}
+use Rattle.uc_tree.specs.ExpressionSizes.{expr_size, exprs_size, link_size}
 use Rattle.uc_tree.specs.Resolve.{Context, args_by, meant, value_of}
 use Rattle.uc_code.specs.declared.op.Op.TheVariants as op
 use Rattle.uc_lower_expr.specs.declared.ops.Joining.TheVariants as joining
 use Rattle.uc_lower_expr.specs.Contexts.{context_in}
-use Rattle.uc_lower_expr.proofs.Adding.{rest_behind, adds_more, adds_both, adds_fork}
+use Rattle.uc_lower_expr.proofs.Adding.{adds_settled, rest_behind, rest_then, risk_in, adds_more, adds_both, adds_fork}
+use Rattle.uc_lower_expr.proofs.Growing.{grows_settled}
 use Rattle.uc_lower_expr.proofs.Settled.{expr_stable, value_truth_stable}
 use Rattle.uc_code.proofs.Stable.{one_stable}
 use Rattle.uc_lower_expr.specs.declared.meaning.Standing.TheVariants as standing
 use Rattle.uc_tree.specs.declared.ops.UnaryOp.{UnaryOp}
 use Rattle.uc_tree.specs.declared.ops.StepOp.TheVariants as step
 use Rattle.uc_tree.specs.Expressions.{exprs_of}
-use Rattle.uc_tree.specs.ExpressionSizes.{exprs_size}
-use Rattle.uc_tree.specs.Resolve.{args_meant, unary_meant}
-use Rattle.uc_lower_expr.proofs.Walks.{tree_is, value_in, arm_number, arm_character, arm_truth, arm_cin, arm_minus, arm_not, arm_value, arm_argument, arm_bumped, told_bumped, arm_assigned, told_assigned, arm_to_variable, arm_to_place, arm_set, arm_set_by, arm_keep, arm_keep_by, variable_in_cut, args_in_cut, arm_link, right_as, links_fit, links_step, links_end, part_is, arm_called, arm_routine, not_called, called_part, args_begin, args_step, args_skip, args_fit, parts_fit, parts_step, arm_no_element, arm_element, some_size, arm_postfix, told_postfix, arm_chain, told_chain, postfix_size, chain_size}
+use Rattle.uc_tree.specs.Resolve.{Standing, args_meant, call_by, unary_meant}
+use Rattle.uc_lower_expr.proofs.Walks.{tree_is, value_in, arm_number, arm_character, arm_truth, arm_cin, arm_minus, arm_not, arm_value, arm_argument, arm_bumped, told_bumped, arm_assigned, told_assigned, arm_to_variable, arm_to_place, arm_set, arm_set_by, arm_keep, arm_keep_by, variable_in_cut, args_in_cut, arm_link, right_as, links_fit, links_step, links_end, part_is, arm_called, arm_routine, arm_member_called, field_not_called, grown_in, not_called, called_part, stepped_part, args_begin, args_step, args_skip, args_fit, parts_fit, parts_step, arm_no_element, arm_element, some_size, arm_postfix, told_postfix, arm_chain, told_chain, postfix_size, chain_size}
 use Rattle.uc_lower_expr.specs.Added.{Adds, ArgumentsCode}
 use Rattle.uc_lower_expr.proofs.expr.+lower.Goals.{lower_args-then-place-params+in_ok-lower_arg, lower_args-else-place-params}
 use Rattle.uc_lower_expr.proofs.expr.+lower.Goals as goal
@@ -26,7 +26,9 @@ lower_expr-lower_parts-requires t c =
     let z = postfix_size c.args.e.now _ c.deref.result.now _ _ c.deref-in-Postfix.result.now (tree_is _ _ _ _ c.in-Postfix.is c.e.view_is) c.deref.ensures c.deref-in-Postfix.ensures.value in
     let r = c.in_ok-told-in-Postfix.ensures.code.room in
     let l = c.in_ok-told-in-Postfix.ensures.code.kept.longer in
-    (search rules, (omega (arith, l), omega (arith, z, r)))
+    let w = adds_settled c.in_ok-told-in-Postfix.ensures.code in
+    let h = c.here-start.ensures.settled in
+    (search rules, (omega (arith, w, h), (omega (arith, l), omega (arith, z, r))))
 
 pub lower_expr-returns-in_ok-put-in-Number-clause-code : goal.lower_expr-returns-in_ok-put-in-Number-clause-code
 lower_expr-returns-in_ok-put-in-Number-clause-code t c = arm_number c.args.names.now _ _ _ _ _ _ _ (tree_is _ _ _ _ c.in-Number.is c.e.view_is) (search rules) c.in_ok-put-in-Number.ensures
@@ -49,16 +51,18 @@ lower_expr-returns-in_ok-told-in-Postfix-clause-tells t c =
     told_postfix c.args.names.now c.lower_parts.result _ _ _ _ _ c.deref-in-Postfix.result.now _ _ _ _ _ _ (tree_is _ _ _ _ c.in-Postfix.is c.e.view_is) c.deref.ensures c.deref-in-Postfix.ensures.value c.here-start.ensures.count c.in_ok-told-in-Postfix.ensures.code c.in_ok-told-in-Postfix.ensures.tells c.lower_parts.ensures
 
 pub lower_index-returns-in_ok-restart-in-None : goal.lower_index-returns-in_ok-restart-in-None
-lower_index-returns-in_ok-restart-in-None t c = arm_no_element c.args.out.now.marks _ _ _ (meant (context_in c.args.names.now c.args.out.now) c.args.index.now) _ _ _ _ (omega arith) c.requires.inside c.in-None.is c.nothing.ensures c.in_ok-restart-in-None.ensures
+lower_index-returns-in_ok-restart-in-None t c = arm_no_element c.args.out.now.marks c.args.names.now _ _ _ (meant (context_in c.args.names.now c.args.out.now) c.args.index.now) _ _ _ _ (omega arith) c.requires.inside c.in-None.is c.nothing.ensures c.in_ok-restart-in-None.ensures
 
 pub lower_index-returns-in_ok-put-in-Some : goal.lower_index-returns-in_ok-put-in-Some
-lower_index-returns-in_ok-put-in-Some t c = arm_element c.args.out.now.marks (OPS_FOR_SIZE * expr_size c.args.index.now) _ c.args.line _ c.in-Some.length (meant (context_in c.args.names.now c.args.out.now) c.args.index.now) c.args.told _ _ _ (omega arith) c.requires.inside c.in-Some.is c.in_ok-_index-in-Some.ensures.code c.in_ok-put-in-Some.ensures
+lower_index-returns-in_ok-put-in-Some t c = arm_element c.args.out.now.marks c.args.names.now (OPS_FOR_SIZE * expr_size c.args.index.now) _ c.args.line _ c.in-Some.length c.element_size-size.result (meant (context_in c.args.names.now c.args.out.now) c.args.index.now) c.args.told _ _ _ c.element_size-size.ensures (omega arith) c.requires.inside c.in-Some.is c.in_ok-_index-in-Some.ensures.code c.in_ok-put-in-Some.ensures
 
 pub lower_parts-lower_part-requires : goal.lower_parts-lower_part-requires
 lower_parts-lower_part-requires t c =
     let r = c.loop-part.invariant.room in
     let fit = parts_fit c.args.parts.now c.loop-part.part-index c.part-item.result c.loop-part-test.true c.part-item.is in
-    (search rules, (c.loop-part.invariant.past, omega (arith, r, fit)))
+    let w = grows_settled c.loop-part.invariant in
+    let h = c.requires.settled in
+    (search rules, (omega (arith, w, h), (c.loop-part.invariant.past, omega (arith, r, fit))))
 
 pub lower_parts-loop-part-preserved : goal.lower_parts-loop-part-preserved
 lower_parts-loop-part-preserved t c = parts_step c.args.names.now c.args.parts.now c.loop-part.part-index c.part-item.result c.args.line c.args.start _ _ _ _ _ _ c.loop-part-test.true c.part-item.is c.loop-part.invariant c.in_ok-told.ensures
@@ -102,7 +106,9 @@ lower_expr-lower_links-requires t c =
     let z = chain_size c.args.e.now _ c.deref-in-Chain.result.now _ _ c.deref-in-Chain-2.result.now (tree_is _ _ _ _ c.in-Chain.is c.e.view_is) c.deref-in-Chain.ensures c.deref-in-Chain-2.ensures.value in
     let r = c.in_ok-told-in-Chain.ensures.code.room in
     let l = c.in_ok-told-in-Chain.ensures.code.kept.longer in
-    (search rules, (omega (arith, l), omega (arith, z, r)))
+    let w = adds_settled c.in_ok-told-in-Chain.ensures.code in
+    let h = c.here-start-in-Chain.ensures.settled in
+    (search rules, (omega (arith, w, h), (omega (arith, l), omega (arith, z, r))))
 
 pub lower_expr-returns-in_ok-told-in-Chain-clause-code : goal.lower_expr-returns-in_ok-told-in-Chain-clause-code
 lower_expr-returns-in_ok-told-in-Chain-clause-code t c =
@@ -112,14 +118,22 @@ pub lower_expr-returns-in_ok-told-in-Chain-clause-tells : goal.lower_expr-return
 lower_expr-returns-in_ok-told-in-Chain-clause-tells t c =
     told_chain c.args.names.now c.lower_links.result _ _ _ _ _ c.deref-in-Chain-2.result.now _ _ _ _ _ _ (tree_is _ _ _ _ c.in-Chain.is c.e.view_is) c.deref-in-Chain.ensures c.deref-in-Chain-2.ensures.value c.here-start-in-Chain.ensures.count c.in_ok-told-in-Chain.ensures.code c.in_ok-told-in-Chain.ensures.tells c.lower_links.ensures
 
+pub lower_link-lower_right-requires : goal.lower_link-lower_right-requires
+lower_link-lower_right-requires t c =
+    let q = (c.in_ok-put_load.ensures.code c.args.names.now).room in
+    let z = ap link_size c.link.view_is in
+    (search rules, omega (arith, q, z))
+
 pub lower_link-returns : goal.lower_link-returns
-lower_link-returns t c = arm_link c.args.names.now c.args.link.now c.link.inside.sign c.link.inside.op c.link.inside.right c.args.line c.args.start c.args.left _ c.value.result c.joined_by-joining.result _ _ _ c.link.view_is c.joined_by-joining.ensures (cc) c.in_ok-put_load.ensures.tells c.in_ok-put_load.ensures.code c.in_ok-lower_right.ensures
+lower_link-returns t c = arm_link c.args.names.now c.args.link.now c.link.inside.sign c.link.inside.op c.link.inside.right c.args.line c.args.start c.args.left _ c.value.result c.joined_by-joining.result _ _ _ c.link.view_is c.joined_by-joining.ensures (cc) c.in_ok-put_load.ensures.tells (c.in_ok-put_load.ensures.code c.args.names.now) c.in_ok-lower_right.ensures
 
 pub lower_links-lower_link-requires : goal.lower_links-lower_link-requires
 lower_links-lower_link-requires t c =
     let r = c.loop-link.invariant.room in
     let fit = links_fit c.args.links.now c.loop-link.link-index c.link-item.result c.loop-link-test.true c.link-item.is in
-    (search rules, (c.loop-link.invariant.past, omega (arith, r, fit)))
+    let w = grows_settled c.loop-link.invariant in
+    let h = c.requires.settled in
+    (search rules, (omega (arith, w, h), (c.loop-link.invariant.past, omega (arith, r, fit))))
 
 pub lower_links-loop-link-preserved : goal.lower_links-loop-link-preserved
 lower_links-loop-link-preserved t c = links_step c.args.names.now c.args.links.now c.loop-link.link-index c.link-item.result c.args.line c.args.start _ _ _ _ _ _ c.loop-link-test.true c.link-item.is c.loop-link.invariant c.in_ok-told.ensures
@@ -132,32 +146,40 @@ lower_value-put_load-requires t c =
     let r = c.in_ok-told.ensures.code.room in
     let l = c.in_ok-told.ensures.code.kept.longer in
     let s = some_size c.args.e.now in
-    record { inside = omega (arith, l); room = omega (arith, r, s) }
+    let w = adds_settled c.in_ok-told.ensures.code in
+    let h = c.here-start.ensures.settled in
+    record { settled = omega (arith, w, h); inside = omega (arith, l); room = omega (arith, r, s) }
 
 pub lower_value-returns-clause-code : goal.lower_value-returns-clause-code
 lower_value-returns-clause-code t c =
-    adds_more (let s = some_size c.args.e.now in omega arith) (arm_value c.args.names.now (OPS_FOR_SIZE * expr_size c.args.e.now - 2) c.args.line c.here-start.result c.args.e.now _ _ _ _ _ c.here-start.ensures.count c.in_ok-told.ensures.code c.in_ok-told.ensures.tells c.in_ok-put_load.ensures.code)
+    adds_more (let s = some_size c.args.e.now in omega arith) (arm_value c.args.names.now (OPS_FOR_SIZE * expr_size c.args.e.now - 2) c.args.line c.here-start.result c.args.e.now _ _ _ _ _ c.here-start.ensures.count c.in_ok-told.ensures.code c.in_ok-told.ensures.tells (c.in_ok-put_load.ensures.code c.args.names.now))
 
 pub lower_part-returns-in-Call : goal.lower_part-returns-in-Call
 lower_part-returns-in-Call t c = called_part c.args.out.now.marks c.lower_call.result (context_in c.args.names.now c.args.out.now) _ _ _ _ _ _ _ _ _ (part_is _ _ _ _ c.in-Call.is c.part.view_is) c.deref.ensures.value c.lower_call.ensures
+
+pub lower_part-returns-in-Step : goal.lower_part-returns-in-Step
+lower_part-returns-in-Step t c =
+    stepped_part c.args.out.now.marks c.put_stepped.result (context_in c.args.names.now c.args.out.now) _ _ _ _ _ _ _ _ (part_is _ _ _ _ c.in-Step.is c.part.view_is) (grown_in c.put_stepped.result c.args.names.now 9 c.args.line _ _ _ _ _ _ c.put_stepped.ensures)
 
 pub lower_arg-put_load-requires : goal.lower_arg-put_load-requires
 lower_arg-put_load-requires t c =
     let r = c.in_ok-told.ensures.code.room in
     let l = c.in_ok-told.ensures.code.kept.longer in
     let s = some_size c.args.arg.now in
-    record { inside = omega (arith, l); room = omega (arith, r, s) }
+    let w = adds_settled c.in_ok-told.ensures.code in
+    let h = c.here-start.ensures.settled in
+    record { settled = omega (arith, w, h); inside = omega (arith, l); room = omega (arith, r, s) }
 
 pub lower_arg-put_conversion-requires : goal.lower_arg-put_conversion-requires
 lower_arg-put_conversion-requires t c =
     let r = c.in_ok-told.ensures.code.room in
-    let q = c.in_ok-put_load.ensures.code.room in
+    let q = (c.in_ok-put_load.ensures.code c.args.names.now).room in
     let s = some_size c.args.arg.now in
     omega (arith, r, q, s)
 
 pub lower_arg-returns-in_ok-put_conversion : goal.lower_arg-returns-in_ok-put_conversion
 lower_arg-returns-in_ok-put_conversion t c =
-    adds_more (let s = some_size c.args.arg.now in omega arith) (arm_argument c.args.names.now (OPS_FOR_SIZE * expr_size c.args.arg.now - 2) c.args.line c.here-start.result c.args.param.now c.args.arg.now _ _ _ _ _ _ _ (search rules) c.of_base.ensures.shape c.here-start.ensures.count c.in_ok-told.ensures.code c.in_ok-told.ensures.tells c.in_ok-put_load.ensures.code c.in_ok-put_conversion.ensures)
+    adds_more (let s = some_size c.args.arg.now in omega arith) (arm_argument c.args.names.now (OPS_FOR_SIZE * expr_size c.args.arg.now - 2) c.args.line c.here-start.result c.args.param.now c.args.arg.now _ _ _ _ _ _ _ (search rules) c.of_base.ensures.shape c.here-start.ensures.count c.in_ok-told.ensures.code c.in_ok-told.ensures.tells (c.in_ok-put_load.ensures.code c.args.names.now) c.in_ok-put_conversion.ensures)
 
 pub lower_args-loop-place-init : goal.lower_args-loop-place-init
 lower_args-loop-place-init t c = args_begin c.args.names.now c.args.params.now c.args.line c.args.out.now
@@ -173,7 +195,9 @@ lower_assign-lower_written-requires t c =
     let r = c.in_ok-told.ensures.code.room in
     let l = c.in_ok-told.ensures.code.kept.longer in
     let s = some_size c.args.place.now in
-    (search rules, (omega (arith, l), omega (arith, r, s)))
+    let w = adds_settled c.in_ok-told.ensures.code in
+    let h = c.here-start.ensures.settled in
+    (search rules, (omega (arith, w, h), (omega (arith, l), omega (arith, r, s))))
 
 pub lower_assign-returns-clause-code : goal.lower_assign-returns-clause-code
 lower_assign-returns-clause-code t c =
@@ -186,25 +210,34 @@ lower_assign-returns-clause-tells t c =
 pub lower_call-returns-in_ok-restart-in-Fail : goal.lower_call-returns-in_ok-restart-in-Fail
 lower_call-returns-in_ok-restart-in-Fail t c = arm_called c.args.out.now.marks c.args.names.now _ c.args.line c.args.start _ c.args.told _ _ _ (omega arith) c.requires.inside c.in-Fail.is c.value.ensures c.in_ok-restart-in-Fail.ensures
 
-pub lower_call-returns-in_ok-put-in-Routine-2 : goal.lower_call-returns-in_ok-put-in-Routine-2
-lower_call-returns-in_ok-put-in-Routine-2 t c =
+pub lower_call-returns-in_ok-put_at_risk-in-Routine : goal.lower_call-returns-in_ok-put_at_risk-in-Routine
+lower_call-returns-in_ok-put_at_risk-in-Routine t c =
     arm_routine c.args.out.now.marks c.args.names.now (OPS_FOR_SIZE * exprs_size (exprs_of c.args.args.now)) _ c.args.line c.args.start c.in-Routine.routine _ (args_meant (context_in c.args.names.now c.args.out.now) (exprs_of c.args.args.now)) c.args.told _ _ _ _ _ _ (omega arith) c.requires.inside c.in-Routine.is c.params.ensures c.standing_as.ensures c.cut.ensures
-    (args_in_cut c.args.names.now _ c.args.line c.args.start _ _ _ _ _ c.cut.ensures c.in_ok-lower_args-in-Routine.ensures) c.in_ok-put-in-Routine.ensures c.in_ok-put-in-Routine-2.ensures
+    (args_in_cut c.args.names.now _ c.args.line c.args.start _ _ _ _ _ c.cut.ensures c.in_ok-lower_args-in-Routine.ensures) c.in_ok-put-in-Routine.ensures
+    (risk_in c.args.line (op.Call c.in-Routine.routine) c.args.out.now _ _ (rest_behind c.args.out.now (rest_then c.args.out.now _ _ c.cut.ensures.rest c.in_ok-lower_args-in-Routine.ensures.rest) c.in_ok-put-in-Routine.ensures) c.in_ok-put_at_risk-in-Routine.ensures)
+
+pub lower_call-returns-in_ok-put_at_risk-in-Member : goal.lower_call-returns-in_ok-put_at_risk-in-Member
+lower_call-returns-in_ok-put_at_risk-in-Member t c =
+    arm_member_called c.args.out.now.marks c.args.names.now (OPS_FOR_SIZE * exprs_size (exprs_of c.args.args.now)) _ c.args.line c.args.start c.in-Member.routine _ (args_meant (context_in c.args.names.now c.args.out.now) (exprs_of c.args.args.now)) c.args.told _ _ _ _ _ (omega arith) c.requires.inside c.in-Member.is c.params-in-Member.ensures c.standing_as-in-Member.ensures c.in_ok-lower_args-in-Member.ensures c.in_ok-put-in-Member.ensures
+    (risk_in c.args.line (op.CallOn c.in-Member.routine) c.args.out.now _ _ (rest_behind c.args.out.now c.in_ok-lower_args-in-Member.ensures.rest c.in_ok-put-in-Member.ensures) c.in_ok-put_at_risk-in-Member.ensures)
 
 pub lower_call-returns-in-Variable : goal.lower_call-returns-in-Variable
-lower_call-returns-in-Variable t c = not_called c.args.out.now.marks c.no_call.result c.args.names.now _ c.args.line c.args.start (standing.Variable c.in-Variable.field-0) _ c.args.told _ _ (omega arith) c.requires.inside c.in-Variable.is (λ m. refl) c.no_call.ensures.code c.no_call.ensures.tells
+lower_call-returns-in-Variable t c = not_called c.args.out.now.marks c.put_nothing.result c.args.names.now _ c.args.line c.args.start (standing.Variable c.in-Variable.field-0) _ c.args.told _ _ (omega arith) c.requires.inside c.in-Variable.is (λ o m h. ap (λ (x : Standing). call_by c.args.names.now x m (args_meant (context_in c.args.names.now c.args.out.now) (exprs_of c.args.args.now))) h) c.put_nothing.ensures.code c.put_nothing.ensures.tells
+
+pub lower_call-returns-in-Field : goal.lower_call-returns-in-Field
+lower_call-returns-in-Field t c = not_called c.args.out.now.marks c.put_nothing-in-Field.result c.args.names.now _ c.args.line c.args.start (standing.Field c.in-Field.field-0) _ c.args.told _ _ (omega arith) c.requires.inside c.in-Field.is (field_not_called c.args.names.now c.in-Field.field-0 (args_meant (context_in c.args.names.now c.args.out.now) (exprs_of c.args.args.now))) c.put_nothing-in-Field.ensures.code c.put_nothing-in-Field.ensures.tells
 
 pub lower_call-returns-in-Place : goal.lower_call-returns-in-Place
-lower_call-returns-in-Place t c = not_called c.args.out.now.marks c.no_call-in-Place.result c.args.names.now _ c.args.line c.args.start standing.Place _ c.args.told _ _ (omega arith) c.requires.inside c.in-Place.is (λ m. refl) c.no_call-in-Place.ensures.code c.no_call-in-Place.ensures.tells
+lower_call-returns-in-Place t c = not_called c.args.out.now.marks c.put_nothing-in-Place.result c.args.names.now _ c.args.line c.args.start standing.Place _ c.args.told _ _ (omega arith) c.requires.inside c.in-Place.is (λ o m h. ap (λ (x : Standing). call_by c.args.names.now x m (args_meant (context_in c.args.names.now c.args.out.now) (exprs_of c.args.args.now))) h) c.put_nothing-in-Place.ensures.code c.put_nothing-in-Place.ensures.tells
 
 pub lower_call-returns-in-Value : goal.lower_call-returns-in-Value
-lower_call-returns-in-Value t c = not_called c.args.out.now.marks c.no_call-in-Value.result c.args.names.now _ c.args.line c.args.start standing.Value _ c.args.told _ _ (omega arith) c.requires.inside c.in-Value.is (λ m. refl) c.no_call-in-Value.ensures.code c.no_call-in-Value.ensures.tells
+lower_call-returns-in-Value t c = not_called c.args.out.now.marks c.put_nothing-in-Value.result c.args.names.now _ c.args.line c.args.start standing.Value _ c.args.told _ _ (omega arith) c.requires.inside c.in-Value.is (λ o m h. ap (λ (x : Standing). call_by c.args.names.now x m (args_meant (context_in c.args.names.now c.args.out.now) (exprs_of c.args.args.now))) h) c.put_nothing-in-Value.ensures.code c.put_nothing-in-Value.ensures.tells
 
 pub lower_call-returns-in-Input : goal.lower_call-returns-in-Input
-lower_call-returns-in-Input t c = not_called c.args.out.now.marks c.no_call-in-Input.result c.args.names.now _ c.args.line c.args.start standing.Input _ c.args.told _ _ (omega arith) c.requires.inside c.in-Input.is (λ m. refl) c.no_call-in-Input.ensures.code c.no_call-in-Input.ensures.tells
+lower_call-returns-in-Input t c = not_called c.args.out.now.marks c.put_nothing-in-Input.result c.args.names.now _ c.args.line c.args.start standing.Input _ c.args.told _ _ (omega arith) c.requires.inside c.in-Input.is (λ o m h. ap (λ (x : Standing). call_by c.args.names.now x m (args_meant (context_in c.args.names.now c.args.out.now) (exprs_of c.args.args.now))) h) c.put_nothing-in-Input.ensures.code c.put_nothing-in-Input.ensures.tells
 
 pub lower_call-returns-in-Nothing : goal.lower_call-returns-in-Nothing
-lower_call-returns-in-Nothing t c = not_called c.args.out.now.marks c.no_call-in-Nothing.result c.args.names.now _ c.args.line c.args.start standing.Nothing _ c.args.told _ _ (omega arith) c.requires.inside c.in-Nothing.is (λ m. refl) c.no_call-in-Nothing.ensures.code c.no_call-in-Nothing.ensures.tells
+lower_call-returns-in-Nothing t c = not_called c.args.out.now.marks c.put_nothing-in-Nothing.result c.args.names.now _ c.args.line c.args.start standing.Nothing _ c.args.told _ _ (omega arith) c.requires.inside c.in-Nothing.is (λ o m h. ap (λ (x : Standing). call_by c.args.names.now x m (args_meant (context_in c.args.names.now c.args.out.now) (exprs_of c.args.args.now))) h) c.put_nothing-in-Nothing.ensures.code c.put_nothing-in-Nothing.ensures.tells
 
 pub lower_to_place-returns-in_ok-put-in-None : goal.lower_to_place-returns-in_ok-put-in-None
 lower_to_place-returns-in_ok-put-in-None t c =
@@ -228,19 +261,19 @@ lower_to_variable-returns-in_ok-put-in-Some-3 t c =
 
 pub lower_unary-returns-in_ok-told-in-Increment-clause-code : goal.lower_unary-returns-in_ok-told-in-Increment-clause-code
 lower_unary-returns-in_ok-told-in-Increment-clause-code t c =
-    arm_bumped c.args.names.now c.put_bump.result c.args.op step.Increment (OPS_FOR_SIZE * expr_size c.args.operand.now - 2) _ c.args.line c.here-start.result c.args.operand.now _ _ _ _ (λ m. ap (λ (o : UnaryOp). unary_meant o m) (sym c.in-Increment.is)) (let s = some_size c.args.operand.now in omega arith) c.here-start.ensures.count c.in_ok-told-in-Increment.ensures.code c.in_ok-told-in-Increment.ensures.tells c.put_bump.ensures
+    arm_bumped c.args.names.now c.put_bump.result c.args.op step.Increment (OPS_FOR_SIZE * expr_size c.args.operand.now - 2) _ c.args.line c.here-start.result c.args.operand.now _ _ _ _ (λ m. ap (λ (o : UnaryOp). unary_meant o m) (sym c.in-Increment.is)) (let s = some_size c.args.operand.now in omega arith) c.here-start.ensures.count c.in_ok-told-in-Increment.ensures.code c.in_ok-told-in-Increment.ensures.tells (grown_in c.put_bump.result c.args.names.now 6 c.args.line _ _ _ _ _ _ c.put_bump.ensures)
 
 pub lower_unary-returns-in_ok-told-in-Increment-clause-tells : goal.lower_unary-returns-in_ok-told-in-Increment-clause-tells
 lower_unary-returns-in_ok-told-in-Increment-clause-tells t c =
-    told_bumped c.args.names.now c.put_bump.result c.args.op step.Increment (OPS_FOR_SIZE * expr_size c.args.operand.now - 2) c.args.line c.here-start.result c.args.operand.now _ _ _ _ (λ m. ap (λ (o : UnaryOp). unary_meant o m) (sym c.in-Increment.is)) c.here-start.ensures.count c.in_ok-told-in-Increment.ensures.code c.in_ok-told-in-Increment.ensures.tells c.put_bump.ensures
+    told_bumped c.args.names.now c.put_bump.result c.args.op step.Increment (OPS_FOR_SIZE * expr_size c.args.operand.now - 2) c.args.line c.here-start.result c.args.operand.now _ _ _ _ (λ m. ap (λ (o : UnaryOp). unary_meant o m) (sym c.in-Increment.is)) c.here-start.ensures.count c.in_ok-told-in-Increment.ensures.code c.in_ok-told-in-Increment.ensures.tells (grown_in c.put_bump.result c.args.names.now 6 c.args.line _ _ _ _ _ _ c.put_bump.ensures)
 
 pub lower_unary-returns-in_ok-told-in-Decrement-clause-code : goal.lower_unary-returns-in_ok-told-in-Decrement-clause-code
 lower_unary-returns-in_ok-told-in-Decrement-clause-code t c =
-    arm_bumped c.args.names.now c.put_bump-in-Decrement.result c.args.op step.Decrement (OPS_FOR_SIZE * expr_size c.args.operand.now - 2) _ c.args.line c.here-start-in-Decrement.result c.args.operand.now _ _ _ _ (λ m. ap (λ (o : UnaryOp). unary_meant o m) (sym c.in-Decrement.is)) (let s = some_size c.args.operand.now in omega arith) c.here-start-in-Decrement.ensures.count c.in_ok-told-in-Decrement.ensures.code c.in_ok-told-in-Decrement.ensures.tells c.put_bump-in-Decrement.ensures
+    arm_bumped c.args.names.now c.put_bump-in-Decrement.result c.args.op step.Decrement (OPS_FOR_SIZE * expr_size c.args.operand.now - 2) _ c.args.line c.here-start-in-Decrement.result c.args.operand.now _ _ _ _ (λ m. ap (λ (o : UnaryOp). unary_meant o m) (sym c.in-Decrement.is)) (let s = some_size c.args.operand.now in omega arith) c.here-start-in-Decrement.ensures.count c.in_ok-told-in-Decrement.ensures.code c.in_ok-told-in-Decrement.ensures.tells (grown_in c.put_bump-in-Decrement.result c.args.names.now 6 c.args.line _ _ _ _ _ _ c.put_bump-in-Decrement.ensures)
 
 pub lower_unary-returns-in_ok-told-in-Decrement-clause-tells : goal.lower_unary-returns-in_ok-told-in-Decrement-clause-tells
 lower_unary-returns-in_ok-told-in-Decrement-clause-tells t c =
-    told_bumped c.args.names.now c.put_bump-in-Decrement.result c.args.op step.Decrement (OPS_FOR_SIZE * expr_size c.args.operand.now - 2) c.args.line c.here-start-in-Decrement.result c.args.operand.now _ _ _ _ (λ m. ap (λ (o : UnaryOp). unary_meant o m) (sym c.in-Decrement.is)) c.here-start-in-Decrement.ensures.count c.in_ok-told-in-Decrement.ensures.code c.in_ok-told-in-Decrement.ensures.tells c.put_bump-in-Decrement.ensures
+    told_bumped c.args.names.now c.put_bump-in-Decrement.result c.args.op step.Decrement (OPS_FOR_SIZE * expr_size c.args.operand.now - 2) c.args.line c.here-start-in-Decrement.result c.args.operand.now _ _ _ _ (λ m. ap (λ (o : UnaryOp). unary_meant o m) (sym c.in-Decrement.is)) c.here-start-in-Decrement.ensures.count c.in_ok-told-in-Decrement.ensures.code c.in_ok-told-in-Decrement.ensures.tells (grown_in c.put_bump-in-Decrement.result c.args.names.now 6 c.args.line _ _ _ _ _ _ c.put_bump-in-Decrement.ensures)
 
 pub lower_written-returns-in_ok-lower_to_variable-in-Some : goal.lower_written-returns-in_ok-lower_to_variable-in-Some
 lower_written-returns-in_ok-lower_to_variable-in-Some t c =

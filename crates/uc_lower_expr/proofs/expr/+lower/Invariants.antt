@@ -8,10 +8,10 @@ use Rattle.uc_lower_expr.specs.Contexts.{context_in}
 use Rattle.uc_lower_expr.proofs.expr.+lower.Given as goal
 
 abbrev pub invariant-lower_links-loop-link : goal.invariant-lower_links-loop-link
-invariant-lower_links-loop-link l = Grows (OPS_FOR_SIZE * links_size (links_of (take l.link-index l.links))) l.line l.initial.out.marks l.start (chain_meant (context_in l.names l.initial.out) (links_of (take l.link-index l.links))) l.fn.first l.told l.initial.out l.out
+invariant-lower_links-loop-link l = Grows l.names (OPS_FOR_SIZE * links_size (links_of (take l.link-index l.links))) l.line l.initial.out.marks l.start (chain_meant (context_in l.names l.initial.out) (links_of (take l.link-index l.links))) l.fn.first l.told l.initial.out l.out
 
 abbrev pub invariant-lower_parts-loop-part : goal.invariant-lower_parts-loop-part
-invariant-lower_parts-loop-part l = Grows (OPS_FOR_SIZE * parts_size (parts_of (take l.part-index l.parts))) l.line l.initial.out.marks l.start (parts_meant (context_in l.names l.initial.out) (parts_of (take l.part-index l.parts))) l.fn.root l.told l.initial.out l.out
+invariant-lower_parts-loop-part l = Grows l.names (OPS_FOR_SIZE * parts_size (parts_of (take l.part-index l.parts))) l.line l.initial.out.marks l.start (parts_meant (context_in l.names l.initial.out) (parts_of (take l.part-index l.parts))) l.fn.root l.told l.initial.out l.out
 
 abbrev pub invariant-lower_args-loop-place : goal.invariant-lower_args-loop-place
 invariant-lower_args-loop-place l = Adds (OPS_FOR_SIZE * exprs_size (exprs_of (take l.place l.args))) (ArgumentsCode l.line l.initial.out.marks (args_by l.params (args_meant (context_in l.names l.initial.out) (exprs_of (take l.place l.args))))) l.initial.out l.out

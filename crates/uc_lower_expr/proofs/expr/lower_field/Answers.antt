@@ -1,12 +1,32 @@
-use Rattle.std.proofs.Common.{pos, arith}
-use Rattle.uc_tree.specs.declared.limits.TheConstants.{OPS_FOR_SIZE}
-use Rattle.uc_tree.specs.Resolve.{Meant, field_meant}
-use Rattle.uc_code.specs.declared.op.Op.TheVariants as op
-use Rattle.uc_lower_expr.proofs.Growing.{grows_restart}
-use Rattle.uc_lower_expr.proofs.Arms.{field_code}
+use Rattle.std.proofs.Common.{ap}
+use Rattle.uc_tree.specs.Resolve.{Standing, field_by}
+use Rattle.uc_lower_expr.specs.declared.meaning.Standing.TheVariants as standing
+use Rattle.uc_lower_expr.proofs.Members.{no_part, input_member, variable_member, field_member, at_place_member}
 use Rattle.uc_lower_expr.proofs.expr.lower_field.Goals as goal
 
-pub returns : goal.returns
-returns c =
-    grows_restart OPS_FOR_SIZE c.args.line c.args.out.now.marks c.args.start (λ (m : Meant). field_meant m c.args.name.now) c.args.told c.field.result (op.Push (pos 0)) _ _ (omega arith) c.requires.inside c.in_ok-restart.ensures
-    c.field.ensures (λ m u code z h. field_code c.args.out.now.marks c.args.line m.standing m c.args.name.now code c.args.start z h)
+pub returns-in-Input : goal.returns-in-Input
+returns-in-Input c = input_member c.lower_input_member.result c.args.names.now c.args.out.now.marks c.args.line c.args.start c.args.name.now c.args.told _ _ c.requires.inside c.in-Input.is c.lower_input_member.ensures.code c.lower_input_member.ensures.tells
+
+pub returns-in-Variable : goal.returns-in-Variable
+returns-in-Variable c = variable_member c.lower_member.result c.args.names.now _ c.args.line c.args.out.now.marks c.args.start c.in-Variable.field-0 c.args.name.now c.args.told _ _ c.in-Variable.is c.lower_member.ensures
+
+pub returns-in-Field : goal.returns-in-Field
+returns-in-Field c = field_member c.lower_member-in-Field.result c.args.names.now _ c.args.line c.args.out.now.marks c.args.start c.in-Field.field-0 c.args.name.now c.args.told _ _ c.in-Field.is c.lower_member-in-Field.ensures
+
+pub returns-in-Place : goal.returns-in-Place
+returns-in-Place c = at_place_member c.lower_member-in-Place.result c.args.names.now _ c.args.line c.args.out.now.marks c.args.start c.args.name.now c.args.told _ _ c.in-Place.is c.lower_member-in-Place.ensures
+
+pub returns-in-Value : goal.returns-in-Value
+returns-in-Value c = no_part c.put_nothing.result c.args.names.now c.args.out.now.marks c.args.line c.args.start c.args.name.now standing.Value c.args.told _ _ c.requires.inside c.in-Value.is (λ o m h. ap (λ (s : Standing). field_by c.args.names.now s m c.args.name.now) h) c.put_nothing.ensures.code c.put_nothing.ensures.tells
+
+pub returns-in-Fail : goal.returns-in-Fail
+returns-in-Fail c = no_part c.put_nothing-in-Fail.result c.args.names.now c.args.out.now.marks c.args.line c.args.start c.args.name.now standing.Fail c.args.told _ _ c.requires.inside c.in-Fail.is (λ o m h. ap (λ (s : Standing). field_by c.args.names.now s m c.args.name.now) h) c.put_nothing-in-Fail.ensures.code c.put_nothing-in-Fail.ensures.tells
+
+pub returns-in-Routine : goal.returns-in-Routine
+returns-in-Routine c = no_part c.put_nothing-in-Routine.result c.args.names.now c.args.out.now.marks c.args.line c.args.start c.args.name.now (standing.Routine c.in-Routine.field-0) c.args.told _ _ c.requires.inside c.in-Routine.is (λ o m h. ap (λ (s : Standing). field_by c.args.names.now s m c.args.name.now) h) c.put_nothing-in-Routine.ensures.code c.put_nothing-in-Routine.ensures.tells
+
+pub returns-in-Member : goal.returns-in-Member
+returns-in-Member c = no_part c.put_nothing-in-Member.result c.args.names.now c.args.out.now.marks c.args.line c.args.start c.args.name.now (standing.Member c.in-Member.field-0) c.args.told _ _ c.requires.inside c.in-Member.is (λ o m h. ap (λ (s : Standing). field_by c.args.names.now s m c.args.name.now) h) c.put_nothing-in-Member.ensures.code c.put_nothing-in-Member.ensures.tells
+
+pub returns-in-Nothing : goal.returns-in-Nothing
+returns-in-Nothing c = no_part c.put_nothing-in-Nothing.result c.args.names.now c.args.out.now.marks c.args.line c.args.start c.args.name.now standing.Nothing c.args.told _ _ c.requires.inside c.in-Nothing.is (λ o m h. ap (λ (s : Standing). field_by c.args.names.now s m c.args.name.now) h) c.put_nothing-in-Nothing.ensures.code c.put_nothing-in-Nothing.ensures.tells

@@ -1,4 +1,5 @@
-use Rattle.std.proofs.Common.{ℕ, List, refl, subst}
+use Rattle.std.proofs.Common.{ℕ, List, refl, sym, ap, subst, ◌∙◌}
+use Rattle.uc_tree.specs.Objects.{plain_class}
 use Rattle.uc_code.specs.Drafts.{IsInnermost, IsUnknown}
 use Rattle.uc_lower_expr.proofs.Naming.{unknown_named, innermost_named}
 use Rattle.uc_lower_expr.proofs.Arms.{told_known}
@@ -10,7 +11,7 @@ returns-in-Some c = record {
   is = innermost_named _ _ _ (subst (λ (n : List ℕ). IsInnermost c.args.out.now.names n c.in-Some.known.now) c.bytes.ensures c.in-Some.ensures);
   cell = refl;
   by_ref = refl;
-  tells = told_known c.in-Some.known.now _ c.of_base.ensures.shape refl c.standing_of.ensures;
+  tells = told_known c.in-Some.known.now _ c.of_base.ensures.shape (ap (λ p. plain_class p c.in-Some.known.now.ty.base) (sym c.sizes.ensures) ∙ sym c.plain_class.ensures) refl c.standing_of.ensures;
 }
 
 pub returns-in-None : goal.returns-in-None

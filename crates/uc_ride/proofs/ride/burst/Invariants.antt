@@ -1,4 +1,3 @@
-use Rattle.std.proofs.Common.{◌≡◌}
 use Rattle.uc_frames.specs.Weight.{weight}
 use Rattle.uc_ride.specs.Rode.{HasCome}
 use Rattle.uc_ride.proofs.ride.burst.Given as goal

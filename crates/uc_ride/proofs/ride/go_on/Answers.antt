@@ -1,4 +1,4 @@
-use Rattle.std.proofs.Common.{None, Some, ◌<◌, ◌+◌, subst, arith}
+use Rattle.std.proofs.Common.{subst, arith}
 use Rattle.uc_ride.specs.Rode.{HasBurst}
 use Rattle.uc_ride.proofs.Riding.{way_first, way_ticked, way_asked, way_sliced}
 use Rattle.uc_ride.proofs.ride.go_on.Goals as goal

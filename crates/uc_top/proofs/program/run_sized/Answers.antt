@@ -12,6 +12,6 @@ returns-in-Err-CodeTooLarge-clause-refused c =
     let large : IsLarge p c.in-Err-CodeTooLarge.field-0-0 = subst (Refuses p) c.in-Err-CodeTooLarge.field-0-is c.in-Err-CodeTooLarge.ensures.refused in
     record {
       runnable = c.requires.runnable;
-      frames = fit_frames p c.requires.runnable.built large.frames;
+      frames = fit_frames p large.frames;
       large = large.large;
     }

@@ -1,0 +1,140 @@
+-- How what is added to a draft is joined, and the code of calls, clean-ups and exits.
+use Rattle.std.proofs.Common.{◌≡◌, ℕ, ◌+◌, ◌*◌, ◌≤◌, ◌<◌, List, [], ◌∷◌, length, length-append, Bool, true, false, Option, Some, None, refl, ap, sym, subst, ◌∙◌, arith}
+use Rattle.uc_code.specs.declared.op.Op.{Op}
+use Rattle.uc_code.specs.declared.op.Op.TheVariants as op
+use Rattle.uc_code.specs.declared.rows.Array.{Array}
+use Rattle.uc_code.specs.declared.rows.Mark.{Mark}
+use Rattle.uc_code.specs.declared.rows.Mark.TheVariants as mark
+use Rattle.uc_code.specs.declared.rows.ObjectCall.{ObjectCall}
+use Rattle.uc_code.specs.declared.rows.Spot.{Spot}
+use Rattle.uc_code.specs.Drafts.{Draft, ops_with}
+use Rattle.uc_code.specs.Laid.{Laid, laid_in, routine_in}
+use Rattle.uc_code.specs.Ranges.{One, Risk, CallsBehind, Both, OverElements, Stable}
+use Rattle.uc_code.specs.Lowered.{spot_op, SpotAt, CalledAt, CallAt, CallDone, CleanBy, CleanAt}
+use Rattle.uc_code.specs.Open.{StandsBehind}
+use Rattle.uc_code.specs.Puts.{Puts, place_length, called_length, done_length, clean_by, clean_length}
+use Rattle.uc_code.proofs.Patches.{kept_with, one_with}
+use Rattle.uc_code.proofs.Stable.{elements_stable, kept_then, kept_same, nothing_stable, one_stable, risk_stable, calls_behind_stable, both_stable}
+
+-- a draft with other ops and rows, and once more
+
+pub rest_then : (a b c : Draft) → b ≡ record a { ops = b.ops; rows = b.rows; settled = b.settled } → c ≡ record b { ops = c.ops; rows = c.rows; settled = c.settled } → c ≡ record a { ops = c.ops; rows = c.rows; settled = c.settled }
+rest_then a b c h k = k ∙ ap (λ d. let e : Draft = record d { ops = c.ops; rows = c.rows; settled = c.settled } in e) h
+
+pub puts_put : (o : Op) (line : ℕ) (old new : Draft) → new ≡ record old { ops = ops_with old.ops o line } → Puts 1 (λ code. One code o line) old new
+puts_put o line old new e = subst (λ (d : Draft). Puts 1 (λ code. One code o line) old d) (sym e) (record {
+  rest = refl;
+  kept = kept_with (laid_in old) o line;
+  room = omega (arith, length-append old.ops (record { op = o; line = line } ∷ []));
+  code = one_with (laid_in old) o line;
+})
+
+pub puts_risk : (o : Op) (line : ℕ) (old new : Draft) → new ≡ record old { ops = ops_with old.ops o line } → Risk (laid_in new) old.marks o line (length old.ops) (length new.ops) → Puts 1 (λ code. Risk code old.marks o line) old new
+puts_risk o line old new e r =
+    let p = puts_put o line old new e in
+    record { rest = p.rest; kept = p.kept; room = p.room; code = r }
+
+pub puts_more : {m n : ℕ} {B : Laid → ℕ → ℕ → Type 0} {old new : Draft} → m ≤ n → Puts m B old new → Puts n B old new
+puts_more l h = record { rest = h.rest; kept = h.kept; room = let r = h.room in omega arith; code = h.code }
+
+pub puts_as : {m : ℕ} {B C : Laid → ℕ → ℕ → Type 0} {old new : Draft} → Puts m B old new → ((code : Laid) (a z : ℕ) → B code a z → C code a z) → Puts m C old new
+puts_as {m} {B} {C} {old} {new} h f = record { rest = h.rest; kept = h.kept; room = h.room; code = f (laid_in new) (length old.ops) (length new.ops) h.code }
+
+-- one piece and then another
+pub puts_both : {m n : ℕ} {B C : Laid → ℕ → ℕ → Type 0} {old mid new : Draft} → Stable B → Puts m B old mid → Puts n C mid new → Puts (m + n) (λ code. Both (B code) (C code)) old new
+puts_both {m} {n} {B} {C} {old} {mid} {new} b h g = record {
+  rest = rest_then old mid new h.rest g.rest;
+  kept = kept_then (laid_in old) (laid_in mid) (laid_in new) h.kept g.kept;
+  room = let r = h.room in let s = g.room in omega arith;
+  code = record {
+    middle = length mid.ops;
+    first = b.moves (laid_in mid) (laid_in new) (length old.ops) (length mid.ops) (kept_same (laid_in mid) (laid_in new) (length old.ops) (length mid.ops) (omega arith) g.kept) h.code;
+    second = g.code;
+  };
+}
+
+-- the marks stay
+pub marks_of : {n : ℕ} {S : Laid → ℕ → ℕ → Type 0} {old new : Draft} → Puts n S old new → new.marks ≡ old.marks
+marks_of h = ap (λ (d : Draft). d.marks) h.rest
+
+both : {B C : Laid → ℕ → ℕ → Type 0} → Stable B → Stable C → Stable (λ code. Both (B code) (C code))
+both {B} {C} b c = both_stable B b C c
+
+-- calls
+
+pub place_stable : (line : ℕ) (s : Spot) (a : Option Array) → Stable (λ code. SpotAt code line s a)
+place_stable line s None = one_stable (spot_op s) line
+place_stable line s (Some a) = both (one_stable (spot_op s) line) (both (one_stable op.Counted line) (one_stable (op.Index a.length a.size) line))
+
+pub called_stable : (line : ℕ) (ms : List Mark) (written : Bool) (r : ℕ) → Stable (λ code. CalledAt code line ms written r)
+called_stable line ms true r = both nothing_stable (both (one_stable op.Tick line) (risk_stable ms (op.CallOn r) line))
+called_stable line ms false r = calls_behind_stable ms r line
+
+pub call_stable : (line : ℕ) (what : ObjectCall) (ms : List Mark) → Stable (λ code. CallAt code line what ms)
+call_stable line what ms = both (place_stable line what.spot what.array) (called_stable line ms what.written what.routine)
+
+pub done_stable : (line : ℕ) (what : ObjectCall) (ms : List Mark) → Stable (λ code. CallDone code line what ms)
+done_stable line what ms = both (call_stable line what ms) (one_stable op.Discard line)
+
+pub clean_by_stable : (line : ℕ) (o : Option Array) (what : ObjectCall) (ms : List Mark) → Stable (λ code. CleanBy code line o what ms)
+clean_by_stable line None what ms = done_stable line what ms
+clean_by_stable line (Some x) what ms = elements_stable line ms x.length x.length op.Sweep op.Sweep (λ code ns. CallDone code line what ns) (λ code ns. CallDone code line what ns) (λ ns. done_stable line what ns) (λ ns. done_stable line what ns)
+
+pub clean_stable : (line : ℕ) (what : ObjectCall) (ms : List Mark) → Stable (λ code. CleanAt code line what ms)
+clean_stable line what ms = clean_by_stable line what.array what ms
+
+-- how long they are
+
+place_is : (code : Laid) (line : ℕ) (s : Spot) (o : Option Array) (a z : ℕ) → SpotAt code line s o a z → z ≡ a + place_length o
+place_is code line s None a z h = h.end
+place_is code line s (Some x) a z h = let e = h.first.end in let f = h.second.first.end in let g = h.second.second.end in omega arith
+
+called_is : (code : Laid) (line : ℕ) (ms : List Mark) (written : Bool) (r a z : ℕ) → CalledAt code line ms written r a z → z ≡ a + called_length written
+called_is code line ms true r a z h = let e = h.first.end in let f = h.second.first.end in let g = h.second.second.end in omega arith
+called_is code line ms false r a z h = h.risk.end
+
+pub done_is : (code : Laid) (line : ℕ) (what : ObjectCall) (ms : List Mark) (a z : ℕ) → CallDone code line what ms a z → z ≡ a + done_length what
+done_is code line what ms a z h =
+    let p = place_is code line what.spot what.array a h.first.middle h.first.first in
+    let c = called_is code line ms what.written what.routine h.first.middle h.middle h.first.second in
+    let e = h.second.end in
+    omega arith
+
+elements_are : (code : Laid) (line n : ℕ) (what : ObjectCall) (ms : List Mark) (a z : ℕ) → OverElements code line ms n n op.Sweep op.Sweep (CallDone code line what) (CallDone code line what) a z → z ≡ a + (2 * done_length what + 5)
+elements_are code line n what ms a z h =
+    let p = done_is code line what (mark.Elements h.row ∷ ms) (a + 1) h.test h.rounds.turn in
+    let q = done_is code line what (mark.Elements h.row ∷ ms) (h.test + 2) h.entry h.undoes.turn in
+    let e = h.undoes.end in
+    let u = h.unwind.end in
+    omega arith
+
+clean_by_is : (code : Laid) (line : ℕ) (o : Option Array) (what : ObjectCall) (ms : List Mark) (a z : ℕ) → CleanBy code line o what ms a z → z ≡ a + clean_by o what
+clean_by_is code line None what ms a z h = done_is code line what ms a z h
+clean_by_is code line (Some x) what ms a z h = elements_are code line x.length what ms a z h
+
+-- where a clean-up ends
+pub clean_is : (code : Laid) (line : ℕ) (what : ObjectCall) (ms : List Mark) (a z : ℕ) → CleanAt code line what ms a z → z ≡ a + clean_length what
+clean_is code line what ms a z h = clean_by_is code line what.array what ms a z h
+
+-- what is behind the call of a routine that nobody wrote
+pub puts_behind : (r line : ℕ) (old new : Draft) → routine_in old.marks < r → Puts 1 (λ code. Risk code old.marks (op.CallUnwritten r) line) old new → Puts 1 (λ code. CallsBehind code old.marks r line) old new
+puts_behind r line old new l h = puts_as h (λ code a z k. record { risk = k; behind = l })
+
+-- the parts of a call
+
+pub puts_call : (line : ℕ) (what : ObjectCall) (old mid new : Draft) → Puts 3 (λ code. SpotAt code line what.spot what.array) old mid → Puts 2 (λ code. CalledAt code line mid.marks what.written what.routine) mid new → Puts 5 (λ code. CallAt code line what old.marks) old new
+puts_call line what old mid new p q =
+    let r : Puts 2 (λ code. CalledAt code line old.marks what.written what.routine) mid new = subst (λ (ms : List Mark). Puts 2 (λ code. CalledAt code line ms what.written what.routine) mid new) (marks_of p) q in
+    puts_both (place_stable line what.spot what.array) p r
+
+pub puts_done : (line : ℕ) (what : ObjectCall) (old mid new : Draft) → Puts 5 (λ code. CallAt code line what old.marks) old mid → Puts 1 (λ code. One code op.Discard line) mid new → Puts 6 (λ code. CallDone code line what old.marks) old new
+puts_done line what old mid new p q = puts_both (call_stable line what old.marks) p q
+
+pub puts_written : (line r : ℕ) (old mid new : Draft) → Puts 1 (λ code. One code op.Tick line) old mid → Puts 1 (λ code. Risk code mid.marks (op.CallOn r) line) mid new → Puts 2 (λ code. CalledAt code line old.marks true r) old new
+puts_written line r old mid new p q =
+    let s : Puts 1 (λ code. Risk code old.marks (op.CallOn r) line) mid new = subst (λ (ms : List Mark). Puts 1 (λ code. Risk code ms (op.CallOn r) line) mid new) (marks_of p) q in
+    puts_as (puts_both (one_stable op.Tick line) p s) (λ code a z h. record { middle = a; first = record { end = refl }; second = h })
+
+-- a call is of a routine further on also in a draft with the same marks
+pub behind_stays : {n : ℕ} {S : Laid → ℕ → ℕ → Type 0} {old new : Draft} → (what : ObjectCall) → StandsBehind old.marks what → Puts n S old new → StandsBehind new.marks what
+behind_stays what b p = subst (λ (ms : List Mark). StandsBehind ms what) (sym (marks_of p)) b

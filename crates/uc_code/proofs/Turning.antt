@@ -1,0 +1,153 @@
+-- Turns over elements are paced: each one leaves fewer of them.
+use Rattle.std.proofs.Common.{◌≡◌, ℕ, suc, ◌+◌, ◌*◌, ◌<◌, ◌≤◌, List, Bool, true, false, Option, Some, None, refl, ap, sym, subst, ◌∙◌, arith}
+use Rattle.std.specs.Prelude.{slice_get, nat_eq}
+use Rattle.std.proofs.lemmas.Bool.{eq-eqb, ne_eqb}
+use Rattle.uc_code.specs.declared.op.Op.{Op}
+use Rattle.uc_code.specs.declared.op.Op.TheVariants as op
+use Rattle.uc_code.specs.declared.rows.Array.{Array}
+use Rattle.uc_code.specs.declared.rows.Mark.{Mark}
+use Rattle.uc_code.specs.declared.rows.ObjectCall.{ObjectCall}
+use Rattle.uc_code.specs.declared.rows.RoutineCode.{RoutineCode}
+use Rattle.uc_code.specs.declared.rows.Spot.{Spot}
+use Rattle.uc_code.specs.declared.rows.Spot.TheVariants as spot
+use Rattle.uc_code.specs.Laid.{Laid, routine_in}
+use Rattle.uc_code.specs.Pace.{climb_op, height, power, Test, test_by, test_of, turns_left, left_at, turn_height, burden, Onward, Calling, Paced}
+use Rattle.uc_code.specs.Ranges.{OpAt, Nothing, One, Risk, CallsBehind, Both}
+use Rattle.uc_code.specs.Lowered.{spot_op, SpotAt, CalledAt, CallAt}
+use Rattle.uc_code.proofs.Powers.{power_less, power_both}
+use Rattle.uc_code.proofs.Heights.{Low, Plain, Each, paced_by, none, only, join, within, height_is, test_is, burden_is, onward_low, onward_lower, Starts, Further, if_ge}
+
+module _ (code : Laid) (table : List RoutineCode) (test turn : ℕ) (o : Op) where
+  -- a place in a turn, of which this op is the test
+  pub record In (at : ℕ) : Type 0 where
+    pub is : test_of code.ops at ≡ Some (record { at = test; op = o; turn = turn })
+    pub from : turn ≤ at
+
+  abbrev left : Bool → ℕ → ℕ
+  left b e = turns_left o b e * power (height code.ops turn)
+
+  burden_by : (at e : ℕ) (b : Bool) → In at → nat_eq at test ≡ b → burden code.ops at e ≡ power (height code.ops at) + left b e
+  unfolding burden
+  burden_by at e b h q =
+      let f : left_at at (test_of code.ops at) e * power (turn_height code.ops (test_of code.ops at)) ≡ left_at at (Some (record { at = test; op = o; turn = turn })) e * power (height code.ops turn) = ap (λ (t : Option Test). left_at at t e * power (turn_height code.ops t)) h.is in
+      let g : left_at at (Some (record { at = test; op = o; turn = turn })) e ≡ turns_left o (nat_eq at test) e = if_ge at turn 0 (turns_left o (nat_eq at test) e) h.from in
+      let k : turns_left o (nat_eq at test) e ≡ turns_left o b e = ap (λ c. turns_left o c e) q in
+      ap (λ x. power (height code.ops at) + x) (f ∙ ap (λ x. x * power (height code.ops turn)) (g ∙ k))
+
+  pub burden_in : (at e : ℕ) → In at → at < test → burden code.ops at e ≡ power (height code.ops at) + left false e
+  burden_in at e h l = burden_by at e false h (ne_eqb at test (λ q. absurd (omega arith)))
+
+  pub burden_test : (e : ℕ) → In test → burden code.ops test e ≡ power (height code.ops test) + left true e
+  burden_test e h = burden_by test e true h (eq-eqb test test refl)
+
+  pub in_next : (at : ℕ) (p : Op) (line : ℕ) → OpAt code at p line → ((k : ℕ) (t : Option Test) → test_by p k t ≡ t) → turn ≤ at → In (at + 1) → In at
+  in_next at p line h t l n = record { is = test_is code table at p line h ∙ t at (test_of code.ops (at + 1)) ∙ n.is; from = l }
+
+  in_down : (at : ℕ) → In at → In (at + 1) → at + 1 < test → height code.ops (at + 1) < height code.ops at → Onward code.ops table at (at + 1)
+  in_down at h n l d = λ e. rw (burden_in at e h (omega arith), burden_in (at + 1) e n l) (omega (arith, power_less (height code.ops (at + 1)) (height code.ops at) d))
+
+  in_calling : (at r : ℕ) → In at → In (at + 1) → at + 1 < test → height code.ops (at + 1) < height code.ops at → ((c : RoutineCode) → slice_get table r ≡ Some c → Plain code table c.entry × (height code.ops c.entry < height code.ops at)) → Calling code.ops table at r
+  in_calling at r h n l d s = λ e c g.
+      let q = s c g in
+      rw (burden_in at e h (omega arith), burden_in (at + 1) e n l, burden_is code table c.entry 0 q.0.outside) (omega (arith, power_both (height code.ops c.entry) (height code.ops (at + 1)) (height code.ops at) q.1 d))
+
+  -- pieces of a turn, before its last op
+  pub record Turns (ms : List Mark) (B : ℕ → ℕ → Type 0) : Type 0 where
+    pub rises : (a z : ℕ) → B a z → a ≤ z
+    pub begins : (a z : ℕ) → B a z → turn ≤ a → In z → In a
+    pub low : (a z : ℕ) → B a z → Low code table z → Low code table a
+    pub each : Starts code table → (a z : ℕ) → B a z → turn ≤ a → z < test → Further code table (routine_in ms) z → In z → Low code table z → Each code table a z
+
+  nothing_turns : (ms : List Mark) → Turns ms Nothing
+  nothing_turns ms = record {
+    rises = λ a z h. let e = h.end in omega arith;
+    begins = λ a z h l n. let e = h.end in let f : z ≡ a = omega arith in let m = n.is in record { is = ap (test_of code.ops) (sym f) ∙ m; from = l };
+    low = λ a z h p. subst (Low code table) h.end p;
+    each = λ s a z h l m f n p. let e = h.end in none code table a z (omega arith);
+  }
+
+  onward_turns : (ms : List Mark) (p : Op) (line : ℕ) → ((n k h : ℕ) → climb_op n k p h ≡ suc h) → ((k : ℕ) (t : Option Test) → test_by p k t ≡ t) → ((at : ℕ) → Onward code.ops table at (at + 1) → Paced code.ops table at p) → Turns ms (One code p line)
+  onward_turns ms p line c t f = record {
+    rises = λ a z h. let e = h.end in omega arith;
+    begins = λ a z h l n. in_next a p line h.here t l (subst In h.end n);
+    low = λ a z h q. onward_low code table a p line h.here c (subst (Low code table) h.end q);
+    each = λ s a z h l m g n q.
+        let e = h.end in
+        let k : In (a + 1) = subst In h.end n in
+        only code table a z h.end (paced_by code table a p line h.here (f a (in_down a (in_next a p line h.here t l k) k (omega arith) (onward_lower code table a p line h.here c))));
+  }
+
+  both_turns : {B C : ℕ → ℕ → Type 0} → (ms : List Mark) → Turns ms B → Turns ms C → Turns ms (Both B C)
+  both_turns {B} {C} ms b c = record {
+    rises = λ a z h. let l = b.rises a h.middle h.first in let k = c.rises h.middle z h.second in omega arith;
+    begins = λ a z h l n. let k = b.rises a h.middle h.first in b.begins a h.middle h.first l (c.begins h.middle z h.second (omega arith) n);
+    low = λ a z h p. b.low a h.middle h.first (c.low h.middle z h.second p);
+    each = λ s a z h l m f n p.
+        let k = b.rises a h.middle h.first in
+        let i = c.rises h.middle z h.second in
+        join code table a h.middle z
+        (b.each s a h.middle h.first l (omega arith) (λ r d x y. let u = f r d x y in omega arith) (c.begins h.middle z h.second (omega arith) n) (c.low h.middle z h.second p))
+        (c.each s h.middle z h.second (omega arith) m f n p);
+  }
+
+  -- a tick and a call of a written routine
+  tick_turns : (ms : List Mark) (line : ℕ) → Turns ms (One code op.Tick line)
+  tick_turns ms line = record {
+    rises = λ a z h. let e = h.end in omega arith;
+    begins = λ a z h l n. in_next a op.Tick line h.here (λ k t. refl) l (subst In h.end n);
+    low = λ a z h q. let e = height_is code table a op.Tick line h.here in omega arith;
+    each = λ s a z h l m g n q. only code table a z h.end (paced_by code table a op.Tick line h.here tt);
+  }
+
+  -- a call is high, so that a tick stands before it
+  pub written_turns : (ms : List Mark) (line r : ℕ) → Turns ms (Both (One code op.Tick line) (Risk code ms (op.CallOn r) line))
+  written_turns ms line r = record {
+    rises = λ a z h. let e = h.first.end in let f = h.second.end in omega arith;
+    begins = λ a z h l n.
+        let e = h.first.end in
+        let k : In (h.middle + 1) = subst In h.second.end n in
+        let m : In h.middle = in_next h.middle (op.CallOn r) line h.second.here (λ k t. refl) (omega arith) k in
+        in_next a op.Tick line h.first.here (λ k t. refl) l (subst In h.first.end m);
+    low = λ a z h q. let e = height_is code table a op.Tick line h.first.here in omega arith;
+    each = λ s a z h l m g n q.
+        let e = h.first.end in
+        let f = h.second.end in
+        let k : In (h.middle + 1) = subst In h.second.end n in
+        let i : In h.middle = in_next h.middle (op.CallOn r) line h.second.here (λ k t. refl) (omega arith) k in
+        let x = height_is code table h.middle (op.CallOn r) line h.second.here in
+        let p : Low code table (h.middle + 1) = subst (Low code table) h.second.end q in
+        join code table a h.middle z
+        (only code table a h.middle h.first.end (paced_by code table a op.Tick line h.first.here tt))
+        (only code table h.middle z h.second.end (paced_by code table h.middle (op.CallOn r) line h.second.here (in_calling h.middle r i k (omega arith) (omega arith) (λ c y. let v = s r c y in let w = v.low in (v, omega arith)))));
+  }
+
+  pub unwritten_turns : (ms : List Mark) (line r : ℕ) → Turns ms (CallsBehind code ms r line)
+  unwritten_turns ms line r = record {
+    rises = λ a z h. let e = h.risk.end in omega arith;
+    begins = λ a z h l n. in_next a (op.CallUnwritten r) line h.risk.here (λ k t. refl) l (subst In h.risk.end n);
+    low = λ a z h q. let e = height_is code table a (op.CallUnwritten r) line h.risk.here in omega arith;
+    each = λ s a z h l m g n q.
+        let e = h.risk.end in
+        let k : In (a + 1) = subst In h.risk.end n in
+        let i : In a = in_next a (op.CallUnwritten r) line h.risk.here (λ k t. refl) l k in
+        let x = height_is code table a (op.CallUnwritten r) line h.risk.here in
+        let w = within code table a (op.CallUnwritten r) line h.risk.here in
+        let p : Low code table (a + 1) = subst (Low code table) h.risk.end q in
+        only code table a z h.risk.end (paced_by code table a (op.CallUnwritten r) line h.risk.here (in_calling a r i k (omega arith) (omega arith) (λ c y. let v = s r c y in let u = v.low in let b = g r c h.behind y in (v, omega arith))));
+  }
+
+  spot_turns : (ms : List Mark) (line : ℕ) (s : Spot) → Turns ms (One code (spot_op s) line)
+  spot_turns ms line (spot.Local k) = onward_turns ms (op.Local k) line (λ n k h. refl) (λ k t. refl) (λ at l. l)
+  spot_turns ms line (spot.This k) = onward_turns ms (op.This k) line (λ n k h. refl) (λ k t. refl) (λ at l. l)
+
+  place_turns : (ms : List Mark) (line : ℕ) (s : Spot) (a : Option Array) → Turns ms (SpotAt code line s a)
+  place_turns ms line s None = spot_turns ms line s
+  place_turns ms line s (Some a) =
+      both_turns ms (spot_turns ms line s) (both_turns ms (onward_turns ms op.Counted line (λ n k h. refl) (λ k t. refl) (λ at l. l)) (onward_turns ms (op.Index a.length a.size) line (λ n k h. refl) (λ k t. refl) (λ at l. l)))
+
+  called_turns : (ms : List Mark) (line : ℕ) (written : Bool) (r : ℕ) → Turns ms (CalledAt code line ms written r)
+  called_turns ms line true r = both_turns ms (nothing_turns ms) (written_turns ms line r)
+  called_turns ms line false r = unwritten_turns ms line r
+
+  pub call_turns : (ms : List Mark) (line : ℕ) (what : ObjectCall) → Turns ms (CallAt code line what ms)
+  call_turns ms line what = both_turns ms (place_turns ms line what.spot what.array) (called_turns ms line what.written what.routine)

@@ -1,0 +1,202 @@
+-- How an exit passes the marks, one after another, from the innermost one on.
+use Rattle.std.proofs.Common.{◌≡◌, ℕ, zero, suc, ◌+◌, ◌-◌, ◌≤◌, ◌<◌, min, List, [], ◌∷◌, ◌++◌, length, get_or, reverse, take, Some, None, refl, ap, sym, subst, ◌∙◌, arith}
+use Rattle.std.proofs.lemmas.List.{reverse-reverse, length-reverse, take_all}
+use Rattle.uc_tree.specs.Source as source
+use Rattle.uc_code.specs.declared.op.Op.{Op}
+use Rattle.uc_code.specs.declared.op.Op.TheVariants as op
+use Rattle.uc_code.specs.declared.rows.Mark.{Mark}
+use Rattle.uc_code.specs.declared.rows.Mark.TheVariants as mark
+use Rattle.uc_code.specs.declared.rows.Way.{Way}
+use Rattle.uc_code.specs.declared.rows.Way.TheVariants as way
+use Rattle.uc_code.specs.Drafts.{Draft}
+use Rattle.uc_code.specs.Laid.{Laid, handlers, rows_from}
+use Rattle.uc_code.specs.Leaving.{way_of}
+use Rattle.uc_code.specs.Ranges.{One}
+use Rattle.uc_code.specs.Lowered.{Any, ExitAt}
+use Rattle.uc_code.specs.Open.{Below, StandsBehind, exit_room}
+use Rattle.uc_code.specs.Puts.{Puts, PastBehind, PutsPast, Leaves, past_room, outermost, end_op, ends_at}
+use Rattle.uc_code.proofs.Closed.{reverse_take}
+use Rattle.uc_code.proofs.Exiting.{Passing, below_least, passes_clean, passes_part, passes_elements, passes_loop, leaves_mark, leaves_clean, leaves_end}
+use Rattle.uc_code.proofs.Seeing.{rows_dropped}
+
+-- the marks that are left
+
+reversed : (r all : List Mark) → reverse r ≡ all → reverse all ≡ r
+reversed r all e = ap reverse (sym e) ∙ reverse-reverse r
+
+pub outermost_all : (r all : List Mark) → reverse r ≡ all → outermost (length r) all ≡ all
+outermost_all r all e = ap (λ (q : List Mark). reverse (take (length r) q)) (reversed r all e) ∙ (ap reverse (take_all (length r) r (omega arith)) ∙ e)
+
+pub outermost_next : (r now all : List Mark) (i : ℕ) (d : Mark) → reverse r ≡ now → now ≡ all → 0 < i → i ≤ length all → outermost i all ≡ get_or r (i - 1) d ∷ outermost (i - 1) all
+outermost_next r now all i d e f p l =
+    let g : reverse all ≡ r = reversed r all (e ∙ f) in
+    let n : length all ≡ length r = ap length (sym (e ∙ f)) ∙ length-reverse r in
+    ap (λ (q : List Mark). reverse (take i q)) g ∙ (reverse_take r i d p (omega arith) ∙ ap (λ (q : List Mark). get_or r (i - 1) d ∷ reverse (take (i - 1) q)) (sym g))
+
+-- where the way ends
+
+some_same : (s t : Op × ℕ) → Some s ≡ Some t → s ≡ t
+some_same s t e = cc
+
+module _ (code : Laid) where
+  one_end : (t s : Op × ℕ) (a z : ℕ) → t ≡ s → One code s.0 s.1 a z → One code t.0 t.1 a z
+  one_end t s a z e h = subst (λ (q : Op × ℕ). One code q.0 q.1 a z) (sym e) h
+
+  any_end : (o : Op) (s : Op × ℕ) (line a z : ℕ) → (o, line) ≡ s → One code s.0 s.1 a z → Any code o a z
+  any_end o s line a z e h = record { line = line; one = one_end (o, line) s a z e h }
+
+  ends_exit : (w : Way) (m : Mark) (rest : List Mark) (line : ℕ) (s : Op × ℕ) (a z : ℕ) → ends_at w m line ≡ Some s → One code s.0 s.1 a z → ExitAt code (way_of w) (m ∷ rest) a z
+  ends_exit way.Break (mark.Body routine) rest line s a z e h = one_end (op.Return, 0) s a z (some_same (op.Return, 0) s e) h
+  ends_exit way.Break (mark.Finish routine last) rest line s a z e h = one_end (op.Return, last) s a z (some_same (op.Return, last) s e) h
+  ends_exit way.Break (mark.Loop leave again) rest line s a z e h = any_end (op.Jump leave) s line a z (some_same (op.Jump leave, line) s e) h
+  ends_exit way.Break (mark.Whole leave) rest line s a z e h = any_end (op.Jump leave) s line a z (some_same (op.Jump leave, line) s e) h
+  ends_exit way.Break (mark.Guard first count) rest line s a z e h = absurd (cc)
+  ends_exit way.Break (mark.Clean what last row) rest line s a z e h = absurd (cc)
+  ends_exit way.Break (mark.Part row) rest line s a z e h = absurd (cc)
+  ends_exit way.Break (mark.Elements row) rest line s a z e h = absurd (cc)
+  ends_exit way.Break (mark.Outward below row) rest line s a z e h = one_end (op.Return, 0) s a z (some_same (op.Return, 0) s e) h
+  ends_exit way.Continue (mark.Body routine) rest line s a z e h = one_end (op.Return, 0) s a z (some_same (op.Return, 0) s e) h
+  ends_exit way.Continue (mark.Finish routine last) rest line s a z e h = one_end (op.Return, last) s a z (some_same (op.Return, last) s e) h
+  ends_exit way.Continue (mark.Loop leave again) rest line s a z e h = any_end (op.Jump again) s line a z (some_same (op.Jump again, line) s e) h
+  ends_exit way.Continue (mark.Whole leave) rest line s a z e h = any_end (op.Jump leave) s line a z (some_same (op.Jump leave, line) s e) h
+  ends_exit way.Continue (mark.Guard first count) rest line s a z e h = absurd (cc)
+  ends_exit way.Continue (mark.Clean what last row) rest line s a z e h = absurd (cc)
+  ends_exit way.Continue (mark.Part row) rest line s a z e h = absurd (cc)
+  ends_exit way.Continue (mark.Elements row) rest line s a z e h = absurd (cc)
+  ends_exit way.Continue (mark.Outward below row) rest line s a z e h = one_end (op.Return, 0) s a z (some_same (op.Return, 0) s e) h
+  ends_exit way.Value (mark.Body routine) rest line s a z e h = one_end (op.ReturnValue, 0) s a z (some_same (op.ReturnValue, 0) s e) h
+  ends_exit way.Value (mark.Finish routine last) rest line s a z e h = one_end (op.Return, last) s a z (some_same (op.Return, last) s e) h
+  ends_exit way.Value (mark.Loop leave again) rest line s a z e h = absurd (cc)
+  ends_exit way.Value (mark.Whole leave) rest line s a z e h = any_end (op.Jump leave) s line a z (some_same (op.Jump leave, line) s e) h
+  ends_exit way.Value (mark.Guard first count) rest line s a z e h = absurd (cc)
+  ends_exit way.Value (mark.Clean what last row) rest line s a z e h = absurd (cc)
+  ends_exit way.Value (mark.Part row) rest line s a z e h = absurd (cc)
+  ends_exit way.Value (mark.Elements row) rest line s a z e h = absurd (cc)
+  ends_exit way.Value (mark.Outward below row) rest line s a z e h = one_end (op.ReturnValue, 0) s a z (some_same (op.ReturnValue, 0) s e) h
+  ends_exit way.End (mark.Body routine) rest line s a z e h = one_end (op.Return, 0) s a z (some_same (op.Return, 0) s e) h
+  ends_exit way.End (mark.Finish routine last) rest line s a z e h = one_end (op.Return, last) s a z (some_same (op.Return, last) s e) h
+  ends_exit way.End (mark.Loop leave again) rest line s a z e h = absurd (cc)
+  ends_exit way.End (mark.Whole leave) rest line s a z e h = any_end (op.Jump leave) s line a z (some_same (op.Jump leave, line) s e) h
+  ends_exit way.End (mark.Guard first count) rest line s a z e h = absurd (cc)
+  ends_exit way.End (mark.Clean what last row) rest line s a z e h = absurd (cc)
+  ends_exit way.End (mark.Part row) rest line s a z e h = absurd (cc)
+  ends_exit way.End (mark.Elements row) rest line s a z e h = absurd (cc)
+  ends_exit way.End (mark.Outward below row) rest line s a z e h = one_end (op.Return, 0) s a z (some_same (op.Return, 0) s e) h
+
+  bare_exit : (w : Way) (a z : ℕ) → One code (end_op w) 0 a z → ExitAt code (way_of w) [] a z
+  bare_exit way.Break a z h = h
+  bare_exit way.Continue a z h = h
+  bare_exit way.Value a z h = h
+  bare_exit way.End a z h = h
+
+exit_least : (ms : List Mark) → 1 ≤ exit_room ms
+exit_least [] = omega arith
+exit_least (mark.Body routine ∷ ms) = omega arith
+exit_least (mark.Finish routine last ∷ ms) = omega arith
+exit_least (mark.Loop leave again ∷ ms) = exit_least ms
+exit_least (mark.Whole leave ∷ ms) = omega arith
+exit_least (mark.Guard first count ∷ ms) = exit_least ms
+exit_least (mark.Clean what last row ∷ ms) = let l = exit_least ms in omega arith
+exit_least (mark.Part row ∷ ms) = exit_least ms
+exit_least (mark.Elements row ∷ ms) = exit_least ms
+exit_least (mark.Outward below row ∷ ms) = omega arith
+
+-- so the room is not used up
+pub leaves_room : (w : source.Way) (old now : Draft) (rest : List Mark) (most : ℕ) → length old.ops + exit_room old.marks ≤ most → Leaves w old now rest → length now.ops < most
+leaves_room w old now rest most l p = let r = p.room in let e = exit_least rest in omega arith
+
+pub exit_ends : (w : Way) (old now new : Draft) (m : Mark) (rest : List Mark) (line l : ℕ) (o : Op) → ends_at w m line ≡ Some (o, l) → Leaves (way_of w) old now (m ∷ rest) → Puts 1 (λ code. One code o l) now new → Puts (exit_room old.marks) (λ code. ExitAt code (way_of w) old.marks) old new
+exit_ends w old now new m rest line l o e p q = leaves_end (way_of w) old now new (m ∷ rest) o l (exit_least (m ∷ rest)) (λ code a z h. ends_exit code w m rest line (o, l) a z e h) p q
+
+pub exit_bare : (w : Way) (old now new : Draft) → Leaves (way_of w) old now [] → Puts 1 (λ code. One code (end_op w) 0) now new → Puts (exit_room old.marks) (λ code. ExitAt code (way_of w) old.marks) old new
+exit_bare w old now new p q = leaves_end (way_of w) old now new [] (end_op w) 0 (omega arith) (λ code a z h. bare_exit code w a z h) p q
+
+-- where it goes on
+
+pub past_fits : (w : Way) (m : Mark) (rest : List Mark) (line : ℕ) → ends_at w m line ≡ None → past_room m + exit_room rest ≤ exit_room (m ∷ rest)
+past_fits w (mark.Body routine) rest line e = absurd (cc)
+past_fits w (mark.Finish routine last) rest line e = absurd (cc)
+past_fits w (mark.Loop leave again) rest line e = omega arith
+past_fits w (mark.Whole leave) rest line e = absurd (cc)
+past_fits w (mark.Guard first count) rest line e = omega arith
+past_fits w (mark.Clean what last row) rest line e = omega arith
+past_fits w (mark.Part row) rest line e = omega arith
+past_fits w (mark.Elements row) rest line e = omega arith
+past_fits w (mark.Outward below row) rest line e = absurd (cc)
+
+pub past_room_left : (w : Way) (old now : Draft) (m : Mark) (rest : List Mark) (line most : ℕ) → length old.ops + exit_room old.marks ≤ most → ends_at w m line ≡ None → Leaves (way_of w) old now (m ∷ rest) → length now.ops + past_room m ≤ most
+past_room_left w old now m rest line most l e p = let r = p.room in let f = past_fits w m rest line e in omega arith
+
+pub past_behind : (m : Mark) (all rest now : List Mark) → now ≡ all → Passing all (m ∷ rest) → PastBehind m now
+past_behind (mark.Body routine) all rest now e p = tt
+past_behind (mark.Finish routine last) all rest now e p = tt
+past_behind (mark.Loop leave again) all rest now e p = tt
+past_behind (mark.Whole leave) all rest now e p = tt
+past_behind (mark.Guard first count) all rest now e p = tt
+past_behind (mark.Clean what last row) all rest now e p = subst (λ (ms : List Mark). StandsBehind ms what) (sym e) (record { behind = λ f. let r = p.routine in let b = p.behind.0.behind f in omega arith })
+past_behind (mark.Part row) all rest now e p = tt
+past_behind (mark.Elements row) all rest now e p = tt
+past_behind (mark.Outward below row) all rest now e p = tt
+
+guard_below : (k first n : ℕ) (hs : List ℕ) → Below k (rows_from first n ++ hs) → Below k hs
+guard_below k first zero hs b = b
+guard_below k first (suc n) hs b = guard_below k (suc first) n hs b.1
+
+passes_guard : (all : List Mark) (first count : ℕ) (rest : List Mark) → Passing all (mark.Guard first count ∷ rest) → Passing all rest
+passes_guard all first count rest p = record {
+  bound = min p.bound first;
+  low = below_least p.bound first (handlers rest) (guard_below p.bound first count (handlers rest) p.low) p.falling.0;
+  cut = λ k l. p.cut k (omega arith) ∙ rows_dropped k first count (handlers rest) (omega arith);
+  routine = p.routine;
+  falling = p.falling.1;
+  behind = p.behind;
+}
+
+pub passes_past : (w : Way) (all : List Mark) (m : Mark) (rest : List Mark) (line : ℕ) → ends_at w m line ≡ None → Passing all (m ∷ rest) → Passing all rest
+passes_past w all (mark.Body routine) rest line e p = absurd (cc)
+passes_past w all (mark.Finish routine last) rest line e p = absurd (cc)
+passes_past w all (mark.Loop leave again) rest line e p = passes_loop all leave again rest p
+passes_past w all (mark.Whole leave) rest line e p = absurd (cc)
+passes_past w all (mark.Guard first count) rest line e p = passes_guard all first count rest p
+passes_past w all (mark.Clean what last row) rest line e p = passes_clean all what last row rest p
+passes_past w all (mark.Part row) rest line e p = passes_part all row rest p
+passes_past w all (mark.Elements row) rest line e p = passes_elements all row rest p
+passes_past w all (mark.Outward below row) rest line e p = absurd (cc)
+
+guard_exit : (w : source.Way) (code : Laid) (first count : ℕ) (rest : List Mark) (a z : ℕ) → ExitAt code w rest a z → ExitAt code w (mark.Guard first count ∷ rest) a z
+guard_exit source.ToBreak code first count rest a z h = h
+guard_exit source.ToContinue code first count rest a z h = h
+guard_exit source.ToReturn code first count rest a z h = h
+guard_exit source.ToEnd code first count rest a z h = h
+
+part_exit : (w : source.Way) (code : Laid) (row : ℕ) (rest : List Mark) (a z : ℕ) → ExitAt code w rest a z → ExitAt code w (mark.Part row ∷ rest) a z
+part_exit source.ToBreak code row rest a z h = h
+part_exit source.ToContinue code row rest a z h = h
+part_exit source.ToReturn code row rest a z h = h
+part_exit source.ToEnd code row rest a z h = h
+
+elements_exit : (w : source.Way) (code : Laid) (row : ℕ) (rest : List Mark) (a z : ℕ) → ExitAt code w rest a z → ExitAt code w (mark.Elements row ∷ rest) a z
+elements_exit source.ToBreak code row rest a z h = h
+elements_exit source.ToContinue code row rest a z h = h
+elements_exit source.ToReturn code row rest a z h = h
+elements_exit source.ToEnd code row rest a z h = h
+
+loop_exit : (w : Way) (leave again line : ℕ) → ends_at w (mark.Loop leave again) line ≡ None → (code : Laid) (rest : List Mark) (a z : ℕ) → ExitAt code (way_of w) rest a z → ExitAt code (way_of w) (mark.Loop leave again ∷ rest) a z
+loop_exit way.Break leave again line e code rest a z h = absurd (cc)
+loop_exit way.Continue leave again line e code rest a z h = absurd (cc)
+loop_exit way.Value leave again line e code rest a z h = h
+loop_exit way.End leave again line e code rest a z h = h
+
+same_left : (w : source.Way) (old now next : Draft) (rest : List Mark) → next ≡ now → Leaves w old now rest → Leaves w old next rest
+same_left w old now next rest e p = subst (λ (d : Draft). Leaves w old d rest) (sym e) p
+
+pub leaves_past : (w : Way) (old now next : Draft) (m : Mark) (rest : List Mark) (line : ℕ) → ends_at w m line ≡ None → Passing old.marks (m ∷ rest) → Leaves (way_of w) old now (m ∷ rest) → PutsPast m now next → Leaves (way_of w) old next rest
+leaves_past w old now next (mark.Body routine) rest line e s p q = absurd (cc)
+leaves_past w old now next (mark.Finish routine last) rest line e s p q = absurd (cc)
+leaves_past w old now next (mark.Loop leave again) rest line e s p q = same_left (way_of w) old now next rest q (leaves_mark (way_of w) old now (mark.Loop leave again) rest refl (λ code a z h. loop_exit w leave again line e code rest a z h) p)
+leaves_past w old now next (mark.Whole leave) rest line e s p q = absurd (cc)
+leaves_past w old now next (mark.Guard first count) rest line e s p q = same_left (way_of w) old now next rest q (leaves_mark (way_of w) old now (mark.Guard first count) rest refl (λ code a z h. guard_exit (way_of w) code first count rest a z h) p)
+leaves_past w old now next (mark.Clean what last row) rest line e s p q = leaves_clean (way_of w) old now next what last row rest s p q
+leaves_past w old now next (mark.Part row) rest line e s p q = same_left (way_of w) old now next rest q (leaves_mark (way_of w) old now (mark.Part row) rest refl (λ code a z h. part_exit (way_of w) code row rest a z h) p)
+leaves_past w old now next (mark.Elements row) rest line e s p q = same_left (way_of w) old now next rest q (leaves_mark (way_of w) old now (mark.Elements row) rest refl (λ code a z h. elements_exit (way_of w) code row rest a z h) p)
+leaves_past w old now next (mark.Outward below row) rest line e s p q = absurd (cc)

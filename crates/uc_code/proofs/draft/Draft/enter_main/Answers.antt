@@ -1,0 +1,12 @@
+use Rattle.std.proofs.Common.{◌≡◌, ◌∙◌, ◌∷◌, List, length, reverse, ap}
+use Rattle.uc_code.specs.declared.rows.Mark.{Mark}
+use Rattle.uc_code.specs.declared.rows.Mark.TheVariants as mark
+use Rattle.uc_code.proofs.Closing.{reverse_push}
+use Rattle.uc_code.proofs.Settled.{settled_main}
+use Rattle.uc_code.proofs.draft.Draft.enter_main.Goals as goal
+
+pub invariant_of-self-2 : goal.invariant_of-self-2
+invariant_of-self-2 c =
+    let ms : List Mark = reverse c.self.inside.marks.items in
+    let e : reverse c.push.new.self.items ≡ mark.Finish c.args.routine c.args.line ∷ ms = ap reverse c.in_ok-push.ensures.items ∙ reverse_push c.self.inside.marks.items (mark.Finish c.args.routine c.args.line) in
+    (c.self.invariant.0, rw (e) (settled_main (length c.self.inside.ops.items) c.self.inside.settled c.args.routine c.args.line c.self.inside.rows.items ms c.self.invariant.1))

@@ -1,0 +1,27 @@
+-- Calls of constructors and destructors without arguments, as the resolved tree has them and as marks do.
+use Rattle.std.specs.Prelude.{◌≡◌, ℕ, Option, Some, None, true, false}
+use Rattle.uc_tree.specs.Source.{Shape, shape_cells, field_cells, Expr, Variable, Element, OfObject, OwnField, Counted, CallOn, CallUnwritten, NoExprs, CleanUp, Destroys, DestroysAll}
+use Rattle.uc_code.specs.declared.rows.Spot.{Spot}
+use Rattle.uc_code.specs.declared.rows.Spot.TheVariants.{Local, This}
+use Rattle.uc_code.specs.declared.rows.Array.{Array}
+use Rattle.uc_code.specs.declared.rows.ObjectCall.{ObjectCall}
+
+-- a place that begins in a spot: a variable, a field of the object at hand
+pub data BeginsAt : Expr → Spot → Type 0 where
+  InFrame : (k : ℕ) → BeginsAt (Variable k) (Local k)
+  InObject : (s : Shape) (i : ℕ) → BeginsAt (OfObject (OwnField s i)) (This (field_cells s i))
+
+-- an object there, or the element that is counted of an array there
+pub data LiesAt : Expr → Spot → Option Array → Type 0 where
+  Whole : (e : Expr) (spot : Spot) → BeginsAt e spot → LiesAt e spot None
+  Part : (n : ℕ) (s : Shape) (e : Expr) (spot : Spot) → BeginsAt e spot → LiesAt (Element n s e (OfObject Counted)) spot (Some (record { length = n; size = shape_cells s }))
+
+-- the call of a routine there, written or not
+pub data Calls : Expr → ObjectCall → Type 0 where
+  Written : (r : ℕ) (e : Expr) (spot : Spot) (array : Option Array) → LiesAt e spot array → Calls (OfObject (CallOn r e NoExprs)) (record { spot = spot; array = array; routine = r; written = true })
+  Unwritten : (r : ℕ) (e : Expr) (spot : Spot) (array : Option Array) → LiesAt e spot array → Calls (OfObject (CallUnwritten r e)) (record { spot = spot; array = array; routine = r; written = false })
+
+-- the call that cleans up an object, or each element of an array of this length
+pub data Cleans : CleanUp → ObjectCall → Type 0 where
+  One : (e : Expr) (what : ObjectCall) → Calls e what → what.array ≡ None → Cleans (Destroys e) what
+  All : (n size : ℕ) (e : Expr) (what : ObjectCall) → Calls e what → what.array ≡ Some (record { length = n; size = size }) → Cleans (DestroysAll n e) what

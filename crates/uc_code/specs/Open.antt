@@ -1,0 +1,227 @@
+-- Rows while code is laid out: a row is open from its first op on, and closed behind its last one.
+use Rattle.std.specs.Prelude.{◌≡◌, ℕ, zero, suc, ◌+◌, ◌<◌, ◌≤◌, ◌++◌, List, [], ◌∷◌, length, reverse, drop, min, Bool, true, false, ◌&&◌, nat_lt, if◌then◌else◌, Option, Some, None}
+use Rattle.uc_code.specs.declared.rows.HandlerRow.{HandlerRow}
+use Rattle.uc_code.specs.declared.rows.RowKind.TheVariants.{CleanUp}
+use Rattle.uc_code.specs.declared.rows.TheConstants.{ANY_EVENT, NO_EVENT, OPEN_END}
+use Rattle.uc_code.specs.declared.rows.Mark.{Mark}
+use Rattle.uc_code.specs.declared.rows.Mark.TheVariants as mark
+use Rattle.uc_code.specs.declared.rows.ObjectCall.{ObjectCall}
+use Rattle.uc_code.specs.declared.rows.Opening.{Opening}
+use Rattle.uc_code.specs.declared.rows.Opening.TheVariants as opening
+use Rattle.uc_code.specs.declared.marks.Seen.{Seen}
+use Rattle.uc_code.specs.declared.marks.Seen.TheVariants as seen
+use Rattle.uc_code.specs.Drafts.{Draft}
+use Rattle.uc_code.specs.Laid.{under, handlers, routine_in}
+
+-- the first of these rows
+abbrev pub first_in : List ℕ → Option ℕ
+first_in [] = None
+first_in (n ∷ ns) = Some n
+
+-- its name: its number plus 1, or 0 where there is none
+abbrev pub name_of : Option ℕ → ℕ
+name_of None = 0
+name_of (Some n) = suc n
+
+abbrev pub named_by : List ℕ → ℕ
+named_by ns = name_of (first_in ns)
+
+-- the row of a mark, if it has one
+abbrev pub row_in : List Mark → Option ℕ
+row_in [] = None
+row_in (mark.Body routine ∷ ms) = None
+row_in (mark.Finish routine line ∷ ms) = None
+row_in (mark.Loop leave again ∷ ms) = None
+row_in (mark.Whole leave ∷ ms) = None
+row_in (mark.Guard first count ∷ ms) = None
+row_in (mark.Clean what line row ∷ ms) = Some row
+row_in (mark.Part row ∷ ms) = Some row
+row_in (mark.Elements row ∷ ms) = Some row
+row_in (mark.Outward below row ∷ ms) = Some row
+
+-- the same, where the row has a clean-up
+abbrev pub handler_in : List Mark → Option ℕ
+handler_in [] = None
+handler_in (mark.Body routine ∷ ms) = None
+handler_in (mark.Finish routine line ∷ ms) = None
+handler_in (mark.Loop leave again ∷ ms) = None
+handler_in (mark.Whole leave ∷ ms) = None
+handler_in (mark.Guard first count ∷ ms) = None
+handler_in (mark.Clean what line row ∷ ms) = Some row
+handler_in (mark.Part row ∷ ms) = Some row
+handler_in (mark.Elements row ∷ ms) = Some row
+handler_in (mark.Outward below row ∷ ms) = None
+
+-- opening
+
+-- the mark of a row
+abbrev pub opening_mark : Opening → ℕ → Mark
+opening_mark (opening.Object what line) row = mark.Clean what line row
+opening_mark opening.Part row = mark.Part row
+opening_mark opening.Elements row = mark.Elements row
+opening_mark (opening.Outward below) row = mark.Outward below row
+
+abbrev pub opening_event : Opening → ℕ
+opening_event (opening.Object what line) = ANY_EVENT
+opening_event opening.Part = ANY_EVENT
+opening_event opening.Elements = ANY_EVENT
+opening_event (opening.Outward below) = NO_EVENT
+
+-- the number below which the rows around it are, where there are so many rows
+abbrev pub opening_bound : Opening → ℕ → ℕ
+opening_bound (opening.Object what line) rows = rows
+opening_bound opening.Part rows = rows
+opening_bound opening.Elements rows = rows
+opening_bound (opening.Outward below) rows = below
+
+-- the rows around it
+abbrev pub opening_around : Opening → List Mark → List ℕ
+opening_around (opening.Object what line) ms = handlers ms
+opening_around opening.Part ms = handlers ms
+opening_around opening.Elements ms = handlers ms
+opening_around (opening.Outward below) ms = under below (handlers ms)
+
+abbrev pub opened_row : Opening → Draft → HandlerRow
+opened_row o d = record { from = length d.ops; to = OPEN_END; outer = named_by (opening_around o d.marks); kind = CleanUp; event = opening_event o; entry = 0 }
+
+-- a draft in which a row is opened
+abbrev pub opened : Opening → Draft → Draft
+opened o d = record d { rows = d.rows ++ opened_row o d ∷ []; settled = length d.ops; marks = opening_mark o (length d.rows) ∷ d.marks }
+
+-- a constructor or a destructor that nobody wrote stands further on among the routines than what calls it
+pub record StandsBehind (ms : List Mark) (what : ObjectCall) : Type 0 where
+  pub behind : what.written ≡ false → routine_in ms < what.routine
+
+-- so it is for what cleans up the objects in whose scope these marks stand
+abbrev pub OpensBehind : Opening → List Mark → Type 0
+OpensBehind (opening.Object what line) ms = StandsBehind ms what
+OpensBehind opening.Part ms = Unit {0}
+OpensBehind opening.Elements ms = Unit {0}
+OpensBehind (opening.Outward below) ms = Unit {0}
+
+abbrev pub AllBehind : List Mark → Type 0
+AllBehind [] = Unit {0}
+AllBehind (mark.Body routine ∷ ms) = AllBehind ms
+AllBehind (mark.Finish routine line ∷ ms) = AllBehind ms
+AllBehind (mark.Loop leave again ∷ ms) = AllBehind ms
+AllBehind (mark.Whole leave ∷ ms) = AllBehind ms
+AllBehind (mark.Guard first count ∷ ms) = AllBehind ms
+AllBehind (mark.Clean what line row ∷ ms) = StandsBehind ms what × AllBehind ms
+AllBehind (mark.Part row ∷ ms) = AllBehind ms
+AllBehind (mark.Elements row ∷ ms) = AllBehind ms
+AllBehind (mark.Outward below row ∷ ms) = AllBehind ms
+
+-- the marks and the rows fit one another: a mark with a row has one that is still open, the marks around it have older rows, and
+-- every row that is no mark's ends by this place. The newest row stands first.
+pub data Nested (here : ℕ) : List HandlerRow → List Mark → Type 0 where
+  Bare : Nested here [] []
+  Ended : (r : HandlerRow) (rs : List HandlerRow) (ms : List Mark) → r.to ≤ here → Nested here rs ms → Nested here (r ∷ rs) ms
+  InBody : (routine : ℕ) (rs : List HandlerRow) (ms : List Mark) → Nested here rs ms → Nested here rs (mark.Body routine ∷ ms)
+  InMain : (routine line : ℕ) (rs : List HandlerRow) (ms : List Mark) → Nested here rs ms → Nested here rs (mark.Finish routine line ∷ ms)
+  InLoop : (leave again : ℕ) (rs : List HandlerRow) (ms : List Mark) → Nested here rs ms → Nested here rs (mark.Loop leave again ∷ ms)
+  InWhole : (leave : ℕ) (rs : List HandlerRow) (ms : List Mark) → Nested here rs ms → Nested here rs (mark.Whole leave ∷ ms)
+  InRow : (o : Opening) (from : ℕ) (rs : List HandlerRow) (ms : List Mark) → from ≤ here → Nested here rs ms → Nested here (record { from = from; to = OPEN_END; outer = named_by (opening_around o ms); kind = CleanUp; event = opening_event o; entry = 0 } ∷ rs) (opening_mark o (length rs) ∷ ms)
+
+-- numbers below another
+abbrev pub Below : ℕ → List ℕ → Type 0
+Below k [] = Unit {0}
+Below k (n ∷ ns) = (n < k) × Below k ns
+
+-- the rows of marks are newer than those of the marks around them
+abbrev pub Falling : List Mark → Type 0
+Falling [] = Unit {0}
+Falling (mark.Body routine ∷ ms) = Falling ms
+Falling (mark.Finish routine line ∷ ms) = Falling ms
+Falling (mark.Loop leave again ∷ ms) = Falling ms
+Falling (mark.Whole leave ∷ ms) = Falling ms
+Falling (mark.Guard first count ∷ ms) = Below first (handlers ms) × Falling ms
+Falling (mark.Clean what line row ∷ ms) = Below row (handlers ms) × Falling ms
+Falling (mark.Part row ∷ ms) = Below row (handlers ms) × Falling ms
+Falling (mark.Elements row ∷ ms) = Below row (handlers ms) × Falling ms
+Falling (mark.Outward below row ∷ ms) = Falling ms
+
+-- a draft's ops from a place on have the handlers of its marks, of which it has so few that a number names each
+pub record IsSettled (ops settled : ℕ) (rows : List HandlerRow) (ms : List Mark) : Type 0 where
+  pub past : settled ≤ ops
+  pub few : length rows ≤ OPEN_END
+  pub nested : Nested settled (reverse rows) ms
+  pub behind : AllBehind ms
+
+-- closing
+
+-- a row ends here, and its clean-up begins at this op
+abbrev pub closed_row : ℕ → ℕ → HandlerRow → HandlerRow
+closed_row here entry r = record r { to = here; entry = entry }
+
+-- the row of this number does
+abbrev pub closed_rows : ℕ → ℕ → ℕ → List HandlerRow → List HandlerRow
+closed_rows here entry number [] = []
+closed_rows here entry zero (r ∷ rs) = closed_row here entry r ∷ rs
+closed_rows here entry (suc number) (r ∷ rs) = r ∷ closed_rows here entry number rs
+
+abbrev pub closed_by : Option ℕ → ℕ → Draft → Draft
+closed_by None entry d = d
+closed_by (Some number) entry d = record d { rows = closed_rows (length d.ops) entry number d.rows; settled = length d.ops; marks = drop 1 d.marks }
+
+-- a draft in which the row of the innermost mark is closed; its clean-up begins so many ops further on
+abbrev pub closed : ℕ → Draft → Draft
+closed ahead d = closed_by (row_in d.marks) (length d.ops + ahead) d
+
+-- leaving a mark that has no row
+
+abbrev pub is_rowless : List Mark → Bool
+is_rowless [] = false
+is_rowless (mark.Body routine ∷ ms) = true
+is_rowless (mark.Finish routine line ∷ ms) = true
+is_rowless (mark.Loop leave again ∷ ms) = true
+is_rowless (mark.Whole leave ∷ ms) = true
+is_rowless (mark.Guard first count ∷ ms) = false
+is_rowless (mark.Clean what line row ∷ ms) = false
+is_rowless (mark.Part row ∷ ms) = false
+is_rowless (mark.Elements row ∷ ms) = false
+is_rowless (mark.Outward below row ∷ ms) = false
+
+abbrev pub left_marks : List Mark → List Mark
+left_marks [] = []
+left_marks (mark.Body routine ∷ ms) = ms
+left_marks (mark.Finish routine line ∷ ms) = ms
+left_marks (mark.Loop leave again ∷ ms) = ms
+left_marks (mark.Whole leave ∷ ms) = ms
+left_marks (mark.Guard first count ∷ ms) = mark.Guard first count ∷ ms
+left_marks (mark.Clean what line row ∷ ms) = mark.Clean what line row ∷ ms
+left_marks (mark.Part row ∷ ms) = mark.Part row ∷ ms
+left_marks (mark.Elements row ∷ ms) = mark.Elements row ∷ ms
+left_marks (mark.Outward below row ∷ ms) = mark.Outward below row ∷ ms
+
+-- what a mark tells of the rows below a number
+
+abbrev pub seen_row : Bool → ℕ → ℕ → Seen
+seen_row is_row row bound = if is_row && nat_lt row bound then seen.Row row else seen.Bound bound
+
+abbrev pub seen_at : Mark → ℕ → Seen
+seen_at (mark.Body routine) bound = seen.Bound bound
+seen_at (mark.Finish routine line) bound = seen.Bound bound
+seen_at (mark.Loop leave again) bound = seen.Bound bound
+seen_at (mark.Whole leave) bound = seen.Bound bound
+seen_at (mark.Guard first count) bound = seen_row (nat_lt 0 count) first bound
+seen_at (mark.Clean what line row) bound = seen_row true row bound
+seen_at (mark.Part row) bound = seen_row true row bound
+seen_at (mark.Elements row) bound = seen_row true row bound
+seen_at (mark.Outward below row) bound = seen.Bound (min bound below)
+
+-- how many ops clean-ups and exits take
+
+abbrev pub clean_room : ℕ
+clean_room = 17
+
+abbrev pub exit_room : List Mark → ℕ
+exit_room [] = 1
+exit_room (mark.Body routine ∷ ms) = 1
+exit_room (mark.Finish routine line ∷ ms) = 1
+exit_room (mark.Loop leave again ∷ ms) = exit_room ms
+exit_room (mark.Whole leave ∷ ms) = 1
+exit_room (mark.Guard first count ∷ ms) = exit_room ms
+exit_room (mark.Clean what line row ∷ ms) = clean_room + exit_room ms
+exit_room (mark.Part row ∷ ms) = exit_room ms
+exit_room (mark.Elements row ∷ ms) = exit_room ms
+exit_room (mark.Outward below row ∷ ms) = 1

@@ -1,0 +1,170 @@
+-- All routines together take no more ops than the size of their program allows.
+use Rattle.std.proofs.Common.{◌≡◌, ℕ, ◌+◌, ◌*◌, ◌≤◌, List, [], ◌∷◌, Bool, true, false, Option, Some, None, if◌then◌else◌, is_some, length, refl, ap, ◌∙◌, arith}
+use Rattle.uc_tree.specs.declared.limits.TheConstants.{OPS_FOR_SIZE}
+use Rattle.uc_tree.specs.declared.kinds.Role.{Role}
+use Rattle.uc_tree.specs.declared.kinds.Role.TheVariants as role
+use Rattle.uc_tree.specs.Names.{same_name}
+use Rattle.uc_tree.specs.Expressions.{Expr}
+use Rattle.uc_tree.specs.ExpressionSizes.{exprs_size}
+use Rattle.uc_tree.specs.Sizes.{inits_size, program_size}
+use Rattle.uc_tree.specs.Programs.{Init, Routine, Class, Program}
+use Rattle.uc_tree.specs.Cells.{classes_of}
+use Rattle.uc_tree.specs.Numbering.{Defined, routines_of}
+use Rattle.uc_tree.specs.Objects.{ClassField, Unwritten, class_at, fields_of, place_of, unwritten_at, unwritten_by, unwritten_of, written_at}
+use Rattle.uc_tree.specs.Resolve.{class_by}
+use Rattle.uc_meaning.specs.declared.rules.Home.{Home}
+use Rattle.uc_meaning.specs.Breaks.{breaks_among, breaks_of}
+use Rattle.uc_meaning.specs.ProgramVisits.{items_visits, members_visits}
+use Rattle.uc_meaning.specs.Scopes.{class_around, plain_env}
+use Rattle.uc_meaning.specs.Visits.{AtClass, AtProgram}
+use Rattle.uc_lower_class.specs.Bodies.{builder_room, left_room, part_end, role_room, unwritten_room}
+use Rattle.uc_lower_class.specs.Fields.{all_room, fields_room, room_by}
+use Rattle.uc_lower_class.specs.Inits.{init_exprs}
+use Rattle.uc_lower.specs.Laying.{own_room, role_room_of, routine_room, unwritten_rooms, written_room}
+use Rattle.uc_lower.proofs.Ruled.{class_none, rest_none}
+use Rattle.uc_lower.proofs.Costs.{class_sizes, fields_cost, fields_few, fields_size, length_cost, own_size, owns, size_split}
+use Rattle.uc_lower.proofs.Distinct.{Fresh, init_size, inits_few, named_sizes, none_named}
+use Rattle.uc_lower.proofs.Named.{all_fresh, names_of}
+use Rattle.uc_lower.proofs.Owed.{all_owed, owed_few, paid}
+use Rattle.uc_lower.proofs.Apart.{routines_apart}
+use Rattle.uc_lower.proofs.Sums.{all_weight, sum, sum_add, sum_le_at, weight, weight_join}
+
+abbrev cost : Role → Option Class → ℕ
+cost role.Plain o = 0
+cost role.Constructor None = 0
+cost role.Constructor (Some c) = fields_cost (fields_of c.members)
+cost role.Destructor None = 0
+cost role.Destructor (Some c) = 40 * length (fields_of c.members)
+
+cost_plain : (o : Option Class) → cost role.Plain o ≡ 0
+cost_plain o = refl
+
+cost_none : (r : Role) → cost r None ≡ 0
+cost_none role.Plain = refl
+cost_none role.Constructor = refl
+cost_none role.Destructor = refl
+
+-- the ops of the fields of a class
+
+init_is : (is : List Init) (name : List ℕ) → exprs_size (init_exprs is name) ≡ init_size is name
+init_is [] name = refl
+init_is (x ∷ xs) name = by_case (same_name x.name name) (init_is xs name)
+  where
+    by_case : (b : Bool) → exprs_size (init_exprs xs name) ≡ init_size xs name → exprs_size (if b then x.args else init_exprs xs name) ≡ (if b then exprs_size x.args else init_size xs name)
+    by_case true more = refl
+    by_case false more = more
+
+length_is : (f : ClassField) → room_by f.declarator.len ≡ length_cost f.declarator.len
+length_is f = by_length f.declarator.len
+  where
+    by_length : (o : Option Expr) → room_by o ≡ length_cost o
+    by_length None = refl
+    by_length (Some e) = refl
+
+fields_are : (is : List Init) (fs : List ClassField) → fields_room is fs ≡ fields_cost fs + 64 * named_sizes is (names_of fs)
+fields_are is [] = refl
+fields_are is (f ∷ fs) =
+    let a = length_is f in
+    let b = init_is is f.declarator.name in
+    let h = fields_are is fs in
+    omega (arith, a, b, h)
+
+no_inits : (fs : List ClassField) → fields_room [] fs ≡ fields_cost fs
+no_inits fs = let a = fields_are [] fs in let b = none_named (names_of fs) in omega (arith, a, b)
+
+module _ (p : Program) (none : breaks_of p ≡ []) where
+  quiet : breaks_among (items_visits p 0 0 p.items) ≡ []
+  quiet = rest_none (AtProgram p) (items_visits p 0 0 p.items) none
+
+  fresh_fields : (i : ℕ) (c : Class) → class_at p i ≡ Some c → Fresh [] (names_of (fields_of c.members))
+  fresh_fields i c e =
+      let h : Home = record { class = 0 + i; kind = c.kind } in
+      let class = class_none p p.items 0 0 i c quiet e in
+      all_fresh p h c [] c.members refl (rest_none (AtClass (plain_env p (class_around h)) c (0 + i)) (members_visits p h c 0 c.members) class)
+
+  -- a written routine
+
+  built_few : (r : Routine) (place : Option ℕ) → all_room r.inits (class_by p place) ≤ cost role.Constructor (class_by p place) + 64 * inits_size r.inits
+  built_few r None = omega arith
+  built_few r (Some i) = by_class (class_at p i) refl
+    where
+      by_class : (o : Option Class) → class_at p i ≡ o → all_room r.inits o ≤ cost role.Constructor o + 64 * inits_size r.inits
+      by_class None e = omega arith
+      by_class (Some c) e =
+          let a = fields_are r.inits (fields_of c.members) in
+          let b = inits_few r.inits (names_of (fields_of c.members)) (fresh_fields i c e) in
+          omega (arith, a, b)
+
+  left_is : (o : Option Class) → left_room o ≡ cost role.Destructor o
+  left_is None = refl
+  left_is (Some c) = refl
+
+  routine_few : (d : Defined) (r : Role) → d.routine.sig.role ≡ r → routine_room p d ≤ cost r (class_by p (place_of p d.number)) + 64 * (1 + own_size d.routine)
+  routine_few d role.Plain e =
+      let is : routine_room p d ≡ role_room_of p role.Plain d = ap (λ (r : Role). role_room_of p r d) e in
+      omega (arith, is)
+  routine_few d role.Constructor e =
+      let is : routine_room p d ≡ builder_room p d.routine d.number = ap (λ (r : Role). role_room_of p r d) e in
+      let builder : builder_room p d.routine d.number ≡ role_room p role.Constructor (place_of p d.number) d.routine + 1 = ap (λ (r : Role). role_room p r (place_of p d.number) d.routine + 1) e in
+      let h = built_few d.routine (place_of p d.number) in
+      omega (arith, is, builder, h)
+  routine_few d role.Destructor e =
+      let is : routine_room p d ≡ builder_room p d.routine d.number = ap (λ (r : Role). role_room_of p r d) e in
+      let builder : builder_room p d.routine d.number ≡ role_room p role.Destructor (place_of p d.number) d.routine + 1 = ap (λ (r : Role). role_room p r (place_of p d.number) d.routine + 1) e in
+      let h = left_is (class_by p (place_of p d.number)) in
+      omega (arith, is, builder, h)
+
+  written_few : (ds : List Defined) → written_room p ds ≤ all_owed p cost cost_plain cost_none ds + 64 * owns ds
+  written_few [] = omega arith
+  written_few (d ∷ ds) =
+      let a = routine_few d d.routine.sig.role refl in
+      let b = written_few ds in
+      omega (arith, a, b)
+
+  -- those that nobody wrote
+
+  same_weight : (us : List Unwritten) → unwritten_rooms p us ≡ weight p (own_room p) us
+  same_weight [] = refl
+  same_weight (u ∷ us) = ap (λ n. own_room p u + n) (same_weight us)
+
+  -- one of them, written or not
+  one_few : (r : Role) (i : ℕ) (c : Class) → own_room p (record { class = i; role = r }) ≤ cost r (Some c) + 20 → (o : Option ℕ) → (if is_some o then cost r (Some c) else 0) + weight p (own_room p) (unwritten_by o i r) ≤ cost r (Some c) + 20
+  one_few r i c l None = omega (arith, l)
+  one_few r i c l (Some n) = omega arith
+
+  builds_few : (i : ℕ) (c : Class) → class_at p i ≡ Some c → own_room p (record { class = i; role = role.Constructor }) ≤ cost role.Constructor (Some c) + 20
+  builds_few i c e =
+      let a : own_room p (record { class = i; role = role.Constructor }) ≡ unwritten_room role.Constructor (Some c) + 1 = ap (λ (o : Option Class). unwritten_room role.Constructor o + 1) e in
+      let b : all_room [] (Some c) ≡ cost role.Constructor (Some c) = no_inits (fields_of c.members) in
+      let d : unwritten_room role.Constructor (Some c) ≡ all_room [] (Some c) + part_end = refl in
+      omega (arith, a, b, d)
+
+  destroys_few : (i : ℕ) (c : Class) → class_at p i ≡ Some c → own_room p (record { class = i; role = role.Destructor }) ≤ cost role.Destructor (Some c) + 20
+  destroys_few i c e =
+      let a : unwritten_room role.Destructor (class_at p i) ≡ unwritten_room role.Destructor (Some c) = ap (unwritten_room role.Destructor) e in
+      omega (arith, a)
+
+  class_few : (i : ℕ) (c : Class) → class_at p i ≡ Some c → paid p cost cost_plain cost_none (routines_of p) c i + weight p (own_room p) (unwritten_at p i) ≤ 64 * (1 + fields_size (fields_of c.members))
+  class_few i c e =
+      let j = weight_join p (own_room p) (unwritten_by (written_at p i role.Constructor) i role.Constructor) (unwritten_by (written_at p i role.Destructor) i role.Destructor) in
+      let a = one_few role.Constructor i c (builds_few i c e) (written_at p i role.Constructor) in
+      let b = one_few role.Destructor i c (destroys_few i c e) (written_at p i role.Destructor) in
+      let f = fields_few (fields_of c.members) in
+      omega (arith, j, a, b, f)
+
+  sizes_are : (cs : List Class) (i : ℕ) → sum (λ c i. 64 * (1 + fields_size (fields_of c.members))) cs i ≡ 64 * class_sizes cs
+  sizes_are [] i = refl
+  sizes_are (c ∷ cs) i = let h = sizes_are cs (i + 1) in omega (arith, h)
+
+  pub rooms_fit : written_room p (routines_of p) + unwritten_rooms p (unwritten_of p) ≤ OPS_FOR_SIZE * program_size p
+  rooms_fit =
+      let w = written_few (routines_of p) in
+      let o = owed_few p cost cost_plain cost_none (routines_of p) (routines_apart p none) in
+      let s = same_weight (unwritten_of p) in
+      let u = all_weight p (own_room p) in
+      let join = sum_add (paid p cost cost_plain cost_none (routines_of p)) (λ c i. weight p (own_room p) (unwritten_at p i)) (classes_of p.items) 0 in
+      let each = sum_le_at (λ c i. paid p cost cost_plain cost_none (routines_of p) c i + weight p (own_room p) (unwritten_at p i)) (λ c i. 64 * (1 + fields_size (fields_of c.members))) (classes_of p.items) 0
+      (λ k c e. let z : 0 + k ≡ k = omega arith in class_few (0 + k) c (ap (class_at p) z ∙ e)) in
+      let sizes = sizes_are (classes_of p.items) 0 in
+      let split = size_split p in
+      omega (arith, w, o, s, u, join, each, sizes, split)

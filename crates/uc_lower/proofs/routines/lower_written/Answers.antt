@@ -1,0 +1,45 @@
+use Rattle.std.proofs.Common.{◌≡◌, true, false, refl, sym, ap, ◌∙◌, arith}
+use Rattle.uc_tree.specs.Numbering.{is_plain}
+use Rattle.uc_tree.specs.Programs.{Sig}
+use Rattle.uc_numbers.specs.Routines.{defined_at}
+use Rattle.uc_lower.proofs.Laying.{plain_room, builder_room_is}
+use Rattle.uc_lower.proofs.routines.lower_written.Goals as goal
+
+pub lower_routine-requires-clause-plain : goal.lower_routine-requires-clause-plain
+lower_routine-requires-clause-plain c = ap (λ (s : Sig). is_plain s.role) (sym c.sig_of.ensures) ∙ sym c.is_plain.ensures ∙ c.if-is_plain.true
+
+pub lower_routine-requires-clause-room : goal.lower_routine-requires-clause-room
+lower_routine-requires-clause-room c =
+    let plain : is_plain c.args.one.now.routine.now.sig.role ≡ true = ap (λ (s : Sig). is_plain s.role) (sym c.sig_of.ensures) ∙ sym c.is_plain.ensures ∙ c.if-is_plain.true in
+    let e = plain_room c.args.names.now (defined_at c.args.one.now) c.args.one.now.routine.now.sig.role refl plain in
+    let room = c.requires.room in
+    omega (arith, e, room)
+
+pub returns-then-is_plain-clause-room : goal.returns-then-is_plain-clause-room
+returns-then-is_plain-clause-room c =
+    let plain : is_plain c.args.one.now.routine.now.sig.role ≡ true = ap (λ (s : Sig). is_plain s.role) (sym c.sig_of.ensures) ∙ sym c.is_plain.ensures ∙ c.if-is_plain.true in
+    let e = plain_room c.args.names.now (defined_at c.args.one.now) c.args.one.now.routine.now.sig.role refl plain in
+    let room = c.in_ok-lower_routine.ensures.room in
+    omega (arith, e, room)
+
+pub lower_builder-requires-clause-role : goal.lower_builder-requires-clause-role
+lower_builder-requires-clause-role c = ap (λ (s : Sig). is_plain s.role) (sym c.sig_of.ensures) ∙ sym c.is_plain.ensures ∙ c.if-is_plain.false
+
+pub lower_builder-requires-clause-main : goal.lower_builder-requires-clause-main
+lower_builder-requires-clause-main c =
+    let builds : is_plain c.args.one.now.routine.now.sig.role ≡ false = ap (λ (s : Sig). is_plain s.role) (sym c.sig_of.ensures) ∙ sym c.is_plain.ensures ∙ c.if-is_plain.false in
+    sym c.requires.main ∙ c.requires.alone builds
+
+pub lower_builder-requires-clause-room : goal.lower_builder-requires-clause-room
+lower_builder-requires-clause-room c =
+    let builds : is_plain c.args.one.now.routine.now.sig.role ≡ false = ap (λ (s : Sig). is_plain s.role) (sym c.sig_of.ensures) ∙ sym c.is_plain.ensures ∙ c.if-is_plain.false in
+    let e = builder_room_is c.args.names.now (defined_at c.args.one.now) c.args.one.now.routine.now.sig.role refl builds in
+    let room = c.requires.room in
+    omega (arith, e, room)
+
+pub returns-clause-room : goal.returns-clause-room
+returns-clause-room c =
+    let builds : is_plain c.args.one.now.routine.now.sig.role ≡ false = ap (λ (s : Sig). is_plain s.role) (sym c.sig_of.ensures) ∙ sym c.is_plain.ensures ∙ c.if-is_plain.false in
+    let e = builder_room_is c.args.names.now (defined_at c.args.one.now) c.args.one.now.routine.now.sig.role refl builds in
+    let room = c.in_ok-lower_builder.ensures.room in
+    omega (arith, e, room)

@@ -1,0 +1,123 @@
+// What is numbered in a program, for names; and the cells of its classes.
+
+ghost use Rattle.std.specs.Prelude.{◌≡◌, ◌++◌, [], ◌∷◌, length, map, IfOk, OnOk};
+ghost use Rattle.uc_tree.specs.Cells.{class_cells, classes_of};
+ghost use Rattle.uc_tree.specs.Numbering.{routines_of};
+ghost use Rattle.uc_tree.specs.Objects.{unwritten_of};
+ghost use Rattle.uc_tree.specs.Programs.{Program};
+ghost use Rattle.uc_tree.specs.Resolve.{all_classes, classes_meant};
+ghost use Rattle.uc_lower_expr.specs.Members.{FitClasses};
+ghost use Rattle.uc_lower_expr.specs.Numbered.{IsNumbering};
+ghost use Rattle.uc_numbers.specs.Routines.{defined_at};
+ghost use Rattle.uc_unwritten.specs.Unwritten.{number_of_class, unwritten_as};
+
+use std::alloc::{AllocError, Global};
+use uc_lower_expr::numbering::Numbering;
+use uc_numbers::classes::is_event;
+use uc_numbers::routines::Defined;
+use uc_sizes::lists::classes_in;
+use uc_sizes::sizes::Sizes;
+use uc_tree::class::{Class, Routine};
+use uc_tree::kinds::Role;
+use uc_tree::program::Program;
+use uc_unwritten::unwritten::{Unwritten, numbers_of};
+
+// The routines alone.
+fn routines_in<'a>(alloc: Global, defined: &[Defined<'a>]) -> Result<Vec<&'a Routine>, AllocError>
+    ensures { IfOk result (λ v. map (λ r. r.now) v.items ≡ map (λ d. d.routine) (map defined_at defined.now)) }
+{
+    let mut routines = Vec::new(alloc);
+    for d in defined {
+        routines.push(d.routine)?;
+    }
+    Ok(routines)
+}
+
+// The numbers of their classes.
+fn owners_in(alloc: Global, defined: &[Defined]) -> Result<Vec<u32>, AllocError>
+    ensures { IfOk result (λ v. v.items ≡ map (λ d. d.number) (map defined_at defined.now)) }
+{
+    let mut owners = Vec::new(alloc);
+    for d in defined {
+        owners.push(d.number)?;
+    }
+    Ok(owners)
+}
+
+/// The numbering of a program with these routines, so many; `classes` are the numbers of its classes by their places.
+pub(crate) fn numbering_of<'a>(
+    alloc: Global,
+    defined: &[Defined<'a>],
+    count: u32,
+    unwritten: &[Unwritten],
+    classes: Vec<u32>,
+) -> Result<Numbering<'a>, AllocError>
+    requires count { count ≡ length defined.now }
+    ensures { IfOk result (λ n. (p : Program) → map defined_at defined.now ≡ routines_of p → map unwritten_as unwritten.now ≡ unwritten_of p → classes.items ≡ map (number_of_class p) (classes_of p.items) → IsNumbering p n) }
+{
+    let routines = routines_in(alloc, defined)?;
+    let owners = owners_in(alloc, defined)?;
+    let constructors = numbers_of(alloc, unwritten, Role::Constructor, classes.len(), count)?;
+    let destructors = numbers_of(alloc, unwritten, Role::Destructor, classes.len(), count)?;
+    Ok(Numbering {
+        routines,
+        owners,
+        classes,
+        constructors,
+        destructors,
+    })
+}
+
+// The cells of the class with this place, which has room.
+fn cells_at(sizes: &Sizes, place: usize) -> u32
+    requires { FitClasses sizes.now }
+    ensures { result ≡ class_cells sizes.now place }
+{
+    sizes.cells_of_class(place) as u32
+}
+
+// Those of one class more, which has this place; an event has none.
+fn push_cells(
+    cells: &mut Vec<u32>,
+    sizes: &Sizes,
+    place: usize,
+    class: &Class,
+) -> Result<(), AllocError>
+    requires { FitClasses sizes.now }
+    ensures { OnOk result (cells.new.items ≡ cells.old.items ++ map (λ c. c.cells) (classes_meant sizes.now place (class.now ∷ []))) }
+{
+    if is_event(class.kind) {
+        return Ok(());
+    }
+    cells.push(cells_at(sizes, place))?;
+    Ok(())
+}
+
+// The cells of these classes, events apart.
+fn cells_in(alloc: Global, sizes: &Sizes, classes: &[&Class]) -> Result<Vec<u32>, AllocError>
+    requires fit { FitClasses sizes.now }
+    requires classes { map (λ c. c.now) classes.now ≡ classes_of sizes.now.items }
+    ensures { IfOk result (λ v. v.items ≡ map (λ c. c.cells) (all_classes sizes.now)) }
+{
+    let mut cells = Vec::new(alloc);
+    cells.push(0)?;
+    for (place, class) in classes.iter().enumerate() {
+        push_cells(&mut cells, sizes, place, class)?;
+    }
+    Ok(cells)
+}
+
+/// The cells of uMain, which has no fields, and of the classes of a program, events apart, in textual order.
+pub(crate) fn cells_of_classes(
+    alloc: Global,
+    program: &Program,
+    sizes: &Sizes,
+) -> Result<Vec<u32>, AllocError>
+    requires sizes { sizes.now ≡ program.now }
+    requires fit { FitClasses program.now }
+    ensures { IfOk result (λ v. v.items ≡ map (λ c. c.cells) (all_classes program.now)) }
+{
+    let classes = classes_in(alloc, &program.items)?;
+    let cells = cells_in(alloc, sizes, &classes)?;
+    Ok(cells)
+}

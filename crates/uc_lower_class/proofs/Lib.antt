@@ -1,0 +1,11 @@
+pub mod Assembling
+pub mod Builders
+pub mod Fielding
+pub mod Further
+pub mod Leaving
+pub mod Looping
+pub mod Naming
+pub mod Parting
+pub mod Rooms
+pub mod Stepping
+pub mod Wholes

@@ -1,0 +1,66 @@
+-- The fields of a class take no more ops than their size allows, in its constructor and its destructor together.
+use Rattle.std.proofs.Common.{◌≡◌, ℕ, ◌+◌, ◌*◌, ◌≤◌, List, [], ◌∷◌, ◌++◌, Bool, true, false, Option, Some, None, if◌then◌else◌, length, refl, ap, sym, subst, ◌∙◌, arith}
+use Rattle.uc_tree.specs.declared.limits.TheConstants.{OPS_FOR_SIZE}
+use Rattle.uc_tree.specs.declared.kinds.Base.{Base}
+use Rattle.uc_tree.specs.Expressions.{Expr, Number, Character, Truth, Name, Cin, Postfix, Unary, Chain, Assign}
+use Rattle.uc_tree.specs.ExpressionSizes.{expr_size, exprs_size}
+use Rattle.uc_tree.specs.Names.{same_name}
+use Rattle.uc_tree.specs.Statements.{Declarator}
+use Rattle.uc_tree.specs.StatementSizes.{declarator_size, declarators_size, maybe_expr_size}
+use Rattle.uc_tree.specs.Programs.{Init, MemberForm, FieldsMember, RoutineMember, ProtoMember, Member}
+use Rattle.uc_tree.specs.Objects.{ClassField, declared_fields, fields_of, form_fields}
+use Rattle.uc_tree.specs.Sizes.{inits_size}
+use Rattle.uc_lower_stmt.specs.Marked.{close_room}
+use Rattle.uc_lower_class.specs.Fields.{fields_room, room_by}
+
+-- the size of the declarators of fields
+abbrev pub fields_size : List ClassField → ℕ
+fields_size [] = 0
+fields_size (f ∷ fs) = declarator_size f.declarator + fields_size fs
+
+some_size : (e : Expr) → 1 ≤ expr_size e
+some_size (Number p n) = omega arith
+some_size (Character p byte) = omega arith
+some_size (Truth p b) = omega arith
+some_size (Name p name) = omega arith
+some_size (Cin p) = omega arith
+some_size (Postfix p root parts) = omega arith
+some_size (Unary p op operand) = omega arith
+some_size (Chain p first rest) = omega arith
+some_size (Assign p sign op place value) = omega arith
+
+room_fits : (o : Option Expr) → room_by o + close_room ≤ OPS_FOR_SIZE * (1 + maybe_expr_size o)
+room_fits None = omega arith
+room_fits (Some e) = let s = some_size e in omega arith
+
+pub fields_fit : (fs : List ClassField) → fields_room [] fs + close_room * length fs ≤ OPS_FOR_SIZE * fields_size fs
+fields_fit [] = omega arith
+fields_fit (f ∷ fs) = let r = fields_fit fs in let o = room_fits f.declarator.len in omega arith
+
+-- the size of fields is that of the members that declare them
+
+declared_size : (b : Base) (ds : List Declarator) → fields_size (declared_fields b ds) ≡ declarators_size ds
+declared_size b [] = refl
+declared_size b (d ∷ ds) = ap (λ n. declarator_size d + n) (declared_size b ds)
+
+size_join : (fs gs : List ClassField) → fields_size (fs ++ gs) ≡ fields_size fs + fields_size gs
+size_join [] gs = omega arith
+size_join (f ∷ fs) gs = let r = size_join fs gs in omega (arith, r)
+
+abbrev form_size : MemberForm → ℕ
+form_size (FieldsMember at b ds) = declarators_size ds
+form_size (RoutineMember routine) = 0
+form_size (ProtoMember sig) = 0
+
+form_is : (f : MemberForm) → fields_size (form_fields f) ≡ form_size f
+form_is (FieldsMember at b ds) = declared_size b ds
+form_is (RoutineMember routine) = refl
+form_is (ProtoMember sig) = refl
+
+abbrev pub members_fields_size : List Member → ℕ
+members_fields_size [] = 0
+members_fields_size (m ∷ ms) = form_size m.form + members_fields_size ms
+
+pub fields_are : (ms : List Member) → fields_size (fields_of ms) ≡ members_fields_size ms
+fields_are [] = refl
+fields_are (m ∷ ms) = size_join (form_fields m.form) (fields_of ms) ∙ (let a = form_is m.form in let b = fields_are ms in omega (arith, a, b))

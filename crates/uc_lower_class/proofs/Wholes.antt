@@ -1,0 +1,243 @@
+-- A block that is left as a whole, and the bodies that are made of it.
+use Rattle.std.proofs.Common.{◌≡◌, ℕ, ◌+◌, ◌*◌, ◌≤◌, ◌<◌, List, [], ◌∷◌, ◌++◌, drop, length, reverse, refl, ap, sym, subst, ◌∙◌, arith}
+use Rattle.std.proofs.lemmas.List.{append-nil}
+use Rattle.std.proofs.lemmas.Option.{slice_get_within}
+use Rattle.uc_tree.specs.Source.{Stmt, Stmts, Nil, Then, Whole}
+use Rattle.uc_tree.specs.declared.limits.TheConstants.{OPS_FOR_SIZE}
+use Rattle.uc_tree.specs.Statements as tree
+use Rattle.uc_tree.specs.StatementSizes.{stmts_size}
+use Rattle.uc_tree.specs.Cells.{declared_cells, stmts_cells}
+use Rattle.uc_tree.specs.Scopes.{stmts_scopes}
+use Rattle.uc_tree.specs.Programs.{Program, Routine}
+use Rattle.uc_tree.specs.Resolve.{Scope, scope_behind, stmts_meant}
+use Rattle.uc_code.specs.declared.op.Op.{Op}
+use Rattle.uc_code.specs.declared.op.Op.TheVariants as op
+use Rattle.uc_code.specs.declared.rows.Instruction.{Instruction}
+use Rattle.uc_code.specs.declared.rows.Mark.{Mark}
+use Rattle.uc_code.specs.declared.rows.Mark.TheVariants as mark
+use Rattle.uc_code.specs.declared.rows.ObjectCall.{ObjectCall}
+use Rattle.uc_code.specs.Drafts.{Draft, patched}
+use Rattle.uc_code.specs.Laid.{Laid, laid_in}
+use Rattle.uc_code.specs.Open.{left_marks}
+use Rattle.uc_code.specs.Ranges.{OpAt, Kept}
+use Rattle.uc_code.specs.Lowered.{StmtAt, StmtsAt}
+use Rattle.uc_code.proofs.Patches.{handler_stays, length-patched, patched_at, same_after, same_before}
+use Rattle.uc_code.proofs.Stable.{kept_then, kept_same}
+use Rattle.uc_lower_expr.specs.Added.{Adds, OpCode}
+use Rattle.uc_lower_stmt.specs.Pending.{Step, block_of}
+use Rattle.uc_lower_stmt.specs.Marked.{objects_in}
+use Rattle.uc_lower_stmt.specs.Scoped.{Lowers, LowersStmts, scope_of, sizes_at}
+use Rattle.uc_lower_class.specs.Bodies.{LowersWhole, whole_room}
+use Rattle.uc_lower_stmt.proofs.Kept.{stmts_stable}
+use Rattle.uc_lower_class.specs.Pended.{Pended, Begins, Constructs, EndsParts, end_room}
+use Rattle.uc_lower_class.proofs.Parting.{block_join, end_reverse, marks_behind, pended_kept}
+
+-- what was laid out before a place stays where the op at the place is another one
+kept_patch : (old now : Laid) (at : ℕ) (o : Op) → Kept old now → length old.ops ≤ at → Kept old (record { ops = patched now.ops at o; rows = now.rows })
+kept_patch old now at o k l = record {
+  longer = let e = length-patched now.ops at o in let x = k.longer in omega arith;
+  same = λ i was line w. let x = slice_get_within old.ops i (record { op = was; line = line }) w.here in (same_before now at o 0 at (omega arith)).same i was line (omega arith) (omega arith) (k.same i was line w);
+  chains = λ next b. k.chains next b;
+  handlers = λ number entry w. handler_stays now (record { ops = patched now.ops at o; rows = now.rows }) refl number entry (k.handlers number entry w);
+}
+
+-- a draft with another op at a place, and these marks
+abbrev ended : Draft → List Mark → ℕ → Op → Draft
+ended d ms at o = record d { ops = patched d.ops at o; marks = ms }
+
+module _ (line start end n k c o : ℕ) (ss : Stmts) (after : Scope) (d0 d1 d2 d3 d4 d5 new : Draft)
+    (st : start ≡ length d0.ops) (g1 : Adds 1 (OpCode line (op.Jump (start + 2))) d0 d1) (g2 : Adds 1 (OpCode line (op.Jump 0)) d1 d2) (en : d3 ≡ record d2 { marks = mark.Whole (start + 1) ∷ d2.marks })
+    (h : Lowers n k c o (λ code. StmtsAt code d3.marks line ss) after d3 d4) (lv : d5 ≡ record d4 { marks = left_marks d4.marks }) (ee : end ≡ length d5.ops) (pt : new ≡ record d5 { ops = patched d5.ops (start + 1) (op.Jump end) }) where
+  abbrev a : ℕ
+  a = length d0.ops
+
+  abbrev ms : List Mark
+  ms = d0.marks
+
+  abbrev was : Laid
+  was = laid_in d4
+
+  abbrev now : Laid
+  now = record { ops = patched d4.ops (a + 1) (op.Jump (length d4.ops)); rows = d4.rows }
+
+  long_one : length d1.ops ≡ a + 1
+  long_one = g1.code.end
+
+  long_two : length d2.ops ≡ a + 2
+  long_two = let x = g2.code.end in let y = long_one in omega arith
+
+  marks_two : d2.marks ≡ ms
+  marks_two = ap (λ (d : Draft). d.marks) g2.rest ∙ ap (λ (d : Draft). d.marks) g1.rest
+
+  entered : d3 ≡ record d2 { marks = mark.Whole (a + 1) ∷ ms }
+  entered = en ∙ ap (λ (x : ℕ). let d : Draft = record d2 { marks = mark.Whole (x + 1) ∷ d2.marks } in d) st ∙ ap (λ (ns : List Mark). let d : Draft = record d2 { marks = mark.Whole (a + 1) ∷ ns } in d) marks_two
+
+  inside : d3.marks ≡ mark.Whole (a + 1) ∷ ms
+  inside = ap (λ (d : Draft). d.marks) entered
+
+  ops_three : d3.ops ≡ d2.ops
+  ops_three = ap (λ (d : Draft). d.ops) entered
+
+  laid_three : laid_in d3 ≡ laid_in d2
+  laid_three = ap laid_in entered
+
+  kept_three : Kept (laid_in d2) was
+  kept_three = subst (λ (code : Laid). Kept code was) laid_three h.kept
+
+  kept_one : Kept (laid_in d1) was
+  kept_one = kept_then (laid_in d1) (laid_in d2) was g2.kept kept_three
+
+  kept_all : Kept (laid_in d0) was
+  kept_all = kept_then (laid_in d0) (laid_in d1) was g1.kept kept_one
+
+  marks_four : left_marks d4.marks ≡ ms
+  marks_four = ap left_marks (ap (λ (d : Draft). d.marks) h.rest ∙ inside)
+
+  leaving : d5 ≡ record d4 { marks = ms }
+  leaving = lv ∙ ap (λ (ns : List Mark). let d : Draft = record d4 { marks = ns } in d) marks_four
+
+  ops_five : d5.ops ≡ d4.ops
+  ops_five = ap (λ (d : Draft). d.ops) leaving
+
+  is : new ≡ ended d4 ms (a + 1) (op.Jump (length d4.ops))
+  is = pt ∙ ap (λ (x : ℕ). let d : Draft = record d5 { ops = patched d5.ops (start + 1) (op.Jump x) } in d) (ee ∙ ap length ops_five)
+      ∙ ap (λ (x : ℕ). let d : Draft = record d5 { ops = patched d5.ops (x + 1) (op.Jump (length d4.ops)) } in d) st
+      ∙ ap (λ (d : Draft). let x : Draft = record d { ops = patched d.ops (a + 1) (op.Jump (length d4.ops)) } in x) leaving
+
+  long : length now.ops ≡ length d4.ops
+  long = length-patched d4.ops (a + 1) (op.Jump (length d4.ops))
+
+  begins : OpAt now a (op.Jump (a + 2)) line
+  begins =
+      let first : OpAt (laid_in d1) a (op.Jump (a + 2)) line = subst (λ (x : ℕ). OpAt (laid_in d1) a (op.Jump (x + 2)) line) st g1.code.here in
+      (same_before was (a + 1) (op.Jump (length d4.ops)) 0 (a + 1) (omega arith)).same a (op.Jump (a + 2)) line (omega arith) (omega arith) (kept_one.same a (op.Jump (a + 2)) line first)
+
+  leaves : OpAt now (a + 1) (op.Jump (length d4.ops)) line
+  leaves =
+      let hole : OpAt (laid_in d2) (a + 1) (op.Jump 0) line = subst (λ (x : ℕ). OpAt (laid_in d2) x (op.Jump 0) line) long_one g2.code.here in
+      patched_at was (a + 1) (op.Jump (length d4.ops)) (op.Jump 0) line (kept_three.same (a + 1) (op.Jump 0) line hole)
+
+  body : StmtsAt now (mark.Whole (a + 1) ∷ ms) line ss (a + 2) (length d4.ops)
+  body =
+      let from : length d3.ops ≡ a + 2 = ap length ops_three ∙ long_two in
+      let under = subst (λ (ns : List Mark). StmtsAt was ns line ss (length d3.ops) (length d4.ops)) inside h.code in
+      let here = subst (λ (x : ℕ). StmtsAt was (mark.Whole (a + 1) ∷ ms) line ss x (length d4.ops)) from under in
+      (stmts_stable (mark.Whole (a + 1) ∷ ms) line ss).moves was now (a + 2) (length d4.ops) (same_after was (a + 1) (op.Jump (length d4.ops)) (a + 2) (length d4.ops) (omega arith)) here
+
+  whole_at : StmtAt now ms (Whole line ss) a (length now.ops)
+  whole_at = subst (λ (z : ℕ). StmtAt now ms (Whole line ss) a z) (sym long) (record { begin = begins; leave = leaves; body = body })
+
+  four_is : d4 ≡ record d0 { ops = d4.ops; rows = d4.rows; settled = d4.settled; marks = mark.Whole (a + 1) ∷ ms; scopes = d4.scopes; names = d4.names; cells = d4.cells; texts = d4.texts; sites = d4.sites }
+  four_is =
+      h.rest ∙ ap (λ (d : Draft). let x : Draft = record d { ops = d4.ops; rows = d4.rows; settled = d4.settled; scopes = d4.scopes; names = d4.names; cells = d4.cells; texts = d4.texts; sites = d4.sites } in x)
+      (entered ∙ ap (λ (d : Draft). let x : Draft = record d { marks = mark.Whole (a + 1) ∷ ms } in x) (g2.rest ∙ ap (λ (d : Draft). let x : Draft = record d { ops = d2.ops } in x) g1.rest))
+
+  scope_three : scope_of d3 ≡ scope_of d0
+  scope_three = ap scope_of entered ∙ ap scope_of g2.rest ∙ ap scope_of g1.rest
+
+  pub arm_whole : Lowers (2 + n) k c o (λ code. StmtAt code ms (Whole line ss)) after d0 new
+  arm_whole =
+      let texts_three : d3.texts ≡ d0.texts = ap (λ (s : Scope). s.texts) scope_three in
+      let cells_three : d3.cells ≡ d0.cells = ap (λ (s : Scope). s.cells) scope_three in
+      let scopes_three : d3.scopes ≡ d0.scopes = ap (λ (d : Draft). d.scopes) entered ∙ ap (λ (d : Draft). d.scopes) g2.rest ∙ ap (λ (d : Draft). d.scopes) g1.rest in
+      let ops_long = ap length ops_three in
+      let two = long_two in
+      subst (λ (d : Draft). Lowers (2 + n) k c o (λ code. StmtAt code ms (Whole line ss)) after d0 d) (sym is) (record {
+        rest = ap (λ (d : Draft). ended d ms (a + 1) (op.Jump (length d4.ops))) four_is;
+        scope = h.scope;
+        opened = let x = h.opened in omega arith;
+        kept = kept_patch (laid_in d0) was (a + 1) (op.Jump (length d4.ops)) kept_all (omega arith);
+        room = let x = h.room in let y = long in omega arith;
+        texts = let x = h.texts in omega arith;
+        cells = let x = h.cells in omega arith;
+        code = whole_at;
+      })
+
+-- a block behind fields that are built, and the end of their parts
+module _ (n m k c o : ℕ) (F : Stmts → Stmts) (us : List ObjectCall) (s : Stmt) (after : Scope) (d0 d1 d2 new : Draft) (h : Constructs n F [] d0 us d1) (w : Lowers m k c o (λ code. StmtAt code d1.marks s) after d1 d2) (e : EndsParts (reverse us) d2 new) where
+  marks_two-built : d2.marks ≡ d1.marks
+  marks_two-built = ap (λ (d : Draft). d.marks) w.rest
+
+  laid : Pended (laid_in d1) d0.marks (length d0.ops) (reverse us) (h.steps ++ []) d1.marks (length d1.ops)
+  laid = h.code d0.marks (length d0.ops) [] Begins
+
+  marks_back : new.marks ≡ d0.marks
+  marks_back = e.marks ∙ ap (λ (ns : List Mark). drop (length (reverse us)) ns) marks_two-built ∙ marks_behind (laid_in d1) d0.marks (length d0.ops) (reverse us) (h.steps ++ []) d1.marks (length d1.ops) laid
+
+  block_is : block_of (h.steps ++ []) (Then s Nil) ≡ F (Then s Nil)
+  block_is = block_join [] h.steps (Then s Nil) ∙ h.block (Then s Nil)
+
+  built_code : StmtsAt (laid_in new) d0.marks 0 (F (Then s Nil)) (length d0.ops) (length new.ops)
+  built_code =
+      let before : Pended (laid_in d2) d0.marks (length d0.ops) (reverse us) (h.steps ++ []) d2.marks (length d1.ops) = subst (λ (ns : List Mark). Pended (laid_in d2) d0.marks (length d0.ops) (reverse us) (h.steps ++ []) ns (length d1.ops)) (sym marks_two-built)
+      (pended_kept (laid_in d1) (laid_in d2) d0.marks (length d0.ops) (reverse us) (h.steps ++ []) d1.marks (length d1.ops) w.kept (omega arith) laid) in
+      let behind : StmtsAt (laid_in d2) d2.marks 0 (Then s Nil) (length d1.ops) (length d2.ops) = subst (λ (ns : List Mark). StmtsAt (laid_in d2) ns 0 (Then s Nil) (length d1.ops) (length d2.ops)) (sym marks_two-built) (record { middle = length d2.ops; first = w.code; second = record { end = refl } }) in
+      subst (λ (ss : Stmts). StmtsAt (laid_in new) d0.marks 0 ss (length d0.ops) (length new.ops)) block_is (e.block d0.marks (length d0.ops) (length d1.ops) (h.steps ++ []) (Then s Nil) before behind)
+
+  new_is : new ≡ record d0 { ops = new.ops; rows = new.rows; settled = new.settled; scopes = d2.scopes; names = d2.names; cells = d2.cells; texts = d2.texts; sites = d2.sites }
+  new_is =
+      e.rest ∙ ap (λ (d : Draft). let x : Draft = record d { ops = new.ops; rows = new.rows; settled = new.settled; marks = new.marks } in x) w.rest
+      ∙ ap (λ (d : Draft). let x : Draft = record d { ops = new.ops; rows = new.rows; settled = new.settled; marks = new.marks; scopes = d2.scopes; names = d2.names; cells = d2.cells; texts = d2.texts; sites = d2.sites } in x) h.rest
+      ∙ ap (λ (ns : List Mark). let x : Draft = record d0 { ops = new.ops; rows = new.rows; settled = new.settled; marks = ns; scopes = d2.scopes; names = d2.names; cells = d2.cells; texts = d2.texts; sites = d2.sites } in x) marks_back
+
+  pub arm_built : Lowers (n + m) k c o (λ code. StmtsAt code d0.marks 0 (F (Then s Nil))) after d0 new
+  arm_built =
+      let texts_one : d1.texts ≡ d0.texts = ap (λ (d : Draft). d.texts) h.rest in
+      let cells_one : d1.cells ≡ d0.cells = ap (λ (d : Draft). d.cells) h.rest in
+      let scopes_one : d1.scopes ≡ d0.scopes = ap (λ (d : Draft). d.scopes) h.rest in
+      let texts_new : new.texts ≡ d2.texts = ap (λ (d : Draft). d.texts) e.rest in
+      let cells_new : new.cells ≡ d2.cells = ap (λ (d : Draft). d.cells) e.rest in
+      let scopes_new : new.scopes ≡ d2.scopes = ap (λ (d : Draft). d.scopes) e.rest in
+      record {
+        rest = subst (λ (d : Draft). d ≡ record d0 { ops = d.ops; rows = d.rows; settled = d.settled; scopes = d.scopes; names = d.names; cells = d.cells; texts = d.texts; sites = d.sites }) (sym new_is) refl;
+        scope = ap scope_of e.rest ∙ w.scope;
+        opened = let x = w.opened in omega arith;
+        kept = kept_then (laid_in d0) (laid_in d1) (laid_in new) h.kept (kept_then (laid_in d1) (laid_in d2) (laid_in new) w.kept e.kept);
+        room = let x = h.room in let y = w.room in let z = e.room in let r = end_reverse us in omega arith;
+        texts = let x = w.texts in omega arith;
+        cells = let x = w.cells in omega arith;
+        code = built_code;
+      }
+
+-- nothing stands behind them
+module _ (n : ℕ) (F : Stmts → Stmts) (us : List ObjectCall) (d0 d1 new : Draft) (h : Constructs n F [] d0 us d1) (e : EndsParts (reverse us) d1 new) where
+  laid-alone : Pended (laid_in d1) d0.marks (length d0.ops) (reverse us) (h.steps ++ []) d1.marks (length d1.ops)
+  laid-alone = h.code d0.marks (length d0.ops) [] Begins
+
+  back-alone : new.marks ≡ d0.marks
+  back-alone = e.marks ∙ marks_behind (laid_in d1) d0.marks (length d0.ops) (reverse us) (h.steps ++ []) d1.marks (length d1.ops) laid-alone
+
+  alone_is : new ≡ record d0 { ops = new.ops; rows = new.rows; settled = new.settled }
+  alone_is =
+      e.rest ∙ ap (λ (d : Draft). let x : Draft = record d { ops = new.ops; rows = new.rows; settled = new.settled; marks = new.marks } in x) h.rest
+      ∙ ap (λ (ns : List Mark). let x : Draft = record d0 { ops = new.ops; rows = new.rows; settled = new.settled; marks = ns } in x) back-alone
+
+  pub arm_alone : Lowers n 0 0 0 (λ code. StmtsAt code d0.marks 0 (F Nil)) (scope_of d0) d0 new
+  arm_alone =
+      let texts_new : new.texts ≡ d0.texts = ap (λ (d : Draft). d.texts) alone_is in
+      let cells_new : new.cells ≡ d0.cells = ap (λ (d : Draft). d.cells) alone_is in
+      let scopes_new : new.scopes ≡ d0.scopes = ap (λ (d : Draft). d.scopes) alone_is in
+      let block : block_of (h.steps ++ []) Nil ≡ F Nil = block_join [] h.steps Nil ∙ h.block Nil in
+      record {
+        rest = subst (λ (d : Draft). d ≡ record d0 { ops = d.ops; rows = d.rows; settled = d.settled; scopes = d.scopes; names = d.names; cells = d.cells; texts = d.texts; sites = d.sites }) (sym alone_is) refl;
+        scope = ap scope_of alone_is;
+        opened = omega arith;
+        kept = kept_then (laid_in d0) (laid_in d1) (laid_in new) h.kept e.kept;
+        room = let x = h.room in let z = e.room in let r = end_reverse us in omega arith;
+        texts = omega arith;
+        cells = omega arith;
+        code = subst (λ (ss : Stmts). StmtsAt (laid_in new) d0.marks 0 ss (length d0.ops) (length new.ops)) block (e.block d0.marks (length d0.ops) (length d1.ops) (h.steps ++ []) Nil laid-alone (record { end = refl }));
+      }
+
+-- a routine's body as such a block
+pub whole_laid : (p : Program) (r : Routine) (line start end : ℕ) (body : tree.Stmts) (d0 d1 d2 d3 d4 d5 new : Draft) → line ≡ r.brace.line → body ≡ r.body → start ≡ length d0.ops → Adds 1 (OpCode line (op.Jump (start + 2))) d0 d1 → Adds 1 (OpCode line (op.Jump 0)) d1 d2
+    → d3 ≡ record d2 { marks = mark.Whole (start + 1) ∷ d2.marks } → LowersStmts p line body d3 d4 → d5 ≡ record d4 { marks = left_marks d4.marks } → end ≡ length d5.ops → new ≡ record d5 { ops = patched d5.ops (start + 1) (op.Jump end) } → LowersWhole p r d0 new
+whole_laid p r line start end body d0 d1 d2 d3 d4 d5 new le be st g1 g2 en h lv ee pt =
+    let scope : scope_of d3 ≡ scope_of d0 = ap scope_of en ∙ ap scope_of g2.rest ∙ ap scope_of g1.rest in
+    let objects : objects_in d3.marks ≡ 0 = ap (λ (d : Draft). objects_in d.marks) en in
+    let one : Lowers (OPS_FOR_SIZE * sizes_at r.body 0) (stmts_size r.body) (stmts_cells r.body (declared_cells p)) (stmts_scopes r.body) (λ code. StmtsAt code d3.marks line (stmts_meant p r.body (scope_of d0))) (scope_behind p r.body (scope_of d0)) d3 d4 =
+    subst (λ (s : Scope). Lowers (OPS_FOR_SIZE * sizes_at r.body 0) (stmts_size r.body) (stmts_cells r.body (declared_cells p)) (stmts_scopes r.body) (λ code. StmtsAt code d3.marks line (stmts_meant p r.body s)) (scope_behind p r.body s) d3 d4) scope (
+    subst (λ (k : ℕ). Lowers (OPS_FOR_SIZE * sizes_at r.body k) (stmts_size r.body) (stmts_cells r.body (declared_cells p)) (stmts_scopes r.body) (λ code. StmtsAt code d3.marks line (stmts_meant p r.body (scope_of d3))) (scope_behind p r.body (scope_of d3)) d3 d4) objects (
+    subst (λ (b : tree.Stmts). LowersStmts p line b d3 d4) be h)) in
+    let all = arm_whole line start end (OPS_FOR_SIZE * sizes_at r.body 0) (stmts_size r.body) (stmts_cells r.body (declared_cells p)) (stmts_scopes r.body) (stmts_meant p r.body (scope_of d0)) (scope_behind p r.body (scope_of d0)) d0 d1 d2 d3 d4 d5 new st g1 g2 en one lv ee pt in
+    subst (λ (l : ℕ). Lowers (whole_room r) (stmts_size r.body) (stmts_cells r.body (declared_cells p)) (stmts_scopes r.body) (λ code. StmtAt code d0.marks (Whole l (stmts_meant p r.body (scope_of d0)))) (scope_behind p r.body (scope_of d0)) d0 new) le all

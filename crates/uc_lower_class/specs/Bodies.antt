@@ -1,0 +1,81 @@
+-- The bodies of constructors and destructors, and their routines.
+use Rattle.std.specs.Prelude.{◌≡◌, ℕ, ◌+◌, ◌*◌, ◌≤◌, [], Option, Some, None, false, length}
+use Rattle.uc_tree.specs.declared.limits.TheConstants.{OPS_FOR_SIZE}
+use Rattle.uc_tree.specs.declared.kinds.Role.{Role}
+use Rattle.uc_tree.specs.declared.kinds.Role.TheVariants as role
+use Rattle.uc_tree.specs.StatementSizes.{stmts_size}
+use Rattle.uc_tree.specs.Cells.{declared_cells, stmts_cells}
+use Rattle.uc_tree.specs.Scopes.{stmts_scopes}
+use Rattle.uc_tree.specs.Programs.{Class, Init, Program, Routine}
+use Rattle.uc_tree.specs.Numbering.{is_event, is_plain}
+use Rattle.uc_tree.specs.Objects.{Unwritten, class_at, place_of, written_at, unwritten_number}
+use Rattle.uc_tree.specs.Source.{Stmts, Whole}
+use Rattle.uc_tree.specs.Resolve.{Scope, body_by, class_by, place_or_zero, scope_behind, stmts_meant, unwritten_body}
+use Rattle.uc_code.specs.Drafts.{Draft}
+use Rattle.uc_code.specs.Lowered.{StmtAt, StmtsAt}
+use Rattle.uc_code.specs.Open.{clean_room}
+use Rattle.uc_lower_expr.specs.Members.{count_fields}
+use Rattle.uc_lower_stmt.specs.Marked.{close_room}
+use Rattle.uc_lower_stmt.specs.Scoped.{Lowers, scope_of, sizes_at}
+use Rattle.uc_lower_class.specs.Fields.{all_built, all_left, all_room}
+
+-- a body, and the block that it is
+
+abbrev pub whole_room : Routine → ℕ
+whole_room r = 2 + OPS_FOR_SIZE * sizes_at r.body 0
+
+abbrev pub LowersWhole : Program → Routine → Draft → Draft → Type 0
+LowersWhole p r old new =
+    Lowers (whole_room r) (stmts_size r.body) (stmts_cells r.body (declared_cells p)) (stmts_scopes r.body) (λ code. StmtAt code old.marks (Whole r.brace.line (stmts_meant p r.body (scope_of old)))) (scope_behind p r.body (scope_of old)) old new
+
+-- the fields of the class with a place, where there is one
+
+abbrev pub built_at : Program → Option ℕ → Routine → Scope → Stmts → Stmts
+built_at p None r s rest = rest
+built_at p (Some i) r s rest = all_built p i r.inits s (class_at p i) rest
+
+abbrev pub left_at : Program → Option ℕ → Stmts → Stmts
+left_at p None rest = rest
+left_at p (Some i) rest = all_left p i (class_at p i) rest
+
+-- how many ops they take at most: those that build them, and those that destroy them
+
+abbrev pub built_room : Program → Option ℕ → Routine → ℕ
+built_room p place r = all_room r.inits (class_by p place)
+
+abbrev pub left_room : Option Class → ℕ
+left_room c = close_room * count_fields c
+
+-- what the end of a part may take at most
+abbrev pub part_end : ℕ
+part_end = clean_room + 2
+
+abbrev pub role_room : Program → Role → Option ℕ → Routine → ℕ
+role_room p role.Plain place r = 0
+role_room p role.Constructor place r = built_room p place r + whole_room r + part_end
+role_room p role.Destructor place r = left_room (class_by p place) + whole_room r
+
+-- the code of a written routine of this class, its return included
+abbrev pub builder_room : Program → Routine → ℕ → ℕ
+builder_room p r class = role_room p r.sig.role (place_of p class) r + 1
+
+abbrev pub LowersBody : Program → Role → Routine → Draft → Draft → Type 0
+LowersBody p wanted r old new =
+    Lowers (role_room p wanted (place_of p old.place.class) r) (stmts_size r.body) (stmts_cells r.body (declared_cells p)) (stmts_scopes r.body) (λ code. StmtsAt code old.marks 0 (body_by p wanted r (scope_of old))) (scope_behind p r.body (scope_of old)) old new
+
+-- one that nobody wrote: its place among the routines, its code
+pub record IsUnwritten (p : Program) (u : Unwritten) (number : ℕ) : Type 0 where
+  pub class : Class
+  pub there : class_at p u.class ≡ Some class
+  pub object : is_event class.kind ≡ false
+  pub builds : is_plain u.role ≡ false
+  pub none : written_at p u.class u.role ≡ None
+  pub number_is : number ≡ unwritten_number p u.class u.role
+
+abbrev pub unwritten_room : Role → Option Class → ℕ
+unwritten_room role.Plain c = 0
+unwritten_room role.Constructor c = all_room [] c + part_end
+unwritten_room role.Destructor c = left_room c
+
+abbrev pub LowersUnwritten : Program → Role → ℕ → Draft → Draft → Type 0
+LowersUnwritten p wanted i old new = Lowers (unwritten_room wanted (class_at p i)) 0 0 0 (λ code. StmtsAt code old.marks 0 (unwritten_body p wanted i)) (scope_of old) old new

@@ -1,0 +1,79 @@
+-- The fields of a class, as its constructor builds them and its destructor leaves them.
+use Rattle.std.specs.Prelude.{◌≡◌, ℕ, ◌+◌, ◌*◌, ◌<◌, Bool, List, [], ◌∷◌, Option, Some, None, false, option_map, length, slice_get, if◌then◌else◌}
+use Rattle.uc_tree.specs.declared.limits.TheConstants.{OPS_FOR_SIZE}
+use Rattle.uc_tree.specs.declared.kinds.Role.{Role}
+use Rattle.uc_tree.specs.Expressions as tree
+use Rattle.uc_tree.specs.ExpressionSizes.{exprs_size}
+use Rattle.uc_tree.specs.Programs.{Class, Init, Program}
+use Rattle.uc_tree.specs.Cells.{leading_cells}
+use Rattle.uc_tree.specs.Objects.{ClassField, class_at, class_shape, fields_of}
+use Rattle.uc_tree.specs.Source.{Expr, Shape, Stmts}
+use Rattle.uc_tree.specs.Resolve.{Meant, Own, Scope, converted, value_of, field_built, field_class, field_left, field_place, field_started, fields_built, fields_left, length_in_class}
+use Rattle.uc_code.specs.declared.rows.Mark.{Mark}
+use Rattle.uc_code.specs.declared.rows.Spot.TheVariants as spot
+use Rattle.uc_code.specs.declared.op.Op.TheVariants as op
+use Rattle.uc_code.specs.Laid.{Laid}
+use Rattle.uc_code.specs.Ranges.{Both, One}
+use Rattle.uc_code.specs.Lowered.{ExprAt}
+use Rattle.uc_lower_expr.specs.declared.fields.Field.{Field}
+use Rattle.uc_lower_expr.specs.Members.{routine_for}
+use Rattle.uc_lower_stmt.specs.Blocks.{AllStandBehind}
+use Rattle.uc_lower_class.specs.declared.parts.Part.{Part}
+use Rattle.uc_lower_class.specs.Inits.{init_exprs}
+
+-- the part that a field is
+abbrev pub part_in : Field → Option Part
+part_in v = if v.by_ref then None else option_map (λ j. record { class = j; spot = spot.This v.cell; length = v.told.elements }) v.told.class
+
+-- at most so many ops build a part besides its arguments, and end what follows it
+abbrev pub part_room : Option ℕ → ℕ
+part_room None = 12
+part_room (Some n) = 40
+
+-- the same of a field, by the length that its declarator has
+abbrev pub room_by : Option tree.Expr → ℕ
+room_by None = 12
+room_by (Some e) = 40
+
+abbrev pub fields_room : List Init → List ClassField → ℕ
+fields_room inits [] = 0
+fields_room inits (f ∷ fs) = room_by f.declarator.len + OPS_FOR_SIZE * exprs_size (init_exprs inits f.declarator.name) + fields_room inits fs
+
+-- what builds and destroys an object, and nobody wrote, stands further on than the routine of these marks, where the field is one
+abbrev pub PartBehind : Program → List Mark → Option Part → Type 0
+PartBehind p ms None = Unit {0}
+PartBehind p ms (Some part) = AllStandBehind p part.class ms
+
+-- so it is for each field of the class with the place i, for a routine of this number
+pub record FieldsBehind (p : Program) (i number : ℕ) : Type 0 where
+  pub each : (c : Class) (place : ℕ) (f : ClassField) (j : ℕ) → class_at p i ≡ Some c → slice_get (fields_of c.members) place ≡ Some f → field_class p f ≡ Some j → (wanted : Role) → (routine_for p j wanted).written ≡ false → number < (routine_for p j wanted).number
+
+-- a field of the class c with the place i is built with these arguments, before other statements; and it is in scope in them
+abbrev pub field_then : Program → Class → ℕ → ℕ → ClassField → List Meant → Stmts → Stmts
+field_then p c i number f args rest = field_built p (field_class p f) f (length_in_class p c i f) (field_place (class_shape p i) number Own) args rest
+
+abbrev pub left_then : Program → Class → ℕ → ℕ → ClassField → Stmts → Stmts
+left_then p c i number f rest = field_left p (field_class p f) (length_in_class p c i f) (field_place (class_shape p i) number Own) rest
+
+abbrev pub started_then : Program → ℕ → ℕ → ClassField → List Meant → Stmts → Stmts
+started_then p i number f args rest = field_started p f (field_place (class_shape p i) number Own) args rest
+
+-- what a reference is bound to, and the value that a scalar keeps; the code that writes it to the field that begins at this cell
+abbrev pub held_by : Bool → Shape → Meant → Expr
+held_by by_ref s m = if by_ref then m.expr else converted s (value_of m)
+
+abbrev pub StartedCode : List Mark → ℕ → Expr → Laid → ℕ → ℕ → Type 0
+StartedCode ms cell e code = Both (Both (One code (op.This cell) 0) (Both (ExprAt code 0 ms e) (One code op.Keep 0))) (One code op.Discard 0)
+
+-- all of the fields of the class with the place i
+abbrev pub all_built : Program → ℕ → List Init → Scope → Option Class → Stmts → Stmts
+all_built p i inits s None rest = rest
+all_built p i inits s (Some c) rest = fields_built p c i inits s (fields_of c.members) (leading_cells c.kind) rest
+
+abbrev pub all_left : Program → ℕ → Option Class → Stmts → Stmts
+all_left p i None rest = rest
+all_left p i (Some c) rest = fields_left p c i (fields_of c.members) (leading_cells c.kind) rest
+
+abbrev pub all_room : List Init → Option Class → ℕ
+all_room inits None = 0
+all_room inits (Some c) = fields_room inits (fields_of c.members)

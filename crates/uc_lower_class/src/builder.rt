@@ -1,0 +1,319 @@
+// The code of constructors and destructors.
+
+ghost use Rattle.std.specs.Prelude.{◌≡◌, true, false, None, ◌+◌, ◌*◌, ◌≤◌, ◌<◌, [], length, nat_eq, slice_set, OnOk};
+ghost use Rattle.uc_tree.specs.declared.limits.TheConstants.{FRAME_CELLS, PROGRAM_OPS, PROGRAM_SIZE};
+ghost use Rattle.uc_tree.specs.StatementSizes.{stmts_size};
+ghost use Rattle.uc_tree.specs.Cells.{declared_cells, routine_cells, stmts_cells};
+ghost use Rattle.uc_tree.specs.Gathered.{gathered_all};
+ghost use Rattle.uc_tree.specs.Numbering.{is_plain, own_sites, own_texts, routines_of};
+ghost use Rattle.uc_tree.specs.Objects.{class_at, place_of};
+ghost use Rattle.uc_tree.specs.ProgramMain.{main_number};
+ghost use Rattle.uc_tree.specs.Scopes.{stmts_scopes};
+ghost use Rattle.uc_tree.specs.Resolve.{class_by, nowhere, routine_meant, routine_scope, unwritten_meant};
+ghost use Rattle.uc_lower_expr.specs.Members.{count_fields};
+ghost use Rattle.uc_tree.specs.declared.kinds.Role.TheVariants as role;
+ghost use Rattle.uc_built.specs.BuiltForms.{are_built};
+ghost use Rattle.uc_code.specs.Laid.{laid_in, routine_in};
+ghost use Rattle.uc_code.specs.Lowered.{RoutineAt};
+ghost use Rattle.uc_code.specs.Ranges.{Kept};
+ghost use Rattle.uc_lower_stmt.specs.Marked.{objects_in};
+ghost use Rattle.uc_lower_stmt.specs.Scoped.{scope_of};
+ghost use Rattle.uc_unwritten.specs.Unwritten.{unwritten_as};
+ghost use Rattle.uc_lower_class.specs.Bodies.{IsUnwritten, LowersBody, LowersUnwritten, builder_room, built_at, built_room, left_at, left_room, role_room, unwritten_room};
+ghost use Rattle.uc_lower_class.specs.Fields.{FieldsBehind, all_room};
+ghost use Rattle.uc_lower_class.specs.Pended.{Constructs, Opens, end_room};
+
+use crate::fields::{build_all, leave_all};
+use crate::parts::close_parts;
+use crate::whole::lower_whole;
+use std::alloc::{AllocError, Global};
+use uc_code::draft::Draft;
+use uc_code::op::Op;
+use uc_code::rows::{ObjectCall, RoutineCode};
+use uc_lower_expr::program_names::{ProgramNames, params_of, sig_of};
+use uc_lower_expr::put::put;
+use uc_lower_stmt::block::close_scopes;
+use uc_lower_stmt::routine::declare_params;
+use uc_sizes::frames::cells_of_routine;
+use uc_tree::class::{Init, Routine, Sig};
+use uc_tree::kinds::Role;
+use uc_unwritten::unwritten::Unwritten;
+
+fn role_of(sig: &Sig) -> Role
+    ensures { result ≡ sig.now.role }
+{
+    sig.role
+}
+
+fn inits_of(routine: &Routine) -> &[Init]
+    ensures { result.now ≡ routine.now.inits }
+{
+    &routine.inits
+}
+
+// The fields of the class of a constructor are built.
+fn build_own(
+    alloc: Global,
+    class: Option<usize>,
+    routine: &Routine,
+    names: &ProgramNames,
+    parts: &mut Vec<ObjectCall>,
+    out: &mut Draft,
+) -> Result<(), AllocError>
+    requires written { routine_in out.old.marks < length (routines_of names.now) }
+    requires room { length out.old.ops + end_room parts.old.items + built_room names.now class routine.now ≤ PROGRAM_OPS }
+    ensures { OnOk result (Constructs (built_room names.now class routine.now) (built_at names.now class routine.now (scope_of out.old)) parts.old.items out.old parts.new.items out.new) }
+{
+    match class {
+        Some(class) => {
+            build_all(alloc, class, inits_of(routine), names, parts, out)?;
+            Ok(())
+        }
+        None => Ok(()),
+    }
+}
+
+// The scopes of the fields of the class of a destructor are opened.
+fn leave_own(class: Option<usize>, names: &ProgramNames, out: &mut Draft) -> Result<(), AllocError>
+    requires { routine_in out.old.marks < length (routines_of names.now) }
+    ensures { OnOk result (Opens (count_fields (class_by names.now class)) (left_at names.now class) out.old out.new) }
+{
+    match class {
+        Some(class) => {
+            leave_all(class, names, out)?;
+            Ok(())
+        }
+        None => Ok(()),
+    }
+}
+
+fn lower_constructor(
+    alloc: Global,
+    names: &ProgramNames,
+    class: Option<usize>,
+    routine: &Routine,
+    out: &mut Draft,
+) -> Result<(), AllocError>
+    requires class { class ≡ place_of names.now out.old.place.class }
+    requires built { are_built routine.now.body ≡ true }
+    requires written { routine_in out.old.marks < length (routines_of names.now) }
+    requires room { length out.old.ops + role_room names.now role.Constructor class routine.now ≤ PROGRAM_OPS }
+    requires cells { out.old.cells + stmts_cells routine.now.body (declared_cells names.now) ≤ FRAME_CELLS }
+    requires scopes { out.old.scopes + stmts_scopes routine.now.body ≤ PROGRAM_SIZE }
+    requires texts { out.old.texts + stmts_size routine.now.body ≤ PROGRAM_SIZE }
+    ensures { OnOk result (LowersBody names.now role.Constructor routine.now out.old out.new) }
+{
+    let mut parts = Vec::new(alloc);
+    build_own(alloc, class, routine, names, &mut parts, out)?;
+    lower_whole(alloc, names, routine, out)?;
+    close_parts(&mut parts, out)?;
+    Ok(())
+}
+
+fn lower_destructor(
+    alloc: Global,
+    names: &ProgramNames,
+    class: Option<usize>,
+    routine: &Routine,
+    out: &mut Draft,
+) -> Result<(), AllocError>
+    requires class { class ≡ place_of names.now out.old.place.class }
+    requires built { are_built routine.now.body ≡ true }
+    requires written { routine_in out.old.marks < length (routines_of names.now) }
+    requires outside { objects_in out.old.marks ≡ 0 }
+    requires room { length out.old.ops + role_room names.now role.Destructor class routine.now ≤ PROGRAM_OPS }
+    requires cells { out.old.cells + stmts_cells routine.now.body (declared_cells names.now) ≤ FRAME_CELLS }
+    requires scopes { out.old.scopes + stmts_scopes routine.now.body ≤ PROGRAM_SIZE }
+    requires texts { out.old.texts + stmts_size routine.now.body ≤ PROGRAM_SIZE }
+    ensures { OnOk result (LowersBody names.now role.Destructor routine.now out.old out.new) }
+{
+    let depth = out.marks().len();
+    leave_own(class, names, out)?;
+    lower_whole(alloc, names, routine, out)?;
+    close_scopes(depth, out)?;
+    Ok(())
+}
+
+fn lower_body(
+    alloc: Global,
+    names: &ProgramNames,
+    role: Role,
+    class: Option<usize>,
+    routine: &Routine,
+    out: &mut Draft,
+) -> Result<(), AllocError>
+    requires role { is_plain role ≡ false }
+    requires class { class ≡ place_of names.now out.old.place.class }
+    requires built { are_built routine.now.body ≡ true }
+    requires written { routine_in out.old.marks < length (routines_of names.now) }
+    requires outside { objects_in out.old.marks ≡ 0 }
+    requires room { length out.old.ops + role_room names.now role class routine.now ≤ PROGRAM_OPS }
+    requires cells { out.old.cells + stmts_cells routine.now.body (declared_cells names.now) ≤ FRAME_CELLS }
+    requires scopes { out.old.scopes + stmts_scopes routine.now.body ≤ PROGRAM_SIZE }
+    requires texts { out.old.texts + stmts_size routine.now.body ≤ PROGRAM_SIZE }
+    ensures { OnOk result (LowersBody names.now role routine.now out.old out.new) }
+{
+    match role {
+        Role::Plain => Ok(()),
+        Role::Constructor => {
+            lower_constructor(alloc, names, class, routine, out)?;
+            Ok(())
+        }
+        Role::Destructor => {
+            lower_destructor(alloc, names, class, routine, out)?;
+            Ok(())
+        }
+    }
+}
+
+/// Adds the code of a written constructor or destructor of the class of this number, behind so many text literals and accept
+/// statements of the program, and writes down under its number where it begins. Its statements are of forms that are built. After
+/// want of memory the draft is spent.
+pub fn lower_builder(
+    alloc: Global,
+    names: &ProgramNames,
+    routine: &Routine,
+    class: u32,
+    number: u32,
+    texts: u32,
+    sites: u32,
+    out: &mut Draft,
+) -> Result<(), AllocError>
+    requires role { is_plain routine.now.sig.role ≡ false }
+    requires main { nat_eq number (main_number names.now) ≡ false }
+    requires built { are_built routine.now.body ≡ true }
+    requires params { length routine.now.sig.params ≤ PROGRAM_SIZE }
+    requires known { number < length out.old.routines }
+    requires written { number < length (routines_of names.now) }
+    requires outside { out.old.marks ≡ [] }
+    requires room { length out.old.ops + builder_room names.now routine.now class ≤ PROGRAM_OPS }
+    requires cells { routine_cells names.now routine.now ≤ FRAME_CELLS }
+    requires texts { texts + stmts_size routine.now.body ≤ PROGRAM_SIZE }
+    ensures kept { OnOk result (Kept (laid_in out.old) (laid_in out.new)) }
+    ensures room { OnOk result (length out.new.ops ≤ length out.old.ops + builder_room names.now routine.now class) }
+    ensures code { OnOk result (RoutineAt (laid_in out.new) number (routine_meant names.now routine.now (routine_scope names.now routine.now.sig.params class number texts sites)) (record { entry = length out.old.ops; cells = routine_cells names.now routine.now; params = length routine.now.sig.params }) (length out.old.ops) (length out.new.ops)) }
+    ensures written { OnOk result (out.new.routines ≡ slice_set out.old.routines number (record { entry = length out.old.ops; cells = routine_cells names.now routine.now; params = length routine.now.sig.params })) }
+    ensures outside { OnOk result (out.new.marks ≡ []) }
+    ensures texts { OnOk result (out.new.texts ≡ texts + length (gathered_all own_texts routine.now.body)) }
+    ensures few_texts { OnOk result (out.new.texts ≤ texts + stmts_size routine.now.body) }
+    ensures sites { OnOk result (out.new.sites ≡ sites + length (gathered_all (own_sites None 0) routine.now.body)) }
+{
+    let entry = out.here();
+    let sig = sig_of(routine);
+    let params = params_of(sig);
+    out.begin_routine(class, number, texts, sites);
+    declare_params(alloc, names, params, out)?;
+    out.enter_body(number)?;
+    let role = role_of(sig);
+    let place = names.class_of(class);
+    lower_body(alloc, names, role, place, routine, out)?;
+    out.leave();
+    put(Op::Return, 0, out)?;
+    let cells = cells_of_routine(names.sizes(), routine) as u32;
+    let count = params.len() as u32;
+    out.set_routine(
+        number,
+        RoutineCode {
+            entry,
+            cells,
+            params: count,
+        },
+    );
+    Ok(())
+}
+
+fn lower_unwritten_constructor(
+    alloc: Global,
+    names: &ProgramNames,
+    class: usize,
+    out: &mut Draft,
+) -> Result<(), AllocError>
+    requires behind { FieldsBehind names.now class (routine_in out.old.marks) }
+    requires nowhere { scope_of out.old ≡ nowhere names.now }
+    requires room { length out.old.ops + unwritten_room role.Constructor (class_at names.now class) ≤ PROGRAM_OPS }
+    ensures { OnOk result (LowersUnwritten names.now role.Constructor class out.old out.new) }
+{
+    let mut parts = Vec::new(alloc);
+    build_all(alloc, class, &[], names, &mut parts, out)?;
+    close_parts(&mut parts, out)?;
+    Ok(())
+}
+
+fn lower_unwritten_destructor(
+    names: &ProgramNames,
+    class: usize,
+    out: &mut Draft,
+) -> Result<(), AllocError>
+    requires behind { FieldsBehind names.now class (routine_in out.old.marks) }
+    requires outside { objects_in out.old.marks ≡ 0 }
+    requires room { length out.old.ops + unwritten_room role.Destructor (class_at names.now class) ≤ PROGRAM_OPS }
+    ensures { OnOk result (LowersUnwritten names.now role.Destructor class out.old out.new) }
+{
+    let depth = out.marks().len();
+    leave_all(class, names, out)?;
+    close_scopes(depth, out)?;
+    Ok(())
+}
+
+fn lower_unwritten_body(
+    alloc: Global,
+    names: &ProgramNames,
+    role: Role,
+    class: usize,
+    out: &mut Draft,
+) -> Result<(), AllocError>
+    requires behind { FieldsBehind names.now class (routine_in out.old.marks) }
+    requires outside { objects_in out.old.marks ≡ 0 }
+    requires nowhere { scope_of out.old ≡ nowhere names.now }
+    requires room { length out.old.ops + unwritten_room role (class_at names.now class) ≤ PROGRAM_OPS }
+    ensures { OnOk result (LowersUnwritten names.now role class out.old out.new) }
+{
+    match role {
+        Role::Plain => Ok(()),
+        Role::Constructor => {
+            lower_unwritten_constructor(alloc, names, class, out)?;
+            Ok(())
+        }
+        Role::Destructor => {
+            lower_unwritten_destructor(names, class, out)?;
+            Ok(())
+        }
+    }
+}
+
+/// Adds the code of a constructor or a destructor that nobody wrote, and writes down under its number where it begins. After want
+/// of memory the draft is spent.
+pub fn lower_unwritten(
+    alloc: Global,
+    names: &ProgramNames,
+    one: Unwritten,
+    number: u32,
+    out: &mut Draft,
+) -> Result<(), AllocError>
+    requires unwritten { IsUnwritten names.now (unwritten_as one) number }
+    requires known { number < length out.old.routines }
+    requires outside { out.old.marks ≡ [] }
+    requires room { length out.old.ops + (unwritten_room one.role (class_at names.now one.class) + 1) ≤ PROGRAM_OPS }
+    ensures kept { OnOk result (Kept (laid_in out.old) (laid_in out.new)) }
+    ensures room { OnOk result (length out.new.ops ≤ length out.old.ops + (unwritten_room one.role (class_at names.now one.class) + 1)) }
+    ensures code { OnOk result (RoutineAt (laid_in out.new) number (unwritten_meant names.now (unwritten_as one)) (record { entry = length out.old.ops; cells = 0; params = 0 }) (length out.old.ops) (length out.new.ops)) }
+    ensures written { OnOk result (out.new.routines ≡ slice_set out.old.routines number (record { entry = length out.old.ops; cells = 0; params = 0 })) }
+    ensures outside { OnOk result (out.new.marks ≡ []) }
+{
+    let entry = out.here();
+    names.fit();
+    out.begin_routine(0, 0, 0, 0);
+    out.enter_body(number)?;
+    lower_unwritten_body(alloc, names, one.role, one.class, out)?;
+    out.leave();
+    put(Op::Return, 0, out)?;
+    out.set_routine(
+        number,
+        RoutineCode {
+            entry,
+            cells: 0,
+            params: 0,
+        },
+    );
+    Ok(())
+}

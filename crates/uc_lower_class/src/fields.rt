@@ -1,0 +1,148 @@
+// The fields of a class, in order.
+
+ghost use Rattle.std.specs.Prelude.{◌≡◌, ◌+◌, ◌*◌, ◌≤◌, Some, OnOk, length, slice_get};
+ghost use Rattle.uc_tree.specs.declared.limits.TheConstants.{OPS_FOR_SIZE, PROGRAM_OPS};
+ghost use Rattle.uc_tree.specs.Cells.{leading_cells};
+ghost use Rattle.uc_tree.specs.Expressions.{exprs_of};
+ghost use Rattle.uc_tree.specs.ExpressionSizes.{exprs_size};
+ghost use Rattle.uc_tree.specs.Objects.{ClassField, class_at, fields_of};
+ghost use Rattle.uc_tree.specs.Programs.{Class as Whole};
+ghost use Rattle.uc_tree.specs.Resolve.{args_meant};
+ghost use Rattle.uc_lower_expr.specs.Contexts.{context_in};
+ghost use Rattle.uc_code.specs.Laid.{routine_in};
+ghost use Rattle.uc_lower_stmt.specs.Scoped.{scope_of};
+ghost use Rattle.uc_lower_expr.specs.Members.{count_fields};
+ghost use Rattle.uc_lower_class.specs.Fields.{FieldsBehind, all_built, all_left, all_room, field_then, left_then, room_by};
+ghost use Rattle.uc_lower_class.specs.Pended.{Constructs, Opens, end_room};
+
+use crate::inits::{args_for, names_of_fields, places_of};
+use crate::parts::{lower_built, lower_left};
+use std::alloc::{AllocError, Global};
+use uc_code::draft::Draft;
+use uc_code::rows::ObjectCall;
+use uc_lower_expr::program_names::ProgramNames;
+use uc_tree::class::{Class, Init};
+use uc_tree::expr::Expr;
+
+// The field with this place in a class is built with these arguments.
+fn build_field(
+    class: usize,
+    place: usize,
+    args: &[Expr],
+    names: &ProgramNames,
+    parts: &mut Vec<ObjectCall>,
+    out: &mut Draft,
+) -> Result<(), AllocError>
+    requires room { (c : Whole) (f : ClassField) → class_at names.now class ≡ Some c → slice_get (fields_of c.members) place ≡ Some f → length out.old.ops + end_room parts.old.items + (OPS_FOR_SIZE * exprs_size (exprs_of args.now) + room_by f.declarator.len) ≤ PROGRAM_OPS }
+    requires behind { FieldsBehind names.now class (routine_in out.old.marks) }
+    ensures { OnOk result ((c : Whole) (f : ClassField) → class_at names.now class ≡ Some c → slice_get (fields_of c.members) place ≡ Some f → Constructs (OPS_FOR_SIZE * exprs_size (exprs_of args.now) + room_by f.declarator.len) (field_then names.now c class (leading_cells c.kind + place) f (args_meant (context_in names.now out.old) (exprs_of args.now))) parts.old.items out.old parts.new.items out.new) }
+{
+    match names.field_at(class, place) {
+        Some(field) => {
+            lower_built(field, args, names, parts, out)?;
+            Ok(())
+        }
+        None => Ok(()),
+    }
+}
+
+// The fields of a class with this place are built, in order, with these initialisers.
+fn build_fields(
+    alloc: Global,
+    at: &Class,
+    class: usize,
+    inits: &[Init],
+    names: &ProgramNames,
+    parts: &mut Vec<ObjectCall>,
+    out: &mut Draft,
+) -> Result<(), AllocError>
+    requires there { class_at names.now class ≡ Some at.now }
+    requires room { length out.old.ops + end_room parts.old.items + all_room inits.now (Some at.now) ≤ PROGRAM_OPS }
+    requires behind { FieldsBehind names.now class (routine_in out.old.marks) }
+    ensures { OnOk result (Constructs (all_room inits.now (Some at.now)) (all_built names.now class inits.now (scope_of out.old) (Some at.now)) parts.old.items out.old parts.new.items out.new) }
+{
+    let places = places_of(alloc, inits)?;
+    let fields = names_of_fields(alloc, at)?;
+    for (place, name) in fields.iter().enumerate() {
+        let args = args_for(inits, &places, name);
+        build_field(class, place, args, names, parts, out)?;
+    }
+    Ok(())
+}
+
+/// The fields of the class with this place are built, in order, with these initialisers, in no line. After want of memory the draft
+/// is spent.
+pub(crate) fn build_all(
+    alloc: Global,
+    class: usize,
+    inits: &[Init],
+    names: &ProgramNames,
+    parts: &mut Vec<ObjectCall>,
+    out: &mut Draft,
+) -> Result<(), AllocError>
+    requires room { length out.old.ops + end_room parts.old.items + all_room inits.now (class_at names.now class) ≤ PROGRAM_OPS }
+    requires behind { FieldsBehind names.now class (routine_in out.old.marks) }
+    ensures { OnOk result (Constructs (all_room inits.now (class_at names.now class)) (all_built names.now class inits.now (scope_of out.old) (class_at names.now class)) parts.old.items out.old parts.new.items out.new) }
+{
+    match names.sizes().class(class) {
+        Some(at) => {
+            build_fields(alloc, at, class, inits, names, parts, out)?;
+            Ok(())
+        }
+        None => Ok(()),
+    }
+}
+
+// The scope of the field with this place in a class is opened.
+fn leave_field(
+    class: usize,
+    place: usize,
+    names: &ProgramNames,
+    out: &mut Draft,
+) -> Result<(), AllocError>
+    requires { FieldsBehind names.now class (routine_in out.old.marks) }
+    ensures { OnOk result ((c : Whole) (f : ClassField) → class_at names.now class ≡ Some c → slice_get (fields_of c.members) place ≡ Some f → Opens 1 (left_then names.now c class (leading_cells c.kind + place) f) out.old out.new) }
+{
+    match names.field_at(class, place) {
+        Some(field) => {
+            lower_left(field, names, out)?;
+            Ok(())
+        }
+        None => Ok(()),
+    }
+}
+
+// The scopes of the fields of a class with this place are opened, in order.
+fn leave_fields(
+    at: &Class,
+    class: usize,
+    names: &ProgramNames,
+    out: &mut Draft,
+) -> Result<(), AllocError>
+    requires there { class_at names.now class ≡ Some at.now }
+    requires behind { FieldsBehind names.now class (routine_in out.old.marks) }
+    ensures { OnOk result (Opens (count_fields (Some at.now)) (all_left names.now class (Some at.now)) out.old out.new) }
+{
+    for place in 0..names.field_count(class) {
+        leave_field(class, place, names, out)?;
+    }
+    Ok(())
+}
+
+/// The scopes of the fields of the class with this place are opened, in order, in no line. After want of memory the draft is spent.
+pub(crate) fn leave_all(
+    class: usize,
+    names: &ProgramNames,
+    out: &mut Draft,
+) -> Result<(), AllocError>
+    requires { FieldsBehind names.now class (routine_in out.old.marks) }
+    ensures { OnOk result (Opens (count_fields (class_at names.now class)) (all_left names.now class (class_at names.now class)) out.old out.new) }
+{
+    match names.sizes().class(class) {
+        Some(at) => {
+            leave_fields(at, class, names, out)?;
+            Ok(())
+        }
+        None => Ok(()),
+    }
+}

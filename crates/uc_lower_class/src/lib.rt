@@ -1,0 +1,8 @@
+// The lowering of constructors and destructors, written or not.
+#![tactic(auto)]
+
+pub mod builder;
+mod fields;
+mod inits;
+mod parts;
+mod whole;

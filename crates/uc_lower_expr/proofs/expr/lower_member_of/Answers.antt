@@ -1,0 +1,15 @@
+use Rattle.std.proofs.Common.{sym, arith, ◌∙◌}
+use Rattle.uc_tree.specs.Resolve.{Of, member_meant}
+use Rattle.uc_lower_expr.proofs.Members.{none_is, arm_field, arm_method}
+use Rattle.uc_lower_expr.proofs.Walks.{put_for_nothing}
+use Rattle.uc_lower_expr.proofs.expr.lower_member_of.Goals as goal
+
+pub returns-in_ok-put_field-in-Some : goal.returns-in_ok-put_field-in-Some
+returns-in_ok-put_field-in-Some c = arm_field c.args.out.now.marks c.args.line c.args.names.now c.args.class c.args.start c.args.name.now c.in-Some.field c.args.told _ _ c.requires.inside c.in-Some.ensures c.in_ok-put_field-in-Some.ensures
+
+pub returns-in-Some-member : goal.returns-in-Some-member
+returns-in-Some-member c = arm_method c.args.out.now.marks c.args.line c.args.names.now c.args.class c.args.start c.in-Some-member.routine c.args.name.now c.args.told _ _ _ c.requires.inside c.in-None.ensures (sym c.member.ensures ∙ c.in-Some-member.is) c.result.ensures c.standing_as.ensures
+
+pub returns-in-None-member : goal.returns-in-None-member
+returns-in-None-member c =
+    put_for_nothing c.args.out.now.marks c.put_nothing.result c.args.names.now _ c.args.line c.args.start (λ m. member_meant c.args.names.now c.args.class (Of m.expr) c.args.name.now) c.args.told _ _ (omega arith) c.requires.inside (λ m u. none_is c.args.names.now c.args.class c.args.name.now (Of m.expr) c.in-None.ensures (sym c.member.ensures ∙ c.in-None-member.is)) c.put_nothing.ensures.code c.put_nothing.ensures.tells

@@ -1,0 +1,23 @@
+use Rattle.std.proofs.Common.{subst, sym, ◌∙◌}
+use Rattle.std.specs.Prelude.{OnOk, IfOk}
+use Rattle.uc_tree.specs.Resolve.{Meant, Own}
+use Rattle.uc_lower_expr.specs.Added.{Adds, ExprCode}
+use Rattle.uc_lower_expr.specs.Meanings.{Tells}
+use Rattle.uc_lower_expr.specs.declared.meaning.Meaning.{Meaning}
+use Rattle.uc_lower_expr.proofs.Members.{own_method, own_item, own_method_code, method_told}
+use Rattle.uc_lower_expr.proofs.expr.lower_own_member.Goals as goal
+
+pub returns-in_ok-put-in-Some-clause-code : goal.returns-in_ok-put-in-Some-clause-code
+returns-in_ok-put-in-Some-clause-code c = own_method_code c.args.out.now.marks c.args.line c.args.names.now c.args.class c.in-Some.routine c.args.name.now _ _ c.requires.no_field (sym c.member.ensures ∙ c.in-Some.is) c.in_ok-put-in-Some.ensures
+
+pub returns-in_ok-put-in-Some-clause-tells : goal.returns-in_ok-put-in-Some-clause-tells
+returns-in_ok-put-in-Some-clause-tells c =
+    subst (λ (m : Meant). Tells c.args.names.now c.standing_as.result m) (sym (own_method c.args.names.now c.args.class c.args.name.now c.in-Some.routine c.requires.no_field (sym c.member.ensures ∙ c.in-Some.is))) (method_told c.args.names.now c.in-Some.routine c.result.result c.standing_as.result Own c.result.ensures c.standing_as.ensures)
+
+pub returns-in-None-clause-code : goal.returns-in-None-clause-code
+returns-in-None-clause-code c =
+    subst (λ (m : Meant). OnOk c.lower_item_name.result (Adds 1 (ExprCode c.args.line c.args.out.now.marks m.expr) c.args.out.now c.lower_item_name.new.out)) (sym (own_item c.args.names.now c.args.class c.args.name.now c.requires.no_field (sym c.member.ensures ∙ c.in-None.is))) c.lower_item_name.ensures.code
+
+pub returns-in-None-clause-tells : goal.returns-in-None-clause-tells
+returns-in-None-clause-tells c =
+    subst (λ (m : Meant). IfOk c.lower_item_name.result (λ (t : Meaning). Tells c.args.names.now t m)) (sym (own_item c.args.names.now c.args.class c.args.name.now c.requires.no_field (sym c.member.ensures ∙ c.in-None.is))) c.lower_item_name.ensures.tells

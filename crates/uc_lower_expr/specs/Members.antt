@@ -1,0 +1,104 @@
+-- Members of classes: fields with the cells before them, and routines by the numbers of their classes.
+use Rattle.std.specs.Prelude.{◌≡◌, ℕ, ◌+◌, ◌≤◌, ◌<◌, List, [], ◌∷◌, true, false, Option, Some, None, length, map, slice_get, if◌then◌else◌}
+use Rattle.uc_names.specs.Blocks.{found}
+use Rattle.uc_sizes.specs.Places.{IsPlaces}
+use Rattle.uc_tree.specs.declared.limits.TheConstants.{CLASS_CELLS}
+use Rattle.uc_tree.specs.declared.kinds.Role.{Role}
+use Rattle.uc_tree.specs.declared.kinds.Role.TheVariants as role
+use Rattle.uc_tree.specs.Programs.{Class, Program}
+use Rattle.uc_tree.specs.Rows.{has_itself}
+use Rattle.uc_tree.specs.Cells.{classes_of, class_cells, rows_of, leading_cells}
+use Rattle.uc_tree.specs.Numbering.{Defined, is_event, routines_of}
+use Rattle.uc_tree.specs.Source.{field_cells}
+use Rattle.uc_tree.specs.Objects.{ClassField, class_at, fields_of, class_shape, number_at, member_from, role_from, written_at, unwritten_number}
+use Rattle.uc_tree.specs.Resolve.{Meant, AtPlace, NumberedField, field_named, field_type}
+use Rattle.uc_lower_expr.specs.Meanings.{Tells}
+use Rattle.uc_lower_expr.specs.declared.fields.Field.{Field}
+use Rattle.uc_lower_expr.specs.declared.fields.FieldTable.{FieldTable}
+use Rattle.uc_lower_expr.specs.declared.routine_table.RoutineTable.{RoutineTable}
+use Rattle.uc_lower_expr.specs.declared.numbering.ClassRoutine.{ClassRoutine}
+
+-- no class has itself in its fields, and none has more cells than a class may have
+pub record FitClasses (p : Program) : Type 0 where
+  pub apart : (i : ℕ) → has_itself (rows_of p) i ≡ false
+  pub small : (i : ℕ) → class_cells p i ≤ CLASS_CELLS
+
+-- fields
+
+-- a field of the class c with the place i, and its number: what is told of it as a place of its type, and the cells before it
+pub record IsFieldAt (p : Program) (c : Class) (i number : ℕ) (f : ClassField) (v : Field) : Type 0 where
+  pub by_ref : f.declarator.by_ref ≡ v.by_ref
+  pub cell : field_cells (class_shape p i) number ≡ v.cell
+  pub tells : (m : Meant) → m.ty ≡ field_type p c f → m.standing ≡ AtPlace → Tells p v.told m
+
+-- the field of this name in the class with the place i
+pub record IsField (p : Program) (i : ℕ) (name : List ℕ) (v : Field) : Type 0 where
+  pub class : Class
+  pub there : class_at p i ≡ Some class
+  pub numbered : NumberedField
+  pub is : field_named (leading_cells class.kind) (fields_of class.members) name ≡ Some numbered
+  pub at : IsFieldAt p class i numbered.number numbered.field v
+
+-- the class with the place i has no field of this name
+abbrev pub no_field : Program → ℕ → List ℕ → Option Class → Type 0
+no_field p i name None = Unit {0}
+no_field p i name (Some c) = field_named (leading_cells c.kind) (fields_of c.members) name ≡ None
+
+-- the field with this place among those of the class with the place i
+pub record IsNthField (p : Program) (i place : ℕ) (v : Field) : Type 0 where
+  pub class : Class
+  pub there : class_at p i ≡ Some class
+  pub field : ClassField
+  pub is : slice_get (fields_of class.members) place ≡ Some field
+  pub at : IsFieldAt p class i (leading_cells class.kind + place) field v
+
+abbrev pub no_field_at : ℕ → Option Class → Type 0
+no_field_at place None = Unit {0}
+no_field_at place (Some c) = slice_get (fields_of c.members) place ≡ None
+
+abbrev pub count_fields : Option Class → ℕ
+count_fields None = 0
+count_fields (Some c) = length (fields_of c.members)
+
+-- a table of the fields of the class c with the place i
+pub record AreFields (p : Program) (i : ℕ) (c : Class) (t : FieldTable) : Type 0 where
+  pub named : IsPlaces (map (λ f. f.declarator.name) (fields_of c.members)) t.names
+  pub long : length t.fields.items ≡ length (fields_of c.members)
+  pub each : (k : ℕ) (f : ClassField) (v : Field) → slice_get (fields_of c.members) k ≡ Some f → slice_get t.fields.items k ≡ Some v → IsFieldAt p c i (leading_cells c.kind + k) f v
+
+-- tables by the places of classes
+pub record AreTables (p : Program) (tables : List FieldTable) : Type 0 where
+  pub long : length tables ≡ length (classes_of p.items)
+  pub each : (i : ℕ) (c : Class) (t : FieldTable) → class_at p i ≡ Some c → slice_get tables i ≡ Some t → AreFields p i c t
+
+-- routines of classes
+
+-- those of these routines that are of the class of this number
+pub record AreRoutines (ds : List Defined) (number : ℕ) (t : RoutineTable) : Type 0 where
+  pub one : length t.members ≡ 1
+  pub members : (name : List ℕ) → found t.members name ≡ member_from ds 0 number name
+  pub builds : t.built_by ≡ role_from ds 0 number role.Constructor
+  pub destroys : t.destroyed_by ≡ role_from ds 0 number role.Destructor
+
+-- the member of this name of the class with the place i
+abbrev pub member_at : Program → ℕ → List ℕ → Option Class → Option ℕ
+member_at p i name None = None
+member_at p i name (Some c) = member_from (routines_of p) 0 (number_at p i) name
+
+-- by the numbers of classes, 0 included
+pub record AreByNumber (p : Program) (tables : List RoutineTable) : Type 0 where
+  pub long : length (classes_of p.items) < length tables
+  pub each : (number : ℕ) (t : RoutineTable) → slice_get tables number ≡ Some t → AreRoutines (routines_of p) number t
+
+-- the places of the classes that are no events; the first of the list has the place i
+abbrev pub object_places : List Class → ℕ → List ℕ
+object_places [] i = []
+object_places (c ∷ cs) i = if is_event c.kind then object_places cs (i + 1) else i ∷ object_places cs (i + 1)
+
+-- what builds or destroys the objects of the class with the place i
+abbrev pub routine_by : Program → ℕ → Role → Option ℕ → ClassRoutine
+routine_by p i wanted None = record { number = unwritten_number p i wanted; written = false }
+routine_by p i wanted (Some r) = record { number = r; written = true }
+
+abbrev pub routine_for : Program → ℕ → Role → ClassRoutine
+routine_for p i wanted = routine_by p i wanted (written_at p i wanted)

@@ -1,0 +1,213 @@
+-- Declarations of objects in a block: each object is built, and its scope is open from then on.
+use Rattle.std.proofs.Common.{◌≡◌, ℕ, ◌+◌, ◌*◌, ◌≤◌, ◌<◌, List, [], ◌∷◌, ◌++◌, Option, Some, None, false, length, length-append, take, get_or, refl, ap, sym, subst, ◌∙◌, arith}
+use Rattle.std.proofs.Common.{take_all}
+use Rattle.std.proofs.lemmas.List.{take_more}
+use Rattle.uc_tree.specs.declared.limits.TheConstants.{OPS_FOR_SIZE}
+use Rattle.uc_tree.specs.declared.kinds.Base.{Base}
+use Rattle.uc_tree.specs.declared.kinds.Role.{Role}
+use Rattle.uc_tree.specs.Expressions as tree
+use Rattle.uc_tree.specs.Expressions.{exprs_of}
+use Rattle.uc_tree.specs.ExpressionSizes.{exprs_size}
+use Rattle.uc_tree.specs.Statements.{Start, NoStart, StartValue, StartArgs, Declarator}
+use Rattle.uc_tree.specs.StatementSizes.{start_size, declarator_size, declarators_size}
+use Rattle.uc_tree.specs.Cells.{declared_cells, declarators_cells}
+use Rattle.uc_tree.specs.Numbering.{routines_of}
+use Rattle.uc_tree.specs.Programs.{Program}
+use Rattle.uc_tree.specs.Objects.{written_at}
+use Rattle.uc_tree.specs.Source.{Expr, Variable, CleanUp, Stmt, Stmts, Declare}
+use Rattle.uc_tree.specs.Resolve.{Scope, Context, Meant, args_meant, context_at, length_of, start_args, declared_known, with_declared, with_all, object_scoped, objects_scoped, build, clean_up}
+use Rattle.uc_code.specs.declared.op.Op.TheVariants as op
+use Rattle.uc_code.specs.declared.rows.Array.{Array}
+use Rattle.uc_code.specs.declared.rows.Mark.{Mark}
+use Rattle.uc_code.specs.declared.rows.Mark.TheVariants as mark
+use Rattle.uc_code.specs.declared.rows.ObjectCall.{ObjectCall}
+use Rattle.uc_code.specs.declared.rows.Opening.TheVariants as opening
+use Rattle.uc_code.specs.declared.rows.Spot.{Spot}
+use Rattle.uc_code.specs.declared.rows.Spot.TheVariants.{Local}
+use Rattle.uc_code.specs.Drafts.{Draft}
+use Rattle.uc_code.specs.Laid.{laid_in, routine_in}
+use Rattle.uc_code.specs.ObjectCalls.{BeginsAt, InFrame, Cleans}
+use Rattle.uc_code.specs.Open.{StandsBehind, opened}
+use Rattle.uc_code.specs.Puts.{Puts}
+use Rattle.uc_code.specs.Ranges.{One, Kept}
+use Rattle.uc_code.specs.Lowered.{StmtAt}
+use Rattle.uc_code.proofs.Stable.{kept_then, kept_piece, one_stable}
+use Rattle.uc_lower_expr.specs.Added.{Adds, OpCode}
+use Rattle.uc_lower_expr.specs.Contexts.{context_in}
+use Rattle.uc_lower_expr.specs.Members.{routine_by, routine_for}
+use Rattle.uc_lower_stmt.specs.Blocks.{AllStandBehind, started_args}
+use Rattle.uc_lower_stmt.specs.Objects.{build_room, call_by}
+use Rattle.uc_lower_stmt.specs.Pending.{Does, Opens, Begins, Done, Opened, Lays}
+use Rattle.uc_lower_stmt.specs.Scoped.{scope_of}
+use Rattle.uc_lower_stmt.proofs.Kept.{stmt_stable}
+use Rattle.uc_lower_stmt.proofs.Laying.{lays_as, lays_join, lays_nothing}
+
+-- routines that nobody wrote stand behind all others
+
+behind_by : (p : Program) (i n : ℕ) (wanted : Role) (w : Option ℕ) → n < length (routines_of p) → (routine_by p i wanted w).written ≡ false → n < (routine_by p i wanted w).number
+behind_by p i n wanted None l e = omega arith
+behind_by p i n wanted (Some r) l e = absurd (cc)
+
+pub all_behind : (p : Program) (i : ℕ) (ms : List Mark) → routine_in ms < length (routines_of p) → AllStandBehind p i ms
+all_behind p i ms l = record { each = λ wanted e. behind_by p i (routine_in ms) wanted (written_at p i wanted) l e }
+
+pub behind_of : (p : Program) (i : ℕ) (wanted : Role) (spot : Spot) (array : Option Array) (ms ns : List Mark) → AllStandBehind p i ms → ns ≡ ms → StandsBehind ns (call_by (routine_for p i wanted) spot array)
+behind_of p i wanted spot array ms ns b e = record { behind = λ f. subst (λ (l : List Mark). routine_in l < (routine_for p i wanted).number) (sym e) (b.each wanted f) }
+
+pub behind_call : (p : Program) (i : ℕ) (wanted : Role) (spot : Spot) (array : Option Array) (what : ObjectCall) (ms ns : List Mark) → what ≡ call_by (routine_for p i wanted) spot array → AllStandBehind p i ms → ns ≡ ms → StandsBehind ns what
+behind_call p i wanted spot array what ms ns w b e = subst (λ (x : ObjectCall). StandsBehind ns x) (sym w) (behind_of p i wanted spot array ms ns b e)
+
+pub behind_next : (p : Program) (i : ℕ) (ms ns : List Mark) → AllStandBehind p i ms → routine_in ns ≡ routine_in ms → AllStandBehind p i ns
+behind_next p i ms ns b e = record { each = λ wanted f. let l = b.each wanted f in omega (arith, e) }
+
+-- arguments
+
+args_same : (p : Program) (s : Scope) (st : Start) → started_args (context_at p s) st ≡ start_args p s st
+args_same p s NoStart = refl
+args_same p s (StartValue e) = refl
+args_same p s (StartArgs es) = refl
+
+room_few : (o : Option ℕ) → build_room o ≤ 18
+room_few None = omega arith
+room_few (Some n) = omega arith
+
+module _ (p : Program) (i : ℕ) (b : Base) (d : Declarator) (line block cell cells : ℕ) (elements : Option ℕ) (args : List tree.Expr) (what : ObjectCall) (d0 d1 d2 d3 new : Draft)
+    (le : cell ≡ d0.cells) (ce : cells ≡ declared_cells p b d) (ne : elements ≡ length_of p d d.len) (ae : (c : Context) → args_meant c (exprs_of args) ≡ started_args c d.start) (few : exprs_size (exprs_of args) ≤ start_size d.start)
+    (c1 : Adds 1 (OpCode line (op.Clear cell cells)) d0 d1)
+    (h2 : (place : Expr) → BeginsAt place (Local cell) → Puts (OPS_FOR_SIZE * exprs_size (exprs_of args) + build_room elements) (λ code. StmtAt code d1.marks (build p line i elements place (args_meant (context_in p d1) (exprs_of args)))) d1 d2)
+    (cleans : (place : Expr) → BeginsAt place (Local cell) → Cleans (clean_up p i elements place) what)
+    (o3 : d3 ≡ opened (opening.Object what block) d2) (k3 : Kept (laid_in d2) (laid_in d3))
+    (e4 : new ≡ record d3 { names = d3.names ++ declared_known p (scope_of d3) b d ∷ []; cells = d3.cells + cells }) where
+  abbrev s : Scope
+  s = scope_of d0
+
+  abbrev there : Expr
+  there = Variable d0.cells
+
+  abbrev place : BeginsAt (Variable cell) (Local cell)
+  place = InFrame cell
+
+  built : Puts (OPS_FOR_SIZE * exprs_size (exprs_of args) + build_room elements) (λ code. StmtAt code d1.marks (build p line i elements (Variable cell) (args_meant (context_in p d1) (exprs_of args)))) d1 d2
+  built = h2 (Variable cell) place
+
+  abbrev inner : Mark
+  inner = mark.Clean what block (length d2.rows)
+
+  abbrev last : Draft
+  last = record d0 { ops = d2.ops; rows = d3.rows; settled = d3.settled; marks = inner ∷ d0.marks; names = d0.names ++ declared_known p s b d ∷ []; cells = d0.cells + declared_cells p b d }
+
+  opened_is : d3 ≡ record d2 { rows = d3.rows; settled = d3.settled; marks = inner ∷ d2.marks }
+  opened_is = subst (λ (x : Draft). x ≡ record d2 { rows = x.rows; settled = x.settled; marks = inner ∷ d2.marks }) (sym o3) refl
+
+  built_is : d2 ≡ record d0 { ops = d2.ops; rows = d2.rows; settled = d2.settled }
+  built_is = built.rest ∙ ap (λ (x : Draft). let y : Draft = record x { ops = d2.ops; rows = d2.rows; settled = d2.settled } in y) c1.rest
+
+  new_is : new ≡ last
+  new_is =
+      e4 ∙ ap (λ (x : Draft). let y : Draft = record x { names = x.names ++ declared_known p (scope_of x) b d ∷ []; cells = x.cells + cells } in y) opened_is
+      ∙ ap (λ (x : Draft). let y : Draft = record x { rows = d3.rows; settled = d3.settled; marks = inner ∷ x.marks; names = x.names ++ declared_known p (scope_of x) b d ∷ []; cells = x.cells + cells } in y) built_is
+      ∙ ap (λ (x : ℕ). let y : Draft = record last { cells = d0.cells + x } in y) ce
+
+  marks1 : d1.marks ≡ d0.marks
+  marks1 = ap (λ (x : Draft). x.marks) c1.rest
+
+  ops3 : d3.ops ≡ d2.ops
+  ops3 = ap (λ (x : Draft). x.ops) opened_is
+
+  keep2 : Kept (laid_in d2) (laid_in last)
+  keep2 = subst (λ l. Kept (laid_in d2) (record { ops = l; rows = d3.rows })) ops3 k3
+
+  keep1 : Kept (laid_in d1) (laid_in last)
+  keep1 = kept_then (laid_in d1) (laid_in d2) (laid_in last) built.kept keep2
+
+  clear_at : One (laid_in last) (op.Clear d0.cells (declared_cells p b d)) line (length d0.ops) (length d1.ops)
+  clear_at =
+      subst (λ (x : ℕ). One (laid_in last) (op.Clear d0.cells x) line (length d0.ops) (length d1.ops)) ce (
+      subst (λ (x : ℕ). One (laid_in last) (op.Clear x cells) line (length d0.ops) (length d1.ops)) le (
+      kept_piece (λ k. One k (op.Clear cell cells) line) (one_stable (op.Clear cell cells) line) (laid_in d1) (laid_in last) (length d0.ops) (length d1.ops) (omega arith) keep1 c1.code))
+
+  declare_at : StmtAt (laid_in last) d0.marks (Declare line (record { cell = s.cells; cells = declared_cells p b d; value = None } ∷ [])) (length d0.ops) (length d1.ops)
+  declare_at = record { middle = length d1.ops; first = clear_at; second = record { middle = length d1.ops; first = record { end = refl }; second = record { end = refl } } }
+
+  args_are : args_meant (context_in p d1) (exprs_of args) ≡ start_args p s d.start
+  args_are = ap (λ (x : Draft). args_meant (context_in p x) (exprs_of args)) c1.rest ∙ (ae (context_at p s) ∙ args_same p s d.start)
+
+  abbrev builds : Stmt
+  builds = build p line i (length_of p d d.len) there (start_args p s d.start)
+
+  build_at : StmtAt (laid_in last) d0.marks builds (length d1.ops) (length d2.ops)
+  build_at =
+      subst (λ (x : Option ℕ). StmtAt (laid_in last) d0.marks (build p line i x there (start_args p s d.start)) (length d1.ops) (length d2.ops)) ne (
+      subst (λ (x : ℕ). StmtAt (laid_in last) d0.marks (build p line i elements (Variable x) (start_args p s d.start)) (length d1.ops) (length d2.ops)) le (
+      subst (λ (x : List Meant). StmtAt (laid_in last) d0.marks (build p line i elements (Variable cell) x) (length d1.ops) (length d2.ops)) args_are (
+      subst (λ (ms : List Mark). StmtAt (laid_in last) ms (build p line i elements (Variable cell) (args_meant (context_in p d1) (exprs_of args))) (length d1.ops) (length d2.ops)) marks1 (
+      kept_piece (λ k. StmtAt k d1.marks (build p line i elements (Variable cell) (args_meant (context_in p d1) (exprs_of args)))) (stmt_stable d1.marks (build p line i elements (Variable cell) (args_meant (context_in p d1) (exprs_of args))))
+      (laid_in d2) (laid_in last) (length d1.ops) (length d2.ops) (omega arith) keep2 built.code))))
+
+  cleaned : Cleans (clean_up p i (length_of p d d.len) there) what
+  cleaned =
+      subst (λ (x : Option ℕ). Cleans (clean_up p i x there) what) ne (
+      subst (λ (x : ℕ). Cleans (clean_up p i elements (Variable x)) what) le (cleans (Variable cell) place))
+
+  pub arm_object : Lays (OPS_FOR_SIZE * declarator_size d) 0 (declared_cells p b d) 1 0 block (object_scoped p i line b d (scope_of d0)) (with_declared p (scope_of d0) b d) d0 new
+  arm_object =
+      let declares : Stmt = Declare line (record { cell = s.cells; cells = declared_cells p b d; value = None } ∷ []) in
+      let c : CleanUp = clean_up p i (length_of p d d.len) there in
+      subst (λ (x : Draft). Lays (OPS_FOR_SIZE * declarator_size d) 0 (declared_cells p b d) 1 0 block (object_scoped p i line b d (scope_of d0)) (with_declared p (scope_of d0) b d) d0 x) (sym new_is) (record {
+        rest = refl;
+        scope = refl;
+        opened = omega arith;
+        kept = kept_then (laid_in d0) (laid_in d1) (laid_in last) c1.kept keep1;
+        room = (let x = c1.room in let y = built.room in let z = room_few elements in omega (arith, few));
+        texts = omega arith;
+        cells = omega arith;
+        objects = omega arith;
+        steps = Opens c ∷ Does builds ∷ Does declares ∷ [];
+        none = tt;
+        block = λ ss. refl;
+        code = Opened (Does builds ∷ Does declares ∷ []) d0.marks (length d2.ops) (length d2.rows) c what
+            (Done (Does declares ∷ []) d0.marks (length d1.ops) (length d2.ops) builds (Done [] d0.marks (length d0.ops) (length d1.ops) declares Begins declare_at) build_at) cleaned;
+      })
+
+-- one object after another
+
+objects_push : (p : Program) (i line : ℕ) (b : Base) (xs : List Declarator) (x : Declarator) (s : Scope) (ss : Stmts) → objects_scoped p i line b xs s (object_scoped p i line b x (with_all p s b xs) ss) ≡ objects_scoped p i line b (xs ++ x ∷ []) s ss
+objects_push p i line b [] x s ss = refl
+objects_push p i line b (d ∷ ds) x s ss = ap (λ (r : Stmts). object_scoped p i line b d s r) (objects_push p i line b ds x (with_declared p s b d) ss)
+
+with_push : (p : Program) (b : Base) (xs : List Declarator) (x : Declarator) (s : Scope) → with_declared p (with_all p s b xs) b x ≡ with_all p s b (xs ++ x ∷ [])
+with_push p b [] x s = refl
+with_push p b (d ∷ ds) x s = with_push p b ds x (with_declared p s b d)
+
+sizes_push : (xs : List Declarator) (x : Declarator) → declarators_size (xs ++ x ∷ []) ≡ declarators_size xs + declarator_size x
+sizes_push [] x = omega arith
+sizes_push (d ∷ ds) x = omega (arith, sizes_push ds x)
+
+cells_push : (f : Declarator → ℕ) (xs : List Declarator) (x : Declarator) → declarators_cells f (xs ++ x ∷ []) ≡ declarators_cells f xs + f x
+cells_push f [] x = omega arith
+cells_push f (d ∷ ds) x = omega (arith, cells_push f ds x)
+
+pub objects_step : (p : Program) (i : ℕ) (b : Base) (xs : List Declarator) (k : ℕ) (x : Declarator) (line block : ℕ) (old mid new : Draft) → k < length xs → x ≡ get_or xs k x
+    → Lays (OPS_FOR_SIZE * declarators_size (take k xs)) 0 (declarators_cells (declared_cells p b) (take k xs)) (length (take k xs)) 0 block (objects_scoped p i line b (take k xs) (scope_of old)) (with_all p (scope_of old) b (take k xs)) old mid
+    → Lays (OPS_FOR_SIZE * declarator_size x) 0 (declared_cells p b x) 1 0 block (object_scoped p i line b x (scope_of mid)) (with_declared p (scope_of mid) b x) mid new
+    → Lays (OPS_FOR_SIZE * declarators_size (take (k + 1) xs)) 0 (declarators_cells (declared_cells p b) (take (k + 1) xs)) (length (take (k + 1) xs)) 0 block (objects_scoped p i line b (take (k + 1) xs) (scope_of old)) (with_all p (scope_of old) b (take (k + 1) xs)) old new
+objects_step p i b xs k x line block old mid new l e g h =
+    let ys : List Declarator = take k xs in
+    let s : Scope = scope_of old in
+    let split : ys ++ x ∷ [] ≡ take (k + 1) xs = ap (λ (y : Declarator). ys ++ y ∷ []) e ∙ sym (take_more xs k x l) in
+    let h1 : Lays (OPS_FOR_SIZE * declarator_size x) 0 (declared_cells p b x) 1 0 block (object_scoped p i line b x (with_all p s b ys)) (with_declared p (with_all p s b ys) b x) mid new =
+    subst (λ (t : Scope). Lays (OPS_FOR_SIZE * declarator_size x) 0 (declared_cells p b x) 1 0 block (object_scoped p i line b x t) (with_declared p t b x) mid new) g.scope h in
+    let long = length-append ys (x ∷ []) in
+    subst (λ (zs : List Declarator). Lays (OPS_FOR_SIZE * declarators_size zs) 0 (declarators_cells (declared_cells p b) zs) (length zs) 0 block (objects_scoped p i line b zs s) (with_all p s b zs) old new) split (
+    lays_as (lays_join g h1) (with_push p b ys x s) (λ ss. objects_push p i line b ys x s ss) (omega (arith, sizes_push ys x)) (omega arith) (omega (arith, cells_push (declared_cells p b) ys x)) (omega (arith, long)) (omega arith))
+
+pub objects_start : (p : Program) (i : ℕ) (b : Base) (xs : List Declarator) (line block : ℕ) (old : Draft)
+    → Lays (OPS_FOR_SIZE * declarators_size (take 0 xs)) 0 (declarators_cells (declared_cells p b) (take 0 xs)) (length (take 0 xs)) 0 block (objects_scoped p i line b (take 0 xs) (scope_of old)) (with_all p (scope_of old) b (take 0 xs)) old old
+objects_start p i b [] line block old = lays_as (lays_nothing block old) refl (λ ss. refl) (omega arith) (omega arith) (omega arith) (omega arith) (omega arith)
+objects_start p i b (x ∷ xs) line block old = lays_as (lays_nothing block old) refl (λ ss. refl) (omega arith) (omega arith) (omega arith) (omega arith) (omega arith)
+
+pub objects_end : (p : Program) (i : ℕ) (b : Base) (xs : List Declarator) (n line block : ℕ) (old new : Draft) → length xs ≤ n
+    → Lays (OPS_FOR_SIZE * declarators_size (take n xs)) 0 (declarators_cells (declared_cells p b) (take n xs)) (length (take n xs)) 0 block (objects_scoped p i line b (take n xs) (scope_of old)) (with_all p (scope_of old) b (take n xs)) old new
+    → Lays (OPS_FOR_SIZE * declarators_size xs) 0 (declarators_cells (declared_cells p b) xs) (length xs) 0 block (objects_scoped p i line b xs (scope_of old)) (with_all p (scope_of old) b xs) old new
+objects_end p i b xs n line block old new l h =
+    subst (λ (zs : List Declarator). Lays (OPS_FOR_SIZE * declarators_size zs) 0 (declarators_cells (declared_cells p b) zs) (length zs) 0 block (objects_scoped p i line b zs (scope_of old)) (with_all p (scope_of old) b zs) old new) (take_all n xs l) h

@@ -1,0 +1,24 @@
+use Rattle.std.proofs.Common.{◌*◌, ap, ◌∙◌, arith}
+use Rattle.uc_tree.specs.declared.limits.TheConstants.{OPS_FOR_SIZE}
+use Rattle.uc_tree.specs.Expressions.{exprs_of}
+use Rattle.uc_tree.specs.ExpressionSizes.{exprs_size}
+use Rattle.uc_tree.specs.Resolve.{args_meant}
+use Rattle.uc_lower_expr.specs.declared.numbering.ClassRoutine.{ClassRoutine}
+use Rattle.uc_lower_expr.specs.Contexts.{context_in}
+use Rattle.uc_lower_stmt.specs.Objects.{build_room, call_by}
+use Rattle.uc_lower_stmt.proofs.Building.{arm_all, arm_one}
+use Rattle.uc_lower_stmt.proofs.objects.lower_build.Goals as goal
+
+pub put-requires : goal.put-requires
+put-requires c =
+    let room = ap build_room c.in-None.is in
+    omega (arith, room, c.requires.room, c.in_ok-lower_construction-in-None.ensures.room)
+
+pub returns-in_ok-put-in-None : goal.returns-in_ok-put-in-None
+returns-in_ok-put-in-None c =
+    arm_one c.args.names.now c.args.class c.args.line c.args.spot c.args.elements (args_meant (context_in c.args.names.now c.args.out.now) (exprs_of c.args.args.now)) (OPS_FOR_SIZE * exprs_size (exprs_of c.args.args.now)) c.args.out.now _ _ c.in-None.is c.in_ok-lower_construction-in-None.ensures.code c.in_ok-put-in-None.ensures
+
+pub returns-in_ok-put_fill-in-Some : goal.returns-in_ok-put_fill-in-Some
+returns-in_ok-put_fill-in-Some c =
+    arm_all c.args.names.now c.args.class c.law_cells.ensures c.args.line c.args.spot c.args.elements c.array_of-array.result (args_meant (context_in c.args.names.now c.args.out.now) (exprs_of c.args.args.now)) (OPS_FOR_SIZE * exprs_size (exprs_of c.args.args.now)) c.in-Some.count c.call_by-builder.result c.call_by-destroyer.result c.args.out.now _ c.in-Some.is c.array_of-array.ensures
+    (c.call_by-builder.ensures ∙ ap (λ (r : ClassRoutine). call_by r c.args.spot c.array_of-array.result) c.constructor_of.ensures) (c.call_by-destroyer.ensures ∙ ap (λ (r : ClassRoutine). call_by r c.args.spot c.array_of-array.result) c.destructor_of.ensures) c.in_ok-put_fill-in-Some.ensures

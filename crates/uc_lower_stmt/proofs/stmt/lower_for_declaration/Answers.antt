@@ -1,0 +1,21 @@
+use Rattle.std.proofs.Common.{Some, None, ap, sym, ◌∙◌}
+use Rattle.uc_tree.specs.Objects.{plain_class}
+use Rattle.uc_tree.specs.Programs.{Program}
+use Rattle.uc_lower_expr.proofs.Knowing.{plain_within}
+use Rattle.uc_lower_stmt.proofs.Listing.{declared_objects, declared_variables}
+use Rattle.uc_lower_stmt.proofs.Openings.{all_behind}
+use Rattle.uc_lower_stmt.proofs.stmt.lower_for_declaration.Goals as goal
+
+pub lower_objects-requires-clause-class : goal.lower_objects-requires-clause-class
+lower_objects-requires-clause-class c = plain_within c.args.names.now c.args.base.now c.in-Some.class (sym (c.plain_class.ensures ∙ ap (λ (p : Program). plain_class p c.args.base.now) c.sizes.ensures) ∙ c.in-Some.is)
+
+pub lower_objects-requires-clause-behind : goal.lower_objects-requires-clause-behind
+lower_objects-requires-clause-behind c = all_behind c.args.names.now c.in-Some.class c.args.out.now.marks c.requires.inside
+
+pub returns-in_ok-lower_objects-in-Some : goal.returns-in_ok-lower_objects-in-Some
+returns-in_ok-lower_objects-in-Some c =
+    declared_objects c.args.names.now c.args.line c.args.line c.args.base.now c.args.declarators.now c.in-Some.class c.args.out.now _ (sym (c.plain_class.ensures ∙ ap (λ (p : Program). plain_class p c.args.base.now) c.sizes.ensures) ∙ c.in-Some.is) c.in_ok-lower_objects-in-Some.ensures
+
+pub returns-in_ok-lower_declarators-in-None : goal.returns-in_ok-lower_declarators-in-None
+returns-in_ok-lower_declarators-in-None c =
+    declared_variables c.args.names.now c.args.line c.args.line c.args.base.now c.args.declarators.now c.args.out.now _ (sym (c.plain_class.ensures ∙ ap (λ (p : Program). plain_class p c.args.base.now) c.sizes.ensures) ∙ c.in-None.is) c.in_ok-lower_declarators-in-None.ensures

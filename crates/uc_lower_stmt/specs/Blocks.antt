@@ -1,0 +1,78 @@
+-- The end of the scopes of objects in a block.
+use Rattle.std.specs.Prelude.{◌≡◌, ℕ, ◌≤◌, ◌<◌, List, [], ◌∷◌, Bool, true, false, Option, Some, None, length, nat_le}
+use Rattle.uc_tree.specs.declared.kinds.Role.{Role}
+use Rattle.uc_tree.specs.Programs.{Program}
+use Rattle.uc_tree.specs.Source.{Stmts}
+use Rattle.uc_tree.specs.Statements.{Start, NoStart, StartValue, StartArgs}
+use Rattle.uc_tree.specs.Resolve.{Context, Meant, args_meant}
+use Rattle.uc_code.specs.declared.rows.Mark.{Mark}
+use Rattle.uc_code.specs.declared.rows.Mark.TheVariants as mark
+use Rattle.uc_code.specs.Drafts.{Draft}
+use Rattle.uc_code.specs.Laid.{laid_in, routine_in}
+use Rattle.uc_code.specs.Ranges.{Kept}
+use Rattle.uc_code.specs.Lowered.{StmtsAt}
+use Rattle.uc_lower_expr.specs.Members.{routine_for}
+use Rattle.uc_lower_stmt.specs.declared.block.ObjectScope.{ObjectScope}
+use Rattle.uc_lower_stmt.specs.Marked.{taken}
+use Rattle.uc_lower_stmt.specs.Pending.{Step, NoParts, Pending, block_of}
+
+-- what builds and destroys the objects of the class with the place i, and nobody wrote, stands further on than the routine of these
+-- marks
+pub record AllStandBehind (p : Program) (i : ℕ) (ms : List Mark) : Type 0 where
+  pub each : (wanted : Role) → (routine_for p i wanted).written ≡ false → routine_in ms < (routine_for p i wanted).number
+
+-- these statements are a block of this line, under the marks of a draft, and nothing stands behind it
+pub record BlockStands (line : ℕ) (ms : List Mark) (ss : Stmts) (a : ℕ) (d : Draft) : Type 0 where
+  pub marks : d.marks ≡ ms
+  pub code : StmtsAt (laid_in d) ms line ss a (length d.ops)
+
+-- a draft in which the scopes of the objects behind the first marks, so many, have ended: steps of a block that were laid out under
+-- these marks, and statements behind them, are a block under the first ones
+pub record EndsScopes (count : ℕ) (old new : Draft) : Type 0 where
+  pub rest : new ≡ record old { ops = new.ops; rows = new.rows; settled = new.settled; marks = new.marks }
+  pub kept : Kept (laid_in old) (laid_in new)
+  pub room : taken new ≤ taken old
+  pub block : (line a y : ℕ) (ks : List Step) (ms : List Mark) (ss : Stmts) → length ms ≡ count → NoParts ks → Pending (laid_in old) line ms a ks old.marks y → StmtsAt (laid_in old) old.marks line ss y (length old.ops) → BlockStands line ms (block_of ks ss) a new
+
+-- in between: steps and statements that make the same block
+pub record Unended (line : ℕ) (ms : List Mark) (whole : Stmts) (a : ℕ) (d : Draft) : Type 0 where
+  pub steps : List Step
+  pub none : NoParts steps
+  pub behind : Stmts
+  pub middle : ℕ
+  pub before : Pending (laid_in d) line ms a steps d.marks middle
+  pub code : StmtsAt (laid_in d) d.marks line behind middle (length d.ops)
+  pub same : block_of steps behind ≡ whole
+
+pub record EndingScopes (count : ℕ) (old now : Draft) : Type 0 where
+  pub rest : now ≡ record old { ops = now.ops; rows = now.rows; settled = now.settled; marks = now.marks }
+  pub kept : Kept (laid_in old) (laid_in now)
+  pub room : taken now ≤ taken old
+  pub block : (line a y : ℕ) (ks : List Step) (ms : List Mark) (ss : Stmts) → length ms ≡ count → NoParts ks → Pending (laid_in old) line ms a ks old.marks y → StmtsAt (laid_in old) old.marks line ss y (length old.ops) → Unended line ms (block_of ks ss) a now
+
+-- the arguments with which an object starts
+abbrev pub started_args : Context → Start → List Meant
+started_args c NoStart = []
+started_args c (StartValue e) = []
+started_args c (StartArgs es) = args_meant c es
+
+-- the scope of the innermost mark, where more marks stand than so many
+
+abbrev pub scope_at : Mark → Option ObjectScope
+scope_at (mark.Clean what line row) = Some (record { what = what; line = line })
+scope_at (mark.Body routine) = None
+scope_at (mark.Finish routine line) = None
+scope_at (mark.Loop leave again) = None
+scope_at (mark.Whole leave) = None
+scope_at (mark.Guard first count) = None
+scope_at (mark.Part row) = None
+scope_at (mark.Elements row) = None
+scope_at (mark.Outward below row) = None
+
+abbrev pub innermost_by : Bool → List Mark → Option ObjectScope
+innermost_by true ms = None
+innermost_by false [] = None
+innermost_by false (m ∷ ms) = scope_at m
+
+abbrev pub innermost_in : List Mark → ℕ → Option ObjectScope
+innermost_in ms count = innermost_by (nat_le (length ms) count) ms

@@ -1,0 +1,233 @@
+// Objects that are declared: each is built, and cleaned up at the end of its block.
+
+ghost use Rattle.std.specs.Prelude.{◌≡◌, ◌+◌, ◌*◌, ◌≤◌, ◌<◌, None, length, OnOk};
+ghost use Rattle.uc_tree.specs.declared.kinds.Role.TheVariants as role;
+ghost use Rattle.uc_tree.specs.declared.limits.TheConstants.{OPS_FOR_SIZE, PROGRAM_OPS};
+ghost use Rattle.uc_tree.specs.Expressions.{exprs_of};
+ghost use Rattle.uc_tree.specs.ExpressionSizes.{exprs_size};
+ghost use Rattle.uc_tree.specs.Cells.{class_cells, classes_of};
+ghost use Rattle.uc_tree.specs.Source.{Expr as Place};
+ghost use Rattle.uc_tree.specs.Resolve.{args_meant, build, clean_up, constructed};
+ghost use Rattle.uc_code.specs.Lowered.{CallBuilt, StmtAt, spot_op};
+ghost use Rattle.uc_code.specs.ObjectCalls.{BeginsAt, Cleans};
+ghost use Rattle.uc_code.specs.Open.{StandsBehind, clean_room};
+ghost use Rattle.uc_code.specs.Puts.{Puts};
+ghost use Rattle.uc_lower_expr.specs.Added.{Adds, ExprCode};
+ghost use Rattle.uc_lower_expr.specs.Contexts.{context_in};
+ghost use Rattle.uc_lower_expr.specs.Members.{routine_for};
+ghost use Rattle.uc_lower_stmt.specs.Objects.{ClosesPart, ClosesScope, FillCode, InPart, InScope, array_by, build_room, call_by, fill_room};
+
+use std::alloc::AllocError;
+use uc_code::cleaning::{clean_length, done_length, put_call, put_clean, put_done};
+use uc_code::draft::Draft;
+use uc_code::op::Op;
+use uc_code::rows::{Array, ObjectCall, Opening, Spot};
+use uc_lower_expr::expr::lower_args;
+use uc_lower_expr::numbering::ClassRoutine;
+use uc_lower_expr::program_names::ProgramNames;
+use uc_lower_expr::put::{put, put_at_risk};
+use uc_tree::expr::Expr;
+use uc_tree::laws::law_cells;
+
+// Where an object begins.
+fn spot_op(spot: Spot) -> Op
+    ensures { result ≡ spot_op spot }
+{
+    match spot {
+        Spot::Local(cell) => Op::Local(cell),
+        Spot::This(cell) => Op::This(cell),
+    }
+}
+
+// A call of a routine without arguments.
+fn call_by(routine: ClassRoutine, spot: Spot, array: Option<Array>) -> ObjectCall
+    ensures { result ≡ call_by routine spot array }
+{
+    ObjectCall {
+        spot,
+        array,
+        routine: routine.number,
+        written: routine.written,
+    }
+}
+
+// The cells of an object of the class with this place.
+fn cells_of(class: usize, names: &ProgramNames) -> u32
+    ensures { result ≡ class_cells names.now class }
+{
+    names.fit();
+    names.sizes().cells_of_class(class) as u32
+}
+
+// The elements of an array of objects of the class with this place, if it is one.
+fn array_of(class: usize, elements: Option<u32>, names: &ProgramNames) -> Option<Array>
+    ensures { result ≡ array_by names.now class elements }
+{
+    match elements {
+        Some(length) => Some(Array {
+            length,
+            size: cells_of(class, names),
+        }),
+        None => None,
+    }
+}
+
+/// The call that cleans up an object of the class with this place, or each of so many elements of an array, which begins in a
+/// spot.
+pub fn clean_call(
+    class: usize,
+    spot: Spot,
+    elements: Option<u32>,
+    names: &ProgramNames,
+) -> ObjectCall
+    requires { class < length (classes_of names.now.items) }
+    ensures call { result ≡ call_by (routine_for names.now class role.Destructor) spot (array_by names.now class elements) }
+    ensures cleans { (place : Place) → BeginsAt place spot → Cleans (clean_up names.now class elements place) result }
+{
+    law_cells();
+    let array = array_of(class, elements, names);
+    call_by(names.destructor_of(class), spot, array)
+}
+
+/// Adds the code that builds an object of the class with this place, which begins in a spot. After want of memory the draft is
+/// spent.
+pub fn lower_construction(
+    class: usize,
+    spot: Spot,
+    args: &[Expr],
+    line: u32,
+    names: &ProgramNames,
+    out: &mut Draft,
+) -> Result<(), AllocError>
+    requires class { class < length (classes_of names.now.items) }
+    requires room { length out.old.ops + OPS_FOR_SIZE * exprs_size (exprs_of args.now) + 3 ≤ PROGRAM_OPS }
+    requires behind { StandsBehind out.old.marks (call_by (routine_for names.now class role.Constructor) spot None) }
+    ensures room { OnOk result (length out.new.ops ≤ length out.old.ops + (OPS_FOR_SIZE * exprs_size (exprs_of args.now) + 3)) }
+    ensures code { OnOk result ((place : Place) → BeginsAt place spot → Adds (OPS_FOR_SIZE * exprs_size (exprs_of args.now) + 3) (ExprCode line out.old.marks (constructed names.now class place (args_meant (context_in names.now out.old) (exprs_of args.now)))) out.old out.new) }
+{
+    let routine = names.constructor_of(class);
+    put(spot_op(spot), line, out)?;
+    if routine.written {
+        lower_args(names.params(routine.number), args, line, names, out)?;
+        put(Op::Tick, line, out)?;
+        put_at_risk(Op::CallOn(routine.number), line, out)?;
+    } else {
+        put_at_risk(Op::CallUnwritten(routine.number), line, out)?;
+    }
+    Ok(())
+}
+
+// The call that builds an element, before one more stands.
+fn put_built(builder: ObjectCall, line: u32, out: &mut Draft) -> Result<(), AllocError>
+    requires room { length out.old.ops + 7 ≤ PROGRAM_OPS }
+    requires behind { StandsBehind out.old.marks builder }
+    ensures { OnOk result (Puts 7 (λ code. CallBuilt code line builder out.old.marks) out.old out.new) }
+{
+    put_call(builder, line, out)?;
+    put(Op::Discard, line, out)?;
+    put(Op::More, line, out)?;
+    Ok(())
+}
+
+// Turns over the elements of an array, which build them, and those that destroy what stands where an event comes.
+fn put_fill(
+    builder: ObjectCall,
+    destroyer: ObjectCall,
+    count: u32,
+    line: u32,
+    out: &mut Draft,
+) -> Result<(), AllocError>
+    requires room { length out.old.ops + fill_room ≤ PROGRAM_OPS }
+    requires builds { StandsBehind out.old.marks builder }
+    requires destroys { StandsBehind out.old.marks destroyer }
+    ensures { OnOk result (Puts fill_room (FillCode line out.old.marks builder destroyer count) out.old out.new) }
+{
+    let start = out.here();
+    let test = start + 2 + done_length(builder);
+    let entry = test + 2 + done_length(destroyer);
+    put(Op::Count { elements: 0, test }, line, out)?;
+    let _row = out.open(Opening::Elements)?;
+    put_built(builder, line, out)?;
+    let turn = start + 1;
+    put(
+        Op::Fill {
+            length: count,
+            turn,
+        },
+        line,
+        out,
+    )?;
+    put(Op::Jump(entry + 2), line, out)?;
+    put_done(destroyer, line, out)?;
+    out.close(0);
+    put(Op::Sweep(test + 2), line, out)?;
+    put_at_risk(Op::Unwind, line, out)?;
+    Ok(())
+}
+
+/// Adds the code of the statement that builds an object of the class with this place, or the elements of an array of them, without
+/// arguments. After want of memory the draft is spent.
+pub fn lower_build(
+    class: usize,
+    spot: Spot,
+    elements: Option<u32>,
+    args: &[Expr],
+    line: u32,
+    names: &ProgramNames,
+    out: &mut Draft,
+) -> Result<(), AllocError>
+    requires class { class < length (classes_of names.now.items) }
+    requires room { length out.old.ops + OPS_FOR_SIZE * exprs_size (exprs_of args.now) + build_room elements ≤ PROGRAM_OPS }
+    requires builds { StandsBehind out.old.marks (call_by (routine_for names.now class role.Constructor) spot (array_by names.now class elements)) }
+    requires destroys { StandsBehind out.old.marks (call_by (routine_for names.now class role.Destructor) spot (array_by names.now class elements)) }
+    ensures { OnOk result ((place : Place) → BeginsAt place spot → Puts (OPS_FOR_SIZE * exprs_size (exprs_of args.now) + build_room elements) (λ code. StmtAt code out.old.marks (build names.now line class elements place (args_meant (context_in names.now out.old) (exprs_of args.now)))) out.old out.new) }
+{
+    match elements {
+        None => {
+            lower_construction(class, spot, args, line, names, out)?;
+            put(Op::Discard, line, out)?;
+            Ok(())
+        }
+        Some(count) => {
+            law_cells();
+            let array = array_of(class, elements, names);
+            let builder = call_by(names.constructor_of(class), spot, array);
+            let destroyer = call_by(names.destructor_of(class), spot, array);
+            put_fill(builder, destroyer, count, line, out)?;
+            Ok(())
+        }
+    }
+}
+
+/// Ends the scope of the object of the innermost mark: it is cleaned up, and once more for unwinding. After want of memory the draft
+/// is spent.
+pub fn close_scope(what: ObjectCall, line: u32, out: &mut Draft) -> Result<(), AllocError>
+    requires scope { InScope what line out.old.marks }
+    requires room { length out.old.ops + (2 * clean_room + 2) ≤ PROGRAM_OPS }
+    ensures { OnOk result (ClosesScope what line out.old out.new) }
+{
+    let long = clean_length(what);
+    let end = out.here() + 2 * long + 2;
+    out.close(long + 1);
+    put_clean(what, line, out)?;
+    put(Op::Jump(end), line, out)?;
+    put_clean(what, line, out)?;
+    put_at_risk(Op::Unwind, line, out)?;
+    Ok(())
+}
+
+/// Ends the scope of the part of an object under construction of the innermost mark: it is cleaned up for unwinding alone. After
+/// want of memory the draft is spent.
+pub fn close_part(what: ObjectCall, line: u32, out: &mut Draft) -> Result<(), AllocError>
+    requires part { InPart out.old.marks }
+    requires behind { StandsBehind out.old.marks what }
+    requires room { length out.old.ops + (clean_room + 2) ≤ PROGRAM_OPS }
+    ensures { OnOk result (ClosesPart what line out.old out.new) }
+{
+    let end = out.here() + clean_length(what) + 2;
+    out.close(1);
+    put(Op::Jump(end), line, out)?;
+    put_clean(what, line, out)?;
+    put_at_risk(Op::Unwind, line, out)?;
+    Ok(())
+}

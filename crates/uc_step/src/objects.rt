@@ -1,0 +1,117 @@
+// The ops on the object at hand, on fields, and on the elements of arrays of objects.
+
+ghost use Rattle.std.specs.Prelude.{◌≡◌, OnOk, OnErr};
+ghost use Rattle.uc_step.specs.Acts.{Does};
+
+use crate::stepped::Stepped;
+use std::alloc::AllocError;
+use uc_code::code::Code;
+use uc_code::op::Op;
+use uc_frames::cell::{Cell, further_on};
+use uc_frames::work::Work;
+
+pub(crate) fn own(code: &Code, line: u32, work: &mut Work) -> Result<(), AllocError>
+    ensures ok { OnOk result (Does code.now line Op.Own work.old Stepped.Quiet work.new) }
+    ensures err { OnErr result (work.new ≡ work.old) }
+{
+    let object = work.this();
+    work.push(object)?;
+    Ok(())
+}
+
+pub(crate) fn own_place(
+    code: &Code,
+    line: u32,
+    work: &mut Work,
+    cell: u32,
+) -> Result<(), AllocError>
+    ensures ok { OnOk result (Does code.now line (Op.This cell) work.old Stepped.Quiet work.new) }
+    ensures err { OnErr result (work.new ≡ work.old) }
+{
+    let place = further_on(u64::from(cell), work.this());
+    work.push(place)?;
+    Ok(())
+}
+
+pub(crate) fn held_by_own(
+    code: &Code,
+    line: u32,
+    work: &mut Work,
+    cell: u32,
+) -> Result<(), AllocError>
+    ensures ok { OnOk result (Does code.now line (Op.ViaThis cell) work.old Stepped.Quiet work.new) }
+    ensures err { OnErr result (work.new ≡ work.old) }
+{
+    let held = work.read(further_on(u64::from(cell), work.this()));
+    work.push(held)?;
+    Ok(())
+}
+
+pub(crate) fn field(code: &Code, line: u32, work: &mut Work, cells: u32) -> Result<(), AllocError>
+    ensures ok { OnOk result (Does code.now line (Op.Field cells) work.old Stepped.Quiet work.new) }
+    ensures err { OnErr result (work.new ≡ work.old) }
+{
+    let place = further_on(u64::from(cells), work.top());
+    work.replace(place)?;
+    Ok(())
+}
+
+pub(crate) fn counted(code: &Code, line: u32, work: &mut Work) -> Result<(), AllocError>
+    ensures ok { OnOk result (Does code.now line Op.Counted work.old Stepped.Quiet work.new) }
+    ensures err { OnErr result (work.new ≡ work.old) }
+{
+    let elements = work.elements();
+    work.push(Cell::Number(i64::from(elements)))?;
+    Ok(())
+}
+
+pub(crate) fn count(
+    code: &Code,
+    line: u32,
+    work: &mut Work,
+    elements: u32,
+    test: u32,
+) -> Result<(), AllocError>
+    ensures ok { OnOk result (Does code.now line (Op.Count elements test) work.old Stepped.Quiet work.new) }
+    ensures err { OnErr result (work.new ≡ work.old) }
+{
+    work.set_elements(elements);
+    work.go(test);
+    Ok(())
+}
+
+pub(crate) fn more(code: &Code, line: u32, work: &mut Work) -> Result<(), AllocError>
+    ensures ok { OnOk result (Does code.now line Op.More work.old Stepped.Quiet work.new) }
+    ensures err { OnErr result (work.new ≡ work.old) }
+{
+    work.set_elements(work.elements().saturating_add(1));
+    Ok(())
+}
+
+pub(crate) fn fill(
+    code: &Code,
+    line: u32,
+    work: &mut Work,
+    length: u32,
+    turn: u32,
+) -> Result<(), AllocError>
+    ensures ok { OnOk result (Does code.now line (Op.Fill length turn) work.old Stepped.Quiet work.new) }
+    ensures err { OnErr result (work.new ≡ work.old) }
+{
+    if work.elements() < length {
+        work.go(turn);
+    }
+    Ok(())
+}
+
+pub(crate) fn sweep(code: &Code, line: u32, work: &mut Work, turn: u32) -> Result<(), AllocError>
+    ensures ok { OnOk result (Does code.now line (Op.Sweep turn) work.old Stepped.Quiet work.new) }
+    ensures err { OnErr result (work.new ≡ work.old) }
+{
+    let elements = work.elements();
+    if elements > 0 {
+        work.set_elements(elements - 1);
+        work.go(turn);
+    }
+    Ok(())
+}
