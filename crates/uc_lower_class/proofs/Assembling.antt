@@ -1,6 +1,5 @@
 -- What constructors and destructors are made of, put together.
-use Rattle.std.proofs.Common.{◌≡◌, ℕ, ◌+◌, ◌*◌, ◌≤◌, ◌<◌, Bool, false, List, [], ◌∷◌, ◌++◌, Option, Some, None, length, reverse, refl, ap, sym, subst, ◌∙◌, arith}
-use Rattle.uc_tree.specs.declared.limits.TheConstants.{OPS_FOR_SIZE}
+use Rattle.std.proofs.Common.{◌≡◌, ℕ, ◌+◌, ◌≤◌, List, [], ◌∷◌, ◌++◌, Option, Some, None, length, reverse, refl, ap, sym, subst, ◌∙◌, arith}
 use Rattle.uc_tree.specs.declared.kinds.Role.{Role}
 use Rattle.uc_tree.specs.declared.kinds.Role.TheVariants as role
 use Rattle.uc_tree.specs.Cells.{declared_cells, stmts_cells}
@@ -15,7 +14,7 @@ use Rattle.uc_code.specs.declared.rows.ObjectCall.{ObjectCall}
 use Rattle.uc_code.specs.declared.rows.Opening.TheVariants as opening
 use Rattle.uc_code.specs.declared.rows.Spot.{Spot}
 use Rattle.uc_code.specs.Drafts.{Draft}
-use Rattle.uc_code.specs.Laid.{laid_in, routine_in}
+use Rattle.uc_code.specs.Laid.{laid_in}
 use Rattle.uc_code.specs.Open.{StandsBehind, opened}
 use Rattle.uc_code.specs.Ranges.{Kept}
 use Rattle.uc_code.specs.Lowered.{StmtAt, StmtsAt}

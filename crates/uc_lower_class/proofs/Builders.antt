@@ -1,5 +1,5 @@
 -- The code of constructors and destructors.
-use Rattle.std.proofs.Common.{◌≡◌, ℕ, ◌+◌, ◌*◌, ◌≤◌, ◌<◌, Bool, true, false, List, [], ◌∷◌, ◌++◌, length, nat_eq, refl, ap, sym, subst, ◌∙◌, arith}
+use Rattle.std.proofs.Common.{◌≡◌, ℕ, ◌+◌, ◌≤◌, Bool, false, List, [], ◌∷◌, ◌++◌, length, nat_eq, refl, ap, sym, subst, ◌∙◌, arith}
 use Rattle.std.specs.Prelude.{None, slice_set, if◌then◌else◌}
 use Rattle.uc_tree.specs.declared.kinds.Base.{Base}
 use Rattle.uc_tree.specs.declared.kinds.Param.{Param}
@@ -14,7 +14,7 @@ use Rattle.uc_tree.specs.Cells.{declared_cells, params_cells, routine_cells, stm
 use Rattle.uc_tree.specs.Scopes.{stmts_scopes}
 use Rattle.uc_tree.specs.Programs.{Program, Routine}
 use Rattle.uc_tree.specs.Source as source
-use Rattle.uc_tree.specs.Resolve.{Scope, body_by, nowhere, params_known, purpose_of, role_purpose, routine_meant, routine_scope, scope_behind, unwritten_body, unwritten_meant}
+use Rattle.uc_tree.specs.Resolve.{Scope, body_by, params_known, purpose_of, role_purpose, routine_meant, routine_scope, scope_behind, unwritten_body, unwritten_meant}
 use Rattle.uc_code.specs.declared.op.Op.TheVariants as op
 use Rattle.uc_code.specs.declared.rows.Mark.{Mark}
 use Rattle.uc_code.specs.declared.rows.Mark.TheVariants as mark

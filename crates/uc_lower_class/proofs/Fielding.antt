@@ -1,5 +1,5 @@
 -- A field of a class: what is told of it, how it is built, and how its scope is opened.
-use Rattle.std.proofs.Common.{◌≡◌, ℕ, ◌+◌, ◌*◌, ◌≤◌, ◌<◌, pos, List, [], ◌∷◌, ◌++◌, Bool, true, false, Option, Some, None, if◌then◌else◌, length, refl, ap, sym, subst, ◌∙◌, arith}
+use Rattle.std.proofs.Common.{◌≡◌, ℕ, ◌+◌, ◌*◌, ◌≤◌, pos, List, [], ◌∷◌, Bool, true, false, Option, Some, None, if◌then◌else◌, refl, ap, sym, subst, ◌∙◌, arith}
 use Rattle.std.specs.Prelude.{option_map, slice_get}
 use Rattle.uc_tree.specs.Expressions as tree
 use Rattle.uc_tree.specs.Expressions.{exprs_of}
@@ -8,17 +8,14 @@ use Rattle.uc_lower_expr.specs.Contexts.{context_in}
 use Rattle.uc_tree.specs.declared.limits.TheConstants.{OPS_FOR_SIZE}
 use Rattle.uc_tree.specs.Programs.{Class, Program}
 use Rattle.uc_tree.specs.Objects.{ClassField, class_shape, plain_class, shape_of}
-use Rattle.uc_tree.specs.Source.{field_cells, CleanUp, Expr, Literal, OfObject, OwnField, Shape, Stmt, Stmts, Assign, Evaluate, Then, Built, Scoped}
-use Rattle.uc_tree.specs.Resolve.{Meant, AtPlace, args_meant, meant, build, clean_up, converted, value_of, field_built, field_class, field_left, field_started, field_type, length_in_class}
+use Rattle.uc_tree.specs.Source.{field_cells, Expr, Literal, OfObject, OwnField, Shape, Stmts, Assign, Evaluate, Then, Built, Scoped}
+use Rattle.uc_tree.specs.Resolve.{Meant, AtPlace, args_meant, meant, build, clean_up, converted, value_of, field_built, field_class, field_left, field_type, length_in_class}
 use Rattle.uc_code.specs.declared.op.Op.TheVariants as op
 use Rattle.uc_code.specs.declared.rows.Mark.{Mark}
-use Rattle.uc_code.specs.declared.rows.Array.{Array}
 use Rattle.uc_code.specs.declared.rows.ObjectCall.{ObjectCall}
 use Rattle.uc_code.specs.declared.rows.Spot.{Spot}
 use Rattle.uc_code.specs.declared.rows.Spot.TheVariants as spot
 use Rattle.uc_code.specs.Drafts.{Draft}
-use Rattle.uc_code.specs.Laid.{Laid, laid_in}
-use Rattle.uc_code.specs.Lowered.{ExprAt, StmtAt}
 use Rattle.uc_code.specs.ObjectCalls.{BeginsAt, InObject}
 use Rattle.uc_code.specs.Puts.{clean_length}
 use Rattle.uc_code.proofs.Stable.{one_stable}

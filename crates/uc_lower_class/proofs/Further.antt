@@ -1,19 +1,19 @@
 -- What builds and destroys the objects in the fields of a class, and nobody wrote, stands further on than what calls it.
-use Rattle.std.proofs.Common.{◌≡◌, ℕ, zero, suc, ◌+◌, ◌≤◌, ◌<◌, ℤ, List, [], ◌∷◌, Bool, true, false, true≢false, Option, Some, None, if◌then◌else◌, length, map, refl, ap, sym, subst, ◌∙◌, arith}
+use Rattle.std.proofs.Common.{◌≡◌, ℕ, zero, suc, ◌≤◌, ◌<◌, ℤ, List, [], ◌∷◌, Bool, true, false, true≢false, Option, Some, None, if◌then◌else◌, length, map, refl, ap, sym, subst, ◌∙◌, arith}
 use Rattle.std.specs.Prelude.{slice_get}
 use Rattle.uc_tree.specs.declared.kinds.Role.{Role}
 use Rattle.uc_tree.specs.declared.rows.Held.{Held}
 use Rattle.uc_tree.specs.declared.rows.Object.{Object}
 use Rattle.uc_tree.specs.Programs.{Class, Constant, Program}
-use Rattle.uc_tree.specs.Rows.{Row, row_at}
+use Rattle.uc_tree.specs.Rows.{row_at}
 use Rattle.uc_tree.specs.Cells.{classes_of, held_by, object_of, row_of, rows_of, seen_in}
 use Rattle.uc_tree.specs.Constants.{constants_of}
 use Rattle.uc_tree.specs.Numbering.{routines_of}
-use Rattle.uc_tree.specs.Objects.{ClassField, Unwritten, class_at, class_height, fields_of, height_within, plain_class, plain_in, unwritten_number, written_at}
+use Rattle.uc_tree.specs.Objects.{ClassField, Unwritten, class_at, class_height, fields_of, height_within, plain_class, plain_in, written_at}
 use Rattle.uc_tree.specs.Resolve.{field_class}
 use Rattle.uc_sizes.specs.Depths.{Holds, First, Later}
 use Rattle.uc_sizes.proofs.Depths.{heights_fall, heights_few}
-use Rattle.uc_lower_expr.specs.Members.{FitClasses, routine_by, routine_for}
+use Rattle.uc_lower_expr.specs.Members.{FitClasses, routine_by}
 use Rattle.uc_lower_expr.proofs.FieldLemmas.{held_is}
 use Rattle.uc_unwritten.proofs.Order.{stands_before}
 use Rattle.uc_lower_class.specs.Bodies.{IsUnwritten}

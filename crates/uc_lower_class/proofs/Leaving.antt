@@ -1,5 +1,5 @@
 -- The scopes of fields, which are opened one after another.
-use Rattle.std.proofs.Common.{◌≡◌, ℕ, ◌+◌, ◌*◌, ◌≤◌, List, [], ◌∷◌, length, refl, ap, sym, subst, ◌∙◌, arith}
+use Rattle.std.proofs.Common.{◌≡◌, ℕ, ◌+◌, ◌≤◌, [], ◌∷◌, length, refl, sym, subst, arith}
 use Rattle.uc_tree.specs.Source.{CleanUp, Stmts, Scoped}
 use Rattle.uc_code.specs.declared.rows.ObjectCall.{ObjectCall}
 use Rattle.uc_code.specs.declared.rows.Opening.TheVariants as opening
@@ -8,8 +8,7 @@ use Rattle.uc_code.specs.Laid.{laid_in}
 use Rattle.uc_code.specs.Open.{opened}
 use Rattle.uc_code.specs.Ranges.{Kept}
 use Rattle.uc_code.specs.ObjectCalls.{Cleans}
-use Rattle.uc_lower_stmt.specs.Pending.{Opens as Scope, Pending, Begins, Opened}
-use Rattle.uc_lower_stmt.specs.Scoped.{scope_of}
+use Rattle.uc_lower_stmt.specs.Pending.{Opens as Scope, Begins, Opened}
 use Rattle.uc_lower_stmt.proofs.Laying.{lays_as, lays_join, lays_nothing}
 use Rattle.uc_lower_class.specs.Pended.{Opens}
 

@@ -10,12 +10,10 @@ use Rattle.uc_tree.specs.Programs.{Class, Init, Program}
 use Rattle.uc_tree.specs.Cells.{leading_cells, seen_in}
 use Rattle.uc_tree.specs.Constants.{constants_of}
 use Rattle.uc_tree.specs.Objects.{ClassField, class_shape, fields_of}
-use Rattle.uc_tree.specs.Source.{OfObject, OwnField, Stmts}
-use Rattle.uc_tree.specs.Resolve.{Meant, Own, Scope, args_meant, context_at, field_built, field_class, field_left, field_length, field_place, fields_built, fields_left, init_args, init_named, length_in_class}
+use Rattle.uc_tree.specs.Resolve.{Meant, Own, Scope, args_meant, context_at, field_built, field_class, field_length, field_place, fields_built, fields_left, init_args, init_named, length_in_class}
 use Rattle.uc_code.specs.declared.rows.ObjectCall.{ObjectCall}
 use Rattle.uc_code.specs.Drafts.{Draft}
 use Rattle.uc_code.specs.Laid.{routine_in}
-use Rattle.uc_lower_stmt.specs.Scoped.{scope_of}
 use Rattle.uc_lower_stmt.proofs.Laying.{lays_routine}
 use Rattle.uc_lower_class.specs.Inits.{init_exprs, names_of}
 use Rattle.uc_lower_class.specs.Fields.{field_then, fields_room, left_then, part_room, room_by}

@@ -1,5 +1,5 @@
 -- Parts of an object under construction, and how what follows them ends.
-use Rattle.std.proofs.Common.{◌≡◌, ℕ, ◌+◌, ◌*◌, ◌≤◌, List, [], ◌∷◌, ◌++◌, drop, length, reverse, refl, ap, sym, subst, ◌∙◌, arith, append_assoc}
+use Rattle.std.proofs.Common.{◌≡◌, ℕ, ◌+◌, ◌≤◌, List, [], ◌∷◌, ◌++◌, drop, length, reverse, refl, ap, sym, subst, ◌∙◌, arith, append_assoc}
 use Rattle.std.proofs.lemmas.List.{reverse-append}
 use Rattle.uc_tree.specs.Source.{CleanUp, Stmt, Stmts, Then, Scoped, Built}
 use Rattle.uc_code.specs.declared.rows.Mark.{Mark}
@@ -18,7 +18,7 @@ use Rattle.uc_lower_expr.specs.Added.{Adds}
 use Rattle.uc_lower_stmt.specs.Objects.{ClosesPart, InPart}
 use Rattle.uc_lower_stmt.specs.Pending.{Step, Does, Opens, Builds, block_of}
 use Rattle.uc_lower_stmt.proofs.Kept.{stmt_stable, stmts_stable}
-use Rattle.uc_lower_class.specs.Pended.{Pended, Begins, Done, Parted, PartsIn, NoParts, MoreParts, Constructs, EndsParts, end_room}
+use Rattle.uc_lower_class.specs.Pended.{Pended, Begins, Done, Parted, PartsIn, MoreParts, Constructs, EndsParts, end_room}
 
 pub block_join : (ks ls : List Step) (ss : Stmts) → block_of (ls ++ ks) ss ≡ block_of ks (block_of ls ss)
 block_join ks [] ss = refl

@@ -1,15 +1,13 @@
 -- The fields of a class take no more ops than their size allows, in its constructor and its destructor together.
-use Rattle.std.proofs.Common.{◌≡◌, ℕ, ◌+◌, ◌*◌, ◌≤◌, List, [], ◌∷◌, ◌++◌, Bool, true, false, Option, Some, None, if◌then◌else◌, length, refl, ap, sym, subst, ◌∙◌, arith}
+use Rattle.std.proofs.Common.{◌≡◌, ℕ, ◌+◌, ◌*◌, ◌≤◌, List, [], ◌∷◌, ◌++◌, Option, Some, None, length, refl, ap, ◌∙◌, arith}
 use Rattle.uc_tree.specs.declared.limits.TheConstants.{OPS_FOR_SIZE}
 use Rattle.uc_tree.specs.declared.kinds.Base.{Base}
 use Rattle.uc_tree.specs.Expressions.{Expr, Number, Character, Truth, Name, Cin, Postfix, Unary, Chain, Assign}
-use Rattle.uc_tree.specs.ExpressionSizes.{expr_size, exprs_size}
-use Rattle.uc_tree.specs.Names.{same_name}
+use Rattle.uc_tree.specs.ExpressionSizes.{expr_size}
 use Rattle.uc_tree.specs.Statements.{Declarator}
 use Rattle.uc_tree.specs.StatementSizes.{declarator_size, declarators_size, maybe_expr_size}
-use Rattle.uc_tree.specs.Programs.{Init, MemberForm, FieldsMember, RoutineMember, ProtoMember, Member}
+use Rattle.uc_tree.specs.Programs.{MemberForm, FieldsMember, RoutineMember, ProtoMember, Member}
 use Rattle.uc_tree.specs.Objects.{ClassField, declared_fields, fields_of, form_fields}
-use Rattle.uc_tree.specs.Sizes.{inits_size}
 use Rattle.uc_lower_stmt.specs.Marked.{close_room}
 use Rattle.uc_lower_class.specs.Fields.{fields_room, room_by}
 

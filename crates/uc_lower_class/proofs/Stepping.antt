@@ -1,13 +1,13 @@
 -- One field of a class, as the loops over them meet it.
-use Rattle.std.proofs.Common.{◌≡◌, ℕ, zero, suc, ◌+◌, ◌*◌, ◌≤◌, ◌<◌, List, [], ◌∷◌, Bool, true, false, Option, Some, None, if◌then◌else◌, drop, length, refl, ap, sym, subst, ◌∙◌, arith}
+use Rattle.std.proofs.Common.{◌≡◌, ℕ, zero, suc, ◌+◌, ◌*◌, ◌≤◌, ◌<◌, List, [], ◌∷◌, Option, Some, None, drop, length, refl, ap, sym, subst, ◌∙◌, arith}
 use Rattle.std.specs.Prelude.{slice_get}
 use Rattle.uc_tree.specs.declared.limits.TheConstants.{OPS_FOR_SIZE, PROGRAM_OPS}
 use Rattle.uc_tree.specs.Expressions.{Exprs}
 use Rattle.uc_tree.specs.ExpressionSizes.{exprs_size}
 use Rattle.uc_tree.specs.Programs.{Class, Init, Program}
 use Rattle.uc_tree.specs.Cells.{classes_of, leading_cells}
-use Rattle.uc_tree.specs.Objects.{ClassField, class_at, fields_of, plain_class}
-use Rattle.uc_tree.specs.Resolve.{Meant, Scope, args_meant, context_at, field_class}
+use Rattle.uc_tree.specs.Objects.{ClassField, class_at, fields_of}
+use Rattle.uc_tree.specs.Resolve.{Meant, Scope, args_meant, context_at}
 use Rattle.uc_code.specs.declared.rows.Mark.{Mark}
 use Rattle.uc_code.specs.declared.rows.ObjectCall.{ObjectCall}
 use Rattle.uc_code.specs.Drafts.{Draft}
@@ -20,7 +20,7 @@ use Rattle.uc_lower_stmt.specs.Scoped.{scope_of}
 use Rattle.uc_lower_class.specs.declared.parts.Part.{Part}
 use Rattle.uc_lower_class.specs.Inits.{init_exprs}
 use Rattle.uc_lower_class.specs.Fields.{FieldsBehind, PartBehind, field_then, fields_room, left_then, part_in, part_room, room_by}
-use Rattle.uc_lower_class.specs.Pended.{Constructs, Opens, end_room}
+use Rattle.uc_lower_class.specs.Pended.{Constructs, Opens}
 use Rattle.uc_lower_class.proofs.Fielding.{field_object, told_class, told_length}
 use Rattle.uc_lower_class.proofs.Looping.{Building, Leaving, building_step, drop_at, field_past, leaving_step, room_same}
 use Rattle.uc_lower_class.proofs.Parting.{constructs_as}

@@ -1,6 +1,5 @@
 -- A block that is left as a whole, and the bodies that are made of it.
-use Rattle.std.proofs.Common.{◌≡◌, ℕ, ◌+◌, ◌*◌, ◌≤◌, ◌<◌, List, [], ◌∷◌, ◌++◌, drop, length, reverse, refl, ap, sym, subst, ◌∙◌, arith}
-use Rattle.std.proofs.lemmas.List.{append-nil}
+use Rattle.std.proofs.Common.{◌≡◌, ℕ, ◌+◌, ◌*◌, ◌≤◌, List, [], ◌∷◌, ◌++◌, drop, length, reverse, refl, ap, sym, subst, ◌∙◌, arith}
 use Rattle.std.proofs.lemmas.Option.{slice_get_within}
 use Rattle.uc_tree.specs.Source.{Stmt, Stmts, Nil, Then, Whole}
 use Rattle.uc_tree.specs.declared.limits.TheConstants.{OPS_FOR_SIZE}
@@ -12,7 +11,6 @@ use Rattle.uc_tree.specs.Programs.{Program, Routine}
 use Rattle.uc_tree.specs.Resolve.{Scope, scope_behind, stmts_meant}
 use Rattle.uc_code.specs.declared.op.Op.{Op}
 use Rattle.uc_code.specs.declared.op.Op.TheVariants as op
-use Rattle.uc_code.specs.declared.rows.Instruction.{Instruction}
 use Rattle.uc_code.specs.declared.rows.Mark.{Mark}
 use Rattle.uc_code.specs.declared.rows.Mark.TheVariants as mark
 use Rattle.uc_code.specs.declared.rows.ObjectCall.{ObjectCall}
@@ -22,14 +20,14 @@ use Rattle.uc_code.specs.Open.{left_marks}
 use Rattle.uc_code.specs.Ranges.{OpAt, Kept}
 use Rattle.uc_code.specs.Lowered.{StmtAt, StmtsAt}
 use Rattle.uc_code.proofs.Patches.{handler_stays, length-patched, patched_at, same_after, same_before}
-use Rattle.uc_code.proofs.Stable.{kept_then, kept_same}
+use Rattle.uc_code.proofs.Stable.{kept_then}
 use Rattle.uc_lower_expr.specs.Added.{Adds, OpCode}
-use Rattle.uc_lower_stmt.specs.Pending.{Step, block_of}
+use Rattle.uc_lower_stmt.specs.Pending.{block_of}
 use Rattle.uc_lower_stmt.specs.Marked.{objects_in}
 use Rattle.uc_lower_stmt.specs.Scoped.{Lowers, LowersStmts, scope_of, sizes_at}
 use Rattle.uc_lower_class.specs.Bodies.{LowersWhole, whole_room}
 use Rattle.uc_lower_stmt.proofs.Kept.{stmts_stable}
-use Rattle.uc_lower_class.specs.Pended.{Pended, Begins, Constructs, EndsParts, end_room}
+use Rattle.uc_lower_class.specs.Pended.{Pended, Begins, Constructs, EndsParts}
 use Rattle.uc_lower_class.proofs.Parting.{block_join, end_reverse, marks_behind, pended_kept}
 
 -- what was laid out before a place stays where the op at the place is another one

@@ -1,16 +1,16 @@
 -- The bodies of constructors and destructors, and their routines.
-use Rattle.std.specs.Prelude.{◌≡◌, ℕ, ◌+◌, ◌*◌, ◌≤◌, [], Option, Some, None, false, length}
+use Rattle.std.specs.Prelude.{◌≡◌, ℕ, ◌+◌, ◌*◌, [], Option, Some, None, false}
 use Rattle.uc_tree.specs.declared.limits.TheConstants.{OPS_FOR_SIZE}
 use Rattle.uc_tree.specs.declared.kinds.Role.{Role}
 use Rattle.uc_tree.specs.declared.kinds.Role.TheVariants as role
 use Rattle.uc_tree.specs.StatementSizes.{stmts_size}
 use Rattle.uc_tree.specs.Cells.{declared_cells, stmts_cells}
 use Rattle.uc_tree.specs.Scopes.{stmts_scopes}
-use Rattle.uc_tree.specs.Programs.{Class, Init, Program, Routine}
+use Rattle.uc_tree.specs.Programs.{Class, Program, Routine}
 use Rattle.uc_tree.specs.Numbering.{is_event, is_plain}
 use Rattle.uc_tree.specs.Objects.{Unwritten, class_at, place_of, written_at, unwritten_number}
 use Rattle.uc_tree.specs.Source.{Stmts, Whole}
-use Rattle.uc_tree.specs.Resolve.{Scope, body_by, class_by, place_or_zero, scope_behind, stmts_meant, unwritten_body}
+use Rattle.uc_tree.specs.Resolve.{Scope, body_by, class_by, scope_behind, stmts_meant, unwritten_body}
 use Rattle.uc_code.specs.Drafts.{Draft}
 use Rattle.uc_code.specs.Lowered.{StmtAt, StmtsAt}
 use Rattle.uc_code.specs.Open.{clean_room}

@@ -15,7 +15,7 @@ use Rattle.uc_code.specs.Lowered.{CleanAt, StmtAt, StmtsAt}
 use Rattle.uc_code.proofs.Stable.{kept_refl, kept_then, kept_piece}
 use Rattle.uc_lower_stmt.specs.declared.block.ObjectScope.{ObjectScope}
 use Rattle.uc_lower_stmt.specs.Blocks.{BlockStands, EndsScopes, EndingScopes, Unended, innermost_by, innermost_in, scope_at}
-use Rattle.uc_lower_stmt.specs.Marked.{objects_in, taken}
+use Rattle.uc_lower_stmt.specs.Marked.{objects_in}
 use Rattle.uc_lower_stmt.specs.Objects.{ClosesScope, InScope}
 use Rattle.uc_lower_stmt.specs.Pending.{Step, Does, Opens, Builds, NoParts, block_of, Pending, Begins, Done, Opened, Parted}
 use Rattle.uc_lower_stmt.proofs.Ending.{scope_ended}

@@ -1,17 +1,12 @@
 -- The parts of loops.
-use Rattle.std.proofs.Common.{◌≡◌, ℕ, ◌+◌, ◌*◌, ◌-◌, List, Option, None, Some, Bor, refl, ap, sym, subst, ◌∙◌, arith}
+use Rattle.std.proofs.Common.{◌≡◌, ℕ, ◌+◌, ◌*◌, ◌-◌, Option, None, Some, Bor, refl, sym, subst, arith}
 use Rattle.uc_tree.specs.declared.limits.TheConstants.{OPS_FOR_SIZE}
-use Rattle.uc_tree.specs.declared.kinds.Base.{Base}
-use Rattle.uc_tree.specs.declared.declare.ForForm.{ForForm}
-use Rattle.uc_tree.specs.StatementViews.{for_at}
-use Rattle.uc_tree.specs.declared.pos.Pos.{Pos}
-use Rattle.uc_tree.specs.Cells.{declared_cells, declarators_cells}
 use Rattle.uc_tree.specs.Expressions as tree
 use Rattle.uc_tree.specs.ExpressionSizes.{expr_size}
 use Rattle.uc_tree.specs.Programs.{Program}
-use Rattle.uc_tree.specs.Resolve.{meant, value_of, all_declared, with_all}
-use Rattle.uc_tree.specs.Statements.{Declarator, ForStart, NoFor, ForDeclare, ForEvaluate, MaybeStmt, NoStmt}
-use Rattle.uc_tree.specs.StatementSizes.{declarators_size, maybe_expr_size}
+use Rattle.uc_tree.specs.Resolve.{meant, value_of}
+use Rattle.uc_tree.specs.Statements.{MaybeStmt, NoStmt}
+use Rattle.uc_tree.specs.StatementSizes.{maybe_expr_size}
 use Rattle.uc_code.specs.declared.op.Op.TheVariants as op
 use Rattle.uc_code.specs.Drafts.{Draft}
 use Rattle.uc_lower_expr.specs.Added.{Adds, ExprCode, OpCode}
@@ -22,9 +17,8 @@ use Rattle.uc_lower_expr.proofs.Walks.{some_size}
 use Rattle.uc_lower_stmt.specs.declared.turning.Turning.{Turning}
 use Rattle.uc_lower_stmt.specs.declared.turning.Turning.TheVariants as turning
 use Rattle.uc_lower_stmt.specs.Control.{StepCode, BackCode, LowersMaybe, turning_size}
-use Rattle.uc_lower_stmt.specs.Pieces.{VariablesCode}
-use Rattle.uc_lower_stmt.specs.Scoped.{Lowers, scope_of}
-use Rattle.uc_lower_stmt.proofs.Joined.{lowers_adds, lowers_as, lowers_nothing}
+use Rattle.uc_lower_stmt.specs.Scoped.{scope_of}
+use Rattle.uc_lower_stmt.proofs.Joined.{lowers_as, lowers_nothing}
 
 -- the step
 

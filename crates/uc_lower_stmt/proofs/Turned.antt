@@ -3,10 +3,8 @@ use Rattle.std.proofs.Common.{◌≡◌, ℕ, ◌+◌, ◌*◌, List, ◌∷◌,
 use Rattle.uc_tree.specs.declared.limits.TheConstants.{OPS_FOR_SIZE}
 use Rattle.uc_tree.specs.Expressions as tree
 use Rattle.uc_tree.specs.Statements.{Stmt}
-use Rattle.uc_tree.specs.StatementSizes.{maybe_expr_size, stmt_size}
+use Rattle.uc_tree.specs.StatementSizes.{maybe_expr_size}
 use Rattle.uc_tree.specs.Sizes.{size_at}
-use Rattle.uc_tree.specs.Scopes.{alone_scopes, stmt_scopes}
-use Rattle.uc_tree.specs.Cells.{declared_cells, stmt_cells}
 use Rattle.uc_tree.specs.Programs.{Program}
 use Rattle.uc_tree.specs.Source.{Order, Expr}
 use Rattle.uc_tree.specs.Resolve.{Scope, stmt_meant, scope_past, step_of}
@@ -25,7 +23,7 @@ use Rattle.uc_lower_expr.proofs.Settled.{both, expr_stable}
 use Rattle.uc_lower_stmt.specs.declared.turning.Turning.{Turning}
 use Rattle.uc_lower_stmt.specs.declared.turning.Turning.TheVariants as turning
 use Rattle.uc_lower_stmt.specs.Marked.{objects_in}
-use Rattle.uc_lower_stmt.specs.Scoped.{Lowers, scope_of}
+use Rattle.uc_lower_stmt.specs.Scoped.{scope_of}
 use Rattle.uc_lower_stmt.specs.Control.{BeginCode, StepCode, BackCode, EndsLoop, LowersAlone, LowersLoop, turning_order, turning_test, turning_size}
 use Rattle.uc_lower_stmt.proofs.Joined.{lowers_adds, lowers_as, lowers_join, lowers_put}
 use Rattle.uc_lower_stmt.proofs.Kept.{stmt_stable, step_stable}

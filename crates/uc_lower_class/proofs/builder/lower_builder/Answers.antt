@@ -1,7 +1,7 @@
 use Rattle.std.proofs.Common.{◌≡◌, length, ap, ◌∙◌, arith}
 use Rattle.uc_tree.specs.Capped.{capped}
 use Rattle.uc_tree.specs.Cells.{routine_cells}
-use Rattle.uc_tree.specs.Programs.{Program, Routine, Sig}
+use Rattle.uc_tree.specs.Programs.{Program, Sig}
 use Rattle.uc_code.specs.Drafts.{Draft}
 use Rattle.uc_lower_stmt.proofs.Declaring.{uncapped}
 use Rattle.uc_lower_stmt.proofs.Opened.{stmts_few}

@@ -1,6 +1,3 @@
-use Rattle.std.proofs.Common.{◌≡◌, ◌≤◌, ◌+◌, drop, length}
-use Rattle.uc_tree.specs.declared.limits.TheConstants.{PROGRAM_OPS}
-use Rattle.uc_tree.specs.Objects.{fields_of}
 use Rattle.uc_lower_stmt.specs.Scoped.{scope_of}
 use Rattle.uc_lower_class.proofs.Looping.{Building}
 use Rattle.uc_lower_class.proofs.fields.build_fields.Given as goal

@@ -1,4 +1,4 @@
-use Rattle.std.proofs.Common.{◌≡◌, ◌<◌, ◌≤◌, length, ap, sym, subst, ◌∙◌, arith}
+use Rattle.std.proofs.Common.{ap, sym, subst, ◌∙◌, arith}
 use Rattle.uc_tree.specs.Objects.{fields_of}
 use Rattle.uc_lower_expr.specs.Members.{count_fields}
 use Rattle.uc_lower_class.specs.Fields.{FieldsBehind}

@@ -1,4 +1,4 @@
-use Rattle.std.proofs.Common.{◌≡◌, ◌<◌, length, Some, ap, sym, ◌∙◌, map, arith}
+use Rattle.std.proofs.Common.{◌<◌, length, sym, ◌∙◌, map, arith}
 use Rattle.std.proofs.lemmas.Bool.{ltb-false}
 use Rattle.uc_tree.specs.Programs.{Init}
 use Rattle.uc_lower_class.proofs.Naming.{init_few, init_got, init_nowhere}

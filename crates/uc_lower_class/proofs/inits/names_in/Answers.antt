@@ -1,6 +1,6 @@
-use Rattle.std.proofs.Common.{rules, ◌≡◌, ◌<◌, ◌++◌, length, map, ap, sym, subst, ◌∙◌}
+use Rattle.std.proofs.Common.{rules, ◌≡◌, ◌<◌, ◌++◌, length, map, ap, ◌∙◌}
 use Rattle.uc_tree.specs.Programs.{Member}
-use Rattle.uc_tree.specs.Objects.{fields_of, form_fields}
+use Rattle.uc_tree.specs.Objects.{form_fields}
 use Rattle.uc_lower_class.specs.Inits.{names_of}
 use Rattle.uc_lower_class.proofs.Naming.{push_member}
 use Rattle.uc_lower_class.proofs.inits.names_in.Goals as goal

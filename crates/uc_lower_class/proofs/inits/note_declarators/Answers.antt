@@ -1,4 +1,4 @@
-use Rattle.std.proofs.Common.{rules, ◌≡◌, ◌<◌, length, map}
+use Rattle.std.proofs.Common.{rules, ◌<◌, length, map}
 use Rattle.uc_tree.specs.Statements.{Declarator}
 use Rattle.uc_lower_class.proofs.Naming.{push_names}
 use Rattle.uc_lower_class.proofs.inits.note_declarators.Goals as goal

@@ -1,4 +1,4 @@
-use Rattle.std.proofs.Common.{◌≡◌, map, take}
+use Rattle.std.proofs.Common.{map, take}
 use Rattle.uc_sizes.specs.Places.{IsPlaces}
 use Rattle.uc_lower_class.proofs.inits.places_of.Given as goal
 

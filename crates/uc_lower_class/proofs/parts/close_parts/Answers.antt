@@ -1,4 +1,4 @@
-use Rattle.std.proofs.Common.{rules, ◌≡◌, [], ◌∷◌, reverse, ap, sym, subst, ◌∙◌, arith}
+use Rattle.std.proofs.Common.{rules, ◌≡◌, [], reverse, ap, subst, arith}
 use Rattle.uc_lower_class.specs.Pended.{PartsIn}
 use Rattle.uc_lower_class.proofs.Parting.{Ending, end_reverse, ending_begin, ending_end, ending_step, in_part, part_behind, reverse_pop}
 use Rattle.uc_lower_class.proofs.parts.close_parts.Goals as goal

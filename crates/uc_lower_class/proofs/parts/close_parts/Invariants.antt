@@ -1,4 +1,4 @@
-use Rattle.std.proofs.Common.{◌≡◌, ◌≤◌, ◌+◌, length, reverse}
+use Rattle.std.proofs.Common.{length, reverse}
 use Rattle.uc_lower_class.proofs.Parting.{Ending}
 use Rattle.uc_lower_class.proofs.parts.close_parts.Given as goal
 

@@ -1,4 +1,4 @@
-use Rattle.std.proofs.Common.{List, Some, ap, sym, ◌∙◌, arith}
+use Rattle.std.proofs.Common.{List, ap, sym, ◌∙◌, arith}
 use Rattle.uc_code.specs.declared.rows.Mark.{Mark}
 use Rattle.uc_lower_stmt.specs.Blocks.{innermost_in}
 use Rattle.uc_lower_stmt.proofs.Blocks.{ending_next, ending_none, in_scope, scope_room, scopes_ended}

@@ -3,7 +3,6 @@ use Rattle.uc_tree.specs.declared.kinds.Role.TheVariants as role
 use Rattle.uc_tree.specs.Capped.{capped}
 use Rattle.uc_tree.specs.Cells.{declared_cells}
 use Rattle.uc_tree.specs.Programs.{Program}
-use Rattle.uc_tree.specs.Resolve.{length_of}
 use Rattle.uc_tree.specs.Source.{Variable}
 use Rattle.uc_tree.specs.Statements.{Declarator}
 use Rattle.uc_tree.specs.StatementSizes.{start_size}

@@ -1,4 +1,4 @@
-use Rattle.std.proofs.Common.{◌≡◌, ap, sym, ◌∙◌, refl, arith}
+use Rattle.std.proofs.Common.{ap, sym, ◌∙◌, refl, arith}
 use Rattle.uc_tree.specs.Capped.{capped}
 use Rattle.uc_tree.specs.Cells.{declared_cells}
 use Rattle.uc_tree.specs.Programs.{Program}

@@ -1,5 +1,4 @@
 use Rattle.std.proofs.Common.{arith, ◌∙◌}
-use Rattle.uc_code.specs.Puts.{clean_length}
 use Rattle.uc_code.proofs.Putting.{marks_of}
 use Rattle.uc_lower_stmt.proofs.Joined.{puts_adds}
 use Rattle.uc_lower_stmt.proofs.Ending.{behind_part, marks_past_part, part_closed}

@@ -1,5 +1,4 @@
 use Rattle.std.proofs.Common.{◌+◌, ◌<◌, ◌^◌, ℕ, ap, rules}
-use Rattle.uc_code.specs.Puts.{done_length}
 use Rattle.uc_lower_stmt.proofs.Joined.{puts_adds}
 use Rattle.uc_lower_stmt.proofs.Filling.{filled}
 use Rattle.uc_lower_stmt.proofs.objects.put_fill.Goals as goal

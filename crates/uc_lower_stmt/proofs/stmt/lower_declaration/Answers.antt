@@ -1,4 +1,4 @@
-use Rattle.std.proofs.Common.{Some, None, length, refl, ap, sym, ◌∙◌}
+use Rattle.std.proofs.Common.{length, refl, ap, sym, ◌∙◌}
 use Rattle.uc_tree.specs.Objects.{plain_class}
 use Rattle.uc_tree.specs.Programs.{Program}
 use Rattle.uc_lower_expr.proofs.Knowing.{plain_within}

@@ -1,4 +1,4 @@
-use Rattle.std.proofs.Common.{Some, None, ap, sym, ◌∙◌}
+use Rattle.std.proofs.Common.{ap, sym, ◌∙◌}
 use Rattle.uc_tree.specs.Objects.{plain_class}
 use Rattle.uc_tree.specs.Programs.{Program}
 use Rattle.uc_lower_expr.proofs.Knowing.{plain_within}
