@@ -9,7 +9,7 @@ use Rattle.uc_code.specs.declared.rows.Mark.{Mark}
 use Rattle.uc_code.specs.declared.rows.RoutineCode.{RoutineCode}
 
 -- the ops so far, the rows so far, the op from which on they are those of the marks, the place at which lowering stands, what
--- stands around it in the routine, the innermost first, how many scopes the routine has had so far, the names in scope from the outermost on, how many cells the routine has so far, how many text literals and accept
+-- stands around it in the routine, the innermost first, how many scopes the routine has had so far, the names in scope from the outermost on, how many cells the routine has so far, the first hidden cell that nothing before this place has, how many text literals and accept
 -- statements of the program stand before this place, and what is known of each routine
 pub record Draft : Type 0 where
   pub ops : List Instruction
@@ -20,6 +20,7 @@ pub record Draft : Type 0 where
   pub scopes : ℕ
   pub names : List Known
   pub cells : ℕ
+  pub hidden : ℕ
   pub texts : ℕ
   pub sites : ℕ
   pub routines : List RoutineCode

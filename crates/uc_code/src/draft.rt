@@ -1,6 +1,6 @@
 // The draft in which lowering writes code.
 
-ghost use Rattle.std.specs.Prelude.{◌≡◌, ◌+◌, ◌<◌, ◌≤◌, ℕ, Some, [], ◌∷◌, ◌++◌, length, reverse, take, slice_set, slice_get, MatchOption, IfOk, OnOk, OnErr};
+ghost use Rattle.std.specs.Prelude.{◌≡◌, ◌+◌, ◌<◌, ◌≤◌, ℕ, Some, None, [], ◌∷◌, ◌++◌, length, reverse, take, slice_set, slice_get, MatchOption, IfOk, OnOk, OnErr};
 ghost use Rattle.uc_tree.specs.declared.limits.TheConstants.{FRAME_CELLS, PROGRAM_OPS, PROGRAM_SIZE};
 ghost use Rattle.uc_code.specs.Drafts.{ops_with, patched, IsInnermost, IsUnknown};
 ghost use Rattle.uc_code.specs.Laid.{laid_in};
@@ -32,6 +32,7 @@ pub struct Draft {
     scopes: u32,
     names: Vec<Known>,
     cells: u32,
+    hidden: u32,
     texts: u32,
     sites: u32,
     routines: Vec<RoutineCode>,
@@ -45,7 +46,7 @@ impl Model for Draft {
 
     ghost Value = { Draft };
 
-    ghost view = { λ d. record { ops = d.ops.items; rows = d.rows.items; settled = d.settled; place = d.place; marks = reverse d.marks.items; scopes = d.scopes; names = d.names.items; cells = d.cells; texts = d.texts; sites = d.sites; routines = d.routines.items } };
+    ghost view = { λ d. record { ops = d.ops.items; rows = d.rows.items; settled = d.settled; place = d.place; marks = reverse d.marks.items; scopes = d.scopes; names = d.names.items; cells = d.cells; hidden = d.hidden; texts = d.texts; sites = d.sites; routines = d.routines.items } };
 
     ghost invariant = { λ d. (length d.ops.items ≤ PROGRAM_OPS) × IsSettled (length d.ops.items) d.settled d.rows.items (reverse d.marks.items) };
 }
@@ -53,21 +54,23 @@ impl Model for Draft {
 impl Draft {
     /// No op, no row and no name. `routines` is the code of each routine, as far as it is known.
     pub fn new(alloc: Global, routines: Vec<RoutineCode>) -> Draft
-        ensures { result ≡ record { ops = []; rows = []; settled = 0; place = record { class = 0; routine = 0; scope = 0 }; marks = []; scopes = 0; names = []; cells = 0; texts = 0; sites = 0; routines = routines.items } }
+        ensures { result ≡ record { ops = []; rows = []; settled = 0; place = record { class = None; routine = 0; scope = 0; handled = 0 }; marks = []; scopes = 0; names = []; cells = 0; hidden = 0; texts = 0; sites = 0; routines = routines.items } }
     {
         Draft {
             ops: Vec::new(alloc),
             rows: Vec::new(alloc),
             settled: 0,
             place: Place {
-                class: 0,
+                class: None,
                 routine: 0,
                 scope: 0,
+                handled: 0,
             },
             marks: Vec::new(alloc),
             scopes: 0,
             names: Vec::new(alloc),
             cells: 0,
+            hidden: 0,
             texts: 0,
             sites: 0,
             routines,
@@ -190,21 +193,30 @@ impl Draft {
         self.place
     }
 
-    /// Begins a routine of a class, behind so many text literals and accept statements: nothing stands around it, no name
-    /// is in scope, and it has no cell yet.
-    pub fn begin_routine(&mut self, class: u32, routine: u32, texts: u32, sites: u32)
+    /// Begins a routine of the class with this place, whose hidden cells begin there, behind so many text literals and accept
+    /// statements: nothing stands around it, no name is in scope, and it has no cell yet.
+    pub fn begin_routine(
+        &mut self,
+        class: Option<usize>,
+        routine: u32,
+        hidden: u32,
+        texts: u32,
+        sites: u32,
+    )
         requires { self.old.marks ≡ [] }
-        ensures { self.new ≡ record self.old { place = record { class = class; routine = routine; scope = 0 }; marks = []; scopes = 0; names = []; cells = 0; texts = texts; sites = sites } }
+        ensures { self.new ≡ record self.old { place = record { class = class; routine = routine; scope = 0; handled = 0 }; marks = []; scopes = 0; names = []; cells = 0; hidden = hidden; texts = texts; sites = sites } }
     {
         self.place = Place {
             class,
             routine,
             scope: 0,
+            handled: 0,
         };
         self.marks.clear();
         self.scopes = 0;
         self.names.clear();
         self.cells = 0;
+        self.hidden = hidden;
         self.texts = texts;
         self.sites = sites;
     }
@@ -299,6 +311,13 @@ impl Draft {
         ensures { result ≡ self.now.cells }
     {
         self.cells
+    }
+
+    /// The first hidden cell of the routine that nothing before this place has.
+    pub fn hidden(&self) -> u32
+        ensures { result ≡ self.now.hidden }
+    {
+        self.hidden
     }
 
     /// How many text literals stand before this place in the program.
