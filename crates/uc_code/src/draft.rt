@@ -31,6 +31,7 @@ pub struct Draft {
     marks: Vec<Mark>,
     scopes: u32,
     names: Vec<Known>,
+    handled: u32,
     cells: u32,
     hidden: u32,
     texts: u32,
@@ -46,7 +47,7 @@ impl Model for Draft {
 
     ghost Value = { Draft };
 
-    ghost view = { λ d. record { ops = d.ops.items; rows = d.rows.items; settled = d.settled; place = d.place; marks = reverse d.marks.items; scopes = d.scopes; names = d.names.items; cells = d.cells; hidden = d.hidden; texts = d.texts; sites = d.sites; routines = d.routines.items } };
+    ghost view = { λ d. record { ops = d.ops.items; rows = d.rows.items; settled = d.settled; place = d.place; marks = reverse d.marks.items; scopes = d.scopes; names = d.names.items; handled = d.handled; cells = d.cells; hidden = d.hidden; texts = d.texts; sites = d.sites; routines = d.routines.items } };
 
     ghost invariant = { λ d. (length d.ops.items ≤ PROGRAM_OPS) × IsSettled (length d.ops.items) d.settled d.rows.items (reverse d.marks.items) };
 }
@@ -54,7 +55,7 @@ impl Model for Draft {
 impl Draft {
     /// No op, no row and no name. `routines` is the code of each routine, as far as it is known.
     pub fn new(alloc: Global, routines: Vec<RoutineCode>) -> Draft
-        ensures { result ≡ record { ops = []; rows = []; settled = 0; place = record { class = None; routine = 0; scope = 0; handled = 0 }; marks = []; scopes = 0; names = []; cells = 0; hidden = 0; texts = 0; sites = 0; routines = routines.items } }
+        ensures { result ≡ record { ops = []; rows = []; settled = 0; place = record { class = None; routine = 0; scope = 0 }; marks = []; scopes = 0; names = []; handled = 0; cells = 0; hidden = 0; texts = 0; sites = 0; routines = routines.items } }
     {
         Draft {
             ops: Vec::new(alloc),
@@ -64,11 +65,11 @@ impl Draft {
                 class: None,
                 routine: 0,
                 scope: 0,
-                handled: 0,
             },
             marks: Vec::new(alloc),
             scopes: 0,
             names: Vec::new(alloc),
+            handled: 0,
             cells: 0,
             hidden: 0,
             texts: 0,
@@ -204,17 +205,17 @@ impl Draft {
         sites: u32,
     )
         requires { self.old.marks ≡ [] }
-        ensures { self.new ≡ record self.old { place = record { class = class; routine = routine; scope = 0; handled = 0 }; marks = []; scopes = 0; names = []; cells = 0; hidden = hidden; texts = texts; sites = sites } }
+        ensures { self.new ≡ record self.old { place = record { class = class; routine = routine; scope = 0 }; marks = []; scopes = 0; names = []; handled = 0; cells = 0; hidden = hidden; texts = texts; sites = sites } }
     {
         self.place = Place {
             class,
             routine,
             scope: 0,
-            handled: 0,
         };
         self.marks.clear();
         self.scopes = 0;
         self.names.clear();
+        self.handled = 0;
         self.cells = 0;
         self.hidden = hidden;
         self.texts = texts;

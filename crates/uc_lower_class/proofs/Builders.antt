@@ -98,10 +98,10 @@ module _ (number n k c o : ℕ) (body : source.Stmts) (after : Scope) (begins : 
 -- a written one
 
 abbrev begun_by : Program → List Param → Option ℕ → ℕ → ℕ → ℕ → ℕ → Draft → Draft
-begun_by p xs class number hidden texts sites d = record d { place = record { class = class; routine = number; scope = 0; handled = 0 }; marks = mark.Body number ∷ []; scopes = 0; names = [] ++ params_known p 0 xs; cells = 0 + params_cells p xs; hidden = hidden; texts = texts; sites = sites }
+begun_by p xs class number hidden texts sites d = record d { place = record { class = class; routine = number; scope = 0 }; marks = mark.Body number ∷ []; scopes = 0; names = [] ++ params_known p 0 xs; handled = 0; cells = 0 + params_cells p xs; hidden = hidden; texts = texts; sites = sites }
 
 pub begun_is : (p : Program) (r : Routine) (class : Option ℕ) (number hidden texts sites : ℕ) (xs : List Param) (d0 db dp d1 : Draft) → xs ≡ r.sig.params → hidden ≡ routine_cells p r
-    → db ≡ record d0 { place = record { class = class; routine = number; scope = 0; handled = 0 }; marks = []; scopes = 0; names = []; cells = 0; hidden = hidden; texts = texts; sites = sites }
+    → db ≡ record d0 { place = record { class = class; routine = number; scope = 0 }; marks = []; scopes = 0; names = []; handled = 0; cells = 0; hidden = hidden; texts = texts; sites = sites }
     → dp ≡ record db { names = db.names ++ params_known p db.cells xs; cells = db.cells + params_cells p xs } → d1 ≡ record dp { marks = mark.Body number ∷ dp.marks } → d1 ≡ begun_by p r.sig.params class number (routine_cells p r) texts sites d0
 begun_is p r class number hidden texts sites xs d0 db dp d1 xe he e1 e2 e3 =
     e3 ∙ ap (λ (x : Draft). let d : Draft = record x { marks = mark.Body number ∷ x.marks } in d) (e2 ∙ ap (λ (x : Draft). let d : Draft = record x { names = x.names ++ params_known p x.cells xs; cells = x.cells + params_cells p xs } in d) e1)
@@ -190,16 +190,16 @@ module _ (p : Program) (r : Routine) (wanted : Role) (class : Option ℕ) (numbe
 
 -- one that nobody wrote
 
-pub bare_is : (number : ℕ) (d0 db d1 : Draft) → db ≡ record d0 { place = record { class = None; routine = 0; scope = 0; handled = 0 }; marks = []; scopes = 0; names = []; cells = 0; hidden = 0; texts = 0; sites = 0 } → d1 ≡ record db { marks = mark.Body number ∷ db.marks }
-    → d1 ≡ record d0 { place = record { class = None; routine = 0; scope = 0; handled = 0 }; marks = mark.Body number ∷ []; scopes = 0; names = []; cells = 0; hidden = 0; texts = 0; sites = 0 }
+pub bare_is : (number : ℕ) (d0 db d1 : Draft) → db ≡ record d0 { place = record { class = None; routine = 0; scope = 0 }; marks = []; scopes = 0; names = []; handled = 0; cells = 0; hidden = 0; texts = 0; sites = 0 } → d1 ≡ record db { marks = mark.Body number ∷ db.marks }
+    → d1 ≡ record d0 { place = record { class = None; routine = 0; scope = 0 }; marks = mark.Body number ∷ []; scopes = 0; names = []; handled = 0; cells = 0; hidden = 0; texts = 0; sites = 0 }
 bare_is number d0 db d1 e1 e2 = e2 ∙ ap (λ (x : Draft). let d : Draft = record x { marks = mark.Body number ∷ x.marks } in d) e1
 
 module _ (p : Program) (u : Unwritten) (number entry : ℕ) (d0 d1 d2 d3 d4 new : Draft) (ee : entry ≡ length d0.ops)
-    (e1 : d1 ≡ record d0 { place = record { class = None; routine = 0; scope = 0; handled = 0 }; marks = mark.Body number ∷ []; scopes = 0; names = []; cells = 0; hidden = 0; texts = 0; sites = 0 })
+    (e1 : d1 ≡ record d0 { place = record { class = None; routine = 0; scope = 0 }; marks = mark.Body number ∷ []; scopes = 0; names = []; handled = 0; cells = 0; hidden = 0; texts = 0; sites = 0 })
     (h : LowersUnwritten p u.role u.class d1 d2) (lv : d3 ≡ record d2 { marks = left_marks d2.marks }) (g : Adds 1 (OpCode 0 op.Return) d3 d4)
     (e : new ≡ record d4 { routines = slice_set d4.routines number (record { entry = entry; cells = 0; params = 0 }) }) where
   abbrev bare : Draft
-  bare = record d0 { place = record { class = None; routine = 0; scope = 0; handled = 0 }; marks = mark.Body number ∷ []; scopes = 0; names = []; cells = 0; hidden = 0; texts = 0; sites = 0 }
+  bare = record d0 { place = record { class = None; routine = 0; scope = 0 }; marks = mark.Body number ∷ []; scopes = 0; names = []; handled = 0; cells = 0; hidden = 0; texts = 0; sites = 0 }
 
   pub arm_unwritten : Placed number (unwritten_room u.role (class_at p u.class)) (unwritten_body p u.role u.class) (record { entry = length d0.ops; cells = 0; params = 0 }) d0 new
   arm_unwritten =

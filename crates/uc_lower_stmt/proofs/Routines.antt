@@ -141,13 +141,13 @@ pub record Written (p : Program) (r : Routine) (s : Scope) (number : ℕ) (old n
 
 -- a draft at the beginning of a routine's statements
 abbrev begun_by : Program → List Param → source.Purpose → ℕ → Option ℕ → ℕ → ℕ → ℕ → ℕ → Draft → Draft
-begun_by p xs q line class number hidden texts sites d = record d { place = record { class = class; routine = number; scope = 0; handled = 0 }; marks = body_mark q number line ∷ []; scopes = 0; names = [] ++ params_known p 0 xs; cells = 0 + params_cells p xs; hidden = hidden; texts = texts; sites = sites }
+begun_by p xs q line class number hidden texts sites d = record d { place = record { class = class; routine = number; scope = 0 }; marks = body_mark q number line ∷ []; scopes = 0; names = [] ++ params_known p 0 xs; handled = 0; cells = 0 + params_cells p xs; hidden = hidden; texts = texts; sites = sites }
 
 abbrev begun : Program → Routine → source.Purpose → Option ℕ → ℕ → ℕ → ℕ → Draft → Draft
 begun p r q class number texts sites d = begun_by p r.sig.params q r.brace.line class number (routine_cells p r) texts sites d
 
 pub begun_is : (p : Program) (r : Routine) (q : source.Purpose) (class : Option ℕ) (number hidden texts sites line : ℕ) (xs : List Param) (d0 db dp d1 : Draft) → xs ≡ r.sig.params → line ≡ r.brace.line → hidden ≡ routine_cells p r
-    → db ≡ record d0 { place = record { class = class; routine = number; scope = 0; handled = 0 }; marks = []; scopes = 0; names = []; cells = 0; hidden = hidden; texts = texts; sites = sites }
+    → db ≡ record d0 { place = record { class = class; routine = number; scope = 0 }; marks = []; scopes = 0; names = []; handled = 0; cells = 0; hidden = hidden; texts = texts; sites = sites }
     → dp ≡ record db { names = db.names ++ params_known p db.cells xs; cells = db.cells + params_cells p xs } → d1 ≡ record dp { marks = body_mark q number line ∷ dp.marks } → d1 ≡ begun p r q class number texts sites d0
 begun_is p r q class number hidden texts sites line xs d0 db dp d1 xe le he e1 e2 e3 =
     e3 ∙ ap (λ (x : Draft). let d : Draft = record x { marks = body_mark q number line ∷ x.marks } in d) (e2 ∙ ap (λ (x : Draft). let d : Draft = record x { names = x.names ++ params_known p x.cells xs; cells = x.cells + params_cells p xs } in d) e1)

@@ -18,7 +18,7 @@ use Rattle.uc_lower_stmt.specs.Marked.{objects_in}
 -- where a draft stands: its class and routine, its names, the innermost handler's cells, and the cells, hidden cells, text literals
 -- and accept statements so far
 abbrev pub scope_of : Draft → Scope
-scope_of d = record { class = d.place.class; routine = d.place.routine; names = d.names; handled = d.place.handled; cells = d.cells; hidden = d.hidden; texts = d.texts; sites = d.sites }
+scope_of d = record { class = d.place.class; routine = d.place.routine; names = d.names; handled = d.handled; cells = d.cells; hidden = d.hidden; texts = d.texts; sites = d.sites }
 
 -- a draft with at most n ops more, for which S holds, in this scope, and with o scopes more. No more than k text literals and c
 -- cells came to it; its marks, routines and place are as they were.

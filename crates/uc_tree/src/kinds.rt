@@ -114,14 +114,12 @@ pub struct Known {
 }
 
 /// Where an expression stands: its class, by its place among those of the program, none outside of classes; its routine, or the
-/// count of routines outside of them; the number of its scope in that routine, in textual order from 0, and 0 outside; the first of
-/// the cells in which the innermost handler around it keeps its event, 0 outside of handlers.
+/// count of routines outside of them; the number of its scope in that routine, in textual order from 0, and 0 outside.
 #[derive(Clone, Copy, PartialEq, Eq, Debug)]
 pub struct Place {
     pub class: Option<usize>,
     pub routine: u32,
     pub scope: u32,
-    pub handled: u32,
 }
 
 /// A name in the list of `_Enable` or `_Disable`.

@@ -1,7 +1,6 @@
-use Rattle.std.proofs.Common.{refl, ap, sym, ◌∙◌, ◌≡◌, Option, Some, None, slice_get, ◌-◌, arith}
+use Rattle.std.proofs.Common.{refl, ap, sym, ◌∙◌, ◌≡◌, Some, None, slice_get, ◌-◌, arith}
 use Rattle.std.specs.Prelude.{if◌then◌else◌}
 use Rattle.std.proofs.lemmas.Option.{slice_get_read}
-use Rattle.uc_tree.specs.declared.kinds.Kind.{Kind}
 use Rattle.uc_tree.specs.Numbering.{is_event}
 use Rattle.uc_sizes.proofs.PlacesLemmas.{event_placed, event_nowhere}
 use Rattle.uc_sizes.proofs.held.event_named.Goals as goal
