@@ -1,6 +1,6 @@
 // The draft in which lowering writes code.
 
-ghost use Rattle.std.specs.Prelude.{◌≡◌, ◌+◌, ◌^◌, ◌<◌, ◌≤◌, ℕ, true, Some, [], ◌∷◌, ◌++◌, length, reverse, take, slice_set, slice_get, MatchOption, IfOk, OnOk, OnErr};
+ghost use Rattle.std.specs.Prelude.{◌≡◌, ◌+◌, ◌^◌, ◌<◌, ◌≤◌, ℕ, true, Some, None, [], ◌∷◌, ◌++◌, length, reverse, take, slice_set, slice_get, MatchOption, IfOk, OnOk, OnErr};
 ghost use Rattle.uc_tree.specs.declared.limits.TheConstants.{FRAME_CELLS, PROGRAM_OPS, PROGRAM_SIZE};
 ghost use Rattle.uc_code.specs.Drafts.{ops_with, patched, IsInnermost, IsUnknown};
 ghost use Rattle.uc_code.specs.Laid.{laid_in, handlers, takes_events};
@@ -58,14 +58,14 @@ impl Model for Draft {
 impl Draft {
     /// No op, no row and no name. `routines` is the code of each routine, as far as it is known.
     pub fn new(alloc: Global, routines: Vec<RoutineCode>) -> Draft
-        ensures { result ≡ record { ops = []; rows = []; settled = 0; place = record { class = 0; routine = 0; scope = 0 }; marks = []; scopes = 0; names = []; handled = 0; cells = 0; hidden = 0; texts = 0; sites = 0; routines = routines.items } }
+        ensures { result ≡ record { ops = []; rows = []; settled = 0; place = record { class = None; routine = 0; scope = 0 }; marks = []; scopes = 0; names = []; handled = 0; cells = 0; hidden = 0; texts = 0; sites = 0; routines = routines.items } }
     {
         Draft {
             ops: Vec::new(alloc),
             rows: Vec::new(alloc),
             settled: 0,
             place: Place {
-                class: 0,
+                class: None,
                 routine: 0,
                 scope: 0,
             },
@@ -220,9 +220,16 @@ impl Draft {
         self.place
     }
 
-    /// Begins a routine of a class, behind so many text literals and accept statements, whose hidden cells begin with this one: nothing
-    /// stands around it, no name is in scope, no event is handled, and it has no cell yet.
-    pub fn begin_routine(&mut self, class: u32, routine: u32, hidden: u32, texts: u32, sites: u32)
+    /// Begins a routine of the class with this place, whose hidden cells begin there, behind so many text literals and accept
+    /// statements: nothing stands around it, no name is in scope, no event is handled, and it has no cell yet.
+    pub fn begin_routine(
+        &mut self,
+        class: Option<usize>,
+        routine: u32,
+        hidden: u32,
+        texts: u32,
+        sites: u32,
+    )
         requires { self.old.marks ≡ [] }
         ensures { self.new ≡ record self.old { place = record { class = class; routine = routine; scope = 0 }; marks = []; scopes = 0; names = []; handled = 0; cells = 0; hidden = hidden; texts = texts; sites = sites } }
     {
@@ -329,8 +336,8 @@ impl Draft {
         self.handled = cell;
     }
 
-    /// Takes the next hidden cells of the routine, so many, and tells the first of them.
-    pub fn hide(&mut self, cells: u32) -> u32
+    /// So many hidden cells more. The result is the first of them.
+    pub fn add_hidden(&mut self, cells: u32) -> u32
         requires { self.old.hidden + cells < 2 ^ 32 }
         ensures cell { result ≡ self.old.hidden }
         ensures hidden { self.new ≡ record self.old { hidden = self.old.hidden + cells } }
@@ -338,6 +345,13 @@ impl Draft {
         let cell = self.hidden;
         self.hidden += cells;
         cell
+    }
+
+    /// The first hidden cell of the routine that nothing before this place has.
+    pub fn hidden(&self) -> u32
+        ensures { result ≡ self.now.hidden }
+    {
+        self.hidden
     }
 
     /// How many text literals stand before this place in the program.
