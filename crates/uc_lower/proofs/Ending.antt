@@ -9,7 +9,7 @@ use Rattle.uc_tree.specs.Cells.{routine_cells}
 use Rattle.uc_tree.specs.Gathered.{gathered_all}
 use Rattle.uc_tree.specs.Numbering.{Defined, is_plain, defined_by, item_defined, items_defined, main_name, own_texts, own_sites, routines_of, sites_of, texts_of}
 use Rattle.uc_tree.specs.Names.{same_name}
-use Rattle.uc_tree.specs.Objects.{Unwritten, unwritten_of}
+use Rattle.uc_tree.specs.Objects.{Unwritten, place_of, unwritten_of}
 use Rattle.uc_tree.specs.ProgramMain.{is_main_item, is_main_sig, main_among, main_number, no_params, returns_as_main}
 use Rattle.uc_tree.specs.Programs.{Routine, Item, ClassItem, RoutineItem, ConstItem, ProtoItem, ForwardItem, UsingItem, Program, Sig}
 use Rattle.uc_tree.specs.Resolve.{all_classes, all_unwritten, routine_scope, routine_meant, routines_meant, source_of}
@@ -26,9 +26,11 @@ use Rattle.uc_code.specs.Lowered.{RoutineAt, RoutinesAt, Lowered}
 use Rattle.uc_code.specs.Ranges.{Kept}
 use Rattle.uc_numbers.specs.declared.routines.Defined.{Defined as Found}
 use Rattle.uc_numbers.specs.Routines.{defined_at}
+use Rattle.uc_lower_stmt.specs.Routines.{frame_cells}
 use Rattle.uc_lower.specs.Laying.{Lays, LaysAll, defined_texts, own_room, routine_room, unwritten_rooms}
 use Rattle.uc_lower.specs.Refusing.{Fits}
 use Rattle.uc_lower.proofs.Built.{built_routine, owned_alone, stmts_sites}
+use Rattle.uc_lower.proofs.Eventless.{place_is}
 use Rattle.uc_lower.proofs.Costs.{own_few, own_size, owns, owns_push, size_split}
 use Rattle.uc_lower.proofs.Laying.{lays_step, room_within, rooms_within, taken_more, texts_push, within}
 use Rattle.uc_lower.proofs.Rooms.{rooms_fit}
@@ -133,8 +135,8 @@ stands_none p all d h = record { lays = h; texts = none (routines_of p); few = o
 
 pub stands_next : (p : Program) (all i texts sites : ℕ) (x : Defined) (old new : Draft) → IsBuilt p → length (routines_of p) ≤ all → slice_get (routines_of p) i ≡ Some x → Stands p all i texts sites old
     → Kept (laid_in old) (laid_in new) → length new.ops ≤ length old.ops + routine_room p x
-    → RoutineAt (laid_in new) i (routine_meant p x.routine (routine_scope p x.routine.sig.params x.number i texts sites)) (record { entry = length old.ops; cells = routine_cells p x.routine; params = length x.routine.sig.params }) (length old.ops) (length new.ops)
-    → new.routines ≡ slice_set old.routines i (record { entry = length old.ops; cells = routine_cells p x.routine; params = length x.routine.sig.params }) → new.marks ≡ []
+    → RoutineAt (laid_in new) i (routine_meant p x.routine (routine_scope p x.routine (place_of p x.number) i texts sites)) (record { entry = length old.ops; cells = frame_cells p x.routine; params = length x.routine.sig.params }) (length old.ops) (length new.ops)
+    → new.routines ≡ slice_set old.routines i (record { entry = length old.ops; cells = frame_cells p x.routine; params = length x.routine.sig.params }) → new.marks ≡ []
     → new.texts ≡ texts + length (gathered_all own_texts x.routine.body) → new.texts ≤ texts + stmts_size x.routine.body → new.sites ≡ sites + length (gathered_all (own_sites None 0) x.routine.body)
     → Stands p all (i + 1) new.texts new.sites new
 stands_next p all i texts sites x old new b enough at h k r c w marks te tf se =
@@ -147,7 +149,7 @@ stands_next p all i texts sites x old new b enough at h k r c w marks te tf se =
     let hf = h.few in
     let hs = h.sites in
     record {
-      lays = lays_step p (routines_of p) all i texts sites x old new (built_body p b) at (omega (arith, there, enough)) h.lays h.texts h.sites k r c w marks;
+      lays = lays_step p (routines_of p) all i texts sites x old new (built_body p b) (place_is p b x) at (omega (arith, there, enough)) h.lays h.texts h.sites k r c w marks;
       texts = te ∙ ap (λ (n : ℕ). n + length (gathered_all own_texts x.routine.body)) ht ∙ sym t;
       few = omega (arith, s, hf, tf);
       sites = omega (arith, se, hs, none);

@@ -1,14 +1,13 @@
 -- Routines are laid out one after another.
-use Rattle.std.proofs.Common.{◌≡◌, ℕ, zero, suc, ◌+◌, ◌*◌, ◌≤◌, ◌<◌, true, false, List, [], ◌∷◌, ◌++◌, Some, length, length-take, take, refl, ap, sym, subst, ◌∙◌, arith, append_assoc}
+use Rattle.std.proofs.Common.{◌≡◌, ℕ, zero, suc, ◌+◌, ◌*◌, ◌≤◌, ◌<◌, true, false, List, [], ◌∷◌, ◌++◌, Option, Some, length, length-take, take, refl, ap, sym, subst, ◌∙◌, arith, append_assoc}
 use Rattle.std.specs.Prelude.{slice_get, slice_set}
 use Rattle.std.proofs.lemmas.List.{append-nil, length-append}
 use Rattle.uc_tree.specs.Gathered.{gathered_all}
 use Rattle.uc_tree.specs.Numbering.{Defined, own_texts, own_sites}
-use Rattle.uc_tree.specs.Cells.{routine_cells}
-use Rattle.uc_tree.specs.Objects.{Unwritten}
-use Rattle.uc_tree.specs.Programs.{Program}
+use Rattle.uc_tree.specs.Objects.{Unwritten, place_of}
+use Rattle.uc_tree.specs.Programs.{Program, Routine}
 use Rattle.uc_tree.specs.Source as source
-use Rattle.uc_tree.specs.Resolve.{all_unwritten, routine_scope, routine_meant, routines_meant, unwritten_meant}
+use Rattle.uc_tree.specs.Resolve.{all_unwritten, place_by, routine_scope, routine_meant, routines_meant, unwritten_meant}
 use Rattle.uc_built.specs.BuiltForms.{are_built}
 use Rattle.uc_code.specs.declared.rows.RoutineCode.{RoutineCode}
 use Rattle.uc_code.specs.Drafts.{Draft}
@@ -21,6 +20,7 @@ use Rattle.uc_tree.specs.declared.limits.TheConstants.{OPS_FOR_SIZE}
 use Rattle.uc_tree.specs.declared.kinds.Role.{Role}
 use Rattle.uc_tree.specs.declared.kinds.Role.TheVariants as role
 use Rattle.uc_tree.specs.Numbering.{is_plain}
+use Rattle.uc_lower_stmt.specs.Routines.{frame_cells}
 use Rattle.uc_lower_stmt.specs.Scoped.{sizes_at}
 use Rattle.uc_lower_class.specs.Bodies.{builder_room}
 use Rattle.uc_lower.specs.Laying.{Lays, LaysAll, defined_texts, own_room, role_room_of, routine_room, unwritten_rooms, written_room}
@@ -61,31 +61,35 @@ snoc code n (q ∷ rs) (d ∷ cs) r c a m z h g =
     let y : n + suc (length rs) ≡ n + 1 + length rs = omega arith in
     record { middle = h.middle; first = h.first; second = snoc code (n + 1) rs cs r c h.middle m z h.second (subst (λ x. RoutineAt code x r c m z) y g) }
 
+-- a routine of the class with this place
+pub placed_at : (p : Program) (r : Routine) (number texts sites : ℕ) (row : RoutineCode) (old new : Draft) (o q : Option ℕ) → o ≡ q → RoutineAt (laid_in new) number (routine_meant p r (routine_scope p r o number texts sites)) row (length old.ops) (length new.ops) → RoutineAt (laid_in new) number (routine_meant p r (routine_scope p r q number texts sites)) row (length old.ops) (length new.ops)
+placed_at p r number texts sites row old new o q e h = subst (λ (x : Option ℕ). RoutineAt (laid_in new) number (routine_meant p r (routine_scope p r x number texts sites)) row (length old.ops) (length new.ops)) e h
+
 -- all routines but the last, and the last
 
 defined_sites : List Defined → ℕ
 defined_sites [] = 0
 defined_sites (d ∷ ds) = length (gathered_all (own_sites d.class d.number) d.routine.body) + defined_sites ds
 
-meant_push : (p : Program) (xs : List Defined) (x : Defined) (n t s : ℕ) → routines_meant p (xs ++ x ∷ []) n t s ≡ routines_meant p xs n t s ++ routine_meant p x.routine (routine_scope p x.routine.sig.params x.number (n + length xs) (t + defined_texts xs) (s + defined_sites xs)) ∷ []
+meant_push : (p : Program) (xs : List Defined) (x : Defined) (n t s : ℕ) → routines_meant p (xs ++ x ∷ []) n t s ≡ routines_meant p xs n t s ++ routine_meant p x.routine (routine_scope p x.routine (place_by p x) (n + length xs) (t + defined_texts xs) (s + defined_sites xs)) ∷ []
 unfolding defined_sites
 meant_push p [] x n t s =
     let a : n ≡ n + 0 = omega arith in
     let b : t ≡ t + 0 = omega arith in
     let c : s ≡ s + 0 = omega arith in
-    ap (λ (k : ℕ). routine_meant p x.routine (routine_scope p x.routine.sig.params x.number k t s) ∷ []) a
-    ∙ ap (λ (k : ℕ). routine_meant p x.routine (routine_scope p x.routine.sig.params x.number (n + 0) k s) ∷ []) b
-    ∙ ap (λ (k : ℕ). routine_meant p x.routine (routine_scope p x.routine.sig.params x.number (n + 0) (t + 0) k) ∷ []) c
+    ap (λ (k : ℕ). routine_meant p x.routine (routine_scope p x.routine (place_by p x) k t s) ∷ []) a
+    ∙ ap (λ (k : ℕ). routine_meant p x.routine (routine_scope p x.routine (place_by p x) (n + 0) k s) ∷ []) b
+    ∙ ap (λ (k : ℕ). routine_meant p x.routine (routine_scope p x.routine (place_by p x) (n + 0) (t + 0) k) ∷ []) c
 meant_push p (y ∷ ys) x n t s =
     let u : ℕ = length (gathered_all own_texts y.routine.body) in
     let v : ℕ = length (gathered_all (own_sites y.class y.number) y.routine.body) in
     let a : n + 1 + length ys ≡ n + suc (length ys) = omega arith in
     let b : t + u + defined_texts ys ≡ t + (u + defined_texts ys) = omega arith in
     let c : s + v + defined_sites ys ≡ s + (v + defined_sites ys) = omega arith in
-    ap (λ (l : List source.Routine). routine_meant p y.routine (routine_scope p y.routine.sig.params y.number n t s) ∷ l) (meant_push p ys x (n + 1) (t + u) (s + v)
-    ∙ ap (λ (k : ℕ). routines_meant p ys (n + 1) (t + u) (s + v) ++ routine_meant p x.routine (routine_scope p x.routine.sig.params x.number k (t + u + defined_texts ys) (s + v + defined_sites ys)) ∷ []) a
-    ∙ ap (λ (k : ℕ). routines_meant p ys (n + 1) (t + u) (s + v) ++ routine_meant p x.routine (routine_scope p x.routine.sig.params x.number (n + suc (length ys)) k (s + v + defined_sites ys)) ∷ []) b
-    ∙ ap (λ (k : ℕ). routines_meant p ys (n + 1) (t + u) (s + v) ++ routine_meant p x.routine (routine_scope p x.routine.sig.params x.number (n + suc (length ys)) (t + (u + defined_texts ys)) k) ∷ []) c)
+    ap (λ (l : List source.Routine). routine_meant p y.routine (routine_scope p y.routine (place_by p y) n t s) ∷ l) (meant_push p ys x (n + 1) (t + u) (s + v)
+    ∙ ap (λ (k : ℕ). routines_meant p ys (n + 1) (t + u) (s + v) ++ routine_meant p x.routine (routine_scope p x.routine (place_by p x) k (t + u + defined_texts ys) (s + v + defined_sites ys)) ∷ []) a
+    ∙ ap (λ (k : ℕ). routines_meant p ys (n + 1) (t + u) (s + v) ++ routine_meant p x.routine (routine_scope p x.routine (place_by p x) (n + suc (length ys)) k (s + v + defined_sites ys)) ∷ []) b
+    ∙ ap (λ (k : ℕ). routines_meant p ys (n + 1) (t + u) (s + v) ++ routine_meant p x.routine (routine_scope p x.routine (place_by p x) (n + suc (length ys)) (t + (u + defined_texts ys)) k) ∷ []) c)
 
 pub texts_push : (xs : List Defined) (x : Defined) → defined_texts (xs ++ x ∷ []) ≡ defined_texts xs + length (gathered_all own_texts x.routine.body)
 texts_push [] x = omega arith
@@ -132,7 +136,7 @@ plain_room p d role.Plain e b = ap (λ (r : Role). role_room_of p r d) e
 plain_room p d role.Constructor e b = cc
 plain_room p d role.Destructor e b = cc
 
-pub builder_room_is : (p : Program) (d : Defined) (r : Role) → d.routine.sig.role ≡ r → is_plain r ≡ false → routine_room p d ≡ builder_room p d.routine d.number
+pub builder_room_is : (p : Program) (d : Defined) (r : Role) → d.routine.sig.role ≡ r → is_plain r ≡ false → routine_room p d ≡ builder_room p d.routine (place_of p d.number)
 builder_room_is p d role.Plain e b = cc
 builder_room_is p d role.Constructor e b = ap (λ (r : Role). role_room_of p r d) e
 builder_room_is p d role.Destructor e b = ap (λ (r : Role). role_room_of p r d) e
@@ -153,12 +157,12 @@ meant_long p (d ∷ ds) n t s = ap suc (meant_long p ds (n + 1) (t + length (gat
 pub lays_none : (p : Program) (ds : List Defined) (all : ℕ) (d : Draft) → d.ops ≡ [] → d.marks ≡ [] → length d.routines ≡ all → Lays p ds all 0 d
 lays_none p ds all d e f g = record { code = record { end = ap (λ l. length l) e }; room = let l : length d.ops ≡ 0 = ap (λ l. length l) e in omega arith; outside = f; table = g }
 
-pub lays_step : (p : Program) (ds : List Defined) (all i texts sites : ℕ) (x : Defined) (old new : Draft) → ((k : ℕ) (d : Defined) → slice_get ds k ≡ Some d → are_built d.routine.body ≡ true) → slice_get ds i ≡ Some x → i < all → Lays p ds all i old → texts ≡ defined_texts (take i ds) → sites ≡ 0
+pub lays_step : (p : Program) (ds : List Defined) (all i texts sites : ℕ) (x : Defined) (old new : Draft) → ((k : ℕ) (d : Defined) → slice_get ds k ≡ Some d → are_built d.routine.body ≡ true) → place_by p x ≡ place_of p x.number → slice_get ds i ≡ Some x → i < all → Lays p ds all i old → texts ≡ defined_texts (take i ds) → sites ≡ 0
     → Kept (laid_in old) (laid_in new) → length new.ops ≤ length old.ops + routine_room p x
-    → RoutineAt (laid_in new) i (routine_meant p x.routine (routine_scope p x.routine.sig.params x.number i texts sites)) (record { entry = length old.ops; cells = routine_cells p x.routine; params = length x.routine.sig.params }) (length old.ops) (length new.ops)
-    → new.routines ≡ slice_set old.routines i (record { entry = length old.ops; cells = routine_cells p x.routine; params = length x.routine.sig.params }) → new.marks ≡ [] → Lays p ds all (i + 1) new
-lays_step p ds all i texts sites x old new built at known h te se k r c w marks =
-    let row : RoutineCode = record { entry = length old.ops; cells = routine_cells p x.routine; params = length x.routine.sig.params } in
+    → RoutineAt (laid_in new) i (routine_meant p x.routine (routine_scope p x.routine (place_of p x.number) i texts sites)) (record { entry = length old.ops; cells = frame_cells p x.routine; params = length x.routine.sig.params }) (length old.ops) (length new.ops)
+    → new.routines ≡ slice_set old.routines i (record { entry = length old.ops; cells = frame_cells p x.routine; params = length x.routine.sig.params }) → new.marks ≡ [] → Lays p ds all (i + 1) new
+lays_step p ds all i texts sites x old new built pe at known h te se k r c w marks =
+    let row : RoutineCode = record { entry = length old.ops; cells = frame_cells p x.routine; params = length x.routine.sig.params } in
     let xs : List Defined = take i ds in
     let split : xs ++ x ∷ [] ≡ take (i + 1) ds = sym (taken_more ds i x at) in
     let few : i < length ds = within ds i x at in
@@ -168,11 +172,12 @@ lays_step p ds all i texts sites x old new built at known h te se k r c w marks 
     let t_is : texts ≡ 0 + defined_texts xs = omega (arith, te) in
     let s_is : sites ≡ 0 + defined_sites xs = omega (arith, se, none) in
     let place : i ≡ 0 + length (routines_meant p xs 0 0 0) = let l = meant_long p xs 0 0 0 in omega (arith, count, l) in
-    let meant : source.Routine = routine_meant p x.routine (routine_scope p x.routine.sig.params x.number (0 + length xs) (0 + defined_texts xs) (0 + defined_sites xs)) in
-    let same : routine_meant p x.routine (routine_scope p x.routine.sig.params x.number i texts sites) ≡ meant =
-    ap (λ (n : ℕ). routine_meant p x.routine (routine_scope p x.routine.sig.params x.number n texts sites)) i_is
-    ∙ ap (λ (n : ℕ). routine_meant p x.routine (routine_scope p x.routine.sig.params x.number (0 + length xs) n sites)) t_is
-    ∙ ap (λ (n : ℕ). routine_meant p x.routine (routine_scope p x.routine.sig.params x.number (0 + length xs) (0 + defined_texts xs) n)) s_is in
+    let meant : source.Routine = routine_meant p x.routine (routine_scope p x.routine (place_by p x) (0 + length xs) (0 + defined_texts xs) (0 + defined_sites xs)) in
+    let same : routine_meant p x.routine (routine_scope p x.routine (place_of p x.number) i texts sites) ≡ meant =
+    ap (λ (o : Option ℕ). routine_meant p x.routine (routine_scope p x.routine o i texts sites)) (sym pe)
+    ∙ ap (λ (n : ℕ). routine_meant p x.routine (routine_scope p x.routine (place_by p x) n texts sites)) i_is
+    ∙ ap (λ (n : ℕ). routine_meant p x.routine (routine_scope p x.routine (place_by p x) (0 + length xs) n sites)) t_is
+    ∙ ap (λ (n : ℕ). routine_meant p x.routine (routine_scope p x.routine (place_by p x) (0 + length xs) (0 + defined_texts xs) n)) s_is in
     let c1 : RoutineAt (laid_in new) (0 + length (routines_meant p xs 0 0 0)) meant row (length old.ops) (length new.ops) =
     subst (λ (n : ℕ). RoutineAt (laid_in new) n meant row (length old.ops) (length new.ops)) place (subst (λ (m : source.Routine). RoutineAt (laid_in new) i m row (length old.ops) (length new.ops)) same c) in
     let all_at : RoutinesAt (laid_in new) 0 (routines_meant p xs 0 0 0 ++ meant ∷ []) (take i old.routines ++ row ∷ []) 0 (length new.ops) =

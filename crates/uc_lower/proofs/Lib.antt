@@ -4,6 +4,7 @@ mod Built
 mod Costs
 mod Distinct
 mod Ending
+mod Eventless
 pub mod Laying
 pub mod Mained
 mod Named

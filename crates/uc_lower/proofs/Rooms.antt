@@ -104,13 +104,13 @@ module _ (p : Program) (none : breaks_of p ≡ []) where
       let is : routine_room p d ≡ role_room_of p role.Plain d = ap (λ (r : Role). role_room_of p r d) e in
       omega (arith, is)
   routine_few d role.Constructor e =
-      let is : routine_room p d ≡ builder_room p d.routine d.number = ap (λ (r : Role). role_room_of p r d) e in
-      let builder : builder_room p d.routine d.number ≡ role_room p role.Constructor (place_of p d.number) d.routine + 1 = ap (λ (r : Role). role_room p r (place_of p d.number) d.routine + 1) e in
+      let is : routine_room p d ≡ builder_room p d.routine (place_of p d.number) = ap (λ (r : Role). role_room_of p r d) e in
+      let builder : builder_room p d.routine (place_of p d.number) ≡ role_room p role.Constructor (place_of p d.number) d.routine + 1 = ap (λ (r : Role). role_room p r (place_of p d.number) d.routine + 1) e in
       let h = built_few d.routine (place_of p d.number) in
       omega (arith, is, builder, h)
   routine_few d role.Destructor e =
-      let is : routine_room p d ≡ builder_room p d.routine d.number = ap (λ (r : Role). role_room_of p r d) e in
-      let builder : builder_room p d.routine d.number ≡ role_room p role.Destructor (place_of p d.number) d.routine + 1 = ap (λ (r : Role). role_room p r (place_of p d.number) d.routine + 1) e in
+      let is : routine_room p d ≡ builder_room p d.routine (place_of p d.number) = ap (λ (r : Role). role_room_of p r d) e in
+      let builder : builder_room p d.routine (place_of p d.number) ≡ role_room p role.Destructor (place_of p d.number) d.routine + 1 = ap (λ (r : Role). role_room p r (place_of p d.number) d.routine + 1) e in
       let h = left_is (class_by p (place_of p d.number)) in
       omega (arith, is, builder, h)
 

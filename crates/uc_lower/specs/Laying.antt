@@ -5,7 +5,7 @@ use Rattle.uc_tree.specs.declared.kinds.Role.{Role}
 use Rattle.uc_tree.specs.declared.kinds.Role.TheVariants as role
 use Rattle.uc_tree.specs.Gathered.{gathered_all}
 use Rattle.uc_tree.specs.Numbering.{Defined, own_texts}
-use Rattle.uc_tree.specs.Objects.{Unwritten, class_at}
+use Rattle.uc_tree.specs.Objects.{Unwritten, class_at, place_of}
 use Rattle.uc_tree.specs.Programs.{Program}
 use Rattle.uc_tree.specs.Resolve.{all_unwritten, routines_meant}
 use Rattle.uc_code.specs.Drafts.{Draft}
@@ -18,8 +18,8 @@ use Rattle.uc_lower_class.specs.Bodies.{builder_room, unwritten_room}
 
 abbrev pub role_room_of : Program → Role → Defined → ℕ
 role_room_of p role.Plain d = OPS_FOR_SIZE * (1 + sizes_at d.routine.body 0)
-role_room_of p role.Constructor d = builder_room p d.routine d.number
-role_room_of p role.Destructor d = builder_room p d.routine d.number
+role_room_of p role.Constructor d = builder_room p d.routine (place_of p d.number)
+role_room_of p role.Destructor d = builder_room p d.routine (place_of p d.number)
 
 abbrev pub routine_room : Program → Defined → ℕ
 routine_room p d = role_room_of p d.routine.sig.role d

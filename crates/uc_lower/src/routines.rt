@@ -6,7 +6,7 @@ ghost use Rattle.uc_tree.specs.StatementSizes.{stmts_size};
 ghost use Rattle.uc_tree.specs.Cells.{routine_cells};
 ghost use Rattle.uc_tree.specs.Gathered.{gathered_all};
 ghost use Rattle.uc_tree.specs.Numbering.{is_plain, own_sites, own_texts, routines_of};
-ghost use Rattle.uc_tree.specs.Objects.{unwritten_of};
+ghost use Rattle.uc_tree.specs.Objects.{place_of, unwritten_of};
 ghost use Rattle.uc_tree.specs.ProgramMain.{main_number};
 ghost use Rattle.uc_tree.specs.Resolve.{routine_meant, routine_scope};
 ghost use Rattle.uc_built.specs.BuiltForms.{are_built, IsBuilt};
@@ -15,6 +15,7 @@ ghost use Rattle.uc_code.specs.Laid.{laid_in};
 ghost use Rattle.uc_code.specs.Lowered.{RoutineAt};
 ghost use Rattle.uc_code.specs.Ranges.{Kept};
 ghost use Rattle.uc_numbers.specs.Routines.{defined_at};
+ghost use Rattle.uc_lower_stmt.specs.Routines.{frame_cells};
 ghost use Rattle.uc_unwritten.specs.Unwritten.{unwritten_as};
 ghost use Rattle.uc_lower.specs.Laying.{Lays, LaysAll, routine_room};
 ghost use Rattle.uc_lower.specs.Refusing.{Fits};
@@ -77,21 +78,22 @@ fn lower_written(
     requires texts { texts + stmts_size one.now.routine.now.body ≤ PROGRAM_SIZE }
     ensures kept { OnOk result (Kept (laid_in out.old) (laid_in out.new)) }
     ensures room { OnOk result (length out.new.ops ≤ length out.old.ops + routine_room names.now (defined_at one.now)) }
-    ensures code { OnOk result (RoutineAt (laid_in out.new) number (routine_meant names.now one.now.routine.now (routine_scope names.now one.now.routine.now.sig.params one.now.number number texts sites)) (record { entry = length out.old.ops; cells = routine_cells names.now one.now.routine.now; params = length one.now.routine.now.sig.params }) (length out.old.ops) (length out.new.ops)) }
-    ensures written { OnOk result (out.new.routines ≡ slice_set out.old.routines number (record { entry = length out.old.ops; cells = routine_cells names.now one.now.routine.now; params = length one.now.routine.now.sig.params })) }
+    ensures code { OnOk result (RoutineAt (laid_in out.new) number (routine_meant names.now one.now.routine.now (routine_scope names.now one.now.routine.now (place_of names.now one.now.number) number texts sites)) (record { entry = length out.old.ops; cells = frame_cells names.now one.now.routine.now; params = length one.now.routine.now.sig.params }) (length out.old.ops) (length out.new.ops)) }
+    ensures written { OnOk result (out.new.routines ≡ slice_set out.old.routines number (record { entry = length out.old.ops; cells = frame_cells names.now one.now.routine.now; params = length one.now.routine.now.sig.params })) }
     ensures outside { OnOk result (out.new.marks ≡ []) }
     ensures texts { OnOk result (out.new.texts ≡ texts + length (gathered_all own_texts one.now.routine.now.body)) }
     ensures few_texts { OnOk result (out.new.texts ≤ texts + stmts_size one.now.routine.now.body) }
     ensures sites { OnOk result (out.new.sites ≡ sites + length (gathered_all (own_sites None 0) one.now.routine.now.body)) }
 {
     let routine = one.routine;
+    let class = names.class_of(one.number);
     if is_plain(sig_of(routine)) {
         lower_routine(
-            alloc, names, routine, main, one.number, number, texts, sites, out,
+            alloc, names, routine, main, class, number, texts, sites, out,
         )?;
         return Ok(());
     }
-    lower_builder(alloc, names, routine, one.number, number, texts, sites, out)?;
+    lower_builder(alloc, names, routine, class, number, texts, sites, out)?;
     Ok(())
 }
 

@@ -127,9 +127,9 @@ module _ (line start end n k c o : ℕ) (ss : Stmts) (after : Scope) (d0 d1 d2 d
   whole_at : StmtAt now ms (Whole line ss) a (length now.ops)
   whole_at = subst (λ (z : ℕ). StmtAt now ms (Whole line ss) a z) (sym long) (record { begin = begins; leave = leaves; body = body })
 
-  four_is : d4 ≡ record d0 { ops = d4.ops; rows = d4.rows; settled = d4.settled; marks = mark.Whole (a + 1) ∷ ms; scopes = d4.scopes; names = d4.names; cells = d4.cells; texts = d4.texts; sites = d4.sites }
+  four_is : d4 ≡ record d0 { ops = d4.ops; rows = d4.rows; settled = d4.settled; marks = mark.Whole (a + 1) ∷ ms; scopes = d4.scopes; names = d4.names; cells = d4.cells; hidden = d4.hidden; texts = d4.texts; sites = d4.sites }
   four_is =
-      h.rest ∙ ap (λ (d : Draft). let x : Draft = record d { ops = d4.ops; rows = d4.rows; settled = d4.settled; scopes = d4.scopes; names = d4.names; cells = d4.cells; texts = d4.texts; sites = d4.sites } in x)
+      h.rest ∙ ap (λ (d : Draft). let x : Draft = record d { ops = d4.ops; rows = d4.rows; settled = d4.settled; scopes = d4.scopes; names = d4.names; cells = d4.cells; hidden = d4.hidden; texts = d4.texts; sites = d4.sites } in x)
       (entered ∙ ap (λ (d : Draft). let x : Draft = record d { marks = mark.Whole (a + 1) ∷ ms } in x) (g2.rest ∙ ap (λ (d : Draft). let x : Draft = record d { ops = d2.ops } in x) g1.rest))
 
   scope_three : scope_of d3 ≡ scope_of d0
@@ -174,11 +174,11 @@ module _ (n m k c o : ℕ) (F : Stmts → Stmts) (us : List ObjectCall) (s : Stm
       let behind : StmtsAt (laid_in d2) d2.marks 0 (Then s Nil) (length d1.ops) (length d2.ops) = subst (λ (ns : List Mark). StmtsAt (laid_in d2) ns 0 (Then s Nil) (length d1.ops) (length d2.ops)) (sym marks_two-built) (record { middle = length d2.ops; first = w.code; second = record { end = refl } }) in
       subst (λ (ss : Stmts). StmtsAt (laid_in new) d0.marks 0 ss (length d0.ops) (length new.ops)) block_is (e.block d0.marks (length d0.ops) (length d1.ops) (h.steps ++ []) (Then s Nil) before behind)
 
-  new_is : new ≡ record d0 { ops = new.ops; rows = new.rows; settled = new.settled; scopes = d2.scopes; names = d2.names; cells = d2.cells; texts = d2.texts; sites = d2.sites }
+  new_is : new ≡ record d0 { ops = new.ops; rows = new.rows; settled = new.settled; scopes = d2.scopes; names = d2.names; cells = d2.cells; hidden = d2.hidden; texts = d2.texts; sites = d2.sites }
   new_is =
       e.rest ∙ ap (λ (d : Draft). let x : Draft = record d { ops = new.ops; rows = new.rows; settled = new.settled; marks = new.marks } in x) w.rest
-      ∙ ap (λ (d : Draft). let x : Draft = record d { ops = new.ops; rows = new.rows; settled = new.settled; marks = new.marks; scopes = d2.scopes; names = d2.names; cells = d2.cells; texts = d2.texts; sites = d2.sites } in x) h.rest
-      ∙ ap (λ (ns : List Mark). let x : Draft = record d0 { ops = new.ops; rows = new.rows; settled = new.settled; marks = ns; scopes = d2.scopes; names = d2.names; cells = d2.cells; texts = d2.texts; sites = d2.sites } in x) marks_back
+      ∙ ap (λ (d : Draft). let x : Draft = record d { ops = new.ops; rows = new.rows; settled = new.settled; marks = new.marks; scopes = d2.scopes; names = d2.names; cells = d2.cells; hidden = d2.hidden; texts = d2.texts; sites = d2.sites } in x) h.rest
+      ∙ ap (λ (ns : List Mark). let x : Draft = record d0 { ops = new.ops; rows = new.rows; settled = new.settled; marks = ns; scopes = d2.scopes; names = d2.names; cells = d2.cells; hidden = d2.hidden; texts = d2.texts; sites = d2.sites } in x) marks_back
 
   pub arm_built : Lowers (n + m) k c o (λ code. StmtsAt code d0.marks 0 (F (Then s Nil))) after d0 new
   arm_built =
@@ -189,7 +189,7 @@ module _ (n m k c o : ℕ) (F : Stmts → Stmts) (us : List ObjectCall) (s : Stm
       let cells_new : new.cells ≡ d2.cells = ap (λ (d : Draft). d.cells) e.rest in
       let scopes_new : new.scopes ≡ d2.scopes = ap (λ (d : Draft). d.scopes) e.rest in
       record {
-        rest = subst (λ (d : Draft). d ≡ record d0 { ops = d.ops; rows = d.rows; settled = d.settled; scopes = d.scopes; names = d.names; cells = d.cells; texts = d.texts; sites = d.sites }) (sym new_is) refl;
+        rest = subst (λ (d : Draft). d ≡ record d0 { ops = d.ops; rows = d.rows; settled = d.settled; scopes = d.scopes; names = d.names; cells = d.cells; hidden = d.hidden; texts = d.texts; sites = d.sites }) (sym new_is) refl;
         scope = ap scope_of e.rest ∙ w.scope;
         opened = let x = w.opened in omega arith;
         kept = kept_then (laid_in d0) (laid_in d1) (laid_in new) h.kept (kept_then (laid_in d1) (laid_in d2) (laid_in new) w.kept e.kept);
@@ -219,7 +219,7 @@ module _ (n : ℕ) (F : Stmts → Stmts) (us : List ObjectCall) (d0 d1 new : Dra
       let scopes_new : new.scopes ≡ d0.scopes = ap (λ (d : Draft). d.scopes) alone_is in
       let block : block_of (h.steps ++ []) Nil ≡ F Nil = block_join [] h.steps Nil ∙ h.block Nil in
       record {
-        rest = subst (λ (d : Draft). d ≡ record d0 { ops = d.ops; rows = d.rows; settled = d.settled; scopes = d.scopes; names = d.names; cells = d.cells; texts = d.texts; sites = d.sites }) (sym alone_is) refl;
+        rest = subst (λ (d : Draft). d ≡ record d0 { ops = d.ops; rows = d.rows; settled = d.settled; scopes = d.scopes; names = d.names; cells = d.cells; hidden = d.hidden; texts = d.texts; sites = d.sites }) (sym alone_is) refl;
         scope = ap scope_of alone_is;
         opened = omega arith;
         kept = kept_then (laid_in d0) (laid_in d1) (laid_in new) h.kept e.kept;

@@ -6,7 +6,7 @@ ghost use Rattle.uc_tree.specs.StatementSizes.{stmts_size};
 ghost use Rattle.uc_tree.specs.Cells.{declared_cells, routine_cells, stmts_cells};
 ghost use Rattle.uc_tree.specs.Gathered.{gathered_all};
 ghost use Rattle.uc_tree.specs.Numbering.{is_plain, own_sites, own_texts, routines_of};
-ghost use Rattle.uc_tree.specs.Objects.{class_at, place_of};
+ghost use Rattle.uc_tree.specs.Objects.{class_at};
 ghost use Rattle.uc_tree.specs.ProgramMain.{main_number};
 ghost use Rattle.uc_tree.specs.Scopes.{stmts_scopes};
 ghost use Rattle.uc_tree.specs.Resolve.{class_by, nowhere, routine_meant, routine_scope, unwritten_meant};
@@ -17,6 +17,7 @@ ghost use Rattle.uc_code.specs.Laid.{laid_in, routine_in};
 ghost use Rattle.uc_code.specs.Lowered.{RoutineAt};
 ghost use Rattle.uc_code.specs.Ranges.{Kept};
 ghost use Rattle.uc_lower_stmt.specs.Marked.{objects_in};
+ghost use Rattle.uc_lower_stmt.specs.Routines.{frame_cells};
 ghost use Rattle.uc_lower_stmt.specs.Scoped.{scope_of};
 ghost use Rattle.uc_unwritten.specs.Unwritten.{unwritten_as};
 ghost use Rattle.uc_lower_class.specs.Bodies.{IsUnwritten, LowersBody, LowersUnwritten, builder_room, built_at, built_room, left_at, left_room, role_room, unwritten_room};
@@ -94,7 +95,7 @@ fn lower_constructor(
     routine: &Routine,
     out: &mut Draft,
 ) -> Result<(), AllocError>
-    requires class { class ≡ place_of names.now out.old.place.class }
+    requires class { class ≡ out.old.place.class }
     requires built { are_built routine.now.body ≡ true }
     requires written { routine_in out.old.marks < length (routines_of names.now) }
     requires room { length out.old.ops + role_room names.now role.Constructor class routine.now ≤ PROGRAM_OPS }
@@ -117,7 +118,7 @@ fn lower_destructor(
     routine: &Routine,
     out: &mut Draft,
 ) -> Result<(), AllocError>
-    requires class { class ≡ place_of names.now out.old.place.class }
+    requires class { class ≡ out.old.place.class }
     requires built { are_built routine.now.body ≡ true }
     requires written { routine_in out.old.marks < length (routines_of names.now) }
     requires outside { objects_in out.old.marks ≡ 0 }
@@ -143,7 +144,7 @@ fn lower_body(
     out: &mut Draft,
 ) -> Result<(), AllocError>
     requires role { is_plain role ≡ false }
-    requires class { class ≡ place_of names.now out.old.place.class }
+    requires class { class ≡ out.old.place.class }
     requires built { are_built routine.now.body ≡ true }
     requires written { routine_in out.old.marks < length (routines_of names.now) }
     requires outside { objects_in out.old.marks ≡ 0 }
@@ -166,14 +167,14 @@ fn lower_body(
     }
 }
 
-/// Adds the code of a written constructor or destructor of the class of this number, behind so many text literals and accept
+/// Adds the code of a written constructor or destructor of the class with this place, behind so many text literals and accept
 /// statements of the program, and writes down under its number where it begins. Its statements are of forms that are built. After
 /// want of memory the draft is spent.
 pub fn lower_builder(
     alloc: Global,
     names: &ProgramNames,
     routine: &Routine,
-    class: u32,
+    class: Option<usize>,
     number: u32,
     texts: u32,
     sites: u32,
@@ -191,8 +192,8 @@ pub fn lower_builder(
     requires texts { texts + stmts_size routine.now.body ≤ PROGRAM_SIZE }
     ensures kept { OnOk result (Kept (laid_in out.old) (laid_in out.new)) }
     ensures room { OnOk result (length out.new.ops ≤ length out.old.ops + builder_room names.now routine.now class) }
-    ensures code { OnOk result (RoutineAt (laid_in out.new) number (routine_meant names.now routine.now (routine_scope names.now routine.now.sig.params class number texts sites)) (record { entry = length out.old.ops; cells = routine_cells names.now routine.now; params = length routine.now.sig.params }) (length out.old.ops) (length out.new.ops)) }
-    ensures written { OnOk result (out.new.routines ≡ slice_set out.old.routines number (record { entry = length out.old.ops; cells = routine_cells names.now routine.now; params = length routine.now.sig.params })) }
+    ensures code { OnOk result (RoutineAt (laid_in out.new) number (routine_meant names.now routine.now (routine_scope names.now routine.now class number texts sites)) (record { entry = length out.old.ops; cells = frame_cells names.now routine.now; params = length routine.now.sig.params }) (length out.old.ops) (length out.new.ops)) }
+    ensures written { OnOk result (out.new.routines ≡ slice_set out.old.routines number (record { entry = length out.old.ops; cells = frame_cells names.now routine.now; params = length routine.now.sig.params })) }
     ensures outside { OnOk result (out.new.marks ≡ []) }
     ensures texts { OnOk result (out.new.texts ≡ texts + length (gathered_all own_texts routine.now.body)) }
     ensures few_texts { OnOk result (out.new.texts ≤ texts + stmts_size routine.now.body) }
@@ -201,15 +202,15 @@ pub fn lower_builder(
     let entry = out.here();
     let sig = sig_of(routine);
     let params = params_of(sig);
-    out.begin_routine(class, number, texts, sites);
+    let variables = cells_of_routine(names.sizes(), routine) as u32;
+    out.begin_routine(class, number, variables, texts, sites);
     declare_params(alloc, names, params, out)?;
     out.enter_body(number)?;
     let role = role_of(sig);
-    let place = names.class_of(class);
-    lower_body(alloc, names, role, place, routine, out)?;
+    lower_body(alloc, names, role, class, routine, out)?;
     out.leave();
     put(Op::Return, 0, out)?;
-    let cells = cells_of_routine(names.sizes(), routine) as u32;
+    let cells = out.hidden();
     let count = params.len() as u32;
     out.set_routine(
         number,
@@ -302,7 +303,7 @@ pub fn lower_unwritten(
 {
     let entry = out.here();
     names.fit();
-    out.begin_routine(0, 0, 0, 0);
+    out.begin_routine(None, 0, 0, 0, 0);
     out.enter_body(number)?;
     lower_unwritten_body(alloc, names, one.role, one.class, out)?;
     out.leave();

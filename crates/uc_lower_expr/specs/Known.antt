@@ -1,9 +1,9 @@
 -- What is known of the names of a program.
-use Rattle.std.specs.Prelude.{◌≡◌, ℕ, zero, suc, List, [], ◌∷◌, ◌++◌, Option, Some, None, slice_get, true, false}
+use Rattle.std.specs.Prelude.{◌≡◌, ℕ, zero, suc, List, [], ◌∷◌, ◌++◌, Bool, Option, Some, None, slice_get, true, false}
 use Rattle.uc_names.specs.Blocks.{Block, found}
 use Rattle.uc_tree.specs.Programs.{Class, Program}
 use Rattle.uc_tree.specs.Cells.{classes_of}
-use Rattle.uc_tree.specs.Numbering.{routines_of}
+use Rattle.uc_tree.specs.Numbering.{is_event, routines_of}
 use Rattle.uc_tree.specs.Objects.{class_at, number_at}
 use Rattle.uc_tree.specs.Resolve.{routine_from}
 use Rattle.uc_lower_expr.specs.Numbered.{IsNumbering}
@@ -26,6 +26,10 @@ pub record NotesFields (p : Program) (place : ℕ) (c : Class) (old new : List F
   pub table : FieldTable
   pub is : new ≡ old ++ table ∷ []
   pub fields : AreFields p place c table
+
+abbrev pub is_event_in : Option Class → Bool
+is_event_in None = false
+is_event_in (Some c) = is_event c.kind
 
 -- a table of the routines of the class with the place i
 pub record HasRoutines (p : Program) (i : ℕ) (t : RoutineTable) : Type 0 where

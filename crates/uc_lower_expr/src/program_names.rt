@@ -13,7 +13,7 @@ ghost use Rattle.uc_tree.specs.Resolve.{AsValue, is_here, routine_from, params_o
 ghost use Rattle.uc_lower_expr.specs.Meanings.{Tells, shape_as};
 ghost use Rattle.uc_lower_expr.specs.Numbered.{is_called_alone, AreAmong, IsFixed, IsNumbering};
 ghost use Rattle.uc_lower_expr.specs.Members.{AreTables, FitClasses, IsField, IsNthField, count_fields, member_at, no_field, no_field_at, object_places, routine_for};
-ghost use Rattle.uc_lower_expr.specs.Known.{HasRoutines, NotesFields, place_among, routine_or};
+ghost use Rattle.uc_lower_expr.specs.Known.{HasRoutines, NotesFields, is_event_in, place_among, routine_or};
 
 use crate::fields::{Field, FieldTable, count_of, field_of, fields_of, nth_field, value_of_base};
 use crate::meaning::{Meaning, Scalar};
@@ -163,6 +163,16 @@ fn is_event(kind: Kind) -> bool
     }
 }
 
+// Whether the class with this place is an event.
+fn is_event_at(sizes: &Sizes, place: usize) -> bool
+    ensures { result ≡ is_event_in (class_at sizes.now place) }
+{
+    match sizes.class(place) {
+        Some(class) => is_event(class.kind),
+        None => false,
+    }
+}
+
 // The fields of the classes with these places and those further on, and the places of those that are no events.
 fn note_class(
     alloc: Global,
@@ -290,6 +300,7 @@ impl<'a> ProgramNames<'a> {
             Some(constant) => Some(Fixed {
                 scalar: Scalar::of_base(&constant.base),
                 class: self.sizes.plain_class(&constant.base),
+                event: self.sizes.event_place(&constant.base),
                 value: self.sizes.value_of(name).unwrap_or(0),
             }),
             None => None,
@@ -363,10 +374,13 @@ impl<'a> ProgramNames<'a> {
         table
     }
 
-    /// The number of the member of a name in the class with this place.
+    /// The number of the member of a name in the class with this place. An event has none.
     pub fn member(&self, class: usize, name: &Name) -> Option<u32>
         ensures { result ≡ member_at self.now class name.now (class_at self.now class) }
     {
+        if is_event_at(self.sizes, class) {
+            return None;
+        }
         match self.routines_of(class) {
             Some(table) => member_in(table, name),
             None => None,

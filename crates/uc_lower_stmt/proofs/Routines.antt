@@ -1,6 +1,6 @@
 -- The code of a routine.
 use Rattle.std.proofs.Common.{◌≡◌, ℕ, zero, suc, ◌+◌, ◌*◌, ◌≤◌, ◌<◌, Bool, true, false, true≢false, List, [], ◌∷◌, ◌++◌, length, take, get_or, refl, ap, sym, subst, ◌∙◌, arith, append_assoc, append-nil}
-use Rattle.std.specs.Prelude.{None, nat_eq, slice_set, if◌then◌else◌}
+use Rattle.std.specs.Prelude.{Option, None, nat_eq, slice_set, if◌then◌else◌}
 use Rattle.std.proofs.Common.{take_all}
 use Rattle.std.proofs.lemmas.List.{take_more}
 use Rattle.uc_tree.specs.declared.limits.TheConstants.{OPS_FOR_SIZE}
@@ -33,7 +33,7 @@ use Rattle.uc_lower_stmt.specs.Marked.{objects_in}
 use Rattle.uc_lower_stmt.specs.Scoped.{LowersStmts, scope_of, sizes_at}
 use Rattle.uc_lower_stmt.specs.declared.routine.Purpose.{Purpose}
 use Rattle.uc_lower_stmt.specs.declared.routine.Purpose.TheVariants as purpose
-use Rattle.uc_lower_stmt.specs.Routines.{EndCode, purpose_as}
+use Rattle.uc_lower_stmt.specs.Routines.{EndCode, frame_cells, purpose_as}
 use Rattle.uc_lower_stmt.proofs.Kept.{stmts_stable}
 use Rattle.uc_lower_stmt.proofs.Counted.{behind_counted}
 
@@ -132,33 +132,33 @@ line_by p false x b line e = ap (λ (y : Role). body_line (role_purpose p y b) l
 pub record Written (p : Program) (r : Routine) (s : Scope) (number : ℕ) (old new : Draft) : Type 0 where
   pub kept : Kept (laid_in old) (laid_in new)
   pub room : length new.ops ≤ length old.ops + OPS_FOR_SIZE * (1 + sizes_at r.body 0)
-  pub code : RoutineAt (laid_in new) number (routine_meant p r s) (record { entry = length old.ops; cells = routine_cells p r; params = length r.sig.params }) (length old.ops) (length new.ops)
-  pub written : new.routines ≡ slice_set old.routines number (record { entry = length old.ops; cells = routine_cells p r; params = length r.sig.params })
+  pub code : RoutineAt (laid_in new) number (routine_meant p r s) (record { entry = length old.ops; cells = frame_cells p r; params = length r.sig.params }) (length old.ops) (length new.ops)
+  pub written : new.routines ≡ slice_set old.routines number (record { entry = length old.ops; cells = frame_cells p r; params = length r.sig.params })
   pub outside : new.marks ≡ []
   pub texts : new.texts ≡ s.texts + length (gathered_all own_texts r.body)
   pub few_texts : new.texts ≤ s.texts + stmts_size r.body
   pub sites : new.sites ≡ s.sites + length (gathered_all (own_sites None 0) r.body)
 
 -- a draft at the beginning of a routine's statements
-abbrev begun_by : Program → List Param → source.Purpose → ℕ → ℕ → ℕ → ℕ → ℕ → Draft → Draft
-begun_by p xs q line class number texts sites d = record d { place = record { class = class; routine = number; scope = 0 }; marks = body_mark q number line ∷ []; scopes = 0; names = [] ++ params_known p 0 xs; cells = 0 + params_cells p xs; texts = texts; sites = sites }
+abbrev begun_by : Program → List Param → source.Purpose → ℕ → Option ℕ → ℕ → ℕ → ℕ → ℕ → Draft → Draft
+begun_by p xs q line class number hidden texts sites d = record d { place = record { class = class; routine = number; scope = 0 }; marks = body_mark q number line ∷ []; scopes = 0; names = [] ++ params_known p 0 xs; handled = 0; cells = 0 + params_cells p xs; hidden = hidden; texts = texts; sites = sites }
 
-abbrev begun : Program → Routine → source.Purpose → ℕ → ℕ → ℕ → ℕ → Draft → Draft
-begun p r q class number texts sites d = begun_by p r.sig.params q r.brace.line class number texts sites d
+abbrev begun : Program → Routine → source.Purpose → Option ℕ → ℕ → ℕ → ℕ → Draft → Draft
+begun p r q class number texts sites d = begun_by p r.sig.params q r.brace.line class number (routine_cells p r) texts sites d
 
-pub begun_is : (p : Program) (r : Routine) (q : source.Purpose) (class number texts sites line : ℕ) (xs : List Param) (d0 db dp d1 : Draft) → xs ≡ r.sig.params → line ≡ r.brace.line
-    → db ≡ record d0 { place = record { class = class; routine = number; scope = 0 }; marks = []; scopes = 0; names = []; cells = 0; texts = texts; sites = sites }
+pub begun_is : (p : Program) (r : Routine) (q : source.Purpose) (class : Option ℕ) (number hidden texts sites line : ℕ) (xs : List Param) (d0 db dp d1 : Draft) → xs ≡ r.sig.params → line ≡ r.brace.line → hidden ≡ routine_cells p r
+    → db ≡ record d0 { place = record { class = class; routine = number; scope = 0 }; marks = []; scopes = 0; names = []; handled = 0; cells = 0; hidden = hidden; texts = texts; sites = sites }
     → dp ≡ record db { names = db.names ++ params_known p db.cells xs; cells = db.cells + params_cells p xs } → d1 ≡ record dp { marks = body_mark q number line ∷ dp.marks } → d1 ≡ begun p r q class number texts sites d0
-begun_is p r q class number texts sites line xs d0 db dp d1 xe le e1 e2 e3 =
+begun_is p r q class number hidden texts sites line xs d0 db dp d1 xe le he e1 e2 e3 =
     e3 ∙ ap (λ (x : Draft). let d : Draft = record x { marks = body_mark q number line ∷ x.marks } in d) (e2 ∙ ap (λ (x : Draft). let d : Draft = record x { names = x.names ++ params_known p x.cells xs; cells = x.cells + params_cells p xs } in d) e1)
-    ∙ ap (λ (ys : List Param). begun_by p ys q line class number texts sites d0) xe ∙ ap (λ (l : ℕ). begun_by p r.sig.params q l class number texts sites d0) le
+    ∙ ap (λ (ys : List Param). begun_by p ys q line class number hidden texts sites d0) xe ∙ ap (λ (l : ℕ). begun_by p r.sig.params q l class number hidden texts sites d0) le ∙ ap (λ (n : ℕ). begun_by p r.sig.params q r.brace.line class number n texts sites d0) he
 
-module _ (p : Program) (r : Routine) (plain : r.sig.role ≡ role.Plain) (q : source.Purpose) (class number texts sites entry cells params line : ℕ) (body : Stmts) (d0 d1 d2 dl d3 new : Draft)
-    (be : body ≡ r.body) (qe : q ≡ purpose_of p number r) (ee : entry ≡ length d0.ops) (ce : cells ≡ routine_cells p r) (pe : params ≡ length r.sig.params) (le : line ≡ r.brace.line)
+module _ (p : Program) (r : Routine) (plain : r.sig.role ≡ role.Plain) (q : source.Purpose) (class : Option ℕ) (number texts sites entry cells params line : ℕ) (body : Stmts) (d0 d1 d2 dl d3 new : Draft)
+    (be : body ≡ r.body) (qe : q ≡ purpose_of p number r) (ee : entry ≡ length d0.ops) (ce : cells ≡ d3.hidden) (pe : params ≡ length r.sig.params) (le : line ≡ r.brace.line)
     (e1 : d1 ≡ begun p r q class number texts sites d0) (h : LowersStmts p line body d1 d2) (el : dl ≡ record d2 { marks = left_marks d2.marks }) (g : Adds 2 (EndCode q r.brace.line) dl d3)
     (e : new ≡ record d3 { routines = slice_set d3.routines number (record { entry = entry; cells = cells; params = params }) }) where
   abbrev s : Scope
-  s = routine_scope p r.sig.params class number texts sites
+  s = routine_scope p r class number texts sites
 
   abbrev mine : source.Purpose
   mine = purpose_of p number r
@@ -198,24 +198,30 @@ module _ (p : Program) (r : Routine) (plain : r.sig.role ≡ role.Plain) (q : so
   end_at : EndAt (laid_in d3) mine r.brace.line (length d2.ops) (length d3.ops)
   end_at = subst (λ (a : ℕ). EndAt (laid_in d3) mine r.brace.line a (length d3.ops)) ops (subst (λ (x : source.Purpose). EndAt (laid_in d3) x r.brace.line (length dl.ops) (length d3.ops)) qe g.code)
 
+  scope : scope_of d3 ≡ scope_behind p r.body (scope_of first)
+  scope = ap scope_of g.rest ∙ (ap scope_of el ∙ k.scope)
+
+  -- the frame ends behind the last hidden cell
+  frame : cells ≡ frame_cells p r
+  frame = ce ∙ ap (λ (t : Scope). t.hidden) (scope ∙ behind_counted p r.body (scope_of first))
+
   same : d3.routines ≡ d0.routines
   same = ap (λ (d : Draft). d.routines) g.rest ∙ (ap (λ (d : Draft). d.routines) el ∙ ap (λ (d : Draft). d.routines) k.rest)
 
-  is : new ≡ record d3 { routines = slice_set d3.routines number (record { entry = length d0.ops; cells = routine_cells p r; params = length r.sig.params }) }
+  is : new ≡ record d3 { routines = slice_set d3.routines number (record { entry = length d0.ops; cells = frame_cells p r; params = length r.sig.params }) }
   is = e ∙ ap (λ (n : ℕ). let d : Draft = record d3 { routines = slice_set d3.routines number (record { entry = n; cells = cells; params = params }) } in d) ee
-      ∙ ap (λ (n : ℕ). let d : Draft = record d3 { routines = slice_set d3.routines number (record { entry = length d0.ops; cells = n; params = params }) } in d) ce
-      ∙ ap (λ (n : ℕ). let d : Draft = record d3 { routines = slice_set d3.routines number (record { entry = length d0.ops; cells = routine_cells p r; params = n }) } in d) pe
+      ∙ ap (λ (n : ℕ). let d : Draft = record d3 { routines = slice_set d3.routines number (record { entry = length d0.ops; cells = n; params = params }) } in d) frame
+      ∙ ap (λ (n : ℕ). let d : Draft = record d3 { routines = slice_set d3.routines number (record { entry = length d0.ops; cells = frame_cells p r; params = n }) } in d) pe
 
   -- the body behind where the routine begins, its end, and its row
   pub arm_routine : Written p r s number d0 new
   arm_routine =
-      let scope : scope_of d3 ≡ scope_behind p r.body (scope_of first) = ap scope_of g.rest ∙ (ap scope_of el ∙ k.scope) in
       let marks : d2.marks ≡ body_mark mine number r.brace.line ∷ [] = ap (λ (d : Draft). d.marks) k.rest in
       subst (λ (d : Draft). Written p r s number d0 d) (sym is) (record {
         kept = kept_then (laid_in d0) (laid_in d2) (laid_in d3) k.kept keeps;
         room = (let x = k.room in let y = g.room in omega (arith, small, ops));
         code = record { entry = refl; cells = refl; params = refl; body = record { middle = length d2.ops; first = subst (λ (x : Role). StmtsAt (laid_in d3) (body_mark mine number r.brace.line ∷ []) (body_line mine r.brace.line) (body_by p x r s) (length d0.ops) (length d2.ops)) (sym plain) body_at; second = end_at } };
-        written = ap (λ (l : List RoutineCode). slice_set l number (record { entry = length d0.ops; cells = routine_cells p r; params = length r.sig.params })) same;
+        written = ap (λ (l : List RoutineCode). slice_set l number (record { entry = length d0.ops; cells = frame_cells p r; params = length r.sig.params })) same;
         outside = ap (λ (d : Draft). d.marks) g.rest ∙ (ap (λ (d : Draft). d.marks) el ∙ (ap left_marks marks ∙ left_bare mine number r.brace.line));
         texts = ap (λ (t : Scope). t.texts) (scope ∙ behind_counted p r.body (scope_of first));
         few_texts = (let x : d3.texts ≡ d2.texts = ap (λ (d : Draft). d.texts) g.rest ∙ ap (λ (d : Draft). d.texts) el in let y = k.texts in omega (arith, x));

@@ -56,9 +56,9 @@ lowers_done {n} {k} {c} {o} {m} {S} {T} {s} {old} {mid} {new} h e g =
 pub lowers_marked : {n k c o : ℕ} {S : Laid → ℕ → ℕ → Type 0} {s : Scope} {mid last : Draft} → (m : Mark) (old new : Draft) → left_marks (m ∷ old.marks) ≡ old.marks → mid ≡ record old { marks = m ∷ old.marks } → new ≡ record last { marks = left_marks last.marks } → Lowers n k c o S s mid last → Lowers n k c o S s old new
 lowers_marked {n} {k} {c} {o} {S} {s} {mid} {last} m old new l e f h =
     let g : Lowers n k c o S s (record old { marks = m ∷ old.marks }) last = subst (λ (d : Draft). Lowers n k c o S s d last) e h in
-    let i : record last { marks = left_marks last.marks } ≡ record old { ops = last.ops; rows = last.rows; settled = last.settled; scopes = last.scopes; names = last.names; cells = last.cells; texts = last.texts; sites = last.sites } =
+    let i : record last { marks = left_marks last.marks } ≡ record old { ops = last.ops; rows = last.rows; settled = last.settled; scopes = last.scopes; names = last.names; cells = last.cells; hidden = last.hidden; texts = last.texts; sites = last.sites } =
     ap (λ (d : Draft). let x : Draft = record d { marks = left_marks d.marks } in x) g.rest
-    ∙ ap (λ (ms : List Mark). let x : Draft = record old { ops = last.ops; rows = last.rows; settled = last.settled; marks = ms; scopes = last.scopes; names = last.names; cells = last.cells; texts = last.texts; sites = last.sites } in x) l in
+    ∙ ap (λ (ms : List Mark). let x : Draft = record old { ops = last.ops; rows = last.rows; settled = last.settled; marks = ms; scopes = last.scopes; names = last.names; cells = last.cells; hidden = last.hidden; texts = last.texts; sites = last.sites } in x) l in
     subst (λ (d : Draft). Lowers n k c o S s old d) (sym f) (record {
       rest = i;
       scope = g.scope;

@@ -16,7 +16,7 @@ ghost use Rattle.uc_code.specs.Ranges.{Kept};
 ghost use Rattle.uc_code.specs.Lowered.{RoutineAt, body_mark};
 ghost use Rattle.uc_lower_expr.specs.Added.{Adds};
 ghost use Rattle.uc_lower_stmt.specs.Scoped.{sizes_at};
-ghost use Rattle.uc_lower_stmt.specs.Routines.{EndCode, purpose_as, purpose_by};
+ghost use Rattle.uc_lower_stmt.specs.Routines.{EndCode, frame_cells, purpose_as, purpose_by};
 
 use crate::declare::copy_of;
 use crate::stmt::lower_stmts;
@@ -170,13 +170,13 @@ pub fn put_end(purpose: Purpose, line: u32, out: &mut Draft) -> Result<(), Alloc
 
 /// Adds the code of a routine that is no constructor and no destructor, behind so many text literals and accept statements of the
 /// program, and writes down under its number where it begins; `main` says whether it is the program's main. Its statements are of
-/// forms that are built. After want of memory the draft is spent.
+/// forms that are built. `class` is the place of its class. After want of memory the draft is spent.
 pub fn lower_routine(
     alloc: Global,
     names: &ProgramNames,
     routine: &Routine,
     main: bool,
-    class: u32,
+    class: Option<usize>,
     number: u32,
     texts: u32,
     sites: u32,
@@ -194,8 +194,8 @@ pub fn lower_routine(
     requires texts { texts + stmts_size routine.now.body ≤ PROGRAM_SIZE }
     ensures kept { OnOk result (Kept (laid_in out.old) (laid_in out.new)) }
     ensures room { OnOk result (length out.new.ops ≤ length out.old.ops + OPS_FOR_SIZE * (1 + sizes_at routine.now.body 0)) }
-    ensures code { OnOk result (RoutineAt (laid_in out.new) number (routine_meant names.now routine.now (routine_scope names.now routine.now.sig.params class number texts sites)) (record { entry = length out.old.ops; cells = routine_cells names.now routine.now; params = length routine.now.sig.params }) (length out.old.ops) (length out.new.ops)) }
-    ensures written { OnOk result (out.new.routines ≡ slice_set out.old.routines number (record { entry = length out.old.ops; cells = routine_cells names.now routine.now; params = length routine.now.sig.params })) }
+    ensures code { OnOk result (RoutineAt (laid_in out.new) number (routine_meant names.now routine.now (routine_scope names.now routine.now class number texts sites)) (record { entry = length out.old.ops; cells = frame_cells names.now routine.now; params = length routine.now.sig.params }) (length out.old.ops) (length out.new.ops)) }
+    ensures written { OnOk result (out.new.routines ≡ slice_set out.old.routines number (record { entry = length out.old.ops; cells = frame_cells names.now routine.now; params = length routine.now.sig.params })) }
     ensures outside { OnOk result (out.new.marks ≡ []) }
     ensures texts { OnOk result (out.new.texts ≡ texts + length (gathered_all own_texts routine.now.body)) }
     ensures few_texts { OnOk result (out.new.texts ≤ texts + stmts_size routine.now.body) }
@@ -206,13 +206,14 @@ pub fn lower_routine(
     let params = params_of(sig);
     let line = line_of(routine);
     let purpose = purpose_of(main, sig);
-    out.begin_routine(class, number, texts, sites);
+    let variables = cells_of_routine(names.sizes(), routine) as u32;
+    out.begin_routine(class, number, variables, texts, sites);
     declare_params(alloc, names, params, out)?;
     enter_body(purpose, number, line, out)?;
     lower_stmts(alloc, names, body_of(routine), line, out)?;
     out.leave();
     put_end(purpose, line, out)?;
-    let cells = cells_of_routine(names.sizes(), routine) as u32;
+    let cells = out.hidden();
     let count = params.len() as u32;
     out.set_routine(
         number,

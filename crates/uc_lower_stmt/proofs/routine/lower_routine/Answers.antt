@@ -56,13 +56,13 @@ returns-clause-kept c =
     let xs : c.params_of-params.result.now ≡ r.sig.params = c.params_of-params.ensures ∙ ap (λ (s : Sig). s.params) c.sig_of-sig.ensures in
     let purpose : purpose_as c.purpose_of-purpose.result ≡ purpose_by p (nat_eq c.args.number (main_number p)) r.sig =
     c.purpose_of-purpose.ensures p ∙ ap (λ (s : Sig). purpose_by p c.args.main s) c.sig_of-sig.ensures ∙ ap (λ (b : Bool). purpose_by p b r.sig) c.requires.main in
-    let cells = uncapped (routine_cells p r) c.cells_of_routine-cells.result (c.cells_of_routine-cells.ensures ∙ ap (λ (q : Program). capped (routine_cells q r)) c.sizes.ensures) c.requires.cells in
+    let cells = uncapped (routine_cells p r) c.cells_of_routine-variables.result (c.cells_of_routine-variables.ensures ∙ ap (λ (q : Program). capped (routine_cells q r)) c.sizes.ensures) c.requires.cells in
     let begins =
-    begun_is p r (purpose_as c.purpose_of-purpose.result) c.args.class c.args.number c.args.texts c.args.sites c.line_of-line.result c.params_of-params.result.now c.args.out.now c.begin_routine.new.self c.declare_params.new.out c.enter_body.new.out
-    xs c.line_of-line.ensures c.begin_routine.ensures c.in_ok-declare_params.ensures c.in_ok-enter_body.ensures in
-    (arm_routine p r (plain_role r.sig.role c.requires.plain) (purpose_as c.purpose_of-purpose.result) c.args.class c.args.number c.args.texts c.args.sites c.here-entry.result c.cells_of_routine-cells.result (length c.params_of-params.result.now) c.line_of-line.result (stmts_of c.body_of.result.now)
+    begun_is p r (purpose_as c.purpose_of-purpose.result) c.args.class c.args.number c.cells_of_routine-variables.result c.args.texts c.args.sites c.line_of-line.result c.params_of-params.result.now c.args.out.now c.begin_routine.new.self c.declare_params.new.out c.enter_body.new.out
+    xs c.line_of-line.ensures cells c.begin_routine.ensures c.in_ok-declare_params.ensures c.in_ok-enter_body.ensures in
+    (arm_routine p r (plain_role r.sig.role c.requires.plain) (purpose_as c.purpose_of-purpose.result) c.args.class c.args.number c.args.texts c.args.sites c.here-entry.result c.hidden-cells.result (length c.params_of-params.result.now) c.line_of-line.result (stmts_of c.body_of.result.now)
     c.args.out.now c.enter_body.new.out c.lower_stmts.new.out c.leave.new.self c.put_end.new.out c.set_routine.new.self
-    c.body_of.ensures purpose c.here-entry.ensures.count cells (ap length xs) c.line_of-line.ensures begins c.in_ok-lower_stmts.ensures c.leave.ensures (end_on (purpose_as c.purpose_of-purpose.result) c.line_of-line.ensures c.in_ok-put_end.ensures) c.set_routine.ensures).kept
+    c.body_of.ensures purpose c.here-entry.ensures.count c.hidden-cells.ensures (ap length xs) c.line_of-line.ensures begins c.in_ok-lower_stmts.ensures c.leave.ensures (end_on (purpose_as c.purpose_of-purpose.result) c.line_of-line.ensures c.in_ok-put_end.ensures) c.set_routine.ensures).kept
 
 pub returns-clause-room : goal.returns-clause-room
 returns-clause-room c =
@@ -71,13 +71,13 @@ returns-clause-room c =
     let xs : c.params_of-params.result.now ≡ r.sig.params = c.params_of-params.ensures ∙ ap (λ (s : Sig). s.params) c.sig_of-sig.ensures in
     let purpose : purpose_as c.purpose_of-purpose.result ≡ purpose_by p (nat_eq c.args.number (main_number p)) r.sig =
     c.purpose_of-purpose.ensures p ∙ ap (λ (s : Sig). purpose_by p c.args.main s) c.sig_of-sig.ensures ∙ ap (λ (b : Bool). purpose_by p b r.sig) c.requires.main in
-    let cells = uncapped (routine_cells p r) c.cells_of_routine-cells.result (c.cells_of_routine-cells.ensures ∙ ap (λ (q : Program). capped (routine_cells q r)) c.sizes.ensures) c.requires.cells in
+    let cells = uncapped (routine_cells p r) c.cells_of_routine-variables.result (c.cells_of_routine-variables.ensures ∙ ap (λ (q : Program). capped (routine_cells q r)) c.sizes.ensures) c.requires.cells in
     let begins =
-    begun_is p r (purpose_as c.purpose_of-purpose.result) c.args.class c.args.number c.args.texts c.args.sites c.line_of-line.result c.params_of-params.result.now c.args.out.now c.begin_routine.new.self c.declare_params.new.out c.enter_body.new.out
-    xs c.line_of-line.ensures c.begin_routine.ensures c.in_ok-declare_params.ensures c.in_ok-enter_body.ensures in
-    (arm_routine p r (plain_role r.sig.role c.requires.plain) (purpose_as c.purpose_of-purpose.result) c.args.class c.args.number c.args.texts c.args.sites c.here-entry.result c.cells_of_routine-cells.result (length c.params_of-params.result.now) c.line_of-line.result (stmts_of c.body_of.result.now)
+    begun_is p r (purpose_as c.purpose_of-purpose.result) c.args.class c.args.number c.cells_of_routine-variables.result c.args.texts c.args.sites c.line_of-line.result c.params_of-params.result.now c.args.out.now c.begin_routine.new.self c.declare_params.new.out c.enter_body.new.out
+    xs c.line_of-line.ensures cells c.begin_routine.ensures c.in_ok-declare_params.ensures c.in_ok-enter_body.ensures in
+    (arm_routine p r (plain_role r.sig.role c.requires.plain) (purpose_as c.purpose_of-purpose.result) c.args.class c.args.number c.args.texts c.args.sites c.here-entry.result c.hidden-cells.result (length c.params_of-params.result.now) c.line_of-line.result (stmts_of c.body_of.result.now)
     c.args.out.now c.enter_body.new.out c.lower_stmts.new.out c.leave.new.self c.put_end.new.out c.set_routine.new.self
-    c.body_of.ensures purpose c.here-entry.ensures.count cells (ap length xs) c.line_of-line.ensures begins c.in_ok-lower_stmts.ensures c.leave.ensures (end_on (purpose_as c.purpose_of-purpose.result) c.line_of-line.ensures c.in_ok-put_end.ensures) c.set_routine.ensures).room
+    c.body_of.ensures purpose c.here-entry.ensures.count c.hidden-cells.ensures (ap length xs) c.line_of-line.ensures begins c.in_ok-lower_stmts.ensures c.leave.ensures (end_on (purpose_as c.purpose_of-purpose.result) c.line_of-line.ensures c.in_ok-put_end.ensures) c.set_routine.ensures).room
 
 pub returns-clause-code : goal.returns-clause-code
 returns-clause-code c =
@@ -86,13 +86,13 @@ returns-clause-code c =
     let xs : c.params_of-params.result.now ≡ r.sig.params = c.params_of-params.ensures ∙ ap (λ (s : Sig). s.params) c.sig_of-sig.ensures in
     let purpose : purpose_as c.purpose_of-purpose.result ≡ purpose_by p (nat_eq c.args.number (main_number p)) r.sig =
     c.purpose_of-purpose.ensures p ∙ ap (λ (s : Sig). purpose_by p c.args.main s) c.sig_of-sig.ensures ∙ ap (λ (b : Bool). purpose_by p b r.sig) c.requires.main in
-    let cells = uncapped (routine_cells p r) c.cells_of_routine-cells.result (c.cells_of_routine-cells.ensures ∙ ap (λ (q : Program). capped (routine_cells q r)) c.sizes.ensures) c.requires.cells in
+    let cells = uncapped (routine_cells p r) c.cells_of_routine-variables.result (c.cells_of_routine-variables.ensures ∙ ap (λ (q : Program). capped (routine_cells q r)) c.sizes.ensures) c.requires.cells in
     let begins =
-    begun_is p r (purpose_as c.purpose_of-purpose.result) c.args.class c.args.number c.args.texts c.args.sites c.line_of-line.result c.params_of-params.result.now c.args.out.now c.begin_routine.new.self c.declare_params.new.out c.enter_body.new.out
-    xs c.line_of-line.ensures c.begin_routine.ensures c.in_ok-declare_params.ensures c.in_ok-enter_body.ensures in
-    (arm_routine p r (plain_role r.sig.role c.requires.plain) (purpose_as c.purpose_of-purpose.result) c.args.class c.args.number c.args.texts c.args.sites c.here-entry.result c.cells_of_routine-cells.result (length c.params_of-params.result.now) c.line_of-line.result (stmts_of c.body_of.result.now)
+    begun_is p r (purpose_as c.purpose_of-purpose.result) c.args.class c.args.number c.cells_of_routine-variables.result c.args.texts c.args.sites c.line_of-line.result c.params_of-params.result.now c.args.out.now c.begin_routine.new.self c.declare_params.new.out c.enter_body.new.out
+    xs c.line_of-line.ensures cells c.begin_routine.ensures c.in_ok-declare_params.ensures c.in_ok-enter_body.ensures in
+    (arm_routine p r (plain_role r.sig.role c.requires.plain) (purpose_as c.purpose_of-purpose.result) c.args.class c.args.number c.args.texts c.args.sites c.here-entry.result c.hidden-cells.result (length c.params_of-params.result.now) c.line_of-line.result (stmts_of c.body_of.result.now)
     c.args.out.now c.enter_body.new.out c.lower_stmts.new.out c.leave.new.self c.put_end.new.out c.set_routine.new.self
-    c.body_of.ensures purpose c.here-entry.ensures.count cells (ap length xs) c.line_of-line.ensures begins c.in_ok-lower_stmts.ensures c.leave.ensures (end_on (purpose_as c.purpose_of-purpose.result) c.line_of-line.ensures c.in_ok-put_end.ensures) c.set_routine.ensures).code
+    c.body_of.ensures purpose c.here-entry.ensures.count c.hidden-cells.ensures (ap length xs) c.line_of-line.ensures begins c.in_ok-lower_stmts.ensures c.leave.ensures (end_on (purpose_as c.purpose_of-purpose.result) c.line_of-line.ensures c.in_ok-put_end.ensures) c.set_routine.ensures).code
 
 pub returns-clause-written : goal.returns-clause-written
 returns-clause-written c =
@@ -101,13 +101,13 @@ returns-clause-written c =
     let xs : c.params_of-params.result.now ≡ r.sig.params = c.params_of-params.ensures ∙ ap (λ (s : Sig). s.params) c.sig_of-sig.ensures in
     let purpose : purpose_as c.purpose_of-purpose.result ≡ purpose_by p (nat_eq c.args.number (main_number p)) r.sig =
     c.purpose_of-purpose.ensures p ∙ ap (λ (s : Sig). purpose_by p c.args.main s) c.sig_of-sig.ensures ∙ ap (λ (b : Bool). purpose_by p b r.sig) c.requires.main in
-    let cells = uncapped (routine_cells p r) c.cells_of_routine-cells.result (c.cells_of_routine-cells.ensures ∙ ap (λ (q : Program). capped (routine_cells q r)) c.sizes.ensures) c.requires.cells in
+    let cells = uncapped (routine_cells p r) c.cells_of_routine-variables.result (c.cells_of_routine-variables.ensures ∙ ap (λ (q : Program). capped (routine_cells q r)) c.sizes.ensures) c.requires.cells in
     let begins =
-    begun_is p r (purpose_as c.purpose_of-purpose.result) c.args.class c.args.number c.args.texts c.args.sites c.line_of-line.result c.params_of-params.result.now c.args.out.now c.begin_routine.new.self c.declare_params.new.out c.enter_body.new.out
-    xs c.line_of-line.ensures c.begin_routine.ensures c.in_ok-declare_params.ensures c.in_ok-enter_body.ensures in
-    (arm_routine p r (plain_role r.sig.role c.requires.plain) (purpose_as c.purpose_of-purpose.result) c.args.class c.args.number c.args.texts c.args.sites c.here-entry.result c.cells_of_routine-cells.result (length c.params_of-params.result.now) c.line_of-line.result (stmts_of c.body_of.result.now)
+    begun_is p r (purpose_as c.purpose_of-purpose.result) c.args.class c.args.number c.cells_of_routine-variables.result c.args.texts c.args.sites c.line_of-line.result c.params_of-params.result.now c.args.out.now c.begin_routine.new.self c.declare_params.new.out c.enter_body.new.out
+    xs c.line_of-line.ensures cells c.begin_routine.ensures c.in_ok-declare_params.ensures c.in_ok-enter_body.ensures in
+    (arm_routine p r (plain_role r.sig.role c.requires.plain) (purpose_as c.purpose_of-purpose.result) c.args.class c.args.number c.args.texts c.args.sites c.here-entry.result c.hidden-cells.result (length c.params_of-params.result.now) c.line_of-line.result (stmts_of c.body_of.result.now)
     c.args.out.now c.enter_body.new.out c.lower_stmts.new.out c.leave.new.self c.put_end.new.out c.set_routine.new.self
-    c.body_of.ensures purpose c.here-entry.ensures.count cells (ap length xs) c.line_of-line.ensures begins c.in_ok-lower_stmts.ensures c.leave.ensures (end_on (purpose_as c.purpose_of-purpose.result) c.line_of-line.ensures c.in_ok-put_end.ensures) c.set_routine.ensures).written
+    c.body_of.ensures purpose c.here-entry.ensures.count c.hidden-cells.ensures (ap length xs) c.line_of-line.ensures begins c.in_ok-lower_stmts.ensures c.leave.ensures (end_on (purpose_as c.purpose_of-purpose.result) c.line_of-line.ensures c.in_ok-put_end.ensures) c.set_routine.ensures).written
 
 pub returns-clause-outside : goal.returns-clause-outside
 returns-clause-outside c =
@@ -116,13 +116,13 @@ returns-clause-outside c =
     let xs : c.params_of-params.result.now ≡ r.sig.params = c.params_of-params.ensures ∙ ap (λ (s : Sig). s.params) c.sig_of-sig.ensures in
     let purpose : purpose_as c.purpose_of-purpose.result ≡ purpose_by p (nat_eq c.args.number (main_number p)) r.sig =
     c.purpose_of-purpose.ensures p ∙ ap (λ (s : Sig). purpose_by p c.args.main s) c.sig_of-sig.ensures ∙ ap (λ (b : Bool). purpose_by p b r.sig) c.requires.main in
-    let cells = uncapped (routine_cells p r) c.cells_of_routine-cells.result (c.cells_of_routine-cells.ensures ∙ ap (λ (q : Program). capped (routine_cells q r)) c.sizes.ensures) c.requires.cells in
+    let cells = uncapped (routine_cells p r) c.cells_of_routine-variables.result (c.cells_of_routine-variables.ensures ∙ ap (λ (q : Program). capped (routine_cells q r)) c.sizes.ensures) c.requires.cells in
     let begins =
-    begun_is p r (purpose_as c.purpose_of-purpose.result) c.args.class c.args.number c.args.texts c.args.sites c.line_of-line.result c.params_of-params.result.now c.args.out.now c.begin_routine.new.self c.declare_params.new.out c.enter_body.new.out
-    xs c.line_of-line.ensures c.begin_routine.ensures c.in_ok-declare_params.ensures c.in_ok-enter_body.ensures in
-    (arm_routine p r (plain_role r.sig.role c.requires.plain) (purpose_as c.purpose_of-purpose.result) c.args.class c.args.number c.args.texts c.args.sites c.here-entry.result c.cells_of_routine-cells.result (length c.params_of-params.result.now) c.line_of-line.result (stmts_of c.body_of.result.now)
+    begun_is p r (purpose_as c.purpose_of-purpose.result) c.args.class c.args.number c.cells_of_routine-variables.result c.args.texts c.args.sites c.line_of-line.result c.params_of-params.result.now c.args.out.now c.begin_routine.new.self c.declare_params.new.out c.enter_body.new.out
+    xs c.line_of-line.ensures cells c.begin_routine.ensures c.in_ok-declare_params.ensures c.in_ok-enter_body.ensures in
+    (arm_routine p r (plain_role r.sig.role c.requires.plain) (purpose_as c.purpose_of-purpose.result) c.args.class c.args.number c.args.texts c.args.sites c.here-entry.result c.hidden-cells.result (length c.params_of-params.result.now) c.line_of-line.result (stmts_of c.body_of.result.now)
     c.args.out.now c.enter_body.new.out c.lower_stmts.new.out c.leave.new.self c.put_end.new.out c.set_routine.new.self
-    c.body_of.ensures purpose c.here-entry.ensures.count cells (ap length xs) c.line_of-line.ensures begins c.in_ok-lower_stmts.ensures c.leave.ensures (end_on (purpose_as c.purpose_of-purpose.result) c.line_of-line.ensures c.in_ok-put_end.ensures) c.set_routine.ensures).outside
+    c.body_of.ensures purpose c.here-entry.ensures.count c.hidden-cells.ensures (ap length xs) c.line_of-line.ensures begins c.in_ok-lower_stmts.ensures c.leave.ensures (end_on (purpose_as c.purpose_of-purpose.result) c.line_of-line.ensures c.in_ok-put_end.ensures) c.set_routine.ensures).outside
 
 pub returns-clause-texts : goal.returns-clause-texts
 returns-clause-texts c =
@@ -131,13 +131,13 @@ returns-clause-texts c =
     let xs : c.params_of-params.result.now ≡ r.sig.params = c.params_of-params.ensures ∙ ap (λ (s : Sig). s.params) c.sig_of-sig.ensures in
     let purpose : purpose_as c.purpose_of-purpose.result ≡ purpose_by p (nat_eq c.args.number (main_number p)) r.sig =
     c.purpose_of-purpose.ensures p ∙ ap (λ (s : Sig). purpose_by p c.args.main s) c.sig_of-sig.ensures ∙ ap (λ (b : Bool). purpose_by p b r.sig) c.requires.main in
-    let cells = uncapped (routine_cells p r) c.cells_of_routine-cells.result (c.cells_of_routine-cells.ensures ∙ ap (λ (q : Program). capped (routine_cells q r)) c.sizes.ensures) c.requires.cells in
+    let cells = uncapped (routine_cells p r) c.cells_of_routine-variables.result (c.cells_of_routine-variables.ensures ∙ ap (λ (q : Program). capped (routine_cells q r)) c.sizes.ensures) c.requires.cells in
     let begins =
-    begun_is p r (purpose_as c.purpose_of-purpose.result) c.args.class c.args.number c.args.texts c.args.sites c.line_of-line.result c.params_of-params.result.now c.args.out.now c.begin_routine.new.self c.declare_params.new.out c.enter_body.new.out
-    xs c.line_of-line.ensures c.begin_routine.ensures c.in_ok-declare_params.ensures c.in_ok-enter_body.ensures in
-    (arm_routine p r (plain_role r.sig.role c.requires.plain) (purpose_as c.purpose_of-purpose.result) c.args.class c.args.number c.args.texts c.args.sites c.here-entry.result c.cells_of_routine-cells.result (length c.params_of-params.result.now) c.line_of-line.result (stmts_of c.body_of.result.now)
+    begun_is p r (purpose_as c.purpose_of-purpose.result) c.args.class c.args.number c.cells_of_routine-variables.result c.args.texts c.args.sites c.line_of-line.result c.params_of-params.result.now c.args.out.now c.begin_routine.new.self c.declare_params.new.out c.enter_body.new.out
+    xs c.line_of-line.ensures cells c.begin_routine.ensures c.in_ok-declare_params.ensures c.in_ok-enter_body.ensures in
+    (arm_routine p r (plain_role r.sig.role c.requires.plain) (purpose_as c.purpose_of-purpose.result) c.args.class c.args.number c.args.texts c.args.sites c.here-entry.result c.hidden-cells.result (length c.params_of-params.result.now) c.line_of-line.result (stmts_of c.body_of.result.now)
     c.args.out.now c.enter_body.new.out c.lower_stmts.new.out c.leave.new.self c.put_end.new.out c.set_routine.new.self
-    c.body_of.ensures purpose c.here-entry.ensures.count cells (ap length xs) c.line_of-line.ensures begins c.in_ok-lower_stmts.ensures c.leave.ensures (end_on (purpose_as c.purpose_of-purpose.result) c.line_of-line.ensures c.in_ok-put_end.ensures) c.set_routine.ensures).texts
+    c.body_of.ensures purpose c.here-entry.ensures.count c.hidden-cells.ensures (ap length xs) c.line_of-line.ensures begins c.in_ok-lower_stmts.ensures c.leave.ensures (end_on (purpose_as c.purpose_of-purpose.result) c.line_of-line.ensures c.in_ok-put_end.ensures) c.set_routine.ensures).texts
 
 pub returns-clause-few_texts : goal.returns-clause-few_texts
 returns-clause-few_texts c =
@@ -146,13 +146,13 @@ returns-clause-few_texts c =
     let xs : c.params_of-params.result.now ≡ r.sig.params = c.params_of-params.ensures ∙ ap (λ (s : Sig). s.params) c.sig_of-sig.ensures in
     let purpose : purpose_as c.purpose_of-purpose.result ≡ purpose_by p (nat_eq c.args.number (main_number p)) r.sig =
     c.purpose_of-purpose.ensures p ∙ ap (λ (s : Sig). purpose_by p c.args.main s) c.sig_of-sig.ensures ∙ ap (λ (b : Bool). purpose_by p b r.sig) c.requires.main in
-    let cells = uncapped (routine_cells p r) c.cells_of_routine-cells.result (c.cells_of_routine-cells.ensures ∙ ap (λ (q : Program). capped (routine_cells q r)) c.sizes.ensures) c.requires.cells in
+    let cells = uncapped (routine_cells p r) c.cells_of_routine-variables.result (c.cells_of_routine-variables.ensures ∙ ap (λ (q : Program). capped (routine_cells q r)) c.sizes.ensures) c.requires.cells in
     let begins =
-    begun_is p r (purpose_as c.purpose_of-purpose.result) c.args.class c.args.number c.args.texts c.args.sites c.line_of-line.result c.params_of-params.result.now c.args.out.now c.begin_routine.new.self c.declare_params.new.out c.enter_body.new.out
-    xs c.line_of-line.ensures c.begin_routine.ensures c.in_ok-declare_params.ensures c.in_ok-enter_body.ensures in
-    (arm_routine p r (plain_role r.sig.role c.requires.plain) (purpose_as c.purpose_of-purpose.result) c.args.class c.args.number c.args.texts c.args.sites c.here-entry.result c.cells_of_routine-cells.result (length c.params_of-params.result.now) c.line_of-line.result (stmts_of c.body_of.result.now)
+    begun_is p r (purpose_as c.purpose_of-purpose.result) c.args.class c.args.number c.cells_of_routine-variables.result c.args.texts c.args.sites c.line_of-line.result c.params_of-params.result.now c.args.out.now c.begin_routine.new.self c.declare_params.new.out c.enter_body.new.out
+    xs c.line_of-line.ensures cells c.begin_routine.ensures c.in_ok-declare_params.ensures c.in_ok-enter_body.ensures in
+    (arm_routine p r (plain_role r.sig.role c.requires.plain) (purpose_as c.purpose_of-purpose.result) c.args.class c.args.number c.args.texts c.args.sites c.here-entry.result c.hidden-cells.result (length c.params_of-params.result.now) c.line_of-line.result (stmts_of c.body_of.result.now)
     c.args.out.now c.enter_body.new.out c.lower_stmts.new.out c.leave.new.self c.put_end.new.out c.set_routine.new.self
-    c.body_of.ensures purpose c.here-entry.ensures.count cells (ap length xs) c.line_of-line.ensures begins c.in_ok-lower_stmts.ensures c.leave.ensures (end_on (purpose_as c.purpose_of-purpose.result) c.line_of-line.ensures c.in_ok-put_end.ensures) c.set_routine.ensures).few_texts
+    c.body_of.ensures purpose c.here-entry.ensures.count c.hidden-cells.ensures (ap length xs) c.line_of-line.ensures begins c.in_ok-lower_stmts.ensures c.leave.ensures (end_on (purpose_as c.purpose_of-purpose.result) c.line_of-line.ensures c.in_ok-put_end.ensures) c.set_routine.ensures).few_texts
 
 pub returns-clause-sites : goal.returns-clause-sites
 returns-clause-sites c =
@@ -161,10 +161,10 @@ returns-clause-sites c =
     let xs : c.params_of-params.result.now ≡ r.sig.params = c.params_of-params.ensures ∙ ap (λ (s : Sig). s.params) c.sig_of-sig.ensures in
     let purpose : purpose_as c.purpose_of-purpose.result ≡ purpose_by p (nat_eq c.args.number (main_number p)) r.sig =
     c.purpose_of-purpose.ensures p ∙ ap (λ (s : Sig). purpose_by p c.args.main s) c.sig_of-sig.ensures ∙ ap (λ (b : Bool). purpose_by p b r.sig) c.requires.main in
-    let cells = uncapped (routine_cells p r) c.cells_of_routine-cells.result (c.cells_of_routine-cells.ensures ∙ ap (λ (q : Program). capped (routine_cells q r)) c.sizes.ensures) c.requires.cells in
+    let cells = uncapped (routine_cells p r) c.cells_of_routine-variables.result (c.cells_of_routine-variables.ensures ∙ ap (λ (q : Program). capped (routine_cells q r)) c.sizes.ensures) c.requires.cells in
     let begins =
-    begun_is p r (purpose_as c.purpose_of-purpose.result) c.args.class c.args.number c.args.texts c.args.sites c.line_of-line.result c.params_of-params.result.now c.args.out.now c.begin_routine.new.self c.declare_params.new.out c.enter_body.new.out
-    xs c.line_of-line.ensures c.begin_routine.ensures c.in_ok-declare_params.ensures c.in_ok-enter_body.ensures in
-    (arm_routine p r (plain_role r.sig.role c.requires.plain) (purpose_as c.purpose_of-purpose.result) c.args.class c.args.number c.args.texts c.args.sites c.here-entry.result c.cells_of_routine-cells.result (length c.params_of-params.result.now) c.line_of-line.result (stmts_of c.body_of.result.now)
+    begun_is p r (purpose_as c.purpose_of-purpose.result) c.args.class c.args.number c.cells_of_routine-variables.result c.args.texts c.args.sites c.line_of-line.result c.params_of-params.result.now c.args.out.now c.begin_routine.new.self c.declare_params.new.out c.enter_body.new.out
+    xs c.line_of-line.ensures cells c.begin_routine.ensures c.in_ok-declare_params.ensures c.in_ok-enter_body.ensures in
+    (arm_routine p r (plain_role r.sig.role c.requires.plain) (purpose_as c.purpose_of-purpose.result) c.args.class c.args.number c.args.texts c.args.sites c.here-entry.result c.hidden-cells.result (length c.params_of-params.result.now) c.line_of-line.result (stmts_of c.body_of.result.now)
     c.args.out.now c.enter_body.new.out c.lower_stmts.new.out c.leave.new.self c.put_end.new.out c.set_routine.new.self
-    c.body_of.ensures purpose c.here-entry.ensures.count cells (ap length xs) c.line_of-line.ensures begins c.in_ok-lower_stmts.ensures c.leave.ensures (end_on (purpose_as c.purpose_of-purpose.result) c.line_of-line.ensures c.in_ok-put_end.ensures) c.set_routine.ensures).sites
+    c.body_of.ensures purpose c.here-entry.ensures.count c.hidden-cells.ensures (ap length xs) c.line_of-line.ensures begins c.in_ok-lower_stmts.ensures c.leave.ensures (end_on (purpose_as c.purpose_of-purpose.result) c.line_of-line.ensures c.in_ok-put_end.ensures) c.set_routine.ensures).sites
