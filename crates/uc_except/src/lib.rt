@@ -2,5 +2,4 @@
 #![tactic(auto)]
 
 pub mod found;
-pub mod handling;
-pub mod seeking;
+pub mod probe;

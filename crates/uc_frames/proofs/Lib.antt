@@ -1,4 +1,5 @@
 pub mod Depths
+pub mod Guards
 pub mod Named
 pub mod Newest
 pub mod Positions

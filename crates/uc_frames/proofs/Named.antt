@@ -1,7 +1,7 @@
 -- Rows by their numbers, and those outwards of them.
-use Rattle.std.proofs.Common.{◌≡◌, ℕ, zero, suc, ◌+◌, ◌-◌, ◌<◌, ◌≤◌, List, [], ◌∷◌, ◌++◌, length, take, drop, reverse, Bool, true, false, Option, Some, None, refl, sym, ap, ◌∙◌, arith, get_or}
+use Rattle.std.proofs.Common.{◌≡◌, ℕ, zero, suc, ◌+◌, ◌-◌, ◌<◌, ◌≤◌, List, [], ◌∷◌, ◌++◌, length, take, drop, reverse, Bool, true, false, Option, Some, None, refl, sym, ap, ◌∙◌, arith, get_or, inl, inr}
 use Rattle.std.specs.Prelude.{nat_eq, nat_le, ◌&&◌, if◌then◌else◌, slice_get}
-use Rattle.std.proofs.lemmas.Bool.{eq-eqb, ne_eqb}
+use Rattle.std.proofs.lemmas.Bool.{eq-eqb, ne_eqb, eqb-true, le-leb, leb-true, cases_lt}
 use Rattle.std.proofs.lemmas.List.{reverse-append, length-append, length-reverse, length-take-le, take-append-drop, take_more, take_all}
 use Rattle.std.proofs.lemmas.Option.{slice_get_read}
 use Rattle.uc_code.specs.declared.rows.HandlerRow.{HandlerRow}
@@ -139,3 +139,121 @@ module _ (w : Sought) (rows : List HandlerRow) where
 
   pub sought_on : (at outer : ℕ) (b : Bool) → IsSoughtAt w rows (at - 1) b → b ≡ false → named rows at ≡ own_row rows (at - 1) ++ named rows outer → first_in w rows (named rows at) ≡ first_in w rows (named rows outer)
   sought_on at outer b s t q = ap (first_in w rows) q ∙ first_beyond (own_row rows (at - 1)) (named rows outer) (s.passed t)
+
+-- the loops
+
+-- no newer row covers an op
+pub record Uncovered (rows : List HandlerRow) (next number : ℕ) : Type 0 where
+  pub near : number ≤ length rows
+  pub same : from_newest (reverse (take number rows)) next ≡ chain rows next
+
+pub uncovered_first : (rows : List HandlerRow) (next : ℕ) → Uncovered rows next (length rows)
+uncovered_first rows next = record { near = omega arith; same = chain_is rows next }
+
+module _ (rows : List HandlerRow) (next number : ℕ) (h : Uncovered rows next number) where
+  pub uncovered_on : (d : HandlerRow) → 0 < number → covers (get_or rows (number - 1) d) next ≡ false → Uncovered rows next (number - 1)
+  uncovered_on d l q = record {
+    near = let k = h.near in omega arith;
+    same = sym (uncovered rows number d l h.near next q) ∙ h.same;
+  }
+
+  pub uncovered_ends : (d : HandlerRow) → 0 < number → covers (get_or rows (number - 1) d) next ≡ true → named rows number ≡ chain rows next
+  uncovered_ends d l q = sym (covered rows number d l h.near next q) ∙ h.same
+
+  pub uncovered_all : number ≡ 0 → named rows 0 ≡ chain rows next
+  uncovered_all e = zero_named (reverse rows) ∙ (ap (λ k. from_newest (reverse (take k rows)) next) (sym e) ∙ h.same)
+
+both_true : (a n k : ℕ) → a ≡ n → n ≤ k → (nat_eq a n && nat_le n k) ≡ true
+both_true a n k e l =
+    let p : nat_eq a n ≡ true = eq-eqb a n e in
+    let q : nat_le n k ≡ true = le-leb n k l in
+    rw (p, q) refl
+
+not_both_by : (b c : Bool) (a n k : ℕ) → nat_eq a n ≡ b → nat_le n k ≡ c → (a ≡ n → n ≤ k → ⊥) → (b && c) ≡ false
+not_both_by false c a n k e f d = refl
+not_both_by true false a n k e f d = refl
+not_both_by true true a n k e f d = absurd (d (eqb-true a n e) (leb-true n k f))
+
+pub not_both : (a n k : ℕ) → (a ≡ n → n ≤ k → ⊥) → (nat_eq a n && nat_le n k) ≡ false
+not_both a n k d = not_both_by (nat_eq a n) (nat_le n k) a n k refl refl d
+
+-- what is left of a search within so many rows
+pub record Within (rows : List HandlerRow) (n number at count round : ℕ) : Type 0 where
+  pub near : at ≤ length rows
+  pub many : count ≡ length (named rows at)
+  pub same : within rows n round (named rows at) ≡ last_of rows n (named rows number)
+
+pub within_first : (rows : List HandlerRow) (n number count : ℕ) → number ≤ length rows → count ≡ length (named rows number) → Within rows n number number count count
+within_first rows n number count l e = record { near = l; many = e; same = ap (λ k. within rows n k (named rows number)) e }
+
+module _ (rows : List HandlerRow) (n number at count round outer : ℕ) (h : Within rows n number at count round) (l : outer < at) (q : named rows at ≡ own_row rows (at - 1) ++ named rows outer) where
+  pub within_past : own_row rows (at - 1) ≡ [] → Within rows n number outer count round
+  within_past e =
+      let f : named rows at ≡ named rows outer = q ∙ ap (λ ns. ns ++ named rows outer) e in
+      record {
+        near = let k = h.near in omega arith;
+        many = h.many ∙ ap length f;
+        same = sym (ap (within rows n round) f) ∙ h.same;
+      }
+
+  module _ (row : HandlerRow) (r : IsHandler rows (at - 1) row) where
+    one_more : named rows at ≡ (at - 1) ∷ named rows outer
+    one_more = q ∙ ap (λ ns. ns ++ named rows outer) r.own
+
+    pub counted_more : count ≡ suc (length (named rows outer))
+    counted_more = h.many ∙ ap length one_more
+
+    step_by : (b : Bool) → (nat_eq (length (named rows at)) n && nat_le n round) ≡ b → within rows n round (named rows at) ≡ (if b then named rows at else within rows n (behind_row (Some row) (length (named rows outer))) (named rows outer))
+    step_by b e =
+        let f : (nat_eq (length ((at - 1) ∷ named rows outer)) n && nat_le n round) ≡ b = ap (λ ns. nat_eq (length ns) n && nat_le n round) (sym one_more) ∙ e in
+        ap (within rows n round) one_more
+        ∙ (ap (λ c. if c then (at - 1) ∷ named rows outer else within rows n (behind_row (slice_get rows (at - 1)) (length (named rows outer))) (named rows outer)) f
+        ∙ (ap (λ ns. if b then ns else within rows n (behind_row (slice_get rows (at - 1)) (length (named rows outer))) (named rows outer)) (sym one_more)
+        ∙ ap (λ o. if b then named rows at else within rows n (behind_row o (length (named rows outer))) (named rows outer)) r.is))
+
+    pub within_here : count ≡ n → n ≤ round → named rows at ≡ last_of rows n (named rows number)
+    within_here e k =
+        let b : (nat_eq (length (named rows at)) n && nat_le n round) ≡ true = both_true (length (named rows at)) n round (sym h.many ∙ e) k in
+        sym (step_by true b) ∙ h.same
+
+    pub within_on : (count ≡ n → n ≤ round → ⊥) → Within rows n number outer (count - 1) (behind_row (Some row) (count - 1))
+    within_on d =
+        let b : (nat_eq (length (named rows at)) n && nat_le n round) ≡ false = not_both (length (named rows at)) n round (λ e k. d (h.many ∙ e) k) in
+        let c : count - 1 ≡ length (named rows outer) = omega (arith, counted_more) in
+        record {
+          near = let k = h.near in omega arith;
+          many = c;
+          same = ap (λ k. within rows n (behind_row (Some row) k) (named rows outer)) c ∙ (sym (step_by false b) ∙ h.same);
+        }
+
+pub within_none : (rows : List HandlerRow) (n number at count round : ℕ) → Within rows n number at count round → at ≡ 0 → named rows 0 ≡ last_of rows n (named rows number)
+within_none rows n number at count round h e =
+    let z : named rows 0 ≡ [] = zero_named (reverse rows) in
+    let y : named rows at ≡ [] = ap (named rows) e ∙ z in
+    z ∙ (sym (ap (within rows n round) y) ∙ h.same)
+
+pub none_first : (w : Sought) (rows : List HandlerRow) (at : ℕ) → at ≡ 0 → None ≡ first_in w rows (named rows at)
+none_first w rows at e = sym (ap (first_in w rows) (ap (named rows) e ∙ zero_named (reverse rows)))
+
+pub none_count : (rows : List HandlerRow) (at count all : ℕ) → at ≡ 0 → count + length (named rows at) ≡ all → count ≡ all
+none_count rows at count all e h =
+    let z : length (named rows at) ≡ 0 = ap length (ap (named rows) e ∙ zero_named (reverse rows)) in omega arith
+
+-- how many there are
+pub count_on : (rows : List HandlerRow) (at outer count all : ℕ) → named rows at ≡ own_row rows (at - 1) ++ named rows outer → own_row rows (at - 1) ≡ [] → count + length (named rows at) ≡ all → count + length (named rows outer) ≡ all
+count_on rows at outer count all q e h =
+    let f : length (named rows at) ≡ length (named rows outer) = ap length (q ∙ ap (λ ns. ns ++ named rows outer) e) in omega arith
+
+pub count_more : (rows : List HandlerRow) (at outer count all : ℕ) (row : HandlerRow) → named rows at ≡ own_row rows (at - 1) ++ named rows outer → IsHandler rows (at - 1) row → count + length (named rows at) ≡ all → (count + 1) + length (named rows outer) ≡ all
+count_more rows at outer count all row q r h =
+    let f : length (named rows at) ≡ suc (length (named rows outer)) = ap length (q ∙ ap (λ ns. ns ++ named rows outer) r.own) in omega arith
+
+-- a row that is looked for is the first one from there on
+module _ (w : Sought) (rows : List HandlerRow) (at : ℕ) (b : Bool) (s : IsSoughtAt w rows (at - 1) b) (t : b ≡ true) (p : 0 < at) (l : at ≤ length rows) where
+  pub sought_found : first_in w rows (named rows at) ≡ Some (at - 1)
+  sought_found =
+      let d : HandlerRow = record { from = 0; to = 0; outer = 0; kind = kind.Catch; event = 0; rest = 0; entry = 0 } in
+      elim (cases_lt (get_or rows (at - 1) d).outer at) [
+        | inl k ↦ sought_here w rows at (get_or rows (at - 1) d).outer b s t (outer_near rows at d p l k)
+        | inr k ↦ sought_here w rows at 0 b s t (outer_far rows at d p l k)
+      ]

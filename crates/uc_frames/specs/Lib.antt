@@ -5,4 +5,5 @@ pub mod Parts
 pub mod Searches
 pub mod Stands
 pub mod Unwinding
+pub mod Unwound
 pub mod Weight

@@ -93,6 +93,7 @@ fn last_from(rows: &[HandlerRow], number: usize, rest: usize) -> usize
     let mut count = count_from(rows, number);
     let mut round = count;
     while 0 < at {
+        let outer = outer_of(rows, at);
         if let Some(row) = handler_at(rows, at) {
             if count == rest && rest <= round {
                 return at;
@@ -100,7 +101,7 @@ fn last_from(rows: &[HandlerRow], number: usize, rest: usize) -> usize
             count -= 1;
             round = round_behind(row, count);
         }
-        at = outer_of(rows, at);
+        at = outer;
     }
     0
 }
