@@ -130,3 +130,61 @@ module _ (rows : List HandlerRow) (e : ℕ) where
   pub nowhere : (v : Visited) (as : List Active) → length as ≤ v.level → resumed rows (Some v) e as ≡ Nowhere
   nowhere v [] l = refl
   nowhere v (a ∷ as) l = nowhere_by (nat_eq (length as) v.level) v a as refl l (nowhere v as (omega arith))
+
+  -- the steps of the loops
+
+  module _ (as : List Active) (d : ℕ) (l : d < length as) where
+    caught_step_by : (o : Option Active) → at_depth as d ≡ o → catch_in rows e o ≡ None → caught rows e (oldest (suc d) as) ≡ caught rows e (oldest d as)
+    caught_step_by None q f = let k = depth_none as d q in absurd (omega arith)
+    caught_step_by (Some a) q f = caught_on as d a q f
+
+    pub caught_step : catch_in rows e (at_depth as d) ≡ None → caught rows e (oldest (suc d) as) ≡ caught rows e (oldest d as)
+    caught_step f = caught_step_by (at_depth as d) refl f
+
+    from_none : (xs : List Active) → resumed rows None e xs ≡ resumed_from rows None e xs
+    from_none [] = refl
+    from_none (x ∷ xs) = refl
+
+    resumed_step_by : (o : Option Active) (rest : Option ℕ) → at_depth as d ≡ o → resumption_in rows rest e o ≡ None → resumed_from rows rest e (oldest (suc d) as) ≡ resumed rows (handles_in o) e (oldest d as)
+    resumed_step_by None rest q f = let k = depth_none as d q in absurd (omega arith)
+    resumed_step_by (Some a) rest q f = resumed_on as d rest a q f
+
+    resumed_step : (rest : Option ℕ) → resumption_in rows rest e (at_depth as d) ≡ None → resumed_from rows rest e (oldest (suc d) as) ≡ resumed rows (handles_in (at_depth as d)) e (oldest d as)
+    resumed_step rest f = resumed_step_by (at_depth as d) rest refl f
+
+    pub resumed_past : (rest : Option ℕ) → resumption_in rows rest e (at_depth as d) ≡ None → handles_in (at_depth as d) ≡ None → resumed_from rows rest e (oldest (suc d) as) ≡ resumed_from rows None e (oldest d as)
+    resumed_past rest f q = resumed_step rest f ∙ (ap (λ o. resumed rows o e (oldest d as)) q ∙ from_none (oldest d as))
+
+    pub resumed_further : (rest : Option ℕ) (v : Visited) → resumption_in rows rest e (at_depth as d) ≡ None → handles_in (at_depth as d) ≡ Some v → v.level < d → resumed_from rows rest e (oldest (suc d) as) ≡ resumed_from rows (Some v.rest) e (oldest (suc v.level) as)
+    resumed_further rest v f q k =
+        let n : length (oldest d as) ≡ d = oldest_count as d (omega arith) in
+        resumed_step rest f
+        ∙ (ap (λ o. resumed rows o e (oldest d as)) q
+        ∙ (further v (oldest d as) (omega arith) ∙ ap (resumed_from rows (Some v.rest) e) (oldest_again as (suc v.level) d (omega arith) (omega arith))))
+
+    pub resumed_nowhere : (rest : Option ℕ) (v : Visited) → resumption_in rows rest e (at_depth as d) ≡ None → handles_in (at_depth as d) ≡ Some v → d ≤ v.level → resumed_from rows rest e (oldest (suc d) as) ≡ Nowhere
+    resumed_nowhere rest v f q k =
+        let n : length (oldest d as) ≡ d = oldest_count as d (omega arith) in
+        resumed_step rest f ∙ (ap (λ o. resumed rows o e (oldest d as)) q ∙ nowhere v (oldest d as) (omega arith))
+
+  caught_found_by : (as : List Active) (d row : ℕ) (o : Option Active) → at_depth as d ≡ o → catch_in rows e o ≡ Some row → caught rows e (oldest (suc d) as) ≡ Handler d row
+  caught_found_by as d row None q f = absurd (cc)
+  caught_found_by as d row (Some a) q f = caught_here as d row a q f
+
+  pub caught_found : (as : List Active) (d row : ℕ) → catch_in rows e (at_depth as d) ≡ Some row → caught rows e (oldest (suc d) as) ≡ Handler d row
+  caught_found as d row f = caught_found_by as d row (at_depth as d) refl f
+
+  resumed_found_by : (as : List Active) (d row : ℕ) (rest : Option ℕ) (o : Option Active) → at_depth as d ≡ o → resumption_in rows rest e o ≡ Some row → resumed_from rows rest e (oldest (suc d) as) ≡ Handler d row
+  resumed_found_by as d row None None q f = absurd (cc)
+  resumed_found_by as d row (Some n) None q f = absurd (cc)
+  resumed_found_by as d row rest (Some a) q f = resumed_here as d row rest a q f
+
+  pub resumed_found : (as : List Active) (d row : ℕ) (rest : Option ℕ) → resumption_in rows rest e (at_depth as d) ≡ Some row → resumed_from rows rest e (oldest (suc d) as) ≡ Handler d row
+  resumed_found as d row rest f = resumed_found_by as d row rest (at_depth as d) refl f
+
+  all_by : (as : List Active) → resumed_from rows None e as ≡ resumed rows None e as
+  all_by [] = refl
+  all_by (a ∷ as) = refl
+
+  pub resumed_all : (as : List Active) (k : ℕ) → length as ≤ k → resumed_from rows None e (oldest k as) ≡ resumed rows None e as
+  resumed_all as k l = ap (resumed_from rows None e) (oldest_all as k l) ∙ all_by as

@@ -1,1 +1,3 @@
+pub mod Handled
 pub mod Levels
+pub mod Seeks

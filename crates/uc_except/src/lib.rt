@@ -2,4 +2,6 @@
 #![tactic(auto)]
 
 pub mod found;
+pub mod handling;
 pub mod probe;
+pub mod seeking;

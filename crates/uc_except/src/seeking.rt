@@ -1,7 +1,12 @@
 // The search for the handler of an event.
 
-ghost use Rattle.std.specs.Prelude.{◌≡◌, ◌∷◌, None, if◌then◌else◌};
-ghost use Rattle.uc_code.specs.Laid.{chain};
+ghost use Rattle.std.specs.Prelude.{◌≡◌, ◌∷◌, List, None, true, if◌then◌else◌};
+ghost use Rattle.uc_meaning.specs.Quiet.{Active};
+ghost use Rattle.uc_meaning.specs.Raising.{Event, seek};
+ghost use Rattle.uc_code.specs.Laid.{chain, laid_of};
+ghost use Rattle.uc_frames.specs.Parts.{Lined};
+ghost use Rattle.uc_frames.specs.Unwound.{SearchStands};
+ghost use Rattle.uc_except.specs.Meeting.{FoundAs};
 ghost use Rattle.uc_frames.specs.declared.search.Sought.TheVariants as sought;
 ghost use Rattle.uc_frames.specs.Searches.{first_in};
 ghost use Rattle.uc_meaning.specs.Executions.{at_depth};
@@ -17,6 +22,15 @@ use uc_meaning::exec::Visited;
 /// catches it, from the innermost one outwards; where it is resumed, the first one that takes it so, and behind an activation that
 /// handles a resumption itself only such as the search for that one has not come to.
 pub fn propagate(code: &Code, work: &Work, event: u8, resume: bool) -> Found
+    ensures rows { result
+        ≡ (if resume then resumed code.now.rows None event (work.now.run ∷ work.now.callers) else caught code.now.rows event (work.now.run ∷ work.now.callers)) }
+    ensures source { resume ≡ true → (e : Event) (as : List Active) → e.number ≡ event → Lined (SearchStands (laid_of code.now)) (work.now.run ∷ work.now.callers) as → FoundAs (laid_of code.now) (work.now.run ∷ work.now.callers) result (seek None e as) }
+{
+    let found = search(code, work, event, resume);
+    found
+}
+
+fn search(code: &Code, work: &Work, event: u8, resume: bool) -> Found
     ensures { result
         ≡ (if resume then resumed code.now.rows None event (work.now.run ∷ work.now.callers) else caught code.now.rows event (work.now.run ∷ work.now.callers)) }
 {

@@ -1,3 +1,5 @@
+pub mod Cleaned
+pub mod Coming
 pub mod Depths
 pub mod Guards
 pub mod Named

@@ -1,3 +1,4 @@
+pub mod Comes
 pub mod Left
 pub mod Machine
 pub mod Numbered

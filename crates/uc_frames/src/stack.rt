@@ -4,7 +4,7 @@ ghost use Rattle.std.specs.Prelude.{◌≡◌, ◌∷◌, ◌-◌, ◌<◌, [], 
 ghost use Rattle.uc_meaning.specs.Executions.{at_depth, list_in, frame_changed, values_cleared, one_call_less, calmed};
 ghost use Rattle.uc_frames.specs.Machine.{nought, top, below, cell_written, first_execution, line_in, line_at};
 ghost use Rattle.uc_frames.specs.Left.{stack_left, stack_entered};
-ghost use Rattle.uc_frames.specs.Unwinding.{event_at, unwound_by, cleaning, catching, stack_passed, stack_handled};
+ghost use Rattle.uc_frames.specs.Unwinding.{IsCaller, event_at, unwound_by, cleaning, catching, stack_passed, stack_handled};
 ghost use Rattle.uc_tree.specs.declared.limits.TheConstants.{CALLS};
 
 use crate::active::Active;
@@ -18,7 +18,7 @@ use std::marker::Model;
 use std::mem;
 use uc_code::code::Code;
 use uc_code::rows::RoutineCode;
-use uc_meaning::exec::Reason;
+use uc_meaning::exec::{Reason, Visited};
 
 /// An execution: its newest activation, those that wait for it, its frames and its links. The lists of calls that have ended
 /// are kept, so that a call takes memory only where no call before it left enough.
@@ -307,6 +307,37 @@ impl Stack {
     {
         let event = self.running.pop_event();
         event
+    }
+
+    /// How far the search came, where the running activation handles a resumption.
+    pub fn handles(&self) -> Option<Visited>
+        ensures { result ≡ self.now.run.handles }
+    {
+        self.running.handles()
+    }
+
+    /// Why the running activation is unwound, if it is.
+    pub fn raised(&self) -> Option<Reason>
+        ensures { result ≡ self.now.run.raised }
+    {
+        self.running.raised()
+    }
+
+    /// What a return that unwinds the running activation hands over.
+    pub fn result(&self) -> Cell
+        ensures { result ≡ self.now.run.result }
+    {
+        self.running.result()
+    }
+
+    /// Whether an activation waits, and why it is unwound, if it is.
+    pub fn caller(&self) -> Option<Option<Reason>>
+        ensures { MatchOption result (self.now.callers ≡ []) (λ why. IsCaller why self.now.callers) }
+    {
+        match self.callers.last() {
+            None => None,
+            Some(caller) => Some(caller.raised()),
+        }
     }
 
     /// The running activation is unwound for this reason, from its place on; a return that arrives hands this over.

@@ -6,7 +6,7 @@ ghost use Rattle.uc_meaning.specs.Executions.{at_depth, list_in, frame_changed, 
 ghost use Rattle.uc_meaning.specs.Quiet.{with_piece};
 ghost use Rattle.uc_frames.specs.Machine.{nought, top, below, cell_written, first_machine, line_in, line_at};
 ghost use Rattle.uc_frames.specs.Left.{left, called};
-ghost use Rattle.uc_frames.specs.Unwinding.{event_at, unwound_by, cleaning, catching, passed, handled};
+ghost use Rattle.uc_frames.specs.Unwinding.{IsCaller, event_at, unwound_by, cleaning, catching, passed, handled};
 ghost use Rattle.uc_tree.specs.declared.limits.TheConstants.{CALLS};
 
 use crate::active::Active;
@@ -21,7 +21,7 @@ use std::alloc::{AllocError, Global};
 use std::marker::Model;
 use uc_code::code::Code;
 use uc_code::rows::RoutineCode;
-use uc_meaning::exec::{Exec, Home, Reason};
+use uc_meaning::exec::{Exec, Home, Reason, Visited};
 use uc_meaning::request::Piece;
 
 /// A task: the execution that runs, its own object, what is at home in it, its depth in each object, and the
@@ -225,6 +225,30 @@ impl Task {
     {
         let event = self.running.pop_event();
         event
+    }
+
+    pub(crate) fn handles(&self) -> Option<Visited>
+        ensures { result ≡ self.now.run.handles }
+    {
+        self.running.handles()
+    }
+
+    pub(crate) fn raised(&self) -> Option<Reason>
+        ensures { result ≡ self.now.run.raised }
+    {
+        self.running.raised()
+    }
+
+    pub(crate) fn result(&self) -> Cell
+        ensures { result ≡ self.now.run.result }
+    {
+        self.running.result()
+    }
+
+    pub(crate) fn caller(&self) -> Option<Option<Reason>>
+        ensures { MatchOption result (self.now.callers ≡ []) (λ why. IsCaller why self.now.callers) }
+    {
+        self.running.caller()
     }
 
     pub(crate) fn unwind(&mut self, why: Reason, given: Cell)

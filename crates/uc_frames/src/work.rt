@@ -6,7 +6,7 @@ ghost use Rattle.uc_meaning.specs.Executions.{at_depth, calmed, frame_changed, f
 ghost use Rattle.uc_meaning.specs.Quiet.{with_piece};
 ghost use Rattle.uc_frames.specs.Machine.{nought, top, below, cell_written, shifted, loaded, written, this_frame, cleared, with_hand, first_machine, line_in, line_at};
 ghost use Rattle.uc_frames.specs.Left.{left, called};
-ghost use Rattle.uc_frames.specs.Unwinding.{event_at, unwound_by, cleaning, catching, passed, handled};
+ghost use Rattle.uc_frames.specs.Unwinding.{IsCaller, event_at, unwound_by, cleaning, catching, passed, handled};
 ghost use Rattle.uc_tree.specs.declared.limits.TheConstants.{CALLS};
 
 use crate::active::Active;
@@ -22,7 +22,7 @@ use std::alloc::{AllocError, Global};
 use std::marker::Model;
 use uc_code::code::Code;
 use uc_code::rows::RoutineCode;
-use uc_meaning::exec::{Exec, Home, Owner, Reason};
+use uc_meaning::exec::{Exec, Home, Owner, Reason, Visited};
 use uc_meaning::list::List;
 use uc_meaning::request::Piece;
 
@@ -167,6 +167,34 @@ impl Work {
     {
         let event = self.task.pop_event();
         event
+    }
+
+    /// How far the search came, where the running activation handles a resumption.
+    pub fn handles(&self) -> Option<Visited>
+        ensures { result ≡ self.now.run.handles }
+    {
+        self.task.handles()
+    }
+
+    /// Why the running activation is unwound, if it is.
+    pub fn raised(&self) -> Option<Reason>
+        ensures { result ≡ self.now.run.raised }
+    {
+        self.task.raised()
+    }
+
+    /// What a return that unwinds the running activation hands over.
+    pub fn result(&self) -> Cell
+        ensures { result ≡ self.now.run.result }
+    {
+        self.task.result()
+    }
+
+    /// Whether an activation waits, and why it is unwound, if it is.
+    pub fn caller(&self) -> Option<Option<Reason>>
+        ensures { MatchOption result (self.now.callers ≡ []) (λ why. IsCaller why self.now.callers) }
+    {
+        self.task.caller()
     }
 
     /// The running activation is unwound for this reason, from its place on; a return that arrives hands this over.

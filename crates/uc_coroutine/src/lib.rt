@@ -1,0 +1,5 @@
+// The unwinding of executions.
+#![tactic(auto)]
+
+pub mod leaving;
+pub mod unwinding;

@@ -1,0 +1,18 @@
+use Rattle.std.proofs.Common.{◌≡◌, ◌∷◌, List, None, true, ap, sym, subst, ◌∙◌}
+use Rattle.std.specs.Prelude.{if◌then◌else◌}
+use Rattle.uc_meaning.specs.Raising.{seek}
+use Rattle.uc_code.specs.Laid.{laid_of}
+use Rattle.uc_except.specs.declared.found.Found.{Found}
+use Rattle.uc_except.specs.Finding.{resumed, caught}
+use Rattle.uc_except.specs.Meeting.{FoundAs}
+use Rattle.uc_except.proofs.Seeks.{seeks}
+use Rattle.uc_except.proofs.seeking.propagate.Goals as goal
+
+pub returns-clause-source : goal.returns-clause-source
+returns-clause-source c =
+    λ yes e cs n h.
+    let as = c.args.work.now.run ∷ c.args.work.now.callers in
+    let rows = c.args.code.now.rows in
+    let f : c.search-found.result ≡ resumed rows None e.number as =
+    c.search-found.ensures ∙ (ap (λ b. if b then resumed rows None c.args.event as else caught rows c.args.event as) yes ∙ ap (λ k. resumed rows None k as) (sym n)) in
+    subst (λ x. FoundAs (laid_of c.args.code.now) as x (seek None e cs)) (sym f) (seeks (laid_of c.args.code.now) None e as cs h)
