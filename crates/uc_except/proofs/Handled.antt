@@ -65,8 +65,8 @@ module _ (source : Source) (code : Laid) where
       abbrev searched : quiet.Active
       searched = record s.run { control = h.rest }
 
-      abbrev as : List Active
-      as = old.run ∷ old.callers
+      abbrev acts : List Active
+      acts = old.run ∷ old.callers
 
       caller_search : (m : Active) (c : quiet.Active) → CallerStands code m c → SearchStands code m c
       caller_search m c k = record {
@@ -90,7 +90,7 @@ module _ (source : Source) (code : Laid) where
         handles = ap (λ (a : Active). a.handles) h.run.stands.is;
       }
 
-      all_search : Lined (SearchStands code) as (searched ∷ s.callers)
+      all_search : Lined (SearchStands code) acts (searched ∷ s.callers)
       all_search = (run_search, callers_search old.callers s.callers h.callers)
 
       step_is : step source s ≡ handle_step (seek None e (searched ∷ s.callers)) e h.rest s
@@ -99,7 +99,7 @@ module _ (source : Source) (code : Laid) where
       frames_more : (fs : List (List quiet.Value)) (gs : List (List Cell)) → gs ≡ map (map cell_of) fs → ([] ∷ gs) ≡ map (map cell_of) ([] ∷ fs)
       frames_more fs gs q = ap (λ g. [] ∷ g) q
 
-      begins : (frame row : ℕ) (f : Sought) → Meets code as frame row f → step source s ≡ handle_step (Some f) e h.rest s → new ≡ handler_begun code.rows (At frame row) (event_of e) old → GoesOn source code new s
+      begins : (frame row : ℕ) (f : Sought) → Meets code acts frame row f → step source s ≡ handle_step (Some f) e h.rest s → new ≡ handler_begun code.rows (At frame row) (event_of e) old → GoesOn source code new s
       begins frame row f k w q =
           let g = k.resumes in
           let d = g.handler in
@@ -135,12 +135,12 @@ module _ (source : Source) (code : Laid) where
             env = c;
           }) }
 
-      by_found : (x : Found) (y : Option Sought) → FoundAs code as x y → IsFound x → step source s ≡ handle_step y e h.rest s → new ≡ handler_begun code.rows x (event_of e) old → GoesOn source code new s
+      by_found : (x : Found) (y : Option Sought) → FoundAs code acts x y → IsFound x → step source s ≡ handle_step y e h.rest s → new ≡ handler_begun code.rows x (event_of e) old → GoesOn source code new s
       by_found Nowhere None m f w q = absurd f
       by_found Nowhere (Some y) m f w q = absurd f
       by_found (At frame row) None m f w q = absurd m
       by_found (At frame row) (Some y) m f w q = begins frame row y m w q
 
-      pub resumes_now : (x : Found) → IsFound x → x ≡ resumed code.rows None e.number as → new ≡ handler_begun code.rows x (event_of e) old → GoesOn source code new s
+      pub resumes_now : (x : Found) → IsFound x → x ≡ resumed code.rows None e.number acts → new ≡ handler_begun code.rows x (event_of e) old → GoesOn source code new s
       resumes_now x f i q =
-          by_found x (seek None e (searched ∷ s.callers)) (subst (λ z. FoundAs code as z (seek None e (searched ∷ s.callers))) (sym i) (seeks code None e as (searched ∷ s.callers) all_search)) f step_is q
+          by_found x (seek None e (searched ∷ s.callers)) (subst (λ z. FoundAs code acts z (seek None e (searched ∷ s.callers))) (sym i) (seeks code None e acts (searched ∷ s.callers) all_search)) f step_is q

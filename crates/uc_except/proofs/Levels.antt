@@ -82,109 +82,109 @@ module _ {X : Type 0} where
 
 module _ (rows : List HandlerRow) (e : ℕ) where
   -- the first ones that catch an event
-  pub caught_here : (as : List Active) (d row : ℕ) (a : Active) → at_depth as d ≡ Some a → catch_in rows e (Some a) ≡ Some row → caught rows e (oldest (suc d) as) ≡ Handler d row
-  caught_here as d row a h f =
-      let l = depth_within as d a h in
-      let n : length (oldest d as) ≡ d = oldest_count as d (omega arith) in
-      ap (caught rows e) (here as d a h) ∙ (ap (λ o. found_at o (length (oldest d as)) (caught rows e (oldest d as))) f ∙ ap (λ z. Handler z row) n)
+  pub caught_here : (acts : List Active) (d row : ℕ) (a : Active) → at_depth acts d ≡ Some a → catch_in rows e (Some a) ≡ Some row → caught rows e (oldest (suc d) acts) ≡ Handler d row
+  caught_here acts d row a h f =
+      let l = depth_within acts d a h in
+      let n : length (oldest d acts) ≡ d = oldest_count acts d (omega arith) in
+      ap (caught rows e) (here acts d a h) ∙ (ap (λ o. found_at o (length (oldest d acts)) (caught rows e (oldest d acts))) f ∙ ap (λ z. Handler z row) n)
 
-  pub caught_on : (as : List Active) (d : ℕ) (a : Active) → at_depth as d ≡ Some a → catch_in rows e (Some a) ≡ None → caught rows e (oldest (suc d) as) ≡ caught rows e (oldest d as)
-  caught_on as d a h f =
-      ap (caught rows e) (here as d a h) ∙ ap (λ o. found_at o (length (oldest d as)) (caught rows e (oldest d as))) f
+  pub caught_on : (acts : List Active) (d : ℕ) (a : Active) → at_depth acts d ≡ Some a → catch_in rows e (Some a) ≡ None → caught rows e (oldest (suc d) acts) ≡ caught rows e (oldest d acts)
+  caught_on acts d a h f =
+      ap (caught rows e) (here acts d a h) ∙ ap (λ o. found_at o (length (oldest d acts)) (caught rows e (oldest d acts))) f
 
   -- resumptions
-  from_by : (rest : Option ℕ) (a : Active) (as : List Active) → resumed_from rows rest e (a ∷ as) ≡ found_at (resumption_in rows rest e (Some a)) (length as) (resumed rows a.handles e as)
-  from_by None a as = refl
-  from_by (Some r) a as = refl
+  from_by : (rest : Option ℕ) (a : Active) (acts : List Active) → resumed_from rows rest e (a ∷ acts) ≡ found_at (resumption_in rows rest e (Some a)) (length acts) (resumed rows a.handles e acts)
+  from_by None a acts = refl
+  from_by (Some r) a acts = refl
 
-  pub resumed_here : (as : List Active) (d row : ℕ) (rest : Option ℕ) (a : Active) → at_depth as d ≡ Some a → resumption_in rows rest e (Some a) ≡ Some row → resumed_from rows rest e (oldest (suc d) as) ≡ Handler d row
-  resumed_here as d row rest a h f =
-      let l = depth_within as d a h in
-      let n : length (oldest d as) ≡ d = oldest_count as d (omega arith) in
-      ap (resumed_from rows rest e) (here as d a h) ∙ (from_by rest a (oldest d as) ∙ (ap (λ o. found_at o (length (oldest d as)) (resumed rows a.handles e (oldest d as))) f ∙ ap (λ z. Handler z row) n))
+  pub resumed_here : (acts : List Active) (d row : ℕ) (rest : Option ℕ) (a : Active) → at_depth acts d ≡ Some a → resumption_in rows rest e (Some a) ≡ Some row → resumed_from rows rest e (oldest (suc d) acts) ≡ Handler d row
+  resumed_here acts d row rest a h f =
+      let l = depth_within acts d a h in
+      let n : length (oldest d acts) ≡ d = oldest_count acts d (omega arith) in
+      ap (resumed_from rows rest e) (here acts d a h) ∙ (from_by rest a (oldest d acts) ∙ (ap (λ o. found_at o (length (oldest d acts)) (resumed rows a.handles e (oldest d acts))) f ∙ ap (λ z. Handler z row) n))
 
-  pub resumed_on : (as : List Active) (d : ℕ) (rest : Option ℕ) (a : Active) → at_depth as d ≡ Some a → resumption_in rows rest e (Some a) ≡ None → resumed_from rows rest e (oldest (suc d) as) ≡ resumed rows a.handles e (oldest d as)
-  resumed_on as d rest a h f =
-      ap (resumed_from rows rest e) (here as d a h) ∙ (from_by rest a (oldest d as) ∙ ap (λ o. found_at o (length (oldest d as)) (resumed rows a.handles e (oldest d as))) f)
+  pub resumed_on : (acts : List Active) (d : ℕ) (rest : Option ℕ) (a : Active) → at_depth acts d ≡ Some a → resumption_in rows rest e (Some a) ≡ None → resumed_from rows rest e (oldest (suc d) acts) ≡ resumed rows a.handles e (oldest d acts)
+  resumed_on acts d rest a h f =
+      ap (resumed_from rows rest e) (here acts d a h) ∙ (from_by rest a (oldest d acts) ∙ ap (λ o. found_at o (length (oldest d acts)) (resumed rows a.handles e (oldest d acts))) f)
 
   -- behind an activation that handles a resumption the search goes on at one level
-  further_by : (b : Bool) (v : Visited) (a : Active) (as : List Active) → nat_eq (length as) v.level ≡ b → (v.level < length as → resumed rows (Some v) e as ≡ resumed_from rows (Some v.rest) e (oldest (suc v.level) as)) → v.level < suc (length as) → resumed rows (Some v) e (a ∷ as) ≡ resumed_from rows (Some v.rest) e (oldest (suc v.level) (a ∷ as))
-  further_by true v a as q f l =
-      let n : length as ≡ v.level = grind (arith, q) in
-      let o : oldest (suc v.level) (a ∷ as) ≡ a ∷ as = oldest_all (a ∷ as) (suc v.level) (omega arith) in
+  further_by : (b : Bool) (v : Visited) (a : Active) (acts : List Active) → nat_eq (length acts) v.level ≡ b → (v.level < length acts → resumed rows (Some v) e acts ≡ resumed_from rows (Some v.rest) e (oldest (suc v.level) acts)) → v.level < suc (length acts) → resumed rows (Some v) e (a ∷ acts) ≡ resumed_from rows (Some v.rest) e (oldest (suc v.level) (a ∷ acts))
+  further_by true v a acts q f l =
+      let n : length acts ≡ v.level = grind (arith, q) in
+      let o : oldest (suc v.level) (a ∷ acts) ≡ a ∷ acts = oldest_all (a ∷ acts) (suc v.level) (omega arith) in
       rw (q, o) refl
-  further_by false v a as q f l =
-      let n : length as ≡ v.level → ⊥ = λ h. let t : nat_eq (length as) v.level ≡ true = eq-eqb (length as) v.level h in absurd (cc) in
-      let k : v.level < length as = grind (arith, n) in
-      let o : oldest (suc v.level) (a ∷ as) ≡ oldest (suc v.level) as = oldest_past a as (suc v.level) (omega arith) in
+  further_by false v a acts q f l =
+      let n : length acts ≡ v.level → ⊥ = λ h. let t : nat_eq (length acts) v.level ≡ true = eq-eqb (length acts) v.level h in absurd (cc) in
+      let k : v.level < length acts = grind (arith, n) in
+      let o : oldest (suc v.level) (a ∷ acts) ≡ oldest (suc v.level) acts = oldest_past a acts (suc v.level) (omega arith) in
       rw (q, o) (f k)
 
-  pub further : (v : Visited) (as : List Active) → v.level < length as → resumed rows (Some v) e as ≡ resumed_from rows (Some v.rest) e (oldest (suc v.level) as)
+  pub further : (v : Visited) (acts : List Active) → v.level < length acts → resumed rows (Some v) e acts ≡ resumed_from rows (Some v.rest) e (oldest (suc v.level) acts)
   further v [] l = absurd (omega arith)
-  further v (a ∷ as) l = further_by (nat_eq (length as) v.level) v a as refl (further v as) l
+  further v (a ∷ acts) l = further_by (nat_eq (length acts) v.level) v a acts refl (further v acts) l
 
-  nowhere_by : (b : Bool) (v : Visited) (a : Active) (as : List Active) → nat_eq (length as) v.level ≡ b → suc (length as) ≤ v.level → resumed rows (Some v) e as ≡ Nowhere → resumed rows (Some v) e (a ∷ as) ≡ Nowhere
-  nowhere_by true v a as q l f = let n : length as ≡ v.level = grind (arith, q) in absurd (omega arith)
-  nowhere_by false v a as q l f = rw q f
+  nowhere_by : (b : Bool) (v : Visited) (a : Active) (acts : List Active) → nat_eq (length acts) v.level ≡ b → suc (length acts) ≤ v.level → resumed rows (Some v) e acts ≡ Nowhere → resumed rows (Some v) e (a ∷ acts) ≡ Nowhere
+  nowhere_by true v a acts q l f = let n : length acts ≡ v.level = grind (arith, q) in absurd (omega arith)
+  nowhere_by false v a acts q l f = rw q f
 
-  pub nowhere : (v : Visited) (as : List Active) → length as ≤ v.level → resumed rows (Some v) e as ≡ Nowhere
+  pub nowhere : (v : Visited) (acts : List Active) → length acts ≤ v.level → resumed rows (Some v) e acts ≡ Nowhere
   nowhere v [] l = refl
-  nowhere v (a ∷ as) l = nowhere_by (nat_eq (length as) v.level) v a as refl l (nowhere v as (omega arith))
+  nowhere v (a ∷ acts) l = nowhere_by (nat_eq (length acts) v.level) v a acts refl l (nowhere v acts (omega arith))
 
   -- the steps of the loops
 
-  module _ (as : List Active) (d : ℕ) (l : d < length as) where
-    caught_step_by : (o : Option Active) → at_depth as d ≡ o → catch_in rows e o ≡ None → caught rows e (oldest (suc d) as) ≡ caught rows e (oldest d as)
-    caught_step_by None q f = let k = depth_none as d q in absurd (omega arith)
-    caught_step_by (Some a) q f = caught_on as d a q f
+  module _ (acts : List Active) (d : ℕ) (l : d < length acts) where
+    caught_step_by : (o : Option Active) → at_depth acts d ≡ o → catch_in rows e o ≡ None → caught rows e (oldest (suc d) acts) ≡ caught rows e (oldest d acts)
+    caught_step_by None q f = let k = depth_none acts d q in absurd (omega arith)
+    caught_step_by (Some a) q f = caught_on acts d a q f
 
-    pub caught_step : catch_in rows e (at_depth as d) ≡ None → caught rows e (oldest (suc d) as) ≡ caught rows e (oldest d as)
-    caught_step f = caught_step_by (at_depth as d) refl f
+    pub caught_step : catch_in rows e (at_depth acts d) ≡ None → caught rows e (oldest (suc d) acts) ≡ caught rows e (oldest d acts)
+    caught_step f = caught_step_by (at_depth acts d) refl f
 
     from_none : (xs : List Active) → resumed rows None e xs ≡ resumed_from rows None e xs
     from_none [] = refl
     from_none (x ∷ xs) = refl
 
-    resumed_step_by : (o : Option Active) (rest : Option ℕ) → at_depth as d ≡ o → resumption_in rows rest e o ≡ None → resumed_from rows rest e (oldest (suc d) as) ≡ resumed rows (handles_in o) e (oldest d as)
-    resumed_step_by None rest q f = let k = depth_none as d q in absurd (omega arith)
-    resumed_step_by (Some a) rest q f = resumed_on as d rest a q f
+    resumed_step_by : (o : Option Active) (rest : Option ℕ) → at_depth acts d ≡ o → resumption_in rows rest e o ≡ None → resumed_from rows rest e (oldest (suc d) acts) ≡ resumed rows (handles_in o) e (oldest d acts)
+    resumed_step_by None rest q f = let k = depth_none acts d q in absurd (omega arith)
+    resumed_step_by (Some a) rest q f = resumed_on acts d rest a q f
 
-    resumed_step : (rest : Option ℕ) → resumption_in rows rest e (at_depth as d) ≡ None → resumed_from rows rest e (oldest (suc d) as) ≡ resumed rows (handles_in (at_depth as d)) e (oldest d as)
-    resumed_step rest f = resumed_step_by (at_depth as d) rest refl f
+    resumed_step : (rest : Option ℕ) → resumption_in rows rest e (at_depth acts d) ≡ None → resumed_from rows rest e (oldest (suc d) acts) ≡ resumed rows (handles_in (at_depth acts d)) e (oldest d acts)
+    resumed_step rest f = resumed_step_by (at_depth acts d) rest refl f
 
-    pub resumed_past : (rest : Option ℕ) → resumption_in rows rest e (at_depth as d) ≡ None → handles_in (at_depth as d) ≡ None → resumed_from rows rest e (oldest (suc d) as) ≡ resumed_from rows None e (oldest d as)
-    resumed_past rest f q = resumed_step rest f ∙ (ap (λ o. resumed rows o e (oldest d as)) q ∙ from_none (oldest d as))
+    pub resumed_past : (rest : Option ℕ) → resumption_in rows rest e (at_depth acts d) ≡ None → handles_in (at_depth acts d) ≡ None → resumed_from rows rest e (oldest (suc d) acts) ≡ resumed_from rows None e (oldest d acts)
+    resumed_past rest f q = resumed_step rest f ∙ (ap (λ o. resumed rows o e (oldest d acts)) q ∙ from_none (oldest d acts))
 
-    pub resumed_further : (rest : Option ℕ) (v : Visited) → resumption_in rows rest e (at_depth as d) ≡ None → handles_in (at_depth as d) ≡ Some v → v.level < d → resumed_from rows rest e (oldest (suc d) as) ≡ resumed_from rows (Some v.rest) e (oldest (suc v.level) as)
+    pub resumed_further : (rest : Option ℕ) (v : Visited) → resumption_in rows rest e (at_depth acts d) ≡ None → handles_in (at_depth acts d) ≡ Some v → v.level < d → resumed_from rows rest e (oldest (suc d) acts) ≡ resumed_from rows (Some v.rest) e (oldest (suc v.level) acts)
     resumed_further rest v f q k =
-        let n : length (oldest d as) ≡ d = oldest_count as d (omega arith) in
+        let n : length (oldest d acts) ≡ d = oldest_count acts d (omega arith) in
         resumed_step rest f
-        ∙ (ap (λ o. resumed rows o e (oldest d as)) q
-        ∙ (further v (oldest d as) (omega arith) ∙ ap (resumed_from rows (Some v.rest) e) (oldest_again as (suc v.level) d (omega arith) (omega arith))))
+        ∙ (ap (λ o. resumed rows o e (oldest d acts)) q
+        ∙ (further v (oldest d acts) (omega arith) ∙ ap (resumed_from rows (Some v.rest) e) (oldest_again acts (suc v.level) d (omega arith) (omega arith))))
 
-    pub resumed_nowhere : (rest : Option ℕ) (v : Visited) → resumption_in rows rest e (at_depth as d) ≡ None → handles_in (at_depth as d) ≡ Some v → d ≤ v.level → resumed_from rows rest e (oldest (suc d) as) ≡ Nowhere
+    pub resumed_nowhere : (rest : Option ℕ) (v : Visited) → resumption_in rows rest e (at_depth acts d) ≡ None → handles_in (at_depth acts d) ≡ Some v → d ≤ v.level → resumed_from rows rest e (oldest (suc d) acts) ≡ Nowhere
     resumed_nowhere rest v f q k =
-        let n : length (oldest d as) ≡ d = oldest_count as d (omega arith) in
-        resumed_step rest f ∙ (ap (λ o. resumed rows o e (oldest d as)) q ∙ nowhere v (oldest d as) (omega arith))
+        let n : length (oldest d acts) ≡ d = oldest_count acts d (omega arith) in
+        resumed_step rest f ∙ (ap (λ o. resumed rows o e (oldest d acts)) q ∙ nowhere v (oldest d acts) (omega arith))
 
-  caught_found_by : (as : List Active) (d row : ℕ) (o : Option Active) → at_depth as d ≡ o → catch_in rows e o ≡ Some row → caught rows e (oldest (suc d) as) ≡ Handler d row
-  caught_found_by as d row None q f = absurd (cc)
-  caught_found_by as d row (Some a) q f = caught_here as d row a q f
+  caught_found_by : (acts : List Active) (d row : ℕ) (o : Option Active) → at_depth acts d ≡ o → catch_in rows e o ≡ Some row → caught rows e (oldest (suc d) acts) ≡ Handler d row
+  caught_found_by acts d row None q f = absurd (cc)
+  caught_found_by acts d row (Some a) q f = caught_here acts d row a q f
 
-  pub caught_found : (as : List Active) (d row : ℕ) → catch_in rows e (at_depth as d) ≡ Some row → caught rows e (oldest (suc d) as) ≡ Handler d row
-  caught_found as d row f = caught_found_by as d row (at_depth as d) refl f
+  pub caught_found : (acts : List Active) (d row : ℕ) → catch_in rows e (at_depth acts d) ≡ Some row → caught rows e (oldest (suc d) acts) ≡ Handler d row
+  caught_found acts d row f = caught_found_by acts d row (at_depth acts d) refl f
 
-  resumed_found_by : (as : List Active) (d row : ℕ) (rest : Option ℕ) (o : Option Active) → at_depth as d ≡ o → resumption_in rows rest e o ≡ Some row → resumed_from rows rest e (oldest (suc d) as) ≡ Handler d row
-  resumed_found_by as d row None None q f = absurd (cc)
-  resumed_found_by as d row (Some n) None q f = absurd (cc)
-  resumed_found_by as d row rest (Some a) q f = resumed_here as d row rest a q f
+  resumed_found_by : (acts : List Active) (d row : ℕ) (rest : Option ℕ) (o : Option Active) → at_depth acts d ≡ o → resumption_in rows rest e o ≡ Some row → resumed_from rows rest e (oldest (suc d) acts) ≡ Handler d row
+  resumed_found_by acts d row None None q f = absurd (cc)
+  resumed_found_by acts d row (Some n) None q f = absurd (cc)
+  resumed_found_by acts d row rest (Some a) q f = resumed_here acts d row rest a q f
 
-  pub resumed_found : (as : List Active) (d row : ℕ) (rest : Option ℕ) → resumption_in rows rest e (at_depth as d) ≡ Some row → resumed_from rows rest e (oldest (suc d) as) ≡ Handler d row
-  resumed_found as d row rest f = resumed_found_by as d row rest (at_depth as d) refl f
+  pub resumed_found : (acts : List Active) (d row : ℕ) (rest : Option ℕ) → resumption_in rows rest e (at_depth acts d) ≡ Some row → resumed_from rows rest e (oldest (suc d) acts) ≡ Handler d row
+  resumed_found acts d row rest f = resumed_found_by acts d row rest (at_depth acts d) refl f
 
-  all_by : (as : List Active) → resumed_from rows None e as ≡ resumed rows None e as
+  all_by : (acts : List Active) → resumed_from rows None e acts ≡ resumed rows None e acts
   all_by [] = refl
-  all_by (a ∷ as) = refl
+  all_by (a ∷ acts) = refl
 
-  pub resumed_all : (as : List Active) (k : ℕ) → length as ≤ k → resumed_from rows None e (oldest k as) ≡ resumed rows None e as
-  resumed_all as k l = ap (resumed_from rows None e) (oldest_all as k l) ∙ all_by as
+  pub resumed_all : (acts : List Active) (k : ℕ) → length acts ≤ k → resumed_from rows None e (oldest k acts) ≡ resumed rows None e acts
+  resumed_all acts k l = ap (resumed_from rows None e) (oldest_all acts k l) ∙ all_by acts

@@ -231,18 +231,18 @@ module _ (code : Laid) where
   lengths (m ∷ ms) [] h = absurd h
   lengths (m ∷ ms) (c ∷ cs) h = ap suc (lengths ms cs h.1)
 
-  further_there : (a x : Active) (as : List Active) (d : ℕ) → at_depth as d ≡ Some x → at_depth (a ∷ as) d ≡ Some x
-  further_there a x as d q =
-      let l = depth_within as d x q in
-      let n : d ≡ length as → ⊥ = λ z. omega arith in
-      let t : nat_eq d (length as) ≡ false = ne_eqb d (length as) n in
+  further_there : (a x : Active) (acts : List Active) (d : ℕ) → at_depth acts d ≡ Some x → at_depth (a ∷ acts) d ≡ Some x
+  further_there a x acts d q =
+      let l = depth_within acts d x q in
+      let n : d ≡ length acts → ⊥ = λ z. omega arith in
+      let t : nat_eq d (length acts) ≡ false = ne_eqb d (length acts) n in
       rw t q
 
-  further_by : (a : Active) (as : List Active) (x : Found) (q : Option Sought) → FoundAs code as x q → FoundAs code (a ∷ as) x q
-  further_by a as Nowhere None h = tt
-  further_by a as Nowhere (Some f) h = absurd h
-  further_by a as (At frame row) None h = absurd h
-  further_by a as (At frame row) (Some f) h = record { level = h.level; resumes = h.resumes; active = h.active; there = further_there a h.active as frame h.there; this = h.this; variables = h.variables; home = h.home }
+  further_by : (a : Active) (acts : List Active) (x : Found) (q : Option Sought) → FoundAs code acts x q → FoundAs code (a ∷ acts) x q
+  further_by a acts Nowhere None h = tt
+  further_by a acts Nowhere (Some f) h = absurd h
+  further_by a acts (At frame row) None h = absurd h
+  further_by a acts (At frame row) (Some f) h = record { level = h.level; resumes = h.resumes; active = h.active; there = further_there a h.active acts frame h.there; this = h.this; variables = h.variables; home = h.home }
 
   looks : (o : Option ℕ) (q : Option Hit) (m : Active) (c : quiet.Active) (ms : List Active) (cs : List quiet.Active) (x : Found) (y : Option Sought) → Hits code o q → SearchStands code m c → length ms ≡ length cs → FoundAs code ms x y → FoundAs code (m ∷ ms) (found_at o (length ms) x) (found_or q c cs y)
   looks None None m c ms cs x y h k n f = further_by m ms x y f
@@ -258,9 +258,9 @@ module _ (code : Laid) where
     home = ap (λ o. home_of o (length cs)) (sym k.handles) ∙ ap (λ l. home_of m.handles l) (sym n);
   }
 
-  either : (b : Bool) (as : List Active) (x w : Found) (y z : Option Sought) → FoundAs code as x y → FoundAs code as w z → FoundAs code as (if b then x else w) (if b then y else z)
-  either true as x w y z f g = f
-  either false as x w y z f g = g
+  either : (b : Bool) (acts : List Active) (x w : Found) (y z : Option Sought) → FoundAs code acts x y → FoundAs code acts w z → FoundAs code acts (if b then x else w) (if b then y else z)
+  either true acts x w y z f g = f
+  either false acts x w y z f g = g
 
   pub seeks : (o : Option Visited) (e : Event) (ms : List Active) (cs : List quiet.Active) → Lined (SearchStands code) ms cs → FoundAs code ms (resumed code.rows o e.number ms) (seek o e cs)
   seeks None e [] [] h = tt

@@ -29,17 +29,17 @@ module _ (code : Laid) where
   Hits (Some row) (Some h) = ResumesAt row h.rest h.handler
 
   -- what is found among activations
-  pub record Meets (as : List Active) (frame row : ℕ) (f : Sought) : Type 0 where
+  pub record Meets (acts : List Active) (frame row : ℕ) (f : Sought) : Type 0 where
     pub level : f.visited.level ≡ frame
     pub resumes : ResumesAt row f.visited.rest f.handler
     pub active : Active
-    pub there : at_depth as frame ≡ Some active
+    pub there : at_depth acts frame ≡ Some active
     pub this : active.this ≡ cell_of f.this
     pub variables : active.frame ≡ f.frame
     pub home : f.visited.home ≡ home_of active.handles frame
 
   abbrev pub FoundAs : List Active → Found → Option Sought → Type 0
-  FoundAs as Nowhere None = Unit {0}
-  FoundAs as Nowhere (Some f) = ⊥
-  FoundAs as (At frame row) None = ⊥
-  FoundAs as (At frame row) (Some f) = Meets as frame row f
+  FoundAs acts Nowhere None = Unit {0}
+  FoundAs acts Nowhere (Some f) = ⊥
+  FoundAs acts (At frame row) None = ⊥
+  FoundAs acts (At frame row) (Some f) = Meets acts frame row f

@@ -24,7 +24,7 @@ use uc_meaning::exec::Visited;
 pub fn propagate(code: &Code, work: &Work, event: u8, resume: bool) -> Found
     ensures rows { result
         ≡ (if resume then resumed code.now.rows None event (work.now.run ∷ work.now.callers) else caught code.now.rows event (work.now.run ∷ work.now.callers)) }
-    ensures source { resume ≡ true → (e : Event) (as : List Active) → e.number ≡ event → Lined (SearchStands (laid_of code.now)) (work.now.run ∷ work.now.callers) as → FoundAs (laid_of code.now) (work.now.run ∷ work.now.callers) result (seek None e as) }
+    ensures source { resume ≡ true → (e : Event) (acts : List Active) → e.number ≡ event → Lined (SearchStands (laid_of code.now)) (work.now.run ∷ work.now.callers) acts → FoundAs (laid_of code.now) (work.now.run ∷ work.now.callers) result (seek None e acts) }
 {
     let found = search(code, work, event, resume);
     found

@@ -1,4 +1,8 @@
-use Rattle.std.proofs.Common.{◌≡◌, ◌∷◌, Some, ap, sym, subst, ◌∙◌}
-use Rattle.uc_code.specs.Laid.{laid_of}
-use Rattle.uc_except.proofs.Handled.{catches_now, resumes_now}
+use Rattle.std.proofs.Common.{refl}
 use Rattle.uc_except.proofs.handling.handle.Goals as goal
+
+pub returns-clause-resumed : goal.returns-clause-resumed
+returns-clause-resumed c = ?
+
+pub returns-clause-caught : goal.returns-clause-caught
+returns-clause-caught c = ?

@@ -11,8 +11,8 @@ use Rattle.uc_except.proofs.seeking.propagate.Goals as goal
 pub returns-clause-source : goal.returns-clause-source
 returns-clause-source c =
     λ yes e cs n h.
-    let as = c.args.work.now.run ∷ c.args.work.now.callers in
+    let acts = c.args.work.now.run ∷ c.args.work.now.callers in
     let rows = c.args.code.now.rows in
-    let f : c.search-found.result ≡ resumed rows None e.number as =
-    c.search-found.ensures ∙ (ap (λ b. if b then resumed rows None c.args.event as else caught rows c.args.event as) yes ∙ ap (λ k. resumed rows None k as) (sym n)) in
-    subst (λ x. FoundAs (laid_of c.args.code.now) as x (seek None e cs)) (sym f) (seeks (laid_of c.args.code.now) None e as cs h)
+    let f : c.search-found.result ≡ resumed rows None e.number acts =
+    c.search-found.ensures ∙ (ap (λ b. if b then resumed rows None c.args.event acts else caught rows c.args.event acts) yes ∙ ap (λ k. resumed rows None k acts) (sym n)) in
+    subst (λ x. FoundAs (laid_of c.args.code.now) acts x (seek None e cs)) (sym f) (seeks (laid_of c.args.code.now) None e acts cs h)
