@@ -58,7 +58,7 @@ kept_but a b c given l h k = record {
 
 -- a piece that stands where one row has got its handler
 pub but_same : (old new : Laid) (given a z : ℕ) → z ≤ length old.ops → KeptBut given old new → Same old new a z
-but_same old new given a z l k = record { same = λ i op line l m o. k.same i op line o; chains = λ next l m. k.chains next (omega arith); handlers = k.handlers }
+but_same old new given a z b k = record { same = λ i op line l m o. k.same i op line o; chains = λ next l m. k.chains next (omega arith); handlers = k.handlers }
 
 pub nothing_stable : Stable (λ code. Nothing)
 nothing_stable = record {

@@ -1,6 +1,6 @@
 -- The code of the resolved tree: for each piece what its range of ops must hold. `line` is that of the innermost
 -- statement around the piece, and the marks are what stands around it in its routine, the innermost first.
-use Rattle.std.specs.Prelude.{◌≡◌, ℕ, suc, ◌+◌, ◌<◌, pos, List, [], ◌∷◌, Bool, true, false, Option, Some, None, length, map}
+use Rattle.std.specs.Prelude.{◌≡◌, ℕ, suc, ◌+◌, ◌<◌, max, slice_get, pos, List, [], ◌∷◌, Bool, true, false, Option, Some, None, length, map}
 use Rattle.uc_tree.specs.Source.{Shape, Integer, Character, Truth, Binding, Last, Field, Array, shape_cells, field_cells, Operator, Plus, Minus, Times, Over, Modulo, Equal, NotEqual, Less, AtMost, Greater, AtLeast, Expr, Literal, Variable, Element, Get, Load, Negated, Not, AsCharacter, AsTruth, Operate, And, Or, Set, Assign, First, Update, StepBehind, Fail, Call, OfObject, ObjectExpr, This, OwnField, GetOwn, FieldOf, Counted, CallOn, CallUnwritten, EnterOn, Wait, Signal, SignalBlock, IsEmpty, FrontOf, Exprs, NoExprs, MoreExprs, Item, Show, ShowText, Target, Declared, Stmt, Skip, Block, Whole, Evaluate, Declare, Print, PrintTogether, Read, If, Loop, Break, Continue, Return, Fill, OfEvents, OfTasks, EventStmt, Throw, Raise, Try, RaiseAt, Enable, Disable, Raised, Plainly, BuiltAt as BuildsAt, AgainFrom, Handlers, NoHandlers, MoreHandlers, CleanUp, Stmts, Nil, Then, Scoped, Built, Way, ToBreak, ToContinue, ToReturn, ToEnd, Purpose, TaskMain, Procedure, Function, Builder, Routine, Source}
 use Rattle.uc_code.specs.declared.op.Op.{Op}
 use Rattle.uc_code.specs.declared.op.Op.TheVariants as op
@@ -20,6 +20,7 @@ use Rattle.uc_code.specs.declared.rows.TheConstants.{ANY_EVENT}
 use Rattle.uc_code.specs.Laid.{Laid, laid_of, handlers}
 use Rattle.uc_code.specs.Ranges.{Nothing, Never, One, Risk, CallsBehind, Both, Fork, Turns, WholeAt, MainAt, Guarded, HandledAt, ApartAt, OverElements, ScopeOf, BehindPart}
 use Rattle.uc_code.specs.ObjectCalls.{Calls, Cleans}
+use Rattle.uc_code.specs.Silent.{silent_all}
 
 -- the op of an operator
 abbrev pub operator_op : Operator → Op
@@ -333,23 +334,26 @@ module _ (code : Laid) where
   BodyAt Function number line ss = Both (StmtsAt (mark.Body number ∷ []) line ss) (Both (One code op.NoReturn line) (One code op.Return 0))
   BodyAt Builder number line ss = Both (StmtsAt (mark.Body number ∷ []) 0 ss) (One code op.Return 0)
 
-  -- the code of the routine of this number: its body, and its end
-  pub record RoutineAt (number : ℕ) (routine : Routine) (begins : RoutineCode) (a z : ℕ) : Type 0 where
+  -- the code of the routine of this number: its body, and its end. Those with greater numbers than the last that is written, and than
+  -- its own, may be called from it without a tick.
+  pub record RoutineAt (last number : ℕ) (routine : Routine) (begins : RoutineCode) (a z : ℕ) : Type 0 where
     pub entry : begins.entry ≡ a
     pub cells : begins.cells ≡ routine.cells
     pub params : begins.params ≡ routine.params
-    pub body : BodyAt routine.purpose number routine.line routine.body a z
+    pub body : BodyAt routine.purpose (max number last) routine.line routine.body a z
 
   -- routines, from this number on, one after another
-  abbrev pub RoutinesAt : ℕ → List Routine → List RoutineCode → ℕ → ℕ → Type 0
-  RoutinesAt number [] [] = Nothing
-  RoutinesAt number [] (c ∷ cs) = λ a z. ⊥
-  RoutinesAt number (r ∷ rs) [] = λ a z. ⊥
-  RoutinesAt number (r ∷ rs) (c ∷ cs) = Both (RoutineAt number r c) (RoutinesAt (number + 1) rs cs)
+  abbrev pub RoutinesAt : ℕ → ℕ → List Routine → List RoutineCode → ℕ → ℕ → Type 0
+  RoutinesAt last number [] [] = Nothing
+  RoutinesAt last number [] (c ∷ cs) = λ a z. ⊥
+  RoutinesAt last number (r ∷ rs) [] = λ a z. ⊥
+  RoutinesAt last number (r ∷ rs) (c ∷ cs) = Both (RoutineAt last number r c) (RoutinesAt last (number + 1) rs cs)
 
--- the code of a program: its routines, and nothing else.
+-- the code of a program: its routines, and nothing else. Behind the last that is written stand those in which no event is raised.
 pub record Lowered (source : Source) (code : Code) : Type 0 where
-  pub routines : RoutinesAt (laid_of code) 0 source.routines code.routines 0 (length code.ops)
+  pub last : ℕ
+  pub routines : RoutinesAt (laid_of code) last 0 source.routines code.routines 0 (length code.ops)
+  pub silent : (k : ℕ) (r : Routine) → slice_get source.routines k ≡ Some r → last < k → silent_all r.body
   pub classes : code.classes ≡ map (λ c. c.cells) source.classes
   pub sites : code.sites ≡ source.sites
   pub texts : code.texts ≡ source.texts
