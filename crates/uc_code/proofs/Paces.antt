@@ -205,12 +205,12 @@ module _ (code : Laid) (table : List RoutineCode) (any : Bool) where
   no_silence : {X : Type 0} → any ≡ true → any ≡ false → X
   no_silence t e = let f : true ≡ false = sym t ∙ e in absurd (cc)
 
-  catches_paces : (ms : List Mark) (line cell : ℕ) (B : List Mark → ℕ → ℕ → Type 0) → ((ns : List Mark) → Paces ns (B ns)) → blocks.Handles code table any ms false (λ exit. Both (KeepsAt code line cell) (Both (B ms) (One code (op.Jump exit) line)))
+  catches_paces : (ms : List Mark) (line cell : ℕ) (B : List Mark → ℕ → ℕ → Type 0) → ((ns : List Mark) → Paces ns (B ns)) → blocks.Handles code table any ms false (λ pad. Both (KeepsAt code line cell) (Both (B ms) (One code (op.Jump pad) line)))
   catches_paces ms line cell B b =
       let k = blocks.catch_handles code table any ms line (B ms) (b ms) in
-      blocks.kept_handles code table any ms (KeepsAt code line cell) (λ exit. Both (B ms) (One code (op.Jump exit) line)) (keeps_paces ms line cell) k
+      blocks.kept_handles code table any ms (KeepsAt code line cell) (λ pad. Both (B ms) (One code (op.Jump pad) line)) (keeps_paces ms line cell) k
 
-  handler_handles : (resumes : Bool) (ms : List Mark) (line cell : ℕ) (B : List Mark → ℕ → ℕ → Type 0) → ((ns : List Mark) → Paces ns (B ns)) → blocks.Handles code table any ms resumes (λ exit. Both (KeepsAt code line cell) (HandlerBy code resumes ms exit line B))
+  handler_handles : (resumes : Bool) (ms : List Mark) (line cell : ℕ) (B : List Mark → ℕ → ℕ → Type 0) → ((ns : List Mark) → Paces ns (B ns)) → blocks.Handles code table any ms resumes (λ pad. Both (KeepsAt code line cell) (HandlerBy code resumes ms pad line B))
   handler_handles false ms line cell B b = catches_paces ms line cell B b
   handler_handles true ms line cell B b = blocks.apart_handles code table any ms line (KeepsAt code line cell) B (λ ns. keeps_paces ns line cell) b
 
@@ -239,15 +239,15 @@ module _ (code : Laid) (table : List RoutineCode) (any : Bool) where
     event_paces ms (Throw line r) t = both ms (raised_paces ms line r) (pacing.throw_paces code table any ms line)
     event_paces ms (Raise line r) t = both ms (raised_paces ms line r) (both ms (pacing.raise_paces code table any t ms line) (drop_paces ms line))
     event_paces ms (Try line body hs) t =
-        blocks.guarded_paces code table any ms line (handler_rows hs) (λ ns. StmtsAt code ns line body) (λ first exit. HandlersAt code ms first exit hs) (λ ns. stmts_paces ns line body (λ e. no_silence t e)) (handlers_paces ms hs t)
+        blocks.guarded_paces code table any ms line (handler_rows hs) (λ ns. StmtsAt code ns line body) (λ first pad. HandlersAt code ms first pad hs) (λ ns. stmts_paces ns line body (λ e. no_silence t e)) (handlers_paces ms hs t)
     event_paces ms (RaiseAt line r e) t = pacing.never_paces code table any ms
     event_paces ms (Enable line events s) t = pacing.never_paces code table any ms
     event_paces ms (Disable line events s) t = pacing.never_paces code table any ms
 
-    handlers_paces : (ms : List Mark) (hs : Handlers) → any ≡ true → blocks.AllHandle code table any ms (handler_rows hs) (λ first exit. HandlersAt code ms first exit hs)
+    handlers_paces : (ms : List Mark) (hs : Handlers) → any ≡ true → blocks.AllHandle code table any ms (handler_rows hs) (λ first pad. HandlersAt code ms first pad hs)
     handlers_paces ms NoHandlers t = blocks.no_handles code table any ms
     handlers_paces ms (MoreHandlers resumes event cell line body rest) t =
-        blocks.more_handles code table any ms (handler_rows rest) event resumes (λ exit. Both (KeepsAt code line cell) (HandlerBy code resumes ms exit line (λ ns. StmtsAt code ns line body))) (λ first exit. HandlersAt code ms first exit rest)
+        blocks.more_handles code table any ms (handler_rows rest) event resumes (λ pad. Both (KeepsAt code line cell) (HandlerBy code resumes ms pad line (λ ns. StmtsAt code ns line body))) (λ first pad. HandlersAt code ms first pad rest)
         (handler_handles resumes ms line cell (λ ns. StmtsAt code ns line body) (λ ns. stmts_paces ns line body (λ e. no_silence t e))) (handlers_paces ms rest t)
 
     stmts_paces : (ms : List Mark) (line : ℕ) (ss : Stmts) → (any ≡ false → silent_all ss) → Paces ms (StmtsAt code ms line ss)

@@ -273,10 +273,10 @@ module _ (code : Laid) where
   ExitAt ToReturn (mark.Outward below row ∷ ms) = One code op.ReturnValue 0
   ExitAt ToEnd (mark.Outward below row ∷ ms) = One code op.ReturnNone 0
 
-  -- a handler that catches goes on behind its guarded block; one of resumptions ends, and what raised the event goes on
+  -- a handler that catches goes on behind its guarded block, by its pad; one of resumptions ends, and what raised the event goes on
   abbrev pub HandlerBy : Bool → List Mark → ℕ → ℕ → (List Mark → ℕ → ℕ → Type 0) → ℕ → ℕ → Type 0
-  HandlerBy false ms exit line B = Both (B ms) (One code (op.Jump exit) line)
-  HandlerBy true ms exit line B = ApartAt code ms B
+  HandlerBy false ms pad line B = Both (B ms) (One code (op.Jump pad) line)
+  HandlerBy true ms pad line B = ApartAt code ms B
 
   -- the event of a handler has a number that stands for it alone
   pub record NamedAt (event : Option ℕ) (B : ℕ → ℕ → Type 0) (a z : ℕ) : Type 0 where
@@ -308,16 +308,16 @@ module _ (code : Laid) where
     EventAt ms (Throw line r) = Both (RaisedAt code line ms r) (Risk code ms op.Throw line)
     -- what the handler hands over goes
     EventAt ms (Raise line r) = Both (RaisedAt code line ms r) (Both (Risk code ms op.Raise line) (One code op.Discard line))
-    EventAt ms (Try line body hs) = Guarded code line ms (handler_rows hs) (λ ns. StmtsAt ns line body) (λ first exit. HandlersAt ms first exit hs)
+    EventAt ms (Try line body hs) = Guarded code line ms (handler_rows hs) (λ ns. StmtsAt ns line body) (λ first pad. HandlersAt ms first pad hs)
     EventAt ms (RaiseAt line r e) = Never
     EventAt ms (Enable line events s) = Never
     EventAt ms (Disable line events s) = Never
 
-    -- the handlers of a guarded block whose last one has this row; what is caught goes on at this op
+    -- the handlers of a guarded block whose last one has this row; a handler that catches goes on at this pad
     pub HandlersAt : List Mark → ℕ → ℕ → Handlers → ℕ → ℕ → Type 0
-    HandlersAt ms first exit NoHandlers = Nothing
-    HandlersAt ms first exit (MoreHandlers resumes event cell line body rest) =
-        Both (NamedAt event (HandledAt code (first + handler_rows rest) (handler_of resumes event (length (handlers ms))) (Both (KeepsAt code line cell) (HandlerBy resumes ms exit line (λ ns. StmtsAt ns line body))))) (HandlersAt ms first exit rest)
+    HandlersAt ms first pad NoHandlers = Nothing
+    HandlersAt ms first pad (MoreHandlers resumes event cell line body rest) =
+        Both (NamedAt event (HandledAt code (first + handler_rows rest) (handler_of resumes event (length (handlers ms))) (Both (KeepsAt code line cell) (HandlerBy resumes ms pad line (λ ns. StmtsAt ns line body))))) (HandlersAt ms first pad rest)
 
     -- the statements of a block of this line
     pub StmtsAt : List Mark → ℕ → Stmts → ℕ → ℕ → Type 0
