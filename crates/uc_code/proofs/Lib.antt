@@ -19,5 +19,6 @@ pub mod Settled
 pub mod Spans
 pub mod Stable
 pub mod Sweeping
+pub mod Tabled
 pub mod Turning
 pub mod Ways

@@ -11,3 +11,4 @@ pub mod Pace
 pub mod Puts
 pub mod Ranges
 pub mod Silent
+pub mod Tables

@@ -11,3 +11,4 @@ pub mod op;
 mod operands;
 pub mod raising;
 pub mod rows;
+mod table;

@@ -62,7 +62,7 @@ module _ (source : Source) (code : Laid) where
       abbrev raiser : quiet.Active
       raiser = record s.run { control = DropNow ∷ h.rest; operands = below (below (below s.run.operands)) }
 
-      abbrev searched : quiet.Active
+      abbrev pub searched : quiet.Active
       searched = record s.run { control = h.rest }
 
       abbrev acts : List Active
@@ -90,7 +90,7 @@ module _ (source : Source) (code : Laid) where
         handles = ap (λ (a : Active). a.handles) h.run.stands.is;
       }
 
-      all_search : Lined (SearchStands code) acts (searched ∷ s.callers)
+      pub all_search : Lined (SearchStands code) acts (searched ∷ s.callers)
       all_search = (run_search, callers_search old.callers s.callers h.callers)
 
       step_is : step source s ≡ handle_step (seek None e (searched ∷ s.callers)) e h.rest s

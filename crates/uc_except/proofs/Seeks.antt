@@ -30,12 +30,12 @@ under_none : (ns : List ℕ) → under 0 ns ≡ []
 under_none [] = refl
 under_none (n ∷ ns) = let e : nat_lt n 0 ≡ false = le-ltb n 0 (omega arith) in rw e (under_none ns)
 
-last_rows : (code : Laid) (ms : List Mark) → IsLast code ms → handlers ms ≡ []
+pub last_rows : (code : Laid) (ms : List Mark) → IsLast code ms → handlers ms ≡ []
 last_rows code ms (OfRoutine k) = refl
 last_rows code ms (OfHandler row outer) = under_none (handlers outer)
 
 -- where no handler stands nothing is found
-none_for : (kind : Bool) (e : Event) (hs : Handlers) → handler_count hs ≡ 0 → handler_for kind e hs ≡ None
+pub none_for : (kind : Bool) (e : Event) (hs : Handlers) → handler_count hs ≡ 0 → handler_for kind e hs ≡ None
 none_for kind e NoHandlers q = refl
 none_for kind e (MoreHandlers r n c l b rest) q = absurd (omega arith)
 

@@ -1,6 +1,7 @@
 -- What a machine is once the handler of an event has begun.
 use Rattle.std.specs.Prelude.{◌≡◌, ℕ, List, [], ◌∷◌, Option, Some, None, slice_get}
 use Rattle.uc_tree.specs.Source.{Source}
+use Rattle.uc_meaning.specs.declared.exec.Reason.{Reason}
 use Rattle.uc_meaning.specs.Executions.{at_depth}
 use Rattle.uc_meaning.specs.Quiet.{State, Goes, quiet, Quietly}
 use Rattle.uc_meaning.specs.Raising.{home_of}
@@ -12,7 +13,8 @@ use Rattle.uc_frames.specs.declared.event.Event.{Event}
 use Rattle.uc_frames.specs.declared.event.Handling.{Handling}
 use Rattle.uc_frames.specs.Machine.{Active, Machine}
 use Rattle.uc_frames.specs.Stands.{Stands}
-use Rattle.uc_frames.specs.Unwinding.{catching, handled}
+use Rattle.uc_frames.specs.Unwinding.{unwound_by, catching, handled}
+use Rattle.uc_frames.specs.Unwound.{Unwinds}
 use Rattle.uc_except.specs.declared.found.Found.{Found}
 use Rattle.uc_except.specs.declared.found.Found.TheVariants.{Handler, None as Nowhere}
 
@@ -44,6 +46,10 @@ abbrev pub handler_begun : List HandlerRow → Found → Event → Machine → M
 handler_begun rows Nowhere e m = m
 handler_begun rows (Handler frame row) e m = handled_at (slice_get rows row) frame e m
 
+-- an event is thrown
+abbrev pub thrown : Reason → Machine → Machine
+thrown why m = record m { run = unwound_by why m.run.result m.run }
+
 abbrev pub IsFound : Found → Type 0
 IsFound Nowhere = ⊥
 IsFound (Handler frame row) = Unit {0}
@@ -53,3 +59,9 @@ pub record GoesOn (source : Source) (code : Laid) (m : Machine) (s : State) : Ty
   pub after : State
   pub by : Quietly source s after
   pub stands : Stands code m after
+
+-- one step of the source unwinds as the machine does
+pub record UnwindsNow (source : Source) (code : Laid) (m : Machine) (s : State) : Type 0 where
+  pub after : State
+  pub by : quiet source s ≡ Goes after
+  pub stands : Unwinds code m after

@@ -8,12 +8,12 @@ ghost use Rattle.uc_tree.specs.Source.{Source};
 ghost use Rattle.uc_meaning.specs.declared.exec.Reason.TheVariants as reason;
 ghost use Rattle.uc_meaning.specs.Quiet.{State};
 ghost use Rattle.uc_meaning.specs.Raising.{event_in};
-ghost use Rattle.uc_code.specs.Laid.{laid_of};
+ghost use Rattle.uc_code.specs.Laid.{Laid, laid_of};
 ghost use Rattle.uc_frames.specs.Comes.{Catches};
-ghost use Rattle.uc_frames.specs.Unwound.{Raises, Unwinds};
+ghost use Rattle.uc_frames.specs.Unwound.{Raises, Throws, Unwinds};
 ghost use Rattle.uc_except.specs.declared.found.Found.TheVariants as at;
 ghost use Rattle.uc_except.specs.Finding.{resumed};
-ghost use Rattle.uc_except.specs.Handling.{handling_of, resumed_by, handled_by, handler_begun, IsFound, GoesOn};
+ghost use Rattle.uc_except.specs.Handling.{handling_of, resumed_by, handled_by, handler_begun, thrown, IsFound, GoesOn, UnwindsNow};
 
 use crate::found::Found;
 use std::alloc::AllocError;
@@ -21,7 +21,7 @@ use uc_code::code::Code;
 use uc_code::rows::{HandlerRow, RowKind};
 use uc_frames::event::{Event, Handling};
 use uc_frames::work::Work;
-use uc_meaning::exec::Visited;
+use uc_meaning::exec::{Reason, Visited};
 
 /// The handler that was found begins, with the event as its operands: one that catches in the running activation, which is unwound up to
 /// it; one of resumptions as an activation of its own, before the running one, which has popped the event. Where none was found, all
@@ -41,6 +41,17 @@ pub fn handle(
 {
     begin_found(code, work, found, event, x, y)?;
     Ok(())
+}
+
+/// The event is thrown: the running activation, which has popped it, is unwound by it from its place on. So it is too where a
+/// resumption finds no handler.
+pub fn throw(work: &mut Work, event: u8, x: i64, y: i64)
+    ensures now { work.new ≡ thrown (reason.Event event x y) work.old }
+    ensures thrown { (source : Source) (code : Laid) (s : State) → Throws code work.old s → event_in s.run.operands ≡ record { number = event; x = x; y = y } → UnwindsNow source code work.new s }
+    ensures resumed { (source : Source) (code : Laid) (s : State) → Raises code work.old s → event_in s.run.operands ≡ record { number = event; x = x; y = y } → resumed code.rows None event (work.old.run ∷ work.old.callers) ≡ at.None → UnwindsNow source code work.new s }
+{
+    let given = work.result();
+    work.unwind(Reason::Event { event, x, y }, given);
 }
 
 fn begin_found(

@@ -1,12 +1,12 @@
 // The search for the handler of an event.
 
-ghost use Rattle.std.specs.Prelude.{◌≡◌, ◌∷◌, List, None, true, if◌then◌else◌};
+ghost use Rattle.std.specs.Prelude.{◌≡◌, ◌∷◌, List, None, true, false, if◌then◌else◌};
 ghost use Rattle.uc_meaning.specs.Quiet.{Active};
 ghost use Rattle.uc_meaning.specs.Raising.{Event, seek};
 ghost use Rattle.uc_code.specs.Laid.{chain, laid_of};
 ghost use Rattle.uc_frames.specs.Parts.{Lined};
 ghost use Rattle.uc_frames.specs.Unwound.{SearchStands};
-ghost use Rattle.uc_except.specs.Meeting.{FoundAs};
+ghost use Rattle.uc_except.specs.Meeting.{FoundAs, CaughtAs, catcher};
 ghost use Rattle.uc_frames.specs.declared.search.Sought.TheVariants as sought;
 ghost use Rattle.uc_frames.specs.Searches.{first_in};
 ghost use Rattle.uc_meaning.specs.Executions.{at_depth};
@@ -24,7 +24,8 @@ use uc_meaning::exec::Visited;
 pub fn propagate(code: &Code, work: &Work, event: u8, resume: bool) -> Found
     ensures rows { result
         ≡ (if resume then resumed code.now.rows None event (work.now.run ∷ work.now.callers) else caught code.now.rows event (work.now.run ∷ work.now.callers)) }
-    ensures source { resume ≡ true → (e : Event) (acts : List Active) → e.number ≡ event → Lined (SearchStands (laid_of code.now)) (work.now.run ∷ work.now.callers) acts → FoundAs (laid_of code.now) (work.now.run ∷ work.now.callers) result (seek None e acts) }
+    ensures thrown { resume ≡ false → (e : Event) (acts : List Active) → e.number ≡ event → Lined (SearchStands (laid_of code.now)) (work.now.run ∷ work.now.callers) acts → CaughtAs (laid_of code.now) result (catcher e acts) }
+    ensures resumed { resume ≡ true → (e : Event) (acts : List Active) → e.number ≡ event → Lined (SearchStands (laid_of code.now)) (work.now.run ∷ work.now.callers) acts → FoundAs (laid_of code.now) (work.now.run ∷ work.now.callers) result (seek None e acts) }
 {
     let found = search(code, work, event, resume);
     found
@@ -42,7 +43,7 @@ fn search(code: &Code, work: &Work, event: u8, resume: bool) -> Found
 }
 
 /// The first handler of the running activation alone that catches an event.
-pub fn catcher(code: &Code, work: &Work, event: u8) -> Option<u32>
+pub fn catching_row(code: &Code, work: &Work, event: u8) -> Option<u32>
     ensures { result ≡ first_in (sought.Catch event) code.now.rows (chain code.now.rows work.now.run.control) }
 {
     first_handler(code, work.next(), Sought::Catch(event))

@@ -2,13 +2,14 @@
 use Rattle.std.proofs.Common.{◌≡◌, ℕ, zero, suc, ◌+◌, ◌-◌, ◌<◌, ◌≤◌, List, [], ◌∷◌, ◌++◌, length, take, drop, reverse, Bool, true, false, Option, Some, None, refl, sym, ap, ◌∙◌, arith, get_or, inl, inr}
 use Rattle.std.specs.Prelude.{nat_eq, nat_le, ◌&&◌, if◌then◌else◌, slice_get}
 use Rattle.std.proofs.lemmas.Bool.{eq-eqb, ne_eqb, eqb-true, le-leb, leb-true, cases_lt}
-use Rattle.std.proofs.lemmas.List.{reverse-append, length-append, length-reverse, length-take-le, take-append-drop, take_more, take_all}
+use Rattle.std.proofs.lemmas.List.{reverse-append, length-append, length-reverse, length-take-le, take-append-drop, take_more, reverse-reverse}
 use Rattle.std.proofs.lemmas.Option.{slice_get_read}
 use Rattle.uc_code.specs.declared.rows.HandlerRow.{HandlerRow}
 use Rattle.uc_code.specs.declared.rows.RowKind.{RowKind}
 use Rattle.uc_code.specs.declared.rows.RowKind.TheVariants as kind
 use Rattle.uc_code.specs.declared.rows.TheConstants.{NO_EVENT}
 use Rattle.uc_code.specs.Laid.{covers, takes_events, counted_by, from_row, from_newest, chain}
+use Rattle.uc_code.specs.Tables.{name_or, covering_from}
 use Rattle.uc_frames.specs.declared.search.Sought.{Sought}
 use Rattle.uc_frames.specs.Searches.{is_found, is_sought, first_in, behind_row, within, counted, own_row, named, last_of, IsHandler, IsSoughtAt}
 
@@ -88,23 +89,12 @@ module _ (rows : List HandlerRow) where
     pub outer_far : at ≤ row.outer → named rows at ≡ own_row rows (at - 1) ++ named rows 0
     outer_far k = outer_is 0 (none_named older row.outer (omega (arith, older_count)) ∙ sym (zero_named (reverse rows)))
 
-    -- the newest row that covers an op
-    pub covered : (next : ℕ) → covers row next ≡ true → from_newest (reverse (take at rows)) next ≡ named rows at
-    covered next q =
-        ap (λ rs. from_newest rs next) newest ∙ (rw q refl ∙ (ap (λ n. counted_by row.kind row.event n ++ from_row older row.outer) older_count ∙ sym named_at))
-
-    pub uncovered : (next : ℕ) → covers row next ≡ false → from_newest (reverse (take at rows)) next ≡ from_newest older next
-    uncovered next q = ap (λ rs. from_newest rs next) newest ∙ rw q refl
-
     -- rows that a search sees
     pub is_handler : counted_by row.kind row.event (at - 1) ≡ (at - 1) ∷ [] → IsHandler rows (at - 1) row
     is_handler q = record { own = own_is ∙ q; is = row_there }
 
     pub no_handler : counted_by row.kind row.event (at - 1) ≡ [] → own_row rows (at - 1) ≡ []
     no_handler q = own_is ∙ q
-
-  pub chain_is : (next : ℕ) → from_newest (reverse (take (length rows) rows)) next ≡ chain rows next
-  chain_is next = ap (λ rs. from_newest (reverse rs) next) (take_all (length rows) rows (omega arith))
 
 -- searches
 
@@ -142,26 +132,59 @@ module _ (w : Sought) (rows : List HandlerRow) where
 
 -- the loops
 
--- no newer row covers an op
-pub record Uncovered (rows : List HandlerRow) (next number : ℕ) : Type 0 where
-  pub near : number ≤ length rows
-  pub same : from_newest (reverse (take number rows)) next ≡ chain rows next
+-- the newest row that covers an op, of rows of which the newest stands first
+newest_of : List HandlerRow → ℕ → ℕ
+newest_of [] next = 0
+newest_of (r ∷ rs) next = if covers r next then suc (length rs) else newest_of rs next
 
-pub uncovered_first : (rows : List HandlerRow) (next : ℕ) → Uncovered rows next (length rows)
-uncovered_first rows next = record { near = omega arith; same = chain_is rows next }
+newest_small_by : (b : Bool) (n m : ℕ) → m ≤ n → (if b then suc n else m) ≤ suc n
+newest_small_by true n m l = omega arith
+newest_small_by false n m l = omega arith
 
-module _ (rows : List HandlerRow) (next number : ℕ) (h : Uncovered rows next number) where
-  pub uncovered_on : (d : HandlerRow) → 0 < number → covers (get_or rows (number - 1) d) next ≡ false → Uncovered rows next (number - 1)
-  uncovered_on d l q = record {
-    near = let k = h.near in omega arith;
-    same = sym (uncovered rows number d l h.near next q) ∙ h.same;
-  }
+newest_small : (rs : List HandlerRow) (next : ℕ) → newest_of rs next ≤ length rs
+newest_small [] next = omega arith
+newest_small (r ∷ rs) next = newest_small_by (covers r next) (length rs) (newest_of rs next) (newest_small rs next)
 
-  pub uncovered_ends : (d : HandlerRow) → 0 < number → covers (get_or rows (number - 1) d) next ≡ true → named rows number ≡ chain rows next
-  uncovered_ends d l q = sym (covered rows number d l h.near next q) ∙ h.same
+named_newest_by : (b : Bool) (r : HandlerRow) (rs : List HandlerRow) (next : ℕ) → covers r next ≡ b → from_row rs (newest_of rs next) ≡ from_newest rs next → from_row (r ∷ rs) (if b then suc (length rs) else newest_of rs next) ≡ (if b then counted_by r.kind r.event (length rs) ++ from_row rs r.outer else from_newest rs next)
+named_newest_by true r rs next q ih = let t : nat_eq (suc (length rs)) (suc (length rs)) ≡ true = eq-eqb (suc (length rs)) (suc (length rs)) refl in rw t refl
+named_newest_by false r rs next q ih = let t : nat_eq (newest_of rs next) (suc (length rs)) ≡ false = not_same (newest_of rs next) (length rs) (newest_small rs next) in rw t ih
 
-  pub uncovered_all : number ≡ 0 → named rows 0 ≡ chain rows next
-  uncovered_all e = zero_named (reverse rows) ∙ (ap (λ k. from_newest (reverse (take k rows)) next) (sym e) ∙ h.same)
+named_newest : (rs : List HandlerRow) (next : ℕ) → from_row rs (newest_of rs next) ≡ from_newest rs next
+named_newest [] next = refl
+named_newest (r ∷ rs) next = named_newest_by (covers r next) r rs next refl (named_newest rs next)
+
+covering_snoc_by : (b : Bool) (n m own : ℕ) → 0 < n → name_or (if b then n else m) own ≡ (if b then n else name_or m own)
+covering_snoc_by true n m own l = let d : n ≡ 0 → ⊥ = λ e. omega arith in let f : nat_eq n 0 ≡ false = ne_eqb n 0 d in rw f refl
+covering_snoc_by false n m own l = refl
+
+covering_snoc : (k : ℕ) (xs : List HandlerRow) (r : HandlerRow) (p : ℕ) → covering_from k (xs ++ r ∷ []) p ≡ (if covers r p then k + length xs + 1 else covering_from k xs p)
+covering_snoc k [] r p = let e : k + 0 + 1 ≡ k + 1 = omega arith in rw e refl
+covering_snoc k (x ∷ xs) r p =
+    let e : (k + 1) + length xs + 1 ≡ k + suc (length xs) + 1 = omega arith in
+    ap (λ n. name_or n (if covers x p then k + 1 else 0)) (covering_snoc (k + 1) xs r p)
+    ∙ (covering_snoc_by (covers r p) ((k + 1) + length xs + 1) (covering_from (k + 1) xs p) (if covers x p then k + 1 else 0) (omega arith)
+    ∙ ap (λ n. if covers r p then n else name_or (covering_from (k + 1) xs p) (if covers x p then k + 1 else 0)) e)
+
+newest_is : (rs : List HandlerRow) (p : ℕ) → newest_of rs p ≡ covering_from 0 (reverse rs) p
+newest_is [] p = refl
+newest_is (r ∷ rs) p =
+    let n : length (reverse rs) ≡ length rs = length-reverse rs in
+    let e : suc (length rs) ≡ 0 + length (reverse rs) + 1 = omega arith in
+    let v : reverse (r ∷ rs) ≡ reverse rs ++ r ∷ [] = reverse-append (r ∷ []) rs in
+    ap (λ n. if covers r p then n else newest_of rs p) e
+    ∙ (ap (λ n. if covers r p then 0 + length (reverse rs) + 1 else n) (newest_is rs p)
+    ∙ (sym (covering_snoc 0 (reverse rs) r p) ∙ ap (λ xs. covering_from 0 xs p) (sym v)))
+
+module _ (rows : List HandlerRow) (p : ℕ) where
+  newest_rows : newest_of (reverse rows) p ≡ covering_from 0 rows p
+  newest_rows = newest_is (reverse rows) p ∙ ap (λ xs. covering_from 0 xs p) (reverse-reverse rows)
+
+  -- the row that covers an op, and those outwards of it, are its handlers
+  pub covering_named : named rows (covering_from 0 rows p) ≡ chain rows p
+  covering_named = ap (named rows) (sym newest_rows) ∙ named_newest (reverse rows) p
+
+  pub covering_small : covering_from 0 rows p ≤ length rows
+  covering_small = let n : length (reverse rows) ≡ length rows = length-reverse rows in let s = newest_small (reverse rows) p in let e = newest_rows in omega arith
 
 both_true : (a n k : ℕ) → a ≡ n → n ≤ k → (nat_eq a n && nat_le n k) ≡ true
 both_true a n k e l =

@@ -1,7 +1,7 @@
 // Searches among the handlers of an op, from the innermost one outwards.
 
 ghost use Rattle.std.specs.Prelude.{◌≡◌, ◌≤◌, ◌<◌, ◌-◌, ◌^◌, ◌++◌, [], Some, length, MatchOption};
-ghost use Rattle.uc_code.specs.Laid.{chain, covers as covers_by};
+ghost use Rattle.uc_code.specs.Laid.{chain};
 ghost use Rattle.uc_frames.specs.Searches.{catches as catches_by, resumes as resumes_by, cleans as cleans_by, is_named as is_named_by, is_sought, row_takes, behind_row, first_in, own_row, named, last_of, chain_within, IsHandler, IsSoughtAt};
 
 use uc_code::code::Code;
@@ -21,7 +21,7 @@ pub fn first_handler(code: &Code, next: u32, sought: Sought) -> Option<u32>
     ensures { result ≡ first_in sought code.now.rows (chain code.now.rows next) }
 {
     let rows = code.rows();
-    first_from(rows, covering(rows, next), sought)
+    first_from(rows, covering(code, next), sought)
 }
 
 /// The same within so many of them, where all handlers of a guarded block are passed over together.
@@ -29,29 +29,16 @@ pub fn first_within(code: &Code, next: u32, rest: u32, sought: Sought) -> Option
     ensures { result ≡ first_in sought code.now.rows (chain_within rest code.now.rows next) }
 {
     let rows = code.rows();
-    let number = last_from(rows, covering(rows, next), rest as usize);
+    let number = last_from(rows, covering(code, next), rest as usize);
     first_from(rows, number, sought)
 }
 
 // The newest row that covers the op before `next`, by its number plus 1; 0 where there is none.
-fn covering(rows: &[HandlerRow], next: u32) -> usize
-    ensures near { result ≤ length rows.now }
-    ensures chain { named rows.now result ≡ chain rows.now next }
+fn covering(code: &Code, next: u32) -> usize
+    ensures near { result ≤ length code.now.rows }
+    ensures chain { named code.now.rows result ≡ chain code.now.rows next }
 {
-    let mut number = rows.len();
-    while 0 < number {
-        if covers(rows[number - 1], next) {
-            return number;
-        }
-        number -= 1;
-    }
-    0
-}
-
-fn covers(row: HandlerRow, next: u32) -> bool
-    ensures { result ≡ covers_by row next }
-{
-    row.from < next && next <= row.to
+    code.covering(next) as usize
 }
 
 // The first one of a row and those outwards of it.

@@ -1,11 +1,10 @@
-use Rattle.std.proofs.Common.{arith, ◌≡◌, ap, sym, ◌∙◌}
-use Rattle.uc_frames.proofs.Named.{uncovered_ends, uncovered_all}
+use Rattle.std.proofs.Common.{◌≡◌, ◌≤◌, length, ap, sym, subst, ◌∙◌}
+use Rattle.uc_frames.specs.Searches.{named}
+use Rattle.uc_frames.proofs.Named.{covering_named, covering_small}
 use Rattle.uc_frames.proofs.search.covering.Goals as goal
 
-pub returns-then-covers-clause-chain : goal.returns-then-covers-clause-chain
-returns-then-covers-clause-chain c =
-    uncovered_ends c.args.rows.now c.args.next c.loop-number.number c.loop-number.invariant _ c.loop-number-test.true (sym c.covers.ensures ∙ c.if-covers.true)
+pub returns-clause-near : goal.returns-clause-near
+returns-clause-near c = subst (λ n. n ≤ length c.args.code.now.rows) (sym c.covering.ensures) (covering_small c.args.code.now.rows c.args.next)
 
 pub returns-clause-chain : goal.returns-clause-chain
-returns-clause-chain c =
-    uncovered_all c.args.rows.now c.args.next c.loop-number.number c.loop-number.invariant (omega (arith, c.loop-number-test.false))
+returns-clause-chain c = ap (named c.args.code.now.rows) c.covering.ensures ∙ covering_named c.args.code.now.rows c.args.next
