@@ -27,14 +27,14 @@ frames_others [] = refl
 frames_others (f ∷ fs) = refl
 
 module _ (source : Source) (code : Laid) where
-  same_count : (ms : List Active) (cs : List quiet.Active) → Lined (CallerStands code) ms cs → length ms ≡ length cs
+  pub same_count : (ms : List Active) (cs : List quiet.Active) → Lined (CallerStands code) ms cs → length ms ≡ length cs
   same_count [] [] h = refl
   same_count [] (c ∷ cs) h = absurd h
   same_count (m ∷ ms) [] h = absurd h
   same_count (m ∷ ms) (c ∷ cs) h = ap suc (same_count ms cs h.1)
 
   -- a frame less, and an active call less
-  env_left : (b : Bool) (e : Cells) (v : quiet.Env) → EnvironmentStands code e v → EnvironmentStands code (record e { frames = others e.frames; links = one_call_less b e.links }) (record v { frames = others v.frames; links = one_call_less b v.links })
+  pub env_left : (b : Bool) (e : Cells) (v : quiet.Env) → EnvironmentStands code e v → EnvironmentStands code (record e { frames = others e.frames; links = one_call_less b e.links }) (record v { frames = others v.frames; links = one_call_less b v.links })
   env_left b e v h = record {
     frames = ap others h.frames ∙ frames_others v.frames;
     links = ap (one_call_less b) h.links;
@@ -47,7 +47,7 @@ module _ (source : Source) (code : Laid) where
   }
 
   -- the one that waits goes on with what it is handed
-  handed_on : (m : Active) (c : quiet.Active) (x : Cell) (v : Value) → x ≡ cell_of v → RunStands code m c → RunStands code (record m { operands = x ∷ m.operands }) (record c { operands = v ∷ c.operands })
+  pub handed_on : (m : Active) (c : quiet.Active) (x : Cell) (v : Value) → x ≡ cell_of v → RunStands code m c → RunStands code (record m { operands = x ∷ m.operands }) (record c { operands = v ∷ c.operands })
   handed_on m c x v e h = record {
     marks = h.marks;
     follows = h.follows;

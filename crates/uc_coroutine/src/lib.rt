@@ -2,4 +2,5 @@
 #![tactic(auto)]
 
 pub mod leaving;
+pub mod testing;
 pub mod unwinding;

@@ -31,23 +31,30 @@ use Rattle.uc_except.specs.Handling.{handling_of, resumed_by, handled_by, handle
 use Rattle.uc_except.proofs.Seeks.{seeks}
 
 -- an event with these fields
-abbrev event_of : raising.Event → Event
-event_of e = record { number = e.number; x = e.x; y = e.y }
+abbrev pub event_fields : raising.Event → Event
+event_fields e = record { number = e.number; x = e.x; y = e.y }
+
+event_at : Option Reason → raising.Event → raising.Event
+event_at (Some (reason.Event n x y)) e = record { number = n; x = x; y = y }
+event_at _ e = e
+
+pub same_event : (d e : raising.Event) → (let o : Option Reason = Some (reason.Event d.number d.x d.y) in o) ≡ Some (reason.Event e.number e.x e.y) → d ≡ e
+same_event d e q = ap (λ o. event_at o d) q
 
 module _ (source : Source) (code : Laid) where
   module _ (old new : Machine) (s : State) where
     -- a row that catches
-    pub catches_now : (row : ℕ) (e : raising.Event) → Unwinds code old s → (c : Catches source code s.run s.callers s.env s.run.raised row s) → c.event ≡ e → (frame : ℕ) → new ≡ handler_begun code.rows (At frame row) (event_of e) old → GoesOn source code new s
+    pub catches_now : (row : ℕ) (e : raising.Event) → Unwinds code old s → (c : Catches source code s.run s.callers s.env s.run.raised row s) → c.event ≡ e → (frame : ℕ) → new ≡ handler_begun code.rows (At frame row) (event_fields e) old → GoesOn source code new s
     catches_now row e h c i frame q =
         let w = c.handler_at in
-        let a : handler_begun code.rows (At frame row) (event_of e) old ≡ record old { run = catching c.entry (event_of e) old.run } =
-        ap (λ o. handled_at o frame (event_of e) old) w.there
-        ∙ (ap (λ k. handled_by k w.row frame (event_of e) old) w.kind
-        ∙ ap (λ k. let m : Machine = record old { run = catching k (event_of e) old.run } in m) w.entry) in
+        let a : handler_begun code.rows (At frame row) (event_fields e) old ≡ record old { run = catching c.entry (event_fields e) old.run } =
+        ap (λ o. handled_at o frame (event_fields e) old) w.there
+        ∙ (ap (λ k. handled_by k w.row frame (event_fields e) old) w.kind
+        ∙ ap (λ k. let m : Machine = record old { run = catching k (event_fields e) old.run } in m) w.entry) in
         let t : State = caught source code s.run s.callers s.env s.run.raised c.event c.handler c.todo in
-        let is : catching c.entry (event_of c.event) old.run ≡ image c.entry t.run = ap (λ (a : Active). catching c.entry (event_of c.event) a) h.run.is in
-        let b : new ≡ record old { run = catching c.entry (event_of c.event) old.run } =
-        (q ∙ a) ∙ ap (λ x. let m : Machine = record old { run = catching c.entry (event_of x) old.run } in m) (sym i) in
+        let is : catching c.entry (event_fields c.event) old.run ≡ image c.entry t.run = ap (λ (a : Active). catching c.entry (event_fields c.event) a) h.run.is in
+        let b : new ≡ record old { run = catching c.entry (event_fields c.event) old.run } =
+        (q ∙ a) ∙ ap (λ x. let m : Machine = record old { run = catching c.entry (event_fields x) old.run } in m) (sym i) in
         record { after = t; by = c.by; stands = subst (λ (m : Machine). Stands code m t) (sym b) (record {
           run = record { marks = c.marks; follows = c.follows; is = is };
           callers = h.callers;
@@ -99,15 +106,15 @@ module _ (source : Source) (code : Laid) where
       frames_more : (fs : List (List quiet.Value)) (gs : List (List Cell)) → gs ≡ map (map cell_of) fs → ([] ∷ gs) ≡ map (map cell_of) ([] ∷ fs)
       frames_more fs gs q = ap (λ g. [] ∷ g) q
 
-      begins : (frame row : ℕ) (f : Sought) → Meets code acts frame row f → step source s ≡ handle_step (Some f) e h.rest s → new ≡ handler_begun code.rows (At frame row) (event_of e) old → GoesOn source code new s
+      begins : (frame row : ℕ) (f : Sought) → Meets code acts frame row f → step source s ≡ handle_step (Some f) e h.rest s → new ≡ handler_begun code.rows (At frame row) (event_fields e) old → GoesOn source code new s
       begins frame row f k w q =
           let g = k.resumes in
           let d = g.handler in
-          let u : Handling = handling_of d.row frame (event_of e) k.active in
-          let a : handler_begun code.rows (At frame row) (event_of e) old ≡ handled u old =
-          ap (λ o. handled_at o frame (event_of e) old) d.there
-          ∙ (ap (λ k. handled_by k d.row frame (event_of e) old) d.kind
-          ∙ ap (λ o. resumed_by o d.row frame (event_of e) old) k.there) in
+          let u : Handling = handling_of d.row frame (event_fields e) k.active in
+          let a : handler_begun code.rows (At frame row) (event_fields e) old ≡ handled u old =
+          ap (λ o. handled_at o frame (event_fields e) old) d.there
+          ∙ (ap (λ k. handled_by k d.row frame (event_fields e) old) d.kind
+          ∙ ap (λ o. resumed_by o d.row frame (event_fields e) old) k.there) in
           let t : State = handler_entered (handler_todo f.handler []) (raising.operands_of e) f.this f.frame Nothing f.visited raiser s.callers s.env in
           let v : u.visited ≡ f.visited =
           ap (λ n. let x : Visited = record { level = frame; rest = n; home = home_of k.active.handles frame } in x) d.rest
@@ -135,12 +142,12 @@ module _ (source : Source) (code : Laid) where
             env = c;
           }) }
 
-      by_found : (x : Found) (y : Option Sought) → FoundAs code acts x y → IsFound x → step source s ≡ handle_step y e h.rest s → new ≡ handler_begun code.rows x (event_of e) old → GoesOn source code new s
+      by_found : (x : Found) (y : Option Sought) → FoundAs code acts x y → IsFound x → step source s ≡ handle_step y e h.rest s → new ≡ handler_begun code.rows x (event_fields e) old → GoesOn source code new s
       by_found Nowhere None m f w q = absurd f
       by_found Nowhere (Some y) m f w q = absurd f
       by_found (At frame row) None m f w q = absurd m
       by_found (At frame row) (Some y) m f w q = begins frame row y m w q
 
-      pub resumes_now : (x : Found) → IsFound x → x ≡ resumed code.rows None e.number acts → new ≡ handler_begun code.rows x (event_of e) old → GoesOn source code new s
+      pub resumes_now : (x : Found) → IsFound x → x ≡ resumed code.rows None e.number acts → new ≡ handler_begun code.rows x (event_fields e) old → GoesOn source code new s
       resumes_now x f i q =
           by_found x (seek None e (searched ∷ s.callers)) (subst (λ z. FoundAs code acts z (seek None e (searched ∷ s.callers))) (sym i) (seeks code None e acts (searched ∷ s.callers) all_search)) f step_is q

@@ -68,10 +68,13 @@ module _ {X : Type 0} where
   depth_none [] d e = omega arith
   depth_none (x ∷ xs) d e = none_by (nat_eq d (length xs)) x xs d refl (depth_none xs d) e
 
+  drop_nil : (k : ℕ) → drop k ([] {A = X}) ≡ []
+  drop_nil zero = refl
+  drop_nil (suc k) = refl
+
   drop_drop : (m n : ℕ) (xs : List X) → drop m (drop n xs) ≡ drop (n + m) xs
   drop_drop m zero xs = let e : 0 + m ≡ m = omega arith in rw e refl
-  drop_drop zero (suc n) [] = refl
-  drop_drop (suc m) (suc n) [] = refl
+  drop_drop m (suc n) [] = drop_nil m ∙ sym (drop_nil (suc n + m))
   drop_drop m (suc n) (x ∷ xs) = let e : suc n + m ≡ suc (n + m) = omega arith in rw e (drop_drop m n xs)
 
   pub oldest_again : (xs : List X) (j k : ℕ) → j ≤ k → k ≤ length xs → oldest j (oldest k xs) ≡ oldest j xs

@@ -3,5 +3,4 @@
 
 pub mod found;
 pub mod handling;
-pub mod probe;
 pub mod seeking;

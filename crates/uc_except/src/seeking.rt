@@ -55,8 +55,9 @@ fn termination(code: &Code, work: &Work, event: u8) -> Found
     let mut left = u64::from(work.level()) + 1;
     while 0 < left {
         let level = (left - 1) as u32;
-        if let Some(row) = catch_at(code, work, level, event) {
-            return Found::Handler { frame: level, row };
+        match catch_at(code, work, level, event) {
+            Some(row) => return Found::Handler { frame: level, row },
+            None => {}
         }
         left -= 1;
     }
@@ -81,8 +82,9 @@ fn resumption(code: &Code, work: &Work, event: u8) -> Found
     let mut rest = None;
     while 0 < left {
         let level = (left - 1) as u32;
-        if let Some(row) = resumption_at(code, work, level, rest, event) {
-            return Found::Handler { frame: level, row };
+        match resumption_at(code, work, level, rest, event) {
+            Some(row) => return Found::Handler { frame: level, row },
+            None => {}
         }
         match handles_at(work, level) {
             None => {

@@ -7,7 +7,7 @@ use Rattle.uc_code.specs.declared.op.Op.TheVariants as op
 use Rattle.uc_code.specs.Laid.{Laid, handlers, chain}
 use Rattle.uc_code.specs.Ranges.{OpAt, Risk}
 use Rattle.uc_frames.specs.Machine.{Active, Machine, cell_of}
-use Rattle.uc_frames.specs.Parts.{Lined, StateStands}
+use Rattle.uc_frames.specs.Parts.{Lined}
 use Rattle.uc_frames.specs.Stands.{image, FollowsAt, CallerStands, EnvironmentStands}
 
 module _ (code : Laid) where
@@ -57,18 +57,24 @@ module _ (code : Laid) where
     pub todo : s.control ≡ Unwind ∷ []
     pub is : m ≡ image m.control (record s { operands = [] })
 
+  -- a machine whose running activation stands so, and all else as ever
+  pub record StandsBy (R : Active → quiet.Active → Type 0) (m : Machine) (s : State) : Type 0 where
+    pub run : R m.run s.run
+    pub callers : Lined (CallerStands code) m.callers s.callers
+    pub env : EnvironmentStands code m.env s.env
+
   -- the machine unwinds, as the state does
   abbrev pub Unwinds : Machine → State → Type 0
-  Unwinds = StateStands UnwindStands (CallerStands code) cell_of
+  Unwinds = StandsBy UnwindStands
 
   abbrev pub TestsBlock : Machine → State → Type 0
-  TestsBlock = StateStands BlockStands (CallerStands code) cell_of
+  TestsBlock = StandsBy BlockStands
 
   abbrev pub EndsMain : Machine → State → Type 0
-  EndsMain = StateStands MainStands (CallerStands code) cell_of
+  EndsMain = StandsBy MainStands
 
   abbrev pub LeavesNow : Machine → State → Type 0
-  LeavesNow = StateStands EndStands (CallerStands code) cell_of
+  LeavesNow = StandsBy EndStands
 
   -- the machine has popped the event that the state raises, as a resumption or by a throw
   pub record Raises (m : Machine) (s : State) : Type 0 where
