@@ -49,7 +49,7 @@ module _ (source : Source) (code : Laid) (old new : Machine) (s : State) where
     pub block_left : (b : Bool) (behind : ℕ) → behind ≡ old.run.control + 1 → b ≡ arrives old.run.raised (length old.callers) → new ≡ block_over b behind old → BlockLeft source code b new s
     block_left b behind k e q =
         let r : old.run.raised ≡ s.run.raised = ap (λ (a : Active). a.raised) h.run.is in
-        let n : length old.callers ≡ length s.callers = same_count source code old.callers s.callers h.callers in
+        let n : length old.callers ≡ length s.callers = same_count code old.callers s.callers h.callers in
         let f : b ≡ arrives s.run.raised (length s.callers) = e ∙ (ap (λ o. arrives o (length old.callers)) r ∙ ap (arrives s.run.raised) n) in
         block_by b (past_is ∙ ap (λ c. whole_left c h.run.rest s) (sym f)) (q ∙ ap (λ j. block_over b j old) k)
 
@@ -68,10 +68,10 @@ module _ (source : Source) (code : Laid) (old new : Machine) (s : State) where
     ended (m ∷ ms) (c ∷ cs) i j l w q =
         let t : State = returned (Some nought) s.run.counts c cs s.env in
         let b : old.run.counts ≡ s.run.counts = ap (λ (a : Active). a.counts) h.run.is in
-        let v = env_left source code s.run.counts old.env s.env h.env in
+        let v = env_left code s.run.counts old.env s.env h.env in
         let p : new ≡ left machine.nought (m ∷ ms) old = q ∙ ap (λ ns. left machine.nought ns old) i in
         let y : step source calm ≡ Goes t = ap (λ ns. quiet.return_step nought ns calm) j in
-        let z : Stands code (returned (Some machine.nought) s.run.counts m ms old.env) t = record { run = handed_on source code m c machine.nought nought refl l.0.stands; callers = l.1; env = v } in
+        let z : Stands code (returned (Some machine.nought) s.run.counts m ms old.env) t = record { run = handed_on code m c machine.nought nought refl l.0.stands; callers = l.1; env = v } in
         record { after = t; by = more w (more y stay); stands = subst (λ (n : Machine). Stands code n t) (sym p) (subst (λ k. Stands code (returned (Some machine.nought) k m ms old.env) t) (sym b) z) }
 
     by_reason : (o : Option Reason) (e : MainEnd) → old.run.raised ≡ o → s.run.raised ≡ o → e ≡ main_by o old.callers → new ≡ main_over e old → MainLeft source code e new s

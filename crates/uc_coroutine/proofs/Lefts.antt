@@ -4,11 +4,12 @@ use Rattle.std.specs.Prelude.{if◌then◌else◌}
 use Rattle.uc_tree.specs.Source.{Source}
 use Rattle.uc_meaning.specs.declared.exec.Reason.{Reason}
 use Rattle.uc_meaning.specs.declared.exec.Reason.TheVariants as reason
+use Rattle.uc_meaning.specs.declared.exec.Visited.{Visited}
 use Rattle.uc_meaning.specs.Executions.{Links, one_call_less, others, left_for, returned, unwound}
 use Rattle.uc_meaning.specs.Quiet as quiet
 use Rattle.uc_meaning.specs.Quiet.{Todo, Value, State, Step, Goes, quiet as step}
 use Rattle.uc_meaning.specs.Pieces.{Unwind}
-use Rattle.uc_meaning.specs.Raising.{arrives, escapes, pass_on, leave_for, leave_step, unwind_step}
+use Rattle.uc_meaning.specs.Raising.{arrives, escapes, pass_on, leave_for, leave_step, return_past, end_by}
 use Rattle.uc_code.specs.Laid.{Laid}
 use Rattle.uc_frames.specs.declared.cell.Cell.{Cell}
 use Rattle.uc_frames.specs.Machine.{Active, Machine, Cells, cell_of}
@@ -19,14 +20,14 @@ use Rattle.uc_frames.specs.Unwinding.{passed, unwound_by}
 use Rattle.uc_frames.specs.Unwound.{UnwindStands, Unwinds, LeavesNow}
 use Rattle.uc_coroutine.specs.declared.leaving.Left.{Left}
 use Rattle.uc_coroutine.specs.declared.leaving.Left.TheVariants.{Ended, Returned, Escaped, PassedOn}
-use Rattle.uc_coroutine.specs.Unwinding.{goes_by, ending_by, passed_as, left_as}
-use Rattle.uc_coroutine.specs.Outcomes.{GoesTo, LeftAs}
+use Rattle.uc_coroutine.specs.Unwinding.{goes_by, ending_by, passed_as, left_as, past_of, Made}
+use Rattle.uc_coroutine.specs.Outcomes.{GoesTo, LeftAs, Returns, ReturnsPast}
 
 frames_others : (fs : List (List Value)) → others (map (map cell_of) fs) ≡ map (map cell_of) (others fs)
 frames_others [] = refl
 frames_others (f ∷ fs) = refl
 
-module _ (source : Source) (code : Laid) where
+module _ (code : Laid) where
   pub same_count : (ms : List Active) (cs : List quiet.Active) → Lined (CallerStands code) ms cs → length ms ≡ length cs
   same_count [] [] h = refl
   same_count [] (c ∷ cs) h = absurd h
@@ -57,7 +58,7 @@ module _ (source : Source) (code : Laid) where
   }
 
   -- it is unwound in its turn
-  unwound_on : (m : Active) (c : quiet.Active) (why : Reason) (x : Cell) (v : Value) → x ≡ cell_of v → CallerStands code m c → UnwindStands code (unwound_by why x m) (unwound (Unwind ∷ c.control) why v c)
+  pub unwound_on : (m : Active) (c : quiet.Active) (why : Reason) (x : Cell) (v : Value) → x ≡ cell_of v → CallerStands code m c → UnwindStands code (unwound_by why x m) (unwound (Unwind ∷ c.control) why v c)
   unwound_on m c why x v e h = record {
     rest = c.control;
     todo = refl;
@@ -67,6 +68,7 @@ module _ (source : Source) (code : Laid) where
         ∙ ap (λ y. unwound_by why y (image m.control c)) e;
   }
 
+module _ (source : Source) (code : Laid) where
   module _ (old new : Machine) (s : State) (h : LeavesNow code old s) where
     abbrev r : Option Reason
     r = s.run.raised
@@ -84,14 +86,14 @@ module _ (source : Source) (code : Laid) where
     step_is = ap (λ todo. quiet.act_todo source todo s) h.run.todo
 
     env_now : EnvironmentStands code (record old.env { frames = others old.env.frames; links = one_call_less old.run.counts old.env.links }) (record s.env { frames = others s.env.frames; links = one_call_less s.run.counts s.env.links })
-    env_now = subst (λ b. EnvironmentStands code (record old.env { frames = others old.env.frames; links = one_call_less b old.env.links }) (record s.env { frames = others s.env.frames; links = one_call_less s.run.counts s.env.links })) (sym counts_is) (env_left s.run.counts old.env s.env h.env)
+    env_now = subst (λ b. EnvironmentStands code (record old.env { frames = others old.env.frames; links = one_call_less b old.env.links }) (record s.env { frames = others s.env.frames; links = one_call_less s.run.counts s.env.links })) (sym counts_is) (env_left code s.run.counts old.env s.env h.env)
 
     returns : (m : Active) (ms : List Active) (c : quiet.Active) (cs : List quiet.Active) → CallerStands code m c → Lined (CallerStands code) ms cs → step source s ≡ quiet.return_step s.run.result (c ∷ cs) s → new ≡ left old.run.result (m ∷ ms) old → GoesTo source (Stands code) new s
     returns m ms c cs k l w q = record {
       after = returned (Some s.run.result) s.run.counts c cs s.env;
       by = w;
       stands = subst (λ (n : Machine). Stands code n (returned (Some s.run.result) s.run.counts c cs s.env)) (sym q)
-          (record { run = handed_on m c old.run.result s.run.result result_is k.stands; callers = l; env = env_now });
+          (record { run = handed_on code m c old.run.result s.run.result result_is k.stands; callers = l; env = env_now });
     }
 
     passes : (why : Reason) (m : Active) (ms : List Active) (c : quiet.Active) (cs : List quiet.Active) → CallerStands code m c → Lined (CallerStands code) ms cs → step source s ≡ Goes (left_for s.run.counts (unwound (Unwind ∷ c.control) why s.run.result c) cs s.env) → new ≡ passed why old.run.result (m ∷ ms) old → GoesTo source (Unwinds code) new s
@@ -99,7 +101,7 @@ module _ (source : Source) (code : Laid) where
       after = left_for s.run.counts (unwound (Unwind ∷ c.control) why s.run.result c) cs s.env;
       by = w;
       stands = subst (λ (n : Machine). Unwinds code n (left_for s.run.counts (unwound (Unwind ∷ c.control) why s.run.result c) cs s.env)) (sym q)
-          (record { run = unwound_on m c why old.run.result s.run.result result_is k; callers = l; env = env_now });
+          (record { run = unwound_on code m c why old.run.result s.run.result result_is k; callers = l; env = env_now });
     }
 
     -- what becomes of it, by its reason
@@ -118,7 +120,7 @@ module _ (source : Source) (code : Laid) where
 
     ending_is : (m : Active) (ms : List Active) (c : quiet.Active) (cs : List quiet.Active) → CallerStands code m c → Lined (CallerStands code) ms cs → ending_by old.run.raised (m ∷ ms) ≡ (if arrives r (length (c ∷ cs)) then Returned else (if escapes r c.raised then Escaped else goes_by r))
     ending_is m ms c cs k l =
-        let n : length (m ∷ ms) ≡ length (c ∷ cs) = ap suc (same_count ms cs l) in
+        let n : length (m ∷ ms) ≡ length (c ∷ cs) = ap suc (same_count code ms cs l) in
         let x : m.raised ≡ c.raised = ap (λ (a : Active). a.raised) k.stands.is in
         ap (λ o. ending_by o (m ∷ ms)) raised_is
         ∙ (ap (λ j. if arrives r j then Returned else (if escapes r m.raised then Escaped else goes_by r)) n
@@ -135,3 +137,29 @@ module _ (source : Source) (code : Laid) where
 
     pub leaves_as : (o : Left) → o ≡ ending_by old.run.raised old.callers → new ≡ left_as o old → LeftAs source code o new s
     leaves_as o e q = by_callers old.callers s.callers o refl step_is h.callers e q
+
+end_at : Option Visited → Value → List quiet.Active → State → Step
+end_at None given cs s = quiet.return_step given cs s
+end_at (Some v) given cs s = return_past v given cs s
+
+-- a return leaves a handler of resumptions
+module _ (code : Laid) (old new : Machine) (s : State) (given : Cell) (value : Value) (g : given ≡ cell_of value) (h : Returns code old s) where
+  env_past : EnvironmentStands code (record old.env { frames = others old.env.frames; links = one_call_less old.run.counts old.env.links }) (record s.env { frames = others s.env.frames; links = one_call_less s.run.counts s.env.links })
+  env_past = subst (λ b. EnvironmentStands code (record old.env { frames = others old.env.frames; links = one_call_less b old.env.links }) (record s.env { frames = others s.env.frames; links = one_call_less s.run.counts s.env.links })) (sym h.counts) (env_left code s.run.counts old.env s.env h.env)
+
+  past_by : (o : Option Visited) (ms : List Active) (cs : List quiet.Active) → Lined (CallerStands code) ms cs → end_by s.run.handles value s ≡ end_at o value cs s → Made (past_of o given ms old) old true new → ReturnsPast code value new s
+  past_by None ms cs l w m = absurd (cc)
+  past_by (Some v) [] cs l w m = absurd (cc)
+  past_by (Some v) (m ∷ ms) [] l w q = absurd l
+  past_by (Some v) (m ∷ ms) (c ∷ cs) l w q =
+      let t : State = left_for s.run.counts (unwound (Unwind ∷ c.control) (reason.ReturnTo v.home) value c) cs s.env in
+      record { after = t; by = w; stands = subst (λ (n : Machine). Unwinds code n t) (sym q.1) (record { run = unwound_on code m c (reason.ReturnTo v.home) given value g l.0; callers = l.1; env = env_past }) }
+
+  ends_at : (o : Option Visited) → end_by o value s ≡ end_at o value s.callers s
+  ends_at None = refl
+  ends_at (Some v) = refl
+
+  pub returns_past : (b : Bool) → b ≡ true → Made (past_of old.run.handles given old.callers old) old b new → ReturnsPast code value new s
+  returns_past b e m =
+      let i : Made (past_of s.run.handles given old.callers old) old true new = subst (λ o. Made (past_of o given old.callers old) old true new) h.handles (subst (λ x. Made (past_of old.run.handles given old.callers old) old x new) e m) in
+      past_by s.run.handles old.callers s.callers h.callers (ends_at s.run.handles) i

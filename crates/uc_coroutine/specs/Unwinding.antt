@@ -1,10 +1,13 @@
 -- One step of unwinding on cells.
 use Rattle.std.specs.Prelude.{◌≡◌, ℕ, List, [], ◌∷◌, length, Option, Some, None, Bool, true, false, nat_eq, if◌then◌else◌, slice_get}
 use Rattle.uc_meaning.specs.declared.exec.Reason.{Reason}
+use Rattle.uc_meaning.specs.declared.exec.Reason.TheVariants as reason
+use Rattle.uc_meaning.specs.declared.exec.Visited.{Visited}
 use Rattle.uc_meaning.specs.Raising.{arrives, escapes}
 use Rattle.uc_code.specs.declared.rows.HandlerRow.{HandlerRow}
 use Rattle.uc_code.specs.Laid.{chain}
 use Rattle.uc_frames.specs.declared.search.Sought.TheVariants.{Stop}
+use Rattle.uc_frames.specs.declared.cell.Cell.{Cell}
 use Rattle.uc_frames.specs.Machine.{Active, Machine}
 use Rattle.uc_frames.specs.Searches.{is_named, first_in}
 use Rattle.uc_frames.specs.Unwinding.{cleaning, passed}
@@ -60,3 +63,9 @@ left_as Ended m = m
 left_as Escaped m = m
 left_as Returned m = left m.run.result m.callers m
 left_as PassedOn m = passed_as m.run.raised m
+
+-- a return leaves the handler of a resumption
+abbrev pub past_of : Option Visited → Cell → List Active → Machine → Option Machine
+past_of None given cs m = None
+past_of (Some v) given [] m = None
+past_of (Some v) given (c ∷ cs) m = Some (passed (reason.ReturnTo v.home) given (c ∷ cs) m)

@@ -1,17 +1,19 @@
 // Activations that are unwound to their end are left.
 
-ghost use Rattle.std.specs.Prelude.{◌≡◌, length, IfOk, OnErr, if◌then◌else◌};
+ghost use Rattle.std.specs.Prelude.{◌≡◌, length, true, IfOk, OnErr, if◌then◌else◌};
 ghost use Rattle.uc_meaning.specs.Raising.{arrives as arrives_by, escapes as escapes_by};
 ghost use Rattle.uc_tree.specs.Source.{Source};
-ghost use Rattle.uc_meaning.specs.Quiet.{State};
+ghost use Rattle.uc_meaning.specs.Quiet.{State, Value};
 ghost use Rattle.uc_code.specs.Laid.{Laid};
 ghost use Rattle.uc_frames.specs.Unwound.{LeavesNow};
-ghost use Rattle.uc_coroutine.specs.Outcomes.{LeftAs};
-ghost use Rattle.uc_coroutine.specs.Unwinding.{ending_by, goes_by, left_as};
+ghost use Rattle.uc_frames.specs.Machine.{cell_of};
+ghost use Rattle.uc_coroutine.specs.Outcomes.{LeftAs, Returns, ReturnsPast};
+ghost use Rattle.uc_coroutine.specs.Unwinding.{ending_by, goes_by, left_as, past_of, Made};
 ghost use Rattle.uc_coroutine.specs.declared.leaving.Left.TheVariants as left;
 
 use crate::unwinding::pass_on;
 use std::alloc::AllocError;
+use uc_frames::cell::Cell;
 use uc_frames::work::Work;
 use uc_meaning::exec::Reason;
 
@@ -88,6 +90,28 @@ fn passing(raised: Option<Reason>, waits: Option<Reason>) -> Left
             Reason::ReturnTo(_) => Left::PassedOn,
             Reason::Destroyed => Left::PassedOn,
         },
+    }
+}
+
+/// A return leaves a handler of resumptions: all from its raise on is unwound by a return to the routine in which it stands, to which this is
+/// handed over. Where the running activation is no such handler, or none waits for it, all stays as it is, and the answer is false.
+pub fn return_past(work: &mut Work, given: Cell) -> bool
+    ensures now { Made (past_of work.old.run.handles given work.old.callers work.old) work.old result work.new }
+    ensures source { result ≡ true → (code : Laid) (s : State) (value : Value) → given ≡ cell_of value → Returns code work.old s → ReturnsPast code value work.new s }
+{
+    let made = leave_handler(work, given);
+    made
+}
+
+fn leave_handler(work: &mut Work, given: Cell) -> bool
+    ensures { Made (past_of work.old.run.handles given work.old.callers work.old) work.old result work.new }
+{
+    match work.handles() {
+        None => false,
+        Some(visited) => {
+            let made = work.pass_on(Reason::ReturnTo(visited.home), given);
+            made
+        }
     }
 }
 

@@ -143,11 +143,11 @@ impl Active {
     }
 
     /// Its unwinding is over: it goes on at this op.
-    pub fn calm(&mut self, to: u32)
-        ensures { self.new ≡ calmed to self.old }
+    pub fn calm(&mut self, behind: u32)
+        ensures { self.new ≡ calmed behind self.old }
     {
         self.operands.clear();
-        self.next = to;
+        self.next = behind;
         self.raised = None;
     }
 
