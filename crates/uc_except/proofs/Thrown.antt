@@ -29,7 +29,7 @@ use Rattle.uc_except.specs.Handling.{thrown, UnwindsNow}
 use Rattle.uc_except.proofs.Seeks.{seeks}
 use Rattle.uc_except.proofs.Handled.{all_search, searched}
 
-abbrev reason_by : raising.Event → Reason
+abbrev pub reason_by : raising.Event → Reason
 reason_by e = reason.Event e.number e.x e.y
 
 module _ (source : Source) (code : Laid) (old new : Machine) (s : State) where

@@ -50,6 +50,12 @@ pub fn throw(work: &mut Work, event: u8, x: i64, y: i64)
     ensures thrown { (source : Source) (code : Laid) (s : State) → Throws code work.old s → event_in s.run.operands ≡ record { number = event; x = x; y = y } → UnwindsNow source code work.new s }
     ensures resumed { (source : Source) (code : Laid) (s : State) → Raises code work.old s → event_in s.run.operands ≡ record { number = event; x = x; y = y } → resumed code.rows None event (work.old.run ∷ work.old.callers) ≡ at.None → UnwindsNow source code work.new s }
 {
+    throw_now(work, event, x, y);
+}
+
+fn throw_now(work: &mut Work, event: u8, x: i64, y: i64)
+    ensures { work.new ≡ thrown (reason.Event event x y) work.old }
+{
     let given = work.result();
     work.unwind(Reason::Event { event, x, y }, given);
 }
