@@ -1,5 +1,5 @@
 -- A handler begins as in the source.
-use Rattle.std.proofs.Common.{◌≡◌, ℕ, pos, List, [], ◌∷◌, length, map, Option, Some, None, false, refl, sym, ap, subst, ◌∙◌}
+use Rattle.std.proofs.Common.{◌≡◌, ℕ, ℤ, pos, List, [], ◌∷◌, length, map, Option, Some, None, false, refl, sym, ap, subst, ◌∙◌}
 use Rattle.std.specs.Prelude.{slice_get}
 use Rattle.uc_tree.specs.Source.{Source}
 use Rattle.uc_meaning.specs.declared.exec.Reason.{Reason}
@@ -34,12 +34,17 @@ use Rattle.uc_except.proofs.Seeks.{seeks}
 abbrev pub event_fields : raising.Event → Event
 event_fields e = record { number = e.number; x = e.x; y = e.y }
 
-event_at : Option Reason → raising.Event → raising.Event
+abbrev event_at : Option Reason → raising.Event → raising.Event
 event_at (Some (reason.Event n x y)) e = record { number = n; x = x; y = y }
 event_at _ e = e
 
 pub same_event : (d e : raising.Event) → (let o : Option Reason = Some (reason.Event d.number d.x d.y) in o) ≡ Some (reason.Event e.number e.x e.y) → d ≡ e
 same_event d e q = ap (λ o. event_at o d) q
+
+-- the same fields
+pub begun_as : (rows : List HandlerRow) (f : Found) (m new : Machine) (n : ℕ) (x y u v : ℤ) → new ≡ handler_begun rows f (record { number = n; x = u; y = v }) m → u ≡ x → v ≡ y → new ≡ handler_begun rows f (record { number = n; x = x; y = y }) m
+begun_as rows f m new n x y u v q i j =
+    q ∙ (ap (λ k. handler_begun rows f (record { number = n; x = k; y = v }) m) i ∙ ap (λ k. handler_begun rows f (record { number = n; x = x; y = k }) m) j)
 
 module _ (source : Source) (code : Laid) where
   module _ (old new : Machine) (s : State) where

@@ -68,7 +68,7 @@ module _ {X : Type 0} where
   depth_none [] d e = omega arith
   depth_none (x ∷ xs) d e = none_by (nat_eq d (length xs)) x xs d refl (depth_none xs d) e
 
-  drop_nil : (k : ℕ) → drop k ([] {A = X}) ≡ []
+  drop_nil : (k : ℕ) → drop {A = X} k [] ≡ []
   drop_nil zero = refl
   drop_nil (suc k) = refl
 

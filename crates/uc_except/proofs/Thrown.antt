@@ -32,6 +32,10 @@ use Rattle.uc_except.proofs.Handled.{all_search, searched}
 abbrev pub reason_by : raising.Event → Reason
 reason_by e = reason.Event e.number e.x e.y
 
+-- the same fields
+pub thrown_as : (m new : Machine) (n : ℕ) (x y u v : ℤ) → new ≡ thrown (reason.Event n u v) m → u ≡ x → v ≡ y → new ≡ thrown (reason.Event n x y) m
+thrown_as m new n x y u v q i j = q ∙ (ap (λ k. thrown (reason.Event n k v) m) i ∙ ap (λ k. thrown (reason.Event n x k) m) j)
+
 module _ (source : Source) (code : Laid) (old new : Machine) (s : State) where
   unwinds_by : (rest : List Todo) (why : Reason) (vs : List Value) → RowsStand code rest old.run.control → old.run ≡ image old.run.control (record s.run { operands = vs }) → UnwindStands code (unwound_by why old.run.result old.run) (unwound (Unwind ∷ rest) why s.run.result s.run)
   unwinds_by rest why vs r i = record {

@@ -133,7 +133,7 @@ module _ (w : Sought) (rows : List HandlerRow) where
 -- the loops
 
 -- the newest row that covers an op, of rows of which the newest stands first
-newest_of : List HandlerRow → ℕ → ℕ
+abbrev newest_of : List HandlerRow → ℕ → ℕ
 newest_of [] next = 0
 newest_of (r ∷ rs) next = if covers r next then suc (length rs) else newest_of rs next
 

@@ -11,8 +11,8 @@ returns-in-Some c =
     sym (resumed_found rows c.args.event acts (c.loop-left.left - 1) c.in-Some.row c.loop-left.rest (sym c.in-Some.ensures))
     ∙ (ap (λ n. resumed_from rows c.loop-left.rest c.args.event (oldest n acts)) k ∙ c.loop-left.invariant.1)
 
-pub loop-left-preserved-in-None : goal.loop-left-preserved-in-None
-loop-left-preserved-in-None c =
+pub loop-left-preserved-in-None-handles_at : goal.loop-left-preserved-in-None-handles_at
+loop-left-preserved-in-None-handles_at c =
     let rows = c.args.code.now.rows in
     let acts = c.args.work.now.run ∷ c.args.work.now.callers in
     let i = c.loop-left.invariant.0 in
