@@ -189,18 +189,20 @@ module _ (code : Laid) (table : List RoutineCode) (any : Bool) where
 
   -- a raise, where there are any
   pub raise_paces : any ≡ true → (ms : List Mark) (line : ℕ) → Paces ms (Risk code ms op.Raise line)
-  raise_paces raised ms line = risk_paces ms op.Raise line (λ n k h. refl) (λ k t. refl)
-  (λ at w e u y p o. let l = p.low in raises_at code table at (risky code table at ms u w (omega arith) y) o p (omega arith) (omega arith))
-  (λ from to floor at w e l x i r.
-      let f : Allowed true floor to = subst (λ b. Allowed b floor to) raised x in
-      let m = waiting_more code.ops at 0 (behind (length code.ops) to) (omega arith) in
-      (i, r, omega arith))
+  raise_paces raised ms line =
+      risk_paces ms op.Raise line (λ n k h. refl) (λ k t. refl)
+      (λ at w e u y p o. let l = p.low in raises_at code table at (risky code table at ms u w (omega arith) y) o p (omega arith) (omega arith))
+      (λ from to floor at w e l x i r.
+          let f : Allowed true floor to = subst (λ b. Allowed b floor to) raised x in
+          let m = waiting_more code.ops at 0 (behind (length code.ops) to) (omega arith) in
+          (i, r, omega arith))
 
   -- the test where a block is unwound that is left as a whole
   pub handled_paces : (ms : List Mark) (line : ℕ) → Paces ms (Risk code ms op.Handled line)
-  handled_paces ms line = risk_paces ms op.Handled line (λ n k h. refl) (λ k t. refl)
-  (λ at w e u y p o. let l = p.low in (risky code table at ms u w (omega arith) y, down code table at (at + 1) o p.outside (omega arith)))
-  (λ from to floor at w e l x i r. (i, r))
+  handled_paces ms line =
+      risk_paces ms op.Handled line (λ n k h. refl) (λ k t. refl)
+      (λ at w e u y p o. let l = p.low in (risky code table at ms u w (omega arith) y, down code table at (at + 1) o p.outside (omega arith)))
+      (λ from to floor at w e l x i r. (i, r))
 
   -- a loop whose parts are paced under its mark
   module _ (ms : List Mark) (line : ℕ) (T S : ℕ → ℕ → Type 0) (B : Mark → ℕ → ℕ → Type 0) (t : Paces ms T) (s : Paces ms S) (b : (m : Mark) → Paces (m ∷ ms) (B m)) where

@@ -11,7 +11,7 @@ use Rattle.uc_code.specs.declared.rows.Mark.{Mark}
 use Rattle.uc_code.specs.declared.rows.Mark.TheVariants as mark
 use Rattle.uc_code.specs.declared.rows.ObjectCall.{ObjectCall}
 use Rattle.uc_code.specs.declared.rows.RoutineCode.{RoutineCode}
-use Rattle.uc_code.specs.declared.rows.RowKind.TheVariants.{CatchResume, CleanUp}
+use Rattle.uc_code.specs.declared.rows.RowKind.TheVariants.{CatchResume, CleanUp as Cleaning}
 use Rattle.uc_code.specs.declared.rows.Spot.{Spot}
 use Rattle.uc_code.specs.declared.rows.Spot.TheVariants as spot
 use Rattle.uc_code.specs.Laid.{Laid, handlers, guards, routine_in}
@@ -100,7 +100,7 @@ module _ (code : Laid) (table : List RoutineCode) (any : Bool) where
     low = λ row test turn z h. sweep_low code table line (mark.Elements row ∷ ms) what test turn z h;
   }
 
-  clean_is_none : {X : Type 0} → CleanUp ≡ CatchResume → X
+  clean_is_none : {X : Type 0} → Cleaning ≡ CatchResume → X
   clean_is_none e = absurd (cc)
 
   -- the row of a clean-up
