@@ -18,8 +18,8 @@ use Rattle.uc_coroutine.specs.declared.leaving.Left.TheVariants.{Ended, Returned
 
 -- the running activation is that to which it is unwound, and the row the one that catches its event there, if one does
 pub record IsOwn (code : Laid) (frame : ℕ) (row : Option ℕ) (m : Machine) : Type 0 where
-  pub frame : frame ≡ length m.callers
-  pub row : row ≡ catcher_in (event_by m.run.raised) code.rows (chain code.rows m.run.control)
+  pub here : frame ≡ length m.callers
+  pub catches : row ≡ catcher_in (event_by m.run.raised) code.rows (chain code.rows m.run.control)
 
 -- the running activation is one and the same, but for what is to do in it, and the others wait
 pub record Returns (code : Laid) (m : Machine) (s : State) : Type 0 where
