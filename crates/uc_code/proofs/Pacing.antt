@@ -191,9 +191,9 @@ module _ (code : Laid) (table : List RoutineCode) (any : Bool) where
       risk_paces ms op.Raise line (λ n k h. refl) (λ k t. refl)
       (λ at w e u y p o. let l = p.low in raises_at code table at (risky code table at ms u w (omega arith) y) o p (omega arith) (omega arith))
       (λ from to floor at w e l x i r.
-          let f : Allowed true floor to = subst (λ b. Allowed b floor to) raised x in
-          let m = waiting_more code.ops at 0 (behind (length code.ops) to) (omega arith) in
-          (i, r, omega arith))
+      let f : Allowed true floor to = subst (λ b. Allowed b floor to) raised x in
+      let m = waiting_more code.ops at 0 (behind (length code.ops) to) (omega arith) in
+      (i, r, omega arith))
 
   -- the test where a block is unwound that is left as a whole
   pub handled_paces : (ms : List Mark) (line : ℕ) → Paces ms (Risk code ms op.Handled line)
