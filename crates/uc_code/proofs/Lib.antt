@@ -21,5 +21,6 @@ pub mod Settled
 pub mod Spans
 pub mod Stable
 pub mod Sweeping
+pub mod Tabled
 pub mod Turning
 pub mod Ways

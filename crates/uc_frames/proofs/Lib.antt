@@ -1,4 +1,8 @@
+pub mod Cleaned
+pub mod Coming
 pub mod Depths
+pub mod Guards
+pub mod Named
 pub mod Newest
 pub mod Positions
 pub mod Slots
