@@ -6,4 +6,5 @@ pub mod Named
 pub mod Newest
 pub mod Positions
 pub mod Slots
+pub mod Weights
 pub mod Zeros
