@@ -17,11 +17,11 @@ use Rattle.uc_frames.specs.Parts.{Lined}
 use Rattle.uc_frames.specs.Stands.{image, RunStands, CallerStands, EnvironmentStands, Stands}
 use Rattle.uc_frames.specs.Left.{left}
 use Rattle.uc_frames.specs.Unwinding.{passed, unwound_by}
-use Rattle.uc_frames.specs.Unwound.{UnwindStands, Unwinds, LeavesNow}
+use Rattle.uc_frames.specs.Unwound.{UnwindStands, Unwinds, LeavesNow, Returns}
 use Rattle.uc_coroutine.specs.declared.leaving.Left.{Left}
 use Rattle.uc_coroutine.specs.declared.leaving.Left.TheVariants.{Returned, Escaped}
 use Rattle.uc_coroutine.specs.Unwinding.{goes_by, ending_by, passed_as, left_as, past_of, Made}
-use Rattle.uc_coroutine.specs.Outcomes.{GoesTo, LeftAs, Returns, ReturnsPast}
+use Rattle.uc_coroutine.specs.Outcomes.{GoesTo, LeftAs, ReturnsPast}
 
 frames_others : (fs : List (List Value)) → others (map (map cell_of) fs) ≡ map (map cell_of) (others fs)
 frames_others [] = refl

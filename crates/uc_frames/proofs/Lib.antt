@@ -4,6 +4,7 @@ pub mod Depths
 pub mod Guards
 pub mod Named
 pub mod Newest
+pub mod Popped
 pub mod Positions
 pub mod Slots
 pub mod Weights
