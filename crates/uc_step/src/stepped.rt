@@ -14,7 +14,7 @@ use uc_meaning::request::{Asked, Request};
 
 /// Going on; going on after a tick; or waiting for the answer to a request. What is left to others: an event that was popped and
 /// is thrown or raised; unwinding, which goes on behind the op; and the end of a handler of resumptions by a return, with what
-/// it hands over.
+/// it hands over. No task comes to an op that ends an unwinding but by unwinding: at such an op it has gone astray.
 #[derive(Clone, Copy)]
 pub enum Stepped {
     Quiet,
@@ -24,6 +24,7 @@ pub enum Stepped {
     Raise(Event),
     Unwind,
     Past(Cell),
+    Astray,
 }
 
 // It asks, by an op of this line.
