@@ -2,7 +2,6 @@ pub mod Cleaned
 pub mod Coming
 pub mod Depths
 pub mod Guards
-pub mod Mains
 pub mod Named
 pub mod Newest
 pub mod Popped
