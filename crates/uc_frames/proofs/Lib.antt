@@ -2,9 +2,11 @@ pub mod Cleaned
 pub mod Coming
 pub mod Depths
 pub mod Guards
+pub mod Keeps
 pub mod Named
 pub mod Newest
 pub mod Positions
+pub mod Reaching
 pub mod Slots
 pub mod Weights
 pub mod Zeros
