@@ -52,7 +52,7 @@ pub fn ride<G: Gate>(
     dispatches: u64,
 ) -> Result<Ridden, AllocError>
     requires some { 1 ≤ quantum }
-    requires paced { IsPaced code.now.ops code.now.routines }
+    requires paced { IsPaced (laid_of code.now) code.now.routines }
     ensures rides { IfOk result (λ r. (source : Source) (s : State) → Lowered source code.now → Stands (laid_of code.now) work s → Rode source (laid_of code.now) (runs.answered answer s) quantum r.ticks r.asked r.work) }
     ensures few { IfOk result (λ r. r.ticks ≤ quantum) }
     ensures early { IfOk result (λ r. (r.asked.request ≡ ask.Slice → ⊥) → r.ticks < quantum) }
@@ -80,7 +80,7 @@ pub fn ride_on(
     quantum: u32,
 ) -> Result<RideEnd, AllocError>
     requires some { 1 ≤ quantum }
-    requires paced { IsPaced code.now.ops code.now.routines }
+    requires paced { IsPaced (laid_of code.now) code.now.routines }
     ensures rides { IfOk result (λ r. (source : Source) (s : State) → Lowered source code.now → Stands (laid_of code.now) work.old s → Rode source (laid_of code.now) (runs.answered answer s) quantum r.ticks r.asked work.new) }
     ensures few { IfOk result (λ r. r.ticks ≤ quantum) }
     ensures early { IfOk result (λ r. (r.asked.request ≡ ask.Slice → ⊥) → r.ticks < quantum) }
@@ -93,7 +93,7 @@ pub fn ride_on(
 // Bursts up to a request, or up to so many ticks.
 fn go_on(code: &Code, work: &mut Work, quantum: u32) -> Result<(u32, Asked), AllocError>
     requires some { 1 ≤ quantum }
-    requires paced { IsPaced code.now.ops code.now.routines }
+    requires paced { IsPaced (laid_of code.now) code.now.routines }
     ensures rides { IfOk result (λ r. HasRidden code.now quantum work.old r.0 r.1 work.new) }
     ensures few { IfOk result (λ r. r.0 ≤ quantum) }
     ensures early { IfOk result (λ r. (r.1.request ≡ ask.Slice → ⊥) → r.0 < quantum) }
@@ -114,7 +114,7 @@ fn go_on(code: &Code, work: &mut Work, quantum: u32) -> Result<(u32, Asked), All
 
 // Ops up to a tick, or up to a request.
 fn burst(code: &Code, work: &mut Work) -> Result<Option<Asked>, AllocError>
-    requires paced { IsPaced code.now.ops code.now.routines }
+    requires paced { IsPaced (laid_of code.now) code.now.routines }
     ensures { IfOk result (λ asked. HasBurst code.now work.old asked work.new) }
 {
     'ops: loop {
