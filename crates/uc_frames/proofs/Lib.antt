@@ -6,6 +6,7 @@ pub mod Keeps
 pub mod Named
 pub mod Newest
 pub mod Positions
+pub mod Raised
 pub mod Reaching
 pub mod Slots
 pub mod Weights
