@@ -3,6 +3,7 @@ pub mod Coming
 pub mod Depths
 pub mod Guards
 pub mod Keeps
+pub mod Landing
 pub mod Named
 pub mod Newest
 pub mod Positions
