@@ -6,6 +6,7 @@ pub mod Keeps
 pub mod Landing
 pub mod Named
 pub mod Newest
+pub mod Popped
 pub mod Positions
 pub mod Raised
 pub mod Reaching
