@@ -1,6 +1,7 @@
 pub mod Cleaned
 pub mod Coming
 pub mod Depths
+pub mod Finishes
 pub mod Guards
 pub mod Keeps
 pub mod Landing
