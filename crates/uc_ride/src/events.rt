@@ -14,7 +14,7 @@ ghost use Rattle.uc_frames.specs.Unwound.{LeavesNow, Unwinds};
 ghost use Rattle.uc_coroutine.specs.Outcomes.{Begins};
 ghost use Rattle.uc_step.specs.Falls.{FallsBelow};
 ghost use Rattle.uc_step.specs.Follow.{Follow};
-ghost use Rattle.uc_ride.specs.Led.{Led, Settles, Steps, StepFalls, Entered, left_in, event_of as event_in};
+ghost use Rattle.uc_ride.specs.Led.{how_settled, how_ended, how_unwound, StepFalls, Entered, left_in, event_of as event_in};
 
 use std::alloc::AllocError;
 use uc_code::code::Code;
@@ -33,82 +33,114 @@ use uc_meaning::fault::RunFault;
 use uc_meaning::request::{Asked, Request};
 use uc_step::stepped::Stepped;
 
-/// Goes on from where a step leaves what an event leads to: the task goes on, after a tick or without one, or it asks.
-pub(crate) fn settle(code: &Code, work: &mut Work, how: Stepped) -> Result<Stepped, AllocError>
+/// How an op ends with what an event leads to by it: the task goes on, after a tick or without one, or it asks.
+#[derive(Clone, Copy)]
+pub(crate) enum Settled {
+    On,
+    Tick,
+    Asks(Asked),
+}
+
+/// How a step of unwinding ends: the task goes on, or it still unwinds, or it asks.
+#[derive(Clone, Copy)]
+pub(crate) enum Unwound {
+    On,
+    Still,
+    Asks(Asked),
+}
+
+/// Goes on from where a step leaves what an event leads to, up to its end.
+pub(crate) fn settle(code: &Code, work: &mut Work, how: Stepped) -> Result<Settled, AllocError>
     requires paced { IsPaced (laid_of code.now) code.now.routines }
     requires below { (w : ℕ) × FallsBelow code.now w how work.old }
-    ensures source { IfOk result (λ after. (source : Source) (s : State) → Lowered source code.now → Follow (laid_of code.now) source how work.old s → Follow (laid_of code.now) source after work.new s) }
-    ensures falls { IfOk result (λ after. Settles code.now how work.old after work.new) }
+    ensures source { IfOk result (λ after. (source : Source) (s : State) → Lowered source code.now → Follow (laid_of code.now) source how work.old s → Follow (laid_of code.now) source (how_settled after) work.new s) }
+    ensures falls { IfOk result (λ after. (w : ℕ) → FallsBelow code.now w how work.old → FallsBelow code.now w (how_settled after) work.new) }
 {
     match how {
-        Stepped::Quiet | Stepped::Tick | Stepped::Ask(_) => Ok(how),
+        Stepped::Quiet => Ok(Settled::On),
+        Stepped::Tick => Ok(Settled::Tick),
+        Stepped::Ask(asked) => Ok(Settled::Asks(asked)),
         Stepped::Throw(event) => {
             throw(work, event.number, event.x, event.y);
-            let after = unwinds(code, work)?;
-            Ok(after)
+            let end = unwinds(code, work)?;
+            Ok(settled(end))
         }
         Stepped::Raise(event) => {
-            let after = raise(code, work, event)?;
-            Ok(after)
+            let end = raise(code, work, event)?;
+            Ok(settled(end))
         }
         Stepped::Unwind => {
-            let after = unwinds(code, work)?;
-            Ok(after)
+            let end = unwinds(code, work)?;
+            Ok(settled(end))
         }
         Stepped::Past(given) => {
             if return_past(work, given) {
-                let after = unwinds(code, work)?;
-                Ok(after)
+                let end = unwinds(code, work)?;
+                Ok(settled(end))
             } else {
-                Ok(ends(code, 0, work, Request::End))
+                let asked = asks(code, 0, work, Request::End);
+                Ok(Settled::Asks(asked))
             }
         }
-        Stepped::Astray => Ok(ends(code, 0, work, Request::End)),
+        Stepped::Astray => {
+            let asked = asks(code, 0, work, Request::End);
+            Ok(Settled::Asks(asked))
+        }
+    }
+}
+
+fn settled(end: Option<Asked>) -> Settled
+    ensures { how_settled result ≡ how_ended end }
+{
+    match end {
+        None => Settled::On,
+        Some(asked) => Settled::Asks(asked),
     }
 }
 
 // The handler begins that the event finds; where it finds none, it is thrown.
-fn raise(code: &Code, work: &mut Work, event: Event) -> Result<Stepped, AllocError>
+fn raise(code: &Code, work: &mut Work, event: Event) -> Result<Option<Asked>, AllocError>
     requires paced { IsPaced (laid_of code.now) code.now.routines }
     requires below { (w : ℕ) × RaisesBelow (laid_of code.now) code.now.routines w work.old }
-    ensures source { IfOk result (λ after. (source : Source) (s : State) → Lowered source code.now → Follow (laid_of code.now) source (Stepped.Raise event) work.old s → Follow (laid_of code.now) source after work.new s) }
-    ensures falls { IfOk result (λ after. (w : ℕ) → RaisesBelow (laid_of code.now) code.now.routines w work.old → Led code.now w after work.new) }
+    ensures source { IfOk result (λ end. (source : Source) (s : State) → Lowered source code.now → Follow (laid_of code.now) source (Stepped.Raise event) work.old s → Follow (laid_of code.now) source (how_ended end) work.new s) }
+    ensures falls { IfOk result (λ end. (w : ℕ) → RaisesBelow (laid_of code.now) code.now.routines w work.old → FallsBelow code.now w (how_ended end) work.new) }
 {
     let found = propagate(code, work, event.number, true);
     match found {
         Found::None => {
             throw(work, event.number, event.x, event.y);
-            let after = unwinds(code, work)?;
-            Ok(after)
+            let end = unwinds(code, work)?;
+            Ok(end)
         }
         Found::Handler { .. } => {
             handle(code, work, &found, event.number, event.x, event.y)?;
-            Ok(Stepped::Quiet)
+            Ok(None)
         }
     }
 }
 
 // Step after step, as long as it unwinds.
-fn unwinds(code: &Code, work: &mut Work) -> Result<Stepped, AllocError>
+fn unwinds(code: &Code, work: &mut Work) -> Result<Option<Asked>, AllocError>
     requires paced { IsPaced (laid_of code.now) code.now.routines }
     requires below { (w : ℕ) × UnwoundBelow (laid_of code.now) code.now.routines w work.old }
-    ensures source { IfOk result (λ after. (source : Source) (s : State) → Lowered source code.now → Unwinds (laid_of code.now) work.old s → Follow (laid_of code.now) source after work.new s) }
-    ensures falls { IfOk result (λ after. (w : ℕ) → UnwoundBelow (laid_of code.now) code.now.routines w work.old → Led code.now w after work.new) }
+    ensures source { IfOk result (λ end. (source : Source) (s : State) → Lowered source code.now → Unwinds (laid_of code.now) work.old s → Follow (laid_of code.now) source (how_ended end) work.new s) }
+    ensures falls { IfOk result (λ end. (w : ℕ) → UnwoundBelow (laid_of code.now) code.now.routines w work.old → FallsBelow code.now w (how_ended end) work.new) }
 {
     'steps: loop {
         let how = unwind_once(code, work)?;
         match how {
-            Stepped::Unwind => {}
-            _ => return Ok(how),
+            Unwound::On => return Ok(None),
+            Unwound::Still => {}
+            Unwound::Asks(asked) => return Ok(Some(asked)),
         }
     }
 }
 
 // One step: a clean-up of the running activation begins, or the test at the end of a block or of a main is made; or the handler that catches
 // the event begins; or the activation is left.
-fn unwind_once(code: &Code, work: &mut Work) -> Result<Stepped, AllocError>
+fn unwind_once(code: &Code, work: &mut Work) -> Result<Unwound, AllocError>
     requires paced { IsPaced (laid_of code.now) code.now.routines }
-    ensures source { IfOk result (λ after. Steps code.now work.old after work.new) }
+    ensures source { IfOk result (λ after. (source : Source) (s : State) → Lowered source code.now → Unwinds (laid_of code.now) work.old s → Follow (laid_of code.now) source (how_unwound after) work.new s) }
     ensures falls { IfOk result (λ after. (w : ℕ) → UnwoundBelow (laid_of code.now) code.now.routines w work.old → StepFalls code.now w (left_in code.now work.old) after work.new) }
 {
     let _ = work.elements();
@@ -138,7 +170,7 @@ fn unwind_once(code: &Code, work: &mut Work) -> Result<Stepped, AllocError>
                     event.x,
                     event.y,
                 )?;
-                Ok(Stepped::Quiet)
+                Ok(Unwound::On)
             }
         }
     }
@@ -172,34 +204,34 @@ fn catching(code: &Code, work: &Work, event: Option<Event>) -> Option<u32>
 }
 
 // What begins: a test ends the unwinding, or lets it go on; a clean-up is executed.
-fn begin(code: &Code, work: &mut Work) -> Result<Stepped, AllocError>
+fn begin(code: &Code, work: &mut Work) -> Result<Unwound, AllocError>
     requires paced { IsPaced (laid_of code.now) code.now.routines }
-    ensures source { IfOk result (λ after. (source : Source) (s : State) → Lowered source code.now → Begins source (laid_of code.now) work.old s → Follow (laid_of code.now) source after work.new s) }
+    ensures source { IfOk result (λ after. (source : Source) (s : State) → Lowered source code.now → Begins source (laid_of code.now) work.old s → Follow (laid_of code.now) source (how_unwound after) work.new s) }
     ensures falls { IfOk result (λ after. (w left : ℕ) → Entered code.now w left work.old → StepFalls code.now w left after work.new) }
 {
     let next = work.next();
     match op_at(code, next) {
-        None => Ok(Stepped::Quiet),
+        None => Ok(Unwound::On),
         Some(instruction) => match instruction.op {
             Op::Handled => {
                 if end_block(work, next + 1) {
-                    Ok(Stepped::Quiet)
+                    Ok(Unwound::On)
                 } else {
-                    Ok(Stepped::Unwind)
+                    Ok(Unwound::Still)
                 }
             }
             Op::Unhandled => {
                 let end = end_main(work)?;
                 match end {
-                    MainEnd::Ended => Ok(ends(code, instruction.line, work, Request::End)),
-                    MainEnd::Returned => Ok(Stepped::Quiet),
+                    MainEnd::Ended => Ok(Unwound::Asks(asks(code, instruction.line, work, Request::End))),
+                    MainEnd::Returned => Ok(Unwound::On),
                     MainEnd::Unhandled => {
                         let number = RunFault::Unhandled.number();
-                        Ok(ends(code, instruction.line, work, Request::Fault { number }))
+                        Ok(Unwound::Asks(asks(code, instruction.line, work, Request::Fault { number })))
                     }
                 }
             }
-            _ => Ok(Stepped::Quiet),
+            _ => Ok(Unwound::On),
         },
     }
 }
@@ -212,26 +244,26 @@ fn op_at(code: &Code, at: u32) -> Option<Instruction>
 }
 
 // The running activation, of which nothing is left, is left.
-fn leave_on(code: &Code, work: &mut Work) -> Result<Stepped, AllocError>
-    ensures source { IfOk result (λ after. (source : Source) (s : State) → LeavesNow (laid_of code.now) work.old s → Follow (laid_of code.now) source after work.new s) }
+fn leave_on(code: &Code, work: &mut Work) -> Result<Unwound, AllocError>
+    ensures source { IfOk result (λ after. (source : Source) (s : State) → LeavesNow (laid_of code.now) work.old s → Follow (laid_of code.now) source (how_unwound after) work.new s) }
     ensures falls { IfOk result (λ after. (w : ℕ) → UnwoundBelow (laid_of code.now) code.now.routines w work.old → StepFalls code.now w (left_in code.now work.old) after work.new) }
 {
     let left = leave(work)?;
     match left {
-        Left::Ended => Ok(ends(code, 0, work, Request::End)),
-        Left::Returned => Ok(Stepped::Quiet),
+        Left::Ended => Ok(Unwound::Asks(asks(code, 0, work, Request::End))),
+        Left::Returned => Ok(Unwound::On),
         Left::Escaped => {
             let number = RunFault::EscapeInUnwind.number();
-            Ok(ends(code, 0, work, Request::Fault { number }))
+            Ok(Unwound::Asks(asks(code, 0, work, Request::Fault { number })))
         }
-        Left::PassedOn => Ok(Stepped::Unwind),
+        Left::PassedOn => Ok(Unwound::Still),
     }
 }
 
 // The task asks, by an op of this line, or of the newest call around it that has one.
-fn ends(code: &Code, line: u32, work: &Work, request: Request) -> Stepped
-    ensures { result ≡ Stepped.Ask (record { request = request; line = line_at code.now.ops line work.now.callers }) }
+fn asks(code: &Code, line: u32, work: &Work, request: Request) -> Asked
+    ensures { result ≡ record { request = request; line = line_at code.now.ops line work.now.callers } }
 {
     let line = work.line(code, line);
-    Stepped::Ask(Asked { request, line })
+    Asked { request, line }
 }

@@ -15,7 +15,7 @@ ghost use Rattle.uc_step.specs.Follow.{behind_line};
 ghost use Rattle.uc_ride.specs.Led.{KeepsAfter, BurstKeeps};
 ghost use Rattle.uc_ride.specs.Rode.{Rode, HasBurst, HasRidden};
 
-use crate::events::settle;
+use crate::events::{Settled, settle};
 use std::alloc::AllocError;
 use uc_code::code::Code;
 use uc_frames::task::Task;
@@ -24,7 +24,6 @@ use uc_meaning::request::{Answer, Asked, Request};
 use uc_outside::Gate;
 use uc_step::onward::{Onward, go_onward};
 use uc_step::step::{answer as give, step};
-use uc_step::stepped::Stepped;
 
 /// How a ride ended: the task with its hand, a new task where one was made, the ticks, and what is asked.
 #[derive(Drop)]
@@ -136,9 +135,9 @@ fn burst(code: &Code, work: &mut Work) -> Result<Option<Asked>, AllocError>
                 let how = step(code, work)?;
                 let after = settle(code, work, how)?;
                 match after {
-                    Stepped::Tick => return Ok(None),
-                    Stepped::Ask(asked) => return Ok(Some(asked)),
-                    _ => {}
+                    Settled::On => {}
+                    Settled::Tick => return Ok(None),
+                    Settled::Asks(asked) => return Ok(Some(asked)),
                 }
             }
         }
