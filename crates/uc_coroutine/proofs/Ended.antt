@@ -14,8 +14,8 @@ use Rattle.uc_frames.specs.Machine as machine
 use Rattle.uc_frames.specs.Parts.{Lined}
 use Rattle.uc_frames.specs.Stands.{CallerStands, Stands}
 use Rattle.uc_frames.specs.Left.{left}
+use Rattle.uc_frames.proofs.Finishes.{main_line}
 use Rattle.uc_frames.specs.Unwound.{TestsBlock, EndsMain, Unwinds}
-use Rattle.uc_frames.proofs.Mains.{main_line}
 use Rattle.uc_coroutine.specs.declared.testing.MainEnd.{MainEnd}
 use Rattle.uc_coroutine.specs.Ends.{block_over, ended_by, main_by, main_over, BlockLeft, MainLeft}
 use Rattle.uc_coroutine.proofs.Lefts.{same_count, handed_on, env_left}
@@ -62,7 +62,7 @@ module _ (source : Source) (code : Laid) (old new : Machine) (s : State) where
     calm = record s { run = calmed (Finish ∷ h.run.rest) s.run }
 
     ended : (ms : List Active) (cs : List quiet.Active) → old.callers ≡ ms → s.callers ≡ cs → Lined (CallerStands code) ms cs → step source s ≡ Goes calm → new ≡ main_over (ended_by ms) old → MainLeft source code (ended_by ms) new s
-    ended [] [] i j l w q = record { before = calm; after = calm; by = more w stay; asks = ap (λ cs. quiet.return_step nought cs calm) j; line = sym (main_line s h.run.finish h.run.rest h.run.todo h.run.main) }
+    ended [] [] i j l w q = record { before = calm; after = calm; by = more w stay; line = sym (main_line code old s h); asks = ap (λ cs. quiet.return_step nought cs calm) j }
     ended [] (c ∷ cs) i j l w q = absurd l
     ended (m ∷ ms) [] i j l w q = absurd l
     ended (m ∷ ms) (c ∷ cs) i j l w q =

@@ -7,7 +7,7 @@ use Rattle.uc_meaning.specs.declared.fault.RunFault.TheVariants as fault
 use Rattle.uc_meaning.specs.Faults.{fault_number}
 use Rattle.uc_meaning.specs.declared.request.Request.TheVariants as ask
 use Rattle.uc_meaning.specs.Executions.{calmed}
-use Rattle.uc_meaning.specs.Quiet.{State, Asks, quiet, line_of, Quietly}
+use Rattle.uc_meaning.specs.Quiet.{State, Asks, quiet, Quietly, line_of}
 use Rattle.uc_code.specs.Laid.{Laid}
 use Rattle.uc_frames.specs.Machine.{Active, Machine, nought}
 use Rattle.uc_frames.specs.Left.{left}
@@ -44,13 +44,13 @@ module _ (source : Source) (code : Laid) where
   BlockLeft true m s = GoesTo source code (Stands code) m s
   BlockLeft false m s = GoesTo source code (Unwinds code) m s
 
-  -- it asks this, behind some quiet steps, in its own line
+  -- it asks this, behind some quiet steps, in the same line
   pub record AsksEnd (s : State) : Type 0 where
     pub before : State
     pub after : State
     pub by : Quietly source s before
-    pub asks : quiet source before ≡ Asks ask.End after
     pub line : line_of before ≡ line_of s
+    pub asks : quiet source before ≡ Asks ask.End after
 
   pub record AsksUnhandled (s : State) : Type 0 where
     pub after : State
