@@ -1,1 +1,2 @@
 pub mod Riding
+pub mod Sourced
