@@ -1,2 +1,1 @@
 pub mod Riding
-pub mod Sourced
