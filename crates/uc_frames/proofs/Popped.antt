@@ -4,7 +4,6 @@ use Rattle.std.specs.Prelude.{slice_get}
 use Rattle.uc_meaning.specs.Quiet as quiet
 use Rattle.uc_meaning.specs.Quiet.{Todo, Value, DropNow, RaiseNow, ThrowNow, State, own_line}
 use Rattle.uc_meaning.specs.Pieces.{Unwind}
-use Rattle.uc_meaning.specs.Raising as raising
 use Rattle.uc_meaning.specs.Raising.{as_event, event_in}
 use Rattle.uc_code.specs.declared.op.Op.TheVariants as op
 use Rattle.uc_code.specs.declared.rows.Mark.{Mark}
