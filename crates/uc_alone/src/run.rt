@@ -39,7 +39,7 @@ pub fn run_alone(
     requires range { InRange opts }
     requires alone { opts.processors ≡ 1 }
     requires small { length input.now ≤ INPUT_BYTES }
-    requires paced { IsPaced code.now.ops code.now.routines }
+    requires paced { IsPaced (laid_of code.now) code.now.routines }
     ensures run { IfOk result (λ journal. (source : Source) → Lowered source code.now → source.main ≡ main → HasMain source → IsRunOf source input.now opts journal.items) }
 {
     let mut journal = Vec::new(alloc);
@@ -89,7 +89,7 @@ fn go_on(
     requires range { InRange opts }
     requires alone { opts.processors ≡ 1 }
     requires small { length input.now ≤ INPUT_BYTES }
-    requires paced { IsPaced code.now.ops code.now.routines }
+    requires paced { IsPaced (laid_of code.now) code.now.routines }
     requires tells { Tells journal.items (record { bytes = 0; failed = false; since = 0; all = 0 }) }
     requires room { length journal.items < opts.entries }
     ensures { IfOk result (λ all. (source : Source) (s : State) → Lowered source code.now → Going source input.now opts journal.items answer.Go s → Stands (laid_of code.now) work s → IsRunOf source input.now opts all.items) }

@@ -42,7 +42,7 @@ module _ (code : Code) (w : ℕ) where
 
   pub record Catcher (n : ℕ) (ns : List ℕ) : Type 0 where
     pub entry : Entry (laid_of code) n ns
-    pub kind : entry.row.kind ≡ kind.Catch
+    pub catches : entry.row.kind ≡ kind.Catch
 
   is_catch : (k : RowKind) (b : Bool) → (catches k && b) ≡ true → k ≡ kind.Catch
   is_catch kind.Catch b e = refl
@@ -51,10 +51,10 @@ module _ (code : Code) (w : ℕ) where
 
   caught_row : (event n : ℕ) (o : Option HandlerRow) (ns : List ℕ) → slice_get code.rows n ≡ o → is_found (Catch event) n o ≡ true → Catcher n (n ∷ ns)
   caught_row event n None ns q e = absurd (cc)
-  caught_row event n (Some r) ns q e = record { entry = record { row = r; there = q; behind = ns; last = Whole (n ∷ ns) }; kind = is_catch r.kind (row_takes event r) e }
+  caught_row event n (Some r) ns q e = record { entry = record { row = r; there = q; behind = ns; last = Whole (n ∷ ns) }; catches = is_catch r.kind (row_takes event r) e }
 
   caught_later : (x n : ℕ) (ns : List ℕ) → Catcher n ns → Catcher n (x ∷ ns)
-  caught_later x n ns c = record { entry = record { row = c.entry.row; there = c.entry.there; behind = c.entry.behind; last = Behind x (n ∷ c.entry.behind) ns c.entry.last }; kind = c.kind }
+  caught_later x n ns c = record { entry = record { row = c.entry.row; there = c.entry.there; behind = c.entry.behind; last = Behind x (n ∷ c.entry.behind) ns c.entry.last }; catches = c.catches }
 
   chosen : (b : Bool) (n m : ℕ) (other : Option ℕ) → (if b then Some n else other) ≡ Some m → ((b ≡ true) × (n ≡ m)) ⊎ (other ≡ Some m)
   chosen true n m other e = inl (refl, cc)
@@ -71,7 +71,7 @@ module _ (code : Code) (w : ℕ) where
   pub catch_goes : (event frame row : ℕ) (e : Event) (m n : Machine) → UnwoundBelow (laid_of code) code.routines w m → m.run.elements < 2 ^ 32 → first_in (Catch event) code.rows (chain code.rows m.run.control) ≡ Some row → n ≡ handler_begun code.rows (Handler frame row) e m → Lowers code w n
   catch_goes event frame row e m n u few q b =
       let c = catcher_of event row (chain code.rows m.run.control) q in
-      let x = b ∙ (ap (λ o. handled_at o frame e m) c.entry.there ∙ ap (λ k. handled_by k c.entry.row frame e m) c.kind) in
+      let x = b ∙ (ap (λ o. handled_at o frame e m) c.entry.there ∙ ap (λ k. handled_by k c.entry.row frame e m) c.catches) in
       lands (laid_of code) code.routines w m n u row c.entry (ap (λ (y : Machine). y.callers) x) (ap (λ (y : Machine). y.run.control) x) (ap (λ (y : Machine). y.run.elements) x) (ap (λ (y : Machine). y.run.handles) x) (ap (λ (y : Machine). y.run.counts) x) few
 
   -- a clean-up begins
