@@ -1,12 +1,11 @@
 -- What an event leads to leaves less to do.
-use Rattle.std.proofs.Common.{◌≡◌, ℕ, ◌+◌, ◌^◌, ◌<◌, ◌≤◌, List, [], ◌∷◌, length, ◌⊎◌, inl, inr, Option, Some, None, Bool, true, false, refl, sym, ap, subst, ◌∙◌, arith}
+use Rattle.std.proofs.Common.{◌≡◌, ℕ, ◌+◌, ◌^◌, ◌<◌, List, [], ◌∷◌, length, ◌⊎◌, inl, inr, Option, Some, None, Bool, true, false, refl, sym, ap, subst, ◌∙◌}
 use Rattle.std.specs.Prelude.{◌&&◌, nat_eq, slice_get, if◌then◌else◌}
 use Rattle.std.proofs.lemmas.Bool.{eq-eqb}
 use Rattle.uc_meaning.specs.declared.exec.Reason.{Reason}
 use Rattle.uc_meaning.specs.declared.exec.Reason.TheVariants as reason
 use Rattle.uc_code.specs.declared.op.Op.TheVariants as op
 use Rattle.uc_code.specs.declared.rows.HandlerRow.{HandlerRow}
-use Rattle.uc_code.specs.declared.rows.Instruction.{Instruction}
 use Rattle.uc_code.specs.declared.rows.RowKind.{RowKind}
 use Rattle.uc_code.specs.declared.rows.RowKind.TheVariants as kind
 use Rattle.uc_code.specs.Codes.{Code}
@@ -15,9 +14,9 @@ use Rattle.uc_code.specs.Pace.{IsPaced}
 use Rattle.uc_frames.specs.declared.cell.Cell.{Cell}
 use Rattle.uc_frames.specs.declared.event.Event.{Event}
 use Rattle.uc_frames.specs.declared.search.Sought.TheVariants.{Catch, Stop}
-use Rattle.uc_frames.specs.Keeping.{Whole, Behind, Entry, AllWait, taken_at, Goes, UnwoundBelow, LeavesBelow, RaisesBelow}
+use Rattle.uc_frames.specs.Keeping.{Whole, Behind, Entry, AllWait, taken_at, UnwoundBelow, LeavesBelow, RaisesBelow}
 use Rattle.uc_frames.specs.Left.{left}
-use Rattle.uc_frames.specs.Machine.{Active, Machine, nought}
+use Rattle.uc_frames.specs.Machine.{Active, Machine}
 use Rattle.uc_frames.specs.Searches.{catches, row_takes, is_found, is_named, first_in}
 use Rattle.uc_frames.specs.Unwinding.{passed}
 use Rattle.uc_frames.specs.Weight.{waits}
