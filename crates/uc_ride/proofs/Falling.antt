@@ -82,15 +82,15 @@ module _ (code : Code) (w : ℕ) where
   same_machine : (a b : Machine) → Some a ≡ Some b → a ≡ b
   same_machine a b e = cc
 
-  nothing : (n : Machine) → (None : Option Machine) ≡ Some n → ⊥
-  nothing n e = absurd (cc)
+  nothing : (o : Option Machine) (n : Machine) → o ≡ None → o ≡ Some n → ⊥
+  nothing o n e f = let x : None ≡ Some n = sym e ∙ f in absurd (cc)
 
   not_here : (b : Bool) (o : Option Machine) (n : Machine) → b ≡ true → (if b then None else o) ≡ Some n → ⊥
-  not_here true o n e f = nothing n f
+  not_here true o n e f = nothing None n refl f
   not_here false o n e f = absurd (cc)
 
   cleaned : (b : Bool) (x n : Machine) → (if b then None else Some x) ≡ Some n → x ≡ n
-  cleaned true x n e = absurd (nothing n e)
+  cleaned true x n e = absurd (nothing None n refl e)
   cleaned false x n e = same_machine x n e
 
   entered_by : (frame : ℕ) (row : Option ℕ) (m n : Machine) (left : ℕ) → UnwoundBelow (laid_of code) code.routines w m → left_in code m ≡ left → frame ≡ length m.callers → m.run.elements < 2 ^ 32 → (o : Option ℕ) → first_in (Stop (point_in frame row (length m.callers))) code.rows (chain code.rows m.run.control) ≡ o → step_by code.rows frame row o m ≡ Some n → Entered code w left n

@@ -225,11 +225,21 @@ fn begin(code: &Code, work: &mut Work) -> Result<Unwound, AllocError>
             Op::Unhandled => {
                 let end = end_main(work)?;
                 match end {
-                    MainEnd::Ended => Ok(Unwound::Asks(asks(code, instruction.line, work, Request::End))),
+                    MainEnd::Ended => Ok(Unwound::Asks(asks(
+                        code,
+                        instruction.line,
+                        work,
+                        Request::End,
+                    ))),
                     MainEnd::Returned => Ok(Unwound::On),
                     MainEnd::Unhandled => {
                         let number = RunFault::Unhandled.number();
-                        Ok(Unwound::Asks(asks(code, instruction.line, work, Request::Fault { number })))
+                        Ok(Unwound::Asks(asks(
+                            code,
+                            instruction.line,
+                            work,
+                            Request::Fault { number },
+                        )))
                     }
                 }
             }
