@@ -1,0 +1,27 @@
+use Rattle.std.proofs.Common.{◌≡◌, length, ap, ◌∙◌, arith}
+use Rattle.uc_tree.specs.Statements.{stmts_of}
+use Rattle.uc_code.specs.Drafts.{Draft}
+use Rattle.uc_code.specs.Laid.{routine_in}
+use Rattle.uc_lower_stmt.specs.Marked.{objects_in}
+use Rattle.uc_lower_stmt.specs.Scoped.{sizes_at}
+use Rattle.uc_lower_stmt.proofs.Routines.{main_lowered}
+use Rattle.uc_lower_stmt.proofs.routine.lower_main.Goals as goal
+
+pub lower_stmts-requires-clause-inside : goal.lower_stmts-requires-clause-inside
+lower_stmts-requires-clause-inside c =
+    let e : routine_in c.open.new.self.marks ≡ c.args.number = ap (λ (d : Draft). routine_in d.marks) c.in_ok-_row.ensures.ok in
+    omega (arith, e, c.requires.written)
+
+pub lower_stmts-requires-clause-room : goal.lower_stmts-requires-clause-room
+lower_stmts-requires-clause-room c =
+    let none : objects_in c.open.new.self.marks ≡ objects_in c.args.out.now.marks = ap (λ (d : Draft). objects_in d.marks) c.in_ok-_row.ensures.ok in
+    let zero : objects_in c.args.out.now.marks ≡ 0 = ap objects_in c.requires.outside in
+    let size = ap (sizes_at (stmts_of c.body_of.result.now)) (none ∙ zero) in
+    let body = ap (λ ss. sizes_at ss 0) c.body_of.ensures in
+    let ops = ap (λ (d : Draft). length d.ops) c.in_ok-_row.ensures.ok in
+    omega (arith, none, zero, size, body, ops, c.requires.room)
+
+pub returns : goal.returns
+returns c =
+    main_lowered c.args.names.now c.args.routine.now c.args.number c.line_of-line.result (stmts_of c.body_of.result.now) c.args.out.now c.open.new.self c.lower_stmts.new.out c.close.new.self c.put.new.out c.put-2.new.out
+    c.requires.outside c.line_of-line.ensures c.body_of.ensures c.in_ok-_row.ensures.ok c.in_ok-_row.ensures.kept c.in_ok-lower_stmts.ensures c.close.ensures.closed c.close.ensures.kept c.close.ensures.handler c.in_ok-put.ensures c.in_ok-put-2.ensures
