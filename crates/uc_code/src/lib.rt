@@ -9,4 +9,5 @@ pub mod listing;
 mod marks;
 pub mod op;
 mod operands;
+pub mod raising;
 pub mod rows;
