@@ -12,10 +12,13 @@ use Rattle.uc_built.specs.BuiltForms.{are_built}
 use Rattle.uc_code.specs.declared.rows.RoutineCode.{RoutineCode}
 use Rattle.uc_code.specs.Drafts.{Draft}
 use Rattle.uc_code.specs.Laid.{Laid, laid_in}
-use Rattle.uc_code.specs.Ranges.{Kept}
-use Rattle.uc_code.specs.Lowered.{StmtsAt, EndAt, RoutineAt, RoutinesAt, body_line, body_mark}
-use Rattle.uc_code.proofs.Stable.{both_stable, kept_same}
-use Rattle.uc_lower_stmt.proofs.Kept.{stmts_stable, end_stable}
+use Rattle.uc_code.specs.Ranges.{Kept, Stable}
+use Rattle.uc_code.specs.declared.op.Op.TheVariants as op
+use Rattle.uc_code.specs.declared.rows.Mark.TheVariants as mark
+use Rattle.uc_code.specs.Lowered.{StmtsAt, BodyAt, RoutineAt, RoutinesAt}
+use Rattle.uc_code.proofs.Stable.{kept_same, main_stable, one_stable}
+use Rattle.uc_lower_expr.proofs.Settled.{both}
+use Rattle.uc_lower_stmt.proofs.Kept.{stmts_stable}
 use Rattle.uc_tree.specs.declared.limits.TheConstants.{OPS_FOR_SIZE}
 use Rattle.uc_tree.specs.declared.kinds.Role.{Role}
 use Rattle.uc_tree.specs.declared.kinds.Role.TheVariants as role
@@ -26,16 +29,23 @@ use Rattle.uc_lower_class.specs.Bodies.{builder_room}
 use Rattle.uc_lower.specs.Laying.{Lays, LaysAll, defined_texts, own_room, role_room_of, routine_room, unwritten_rooms, written_room}
 use Rattle.uc_lower.proofs.Built.{stmts_sites}
 
+-- the statements of a routine and its end
+body_stable : (q : source.Purpose) (n line : ℕ) (ss : source.Stmts) → Stable (λ code. BodyAt code q n line ss)
+body_stable source.TaskMain n line ss = main_stable line (λ code ms. StmtsAt code ms line ss) (λ ms. stmts_stable ms line ss) n
+body_stable source.Procedure n line ss = both (stmts_stable (mark.Body n ∷ []) line ss) (one_stable op.Return 0)
+body_stable source.Function n line ss = both (stmts_stable (mark.Body n ∷ []) line ss) (both (one_stable op.NoReturn line) (one_stable op.Return 0))
+body_stable source.Builder n line ss = both (stmts_stable (mark.Body n ∷ []) 0 ss) (one_stable op.Return 0)
+
 routine_moves : (old new : Laid) (n : ℕ) (r : source.Routine) (c : RoutineCode) (a z : ℕ) → z ≤ length old.ops → Kept old new → RoutineAt old n r c a z → RoutineAt new n r c a z
 routine_moves old new n r c a z l k h = record {
   entry = h.entry;
   cells = h.cells;
   params = h.params;
-  body = (both_stable (λ code. StmtsAt code (body_mark r.purpose n r.line ∷ []) (body_line r.purpose r.line) r.body) (stmts_stable (body_mark r.purpose n r.line ∷ []) (body_line r.purpose r.line) r.body) (λ code. EndAt code r.purpose r.line) (end_stable r.purpose r.line)).moves old new a z (kept_same old new a z l k) h.body;
+  body = (body_stable r.purpose n r.line r.body).moves old new a z (kept_same old new a z l k) h.body;
 }
 
 routine_rises : (code : Laid) (n : ℕ) (r : source.Routine) (c : RoutineCode) (a z : ℕ) → RoutineAt code n r c a z → a ≤ z
-routine_rises code n r c a z h = (both_stable (λ code. StmtsAt code (body_mark r.purpose n r.line ∷ []) (body_line r.purpose r.line) r.body) (stmts_stable (body_mark r.purpose n r.line ∷ []) (body_line r.purpose r.line) r.body) (λ code. EndAt code r.purpose r.line) (end_stable r.purpose r.line)).rises code a z h.body
+routine_rises code n r c a z h = (body_stable r.purpose n r.line r.body).rises code a z h.body
 
 routines_rise : (code : Laid) (n : ℕ) (rs : List source.Routine) (cs : List RoutineCode) (a z : ℕ) → RoutinesAt code n rs cs a z → a ≤ z
 routines_rise code n [] [] a z h = let e = h.end in omega arith

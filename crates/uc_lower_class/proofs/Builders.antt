@@ -25,7 +25,7 @@ use Rattle.uc_code.specs.Drafts.{Draft}
 use Rattle.uc_code.specs.Laid.{Laid, laid_in}
 use Rattle.uc_code.specs.Open.{left_marks}
 use Rattle.uc_code.specs.Ranges.{Both, Kept, One}
-use Rattle.uc_code.specs.Lowered.{StmtsAt, EndAt, RoutineAt, body_line, body_mark}
+use Rattle.uc_code.specs.Lowered.{StmtsAt, BodyAt, RoutineAt}
 use Rattle.uc_code.proofs.Stable.{kept_then, kept_same}
 use Rattle.uc_lower_expr.specs.Added.{Adds, OpCode}
 use Rattle.uc_lower_stmt.specs.Routines.{frame_cells}
@@ -179,7 +179,7 @@ module _ (p : Program) (r : Routine) (wanted : Role) (class : Option ℕ) (numbe
           entry = refl;
           cells = refl;
           params = refl;
-          body = subst (λ (q : source.Purpose). Both (StmtsAt (laid_in new) (body_mark q number r.brace.line ∷ []) (body_line q r.brace.line) (body_by p r.sig.role r s)) (EndAt (laid_in new) q r.brace.line) (length d0.ops) (length new.ops)) (sym purpose) placed.code;
+          body = subst (λ (q : source.Purpose). BodyAt (laid_in new) q number r.brace.line (body_by p r.sig.role r s) (length d0.ops) (length new.ops)) (sym purpose) placed.code;
         };
         written = placed.written;
         outside = placed.outside;

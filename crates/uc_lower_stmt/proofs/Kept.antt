@@ -9,7 +9,7 @@ use Rattle.uc_tree.specs.Hidden.{EVENT_FIELDS}
 use Rattle.uc_code.specs.Ranges.{Both, HandledAt, Stable}
 use Rattle.uc_code.specs.Laid.{Laid, handlers}
 use Rattle.uc_code.specs.declared.rows.ObjectCall.{ObjectCall}
-use Rattle.uc_code.specs.Lowered.{item_op, ExprAt, ValueAt, PiecesAt, StepAt, Any, ExitAt, CallBuilt, CallDone, CleanAt, FilledAt, ScopedAt, BuiltAt, StmtAt, StmtsAt, RaisedAt, KeepsAt, HandlerBy, NamedAt, EventAt, HandlersAt, handler_of, handler_rows}
+use Rattle.uc_code.specs.Lowered.{item_op, ExprAt, ValueAt, PiecesAt, StepAt, Any, ExitAt, CallBuilt, CallDone, CleanAt, FilledAt, ScopedAt, BuiltAt, StmtAt, StmtsAt, RaisedAt, KeepAt, KeepsAt, HandlerBy, NamedAt, EventAt, HandlersAt, handler_of, handler_rows}
 use Rattle.uc_code.proofs.Stable.{nothing_stable, never_stable, one_stable, risk_stable, turns_stable, whole_stable, guarded_stable, handled_stable, apart_stable, elements_stable, scope_stable, behind_part_stable}
 use Rattle.uc_code.proofs.Putting.{clean_stable, done_stable}
 use Rattle.uc_lower_expr.proofs.Settled.{both, fork, expr_stable}
@@ -139,9 +139,11 @@ raised_stable line ms (BuildsAt n k e) =
     both (one_stable (op.Clear k EVENT_FIELDS) line) (both (expr_stable line ms e) (both (one_stable op.Discard line) (both (one_stable (op.Push (pos n)) line) (both (one_stable (op.Via k) line) (one_stable (op.Via (k + 1)) line)))))
 raised_stable line ms (AgainFrom k) = both (one_stable (op.Via k) line) (both (one_stable (op.Via (k + 1)) line) (one_stable (op.Via (k + 2)) line))
 
+keep_stable : (line k : ℕ) → Stable (λ code. KeepAt code line k)
+keep_stable line k = both (one_stable (op.Set k) line) (one_stable op.Discard line)
+
 keeps_stable : (line k : ℕ) → Stable (λ code. KeepsAt code line k)
-keeps_stable line k =
-    both (one_stable (op.Set (k + 2)) line) (both (one_stable op.Discard line) (both (one_stable (op.Set (k + 1)) line) (both (one_stable op.Discard line) (both (one_stable (op.Set k) line) (one_stable op.Discard line)))))
+keeps_stable line k = both (keep_stable line (k + 2)) (both (keep_stable line (k + 1)) (keep_stable line k))
 
 handler_stable : (resumes : Bool) (ms : List Mark) (exit line : ℕ) (B : Laid → List Mark → ℕ → ℕ → Type 0) → ((ns : List Mark) → Stable (λ code. B code ns)) → Stable (λ code. HandlerBy code resumes ms exit line (B code))
 handler_stable false ms exit line B b = both (b ms) (one_stable (op.Jump exit) line)
@@ -157,7 +159,7 @@ mutual
   pub stmt_stable : (ms : List Mark) (s : Stmt) → Stable (λ code. StmtAt code ms s)
   stmt_stable ms (Skip line) = nothing_stable
   stmt_stable ms (Block line body) = stmts_stable ms line body
-  stmt_stable ms (Whole line body) = whole_stable line ms (λ code ns. StmtsAt code ns line body) (λ ns. stmts_stable ns line body)
+  stmt_stable ms (Whole line body) = whole_stable line (λ code ns. StmtsAt code ns line body) (λ ns. stmts_stable ns line body) ms
   stmt_stable ms (Evaluate line e) = both (expr_stable line ms e) (one_stable op.Discard line)
   stmt_stable ms (Declare line ds) = variables_stable line ms ds
   stmt_stable ms (Print line is) = items_stable line ms is
@@ -184,7 +186,7 @@ mutual
   event_stable ms (Throw line r) = both (raised_stable line ms r) (risk_stable ms op.Throw line)
   event_stable ms (Raise line r) = both (raised_stable line ms r) (both (risk_stable ms op.Raise line) (one_stable op.Discard line))
   event_stable ms (Try line body hs) =
-      guarded_stable line ms (handler_rows hs) (λ code ns. StmtsAt code ns line body) (λ code first exit. HandlersAt code ms first exit hs) (λ ns. stmts_stable ns line body) (λ first exit. handlers_stable ms first exit hs)
+      guarded_stable line (handler_rows hs) ms (λ code ns. StmtsAt code ns line body) (λ code first exit. HandlersAt code ms first exit hs) (λ ns. stmts_stable ns line body) (λ first exit. handlers_stable ms first exit hs)
   event_stable ms (RaiseAt line r e) = never_stable
   event_stable ms (Enable line events s) = never_stable
   event_stable ms (Disable line events s) = never_stable
