@@ -15,6 +15,14 @@ lower_statements-requires-clause-scopes c =
     let texts = c.requires.texts in
     omega (arith, z, few, texts)
 
+pub lower_statements-requires-clause-outside : goal.lower_statements-requires-clause-outside
+lower_statements-requires-clause-outside c = ap (λ (d : Draft). d.marks) c.in_ok-declare_params.ensures ∙ ap (λ (d : Draft). d.marks) c.begin_routine.ensures
+
+pub lower_statements-requires-clause-room : goal.lower_statements-requires-clause-room
+lower_statements-requires-clause-room c =
+    let ops = ap (λ (d : Draft). length d.ops) c.in_ok-declare_params.ensures ∙ ap (λ (d : Draft). length d.ops) c.begin_routine.ensures in
+    omega (arith, ops, c.requires.room)
+
 pub overflow_cast-count : goal.overflow_cast-count
 overflow_cast-count c =
     let xs : c.params_of-params.result.now ≡ c.args.routine.now.sig.params = c.params_of-params.ensures ∙ ap (λ (s : Sig). s.params) c.sig_of-sig.ensures in
