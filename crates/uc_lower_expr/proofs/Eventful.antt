@@ -1,9 +1,10 @@
 -- Tables of the events of a program and of their constructors.
-use Rattle.std.proofs.Common.{◌≡◌, ℕ, zero, suc, ◌+◌, List, [], ◌∷◌, ◌++◌, Bool, true, false, ◌&&◌, Option, Some, None, if◌then◌else◌, nat_eq, take, length, refl, ap, sym, subst, ◌∙◌, arith, true≢false}
+use Rattle.std.proofs.Common.{◌≡◌, ℕ, zero, suc, ◌+◌, ◌-◌, ◌≤◌, ◌<◌, List, [], ◌∷◌, ◌++◌, Bool, true, false, not, ◌&&◌, Option, Some, None, if◌then◌else◌, nat_eq, take, length, refl, ap, sym, subst, ◌∙◌, arith, true≢false}
 use Rattle.std.specs.Prelude.{option_and_then, option_map, slice_get, unwrap_or}
+use Rattle.std.proofs.lemmas.Bool.{le-leb, lt-leb}
 use Rattle.std.proofs.lemmas.List.{append-nil, length-append}
 use Rattle.std.specs.Cmp.Lexicographic.{bytes_decides}
-use Rattle.uc_names.specs.Blocks.{Block, id_or, found}
+use Rattle.uc_names.specs.Blocks.{Block, id_or, found, declared, is_declared}
 use Rattle.uc_sizes.specs.Places.{IsPlaces}
 use Rattle.uc_tree.specs.declared.limits.TheConstants.{FIRST_EVENT, LAST_EVENT, UNHANDLED}
 use Rattle.uc_tree.specs.Names.{same_name}
@@ -66,22 +67,35 @@ builders_none (d ∷ ds) bs h = record { one = h.one; at = h.at }
 pub builders_long : (n : ℕ) (s : Sig) (place : ℕ) (old new : List Block) → new ≡ noted_builder n s place old → length old ≡ 1 → length new ≡ 1
 builders_long n s place old new e one = ap length e ∙ noted_one (builds_event n s) old (noted_name old s.name place) (noted_long old s.name place) one
 
+-- a name that is declared where it was not
+
+noted_case : (t told : Bool) (bs new : List Block) (x : List ℕ) (k : ℕ) → told ≡ not t → new ≡ (if told then declared bs x k else bs) → new ≡ (if t then bs else declared bs x k)
+noted_case true told bs new x k a e = e ∙ ap (λ (b : Bool). if b then declared bs x k else bs) a
+noted_case false told bs new x k a e = e ∙ ap (λ (b : Bool). if b then declared bs x k else bs) a
+
+pub declared_noted : (bs new : List Block) (x : List ℕ) (k : ℕ) (told : Bool) → told ≡ not (is_declared bs x) → new ≡ (if told then declared bs x k else bs) → new ≡ noted_name bs x k
+declared_noted bs new x k told a e = noted_case (is_declared bs x) told bs new x k a e
+
+pub builder_declared : (owner : ℕ) (sig : Sig) (number : ℕ) (old new : List Block) → builds_event owner sig ≡ true → new ≡ noted_name old sig.name number → new ≡ noted_builder owner sig number old
+builder_declared owner sig number old new b e = e ∙ sym (ap (λ (t : Bool). if t then noted_name old sig.name number else old) b)
+
+pub builder_passed : (owner : ℕ) (sig : Sig) (number : ℕ) (old : List Block) → builds_event owner sig ≡ false → old ≡ noted_builder owner sig number old
+builder_passed owner sig number old b = sym (ap (λ (t : Bool). if t then noted_name old sig.name number else old) b)
+
 -- events
 
-pub event_passed : (c : Class) (count : ℕ) (old : List Block) → is_event c.kind ≡ false → length old ≡ 1 → NotesEvent c count count old old
-event_passed c count old e one =
+pub event_passed : (c : Class) (count : ℕ) (old : List Block) → is_event c.kind ≡ false → NotesEvent c count count old old
+event_passed c count old e =
     let none : event_names (c ∷ []) ≡ [] = ap (λ (t : Bool). if t then c.name ∷ [] else []) e in
     record {
-      one = one;
       more = λ names l was. subst (λ ns. IsPlaces (names ++ ns) old) (sym none) (subst (λ ns. IsPlaces ns old) (sym (append-nil names)) was);
       long = (let l : length (event_names (c ∷ [])) ≡ 0 = ap length none in omega arith);
     }
 
-pub event_noted : (c : Class) (count next : ℕ) (old new : List Block) → is_event c.kind ≡ true → next ≡ count + 1 → length new ≡ 1 → ((names : List (List ℕ)) → length names ≡ count → IsPlaces names old → IsPlaces (names ++ c.name ∷ []) new) → NotesEvent c count next old new
-event_noted c count next old new e k one h =
+pub event_noted : (c : Class) (count next : ℕ) (old new : List Block) → is_event c.kind ≡ true → next ≡ count + 1 → ((names : List (List ℕ)) → length names ≡ count → IsPlaces names old → IsPlaces (names ++ c.name ∷ []) new) → NotesEvent c count next old new
+event_noted c count next old new e k h =
     let some : event_names (c ∷ []) ≡ c.name ∷ [] = ap (λ (t : Bool). if t then c.name ∷ [] else []) e in
     record {
-      one = one;
       more = λ names l was. subst (λ ns. IsPlaces (names ++ ns) new) (sym some) (h names l was);
       long = (let l : length (event_names (c ∷ [])) ≡ 1 = ap length some in omega (arith, k));
     }
@@ -134,3 +148,14 @@ event_is p name place e u =
 
 pub unhandled_is : (p : Program) (name : List ℕ) → same_name name unhandled_name ≡ true → 0 ≡ number_of_event p name
 unhandled_is p name u = ap (λ (n : List ℕ). number_of_event p n) (sym (same_eq name unhandled_name u))
+
+-- the number of an event that has one
+
+abbrev at_last : Bool → ℕ → ℕ
+at_last t n = unwrap_or (if t then Some n else None) 0
+
+pub event_few : (k : ℕ) → k ≤ LAST_EVENT - FIRST_EVENT → FIRST_EVENT + k ≡ event_by (Some k)
+event_few k l = sym (ap (λ (t : Bool). at_last t (FIRST_EVENT + k)) (le-leb (FIRST_EVENT + k) LAST_EVENT (omega (arith, l))))
+
+pub event_many : (k : ℕ) → LAST_EVENT - FIRST_EVENT < k → 0 ≡ event_by (Some k)
+event_many k l = sym (ap (λ (t : Bool). at_last t (FIRST_EVENT + k)) (lt-leb (FIRST_EVENT + k) LAST_EVENT (omega (arith, l))))

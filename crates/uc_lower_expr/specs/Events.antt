@@ -24,7 +24,6 @@ pub record AreBuilders (ds : List Defined) (numbers : List Block) : Type 0 where
 
 -- a table of so many events with those of one class more, so many then
 pub record NotesEvent (c : Class) (count next : ℕ) (old new : List Block) : Type 0 where
-  pub one : length new ≡ 1
   pub more : (names : List (List ℕ)) → length names ≡ count → IsPlaces names old → IsPlaces (names ++ event_names (c ∷ [])) new
   pub long : count + length (event_names (c ∷ [])) ≡ next
 

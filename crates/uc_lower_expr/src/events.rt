@@ -7,6 +7,7 @@ ghost use Rattle.uc_tree.specs.Objects.{is_constructor};
 ghost use Rattle.uc_sizes.specs.Places.{IsPlaces};
 ghost use Rattle.uc_lower_expr.specs.Events.{AreBuilders, NotesEvent, builds_event, event_by, noted_builder};
 
+use crate::program_names::{name_of, sig_of};
 use std::alloc::{AllocError, Global};
 use uc_names::scope::Scope;
 use uc_sizes::places::{no_places, note_place};
@@ -56,12 +57,13 @@ fn note_builder(
     requires { length builders.old ≡ 1 }
     ensures { OnOk result (builders.new ≡ noted_builder owner routine.now.sig number builders.old) }
 {
-    if !builds_event(owner, &routine.sig) {
+    let sig = sig_of(routine);
+    if !builds_event(owner, sig) {
         return Ok(());
     }
     match u32::try_from(number) {
         Ok(id) => {
-            builders.declare(routine.sig.name.bytes(), id)?;
+            builders.declare(name_of(sig).bytes(), id)?;
             Ok(())
         }
         Err(_) => Err(AllocError),
@@ -92,8 +94,13 @@ fn note_event(events: &mut Scope, class: &Class, count: usize) -> Result<usize, 
     if !is_event(class.kind) {
         return Ok(count);
     }
-    note_place(events, &class.name, count)?;
-    Ok(count + 1)
+    match count.checked_add(1) {
+        Some(next) => {
+            note_place(events, &class.name, count)?;
+            Ok(next)
+        }
+        None => Err(AllocError),
+    }
 }
 
 /// The places of the events of a program among its events, by name.

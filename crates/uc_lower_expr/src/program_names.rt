@@ -92,7 +92,8 @@ pub fn sig_of(routine: &Routine) -> &Sig
     &routine.sig
 }
 
-fn name_of(sig: &Sig) -> &Name
+/// The name of a signature.
+pub(crate) fn name_of(sig: &Sig) -> &Name
     ensures { result.now ≡ sig.now.name }
 {
     &sig.name
