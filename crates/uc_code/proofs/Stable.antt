@@ -58,7 +58,7 @@ kept_but a b c given l h k = record {
 
 -- a piece that stands where one row has got its handler
 pub but_same : (old new : Laid) (given a z : ℕ) → z ≤ length old.ops → KeptBut given old new → Same old new a z
-but_same old new given a z l k = record { same = λ i op line l m o. k.same i op line o; chains = λ next l m. k.chains next (omega arith); handlers = k.handlers }
+but_same old new given a z b k = record { same = λ i op line l m o. k.same i op line o; chains = λ next l m. k.chains next (omega arith); handlers = k.handlers }
 
 pub nothing_stable : Stable (λ code. Nothing)
 nothing_stable = record {
@@ -240,22 +240,24 @@ module _ (line : ℕ) (B : Laid → List Mark → ℕ → ℕ → Type 0) (b : (
 
 -- guarded blocks
 
-module _ (line count : ℕ) (ms : List Mark) (B : Laid → List Mark → ℕ → ℕ → Type 0) (H : Laid → ℕ → ℕ → ℕ → ℕ → Type 0) (b : (ns : List Mark) → Stable (λ code. B code ns)) (h : (first exit : ℕ) → Stable (λ code. H code first exit)) where
+module _ (line count : ℕ) (ms : List Mark) (B : Laid → List Mark → ℕ → ℕ → Type 0) (H : Laid → ℕ → ℕ → ℕ → ℕ → Type 0) (b : (ns : List Mark) → Stable (λ code. B code ns)) (h : (first pad : ℕ) → Stable (λ code. H code first pad)) where
   pub guarded_stable : Stable (λ code. Guarded code line ms count (B code) (H code))
   guarded_stable = record {
     rises = λ code a z g.
-        let l = (b (guards g.first count ms)).rises code a g.body_end g.body in
-        let k = (h g.first z).rises code (g.body_end + 1) z g.handlers in
+        let l = (b (guards g.first count ms)).rises code (a + 2) g.body_end g.body in
+        let k = (h g.first (a + 1)).rises code (g.body_end + 1) z g.handlers in
         omega arith;
     moves = λ old new a z s g.
-        let l = (b (guards g.first count ms)).rises old a g.body_end g.body in
-        let k = (h g.first z).rises old (g.body_end + 1) z g.handlers in
+        let l = (b (guards g.first count ms)).rises old (a + 2) g.body_end g.body in
+        let k = (h g.first (a + 1)).rises old (g.body_end + 1) z g.handlers in
         record {
           first = g.first;
           body_end = g.body_end;
-          body = (b (guards g.first count ms)).moves old new a g.body_end (part old new a z a g.body_end (omega arith) (omega arith) s) g.body;
-          leave = s.same g.body_end (Jump z) line (omega arith) (omega arith) g.leave;
-          handlers = (h g.first z).moves old new (g.body_end + 1) z (part old new a z (g.body_end + 1) z (omega arith) (omega arith) s) g.handlers;
+          begin = s.same a (Jump (a + 2)) line (omega arith) (omega arith) g.begin;
+          pad = s.same (a + 1) (Jump z) line (omega arith) (omega arith) g.pad;
+          body = (b (guards g.first count ms)).moves old new (a + 2) g.body_end (part old new a z (a + 2) g.body_end (omega arith) (omega arith) s) g.body;
+          leave = s.same g.body_end (Jump (a + 1)) line (omega arith) (omega arith) g.leave;
+          handlers = (h g.first (a + 1)).moves old new (g.body_end + 1) z (part old new a z (g.body_end + 1) z (omega arith) (omega arith) s) g.handlers;
         };
   }
 

@@ -10,3 +10,4 @@ pub mod Operands
 pub mod Pace
 pub mod Puts
 pub mod Ranges
+pub mod Silent

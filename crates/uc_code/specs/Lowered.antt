@@ -1,6 +1,6 @@
 -- The code of the resolved tree: for each piece what its range of ops must hold. `line` is that of the innermost
 -- statement around the piece, and the marks are what stands around it in its routine, the innermost first.
-use Rattle.std.specs.Prelude.{◌≡◌, ℕ, suc, ◌+◌, ◌<◌, pos, List, [], ◌∷◌, Bool, true, false, Option, Some, None, length, map}
+use Rattle.std.specs.Prelude.{◌≡◌, ℕ, suc, ◌+◌, ◌<◌, max, slice_get, pos, List, [], ◌∷◌, Bool, true, false, Option, Some, None, length, map}
 use Rattle.uc_tree.specs.Source.{Shape, Integer, Character, Truth, Binding, Last, Field, Array, shape_cells, field_cells, Operator, Plus, Minus, Times, Over, Modulo, Equal, NotEqual, Less, AtMost, Greater, AtLeast, Expr, Literal, Variable, Element, Get, Load, Negated, Not, AsCharacter, AsTruth, Operate, And, Or, Set, Assign, First, Update, StepBehind, Fail, Call, OfObject, ObjectExpr, This, OwnField, GetOwn, FieldOf, Counted, CallOn, CallUnwritten, EnterOn, Wait, Signal, SignalBlock, IsEmpty, FrontOf, Exprs, NoExprs, MoreExprs, Item, Show, ShowText, Target, Declared, Stmt, Skip, Block, Whole, Evaluate, Declare, Print, PrintTogether, Read, If, Loop, Break, Continue, Return, Fill, OfEvents, OfTasks, EventStmt, Throw, Raise, Try, RaiseAt, Enable, Disable, Raised, Plainly, BuiltAt as BuildsAt, AgainFrom, Handlers, NoHandlers, MoreHandlers, CleanUp, Stmts, Nil, Then, Scoped, Built, Way, ToBreak, ToContinue, ToReturn, ToEnd, Purpose, TaskMain, Procedure, Function, Builder, Routine, Source}
 use Rattle.uc_code.specs.declared.op.Op.{Op}
 use Rattle.uc_code.specs.declared.op.Op.TheVariants as op
@@ -20,6 +20,7 @@ use Rattle.uc_code.specs.declared.rows.TheConstants.{ANY_EVENT}
 use Rattle.uc_code.specs.Laid.{Laid, laid_of, handlers}
 use Rattle.uc_code.specs.Ranges.{Nothing, Never, One, Risk, CallsBehind, Both, Fork, Turns, WholeAt, MainAt, Guarded, HandledAt, ApartAt, OverElements, ScopeOf, BehindPart}
 use Rattle.uc_code.specs.ObjectCalls.{Calls, Cleans}
+use Rattle.uc_code.specs.Silent.{silent_all}
 
 -- the op of an operator
 abbrev pub operator_op : Operator → Op
@@ -272,10 +273,10 @@ module _ (code : Laid) where
   ExitAt ToReturn (mark.Outward below row ∷ ms) = One code op.ReturnValue 0
   ExitAt ToEnd (mark.Outward below row ∷ ms) = One code op.ReturnNone 0
 
-  -- a handler that catches goes on behind its guarded block; one of resumptions ends, and what raised the event goes on
+  -- a handler that catches goes on behind its guarded block, by its pad; one of resumptions ends, and what raised the event goes on
   abbrev pub HandlerBy : Bool → List Mark → ℕ → ℕ → (List Mark → ℕ → ℕ → Type 0) → ℕ → ℕ → Type 0
-  HandlerBy false ms exit line B = Both (B ms) (One code (op.Jump exit) line)
-  HandlerBy true ms exit line B = ApartAt code ms B
+  HandlerBy false ms pad line B = Both (B ms) (One code (op.Jump pad) line)
+  HandlerBy true ms pad line B = ApartAt code ms B
 
   -- the event of a handler has a number that stands for it alone
   pub record NamedAt (event : Option ℕ) (B : ℕ → ℕ → Type 0) (a z : ℕ) : Type 0 where
@@ -307,16 +308,16 @@ module _ (code : Laid) where
     EventAt ms (Throw line r) = Both (RaisedAt code line ms r) (Risk code ms op.Throw line)
     -- what the handler hands over goes
     EventAt ms (Raise line r) = Both (RaisedAt code line ms r) (Both (Risk code ms op.Raise line) (One code op.Discard line))
-    EventAt ms (Try line body hs) = Guarded code line ms (handler_rows hs) (λ ns. StmtsAt ns line body) (λ first exit. HandlersAt ms first exit hs)
+    EventAt ms (Try line body hs) = Guarded code line ms (handler_rows hs) (λ ns. StmtsAt ns line body) (λ first pad. HandlersAt ms first pad hs)
     EventAt ms (RaiseAt line r e) = Never
     EventAt ms (Enable line events s) = Never
     EventAt ms (Disable line events s) = Never
 
-    -- the handlers of a guarded block whose last one has this row; what is caught goes on at this op
+    -- the handlers of a guarded block whose last one has this row; a handler that catches goes on at this pad
     pub HandlersAt : List Mark → ℕ → ℕ → Handlers → ℕ → ℕ → Type 0
-    HandlersAt ms first exit NoHandlers = Nothing
-    HandlersAt ms first exit (MoreHandlers resumes event cell line body rest) =
-        Both (NamedAt event (HandledAt code (first + handler_rows rest) (handler_of resumes event (length (handlers ms))) (Both (KeepsAt code line cell) (HandlerBy resumes ms exit line (λ ns. StmtsAt ns line body))))) (HandlersAt ms first exit rest)
+    HandlersAt ms first pad NoHandlers = Nothing
+    HandlersAt ms first pad (MoreHandlers resumes event cell line body rest) =
+        Both (NamedAt event (HandledAt code (first + handler_rows rest) (handler_of resumes event (length (handlers ms))) (Both (KeepsAt code line cell) (HandlerBy resumes ms pad line (λ ns. StmtsAt ns line body))))) (HandlersAt ms first pad rest)
 
     -- the statements of a block of this line
     pub StmtsAt : List Mark → ℕ → Stmts → ℕ → ℕ → Type 0
@@ -333,23 +334,26 @@ module _ (code : Laid) where
   BodyAt Function number line ss = Both (StmtsAt (mark.Body number ∷ []) line ss) (Both (One code op.NoReturn line) (One code op.Return 0))
   BodyAt Builder number line ss = Both (StmtsAt (mark.Body number ∷ []) 0 ss) (One code op.Return 0)
 
-  -- the code of the routine of this number: its body, and its end
-  pub record RoutineAt (number : ℕ) (routine : Routine) (begins : RoutineCode) (a z : ℕ) : Type 0 where
+  -- the code of the routine of this number: its body, and its end. Those with greater numbers than the last that is written, and than
+  -- its own, may be called from it without a tick.
+  pub record RoutineAt (last number : ℕ) (routine : Routine) (begins : RoutineCode) (a z : ℕ) : Type 0 where
     pub entry : begins.entry ≡ a
     pub cells : begins.cells ≡ routine.cells
     pub params : begins.params ≡ routine.params
-    pub body : BodyAt routine.purpose number routine.line routine.body a z
+    pub body : BodyAt routine.purpose (max number last) routine.line routine.body a z
 
   -- routines, from this number on, one after another
-  abbrev pub RoutinesAt : ℕ → List Routine → List RoutineCode → ℕ → ℕ → Type 0
-  RoutinesAt number [] [] = Nothing
-  RoutinesAt number [] (c ∷ cs) = λ a z. ⊥
-  RoutinesAt number (r ∷ rs) [] = λ a z. ⊥
-  RoutinesAt number (r ∷ rs) (c ∷ cs) = Both (RoutineAt number r c) (RoutinesAt (number + 1) rs cs)
+  abbrev pub RoutinesAt : ℕ → ℕ → List Routine → List RoutineCode → ℕ → ℕ → Type 0
+  RoutinesAt last number [] [] = Nothing
+  RoutinesAt last number [] (c ∷ cs) = λ a z. ⊥
+  RoutinesAt last number (r ∷ rs) [] = λ a z. ⊥
+  RoutinesAt last number (r ∷ rs) (c ∷ cs) = Both (RoutineAt last number r c) (RoutinesAt last (number + 1) rs cs)
 
--- the code of a program: its routines, and nothing else.
+-- the code of a program: its routines, and nothing else. Behind the last that is written stand those in which no event is raised.
 pub record Lowered (source : Source) (code : Code) : Type 0 where
-  pub routines : RoutinesAt (laid_of code) 0 source.routines code.routines 0 (length code.ops)
+  pub last : ℕ
+  pub routines : RoutinesAt (laid_of code) last 0 source.routines code.routines 0 (length code.ops)
+  pub silent : (k : ℕ) (r : Routine) → slice_get source.routines k ≡ Some r → last < k → silent_all r.body
   pub classes : code.classes ≡ map (λ c. c.cells) source.classes
   pub sites : code.sites ≡ source.sites
   pub texts : code.texts ≡ source.texts

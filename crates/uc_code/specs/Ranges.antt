@@ -140,14 +140,16 @@ pub record MainAt (code : Laid) (routine line : ℕ) (B : List Mark → ℕ → 
   pub end : z ≡ body_end + 2
   pub handler : HandlerAt code row (clean_up (body_end + 1))
 
--- a guarded block with so many handlers: its statements, and behind a jump over them the handlers, the first of which has the last
--- row; what goes on behind a handler goes on where the block ends
+-- a guarded block with so many handlers: a jump over the pad by which its statements and its handlers go on behind it, the statements,
+-- and behind them the handlers, the first of which has the last row
 pub record Guarded (code : Laid) (line : ℕ) (ms : List Mark) (count : ℕ) (B : List Mark → ℕ → ℕ → Type 0) (H : ℕ → ℕ → ℕ → ℕ → Type 0) (a z : ℕ) : Type 0 where
   pub first : ℕ
   pub body_end : ℕ
-  pub body : B (guards first count ms) a body_end
-  pub leave : OpAt code body_end (Jump z) line
-  pub handlers : H first z (body_end + 1) z
+  pub begin : OpAt code a (Jump (a + 2)) line
+  pub pad : OpAt code (a + 1) (Jump z) line
+  pub body : B (guards first count ms) (a + 2) body_end
+  pub leave : OpAt code body_end (Jump (a + 1)) line
+  pub handlers : H first (a + 1) (body_end + 1) z
 
 -- the code of a handler begins where its row says
 pub record HandledAt (code : Laid) (number : ℕ) (handler : ℕ → Handler) (B : ℕ → ℕ → Type 0) (a z : ℕ) : Type 0 where

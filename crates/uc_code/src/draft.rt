@@ -336,15 +336,19 @@ impl Draft {
         self.handled = cell;
     }
 
-    /// So many hidden cells more. The result is the first of them.
-    pub fn add_hidden(&mut self, cells: u32) -> u32
-        requires { self.old.hidden + cells < 2 ^ 32 }
-        ensures cell { result ≡ self.old.hidden }
-        ensures hidden { self.new ≡ record self.old { hidden = self.old.hidden + cells } }
+    /// So many hidden cells more. The result is the first of them. More than a number counts are want of memory.
+    pub fn add_hidden(&mut self, cells: u32) -> Result<u32, AllocError>
+        ensures cell { IfOk result (λ cell. cell ≡ self.old.hidden) }
+        ensures ok { OnOk result (self.new ≡ record self.old { hidden = self.old.hidden + cells }) }
+        ensures few { OnOk result (self.old.hidden + cells < 2 ^ 32) }
+        ensures err { OnErr result (self.new ≡ self.old) }
     {
         let cell = self.hidden;
-        self.hidden += cells;
-        cell
+        let Some(next) = cell.checked_add(cells) else {
+            return Err(AllocError);
+        };
+        self.hidden = next;
+        Ok(cell)
     }
 
     /// The first hidden cell of the routine that nothing before this place has.

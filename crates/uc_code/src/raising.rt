@@ -24,12 +24,15 @@ pub fn put_plain(event: u8, line: u32, out: &mut Draft) -> Result<(), AllocError
     Ok(())
 }
 
-/// Adds the code that finds the event that a handler keeps from this cell on. After want of memory the draft is spent.
+/// Adds the code that finds the event that a handler keeps from this cell on. A cell past the last number is want of memory. After want
+/// of memory the draft is spent.
 pub fn put_again(cell: u32, line: u32, out: &mut Draft) -> Result<(), AllocError>
-    requires room { length out.old.ops + 3 ≤ PROGRAM_OPS }
-    requires cell { cell + 2 < 2 ^ 32 }
+    requires { length out.old.ops + 3 ≤ PROGRAM_OPS }
     ensures { OnOk result (Puts 3 (λ code. RaisedAt code line out.old.marks (AgainFrom cell)) out.old out.new) }
 {
+    if cell > u32::MAX - 2 {
+        return Err(AllocError);
+    }
     put(Op::Via(cell), line, out)?;
     put(Op::Via(cell + 1), line, out)?;
     put(Op::Via(cell + 2), line, out)?;
