@@ -1,7 +1,8 @@
 -- The code of a routine.
 use Rattle.std.proofs.Common.{◌≡◌, ℕ, zero, suc, ◌+◌, ◌*◌, ◌≤◌, ◌<◌, Bool, true, false, List, [], ◌∷◌, ◌++◌, length, drop, take, get_or, refl, ap, sym, subst, ◌∙◌, arith, append_assoc, append-nil}
 use Rattle.std.specs.Prelude.{Option, Some, None, nat_eq, slice_set, if◌then◌else◌}
-use Rattle.std.proofs.Common.{take_all}
+use Rattle.std.proofs.Common.{max, take_all}
+use Rattle.std.proofs.Math.Nat.{max_comm, zero-max}
 use Rattle.std.proofs.lemmas.List.{take_more}
 use Rattle.uc_tree.specs.declared.limits.TheConstants.{OPS_FOR_SIZE}
 use Rattle.uc_tree.specs.declared.kinds.Base.{Base}
@@ -215,6 +216,16 @@ called_lowered p r b number line body d0 d1 d2 d3 new none le be re e1 h e3 g =
     subst (λ (ss : Stmts). LowersRoutine p (value_purpose p b) number (record r { body = ss }) d0 new) be (
     subst (λ (l : ℕ). LowersRoutine p (value_purpose p b) number (record r { body = body; brace = record r.brace { line = l } }) d0 new) le whole))
 
+-- the greater of two numbers
+
+pub max_last : (a b : ℕ) → a ≤ b → max a b ≡ b
+max_last zero b h = zero-max b
+max_last (suc a) zero h = absurd (omega arith)
+max_last (suc a) (suc b) h = ap suc (max_last a b (omega arith))
+
+pub max_first : (a b : ℕ) → b ≤ a → max a b ≡ a
+max_first a b h = max_comm a b ∙ max_last b a h
+
 -- what a plain routine is
 
 plain_purpose : (p : Program) (x : Role) (b : Base) → is_plain x ≡ true → value_purpose p b ≡ role_purpose p x b
@@ -229,10 +240,10 @@ pub called_purpose : (p : Program) (r : Routine) (number : ℕ) → is_plain r.s
 called_purpose p r number e m = plain_purpose p r.sig.role r.sig.ret e ∙ sym (ap (λ (b : Bool). if b then source.TaskMain else role_purpose p r.sig.role r.sig.ret) m)
 
 -- what lowering a routine, which begins in this scope, does to a draft
-pub record Written (p : Program) (r : Routine) (s : Scope) (number : ℕ) (old new : Draft) : Type 0 where
+pub record Written (p : Program) (r : Routine) (s : Scope) (last number : ℕ) (old new : Draft) : Type 0 where
   pub kept : Kept (laid_in old) (laid_in new)
   pub room : length new.ops ≤ length old.ops + OPS_FOR_SIZE * (1 + sizes_at r.body 0)
-  pub code : RoutineAt (laid_in new) number (routine_meant p r s) (record { entry = length old.ops; cells = frame_cells p r; params = length r.sig.params }) (length old.ops) (length new.ops)
+  pub code : RoutineAt (laid_in new) last number (routine_meant p r s) (record { entry = length old.ops; cells = frame_cells p r; params = length r.sig.params }) (length old.ops) (length new.ops)
   pub written : new.routines ≡ slice_set old.routines number (record { entry = length old.ops; cells = frame_cells p r; params = length r.sig.params })
   pub outside : new.marks ≡ []
   pub texts : new.texts ≡ s.texts + length (gathered_all own_texts r.body)
@@ -253,9 +264,9 @@ begun_is p r class number hidden texts sites xs d0 db d1 xe he e1 e2 =
     e2 ∙ ap (λ (x : Draft). let d : Draft = record x { names = x.names ++ params_known p x.cells xs; cells = x.cells + params_cells p xs } in d) e1
     ∙ ap (λ (ys : List Param). begun_by p ys class number hidden texts sites d0) xe ∙ ap (λ (n : ℕ). begun_by p r.sig.params class number n texts sites d0) he
 
-module _ (p : Program) (r : Routine) (plain : r.sig.role ≡ role.Plain) (class : Option ℕ) (number texts sites entry cells params : ℕ) (d0 d1 d2 new : Draft)
+module _ (p : Program) (r : Routine) (plain : r.sig.role ≡ role.Plain) (class : Option ℕ) (last number texts sites entry cells params : ℕ) (d0 d1 d2 new : Draft) (few : number ≤ last)
     (ee : entry ≡ length d0.ops) (ce : cells ≡ d2.hidden) (pe : params ≡ length r.sig.params) (e1 : d1 ≡ begun p r class number texts sites d0)
-    (h : LowersRoutine p (purpose_of p number r) number r d1 d2) (e : new ≡ record d2 { routines = slice_set d2.routines number (record { entry = entry; cells = cells; params = params }) }) where
+    (h : LowersRoutine p (purpose_of p number r) last r d1 d2) (e : new ≡ record d2 { routines = slice_set d2.routines number (record { entry = entry; cells = cells; params = params }) }) where
   abbrev s : Scope
   s = routine_scope p r class number texts sites
 
@@ -265,8 +276,8 @@ module _ (p : Program) (r : Routine) (plain : r.sig.role ≡ role.Plain) (class 
   abbrev begins : RoutineCode
   begins = record { entry = length d0.ops; cells = frame_cells p r; params = length r.sig.params }
 
-  k : LowersRoutine p (purpose_of p number r) number r first d2
-  k = subst (λ (d : Draft). LowersRoutine p (purpose_of p number r) number r d d2) e1 h
+  k : LowersRoutine p (purpose_of p number r) last r first d2
+  k = subst (λ (d : Draft). LowersRoutine p (purpose_of p number r) last r d d2) e1 h
 
   scope_first : scope_of first ≡ s
   scope_first = let z : 0 + params_cells p r.sig.params ≡ params_cells p r.sig.params = omega arith in ap (λ (n : ℕ). let t : Scope = record s { cells = n } in t) z
@@ -283,16 +294,17 @@ module _ (p : Program) (r : Routine) (plain : r.sig.role ≡ role.Plain) (class 
       ∙ ap (λ (n : ℕ). let d : Draft = record d2 { routines = slice_set d2.routines number (record { entry = length d0.ops; cells = n; params = params }) } in d) frame
       ∙ ap (λ (n : ℕ). let d : Draft = record d2 { routines = slice_set d2.routines number (record { entry = length d0.ops; cells = frame_cells p r; params = n }) } in d) pe
 
-  body_at : BodyAt (laid_in d2) (purpose_of p number r) number r.brace.line (body_by p r.sig.role r s) (length d0.ops) (length d2.ops)
+  body_at : BodyAt (laid_in d2) (purpose_of p number r) (max number last) r.brace.line (body_by p r.sig.role r s) (length d0.ops) (length d2.ops)
   body_at =
-      subst (λ (x : Role). BodyAt (laid_in d2) (purpose_of p number r) number r.brace.line (body_by p x r s) (length d0.ops) (length d2.ops)) (sym plain) (
-      subst (λ (t : Scope). BodyAt (laid_in d2) (purpose_of p number r) number r.brace.line (stmts_meant p r.body t) (length d0.ops) (length d2.ops)) scope_first k.code)
+      subst (λ (n : ℕ). BodyAt (laid_in d2) (purpose_of p number r) n r.brace.line (body_by p r.sig.role r s) (length d0.ops) (length d2.ops)) (sym (max_last number last few)) (
+      subst (λ (x : Role). BodyAt (laid_in d2) (purpose_of p number r) last r.brace.line (body_by p x r s) (length d0.ops) (length d2.ops)) (sym plain) (
+      subst (λ (t : Scope). BodyAt (laid_in d2) (purpose_of p number r) last r.brace.line (stmts_meant p r.body t) (length d0.ops) (length d2.ops)) scope_first k.code))
 
   -- the body behind where the routine begins, its end, and its row
-  pub arm_routine : Written p r s number d0 new
+  pub arm_routine : Written p r s last number d0 new
   arm_routine =
       let routines : d2.routines ≡ d0.routines = ap (λ (d : Draft). d.routines) k.rest in
-      subst (λ (d : Draft). Written p r s number d0 d) (sym is) (record {
+      subst (λ (d : Draft). Written p r s last number d0 d) (sym is) (record {
         kept = k.kept;
         room = k.room;
         code = record { entry = refl; cells = refl; params = refl; body = body_at };

@@ -24,7 +24,7 @@ abbrev pub EndCode : Bool → ℕ → Laid → ℕ → ℕ → Type 0
 EndCode true line code = One code op.Return 0
 EndCode false line code = Both (One code op.NoReturn line) (One code op.Return 0)
 
--- the statements of the routine of this number, which is this, and what is done behind them
+-- the statements of a written routine, and what is done behind them; the last one that is written has this number
 abbrev pub LowersRoutine : Program → Purpose → ℕ → Routine → Draft → Draft → Type 0
-LowersRoutine p purpose number r old new =
-    Lowers (OPS_FOR_SIZE * (1 + sizes_at r.body 0)) (stmts_size r.body) (stmts_cells r.body (declared_cells p)) (stmts_scopes r.body) (λ code. BodyAt code purpose number r.brace.line (stmts_meant p r.body (scope_of old))) (scope_behind p r.body (scope_of old)) old new
+LowersRoutine p purpose last r old new =
+    Lowers (OPS_FOR_SIZE * (1 + sizes_at r.body 0)) (stmts_size r.body) (stmts_cells r.body (declared_cells p)) (stmts_scopes r.body) (λ code. BodyAt code purpose last r.brace.line (stmts_meant p r.body (scope_of old))) (scope_behind p r.body (scope_of old)) old new

@@ -99,26 +99,27 @@ fn put_end(base: &Base, line: u32, out: &mut Draft) -> Result<(), AllocError>
     Ok(())
 }
 
-// The statements of the program's main, and its end, also where an event leaves it.
+// The statements of the program's main, and its end, also where an event leaves it. `last` is the number of the last routine that is
+// written.
 fn lower_main(
     alloc: Global,
     names: &ProgramNames,
     routine: &Routine,
-    number: u32,
+    last: u32,
     out: &mut Draft,
 ) -> Result<(), AllocError>
     requires built { are_built routine.now.body ≡ true }
-    requires written { number < length (routines_of names.now) }
+    requires written { last < length (routines_of names.now) }
     requires outside { out.old.marks ≡ [] }
     requires room { length out.old.ops + OPS_FOR_SIZE * (1 + sizes_at routine.now.body 0) ≤ PROGRAM_OPS }
     requires cells { out.old.cells + stmts_cells routine.now.body (declared_cells names.now) ≤ FRAME_CELLS }
     requires scopes { out.old.scopes + stmts_scopes routine.now.body ≤ PROGRAM_SIZE }
     requires texts { out.old.texts + stmts_size routine.now.body ≤ PROGRAM_SIZE }
-    ensures { OnOk result (LowersRoutine names.now TaskMain number routine.now out.old out.new) }
+    ensures { OnOk result (LowersRoutine names.now TaskMain last routine.now out.old out.new) }
 {
     let line = line_of(routine);
     let _row = out.open(Opening::Main {
-        routine: number,
+        routine: last,
         line,
     })?;
     lower_stmts(alloc, names, body_of(routine), line, out)?;
@@ -133,20 +134,20 @@ fn lower_called(
     alloc: Global,
     names: &ProgramNames,
     routine: &Routine,
-    number: u32,
+    last: u32,
     out: &mut Draft,
 ) -> Result<(), AllocError>
     requires built { are_built routine.now.body ≡ true }
-    requires written { number < length (routines_of names.now) }
+    requires written { last < length (routines_of names.now) }
     requires outside { out.old.marks ≡ [] }
     requires room { length out.old.ops + OPS_FOR_SIZE * (1 + sizes_at routine.now.body 0) ≤ PROGRAM_OPS }
     requires cells { out.old.cells + stmts_cells routine.now.body (declared_cells names.now) ≤ FRAME_CELLS }
     requires scopes { out.old.scopes + stmts_scopes routine.now.body ≤ PROGRAM_SIZE }
     requires texts { out.old.texts + stmts_size routine.now.body ≤ PROGRAM_SIZE }
-    ensures { OnOk result (LowersRoutine names.now (value_purpose names.now routine.now.sig.ret) number routine.now out.old out.new) }
+    ensures { OnOk result (LowersRoutine names.now (value_purpose names.now routine.now.sig.ret) last routine.now out.old out.new) }
 {
     let line = line_of(routine);
-    out.enter_body(number)?;
+    out.enter_body(last)?;
     lower_stmts(alloc, names, body_of(routine), line, out)?;
     out.leave();
     put_end(result_of(sig_of(routine)), line, out)?;
@@ -160,30 +161,32 @@ fn lower_statements(
     routine: &Routine,
     main: bool,
     number: u32,
+    last: u32,
     out: &mut Draft,
 ) -> Result<(), AllocError>
     requires plain { is_plain routine.now.sig.role ≡ true }
     requires main { main ≡ nat_eq number (main_number names.now) }
     requires built { are_built routine.now.body ≡ true }
-    requires written { number < length (routines_of names.now) }
+    requires written { last < length (routines_of names.now) }
     requires outside { out.old.marks ≡ [] }
     requires room { length out.old.ops + OPS_FOR_SIZE * (1 + sizes_at routine.now.body 0) ≤ PROGRAM_OPS }
     requires cells { out.old.cells + stmts_cells routine.now.body (declared_cells names.now) ≤ FRAME_CELLS }
     requires scopes { out.old.scopes + stmts_scopes routine.now.body ≤ PROGRAM_SIZE }
     requires texts { out.old.texts + stmts_size routine.now.body ≤ PROGRAM_SIZE }
-    ensures { OnOk result (LowersRoutine names.now (purpose_of names.now number routine.now) number routine.now out.old out.new) }
+    ensures { OnOk result (LowersRoutine names.now (purpose_of names.now number routine.now) last routine.now out.old out.new) }
 {
     if main {
-        lower_main(alloc, names, routine, number, out)?;
+        lower_main(alloc, names, routine, last, out)?;
         return Ok(());
     }
-    lower_called(alloc, names, routine, number, out)?;
+    lower_called(alloc, names, routine, last, out)?;
     Ok(())
 }
 
 /// Adds the code of a routine that is no constructor and no destructor, behind so many text literals and accept statements of the
 /// program, and writes down under its number where it begins; `main` says whether it is the program's main. Its statements are of
-/// forms that are built. `class` is the place of its class. After want of memory the draft is spent.
+/// forms that are built. `class` is the place of its class, and `last` the
+/// number of the last routine that is written. After want of memory the draft is spent.
 pub fn lower_routine(
     alloc: Global,
     names: &ProgramNames,
@@ -191,6 +194,7 @@ pub fn lower_routine(
     main: bool,
     class: Option<usize>,
     number: u32,
+    last: u32,
     texts: u32,
     sites: u32,
     out: &mut Draft,
@@ -200,14 +204,15 @@ pub fn lower_routine(
     requires built { are_built routine.now.body ≡ true }
     requires few_params { length routine.now.sig.params ≤ PROGRAM_SIZE }
     requires known { number < length out.old.routines }
-    requires written { number < length (routines_of names.now) }
+    requires behind { number ≤ last }
+    requires written { last < length (routines_of names.now) }
     requires outside { out.old.marks ≡ [] }
     requires room { length out.old.ops + OPS_FOR_SIZE * (1 + sizes_at routine.now.body 0) ≤ PROGRAM_OPS }
     requires cells { routine_cells names.now routine.now ≤ FRAME_CELLS }
     requires texts { texts + stmts_size routine.now.body ≤ PROGRAM_SIZE }
     ensures kept { OnOk result (Kept (laid_in out.old) (laid_in out.new)) }
     ensures room { OnOk result (length out.new.ops ≤ length out.old.ops + OPS_FOR_SIZE * (1 + sizes_at routine.now.body 0)) }
-    ensures code { OnOk result (RoutineAt (laid_in out.new) number (routine_meant names.now routine.now (routine_scope names.now routine.now class number texts sites)) (record { entry = length out.old.ops; cells = frame_cells names.now routine.now; params = length routine.now.sig.params }) (length out.old.ops) (length out.new.ops)) }
+    ensures code { OnOk result (RoutineAt (laid_in out.new) last number (routine_meant names.now routine.now (routine_scope names.now routine.now class number texts sites)) (record { entry = length out.old.ops; cells = frame_cells names.now routine.now; params = length routine.now.sig.params }) (length out.old.ops) (length out.new.ops)) }
     ensures written { OnOk result (out.new.routines ≡ slice_set out.old.routines number (record { entry = length out.old.ops; cells = frame_cells names.now routine.now; params = length routine.now.sig.params })) }
     ensures outside { OnOk result (out.new.marks ≡ []) }
     ensures texts { OnOk result (out.new.texts ≡ texts + length (gathered_all own_texts routine.now.body)) }
@@ -220,7 +225,7 @@ pub fn lower_routine(
     let variables = cells_of_routine(names.sizes(), routine) as u32;
     out.begin_routine(class, number, variables, texts, sites);
     declare_params(alloc, names, params, out)?;
-    lower_statements(alloc, names, routine, main, number, out)?;
+    lower_statements(alloc, names, routine, main, number, last, out)?;
     let cells = out.hidden();
     let count = params.len() as u32;
     out.set_routine(

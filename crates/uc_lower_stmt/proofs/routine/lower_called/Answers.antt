@@ -35,7 +35,7 @@ lower_stmts-requires-clause-texts c =
 
 pub lower_stmts-requires-clause-inside : goal.lower_stmts-requires-clause-inside
 lower_stmts-requires-clause-inside c =
-    let e : routine_in c.enter_body.new.self.marks ≡ c.args.number = ap (λ (d : Draft). routine_in d.marks) c.in_ok-enter_body.ensures.ok in
+    let e : routine_in c.enter_body.new.self.marks ≡ c.args.last = ap (λ (d : Draft). routine_in d.marks) c.in_ok-enter_body.ensures.ok in
     omega (arith, e, c.requires.written)
 
 pub lower_stmts-requires-clause-room : goal.lower_stmts-requires-clause-room
@@ -59,5 +59,5 @@ put_end-requires c =
 
 pub returns : goal.returns
 returns c =
-    called_lowered c.args.names.now c.args.routine.now c.result_of.result.now c.args.number c.line_of-line.result (stmts_of c.body_of.result.now) c.args.out.now c.enter_body.new.self c.lower_stmts.new.out c.leave.new.self c.put_end.new.out
+    called_lowered c.args.names.now c.args.routine.now c.result_of.result.now c.args.last c.line_of-line.result (stmts_of c.body_of.result.now) c.args.out.now c.enter_body.new.self c.lower_stmts.new.out c.leave.new.self c.put_end.new.out
     c.requires.outside c.line_of-line.ensures c.body_of.ensures (c.result_of.ensures ∙ ap (λ (s : Sig). s.ret) c.sig_of.ensures) c.in_ok-enter_body.ensures.ok c.in_ok-lower_stmts.ensures c.leave.ensures c.in_ok-put_end.ensures

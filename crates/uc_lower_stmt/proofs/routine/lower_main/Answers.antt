@@ -35,7 +35,7 @@ lower_stmts-requires-clause-texts c =
 
 pub lower_stmts-requires-clause-inside : goal.lower_stmts-requires-clause-inside
 lower_stmts-requires-clause-inside c =
-    let e : routine_in c.open.new.self.marks ≡ c.args.number = ap (λ (d : Draft). routine_in d.marks) c.in_ok-_row.ensures.ok in
+    let e : routine_in c.open.new.self.marks ≡ c.args.last = ap (λ (d : Draft). routine_in d.marks) c.in_ok-_row.ensures.ok in
     omega (arith, e, c.requires.written)
 
 pub lower_stmts-requires-clause-room : goal.lower_stmts-requires-clause-room
@@ -69,5 +69,5 @@ put-requires-2 c =
 
 pub returns : goal.returns
 returns c =
-    main_lowered c.args.names.now c.args.routine.now c.args.number c.line_of-line.result (stmts_of c.body_of.result.now) c.args.out.now c.open.new.self c.lower_stmts.new.out c.close.new.self c.put.new.out c.put-2.new.out
+    main_lowered c.args.names.now c.args.routine.now c.args.last c.line_of-line.result (stmts_of c.body_of.result.now) c.args.out.now c.open.new.self c.lower_stmts.new.out c.close.new.self c.put.new.out c.put-2.new.out
     c.requires.outside c.line_of-line.ensures c.body_of.ensures c.in_ok-_row.ensures.ok c.in_ok-_row.ensures.kept c.in_ok-lower_stmts.ensures c.close.ensures.closed c.close.ensures.kept c.close.ensures.handler c.in_ok-put.ensures c.in_ok-put-2.ensures
