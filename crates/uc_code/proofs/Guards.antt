@@ -15,12 +15,13 @@ use Rattle.uc_code.specs.Pace.{behind, height, power, burden, In, AllIn, Text, B
 use Rattle.uc_code.specs.Ranges.{OpAt, Nothing, One, Risk, Both, WholeAt, MainAt, Guarded, HandledAt, ApartAt, HandlerAt, clean_up}
 use Rattle.uc_code.specs.Lowered.{kind_of, event_of, handler_of, NamedAt, HandlerBy, KeepsAt}
 use Rattle.uc_code.proofs.Heights.{Outside, Plain, PacedAt, Each, Ahead, Around, around_less, clean_ahead, Below, beneath_of, paced_by, none, only, join, within, own_plain, jump_plain, jump_outside, jump_paced, Starts, burden_is, height_is, PadTo, pad_less, exit_paced, RowIn, row_in, Env, AllStay, stay_none, stay_one, stay_join}
+use Rattle.uc_code.proofs.Nesting.{under_drop}
 use Rattle.uc_code.proofs.Powers.{power_rises}
 use Rattle.uc_code.proofs.Pacing as pacing
 
 under_none : (ns : List ℕ) → under 0 ns ≡ []
 under_none [] = refl
-under_none (n ∷ ns) = under_none ns
+under_none (n ∷ ns) = under_drop 0 n ns (omega arith) ∙ under_none ns
 
 module _ (code : Laid) (table : List RoutineCode) (any : Bool) where
   abbrev Paces : List Mark → (ℕ → ℕ → Type 0) → Type 0
@@ -279,7 +280,7 @@ module _ (code : Laid) (table : List RoutineCode) (any : Bool) where
     nested false K k first pad a z y h r g e = no_resumption e
     nested true K k first pad a z y h r g e =
         let i = k.longer pad a z h in
-        let text : Text code table = record { from = a; to = z; floor = floor_of z; each = λ at n x q. k.text refl (floor_of z) pad a z h (loud_own any z) at n.first n.last x q } in
+        let text : Text code table = record { from = a; to = z; floor = floor_of z; each = λ at x n q. k.text refl (floor_of z) pad a z h (loud_own any z) at n.first n.last x q } in
         let b : Below code table a z = record { text = text; inside = record { first = omega arith; last = i }; high = omega arith } in
         beneath_guards a first count y ms g (beneath_of code table ms a (length (handlers ms)) z b r)
 

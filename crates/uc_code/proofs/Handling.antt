@@ -1,7 +1,8 @@
 -- A row gets its handler: nothing else changes, and what stands keeps its handlers.
-use Rattle.std.proofs.Common.{◌≡◌, ◌≢◌, ℕ, zero, suc, ◌<◌, ◌≤◌, List, [], ◌∷◌, ◌++◌, length, get_or, reverse, true, Some, refl, ap, sym, subst, ◌∙◌, arith, inl, inr, Fits, w32, rules, ints, ◌^◌}
+use Rattle.std.proofs.Common.{◌≡◌, ◌≢◌, ℕ, zero, suc, ◌<◌, ◌≤◌, List, [], ◌∷◌, ◌++◌, length, get_or, reverse, true, Some, refl, ap, sym, subst, ◌∙◌, arith, inl, inr, Fits, w32, rules, ◌^◌, ◌⊎◌}
 use Rattle.std.specs.Prelude.{slice_get, slice_set}
 use Rattle.std.proofs.lemmas.Bool.{cases_lt}
+use Rattle.std.proofs.lemmas.Int.{ints}
 use Rattle.std.proofs.lemmas.List.{length-reverse}
 use Rattle.uc_code.specs.declared.rows.Handler.{Handler}
 use Rattle.uc_code.specs.declared.rows.HandlerRow.{HandlerRow}
@@ -79,43 +80,48 @@ module _ (h : Handler) (takes : takes_events h.kind ≡ true) where
       let e : length os ≡ length ps = handles_length ps os k c in
       rw (e, handles_row ps os k s.outer c, handles_newest ps os k next c) refl
 
-  -- a row of a mark is none of those
+  -- the newest row gets it, or one of the others
 
-  nested_top : (here : ℕ) (r : HandlerRow) (rs all : List HandlerRow) (ms : List Mark) → all ≡ r ∷ rs → r.to < OPEN_END → Nested here all ms → Nested here (handled_row h r ∷ rs) ms
-  nested_top here r rs all ms e l Bare = absurd (cc)
-  nested_top here r rs all ms e l (Ended q qs _ g n) =
+  record Newest (r : HandlerRow) (rs qs : List HandlerRow) : Type 0 where
+    pub ended : r.to < OPEN_END
+    pub is : qs ≡ handled_row h r ∷ rs
+
+  record Older (r : HandlerRow) (rs qs : List HandlerRow) (k : ℕ) : Type 0 where
+    pub others : List HandlerRow
+    pub handles : Handles rs others k
+    pub is : qs ≡ r ∷ others
+
+  which : (all qs : List HandlerRow) (k : ℕ) (r : HandlerRow) (rs : List HandlerRow) → Handles all qs k → all ≡ r ∷ rs → Newest r rs qs ⊎ Older r rs qs k
+  which all qs k r rs (Top q ps t l) e =
       let f : q ≡ r = cc in
-      let i : qs ≡ rs = cc in
-      let k : q.to ≡ r.to = ap (λ (x : HandlerRow). x.to) f in
-      Ended (handled_row h r) rs ms (omega arith) (subst (λ x. Nested here x ms) i n)
-  nested_top here r rs all ms e l (InBody routine _ ns n) = InBody routine (handled_row h r ∷ rs) ns (nested_top here r rs all ns e l n)
-  nested_top here r rs all ms e l (InLoop leave again _ ns n) = InLoop leave again (handled_row h r ∷ rs) ns (nested_top here r rs all ns e l n)
-  nested_top here r rs all ms e l (InRow o from qs ns g n) =
-      let f : made o from ns ≡ r = cc in
-      let k : OPEN_END ≡ r.to = ap (λ (x : HandlerRow). x.to) f in
-      absurd (omega arith)
+      let g : ps ≡ rs = cc in
+      let m : q.to ≡ r.to = ap (λ (x : HandlerRow). x.to) f in
+      inl (record { ended = omega arith; is = ap (λ (x : HandlerRow). handled_row h x ∷ ps) f ∙ ap (λ x. handled_row h r ∷ x) g })
+  which all qs k r rs (Later s ps os _ c) e =
+      let f : s ≡ r = cc in
+      let g : ps ≡ rs = cc in
+      inr (record { others = os; handles = subst (λ x. Handles x os k) g c; is = ap (λ x. x ∷ os) f })
 
-  mutual
-    handles_nested : (here : ℕ) (rs qs : List HandlerRow) (k : ℕ) (ms : List Mark) → Handles rs qs k → Nested here rs ms → Nested here qs ms
-    handles_nested here rs qs k ms (Top r ps t l) n = nested_top here r ps rs ms refl l n
-    handles_nested here rs qs k ms (Later s ps os _ c) n = nested_later here s ps os rs k ms refl c n
+  none_of : {X : Type 0} → (all qs : List HandlerRow) (k : ℕ) → Handles all qs k → all ≡ [] → X
+  none_of all qs k (Top q ps t l) e = absurd (cc)
+  none_of all qs k (Later s ps os _ c) e = absurd (cc)
 
-    nested_later : (here : ℕ) (s : HandlerRow) (ps os all : List HandlerRow) (k : ℕ) (ms : List Mark) → all ≡ s ∷ ps → Handles ps os k → Nested here all ms → Nested here (s ∷ os) ms
-    nested_later here s ps os all k ms e c Bare = absurd (cc)
-    nested_later here s ps os all k ms e c (Ended q qs _ g n) =
-        let f : q ≡ s = cc in
-        let i : qs ≡ ps = cc in
-        let m : q.to ≡ s.to = ap (λ (x : HandlerRow). x.to) f in
-        Ended s os ms (omega arith) (handles_nested here ps os k ms c (subst (λ x. Nested here x ms) i n))
-    nested_later here s ps os all k ms e c (InBody routine _ ns n) = InBody routine (s ∷ os) ns (nested_later here s ps os all k ns e c n)
-    nested_later here s ps os all k ms e c (InLoop leave again _ ns n) = InLoop leave again (s ∷ os) ns (nested_later here s ps os all k ns e c n)
-    nested_later here s ps os all k ms e c (InRow o from qs ns g n) =
-        let f : made o from ns ≡ s = cc in
-        let i : qs ≡ ps = cc in
-        let w : length os ≡ length qs = handles_length ps os k c ∙ ap length (sym i) in
-        let inner : Nested here os ns = handles_nested here ps os k ns c (subst (λ x. Nested here x ns) i n) in
-        subst (λ x. Nested here (x ∷ os) (opening_mark o (length qs) ∷ ns)) f
-        (subst (λ x. Nested here (made o from ns ∷ os) (opening_mark o x ∷ ns)) w (InRow o from os ns g inner))
+  -- a row of a mark is open, and so none of those
+  handles_nested : (here : ℕ) (rs qs : List HandlerRow) (k : ℕ) (ms : List Mark) → Nested here rs ms → Handles rs qs k → Nested here qs ms
+  handles_nested here rs qs k ms Bare a = none_of rs qs k a refl
+  handles_nested here rs qs k ms (Ended r ps _ l n) a = elim (which rs qs k r ps a refl) [
+    | inl t ↦ subst (λ x. Nested here x ms) (sym t.is) (Ended (handled_row h r) ps ms l n)
+    | inr u ↦ subst (λ x. Nested here x ms) (sym u.is) (Ended r u.others ms l (handles_nested here ps u.others k ms n u.handles))
+  ]
+  handles_nested here rs qs k ms (InBody routine _ ns n) a = InBody routine qs ns (handles_nested here rs qs k ns n a)
+  handles_nested here rs qs k ms (InLoop leave again _ ns n) a = InLoop leave again qs ns (handles_nested here rs qs k ns n a)
+  handles_nested here rs qs k ms (InRow o from ps ns g n) a = elim (which rs qs k (made o from ns) ps a refl) [
+    | inl t ↦ let l = t.ended in absurd (omega arith)
+    | inr u ↦
+        let w : length u.others ≡ length ps = handles_length ps u.others k u.handles in
+        subst (λ x. Nested here x (opening_mark o (length ps) ∷ ns)) (sym u.is)
+        (subst (λ x. Nested here (made o from ns ∷ u.others) (opening_mark o x ∷ ns)) w (InRow o from u.others ns g (handles_nested here ps u.others k ns n u.handles)))
+  ]
 
 -- the rows in order
 
@@ -144,7 +150,7 @@ module _ (h : Handler) (ops : List Instruction) (rows : List HandlerRow) (k : �
   settled_handler settled ms s = record {
     past = s.past;
     few = let f = s.few in let e = length_handled h k rows in omega arith;
-    nested = handles_nested h takes settled (reverse rows) (reverse (handled_rows h k rows)) k ms changed s.nested;
+    nested = handles_nested h takes settled (reverse rows) (reverse (handled_rows h k rows)) k ms s.nested changed;
     behind = s.behind;
   }
 

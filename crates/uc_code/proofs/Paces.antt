@@ -272,7 +272,7 @@ module _ (code : Laid) (table : List RoutineCode) (any : Bool) where
       paced_by code table a op.NoReturn line h (down code table a (a + 1) (outside_next code table a op.NoReturn line h (λ k t. refl) p.outside) p.outside (omega arith))
 
   -- the code of a routine, with its end
-  record Ends (number : ℕ) (B : ℕ → ℕ → Type 0) : Type 0 where
+  pub record Ends (number : ℕ) (B : ℕ → ℕ → Type 0) : Type 0 where
     pub rises : (a z : ℕ) → B a z → a < z
     pub plain : (a z : ℕ) → B a z → Outside code table z → Plain code table a
     pub each : Starts code table → (a z : ℕ) → B a z → ((y : ℕ) → y ≤ z → Around code table (mark.Body number ∷ []) y) → Outside code table z → Each code table a z

@@ -12,7 +12,7 @@ use Rattle.uc_code.specs.Laid.{Laid, handlers, chain, routine_in}
 use Rattle.uc_code.specs.Pace.{behind, climb_op, height, power, Test, test_by, In, Risks, Stays, Mute, Waits, Calling, Onward, Paced}
 use Rattle.uc_code.specs.Ranges.{OpAt, Nothing, Never, One, Risk, CallsBehind, Both, Fork, pads_at, begin_at, BackAt, Turns}
 use Rattle.uc_code.specs.Lowered.{Any}
-use Rattle.uc_code.proofs.Heights.{Outside, Plain, PacedAt, Each, Around, around_less, further_of, paced_by, none, only, join, within, onward_plain, onward_falls, own_plain, outside_next, jump_plain, jump_outside, jump_paced, zero_paced, tick_plain, tick_paced, back_paced, back_test_paced, Starts, Further, calling, down, risky, waits_at, raises_at, high_waits, waiting_more, PadTo, height_is, Env, AllStay, stays_by, stay_none, stay_one, stay_join, risks_in}
+use Rattle.uc_code.proofs.Heights.{Outside, Plain, PacedAt, Each, Around, around_less, further_of, paced_by, none, only, join, within, onward_plain, onward_falls, own_plain, outside_next, jump_plain, jump_outside, jump_paced, zero_paced, tick_plain, tick_paced, back_paced, back_test_paced, Starts, Further, calling, down, risky, waits_at, raises_at, high_waits, waiting_more, exit_paced, PadTo, height_is, Env, AllStay, stays_by, stay_none, stay_one, stay_join, risks_in}
 
 module _ (code : Laid) (table : List RoutineCode) (any : Bool) where
   -- the number above which raises stand in a text that ends there, if there are any
@@ -189,18 +189,20 @@ module _ (code : Laid) (table : List RoutineCode) (any : Bool) where
 
   -- a raise, where there are any
   pub raise_paces : any ≡ true → (ms : List Mark) (line : ℕ) → Paces ms (Risk code ms op.Raise line)
-  raise_paces raised ms line = risk_paces ms op.Raise line (λ n k h. refl) (λ k t. refl)
-  (λ at w e u y p o. let l = p.low in raises_at code table at (risky code table at ms u w (omega arith) y) o p (omega arith) (omega arith))
-  (λ from to floor at w e l x i r.
-      let f : Allowed true floor to = subst (λ b. Allowed b floor to) raised x in
-      let m = waiting_more code.ops at 0 (behind (length code.ops) to) (omega arith) in
-      (i, r, omega arith))
+  raise_paces raised ms line =
+      risk_paces ms op.Raise line (λ n k h. refl) (λ k t. refl)
+      (λ at w e u y p o. let l = p.low in raises_at code table at (risky code table at ms u w (omega arith) y) o p (omega arith) (omega arith))
+      (λ from to floor at w e l x i r.
+          let f : Allowed true floor to = subst (λ b. Allowed b floor to) raised x in
+          let m = waiting_more code.ops at 0 (behind (length code.ops) to) (omega arith) in
+          (i, r, omega arith))
 
   -- the test where a block is unwound that is left as a whole
   pub handled_paces : (ms : List Mark) (line : ℕ) → Paces ms (Risk code ms op.Handled line)
-  handled_paces ms line = risk_paces ms op.Handled line (λ n k h. refl) (λ k t. refl)
-  (λ at w e u y p o. let l = p.low in (risky code table at ms u w (omega arith) y, down code table at (at + 1) o p.outside (omega arith)))
-  (λ from to floor at w e l x i r. (i, r))
+  handled_paces ms line =
+      risk_paces ms op.Handled line (λ n k h. refl) (λ k t. refl)
+      (λ at w e u y p o. let l = p.low in (risky code table at ms u w (omega arith) y, down code table at (at + 1) o p.outside (omega arith)))
+      (λ from to floor at w e l x i r. (i, r))
 
   -- a loop whose parts are paced under its mark
   module _ (ms : List Mark) (line : ℕ) (T S : ℕ → ℕ → Type 0) (B : Mark → ℕ → ℕ → Type 0) (t : Paces ms T) (s : Paces ms S) (b : (m : Mark) → Paces (m ∷ ms) (B m)) where

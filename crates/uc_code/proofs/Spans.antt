@@ -1,5 +1,5 @@
 -- The code of scopes, of turns over elements and of guarded blocks is paced.
-use Rattle.std.proofs.Common.{◌≡◌, ◌≢◌, ℕ, zero, suc, ◌+◌, ◌*◌, ◌^◌, ◌<◌, ◌≤◌, List, [], ◌∷◌, Bool, true, false, Option, Some, None, length, refl, ap, sym, subst, ◌∙◌, arith}
+use Rattle.std.proofs.Common.{◌≡◌, ℕ, ◌+◌, ◌-◌, ◌*◌, ◌^◌, ◌<◌, ◌≤◌, List, [], ◌∷◌, Bool, true, false, Option, Some, None, length, refl, ap, sym, subst, ◌∙◌, arith}
 use Rattle.std.specs.Prelude.{slice_get}
 use Rattle.uc_tree.specs.Source.{Expr, CleanUp}
 use Rattle.uc_code.specs.declared.op.Op.{Op}
@@ -11,7 +11,7 @@ use Rattle.uc_code.specs.declared.rows.Mark.{Mark}
 use Rattle.uc_code.specs.declared.rows.Mark.TheVariants as mark
 use Rattle.uc_code.specs.declared.rows.ObjectCall.{ObjectCall}
 use Rattle.uc_code.specs.declared.rows.RoutineCode.{RoutineCode}
-use Rattle.uc_code.specs.declared.rows.RowKind.TheVariants.{CatchResume, CleanUp}
+use Rattle.uc_code.specs.declared.rows.RowKind.TheVariants.{CatchResume, CleanUp as Cleaning}
 use Rattle.uc_code.specs.declared.rows.Spot.{Spot}
 use Rattle.uc_code.specs.declared.rows.Spot.TheVariants as spot
 use Rattle.uc_code.specs.Laid.{Laid, handlers, guards, routine_in}
@@ -100,7 +100,7 @@ module _ (code : Laid) (table : List RoutineCode) (any : Bool) where
     low = λ row test turn z h. sweep_low code table line (mark.Elements row ∷ ms) what test turn z h;
   }
 
-  clean_is_none : {X : Type 0} → CleanUp ≡ CatchResume → X
+  clean_is_none : {X : Type 0} → Cleaning ≡ CatchResume → X
   clean_is_none e = absurd (cc)
 
   -- the row of a clean-up
@@ -109,7 +109,7 @@ module _ (code : Laid) (table : List RoutineCode) (any : Bool) where
   clean_row row entry r h e = let f : Some r ≡ Some h.row = sym e ∙ h.there in cc
 
   row_pays : (at row entry : ℕ) → HandlerAt code row (clean_up entry) → ((e : ℕ) → e < 2 ^ 32 → burden code.ops entry e ≤ waiting code.ops at e) → Entry code table at row
-  row_pays at row entry h b r q e few =
+  row_pays at row entry h b = λ r q e few.
       let f : r.entry ≡ entry = ap (λ (x : HandlerRow). x.entry) (clean_row row entry r h q) ∙ h.entry in
       rw f (b e few)
 

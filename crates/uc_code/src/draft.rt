@@ -411,7 +411,8 @@ impl Draft {
         ensures ok { OnOk result (self.new ≡ record self.old { names = self.old.names ++ record { name = name; ty = ty; cell = cell } ∷ [] }) }
         ensures err { OnErr result (self.new ≡ self.old) }
     {
-        self.names.push(Known { name, ty, cell })?;
+        let known = Known { name, ty, cell };
+        self.names.push(known)?;
         Ok(())
     }
 
