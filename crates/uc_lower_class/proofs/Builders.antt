@@ -209,10 +209,10 @@ module _ (p : Program) (u : Unwritten) (number entry : ℕ) (d0 d1 d2 d3 d4 new 
       (subst (λ (d : Draft). LowersUnwritten p u.role u.class d d2) e1 h) lv g
       (e ∙ ap (λ (n : ℕ). let d : Draft = record d4 { routines = slice_set d4.routines number (record { entry = n; cells = 0; params = 0 }) } in d) ee)
 
-  pub unwritten_at : (last : ℕ) → last < number → RoutineAt (laid_in new) last number (unwritten_meant p u) (record { entry = length d0.ops; cells = 0; params = 0 }) (length d0.ops) (length new.ops)
+  pub unwritten_at : (last : ℕ) → last ≤ number → RoutineAt (laid_in new) last number (unwritten_meant p u) (record { entry = length d0.ops; cells = 0; params = 0 }) (length d0.ops) (length new.ops)
   unwritten_at last l = record {
     entry = refl;
     cells = refl;
     params = refl;
-    body = subst (λ (n : ℕ). BodyAt (laid_in new) source.Builder n 0 (unwritten_body p u.role u.class) (length d0.ops) (length new.ops)) (sym (max_first number last (omega arith))) arm_unwritten.code;
+    body = subst (λ (n : ℕ). BodyAt (laid_in new) source.Builder n 0 (unwritten_body p u.role u.class) (length d0.ops) (length new.ops)) (sym (max_first number last l)) arm_unwritten.code;
   }

@@ -299,7 +299,7 @@ pub fn lower_unwritten(
     requires room { length out.old.ops + (unwritten_room one.role (class_at names.now one.class) + 1) ≤ PROGRAM_OPS }
     ensures kept { OnOk result (Kept (laid_in out.old) (laid_in out.new)) }
     ensures room { OnOk result (length out.new.ops ≤ length out.old.ops + (unwritten_room one.role (class_at names.now one.class) + 1)) }
-    ensures code { OnOk result ((last : ℕ) → last < number → RoutineAt (laid_in out.new) last number (unwritten_meant names.now (unwritten_as one)) (record { entry = length out.old.ops; cells = 0; params = 0 }) (length out.old.ops) (length out.new.ops)) }
+    ensures code { OnOk result ((last : ℕ) → last ≤ number → RoutineAt (laid_in out.new) last number (unwritten_meant names.now (unwritten_as one)) (record { entry = length out.old.ops; cells = 0; params = 0 }) (length out.old.ops) (length out.new.ops)) }
     ensures written { OnOk result (out.new.routines ≡ slice_set out.old.routines number (record { entry = length out.old.ops; cells = 0; params = 0 })) }
     ensures outside { OnOk result (out.new.marks ≡ []) }
 {
