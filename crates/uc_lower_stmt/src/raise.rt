@@ -1,12 +1,12 @@
 // The code of statements that raise events.
 
-ghost use Rattle.std.specs.Prelude.{◌+◌, ◌*◌, ◌^◌, ◌≤◌, ◌<◌, length, OnOk};
+ghost use Rattle.std.specs.Prelude.{◌+◌, ◌*◌, ◌^◌, ◌≤◌, ◌<◌, length, Some, OnOk};
 ghost use Rattle.uc_tree.specs.declared.limits.TheConstants.{OPS_FOR_SIZE, PROGRAM_OPS};
 ghost use Rattle.uc_tree.specs.Expressions.{exprs_of};
 ghost use Rattle.uc_tree.specs.ExpressionSizes.{exprs_size};
 ghost use Rattle.uc_tree.specs.Resolve.{args_by, args_meant, params_of, raised_meant};
 ghost use Rattle.uc_tree.specs.Source.{BuiltAt, CallOn, OfObject, Raise, Throw, Variable};
-ghost use Rattle.uc_tree.specs.StatementSizes.{maybe_raised_size};
+ghost use Rattle.uc_tree.specs.StatementSizes.{maybe_raised_size, raised_size};
 ghost use Rattle.uc_code.specs.Lowered.{RaisedAt};
 ghost use Rattle.uc_code.specs.Puts.{Puts};
 ghost use Rattle.uc_lower_expr.specs.Contexts.{context_in};
@@ -37,7 +37,7 @@ fn lower_built(
     out: &mut Draft,
 ) -> Result<(), AllocError>
     requires room { length out.old.ops + OPS_FOR_SIZE * exprs_size (exprs_of args.now) + 8 ≤ PROGRAM_OPS }
-    requires cell { cell + 2 < 2 ^ 32 }
+    requires cell { cell + 1 < 2 ^ 32 }
     ensures { OnOk result (Puts (OPS_FOR_SIZE * exprs_size (exprs_of args.now) + 8) (λ code. RaisedAt code line out.old.marks (BuiltAt event cell (OfObject (CallOn routine (Variable cell) (args_by (params_of names.now routine) (args_meant (context_in names.now out.old) (exprs_of args.now))))))) out.old out.new) }
 {
     put(
@@ -54,6 +54,31 @@ fn lower_built(
     put_at_risk(Op::CallOn(routine), line, out)?;
     put_built(event, cell, line, out)?;
     Ok(())
+}
+
+// The event of a name. Its constructor, where it is written, builds the fields in cells of their own.
+fn lower_new(
+    raised: &Raised,
+    line: u32,
+    names: &ProgramNames,
+    out: &mut Draft,
+) -> Result<(), AllocError>
+    requires { length out.old.ops + OPS_FOR_SIZE * raised_size raised.now + 3 ≤ PROGRAM_OPS }
+    ensures { OnOk result (LowersRaised names.now line (Some raised.now) out.old out.new) }
+{
+    let event = names.event(&raised.name);
+    let constructor = names.event_constructor(&raised.name);
+    let cell = out.add_hidden(EVENT_FIELDS)?;
+    match constructor {
+        None => {
+            put_plain(event, line, out)?;
+            Ok(())
+        }
+        Some(routine) => {
+            lower_built(event, routine, cell, &raised.args, line, names, out)?;
+            Ok(())
+        }
+    }
 }
 
 // The event that a statement raises: another one, or again the one that is handled.

@@ -1,0 +1,5 @@
+use Rattle.uc_lower_stmt.proofs.Raising.{arm_throw}
+use Rattle.uc_lower_stmt.proofs.raise.lower_throw.Goals as goal
+
+pub returns : goal.returns
+returns c = arm_throw c.args.names.now c.args.line c.args.raised.now c.args.out.now c.lower_raised.new.out c.put_throw.new.out c.in_ok-lower_raised.ensures c.in_ok-put_throw.ensures
