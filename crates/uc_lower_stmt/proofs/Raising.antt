@@ -8,7 +8,8 @@ use Rattle.uc_tree.specs.Programs.{Param, Program}
 use Rattle.uc_tree.specs.Resolve.{Meant, Scope, args_by, args_meant, built_event, context_at, event_constructor, number_of_event, params_of, raised_meant}
 use Rattle.uc_tree.specs.Source as source
 use Rattle.uc_tree.specs.Source.{BuiltAt, CallOn, Exprs, OfObject, Plainly, AgainFrom, Variable}
-use Rattle.uc_tree.specs.Statements.{Raised}
+use Rattle.uc_tree.specs.declared.pos.Pos.{Pos}
+use Rattle.uc_tree.specs.Statements.{Raise, Raised, Stmt, Throw}
 use Rattle.uc_tree.specs.StatementSizes.{maybe_raised_size}
 use Rattle.uc_code.specs.declared.op.Op.TheVariants as op
 use Rattle.uc_code.specs.declared.rows.Mark.{Mark}
@@ -24,7 +25,9 @@ use Rattle.uc_lower_expr.specs.Contexts.{context_in}
 use Rattle.uc_lower_expr.proofs.Adding.{adds_both}
 use Rattle.uc_lower_expr.proofs.Settled.{args_stable, expr_stable}
 use Rattle.uc_lower_stmt.specs.Raising.{LowersRaise, LowersRaised, hidden_past}
-use Rattle.uc_lower_stmt.specs.Scoped.{Lowers, scope_of}
+use Rattle.uc_lower_stmt.specs.Scoped.{Lowers, LowersStmt, scope_of}
+use Rattle.uc_lower_stmt.proofs.Counted.{counted, counted_as}
+use Rattle.uc_lower_stmt.proofs.Stating.{as_stmt}
 use Rattle.uc_lower_stmt.proofs.Joined.{lowers_as, lowers_join, lowers_puts, puts_adds}
 use Rattle.uc_lower_stmt.proofs.Kept.{raised_stable}
 
@@ -110,3 +113,16 @@ pub arm_raise : (p : Program) (line : ℕ) (r : Option Raised) (d0 d1 d2 : Draft
 arm_raise p line r d0 d1 d2 h w =
     let here : Puts 2 (λ code. Both (Risk code d0.marks op.Raise line) (One code op.Discard line)) d1 d2 = subst (λ (ms : List Mark). Puts 2 (λ code. Both (Risk code ms op.Raise line) (One code op.Discard line)) d1 d2) (ap (λ (d : Draft). d.marks) h.rest) w in
     lowers_as (lowers_join (raised_stable line d0.marks (raised_meant p (scope_of d0) r)) h (lowers_puts 0 0 here)) h.scope (λ code a z x. x) (omega arith) (omega arith) (omega arith) refl
+
+raise_counted : (s : Scope) (n : ℕ) → hidden_past s n ≡ counted s s.names (s.cells + 0) (s.hidden + n) (s.texts + 0) (s.sites + 0)
+raise_counted s n =
+    let c : s.cells ≡ s.cells + 0 = omega arith in
+    let t : s.texts ≡ s.texts + 0 = omega arith in
+    let x : s.sites ≡ s.sites + 0 = omega arith in
+    counted_as s s.names s.cells (s.cells + 0) (s.hidden + n) (s.hidden + n) s.texts (s.texts + 0) s.sites (s.sites + 0) c refl t x
+
+pub arm_thrown : (p : Program) (s : Stmt) (place : Pos) (r : Option Raised) (old new : Draft) → Throw place r ≡ s → LowersRaise p (source.Throw place.line (raised_meant p (scope_of old) r)) r old new → LowersStmt p s old new
+arm_thrown p s place r old new e h = as_stmt p s (Throw place r) old new e (lowers_as h (raise_counted (scope_of old) (raised_cells r)) (λ code a z x. x) (omega arith) (omega arith) (omega arith) (omega arith))
+
+pub arm_resumed : (p : Program) (s : Stmt) (place : Pos) (r : Option Raised) (old new : Draft) → Raise place r ≡ s → LowersRaise p (source.Raise place.line (raised_meant p (scope_of old) r)) r old new → LowersStmt p s old new
+arm_resumed p s place r old new e h = as_stmt p s (Raise place r) old new e (lowers_as h (raise_counted (scope_of old) (raised_cells r)) (λ code a z x. x) (omega arith) (omega arith) (omega arith) (omega arith))
