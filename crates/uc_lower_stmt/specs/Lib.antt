@@ -1,5 +1,6 @@
 pub mod Blocks
 pub mod Control
+pub mod Guarding
 pub mod Listed
 pub mod Marked
 pub mod Objects
