@@ -1,5 +1,5 @@
 -- The code of scopes, of turns over elements and of guarded blocks is paced.
-use Rattle.std.proofs.Common.{◌≡◌, ℕ, ◌+◌, ◌-◌, ◌*◌, ◌^◌, ◌<◌, ◌≤◌, List, [], ◌∷◌, Bool, true, false, Option, Some, None, length, refl, ap, sym, subst, ◌∙◌, arith}
+use Rattle.std.proofs.Common.{◌≡◌, ℕ, suc, ◌+◌, ◌-◌, ◌*◌, ◌^◌, ◌<◌, ◌≤◌, List, [], ◌∷◌, Bool, true, false, Option, Some, None, length, refl, ap, sym, subst, ◌∙◌, arith}
 use Rattle.std.specs.Prelude.{slice_get}
 use Rattle.uc_tree.specs.Source.{Expr, CleanUp}
 use Rattle.uc_code.specs.declared.op.Op.{Op}
@@ -205,7 +205,7 @@ module _ (code : Laid) (table : List RoutineCode) (any : Bool) where
 
     then_entries : (a z at : ℕ) (h : OverElements code line ms first most back op.Sweep T D a z) → Around code table ms z → h.test + 2 ≤ at → at < h.entry → behind (length code.ops) at ≤ height code.ops at → InTurn code table h.entry (h.test + 2) (op.Sweep (h.test + 2)) at → Entries code table at (h.row ∷ handlers ms)
     then_entries a z at h r n l g i =
-        let x = height_is code table h.entry (op.Sweep (h.test + 2)) line h.undoes.again in
+        let q = height_is code table h.entry (op.Sweep (h.test + 2)) line h.undoes.again in
         let w = within code table h.entry (op.Sweep (h.test + 2)) line h.undoes.again in
         let y = h.undoes.end in
         let j = h.unwind.end in
