@@ -1,0 +1,284 @@
+-- The handlers of guarded blocks, as they are added to a draft.
+use Rattle.std.proofs.Common.{◌≡◌, ℕ, suc, ◌+◌, ◌*◌, ◌≤◌, Bool, true, false, List, [], ◌∷◌, ◌++◌, Option, Some, None, drop, take, length, refl, ap, sym, subst, ◌∙◌, arith}
+use Rattle.uc_tree.specs.declared.limits.TheConstants.{OPS_FOR_SIZE}
+use Rattle.uc_tree.specs.declared.kinds.HandlerKind.{HandlerKind}
+use Rattle.uc_tree.specs.declared.kinds.Known.{Known}
+use Rattle.uc_tree.specs.declared.kinds.Place.{Place}
+use Rattle.uc_tree.specs.declared.pos.Pos.{Pos}
+use Rattle.uc_tree.specs.Cells.{declared_cells, stmts_cells}
+use Rattle.uc_tree.specs.Exits.{exits_handlers}
+use Rattle.uc_tree.specs.Gathered.{gathered_all}
+use Rattle.uc_tree.specs.Hidden.{KEPT_CELLS, hidden_in_all}
+use Rattle.uc_tree.specs.Numbering.{own_sites, own_texts}
+use Rattle.uc_tree.specs.Programs.{Program}
+use Rattle.uc_tree.specs.Resolve.{Scope, event_of_handler, handlers_meant, in_handler, scope_behind, scope_past_all, scope_past_handler, stmts_meant, takes_resumptions, with_event}
+use Rattle.uc_tree.specs.Scopes.{stmts_scopes}
+use Rattle.uc_tree.specs.Statements as tree
+use Rattle.uc_tree.specs.StatementSizes.{stmts_size}
+use Rattle.uc_code.specs.declared.op.Op.TheVariants as op
+use Rattle.uc_code.specs.declared.rows.Mark.{Mark}
+use Rattle.uc_code.specs.declared.rows.Mark.TheVariants as mark
+use Rattle.uc_code.specs.declared.rows.Opening.TheVariants as opening
+use Rattle.uc_code.specs.Drafts.{Draft}
+use Rattle.uc_code.specs.Laid.{Laid, handlers, laid_in}
+use Rattle.uc_code.specs.Lowered.{HandlerBy, HandlersAt, KeepsAt, StmtsAt, handler_of, handler_rows}
+use Rattle.uc_code.specs.Open.{closed, opened, row_in}
+use Rattle.uc_code.specs.Ranges.{ApartAt, Both, HandledAt, Kept, OpAt, Stable}
+use Rattle.uc_code.proofs.Stable.{handled_stable, kept_piece, kept_then}
+use Rattle.uc_code.proofs.Sweeping.{closed_marks, closed_ops, like_closed}
+use Rattle.uc_lower_expr.proofs.Settled.{both}
+use Rattle.uc_lower_expr.specs.Added.{Adds, OpCode}
+use Rattle.uc_lower_stmt.specs.Guarding.{LowersFrom}
+use Rattle.uc_lower_stmt.specs.Handling.{EntersHandler, HandlerCode, LowersBody, LowersHandler, LowersHandlers, body_of, line_of, past_handlers, resumes}
+use Rattle.uc_lower_stmt.specs.Marked.{objects_in}
+use Rattle.uc_lower_stmt.specs.Scoped.{Lowers, LowersStmts, scope_of, sizes_at}
+use Rattle.uc_lower_stmt.proofs.Counted.{behind_counted, counted, counted_as}
+use Rattle.uc_lower_stmt.proofs.Guarding.{from_join, from_lowers, under_kept, under_then}
+use Rattle.uc_lower_stmt.proofs.Joined.{lowers_as, lowers_nothing, lowers_put}
+use Rattle.uc_lower_stmt.proofs.Kept.{handler_stable, keeps_stable, named_stable, stmts_stable}
+use Rattle.uc_lower_stmt.proofs.Scoping.{back_out}
+
+-- a block has a row for each handler
+pub rows_are : (p : Program) (hs : tree.Handlers) (s : Scope) → handler_rows (handlers_meant p hs s) ≡ length (tree.handler_list hs)
+rows_are p tree.NoHandlers s = refl
+rows_are p (tree.MoreHandlers (tree.Handles pos kind event param brace body) hs) s = ap suc (rows_are p hs (scope_past_handler p (tree.Handles pos kind event param brace body) s))
+
+-- a handler that catches goes on by the pad
+
+pub arm_catches : (p : Program) (pad : ℕ) (h : tree.Handler) (d0 d1 d2 : Draft) → resumes h ≡ false → LowersStmts p (line_of h) (body_of h) d0 d1 → Adds 1 (OpCode (line_of h) (op.Jump pad)) d1 d2 → LowersBody p pad h d0 d2
+arm_catches p pad h d0 d1 d2 r w a =
+    let ss = stmts_meant p (body_of h) (scope_of d0) in
+    lowers_as (lowers_put (stmts_stable d0.marks (line_of h) ss) w a) refl
+        (λ code x z y. subst (λ (b : Bool). HandlerBy code b d0.marks pad (line_of h) (λ ns. StmtsAt code ns (line_of h) ss) x z) (sym r) y) (omega arith) (omega arith) (omega arith) refl
+
+-- one of resumptions stands apart, and ends with its activation
+
+module _ (p : Program) (pad : ℕ) (h : tree.Handler) (d0 d1 d2 d3 new : Draft) (r : resumes h ≡ true) (oe : d1 ≡ opened (opening.Outward 0) d0) (k1 : Kept (laid_in d0) (laid_in d1)) (w : LowersStmts p (line_of h) (body_of h) d1 d2)
+    (ce : d3 ≡ closed 0 d2) (k3 : Kept (laid_in d2) (laid_in d3)) (g : Adds 1 (OpCode 0 op.Return) d3 new) where
+  abbrev row : ℕ
+  row = length d0.rows
+
+  abbrev code : Laid
+  code = laid_in new
+
+  abbrev inner : List Mark
+  inner = mark.Outward 0 row ∷ d0.marks
+
+  abbrev line : ℕ
+  line = line_of h
+
+  marks1 : d1.marks ≡ inner
+  marks1 = ap (λ (d : Draft). d.marks) oe
+
+  marks2 : d2.marks ≡ inner
+  marks2 = ap (λ (d : Draft). d.marks) w.rest ∙ marks1
+
+  marks3 : d3.marks ≡ d0.marks
+  marks3 = closed_marks 0 row d2 d3 ce (ap row_in marks2) ∙ ap (λ (ms : List Mark). drop 1 ms) marks2
+
+  ops1 : length d1.ops ≡ length d0.ops
+  ops1 = ap (λ (d : Draft). length d.ops) oe
+
+  ops3 : length d3.ops ≡ length d2.ops
+  ops3 = ap length (closed_ops 0 d2 d3 ce)
+
+  scope1 : scope_of d1 ≡ scope_of d0
+  scope1 = ap scope_of oe
+
+  keep2 : Kept (laid_in d2) code
+  keep2 = kept_then (laid_in d2) (laid_in d3) code k3 g.kept
+
+  body_at : StmtsAt code inner line (stmts_meant p (body_of h) (scope_of d0)) (length d0.ops) (length d2.ops)
+  body_at =
+      subst (λ (s : Scope). StmtsAt code inner line (stmts_meant p (body_of h) s) (length d0.ops) (length d2.ops)) scope1 (
+      subst (λ (a : ℕ). StmtsAt code inner line (stmts_meant p (body_of h) (scope_of d1)) a (length d2.ops)) ops1 (
+      subst (λ (ms : List Mark). StmtsAt code ms line (stmts_meant p (body_of h) (scope_of d1)) (length d1.ops) (length d2.ops)) marks1 (
+      kept_piece (λ c. StmtsAt c d1.marks line (stmts_meant p (body_of h) (scope_of d1))) (stmts_stable d1.marks line (stmts_meant p (body_of h) (scope_of d1))) (laid_in d2) code (length d1.ops) (length d2.ops) (omega arith) keep2 w.code)))
+
+  apart : ApartAt code d0.marks (λ ns. StmtsAt code ns line (stmts_meant p (body_of h) (scope_of d0))) (length d0.ops) (length new.ops)
+  apart = record {
+    row = row;
+    body_end = length d2.ops;
+    body = body_at;
+    returns = subst (λ (a : ℕ). OpAt code a op.Return 0) ops3 g.code.here;
+    end = (let b = g.code.end in omega (arith, ops3));
+  }
+
+  rest3 : d3 ≡ record d0 { ops = d3.ops; rows = d3.rows; settled = d3.settled; scopes = d2.scopes; names = d2.names; cells = d2.cells; hidden = d2.hidden; texts = d2.texts; sites = d2.sites }
+  rest3 =
+      like_closed 0 d2 d2 d3 refl ce
+      ∙ ap (λ (d : Draft). let x : Draft = record d { ops = d3.ops; rows = d3.rows; settled = d3.settled; marks = d3.marks } in x) w.rest
+      ∙ ap (λ (d : Draft). let x : Draft = record d { ops = d3.ops; rows = d3.rows; settled = d3.settled; marks = d3.marks; scopes = d2.scopes; names = d2.names; cells = d2.cells; hidden = d2.hidden; texts = d2.texts; sites = d2.sites } in x) oe
+      ∙ ap (λ (ms : List Mark). let x : Draft = record d0 { ops = d3.ops; rows = d3.rows; settled = d3.settled; marks = ms; scopes = d2.scopes; names = d2.names; cells = d2.cells; hidden = d2.hidden; texts = d2.texts; sites = d2.sites } in x) marks3
+
+  rest : new ≡ record d0 { ops = new.ops; rows = d3.rows; settled = d3.settled; scopes = d2.scopes; names = d2.names; cells = d2.cells; hidden = d2.hidden; texts = d2.texts; sites = d2.sites }
+  rest = g.rest ∙ ap (λ (d : Draft). let x : Draft = record d { ops = new.ops } in x) rest3
+
+  pub arm_resumes : LowersBody p pad h d0 new
+  arm_resumes =
+      let same : objects_in d1.marks ≡ objects_in d0.marks = ap objects_in marks1 in
+      let size : sizes_at (body_of h) (objects_in d1.marks) ≡ sizes_at (body_of h) (objects_in d0.marks) = ap (sizes_at (body_of h)) same in
+      let scopes1 : d1.scopes ≡ d0.scopes = ap (λ (d : Draft). d.scopes) oe in
+      let texts1 : d1.texts ≡ d0.texts = ap (λ (d : Draft). d.texts) oe in
+      let cells1 : d1.cells ≡ d0.cells = ap (λ (d : Draft). d.cells) oe in
+      let scopes2 : new.scopes ≡ d2.scopes = ap (λ (d : Draft). d.scopes) rest in
+      let texts2 : new.texts ≡ d2.texts = ap (λ (d : Draft). d.texts) rest in
+      let cells2 : new.cells ≡ d2.cells = ap (λ (d : Draft). d.cells) rest in
+      record {
+        rest = subst (λ (d : Draft). d ≡ record d0 { ops = d.ops; rows = d.rows; settled = d.settled; scopes = d.scopes; names = d.names; cells = d.cells; hidden = d.hidden; texts = d.texts; sites = d.sites }) (sym rest) refl;
+        scope = ap scope_of g.rest ∙ ap scope_of (like_closed 0 d2 d2 d3 refl ce) ∙ w.scope ∙ ap (scope_behind p (body_of h)) scope1;
+        opened = (let x = w.opened in omega arith);
+        kept = kept_then (laid_in d0) (laid_in d1) code k1 (kept_then (laid_in d1) (laid_in d2) code w.kept keep2);
+        room = (let x = w.room in let y = g.room in omega (arith, size, ops1, ops3));
+        texts = (let x = w.texts in omega arith);
+        cells = (let x = w.cells in omega arith);
+        code = subst (λ (b : Bool). HandlerBy code b d0.marks pad line (λ ns. StmtsAt code ns line (stmts_meant p (body_of h) (scope_of d0))) (length d0.ops) (length new.ops)) (sym r) apart;
+      }
+
+-- a handler as a whole
+
+event_names : (p : Program) (param event : Option (List ℕ)) (s : Scope) → with_event p param event s ≡ record s { names = (with_event p param event s).names }
+event_names p None event s = refl
+event_names p (Some name) None s = refl
+event_names p (Some name) (Some event) s = refl
+
+names_begin : (p : Program) (param event : Option (List ℕ)) (s : Scope) (ns : List Known) → take (length (with_event p param event s).names) ns ≡ (with_event p param event s).names → take (length s.names) ns ≡ s.names
+names_begin p None event s ns e = e
+names_begin p (Some name) None s ns e = e
+names_begin p (Some name) (Some event) s ns e = shorter s.names _ ns e
+  where
+    shorter : (xs : List Known) (y : Known) (zs : List Known) → take (length (xs ++ y ∷ [])) zs ≡ xs ++ y ∷ [] → take (length xs) zs ≡ xs
+    shorter [] y [] e = refl
+    shorter [] y (z ∷ zs) e = refl
+    shorter (x ∷ xs) y [] e = absurd (cc)
+    shorter (x ∷ xs) y (z ∷ zs) e =
+        let f : z ≡ x = cc in
+        let g : take (length (xs ++ y ∷ [])) zs ≡ xs ++ y ∷ [] = cc in
+        ap (λ (k : Known). k ∷ take (length xs) zs) f ∙ ap (λ (l : List Known). x ∷ l) (shorter xs y zs g)
+
+module _ (p : Program) (row pad : ℕ) (pos : Pos) (kind : HandlerKind) (event param : Option (List ℕ)) (brace : Pos) (body : tree.Stmts) (d0 d1 d2 d3 new : Draft)
+    (en : EntersHandler p row (tree.Handles pos kind event param brace body) d0 d1) (w : LowersBody p pad (tree.Handles pos kind event param brace body) d1 d2)
+    (le : d3 ≡ record d2 { place = record d2.place { scope = d0.place.scope }; names = take (length d0.names) d2.names }) (he : new ≡ record d3 { handled = d0.handled }) where
+  abbrev h : tree.Handler
+  h = tree.Handles pos kind event param brace body
+
+  abbrev s : Scope
+  s = scope_of d0
+
+  abbrev t : Scope
+  t = in_handler p h s
+
+  -- the parameter goes
+  names_back : take (length d0.names) d2.names ≡ d0.names
+  names_back =
+      let named : d2.names ≡ (scope_behind p body t).names = ap (λ (x : Scope). x.names) (w.scope ∙ ap (scope_behind p body) en.scope) in
+      ap (λ (l : List Known). take (length d0.names) l) named ∙ names_begin p param event s (scope_behind p body t).names (back_out p body t)
+
+  last : new ≡ record d2 { place = record d2.place { scope = d0.place.scope }; names = d0.names; handled = d0.handled }
+  last = he ∙ ap (λ (x : Draft). let d : Draft = record x { handled = d0.handled } in d) le
+      ∙ ap (λ (l : List Known). let d : Draft = record d2 { place = record d2.place { scope = d0.place.scope }; names = l; handled = d0.handled } in d) names_back
+
+  rest : new ≡ record d0 { ops = d2.ops; rows = d2.rows; settled = d2.settled; scopes = d2.scopes; names = d0.names; cells = d2.cells; hidden = d2.hidden; texts = d2.texts; sites = d2.sites }
+  rest =
+      last
+      ∙ ap (λ (x : Draft). let d : Draft = record x { place = record x.place { scope = d0.place.scope }; ops = d2.ops; rows = d2.rows; settled = d2.settled; scopes = d2.scopes; names = d0.names; handled = d0.handled; cells = d2.cells; hidden = d2.hidden; texts = d2.texts; sites = d2.sites } in d) w.rest
+      ∙ ap (λ (x : Draft). let d : Draft = record x { place = record d1.place { scope = d0.place.scope }; ops = d2.ops; rows = d2.rows; settled = d2.settled; scopes = d2.scopes; names = d0.names; handled = d0.handled; cells = d2.cells; hidden = d2.hidden; texts = d2.texts; sites = d2.sites } in d) en.rest
+      ∙ ap (λ (q : Place). let d : Draft = record d0 { place = record q { scope = d0.place.scope }; ops = d2.ops; rows = d2.rows; settled = d2.settled; scopes = d2.scopes; names = d0.names; cells = d2.cells; hidden = d2.hidden; texts = d2.texts; sites = d2.sites } in d) en.place
+
+  -- what it counts
+  behind : scope_of new ≡ scope_past_handler p h s
+  behind =
+      let counts : scope_of d2 ≡ counted t (scope_behind p body t).names (t.cells + stmts_cells body (declared_cells p)) (s.hidden + KEPT_CELLS + hidden_in_all body) (t.texts + length (gathered_all own_texts body)) (t.sites + length (gathered_all (own_sites None 0) body)) =
+      w.scope ∙ ap (scope_behind p body) en.scope ∙ behind_counted p body t in
+      let back : scope_of new ≡ record (scope_of d2) { names = s.names; handled = s.handled } = ap scope_of last in
+      back ∙ ap (λ (x : Scope). let y : Scope = record x { names = s.names; handled = s.handled } in y) counts
+      ∙ ap (λ (u : Scope). let y : Scope = record u { names = s.names; handled = s.handled; cells = u.cells + stmts_cells body (declared_cells p); hidden = s.hidden + KEPT_CELLS + hidden_in_all body; texts = u.texts + length (gathered_all own_texts body); sites = u.sites + length (gathered_all (own_sites None 0) body) } in y) (event_names p param event s)
+
+  abbrev code : Laid
+  code = laid_in new
+
+  code2 : HandlerCode p row pad d0.marks h s (laid_in d2) (length d0.ops) (length d2.ops)
+  code2 =
+      let marks1 : d1.marks ≡ d0.marks = ap (λ (d : Draft). d.marks) en.rest in
+      record {
+        named = en.named;
+        handler = record {
+          handler_at = w.kept.handlers row _ en.handler;
+          body = record {
+            middle = length d1.ops;
+            first = kept_piece (λ c. KeepsAt c brace.line d0.hidden) (keeps_stable brace.line d0.hidden) (laid_in d1) (laid_in d2) (length d0.ops) (length d1.ops) (omega arith) w.kept en.keeps;
+            second = subst (λ (x : Scope). HandlerBy (laid_in d2) (takes_resumptions kind) d0.marks pad brace.line (λ ns. StmtsAt (laid_in d2) ns brace.line (stmts_meant p body x)) (length d1.ops) (length d2.ops)) en.scope
+                (subst (λ (ms : List Mark). HandlerBy (laid_in d2) (takes_resumptions kind) ms pad brace.line (λ ns. StmtsAt (laid_in d2) ns brace.line (stmts_meant p body (scope_of d1))) (length d1.ops) (length d2.ops)) marks1 w.code);
+          };
+        };
+      }
+
+  keeps : Kept (laid_in d1) code
+  keeps = subst (λ (d : Draft). Kept (laid_in d1) (laid_in d)) (sym last) w.kept
+
+  pub handler_laid : LowersHandler p row pad h d0 new
+  handler_laid =
+      let marks1 : d1.marks ≡ d0.marks = ap (λ (d : Draft). d.marks) en.rest in
+      let objects1 : objects_in d1.marks ≡ objects_in d0.marks = ap objects_in marks1 in
+      let size : sizes_at body (objects_in d1.marks) ≡ sizes_at body (objects_in d0.marks) = ap (sizes_at body) objects1 in
+      let texts1 : d1.texts ≡ d0.texts = ap (λ (d : Draft). d.texts) en.rest in
+      let cells1 : d1.cells ≡ d0.cells = ap (λ (d : Draft). d.cells) en.rest in
+      let scopes2 : new.scopes ≡ d2.scopes = ap (λ (d : Draft). d.scopes) rest in
+      let texts2 : new.texts ≡ d2.texts = ap (λ (d : Draft). d.texts) rest in
+      let cells2 : new.cells ≡ d2.cells = ap (λ (d : Draft). d.cells) rest in
+      let ops2 : length new.ops ≡ length d2.ops = ap (λ (d : Draft). length d.ops) rest in
+      record {
+        rest = subst (λ (d : Draft). d ≡ record d0 { ops = d.ops; rows = d.rows; settled = d.settled; scopes = d.scopes; names = d.names; cells = d.cells; hidden = d.hidden; texts = d.texts; sites = d.sites }) (sym rest) refl;
+        scope = behind;
+        opened = (let x = w.opened in let y = en.opened in omega arith);
+        kept = under_then row row (laid_in d0) (laid_in d1) code (omega arith) en.kept (under_kept row (laid_in d1) code keeps);
+        room = (let x = w.room in let y = en.room in omega (arith, size));
+        texts = (let x = w.texts in omega arith);
+        cells = (let x = w.cells in omega arith);
+        code = subst (λ (d : Draft). HandlerCode p row pad d0.marks h s (laid_in d) (length d0.ops) (length d.ops)) (sym last) code2;
+      }
+
+handler_code_stable : (p : Program) (row pad : ℕ) (ms : List Mark) (h : tree.Handler) (s : Scope) → Stable (HandlerCode p row pad ms h s)
+handler_code_stable p row pad ms (tree.Handles pos kind event param brace body) s =
+    let ss = stmts_meant p body (in_handler p (tree.Handles pos kind event param brace body) s) in
+    let B : Laid → List Mark → ℕ → ℕ → Type 0 = λ code ns. StmtsAt code ns brace.line ss in
+    named_stable (event_of_handler p event) (λ code. HandledAt code row (handler_of (takes_resumptions kind) (event_of_handler p event) (length (handlers ms))) (Both (KeepsAt code brace.line s.hidden) (HandlerBy code (takes_resumptions kind) ms pad brace.line (B code))))
+        (handled_stable row (handler_of (takes_resumptions kind) (event_of_handler p event) (length (handlers ms))) (λ code. Both (KeepsAt code brace.line s.hidden) (HandlerBy code (takes_resumptions kind) ms pad brace.line (B code)))
+        (both (keeps_stable brace.line s.hidden) (handler_stable (takes_resumptions kind) ms pad brace.line B (λ ns. stmts_stable ns brace.line ss))))
+
+-- all handlers of a block
+
+from_as : {f n k c o m j b q : ℕ} {S T : Laid → ℕ → ℕ → Type 0} {s t : Scope} {old new : Draft} → LowersFrom f n k c o S s old new → s ≡ t → ((code : Laid) (a z : ℕ) → S code a z → T code a z) → n ≤ m → k ≤ j → c ≤ b → o ≡ q → LowersFrom f m j b q T t old new
+from_as {f} {n} {k} {c} {o} {m} {j} {b} {q} {S} {T} {s} {t} {old} {new} h e g l1 l2 l3 l4 = record {
+  rest = h.rest;
+  scope = h.scope ∙ e;
+  opened = let x = h.opened in omega arith;
+  kept = h.kept;
+  room = let x = h.room in omega arith;
+  texts = let x = h.texts in omega arith;
+  cells = let x = h.cells in omega arith;
+  code = g (laid_in new) (length old.ops) (length new.ops) h.code;
+}
+
+pub handlers_none : (p : Program) (first pad : ℕ) (old : Draft) → LowersHandlers p first pad tree.NoHandlers old old
+handlers_none p first pad old = from_as (from_lowers first (lowers_nothing old)) refl (λ code a z x. x) (omega arith) (omega arith) (omega arith) refl
+
+pub handlers_more : (p : Program) (first pad : ℕ) (h : tree.Handler) (hs : tree.Handlers) (d0 d1 d2 : Draft) → LowersHandler p (first + length (tree.handler_list hs)) pad h d0 d1 → LowersHandlers p first pad hs d1 d2 → LowersHandlers p first pad (tree.MoreHandlers h hs) d0 d2
+handlers_more p first pad (tree.Handles pos kind event param brace body) hs d0 d1 d2 w v =
+    let h : tree.Handler = tree.Handles pos kind event param brace body in
+    let ms : List Mark = d0.marks in
+    let s : Scope = scope_of d0 in
+    let more : Scope = scope_past_handler p h s in
+    let row : ℕ = first + length (tree.handler_list hs) in
+    let rows : length (tree.handler_list hs) ≡ handler_rows (handlers_meant p hs more) = sym (rows_are p hs more) in
+    let marks1 : d1.marks ≡ ms = ap (λ (d : Draft). d.marks) w.rest in
+    let objects1 : objects_in d1.marks ≡ objects_in ms = ap objects_in marks1 in
+    let exits1 = ap (exits_handlers hs) objects1 in
+    let last : past_handlers p hs (scope_of d1) ≡ past_handlers p hs more = ap (past_handlers p hs) w.scope in
+    from_as (from_join (omega arith) (handler_code_stable p row pad ms h s) w v) last
+        (λ code a z x. record {
+          middle = x.middle;
+          first = subst (λ (n : ℕ). HandlerCode p (first + n) pad ms h s code a x.middle) rows x.first;
+          second = subst (λ (t : Scope). HandlersAt code ms first pad (handlers_meant p hs t) x.middle z) w.scope (subst (λ (ns : List Mark). HandlersAt code ns first pad (handlers_meant p hs (scope_of d1)) x.middle z) marks1 x.second);
+        })
+        (omega (arith, exits1)) (omega arith) (omega arith) refl
