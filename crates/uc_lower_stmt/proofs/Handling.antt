@@ -18,12 +18,14 @@ use Rattle.uc_tree.specs.StatementSizes.{stmts_size}
 use Rattle.uc_code.specs.declared.op.Op.TheVariants as op
 use Rattle.uc_code.specs.declared.rows.Mark.{Mark}
 use Rattle.uc_code.specs.declared.rows.Mark.TheVariants as mark
+use Rattle.uc_code.specs.declared.rows.RowKind.{RowKind}
 use Rattle.uc_code.specs.declared.rows.Opening.TheVariants as opening
 use Rattle.uc_code.specs.Drafts.{Draft}
 use Rattle.uc_code.specs.Laid.{Laid, handlers, laid_in}
-use Rattle.uc_code.specs.Lowered.{HandlerBy, HandlersAt, KeepsAt, StmtsAt, handler_of, handler_rows}
+use Rattle.uc_code.specs.Lowered.{HandlerBy, HandlersAt, IsNamed, KeepsAt, StmtsAt, event_of, handler_of, handler_rows, kind_of}
 use Rattle.uc_code.specs.Open.{closed, opened, row_in}
-use Rattle.uc_code.specs.Ranges.{ApartAt, Both, HandledAt, Kept, OpAt, Stable}
+use Rattle.uc_code.specs.Puts.{Puts}
+use Rattle.uc_code.specs.Ranges.{ApartAt, Both, HandledAt, HandlerAt, Kept, KeptBut, OpAt, Stable}
 use Rattle.uc_code.proofs.Stable.{handled_stable, kept_piece, kept_then}
 use Rattle.uc_code.proofs.Sweeping.{closed_marks, closed_ops, like_closed}
 use Rattle.uc_lower_expr.proofs.Settled.{both}
@@ -33,7 +35,7 @@ use Rattle.uc_lower_stmt.specs.Handling.{EntersHandler, HandlerCode, LowersBody,
 use Rattle.uc_lower_stmt.specs.Marked.{objects_in}
 use Rattle.uc_lower_stmt.specs.Scoped.{Lowers, LowersStmts, scope_of, sizes_at}
 use Rattle.uc_lower_stmt.proofs.Counted.{behind_counted, counted, counted_as}
-use Rattle.uc_lower_stmt.proofs.Guarding.{from_join, from_lowers, under_kept, under_then}
+use Rattle.uc_lower_stmt.proofs.Guarding.{from_join, from_lowers, under_but, under_kept, under_then}
 use Rattle.uc_lower_stmt.proofs.Joined.{lowers_as, lowers_nothing, lowers_put}
 use Rattle.uc_lower_stmt.proofs.Kept.{handler_stable, keeps_stable, named_stable, stmts_stable}
 use Rattle.uc_lower_stmt.proofs.Scoping.{back_out}
@@ -282,3 +284,53 @@ handlers_more p first pad (tree.Handles pos kind event param brace body) hs d0 d
           second = subst (λ (t : Scope). HandlersAt code ms first pad (handlers_meant p hs t) x.middle z) w.scope (subst (λ (ns : List Mark). HandlersAt code ns first pad (handlers_meant p hs (scope_of d1)) x.middle z) marks1 x.second);
         })
         (omega (arith, exits1)) (omega arith) (omega arith) refl
+
+-- where a handler begins
+
+module _ (p : Program) (row taken number cell scope : ℕ) (taker : RowKind) (pos : Pos) (kind : HandlerKind) (event param : Option (List ℕ)) (brace : Pos) (body : tree.Stmts) (d0 d1 d2 d3 d4 d5 new : Draft)
+    (ke : taker ≡ kind_of (takes_resumptions kind)) (ne : number ≡ event_of (event_of_handler p event)) (few : IsNamed (event_of_handler p event))
+    (b1 : d1 ≡ record d0 { rows = d1.rows }) (h1 : HandlerAt (laid_in d1) row (record { kind = taker; event = number; rest = length (handlers d0.marks); entry = length d0.ops })) (k1 : KeptBut row (laid_in d0) (laid_in d1))
+    (e2 : d2 ≡ record d1 { hidden = d1.hidden + KEPT_CELLS }) (ce : cell ≡ d1.hidden) (p3 : Puts 6 (λ code. KeepsAt code brace.line cell) d2 d3) (e4 : d4 ≡ record d3 { handled = cell })
+    (e5 : d5 ≡ record d4 { place = record d4.place { scope = scope }; scopes = d4.scopes + 1 }) (e6 : new ≡ record d5 { names = (with_event p param event (scope_of d0)).names }) where
+  abbrev begun : tree.Handler
+  begun = tree.Handles pos kind event param brace body
+
+  cell_is : cell ≡ d0.hidden
+  cell_is = ce ∙ ap (λ (d : Draft). d.hidden) b1
+
+  third : d3 ≡ record d0 { ops = d3.ops; rows = d3.rows; settled = d3.settled; hidden = d0.hidden + KEPT_CELLS }
+  third = p3.rest ∙ ap (λ (x : Draft). let d : Draft = record x { ops = d3.ops; rows = d3.rows; settled = d3.settled } in d) e2
+      ∙ ap (λ (x : Draft). let d : Draft = record x { ops = d3.ops; rows = d3.rows; settled = d3.settled; hidden = x.hidden + KEPT_CELLS } in d) b1
+
+  is : new ≡ record d0 { place = record d0.place { scope = scope }; ops = d3.ops; rows = d3.rows; settled = d3.settled; scopes = d0.scopes + 1; names = (with_event p param event (scope_of d0)).names; handled = d0.hidden; hidden = d0.hidden + KEPT_CELLS }
+  is =
+      e6 ∙ ap (λ (x : Draft). let d : Draft = record x { names = (with_event p param event (scope_of d0)).names } in d) e5
+      ∙ ap (λ (x : Draft). let d : Draft = record x { place = record x.place { scope = scope }; scopes = x.scopes + 1; names = (with_event p param event (scope_of d0)).names } in d) e4
+      ∙ ap (λ (x : Draft). let d : Draft = record x { place = record x.place { scope = scope }; scopes = x.scopes + 1; names = (with_event p param event (scope_of d0)).names; handled = cell } in d) third
+      ∙ ap (λ (n : ℕ). let d : Draft = record d0 { place = record d0.place { scope = scope }; ops = d3.ops; rows = d3.rows; settled = d3.settled; scopes = d0.scopes + 1; names = (with_event p param event (scope_of d0)).names; handled = n; hidden = d0.hidden + KEPT_CELLS } in d) cell_is
+
+  ops1 : length d2.ops ≡ length d0.ops
+  ops1 = ap (λ (d : Draft). length d.ops) e2 ∙ ap (λ (d : Draft). length d.ops) b1
+
+  in_it : record (scope_of d0) { names = (with_event p param event (scope_of d0)).names; handled = d0.hidden; hidden = d0.hidden + KEPT_CELLS } ≡ in_handler p begun (scope_of d0)
+  in_it = sym (ap (λ (u : Scope). let x : Scope = record u { handled = d0.hidden; hidden = d0.hidden + KEPT_CELLS } in x) (event_names p param event (scope_of d0)))
+
+  keep2 : Kept (laid_in d2) (laid_in d3)
+  keep2 = p3.kept
+
+  keep1 : Kept (laid_in d1) (laid_in d3)
+  keep1 = subst (λ (d : Draft). Kept (laid_in d) (laid_in d3)) e2 keep2
+
+  pub entered : EntersHandler p row begun d0 new
+  entered = subst (λ (d : Draft). EntersHandler p row begun d0 d) (sym is) (record {
+    rest = refl;
+    place = refl;
+    scope = in_it;
+    opened = refl;
+    kept = under_then row row (laid_in d0) (laid_in d1) (laid_in d3) (omega arith) (under_but row (laid_in d0) (laid_in d1) k1) (under_kept row (laid_in d1) (laid_in d3) keep1);
+    room = (let x = p3.room in omega (arith, ops1));
+    named = few;
+    handler = subst (λ (k : RowKind). HandlerAt (laid_in d3) row (record { kind = k; event = event_of (event_of_handler p event); rest = length (handlers d0.marks); entry = length d0.ops })) ke
+        (subst (λ (n : ℕ). HandlerAt (laid_in d3) row (record { kind = taker; event = n; rest = length (handlers d0.marks); entry = length d0.ops })) ne (keep1.handlers row _ h1));
+    keeps = subst (λ (n : ℕ). KeepsAt (laid_in d3) brace.line n (length d0.ops) (length d3.ops)) cell_is (subst (λ (a : ℕ). KeepsAt (laid_in d3) brace.line cell a (length d3.ops)) ops1 p3.code);
+  })
