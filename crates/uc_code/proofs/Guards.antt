@@ -1,20 +1,18 @@
 -- The code of blocks that are left as a whole, of mains and of guarded blocks is paced.
 use Rattle.std.proofs.Common.{◌≡◌, ℕ, zero, suc, ◌+◌, ◌*◌, ◌^◌, ◌<◌, ◌≤◌, List, [], ◌∷◌, Bool, true, false, Option, Some, length, refl, ap, sym, subst, ◌∙◌, arith}
 use Rattle.std.specs.Prelude.{slice_get}
-use Rattle.uc_code.specs.declared.op.Op.{Op}
 use Rattle.uc_code.specs.declared.op.Op.TheVariants as op
 use Rattle.uc_code.specs.declared.rows.Handler.{Handler}
 use Rattle.uc_code.specs.declared.rows.HandlerRow.{HandlerRow}
-use Rattle.uc_code.specs.declared.rows.Instruction.{Instruction}
 use Rattle.uc_code.specs.declared.rows.Mark.{Mark}
 use Rattle.uc_code.specs.declared.rows.Mark.TheVariants as mark
 use Rattle.uc_code.specs.declared.rows.RoutineCode.{RoutineCode}
-use Rattle.uc_code.specs.declared.rows.RowKind.TheVariants.{Catch, CatchResume}
+use Rattle.uc_code.specs.declared.rows.RowKind.TheVariants.{CatchResume}
 use Rattle.uc_code.specs.Laid.{Laid, under, handlers, guards}
-use Rattle.uc_code.specs.Pace.{behind, height, power, burden, In, AllIn, Text, Beneath}
-use Rattle.uc_code.specs.Ranges.{OpAt, Nothing, One, Risk, Both, WholeAt, MainAt, Guarded, HandledAt, ApartAt, HandlerAt, clean_up}
-use Rattle.uc_code.specs.Lowered.{kind_of, event_of, handler_of, NamedAt, HandlerBy, KeepsAt}
-use Rattle.uc_code.proofs.Heights.{Outside, Plain, PacedAt, Each, Ahead, Around, around_less, clean_ahead, Below, beneath_of, paced_by, none, only, join, within, own_plain, jump_plain, jump_outside, jump_paced, Starts, burden_is, height_is, PadTo, pad_less, exit_paced, RowIn, row_in, Env, AllStay, stay_none, stay_one, stay_join}
+use Rattle.uc_code.specs.Pace.{behind, height, power, In, AllIn, Text, Beneath}
+use Rattle.uc_code.specs.Ranges.{OpAt, Nothing, One, Both, WholeAt, MainAt, Guarded, HandledAt, ApartAt, HandlerAt, clean_up}
+use Rattle.uc_code.specs.Lowered.{kind_of, handler_of, NamedAt}
+use Rattle.uc_code.proofs.Heights.{Outside, Plain, Each, Ahead, Around, around_less, clean_ahead, Below, beneath_of, paced_by, none, only, join, own_plain, jump_plain, jump_outside, jump_paced, Starts, burden_is, PadTo, pad_less, exit_paced, RowIn, row_in, Env, AllStay, stay_none, stay_one, stay_join}
 use Rattle.uc_code.proofs.Nesting.{under_drop}
 use Rattle.uc_code.proofs.Powers.{power_rises}
 use Rattle.uc_code.proofs.Pacing as pacing

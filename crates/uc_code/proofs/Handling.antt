@@ -8,13 +8,12 @@ use Rattle.uc_code.specs.declared.rows.Handler.{Handler}
 use Rattle.uc_code.specs.declared.rows.HandlerRow.{HandlerRow}
 use Rattle.uc_code.specs.declared.rows.Instruction.{Instruction}
 use Rattle.uc_code.specs.declared.rows.Mark.{Mark}
-use Rattle.uc_code.specs.declared.rows.Opening.{Opening}
 use Rattle.uc_code.specs.declared.rows.Opening.TheVariants as opening
 use Rattle.uc_code.specs.declared.rows.RowKind.{RowKind}
 use Rattle.uc_code.specs.declared.rows.RowKind.TheVariants as kind
 use Rattle.uc_code.specs.declared.rows.TheConstants.{OPEN_END}
-use Rattle.uc_code.specs.Laid.{Laid, under, handlers, takes_events, counted_by, from_row, from_newest}
-use Rattle.uc_code.specs.Open.{opening_mark, opening_around, made, Nested, Bare, Ended, InBody, InLoop, InRow, IsSettled, handled_row, handled_rows}
+use Rattle.uc_code.specs.Laid.{under, handlers, takes_events, counted_by, from_row, from_newest}
+use Rattle.uc_code.specs.Open.{opening_mark, made, Nested, Bare, Ended, InBody, InLoop, InRow, IsSettled, handled_row, handled_rows}
 use Rattle.uc_code.specs.Ranges.{HandlerAt, IsBare, KeptBut}
 use Rattle.uc_code.proofs.Closing.{reverse_cons}
 use Rattle.uc_code.proofs.Nesting.{under_take, under_drop}

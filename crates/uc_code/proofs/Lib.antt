@@ -2,6 +2,7 @@ pub mod Called
 pub mod Closed
 pub mod Closing
 pub mod Exiting
+pub mod Guarding
 pub mod Guards
 pub mod Handling
 pub mod Heights

@@ -1,9 +1,8 @@
 -- The code of the source is paced.
-use Rattle.std.proofs.Common.{◌≡◌, ℕ, zero, suc, ◌+◌, ◌-◌, ◌^◌, ◌<◌, ◌≤◌, max, pos, List, [], ◌∷◌, Bool, true, false, Option, Some, None, length, refl, sym, subst, ◌∙◌, arith, inl, inr}
+use Rattle.std.proofs.Common.{◌≡◌, ℕ, zero, suc, ◌+◌, ◌-◌, ◌<◌, ◌≤◌, max, pos, List, [], ◌∷◌, Bool, true, false, Option, Some, None, length, refl, sym, subst, ◌∙◌, arith}
 use Rattle.std.specs.Prelude.{slice_get}
-use Rattle.std.proofs.lemmas.Bool.{cases_lt}
 use Rattle.std.proofs.lemmas.Option.{slice_get_within}
-use Rattle.uc_tree.specs.Source.{Shape, Integer, Character, Truth, Binding, Last, Field, Array, shape_cells, field_cells, Order, TestFirst, BodyFirst, NoTest, Operator, Plus, Minus, Times, Over, Modulo, Equal, NotEqual, Less, AtMost, Greater, AtLeast, Expr, Literal, Variable, Element, Get, Load, Negated, Not, AsCharacter, AsTruth, Operate, And, Or, Set, Assign, First, Update, StepBehind, Fail, Call, OfObject, ObjectExpr, This, OwnField, GetOwn, FieldOf, Counted, CallOn, CallUnwritten, EnterOn, Wait, Signal, SignalBlock, IsEmpty, FrontOf, Exprs, NoExprs, MoreExprs, Item, Show, ShowText, Target, Declared, Stmt, Skip, Block, Whole, Evaluate, Declare, Print, PrintTogether, Read, If, Loop, Break, Continue, Return, Fill, OfEvents, OfTasks, EventStmt, Throw, Raise, Try, RaiseAt, Enable, Disable, Raised, Plainly, BuiltAt as BuildsAt, AgainFrom, Handlers, NoHandlers, MoreHandlers, CleanUp, Stmts, Nil, Then, Scoped, Built, Way, ToBreak, ToContinue, ToReturn, ToEnd, Purpose, TaskMain, Procedure, Function, Builder, Routine, Source}
+use Rattle.uc_tree.specs.Source.{Shape, Integer, Character, Truth, Binding, Last, Field, Array, shape_cells, field_cells, Operator, Plus, Minus, Times, Over, Modulo, Equal, NotEqual, Less, AtMost, Greater, AtLeast, Expr, Literal, Variable, Element, Get, Load, Negated, Not, AsCharacter, AsTruth, Operate, And, Or, Set, Assign, First, Update, StepBehind, Fail, Call, OfObject, ObjectExpr, This, OwnField, GetOwn, FieldOf, Counted, CallOn, CallUnwritten, EnterOn, Wait, Signal, SignalBlock, IsEmpty, FrontOf, Exprs, NoExprs, MoreExprs, Item, Show, ShowText, Target, Declared, Stmt, Skip, Block, Whole, Evaluate, Declare, Print, PrintTogether, Read, If, Loop, Break, Continue, Return, Fill, OfEvents, OfTasks, EventStmt, Throw, Raise, Try, RaiseAt, Enable, Disable, Raised, Plainly, BuiltAt as BuildsAt, AgainFrom, Handlers, NoHandlers, MoreHandlers, Stmts, Nil, Then, Scoped, Built, Way, ToBreak, ToContinue, ToReturn, ToEnd, Purpose, TaskMain, Procedure, Function, Builder, Routine, Source}
 use Rattle.uc_tree.specs.Hidden.{EVENT_FIELDS}
 use Rattle.uc_code.specs.declared.op.Op.{Op}
 use Rattle.uc_code.specs.declared.op.Op.TheVariants as op
@@ -11,12 +10,12 @@ use Rattle.uc_code.specs.declared.rows.Mark.{Mark}
 use Rattle.uc_code.specs.declared.rows.Mark.TheVariants as mark
 use Rattle.uc_code.specs.declared.rows.RoutineCode.{RoutineCode}
 use Rattle.uc_code.specs.Codes.{Code}
-use Rattle.uc_code.specs.Laid.{Laid, laid_of, handlers}
-use Rattle.uc_code.specs.Pace.{behind, climb_op, power, above, Test, test_by, In, Stays, Text, Mute, Onward, Paced, IsPaced}
-use Rattle.uc_code.specs.Ranges.{OpAt, One, Risk, Both, Fork, WholeAt}
+use Rattle.uc_code.specs.Laid.{Laid, laid_of}
+use Rattle.uc_code.specs.Pace.{climb_op, above, Test, test_by, In, Stays, Text, Mute, Onward, Paced, IsPaced}
+use Rattle.uc_code.specs.Ranges.{OpAt, One, Both, Fork}
 use Rattle.uc_code.specs.Silent.{silent, silent_all}
 use Rattle.uc_code.specs.Lowered.{operator_op, item_op, handler_rows, ConvertAt, ExprAt, ObjectAt, ArgumentsAt, ValueAt, ItemsAt, ValuesAt, PiecesAt, TogetherAt, TargetsAt, StartAt, VariablesAt, RaisedAt, FieldsAt, KeepAt, KeepsAt, ExitAt, StepAt, HandlerBy, StmtAt, EventAt, HandlersAt, StmtsAt, BodyAt, RoutineAt, RoutinesAt, Lowered}
-use Rattle.uc_code.proofs.Heights.{Outside, Plain, PacedAt, Each, Around, paced_by, none, only, join, within, own_plain, outside_next, Starts, Further, down, height_is, outside_end, AllStay, stay_none, stay_one, stay_join}
+use Rattle.uc_code.proofs.Heights.{Outside, Plain, PacedAt, Each, Around, paced_by, none, only, join, within, own_plain, outside_next, Starts, Further, down, height_is, outside_end, AllStay, stay_one, stay_join}
 use Rattle.uc_code.proofs.Pacing as pacing
 use Rattle.uc_code.proofs.Spans as spans
 use Rattle.uc_code.proofs.Guards as blocks

@@ -1,18 +1,16 @@
 -- How pieces of code that are paced are joined, and how an activation stays in them.
-use Rattle.std.proofs.Common.{◌≡◌, ℕ, suc, ◌+◌, ◌*◌, ◌^◌, ◌<◌, ◌≤◌, List, ◌∷◌, Bool, true, false, Option, length, refl, sym, subst, ◌∙◌, arith}
-use Rattle.std.specs.Prelude.{slice_get}
+use Rattle.std.proofs.Common.{◌≡◌, ℕ, suc, ◌+◌, ◌*◌, ◌^◌, ◌<◌, ◌≤◌, List, ◌∷◌, Bool, true, false, Option, length, refl, subst, ◌∙◌, arith}
 use Rattle.uc_tree.specs.Source.{Order, TestFirst, BodyFirst, NoTest}
 use Rattle.uc_code.specs.declared.op.Op.{Op}
 use Rattle.uc_code.specs.declared.op.Op.TheVariants as op
-use Rattle.uc_code.specs.declared.rows.Instruction.{Instruction}
 use Rattle.uc_code.specs.declared.rows.Mark.{Mark}
 use Rattle.uc_code.specs.declared.rows.Mark.TheVariants as mark
 use Rattle.uc_code.specs.declared.rows.RoutineCode.{RoutineCode}
-use Rattle.uc_code.specs.Laid.{Laid, handlers, chain, routine_in}
-use Rattle.uc_code.specs.Pace.{behind, climb_op, height, power, Test, test_by, In, Risks, Stays, Mute, Waits, Calling, Onward, Paced}
+use Rattle.uc_code.specs.Laid.{Laid, handlers, chain}
+use Rattle.uc_code.specs.Pace.{behind, climb_op, height, power, Test, test_by, In, Risks, Stays, Waits, Calling, Onward, Paced}
 use Rattle.uc_code.specs.Ranges.{OpAt, Nothing, Never, One, Risk, CallsBehind, Both, Fork, pads_at, begin_at, BackAt, Turns}
 use Rattle.uc_code.specs.Lowered.{Any}
-use Rattle.uc_code.proofs.Heights.{Outside, Plain, PacedAt, Each, Around, around_less, further_of, paced_by, none, only, join, within, onward_plain, onward_falls, own_plain, outside_next, jump_plain, jump_outside, jump_paced, zero_paced, tick_plain, tick_paced, back_paced, back_test_paced, Starts, Further, calling, down, risky, waits_at, raises_at, high_waits, waiting_more, exit_paced, PadTo, height_is, Env, AllStay, stays_by, stay_none, stay_one, stay_join, risks_in}
+use Rattle.uc_code.proofs.Heights.{Outside, Plain, PacedAt, Each, Around, around_less, further_of, paced_by, none, only, join, within, onward_plain, onward_falls, own_plain, outside_next, jump_plain, jump_outside, jump_paced, zero_paced, tick_plain, tick_paced, back_paced, back_test_paced, Starts, calling, down, risky, waits_at, raises_at, high_waits, waiting_more, exit_paced, PadTo, height_is, Env, AllStay, stay_none, stay_one, stay_join, risks_in}
 
 module _ (code : Laid) (table : List RoutineCode) (any : Bool) where
   -- the number above which raises stand in a text that ends there, if there are any

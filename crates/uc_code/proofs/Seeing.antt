@@ -3,7 +3,6 @@ use Rattle.std.proofs.Common.{◌≡◌, ℕ, suc, ◌+◌, ◌-◌, ◌<◌, �
 use Rattle.std.proofs.lemmas.Bool.{cases_lt, lt-ltb, le-ltb}
 use Rattle.uc_code.specs.declared.rows.Mark.{Mark}
 use Rattle.uc_code.specs.declared.rows.Mark.TheVariants as mark
-use Rattle.uc_code.specs.declared.marks.Seen.{Seen}
 use Rattle.uc_code.specs.declared.marks.Seen.TheVariants as seen
 use Rattle.uc_code.specs.Laid.{under, handlers}
 use Rattle.uc_code.specs.Open.{first_in, seen_row, seen_at}

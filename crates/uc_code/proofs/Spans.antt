@@ -1,11 +1,10 @@
 -- The code of scopes, of turns over elements and of guarded blocks is paced.
-use Rattle.std.proofs.Common.{◌≡◌, ℕ, suc, ◌+◌, ◌-◌, ◌*◌, ◌^◌, ◌<◌, ◌≤◌, List, [], ◌∷◌, Bool, true, false, Option, Some, None, length, refl, ap, sym, subst, ◌∙◌, arith}
+use Rattle.std.proofs.Common.{◌≡◌, ℕ, suc, ◌+◌, ◌-◌, ◌*◌, ◌^◌, ◌<◌, ◌≤◌, List, ◌∷◌, Bool, true, false, Option, Some, None, length, refl, ap, sym, subst, ◌∙◌, arith}
 use Rattle.std.specs.Prelude.{slice_get}
 use Rattle.uc_tree.specs.Source.{Expr, CleanUp}
 use Rattle.uc_code.specs.declared.op.Op.{Op}
 use Rattle.uc_code.specs.declared.op.Op.TheVariants as op
 use Rattle.uc_code.specs.declared.rows.Array.{Array as ArrayOf}
-use Rattle.uc_code.specs.declared.rows.Handler.{Handler}
 use Rattle.uc_code.specs.declared.rows.HandlerRow.{HandlerRow}
 use Rattle.uc_code.specs.declared.rows.Mark.{Mark}
 use Rattle.uc_code.specs.declared.rows.Mark.TheVariants as mark
@@ -14,11 +13,11 @@ use Rattle.uc_code.specs.declared.rows.RoutineCode.{RoutineCode}
 use Rattle.uc_code.specs.declared.rows.RowKind.TheVariants.{CatchResume, CleanUp as Cleaning}
 use Rattle.uc_code.specs.declared.rows.Spot.{Spot}
 use Rattle.uc_code.specs.declared.rows.Spot.TheVariants as spot
-use Rattle.uc_code.specs.Laid.{Laid, handlers, guards, routine_in}
+use Rattle.uc_code.specs.Laid.{Laid, handlers, routine_in}
 use Rattle.uc_code.specs.Pace.{behind, climb_op, height, power, Test, test_by, burden, waiting, In, Stays, Entry, Entries, Beneath, Nests, Onward, Paced}
-use Rattle.uc_code.specs.Ranges.{OpAt, One, Risk, Both, WholeAt, MainAt, HandlerAt, clean_up, Rounds, OverElements, ScopeOf, BehindPart}
+use Rattle.uc_code.specs.Ranges.{One, Risk, Both, HandlerAt, clean_up, Rounds, OverElements, ScopeOf, BehindPart}
 use Rattle.uc_code.specs.Lowered.{spot_op, SpotAt, CalledAt, CallAt, CallDone, CallBuilt, CleanBy, CleanAt, FilledAt, ScopedAt, BuiltAt}
-use Rattle.uc_code.proofs.Heights.{Low, waiting_more, Outside, Plain, PacedAt, Each, Ahead, Around, around_less, further_of, clean_ahead, entries_of, nests_of, paced_by, none, only, join, within, own_plain, outside_next, jump_plain, jump_plain_at, jump_paced_at, jump_outside, jump_paced, Starts, Further, height_is, RowIn, row_in, Env, AllStay, stay_one, stay_join}
+use Rattle.uc_code.proofs.Heights.{Low, waiting_more, Outside, Plain, Each, Ahead, Around, around_less, further_of, clean_ahead, entries_of, nests_of, paced_by, only, join, within, own_plain, jump_plain, jump_plain_at, jump_paced_at, jump_paced, Starts, Further, height_is, RowIn, row_in, Env, AllStay, stay_one, stay_join}
 use Rattle.uc_code.proofs.Powers.{power_rises, power_sum_few}
 use Rattle.uc_code.proofs.Turning.{In as InTurn, burden_test, waiting_in}
 use Rattle.uc_code.proofs.Rounds.{before_turns, test_falls, sweep_test, sweep_in, sweep_low, sweep_low_test, sweep_heard, sweep_each, sweep_begins, fill_test, fill_in, fill_low, fill_low_test, fill_heard, fill_each, fill_begins}

@@ -9,7 +9,7 @@ use Rattle.uc_code.specs.declared.rows.Mark.{Mark}
 use Rattle.uc_code.specs.declared.rows.Mark.TheVariants.{Finish, Whole, Elements, Outward}
 use Rattle.uc_code.specs.declared.rows.Handler.{Handler}
 use Rattle.uc_code.specs.Laid.{Laid, guards}
-use Rattle.uc_code.specs.Ranges.{Nothing, Never, One, Risk, CallsBehind, Both, Behind, When, Unless, Fork, Leads, Arrived, Jumped, pads_at, begin_at, BackAt, Turns, WholeAt, MainAt, Guarded, HandledAt, ApartAt, clean_up, IsBare, Rounds, OverElements, ScopeOf, BehindPart, Same, Kept, KeptBut, Stable}
+use Rattle.uc_code.specs.Ranges.{Nothing, Never, One, Risk, CallsBehind, Both, Behind, When, Unless, Fork, Leads, Arrived, Jumped, pads_at, begin_at, BackAt, Turns, WholeAt, MainAt, Guarded, HandledAt, ApartAt, clean_up, Rounds, OverElements, ScopeOf, BehindPart, Same, Kept, KeptBut, Stable}
 
 pub part : (old new : Laid) (a z b y : ℕ) → a ≤ b → y ≤ z → Same old new a z → Same old new b y
 part old new a z b y h k s = record {

@@ -1,6 +1,6 @@
 -- Turns over elements are paced: each one leaves fewer of them.
 use Rattle.std.proofs.Common.{◌≡◌, ℕ, suc, ◌+◌, ◌-◌, ◌*◌, ◌^◌, ◌<◌, ◌≤◌, List, Bool, true, false, Option, Some, None, refl, ap, sym, subst, ◌∙◌, arith}
-use Rattle.std.specs.Prelude.{length, slice_get, nat_eq}
+use Rattle.std.specs.Prelude.{length, nat_eq}
 use Rattle.std.proofs.lemmas.Bool.{eq-eqb, ne_eqb}
 use Rattle.uc_code.specs.declared.op.Op.{Op}
 use Rattle.uc_code.specs.declared.op.Op.TheVariants as op
@@ -15,7 +15,7 @@ use Rattle.uc_code.specs.Pace.{climb_op, height, power, Test, test_by, test_of, 
 use Rattle.uc_code.specs.Ranges.{OpAt, Nothing, One, Risk, CallsBehind, Both}
 use Rattle.uc_code.specs.Lowered.{spot_op, SpotAt, CalledAt, CallAt}
 use Rattle.uc_code.proofs.Powers.{power_less, power_rises, power_twice}
-use Rattle.uc_code.proofs.Heights.{Low, Plain, Each, paced_by, none, only, join, within, height_is, test_is, onward_low, onward_lower, Starts, Further, if_ge, waits_are, burdens_are, calling, risky_by}
+use Rattle.uc_code.proofs.Heights.{Low, Each, paced_by, none, only, join, within, height_is, test_is, onward_low, onward_lower, Starts, Further, if_ge, waits_are, burdens_are, calling, risky_by}
 
 module _ (code : Laid) (table : List RoutineCode) (test turn : ℕ) (o : Op) where
   -- a place in a turn, of which this op is the test

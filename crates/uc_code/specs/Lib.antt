@@ -1,5 +1,6 @@
 pub mod Codes
 pub mod Drafts
+pub mod Guarding
 pub mod Laid
 pub mod Leaving
 pub mod Listing

@@ -1,4 +1,4 @@
-use Rattle.std.proofs.Common.{◌≡◌, ◌<◌, List, length, reverse, ap, sym, subst, refl, arith, rules}
+use Rattle.std.proofs.Common.{◌≡◌, List, length, reverse, ap, sym, subst, refl, arith, rules}
 use Rattle.uc_code.specs.declared.rows.Handler.{Handler}
 use Rattle.uc_code.specs.declared.rows.Mark.{Mark}
 use Rattle.uc_code.specs.Drafts.{Draft}
