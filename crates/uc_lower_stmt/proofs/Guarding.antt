@@ -1,24 +1,15 @@
--- Rows of handlers are opened and closed, and get their handlers.
-use Rattle.std.proofs.Common.{◌≡◌, ◌≢◌, ℕ, zero, suc, ◌+◌, ◌≤◌, ◌<◌, List, [], ◌∷◌, ◌++◌, Option, Some, drop, length, refl, ap, sym, subst, ◌∙◌, arith, ◌⊎◌, inl, inr}
+-- Rows get their handlers.
+use Rattle.std.proofs.Common.{◌≡◌, ◌≢◌, ℕ, zero, suc, ◌+◌, ◌≤◌, ◌<◌, List, [], ◌∷◌, Some, length, refl, ap, sym, subst, ◌∙◌, arith}
 use Rattle.std.specs.Prelude.{slice_get}
-use Rattle.std.proofs.lemmas.Bool.{cases_eq}
-use Rattle.std.proofs.lemmas.List.{length-append}
 use Rattle.uc_tree.specs.Resolve.{Scope}
-use Rattle.uc_code.specs.declared.rows.Instruction.{Instruction}
 use Rattle.uc_code.specs.declared.rows.HandlerRow.{HandlerRow}
 use Rattle.uc_code.specs.declared.rows.Mark.{Mark}
-use Rattle.uc_code.specs.declared.rows.Mark.TheVariants as mark
-use Rattle.uc_code.specs.declared.rows.Opening.TheVariants as opening
 use Rattle.uc_code.specs.Drafts.{Draft}
-use Rattle.uc_code.specs.Laid.{Laid, guards, handlers, laid_in, routine_in}
-use Rattle.uc_code.specs.Open.{closed, closed_by, entry_in, guard_in, made, opened, row_in}
-use Rattle.uc_code.specs.Puts.{Puts}
+use Rattle.uc_code.specs.Laid.{Laid, guards, laid_in, routine_in}
 use Rattle.uc_code.specs.Ranges.{Both, IsBare, Kept, KeptBut, Same, Stable}
-use Rattle.uc_code.proofs.Stable.{kept_refl, kept_then}
-use Rattle.uc_code.proofs.Sweeping.{closed_marks, closed_ops, like_closed}
-use Rattle.uc_lower_stmt.specs.Guarding.{ClosesGuards, KeptUnder, LowersFrom, OpensGuards}
+use Rattle.uc_lower_stmt.specs.Guarding.{KeptUnder, LowersFrom}
 use Rattle.uc_lower_stmt.specs.Marked.{objects_in}
-use Rattle.uc_lower_stmt.specs.Scoped.{Lowers, scope_of}
+use Rattle.uc_lower_stmt.specs.Scoped.{Lowers}
 
 -- marks of handlers are those of no object, and lie in the routine in which they are opened
 
@@ -29,65 +20,6 @@ guards_objects first (suc n) ms = guards_objects first n ms
 pub guards_routine : (first n : ℕ) (ms : List Mark) → routine_in (guards first n ms) ≡ routine_in ms
 guards_routine first zero ms = refl
 guards_routine first (suc n) ms = guards_routine first n ms
-
--- rows are opened, one after another
-
-pub opens_none : (old : Draft) → OpensGuards 0 old old
-opens_none old = record { rest = refl; more = omega arith; kept = kept_refl (laid_in old) }
-
-pub opens_more : (n : ℕ) (old mid new : Draft) → OpensGuards n old mid → new ≡ opened opening.Handler mid → Kept (laid_in mid) (laid_in new) → OpensGuards (suc n) old new
-opens_more n old mid new h e k =
-    let more : length mid.rows ≡ length old.rows + n = h.more in
-    let marks : mark.Guard (length mid.rows) ∷ mid.marks ≡ guards (length old.rows) (suc n) old.marks =
-    ap (λ (row : ℕ). mark.Guard row ∷ mid.marks) more ∙ ap (λ (ms : List Mark). mark.Guard (length old.rows + n) ∷ ms) (ap (λ (d : Draft). d.marks) h.rest) in
-    let like : new ≡ record mid { rows = new.rows; settled = new.settled; marks = mark.Guard (length mid.rows) ∷ mid.marks } =
-    subst (λ (d : Draft). d ≡ record mid { rows = d.rows; settled = d.settled; marks = mark.Guard (length mid.rows) ∷ mid.marks }) (sym e) refl in
-    let grown : length (mid.rows ++ made opening.Handler (length mid.ops) mid.marks ∷ []) ≡ length mid.rows + 1 = length-append mid.rows (made opening.Handler (length mid.ops) mid.marks ∷ []) in
-    let rows : length new.rows ≡ length (mid.rows ++ made opening.Handler (length mid.ops) mid.marks ∷ []) = ap (λ (d : Draft). length d.rows) e in
-    record {
-      rest = like ∙ ap (λ (ms : List Mark). let d : Draft = record mid { rows = new.rows; settled = new.settled; marks = ms } in d) marks
-          ∙ ap (λ (x : Draft). let d : Draft = record x { rows = new.rows; settled = new.settled; marks = guards (length old.rows) (suc n) old.marks } in d) h.rest;
-      more = omega (arith, more, grown, rows);
-      kept = kept_then (laid_in old) (laid_in mid) (laid_in new) h.kept k;
-    }
-
--- they are closed, the newest one first: those that are left have the marks
-
-pub record Closing (first count left : ℕ) (ms : List Mark) (old now : Draft) : Type 0 where
-  pub rest : now ≡ record old { rows = now.rows; settled = now.settled; marks = guards first left ms }
-  pub kept : Kept (laid_in old) (laid_in now)
-  pub bare : (k : ℕ) → left ≤ k → k < count → IsBare (laid_in now) (first + k)
-
-pub closing_all : (first count : ℕ) (ms : List Mark) (old : Draft) → old.marks ≡ guards first count ms → Closing first count count ms old old
-closing_all first count ms old e = record {
-  rest = ap (λ (l : List Mark). let d : Draft = record old { marks = l } in d) e;
-  kept = kept_refl (laid_in old);
-  bare = λ k l m. absurd (omega arith);
-}
-
-pub closing_next : (first count left : ℕ) (ms : List Mark) (old mid new : Draft) → Closing first count (suc left) ms old mid → new ≡ closed 0 mid → Kept (laid_in mid) (laid_in new)
-    → ((row : ℕ) → guard_in mid.marks ≡ Some row → IsBare (laid_in new) row) → Closing first count left ms old new
-closing_next first count left ms old mid new h e k b =
-    let marks : mid.marks ≡ mark.Guard (first + left) ∷ guards first left ms = ap (λ (d : Draft). d.marks) h.rest in
-    let behind : new.marks ≡ guards first left ms = closed_marks 0 (first + left) mid new e (ap row_in marks) ∙ ap (λ (l : List Mark). drop 1 l) marks in
-    let like : new ≡ record mid { ops = new.ops; rows = new.rows; settled = new.settled; marks = new.marks } = like_closed 0 mid mid new refl e in
-    let ops : new.ops ≡ mid.ops = closed_ops 0 mid new e in
-    record {
-      rest = like ∙ ap (λ (l : List Mark). let d : Draft = record mid { ops = new.ops; rows = new.rows; settled = new.settled; marks = l } in d) behind
-          ∙ ap (λ (o : List Instruction). let d : Draft = record mid { ops = o; rows = new.rows; settled = new.settled; marks = guards first left ms } in d) ops
-          ∙ ap (λ (x : Draft). let d : Draft = record x { rows = new.rows; settled = new.settled; marks = guards first left ms } in d) h.rest;
-      kept = kept_then (laid_in old) (laid_in mid) (laid_in new) h.kept k;
-      bare = λ j l m. at_or_behind j l m (ne_or j);
-    }
-  where
-    ne_or : (j : ℕ) → (j ≡ left) ⊎ (j ≢ left)
-    ne_or j = cases_eq j left
-    at_or_behind : (j : ℕ) → left ≤ j → j < count → (j ≡ left) ⊎ (j ≢ left) → IsBare (laid_in new) (first + j)
-    at_or_behind j l m (inl is) = subst (λ (x : ℕ). IsBare (laid_in new) (first + x)) (sym is) (b (first + left) (ap guard_in (ap (λ (d : Draft). d.marks) h.rest)))
-    at_or_behind j l m (inr n) = k.bare (first + j) (h.bare j (omega (arith, n)) m)
-
-pub closing_done : (first count : ℕ) (ms : List Mark) (old new : Draft) → Closing first count 0 ms old new → ClosesGuards first count ms old new
-closing_done first count ms old new h = record { rest = h.rest; kept = h.kept; bare = λ k l. h.bare k (omega arith) l }
 
 -- rows get their handlers
 

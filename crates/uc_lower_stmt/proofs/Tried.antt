@@ -14,7 +14,8 @@ use Rattle.uc_code.specs.Ranges.{Guarded, Kept, OpAt, Same}
 use Rattle.uc_code.proofs.Patches.{bare_stays, handler_stays, length-patched, patched_at, same_after, same_before}
 use Rattle.uc_code.proofs.Stable.{kept_piece, kept_then, part}
 use Rattle.uc_lower_expr.specs.Added.{Adds, OpCode}
-use Rattle.uc_lower_stmt.specs.Guarding.{ClosesGuards, LowersFrom, OpensGuards}
+use Rattle.uc_code.specs.Guarding.{ClosesGuards, OpensGuards}
+use Rattle.uc_lower_stmt.specs.Guarding.{LowersFrom}
 use Rattle.uc_lower_stmt.specs.Scoped.{Lowers, scope_of}
 use Rattle.uc_lower_stmt.proofs.Guarding.{kept_under, under_same}
 use Rattle.uc_lower_stmt.proofs.Kept.{handlers_stable, stmts_stable}

@@ -1,25 +1,12 @@
--- What guarded blocks do to a draft: they open a row for each handler, close them, and lay the handlers out.
-use Rattle.std.specs.Prelude.{◌≡◌, ℕ, ◌+◌, ◌≤◌, ◌<◌, List, length}
+-- What handlers of guarded blocks do to a draft: rows that are there get handlers.
+use Rattle.std.specs.Prelude.{◌≡◌, ℕ, ◌+◌, ◌≤◌, ◌<◌, length}
 use Rattle.uc_tree.specs.Resolve.{Scope}
 use Rattle.uc_code.specs.declared.rows.Handler.{Handler}
 use Rattle.uc_code.specs.declared.op.Op.{Op}
-use Rattle.uc_code.specs.declared.rows.Mark.{Mark}
 use Rattle.uc_code.specs.Drafts.{Draft}
-use Rattle.uc_code.specs.Laid.{Laid, chain, guards, laid_in}
-use Rattle.uc_code.specs.Ranges.{HandlerAt, IsBare, Kept, OpAt}
+use Rattle.uc_code.specs.Laid.{Laid, chain, laid_in}
+use Rattle.uc_code.specs.Ranges.{HandlerAt, IsBare, OpAt}
 use Rattle.uc_lower_stmt.specs.Scoped.{scope_of}
-
--- a draft with rows for so many handlers, which guard what comes
-pub record OpensGuards (count : ℕ) (old new : Draft) : Type 0 where
-  pub rest : new ≡ record old { rows = new.rows; settled = new.settled; marks = guards (length old.rows) count old.marks }
-  pub more : length new.rows ≡ length old.rows + count
-  pub kept : Kept (laid_in old) (laid_in new)
-
--- a draft in which these rows have ended, and no handler is laid out yet
-pub record ClosesGuards (first count : ℕ) (ms : List Mark) (old new : Draft) : Type 0 where
-  pub rest : new ≡ record old { rows = new.rows; settled = new.settled; marks = ms }
-  pub kept : Kept (laid_in old) (laid_in new)
-  pub bare : (k : ℕ) → k < count → IsBare (laid_in new) (first + k)
 
 -- what is laid out stays, and so do the rows below this number that have no handler yet
 pub record KeptUnder (first : ℕ) (old new : Laid) : Type 0 where

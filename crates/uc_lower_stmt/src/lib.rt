@@ -3,7 +3,6 @@
 
 pub mod block;
 pub mod declare;
-pub mod guard;
 pub mod objects;
 pub mod print;
 pub mod raise;
