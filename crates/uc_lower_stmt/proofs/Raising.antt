@@ -96,11 +96,11 @@ module _ (p : Program) (line event cell : ℕ) (r : Raised) (d0 d1 d2 : Draft) (
       lowers_as (raised_puts EVENT_FIELDS e (means n (Some routine) is there)) refl (λ code a z x. x) (omega arith) (omega arith) (omega arith) refl
 
 -- again the event that is handled
-pub arm_again : (p : Program) (line cell : ℕ) (d0 d1 : Draft) → cell ≡ d0.handled → Puts 3 (λ code. RaisedAt code line d0.marks (AgainFrom cell)) d0 d1 → LowersRaised p line None d0 d1
-arm_again p line cell d0 d1 e w =
+pub arm_again : (p : Program) (line : ℕ) (r : Option Raised) (cell : ℕ) (d0 d1 : Draft) → r ≡ None → cell ≡ d0.handled → Puts 3 (λ code. RaisedAt code line d0.marks (AgainFrom cell)) d0 d1 → LowersRaised p line r d0 d1
+arm_again p line r cell d0 d1 is e w =
     let here : Puts 3 (λ code. RaisedAt code line d0.marks (AgainFrom d0.handled)) d0 d1 = subst (λ (c : ℕ). Puts 3 (λ code. RaisedAt code line d0.marks (AgainFrom c)) d0 d1) e w in
     let none : d0.hidden ≡ d0.hidden + 0 = omega arith in
-    lowers_as (lowers_puts 0 0 here) (ap (λ (n : ℕ). let t : Scope = record (scope_of d0) { hidden = n } in t) none) (λ code a z x. x) (omega arith) (omega arith) (omega arith) refl
+    subst (λ (o : Option Raised). LowersRaised p line o d0 d1) (sym is) (lowers_as (lowers_puts 0 0 here) (ap (λ (n : ℕ). let t : Scope = record (scope_of d0) { hidden = n } in t) none) (λ code a z x. x) (omega arith) (omega arith) (omega arith) refl)
 
 -- the statements
 
