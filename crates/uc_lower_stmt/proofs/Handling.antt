@@ -51,7 +51,7 @@ pub arm_catches : (p : Program) (pad : ℕ) (h : tree.Handler) (d0 d1 d2 : Draft
 arm_catches p pad h d0 d1 d2 r w a =
     let ss = stmts_meant p (body_of h) (scope_of d0) in
     lowers_as (lowers_put (stmts_stable d0.marks (line_of h) ss) w a) refl
-        (λ code x z y. subst (λ (b : Bool). HandlerBy code b d0.marks pad (line_of h) (λ ns. StmtsAt code ns (line_of h) ss) x z) (sym r) y) (omega arith) (omega arith) (omega arith) refl
+    (λ code x z y. subst (λ (b : Bool). HandlerBy code b d0.marks pad (line_of h) (λ ns. StmtsAt code ns (line_of h) ss) x z) (sym r) y) (omega arith) (omega arith) (omega arith) refl
 
 -- one of resumptions stands apart, and ends with its activation
 
@@ -245,8 +245,8 @@ handler_code_stable p row pad ms (tree.Handles pos kind event param brace body) 
     let ss = stmts_meant p body (in_handler p (tree.Handles pos kind event param brace body) s) in
     let B : Laid → List Mark → ℕ → ℕ → Type 0 = λ code ns. StmtsAt code ns brace.line ss in
     named_stable (event_of_handler p event) (λ code. HandledAt code row (handler_of (takes_resumptions kind) (event_of_handler p event) (length (handlers ms))) (Both (KeepsAt code brace.line s.hidden) (HandlerBy code (takes_resumptions kind) ms pad brace.line (B code))))
-        (handled_stable row (handler_of (takes_resumptions kind) (event_of_handler p event) (length (handlers ms))) (λ code. Both (KeepsAt code brace.line s.hidden) (HandlerBy code (takes_resumptions kind) ms pad brace.line (B code)))
-        (both (keeps_stable brace.line s.hidden) (handler_stable (takes_resumptions kind) ms pad brace.line B (λ ns. stmts_stable ns brace.line ss))))
+    (handled_stable row (handler_of (takes_resumptions kind) (event_of_handler p event) (length (handlers ms))) (λ code. Both (KeepsAt code brace.line s.hidden) (HandlerBy code (takes_resumptions kind) ms pad brace.line (B code)))
+    (both (keeps_stable brace.line s.hidden) (handler_stable (takes_resumptions kind) ms pad brace.line B (λ ns. stmts_stable ns brace.line ss))))
 
 -- all handlers of a block
 
@@ -278,12 +278,12 @@ handlers_more p first pad (tree.Handles pos kind event param brace body) hs d0 d
     let exits1 = ap (exits_handlers hs) objects1 in
     let last : past_handlers p hs (scope_of d1) ≡ past_handlers p hs more = ap (past_handlers p hs) w.scope in
     from_as (from_join (omega arith) (handler_code_stable p row pad ms h s) w v) last
-        (λ code a z x. record {
-          middle = x.middle;
-          first = subst (λ (n : ℕ). HandlerCode p (first + n) pad ms h s code a x.middle) rows x.first;
-          second = subst (λ (t : Scope). HandlersAt code ms first pad (handlers_meant p hs t) x.middle z) w.scope (subst (λ (ns : List Mark). HandlersAt code ns first pad (handlers_meant p hs (scope_of d1)) x.middle z) marks1 x.second);
-        })
-        (omega (arith, exits1)) (omega arith) (omega arith) refl
+    (λ code a z x. record {
+      middle = x.middle;
+      first = subst (λ (n : ℕ). HandlerCode p (first + n) pad ms h s code a x.middle) rows x.first;
+      second = subst (λ (t : Scope). HandlersAt code ms first pad (handlers_meant p hs t) x.middle z) w.scope (subst (λ (ns : List Mark). HandlersAt code ns first pad (handlers_meant p hs (scope_of d1)) x.middle z) marks1 x.second);
+    })
+    (omega (arith, exits1)) (omega arith) (omega arith) refl
 
 -- where a handler begins
 

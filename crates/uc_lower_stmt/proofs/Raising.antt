@@ -51,7 +51,7 @@ built_raised p line event r cell n ps es d0 d1 d2 d3 d4 d5 d6 pe a1 a2 a3 a4 a5 
     let c5 : Adds 1 (RiskCode line d0.marks (op.CallOn r)) d4 d5 = subst (λ (ms : List Mark). Adds 1 (RiskCode line ms (op.CallOn r)) d4 d5) m4 a5 in
     let call = adds_both (one_stable (op.Local cell) line) a2 (adds_both (args_stable line d0.marks args) c3 (adds_both (one_stable op.Tick line) a4 c5)) in
     subst (λ (xs : List Param). Puts (n + 8) (λ code. RaisedAt code line d0.marks (built_at p xs es event r cell d0)) d0 d6) pe
-        (puts_more (omega arith) (puts_both (one_stable (op.Clear cell EVENT_FIELDS) line) (puts_adds a1) (puts_both (expr_stable line d0.marks (OfObject (CallOn r (Variable cell) args))) (puts_adds call) b)))
+    (puts_more (omega arith) (puts_both (one_stable (op.Clear cell EVENT_FIELDS) line) (puts_adds a1) (puts_both (expr_stable line d0.marks (OfObject (CallOn r (Variable cell) args))) (puts_adds call) b)))
 
 -- behind so many hidden cells more
 raised_puts : {n : ℕ} {S : Laid → ℕ → ℕ → Type 0} {d0 d1 d2 : Draft} → (h : ℕ) → d1 ≡ record d0 { hidden = d0.hidden + h } → Puts n S d1 d2 → Lowers n 0 0 0 S (hidden_past (scope_of d0) h) d0 d2

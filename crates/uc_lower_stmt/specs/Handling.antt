@@ -23,7 +23,7 @@ use Rattle.uc_lower_stmt.specs.Scoped.{Lowers, scope_of, sizes_at}
 abbrev pub HandlerCode : Program → ℕ → ℕ → List Mark → tree.Handler → Scope → Laid → ℕ → ℕ → Type 0
 HandlerCode p row pad ms (tree.Handles pos kind event param brace body) s code =
     NamedAt (event_of_handler p event) (HandledAt code row (handler_of (takes_resumptions kind) (event_of_handler p event) (length (handlers ms))) (Both (KeepsAt code brace.line s.hidden)
-        (HandlerBy code (takes_resumptions kind) ms pad brace.line (λ ns. StmtsAt code ns brace.line (stmts_meant p body (in_handler p (tree.Handles pos kind event param brace body) s))))))
+    (HandlerBy code (takes_resumptions kind) ms pad brace.line (λ ns. StmtsAt code ns brace.line (stmts_meant p body (in_handler p (tree.Handles pos kind event param brace body) s))))))
 
 abbrev pub line_of : tree.Handler → ℕ
 line_of (tree.Handles pos kind event param brace body) = brace.line
@@ -53,7 +53,7 @@ pub record EntersHandler (p : Program) (row : ℕ) (h : tree.Handler) (old new :
 abbrev pub LowersBody : Program → ℕ → tree.Handler → Draft → Draft → Type 0
 LowersBody p pad h old new =
     Lowers (2 + OPS_FOR_SIZE * sizes_at (body_of h) (objects_in old.marks)) (stmts_size (body_of h)) (stmts_cells (body_of h) (declared_cells p)) (stmts_scopes (body_of h))
-        (λ code. HandlerBy code (resumes h) old.marks pad (line_of h) (λ ns. StmtsAt code ns (line_of h) (stmts_meant p (body_of h) (scope_of old)))) (scope_behind p (body_of h) (scope_of old)) old new
+    (λ code. HandlerBy code (resumes h) old.marks pad (line_of h) (λ ns. StmtsAt code ns (line_of h) (stmts_meant p (body_of h) (scope_of old)))) (scope_behind p (body_of h) (scope_of old)) old new
 
 abbrev pub LowersHandler : Program → ℕ → ℕ → tree.Handler → Draft → Draft → Type 0
 LowersHandler p row pad h old new =
@@ -68,4 +68,4 @@ past_handlers p (tree.MoreHandlers h hs) s = past_handlers p hs (scope_past_hand
 abbrev pub LowersHandlers : Program → ℕ → ℕ → tree.Handlers → Draft → Draft → Type 0
 LowersHandlers p first pad hs old new =
     LowersFrom first (OPS_FOR_SIZE * (handlers_size hs + exits_handlers hs (objects_in old.marks))) (handlers_size hs) (handlers_cells hs (declared_cells p)) (handlers_scopes hs)
-        (λ code. HandlersAt code old.marks first pad (handlers_meant p hs (scope_of old))) (past_handlers p hs (scope_of old)) old new
+    (λ code. HandlersAt code old.marks first pad (handlers_meant p hs (scope_of old))) (past_handlers p hs (scope_of old)) old new
