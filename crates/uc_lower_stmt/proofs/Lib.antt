@@ -7,7 +7,6 @@ pub mod Ending
 pub mod Filling
 pub mod Fors
 pub mod Growth
-pub mod Guarding
 pub mod Joined
 pub mod Kept
 pub mod Laying

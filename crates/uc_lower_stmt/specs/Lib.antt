@@ -1,6 +1,5 @@
 pub mod Blocks
 pub mod Control
-pub mod Guarding
 pub mod Listed
 pub mod Marked
 pub mod Objects
