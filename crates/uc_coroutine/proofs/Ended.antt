@@ -1,23 +1,23 @@
 -- The ends of blocks and mains that are unwound are those of the source.
-use Rattle.std.proofs.Common.{◌≡◌, ℕ, ◌+◌, suc, List, [], ◌∷◌, length, Bool, true, false, Option, Some, None, refl, sym, ap, subst, ◌∙◌}
+use Rattle.std.proofs.Common.{◌≡◌, ℕ, ◌+◌, List, [], ◌∷◌, length, Bool, true, false, Option, Some, None, refl, sym, ap, subst, ◌∙◌}
 use Rattle.uc_tree.specs.Source.{Source}
 use Rattle.uc_meaning.specs.declared.exec.Reason.{Reason}
 use Rattle.uc_meaning.specs.declared.exec.Reason.TheVariants as reason
 use Rattle.uc_meaning.specs.Executions.{calmed, returned}
 use Rattle.uc_meaning.specs.Quiet as quiet
-use Rattle.uc_meaning.specs.Quiet.{Todo, Finish, State, Goes, IsWhole, IsFinish, sort, stay, more, nought, quiet as step}
+use Rattle.uc_meaning.specs.Quiet.{Finish, State, Goes, stay, more, nought, quiet as step}
 use Rattle.uc_meaning.specs.Pieces.{Unwind}
 use Rattle.uc_meaning.specs.Raising.{arrives, whole_left, main_left, unwind_past}
 use Rattle.uc_code.specs.Laid.{Laid}
-use Rattle.uc_frames.specs.Machine.{Active, Machine, cell_of}
+use Rattle.uc_frames.specs.Machine.{Active, Machine}
 use Rattle.uc_frames.specs.Machine as machine
 use Rattle.uc_frames.specs.Parts.{Lined}
-use Rattle.uc_frames.specs.Stands.{image, CallerStands, Stands}
+use Rattle.uc_frames.specs.Stands.{CallerStands, Stands}
 use Rattle.uc_frames.specs.Left.{left}
+use Rattle.uc_frames.proofs.Finishes.{main_line}
 use Rattle.uc_frames.specs.Unwound.{TestsBlock, EndsMain, Unwinds}
 use Rattle.uc_coroutine.specs.declared.testing.MainEnd.{MainEnd}
-use Rattle.uc_coroutine.specs.declared.testing.MainEnd.TheVariants.{Ended, Returned, Unhandled}
-use Rattle.uc_coroutine.specs.Ends.{block_over, ended_by, main_by, main_over, BlockLeft, AsksEnd, AsksUnhandled, MainLeft}
+use Rattle.uc_coroutine.specs.Ends.{block_over, ended_by, main_by, main_over, BlockLeft, MainLeft}
 use Rattle.uc_coroutine.proofs.Lefts.{same_count, handed_on, env_left}
 
 module _ (source : Source) (code : Laid) (old new : Machine) (s : State) where
@@ -62,7 +62,7 @@ module _ (source : Source) (code : Laid) (old new : Machine) (s : State) where
     calm = record s { run = calmed (Finish ∷ h.run.rest) s.run }
 
     ended : (ms : List Active) (cs : List quiet.Active) → old.callers ≡ ms → s.callers ≡ cs → Lined (CallerStands code) ms cs → step source s ≡ Goes calm → new ≡ main_over (ended_by ms) old → MainLeft source code (ended_by ms) new s
-    ended [] [] i j l w q = record { before = calm; after = calm; by = more w stay; asks = ap (λ cs. quiet.return_step nought cs calm) j }
+    ended [] [] i j l w q = record { before = calm; after = calm; by = more w stay; line = sym (main_line code old s h); asks = ap (λ cs. quiet.return_step nought cs calm) j }
     ended [] (c ∷ cs) i j l w q = absurd l
     ended (m ∷ ms) [] i j l w q = absurd l
     ended (m ∷ ms) (c ∷ cs) i j l w q =

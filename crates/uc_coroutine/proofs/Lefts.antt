@@ -1,27 +1,27 @@
 -- The end of an activation that is unwound is what the source says.
-use Rattle.std.proofs.Common.{◌≡◌, ℕ, suc, List, [], ◌∷◌, length, map, Bool, true, false, Option, Some, None, refl, sym, ap, subst, ◌∙◌}
+use Rattle.std.proofs.Common.{◌≡◌, suc, List, [], ◌∷◌, length, map, Bool, true, false, Option, Some, None, refl, sym, ap, subst, ◌∙◌}
 use Rattle.std.specs.Prelude.{if◌then◌else◌}
 use Rattle.uc_tree.specs.Source.{Source}
 use Rattle.uc_meaning.specs.declared.exec.Reason.{Reason}
 use Rattle.uc_meaning.specs.declared.exec.Reason.TheVariants as reason
 use Rattle.uc_meaning.specs.declared.exec.Visited.{Visited}
-use Rattle.uc_meaning.specs.Executions.{Links, one_call_less, others, left_for, returned, unwound}
+use Rattle.uc_meaning.specs.Executions.{one_call_less, others, left_for, returned, unwound}
 use Rattle.uc_meaning.specs.Quiet as quiet
-use Rattle.uc_meaning.specs.Quiet.{Todo, Value, State, Step, Goes, quiet as step}
+use Rattle.uc_meaning.specs.Quiet.{Value, State, Step, Goes, quiet as step}
 use Rattle.uc_meaning.specs.Pieces.{Unwind}
 use Rattle.uc_meaning.specs.Raising.{arrives, escapes, pass_on, leave_for, leave_step, return_past, end_by}
 use Rattle.uc_code.specs.Laid.{Laid}
 use Rattle.uc_frames.specs.declared.cell.Cell.{Cell}
 use Rattle.uc_frames.specs.Machine.{Active, Machine, Cells, cell_of}
-use Rattle.uc_frames.specs.Parts.{Lined, StateStands}
+use Rattle.uc_frames.specs.Parts.{Lined}
 use Rattle.uc_frames.specs.Stands.{image, RunStands, CallerStands, EnvironmentStands, Stands}
 use Rattle.uc_frames.specs.Left.{left}
 use Rattle.uc_frames.specs.Unwinding.{passed, unwound_by}
-use Rattle.uc_frames.specs.Unwound.{UnwindStands, Unwinds, LeavesNow}
+use Rattle.uc_frames.specs.Unwound.{UnwindStands, Unwinds, LeavesNow, Returns}
 use Rattle.uc_coroutine.specs.declared.leaving.Left.{Left}
-use Rattle.uc_coroutine.specs.declared.leaving.Left.TheVariants.{Ended, Returned, Escaped, PassedOn}
+use Rattle.uc_coroutine.specs.declared.leaving.Left.TheVariants.{Returned, Escaped}
 use Rattle.uc_coroutine.specs.Unwinding.{goes_by, ending_by, passed_as, left_as, past_of, Made}
-use Rattle.uc_coroutine.specs.Outcomes.{GoesTo, LeftAs, Returns, ReturnsPast}
+use Rattle.uc_coroutine.specs.Outcomes.{GoesTo, LeftAs, ReturnsPast}
 
 frames_others : (fs : List (List Value)) → others (map (map cell_of) fs) ≡ map (map cell_of) (others fs)
 frames_others [] = refl
@@ -138,7 +138,7 @@ module _ (source : Source) (code : Laid) where
     pub leaves_as : (o : Left) → o ≡ ending_by old.run.raised old.callers → new ≡ left_as o old → LeftAs source code o new s
     leaves_as o e q = by_callers old.callers s.callers o refl step_is h.callers e q
 
-end_at : Option Visited → Value → List quiet.Active → State → Step
+abbrev end_at : Option Visited → Value → List quiet.Active → State → Step
 end_at None given cs s = quiet.return_step given cs s
 end_at (Some v) given cs s = return_past v given cs s
 

@@ -208,13 +208,13 @@ module _ (code : Laid) where
       ns = chain code.rows old.run.control
 
       level_is : nat_eq (length old.callers) frame ≡ true
-      level_is = eq-eqb (length old.callers) frame (sym own.frame)
+      level_is = eq-eqb (length old.callers) frame (sym own.here)
 
       point_is : point_in frame row (length old.callers) ≡ row
       point_is = ap (λ c. if c then row else None) level_is
 
       row_is : row ≡ catcher_in (event_by r) code.rows ns
-      row_is = own.row ∙ ap (λ o. catcher_in (event_by o) code.rows ns) raised_is
+      row_is = own.catches ∙ ap (λ o. catcher_in (event_by o) code.rows ns) raised_is
 
       stop_is : first_in (sought.Stop row) code.rows ns ≡ first_stop (event_by r) code.rows ns
       stop_is = same_stop code.rows (event_by r) ns row row_is

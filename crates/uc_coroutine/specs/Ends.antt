@@ -1,5 +1,5 @@
 -- The ends of blocks that are left as a whole, and of mains, where they are unwound.
-use Rattle.std.specs.Prelude.{◌≡◌, ℕ, List, [], ◌∷◌, Option, Some, None, Bool, true, false}
+use Rattle.std.specs.Prelude.{◌≡◌, ℕ, List, [], ◌∷◌, Option, Some, Bool, true, false}
 use Rattle.uc_tree.specs.Source.{Source}
 use Rattle.uc_meaning.specs.declared.exec.Reason.{Reason}
 use Rattle.uc_meaning.specs.declared.exec.Reason.TheVariants as reason
@@ -7,7 +7,7 @@ use Rattle.uc_meaning.specs.declared.fault.RunFault.TheVariants as fault
 use Rattle.uc_meaning.specs.Faults.{fault_number}
 use Rattle.uc_meaning.specs.declared.request.Request.TheVariants as ask
 use Rattle.uc_meaning.specs.Executions.{calmed}
-use Rattle.uc_meaning.specs.Quiet.{State, Asks, quiet, Quietly}
+use Rattle.uc_meaning.specs.Quiet.{State, Asks, quiet, Quietly, line_of}
 use Rattle.uc_code.specs.Laid.{Laid}
 use Rattle.uc_frames.specs.Machine.{Active, Machine, nought}
 use Rattle.uc_frames.specs.Left.{left}
@@ -44,11 +44,12 @@ module _ (source : Source) (code : Laid) where
   BlockLeft true m s = GoesTo source code (Stands code) m s
   BlockLeft false m s = GoesTo source code (Unwinds code) m s
 
-  -- it asks this, behind some quiet steps
+  -- it asks this, behind some quiet steps, in the same line
   pub record AsksEnd (s : State) : Type 0 where
     pub before : State
     pub after : State
     pub by : Quietly source s before
+    pub line : line_of before ≡ line_of s
     pub asks : quiet source before ≡ Asks ask.End after
 
   pub record AsksUnhandled (s : State) : Type 0 where

@@ -9,8 +9,7 @@ use Rattle.uc_meaning.specs.Raising.{end_by}
 use Rattle.uc_code.specs.Laid.{Laid, chain}
 use Rattle.uc_frames.specs.Machine.{Machine}
 use Rattle.uc_frames.specs.Searches.{catcher_in}
-use Rattle.uc_frames.specs.Parts.{Lined}
-use Rattle.uc_frames.specs.Stands.{CallerStands, EnvironmentStands, Stands}
+use Rattle.uc_frames.specs.Stands.{Stands}
 use Rattle.uc_frames.specs.Unwound.{Unwinds, TestsBlock, EndsMain, LeavesNow}
 use Rattle.uc_frames.specs.Comes.{event_by, Catches}
 use Rattle.uc_coroutine.specs.declared.leaving.Left.{Left}
@@ -18,15 +17,8 @@ use Rattle.uc_coroutine.specs.declared.leaving.Left.TheVariants.{Ended, Returned
 
 -- the running activation is that to which it is unwound, and the row the one that catches its event there, if one does
 pub record IsOwn (code : Laid) (frame : ℕ) (row : Option ℕ) (m : Machine) : Type 0 where
-  pub frame : frame ≡ length m.callers
-  pub row : row ≡ catcher_in (event_by m.run.raised) code.rows (chain code.rows m.run.control)
-
--- the running activation is one and the same, but for what is to do in it, and the others wait
-pub record Returns (code : Laid) (m : Machine) (s : State) : Type 0 where
-  pub handles : m.run.handles ≡ s.run.handles
-  pub counts : m.run.counts ≡ s.run.counts
-  pub callers : Lined (CallerStands code) m.callers s.callers
-  pub env : EnvironmentStands code m.env s.env
+  pub here : frame ≡ length m.callers
+  pub catches : row ≡ catcher_in (event_by m.run.raised) code.rows (chain code.rows m.run.control)
 
 -- the end of a handler by a return, which hands this over
 pub record ReturnsPast (code : Laid) (given : Value) (m : Machine) (s : State) : Type 0 where

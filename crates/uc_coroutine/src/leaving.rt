@@ -5,9 +5,9 @@ ghost use Rattle.uc_meaning.specs.Raising.{arrives as arrives_by, escapes as esc
 ghost use Rattle.uc_tree.specs.Source.{Source};
 ghost use Rattle.uc_meaning.specs.Quiet.{State, Value};
 ghost use Rattle.uc_code.specs.Laid.{Laid};
-ghost use Rattle.uc_frames.specs.Unwound.{LeavesNow};
+ghost use Rattle.uc_frames.specs.Unwound.{LeavesNow, Returns};
 ghost use Rattle.uc_frames.specs.Machine.{cell_of};
-ghost use Rattle.uc_coroutine.specs.Outcomes.{LeftAs, Returns, ReturnsPast};
+ghost use Rattle.uc_coroutine.specs.Outcomes.{LeftAs, ReturnsPast};
 ghost use Rattle.uc_coroutine.specs.Unwinding.{ending_by, goes_by, left_as, past_of, Made};
 ghost use Rattle.uc_coroutine.specs.declared.leaving.Left.TheVariants as left;
 

@@ -1,4 +1,3 @@
 pub mod Finding
 pub mod Handling
-pub mod Keeping
 pub mod Meeting

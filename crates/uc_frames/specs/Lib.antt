@@ -1,4 +1,5 @@
 pub mod Comes
+pub mod Keeping
 pub mod Left
 pub mod Machine
 pub mod Numbered

@@ -1,14 +1,20 @@
 -- When a machine that searches a handler or unwinds stands for a state of the source.
 use Rattle.std.specs.Prelude.{◌≡◌, ℕ, ◌+◌, List, [], ◌∷◌}
+use Rattle.uc_meaning.specs.Raising as raising
 use Rattle.uc_meaning.specs.Quiet as quiet
 use Rattle.uc_meaning.specs.Quiet.{Todo, DropNow, RaiseNow, ThrowNow, Unwind, IsWhole, IsFinish, sort, State, below, own_line}
 use Rattle.uc_code.specs.declared.rows.Mark.{Mark}
 use Rattle.uc_code.specs.declared.op.Op.TheVariants as op
 use Rattle.uc_code.specs.Laid.{Laid, handlers, chain}
 use Rattle.uc_code.specs.Ranges.{OpAt, Risk}
+use Rattle.uc_frames.specs.declared.event.Event.{Event}
 use Rattle.uc_frames.specs.Machine.{Active, Machine, cell_of}
 use Rattle.uc_frames.specs.Parts.{Lined}
 use Rattle.uc_frames.specs.Stands.{image, FollowsAt, CallerStands, EnvironmentStands}
+
+-- an event as the source has it
+abbrev pub raised_as : Event → raising.Event
+raised_as e = record { number = e.number; x = e.x; y = e.y }
 
 module _ (code : Laid) where
   -- the rows before this op are those of what stands round this
@@ -89,5 +95,12 @@ module _ (code : Laid) where
     pub todo : s.run.control ≡ ThrowNow ∷ rest
     pub rows : RowsStand rest m.run.control
     pub is : m.run ≡ image m.run.control (record s.run { operands = below (below (below s.run.operands)) })
+    pub callers : Lined (CallerStands code) m.callers s.callers
+    pub env : EnvironmentStands code m.env s.env
+
+  -- the running activation is one and the same, but for what is to do in it, and the others wait
+  pub record Returns (m : Machine) (s : State) : Type 0 where
+    pub handles : m.run.handles ≡ s.run.handles
+    pub counts : m.run.counts ≡ s.run.counts
     pub callers : Lined (CallerStands code) m.callers s.callers
     pub env : EnvironmentStands code m.env s.env

@@ -12,12 +12,13 @@ use std::io;
 use uc_code::rows::RoutineCode;
 use uc_frames::call::Call;
 use uc_frames::cell::{Cell, further_on, number_in};
+use uc_frames::event::Handling;
 use uc_frames::members::Members;
 use uc_frames::pieces::print_request;
 use uc_frames::stack::Stack;
 use uc_frames::task::Task;
 use uc_frames::work::{Hand, Work};
-use uc_meaning::exec::{Exec, Home, Owner};
+use uc_meaning::exec::{Exec, Home, Owner, Reason, Visited};
 use uc_meaning::request::{Piece, Request};
 use uc_tree::limits::CALLS;
 
@@ -329,6 +330,48 @@ fn one_frame(alloc: Global) -> Result<String, AllocError> {
     line(alloc, "one frame", cells.as_slice())
 }
 
+/// An event is popped, its handler begins with it, and an unwinding comes to another one that catches it.
+fn events(alloc: Global) -> Result<String, AllocError> {
+    let mut work = Work::first(alloc, MAIN, 4)?;
+    work.push(Cell::Number(5))?;
+    work.push(Cell::Number(6))?;
+    work.push(Cell::Number(7))?;
+    let event = work.pop_event();
+    work.enter_handler(Handling {
+        entry: 30,
+        this: Cell::Object(8),
+        frame: 0,
+        visited: Visited {
+            level: 0,
+            rest: 0,
+            home: 0,
+        },
+        event,
+    })?;
+    let began = work.next();
+    let newest = work.pop();
+    let this = work.this();
+    let why = Reason::Event {
+        event: 5,
+        x: 6,
+        y: 7,
+    };
+    let passed = work.pass_on(why, Cell::Nothing);
+    work.catch_event(40, event)?;
+    let cells = [
+        number(began),
+        newest,
+        this,
+        truth(passed),
+        number(work.next()),
+        work.pop(),
+        work.pop(),
+        work.pop(),
+        truth(work.has_caller()),
+    ];
+    line(alloc, "events", cells.as_slice())
+}
+
 /// Items that are gathered.
 fn gathered(alloc: Global) -> Result<String, AllocError> {
     let mut work = Work::first(alloc, MAIN, 4)?;
@@ -396,6 +439,7 @@ fn main(rt: HostRuntime) -> io::Result<()> {
         fields(alloc)?,
         frames(alloc)?,
         one_frame(alloc)?,
+        events(alloc)?,
         gathered(alloc)?,
         gathering(alloc)?,
         item(alloc)?,

@@ -1,0 +1,269 @@
+// What an event leads to: the handler that a resumption finds begins, or activations are unwound, up to a clean-up, a handler, or the end.
+
+ghost use Rattle.std.specs.Prelude.{◌≡◌, ℕ, IfOk, slice_get};
+ghost use Rattle.uc_tree.specs.Source.{Source};
+ghost use Rattle.uc_meaning.specs.Quiet.{State};
+ghost use Rattle.uc_code.specs.Laid.{chain, laid_of};
+ghost use Rattle.uc_code.specs.Lowered.{Lowered};
+ghost use Rattle.uc_code.specs.Pace.{IsPaced};
+ghost use Rattle.uc_frames.specs.Comes.{event_by};
+ghost use Rattle.uc_frames.specs.Keeping.{UnwoundBelow, RaisesBelow};
+ghost use Rattle.uc_frames.specs.Machine.{line_at};
+ghost use Rattle.uc_frames.specs.Searches.{catcher_in};
+ghost use Rattle.uc_frames.specs.Unwound.{LeavesNow, Unwinds};
+ghost use Rattle.uc_coroutine.specs.Outcomes.{Begins};
+ghost use Rattle.uc_step.specs.Falls.{FallsBelow};
+ghost use Rattle.uc_step.specs.Follow.{Follow};
+ghost use Rattle.uc_ride.specs.Led.{how_settled, how_ended, how_unwound, StepFalls, Entered, left_in, event_of as event_in};
+
+use std::alloc::AllocError;
+use uc_code::code::Code;
+use uc_code::op::Op;
+use uc_code::rows::Instruction;
+use uc_coroutine::leaving::{Left, leave, return_past};
+use uc_coroutine::testing::{MainEnd, end_block, end_main};
+use uc_coroutine::unwinding::unwind;
+use uc_except::found::Found;
+use uc_except::handling::{handle, throw};
+use uc_except::seeking::{catching_row, propagate};
+use uc_frames::event::Event;
+use uc_frames::work::Work;
+use uc_meaning::exec::Reason;
+use uc_meaning::fault::RunFault;
+use uc_meaning::request::{Asked, Request};
+use uc_step::stepped::Stepped;
+
+/// How an op ends with what an event leads to by it: the task goes on, after a tick or without one, or it asks.
+#[derive(Clone, Copy)]
+pub(crate) enum Settled {
+    On,
+    Tick,
+    Asks(Asked),
+}
+
+/// How a step of unwinding ends: the task goes on, or it still unwinds, or it asks.
+#[derive(Clone, Copy)]
+pub(crate) enum Unwound {
+    On,
+    Still,
+    Asks(Asked),
+}
+
+/// Goes on from where a step leaves what an event leads to, up to its end.
+pub(crate) fn settle(code: &Code, work: &mut Work, how: Stepped) -> Result<Settled, AllocError>
+    requires paced { IsPaced (laid_of code.now) code.now.routines }
+    requires below { (w : ℕ) × FallsBelow code.now w how work.old }
+    ensures source { IfOk result (λ after. (source : Source) (s : State) → Lowered source code.now → Follow (laid_of code.now) source how work.old s → Follow (laid_of code.now) source (how_settled after) work.new s) }
+    ensures falls { IfOk result (λ after. (w : ℕ) → FallsBelow code.now w how work.old → FallsBelow code.now w (how_settled after) work.new) }
+{
+    match how {
+        Stepped::Quiet => Ok(Settled::On),
+        Stepped::Tick => Ok(Settled::Tick),
+        Stepped::Ask(asked) => Ok(Settled::Asks(asked)),
+        Stepped::Throw(event) => {
+            throw(work, event.number, event.x, event.y);
+            let end = unwinds(code, work)?;
+            Ok(settled(end))
+        }
+        Stepped::Raise(event) => {
+            let end = raise(code, work, event)?;
+            Ok(settled(end))
+        }
+        Stepped::Unwind => {
+            let end = unwinds(code, work)?;
+            Ok(settled(end))
+        }
+        Stepped::Past(given) => {
+            if return_past(work, given) {
+                let end = unwinds(code, work)?;
+                Ok(settled(end))
+            } else {
+                let asked = asks(code, 0, work, Request::End);
+                Ok(Settled::Asks(asked))
+            }
+        }
+        Stepped::Astray => {
+            let asked = asks(code, 0, work, Request::End);
+            Ok(Settled::Asks(asked))
+        }
+    }
+}
+
+fn settled(end: Option<Asked>) -> Settled
+    ensures { how_settled result ≡ how_ended end }
+{
+    match end {
+        None => Settled::On,
+        Some(asked) => Settled::Asks(asked),
+    }
+}
+
+// The handler begins that the event finds; where it finds none, it is thrown.
+fn raise(code: &Code, work: &mut Work, event: Event) -> Result<Option<Asked>, AllocError>
+    requires paced { IsPaced (laid_of code.now) code.now.routines }
+    requires below { (w : ℕ) × RaisesBelow (laid_of code.now) code.now.routines w work.old }
+    ensures source { IfOk result (λ end. (source : Source) (s : State) → Lowered source code.now → Follow (laid_of code.now) source (Stepped.Raise event) work.old s → Follow (laid_of code.now) source (how_ended end) work.new s) }
+    ensures falls { IfOk result (λ end. (w : ℕ) → RaisesBelow (laid_of code.now) code.now.routines w work.old → FallsBelow code.now w (how_ended end) work.new) }
+{
+    let found = propagate(code, work, event.number, true);
+    match found {
+        Found::None => {
+            throw(work, event.number, event.x, event.y);
+            let end = unwinds(code, work)?;
+            Ok(end)
+        }
+        Found::Handler { .. } => {
+            handle(code, work, &found, event.number, event.x, event.y)?;
+            Ok(None)
+        }
+    }
+}
+
+// Step after step, as long as it unwinds.
+fn unwinds(code: &Code, work: &mut Work) -> Result<Option<Asked>, AllocError>
+    requires paced { IsPaced (laid_of code.now) code.now.routines }
+    requires below { (w : ℕ) × UnwoundBelow (laid_of code.now) code.now.routines w work.old }
+    ensures source { IfOk result (λ end. (source : Source) (s : State) → Lowered source code.now → Unwinds (laid_of code.now) work.old s → Follow (laid_of code.now) source (how_ended end) work.new s) }
+    ensures falls { IfOk result (λ end. (w : ℕ) → UnwoundBelow (laid_of code.now) code.now.routines w work.old → FallsBelow code.now w (how_ended end) work.new) }
+{
+    'steps: loop {
+        let how = unwind_once(code, work)?;
+        match how {
+            Unwound::On => return Ok(None),
+            Unwound::Still => {}
+            Unwound::Asks(asked) => return Ok(Some(asked)),
+        }
+    }
+}
+
+// One step: a clean-up of the running activation begins, or the test at the end of a block or of a main is made; or the handler that catches
+// the event begins; or the activation is left.
+fn unwind_once(code: &Code, work: &mut Work) -> Result<Unwound, AllocError>
+    requires paced { IsPaced (laid_of code.now) code.now.routines }
+    ensures source { IfOk result (λ after. (source : Source) (s : State) → Lowered source code.now → Unwinds (laid_of code.now) work.old s → Follow (laid_of code.now) source (how_unwound after) work.new s) }
+    ensures falls { IfOk result (λ after. (w : ℕ) → UnwoundBelow (laid_of code.now) code.now.routines w work.old → StepFalls code.now w (left_in code.now work.old) after work.new) }
+{
+    let _ = work.elements();
+    let frame = work.level();
+    let event = raised_event(work);
+    let row = catching(code, work, event);
+    if unwind(code, work, frame, row) {
+        let after = begin(code, work)?;
+        Ok(after)
+    } else {
+        match row {
+            None => {
+                let after = leave_on(code, work)?;
+                Ok(after)
+            }
+            Some(row) => {
+                let event = event.unwrap_or(Event {
+                    number: 0,
+                    x: 0,
+                    y: 0,
+                });
+                handle(
+                    code,
+                    work,
+                    &Found::Handler { frame, row },
+                    event.number,
+                    event.x,
+                    event.y,
+                )?;
+                Ok(Unwound::On)
+            }
+        }
+    }
+}
+
+// The event by which the running activation is unwound, if it is one.
+fn raised_event(work: &Work) -> Option<Event>
+    ensures { result ≡ event_in work.now.run.raised }
+{
+    match work.raised() {
+        Some(Reason::Event { event, x, y }) => Some(Event {
+            number: event,
+            x,
+            y,
+        }),
+        Some(Reason::ReturnTo(_)) => None,
+        Some(Reason::Destroyed) => None,
+        None => None,
+    }
+}
+
+// The row of the running activation that catches it.
+fn catching(code: &Code, work: &Work, event: Option<Event>) -> Option<u32>
+    requires { event ≡ event_in work.now.run.raised }
+    ensures { result ≡ catcher_in (event_by work.now.run.raised) code.now.rows (chain code.now.rows work.now.run.control) }
+{
+    match event {
+        None => None,
+        Some(event) => catching_row(code, work, event.number),
+    }
+}
+
+// What begins: a test ends the unwinding, or lets it go on; a clean-up is executed.
+fn begin(code: &Code, work: &mut Work) -> Result<Unwound, AllocError>
+    requires paced { IsPaced (laid_of code.now) code.now.routines }
+    ensures source { IfOk result (λ after. (source : Source) (s : State) → Lowered source code.now → Begins source (laid_of code.now) work.old s → Follow (laid_of code.now) source (how_unwound after) work.new s) }
+    ensures falls { IfOk result (λ after. (w left : ℕ) → Entered code.now w left work.old → StepFalls code.now w left after work.new) }
+{
+    let next = work.next();
+    match op_at(code, next) {
+        None => Ok(Unwound::On),
+        Some(instruction) => match instruction.op {
+            Op::Handled => {
+                if end_block(work, next + 1) {
+                    Ok(Unwound::On)
+                } else {
+                    Ok(Unwound::Still)
+                }
+            }
+            Op::Unhandled => {
+                let end = end_main(work)?;
+                match end {
+                    MainEnd::Ended => Ok(Unwound::Asks(asks(code, instruction.line, work, Request::End))),
+                    MainEnd::Returned => Ok(Unwound::On),
+                    MainEnd::Unhandled => {
+                        let number = RunFault::Unhandled.number();
+                        Ok(Unwound::Asks(asks(code, instruction.line, work, Request::Fault { number })))
+                    }
+                }
+            }
+            _ => Ok(Unwound::On),
+        },
+    }
+}
+
+fn op_at(code: &Code, at: u32) -> Option<Instruction>
+    ensures { result ≡ slice_get code.now.ops at }
+{
+    let ops = code.ops();
+    ops.get(at as usize).copied()
+}
+
+// The running activation, of which nothing is left, is left.
+fn leave_on(code: &Code, work: &mut Work) -> Result<Unwound, AllocError>
+    ensures source { IfOk result (λ after. (source : Source) (s : State) → LeavesNow (laid_of code.now) work.old s → Follow (laid_of code.now) source (how_unwound after) work.new s) }
+    ensures falls { IfOk result (λ after. (w : ℕ) → UnwoundBelow (laid_of code.now) code.now.routines w work.old → StepFalls code.now w (left_in code.now work.old) after work.new) }
+{
+    let left = leave(work)?;
+    match left {
+        Left::Ended => Ok(Unwound::Asks(asks(code, 0, work, Request::End))),
+        Left::Returned => Ok(Unwound::On),
+        Left::Escaped => {
+            let number = RunFault::EscapeInUnwind.number();
+            Ok(Unwound::Asks(asks(code, 0, work, Request::Fault { number })))
+        }
+        Left::PassedOn => Ok(Unwound::Still),
+    }
+}
+
+// The task asks, by an op of this line, or of the newest call around it that has one.
+fn asks(code: &Code, line: u32, work: &Work, request: Request) -> Asked
+    ensures { result ≡ record { request = request; line = line_at code.now.ops line work.now.callers } }
+{
+    let line = work.line(code, line);
+    Asked { request, line }
+}
