@@ -96,7 +96,9 @@ fn lower_all(
     let sites = sites_of(alloc, program)?;
     let texts = texts_of(alloc, program)?;
     let classes = cells_of_classes(alloc, program, sizes)?;
-    Ok(out.finish(sites, texts, classes))
+    let mut code = out.finish(sites, texts, classes);
+    code.tabulate(alloc)?;
+    Ok(code)
 }
 
 // Whether all routines have numbers.
