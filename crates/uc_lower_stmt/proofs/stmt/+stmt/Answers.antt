@@ -106,21 +106,21 @@ lower_stmt-returns-in-Try t c = arm_unasked c.args.names.now c.args.s.now _ _ (s
 
 pub lower_stmt-lower_throw-requires : goal.lower_stmt-lower_throw-requires
 lower_stmt-lower_throw-requires t c =
-    let is : Throw c.s.inside.pos c.in-Throw.raised.now ≡ c.args.s.now = stmt_is _ _ _ _ c.in-Throw.is c.s.view_is in
+    let is : Throw c.s.inside.pos c.in-Throw.raised ≡ c.args.s.now = stmt_is _ _ _ _ c.in-Throw.is c.s.view_is in
     let size = ap (λ s. size_at s (objects_in c.args.out.now.marks)) is in
     omega (arith, size, c.requires.room)
 
 pub lower_stmt-returns-in_ok-lower_throw-in-Throw : goal.lower_stmt-returns-in_ok-lower_throw-in-Throw
-lower_stmt-returns-in_ok-lower_throw-in-Throw t c = arm_thrown c.args.names.now c.args.s.now c.s.inside.pos _ _ _ (stmt_is _ _ _ _ c.in-Throw.is c.s.view_is) c.in_ok-lower_throw-in-Throw.ensures
+lower_stmt-returns-in_ok-lower_throw-in-Throw t c = arm_thrown c.args.names.now c.args.s.now c.s.inside.pos c.in-Throw.raised _ _ (stmt_is _ _ _ _ c.in-Throw.is c.s.view_is) c.in_ok-lower_throw-in-Throw.ensures
 
 pub lower_stmt-lower_raise-requires : goal.lower_stmt-lower_raise-requires
 lower_stmt-lower_raise-requires t c =
-    let is : Raise c.s.inside.pos c.in-Raise.raised.now ≡ c.args.s.now = stmt_is _ _ _ _ c.in-Raise.is c.s.view_is in
+    let is : Raise c.s.inside.pos c.in-Raise.raised ≡ c.args.s.now = stmt_is _ _ _ _ c.in-Raise.is c.s.view_is in
     let size = ap (λ s. size_at s (objects_in c.args.out.now.marks)) is in
     omega (arith, size, c.requires.room)
 
 pub lower_stmt-returns-in_ok-lower_raise-in-Raise : goal.lower_stmt-returns-in_ok-lower_raise-in-Raise
-lower_stmt-returns-in_ok-lower_raise-in-Raise t c = arm_resumed c.args.names.now c.args.s.now c.s.inside.pos _ _ _ (stmt_is _ _ _ _ c.in-Raise.is c.s.view_is) c.in_ok-lower_raise-in-Raise.ensures
+lower_stmt-returns-in_ok-lower_raise-in-Raise t c = arm_resumed c.args.names.now c.args.s.now c.s.inside.pos c.in-Raise.raised _ _ (stmt_is _ _ _ _ c.in-Raise.is c.s.view_is) c.in_ok-lower_raise-in-Raise.ensures
 
 pub lower_stmt-returns-in-RaiseAt : goal.lower_stmt-returns-in-RaiseAt
 lower_stmt-returns-in-RaiseAt t c = arm_unasked c.args.names.now c.args.s.now _ _ (stmt_is _ _ _ _ c.in-RaiseAt.is c.s.view_is) c.requires.built refl
