@@ -9,6 +9,7 @@ ghost use Rattle.uc_tree.specs.Resolve.{source_of};
 ghost use Rattle.uc_tree.specs.Sizes.{program_size};
 ghost use Rattle.uc_built.specs.BuiltForms.{IsBuilt};
 ghost use Rattle.uc_meaning.specs.Breaks.{breaks_of};
+ghost use Rattle.uc_code.specs.Laid.{laid_of};
 ghost use Rattle.uc_code.specs.Pace.{IsPaced};
 ghost use Rattle.uc_code.specs.Lowered.{Lowered};
 ghost use Rattle.uc_numbers.specs.Routines.{defined_at};
@@ -80,7 +81,7 @@ fn lower_all(
     requires few { count + length unwritten.now < 2 ^ 32 }
     requires numbers { numbers.items ≡ map (number_of_class program.now) (classes_of program.now.items) }
     ensures lowered { IfOk result (λ code. Lowered (source_of program.now) code) }
-    ensures paced { IfOk result (λ code. IsPaced code.ops code.routines) }
+    ensures paced { IfOk result (λ code. IsPaced (laid_of code) code.routines) }
     ensures few { IfOk result (λ code. length code.ops ≤ OPS_FOR_SIZE * program_size program.now) }
 {
     let numbering = numbering_of(alloc, defined, count, unwritten, numbers)?;
@@ -95,7 +96,9 @@ fn lower_all(
     let sites = sites_of(alloc, program)?;
     let texts = texts_of(alloc, program)?;
     let classes = cells_of_classes(alloc, program, sizes)?;
-    Ok(out.finish(sites, texts, classes))
+    let mut code = out.finish(sites, texts, classes);
+    code.tabulate(alloc)?;
+    Ok(code)
 }
 
 // Whether all routines have numbers.
@@ -123,7 +126,7 @@ fn lower_fit(
     requires defined { map defined_at defined.now ≡ routines_of program.now }
     requires count { count ≡ length defined.now }
     ensures lowered { IfOk result (λ code. Lowered (source_of program.now) code) }
-    ensures paced { IfOk result (λ code. IsPaced code.ops code.routines) }
+    ensures paced { IfOk result (λ code. IsPaced (laid_of code) code.routines) }
     ensures few { IfOk result (λ code. length code.ops ≤ OPS_FOR_SIZE * program_size program.now) }
 {
     let numbers = numbers_of_classes(alloc, program)?;
@@ -148,7 +151,7 @@ fn lower_defined(
     requires defined { map defined_at defined.now ≡ routines_of program.now }
     requires count { count ≡ length defined.now }
     ensures lowered { IfOk result (λ code. Lowered (source_of program.now) code) }
-    ensures paced { IfOk result (λ code. IsPaced code.ops code.routines) }
+    ensures paced { IfOk result (λ code. IsPaced (laid_of code) code.routines) }
     ensures few { IfOk result (λ code. length code.ops ≤ OPS_FOR_SIZE * program_size program.now) }
     ensures fits { IfOk result (λ code. Fits program.now) }
     ensures refused { IfErr result (λ fault. Refuses program.now fault) }
@@ -173,7 +176,7 @@ pub fn lower(alloc: Global, program: &Program, sizes: &Sizes) -> Result<Code, Lo
     requires unbroken { breaks_of program.now ≡ [] }
     requires sizes { sizes.now ≡ program.now }
     ensures lowered { IfOk result (λ code. Lowered (source_of program.now) code) }
-    ensures paced { IfOk result (λ code. IsPaced code.ops code.routines) }
+    ensures paced { IfOk result (λ code. IsPaced (laid_of code) code.routines) }
     ensures few { IfOk result (λ code. length code.ops ≤ OPS_FOR_SIZE * program_size program.now) }
     ensures fits { IfOk result (λ code. Fits program.now) }
     ensures refused { IfErr result (λ fault. Refuses program.now fault) }
