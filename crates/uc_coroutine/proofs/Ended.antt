@@ -28,23 +28,31 @@ module _ (source : Source) (code : Laid) (old new : Machine) (s : State) where
     block_by : (b : Bool) → step source s ≡ whole_left b h.run.rest s → new ≡ block_over b (old.run.control + 1) old → BlockLeft source code b new s
     block_by true w q =
         let t : State = record s { run = calmed h.run.rest s.run } in
-        record { after = t; by = w; stands = subst (λ (m : Machine). Stands code m t) (sym q) (record {
-          run = record { marks = h.run.marks; follows = h.run.follows; is = ap (λ (a : Active). calmed (old.run.control + 1) a) h.run.is };
-          callers = h.callers;
-          env = h.env;
-        }) }
+        record {
+          after = t;
+          by = w;
+          stands = subst (λ (m : Machine). Stands code m t) (sym q) (record {
+            run = record { marks = h.run.marks; follows = h.run.follows; is = ap (λ (a : Active). calmed (old.run.control + 1) a) h.run.is };
+            callers = h.callers;
+            env = h.env;
+          });
+        }
     block_by false w q =
         let t : State = record s { run = record s.run { control = Unwind ∷ h.run.rest; operands = [] } } in
-        record { after = t; by = w; stands = subst (λ (m : Machine). Unwinds code m t) (sym q) (record {
-          run = record {
-            rest = h.run.rest;
-            todo = refl;
-            rows = record { marks = h.run.marks; at = old.run.control + 1; follows = h.run.follows; under = h.run.tests.under };
-            is = ap (λ (a : Active). let b : Active = record a { control = old.run.control + 1 } in b) h.run.is;
-          };
-          callers = h.callers;
-          env = h.env;
-        }) }
+        record {
+          after = t;
+          by = w;
+          stands = subst (λ (m : Machine). Unwinds code m t) (sym q) (record {
+            run = record {
+              rest = h.run.rest;
+              todo = refl;
+              rows = record { marks = h.run.marks; at = old.run.control + 1; follows = h.run.follows; under = h.run.tests.under };
+              is = ap (λ (a : Active). let b : Active = record a { control = old.run.control + 1 } in b) h.run.is;
+            };
+            callers = h.callers;
+            env = h.env;
+          });
+        }
 
     pub block_left : (b : Bool) (behind : ℕ) → behind ≡ old.run.control + 1 → b ≡ arrives old.run.raised (length old.callers) → new ≡ block_over b behind old → BlockLeft source code b new s
     block_left b behind k e q =

@@ -1,5 +1,5 @@
 -- The line of a main that is unwound to its end.
-use Rattle.std.proofs.Common.{◌≡◌, ℕ, List, ◌∷◌, refl, ap, ◌∙◌}
+use Rattle.std.proofs.Common.{◌≡◌, List, ◌∷◌, refl, ap, ◌∙◌}
 use Rattle.uc_meaning.specs.Pieces.{Todo, sort, IsFinish, State, own_line, line_from, line_of, Eval, LoadNow, ElementNow, FieldNow, NegateNow, NotNow, CharacterNow, TruthNow, OperateNow, CopyNow, CopyBelowNow, DropNow, DropBelowNow, StoreNow, KeepNow, SetNow, Choose, Branch, Arguments, TickNow, CallNow, CallOnNow, CallUnwrittenNow, CountNow, MoreNow, FillNow, TurnNow, Again, PrintNow, TextNow, GatherNow, FlushNow, ReadNow, ClearNow, Items, Values, Pieces, Targets, Variables, Do, Rest, Within, Exit, NoReturnNow, InLoop, InWhole, Clean, Sweep, Part, Guard, Unwind, ThrowNow, RaiseNow, Finish}
 use Rattle.uc_code.specs.Laid.{Laid}
 use Rattle.uc_frames.specs.Machine.{Machine}

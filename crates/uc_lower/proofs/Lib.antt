@@ -14,5 +14,6 @@ mod Owed
 pub mod Refused
 pub mod Ruled
 mod Rooms
+pub mod Silence
 mod Sums
 mod Unwritten

@@ -9,6 +9,7 @@ ghost use Rattle.uc_tree.specs.Resolve.{source_of};
 ghost use Rattle.uc_tree.specs.Sizes.{program_size};
 ghost use Rattle.uc_built.specs.BuiltForms.{IsBuilt};
 ghost use Rattle.uc_meaning.specs.Breaks.{breaks_of};
+ghost use Rattle.uc_code.specs.Laid.{laid_of};
 ghost use Rattle.uc_code.specs.Pace.{IsPaced};
 ghost use Rattle.uc_code.specs.Lowered.{Lowered};
 ghost use Rattle.uc_numbers.specs.Routines.{defined_at};
@@ -95,7 +96,9 @@ fn lower_all(
     let sites = sites_of(alloc, program)?;
     let texts = texts_of(alloc, program)?;
     let classes = cells_of_classes(alloc, program, sizes)?;
-    Ok(out.finish(sites, texts, classes))
+    let mut code = out.finish(sites, texts, classes);
+    code.tabulate(alloc)?;
+    Ok(code)
 }
 
 // Whether all routines have numbers.

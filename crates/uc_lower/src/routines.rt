@@ -55,13 +55,15 @@ fn is_plain(sig: &Sig) -> bool
     }
 }
 
-// Adds the code of a written routine, behind so many text literals and accept statements of the program.
+// Adds the code of a written routine, behind so many text literals and accept statements of the program, where `last` is the number
+// of the last one that is written.
 fn lower_written(
     alloc: Global,
     names: &ProgramNames,
     one: &Defined,
     main: bool,
     number: u32,
+    last: u32,
     texts: u32,
     sites: u32,
     out: &mut Draft,
@@ -71,14 +73,15 @@ fn lower_written(
     requires built { are_built one.now.routine.now.body ≡ true }
     requires params { length one.now.routine.now.sig.params ≤ PROGRAM_SIZE }
     requires known { number < length out.old.routines }
-    requires written { number < length (routines_of names.now) }
+    requires behind { number ≤ last }
+    requires written { last < length (routines_of names.now) }
     requires outside { out.old.marks ≡ [] }
     requires room { length out.old.ops + routine_room names.now (defined_at one.now) ≤ PROGRAM_OPS }
     requires cells { routine_cells names.now one.now.routine.now ≤ FRAME_CELLS }
     requires texts { texts + stmts_size one.now.routine.now.body ≤ PROGRAM_SIZE }
     ensures kept { OnOk result (Kept (laid_in out.old) (laid_in out.new)) }
     ensures room { OnOk result (length out.new.ops ≤ length out.old.ops + routine_room names.now (defined_at one.now)) }
-    ensures code { OnOk result (RoutineAt (laid_in out.new) number (routine_meant names.now one.now.routine.now (routine_scope names.now one.now.routine.now (place_of names.now one.now.number) number texts sites)) (record { entry = length out.old.ops; cells = frame_cells names.now one.now.routine.now; params = length one.now.routine.now.sig.params }) (length out.old.ops) (length out.new.ops)) }
+    ensures code { OnOk result (RoutineAt (laid_in out.new) last number (routine_meant names.now one.now.routine.now (routine_scope names.now one.now.routine.now (place_of names.now one.now.number) number texts sites)) (record { entry = length out.old.ops; cells = frame_cells names.now one.now.routine.now; params = length one.now.routine.now.sig.params }) (length out.old.ops) (length out.new.ops)) }
     ensures written { OnOk result (out.new.routines ≡ slice_set out.old.routines number (record { entry = length out.old.ops; cells = frame_cells names.now one.now.routine.now; params = length one.now.routine.now.sig.params })) }
     ensures outside { OnOk result (out.new.marks ≡ []) }
     ensures texts { OnOk result (out.new.texts ≡ texts + length (gathered_all own_texts one.now.routine.now.body)) }
@@ -89,11 +92,13 @@ fn lower_written(
     let class = names.class_of(one.number);
     if is_plain(sig_of(routine)) {
         lower_routine(
-            alloc, names, routine, main, class, number, texts, sites, out,
+            alloc, names, routine, main, class, number, last, texts, sites, out,
         )?;
         return Ok(());
     }
-    lower_builder(alloc, names, routine, class, number, texts, sites, out)?;
+    lower_builder(
+        alloc, names, routine, class, number, last, texts, sites, out,
+    )?;
     Ok(())
 }
 
@@ -122,7 +127,8 @@ pub(crate) fn lower_routines(
     for number in 0..count {
         let d = &defined[number as usize];
         let is_main = number == main;
-        lower_written(alloc, names, d, is_main, number, texts, sites, out)?;
+        let last = count - 1;
+        lower_written(alloc, names, d, is_main, number, last, texts, sites, out)?;
         texts = out.texts();
         sites = out.sites();
     }

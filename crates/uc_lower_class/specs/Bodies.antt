@@ -22,7 +22,7 @@ use Rattle.uc_lower_class.specs.Fields.{all_built, all_left, all_room}
 -- a body, and the block that it is
 
 abbrev pub whole_room : Routine → ℕ
-whole_room r = 2 + OPS_FOR_SIZE * sizes_at r.body 0
+whole_room r = 4 + OPS_FOR_SIZE * sizes_at r.body 0
 
 abbrev pub LowersWhole : Program → Routine → Draft → Draft → Type 0
 LowersWhole p r old new =

@@ -1,6 +1,6 @@
 // The code of constructors and destructors.
 
-ghost use Rattle.std.specs.Prelude.{◌≡◌, true, false, None, ◌+◌, ◌*◌, ◌≤◌, ◌<◌, [], length, nat_eq, slice_set, OnOk};
+ghost use Rattle.std.specs.Prelude.{◌≡◌, ℕ, true, false, None, ◌+◌, ◌*◌, ◌≤◌, ◌<◌, [], length, nat_eq, slice_set, OnOk};
 ghost use Rattle.uc_tree.specs.declared.limits.TheConstants.{FRAME_CELLS, PROGRAM_OPS, PROGRAM_SIZE};
 ghost use Rattle.uc_tree.specs.StatementSizes.{stmts_size};
 ghost use Rattle.uc_tree.specs.Cells.{declared_cells, routine_cells, stmts_cells};
@@ -168,14 +168,15 @@ fn lower_body(
 }
 
 /// Adds the code of a written constructor or destructor of the class with this place, behind so many text literals and accept
-/// statements of the program, and writes down under its number where it begins. Its statements are of forms that are built. After
-/// want of memory the draft is spent.
+/// statements of the program, and writes down under its number where it begins. `last` is the number of the last routine that is
+/// written. Its statements are of forms that are built. After want of memory the draft is spent.
 pub fn lower_builder(
     alloc: Global,
     names: &ProgramNames,
     routine: &Routine,
     class: Option<usize>,
     number: u32,
+    last: u32,
     texts: u32,
     sites: u32,
     out: &mut Draft,
@@ -185,14 +186,15 @@ pub fn lower_builder(
     requires built { are_built routine.now.body ≡ true }
     requires params { length routine.now.sig.params ≤ PROGRAM_SIZE }
     requires known { number < length out.old.routines }
-    requires written { number < length (routines_of names.now) }
+    requires behind { number ≤ last }
+    requires written { last < length (routines_of names.now) }
     requires outside { out.old.marks ≡ [] }
     requires room { length out.old.ops + builder_room names.now routine.now class ≤ PROGRAM_OPS }
     requires cells { routine_cells names.now routine.now ≤ FRAME_CELLS }
     requires texts { texts + stmts_size routine.now.body ≤ PROGRAM_SIZE }
     ensures kept { OnOk result (Kept (laid_in out.old) (laid_in out.new)) }
     ensures room { OnOk result (length out.new.ops ≤ length out.old.ops + builder_room names.now routine.now class) }
-    ensures code { OnOk result (RoutineAt (laid_in out.new) number (routine_meant names.now routine.now (routine_scope names.now routine.now class number texts sites)) (record { entry = length out.old.ops; cells = frame_cells names.now routine.now; params = length routine.now.sig.params }) (length out.old.ops) (length out.new.ops)) }
+    ensures code { OnOk result (RoutineAt (laid_in out.new) last number (routine_meant names.now routine.now (routine_scope names.now routine.now class number texts sites)) (record { entry = length out.old.ops; cells = frame_cells names.now routine.now; params = length routine.now.sig.params }) (length out.old.ops) (length out.new.ops)) }
     ensures written { OnOk result (out.new.routines ≡ slice_set out.old.routines number (record { entry = length out.old.ops; cells = frame_cells names.now routine.now; params = length routine.now.sig.params })) }
     ensures outside { OnOk result (out.new.marks ≡ []) }
     ensures texts { OnOk result (out.new.texts ≡ texts + length (gathered_all own_texts routine.now.body)) }
@@ -205,7 +207,7 @@ pub fn lower_builder(
     let variables = cells_of_routine(names.sizes(), routine) as u32;
     out.begin_routine(class, number, variables, texts, sites);
     declare_params(alloc, names, params, out)?;
-    out.enter_body(number)?;
+    out.enter_body(last)?;
     let role = role_of(sig);
     lower_body(alloc, names, role, class, routine, out)?;
     out.leave();
@@ -297,7 +299,7 @@ pub fn lower_unwritten(
     requires room { length out.old.ops + (unwritten_room one.role (class_at names.now one.class) + 1) ≤ PROGRAM_OPS }
     ensures kept { OnOk result (Kept (laid_in out.old) (laid_in out.new)) }
     ensures room { OnOk result (length out.new.ops ≤ length out.old.ops + (unwritten_room one.role (class_at names.now one.class) + 1)) }
-    ensures code { OnOk result (RoutineAt (laid_in out.new) number (unwritten_meant names.now (unwritten_as one)) (record { entry = length out.old.ops; cells = 0; params = 0 }) (length out.old.ops) (length out.new.ops)) }
+    ensures code { OnOk result ((last : ℕ) → last ≤ number → RoutineAt (laid_in out.new) last number (unwritten_meant names.now (unwritten_as one)) (record { entry = length out.old.ops; cells = 0; params = 0 }) (length out.old.ops) (length out.new.ops)) }
     ensures written { OnOk result (out.new.routines ≡ slice_set out.old.routines number (record { entry = length out.old.ops; cells = 0; params = 0 })) }
     ensures outside { OnOk result (out.new.marks ≡ []) }
 {

@@ -15,6 +15,7 @@ pub mod Opened
 pub mod Openings
 pub mod Parting
 pub mod Printing
+pub mod Raising
 pub mod Routines
 pub mod Scoping
 pub mod Shaping

@@ -10,7 +10,7 @@ use Rattle.uc_code.specs.Laid.{Laid, laid_in}
 use Rattle.uc_code.specs.Open.{left_marks}
 use Rattle.uc_code.specs.Ranges.{OpAt, One, Both, Fork, pads_at, begin_at, BackAt, Turns, Same, Kept, Stable}
 use Rattle.uc_code.proofs.Stable.{back_stable, same_then, kept_then, kept_same}
-use Rattle.uc_code.proofs.Patches.{length-patched, patched_at, same_before, same_after}
+use Rattle.uc_code.proofs.Patches.{bare_stays, length-patched, patched_at, same_before, same_after}
 use Rattle.uc_lower_expr.specs.Added.{Adds}
 use Rattle.uc_lower_stmt.specs.Scoped.{Lowers}
 use Rattle.uc_lower_stmt.specs.Control.{BeginCode}
@@ -119,6 +119,7 @@ module _ (line m k : ℕ) (B C : Laid → ℕ → ℕ → Type 0) (b : Stable B)
       same = λ i o l h. let w = slice_get_within d0.ops i (record { op = o; line = l }) h.here in (fork_before (length d0.ops) (omega arith)).same i o l (omega arith) w (fork_from.same i o l h);
       chains = λ next l. fork_from.chains next l;
       handlers = λ n e h. (fork_before (length d0.ops) (omega arith)).handlers n e (fork_from.handlers n e h);
+      bare = λ n h. bare_stays d4 forked refl n (fork_from.bare n h);
     };
     room = let r1 = hole.room in let r2 = first.room in let r3 = jump.room in let r4 = second.room in let e = fork_long in omega arith;
     code = record {
@@ -224,6 +225,7 @@ module _ (line : ℕ) (order : Order) (p q r : ℕ) (T S : Laid → ℕ → ℕ 
           same = λ i o l w. let x = slice_get_within d0.ops i (record { op = o; line = l }) w.here in (before start (omega arith)).same i o l (omega arith) x (from_start.same i o l w);
           chains = λ next l. from_start.chains next l;
           handlers = λ n e w. (before start (omega arith)).handlers n e (from_start.handlers n e w);
+          bare = λ n w. bare_stays d4 done refl n (from_start.bare n w);
         };
         room = let a = g.room in let c = h.room in let e = k.room in let f = j.room in let z = long in omega arith;
         code = record {

@@ -5,5 +5,6 @@ pub mod Marked
 pub mod Objects
 pub mod Pending
 pub mod Pieces
+pub mod Raising
 pub mod Routines
 pub mod Scoped

@@ -5,6 +5,7 @@ pub mod block;
 pub mod declare;
 pub mod objects;
 pub mod print;
+pub mod raise;
 pub mod routine;
 pub mod stmt;
 pub mod turning;

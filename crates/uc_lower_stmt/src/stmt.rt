@@ -28,6 +28,7 @@ ghost use Rattle.uc_lower_stmt.specs.Control.{BackCode, BeginCode, DeclaresObjec
 use crate::block::{close_scopes, lower_objects};
 use crate::declare::lower_declarators;
 use crate::print::{lower_items, lower_targets, lower_together};
+use crate::raise::{lower_raise, lower_throw};
 use crate::turning::Turning;
 use std::alloc::{AllocError, Global};
 use uc_code::cleaning::put_exit;
@@ -142,8 +143,14 @@ pub fn lower_stmt(
         }
         StmtForm::Empty => Ok(()),
         StmtForm::Try { .. } => Ok(()),
-        StmtForm::Throw { .. } => Ok(()),
-        StmtForm::Raise { .. } => Ok(()),
+        StmtForm::Throw { raised } => {
+            lower_throw(raised, line, names, out)?;
+            Ok(())
+        }
+        StmtForm::Raise { raised } => {
+            lower_raise(raised, line, names, out)?;
+            Ok(())
+        }
         StmtForm::RaiseAt { .. } => Ok(()),
         StmtForm::Enable { .. } => Ok(()),
         StmtForm::Disable { .. } => Ok(()),

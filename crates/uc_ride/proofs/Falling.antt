@@ -1,12 +1,11 @@
 -- What an event leads to leaves less to do.
-use Rattle.std.proofs.Common.{◌≡◌, ℕ, ◌+◌, ◌^◌, ◌<◌, ◌≤◌, List, [], ◌∷◌, length, ◌⊎◌, inl, inr, Option, Some, None, Bool, true, false, refl, sym, ap, subst, ◌∙◌, arith}
+use Rattle.std.proofs.Common.{◌≡◌, ℕ, ◌+◌, ◌^◌, ◌<◌, List, [], ◌∷◌, length, ◌⊎◌, inl, inr, Option, Some, None, Bool, true, false, refl, sym, ap, subst, ◌∙◌}
 use Rattle.std.specs.Prelude.{◌&&◌, nat_eq, slice_get, if◌then◌else◌}
 use Rattle.std.proofs.lemmas.Bool.{eq-eqb}
 use Rattle.uc_meaning.specs.declared.exec.Reason.{Reason}
 use Rattle.uc_meaning.specs.declared.exec.Reason.TheVariants as reason
 use Rattle.uc_code.specs.declared.op.Op.TheVariants as op
 use Rattle.uc_code.specs.declared.rows.HandlerRow.{HandlerRow}
-use Rattle.uc_code.specs.declared.rows.Instruction.{Instruction}
 use Rattle.uc_code.specs.declared.rows.RowKind.{RowKind}
 use Rattle.uc_code.specs.declared.rows.RowKind.TheVariants as kind
 use Rattle.uc_code.specs.Codes.{Code}
@@ -15,9 +14,9 @@ use Rattle.uc_code.specs.Pace.{IsPaced}
 use Rattle.uc_frames.specs.declared.cell.Cell.{Cell}
 use Rattle.uc_frames.specs.declared.event.Event.{Event}
 use Rattle.uc_frames.specs.declared.search.Sought.TheVariants.{Catch, Stop}
-use Rattle.uc_frames.specs.Keeping.{Whole, Behind, Entry, AllWait, taken_at, Goes, UnwoundBelow, LeavesBelow, RaisesBelow}
+use Rattle.uc_frames.specs.Keeping.{Whole, Behind, Entry, AllWait, taken_at, UnwoundBelow, LeavesBelow, RaisesBelow}
 use Rattle.uc_frames.specs.Left.{left}
-use Rattle.uc_frames.specs.Machine.{Active, Machine, nought}
+use Rattle.uc_frames.specs.Machine.{Active, Machine}
 use Rattle.uc_frames.specs.Searches.{catches, row_takes, is_found, is_named, first_in}
 use Rattle.uc_frames.specs.Unwinding.{passed}
 use Rattle.uc_frames.specs.Weight.{waits}
@@ -83,15 +82,15 @@ module _ (code : Code) (w : ℕ) where
   same_machine : (a b : Machine) → Some a ≡ Some b → a ≡ b
   same_machine a b e = cc
 
-  nothing : (n : Machine) → (None : Option Machine) ≡ Some n → ⊥
-  nothing n e = absurd (cc)
+  nothing : (o : Option Machine) (n : Machine) → o ≡ None → o ≡ Some n → ⊥
+  nothing o n e f = let x : None ≡ Some n = sym e ∙ f in absurd (cc)
 
   not_here : (b : Bool) (o : Option Machine) (n : Machine) → b ≡ true → (if b then None else o) ≡ Some n → ⊥
-  not_here true o n e f = nothing n f
+  not_here true o n e f = nothing None n refl f
   not_here false o n e f = absurd (cc)
 
   cleaned : (b : Bool) (x n : Machine) → (if b then None else Some x) ≡ Some n → x ≡ n
-  cleaned true x n e = absurd (nothing n e)
+  cleaned true x n e = absurd (nothing None n refl e)
   cleaned false x n e = same_machine x n e
 
   entered_by : (frame : ℕ) (row : Option ℕ) (m n : Machine) (left : ℕ) → UnwoundBelow (laid_of code) code.routines w m → left_in code m ≡ left → frame ≡ length m.callers → m.run.elements < 2 ^ 32 → (o : Option ℕ) → first_in (Stop (point_in frame row (length m.callers))) code.rows (chain code.rows m.run.control) ≡ o → step_by code.rows frame row o m ≡ Some n → Entered code w left n

@@ -1,5 +1,5 @@
 -- What an event leads to is what the source does.
-use Rattle.std.proofs.Common.{◌≡◌, ℕ, ◌+◌, List, [], ◌∷◌, inl, inr, Option, Some, None, Bool, true, false, refl, sym, ap, subst, ◌∙◌}
+use Rattle.std.proofs.Common.{◌≡◌, ℕ, inl, inr, Option, Some, Bool, true, false, sym, ap, ◌∙◌}
 use Rattle.std.specs.Prelude.{slice_get}
 use Rattle.uc_tree.specs.Source.{Source}
 use Rattle.uc_meaning.specs.declared.fault.RunFault.TheVariants.{Unhandled, EscapeInUnwind}
@@ -7,7 +7,7 @@ use Rattle.uc_meaning.specs.declared.request.Asked.{Asked}
 use Rattle.uc_meaning.specs.declared.request.Request.{Request}
 use Rattle.uc_meaning.specs.declared.request.Request.TheVariants as ask
 use Rattle.uc_meaning.specs.Faults.{fault_number}
-use Rattle.uc_meaning.specs.Quiet.{Value, State, Goes, Asks, quiet, Quietly, stay, more, own_line, line_from, line_of}
+use Rattle.uc_meaning.specs.Quiet.{Value, State, Quietly, stay, more, own_line, line_from, line_of}
 use Rattle.uc_meaning.specs.Raising.{event_in}
 use Rattle.uc_code.specs.declared.op.Op.{Op}
 use Rattle.uc_code.specs.declared.op.Op.TheVariants as op
@@ -18,8 +18,7 @@ use Rattle.uc_code.specs.Lowered.{Lowered}
 use Rattle.uc_frames.specs.declared.event.Event.{Event}
 use Rattle.uc_frames.specs.declared.cell.Cell.{Cell}
 use Rattle.uc_frames.specs.Machine.{Machine, cell_of, line_at}
-use Rattle.uc_frames.specs.Stands.{Stands}
-use Rattle.uc_frames.specs.Unwound.{raised_as, Unwinds, TestsBlock, EndsMain, LeavesNow, Raises, Throws, Returns}
+use Rattle.uc_frames.specs.Unwound.{raised_as, TestsBlock, EndsMain, LeavesNow, Raises, Throws, Returns}
 use Rattle.uc_frames.proofs.Finishes.{main_line}
 use Rattle.uc_coroutine.specs.declared.leaving.Left.{Left}
 use Rattle.uc_coroutine.specs.declared.leaving.Left.TheVariants as left

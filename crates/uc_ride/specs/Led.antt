@@ -1,28 +1,26 @@
 -- What becomes of a machine by what an event leads to.
-use Rattle.std.specs.Prelude.{◌≡◌, ℕ, ◌+◌, ◌^◌, ◌<◌, List, ◌∷◌, Option, Some, None}
-use Rattle.uc_meaning.specs.declared.exec.Reason.{Reason}
-use Rattle.uc_meaning.specs.declared.exec.Reason.TheVariants as reason
+use Rattle.std.specs.Prelude.{◌≡◌, ℕ, ◌^◌, ◌<◌, ◌∷◌, Option, Some, None}
 use Rattle.uc_meaning.specs.declared.request.Asked.{Asked}
 use Rattle.uc_meaning.specs.declared.request.Request.{Request}
 use Rattle.uc_meaning.specs.declared.request.Request.TheVariants as ask
 use Rattle.uc_code.specs.Codes.{Code}
 use Rattle.uc_code.specs.Laid.{laid_of, chain}
-use Rattle.uc_frames.specs.declared.event.Event.{Event}
 use Rattle.uc_frames.specs.Keeping.{UnwoundBelow, Entry}
 use Rattle.uc_frames.specs.Machine.{Machine}
 use Rattle.uc_frames.specs.Weight.{waits}
 use Rattle.uc_step.specs.declared.stepped.Stepped.{Stepped}
 use Rattle.uc_step.specs.declared.stepped.Stepped.TheVariants.{Quiet, Tick, Ask, Unwind}
 use Rattle.uc_step.specs.Falls.{Keeps, Lowers, AskFalls}
+use Rattle.uc_ride.specs.declared.events.Caught.{Caught}
 use Rattle.uc_ride.specs.declared.events.Settled.{Settled}
 use Rattle.uc_ride.specs.declared.events.Settled.TheVariants as settled
 use Rattle.uc_ride.specs.declared.events.Unwound.{Unwound}
 use Rattle.uc_ride.specs.declared.events.Unwound.TheVariants as unwound
 
--- the event by which an activation is unwound, if it is one
-abbrev pub event_of : Option Reason → Option Event
-event_of (Some (reason.Event n x y)) = Some (record { number = n; x = x; y = y })
-event_of _ = None
+-- the row of what is caught
+abbrev pub row_of : Option Caught → Option ℕ
+row_of None = None
+row_of (Some c) = Some c.row
 
 -- these ends as those of an op
 

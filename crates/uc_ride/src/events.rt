@@ -1,6 +1,6 @@
 // What an event leads to: the handler that a resumption finds begins, or activations are unwound, up to a clean-up, a handler, or the end.
 
-ghost use Rattle.std.specs.Prelude.{◌≡◌, ℕ, IfOk, slice_get};
+ghost use Rattle.std.specs.Prelude.{◌≡◌, ℕ, IfOk, Some, slice_get};
 ghost use Rattle.uc_tree.specs.Source.{Source};
 ghost use Rattle.uc_meaning.specs.Quiet.{State};
 ghost use Rattle.uc_code.specs.Laid.{chain, laid_of};
@@ -14,7 +14,9 @@ ghost use Rattle.uc_frames.specs.Unwound.{LeavesNow, Unwinds};
 ghost use Rattle.uc_coroutine.specs.Outcomes.{Begins};
 ghost use Rattle.uc_step.specs.Falls.{FallsBelow};
 ghost use Rattle.uc_step.specs.Follow.{Follow};
-ghost use Rattle.uc_ride.specs.Led.{how_settled, how_ended, how_unwound, StepFalls, Entered, left_in, event_of as event_in};
+ghost use Rattle.uc_meaning.specs.declared.exec.Reason.TheVariants as reason;
+ghost use Rattle.uc_ride.specs.declared.events.Caught.{Caught};
+ghost use Rattle.uc_ride.specs.Led.{how_settled, how_ended, how_unwound, row_of, StepFalls, Entered, left_in};
 
 use std::alloc::AllocError;
 use uc_code::code::Code;
@@ -47,6 +49,13 @@ pub(crate) enum Unwound {
     On,
     Still,
     Asks(Asked),
+}
+
+/// An event that is caught, and the row of the handler that does.
+#[derive(Clone, Copy)]
+pub(crate) struct Caught {
+    pub row: u32,
+    pub event: Event,
 }
 
 /// Goes on from where a step leaves what an event leads to, up to its end.
@@ -145,61 +154,54 @@ fn unwind_once(code: &Code, work: &mut Work) -> Result<Unwound, AllocError>
 {
     let _ = work.elements();
     let frame = work.level();
-    let event = raised_event(work);
-    let row = catching(code, work, event);
-    if unwind(code, work, frame, row) {
+    let caught = catcher(code, work);
+    if unwind(code, work, frame, row_in(caught)) {
         let after = begin(code, work)?;
         Ok(after)
     } else {
-        match row {
+        match caught {
             None => {
                 let after = leave_on(code, work)?;
                 Ok(after)
             }
-            Some(row) => {
-                let event = event.unwrap_or(Event {
-                    number: 0,
-                    x: 0,
-                    y: 0,
-                });
-                handle(
-                    code,
-                    work,
-                    &Found::Handler { frame, row },
-                    event.number,
-                    event.x,
-                    event.y,
-                )?;
+            Some(Caught { row, event }) => {
+                let found = Found::Handler { frame, row };
+                handle(code, work, &found, event.number, event.x, event.y)?;
                 Ok(Unwound::On)
             }
         }
     }
 }
 
-// The event by which the running activation is unwound, if it is one.
-fn raised_event(work: &Work) -> Option<Event>
-    ensures { result ≡ event_in work.now.run.raised }
+// The row of the running activation that catches the event by which it is unwound.
+fn catcher(code: &Code, work: &Work) -> Option<Caught>
+    ensures row { row_of result ≡ catcher_in (event_by work.now.run.raised) code.now.rows (chain code.now.rows work.now.run.control) }
+    ensures event { (c : Caught) → result ≡ Some c → work.now.run.raised ≡ Some (reason.Event c.event.number c.event.x c.event.y) }
 {
     match work.raised() {
-        Some(Reason::Event { event, x, y }) => Some(Event {
-            number: event,
-            x,
-            y,
-        }),
+        Some(Reason::Event { event, x, y }) => match catching_row(code, work, event) {
+            None => None,
+            Some(row) => Some(Caught {
+                row,
+                event: Event {
+                    number: event,
+                    x,
+                    y,
+                },
+            }),
+        },
         Some(Reason::ReturnTo(_)) => None,
         Some(Reason::Destroyed) => None,
         None => None,
     }
 }
 
-// The row of the running activation that catches it.
-fn catching(code: &Code, work: &Work, event: Option<Event>) -> Option<u32>
-    requires { event ≡ event_in work.now.run.raised }
-    ensures { result ≡ catcher_in (event_by work.now.run.raised) code.now.rows (chain code.now.rows work.now.run.control) }
+fn row_in(caught: Option<Caught>) -> Option<u32>
+    ensures { result ≡ row_of caught }
 {
-    match event {
+    match caught {
         None => None,
-        Some(event) => catching_row(code, work, event.number),
+        Some(caught) => Some(caught.row),
     }
 }
 
@@ -223,11 +225,21 @@ fn begin(code: &Code, work: &mut Work) -> Result<Unwound, AllocError>
             Op::Unhandled => {
                 let end = end_main(work)?;
                 match end {
-                    MainEnd::Ended => Ok(Unwound::Asks(asks(code, instruction.line, work, Request::End))),
+                    MainEnd::Ended => Ok(Unwound::Asks(asks(
+                        code,
+                        instruction.line,
+                        work,
+                        Request::End,
+                    ))),
                     MainEnd::Returned => Ok(Unwound::On),
                     MainEnd::Unhandled => {
                         let number = RunFault::Unhandled.number();
-                        Ok(Unwound::Asks(asks(code, instruction.line, work, Request::Fault { number })))
+                        Ok(Unwound::Asks(asks(
+                            code,
+                            instruction.line,
+                            work,
+                            Request::Fault { number },
+                        )))
                     }
                 }
             }

@@ -5,6 +5,7 @@ ghost use Rattle.uc_tree.specs.declared.limits.TheConstants.{INPUT_BYTES, MAKE_M
 ghost use Rattle.uc_tree.specs.Resolve.{source_of};
 ghost use Rattle.uc_meaning.specs.Breaks.{breaks_of};
 ghost use Rattle.uc_built.specs.Accepted.{IsAccepted};
+ghost use Rattle.uc_code.specs.Laid.{laid_of};
 ghost use Rattle.uc_code.specs.Pace.{IsPaced};
 ghost use Rattle.uc_code.specs.Lowered.{Lowered};
 ghost use Rattle.uc_meaning.specs.Texts.{printed};

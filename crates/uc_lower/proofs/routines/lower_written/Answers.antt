@@ -48,7 +48,7 @@ returns-clause-room c =
     omega (arith, e, class, room)
 
 pub returns-then-is_plain-clause-code : goal.returns-then-is_plain-clause-code
-returns-then-is_plain-clause-code c = placed_at c.args.names.now c.args.one.now.routine.now c.args.number c.args.texts c.args.sites _ _ _ _ _ c.class_of-class.ensures c.in_ok-lower_routine.ensures.code
+returns-then-is_plain-clause-code c = placed_at c.args.names.now c.args.one.now.routine.now c.args.last c.args.number c.args.texts c.args.sites _ _ _ _ _ c.class_of-class.ensures c.in_ok-lower_routine.ensures.code
 
 pub returns-clause-code : goal.returns-clause-code
-returns-clause-code c = placed_at c.args.names.now c.args.one.now.routine.now c.args.number c.args.texts c.args.sites _ _ _ _ _ c.class_of-class.ensures c.in_ok-lower_builder.ensures.code
+returns-clause-code c = placed_at c.args.names.now c.args.one.now.routine.now c.args.last c.args.number c.args.texts c.args.sites _ _ _ _ _ c.class_of-class.ensures c.in_ok-lower_builder.ensures.code

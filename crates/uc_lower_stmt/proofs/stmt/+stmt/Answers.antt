@@ -3,7 +3,7 @@ use Rattle.uc_tree.specs.Expressions as tree
 use Rattle.std.proofs.lemmas.Bool.{and_parts}
 use Rattle.uc_tree.specs.Cells.{declared_cells, maybe_cells, stmt_cells}
 use Rattle.uc_tree.specs.Scopes.{alone_scopes, maybe_scopes, stmt_scopes}
-use Rattle.uc_tree.specs.Statements.{Break, Continue, If, OneStmt}
+use Rattle.uc_tree.specs.Statements.{Break, Continue, If, OneStmt, Raise, Throw}
 use Rattle.uc_tree.specs.StatementSizes.{maybe_stmt_size, stmt_size}
 use Rattle.uc_tree.specs.StatementViews.{maybe_at}
 use Rattle.uc_built.specs.BuiltForms.{is_built_maybe, is_built_stmt}
@@ -12,6 +12,7 @@ use Rattle.uc_lower_stmt.proofs.Parting.{arm_no_other}
 use Rattle.uc_code.specs.declared.rows.Mark.{Mark}
 use Rattle.uc_code.specs.Drafts.{Draft}
 use Rattle.uc_lower_stmt.proofs.Stating.{stmt_is, arm_empty, arm_unasked, arm_evaluate, arm_declare, arm_print, arm_print_together, arm_read, arm_block, arm_if, arm_while, arm_do, arm_for_stmt, arm_break, arm_continue, arm_return, built_at, exit_few, sizes_at_item}
+use Rattle.uc_lower_stmt.proofs.Raising.{arm_resumed, arm_thrown}
 use Rattle.uc_lower_stmt.proofs.Scoping.{arm_alone_scoped}
 use Rattle.uc_tree.specs.declared.limits.TheConstants.{FRAME_CELLS, PROGRAM_OPS, PROGRAM_SIZE}
 use Rattle.uc_tree.specs.Exits.{for_declares}
@@ -103,11 +104,23 @@ lower_stmt-returns-in-Empty t c = arm_empty c.args.names.now c.args.s.now _ _ (s
 pub lower_stmt-returns-in-Try : goal.lower_stmt-returns-in-Try
 lower_stmt-returns-in-Try t c = arm_unasked c.args.names.now c.args.s.now _ _ (stmt_is _ _ _ _ c.in-Try.is c.s.view_is) c.requires.built refl
 
-pub lower_stmt-returns-in-Throw : goal.lower_stmt-returns-in-Throw
-lower_stmt-returns-in-Throw t c = arm_unasked c.args.names.now c.args.s.now _ _ (stmt_is _ _ _ _ c.in-Throw.is c.s.view_is) c.requires.built refl
+pub lower_stmt-lower_throw-requires : goal.lower_stmt-lower_throw-requires
+lower_stmt-lower_throw-requires t c =
+    let is : Throw c.s.inside.pos c.in-Throw.raised ≡ c.args.s.now = stmt_is _ _ _ _ c.in-Throw.is c.s.view_is in
+    let size = ap (λ s. size_at s (objects_in c.args.out.now.marks)) is in
+    omega (arith, size, c.requires.room)
 
-pub lower_stmt-returns-in-Raise : goal.lower_stmt-returns-in-Raise
-lower_stmt-returns-in-Raise t c = arm_unasked c.args.names.now c.args.s.now _ _ (stmt_is _ _ _ _ c.in-Raise.is c.s.view_is) c.requires.built refl
+pub lower_stmt-returns-in_ok-lower_throw-in-Throw : goal.lower_stmt-returns-in_ok-lower_throw-in-Throw
+lower_stmt-returns-in_ok-lower_throw-in-Throw t c = arm_thrown c.args.names.now c.args.s.now c.s.inside.pos c.in-Throw.raised _ _ (stmt_is _ _ _ _ c.in-Throw.is c.s.view_is) c.in_ok-lower_throw-in-Throw.ensures
+
+pub lower_stmt-lower_raise-requires : goal.lower_stmt-lower_raise-requires
+lower_stmt-lower_raise-requires t c =
+    let is : Raise c.s.inside.pos c.in-Raise.raised ≡ c.args.s.now = stmt_is _ _ _ _ c.in-Raise.is c.s.view_is in
+    let size = ap (λ s. size_at s (objects_in c.args.out.now.marks)) is in
+    omega (arith, size, c.requires.room)
+
+pub lower_stmt-returns-in_ok-lower_raise-in-Raise : goal.lower_stmt-returns-in_ok-lower_raise-in-Raise
+lower_stmt-returns-in_ok-lower_raise-in-Raise t c = arm_resumed c.args.names.now c.args.s.now c.s.inside.pos c.in-Raise.raised _ _ (stmt_is _ _ _ _ c.in-Raise.is c.s.view_is) c.in_ok-lower_raise-in-Raise.ensures
 
 pub lower_stmt-returns-in-RaiseAt : goal.lower_stmt-returns-in-RaiseAt
 lower_stmt-returns-in-RaiseAt t c = arm_unasked c.args.names.now c.args.s.now _ _ (stmt_is _ _ _ _ c.in-RaiseAt.is c.s.view_is) c.requires.built refl

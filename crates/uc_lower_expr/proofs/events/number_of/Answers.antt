@@ -1,0 +1,7 @@
+use Rattle.std.proofs.Common.{rules, ◌≡◌, ◌+◌, ap, sym, ◌∙◌, arith}
+use Rattle.uc_lower_expr.specs.Events.{event_by}
+use Rattle.uc_lower_expr.proofs.Eventful.{event_few, event_many}
+use Rattle.uc_lower_expr.proofs.events.number_of.Goals as goal
+
+pub returns-else-place : goal.returns-else-place
+returns-else-place c = let over = c.if-place.false in event_many c.in-Some.place (omega (arith, over))
