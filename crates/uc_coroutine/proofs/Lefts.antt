@@ -88,7 +88,7 @@ module _ (source : Source) (code : Laid) where
     env_now : EnvironmentStands code (record old.env { frames = others old.env.frames; links = one_call_less old.run.counts old.env.links }) (record s.env { frames = others s.env.frames; links = one_call_less s.run.counts s.env.links })
     env_now = subst (λ b. EnvironmentStands code (record old.env { frames = others old.env.frames; links = one_call_less b old.env.links }) (record s.env { frames = others s.env.frames; links = one_call_less s.run.counts s.env.links })) (sym counts_is) (env_left code s.run.counts old.env s.env h.env)
 
-    returns : (m : Active) (ms : List Active) (c : quiet.Active) (cs : List quiet.Active) → CallerStands code m c → Lined (CallerStands code) ms cs → step source s ≡ quiet.return_step s.run.result (c ∷ cs) s → new ≡ left old.run.result (m ∷ ms) old → GoesTo source (Stands code) new s
+    returns : (m : Active) (ms : List Active) (c : quiet.Active) (cs : List quiet.Active) → CallerStands code m c → Lined (CallerStands code) ms cs → step source s ≡ quiet.return_step s.run.result (c ∷ cs) s → new ≡ left old.run.result (m ∷ ms) old → GoesTo source code (Stands code) new s
     returns m ms c cs k l w q = record {
       after = returned (Some s.run.result) s.run.counts c cs s.env;
       by = w;
@@ -96,7 +96,7 @@ module _ (source : Source) (code : Laid) where
           (record { run = handed_on code m c old.run.result s.run.result result_is k.stands; callers = l; env = env_now });
     }
 
-    passes : (why : Reason) (m : Active) (ms : List Active) (c : quiet.Active) (cs : List quiet.Active) → CallerStands code m c → Lined (CallerStands code) ms cs → step source s ≡ Goes (left_for s.run.counts (unwound (Unwind ∷ c.control) why s.run.result c) cs s.env) → new ≡ passed why old.run.result (m ∷ ms) old → GoesTo source (Unwinds code) new s
+    passes : (why : Reason) (m : Active) (ms : List Active) (c : quiet.Active) (cs : List quiet.Active) → CallerStands code m c → Lined (CallerStands code) ms cs → step source s ≡ Goes (left_for s.run.counts (unwound (Unwind ∷ c.control) why s.run.result c) cs s.env) → new ≡ passed why old.run.result (m ∷ ms) old → GoesTo source code (Unwinds code) new s
     passes why m ms c cs k l w q = record {
       after = left_for s.run.counts (unwound (Unwind ∷ c.control) why s.run.result c) cs s.env;
       by = w;
