@@ -72,20 +72,20 @@ pub(crate) fn settle(code: &Code, work: &mut Work, how: Stepped) -> Result<Settl
         Stepped::Throw(event) => {
             throw(work, event.number, event.x, event.y);
             let end = unwinds(code, work)?;
-            Ok(settled(end))
+            Ok(settled_by(end))
         }
         Stepped::Raise(event) => {
             let end = raise(code, work, event)?;
-            Ok(settled(end))
+            Ok(settled_by(end))
         }
         Stepped::Unwind => {
             let end = unwinds(code, work)?;
-            Ok(settled(end))
+            Ok(settled_by(end))
         }
         Stepped::Past(given) => {
             if return_past(work, given) {
                 let end = unwinds(code, work)?;
-                Ok(settled(end))
+                Ok(settled_by(end))
             } else {
                 let asked = asks(code, 0, work, Request::End);
                 Ok(Settled::Asks(asked))
@@ -98,7 +98,7 @@ pub(crate) fn settle(code: &Code, work: &mut Work, how: Stepped) -> Result<Settl
     }
 }
 
-fn settled(end: Option<Asked>) -> Settled
+fn settled_by(end: Option<Asked>) -> Settled
     ensures { how_settled result ≡ how_ended end }
 {
     match end {
