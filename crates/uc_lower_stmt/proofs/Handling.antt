@@ -31,7 +31,7 @@ use Rattle.uc_code.proofs.Sweeping.{closed_marks, closed_ops, like_closed}
 use Rattle.uc_lower_expr.proofs.Settled.{both}
 use Rattle.uc_lower_expr.specs.Added.{Adds, OpCode}
 use Rattle.uc_lower_stmt.specs.Guarding.{LowersFrom}
-use Rattle.uc_lower_stmt.specs.Handling.{EntersHandler, HandlerCode, LowersBody, LowersHandler, LowersHandlers, body_of, line_of, past_handlers, resumes}
+use Rattle.uc_lower_stmt.specs.Handling.{EntersHandler, HandlerCode, LowersBody, LowersHandler, LowersHandlers, past_handlers}
 use Rattle.uc_lower_stmt.specs.Marked.{objects_in}
 use Rattle.uc_lower_stmt.specs.Scoped.{Lowers, LowersStmts, scope_of, sizes_at}
 use Rattle.uc_lower_stmt.proofs.Counted.{behind_counted, counted, counted_as}
@@ -47,15 +47,15 @@ rows_are p (tree.MoreHandlers (tree.Handles pos kind event param brace body) hs)
 
 -- a handler that catches goes on by the pad
 
-pub arm_catches : (p : Program) (pad : ℕ) (h : tree.Handler) (d0 d1 d2 : Draft) → resumes h ≡ false → LowersStmts p (line_of h) (body_of h) d0 d1 → Adds 1 (OpCode (line_of h) (op.Jump pad)) d1 d2 → LowersBody p pad h d0 d2
-arm_catches p pad h d0 d1 d2 r w a =
-    let ss = stmts_meant p (body_of h) (scope_of d0) in
-    lowers_as (lowers_put (stmts_stable d0.marks (line_of h) ss) w a) refl
-    (λ code x z y. subst (λ (b : Bool). HandlerBy code b d0.marks pad (line_of h) (λ ns. StmtsAt code ns (line_of h) ss) x z) (sym r) y) (omega arith) (omega arith) (omega arith) refl
+pub arm_catches : (p : Program) (pad line : ℕ) (resumes : Bool) (body : tree.Stmts) (d0 d1 d2 : Draft) → resumes ≡ false → LowersStmts p line body d0 d1 → Adds 1 (OpCode line (op.Jump pad)) d1 d2 → LowersBody p pad resumes line body d0 d2
+arm_catches p pad line resumes body d0 d1 d2 r w a =
+    let ss = stmts_meant p body (scope_of d0) in
+    lowers_as (lowers_put (stmts_stable d0.marks line ss) w a) refl
+    (λ code x z y. subst (λ (b : Bool). HandlerBy code b d0.marks pad line (λ ns. StmtsAt code ns line ss) x z) (sym r) y) (omega arith) (omega arith) (omega arith) refl
 
 -- one of resumptions stands apart, and ends with its activation
 
-module _ (p : Program) (pad : ℕ) (h : tree.Handler) (d0 d1 d2 d3 new : Draft) (r : resumes h ≡ true) (oe : d1 ≡ opened (opening.Outward 0) d0) (k1 : Kept (laid_in d0) (laid_in d1)) (w : LowersStmts p (line_of h) (body_of h) d1 d2)
+module _ (p : Program) (pad line : ℕ) (resumes : Bool) (body : tree.Stmts) (d0 d1 d2 d3 new : Draft) (r : resumes ≡ true) (oe : d1 ≡ opened (opening.Outward 0) d0) (k1 : Kept (laid_in d0) (laid_in d1)) (w : LowersStmts p line body d1 d2)
     (ce : d3 ≡ closed 0 d2) (k3 : Kept (laid_in d2) (laid_in d3)) (g : Adds 1 (OpCode 0 op.Return) d3 new) where
   abbrev row : ℕ
   row = length d0.rows
@@ -65,9 +65,6 @@ module _ (p : Program) (pad : ℕ) (h : tree.Handler) (d0 d1 d2 d3 new : Draft) 
 
   abbrev inner : List Mark
   inner = mark.Outward 0 row ∷ d0.marks
-
-  abbrev line : ℕ
-  line = line_of h
 
   marks1 : d1.marks ≡ inner
   marks1 = ap (λ (d : Draft). d.marks) oe
@@ -90,14 +87,14 @@ module _ (p : Program) (pad : ℕ) (h : tree.Handler) (d0 d1 d2 d3 new : Draft) 
   keep2 : Kept (laid_in d2) code
   keep2 = kept_then (laid_in d2) (laid_in d3) code k3 g.kept
 
-  body_at : StmtsAt code inner line (stmts_meant p (body_of h) (scope_of d0)) (length d0.ops) (length d2.ops)
+  body_at : StmtsAt code inner line (stmts_meant p body (scope_of d0)) (length d0.ops) (length d2.ops)
   body_at =
-      subst (λ (s : Scope). StmtsAt code inner line (stmts_meant p (body_of h) s) (length d0.ops) (length d2.ops)) scope1 (
-      subst (λ (a : ℕ). StmtsAt code inner line (stmts_meant p (body_of h) (scope_of d1)) a (length d2.ops)) ops1 (
-      subst (λ (ms : List Mark). StmtsAt code ms line (stmts_meant p (body_of h) (scope_of d1)) (length d1.ops) (length d2.ops)) marks1 (
-      kept_piece (λ c. StmtsAt c d1.marks line (stmts_meant p (body_of h) (scope_of d1))) (stmts_stable d1.marks line (stmts_meant p (body_of h) (scope_of d1))) (laid_in d2) code (length d1.ops) (length d2.ops) (omega arith) keep2 w.code)))
+      subst (λ (s : Scope). StmtsAt code inner line (stmts_meant p body s) (length d0.ops) (length d2.ops)) scope1 (
+      subst (λ (a : ℕ). StmtsAt code inner line (stmts_meant p body (scope_of d1)) a (length d2.ops)) ops1 (
+      subst (λ (ms : List Mark). StmtsAt code ms line (stmts_meant p body (scope_of d1)) (length d1.ops) (length d2.ops)) marks1 (
+      kept_piece (λ c. StmtsAt c d1.marks line (stmts_meant p body (scope_of d1))) (stmts_stable d1.marks line (stmts_meant p body (scope_of d1))) (laid_in d2) code (length d1.ops) (length d2.ops) (omega arith) keep2 w.code)))
 
-  apart : ApartAt code d0.marks (λ ns. StmtsAt code ns line (stmts_meant p (body_of h) (scope_of d0))) (length d0.ops) (length new.ops)
+  apart : ApartAt code d0.marks (λ ns. StmtsAt code ns line (stmts_meant p body (scope_of d0))) (length d0.ops) (length new.ops)
   apart = record {
     row = row;
     body_end = length d2.ops;
@@ -116,10 +113,10 @@ module _ (p : Program) (pad : ℕ) (h : tree.Handler) (d0 d1 d2 d3 new : Draft) 
   rest : new ≡ record d0 { ops = new.ops; rows = d3.rows; settled = d3.settled; scopes = d2.scopes; names = d2.names; cells = d2.cells; hidden = d2.hidden; texts = d2.texts; sites = d2.sites }
   rest = g.rest ∙ ap (λ (d : Draft). let x : Draft = record d { ops = new.ops } in x) rest3
 
-  pub arm_resumes : LowersBody p pad h d0 new
+  pub arm_resumes : LowersBody p pad resumes line body d0 new
   arm_resumes =
       let same : objects_in d1.marks ≡ objects_in d0.marks = ap objects_in marks1 in
-      let size : sizes_at (body_of h) (objects_in d1.marks) ≡ sizes_at (body_of h) (objects_in d0.marks) = ap (sizes_at (body_of h)) same in
+      let size : sizes_at body (objects_in d1.marks) ≡ sizes_at body (objects_in d0.marks) = ap (sizes_at body) same in
       let scopes1 : d1.scopes ≡ d0.scopes = ap (λ (d : Draft). d.scopes) oe in
       let texts1 : d1.texts ≡ d0.texts = ap (λ (d : Draft). d.texts) oe in
       let cells1 : d1.cells ≡ d0.cells = ap (λ (d : Draft). d.cells) oe in
@@ -128,13 +125,13 @@ module _ (p : Program) (pad : ℕ) (h : tree.Handler) (d0 d1 d2 d3 new : Draft) 
       let cells2 : new.cells ≡ d2.cells = ap (λ (d : Draft). d.cells) rest in
       record {
         rest = subst (λ (d : Draft). d ≡ record d0 { ops = d.ops; rows = d.rows; settled = d.settled; scopes = d.scopes; names = d.names; cells = d.cells; hidden = d.hidden; texts = d.texts; sites = d.sites }) (sym rest) refl;
-        scope = ap scope_of g.rest ∙ ap scope_of (like_closed 0 d2 d2 d3 refl ce) ∙ w.scope ∙ ap (scope_behind p (body_of h)) scope1;
+        scope = ap scope_of g.rest ∙ ap scope_of (like_closed 0 d2 d2 d3 refl ce) ∙ w.scope ∙ ap (scope_behind p body) scope1;
         opened = (let x = w.opened in omega arith);
         kept = kept_then (laid_in d0) (laid_in d1) code k1 (kept_then (laid_in d1) (laid_in d2) code w.kept keep2);
         room = (let x = w.room in let y = g.room in omega (arith, size, ops1, ops3));
         texts = (let x = w.texts in omega arith);
         cells = (let x = w.cells in omega arith);
-        code = subst (λ (b : Bool). HandlerBy code b d0.marks pad line (λ ns. StmtsAt code ns line (stmts_meant p (body_of h) (scope_of d0))) (length d0.ops) (length new.ops)) (sym r) apart;
+        code = subst (λ (b : Bool). HandlerBy code b d0.marks pad line (λ ns. StmtsAt code ns line (stmts_meant p body (scope_of d0))) (length d0.ops) (length new.ops)) (sym r) apart;
       }
 
 -- a handler as a whole
@@ -159,7 +156,7 @@ names_begin p (Some name) (Some event) s ns e = shorter s.names _ ns e
         ap (λ (k : Known). k ∷ take (length xs) zs) f ∙ ap (λ (l : List Known). x ∷ l) (shorter xs y zs g)
 
 module _ (p : Program) (row pad : ℕ) (pos : Pos) (kind : HandlerKind) (event param : Option (List ℕ)) (brace : Pos) (body : tree.Stmts) (d0 d1 d2 d3 new : Draft)
-    (en : EntersHandler p row (tree.Handles pos kind event param brace body) d0 d1) (w : LowersBody p pad (tree.Handles pos kind event param brace body) d1 d2)
+    (en : EntersHandler p row (takes_resumptions kind) event param brace.line d0 d1) (w : LowersBody p pad (takes_resumptions kind) brace.line body d1 d2)
     (le : d3 ≡ record d2 { place = record d2.place { scope = d0.place.scope }; names = take (length d0.names) d2.names }) (he : new ≡ record d3 { handled = d0.handled }) where
   abbrev h : tree.Handler
   h = tree.Handles pos kind event param brace body
@@ -287,14 +284,11 @@ handlers_more p first pad (tree.Handles pos kind event param brace body) hs d0 d
 
 -- where a handler begins
 
-module _ (p : Program) (row taken number cell scope : ℕ) (taker : RowKind) (pos : Pos) (kind : HandlerKind) (event param : Option (List ℕ)) (brace : Pos) (body : tree.Stmts) (d0 d1 d2 d3 d4 d5 new : Draft)
-    (ke : taker ≡ kind_of (takes_resumptions kind)) (ne : number ≡ event_of (event_of_handler p event)) (few : IsNamed (event_of_handler p event))
+module _ (p : Program) (row taken number cell scope : ℕ) (taker : RowKind) (resumes : Bool) (event param : Option (List ℕ)) (line : ℕ) (d0 d1 d2 d3 d4 d5 new : Draft)
+    (ke : taker ≡ kind_of resumes) (ne : number ≡ event_of (event_of_handler p event)) (few : IsNamed (event_of_handler p event))
     (b1 : d1 ≡ record d0 { rows = d1.rows }) (h1 : HandlerAt (laid_in d1) row (record { kind = taker; event = number; rest = length (handlers d0.marks); entry = length d0.ops })) (k1 : KeptBut row (laid_in d0) (laid_in d1))
-    (e2 : d2 ≡ record d1 { hidden = d1.hidden + KEPT_CELLS }) (ce : cell ≡ d1.hidden) (p3 : Puts 6 (λ code. KeepsAt code brace.line cell) d2 d3) (e4 : d4 ≡ record d3 { handled = cell })
+    (e2 : d2 ≡ record d1 { hidden = d1.hidden + KEPT_CELLS }) (ce : cell ≡ d1.hidden) (p3 : Puts 6 (λ code. KeepsAt code line cell) d2 d3) (e4 : d4 ≡ record d3 { handled = cell })
     (e5 : d5 ≡ record d4 { place = record d4.place { scope = scope }; scopes = d4.scopes + 1 }) (e6 : new ≡ record d5 { names = (with_event p param event (scope_of d0)).names }) where
-  abbrev begun : tree.Handler
-  begun = tree.Handles pos kind event param brace body
-
   cell_is : cell ≡ d0.hidden
   cell_is = ce ∙ ap (λ (d : Draft). d.hidden) b1
 
@@ -312,7 +306,7 @@ module _ (p : Program) (row taken number cell scope : ℕ) (taker : RowKind) (po
   ops1 : length d2.ops ≡ length d0.ops
   ops1 = ap (λ (d : Draft). length d.ops) e2 ∙ ap (λ (d : Draft). length d.ops) b1
 
-  in_it : record (scope_of d0) { names = (with_event p param event (scope_of d0)).names; handled = d0.hidden; hidden = d0.hidden + KEPT_CELLS } ≡ in_handler p begun (scope_of d0)
+  in_it : record (scope_of d0) { names = (with_event p param event (scope_of d0)).names; handled = d0.hidden; hidden = d0.hidden + KEPT_CELLS } ≡ record (with_event p param event (scope_of d0)) { handled = d0.hidden; hidden = d0.hidden + KEPT_CELLS }
   in_it = sym (ap (λ (u : Scope). let x : Scope = record u { handled = d0.hidden; hidden = d0.hidden + KEPT_CELLS } in x) (event_names p param event (scope_of d0)))
 
   keep2 : Kept (laid_in d2) (laid_in d3)
@@ -321,8 +315,8 @@ module _ (p : Program) (row taken number cell scope : ℕ) (taker : RowKind) (po
   keep1 : Kept (laid_in d1) (laid_in d3)
   keep1 = subst (λ (d : Draft). Kept (laid_in d) (laid_in d3)) e2 keep2
 
-  pub entered : EntersHandler p row begun d0 new
-  entered = subst (λ (d : Draft). EntersHandler p row begun d0 d) (sym is) (record {
+  pub entered : EntersHandler p row resumes event param line d0 new
+  entered = subst (λ (d : Draft). EntersHandler p row resumes event param line d0 d) (sym is) (record {
     rest = refl;
     place = refl;
     scope = in_it;
@@ -332,5 +326,5 @@ module _ (p : Program) (row taken number cell scope : ℕ) (taker : RowKind) (po
     named = few;
     handler = subst (λ (k : RowKind). HandlerAt (laid_in d3) row (record { kind = k; event = event_of (event_of_handler p event); rest = length (handlers d0.marks); entry = length d0.ops })) ke
         (subst (λ (n : ℕ). HandlerAt (laid_in d3) row (record { kind = taker; event = n; rest = length (handlers d0.marks); entry = length d0.ops })) ne (keep1.handlers row _ h1));
-    keeps = subst (λ (n : ℕ). KeepsAt (laid_in d3) brace.line n (length d0.ops) (length d3.ops)) cell_is (subst (λ (a : ℕ). KeepsAt (laid_in d3) brace.line cell a (length d3.ops)) ops1 p3.code);
+    keeps = subst (λ (n : ℕ). KeepsAt (laid_in d3) line n (length d0.ops) (length d3.ops)) cell_is (subst (λ (a : ℕ). KeepsAt (laid_in d3) line cell a (length d3.ops)) ops1 p3.code);
   })

@@ -3,8 +3,9 @@ use Rattle.std.specs.Prelude.{◌≡◌, ℕ, ◌+◌, ◌*◌, ◌≤◌, Bool,
 use Rattle.uc_tree.specs.declared.limits.TheConstants.{OPS_FOR_SIZE}
 use Rattle.uc_tree.specs.Cells.{declared_cells, handler_cells, handlers_cells, stmts_cells}
 use Rattle.uc_tree.specs.Exits.{exits_handler, exits_handlers}
+use Rattle.uc_tree.specs.Hidden.{KEPT_CELLS}
 use Rattle.uc_tree.specs.Programs.{Program}
-use Rattle.uc_tree.specs.Resolve.{Scope, event_of_handler, handlers_meant, in_handler, scope_behind, scope_past_handler, stmts_meant, takes_resumptions}
+use Rattle.uc_tree.specs.Resolve.{Scope, event_of_handler, handlers_meant, in_handler, scope_behind, scope_past_handler, stmts_meant, takes_resumptions, with_event}
 use Rattle.uc_tree.specs.Scopes.{handler_scopes, handlers_scopes, stmts_scopes}
 use Rattle.uc_tree.specs.Statements as tree
 use Rattle.uc_tree.specs.StatementSizes.{handler_size, handlers_size, stmts_size}
@@ -25,35 +26,23 @@ HandlerCode p row pad ms (tree.Handles pos kind event param brace body) s code =
     NamedAt (event_of_handler p event) (HandledAt code row (handler_of (takes_resumptions kind) (event_of_handler p event) (length (handlers ms))) (Both (KeepsAt code brace.line s.hidden)
     (HandlerBy code (takes_resumptions kind) ms pad brace.line (λ ns. StmtsAt code ns brace.line (stmts_meant p body (in_handler p (tree.Handles pos kind event param brace body) s))))))
 
-abbrev pub line_of : tree.Handler → ℕ
-line_of (tree.Handles pos kind event param brace body) = brace.line
-
-abbrev pub body_of : tree.Handler → tree.Stmts
-body_of (tree.Handles pos kind event param brace body) = body
-
-abbrev pub resumes : tree.Handler → Bool
-resumes (tree.Handles pos kind event param brace body) = takes_resumptions kind
-
-abbrev pub event_by : Program → tree.Handler → Option ℕ
-event_by p (tree.Handles pos kind event param brace body) = event_of_handler p event
-
--- a draft in which the handler begins: its row has it, its event is kept, and its parameter is in scope
-pub record EntersHandler (p : Program) (row : ℕ) (h : tree.Handler) (old new : Draft) : Type 0 where
+-- a draft in which a handler of this line begins: its row has it, its event is kept, and its parameter is in scope
+pub record EntersHandler (p : Program) (row : ℕ) (resumes : Bool) (event param : Option (List ℕ)) (line : ℕ) (old new : Draft) : Type 0 where
   pub rest : new ≡ record old { place = new.place; ops = new.ops; rows = new.rows; settled = new.settled; scopes = new.scopes; names = new.names; handled = new.handled; hidden = new.hidden }
   pub place : new.place ≡ record old.place { scope = new.place.scope }
-  pub scope : scope_of new ≡ in_handler p h (scope_of old)
+  pub scope : scope_of new ≡ record (with_event p param event (scope_of old)) { handled = old.hidden; hidden = old.hidden + KEPT_CELLS }
   pub opened : new.scopes ≡ old.scopes + 1
   pub kept : KeptUnder row (laid_in old) (laid_in new)
   pub room : length new.ops ≤ length old.ops + 6
-  pub named : IsNamed (event_by p h)
-  pub handler : HandlerAt (laid_in new) row (handler_of (resumes h) (event_by p h) (length (handlers old.marks)) (length old.ops))
-  pub keeps : KeepsAt (laid_in new) (line_of h) old.hidden (length old.ops) (length new.ops)
+  pub named : IsNamed (event_of_handler p event)
+  pub handler : HandlerAt (laid_in new) row (handler_of resumes (event_of_handler p event) (length (handlers old.marks)) (length old.ops))
+  pub keeps : KeepsAt (laid_in new) line old.hidden (length old.ops) (length new.ops)
 
 -- the statements of a handler and what is done behind them
-abbrev pub LowersBody : Program → ℕ → tree.Handler → Draft → Draft → Type 0
-LowersBody p pad h old new =
-    Lowers (2 + OPS_FOR_SIZE * sizes_at (body_of h) (objects_in old.marks)) (stmts_size (body_of h)) (stmts_cells (body_of h) (declared_cells p)) (stmts_scopes (body_of h))
-    (λ code. HandlerBy code (resumes h) old.marks pad (line_of h) (λ ns. StmtsAt code ns (line_of h) (stmts_meant p (body_of h) (scope_of old)))) (scope_behind p (body_of h) (scope_of old)) old new
+abbrev pub LowersBody : Program → ℕ → Bool → ℕ → tree.Stmts → Draft → Draft → Type 0
+LowersBody p pad resumes line body old new =
+    Lowers (2 + OPS_FOR_SIZE * sizes_at body (objects_in old.marks)) (stmts_size body) (stmts_cells body (declared_cells p)) (stmts_scopes body)
+    (λ code. HandlerBy code resumes old.marks pad line (λ ns. StmtsAt code ns line (stmts_meant p body (scope_of old)))) (scope_behind p body (scope_of old)) old new
 
 abbrev pub LowersHandler : Program → ℕ → ℕ → tree.Handler → Draft → Draft → Type 0
 LowersHandler p row pad h old new =
