@@ -8,18 +8,13 @@ use Rattle.uc_code.specs.declared.rows.Mark.{Mark}
 use Rattle.uc_code.specs.declared.rows.Mark.TheVariants as mark
 use Rattle.uc_code.specs.declared.rows.RoutineCode.{RoutineCode}
 use Rattle.uc_code.specs.declared.rows.RowKind.TheVariants.{CatchResume}
-use Rattle.uc_code.specs.Laid.{Laid, under, handlers, guards}
+use Rattle.uc_code.specs.Laid.{Laid, handlers, guards}
 use Rattle.uc_code.specs.Pace.{behind, height, power, In, AllIn, Text, Beneath}
 use Rattle.uc_code.specs.Ranges.{OpAt, Nothing, One, Both, WholeAt, MainAt, Guarded, HandledAt, ApartAt, HandlerAt, clean_up}
 use Rattle.uc_code.specs.Lowered.{kind_of, handler_of, NamedAt}
-use Rattle.uc_code.proofs.Heights.{Outside, Plain, Each, Ahead, Around, around_less, clean_ahead, Below, beneath_of, paced_by, none, only, join, own_plain, jump_plain, jump_outside, jump_paced, Starts, burden_is, PadTo, pad_less, exit_paced, RowIn, row_in, Env, AllStay, stay_none, stay_one, stay_join}
-use Rattle.uc_code.proofs.Nesting.{under_drop}
+use Rattle.uc_code.proofs.Heights.{under_none, Outside, Plain, Each, Ahead, Around, around_less, clean_ahead, Below, beneath_of, paced_by, none, only, join, own_plain, jump_plain, jump_outside, jump_paced, Starts, burden_is, PadTo, pad_less, exit_paced, RowIn, row_in, Env, AllStay, stay_none, stay_one, stay_join}
 use Rattle.uc_code.proofs.Powers.{power_rises}
 use Rattle.uc_code.proofs.Pacing as pacing
-
-under_none : (ns : List ℕ) → under 0 ns ≡ []
-under_none [] = refl
-under_none (n ∷ ns) = under_drop 0 n ns (omega arith) ∙ under_none ns
 
 module _ (code : Laid) (table : List RoutineCode) (any : Bool) where
   abbrev Paces : List Mark → (ℕ → ℕ → Type 0) → Type 0
@@ -203,8 +198,8 @@ module _ (code : Laid) (table : List RoutineCode) (any : Bool) where
           let ns : List Mark = inner h.second.row in
           let k = (b ns).rises h.middle h.second.body_end h.second.body in
           let e = h.second.end in
-          join code table a h.middle z ((c ns).each q a h.middle h.first (around_less code table ms h.middle z (omega arith) r) (apart_body a z h p)) (
-          join code table h.middle h.second.body_end z ((b ns).each q h.middle h.second.body_end h.second.body (around_less code table ms h.second.body_end z (omega arith) r) (apart_returns a z h p))
+          join code table a h.middle z ((c ns).each q a h.middle h.first (refl, around_less code table ms h.middle z (omega arith) r) (apart_body a z h p)) (
+          join code table h.middle h.second.body_end z ((b ns).each q h.middle h.second.body_end h.second.body (refl, around_less code table ms h.second.body_end z (omega arith) r) (apart_returns a z h p))
           (only code table h.second.body_end z h.second.end (paced_by code table h.second.body_end op.Return 0 h.second.returns tt)));
       stays = λ from to floor pad a z h n i l m x. apart_stays from to floor a z h l (omega arith) x;
       text = λ e floor pad a z h x. apart_stays a z floor a z h (omega arith) (omega arith) x;
@@ -241,6 +236,11 @@ module _ (code : Laid) (table : List RoutineCode) (any : Bool) where
   beneath_guards entry first zero y ms h b = b
   beneath_guards entry first (suc n) y ms h b =
       ((λ r q e l. let f : r.rest ≡ length (handlers ms) = row_rest (first + n) h.0.ahead.handler r h.0.ahead.there q ∙ h.0.same in absurd (omega arith)), beneath_guards entry first n y ms h.1 b)
+
+  -- there are no fewer rows with them
+  guards_long : (first n : ℕ) (ms : List Mark) → length (handlers ms) ≤ length (handlers (guards first n ms))
+  guards_long first zero ms = omega arith
+  guards_long first (suc n) ms = let l = guards_long first n ms in omega arith
 
   -- the handlers of a guarded block, in order
   pub record AllHandle (ms : List Mark) (count : ℕ) (H : ℕ → ℕ → ℕ → ℕ → Type 0) : Type 0 where
@@ -308,7 +308,7 @@ module _ (code : Laid) (table : List RoutineCode) (any : Bool) where
               from = a;
               past = m;
               small = λ e few. let b = here.low in let c = power_rises (height code.ops a) (behind (length code.ops) a) b in rw (burden_is code table a e here.outside) (omega arith);
-              nest = λ e. nested resumes K k first pad a h.middle y h.first.handler.body (around_less code table ms h.middle z (omega arith) r) g e;
+              nest = λ e. (guards_long first count ms, nested resumes K k first pad a h.middle y h.first.handler.body (around_less code table ms h.middle z (omega arith) r) g e);
             };
             same = refl;
           } in

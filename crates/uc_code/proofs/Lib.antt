@@ -1,8 +1,9 @@
+pub mod Bases
 pub mod Called
 pub mod Closed
 pub mod Closing
 pub mod Exiting
-pub mod Guarding
+pub mod GuardRows
 pub mod Guards
 pub mod Handling
 pub mod Heights
@@ -20,5 +21,6 @@ pub mod Settled
 pub mod Spans
 pub mod Stable
 pub mod Sweeping
+pub mod Tabled
 pub mod Turning
 pub mod Ways

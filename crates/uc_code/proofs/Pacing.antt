@@ -7,7 +7,7 @@ use Rattle.uc_code.specs.declared.rows.Mark.{Mark}
 use Rattle.uc_code.specs.declared.rows.Mark.TheVariants as mark
 use Rattle.uc_code.specs.declared.rows.RoutineCode.{RoutineCode}
 use Rattle.uc_code.specs.Laid.{Laid, handlers, chain}
-use Rattle.uc_code.specs.Pace.{behind, climb_op, height, power, Test, test_by, In, Risks, Stays, Waits, Calling, Onward, Paced}
+use Rattle.uc_code.specs.Pace.{behind, climb_op, height, power, Test, test_by, In, Risks, Stays, Waits, Calling, High, Onward, Paced}
 use Rattle.uc_code.specs.Ranges.{OpAt, Nothing, Never, One, Risk, CallsBehind, Both, Fork, pads_at, begin_at, BackAt, Turns}
 use Rattle.uc_code.specs.Lowered.{Any}
 use Rattle.uc_code.proofs.Heights.{Outside, Plain, PacedAt, Each, Around, around_less, further_of, paced_by, none, only, join, within, onward_plain, onward_falls, own_plain, outside_next, jump_plain, jump_outside, jump_paced, zero_paced, tick_plain, tick_paced, back_paced, back_test_paced, Starts, calling, down, risky, waits_at, raises_at, high_waits, waiting_more, exit_paced, PadTo, height_is, Env, AllStay, stay_none, stay_one, stay_join, risks_in}
@@ -108,7 +108,7 @@ module _ (code : Laid) (table : List RoutineCode) (any : Bool) where
 
   -- a call stands behind a tick, or leads further on
 
-  high_paces : (ms : List Mark) (line r : ℕ) (o : Op) → ((n k h : ℕ) → climb_op n k o h ≡ behind n 0 + 2) → ((k : ℕ) (t : Option Test) → test_by o k t ≡ t) → ((at : ℕ) → Calling code table at r × Waits code table at → Paced code table at o) → ((from to floor at : ℕ) → In code table from to (at + 1) × Risks code table from to at → Stays code table from to floor at o) → Paces ms (Both (One code op.Tick line) (Risk code ms o line))
+  high_paces : (ms : List Mark) (line r : ℕ) (o : Op) → ((n k h : ℕ) → climb_op n k o h ≡ behind n 0 + 2) → ((k : ℕ) (t : Option Test) → test_by o k t ≡ t) → ((at : ℕ) → Calling code table at r × Waits code table at × High code table at → Paced code table at o) → ((from to floor at : ℕ) → In code table from to (at + 1) × Risks code table from to at → Stays code table from to floor at o) → Paces ms (Both (One code op.Tick line) (Risk code ms o line))
   high_paces ms line r o c t f g = record {
     rises = λ a z h. let e = h.first.end in let i = h.second.end in omega arith;
     plain = λ a z h p.
@@ -191,9 +191,9 @@ module _ (code : Laid) (table : List RoutineCode) (any : Bool) where
       risk_paces ms op.Raise line (λ n k h. refl) (λ k t. refl)
       (λ at w e u y p o. let l = p.low in raises_at code table at (risky code table at ms u w (omega arith) y) o p (omega arith) (omega arith))
       (λ from to floor at w e l x i r.
-          let f : Allowed true floor to = subst (λ b. Allowed b floor to) raised x in
-          let m = waiting_more code.ops at 0 (behind (length code.ops) to) (omega arith) in
-          (i, r, omega arith))
+      let f : Allowed true floor to = subst (λ b. Allowed b floor to) raised x in
+      let m = waiting_more code.ops at 0 (behind (length code.ops) to) (omega arith) in
+      (i, r, omega arith))
 
   -- the test where a block is unwound that is left as a whole
   pub handled_paces : (ms : List Mark) (line : ℕ) → Paces ms (Risk code ms op.Handled line)

@@ -8,7 +8,7 @@ unfolding power
 power_more zero = lit≤ tt
 power_more (suc n) = omega (arith, power_more n)
 
-step : (n : ℕ) → power (suc n) ≡ 2 ^ 34 * power n
+pub step : (n : ℕ) → power (suc n) ≡ 2 ^ 34 * power n
 unfolding power
 step n = refl
 

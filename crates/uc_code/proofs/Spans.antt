@@ -112,7 +112,7 @@ module _ (code : Laid) (table : List RoutineCode) (any : Bool) where
       let f : r.entry ≡ entry = ap (λ (x : HandlerRow). x.entry) (clean_row row entry r h q) ∙ h.entry in
       rw f (b e few)
 
-  row_nests : (row entry : ℕ) (ns : List ℕ) → HandlerAt code row (clean_up entry) → (r : HandlerRow) → slice_get code.rows row ≡ Some r → r.kind ≡ CatchResume → Beneath code table r.entry r.rest ns
+  row_nests : (row entry : ℕ) (ns : List ℕ) → HandlerAt code row (clean_up entry) → (r : HandlerRow) → slice_get code.rows row ≡ Some r → r.kind ≡ CatchResume → (r.rest ≤ length ns) × Beneath code table r.entry r.rest ns
   row_nests row entry ns h r q e =
       let f : h.row.kind ≡ CatchResume = ap (λ (x : HandlerRow). x.kind) (sym (clean_row row entry r h q)) ∙ e in
       clean_is_none (sym h.kind ∙ f)

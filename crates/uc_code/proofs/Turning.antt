@@ -15,7 +15,7 @@ use Rattle.uc_code.specs.Pace.{climb_op, height, power, Test, test_by, test_of, 
 use Rattle.uc_code.specs.Ranges.{OpAt, Nothing, One, Risk, CallsBehind, Both}
 use Rattle.uc_code.specs.Lowered.{spot_op, SpotAt, CalledAt, CallAt}
 use Rattle.uc_code.proofs.Powers.{power_less, power_rises, power_twice}
-use Rattle.uc_code.proofs.Heights.{Low, Each, paced_by, none, only, join, within, height_is, test_is, onward_low, onward_lower, Starts, Further, if_ge, waits_are, burdens_are, calling, risky_by}
+use Rattle.uc_code.proofs.Heights.{Low, Each, paced_by, none, only, join, within, height_is, test_is, onward_low, onward_lower, Starts, Further, if_ge, waits_are, burdens_are, calling, risky_by, burden_high}
 
 module _ (code : Laid) (table : List RoutineCode) (test turn : ℕ) (o : Op) where
   -- a place in a turn, of which this op is the test
@@ -142,6 +142,7 @@ module _ (code : Laid) (table : List RoutineCode) (test turn : ℕ) (o : Op) whe
         (only code table h.middle z h.second.end (paced_by code table h.middle (op.CallOn r) line h.second.here (
           calling code table h.middle r (λ c y. let v = s r c y in let w = v.low in (v, omega arith)),
           in_waits ms h.middle v (subst (λ n. chain code.rows n ≡ handlers ms) h.second.end h.second.under) i k (omega arith) (omega arith) (omega arith) (omega arith) (omega arith),
+          burden_high code table h.middle x,
         )));
   }
 

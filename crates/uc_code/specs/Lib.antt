@@ -12,3 +12,4 @@ pub mod Pace
 pub mod Puts
 pub mod Ranges
 pub mod Silent
+pub mod Tables

@@ -434,6 +434,7 @@ impl Draft {
             texts,
             routines: self.routines,
             classes,
+            table: None,
         }
     }
 }

@@ -12,3 +12,4 @@ pub mod op;
 mod operands;
 pub mod raising;
 pub mod rows;
+mod table;

@@ -1,5 +1,10 @@
+pub mod Cleaned
+pub mod Coming
 pub mod Depths
+pub mod Guards
+pub mod Named
 pub mod Newest
 pub mod Positions
 pub mod Slots
+pub mod Weights
 pub mod Zeros

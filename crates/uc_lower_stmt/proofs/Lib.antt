@@ -8,6 +8,7 @@ pub mod Filling
 pub mod Fors
 pub mod Growth
 pub mod Guarding
+pub mod Handling
 pub mod Joined
 pub mod Kept
 pub mod Laying
@@ -21,4 +22,5 @@ pub mod Routines
 pub mod Scoping
 pub mod Shaping
 pub mod Stating
+pub mod Tried
 pub mod Turned

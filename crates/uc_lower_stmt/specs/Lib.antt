@@ -1,6 +1,7 @@
 pub mod Blocks
 pub mod Control
 pub mod Guarding
+pub mod Handling
 pub mod Listed
 pub mod Marked
 pub mod Objects

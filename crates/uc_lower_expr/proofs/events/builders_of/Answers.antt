@@ -27,7 +27,7 @@ loop-place-preserved c =
     let owned : slice_get ns k ≡ Some (get_or ns k 0) = slice_get-get_or ns k 0 (omega (arith, within, long)) in
     let there : slice_get (map held xs) k ≡ Some c.index-routines-place.result.now = slice_get-map held xs k ∙ ap (option_map held) (got xs k c.index-routines-place.result within c.index-routines-place.is) in
     let noted = c.in_ok-note_builder.ensures in
-    (builders_long _ _ _ _ _ noted c.loop-place.invariant.0, λ ds a b. builders_more k c.index-routines-place.result.now (get_or ns k 0) ds c.loop-place.builders c.note_builder.new.builders (next_is ds k c.index-routines-place.result.now (get_or ns k 0) (ap (λ rs. slice_get rs k) a ∙ there) (ap (λ os. slice_get os k) b ∙ owned)) noted (c.loop-place.invariant.1 ds a b))
+    (builders_long (get_or ns k 0) c.index-routines-place.result.now.sig k c.loop-place.builders c.note_builder.new.builders noted c.loop-place.invariant.0, λ ds a b. builders_more k c.index-routines-place.result.now (get_or ns k 0) ds c.loop-place.builders c.note_builder.new.builders (next_is ds k c.index-routines-place.result.now (get_or ns k 0) (ap (λ rs. slice_get rs k) a ∙ there) (ap (λ os. slice_get os k) b ∙ owned)) noted (c.loop-place.invariant.1 ds a b))
 
 pub returns : goal.returns
 returns c = λ ds a b.

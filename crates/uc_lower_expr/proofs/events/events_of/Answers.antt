@@ -12,7 +12,7 @@ loop-place-init c = events_none (classes_of c.args.sizes.now.items) c.in_ok-even
 pub loop-place-preserved : goal.loop-place-preserved
 loop-place-preserved c =
     let there : class_at c.args.sizes.now c.loop-place.place ≡ Some c.in-Some.class.now = sym c.in-Some.ensures in
-    events_next (classes_of c.args.sizes.now.items) c.loop-place.place c.in-Some.class.now c.loop-place.known c.in_ok-known.known c.loop-place.events c.note_event.new.events there c.in_ok-known.ensures c.loop-place.invariant
+    events_next (classes_of c.args.sizes.now.items) c.loop-place.place c.in-Some.class.now c.loop-place.known c.in_ok-known-in-Some.known c.loop-place.events c.note_event.new.events there c.in_ok-known-in-Some.ensures c.loop-place.invariant
 
 pub returns : goal.returns
 returns c =

@@ -3,5 +3,5 @@ use Rattle.uc_lower_expr.specs.Events.{event_by}
 use Rattle.uc_lower_expr.proofs.Eventful.{event_few, event_many}
 use Rattle.uc_lower_expr.proofs.events.number_of.Goals as goal
 
-pub returns-else-in-Some : goal.returns-else-in-Some
-returns-else-in-Some c = event_many c.in-Some.place (omega arith)
+pub returns-else-place : goal.returns-else-place
+returns-else-place c = let over = c.if-place.false in event_many c.in-Some.place (omega (arith, over))

@@ -1,0 +1,4 @@
+pub mod Finding
+pub mod Handling
+pub mod Keeping
+pub mod Meeting
