@@ -1,21 +1,25 @@
 -- The handlers of guarded blocks, as they are added to a draft.
 use Rattle.std.proofs.Common.{◌≡◌, ℕ, suc, ◌+◌, ◌*◌, ◌≤◌, Bool, true, false, List, [], ◌∷◌, ◌++◌, Option, Some, None, drop, take, length, refl, ap, sym, subst, ◌∙◌, arith}
-use Rattle.uc_tree.specs.declared.limits.TheConstants.{OPS_FOR_SIZE}
+use Rattle.std.specs.Prelude.{if◌then◌else◌, nat_le, option_and_then, unwrap_or}
+use Rattle.std.proofs.lemmas.Bool.{leb-true}
+use Rattle.uc_tree.specs.declared.limits.TheConstants.{FIRST_EVENT, LAST_EVENT, OPS_FOR_SIZE, UNHANDLED}
+use Rattle.uc_tree.specs.Names.{same_name}
 use Rattle.uc_tree.specs.declared.kinds.HandlerKind.{HandlerKind}
 use Rattle.uc_tree.specs.declared.kinds.Known.{Known}
 use Rattle.uc_tree.specs.declared.kinds.Place.{Place}
 use Rattle.uc_tree.specs.declared.pos.Pos.{Pos}
-use Rattle.uc_tree.specs.Cells.{declared_cells, stmts_cells}
+use Rattle.uc_tree.specs.Cells.{classes_of, declared_cells, stmts_cells}
 use Rattle.uc_tree.specs.Exits.{exits_handlers}
 use Rattle.uc_tree.specs.Gathered.{gathered_all}
 use Rattle.uc_tree.specs.Hidden.{KEPT_CELLS, hidden_in_all}
-use Rattle.uc_tree.specs.Numbering.{own_sites, own_texts}
+use Rattle.uc_tree.specs.Numbering.{at_most, event_names, own_sites, own_texts, place_from, unhandled_name}
 use Rattle.uc_tree.specs.Programs.{Program}
-use Rattle.uc_tree.specs.Resolve.{Scope, event_of_handler, handlers_meant, in_handler, scope_behind, scope_past_all, scope_past_handler, stmts_meant, takes_resumptions, with_event}
+use Rattle.uc_tree.specs.Resolve.{Scope, event_of_handler, number_of_event, handlers_meant, in_handler, scope_behind, scope_past_all, scope_past_handler, stmts_meant, takes_resumptions, with_event}
 use Rattle.uc_tree.specs.Scopes.{stmts_scopes}
 use Rattle.uc_tree.specs.Statements as tree
 use Rattle.uc_tree.specs.StatementSizes.{stmts_size}
 use Rattle.uc_code.specs.declared.op.Op.TheVariants as op
+use Rattle.uc_code.specs.declared.rows.HandlerRow.{HandlerRow}
 use Rattle.uc_code.specs.declared.rows.Mark.{Mark}
 use Rattle.uc_code.specs.declared.rows.Mark.TheVariants as mark
 use Rattle.uc_code.specs.declared.rows.RowKind.{RowKind}
@@ -247,7 +251,7 @@ handler_code_stable p row pad ms (tree.Handles pos kind event param brace body) 
 
 -- all handlers of a block
 
-from_as : {f n k c o m j b q : ℕ} {S T : Laid → ℕ → ℕ → Type 0} {s t : Scope} {old new : Draft} → LowersFrom f n k c o S s old new → s ≡ t → ((code : Laid) (a z : ℕ) → S code a z → T code a z) → n ≤ m → k ≤ j → c ≤ b → o ≡ q → LowersFrom f m j b q T t old new
+pub from_as : {f n k c o m j b q : ℕ} {S T : Laid → ℕ → ℕ → Type 0} {s t : Scope} {old new : Draft} → LowersFrom f n k c o S s old new → s ≡ t → ((code : Laid) (a z : ℕ) → S code a z → T code a z) → n ≤ m → k ≤ j → c ≤ b → o ≡ q → LowersFrom f m j b q T t old new
 from_as {f} {n} {k} {c} {o} {m} {j} {b} {q} {S} {T} {s} {t} {old} {new} h e g l1 l2 l3 l4 = record {
   rest = h.rest;
   scope = h.scope ∙ e;
@@ -281,6 +285,30 @@ handlers_more p first pad (tree.Handles pos kind event param brace body) hs d0 d
       second = subst (λ (t : Scope). HandlersAt code ms first pad (handlers_meant p hs t) x.middle z) w.scope (subst (λ (ns : List Mark). HandlersAt code ns first pad (handlers_meant p hs (scope_of d1)) x.middle z) marks1 x.second);
     })
     (omega (arith, exits1)) (omega arith) (omega arith) refl
+
+pub rows_alone : (old new : Draft) (rows : List HandlerRow) → new ≡ record old { rows = rows } → new ≡ record old { rows = new.rows }
+rows_alone old new rows e = subst (λ (d : Draft). d ≡ record old { rows = d.rows }) (sym e) refl
+
+-- an event has a number less than that which stands for every one
+
+number_few : (o : Option ℕ) → unwrap_or (option_and_then (at_most LAST_EVENT) o) 0 ≤ LAST_EVENT
+number_few None = omega arith
+number_few (Some n) = by_case (nat_le n LAST_EVENT) refl
+  where
+    by_case : (b : Bool) → nat_le n LAST_EVENT ≡ b → unwrap_or (if b then Some n else None) 0 ≤ LAST_EVENT
+    by_case true e = leb-true n LAST_EVENT e
+    by_case false e = omega arith
+
+event_few : (p : Program) (name : List ℕ) → number_of_event p name ≤ LAST_EVENT
+event_few p name = by_case (same_name unhandled_name name)
+  where
+    by_case : (b : Bool) → unwrap_or (if b then Some UNHANDLED else option_and_then (at_most LAST_EVENT) (place_from FIRST_EVENT (event_names (classes_of p.items)) name)) 0 ≤ LAST_EVENT
+    by_case true = omega arith
+    by_case false = number_few (place_from FIRST_EVENT (event_names (classes_of p.items)) name)
+
+pub named_few : (p : Program) (event : Option (List ℕ)) → IsNamed (event_of_handler p event)
+named_few p None = record { few = λ n e. absurd (cc) }
+named_few p (Some name) = record { few = λ n e. let is : number_of_event p name ≡ n = cc in let l = event_few p name in omega (arith, is, l) }
 
 -- where a handler begins
 

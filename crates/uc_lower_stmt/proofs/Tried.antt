@@ -1,9 +1,17 @@
 -- A guarded block and its handlers, as they are added to a draft.
-use Rattle.std.proofs.Common.{◌≡◌, ℕ, ◌+◌, ◌*◌, ◌≤◌, ◌<◌, List, [], ◌∷◌, length, refl, ap, sym, subst, ◌∙◌, arith}
+use Rattle.std.proofs.Common.{◌≡◌, ℕ, ◌+◌, ◌*◌, ◌≤◌, ◌<◌, List, [], ◌∷◌, length, take, refl, ap, sym, subst, ◌∙◌, arith}
 use Rattle.std.proofs.lemmas.Option.{slice_get_within}
-use Rattle.uc_tree.specs.Resolve.{Scope}
+use Rattle.uc_tree.specs.declared.limits.TheConstants.{OPS_FOR_SIZE}
+use Rattle.uc_tree.specs.Cells.{declared_cells, handlers_cells, stmts_cells}
+use Rattle.uc_tree.specs.Exits.{exits_handlers}
+use Rattle.uc_tree.specs.Programs.{Program}
+use Rattle.uc_tree.specs.Resolve.{Scope, handlers_meant, scope_behind, scope_past_all, stmts_meant}
+use Rattle.uc_tree.specs.Scopes.{handlers_scopes, stmts_scopes}
 use Rattle.uc_tree.specs.Source as source
 use Rattle.uc_tree.specs.Source.{Stmts}
+use Rattle.uc_tree.specs.Statements as tree
+use Rattle.uc_tree.specs.StatementSizes.{handlers_size, stmts_size}
+use Rattle.uc_code.specs.declared.draft_parts.Outside.{Outside}
 use Rattle.uc_code.specs.declared.op.Op.{Op}
 use Rattle.uc_code.specs.declared.op.Op.TheVariants as op
 use Rattle.uc_code.specs.declared.rows.Mark.{Mark}
@@ -16,9 +24,15 @@ use Rattle.uc_code.proofs.Stable.{kept_piece, kept_then, part}
 use Rattle.uc_lower_expr.specs.Added.{Adds, OpCode}
 use Rattle.uc_code.specs.Guarding.{ClosesGuards, OpensGuards}
 use Rattle.uc_lower_stmt.specs.Guarding.{LowersFrom}
-use Rattle.uc_lower_stmt.specs.Scoped.{Lowers, scope_of}
-use Rattle.uc_lower_stmt.proofs.Guarding.{kept_under, under_same}
+use Rattle.uc_lower_stmt.specs.Handling.{LowersHandlers, LowersTry, past_handlers}
+use Rattle.uc_lower_stmt.specs.Marked.{objects_in}
+use Rattle.uc_lower_stmt.specs.Scoped.{Lowers, LowersStmts, scope_of, sizes_at}
+use Rattle.uc_lower_stmt.proofs.Counted.{behind_counted}
+use Rattle.uc_lower_stmt.proofs.Guarding.{guards_objects, kept_under, under_same}
+use Rattle.uc_lower_stmt.proofs.Handling.{from_as, rows_are}
+use Rattle.uc_lower_stmt.proofs.Joined.{lowers_as}
 use Rattle.uc_lower_stmt.proofs.Kept.{handlers_stable, stmts_stable}
+use Rattle.uc_lower_stmt.proofs.Scoping.{back_out, lowers_scoped, opened}
 
 -- what was laid out before a place stays where the op at the place is another one
 kept_patch : (old now : Laid) (at : ℕ) (o : Op) → Kept old now → length old.ops ≤ at → Kept old (record { ops = patched now.ops at o; rows = now.rows })
@@ -212,3 +226,37 @@ module _ (line start first end n nn m k c o j b q : ℕ) (hs : source.Handlers) 
         code = subst (λ (z : ℕ). Guarded (laid_in new) line ms (handler_rows hs) (λ ns. StmtsAt (laid_in new) ns line ss) (λ f pad. HandlersAt (laid_in new) ms f pad hs) a z) (sym long_new)
             (subst (λ (code : Laid). Guarded code line ms (handler_rows hs) (λ ns. StmtsAt code ns line ss) (λ f pad. HandlersAt code ms f pad hs) a (length now.ops)) (sym laid_new) guarded_at);
       }
+
+-- a statement of one
+
+pub arm_try : (p : Program) (line brace start first end n : ℕ) (body : tree.Stmts) (hs : tree.Handlers) (out : Outside) (d0 d1 d2 d3 b1 b2 d4 d5 d6 d7 new : Draft) → start ≡ length d0.ops → first ≡ length d2.rows → n ≡ length (tree.handler_list hs)
+    → Adds 1 (OpCode line (op.Jump (start + 2))) d0 d1 → Adds 1 (OpCode line (op.Jump 0)) d1 d2 → OpensGuards n d2 d3
+    → out ≡ record { names = length d3.names; scope = d3.place.scope } → b1 ≡ opened d3 → LowersStmts p brace body b1 b2 → d4 ≡ record b2 { place = record b2.place { scope = out.scope }; names = take out.names b2.names }
+    → ((f : ℕ) (ns : List Mark) → d4.marks ≡ guards f n ns → ClosesGuards f n ns d4 d5) → Adds 1 (OpCode line (op.Jump (start + 1))) d5 d6 → LowersHandlers p first (start + 1) hs d6 d7
+    → end ≡ length d7.ops → new ≡ record d7 { ops = patched d7.ops (start + 1) (op.Jump end) } → LowersTry p line brace body hs d0 new
+arm_try p line brace start first end n body hs out d0 d1 d2 d3 b1 b2 d4 d5 d6 d7 new st fe ne g1 g2 og oe e1 h e4 cg g6 w ee pt =
+    let s : Scope = scope_of d0 in
+    let past : Scope = scope_past_all p body s in
+    let marks2 : d2.marks ≡ d0.marks = ap (λ (d : Draft). d.marks) g2.rest ∙ ap (λ (d : Draft). d.marks) g1.rest in
+    let marks3 : d3.marks ≡ guards (length d2.rows) n d2.marks = ap (λ (d : Draft). d.marks) og.rest in
+    let scope3 : scope_of d3 ≡ s = ap scope_of og.rest ∙ ap scope_of g2.rest ∙ ap scope_of g1.rest in
+    let objects3 : objects_in d3.marks ≡ objects_in d0.marks = ap objects_in marks3 ∙ guards_objects (length d2.rows) n d2.marks ∙ ap objects_in marks2 in
+    let size3 = ap (sizes_at body) objects3 in
+    let inner : LowersStmts p brace body (opened d3) b2 = subst (λ (d : Draft). LowersStmts p brace body d b2) e1 h in
+    let one = lowers_scoped out d4 oe (back_out p body (scope_of d3)) inner e4 in
+    let left : record (scope_behind p body (scope_of d3)) { names = d3.names } ≡ past = ap (λ (x : Scope). let y : Scope = record x { names = d3.names } in y) (behind_counted p body (scope_of d3)) ∙ ap (scope_past_all p body) scope3 in
+    let ss : Stmts = source.Then (source.Block brace (stmts_meant p body s)) source.Nil in
+    let block : Lowers (OPS_FOR_SIZE * sizes_at body (objects_in d3.marks)) (stmts_size body) (stmts_cells body (declared_cells p)) (1 + stmts_scopes body) (λ code. StmtsAt code d3.marks line ss) past d3 d4 =
+    lowers_as one left (λ code a z x. record { middle = z; first = subst (λ (t : Scope). StmtsAt code d3.marks brace (stmts_meant p body t) a z) scope3 x; second = record { end = refl } }) (omega arith) (omega arith) (omega arith) refl in
+    let marks4 : d4.marks ≡ guards (length d2.rows) n d2.marks = ap (λ (d : Draft). d.marks) block.rest ∙ marks3 in
+    let closes = cg (length d2.rows) d2.marks marks4 in
+    let scope6 : scope_of d6 ≡ past = ap scope_of g6.rest ∙ ap scope_of closes.rest ∙ block.scope in
+    let objects6 : objects_in d6.marks ≡ objects_in d0.marks = ap (λ (d : Draft). objects_in d.marks) g6.rest ∙ ap (λ (d : Draft). objects_in d.marks) closes.rest ∙ ap objects_in marks2 in
+    let exits6 = ap (exits_handlers hs) objects6 in
+    let sources : source.Handlers = handlers_meant p hs past in
+    let m : ℕ = OPS_FOR_SIZE * (handlers_size hs + exits_handlers hs (objects_in d6.marks)) in
+    let laid : LowersFrom first m (handlers_size hs) (handlers_cells hs (declared_cells p)) (handlers_scopes hs) (λ code. HandlersAt code d6.marks first (start + 1) sources) (past_handlers p hs past) d6 d7 =
+    from_as w (ap (past_handlers p hs) scope6) (λ code a z x. subst (λ (t : Scope). HandlersAt code d6.marks first (start + 1) (handlers_meant p hs t) a z) scope6 x) (omega arith) (omega arith) (omega arith) refl in
+    let all = arm_guarded line start first end n (OPS_FOR_SIZE * sizes_at body (objects_in d3.marks)) m (stmts_size body) (stmts_cells body (declared_cells p)) (1 + stmts_scopes body) (handlers_size hs) (handlers_cells hs (declared_cells p)) (handlers_scopes hs)
+        sources ss past (past_handlers p hs past) d0 d1 d2 d3 d4 d5 d6 d7 new st fe (ne ∙ sym (rows_are p hs past)) g1 g2 og block cg g6 laid ee pt in
+    lowers_as all refl (λ code a z x. x) (omega (arith, size3, exits6)) (omega arith) (omega arith) refl

@@ -1,18 +1,20 @@
 -- What the handlers of a guarded block do to a draft.
-use Rattle.std.specs.Prelude.{◌≡◌, ℕ, ◌+◌, ◌*◌, ◌≤◌, Bool, List, Option, length}
+use Rattle.std.specs.Prelude.{◌≡◌, ℕ, ◌+◌, ◌*◌, ◌≤◌, Bool, true, ◌&&◌, List, Option, length}
 use Rattle.uc_tree.specs.declared.limits.TheConstants.{OPS_FOR_SIZE}
 use Rattle.uc_tree.specs.Cells.{declared_cells, handler_cells, handlers_cells, stmts_cells}
 use Rattle.uc_tree.specs.Exits.{exits_handler, exits_handlers}
 use Rattle.uc_tree.specs.Hidden.{KEPT_CELLS}
 use Rattle.uc_tree.specs.Programs.{Program}
-use Rattle.uc_tree.specs.Resolve.{Scope, event_of_handler, handlers_meant, in_handler, scope_behind, scope_past_handler, stmts_meant, takes_resumptions, with_event}
+use Rattle.uc_tree.specs.Resolve.{Scope, event_of_handler, handlers_meant, in_handler, scope_behind, scope_past_all, scope_past_handler, stmts_meant, takes_resumptions, with_event}
 use Rattle.uc_tree.specs.Scopes.{handler_scopes, handlers_scopes, stmts_scopes}
+use Rattle.uc_tree.specs.Source.{Block, Nil, Then, Try}
 use Rattle.uc_tree.specs.Statements as tree
 use Rattle.uc_tree.specs.StatementSizes.{handler_size, handlers_size, stmts_size}
+use Rattle.uc_built.specs.BuiltForms.{are_built}
 use Rattle.uc_code.specs.declared.rows.Mark.{Mark}
 use Rattle.uc_code.specs.Drafts.{Draft}
 use Rattle.uc_code.specs.Laid.{Laid, handlers, laid_in}
-use Rattle.uc_code.specs.Lowered.{HandlerBy, HandlersAt, IsNamed, KeepsAt, NamedAt, StmtsAt, handler_of}
+use Rattle.uc_code.specs.Lowered.{EventAt, HandlerBy, HandlersAt, IsNamed, KeepsAt, NamedAt, StmtsAt, handler_of}
 use Rattle.uc_code.specs.Ranges.{Both, HandledAt, HandlerAt}
 use Rattle.uc_lower_stmt.specs.Guarding.{KeptUnder, LowersFrom}
 use Rattle.uc_lower_stmt.specs.Marked.{objects_in}
@@ -58,3 +60,18 @@ abbrev pub LowersHandlers : Program → ℕ → ℕ → tree.Handlers → Draft 
 LowersHandlers p first pad hs old new =
     LowersFrom first (OPS_FOR_SIZE * (handlers_size hs + exits_handlers hs (objects_in old.marks))) (handlers_size hs) (handlers_cells hs (declared_cells p)) (handlers_scopes hs)
     (λ code. HandlersAt code old.marks first pad (handlers_meant p hs (scope_of old))) (past_handlers p hs (scope_of old)) old new
+
+-- a guarded block of this line, whose own block has that of its brace
+abbrev pub LowersTry : Program → ℕ → ℕ → tree.Stmts → tree.Handlers → Draft → Draft → Type 0
+LowersTry p line brace body hs old new =
+    Lowers (OPS_FOR_SIZE * (1 + sizes_at body (objects_in old.marks) + (handlers_size hs + exits_handlers hs (objects_in old.marks)))) (stmts_size body + handlers_size hs)
+    (stmts_cells body (declared_cells p) + handlers_cells hs (declared_cells p)) (1 + stmts_scopes body + handlers_scopes hs)
+    (λ code. EventAt code old.marks (Try line (Then (Block brace (stmts_meant p body (scope_of old))) Nil) (handlers_meant p hs (scope_past_all p body (scope_of old))))) (past_handlers p hs (scope_past_all p body (scope_of old))) old new
+
+-- handlers of forms that are built
+abbrev pub is_built_handler : tree.Handler → Bool
+is_built_handler (tree.Handles pos kind event param brace body) = are_built body
+
+abbrev pub are_built_handlers : tree.Handlers → Bool
+are_built_handlers tree.NoHandlers = true
+are_built_handlers (tree.MoreHandlers h hs) = is_built_handler h && are_built_handlers hs

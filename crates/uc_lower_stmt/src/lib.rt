@@ -3,6 +3,7 @@
 
 pub mod block;
 pub mod declare;
+pub mod guard;
 pub mod objects;
 pub mod print;
 pub mod raise;
