@@ -224,6 +224,7 @@ module _ (opts : Options) (alone : opts.processors ≡ 1) (input : List ℕ) (ol
           since = ap (used 0) e ∙ used_all es old h.unseen ∙ ap (λ n. n + ticks) t.since ∙ sym h.since;
           all = ap all_ticks e ∙ all_then h t;
         };
+        answered = λ y q. i;
         longer = λ y q. omega (arith, l, m, some);
         room = λ y q. omega (arith, l, m, room);
         below = λ y q. lt;
@@ -235,6 +236,7 @@ module _ (opts : Options) (alone : opts.processors ≡ 1) (input : List ℕ) (ol
       record {
         kept = λ r t. over (fitted opts old 0 0 (es ++ tick_limit opts tally.all)) (act_then h r t) e d;
         tells = λ y q. absurd (cc q);
+        answered = λ y q. absurd (cc q);
         longer = λ y q. absurd (cc q);
         room = λ y q. absurd (cc q);
         below = λ y q. absurd (cc q);
@@ -430,6 +432,7 @@ module _ (opts : Options) (alone : opts.processors ≡ 1) (input : List ℕ) (ol
             let f : Ready mid = subst Ready (sym e) (sliced ticks old r) in
             given (slice ∷ []) mid answer.Go refl (λ sites. slice_act r t sites ∙ slice_whole lt room) (slice_takes_none ticks 0) e f (λ sites. ap (answer_to sites 0) e ∙ slice_told sites) (omega (arith, more)) n (subst Running (sym n) (dispatched mid f)) (λ sites. ap (answer_to sites 0) n ∙ answer_given 0 0 mid sites 0 ∙ ap (answer_to sites 0) e ∙ slice_told sites);
         tells = λ y q t. slice_tells mid e n t;
+        answered = λ y q. refl;
         longer = λ y q. omega (arith, m, l, o, p);
         room = λ y q. omega (arith, m, l, more);
         below = λ y q. lt;
@@ -442,6 +445,7 @@ module _ (opts : Options) (alone : opts.processors ≡ 1) (input : List ℕ) (ol
     kept = λ r t.
         full (slice ∷ []) mid (λ sites. slice_act r t sites ∙ slice_whole lt room) e (subst Ready (sym e) (sliced ticks old r)) (omega (arith, less)) n (limit_closes mid new n);
     tells = λ y q. absurd (cc q);
+    answered = λ y q. absurd (cc q);
     longer = λ y q. absurd (cc q);
     room = λ y q. absurd (cc q);
     below = λ y q. absurd (cc q);
@@ -452,6 +456,7 @@ module _ (opts : Options) (alone : opts.processors ≡ 1) (input : List ℕ) (ol
   slice_ends (stops e d) = record {
     kept = λ r t. over (fitted opts old 0 0 (slice ∷ [] ++ tick_limit opts slice_tally.all)) (slice_act r t) e d;
     tells = λ y q. absurd (cc q);
+    answered = λ y q. absurd (cc q);
     longer = λ y q. absurd (cc q);
     room = λ y q. absurd (cc q);
     below = λ y q. absurd (cc q);
@@ -517,6 +522,7 @@ module _ (opts : Options) (alone : opts.processors ≡ 1) (input : List ℕ) (ol
       record {
         kept = λ r t. over (fitted opts old 0 0 (end_entry ∷ (done_entry ∷ []))) (end_act r) (fitted_new opts old _ new b fits) (fitted_ended opts old _ new (end_entry ∷ []) done_entry b fits refl by_done);
         tells = λ y h. absurd (cc h);
+        answered = λ y h. absurd (cc h);
         longer = λ y h. absurd (cc h);
         room = λ y h. absurd (cc h);
         below = λ y h. absurd (cc h);
@@ -538,6 +544,7 @@ module _ (opts : Options) (alone : opts.processors ≡ 1) (input : List ℕ) (ol
         record {
           kept = λ r t. over (fitted opts old 0 0 (fault_entry ∷ [])) (λ sites. refl) (fitted_new opts old _ new b fits) (fitted_ended opts old _ new [] fault_entry b fits refl by_fault);
           tells = λ y h. absurd (cc h);
+          answered = λ y h. absurd (cc h);
           longer = λ y h. absurd (cc h);
           room = λ y h. absurd (cc h);
           below = λ y h. absurd (cc h);
@@ -549,6 +556,7 @@ pub odd_after : (opts : Options) (input : List ℕ) (old : Journal) (told : Tall
 odd_after opts input old told ticks asked r e f = record {
   kept = λ s t. odd (ap is_few e ∙ f);
   tells = λ y h. absurd (cc h);
+  answered = λ y h. absurd (cc h);
   longer = λ y h. absurd (cc h);
   room = λ y h. absurd (cc h);
   below = λ y h. absurd (cc h);

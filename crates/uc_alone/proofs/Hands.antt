@@ -1,18 +1,22 @@
 -- A ride keeps the objects that its task is inside, and asks one of few requests.
-use Rattle.std.proofs.Common.{◌≡◌, ℕ, zero, suc, Bool, true, false, cond, List, [], ◌∷◌, Option, Some, None, refl, sym, ap, ◌∙◌, subst, map}
-use Rattle.std.specs.Prelude.{nat_eq, nat_lt, slice_get}
+use Rattle.std.proofs.Common.{◌≡◌, ℕ, zero, suc, Bool, true, false, cond, List, [], ◌∷◌, length, Option, Some, None, refl, sym, ap, ◌∙◌, subst, map}
+use Rattle.std.specs.Prelude.{nat_eq, nat_lt, slice_get, if◌then◌else◌}
 use Rattle.std.proofs.lemmas.Bool.{eqb-true}
 use Rattle.uc_meaning.specs.declared.exec.Exec.{Exec}
 use Rattle.uc_meaning.specs.declared.exec.Home.{Home}
 use Rattle.uc_meaning.specs.declared.exec.Home.TheVariants.{Task, Object}
 use Rattle.uc_meaning.specs.declared.exec.Owner.{Owner}
 use Rattle.uc_meaning.specs.declared.exec.Owner.TheVariants.{Frame, Fields}
+use Rattle.uc_meaning.specs.declared.exec.Reason.{Reason}
+use Rattle.uc_meaning.specs.declared.exec.Reason.TheVariants as reason
+use Rattle.uc_meaning.specs.declared.exec.Visited.{Visited}
 use Rattle.uc_meaning.specs.declared.request.Asked.{Asked}
 use Rattle.uc_meaning.specs.declared.request.Piece.{Piece}
-use Rattle.uc_tree.specs.Source.{Shape, Expr, Literal, Variable, Element, Load, Negated, Not, AsCharacter, AsTruth, Operate, And, Or, Assign, Update, StepBehind, Fail, Get, Set, First, Call, OfObject, ObjectExpr, This, OwnField, GetOwn, FieldOf, Counted, CallOn, CallUnwritten, EnterOn, Wait, Signal, SignalBlock, IsEmpty, FrontOf, NoExprs, MoreExprs, Way, ToBreak, ToContinue, ToReturn, ToEnd, Stmt, Skip, Block, Whole, Evaluate, Declare, Print, PrintTogether, Read, If, Loop, Break, Continue, Return, Fill, OfEvents, OfTasks, Stmts, Nil, Then, Scoped, Built, Routine, Source}
+use Rattle.uc_tree.specs.Source.{Shape, Expr, Literal, Variable, Element, Load, Negated, Not, AsCharacter, AsTruth, Operate, And, Or, Assign, Update, StepBehind, Fail, Get, Set, First, Call, OfObject, ObjectExpr, This, OwnField, GetOwn, FieldOf, Counted, CallOn, CallUnwritten, EnterOn, Wait, Signal, SignalBlock, IsEmpty, FrontOf, NoExprs, MoreExprs, Way, ToBreak, ToContinue, ToReturn, ToEnd, Stmt, Skip, Block, Whole, Evaluate, Declare, Print, PrintTogether, Read, If, Loop, Break, Continue, Return, Fill, OfEvents, OfTasks, Stmts, Nil, Then, Scoped, Built, Routine, Source, EventStmt, Throw, Raise, Try, RaiseAt, Enable, Disable, Handlers}
 use Rattle.uc_meaning.specs.Executions.{update, set_members, members_at, change_in, change, with_owned, exec_eq, values_cleared}
 use Rattle.uc_meaning.specs.Quiet as q
-use Rattle.uc_meaning.specs.Quiet.{Active, State, Env, Members, Todo, Step, Goes, Ticks, Asks, Outcome, Gives, Faults, Eval, LoadNow, ElementNow, FieldNow, NegateNow, NotNow, CharacterNow, TruthNow, OperateNow, CopyNow, CopyBelowNow, DropNow, DropBelowNow, StoreNow, KeepNow, SetNow, Choose, Branch, TickNow, TurnNow, Arguments, CallNow, CallOnNow, CallUnwrittenNow, CountNow, MoreNow, FillNow, Again, PrintNow, TextNow, GatherNow, FlushNow, ReadNow, ClearNow, Items, Values, Pieces, Targets, Variables, Do, Rest, Within, Exit, NoReturnNow, InLoop, InWhole, Clean, Sweep, Part, Finish, Value, Number, Place, Running, Nothing, quiet, act_todo, act, object_step, eval_step, stmt_step, rest_step, call_step, call_on_step, call_unwritten_step, sweep_step, exit_step, end_step, outcome_step, element_step, print_step, flush_step, return_step, written, outcome, index_in, number, top, below}
+use Rattle.uc_meaning.specs.Quiet.{Active, State, Env, Members, Todo, Step, Goes, Ticks, Asks, Outcome, Gives, Faults, Eval, LoadNow, ElementNow, FieldNow, NegateNow, NotNow, CharacterNow, TruthNow, OperateNow, CopyNow, CopyBelowNow, DropNow, DropBelowNow, StoreNow, KeepNow, SetNow, Choose, Branch, TickNow, TurnNow, Arguments, CallNow, CallOnNow, CallUnwrittenNow, CountNow, MoreNow, FillNow, Again, PrintNow, TextNow, GatherNow, FlushNow, ReadNow, ClearNow, Items, Values, Pieces, Targets, Variables, Do, Rest, Within, Exit, NoReturnNow, InLoop, InWhole, Clean, Sweep, Part, Guard, Unwind, ThrowNow, RaiseNow, Finish, Sort, sort, Simple, IsLoop, IsWhole, IsClean, IsFill, IsSweep, IsPart, IsGuard, IsFinish, Value, Number, Place, Running, Nothing, quiet, act_todo, act, object_step, eval_step, event_step, stmt_step, rest_step, call_step, call_on_step, call_unwritten_step, sweep_step, exit_step, end_step, outcome_step, element_step, print_step, flush_step, return_step, written, outcome, index_in, number, top, below}
+use Rattle.uc_meaning.specs.Raising.{Event, Handler, Found, event_in, handler_for, catch_step, guard_left, arrives, whole_left, main_left, unwind_past, escapes, pass_on, leave_for, leave_step, unwind_step, seek, handle_step, return_past, end_by}
 use Rattle.uc_meaning.specs.Rides.{Rides, slices, goes_on, ticks, asks}
 use Rattle.uc_tree.specs.declared.limits.TheConstants.{CALLS}
 use Rattle.uc_alone.specs.Kept.{is_few}
@@ -92,9 +96,83 @@ return_keeps : (v : Value) (cs : List Active) (s : State) → Keeps (inside_of s
 return_keeps v [] s = (refl, refl)
 return_keeps v (c ∷ cs) s = refl
 
+-- events
+
+past_keeps : (v : Visited) (given : Value) (cs : List Active) (s : State) → Keeps (inside_of s) (return_past v given cs s)
+past_keeps v given [] s = (refl, refl)
+past_keeps v given (c ∷ cs) s = refl
+
+end_by_keeps : (o : Option Visited) (given : Value) (s : State) → Keeps (inside_of s) (end_by o given s)
+end_by_keeps None given s = return_keeps given s.callers s
+end_by_keeps (Some v) given s = past_keeps v given s.callers s
+
+catch_keeps : (h : Option Handler) (e : Event) (todo : List Todo) (s : State) → Keeps (inside_of s) (catch_step h e todo s)
+catch_keeps None e todo s = refl
+catch_keeps (Some h) e todo s = refl
+
+guard_keeps : (hs : Handlers) (o : Option Reason) (todo : List Todo) (s : State) → Keeps (inside_of s) (guard_left hs o todo s)
+guard_keeps hs None todo s = refl
+guard_keeps hs (Some (reason.Event n x y)) todo s =
+    catch_keeps (handler_for false (record { number = n; x = x; y = y }) hs) (record { number = n; x = x; y = y }) todo s
+guard_keeps hs (Some (reason.ReturnTo home)) todo s = refl
+guard_keeps hs (Some reason.Destroyed) todo s = refl
+
+whole_keeps : (b : Bool) (todo : List Todo) (s : State) → Keeps (inside_of s) (whole_left b todo s)
+whole_keeps true todo s = refl
+whole_keeps false todo s = refl
+
+main_keeps : (o : Option Reason) (todo : List Todo) (s : State) → Keeps (inside_of s) (main_left o todo s)
+main_keeps None todo s = (refl, refl)
+main_keeps (Some (reason.Event n x y)) todo s = (refl, refl)
+main_keeps (Some (reason.ReturnTo home)) todo s = refl
+main_keeps (Some reason.Destroyed) todo s = (refl, refl)
+
+unwind_past_keeps : (p : Sort) (todo : List Todo) (s : State) → Keeps (inside_of s) (unwind_past p todo s)
+unwind_past_keeps Simple todo s = refl
+unwind_past_keeps (IsLoop o t e b) todo s = refl
+unwind_past_keeps IsWhole todo s = whole_keeps (arrives s.run.raised (length s.callers)) todo s
+unwind_past_keeps (IsClean c) todo s = refl
+unwind_past_keeps (IsFill n b d) todo s = refl
+unwind_past_keeps (IsSweep e) todo s = refl
+unwind_past_keeps (IsPart c) todo s = refl
+unwind_past_keeps (IsGuard hs) todo s = guard_keeps hs s.run.raised todo s
+unwind_past_keeps IsFinish todo s = main_keeps s.run.raised todo s
+
+pass_keeps : (o : Option Reason) (c : Active) (cs : List Active) (s : State) → Keeps (inside_of s) (pass_on o c cs s)
+pass_keeps None c cs s = (refl, refl)
+pass_keeps (Some why) c cs s = refl
+
+leave_for_keeps : (b : Bool) (c : Active) (cs : List Active) (s : State) → Keeps (inside_of s) (leave_for b c cs s)
+leave_for_keeps true c cs s = (refl, refl)
+leave_for_keeps false c cs s = pass_keeps s.run.raised c cs s
+
+leave_by_keeps : (b : Bool) (c : Active) (cs : List Active) (s : State) → Keeps (inside_of s) (if b then return_step s.run.result (c ∷ cs) s else leave_for (escapes s.run.raised c.raised) c cs s)
+leave_by_keeps true c cs s = refl
+leave_by_keeps false c cs s = leave_for_keeps (escapes s.run.raised c.raised) c cs s
+
+leave_keeps : (cs : List Active) (s : State) → Keeps (inside_of s) (leave_step cs s)
+leave_keeps [] s = (refl, refl)
+leave_keeps (c ∷ cs) s = leave_by_keeps (arrives s.run.raised (length (c ∷ cs))) c cs s
+
+unwind_keeps : (todo : List Todo) (s : State) → Keeps (inside_of s) (unwind_step todo s)
+unwind_keeps [] s = leave_keeps s.callers s
+unwind_keeps (p ∷ ps) s = unwind_past_keeps (sort p) ps s
+
+handle_keeps : (o : Option Found) (e : Event) (todo : List Todo) (s : State) → Keeps (inside_of s) (handle_step o e todo s)
+handle_keeps None e todo s = refl
+handle_keeps (Some f) e todo s = refl
+
+event_keeps : (a : EventStmt) (todo : List Todo) (s : State) → Keeps (inside_of s) (event_step a todo s)
+event_keeps (Throw line r) todo s = refl
+event_keeps (Raise line r) todo s = refl
+event_keeps (Try line body hs) todo s = refl
+event_keeps (RaiseAt line r a) todo s = refl
+event_keeps (Enable line events a) todo s = refl
+event_keeps (Disable line events a) todo s = refl
+
 end_keeps : (w : Way) (s : State) → Keeps (inside_of s) (end_step w s)
-end_keeps ToReturn s = return_keeps (top s.run.operands) s.callers s
-end_keeps ToEnd s = return_keeps q.nought s.callers s
+end_keeps ToReturn s = end_by_keeps s.run.handles (top s.run.operands) s
+end_keeps ToEnd s = end_by_keeps s.run.handles q.nought s
 end_keeps ToBreak s = return_keeps q.nought s.callers s
 end_keeps ToContinue s = return_keeps q.nought s.callers s
 
@@ -155,7 +233,7 @@ stmt_keeps (Continue line) todo s = refl
 stmt_keeps (Return line None) todo s = refl
 stmt_keeps (Return line (Some e)) todo s = refl
 stmt_keeps (Fill line n b d) todo s = refl
-stmt_keeps (OfEvents a) todo s = refl
+stmt_keeps (OfEvents a) todo s = event_keeps a todo s
 stmt_keeps (OfTasks a) todo s = refl
 
 rest_keeps : (ss : Stmts) (todo : List Todo) (s : State) → Keeps (inside_of s) (rest_step ss todo s)
@@ -244,6 +322,10 @@ module _ (source : Source) where
   act_keeps (Clean c) todo s = refl
   act_keeps (Sweep e) todo s = sweep_keeps s.run.elements e todo s
   act_keeps (Part c) todo s = refl
+  act_keeps (Guard hs) todo s = refl
+  act_keeps Unwind todo s = unwind_keeps todo s
+  act_keeps ThrowNow todo s = refl
+  act_keeps RaiseNow todo s = handle_keeps (seek None (event_in s.run.operands) (record s.run { control = todo } ∷ s.callers)) (event_in s.run.operands) todo s
   act_keeps Finish todo s = return_keeps q.nought s.callers s
 
   todo_keeps : (ts : List Todo) (s : State) → Keeps (inside_of s) (act_todo source ts s)

@@ -19,6 +19,8 @@ use Rattle.uc_step.specs.Follow.{StandsAfter}
 use Rattle.uc_alone.specs.declared.tally.Tally.{Tally}
 use Rattle.uc_alone.specs.Alone.{Tells}
 use Rattle.uc_alone.specs.Kept.{Kept, goes, given, is_answered, After}
+use Rattle.uc_step.specs.Falls.{Keeps}
+use Rattle.uc_ride.specs.Led.{KeepsAfter}
 use Rattle.uc_ride.specs.Rode.{Rode}
 use Rattle.uc_alone.specs.Run.{IsRunOf}
 use Rattle.uc_alone.specs.Loop.{Reached}
@@ -31,6 +33,14 @@ answered_stands code (ask.Read form) m s e h = h
 answered_stands code ask.Fail m s e h = h
 answered_stands code ask.Slice m s e h = h
 answered_stands code _ m s e h = absurd (cc e)
+
+-- and keeps what the next ride needs
+pub answered_kept : (code : Code) (r : Request) (m : Machine) → is_answered r ≡ true → KeepsAfter code r m → Keeps code m
+answered_kept code (ask.Print n items) m e k = k
+answered_kept code (ask.Read form) m e k = k
+answered_kept code ask.Fail m e k = k
+answered_kept code ask.Slice m e k = k
+answered_kept code _ m e k = absurd (cc e)
 
 is_answered_by : {opts : Options} {input : List ℕ} {old new : Journal} {ticks : ℕ} {asked : Asked} {x : Answer} → Kept opts input old ticks asked new (Some x) → is_answered asked.request ≡ true
 is_answered_by (goes a x i m o e f told) = i

@@ -1,5 +1,5 @@
 -- The task in its own object as its main begins.
-use Rattle.std.proofs.Common.{◌≡◌, ℕ, [], ◌∷◌, Some, None, refl, sym, ap, subst}
+use Rattle.std.proofs.Common.{◌≡◌, ℕ, [], ◌∷◌, Some, None, refl, sym, ap, subst, ◌∙◌}
 use Rattle.std.specs.Prelude.{slice_get}
 use Rattle.uc_tree.specs.Source.{Source, routine_or_none}
 use Rattle.uc_meaning.specs.Quiet.{State, no_members, first_state}
@@ -7,8 +7,11 @@ use Rattle.uc_meaning.specs.Runs as runs
 use Rattle.uc_code.specs.Codes.{Code}
 use Rattle.uc_code.specs.Lowered.{Lowered}
 use Rattle.uc_code.specs.Laid.{Laid, laid_of}
-use Rattle.uc_frames.specs.Machine.{Machine}
+use Rattle.uc_code.specs.declared.rows.RoutineCode.{RoutineCode}
+use Rattle.uc_frames.specs.Machine.{Machine, first_machine}
+use Rattle.uc_frames.proofs.Keeps.{first_kept}
 use Rattle.uc_frames.specs.Stands.{Stands}
+use Rattle.uc_step.specs.Falls.{Keeps}
 use Rattle.uc_step.specs.Starts.{Starts}
 use Rattle.uc_alone.specs.Alone.{start}
 use Rattle.uc_alone.specs.Run.{HasMain, with_own}
@@ -38,3 +41,9 @@ started code main m n source s e l k h =
 
 pub unstarted : (code : Code) (main : ℕ) (source : Source) → Starts code main 0 None → Lowered source code → source.main ≡ main → HasMain source → ⊥
 unstarted code main source s l k h = s source h.routine l (subst (λ j. slice_get source.routines j ≡ Some h.routine) k h.there)
+
+-- a task as its main begins, inside its own object, keeps what rides need
+pub begun_kept : (code : Code) (main own : ℕ) (m n : Machine) → ((r : RoutineCode) × (slice_get code.routines main ≡ Some r) × (m ≡ first_machine r own)) → n ≡ with_own m → Keeps code n
+begun_kept code main own m n (r, there, is) e =
+    let f : n ≡ with_own (first_machine r own) = e ∙ ap with_own is in
+    first_kept (laid_of code) code.routines n (ap (λ (x : Machine). x.callers) f) (ap (λ (x : Machine). x.run.handles) f)

@@ -92,6 +92,7 @@ pub record After (opts : Options) (input : List ℕ) (old : Journal) (told : Tal
   pub kept : Running old → Tells old told → Kept opts input old ticks asked new o
   pub tells : (x : Answer) → o ≡ Some x → Tells old told → Tells new next
   -- while the run goes on
+  pub answered : (x : Answer) → o ≡ Some x → is_answered asked.request ≡ true
   pub longer : (x : Answer) → o ≡ Some x → length old < length new
   pub room : (x : Answer) → o ≡ Some x → length new < opts.entries
   pub below : (x : Answer) → o ≡ Some x → next.all < opts.ticks

@@ -1,10 +1,12 @@
 -- A whole run of one task.
-use Rattle.std.specs.Prelude.{◌≡◌, ℕ, List, [], ◌∷◌, Some, slice_get}
+use Rattle.std.specs.Prelude.{◌≡◌, ℕ, List, [], ◌∷◌, Option, Some, None, slice_get}
 use Rattle.uc_tree.specs.Source.{Source, Routine}
 use Rattle.uc_meaning.specs.declared.entry.Options.{Options}
 use Rattle.uc_meaning.specs.Journal.{Journal}
 use Rattle.uc_meaning.specs.Runs.{IsRun}
+use Rattle.uc_code.specs.Codes.{Code}
 use Rattle.uc_frames.specs.Machine.{Machine, Members, with_hand}
+use Rattle.uc_step.specs.Falls.{Keeps}
 use Rattle.uc_alone.specs.Kept.{Ended}
 
 -- a complete run of the source on this input under these options; its last entry is its ending
@@ -24,3 +26,8 @@ no_fields = record { values = []; serial = 0; parked = [] }
 -- a task with its own object in hand
 abbrev pub with_own : Machine → Machine
 with_own m = with_hand ((0, no_fields) ∷ []) m
+
+-- if there is a task, it keeps what rides over paced code need
+abbrev pub KeptByAll : Code → Option Machine → Type 0
+KeptByAll code None = Unit {0}
+KeptByAll code (Some m) = Keeps code m

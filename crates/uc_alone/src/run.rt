@@ -11,7 +11,8 @@ ghost use Rattle.uc_frames.specs.Stands.{Stands};
 ghost use Rattle.uc_meaning.specs.Quiet.{State};
 ghost use Rattle.uc_meaning.specs.declared.request.Answer.TheVariants as answer;
 ghost use Rattle.uc_alone.specs.Alone.{Going, Tells, start};
-ghost use Rattle.uc_alone.specs.Run.{IsRunOf, HasMain, with_own};
+ghost use Rattle.uc_step.specs.Falls.{Keeps};
+ghost use Rattle.uc_alone.specs.Run.{IsRunOf, HasMain, KeptByAll, with_own};
 
 use crate::entries::{begin_entry, plain_entry};
 use crate::keeper::keep;
@@ -39,7 +40,7 @@ pub fn run_alone(
     requires range { InRange opts }
     requires alone { opts.processors ≡ 1 }
     requires small { length input.now ≤ INPUT_BYTES }
-    requires paced { IsPaced code.now.ops code.now.routines }
+    requires paced { IsPaced (laid_of code.now) code.now.routines }
     ensures run { IfOk result (λ journal. (source : Source) → Lowered source code.now → source.main ≡ main → HasMain source → IsRunOf source input.now opts journal.items) }
 {
     let mut journal = Vec::new(alloc);
@@ -56,7 +57,8 @@ pub fn run_alone(
 
 // The task at the start of its main, inside its own object.
 fn begin_inside(alloc: Global, code: &Code, main: u32) -> Result<Option<Work>, AllocError>
-    ensures { IfOk result (λ task. (source : Source) → Lowered source code.now → source.main ≡ main → HasMain source → MatchOption task ⊥ (λ w. Stands (laid_of code.now) w (start source))) }
+    ensures source { IfOk result (λ task. (source : Source) → Lowered source code.now → source.main ≡ main → HasMain source → MatchOption task ⊥ (λ w. Stands (laid_of code.now) w (start source))) }
+    ensures kept { IfOk result (λ task. KeptByAll code.now task) }
 {
     match begin(alloc, code, main, 0)? {
         None => Ok(None),
@@ -89,7 +91,8 @@ fn go_on(
     requires range { InRange opts }
     requires alone { opts.processors ≡ 1 }
     requires small { length input.now ≤ INPUT_BYTES }
-    requires paced { IsPaced code.now.ops code.now.routines }
+    requires paced { IsPaced (laid_of code.now) code.now.routines }
+    requires kept { Keeps code.now work }
     requires tells { Tells journal.items (record { bytes = 0; failed = false; since = 0; all = 0 }) }
     requires room { length journal.items < opts.entries }
     ensures { IfOk result (λ all. (source : Source) (s : State) → Lowered source code.now → Going source input.now opts journal.items answer.Go s → Stands (laid_of code.now) work s → IsRunOf source input.now opts all.items) }

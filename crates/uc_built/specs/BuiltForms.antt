@@ -1,5 +1,5 @@
--- The forms of programs that run: `using`, constants, prototypes, classes of kind `class` and routines, with one program main; their
--- variables, fields and parameters are scalars and objects of such classes, and no statement is one of events or tasks.
+-- The forms of programs that run: `using`, constants, prototypes, classes of kind `class`, events and routines, with one program
+-- main; their variables, fields and parameters are scalars and objects of such classes, and no statement is one of coroutines or tasks.
 use Rattle.std.specs.Prelude.{◌≡◌, List, [], ◌∷◌, Bool, true, false, not, ◌&&◌}
 use Rattle.std.specs.List.{list_any}
 use Rattle.uc_tree.specs.declared.kinds.Base.{Base}
@@ -8,7 +8,7 @@ use Rattle.uc_tree.specs.declared.kinds.Param.{Param}
 use Rattle.uc_tree.specs.declared.kinds.Kind.{Kind}
 use Rattle.uc_tree.specs.declared.kinds.Kind.TheVariants as kind
 use Rattle.uc_tree.specs.ProgramMain.{is_main_item}
-use Rattle.uc_tree.specs.Statements.{Declarator, ForStart, NoFor, ForDeclare, ForEvaluate, Stmt, Block, Empty, Evaluate, Declare, If, While, Do, For, Break, Continue, Return, Try, Throw, Raise, RaiseAt, Enable, Disable, Accept, Print, PrintTogether, Read, Resume, Suspend, Yield, Migrate, Stmts, NoStmts, MoreStmts, MaybeStmt, NoStmt, OneStmt}
+use Rattle.uc_tree.specs.Statements.{Declarator, ForStart, NoFor, ForDeclare, ForEvaluate, Stmt, Block, Empty, Evaluate, Declare, If, While, Do, For, Break, Continue, Return, Try, Throw, Raise, RaiseAt, Enable, Disable, Accept, Print, PrintTogether, Read, Resume, Suspend, Yield, Migrate, Stmts, NoStmts, MoreStmts, MaybeStmt, NoStmt, OneStmt, Handler, Handles, Handlers, NoHandlers, MoreHandlers}
 use Rattle.uc_tree.specs.Programs.{Sig, Routine, Member, MemberForm, FieldsMember, RoutineMember, ProtoMember, Class, Item, ClassItem, RoutineItem, ConstItem, ProtoItem, ForwardItem, UsingItem, Program}
 
 abbrev pub is_scalar_base : Base → Bool
@@ -21,7 +21,7 @@ is_scalar_base base.Cluster = false
 is_scalar_base base.Processor = false
 is_scalar_base (base.Named name) = false
 
--- scalars, and objects: all classes of such a program are of kind `class`
+-- scalars, and objects: all classes of such a program are of kind `class`, but for its events, of which nothing is declared
 abbrev pub is_built_base : Base → Bool
 is_built_base base.Void = false
 is_built_base base.Int = true
@@ -55,9 +55,9 @@ abbrev mutual
   is_built_stmt (Break pos) = true
   is_built_stmt (Continue pos) = true
   is_built_stmt (Return pos value) = true
-  is_built_stmt (Try pos brace body hs) = false
-  is_built_stmt (Throw pos raised) = false
-  is_built_stmt (Raise pos raised) = false
+  is_built_stmt (Try pos brace body hs) = are_built body && are_built_handlers hs
+  is_built_stmt (Throw pos raised) = true
+  is_built_stmt (Raise pos raised) = true
   is_built_stmt (RaiseAt pos raised target) = false
   is_built_stmt (Enable pos events body) = false
   is_built_stmt (Disable pos events body) = false
@@ -77,6 +77,13 @@ abbrev mutual
   pub are_built : Stmts → Bool
   are_built NoStmts = true
   are_built (MoreStmts first rest) = is_built_stmt first && are_built rest
+
+  pub is_built_handler : Handler → Bool
+  is_built_handler (Handles pos kind event param brace body) = are_built body
+
+  pub are_built_handlers : Handlers → Bool
+  are_built_handlers NoHandlers = true
+  are_built_handlers (MoreHandlers first rest) = is_built_handler first && are_built_handlers rest
 
 -- a result is a scalar or nothing
 abbrev pub is_built_result : Base → Bool
@@ -99,13 +106,13 @@ is_built_sig s = is_built_result s.ret && are_built_params s.params
 abbrev pub is_built_routine : Routine → Bool
 is_built_routine r = is_built_sig r.sig && are_built r.body
 
-abbrev pub is_class_kind : Kind → Bool
-is_class_kind kind.Class = true
-is_class_kind kind.Coroutine = false
-is_class_kind kind.Monitor = false
-is_class_kind kind.Cormonitor = false
-is_class_kind kind.Task = false
-is_class_kind kind.Event = false
+abbrev pub is_built_kind : Kind → Bool
+is_built_kind kind.Class = true
+is_built_kind kind.Coroutine = false
+is_built_kind kind.Monitor = false
+is_built_kind kind.Cormonitor = false
+is_built_kind kind.Task = false
+is_built_kind kind.Event = true
 
 abbrev pub is_built_member : MemberForm → Bool
 is_built_member (FieldsMember at b ds) = is_built_base b
@@ -117,14 +124,14 @@ are_built_members [] = true
 are_built_members (m ∷ ms) = is_built_member m.form && are_built_members ms
 
 abbrev pub is_built_class : Class → Bool
-is_built_class c = is_class_kind c.kind && are_built_members c.members
+is_built_class c = is_built_kind c.kind && are_built_members c.members
 
 abbrev pub is_built_item : Item → Bool
 is_built_item (ClassItem class) = is_built_class class
 is_built_item (RoutineItem routine) = is_built_routine routine
 is_built_item (ConstItem constant) = is_scalar_base constant.base
 is_built_item (ProtoItem sig) = is_built_sig sig
-is_built_item (ForwardItem forward) = is_class_kind forward.kind
+is_built_item (ForwardItem forward) = is_built_kind forward.kind
 is_built_item (UsingItem pos) = true
 
 abbrev pub are_built_items : List Item → Bool

@@ -2,15 +2,15 @@
 
 ghost use Rattle.std.specs.Prelude.{◌≡◌};
 ghost use Rattle.std.specs.List.{list_any};
-ghost use Rattle.uc_tree.specs.Statements.{stmts_of};
+ghost use Rattle.uc_tree.specs.Statements.{handlers_of, stmts_of};
 ghost use Rattle.uc_tree.specs.ProgramMain.{is_main_item};
-ghost use Rattle.uc_built.specs.BuiltForms.{are_built, are_built_items, are_built_members, are_built_params, are_plain, has_main, is_built, is_built_base, is_built_class, is_built_item, is_built_member, is_built_result, is_built_routine, is_built_sig, is_built_start, is_built_stmt, is_class_kind, is_scalar_base};
+ghost use Rattle.uc_built.specs.BuiltForms.{are_built, are_built_handlers, are_built_items, are_built_members, are_built_params, are_plain, has_main, is_built, is_built_base, is_built_class, is_built_handler, is_built_item, is_built_kind, is_built_member, is_built_result, is_built_routine, is_built_sig, is_built_start, is_built_stmt, is_scalar_base};
 
 use uc_tree::class::{Class, Member, MemberForm, Routine, Sig};
 use uc_tree::declare::{Declarator, ForForm, ForStart};
 use uc_tree::kinds::{Base, Kind, Param};
 use uc_tree::program::{Item, ItemForm, Program};
-use uc_tree::stmt::{Stmt, StmtForm};
+use uc_tree::stmt::{Handler, Stmt, StmtForm};
 
 fn is_scalar_base(base: &Base) -> bool
     ensures { result ≡ is_scalar_base base.now }
@@ -86,9 +86,9 @@ fn is_built_stmt(s: &Stmt) -> bool
         StmtForm::Break => true,
         StmtForm::Continue => true,
         StmtForm::Return { .. } => true,
-        StmtForm::Try { .. } => false,
-        StmtForm::Throw { .. } => false,
-        StmtForm::Raise { .. } => false,
+        StmtForm::Try { body, handlers, .. } => are_built(body) && are_built_handlers(handlers),
+        StmtForm::Throw { .. } => true,
+        StmtForm::Raise { .. } => true,
         StmtForm::RaiseAt { .. } => false,
         StmtForm::Enable { .. } => false,
         StmtForm::Disable { .. } => false,
@@ -109,6 +109,25 @@ fn are_built(stmts: &[Stmt]) -> bool
 {
     for s in stmts {
         if !is_built_stmt(s) {
+            return false;
+        }
+    }
+    true
+}
+
+#[cycle(forms)]
+fn is_built_handler(handler: &Handler) -> bool
+    ensures { result ≡ is_built_handler handler.now }
+{
+    are_built(&handler.body)
+}
+
+#[cycle(forms)]
+fn are_built_handlers(handlers: &[Handler]) -> bool
+    ensures { result ≡ are_built_handlers (handlers_of handlers.now) }
+{
+    for handler in handlers {
+        if !is_built_handler(handler) {
             return false;
         }
     }
@@ -153,8 +172,8 @@ fn is_built_routine(routine: &Routine) -> bool
     is_built_sig(&routine.sig) && are_built(&routine.body)
 }
 
-fn is_class_kind(kind: Kind) -> bool
-    ensures { result ≡ is_class_kind kind }
+fn is_built_kind(kind: Kind) -> bool
+    ensures { result ≡ is_built_kind kind }
 {
     match kind {
         Kind::Class => true,
@@ -162,7 +181,7 @@ fn is_class_kind(kind: Kind) -> bool
         Kind::Monitor => false,
         Kind::Cormonitor => false,
         Kind::Task => false,
-        Kind::Event => false,
+        Kind::Event => true,
     }
 }
 
@@ -190,7 +209,7 @@ fn are_built_members(members: &[Member]) -> bool
 fn is_built_class(class: &Class) -> bool
     ensures { result ≡ is_built_class class.now }
 {
-    is_class_kind(class.kind) && are_built_members(&class.members)
+    is_built_kind(class.kind) && are_built_members(&class.members)
 }
 
 fn is_built_item(item: &Item) -> bool
@@ -201,7 +220,7 @@ fn is_built_item(item: &Item) -> bool
         ItemForm::Routine { routine } => is_built_routine(routine),
         ItemForm::Constant { constant } => is_scalar_base(&constant.base),
         ItemForm::Proto { sig } => is_built_sig(sig),
-        ItemForm::Forward { forward } => is_class_kind(forward.kind),
+        ItemForm::Forward { forward } => is_built_kind(forward.kind),
         ItemForm::Using { .. } => true,
     }
 }

@@ -12,7 +12,7 @@ set_is [] k here entry d l = absurd (omega arith)
 set_is (r ∷ rs) zero here entry d l = refl
 set_is (r ∷ rs) (suc k) here entry d l = ap (λ q. r ∷ q) (set_is rs k here entry d (omega arith))
 
-pub closed_set : (rows : List HandlerRow) (k here entry n : ℕ) (r : HandlerRow) → n ≡ length rows → k < n → r ≡ get_or rows k r → slice_set rows k (record { from = r.from; to = here; outer = r.outer; kind = r.kind; event = r.event; entry = entry }) ≡ closed_rows here entry k rows
+pub closed_set : (rows : List HandlerRow) (k here entry n : ℕ) (r : HandlerRow) → n ≡ length rows → k < n → r ≡ get_or rows k r → slice_set rows k (record { from = r.from; to = here; outer = r.outer; kind = r.kind; event = r.event; rest = r.rest; entry = entry }) ≡ closed_rows here entry k rows
 closed_set rows k here entry n r e l is = ap (λ (q : HandlerRow). slice_set rows k (closed_row here entry q)) is ∙ set_is rows k here entry r (omega arith)
 
 past_is : (rows : List HandlerRow) (k here entry : ℕ) → length rows ≤ k → rows ≡ closed_rows here entry k rows

@@ -1,18 +1,17 @@
 -- A row is opened or closed: what stands before keeps its handlers, and the clean-ups that are set stay.
-use Rattle.std.proofs.Common.{◌≡◌, ℕ, zero, suc, ◌<◌, ◌≤◌, List, [], ◌∷◌, ◌++◌, length, reverse, drop, false, Option, Some, refl, ap, sym, subst, ◌∙◌, arith}
+use Rattle.std.proofs.Common.{◌≡◌, ℕ, zero, suc, ◌<◌, ◌≤◌, List, [], ◌∷◌, ◌++◌, length, reverse, drop, true, Option, Some, refl, ap, sym, subst, ◌∙◌, arith}
 use Rattle.std.specs.Prelude.{slice_get}
 use Rattle.std.proofs.lemmas.Bool.{le-leb}
 use Rattle.std.proofs.lemmas.List.{reverse-append, length-reverse}
 use Rattle.uc_code.specs.declared.rows.HandlerRow.{HandlerRow}
-use Rattle.uc_code.specs.declared.rows.RowKind.{RowKind}
 use Rattle.uc_code.specs.declared.rows.RowKind.TheVariants as kind
 use Rattle.uc_code.specs.declared.rows.TheConstants.{ANY_EVENT, OPEN_END}
 use Rattle.uc_code.specs.declared.rows.Mark.{Mark}
 use Rattle.uc_code.specs.declared.rows.Opening.{Opening}
 use Rattle.uc_code.specs.declared.rows.Opening.TheVariants as opening
-use Rattle.uc_code.specs.Laid.{covers, same_block, block_before, block_by, from_row, from_newest}
-use Rattle.uc_code.specs.Open.{row_in, handler_in, opening_mark, opening_event, Nested, Bare, Ended, InBody, InMain, InLoop, InWhole, InRow, closed_row, closed_rows}
-use Rattle.uc_code.proofs.Nesting.{made, nested_rise}
+use Rattle.uc_code.specs.Laid.{covers, takes_events, from_row, from_newest}
+use Rattle.uc_code.specs.Open.{row_in, handler_in, guard_in, opening_mark, opening_kind, made, Nested, Bare, Ended, InBody, InLoop, InRow, closed_row, closed_rows}
+use Rattle.uc_code.proofs.Nesting.{nested_rise}
 
 pub reverse_cons : {X : Type 0} → (x : X) (xs : List X) → reverse (x ∷ xs) ≡ reverse xs ++ x ∷ []
 reverse_cons x xs = reverse-append (x ∷ []) xs
@@ -38,14 +37,20 @@ last_of r rs =
 older_of : (s r : HandlerRow) (rs : List HandlerRow) (k : ℕ) → slice_get (reverse rs) k ≡ Some r → slice_get (reverse (s ∷ rs)) k ≡ Some r
 older_of s r rs k e = ap (λ l. slice_get l k) (reverse_cons s rs) ∙ front_of (reverse rs) (s ∷ []) k r e
 
+-- the row of a clean-up
+pub record IsCleanUp (r : HandlerRow) : Type 0 where
+  pub kind : r.kind ≡ kind.CleanUp
+  pub event : r.event ≡ ANY_EVENT
+  pub rest : r.rest ≡ 0
+
 module _ (here entry : ℕ) where
   -- of rows, the newest first, the one of this number is closed
   pub data Closes : List HandlerRow → List HandlerRow → ℕ → Type 0 where
-    Top : (r : HandlerRow) (rs : List HandlerRow) → r.kind ≡ kind.CleanUp → r.to ≡ OPEN_END → Closes (r ∷ rs) (closed_row here entry r ∷ rs) (length rs)
+    Top : (r : HandlerRow) (rs : List HandlerRow) → r.to ≡ OPEN_END → Closes (r ∷ rs) (closed_row here entry r ∷ rs) (length rs)
     Later : (s : HandlerRow) (rs qs : List HandlerRow) (k : ℕ) → Closes rs qs k → Closes (s ∷ rs) (s ∷ qs) k
 
   closes_low : (rs qs : List HandlerRow) (k : ℕ) → Closes rs qs k → k < length rs
-  closes_low rs qs k (Top r ps _ _) = omega arith
+  closes_low rs qs k (Top r ps _) = omega arith
   closes_low rs qs k (Later s ps os _ c) = let l = closes_low ps os k c in omega arith
 
   closed_seam : (xs ys : List HandlerRow) (r : HandlerRow) → closed_rows here entry (length xs) (xs ++ r ∷ ys) ≡ xs ++ closed_row here entry r ∷ ys
@@ -58,7 +63,7 @@ module _ (here entry : ℕ) where
   closed_front (x ∷ xs) ys (suc k) h = ap (λ l. x ∷ l) (closed_front xs ys k (omega arith))
 
   pub closes_list : (rs qs : List HandlerRow) (k : ℕ) → Closes rs qs k → closed_rows here entry k (reverse rs) ≡ reverse qs
-  closes_list rs qs k (Top r ps _ _) =
+  closes_list rs qs k (Top r ps _) =
       let e : length (reverse ps) ≡ length ps = length-reverse ps in
       ap (λ l. closed_rows here entry (length ps) l) (reverse_cons r ps) ∙ (ap (λ n. closed_rows here entry n (reverse ps ++ r ∷ [])) (sym e) ∙ (closed_seam (reverse ps) [] r ∙ sym (reverse_cons (closed_row here entry r) ps)))
   closes_list rs qs k (Later s ps os _ c) =
@@ -67,43 +72,24 @@ module _ (here entry : ℕ) where
       ap (λ l. closed_rows here entry k l) (reverse_cons s ps) ∙ (closed_front (reverse ps) (s ∷ []) k (omega arith) ∙ (ap (λ l. l ++ s ∷ []) (closes_list ps os k c) ∙ sym (reverse_cons s os)))
 
   closes_length : (rs qs : List HandlerRow) (k : ℕ) → Closes rs qs k → length qs ≡ length rs
-  closes_length rs qs k (Top r ps _ _) = refl
+  closes_length rs qs k (Top r ps _) = refl
   closes_length rs qs k (Later s ps os _ c) = ap suc (closes_length ps os k c)
 
-  closes_block : (t : HandlerRow) (rs qs : List HandlerRow) (k : ℕ) (ns : List ℕ) → Closes rs qs k → block_before t qs ns ≡ block_before t rs ns
-  closes_block t rs qs k ns (Top r ps e _) =
-      let f : same_block t r ≡ false = rw e refl in
-      let g : same_block t (closed_row here entry r) ≡ false = rw e refl in
-      rw (f, g) refl
-  closes_block t rs qs k ns (Later s ps os _ c) =
-      let e : length os ≡ length ps = closes_length ps os k c in
-      rw (e, closes_block t ps os k (length ps ∷ ns) c) refl
-
-  closes_own : (o : RowKind) (t : HandlerRow) (rs qs : List HandlerRow) (k : ℕ) → Closes rs qs k → block_by o t qs ≡ block_by o t rs
-  closes_own kind.Catch t rs qs k c = ap (λ n. block_before t qs (n ∷ [])) (closes_length rs qs k c) ∙ closes_block t rs qs k (length rs ∷ []) c
-  closes_own kind.CatchResume t rs qs k c = ap (λ n. block_before t qs (n ∷ [])) (closes_length rs qs k c) ∙ closes_block t rs qs k (length rs ∷ []) c
-  closes_own kind.CleanUp t rs qs k c = let e : length qs ≡ length rs = closes_length rs qs k c in rw e refl
-
-  -- a clean-up is the same row, whether it is closed
-  closed_own : (r : HandlerRow) (rs : List HandlerRow) → r.kind ≡ kind.CleanUp → block_by r.kind (closed_row here entry r) rs ≡ block_by r.kind r rs
-  closed_own r rs e = rw e refl
-
   closes_row : (rs qs : List HandlerRow) (k n : ℕ) → Closes rs qs k → from_row qs n ≡ from_row rs n
-  closes_row rs qs k n (Top r ps e _) = let f = closed_own r ps e in rw f refl
+  closes_row rs qs k n (Top r ps _) = refl
   closes_row rs qs k n (Later s ps os _ c) =
       let e : length os ≡ length ps = closes_length ps os k c in
-      let f : block_by s.kind s os ≡ block_by s.kind s ps = closes_own s.kind s ps os k c in
-      rw (e, f, closes_row ps os k s.outer c, closes_row ps os k n c) refl
+      rw (e, closes_row ps os k s.outer c, closes_row ps os k n c) refl
 
   covers_closed : (r : HandlerRow) (next : ℕ) → next ≤ here → here ≤ OPEN_END → r.to ≡ OPEN_END → covers (closed_row here entry r) next ≡ covers r next
   covers_closed r next h g e = let m : next ≤ r.to = omega arith in rw (le-leb next here h, le-leb next r.to m) refl
 
   -- what stands before keeps its handlers
   pub closes_newest : (rs qs : List HandlerRow) (k next : ℕ) → Closes rs qs k → next ≤ here → here ≤ OPEN_END → from_newest qs next ≡ from_newest rs next
-  closes_newest rs qs k next (Top r ps e f) h g = let o = closed_own r ps e in let c = covers_closed r next h g f in rw (c, o) refl
+  closes_newest rs qs k next (Top r ps f) h g = let c = covers_closed r next h g f in rw c refl
   closes_newest rs qs k next (Later s ps os _ c) h g =
-      let f : block_by s.kind s os ≡ block_by s.kind s ps = closes_own s.kind s ps os k c in
-      rw (f, closes_row ps os k s.outer c, closes_newest ps os k next c h g) refl
+      let e : length os ≡ length ps = closes_length ps os k c in
+      rw (e, closes_row ps os k s.outer c, closes_newest ps os k next c h g) refl
 
   -- the row of the innermost mark is closed, and the mark is left
   pub record Leaves (rs : List HandlerRow) (ms : List Mark) (k : ℕ) : Type 0 where
@@ -113,23 +99,39 @@ module _ (here entry : ℕ) where
     pub nested : Nested here rows (drop 1 ms)
     pub there : slice_get (reverse rs) k ≡ Some row
     pub bare : row.entry ≡ 0
-    pub kind : row.kind ≡ kind.CleanUp
-    pub event : handler_in ms ≡ Some k → row.event ≡ ANY_EVENT
+    pub lasts : row.to ≡ OPEN_END
+    pub clean : handler_in ms ≡ Some k → IsCleanUp row
+    pub guard : guard_in ms ≡ Some k → takes_events row.kind ≡ true
 
   some_is : (a b : ℕ) → (let o : Option ℕ = Some a in o ≡ Some b) → a ≡ b
   some_is a b e = cc
 
   row_is : (o : Opening) (n k : ℕ) (ms : List Mark) → row_in (opening_mark o n ∷ ms) ≡ Some k → n ≡ k
+  row_is (opening.Main routine line) n k ms e = some_is n k e
+  row_is (opening.Whole leave) n k ms e = some_is n k e
+  row_is opening.Handler n k ms e = some_is n k e
   row_is (opening.Object what line) n k ms e = some_is n k e
   row_is opening.Part n k ms e = some_is n k e
   row_is opening.Elements n k ms e = some_is n k e
   row_is (opening.Outward below) n k ms e = some_is n k e
 
-  event_is : (o : Opening) (n k : ℕ) (ms : List Mark) → handler_in (opening_mark o n ∷ ms) ≡ Some k → opening_event o ≡ ANY_EVENT
-  event_is (opening.Object what line) n k ms e = refl
-  event_is opening.Part n k ms e = refl
-  event_is opening.Elements n k ms e = refl
-  event_is (opening.Outward below) n k ms e = absurd (cc)
+  clean_is : (o : Opening) (from n k : ℕ) (ms ns : List Mark) → handler_in (opening_mark o n ∷ ms) ≡ Some k → IsCleanUp (made o from ns)
+  clean_is (opening.Main routine line) from n k ms ns e = record { kind = refl; event = refl; rest = refl }
+  clean_is (opening.Whole leave) from n k ms ns e = record { kind = refl; event = refl; rest = refl }
+  clean_is opening.Handler from n k ms ns e = absurd (cc)
+  clean_is (opening.Object what line) from n k ms ns e = record { kind = refl; event = refl; rest = refl }
+  clean_is opening.Part from n k ms ns e = record { kind = refl; event = refl; rest = refl }
+  clean_is opening.Elements from n k ms ns e = record { kind = refl; event = refl; rest = refl }
+  clean_is (opening.Outward below) from n k ms ns e = absurd (cc)
+
+  guard_is : (o : Opening) (n k : ℕ) (ms : List Mark) → guard_in (opening_mark o n ∷ ms) ≡ Some k → takes_events (opening_kind o) ≡ true
+  guard_is (opening.Main routine line) n k ms e = absurd (cc)
+  guard_is (opening.Whole leave) n k ms e = absurd (cc)
+  guard_is opening.Handler n k ms e = refl
+  guard_is (opening.Object what line) n k ms e = absurd (cc)
+  guard_is opening.Part n k ms e = absurd (cc)
+  guard_is opening.Elements n k ms e = absurd (cc)
+  guard_is (opening.Outward below) n k ms e = absurd (cc)
 
   pub leaves : (at : ℕ) (rs : List HandlerRow) (ms : List Mark) (k : ℕ) → at ≤ here → Nested at rs ms → row_in ms ≡ Some k → Leaves rs ms k
   leaves at rs ms k g Bare e = absurd (cc)
@@ -142,23 +144,23 @@ module _ (here entry : ℕ) where
         nested = Ended r f.rows (drop 1 ms) (omega arith) f.nested;
         there = older_of r f.row qs k f.there;
         bare = f.bare;
-        kind = f.kind;
-        event = f.event;
+        lasts = f.lasts;
+        clean = f.clean;
+        guard = f.guard;
       }
   leaves at rs ms k g (InBody routine _ qs n) e = absurd (cc)
-  leaves at rs ms k g (InMain routine line _ qs n) e = absurd (cc)
   leaves at rs ms k g (InLoop leave again _ qs n) e = absurd (cc)
-  leaves at rs ms k g (InWhole leave _ qs n) e = absurd (cc)
   leaves at rs ms k g (InRow o from qs ns l n) e =
       let q : length qs ≡ k = row_is o (length qs) k ns e in
       let r : HandlerRow = made o from ns in
       record {
         rows = closed_row here entry r ∷ qs;
         row = r;
-        closes = subst (λ m. Closes (r ∷ qs) (closed_row here entry r ∷ qs) m) q (Top r qs refl refl);
+        closes = subst (λ m. Closes (r ∷ qs) (closed_row here entry r ∷ qs) m) q (Top r qs refl);
         nested = Ended (closed_row here entry r) qs ns (omega arith) (nested_rise at here g qs ns n);
         there = subst (λ m. slice_get (reverse (r ∷ qs)) m ≡ Some r) q (last_of r qs);
         bare = refl;
-        kind = refl;
-        event = λ h. event_is o (length qs) k ns h;
+        lasts = refl;
+        clean = λ h. clean_is o from (length qs) k ns ns h;
+        guard = λ h. guard_is o (length qs) k ns h;
       }

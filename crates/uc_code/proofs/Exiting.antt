@@ -156,6 +156,9 @@ passes_part all row rest p = pass_row all (mark.Part row) rest row refl refl p.f
 pub passes_elements : (all : List Mark) (row : ℕ) (rest : List Mark) → Passing all (mark.Elements row ∷ rest) → Passing all rest
 passes_elements all row rest p = pass_row all (mark.Elements row) rest row refl refl p.falling.0 p.falling.1 p.behind p
 
+pub passes_guard : (all : List Mark) (row : ℕ) (rest : List Mark) → Passing all (mark.Guard row ∷ rest) → Passing all rest
+passes_guard all row rest p = pass_row all (mark.Guard row) rest row refl refl p.falling.0 p.falling.1 p.behind p
+
 pub passes_loop : (all : List Mark) (leave again : ℕ) (rest : List Mark) → Passing all (mark.Loop leave again ∷ rest) → Passing all rest
 passes_loop all leave again rest p = record { bound = p.bound; low = p.low; cut = p.cut; routine = p.routine; falling = p.falling; behind = p.behind }
 

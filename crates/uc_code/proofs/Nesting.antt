@@ -4,13 +4,12 @@ use Rattle.std.proofs.Common.{◌≡◌, ℕ, suc, ◌<◌, ◌≤◌, min, List
 use Rattle.std.specs.Prelude.{nat_eq, nat_lt}
 use Rattle.std.proofs.lemmas.Bool.{cases_lt, eq-eqb, ne_eqb, lt-ltb, le-ltb, le-leb, lt-leb}
 use Rattle.uc_code.specs.declared.rows.HandlerRow.{HandlerRow}
-use Rattle.uc_code.specs.declared.rows.RowKind.TheVariants as kind
 use Rattle.uc_code.specs.declared.rows.TheConstants.{OPEN_END}
 use Rattle.uc_code.specs.declared.rows.Mark.{Mark}
 use Rattle.uc_code.specs.declared.rows.Opening.{Opening}
 use Rattle.uc_code.specs.declared.rows.Opening.TheVariants as opening
-use Rattle.uc_code.specs.Laid.{under, handlers, covers, block_by, from_row, from_newest}
-use Rattle.uc_code.specs.Open.{named_by, opening_mark, opening_event, opening_around, Below, Falling, Nested, Bare, Ended, InBody, InMain, InLoop, InWhole, InRow}
+use Rattle.uc_code.specs.Laid.{under, handlers, covers, counted_by, from_row, from_newest}
+use Rattle.uc_code.specs.Open.{named_by, opening_mark, opening_kind, opening_event, opening_around, made, Below, Falling, Nested, Bare, Ended, InBody, InLoop, InRow}
 
 -- numbers below another
 
@@ -57,37 +56,43 @@ name_small k (n ∷ ns) b = let m = b.0 in omega arith
 other_name : (r : HandlerRow) (rs : List HandlerRow) (ns : List ℕ) → Below (length rs) ns → from_row (r ∷ rs) (named_by ns) ≡ from_row rs (named_by ns)
 other_name r rs ns b = other_row r rs (named_by ns) (name_small (length rs) ns b)
 
--- the row that an opening makes
-abbrev pub made : Opening → ℕ → List Mark → HandlerRow
-made o from ms = record { from = from; to = OPEN_END; outer = named_by (opening_around o ms); kind = kind.CleanUp; event = opening_event o; entry = 0 }
-
--- the numbers of its handlers, before those around it
+-- the number of the row that an opening makes, where it is a handler, before those around it
 abbrev own_in : Opening → ℕ → List ℕ
+own_in (opening.Main routine line) n = n ∷ []
+own_in (opening.Whole leave) n = n ∷ []
+own_in opening.Handler n = n ∷ []
 own_in (opening.Object what line) n = n ∷ []
 own_in opening.Part n = n ∷ []
 own_in opening.Elements n = n ∷ []
 own_in (opening.Outward below) n = []
 
 handlers_in : (o : Opening) (n : ℕ) (ms : List Mark) → handlers (opening_mark o n ∷ ms) ≡ own_in o n ++ opening_around o ms
+handlers_in (opening.Main routine line) n ms = refl
+handlers_in (opening.Whole leave) n ms = refl
+handlers_in opening.Handler n ms = refl
 handlers_in (opening.Object what line) n ms = refl
 handlers_in opening.Part n ms = refl
 handlers_in opening.Elements n ms = refl
 handlers_in (opening.Outward below) n ms = refl
 
-block_in : (o : Opening) (from : ℕ) (ms : List Mark) (rs : List HandlerRow) → block_by kind.CleanUp (made o from ms) rs ≡ own_in o (length rs)
-block_in (opening.Object what line) from ms rs = refl
-block_in opening.Part from ms rs = refl
-block_in opening.Elements from ms rs = refl
-block_in (opening.Outward below) from ms rs = refl
+counted_in : (o : Opening) (n : ℕ) → counted_by (opening_kind o) (opening_event o) n ≡ own_in o n
+counted_in (opening.Main routine line) n = refl
+counted_in (opening.Whole leave) n = refl
+counted_in opening.Handler n = refl
+counted_in (opening.Object what line) n = refl
+counted_in opening.Part n = refl
+counted_in opening.Elements n = refl
+counted_in (opening.Outward below) n = refl
 
 module _ (here : ℕ) where
   pub all_below : (rs : List HandlerRow) (ms : List Mark) → Nested here rs ms → Below (length rs) (handlers ms)
   all_below rs ms Bare = tt
   all_below rs ms (Ended r qs _ l n) = below_rise (length qs) (length rs) (handlers ms) (omega arith) (all_below qs ms n)
   all_below rs ms (InBody routine _ qs n) = all_below rs qs n
-  all_below rs ms (InMain routine line _ qs n) = all_below rs qs n
   all_below rs ms (InLoop leave again _ qs n) = all_below rs qs n
-  all_below rs ms (InWhole leave _ qs n) = all_below rs qs n
+  all_below rs ms (InRow (opening.Main routine line) from qs ns l n) = (omega arith, below_rise (length qs) (length rs) (handlers ns) (omega arith) (all_below qs ns n))
+  all_below rs ms (InRow (opening.Whole leave) from qs ns l n) = (omega arith, below_rise (length qs) (length rs) (handlers ns) (omega arith) (all_below qs ns n))
+  all_below rs ms (InRow opening.Handler from qs ns l n) = (omega arith, below_rise (length qs) (length rs) (handlers ns) (omega arith) (all_below qs ns n))
   all_below rs ms (InRow (opening.Object what line) from qs ns l n) = (omega arith, below_rise (length qs) (length rs) (handlers ns) (omega arith) (all_below qs ns n))
   all_below rs ms (InRow opening.Part from qs ns l n) = (omega arith, below_rise (length qs) (length rs) (handlers ns) (omega arith) (all_below qs ns n))
   all_below rs ms (InRow opening.Elements from qs ns l n) = (omega arith, below_rise (length qs) (length rs) (handlers ns) (omega arith) (all_below qs ns n))
@@ -103,8 +108,8 @@ module _ (here : ℕ) where
         let t : under below (length qs ∷ handlers ns) ≡ length qs ∷ handlers ns = under_take below (length qs) (handlers ns) h ∙ ap (λ l. length qs ∷ l) all in
         let k : nat_eq (suc (length qs)) (suc (length qs)) ≡ true = eq-eqb _ _ refl in
         let inner : from_row qs (named_by (opening_around o ns)) ≡ handlers ns = ap (λ l. from_row qs (named_by l)) (e ∙ sym same) ∙ (ih (length qs) ∙ same) in
-        let at_row : from_row (made o from ns ∷ qs) (suc (length qs)) ≡ block_by kind.CleanUp (made o from ns) qs ++ from_row qs (named_by (opening_around o ns)) = rw k refl in
-        let whole : from_row (made o from ns ∷ qs) (suc (length qs)) ≡ length qs ∷ handlers ns = at_row ∙ (ap (λ l. l ++ from_row qs (named_by (opening_around o ns))) (block_in o from ns qs ∙ w) ∙ ap (λ l. length qs ∷ l) inner) in
+        let at_row : from_row (made o from ns ∷ qs) (suc (length qs)) ≡ counted_by (opening_kind o) (opening_event o) (length qs) ++ from_row qs (named_by (opening_around o ns)) = rw k refl in
+        let whole : from_row (made o from ns ∷ qs) (suc (length qs)) ≡ length qs ∷ handlers ns = at_row ∙ (ap (λ l. l ++ from_row qs (named_by (opening_around o ns))) (counted_in o (length qs) ∙ w) ∙ ap (λ l. length qs ∷ l) inner) in
         ap (λ l. from_row (made o from ns ∷ qs) (named_by l)) t ∙ (whole ∙ sym t)
     | inr h ↦
         let t : under below (length qs ∷ handlers ns) ≡ under below (handlers ns) = under_drop below (length qs) (handlers ns) h in
@@ -115,9 +120,10 @@ module _ (here : ℕ) where
   named rs ms Bare below = refl
   named rs ms (Ended r qs _ l n) below = other_name r qs (under below (handlers ms)) (below_under (length qs) below (handlers ms) (all_below qs ms n)) ∙ named qs ms n below
   named rs ms (InBody routine _ qs n) below = named rs qs n below
-  named rs ms (InMain routine line _ qs n) below = named rs qs n below
   named rs ms (InLoop leave again _ qs n) below = named rs qs n below
-  named rs ms (InWhole leave _ qs n) below = named rs qs n below
+  named rs ms (InRow (opening.Main routine line) from qs ns l n) below = named_own (opening.Main routine line) from below qs ns (all_below qs ns n) (λ b. named qs ns n b) refl refl
+  named rs ms (InRow (opening.Whole leave) from qs ns l n) below = named_own (opening.Whole leave) from below qs ns (all_below qs ns n) (λ b. named qs ns n b) refl refl
+  named rs ms (InRow opening.Handler from qs ns l n) below = named_own opening.Handler from below qs ns (all_below qs ns n) (λ b. named qs ns n b) refl refl
   named rs ms (InRow (opening.Object what line) from qs ns l n) below = named_own (opening.Object what line) from below qs ns (all_below qs ns n) (λ b. named qs ns n b) refl refl
   named rs ms (InRow opening.Part from qs ns l n) below = named_own opening.Part from below qs ns (all_below qs ns n) (λ b. named qs ns n b) refl refl
   named rs ms (InRow opening.Elements from qs ns l n) below = named_own opening.Elements from below qs ns (all_below qs ns n) (λ b. named qs ns n b) refl refl
@@ -127,10 +133,18 @@ module _ (here : ℕ) where
       let r : HandlerRow = made (opening.Outward less) from ns in
       ap (λ l. from_row (r ∷ qs) (named_by l)) e ∙ (other_name r qs (under (min below less) (handlers ns)) b ∙ (named qs ns n (min below less) ∙ sym e))
 
+  all_named : (qs : List HandlerRow) (ns : List Mark) → Nested here qs ns → from_row qs (named_by (handlers ns)) ≡ handlers ns
+  all_named qs ns n =
+      let same : under (length qs) (handlers ns) ≡ handlers ns = under_all (length qs) (handlers ns) (all_below qs ns n) in
+      ap (λ l. from_row qs (named_by l)) (sym same) ∙ (named qs ns n (length qs) ∙ same)
+
   around_named : (o : Opening) (qs : List HandlerRow) (ns : List Mark) → Nested here qs ns → from_row qs (named_by (opening_around o ns)) ≡ opening_around o ns
-  around_named (opening.Object what line) qs ns n = let same : under (length qs) (handlers ns) ≡ handlers ns = under_all (length qs) (handlers ns) (all_below qs ns n) in ap (λ l. from_row qs (named_by l)) (sym same) ∙ (named qs ns n (length qs) ∙ same)
-  around_named opening.Part qs ns n = let same : under (length qs) (handlers ns) ≡ handlers ns = under_all (length qs) (handlers ns) (all_below qs ns n) in ap (λ l. from_row qs (named_by l)) (sym same) ∙ (named qs ns n (length qs) ∙ same)
-  around_named opening.Elements qs ns n = let same : under (length qs) (handlers ns) ≡ handlers ns = under_all (length qs) (handlers ns) (all_below qs ns n) in ap (λ l. from_row qs (named_by l)) (sym same) ∙ (named qs ns n (length qs) ∙ same)
+  around_named (opening.Main routine line) qs ns n = all_named qs ns n
+  around_named (opening.Whole leave) qs ns n = all_named qs ns n
+  around_named opening.Handler qs ns n = all_named qs ns n
+  around_named (opening.Object what line) qs ns n = all_named qs ns n
+  around_named opening.Part qs ns n = all_named qs ns n
+  around_named opening.Elements qs ns n = all_named qs ns n
   around_named (opening.Outward below) qs ns n = named qs ns n below
 
   -- each op from here on has the handlers of the marks
@@ -146,23 +160,19 @@ module _ (here : ℕ) where
   newest rs ms Bare next g m = refl
   newest rs ms (Ended r qs _ l n) next g m = let c : covers r next ≡ false = covers_past (nat_lt r.from next) r next refl (omega arith) in rw c (newest qs ms n next g m)
   newest rs ms (InBody routine _ qs n) next g m = newest rs qs n next g m
-  newest rs ms (InMain routine line _ qs n) next g m = newest rs qs n next g m
   newest rs ms (InLoop leave again _ qs n) next g m = newest rs qs n next g m
-  newest rs ms (InWhole leave _ qs n) next g m = newest rs qs n next g m
   newest rs ms (InRow o from qs ns l n) next g m =
       let r : HandlerRow = made o from ns in
       let c : covers r next ≡ true = covers_open r next (omega arith) m in
-      let f : from_newest (r ∷ qs) next ≡ block_by kind.CleanUp r qs ++ from_row qs (named_by (opening_around o ns)) = rw c refl in
-      f ∙ (ap (λ l. l ++ from_row qs (named_by (opening_around o ns))) (block_in o from ns qs) ∙ (ap (λ l. own_in o (length qs) ++ l) (around_named o qs ns n) ∙ sym (handlers_in o (length qs) ns)))
+      let f : from_newest (r ∷ qs) next ≡ counted_by (opening_kind o) (opening_event o) (length qs) ++ from_row qs (named_by (opening_around o ns)) = rw c refl in
+      f ∙ (ap (λ l. l ++ from_row qs (named_by (opening_around o ns))) (counted_in o (length qs)) ∙ (ap (λ l. own_in o (length qs) ++ l) (around_named o qs ns n) ∙ sym (handlers_in o (length qs) ns)))
 
 -- further on all still fits
 pub nested_rise : (here there : ℕ) → here ≤ there → (rs : List HandlerRow) (ms : List Mark) → Nested here rs ms → Nested there rs ms
 nested_rise here there g rs ms Bare = Bare
 nested_rise here there g rs ms (Ended r qs _ l n) = Ended r qs ms (omega arith) (nested_rise here there g qs ms n)
 nested_rise here there g rs ms (InBody routine _ qs n) = InBody routine rs qs (nested_rise here there g rs qs n)
-nested_rise here there g rs ms (InMain routine line _ qs n) = InMain routine line rs qs (nested_rise here there g rs qs n)
 nested_rise here there g rs ms (InLoop leave again _ qs n) = InLoop leave again rs qs (nested_rise here there g rs qs n)
-nested_rise here there g rs ms (InWhole leave _ qs n) = InWhole leave rs qs (nested_rise here there g rs qs n)
 nested_rise here there g rs ms (InRow o from qs ns l n) = InRow o from qs ns (omega arith) (nested_rise here there g qs ns n)
 
 -- the rows of the marks fall
@@ -170,9 +180,10 @@ pub falls : (here : ℕ) (rs : List HandlerRow) (ms : List Mark) → Nested here
 falls here rs ms Bare = tt
 falls here rs ms (Ended r qs _ l n) = falls here qs ms n
 falls here rs ms (InBody routine _ qs n) = falls here rs qs n
-falls here rs ms (InMain routine line _ qs n) = falls here rs qs n
 falls here rs ms (InLoop leave again _ qs n) = falls here rs qs n
-falls here rs ms (InWhole leave _ qs n) = falls here rs qs n
+falls here rs ms (InRow (opening.Main routine line) from qs ns l n) = (all_below here qs ns n, falls here qs ns n)
+falls here rs ms (InRow (opening.Whole leave) from qs ns l n) = (all_below here qs ns n, falls here qs ns n)
+falls here rs ms (InRow opening.Handler from qs ns l n) = (all_below here qs ns n, falls here qs ns n)
 falls here rs ms (InRow (opening.Object what line) from qs ns l n) = (all_below here qs ns n, falls here qs ns n)
 falls here rs ms (InRow opening.Part from qs ns l n) = (all_below here qs ns n, falls here qs ns n)
 falls here rs ms (InRow opening.Elements from qs ns l n) = (all_below here qs ns n, falls here qs ns n)

@@ -1,665 +1,267 @@
 -- The code of the source is paced.
-use Rattle.std.proofs.Common.{◌≡◌, ℕ, zero, suc, ◌+◌, ◌-◌, ◌^◌, ◌<◌, ◌≤◌, pos, List, [], ◌∷◌, Bool, true, false, Option, Some, None, length, refl, sym, subst, arith}
+use Rattle.std.proofs.Common.{◌≡◌, ℕ, zero, suc, ◌+◌, ◌-◌, ◌<◌, ◌≤◌, max, pos, List, [], ◌∷◌, Bool, true, false, Option, Some, None, length, refl, sym, subst, ◌∙◌, arith}
 use Rattle.std.specs.Prelude.{slice_get}
 use Rattle.std.proofs.lemmas.Option.{slice_get_within}
-use Rattle.uc_tree.specs.Source.{Shape, Integer, Character, Truth, Binding, Last, Field, Array, shape_cells, field_cells, Order, TestFirst, BodyFirst, NoTest, Operator, Plus, Minus, Times, Over, Modulo, Equal, NotEqual, Less, AtMost, Greater, AtLeast, Expr, Literal, Variable, Element, Get, Load, Negated, Not, AsCharacter, AsTruth, Operate, And, Or, Set, Assign, First, Update, StepBehind, Fail, Call, OfObject, ObjectExpr, This, OwnField, GetOwn, FieldOf, Counted, CallOn, CallUnwritten, EnterOn, Wait, Signal, SignalBlock, IsEmpty, FrontOf, Exprs, NoExprs, MoreExprs, Item, Show, ShowText, Target, Declared, Stmt, Skip, Block, Whole, Evaluate, Declare, Print, PrintTogether, Read, If, Loop, Break, Continue, Return, Fill, OfEvents, OfTasks, CleanUp, Stmts, Nil, Then, Scoped, Built, Way, ToBreak, ToContinue, ToReturn, ToEnd, Purpose, TaskMain, Procedure, Function, Builder, Routine, Source}
+use Rattle.uc_tree.specs.Source.{Shape, Integer, Character, Truth, Binding, Last, Field, Array, shape_cells, field_cells, Operator, Plus, Minus, Times, Over, Modulo, Equal, NotEqual, Less, AtMost, Greater, AtLeast, Expr, Literal, Variable, Element, Get, Load, Negated, Not, AsCharacter, AsTruth, Operate, And, Or, Set, Assign, First, Update, StepBehind, Fail, Call, OfObject, ObjectExpr, This, OwnField, GetOwn, FieldOf, Counted, CallOn, CallUnwritten, EnterOn, Wait, Signal, SignalBlock, IsEmpty, FrontOf, Exprs, NoExprs, MoreExprs, Item, Show, ShowText, Target, Declared, Stmt, Skip, Block, Whole, Evaluate, Declare, Print, PrintTogether, Read, If, Loop, Break, Continue, Return, Fill, OfEvents, OfTasks, EventStmt, Throw, Raise, Try, RaiseAt, Enable, Disable, Raised, Plainly, BuiltAt as BuildsAt, AgainFrom, Handlers, NoHandlers, MoreHandlers, Stmts, Nil, Then, Scoped, Built, Way, ToBreak, ToContinue, ToReturn, ToEnd, Purpose, TaskMain, Procedure, Function, Builder, Routine, Source}
+use Rattle.uc_tree.specs.Hidden.{EVENT_FIELDS}
 use Rattle.uc_code.specs.declared.op.Op.{Op}
 use Rattle.uc_code.specs.declared.op.Op.TheVariants as op
-use Rattle.uc_code.specs.declared.rows.Array.{Array as ArrayOf}
 use Rattle.uc_code.specs.declared.rows.Mark.{Mark}
-use Rattle.uc_code.specs.declared.rows.ObjectCall.{ObjectCall}
-use Rattle.uc_code.specs.declared.rows.RoutineCode.{RoutineCode}
-use Rattle.uc_code.specs.declared.rows.Spot.{Spot}
-use Rattle.uc_code.specs.declared.rows.Spot.TheVariants as spot
-use Rattle.uc_code.specs.Codes.{Code}
-use Rattle.uc_code.specs.Laid.{Laid, laid_of, routine_in}
-use Rattle.uc_code.specs.Pace.{behind, climb_op, height, Test, test_by, burden, Onward, Paced, IsPaced}
 use Rattle.uc_code.specs.declared.rows.Mark.TheVariants as mark
-use Rattle.uc_code.specs.Ranges.{OpAt, Nothing, Never, One, Risk, CallsBehind, Both, Fork, pads_at, begin_at, BackAt, Turns, WholeAt, Rounds, OverElements, ScopeOf, BehindPart}
-use Rattle.uc_code.specs.Lowered.{operator_op, item_op, ConvertAt, ExprAt, ObjectAt, ArgumentsAt, ValueAt, ItemsAt, ValuesAt, PiecesAt, TogetherAt, TargetsAt, StartAt, VariablesAt, spot_op, SpotAt, CalledAt, CallAt, CallDone, CallBuilt, CleanBy, CleanAt, FilledAt, ScopedAt, BuiltAt, Any, ExitAt, StepAt, StmtAt, StmtsAt, body_mark, body_line, EndAt, BodyAt, RoutineAt, RoutinesAt, Lowered}
-use Rattle.uc_code.proofs.Heights.{Outside, Plain, PacedAt, Each, Around, around_less, further_of, paced_by, none, only, join, within, onward_plain, onward_falls, own_plain, outside_next, jump_plain, jump_plain_at, jump_paced_at, jump_outside, jump_paced, zero_paced, tick_plain, tick_paced, back_paced, back_test_paced, exit_paced, Starts, Further, calling, high_calling, PadTo, height_is, down, outside_end}
-use Rattle.uc_code.proofs.Turning.{In}
-use Rattle.uc_code.proofs.Rounds.{before_turns, test_falls, sweep_test, sweep_in, sweep_low, sweep_low_test, sweep_each, sweep_begins, fill_test, fill_in, fill_low, fill_low_test, fill_each, fill_begins}
+use Rattle.uc_code.specs.declared.rows.RoutineCode.{RoutineCode}
+use Rattle.uc_code.specs.Codes.{Code}
+use Rattle.uc_code.specs.Laid.{Laid, laid_of}
+use Rattle.uc_code.specs.Pace.{climb_op, above, Test, test_by, In, Stays, Text, Mute, Onward, Paced, IsPaced}
+use Rattle.uc_code.specs.Ranges.{OpAt, One, Both, Fork}
+use Rattle.uc_code.specs.Silent.{silent, silent_all}
+use Rattle.uc_code.specs.Lowered.{operator_op, item_op, handler_rows, ConvertAt, ExprAt, ObjectAt, ArgumentsAt, ValueAt, ItemsAt, ValuesAt, PiecesAt, TogetherAt, TargetsAt, StartAt, VariablesAt, RaisedAt, FieldsAt, KeepAt, KeepsAt, ExitAt, StepAt, HandlerBy, StmtAt, EventAt, HandlersAt, StmtsAt, BodyAt, RoutineAt, RoutinesAt, Lowered}
+use Rattle.uc_code.proofs.Heights.{Outside, Plain, PacedAt, Each, Around, paced_by, none, only, join, within, own_plain, outside_next, Starts, Further, down, height_is, outside_end, AllStay, stay_one, stay_join}
+use Rattle.uc_code.proofs.Pacing as pacing
+use Rattle.uc_code.proofs.Spans as spans
+use Rattle.uc_code.proofs.Guards as blocks
 
-module _ (code : Laid) (table : List RoutineCode) where
-  -- under marks a piece is paced, where what stands behind it is plain
-  pub record Paces (ms : List Mark) (B : ℕ → ℕ → Type 0) : Type 0 where
-    pub rises : (a z : ℕ) → B a z → a ≤ z
-    pub plain : (a z : ℕ) → B a z → Plain code table z → Plain code table a
-    pub each : Starts code table → (a z : ℕ) → B a z → Around code table ms z → Plain code table z → Each code table a z
+module _ (code : Laid) (table : List RoutineCode) (any : Bool) where
+  abbrev Paces : List Mark → (ℕ → ℕ → Type 0) → Type 0
+  Paces ms B = pacing.Paces code table any ms B
 
-  pub nothing_paces : (ms : List Mark) → Paces ms Nothing
-  nothing_paces ms = record {
-    rises = λ a z h. let e = h.end in omega arith;
-    plain = λ a z h p. subst (Plain code table) h.end p;
-    each = λ q a z h r p. let e = h.end in none code table a z (omega arith);
-  }
-
-  -- an op that only goes on
-  pub onward_paces : (ms : List Mark) (o : Op) (line : ℕ) → ((n k h : ℕ) → climb_op n k o h ≡ suc h) → ((k : ℕ) (t : Option Test) → test_by o k t ≡ t) → ((at : ℕ) → Onward code.ops table at (at + 1) → Paced code.ops table at o) → Paces ms (One code o line)
-  onward_paces ms o line c t f = record {
-    rises = λ a z h. let e = h.end in omega arith;
-    plain = λ a z h p. onward_plain code table a o line h.here c t (subst (Plain code table) h.end p);
-    each = λ q a z h r p. only code table a z h.end (paced_by code table a o line h.here (f a (onward_falls code table a o line h.here c t (subst (Plain code table) h.end p))));
-  }
-
-  pub both_paces : (ms : List Mark) (B C : ℕ → ℕ → Type 0) → Paces ms B → Paces ms C → Paces ms (Both B C)
-  both_paces ms B C b c = record {
-    rises = λ a z h. let l = b.rises a h.middle h.first in let k = c.rises h.middle z h.second in omega arith;
-    plain = λ a z h p. b.plain a h.middle h.first (c.plain h.middle z h.second p);
-    each = λ q a z h r p. join code table a h.middle z (b.each q a h.middle h.first (around_less code table ms h.middle z (c.rises h.middle z h.second) r) (c.plain h.middle z h.second p)) (c.each q h.middle z h.second r p);
-  }
+  onward : (ms : List Mark) (o : Op) (line : ℕ) → ((n k h : ℕ) → climb_op n k o h ≡ suc h) → ((k : ℕ) (t : Option Test) → test_by o k t ≡ t) → ((at : ℕ) → Onward code table at (at + 1) → Paced code table at o) → ((from to floor at : ℕ) → In code table from to (at + 1) → Stays code table from to floor at o) → Paces ms (One code o line)
+  onward ms o line c t f g = pacing.onward_paces code table any ms o line c t f g
 
   both : {B C : ℕ → ℕ → Type 0} → (ms : List Mark) → Paces ms B → Paces ms C → Paces ms (Both B C)
-  both {B} {C} ms b c = both_paces ms B C b c
-
-  pub fork_paces : (ms : List Mark) (line : ℕ) (B C : ℕ → ℕ → Type 0) → Paces ms B → Paces ms C → Paces ms (Fork code line B C)
-  fork_paces ms line B C b c = record {
-    rises = λ a z h. let l = b.rises (a + 1) h.middle h.first in let k = c.rises (h.middle + 1) z h.second in omega arith;
-    plain = λ a z h p.
-        let second = c.plain (h.middle + 1) z h.second p in
-        let first = b.plain (a + 1) h.middle h.first (jump_plain code table h.middle z line h.leave second.outside) in
-        own_plain code table a (op.IfZero (h.middle + 1)) line h.choose (λ n k x. refl) (λ k t. refl) first.outside;
-    each = λ q a z h r p.
-        let l = b.rises (a + 1) h.middle h.first in
-        let k = c.rises (h.middle + 1) z h.second in
-        let second = c.plain (h.middle + 1) z h.second p in
-        let leave = jump_plain code table h.middle z line h.leave second.outside in
-        let first = b.plain (a + 1) h.middle h.first leave in
-        let tested = only code table a (a + 1) refl (zero_paced code table a (h.middle + 1) line h.choose first second (omega arith)) in
-        let left = only code table h.middle (h.middle + 1) refl (jump_paced code table h.middle z line h.leave (omega arith) second.outside p) in
-        join code table a (a + 1) z tested (
-        join code table (a + 1) h.middle z (b.each q (a + 1) h.middle h.first (around_less code table ms h.middle z (omega arith) r) leave) (
-        join code table h.middle (h.middle + 1) z left (c.each q (h.middle + 1) z h.second r p)));
-  }
+  both ms b c = pacing.both code table any ms b c
 
   fork : {B C : ℕ → ℕ → Type 0} → (ms : List Mark) (line : ℕ) → Paces ms B → Paces ms C → Paces ms (Fork code line B C)
-  fork {B} {C} ms line b c = fork_paces ms line B C b c
-
-  -- the end of a routine: nothing goes on behind it
-  return_plain : (line a z : ℕ) → One code op.Return line a z → Outside code table z → Plain code table a
-  return_plain line a z h p = own_plain code table a op.Return line h.here (λ n k x. refl) (λ k t. refl) (subst (Outside code table) h.end p)
-
-  return_each : (line a z : ℕ) → One code op.Return line a z → Each code table a z
-  return_each line a z h = only code table a z h.end (paced_by code table a op.Return line h.here tt)
+  fork ms line b c = pacing.fork code table any ms line b c
 
   operator_paces : (ms : List Mark) (line : ℕ) (o : Operator) → Paces ms (One code (operator_op o) line)
-  operator_paces ms line Plus = onward_paces ms op.Add line (λ n k h. refl) (λ k t. refl) (λ at l. l)
-  operator_paces ms line Minus = onward_paces ms op.Subtract line (λ n k h. refl) (λ k t. refl) (λ at l. l)
-  operator_paces ms line Times = onward_paces ms op.Multiply line (λ n k h. refl) (λ k t. refl) (λ at l. l)
-  operator_paces ms line Over = onward_paces ms op.Divide line (λ n k h. refl) (λ k t. refl) (λ at l. l)
-  operator_paces ms line Modulo = onward_paces ms op.Remainder line (λ n k h. refl) (λ k t. refl) (λ at l. l)
-  operator_paces ms line Equal = onward_paces ms op.Equal line (λ n k h. refl) (λ k t. refl) (λ at l. l)
-  operator_paces ms line NotEqual = onward_paces ms op.NotEqual line (λ n k h. refl) (λ k t. refl) (λ at l. l)
-  operator_paces ms line Less = onward_paces ms op.Less line (λ n k h. refl) (λ k t. refl) (λ at l. l)
-  operator_paces ms line AtMost = onward_paces ms op.AtMost line (λ n k h. refl) (λ k t. refl) (λ at l. l)
-  operator_paces ms line Greater = onward_paces ms op.Greater line (λ n k h. refl) (λ k t. refl) (λ at l. l)
-  operator_paces ms line AtLeast = onward_paces ms op.AtLeast line (λ n k h. refl) (λ k t. refl) (λ at l. l)
+  operator_paces ms line Plus = onward ms op.Add line (λ n k h. refl) (λ k t. refl) (λ at l. l) (λ from to floor at i. i)
+  operator_paces ms line Minus = onward ms op.Subtract line (λ n k h. refl) (λ k t. refl) (λ at l. l) (λ from to floor at i. i)
+  operator_paces ms line Times = onward ms op.Multiply line (λ n k h. refl) (λ k t. refl) (λ at l. l) (λ from to floor at i. i)
+  operator_paces ms line Over = onward ms op.Divide line (λ n k h. refl) (λ k t. refl) (λ at l. l) (λ from to floor at i. i)
+  operator_paces ms line Modulo = onward ms op.Remainder line (λ n k h. refl) (λ k t. refl) (λ at l. l) (λ from to floor at i. i)
+  operator_paces ms line Equal = onward ms op.Equal line (λ n k h. refl) (λ k t. refl) (λ at l. l) (λ from to floor at i. i)
+  operator_paces ms line NotEqual = onward ms op.NotEqual line (λ n k h. refl) (λ k t. refl) (λ at l. l) (λ from to floor at i. i)
+  operator_paces ms line Less = onward ms op.Less line (λ n k h. refl) (λ k t. refl) (λ at l. l) (λ from to floor at i. i)
+  operator_paces ms line AtMost = onward ms op.AtMost line (λ n k h. refl) (λ k t. refl) (λ at l. l) (λ from to floor at i. i)
+  operator_paces ms line Greater = onward ms op.Greater line (λ n k h. refl) (λ k t. refl) (λ at l. l) (λ from to floor at i. i)
+  operator_paces ms line AtLeast = onward ms op.AtLeast line (λ n k h. refl) (λ k t. refl) (λ at l. l) (λ from to floor at i. i)
 
   item_paces : (ms : List Mark) (line : ℕ) (i : Item) → Paces ms (One code (item_op i) line)
-  item_paces ms line (Show form e) = onward_paces ms (op.Print form) line (λ n k h. refl) (λ k t. refl) (λ at l. l)
-  item_paces ms line (ShowText k) = onward_paces ms (op.Text k) line (λ n k h. refl) (λ k t. refl) (λ at l. l)
+  item_paces ms line (Show form e) = onward ms (op.Print form) line (λ n k h. refl) (λ k t. refl) (λ at l. l) (λ from to floor at i. i)
+  item_paces ms line (ShowText k) = onward ms (op.Text k) line (λ n k h. refl) (λ k t. refl) (λ at l. l) (λ from to floor at i. i)
 
   convert_paces : (ms : List Mark) (line : ℕ) (s : Shape) → Paces ms (ConvertAt code line s)
-  convert_paces ms line Integer = nothing_paces ms
-  convert_paces ms line Character = onward_paces ms op.ToChar line (λ n k h. refl) (λ k t. refl) (λ at l. l)
-  convert_paces ms line Truth = onward_paces ms op.ToBool line (λ n k h. refl) (λ k t. refl) (λ at l. l)
-  convert_paces ms line Binding = nothing_paces ms
-  convert_paces ms line Last = nothing_paces ms
-  convert_paces ms line (Field s t) = nothing_paces ms
-  convert_paces ms line (Array n s) = nothing_paces ms
-
-  never_paces : (ms : List Mark) → Paces ms Never
-  never_paces ms = record { rises = λ a z h. absurd h; plain = λ a z h p. absurd h; each = λ q a z h r p. absurd h }
-
-  -- a call stands behind a tick, or leads further on
-
-  high_paces : (ms : List Mark) (line r : ℕ) (o : Op) → ((n k h : ℕ) → climb_op n k o h ≡ behind n 0 + 2) → ((k : ℕ) (t : Option Test) → test_by o k t ≡ t) → ((at : ℕ) → Paced code.ops table at (op.Call r) → Paced code.ops table at o) → Paces ms (Both (One code op.Tick line) (Risk code ms o line))
-  high_paces ms line r o c t f = record {
-    rises = λ a z h. let e = h.first.end in let g = h.second.end in omega arith;
-    plain = λ a z h p.
-        let q : Outside code table (h.middle + 1) = subst (Outside code table) h.second.end p.outside in
-        let k : Outside code table h.middle = outside_next code table h.middle o line h.second.here t q in
-        tick_plain code table a line h.first.here (subst (Outside code table) h.first.end k);
-    each = λ q a z h x p.
-        join code table a h.middle z
-        (only code table a h.middle h.first.end (tick_paced code table a line h.first.here))
-        (only code table h.middle z h.second.end (paced_by code table h.middle o line h.second.here (f h.middle (high_calling code table h.middle r line o h.second.here c t q (subst (Plain code table) h.second.end p)))));
-  }
-
-  call_paces : (ms : List Mark) (line r : ℕ) → Paces ms (Both (One code op.Tick line) (Risk code ms (op.Call r) line))
-  call_paces ms line r = high_paces ms line r (op.Call r) (λ n k h. refl) (λ k t. refl) (λ at p. p)
-
-  call_on_paces : (ms : List Mark) (line r : ℕ) → Paces ms (Both (One code op.Tick line) (Risk code ms (op.CallOn r) line))
-  call_on_paces ms line r = high_paces ms line r (op.CallOn r) (λ n k h. refl) (λ k t. refl) (λ at p. p)
-
-  calls_behind_paces : (ms : List Mark) (line r : ℕ) → Paces ms (CallsBehind code ms r line)
-  calls_behind_paces ms line r = record {
-    rises = λ a z h. let e = h.risk.end in omega arith;
-    plain = λ a z h p. own_plain code table a (op.CallUnwritten r) line h.risk.here (λ n k x. refl) (λ k t. refl) (subst (Outside code table) h.risk.end p.outside);
-    each = λ q a z h x p.
-        let e = h.risk.end in
-        let k = height_is code table a (op.CallUnwritten r) line h.risk.here in
-        let w = within code table a (op.CallUnwritten r) line h.risk.here in
-        let m : Plain code table (a + 1) = subst (Plain code table) h.risk.end p in
-        let n = m.low in
-        let f = further_of code table ms z x in
-        only code table a z h.risk.end (paced_by code table a (op.CallUnwritten r) line h.risk.here
-        (calling code table a r (outside_next code table a (op.CallUnwritten r) line h.risk.here (λ k t. refl) m.outside) m.outside (omega arith) (λ c g. let v = q r c g in let u = v.low in let b = f r c h.behind g in (v, omega arith))));
-  }
+  convert_paces ms line Integer = pacing.nothing_paces code table any ms
+  convert_paces ms line Character = onward ms op.ToChar line (λ n k h. refl) (λ k t. refl) (λ at l. l) (λ from to floor at i. i)
+  convert_paces ms line Truth = onward ms op.ToBool line (λ n k h. refl) (λ k t. refl) (λ at l. l) (λ from to floor at i. i)
+  convert_paces ms line Binding = pacing.nothing_paces code table any ms
+  convert_paces ms line Last = pacing.nothing_paces code table any ms
+  convert_paces ms line (Field s t) = pacing.nothing_paces code table any ms
+  convert_paces ms line (Array n s) = pacing.nothing_paces code table any ms
 
   mutual
     expr_paces : (ms : List Mark) (line : ℕ) (e : Expr) → Paces ms (ExprAt code line ms e)
-    expr_paces ms line (Literal n) = onward_paces ms (op.Push n) line (λ n k h. refl) (λ k t. refl) (λ at l. l)
-    expr_paces ms line (Variable k) = onward_paces ms (op.Local k) line (λ n k h. refl) (λ k t. refl) (λ at l. l)
-    expr_paces ms line (Element n s a i) = both ms (expr_paces ms line a) (both ms (expr_paces ms line i) (onward_paces ms (op.Index n (shape_cells s)) line (λ n k h. refl) (λ k t. refl) (λ at l. l)))
-    expr_paces ms line (Get k) = onward_paces ms (op.Via k) line (λ n k h. refl) (λ k t. refl) (λ at l. l)
-    expr_paces ms line (Load a) = both ms (expr_paces ms line a) (onward_paces ms op.Load line (λ n k h. refl) (λ k t. refl) (λ at l. l))
-    expr_paces ms line (Negated a) = both ms (expr_paces ms line a) (onward_paces ms op.Negate line (λ n k h. refl) (λ k t. refl) (λ at l. l))
-    expr_paces ms line (Not a) = both ms (expr_paces ms line a) (onward_paces ms op.Not line (λ n k h. refl) (λ k t. refl) (λ at l. l))
-    expr_paces ms line (AsCharacter a) = both ms (expr_paces ms line a) (onward_paces ms op.ToChar line (λ n k h. refl) (λ k t. refl) (λ at l. l))
-    expr_paces ms line (AsTruth a) = both ms (expr_paces ms line a) (onward_paces ms op.ToBool line (λ n k h. refl) (λ k t. refl) (λ at l. l))
+    expr_paces ms line (Literal n) = onward ms (op.Push n) line (λ n k h. refl) (λ k t. refl) (λ at l. l) (λ from to floor at i. i)
+    expr_paces ms line (Variable k) = onward ms (op.Local k) line (λ n k h. refl) (λ k t. refl) (λ at l. l) (λ from to floor at i. i)
+    expr_paces ms line (Element n s a i) = both ms (expr_paces ms line a) (both ms (expr_paces ms line i) (onward ms (op.Index n (shape_cells s)) line (λ n k h. refl) (λ k t. refl) (λ at l. l) (λ from to floor at i. i)))
+    expr_paces ms line (Get k) = onward ms (op.Via k) line (λ n k h. refl) (λ k t. refl) (λ at l. l) (λ from to floor at i. i)
+    expr_paces ms line (Load a) = both ms (expr_paces ms line a) (onward ms op.Load line (λ n k h. refl) (λ k t. refl) (λ at l. l) (λ from to floor at i. i))
+    expr_paces ms line (Negated a) = both ms (expr_paces ms line a) (onward ms op.Negate line (λ n k h. refl) (λ k t. refl) (λ at l. l) (λ from to floor at i. i))
+    expr_paces ms line (Not a) = both ms (expr_paces ms line a) (onward ms op.Not line (λ n k h. refl) (λ k t. refl) (λ at l. l) (λ from to floor at i. i))
+    expr_paces ms line (AsCharacter a) = both ms (expr_paces ms line a) (onward ms op.ToChar line (λ n k h. refl) (λ k t. refl) (λ at l. l) (λ from to floor at i. i))
+    expr_paces ms line (AsTruth a) = both ms (expr_paces ms line a) (onward ms op.ToBool line (λ n k h. refl) (λ k t. refl) (λ at l. l) (λ from to floor at i. i))
     expr_paces ms line (Operate o a b) = both ms (expr_paces ms line a) (both ms (expr_paces ms line b) (operator_paces ms line o))
     expr_paces ms line (And a b) =
-        both ms (expr_paces ms line a) (fork ms line (both ms (expr_paces ms line b) (onward_paces ms op.ToBool line (λ n k h. refl) (λ k t. refl) (λ at l. l))) (onward_paces ms (op.Push (pos 0)) line (λ n k h. refl) (λ k t. refl) (λ at l. l)))
+        both ms (expr_paces ms line a) (fork ms line (both ms (expr_paces ms line b) (onward ms op.ToBool line (λ n k h. refl) (λ k t. refl) (λ at l. l) (λ from to floor at i. i))) (onward ms (op.Push (pos 0)) line (λ n k h. refl) (λ k t. refl) (λ at l. l) (λ from to floor at i. i)))
     expr_paces ms line (Or a b) =
-        both ms (expr_paces ms line a) (fork ms line (onward_paces ms (op.Push (pos 1)) line (λ n k h. refl) (λ k t. refl) (λ at l. l)) (both ms (expr_paces ms line b) (onward_paces ms op.ToBool line (λ n k h. refl) (λ k t. refl) (λ at l. l))))
-    expr_paces ms line (Set k a) = both ms (expr_paces ms line a) (onward_paces ms (op.Set k) line (λ n k h. refl) (λ k t. refl) (λ at l. l))
-    expr_paces ms line (Assign p a) = both ms (expr_paces ms line p) (both ms (expr_paces ms line a) (onward_paces ms op.Keep line (λ n k h. refl) (λ k t. refl) (λ at l. l)))
-    expr_paces ms line (First a b) = both ms (expr_paces ms line a) (both ms (expr_paces ms line b) (onward_paces ms op.Discard line (λ n k h. refl) (λ k t. refl) (λ at l. l)))
+        both ms (expr_paces ms line a) (fork ms line (onward ms (op.Push (pos 1)) line (λ n k h. refl) (λ k t. refl) (λ at l. l) (λ from to floor at i. i)) (both ms (expr_paces ms line b) (onward ms op.ToBool line (λ n k h. refl) (λ k t. refl) (λ at l. l) (λ from to floor at i. i))))
+    expr_paces ms line (Set k a) = both ms (expr_paces ms line a) (onward ms (op.Set k) line (λ n k h. refl) (λ k t. refl) (λ at l. l) (λ from to floor at i. i))
+    expr_paces ms line (Assign p a) = both ms (expr_paces ms line p) (both ms (expr_paces ms line a) (onward ms op.Keep line (λ n k h. refl) (λ k t. refl) (λ at l. l) (λ from to floor at i. i)))
+    expr_paces ms line (First a b) = both ms (expr_paces ms line a) (both ms (expr_paces ms line b) (onward ms op.Discard line (λ n k h. refl) (λ k t. refl) (λ at l. l) (λ from to floor at i. i)))
     expr_paces ms line (Update o s p a) =
-        both ms (expr_paces ms line p) (both ms (onward_paces ms op.Duplicate line (λ n k h. refl) (λ k t. refl) (λ at l. l)) (both ms (onward_paces ms op.Load line (λ n k h. refl) (λ k t. refl) (λ at l. l)) (
-        both ms (expr_paces ms line a) (both ms (operator_paces ms line o) (both ms (convert_paces ms line s) (onward_paces ms op.Keep line (λ n k h. refl) (λ k t. refl) (λ at l. l)))))))
+        both ms (expr_paces ms line p) (both ms (onward ms op.Duplicate line (λ n k h. refl) (λ k t. refl) (λ at l. l) (λ from to floor at i. i)) (both ms (onward ms op.Load line (λ n k h. refl) (λ k t. refl) (λ at l. l) (λ from to floor at i. i)) (
+        both ms (expr_paces ms line a) (both ms (operator_paces ms line o) (both ms (convert_paces ms line s) (onward ms op.Keep line (λ n k h. refl) (λ k t. refl) (λ at l. l) (λ from to floor at i. i)))))))
     expr_paces ms line (StepBehind o s p) =
-        both ms (expr_paces ms line p) (both ms (onward_paces ms op.Duplicate line (λ n k h. refl) (λ k t. refl) (λ at l. l)) (both ms (onward_paces ms op.Load line (λ n k h. refl) (λ k t. refl) (λ at l. l)) (
-        both ms (onward_paces ms op.Over line (λ n k h. refl) (λ k t. refl) (λ at l. l)) (both ms (onward_paces ms op.Over line (λ n k h. refl) (λ k t. refl) (λ at l. l)) (both ms (onward_paces ms (op.Push (pos 1)) line (λ n k h. refl) (λ k t. refl) (λ at l. l)) (
-        both ms (operator_paces ms line o) (both ms (convert_paces ms line s) (both ms (onward_paces ms op.Store line (λ n k h. refl) (λ k t. refl) (λ at l. l)) (onward_paces ms op.DiscardBelow line (λ n k h. refl) (λ k t. refl) (λ at l. l))))))))))
-    expr_paces ms line Fail = onward_paces ms op.Fail line (λ n k h. refl) (λ k t. refl) (λ at l. l)
-    expr_paces ms line (Call r es) = both ms (args_paces ms line es) (call_paces ms line r)
+        both ms (expr_paces ms line p) (both ms (onward ms op.Duplicate line (λ n k h. refl) (λ k t. refl) (λ at l. l) (λ from to floor at i. i)) (both ms (onward ms op.Load line (λ n k h. refl) (λ k t. refl) (λ at l. l) (λ from to floor at i. i)) (
+        both ms (onward ms op.Over line (λ n k h. refl) (λ k t. refl) (λ at l. l) (λ from to floor at i. i)) (both ms (onward ms op.Over line (λ n k h. refl) (λ k t. refl) (λ at l. l) (λ from to floor at i. i)) (both ms (onward ms (op.Push (pos 1)) line (λ n k h. refl) (λ k t. refl) (λ at l. l) (λ from to floor at i. i)) (
+        both ms (operator_paces ms line o) (both ms (convert_paces ms line s) (both ms (onward ms op.Store line (λ n k h. refl) (λ k t. refl) (λ at l. l) (λ from to floor at i. i)) (onward ms op.DiscardBelow line (λ n k h. refl) (λ k t. refl) (λ at l. l) (λ from to floor at i. i))))))))))
+    expr_paces ms line Fail = onward ms op.Fail line (λ n k h. refl) (λ k t. refl) (λ at l. l) (λ from to floor at i. i)
+    expr_paces ms line (Call r es) = both ms (args_paces ms line es) (pacing.call_paces code table any ms line r)
     expr_paces ms line (OfObject o) = object_paces ms line o
 
     object_paces : (ms : List Mark) (line : ℕ) (o : ObjectExpr) → Paces ms (ObjectAt code line ms o)
-    object_paces ms line This = onward_paces ms op.Own line (λ n k h. refl) (λ k t. refl) (λ at l. l)
-    object_paces ms line (OwnField s i) = onward_paces ms (op.This (field_cells s i)) line (λ n k h. refl) (λ k t. refl) (λ at l. l)
-    object_paces ms line (GetOwn s i) = onward_paces ms (op.ViaThis (field_cells s i)) line (λ n k h. refl) (λ k t. refl) (λ at l. l)
-    object_paces ms line (FieldOf s i e) = both ms (expr_paces ms line e) (onward_paces ms (op.Field (field_cells s i)) line (λ n k h. refl) (λ k t. refl) (λ at l. l))
-    object_paces ms line Counted = onward_paces ms op.Counted line (λ n k h. refl) (λ k t. refl) (λ at l. l)
-    object_paces ms line (CallOn r e es) = both ms (expr_paces ms line e) (both ms (args_paces ms line es) (call_on_paces ms line r))
-    object_paces ms line (CallUnwritten r e) = both ms (expr_paces ms line e) (calls_behind_paces ms line r)
-    object_paces ms line (EnterOn m r e es) = never_paces ms
-    object_paces ms line (Wait c n) = never_paces ms
-    object_paces ms line (Signal c) = never_paces ms
-    object_paces ms line (SignalBlock c) = never_paces ms
-    object_paces ms line (IsEmpty c) = never_paces ms
-    object_paces ms line (FrontOf c) = never_paces ms
+    object_paces ms line This = onward ms op.Own line (λ n k h. refl) (λ k t. refl) (λ at l. l) (λ from to floor at i. i)
+    object_paces ms line (OwnField s i) = onward ms (op.This (field_cells s i)) line (λ n k h. refl) (λ k t. refl) (λ at l. l) (λ from to floor at i. i)
+    object_paces ms line (GetOwn s i) = onward ms (op.ViaThis (field_cells s i)) line (λ n k h. refl) (λ k t. refl) (λ at l. l) (λ from to floor at i. i)
+    object_paces ms line (FieldOf s i e) = both ms (expr_paces ms line e) (onward ms (op.Field (field_cells s i)) line (λ n k h. refl) (λ k t. refl) (λ at l. l) (λ from to floor at i. i))
+    object_paces ms line Counted = onward ms op.Counted line (λ n k h. refl) (λ k t. refl) (λ at l. l) (λ from to floor at i. i)
+    object_paces ms line (CallOn r e es) = both ms (expr_paces ms line e) (both ms (args_paces ms line es) (pacing.call_on_paces code table any ms line r))
+    object_paces ms line (CallUnwritten r e) = both ms (expr_paces ms line e) (pacing.calls_behind_paces code table any ms line r)
+    object_paces ms line (EnterOn m r e es) = pacing.never_paces code table any ms
+    object_paces ms line (Wait c n) = pacing.never_paces code table any ms
+    object_paces ms line (Signal c) = pacing.never_paces code table any ms
+    object_paces ms line (SignalBlock c) = pacing.never_paces code table any ms
+    object_paces ms line (IsEmpty c) = pacing.never_paces code table any ms
+    object_paces ms line (FrontOf c) = pacing.never_paces code table any ms
 
     args_paces : (ms : List Mark) (line : ℕ) (es : Exprs) → Paces ms (ArgumentsAt code line ms es)
-    args_paces ms line NoExprs = nothing_paces ms
+    args_paces ms line NoExprs = pacing.nothing_paces code table any ms
     args_paces ms line (MoreExprs e es) = both ms (expr_paces ms line e) (args_paces ms line es)
 
   value_paces : (ms : List Mark) (line : ℕ) (i : Item) → Paces ms (ValueAt code line ms i)
   value_paces ms line (Show form e) = expr_paces ms line e
-  value_paces ms line (ShowText k) = nothing_paces ms
+  value_paces ms line (ShowText k) = pacing.nothing_paces code table any ms
 
   items_paces : (ms : List Mark) (line : ℕ) (is : List Item) → Paces ms (ItemsAt code line ms is)
-  items_paces ms line [] = nothing_paces ms
+  items_paces ms line [] = pacing.nothing_paces code table any ms
   items_paces ms line (i ∷ is) = both ms (value_paces ms line i) (both ms (item_paces ms line i) (items_paces ms line is))
 
   values_paces : (ms : List Mark) (line : ℕ) (is : List Item) → Paces ms (ValuesAt code line ms is)
-  values_paces ms line [] = nothing_paces ms
+  values_paces ms line [] = pacing.nothing_paces code table any ms
   values_paces ms line (i ∷ is) = both ms (value_paces ms line i) (values_paces ms line is)
 
   pieces_paces : (ms : List Mark) (line : ℕ) (is : List Item) → Paces ms (PiecesAt code line is)
-  pieces_paces ms line [] = nothing_paces ms
+  pieces_paces ms line [] = pacing.nothing_paces code table any ms
   pieces_paces ms line (i ∷ is) = both ms (pieces_paces ms line is) (item_paces ms line i)
 
   together_paces : (ms : List Mark) (line : ℕ) (is : List Item) → Paces ms (TogetherAt code line ms is)
   together_paces ms line is =
-      both ms (values_paces ms line is) (both ms (onward_paces ms op.Hold line (λ n k h. refl) (λ k t. refl) (λ at l. l)) (both ms (pieces_paces ms line is) (onward_paces ms op.Flush line (λ n k h. refl) (λ k t. refl) (λ at l. l))))
+      both ms (values_paces ms line is) (both ms (onward ms op.Hold line (λ n k h. refl) (λ k t. refl) (λ at l. l) (λ from to floor at i. i)) (both ms (pieces_paces ms line is) (onward ms op.Flush line (λ n k h. refl) (λ k t. refl) (λ at l. l) (λ from to floor at i. i))))
 
   targets_paces : (ms : List Mark) (line : ℕ) (ts : List Target) → Paces ms (TargetsAt code line ms ts)
-  targets_paces ms line [] = nothing_paces ms
+  targets_paces ms line [] = pacing.nothing_paces code table any ms
   targets_paces ms line (t ∷ ts) =
-      both ms (expr_paces ms line t.place) (both ms (onward_paces ms (op.Read t.form) line (λ n k h. refl) (λ k t. refl) (λ at l. l)) (both ms (onward_paces ms op.Store line (λ n k h. refl) (λ k t. refl) (λ at l. l)) (targets_paces ms line ts)))
+      both ms (expr_paces ms line t.place) (both ms (onward ms (op.Read t.form) line (λ n k h. refl) (λ k t. refl) (λ at l. l) (λ from to floor at i. i)) (both ms (onward ms op.Store line (λ n k h. refl) (λ k t. refl) (λ at l. l) (λ from to floor at i. i)) (targets_paces ms line ts)))
 
   start_paces : (ms : List Mark) (line cell : ℕ) (value : Option Expr) → Paces ms (StartAt code line ms cell value)
-  start_paces ms line cell None = nothing_paces ms
-  start_paces ms line cell (Some e) = both ms (onward_paces ms (op.Local cell) line (λ n k h. refl) (λ k t. refl) (λ at l. l)) (both ms (expr_paces ms line e) (onward_paces ms op.Store line (λ n k h. refl) (λ k t. refl) (λ at l. l)))
+  start_paces ms line cell None = pacing.nothing_paces code table any ms
+  start_paces ms line cell (Some e) = both ms (onward ms (op.Local cell) line (λ n k h. refl) (λ k t. refl) (λ at l. l) (λ from to floor at i. i)) (both ms (expr_paces ms line e) (onward ms op.Store line (λ n k h. refl) (λ k t. refl) (λ at l. l) (λ from to floor at i. i)))
 
   variables_paces : (ms : List Mark) (line : ℕ) (ds : List Declared) → Paces ms (VariablesAt code line ms ds)
-  variables_paces ms line [] = nothing_paces ms
-  variables_paces ms line (d ∷ ds) = both ms (onward_paces ms (op.Clear d.cell d.cells) line (λ n k h. refl) (λ k t. refl) (λ at l. l)) (both ms (start_paces ms line d.cell d.value) (variables_paces ms line ds))
+  variables_paces ms line [] = pacing.nothing_paces code table any ms
+  variables_paces ms line (d ∷ ds) = both ms (onward ms (op.Clear d.cell d.cells) line (λ n k h. refl) (λ k t. refl) (λ at l. l) (λ from to floor at i. i)) (both ms (start_paces ms line d.cell d.value) (variables_paces ms line ds))
 
-  -- a loop whose parts are paced under its mark
-  module _ (ms : List Mark) (line : ℕ) (T S : ℕ → ℕ → Type 0) (B : Mark → ℕ → ℕ → Type 0) (t : Paces ms T) (s : Paces ms S) (b : (m : Mark) → Paces (m ∷ ms) (B m)) where
-    back_rises : (o : Order) (turn a z : ℕ) → BackAt code o T turn line a z → a < z
-    back_rises TestFirst turn a z h = let k = t.rises a h.middle h.first in let e = h.second.end in omega arith
-    back_rises BodyFirst turn a z h = let k = t.rises a h.middle h.first in let e = h.second.end in omega arith
-    back_rises NoTest turn a z h = let e = h.end in omega arith
+  -- events
 
-    test_plain : (turn a z : ℕ) → One code (op.IfNonzero turn) line a z → Plain code table z → Plain code table a
-    test_plain turn a z h p = own_plain code table a (op.IfNonzero turn) line h.here (λ n k x. refl) (λ k u. refl) (subst (Outside code table) h.end p.outside)
+  fields_paces : (ms : List Mark) (line n k : ℕ) → Paces ms (FieldsAt code line n k)
+  fields_paces ms line n k =
+      both ms (onward ms op.Discard line (λ n k h. refl) (λ k t. refl) (λ at l. l) (λ from to floor at i. i)) (both ms (onward ms (op.Push (pos n)) line (λ n k h. refl) (λ k t. refl) (λ at l. l) (λ from to floor at i. i)) (
+      both ms (onward ms (op.Via k) line (λ n k h. refl) (λ k t. refl) (λ at l. l) (λ from to floor at i. i)) (onward ms (op.Via (k + 1)) line (λ n k h. refl) (λ k t. refl) (λ at l. l) (λ from to floor at i. i))))
 
-    back_plain : (o : Order) (turn a z : ℕ) → BackAt code o T turn line a z → Plain code table z → Plain code table a
-    back_plain TestFirst turn a z h p = t.plain a h.middle h.first (test_plain turn h.middle z h.second p)
-    back_plain BodyFirst turn a z h p = t.plain a h.middle h.first (test_plain turn h.middle z h.second p)
-    back_plain NoTest turn a z h p = jump_plain code table a turn line h.here (subst (Outside code table) h.end p.outside)
+  raised_paces : (ms : List Mark) (line : ℕ) (r : Raised) → Paces ms (RaisedAt code line ms r)
+  raised_paces ms line (Plainly n) =
+      both ms (onward ms (op.Push (pos n)) line (λ n k h. refl) (λ k t. refl) (λ at l. l) (λ from to floor at i. i)) (
+      both ms (onward ms (op.Push (pos 0)) line (λ n k h. refl) (λ k t. refl) (λ at l. l) (λ from to floor at i. i)) (onward ms (op.Push (pos 0)) line (λ n k h. refl) (λ k t. refl) (λ at l. l) (λ from to floor at i. i)))
+  raised_paces ms line (BuildsAt n k e) =
+      both ms (onward ms (op.Clear k EVENT_FIELDS) line (λ n k h. refl) (λ k t. refl) (λ at l. l) (λ from to floor at i. i)) (both ms (expr_paces ms line e) (fields_paces ms line n k))
+  raised_paces ms line (AgainFrom k) =
+      both ms (onward ms (op.Via k) line (λ n k h. refl) (λ k t. refl) (λ at l. l) (λ from to floor at i. i)) (
+      both ms (onward ms (op.Via (k + 1)) line (λ n k h. refl) (λ k t. refl) (λ at l. l) (λ from to floor at i. i)) (onward ms (op.Via (k + 2)) line (λ n k h. refl) (λ k t. refl) (λ at l. l) (λ from to floor at i. i)))
 
-    test_each : Starts code table → (turn a z : ℕ) → Both T (One code (op.IfNonzero turn) line) a z → turn < a → OpAt code turn op.Tick line → Outside code table turn → Around code table ms z → Plain code table z → Each code table a z
-    test_each q turn a z h l k o r p =
-        let e = h.second.end in
-        join code table a h.middle z
-        (t.each q a h.middle h.first (around_less code table ms h.middle z (omega arith) r) (test_plain turn h.middle z h.second p))
-        (only code table h.middle z h.second.end (back_test_paced code table h.middle turn line line h.second.here k o (subst (Plain code table) h.second.end p)))
+  keep_paces : (ms : List Mark) (line k : ℕ) → Paces ms (KeepAt code line k)
+  keep_paces ms line k = both ms (onward ms (op.Set k) line (λ n k h. refl) (λ k t. refl) (λ at l. l) (λ from to floor at i. i)) (onward ms op.Discard line (λ n k h. refl) (λ k t. refl) (λ at l. l) (λ from to floor at i. i))
 
-    back_each : Starts code table → (o : Order) (turn a z : ℕ) → BackAt code o T turn line a z → turn < a → OpAt code turn op.Tick line → Outside code table turn → Around code table ms z → Plain code table z → Each code table a z
-    back_each q TestFirst turn a z h l k o r p = test_each q turn a z h l k o r p
-    back_each q BodyFirst turn a z h l k o r p = test_each q turn a z h l k o r p
-    back_each q NoTest turn a z h l k o r p = only code table a z h.end (back_paced code table a turn line line h.here k l o (subst (Outside code table) h.end p.outside))
+  keeps_paces : (ms : List Mark) (line k : ℕ) → Paces ms (KeepsAt code line k)
+  keeps_paces ms line k = both ms (keep_paces ms line (k + 2)) (both ms (keep_paces ms line (k + 1)) (keep_paces ms line k))
 
-    begin_paced : (o : Order) (a test : ℕ) → OpAt code a (op.Jump (begin_at o (a + 3) test)) line → a + 3 < test → Plain code table (a + 3) → Outside code table (a + 1) → Plain code table test → PacedAt code table a
-    begin_paced TestFirst a test h l k u p = jump_paced code table a test line h (omega arith) u p
-    begin_paced BodyFirst a test h l k u p = jump_paced code table a (a + 3) line h (omega arith) u k
-    begin_paced NoTest a test h l k u p = jump_paced code table a (a + 3) line h (omega arith) u k
-
-    -- the tick and the pads of a loop that begins here
-    record Begins (a : ℕ) : Type 0 where
-      pub tick : Plain code table (a + 3)
-      pub again : Outside code table (a + 2)
-      pub leave : Outside code table (a + 1)
-
-    begins : (o : Order) (a z : ℕ) (h : Turns code line o T S B a z) → Plain code table z → Begins a
-    begins o a z h p =
-        let test = back_plain o (a + 3) h.test_at z h.back p in
-        let step = s.plain h.step_at h.test_at h.step test in
-        let body = (b (pads_at a)).plain (a + 4) h.step_at h.body step in
-        let e : a + 4 ≡ (a + 3) + 1 = omega arith in
-        let f : a + 3 ≡ (a + 2) + 1 = omega arith in
-        let g : a + 2 ≡ (a + 1) + 1 = omega arith in
-        let tick : Plain code table (a + 3) = tick_plain code table (a + 3) line h.tick (subst (Outside code table) e body.outside) in
-        let again : Outside code table (a + 2) = jump_outside code table (a + 2) h.step_at line h.again (subst (Outside code table) f tick.outside) in
-        let leave : Outside code table (a + 1) = jump_outside code table (a + 1) z line h.leave (subst (Outside code table) g again) in
-        record { tick = tick; again = again; leave = leave }
-
-    pub turns_paces : (o : Order) → Paces ms (Turns code line o T S B)
-    turns_paces o = record {
-      rises = λ a z h.
-          let x = (b (pads_at a)).rises (a + 4) h.step_at h.body in
-          let y = s.rises h.step_at h.test_at h.step in
-          let w = back_rises o (a + 3) h.test_at z h.back in
-          omega arith;
-      plain = λ a z h p. jump_plain code table a (begin_at o (a + 3) h.test_at) line h.begin (begins o a z h p).leave;
-      each = λ q a z h r p.
-          let x = (b (pads_at a)).rises (a + 4) h.step_at h.body in
-          let y = s.rises h.step_at h.test_at h.step in
-          let w = back_rises o (a + 3) h.test_at z h.back in
-          let test = back_plain o (a + 3) h.test_at z h.back p in
-          let step = s.plain h.step_at h.test_at h.step test in
-          let u = begins o a z h p in
-          let f : a + 3 ≡ (a + 2) + 1 = omega arith in
-          let g : a + 2 ≡ (a + 1) + 1 = omega arith in
-          let around : Around code table (pads_at a ∷ ms) h.step_at = (
-            record { to = z; line = line; is = h.leave; forward = omega arith; past = omega arith; outside = u.leave },
-            record { to = h.step_at; line = line; is = h.again; forward = omega arith; past = omega arith; outside = u.again },
-            around_less code table ms h.step_at z (omega arith) r,
-          ) in
-          join code table a (a + 1) z (only code table a (a + 1) refl (begin_paced o a h.test_at h.begin (omega arith) u.tick u.leave test)) (
-          join code table (a + 1) (a + 2) z (only code table (a + 1) (a + 2) (omega arith) (jump_paced code table (a + 1) z line h.leave (omega arith) (subst (Outside code table) g u.again) p)) (
-          join code table (a + 2) (a + 3) z (only code table (a + 2) (a + 3) (omega arith) (jump_paced code table (a + 2) h.step_at line h.again (omega arith) (subst (Outside code table) f u.tick.outside) step)) (
-          join code table (a + 3) (a + 4) z (only code table (a + 3) (a + 4) (omega arith) (tick_paced code table (a + 3) line h.tick)) (
-          join code table (a + 4) h.step_at z ((b (pads_at a)).each q (a + 4) h.step_at h.body around step) (
-          join code table h.step_at h.test_at z (s.each q h.step_at h.test_at h.step (around_less code table ms h.test_at z (omega arith) r) test) (
-          back_each q o (a + 3) h.test_at z h.back (omega arith) h.tick u.tick.outside r p))))));
-    }
-
-  -- an exit: a return, or a jump to a pad of the innermost loop
-
-  leave_paces : (ms : List Mark) (leave again : ℕ) → Paces (mark.Loop leave again ∷ ms) (Any code (op.Jump leave))
-  leave_paces ms leave again = record {
-    rises = λ a z h. let e = h.one.end in omega arith;
-    plain = λ a z h p. jump_plain code table a leave h.line h.one.here (subst (Outside code table) h.one.end p.outside);
-    each = λ q a z h r p. only code table a z h.one.end (exit_paced code table a leave h.line h.one.here (subst (PadTo code table leave) h.one.end r.0) (subst (Outside code table) h.one.end p.outside));
-  }
-
-  again_paces : (ms : List Mark) (leave again : ℕ) → Paces (mark.Loop leave again ∷ ms) (Any code (op.Jump again))
-  again_paces ms leave again = record {
-    rises = λ a z h. let e = h.one.end in omega arith;
-    plain = λ a z h p. jump_plain code table a again h.line h.one.here (subst (Outside code table) h.one.end p.outside);
-    each = λ q a z h r p. only code table a z h.one.end (exit_paced code table a again h.line h.one.here (subst (PadTo code table again) h.one.end r.1) (subst (Outside code table) h.one.end p.outside));
-  }
-
-  whole_exit_paces : (ms : List Mark) (leave : ℕ) → Paces (mark.Whole leave ∷ ms) (Any code (op.Jump leave))
-  whole_exit_paces ms leave = record {
-    rises = λ a z h. let e = h.one.end in omega arith;
-    plain = λ a z h p. jump_plain code table a leave h.line h.one.here (subst (Outside code table) h.one.end p.outside);
-    each = λ q a z h r p. only code table a z h.one.end (exit_paced code table a leave h.line h.one.here (subst (PadTo code table leave) h.one.end r.0) (subst (Outside code table) h.one.end p.outside));
-  }
-
-  in_loop : {B : ℕ → ℕ → Type 0} → (ms : List Mark) (leave again : ℕ) → Paces ms B → Paces (mark.Loop leave again ∷ ms) B
-  in_loop ms leave again b = record { rises = b.rises; plain = b.plain; each = λ q a z h r p. b.each q a z h r.2 p }
-
-  -- a mark around which nothing else is asked
-  under_mark : {B : ℕ → ℕ → Type 0} → (m : Mark) (ms : List Mark) → ((z : ℕ) → Around code table (m ∷ ms) z → Around code table ms z) → Paces ms B → Paces (m ∷ ms) B
-  under_mark m ms f b = record { rises = b.rises; plain = b.plain; each = λ q a z h r p. b.each q a z h (f z r) p }
-
-  return_paces : (ms : List Mark) (line : ℕ) → Paces ms (One code op.Return line)
-  return_paces ms line = record {
-    rises = λ a z h. let e = h.end in omega arith;
-    plain = λ a z h p. return_plain line a z h p.outside;
-    each = λ q a z h r p. return_each line a z h;
-  }
-
-  value_return_paces : (ms : List Mark) (line : ℕ) → Paces ms (One code op.ReturnValue line)
-  value_return_paces ms line = record {
-    rises = λ a z h. let e = h.end in omega arith;
-    plain = λ a z h p. own_plain code table a op.ReturnValue line h.here (λ n k x. refl) (λ k t. refl) (subst (Outside code table) h.end p.outside);
-    each = λ q a z h r p. only code table a z h.end (paced_by code table a op.ReturnValue line h.here tt);
-  }
-
-  -- calls of constructors and destructors
-
-  spot_paces : (ms : List Mark) (line : ℕ) (s : Spot) → Paces ms (One code (spot_op s) line)
-  spot_paces ms line (spot.Local k) = onward_paces ms (op.Local k) line (λ n k h. refl) (λ k t. refl) (λ at l. l)
-  spot_paces ms line (spot.This k) = onward_paces ms (op.This k) line (λ n k h. refl) (λ k t. refl) (λ at l. l)
-
-  place_paces : (ms : List Mark) (line : ℕ) (s : Spot) (a : Option ArrayOf) → Paces ms (SpotAt code line s a)
-  place_paces ms line s None = spot_paces ms line s
-  place_paces ms line s (Some a) =
-      both ms (spot_paces ms line s) (both ms (onward_paces ms op.Counted line (λ n k h. refl) (λ k t. refl) (λ at l. l)) (onward_paces ms (op.Index a.length a.size) line (λ n k h. refl) (λ k t. refl) (λ at l. l)))
-
-  called_paces : (ms : List Mark) (line : ℕ) (written : Bool) (r : ℕ) → Paces ms (CalledAt code line ms written r)
-  called_paces ms line true r = both ms (nothing_paces ms) (call_on_paces ms line r)
-  called_paces ms line false r = calls_behind_paces ms line r
-
-  done_paces : (ms : List Mark) (line : ℕ) (what : ObjectCall) → Paces ms (CallDone code line what ms)
-  done_paces ms line what =
-      both ms (both ms (place_paces ms line what.spot what.array) (called_paces ms line what.written what.routine)) (onward_paces ms op.Discard line (λ n k h. refl) (λ k t. refl) (λ at l. l))
-
-  -- turns over elements
-
-  -- what is asked of turns that build or destroy
-  record Round (line : ℕ) (ms : List Mark) (back : ℕ → Op) (T : List Mark → ℕ → ℕ → Type 0) : Type 0 where
-    pub rises : (row test turn z : ℕ) → Rounds code line back (T (mark.Elements row ∷ ms)) test turn z → turn ≤ test
-    pub inside : (row test turn z : ℕ) → Rounds code line back (T (mark.Elements row ∷ ms)) test turn z → In code table test turn (back turn) turn
-    pub each : (row test turn z : ℕ) → Rounds code line back (T (mark.Elements row ∷ ms)) test turn z → Starts code table → Further code table (routine_in ms) z → Plain code table z → Each code table turn z
-
-  -- and of the first count
-  abbrev CountFalls : ℕ → List Mark → ℕ → ℕ → (ℕ → Op) → (List Mark → ℕ → ℕ → Type 0) → Type 0
-  CountFalls line ms first most back T = most < 2 ^ 32 → (row test turn z at : ℕ) → Rounds code line back (T (mark.Elements row ∷ ms)) test turn z → Outside code table at → height code.ops at ≡ behind (length code.ops) at → at < turn → (e : ℕ) → burden code.ops test first < burden code.ops at e
-
-  sweep_rises : (line : ℕ) (what : ObjectCall) (ms : List Mark) (test turn z : ℕ) → Rounds code line op.Sweep (CallDone code line what ms) test turn z → turn ≤ test
-  sweep_rises line what ms test turn z h = (done_paces ms line what).rises turn test h.turn
-
-  built_paces : (ms : List Mark) (line : ℕ) (what : ObjectCall) → Paces ms (CallAt code line what ms)
-  built_paces ms line what = both ms (place_paces ms line what.spot what.array) (called_paces ms line what.written what.routine)
-
-  fill_rises : (line most : ℕ) (what : ObjectCall) (ms : List Mark) (test turn z : ℕ) → Rounds code line (op.Fill most) (CallBuilt code line what ms) test turn z → turn ≤ test
-  fill_rises line most what ms test turn z h =
-      let c = h.turn in
-      let k = (built_paces ms line what).rises turn c.middle c.first in
-      let e = c.second.first.end in
-      let g = c.second.second.end in
-      omega arith
-
-  sweep_round : (line : ℕ) (ms : List Mark) (what : ObjectCall) → Round line ms op.Sweep (CallDone code line what)
-  sweep_round line ms what = record {
-    rises = λ row test turn z h. sweep_rises line what (mark.Elements row ∷ ms) test turn z h;
-    inside = λ row test turn z h. sweep_in code table line (mark.Elements row ∷ ms) what test turn z h;
-    each = λ row test turn z h s f p. sweep_each code table line (mark.Elements row ∷ ms) what test turn z h s f p;
-  }
-
-  sweep_count : (line : ℕ) (ms : List Mark) (n : ℕ) (what : ObjectCall) → CountFalls line ms n n op.Sweep (CallDone code line what)
-  sweep_count line ms n what few row test turn z at h o e l =
-      let ns : List Mark = mark.Elements row ∷ ms in
-      let r = sweep_rises line what ns test turn z h in
-      let w = within code table test (op.Sweep turn) line h.again in
-      test_falls code table test turn (op.Sweep turn) at n n (sweep_test code table line ns what test turn z h) o (sweep_low_test code table line ns what test turn z h) (sweep_low code table line ns what test turn z h) e l (omega arith) (omega arith) w few (sweep_begins code table line ns what test turn z n h)
-
-  fill_round : (line : ℕ) (ms : List Mark) (most : ℕ) (few : most < 2 ^ 32) (what : ObjectCall) → Round line ms (op.Fill most) (CallBuilt code line what)
-  fill_round line ms most few what = record {
-    rises = λ row test turn z h. fill_rises line most what (mark.Elements row ∷ ms) test turn z h;
-    inside = λ row test turn z h. fill_in code table line (mark.Elements row ∷ ms) what test turn z most few h;
-    each = λ row test turn z h s f p. fill_each code table line (mark.Elements row ∷ ms) what test turn z most few h s f p;
-  }
-
-  fill_count : (line : ℕ) (ms : List Mark) (most : ℕ) (what : ObjectCall) → CountFalls line ms 0 most (op.Fill most) (CallBuilt code line what)
-  fill_count line ms most what few row test turn z at h o e l =
-      let ns : List Mark = mark.Elements row ∷ ms in
-      let r = fill_rises line most what ns test turn z h in
-      let w = within code table test (op.Fill most turn) line h.again in
-      test_falls code table test turn (op.Fill most turn) at 0 most (fill_test code table line ns what test turn z most few h) o (fill_low_test code table line ns what test turn z most few h) (fill_low code table line ns what test turn z most few h) e l (omega arith) (omega arith) w few (fill_begins code table line ns what test turn z most few h)
-
-  unwind_plain : (ms : List Mark) (line a z : ℕ) → Risk code ms op.Unwind line a z → Plain code table z → Plain code table a
-  unwind_plain ms line a z h p = own_plain code table a op.Unwind line h.here (λ n k x. refl) (λ k t. refl) (subst (Outside code table) h.end p.outside)
-
-  unwind_paces : (ms : List Mark) (line : ℕ) → Paces ms (Risk code ms op.Unwind line)
-  unwind_paces ms line = record {
-    rises = λ a z h. let e = h.end in omega arith;
-    plain = λ a z h p. unwind_plain ms line a z h p;
-    each = λ q a z h r p. only code table a z h.end (paced_by code table a op.Unwind line h.here tt);
-  }
-
-  module _ (line : ℕ) (ms : List Mark) (first most : ℕ) (back : ℕ → Op) (T D : List Mark → ℕ → ℕ → Type 0) (t : most < 2 ^ 32 → Round line ms back T) (f : CountFalls line ms first most back T) (d : Round line ms op.Sweep D) where
-    elements_rise : (a z : ℕ) → OverElements code line ms first most back op.Sweep T D a z → (a < z)
-    elements_rise a z h =
-        let k = (t h.few).rises h.row h.test (a + 1) (h.test + 1) h.rounds in
-        let l = d.rises h.row h.entry (h.test + 2) h.end h.undoes in
-        let e = h.undoes.end in
-        let u = h.unwind.end in
-        omega arith
-
-    count_outside : (a z : ℕ) → OverElements code line ms first most back op.Sweep T D a z → Outside code table a
-    count_outside a z h = before_turns code table h.test (a + 1) (back (a + 1)) a (op.Count first h.test) line h.begin (λ k x. refl) refl ((t h.few).inside h.row h.test (a + 1) (h.test + 1) h.rounds)
-
-    leave_outside : (a z : ℕ) (h : OverElements code line ms first most back op.Sweep T D a z) → Outside code table (h.test + 1)
-    leave_outside a z h = before_turns code table h.entry (h.test + 2) (op.Sweep (h.test + 2)) (h.test + 1) (op.Jump z) line h.leave (λ k x. refl) (omega arith) (d.inside h.row h.entry (h.test + 2) h.end h.undoes)
-
-    elements_paces : Paces ms (OverElements code line ms first most back op.Sweep T D)
-    elements_paces = record {
-      rises = λ a z h. let l = elements_rise a z h in omega arith;
-      plain = λ a z h p. record { low = let e = height_is code table a (op.Count first h.test) line h.begin in omega arith; outside = count_outside a z h };
-      each = λ q a z h r p.
-          let k = (t h.few).rises h.row h.test (a + 1) (h.test + 1) h.rounds in
-          let l = d.rises h.row h.entry (h.test + 2) h.end h.undoes in
-          let e = h.undoes.end in
-          let u = h.unwind.end in
-          let x = height_is code table a (op.Count first h.test) line h.begin in
-          let o = leave_outside a z h in
-          let w = unwind_plain ms line h.end z h.unwind p in
-          let g = further_of code table ms z r in
-          let jumped : Plain code table (h.test + 1) = jump_plain_at code table (h.test + 1) z line h.leave o in
-          join code table a (a + 1) z (only code table a (a + 1) refl (paced_by code table a (op.Count first h.test) line h.begin (f h.few h.row h.test (a + 1) (h.test + 1) a h.rounds (count_outside a z h) x (omega arith)))) (
-          join code table (a + 1) (h.test + 1) z ((t h.few).each h.row h.test (a + 1) (h.test + 1) h.rounds q (λ n c y v. let i = g n c y v in omega arith) jumped) (
-          join code table (h.test + 1) (h.test + 2) z (only code table (h.test + 1) (h.test + 2) (omega arith) (jump_paced_at code table (h.test + 1) z line h.leave (omega arith) o p)) (
-          join code table (h.test + 2) h.end z (d.each h.row h.entry (h.test + 2) h.end h.undoes q (λ n c y v. let i = g n c y v in omega arith) w)
-          ((unwind_paces ms line).each q h.end z h.unwind r p))));
-    }
-
-  clean_by_paces : (ms : List Mark) (line : ℕ) (a : Option ArrayOf) (what : ObjectCall) → Paces ms (CleanBy code line a what ms)
-  clean_by_paces ms line None what = done_paces ms line what
-  clean_by_paces ms line (Some a) what =
-      elements_paces line ms a.length a.length op.Sweep (CallDone code line what) (CallDone code line what) (λ few. sweep_round line ms what) (sweep_count line ms a.length what) (sweep_round line ms what)
-
-  clean_paces : (ms : List Mark) (line : ℕ) (what : ObjectCall) → Paces ms (CleanAt code line what ms)
-  clean_paces ms line what = clean_by_paces ms line what.array what
-
-  filled_paces : (ms : List Mark) (line n : ℕ) (b d : Expr) → Paces ms (FilledAt code line ms n b d)
-  filled_paces ms line n b d =
-      let all = λ (x : ObjectCall) (y : ObjectCall). elements_paces line ms 0 n (op.Fill n) (CallBuilt code line x) (CallDone code line y) (λ few. fill_round line ms n few x) (fill_count line ms n x) (sweep_round line ms y) in
-      record {
-        rises = λ a z h. (all h.builder h.destroyer).rises a z h.filled;
-        plain = λ a z h p. (all h.builder h.destroyer).plain a z h.filled p;
-        each = λ q a z h r p. (all h.builder h.destroyer).each q a z h.filled r p;
-      }
-
-  -- scopes of objects, and what follows a part
-
-  module _ (ms : List Mark) (line : ℕ) (M : ℕ → Mark) (C : ℕ → ℕ → Type 0) (B : List Mark → ℕ → ℕ → Type 0) (m : (row z : ℕ) → Around code table ms z → Around code table (M row ∷ ms) z) (c : Paces ms C) (b : (ns : List Mark) → Paces ns (B ns)) where
-    unwinding_paces : Paces ms (Both C (Risk code ms op.Unwind line))
-    unwinding_paces = both ms c (unwind_paces ms line)
-
-    past_unwind : (a z : ℕ) → Both C (Risk code ms op.Unwind line) (a + 1) z → a < z
-    past_unwind a z h = let k = c.rises (a + 1) h.middle h.first in let e = h.second.end in omega arith
-
-    scope_paces : Paces ms (ScopeOf code line ms M C B)
-    scope_paces = record {
-      rises = λ a z h.
-          let k = (b (M h.row ∷ ms)).rises a h.body_end h.body in
-          let l = c.rises h.body_end h.clean_end h.clean in
-          let r = unwinding_paces.rises (h.clean_end + 1) z h.unwinds in
-          omega arith;
-      plain = λ a z h p.
-          let u = unwinding_paces.plain (h.clean_end + 1) z h.unwinds p in
-          (b (M h.row ∷ ms)).plain a h.body_end h.body (c.plain h.body_end h.clean_end h.clean (jump_plain code table h.clean_end z line h.leave u.outside));
-      each = λ q a z h r p.
-          let k = (b (M h.row ∷ ms)).rises a h.body_end h.body in
-          let l = c.rises h.body_end h.clean_end h.clean in
-          let s = unwinding_paces.rises (h.clean_end + 1) z h.unwinds in
-          let u = unwinding_paces.plain (h.clean_end + 1) z h.unwinds p in
-          let left = jump_plain code table h.clean_end z line h.leave u.outside in
-          let cleaned = c.plain h.body_end h.clean_end h.clean left in
-          join code table a h.body_end z ((b (M h.row ∷ ms)).each q a h.body_end h.body (m h.row h.body_end (around_less code table ms h.body_end z (omega arith) r)) cleaned) (
-          join code table h.body_end h.clean_end z (c.each q h.body_end h.clean_end h.clean (around_less code table ms h.clean_end z (omega arith) r) left) (
-          join code table h.clean_end (h.clean_end + 1) z (only code table h.clean_end (h.clean_end + 1) refl (jump_paced code table h.clean_end z line h.leave (omega (arith, past_unwind h.clean_end z h.unwinds)) u.outside p))
-          (unwinding_paces.each q (h.clean_end + 1) z h.unwinds r p)));
-    }
-
-    part_paces : Paces ms (BehindPart code line ms M C B)
-    part_paces = record {
-      rises = λ a z h.
-          let k = (b (M h.row ∷ ms)).rises a h.body_end h.body in
-          let r = unwinding_paces.rises (h.body_end + 1) z h.unwinds in
-          omega arith;
-      plain = λ a z h p.
-          let u = unwinding_paces.plain (h.body_end + 1) z h.unwinds p in
-          (b (M h.row ∷ ms)).plain a h.body_end h.body (jump_plain code table h.body_end z line h.leave u.outside);
-      each = λ q a z h r p.
-          let k = (b (M h.row ∷ ms)).rises a h.body_end h.body in
-          let s = unwinding_paces.rises (h.body_end + 1) z h.unwinds in
-          let u = unwinding_paces.plain (h.body_end + 1) z h.unwinds p in
-          let left = jump_plain code table h.body_end z line h.leave u.outside in
-          join code table a h.body_end z ((b (M h.row ∷ ms)).each q a h.body_end h.body (m h.row h.body_end (around_less code table ms h.body_end z (omega arith) r)) left) (
-          join code table h.body_end (h.body_end + 1) z (only code table h.body_end (h.body_end + 1) refl (jump_paced code table h.body_end z line h.leave (omega (arith, past_unwind h.body_end z h.unwinds)) u.outside p))
-          (unwinding_paces.each q (h.body_end + 1) z h.unwinds r p));
-    }
-
-  scoped_paces : (ms : List Mark) (line : ℕ) (c : CleanUp) (B : List Mark → ℕ → ℕ → Type 0) → ((ns : List Mark) → Paces ns (B ns)) → Paces ms (ScopedAt code line ms c B)
-  scoped_paces ms line c B b =
-      let all = λ (what : ObjectCall). scope_paces ms line (λ row. mark.Clean what line row) (CleanAt code line what ms) B (λ row z r. r) (clean_paces ms line what) b in
-      record {
-        rises = λ a z h. (all h.what).rises a z h.scope;
-        plain = λ a z h p. (all h.what).plain a z h.scope p;
-        each = λ q a z h r p. (all h.what).each q a z h.scope r p;
-      }
-
-  built_part_paces : (ms : List Mark) (line : ℕ) (c : CleanUp) (B : List Mark → ℕ → ℕ → Type 0) → ((ns : List Mark) → Paces ns (B ns)) → Paces ms (BuiltAt code line ms c B)
-  built_part_paces ms line c B b =
-      let all = λ (what : ObjectCall). part_paces ms line (λ row. mark.Part row) (CleanAt code line what ms) B (λ row z r. r) (clean_paces ms line what) b in
-      record {
-        rises = λ a z h. (all h.what).rises a z h.part;
-        plain = λ a z h p. (all h.what).plain a z h.part p;
-        each = λ q a z h r p. (all h.what).each q a z h.part r p;
-      }
+  drop_paces : (ms : List Mark) (line : ℕ) → Paces ms (One code op.Discard line)
+  drop_paces ms line = onward ms op.Discard line (λ n k h. refl) (λ k t. refl) (λ at l. l) (λ from to floor at i. i)
 
   exit_paces : (w : Way) (ms : List Mark) → Paces ms (ExitAt code w ms)
-  exit_paces ToBreak [] = return_paces [] 0
-  exit_paces ToContinue [] = return_paces [] 0
-  exit_paces ToReturn [] = value_return_paces [] 0
-  exit_paces ToEnd [] = return_paces [] 0
-  exit_paces ToBreak (mark.Body routine ∷ ms) = return_paces (mark.Body routine ∷ ms) 0
-  exit_paces ToContinue (mark.Body routine ∷ ms) = return_paces (mark.Body routine ∷ ms) 0
-  exit_paces ToReturn (mark.Body routine ∷ ms) = value_return_paces (mark.Body routine ∷ ms) 0
-  exit_paces ToEnd (mark.Body routine ∷ ms) = return_paces (mark.Body routine ∷ ms) 0
-  exit_paces ToBreak (mark.Finish routine line ∷ ms) = return_paces (mark.Finish routine line ∷ ms) line
-  exit_paces ToContinue (mark.Finish routine line ∷ ms) = return_paces (mark.Finish routine line ∷ ms) line
-  exit_paces ToReturn (mark.Finish routine line ∷ ms) = return_paces (mark.Finish routine line ∷ ms) line
-  exit_paces ToEnd (mark.Finish routine line ∷ ms) = return_paces (mark.Finish routine line ∷ ms) line
-  exit_paces ToBreak (mark.Loop leave again ∷ ms) = leave_paces ms leave again
-  exit_paces ToContinue (mark.Loop leave again ∷ ms) = again_paces ms leave again
-  exit_paces ToReturn (mark.Loop leave again ∷ ms) = in_loop ms leave again (exit_paces ToReturn ms)
-  exit_paces ToEnd (mark.Loop leave again ∷ ms) = in_loop ms leave again (exit_paces ToEnd ms)
-  exit_paces w (mark.Whole leave ∷ ms) = whole_exit_paces ms leave
-  exit_paces w (mark.Guard first count ∷ ms) = under_mark (mark.Guard first count) ms (λ z r. r) (exit_paces w ms)
-  exit_paces w (mark.Clean what line row ∷ ms) = under_mark (mark.Clean what line row) ms (λ z r. r) (both ms (clean_paces ms line what) (exit_paces w ms))
-  exit_paces w (mark.Part row ∷ ms) = under_mark (mark.Part row) ms (λ z r. r) (exit_paces w ms)
-  exit_paces w (mark.Elements row ∷ ms) = under_mark (mark.Elements row) ms (λ z r. r) (exit_paces w ms)
-  exit_paces ToBreak (mark.Outward below row ∷ ms) = return_paces (mark.Outward below row ∷ ms) 0
-  exit_paces ToContinue (mark.Outward below row ∷ ms) = return_paces (mark.Outward below row ∷ ms) 0
-  exit_paces ToReturn (mark.Outward below row ∷ ms) = value_return_paces (mark.Outward below row ∷ ms) 0
-  exit_paces ToEnd (mark.Outward below row ∷ ms) = return_paces (mark.Outward below row ∷ ms) 0
-
-  -- a block that is left as a whole
-  whole_paces : (ms : List Mark) (line : ℕ) (B : Mark → ℕ → ℕ → Type 0) → ((m : Mark) → Paces (m ∷ ms) (B m)) → Paces ms (WholeAt code line B)
-  whole_paces ms line B b = record {
-    rises = λ a z h. let l = (b (mark.Whole (a + 1))).rises (a + 2) z h.body in omega arith;
-    plain = λ a z h p.
-        let body = (b (mark.Whole (a + 1))).plain (a + 2) z h.body p in
-        let e : a + 2 ≡ (a + 1) + 1 = omega arith in
-        jump_plain code table a (a + 2) line h.begin (jump_outside code table (a + 1) z line h.leave (subst (Outside code table) e body.outside));
-    each = λ q a z h r p.
-        let l = (b (mark.Whole (a + 1))).rises (a + 2) z h.body in
-        let body = (b (mark.Whole (a + 1))).plain (a + 2) z h.body p in
-        let e : a + 2 ≡ (a + 1) + 1 = omega arith in
-        let inner : Outside code table ((a + 1) + 1) = subst (Outside code table) e body.outside in
-        let pad : Outside code table (a + 1) = jump_outside code table (a + 1) z line h.leave inner in
-        let around : Around code table (mark.Whole (a + 1) ∷ ms) z = (record { to = z; line = line; is = h.leave; forward = omega arith; past = omega arith; outside = pad }, r) in
-        join code table a (a + 1) z (only code table a (a + 1) refl (jump_paced code table a (a + 2) line h.begin (omega arith) pad body)) (
-        join code table (a + 1) (a + 2) z (only code table (a + 1) (a + 2) (omega arith) (jump_paced code table (a + 1) z line h.leave (omega arith) inner p))
-        ((b (mark.Whole (a + 1))).each q (a + 2) z h.body around p));
-  }
+  exit_paces ToBreak [] = pacing.return_paces code table any [] 0
+  exit_paces ToContinue [] = pacing.return_paces code table any [] 0
+  exit_paces ToReturn [] = pacing.value_return_paces code table any [] 0
+  exit_paces ToEnd [] = pacing.none_return_paces code table any [] 0
+  exit_paces ToBreak (mark.Body routine ∷ ms) = pacing.return_paces code table any (mark.Body routine ∷ ms) 0
+  exit_paces ToContinue (mark.Body routine ∷ ms) = pacing.return_paces code table any (mark.Body routine ∷ ms) 0
+  exit_paces ToReturn (mark.Body routine ∷ ms) = pacing.value_return_paces code table any (mark.Body routine ∷ ms) 0
+  exit_paces ToEnd (mark.Body routine ∷ ms) = pacing.none_return_paces code table any (mark.Body routine ∷ ms) 0
+  exit_paces w (mark.Finish routine line row ∷ ms) = pacing.return_paces code table any (mark.Finish routine line row ∷ ms) line
+  exit_paces ToBreak (mark.Loop leave again ∷ ms) = pacing.leave_paces code table any ms leave again
+  exit_paces ToContinue (mark.Loop leave again ∷ ms) = pacing.again_paces code table any ms leave again
+  exit_paces ToReturn (mark.Loop leave again ∷ ms) = pacing.in_loop code table any ms leave again (exit_paces ToReturn ms)
+  exit_paces ToEnd (mark.Loop leave again ∷ ms) = pacing.in_loop code table any ms leave again (exit_paces ToEnd ms)
+  exit_paces w (mark.Whole leave row ∷ ms) = pacing.whole_exit_paces code table any ms leave row
+  exit_paces w (mark.Guard row ∷ ms) = pacing.under_mark code table any (mark.Guard row) ms (λ z r. r.1) (λ from to n. n.1) (exit_paces w ms)
+  exit_paces w (mark.Clean what line row ∷ ms) = pacing.under_mark code table any (mark.Clean what line row) ms (λ z r. r.1) (λ from to n. n.1) (both ms (spans.clean_paces code table any ms line what) (exit_paces w ms))
+  exit_paces w (mark.Part row ∷ ms) = pacing.under_mark code table any (mark.Part row) ms (λ z r. r.1) (λ from to n. n.1) (exit_paces w ms)
+  exit_paces w (mark.Elements row ∷ ms) = pacing.under_mark code table any (mark.Elements row) ms (λ z r. r.1) (λ from to n. n.1) (exit_paces w ms)
+  exit_paces ToBreak (mark.Outward below row ∷ ms) = pacing.return_paces code table any (mark.Outward below row ∷ ms) 0
+  exit_paces ToContinue (mark.Outward below row ∷ ms) = pacing.return_paces code table any (mark.Outward below row ∷ ms) 0
+  exit_paces ToReturn (mark.Outward below row ∷ ms) = pacing.value_return_paces code table any (mark.Outward below row ∷ ms) 0
+  exit_paces ToEnd (mark.Outward below row ∷ ms) = pacing.none_return_paces code table any (mark.Outward below row ∷ ms) 0
 
   step_paces : (ms : List Mark) (line : ℕ) (step : Option Expr) → Paces ms (StepAt code line ms step)
-  step_paces ms line None = nothing_paces ms
-  step_paces ms line (Some e) = both ms (expr_paces ms line e) (onward_paces ms op.Discard line (λ n k h. refl) (λ k t. refl) (λ at l. l))
+  step_paces ms line None = pacing.nothing_paces code table any ms
+  step_paces ms line (Some e) = both ms (expr_paces ms line e) (drop_paces ms line)
+
+  -- events are raised in what is not silent
+
+  raised_any : (b : Bool) → (b ≡ false → ⊥) → b ≡ true
+  raised_any true f = refl
+  raised_any false f = absurd (f refl)
+
+  no_silence : {X : Type 0} → any ≡ true → any ≡ false → X
+  no_silence t e = let f : true ≡ false = sym t ∙ e in absurd (cc)
+
+  catches_paces : (ms : List Mark) (line cell : ℕ) (B : List Mark → ℕ → ℕ → Type 0) → ((ns : List Mark) → Paces ns (B ns)) → blocks.Handles code table any ms false (λ pad. Both (KeepsAt code line cell) (Both (B ms) (One code (op.Jump pad) line)))
+  catches_paces ms line cell B b =
+      let k = blocks.catch_handles code table any ms line (B ms) (b ms) in
+      blocks.kept_handles code table any ms (KeepsAt code line cell) (λ pad. Both (B ms) (One code (op.Jump pad) line)) (keeps_paces ms line cell) k
+
+  handler_handles : (resumes : Bool) (ms : List Mark) (line cell : ℕ) (B : List Mark → ℕ → ℕ → Type 0) → ((ns : List Mark) → Paces ns (B ns)) → blocks.Handles code table any ms resumes (λ pad. Both (KeepsAt code line cell) (HandlerBy code resumes ms pad line B))
+  handler_handles false ms line cell B b = catches_paces ms line cell B b
+  handler_handles true ms line cell B b = blocks.apart_handles code table any ms line (KeepsAt code line cell) B (λ ns. keeps_paces ns line cell) b
 
   mutual
-    stmt_paces : (ms : List Mark) (s : Stmt) → Paces ms (StmtAt code ms s)
-    stmt_paces ms (Skip line) = nothing_paces ms
-    stmt_paces ms (Block line body) = stmts_paces ms line body
-    stmt_paces ms (Whole line body) = whole_paces ms line (λ m. StmtsAt code (m ∷ ms) line body) (λ m. stmts_paces (m ∷ ms) line body)
-    stmt_paces ms (Evaluate line e) = both ms (expr_paces ms line e) (onward_paces ms op.Discard line (λ n k h. refl) (λ k t. refl) (λ at l. l))
-    stmt_paces ms (Declare line ds) = variables_paces ms line ds
-    stmt_paces ms (Print line is) = items_paces ms line is
-    stmt_paces ms (PrintTogether line is) = together_paces ms line is
-    stmt_paces ms (Read line ts) = targets_paces ms line ts
-    stmt_paces ms (If line test chosen other) = both ms (expr_paces ms line test) (fork ms line (stmt_paces ms chosen) (stmt_paces ms other))
-    stmt_paces ms (Loop line order test step body) =
-        turns_paces ms line (ExprAt code line ms test) (StepAt code line ms step) (λ m. StmtAt code (m ∷ ms) body) (expr_paces ms line test) (step_paces ms line step) (λ m. stmt_paces (m ∷ ms) body) order
-    stmt_paces ms (Break line) = exit_paces ToBreak ms
-    stmt_paces ms (Continue line) = exit_paces ToContinue ms
-    stmt_paces ms (Return line None) = exit_paces ToEnd ms
-    stmt_paces ms (Return line (Some e)) = both ms (expr_paces ms line e) (exit_paces ToReturn ms)
-    stmt_paces ms (Fill line n b d) = filled_paces ms line n b d
-    stmt_paces ms (OfEvents s) = never_paces ms
-    stmt_paces ms (OfTasks s) = never_paces ms
+    stmt_paces : (ms : List Mark) (s : Stmt) → (any ≡ false → silent s) → Paces ms (StmtAt code ms s)
+    stmt_paces ms (Skip line) f = pacing.nothing_paces code table any ms
+    stmt_paces ms (Block line body) f = stmts_paces ms line body f
+    stmt_paces ms (Whole line body) f = blocks.whole_paces code table any ms line (λ ns. StmtsAt code ns line body) (λ ns. stmts_paces ns line body f)
+    stmt_paces ms (Evaluate line e) f = both ms (expr_paces ms line e) (drop_paces ms line)
+    stmt_paces ms (Declare line ds) f = variables_paces ms line ds
+    stmt_paces ms (Print line is) f = items_paces ms line is
+    stmt_paces ms (PrintTogether line is) f = together_paces ms line is
+    stmt_paces ms (Read line ts) f = targets_paces ms line ts
+    stmt_paces ms (If line test chosen other) f = both ms (expr_paces ms line test) (fork ms line (stmt_paces ms chosen (λ e. (f e).0)) (stmt_paces ms other (λ e. (f e).1)))
+    stmt_paces ms (Loop line order test step body) f =
+        pacing.turns_paces code table any ms line (ExprAt code line ms test) (StepAt code line ms step) (λ m. StmtAt code (m ∷ ms) body) (expr_paces ms line test) (step_paces ms line step) (λ m. stmt_paces (m ∷ ms) body f) order
+    stmt_paces ms (Break line) f = exit_paces ToBreak ms
+    stmt_paces ms (Continue line) f = exit_paces ToContinue ms
+    stmt_paces ms (Return line None) f = exit_paces ToEnd ms
+    stmt_paces ms (Return line (Some e)) f = both ms (expr_paces ms line e) (exit_paces ToReturn ms)
+    stmt_paces ms (Fill line n b d) f = spans.filled_paces code table any ms line n b d
+    stmt_paces ms (OfEvents s) f = event_paces ms s (raised_any any f)
+    stmt_paces ms (OfTasks s) f = pacing.never_paces code table any ms
 
-    stmts_paces : (ms : List Mark) (line : ℕ) (ss : Stmts) → Paces ms (StmtsAt code ms line ss)
-    stmts_paces ms line Nil = nothing_paces ms
-    stmts_paces ms line (Then s ss) = both ms (stmt_paces ms s) (stmts_paces ms line ss)
-    stmts_paces ms line (Scoped c ss) = scoped_paces ms line c (λ ns. StmtsAt code ns line ss) (λ ns. stmts_paces ns line ss)
-    stmts_paces ms line (Built c ss) = built_part_paces ms line c (λ ns. StmtsAt code ns line ss) (λ ns. stmts_paces ns line ss)
+    event_paces : (ms : List Mark) (s : EventStmt) → any ≡ true → Paces ms (EventAt code ms s)
+    event_paces ms (Throw line r) t = both ms (raised_paces ms line r) (pacing.throw_paces code table any ms line)
+    event_paces ms (Raise line r) t = both ms (raised_paces ms line r) (both ms (pacing.raise_paces code table any t ms line) (drop_paces ms line))
+    event_paces ms (Try line body hs) t =
+        blocks.guarded_paces code table any ms line (handler_rows hs) (λ ns. StmtsAt code ns line body) (λ first pad. HandlersAt code ms first pad hs) (λ ns. stmts_paces ns line body (λ e. no_silence t e)) (handlers_paces ms hs t)
+    event_paces ms (RaiseAt line r e) t = pacing.never_paces code table any ms
+    event_paces ms (Enable line events s) t = pacing.never_paces code table any ms
+    event_paces ms (Disable line events s) t = pacing.never_paces code table any ms
+
+    handlers_paces : (ms : List Mark) (hs : Handlers) → any ≡ true → blocks.AllHandle code table any ms (handler_rows hs) (λ first pad. HandlersAt code ms first pad hs)
+    handlers_paces ms NoHandlers t = blocks.no_handles code table any ms
+    handlers_paces ms (MoreHandlers resumes event cell line body rest) t =
+        blocks.more_handles code table any ms (handler_rows rest) event resumes (λ pad. Both (KeepsAt code line cell) (HandlerBy code resumes ms pad line (λ ns. StmtsAt code ns line body))) (λ first pad. HandlersAt code ms first pad rest)
+        (handler_handles resumes ms line cell (λ ns. StmtsAt code ns line body) (λ ns. stmts_paces ns line body (λ e. no_silence t e))) (handlers_paces ms rest t)
+
+    stmts_paces : (ms : List Mark) (line : ℕ) (ss : Stmts) → (any ≡ false → silent_all ss) → Paces ms (StmtsAt code ms line ss)
+    stmts_paces ms line Nil f = pacing.nothing_paces code table any ms
+    stmts_paces ms line (Then s ss) f = both ms (stmt_paces ms s (λ e. (f e).0)) (stmts_paces ms line ss (λ e. (f e).1))
+    stmts_paces ms line (Scoped c ss) f = spans.scoped_paces code table any ms line c (λ ns. StmtsAt code ns line ss) (λ ns. stmts_paces ns line ss f)
+    stmts_paces ms line (Built c ss) f = spans.built_part_paces code table any ms line c (λ ns. StmtsAt code ns line ss) (λ ns. stmts_paces ns line ss f)
 
   -- each routine ends in a return, whatever stands behind it
 
-  around_of : (p : Purpose) (number line z : ℕ) → Further code table number z → Around code table (body_mark p number line ∷ []) z
-  around_of TaskMain number line z f = f
-  around_of Procedure number line z f = f
-  around_of Function number line z f = f
-  around_of Builder number line z f = f
+  return_plain : (line a z : ℕ) → One code op.Return line a z → Outside code table z → Plain code table a
+  return_plain line a z h o = pacing.return_plain code table any line a z h o
 
-  end_plain : (p : Purpose) (line a z : ℕ) → EndAt code p line a z → Outside code table z → Plain code table a
-  end_plain TaskMain line a z h o = return_plain line a z h o
-  end_plain Procedure line a z h o = return_plain 0 a z h o
-  end_plain Function line a z h o =
-      let r = return_plain 0 h.middle z h.second o in
-      own_plain code table a op.NoReturn line h.first.here (λ n k x. refl) (λ k t. refl) (subst (Outside code table) h.first.end r.outside)
-  end_plain Builder line a z h o = return_plain 0 a z h o
-
-  end_rises : (p : Purpose) (line a z : ℕ) → EndAt code p line a z → a < z
-  end_rises TaskMain line a z h = let e = h.end in omega arith
-  end_rises Procedure line a z h = let e = h.end in omega arith
-  end_rises Function line a z h = let e = h.first.end in let f = h.second.end in omega arith
-  end_rises Builder line a z h = let e = h.end in omega arith
+  return_each : (line a z : ℕ) → One code op.Return line a z → Each code table a z
+  return_each line a z h = pacing.return_each code table any line a z h
 
   lack_paced : (line a : ℕ) → OpAt code a op.NoReturn line → Plain code table (a + 1) → PacedAt code table a
   lack_paced line a h p =
@@ -668,65 +270,123 @@ module _ (code : Laid) (table : List RoutineCode) where
       let l = p.low in
       paced_by code table a op.NoReturn line h (down code table a (a + 1) (outside_next code table a op.NoReturn line h (λ k t. refl) p.outside) p.outside (omega arith))
 
-  end_each : (p : Purpose) (line a z : ℕ) → EndAt code p line a z → Outside code table z → Each code table a z
-  end_each TaskMain line a z h o = return_each line a z h
-  end_each Procedure line a z h o = return_each 0 a z h
-  end_each Function line a z h o =
-      let next = return_plain 0 h.middle z h.second o in
-      join code table a h.middle z
-      (only code table a h.middle h.first.end (lack_paced line a h.first.here (subst (Plain code table) h.first.end next)))
-      (return_each 0 h.middle z h.second)
-  end_each Builder line a z h o = return_each 0 a z h
+  -- the code of a routine, with its end
+  pub record Ends (number : ℕ) (B : ℕ → ℕ → Type 0) : Type 0 where
+    pub rises : (a z : ℕ) → B a z → a < z
+    pub plain : (a z : ℕ) → B a z → Outside code table z → Plain code table a
+    pub each : Starts code table → (a z : ℕ) → B a z → ((y : ℕ) → y ≤ z → Around code table (mark.Body number ∷ []) y) → Outside code table z → Each code table a z
+    pub stays : (floor a z : ℕ) → B a z → pacing.Loud code table any floor z → AllStay code table a z floor a z
 
-  body_paces : (number : ℕ) (r : Routine) → Paces (body_mark r.purpose number r.line ∷ []) (BodyAt code number r)
-  body_paces number r = stmts_paces (body_mark r.purpose number r.line ∷ []) (body_line r.purpose r.line) r.body
+  body_ends : (number line : ℕ) (B : ℕ → ℕ → Type 0) → Paces (mark.Body number ∷ []) B → Ends number (Both B (One code op.Return line))
+  body_ends number line B b = record {
+    rises = λ a z h. let k = b.rises a h.middle h.first in let e = h.second.end in omega arith;
+    plain = λ a z h o. b.plain a h.middle h.first (return_plain line h.middle z h.second o);
+    each = λ q a z h f o.
+        let e = h.second.end in
+        join code table a h.middle z (b.each q a h.middle h.first (f h.middle (omega arith)) (return_plain line h.middle z h.second o)) (return_each line h.middle z h.second);
+    stays = λ floor a z h x.
+        let e = h.second.end in
+        stay_join code table a z floor a h.middle z (b.stays a z floor a h.middle h.first tt (omega arith) (omega arith) x) (stay_one code table a z floor h.middle z op.Return line h.second.here h.second.end tt);
+  }
 
-  routine_rises : (number : ℕ) (r : Routine) (c : RoutineCode) (a z : ℕ) → RoutineAt code number r c a z → a < z
-  routine_rises number r c a z h =
-      let b = h.body in
-      let k = (body_paces number r).rises a b.middle b.first in
-      let l = end_rises r.purpose r.line b.middle z b.second in
-      omega arith
+  function_ends : (number line : ℕ) (B : ℕ → ℕ → Type 0) → Paces (mark.Body number ∷ []) B → Ends number (Both B (Both (One code op.NoReturn line) (One code op.Return 0)))
+  function_ends number line B b = record {
+    rises = λ a z h. let k = b.rises a h.middle h.first in let e = h.second.first.end in let g = h.second.second.end in omega arith;
+    plain = λ a z h o.
+        let r = return_plain 0 h.second.middle z h.second.second o in
+        b.plain a h.middle h.first (own_plain code table h.middle op.NoReturn line h.second.first.here (λ n k x. refl) (λ k t. refl) (subst (Outside code table) h.second.first.end r.outside));
+    each = λ q a z h f o.
+        let e = h.second.first.end in
+        let g = h.second.second.end in
+        let r = return_plain 0 h.second.middle z h.second.second o in
+        let p : Plain code table (h.middle + 1) = subst (Plain code table) h.second.first.end r in
+        let l = own_plain code table h.middle op.NoReturn line h.second.first.here (λ n k x. refl) (λ k t. refl) p.outside in
+        join code table a h.middle z (b.each q a h.middle h.first (f h.middle (omega arith)) l) (
+        join code table h.middle h.second.middle z (only code table h.middle h.second.middle h.second.first.end (lack_paced line h.middle h.second.first.here p)) (return_each 0 h.second.middle z h.second.second));
+    stays = λ floor a z h x.
+        let k = b.rises a h.middle h.first in
+        let e = h.second.first.end in
+        let g = h.second.second.end in
+        stay_join code table a z floor a h.middle z (b.stays a z floor a h.middle h.first tt (omega arith) (omega arith) x) (
+        stay_join code table a z floor h.middle h.second.middle z (stay_one code table a z floor h.middle h.second.middle op.NoReturn line h.second.first.here h.second.first.end (record { first = omega arith; last = omega arith }))
+        (stay_one code table a z floor h.second.middle z op.Return 0 h.second.second.here h.second.second.end tt));
+  }
 
-  routine_plain : (number : ℕ) (r : Routine) (c : RoutineCode) (a z : ℕ) → RoutineAt code number r c a z → Outside code table z → Plain code table a
-  routine_plain number r c a z h o =
-      let b = h.body in
-      (body_paces number r).plain a b.middle b.first (end_plain r.purpose r.line b.middle z b.second o)
+  main_ends : (number line : ℕ) (ss : Stmts) → (any ≡ false → silent_all ss) → Ends number (BodyAt code TaskMain number line ss)
+  main_ends number line ss f =
+      let b = λ (ns : List Mark). stmts_paces ns line ss f in
+      record {
+        rises = λ a z h. blocks.main_rises code table any number line (λ ms. StmtsAt code ms line ss) b a z h;
+        plain = λ a z h o. blocks.main_plain code table any number line (λ ms. StmtsAt code ms line ss) b a z h o;
+        each = λ q a z h g o. blocks.main_each code table any number line (λ ms. StmtsAt code ms line ss) b q a z h g o;
+        stays = λ floor a z h x. blocks.main_stays code table any number line (λ ms. StmtsAt code ms line ss) b z floor a z h (omega arith) x;
+      }
 
-  routine_each : Starts code table → (number : ℕ) (r : Routine) (c : RoutineCode) (a z : ℕ) → RoutineAt code number r c a z → Further code table number z → Outside code table z → Each code table a z
-  routine_each q number r c a z h f o =
-      let b = h.body in
-      let l = end_rises r.purpose r.line b.middle z b.second in
-      join code table a b.middle z
-      ((body_paces number r).each q a b.middle b.first (around_of r.purpose number r.line b.middle (λ n d x y. let i = f n d x y in omega arith)) (end_plain r.purpose r.line b.middle z b.second o))
-      (end_each r.purpose r.line b.middle z b.second o)
+  pub routine_ends : (p : Purpose) (number line : ℕ) (ss : Stmts) → (any ≡ false → silent_all ss) → Ends number (BodyAt code p number line ss)
+  routine_ends TaskMain number line ss f = main_ends number line ss f
+  routine_ends Procedure number line ss f = body_ends number 0 (StmtsAt code (mark.Body number ∷ []) line ss) (stmts_paces (mark.Body number ∷ []) line ss f)
+  routine_ends Function number line ss f = function_ends number line (StmtsAt code (mark.Body number ∷ []) line ss) (stmts_paces (mark.Body number ∷ []) line ss f)
+  routine_ends Builder number line ss f = body_ends number 0 (StmtsAt code (mark.Body number ∷ []) 0 ss) (stmts_paces (mark.Body number ∷ []) 0 ss f)
+
+module _ (code : Laid) (table : List RoutineCode) where
+  -- a routine, in which events may be raised, or none
+
+  never_false : true ≡ false → ⊥
+  never_false e = absurd (cc)
+
+  any_silent : (ss : Stmts) → true ≡ false → silent_all ss
+  any_silent ss e = absurd (never_false e)
+
+  loudly : (number last : ℕ) (r : Routine) → Ends code table true (max number last) (BodyAt code r.purpose (max number last) r.line r.body)
+  loudly number last r = routine_ends code table true r.purpose (max number last) r.line r.body (any_silent r.body)
+
+  routine_rises : (last number : ℕ) (r : Routine) (c : RoutineCode) (a z : ℕ) → RoutineAt code last number r c a z → a < z
+  routine_rises last number r c a z h = (loudly number last r).rises a z h.body
+
+  routine_plain : (last number : ℕ) (r : Routine) (c : RoutineCode) (a z : ℕ) → RoutineAt code last number r c a z → Outside code table z → Plain code table a
+  routine_plain last number r c a z h o = (loudly number last r).plain a z h.body o
+
+  routine_each : Starts code table → (last number : ℕ) (r : Routine) (c : RoutineCode) (a z : ℕ) → RoutineAt code last number r c a z → Further code table (max number last) z → Outside code table z → Each code table a z
+  routine_each q last number r c a z h f o = (loudly number last r).each q a z h.body (λ y l. ((λ n d x k. let i = f n d x k in let j = i.0 in (omega arith, i.1)), refl)) o
+
+  -- where no event is raised, a routine is a text without one
+  routine_mute : (last number : ℕ) (r : Routine) (c : RoutineCode) (a z : ℕ) → RoutineAt code last number r c a z → silent_all r.body → Mute code table c.entry
+  routine_mute last number r c a z h s =
+      let k = routine_rises last number r c a z h in
+      let e = h.entry in
+      let all = (routine_ends code table false r.purpose (max number last) r.line r.body (λ e. s)).stays (above code.ops) a z h.body tt in
+      record {
+        text = record { from = a; to = z; floor = above code.ops; each = λ at i n g. all at n.first n.last i g };
+        inside = record { first = omega arith; last = omega arith };
+        none = omega arith;
+      }
 
   -- all routines
 
-  routines_rise : (number : ℕ) (rs : List Routine) (cs : List RoutineCode) (a z : ℕ) → RoutinesAt code number rs cs a z → a ≤ z
-  routines_rise number [] [] a z h = let e = h.end in omega arith
-  routines_rise number [] (c ∷ cs) a z h = absurd h
-  routines_rise number (r ∷ rs) [] a z h = absurd h
-  routines_rise number (r ∷ rs) (c ∷ cs) a z h =
-      let k = routine_rises number r c a h.middle h.first in
-      let l = routines_rise (number + 1) rs cs h.middle z h.second in
+  routines_rise : (last number : ℕ) (rs : List Routine) (cs : List RoutineCode) (a z : ℕ) → RoutinesAt code last number rs cs a z → a ≤ z
+  routines_rise last number [] [] a z h = let e = h.end in omega arith
+  routines_rise last number [] (c ∷ cs) a z h = absurd h
+  routines_rise last number (r ∷ rs) [] a z h = absurd h
+  routines_rise last number (r ∷ rs) (c ∷ cs) a z h =
+      let k = routine_rises last number r c a h.middle h.first in
+      let l = routines_rise last (number + 1) rs cs h.middle z h.second in
       omega arith
 
-  routines_outside : (number : ℕ) (rs : List Routine) (cs : List RoutineCode) (a z : ℕ) → RoutinesAt code number rs cs a z → Outside code table z → Outside code table a
-  routines_outside number [] [] a z h o = subst (Outside code table) h.end o
-  routines_outside number [] (c ∷ cs) a z h o = absurd h
-  routines_outside number (r ∷ rs) [] a z h o = absurd h
-  routines_outside number (r ∷ rs) (c ∷ cs) a z h o = (routine_plain number r c a h.middle h.first (routines_outside (number + 1) rs cs h.middle z h.second o)).outside
+  routines_outside : (last number : ℕ) (rs : List Routine) (cs : List RoutineCode) (a z : ℕ) → RoutinesAt code last number rs cs a z → Outside code table z → Outside code table a
+  routines_outside last number [] [] a z h o = subst (Outside code table) h.end o
+  routines_outside last number [] (c ∷ cs) a z h o = absurd h
+  routines_outside last number (r ∷ rs) [] a z h o = absurd h
+  routines_outside last number (r ∷ rs) (c ∷ cs) a z h o = (routine_plain last number r c a h.middle h.first (routines_outside last (number + 1) rs cs h.middle z h.second o)).outside
 
   -- each routine begins at or behind the first
-  begins_behind : (number : ℕ) (rs : List Routine) (cs : List RoutineCode) (a z : ℕ) → RoutinesAt code number rs cs a z → (k : ℕ) (c : RoutineCode) → slice_get cs k ≡ Some c → a ≤ c.entry
-  begins_behind number [] [] a z h k c e = absurd (cc)
-  begins_behind number [] (d ∷ cs) a z h k c e = absurd h
-  begins_behind number (r ∷ rs) [] a z h k c e = absurd h
-  begins_behind number (r ∷ rs) (d ∷ cs) a z h zero c e = let f : d ≡ c = cc in subst (λ (x : RoutineCode). a ≤ x.entry) f (let g = h.first.entry in omega arith)
-  begins_behind number (r ∷ rs) (d ∷ cs) a z h (suc k) c e =
-      let l = routine_rises number r d a h.middle h.first in
-      let m = begins_behind (number + 1) rs cs h.middle z h.second k c e in
+  begins_behind : (last number : ℕ) (rs : List Routine) (cs : List RoutineCode) (a z : ℕ) → RoutinesAt code last number rs cs a z → (k : ℕ) (c : RoutineCode) → slice_get cs k ≡ Some c → a ≤ c.entry
+  begins_behind last number [] [] a z h k c e = absurd (cc)
+  begins_behind last number [] (d ∷ cs) a z h k c e = absurd h
+  begins_behind last number (r ∷ rs) [] a z h k c e = absurd h
+  begins_behind last number (r ∷ rs) (d ∷ cs) a z h zero c e = let f : d ≡ c = cc in subst (λ (x : RoutineCode). a ≤ x.entry) f (let g = h.first.entry in omega arith)
+  begins_behind last number (r ∷ rs) (d ∷ cs) a z h (suc k) c e =
+      let l = routine_rises last number r d a h.middle h.first in
+      let m = begins_behind last (number + 1) rs cs h.middle z h.second k c e in
       omega arith
 
   -- the table from a number on
@@ -740,38 +400,55 @@ module _ (code : Laid) (table : List RoutineCode) where
         f.there (suc k) c (subst (λ n. slice_get table n ≡ Some c) g e);
   }
 
-  further_in : (number : ℕ) (r : Routine) (d : RoutineCode) (rs : List Routine) (cs : List RoutineCode) (m z : ℕ) → From number (d ∷ cs) → RoutinesAt code (number + 1) rs cs m z → Further code table number m
-  further_in number r d rs cs m z f h = λ n c l e.
-      let g : n ≡ number + suc (n - (number + 1)) = omega arith in
-      begins_behind (number + 1) rs cs m z h (n - (number + 1)) c (f.there (suc (n - (number + 1))) c (subst (λ x. slice_get table x ≡ Some c) g e))
+  -- routines with greater numbers than the last that is written raise no event
+  abbrev AllMute : ℕ → Type 0
+  AllMute last = (r : ℕ) (c : RoutineCode) → last < r → slice_get table r ≡ Some c → Mute code table c.entry
 
-  routines_each : Starts code table → (number : ℕ) (rs : List Routine) (cs : List RoutineCode) (a z : ℕ) → From number cs → RoutinesAt code number rs cs a z → Outside code table z → Each code table a z
-  routines_each q number [] [] a z f h o = let e = h.end in none code table a z (omega arith)
-  routines_each q number [] (c ∷ cs) a z f h o = absurd h
-  routines_each q number (r ∷ rs) [] a z f h o = absurd h
-  routines_each q number (r ∷ rs) (c ∷ cs) a z f h o =
+  further_in : (last number : ℕ) (d : RoutineCode) (rs : List Routine) (cs : List RoutineCode) (m z : ℕ) → AllMute last → From number (d ∷ cs) → RoutinesAt code last (number + 1) rs cs m z → Further code table (max number last) m
+  further_in last number d rs cs m z w f h = λ n c l e.
+      let g : n ≡ number + suc (n - (number + 1)) = omega arith in
+      let b = begins_behind last (number + 1) rs cs m z h (n - (number + 1)) c (f.there (suc (n - (number + 1))) c (subst (λ x. slice_get table x ≡ Some c) g e)) in
+      (b, w n c (omega arith) e)
+
+  routines_each : Starts code table → (last number : ℕ) (rs : List Routine) (cs : List RoutineCode) (a z : ℕ) → AllMute last → From number cs → RoutinesAt code last number rs cs a z → Outside code table z → Each code table a z
+  routines_each q last number [] [] a z w f h o = let e = h.end in none code table a z (omega arith)
+  routines_each q last number [] (c ∷ cs) a z w f h o = absurd h
+  routines_each q last number (r ∷ rs) [] a z w f h o = absurd h
+  routines_each q last number (r ∷ rs) (c ∷ cs) a z w f h o =
       join code table a h.middle z
-      (routine_each q number r c a h.middle h.first (further_in number r c rs cs h.middle z f h.second) (routines_outside (number + 1) rs cs h.middle z h.second o))
-      (routines_each q (number + 1) rs cs h.middle z (from_next number c cs f) h.second o)
+      (routine_each q last number r c a h.middle h.first (further_in last number c rs cs h.middle z w f h.second) (routines_outside last (number + 1) rs cs h.middle z h.second o))
+      (routines_each q last (number + 1) rs cs h.middle z w (from_next number c cs f) h.second o)
 
   -- no routine begins with a call behind a tick
-  begin_plain : (number : ℕ) (r : Routine) (c : RoutineCode) (a z : ℕ) → RoutineAt code number r c a z → Outside code table z → Plain code table c.entry
-  begin_plain number r c a z h o = subst (Plain code table) (sym h.entry) (routine_plain number r c a z h o)
+  begin_plain : (last number : ℕ) (r : Routine) (c : RoutineCode) (a z : ℕ) → RoutineAt code last number r c a z → Outside code table z → Plain code table c.entry
+  begin_plain last number r c a z h o = subst (Plain code table) (sym h.entry) (routine_plain last number r c a z h o)
 
-  routines_start : (number : ℕ) (rs : List Routine) (cs : List RoutineCode) (a z : ℕ) → RoutinesAt code number rs cs a z → Outside code table z → (k : ℕ) (c : RoutineCode) → slice_get cs k ≡ Some c → Plain code table c.entry
-  routines_start number [] [] a z h o k c e = absurd (cc)
-  routines_start number [] (d ∷ cs) a z h o k c e = absurd h
-  routines_start number (r ∷ rs) [] a z h o k c e = absurd h
-  routines_start number (r ∷ rs) (d ∷ cs) a z h o zero c e =
+  routines_start : (last number : ℕ) (rs : List Routine) (cs : List RoutineCode) (a z : ℕ) → RoutinesAt code last number rs cs a z → Outside code table z → (k : ℕ) (c : RoutineCode) → slice_get cs k ≡ Some c → Plain code table c.entry
+  routines_start last number [] [] a z h o k c e = absurd (cc)
+  routines_start last number [] (d ∷ cs) a z h o k c e = absurd h
+  routines_start last number (r ∷ rs) [] a z h o k c e = absurd h
+  routines_start last number (r ∷ rs) (d ∷ cs) a z h o zero c e =
       let f : d ≡ c = cc in
-      subst (λ (x : RoutineCode). Plain code table x.entry) f (begin_plain number r d a h.middle h.first (routines_outside (number + 1) rs cs h.middle z h.second o))
-  routines_start number (r ∷ rs) (d ∷ cs) a z h o (suc k) c e = routines_start (number + 1) rs cs h.middle z h.second o k c e
+      subst (λ (x : RoutineCode). Plain code table x.entry) f (begin_plain last number r d a h.middle h.first (routines_outside last (number + 1) rs cs h.middle z h.second o))
+  routines_start last number (r ∷ rs) (d ∷ cs) a z h o (suc k) c e = routines_start last (number + 1) rs cs h.middle z h.second o k c e
 
-pub lowered_paced : (source : Source) (code : Code) → Lowered source code → IsPaced code.ops code.routines
+  -- those that are silent
+  routines_mute : (last number : ℕ) (rs : List Routine) (cs : List RoutineCode) (a z : ℕ) → RoutinesAt code last number rs cs a z → ((k : ℕ) (r : Routine) → slice_get rs k ≡ Some r → last < number + k → silent_all r.body) → (k : ℕ) (c : RoutineCode) → slice_get cs k ≡ Some c → last < number + k → Mute code table c.entry
+  routines_mute last number [] [] a z h s k c e l = absurd (cc)
+  routines_mute last number [] (d ∷ cs) a z h s k c e l = absurd h
+  routines_mute last number (r ∷ rs) [] a z h s k c e l = absurd h
+  routines_mute last number (r ∷ rs) (d ∷ cs) a z h s zero c e l =
+      let f : d ≡ c = cc in
+      subst (λ (x : RoutineCode). Mute code table x.entry) f (routine_mute last number r d a h.middle h.first (s zero r refl l))
+  routines_mute last number (r ∷ rs) (d ∷ cs) a z h s (suc k) c e l =
+      routines_mute last (number + 1) rs cs h.middle z h.second (λ j q g m. s (suc j) q g (omega arith)) k c e (omega arith)
+
+pub lowered_paced : (source : Source) (code : Code) → Lowered source code → IsPaced (laid_of code) code.routines
 lowered_paced source code h =
     let o = outside_end (laid_of code) code.routines in
-    let starts = routines_start (laid_of code) code.routines 0 source.routines code.routines 0 (length code.ops) h.routines o in
+    let starts = routines_start (laid_of code) code.routines h.last 0 source.routines code.routines 0 (length code.ops) h.routines o in
     let all : From (laid_of code) code.routines 0 code.routines = record { there = λ k c e. let g : 0 + k ≡ k = omega arith in subst (λ n. slice_get code.routines n ≡ Some c) g e } in
+    let mute = λ (r : ℕ) (c : RoutineCode) (l : h.last < r) (e : slice_get code.routines r ≡ Some c). routines_mute (laid_of code) code.routines h.last 0 source.routines code.routines 0 (length code.ops) h.routines (λ k q g m. h.silent k q g (omega arith)) r c e (omega arith) in
     record {
-      each = λ at i g. routines_each (laid_of code) code.routines starts 0 source.routines code.routines 0 (length code.ops) all h.routines o at (omega arith) (slice_get_within code.ops at i g) i g;
+      each = λ at i g. routines_each (laid_of code) code.routines starts h.last 0 source.routines code.routines 0 (length code.ops) mute all h.routines o at (omega arith) (slice_get_within code.ops at i g) i g;
     }

@@ -2,20 +2,31 @@
 use Rattle.std.proofs.Common.{◌≡◌, ◌≢◌, ℕ, zero, suc, ◌≤◌, ◌<◌, List, [], ◌∷◌, ◌++◌, length, get_or, Some, refl, ap, sym, ◌∙◌, arith, length-append}
 use Rattle.std.specs.Prelude.{slice_get, slice_set}
 use Rattle.uc_code.specs.declared.op.Op.{Op}
+use Rattle.uc_code.specs.declared.rows.Handler.{Handler}
 use Rattle.uc_code.specs.declared.rows.Instruction.{Instruction}
 use Rattle.uc_code.specs.Drafts.{ops_with, patched}
 use Rattle.uc_code.specs.Laid.{Laid}
-use Rattle.uc_code.specs.Ranges.{OpAt, HandlerAt, One, Same, Kept}
+use Rattle.uc_code.specs.Ranges.{OpAt, HandlerAt, IsBare, One, Same, Kept}
 
--- a clean-up stays where the rows do
-pub handler_stays : (old new : Laid) → new.rows ≡ old.rows → (number entry : ℕ) → HandlerAt old number entry → HandlerAt new number entry
-handler_stays old new e number entry h = record {
+-- a handler stays where the rows do, and so does a row without one
+pub handler_stays : (old new : Laid) → new.rows ≡ old.rows → (number : ℕ) (handler : Handler) → HandlerAt old number handler → HandlerAt new number handler
+handler_stays old new e number handler h = record {
   row = h.row;
   there = ap (λ rs. slice_get rs number) e ∙ h.there;
   kind = h.kind;
   event = h.event;
-  entry_is = h.entry_is;
+  rest = h.rest;
+  entry = h.entry;
   is_set = h.is_set;
+}
+
+pub bare_stays : (old new : Laid) → new.rows ≡ old.rows → (number : ℕ) → IsBare old number → IsBare new number
+bare_stays old new e number h = record {
+  row = h.row;
+  there = ap (λ rs. slice_get rs number) e ∙ h.there;
+  kind = h.kind;
+  ended = h.ended;
+  none = h.none;
 }
 
 get_front : (xs ys : List Instruction) (i : ℕ) (x : Instruction) → slice_get xs i ≡ Some x → slice_get (xs ++ ys) i ≡ Some x
@@ -34,6 +45,7 @@ kept_with code op line = record {
   same = λ i x l o. record { here = get_front code.ops (record { op = op; line = line } ∷ []) i (record { op = x; line = l }) o.here };
   chains = λ next h. refl;
   handlers = handler_stays code (record code { ops = ops_with code.ops op line }) refl;
+  bare = bare_stays code (record code { ops = ops_with code.ops op line }) refl;
 }
 
 pub one_with : (code : Laid) (op : Op) (line : ℕ) → One (record code { ops = ops_with code.ops op line }) op line (length code.ops) (length (ops_with code.ops op line))

@@ -8,7 +8,7 @@ unfolding power
 power_more zero = lit≤ tt
 power_more (suc n) = omega (arith, power_more n)
 
-step : (n : ℕ) → power (suc n) ≡ 2 ^ 33 * power n
+pub step : (n : ℕ) → power (suc n) ≡ 2 ^ 34 * power n
 unfolding power
 step n = refl
 
@@ -37,6 +37,38 @@ power_few k a b (suc c) h g l =
     let q = power_rises a c (omega arith) in
     let p : k * power b ≤ 2 ^ 32 * power c = mul-le-mul (omega arith) r in
     omega (arith, step c, power_more c)
+
+-- a lower power and a few of the next lower one are less
+pub power_room : (a c : ℕ) → a < c → power a + 2 ^ 32 * power (c - 1) < power c
+power_room a zero l = absurd (omega arith)
+power_room a (suc c) l =
+    let e : suc c - 1 ≡ c = omega arith in
+    rw e (omega (arith, power_rises a c (omega arith), step c, power_more c))
+
+pub power_room_less : (a c : ℕ) → a < c → 2 ^ 32 * power a < power c
+power_room_less a zero l = absurd (omega arith)
+power_room_less a (suc c) l = omega (arith, power_rises a c (omega arith), step c, power_more c)
+
+-- a few of two lower powers are less
+pub power_twice : (k a b c : ℕ) → k < 2 ^ 32 → a < c → b < c → 2 ^ 32 * power a + k * power b < power c
+power_twice k a b zero h g l = absurd (omega arith)
+power_twice k a b (suc c) h g l =
+    let r = power_rises b c (omega arith) in
+    let q = power_rises a c (omega arith) in
+    let p : k * power b ≤ 2 ^ 32 * power c = mul-le-mul (omega arith) r in
+    omega (arith, step c, power_more c)
+
+pub power_double : (c : ℕ) → 0 < c → 2 ^ 32 * power (c - 1) + 2 ^ 32 * power (c - 1) < power c
+power_double zero l = absurd (omega arith)
+power_double (suc c) l = let e : suc c - 1 ≡ c = omega arith in rw e (omega (arith, step c, power_more c))
+
+-- a power and a few of another one are at most a few of a higher one
+pub power_sum_few : (k a b c : ℕ) → k < 2 ^ 32 → a ≤ c → b ≤ c → power a + k * power b ≤ 2 ^ 32 * power c
+power_sum_few k a b c h g l =
+    let r = power_rises b c l in
+    let q = power_rises a c g in
+    let p : k * power b ≤ (2 ^ 32 - 1) * power c = mul-le-mul (omega arith) r in
+    omega arith
 
 -- at most as many of one number
 pub times_rise : (j k p : ℕ) → j ≤ k → j * p ≤ k * p

@@ -10,7 +10,7 @@ use Rattle.uc_code.specs.declared.rows.Spot.{Spot}
 use Rattle.uc_code.specs.Drafts.{Draft, ops_with}
 use Rattle.uc_code.specs.Laid.{Laid, laid_in, routine_in}
 use Rattle.uc_code.specs.Ranges.{One, Risk, CallsBehind, Both, OverElements, Stable}
-use Rattle.uc_code.specs.Lowered.{spot_op, SpotAt, CalledAt, CallAt, CallDone, CleanBy, CleanAt}
+use Rattle.uc_code.specs.Lowered.{spot_op, SpotAt, CalledAt, CallAt, CallDone, CleanBy, CleanAt, KeepAt, KeepsAt}
 use Rattle.uc_code.specs.Open.{StandsBehind}
 use Rattle.uc_code.specs.Puts.{Puts, place_length, called_length, done_length, clean_by, clean_length}
 use Rattle.uc_code.proofs.Patches.{kept_with, one_with}
@@ -134,6 +134,14 @@ pub puts_written : (line r : ℕ) (old mid new : Draft) → Puts 1 (λ code. One
 puts_written line r old mid new p q =
     let s : Puts 1 (λ code. Risk code old.marks (op.CallOn r) line) mid new = subst (λ (ms : List Mark). Puts 1 (λ code. Risk code ms (op.CallOn r) line) mid new) (marks_of p) q in
     puts_as (puts_both (one_stable op.Tick line) p s) (λ code a z h. record { middle = a; first = record { end = refl }; second = h })
+
+-- a handler keeps its event
+
+keep_stable : (line k : ℕ) → Stable (λ code. KeepAt code line k)
+keep_stable line k = both (one_stable (op.Set k) line) (one_stable op.Discard line)
+
+pub puts_kept : (line k : ℕ) (d0 d1 d2 d3 : Draft) → Puts 2 (λ code. KeepAt code line (k + 2)) d0 d1 → Puts 2 (λ code. KeepAt code line (k + 1)) d1 d2 → Puts 2 (λ code. KeepAt code line k) d2 d3 → Puts 6 (λ code. KeepsAt code line k) d0 d3
+puts_kept line k d0 d1 d2 d3 p q r = puts_both (keep_stable line (k + 2)) p (puts_both (keep_stable line (k + 1)) q r)
 
 -- a call is of a routine further on also in a draft with the same marks
 pub behind_stays : {n : ℕ} {S : Laid → ℕ → ℕ → Type 0} {old new : Draft} → (what : ObjectCall) → StandsBehind old.marks what → Puts n S old new → StandsBehind new.marks what

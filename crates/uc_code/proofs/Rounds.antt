@@ -5,13 +5,13 @@ use Rattle.uc_code.specs.declared.op.Op.TheVariants as op
 use Rattle.uc_code.specs.declared.rows.Mark.{Mark}
 use Rattle.uc_code.specs.declared.rows.ObjectCall.{ObjectCall}
 use Rattle.uc_code.specs.declared.rows.RoutineCode.{RoutineCode}
-use Rattle.uc_code.specs.Laid.{Laid, routine_in}
-use Rattle.uc_code.specs.Pace.{behind, height, power, Test, test_by, test_of, burden}
+use Rattle.uc_code.specs.Laid.{Laid, handlers, routine_in}
+use Rattle.uc_code.specs.Pace.{behind, height, power, Test, test_by, test_of, burden, Entries, Nests}
 use Rattle.uc_code.specs.Ranges.{OpAt, Rounds}
 use Rattle.uc_code.specs.Lowered.{CallDone, CallBuilt}
 use Rattle.uc_code.proofs.Powers.{power_more, power_less, power_few, times_rise, times_one_more}
 use Rattle.uc_code.proofs.Heights.{Low, Outside, Plain, PacedAt, Each, paced_by, only, join, within, height_is, test_is, burden_is, onward_low, onward_lower, Starts, Further}
-use Rattle.uc_code.proofs.Turning.{In, burden_in, burden_test, in_next, call_turns}
+use Rattle.uc_code.proofs.Turning.{In, Heard, burden_in, burden_test, in_next, call_turns}
 
 module _ (code : Laid) (table : List RoutineCode) where
   -- right before a turn nothing is left of it
@@ -54,8 +54,12 @@ module _ (code : Laid) (table : List RoutineCode) where
         let m : Low code table c.middle = onward_low code table c.middle op.Discard line c.second.here (λ n k h. refl) (subst (Low code table) c.second.end l) in
         (call_turns code table test turn (op.Sweep turn) ms line what).low turn c.middle c.first m
 
-    pub sweep_each : Rounds code line op.Sweep (CallDone code line what ms) test turn z → Starts code table → Further code table (routine_in ms) z → Plain code table z → Each code table turn z
-    sweep_each h s f p =
+    -- what is known of the handlers of its ops
+    pub sweep_heard : Rounds code line op.Sweep (CallDone code line what ms) test turn z → ((at : ℕ) → turn ≤ at → at < test → behind (length code.ops) at ≤ height code.ops at → In code table test turn (op.Sweep turn) at → Entries code table at (handlers ms)) → Nests code table (handlers ms) → Heard code table test turn (op.Sweep turn) ms
+    sweep_heard h e n = record { entries = e; nests = n; few = λ k l. l; low = let l = sweep_low h in omega arith }
+
+    pub sweep_each : Rounds code line op.Sweep (CallDone code line what ms) test turn z → Starts code table → Heard code table test turn (op.Sweep turn) ms → Further code table (routine_in ms) z → Plain code table z → Each code table turn z
+    sweep_each h s hs f p =
         let c = h.turn in
         let t = call_turns code table test turn (op.Sweep turn) ms line what in
         let k = t.rises turn c.middle c.first in
@@ -85,7 +89,7 @@ module _ (code : Laid) (table : List RoutineCode) where
               rw (burden_is code table (test + 1) 0 q.outside, j) (omega (arith, power_less (height code.ops (test + 1)) (height code.ops test) (omega arith)))),
         ) in
         join code table turn c.middle z
-        (t.each s turn c.middle c.first (omega arith) (omega arith) (λ r d u o. let i = f r d u o in omega arith) m y)
+        (t.each s hs turn c.middle c.first (omega arith) (omega arith) (λ r d u o. let i = f r d u o in let j = i.0 in (omega arith, i.1)) m y)
         (join code table c.middle test z (only code table c.middle test e drop) (only code table test z g tested))
 
     -- so many elements are left at the first test
@@ -192,8 +196,11 @@ module _ (code : Laid) (table : List RoutineCode) where
                 rw (burden_is code table (test + 1) a q.outside, j) (omega (arith, power_less (height code.ops (test + 1)) (height code.ops test) (omega arith)))),
           )
 
-      pub fill_each : Filling → Starts code table → Further code table (routine_in ms) z → Plain code table z → Each code table turn z
-      fill_each h s f p =
+      pub fill_heard : Filling → ((at : ℕ) → turn ≤ at → at < test → behind (length code.ops) at ≤ height code.ops at → InFill at → Entries code table at (handlers ms)) → Nests code table (handlers ms) → Heard code table test turn (op.Fill most turn) ms
+      fill_heard h e n = record { entries = e; nests = n; few = λ k l. omega arith; low = let l = fill_low h in omega arith }
+
+      pub fill_each : Filling → Starts code table → Heard code table test turn (op.Fill most turn) ms → Further code table (routine_in ms) z → Plain code table z → Each code table turn z
+      fill_each h s hs f p =
           let c = h.turn in
           let t = call_turns code table test turn (op.Fill most turn) ms line what in
           let k = t.rises turn c.middle c.first in
@@ -201,7 +208,7 @@ module _ (code : Laid) (table : List RoutineCode) where
           let g = c.second.second.end in
           let w = h.end in
           join code table turn c.middle z
-          (t.each s turn c.middle c.first (omega arith) (omega arith) (λ r d u o. let i = f r d u o in omega arith) (fill_drop h) (fill_low_drop h))
+          (t.each s hs turn c.middle c.first (omega arith) (omega arith) (λ r d u o. let i = f r d u o in let j = i.0 in (omega arith, i.1)) (fill_drop h) (fill_low_drop h))
           (join code table c.middle c.second.middle z (only code table c.middle c.second.middle e (drop_paced h))
           (join code table c.second.middle test z (only code table c.second.middle test g (more_paced h)) (only code table test z w (test_paced h p))))
 

@@ -1,12 +1,15 @@
 -- The code of a piece goes on standing where its own range does not change.
-use Rattle.std.proofs.Common.{ℕ, ◌+◌, ◌≤◌, List, ◌∷◌, length, arith, refl, ◌∙◌}
+use Rattle.std.proofs.Common.{◌≡◌, ℕ, zero, suc, ◌+◌, ◌<◌, ◌≤◌, List, [], ◌∷◌, Some, length, arith, refl, ◌∙◌}
+use Rattle.std.specs.Prelude.{slice_get}
+use Rattle.uc_code.specs.declared.rows.HandlerRow.{HandlerRow}
 use Rattle.uc_code.specs.declared.op.Op.{Op}
 use Rattle.uc_tree.specs.Source.{Order, TestFirst, BodyFirst, NoTest}
-use Rattle.uc_code.specs.declared.op.Op.TheVariants.{Jump, IfZero, IfNonzero, Tick, CallUnwritten, Count, Unwind}
+use Rattle.uc_code.specs.declared.op.Op.TheVariants.{Jump, IfZero, IfNonzero, Tick, CallUnwritten, Count, Return, Handled, Unhandled, Unwind}
 use Rattle.uc_code.specs.declared.rows.Mark.{Mark}
-use Rattle.uc_code.specs.declared.rows.Mark.TheVariants.{Whole, Elements}
-use Rattle.uc_code.specs.Laid.{Laid}
-use Rattle.uc_code.specs.Ranges.{Nothing, Never, One, Risk, CallsBehind, Both, Behind, When, Unless, Fork, Leads, Arrived, Jumped, pads_at, begin_at, BackAt, Turns, WholeAt, Rounds, OverElements, ScopeOf, BehindPart, Same, Kept, Stable}
+use Rattle.uc_code.specs.declared.rows.Mark.TheVariants.{Finish, Whole, Elements, Outward}
+use Rattle.uc_code.specs.declared.rows.Handler.{Handler}
+use Rattle.uc_code.specs.Laid.{Laid, guards}
+use Rattle.uc_code.specs.Ranges.{Nothing, Never, One, Risk, CallsBehind, Both, Behind, When, Unless, Fork, Leads, Arrived, Jumped, pads_at, begin_at, BackAt, Turns, WholeAt, MainAt, Guarded, HandledAt, ApartAt, clean_up, Rounds, OverElements, ScopeOf, BehindPart, Same, Kept, KeptBut, Stable}
 
 pub part : (old new : Laid) (a z b y : ℕ) → a ≤ b → y ≤ z → Same old new a z → Same old new b y
 part old new a z b y h k s = record {
@@ -27,7 +30,7 @@ pub kept_same : (old new : Laid) (a z : ℕ) → z ≤ length old.ops → Kept o
 kept_same old new a z b k = record { same = λ i op line l m o. k.same i op line o; chains = λ next l m. k.chains next (omega arith); handlers = k.handlers }
 
 pub kept_refl : (code : Laid) → Kept code code
-kept_refl code = record { longer = omega arith; same = λ i op line h. h; chains = λ next h. refl; handlers = λ k e h. h }
+kept_refl code = record { longer = omega arith; same = λ i op line h. h; chains = λ next h. refl; handlers = λ k e h. h; bare = λ k h. h }
 
 pub kept_then : (a b c : Laid) → Kept a b → Kept b c → Kept a c
 kept_then a b c h k = record {
@@ -35,7 +38,27 @@ kept_then a b c h k = record {
   same = λ i op line o. k.same i op line (h.same i op line o);
   chains = λ next l. let m = h.longer in k.chains next (omega arith) ∙ h.chains next l;
   handlers = λ n e o. k.handlers n e (h.handlers n e o);
+  bare = λ n o. k.bare n (h.bare n o);
 }
+
+row_there : (rows : List HandlerRow) (n : ℕ) (r : HandlerRow) → slice_get rows n ≡ Some r → n < length rows
+row_there [] n r e = absurd (cc)
+row_there (q ∷ rs) zero r e = omega arith
+row_there (q ∷ rs) (suc n) r e = let l = row_there rs n r e in omega arith
+
+-- a row that was not there yet has got its handler
+pub kept_but : (a b c : Laid) (given : ℕ) → length a.rows ≤ given → Kept a b → KeptBut given b c → Kept a c
+kept_but a b c given l h k = record {
+  longer = let l = h.longer in let m = k.longer in omega arith;
+  same = λ i op line o. k.same i op line (h.same i op line o);
+  chains = λ next l. let m = h.longer in k.chains next (omega arith) ∙ h.chains next l;
+  handlers = λ n e o. k.handlers n e (h.handlers n e o);
+  bare = λ n o. let m = row_there a.rows n o.row o.there in k.bare n (λ e. absurd (omega arith)) (h.bare n o);
+}
+
+-- a piece that stands where one row has got its handler
+pub but_same : (old new : Laid) (given a z : ℕ) → z ≤ length old.ops → KeptBut given old new → Same old new a z
+but_same old new given a z b k = record { same = λ i op line l m o. k.same i op line o; chains = λ next l m. k.chains next (omega arith); handlers = k.handlers }
 
 pub nothing_stable : Stable (λ code. Nothing)
 nothing_stable = record {
@@ -171,17 +194,91 @@ module _ (line : ℕ) (order : Order) (T S : Laid → ℕ → ℕ → Type 0) (B
         };
   }
 
--- a block that is left as a whole
+-- a block that is left as a whole, and the statements of a main
 
-pub whole_stable : (line : ℕ) (B : Laid → Mark → ℕ → ℕ → Type 0) → ((m : Mark) → Stable (λ code. B code m)) → Stable (λ code. WholeAt code line (B code))
-whole_stable line B b = record {
-  rises = λ code a z h. let l = (b (Whole (a + 1))).rises code (a + 2) z h.body in omega arith;
+module _ (line : ℕ) (B : Laid → List Mark → ℕ → ℕ → Type 0) (b : (ns : List Mark) → Stable (λ code. B code ns)) where
+  pub whole_stable : (ms : List Mark) → Stable (λ code. WholeAt code line ms (B code))
+  whole_stable ms = record {
+    rises = λ code a z h.
+        let l = (b (Whole (a + 1) h.row ∷ ms)).rises code (a + 2) h.body_end h.body in
+        let e = h.tests.end in
+        omega arith;
+    moves = λ old new a z s h.
+        let l = (b (Whole (a + 1) h.row ∷ ms)).rises old (a + 2) h.body_end h.body in
+        let e = h.tests.end in
+        record {
+          row = h.row;
+          body_end = h.body_end;
+          begin = s.same a (Jump (a + 2)) line (omega arith) (omega arith) h.begin;
+          leave = s.same (a + 1) (Jump z) line (omega arith) (omega arith) h.leave;
+          body = (b (Whole (a + 1) h.row ∷ ms)).moves old new (a + 2) h.body_end (part old new a z (a + 2) h.body_end (omega arith) (omega arith) s) h.body;
+          skip = s.same h.body_end (Jump z) line (omega arith) (omega arith) h.skip;
+          tests = (risk_stable ms Handled line).moves old new (h.body_end + 1) z (part old new a z (h.body_end + 1) z (omega arith) (omega arith) s) h.tests;
+          handler = s.handlers h.row (clean_up (h.body_end + 1)) h.handler;
+        };
+  }
+
+  pub main_stable : (routine : ℕ) → Stable (λ code. MainAt code routine line (B code))
+  main_stable routine = record {
+    rises = λ code a z h.
+        let l = (b (Finish routine line h.row ∷ [])).rises code a h.body_end h.body in
+        let e = h.end in
+        omega arith;
+    moves = λ old new a z s h.
+        let l = (b (Finish routine line h.row ∷ [])).rises old a h.body_end h.body in
+        let e = h.end in
+        record {
+          row = h.row;
+          body_end = h.body_end;
+          body = (b (Finish routine line h.row ∷ [])).moves old new a h.body_end (part old new a z a h.body_end (omega arith) (omega arith) s) h.body;
+          returns = s.same h.body_end Return line (omega arith) (omega arith) h.returns;
+          unwound = s.same (h.body_end + 1) Unhandled line (omega arith) (omega arith) h.unwound;
+          end = h.end;
+          handler = s.handlers h.row (clean_up (h.body_end + 1)) h.handler;
+        };
+  }
+
+-- guarded blocks
+
+module _ (line count : ℕ) (ms : List Mark) (B : Laid → List Mark → ℕ → ℕ → Type 0) (H : Laid → ℕ → ℕ → ℕ → ℕ → Type 0) (b : (ns : List Mark) → Stable (λ code. B code ns)) (h : (first pad : ℕ) → Stable (λ code. H code first pad)) where
+  pub guarded_stable : Stable (λ code. Guarded code line ms count (B code) (H code))
+  guarded_stable = record {
+    rises = λ code a z g.
+        let l = (b (guards g.first count ms)).rises code (a + 2) g.body_end g.body in
+        let k = (h g.first (a + 1)).rises code (g.body_end + 1) z g.handlers in
+        omega arith;
+    moves = λ old new a z s g.
+        let l = (b (guards g.first count ms)).rises old (a + 2) g.body_end g.body in
+        let k = (h g.first (a + 1)).rises old (g.body_end + 1) z g.handlers in
+        record {
+          first = g.first;
+          body_end = g.body_end;
+          begin = s.same a (Jump (a + 2)) line (omega arith) (omega arith) g.begin;
+          pad = s.same (a + 1) (Jump z) line (omega arith) (omega arith) g.pad;
+          body = (b (guards g.first count ms)).moves old new (a + 2) g.body_end (part old new a z (a + 2) g.body_end (omega arith) (omega arith) s) g.body;
+          leave = s.same g.body_end (Jump (a + 1)) line (omega arith) (omega arith) g.leave;
+          handlers = (h g.first (a + 1)).moves old new (g.body_end + 1) z (part old new a z (g.body_end + 1) z (omega arith) (omega arith) s) g.handlers;
+        };
+  }
+
+pub handled_stable : (number : ℕ) (handler : ℕ → Handler) (B : Laid → ℕ → ℕ → Type 0) → Stable B → Stable (λ code. HandledAt code number handler (B code))
+handled_stable number handler B b = record {
+  rises = λ code a z h. b.rises code a z h.body;
+  moves = λ old new a z s h. record { handler_at = s.handlers number (handler a) h.handler_at; body = b.moves old new a z s h.body };
+}
+
+pub apart_stable : (ms : List Mark) (B : Laid → List Mark → ℕ → ℕ → Type 0) → ((ns : List Mark) → Stable (λ code. B code ns)) → Stable (λ code. ApartAt code ms (B code))
+apart_stable ms B b = record {
+  rises = λ code a z h. let l = (b (Outward 0 h.row ∷ ms)).rises code a h.body_end h.body in let e = h.end in omega arith;
   moves = λ old new a z s h.
-      let l = (b (Whole (a + 1))).rises old (a + 2) z h.body in
+      let l = (b (Outward 0 h.row ∷ ms)).rises old a h.body_end h.body in
+      let e = h.end in
       record {
-        begin = s.same a (Jump (a + 2)) line (omega arith) (omega arith) h.begin;
-        leave = s.same (a + 1) (Jump z) line (omega arith) (omega arith) h.leave;
-        body = (b (Whole (a + 1))).moves old new (a + 2) z (part old new a z (a + 2) z (omega arith) (omega arith) s) h.body;
+        row = h.row;
+        body_end = h.body_end;
+        body = (b (Outward 0 h.row ∷ ms)).moves old new a h.body_end (part old new a z a h.body_end (omega arith) (omega arith) s) h.body;
+        returns = s.same h.body_end Return 0 (omega arith) (omega arith) h.returns;
+        end = h.end;
       };
 }
 
@@ -227,7 +324,7 @@ module _ (line : ℕ) (ms : List Mark) (first most : ℕ) (back undo : ℕ → O
           leave = s.same (h.test + 1) (Jump z) line (omega arith) (omega arith) h.leave;
           undoes = (rounds_stable line undo (λ c. D c (Elements h.row ∷ ms)) (d (Elements h.row ∷ ms)) h.entry).moves old new (h.test + 2) h.end (part old new a z (h.test + 2) h.end (omega arith) (omega arith) s) h.undoes;
           unwind = (risk_stable ms Unwind line).moves old new h.end z (part old new a z h.end z (omega arith) (omega arith) s) h.unwind;
-          handler = s.handlers h.row h.entry h.handler;
+          handler = s.handlers h.row (clean_up h.entry) h.handler;
         };
   }
 
@@ -256,7 +353,7 @@ module _ (line : ℕ) (ms : List Mark) (M : ℕ → Mark) (C : Laid → ℕ → 
           clean = c.moves old new h.body_end h.clean_end (part old new a z h.body_end h.clean_end (omega arith) (omega arith) s) h.clean;
           leave = s.same h.clean_end (Jump z) line (omega arith) (omega arith) h.leave;
           unwinds = unwinds_stable.moves old new (h.clean_end + 1) z (part old new a z (h.clean_end + 1) z (omega arith) (omega arith) s) h.unwinds;
-          handler = s.handlers h.row (h.clean_end + 1) h.handler;
+          handler = s.handlers h.row (clean_up (h.clean_end + 1)) h.handler;
         };
   }
 
@@ -275,6 +372,6 @@ module _ (line : ℕ) (ms : List Mark) (M : ℕ → Mark) (C : Laid → ℕ → 
           body = (b (M h.row ∷ ms)).moves old new a h.body_end (part old new a z a h.body_end (omega arith) (omega arith) s) h.body;
           leave = s.same h.body_end (Jump z) line (omega arith) (omega arith) h.leave;
           unwinds = unwinds_stable.moves old new (h.body_end + 1) z (part old new a z (h.body_end + 1) z (omega arith) (omega arith) s) h.unwinds;
-          handler = s.handlers h.row (h.body_end + 1) h.handler;
+          handler = s.handlers h.row (clean_up (h.body_end + 1)) h.handler;
         };
   }

@@ -10,9 +10,9 @@ use Rattle.uc_code.specs.declared.rows.Opening.{Opening}
 use Rattle.uc_code.specs.declared.rows.Opening.TheVariants as opening
 use Rattle.uc_code.specs.Drafts.{Draft}
 use Rattle.uc_code.specs.Laid.{Laid, laid_in}
-use Rattle.uc_code.specs.Ranges.{OpAt, One, Risk, HandlerAt, OverElements, Kept}
+use Rattle.uc_code.specs.Ranges.{OpAt, One, Risk, HandlerAt, clean_up, OverElements, Kept}
 use Rattle.uc_code.specs.Lowered.{CallDone}
-use Rattle.uc_code.specs.Open.{row_in, handler_in, opened, closed, closed_by}
+use Rattle.uc_code.specs.Open.{row_in, handler_in, entry_in, opened, closed, closed_by}
 use Rattle.uc_code.specs.Puts.{Puts, done_length}
 use Rattle.uc_code.proofs.Stable.{kept_then, kept_piece}
 use Rattle.uc_code.proofs.Putting.{done_stable, done_is, marks_of}
@@ -38,7 +38,7 @@ closed_like None entry b = refl
 closed_like (Some k) entry b = refl
 
 pub like_closed : (ahead : ℕ) (a b c : Draft) → Like a b → c ≡ closed ahead b → Like a c
-like_closed ahead a b c h e = like_then a b c h (subst (λ (d : Draft). Like b d) (sym e) (closed_like (row_in b.marks) (length b.ops + ahead) b))
+like_closed ahead a b c h e = like_then a b c h (subst (λ (d : Draft). Like b d) (sym e) (closed_like (row_in b.marks) (entry_in b.marks (length b.ops + ahead)) b))
 
 pub like_rest : (a b : Draft) → Like a b → b.marks ≡ a.marks → b ≡ record a { ops = b.ops; rows = b.rows; settled = b.settled }
 like_rest a b h m = h ∙ ap (λ (ms : List Mark). let d : Draft = with_parts b.ops b.rows b.settled ms a in d) m
@@ -52,15 +52,15 @@ marks_closed None entry k b e = absurd (cc)
 marks_closed (Some j) entry k b e = refl
 
 pub closed_ops : (ahead : ℕ) (b c : Draft) → c ≡ closed ahead b → c.ops ≡ b.ops
-closed_ops ahead b c e = ap (λ (d : Draft). d.ops) e ∙ ops_closed (row_in b.marks) (length b.ops + ahead) b
+closed_ops ahead b c e = ap (λ (d : Draft). d.ops) e ∙ ops_closed (row_in b.marks) (entry_in b.marks (length b.ops + ahead)) b
 
 pub closed_marks : (ahead k : ℕ) (b c : Draft) → c ≡ closed ahead b → row_in b.marks ≡ Some k → c.marks ≡ drop 1 b.marks
-closed_marks ahead k b c e r = ap (λ (d : Draft). d.marks) e ∙ marks_closed (row_in b.marks) (length b.ops + ahead) k b r
+closed_marks ahead k b c e r = ap (λ (d : Draft). d.marks) e ∙ marks_closed (row_in b.marks) (entry_in b.marks (length b.ops + ahead)) k b r
 
 module _ (line n start test entry : ℕ) (few : n < 2 ^ 32) (what : ObjectCall) (d0 d1 d2 d3 d4 d5 d6 d7 d8 d9 : Draft)
     (p1 : Puts 1 (λ code. One code (op.Count n test) line) d0 d1) (o2 : d2 ≡ opened opening.Elements d1) (k2 : Kept (laid_in d1) (laid_in d2))
     (p3 : Puts 6 (λ code. CallDone code line what d2.marks) d2 d3) (p4 : Puts 1 (λ code. One code (op.Sweep (start + 1)) line) d3 d4) (p5 : Puts 1 (λ code. One code (op.Jump (entry + 2)) line) d4 d5)
-    (p6 : Puts 6 (λ code. CallDone code line what d5.marks) d5 d6) (c7 : d7 ≡ closed 0 d6) (k7 : Kept (laid_in d6) (laid_in d7)) (h7 : (row : ℕ) → handler_in d6.marks ≡ Some row → HandlerAt (laid_in d7) row (length d6.ops + 0))
+    (p6 : Puts 6 (λ code. CallDone code line what d5.marks) d5 d6) (c7 : d7 ≡ closed 0 d6) (k7 : Kept (laid_in d6) (laid_in d7)) (h7 : (row : ℕ) → handler_in d6.marks ≡ Some row → HandlerAt (laid_in d7) row (clean_up (length d6.ops + 0)))
     (p8 : Puts 1 (λ code. One code (op.Sweep (test + 2)) line) d7 d8) (p9 : Puts 1 (λ code. Risk code d8.marks op.Unwind line) d8 d9)
     (st : start ≡ length d0.ops) (te : test ≡ start + 1 + done_length what) (en : entry ≡ test + 2 + done_length what) where
   abbrev ms : List Mark
@@ -169,10 +169,10 @@ module _ (line n start test entry : ℕ) (few : n < 2 ^ 32) (what : ObjectCall) 
   unwind_at : Risk code ms op.Unwind line (entry + 1) (length d9.ops)
   unwind_at = subst (λ a. Risk code ms op.Unwind line a (length d9.ops)) ops8 (subst (λ l. Risk code l op.Unwind line (length d8.ops) (length d9.ops)) marks8 p9.code)
 
-  handler_at : HandlerAt code row entry
+  handler_at : HandlerAt code row (clean_up entry)
   handler_at =
       let e : length d6.ops + 0 ≡ entry = (let a = at_entry in omega arith) in
-      keep7.handlers row entry (subst (λ k. HandlerAt (laid_in d7) row k) e (h7 row (ap handler_in marks6)))
+      keep7.handlers row (clean_up entry) (subst (λ k. HandlerAt (laid_in d7) row (clean_up k)) e (h7 row (ap handler_in marks6)))
 
   pub swept : Puts 17 (λ c. OverElements c line ms n n op.Sweep op.Sweep (CallDone c line what) (CallDone c line what)) d0 d9
   swept = record {

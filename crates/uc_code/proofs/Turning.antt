@@ -1,6 +1,6 @@
 -- Turns over elements are paced: each one leaves fewer of them.
-use Rattle.std.proofs.Common.{◌≡◌, ℕ, suc, ◌+◌, ◌*◌, ◌<◌, ◌≤◌, List, Bool, true, false, Option, Some, None, refl, ap, sym, subst, ◌∙◌, arith}
-use Rattle.std.specs.Prelude.{slice_get, nat_eq}
+use Rattle.std.proofs.Common.{◌≡◌, ℕ, suc, ◌+◌, ◌-◌, ◌*◌, ◌^◌, ◌<◌, ◌≤◌, List, Bool, true, false, Option, Some, None, refl, ap, sym, subst, ◌∙◌, arith}
+use Rattle.std.specs.Prelude.{length, nat_eq}
 use Rattle.std.proofs.lemmas.Bool.{eq-eqb, ne_eqb}
 use Rattle.uc_code.specs.declared.op.Op.{Op}
 use Rattle.uc_code.specs.declared.op.Op.TheVariants as op
@@ -10,12 +10,12 @@ use Rattle.uc_code.specs.declared.rows.ObjectCall.{ObjectCall}
 use Rattle.uc_code.specs.declared.rows.RoutineCode.{RoutineCode}
 use Rattle.uc_code.specs.declared.rows.Spot.{Spot}
 use Rattle.uc_code.specs.declared.rows.Spot.TheVariants as spot
-use Rattle.uc_code.specs.Laid.{Laid, routine_in}
-use Rattle.uc_code.specs.Pace.{climb_op, height, power, Test, test_by, test_of, turns_left, left_at, turn_height, burden, Onward, Calling, Paced}
+use Rattle.uc_code.specs.Laid.{Laid, handlers, chain, routine_in}
+use Rattle.uc_code.specs.Pace.{climb_op, height, power, Test, test_by, test_of, turns_left, left_at, turn_height, behind, burden, waiting, Entries, Nests, Waits, Onward, Paced}
 use Rattle.uc_code.specs.Ranges.{OpAt, Nothing, One, Risk, CallsBehind, Both}
 use Rattle.uc_code.specs.Lowered.{spot_op, SpotAt, CalledAt, CallAt}
-use Rattle.uc_code.proofs.Powers.{power_less, power_both}
-use Rattle.uc_code.proofs.Heights.{Low, Plain, Each, paced_by, none, only, join, within, height_is, test_is, burden_is, onward_low, onward_lower, Starts, Further, if_ge}
+use Rattle.uc_code.proofs.Powers.{power_less, power_rises, power_twice}
+use Rattle.uc_code.proofs.Heights.{Low, Each, paced_by, none, only, join, within, height_is, test_is, onward_low, onward_lower, Starts, Further, if_ge, waits_are, burdens_are, calling, risky_by, burden_high}
 
 module _ (code : Laid) (table : List RoutineCode) (test turn : ℕ) (o : Op) where
   -- a place in a turn, of which this op is the test
@@ -43,35 +43,56 @@ module _ (code : Laid) (table : List RoutineCode) (test turn : ℕ) (o : Op) whe
   pub in_next : (at : ℕ) (p : Op) (line : ℕ) → OpAt code at p line → ((k : ℕ) (t : Option Test) → test_by p k t ≡ t) → turn ≤ at → In (at + 1) → In at
   in_next at p line h t l n = record { is = test_is code table at p line h ∙ t at (test_of code.ops (at + 1)) ∙ n.is; from = l }
 
-  in_down : (at : ℕ) → In at → In (at + 1) → at + 1 < test → height code.ops (at + 1) < height code.ops at → Onward code.ops table at (at + 1)
+  in_down : (at : ℕ) → In at → In (at + 1) → at + 1 < test → height code.ops (at + 1) < height code.ops at → Onward code table at (at + 1)
   in_down at h n l d = λ e. rw (burden_in at e h (omega arith), burden_in (at + 1) e n l) (omega (arith, power_less (height code.ops (at + 1)) (height code.ops at) d))
 
-  in_calling : (at r : ℕ) → In at → In (at + 1) → at + 1 < test → height code.ops (at + 1) < height code.ops at → ((c : RoutineCode) → slice_get table r ≡ Some c → Plain code table c.entry × (height code.ops c.entry < height code.ops at)) → Calling code.ops table at r
-  in_calling at r h n l d s = λ e c g.
-      let q = s c g in
-      rw (burden_in at e h (omega arith), burden_in (at + 1) e n l, burden_is code table c.entry 0 q.0.outside) (omega (arith, power_both (height code.ops c.entry) (height code.ops (at + 1)) (height code.ops at) q.1 d))
+  pub waiting_in : (at e : ℕ) → In at → at < test → waiting code.ops at e ≡ 2 ^ 32 * power (height code.ops at - 1) + left false e
+  waiting_in at e h l =
+      let b = burden_in at e h l in
+      let f = burdens_are code.ops at e in
+      let g = waits_are code.ops at e in
+      omega arith
+
+  -- what is known of the handlers of these turns, and of how many turns are left
+  pub record Heard (ms : List Mark) : Type 0 where
+    pub entries : (at : ℕ) → turn ≤ at → at < test → behind (length code.ops) at ≤ height code.ops at → In at → Entries code table at (handlers ms)
+    pub nests : Nests code table (handlers ms)
+    pub few : (e : ℕ) → e < 2 ^ 32 → turns_left o false e < 2 ^ 32
+    pub low : height code.ops turn ≤ behind (length code.ops) 0
+
+  in_waits : (ms : List Mark) (at : ℕ) → Heard ms → chain code.rows (at + 1) ≡ handlers ms → In at → In (at + 1) → turn ≤ at → at + 1 < test → behind (length code.ops) at ≤ height code.ops at → height code.ops (at + 1) < height code.ops at → height code.ops at ≤ behind (length code.ops) 0 + 2 → Waits code table at
+  in_waits ms at q u h n t l g d k = record {
+    risky = risky_by code table at (handlers ms) u (omega arith) (q.entries at t (omega arith) g h) q.nests;
+    returns = λ e.
+        let m = power_rises (height code.ops (at + 1)) (height code.ops at - 1) (omega arith) in
+        rw (burden_in (at + 1) e n l, waiting_in at e h (omega arith)) (omega arith);
+    low = λ e few.
+        let w = q.low in
+        let m = power_twice (turns_left o false e) (height code.ops at - 1) (height code.ops turn) (behind (length code.ops) 0 + 2) (q.few e few) (omega arith) (omega arith) in
+        rw (waiting_in at e h (omega arith)) m;
+  }
 
   -- pieces of a turn, before its last op
   pub record Turns (ms : List Mark) (B : ℕ → ℕ → Type 0) : Type 0 where
     pub rises : (a z : ℕ) → B a z → a ≤ z
     pub begins : (a z : ℕ) → B a z → turn ≤ a → In z → In a
     pub low : (a z : ℕ) → B a z → Low code table z → Low code table a
-    pub each : Starts code table → (a z : ℕ) → B a z → turn ≤ a → z < test → Further code table (routine_in ms) z → In z → Low code table z → Each code table a z
+    pub each : Starts code table → Heard ms → (a z : ℕ) → B a z → turn ≤ a → z < test → Further code table (routine_in ms) z → In z → Low code table z → Each code table a z
 
   nothing_turns : (ms : List Mark) → Turns ms Nothing
   nothing_turns ms = record {
     rises = λ a z h. let e = h.end in omega arith;
     begins = λ a z h l n. let e = h.end in let f : z ≡ a = omega arith in let m = n.is in record { is = ap (test_of code.ops) (sym f) ∙ m; from = l };
     low = λ a z h p. subst (Low code table) h.end p;
-    each = λ s a z h l m f n p. let e = h.end in none code table a z (omega arith);
+    each = λ s v a z h l m f n p. let e = h.end in none code table a z (omega arith);
   }
 
-  onward_turns : (ms : List Mark) (p : Op) (line : ℕ) → ((n k h : ℕ) → climb_op n k p h ≡ suc h) → ((k : ℕ) (t : Option Test) → test_by p k t ≡ t) → ((at : ℕ) → Onward code.ops table at (at + 1) → Paced code.ops table at p) → Turns ms (One code p line)
+  onward_turns : (ms : List Mark) (p : Op) (line : ℕ) → ((n k h : ℕ) → climb_op n k p h ≡ suc h) → ((k : ℕ) (t : Option Test) → test_by p k t ≡ t) → ((at : ℕ) → Onward code table at (at + 1) → Paced code table at p) → Turns ms (One code p line)
   onward_turns ms p line c t f = record {
     rises = λ a z h. let e = h.end in omega arith;
     begins = λ a z h l n. in_next a p line h.here t l (subst In h.end n);
     low = λ a z h q. onward_low code table a p line h.here c (subst (Low code table) h.end q);
-    each = λ s a z h l m g n q.
+    each = λ s v a z h l m g n q.
         let e = h.end in
         let k : In (a + 1) = subst In h.end n in
         only code table a z h.end (paced_by code table a p line h.here (f a (in_down a (in_next a p line h.here t l k) k (omega arith) (onward_lower code table a p line h.here c))));
@@ -82,12 +103,12 @@ module _ (code : Laid) (table : List RoutineCode) (test turn : ℕ) (o : Op) whe
     rises = λ a z h. let l = b.rises a h.middle h.first in let k = c.rises h.middle z h.second in omega arith;
     begins = λ a z h l n. let k = b.rises a h.middle h.first in b.begins a h.middle h.first l (c.begins h.middle z h.second (omega arith) n);
     low = λ a z h p. b.low a h.middle h.first (c.low h.middle z h.second p);
-    each = λ s a z h l m f n p.
+    each = λ s v a z h l m f n p.
         let k = b.rises a h.middle h.first in
         let i = c.rises h.middle z h.second in
         join code table a h.middle z
-        (b.each s a h.middle h.first l (omega arith) (λ r d x y. let u = f r d x y in omega arith) (c.begins h.middle z h.second (omega arith) n) (c.low h.middle z h.second p))
-        (c.each s h.middle z h.second (omega arith) m f n p);
+        (b.each s v a h.middle h.first l (omega arith) (λ r d x y. let u = f r d x y in let w = u.0 in (omega arith, u.1)) (c.begins h.middle z h.second (omega arith) n) (c.low h.middle z h.second p))
+        (c.each s v h.middle z h.second (omega arith) m f n p);
   }
 
   -- a tick and a call of a written routine
@@ -96,7 +117,7 @@ module _ (code : Laid) (table : List RoutineCode) (test turn : ℕ) (o : Op) whe
     rises = λ a z h. let e = h.end in omega arith;
     begins = λ a z h l n. in_next a op.Tick line h.here (λ k t. refl) l (subst In h.end n);
     low = λ a z h q. let e = height_is code table a op.Tick line h.here in omega arith;
-    each = λ s a z h l m g n q. only code table a z h.end (paced_by code table a op.Tick line h.here tt);
+    each = λ s v a z h l m g n q. only code table a z h.end (paced_by code table a op.Tick line h.here tt);
   }
 
   -- a call is high, so that a tick stands before it
@@ -109,7 +130,7 @@ module _ (code : Laid) (table : List RoutineCode) (test turn : ℕ) (o : Op) whe
         let m : In h.middle = in_next h.middle (op.CallOn r) line h.second.here (λ k t. refl) (omega arith) k in
         in_next a op.Tick line h.first.here (λ k t. refl) l (subst In h.first.end m);
     low = λ a z h q. let e = height_is code table a op.Tick line h.first.here in omega arith;
-    each = λ s a z h l m g n q.
+    each = λ s v a z h l m g n q.
         let e = h.first.end in
         let f = h.second.end in
         let k : In (h.middle + 1) = subst In h.second.end n in
@@ -118,7 +139,11 @@ module _ (code : Laid) (table : List RoutineCode) (test turn : ℕ) (o : Op) whe
         let p : Low code table (h.middle + 1) = subst (Low code table) h.second.end q in
         join code table a h.middle z
         (only code table a h.middle h.first.end (paced_by code table a op.Tick line h.first.here tt))
-        (only code table h.middle z h.second.end (paced_by code table h.middle (op.CallOn r) line h.second.here (in_calling h.middle r i k (omega arith) (omega arith) (λ c y. let v = s r c y in let w = v.low in (v, omega arith)))));
+        (only code table h.middle z h.second.end (paced_by code table h.middle (op.CallOn r) line h.second.here (
+          calling code table h.middle r (λ c y. let v = s r c y in let w = v.low in (v, omega arith)),
+          in_waits ms h.middle v (subst (λ n. chain code.rows n ≡ handlers ms) h.second.end h.second.under) i k (omega arith) (omega arith) (omega arith) (omega arith) (omega arith),
+          burden_high code table h.middle x,
+        )));
   }
 
   pub unwritten_turns : (ms : List Mark) (line r : ℕ) → Turns ms (CallsBehind code ms r line)
@@ -126,14 +151,18 @@ module _ (code : Laid) (table : List RoutineCode) (test turn : ℕ) (o : Op) whe
     rises = λ a z h. let e = h.risk.end in omega arith;
     begins = λ a z h l n. in_next a (op.CallUnwritten r) line h.risk.here (λ k t. refl) l (subst In h.risk.end n);
     low = λ a z h q. let e = height_is code table a (op.CallUnwritten r) line h.risk.here in omega arith;
-    each = λ s a z h l m g n q.
+    each = λ s v a z h l m g n q.
         let e = h.risk.end in
         let k : In (a + 1) = subst In h.risk.end n in
         let i : In a = in_next a (op.CallUnwritten r) line h.risk.here (λ k t. refl) l k in
         let x = height_is code table a (op.CallUnwritten r) line h.risk.here in
         let w = within code table a (op.CallUnwritten r) line h.risk.here in
         let p : Low code table (a + 1) = subst (Low code table) h.risk.end q in
-        only code table a z h.risk.end (paced_by code table a (op.CallUnwritten r) line h.risk.here (in_calling a r i k (omega arith) (omega arith) (λ c y. let v = s r c y in let u = v.low in let b = g r c h.behind y in (v, omega arith))));
+        only code table a z h.risk.end (paced_by code table a (op.CallUnwritten r) line h.risk.here (
+          calling code table a r (λ c y. let v = s r c y in let u = v.low in let b = g r c h.behind y in let d = b.0 in (v, omega arith)),
+          in_waits ms a v (subst (λ n. chain code.rows n ≡ handlers ms) h.risk.end h.risk.under) i k l (omega arith) (omega arith) (omega arith) (omega arith),
+          (λ c y. let b = g r c h.behind y in b.1),
+        ));
   }
 
   spot_turns : (ms : List Mark) (line : ℕ) (s : Spot) → Turns ms (One code (spot_op s) line)

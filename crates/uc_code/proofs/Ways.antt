@@ -1,5 +1,5 @@
 -- How an exit passes the marks, one after another, from the innermost one on.
-use Rattle.std.proofs.Common.{◌≡◌, ℕ, zero, suc, ◌+◌, ◌-◌, ◌≤◌, ◌<◌, min, List, [], ◌∷◌, ◌++◌, length, get_or, reverse, take, Some, None, refl, ap, sym, subst, ◌∙◌, arith}
+use Rattle.std.proofs.Common.{◌≡◌, ℕ, ◌+◌, ◌-◌, ◌≤◌, ◌<◌, List, [], ◌∷◌, length, get_or, reverse, take, Some, None, refl, ap, sym, subst, ◌∙◌, arith}
 use Rattle.std.proofs.lemmas.List.{reverse-reverse, length-reverse, take_all}
 use Rattle.uc_tree.specs.Source as source
 use Rattle.uc_code.specs.declared.op.Op.{Op}
@@ -9,15 +9,14 @@ use Rattle.uc_code.specs.declared.rows.Mark.TheVariants as mark
 use Rattle.uc_code.specs.declared.rows.Way.{Way}
 use Rattle.uc_code.specs.declared.rows.Way.TheVariants as way
 use Rattle.uc_code.specs.Drafts.{Draft}
-use Rattle.uc_code.specs.Laid.{Laid, handlers, rows_from}
+use Rattle.uc_code.specs.Laid.{Laid}
 use Rattle.uc_code.specs.Leaving.{way_of}
 use Rattle.uc_code.specs.Ranges.{One}
 use Rattle.uc_code.specs.Lowered.{Any, ExitAt}
-use Rattle.uc_code.specs.Open.{Below, StandsBehind, exit_room}
+use Rattle.uc_code.specs.Open.{StandsBehind, exit_room}
 use Rattle.uc_code.specs.Puts.{Puts, PastBehind, PutsPast, Leaves, past_room, outermost, end_op, ends_at}
 use Rattle.uc_code.proofs.Closed.{reverse_take}
-use Rattle.uc_code.proofs.Exiting.{Passing, below_least, passes_clean, passes_part, passes_elements, passes_loop, leaves_mark, leaves_clean, leaves_end}
-use Rattle.uc_code.proofs.Seeing.{rows_dropped}
+use Rattle.uc_code.proofs.Exiting.{Passing, passes_clean, passes_guard, passes_part, passes_elements, passes_loop, leaves_mark, leaves_clean, leaves_end}
 
 -- the marks that are left
 
@@ -47,41 +46,41 @@ module _ (code : Laid) where
 
   ends_exit : (w : Way) (m : Mark) (rest : List Mark) (line : ℕ) (s : Op × ℕ) (a z : ℕ) → ends_at w m line ≡ Some s → One code s.0 s.1 a z → ExitAt code (way_of w) (m ∷ rest) a z
   ends_exit way.Break (mark.Body routine) rest line s a z e h = one_end (op.Return, 0) s a z (some_same (op.Return, 0) s e) h
-  ends_exit way.Break (mark.Finish routine last) rest line s a z e h = one_end (op.Return, last) s a z (some_same (op.Return, last) s e) h
+  ends_exit way.Break (mark.Finish routine last row) rest line s a z e h = one_end (op.Return, last) s a z (some_same (op.Return, last) s e) h
   ends_exit way.Break (mark.Loop leave again) rest line s a z e h = any_end (op.Jump leave) s line a z (some_same (op.Jump leave, line) s e) h
-  ends_exit way.Break (mark.Whole leave) rest line s a z e h = any_end (op.Jump leave) s line a z (some_same (op.Jump leave, line) s e) h
-  ends_exit way.Break (mark.Guard first count) rest line s a z e h = absurd (cc)
+  ends_exit way.Break (mark.Whole leave row) rest line s a z e h = any_end (op.Jump leave) s line a z (some_same (op.Jump leave, line) s e) h
+  ends_exit way.Break (mark.Guard row) rest line s a z e h = absurd (cc)
   ends_exit way.Break (mark.Clean what last row) rest line s a z e h = absurd (cc)
   ends_exit way.Break (mark.Part row) rest line s a z e h = absurd (cc)
   ends_exit way.Break (mark.Elements row) rest line s a z e h = absurd (cc)
   ends_exit way.Break (mark.Outward below row) rest line s a z e h = one_end (op.Return, 0) s a z (some_same (op.Return, 0) s e) h
   ends_exit way.Continue (mark.Body routine) rest line s a z e h = one_end (op.Return, 0) s a z (some_same (op.Return, 0) s e) h
-  ends_exit way.Continue (mark.Finish routine last) rest line s a z e h = one_end (op.Return, last) s a z (some_same (op.Return, last) s e) h
+  ends_exit way.Continue (mark.Finish routine last row) rest line s a z e h = one_end (op.Return, last) s a z (some_same (op.Return, last) s e) h
   ends_exit way.Continue (mark.Loop leave again) rest line s a z e h = any_end (op.Jump again) s line a z (some_same (op.Jump again, line) s e) h
-  ends_exit way.Continue (mark.Whole leave) rest line s a z e h = any_end (op.Jump leave) s line a z (some_same (op.Jump leave, line) s e) h
-  ends_exit way.Continue (mark.Guard first count) rest line s a z e h = absurd (cc)
+  ends_exit way.Continue (mark.Whole leave row) rest line s a z e h = any_end (op.Jump leave) s line a z (some_same (op.Jump leave, line) s e) h
+  ends_exit way.Continue (mark.Guard row) rest line s a z e h = absurd (cc)
   ends_exit way.Continue (mark.Clean what last row) rest line s a z e h = absurd (cc)
   ends_exit way.Continue (mark.Part row) rest line s a z e h = absurd (cc)
   ends_exit way.Continue (mark.Elements row) rest line s a z e h = absurd (cc)
   ends_exit way.Continue (mark.Outward below row) rest line s a z e h = one_end (op.Return, 0) s a z (some_same (op.Return, 0) s e) h
   ends_exit way.Value (mark.Body routine) rest line s a z e h = one_end (op.ReturnValue, 0) s a z (some_same (op.ReturnValue, 0) s e) h
-  ends_exit way.Value (mark.Finish routine last) rest line s a z e h = one_end (op.Return, last) s a z (some_same (op.Return, last) s e) h
+  ends_exit way.Value (mark.Finish routine last row) rest line s a z e h = one_end (op.Return, last) s a z (some_same (op.Return, last) s e) h
   ends_exit way.Value (mark.Loop leave again) rest line s a z e h = absurd (cc)
-  ends_exit way.Value (mark.Whole leave) rest line s a z e h = any_end (op.Jump leave) s line a z (some_same (op.Jump leave, line) s e) h
-  ends_exit way.Value (mark.Guard first count) rest line s a z e h = absurd (cc)
+  ends_exit way.Value (mark.Whole leave row) rest line s a z e h = any_end (op.Jump leave) s line a z (some_same (op.Jump leave, line) s e) h
+  ends_exit way.Value (mark.Guard row) rest line s a z e h = absurd (cc)
   ends_exit way.Value (mark.Clean what last row) rest line s a z e h = absurd (cc)
   ends_exit way.Value (mark.Part row) rest line s a z e h = absurd (cc)
   ends_exit way.Value (mark.Elements row) rest line s a z e h = absurd (cc)
   ends_exit way.Value (mark.Outward below row) rest line s a z e h = one_end (op.ReturnValue, 0) s a z (some_same (op.ReturnValue, 0) s e) h
-  ends_exit way.End (mark.Body routine) rest line s a z e h = one_end (op.Return, 0) s a z (some_same (op.Return, 0) s e) h
-  ends_exit way.End (mark.Finish routine last) rest line s a z e h = one_end (op.Return, last) s a z (some_same (op.Return, last) s e) h
+  ends_exit way.End (mark.Body routine) rest line s a z e h = one_end (op.ReturnNone, 0) s a z (some_same (op.ReturnNone, 0) s e) h
+  ends_exit way.End (mark.Finish routine last row) rest line s a z e h = one_end (op.Return, last) s a z (some_same (op.Return, last) s e) h
   ends_exit way.End (mark.Loop leave again) rest line s a z e h = absurd (cc)
-  ends_exit way.End (mark.Whole leave) rest line s a z e h = any_end (op.Jump leave) s line a z (some_same (op.Jump leave, line) s e) h
-  ends_exit way.End (mark.Guard first count) rest line s a z e h = absurd (cc)
+  ends_exit way.End (mark.Whole leave row) rest line s a z e h = any_end (op.Jump leave) s line a z (some_same (op.Jump leave, line) s e) h
+  ends_exit way.End (mark.Guard row) rest line s a z e h = absurd (cc)
   ends_exit way.End (mark.Clean what last row) rest line s a z e h = absurd (cc)
   ends_exit way.End (mark.Part row) rest line s a z e h = absurd (cc)
   ends_exit way.End (mark.Elements row) rest line s a z e h = absurd (cc)
-  ends_exit way.End (mark.Outward below row) rest line s a z e h = one_end (op.Return, 0) s a z (some_same (op.Return, 0) s e) h
+  ends_exit way.End (mark.Outward below row) rest line s a z e h = one_end (op.ReturnNone, 0) s a z (some_same (op.ReturnNone, 0) s e) h
 
   bare_exit : (w : Way) (a z : ℕ) → One code (end_op w) 0 a z → ExitAt code (way_of w) [] a z
   bare_exit way.Break a z h = h
@@ -92,10 +91,10 @@ module _ (code : Laid) where
 exit_least : (ms : List Mark) → 1 ≤ exit_room ms
 exit_least [] = omega arith
 exit_least (mark.Body routine ∷ ms) = omega arith
-exit_least (mark.Finish routine last ∷ ms) = omega arith
+exit_least (mark.Finish routine last row ∷ ms) = omega arith
 exit_least (mark.Loop leave again ∷ ms) = exit_least ms
-exit_least (mark.Whole leave ∷ ms) = omega arith
-exit_least (mark.Guard first count ∷ ms) = exit_least ms
+exit_least (mark.Whole leave row ∷ ms) = omega arith
+exit_least (mark.Guard row ∷ ms) = exit_least ms
 exit_least (mark.Clean what last row ∷ ms) = let l = exit_least ms in omega arith
 exit_least (mark.Part row ∷ ms) = exit_least ms
 exit_least (mark.Elements row ∷ ms) = exit_least ms
@@ -115,10 +114,10 @@ exit_bare w old now new p q = leaves_end (way_of w) old now new [] (end_op w) 0 
 
 pub past_fits : (w : Way) (m : Mark) (rest : List Mark) (line : ℕ) → ends_at w m line ≡ None → past_room m + exit_room rest ≤ exit_room (m ∷ rest)
 past_fits w (mark.Body routine) rest line e = absurd (cc)
-past_fits w (mark.Finish routine last) rest line e = absurd (cc)
+past_fits w (mark.Finish routine last row) rest line e = absurd (cc)
 past_fits w (mark.Loop leave again) rest line e = omega arith
-past_fits w (mark.Whole leave) rest line e = absurd (cc)
-past_fits w (mark.Guard first count) rest line e = omega arith
+past_fits w (mark.Whole leave row) rest line e = absurd (cc)
+past_fits w (mark.Guard row) rest line e = omega arith
 past_fits w (mark.Clean what last row) rest line e = omega arith
 past_fits w (mark.Part row) rest line e = omega arith
 past_fits w (mark.Elements row) rest line e = omega arith
@@ -129,45 +128,31 @@ past_room_left w old now m rest line most l e p = let r = p.room in let f = past
 
 pub past_behind : (m : Mark) (all rest now : List Mark) → now ≡ all → Passing all (m ∷ rest) → PastBehind m now
 past_behind (mark.Body routine) all rest now e p = tt
-past_behind (mark.Finish routine last) all rest now e p = tt
+past_behind (mark.Finish routine last row) all rest now e p = tt
 past_behind (mark.Loop leave again) all rest now e p = tt
-past_behind (mark.Whole leave) all rest now e p = tt
-past_behind (mark.Guard first count) all rest now e p = tt
+past_behind (mark.Whole leave row) all rest now e p = tt
+past_behind (mark.Guard row) all rest now e p = tt
 past_behind (mark.Clean what last row) all rest now e p = subst (λ (ms : List Mark). StandsBehind ms what) (sym e) (record { behind = λ f. let r = p.routine in let b = p.behind.0.behind f in omega arith })
 past_behind (mark.Part row) all rest now e p = tt
 past_behind (mark.Elements row) all rest now e p = tt
 past_behind (mark.Outward below row) all rest now e p = tt
 
-guard_below : (k first n : ℕ) (hs : List ℕ) → Below k (rows_from first n ++ hs) → Below k hs
-guard_below k first zero hs b = b
-guard_below k first (suc n) hs b = guard_below k (suc first) n hs b.1
-
-passes_guard : (all : List Mark) (first count : ℕ) (rest : List Mark) → Passing all (mark.Guard first count ∷ rest) → Passing all rest
-passes_guard all first count rest p = record {
-  bound = min p.bound first;
-  low = below_least p.bound first (handlers rest) (guard_below p.bound first count (handlers rest) p.low) p.falling.0;
-  cut = λ k l. p.cut k (omega arith) ∙ rows_dropped k first count (handlers rest) (omega arith);
-  routine = p.routine;
-  falling = p.falling.1;
-  behind = p.behind;
-}
-
 pub passes_past : (w : Way) (all : List Mark) (m : Mark) (rest : List Mark) (line : ℕ) → ends_at w m line ≡ None → Passing all (m ∷ rest) → Passing all rest
 passes_past w all (mark.Body routine) rest line e p = absurd (cc)
-passes_past w all (mark.Finish routine last) rest line e p = absurd (cc)
+passes_past w all (mark.Finish routine last row) rest line e p = absurd (cc)
 passes_past w all (mark.Loop leave again) rest line e p = passes_loop all leave again rest p
-passes_past w all (mark.Whole leave) rest line e p = absurd (cc)
-passes_past w all (mark.Guard first count) rest line e p = passes_guard all first count rest p
+passes_past w all (mark.Whole leave row) rest line e p = absurd (cc)
+passes_past w all (mark.Guard row) rest line e p = passes_guard all row rest p
 passes_past w all (mark.Clean what last row) rest line e p = passes_clean all what last row rest p
 passes_past w all (mark.Part row) rest line e p = passes_part all row rest p
 passes_past w all (mark.Elements row) rest line e p = passes_elements all row rest p
 passes_past w all (mark.Outward below row) rest line e p = absurd (cc)
 
-guard_exit : (w : source.Way) (code : Laid) (first count : ℕ) (rest : List Mark) (a z : ℕ) → ExitAt code w rest a z → ExitAt code w (mark.Guard first count ∷ rest) a z
-guard_exit source.ToBreak code first count rest a z h = h
-guard_exit source.ToContinue code first count rest a z h = h
-guard_exit source.ToReturn code first count rest a z h = h
-guard_exit source.ToEnd code first count rest a z h = h
+guard_exit : (w : source.Way) (code : Laid) (row : ℕ) (rest : List Mark) (a z : ℕ) → ExitAt code w rest a z → ExitAt code w (mark.Guard row ∷ rest) a z
+guard_exit source.ToBreak code row rest a z h = h
+guard_exit source.ToContinue code row rest a z h = h
+guard_exit source.ToReturn code row rest a z h = h
+guard_exit source.ToEnd code row rest a z h = h
 
 part_exit : (w : source.Way) (code : Laid) (row : ℕ) (rest : List Mark) (a z : ℕ) → ExitAt code w rest a z → ExitAt code w (mark.Part row ∷ rest) a z
 part_exit source.ToBreak code row rest a z h = h
@@ -192,10 +177,10 @@ same_left w old now next rest e p = subst (λ (d : Draft). Leaves w old d rest) 
 
 pub leaves_past : (w : Way) (old now next : Draft) (m : Mark) (rest : List Mark) (line : ℕ) → ends_at w m line ≡ None → Passing old.marks (m ∷ rest) → Leaves (way_of w) old now (m ∷ rest) → PutsPast m now next → Leaves (way_of w) old next rest
 leaves_past w old now next (mark.Body routine) rest line e s p q = absurd (cc)
-leaves_past w old now next (mark.Finish routine last) rest line e s p q = absurd (cc)
+leaves_past w old now next (mark.Finish routine last row) rest line e s p q = absurd (cc)
 leaves_past w old now next (mark.Loop leave again) rest line e s p q = same_left (way_of w) old now next rest q (leaves_mark (way_of w) old now (mark.Loop leave again) rest refl (λ code a z h. loop_exit w leave again line e code rest a z h) p)
-leaves_past w old now next (mark.Whole leave) rest line e s p q = absurd (cc)
-leaves_past w old now next (mark.Guard first count) rest line e s p q = same_left (way_of w) old now next rest q (leaves_mark (way_of w) old now (mark.Guard first count) rest refl (λ code a z h. guard_exit (way_of w) code first count rest a z h) p)
+leaves_past w old now next (mark.Whole leave row) rest line e s p q = absurd (cc)
+leaves_past w old now next (mark.Guard row) rest line e s p q = same_left (way_of w) old now next rest q (leaves_mark (way_of w) old now (mark.Guard row) rest refl (λ code a z h. guard_exit (way_of w) code row rest a z h) p)
 leaves_past w old now next (mark.Clean what last row) rest line e s p q = leaves_clean (way_of w) old now next what last row rest s p q
 leaves_past w old now next (mark.Part row) rest line e s p q = same_left (way_of w) old now next rest q (leaves_mark (way_of w) old now (mark.Part row) rest refl (λ code a z h. part_exit (way_of w) code row rest a z h) p)
 leaves_past w old now next (mark.Elements row) rest line e s p q = same_left (way_of w) old now next rest q (leaves_mark (way_of w) old now (mark.Elements row) rest refl (λ code a z h. elements_exit (way_of w) code row rest a z h) p)

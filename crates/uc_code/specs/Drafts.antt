@@ -9,8 +9,10 @@ use Rattle.uc_code.specs.declared.rows.Mark.{Mark}
 use Rattle.uc_code.specs.declared.rows.RoutineCode.{RoutineCode}
 
 -- the ops so far, the rows so far, the op from which on they are those of the marks, the place at which lowering stands, what
--- stands around it in the routine, the innermost first, how many scopes the routine has had so far, the names in scope from the outermost on, how many cells the routine has so far, how many text literals and accept
--- statements of the program stand before this place, and what is known of each routine
+-- stands around it in the routine, the innermost first, how many scopes the routine has had so far, the names in scope from the
+-- outermost on, the first of the cells in which the innermost handler around this place keeps its event, the first cell of a variable
+-- and the first hidden one that nothing so far has, how many text literals and accept statements of the program stand before this
+-- place, and what is known of each routine
 pub record Draft : Type 0 where
   pub ops : List Instruction
   pub rows : List HandlerRow
@@ -19,7 +21,9 @@ pub record Draft : Type 0 where
   pub marks : List Mark
   pub scopes : ℕ
   pub names : List Known
+  pub handled : ℕ
   pub cells : ℕ
+  pub hidden : ℕ
   pub texts : ℕ
   pub sites : ℕ
   pub routines : List RoutineCode

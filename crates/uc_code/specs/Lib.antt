@@ -1,5 +1,6 @@
 pub mod Codes
 pub mod Drafts
+pub mod Guarding
 pub mod Laid
 pub mod Leaving
 pub mod Listing
@@ -10,3 +11,5 @@ pub mod Operands
 pub mod Pace
 pub mod Puts
 pub mod Ranges
+pub mod Silent
+pub mod Tables

@@ -3,7 +3,7 @@ use Rattle.std.specs.Prelude.{ℕ, ℤ, pos, ◌+◌, List, [], ◌∷◌, ◌++
 use Rattle.std.specs.Fmt.{signed_decimal}
 use Rattle.uc_code.specs.declared.op.Op.{Op}
 use Rattle.uc_tree.specs.ValueForms.{form_number}
-use Rattle.uc_code.specs.declared.op.Op.TheVariants.{Push, Duplicate, Discard, Over, DiscardBelow, Local, Own, This, Via, ViaThis, Field, Counted, Index, Load, Store, Keep, Set, Clear, Add, Subtract, Multiply, Divide, Remainder, Negate, Not, Equal, NotEqual, Less, AtMost, Greater, AtLeast, ToChar, ToBool, Jump, IfZero, IfNonzero, Count, More, Fill, Sweep, Tick, Call, CallOn, CallUnwritten, Return, ReturnValue, NoReturn, Enter, Leave, Make, Made, Spawn, Gone, Coroutine, Live, UnwindCoroutine, Resume, Suspend, EndMain, Throw, Raise, Again, RaiseAt, RaiseAtCoroutine, Handled, Unwind, Enable, Disable, Restore, Poll, Accept, Wait, Signal, SignalBlock, Empty, Front, Print, Text, Hold, Flush, Read, Fail, Yield, Cluster, ClusterEnd, Processor, ProcessorEnd, Migrate}
+use Rattle.uc_code.specs.declared.op.Op.TheVariants.{Push, Duplicate, Discard, Over, DiscardBelow, Local, Own, This, Via, ViaThis, Field, Counted, Index, Load, Store, Keep, Set, Clear, Add, Subtract, Multiply, Divide, Remainder, Negate, Not, Equal, NotEqual, Less, AtMost, Greater, AtLeast, ToChar, ToBool, Jump, IfZero, IfNonzero, Count, More, Fill, Sweep, Tick, Call, CallOn, CallUnwritten, Return, ReturnValue, ReturnNone, NoReturn, Enter, Leave, Make, Made, Spawn, Gone, Coroutine, Live, UnwindCoroutine, Resume, Suspend, EndMain, Throw, Raise, RaiseAt, RaiseAtCoroutine, Handled, Unhandled, Unwind, Enable, Disable, Restore, Poll, Accept, Wait, Signal, SignalBlock, Empty, Front, Print, Text, Hold, Flush, Read, Fail, Yield, Cluster, ClusterEnd, Processor, ProcessorEnd, Migrate}
 use Rattle.uc_code.specs.declared.rows.HandlerRow.{HandlerRow}
 use Rattle.uc_code.specs.declared.rows.RowKind.{RowKind}
 use Rattle.uc_code.specs.declared.rows.RowKind.TheVariants.{Catch, CatchResume, CleanUp}
@@ -58,6 +58,7 @@ word_of (CallOn _) = codes "callon"
 word_of (CallUnwritten _) = codes "callun"
 word_of Return = codes "ret"
 word_of ReturnValue = codes "retval"
+word_of ReturnNone = codes "retnone"
 word_of NoReturn = codes "noret"
 word_of (Enter _ _) = codes "enter"
 word_of Leave = codes "out"
@@ -71,12 +72,12 @@ word_of UnwindCoroutine = codes "uncoro"
 word_of Resume = codes "resume"
 word_of Suspend = codes "suspend"
 word_of EndMain = codes "endmain"
-word_of (Throw _) = codes "throw"
-word_of (Raise _) = codes "raise"
-word_of Again = codes "again"
+word_of Throw = codes "throw"
+word_of Raise = codes "raise"
 word_of (RaiseAt _) = codes "at"
 word_of (RaiseAtCoroutine _) = codes "atcoro"
 word_of Handled = codes "handled"
+word_of Unhandled = codes "unhandled"
 word_of Unwind = codes "unwind"
 word_of (Enable _) = codes "enable"
 word_of (Disable _) = codes "disable"
@@ -149,6 +150,7 @@ operands_of (CallOn n) = pos n ∷ []
 operands_of (CallUnwritten n) = pos n ∷ []
 operands_of Return = []
 operands_of ReturnValue = []
+operands_of ReturnNone = []
 operands_of NoReturn = []
 operands_of (Enter member routine) = pos member ∷ pos routine ∷ []
 operands_of Leave = []
@@ -162,12 +164,12 @@ operands_of UnwindCoroutine = []
 operands_of Resume = []
 operands_of Suspend = []
 operands_of EndMain = []
-operands_of (Throw n) = pos n ∷ []
-operands_of (Raise n) = pos n ∷ []
-operands_of Again = []
+operands_of Throw = []
+operands_of Raise = []
 operands_of (RaiseAt n) = pos n ∷ []
 operands_of (RaiseAtCoroutine n) = pos n ∷ []
 operands_of Handled = []
+operands_of Unhandled = []
 operands_of Unwind = []
 operands_of (Enable n) = pos n ∷ []
 operands_of (Disable n) = pos n ∷ []

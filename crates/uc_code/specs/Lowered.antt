@@ -1,7 +1,7 @@
 -- The code of the resolved tree: for each piece what its range of ops must hold. `line` is that of the innermost
 -- statement around the piece, and the marks are what stands around it in its routine, the innermost first.
-use Rattle.std.specs.Prelude.{◌≡◌, ℕ, ◌+◌, pos, List, [], ◌∷◌, Bool, true, false, Option, Some, None, length, map}
-use Rattle.uc_tree.specs.Source.{Shape, Integer, Character, Truth, Binding, Last, Field, Array, shape_cells, field_cells, Operator, Plus, Minus, Times, Over, Modulo, Equal, NotEqual, Less, AtMost, Greater, AtLeast, Expr, Literal, Variable, Element, Get, Load, Negated, Not, AsCharacter, AsTruth, Operate, And, Or, Set, Assign, First, Update, StepBehind, Fail, Call, OfObject, ObjectExpr, This, OwnField, GetOwn, FieldOf, Counted, CallOn, CallUnwritten, EnterOn, Wait, Signal, SignalBlock, IsEmpty, FrontOf, Exprs, NoExprs, MoreExprs, Item, Show, ShowText, Target, Declared, Stmt, Skip, Block, Whole, Evaluate, Declare, Print, PrintTogether, Read, If, Loop, Break, Continue, Return, Fill, OfEvents, OfTasks, CleanUp, Stmts, Nil, Then, Scoped, Built, Way, ToBreak, ToContinue, ToReturn, ToEnd, Purpose, TaskMain, Procedure, Function, Builder, Routine, Source}
+use Rattle.std.specs.Prelude.{◌≡◌, ℕ, suc, ◌+◌, ◌<◌, max, slice_get, pos, List, [], ◌∷◌, Bool, true, false, Option, Some, None, length, map}
+use Rattle.uc_tree.specs.Source.{Shape, Integer, Character, Truth, Binding, Last, Field, Array, shape_cells, field_cells, Operator, Plus, Minus, Times, Over, Modulo, Equal, NotEqual, Less, AtMost, Greater, AtLeast, Expr, Literal, Variable, Element, Get, Load, Negated, Not, AsCharacter, AsTruth, Operate, And, Or, Set, Assign, First, Update, StepBehind, Fail, Call, OfObject, ObjectExpr, This, OwnField, GetOwn, FieldOf, Counted, CallOn, CallUnwritten, EnterOn, Wait, Signal, SignalBlock, IsEmpty, FrontOf, Exprs, NoExprs, MoreExprs, Item, Show, ShowText, Target, Declared, Stmt, Skip, Block, Whole, Evaluate, Declare, Print, PrintTogether, Read, If, Loop, Break, Continue, Return, Fill, OfEvents, OfTasks, EventStmt, Throw, Raise, Try, RaiseAt, Enable, Disable, Raised, Plainly, BuiltAt as BuildsAt, AgainFrom, Handlers, NoHandlers, MoreHandlers, CleanUp, Stmts, Nil, Then, Scoped, Built, Way, ToBreak, ToContinue, ToReturn, ToEnd, Purpose, TaskMain, Procedure, Function, Builder, Routine, Source}
 use Rattle.uc_code.specs.declared.op.Op.{Op}
 use Rattle.uc_code.specs.declared.op.Op.TheVariants as op
 use Rattle.uc_code.specs.declared.rows.Mark.{Mark}
@@ -12,9 +12,15 @@ use Rattle.uc_code.specs.declared.rows.Array.{Array as ArrayOf}
 use Rattle.uc_code.specs.declared.rows.ObjectCall.{ObjectCall}
 use Rattle.uc_code.specs.declared.rows.RoutineCode.{RoutineCode}
 use Rattle.uc_code.specs.Codes.{Code}
-use Rattle.uc_code.specs.Laid.{Laid, laid_of}
-use Rattle.uc_code.specs.Ranges.{Nothing, Never, One, Risk, CallsBehind, Both, Fork, Turns, WholeAt, OverElements, ScopeOf, BehindPart}
+use Rattle.uc_tree.specs.Hidden.{EVENT_FIELDS}
+use Rattle.uc_code.specs.declared.rows.Handler.{Handler}
+use Rattle.uc_code.specs.declared.rows.RowKind.{RowKind}
+use Rattle.uc_code.specs.declared.rows.RowKind.TheVariants as kind
+use Rattle.uc_code.specs.declared.rows.TheConstants.{ANY_EVENT}
+use Rattle.uc_code.specs.Laid.{Laid, laid_of, handlers}
+use Rattle.uc_code.specs.Ranges.{Nothing, Never, One, Risk, CallsBehind, Both, Fork, Turns, WholeAt, MainAt, Guarded, HandledAt, ApartAt, OverElements, ScopeOf, BehindPart}
 use Rattle.uc_code.specs.ObjectCalls.{Calls, Cleans}
+use Rattle.uc_code.specs.Silent.{silent_all}
 
 -- the op of an operator
 abbrev pub operator_op : Operator → Op
@@ -35,19 +41,26 @@ abbrev pub item_op : Item → Op
 item_op (Show form e) = op.Print form
 item_op (ShowText k) = op.Text k
 
--- the mark of the statements of the routine of this number: a main has the line of its block
-abbrev pub body_mark : Purpose → ℕ → ℕ → Mark
-body_mark TaskMain routine line = mark.Finish routine line
-body_mark Procedure routine line = mark.Body routine
-body_mark Function routine line = mark.Body routine
-body_mark Builder routine line = mark.Body routine
+-- the kind of a handler, and its event, which is a number that a row has for no other end
 
--- the line of these statements: what builds and destroys the fields of an object has none
-abbrev pub body_line : Purpose → ℕ → ℕ
-body_line TaskMain line = line
-body_line Procedure line = line
-body_line Function line = line
-body_line Builder line = 0
+abbrev pub kind_of : Bool → RowKind
+kind_of true = kind.CatchResume
+kind_of false = kind.Catch
+
+abbrev pub event_of : Option ℕ → ℕ
+event_of None = ANY_EVENT
+event_of (Some n) = n
+
+pub record IsNamed (event : Option ℕ) : Type 0 where
+  pub few : (n : ℕ) → event ≡ Some n → n < ANY_EVENT
+
+abbrev pub handler_of : Bool → Option ℕ → ℕ → ℕ → Handler
+handler_of resumes event rest entry = record { kind = kind_of resumes; event = event_of event; rest = rest; entry = entry }
+
+-- how many rows a guarded block has: one for each handler
+abbrev pub handler_rows : Handlers → ℕ
+handler_rows NoHandlers = 0
+handler_rows (MoreHandlers resumes event cell line body rest) = suc (handler_rows rest)
 
 -- where an object begins
 abbrev pub spot_op : Spot → Op
@@ -154,6 +167,28 @@ module _ (code : Laid) (line : ℕ) where
   StepAt ms None = Nothing
   StepAt ms (Some e) = Both (ExprAt ms e) (Is op.Discard)
 
+  -- events
+
+  -- an event of this number is found whose fields its constructor has built from this cell on
+  abbrev pub FieldsAt : ℕ → ℕ → ℕ → ℕ → Type 0
+  FieldsAt n k = Both (Is op.Discard) (Both (Is (op.Push (pos n))) (Both (Is (op.Via k)) (Is (op.Via (k + 1)))))
+
+  -- an event as the newest operands: its number and its fields
+  abbrev pub RaisedAt : List Mark → Raised → ℕ → ℕ → Type 0
+  RaisedAt ms (Plainly n) = Both (Is (op.Push (pos n))) (Both (Is (op.Push (pos 0))) (Is (op.Push (pos 0))))
+  RaisedAt ms (BuildsAt n k e) =
+      Both (Is (op.Clear k EVENT_FIELDS)) (Both (ExprAt ms e) (FieldsAt n k))
+  RaisedAt ms (AgainFrom k) = Both (Is (op.Via k)) (Both (Is (op.Via (k + 1))) (Is (op.Via (k + 2))))
+
+  -- the newest operand is kept in a cell, and goes
+  abbrev pub KeepAt : ℕ → ℕ → ℕ → Type 0
+  KeepAt k = Both (Is (op.Set k)) (Is op.Discard)
+
+  -- a handler keeps the event that it finds as the newest operands
+  abbrev pub KeepsAt : ℕ → ℕ → ℕ → Type 0
+  KeepsAt k =
+      Both (KeepAt (k + 2)) (Both (KeepAt (k + 1)) (KeepAt k))
+
   -- calls of constructors and destructors without arguments
 
   -- where the object lies, or the element that is counted
@@ -217,36 +252,43 @@ module _ (code : Laid) where
   ExitAt ToBreak [] = One code op.Return 0
   ExitAt ToContinue [] = One code op.Return 0
   ExitAt ToReturn [] = One code op.ReturnValue 0
-  ExitAt ToEnd [] = One code op.Return 0
+  ExitAt ToEnd [] = One code op.ReturnNone 0
   ExitAt ToBreak (mark.Body routine ∷ ms) = One code op.Return 0
   ExitAt ToContinue (mark.Body routine ∷ ms) = One code op.Return 0
   ExitAt ToReturn (mark.Body routine ∷ ms) = One code op.ReturnValue 0
-  ExitAt ToEnd (mark.Body routine ∷ ms) = One code op.Return 0
-  ExitAt ToBreak (mark.Finish routine line ∷ ms) = One code op.Return line
-  ExitAt ToContinue (mark.Finish routine line ∷ ms) = One code op.Return line
-  ExitAt ToReturn (mark.Finish routine line ∷ ms) = One code op.Return line
-  ExitAt ToEnd (mark.Finish routine line ∷ ms) = One code op.Return line
+  ExitAt ToEnd (mark.Body routine ∷ ms) = One code op.ReturnNone 0
+  ExitAt w (mark.Finish routine line row ∷ ms) = One code op.Return line
   ExitAt ToBreak (mark.Loop leave again ∷ ms) = Any (op.Jump leave)
   ExitAt ToContinue (mark.Loop leave again ∷ ms) = Any (op.Jump again)
   ExitAt ToReturn (mark.Loop leave again ∷ ms) = ExitAt ToReturn ms
   ExitAt ToEnd (mark.Loop leave again ∷ ms) = ExitAt ToEnd ms
-  ExitAt w (mark.Whole leave ∷ ms) = Any (op.Jump leave)
-  ExitAt w (mark.Guard first count ∷ ms) = ExitAt w ms
+  ExitAt w (mark.Whole leave row ∷ ms) = Any (op.Jump leave)
+  ExitAt w (mark.Guard row ∷ ms) = ExitAt w ms
   ExitAt w (mark.Clean what line row ∷ ms) = Both (CleanAt code line what ms) (ExitAt w ms)
   ExitAt w (mark.Part row ∷ ms) = ExitAt w ms
   ExitAt w (mark.Elements row ∷ ms) = ExitAt w ms
-  -- an exit ends in another one
+  -- nothing stands around a handler of resumptions
   ExitAt ToBreak (mark.Outward below row ∷ ms) = One code op.Return 0
   ExitAt ToContinue (mark.Outward below row ∷ ms) = One code op.Return 0
   ExitAt ToReturn (mark.Outward below row ∷ ms) = One code op.ReturnValue 0
-  ExitAt ToEnd (mark.Outward below row ∷ ms) = One code op.Return 0
+  ExitAt ToEnd (mark.Outward below row ∷ ms) = One code op.ReturnNone 0
+
+  -- a handler that catches goes on behind its guarded block, by its pad; one of resumptions ends, and what raised the event goes on
+  abbrev pub HandlerBy : Bool → List Mark → ℕ → ℕ → (List Mark → ℕ → ℕ → Type 0) → ℕ → ℕ → Type 0
+  HandlerBy false ms pad line B = Both (B ms) (One code (op.Jump pad) line)
+  HandlerBy true ms pad line B = ApartAt code ms B
+
+  -- the event of a handler has a number that stands for it alone
+  pub record NamedAt (event : Option ℕ) (B : ℕ → ℕ → Type 0) (a z : ℕ) : Type 0 where
+    pub named : IsNamed event
+    pub handler : B a z
 
   -- a statement sets its own line
   abbrev mutual
     pub StmtAt : List Mark → Stmt → ℕ → ℕ → Type 0
     StmtAt ms (Skip line) = Nothing
     StmtAt ms (Block line body) = StmtsAt ms line body
-    StmtAt ms (Whole line body) = WholeAt code line (λ m. StmtsAt (m ∷ ms) line body)
+    StmtAt ms (Whole line body) = WholeAt code line ms (λ ns. StmtsAt ns line body)
     StmtAt ms (Evaluate line e) = Both (ExprAt code line ms e) (One code op.Discard line)
     StmtAt ms (Declare line ds) = VariablesAt code line ms ds
     StmtAt ms (Print line is) = ItemsAt code line ms is
@@ -259,8 +301,23 @@ module _ (code : Laid) where
     StmtAt ms (Return line None) = ExitAt ToEnd ms
     StmtAt ms (Return line (Some e)) = Both (ExprAt code line ms e) (ExitAt ToReturn ms)
     StmtAt ms (Fill line n b d) = FilledAt code line ms n b d
-    StmtAt ms (OfEvents s) = Never
+    StmtAt ms (OfEvents s) = EventAt ms s
     StmtAt ms (OfTasks s) = Never
+
+    pub EventAt : List Mark → EventStmt → ℕ → ℕ → Type 0
+    EventAt ms (Throw line r) = Both (RaisedAt code line ms r) (Risk code ms op.Throw line)
+    -- what the handler hands over goes
+    EventAt ms (Raise line r) = Both (RaisedAt code line ms r) (Both (Risk code ms op.Raise line) (One code op.Discard line))
+    EventAt ms (Try line body hs) = Guarded code line ms (handler_rows hs) (λ ns. StmtsAt ns line body) (λ first pad. HandlersAt ms first pad hs)
+    EventAt ms (RaiseAt line r e) = Never
+    EventAt ms (Enable line events s) = Never
+    EventAt ms (Disable line events s) = Never
+
+    -- the handlers of a guarded block whose last one has this row; a handler that catches goes on at this pad
+    pub HandlersAt : List Mark → ℕ → ℕ → Handlers → ℕ → ℕ → Type 0
+    HandlersAt ms first pad NoHandlers = Nothing
+    HandlersAt ms first pad (MoreHandlers resumes event cell line body rest) =
+        Both (NamedAt event (HandledAt code (first + handler_rows rest) (handler_of resumes event (length (handlers ms))) (Both (KeepsAt code line cell) (HandlerBy resumes ms pad line (λ ns. StmtsAt ns line body))))) (HandlersAt ms first pad rest)
 
     -- the statements of a block of this line
     pub StmtsAt : List Mark → ℕ → Stmts → ℕ → ℕ → Type 0
@@ -269,33 +326,34 @@ module _ (code : Laid) where
     StmtsAt ms line (Scoped c ss) = ScopedAt code line ms c (λ ns. StmtsAt ns line ss)
     StmtsAt ms line (Built c ss) = BuiltAt code line ms c (λ ns. StmtsAt ns line ss)
 
-  -- what is done behind the statements of a routine whose block has this line
-  abbrev pub EndAt : Purpose → ℕ → ℕ → ℕ → Type 0
-  EndAt TaskMain line = One code op.Return line
-  EndAt Procedure line = One code op.Return 0
-  EndAt Function line = Both (One code op.NoReturn line) (One code op.Return 0)
-  EndAt Builder line = One code op.Return 0
+  -- the statements of the routine of this number, whose block has this line, and what is done behind them. What builds and destroys
+  -- the fields of an object has no line.
+  abbrev pub BodyAt : Purpose → ℕ → ℕ → Stmts → ℕ → ℕ → Type 0
+  BodyAt TaskMain number line ss = MainAt code number line (λ ms. StmtsAt ms line ss)
+  BodyAt Procedure number line ss = Both (StmtsAt (mark.Body number ∷ []) line ss) (One code op.Return 0)
+  BodyAt Function number line ss = Both (StmtsAt (mark.Body number ∷ []) line ss) (Both (One code op.NoReturn line) (One code op.Return 0))
+  BodyAt Builder number line ss = Both (StmtsAt (mark.Body number ∷ []) 0 ss) (One code op.Return 0)
 
-  abbrev pub BodyAt : ℕ → Routine → ℕ → ℕ → Type 0
-  BodyAt number routine = StmtsAt (body_mark routine.purpose number routine.line ∷ []) (body_line routine.purpose routine.line) routine.body
-
-  -- the code of the routine of this number: its body, and its end
-  pub record RoutineAt (number : ℕ) (routine : Routine) (begins : RoutineCode) (a z : ℕ) : Type 0 where
+  -- the code of the routine of this number: its body, and its end. Those with greater numbers than the last that is written, and than
+  -- its own, may be called from it without a tick.
+  pub record RoutineAt (last number : ℕ) (routine : Routine) (begins : RoutineCode) (a z : ℕ) : Type 0 where
     pub entry : begins.entry ≡ a
     pub cells : begins.cells ≡ routine.cells
     pub params : begins.params ≡ routine.params
-    pub body : Both (BodyAt number routine) (EndAt routine.purpose routine.line) a z
+    pub body : BodyAt routine.purpose (max number last) routine.line routine.body a z
 
   -- routines, from this number on, one after another
-  abbrev pub RoutinesAt : ℕ → List Routine → List RoutineCode → ℕ → ℕ → Type 0
-  RoutinesAt number [] [] = Nothing
-  RoutinesAt number [] (c ∷ cs) = λ a z. ⊥
-  RoutinesAt number (r ∷ rs) [] = λ a z. ⊥
-  RoutinesAt number (r ∷ rs) (c ∷ cs) = Both (RoutineAt number r c) (RoutinesAt (number + 1) rs cs)
+  abbrev pub RoutinesAt : ℕ → ℕ → List Routine → List RoutineCode → ℕ → ℕ → Type 0
+  RoutinesAt last number [] [] = Nothing
+  RoutinesAt last number [] (c ∷ cs) = λ a z. ⊥
+  RoutinesAt last number (r ∷ rs) [] = λ a z. ⊥
+  RoutinesAt last number (r ∷ rs) (c ∷ cs) = Both (RoutineAt last number r c) (RoutinesAt last (number + 1) rs cs)
 
--- the code of a program: its routines, and nothing else.
+-- the code of a program: its routines, and nothing else. Behind the last that is written stand those in which no event is raised.
 pub record Lowered (source : Source) (code : Code) : Type 0 where
-  pub routines : RoutinesAt (laid_of code) 0 source.routines code.routines 0 (length code.ops)
+  pub last : ℕ
+  pub routines : RoutinesAt (laid_of code) last 0 source.routines code.routines 0 (length code.ops)
+  pub silent : (k : ℕ) (r : Routine) → slice_get source.routines k ≡ Some r → last < k → silent_all r.body
   pub classes : code.classes ≡ map (λ c. c.cells) source.classes
   pub sites : code.sites ≡ source.sites
   pub texts : code.texts ≡ source.texts

@@ -49,18 +49,18 @@ abbrev pub end_op : Way → Op
 end_op way.Break = op.Return
 end_op way.Continue = op.Return
 end_op way.Value = op.ReturnValue
-end_op way.End = op.Return
+end_op way.End = op.ReturnNone
 
 -- the op with which a mark ends a way, and its line, where it does
 abbrev pub ends_at : Way → Mark → ℕ → Option (Op × ℕ)
 ends_at w (mark.Body routine) line = Some (end_op w, 0)
-ends_at w (mark.Finish routine last) line = Some (op.Return, last)
+ends_at w (mark.Finish routine last row) line = Some (op.Return, last)
 ends_at way.Break (mark.Loop leave again) line = Some (op.Jump leave, line)
 ends_at way.Continue (mark.Loop leave again) line = Some (op.Jump again, line)
 ends_at way.Value (mark.Loop leave again) line = None
 ends_at way.End (mark.Loop leave again) line = None
-ends_at w (mark.Whole leave) line = Some (op.Jump leave, line)
-ends_at w (mark.Guard first count) line = None
+ends_at w (mark.Whole leave row) line = Some (op.Jump leave, line)
+ends_at w (mark.Guard row) line = None
 ends_at w (mark.Clean what last row) line = None
 ends_at w (mark.Part row) line = None
 ends_at w (mark.Elements row) line = None

@@ -1,15 +1,16 @@
 -- Where the code of a piece stands. A piece has a range of ops, from a place up to before another; what a range must
 -- hold is said by cases on the piece, and these are the parts of which such cases are made.
-use Rattle.std.specs.Prelude.{◌≡◌, ℕ, ◌+◌, ◌^◌, ◌≤◌, ◌<◌, List, ◌∷◌, Some, slice_get, length}
+use Rattle.std.specs.Prelude.{◌≡◌, ◌≢◌, ℕ, ◌+◌, ◌^◌, ◌≤◌, ◌<◌, List, [], ◌∷◌, true, Some, slice_get, length}
 use Rattle.uc_code.specs.declared.op.Op.{Op}
-use Rattle.uc_code.specs.declared.op.Op.TheVariants.{Jump, IfZero, IfNonzero, Tick, CallUnwritten, Count, Unwind}
+use Rattle.uc_code.specs.declared.op.Op.TheVariants.{Jump, IfZero, IfNonzero, Tick, CallUnwritten, Count, Return, Handled, Unhandled, Unwind}
 use Rattle.uc_code.specs.declared.rows.HandlerRow.{HandlerRow}
+use Rattle.uc_code.specs.declared.rows.Handler.{Handler}
 use Rattle.uc_code.specs.declared.rows.RowKind.TheVariants.{CleanUp}
-use Rattle.uc_code.specs.declared.rows.TheConstants.{ANY_EVENT}
+use Rattle.uc_code.specs.declared.rows.TheConstants.{ANY_EVENT, OPEN_END}
 use Rattle.uc_code.specs.declared.rows.Mark.{Mark}
-use Rattle.uc_code.specs.declared.rows.Mark.TheVariants.{Loop, Whole, Elements}
+use Rattle.uc_code.specs.declared.rows.Mark.TheVariants.{Finish, Loop, Whole, Elements, Outward}
 use Rattle.uc_tree.specs.Source.{Order, TestFirst, BodyFirst, NoTest}
-use Rattle.uc_code.specs.Laid.{Laid, handlers, routine_in, chain}
+use Rattle.uc_code.specs.Laid.{Laid, handlers, guards, routine_in, chain, takes_events}
 
 -- the op at a place, with its line
 pub record OpAt (code : Laid) (a : ℕ) (op : Op) (line : ℕ) : Type 0 where
@@ -39,14 +40,27 @@ pub record CallsBehind (code : Laid) (marks : List Mark) (routine line a z : ℕ
   pub risk : Risk code marks (CallUnwritten routine) line a z
   pub behind : routine_in marks < routine
 
--- the clean-up of this row begins at this op; an open row has none yet
-pub record HandlerAt (code : Laid) (number entry : ℕ) : Type 0 where
+-- a clean-up, which takes whatever unwinds
+abbrev pub clean_up : ℕ → Handler
+clean_up entry = record { kind = CleanUp; event = ANY_EVENT; rest = 0; entry = entry }
+
+-- this is the handler of this row; an open row has none yet
+pub record HandlerAt (code : Laid) (number : ℕ) (handler : Handler) : Type 0 where
   pub row : HandlerRow
   pub there : slice_get code.rows number ≡ Some row
-  pub kind : row.kind ≡ CleanUp
-  pub event : row.event ≡ ANY_EVENT
-  pub entry_is : row.entry ≡ entry
-  pub is_set : 0 < entry
+  pub kind : row.kind ≡ handler.kind
+  pub event : row.event ≡ handler.event
+  pub rest : row.rest ≡ handler.rest
+  pub entry : row.entry ≡ handler.entry
+  pub is_set : 0 < handler.entry
+
+-- the row of a handler whose guarded block has ended and that is not laid out yet
+pub record IsBare (code : Laid) (number : ℕ) : Type 0 where
+  pub row : HandlerRow
+  pub there : slice_get code.rows number ≡ Some row
+  pub kind : takes_events row.kind ≡ true
+  pub ended : row.to < OPEN_END
+  pub none : row.entry ≡ 0
 
 -- two pieces, one after another
 pub record Both (B C : ℕ → ℕ → Type 0) (a z : ℕ) : Type 0 where
@@ -104,11 +118,51 @@ pub record Turns (code : Laid) (line : ℕ) (order : Order) (T S : ℕ → ℕ �
   pub step : S step_at test_at
   pub back : BackAt code order T (a + 3) line test_at z
 
--- a block that is left as a whole: a jump over the pad by which whatever leaves it goes on behind it
-pub record WholeAt (code : Laid) (line : ℕ) (B : Mark → ℕ → ℕ → Type 0) (a z : ℕ) : Type 0 where
+-- a block that is left as a whole: a jump over the pad by which whatever leaves it goes on behind it. Where it is unwound, an op tests
+-- whether that is over.
+pub record WholeAt (code : Laid) (line : ℕ) (ms : List Mark) (B : List Mark → ℕ → ℕ → Type 0) (a z : ℕ) : Type 0 where
+  pub row : ℕ
+  pub body_end : ℕ
   pub begin : OpAt code a (Jump (a + 2)) line
   pub leave : OpAt code (a + 1) (Jump z) line
-  pub body : B (Whole (a + 1)) (a + 2) z
+  pub body : B (Whole (a + 1) row ∷ ms) (a + 2) body_end
+  pub skip : OpAt code body_end (Jump z) line
+  pub tests : Risk code ms Handled line (body_end + 1) z
+  pub handler : HandlerAt code row (clean_up (body_end + 1))
+
+-- the statements of a main, which ends in this line, also where it is unwound
+pub record MainAt (code : Laid) (routine line : ℕ) (B : List Mark → ℕ → ℕ → Type 0) (a z : ℕ) : Type 0 where
+  pub row : ℕ
+  pub body_end : ℕ
+  pub body : B (Finish routine line row ∷ []) a body_end
+  pub returns : OpAt code body_end Return line
+  pub unwound : OpAt code (body_end + 1) Unhandled line
+  pub end : z ≡ body_end + 2
+  pub handler : HandlerAt code row (clean_up (body_end + 1))
+
+-- a guarded block with so many handlers: a jump over the pad by which its statements and its handlers go on behind it, the statements,
+-- and behind them the handlers, the first of which has the last row
+pub record Guarded (code : Laid) (line : ℕ) (ms : List Mark) (count : ℕ) (B : List Mark → ℕ → ℕ → Type 0) (H : ℕ → ℕ → ℕ → ℕ → Type 0) (a z : ℕ) : Type 0 where
+  pub first : ℕ
+  pub body_end : ℕ
+  pub begin : OpAt code a (Jump (a + 2)) line
+  pub pad : OpAt code (a + 1) (Jump z) line
+  pub body : B (guards first count ms) (a + 2) body_end
+  pub leave : OpAt code body_end (Jump (a + 1)) line
+  pub handlers : H first (a + 1) (body_end + 1) z
+
+-- the code of a handler begins where its row says
+pub record HandledAt (code : Laid) (number : ℕ) (handler : ℕ → Handler) (B : ℕ → ℕ → Type 0) (a z : ℕ) : Type 0 where
+  pub handler_at : HandlerAt code number (handler a)
+  pub body : B a z
+
+-- statements of a handler of resumptions, which has nothing around it in its routine
+pub record ApartAt (code : Laid) (ms : List Mark) (B : List Mark → ℕ → ℕ → Type 0) (a z : ℕ) : Type 0 where
+  pub row : ℕ
+  pub body_end : ℕ
+  pub body : B (Outward 0 row ∷ ms) a body_end
+  pub returns : OpAt code body_end Return 0
+  pub end : z ≡ body_end + 1
 
 -- turns over elements, and the test behind them, which leads back to where a turn begins
 pub record Rounds (code : Laid) (line : ℕ) (back : ℕ → Op) (T : ℕ → ℕ → Type 0) (test a z : ℕ) : Type 0 where
@@ -129,7 +183,7 @@ pub record OverElements (code : Laid) (line : ℕ) (ms : List Mark) (first most 
   pub leave : OpAt code (test + 1) (Jump z) line
   pub undoes : Rounds code line undo (D (Elements row ∷ ms)) entry (test + 2) end
   pub unwind : Risk code ms Unwind line end z
-  pub handler : HandlerAt code row entry
+  pub handler : HandlerAt code row (clean_up entry)
 
 -- what follows an object that is built: statements in its scope, its clean-up, and its clean-up once more, for unwinding
 pub record ScopeOf (code : Laid) (line : ℕ) (ms : List Mark) (M : ℕ → Mark) (C : ℕ → ℕ → Type 0) (B : List Mark → ℕ → ℕ → Type 0) (a z : ℕ) : Type 0 where
@@ -140,7 +194,7 @@ pub record ScopeOf (code : Laid) (line : ℕ) (ms : List Mark) (M : ℕ → Mark
   pub clean : C body_end clean_end
   pub leave : OpAt code clean_end (Jump z) line
   pub unwinds : Both C (Risk code ms Unwind line) (clean_end + 1) z
-  pub handler : HandlerAt code row (clean_end + 1)
+  pub handler : HandlerAt code row (clean_up (clean_end + 1))
 
 -- what follows a part of an object that is built: the other parts and the body, and behind them its clean-up, for unwinding alone
 pub record BehindPart (code : Laid) (line : ℕ) (ms : List Mark) (M : ℕ → Mark) (C : ℕ → ℕ → Type 0) (B : List Mark → ℕ → ℕ → Type 0) (a z : ℕ) : Type 0 where
@@ -149,7 +203,7 @@ pub record BehindPart (code : Laid) (line : ℕ) (ms : List Mark) (M : ℕ → M
   pub body : B (M row ∷ ms) a body_end
   pub leave : OpAt code body_end (Jump z) line
   pub unwinds : Both C (Risk code ms Unwind line) (body_end + 1) z
-  pub handler : HandlerAt code row (body_end + 1)
+  pub handler : HandlerAt code row (clean_up (body_end + 1))
 
 -- jumps alone lead from a place to another
 pub data Leads (code : Laid) : ℕ → ℕ → Type 0 where
@@ -160,14 +214,23 @@ pub data Leads (code : Laid) : ℕ → ℕ → Type 0 where
 pub record Same (old new : Laid) (a z : ℕ) : Type 0 where
   pub same : (i : ℕ) (op : Op) (line : ℕ) → a ≤ i → i < z → OpAt old i op line → OpAt new i op line
   pub chains : (next : ℕ) → a < next → next ≤ z → chain new.rows next ≡ chain old.rows next
-  pub handlers : (number entry : ℕ) → HandlerAt old number entry → HandlerAt new number entry
+  pub handlers : (number : ℕ) (handler : Handler) → HandlerAt old number handler → HandlerAt new number handler
 
 -- all ops stay with their handlers, and more may come behind them
 pub record Kept (old new : Laid) : Type 0 where
   pub longer : length old.ops ≤ length new.ops
   pub same : (i : ℕ) (op : Op) (line : ℕ) → OpAt old i op line → OpAt new i op line
   pub chains : (next : ℕ) → next ≤ length old.ops → chain new.rows next ≡ chain old.rows next
-  pub handlers : (number entry : ℕ) → HandlerAt old number entry → HandlerAt new number entry
+  pub handlers : (number : ℕ) (handler : Handler) → HandlerAt old number handler → HandlerAt new number handler
+  pub bare : (number : ℕ) → IsBare old number → IsBare new number
+
+-- the same, but one row has got its handler
+pub record KeptBut (given : ℕ) (old new : Laid) : Type 0 where
+  pub longer : length old.ops ≤ length new.ops
+  pub same : (i : ℕ) (op : Op) (line : ℕ) → OpAt old i op line → OpAt new i op line
+  pub chains : (next : ℕ) → next ≤ length old.ops → chain new.rows next ≡ chain old.rows next
+  pub handlers : (number : ℕ) (handler : Handler) → HandlerAt old number handler → HandlerAt new number handler
+  pub bare : (number : ℕ) → number ≢ given → IsBare old number → IsBare new number
 
 -- what a piece's code must be: its range does not run backwards, and depends on no op outside of it
 pub record Stable (B : Laid → ℕ → ℕ → Type 0) : Type 0 where

@@ -14,7 +14,7 @@ use crate::rows::{Array, Mark, ObjectCall, Opening, Spot, Way};
 use std::alloc::AllocError;
 
 // One op.
-fn put(op: Op, line: u32, out: &mut Draft) -> Result<(), AllocError>
+pub(crate) fn put(op: Op, line: u32, out: &mut Draft) -> Result<(), AllocError>
     requires { length out.old.ops < PROGRAM_OPS }
     ensures { OnOk result (Puts 1 (λ code. One code op line) out.old out.new) }
 {
@@ -23,7 +23,7 @@ fn put(op: Op, line: u32, out: &mut Draft) -> Result<(), AllocError>
 }
 
 // One op from which an event may come.
-fn put_at_risk(op: Op, line: u32, out: &mut Draft) -> Result<(), AllocError>
+pub(crate) fn put_at_risk(op: Op, line: u32, out: &mut Draft) -> Result<(), AllocError>
     requires { length out.old.ops < PROGRAM_OPS }
     ensures { OnOk result (Puts 1 (λ code. Risk code out.old.marks op line) out.old out.new) }
 {
@@ -194,7 +194,7 @@ fn end_op(way: Way) -> Op
         Way::Break => Op::Return,
         Way::Continue => Op::Return,
         Way::Value => Op::ReturnValue,
-        Way::End => Op::Return,
+        Way::End => Op::ReturnNone,
     }
 }
 
@@ -211,7 +211,7 @@ fn ends_at(way: Way, mark: Mark, line: u32) -> Option<(Op, u32)>
             Way::Value => None,
             Way::End => None,
         },
-        Mark::Whole { leave } => Some((Op::Jump(leave), line)),
+        Mark::Whole { leave, .. } => Some((Op::Jump(leave), line)),
         Mark::Guard { .. } => None,
         Mark::Clean { .. } => None,
         Mark::Part { .. } => None,

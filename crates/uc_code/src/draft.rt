@@ -1,20 +1,23 @@
 // The draft in which lowering writes code.
 
-ghost use Rattle.std.specs.Prelude.{◌≡◌, ◌+◌, ◌<◌, ◌≤◌, ℕ, Some, [], ◌∷◌, ◌++◌, length, reverse, take, slice_set, slice_get, MatchOption, IfOk, OnOk, OnErr};
+ghost use Rattle.std.specs.Prelude.{◌≡◌, ◌+◌, ◌^◌, ◌<◌, ◌≤◌, ℕ, true, Some, None, [], ◌∷◌, ◌++◌, length, reverse, take, slice_set, slice_get, MatchOption, IfOk, OnOk, OnErr};
 ghost use Rattle.uc_tree.specs.declared.limits.TheConstants.{FRAME_CELLS, PROGRAM_OPS, PROGRAM_SIZE};
 ghost use Rattle.uc_code.specs.Drafts.{ops_with, patched, IsInnermost, IsUnknown};
-ghost use Rattle.uc_code.specs.Laid.{laid_in};
+ghost use Rattle.uc_code.specs.Laid.{laid_in, handlers, takes_events};
 ghost use Rattle.uc_code.specs.declared.rows.Mark.TheVariants as mark;
-ghost use Rattle.uc_code.specs.Open.{AllBehind, Falling, OpensBehind, handler_in, opened, closed, left_marks};
-ghost use Rattle.uc_code.specs.Ranges.{HandlerAt, Kept, Risk};
+ghost use Rattle.uc_code.specs.Open.{AllBehind, Falling, OpensBehind, handler_in, guard_in, opened, closed, handled_rows, left_marks};
+ghost use Rattle.uc_code.specs.Ranges.{HandlerAt, IsBare, Kept, KeptBut, Risk, clean_up};
 
 use crate::code::Code;
 use crate::draft_parts::Outside;
 use crate::marks::{
-    bound_of, close_row, event_of, has_no_row, mark_of, name_of, row_below, row_of,
+    bound_of, close_row, entry_of, event_of, handle_row, has_no_row, kind_of, mark_of, name_of,
+    row_below, row_of, rows_below,
 };
 use crate::op::Op;
-use crate::rows::{HandlerRow, Instruction, Mark, OPEN_END, Opening, RoutineCode, RowKind};
+use crate::rows::{
+    Handler, HandlerRow, Instruction, Mark, OPEN_END, Opening, RoutineCode, RowKind,
+};
 use std::alloc::{AllocError, Global};
 use std::marker::Model;
 use uc_tree::kinds::{Known, Place, Ty};
@@ -31,7 +34,9 @@ pub struct Draft {
     marks: Vec<Mark>,
     scopes: u32,
     names: Vec<Known>,
+    handled: u32,
     cells: u32,
+    hidden: u32,
     texts: u32,
     sites: u32,
     routines: Vec<RoutineCode>,
@@ -45,7 +50,7 @@ impl Model for Draft {
 
     ghost Value = { Draft };
 
-    ghost view = { λ d. record { ops = d.ops.items; rows = d.rows.items; settled = d.settled; place = d.place; marks = reverse d.marks.items; scopes = d.scopes; names = d.names.items; cells = d.cells; texts = d.texts; sites = d.sites; routines = d.routines.items } };
+    ghost view = { λ d. record { ops = d.ops.items; rows = d.rows.items; settled = d.settled; place = d.place; marks = reverse d.marks.items; scopes = d.scopes; names = d.names.items; handled = d.handled; cells = d.cells; hidden = d.hidden; texts = d.texts; sites = d.sites; routines = d.routines.items } };
 
     ghost invariant = { λ d. (length d.ops.items ≤ PROGRAM_OPS) × IsSettled (length d.ops.items) d.settled d.rows.items (reverse d.marks.items) };
 }
@@ -53,21 +58,23 @@ impl Model for Draft {
 impl Draft {
     /// No op, no row and no name. `routines` is the code of each routine, as far as it is known.
     pub fn new(alloc: Global, routines: Vec<RoutineCode>) -> Draft
-        ensures { result ≡ record { ops = []; rows = []; settled = 0; place = record { class = 0; routine = 0; scope = 0 }; marks = []; scopes = 0; names = []; cells = 0; texts = 0; sites = 0; routines = routines.items } }
+        ensures { result ≡ record { ops = []; rows = []; settled = 0; place = record { class = None; routine = 0; scope = 0 }; marks = []; scopes = 0; names = []; handled = 0; cells = 0; hidden = 0; texts = 0; sites = 0; routines = routines.items } }
     {
         Draft {
             ops: Vec::new(alloc),
             rows: Vec::new(alloc),
             settled: 0,
             place: Place {
-                class: 0,
+                class: None,
                 routine: 0,
                 scope: 0,
             },
             marks: Vec::new(alloc),
             scopes: 0,
             names: Vec::new(alloc),
+            handled: 0,
             cells: 0,
+            hidden: 0,
             texts: 0,
             sites: 0,
             routines,
@@ -154,8 +161,9 @@ impl Draft {
             from: self.ops.len() as u32,
             to: OPEN_END,
             outer,
-            kind: RowKind::CleanUp,
+            kind: kind_of(opening),
             event: event_of(opening),
+            rest: 0,
             entry: 0,
         };
         self.marks.push(mark_of(opening, number))?;
@@ -167,20 +175,42 @@ impl Draft {
         Ok(number)
     }
 
-    /// Closes the row of the innermost mark, if it has one, and leaves the mark. The row's clean-up begins so many ops further on.
+    /// Closes the row of the innermost mark, if it has one, and leaves the mark. The row's clean-up begins so many ops further on; a
+    /// handler of a guarded block is laid out by `begin_handler`.
     pub fn close(&mut self, ahead: u32)
         requires ahead { ahead ≤ PROGRAM_OPS }
         requires entry { 0 < length self.old.ops + ahead }
         ensures closed { self.new ≡ closed ahead self.old }
         ensures kept { Kept (laid_in self.old) (laid_in self.new) }
-        ensures handler { (row : ℕ) → handler_in self.old.marks ≡ Some row → HandlerAt (laid_in self.new) row (length self.old.ops + ahead) }
+        ensures handler { (row : ℕ) → handler_in self.old.marks ≡ Some row → HandlerAt (laid_in self.new) row (clean_up (length self.old.ops + ahead)) }
+        ensures bare { (row : ℕ) → guard_in self.old.marks ≡ Some row → IsBare (laid_in self.new) row }
     {
         let here = self.ops.len() as u32;
         if let Some(number) = row_of(&self.marks) {
-            close_row(&mut self.rows, number, here, here + ahead);
+            let entry = entry_of(&self.marks, here + ahead);
+            close_row(&mut self.rows, number, here, entry);
             self.settled = here;
             let _ = self.marks.pop();
         }
+    }
+
+    /// The handler of this row, whose guarded block has ended, begins at the next op. It is a `catch` or a `_CatchResume` of this event, or
+    /// of every one by `ANY_EVENT`.
+    pub fn begin_handler(&mut self, row: u32, kind: RowKind, event: u8)
+        requires bare { IsBare (laid_in self.old) row }
+        requires kind { takes_events kind ≡ true }
+        requires entry { 0 < length self.old.ops }
+        ensures begun { self.new ≡ record self.old { rows = handled_rows (record { kind = kind; event = event; rest = length (handlers self.old.marks); entry = length self.old.ops }) row self.old.rows } }
+        ensures handler { HandlerAt (laid_in self.new) row (record { kind = kind; event = event; rest = length (handlers self.old.marks); entry = length self.old.ops }) }
+        ensures kept { KeptBut row (laid_in self.old) (laid_in self.new) }
+    {
+        let handler = Handler {
+            kind,
+            event,
+            rest: rows_below(&self.marks, self.rows.len() as u32) as u32,
+            entry: self.ops.len() as u32,
+        };
+        handle_row(&mut self.rows, row, handler);
     }
 
     /// Where lowering stands.
@@ -190,11 +220,18 @@ impl Draft {
         self.place
     }
 
-    /// Begins a routine of a class, behind so many text literals and accept statements: nothing stands around it, no name
-    /// is in scope, and it has no cell yet.
-    pub fn begin_routine(&mut self, class: u32, routine: u32, texts: u32, sites: u32)
+    /// Begins a routine of the class with this place, whose hidden cells begin there, behind so many text literals and accept
+    /// statements: nothing stands around it, no name is in scope, no event is handled, and it has no cell yet.
+    pub fn begin_routine(
+        &mut self,
+        class: Option<usize>,
+        routine: u32,
+        hidden: u32,
+        texts: u32,
+        sites: u32,
+    )
         requires { self.old.marks ≡ [] }
-        ensures { self.new ≡ record self.old { place = record { class = class; routine = routine; scope = 0 }; marks = []; scopes = 0; names = []; cells = 0; texts = texts; sites = sites } }
+        ensures { self.new ≡ record self.old { place = record { class = class; routine = routine; scope = 0 }; marks = []; scopes = 0; names = []; handled = 0; cells = 0; hidden = hidden; texts = texts; sites = sites } }
     {
         self.place = Place {
             class,
@@ -204,7 +241,9 @@ impl Draft {
         self.marks.clear();
         self.scopes = 0;
         self.names.clear();
+        self.handled = 0;
         self.cells = 0;
+        self.hidden = hidden;
         self.texts = texts;
         self.sites = sites;
     }
@@ -218,30 +257,12 @@ impl Draft {
         Ok(())
     }
 
-    /// What is lowered from now on are the statements of this routine, which is the main of a task and ends in this line.
-    pub fn enter_main(&mut self, routine: u32, line: u32) -> Result<(), AllocError>
-        ensures ok { OnOk result (self.new ≡ record self.old { marks = mark.Finish routine line ∷ self.old.marks }) }
-        ensures err { OnErr result (self.new ≡ self.old) }
-    {
-        self.marks.push(Mark::Finish { routine, line })?;
-        Ok(())
-    }
-
     /// What is lowered from now on stands in the loop with these pads.
     pub fn enter_loop(&mut self, leave: u32, again: u32) -> Result<(), AllocError>
         ensures ok { OnOk result (self.new ≡ record self.old { marks = mark.Loop leave again ∷ self.old.marks }) }
         ensures err { OnErr result (self.new ≡ self.old) }
     {
         self.marks.push(Mark::Loop { leave, again })?;
-        Ok(())
-    }
-
-    /// What is lowered from now on stands in a block that is left as a whole, by this pad.
-    pub fn enter_whole(&mut self, leave: u32) -> Result<(), AllocError>
-        ensures ok { OnOk result (self.new ≡ record self.old { marks = mark.Whole leave ∷ self.old.marks }) }
-        ensures err { OnErr result (self.new ≡ self.old) }
-    {
-        self.marks.push(Mark::Whole { leave })?;
         Ok(())
     }
 
@@ -301,6 +322,42 @@ impl Draft {
         self.cells
     }
 
+    /// The first of the cells in which the innermost handler around this place keeps its event.
+    pub fn handled(&self) -> u32
+        ensures { result ≡ self.now.handled }
+    {
+        self.handled
+    }
+
+    /// What is lowered from now on stands in the handler that keeps its event from this cell on, or in that around it again.
+    pub fn set_handled(&mut self, cell: u32)
+        ensures { self.new ≡ record self.old { handled = cell } }
+    {
+        self.handled = cell;
+    }
+
+    /// So many hidden cells more. The result is the first of them. More than a number counts are want of memory.
+    pub fn add_hidden(&mut self, cells: u32) -> Result<u32, AllocError>
+        ensures cell { IfOk result (λ cell. cell ≡ self.old.hidden) }
+        ensures ok { OnOk result (self.new ≡ record self.old { hidden = self.old.hidden + cells }) }
+        ensures few { OnOk result (self.old.hidden + cells < 2 ^ 32) }
+        ensures err { OnErr result (self.new ≡ self.old) }
+    {
+        let cell = self.hidden;
+        let Some(next) = cell.checked_add(cells) else {
+            return Err(AllocError);
+        };
+        self.hidden = next;
+        Ok(cell)
+    }
+
+    /// The first hidden cell of the routine that nothing before this place has.
+    pub fn hidden(&self) -> u32
+        ensures { result ≡ self.now.hidden }
+    {
+        self.hidden
+    }
+
     /// How many text literals stand before this place in the program.
     pub fn texts(&self) -> u32
         ensures { result ≡ self.now.texts }
@@ -349,6 +406,16 @@ impl Draft {
         Ok(())
     }
 
+    /// One more name in scope, for what lies from this cell on.
+    pub fn declare_at(&mut self, name: Name, ty: Ty, cell: u32) -> Result<(), AllocError>
+        ensures ok { OnOk result (self.new ≡ record self.old { names = self.old.names ++ record { name = name; ty = ty; cell = cell } ∷ [] }) }
+        ensures err { OnErr result (self.new ≡ self.old) }
+    {
+        let known = Known { name, ty, cell };
+        self.names.push(known)?;
+        Ok(())
+    }
+
     /// The innermost declaration of a name.
     pub fn find(&self, name: &[u8]) -> Option<&Known>
         ensures { MatchOption result (IsUnknown self.now.names name.now) (λ known. IsInnermost self.now.names name.now known.now) }
@@ -367,6 +434,7 @@ impl Draft {
             texts,
             routines: self.routines,
             classes,
+            table: None,
         }
     }
 }

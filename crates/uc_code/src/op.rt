@@ -99,10 +99,12 @@ pub enum Op {
     CallOn(u32),
     /// The same for a constructor or a destructor that nobody wrote, which is no active call.
     CallUnwritten(u32),
-    /// Returns from a routine.
+    /// Ends a call, or a handler of a resumption, behind its last statement.
     Return,
-    /// Returns the popped value.
+    /// Returns the popped value. In a handler of a resumption it returns from the routine in which that stands.
     ReturnValue,
+    /// The same without a value.
+    ReturnNone,
     /// The fault of a routine that ended without a value.
     NoReturn,
     /// Calls a mutex member: its number and its routine.
@@ -129,18 +131,18 @@ pub enum Op {
     Suspend,
     /// Ends the main of a coroutine.
     EndMain,
-    /// Throws the event.
-    Throw(u8),
-    /// Raises the event for resumption.
-    Raise(u8),
-    /// Raises again what is being handled.
-    Again,
+    /// Throws an event: pops its fields and its number.
+    Throw,
+    /// Raises an event for resumption: pops its fields and its number.
+    Raise,
     /// Raises the event at a task.
     RaiseAt(u8),
     /// Raises the event at a coroutine.
     RaiseAtCoroutine(u8),
-    /// Ends a handler.
+    /// Where a return of a handler unwinds to this activation, that is over; else goes on unwinding.
     Handled,
+    /// Ends a main where a return of a handler unwinds it; else the fault of an event that nothing handles.
+    Unhandled,
     /// Ends a clean-up that unwinding performs, and goes on unwinding.
     Unwind,
     /// Enables the events of the mask.
@@ -241,6 +243,7 @@ impl Op {
             Op::CallUnwritten(_) => b"callun",
             Op::Return => b"ret",
             Op::ReturnValue => b"retval",
+            Op::ReturnNone => b"retnone",
             Op::NoReturn => b"noret",
             Op::Enter { .. } => b"enter",
             Op::Leave => b"out",
@@ -254,12 +257,12 @@ impl Op {
             Op::Resume => b"resume",
             Op::Suspend => b"suspend",
             Op::EndMain => b"endmain",
-            Op::Throw(_) => b"throw",
-            Op::Raise(_) => b"raise",
-            Op::Again => b"again",
+            Op::Throw => b"throw",
+            Op::Raise => b"raise",
             Op::RaiseAt(_) => b"at",
             Op::RaiseAtCoroutine(_) => b"atcoro",
             Op::Handled => b"handled",
+            Op::Unhandled => b"unhandled",
             Op::Unwind => b"unwind",
             Op::Enable(_) => b"enable",
             Op::Disable(_) => b"disable",
@@ -337,6 +340,7 @@ impl Op {
             Op::CallUnwritten(number) => Operands::One(number as u64),
             Op::Return => Operands::Nothing,
             Op::ReturnValue => Operands::Nothing,
+            Op::ReturnNone => Operands::Nothing,
             Op::NoReturn => Operands::Nothing,
             Op::Enter { member, routine } => Operands::Two(member as u64, routine as u64),
             Op::Leave => Operands::Nothing,
@@ -350,12 +354,12 @@ impl Op {
             Op::Resume => Operands::Nothing,
             Op::Suspend => Operands::Nothing,
             Op::EndMain => Operands::Nothing,
-            Op::Throw(number) => Operands::One(number as u64),
-            Op::Raise(number) => Operands::One(number as u64),
-            Op::Again => Operands::Nothing,
+            Op::Throw => Operands::Nothing,
+            Op::Raise => Operands::Nothing,
             Op::RaiseAt(number) => Operands::One(number as u64),
             Op::RaiseAtCoroutine(number) => Operands::One(number as u64),
             Op::Handled => Operands::Nothing,
+            Op::Unhandled => Operands::Nothing,
             Op::Unwind => Operands::Nothing,
             Op::Enable(number) => Operands::One(number),
             Op::Disable(number) => Operands::One(number),

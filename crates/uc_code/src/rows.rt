@@ -44,7 +44,9 @@ pub const NO_EVENT: u8 = 254;
 pub const OPEN_END: u32 = 4_294_967_295;
 
 /// One handler. It covers the ops `from` up to before `to`, and its own code begins at the op `entry`. `outer` is the
-/// number of the next row outwards plus 1, or 0 where there is none; `event` is the event that it takes, or `ANY_EVENT`.
+/// number of the next row outwards plus 1, or 0 where there is none: the handlers of one guarded block are rows one outwards of
+/// another, the first one innermost. `event` is the event that it takes, or `ANY_EVENT`. `rest` is how many rows stand outwards of
+/// its guarded block: so far a search has come that finds it.
 #[derive(Clone, Copy, PartialEq, Eq, Debug)]
 pub struct HandlerRow {
     pub from: u32,
@@ -52,6 +54,17 @@ pub struct HandlerRow {
     pub outer: u32,
     pub kind: RowKind,
     pub event: u8,
+    pub rest: u32,
+    pub entry: u32,
+}
+
+/// A handler: its kind, the event that it takes or `ANY_EVENT`, how many rows stand outwards of its guarded block, and the op at which
+/// it begins.
+#[derive(Clone, Copy, PartialEq, Eq, Debug)]
+pub struct Handler {
+    pub kind: RowKind,
+    pub event: u8,
+    pub rest: u32,
     pub entry: u32,
 }
 
@@ -80,11 +93,11 @@ pub struct ObjectCall {
 }
 
 /// What stands around a statement in its routine: the statements of the routine of this number, which is the main of a task
-/// where it has the line in which that ends; a loop, with the ops to which `break` and `continue` jump; a
-/// block that is left as a whole, with the op to which whatever leaves it jumps; a guarded block, whose
-/// handlers are so many rows, from this number on; the scope of an object, with the call that cleans it up, the line of its
+/// where it has the line in which that ends and a row; a loop, with the ops to which `break` and `continue` jump; a
+/// block that is left as a whole, with the op to which whatever leaves it jumps and its row; a handler of a guarded block, with its
+/// row; the scope of an object, with the call that cleans it up, the line of its
 /// block, and its row; a part of an object under construction, with its row; the turns over the elements of an array, with
-/// their row; or the code of an exit, which has left all marks with rows from this number on.
+/// their row; or the code of an exit or of a handler of resumptions, which has left all marks with rows from this number on.
 #[derive(Clone, Copy, PartialEq, Eq, Debug)]
 pub enum Mark {
     Body {
@@ -93,6 +106,7 @@ pub enum Mark {
     Finish {
         routine: u32,
         line: u32,
+        row: u32,
     },
     Loop {
         leave: u32,
@@ -100,10 +114,10 @@ pub enum Mark {
     },
     Whole {
         leave: u32,
+        row: u32,
     },
     Guard {
-        first: u32,
-        count: u32,
+        row: u32,
     },
     Clean {
         what: ObjectCall,
@@ -122,10 +136,15 @@ pub enum Mark {
     },
 }
 
-/// What opens a row: the scope of an object, with the call that cleans it up and the line of its block; a part of an object under
-/// construction; turns over the elements of an array; or the code of an exit, which leaves all marks with rows from this number on.
+/// What opens a row: the statements of the routine of this number, which is the main of a task and ends in this line; a block that is
+/// left as a whole, by a jump to this op; a handler of a guarded block; the scope of an object, with the call that cleans it up and the
+/// line of its block; a part of an object under construction; turns over the elements of an array; or the code of an exit or of a
+/// handler, which leaves all marks with rows from this number on.
 #[derive(Clone, Copy, PartialEq, Eq, Debug)]
 pub enum Opening {
+    Main { routine: u32, line: u32 },
+    Whole { leave: u32 },
+    Handler,
     Object { what: ObjectCall, line: u32 },
     Part,
     Elements,

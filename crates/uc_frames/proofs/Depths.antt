@@ -1,11 +1,11 @@
 -- The oldest frame first, as it is kept, and the newest first, as contracts see it.
-use Rattle.std.proofs.Common.{◌≡◌, ℕ, zero, suc, ◌+◌, ◌<◌, List, [], ◌∷◌, length, Some, None, true, false, refl, sym, ap, ◌∙◌, arith, set, map, reverse, get_or}
+use Rattle.std.proofs.Common.{◌≡◌, ℕ, zero, suc, ◌+◌, ◌-◌, ◌<◌, List, [], ◌∷◌, length, Some, None, true, false, refl, sym, ap, ◌∙◌, arith, set, map, reverse, get_or}
 use Rattle.std.specs.Prelude.{slice_get, slice_set, slice_index_or, nat_eq}
 use mathlib.Core.List.{reverse_aux}
 use Rattle.std.proofs.lemmas.Bool.{eq-eqb, ne_eqb}
 use Rattle.std.specs.Option.{option_map}
 use Rattle.std.proofs.lemmas.Option.{slice_get-map, slice_get_read}
-use Rattle.std.proofs.lemmas.List.{map-set}
+use Rattle.std.proofs.lemmas.List.{map-set, length-reverse}
 use Rattle.uc_meaning.specs.Executions.{at_depth, set_depth, list_in, frame_changed}
 
 older : {X : Type 0} (j : X) (ks : List X) (d : ℕ) → d < length ks → at_depth (j ∷ ks) d ≡ at_depth ks d
@@ -83,3 +83,20 @@ module _ {V : Type 0} where
 
   pub set_frame : {A : Type 0} (h : A → List V) (xs : List A) (f : ℕ) (g : List V → List V) (v w : A) → f < length xs → v ≡ get_or xs f v → h w ≡ g (h v) → map h (set xs f w) ≡ slice_set (map h xs) f (g (list_in (slice_get (map h xs) f)))
   set_frame h xs f g v w l q e = map-set h xs f w ∙ ap (slice_set (map h xs) f) (e ∙ ap g (sym (frame_read h xs f v l q)))
+
+-- the activation of a depth, of the newest one and those that wait
+module _ {X : Type 0} (run : X) (xs : List X) (d : ℕ) where
+  same_count : length (reverse xs) ≡ length xs
+  same_count = length-reverse xs
+
+  pub waiting_at : d < length xs → at_depth (run ∷ reverse xs) d ≡ slice_get xs d
+  waiting_at l = older run (reverse xs) d (omega (arith, same_count)) ∙ at_reverse xs d
+
+  pub running_at : d ≡ length xs → at_depth (run ∷ reverse xs) d ≡ Some run
+  running_at e = let k : d ≡ length (reverse xs) = e ∙ sym same_count in rw k (newest run (reverse xs))
+
+  pub none_at : length xs < d → at_depth (run ∷ reverse xs) d ≡ None
+  none_at l =
+      let k : d ≡ length (run ∷ reverse xs) + (d - suc (length xs)) = omega (arith, same_count) in
+      let p : at_depth (run ∷ reverse xs) (length (run ∷ reverse xs) + (d - suc (length xs))) ≡ None = past (run ∷ reverse xs) (d - suc (length xs)) in
+      ap (at_depth (run ∷ reverse xs)) k ∙ p

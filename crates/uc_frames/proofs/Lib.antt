@@ -1,5 +1,16 @@
+pub mod Cleaned
+pub mod Coming
 pub mod Depths
+pub mod Finishes
+pub mod Guards
+pub mod Keeps
+pub mod Landing
+pub mod Named
 pub mod Newest
+pub mod Popped
 pub mod Positions
+pub mod Raised
+pub mod Reaching
 pub mod Slots
+pub mod Weights
 pub mod Zeros

@@ -1,6 +1,11 @@
+pub mod Comes
+pub mod Keeping
 pub mod Left
 pub mod Machine
 pub mod Numbered
 pub mod Parts
+pub mod Searches
 pub mod Stands
+pub mod Unwinding
+pub mod Unwound
 pub mod Weight

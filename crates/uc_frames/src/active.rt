@@ -1,12 +1,14 @@
 // An activation of a routine or a handler.
 
-ghost use Rattle.std.specs.Prelude.{◌≡◌, ◌∷◌, ◌-◌, [], drop, reverse, OnOk, OnErr, IfOk, replicate};
-ghost use Rattle.uc_meaning.specs.Executions.{begun, taken};
+ghost use Rattle.std.specs.Prelude.{◌≡◌, ◌∷◌, ◌-◌, ◌+◌, ◌≤◌, [], drop, reverse, OnOk, OnErr, IfOk, replicate, vec_len, vec_capacity};
+ghost use Rattle.uc_meaning.specs.Executions.{begun, taken, calmed};
 ghost use Rattle.uc_frames.specs.Machine.{top, below, nought};
 ghost use Rattle.uc_frames.specs.Left.{call_frame, waiting};
+ghost use Rattle.uc_frames.specs.Unwinding.{event_at, unwound_by, cleaning, catching, handler_of};
 
-use crate::cell::Cell;
-use crate::operands::{drop_newest, new_frame, put_on_top, put_on_two};
+use crate::cell::{Cell, number_in};
+use crate::event::{Event, Handling, event_number};
+use crate::operands::{drop_newest, event_operands, new_frame, put_event, put_on_top, put_on_two};
 use std::alloc::AllocError;
 use std::marker::Model;
 use uc_code::rows::RoutineCode;
@@ -56,6 +58,25 @@ impl Active {
         }
     }
 
+    /// An activation as a handler of a resumption begins, with room for its event in an empty list for its operands.
+    pub fn handler(operands: Vec<Cell>, handling: Handling) -> Active
+        requires empty { operands.items ≡ [] }
+        requires room { 3 ≤ vec_capacity operands }
+        ensures { result ≡ handler_of handling }
+    {
+        Active {
+            next: handling.entry,
+            operands: event_operands(operands, handling.event),
+            this: handling.this,
+            frame: handling.frame,
+            counts: false,
+            elements: 0,
+            handles: Some(handling.visited),
+            raised: None,
+            result: Cell::Nothing,
+        }
+    }
+
     /// The next op.
     pub fn next(&self) -> u32
         ensures { result ≡ self.now.control }
@@ -91,6 +112,64 @@ impl Active {
         self.this
     }
 
+    /// How far the search came, where it handles a resumption.
+    pub fn handles(&self) -> Option<Visited>
+        ensures { result ≡ self.now.handles }
+    {
+        self.handles
+    }
+
+    /// Why it is unwound, if it is.
+    pub fn raised(&self) -> Option<Reason>
+        ensures { result ≡ self.now.raised }
+    {
+        self.raised
+    }
+
+    /// What a return that unwinds it hands over.
+    pub fn result(&self) -> Cell
+        ensures { result ≡ self.now.result }
+    {
+        self.result
+    }
+
+    /// It is unwound for this reason, from its place on; a return that arrives hands this over.
+    pub fn unwind(&mut self, why: Reason, given: Cell)
+        ensures { self.new ≡ unwound_by why given self.old }
+    {
+        self.operands.clear();
+        self.raised = Some(why);
+        self.result = given;
+    }
+
+    /// Its unwinding is over: it goes on at this op.
+    pub fn calm(&mut self, behind: u32)
+        ensures { self.new ≡ calmed behind self.old }
+    {
+        self.operands.clear();
+        self.next = behind;
+        self.raised = None;
+    }
+
+    /// A clean-up begins at this op.
+    pub fn clean(&mut self, entry: u32)
+        ensures { self.new ≡ cleaning entry self.old }
+    {
+        self.operands.clear();
+        self.next = entry;
+    }
+
+    /// The handler at this op catches an event, which are its operands.
+    pub fn catch_event(&mut self, entry: u32, event: Event) -> Result<(), AllocError>
+        ensures ok { OnOk result (self.new ≡ catching entry event self.old) }
+        ensures err { OnErr result (self.new ≡ self.old) }
+    {
+        put_event(&mut self.operands, event)?;
+        self.next = entry;
+        self.raised = None;
+        Ok(())
+    }
+
     /// How many elements stand of the array that it builds or destroys.
     pub fn elements(&self) -> u32
         ensures { result ≡ self.now.elements }
@@ -123,6 +202,17 @@ impl Active {
             Some(cell) => cell,
             None => Cell::Nothing,
         }
+    }
+
+    /// Takes the event that the three newest operands are: its number and its fields, the last one the newest.
+    pub fn pop_event(&mut self) -> Event
+        ensures value { result ≡ event_at self.old.operands }
+        ensures after { self.new ≡ record self.old { operands = below (below (below self.old.operands)) } }
+    {
+        let y = number_in(self.pop());
+        let x = number_in(self.pop());
+        let number = event_number(self.pop());
+        Event { number, x, y }
     }
 
     /// The newest operand; nothing where there is none.

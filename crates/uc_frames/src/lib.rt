@@ -4,12 +4,14 @@
 pub mod active;
 pub mod call;
 pub mod cell;
+pub mod event;
 mod frames;
 pub mod links;
 pub mod members;
 mod numbered;
 mod operands;
 pub mod pieces;
+pub mod search;
 pub mod stack;
 pub mod task;
 pub mod work;

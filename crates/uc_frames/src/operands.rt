@@ -1,11 +1,13 @@
 // Operands, the newest last.
 
-ghost use Rattle.std.specs.Prelude.{◌≡◌, ◌∷◌, ◌-◌, [], drop, reverse, replicate, OnOk, OnErr, IfOk};
+ghost use Rattle.std.specs.Prelude.{◌≡◌, ◌∷◌, ◌-◌, ◌≤◌, [], drop, reverse, replicate, OnOk, OnErr, IfOk, vec_capacity};
 ghost use Rattle.uc_meaning.specs.Executions.{taken};
 ghost use Rattle.uc_frames.specs.Machine.{below, nought};
 ghost use Rattle.uc_frames.specs.Left.{call_frame};
+ghost use Rattle.uc_frames.specs.Unwinding.{operands_of};
 
 use crate::cell::Cell;
+use crate::event::Event;
 use std::alloc::AllocError;
 use uc_code::rows::RoutineCode;
 
@@ -61,4 +63,36 @@ pub(crate) fn new_frame(
     cells.extend_from_slice(&operands[operands.len().saturating_sub(params)..])?;
     cells.resize(cells.len() + others, Cell::Number(0))?;
     Ok(cells)
+}
+
+// An event in the place of all operands.
+pub(crate) fn put_event(operands: &mut Vec<Cell>, event: Event) -> Result<(), AllocError>
+    ensures ok { OnOk result (reverse operands.new.items ≡ operands_of event) }
+    ensures err { OnErr result (operands.new.items ≡ operands.old.items) }
+{
+    operands.reserve(3)?;
+    operands.clear();
+    push_event(operands, event);
+    Ok(())
+}
+
+// An event in an empty list that has room for it.
+pub(crate) fn event_operands(empty: Vec<Cell>, event: Event) -> Vec<Cell>
+    requires empty { empty.items ≡ [] }
+    requires room { 3 ≤ vec_capacity empty }
+    ensures { reverse result.items ≡ operands_of event }
+{
+    let mut operands = empty;
+    push_event(&mut operands, event);
+    operands
+}
+
+fn push_event(operands: &mut Vec<Cell>, event: Event)
+    requires empty { operands.old.items ≡ [] }
+    requires room { 3 ≤ vec_capacity operands.old }
+    ensures { reverse operands.new.items ≡ operands_of event }
+{
+    operands.push_reserved(Cell::Number(event.number as i64));
+    operands.push_reserved(Cell::Number(event.x));
+    operands.push_reserved(Cell::Number(event.y));
 }

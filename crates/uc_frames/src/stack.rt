@@ -1,14 +1,16 @@
 // The stack of one execution.
 
-ghost use Rattle.std.specs.Prelude.{◌≡◌, ◌∷◌, ◌-◌, ◌<◌, [], length, drop, replicate, reverse, nat_lt, IfOk, OnOk, OnErr, vec_len, slice_get, slice_index_or, true};
-ghost use Rattle.uc_meaning.specs.Executions.{at_depth, list_in, frame_changed, values_cleared, one_call_less};
+ghost use Rattle.std.specs.Prelude.{◌≡◌, ◌∷◌, ◌-◌, ◌<◌, [], length, drop, replicate, reverse, nat_lt, None, Some, IfOk, OnOk, OnErr, MatchOption, vec_len, slice_get, slice_index_or, true};
+ghost use Rattle.uc_meaning.specs.Executions.{at_depth, list_in, frame_changed, values_cleared, one_call_less, calmed};
 ghost use Rattle.uc_frames.specs.Machine.{nought, top, below, cell_written, first_execution, line_in, line_at};
 ghost use Rattle.uc_frames.specs.Left.{stack_left, stack_entered};
+ghost use Rattle.uc_frames.specs.Unwinding.{IsCaller, event_at, unwound_by, cleaning, catching, stack_passed, stack_handled};
 ghost use Rattle.uc_tree.specs.declared.limits.TheConstants.{CALLS};
 
 use crate::active::Active;
 use crate::call::Call;
 use crate::cell::Cell;
+use crate::event::{Event, Handling};
 use crate::frames::{clear_in, get_in, put_in, zeros};
 use crate::links::Links;
 use std::alloc::{AllocError, Global};
@@ -16,6 +18,7 @@ use std::marker::Model;
 use std::mem;
 use uc_code::code::Code;
 use uc_code::rows::RoutineCode;
+use uc_meaning::exec::{Reason, Visited};
 
 /// An execution: its newest activation, those that wait for it, its frames and its links. The lists of calls that have ended
 /// are kept, so that a call takes memory only where no call before it left enough.
@@ -38,7 +41,7 @@ impl Model for Stack {
 
     ghost view = { λ s. record { run = s.running; callers = reverse s.callers.items; frames = reverse (map (λ f. f.items) s.frames.items); links = s.links } };
 
-    ghost invariant = { λ s. vec_len s.frames < 2 ^ 32 };
+    ghost invariant = { λ s. (vec_len s.frames < 2 ^ 32) × (vec_len s.callers < 2 ^ 32) };
 }
 
 impl Stack {
@@ -87,7 +90,29 @@ impl Stack {
         self.links.calls()
     }
 
-    /// Makes a call: the newest operands are the routine's parameters. A stack of `u32::MAX` frames has no more.
+    /// How many activations wait for the newest one.
+    pub fn level(&self) -> u32
+        ensures { result ≡ length self.now.callers }
+    {
+        self.callers.len() as u32
+    }
+
+    /// The activation that has so many below it.
+    pub fn activation(&self, level: u32) -> Option<&Active>
+        ensures { MatchOption result (at_depth (self.now.run ∷ self.now.callers) level ≡ None) (λ a. at_depth (self.now.run ∷ self.now.callers) level ≡ Some a.now) }
+    {
+        let waiting = self.callers.len();
+        let level = level as usize;
+        if level < waiting {
+            return Some(&self.callers[level]);
+        }
+        if level == waiting {
+            return Some(&self.running);
+        }
+        None
+    }
+
+    /// Makes a call: the newest operands are the routine's parameters. A stack of `u32::MAX` frames or calls has no more.
     pub fn enter(&mut self, call: Call) -> Result<(), AllocError>
         requires { call.counts ≡ true → self.old.links.calls < CALLS }
         ensures ok { OnOk result (self.new ≡ stack_entered call self.old) }
@@ -95,6 +120,9 @@ impl Stack {
     {
         let depth = self.frames.len() as u32;
         if depth == u32::MAX {
+            return Err(AllocError);
+        }
+        if self.level() == u32::MAX {
             return Err(AllocError);
         }
         let empty = take_list(self.alloc, &mut self.spare);
@@ -128,6 +156,44 @@ impl Stack {
                 Ok(true)
             }
         }
+    }
+
+    /// The newest activation is left with its frame, and the one that waits for it is unwound in its turn, for this reason and with
+    /// what a return that arrives hands over. Where none waits, all stays as it is, and the answer is false.
+    pub fn pass_on(&mut self, why: Reason, given: Cell) -> bool
+        ensures called { result ≡ nat_lt 0 (length self.old.callers) }
+        ensures after { self.new ≡ stack_passed why given self.old.callers self.old }
+    {
+        match self.callers.pop() {
+            None => false,
+            Some(mut caller) => {
+                caller.unwind(why, given);
+                self.go_back(caller);
+                true
+            }
+        }
+    }
+
+    /// The handler of a resumption begins on top, with an empty frame of its own. A stack of `u32::MAX` frames or calls has no more.
+    pub fn enter_handler(&mut self, handling: Handling) -> Result<(), AllocError>
+        ensures ok { OnOk result (self.new ≡ stack_handled handling self.old) }
+        ensures err { OnErr result (self.new ≡ self.old) }
+    {
+        if self.frames.len() as u32 == u32::MAX {
+            return Err(AllocError);
+        }
+        if self.level() == u32::MAX {
+            return Err(AllocError);
+        }
+        let frame = take_list(self.alloc, &mut self.spare);
+        let mut operands = take_list(self.alloc, &mut self.spare);
+        operands.reserve(3)?;
+        self.callers.reserve(1)?;
+        self.frames.push(frame)?;
+        let handler = Active::handler(operands, handling);
+        let raiser = mem::replace(&mut self.running, handler);
+        self.callers.push_reserved(raiser);
+        Ok(())
     }
 
     // This activation goes on in the place of the newest one, which goes with its frame.
@@ -232,6 +298,76 @@ impl Stack {
         ensures { result ≡ top self.now.run.operands }
     {
         self.running.top()
+    }
+
+    /// Takes the event that the three newest operands are.
+    pub fn pop_event(&mut self) -> Event
+        ensures value { result ≡ event_at self.old.run.operands }
+        ensures after { self.new ≡ record self.old { run = record self.old.run { operands = below (below (below self.old.run.operands)) } } }
+    {
+        let event = self.running.pop_event();
+        event
+    }
+
+    /// How far the search came, where the running activation handles a resumption.
+    pub fn handles(&self) -> Option<Visited>
+        ensures { result ≡ self.now.run.handles }
+    {
+        self.running.handles()
+    }
+
+    /// Why the running activation is unwound, if it is.
+    pub fn raised(&self) -> Option<Reason>
+        ensures { result ≡ self.now.run.raised }
+    {
+        self.running.raised()
+    }
+
+    /// What a return that unwinds the running activation hands over.
+    pub fn result(&self) -> Cell
+        ensures { result ≡ self.now.run.result }
+    {
+        self.running.result()
+    }
+
+    /// Whether an activation waits, and why it is unwound, if it is.
+    pub fn caller(&self) -> Option<Option<Reason>>
+        ensures { MatchOption result (self.now.callers ≡ []) (λ why. IsCaller why self.now.callers) }
+    {
+        match self.callers.last() {
+            None => None,
+            Some(caller) => Some(caller.raised()),
+        }
+    }
+
+    /// The running activation is unwound for this reason, from its place on; a return that arrives hands this over.
+    pub fn unwind(&mut self, why: Reason, given: Cell)
+        ensures { self.new ≡ record self.old { run = unwound_by why given self.old.run } }
+    {
+        self.running.unwind(why, given);
+    }
+
+    /// The unwinding of the running activation is over: it goes on at this op.
+    pub fn calm(&mut self, to: u32)
+        ensures { self.new ≡ record self.old { run = calmed to self.old.run } }
+    {
+        self.running.calm(to);
+    }
+
+    /// A clean-up of the running activation begins at this op.
+    pub fn clean(&mut self, entry: u32)
+        ensures { self.new ≡ record self.old { run = cleaning entry self.old.run } }
+    {
+        self.running.clean(entry);
+    }
+
+    /// The handler at this op catches an event in the running activation.
+    pub fn catch_event(&mut self, entry: u32, event: Event) -> Result<(), AllocError>
+        ensures ok { OnOk result (self.new ≡ record self.old { run = catching entry event self.old.run }) }
+        ensures err { OnErr result (self.new ≡ self.old) }
+    {
+        self.running.catch_event(entry, event)?;
+        Ok(())
     }
 
     /// The depth of the frame whose variables the newest activation uses.

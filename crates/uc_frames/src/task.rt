@@ -2,14 +2,17 @@
 
 ghost use Rattle.std.specs.Prelude.{◌≡◌, ◌-◌, ◌<◌, ◌∷◌, [], length, nat_lt, None, Some, IfOk, OnOk, OnErr, MatchOption, slice_get, slice_index_or, drop, true};
 ghost use Rattle.std.specs.Option.{is_some, option_map};
-ghost use Rattle.uc_meaning.specs.Executions.{at_depth, list_in, frame_changed, frames_changed, values_cleared, members_at, change, exec_eq};
+ghost use Rattle.uc_meaning.specs.Executions.{at_depth, list_in, frame_changed, frames_changed, values_cleared, members_at, change, exec_eq, calmed};
 ghost use Rattle.uc_meaning.specs.Quiet.{with_piece};
 ghost use Rattle.uc_frames.specs.Machine.{nought, top, below, cell_written, first_machine, line_in, line_at};
 ghost use Rattle.uc_frames.specs.Left.{left, called};
+ghost use Rattle.uc_frames.specs.Unwinding.{IsCaller, event_at, unwound_by, cleaning, catching, passed, handled};
 ghost use Rattle.uc_tree.specs.declared.limits.TheConstants.{CALLS};
 
+use crate::active::Active;
 use crate::call::Call;
 use crate::cell::Cell;
+use crate::event::{Event, Handling};
 use crate::members::Members;
 use crate::numbered::is_same;
 use crate::pieces::Pieces;
@@ -18,7 +21,7 @@ use std::alloc::{AllocError, Global};
 use std::marker::Model;
 use uc_code::code::Code;
 use uc_code::rows::RoutineCode;
-use uc_meaning::exec::{Exec, Home};
+use uc_meaning::exec::{Exec, Home, Reason, Visited};
 use uc_meaning::request::Piece;
 
 /// A task: the execution that runs, its own object, what is at home in it, its depth in each object, and the
@@ -186,6 +189,92 @@ impl Task {
     {
         let called = self.running.leave(given)?;
         Ok(called)
+    }
+
+    pub(crate) fn level(&self) -> u32
+        ensures { result ≡ length self.now.callers }
+    {
+        self.running.level()
+    }
+
+    pub(crate) fn activation(&self, level: u32) -> Option<&Active>
+        ensures { MatchOption result (at_depth (self.now.run ∷ self.now.callers) level ≡ None) (λ a. at_depth (self.now.run ∷ self.now.callers) level ≡ Some a.now) }
+    {
+        self.running.activation(level)
+    }
+
+    pub(crate) fn pass_on(&mut self, why: Reason, given: Cell) -> bool
+        ensures called { result ≡ nat_lt 0 (length self.old.callers) }
+        ensures after { self.new ≡ passed why given self.old.callers self.old }
+    {
+        let called = self.running.pass_on(why, given);
+        called
+    }
+
+    pub(crate) fn enter_handler(&mut self, handling: Handling) -> Result<(), AllocError>
+        ensures ok { OnOk result (self.new ≡ handled handling self.old) }
+        ensures err { OnErr result (self.new ≡ self.old) }
+    {
+        self.running.enter_handler(handling)?;
+        Ok(())
+    }
+
+    pub(crate) fn pop_event(&mut self) -> Event
+        ensures value { result ≡ event_at self.old.run.operands }
+        ensures after { self.new ≡ record self.old { run = record self.old.run { operands = below (below (below self.old.run.operands)) } } }
+    {
+        let event = self.running.pop_event();
+        event
+    }
+
+    pub(crate) fn handles(&self) -> Option<Visited>
+        ensures { result ≡ self.now.run.handles }
+    {
+        self.running.handles()
+    }
+
+    pub(crate) fn raised(&self) -> Option<Reason>
+        ensures { result ≡ self.now.run.raised }
+    {
+        self.running.raised()
+    }
+
+    pub(crate) fn result(&self) -> Cell
+        ensures { result ≡ self.now.run.result }
+    {
+        self.running.result()
+    }
+
+    pub(crate) fn caller(&self) -> Option<Option<Reason>>
+        ensures { MatchOption result (self.now.callers ≡ []) (λ why. IsCaller why self.now.callers) }
+    {
+        self.running.caller()
+    }
+
+    pub(crate) fn unwind(&mut self, why: Reason, given: Cell)
+        ensures { self.new ≡ record self.old { run = unwound_by why given self.old.run } }
+    {
+        self.running.unwind(why, given);
+    }
+
+    pub(crate) fn calm(&mut self, to: u32)
+        ensures { self.new ≡ record self.old { run = calmed to self.old.run } }
+    {
+        self.running.calm(to);
+    }
+
+    pub(crate) fn clean(&mut self, entry: u32)
+        ensures { self.new ≡ record self.old { run = cleaning entry self.old.run } }
+    {
+        self.running.clean(entry);
+    }
+
+    pub(crate) fn catch_event(&mut self, entry: u32, event: Event) -> Result<(), AllocError>
+        ensures ok { OnOk result (self.new ≡ record self.old { run = catching entry event self.old.run }) }
+        ensures err { OnErr result (self.new ≡ self.old) }
+    {
+        self.running.catch_event(entry, event)?;
+        Ok(())
     }
 
     pub(crate) fn line(&self, code: &Code, line: u32) -> u32

@@ -2,14 +2,17 @@
 
 ghost use Rattle.std.specs.Prelude.{◌≡◌, ◌-◌, ◌<◌, ◌∷◌, [], length, nat_lt, None, Some, IfOk, OnOk, OnErr, MatchOption, slice_get, drop, true};
 ghost use Rattle.std.specs.Option.{is_some, option_map};
-ghost use Rattle.uc_meaning.specs.Executions.{frame_changed, frames_changed, members_at, parked_at, change, value_at, with_owned};
+ghost use Rattle.uc_meaning.specs.Executions.{at_depth, calmed, frame_changed, frames_changed, members_at, parked_at, change, value_at, with_owned};
 ghost use Rattle.uc_meaning.specs.Quiet.{with_piece};
 ghost use Rattle.uc_frames.specs.Machine.{nought, top, below, cell_written, shifted, loaded, written, this_frame, cleared, with_hand, first_machine, line_in, line_at};
 ghost use Rattle.uc_frames.specs.Left.{left, called};
+ghost use Rattle.uc_frames.specs.Unwinding.{IsCaller, event_at, unwound_by, cleaning, catching, passed, handled};
 ghost use Rattle.uc_tree.specs.declared.limits.TheConstants.{CALLS};
 
+use crate::active::Active;
 use crate::call::Call;
 use crate::cell::Cell;
+use crate::event::{Event, Handling};
 use crate::members::Members;
 use crate::numbered::position;
 use crate::pieces::Pieces;
@@ -19,7 +22,7 @@ use std::alloc::{AllocError, Global};
 use std::marker::Model;
 use uc_code::code::Code;
 use uc_code::rows::RoutineCode;
-use uc_meaning::exec::{Exec, Home, Owner};
+use uc_meaning::exec::{Exec, Home, Owner, Reason, Visited};
 use uc_meaning::list::List;
 use uc_meaning::request::Piece;
 
@@ -122,6 +125,106 @@ impl Work {
     {
         let called = self.task.leave(given)?;
         Ok(called)
+    }
+
+    /// How many activations wait for the running one.
+    pub fn level(&self) -> u32
+        ensures { result ≡ length self.now.callers }
+    {
+        self.task.level()
+    }
+
+    /// The activation that has so many below it.
+    pub fn activation(&self, level: u32) -> Option<&Active>
+        ensures { MatchOption result (at_depth (self.now.run ∷ self.now.callers) level ≡ None) (λ a. at_depth (self.now.run ∷ self.now.callers) level ≡ Some a.now) }
+    {
+        self.task.activation(level)
+    }
+
+    /// The running activation is left with its frame, and the one that waits for it is unwound in its turn, for this reason and
+    /// with what a return that arrives hands over. Where none waits, all stays as it is, and the answer is false.
+    pub fn pass_on(&mut self, why: Reason, given: Cell) -> bool
+        ensures called { result ≡ nat_lt 0 (length self.old.callers) }
+        ensures after { self.new ≡ passed why given self.old.callers self.old }
+    {
+        let called = self.task.pass_on(why, given);
+        called
+    }
+
+    /// The handler of a resumption begins on top, with an empty frame of its own.
+    pub fn enter_handler(&mut self, handling: Handling) -> Result<(), AllocError>
+        ensures ok { OnOk result (self.new ≡ handled handling self.old) }
+        ensures err { OnErr result (self.new ≡ self.old) }
+    {
+        self.task.enter_handler(handling)?;
+        Ok(())
+    }
+
+    /// Takes the event that the three newest operands are.
+    pub fn pop_event(&mut self) -> Event
+        ensures value { result ≡ event_at self.old.run.operands }
+        ensures after { self.new ≡ record self.old { run = record self.old.run { operands = below (below (below self.old.run.operands)) } } }
+    {
+        let event = self.task.pop_event();
+        event
+    }
+
+    /// How far the search came, where the running activation handles a resumption.
+    pub fn handles(&self) -> Option<Visited>
+        ensures { result ≡ self.now.run.handles }
+    {
+        self.task.handles()
+    }
+
+    /// Why the running activation is unwound, if it is.
+    pub fn raised(&self) -> Option<Reason>
+        ensures { result ≡ self.now.run.raised }
+    {
+        self.task.raised()
+    }
+
+    /// What a return that unwinds the running activation hands over.
+    pub fn result(&self) -> Cell
+        ensures { result ≡ self.now.run.result }
+    {
+        self.task.result()
+    }
+
+    /// Whether an activation waits, and why it is unwound, if it is.
+    pub fn caller(&self) -> Option<Option<Reason>>
+        ensures { MatchOption result (self.now.callers ≡ []) (λ why. IsCaller why self.now.callers) }
+    {
+        self.task.caller()
+    }
+
+    /// The running activation is unwound for this reason, from its place on; a return that arrives hands this over.
+    pub fn unwind(&mut self, why: Reason, given: Cell)
+        ensures { self.new ≡ record self.old { run = unwound_by why given self.old.run } }
+    {
+        self.task.unwind(why, given);
+    }
+
+    /// The unwinding of the running activation is over: it goes on at this op.
+    pub fn calm(&mut self, to: u32)
+        ensures { self.new ≡ record self.old { run = calmed to self.old.run } }
+    {
+        self.task.calm(to);
+    }
+
+    /// A clean-up of the running activation begins at this op.
+    pub fn clean(&mut self, entry: u32)
+        ensures { self.new ≡ record self.old { run = cleaning entry self.old.run } }
+    {
+        self.task.clean(entry);
+    }
+
+    /// The handler at this op catches an event in the running activation.
+    pub fn catch_event(&mut self, entry: u32, event: Event) -> Result<(), AllocError>
+        ensures ok { OnOk result (self.new ≡ record self.old { run = catching entry event self.old.run }) }
+        ensures err { OnErr result (self.new ≡ self.old) }
+    {
+        self.task.catch_event(entry, event)?;
+        Ok(())
     }
 
     /// The line of an op; for one of no line that of the newest call around it that has one.

@@ -22,7 +22,7 @@ fn ops() -> [Op; 9] {
             member: 31,
             routine: 7,
         },
-        Op::Throw(63),
+        Op::RaiseAt(63),
         Op::Enable(18446744073709551615),
         Op::Print(ValueForm::Character),
     ]

@@ -12,12 +12,13 @@ use std::io;
 use uc_code::rows::RoutineCode;
 use uc_frames::call::Call;
 use uc_frames::cell::{Cell, further_on, number_in};
+use uc_frames::event::{Event, Handling};
 use uc_frames::members::Members;
 use uc_frames::pieces::print_request;
 use uc_frames::stack::Stack;
 use uc_frames::task::Task;
 use uc_frames::work::{Hand, Work};
-use uc_meaning::exec::{Exec, Home, Owner};
+use uc_meaning::exec::{Exec, Home, Owner, Reason, Visited};
 use uc_meaning::request::{Piece, Request};
 use uc_tree::limits::CALLS;
 
@@ -45,6 +46,22 @@ const CALL_ON: Call = Call {
     this: Cell::Object(6),
     taken: 3,
     counts: false,
+};
+
+const HANDLING: Handling = Handling {
+    entry: 30,
+    this: Cell::Object(8),
+    frame: 0,
+    visited: Visited {
+        level: 0,
+        rest: 2,
+        home: 0,
+    },
+    event: Event {
+        number: 5,
+        x: 6,
+        y: 7,
+    },
 };
 
 /// A line of a name and cells.
@@ -329,6 +346,84 @@ fn one_frame(alloc: Global) -> Result<String, AllocError> {
     line(alloc, "one frame", cells.as_slice())
 }
 
+/// An event is popped, its handler begins with it, and an unwinding comes to another one that catches it.
+fn events(alloc: Global) -> Result<String, AllocError> {
+    let mut work = Work::first(alloc, MAIN, 4)?;
+    work.push(Cell::Number(5))?;
+    work.push(Cell::Number(6))?;
+    work.push(Cell::Number(7))?;
+    let event = work.pop_event();
+    work.enter_handler(Handling { event, ..HANDLING })?;
+    let began = work.next();
+    let newest = work.pop();
+    let this = work.this();
+    let why = Reason::Event {
+        event: 5,
+        x: 6,
+        y: 7,
+    };
+    let passed = work.pass_on(why, Cell::Nothing);
+    work.catch_event(40, event)?;
+    let cells = [
+        number(began),
+        newest,
+        this,
+        truth(passed),
+        number(work.next()),
+        work.pop(),
+        work.pop(),
+        work.pop(),
+        truth(work.has_caller()),
+    ];
+    line(alloc, "events", cells.as_slice())
+}
+
+/// What waits for a handler, and how far the search for that came.
+fn waiting(alloc: Global) -> Result<String, AllocError> {
+    let mut work = Work::first(alloc, MAIN, 4)?;
+    work.enter_handler(HANDLING)?;
+    let rest = match work.handles() {
+        None => Cell::Nothing,
+        Some(visited) => number(visited.rest),
+    };
+    let next = match work.activation(0) {
+        None => Cell::Nothing,
+        Some(active) => number(active.next()),
+    };
+    let unwound = match work.caller() {
+        None => Cell::Nothing,
+        Some(why) => truth(why.is_some()),
+    };
+    let cells = [
+        number(work.level()),
+        rest,
+        next,
+        unwound,
+        truth(work.activation(2).is_some()),
+    ];
+    line(alloc, "waiting", cells.as_slice())
+}
+
+/// What is unwound goes to a clean-up, and on behind it.
+fn unwound(alloc: Global) -> Result<String, AllocError> {
+    let mut work = Work::first(alloc, MAIN, 4)?;
+    work.push(Cell::Number(5))?;
+    work.unwind(Reason::ReturnTo(0), Cell::Number(9));
+    work.clean(12);
+    let entry = work.next();
+    let raised = work.raised().is_some();
+    work.calm(13);
+    let cells = [
+        work.top(),
+        number(entry),
+        truth(raised),
+        work.result(),
+        number(work.next()),
+        truth(work.raised().is_some()),
+    ];
+    line(alloc, "unwound", cells.as_slice())
+}
+
 /// Items that are gathered.
 fn gathered(alloc: Global) -> Result<String, AllocError> {
     let mut work = Work::first(alloc, MAIN, 4)?;
@@ -396,6 +491,9 @@ fn main(rt: HostRuntime) -> io::Result<()> {
         fields(alloc)?,
         frames(alloc)?,
         one_frame(alloc)?,
+        events(alloc)?,
+        waiting(alloc)?,
+        unwound(alloc)?,
         gathered(alloc)?,
         gathering(alloc)?,
         item(alloc)?,

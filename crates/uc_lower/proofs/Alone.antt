@@ -1,5 +1,5 @@
 -- A class has at most one constructor and at most one destructor where the rules are kept.
-use Rattle.std.proofs.Common.{◌≡◌, ℕ, zero, suc, ◌+◌, ◌≤◌, ◌<◌, List, [], ◌∷◌, ◌++◌, Bool, true, false, not, ◌&&◌, ◌||◌, Option, Some, None, length, nat_eq, take, refl, ap, sym, subst, ◌∙◌, arith, append_assoc, true≢false, ◌⊎◌, inl, inr}
+use Rattle.std.proofs.Common.{◌≡◌, ℕ, zero, suc, ◌+◌, ◌≤◌, ◌<◌, List, [], ◌∷◌, ◌++◌, Bool, true, false, not, ◌&&◌, ◌||◌, Option, Some, None, if◌then◌else◌, length, nat_eq, take, refl, ap, sym, subst, ◌∙◌, arith, append_assoc, true≢false, ◌⊎◌, inl, inr}
 use Rattle.std.specs.Prelude.{option_and_then, slice_get}
 use Rattle.std.specs.List.{list_any}
 use Rattle.std.proofs.lemmas.Bool.{and_parts, cases_eq, cases_lt}
@@ -13,23 +13,23 @@ use Rattle.uc_tree.specs.declared.kinds.Role.TheVariants as role
 use Rattle.uc_tree.specs.Names.{same_name}
 use Rattle.uc_tree.specs.Programs.{Sig, Routine, MemberForm, FieldsMember, RoutineMember, ProtoMember, Member, Class, Item, ClassItem, RoutineItem, ConstItem, ProtoItem, ForwardItem, UsingItem, Program}
 use Rattle.uc_tree.specs.Cells.{classes_of}
-use Rattle.uc_tree.specs.Numbering.{is_plain, unhandled_name}
+use Rattle.uc_tree.specs.Numbering.{is_plain, main_name, unhandled_name}
 use Rattle.uc_tree.specs.Objects.{same_role}
 use Rattle.uc_meaning.specs.declared.rules.Home.{Home}
 use Rattle.uc_meaning.specs.declared.rules.Sort.{Sort}
 use Rattle.uc_meaning.specs.declared.rules.Sort.TheVariants as sort
 use Rattle.uc_meaning.specs.declared.rules.Sort.TheVariants.{Object}
 use Rattle.uc_meaning.specs.Breaks.{breaks_at, breaks_among, breaks_of}
-use Rattle.uc_meaning.specs.ItemBreaks.{are_one, class_declares, clashes, defines_member, form_declares_sig, has_class_name, is_defined, is_definition, is_forward_item, is_member_definition, is_named, is_named_proto, is_new_item, is_only_one, is_sound_item, is_sound_member, item_name, same_base, same_params, same_sig}
+use Rattle.uc_meaning.specs.ItemBreaks.{are_one, class_declares, clashes, defines_member, form_declares_sig, has_class_name, is_defined, is_definition, is_forward_item, is_main_base, is_member_definition, is_named, is_named_proto, is_new_item, is_only_one, is_program_main, is_sound_item, is_sound_member, item_name, outer_name, same_base, same_params, same_sig}
 use Rattle.uc_meaning.specs.ItemBreaks as rules
 use Rattle.uc_meaning.specs.ProgramVisits as visits
 use Rattle.uc_meaning.specs.ProgramVisits.{class_visits, classes_in, form_visits, home_of, item_visits, items_visits, members_visits, owner_home, program_visits, routine_visits, sig_env, sig_visits}
-use Rattle.uc_meaning.specs.Names.{is_destructor}
+use Rattle.uc_meaning.specs.Names.{is_destructor, is_here}
 use Rattle.uc_meaning.specs.Scopes.{class_around, plain_env}
 use Rattle.uc_meaning.specs.Sorts.{class_at, class_named}
 use Rattle.uc_meaning.specs.Visits.{AtClass, AtItem, AtMark, AtProgram, AtRoutine}
 use Rattle.uc_lower.proofs.Ruled.{among_left, among_right, class_none, first_none, rest_none, no_left, no_right, holds}
-use Rattle.uc_lower.proofs.Distinct.{Fresh}
+use Rattle.uc_lower.proofs.Distinct.{Fresh, same_self}
 use Rattle.uc_lower.proofs.Numbers.{first_named, names_in}
 
 -- tests
@@ -45,6 +45,10 @@ or_left false b e = refl
 or_right : (a b : Bool) → (a || b) ≡ false → b ≡ false
 or_right true b e = cc
 or_right false b e = e
+
+and_none : (a : Bool) → (a && false) ≡ false
+and_none true = refl
+and_none false = refl
 
 and_true : (a b : Bool) → a ≡ true → b ≡ true → (a && b) ≡ true
 and_true a b e f = ap (λ t. t && b) e ∙ f
@@ -157,6 +161,24 @@ class_index (x ∷ is) (suc j) c e = later x (class_index is j c e)
     later (ForwardItem y) h = record { place = h.place; there = h.there }
     later (UsingItem y) h = record { place = h.place; there = h.there }
 
+-- and its place among the items
+pub record IsItem (is : List Item) (c : Class) : Type 0 where
+  pub place : ℕ
+  pub there : slice_get is place ≡ Some (ClassItem c)
+
+item_later : (x : Item) (is : List Item) (c : Class) → IsItem is c → IsItem (x ∷ is) c
+item_later x is c h = record { place = suc h.place; there = h.there }
+
+pub class_item : (is : List Item) (i : ℕ) (c : Class) → slice_get (classes_of is) i ≡ Some c → IsItem is c
+class_item [] i c e = cc
+class_item (ClassItem x ∷ is) zero c e = let same : x ≡ c = cc in record { place = 0; there = ap (λ (y : Class). Some (ClassItem y)) same }
+class_item (ClassItem x ∷ is) (suc i) c e = item_later (ClassItem x) is c (class_item is i c e)
+class_item (RoutineItem x ∷ is) i c e = item_later (RoutineItem x) is c (class_item is i c e)
+class_item (ConstItem x ∷ is) i c e = item_later (ConstItem x) is c (class_item is i c e)
+class_item (ProtoItem x ∷ is) i c e = item_later (ProtoItem x) is c (class_item is i c e)
+class_item (ForwardItem x ∷ is) i c e = item_later (ForwardItem x) is c (class_item is i c e)
+class_item (UsingItem x ∷ is) i c e = item_later (UsingItem x) is c (class_item is i c e)
+
 -- routines of members
 
 abbrev pub form_sig : MemberForm → Option Sig
@@ -210,6 +232,12 @@ module _ (p : Program) where
       let own = first_none (AtRoutine env c true x j) (sig_visits (sig_env p h k x) x) e in
       subst (λ (x : Sig). is_only_one c x j ≡ true) same (only_of c true x j (holds (is_sound_member p c true x j) _ _ (no_left _ _ (no_right _ _ own))))
 
+  routine_named : (h : Home) (c : Class) (j : ℕ) (k : Mark) (a : Access) (r : Routine) → breaks_among (form_visits p h c j k a (RoutineMember r)) ≡ [] → has_class_name c.name r.sig ≡ true
+  routine_named h c j k a r e =
+      let env = plain_env p (class_around h) in
+      let own = first_none (AtRoutine env c false r.sig j) (routine_visits (sig_env p h k r.sig) r) e in
+      (and_parts (has_class_name c.name r.sig) (is_only_one c r.sig j && is_defined p c false r.sig) (holds (is_sound_member p c false r.sig j) _ _ (no_left _ _ (no_right _ _ own)))).0
+
   module _ (none : breaks_of p ≡ []) where
     quiet : breaks_among (items_visits p 0 0 p.items) ≡ []
     quiet = rest_none (AtProgram p) (items_visits p 0 0 p.items) none
@@ -224,6 +252,16 @@ module _ (p : Program) where
         let class = class_none p p.items 0 0 i c quiet g in
         let members = rest_none (AtClass (plain_env p (class_around h)) c (0 + i)) (members_visits p h c 0 c.members) class in
         subst (λ n. is_only_one c s n ≡ true) z (form_only h c (0 + j) m.mark m.access m.form s (members_none h c 0 c.members j m members e) f)
+
+    -- a builder in a class has the name of the class
+    pub member_named : (i : ℕ) (c : Class) → slice_get (classes_of p.items) i ≡ Some c → (j : ℕ) (m : Member) (r : Routine) → slice_get c.members j ≡ Some m → m.form ≡ RoutineMember r → is_plain r.sig.role ≡ false → same_name r.sig.name c.name ≡ true
+    member_named i c g j m r e f builds =
+        let h : Home = record { class = 0 + i; kind = c.kind } in
+        let class = class_none p p.items 0 0 i c quiet g in
+        let members = rest_none (AtClass (plain_env p (class_around h)) c (0 + i)) (members_visits p h c 0 c.members) class in
+        let own = subst (λ (x : MemberForm). breaks_among (form_visits p h c (0 + j) m.mark m.access x) ≡ []) f (members_none h c 0 c.members j m members e) in
+        let named = routine_named h c (0 + j) m.mark m.access r own in
+        sym (ap (λ b. b || same_name r.sig.name c.name) builds) ∙ (and_parts (is_plain r.sig.role || same_name r.sig.name c.name) (not (is_destructor r.sig.role) || nat_eq (length r.sig.params) 0) named).0
 
     -- two members of one class do not both build, or destroy
     later_one : (i : ℕ) (c : Class) → slice_get (classes_of p.items) i ≡ Some c → (j k : ℕ) (m n : Member) (s t : Sig) → j < k → slice_get c.members j ≡ Some m → form_sig m.form ≡ Some s → slice_get c.members k ≡ Some n → form_sig n.form ≡ Some t → is_plain t.role ≡ false → visits.same_role t.role s.role ≡ true → ⊥
@@ -265,6 +303,43 @@ module _ (p : Program) where
         let quiet = or_left (list_any (clashes b c.name (ClassItem c)) (take (length before) p.items)) (same_name c.name unhandled_name) (not_true (list_any (clashes b c.name (ClassItem c)) (take (length before) p.items) || same_name c.name unhandled_name) new) in
         no_clash b c before (ap (list_any (clashes b c.name (ClassItem c))) (sym first) ∙ quiet)
 
+    -- nor that of a routine outside of classes
+
+    outer_clash : (j l : ℕ) (q : Routine) (c : Class) → slice_get p.items j ≡ Some (RoutineItem q) → q.sig.owner ≡ owner.Here → slice_get p.items l ≡ Some (ClassItem c) → c.name ≡ q.sig.name → j < l → ⊥
+    outer_clash j l q c e o f n first =
+        let b = list_any (is_named_proto c.name) p.items in
+        let new = holds (is_new_item p (ClassItem c) l (Some c.name)) _ _ (no_left _ _ (item_quiet l (ClassItem c) f)) in
+        let quiet = or_left (list_any (clashes b c.name (ClassItem c)) (take l p.items)) (same_name c.name unhandled_name) (not_true (list_any (clashes b c.name (ClassItem c)) (take l p.items) || same_name c.name unhandled_name) new) in
+        let clash : clashes b c.name (ClassItem c) (RoutineItem q) ≡ true =
+        ap (λ w. is_named (if is_here w then Some q.sig.name else None) c.name && true) o
+        ∙ ap (λ x. same_name q.sig.name x && true) n
+        ∙ ap (λ t. t && true) (same_self q.sig.name) in
+        true≢false (sym (any_at (clashes b c.name (ClassItem c)) (take l p.items) j (RoutineItem q) (taken_at p.items j l (RoutineItem q) first e) clash) ∙ quiet)
+
+    class_clash : (j l : ℕ) (q : Routine) (c : Class) → slice_get p.items j ≡ Some (RoutineItem q) → q.sig.owner ≡ owner.Here → slice_get p.items l ≡ Some (ClassItem c) → c.name ≡ q.sig.name → l < j → ⊥
+    class_clash j l q c e o f n first =
+        let b = list_any (is_named_proto q.sig.name) p.items in
+        let name = q.sig.name in
+        let named : outer_name q.sig ≡ Some q.sig.name = ap (λ w. if is_here w then Some q.sig.name else None) o in
+        let new : is_new_item p (RoutineItem q) j (Some name) ≡ true = sym (ap (is_new_item p (RoutineItem q) j) named) ∙ holds (is_new_item p (RoutineItem q) j (outer_name q.sig)) _ _ (no_left _ _ (item_quiet j (RoutineItem q) e)) in
+        let quiet = or_left (list_any (clashes b name (RoutineItem q)) (take j p.items)) (same_name name unhandled_name) (not_true (list_any (clashes b name (RoutineItem q)) (take j p.items) || same_name name unhandled_name) new) in
+        let clash : clashes b name (RoutineItem q) (ClassItem c) ≡ true =
+        ap (λ t. same_name c.name name && not (false || t)) (and_none b)
+        ∙ ap (λ x. same_name x name && true) n
+        ∙ ap (λ t. t && true) (same_self name) in
+        true≢false (sym (any_at (clashes b name (RoutineItem q)) (take j p.items) l (ClassItem c) (taken_at p.items l j (ClassItem c) first f) clash) ∙ quiet)
+
+    pub outer_named : (j l : ℕ) (q : Routine) (c : Class) → slice_get p.items j ≡ Some (RoutineItem q) → q.sig.owner ≡ owner.Here → slice_get p.items l ≡ Some (ClassItem c) → c.name ≡ q.sig.name → ⊥
+    outer_named j l q c e o f n = by_order (cases_lt j l)
+      where
+        by_place : (l ≡ j) ⊎ (l ≡ j → ⊥) → l ≤ j → ⊥
+        by_place (inl same) h = let two : Some (ClassItem c) ≡ Some (RoutineItem q) = sym f ∙ ap (slice_get p.items) same ∙ e in cc
+        by_place (inr apart) h = class_clash j l q c e o f n (omega (arith, h, apart))
+
+        by_order : (j < l) ⊎ (l ≤ j) → ⊥
+        by_order (inl h) = outer_clash j l q c e o f n h
+        by_order (inr h) = by_place (cases_eq l j) h
+
     fresh_classes : (before is : List Item) → p.items ≡ before ++ is → Fresh (names_in (classes_of before)) (names_in (classes_of is))
     fresh_classes before [] e = tt
     fresh_classes before (x ∷ is) e = by_item x e (fresh_classes (before ++ x ∷ []) is (e ∙ sym (append_assoc before (x ∷ []) is)))
@@ -282,6 +357,12 @@ module _ (p : Program) where
     member_sound : (j : ℕ) (r : Routine) (name : List ℕ) → slice_get p.items j ≡ Some (RoutineItem r) → r.sig.owner ≡ owner.Class name → is_member_definition p name (owner_home p (owner.Class name)) r.sig j ≡ true
     member_sound j r name e o =
         sym (ap (λ w. is_definition p w r.sig j) o) ∙ holds (is_sound_item p (RoutineItem r) j) _ _ (no_left _ _ (no_right _ _ (item_quiet j (RoutineItem r) e)))
+
+    -- what has the owner uMain is main
+    pub main_plain : (j : ℕ) (q : Routine) → slice_get p.items j ≡ Some (RoutineItem q) → q.sig.owner ≡ owner.Main → is_plain q.sig.role ≡ true
+    main_plain j q e o =
+        let main : is_program_main q.sig ≡ true = sym (ap (λ w. is_definition p w q.sig j) o) ∙ holds (is_sound_item p (RoutineItem q) j) _ _ (no_left _ _ (no_right _ _ (item_quiet j (RoutineItem q) e))) in
+        (and_parts (is_plain q.sig.role) (same_name q.sig.name main_name && (is_main_base q.sig.owner q.sig.ret && nat_eq (length q.sig.params) 0)) main).0
 
     pub record IsHome (name : List ℕ) (sig : Sig) (j : ℕ) : Type 0 where
       pub class : ℕ

@@ -4,11 +4,11 @@ use Rattle.std.specs.Prelude.{slice_get}
 use Rattle.std.proofs.lemmas.Bool.{and_parts}
 use Rattle.uc_tree.specs.declared.kinds.Owner.{Owner}
 use Rattle.uc_tree.specs.declared.kinds.Owner.TheVariants as owner
-use Rattle.uc_tree.specs.Statements.{Stmt, Block, Empty, Evaluate, Declare, If, While, Do, For, Break, Continue, Return, Try, Throw, Raise, RaiseAt, Enable, Disable, Accept, Print, PrintTogether, Read, Resume, Suspend, Yield, Migrate, Stmts, NoStmts, MoreStmts, MaybeStmt, NoStmt, OneStmt}
-use Rattle.uc_tree.specs.Gathered.{gathered, gathered_all, gathered_maybe}
+use Rattle.uc_tree.specs.Statements.{Stmt, Block, Empty, Evaluate, Declare, If, While, Do, For, Break, Continue, Return, Try, Throw, Raise, RaiseAt, Enable, Disable, Accept, Print, PrintTogether, Read, Resume, Suspend, Yield, Migrate, Stmts, NoStmts, MoreStmts, MaybeStmt, NoStmt, OneStmt, Handler, Handles, Handlers, NoHandlers, MoreHandlers}
+use Rattle.uc_tree.specs.Gathered.{gathered, gathered_all, gathered_handler, gathered_handlers, gathered_maybe}
 use Rattle.uc_tree.specs.Numbering.{Defined, defined_by, form_defined, in_class, item_defined, items_defined, members_defined, routines_of, own_sites}
 use Rattle.uc_tree.specs.Programs.{Class, Routine, MemberForm, FieldsMember, RoutineMember, ProtoMember, Member, Item, ClassItem, RoutineItem, ConstItem, ProtoItem, ForwardItem, UsingItem, Program}
-use Rattle.uc_built.specs.BuiltForms.{is_built_stmt, are_built, is_built_maybe, is_built_routine, is_built_member, are_built_members, is_built_item, are_built_items, is_class_kind, has_main, IsBuilt}
+use Rattle.uc_built.specs.BuiltForms.{is_built_stmt, are_built, are_built_handlers, is_built_handler, is_built_maybe, is_built_routine, is_built_member, are_built_members, is_built_item, are_built_items, is_built_kind, has_main, IsBuilt}
 
 pub owned_alone : (p : Program) (o : Owner) (r : Routine) → (defined_by p o r).routine ≡ r
 owned_alone p owner.Here r = refl
@@ -42,7 +42,7 @@ in_members p name [] e = none_built
 in_members p name (m ∷ ms) e = let q = and_parts (is_built_member m.form) (are_built_members ms) e in split_get (form_defined p name m.form) (members_defined p name ms) (in_form p name m.form q.0) (in_members p name ms q.1)
 
 in_item : (p : Program) (i : Item) → is_built_item i ≡ true → Built (item_defined p i)
-in_item p (ClassItem c) e = in_members p c.name c.members (and_parts (is_class_kind c.kind) (are_built_members c.members) e).1
+in_item p (ClassItem c) e = in_members p c.name c.members (and_parts (is_built_kind c.kind) (are_built_members c.members) e).1
 in_item p (RoutineItem r) e = one_built (defined_by p r.sig.owner r) (ap (λ (x : Routine). is_built_routine x) (owned_alone p r.sig.owner r) ∙ e)
 in_item p (ConstItem c) e = none_built
 in_item p (ProtoItem s) e = none_built
@@ -75,9 +75,9 @@ module _ (c : Option Class) (n : ℕ) where
     stmt_sites (Break place) e = refl
     stmt_sites (Continue place) e = refl
     stmt_sites (Return place value) e = refl
-    stmt_sites (Try place brace body hs) e = absurd (true≢false (sym e))
-    stmt_sites (Throw place raised) e = absurd (true≢false (sym e))
-    stmt_sites (Raise place raised) e = absurd (true≢false (sym e))
+    stmt_sites (Try place brace body hs) e = let q = and_parts _ _ e in nothing_and _ _ (stmts_sites body q.0) (handlers_sites hs q.1)
+    stmt_sites (Throw place raised) e = refl
+    stmt_sites (Raise place raised) e = refl
     stmt_sites (RaiseAt place raised target) e = absurd (true≢false (sym e))
     stmt_sites (Enable place events body) e = absurd (true≢false (sym e))
     stmt_sites (Disable place events body) e = absurd (true≢false (sym e))
@@ -97,3 +97,10 @@ module _ (c : Option Class) (n : ℕ) where
     maybe_sites : (m : MaybeStmt) → is_built_maybe m ≡ true → gathered_maybe (own_sites c n) m ≡ []
     maybe_sites NoStmt e = refl
     maybe_sites (OneStmt body) e = stmt_sites body e
+
+    handler_sites : (h : Handler) → is_built_handler h ≡ true → gathered_handler (own_sites c n) h ≡ []
+    handler_sites (Handles place kind event param brace body) e = stmts_sites body e
+
+    handlers_sites : (hs : Handlers) → are_built_handlers hs ≡ true → gathered_handlers (own_sites c n) hs ≡ []
+    handlers_sites NoHandlers e = refl
+    handlers_sites (MoreHandlers h hs) e = let q = and_parts _ _ e in nothing_and _ _ (handler_sites h q.0) (handlers_sites hs q.1)

@@ -12,7 +12,7 @@ use Rattle.uc_tree.specs.Names.{same_name}
 use Rattle.uc_tree.specs.Objects.{Unwritten, unwritten_of}
 use Rattle.uc_tree.specs.ProgramMain.{is_main_item, is_main_sig, main_among, main_number, no_params, returns_as_main}
 use Rattle.uc_tree.specs.Programs.{Routine, Item, ClassItem, RoutineItem, ConstItem, ProtoItem, ForwardItem, UsingItem, Program, Sig}
-use Rattle.uc_tree.specs.Resolve.{all_classes, all_unwritten, routine_scope, routine_meant, routines_meant, source_of}
+use Rattle.uc_tree.specs.Resolve.{all_classes, all_unwritten, place_by, routine_scope, routine_meant, routines_meant, source_of}
 use Rattle.uc_tree.specs.Sizes.{program_size}
 use Rattle.uc_tree.specs.Source as source
 use Rattle.uc_tree.specs.StatementSizes.{stmts_size}
@@ -26,12 +26,14 @@ use Rattle.uc_code.specs.Lowered.{RoutineAt, RoutinesAt, Lowered}
 use Rattle.uc_code.specs.Ranges.{Kept}
 use Rattle.uc_numbers.specs.declared.routines.Defined.{Defined as Found}
 use Rattle.uc_numbers.specs.Routines.{defined_at}
-use Rattle.uc_lower.specs.Laying.{Lays, LaysAll, defined_texts, own_room, routine_room, unwritten_rooms}
+use Rattle.uc_lower_stmt.specs.Routines.{frame_cells}
+use Rattle.uc_lower.specs.Laying.{Lays, LaysAll, defined_texts, last_of, own_room, routine_room, unwritten_rooms}
 use Rattle.uc_lower.specs.Refusing.{Fits}
 use Rattle.uc_lower.proofs.Built.{built_routine, owned_alone, stmts_sites}
 use Rattle.uc_lower.proofs.Costs.{own_few, own_size, owns, owns_push, size_split}
 use Rattle.uc_lower.proofs.Laying.{lays_step, room_within, rooms_within, taken_more, texts_push, within}
 use Rattle.uc_lower.proofs.Rooms.{rooms_fit}
+use Rattle.uc_lower.proofs.Silence.{silent_behind}
 
 -- a routine that was found is that of the program
 
@@ -95,7 +97,6 @@ pub record Stands (p : Program) (all i t s : ℕ) (out : Draft) : Type 0 where
 pub record Follows (p : Program) (t i : ℕ) (x : Defined) (out : Draft) : Type 0 where
   pub alone : is_plain x.routine.sig.role ≡ false → nat_eq i (main_number p) ≡ false
   pub known : i < length out.routines
-  pub written : i < length (routines_of p)
   pub room : length out.ops + routine_room p x ≤ PROGRAM_OPS
   pub cells : routine_cells p x.routine ≤ FRAME_CELLS
   pub texts : t + stmts_size x.routine.body ≤ PROGRAM_SIZE
@@ -116,7 +117,6 @@ follows p all i texts sites x out b none f enough at h =
     record {
       alone = λ e. no_main p i x at e (cases_eq i (main_number p));
       known = omega (arith, table, there, enough);
-      written = there;
       room = omega (arith, few, fit, size, room);
       cells = f.frames.each i x at;
       texts = omega (arith, own, split, size, counted);
@@ -133,8 +133,8 @@ stands_none p all d h = record { lays = h; texts = none (routines_of p); few = o
 
 pub stands_next : (p : Program) (all i texts sites : ℕ) (x : Defined) (old new : Draft) → IsBuilt p → length (routines_of p) ≤ all → slice_get (routines_of p) i ≡ Some x → Stands p all i texts sites old
     → Kept (laid_in old) (laid_in new) → length new.ops ≤ length old.ops + routine_room p x
-    → RoutineAt (laid_in new) i (routine_meant p x.routine (routine_scope p x.routine.sig.params x.number i texts sites)) (record { entry = length old.ops; cells = routine_cells p x.routine; params = length x.routine.sig.params }) (length old.ops) (length new.ops)
-    → new.routines ≡ slice_set old.routines i (record { entry = length old.ops; cells = routine_cells p x.routine; params = length x.routine.sig.params }) → new.marks ≡ []
+    → RoutineAt (laid_in new) (last_of (routines_of p)) i (routine_meant p x.routine (routine_scope p x.routine (place_by p x) i texts sites)) (record { entry = length old.ops; cells = frame_cells p x.routine; params = length x.routine.sig.params }) (length old.ops) (length new.ops)
+    → new.routines ≡ slice_set old.routines i (record { entry = length old.ops; cells = frame_cells p x.routine; params = length x.routine.sig.params }) → new.marks ≡ []
     → new.texts ≡ texts + length (gathered_all own_texts x.routine.body) → new.texts ≤ texts + stmts_size x.routine.body → new.sites ≡ sites + length (gathered_all (own_sites None 0) x.routine.body)
     → Stands p all (i + 1) new.texts new.sites new
 stands_next p all i texts sites x old new b enough at h k r c w marks te tf se =
@@ -171,11 +171,13 @@ whole p all count new sites texts classes code n m h se te le ce =
     let table : length new.routines ≡ all = h.table in
     let us : take count (unwritten_of p) ≡ unwritten_of p = take_all count (unwritten_of p) (omega (arith, n)) in
     let rows : take (length (routines_of p) + count) new.routines ≡ code.routines = take_all (length (routines_of p) + count) new.routines (omega (arith, m, table)) ∙ ap (λ (x : Code). x.routines) (sym ce) in
-    let at : RoutinesAt (laid_in new) 0 (source_of p).routines code.routines 0 (length new.ops) =
-    subst (λ (k : List RoutineCode). RoutinesAt (laid_in new) 0 (source_of p).routines k 0 (length new.ops)) rows (
-    subst (λ (k : List Unwritten). RoutinesAt (laid_in new) 0 (routines_meant p (routines_of p) 0 0 0 ++ all_unwritten p k) (take (length (routines_of p) + count) new.routines) 0 (length new.ops)) us h.code) in
+    let at : RoutinesAt (laid_in new) (last_of (routines_of p)) 0 (source_of p).routines code.routines 0 (length new.ops) =
+    subst (λ (k : List RoutineCode). RoutinesAt (laid_in new) (last_of (routines_of p)) 0 (source_of p).routines k 0 (length new.ops)) rows (
+    subst (λ (k : List Unwritten). RoutinesAt (laid_in new) (last_of (routines_of p)) 0 (routines_meant p (routines_of p) 0 0 0 ++ all_unwritten p k) (take (length (routines_of p) + count) new.routines) 0 (length new.ops)) us h.code) in
     record {
-      routines = subst (λ (x : Laid). RoutinesAt x 0 (source_of p).routines code.routines 0 (length x.ops)) laid at;
+      last = last_of (routines_of p);
+      silent = silent_behind p;
+      routines = subst (λ (x : Laid). RoutinesAt x (last_of (routines_of p)) 0 (source_of p).routines code.routines 0 (length x.ops)) laid at;
       classes = ap (λ (x : Code). x.classes) ce ∙ le;
       sites = ap (λ (x : Code). x.sites) ce ∙ se;
       texts = ap (λ (x : Code). x.texts) ce ∙ te;

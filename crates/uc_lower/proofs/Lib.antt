@@ -10,8 +10,10 @@ mod Named
 mod Numbered
 mod Numbers
 mod Owed
+mod Placed
 pub mod Refused
 pub mod Ruled
 mod Rooms
+pub mod Silence
 mod Sums
 mod Unwritten

@@ -2,7 +2,7 @@
 use Rattle.std.proofs.Common.{◌≡◌, ℕ, ◌+◌, ◌∷◌, List, [], Bool, true, false, if◌then◌else◌, length, drop, ap, ◌∙◌, refl, arith}
 use Rattle.std.proofs.lemmas.List.{length-append}
 use Rattle.uc_tree.specs.Programs.{MemberForm, FieldsMember, RoutineMember, ProtoMember, Member, Item, ClassItem, RoutineItem, ConstItem, ProtoItem, ForwardItem, UsingItem, Program}
-use Rattle.uc_tree.specs.Numbering.{form_defined, item_defined, members_defined}
+use Rattle.uc_tree.specs.Numbering.{form_defined, item_defined, items_defined, members_defined}
 use Rattle.uc_tree.specs.ProgramMain.{is_main_item, main_among}
 use Rattle.uc_lower.specs.Mains.{routines_in, routines_in_form, routines_in_members}
 
@@ -40,3 +40,9 @@ main_here p xs rest i x h e = ap (main_among p) h ∙ case_main (is_main_item x)
 
 pub main_step : (p : Program) (xs rest : List Item) (i : ℕ) (x : Item) → drop i xs ≡ x ∷ rest → is_main_item x ≡ false → main_among p (drop i xs) ≡ routines_in x + main_among p rest
 main_step p xs rest i x h e = ap (main_among p) h ∙ case_step (is_main_item x) (length (item_defined p x)) (main_among p rest) e ∙ ap (λ k. k + main_among p rest) (item_count p x)
+
+pub count_step : (p : Program) (xs rest : List Item) (i : ℕ) (x : Item) → drop i xs ≡ x ∷ rest → length (items_defined p (drop i xs)) ≡ routines_in x + length (items_defined p rest)
+count_step p xs rest i x h =
+    ap (λ (is : List Item). length (items_defined p is)) h
+    ∙ length-append (item_defined p x) (items_defined p rest)
+    ∙ ap (λ k. k + length (items_defined p rest)) (item_count p x)

@@ -1,5 +1,6 @@
 -- All routines together take no more ops than the size of their program allows.
-use Rattle.std.proofs.Common.{◌≡◌, ℕ, ◌+◌, ◌*◌, ◌≤◌, List, [], ◌∷◌, Bool, true, false, Option, Some, None, if◌then◌else◌, is_some, length, refl, ap, ◌∙◌, arith}
+use Rattle.std.proofs.Common.{◌≡◌, ℕ, ◌+◌, ◌*◌, ◌≤◌, List, [], ◌∷◌, Bool, true, false, Option, Some, None, if◌then◌else◌, length, refl, ap, ◌∙◌, arith}
+use Rattle.std.specs.List.{list_any}
 use Rattle.uc_tree.specs.declared.limits.TheConstants.{OPS_FOR_SIZE}
 use Rattle.uc_tree.specs.declared.kinds.Role.{Role}
 use Rattle.uc_tree.specs.declared.kinds.Role.TheVariants as role
@@ -9,9 +10,9 @@ use Rattle.uc_tree.specs.ExpressionSizes.{exprs_size}
 use Rattle.uc_tree.specs.Sizes.{inits_size, program_size}
 use Rattle.uc_tree.specs.Programs.{Init, Routine, Class, Program}
 use Rattle.uc_tree.specs.Cells.{classes_of}
-use Rattle.uc_tree.specs.Numbering.{Defined, routines_of}
-use Rattle.uc_tree.specs.Objects.{ClassField, Unwritten, class_at, fields_of, place_of, unwritten_at, unwritten_by, unwritten_of, written_at}
-use Rattle.uc_tree.specs.Resolve.{class_by}
+use Rattle.uc_tree.specs.Numbering.{Defined, is_event, routines_of}
+use Rattle.uc_tree.specs.Objects.{ClassField, Unwritten, class_at, fields_of, unwritten_at, unwritten_by, unwritten_of, written_at}
+use Rattle.uc_tree.specs.Resolve.{class_by, place_by}
 use Rattle.uc_meaning.specs.declared.rules.Home.{Home}
 use Rattle.uc_meaning.specs.Breaks.{breaks_among, breaks_of}
 use Rattle.uc_meaning.specs.ProgramVisits.{items_visits, members_visits}
@@ -25,9 +26,10 @@ use Rattle.uc_lower.proofs.Ruled.{class_none, rest_none}
 use Rattle.uc_lower.proofs.Costs.{class_sizes, fields_cost, fields_few, fields_size, length_cost, own_size, owns, size_split}
 use Rattle.uc_lower.proofs.Distinct.{Fresh, init_size, inits_few, named_sizes, none_named}
 use Rattle.uc_lower.proofs.Named.{all_fresh, names_of}
-use Rattle.uc_lower.proofs.Owed.{all_owed, owed_few, paid}
+use Rattle.uc_lower.proofs.Owed.{all_owed, none_written, one, owed_few, paid}
+use Rattle.uc_lower.proofs.Placed.{belongs}
 use Rattle.uc_lower.proofs.Apart.{routines_apart}
-use Rattle.uc_lower.proofs.Sums.{all_weight, sum, sum_add, sum_le_at, weight, weight_join}
+use Rattle.uc_lower.proofs.Sums.{all_weight, class_weight, sum, sum_add, sum_le_at, weight, weight_join}
 
 abbrev cost : Role → Option Class → ℕ
 cost role.Plain o = 0
@@ -72,6 +74,10 @@ fields_are is (f ∷ fs) =
 no_inits : (fs : List ClassField) → fields_room [] fs ≡ fields_cost fs
 no_inits fs = let a = fields_are [] fs in let b = none_named (names_of fs) in omega (arith, a, b)
 
+if_few : (t : Bool) (k : ℕ) → (if t then k else 0) ≤ k
+if_few true k = omega arith
+if_few false k = omega arith
+
 module _ (p : Program) (none : breaks_of p ≡ []) where
   quiet : breaks_among (items_visits p 0 0 p.items) ≡ []
   quiet = rest_none (AtProgram p) (items_visits p 0 0 p.items) none
@@ -99,19 +105,19 @@ module _ (p : Program) (none : breaks_of p ≡ []) where
   left_is None = refl
   left_is (Some c) = refl
 
-  routine_few : (d : Defined) (r : Role) → d.routine.sig.role ≡ r → routine_room p d ≤ cost r (class_by p (place_of p d.number)) + 64 * (1 + own_size d.routine)
+  routine_few : (d : Defined) (r : Role) → d.routine.sig.role ≡ r → routine_room p d ≤ cost r (class_by p (place_by p d)) + 64 * (1 + own_size d.routine)
   routine_few d role.Plain e =
       let is : routine_room p d ≡ role_room_of p role.Plain d = ap (λ (r : Role). role_room_of p r d) e in
       omega (arith, is)
   routine_few d role.Constructor e =
-      let is : routine_room p d ≡ builder_room p d.routine d.number = ap (λ (r : Role). role_room_of p r d) e in
-      let builder : builder_room p d.routine d.number ≡ role_room p role.Constructor (place_of p d.number) d.routine + 1 = ap (λ (r : Role). role_room p r (place_of p d.number) d.routine + 1) e in
-      let h = built_few d.routine (place_of p d.number) in
+      let is : routine_room p d ≡ builder_room p d.routine (place_by p d) = ap (λ (r : Role). role_room_of p r d) e in
+      let builder : builder_room p d.routine (place_by p d) ≡ role_room p role.Constructor (place_by p d) d.routine + 1 = ap (λ (r : Role). role_room p r (place_by p d) d.routine + 1) e in
+      let h = built_few d.routine (place_by p d) in
       omega (arith, is, builder, h)
   routine_few d role.Destructor e =
-      let is : routine_room p d ≡ builder_room p d.routine d.number = ap (λ (r : Role). role_room_of p r d) e in
-      let builder : builder_room p d.routine d.number ≡ role_room p role.Destructor (place_of p d.number) d.routine + 1 = ap (λ (r : Role). role_room p r (place_of p d.number) d.routine + 1) e in
-      let h = left_is (class_by p (place_of p d.number)) in
+      let is : routine_room p d ≡ builder_room p d.routine (place_by p d) = ap (λ (r : Role). role_room_of p r d) e in
+      let builder : builder_room p d.routine (place_by p d) ≡ role_room p role.Destructor (place_by p d) d.routine + 1 = ap (λ (r : Role). role_room p r (place_by p d) d.routine + 1) e in
+      let h = left_is (class_by p (place_by p d)) in
       omega (arith, is, builder, h)
 
   written_few : (ds : List Defined) → written_room p ds ≤ all_owed p cost cost_plain cost_none ds + 64 * owns ds
@@ -128,9 +134,12 @@ module _ (p : Program) (none : breaks_of p ≡ []) where
   same_weight (u ∷ us) = ap (λ n. own_room p u + n) (same_weight us)
 
   -- one of them, written or not
-  one_few : (r : Role) (i : ℕ) (c : Class) → own_room p (record { class = i; role = r }) ≤ cost r (Some c) + 20 → (o : Option ℕ) → (if is_some o then cost r (Some c) else 0) + weight p (own_room p) (unwritten_by o i r) ≤ cost r (Some c) + 20
-  one_few r i c l None = omega (arith, l)
-  one_few r i c l (Some n) = omega arith
+  one_few : (r : Role) (i : ℕ) (c : Class) → class_at p i ≡ Some c → is_event c.kind ≡ false → own_room p (record { class = i; role = r }) ≤ cost r (Some c) + 20 → (o : Option ℕ) → written_at p i r ≡ o → one p cost cost_plain cost_none (routines_of p) r c i + weight p (own_room p) (unwritten_by o i r) ≤ cost r (Some c) + 20
+  one_few r i c e v l None w =
+      let nobody = none_written p i c r e v [] (routines_of p) 0 (routines_apart p none) w in
+      let nothing : one p cost cost_plain cost_none (routines_of p) r c i ≡ 0 = ap (λ (t : Bool). if t then cost r (Some c) else 0) nobody in
+      omega (arith, l, nothing)
+  one_few r i c e v l (Some n) w = let few = if_few (list_any (belongs p i r) (routines_of p)) (cost r (Some c)) in omega (arith, few)
 
   builds_few : (i : ℕ) (c : Class) → class_at p i ≡ Some c → own_room p (record { class = i; role = role.Constructor }) ≤ cost role.Constructor (Some c) + 20
   builds_few i c e =
@@ -144,13 +153,22 @@ module _ (p : Program) (none : breaks_of p ≡ []) where
       let a : unwritten_room role.Destructor (class_at p i) ≡ unwritten_room role.Destructor (Some c) = ap (unwritten_room role.Destructor) e in
       omega (arith, a)
 
-  class_few : (i : ℕ) (c : Class) → class_at p i ≡ Some c → paid p cost cost_plain cost_none (routines_of p) c i + weight p (own_room p) (unwritten_at p i) ≤ 64 * (1 + fields_size (fields_of c.members))
-  class_few i c e =
-      let j = weight_join p (own_room p) (unwritten_by (written_at p i role.Constructor) i role.Constructor) (unwritten_by (written_at p i role.Destructor) i role.Destructor) in
-      let a = one_few role.Constructor i c (builds_few i c e) (written_at p i role.Constructor) in
-      let b = one_few role.Destructor i c (destroys_few i c e) (written_at p i role.Destructor) in
-      let f = fields_few (fields_of c.members) in
-      omega (arith, j, a, b, f)
+  -- nobody but its written constructor builds an event
+  class_few : (i : ℕ) (c : Class) → class_at p i ≡ Some c → paid p cost cost_plain cost_none (routines_of p) c i + class_weight p (own_room p) c i ≤ 64 * (1 + fields_size (fields_of c.members))
+  class_few i c e = by_kind (is_event c.kind) refl
+    where
+      by_kind : (v : Bool) → is_event c.kind ≡ v → paid p cost cost_plain cost_none (routines_of p) c i + (if v then 0 else weight p (own_room p) (unwritten_at p i)) ≤ 64 * (1 + fields_size (fields_of c.members))
+      by_kind true v =
+          let a = if_few (list_any (belongs p i role.Constructor) (routines_of p)) (cost role.Constructor (Some c)) in
+          let b = if_few (list_any (belongs p i role.Destructor) (routines_of p)) (cost role.Destructor (Some c)) in
+          let f = fields_few (fields_of c.members) in
+          omega (arith, a, b, f)
+      by_kind false v =
+          let j = weight_join p (own_room p) (unwritten_by (written_at p i role.Constructor) i role.Constructor) (unwritten_by (written_at p i role.Destructor) i role.Destructor) in
+          let a = one_few role.Constructor i c e v (builds_few i c e) (written_at p i role.Constructor) refl in
+          let b = one_few role.Destructor i c e v (destroys_few i c e) (written_at p i role.Destructor) refl in
+          let f = fields_few (fields_of c.members) in
+          omega (arith, j, a, b, f)
 
   sizes_are : (cs : List Class) (i : ℕ) → sum (λ c i. 64 * (1 + fields_size (fields_of c.members))) cs i ≡ 64 * class_sizes cs
   sizes_are [] i = refl
@@ -162,8 +180,8 @@ module _ (p : Program) (none : breaks_of p ≡ []) where
       let o = owed_few p cost cost_plain cost_none (routines_of p) (routines_apart p none) in
       let s = same_weight (unwritten_of p) in
       let u = all_weight p (own_room p) in
-      let join = sum_add (paid p cost cost_plain cost_none (routines_of p)) (λ c i. weight p (own_room p) (unwritten_at p i)) (classes_of p.items) 0 in
-      let each = sum_le_at (λ c i. paid p cost cost_plain cost_none (routines_of p) c i + weight p (own_room p) (unwritten_at p i)) (λ c i. 64 * (1 + fields_size (fields_of c.members))) (classes_of p.items) 0
+      let join = sum_add (paid p cost cost_plain cost_none (routines_of p)) (class_weight p (own_room p)) (classes_of p.items) 0 in
+      let each = sum_le_at (λ c i. paid p cost cost_plain cost_none (routines_of p) c i + class_weight p (own_room p) c i) (λ c i. 64 * (1 + fields_size (fields_of c.members))) (classes_of p.items) 0
       (λ k c e. let z : 0 + k ≡ k = omega arith in class_few (0 + k) c (ap (class_at p) z ∙ e)) in
       let sizes = sizes_are (classes_of p.items) 0 in
       let split = size_split p in

@@ -54,55 +54,63 @@ module _ (p : Program) (w : Unwritten → ℕ) where
       weight_join (if not (is_event c.kind) && nat_eq (class_height p i) h then unwritten_at p i else []) (unwritten_of_height p h cs (i + 1))
       ∙ ap (λ n. at_height h c i + n) (height_weight h cs (i + 1))
 
-  -- those of the classes that are at most so deep
+  -- those of the classes that are at most so deep; an event has none
   abbrev up_to : ℕ → Class → ℕ → ℕ
-  up_to h c i = if nat_le (class_height p i) h then weight (unwritten_at p i) else 0
+  up_to h c i = if is_event c.kind then 0 else (if nat_le (class_height p i) h then weight (unwritten_at p i) else 0)
+
+  abbrev pub class_weight : Class → ℕ → ℕ
+  class_weight c i = if is_event c.kind then 0 else weight (unwritten_at p i)
 
   le_case : (n : ℕ) (t : Bool) → (if t then n else 0) ≤ n
   le_case n true = omega arith
   le_case n false = omega arith
 
-  own_case : (e b : Bool) (us : List Unwritten) → b ≡ false → weight (if e && b then us else []) ≡ 0
-  own_case true b us q = ap (λ (t : Bool). weight (if t then us else [])) q
-  own_case false b us q = refl
+  own_case : (b : Bool) (us : List Unwritten) → b ≡ false → weight (if b then us else []) ≡ 0
+  own_case b us q = ap (λ (t : Bool). weight (if t then us else [])) q
 
   own_few : (b : Bool) (us : List Unwritten) → weight (if b then us else []) ≤ weight us
   own_few true us = omega arith
   own_few false us = omega arith
 
-  first_le : (k : ℕ) (us : List Unwritten) (e : Bool) → (k ≡ 0) ⊎ (k ≢ 0) → weight (if e && nat_eq k 0 then us else []) ≤ (if nat_le k 0 then weight us else 0)
-  first_le k us e (inl q) = let a = own_few (e && nat_eq k 0) us in let b : (if nat_le k 0 then weight us else 0) ≡ weight us = ap (λ n. if nat_le n 0 then weight us else 0) q in omega (arith, a, b)
-  first_le k us e (inr n) = let a = own_case e (nat_eq k 0) us (ne_eqb k 0 n) in omega (arith, a)
+  first_le : (k : ℕ) (us : List Unwritten) (e : Bool) → (k ≡ 0) ⊎ (k ≢ 0) → weight (if not e && nat_eq k 0 then us else []) ≤ (if e then 0 else (if nat_le k 0 then weight us else 0))
+  first_le k us true s = omega arith
+  first_le k us false (inl q) = let a = own_few (nat_eq k 0) us in let b : (if nat_le k 0 then weight us else 0) ≡ weight us = ap (λ n. if nat_le n 0 then weight us else 0) q in omega (arith, a, b)
+  first_le k us false (inr n) = let a = own_case (nat_eq k 0) us (ne_eqb k 0 n) in omega (arith, a)
 
-  next_le : (k h : ℕ) (us : List Unwritten) (e : Bool) → (k ≡ suc h) ⊎ (k ≢ suc h) → weight (if e && nat_eq k (suc h) then us else []) + (if nat_le k h then weight us else 0) ≤ (if nat_le k (suc h) then weight us else 0)
-  next_le k h us e (inl q) =
-      let a = own_few (e && nat_eq k (suc h)) us in
+  next_le : (k h : ℕ) (us : List Unwritten) (e : Bool) → (k ≡ suc h) ⊎ (k ≢ suc h) → weight (if not e && nat_eq k (suc h) then us else []) + (if e then 0 else (if nat_le k h then weight us else 0)) ≤ (if e then 0 else (if nat_le k (suc h) then weight us else 0))
+  next_le k h us true s = omega arith
+  next_le k h us false (inl q) =
+      let a = own_few (nat_eq k (suc h)) us in
       let b : (if nat_le k (suc h) then weight us else 0) ≡ weight us = ap (λ (t : Bool). if t then weight us else 0) (le-leb k (suc h) (omega (arith, q))) in
       let d : (if nat_le k h then weight us else 0) ≡ 0 = ap (λ (t : Bool). if t then weight us else 0) (lt-leb k h (omega (arith, q))) in
       omega (arith, a, b, d)
-  next_le k h us e (inr n) = let a = own_case e (nat_eq k (suc h)) us (ne_eqb k (suc h) n) in let b = more_le k h us (cases_lt h k) in omega (arith, a, b)
+  next_le k h us false (inr n) = let a = own_case (nat_eq k (suc h)) us (ne_eqb k (suc h) n) in let b = more_le k h us (cases_lt h k) in omega (arith, a, b)
     where
       more_le : (k h : ℕ) (us : List Unwritten) → (h < k) ⊎ (k ≤ h) → (if nat_le k h then weight us else 0) ≤ (if nat_le k (suc h) then weight us else 0)
       more_le k h us (inl l) = let d : (if nat_le k h then weight us else 0) ≡ 0 = ap (λ (t : Bool). if t then weight us else 0) (lt-leb k h l) in omega (arith, d)
       more_le k h us (inr l) = let b : (if nat_le k (suc h) then weight us else 0) ≡ weight us = ap (λ (t : Bool). if t then weight us else 0) (le-leb k (suc h) (omega (arith, l))) in let a = le_case (weight us) (nat_le k h) in omega (arith, a, b)
 
+  last_le : (e t : Bool) (n : ℕ) → (if e then 0 else (if t then n else 0)) ≤ (if e then 0 else n)
+  last_le true t n = omega arith
+  last_le false t n = le_case n t
+
   up_weight : (h : ℕ) → weight (unwritten_up_to p h) ≤ sum (up_to h) (classes_of p.items) 0
   up_weight zero =
       let a = height_weight 0 (classes_of p.items) 0 in
-      let b = sum_le (at_height 0) (up_to 0) (λ c i. first_le (class_height p i) (unwritten_at p i) (not (is_event c.kind)) (cases_eq (class_height p i) 0)) (classes_of p.items) 0 in
+      let b = sum_le (at_height 0) (up_to 0) (λ c i. first_le (class_height p i) (unwritten_at p i) (is_event c.kind) (cases_eq (class_height p i) 0)) (classes_of p.items) 0 in
       omega (arith, a, b)
   up_weight (suc h) =
       let j = weight_join (unwritten_of_height p (suc h) (classes_of p.items) 0) (unwritten_up_to p h) in
       let a = height_weight (suc h) (classes_of p.items) 0 in
       let r = up_weight h in
       let s = sum_add (at_height (suc h)) (up_to h) (classes_of p.items) 0 in
-      let b = sum_le (λ c i. at_height (suc h) c i + up_to h c i) (up_to (suc h)) (λ c i. next_le (class_height p i) h (unwritten_at p i) (not (is_event c.kind)) (cases_eq (class_height p i) (suc h))) (classes_of p.items) 0 in
+      let b = sum_le (λ c i. at_height (suc h) c i + up_to h c i) (up_to (suc h)) (λ c i. next_le (class_height p i) h (unwritten_at p i) (is_event c.kind) (cases_eq (class_height p i) (suc h))) (classes_of p.items) 0 in
       omega (arith, j, a, r, s, b)
 
-  pub all_weight : weight (unwritten_of p) ≤ sum (λ c i. weight (unwritten_at p i)) (classes_of p.items) 0
+  pub all_weight : weight (unwritten_of p) ≤ sum class_weight (classes_of p.items) 0
   all_weight =
       let a = up_weight (length (classes_of p.items)) in
-      let b = sum_le (up_to (length (classes_of p.items))) (λ c i. weight (unwritten_at p i)) (λ c i. le_case (weight (unwritten_at p i)) (nat_le (class_height p i) (length (classes_of p.items)))) (classes_of p.items) 0 in
+      let b = sum_le (up_to (length (classes_of p.items))) class_weight (λ c i. last_le (is_event c.kind) (nat_le (class_height p i) (length (classes_of p.items))) (weight (unwritten_at p i))) (classes_of p.items) 0 in
       omega (arith, a, b)
 
 pub sum_le_at : (f g : Class → ℕ → ℕ) (cs : List Class) (first : ℕ) → ((j : ℕ) (c : Class) → slice_get cs j ≡ Some c → f c (first + j) ≤ g c (first + j)) → sum f cs first ≤ sum g cs first

@@ -7,7 +7,7 @@ use Rattle.uc_tree.specs.Gathered.{gathered_all}
 use Rattle.uc_tree.specs.Numbering.{Defined, own_texts}
 use Rattle.uc_tree.specs.Objects.{Unwritten, class_at}
 use Rattle.uc_tree.specs.Programs.{Program}
-use Rattle.uc_tree.specs.Resolve.{all_unwritten, routines_meant}
+use Rattle.uc_tree.specs.Resolve.{all_unwritten, place_by, routines_meant}
 use Rattle.uc_code.specs.Drafts.{Draft}
 use Rattle.uc_code.specs.Laid.{laid_in}
 use Rattle.uc_code.specs.Lowered.{RoutinesAt}
@@ -18,8 +18,8 @@ use Rattle.uc_lower_class.specs.Bodies.{builder_room, unwritten_room}
 
 abbrev pub role_room_of : Program → Role → Defined → ℕ
 role_room_of p role.Plain d = OPS_FOR_SIZE * (1 + sizes_at d.routine.body 0)
-role_room_of p role.Constructor d = builder_room p d.routine d.number
-role_room_of p role.Destructor d = builder_room p d.routine d.number
+role_room_of p role.Constructor d = builder_room p d.routine (place_by p d)
+role_room_of p role.Destructor d = builder_room p d.routine (place_by p d)
 
 abbrev pub routine_room : Program → Defined → ℕ
 routine_room p d = role_room_of p d.routine.sig.role d
@@ -40,16 +40,21 @@ abbrev pub defined_texts : List Defined → ℕ
 defined_texts [] = 0
 defined_texts (d ∷ ds) = length (gathered_all own_texts d.routine.body) + defined_texts ds
 
+-- the number of the last written routine
+abbrev pub last_of : List Defined → ℕ
+last_of [] = 0
+last_of (d ∷ ds) = length ds
+
 -- a draft in which the first so many of the written routines stand, of so many routines in all
 pub record Lays (p : Program) (ds : List Defined) (all count : ℕ) (d : Draft) : Type 0 where
-  pub code : RoutinesAt (laid_in d) 0 (routines_meant p (take count ds) 0 0 0) (take count d.routines) 0 (length d.ops)
+  pub code : RoutinesAt (laid_in d) (last_of ds) 0 (routines_meant p (take count ds) 0 0 0) (take count d.routines) 0 (length d.ops)
   pub room : length d.ops ≤ written_room p (take count ds)
   pub outside : d.marks ≡ []
   pub table : length d.routines ≡ all
 
 -- one in which all written ones stand, and the first so many of those that nobody wrote
 pub record LaysAll (p : Program) (ds : List Defined) (us : List Unwritten) (all count : ℕ) (d : Draft) : Type 0 where
-  pub code : RoutinesAt (laid_in d) 0 (routines_meant p ds 0 0 0 ++ all_unwritten p (take count us)) (take (length ds + count) d.routines) 0 (length d.ops)
+  pub code : RoutinesAt (laid_in d) (last_of ds) 0 (routines_meant p ds 0 0 0 ++ all_unwritten p (take count us)) (take (length ds + count) d.routines) 0 (length d.ops)
   pub room : length d.ops ≤ written_room p ds + unwritten_rooms p (take count us)
   pub outside : d.marks ≡ []
   pub table : length d.routines ≡ all

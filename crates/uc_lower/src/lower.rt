@@ -9,6 +9,7 @@ ghost use Rattle.uc_tree.specs.Resolve.{source_of};
 ghost use Rattle.uc_tree.specs.Sizes.{program_size};
 ghost use Rattle.uc_built.specs.BuiltForms.{IsBuilt};
 ghost use Rattle.uc_meaning.specs.Breaks.{breaks_of};
+ghost use Rattle.uc_code.specs.Laid.{laid_of};
 ghost use Rattle.uc_code.specs.Pace.{IsPaced};
 ghost use Rattle.uc_code.specs.Lowered.{Lowered};
 ghost use Rattle.uc_numbers.specs.Routines.{defined_at};
@@ -60,6 +61,42 @@ fn large_frame(sizes: &Sizes, defined: &[Defined], count: u32) -> Option<LowerFa
     None
 }
 
+// The code of a program that fits, with these names, and the routines that nobody wrote.
+fn lower_named(
+    alloc: Global,
+    program: &Program,
+    names: &ProgramNames,
+    defined: &[Defined],
+    count: u32,
+    unwritten: &[Unwritten],
+) -> Result<Code, AllocError>
+    requires built { IsBuilt program.now }
+    requires unbroken { breaks_of program.now ≡ [] }
+    requires fits { Fits program.now }
+    requires names { names.now ≡ program.now }
+    requires defined { map defined_at defined.now ≡ routines_of program.now }
+    requires count { count ≡ length defined.now }
+    requires unwritten { map unwritten_as unwritten.now ≡ unwritten_of program.now }
+    requires few { count + length unwritten.now < 2 ^ 32 }
+    ensures lowered { IfOk result (λ code. Lowered (source_of program.now) code) }
+    ensures paced { IfOk result (λ code. IsPaced (laid_of code) code.routines) }
+    ensures few { IfOk result (λ code. length code.ops ≤ OPS_FOR_SIZE * program_size program.now) }
+{
+    let mut out = Draft::new(alloc, no_code(alloc, defined.len() + unwritten.len())?);
+    let main = match number_of_main(&program.items) {
+        Some(main) => main,
+        None => return Err(AllocError),
+    };
+    lower_routines(alloc, names, defined, main, count, &mut out)?;
+    lower_all_unwritten(alloc, names, unwritten, count, &mut out)?;
+    let sites = sites_of(alloc, program)?;
+    let texts = texts_of(alloc, program)?;
+    let classes = cells_of_classes(alloc, program, names.sizes())?;
+    let mut code = out.finish(sites, texts, classes);
+    code.tabulate(alloc)?;
+    Ok(code)
+}
+
 // The code of a program that fits, of whose classes these are the numbers, and these the routines that nobody wrote.
 fn lower_all(
     alloc: Global,
@@ -80,22 +117,13 @@ fn lower_all(
     requires few { count + length unwritten.now < 2 ^ 32 }
     requires numbers { numbers.items ≡ map (number_of_class program.now) (classes_of program.now.items) }
     ensures lowered { IfOk result (λ code. Lowered (source_of program.now) code) }
-    ensures paced { IfOk result (λ code. IsPaced code.ops code.routines) }
+    ensures paced { IfOk result (λ code. IsPaced (laid_of code) code.routines) }
     ensures few { IfOk result (λ code. length code.ops ≤ OPS_FOR_SIZE * program_size program.now) }
 {
     let numbering = numbering_of(alloc, defined, count, unwritten, numbers)?;
     let names = ProgramNames::new(alloc, sizes, numbering)?;
-    let mut out = Draft::new(alloc, no_code(alloc, defined.len() + unwritten.len())?);
-    let main = match number_of_main(&program.items) {
-        Some(main) => main,
-        None => return Err(AllocError),
-    };
-    lower_routines(alloc, &names, defined, main, count, &mut out)?;
-    lower_all_unwritten(alloc, &names, unwritten, count, &mut out)?;
-    let sites = sites_of(alloc, program)?;
-    let texts = texts_of(alloc, program)?;
-    let classes = cells_of_classes(alloc, program, sizes)?;
-    Ok(out.finish(sites, texts, classes))
+    let code = lower_named(alloc, program, &names, defined, count, unwritten);
+    code
 }
 
 // Whether all routines have numbers.
@@ -123,7 +151,7 @@ fn lower_fit(
     requires defined { map defined_at defined.now ≡ routines_of program.now }
     requires count { count ≡ length defined.now }
     ensures lowered { IfOk result (λ code. Lowered (source_of program.now) code) }
-    ensures paced { IfOk result (λ code. IsPaced code.ops code.routines) }
+    ensures paced { IfOk result (λ code. IsPaced (laid_of code) code.routines) }
     ensures few { IfOk result (λ code. length code.ops ≤ OPS_FOR_SIZE * program_size program.now) }
 {
     let numbers = numbers_of_classes(alloc, program)?;
@@ -148,7 +176,7 @@ fn lower_defined(
     requires defined { map defined_at defined.now ≡ routines_of program.now }
     requires count { count ≡ length defined.now }
     ensures lowered { IfOk result (λ code. Lowered (source_of program.now) code) }
-    ensures paced { IfOk result (λ code. IsPaced code.ops code.routines) }
+    ensures paced { IfOk result (λ code. IsPaced (laid_of code) code.routines) }
     ensures few { IfOk result (λ code. length code.ops ≤ OPS_FOR_SIZE * program_size program.now) }
     ensures fits { IfOk result (λ code. Fits program.now) }
     ensures refused { IfErr result (λ fault. Refuses program.now fault) }
@@ -166,14 +194,14 @@ fn lower_defined(
     }
 }
 
-/// The code of a program whose forms are built and that breaks no rule, of which these are the sizes. Its frames are tested first, then its size. The
-/// code has at most `OPS_FOR_SIZE` ops for each unit of the program's size.
+/// The code of a program whose forms are built and that breaks no rule, of which these are the sizes. Its frames are tested first,
+/// then its size. The code has at most `OPS_FOR_SIZE` ops for each unit of the program's size.
 pub fn lower(alloc: Global, program: &Program, sizes: &Sizes) -> Result<Code, LowerFault>
     requires built { IsBuilt program.now }
     requires unbroken { breaks_of program.now ≡ [] }
     requires sizes { sizes.now ≡ program.now }
     ensures lowered { IfOk result (λ code. Lowered (source_of program.now) code) }
-    ensures paced { IfOk result (λ code. IsPaced code.ops code.routines) }
+    ensures paced { IfOk result (λ code. IsPaced (laid_of code) code.routines) }
     ensures few { IfOk result (λ code. length code.ops ≤ OPS_FOR_SIZE * program_size program.now) }
     ensures fits { IfOk result (λ code. Fits program.now) }
     ensures refused { IfErr result (λ fault. Refuses program.now fault) }

@@ -1,7 +1,8 @@
 // The program's main among its routines.
 
-ghost use Rattle.std.specs.Prelude.{◌≡◌, ◌+◌, ◌≤◌, length, IfSome};
+ghost use Rattle.std.specs.Prelude.{◌≡◌, ◌+◌, ◌^◌, ◌≤◌, None, length, IfSome};
 ghost use Rattle.uc_tree.specs.Programs.{Program};
+ghost use Rattle.uc_tree.specs.Numbering.{items_defined};
 ghost use Rattle.uc_tree.specs.ProgramMain.{is_main_item, main_among};
 ghost use Rattle.uc_lower.specs.Mains.{routines_in, routines_in_form, routines_in_members};
 
@@ -58,7 +59,8 @@ fn routines_in(item: &Item) -> usize
 
 // The number behind so many routines more.
 fn number_behind(number: u32, more: usize) -> Option<u32>
-    ensures { IfSome result (λ n. n ≡ number + more) }
+    ensures number { IfSome result (λ n. n ≡ number + more) }
+    ensures none { result ≡ None → 2 ^ 32 ≤ number + more }
 {
     match u32::try_from(more) {
         Ok(more) => number.checked_add(more),
@@ -66,10 +68,11 @@ fn number_behind(number: u32, more: usize) -> Option<u32>
     }
 }
 
-/// The number of the program's main among its routines; where there is no main it is that of no routine. None where a number is
-/// not below 2^32.
+/// The number of the program's main among its routines; where there is no main it is that of no routine. None only where there are
+/// 2^32 routines or more.
 pub fn number_of_main(items: &[Item]) -> Option<u32>
-    ensures { IfSome result (λ n. (p : Program) → n ≡ main_among p items.now) }
+    ensures number { IfSome result (λ n. (p : Program) → n ≡ main_among p items.now) }
+    ensures none { result ≡ None → (p : Program) → 2 ^ 32 ≤ length (items_defined p items.now) }
 {
     let mut number: u32 = 0;
     for item in items {

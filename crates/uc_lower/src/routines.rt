@@ -8,13 +8,14 @@ ghost use Rattle.uc_tree.specs.Gathered.{gathered_all};
 ghost use Rattle.uc_tree.specs.Numbering.{is_plain, own_sites, own_texts, routines_of};
 ghost use Rattle.uc_tree.specs.Objects.{unwritten_of};
 ghost use Rattle.uc_tree.specs.ProgramMain.{main_number};
-ghost use Rattle.uc_tree.specs.Resolve.{routine_meant, routine_scope};
+ghost use Rattle.uc_tree.specs.Resolve.{place_by, routine_meant, routine_scope};
 ghost use Rattle.uc_built.specs.BuiltForms.{are_built, IsBuilt};
 ghost use Rattle.uc_meaning.specs.Breaks.{breaks_of};
 ghost use Rattle.uc_code.specs.Laid.{laid_in};
 ghost use Rattle.uc_code.specs.Lowered.{RoutineAt};
 ghost use Rattle.uc_code.specs.Ranges.{Kept};
 ghost use Rattle.uc_numbers.specs.Routines.{defined_at};
+ghost use Rattle.uc_lower_stmt.specs.Routines.{frame_cells};
 ghost use Rattle.uc_unwritten.specs.Unwritten.{unwritten_as};
 ghost use Rattle.uc_lower.specs.Laying.{Lays, LaysAll, routine_room};
 ghost use Rattle.uc_lower.specs.Refusing.{Fits};
@@ -23,7 +24,8 @@ use std::alloc::{AllocError, Global};
 use uc_code::draft::Draft;
 use uc_code::rows::RoutineCode;
 use uc_lower_class::builder::{lower_builder, lower_unwritten};
-use uc_lower_expr::program_names::{ProgramNames, sig_of};
+use uc_lower_expr::events::builds_event;
+use uc_lower_expr::program_names::{ProgramNames, name_of, sig_of};
 use uc_lower_stmt::routine::lower_routine;
 use uc_numbers::routines::Defined;
 use uc_tree::class::Sig;
@@ -54,13 +56,26 @@ fn is_plain(sig: &Sig) -> bool
     }
 }
 
-// Adds the code of a written routine, behind so many text literals and accept statements of the program.
+// The place of the class of a routine. That of an event has no number, but its constructor has its name.
+fn class_of(names: &ProgramNames, one: &Defined) -> Option<usize>
+    ensures { result ≡ place_by names.now (defined_at one.now) }
+{
+    let sig = sig_of(one.routine);
+    if builds_event(one.number, sig) {
+        return names.sizes().event_named(name_of(sig));
+    }
+    names.class_of(one.number)
+}
+
+// Adds the code of a written routine, behind so many text literals and accept statements of the program, where `last` is the number
+// of the last one that is written.
 fn lower_written(
     alloc: Global,
     names: &ProgramNames,
     one: &Defined,
     main: bool,
     number: u32,
+    last: u32,
     texts: u32,
     sites: u32,
     out: &mut Draft,
@@ -70,28 +85,32 @@ fn lower_written(
     requires built { are_built one.now.routine.now.body ≡ true }
     requires params { length one.now.routine.now.sig.params ≤ PROGRAM_SIZE }
     requires known { number < length out.old.routines }
-    requires written { number < length (routines_of names.now) }
+    requires behind { number ≤ last }
+    requires written { last < length (routines_of names.now) }
     requires outside { out.old.marks ≡ [] }
     requires room { length out.old.ops + routine_room names.now (defined_at one.now) ≤ PROGRAM_OPS }
     requires cells { routine_cells names.now one.now.routine.now ≤ FRAME_CELLS }
     requires texts { texts + stmts_size one.now.routine.now.body ≤ PROGRAM_SIZE }
     ensures kept { OnOk result (Kept (laid_in out.old) (laid_in out.new)) }
     ensures room { OnOk result (length out.new.ops ≤ length out.old.ops + routine_room names.now (defined_at one.now)) }
-    ensures code { OnOk result (RoutineAt (laid_in out.new) number (routine_meant names.now one.now.routine.now (routine_scope names.now one.now.routine.now.sig.params one.now.number number texts sites)) (record { entry = length out.old.ops; cells = routine_cells names.now one.now.routine.now; params = length one.now.routine.now.sig.params }) (length out.old.ops) (length out.new.ops)) }
-    ensures written { OnOk result (out.new.routines ≡ slice_set out.old.routines number (record { entry = length out.old.ops; cells = routine_cells names.now one.now.routine.now; params = length one.now.routine.now.sig.params })) }
+    ensures code { OnOk result (RoutineAt (laid_in out.new) last number (routine_meant names.now one.now.routine.now (routine_scope names.now one.now.routine.now (place_by names.now (defined_at one.now)) number texts sites)) (record { entry = length out.old.ops; cells = frame_cells names.now one.now.routine.now; params = length one.now.routine.now.sig.params }) (length out.old.ops) (length out.new.ops)) }
+    ensures written { OnOk result (out.new.routines ≡ slice_set out.old.routines number (record { entry = length out.old.ops; cells = frame_cells names.now one.now.routine.now; params = length one.now.routine.now.sig.params })) }
     ensures outside { OnOk result (out.new.marks ≡ []) }
     ensures texts { OnOk result (out.new.texts ≡ texts + length (gathered_all own_texts one.now.routine.now.body)) }
     ensures few_texts { OnOk result (out.new.texts ≤ texts + stmts_size one.now.routine.now.body) }
     ensures sites { OnOk result (out.new.sites ≡ sites + length (gathered_all (own_sites None 0) one.now.routine.now.body)) }
 {
     let routine = one.routine;
+    let class = class_of(names, one);
     if is_plain(sig_of(routine)) {
         lower_routine(
-            alloc, names, routine, main, one.number, number, texts, sites, out,
+            alloc, names, routine, main, class, number, last, texts, sites, out,
         )?;
         return Ok(());
     }
-    lower_builder(alloc, names, routine, one.number, number, texts, sites, out)?;
+    lower_builder(
+        alloc, names, routine, class, number, last, texts, sites, out,
+    )?;
     Ok(())
 }
 
@@ -120,7 +139,8 @@ pub(crate) fn lower_routines(
     for number in 0..count {
         let d = &defined[number as usize];
         let is_main = number == main;
-        lower_written(alloc, names, d, is_main, number, texts, sites, out)?;
+        let last = count - 1;
+        lower_written(alloc, names, d, is_main, number, last, texts, sites, out)?;
         texts = out.texts();
         sites = out.sites();
     }

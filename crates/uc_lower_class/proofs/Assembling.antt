@@ -6,7 +6,7 @@ use Rattle.uc_tree.specs.Cells.{declared_cells, stmts_cells}
 use Rattle.uc_tree.specs.Scopes.{stmts_scopes}
 use Rattle.uc_tree.specs.StatementSizes.{stmts_size}
 use Rattle.uc_tree.specs.Programs.{Class, Init, Program, Routine}
-use Rattle.uc_tree.specs.Objects.{class_at, place_of}
+use Rattle.uc_tree.specs.Objects.{class_at}
 use Rattle.uc_tree.specs.Source.{Expr, Stmt, Stmts, Nil, Then, Built, Whole}
 use Rattle.uc_tree.specs.Resolve.{Meant, Scope, body_by, build, class_by, clean_up, construction, destruction, nowhere, place_or_zero, scope_behind, stmts_meant, unwritten_body}
 use Rattle.uc_code.specs.declared.rows.Mark.{Mark}
@@ -70,11 +70,11 @@ left_destruction p (Some i) ss = all_destruction p i (class_at p i) ss
 abbrev block_of_body : Program → Routine → Scope → Stmt
 block_of_body p r s = Whole r.brace.line (stmts_meant p r.body s)
 
-pub constructor_body : (p : Program) (place : Option ℕ) (r : Routine) (s : Scope) → place ≡ place_of p s.class → built_at p place r s (Then (block_of_body p r s) Nil) ≡ body_by p role.Constructor r s
+pub constructor_body : (p : Program) (place : Option ℕ) (r : Routine) (s : Scope) → place ≡ s.class → built_at p place r s (Then (block_of_body p r s) Nil) ≡ body_by p role.Constructor r s
 constructor_body p place r s e =
     built_construction p place r s (Then (block_of_body p r s) Nil) ∙ ap (λ (o : Option ℕ). construction p (class_by p o) (place_or_zero p o) r.inits s (Then (block_of_body p r s) Nil)) e
 
-pub destructor_body : (p : Program) (place : Option ℕ) (r : Routine) (s : Scope) → place ≡ place_of p s.class → left_at p place (Then (block_of_body p r s) Nil) ≡ body_by p role.Destructor r s
+pub destructor_body : (p : Program) (place : Option ℕ) (r : Routine) (s : Scope) → place ≡ s.class → left_at p place (Then (block_of_body p r s) Nil) ≡ body_by p role.Destructor r s
 destructor_body p place r s e =
     left_destruction p place (Then (block_of_body p r s) Nil) ∙ ap (λ (o : Option ℕ). destruction p (class_by p o) (place_or_zero p o) (Then (block_of_body p r s) Nil)) e
 
@@ -88,7 +88,7 @@ whole_on : (p : Program) (r : Routine) (s : Scope) (old new : Draft) → scope_o
 whole_on p r s old new e h =
     subst (λ (t : Scope). Lowers (whole_room r) (stmts_size r.body) (stmts_cells r.body (declared_cells p)) (stmts_scopes r.body) (λ code. StmtAt code old.marks (block_of_body p r t)) (scope_behind p r.body t) old new) e h
 
-pub constructor_laid : (p : Program) (place : Option ℕ) (r : Routine) (us : List ObjectCall) (d0 d1 d2 new : Draft) → place ≡ place_of p d0.place.class → Constructs (built_room p place r) (built_at p place r (scope_of d0)) [] d0 us d1 → LowersWhole p r d1 d2 → EndsParts (reverse us) d2 new → LowersBody p role.Constructor r d0 new
+pub constructor_laid : (p : Program) (place : Option ℕ) (r : Routine) (us : List ObjectCall) (d0 d1 d2 new : Draft) → place ≡ d0.place.class → Constructs (built_room p place r) (built_at p place r (scope_of d0)) [] d0 us d1 → LowersWhole p r d1 d2 → EndsParts (reverse us) d2 new → LowersBody p role.Constructor r d0 new
 constructor_laid p place r us d0 d1 d2 new e h w g =
     let scope : scope_of d1 ≡ scope_of d0 = ap scope_of h.rest in
     let all = arm_built (built_room p place r) (whole_room r) (stmts_size r.body) (stmts_cells r.body (declared_cells p)) (stmts_scopes r.body) (built_at p place r (scope_of d0)) us (block_of_body p r (scope_of d0)) (scope_behind p r.body (scope_of d0)) d0 d1 d2 new h (whole_on p r (scope_of d0) d1 d2 scope w) g in
@@ -96,7 +96,7 @@ constructor_laid p place r us d0 d1 d2 new e h w g =
     subst (λ (ss : Stmts). low_body p r (role_room p role.Constructor place r) ss d0 new) (constructor_body p place r (scope_of d0) e) (lowers_as all refl (λ code x z q. q) (omega arith) (omega arith) (omega arith) refl) in
     subst (λ (o : Option ℕ). low_body p r (role_room p role.Constructor o r) (body_by p role.Constructor r (scope_of d0)) d0 new) e placed
 
-pub destructor_laid : (p : Program) (place : Option ℕ) (r : Routine) (depth : ℕ) (d0 d1 d2 new : Draft) → place ≡ place_of p d0.place.class → depth ≡ length d0.marks → Opens (count_fields (class_by p place)) (left_at p place) d0 d1 → LowersWhole p r d1 d2 → EndsScopes depth d2 new → LowersBody p role.Destructor r d0 new
+pub destructor_laid : (p : Program) (place : Option ℕ) (r : Routine) (depth : ℕ) (d0 d1 d2 new : Draft) → place ≡ d0.place.class → depth ≡ length d0.marks → Opens (count_fields (class_by p place)) (left_at p place) d0 d1 → LowersWhole p r d1 d2 → EndsScopes depth d2 new → LowersBody p role.Destructor r d0 new
 destructor_laid p place r depth d0 d1 d2 new e q h w g =
     let whole = whole_on p r (scope_of d0) d1 d2 h.scope w in
     let all = lays_ended depth q (lays_join h (lays_one {s = block_of_body p r (scope_of d0)} 0 whole)) g in

@@ -1,13 +1,14 @@
 -- The code of constructors and destructors.
-use Rattle.std.proofs.Common.{◌≡◌, ℕ, ◌+◌, ◌≤◌, Bool, false, List, [], ◌∷◌, ◌++◌, length, nat_eq, refl, ap, sym, subst, ◌∙◌, arith}
-use Rattle.std.specs.Prelude.{None, slice_set, if◌then◌else◌}
+use Rattle.std.proofs.Common.{◌≡◌, ℕ, ◌+◌, ◌*◌, ◌≤◌, ◌<◌, Bool, true, false, List, [], ◌∷◌, ◌++◌, length, nat_eq, refl, ap, sym, subst, ◌∙◌, arith}
+use Rattle.std.specs.Prelude.{Option, None, max, slice_set, if◌then◌else◌}
+use Rattle.std.proofs.Math.Nat.{max-eq_left, max-eq_right}
 use Rattle.uc_tree.specs.declared.kinds.Base.{Base}
 use Rattle.uc_tree.specs.declared.kinds.Param.{Param}
 use Rattle.uc_tree.specs.declared.kinds.Role.{Role}
 use Rattle.uc_tree.specs.declared.kinds.Role.TheVariants as role
 use Rattle.uc_tree.specs.Gathered.{gathered_all}
 use Rattle.uc_tree.specs.Numbering.{is_plain, own_texts, own_sites}
-use Rattle.uc_tree.specs.Objects.{Unwritten, class_at, place_of}
+use Rattle.uc_tree.specs.Objects.{Unwritten, class_at}
 use Rattle.uc_tree.specs.ProgramMain.{main_number}
 use Rattle.uc_tree.specs.StatementSizes.{stmts_size}
 use Rattle.uc_tree.specs.Cells.{declared_cells, params_cells, routine_cells, stmts_cells}
@@ -25,24 +26,25 @@ use Rattle.uc_code.specs.Drafts.{Draft}
 use Rattle.uc_code.specs.Laid.{Laid, laid_in}
 use Rattle.uc_code.specs.Open.{left_marks}
 use Rattle.uc_code.specs.Ranges.{Both, Kept, One}
-use Rattle.uc_code.specs.Lowered.{StmtsAt, EndAt, RoutineAt, body_line, body_mark}
+use Rattle.uc_code.specs.Lowered.{StmtsAt, BodyAt, RoutineAt}
 use Rattle.uc_code.proofs.Stable.{kept_then, kept_same}
 use Rattle.uc_lower_expr.specs.Added.{Adds, OpCode}
+use Rattle.uc_lower_stmt.specs.Routines.{frame_cells}
 use Rattle.uc_lower_stmt.specs.Scoped.{Lowers, scope_of}
 use Rattle.uc_lower_stmt.proofs.Counted.{behind_counted}
 use Rattle.uc_lower_stmt.proofs.Kept.{stmts_stable}
 use Rattle.uc_lower_class.specs.Bodies.{LowersBody, LowersUnwritten, builder_room, role_room, unwritten_room}
 
 -- a routine with this body is laid out, and written down under its number
-pub record Placed (number n : ℕ) (body : source.Stmts) (begins : RoutineCode) (old new : Draft) : Type 0 where
+pub record Placed (home number n : ℕ) (body : source.Stmts) (begins : RoutineCode) (old new : Draft) : Type 0 where
   pub kept : Kept (laid_in old) (laid_in new)
   pub room : length new.ops ≤ length old.ops + (n + 1)
-  pub code : Both (StmtsAt (laid_in new) (mark.Body number ∷ []) 0 body) (One (laid_in new) op.Return 0) (length old.ops) (length new.ops)
+  pub code : Both (StmtsAt (laid_in new) (mark.Body home ∷ []) 0 body) (One (laid_in new) op.Return 0) (length old.ops) (length new.ops)
   pub written : new.routines ≡ slice_set old.routines number begins
   pub outside : new.marks ≡ []
 
-module _ (number n k c o : ℕ) (body : source.Stmts) (after : Scope) (begins : RoutineCode) (d0 first d2 d3 d4 new : Draft)
-    (fm : first.marks ≡ mark.Body number ∷ []) (fo : first.ops ≡ d0.ops) (fw : first.rows ≡ d0.rows) (fr : first.routines ≡ d0.routines)
+module _ (home number n k c o : ℕ) (body : source.Stmts) (after : Scope) (begins : RoutineCode) (d0 first d2 d3 d4 new : Draft)
+    (fm : first.marks ≡ mark.Body home ∷ []) (fo : first.ops ≡ d0.ops) (fw : first.rows ≡ d0.rows) (fr : first.routines ≡ d0.routines)
     (h : Lowers n k c o (λ code. StmtsAt code first.marks 0 body) after first d2) (lv : d3 ≡ record d2 { marks = left_marks d2.marks }) (g : Adds 1 (OpCode 0 op.Return) d3 d4)
     (e : new ≡ record d4 { routines = slice_set d4.routines number begins }) where
   marks_three : d3.marks ≡ []
@@ -69,17 +71,17 @@ module _ (number n k c o : ℕ) (body : source.Stmts) (after : Scope) (begins : 
   kept_two : Kept (laid_in d2) (laid_in new)
   kept_two = subst (λ (code : Laid). Kept (laid_in d2) code) (sym laid_new) (subst (λ (code : Laid). Kept code (laid_in d4)) laid_three g.kept)
 
-  body_at : StmtsAt (laid_in new) (mark.Body number ∷ []) 0 body (length d0.ops) (length d2.ops)
+  body_at : StmtsAt (laid_in new) (mark.Body home ∷ []) 0 body (length d0.ops) (length d2.ops)
   body_at =
-      (stmts_stable (mark.Body number ∷ []) 0 body).moves (laid_in d2) (laid_in new) (length d0.ops) (length d2.ops) (kept_same (laid_in d2) (laid_in new) (length d0.ops) (length d2.ops) (omega arith) kept_two)
-      (subst (λ (a : ℕ). StmtsAt (laid_in d2) (mark.Body number ∷ []) 0 body a (length d2.ops)) ops_first (subst (λ (ms : List Mark). StmtsAt (laid_in d2) ms 0 body (length first.ops) (length d2.ops)) fm h.code))
+      (stmts_stable (mark.Body home ∷ []) 0 body).moves (laid_in d2) (laid_in new) (length d0.ops) (length d2.ops) (kept_same (laid_in d2) (laid_in new) (length d0.ops) (length d2.ops) (omega arith) kept_two)
+      (subst (λ (a : ℕ). StmtsAt (laid_in d2) (mark.Body home ∷ []) 0 body a (length d2.ops)) ops_first (subst (λ (ms : List Mark). StmtsAt (laid_in d2) ms 0 body (length first.ops) (length d2.ops)) fm h.code))
 
   end_at : One (laid_in new) op.Return 0 (length d2.ops) (length new.ops)
   end_at =
       subst (λ (z : ℕ). One (laid_in new) op.Return 0 (length d2.ops) z) (sym ops_new) (
       subst (λ (code : Laid). One code op.Return 0 (length d2.ops) (length d4.ops)) (sym laid_new) (subst (λ (a : ℕ). One (laid_in d4) op.Return 0 a (length d4.ops)) ops_three g.code))
 
-  pub arm_placed : Placed number n body begins d0 new
+  pub arm_placed : Placed home number n body begins d0 new
   arm_placed = record {
     kept = kept_then (laid_in d0) (laid_in d2) (laid_in new) (subst (λ (code : Laid). Kept code (laid_in d2)) laid_first h.kept) kept_two;
     room = let x = h.room in let y = g.room in let a = ops_three in let b = ops_new in let f = ops_first in omega arith;
@@ -96,15 +98,15 @@ module _ (number n k c o : ℕ) (body : source.Stmts) (after : Scope) (begins : 
 
 -- a written one
 
-abbrev begun_by : Program → List Param → ℕ → ℕ → ℕ → ℕ → Draft → Draft
-begun_by p xs class number texts sites d = record d { place = record { class = class; routine = number; scope = 0 }; marks = mark.Body number ∷ []; scopes = 0; names = [] ++ params_known p 0 xs; cells = 0 + params_cells p xs; texts = texts; sites = sites }
+abbrev begun_by : Program → List Param → ℕ → Option ℕ → ℕ → ℕ → ℕ → ℕ → Draft → Draft
+begun_by p xs last class number hidden texts sites d = record d { place = record { class = class; routine = number; scope = 0 }; marks = mark.Body last ∷ []; scopes = 0; names = [] ++ params_known p 0 xs; handled = 0; cells = 0 + params_cells p xs; hidden = hidden; texts = texts; sites = sites }
 
-pub begun_is : (p : Program) (r : Routine) (class number texts sites : ℕ) (xs : List Param) (d0 db dp d1 : Draft) → xs ≡ r.sig.params
-    → db ≡ record d0 { place = record { class = class; routine = number; scope = 0 }; marks = []; scopes = 0; names = []; cells = 0; texts = texts; sites = sites }
-    → dp ≡ record db { names = db.names ++ params_known p db.cells xs; cells = db.cells + params_cells p xs } → d1 ≡ record dp { marks = mark.Body number ∷ dp.marks } → d1 ≡ begun_by p r.sig.params class number texts sites d0
-begun_is p r class number texts sites xs d0 db dp d1 xe e1 e2 e3 =
-    e3 ∙ ap (λ (x : Draft). let d : Draft = record x { marks = mark.Body number ∷ x.marks } in d) (e2 ∙ ap (λ (x : Draft). let d : Draft = record x { names = x.names ++ params_known p x.cells xs; cells = x.cells + params_cells p xs } in d) e1)
-    ∙ ap (λ (ys : List Param). begun_by p ys class number texts sites d0) xe
+pub begun_is : (p : Program) (r : Routine) (last : ℕ) (class : Option ℕ) (number hidden texts sites : ℕ) (xs : List Param) (d0 db dp d1 : Draft) → xs ≡ r.sig.params → hidden ≡ routine_cells p r
+    → db ≡ record d0 { place = record { class = class; routine = number; scope = 0 }; marks = []; scopes = 0; names = []; handled = 0; cells = 0; hidden = hidden; texts = texts; sites = sites }
+    → dp ≡ record db { names = db.names ++ params_known p db.cells xs; cells = db.cells + params_cells p xs } → d1 ≡ record dp { marks = mark.Body last ∷ dp.marks } → d1 ≡ begun_by p r.sig.params last class number (routine_cells p r) texts sites d0
+begun_is p r last class number hidden texts sites xs d0 db dp d1 xe he e1 e2 e3 =
+    e3 ∙ ap (λ (x : Draft). let d : Draft = record x { marks = mark.Body last ∷ x.marks } in d) (e2 ∙ ap (λ (x : Draft). let d : Draft = record x { names = x.names ++ params_known p x.cells xs; cells = x.cells + params_cells p xs } in d) e1)
+    ∙ ap (λ (ys : List Param). begun_by p ys last class number hidden texts sites d0) xe ∙ ap (λ (n : ℕ). begun_by p r.sig.params last class number n texts sites d0) he
 
 builds_role : (p : Program) (x : Role) (b : Base) → is_plain x ≡ false → role_purpose p x b ≡ source.Builder
 builds_role p role.Plain b e = cc
@@ -115,28 +117,28 @@ pub builder_purpose : (p : Program) (r : Routine) (number : ℕ) → is_plain r.
 builder_purpose p r number e m = ap (λ (b : Bool). if b then source.TaskMain else role_purpose p r.sig.role r.sig.ret) m ∙ builds_role p r.sig.role r.sig.ret e
 
 -- what lowering one does to a draft
-pub record Written (p : Program) (r : Routine) (s : Scope) (class number : ℕ) (old new : Draft) : Type 0 where
+pub record Written (p : Program) (r : Routine) (s : Scope) (class : Option ℕ) (last number : ℕ) (old new : Draft) : Type 0 where
   pub kept : Kept (laid_in old) (laid_in new)
   pub room : length new.ops ≤ length old.ops + builder_room p r class
-  pub code : RoutineAt (laid_in new) number (routine_meant p r s) (record { entry = length old.ops; cells = routine_cells p r; params = length r.sig.params }) (length old.ops) (length new.ops)
-  pub written : new.routines ≡ slice_set old.routines number (record { entry = length old.ops; cells = routine_cells p r; params = length r.sig.params })
+  pub code : RoutineAt (laid_in new) last number (routine_meant p r s) (record { entry = length old.ops; cells = frame_cells p r; params = length r.sig.params }) (length old.ops) (length new.ops)
+  pub written : new.routines ≡ slice_set old.routines number (record { entry = length old.ops; cells = frame_cells p r; params = length r.sig.params })
   pub outside : new.marks ≡ []
   pub texts : new.texts ≡ s.texts + length (gathered_all own_texts r.body)
   pub few_texts : new.texts ≤ s.texts + stmts_size r.body
   pub sites : new.sites ≡ s.sites + length (gathered_all (own_sites None 0) r.body)
 
-module _ (p : Program) (r : Routine) (wanted : Role) (class number texts sites entry cells params : ℕ) (d0 d1 d2 d3 d4 new : Draft) (we : wanted ≡ r.sig.role) (builds : is_plain r.sig.role ≡ false) (main : nat_eq number (main_number p) ≡ false)
-    (ee : entry ≡ length d0.ops) (ce : cells ≡ routine_cells p r) (pe : params ≡ length r.sig.params) (e1 : d1 ≡ begun_by p r.sig.params class number texts sites d0)
+module _ (p : Program) (r : Routine) (wanted : Role) (class : Option ℕ) (last number texts sites entry cells params : ℕ) (d0 d1 d2 d3 d4 new : Draft) (few : number ≤ last) (we : wanted ≡ r.sig.role) (builds : is_plain r.sig.role ≡ false) (main : nat_eq number (main_number p) ≡ false)
+    (ee : entry ≡ length d0.ops) (ce : cells ≡ d4.hidden) (pe : params ≡ length r.sig.params) (e1 : d1 ≡ begun_by p r.sig.params last class number (routine_cells p r) texts sites d0)
     (h : LowersBody p wanted r d1 d2) (lv : d3 ≡ record d2 { marks = left_marks d2.marks }) (g : Adds 1 (OpCode 0 op.Return) d3 d4)
     (e : new ≡ record d4 { routines = slice_set d4.routines number (record { entry = entry; cells = cells; params = params }) }) where
   abbrev s : Scope
-  s = routine_scope p r.sig.params class number texts sites
+  s = routine_scope p r class number texts sites
 
   abbrev first : Draft
-  first = begun_by p r.sig.params class number texts sites d0
+  first = begun_by p r.sig.params last class number (routine_cells p r) texts sites d0
 
   abbrev begins : RoutineCode
-  begins = record { entry = length d0.ops; cells = routine_cells p r; params = length r.sig.params }
+  begins = record { entry = length d0.ops; cells = frame_cells p r; params = length r.sig.params }
 
   scope_first : scope_of first ≡ s
   scope_first = let z : 0 + params_cells p r.sig.params ≡ params_cells p r.sig.params = omega arith in ap (λ (n : ℕ). let t : Scope = record s { cells = n } in t) z
@@ -144,27 +146,31 @@ module _ (p : Program) (r : Routine) (wanted : Role) (class number texts sites e
   k : LowersBody p r.sig.role r first d2
   k = subst (λ (x : Role). LowersBody p x r first d2) we (subst (λ (d : Draft). LowersBody p wanted r d d2) e1 h)
 
-  low : Lowers (role_room p r.sig.role (place_of p class) r) (stmts_size r.body) (stmts_cells r.body (declared_cells p)) (stmts_scopes r.body) (λ code. StmtsAt code first.marks 0 (body_by p r.sig.role r s)) (scope_behind p r.body (scope_of first)) first d2
+  low : Lowers (role_room p r.sig.role class r) (stmts_size r.body) (stmts_cells r.body (declared_cells p)) (stmts_scopes r.body) (λ code. StmtsAt code first.marks 0 (body_by p r.sig.role r s)) (scope_behind p r.body (scope_of first)) first d2
   low =
-      subst (λ (t : Scope). Lowers (role_room p r.sig.role (place_of p class) r) (stmts_size r.body) (stmts_cells r.body (declared_cells p)) (stmts_scopes r.body) (λ code. StmtsAt code first.marks 0 (body_by p r.sig.role r t)) (scope_behind p r.body (scope_of first)) first d2) scope_first k
+      subst (λ (t : Scope). Lowers (role_room p r.sig.role class r) (stmts_size r.body) (stmts_cells r.body (declared_cells p)) (stmts_scopes r.body) (λ code. StmtsAt code first.marks 0 (body_by p r.sig.role r t)) (scope_behind p r.body (scope_of first)) first d2) scope_first k
+
+  -- the frame ends behind the last hidden cell
+  frame : cells ≡ frame_cells p r
+  frame = ce ∙ ap (λ (t : Scope). t.hidden) (ap scope_of g.rest ∙ ap scope_of lv ∙ low.scope ∙ behind_counted p r.body (scope_of first))
 
   is : new ≡ record d4 { routines = slice_set d4.routines number begins }
   is = e ∙ ap (λ (n : ℕ). let d : Draft = record d4 { routines = slice_set d4.routines number (record { entry = n; cells = cells; params = params }) } in d) ee
-      ∙ ap (λ (n : ℕ). let d : Draft = record d4 { routines = slice_set d4.routines number (record { entry = length d0.ops; cells = n; params = params }) } in d) ce
-      ∙ ap (λ (n : ℕ). let d : Draft = record d4 { routines = slice_set d4.routines number (record { entry = length d0.ops; cells = routine_cells p r; params = n }) } in d) pe
+      ∙ ap (λ (n : ℕ). let d : Draft = record d4 { routines = slice_set d4.routines number (record { entry = length d0.ops; cells = n; params = params }) } in d) frame
+      ∙ ap (λ (n : ℕ). let d : Draft = record d4 { routines = slice_set d4.routines number (record { entry = length d0.ops; cells = frame_cells p r; params = n }) } in d) pe
 
   abbrev room_is : ℕ
-  room_is = role_room p r.sig.role (place_of p class) r
+  room_is = role_room p r.sig.role class r
 
-  placed : Placed number room_is (body_by p r.sig.role r s) begins d0 new
+  placed : Placed last number room_is (body_by p r.sig.role r s) begins d0 new
   placed =
-      arm_placed number room_is (stmts_size r.body) (stmts_cells r.body (declared_cells p)) (stmts_scopes r.body) (body_by p r.sig.role r s) (scope_behind p r.body (scope_of first)) begins d0 first d2 d3 d4 new refl refl refl refl low lv g is
+      arm_placed last number room_is (stmts_size r.body) (stmts_cells r.body (declared_cells p)) (stmts_scopes r.body) (body_by p r.sig.role r s) (scope_behind p r.body (scope_of first)) begins d0 first d2 d3 d4 new refl refl refl refl low lv g is
 
   scope_is : scope_of new ≡ scope_behind p r.body (scope_of first)
   scope_is =
-      scope_new number room_is (stmts_size r.body) (stmts_cells r.body (declared_cells p)) (stmts_scopes r.body) (body_by p r.sig.role r s) (scope_behind p r.body (scope_of first)) begins d0 first d2 d3 d4 new refl refl refl refl low lv g is
+      scope_new last number room_is (stmts_size r.body) (stmts_cells r.body (declared_cells p)) (stmts_scopes r.body) (body_by p r.sig.role r s) (scope_behind p r.body (scope_of first)) begins d0 first d2 d3 d4 new refl refl refl refl low lv g is
 
-  pub arm_builder : Written p r s class number d0 new
+  pub arm_builder : Written p r s class last number d0 new
   arm_builder =
       let purpose = builder_purpose p r number builds main in
       record {
@@ -174,33 +180,39 @@ module _ (p : Program) (r : Routine) (wanted : Role) (class number texts sites e
           entry = refl;
           cells = refl;
           params = refl;
-          body = subst (λ (q : source.Purpose). Both (StmtsAt (laid_in new) (body_mark q number r.brace.line ∷ []) (body_line q r.brace.line) (body_by p r.sig.role r s)) (EndAt (laid_in new) q r.brace.line) (length d0.ops) (length new.ops)) (sym purpose) placed.code;
+          body = subst (λ (q : source.Purpose). BodyAt (laid_in new) q (max number last) r.brace.line (body_by p r.sig.role r s) (length d0.ops) (length new.ops)) (sym purpose)
+              (subst (λ (n : ℕ). BodyAt (laid_in new) source.Builder n r.brace.line (body_by p r.sig.role r s) (length d0.ops) (length new.ops)) (sym (max-eq_right few)) placed.code);
         };
         written = placed.written;
         outside = placed.outside;
         texts = ap (λ (t : Scope). t.texts) (scope_is ∙ behind_counted p r.body (scope_of first));
-        few_texts = texts_new number room_is (stmts_size r.body) (stmts_cells r.body (declared_cells p)) (stmts_scopes r.body) (body_by p r.sig.role r s) (scope_behind p r.body (scope_of first)) begins d0 first d2 d3 d4 new refl refl refl refl low lv g is;
+        few_texts = texts_new last number room_is (stmts_size r.body) (stmts_cells r.body (declared_cells p)) (stmts_scopes r.body) (body_by p r.sig.role r s) (scope_behind p r.body (scope_of first)) begins d0 first d2 d3 d4 new refl refl refl refl low lv g is;
         sites = ap (λ (t : Scope). t.sites) (scope_is ∙ behind_counted p r.body (scope_of first));
       }
 
 -- one that nobody wrote
 
-pub bare_is : (number : ℕ) (d0 db d1 : Draft) → db ≡ record d0 { place = record { class = 0; routine = 0; scope = 0 }; marks = []; scopes = 0; names = []; cells = 0; texts = 0; sites = 0 } → d1 ≡ record db { marks = mark.Body number ∷ db.marks }
-    → d1 ≡ record d0 { place = record { class = 0; routine = 0; scope = 0 }; marks = mark.Body number ∷ []; scopes = 0; names = []; cells = 0; texts = 0; sites = 0 }
+pub bare_is : (number : ℕ) (d0 db d1 : Draft) → db ≡ record d0 { place = record { class = None; routine = 0; scope = 0 }; marks = []; scopes = 0; names = []; handled = 0; cells = 0; hidden = 0; texts = 0; sites = 0 } → d1 ≡ record db { marks = mark.Body number ∷ db.marks }
+    → d1 ≡ record d0 { place = record { class = None; routine = 0; scope = 0 }; marks = mark.Body number ∷ []; scopes = 0; names = []; handled = 0; cells = 0; hidden = 0; texts = 0; sites = 0 }
 bare_is number d0 db d1 e1 e2 = e2 ∙ ap (λ (x : Draft). let d : Draft = record x { marks = mark.Body number ∷ x.marks } in d) e1
 
 module _ (p : Program) (u : Unwritten) (number entry : ℕ) (d0 d1 d2 d3 d4 new : Draft) (ee : entry ≡ length d0.ops)
-    (e1 : d1 ≡ record d0 { place = record { class = 0; routine = 0; scope = 0 }; marks = mark.Body number ∷ []; scopes = 0; names = []; cells = 0; texts = 0; sites = 0 })
+    (e1 : d1 ≡ record d0 { place = record { class = None; routine = 0; scope = 0 }; marks = mark.Body number ∷ []; scopes = 0; names = []; handled = 0; cells = 0; hidden = 0; texts = 0; sites = 0 })
     (h : LowersUnwritten p u.role u.class d1 d2) (lv : d3 ≡ record d2 { marks = left_marks d2.marks }) (g : Adds 1 (OpCode 0 op.Return) d3 d4)
     (e : new ≡ record d4 { routines = slice_set d4.routines number (record { entry = entry; cells = 0; params = 0 }) }) where
   abbrev bare : Draft
-  bare = record d0 { place = record { class = 0; routine = 0; scope = 0 }; marks = mark.Body number ∷ []; scopes = 0; names = []; cells = 0; texts = 0; sites = 0 }
+  bare = record d0 { place = record { class = None; routine = 0; scope = 0 }; marks = mark.Body number ∷ []; scopes = 0; names = []; handled = 0; cells = 0; hidden = 0; texts = 0; sites = 0 }
 
-  pub arm_unwritten : Placed number (unwritten_room u.role (class_at p u.class)) (unwritten_body p u.role u.class) (record { entry = length d0.ops; cells = 0; params = 0 }) d0 new
+  pub arm_unwritten : Placed number number (unwritten_room u.role (class_at p u.class)) (unwritten_body p u.role u.class) (record { entry = length d0.ops; cells = 0; params = 0 }) d0 new
   arm_unwritten =
-      arm_placed number (unwritten_room u.role (class_at p u.class)) 0 0 0 (unwritten_body p u.role u.class) (scope_of bare) (record { entry = length d0.ops; cells = 0; params = 0 }) d0 bare d2 d3 d4 new refl refl refl refl
+      arm_placed number number (unwritten_room u.role (class_at p u.class)) 0 0 0 (unwritten_body p u.role u.class) (scope_of bare) (record { entry = length d0.ops; cells = 0; params = 0 }) d0 bare d2 d3 d4 new refl refl refl refl
       (subst (λ (d : Draft). LowersUnwritten p u.role u.class d d2) e1 h) lv g
       (e ∙ ap (λ (n : ℕ). let d : Draft = record d4 { routines = slice_set d4.routines number (record { entry = n; cells = 0; params = 0 }) } in d) ee)
 
-  pub unwritten_at : RoutineAt (laid_in new) number (unwritten_meant p u) (record { entry = length d0.ops; cells = 0; params = 0 }) (length d0.ops) (length new.ops)
-  unwritten_at = record { entry = refl; cells = refl; params = refl; body = arm_unwritten.code }
+  pub unwritten_at : (last : ℕ) → last ≤ number → RoutineAt (laid_in new) last number (unwritten_meant p u) (record { entry = length d0.ops; cells = 0; params = 0 }) (length d0.ops) (length new.ops)
+  unwritten_at last l = record {
+    entry = refl;
+    cells = refl;
+    params = refl;
+    body = subst (λ (n : ℕ). BodyAt (laid_in new) source.Builder n 0 (unwritten_body p u.role u.class) (length d0.ops) (length new.ops)) (sym (max-eq_left l)) arm_unwritten.code;
+  }

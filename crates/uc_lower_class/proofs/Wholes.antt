@@ -1,5 +1,5 @@
 -- A block that is left as a whole, and the bodies that are made of it.
-use Rattle.std.proofs.Common.{◌≡◌, ℕ, ◌+◌, ◌*◌, ◌≤◌, List, [], ◌∷◌, ◌++◌, drop, length, reverse, refl, ap, sym, subst, ◌∙◌, arith}
+use Rattle.std.proofs.Common.{◌≡◌, ℕ, ◌+◌, ◌*◌, ◌≤◌, List, [], ◌∷◌, ◌++◌, drop, length, reverse, Some, refl, ap, sym, subst, ◌∙◌, arith}
 use Rattle.std.proofs.lemmas.Option.{slice_get_within}
 use Rattle.uc_tree.specs.Source.{Stmt, Stmts, Nil, Then, Whole}
 use Rattle.uc_tree.specs.declared.limits.TheConstants.{OPS_FOR_SIZE}
@@ -13,16 +13,18 @@ use Rattle.uc_code.specs.declared.op.Op.{Op}
 use Rattle.uc_code.specs.declared.op.Op.TheVariants as op
 use Rattle.uc_code.specs.declared.rows.Mark.{Mark}
 use Rattle.uc_code.specs.declared.rows.Mark.TheVariants as mark
+use Rattle.uc_code.specs.declared.rows.Opening.TheVariants as opening
 use Rattle.uc_code.specs.declared.rows.ObjectCall.{ObjectCall}
 use Rattle.uc_code.specs.Drafts.{Draft, patched}
 use Rattle.uc_code.specs.Laid.{Laid, laid_in}
-use Rattle.uc_code.specs.Open.{left_marks}
-use Rattle.uc_code.specs.Ranges.{OpAt, Kept}
+use Rattle.uc_code.specs.Open.{closed, handler_in, opened, row_in}
+use Rattle.uc_code.specs.Ranges.{HandlerAt, OpAt, Kept, Risk, Same, clean_up}
 use Rattle.uc_code.specs.Lowered.{StmtAt, StmtsAt}
-use Rattle.uc_code.proofs.Patches.{handler_stays, length-patched, patched_at, same_after, same_before}
-use Rattle.uc_code.proofs.Stable.{kept_then}
-use Rattle.uc_lower_expr.specs.Added.{Adds, OpCode}
-use Rattle.uc_lower_stmt.specs.Pending.{block_of}
+use Rattle.uc_code.proofs.Patches.{bare_stays, handler_stays, length-patched, patched_at, same_after, same_before}
+use Rattle.uc_code.proofs.Stable.{kept_piece, kept_then, part, risk_stable}
+use Rattle.uc_code.proofs.Sweeping.{closed_marks, closed_ops, like_closed}
+use Rattle.uc_lower_expr.specs.Added.{Adds, OpCode, RiskCode}
+use Rattle.uc_lower_stmt.specs.Pending.{Step, block_of}
 use Rattle.uc_lower_stmt.specs.Marked.{objects_in}
 use Rattle.uc_lower_stmt.specs.Scoped.{Lowers, LowersStmts, scope_of, sizes_at}
 use Rattle.uc_lower_class.specs.Bodies.{LowersWhole, whole_room}
@@ -37,26 +39,29 @@ kept_patch old now at o k l = record {
   same = λ i was line w. let x = slice_get_within old.ops i (record { op = was; line = line }) w.here in (same_before now at o 0 at (omega arith)).same i was line (omega arith) (omega arith) (k.same i was line w);
   chains = λ next b. k.chains next b;
   handlers = λ number entry w. handler_stays now (record { ops = patched now.ops at o; rows = now.rows }) refl number entry (k.handlers number entry w);
+  bare = λ number w. bare_stays now (record { ops = patched now.ops at o; rows = now.rows }) refl number (k.bare number w);
 }
 
--- a draft with another op at a place, and these marks
-abbrev ended : Draft → List Mark → ℕ → Op → Draft
-ended d ms at o = record d { ops = patched d.ops at o; marks = ms }
-
-module _ (line start end n k c o : ℕ) (ss : Stmts) (after : Scope) (d0 d1 d2 d3 d4 d5 new : Draft)
-    (st : start ≡ length d0.ops) (g1 : Adds 1 (OpCode line (op.Jump (start + 2))) d0 d1) (g2 : Adds 1 (OpCode line (op.Jump 0)) d1 d2) (en : d3 ≡ record d2 { marks = mark.Whole (start + 1) ∷ d2.marks })
-    (h : Lowers n k c o (λ code. StmtsAt code d3.marks line ss) after d3 d4) (lv : d5 ≡ record d4 { marks = left_marks d4.marks }) (ee : end ≡ length d5.ops) (pt : new ≡ record d5 { ops = patched d5.ops (start + 1) (op.Jump end) }) where
+module _ (line start end n k c o : ℕ) (ss : Stmts) (after : Scope) (d0 d1 d2 d3 d4 d5 d6 d7 new : Draft)
+    (st : start ≡ length d0.ops) (g1 : Adds 1 (OpCode line (op.Jump (start + 2))) d0 d1) (g2 : Adds 1 (OpCode line (op.Jump 0)) d1 d2)
+    (o3 : d3 ≡ opened (opening.Whole (start + 1)) d2) (k3 : Kept (laid_in d2) (laid_in d3)) (h : Lowers n k c o (λ code. StmtsAt code d3.marks line ss) after d3 d4)
+    (c5 : d5 ≡ closed 1 d4) (k5 : Kept (laid_in d4) (laid_in d5)) (h5 : (row : ℕ) → handler_in d4.marks ≡ Some row → HandlerAt (laid_in d5) row (clean_up (length d4.ops + 1)))
+    (ee : end ≡ length d5.ops + 2) (g6 : Adds 1 (OpCode line (op.Jump end)) d5 d6) (g7 : Adds 1 (RiskCode line d6.marks op.Handled) d6 d7)
+    (pt : new ≡ record d7 { ops = patched d7.ops (start + 1) (op.Jump end) }) where
   abbrev a : ℕ
   a = length d0.ops
 
   abbrev ms : List Mark
   ms = d0.marks
 
+  abbrev row : ℕ
+  row = length d2.rows
+
   abbrev was : Laid
-  was = laid_in d4
+  was = laid_in d7
 
   abbrev now : Laid
-  now = record { ops = patched d4.ops (a + 1) (op.Jump (length d4.ops)); rows = d4.rows }
+  now = record { ops = patched d7.ops (a + 1) (op.Jump (length d7.ops)); rows = d7.rows }
 
   long_one : length d1.ops ≡ a + 1
   long_one = g1.code.end
@@ -67,89 +72,150 @@ module _ (line start end n k c o : ℕ) (ss : Stmts) (after : Scope) (d0 d1 d2 d
   marks_two : d2.marks ≡ ms
   marks_two = ap (λ (d : Draft). d.marks) g2.rest ∙ ap (λ (d : Draft). d.marks) g1.rest
 
-  entered : d3 ≡ record d2 { marks = mark.Whole (a + 1) ∷ ms }
-  entered = en ∙ ap (λ (x : ℕ). let d : Draft = record d2 { marks = mark.Whole (x + 1) ∷ d2.marks } in d) st ∙ ap (λ (ns : List Mark). let d : Draft = record d2 { marks = mark.Whole (a + 1) ∷ ns } in d) marks_two
+  entered : d3 ≡ opened (opening.Whole (a + 1)) d2
+  entered = o3 ∙ ap (λ (x : ℕ). opened (opening.Whole (x + 1)) d2) st
 
-  inside : d3.marks ≡ mark.Whole (a + 1) ∷ ms
-  inside = ap (λ (d : Draft). d.marks) entered
+  inside : d3.marks ≡ mark.Whole (a + 1) row ∷ ms
+  inside = ap (λ (d : Draft). d.marks) entered ∙ ap (λ (ns : List Mark). mark.Whole (a + 1) row ∷ ns) marks_two
 
   ops_three : d3.ops ≡ d2.ops
   ops_three = ap (λ (d : Draft). d.ops) entered
 
-  laid_three : laid_in d3 ≡ laid_in d2
-  laid_three = ap laid_in entered
+  long_three : length d3.ops ≡ a + 2
+  long_three = ap length ops_three ∙ long_two
 
-  kept_three : Kept (laid_in d2) was
-  kept_three = subst (λ (code : Laid). Kept code was) laid_three h.kept
+  marks_four : d4.marks ≡ mark.Whole (a + 1) row ∷ ms
+  marks_four = ap (λ (d : Draft). d.marks) h.rest ∙ inside
+
+  marks_five : d5.marks ≡ ms
+  marks_five = closed_marks 1 row d4 d5 c5 (ap row_in marks_four) ∙ ap (λ (ns : List Mark). drop 1 ns) marks_four
+
+  marks_six : d6.marks ≡ ms
+  marks_six = ap (λ (d : Draft). d.marks) g6.rest ∙ marks_five
+
+  long_five : length d5.ops ≡ length d4.ops
+  long_five = ap length (closed_ops 1 d4 d5 c5)
+
+  long_six : length d6.ops ≡ length d4.ops + 1
+  long_six = let x = g6.code.end in let y = long_five in omega arith
+
+  to_end : end ≡ length d7.ops
+  to_end = let x = g7.code.end in let y = long_six in let z = long_five in omega (arith, ee)
+
+  kept_six : Kept (laid_in d6) was
+  kept_six = g7.kept
+
+  kept_five : Kept (laid_in d5) was
+  kept_five = kept_then (laid_in d5) (laid_in d6) was g6.kept kept_six
+
+  kept_four : Kept (laid_in d4) was
+  kept_four = kept_then (laid_in d4) (laid_in d5) was k5 kept_five
+
+  kept_three : Kept (laid_in d3) was
+  kept_three = kept_then (laid_in d3) (laid_in d4) was h.kept kept_four
+
+  kept_two : Kept (laid_in d2) was
+  kept_two = kept_then (laid_in d2) (laid_in d3) was k3 kept_three
 
   kept_one : Kept (laid_in d1) was
-  kept_one = kept_then (laid_in d1) (laid_in d2) was g2.kept kept_three
+  kept_one = kept_then (laid_in d1) (laid_in d2) was g2.kept kept_two
 
   kept_all : Kept (laid_in d0) was
   kept_all = kept_then (laid_in d0) (laid_in d1) was g1.kept kept_one
 
-  marks_four : left_marks d4.marks ≡ ms
-  marks_four = ap left_marks (ap (λ (d : Draft). d.marks) h.rest ∙ inside)
+  is : new ≡ record d7 { ops = now.ops }
+  is = pt ∙ ap (λ (x : ℕ). let d : Draft = record d7 { ops = patched d7.ops (start + 1) (op.Jump x) } in d) to_end
+      ∙ ap (λ (x : ℕ). let d : Draft = record d7 { ops = patched d7.ops (x + 1) (op.Jump (length d7.ops)) } in d) st
 
-  leaving : d5 ≡ record d4 { marks = ms }
-  leaving = lv ∙ ap (λ (ns : List Mark). let d : Draft = record d4 { marks = ns } in d) marks_four
+  long : length now.ops ≡ length d7.ops
+  long = length-patched d7.ops (a + 1) (op.Jump (length d7.ops))
 
-  ops_five : d5.ops ≡ d4.ops
-  ops_five = ap (λ (d : Draft). d.ops) leaving
-
-  is : new ≡ ended d4 ms (a + 1) (op.Jump (length d4.ops))
-  is = pt ∙ ap (λ (x : ℕ). let d : Draft = record d5 { ops = patched d5.ops (start + 1) (op.Jump x) } in d) (ee ∙ ap length ops_five)
-      ∙ ap (λ (x : ℕ). let d : Draft = record d5 { ops = patched d5.ops (x + 1) (op.Jump (length d4.ops)) } in d) st
-      ∙ ap (λ (d : Draft). let x : Draft = record d { ops = patched d.ops (a + 1) (op.Jump (length d4.ops)) } in x) leaving
-
-  long : length now.ops ≡ length d4.ops
-  long = length-patched d4.ops (a + 1) (op.Jump (length d4.ops))
+  -- ops behind the pad stay
+  behind : Same was now (a + 2) (length d7.ops)
+  behind = same_after was (a + 1) (op.Jump (length d7.ops)) (a + 2) (length d7.ops) (omega arith)
 
   begins : OpAt now a (op.Jump (a + 2)) line
   begins =
       let first : OpAt (laid_in d1) a (op.Jump (a + 2)) line = subst (λ (x : ℕ). OpAt (laid_in d1) a (op.Jump (x + 2)) line) st g1.code.here in
-      (same_before was (a + 1) (op.Jump (length d4.ops)) 0 (a + 1) (omega arith)).same a (op.Jump (a + 2)) line (omega arith) (omega arith) (kept_one.same a (op.Jump (a + 2)) line first)
+      (same_before was (a + 1) (op.Jump (length d7.ops)) 0 (a + 1) (omega arith)).same a (op.Jump (a + 2)) line (omega arith) (omega arith) (kept_one.same a (op.Jump (a + 2)) line first)
 
-  leaves : OpAt now (a + 1) (op.Jump (length d4.ops)) line
+  leaves : OpAt now (a + 1) (op.Jump (length d7.ops)) line
   leaves =
       let hole : OpAt (laid_in d2) (a + 1) (op.Jump 0) line = subst (λ (x : ℕ). OpAt (laid_in d2) x (op.Jump 0) line) long_one g2.code.here in
-      patched_at was (a + 1) (op.Jump (length d4.ops)) (op.Jump 0) line (kept_three.same (a + 1) (op.Jump 0) line hole)
+      patched_at was (a + 1) (op.Jump (length d7.ops)) (op.Jump 0) line (kept_two.same (a + 1) (op.Jump 0) line hole)
 
-  body : StmtsAt now (mark.Whole (a + 1) ∷ ms) line ss (a + 2) (length d4.ops)
+  body : StmtsAt now (mark.Whole (a + 1) row ∷ ms) line ss (a + 2) (length d4.ops)
   body =
-      let from : length d3.ops ≡ a + 2 = ap length ops_three ∙ long_two in
-      let under = subst (λ (ns : List Mark). StmtsAt was ns line ss (length d3.ops) (length d4.ops)) inside h.code in
-      let here = subst (λ (x : ℕ). StmtsAt was (mark.Whole (a + 1) ∷ ms) line ss x (length d4.ops)) from under in
-      (stmts_stable (mark.Whole (a + 1) ∷ ms) line ss).moves was now (a + 2) (length d4.ops) (same_after was (a + 1) (op.Jump (length d4.ops)) (a + 2) (length d4.ops) (omega arith)) here
+      let l = kept_four.longer in
+      let under = subst (λ (ns : List Mark). StmtsAt (laid_in d4) ns line ss (length d3.ops) (length d4.ops)) inside h.code in
+      let here = subst (λ (x : ℕ). StmtsAt (laid_in d4) (mark.Whole (a + 1) row ∷ ms) line ss x (length d4.ops)) long_three under in
+      let there = kept_piece (λ x. StmtsAt x (mark.Whole (a + 1) row ∷ ms) line ss) (stmts_stable (mark.Whole (a + 1) row ∷ ms) line ss) (laid_in d4) was (a + 2) (length d4.ops) (omega arith) kept_four here in
+      (stmts_stable (mark.Whole (a + 1) row ∷ ms) line ss).moves was now (a + 2) (length d4.ops) (part was now (a + 2) (length d7.ops) (a + 2) (length d4.ops) (omega arith) (omega arith) behind) there
+
+  skips : OpAt now (length d4.ops) (op.Jump (length d7.ops)) line
+  skips =
+      let low = h.kept.longer in
+      let high = long_six in
+      let top = kept_six.longer in
+      let three = long_three in
+      let jump : OpAt (laid_in d6) (length d4.ops) (op.Jump (length d7.ops)) line =
+      subst (λ (x : ℕ). OpAt (laid_in d6) x (op.Jump (length d7.ops)) line) long_five (subst (λ (x : ℕ). OpAt (laid_in d6) (length d5.ops) (op.Jump x) line) to_end g6.code.here) in
+      behind.same (length d4.ops) (op.Jump (length d7.ops)) line (omega arith) (omega arith) (kept_six.same (length d4.ops) (op.Jump (length d7.ops)) line jump)
+
+  tests : Risk now ms op.Handled line (length d4.ops + 1) (length d7.ops)
+  tests =
+      let low = h.kept.longer in
+      let three = long_three in
+      let under = subst (λ (ns : List Mark). Risk was ns op.Handled line (length d6.ops) (length d7.ops)) marks_six g7.code in
+      let here = subst (λ (x : ℕ). Risk was ms op.Handled line x (length d7.ops)) long_six under in
+      (risk_stable ms op.Handled line).moves was now (length d4.ops + 1) (length d7.ops) (part was now (a + 2) (length d7.ops) (length d4.ops + 1) (length d7.ops) (omega arith) (omega arith) behind) here
 
   whole_at : StmtAt now ms (Whole line ss) a (length now.ops)
-  whole_at = subst (λ (z : ℕ). StmtAt now ms (Whole line ss) a z) (sym long) (record { begin = begins; leave = leaves; body = body })
+  whole_at = subst (λ (z : ℕ). StmtAt now ms (Whole line ss) a z) (sym long) (record {
+    row = row;
+    body_end = length d4.ops;
+    begin = begins;
+    leave = leaves;
+    body = body;
+    skip = skips;
+    tests = tests;
+    handler = handler_stays was now refl row (clean_up (length d4.ops + 1)) (kept_five.handlers row (clean_up (length d4.ops + 1)) (h5 row (ap handler_in marks_four)));
+  })
 
-  four_is : d4 ≡ record d0 { ops = d4.ops; rows = d4.rows; settled = d4.settled; marks = mark.Whole (a + 1) ∷ ms; scopes = d4.scopes; names = d4.names; cells = d4.cells; texts = d4.texts; sites = d4.sites }
-  four_is =
-      h.rest ∙ ap (λ (d : Draft). let x : Draft = record d { ops = d4.ops; rows = d4.rows; settled = d4.settled; scopes = d4.scopes; names = d4.names; cells = d4.cells; texts = d4.texts; sites = d4.sites } in x)
-      (entered ∙ ap (λ (d : Draft). let x : Draft = record d { marks = mark.Whole (a + 1) ∷ ms } in x) (g2.rest ∙ ap (λ (d : Draft). let x : Draft = record d { ops = d2.ops } in x) g1.rest))
+  five_is : d5 ≡ record d0 { ops = d5.ops; rows = d5.rows; settled = d5.settled; scopes = d4.scopes; names = d4.names; cells = d4.cells; hidden = d4.hidden; texts = d4.texts; sites = d4.sites }
+  five_is =
+      like_closed 1 d4 d4 d5 refl c5
+      ∙ ap (λ (d : Draft). let x : Draft = record d { ops = d5.ops; rows = d5.rows; settled = d5.settled; marks = d5.marks } in x) h.rest
+      ∙ ap (λ (d : Draft). let x : Draft = record d { ops = d5.ops; rows = d5.rows; settled = d5.settled; marks = d5.marks; scopes = d4.scopes; names = d4.names; cells = d4.cells; hidden = d4.hidden; texts = d4.texts; sites = d4.sites } in x)
+      (entered ∙ ap (λ (d : Draft). opened (opening.Whole (a + 1)) d) (g2.rest ∙ ap (λ (d : Draft). let x : Draft = record d { ops = d2.ops } in x) g1.rest))
+      ∙ ap (λ (ns : List Mark). let x : Draft = record d0 { ops = d5.ops; rows = d5.rows; settled = d5.settled; marks = ns; scopes = d4.scopes; names = d4.names; cells = d4.cells; hidden = d4.hidden; texts = d4.texts; sites = d4.sites } in x) marks_five
+
+  new_whole : new ≡ record d0 { ops = now.ops; rows = d5.rows; settled = d5.settled; scopes = d4.scopes; names = d4.names; cells = d4.cells; hidden = d4.hidden; texts = d4.texts; sites = d4.sites }
+  new_whole = is ∙ ap (λ (d : Draft). let x : Draft = record d { ops = now.ops } in x) (g7.rest ∙ ap (λ (d : Draft). let x : Draft = record d { ops = d7.ops } in x) (g6.rest ∙ ap (λ (d : Draft). let x : Draft = record d { ops = d6.ops } in x) five_is))
 
   scope_three : scope_of d3 ≡ scope_of d0
   scope_three = ap scope_of entered ∙ ap scope_of g2.rest ∙ ap scope_of g1.rest
 
-  pub arm_whole : Lowers (2 + n) k c o (λ code. StmtAt code ms (Whole line ss)) after d0 new
+  pub arm_whole : Lowers (4 + n) k c o (λ code. StmtAt code ms (Whole line ss)) after d0 new
   arm_whole =
       let texts_three : d3.texts ≡ d0.texts = ap (λ (s : Scope). s.texts) scope_three in
       let cells_three : d3.cells ≡ d0.cells = ap (λ (s : Scope). s.cells) scope_three in
       let scopes_three : d3.scopes ≡ d0.scopes = ap (λ (d : Draft). d.scopes) entered ∙ ap (λ (d : Draft). d.scopes) g2.rest ∙ ap (λ (d : Draft). d.scopes) g1.rest in
-      let ops_long = ap length ops_three in
-      let two = long_two in
-      subst (λ (d : Draft). Lowers (2 + n) k c o (λ code. StmtAt code ms (Whole line ss)) after d0 d) (sym is) (record {
-        rest = ap (λ (d : Draft). ended d ms (a + 1) (op.Jump (length d4.ops))) four_is;
-        scope = h.scope;
+      let texts_new : new.texts ≡ d4.texts = ap (λ (d : Draft). d.texts) new_whole in
+      let cells_new : new.cells ≡ d4.cells = ap (λ (d : Draft). d.cells) new_whole in
+      let scopes_new : new.scopes ≡ d4.scopes = ap (λ (d : Draft). d.scopes) new_whole in
+      let laid_new : laid_in new ≡ now = ap laid_in is in
+      let long_new : length new.ops ≡ length now.ops = ap (λ (d : Draft). length d.ops) is in
+      record {
+        rest = subst (λ (d : Draft). d ≡ record d0 { ops = d.ops; rows = d.rows; settled = d.settled; scopes = d.scopes; names = d.names; cells = d.cells; hidden = d.hidden; texts = d.texts; sites = d.sites }) (sym new_whole) refl;
+        scope = ap scope_of is ∙ ap scope_of g7.rest ∙ ap scope_of g6.rest ∙ ap scope_of (like_closed 1 d4 d4 d5 refl c5) ∙ h.scope;
         opened = let x = h.opened in omega arith;
-        kept = kept_patch (laid_in d0) was (a + 1) (op.Jump (length d4.ops)) kept_all (omega arith);
-        room = let x = h.room in let y = long in omega arith;
+        kept = subst (λ (code : Laid). Kept (laid_in d0) code) (sym laid_new) (kept_patch (laid_in d0) was (a + 1) (op.Jump (length d7.ops)) kept_all (omega arith));
+        room = let x = h.room in let y = long in let w = g7.code.end in let v = long_six in let u = long_three in omega arith;
         texts = let x = h.texts in omega arith;
         cells = let x = h.cells in omega arith;
-        code = whole_at;
-      })
+        code = subst (λ (z : ℕ). StmtAt (laid_in new) ms (Whole line ss) a z) (sym long_new) (subst (λ (code : Laid). StmtAt code ms (Whole line ss) a (length now.ops)) (sym laid_new) whole_at);
+      }
 
 -- a block behind fields that are built, and the end of their parts
 module _ (n m k c o : ℕ) (F : Stmts → Stmts) (us : List ObjectCall) (s : Stmt) (after : Scope) (d0 d1 d2 new : Draft) (h : Constructs n F [] d0 us d1) (w : Lowers m k c o (λ code. StmtAt code d1.marks s) after d1 d2) (e : EndsParts (reverse us) d2 new) where
@@ -172,11 +238,11 @@ module _ (n m k c o : ℕ) (F : Stmts → Stmts) (us : List ObjectCall) (s : Stm
       let behind : StmtsAt (laid_in d2) d2.marks 0 (Then s Nil) (length d1.ops) (length d2.ops) = subst (λ (ns : List Mark). StmtsAt (laid_in d2) ns 0 (Then s Nil) (length d1.ops) (length d2.ops)) (sym marks_two-built) (record { middle = length d2.ops; first = w.code; second = record { end = refl } }) in
       subst (λ (ss : Stmts). StmtsAt (laid_in new) d0.marks 0 ss (length d0.ops) (length new.ops)) block_is (e.block d0.marks (length d0.ops) (length d1.ops) (h.steps ++ []) (Then s Nil) before behind)
 
-  new_is : new ≡ record d0 { ops = new.ops; rows = new.rows; settled = new.settled; scopes = d2.scopes; names = d2.names; cells = d2.cells; texts = d2.texts; sites = d2.sites }
+  new_is : new ≡ record d0 { ops = new.ops; rows = new.rows; settled = new.settled; scopes = d2.scopes; names = d2.names; cells = d2.cells; hidden = d2.hidden; texts = d2.texts; sites = d2.sites }
   new_is =
       e.rest ∙ ap (λ (d : Draft). let x : Draft = record d { ops = new.ops; rows = new.rows; settled = new.settled; marks = new.marks } in x) w.rest
-      ∙ ap (λ (d : Draft). let x : Draft = record d { ops = new.ops; rows = new.rows; settled = new.settled; marks = new.marks; scopes = d2.scopes; names = d2.names; cells = d2.cells; texts = d2.texts; sites = d2.sites } in x) h.rest
-      ∙ ap (λ (ns : List Mark). let x : Draft = record d0 { ops = new.ops; rows = new.rows; settled = new.settled; marks = ns; scopes = d2.scopes; names = d2.names; cells = d2.cells; texts = d2.texts; sites = d2.sites } in x) marks_back
+      ∙ ap (λ (d : Draft). let x : Draft = record d { ops = new.ops; rows = new.rows; settled = new.settled; marks = new.marks; scopes = d2.scopes; names = d2.names; cells = d2.cells; hidden = d2.hidden; texts = d2.texts; sites = d2.sites } in x) h.rest
+      ∙ ap (λ (ns : List Mark). let x : Draft = record d0 { ops = new.ops; rows = new.rows; settled = new.settled; marks = ns; scopes = d2.scopes; names = d2.names; cells = d2.cells; hidden = d2.hidden; texts = d2.texts; sites = d2.sites } in x) marks_back
 
   pub arm_built : Lowers (n + m) k c o (λ code. StmtsAt code d0.marks 0 (F (Then s Nil))) after d0 new
   arm_built =
@@ -187,7 +253,7 @@ module _ (n m k c o : ℕ) (F : Stmts → Stmts) (us : List ObjectCall) (s : Stm
       let cells_new : new.cells ≡ d2.cells = ap (λ (d : Draft). d.cells) e.rest in
       let scopes_new : new.scopes ≡ d2.scopes = ap (λ (d : Draft). d.scopes) e.rest in
       record {
-        rest = subst (λ (d : Draft). d ≡ record d0 { ops = d.ops; rows = d.rows; settled = d.settled; scopes = d.scopes; names = d.names; cells = d.cells; texts = d.texts; sites = d.sites }) (sym new_is) refl;
+        rest = subst (λ (d : Draft). d ≡ record d0 { ops = d.ops; rows = d.rows; settled = d.settled; scopes = d.scopes; names = d.names; cells = d.cells; hidden = d.hidden; texts = d.texts; sites = d.sites }) (sym new_is) refl;
         scope = ap scope_of e.rest ∙ w.scope;
         opened = let x = w.opened in omega arith;
         kept = kept_then (laid_in d0) (laid_in d1) (laid_in new) h.kept (kept_then (laid_in d1) (laid_in d2) (laid_in new) w.kept e.kept);
@@ -217,7 +283,7 @@ module _ (n : ℕ) (F : Stmts → Stmts) (us : List ObjectCall) (d0 d1 new : Dra
       let scopes_new : new.scopes ≡ d0.scopes = ap (λ (d : Draft). d.scopes) alone_is in
       let block : block_of (h.steps ++ []) Nil ≡ F Nil = block_join [] h.steps Nil ∙ h.block Nil in
       record {
-        rest = subst (λ (d : Draft). d ≡ record d0 { ops = d.ops; rows = d.rows; settled = d.settled; scopes = d.scopes; names = d.names; cells = d.cells; texts = d.texts; sites = d.sites }) (sym alone_is) refl;
+        rest = subst (λ (d : Draft). d ≡ record d0 { ops = d.ops; rows = d.rows; settled = d.settled; scopes = d.scopes; names = d.names; cells = d.cells; hidden = d.hidden; texts = d.texts; sites = d.sites }) (sym alone_is) refl;
         scope = ap scope_of alone_is;
         opened = omega arith;
         kept = kept_then (laid_in d0) (laid_in d1) (laid_in new) h.kept e.kept;
@@ -228,14 +294,16 @@ module _ (n : ℕ) (F : Stmts → Stmts) (us : List ObjectCall) (d0 d1 new : Dra
       }
 
 -- a routine's body as such a block
-pub whole_laid : (p : Program) (r : Routine) (line start end : ℕ) (body : tree.Stmts) (d0 d1 d2 d3 d4 d5 new : Draft) → line ≡ r.brace.line → body ≡ r.body → start ≡ length d0.ops → Adds 1 (OpCode line (op.Jump (start + 2))) d0 d1 → Adds 1 (OpCode line (op.Jump 0)) d1 d2
-    → d3 ≡ record d2 { marks = mark.Whole (start + 1) ∷ d2.marks } → LowersStmts p line body d3 d4 → d5 ≡ record d4 { marks = left_marks d4.marks } → end ≡ length d5.ops → new ≡ record d5 { ops = patched d5.ops (start + 1) (op.Jump end) } → LowersWhole p r d0 new
-whole_laid p r line start end body d0 d1 d2 d3 d4 d5 new le be st g1 g2 en h lv ee pt =
+pub whole_laid : (p : Program) (r : Routine) (line start end : ℕ) (body : tree.Stmts) (d0 d1 d2 d3 d4 d5 d6 d7 new : Draft) → line ≡ r.brace.line → body ≡ r.body → start ≡ length d0.ops → Adds 1 (OpCode line (op.Jump (start + 2))) d0 d1 → Adds 1 (OpCode line (op.Jump 0)) d1 d2
+    → d3 ≡ opened (opening.Whole (start + 1)) d2 → Kept (laid_in d2) (laid_in d3) → LowersStmts p line body d3 d4
+    → d5 ≡ closed 1 d4 → Kept (laid_in d4) (laid_in d5) → ((row : ℕ) → handler_in d4.marks ≡ Some row → HandlerAt (laid_in d5) row (clean_up (length d4.ops + 1)))
+    → end ≡ length d5.ops + 2 → Adds 1 (OpCode line (op.Jump end)) d5 d6 → Adds 1 (RiskCode line d6.marks op.Handled) d6 d7 → new ≡ record d7 { ops = patched d7.ops (start + 1) (op.Jump end) } → LowersWhole p r d0 new
+whole_laid p r line start end _ d0 d1 d2 d3 d4 d5 d6 d7 new le be st g1 g2 en k3 h c5 k5 h5 ee g6 g7 pt =
     let scope : scope_of d3 ≡ scope_of d0 = ap scope_of en ∙ ap scope_of g2.rest ∙ ap scope_of g1.rest in
     let objects : objects_in d3.marks ≡ 0 = ap (λ (d : Draft). objects_in d.marks) en in
     let one : Lowers (OPS_FOR_SIZE * sizes_at r.body 0) (stmts_size r.body) (stmts_cells r.body (declared_cells p)) (stmts_scopes r.body) (λ code. StmtsAt code d3.marks line (stmts_meant p r.body (scope_of d0))) (scope_behind p r.body (scope_of d0)) d3 d4 =
     subst (λ (s : Scope). Lowers (OPS_FOR_SIZE * sizes_at r.body 0) (stmts_size r.body) (stmts_cells r.body (declared_cells p)) (stmts_scopes r.body) (λ code. StmtsAt code d3.marks line (stmts_meant p r.body s)) (scope_behind p r.body s) d3 d4) scope (
     subst (λ (k : ℕ). Lowers (OPS_FOR_SIZE * sizes_at r.body k) (stmts_size r.body) (stmts_cells r.body (declared_cells p)) (stmts_scopes r.body) (λ code. StmtsAt code d3.marks line (stmts_meant p r.body (scope_of d3))) (scope_behind p r.body (scope_of d3)) d3 d4) objects (
     subst (λ (b : tree.Stmts). LowersStmts p line b d3 d4) be h)) in
-    let all = arm_whole line start end (OPS_FOR_SIZE * sizes_at r.body 0) (stmts_size r.body) (stmts_cells r.body (declared_cells p)) (stmts_scopes r.body) (stmts_meant p r.body (scope_of d0)) (scope_behind p r.body (scope_of d0)) d0 d1 d2 d3 d4 d5 new st g1 g2 en one lv ee pt in
+    let all = arm_whole line start end (OPS_FOR_SIZE * sizes_at r.body 0) (stmts_size r.body) (stmts_cells r.body (declared_cells p)) (stmts_scopes r.body) (stmts_meant p r.body (scope_of d0)) (scope_behind p r.body (scope_of d0)) d0 d1 d2 d3 d4 d5 d6 d7 new st g1 g2 en k3 one c5 k5 h5 ee g6 g7 pt in
     subst (λ (l : ℕ). Lowers (whole_room r) (stmts_size r.body) (stmts_cells r.body (declared_cells p)) (stmts_scopes r.body) (λ code. StmtAt code d0.marks (Whole l (stmts_meant p r.body (scope_of d0)))) (scope_behind p r.body (scope_of d0)) d0 new) le all

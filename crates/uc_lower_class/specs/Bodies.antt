@@ -8,7 +8,7 @@ use Rattle.uc_tree.specs.Cells.{declared_cells, stmts_cells}
 use Rattle.uc_tree.specs.Scopes.{stmts_scopes}
 use Rattle.uc_tree.specs.Programs.{Class, Program, Routine}
 use Rattle.uc_tree.specs.Numbering.{is_event, is_plain}
-use Rattle.uc_tree.specs.Objects.{Unwritten, class_at, place_of, written_at, unwritten_number}
+use Rattle.uc_tree.specs.Objects.{Unwritten, class_at, written_at, unwritten_number}
 use Rattle.uc_tree.specs.Source.{Stmts, Whole}
 use Rattle.uc_tree.specs.Resolve.{Scope, body_by, class_by, scope_behind, stmts_meant, unwritten_body}
 use Rattle.uc_code.specs.Drafts.{Draft}
@@ -22,7 +22,7 @@ use Rattle.uc_lower_class.specs.Fields.{all_built, all_left, all_room}
 -- a body, and the block that it is
 
 abbrev pub whole_room : Routine → ℕ
-whole_room r = 2 + OPS_FOR_SIZE * sizes_at r.body 0
+whole_room r = 4 + OPS_FOR_SIZE * sizes_at r.body 0
 
 abbrev pub LowersWhole : Program → Routine → Draft → Draft → Type 0
 LowersWhole p r old new =
@@ -55,13 +55,13 @@ role_room p role.Plain place r = 0
 role_room p role.Constructor place r = built_room p place r + whole_room r + part_end
 role_room p role.Destructor place r = left_room (class_by p place) + whole_room r
 
--- the code of a written routine of this class, its return included
-abbrev pub builder_room : Program → Routine → ℕ → ℕ
-builder_room p r class = role_room p r.sig.role (place_of p class) r + 1
+-- the code of a written routine of the class with this place, its return included
+abbrev pub builder_room : Program → Routine → Option ℕ → ℕ
+builder_room p r place = role_room p r.sig.role place r + 1
 
 abbrev pub LowersBody : Program → Role → Routine → Draft → Draft → Type 0
 LowersBody p wanted r old new =
-    Lowers (role_room p wanted (place_of p old.place.class) r) (stmts_size r.body) (stmts_cells r.body (declared_cells p)) (stmts_scopes r.body) (λ code. StmtsAt code old.marks 0 (body_by p wanted r (scope_of old))) (scope_behind p r.body (scope_of old)) old new
+    Lowers (role_room p wanted old.place.class r) (stmts_size r.body) (stmts_cells r.body (declared_cells p)) (stmts_scopes r.body) (λ code. StmtsAt code old.marks 0 (body_by p wanted r (scope_of old))) (scope_behind p r.body (scope_of old)) old new
 
 -- one that nobody wrote: its place among the routines, its code
 pub record IsUnwritten (p : Program) (u : Unwritten) (number : ℕ) : Type 0 where

@@ -1,12 +1,12 @@
 // The code of constructors and destructors.
 
-ghost use Rattle.std.specs.Prelude.{◌≡◌, true, false, None, ◌+◌, ◌*◌, ◌≤◌, ◌<◌, [], length, nat_eq, slice_set, OnOk};
+ghost use Rattle.std.specs.Prelude.{◌≡◌, ℕ, true, false, None, ◌+◌, ◌*◌, ◌≤◌, ◌<◌, [], length, nat_eq, slice_set, OnOk};
 ghost use Rattle.uc_tree.specs.declared.limits.TheConstants.{FRAME_CELLS, PROGRAM_OPS, PROGRAM_SIZE};
 ghost use Rattle.uc_tree.specs.StatementSizes.{stmts_size};
 ghost use Rattle.uc_tree.specs.Cells.{declared_cells, routine_cells, stmts_cells};
 ghost use Rattle.uc_tree.specs.Gathered.{gathered_all};
 ghost use Rattle.uc_tree.specs.Numbering.{is_plain, own_sites, own_texts, routines_of};
-ghost use Rattle.uc_tree.specs.Objects.{class_at, place_of};
+ghost use Rattle.uc_tree.specs.Objects.{class_at};
 ghost use Rattle.uc_tree.specs.ProgramMain.{main_number};
 ghost use Rattle.uc_tree.specs.Scopes.{stmts_scopes};
 ghost use Rattle.uc_tree.specs.Resolve.{class_by, nowhere, routine_meant, routine_scope, unwritten_meant};
@@ -17,6 +17,7 @@ ghost use Rattle.uc_code.specs.Laid.{laid_in, routine_in};
 ghost use Rattle.uc_code.specs.Lowered.{RoutineAt};
 ghost use Rattle.uc_code.specs.Ranges.{Kept};
 ghost use Rattle.uc_lower_stmt.specs.Marked.{objects_in};
+ghost use Rattle.uc_lower_stmt.specs.Routines.{frame_cells};
 ghost use Rattle.uc_lower_stmt.specs.Scoped.{scope_of};
 ghost use Rattle.uc_unwritten.specs.Unwritten.{unwritten_as};
 ghost use Rattle.uc_lower_class.specs.Bodies.{IsUnwritten, LowersBody, LowersUnwritten, builder_room, built_at, built_room, left_at, left_room, role_room, unwritten_room};
@@ -94,7 +95,7 @@ fn lower_constructor(
     routine: &Routine,
     out: &mut Draft,
 ) -> Result<(), AllocError>
-    requires class { class ≡ place_of names.now out.old.place.class }
+    requires class { class ≡ out.old.place.class }
     requires built { are_built routine.now.body ≡ true }
     requires written { routine_in out.old.marks < length (routines_of names.now) }
     requires room { length out.old.ops + role_room names.now role.Constructor class routine.now ≤ PROGRAM_OPS }
@@ -117,7 +118,7 @@ fn lower_destructor(
     routine: &Routine,
     out: &mut Draft,
 ) -> Result<(), AllocError>
-    requires class { class ≡ place_of names.now out.old.place.class }
+    requires class { class ≡ out.old.place.class }
     requires built { are_built routine.now.body ≡ true }
     requires written { routine_in out.old.marks < length (routines_of names.now) }
     requires outside { objects_in out.old.marks ≡ 0 }
@@ -143,7 +144,7 @@ fn lower_body(
     out: &mut Draft,
 ) -> Result<(), AllocError>
     requires role { is_plain role ≡ false }
-    requires class { class ≡ place_of names.now out.old.place.class }
+    requires class { class ≡ out.old.place.class }
     requires built { are_built routine.now.body ≡ true }
     requires written { routine_in out.old.marks < length (routines_of names.now) }
     requires outside { objects_in out.old.marks ≡ 0 }
@@ -166,15 +167,16 @@ fn lower_body(
     }
 }
 
-/// Adds the code of a written constructor or destructor of the class of this number, behind so many text literals and accept
-/// statements of the program, and writes down under its number where it begins. Its statements are of forms that are built. After
-/// want of memory the draft is spent.
+/// Adds the code of a written constructor or destructor of the class with this place, behind so many text literals and accept
+/// statements of the program, and writes down under its number where it begins. `last` is the number of the last routine that is
+/// written. Its statements are of forms that are built. After want of memory the draft is spent.
 pub fn lower_builder(
     alloc: Global,
     names: &ProgramNames,
     routine: &Routine,
-    class: u32,
+    class: Option<usize>,
     number: u32,
+    last: u32,
     texts: u32,
     sites: u32,
     out: &mut Draft,
@@ -184,15 +186,16 @@ pub fn lower_builder(
     requires built { are_built routine.now.body ≡ true }
     requires params { length routine.now.sig.params ≤ PROGRAM_SIZE }
     requires known { number < length out.old.routines }
-    requires written { number < length (routines_of names.now) }
+    requires behind { number ≤ last }
+    requires written { last < length (routines_of names.now) }
     requires outside { out.old.marks ≡ [] }
     requires room { length out.old.ops + builder_room names.now routine.now class ≤ PROGRAM_OPS }
     requires cells { routine_cells names.now routine.now ≤ FRAME_CELLS }
     requires texts { texts + stmts_size routine.now.body ≤ PROGRAM_SIZE }
     ensures kept { OnOk result (Kept (laid_in out.old) (laid_in out.new)) }
     ensures room { OnOk result (length out.new.ops ≤ length out.old.ops + builder_room names.now routine.now class) }
-    ensures code { OnOk result (RoutineAt (laid_in out.new) number (routine_meant names.now routine.now (routine_scope names.now routine.now.sig.params class number texts sites)) (record { entry = length out.old.ops; cells = routine_cells names.now routine.now; params = length routine.now.sig.params }) (length out.old.ops) (length out.new.ops)) }
-    ensures written { OnOk result (out.new.routines ≡ slice_set out.old.routines number (record { entry = length out.old.ops; cells = routine_cells names.now routine.now; params = length routine.now.sig.params })) }
+    ensures code { OnOk result (RoutineAt (laid_in out.new) last number (routine_meant names.now routine.now (routine_scope names.now routine.now class number texts sites)) (record { entry = length out.old.ops; cells = frame_cells names.now routine.now; params = length routine.now.sig.params }) (length out.old.ops) (length out.new.ops)) }
+    ensures written { OnOk result (out.new.routines ≡ slice_set out.old.routines number (record { entry = length out.old.ops; cells = frame_cells names.now routine.now; params = length routine.now.sig.params })) }
     ensures outside { OnOk result (out.new.marks ≡ []) }
     ensures texts { OnOk result (out.new.texts ≡ texts + length (gathered_all own_texts routine.now.body)) }
     ensures few_texts { OnOk result (out.new.texts ≤ texts + stmts_size routine.now.body) }
@@ -201,15 +204,15 @@ pub fn lower_builder(
     let entry = out.here();
     let sig = sig_of(routine);
     let params = params_of(sig);
-    out.begin_routine(class, number, texts, sites);
+    let variables = cells_of_routine(names.sizes(), routine) as u32;
+    out.begin_routine(class, number, variables, texts, sites);
     declare_params(alloc, names, params, out)?;
-    out.enter_body(number)?;
+    out.enter_body(last)?;
     let role = role_of(sig);
-    let place = names.class_of(class);
-    lower_body(alloc, names, role, place, routine, out)?;
+    lower_body(alloc, names, role, class, routine, out)?;
     out.leave();
     put(Op::Return, 0, out)?;
-    let cells = cells_of_routine(names.sizes(), routine) as u32;
+    let cells = out.hidden();
     let count = params.len() as u32;
     out.set_routine(
         number,
@@ -296,13 +299,13 @@ pub fn lower_unwritten(
     requires room { length out.old.ops + (unwritten_room one.role (class_at names.now one.class) + 1) ≤ PROGRAM_OPS }
     ensures kept { OnOk result (Kept (laid_in out.old) (laid_in out.new)) }
     ensures room { OnOk result (length out.new.ops ≤ length out.old.ops + (unwritten_room one.role (class_at names.now one.class) + 1)) }
-    ensures code { OnOk result (RoutineAt (laid_in out.new) number (unwritten_meant names.now (unwritten_as one)) (record { entry = length out.old.ops; cells = 0; params = 0 }) (length out.old.ops) (length out.new.ops)) }
+    ensures code { OnOk result ((last : ℕ) → last ≤ number → RoutineAt (laid_in out.new) last number (unwritten_meant names.now (unwritten_as one)) (record { entry = length out.old.ops; cells = 0; params = 0 }) (length out.old.ops) (length out.new.ops)) }
     ensures written { OnOk result (out.new.routines ≡ slice_set out.old.routines number (record { entry = length out.old.ops; cells = 0; params = 0 })) }
     ensures outside { OnOk result (out.new.marks ≡ []) }
 {
     let entry = out.here();
     names.fit();
-    out.begin_routine(0, 0, 0, 0);
+    out.begin_routine(None, 0, 0, 0, 0);
     out.enter_body(number)?;
     lower_unwritten_body(alloc, names, one.role, one.class, out)?;
     out.leave();

@@ -8,7 +8,7 @@ use Rattle.uc_code.specs.Laid.{Laid, laid_in}
 use Rattle.uc_code.specs.Drafts.{Draft, ops_with, patched}
 use Rattle.uc_code.specs.Ranges.{OpAt, Nothing, Risk, Both, Fork, Same, Kept, Stable}
 use Rattle.uc_code.proofs.Stable.{kept_refl, kept_then, kept_same, same_then}
-use Rattle.uc_code.proofs.Patches.{kept_with, one_with, length-patched, patched_at, same_before, same_after}
+use Rattle.uc_code.proofs.Patches.{bare_stays, kept_with, one_with, length-patched, patched_at, same_before, same_after}
 use Rattle.uc_lower_expr.specs.Added.{Adds, OpCode, RiskCode}
 
 pub rest_then : (a b c : Draft) → b ≡ record a { ops = b.ops } → c ≡ record b { ops = c.ops } → c ≡ record a { ops = c.ops }
@@ -132,6 +132,7 @@ module _ (line : ℕ) (m k : ℕ) (B C : Laid → ℕ → ℕ → Type 0) (b : S
       same = λ i o l h. let w = slice_get_within d0.ops i (record { op = o; line = l }) h.here in (before (length d0.ops) (omega arith)).same i o l (omega arith) w (from_start.same i o l h);
       chains = λ next l. from_start.chains next l;
       handlers = λ k e h. (before (length d0.ops) (omega arith)).handlers k e (from_start.handlers k e h);
+      bare = λ k h. bare_stays (laid_in d4) (laid_in (record d4 { ops = done.ops })) refl k (from_start.bare k h);
     };
     room = let r1 = hole.room in let r2 = first.room in let r3 = jump.room in let r4 = second.room in let e = long in omega arith;
     code = record {

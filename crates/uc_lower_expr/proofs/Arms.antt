@@ -9,7 +9,7 @@ use Rattle.uc_tree.specs.Constants.{constants_of, constant_named}
 use Rattle.uc_tree.specs.Numbering.{routines_of}
 use Rattle.uc_tree.specs.Source.{Shape, Integer, Character, Truth, Binding, Last, Field, Array, Operator, Plus, Minus, Expr, Literal, Variable as Var, Get, Operate, Set}
 use Rattle.uc_tree.specs.Objects.{plain_class, shape_of}
-use Rattle.uc_tree.specs.Resolve.{Meant, converted, value_by, value_of, Standing, AtVariable, AtPlace, AsValue, known_named, known_meant, name_meant, item_meant, constant_meant_by, routine_meant_by, routine_from, variable_in, updated, updated_by, stepped, stepped_by, step_meant}
+use Rattle.uc_tree.specs.Resolve.{Meant, converted, value_by, value_of, Standing, AtVariable, AtPlace, AsValue, event_place, known_named, known_meant, name_meant, item_meant, constant_meant_by, routine_meant_by, routine_from, variable_in, updated, updated_by, stepped, stepped_by, step_meant}
 use Rattle.uc_code.specs.declared.op.Op.{Op}
 use Rattle.uc_code.specs.declared.op.Op.TheVariants as op
 use Rattle.uc_code.specs.declared.rows.Mark.{Mark}
@@ -72,7 +72,7 @@ arm_behind ms line k o s d0 d1 d2 d3 h1 h2 h3 = adds_more (omega arith) (adds_bo
 
 -- a value of the same type
 pub as_value : {p : Program} → (told t : Meaning) (m : Meant) (e : Expr) → t ≡ record told { standing = standing.Value } → Tells p told m → Tells p t (record { expr = e; ty = m.ty; standing = AsValue })
-as_value {p} told t m e i u = subst (λ (x : Meaning). Tells p x (record { expr = e; ty = m.ty; standing = AsValue })) (sym i) (record { shape = u.shape; class = u.class; len = u.len; standing = refl })
+as_value {p} told t m e i u = subst (λ (x : Meaning). Tells p x (record { expr = e; ty = m.ty; standing = AsValue })) (sym i) (record { shape = u.shape; class = u.class; event = u.event; len = u.len; standing = refl })
 
 -- names and the cells of an element
 
@@ -80,12 +80,12 @@ as_value {p} told t m e i u = subst (λ (x : Meaning). Tells p x (record { expr 
 abbrev meant_by : Bool → Known → Meant
 meant_by b k = if b then record { expr = Get k.cell; ty = k.ty; standing = AtPlace } else record { expr = Var k.cell; ty = k.ty; standing = AtVariable k.cell }
 
-told_by : {p : Program} → (k : Known) (t : Meaning) (b : Bool) → shape_of k.ty.base ≡ shape_as t.scalar → plain_class p k.ty.base ≡ t.class → k.ty.len ≡ t.elements → t.standing ≡ standing_by b k.cell → Tells p t (meant_by b k)
-told_by k t true s c l e = record { shape = s; class = c; len = l; standing = subst (λ (x : Told). StandsAs x AtPlace) (sym e) refl }
-told_by k t false s c l e = record { shape = s; class = c; len = l; standing = subst (λ (x : Told). StandsAs x (AtVariable k.cell)) (sym e) refl }
+told_by : {p : Program} → (k : Known) (t : Meaning) (b : Bool) → shape_of k.ty.base ≡ shape_as t.scalar → plain_class p k.ty.base ≡ t.class → event_place p k.ty.base ≡ t.event → k.ty.len ≡ t.elements → t.standing ≡ standing_by b k.cell → Tells p t (meant_by b k)
+told_by k t true s c v l e = record { shape = s; class = c; event = v; len = l; standing = subst (λ (x : Told). StandsAs x AtPlace) (sym e) refl }
+told_by k t false s c v l e = record { shape = s; class = c; event = v; len = l; standing = subst (λ (x : Told). StandsAs x (AtVariable k.cell)) (sym e) refl }
 
-pub told_known : {p : Program} → (k : Known) (t : Meaning) → shape_of k.ty.base ≡ shape_as t.scalar → plain_class p k.ty.base ≡ t.class → k.ty.len ≡ t.elements → t.standing ≡ standing_by k.ty.by_ref k.cell → Tells p t (known_meant k)
-told_known k t s c l e = told_by k t k.ty.by_ref s c l e
+pub told_known : {p : Program} → (k : Known) (t : Meaning) → shape_of k.ty.base ≡ shape_as t.scalar → plain_class p k.ty.base ≡ t.class → event_place p k.ty.base ≡ t.event → k.ty.len ≡ t.elements → t.standing ≡ standing_by k.ty.by_ref k.cell → Tells p t (known_meant k)
+told_known k t s c v l e = told_by k t k.ty.by_ref s c v l e
 
 -- the variable that is told of
 
@@ -118,7 +118,7 @@ step_tells : {p : Program} → (o : StepOp) (told t : Meaning) (m : Meant) → t
 step_tells step.Increment told t m i u = as_value told t m _ i u
 step_tells step.Decrement told t m i u = as_value told t m _ i u
 
-pub name_told : (p : Program) (class : ℕ) (names : List Known) (name : List ℕ) (v : Variable) → IsVariable p names name v → Tells p v.told (name_meant p class name (known_named names name))
+pub name_told : (p : Program) (class : Option ℕ) (names : List Known) (name : List ℕ) (v : Variable) → IsVariable p names name v → Tells p v.told (name_meant p class name (known_named names name))
 name_told p class names name v n = subst (λ (o : Option Known). Tells p v.told (name_meant p class name o)) (sym n.is) n.tells
 
 -- under marks
@@ -144,7 +144,7 @@ module _ (ms : List Mark) where
   known_code : (line : ℕ) (k : Known) (b : Bool) (old new : Draft) → k.ty.by_ref ≡ b → Adds 1 (OpCode line (place_op_of b k.cell)) old new → Adds 1 (ExprCode line ms (known_meant k).expr) old new
   known_code line k b old new e h = subst (λ (x : Bool). Adds 1 (ExprCode line ms (meant_by x k).expr) old new) (sym e) (known_by line k b old new h)
 
-  pub name_known : (p : Program) (class line : ℕ) (names : List Known) (name : List ℕ) (v : Variable) (o : Op) (old new : Draft) → IsVariable p names name v → o ≡ place_op_of v.by_ref v.cell → Adds 1 (OpCode line o) old new → Adds 1 (ExprCode line ms (name_meant p class name (known_named names name)).expr) old new
+  pub name_known : (p : Program) (class : Option ℕ) (line : ℕ) (names : List Known) (name : List ℕ) (v : Variable) (o : Op) (old new : Draft) → IsVariable p names name v → o ≡ place_op_of v.by_ref v.cell → Adds 1 (OpCode line o) old new → Adds 1 (ExprCode line ms (name_meant p class name (known_named names name)).expr) old new
   name_known p class line names name v o old new n i h =
       subst (λ (x : Option Known). Adds 1 (ExprCode line ms (name_meant p class name x).expr) old new) (sym n.is) (
       known_code line n.known v.by_ref old new n.by_ref (

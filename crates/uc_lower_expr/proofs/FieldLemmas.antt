@@ -16,7 +16,7 @@ use Rattle.uc_tree.specs.Rows.{Row, row_at, has_itself, element_cells, held_cell
 use Rattle.uc_tree.specs.Cells.{classes_of, class_cells, object_of, held_by, member_held, members_held, row_of, rows_of, leading_cells, seen_in}
 use Rattle.uc_tree.specs.Source.{Shape, Binding, Last, shape_cells, field_cells}
 use Rattle.uc_tree.specs.Objects.{class_at, ClassField, declared_fields, form_fields, fields_of, shape_of, kept_shape, arrayed, field_shape, fields_shape, behind_bindings, form_shape, shape_within, class_shape, plain_class}
-use Rattle.uc_tree.specs.Resolve.{field_length}
+use Rattle.uc_tree.specs.Resolve.{event_place, field_length}
 use Rattle.uc_sizes.specs.Places.{IsPlaces}
 use Rattle.uc_sizes.specs.Depths.{Holds, First, Later}
 use Rattle.uc_sizes.proofs.Depths.{cells_deep, cells_next}
@@ -326,6 +326,7 @@ module _ (p : Program) (fit : FitClasses p) (i : ℕ) (c : Class) (there : class
         tells = λ m t s. record {
           shape = ap (λ (y : Ty). shape_of y.base) t ∙ n.shape;
           class = ap (λ (y : Ty). plain_class p y.base) t ∙ n.class;
+          event = ap (λ (y : Ty). event_place p y.base) t ∙ n.event;
           len = ap (λ (y : Ty). y.len) t ∙ sym len;
           standing = subst (λ (x : Told). StandsAs x m.standing) (sym n.standing) s;
         };

@@ -9,6 +9,7 @@ use Rattle.uc_code.specs.Drafts.{Draft}
 use Rattle.uc_code.specs.Laid.{Laid, laid_in, chain}
 use Rattle.uc_code.specs.Ranges.{One}
 use Rattle.uc_code.specs.Lowered.{ExprAt}
+use Rattle.uc_code.proofs.Patches.{bare_stays}
 use Rattle.uc_code.proofs.Stable.{kept_same, same_then}
 use Rattle.uc_lower_expr.specs.declared.meaning.Meaning.{Meaning}
 use Rattle.uc_lower_expr.specs.Meanings.{Tells}
@@ -93,6 +94,7 @@ adds_grows {p} {n} {k} {l} {line} {ms} {m} {f} {s} {t} {old} {mid} {new} r h u g
     same = λ i o n e. let w = slice_get_within old.ops i (record { op = o; line = n }) e.here in g.front.same i o n (omega arith) w (h.kept.same i o n e);
     chains = λ next b. ap (λ (d : Draft). chain d.rows next) (rest_then old mid new h.rest g.rest);
     handlers = λ k e o. g.front.handlers k e (h.kept.handlers k e o);
+    bare = bare_stays (laid_in old) (laid_in new) (ap (λ (d : Draft). d.rows) (rest_then old mid new h.rest g.rest));
   };
   room = let x = h.room in let y = g.room in omega arith;
   code = (g.code m (record { tells = u; code = h.code })).code;

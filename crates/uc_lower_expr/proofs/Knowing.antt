@@ -16,7 +16,7 @@ use Rattle.uc_tree.specs.Programs.{Class, Program}
 use Rattle.uc_tree.specs.Cells.{classes_of, class_cells, object_of_kind, object_named, object_of, rows_of}
 use Rattle.uc_tree.specs.Numbering.{is_event, at_most, class_names, place_from as name_from}
 use Rattle.uc_tree.specs.Source.{Binding, Expr, shape_cells}
-use Rattle.uc_tree.specs.Resolve.{AsValue, result_of, scalar}
+use Rattle.uc_tree.specs.Resolve.{AsValue, event_place, result_of, scalar}
 use Rattle.uc_tree.specs.Objects.{class_at, number_in, number_at, place_from, place_of, plain_in, plain_class, shape_of, kept_shape, class_shape, base_shape, written_at, unwritten_number}
 use Rattle.uc_lower_expr.specs.declared.meaning.Meaning.{Meaning}
 use Rattle.uc_lower_expr.specs.declared.meaning.Scalar.TheVariants as scalars
@@ -126,11 +126,11 @@ module _ (p : Program) (fit : FitClasses p) where
 
 -- what a routine hands over
 
-pub result_told : (p : Program) (r : ℕ) (b : Base) (t : Meaning) (e : Expr) → result_of p r ≡ b → shape_of b ≡ shape_as t.scalar → plain_class p b ≡ t.class → t.elements ≡ None → t.standing ≡ standing.Value → Tells p t (record { expr = e; ty = scalar (result_of p r); standing = AsValue })
-result_told p r b t e is s c l h = record { shape = ap shape_of is ∙ s; class = ap (plain_class p) is ∙ c; len = sym l; standing = subst (λ (x : Told). StandsAs x AsValue) (sym h) refl }
+pub result_told : (p : Program) (r : ℕ) (b : Base) (t : Meaning) (e : Expr) → result_of p r ≡ b → shape_of b ≡ shape_as t.scalar → plain_class p b ≡ t.class → event_place p b ≡ t.event → t.elements ≡ None → t.standing ≡ standing.Value → Tells p t (record { expr = e; ty = scalar (result_of p r); standing = AsValue })
+result_told p r b t e is s c v l h = record { shape = ap shape_of is ∙ s; class = ap (plain_class p) is ∙ c; event = ap (event_place p) is ∙ v; len = sym l; standing = subst (λ (x : Told). StandsAs x AsValue) (sym h) refl }
 
-pub result_none : (p : Program) (r : ℕ) (t : Meaning) (e : Expr) → result_of p r ≡ base.Void → t ≡ record { scalar = scalars.Number; class = None; elements = None; standing = standing.Value } → Tells p t (record { expr = e; ty = scalar (result_of p r); standing = AsValue })
-result_none p r t e is h = subst (λ (x : Meaning). Tells p x (record { expr = e; ty = scalar (result_of p r); standing = AsValue })) (sym h) (record { shape = ap shape_of is; class = ap (plain_class p) is; len = refl; standing = refl })
+pub result_none : (p : Program) (r : ℕ) (t : Meaning) (e : Expr) → result_of p r ≡ base.Void → t ≡ record { scalar = scalars.Number; class = None; event = None; elements = None; standing = standing.Value } → Tells p t (record { expr = e; ty = scalar (result_of p r); standing = AsValue })
+result_none p r t e is h = subst (λ (x : Meaning). Tells p x (record { expr = e; ty = scalar (result_of p r); standing = AsValue })) (sym h) (record { shape = ap shape_of is; class = ap (plain_class p) is; event = ap (event_place p) is; len = refl; standing = refl })
 
 -- what builds and destroys
 

@@ -1,5 +1,6 @@
 pub mod Adding
 pub mod Arms
+pub mod Eventful
 pub mod FieldLemmas
 pub mod Finding
 pub mod Growing

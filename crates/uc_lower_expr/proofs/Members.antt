@@ -3,12 +3,12 @@ use Rattle.std.proofs.Common.{◌≡◌, ℕ, ◌≤◌, pos, List, Bool, true, 
 use Rattle.std.specs.Prelude.{Result, OnOk, IfOk, if◌then◌else◌}
 use Rattle.uc_tree.specs.declared.limits.TheConstants.{OPS_FOR_SIZE}
 use Rattle.uc_tree.specs.declared.kinds.Ty.{Ty}
-use Rattle.uc_tree.specs.declared.kinds.Known.{Known}
 use Rattle.uc_tree.specs.Names.{same_name}
 use Rattle.uc_tree.specs.Programs.{Class, Constant, Program}
 use Rattle.uc_tree.specs.Source.{Shape, Expr, Literal, field_cells}
-use Rattle.uc_tree.specs.Objects.{class_at, class_shape, place_of}
-use Rattle.uc_tree.specs.Resolve.{Meant, Standing, AtPlace, AsValue, AsInput, AsFail, no_meaning, NumberedField, field_type, Whose, Own, Of, field_by_ref, field_found, method_by, member_by, member_in, member_meant, meant_or, own_meant, item_meant, constant_meant_by, routine_meant_by, name_meant, object_member, place_member, field_by, field_meant, fail_name, bool_type, result_of, scalar}
+use Rattle.uc_tree.specs.Numbering.{is_event, routines_of}
+use Rattle.uc_tree.specs.Objects.{class_at, class_shape, member_from, number_at, plain_class}
+use Rattle.uc_tree.specs.Resolve.{Meant, Standing, AtPlace, AsValue, AsInput, AsFail, no_meaning, NumberedField, class_or_event, event_place, field_type, Whose, Own, Of, field_by_ref, field_found, method_by, member_by, member_in, member_meant, meant_or, own_meant, item_meant, constant_meant_by, routine_meant_by, object_member, place_member, field_by, field_meant, fail_name, bool_type, result_of, scalar}
 use Rattle.uc_code.specs.declared.op.Op.{Op}
 use Rattle.uc_code.specs.declared.op.Op.TheVariants as op
 use Rattle.uc_code.specs.declared.rows.Mark.{Mark}
@@ -42,13 +42,22 @@ module _ (p : Program) (i : ℕ) (name : List ℕ) where
   field_is whose v f = field_in whose (class_at p i) v f f.there
 
   -- no field
+
+  none_case : (whose : Whose) (b : Bool) (o : Option ℕ) → (if b then None else o) ≡ None → (if b then no_meaning else method_by p whose o) ≡ no_meaning
+  none_case whose true o k = refl
+  none_case whose false o k = ap (method_by p whose) k
+
+  method_case : (whose : Whose) (b : Bool) (o : Option ℕ) (r : ℕ) → (if b then None else o) ≡ Some r → (if b then no_meaning else method_by p whose o) ≡ method_by p whose (Some r)
+  method_case whose true o r k = cc
+  method_case whose false o r k = ap (method_by p whose) k
+
   none_in : (whose : Whose) (o : Option Class) → no_field p i name o → member_at p i name o ≡ None → member_in p i whose name o ≡ no_meaning
   none_in whose None h k = refl
-  none_in whose (Some c) h k = ap (member_by p c i whose name) h ∙ ap (method_by p whose) k
+  none_in whose (Some c) h k = ap (member_by p c i whose name) h ∙ none_case whose (is_event c.kind) (member_from (routines_of p) 0 (number_at p i) name) k
 
   method_in : (whose : Whose) (o : Option Class) (r : ℕ) → no_field p i name o → member_at p i name o ≡ Some r → member_in p i whose name o ≡ method_by p whose (Some r)
   method_in whose None r h k = cc
-  method_in whose (Some c) r h k = ap (member_by p c i whose name) h ∙ ap (method_by p whose) k
+  method_in whose (Some c) r h k = ap (member_by p c i whose name) h ∙ method_case whose (is_event c.kind) (member_from (routines_of p) 0 (number_at p i) name) r k
 
   pub none_is : (whose : Whose) → no_field p i name (class_at p i) → member_at p i name (class_at p i) ≡ None → member_meant p i whose name ≡ no_meaning
   none_is whose h k = none_in whose (class_at p i) h k
@@ -79,7 +88,7 @@ module _ (p : Program) (i : ℕ) (name : List ℕ) where
 field_told : (p : Program) (c : Class) (i n : ℕ) (f : NumberedField) (v : Field) (x : Told) (m : Meant) → IsFieldAt p c i f.number f.field v → m.ty ≡ field_type p c f.field → StandsAs x m.standing → Tells p (record v.told { standing = x }) m
 field_told p c i n f v x m h e s =
     let u = h.tells (record m { standing = AtPlace }) e refl in
-    record { shape = u.shape; class = u.class; len = u.len; standing = s }
+    record { shape = u.shape; class = u.class; event = u.event; len = u.len; standing = s }
 
 own_told_by : (p : Program) (c : Class) (i : ℕ) (f : NumberedField) (v : Field) (b : Bool) → IsFieldAt p c i f.number f.field v → Tells p (record v.told { standing = own_standing b v.cell }) (field_by_ref b (class_shape p i) f.number Own (field_type p c f.field))
 own_told_by p c i f v true h = field_told p c i 0 f v standing.Place (field_by_ref true (class_shape p i) f.number Own (field_type p c f.field)) h refl refl
@@ -94,18 +103,18 @@ own_told p i name v x t f e is =
 pub method_told : (p : Program) (r : ℕ) (u t : Meaning) (whose : Whose) → ((e : Expr) → Tells p u (record { expr = e; ty = scalar (result_of p r); standing = AsValue })) → t ≡ record u { standing = standing.Member r } → Tells p t (method_by p whose (Some r))
 method_told p r u t whose h e =
     let v = h (Literal (pos 0)) in
-    subst (λ (y : Meaning). Tells p y (method_by p whose (Some r))) (sym e) (record { shape = v.shape; class = v.class; len = v.len; standing = refl })
+    subst (λ (y : Meaning). Tells p y (method_by p whose (Some r))) (sym e) (record { shape = v.shape; class = v.class; event = v.event; len = v.len; standing = refl })
 
 -- what a name of the program stands for is told
 
 pub routine_named : (p : Program) (r : ℕ) (o : Option ℕ) (u t : Meaning) → ((e : Expr) → Tells p u (record { expr = e; ty = scalar (result_of p r); standing = AsValue })) → t ≡ record u { standing = standing.Routine r } → o ≡ Some r → Tells p t (routine_meant_by p o)
 routine_named p r o u t h e is =
     let v = h (Literal (pos 0)) in
-    subst (λ (x : Option ℕ). Tells p t (routine_meant_by p x)) (sym is) (subst (λ (y : Meaning). Tells p y (routine_meant_by p (Some r))) (sym e) (record { shape = v.shape; class = v.class; len = v.len; standing = refl }))
+    subst (λ (x : Option ℕ). Tells p t (routine_meant_by p x)) (sym is) (subst (λ (y : Meaning). Tells p y (routine_meant_by p (Some r))) (sym e) (record { shape = v.shape; class = v.class; event = v.event; len = v.len; standing = refl }))
 
-pub fixed_named : (p : Program) (name : List ℕ) (v : Fixed) (t : Meaning) → IsFixed p name v → t ≡ record { scalar = v.scalar; class = v.class; elements = None; standing = standing.Value } → Tells p t (item_meant p name)
+pub fixed_named : (p : Program) (name : List ℕ) (v : Fixed) (t : Meaning) → IsFixed p name v → t ≡ record { scalar = v.scalar; class = v.class; event = v.event; elements = None; standing = standing.Value } → Tells p t (item_meant p name)
 fixed_named p name v t f e =
-    subst (λ (o : Option Constant). Tells p t (constant_meant_by p name o)) (sym f.is) (subst (λ (y : Meaning). Tells p y (constant_meant_by p name (Some f.constant))) (sym e) (record { shape = f.shape; class = f.class; len = refl; standing = refl }))
+    subst (λ (o : Option Constant). Tells p t (constant_meant_by p name o)) (sym f.is) (subst (λ (y : Meaning). Tells p y (constant_meant_by p name (Some f.constant))) (sym e) (record { shape = f.shape; class = f.class; event = f.event; len = refl; standing = refl }))
 
 -- behind the place of its object, a field that is no reference, and one that is
 pub arm_plain_field : (line : ℕ) (b : Bool) (k : ℕ) (old new : Draft) → b ≡ false → Adds 1 (OpCode line (op.Field k)) old new → Adds 2 (FieldCode line b k) old new
@@ -167,11 +176,15 @@ module _ (ms : List Mark) (line : ℕ) where
 pub array_none : (p : Program) (name : List ℕ) (s : Meaning) (n : ℕ) → s.elements ≡ Some n → (m : Meant) → Tells p s m → place_member p m.ty.len m name ≡ no_meaning
 array_none p name s n e m u = ap (λ (o : Option ℕ). place_member p o m name) (u.len ∙ e)
 
-pub scalar_none : (p : Program) (name : List ℕ) (s : Meaning) → s.elements ≡ None → s.class ≡ None → (m : Meant) → Tells p s m → place_member p m.ty.len m name ≡ no_meaning
-scalar_none p name s e k m u = ap (λ (o : Option ℕ). place_member p o m name) (u.len ∙ e) ∙ ap (λ (o : Option ℕ). object_member p o m.expr name) (u.class ∙ k)
+-- whose members it has
+members_by : (p : Program) (s : Meaning) (o : Option ℕ) → class_or_event s.class s.event ≡ o → (m : Meant) → Tells p s m → class_or_event (plain_class p m.ty.base) (event_place p m.ty.base) ≡ o
+members_by p s o e m u = ap (λ (x : Option ℕ). class_or_event x (event_place p m.ty.base)) u.class ∙ ap (class_or_event s.class) u.event ∙ e
 
-pub object_is : (p : Program) (name : List ℕ) (s : Meaning) (i : ℕ) → s.elements ≡ None → s.class ≡ Some i → (m : Meant) → Tells p s m → place_member p m.ty.len m name ≡ member_meant p i (Of m.expr) name
-object_is p name s i e k m u = ap (λ (o : Option ℕ). place_member p o m name) (u.len ∙ e) ∙ ap (λ (o : Option ℕ). object_member p o m.expr name) (u.class ∙ k)
+pub scalar_none : (p : Program) (name : List ℕ) (s : Meaning) → s.elements ≡ None → class_or_event s.class s.event ≡ None → (m : Meant) → Tells p s m → place_member p m.ty.len m name ≡ no_meaning
+scalar_none p name s e k m u = ap (λ (o : Option ℕ). place_member p o m name) (u.len ∙ e) ∙ ap (λ (o : Option ℕ). object_member p o m.expr name) (members_by p s None k m u)
+
+pub object_is : (p : Program) (name : List ℕ) (s : Meaning) (i : ℕ) → s.elements ≡ None → class_or_event s.class s.event ≡ Some i → (m : Meant) → Tells p s m → place_member p m.ty.len m name ≡ member_meant p i (Of m.expr) name
+object_is p name s i e k m u = ap (λ (o : Option ℕ). place_member p o m name) (u.len ∙ e) ∙ ap (λ (o : Option ℕ). object_member p o m.expr name) (members_by p s (Some i) k m u)
 
 -- from the same of what is told
 pub grows_told : {p : Program} {n line : ℕ} {ms : List Mark} {a : ℕ} {f g : Meant → Meant} {s t : Meaning} {old new : Draft} → ((m : Meant) → Tells p s m → f m ≡ g m) → Grows p n line ms a f s t old new → Grows p n line ms a g s t old new
@@ -196,7 +209,7 @@ grown_told (Err x) p n line ms a f g s old new e h = tt
 no_parts_by : (p : Program) (name : List ℕ) (x : Told) → ((o : Standing) (m : Meant) → StandsAs x o → field_by p o m name ≡ no_meaning) → (s : Meaning) → s.standing ≡ x → (m : Meant) → Tells p s m → field_meant p m name ≡ no_meaning
 no_parts_by p name x none s e m u = none m.standing m (stands s m x u e)
 
-pub no_part : {E : Type 0} (r : Result Meaning E) (p : Program) (ms : List Mark) (line a : ℕ) (name : List ℕ) (x : Told) (s : Meaning) (old new : Draft) → a ≤ length old.ops → s.standing ≡ x → ((o : Standing) (m : Meant) → StandsAs x o → field_by p o m name ≡ no_meaning) → OnOk r (Restarts (op.Push (pos 0)) line a old new) → IfOk r (λ t. t ≡ record { scalar = shape.Number; class = None; elements = None; standing = standing.Nothing }) → IfOk r (λ t. Grows p OPS_FOR_SIZE line ms a (λ m. field_meant p m name) s t old new)
+pub no_part : {E : Type 0} (r : Result Meaning E) (p : Program) (ms : List Mark) (line a : ℕ) (name : List ℕ) (x : Told) (s : Meaning) (old new : Draft) → a ≤ length old.ops → s.standing ≡ x → ((o : Standing) (m : Meant) → StandsAs x o → field_by p o m name ≡ no_meaning) → OnOk r (Restarts (op.Push (pos 0)) line a old new) → IfOk r (λ t. t ≡ record { scalar = shape.Number; class = None; event = None; elements = None; standing = standing.Nothing }) → IfOk r (λ t. Grows p OPS_FOR_SIZE line ms a (λ m. field_meant p m name) s t old new)
 no_part r p ms line a name x s old new l e none h q = put_for_nothing ms r p OPS_FOR_SIZE line a (λ m. field_meant p m name) s old new (omega arith) l (no_parts_by p name x none s e) h q
 
 -- places have the members of their objects
@@ -221,9 +234,9 @@ at_place_member r p n line ms a name s old new e h = grown_told r p n line ms a 
 
 -- `cin` has one member
 
-input_by : (p : Program) (b : Bool) → Tells p (if b then record { scalar = shape.Truth; class = None; elements = None; standing = standing.Fail } else record { scalar = shape.Number; class = None; elements = None; standing = standing.Nothing }) (if b then record { expr = Literal (pos 0); ty = bool_type; standing = AsFail } else no_meaning)
-input_by p true = record { shape = refl; class = refl; len = refl; standing = refl }
-input_by p false = record { shape = refl; class = refl; len = refl; standing = refl }
+input_by : (p : Program) (b : Bool) → Tells p (if b then record { scalar = shape.Truth; class = None; event = None; elements = None; standing = standing.Fail } else record { scalar = shape.Number; class = None; event = None; elements = None; standing = standing.Nothing }) (if b then record { expr = Literal (pos 0); ty = bool_type; standing = AsFail } else no_meaning)
+input_by p true = record { shape = refl; class = refl; event = refl; len = refl; standing = refl }
+input_by p false = record { shape = refl; class = refl; event = refl; len = refl; standing = refl }
 
 input_code : (ms : List Mark) (line : ℕ) (b : Bool) (code : Laid) (a z : ℕ) → One code (op.Push (pos 0)) line a z → ExprAt code line ms (if b then record { expr = Literal (pos 0); ty = bool_type; standing = AsFail } else no_meaning).expr a z
 input_code ms line true code a z h = h
@@ -238,8 +251,3 @@ arm_input p ms line a name s t old new l e q h =
 pub input_member : {E : Type 0} (r : Result Meaning E) (p : Program) (ms : List Mark) (line a : ℕ) (name : List ℕ) (s : Meaning) (old new : Draft) → a ≤ length old.ops → s.standing ≡ standing.Input → OnOk r (Restarts (op.Push (pos 0)) line a old new) → IfOk r (λ t. t ≡ input_told name) → IfOk r (λ t. Grows p OPS_FOR_SIZE line ms a (λ m. field_meant p m name) s t old new)
 input_member (Ok t) p ms line a name s old new l e h q = arm_input p ms line a name s t old new l e q h
 input_member (Err x) p ms line a name s old new l e h q = tt
-
--- a name that is that of no variable
-
-pub other_name : (p : Program) (class : ℕ) (name : List ℕ) (k : Option Known) (o : Option ℕ) → k ≡ None → o ≡ place_of p class → name_meant p class name k ≡ own_meant p o name
-other_name p class name k o e h = ap (name_meant p class name) e ∙ ap (λ (x : Option ℕ). own_meant p x name) (sym h)

@@ -19,7 +19,7 @@ noted_by : (b : Block) (x : List ℕ) (k : ℕ) (name : List ℕ) (t : Bool) →
 noted_by b x k name true e = sym (stood_case b x name (found (b ∷ []) name) k (found_one b name) e (same_name x name) refl)
 noted_by b x k name false e = found_one ((x, k) ∷ b) name ∙ new_case b x name k e (same_name x name) refl ∙ ap (λ o. id_or o (if same_name x name then Some k else None)) (sym (found_one b name))
 
-found_noted : (bs : List Block) (x : List ℕ) (k : ℕ) (name : List ℕ) → length bs ≡ 1 → found (noted_name bs x k) name ≡ id_or (found bs name) (if same_name x name then Some k else None)
+pub found_noted : (bs : List Block) (x : List ℕ) (k : ℕ) (name : List ℕ) → length bs ≡ 1 → found (noted_name bs x k) name ≡ id_or (found bs name) (if same_name x name then Some k else None)
 found_noted [] x k name l = absurd (omega (arith, l))
 found_noted (b ∷ []) x k name l = noted_by b x k name (is_some (id_in b x)) refl
 found_noted (b ∷ c ∷ bs) x k name l = absurd (omega (arith, l))

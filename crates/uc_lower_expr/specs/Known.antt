@@ -1,11 +1,13 @@
 -- What is known of the names of a program.
-use Rattle.std.specs.Prelude.{◌≡◌, ℕ, zero, suc, List, [], ◌∷◌, ◌++◌, Option, Some, None, slice_get, true, false}
+use Rattle.std.specs.Prelude.{◌≡◌, ℕ, zero, suc, List, [], ◌∷◌, ◌++◌, Bool, Option, Some, None, slice_get, true, false}
 use Rattle.uc_names.specs.Blocks.{Block, found}
 use Rattle.uc_tree.specs.Programs.{Class, Program}
 use Rattle.uc_tree.specs.Cells.{classes_of}
-use Rattle.uc_tree.specs.Numbering.{routines_of}
+use Rattle.uc_sizes.specs.Places.{IsPlaces}
+use Rattle.uc_tree.specs.Numbering.{event_names, is_event, routines_of}
 use Rattle.uc_tree.specs.Objects.{class_at, number_at}
 use Rattle.uc_tree.specs.Resolve.{routine_from}
+use Rattle.uc_lower_expr.specs.Events.{AreBuilders}
 use Rattle.uc_lower_expr.specs.Numbered.{IsNumbering}
 use Rattle.uc_lower_expr.specs.Members.{AreByNumber, AreFields, AreRoutines, AreTables, FitClasses, object_places}
 use Rattle.uc_lower_expr.specs.declared.fields.FieldTable.{FieldTable}
@@ -13,19 +15,25 @@ use Rattle.uc_lower_expr.specs.declared.numbering.ClassRoutine.{ClassRoutine}
 use Rattle.uc_lower_expr.specs.declared.numbering.Numbering.{Numbering}
 use Rattle.uc_lower_expr.specs.declared.routine_table.RoutineTable.{RoutineTable}
 
-pub record AreKnown (p : Program) (n : Numbering) (alone : List Block) (objects : List ℕ) (fields : List FieldTable) (routines : List RoutineTable) : Type 0 where
+pub record AreKnown (p : Program) (n : Numbering) (alone : List Block) (objects : List ℕ) (fields : List FieldTable) (routines : List RoutineTable) (events builders : List Block) : Type 0 where
   pub fit : FitClasses p
   pub numbering : IsNumbering p n
   pub alone_are : (name : List ℕ) → found alone name ≡ routine_from (routines_of p) 0 name
   pub objects_are : objects ≡ object_places (classes_of p.items) 0
   pub fields_are : AreTables p fields
   pub routines_are : AreByNumber p routines
+  pub events_are : IsPlaces (event_names (classes_of p.items)) events
+  pub builders_are : AreBuilders (routines_of p) builders
 
 -- the fields of the class c with this place behind those of the classes before it
 pub record NotesFields (p : Program) (place : ℕ) (c : Class) (old new : List FieldTable) : Type 0 where
   pub table : FieldTable
   pub is : new ≡ old ++ table ∷ []
   pub fields : AreFields p place c table
+
+abbrev pub is_event_in : Option Class → Bool
+is_event_in None = false
+is_event_in (Some c) = is_event c.kind
 
 -- a table of the routines of the class with the place i
 pub record HasRoutines (p : Program) (i : ℕ) (t : RoutineTable) : Type 0 where

@@ -1,5 +1,6 @@
 pub mod Added
 pub mod Contexts
+pub mod Events
 pub mod Known
 pub mod Meanings
 pub mod Members

@@ -43,10 +43,11 @@ StandsAs (standing.Routine r) s = s ≡ resolve.AsRoutine r
 StandsAs (standing.Member r) s = s ≡ resolve.AsMember r
 StandsAs standing.Nothing s = s ≡ resolve.AsNothing
 
--- what is told of an expression of a program that stands for this: how its base keeps a number, the class that it names, its
--- length, and its standing
+-- what is told of an expression of a program that stands for this: how its base keeps a number, the class or the event that it
+-- names, its length, and its standing
 pub record Tells (p : Program) (told : Meaning) (m : resolve.Meant) : Type 0 where
   pub shape : shape_of m.ty.base ≡ shape_as told.scalar
   pub class : plain_class p m.ty.base ≡ told.class
+  pub event : resolve.event_place p m.ty.base ≡ told.event
   pub len : m.ty.len ≡ told.elements
   pub standing : StandsAs told.standing m.standing

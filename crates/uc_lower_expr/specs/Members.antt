@@ -80,10 +80,10 @@ pub record AreRoutines (ds : List Defined) (number : ℕ) (t : RoutineTable) : T
   pub builds : t.built_by ≡ role_from ds 0 number role.Constructor
   pub destroys : t.destroyed_by ≡ role_from ds 0 number role.Destructor
 
--- the member of this name of the class with the place i
+-- the member of this name of the class with the place i; an event has none but its fields
 abbrev pub member_at : Program → ℕ → List ℕ → Option Class → Option ℕ
 member_at p i name None = None
-member_at p i name (Some c) = member_from (routines_of p) 0 (number_at p i) name
+member_at p i name (Some c) = if is_event c.kind then None else member_from (routines_of p) 0 (number_at p i) name
 
 -- by the numbers of classes, 0 included
 pub record AreByNumber (p : Program) (tables : List RoutineTable) : Type 0 where

@@ -8,6 +8,7 @@ use Rattle.uc_tree.specs.Programs.{Program}
 use Rattle.uc_tree.specs.Rows.{held_cells}
 use Rattle.uc_tree.specs.Cells.{class_cells}
 use Rattle.uc_tree.specs.Objects.{ClassField, plain_class, shape_of}
+use Rattle.uc_tree.specs.Resolve.{event_place}
 use Rattle.uc_lower_expr.specs.Meanings.{shape_as}
 use Rattle.uc_lower_expr.specs.declared.meaning.Standing.TheVariants as standing
 use Rattle.uc_lower_expr.specs.declared.fields.Field.{Field}
@@ -26,6 +27,7 @@ pub record IsNoted (p : Program) (cells : ℕ) (h : Held) (f : ClassField) (v : 
   pub by_ref : f.declarator.by_ref ≡ v.by_ref
   pub shape : shape_of f.base ≡ shape_as v.told.scalar
   pub class : plain_class p f.base ≡ v.told.class
+  pub event : event_place p f.base ≡ v.told.event
   pub len : v.told.elements ≡ length_by f.declarator.len h.count
   pub standing : v.told.standing ≡ standing.Place
 

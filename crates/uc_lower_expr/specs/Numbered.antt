@@ -7,7 +7,7 @@ use Rattle.uc_tree.specs.Constants.{constants_of, constant_named, value_of_name}
 use Rattle.uc_tree.specs.Cells.{classes_of}
 use Rattle.uc_tree.specs.Numbering.{Defined, is_plain, class_number, routines_of}
 use Rattle.uc_tree.specs.Objects.{plain_class, shape_of, unwritten_number}
-use Rattle.uc_tree.specs.Resolve.{is_here, routine_from, value_or_zero}
+use Rattle.uc_tree.specs.Resolve.{event_place, is_here, routine_from, value_or_zero}
 use Rattle.uc_lower_expr.specs.Meanings.{shape_as}
 use Rattle.uc_lower_expr.specs.declared.numbering.Fixed.{Fixed}
 use Rattle.uc_lower_expr.specs.declared.numbering.Numbering.{Numbering}
@@ -46,3 +46,4 @@ pub record IsFixed (p : Program) (name : List ℕ) (v : Fixed) : Type 0 where
   pub value : v.value ≡ value_or_zero (value_of_name (constants_of p.items) name)
   pub shape : shape_of constant.base ≡ shape_as v.scalar
   pub class : plain_class p constant.base ≡ v.class
+  pub event : event_place p constant.base ≡ v.event

@@ -153,4 +153,4 @@ bumped step.Decrement m = updated Minus m (Literal (pos 1))
 
 -- what is told of a member of `cin`
 abbrev pub input_told : List ℕ → Meaning
-input_told name = if same_name name fail_name then record { scalar = scalar.Truth; class = None; elements = None; standing = standing.Fail } else record { scalar = scalar.Number; class = None; elements = None; standing = standing.Nothing }
+input_told name = if same_name name fail_name then record { scalar = scalar.Truth; class = None; event = None; elements = None; standing = standing.Fail } else record { scalar = scalar.Number; class = None; event = None; elements = None; standing = standing.Nothing }

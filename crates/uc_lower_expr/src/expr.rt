@@ -421,7 +421,7 @@ fn lower_name(
             put(place_op(variable.by_ref, variable.cell), line, out)?;
             Ok(variable.told)
         }
-        None => match names.class_of(out.place().class) {
+        None => match out.place().class {
             Some(class) => lower_own_name(class, name, line, names, out),
             None => lower_item_name(name, line, names, out),
         },
@@ -531,11 +531,12 @@ fn lower_item_name(
 
 // A constant is a value of its type.
 fn fixed_told(fixed: Fixed) -> Meaning
-    ensures { result ≡ record { scalar = fixed.scalar; class = fixed.class; elements = None; standing = Standing.Value } }
+    ensures { result ≡ record { scalar = fixed.scalar; class = fixed.class; event = fixed.event; elements = None; standing = Standing.Value } }
 {
     Meaning {
         scalar: fixed.scalar,
         class: fixed.class,
+        event: fixed.event,
         elements: None,
         standing: Standing::Value,
     }
@@ -585,7 +586,7 @@ fn put_nothing(start: u32, line: u32, out: &mut Draft) -> Result<Meaning, AllocE
     requires inside { start ≤ length out.old.ops }
     requires room { start < PROGRAM_OPS }
     ensures code { OnOk result (Restarts (Op.Push (pos 0)) line start out.old out.new) }
-    ensures tells { IfOk result (λ told. told ≡ record { scalar = Scalar.Number; class = None; elements = None; standing = Standing.Nothing }) }
+    ensures tells { IfOk result (λ told. told ≡ record { scalar = Scalar.Number; class = None; event = None; elements = None; standing = Standing.Nothing }) }
 {
     restart(Op::Push(0), start, line, out)?;
     Ok(Meaning::nothing())
@@ -617,7 +618,7 @@ fn input_told(name: &Name) -> Meaning
     Meaning::nothing()
 }
 
-// A member of an object at the place that stands from `start` on. An array has none.
+// A member of an object at the place that stands from `start` on, or a field of the event there. An array has none.
 fn lower_member(
     name: &Name,
     told: Meaning,
@@ -633,7 +634,7 @@ fn lower_member(
 {
     match told.elements {
         Some(_) => put_nothing(start, line, out),
-        None => match told.class {
+        None => match told.members_of() {
             Some(class) => lower_member_of(class, name, told, start, line, names, out),
             None => put_nothing(start, line, out),
         },

@@ -4,6 +4,7 @@ ghost use Rattle.std.specs.Prelude.{◌≡◌, ◌∷◌, [], ℕ, None, Some, I
 ghost use Rattle.uc_tree.specs.Objects.{class_at, declared_fields, fields_of, form_fields, plain_class, shape_of};
 ghost use Rattle.uc_tree.specs.Programs.{Class as Whole, Program};
 ghost use Rattle.uc_tree.specs.ProgramViews.{member_form_at};
+ghost use Rattle.uc_tree.specs.Resolve.{event_place};
 ghost use Rattle.uc_lower_expr.specs.Meanings.{shape_as};
 ghost use Rattle.uc_lower_expr.specs.Members.{AreFields, AreTables, FitClasses, IsField, IsNthField, count_fields, no_field, no_field_at};
 ghost use Rattle.uc_lower_expr.specs.Noted.{HasNames, Notes, length_by, one_scalar};
@@ -41,12 +42,14 @@ pub struct FieldTable {
 pub fn value_of_base(sizes: &Sizes, base: &Base) -> Meaning
     ensures shape { shape_of base.now ≡ shape_as result.scalar }
     ensures class { plain_class sizes.now base.now ≡ result.class }
+    ensures event { event_place sizes.now base.now ≡ result.event }
     ensures len { result.elements ≡ None }
     ensures standing { result.standing ≡ Standing.Value }
 {
     Meaning {
         scalar: Scalar::of_base(base),
         class: sizes.plain_class(base),
+        event: sizes.event_place(base),
         elements: None,
         standing: Standing::Value,
     }

@@ -1,6 +1,7 @@
 // The lowering of expressions: the code of what an expression stands for.
 #![tactic(auto)]
 
+pub mod events;
 pub mod expr;
 pub mod fields;
 pub mod meaning;

@@ -2,6 +2,7 @@
 
 ghost use Rattle.std.specs.Prelude.{◌≡◌, None};
 ghost use Rattle.uc_tree.specs.Objects.{shape_of};
+ghost use Rattle.uc_tree.specs.Resolve.{class_or_event};
 ghost use Rattle.uc_lower_expr.specs.Meanings.{cell_in, shape_as};
 
 use uc_tree::kinds::Base;
@@ -49,12 +50,13 @@ impl Standing {
     }
 }
 
-/// How the base of an expression's type keeps a number, the class of plain objects that the base names, by its place among the
-/// classes of the program, the length of an array, and what the expression is.
+/// How the base of an expression's type keeps a number, the class of plain objects or the event that the base names, by its place
+/// among the classes of the program, the length of an array, and what the expression is.
 #[derive(Clone, Copy, PartialEq, Eq, Debug)]
 pub struct Meaning {
     pub scalar: Scalar,
     pub class: Option<usize>,
+    pub event: Option<usize>,
     pub elements: Option<u32>,
     pub standing: Standing,
 }
@@ -80,11 +82,12 @@ impl Scalar {
 impl Meaning {
     /// A scalar value.
     pub fn value(scalar: Scalar) -> Meaning
-        ensures { result ≡ record { scalar = scalar; class = None; elements = None; standing = Standing.Value } }
+        ensures { result ≡ record { scalar = scalar; class = None; event = None; elements = None; standing = Standing.Value } }
     {
         Meaning {
             scalar,
             class: None,
+            event: None,
             elements: None,
             standing: Standing::Value,
         }
@@ -92,13 +95,24 @@ impl Meaning {
 
     /// What breaks a rule: the value 0, which stands for nothing.
     pub fn nothing() -> Meaning
-        ensures { result ≡ record { scalar = Scalar.Number; class = None; elements = None; standing = Standing.Nothing } }
+        ensures { result ≡ record { scalar = Scalar.Number; class = None; event = None; elements = None; standing = Standing.Nothing } }
     {
         Meaning {
             scalar: Scalar::Number,
             class: None,
+            event: None,
             elements: None,
             standing: Standing::Nothing,
+        }
+    }
+
+    /// The class whose members it has: that of an object, or an event.
+    pub(crate) fn members_of(self) -> Option<usize>
+        ensures { result ≡ class_or_event self.class self.event }
+    {
+        match self.class {
+            Some(class) => Some(class),
+            None => self.event,
         }
     }
 

@@ -38,6 +38,7 @@ pub(crate) fn variable_named(out: &Draft, names: &ProgramNames, name: &Name) -> 
             told: Meaning {
                 scalar: Scalar::of_base(&known.ty.base),
                 class: names.sizes().plain_class(&known.ty.base),
+                event: names.sizes().event_place(&known.ty.base),
                 elements: known.ty.len,
                 standing: standing_of(known.ty.by_ref, known.cell),
             },

@@ -3,11 +3,12 @@
 use crate::meaning::Scalar;
 use uc_tree::class::Routine;
 
-/// A constant: how its type keeps a number, the class of plain objects that its base names, and its value.
+/// A constant: how its type keeps a number, the class of plain objects or the event that its base names, and its value.
 #[derive(Clone, Copy, PartialEq, Eq, Debug)]
 pub struct Fixed {
     pub scalar: Scalar,
     pub class: Option<usize>,
+    pub event: Option<usize>,
     pub value: i64,
 }
 

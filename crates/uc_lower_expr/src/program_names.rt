@@ -5,16 +5,17 @@ ghost use Rattle.uc_names.specs.Blocks.{found};
 ghost use Rattle.uc_tree.specs.declared.kinds.Base.{Base as Named};
 ghost use Rattle.uc_tree.specs.declared.kinds.Role.TheVariants as role;
 ghost use Rattle.uc_tree.specs.Constants.{constants_of, constant_named};
-ghost use Rattle.uc_tree.specs.Numbering.{Defined, is_event, is_plain, routines_of};
+ghost use Rattle.uc_tree.specs.Numbering.{Defined, is_plain, routines_of};
 ghost use Rattle.uc_tree.specs.Cells.{classes_of, class_cells};
 ghost use Rattle.uc_tree.specs.Objects.{class_at, place_of, plain_class, base_shape, shape_of};
 ghost use Rattle.uc_tree.specs.Source.{Expr, shape_cells};
-ghost use Rattle.uc_tree.specs.Resolve.{AsValue, is_here, routine_from, params_of, result_of, scalar};
+ghost use Rattle.uc_tree.specs.Resolve.{AsValue, event_constructor, is_here, number_of_event, routine_from, params_of, result_of, scalar};
 ghost use Rattle.uc_lower_expr.specs.Meanings.{Tells, shape_as};
 ghost use Rattle.uc_lower_expr.specs.Numbered.{is_called_alone, AreAmong, IsFixed, IsNumbering};
 ghost use Rattle.uc_lower_expr.specs.Members.{AreTables, FitClasses, IsField, IsNthField, count_fields, member_at, no_field, no_field_at, object_places, routine_for};
-ghost use Rattle.uc_lower_expr.specs.Known.{HasRoutines, NotesFields, place_among, routine_or};
+ghost use Rattle.uc_lower_expr.specs.Known.{HasRoutines, NotesFields, is_event_in, place_among, routine_or};
 
+use crate::events::{builders_of, events_of, is_event, number_of};
 use crate::fields::{Field, FieldTable, count_of, field_of, fields_of, nth_field, value_of_base};
 use crate::meaning::{Meaning, Scalar};
 use crate::numbering::{ClassRoutine, Fixed, Numbering};
@@ -22,10 +23,11 @@ use crate::routine_table::{RoutineTable, member_in, table_of, tables_of};
 use std::alloc::{AllocError, Global};
 use std::marker::Model;
 use uc_names::scope::Scope;
-use uc_sizes::places::no_places;
+use uc_sizes::places::{no_places, place_in};
 use uc_sizes::sizes::Sizes;
 use uc_tree::class::{Class, Routine, Sig};
-use uc_tree::kinds::{Base, Kind, Owner, Param, Role};
+use uc_tree::kinds::{Base, Owner, Param, Role};
+use uc_tree::limits::UNHANDLED;
 use uc_tree::name::Name;
 
 /// A program whose constants, routines, classes and their members are known by their names, with their numbers. No class has itself
@@ -38,6 +40,8 @@ pub struct ProgramNames<'a> {
     objects: Vec<usize>,
     fields: Vec<FieldTable>,
     routines: Vec<RoutineTable>,
+    events: Scope,
+    builders: Scope,
 }
 
 impl<'a> Model for ProgramNames<'a> {
@@ -51,7 +55,7 @@ impl<'a> Model for ProgramNames<'a> {
 
     ghost view = { λ a. a.sizes.now };
 
-    ghost invariant = { λ a. AreKnown a.sizes.now a.numbering a.alone a.objects.items a.fields.items a.routines.items };
+    ghost invariant = { λ a. AreKnown a.sizes.now a.numbering a.alone a.objects.items a.fields.items a.routines.items a.events a.builders };
 }
 
 fn is_here(owner: &Owner) -> bool
@@ -88,7 +92,8 @@ pub fn sig_of(routine: &Routine) -> &Sig
     &routine.sig
 }
 
-fn name_of(sig: &Sig) -> &Name
+/// The name of a signature.
+pub fn name_of(sig: &Sig) -> &Name
     ensures { result.now ≡ sig.now.name }
 {
     &sig.name
@@ -150,16 +155,13 @@ fn routine_at<'a>(routines: &[&'a Routine], number: u32) -> Option<&'a Routine>
     routines.get(number as usize).copied()
 }
 
-fn is_event(kind: Kind) -> bool
-    ensures { result ≡ is_event kind }
+// Whether the class with this place is an event.
+fn is_event_at(sizes: &Sizes, place: usize) -> bool
+    ensures { result ≡ is_event_in (class_at sizes.now place) }
 {
-    match kind {
-        Kind::Class => false,
-        Kind::Coroutine => false,
-        Kind::Monitor => false,
-        Kind::Cormonitor => false,
-        Kind::Task => false,
-        Kind::Event => true,
+    match sizes.class(place) {
+        Some(class) => is_event(class.kind),
+        None => false,
     }
 }
 
@@ -258,6 +260,8 @@ impl<'a> ProgramNames<'a> {
         let mut fields = Vec::new(alloc);
         let mut objects = Vec::new(alloc);
         note_classes(alloc, sizes, count, &mut fields, &mut objects)?;
+        let events = events_of(alloc, sizes, count)?;
+        let builders = builders_of(alloc, &numbering.routines, &numbering.owners)?;
         Ok(ProgramNames {
             sizes,
             numbering,
@@ -265,6 +269,8 @@ impl<'a> ProgramNames<'a> {
             objects,
             fields,
             routines,
+            events,
+            builders,
         })
     }
 
@@ -290,6 +296,7 @@ impl<'a> ProgramNames<'a> {
             Some(constant) => Some(Fixed {
                 scalar: Scalar::of_base(&constant.base),
                 class: self.sizes.plain_class(&constant.base),
+                event: self.sizes.event_place(&constant.base),
                 value: self.sizes.value_of(name).unwrap_or(0),
             }),
             None => None,
@@ -322,6 +329,24 @@ impl<'a> ProgramNames<'a> {
             Some(routine) => value_of_base(self.sizes, result_of(sig_of(routine))),
             None => Meaning::value(Scalar::Number),
         }
+    }
+
+    /// The number of the event of a name; one that is not there counts as 0.
+    pub fn event(&self, name: &Name) -> u8
+        ensures { result ≡ number_of_event self.now name.now }
+    {
+        if name.is(b"uUnhandled") {
+            return UNHANDLED;
+        }
+        number_of(place_in(&self.events, name))
+    }
+
+    /// The number of the constructor of the event of a name, where it is written.
+    pub fn event_constructor(&self, name: &Name) -> Option<u32>
+        ensures { result ≡ event_constructor self.now name.now }
+    {
+        let number = self.builders.find(name.bytes());
+        number
     }
 
     /// The place of the class of this number, none for 0.
@@ -363,10 +388,13 @@ impl<'a> ProgramNames<'a> {
         table
     }
 
-    /// The number of the member of a name in the class with this place.
+    /// The number of the member of a name in the class with this place. An event has none.
     pub fn member(&self, class: usize, name: &Name) -> Option<u32>
         ensures { result ≡ member_at self.now class name.now (class_at self.now class) }
     {
+        if is_event_at(self.sizes, class) {
+            return None;
+        }
         match self.routines_of(class) {
             Some(table) => member_in(table, name),
             None => None,

@@ -90,10 +90,10 @@ clean_scope (mark.Clean what line row) ms o e b =
     let f : (record { what = what; line = line }) ≡ o = cc in
     record { row = row; outer = ms; is = ap (λ (x : ObjectScope). mark.Clean x.what x.line row ∷ ms) f; behind = subst (λ (x : ObjectScope). StandsBehind ms x.what) f b.0 }
 clean_scope (mark.Body routine) ms o e b = absurd (none_some o e)
-clean_scope (mark.Finish routine line) ms o e b = absurd (none_some o e)
+clean_scope (mark.Finish routine line row) ms o e b = absurd (none_some o e)
 clean_scope (mark.Loop leave again) ms o e b = absurd (none_some o e)
-clean_scope (mark.Whole leave) ms o e b = absurd (none_some o e)
-clean_scope (mark.Guard first count) ms o e b = absurd (none_some o e)
+clean_scope (mark.Whole leave row) ms o e b = absurd (none_some o e)
+clean_scope (mark.Guard row) ms o e b = absurd (none_some o e)
 clean_scope (mark.Part row) ms o e b = absurd (none_some o e)
 clean_scope (mark.Elements row) ms o e b = absurd (none_some o e)
 clean_scope (mark.Outward below row) ms o e b = absurd (none_some o e)

@@ -7,7 +7,7 @@ use Rattle.uc_code.specs.declared.rows.Mark.TheVariants as mark
 use Rattle.uc_code.specs.declared.rows.ObjectCall.{ObjectCall}
 use Rattle.uc_code.specs.Drafts.{Draft}
 use Rattle.uc_code.specs.Laid.{Laid, laid_in}
-use Rattle.uc_code.specs.Ranges.{OpAt, One, Risk, HandlerAt, ScopeOf, BehindPart, Kept}
+use Rattle.uc_code.specs.Ranges.{OpAt, One, Risk, HandlerAt, clean_up, ScopeOf, BehindPart, Kept}
 use Rattle.uc_code.specs.Lowered.{CleanAt}
 use Rattle.uc_code.specs.Open.{StandsBehind, handler_in, row_in, closed}
 use Rattle.uc_code.specs.Puts.{Puts, place_length, called_length, clean_by, clean_length}
@@ -63,7 +63,7 @@ pub marks_past_part : (ahead : ℕ) (d0 d1 : Draft) → InPart d0.marks → d1 �
 marks_past_part ahead d0 d1 h e = closed_marks ahead h.row d0 d1 e (ap row_in h.is)
 
 module _ (line end ahead : ℕ) (what : ObjectCall) (d0 d1 d2 d3 d4 d5 : Draft) (in_scope : InScope what line d0.marks)
-    (c1 : d1 ≡ closed ahead d0) (k1 : Kept (laid_in d0) (laid_in d1)) (h1 : (row : ℕ) → handler_in d0.marks ≡ Some row → HandlerAt (laid_in d1) row (length d0.ops + ahead))
+    (c1 : d1 ≡ closed ahead d0) (k1 : Kept (laid_in d0) (laid_in d1)) (h1 : (row : ℕ) → handler_in d0.marks ≡ Some row → HandlerAt (laid_in d1) row (clean_up (length d0.ops + ahead)))
     (p2 : Puts 17 (λ code. CleanAt code line what d1.marks) d1 d2) (p3 : Puts 1 (λ code. One code (op.Jump end) line) d2 d3)
     (p4 : Puts 17 (λ code. CleanAt code line what d3.marks) d3 d4) (p5 : Puts 1 (λ code. Risk code d4.marks op.Unwind line) d4 d5)
     (ae : ahead ≡ clean_length what + 1) (ee : end ≡ length d0.ops + 2 * clean_length what + 2) where
@@ -124,10 +124,10 @@ module _ (line end ahead : ℕ) (what : ObjectCall) (d0 d1 d2 d3 d4 d5 : Draft) 
   unwind_at : Risk code (drop 1 d0.marks) op.Unwind line (length d4.ops) (length d5.ops)
   unwind_at = subst (λ l. Risk code l op.Unwind line (length d4.ops) (length d5.ops)) marks4 p5.code
 
-  handler_at : (row : ℕ) → handler_in d0.marks ≡ Some row → HandlerAt code row (length d2.ops + 1)
+  handler_at : (row : ℕ) → handler_in d0.marks ≡ Some row → HandlerAt code row (clean_up (length d2.ops + 1))
   handler_at row h =
       let e : length d0.ops + ahead ≡ length d2.ops + 1 = (let a = ops2 in let b = ae in omega arith) in
-      keep1.handlers row (length d2.ops + 1) (subst (λ k. HandlerAt (laid_in d1) row k) e (h1 row h))
+      keep1.handlers row (clean_up (length d2.ops + 1)) (subst (λ k. HandlerAt (laid_in d1) row (clean_up k)) e (h1 row h))
 
   pub scope_closed : ClosesScope what line d0 d5
   scope_closed = record {
@@ -147,7 +147,7 @@ module _ (line end ahead : ℕ) (what : ObjectCall) (d0 d1 d2 d3 d4 d5 : Draft) 
   }
 
 module _ (line end : ℕ) (what : ObjectCall) (d0 d1 d2 d3 d4 : Draft) (in_part : InPart d0.marks)
-    (c1 : d1 ≡ closed 1 d0) (k1 : Kept (laid_in d0) (laid_in d1)) (h1 : (row : ℕ) → handler_in d0.marks ≡ Some row → HandlerAt (laid_in d1) row (length d0.ops + 1))
+    (c1 : d1 ≡ closed 1 d0) (k1 : Kept (laid_in d0) (laid_in d1)) (h1 : (row : ℕ) → handler_in d0.marks ≡ Some row → HandlerAt (laid_in d1) row (clean_up (length d0.ops + 1)))
     (p2 : Puts 1 (λ code. One code (op.Jump end) line) d1 d2) (p3 : Puts 17 (λ code. CleanAt code line what d2.marks) d2 d3) (p4 : Puts 1 (λ code. Risk code d3.marks op.Unwind line) d3 d4)
     (ee : end ≡ length d0.ops + clean_length what + 2) where
   abbrev all : Laid
@@ -207,7 +207,7 @@ module _ (line end : ℕ) (what : ObjectCall) (d0 d1 d2 d3 d4 : Draft) (in_part 
         record {
           leave = left_at;
           unwinds = record { middle = length d3.ops; first = subst (λ l. CleanAt all line what l (length d0.ops + 1) (length d3.ops)) t cleaned_at; second = subst (λ l. Risk all l op.Unwind line (length d3.ops) (length d4.ops)) t unwound_at };
-          handler = stay1.handlers row (length d0.ops + 1) (h1 row (ap handler_in e));
+          handler = stay1.handlers row (clean_up (length d0.ops + 1)) (h1 row (ap handler_in e));
         };
     marks = λ row ms e. marks_of p4 ∙ (past3 ∙ ap (λ (l : List Mark). drop 1 l) e);
   }

@@ -7,7 +7,7 @@ use Rattle.uc_code.specs.declared.rows.ObjectCall.{ObjectCall}
 use Rattle.uc_code.specs.declared.rows.Opening.TheVariants as opening
 use Rattle.uc_code.specs.Drafts.{Draft}
 use Rattle.uc_code.specs.Laid.{Laid, laid_in}
-use Rattle.uc_code.specs.Ranges.{OpAt, One, Risk, HandlerAt, Kept, Stable}
+use Rattle.uc_code.specs.Ranges.{OpAt, One, Risk, HandlerAt, clean_up, Kept, Stable}
 use Rattle.uc_code.specs.Lowered.{CallAt, CallBuilt, CallDone}
 use Rattle.uc_code.specs.Open.{handler_in, row_in, opened, closed}
 use Rattle.uc_code.specs.Puts.{Puts, done_length}
@@ -33,7 +33,7 @@ puts_built line what d0 d1 d2 d3 p q r = puts_more (omega arith) (puts_both (cal
 module _ (line n start test entry : ℕ) (few : n < 2 ^ 32) (builder destroyer : ObjectCall) (d0 d1 d2 d3 d4 d5 d6 d7 d8 d9 : Draft)
     (p1 : Puts 1 (λ code. One code (op.Count 0 test) line) d0 d1) (o2 : d2 ≡ opened opening.Elements d1) (k2 : Kept (laid_in d1) (laid_in d2))
     (p3 : Puts 7 (λ code. CallBuilt code line builder d2.marks) d2 d3) (p4 : Puts 1 (λ code. One code (op.Fill n (start + 1)) line) d3 d4) (p5 : Puts 1 (λ code. One code (op.Jump (entry + 2)) line) d4 d5)
-    (p6 : Puts 6 (λ code. CallDone code line destroyer d5.marks) d5 d6) (c7 : d7 ≡ closed 0 d6) (k7 : Kept (laid_in d6) (laid_in d7)) (h7 : (row : ℕ) → handler_in d6.marks ≡ Some row → HandlerAt (laid_in d7) row (length d6.ops + 0))
+    (p6 : Puts 6 (λ code. CallDone code line destroyer d5.marks) d5 d6) (c7 : d7 ≡ closed 0 d6) (k7 : Kept (laid_in d6) (laid_in d7)) (h7 : (row : ℕ) → handler_in d6.marks ≡ Some row → HandlerAt (laid_in d7) row (clean_up (length d6.ops + 0)))
     (p8 : Puts 1 (λ code. One code (op.Sweep (test + 2)) line) d7 d8) (p9 : Puts 1 (λ code. Risk code d8.marks op.Unwind line) d8 d9)
     (st : start ≡ length d0.ops) (te : test ≡ start + 2 + done_length builder) (en : entry ≡ test + 2 + done_length destroyer) where
   abbrev ms : List Mark
@@ -142,10 +142,10 @@ module _ (line n start test entry : ℕ) (few : n < 2 ^ 32) (builder destroyer :
   unwind_at : Risk code ms op.Unwind line (entry + 1) (length d9.ops)
   unwind_at = subst (λ a. Risk code ms op.Unwind line a (length d9.ops)) ops8 (subst (λ l. Risk code l op.Unwind line (length d8.ops) (length d9.ops)) marks8 p9.code)
 
-  handler_at : HandlerAt code row entry
+  handler_at : HandlerAt code row (clean_up entry)
   handler_at =
       let e : length d6.ops + 0 ≡ entry = (let a = at_entry in omega arith) in
-      keep7.handlers row entry (subst (λ k. HandlerAt (laid_in d7) row k) e (h7 row (ap handler_in marks6)))
+      keep7.handlers row (clean_up entry) (subst (λ k. HandlerAt (laid_in d7) row (clean_up k)) e (h7 row (ap handler_in marks6)))
 
   pub filled : Puts 18 (FillCode line ms builder destroyer n) d0 d9
   filled = record {

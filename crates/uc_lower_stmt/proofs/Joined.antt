@@ -11,7 +11,7 @@ use Rattle.uc_lower_stmt.specs.Scoped.{Lowers, scope_of}
 
 pub lowers_adds : {n : ℕ} {S : Laid → ℕ → ℕ → Type 0} {old new : Draft} → (k c : ℕ) → Adds n S old new → Lowers n k c 0 S (scope_of old) old new
 lowers_adds {n} {S} {old} {new} k c h = record {
-  rest = subst (λ (d : Draft). d ≡ record old { ops = d.ops; rows = d.rows; settled = d.settled; scopes = d.scopes; names = d.names; cells = d.cells; texts = d.texts; sites = d.sites }) (sym h.rest) refl;
+  rest = subst (λ (d : Draft). d ≡ record old { ops = d.ops; rows = d.rows; settled = d.settled; scopes = d.scopes; names = d.names; cells = d.cells; hidden = d.hidden; texts = d.texts; sites = d.sites }) (sym h.rest) refl;
   scope = ap scope_of h.rest;
   opened = let e : new.scopes ≡ old.scopes = ap (λ (d : Draft). d.scopes) h.rest in omega arith;
   kept = h.kept;
@@ -24,7 +24,7 @@ lowers_adds {n} {S} {old} {new} k c h = record {
 -- where rows come too
 pub lowers_puts : {n : ℕ} {S : Laid → ℕ → ℕ → Type 0} {old new : Draft} → (k c : ℕ) → Puts n S old new → Lowers n k c 0 S (scope_of old) old new
 lowers_puts {n} {S} {old} {new} k c h = record {
-  rest = subst (λ (d : Draft). d ≡ record old { ops = d.ops; rows = d.rows; settled = d.settled; scopes = d.scopes; names = d.names; cells = d.cells; texts = d.texts; sites = d.sites }) (sym h.rest) refl;
+  rest = subst (λ (d : Draft). d ≡ record old { ops = d.ops; rows = d.rows; settled = d.settled; scopes = d.scopes; names = d.names; cells = d.cells; hidden = d.hidden; texts = d.texts; sites = d.sites }) (sym h.rest) refl;
   scope = ap scope_of h.rest;
   opened = let e : new.scopes ≡ old.scopes = ap (λ (d : Draft). d.scopes) h.rest in omega arith;
   kept = h.kept;
@@ -60,7 +60,7 @@ lowers_as {n} {k} {c} {o} {m} {j} {b} {q} {S} {T} {s} {t} {old} {new} h e f l1 l
 
 pub lowers_join : {n k c o m j b q : ℕ} {S T : Laid → ℕ → ℕ → Type 0} {s t : Scope} {old mid new : Draft} → Stable S → Lowers n k c o S s old mid → Lowers m j b q T t mid new → Lowers (n + m) (k + j) (c + b) (o + q) (λ code. Both (S code) (T code)) t old new
 lowers_join {n} {k} {c} {o} {m} {j} {b} {q} {S} {T} {s} {t} {old} {mid} {new} st h g = record {
-  rest = g.rest ∙ ap (λ (d : Draft). let e : Draft = record d { ops = new.ops; rows = new.rows; settled = new.settled; scopes = new.scopes; names = new.names; cells = new.cells; texts = new.texts; sites = new.sites } in e) h.rest;
+  rest = g.rest ∙ ap (λ (d : Draft). let e : Draft = record d { ops = new.ops; rows = new.rows; settled = new.settled; scopes = new.scopes; names = new.names; cells = new.cells; hidden = new.hidden; texts = new.texts; sites = new.sites } in e) h.rest;
   scope = g.scope;
   opened = let x = h.opened in let y = g.opened in omega arith;
   kept = kept_then (laid_in old) (laid_in mid) (laid_in new) h.kept g.kept;

@@ -1,15 +1,16 @@
 -- The code of statements goes on standing where its own range does not change.
-use Rattle.std.proofs.Common.{ℕ, List, [], ◌∷◌, Option, Some, None}
-use Rattle.uc_tree.specs.Source.{Expr, CleanUp, Item, Show, ShowText, Target, Declared, Stmt, Skip, Block, Whole, Evaluate, Declare, Print, PrintTogether, Read, If, Loop, Break, Continue, Return, Fill, OfEvents, OfTasks, Stmts, Nil, Then, Scoped, Built, Way, ToBreak, ToContinue, ToReturn, ToEnd, Purpose, TaskMain, Procedure, Function, Builder}
+use Rattle.std.proofs.Common.{ℕ, ◌+◌, pos, Bool, true, false, List, [], ◌∷◌, Option, Some, None, length}
+use Rattle.uc_tree.specs.Source.{Expr, CleanUp, Item, Show, ShowText, Target, Declared, Stmt, Skip, Block, Whole, Evaluate, Declare, Print, PrintTogether, Read, If, Loop, Break, Continue, Return, Fill, OfEvents, OfTasks, EventStmt, Throw, Raise, Try, RaiseAt, Enable, Disable, Raised, Plainly, BuiltAt as BuildsAt, AgainFrom, Handlers, NoHandlers, MoreHandlers, Stmts, Nil, Then, Scoped, Built, Way, ToBreak, ToContinue, ToReturn, ToEnd}
 use Rattle.uc_code.specs.declared.op.Op.{Op}
 use Rattle.uc_code.specs.declared.op.Op.TheVariants as op
 use Rattle.uc_code.specs.declared.rows.Mark.{Mark}
 use Rattle.uc_code.specs.declared.rows.Mark.TheVariants as mark
-use Rattle.uc_code.specs.Ranges.{Stable}
-use Rattle.uc_code.specs.Laid.{Laid}
+use Rattle.uc_tree.specs.Hidden.{EVENT_FIELDS}
+use Rattle.uc_code.specs.Ranges.{Both, HandledAt, Stable}
+use Rattle.uc_code.specs.Laid.{Laid, handlers}
 use Rattle.uc_code.specs.declared.rows.ObjectCall.{ObjectCall}
-use Rattle.uc_code.specs.Lowered.{item_op, ExprAt, ValueAt, PiecesAt, StepAt, Any, ExitAt, CallBuilt, CallDone, CleanAt, FilledAt, ScopedAt, BuiltAt, StmtAt, StmtsAt, EndAt}
-use Rattle.uc_code.proofs.Stable.{nothing_stable, never_stable, one_stable, turns_stable, whole_stable, elements_stable, scope_stable, behind_part_stable}
+use Rattle.uc_code.specs.Lowered.{item_op, ExprAt, ValueAt, PiecesAt, StepAt, Any, ExitAt, CallBuilt, CallDone, CleanAt, FilledAt, ScopedAt, BuiltAt, StmtAt, StmtsAt, RaisedAt, KeepAt, KeepsAt, HandlerBy, NamedAt, EventAt, HandlersAt, handler_of, handler_rows}
+use Rattle.uc_code.proofs.Stable.{nothing_stable, never_stable, one_stable, risk_stable, turns_stable, whole_stable, guarded_stable, handled_stable, apart_stable, elements_stable, scope_stable, behind_part_stable}
 use Rattle.uc_code.proofs.Putting.{clean_stable, done_stable}
 use Rattle.uc_lower_expr.proofs.Settled.{both, fork, expr_stable}
 use Rattle.uc_lower_stmt.specs.Objects.{FillCode}
@@ -63,27 +64,27 @@ pub exit_stable : (w : Way) (ms : List Mark) → Stable (λ code. ExitAt code w 
 exit_stable ToBreak [] = one_stable op.Return 0
 exit_stable ToContinue [] = one_stable op.Return 0
 exit_stable ToReturn [] = one_stable op.ReturnValue 0
-exit_stable ToEnd [] = one_stable op.Return 0
+exit_stable ToEnd [] = one_stable op.ReturnNone 0
 exit_stable ToBreak (mark.Body routine ∷ ms) = one_stable op.Return 0
 exit_stable ToContinue (mark.Body routine ∷ ms) = one_stable op.Return 0
 exit_stable ToReturn (mark.Body routine ∷ ms) = one_stable op.ReturnValue 0
-exit_stable ToEnd (mark.Body routine ∷ ms) = one_stable op.Return 0
-exit_stable ToBreak (mark.Finish routine line ∷ ms) = one_stable op.Return line
-exit_stable ToContinue (mark.Finish routine line ∷ ms) = one_stable op.Return line
-exit_stable ToReturn (mark.Finish routine line ∷ ms) = one_stable op.Return line
-exit_stable ToEnd (mark.Finish routine line ∷ ms) = one_stable op.Return line
+exit_stable ToEnd (mark.Body routine ∷ ms) = one_stable op.ReturnNone 0
+exit_stable ToBreak (mark.Finish routine line row ∷ ms) = one_stable op.Return line
+exit_stable ToContinue (mark.Finish routine line row ∷ ms) = one_stable op.Return line
+exit_stable ToReturn (mark.Finish routine line row ∷ ms) = one_stable op.Return line
+exit_stable ToEnd (mark.Finish routine line row ∷ ms) = one_stable op.Return line
 exit_stable ToBreak (mark.Loop leave again ∷ ms) = any_stable (op.Jump leave)
 exit_stable ToContinue (mark.Loop leave again ∷ ms) = any_stable (op.Jump again)
 exit_stable ToReturn (mark.Loop leave again ∷ ms) = exit_stable ToReturn ms
 exit_stable ToEnd (mark.Loop leave again ∷ ms) = exit_stable ToEnd ms
-exit_stable ToBreak (mark.Whole leave ∷ ms) = any_stable (op.Jump leave)
-exit_stable ToContinue (mark.Whole leave ∷ ms) = any_stable (op.Jump leave)
-exit_stable ToReturn (mark.Whole leave ∷ ms) = any_stable (op.Jump leave)
-exit_stable ToEnd (mark.Whole leave ∷ ms) = any_stable (op.Jump leave)
-exit_stable ToBreak (mark.Guard first count ∷ ms) = exit_stable ToBreak ms
-exit_stable ToContinue (mark.Guard first count ∷ ms) = exit_stable ToContinue ms
-exit_stable ToReturn (mark.Guard first count ∷ ms) = exit_stable ToReturn ms
-exit_stable ToEnd (mark.Guard first count ∷ ms) = exit_stable ToEnd ms
+exit_stable ToBreak (mark.Whole leave row ∷ ms) = any_stable (op.Jump leave)
+exit_stable ToContinue (mark.Whole leave row ∷ ms) = any_stable (op.Jump leave)
+exit_stable ToReturn (mark.Whole leave row ∷ ms) = any_stable (op.Jump leave)
+exit_stable ToEnd (mark.Whole leave row ∷ ms) = any_stable (op.Jump leave)
+exit_stable ToBreak (mark.Guard row ∷ ms) = exit_stable ToBreak ms
+exit_stable ToContinue (mark.Guard row ∷ ms) = exit_stable ToContinue ms
+exit_stable ToReturn (mark.Guard row ∷ ms) = exit_stable ToReturn ms
+exit_stable ToEnd (mark.Guard row ∷ ms) = exit_stable ToEnd ms
 exit_stable ToBreak (mark.Clean what line row ∷ ms) = both (clean_stable line what ms) (exit_stable ToBreak ms)
 exit_stable ToContinue (mark.Clean what line row ∷ ms) = both (clean_stable line what ms) (exit_stable ToContinue ms)
 exit_stable ToReturn (mark.Clean what line row ∷ ms) = both (clean_stable line what ms) (exit_stable ToReturn ms)
@@ -99,7 +100,7 @@ exit_stable ToEnd (mark.Elements row ∷ ms) = exit_stable ToEnd ms
 exit_stable ToBreak (mark.Outward below row ∷ ms) = one_stable op.Return 0
 exit_stable ToContinue (mark.Outward below row ∷ ms) = one_stable op.Return 0
 exit_stable ToReturn (mark.Outward below row ∷ ms) = one_stable op.ReturnValue 0
-exit_stable ToEnd (mark.Outward below row ∷ ms) = one_stable op.Return 0
+exit_stable ToEnd (mark.Outward below row ∷ ms) = one_stable op.ReturnNone 0
 
 pub step_stable : (line : ℕ) (ms : List Mark) (step : Option Expr) → Stable (λ code. StepAt code line ms step)
 step_stable line ms None = nothing_stable
@@ -130,11 +131,35 @@ module _ (line : ℕ) (ms : List Mark) (c : CleanUp) (B : Laid → List Mark →
     moves = λ old new a z s h. record { what = h.what; cleans = h.cleans; part = (behind_part_stable line ms (λ r. mark.Part r) (λ k. CleanAt k line h.what ms) B (clean_stable line h.what ms) b).moves old new a z s h.part };
   }
 
+-- events
+
+pub raised_stable : (line : ℕ) (ms : List Mark) (r : Raised) → Stable (λ code. RaisedAt code line ms r)
+raised_stable line ms (Plainly n) = both (one_stable (op.Push (pos n)) line) (both (one_stable (op.Push (pos 0)) line) (one_stable (op.Push (pos 0)) line))
+raised_stable line ms (BuildsAt n k e) =
+    both (one_stable (op.Clear k EVENT_FIELDS) line) (both (expr_stable line ms e) (both (one_stable op.Discard line) (both (one_stable (op.Push (pos n)) line) (both (one_stable (op.Via k) line) (one_stable (op.Via (k + 1)) line)))))
+raised_stable line ms (AgainFrom k) = both (one_stable (op.Via k) line) (both (one_stable (op.Via (k + 1)) line) (one_stable (op.Via (k + 2)) line))
+
+keep_stable : (line k : ℕ) → Stable (λ code. KeepAt code line k)
+keep_stable line k = both (one_stable (op.Set k) line) (one_stable op.Discard line)
+
+pub keeps_stable : (line k : ℕ) → Stable (λ code. KeepsAt code line k)
+keeps_stable line k = both (keep_stable line (k + 2)) (both (keep_stable line (k + 1)) (keep_stable line k))
+
+pub handler_stable : (resumes : Bool) (ms : List Mark) (exit line : ℕ) (B : Laid → List Mark → ℕ → ℕ → Type 0) → ((ns : List Mark) → Stable (λ code. B code ns)) → Stable (λ code. HandlerBy code resumes ms exit line (B code))
+handler_stable false ms exit line B b = both (b ms) (one_stable (op.Jump exit) line)
+handler_stable true ms exit line B b = apart_stable ms B b
+
+pub named_stable : (event : Option ℕ) (B : Laid → ℕ → ℕ → Type 0) → Stable B → Stable (λ code. NamedAt code event (B code))
+named_stable event B b = record {
+  rises = λ code a z h. b.rises code a z h.handler;
+  moves = λ old new a z s h. record { named = h.named; handler = b.moves old new a z s h.handler };
+}
+
 mutual
   pub stmt_stable : (ms : List Mark) (s : Stmt) → Stable (λ code. StmtAt code ms s)
   stmt_stable ms (Skip line) = nothing_stable
   stmt_stable ms (Block line body) = stmts_stable ms line body
-  stmt_stable ms (Whole line body) = whole_stable line (λ code m. StmtsAt code (m ∷ ms) line body) (λ m. stmts_stable (m ∷ ms) line body)
+  stmt_stable ms (Whole line body) = whole_stable line (λ code ns. StmtsAt code ns line body) (λ ns. stmts_stable ns line body) ms
   stmt_stable ms (Evaluate line e) = both (expr_stable line ms e) (one_stable op.Discard line)
   stmt_stable ms (Declare line ds) = variables_stable line ms ds
   stmt_stable ms (Print line is) = items_stable line ms is
@@ -148,7 +173,7 @@ mutual
   stmt_stable ms (Return line None) = exit_stable ToEnd ms
   stmt_stable ms (Return line (Some e)) = both (expr_stable line ms e) (exit_stable ToReturn ms)
   stmt_stable ms (Fill line n b d) = filled_stable line ms n b d
-  stmt_stable ms (OfEvents s) = never_stable
+  stmt_stable ms (OfEvents s) = event_stable ms s
   stmt_stable ms (OfTasks s) = never_stable
 
   pub stmts_stable : (ms : List Mark) (line : ℕ) (ss : Stmts) → Stable (λ code. StmtsAt code ms line ss)
@@ -157,8 +182,19 @@ mutual
   stmts_stable ms line (Scoped c ss) = scoped_stable line ms c (λ code ns. StmtsAt code ns line ss) (λ ns. stmts_stable ns line ss)
   stmts_stable ms line (Built c ss) = parted_stable line ms c (λ code ns. StmtsAt code ns line ss) (λ ns. stmts_stable ns line ss)
 
-pub end_stable : (p : Purpose) (line : ℕ) → Stable (λ code. EndAt code p line)
-end_stable TaskMain line = one_stable op.Return line
-end_stable Procedure line = one_stable op.Return 0
-end_stable Function line = both (one_stable op.NoReturn line) (one_stable op.Return 0)
-end_stable Builder line = one_stable op.Return 0
+  pub event_stable : (ms : List Mark) (s : EventStmt) → Stable (λ code. EventAt code ms s)
+  event_stable ms (Throw line r) = both (raised_stable line ms r) (risk_stable ms op.Throw line)
+  event_stable ms (Raise line r) = both (raised_stable line ms r) (both (risk_stable ms op.Raise line) (one_stable op.Discard line))
+  event_stable ms (Try line body hs) =
+      guarded_stable line (handler_rows hs) ms (λ code ns. StmtsAt code ns line body) (λ code first exit. HandlersAt code ms first exit hs) (λ ns. stmts_stable ns line body) (λ first exit. handlers_stable ms first exit hs)
+  event_stable ms (RaiseAt line r e) = never_stable
+  event_stable ms (Enable line events s) = never_stable
+  event_stable ms (Disable line events s) = never_stable
+
+  pub handlers_stable : (ms : List Mark) (first exit : ℕ) (hs : Handlers) → Stable (λ code. HandlersAt code ms first exit hs)
+  handlers_stable ms first exit NoHandlers = nothing_stable
+  handlers_stable ms first exit (MoreHandlers resumes event cell line body rest) =
+      both (named_stable event (λ code. HandledAt code (first + handler_rows rest) (handler_of resumes event (length (handlers ms))) (Both (KeepsAt code line cell) (HandlerBy code resumes ms exit line (λ ns. StmtsAt code ns line body))))
+      (handled_stable (first + handler_rows rest) (handler_of resumes event (length (handlers ms))) (λ code. Both (KeepsAt code line cell) (HandlerBy code resumes ms exit line (λ ns. StmtsAt code ns line body)))
+      (both (keeps_stable line cell) (handler_stable resumes ms exit line (λ code ns. StmtsAt code ns line body) (λ ns. stmts_stable ns line body)))))
+      (handlers_stable ms first exit rest)

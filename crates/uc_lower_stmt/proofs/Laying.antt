@@ -47,7 +47,7 @@ lays_as h x fg l1 l2 l3 l4 l5 = record {
 
 pub lays_join : {n k c d o m j b e q line : ℕ} {f g : Stmts → Stmts} {s t : Scope} {old mid new : Draft} → Lays n k c d o line f s old mid → Lays m j b e q line g t mid new → Lays (n + m) (k + j) (c + b) (d + e) (o + q) line (λ ss. f (g ss)) t old new
 lays_join {n} {k} {c} {d} {o} {m} {j} {b} {e} {q} {line} {f} {g} {s} {t} {old} {mid} {new} h w = record {
-  rest = w.rest ∙ ap (λ (x : Draft). let y : Draft = record x { ops = new.ops; rows = new.rows; settled = new.settled; marks = new.marks; scopes = new.scopes; names = new.names; cells = new.cells; texts = new.texts; sites = new.sites } in y) h.rest;
+  rest = w.rest ∙ ap (λ (x : Draft). let y : Draft = record x { ops = new.ops; rows = new.rows; settled = new.settled; marks = new.marks; scopes = new.scopes; names = new.names; cells = new.cells; hidden = new.hidden; texts = new.texts; sites = new.sites } in y) h.rest;
   scope = w.scope;
   opened = let x = h.opened in let y = w.opened in omega arith;
   kept = kept_then (laid_in old) (laid_in mid) (laid_in new) h.kept w.kept;
@@ -71,7 +71,7 @@ lays_one {n} {k} {c} {o} {s} {t} {old} {new} line h =
     let m : new.marks ≡ old.marks = marks_stay h in
     let e : objects_in new.marks ≡ objects_in old.marks = ap objects_in m in
     record {
-      rest = h.rest ∙ ap (λ (ms : List Mark). let y : Draft = record old { ops = new.ops; rows = new.rows; settled = new.settled; marks = ms; scopes = new.scopes; names = new.names; cells = new.cells; texts = new.texts; sites = new.sites } in y) (sym m);
+      rest = h.rest ∙ ap (λ (ms : List Mark). let y : Draft = record old { ops = new.ops; rows = new.rows; settled = new.settled; marks = ms; scopes = new.scopes; names = new.names; cells = new.cells; hidden = new.hidden; texts = new.texts; sites = new.sites } in y) (sym m);
       scope = h.scope;
       opened = h.opened;
       kept = h.kept;
@@ -104,12 +104,12 @@ lays_ended {n} {k} {c} {d} {o} {line} {f} {t} {old} {mid} {new} count ce h w =
       code = subst (λ (ss : Stmts). StmtsAt (laid_in new) old.marks line ss (length old.ops) (length new.ops)) (h.block Nil) b.code;
     }
   where
-    rests : new.marks ≡ old.marks → new ≡ record old { ops = new.ops; rows = new.rows; settled = new.settled; scopes = new.scopes; names = new.names; cells = new.cells; texts = new.texts; sites = new.sites }
+    rests : new.marks ≡ old.marks → new ≡ record old { ops = new.ops; rows = new.rows; settled = new.settled; scopes = new.scopes; names = new.names; cells = new.cells; hidden = new.hidden; texts = new.texts; sites = new.sites }
     rests m =
-        let a : new ≡ record old { ops = new.ops; rows = new.rows; settled = new.settled; marks = new.marks; scopes = mid.scopes; names = mid.names; cells = mid.cells; texts = mid.texts; sites = mid.sites } =
+        let a : new ≡ record old { ops = new.ops; rows = new.rows; settled = new.settled; marks = new.marks; scopes = mid.scopes; names = mid.names; cells = mid.cells; hidden = mid.hidden; texts = mid.texts; sites = mid.sites } =
         w.rest ∙ ap (λ (x : Draft). let y : Draft = record x { ops = new.ops; rows = new.rows; settled = new.settled; marks = new.marks } in y) h.rest in
-        subst (λ (x : Draft). new ≡ record old { ops = new.ops; rows = new.rows; settled = new.settled; scopes = x.scopes; names = x.names; cells = x.cells; texts = x.texts; sites = x.sites }) (sym w.rest) (
-        a ∙ ap (λ (ms : List Mark). let y : Draft = record old { ops = new.ops; rows = new.rows; settled = new.settled; marks = ms; scopes = mid.scopes; names = mid.names; cells = mid.cells; texts = mid.texts; sites = mid.sites } in y) m)
+        subst (λ (x : Draft). new ≡ record old { ops = new.ops; rows = new.rows; settled = new.settled; scopes = x.scopes; names = x.names; cells = x.cells; hidden = x.hidden; texts = x.texts; sites = x.sites }) (sym w.rest) (
+        a ∙ ap (λ (ms : List Mark). let y : Draft = record old { ops = new.ops; rows = new.rows; settled = new.settled; marks = ms; scopes = mid.scopes; names = mid.names; cells = mid.cells; hidden = mid.hidden; texts = mid.texts; sites = mid.sites } in y) m)
 
 -- the routine stays the same
 pub lays_routine : {n k c d o line : ℕ} {f : Stmts → Stmts} {t : Scope} {old new : Draft} → Lays n k c d o line f t old new → routine_in new.marks ≡ routine_in old.marks

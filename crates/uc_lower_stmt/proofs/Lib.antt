@@ -5,8 +5,11 @@ pub mod Counted
 pub mod Declaring
 pub mod Ending
 pub mod Filling
+pub mod Fitting
 pub mod Fors
 pub mod Growth
+pub mod Guarding
+pub mod Handling
 pub mod Joined
 pub mod Kept
 pub mod Laying
@@ -15,8 +18,10 @@ pub mod Opened
 pub mod Openings
 pub mod Parting
 pub mod Printing
+pub mod Raising
 pub mod Routines
 pub mod Scoping
 pub mod Shaping
 pub mod Stating
+pub mod Tried
 pub mod Turned

@@ -1,11 +1,11 @@
 -- The code of a routine.
-use Rattle.std.proofs.Common.{◌≡◌, ℕ, zero, suc, ◌+◌, ◌*◌, ◌≤◌, ◌<◌, Bool, true, false, true≢false, List, [], ◌∷◌, ◌++◌, length, take, get_or, refl, ap, sym, subst, ◌∙◌, arith, append_assoc, append-nil}
-use Rattle.std.specs.Prelude.{None, nat_eq, slice_set, if◌then◌else◌}
-use Rattle.std.proofs.Common.{take_all}
+use Rattle.std.proofs.Common.{◌≡◌, ℕ, zero, suc, ◌+◌, ◌*◌, ◌≤◌, ◌<◌, Bool, true, false, List, [], ◌∷◌, ◌++◌, length, drop, take, get_or, refl, ap, sym, subst, ◌∙◌, arith, append_assoc, append-nil}
+use Rattle.std.specs.Prelude.{Option, Some, None, nat_eq, slice_set, if◌then◌else◌}
+use Rattle.std.proofs.Common.{max, take_all}
+use Rattle.std.proofs.Math.Nat.{max-eq_left, max_comm}
 use Rattle.std.proofs.lemmas.List.{take_more}
 use Rattle.uc_tree.specs.declared.limits.TheConstants.{OPS_FOR_SIZE}
 use Rattle.uc_tree.specs.declared.kinds.Base.{Base}
-use Rattle.uc_tree.specs.declared.kinds.Base.TheVariants as base
 use Rattle.uc_tree.specs.declared.kinds.Known.{Known}
 use Rattle.uc_tree.specs.declared.kinds.Param.{Param}
 use Rattle.uc_tree.specs.declared.kinds.Role.{Role}
@@ -15,27 +15,32 @@ use Rattle.uc_tree.specs.Numbering.{is_plain, own_texts, own_sites}
 use Rattle.uc_tree.specs.Statements.{Stmts}
 use Rattle.uc_tree.specs.StatementSizes.{stmts_size}
 use Rattle.uc_tree.specs.Cells.{param_cells, params_cells, routine_cells}
-use Rattle.uc_tree.specs.ProgramMain.{main_number}
+use Rattle.uc_tree.specs.ProgramMain.{is_void, main_number}
 use Rattle.uc_tree.specs.Programs.{Program, Routine}
 use Rattle.uc_tree.specs.Source as source
+use Rattle.uc_tree.specs.Source.{TaskMain}
 use Rattle.uc_tree.specs.Resolve.{Scope, param_known, params_known, stmts_meant, scope_behind, routine_scope, body_by, routine_meant, purpose_of, role_purpose, value_purpose}
 use Rattle.uc_code.specs.declared.op.Op.TheVariants as op
+use Rattle.uc_code.specs.declared.rows.Mark.{Mark}
+use Rattle.uc_code.specs.declared.rows.Mark.TheVariants as mark
+use Rattle.uc_code.specs.declared.rows.Opening.TheVariants as opening
 use Rattle.uc_code.specs.declared.rows.RoutineCode.{RoutineCode}
 use Rattle.uc_code.specs.Drafts.{Draft}
-use Rattle.uc_code.specs.Laid.{Laid, laid_in, routine_in}
-use Rattle.uc_code.specs.Open.{left_marks}
-use Rattle.uc_code.specs.Ranges.{Kept}
-use Rattle.uc_code.specs.Lowered.{StmtsAt, EndAt, RoutineAt, body_line, body_mark}
-use Rattle.uc_code.proofs.Stable.{kept_then, kept_same, one_stable}
+use Rattle.uc_code.specs.Laid.{Laid, laid_in}
+use Rattle.uc_code.specs.Open.{closed, handler_in, left_marks, opened, row_in}
+use Rattle.uc_code.specs.Ranges.{Both, HandlerAt, Kept, MainAt, OpAt, clean_up}
+use Rattle.uc_code.specs.Lowered.{StmtsAt, BodyAt, RoutineAt}
+use Rattle.uc_code.proofs.Stable.{kept_piece, kept_then, one_stable}
+use Rattle.uc_code.proofs.Sweeping.{closed_marks, closed_ops, like_closed}
 use Rattle.uc_lower_expr.specs.Added.{Adds, OpCode}
 use Rattle.uc_lower_expr.proofs.Adding.{adds_more, adds_both}
 use Rattle.uc_lower_stmt.specs.Marked.{objects_in}
 use Rattle.uc_lower_stmt.specs.Scoped.{LowersStmts, scope_of, sizes_at}
-use Rattle.uc_lower_stmt.specs.declared.routine.Purpose.{Purpose}
-use Rattle.uc_lower_stmt.specs.declared.routine.Purpose.TheVariants as purpose
-use Rattle.uc_lower_stmt.specs.Routines.{EndCode, purpose_as}
+use Rattle.uc_lower_stmt.specs.Routines.{EndCode, LowersRoutine, frame_cells}
 use Rattle.uc_lower_stmt.proofs.Kept.{stmts_stable}
 use Rattle.uc_lower_stmt.proofs.Counted.{behind_counted}
+use Rattle.uc_lower_stmt.proofs.Joined.{lowers_as, lowers_put}
+use Rattle.uc_lower_stmt.proofs.Shaping.{lowers_marked}
 
 -- parameters one by one
 
@@ -91,150 +96,227 @@ params_end p xs i old new h e = e ∙ ap (λ (zs : List Param). with_params p zs
 
 pub plain_role : (x : Role) → is_plain x ≡ true → x ≡ role.Plain
 plain_role role.Plain e = refl
-plain_role role.Constructor e = absurd (true≢false (sym e))
-plain_role role.Destructor e = absurd (true≢false (sym e))
+plain_role role.Constructor e = cc
+plain_role role.Destructor e = cc
 
--- the marks and the line of a routine's statements
+-- behind the statements of the program's main
 
-left_bare : (q : source.Purpose) (number line : ℕ) → left_marks (body_mark q number line ∷ []) ≡ []
-left_bare source.TaskMain number line = refl
-left_bare source.Procedure number line = refl
-left_bare source.Function number line = refl
-left_bare source.Builder number line = refl
+module _ (p : Program) (r : Routine) (number line : ℕ) (body : Stmts) (d0 d1 d2 d3 d4 new : Draft) (none : d0.marks ≡ []) (le : line ≡ r.brace.line) (be : body ≡ r.body)
+    (oe : d1 ≡ opened (opening.Main number line) d0) (k1 : Kept (laid_in d0) (laid_in d1)) (h : LowersStmts p line body d1 d2)
+    (ce : d3 ≡ closed 1 d2) (k3 : Kept (laid_in d2) (laid_in d3)) (h3 : (row : ℕ) → handler_in d2.marks ≡ Some row → HandlerAt (laid_in d3) row (clean_up (length d2.ops + 1)))
+    (g4 : Adds 1 (OpCode line op.Return) d3 d4) (g5 : Adds 1 (OpCode line op.Unhandled) d4 new) where
+  abbrev row : ℕ
+  row = length d0.rows
 
-pub bare_objects : (q : source.Purpose) (number line : ℕ) → objects_in (body_mark q number line ∷ []) ≡ 0
-bare_objects source.TaskMain number line = refl
-bare_objects source.Procedure number line = refl
-bare_objects source.Function number line = refl
-bare_objects source.Builder number line = refl
+  abbrev code : Laid
+  code = laid_in new
 
-pub bare_routine : (q : source.Purpose) (number line : ℕ) → routine_in (body_mark q number line ∷ []) ≡ number
-bare_routine source.TaskMain number line = refl
-bare_routine source.Procedure number line = refl
-bare_routine source.Function number line = refl
-bare_routine source.Builder number line = refl
+  marks1 : d1.marks ≡ mark.Finish number line row ∷ []
+  marks1 = ap (λ (d : Draft). d.marks) oe ∙ ap (λ (ms : List Mark). mark.Finish number line row ∷ ms) none
 
-value_line : (p : Program) (b : Base) (line : ℕ) → body_line (value_purpose p b) line ≡ line
-value_line p base.Void line = refl
-value_line p base.Int line = refl
-value_line p base.Char line = refl
-value_line p base.Bool line = refl
-value_line p base.Condition line = refl
-value_line p base.Cluster line = refl
-value_line p base.Processor line = refl
-value_line p (base.Named name) line = refl
+  marks2 : d2.marks ≡ mark.Finish number line row ∷ []
+  marks2 = ap (λ (d : Draft). d.marks) h.rest ∙ marks1
 
-line_by : (p : Program) (main : Bool) (x : Role) (b : Base) (line : ℕ) → x ≡ role.Plain → body_line (if main then source.TaskMain else role_purpose p x b) line ≡ line
-line_by p true x b line e = refl
-line_by p false x b line e = ap (λ (y : Role). body_line (role_purpose p y b) line) e ∙ value_line p b line
+  marks3 : d3.marks ≡ d0.marks
+  marks3 = closed_marks 1 row d2 d3 ce (ap row_in marks2) ∙ ap (λ (ms : List Mark). drop 1 ms) marks2 ∙ sym none
+
+  ops1 : length d1.ops ≡ length d0.ops
+  ops1 = ap (λ (d : Draft). length d.ops) oe
+
+  ops3 : length d3.ops ≡ length d2.ops
+  ops3 = ap length (closed_ops 1 d2 d3 ce)
+
+  scope1 : scope_of d1 ≡ scope_of d0
+  scope1 = ap scope_of oe
+
+  keep4 : Kept (laid_in d4) code
+  keep4 = g5.kept
+
+  keep3 : Kept (laid_in d3) code
+  keep3 = kept_then (laid_in d3) (laid_in d4) code g4.kept keep4
+
+  keep2 : Kept (laid_in d2) code
+  keep2 = kept_then (laid_in d2) (laid_in d3) code k3 keep3
+
+  body_at : StmtsAt code (mark.Finish number line row ∷ []) line (stmts_meant p body (scope_of d0)) (length d0.ops) (length d2.ops)
+  body_at =
+      subst (λ (s : Scope). StmtsAt code (mark.Finish number line row ∷ []) line (stmts_meant p body s) (length d0.ops) (length d2.ops)) scope1 (
+      subst (λ (a : ℕ). StmtsAt code (mark.Finish number line row ∷ []) line (stmts_meant p body (scope_of d1)) a (length d2.ops)) ops1 (
+      subst (λ (ms : List Mark). StmtsAt code ms line (stmts_meant p body (scope_of d1)) (length d1.ops) (length d2.ops)) marks1 (
+      kept_piece (λ c. StmtsAt c d1.marks line (stmts_meant p body (scope_of d1))) (stmts_stable d1.marks line (stmts_meant p body (scope_of d1))) (laid_in d2) code (length d1.ops) (length d2.ops) (omega arith) keep2 h.code)))
+
+  main_at : MainAt code number line (λ ms. StmtsAt code ms line (stmts_meant p body (scope_of d0))) (length d0.ops) (length new.ops)
+  main_at =
+      let e4 : length d4.ops ≡ length d2.ops + 1 = (let a = ops3 in let b = g4.code.end in omega arith) in
+      record {
+        row = row;
+        body_end = length d2.ops;
+        body = body_at;
+        returns = subst (λ (a : ℕ). OpAt code a op.Return line) ops3 (keep4.same (length d3.ops) op.Return line g4.code.here);
+        unwound = subst (λ (a : ℕ). OpAt code a op.Unhandled line) e4 g5.code.here;
+        end = (let b = g5.code.end in omega arith);
+        handler = keep3.handlers row (clean_up (length d2.ops + 1)) (h3 row (ap handler_in marks2));
+      }
+
+  rest3 : d3 ≡ record d0 { ops = d3.ops; rows = d3.rows; settled = d3.settled; scopes = d2.scopes; names = d2.names; cells = d2.cells; hidden = d2.hidden; texts = d2.texts; sites = d2.sites }
+  rest3 =
+      like_closed 1 d2 d2 d3 refl ce
+      ∙ ap (λ (d : Draft). let x : Draft = record d { ops = d3.ops; rows = d3.rows; settled = d3.settled; marks = d3.marks } in x) h.rest
+      ∙ ap (λ (d : Draft). let x : Draft = record d { ops = d3.ops; rows = d3.rows; settled = d3.settled; marks = d3.marks; scopes = d2.scopes; names = d2.names; cells = d2.cells; hidden = d2.hidden; texts = d2.texts; sites = d2.sites } in x) oe
+      ∙ ap (λ (ms : List Mark). let x : Draft = record d0 { ops = d3.ops; rows = d3.rows; settled = d3.settled; marks = ms; scopes = d2.scopes; names = d2.names; cells = d2.cells; hidden = d2.hidden; texts = d2.texts; sites = d2.sites } in x) marks3
+
+  rest : new ≡ record d0 { ops = new.ops; rows = d3.rows; settled = d3.settled; scopes = d2.scopes; names = d2.names; cells = d2.cells; hidden = d2.hidden; texts = d2.texts; sites = d2.sites }
+  rest = g5.rest ∙ ap (λ (d : Draft). let x : Draft = record d { ops = new.ops } in x) g4.rest ∙ ap (λ (d : Draft). let x : Draft = record d { ops = new.ops } in x) rest3
+
+  whole : LowersRoutine p TaskMain number (record r { body = body; brace = record r.brace { line = line } }) d0 new
+  whole =
+      let none_in : objects_in d1.marks ≡ 0 = ap objects_in marks1 in
+      let size : sizes_at body (objects_in d1.marks) ≡ sizes_at body 0 = ap (sizes_at body) none_in in
+      let scopes1 : d1.scopes ≡ d0.scopes = ap (λ (d : Draft). d.scopes) oe in
+      let texts1 : d1.texts ≡ d0.texts = ap (λ (d : Draft). d.texts) oe in
+      let cells1 : d1.cells ≡ d0.cells = ap (λ (d : Draft). d.cells) oe in
+      let scopes2 : new.scopes ≡ d2.scopes = ap (λ (d : Draft). d.scopes) rest in
+      let texts2 : new.texts ≡ d2.texts = ap (λ (d : Draft). d.texts) rest in
+      let cells2 : new.cells ≡ d2.cells = ap (λ (d : Draft). d.cells) rest in
+      record {
+        rest = subst (λ (d : Draft). d ≡ record d0 { ops = d.ops; rows = d.rows; settled = d.settled; scopes = d.scopes; names = d.names; cells = d.cells; hidden = d.hidden; texts = d.texts; sites = d.sites }) (sym rest) refl;
+        scope = ap scope_of g5.rest ∙ ap scope_of g4.rest ∙ ap scope_of (like_closed 1 d2 d2 d3 refl ce) ∙ h.scope ∙ ap (scope_behind p body) scope1;
+        opened = (let x = h.opened in omega arith);
+        kept = kept_then (laid_in d0) (laid_in d1) code k1 (kept_then (laid_in d1) (laid_in d2) code h.kept keep2);
+        room = (let x = h.room in let y = g4.room in let z = g5.room in omega (arith, size, ops1, ops3));
+        texts = (let x = h.texts in omega arith);
+        cells = (let x = h.cells in omega arith);
+        code = main_at;
+      }
+
+  pub main_lowered : LowersRoutine p TaskMain number r d0 new
+  main_lowered =
+      subst (λ (b : Stmts). LowersRoutine p TaskMain number (record r { body = b }) d0 new) be (
+      subst (λ (l : ℕ). LowersRoutine p TaskMain number (record r { body = body; brace = record r.brace { line = l } }) d0 new) le whole)
+
+-- behind those of a routine that is called
+
+called_at : (all : Laid) (v : Bool) (number line : ℕ) (ss : source.Stmts) (a z : ℕ) → Both (StmtsAt all (mark.Body number ∷ []) line ss) (EndCode v line all) a z → BodyAt all (if v then source.Procedure else source.Function) number line ss a z
+called_at all true number line ss a z h = h
+called_at all false number line ss a z h = h
+
+pub called_lowered : (p : Program) (r : Routine) (b : Base) (number line : ℕ) (body : Stmts) (d0 d1 d2 d3 new : Draft) → d0.marks ≡ [] → line ≡ r.brace.line → body ≡ r.body → b ≡ r.sig.ret
+    → d1 ≡ record d0 { marks = mark.Body number ∷ d0.marks } → LowersStmts p line body d1 d2 → d3 ≡ record d2 { marks = left_marks d2.marks } → Adds 2 (EndCode (is_void b) line) d3 new → LowersRoutine p (value_purpose p r.sig.ret) number r d0 new
+called_lowered p r b number line body d0 d1 d2 d3 new none le be re e1 h e3 g =
+    let first : Draft = record d0 { marks = mark.Body number ∷ [] } in
+    let is : d1 ≡ first = e1 ∙ ap (λ (ms : List Mark). let x : Draft = record d0 { marks = mark.Body number ∷ ms } in x) none in
+    let none_in : objects_in d1.marks ≡ 0 = ap (λ (d : Draft). objects_in d.marks) is in
+    let size : sizes_at body (objects_in d1.marks) ≡ sizes_at body 0 = ap (sizes_at body) none_in in
+    let all = lowers_put (stmts_stable d1.marks line (stmts_meant p body (scope_of d1))) (lowers_marked (mark.Body number) d0 d3 refl e1 e3 h) g in
+    let whole : LowersRoutine p (value_purpose p b) number (record r { body = body; brace = record r.brace { line = line } }) d0 new =
+    lowers_as all (ap (λ (d : Draft). scope_behind p body (scope_of d)) is)
+    (λ code a z w. called_at code (is_void b) number line (stmts_meant p body (scope_of d0)) a z (subst (λ (d : Draft). Both (StmtsAt code d.marks line (stmts_meant p body (scope_of d))) (EndCode (is_void b) line code) a z) is w))
+    (omega (arith, size)) (omega arith) (omega arith) refl in
+    subst (λ (x : Base). LowersRoutine p (value_purpose p x) number r d0 new) re (
+    subst (λ (ss : Stmts). LowersRoutine p (value_purpose p b) number (record r { body = ss }) d0 new) be (
+    subst (λ (l : ℕ). LowersRoutine p (value_purpose p b) number (record r { body = body; brace = record r.brace { line = l } }) d0 new) le whole))
+
+-- the greater of two numbers
+
+pub max_first : (a b : ℕ) → b ≤ a → max a b ≡ a
+max_first a b h = max-eq_left h
+
+pub max_last : (a b : ℕ) → a ≤ b → max a b ≡ b
+max_last a b h = max_comm a b ∙ max_first b a h
+
+-- what a plain routine is
+
+plain_purpose : (p : Program) (x : Role) (b : Base) → is_plain x ≡ true → value_purpose p b ≡ role_purpose p x b
+plain_purpose p role.Plain b e = refl
+plain_purpose p role.Constructor b e = cc
+plain_purpose p role.Destructor b e = cc
+
+pub main_purpose : (p : Program) (r : Routine) (number : ℕ) → nat_eq number (main_number p) ≡ true → source.TaskMain ≡ purpose_of p number r
+main_purpose p r number m = sym (ap (λ (b : Bool). if b then source.TaskMain else role_purpose p r.sig.role r.sig.ret) m)
+
+pub called_purpose : (p : Program) (r : Routine) (number : ℕ) → is_plain r.sig.role ≡ true → nat_eq number (main_number p) ≡ false → value_purpose p r.sig.ret ≡ purpose_of p number r
+called_purpose p r number e m = plain_purpose p r.sig.role r.sig.ret e ∙ sym (ap (λ (b : Bool). if b then source.TaskMain else role_purpose p r.sig.role r.sig.ret) m)
 
 -- what lowering a routine, which begins in this scope, does to a draft
-pub record Written (p : Program) (r : Routine) (s : Scope) (number : ℕ) (old new : Draft) : Type 0 where
+pub record Written (p : Program) (r : Routine) (s : Scope) (last number : ℕ) (old new : Draft) : Type 0 where
   pub kept : Kept (laid_in old) (laid_in new)
   pub room : length new.ops ≤ length old.ops + OPS_FOR_SIZE * (1 + sizes_at r.body 0)
-  pub code : RoutineAt (laid_in new) number (routine_meant p r s) (record { entry = length old.ops; cells = routine_cells p r; params = length r.sig.params }) (length old.ops) (length new.ops)
-  pub written : new.routines ≡ slice_set old.routines number (record { entry = length old.ops; cells = routine_cells p r; params = length r.sig.params })
+  pub code : RoutineAt (laid_in new) last number (routine_meant p r s) (record { entry = length old.ops; cells = frame_cells p r; params = length r.sig.params }) (length old.ops) (length new.ops)
+  pub written : new.routines ≡ slice_set old.routines number (record { entry = length old.ops; cells = frame_cells p r; params = length r.sig.params })
   pub outside : new.marks ≡ []
   pub texts : new.texts ≡ s.texts + length (gathered_all own_texts r.body)
   pub few_texts : new.texts ≤ s.texts + stmts_size r.body
   pub sites : new.sites ≡ s.sites + length (gathered_all (own_sites None 0) r.body)
 
 -- a draft at the beginning of a routine's statements
-abbrev begun_by : Program → List Param → source.Purpose → ℕ → ℕ → ℕ → ℕ → ℕ → Draft → Draft
-begun_by p xs q line class number texts sites d = record d { place = record { class = class; routine = number; scope = 0 }; marks = body_mark q number line ∷ []; scopes = 0; names = [] ++ params_known p 0 xs; cells = 0 + params_cells p xs; texts = texts; sites = sites }
+abbrev begun_by : Program → List Param → Option ℕ → ℕ → ℕ → ℕ → ℕ → Draft → Draft
+begun_by p xs class number hidden texts sites d = record d { place = record { class = class; routine = number; scope = 0 }; marks = []; scopes = 0; names = [] ++ params_known p 0 xs; handled = 0; cells = 0 + params_cells p xs; hidden = hidden; texts = texts; sites = sites }
 
-abbrev begun : Program → Routine → source.Purpose → ℕ → ℕ → ℕ → ℕ → Draft → Draft
-begun p r q class number texts sites d = begun_by p r.sig.params q r.brace.line class number texts sites d
+abbrev begun : Program → Routine → Option ℕ → ℕ → ℕ → ℕ → Draft → Draft
+begun p r class number texts sites d = begun_by p r.sig.params class number (routine_cells p r) texts sites d
 
-pub begun_is : (p : Program) (r : Routine) (q : source.Purpose) (class number texts sites line : ℕ) (xs : List Param) (d0 db dp d1 : Draft) → xs ≡ r.sig.params → line ≡ r.brace.line
-    → db ≡ record d0 { place = record { class = class; routine = number; scope = 0 }; marks = []; scopes = 0; names = []; cells = 0; texts = texts; sites = sites }
-    → dp ≡ record db { names = db.names ++ params_known p db.cells xs; cells = db.cells + params_cells p xs } → d1 ≡ record dp { marks = body_mark q number line ∷ dp.marks } → d1 ≡ begun p r q class number texts sites d0
-begun_is p r q class number texts sites line xs d0 db dp d1 xe le e1 e2 e3 =
-    e3 ∙ ap (λ (x : Draft). let d : Draft = record x { marks = body_mark q number line ∷ x.marks } in d) (e2 ∙ ap (λ (x : Draft). let d : Draft = record x { names = x.names ++ params_known p x.cells xs; cells = x.cells + params_cells p xs } in d) e1)
-    ∙ ap (λ (ys : List Param). begun_by p ys q line class number texts sites d0) xe ∙ ap (λ (l : ℕ). begun_by p r.sig.params q l class number texts sites d0) le
+pub begun_is : (p : Program) (r : Routine) (class : Option ℕ) (number hidden texts sites : ℕ) (xs : List Param) (d0 db d1 : Draft) → xs ≡ r.sig.params → hidden ≡ routine_cells p r
+    → db ≡ record d0 { place = record { class = class; routine = number; scope = 0 }; marks = []; scopes = 0; names = []; handled = 0; cells = 0; hidden = hidden; texts = texts; sites = sites }
+    → d1 ≡ record db { names = db.names ++ params_known p db.cells xs; cells = db.cells + params_cells p xs } → d1 ≡ begun p r class number texts sites d0
+begun_is p r class number hidden texts sites xs d0 db d1 xe he e1 e2 =
+    e2 ∙ ap (λ (x : Draft). let d : Draft = record x { names = x.names ++ params_known p x.cells xs; cells = x.cells + params_cells p xs } in d) e1
+    ∙ ap (λ (ys : List Param). begun_by p ys class number hidden texts sites d0) xe ∙ ap (λ (n : ℕ). begun_by p r.sig.params class number n texts sites d0) he
 
-module _ (p : Program) (r : Routine) (plain : r.sig.role ≡ role.Plain) (q : source.Purpose) (class number texts sites entry cells params line : ℕ) (body : Stmts) (d0 d1 d2 dl d3 new : Draft)
-    (be : body ≡ r.body) (qe : q ≡ purpose_of p number r) (ee : entry ≡ length d0.ops) (ce : cells ≡ routine_cells p r) (pe : params ≡ length r.sig.params) (le : line ≡ r.brace.line)
-    (e1 : d1 ≡ begun p r q class number texts sites d0) (h : LowersStmts p line body d1 d2) (el : dl ≡ record d2 { marks = left_marks d2.marks }) (g : Adds 2 (EndCode q r.brace.line) dl d3)
-    (e : new ≡ record d3 { routines = slice_set d3.routines number (record { entry = entry; cells = cells; params = params }) }) where
+module _ (p : Program) (r : Routine) (plain : r.sig.role ≡ role.Plain) (class : Option ℕ) (last number texts sites entry cells params : ℕ) (d0 d1 d2 new : Draft) (few : number ≤ last)
+    (ee : entry ≡ length d0.ops) (ce : cells ≡ d2.hidden) (pe : params ≡ length r.sig.params) (e1 : d1 ≡ begun p r class number texts sites d0)
+    (h : LowersRoutine p (purpose_of p number r) last r d1 d2) (e : new ≡ record d2 { routines = slice_set d2.routines number (record { entry = entry; cells = cells; params = params }) }) where
   abbrev s : Scope
-  s = routine_scope p r.sig.params class number texts sites
-
-  abbrev mine : source.Purpose
-  mine = purpose_of p number r
+  s = routine_scope p r class number texts sites
 
   abbrev first : Draft
-  first = begun p r mine class number texts sites d0
+  first = begun p r class number texts sites d0
 
-  is_first : d1 ≡ first
-  is_first = e1 ∙ ap (λ (x : source.Purpose). begun p r x class number texts sites d0) qe
+  abbrev begins : RoutineCode
+  begins = record { entry = length d0.ops; cells = frame_cells p r; params = length r.sig.params }
 
-  k : LowersStmts p r.brace.line r.body first d2
-  k = subst (λ (l : ℕ). LowersStmts p l r.body first d2) le (subst (λ (d : Draft). LowersStmts p line r.body d d2) is_first (subst (λ (b : Stmts). LowersStmts p line b d1 d2) be h))
+  k : LowersRoutine p (purpose_of p number r) last r first d2
+  k = subst (λ (d : Draft). LowersRoutine p (purpose_of p number r) last r d d2) e1 h
 
-  none : objects_in first.marks ≡ 0
-  none = bare_objects mine number r.brace.line
+  scope_first : scope_of first ≡ s
+  scope_first = let z : 0 + params_cells p r.sig.params ≡ params_cells p r.sig.params = omega arith in ap (λ (n : ℕ). let t : Scope = record s { cells = n } in t) z
 
-  small : sizes_at r.body (objects_in first.marks) ≡ sizes_at r.body 0
-  small = ap (sizes_at r.body) none
+  scope_is : scope_of d2 ≡ scope_behind p r.body (scope_of first)
+  scope_is = k.scope
 
-  laid : laid_in dl ≡ laid_in d2
-  laid = ap laid_in el
+  -- the frame ends behind the last hidden cell
+  frame : cells ≡ frame_cells p r
+  frame = ce ∙ ap (λ (t : Scope). t.hidden) (scope_is ∙ behind_counted p r.body (scope_of first))
 
-  ops : length dl.ops ≡ length d2.ops
-  ops = ap (λ (d : Draft). length d.ops) el
+  is : new ≡ record d2 { routines = slice_set d2.routines number begins }
+  is = e ∙ ap (λ (n : ℕ). let d : Draft = record d2 { routines = slice_set d2.routines number (record { entry = n; cells = cells; params = params }) } in d) ee
+      ∙ ap (λ (n : ℕ). let d : Draft = record d2 { routines = slice_set d2.routines number (record { entry = length d0.ops; cells = n; params = params }) } in d) frame
+      ∙ ap (λ (n : ℕ). let d : Draft = record d2 { routines = slice_set d2.routines number (record { entry = length d0.ops; cells = frame_cells p r; params = n }) } in d) pe
 
-  keeps : Kept (laid_in d2) (laid_in d3)
-  keeps = subst (λ (l : Laid). Kept l (laid_in d3)) laid g.kept
-
-  body_at : StmtsAt (laid_in d3) (body_mark mine number r.brace.line ∷ []) (body_line mine r.brace.line) (stmts_meant p r.body s) (length d0.ops) (length d2.ops)
-  body_at =
-      let zero_less : 0 + params_cells p r.sig.params ≡ params_cells p r.sig.params = omega arith in
-      let own : body_line mine r.brace.line ≡ r.brace.line = line_by p (nat_eq number (main_number p)) r.sig.role r.sig.ret r.brace.line plain in
-      subst (λ (l : ℕ). StmtsAt (laid_in d3) (body_mark mine number r.brace.line ∷ []) l (stmts_meant p r.body s) (length d0.ops) (length d2.ops)) (sym own)
-      ((stmts_stable (body_mark mine number r.brace.line ∷ []) r.brace.line (stmts_meant p r.body s)).moves (laid_in d2) (laid_in d3) (length d0.ops) (length d2.ops) (kept_same (laid_in d2) (laid_in d3) (length d0.ops) (length d2.ops) (omega arith) keeps)
-      (subst (λ (n : ℕ). StmtsAt (laid_in d2) (body_mark mine number r.brace.line ∷ []) r.brace.line (stmts_meant p r.body (record s { cells = n })) (length d0.ops) (length d2.ops)) zero_less k.code))
-
-  end_at : EndAt (laid_in d3) mine r.brace.line (length d2.ops) (length d3.ops)
-  end_at = subst (λ (a : ℕ). EndAt (laid_in d3) mine r.brace.line a (length d3.ops)) ops (subst (λ (x : source.Purpose). EndAt (laid_in d3) x r.brace.line (length dl.ops) (length d3.ops)) qe g.code)
-
-  same : d3.routines ≡ d0.routines
-  same = ap (λ (d : Draft). d.routines) g.rest ∙ (ap (λ (d : Draft). d.routines) el ∙ ap (λ (d : Draft). d.routines) k.rest)
-
-  is : new ≡ record d3 { routines = slice_set d3.routines number (record { entry = length d0.ops; cells = routine_cells p r; params = length r.sig.params }) }
-  is = e ∙ ap (λ (n : ℕ). let d : Draft = record d3 { routines = slice_set d3.routines number (record { entry = n; cells = cells; params = params }) } in d) ee
-      ∙ ap (λ (n : ℕ). let d : Draft = record d3 { routines = slice_set d3.routines number (record { entry = length d0.ops; cells = n; params = params }) } in d) ce
-      ∙ ap (λ (n : ℕ). let d : Draft = record d3 { routines = slice_set d3.routines number (record { entry = length d0.ops; cells = routine_cells p r; params = n }) } in d) pe
+  ends : BodyAt (laid_in d2) (purpose_of p number r) (max number last) r.brace.line (body_by p r.sig.role r s) (length d0.ops) (length d2.ops)
+  ends =
+      subst (λ (n : ℕ). BodyAt (laid_in d2) (purpose_of p number r) n r.brace.line (body_by p r.sig.role r s) (length d0.ops) (length d2.ops)) (sym (max_last number last few)) (
+      subst (λ (x : Role). BodyAt (laid_in d2) (purpose_of p number r) last r.brace.line (body_by p x r s) (length d0.ops) (length d2.ops)) (sym plain) (
+      subst (λ (t : Scope). BodyAt (laid_in d2) (purpose_of p number r) last r.brace.line (stmts_meant p r.body t) (length d0.ops) (length d2.ops)) scope_first k.code))
 
   -- the body behind where the routine begins, its end, and its row
-  pub arm_routine : Written p r s number d0 new
+  pub arm_routine : Written p r s last number d0 new
   arm_routine =
-      let scope : scope_of d3 ≡ scope_behind p r.body (scope_of first) = ap scope_of g.rest ∙ (ap scope_of el ∙ k.scope) in
-      let marks : d2.marks ≡ body_mark mine number r.brace.line ∷ [] = ap (λ (d : Draft). d.marks) k.rest in
-      subst (λ (d : Draft). Written p r s number d0 d) (sym is) (record {
-        kept = kept_then (laid_in d0) (laid_in d2) (laid_in d3) k.kept keeps;
-        room = (let x = k.room in let y = g.room in omega (arith, small, ops));
-        code = record { entry = refl; cells = refl; params = refl; body = record { middle = length d2.ops; first = subst (λ (x : Role). StmtsAt (laid_in d3) (body_mark mine number r.brace.line ∷ []) (body_line mine r.brace.line) (body_by p x r s) (length d0.ops) (length d2.ops)) (sym plain) body_at; second = end_at } };
-        written = ap (λ (l : List RoutineCode). slice_set l number (record { entry = length d0.ops; cells = routine_cells p r; params = length r.sig.params })) same;
-        outside = ap (λ (d : Draft). d.marks) g.rest ∙ (ap (λ (d : Draft). d.marks) el ∙ (ap left_marks marks ∙ left_bare mine number r.brace.line));
-        texts = ap (λ (t : Scope). t.texts) (scope ∙ behind_counted p r.body (scope_of first));
-        few_texts = (let x : d3.texts ≡ d2.texts = ap (λ (d : Draft). d.texts) g.rest ∙ ap (λ (d : Draft). d.texts) el in let y = k.texts in omega (arith, x));
-        sites = ap (λ (t : Scope). t.sites) (scope ∙ behind_counted p r.body (scope_of first));
+      let routines : d2.routines ≡ d0.routines = ap (λ (d : Draft). d.routines) k.rest in
+      subst (λ (d : Draft). Written p r s last number d0 d) (sym is) (record {
+        kept = k.kept;
+        room = k.room;
+        code = record { entry = refl; cells = refl; params = refl; body = ends };
+        written = ap (λ (l : List RoutineCode). slice_set l number begins) routines;
+        outside = ap (λ (d : Draft). d.marks) k.rest;
+        texts = ap (λ (t : Scope). t.texts) (scope_is ∙ behind_counted p r.body (scope_of first));
+        few_texts = k.texts;
+        sites = ap (λ (t : Scope). t.sites) (scope_is ∙ behind_counted p r.body (scope_of first));
       })
 
 -- what is done behind the statements
 
-pub end_of_main : (q : Purpose) (line : ℕ) (old new : Draft) → q ≡ purpose.TaskMain → Adds 1 (OpCode line op.Return) old new → Adds 2 (EndCode (purpose_as q) line) old new
-end_of_main q line old new e a = subst (λ (x : Purpose). Adds 2 (EndCode (purpose_as x) line) old new) (sym e) (adds_more (omega arith) a)
+pub end_without : (b : Bool) (line : ℕ) (old new : Draft) → b ≡ true → Adds 1 (OpCode 0 op.Return) old new → Adds 2 (EndCode b line) old new
+end_without b line old new e a = subst (λ (x : Bool). Adds 2 (EndCode x line) old new) (sym e) (adds_more (omega arith) a)
 
-pub end_of_procedure : (q : Purpose) (line : ℕ) (old new : Draft) → q ≡ purpose.Procedure → Adds 1 (OpCode 0 op.Return) old new → Adds 2 (EndCode (purpose_as q) line) old new
-end_of_procedure q line old new e a = subst (λ (x : Purpose). Adds 2 (EndCode (purpose_as x) line) old new) (sym e) (adds_more (omega arith) a)
-
-pub end_of_function : (q : Purpose) (line : ℕ) (old mid new : Draft) → q ≡ purpose.Function → Adds 1 (OpCode line op.NoReturn) old mid → Adds 1 (OpCode 0 op.Return) mid new → Adds 2 (EndCode (purpose_as q) line) old new
-end_of_function q line old mid new e a b = subst (λ (x : Purpose). Adds 2 (EndCode (purpose_as x) line) old new) (sym e) (adds_both (one_stable op.NoReturn line) a b)
-
-pub end_of_builder : (q : Purpose) (line : ℕ) (old new : Draft) → q ≡ purpose.Builder → Adds 1 (OpCode 0 op.Return) old new → Adds 2 (EndCode (purpose_as q) line) old new
-end_of_builder q line old new e a = subst (λ (x : Purpose). Adds 2 (EndCode (purpose_as x) line) old new) (sym e) (adds_more (omega arith) a)
-
-pub end_on : (q : source.Purpose) {k l : ℕ} {old new : Draft} → k ≡ l → Adds 2 (EndCode q k) old new → Adds 2 (EndCode q l) old new
-end_on q {k} {l} {old} {new} e a = subst (λ (n : ℕ). Adds 2 (EndCode q n) old new) e a
+pub end_with : (b : Bool) (line : ℕ) (old mid new : Draft) → b ≡ false → Adds 1 (OpCode line op.NoReturn) old mid → Adds 1 (OpCode 0 op.Return) mid new → Adds 2 (EndCode b line) old new
+end_with b line old mid new e a c = subst (λ (x : Bool). Adds 2 (EndCode x line) old new) (sym e) (adds_both (one_stable op.NoReturn line) a c)

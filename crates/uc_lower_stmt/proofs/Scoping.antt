@@ -33,12 +33,12 @@ lowers_scoped {n} {k} {c} {o} {S} {t} {old} {last} out new oe te h e =
     })
   where
     whole : Draft
-    whole = record old { place = record old.place { scope = old.scopes + 1 }; ops = last.ops; rows = last.rows; settled = last.settled; scopes = last.scopes; names = last.names; cells = last.cells; texts = last.texts; sites = last.sites }
+    whole = record old { place = record old.place { scope = old.scopes + 1 }; ops = last.ops; rows = last.rows; settled = last.settled; scopes = last.scopes; names = last.names; cells = last.cells; hidden = last.hidden; texts = last.texts; sites = last.sites }
 
-    g : Lowers n k c o S t (opened old) (record old { place = record old.place { scope = old.scopes + 1 }; ops = last.ops; rows = last.rows; settled = last.settled; scopes = last.scopes; names = last.names; cells = last.cells; texts = last.texts; sites = last.sites })
+    g : Lowers n k c o S t (opened old) (record old { place = record old.place { scope = old.scopes + 1 }; ops = last.ops; rows = last.rows; settled = last.settled; scopes = last.scopes; names = last.names; cells = last.cells; hidden = last.hidden; texts = last.texts; sites = last.sites })
     g = subst (λ (d : Draft). Lowers n k c o S t (opened old) d) h.rest h
 
-    is : new ≡ record old { ops = last.ops; rows = last.rows; settled = last.settled; scopes = last.scopes; names = take (length old.names) last.names; cells = last.cells; texts = last.texts; sites = last.sites }
+    is : new ≡ record old { ops = last.ops; rows = last.rows; settled = last.settled; scopes = last.scopes; names = take (length old.names) last.names; cells = last.cells; hidden = last.hidden; texts = last.texts; sites = last.sites }
     is = e ∙ ap (λ (x : Outside). let d : Draft = record last { place = record last.place { scope = x.scope }; names = take x.names last.names } in d) oe
         ∙ ap (λ (x : Draft). let d : Draft = record x { place = record x.place { scope = old.place.scope }; names = take (length old.names) last.names } in d) h.rest
 

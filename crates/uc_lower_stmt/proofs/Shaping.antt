@@ -1,5 +1,5 @@
 -- Pieces of laid out code, and how patched ops take the place of theirs.
-use Rattle.std.proofs.Common.{◌≡◌, ℕ, ◌+◌, ◌≤◌, ◌<◌, List, ◌∷◌, length, ap, sym, subst, ◌∙◌, arith}
+use Rattle.std.proofs.Common.{◌≡◌, ℕ, ◌+◌, ◌≤◌, ◌<◌, List, ◌∷◌, length, refl, ap, sym, subst, ◌∙◌, arith}
 use Rattle.std.proofs.lemmas.Option.{slice_get_within}
 use Rattle.uc_tree.specs.Source.{Order}
 use Rattle.uc_tree.specs.Resolve.{Scope}
@@ -10,7 +10,7 @@ use Rattle.uc_code.specs.Laid.{Laid, laid_in}
 use Rattle.uc_code.specs.Open.{left_marks}
 use Rattle.uc_code.specs.Ranges.{OpAt, One, Both, Fork, pads_at, begin_at, BackAt, Turns, Same, Kept, Stable}
 use Rattle.uc_code.proofs.Stable.{back_stable, same_then, kept_then, kept_same}
-use Rattle.uc_code.proofs.Patches.{length-patched, patched_at, same_before, same_after}
+use Rattle.uc_code.proofs.Patches.{bare_stays, length-patched, patched_at, same_before, same_after}
 use Rattle.uc_lower_expr.specs.Added.{Adds}
 use Rattle.uc_lower_stmt.specs.Scoped.{Lowers}
 use Rattle.uc_lower_stmt.specs.Control.{BeginCode}
@@ -56,9 +56,9 @@ lowers_done {n} {k} {c} {o} {m} {S} {T} {s} {old} {mid} {new} h e g =
 pub lowers_marked : {n k c o : ℕ} {S : Laid → ℕ → ℕ → Type 0} {s : Scope} {mid last : Draft} → (m : Mark) (old new : Draft) → left_marks (m ∷ old.marks) ≡ old.marks → mid ≡ record old { marks = m ∷ old.marks } → new ≡ record last { marks = left_marks last.marks } → Lowers n k c o S s mid last → Lowers n k c o S s old new
 lowers_marked {n} {k} {c} {o} {S} {s} {mid} {last} m old new l e f h =
     let g : Lowers n k c o S s (record old { marks = m ∷ old.marks }) last = subst (λ (d : Draft). Lowers n k c o S s d last) e h in
-    let i : record last { marks = left_marks last.marks } ≡ record old { ops = last.ops; rows = last.rows; settled = last.settled; scopes = last.scopes; names = last.names; cells = last.cells; texts = last.texts; sites = last.sites } =
+    let i : record last { marks = left_marks last.marks } ≡ record old { ops = last.ops; rows = last.rows; settled = last.settled; scopes = last.scopes; names = last.names; cells = last.cells; hidden = last.hidden; texts = last.texts; sites = last.sites } =
     ap (λ (d : Draft). let x : Draft = record d { marks = left_marks d.marks } in x) g.rest
-    ∙ ap (λ (ms : List Mark). let x : Draft = record old { ops = last.ops; rows = last.rows; settled = last.settled; marks = ms; scopes = last.scopes; names = last.names; cells = last.cells; texts = last.texts; sites = last.sites } in x) l in
+    ∙ ap (λ (ms : List Mark). let x : Draft = record old { ops = last.ops; rows = last.rows; settled = last.settled; marks = ms; scopes = last.scopes; names = last.names; cells = last.cells; hidden = last.hidden; texts = last.texts; sites = last.sites } in x) l in
     subst (λ (d : Draft). Lowers n k c o S s old d) (sym f) (record {
       rest = i;
       scope = g.scope;
@@ -119,6 +119,7 @@ module _ (line m k : ℕ) (B C : Laid → ℕ → ℕ → Type 0) (b : Stable B)
       same = λ i o l h. let w = slice_get_within d0.ops i (record { op = o; line = l }) h.here in (fork_before (length d0.ops) (omega arith)).same i o l (omega arith) w (fork_from.same i o l h);
       chains = λ next l. fork_from.chains next l;
       handlers = λ n e h. (fork_before (length d0.ops) (omega arith)).handlers n e (fork_from.handlers n e h);
+      bare = λ n h. bare_stays d4 forked refl n (fork_from.bare n h);
     };
     room = let r1 = hole.room in let r2 = first.room in let r3 = jump.room in let r4 = second.room in let e = fork_long in omega arith;
     code = record {
@@ -224,6 +225,7 @@ module _ (line : ℕ) (order : Order) (p q r : ℕ) (T S : Laid → ℕ → ℕ 
           same = λ i o l w. let x = slice_get_within d0.ops i (record { op = o; line = l }) w.here in (before start (omega arith)).same i o l (omega arith) x (from_start.same i o l w);
           chains = λ next l. from_start.chains next l;
           handlers = λ n e w. (before start (omega arith)).handlers n e (from_start.handlers n e w);
+          bare = λ n w. bare_stays d4 done refl n (from_start.bare n w);
         };
         room = let a = g.room in let c = h.room in let e = k.room in let f = j.room in let z = long in omega arith;
         code = record {

@@ -13,6 +13,7 @@ use Rattle.uc_tree.specs.StatementForms.{stmt_at}
 use Rattle.uc_tree.specs.StatementSizes.{out_items_size, maybe_expr_size, stmt_size, stmts_size}
 use Rattle.uc_tree.specs.Cells.{declared_cells, declarators_cells, stmt_cells}
 use Rattle.uc_tree.specs.Gathered.{gathered}
+use Rattle.uc_tree.specs.Hidden.{hidden_in}
 use Rattle.uc_tree.specs.Numbering.{own_texts, own_sites}
 use Rattle.uc_tree.specs.Programs.{Program}
 use Rattle.uc_tree.specs.Source.{Shape, Expr}
@@ -101,14 +102,16 @@ arm_block p s place xs ys out old d1 d2 new h i oe e1 k e2 =
 if_counted : (p : Program) (place : Pos) (test : tree.Expr) (chosen : Stmt) (other : MaybeStmt) (s : Scope) → maybe_past p other (scope_past p chosen s) ≡ scope_after p (If place test chosen other) s
 if_counted p place test chosen NoStmt s =
     let c : s.cells + stmt_cells chosen (declared_cells p) ≡ s.cells + (stmt_cells chosen (declared_cells p) + 0) = omega arith in
+    let h : s.hidden + hidden_in chosen ≡ s.hidden + (hidden_in chosen + 0) = omega arith in
     let t : s.texts + length (gathered own_texts chosen) ≡ s.texts + length (gathered own_texts chosen ++ []) = omega (arith, length-append (gathered own_texts chosen) []) in
     let x : s.sites + length (gathered (own_sites None 0) chosen) ≡ s.sites + length (gathered (own_sites None 0) chosen ++ []) = omega (arith, length-append (gathered (own_sites None 0) chosen) []) in
-    counted_as s s.names _ _ _ _ _ _ c t x
+    counted_as s s.names _ _ _ _ _ _ _ _ c h t x
 if_counted p place test chosen (OneStmt body) s =
     let c : s.cells + stmt_cells chosen (declared_cells p) + stmt_cells body (declared_cells p) ≡ s.cells + (stmt_cells chosen (declared_cells p) + stmt_cells body (declared_cells p)) = omega arith in
+    let h : s.hidden + hidden_in chosen + hidden_in body ≡ s.hidden + (hidden_in chosen + hidden_in body) = omega arith in
     let t : s.texts + length (gathered own_texts chosen) + length (gathered own_texts body) ≡ s.texts + length (gathered own_texts chosen ++ gathered own_texts body) = omega (arith, length-append (gathered own_texts chosen) (gathered own_texts body)) in
     let x : s.sites + length (gathered (own_sites None 0) chosen) + length (gathered (own_sites None 0) body) ≡ s.sites + length (gathered (own_sites None 0) chosen ++ gathered (own_sites None 0) body) = omega (arith, length-append (gathered (own_sites None 0) chosen) (gathered (own_sites None 0) body)) in
-    counted_as s s.names _ _ _ _ _ _ c t x
+    counted_as s s.names _ _ _ _ _ _ _ _ c h t x
 
 pub arm_if : (p : Program) (s : Stmt) (place : Pos) (test : tree.Expr) (chosen chosen0 : Stmt) (other : MaybeStmt) (old new : Draft) → If place test chosen0 other ≡ s → chosen ≡ chosen0 → LowersIf p place.line test chosen other old new → LowersStmt p s old new
 arm_if p s place test chosen chosen0 other old new h i a =
@@ -127,14 +130,14 @@ arm_do p s place test step body body0 old new h i n a =
 for_counted : (p : Program) (place : Pos) (start : ForStart) (test step : Option tree.Expr) (body : Stmt) (s : Scope) → for_past p start body s ≡ scope_after p (For place start test step body) s
 for_counted p place NoFor test step body s =
     let c : s.cells + stmt_cells body (declared_cells p) ≡ s.cells + (0 + stmt_cells body (declared_cells p)) = omega arith in
-    ap (λ (n : ℕ). counted s s.names n (s.texts + length (gathered own_texts body)) (s.sites + length (gathered (own_sites None 0) body))) c
+    ap (λ (n : ℕ). counted s s.names n (s.hidden + hidden_in body) (s.texts + length (gathered own_texts body)) (s.sites + length (gathered (own_sites None 0) body))) c
 for_counted p place (ForDeclare at b ds) test step body s =
     let c : s.cells + declarators_cells (declared_cells p b) ds + stmt_cells body (declared_cells p) ≡ s.cells + (declarators_cells (declared_cells p b) ds + stmt_cells body (declared_cells p)) = omega arith in
-    ap (λ (x : Scope). counted x s.names (x.cells + stmt_cells body (declared_cells p)) (x.texts + length (gathered own_texts body)) (x.sites + length (gathered (own_sites None 0) body))) (with_is p b ds s)
-    ∙ ap (λ (n : ℕ). counted s s.names n (s.texts + length (gathered own_texts body)) (s.sites + length (gathered (own_sites None 0) body))) c
+    ap (λ (x : Scope). counted x s.names (x.cells + stmt_cells body (declared_cells p)) (x.hidden + hidden_in body) (x.texts + length (gathered own_texts body)) (x.sites + length (gathered (own_sites None 0) body))) (with_is p b ds s)
+    ∙ ap (λ (n : ℕ). counted s s.names n (s.hidden + hidden_in body) (s.texts + length (gathered own_texts body)) (s.sites + length (gathered (own_sites None 0) body))) c
 for_counted p place (ForEvaluate e) test step body s =
     let c : s.cells + stmt_cells body (declared_cells p) ≡ s.cells + (0 + stmt_cells body (declared_cells p)) = omega arith in
-    ap (λ (n : ℕ). counted s s.names n (s.texts + length (gathered own_texts body)) (s.sites + length (gathered (own_sites None 0) body))) c
+    ap (λ (n : ℕ). counted s s.names n (s.hidden + hidden_in body) (s.texts + length (gathered own_texts body)) (s.sites + length (gathered (own_sites None 0) body))) c
 
 pub arm_for_stmt : (p : Program) (s : Stmt) (place : Pos) (start : ForStart) (test step : Option tree.Expr) (body body0 : Stmt) (old new : Draft) → For place start test step body0 ≡ s → body ≡ body0 → LowersFor p place.line start test step body old new → LowersStmt p s old new
 arm_for_stmt p s place start test step body body0 old new h i a =
@@ -145,10 +148,10 @@ arm_for_stmt p s place start test step body body0 old new h i a =
 pub exit_few : (ms : List Mark) → exit_room ms ≤ 1 + 17 * objects_in ms
 exit_few [] = omega arith
 exit_few (mark.Body routine ∷ ms) = omega arith
-exit_few (mark.Finish routine line ∷ ms) = omega arith
+exit_few (mark.Finish routine line row ∷ ms) = omega arith
 exit_few (mark.Loop leave again ∷ ms) = exit_few ms
-exit_few (mark.Whole leave ∷ ms) = omega arith
-exit_few (mark.Guard first count ∷ ms) = exit_few ms
+exit_few (mark.Whole leave row ∷ ms) = omega arith
+exit_few (mark.Guard row ∷ ms) = exit_few ms
 exit_few (mark.Clean what line row ∷ ms) = let h = exit_few ms in omega arith
 exit_few (mark.Part row ∷ ms) = exit_few ms
 exit_few (mark.Elements row ∷ ms) = exit_few ms

@@ -1,9 +1,12 @@
 pub mod Blocks
 pub mod Control
+pub mod Guarding
+pub mod Handling
 pub mod Listed
 pub mod Marked
 pub mod Objects
 pub mod Pending
 pub mod Pieces
+pub mod Raising
 pub mod Routines
 pub mod Scoped

@@ -8,10 +8,10 @@ use Rattle.uc_code.specs.Drafts.{Draft}
 abbrev pub objects_in : List Mark → ℕ
 objects_in [] = 0
 objects_in (mark.Body routine ∷ ms) = objects_in ms
-objects_in (mark.Finish routine line ∷ ms) = objects_in ms
+objects_in (mark.Finish routine line row ∷ ms) = objects_in ms
 objects_in (mark.Loop leave again ∷ ms) = objects_in ms
-objects_in (mark.Whole leave ∷ ms) = 0
-objects_in (mark.Guard first count ∷ ms) = objects_in ms
+objects_in (mark.Whole leave row ∷ ms) = 0
+objects_in (mark.Guard row ∷ ms) = objects_in ms
 objects_in (mark.Clean what line row ∷ ms) = 1 + objects_in ms
 objects_in (mark.Part row ∷ ms) = objects_in ms
 objects_in (mark.Elements row ∷ ms) = objects_in ms

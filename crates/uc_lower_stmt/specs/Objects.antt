@@ -12,7 +12,7 @@ use Rattle.uc_code.specs.Drafts.{Draft}
 use Rattle.uc_code.specs.Laid.{Laid, laid_in}
 use Rattle.uc_code.specs.Open.{StandsBehind, clean_room}
 use Rattle.uc_code.specs.Puts.{clean_length}
-use Rattle.uc_code.specs.Ranges.{OpAt, Both, Risk, HandlerAt, OverElements, Kept}
+use Rattle.uc_code.specs.Ranges.{OpAt, Both, Risk, HandlerAt, clean_up, OverElements, Kept}
 use Rattle.uc_code.specs.Lowered.{CallBuilt, CallDone, CleanAt}
 use Rattle.uc_lower_expr.specs.declared.numbering.ClassRoutine.{ClassRoutine}
 
@@ -53,13 +53,13 @@ pub record ScopeEnds (code : Laid) (line : ℕ) (ms : List Mark) (what : ObjectC
   pub clean : CleanAt code line what ms a clean_end
   pub leave : OpAt code clean_end (op.Jump z) line
   pub unwinds : Both (CleanAt code line what ms) (Risk code ms op.Unwind line) (clean_end + 1) z
-  pub handler : HandlerAt code row (clean_end + 1)
+  pub handler : HandlerAt code row (clean_up (clean_end + 1))
 
 -- behind what follows a part of an object under construction: its clean-up, for unwinding alone
 pub record PartEnds (code : Laid) (line : ℕ) (ms : List Mark) (what : ObjectCall) (row a z : ℕ) : Type 0 where
   pub leave : OpAt code a (op.Jump z) line
   pub unwinds : Both (CleanAt code line what ms) (Risk code ms op.Unwind line) (a + 1) z
-  pub handler : HandlerAt code row (a + 1)
+  pub handler : HandlerAt code row (clean_up (a + 1))
 
 -- a draft in which the scope of the innermost mark, of an object, has ended
 pub record ClosesScope (what : ObjectCall) (line : ℕ) (old new : Draft) : Type 0 where

@@ -44,7 +44,7 @@ pub data Pending (code : Laid) (line : ℕ) (ms : List Mark) (a : ℕ) : List St
 -- a draft with some steps of a block more, by which a block that goes on in some way is made of one: at most n ops, those that
 -- end the new scopes included, k text literals, c cells and d objects in scope more, o scopes more, and this scope behind them
 pub record Lays (n k c d o line : ℕ) (f : Stmts → Stmts) (after : Scope) (old new : Draft) : Type 0 where
-  pub rest : new ≡ record old { ops = new.ops; rows = new.rows; settled = new.settled; marks = new.marks; scopes = new.scopes; names = new.names; cells = new.cells; texts = new.texts; sites = new.sites }
+  pub rest : new ≡ record old { ops = new.ops; rows = new.rows; settled = new.settled; marks = new.marks; scopes = new.scopes; names = new.names; cells = new.cells; hidden = new.hidden; texts = new.texts; sites = new.sites }
   pub scope : scope_of new ≡ after
   pub opened : new.scopes ≡ old.scopes + o
   pub kept : Kept (laid_in old) (laid_in new)

@@ -1,23 +1,30 @@
 -- The code of routines.
-use Rattle.std.specs.Prelude.{ℕ, Bool, if◌then◌else◌}
-use Rattle.uc_tree.specs.Programs.{Sig, Program}
-use Rattle.uc_tree.specs.Source as source
-use Rattle.uc_tree.specs.Resolve.{role_purpose}
+use Rattle.std.specs.Prelude.{ℕ, ◌+◌, ◌*◌, Bool, true, false}
+use Rattle.uc_tree.specs.declared.limits.TheConstants.{OPS_FOR_SIZE}
+use Rattle.uc_tree.specs.Cells.{declared_cells, routine_cells, stmts_cells}
+use Rattle.uc_tree.specs.Hidden.{hidden_in_all}
+use Rattle.uc_tree.specs.Programs.{Routine, Program}
+use Rattle.uc_tree.specs.Resolve.{stmts_meant, scope_behind}
+use Rattle.uc_tree.specs.Scopes.{stmts_scopes}
+use Rattle.uc_tree.specs.Source.{Purpose}
+use Rattle.uc_tree.specs.StatementSizes.{stmts_size}
+use Rattle.uc_code.specs.declared.op.Op.TheVariants as op
+use Rattle.uc_code.specs.Drafts.{Draft}
 use Rattle.uc_code.specs.Laid.{Laid}
-use Rattle.uc_code.specs.Lowered.{EndAt}
-use Rattle.uc_lower_stmt.specs.declared.routine.Purpose.{Purpose}
-use Rattle.uc_lower_stmt.specs.declared.routine.Purpose.TheVariants as purpose
+use Rattle.uc_code.specs.Ranges.{Both, One}
+use Rattle.uc_code.specs.Lowered.{BodyAt}
+use Rattle.uc_lower_stmt.specs.Scoped.{Lowers, scope_of, sizes_at}
 
-abbrev pub purpose_as : Purpose → source.Purpose
-purpose_as purpose.TaskMain = source.TaskMain
-purpose_as purpose.Procedure = source.Procedure
-purpose_as purpose.Function = source.Function
-purpose_as purpose.Builder = source.Builder
+-- the cells of a routine's frame: of its variables, and those that are hidden
+abbrev pub frame_cells : Program → Routine → ℕ
+frame_cells p r = routine_cells p r + hidden_in_all r.body
 
--- what a routine with this signature is, by whether it is the program's main
-abbrev pub purpose_by : Program → Bool → Sig → source.Purpose
-purpose_by p main s = if main then source.TaskMain else role_purpose p s.role s.ret
+-- what is done behind the statements of a routine that is no main, by whether it has no value
+abbrev pub EndCode : Bool → ℕ → Laid → ℕ → ℕ → Type 0
+EndCode true line code = One code op.Return 0
+EndCode false line code = Both (One code op.NoReturn line) (One code op.Return 0)
 
--- what is done behind the statements of a routine
-abbrev pub EndCode : source.Purpose → ℕ → Laid → ℕ → ℕ → Type 0
-EndCode p line code = EndAt code p line
+-- the statements of a written routine, and what is done behind them; the last one that is written has this number
+abbrev pub LowersRoutine : Program → Purpose → ℕ → Routine → Draft → Draft → Type 0
+LowersRoutine p purpose last r old new =
+    Lowers (OPS_FOR_SIZE * (1 + sizes_at r.body 0)) (stmts_size r.body) (stmts_cells r.body (declared_cells p)) (stmts_scopes r.body) (λ code. BodyAt code purpose last r.brace.line (stmts_meant p r.body (scope_of old))) (scope_behind p r.body (scope_of old)) old new

@@ -15,14 +15,15 @@ use Rattle.uc_code.specs.Ranges.{Kept}
 use Rattle.uc_code.specs.Lowered.{StmtAt, StmtsAt}
 use Rattle.uc_lower_stmt.specs.Marked.{objects_in}
 
--- where a draft stands: its class and routine, its names, and the cells, text literals and accept statements so far
+-- where a draft stands: its class and routine, its names, the innermost handler's cells, and the cells, hidden cells, text literals
+-- and accept statements so far
 abbrev pub scope_of : Draft → Scope
-scope_of d = record { class = d.place.class; routine = d.place.routine; names = d.names; cells = d.cells; texts = d.texts; sites = d.sites }
+scope_of d = record { class = d.place.class; routine = d.place.routine; names = d.names; handled = d.handled; cells = d.cells; hidden = d.hidden; texts = d.texts; sites = d.sites }
 
 -- a draft with at most n ops more, for which S holds, in this scope, and with o scopes more. No more than k text literals and c
 -- cells came to it; its marks, routines and place are as they were.
 pub record Lowers (n k c o : ℕ) (S : Laid → ℕ → ℕ → Type 0) (after : Scope) (old new : Draft) : Type 0 where
-  pub rest : new ≡ record old { ops = new.ops; rows = new.rows; settled = new.settled; scopes = new.scopes; names = new.names; cells = new.cells; texts = new.texts; sites = new.sites }
+  pub rest : new ≡ record old { ops = new.ops; rows = new.rows; settled = new.settled; scopes = new.scopes; names = new.names; cells = new.cells; hidden = new.hidden; texts = new.texts; sites = new.sites }
   pub scope : scope_of new ≡ after
   pub opened : new.scopes ≡ old.scopes + o
   pub kept : Kept (laid_in old) (laid_in new)

@@ -1,77 +1,49 @@
 // The code of routines.
 
-ghost use Rattle.std.specs.Prelude.{◌≡◌, ◌+◌, ◌*◌, ◌≤◌, ◌<◌, ◌++◌, ◌∷◌, [], true, None, length, nat_eq, slice_set, OnOk};
+ghost use Rattle.std.specs.Prelude.{◌≡◌, ◌+◌, ◌*◌, ◌≤◌, ◌<◌, ◌++◌, [], true, None, length, nat_eq, slice_set, OnOk};
 ghost use Rattle.uc_tree.specs.declared.limits.TheConstants.{FRAME_CELLS, OPS_FOR_SIZE, PROGRAM_OPS, PROGRAM_SIZE};
 ghost use Rattle.uc_tree.specs.Statements.{stmts_of};
 ghost use Rattle.uc_tree.specs.StatementSizes.{stmts_size};
-ghost use Rattle.uc_tree.specs.Cells.{params_cells, routine_cells};
+ghost use Rattle.uc_tree.specs.Cells.{declared_cells, params_cells, routine_cells, stmts_cells};
 ghost use Rattle.uc_tree.specs.Gathered.{gathered_all};
 ghost use Rattle.uc_tree.specs.Numbering.{is_plain, own_sites, own_texts, routines_of};
-ghost use Rattle.uc_tree.specs.ProgramMain.{main_number};
-ghost use Rattle.uc_tree.specs.Programs.{Program};
-ghost use Rattle.uc_tree.specs.Resolve.{params_known, role_purpose, value_purpose, routine_scope, routine_meant};
+ghost use Rattle.uc_tree.specs.ProgramMain.{is_void, main_number};
+ghost use Rattle.uc_tree.specs.Scopes.{stmts_scopes};
+ghost use Rattle.uc_tree.specs.Source.{TaskMain};
+ghost use Rattle.uc_tree.specs.Resolve.{params_known, purpose_of, value_purpose, routine_scope, routine_meant};
 ghost use Rattle.uc_built.specs.BuiltForms.{are_built};
 ghost use Rattle.uc_code.specs.Laid.{laid_in};
 ghost use Rattle.uc_code.specs.Ranges.{Kept};
-ghost use Rattle.uc_code.specs.Lowered.{RoutineAt, body_mark};
+ghost use Rattle.uc_code.specs.Lowered.{RoutineAt};
 ghost use Rattle.uc_lower_expr.specs.Added.{Adds};
 ghost use Rattle.uc_lower_stmt.specs.Scoped.{sizes_at};
-ghost use Rattle.uc_lower_stmt.specs.Routines.{EndCode, purpose_as, purpose_by};
+ghost use Rattle.uc_lower_stmt.specs.Routines.{EndCode, LowersRoutine, frame_cells};
 
 use crate::declare::copy_of;
 use crate::stmt::lower_stmts;
 use std::alloc::{AllocError, Global};
 use uc_code::draft::Draft;
 use uc_code::op::Op;
-use uc_code::rows::RoutineCode;
-use uc_lower_expr::program_names::{ProgramNames, params_of, sig_of};
+use uc_code::rows::{Opening, RoutineCode};
+use uc_lower_expr::program_names::{ProgramNames, params_of, result_of, sig_of};
 use uc_lower_expr::put::put;
 use uc_sizes::frames::cells_of_routine;
-use uc_tree::class::{Routine, Sig};
-use uc_tree::kinds::{Base, Param, Role, Ty};
+use uc_tree::class::Routine;
+use uc_tree::kinds::{Base, Param, Ty};
 use uc_tree::stmt::Stmt;
 
-/// What a routine is: the main of a task; one without a value, one with a value; a constructor or a destructor.
-#[derive(Clone, Copy, PartialEq, Eq, Debug)]
-pub enum Purpose {
-    TaskMain,
-    Procedure,
-    Function,
-    Builder,
-}
-
-fn value_purpose(base: &Base) -> Purpose
-    ensures { (p : Program) → purpose_as result ≡ value_purpose p base.now }
+fn is_void(base: &Base) -> bool
+    ensures { result ≡ is_void base.now }
 {
     match base {
-        Base::Void => Purpose::Procedure,
-        Base::Int => Purpose::Function,
-        Base::Char => Purpose::Function,
-        Base::Bool => Purpose::Function,
-        Base::Condition => Purpose::Function,
-        Base::Cluster => Purpose::Function,
-        Base::Processor => Purpose::Function,
-        Base::Named(_) => Purpose::Function,
-    }
-}
-
-fn role_purpose(role: Role, base: &Base) -> Purpose
-    ensures { (p : Program) → purpose_as result ≡ role_purpose p role base.now }
-{
-    match role {
-        Role::Plain => value_purpose(base),
-        Role::Constructor => Purpose::Builder,
-        Role::Destructor => Purpose::Builder,
-    }
-}
-
-fn purpose_of(main: bool, sig: &Sig) -> Purpose
-    ensures { (p : Program) → purpose_as result ≡ purpose_by p main sig.now }
-{
-    if main {
-        Purpose::TaskMain
-    } else {
-        role_purpose(sig.role, &sig.ret)
+        Base::Void => true,
+        Base::Int => false,
+        Base::Char => false,
+        Base::Bool => false,
+        Base::Condition => false,
+        Base::Cluster => false,
+        Base::Processor => false,
+        Base::Named(_) => false,
     }
 }
 
@@ -113,71 +85,116 @@ pub fn declare_params(
     Ok(())
 }
 
-/// What is lowered from now on are the statements of the routine of this number.
-pub fn enter_body(
-    purpose: Purpose,
-    number: u32,
-    line: u32,
-    out: &mut Draft,
-) -> Result<(), AllocError>
-    ensures { OnOk result (out.new ≡ record out.old { marks = body_mark (purpose_as purpose) number line ∷ out.old.marks }) }
+// What is done behind the statements of a routine that hands over a value of this base, or none.
+fn put_end(base: &Base, line: u32, out: &mut Draft) -> Result<(), AllocError>
+    requires { length out.old.ops + 2 ≤ PROGRAM_OPS }
+    ensures { OnOk result (Adds 2 (EndCode (is_void base.now) line) out.old out.new) }
 {
-    match purpose {
-        Purpose::TaskMain => {
-            out.enter_main(number, line)?;
-            Ok(())
-        }
-        Purpose::Procedure => {
-            out.enter_body(number)?;
-            Ok(())
-        }
-        Purpose::Function => {
-            out.enter_body(number)?;
-            Ok(())
-        }
-        Purpose::Builder => {
-            out.enter_body(number)?;
-            Ok(())
-        }
+    if is_void(base) {
+        put(Op::Return, 0, out)?;
+        return Ok(());
     }
+    put(Op::NoReturn, line, out)?;
+    put(Op::Return, 0, out)?;
+    Ok(())
 }
 
-/// Adds what is done behind the statements of a routine.
-pub fn put_end(purpose: Purpose, line: u32, out: &mut Draft) -> Result<(), AllocError>
-    requires { length out.old.ops + 2 ≤ PROGRAM_OPS }
-    ensures { OnOk result (Adds 2 (EndCode (purpose_as purpose) line) out.old out.new) }
+// The statements of the program's main, and its end, also where an event leaves it. `last` is the number of the last routine that is
+// written.
+fn lower_main(
+    alloc: Global,
+    names: &ProgramNames,
+    routine: &Routine,
+    last: u32,
+    out: &mut Draft,
+) -> Result<(), AllocError>
+    requires built { are_built routine.now.body ≡ true }
+    requires written { last < length (routines_of names.now) }
+    requires outside { out.old.marks ≡ [] }
+    requires room { length out.old.ops + OPS_FOR_SIZE * (1 + sizes_at routine.now.body 0) ≤ PROGRAM_OPS }
+    requires cells { out.old.cells + stmts_cells routine.now.body (declared_cells names.now) ≤ FRAME_CELLS }
+    requires scopes { out.old.scopes + stmts_scopes routine.now.body ≤ PROGRAM_SIZE }
+    requires texts { out.old.texts + stmts_size routine.now.body ≤ PROGRAM_SIZE }
+    ensures { OnOk result (LowersRoutine names.now TaskMain last routine.now out.old out.new) }
 {
-    match purpose {
-        Purpose::TaskMain => {
-            put(Op::Return, line, out)?;
-            Ok(())
-        }
-        Purpose::Procedure => {
-            put(Op::Return, 0, out)?;
-            Ok(())
-        }
-        Purpose::Function => {
-            put(Op::NoReturn, line, out)?;
-            put(Op::Return, 0, out)?;
-            Ok(())
-        }
-        Purpose::Builder => {
-            put(Op::Return, 0, out)?;
-            Ok(())
-        }
+    let line = line_of(routine);
+    let _row = out.open(Opening::Main {
+        routine: last,
+        line,
+    })?;
+    lower_stmts(alloc, names, body_of(routine), line, out)?;
+    out.close(1);
+    put(Op::Return, line, out)?;
+    put(Op::Unhandled, line, out)?;
+    Ok(())
+}
+
+// The statements of a routine that is called, and its end.
+fn lower_called(
+    alloc: Global,
+    names: &ProgramNames,
+    routine: &Routine,
+    last: u32,
+    out: &mut Draft,
+) -> Result<(), AllocError>
+    requires built { are_built routine.now.body ≡ true }
+    requires written { last < length (routines_of names.now) }
+    requires outside { out.old.marks ≡ [] }
+    requires room { length out.old.ops + OPS_FOR_SIZE * (1 + sizes_at routine.now.body 0) ≤ PROGRAM_OPS }
+    requires cells { out.old.cells + stmts_cells routine.now.body (declared_cells names.now) ≤ FRAME_CELLS }
+    requires scopes { out.old.scopes + stmts_scopes routine.now.body ≤ PROGRAM_SIZE }
+    requires texts { out.old.texts + stmts_size routine.now.body ≤ PROGRAM_SIZE }
+    ensures { OnOk result (LowersRoutine names.now (value_purpose names.now routine.now.sig.ret) last routine.now out.old out.new) }
+{
+    let line = line_of(routine);
+    out.enter_body(last)?;
+    lower_stmts(alloc, names, body_of(routine), line, out)?;
+    out.leave();
+    put_end(result_of(sig_of(routine)), line, out)?;
+    Ok(())
+}
+
+// The statements of a routine that is no constructor and no destructor, and its end.
+fn lower_statements(
+    alloc: Global,
+    names: &ProgramNames,
+    routine: &Routine,
+    main: bool,
+    number: u32,
+    last: u32,
+    out: &mut Draft,
+) -> Result<(), AllocError>
+    requires plain { is_plain routine.now.sig.role ≡ true }
+    requires main { main ≡ nat_eq number (main_number names.now) }
+    requires built { are_built routine.now.body ≡ true }
+    requires written { last < length (routines_of names.now) }
+    requires outside { out.old.marks ≡ [] }
+    requires room { length out.old.ops + OPS_FOR_SIZE * (1 + sizes_at routine.now.body 0) ≤ PROGRAM_OPS }
+    requires cells { out.old.cells + stmts_cells routine.now.body (declared_cells names.now) ≤ FRAME_CELLS }
+    requires scopes { out.old.scopes + stmts_scopes routine.now.body ≤ PROGRAM_SIZE }
+    requires texts { out.old.texts + stmts_size routine.now.body ≤ PROGRAM_SIZE }
+    ensures { OnOk result (LowersRoutine names.now (purpose_of names.now number routine.now) last routine.now out.old out.new) }
+{
+    if main {
+        lower_main(alloc, names, routine, last, out)?;
+        return Ok(());
     }
+    lower_called(alloc, names, routine, last, out)?;
+    Ok(())
 }
 
 /// Adds the code of a routine that is no constructor and no destructor, behind so many text literals and accept statements of the
 /// program, and writes down under its number where it begins; `main` says whether it is the program's main. Its statements are of
-/// forms that are built. After want of memory the draft is spent.
+/// forms that are built. `class` is the place of its class, and `last` the
+/// number of the last routine that is written. After want of memory the draft is spent.
 pub fn lower_routine(
     alloc: Global,
     names: &ProgramNames,
     routine: &Routine,
     main: bool,
-    class: u32,
+    class: Option<usize>,
     number: u32,
+    last: u32,
     texts: u32,
     sites: u32,
     out: &mut Draft,
@@ -187,15 +204,16 @@ pub fn lower_routine(
     requires built { are_built routine.now.body ≡ true }
     requires few_params { length routine.now.sig.params ≤ PROGRAM_SIZE }
     requires known { number < length out.old.routines }
-    requires written { number < length (routines_of names.now) }
+    requires behind { number ≤ last }
+    requires written { last < length (routines_of names.now) }
     requires outside { out.old.marks ≡ [] }
     requires room { length out.old.ops + OPS_FOR_SIZE * (1 + sizes_at routine.now.body 0) ≤ PROGRAM_OPS }
     requires cells { routine_cells names.now routine.now ≤ FRAME_CELLS }
     requires texts { texts + stmts_size routine.now.body ≤ PROGRAM_SIZE }
     ensures kept { OnOk result (Kept (laid_in out.old) (laid_in out.new)) }
     ensures room { OnOk result (length out.new.ops ≤ length out.old.ops + OPS_FOR_SIZE * (1 + sizes_at routine.now.body 0)) }
-    ensures code { OnOk result (RoutineAt (laid_in out.new) number (routine_meant names.now routine.now (routine_scope names.now routine.now.sig.params class number texts sites)) (record { entry = length out.old.ops; cells = routine_cells names.now routine.now; params = length routine.now.sig.params }) (length out.old.ops) (length out.new.ops)) }
-    ensures written { OnOk result (out.new.routines ≡ slice_set out.old.routines number (record { entry = length out.old.ops; cells = routine_cells names.now routine.now; params = length routine.now.sig.params })) }
+    ensures code { OnOk result (RoutineAt (laid_in out.new) last number (routine_meant names.now routine.now (routine_scope names.now routine.now class number texts sites)) (record { entry = length out.old.ops; cells = frame_cells names.now routine.now; params = length routine.now.sig.params }) (length out.old.ops) (length out.new.ops)) }
+    ensures written { OnOk result (out.new.routines ≡ slice_set out.old.routines number (record { entry = length out.old.ops; cells = frame_cells names.now routine.now; params = length routine.now.sig.params })) }
     ensures outside { OnOk result (out.new.marks ≡ []) }
     ensures texts { OnOk result (out.new.texts ≡ texts + length (gathered_all own_texts routine.now.body)) }
     ensures few_texts { OnOk result (out.new.texts ≤ texts + stmts_size routine.now.body) }
@@ -204,15 +222,11 @@ pub fn lower_routine(
     let entry = out.here();
     let sig = sig_of(routine);
     let params = params_of(sig);
-    let line = line_of(routine);
-    let purpose = purpose_of(main, sig);
-    out.begin_routine(class, number, texts, sites);
+    let variables = cells_of_routine(names.sizes(), routine) as u32;
+    out.begin_routine(class, number, variables, texts, sites);
     declare_params(alloc, names, params, out)?;
-    enter_body(purpose, number, line, out)?;
-    lower_stmts(alloc, names, body_of(routine), line, out)?;
-    out.leave();
-    put_end(purpose, line, out)?;
-    let cells = cells_of_routine(names.sizes(), routine) as u32;
+    lower_statements(alloc, names, routine, main, number, last, out)?;
+    let cells = out.hidden();
     let count = params.len() as u32;
     out.set_routine(
         number,

@@ -27,7 +27,9 @@ ghost use Rattle.uc_lower_stmt.specs.Control.{BackCode, BeginCode, DeclaresObjec
 
 use crate::block::{close_scopes, lower_objects};
 use crate::declare::lower_declarators;
+use crate::guard::lower_try;
 use crate::print::{lower_items, lower_targets, lower_together};
+use crate::raise::{lower_raise, lower_throw};
 use crate::turning::Turning;
 use std::alloc::{AllocError, Global};
 use uc_code::cleaning::put_exit;
@@ -96,27 +98,13 @@ pub fn lower_stmt(
             Ok(())
         }
         StmtForm::While { test, body } => {
-            lower_loop(
-                alloc,
-                names,
-                Turning::TestFirst(test),
-                &None,
-                body,
-                line,
-                out,
-            )?;
+            let turning = Turning::TestFirst(test);
+            lower_loop(alloc, names, turning, &None, body, line, out)?;
             Ok(())
         }
         StmtForm::Do { body, test } => {
-            lower_loop(
-                alloc,
-                names,
-                Turning::BodyFirst(test),
-                &None,
-                body,
-                line,
-                out,
-            )?;
+            let turning = Turning::BodyFirst(test);
+            lower_loop(alloc, names, turning, &None, body, line, out)?;
             Ok(())
         }
         StmtForm::For {
@@ -141,9 +129,22 @@ pub fn lower_stmt(
             Ok(())
         }
         StmtForm::Empty => Ok(()),
-        StmtForm::Try { .. } => Ok(()),
-        StmtForm::Throw { .. } => Ok(()),
-        StmtForm::Raise { .. } => Ok(()),
+        StmtForm::Try {
+            brace,
+            body,
+            handlers,
+        } => {
+            lower_try(alloc, names, body, brace.line, handlers, line, out)?;
+            Ok(())
+        }
+        StmtForm::Throw { raised } => {
+            lower_throw(raised, line, names, out)?;
+            Ok(())
+        }
+        StmtForm::Raise { raised } => {
+            lower_raise(raised, line, names, out)?;
+            Ok(())
+        }
         StmtForm::RaiseAt { .. } => Ok(()),
         StmtForm::Enable { .. } => Ok(()),
         StmtForm::Disable { .. } => Ok(()),

@@ -20,6 +20,7 @@ pub mod Answered
 pub mod Sampled
 pub mod RunsSampled
 pub mod ObjectsSampled
+pub mod RaisingSampled
 pub mod Cuts
 pub mod Others
 pub mod Held

@@ -20,24 +20,24 @@ use Rattle.uc_meaning.specs.ObjectSamples.{nested_text, nested_journal, NestedRu
 use Rattle.uc_meaning.proofs.RunsSampled.{given, acted, printed, the_end}
 
 -- a field of the object of the running call, whose class has this shape
-abbrev own_field : Shape → ℕ → Expr
+abbrev pub own_field : Shape → ℕ → Expr
 own_field s i = OfObject (OwnField s i)
 
 abbrev own_value : Shape → ℕ → Expr
 own_value s i = OfObject (GetOwn s i)
 
-abbrev one_int : Shape
+abbrev pub one_int : Shape
 one_int = FieldIn Integer Last
 
 -- a call at a place, without arguments
-abbrev call_at : ℕ → Expr → Expr
+abbrev pub call_at : ℕ → Expr → Expr
 call_at r place = OfObject (CallOn r place NoExprs)
 
 -- the body of a constructor or a destructor, and a block
-abbrev in_block : ℕ → Stmts → Stmts
+abbrev pub in_block : ℕ → Stmts → Stmts
 in_block line body = Then (Whole line body) Nil
 
-abbrev in_plain : ℕ → Stmts → Stmts
+abbrev pub in_plain : ℕ → Stmts → Stmts
 in_plain line body = Then (Block line body) Nil
 
 -- `class A` and `class B` of the first sample, and its main

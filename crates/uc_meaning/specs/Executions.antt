@@ -248,3 +248,21 @@ module _ {C V : Type 0} where
   -- it
   abbrev pub entered : C → V → V → List V → Bool → Activation C V → List (Activation C V) → Env C V → State C V
   entered todo this nothing frame counts c cs e = record { run = begun todo this (length e.frames) nothing counts; callers = c ∷ cs; env = record e { frames = frame ∷ e.frames; links = one_call_more counts e.links } }
+
+  -- the newest activation, which counts or does not, is left with its frame for this one, which waited for it
+  abbrev pub left_for : Bool → Activation C V → List (Activation C V) → Env C V → State C V
+  left_for counts c cs e = record { run = c; callers = cs; env = record e { frames = others e.frames; links = one_call_less counts e.links } }
+
+  -- a resumption handler begins with this to do, these operands, for this object, with the variables of the frame of this depth and an empty frame of
+  -- its own, and with how far the search for it came, before one that waits for it
+  abbrev pub handler_entered : C → List V → V → ℕ → V → Visited → Activation C V → List (Activation C V) → Env C V → State C V
+  handler_entered todo operands this frame nothing v c cs e =
+      record { run = record (begun todo this frame nothing false) { operands = operands; handles = Some v }; callers = c ∷ cs; env = record e { frames = [] ∷ e.frames } }
+
+  -- an activation is unwound for this reason, with this to do; where a return arrives, it hands over this
+  abbrev pub unwound : C → Reason → V → Activation C V → Activation C V
+  unwound todo why given a = record a { control = todo; operands = []; raised = Some why; result = given }
+
+  -- its unwinding is over, with this to do
+  abbrev pub calmed : C → Activation C V → Activation C V
+  calmed todo a = record a { control = todo; operands = []; raised = None }

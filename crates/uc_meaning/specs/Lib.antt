@@ -13,6 +13,8 @@ pub mod Answers
 pub mod Serves
 pub mod Executions
 pub mod Faults
+pub mod Pieces
+pub mod Raising
 pub mod Quiet
 pub mod Rides
 pub mod Reading
@@ -23,6 +25,7 @@ pub mod Samples
 pub mod Runs
 pub mod SamplePrograms
 pub mod ObjectSamples
+pub mod RaisingSamples
 pub mod Cuts
 pub mod Texts
 pub mod Fit

@@ -28,90 +28,90 @@ use Rattle.uc_meaning.specs.Samples.{options}
 
 -- trees
 
-abbrev at : ℕ → Pos
+abbrev pub at : ℕ → Pos
 at line = record { line = line; col = 1 }
 
-abbrev named : ℕ → List ℕ → Expr
+abbrev pub named : ℕ → List ℕ → Expr
 named line name = Name (at line) name
 
-abbrev number : ℕ → ℕ → Expr
+abbrev pub number : ℕ → ℕ → Expr
 number line n = Number (at line) (pos n)
 
 -- `root.name(args)`, and `name(args)`
-abbrev called_at : ℕ → Expr → List Part → List ℕ → List Expr → Expr
+abbrev pub called_at : ℕ → Expr → List Part → List ℕ → List Expr → Expr
 called_at line root before name args = Postfix (at line) root (parts_of (before ++ Field (at line) name ∷ Call (at line) (exprs_of args) ∷ []))
 
-abbrev called : ℕ → List ℕ → List Expr → Expr
+abbrev pub called : ℕ → List ℕ → List Expr → Expr
 called line name args = Postfix (at line) (named line name) (parts_of (Call (at line) (exprs_of args) ∷ []))
 
-abbrev joined : ℕ → BinaryOp → Expr → Expr → Expr
+abbrev pub joined : ℕ → BinaryOp → Expr → Expr → Expr
 joined line op a b = Chain (at line) a (links_of (Linked (at line) op b ∷ []))
 
-abbrev sum : ℕ → Expr → Expr → Expr
+abbrev pub sum : ℕ → Expr → Expr → Expr
 sum line a b = joined line binary.Add a b
 
-abbrev set : ℕ → List ℕ → Expr → Stmt
+abbrev pub set : ℕ → List ℕ → Expr → Stmt
 set line name e = Evaluate (at line) (Assign (at line) (at line) assign.Set (named line name) e)
 
-abbrev character : ℕ → ℕ → OutItem
+abbrev pub character : ℕ → ℕ → OutItem
 character line byte = Printed (at line) (Character (at line) byte)
 
-abbrev value : ℕ → Expr → OutItem
+abbrev pub value : ℕ → Expr → OutItem
 value line e = Printed (at line) e
 
-abbrev variable : ℕ → List ℕ → Start → Declarator
+abbrev pub variable : ℕ → List ℕ → Start → Declarator
 variable line name start = record { pos = at line; by_ref = false; name = name; len = None; start = start }
 
-abbrev array : ℕ → List ℕ → ℕ → Declarator
+abbrev pub array : ℕ → List ℕ → ℕ → Declarator
 array line name n = record { pos = at line; by_ref = false; name = name; len = Some (number line n); start = NoStart }
 
-abbrev reference : ℕ → List ℕ → Declarator
+abbrev pub reference : ℕ → List ℕ → Declarator
 reference line name = record { pos = at line; by_ref = true; name = name; len = None; start = NoStart }
 
-abbrev int_reference : ℕ → List ℕ → Param
+abbrev pub int_reference : ℕ → List ℕ → Param
 int_reference line name = record { pos = at line; base = base.Int; by_ref = true; name = name }
 
-abbrev int_param : ℕ → List ℕ → Param
+abbrev pub int_param : ℕ → List ℕ → Param
 int_param line name = record { pos = at line; base = base.Int; by_ref = false; name = name }
 
-abbrev sig : ℕ → Owner → Role → Base → List ℕ → List Param → Sig
+abbrev pub sig : ℕ → Owner → Role → Base → List ℕ → List Param → Sig
 sig line o r ret name params = record { pos = at line; owner = o; role = r; ret = ret; name = name; params = params }
 
-abbrev routine : ℕ → Sig → List Init → List Stmt → Routine
+abbrev pub routine : ℕ → Sig → List Init → List Stmt → Routine
 routine line s inits body = record { sig = s; inits = inits; brace = at line; body = stmts_of body }
 
-abbrev init : ℕ → List ℕ → List Expr → Init
+abbrev pub init : ℕ → List ℕ → List Expr → Init
 init line name args = record { pos = at line; name = name; args = exprs_of args }
 
-abbrev hidden : ℕ → MemberForm → Member
+abbrev pub hidden : ℕ → MemberForm → Member
 hidden line form = record { pos = at line; access = access.Private; mark = mark.Unmarked; form = form }
 
-abbrev open_to_all : ℕ → MemberForm → Member
+abbrev pub open_to_all : ℕ → MemberForm → Member
 open_to_all line form = record { pos = at line; access = access.Public; mark = mark.Unmarked; form = form }
 
-abbrev constructor : ℕ → List ℕ → List Param → List Init → List Stmt → Member
+abbrev pub constructor : ℕ → List ℕ → List Param → List Init → List Stmt → Member
 constructor line name params inits body =
     open_to_all line (RoutineMember (routine line (sig line owner.Here role.Constructor base.Void name params) inits body))
 
-abbrev destructor : ℕ → List ℕ → List Stmt → Member
+abbrev pub destructor : ℕ → List ℕ → List Stmt → Member
 destructor line name body = open_to_all line (RoutineMember (routine line (sig line owner.Here role.Destructor base.Void name []) [] body))
 
-abbrev class : ℕ → List ℕ → List Member → Item
+abbrev pub class : ℕ → List ℕ → List Member → Item
 class line name members = ClassItem (record { pos = at line; kind = kind_of.Class; name = name; members = members })
 
-abbrev main : ℕ → List Stmt → Item
+abbrev pub main : ℕ → List Stmt → Item
 main line body = RoutineItem (routine line (sig line owner.Main role.Plain base.Void (codes "main") []) [] body)
 
 -- journals
 
 -- a print of a form, after so many ticks
-abbrev prints : ℕ → ℕ → ℕ → Entry
+abbrev pub prints : ℕ → ℕ → ℕ → Entry
 prints ticks form value = entry kind.Print 0 0 ticks 0 (pos form) (pos value)
 
-abbrev opening : Journal
+abbrev pub opening : Journal
 opening = begin options ∷ dispatch 0 0 ∷ []
 
-abbrev done : Journal
+abbrev pub done : Journal
 done = entry kind.End 0 0 0 0 (pos 0) (pos 0) ∷ entry kind.Done 0 0 0 0 (pos 0) (pos 0) ∷ []
 
 -- line 1: class A { int n; public: A(int n) : n(n) { cout << '+' << n; } ~A() { cout << '-' << n; } };

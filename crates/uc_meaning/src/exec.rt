@@ -48,7 +48,8 @@ pub enum Reason {
 }
 
 /// How far the search for a handler of a resumption has come: the handler stands in the activation that has so many below
-/// it, and so many handlers are outwards of it there; the activation that it belongs to has `home` below it.
+/// it, and so many handlers and clean-ups stand outwards of its guarded block there; the activation that it belongs to has `home`
+/// below it.
 #[derive(Clone, Copy, PartialEq, Eq, Debug)]
 pub struct Visited {
     pub level: u32,

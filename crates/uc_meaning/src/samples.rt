@@ -3,6 +3,7 @@
 ghost use Rattle.uc_meaning.specs.Samples.{FirstProgram, AcceptedDestructor, Sliced, Unserved, CallSamples, ConditionSamples, AcceptSamples, BusySamples, EventSamples, OtherSamples, BoundSamples};
 ghost use Rattle.uc_meaning.specs.SamplePrograms.{FirstRun, LoopRun, CallRun};
 ghost use Rattle.uc_meaning.specs.ObjectSamples.{NestedRun, ArrayRun, MemberRun, UnwrittenRun, ReferenceRun};
+ghost use Rattle.uc_meaning.specs.RaisingSamples.{ThrownRun, ResumedRun, EscapedRun, ReturnedRun};
 
 /// The journal of a program that prints one line is a run of a kernel.
 pub fn first_program()
@@ -98,4 +99,24 @@ pub fn unwritten_run()
 /// So is that of a program with references as parameters and fields, and with a fault in an initialiser.
 pub fn reference_run()
     ensures { ReferenceRun }
+{}
+
+/// So is that of a program that throws an event out of the scope of an object and catches it.
+pub fn thrown_run()
+    ensures { ThrownRun }
+{}
+
+/// So is that of a program with two handlers of a resumption, of which the inner one raises the event again.
+pub fn resumed_run()
+    ensures { ResumedRun }
+{}
+
+/// So is that of a program in which an event escapes from a destructor while its block is unwound.
+pub fn escaped_run()
+    ensures { EscapedRun }
+{}
+
+/// So is that of a program in which a resumption handler returns: all from the raise on is unwound.
+pub fn returned_run()
+    ensures { ReturnedRun }
 {}

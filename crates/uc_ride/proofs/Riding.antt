@@ -2,21 +2,27 @@
 use Rattle.std.proofs.Common.{◌≡◌, ℕ, zero, suc, ◌+◌, ◌<◌, Some, None, refl, sym, subst, arith}
 use Rattle.uc_tree.specs.Source.{Source}
 use Rattle.uc_meaning.specs.declared.request.Asked.{Asked}
+use Rattle.uc_meaning.specs.declared.request.Request.{Request}
 use Rattle.uc_meaning.specs.declared.request.Request.TheVariants as ask
 use Rattle.uc_meaning.specs.Quiet.{State}
 use Rattle.uc_meaning.specs.Rides.{Rides, slices, asked_in}
 use Rattle.uc_code.specs.Codes.{Code}
 use Rattle.uc_code.specs.Laid.{laid_of}
 use Rattle.uc_code.specs.Lowered.{Lowered}
+use Rattle.uc_code.specs.Pace.{IsPaced}
 use Rattle.uc_frames.specs.Machine.{Machine}
 use Rattle.uc_frames.specs.Stands.{Stands}
+use Rattle.uc_frames.specs.Weight.{weight}
 use Rattle.uc_step.specs.declared.stepped.Stepped.{Stepped}
 use Rattle.uc_step.specs.declared.stepped.Stepped.TheVariants.{Quiet, Tick, Ask}
 use Rattle.uc_step.specs.declared.onward.Onward.{Onward}
 use Rattle.uc_step.specs.declared.onward.Onward.TheVariants.{Asks}
 use Rattle.uc_step.specs.Follow.{behind_line, StandsAfter, Follow}
 use Rattle.uc_step.specs.Onwards.{OnwardFollow}
+use Rattle.uc_step.specs.Falls.{Keeps, AskFalls, FallsBelow, Falls}
 use Rattle.uc_step.proofs.Rode.{quiet_rides, tick_rides, ask_rides}
+use Rattle.uc_ride.specs.declared.events.Settled.{Settled}
+use Rattle.uc_ride.specs.Led.{how_settled, KeepsAfter}
 use Rattle.uc_ride.specs.Rode.{HasCome, HasBurst, IsOnWay, HasRidden}
 
 module _ (code : Code) where
@@ -26,6 +32,13 @@ module _ (code : Code) where
   -- what a step says of each source
   abbrev pub Stepping : Machine → Stepped → Machine → Type 0
   Stepping m how n = (source : Source) (s : State) → Lowered source code → Stands (laid_of code) m s → Follow (laid_of code) source how n s
+
+  -- and settling of what it leaves
+  abbrev pub Settling : Stepped → Machine → Settled → Machine → Type 0
+  Settling how m after n = (source : Source) (s : State) → Lowered source code → Follow (laid_of code) source how m s → Follow (laid_of code) source (how_settled after) n s
+
+  pub settled_on : (m n o : Machine) (how : Stepped) (after : Settled) → Stepping m how n → Settling how n after o → Stepping m (how_settled after) o
+  settled_on m n o how after f g source s l st = g source s l (f source s l st)
 
   pub come_on : (old m n : Machine) → HasCome code old m → Stepping m Quiet n → HasCome code old n
   come_on old m n h f source s l st =
@@ -108,3 +121,37 @@ module _ (code : Code) where
         rides = subst (λ a. Rides source s quantum t.now (ticks + 1) a) same (rw e at (w.rides (suc 0) t.now (asked_in t.now ask.Slice) r));
         stands = rw q t.stands;
       }
+
+-- what is left behind an op that was left to `step`
+module _ (code : Code) (paced : IsPaced (laid_of code) code.routines) (m n o p : Machine) (kept : Keeps code m) (same : n ≡ m) (how : Stepped) (after : Settled) where
+  pub settled_falls : Falls code n how o → ((w : ℕ) → FallsBelow code w how o → FallsBelow code w (how_settled after) p) → FallsBelow code (weight code.ops m) (how_settled after) p
+  settled_falls f g = subst (λ (x : Machine). FallsBelow code (weight code.ops x) (how_settled after) p) same (g (weight code.ops n) (f paced (subst (λ (x : Machine). Keeps code x) (sym same) kept)))
+
+-- a request behind which less is left keeps as much
+pub asked_keeps : (code : Code) (w : ℕ) (r : Request) (m : Machine) → AskFalls code w r m → KeepsAfter code r m
+asked_keeps code w ask.End m l = tt
+asked_keeps code w (ask.Fault n) m l = tt
+asked_keeps code w (ask.Make x0) m l = l.1
+asked_keeps code w (ask.Made x0) m l = l.1
+asked_keeps code w (ask.Spawn x0) m l = l.1
+asked_keeps code w (ask.Call x0 x1) m l = l.1
+asked_keeps code w (ask.Leave x0) m l = l.1
+asked_keeps code w (ask.Accept x0 x1 x2) m l = l.1
+asked_keeps code w (ask.Wait x0 x1 x2) m l = l.1
+asked_keeps code w (ask.Signal x0 x1) m l = l.1
+asked_keeps code w (ask.SignalBlock x0 x1) m l = l.1
+asked_keeps code w (ask.Empty x0 x1) m l = l.1
+asked_keeps code w (ask.Front x0 x1) m l = l.1
+asked_keeps code w (ask.Raise x0 x1 x2 x3) m l = l.1
+asked_keeps code w (ask.Poll x0) m l = l.1
+asked_keeps code w ask.Yield m l = l.1
+asked_keeps code w ask.Slice m l = l.1
+asked_keeps code w (ask.Print x0 x1) m l = l.1
+asked_keeps code w (ask.Read x0) m l = l.1
+asked_keeps code w ask.Fail m l = l.1
+asked_keeps code w ask.Cluster m l = l.1
+asked_keeps code w (ask.ClusterEnd x0) m l = l.1
+asked_keeps code w (ask.Processor x0) m l = l.1
+asked_keeps code w (ask.ProcessorEnd x0) m l = l.1
+asked_keeps code w (ask.Migrate x0) m l = l.1
+asked_keeps code w (ask.Gone x0) m l = l.1

@@ -1,4 +1,5 @@
 // Rides of a task: ops up to a number of ticks or to a request.
 #![tactic(auto)]
 
+mod events;
 pub mod ride;

@@ -10,9 +10,12 @@ ghost use Rattle.uc_code.specs.Lowered.{Lowered};
 ghost use Rattle.uc_code.specs.Pace.{IsPaced};
 ghost use Rattle.uc_frames.specs.Stands.{Stands};
 ghost use Rattle.uc_step.specs.Acts.{answered};
+ghost use Rattle.uc_step.specs.Falls.{Keeps};
 ghost use Rattle.uc_step.specs.Follow.{behind_line};
+ghost use Rattle.uc_ride.specs.Led.{KeepsAfter, BurstKeeps};
 ghost use Rattle.uc_ride.specs.Rode.{Rode, HasBurst, HasRidden};
 
+use crate::events::{Settled, settle};
 use std::alloc::AllocError;
 use uc_code::code::Code;
 use uc_frames::task::Task;
@@ -21,7 +24,6 @@ use uc_meaning::request::{Answer, Asked, Request};
 use uc_outside::Gate;
 use uc_step::onward::{Onward, go_onward};
 use uc_step::step::{answer as give, step};
-use uc_step::stepped::Stepped;
 
 /// How a ride ended: the task with its hand, a new task where one was made, the ticks, and what is asked.
 #[derive(Drop)]
@@ -52,10 +54,12 @@ pub fn ride<G: Gate>(
     dispatches: u64,
 ) -> Result<Ridden, AllocError>
     requires some { 1 ≤ quantum }
-    requires paced { IsPaced code.now.ops code.now.routines }
+    requires paced { IsPaced (laid_of code.now) code.now.routines }
+    requires kept { Keeps code.now work }
     ensures rides { IfOk result (λ r. (source : Source) (s : State) → Lowered source code.now → Stands (laid_of code.now) work s → Rode source (laid_of code.now) (runs.answered answer s) quantum r.ticks r.asked r.work) }
     ensures few { IfOk result (λ r. r.ticks ≤ quantum) }
     ensures early { IfOk result (λ r. (r.asked.request ≡ ask.Slice → ⊥) → r.ticks < quantum) }
+    ensures kept { IfOk result (λ r. KeepsAfter code.now r.asked.request r.work) }
     ensures child { IfOk result (λ r. r.child ≡ None) }
 {
     if dispatches != 0 {
@@ -80,10 +84,12 @@ pub fn ride_on(
     quantum: u32,
 ) -> Result<RideEnd, AllocError>
     requires some { 1 ≤ quantum }
-    requires paced { IsPaced code.now.ops code.now.routines }
+    requires paced { IsPaced (laid_of code.now) code.now.routines }
+    requires kept { Keeps code.now work.old }
     ensures rides { IfOk result (λ r. (source : Source) (s : State) → Lowered source code.now → Stands (laid_of code.now) work.old s → Rode source (laid_of code.now) (runs.answered answer s) quantum r.ticks r.asked work.new) }
     ensures few { IfOk result (λ r. r.ticks ≤ quantum) }
     ensures early { IfOk result (λ r. (r.asked.request ≡ ask.Slice → ⊥) → r.ticks < quantum) }
+    ensures kept { IfOk result (λ r. KeepsAfter code.now r.asked.request work.new) }
 {
     give(work, answer)?;
     let (ticks, asked) = go_on(code, work, quantum)?;
@@ -93,10 +99,12 @@ pub fn ride_on(
 // Bursts up to a request, or up to so many ticks.
 fn go_on(code: &Code, work: &mut Work, quantum: u32) -> Result<(u32, Asked), AllocError>
     requires some { 1 ≤ quantum }
-    requires paced { IsPaced code.now.ops code.now.routines }
+    requires paced { IsPaced (laid_of code.now) code.now.routines }
+    requires kept { Keeps code.now work.old }
     ensures rides { IfOk result (λ r. HasRidden code.now quantum work.old r.0 r.1 work.new) }
     ensures few { IfOk result (λ r. r.0 ≤ quantum) }
     ensures early { IfOk result (λ r. (r.1.request ≡ ask.Slice → ⊥) → r.0 < quantum) }
+    ensures kept { IfOk result (λ r. KeepsAfter code.now r.1.request work.new) }
 {
     let mut ticks = 0;
     'ticks: loop {
@@ -114,8 +122,10 @@ fn go_on(code: &Code, work: &mut Work, quantum: u32) -> Result<(u32, Asked), All
 
 // Ops up to a tick, or up to a request.
 fn burst(code: &Code, work: &mut Work) -> Result<Option<Asked>, AllocError>
-    requires paced { IsPaced code.now.ops code.now.routines }
-    ensures { IfOk result (λ asked. HasBurst code.now work.old asked work.new) }
+    requires paced { IsPaced (laid_of code.now) code.now.routines }
+    requires kept { Keeps code.now work.old }
+    ensures burst { IfOk result (λ asked. HasBurst code.now work.old asked work.new) }
+    ensures kept { IfOk result (λ asked. BurstKeeps code.now asked work.new) }
 {
     'ops: loop {
         match go_onward(code, work)? {
@@ -123,10 +133,11 @@ fn burst(code: &Code, work: &mut Work) -> Result<Option<Asked>, AllocError>
             Onward::Tick => return Ok(None),
             Onward::Asks => {
                 let how = step(code, work)?;
-                match how {
-                    Stepped::Quiet => {}
-                    Stepped::Tick => return Ok(None),
-                    Stepped::Ask(asked) => return Ok(Some(asked)),
+                let after = settle(code, work, how)?;
+                match after {
+                    Settled::On => {}
+                    Settled::Tick => return Ok(None),
+                    Settled::Asks(asked) => return Ok(Some(asked)),
                 }
             }
         }

@@ -1,5 +1,6 @@
 pub mod CellTables
 pub mod Depths
+pub mod Events
 pub mod PlacesLemmas
 pub mod Reached
 pub mod Sized

@@ -4,7 +4,8 @@ use Rattle.std.specs.Prelude.{IfSome}
 use Rattle.std.proofs.lemmas.List.{length-map}
 use Rattle.std.specs.Cmp.Lexicographic.{bytes_decides}
 use Rattle.uc_tree.specs.Names.{same_name}
-use Rattle.uc_tree.specs.Numbering.{place_from}
+use Rattle.uc_tree.specs.Numbering.{is_event, place_from}
+use Rattle.uc_tree.specs.Standings.{event_from}
 use Rattle.uc_tree.specs.Programs.{Class, Constant}
 use Rattle.uc_tree.specs.Constants.{constant_named}
 use Rattle.uc_tree.specs.Cells.{object_named, object_of_kind}
@@ -140,6 +141,35 @@ module _ {A : Type 0} (f : A → Class) where
   pub object_nowhere : (xs : List A) (i : ℕ) (name : List ℕ) → place_from i (map (λ x. (f x).name) xs) name ≡ None → object_named (map f xs) i name ≡ None
   object_nowhere [] i name h = refl
   object_nowhere (x ∷ xs) i name h = nothing_case (same_name (f x).name name) x xs i name (object_nowhere xs (i + 1) name) h
+
+-- the event of a name is that at the place of its name
+module _ {A : Type 0} (f : A → Class) where
+  abbrev event_by : Bool → ℕ → Option ℕ
+  event_by b i = if b then Some i else None
+
+  event_case : (b : Bool) (x : A) (xs : List A) (i : ℕ) (name : List ℕ) (p : ℕ) (y : A) → (place_from (i + 1) (map (λ x. (f x).name) xs) name ≡ Some p → slice_get xs (p - (i + 1)) ≡ Some y → event_from (map f xs) (i + 1) name ≡ event_by (is_event (f y).kind) p) → (if b then Some i else place_from (i + 1) (map (λ x. (f x).name) xs) name) ≡ Some p → slice_get (x ∷ xs) (p - i) ≡ Some y → (if b then event_by (is_event (f x).kind) i else event_from (map f xs) (i + 1) name) ≡ event_by (is_event (f y).kind) p
+  event_case true x xs i name p y more h at =
+      let is : i ≡ p = cc in
+      let first : p - i ≡ 0 = omega (arith, is) in
+      let here : Some x ≡ Some y = sym (ap (λ k. slice_get (x ∷ xs) k) first) ∙ at in
+      let same : x ≡ y = cc in
+      ap (λ k. event_by (is_event (f x).kind) k) is ∙ ap (λ z. event_by (is_event (f z).kind) p) same
+  event_case false x xs i name p y more h at =
+      let low = (place_within (i + 1) (map (λ x. (f x).name) xs) name p h).0 in
+      let next : p - i ≡ suc (p - (i + 1)) = omega (arith, low) in
+      more h (sym (ap (λ k. slice_get (x ∷ xs) k) next) ∙ at)
+
+  pub event_placed : (xs : List A) (i : ℕ) (name : List ℕ) (p : ℕ) (y : A) → place_from i (map (λ x. (f x).name) xs) name ≡ Some p → slice_get xs (p - i) ≡ Some y → event_from (map f xs) i name ≡ (if is_event (f y).kind then Some p else None)
+  event_placed [] i name p y h at = cc
+  event_placed (x ∷ xs) i name p y h at = event_case (same_name (f x).name name) x xs i name p y (event_placed xs (i + 1) name p y) h at
+
+  no_event_case : (b : Bool) (x : A) (xs : List A) (i : ℕ) (name : List ℕ) → (place_from (i + 1) (map (λ x. (f x).name) xs) name ≡ None → event_from (map f xs) (i + 1) name ≡ None) → (if b then Some i else place_from (i + 1) (map (λ x. (f x).name) xs) name) ≡ None → (if b then event_by (is_event (f x).kind) i else event_from (map f xs) (i + 1) name) ≡ None
+  no_event_case true x xs i name more h = cc
+  no_event_case false x xs i name more h = more h
+
+  pub event_nowhere : (xs : List A) (i : ℕ) (name : List ℕ) → place_from i (map (λ x. (f x).name) xs) name ≡ None → event_from (map f xs) i name ≡ None
+  event_nowhere [] i name h = refl
+  event_nowhere (x ∷ xs) i name h = no_event_case (same_name (f x).name name) x xs i name (event_nowhere xs (i + 1) name) h
 
 -- the constant of a name is that at the place of its name
 module _ {A : Type 0} (f : A → Constant) where

@@ -1,10 +1,12 @@
 // What classes hold.
 
-ghost use Rattle.std.specs.Prelude.{◌≡◌, ◌+◌, ◌++◌, IfOk, OnOk, map};
+ghost use Rattle.std.specs.Prelude.{◌≡◌, ◌+◌, ◌++◌, IfOk, OnOk, Some, None, if◌then◌else◌, map};
 ghost use Rattle.uc_tree.specs.Constants.{sound_length, elements};
 ghost use Rattle.uc_tree.specs.Cells.{object_of_kind, object_named, object_of, held_by, member_held, members_held, leading_cells};
 ghost use Rattle.uc_tree.specs.ProgramViews.{member_form_at};
-ghost use Rattle.uc_sizes.specs.Held.{row_by, rows_by};
+ghost use Rattle.uc_tree.specs.Numbering.{is_event};
+ghost use Rattle.uc_tree.specs.Standings.{event_from};
+ghost use Rattle.uc_sizes.specs.Held.{event_in, row_by, rows_by};
 
 use crate::eval::value_by;
 use crate::known::{Inside, names_of_members};
@@ -78,6 +80,49 @@ fn object_named(classes: &Classes, name: &Name) -> Option<Object>
             object_of_kind(place, class.kind)
         }
         None => None,
+    }
+}
+
+// An event, by the place that it has.
+fn event_of_kind(place: usize, kind: Kind) -> Option<usize>
+    ensures { result ≡ (if is_event kind then Some place else None) }
+{
+    match kind {
+        Kind::Class => None,
+        Kind::Coroutine => None,
+        Kind::Monitor => None,
+        Kind::Cormonitor => None,
+        Kind::Task => None,
+        Kind::Event => Some(place),
+    }
+}
+
+/// The event of a name, by its place, or none.
+pub fn event_named(classes: &Classes, name: &Name) -> Option<usize>
+    ensures { result ≡ event_from (map (λ c. c.now) classes.now.list.now) 0 name.now }
+{
+    match classes.place_of(name) {
+        Some(place) => {
+            let class = classes.list[place];
+            event_of_kind(place, class.kind)
+        }
+        None => None,
+    }
+}
+
+/// The event that a base names, by its place, or none.
+pub fn event_of(classes: &Classes, base: &Base) -> Option<usize>
+    ensures { result ≡ event_in (map (λ c. c.now) classes.now.list.now) base.now }
+{
+    match base {
+        Base::Void => None,
+        Base::Int => None,
+        Base::Char => None,
+        Base::Bool => None,
+        Base::Condition => None,
+        Base::Cluster => None,
+        Base::Processor => None,
+        Base::Named(name) => event_named(classes, name),
     }
 }
 

@@ -4,6 +4,7 @@ ghost use Rattle.std.specs.Prelude.{◌≡◌, ℕ, IfOk, false, map, option_map
 ghost use Rattle.uc_tree.specs.Capped.{capped};
 ghost use Rattle.uc_tree.specs.Cells.{class_cells, classes_of, declared_cells, held_by, object_of, param_cells, rows_of, seen_in};
 ghost use Rattle.uc_tree.specs.Objects.{class_at, plain_class, plain_in};
+ghost use Rattle.uc_tree.specs.Standings.{event_from, event_place};
 ghost use Rattle.uc_tree.specs.Rows.{element_cells, has_itself, held_cells, reaches, row_at};
 ghost use Rattle.uc_sizes.specs.Reached.{IsCircle, Reaching};
 ghost use Rattle.uc_sizes.specs.Known.{known_by};
@@ -13,7 +14,7 @@ ghost use Rattle.uc_tree.specs.Constants.{constant_named, constants_of, elements
 
 use crate::cells::{cells_of, element_cells};
 use crate::circles::{circles_of, flag_at, holders_of, reaching};
-use crate::held::{elements_of, held_by, object_of, rows_of};
+use crate::held::{elements_of, event_named, event_of, held_by, object_of, rows_of};
 use crate::known::Shown;
 use crate::lists::{classes_in, constants_in};
 use crate::named::NameValues;
@@ -284,6 +285,22 @@ impl<'a> Sizes<'a> {
         ensures { result ≡ plain_class self.now base.now }
     {
         plain_in(self.object(base))
+    }
+
+    /// The event of a name, by its place among the classes.
+    pub fn event_named(&self, name: &Name) -> Option<usize>
+        ensures { result ≡ event_from (classes_of self.now.items) 0 name.now }
+    {
+        let event = event_named(&self.classes(), name);
+        event
+    }
+
+    /// The event that a base names, by its place among the classes.
+    pub fn event_place(&self, base: &Base) -> Option<usize>
+        ensures { result ≡ event_place self.now base.now }
+    {
+        let event = event_of(&self.classes(), base);
+        event
     }
 
     /// The cells of what a field holds.

@@ -18,3 +18,4 @@ pub mod Simulate
 pub mod Rode
 pub mod Falls
 pub mod Onwards
+pub mod Apart

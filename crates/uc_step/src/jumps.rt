@@ -1,7 +1,7 @@
 // The ops that go on elsewhere, calls, and the ends of activations.
 
 ghost use Rattle.std.specs.Prelude.{◌≡◌, IfOk, OnOk, OnErr, Some};
-ghost use Rattle.uc_step.specs.Acts.{act_enter, act_return, Does, Ends};
+ghost use Rattle.uc_step.specs.Acts.{act_enter, act_return, act_end, Does, Ends};
 ghost use Rattle.uc_frames.specs.Left.{plain_call, object_call};
 
 use crate::stepped::{Stepped, asked, faulted};
@@ -58,8 +58,30 @@ pub(crate) fn return_value(code: &Code, line: u32, work: &mut Work) -> Result<St
     ensures err { OnErr result (work.new ≡ work.old) }
 {
     let given = work.top();
-    let how = hand_over(code, line, work, given)?;
+    let how = end(code, line, work, given)?;
     Ok(how)
+}
+
+pub(crate) fn return_none(code: &Code, line: u32, work: &mut Work) -> Result<Stepped, AllocError>
+    ensures ok { IfOk result (λ how. Does code.now line Op.ReturnNone work.old how work.new) }
+    ensures err { OnErr result (work.new ≡ work.old) }
+{
+    let how = end(code, line, work, Cell::Number(0))?;
+    Ok(how)
+}
+
+// The end of a routine; that of a handler of resumptions is left to others.
+fn end(code: &Code, line: u32, work: &mut Work, given: Cell) -> Result<Stepped, AllocError>
+    ensures ok { IfOk result (λ how. Ends (act_end code.now line given work.old.run.handles work.old) how work.new) }
+    ensures err { OnErr result (work.new ≡ work.old) }
+{
+    match work.handles() {
+        None => {
+            let how = hand_over(code, line, work, given)?;
+            Ok(how)
+        }
+        Some(_) => Ok(Stepped::Past(given)),
+    }
 }
 
 // The activation that waits goes on with what it is handed, or the task ends.
@@ -72,6 +94,34 @@ fn hand_over(code: &Code, line: u32, work: &mut Work, given: Cell) -> Result<Ste
     } else {
         Ok(asked(code, line, work, Request::End))
     }
+}
+
+// The newest operands are an event, which is thrown.
+pub(crate) fn throw(code: &Code, line: u32, work: &mut Work) -> Result<Stepped, AllocError>
+    ensures ok { IfOk result (λ how. Does code.now line Op.Throw work.old how work.new) }
+    ensures err { OnErr result (work.new ≡ work.old) }
+{
+    let event = work.pop_event();
+    Ok(Stepped::Throw(event))
+}
+
+// The same, but it is raised as a resumption.
+pub(crate) fn raise(code: &Code, line: u32, work: &mut Work) -> Result<Stepped, AllocError>
+    ensures ok { IfOk result (λ how. Does code.now line Op.Raise work.old how work.new) }
+    ensures err { OnErr result (work.new ≡ work.old) }
+{
+    let event = work.pop_event();
+    Ok(Stepped::Raise(event))
+}
+
+// Unwinding goes on behind a clean-up, without operands.
+pub(crate) fn unwind(code: &Code, line: u32, work: &mut Work) -> Result<Stepped, AllocError>
+    ensures ok { IfOk result (λ how. Does code.now line Op.Unwind work.old how work.new) }
+    ensures err { OnErr result (work.new ≡ work.old) }
+{
+    let next = work.next();
+    work.clean(next);
+    Ok(Stepped::Unwind)
 }
 
 // A routine has ended without the value that it owes.

@@ -6,16 +6,25 @@ ghost use Rattle.uc_meaning.specs.Faults.{fault_number};
 ghost use Rattle.uc_frames.specs.Machine.{line_at};
 
 use uc_code::code::Code;
+use uc_frames::cell::Cell;
+use uc_frames::event::Event;
 use uc_frames::work::Work;
 use uc_meaning::fault::RunFault;
 use uc_meaning::request::{Asked, Request};
 
-/// Going on; going on after a tick; or waiting for the answer to a request.
+/// Going on; going on after a tick; or waiting for the answer to a request. What is left to others: an event that was popped and
+/// is thrown or raised; unwinding, which goes on behind the op; and the end of a handler of resumptions by a return, with what
+/// it hands over. No task comes to an op that ends an unwinding but by unwinding: at such an op it has gone astray.
 #[derive(Clone, Copy)]
 pub enum Stepped {
     Quiet,
     Tick,
     Ask(Asked),
+    Throw(Event),
+    Raise(Event),
+    Unwind,
+    Past(Cell),
+    Astray,
 }
 
 // It asks, by an op of this line.

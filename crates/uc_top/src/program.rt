@@ -5,6 +5,7 @@ ghost use Rattle.uc_tree.specs.declared.limits.TheConstants.{INPUT_BYTES, MAKE_M
 ghost use Rattle.uc_tree.specs.Resolve.{source_of};
 ghost use Rattle.uc_meaning.specs.Breaks.{breaks_of};
 ghost use Rattle.uc_built.specs.Accepted.{IsAccepted};
+ghost use Rattle.uc_code.specs.Laid.{laid_of};
 ghost use Rattle.uc_code.specs.Pace.{IsPaced};
 ghost use Rattle.uc_code.specs.Lowered.{Lowered};
 ghost use Rattle.uc_meaning.specs.Texts.{printed};
@@ -123,7 +124,7 @@ fn do_code(
 ) -> Result<Run, AllocError>
     requires accepted { IsAccepted program.now }
     requires lowered { Lowered (source_of program.now) code.now }
-    requires paced { IsPaced code.now.ops code.now.routines }
+    requires paced { IsPaced (laid_of code.now) code.now.routines }
     requires input { length input.now ≤ INPUT_BYTES }
     requires purpose { HasEntries purpose }
     ensures { IfOk result (λ run. ProgramDid purpose program.now input.now run.journal.items run.output.items run.ending) }
@@ -175,7 +176,7 @@ fn run_code(
 ) -> Result<Run, AllocError>
     requires accepted { IsAccepted program.now }
     requires lowered { Lowered (source_of program.now) code.now }
-    requires paced { IsPaced code.now.ops code.now.routines }
+    requires paced { IsPaced (laid_of code.now) code.now.routines }
     requires input { length input.now ≤ INPUT_BYTES }
     requires options { AreAlone opts }
     ensures { IfOk result (λ run. ProgramRan program.now input.now opts too run.journal.items run.output.items run.ending) }

@@ -8,8 +8,7 @@
 // - ` < INPUT`: the bytes of the file in.
 //
 // For each text the words are printed, and what the call put to out and to err, and its status. A line `-- NAME LIMIT`
-// reads a file of the folder in which the program runs, and a line `!! TEXT` puts the text to the error stream. The last
-// two rows are long, and stand last for that.
+// reads a file of the folder in which the program runs, and a line `!! TEXT` puts the text to the error stream.
 #![tactic(auto)]
 
 mod failing;

@@ -10,6 +10,7 @@ pub mod ExpressionSizes
 pub mod ExpressionViews
 pub mod Expressions
 pub mod Gathered
+pub mod Hidden
 pub mod ItemViews
 pub mod Laws
 pub mod Names
@@ -26,6 +27,7 @@ pub mod Scopes
 pub mod Sizes
 pub mod Source
 pub mod Spelling
+pub mod Standings
 pub mod StatementCodes
 pub mod StatementFalls
 pub mod StatementForms

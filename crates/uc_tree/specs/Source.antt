@@ -142,11 +142,12 @@ pub record Declared : Type 0 where
   pub cells : ℕ
   pub value : Option Expr
 
--- an event that is raised, by its number: its constructor, where one is written, and the arguments (to come)
-pub record Raised : Type 0 where
-  pub event : ℕ
-  pub constructor : Option ℕ
-  pub args : Exprs
+-- an event that is raised: by its number, with fields that are 0; by its number, where this call of its constructor builds its
+-- fields from this cell of the frame on; or again the one that a handler keeps from this cell on
+pub data Raised : Type 0 where
+  Plainly : ℕ → Raised
+  BuiltAt : ℕ → ℕ → Expr → Raised
+  AgainFrom : ℕ → Raised
 
 -- what cleans up an object: its destruction; of an array of so many objects, the destruction of the one that is counted
 pub data CleanUp : Type 0 where
@@ -175,7 +176,7 @@ mutual
     -- with the value that is handed over, as the routine's result keeps it
     Return : ℕ → Option Expr → Stmt
     -- so many objects are built from the first one on: what builds the one that is counted, and what destroys it where an event
-    -- comes before all are built (to come)
+    -- comes before all are built
     Fill : ℕ → ℕ → Expr → Expr → Stmt
     OfEvents : EventStmt → Stmt
     OfTasks : TaskStmt → Stmt
@@ -186,22 +187,24 @@ mutual
     Then : Stmt → Stmts → Stmts
     -- an object is in scope in these statements: it is cleaned up behind them, and by what leaves them
     Scoped : CleanUp → Stmts → Stmts
-    -- a part of the object that is under construction is built: an event that leaves these statements cleans it up (to come)
+    -- a part of the object that is under construction is built: an event that leaves these statements cleans it up
     Built : CleanUp → Stmts → Stmts
 
-  -- what raises, handles and enables events, with its line (to come)
+  -- what raises, handles and enables events, with its line
   pub data EventStmt : Type 0 where
-    -- the event, or again the one that is handled
-    Throw : ℕ → Option Raised → EventStmt
-    Raise : ℕ → Option Raised → EventStmt
+    -- an event is thrown; it is resumed
+    Throw : ℕ → Raised → EventStmt
+    Raise : ℕ → Raised → EventStmt
+    -- a guarded block with its handlers
+    Try : ℕ → Stmts → Handlers → EventStmt
+    -- it is raised at another execution (to come)
     RaiseAt : ℕ → Raised → Expr → EventStmt
-    -- events by their bits
+    -- events by their bits (to come)
     Enable : ℕ → ℕ → Stmt → EventStmt
     Disable : ℕ → ℕ → Stmt → EventStmt
-    Try : ℕ → Stmts → Handlers → EventStmt
 
-  -- handlers in order: whether one takes resumptions, its event or every one, the cell that keeps the event's fields, the line
-  -- of its block, and its body
+  -- handlers in order: whether one takes resumptions, its event or every one, the first of the cells that keep the event and its
+  -- fields, the line of its block, and its body
   pub data Handlers : Type 0 where
     NoHandlers : Handlers
     MoreHandlers : Bool → Option ℕ → ℕ → ℕ → Stmts → Handlers → Handlers

@@ -113,11 +113,11 @@ pub struct Known {
     pub cell: u32,
 }
 
-/// Where an expression stands: its class, 0 outside of classes; its routine, or the count of routines
-/// outside of them; the number of its scope in that routine, in textual order from 0, and 0 outside.
+/// Where an expression stands: its class, by its place among those of the program, none outside of classes; its routine, or the
+/// count of routines outside of them; the number of its scope in that routine, in textual order from 0, and 0 outside.
 #[derive(Clone, Copy, PartialEq, Eq, Debug)]
 pub struct Place {
-    pub class: u32,
+    pub class: Option<usize>,
     pub routine: u32,
     pub scope: u32,
 }

@@ -1,6 +1,6 @@
 use Rattle.std.proofs.Common.{Some, refl, subst, arith}
 use Rattle.uc_alone.specs.Kept.{After}
-use Rattle.uc_alone.proofs.Requests.{request_goes, request_ends}
+use Rattle.uc_alone.proofs.Requests.{answered_kept, request_goes, request_ends}
 use Rattle.uc_alone.proofs.run.go_on.Goals as goal
 
 pub returns-in-None : goal.returns-in-None
@@ -18,4 +18,5 @@ requests-preserved c =
       room = after.room c.in-Some.next refl;
       since = after.since (c.requires.range.slice_min) (λ n. let early = c.in_ok-ridden.ensures.early n in omega (arith, early, since)) c.in-Some.next refl;
       below = after.below c.in-Some.next refl;
+      kept = answered_kept c.args.code.now c.in_ok-ridden.ridden.asked.request c.ride_on.new.work (after.answered c.in-Some.next refl) c.in_ok-ridden.ensures.kept;
     }

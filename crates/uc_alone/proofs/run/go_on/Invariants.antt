@@ -5,6 +5,7 @@ use Rattle.uc_meaning.specs.Quiet.{State}
 use Rattle.uc_code.specs.Laid.{laid_of}
 use Rattle.uc_code.specs.Lowered.{Lowered}
 use Rattle.uc_frames.specs.Stands.{Stands}
+use Rattle.uc_step.specs.Falls.{Keeps}
 use Rattle.uc_alone.specs.Alone.{Going, Tells}
 use Rattle.uc_alone.specs.Loop.{Reached}
 use Rattle.uc_alone.proofs.run.go_on.Given as goal
@@ -18,6 +19,7 @@ invariant-requests l = record {
   room : length l.journal.items < l.opts.entries;
   since : l.tally.since < l.opts.slice;
   below : l.tally.all < l.opts.ticks;
+  kept : Keeps l.code l.work;
 }
 
 abbrev pub decreases-requests : goal.decreases-requests

@@ -8,9 +8,10 @@ use Rattle.uc_code.specs.Lowered.{RoutineAt}
 use Rattle.std.specs.Prelude.{slice_get, slice_set}
 use Rattle.uc_unwritten.specs.Unwritten.{unwritten_as}
 use Rattle.uc_lower_class.specs.Bodies.{IsUnwritten}
-use Rattle.uc_lower.specs.Laying.{LaysAll}
+use Rattle.uc_lower.specs.Laying.{LaysAll, last_of}
 use Rattle.uc_lower.proofs.Ending.{unwritten_fits}
 use Rattle.uc_lower.proofs.Laying.{all_none, all_step}
+use Rattle.uc_lower.proofs.Silence.{last_few}
 use Rattle.uc_lower.proofs.Unwritten.{is_unwritten}
 use Rattle.uc_lower.proofs.routines.lower_all_unwritten.Goals as goal
 
@@ -70,7 +71,7 @@ loop-place-preserved c =
     let known : length (routines_of p) + i < c.args.count + length c.args.unwritten.now = omega (arith, count, inside) in (
       omega (arith, number),
       all_step p (routines_of p) (unwritten_of p) (c.args.count + length c.args.unwritten.now) i (unwritten_as u) old new at known lays c.in_ok-lower_unwritten.ensures.kept c.in_ok-lower_unwritten.ensures.room
-          (subst (λ (n : ℕ). RoutineAt (laid_in new) n (unwritten_meant p (unwritten_as u)) row (length old.ops) (length new.ops)) (sym place) c.in_ok-lower_unwritten.ensures.code)
+          (subst (λ (n : ℕ). RoutineAt (laid_in new) (last_of (routines_of p)) n (unwritten_meant p (unwritten_as u)) row (length old.ops) (length new.ops)) (sym place) (c.in_ok-lower_unwritten.ensures.code (last_of (routines_of p)) (let few = last_few (routines_of p) in omega (arith, few, number, count))))
           (c.in_ok-lower_unwritten.ensures.written ∙ ap (λ (n : ℕ). slice_set old.routines n row) (sym place))
           c.in_ok-lower_unwritten.ensures.outside,
     )

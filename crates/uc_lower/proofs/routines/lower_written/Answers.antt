@@ -2,7 +2,8 @@ use Rattle.std.proofs.Common.{◌≡◌, true, false, refl, sym, ap, ◌∙◌, 
 use Rattle.uc_tree.specs.Numbering.{is_plain}
 use Rattle.uc_tree.specs.Programs.{Sig}
 use Rattle.uc_numbers.specs.Routines.{defined_at}
-use Rattle.uc_lower.proofs.Laying.{plain_room, builder_room_is}
+use Rattle.uc_lower_class.specs.Bodies.{builder_room}
+use Rattle.uc_lower.proofs.Laying.{placed_at, plain_room, builder_room_is}
 use Rattle.uc_lower.proofs.routines.lower_written.Goals as goal
 
 pub lower_routine-requires-clause-plain : goal.lower_routine-requires-clause-plain
@@ -34,12 +35,20 @@ pub lower_builder-requires-clause-room : goal.lower_builder-requires-clause-room
 lower_builder-requires-clause-room c =
     let builds : is_plain c.args.one.now.routine.now.sig.role ≡ false = ap (λ (s : Sig). is_plain s.role) (sym c.sig_of.ensures) ∙ sym c.is_plain.ensures ∙ c.if-is_plain.false in
     let e = builder_room_is c.args.names.now (defined_at c.args.one.now) c.args.one.now.routine.now.sig.role refl builds in
+    let class = ap (builder_room c.args.names.now c.args.one.now.routine.now) c.class_of-class.ensures in
     let room = c.requires.room in
-    omega (arith, e, room)
+    omega (arith, e, class, room)
 
 pub returns-clause-room : goal.returns-clause-room
 returns-clause-room c =
     let builds : is_plain c.args.one.now.routine.now.sig.role ≡ false = ap (λ (s : Sig). is_plain s.role) (sym c.sig_of.ensures) ∙ sym c.is_plain.ensures ∙ c.if-is_plain.false in
     let e = builder_room_is c.args.names.now (defined_at c.args.one.now) c.args.one.now.routine.now.sig.role refl builds in
+    let class = ap (builder_room c.args.names.now c.args.one.now.routine.now) c.class_of-class.ensures in
     let room = c.in_ok-lower_builder.ensures.room in
-    omega (arith, e, room)
+    omega (arith, e, class, room)
+
+pub returns-then-is_plain-clause-code : goal.returns-then-is_plain-clause-code
+returns-then-is_plain-clause-code c = placed_at c.args.names.now c.args.one.now.routine.now c.args.last c.args.number c.args.texts c.args.sites _ c.args.out.now c.lower_routine.new.out _ _ c.class_of-class.ensures c.in_ok-lower_routine.ensures.code
+
+pub returns-clause-code : goal.returns-clause-code
+returns-clause-code c = placed_at c.args.names.now c.args.one.now.routine.now c.args.last c.args.number c.args.texts c.args.sites _ c.args.out.now c.lower_builder.new.out _ _ c.class_of-class.ensures c.in_ok-lower_builder.ensures.code

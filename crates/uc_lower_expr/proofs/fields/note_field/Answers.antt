@@ -26,6 +26,7 @@ returns-in_ok-push-in-Ok c =
       by_ref = sym (ap (λ x. x.by_ref) c.declarator.view_is);
       shape = c.value_of_base-value.ensures.shape;
       class = c.value_of_base-value.ensures.class;
+      event = c.value_of_base-value.ensures.event;
       len = c.length_of.ensures ∙ ap (λ (h : Held). length_by d.len h.count) what;
       standing = refl;
     })

@@ -1,10 +1,14 @@
 use Rattle.uc_frames.specs.Weight.{weight}
+use Rattle.uc_step.specs.Falls.{Keeps}
 use Rattle.uc_ride.specs.Rode.{HasCome}
 use Rattle.uc_ride.proofs.ride.burst.Given as goal
 
 -- each ride from here is one from the start
 abbrev pub invariant-ops : goal.invariant-ops
-invariant-ops l = HasCome l.code l.fn.work l.work
+invariant-ops l = record {
+  come : HasCome l.code l.fn.work l.work;
+  kept : Keeps l.code l.work;
+}
 
 abbrev pub decreases-ops : goal.decreases-ops
 decreases-ops l = weight l.code.ops l.work

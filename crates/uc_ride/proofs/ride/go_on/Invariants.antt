@@ -1,4 +1,5 @@
 use Rattle.std.proofs.Common.{◌<◌, ◌-◌}
+use Rattle.uc_step.specs.Falls.{Keeps}
 use Rattle.uc_ride.specs.Rode.{IsOnWay}
 use Rattle.uc_ride.proofs.ride.go_on.Given as goal
 
@@ -7,6 +8,7 @@ abbrev pub invariant-ticks : goal.invariant-ticks
 invariant-ticks l = record {
   way : IsOnWay l.code l.quantum l.fn.work l.ticks l.work;
   few : l.ticks < l.quantum;
+  kept : Keeps l.code l.work;
 }
 
 abbrev pub decreases-ticks : goal.decreases-ticks

@@ -7,12 +7,12 @@ pub ending_of-ending-requires : goal.ending_of-ending-requires
 ending_of-ending-requires c =
     let p = c.args.program.now in
     let items = c.deref.ensures.value ∙ ap (λ q. q.items) c.program.view_is in
-    let number : main_number p ≡ c.in-Some.main = sym (c.in-Some.ensures p ∙ ap (main_among p) items) in
+    let number : main_number p ≡ c.in-Some.main = sym (c.in-Some.ensures.number p ∙ ap (main_among p) items) in
     run_ends p c.args.code.now c.args.input.now c.args.opts c.in-Some.main c.in_ok-journal.journal.items c.deref-3.result.now c.requires.accepted c.requires.lowered c.in_ok-journal.ensures.run number c.deref-3.ensures.value
 
 pub returns : goal.returns
 returns c =
     let p = c.args.program.now in
     let items = c.deref.ensures.value ∙ ap (λ q. q.items) c.program.view_is in
-    let number : main_number p ≡ c.in-Some.main = sym (c.in-Some.ensures p ∙ ap (main_among p) items) in
+    let number : main_number p ≡ c.in-Some.main = sym (c.in-Some.ensures.number p ∙ ap (main_among p) items) in
     program_ran p c.args.code.now c.args.input.now c.args.opts c.in-Some.main c.args.too c.in_ok-journal.journal.items c.deref-2.result.now c.deref-3.result.now c.texts.result.now c.in_ok-output.output.items c.ending_of-ending.result c.requires.accepted c.requires.lowered c.in_ok-journal.ensures.run number c.texts.ensures c.deref-2.ensures.value c.deref-3.ensures.value c.in_ok-output.ensures c.ending_of-ending.ensures

@@ -22,6 +22,8 @@ invariant_of-result c =
     let classes : c.len-count.result ≡ length c.args.numbering.classes.items = search rules in
     let count : c.len-count.result ≡ length (classes_of c.args.sizes.now.items) = classes ∙ ap length n.classes ∙ length-map (classes_of c.args.sizes.now.items) (number_of_class c.args.sizes.now) in
     let long = c.in_ok-routines.ensures.long in
+    let routines_last : routines_in ds ≡ map held c.deref-5.result.now = sym n.routines ∙ sym (ap (λ rs. map held rs) c.deref-5.ensures.value) in
+    let owners_last : owners_in ds ≡ c.deref-6.result.now = sym n.owners ∙ sym c.deref-6.ensures.value in
     record {
       fit = c.requires.fit;
       numbering = n;
@@ -32,4 +34,6 @@ invariant_of-result c =
         long = omega (arith, count, long);
         each = λ number t e. c.in_ok-routines.ensures.each ds number t routines_too owners_too e;
       };
+      events_are = c.in_ok-events.ensures;
+      builders_are = c.in_ok-builders.ensures ds routines_last owners_last;
     }

@@ -1,0 +1,17 @@
+-- Statements in which no event is raised: those of constructors and destructors that nobody wrote.
+use Rattle.uc_tree.specs.Source.{Stmt, Block, Whole, If, Loop, OfEvents, Stmts, Nil, Then, Scoped, Built}
+
+abbrev mutual
+  pub silent : Stmt → Type 0
+  silent (Block line ss) = silent_all ss
+  silent (Whole line ss) = silent_all ss
+  silent (If line test chosen other) = silent chosen × silent other
+  silent (Loop line order test step body) = silent body
+  silent (OfEvents s) = ⊥
+  silent _ = Unit {0}
+
+  pub silent_all : Stmts → Type 0
+  silent_all Nil = Unit {0}
+  silent_all (Then s ss) = silent s × silent_all ss
+  silent_all (Scoped c ss) = silent_all ss
+  silent_all (Built c ss) = silent_all ss

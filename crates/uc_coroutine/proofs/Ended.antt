@@ -1,0 +1,95 @@
+-- The ends of blocks and mains that are unwound are those of the source.
+use Rattle.std.proofs.Common.{◌≡◌, ℕ, ◌+◌, List, [], ◌∷◌, length, Bool, true, false, Option, Some, None, refl, sym, ap, subst, ◌∙◌}
+use Rattle.uc_tree.specs.Source.{Source}
+use Rattle.uc_meaning.specs.declared.exec.Reason.{Reason}
+use Rattle.uc_meaning.specs.declared.exec.Reason.TheVariants as reason
+use Rattle.uc_meaning.specs.Executions.{calmed, returned}
+use Rattle.uc_meaning.specs.Quiet as quiet
+use Rattle.uc_meaning.specs.Quiet.{Finish, State, Goes, stay, more, nought, quiet as step}
+use Rattle.uc_meaning.specs.Pieces.{Unwind}
+use Rattle.uc_meaning.specs.Raising.{arrives, whole_left, main_left, unwind_past}
+use Rattle.uc_code.specs.Laid.{Laid}
+use Rattle.uc_frames.specs.Machine.{Active, Machine}
+use Rattle.uc_frames.specs.Machine as machine
+use Rattle.uc_frames.specs.Parts.{Lined}
+use Rattle.uc_frames.specs.Stands.{CallerStands, Stands}
+use Rattle.uc_frames.specs.Left.{left}
+use Rattle.uc_frames.proofs.Finishes.{main_line}
+use Rattle.uc_frames.specs.Unwound.{TestsBlock, EndsMain, Unwinds}
+use Rattle.uc_coroutine.specs.declared.testing.MainEnd.{MainEnd}
+use Rattle.uc_coroutine.specs.Ends.{block_over, ended_by, main_by, main_over, BlockLeft, MainLeft}
+use Rattle.uc_coroutine.proofs.Lefts.{same_count, handed_on, env_left}
+
+module _ (source : Source) (code : Laid) (old new : Machine) (s : State) where
+  module _ (h : TestsBlock code old s) where
+    past_is : step source s ≡ whole_left (arrives s.run.raised (length s.callers)) h.run.rest s
+    past_is = ap (λ todo. quiet.act_todo source todo s) h.run.todo ∙ ap (λ x. unwind_past x h.run.rest s) h.run.whole
+
+    block_by : (b : Bool) → step source s ≡ whole_left b h.run.rest s → new ≡ block_over b (old.run.control + 1) old → BlockLeft source code b new s
+    block_by true w q =
+        let t : State = record s { run = calmed h.run.rest s.run } in
+        record {
+          after = t;
+          by = w;
+          stands = subst (λ (m : Machine). Stands code m t) (sym q) (record {
+            run = record { marks = h.run.marks; follows = h.run.follows; is = ap (λ (a : Active). calmed (old.run.control + 1) a) h.run.is };
+            callers = h.callers;
+            env = h.env;
+          });
+        }
+    block_by false w q =
+        let t : State = record s { run = record s.run { control = Unwind ∷ h.run.rest; operands = [] } } in
+        record {
+          after = t;
+          by = w;
+          stands = subst (λ (m : Machine). Unwinds code m t) (sym q) (record {
+            run = record {
+              rest = h.run.rest;
+              todo = refl;
+              rows = record { marks = h.run.marks; at = old.run.control + 1; follows = h.run.follows; under = h.run.tests.under };
+              is = ap (λ (a : Active). let b : Active = record a { control = old.run.control + 1 } in b) h.run.is;
+            };
+            callers = h.callers;
+            env = h.env;
+          });
+        }
+
+    pub block_left : (b : Bool) (behind : ℕ) → behind ≡ old.run.control + 1 → b ≡ arrives old.run.raised (length old.callers) → new ≡ block_over b behind old → BlockLeft source code b new s
+    block_left b behind k e q =
+        let r : old.run.raised ≡ s.run.raised = ap (λ (a : Active). a.raised) h.run.is in
+        let n : length old.callers ≡ length s.callers = same_count code old.callers s.callers h.callers in
+        let f : b ≡ arrives s.run.raised (length s.callers) = e ∙ (ap (λ o. arrives o (length old.callers)) r ∙ ap (arrives s.run.raised) n) in
+        block_by b (past_is ∙ ap (λ c. whole_left c h.run.rest s) (sym f)) (q ∙ ap (λ j. block_over b j old) k)
+
+  module _ (h : EndsMain code old s) where
+    main_is : step source s ≡ main_left s.run.raised h.run.rest s
+    main_is = ap (λ todo. quiet.act_todo source todo s) h.run.todo ∙ ap (λ x. unwind_past x h.run.rest s) h.run.main
+
+    -- a return ends it
+    abbrev calm : State
+    calm = record s { run = calmed (Finish ∷ h.run.rest) s.run }
+
+    ended : (ms : List Active) (cs : List quiet.Active) → old.callers ≡ ms → s.callers ≡ cs → Lined (CallerStands code) ms cs → step source s ≡ Goes calm → new ≡ main_over (ended_by ms) old → MainLeft source code (ended_by ms) new s
+    ended [] [] i j l w q = record { before = calm; after = calm; by = more w stay; line = sym (main_line code old s h); asks = ap (λ cs. quiet.return_step nought cs calm) j }
+    ended [] (c ∷ cs) i j l w q = absurd l
+    ended (m ∷ ms) [] i j l w q = absurd l
+    ended (m ∷ ms) (c ∷ cs) i j l w q =
+        let t : State = returned (Some nought) s.run.counts c cs s.env in
+        let b : old.run.counts ≡ s.run.counts = ap (λ (a : Active). a.counts) h.run.is in
+        let v = env_left code s.run.counts old.env s.env h.env in
+        let p : new ≡ left machine.nought (m ∷ ms) old = q ∙ ap (λ ns. left machine.nought ns old) i in
+        let y : step source calm ≡ Goes t = ap (λ ns. quiet.return_step nought ns calm) j in
+        let z : Stands code (returned (Some machine.nought) s.run.counts m ms old.env) t = record { run = handed_on code m c machine.nought nought refl l.0.stands; callers = l.1; env = v } in
+        record { after = t; by = more w (more y stay); stands = subst (λ (n : Machine). Stands code n t) (sym p) (subst (λ k. Stands code (returned (Some machine.nought) k m ms old.env) t) (sym b) z) }
+
+    by_reason : (o : Option Reason) (e : MainEnd) → old.run.raised ≡ o → s.run.raised ≡ o → e ≡ main_by o old.callers → new ≡ main_over e old → MainLeft source code e new s
+    by_reason None e i j k q = subst (λ x. MainLeft source code x new s) (sym k) (record { after = _; asks = main_is ∙ ap (λ o. main_left o h.run.rest s) j })
+    by_reason (Some (reason.Event n x y)) e i j k q = subst (λ x. MainLeft source code x new s) (sym k) (record { after = _; asks = main_is ∙ ap (λ o. main_left o h.run.rest s) j })
+    by_reason (Some (reason.ReturnTo home)) e i j k q =
+        subst (λ x. MainLeft source code x new s) (sym k) (ended old.callers s.callers refl refl h.callers (main_is ∙ ap (λ o. main_left o h.run.rest s) j) (q ∙ ap (λ x. main_over x old) k))
+    by_reason (Some reason.Destroyed) e i j k q = subst (λ x. MainLeft source code x new s) (sym k) (record { after = _; asks = main_is ∙ ap (λ o. main_left o h.run.rest s) j })
+
+    pub main_left_as : (e : MainEnd) → e ≡ main_by old.run.raised old.callers → new ≡ main_over e old → MainLeft source code e new s
+    main_left_as e k q =
+        let r : s.run.raised ≡ old.run.raised = sym (ap (λ (a : Active). a.raised) h.run.is) in
+        by_reason old.run.raised e refl r k q

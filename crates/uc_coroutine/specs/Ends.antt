@@ -1,0 +1,62 @@
+-- The ends of blocks that are left as a whole, and of mains, where they are unwound.
+use Rattle.std.specs.Prelude.{◌≡◌, ℕ, List, [], ◌∷◌, Option, Some, Bool, true, false}
+use Rattle.uc_tree.specs.Source.{Source}
+use Rattle.uc_meaning.specs.declared.exec.Reason.{Reason}
+use Rattle.uc_meaning.specs.declared.exec.Reason.TheVariants as reason
+use Rattle.uc_meaning.specs.declared.fault.RunFault.TheVariants as fault
+use Rattle.uc_meaning.specs.Faults.{fault_number}
+use Rattle.uc_meaning.specs.declared.request.Request.TheVariants as ask
+use Rattle.uc_meaning.specs.Executions.{calmed}
+use Rattle.uc_meaning.specs.Quiet.{State, Asks, quiet, Quietly, line_of}
+use Rattle.uc_code.specs.Laid.{Laid}
+use Rattle.uc_frames.specs.Machine.{Active, Machine, nought}
+use Rattle.uc_frames.specs.Left.{left}
+use Rattle.uc_frames.specs.Stands.{Stands}
+use Rattle.uc_frames.specs.Unwound.{Unwinds}
+use Rattle.uc_coroutine.specs.declared.testing.MainEnd.{MainEnd}
+use Rattle.uc_coroutine.specs.declared.testing.MainEnd.TheVariants.{Ended, Returned, Unhandled}
+use Rattle.uc_coroutine.specs.Outcomes.{Leads, GoesTo}
+
+-- an unwinding is over, or goes on at this op
+abbrev pub block_over : Bool → ℕ → Machine → Machine
+block_over true behind m = record m { run = calmed behind m.run }
+block_over false behind m = record m { run = record m.run { control = behind } }
+
+abbrev pub is_return : Option Reason → Bool
+is_return (Some (reason.ReturnTo home)) = true
+is_return _ = false
+
+abbrev pub ended_by : List Active → MainEnd
+ended_by [] = Ended
+ended_by (c ∷ cs) = Returned
+
+abbrev pub main_by : Option Reason → List Active → MainEnd
+main_by (Some (reason.ReturnTo home)) cs = ended_by cs
+main_by _ cs = Unhandled
+
+abbrev pub main_over : MainEnd → Machine → Machine
+main_over Ended m = m
+main_over Returned m = left nought m.callers m
+main_over Unhandled m = m
+
+module _ (source : Source) (code : Laid) where
+  abbrev pub BlockLeft : Bool → Machine → State → Type 0
+  BlockLeft true m s = GoesTo source code (Stands code) m s
+  BlockLeft false m s = GoesTo source code (Unwinds code) m s
+
+  -- it asks this, behind some quiet steps, in the same line
+  pub record AsksEnd (s : State) : Type 0 where
+    pub before : State
+    pub after : State
+    pub by : Quietly source s before
+    pub line : line_of before ≡ line_of s
+    pub asks : quiet source before ≡ Asks ask.End after
+
+  pub record AsksUnhandled (s : State) : Type 0 where
+    pub after : State
+    pub asks : quiet source s ≡ Asks (ask.Fault (fault_number fault.Unhandled)) after
+
+  abbrev pub MainLeft : MainEnd → Machine → State → Type 0
+  MainLeft Ended m s = AsksEnd s
+  MainLeft Returned m s = Leads source code (Stands code) m s
+  MainLeft Unhandled m s = AsksUnhandled s

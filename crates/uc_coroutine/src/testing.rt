@@ -1,0 +1,88 @@
+// The ends of blocks and mains that are unwound.
+
+ghost use Rattle.std.specs.Prelude.{◌≡◌, ◌+◌, length, IfOk, OnErr};
+ghost use Rattle.uc_tree.specs.Source.{Source};
+ghost use Rattle.uc_meaning.specs.Quiet.{State};
+ghost use Rattle.uc_meaning.specs.Raising.{arrives as arrives_by};
+ghost use Rattle.uc_code.specs.Laid.{Laid};
+ghost use Rattle.uc_frames.specs.Unwound.{TestsBlock, EndsMain};
+ghost use Rattle.uc_coroutine.specs.Ends.{is_return as is_return_by, block_over, main_by, main_over, BlockLeft, MainLeft};
+
+use crate::leaving::arrives;
+use std::alloc::AllocError;
+use uc_frames::cell::Cell;
+use uc_frames::work::Work;
+use uc_meaning::exec::Reason;
+
+/// What becomes of a main that is unwound: it ends, as the last activation or for one that waits, or nothing handles the event by which
+/// it is unwound.
+#[derive(Clone, Copy, PartialEq, Eq, Debug)]
+pub enum MainEnd {
+    Ended,
+    Returned,
+    Unhandled,
+}
+
+/// A block that is left as a whole is unwound up to the op before `behind`: where a return arrives that is over, and the answer is true; else
+/// it goes on from there.
+pub fn end_block(work: &mut Work, behind: u32) -> bool
+    ensures over { result ≡ arrives_by work.old.run.raised (length work.old.callers) }
+    ensures now { work.new ≡ block_over result behind work.old }
+    ensures source { (source : Source) (code : Laid) (s : State) → TestsBlock code work.old s → behind ≡ work.old.run.control + 1 → BlockLeft source code result work.new s }
+{
+    let over = end_at(work, behind);
+    over
+}
+
+fn end_at(work: &mut Work, behind: u32) -> bool
+    ensures over { result ≡ arrives_by work.old.run.raised (length work.old.callers) }
+    ensures now { work.new ≡ block_over result behind work.old }
+{
+    if arrives(work) {
+        work.calm(behind);
+        true
+    } else {
+        work.go(behind);
+        false
+    }
+}
+
+/// A main that is unwound ends where the reason is a return. Where it is the last activation, or an event is not handled, all stays as it is.
+pub fn end_main(work: &mut Work) -> Result<MainEnd, AllocError>
+    ensures how { IfOk result (λ end. end ≡ main_by work.old.run.raised work.old.callers) }
+    ensures now { IfOk result (λ end. work.new ≡ main_over end work.old) }
+    ensures err { OnErr result (work.new ≡ work.old) }
+    ensures source { IfOk result (λ end. (source : Source) (code : Laid) (s : State) → EndsMain code work.old s → MainLeft source code end work.new s) }
+{
+    let end = end_now(work)?;
+    Ok(end)
+}
+
+fn end_now(work: &mut Work) -> Result<MainEnd, AllocError>
+    ensures how { IfOk result (λ end. end ≡ main_by work.old.run.raised work.old.callers) }
+    ensures now { IfOk result (λ end. work.new ≡ main_over end work.old) }
+    ensures err { OnErr result (work.new ≡ work.old) }
+{
+    if !is_return(work.raised()) {
+        return Ok(MainEnd::Unhandled);
+    }
+    let called = work.leave(Cell::Number(0))?;
+    if called {
+        Ok(MainEnd::Returned)
+    } else {
+        Ok(MainEnd::Ended)
+    }
+}
+
+fn is_return(raised: Option<Reason>) -> bool
+    ensures { result ≡ is_return_by raised }
+{
+    match raised {
+        None => false,
+        Some(why) => match why {
+            Reason::Event { .. } => false,
+            Reason::ReturnTo(_) => true,
+            Reason::Destroyed => false,
+        },
+    }
+}

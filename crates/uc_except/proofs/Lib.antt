@@ -1,0 +1,6 @@
+pub mod Catches
+pub mod Handled
+pub mod Levels
+pub mod Seeks
+pub mod Taken
+pub mod Thrown

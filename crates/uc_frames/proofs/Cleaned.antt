@@ -1,0 +1,83 @@
+-- Clean-ups that an unwinding does.
+use Rattle.std.proofs.Common.{◌≡◌, ℕ, ◌+◌, List, ◌∷◌, Option, Some, None, true, refl, subst}
+use Rattle.std.specs.Prelude.{slice_get}
+use Rattle.uc_tree.specs.Source.{CleanUp}
+use Rattle.uc_meaning.specs.Quiet.{Todo, own_line, clean_todo}
+use Rattle.uc_meaning.specs.Pieces.{Unwind}
+use Rattle.uc_code.specs.declared.op.Op.TheVariants as op
+use Rattle.uc_code.specs.declared.rows.Mark.{Mark}
+use Rattle.uc_code.specs.declared.rows.Mark.TheVariants as mark
+use Rattle.uc_code.specs.declared.rows.ObjectCall.{ObjectCall}
+use Rattle.uc_code.specs.Laid.{Laid}
+use Rattle.uc_code.specs.Ranges.{Risk, HandlerAt, clean_up, OverElements, Leads, Arrived, Jumped}
+use Rattle.uc_code.specs.ObjectCalls.{Cleans, One as CleansOne, All}
+use Rattle.uc_code.specs.Lowered.{CallDone, CleanBy, CleanAt}
+use Rattle.uc_code.proofs.Called.{called}
+use Rattle.uc_frames.specs.Searches.{stops_at}
+use Rattle.uc_frames.specs.Stands.{FollowsAt}
+
+module _ (code : Laid) where
+  -- a clean-up stops every unwinding
+  pub clean_stops : (event : Option ℕ) (n entry : ℕ) → HandlerAt code n (clean_up entry) → stops_at event (slice_get code.rows n) ≡ true
+  clean_stops None n entry h = let t = h.there in let k = h.kind in rw (t, k) refl
+  clean_stops (Some e) n entry h = let t = h.there in let k = h.kind in rw (t, k) refl
+
+  -- behind it the unwinding goes on
+  pub goes_on : (ps : List Todo) (ms : List Mark) (pc at back end : ℕ) → Leads code pc at → Risk code ms op.Unwind (own_line ps) at back → FollowsAt code ps ms end → FollowsAt code (Unwind ∷ ps) ms pc
+  goes_on ps ms pc at back end l r f = record { from = at; to = end; leads = l; piece = record { end = back; unwinds = r }; on = f }
+
+  -- the code of a clean-up does it
+  pub record Begins (todo : List Todo) (pc : ℕ) : Type 0 where
+    pub marks : List Mark
+    pub follows : FollowsAt code todo marks pc
+
+  pub begins_clean : (c : CleanUp) (what : ObjectCall) → Cleans c what → (ps : List Todo) (ms : List Mark) (a m back end : ℕ) → CleanAt code (own_line ps) what ms a m → Risk code ms op.Unwind (own_line ps) m back → FollowsAt code ps ms end → Begins (clean_todo c (Unwind ∷ ps)) a
+  begins_clean c what (CleansOne e _ k n) ps ms a m back end h r f =
+      let d : CallDone code (own_line ps) what ms a m = subst (λ o. CleanBy code (own_line ps) o what ms a m) n h in
+      record {
+        marks = ms;
+        follows =
+            record {
+              from = a;
+              to = d.middle;
+              leads = Arrived a;
+              piece = called code (own_line ps) ms e what k a d.middle d.first;
+              on =
+                  record { from = d.middle; to = m; leads = Arrived d.middle; piece = d.second; on = goes_on ps ms m m back end (Arrived m) r f };
+            };
+      }
+  begins_clean c what (All n size e _ k q) ps ms a m back end h r f =
+      let d : OverElements code (own_line ps) ms n n op.Sweep op.Sweep (CallDone code (own_line ps) what) (CallDone code (own_line ps) what) a m = subst (λ o. CleanBy code (own_line ps) o what ms a m) q h in
+      record {
+        marks = mark.Elements d.row ∷ ms;
+        follows =
+            record {
+              from = a;
+              to = d.test;
+              leads = Arrived a;
+              piece = record { here = d.begin };
+              on =
+                  record {
+                    outer = ms;
+                    row = d.row;
+                    what = what;
+                    turn = a + 1;
+                    test = d.test;
+                    end = d.test + 1;
+                    calls = k;
+                    pops = refl;
+                    leads = Arrived d.test;
+                    rounds = d.rounds;
+                    on = goes_on ps ms (d.test + 1) m back end (Jumped (d.test + 1) m m (own_line ps) d.leave (Arrived m)) r f;
+                    undo = what;
+                    undo_turn = d.test + 2;
+                    entry = d.entry;
+                    undone = d.end;
+                    back_at = m;
+                    destroys = k;
+                    handler = d.handler;
+                    undoes = d.undoes;
+                    unwinds = d.unwind;
+                  };
+            };
+      }

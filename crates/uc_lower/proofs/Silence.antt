@@ -1,0 +1,81 @@
+-- No event is raised in constructors and destructors that nobody wrote, and they are behind all that are written.
+use Rattle.std.proofs.Common.{◌≡◌, ℕ, zero, suc, ◌+◌, ◌-◌, ◌≤◌, ◌<◌, List, [], ◌∷◌, ◌++◌, Option, Some, None, length, subst, arith}
+use Rattle.std.specs.Prelude.{slice_get}
+use Rattle.uc_tree.specs.declared.kinds.Role.{Role}
+use Rattle.uc_tree.specs.declared.kinds.Role.TheVariants as role
+use Rattle.uc_tree.specs.Numbering.{Defined, routines_of}
+use Rattle.uc_tree.specs.Cells.{leading_cells}
+use Rattle.uc_tree.specs.Objects.{ClassField, Unwritten, class_at, class_shape, fields_of, unwritten_of}
+use Rattle.uc_tree.specs.Programs.{Class, Program}
+use Rattle.uc_tree.specs.Resolve.{Meant, Own, all_unwritten, build, construction, destruction, field_built, field_class, field_left, field_place, fields_built, fields_left, length_in_class, nowhere, routines_meant, source_of, unwritten_body, unwritten_meant}
+use Rattle.uc_tree.specs.Source as source
+use Rattle.uc_code.specs.Silent.{silent, silent_all}
+use Rattle.uc_lower.specs.Laying.{last_of}
+use Rattle.uc_lower.proofs.Laying.{meant_long}
+
+build_silent : (p : Program) (line i : ℕ) (len : Option ℕ) (place : source.Expr) (ms : List Meant) → silent (build p line i len place ms)
+build_silent p line i None place ms = tt
+build_silent p line i (Some n) place ms = tt
+
+field_silent : (p : Program) (o : Option ℕ) (f : ClassField) (len : Option ℕ) (place : source.Expr) (rest : source.Stmts) → silent_all rest → silent_all (field_built p o f len place [] rest)
+field_silent p None f len place rest h = h
+field_silent p (Some j) f len place rest h = (build_silent p 0 j len place [], h)
+
+left_silent : (p : Program) (o len : Option ℕ) (place : source.Expr) (rest : source.Stmts) → silent_all rest → silent_all (field_left p o len place rest)
+left_silent p None len place rest h = h
+left_silent p (Some j) len place rest h = h
+
+module _ (p : Program) (c : Class) (i : ℕ) where
+  all_built : (fs : List ClassField) (n : ℕ) (rest : source.Stmts) → silent_all rest → silent_all (fields_built p c i [] (nowhere p) fs n rest)
+  all_built [] n rest h = h
+  all_built (f ∷ fs) n rest h =
+      field_silent p (field_class p f) f (length_in_class p c i f) (field_place (class_shape p i) n Own) (fields_built p c i [] (nowhere p) fs (suc n) rest) (all_built fs (suc n) rest h)
+
+  all_left : (fs : List ClassField) (n : ℕ) (rest : source.Stmts) → silent_all rest → silent_all (fields_left p c i fs n rest)
+  all_left [] n rest h = h
+  all_left (f ∷ fs) n rest h =
+      left_silent p (field_class p f) (length_in_class p c i f) (field_place (class_shape p i) n Own) (fields_left p c i fs (suc n) rest) (all_left fs (suc n) rest h)
+
+built_silent : (p : Program) (o : Option Class) (i : ℕ) → silent_all (construction p o i [] (nowhere p) source.Nil)
+built_silent p None i = tt
+built_silent p (Some c) i = all_built p c i (fields_of c.members) (leading_cells c.kind) source.Nil tt
+
+destroyed_silent : (p : Program) (o : Option Class) (i : ℕ) → silent_all (destruction p o i source.Nil)
+destroyed_silent p None i = tt
+destroyed_silent p (Some c) i = all_left p c i (fields_of c.members) (leading_cells c.kind) source.Nil tt
+
+body_silent : (p : Program) (r : Role) (i : ℕ) → silent_all (unwritten_body p r i)
+body_silent p role.Plain i = tt
+body_silent p role.Constructor i = built_silent p (class_at p i) i
+body_silent p role.Destructor i = destroyed_silent p (class_at p i) i
+
+unwritten_silent : (p : Program) (us : List Unwritten) (k : ℕ) (r : source.Routine) → slice_get (all_unwritten p us) k ≡ Some r → silent_all r.body
+unwritten_silent p [] k r e = absurd (cc)
+unwritten_silent p (u ∷ us) zero r e =
+    let is : unwritten_meant p u ≡ r = cc in
+    subst (λ (x : source.Routine). silent_all x.body) is (body_silent p u.role u.class)
+unwritten_silent p (u ∷ us) (suc k) r e = unwritten_silent p us k r e
+
+behind : (xs ys : List source.Routine) (k : ℕ) (r : source.Routine) → length xs ≤ k → slice_get (xs ++ ys) k ≡ Some r → ((j : ℕ) → slice_get ys j ≡ Some r → silent_all r.body) → silent_all r.body
+behind [] ys k r l e f = f k e
+behind (x ∷ xs) ys zero r l e f = absurd (omega arith)
+behind (x ∷ xs) ys (suc k) r l e f = behind xs ys k r (omega arith) e f
+
+-- the last that is written
+
+pub last_few : (ds : List Defined) → last_of ds ≤ length ds
+last_few [] = omega arith
+last_few (d ∷ ds) = omega arith
+
+last_behind : (ds : List Defined) (k : ℕ) → last_of ds < k → length ds ≤ k
+last_behind [] k h = omega arith
+last_behind (d ∷ ds) k h = omega arith
+
+pub last_is : (ds : List Defined) (n : ℕ) → n ≡ length ds → n - 1 ≡ last_of ds
+last_is [] n e = omega (arith, e)
+last_is (d ∷ ds) n e = omega (arith, e)
+
+pub silent_behind : (p : Program) (k : ℕ) (r : source.Routine) → slice_get (source_of p).routines k ≡ Some r → last_of (routines_of p) < k → silent_all r.body
+silent_behind p k r e l =
+    behind (routines_meant p (routines_of p) 0 0 0) (all_unwritten p (unwritten_of p)) k r
+    (let n = meant_long p (routines_of p) 0 0 0 in let m = last_behind (routines_of p) k l in omega (arith, n, m)) e (λ j q. unwritten_silent p (unwritten_of p) j r q)

@@ -1,0 +1,65 @@
+use Rattle.std.proofs.Common.{◌≡◌, ℕ, ◌+◌, length, sym, subst, ap, ◌∙◌}
+use Rattle.std.proofs.lemmas.List.{length-map}
+use Rattle.uc_tree.specs.Numbering.{routines_of}
+use Rattle.uc_tree.specs.Objects.{unwritten_of}
+use Rattle.uc_tree.specs.Programs.{Program}
+use Rattle.uc_built.specs.BuiltForms.{IsBuilt}
+use Rattle.uc_meaning.specs.Breaks.{breaks_of}
+use Rattle.uc_unwritten.specs.Unwritten.{unwritten_as}
+use Rattle.uc_tree.specs.Resolve.{source_of}
+use Rattle.uc_code.proofs.Paces.{lowered_paced}
+use Rattle.uc_lower.specs.Laying.{LaysAll}
+use Rattle.uc_lower.specs.Refusing.{Fits}
+use Rattle.uc_lower.proofs.Ending.{as_many, whole, whole_few}
+use Rattle.uc_lower.proofs.Ruled.{fit_classes}
+use Rattle.uc_lower.proofs.lower.lower_named.Goals as goal
+
+pub lower_routines-requires-clause-built : goal.lower_routines-requires-clause-built
+lower_routines-requires-clause-built c = subst IsBuilt (sym c.requires.names) c.requires.built
+
+pub lower_routines-requires-clause-unbroken : goal.lower_routines-requires-clause-unbroken
+lower_routines-requires-clause-unbroken c = ap breaks_of c.requires.names ∙ c.requires.unbroken
+
+pub lower_routines-requires-clause-fits : goal.lower_routines-requires-clause-fits
+lower_routines-requires-clause-fits c = subst Fits (sym c.requires.names) c.requires.fits
+
+pub lower_routines-requires-clause-defined : goal.lower_routines-requires-clause-defined
+lower_routines-requires-clause-defined c = c.requires.defined ∙ ap routines_of (sym c.requires.names)
+
+pub returns-clause-lowered : goal.returns-clause-lowered
+returns-clause-lowered c =
+    let p = c.args.program.now in
+    let e : c.args.names.now ≡ c.args.program.now = c.requires.names in
+    let out = c.lower_all_unwritten.new.out in
+    let more : ℕ = length c.args.unwritten.now in
+    let lays : LaysAll p (routines_of p) (unwritten_of p) (c.args.count + more) more out = subst (λ (q : Program). LaysAll q (routines_of q) (unwritten_of q) (c.args.count + more) more out) e c.in_ok-lower_all_unwritten.ensures in
+    let us : more ≡ length (unwritten_of p) = sym (length-map c.args.unwritten.now unwritten_as) ∙ ap length c.requires.unwritten in
+    let count : c.args.count ≡ length (routines_of p) = c.requires.count ∙ sym (as_many c.args.defined.now (routines_of p) c.requires.defined) in
+    whole p (c.args.count + more) more out _ _ _ c.tabulate.new.self us (ap (λ (k : ℕ). k + more) count) lays c.in_ok-sites.ensures c.in_ok-texts.ensures c.in_ok-classes.ensures (c.tabulate.ensures ∙ c.finish-code.ensures)
+
+pub returns-clause-paced : goal.returns-clause-paced
+returns-clause-paced c =
+    let p = c.args.program.now in
+    let e : c.args.names.now ≡ c.args.program.now = c.requires.names in
+    let out = c.lower_all_unwritten.new.out in
+    let more : ℕ = length c.args.unwritten.now in
+    let lays : LaysAll p (routines_of p) (unwritten_of p) (c.args.count + more) more out = subst (λ (q : Program). LaysAll q (routines_of q) (unwritten_of q) (c.args.count + more) more out) e c.in_ok-lower_all_unwritten.ensures in
+    let us : more ≡ length (unwritten_of p) = sym (length-map c.args.unwritten.now unwritten_as) ∙ ap length c.requires.unwritten in
+    let count : c.args.count ≡ length (routines_of p) = c.requires.count ∙ sym (as_many c.args.defined.now (routines_of p) c.requires.defined) in
+    lowered_paced (source_of p) c.tabulate.new.self (whole p (c.args.count + more) more out _ _ _ c.tabulate.new.self us (ap (λ (k : ℕ). k + more) count) lays c.in_ok-sites.ensures c.in_ok-texts.ensures c.in_ok-classes.ensures (c.tabulate.ensures ∙ c.finish-code.ensures))
+
+pub returns-clause-few : goal.returns-clause-few
+returns-clause-few c =
+    let p = c.args.program.now in
+    let e : c.args.names.now ≡ c.args.program.now = c.requires.names in
+    let out = c.lower_all_unwritten.new.out in
+    let more : ℕ = length c.args.unwritten.now in
+    let lays : LaysAll p (routines_of p) (unwritten_of p) (c.args.count + more) more out = subst (λ (q : Program). LaysAll q (routines_of q) (unwritten_of q) (c.args.count + more) more out) e c.in_ok-lower_all_unwritten.ensures in
+    let us : more ≡ length (unwritten_of p) = sym (length-map c.args.unwritten.now unwritten_as) ∙ ap length c.requires.unwritten in
+    whole_few p (c.args.count + more) more out _ _ _ c.tabulate.new.self c.requires.unbroken us lays (c.tabulate.ensures ∙ c.finish-code.ensures)
+
+pub cells_of_classes-requires-clause-sizes : goal.cells_of_classes-requires-clause-sizes
+cells_of_classes-requires-clause-sizes c = c.sizes.ensures ∙ c.requires.names
+
+pub cells_of_classes-requires-clause-fit : goal.cells_of_classes-requires-clause-fit
+cells_of_classes-requires-clause-fit c = fit_classes c.args.program.now c.requires.unbroken

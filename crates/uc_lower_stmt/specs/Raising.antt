@@ -1,0 +1,25 @@
+-- What statements that raise events do to a draft.
+use Rattle.std.specs.Prelude.{ℕ, ◌+◌, ◌*◌, Option}
+use Rattle.uc_tree.specs.declared.limits.TheConstants.{OPS_FOR_SIZE}
+use Rattle.uc_tree.specs.Hidden.{raised_cells}
+use Rattle.uc_tree.specs.Programs.{Program}
+use Rattle.uc_tree.specs.Resolve.{Scope, raised_meant}
+use Rattle.uc_tree.specs.Source.{EventStmt}
+use Rattle.uc_tree.specs.Statements.{Raised}
+use Rattle.uc_tree.specs.StatementSizes.{maybe_raised_size}
+use Rattle.uc_code.specs.Drafts.{Draft}
+use Rattle.uc_code.specs.Lowered.{EventAt, RaisedAt}
+use Rattle.uc_lower_stmt.specs.Scoped.{Lowers, scope_of}
+
+-- behind so many hidden cells more
+abbrev pub hidden_past : Scope → ℕ → Scope
+hidden_past s n = record s { hidden = s.hidden + n }
+
+-- the event that a statement raises, as the newest operands
+abbrev pub LowersRaised : Program → ℕ → Option Raised → Draft → Draft → Type 0
+LowersRaised p line r old new =
+    Lowers (3 + OPS_FOR_SIZE * maybe_raised_size r) 0 0 0 (λ code. RaisedAt code line old.marks (raised_meant p (scope_of old) r)) (hidden_past (scope_of old) (raised_cells r)) old new
+
+-- a statement that raises one
+abbrev pub LowersRaise : Program → EventStmt → Option Raised → Draft → Draft → Type 0
+LowersRaise p s r old new = Lowers (OPS_FOR_SIZE * (1 + maybe_raised_size r)) 0 0 0 (λ code. EventAt code old.marks s) (hidden_past (scope_of old) (raised_cells r)) old new

@@ -1,0 +1,255 @@
+-- What an event leads to is what the source does.
+use Rattle.std.proofs.Common.{◌≡◌, ℕ, ℤ, List, [], ◌∷◌, inl, inr, Option, Some, None, Bool, true, false, refl, sym, ap, subst, ◌∙◌}
+use Rattle.std.specs.Prelude.{slice_get}
+use Rattle.uc_tree.specs.Source.{Source}
+use Rattle.uc_meaning.specs.declared.exec.Reason.{Reason}
+use Rattle.uc_meaning.specs.declared.exec.Reason.TheVariants as reason
+use Rattle.uc_meaning.specs.declared.exec.Visited.{Visited}
+use Rattle.uc_meaning.specs.declared.fault.RunFault.TheVariants.{Unhandled, EscapeInUnwind}
+use Rattle.uc_meaning.specs.declared.request.Asked.{Asked}
+use Rattle.uc_meaning.specs.declared.request.Request.{Request}
+use Rattle.uc_meaning.specs.declared.request.Request.TheVariants as ask
+use Rattle.uc_meaning.specs.Faults.{fault_number}
+use Rattle.uc_meaning.specs.Quiet.{Value, State, Quietly, stay, more, own_line, line_from, line_of}
+use Rattle.uc_meaning.specs.Raising as raising
+use Rattle.uc_meaning.specs.Raising.{event_in}
+use Rattle.uc_code.specs.declared.op.Op.{Op}
+use Rattle.uc_code.specs.declared.op.Op.TheVariants as op
+use Rattle.uc_code.specs.declared.rows.Instruction.{Instruction}
+use Rattle.uc_code.specs.Codes.{Code}
+use Rattle.uc_code.specs.Laid.{Laid, laid_of}
+use Rattle.uc_code.specs.Lowered.{Lowered}
+use Rattle.uc_frames.specs.declared.event.Event.{Event}
+use Rattle.uc_frames.specs.declared.cell.Cell.{Cell}
+use Rattle.uc_frames.specs.Machine.{Active, Machine, cell_of, line_at}
+use Rattle.uc_frames.specs.Unwound.{raised_as, Unwinds, TestsBlock, EndsMain, LeavesNow, Raises, Throws, Returns}
+use Rattle.uc_frames.proofs.Finishes.{main_line}
+use Rattle.uc_coroutine.specs.declared.leaving.Left.{Left}
+use Rattle.uc_coroutine.specs.declared.leaving.Left.TheVariants as left
+use Rattle.uc_coroutine.specs.declared.testing.MainEnd.{MainEnd}
+use Rattle.uc_coroutine.specs.declared.testing.MainEnd.TheVariants as end
+use Rattle.uc_coroutine.specs.Ends.{BlockLeft, MainLeft}
+use Rattle.uc_coroutine.specs.Outcomes.{ReturnsPast, Begins, LeftAs}
+use Rattle.uc_coroutine.specs.Unwinding.{Made, past_of}
+use Rattle.uc_except.specs.Handling.{GoesOn, UnwindsNow}
+use Rattle.uc_step.specs.declared.stepped.Stepped.{Stepped}
+use Rattle.uc_step.specs.declared.stepped.Stepped.TheVariants.{Quiet, Tick, Ask, Throw, Raise, Unwind, Past, Astray}
+use Rattle.uc_step.specs.Follow.{Follow}
+use Rattle.uc_step.proofs.Apart.{no_test, no_end}
+use Rattle.uc_step.proofs.Simulates.{lines}
+use Rattle.uc_ride.specs.declared.events.Test.TheVariants.{Block, Main, Nothing}
+use Rattle.uc_ride.specs.Led.{test_by}
+
+true_false : true ≡ false → ⊥
+true_false e = absurd (cc)
+
+then_quietly : {source : Source} {s t u : State} → Quietly source s t → Quietly source t u → Quietly source s u
+then_quietly stay q = q
+then_quietly (more e p) q = more e (then_quietly p q)
+
+module _ (source : Source) (code : Laid) where
+  -- what follows from a state to which quiet steps lead
+  pub follow_before : (how : Stepped) (m : Machine) (s t : State) → Quietly source s t → Follow code source how m t → Follow code source how m s
+  follow_before Quiet m s t q (u, p, h) = (u, then_quietly q p, h)
+  follow_before Tick m s t q (u, v, p, e, l, h) = (u, v, then_quietly q p, e, l, h)
+  follow_before (Ask a) m s t q (u, v, r, p, e, f, h) = (u, v, r, then_quietly q p, e, f, h)
+  follow_before (Throw x) m s t q (u, p, e, h) = (u, then_quietly q p, e, h)
+  follow_before (Raise x) m s t q (u, p, e, h) = (u, then_quietly q p, e, h)
+  follow_before Unwind m s t q (u, p, h) = (u, then_quietly q p, h)
+  follow_before (Past g) m s t q (u, v, w, p, a, b, c, h) = (u, v, w, then_quietly q p, a, b, c, h)
+  follow_before Astray m s t q f = f
+
+  -- the same fields
+
+  pub fields_as : (e : Event) (v : raising.Event) (x y : ℤ) → x ≡ e.x → y ≡ e.y → v ≡ raised_as e → v ≡ record { number = e.number; x = x; y = y }
+  fields_as e v x y i j q =
+      q ∙ sym (ap (λ k. let u : raising.Event = record { number = e.number; x = k; y = y } in u) i ∙ ap (λ k. let u : raising.Event = record { number = e.number; x = e.x; y = k } in u) j)
+
+  pub reason_as : (r : Option Reason) (n : ℕ) (x y u v : ℤ) → r ≡ Some (reason.Event n x y) → u ≡ x → v ≡ y → r ≡ Some (reason.Event n u v)
+  reason_as r n x y u v q i j = q ∙ sym (ap (λ k. Some (reason.Event n k v)) i ∙ ap (λ k. Some (reason.Event n x k)) j)
+
+  -- an event is thrown, or no handler is found for it
+  pub throw_leads : (m n : Machine) (e : Event) (s : State) → ((t : State) → Throws code m t → event_in t.run.operands ≡ raised_as e → UnwindsNow source code n t) → Follow code source (Throw e) m s → Follow code source Unwind n s
+  throw_leads m n e s f (t, p, q, h) = let u = f t h q in (u.after, then_quietly p (more u.by stay), u.stands)
+
+  pub raise_leads : (m n : Machine) (e : Event) (s : State) → ((t : State) → Raises code m t → event_in t.run.operands ≡ raised_as e → UnwindsNow source code n t) → Follow code source (Raise e) m s → Follow code source Unwind n s
+  raise_leads m n e s f (t, p, q, h) = let u = f t h q in (u.after, then_quietly p (more u.by stay), u.stands)
+
+  -- its handler begins
+  pub handle_leads : (m n : Machine) (e : Event) (s : State) → ((t : State) → Raises code m t → event_in t.run.operands ≡ raised_as e → GoesOn source code n t) → Follow code source (Raise e) m s → Follow code source Quiet n s
+  handle_leads m n e s f (t, p, q, h) = let u = f t h q in (u.after, then_quietly p u.by, u.stands)
+
+  -- a return leaves a handler, for the one that waits
+
+  kept_past : (o : Option Visited) (given : Cell) (m n : Machine) (us : List Active) (v : Visited) → o ≡ Some v → (us ≡ [] → ⊥) → Made (past_of o given us m) m false n → ⊥
+  kept_past None given m n us v e f g = absurd (cc)
+  kept_past (Some x) given m n [] v e f g = f refl
+  kept_past (Some x) given m n (c ∷ us) v e f (i, b) = absurd (cc)
+
+  pub past_made : (m n : Machine) (given : Cell) (s : State) (made : Bool) → made ≡ false → Made (past_of m.run.handles given m.callers m) m made n → (m.callers ≡ [] → ⊥) → Follow code source (Past given) m s → ⊥
+  past_made m n given s made e g f (t, value, v, p, i, a, c, h) =
+      kept_past m.run.handles given m n m.callers v (h.handles ∙ a) f (subst (λ b. Made (past_of m.run.handles given m.callers m) m b n) e g)
+
+  pub past_leads : (m n : Machine) (given : Cell) (s : State) → ((t : State) (value : Value) → given ≡ cell_of value → Returns code m t → ReturnsPast code value n t) → Follow code source (Past given) m s → Follow code source Unwind n s
+  past_leads m n given s f (t, value, v, p, g, a, c, h) = let u = f t value g h in (u.after, then_quietly p (more (c ∙ u.by) stay), u.stands)
+
+-- where no step is made, all stays as it is
+
+pub stays : (o : Option Machine) (m n : Machine) (made : Bool) → made ≡ false → Made o m made n → n ≡ m
+stays None m n made e g = g.1
+stays (Some x) m n made e (i, b) = absurd (true_false (sym i ∙ e))
+
+-- unwinding, step after step
+
+module _ (code : Code) where
+  abbrev pub Unwinding : Machine → Stepped → Machine → Type 0
+  Unwinding m how n = (source : Source) (s : State) → Lowered source code → Unwinds (laid_of code) m s → Follow (laid_of code) source how n s
+
+  pub unwinding_first : (m : Machine) → Unwinding m Unwind m
+  unwinding_first m source s low h = (s, stay, h)
+
+  -- from where an op leads to it
+  pub leads_on : (m n : Machine) (how : Stepped) → Unwinding m how n → (source : Source) (s : State) → Lowered source code → Follow (laid_of code) source Unwind m s → Follow (laid_of code) source how n s
+  leads_on m n how g source s low f = follow_before source (laid_of code) how n s f.0 f.1 (g source f.0 low f.2)
+
+  pub unwinding_on : (m n o : Machine) (how : Stepped) → Unwinding m Unwind n → Unwinding n how o → Unwinding m how o
+  unwinding_on m n o how f g source s low h = leads_on n o how g source s low (f source s low h)
+
+-- what begins
+
+other_op : (a b : Op) (x y : ℕ) (o : Option Instruction) → o ≡ Some (record { op = a; line = x }) → o ≡ Some (record { op = b; line = y }) → a ≡ b
+other_op a b x y o e f =
+    let g : Some (record { op = a; line = x }) ≡ Some (record { op = b; line = y }) = sym e ∙ f in
+    let i : Instruction = record { op = a; line = x } in
+    let j : Instruction = record { op = b; line = y } in
+    let h : i ≡ j = cc in
+    ap (λ (k : Instruction). k.op) h
+
+test_or_end : op.Handled ≡ op.Unhandled → ⊥
+test_or_end e = absurd (cc)
+
+-- the op is one that makes this test
+
+block_op : (o : Op) → test_by o ≡ Block → o ≡ op.Handled
+block_op op.Handled e = refl
+block_op _ e = absurd (cc e)
+
+main_op : (o : Op) → test_by o ≡ Main → o ≡ op.Unhandled
+main_op op.Unhandled e = refl
+main_op _ e = absurd (cc e)
+
+no_block : Nothing ≡ Block → ⊥
+no_block e = absurd (cc)
+
+no_main : Nothing ≡ Main → ⊥
+no_main e = absurd (cc)
+
+same_op : (p : Op) (i : Instruction) (o : Option Instruction) → o ≡ Some i → i.op ≡ p → o ≡ Some (record { op = p; line = i.line })
+same_op p i o e f = e ∙ ap (λ (k : Op). let j : Instruction = record { op = k; line = i.line } in Some j) f
+
+pub at_block : (i : Instruction) (o : Option Instruction) → o ≡ Some i → test_by i.op ≡ Block → o ≡ Some (record { op = op.Handled; line = i.line })
+at_block i o e t = same_op op.Handled i o e (block_op i.op t)
+
+pub at_main : (i : Instruction) (o : Option Instruction) → o ≡ Some i → test_by i.op ≡ Main → o ≡ Some (record { op = op.Unhandled; line = i.line })
+at_main i o e t = same_op op.Unhandled i o e (main_op i.op t)
+
+no_op : (p : Op) (line : ℕ) (o : Option Instruction) → o ≡ None → o ≡ Some (record { op = p; line = line }) → ⊥
+no_op p line o e f =
+    let i : Instruction = record { op = p; line = line } in
+    let g : None ≡ Some i = sym e ∙ f in
+    absurd (cc)
+
+-- as it is asked by an op of this line
+pub asked_now : (code : Code) (r : Request) (line : ℕ) (m n : Machine) (a : Asked) → n ≡ m → a ≡ record { request = r; line = line_at code.ops line n.callers } → record { request = r; line = line_at code.ops line m.callers } ≡ a
+asked_now code r line m n a e f = sym (f ∙ ap (λ (x : Machine). let b : Asked = record { request = r; line = line_at code.ops line x.callers } in b) e)
+
+module _ (source : Source) (code : Code) (low : Lowered source code) (m n : Machine) (s : State) where
+  -- a clean-up, where the op is no test
+  pub cleans : ((line : ℕ) → slice_get code.ops m.run.control ≡ Some (record { op = op.Handled; line = line }) → ⊥) → ((line : ℕ) → slice_get code.ops m.run.control ≡ Some (record { op = op.Unhandled; line = line }) → ⊥) → Begins source (laid_of code) m s → Follow (laid_of code) source Quiet m s
+  cleans f g (inl l) = (l.after, l.by, l.stands)
+  cleans f g (inr (inl l)) = absurd (f (own_line l.stands.run.rest) l.stands.run.tests.here.here)
+  cleans f g (inr (inr l)) = absurd (g (own_line l.stands.run.rest) l.stands.run.ends.here)
+
+  pub cleans_by : (i : Instruction) → slice_get code.ops m.run.control ≡ Some i → test_by i.op ≡ Nothing → Begins source (laid_of code) m s → Follow (laid_of code) source Quiet m s
+  cleans_by i is t =
+      cleans (λ line e. no_block (sym t ∙ ap test_by (other_op i.op op.Handled i.line line (slice_get code.ops m.run.control) is e))) (λ line e. no_main (sym t ∙ ap test_by (other_op i.op op.Unhandled i.line line (slice_get code.ops m.run.control) is e)))
+
+  pub cleans_no : slice_get code.ops m.run.control ≡ None → Begins source (laid_of code) m s → Follow (laid_of code) source Quiet m s
+  cleans_no q = cleans (λ line e. no_op op.Handled line (slice_get code.ops m.run.control) q e) (λ line e. no_op op.Unhandled line (slice_get code.ops m.run.control) q e)
+
+  -- the test at the end of a block
+  module _ (line : ℕ) (is : slice_get code.ops m.run.control ≡ Some (record { op = op.Handled; line = line })) where
+    abbrev tested : Bool → Stepped
+    tested true = Quiet
+    tested false = Unwind
+
+    tested_by : (over : Bool) (t : State) → Quietly source s t → BlockLeft source (laid_of code) over n t → Follow (laid_of code) source (tested over) n s
+    tested_by true t q l = (l.after, then_quietly q (more l.by stay), l.stands)
+    tested_by false t q l = (l.after, then_quietly q (more l.by stay), l.stands)
+
+    pub tests : (over : Bool) → ((t : State) → TestsBlock (laid_of code) m t → BlockLeft source (laid_of code) over n t) → Begins source (laid_of code) m s → Follow (laid_of code) source (tested over) n s
+    tests over f (inl l) = absurd (no_test source code low m l.after l.stands line is)
+    tests over f (inr (inl l)) = tested_by over l.after l.by (f l.after l.stands)
+    tests over f (inr (inr l)) = absurd (test_or_end (other_op op.Handled op.Unhandled line (own_line l.stands.run.rest) (slice_get code.ops m.run.control) is l.stands.run.ends.here))
+
+  -- the end of a main
+  module _ (line : ℕ) (is : slice_get code.ops m.run.control ≡ Some (record { op = op.Unhandled; line = line })) where
+    abbrev asks_by : Request → Asked
+    asks_by r = record { request = r; line = line_at code.ops line m.callers }
+
+    abbrev ended : MainEnd → Stepped
+    ended end.Ended = Ask (asks_by ask.End)
+    ended end.Returned = Quiet
+    ended end.Unhandled = Ask (asks_by (ask.Fault (fault_number Unhandled)))
+
+    line_is : (x y : ℕ) (o : Option Instruction) → o ≡ Some (record { op = op.Unhandled; line = x }) → o ≡ Some (record { op = op.Unhandled; line = y }) → x ≡ y
+    line_is x y o e f =
+        let i : Instruction = record { op = op.Unhandled; line = x } in
+        let j : Instruction = record { op = op.Unhandled; line = y } in
+        let g : Some i ≡ Some j = sym e ∙ f in
+        let h : i ≡ j = cc in
+        ap (λ (k : Instruction). k.line) h
+
+    -- the line is that of the source
+    same_line : (t : State) → EndsMain (laid_of code) m t → line_at code.ops line m.callers ≡ line_of t
+    same_line t h =
+        let l : line ≡ own_line h.run.rest = line_is line (own_line h.run.rest) (slice_get code.ops m.run.control) is h.run.ends.here in
+        ap (λ k. line_at code.ops k m.callers) l ∙ (lines code (own_line h.run.rest) m.callers t.callers h.callers ∙ sym (main_line (laid_of code) m t h))
+
+    asked_as : (r : Request) (k : ℕ) → line_at code.ops line m.callers ≡ k → asks_by r ≡ record { request = r; line = k }
+    asked_as r k e = ap (λ (x : ℕ). let a : Asked = record { request = r; line = x } in a) e
+
+    ended_by : (e : MainEnd) (t : State) → Quietly source s t → line_at code.ops line m.callers ≡ line_of t → MainLeft source (laid_of code) e n t → Follow (laid_of code) source (ended e) n s
+    ended_by end.Ended t q l x = (x.before, x.after, ask.End, then_quietly q x.by, x.asks, asked_as ask.End (line_of x.before) (l ∙ sym x.line), tt)
+    ended_by end.Returned t q l x = (x.after, then_quietly q x.by, x.stands)
+    ended_by end.Unhandled t q l x = (t, x.after, ask.Fault (fault_number Unhandled), q, x.asks, asked_as (ask.Fault (fault_number Unhandled)) (line_of t) l, tt)
+
+    pub ends : (e : MainEnd) → ((t : State) → EndsMain (laid_of code) m t → MainLeft source (laid_of code) e n t) → Begins source (laid_of code) m s → Follow (laid_of code) source (ended e) n s
+    ends e f (inl l) = absurd (no_end source code low m l.after l.stands line is)
+    ends e f (inr (inl l)) = absurd (test_or_end (sym (other_op op.Unhandled op.Handled line (own_line l.stands.run.rest) (slice_get code.ops m.run.control) is l.stands.run.tests.here.here)))
+    ends e f (inr (inr l)) = ended_by e l.after l.by (same_line l.after l.stands) (f l.after l.stands)
+
+-- an activation is left
+
+module _ (source : Source) (code : Code) (m n : Machine) (s : State) where
+  abbrev asks_now : Request → Asked
+  asks_now r = record { request = r; line = line_at code.ops 0 m.callers }
+
+  abbrev left_how : Left → Stepped
+  left_how left.Ended = Ask (asks_now ask.End)
+  left_how left.Returned = Quiet
+  left_how left.Escaped = Ask (asks_now (ask.Fault (fault_number EscapeInUnwind)))
+  left_how left.PassedOn = Unwind
+
+  -- of nothing there is no line
+  no_line : (h : LeavesNow (laid_of code) m s) → line_at code.ops 0 m.callers ≡ line_of s
+  no_line h = lines code 0 m.callers s.callers h.callers ∙ sym (ap (λ todo. line_from (own_line todo) s.callers) h.run.todo)
+
+  as_asked : (r : Request) → line_at code.ops 0 m.callers ≡ line_of s → asks_now r ≡ record { request = r; line = line_of s }
+  as_asked r e = ap (λ (x : ℕ). let a : Asked = record { request = r; line = x } in a) e
+
+  pub leaves : (l : Left) → LeavesNow (laid_of code) m s → LeftAs source (laid_of code) l n s → Follow (laid_of code) source (left_how l) n s
+  leaves left.Ended h x = (s, s, ask.End, stay, x, as_asked ask.End (no_line h), tt)
+  leaves left.Returned h x = (x.after, more x.by stay, x.stands)
+  leaves left.Escaped h x = (s, s, ask.Fault (fault_number EscapeInUnwind), stay, x, as_asked (ask.Fault (fault_number EscapeInUnwind)) (no_line h), tt)
+  leaves left.PassedOn h x = (x.after, more x.by stay, x.stands)

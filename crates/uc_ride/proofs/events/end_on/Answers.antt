@@ -1,0 +1,47 @@
+use Rattle.std.proofs.Common.{◌≡◌, sym, subst, ap, ◌∙◌}
+use Rattle.uc_code.specs.Laid.{laid_of}
+use Rattle.uc_meaning.specs.declared.fault.RunFault.TheVariants.{Unhandled}
+use Rattle.uc_meaning.specs.declared.request.Request.TheVariants as ask
+use Rattle.uc_meaning.specs.Faults.{fault_number}
+use Rattle.uc_coroutine.specs.declared.testing.MainEnd.TheVariants as end
+use Rattle.uc_coroutine.specs.Ends.{MainLeft, main_over}
+use Rattle.uc_step.specs.declared.stepped.Stepped.TheVariants.{Ask}
+use Rattle.uc_step.specs.Follow.{Follow}
+use Rattle.uc_ride.proofs.Leading.{asked_now, ends}
+use Rattle.uc_ride.proofs.Falling.{main_goes}
+use Rattle.uc_ride.proofs.events.end_on.Goals as goal
+
+pub returns-in-Ended-clause-source : goal.returns-in-Ended-clause-source
+returns-in-Ended-clause-source c =
+    let code = c.args.code.now in
+    let m = c.args.work.now in
+    let n = c.end_main.new.work in
+    let same : n ≡ m = c.in_ok-end.ensures.now ∙ ap (λ e. main_over e m) c.in-Ended.is in
+    λ source s low b.
+    let f = ends source code low m n s c.args.line c.requires end.Ended (λ t h. subst (λ e. MainLeft source (laid_of code) e n t) c.in-Ended.is (c.in_ok-end.ensures.source source (laid_of code) t h)) b in
+    subst (λ a. Follow (laid_of code) source (Ask a) n s) (asked_now code ask.End c.args.line m n c.asks.result same c.asks.ensures) f
+
+pub returns-in-Returned-clause-source : goal.returns-in-Returned-clause-source
+returns-in-Returned-clause-source c =
+    let code = c.args.code.now in
+    let m = c.args.work.now in
+    let n = c.end_main.new.work in
+    λ source s low b.
+    ends source code low m n s c.args.line c.requires end.Returned (λ t h. subst (λ e. MainLeft source (laid_of code) e n t) c.in-Returned.is (c.in_ok-end.ensures.source source (laid_of code) t h)) b
+
+pub returns-in-Returned-clause-falls : goal.returns-in-Returned-clause-falls
+returns-in-Returned-clause-falls c =
+    let code = c.args.code.now in
+    let m = c.args.work.now in
+    let n = c.end_main.new.work in
+    λ w left g. main_goes code w left m n (sym c.in-Returned.is ∙ c.in_ok-end.ensures.how) (c.in_ok-end.ensures.now ∙ ap (λ e. main_over e m) c.in-Returned.is) g
+
+pub returns-in-Unhandled-clause-source : goal.returns-in-Unhandled-clause-source
+returns-in-Unhandled-clause-source c =
+    let code = c.args.code.now in
+    let m = c.args.work.now in
+    let n = c.end_main.new.work in
+    let same : n ≡ m = c.in_ok-end.ensures.now ∙ ap (λ e. main_over e m) c.in-Unhandled.is in
+    λ source s low b.
+    let f = ends source code low m n s c.args.line c.requires end.Unhandled (λ t h. subst (λ e. MainLeft source (laid_of code) e n t) c.in-Unhandled.is (c.in_ok-end.ensures.source source (laid_of code) t h)) b in
+    subst (λ a. Follow (laid_of code) source (Ask a) n s) (asked_now code (ask.Fault (fault_number Unhandled)) c.args.line m n c.faults-unhandled.result same c.faults-unhandled.ensures) f

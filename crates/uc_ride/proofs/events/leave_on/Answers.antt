@@ -1,0 +1,61 @@
+use Rattle.std.proofs.Common.{◌≡◌, sym, subst, ap, ◌∙◌}
+use Rattle.uc_code.specs.Laid.{laid_of}
+use Rattle.uc_meaning.specs.declared.fault.RunFault.TheVariants.{EscapeInUnwind}
+use Rattle.uc_meaning.specs.declared.request.Request.TheVariants as ask
+use Rattle.uc_meaning.specs.Faults.{fault_number}
+use Rattle.uc_coroutine.specs.declared.leaving.Left.TheVariants as left
+use Rattle.uc_coroutine.specs.Outcomes.{LeftAs}
+use Rattle.uc_coroutine.specs.Unwinding.{left_as}
+use Rattle.uc_step.specs.declared.stepped.Stepped.TheVariants.{Ask}
+use Rattle.uc_step.specs.Follow.{Follow}
+use Rattle.uc_ride.proofs.Leading.{asked_now, leaves}
+use Rattle.uc_ride.proofs.Falling.{leave_returns, leave_passes}
+use Rattle.uc_ride.proofs.events.leave_on.Goals as goal
+
+pub returns-in-Ended-clause-source : goal.returns-in-Ended-clause-source
+returns-in-Ended-clause-source c =
+    let code = c.args.code.now in
+    let m = c.args.work.now in
+    let n = c.leave.new.work in
+    let same : n ≡ m = c.in_ok-left.ensures.ok ∙ ap (λ x. left_as x m) c.in-Ended.is in
+    λ source s h.
+    let f = leaves source code m n s left.Ended h (subst (λ x. LeftAs source (laid_of code) x n s) c.in-Ended.is (c.in_ok-left.ensures.source source (laid_of code) s h)) in
+    subst (λ a. Follow (laid_of code) source (Ask a) n s) (asked_now code ask.End 0 m n c.asks.result same c.asks.ensures) f
+
+pub returns-in-Returned-clause-source : goal.returns-in-Returned-clause-source
+returns-in-Returned-clause-source c =
+    let code = c.args.code.now in
+    let m = c.args.work.now in
+    let n = c.leave.new.work in
+    λ source s h. leaves source code m n s left.Returned h (subst (λ x. LeftAs source (laid_of code) x n s) c.in-Returned.is (c.in_ok-left.ensures.source source (laid_of code) s h))
+
+pub returns-in-Returned-clause-falls : goal.returns-in-Returned-clause-falls
+returns-in-Returned-clause-falls c =
+    let code = c.args.code.now in
+    let m = c.args.work.now in
+    let n = c.leave.new.work in
+    λ w u. leave_returns code w m n (sym c.in-Returned.is ∙ c.in_ok-left.ensures.how) (c.in_ok-left.ensures.ok ∙ ap (λ x. left_as x m) c.in-Returned.is) u
+
+pub returns-in-Escaped-clause-source : goal.returns-in-Escaped-clause-source
+returns-in-Escaped-clause-source c =
+    let code = c.args.code.now in
+    let m = c.args.work.now in
+    let n = c.leave.new.work in
+    let same : n ≡ m = c.in_ok-left.ensures.ok ∙ ap (λ x. left_as x m) c.in-Escaped.is in
+    λ source s h.
+    let f = leaves source code m n s left.Escaped h (subst (λ x. LeftAs source (laid_of code) x n s) c.in-Escaped.is (c.in_ok-left.ensures.source source (laid_of code) s h)) in
+    subst (λ a. Follow (laid_of code) source (Ask a) n s) (asked_now code (ask.Fault (fault_number EscapeInUnwind)) 0 m n c.faults-escape.result same c.faults-escape.ensures) f
+
+pub returns-in-PassedOn-clause-source : goal.returns-in-PassedOn-clause-source
+returns-in-PassedOn-clause-source c =
+    let code = c.args.code.now in
+    let m = c.args.work.now in
+    let n = c.leave.new.work in
+    λ source s h. leaves source code m n s left.PassedOn h (subst (λ x. LeftAs source (laid_of code) x n s) c.in-PassedOn.is (c.in_ok-left.ensures.source source (laid_of code) s h))
+
+pub returns-in-PassedOn-clause-falls : goal.returns-in-PassedOn-clause-falls
+returns-in-PassedOn-clause-falls c =
+    let code = c.args.code.now in
+    let m = c.args.work.now in
+    let n = c.leave.new.work in
+    λ w u. leave_passes code w m n (sym c.in-PassedOn.is ∙ c.in_ok-left.ensures.how) (c.in_ok-left.ensures.ok ∙ ap (λ x. left_as x m) c.in-PassedOn.is) u

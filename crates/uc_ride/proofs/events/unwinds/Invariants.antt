@@ -1,0 +1,17 @@
+use Rattle.std.proofs.Common.{ℕ}
+use Rattle.uc_code.specs.Laid.{laid_of}
+use Rattle.uc_frames.specs.Keeping.{UnwoundBelow}
+use Rattle.uc_step.specs.declared.stepped.Stepped.TheVariants.{Unwind}
+use Rattle.uc_ride.specs.Led.{left_in}
+use Rattle.uc_ride.proofs.Leading.{Unwinding}
+use Rattle.uc_ride.proofs.events.unwinds.Given as goal
+
+-- it still unwinds, and what bounds all that was left at first bounds what is left
+abbrev pub invariant-steps : goal.invariant-steps
+invariant-steps l = record {
+  source : Unwinding l.code l.fn.work Unwind l.work;
+  below : (w : ℕ) → UnwoundBelow (laid_of l.code) l.code.routines w l.fn.work → UnwoundBelow (laid_of l.code) l.code.routines w l.work;
+}
+
+abbrev pub decreases-steps : goal.decreases-steps
+decreases-steps l = left_in l.code l.work

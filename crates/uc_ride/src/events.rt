@@ -1,0 +1,315 @@
+// What an event leads to: the handler that a resumption finds begins, or activations are unwound, up to a clean-up, a handler, or the end.
+
+ghost use Rattle.std.specs.Prelude.{◌≡◌, ◌<◌, ℕ, IfOk, IfSome, Some, slice_get};
+ghost use Rattle.uc_tree.specs.declared.limits.TheConstants.{PROGRAM_OPS};
+ghost use Rattle.uc_tree.specs.Source.{Source};
+ghost use Rattle.uc_meaning.specs.declared.request.Request.TheVariants as ask;
+ghost use Rattle.uc_meaning.specs.Faults.{fault_number};
+ghost use Rattle.uc_meaning.specs.Quiet.{State};
+ghost use Rattle.uc_code.specs.Laid.{chain, laid_of};
+ghost use Rattle.uc_code.specs.Lowered.{Lowered};
+ghost use Rattle.uc_code.specs.Pace.{IsPaced};
+ghost use Rattle.uc_frames.specs.Comes.{event_by};
+ghost use Rattle.uc_frames.specs.Keeping.{UnwoundBelow, RaisesBelow};
+ghost use Rattle.uc_frames.specs.Machine.{line_at};
+ghost use Rattle.uc_frames.specs.Searches.{catcher_in};
+ghost use Rattle.uc_frames.specs.Unwound.{LeavesNow, Unwinds};
+ghost use Rattle.uc_coroutine.specs.Outcomes.{Begins};
+ghost use Rattle.uc_step.specs.Falls.{FallsBelow};
+ghost use Rattle.uc_step.specs.Follow.{Follow};
+ghost use Rattle.uc_meaning.specs.declared.exec.Reason.TheVariants as reason;
+ghost use Rattle.uc_ride.specs.declared.events.Caught.{Caught};
+ghost use Rattle.uc_ride.specs.Led.{how_settled, how_ended, how_unwound, row_of, test_by, StepFalls, Entered, left_in};
+
+use std::alloc::AllocError;
+use uc_code::code::Code;
+use uc_code::op::Op;
+use uc_code::rows::Instruction;
+use uc_coroutine::leaving::{Left, leave, return_past};
+use uc_coroutine::testing::{MainEnd, end_block, end_main};
+use uc_coroutine::unwinding::unwind;
+use uc_except::found::Found;
+use uc_except::handling::{handle, throw};
+use uc_except::seeking::{catching_row, propagate};
+use uc_frames::event::Event;
+use uc_frames::work::Work;
+use uc_meaning::exec::Reason;
+use uc_meaning::fault::RunFault;
+use uc_meaning::request::{Asked, Request};
+use uc_step::stepped::Stepped;
+
+/// How an op ends with what an event leads to by it: the task goes on, after a tick or without one, or it asks.
+#[derive(Clone, Copy)]
+pub(crate) enum Settled {
+    On,
+    Tick,
+    Asks(Asked),
+}
+
+/// How a step of unwinding ends: the task goes on, or it still unwinds, or it asks.
+#[derive(Clone, Copy)]
+pub(crate) enum Unwound {
+    On,
+    Still,
+    Asks(Asked),
+}
+
+/// What the first op of a row tests: whether a block or a main that is unwound up to it is left, or nothing, where it cleans up.
+#[derive(Clone, Copy)]
+pub(crate) enum Test {
+    Block,
+    Main,
+    Nothing,
+}
+
+/// An event that is caught, and the row of the handler that does.
+#[derive(Clone, Copy)]
+pub(crate) struct Caught {
+    pub row: u32,
+    pub event: Event,
+}
+
+/// Goes on from where a step leaves what an event leads to, up to its end.
+pub(crate) fn settle(code: &Code, work: &mut Work, how: Stepped) -> Result<Settled, AllocError>
+    requires paced { IsPaced (laid_of code.now) code.now.routines }
+    requires below { (w : ℕ) × FallsBelow code.now w how work.old }
+    ensures source { IfOk result (λ after. (source : Source) (s : State) → Lowered source code.now → Follow (laid_of code.now) source how work.old s → Follow (laid_of code.now) source (how_settled after) work.new s) }
+    ensures falls { IfOk result (λ after. (w : ℕ) → FallsBelow code.now w how work.old → FallsBelow code.now w (how_settled after) work.new) }
+{
+    match how {
+        Stepped::Quiet => Ok(Settled::On),
+        Stepped::Tick => Ok(Settled::Tick),
+        Stepped::Ask(asked) => Ok(Settled::Asks(asked)),
+        Stepped::Throw(event) => {
+            throw(work, event.number, event.x, event.y);
+            let end = unwinds(code, work)?;
+            Ok(settled_by(end))
+        }
+        Stepped::Raise(event) => {
+            let end = raise(code, work, event)?;
+            Ok(settled_by(end))
+        }
+        Stepped::Unwind => {
+            let end = unwinds(code, work)?;
+            Ok(settled_by(end))
+        }
+        Stepped::Past(given) => {
+            if return_past(work, given) {
+                let end = unwinds(code, work)?;
+                Ok(settled_by(end))
+            } else {
+                let asked = asks(code, 0, work, Request::End);
+                Ok(Settled::Asks(asked))
+            }
+        }
+        Stepped::Astray => {
+            let asked = asks(code, 0, work, Request::End);
+            Ok(Settled::Asks(asked))
+        }
+    }
+}
+
+fn settled_by(end: Option<Asked>) -> Settled
+    ensures { how_settled result ≡ how_ended end }
+{
+    match end {
+        None => Settled::On,
+        Some(asked) => Settled::Asks(asked),
+    }
+}
+
+// The handler begins that the event finds; where it finds none, it is thrown.
+fn raise(code: &Code, work: &mut Work, event: Event) -> Result<Option<Asked>, AllocError>
+    requires paced { IsPaced (laid_of code.now) code.now.routines }
+    requires below { (w : ℕ) × RaisesBelow (laid_of code.now) code.now.routines w work.old }
+    ensures source { IfOk result (λ end. (source : Source) (s : State) → Lowered source code.now → Follow (laid_of code.now) source (Stepped.Raise event) work.old s → Follow (laid_of code.now) source (how_ended end) work.new s) }
+    ensures falls { IfOk result (λ end. (w : ℕ) → RaisesBelow (laid_of code.now) code.now.routines w work.old → FallsBelow code.now w (how_ended end) work.new) }
+{
+    let found = propagate(code, work, event.number, true);
+    match found {
+        Found::None => {
+            throw(work, event.number, event.x, event.y);
+            let end = unwinds(code, work)?;
+            Ok(end)
+        }
+        Found::Handler { .. } => {
+            handle(code, work, &found, event.number, event.x, event.y)?;
+            Ok(None)
+        }
+    }
+}
+
+// Step after step, as long as it unwinds.
+fn unwinds(code: &Code, work: &mut Work) -> Result<Option<Asked>, AllocError>
+    requires paced { IsPaced (laid_of code.now) code.now.routines }
+    requires below { (w : ℕ) × UnwoundBelow (laid_of code.now) code.now.routines w work.old }
+    ensures source { IfOk result (λ end. (source : Source) (s : State) → Lowered source code.now → Unwinds (laid_of code.now) work.old s → Follow (laid_of code.now) source (how_ended end) work.new s) }
+    ensures falls { IfOk result (λ end. (w : ℕ) → UnwoundBelow (laid_of code.now) code.now.routines w work.old → FallsBelow code.now w (how_ended end) work.new) }
+{
+    'steps: loop {
+        let how = unwind_once(code, work)?;
+        match how {
+            Unwound::On => return Ok(None),
+            Unwound::Still => {}
+            Unwound::Asks(asked) => return Ok(Some(asked)),
+        }
+    }
+}
+
+// One step: a clean-up of the running activation begins, or the test at the end of a block or of a main is made; or the handler that catches
+// the event begins; or the activation is left.
+fn unwind_once(code: &Code, work: &mut Work) -> Result<Unwound, AllocError>
+    requires paced { IsPaced (laid_of code.now) code.now.routines }
+    ensures source { IfOk result (λ after. (source : Source) (s : State) → Lowered source code.now → Unwinds (laid_of code.now) work.old s → Follow (laid_of code.now) source (how_unwound after) work.new s) }
+    ensures falls { IfOk result (λ after. (w : ℕ) → UnwoundBelow (laid_of code.now) code.now.routines w work.old → StepFalls code.now w (left_in code.now work.old) after work.new) }
+{
+    // A number of elements that is a `u32` bounds what is left of the activation.
+    let _ = work.elements();
+    let frame = work.level();
+    let caught = catcher(code, work);
+    if unwind(code, work, frame, row_in(caught)) {
+        let after = begin(code, work)?;
+        Ok(after)
+    } else {
+        match caught {
+            None => {
+                let after = leave_on(code, work)?;
+                Ok(after)
+            }
+            Some(caught) => {
+                let event = caught.event;
+                let row = caught.row;
+                let found = Found::Handler { frame, row };
+                handle(code, work, &found, event.number, event.x, event.y)?;
+                Ok(Unwound::On)
+            }
+        }
+    }
+}
+
+// The row of the running activation that catches the event by which it is unwound.
+fn catcher(code: &Code, work: &Work) -> Option<Caught>
+    ensures row { row_of result ≡ catcher_in (event_by work.now.run.raised) code.now.rows (chain code.now.rows work.now.run.control) }
+    ensures event { (c : Caught) → result ≡ Some c → work.now.run.raised ≡ Some (reason.Event c.event.number c.event.x c.event.y) }
+{
+    match work.raised() {
+        Some(Reason::Event { event, x, y }) => match catching_row(code, work, event) {
+            None => None,
+            Some(row) => Some(Caught {
+                row,
+                event: Event {
+                    number: event,
+                    x,
+                    y,
+                },
+            }),
+        },
+        Some(Reason::ReturnTo(_)) => None,
+        Some(Reason::Destroyed) => None,
+        None => None,
+    }
+}
+
+fn row_in(caught: Option<Caught>) -> Option<u32>
+    ensures { result ≡ row_of caught }
+{
+    match caught {
+        None => None,
+        Some(caught) => Some(caught.row),
+    }
+}
+
+// What begins: a test ends the unwinding, or lets it go on; a clean-up is executed.
+fn begin(code: &Code, work: &mut Work) -> Result<Unwound, AllocError>
+    requires paced { IsPaced (laid_of code.now) code.now.routines }
+    ensures source { IfOk result (λ after. (source : Source) (s : State) → Lowered source code.now → Begins source (laid_of code.now) work.old s → Follow (laid_of code.now) source (how_unwound after) work.new s) }
+    ensures falls { IfOk result (λ after. (w left : ℕ) → Entered code.now w left work.old → StepFalls code.now w left after work.new) }
+{
+    let next = work.next();
+    match op_at(code, next) {
+        None => Ok(Unwound::On),
+        Some(instruction) => match test_of(instruction.op) {
+            Test::Nothing => Ok(Unwound::On),
+            Test::Block => {
+                if end_block(work, next + 1) {
+                    Ok(Unwound::On)
+                } else {
+                    Ok(Unwound::Still)
+                }
+            }
+            Test::Main => {
+                let after = end_on(code, work, instruction.line)?;
+                Ok(after)
+            }
+        },
+    }
+}
+
+// There are few ops, so the one behind it has a number too.
+fn op_at(code: &Code, at: u32) -> Option<Instruction>
+    ensures op { result ≡ slice_get code.now.ops at }
+    ensures few { IfSome result (λ i. at < PROGRAM_OPS) }
+{
+    let ops = code.ops();
+    ops.get(at as usize).copied()
+}
+
+fn test_of(op: Op) -> Test
+    ensures { result ≡ test_by op }
+{
+    match op {
+        Op::Handled => Test::Block,
+        Op::Unhandled => Test::Main,
+        _ => Test::Nothing,
+    }
+}
+
+// A main that is unwound ends, by an op of this line.
+fn end_on(code: &Code, work: &mut Work, line: u32) -> Result<Unwound, AllocError>
+    requires { slice_get code.now.ops work.old.run.control ≡ Some (record { op = Op.Unhandled; line = line }) }
+    ensures source { IfOk result (λ after. (source : Source) (s : State) → Lowered source code.now → Begins source (laid_of code.now) work.old s → Follow (laid_of code.now) source (how_unwound after) work.new s) }
+    ensures falls { IfOk result (λ after. (w left : ℕ) → Entered code.now w left work.old → StepFalls code.now w left after work.new) }
+{
+    let end = end_main(work)?;
+    match end {
+        MainEnd::Ended => Ok(Unwound::Asks(asks(code, line, work, Request::End))),
+        MainEnd::Returned => Ok(Unwound::On),
+        MainEnd::Unhandled => {
+            let unhandled = faults(code, line, work, RunFault::Unhandled);
+            Ok(Unwound::Asks(unhandled))
+        }
+    }
+}
+
+// The running activation, of which nothing is left, is left.
+fn leave_on(code: &Code, work: &mut Work) -> Result<Unwound, AllocError>
+    ensures source { IfOk result (λ after. (source : Source) (s : State) → LeavesNow (laid_of code.now) work.old s → Follow (laid_of code.now) source (how_unwound after) work.new s) }
+    ensures falls { IfOk result (λ after. (w : ℕ) → UnwoundBelow (laid_of code.now) code.now.routines w work.old → StepFalls code.now w (left_in code.now work.old) after work.new) }
+{
+    let left = leave(work)?;
+    match left {
+        Left::Ended => Ok(Unwound::Asks(asks(code, 0, work, Request::End))),
+        Left::Returned => Ok(Unwound::On),
+        Left::Escaped => {
+            let escape = faults(code, 0, work, RunFault::EscapeInUnwind);
+            Ok(Unwound::Asks(escape))
+        }
+        Left::PassedOn => Ok(Unwound::Still),
+    }
+}
+
+// The task asks, by an op of this line, or of the newest call around it that has one.
+fn asks(code: &Code, line: u32, work: &Work, request: Request) -> Asked
+    ensures { result ≡ record { request = request; line = line_at code.now.ops line work.now.callers } }
+{
+    let line = work.line(code, line);
+    Asked { request, line }
+}
+
+// A run fault, by an op of this line.
+fn faults(code: &Code, line: u32, work: &Work, fault: RunFault) -> Asked
+    ensures { result ≡ record { request = ask.Fault (fault_number fault); line = line_at code.now.ops line work.now.callers } }
+{
+    let number = fault.number();
+    asks(code, line, work, Request::Fault { number })
+}
