@@ -1,0 +1,15 @@
+pub mod Adding
+pub mod Arms
+pub mod FieldLemmas
+pub mod Finding
+pub mod Growing
+pub mod Knowing
+pub mod Members
+pub mod Naming
+pub mod Noting
+pub mod Numbers
+pub mod Owned
+pub mod Routing
+pub mod Settled
+pub mod Tabled
+pub mod Walks

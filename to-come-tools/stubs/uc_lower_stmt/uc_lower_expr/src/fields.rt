@@ -1,0 +1,234 @@
+// The fields of classes, by their names.
+
+ghost use Rattle.std.specs.Prelude.{◌≡◌, ◌∷◌, [], ℕ, None, Some, IfOk, OnOk, MatchOption, get_or, slice_get};
+ghost use Rattle.uc_tree.specs.Objects.{class_at, declared_fields, fields_of, form_fields, plain_class, shape_of};
+ghost use Rattle.uc_tree.specs.Programs.{Class as Whole, Program};
+ghost use Rattle.uc_tree.specs.ProgramViews.{member_form_at};
+ghost use Rattle.uc_lower_expr.specs.Meanings.{shape_as};
+ghost use Rattle.uc_lower_expr.specs.Members.{AreFields, AreTables, FitClasses, IsField, IsNthField, count_fields, no_field, no_field_at};
+ghost use Rattle.uc_lower_expr.specs.Noted.{HasNames, Notes, length_by, one_scalar};
+
+use crate::meaning::{Meaning, Scalar, Standing};
+use std::alloc::{AllocError, Global};
+use uc_names::scope::Scope;
+use uc_sizes::held::leading_cells;
+use uc_sizes::places::{no_places, note_place, place_in};
+use uc_sizes::sizes::Sizes;
+use uc_tree::class::{Class, Member, MemberForm};
+use uc_tree::declare::Declarator;
+use uc_tree::kinds::Base;
+use uc_tree::name::Name;
+use uc_tree::rows::Held;
+
+/// A field of a class: the cells before it in an object, whether it is a reference, and what is told of it as a place of its type.
+#[derive(Clone, Copy, PartialEq, Eq, Debug)]
+pub struct Field {
+    pub cell: u32,
+    pub by_ref: bool,
+    pub told: Meaning,
+}
+
+/// The fields of a class in order, with their places among them by name, and the cells that they take with those before them. The
+/// greatest number stands for all that are greater.
+#[derive(Drop)]
+pub struct FieldTable {
+    pub names: Scope,
+    pub fields: Vec<Field>,
+    pub cells: u64,
+}
+
+/// What is told of a value of this base.
+pub fn value_of_base(sizes: &Sizes, base: &Base) -> Meaning
+    ensures shape { shape_of base.now ≡ shape_as result.scalar }
+    ensures class { plain_class sizes.now base.now ≡ result.class }
+    ensures len { result.elements ≡ None }
+    ensures standing { result.standing ≡ Standing.Value }
+{
+    Meaning {
+        scalar: Scalar::of_base(base),
+        class: sizes.plain_class(base),
+        elements: None,
+        standing: Standing::Value,
+    }
+}
+
+// What the field with this place among those of its class holds; beyond the last one scalar.
+fn held_at(held: &[Held], place: usize) -> Held
+    ensures { result ≡ get_or held.now place one_scalar }
+{
+    match held.get(place) {
+        Some(held) => *held,
+        None => Held {
+            count: 1,
+            object: None,
+        },
+    }
+}
+
+// The length of an array, of which so many elements are declared.
+fn length_of(declarator: &Declarator, count: u32) -> Option<u32>
+    ensures { result ≡ length_by declarator.now.len count }
+{
+    match &declarator.len {
+        Some(_) => Some(count),
+        None => None,
+    }
+}
+
+// One more field. Memory is wanting where the cells before it are not below 2^32.
+fn note_field(
+    table: &mut FieldTable,
+    sizes: &Sizes,
+    held: &[Held],
+    base: &Base,
+    declarator: &Declarator,
+) -> Result<(), AllocError>
+    requires { HasNames table.old }
+    ensures { OnOk result (Notes sizes.now held.now (record { base = base.now; declarator = declarator.now } ∷ []) table.old table.new) }
+{
+    let place = table.fields.len();
+    let what = held_at(held, place);
+    match u32::try_from(table.cells) {
+        Ok(cell) => {
+            let value = value_of_base(sizes, base);
+            note_place(&mut table.names, &declarator.name, place)?;
+            table.fields.push(Field {
+                cell,
+                by_ref: declarator.by_ref,
+                told: Meaning {
+                    elements: length_of(declarator, what.count),
+                    standing: Standing::Place,
+                    ..value
+                },
+            })?;
+            table.cells = table.cells.saturating_add(sizes.cells_of_held(&what));
+            Ok(())
+        }
+        Err(_) => Err(AllocError),
+    }
+}
+
+fn note_declarators(
+    table: &mut FieldTable,
+    sizes: &Sizes,
+    held: &[Held],
+    base: &Base,
+    declarators: &[Declarator],
+) -> Result<(), AllocError>
+    requires { HasNames table.old }
+    ensures { OnOk result (Notes sizes.now held.now (declared_fields base.now declarators.now) table.old table.new) }
+{
+    for declarator in declarators {
+        note_field(table, sizes, held, base, declarator)?;
+    }
+    Ok(())
+}
+
+fn note_member(
+    table: &mut FieldTable,
+    sizes: &Sizes,
+    held: &[Held],
+    form: &MemberForm,
+) -> Result<(), AllocError>
+    requires { HasNames table.old }
+    ensures { OnOk result (Notes sizes.now held.now (form_fields (member_form_at form.now)) table.old table.new) }
+{
+    match form {
+        MemberForm::Fields {
+            base,
+            declarators,
+            ..
+        } => {
+            note_declarators(table, sizes, held, base, declarators)?;
+            Ok(())
+        }
+        MemberForm::Routine { .. } => Ok(()),
+        MemberForm::Proto { .. } => Ok(()),
+    }
+}
+
+fn note_members(
+    table: &mut FieldTable,
+    sizes: &Sizes,
+    held: &[Held],
+    members: &[Member],
+) -> Result<(), AllocError>
+    requires { HasNames table.old }
+    ensures { OnOk result (Notes sizes.now held.now (fields_of members.now) table.old table.new) }
+{
+    for member in members {
+        note_member(table, sizes, held, &member.form)?;
+    }
+    Ok(())
+}
+
+/// The fields of the class with this place among those of the program.
+pub fn fields_of(
+    alloc: Global,
+    sizes: &Sizes,
+    place: usize,
+    class: &Class,
+) -> Result<FieldTable, AllocError>
+    requires there { class_at sizes.now place ≡ Some class.now }
+    requires fit { FitClasses sizes.now }
+    ensures { IfOk result (λ table. AreFields sizes.now place class.now table) }
+{
+    let mut table = FieldTable {
+        names: no_places(alloc)?,
+        fields: Vec::new(alloc),
+        cells: u64::from(leading_cells(class.kind)),
+    };
+    note_members(
+        &mut table,
+        sizes,
+        sizes.held_by_class(place),
+        &class.members,
+    )?;
+    Ok(table)
+}
+
+fn field_at(fields: &[Field], place: usize) -> Option<Field>
+    ensures { result ≡ slice_get fields.now place }
+{
+    fields.get(place).copied()
+}
+
+// The field of a name, by the table of its class.
+fn field_in(table: &FieldTable, name: &Name) -> Option<Field>
+    ensures { (p : Program) (i : ℕ) (c : Whole) → class_at p i ≡ Some c → AreFields p i c table.now → MatchOption result (no_field p i name.now (Some c)) (λ v. IsField p i name.now v) }
+{
+    match place_in(&table.names, name) {
+        Some(place) => field_at(&table.fields, place),
+        None => None,
+    }
+}
+
+/// The field of a name in the class with this place, by the tables of all classes.
+pub fn field_of(tables: &[FieldTable], class: usize, name: &Name) -> Option<Field>
+    ensures { (p : Program) → AreTables p tables.now → MatchOption result (no_field p class name.now (class_at p class)) (λ v. IsField p class name.now v) }
+{
+    match tables.get(class) {
+        Some(table) => field_in(table, name),
+        None => None,
+    }
+}
+
+/// The field with this place in the class with this place.
+pub fn nth_field(tables: &[FieldTable], class: usize, place: usize) -> Option<Field>
+    ensures { (p : Program) → AreTables p tables.now → MatchOption result (no_field_at place (class_at p class)) (λ v. IsNthField p class place v) }
+{
+    match tables.get(class) {
+        Some(table) => field_at(&table.fields, place),
+        None => None,
+    }
+}
+
+/// How many fields the class with this place has.
+pub fn count_of(tables: &[FieldTable], class: usize) -> usize
+    ensures { (p : Program) → AreTables p tables.now → result ≡ count_fields (class_at p class) }
+{
+    match tables.get(class) {
+        Some(table) => table.fields.len(),
+        None => 0,
+    }
+}

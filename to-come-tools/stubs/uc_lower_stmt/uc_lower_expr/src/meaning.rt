@@ -1,0 +1,111 @@
+// What lowering tells of an expression besides its code.
+
+ghost use Rattle.std.specs.Prelude.{◌≡◌, None};
+ghost use Rattle.uc_tree.specs.Objects.{shape_of};
+ghost use Rattle.uc_lower_expr.specs.Meanings.{cell_in, shape_as};
+
+use uc_tree::kinds::Base;
+
+/// How a place of a base keeps a number.
+#[derive(Clone, Copy, PartialEq, Eq, Debug)]
+pub enum Scalar {
+    Number,
+    Character,
+    Truth,
+}
+
+/// What an expression is: a variable that is no reference, by its first cell; a field that is none of the object of the running
+/// call, by its first cell in that; another place, a value, `cin`, the member `fail` of `cin`, a routine by its number, a member
+/// of the object at the place, by the number of its routine, or nothing, where a rule is broken.
+#[derive(Clone, Copy, PartialEq, Eq, Debug)]
+pub enum Standing {
+    Variable(u32),
+    Field(u32),
+    Place,
+    Value,
+    Input,
+    Fail,
+    Routine(u32),
+    Member(u32),
+    Nothing,
+}
+
+impl Standing {
+    // The variable that an expression is, if it is one.
+    pub(crate) fn variable(self) -> Option<u32>
+        ensures { result ≡ cell_in self }
+    {
+        match self {
+            Standing::Variable(cell) => Some(cell),
+            Standing::Field(_) => None,
+            Standing::Place => None,
+            Standing::Value => None,
+            Standing::Input => None,
+            Standing::Fail => None,
+            Standing::Routine(_) => None,
+            Standing::Member(_) => None,
+            Standing::Nothing => None,
+        }
+    }
+}
+
+/// How the base of an expression's type keeps a number, the class of plain objects that the base names, by its place among the
+/// classes of the program, the length of an array, and what the expression is.
+#[derive(Clone, Copy, PartialEq, Eq, Debug)]
+pub struct Meaning {
+    pub scalar: Scalar,
+    pub class: Option<usize>,
+    pub elements: Option<u32>,
+    pub standing: Standing,
+}
+
+impl Scalar {
+    /// How a base keeps a number.
+    pub fn of_base(base: &Base) -> Scalar
+        ensures shape { shape_of base.now ≡ shape_as result }
+    {
+        match base {
+            Base::Char => Scalar::Character,
+            Base::Bool => Scalar::Truth,
+            Base::Void => Scalar::Number,
+            Base::Int => Scalar::Number,
+            Base::Condition => Scalar::Number,
+            Base::Cluster => Scalar::Number,
+            Base::Processor => Scalar::Number,
+            Base::Named(_) => Scalar::Number,
+        }
+    }
+}
+
+impl Meaning {
+    /// A scalar value.
+    pub fn value(scalar: Scalar) -> Meaning
+        ensures { result ≡ record { scalar = scalar; class = None; elements = None; standing = Standing.Value } }
+    {
+        Meaning {
+            scalar,
+            class: None,
+            elements: None,
+            standing: Standing::Value,
+        }
+    }
+
+    /// What breaks a rule: the value 0, which stands for nothing.
+    pub fn nothing() -> Meaning
+        ensures { result ≡ record { scalar = Scalar.Number; class = None; elements = None; standing = Standing.Nothing } }
+    {
+        Meaning {
+            scalar: Scalar::Number,
+            class: None,
+            elements: None,
+            standing: Standing::Nothing,
+        }
+    }
+
+    /// The same type with another standing.
+    pub fn standing_as(self, standing: Standing) -> Meaning
+        ensures { result ≡ record self { standing = standing } }
+    {
+        Meaning { standing, ..self }
+    }
+}

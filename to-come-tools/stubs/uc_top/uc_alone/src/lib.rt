@@ -1,0 +1,7 @@
+// Fake.
+#![tactic(auto)]
+
+mod run;
+pub mod tally;
+
+pub use run::run_alone;

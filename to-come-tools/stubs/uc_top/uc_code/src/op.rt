@@ -1,0 +1,384 @@
+// The instructions of code.
+
+ghost use Rattle.std.specs.Prelude.{◌≡◌};
+ghost use Rattle.uc_code.specs.Listing.{word_of, operands_of};
+ghost use Rattle.uc_code.specs.Operands.{numbers_of};
+
+use crate::operands::Operands;
+use uc_tree::kinds::ValueForm;
+
+/// An instruction. Values are pushed and popped on the running frame; a cell, a routine, a class, an accept
+/// statement and a text literal go by number, an event and a mutex member too. A jump names the op at which it goes on.
+#[derive(Clone, Copy)]
+pub enum Op {
+    /// Pushes the number.
+    Push(i64),
+    /// Pushes the top operand once more.
+    Duplicate,
+    /// Drops the top operand.
+    Discard,
+    /// Pushes the operand under the top one once more.
+    Over,
+    /// Drops the operand under the top one.
+    DiscardBelow,
+    /// The place of this cell of the frame.
+    Local(u32),
+    /// The object at hand.
+    Own,
+    /// The place of this cell of the object at hand.
+    This(u32),
+    /// What this cell of the frame holds: a number, or the place that a reference was bound to.
+    Via(u32),
+    /// The place that this cell of the object at hand holds.
+    ViaThis(u32),
+    /// The popped place, so many cells on.
+    Field(u32),
+    /// How many elements stand of the array that is built or destroyed.
+    Counted,
+    /// The popped place at the popped index of an array of this length, whose elements have this size.
+    Index { length: u32, size: u32 },
+    /// What the popped place holds.
+    Load,
+    /// Writes a value to a place and pops both.
+    Store,
+    /// Writes a value to a place and leaves the value.
+    Keep,
+    /// Writes the top operand to this cell of the frame and leaves it.
+    Set(u32),
+    /// So many cells of the frame, from this one on, are 0 again.
+    Clear { cell: u32, cells: u32 },
+    /// The sum.
+    Add,
+    /// The difference.
+    Subtract,
+    /// The product.
+    Multiply,
+    /// The quotient.
+    Divide,
+    /// The remainder.
+    Remainder,
+    /// The number with the other sign.
+    Negate,
+    /// 1 for 0, and else 0.
+    Not,
+    /// Whether two numbers are equal.
+    Equal,
+    /// Whether two numbers differ.
+    NotEqual,
+    /// Whether the first is less.
+    Less,
+    /// Whether the first is at most the second.
+    AtMost,
+    /// Whether the first is greater.
+    Greater,
+    /// Whether the first is at least the second.
+    AtLeast,
+    /// The number as a `char`.
+    ToChar,
+    /// The number as a `bool`.
+    ToBool,
+    /// Goes on at this op.
+    Jump(u32),
+    /// Goes on at this op where the popped number is 0.
+    IfZero(u32),
+    /// Goes on at this op where the popped number is not 0.
+    IfNonzero(u32),
+    /// So many elements stand of an array that is built or destroyed; goes on at the test of the turns over them.
+    Count { elements: u32, test: u32 },
+    /// One more element stands.
+    More,
+    /// Goes on at a turn of the building where fewer elements stand than this length.
+    Fill { length: u32, turn: u32 },
+    /// Where an element stands, one less stands, and a turn of the destruction comes.
+    Sweep(u32),
+    /// Takes one tick.
+    Tick,
+    /// Calls the routine.
+    Call(u32),
+    /// Calls the routine as a member of the popped place.
+    CallOn(u32),
+    /// The same for a constructor or a destructor that nobody wrote, which is no active call.
+    CallUnwritten(u32),
+    /// Returns from a routine.
+    Return,
+    /// Returns the popped value.
+    ReturnValue,
+    /// The fault of a routine that ended without a value.
+    NoReturn,
+    /// Calls a mutex member: its number and its routine.
+    Enter { member: u8, routine: u32 },
+    /// Ends a call of a mutex member.
+    Leave,
+    /// Makes a mutex object of the class.
+    Make(u32),
+    /// The object at hand is made.
+    Made,
+    /// Makes a task whose main is the routine.
+    Spawn(u32),
+    /// The object is no more.
+    Gone,
+    /// Sets up a coroutine whose main is the routine.
+    Coroutine(u32),
+    /// Marks a coroutine live.
+    Live,
+    /// Unwinds a coroutine.
+    UnwindCoroutine,
+    /// Resumes a coroutine.
+    Resume,
+    /// Suspends the running coroutine.
+    Suspend,
+    /// Ends the main of a coroutine.
+    EndMain,
+    /// Throws the event.
+    Throw(u8),
+    /// Raises the event for resumption.
+    Raise(u8),
+    /// Raises again what is being handled.
+    Again,
+    /// Raises the event at a task.
+    RaiseAt(u8),
+    /// Raises the event at a coroutine.
+    RaiseAtCoroutine(u8),
+    /// Ends a handler.
+    Handled,
+    /// Ends a clean-up that unwinding performs, and goes on unwinding.
+    Unwind,
+    /// Enables the events of the mask.
+    Enable(u64),
+    /// Disables the events of the mask.
+    Disable(u64),
+    /// Restores the events that were enabled before.
+    Restore,
+    /// Takes delivery of a pending event.
+    Poll,
+    /// Accepts by the accept statement of this number.
+    Accept(u32),
+    /// Waits on the condition.
+    Wait,
+    /// Signals the condition.
+    Signal,
+    /// Signals the condition and waits for the signalled task.
+    SignalBlock,
+    /// Whether no task waits on the condition.
+    Empty,
+    /// The number that the first waiting task left.
+    Front,
+    /// Prints the popped value in this form.
+    Print(ValueForm),
+    /// Prints the text literal of this number.
+    Text(u32),
+    /// Gathers printed items until the next flush.
+    Hold,
+    /// Puts what was gathered.
+    Flush,
+    /// Reads a value of this form.
+    Read(ValueForm),
+    /// Whether a read found no value.
+    Fail,
+    /// Lets other tasks run.
+    Yield,
+    /// Makes a cluster.
+    Cluster,
+    /// Ends a cluster.
+    ClusterEnd,
+    /// Makes a processor.
+    Processor,
+    /// Ends a processor.
+    ProcessorEnd,
+    /// Moves the running task to another cluster.
+    Migrate,
+}
+
+impl Op {
+    /// The word of the listing.
+    pub fn word(self) -> &'static [u8]
+        ensures { result.now ≡ word_of self }
+    {
+        match self {
+            Op::Push(_) => b"push",
+            Op::Duplicate => b"dup",
+            Op::Discard => b"drop",
+            Op::Over => b"over",
+            Op::DiscardBelow => b"nip",
+            Op::Local(_) => b"local",
+            Op::Own => b"own",
+            Op::This(_) => b"this",
+            Op::Via(_) => b"via",
+            Op::ViaThis(_) => b"viathis",
+            Op::Field(_) => b"field",
+            Op::Counted => b"counted",
+            Op::Index { .. } => b"index",
+            Op::Load => b"load",
+            Op::Store => b"store",
+            Op::Keep => b"keep",
+            Op::Set(_) => b"set",
+            Op::Clear { .. } => b"clear",
+            Op::Add => b"add",
+            Op::Subtract => b"sub",
+            Op::Multiply => b"mul",
+            Op::Divide => b"div",
+            Op::Remainder => b"rem",
+            Op::Negate => b"neg",
+            Op::Not => b"not",
+            Op::Equal => b"eq",
+            Op::NotEqual => b"ne",
+            Op::Less => b"lt",
+            Op::AtMost => b"le",
+            Op::Greater => b"gt",
+            Op::AtLeast => b"ge",
+            Op::ToChar => b"char",
+            Op::ToBool => b"bool",
+            Op::Jump(_) => b"jump",
+            Op::IfZero(_) => b"zero",
+            Op::IfNonzero(_) => b"nonzero",
+            Op::Count { .. } => b"count",
+            Op::More => b"more",
+            Op::Fill { .. } => b"fill",
+            Op::Sweep(_) => b"sweep",
+            Op::Tick => b"tick",
+            Op::Call(_) => b"call",
+            Op::CallOn(_) => b"callon",
+            Op::CallUnwritten(_) => b"callun",
+            Op::Return => b"ret",
+            Op::ReturnValue => b"retval",
+            Op::NoReturn => b"noret",
+            Op::Enter { .. } => b"enter",
+            Op::Leave => b"out",
+            Op::Make(_) => b"make",
+            Op::Made => b"made",
+            Op::Spawn(_) => b"spawn",
+            Op::Gone => b"gone",
+            Op::Coroutine(_) => b"coro",
+            Op::Live => b"live",
+            Op::UnwindCoroutine => b"uncoro",
+            Op::Resume => b"resume",
+            Op::Suspend => b"suspend",
+            Op::EndMain => b"endmain",
+            Op::Throw(_) => b"throw",
+            Op::Raise(_) => b"raise",
+            Op::Again => b"again",
+            Op::RaiseAt(_) => b"at",
+            Op::RaiseAtCoroutine(_) => b"atcoro",
+            Op::Handled => b"handled",
+            Op::Unwind => b"unwind",
+            Op::Enable(_) => b"enable",
+            Op::Disable(_) => b"disable",
+            Op::Restore => b"restore",
+            Op::Poll => b"poll",
+            Op::Accept(_) => b"accept",
+            Op::Wait => b"wait",
+            Op::Signal => b"signal",
+            Op::SignalBlock => b"sigblock",
+            Op::Empty => b"empty",
+            Op::Front => b"front",
+            Op::Print(_) => b"print",
+            Op::Text(_) => b"text",
+            Op::Hold => b"hold",
+            Op::Flush => b"flush",
+            Op::Read(_) => b"read",
+            Op::Fail => b"fail",
+            Op::Yield => b"yield",
+            Op::Cluster => b"cluster",
+            Op::ClusterEnd => b"clusterend",
+            Op::Processor => b"proc",
+            Op::ProcessorEnd => b"procend",
+            Op::Migrate => b"migrate",
+        }
+    }
+
+    // The operands of the listing.
+    pub(crate) fn operands(self) -> Operands
+        ensures { numbers_of result ≡ operands_of self }
+    {
+        match self {
+            Op::Push(number) => Operands::Constant(number),
+            Op::Duplicate => Operands::Nothing,
+            Op::Discard => Operands::Nothing,
+            Op::Over => Operands::Nothing,
+            Op::DiscardBelow => Operands::Nothing,
+            Op::Local(number) => Operands::One(number as u64),
+            Op::Own => Operands::Nothing,
+            Op::This(number) => Operands::One(number as u64),
+            Op::Via(number) => Operands::One(number as u64),
+            Op::ViaThis(number) => Operands::One(number as u64),
+            Op::Field(number) => Operands::One(number as u64),
+            Op::Counted => Operands::Nothing,
+            Op::Index { length, size } => Operands::Two(length as u64, size as u64),
+            Op::Load => Operands::Nothing,
+            Op::Store => Operands::Nothing,
+            Op::Keep => Operands::Nothing,
+            Op::Set(cell) => Operands::One(cell as u64),
+            Op::Clear { cell, cells } => Operands::Two(cell as u64, cells as u64),
+            Op::Add => Operands::Nothing,
+            Op::Subtract => Operands::Nothing,
+            Op::Multiply => Operands::Nothing,
+            Op::Divide => Operands::Nothing,
+            Op::Remainder => Operands::Nothing,
+            Op::Negate => Operands::Nothing,
+            Op::Not => Operands::Nothing,
+            Op::Equal => Operands::Nothing,
+            Op::NotEqual => Operands::Nothing,
+            Op::Less => Operands::Nothing,
+            Op::AtMost => Operands::Nothing,
+            Op::Greater => Operands::Nothing,
+            Op::AtLeast => Operands::Nothing,
+            Op::ToChar => Operands::Nothing,
+            Op::ToBool => Operands::Nothing,
+            Op::Jump(number) => Operands::One(number as u64),
+            Op::IfZero(number) => Operands::One(number as u64),
+            Op::IfNonzero(number) => Operands::One(number as u64),
+            Op::Count { elements, test } => Operands::Two(elements as u64, test as u64),
+            Op::More => Operands::Nothing,
+            Op::Fill { length, turn } => Operands::Two(length as u64, turn as u64),
+            Op::Sweep(number) => Operands::One(number as u64),
+            Op::Tick => Operands::Nothing,
+            Op::Call(number) => Operands::One(number as u64),
+            Op::CallOn(number) => Operands::One(number as u64),
+            Op::CallUnwritten(number) => Operands::One(number as u64),
+            Op::Return => Operands::Nothing,
+            Op::ReturnValue => Operands::Nothing,
+            Op::NoReturn => Operands::Nothing,
+            Op::Enter { member, routine } => Operands::Two(member as u64, routine as u64),
+            Op::Leave => Operands::Nothing,
+            Op::Make(number) => Operands::One(number as u64),
+            Op::Made => Operands::Nothing,
+            Op::Spawn(number) => Operands::One(number as u64),
+            Op::Gone => Operands::Nothing,
+            Op::Coroutine(number) => Operands::One(number as u64),
+            Op::Live => Operands::Nothing,
+            Op::UnwindCoroutine => Operands::Nothing,
+            Op::Resume => Operands::Nothing,
+            Op::Suspend => Operands::Nothing,
+            Op::EndMain => Operands::Nothing,
+            Op::Throw(number) => Operands::One(number as u64),
+            Op::Raise(number) => Operands::One(number as u64),
+            Op::Again => Operands::Nothing,
+            Op::RaiseAt(number) => Operands::One(number as u64),
+            Op::RaiseAtCoroutine(number) => Operands::One(number as u64),
+            Op::Handled => Operands::Nothing,
+            Op::Unwind => Operands::Nothing,
+            Op::Enable(number) => Operands::One(number),
+            Op::Disable(number) => Operands::One(number),
+            Op::Restore => Operands::Nothing,
+            Op::Poll => Operands::Nothing,
+            Op::Accept(number) => Operands::One(number as u64),
+            Op::Wait => Operands::Nothing,
+            Op::Signal => Operands::Nothing,
+            Op::SignalBlock => Operands::Nothing,
+            Op::Empty => Operands::Nothing,
+            Op::Front => Operands::Nothing,
+            Op::Print(form) => Operands::One(form.number() as u64),
+            Op::Text(number) => Operands::One(number as u64),
+            Op::Hold => Operands::Nothing,
+            Op::Flush => Operands::Nothing,
+            Op::Read(form) => Operands::One(form.number() as u64),
+            Op::Fail => Operands::Nothing,
+            Op::Yield => Operands::Nothing,
+            Op::Cluster => Operands::Nothing,
+            Op::ClusterEnd => Operands::Nothing,
+            Op::Processor => Operands::Nothing,
+            Op::ProcessorEnd => Operands::Nothing,
+            Op::Migrate => Operands::Nothing,
+        }
+    }
+}

@@ -1,0 +1,150 @@
+// Instructions with their lines, and the rows of handlers.
+
+ghost use Rattle.std.specs.Prelude.{◌≡◌};
+ghost use Rattle.uc_code.specs.Listing.{kind_number};
+
+use crate::op::Op;
+
+/// An op and the line of the program text from which it comes.
+#[derive(Clone, Copy)]
+pub struct Instruction {
+    pub op: Op,
+    pub line: u32,
+}
+
+/// What a handler row does with a raise: a `catch` and a `_CatchResume` take the events that they name; a clean-up is a
+/// destruction or a leave that unwinding performs.
+#[derive(Clone, Copy, PartialEq, Eq, Debug)]
+pub enum RowKind {
+    Catch,
+    CatchResume,
+    CleanUp,
+}
+
+impl RowKind {
+    // The number of the kind in the listing.
+    pub(crate) fn number(self) -> u8
+        ensures { result ≡ kind_number self }
+    {
+        match self {
+            RowKind::Catch => 0,
+            RowKind::CatchResume => 1,
+            RowKind::CleanUp => 2,
+        }
+    }
+}
+
+/// The event of a row that takes every event.
+pub const ANY_EVENT: u8 = 255;
+
+/// The event of a row that takes no event and performs nothing: what it covers has the rows outwards of it alone.
+pub const NO_EVENT: u8 = 254;
+
+/// The end of a row that is still open.
+pub const OPEN_END: u32 = 4_294_967_295;
+
+/// One handler. It covers the ops `from` up to before `to`, and its own code begins at the op `entry`. `outer` is the
+/// number of the next row outwards plus 1, or 0 where there is none; `event` is the event that it takes, or `ANY_EVENT`.
+#[derive(Clone, Copy, PartialEq, Eq, Debug)]
+pub struct HandlerRow {
+    pub from: u32,
+    pub to: u32,
+    pub outer: u32,
+    pub kind: RowKind,
+    pub event: u8,
+    pub entry: u32,
+}
+
+/// Where an object lies: from this cell of the frame on, or from this cell of the object at hand on.
+#[derive(Clone, Copy, PartialEq, Eq, Debug)]
+pub enum Spot {
+    Local(u32),
+    This(u32),
+}
+
+/// An array of objects: how many there are, and the cells of each.
+#[derive(Clone, Copy, PartialEq, Eq, Debug)]
+pub struct Array {
+    pub length: u32,
+    pub size: u32,
+}
+
+/// A call of a constructor or a destructor without arguments, at the object that begins in a spot, or at the element that is
+/// counted of an array that begins there: the number of the routine, and whether it is written.
+#[derive(Clone, Copy, PartialEq, Eq, Debug)]
+pub struct ObjectCall {
+    pub spot: Spot,
+    pub array: Option<Array>,
+    pub routine: u32,
+    pub written: bool,
+}
+
+/// What stands around a statement in its routine: the statements of the routine of this number, which is the main of a task
+/// where it has the line in which that ends; a loop, with the ops to which `break` and `continue` jump; a
+/// block that is left as a whole, with the op to which whatever leaves it jumps; a guarded block, whose
+/// handlers are so many rows, from this number on; the scope of an object, with the call that cleans it up, the line of its
+/// block, and its row; a part of an object under construction, with its row; the turns over the elements of an array, with
+/// their row; or the code of an exit, which has left all marks with rows from this number on.
+#[derive(Clone, Copy, PartialEq, Eq, Debug)]
+pub enum Mark {
+    Body {
+        routine: u32,
+    },
+    Finish {
+        routine: u32,
+        line: u32,
+    },
+    Loop {
+        leave: u32,
+        again: u32,
+    },
+    Whole {
+        leave: u32,
+    },
+    Guard {
+        first: u32,
+        count: u32,
+    },
+    Clean {
+        what: ObjectCall,
+        line: u32,
+        row: u32,
+    },
+    Part {
+        row: u32,
+    },
+    Elements {
+        row: u32,
+    },
+    Outward {
+        below: u32,
+        row: u32,
+    },
+}
+
+/// What opens a row: the scope of an object, with the call that cleans it up and the line of its block; a part of an object under
+/// construction; turns over the elements of an array; or the code of an exit, which leaves all marks with rows from this number on.
+#[derive(Clone, Copy, PartialEq, Eq, Debug)]
+pub enum Opening {
+    Object { what: ObjectCall, line: u32 },
+    Part,
+    Elements,
+    Outward { below: u32 },
+}
+
+/// What leaves statements before their end: `break`, `continue`, and a return with a value or without one.
+#[derive(Clone, Copy, PartialEq, Eq, Debug)]
+pub enum Way {
+    Break,
+    Continue,
+    Value,
+    End,
+}
+
+/// Where the code of a routine begins, the cells of its frame, and how many of them, from the first on, hold its parameters.
+#[derive(Clone, Copy, PartialEq, Eq, Debug)]
+pub struct RoutineCode {
+    pub entry: u32,
+    pub cells: u32,
+    pub params: u32,
+}

@@ -1,0 +1,6 @@
+// Fake.
+#![tactic(auto)]
+
+mod write;
+
+pub use write::append_journal;

@@ -1,0 +1,5 @@
+// Fake.
+#![tactic(auto)]
+
+pub mod lower;
+pub mod program_main;

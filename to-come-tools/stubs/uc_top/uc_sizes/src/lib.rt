@@ -1,0 +1,4 @@
+// Fake.
+#![tactic(auto)]
+
+pub mod sizes;

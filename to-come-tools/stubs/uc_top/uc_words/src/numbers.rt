@@ -1,0 +1,10 @@
+// The options that have a number.
+
+/// An option.
+#[derive(Clone, Copy)]
+pub enum NumberOption {
+    Processors,
+    Slice,
+    Ticks,
+    Entries,
+}
