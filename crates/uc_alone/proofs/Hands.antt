@@ -1,6 +1,6 @@
 -- A ride keeps the objects that its task is inside, and asks one of few requests.
-use Rattle.std.proofs.Common.{◌≡◌, ℕ, zero, suc, Bool, true, false, cond, List, [], ◌∷◌, length, Option, Some, None, refl, sym, ap, ◌∙◌, subst, map}
-use Rattle.std.specs.Prelude.{nat_eq, nat_lt, slice_get, if◌then◌else◌}
+use Rattle.std.proofs.Common.{◌≡◌, ℕ, zero, suc, pos, Bool, true, false, cond, List, [], ◌∷◌, length, Option, Some, None, refl, sym, ap, ◌∙◌, subst, map}
+use Rattle.std.specs.Prelude.{nat_eq, nat_lt, drop, slice_get, if◌then◌else◌}
 use Rattle.std.proofs.lemmas.Bool.{eqb-true}
 use Rattle.uc_meaning.specs.declared.exec.Exec.{Exec}
 use Rattle.uc_meaning.specs.declared.exec.Home.{Home}
@@ -9,16 +9,19 @@ use Rattle.uc_meaning.specs.declared.exec.Owner.{Owner}
 use Rattle.uc_meaning.specs.declared.exec.Owner.TheVariants.{Frame, Fields}
 use Rattle.uc_meaning.specs.declared.exec.Reason.{Reason}
 use Rattle.uc_meaning.specs.declared.exec.Reason.TheVariants as reason
+use Rattle.uc_meaning.specs.declared.exec.Stage.{Stage}
+use Rattle.uc_meaning.specs.declared.exec.Stage.TheVariants.{Fresh, Started, Ended}
 use Rattle.uc_meaning.specs.declared.exec.Visited.{Visited}
 use Rattle.uc_meaning.specs.declared.request.Asked.{Asked}
 use Rattle.uc_meaning.specs.declared.request.Piece.{Piece}
-use Rattle.uc_tree.specs.Source.{Shape, Expr, Literal, Variable, Element, Load, Negated, Not, AsCharacter, AsTruth, Operate, And, Or, Assign, Update, StepBehind, Fail, Get, Set, First, Call, OfObject, ObjectExpr, This, OwnField, GetOwn, FieldOf, Counted, CallOn, CallUnwritten, EnterOn, Wait, Signal, SignalBlock, IsEmpty, FrontOf, NoExprs, MoreExprs, Way, ToBreak, ToContinue, ToReturn, ToEnd, Stmt, Skip, Block, Whole, Evaluate, Declare, Print, PrintTogether, Read, If, Loop, Break, Continue, Return, Fill, OfEvents, OfTasks, Stmts, Nil, Then, Scoped, Built, Routine, Source, EventStmt, Throw, Raise, Try, RaiseAt, Enable, Disable, Handlers}
-use Rattle.uc_meaning.specs.Executions.{update, set_members, members_at, change_in, change, with_owned, exec_eq, values_cleared}
+use Rattle.uc_tree.specs.Source.{Shape, Expr, Literal, Variable, Element, Load, Negated, Not, AsCharacter, AsTruth, Operate, And, Or, Assign, Update, StepBehind, Fail, Get, Set, First, Call, OfObject, ObjectExpr, This, OwnField, GetOwn, FieldOf, Counted, CallOn, CallLive, CallUnwritten, EnterOn, Wait, Signal, SignalBlock, IsEmpty, FrontOf, NoExprs, MoreExprs, Way, ToBreak, ToContinue, ToReturn, ToEnd, Stmt, Skip, Block, Whole, Evaluate, Declare, Print, PrintTogether, Read, If, Loop, Break, Continue, Return, Fill, OfEvents, OfTasks, TaskStmt, Resume, Suspend, SetUp, Enliven, TakeDown, Yield, Migrate, Accept, Stmts, Nil, Then, Scoped, Built, Routine, Source, EventStmt, Throw, Raise, Try, RaiseAt, Enable, Disable, Handlers}
+use Rattle.uc_meaning.specs.Executions.{Execution, update, set_members, members_at, change_in, change, with_owned, exec_eq, parked_at, values_cleared}
 use Rattle.uc_meaning.specs.Quiet as q
-use Rattle.uc_meaning.specs.Quiet.{Active, State, Env, Members, Todo, Step, Goes, Ticks, Asks, Outcome, Gives, Faults, Eval, LoadNow, ElementNow, FieldNow, NegateNow, NotNow, CharacterNow, TruthNow, OperateNow, CopyNow, CopyBelowNow, DropNow, DropBelowNow, StoreNow, KeepNow, SetNow, Choose, Branch, TickNow, TurnNow, Arguments, CallNow, CallOnNow, CallUnwrittenNow, CountNow, MoreNow, FillNow, Again, PrintNow, TextNow, GatherNow, FlushNow, ReadNow, ClearNow, Items, Values, Pieces, Targets, Variables, Do, Rest, Within, Exit, NoReturnNow, InLoop, InWhole, Clean, Sweep, Part, Guard, Unwind, ThrowNow, RaiseNow, Finish, Sort, sort, Simple, IsLoop, IsWhole, IsClean, IsFill, IsSweep, IsPart, IsGuard, IsFinish, Value, Number, Place, Running, Nothing, quiet, act_todo, act, object_step, eval_step, event_step, stmt_step, rest_step, call_step, call_on_step, call_unwritten_step, sweep_step, exit_step, end_step, outcome_step, element_step, print_step, flush_step, return_step, written, outcome, index_in, number, top, below}
-use Rattle.uc_meaning.specs.Raising.{Event, Handler, Found, event_in, handler_for, catch_step, guard_left, arrives, whole_left, main_left, unwind_past, escapes, pass_on, leave_for, leave_step, unwind_step, seek, handle_step, return_past, end_by}
+use Rattle.uc_meaning.specs.Quiet.{Active, State, Env, Members, Todo, Step, Goes, Ticks, Asks, Outcome, Gives, Faults, Eval, LoadNow, ElementNow, FieldNow, NegateNow, NotNow, CharacterNow, TruthNow, OperateNow, CopyNow, CopyBelowNow, DropNow, DropBelowNow, StoreNow, KeepNow, SetNow, Choose, Branch, TickNow, TurnNow, Arguments, CallNow, CallOnNow, CallUnwrittenNow, CountNow, MoreNow, FillNow, Again, PrintNow, TextNow, GatherNow, FlushNow, ReadNow, ClearNow, Items, Values, Pieces, Targets, Variables, Do, Rest, Within, Exit, NoReturnNow, InLoop, InWhole, Clean, Sweep, Part, Guard, Unwind, ThrowNow, RaiseNow, SetUpNow, EnlivenNow, TakeDownNow, ForgetNow, LiveNow, ResumeNow, SuspendNow, Land, Finish, FinishCoroutine, Sort, sort, Simple, IsLoop, IsWhole, IsClean, IsFill, IsSweep, IsPart, IsGuard, IsFinish, IsFinishCoroutine, Value, Number, Place, Running, Nothing, quiet, act_todo, act, object_step, eval_step, event_step, stmt_step, rest_step, call_step, call_on_step, call_unwritten_step, sweep_step, exit_step, end_step, task_step, fresh, home_at, set_up_step, live_step, resumed, land_step, at, moves, exec_at, own_exec, outcome_step, element_step, print_step, flush_step, return_step, written, outcome, index_in, number, top, below}
+use Rattle.uc_meaning.specs.Raising.{Event, Handler, Found, event_in, handler_for, catch_step, guard_left, arrives, whole_left, main_left, coroutine_left, unwind_past, escapes, pass_on, leave_for, leave_step, unwind_step, seek, handle_step, return_past, end_by}
+use Rattle.uc_meaning.specs.Switches.{Moved, new_exec, one_more, born, slot_gone, forgotten, is_live, live_changed, enlivened, woken, slot_set, set_slot, stopped, switched, able, go_on, in_destruction, wake_at, wake_by, wake_one, wake, suspend, or_else, ended, finish, unwound_there, throw_at, escape, taken_down, take_down_at, take_down_by, take_down}
 use Rattle.uc_meaning.specs.Rides.{Rides, slices, goes_on, ticks, asks}
-use Rattle.uc_tree.specs.declared.limits.TheConstants.{CALLS}
+use Rattle.uc_tree.specs.declared.limits.TheConstants.{CALLS, UNHANDLED}
 use Rattle.uc_alone.specs.Kept.{is_few}
 
 -- the numbers of the objects in hand
@@ -74,6 +77,92 @@ abbrev pub Keeps : List ℕ → Step → Type 0
 Keeps ks (Goes s) = inside_of s ≡ ks
 Keeps ks (Ticks s) = inside_of s ≡ ks
 Keeps ks (Asks r s) = (is_few r ≡ true) × (inside_of s ≡ ks)
+
+-- switches
+
+switched_keys : (n : Exec) (x : Execution (List Todo) Value) (s : State) → inside_of (switched n x s) ≡ inside_of s
+switched_keys n x s =
+    change_keys s.env.exec.home (slot_set s.env.exec.serial (Some (stopped s))) (set_slot n None s.env) ∙ change_keys n.home (slot_set n.serial None) s.env
+
+either_moves : (b : Bool) (ks : List ℕ) (x y : Moved (List Todo) Value) (s : State) → Keeps ks (moves x s) → Keeps ks (moves y s) → Keeps ks (moves (cond b x y) s)
+either_moves true ks x y s h g = h
+either_moves false ks x y s h g = g
+
+go_on_keeps : (o : Option (Exec × Execution (List Todo) Value)) (u s : State) → inside_of u ≡ inside_of s → Keeps (inside_of s) (moves (go_on o u) s)
+go_on_keeps None u s h = (refl, refl)
+go_on_keeps (Some p) u s h = switched_keys p.0 p.1 u ∙ h
+
+throw_keeps : (o : Option (Exec × Execution (List Todo) Value)) (u s : State) → inside_of u ≡ inside_of s → Keeps (inside_of s) (moves (throw_at o u) s)
+throw_keeps None u s h = (refl, refl)
+throw_keeps (Some p) u s h = switched_keys p.0 (unwound_there (reason.Event UNHANDLED (pos 0) (pos 0)) p.1) u ∙ h
+
+wake_at_keeps : (g : Stage) (n : Exec) (x : Execution (List Todo) Value) (s : State) → Keeps (inside_of s) (moves (wake_at g n x s) s)
+wake_at_keeps Fresh n x s = switched_keys n (record x { links = woken s.env.exec x.links }) s
+wake_at_keeps Started n x s = switched_keys n (record x { links = woken s.env.exec x.links }) s
+wake_at_keeps Ended n x s = (refl, refl)
+
+wake_by_keeps : (n : Exec) (o : Option (Execution (List Todo) Value)) (s : State) → Keeps (inside_of s) (moves (wake_by n o s) s)
+wake_by_keeps n None s = (refl, refl)
+wake_by_keeps n (Some x) s = wake_at_keeps x.links.stage n x s
+
+wake_one_keeps : (o : Option Exec) (s : State) → Keeps (inside_of s) (moves (wake_one o s) s)
+wake_one_keeps None s = (refl, refl)
+wake_one_keeps (Some n) s = either_moves (exec_eq n s.env.exec) (inside_of s) _ _ s (refl, refl) (wake_by_keeps n (parked_at n s.env) s)
+
+wake_keeps : (o : Option Exec) (s : State) → Keeps (inside_of s) (moves (wake o s) s)
+wake_keeps o s = either_moves (in_destruction s.env) (inside_of s) _ _ s (refl, refl) (wake_one_keeps o s)
+
+suspend_keeps : (s : State) → Keeps (inside_of s) (moves (suspend s) s)
+suspend_keeps s = either_moves (in_destruction s.env) (inside_of s) _ _ s (refl, refl) (go_on_keeps (able s.env.links.resumer s.env) s s refl)
+
+finish_keeps : (s : State) → Keeps (inside_of s) (moves (finish s) s)
+finish_keeps s = go_on_keeps (or_else (able s.env.links.starter s.env) (able s.env.links.resumer s.env)) (ended s) s refl
+
+escape_keeps : (s : State) → Keeps (inside_of s) (moves (escape s) s)
+escape_keeps s = throw_keeps (able s.env.links.resumer s.env) (ended s) s refl
+
+taken_down_keeps : (s : State) → Keeps (inside_of s) (moves (taken_down s) s)
+taken_down_keeps s = go_on_keeps (able s.env.links.destroyer s.env) (ended s) s refl
+
+take_down_at_keeps : (g : Stage) (n : Exec) (x : Execution (List Todo) Value) (s : State) → Keeps (inside_of s) (moves (take_down_at g n x s) s)
+take_down_at_keeps Fresh n x s = change_keys n.home (live_changed false n.serial) s.env
+take_down_at_keeps Started n x s =
+    switched_keys n (unwound_there reason.Destroyed (record x { links = record x.links { live = false; destroyer = Some s.env.exec } })) s
+take_down_at_keeps Ended n x s = change_keys n.home (live_changed false n.serial) s.env
+
+take_down_by_keeps : (n : Exec) (o : Option (Execution (List Todo) Value)) (s : State) → Keeps (inside_of s) (moves (take_down_by n o s) s)
+take_down_by_keeps n None s = refl
+take_down_by_keeps n (Some x) s = take_down_at_keeps x.links.stage n x s
+
+take_down_keeps : (o : Option Exec) (s : State) → Keeps (inside_of s) (moves (take_down o s) s)
+take_down_keeps None s = refl
+take_down_keeps (Some n) s = take_down_by_keeps n (parked_at n s.env) s
+
+enlivened_keys : (o : Option Exec) (e : Env) → keys (enlivened o e).hand ≡ keys e.hand
+enlivened_keys None e = refl
+enlivened_keys (Some n) e = change_keys n.home (live_changed true n.serial) e
+
+forgotten_keys : (o : Option Exec) (e : Env) → keys (forgotten o e).hand ≡ keys e.hand
+forgotten_keys None e = refl
+forgotten_keys (Some n) e = change_keys n.home (slot_gone n.serial) e
+
+set_up_keys : (r : Routine) (h : Home) (s : State) → keys (written s.run.this (Running (new_exec h s.env)) (born h (fresh r s.run.this) s.env)).hand ≡ inside_of s
+set_up_keys r h s =
+    written_keys s.run.this (Running (new_exec h s.env)) (born h (fresh r s.run.this) s.env) ∙ change_keys h (one_more (fresh r s.run.this)) s.env
+
+set_up_keeps : (r : Option Routine) (todo : List Todo) (s : State) → Keeps (inside_of s) (set_up_step r todo s)
+set_up_keeps None todo s = refl
+set_up_keeps (Some r) todo s = set_up_keys r (home_at s.run.this s.env) s
+
+land_keeps : (o : Option Reason) (todo : List Todo) (s : State) → Keeps (inside_of s) (land_step o todo s)
+land_keeps None todo s = refl
+land_keeps (Some why) todo s = refl
+
+coroutine_keeps : (o : Option Reason) (todo : List Todo) (s : State) → Keeps (inside_of s) (coroutine_left o todo s)
+coroutine_keeps None todo s = escape_keeps (at todo [] s)
+coroutine_keeps (Some (reason.Event n x y)) todo s = escape_keeps (at todo [] s)
+coroutine_keeps (Some (reason.ReturnTo home)) todo s = refl
+coroutine_keeps (Some reason.Destroyed) todo s = taken_down_keeps (at todo [] s)
 
 outcome_keeps : (o : Outcome) (todo : List Todo) (vs : List Value) (s : State) → Keeps (inside_of s) (outcome_step o todo vs s)
 outcome_keeps (Gives n) todo vs s = refl
@@ -137,6 +226,7 @@ unwind_past_keeps (IsSweep e) todo s = refl
 unwind_past_keeps (IsPart c) todo s = refl
 unwind_past_keeps (IsGuard hs) todo s = guard_keeps hs s.run.raised todo s
 unwind_past_keeps IsFinish todo s = main_keeps s.run.raised todo s
+unwind_past_keeps IsFinishCoroutine todo s = coroutine_keeps s.run.raised todo s
 
 pass_keeps : (o : Option Reason) (c : Active) (cs : List Active) (s : State) → Keeps (inside_of s) (pass_on o c cs s)
 pass_keeps None c cs s = (refl, refl)
@@ -187,6 +277,7 @@ object_keeps (GetOwn k i) todo s = refl
 object_keeps (FieldOf k i a) todo s = refl
 object_keeps Counted todo s = refl
 object_keeps (CallOn r a es) todo s = refl
+object_keeps (CallLive r a es) todo s = refl
 object_keeps (CallUnwritten r a) todo s = refl
 object_keeps (EnterOn m r a es) todo s = refl
 object_keeps (Wait a b) todo s = refl
@@ -217,6 +308,16 @@ eval_keeps (First a b) todo s = refl
 eval_keeps (Call r es) todo s = refl
 eval_keeps (OfObject o) todo s = object_keeps o todo s
 
+task_keeps : (a : TaskStmt) (todo : List Todo) (s : State) → Keeps (inside_of s) (task_step a todo s)
+task_keeps (Resume line) todo s = refl
+task_keeps (Suspend line) todo s = refl
+task_keeps (SetUp r) todo s = refl
+task_keeps Enliven todo s = refl
+task_keeps TakeDown todo s = refl
+task_keeps (Yield line) todo s = refl
+task_keeps (Migrate line a) todo s = refl
+task_keeps (Accept line site cs) todo s = refl
+
 stmt_keeps : (a : Stmt) (todo : List Todo) (s : State) → Keeps (inside_of s) (stmt_step a todo s)
 stmt_keeps (Skip line) todo s = refl
 stmt_keeps (Block line body) todo s = refl
@@ -234,7 +335,7 @@ stmt_keeps (Return line None) todo s = refl
 stmt_keeps (Return line (Some e)) todo s = refl
 stmt_keeps (Fill line n b d) todo s = refl
 stmt_keeps (OfEvents a) todo s = event_keeps a todo s
-stmt_keeps (OfTasks a) todo s = refl
+stmt_keeps (OfTasks a) todo s = task_keeps a todo s
 
 rest_keeps : (ss : Stmts) (todo : List Todo) (s : State) → Keeps (inside_of s) (rest_step ss todo s)
 rest_keeps Nil todo s = refl
@@ -254,6 +355,10 @@ call_keeps (Some r) todo s = either_keeps (nat_lt s.env.links.calls CALLS) (insi
 call_on_keeps : (r : Option Routine) (todo : List Todo) (s : State) → Keeps (inside_of s) (call_on_step r todo s)
 call_on_keeps None todo s = (refl, refl)
 call_on_keeps (Some r) todo s = either_keeps (nat_lt s.env.links.calls CALLS) (inside_of s) _ _ refl (refl, refl)
+
+live_keeps : (r : Option Routine) (todo : List Todo) (s : State) → Keeps (inside_of s) (live_step r todo s)
+live_keeps None todo s = (refl, refl)
+live_keeps (Some r) todo s = either_keeps (is_live (exec_at (top (drop r.params s.run.operands)) s.env) s.env) (inside_of s) _ _ refl (refl, refl)
 
 sweep_keeps : (n : ℕ) (e : Expr) (todo : List Todo) (s : State) → Keeps (inside_of s) (sweep_step n e todo s)
 sweep_keeps zero e todo s = refl
@@ -326,7 +431,16 @@ module _ (source : Source) where
   act_keeps Unwind todo s = unwind_keeps todo s
   act_keeps ThrowNow todo s = refl
   act_keeps RaiseNow todo s = handle_keeps (seek None (event_in s.run.operands) (record s.run { control = todo } ∷ s.callers)) (event_in s.run.operands) todo s
+  act_keeps (SetUpNow r) todo s = set_up_keeps (slice_get source.routines r) todo s
+  act_keeps EnlivenNow todo s = enlivened_keys (own_exec s) s.env
+  act_keeps TakeDownNow todo s = take_down_keeps (own_exec s) (at todo s.run.operands s)
+  act_keeps ForgetNow todo s = forgotten_keys (own_exec s) s.env
+  act_keeps (LiveNow r) todo s = live_keeps (slice_get source.routines r) todo s
+  act_keeps ResumeNow todo s = wake_keeps (resumed s) (at (Land ∷ todo) s.run.operands s)
+  act_keeps SuspendNow todo s = suspend_keeps (at (Land ∷ todo) s.run.operands s)
+  act_keeps Land todo s = land_keeps s.run.raised todo s
   act_keeps Finish todo s = return_keeps q.nought s.callers s
+  act_keeps FinishCoroutine todo s = finish_keeps (at todo s.run.operands s)
 
   todo_keeps : (ts : List Todo) (s : State) → Keeps (inside_of s) (act_todo source ts s)
   todo_keeps [] s = return_keeps q.nought s.callers s

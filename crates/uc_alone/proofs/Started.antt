@@ -8,7 +8,8 @@ use Rattle.uc_code.specs.Codes.{Code}
 use Rattle.uc_code.specs.Lowered.{Lowered}
 use Rattle.uc_code.specs.Laid.{Laid, laid_of}
 use Rattle.uc_code.specs.declared.rows.RoutineCode.{RoutineCode}
-use Rattle.uc_frames.specs.Machine.{Machine, first_machine}
+use Rattle.uc_frames.specs.Keeping.{AllIdle}
+use Rattle.uc_frames.specs.Machine.{Machine, Cells, first_machine}
 use Rattle.uc_frames.proofs.Keeps.{first_kept}
 use Rattle.uc_frames.specs.Stands.{Stands}
 use Rattle.uc_step.specs.Falls.{Keeps}
@@ -46,4 +47,8 @@ unstarted code main source s l k h = s source h.routine l (subst (λ j. slice_ge
 pub begun_kept : (code : Code) (main own : ℕ) (m n : Machine) → ((r : RoutineCode) × (slice_get code.routines main ≡ Some r) × (m ≡ first_machine r own)) → n ≡ with_own m → Keeps code n
 begun_kept code main own m n (r, there, is) e =
     let f : n ≡ with_own (first_machine r own) = e ∙ ap with_own is in
-    first_kept (laid_of code) code.routines n (ap (λ (x : Machine). x.callers) f) (ap (λ (x : Machine). x.run.handles) f)
+    record {
+      run = first_kept (laid_of code) code.routines n (ap (λ (x : Machine). x.callers) f) (ap (λ (x : Machine). x.run.handles) f);
+      begun = ap (λ (x : Machine). x.env.links.stage) f;
+      others = subst (λ (x : Cells). AllIdle (laid_of code) code.routines x) (sym (ap (λ (x : Machine). x.env) f)) ((tt, tt), (tt, tt));
+    }

@@ -21,7 +21,7 @@ is_scalar_base base.Cluster = false
 is_scalar_base base.Processor = false
 is_scalar_base (base.Named name) = false
 
--- scalars, and objects: all classes of such a program are of kind `class`, but for its events, of which nothing is declared
+-- scalars, and objects: all classes of such a program are of kind `class` or coroutines, but for its events, of which nothing is declared
 abbrev pub is_built_base : Base → Bool
 is_built_base base.Void = false
 is_built_base base.Int = true
@@ -65,8 +65,8 @@ abbrev mutual
   is_built_stmt (Print pos items) = true
   is_built_stmt (PrintTogether pos items) = true
   is_built_stmt (Read pos places) = true
-  is_built_stmt (Resume pos) = false
-  is_built_stmt (Suspend pos) = false
+  is_built_stmt (Resume pos) = true
+  is_built_stmt (Suspend pos) = true
   is_built_stmt (Yield pos) = false
   is_built_stmt (Migrate pos cluster) = false
 
@@ -108,7 +108,7 @@ is_built_routine r = is_built_sig r.sig && are_built r.body
 
 abbrev pub is_built_kind : Kind → Bool
 is_built_kind kind.Class = true
-is_built_kind kind.Coroutine = false
+is_built_kind kind.Coroutine = true
 is_built_kind kind.Monitor = false
 is_built_kind kind.Cormonitor = false
 is_built_kind kind.Task = false

@@ -96,8 +96,8 @@ fn is_built_stmt(s: &Stmt) -> bool
         StmtForm::Print { .. } => true,
         StmtForm::PrintTogether { .. } => true,
         StmtForm::Read { .. } => true,
-        StmtForm::Resume => false,
-        StmtForm::Suspend => false,
+        StmtForm::Resume => true,
+        StmtForm::Suspend => true,
         StmtForm::Yield => false,
         StmtForm::Migrate { .. } => false,
     }
@@ -177,7 +177,7 @@ fn is_built_kind(kind: Kind) -> bool
 {
     match kind {
         Kind::Class => true,
-        Kind::Coroutine => false,
+        Kind::Coroutine => true,
         Kind::Monitor => false,
         Kind::Cormonitor => false,
         Kind::Task => false,

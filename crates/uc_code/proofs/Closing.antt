@@ -107,7 +107,7 @@ module _ (here entry : ℕ) where
   some_is a b e = cc
 
   row_is : (o : Opening) (n k : ℕ) (ms : List Mark) → row_in (opening_mark o n ∷ ms) ≡ Some k → n ≡ k
-  row_is (opening.Main routine line) n k ms e = some_is n k e
+  row_is (opening.Main main routine line) n k ms e = some_is n k e
   row_is (opening.Whole leave) n k ms e = some_is n k e
   row_is opening.Handler n k ms e = some_is n k e
   row_is (opening.Object what line) n k ms e = some_is n k e
@@ -116,7 +116,7 @@ module _ (here entry : ℕ) where
   row_is (opening.Outward below) n k ms e = some_is n k e
 
   clean_is : (o : Opening) (from n k : ℕ) (ms ns : List Mark) → handler_in (opening_mark o n ∷ ms) ≡ Some k → IsCleanUp (made o from ns)
-  clean_is (opening.Main routine line) from n k ms ns e = record { kind = refl; event = refl; rest = refl }
+  clean_is (opening.Main main routine line) from n k ms ns e = record { kind = refl; event = refl; rest = refl }
   clean_is (opening.Whole leave) from n k ms ns e = record { kind = refl; event = refl; rest = refl }
   clean_is opening.Handler from n k ms ns e = absurd (cc)
   clean_is (opening.Object what line) from n k ms ns e = record { kind = refl; event = refl; rest = refl }
@@ -125,7 +125,7 @@ module _ (here entry : ℕ) where
   clean_is (opening.Outward below) from n k ms ns e = absurd (cc)
 
   guard_is : (o : Opening) (n k : ℕ) (ms : List Mark) → guard_in (opening_mark o n ∷ ms) ≡ Some k → takes_events (opening_kind o) ≡ true
-  guard_is (opening.Main routine line) n k ms e = absurd (cc)
+  guard_is (opening.Main main routine line) n k ms e = absurd (cc)
   guard_is (opening.Whole leave) n k ms e = absurd (cc)
   guard_is opening.Handler n k ms e = refl
   guard_is (opening.Object what line) n k ms e = absurd (cc)

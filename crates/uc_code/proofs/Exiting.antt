@@ -4,6 +4,8 @@ use Rattle.uc_tree.specs.Source.{Way, ToBreak, ToContinue, ToReturn, ToEnd}
 use Rattle.uc_code.specs.declared.op.Op.{Op}
 use Rattle.uc_code.specs.declared.op.Op.TheVariants as op
 use Rattle.uc_code.specs.declared.rows.Array.{Array}
+use Rattle.uc_code.specs.declared.rows.Cleaning.{Cleaning}
+use Rattle.uc_code.specs.declared.rows.Cleaning.TheVariants as cleaning
 use Rattle.uc_code.specs.declared.rows.Mark.{Mark}
 use Rattle.uc_code.specs.declared.rows.Mark.TheVariants as mark
 use Rattle.uc_code.specs.declared.rows.ObjectCall.{ObjectCall}
@@ -55,12 +57,14 @@ module _ (code : Laid) (line : ℕ) (ms ns : List Mark) (h : handlers ms ≡ han
         handler = k.handler;
       }
 
-  pub clean_moves : (what : ObjectCall) (a z : ℕ) → CleanAt code line what ms a z → CleanAt code line what ns a z
-  clean_moves what a z k = by_moves what.array what a z k
+  pub clean_moves : (what : Cleaning) (a z : ℕ) → CleanAt code line what ms a z → CleanAt code line what ns a z
+  clean_moves (cleaning.Call what) a z k = by_moves what.array what a z k
+  clean_moves cleaning.TakeDown a z k = k
+  clean_moves cleaning.Forget a z k = k
 
 -- a clean-up on the way out: a row that performs nothing is around it
 
-module _ (what : ObjectCall) (row line : ℕ) (d0 d1 d2 d3 : Draft) (o1 : d1 ≡ opened (opening.Outward row) d0) (k1 : Kept (laid_in d0) (laid_in d1)) (p2 : Puts 17 (λ code. CleanAt code line what d1.marks) d1 d2) (c3 : d3 ≡ closed 1 d2) (k3 : Kept (laid_in d2) (laid_in d3)) where
+module _ (what : Cleaning) (row line : ℕ) (d0 d1 d2 d3 : Draft) (o1 : d1 ≡ opened (opening.Outward row) d0) (k1 : Kept (laid_in d0) (laid_in d1)) (p2 : Puts 17 (λ code. CleanAt code line what d1.marks) d1 d2) (c3 : d3 ≡ closed 1 d2) (k3 : Kept (laid_in d2) (laid_in d3)) where
   abbrev ns : List Mark
   ns = mark.Outward row (length d0.rows) ∷ d0.marks
 
@@ -141,13 +145,13 @@ pass_row all m rest row h r b f s p =
     }
 
 -- so the clean-up of a scope that is left has the rows around it
-pub passes_under : (all : List Mark) (what : ObjectCall) (line row : ℕ) (rest : List Mark) → Passing all (mark.Clean what line row ∷ rest) → handlers rest ≡ under row (handlers all)
+pub passes_under : (all : List Mark) (what : Cleaning) (line row : ℕ) (rest : List Mark) → Passing all (mark.Clean what line row ∷ rest) → handlers rest ≡ under row (handlers all)
 passes_under all what line row rest p =
     let low : Below p.bound (row ∷ handlers rest) = p.low in
     let l = low.0 in
     sym (p.cut row (omega arith) ∙ (drop_row row row (handlers rest) (omega arith) ∙ under_all row (handlers rest) p.falling.0))
 
-pub passes_clean : (all : List Mark) (what : ObjectCall) (line row : ℕ) (rest : List Mark) → Passing all (mark.Clean what line row ∷ rest) → Passing all rest
+pub passes_clean : (all : List Mark) (what : Cleaning) (line row : ℕ) (rest : List Mark) → Passing all (mark.Clean what line row ∷ rest) → Passing all rest
 passes_clean all what line row rest p = pass_row all (mark.Clean what line row) rest row refl refl p.falling.0 p.falling.1 p.behind.1 p
 
 pub passes_part : (all : List Mark) (row : ℕ) (rest : List Mark) → Passing all (mark.Part row ∷ rest) → Passing all rest
@@ -176,7 +180,7 @@ leaves_mark w old now m rest e f p = record {
   on = λ code z k h. p.on code z k (f code (length now.ops) z h);
 }
 
-clean_exit : (code : Laid) (w : Way) (what : ObjectCall) (line row : ℕ) (rest : List Mark) (a z : ℕ) → Both (CleanAt code line what rest) (ExitAt code w rest) a z → ExitAt code w (mark.Clean what line row ∷ rest) a z
+clean_exit : (code : Laid) (w : Way) (what : Cleaning) (line row : ℕ) (rest : List Mark) (a z : ℕ) → Both (CleanAt code line what rest) (ExitAt code w rest) a z → ExitAt code w (mark.Clean what line row ∷ rest) a z
 clean_exit code ToBreak what line row rest a z h = h
 clean_exit code ToContinue what line row rest a z h = h
 clean_exit code ToReturn what line row rest a z h = h
@@ -186,7 +190,7 @@ same_then : (a b c : Draft) → b ≡ record a { ops = b.ops; rows = b.rows; set
 same_then a b c h k = k ∙ ap (λ d. let e : Draft = record d { ops = c.ops; rows = c.rows; settled = c.settled } in e) h
 
 -- the scope of an object is left
-pub leaves_clean : (w : Way) (old now next : Draft) (what : ObjectCall) (line row : ℕ) (rest : List Mark) → Passing old.marks (mark.Clean what line row ∷ rest) → Leaves w old now (mark.Clean what line row ∷ rest) → PutsLeft what row line now next → Leaves w old next rest
+pub leaves_clean : (w : Way) (old now next : Draft) (what : Cleaning) (line row : ℕ) (rest : List Mark) → Passing old.marks (mark.Clean what line row ∷ rest) → Leaves w old now (mark.Clean what line row ∷ rest) → PutsLeft what row line now next → Leaves w old next rest
 leaves_clean w old now next what line row rest s p q =
     let m : now.marks ≡ old.marks = ap (λ (d : Draft). d.marks) p.same in
     let h : handlers rest ≡ under row (handlers now.marks) = passes_under old.marks what line row rest s ∙ ap (λ (ms : List Mark). under row (handlers ms)) (sym m) in

@@ -2,6 +2,8 @@
 use Rattle.std.proofs.Common.{◌≡◌, ℕ, zero, suc, ◌+◌, ◌*◌, ◌^◌, ◌<◌, ◌≤◌, List, [], ◌∷◌, Bool, true, false, Option, Some, length, refl, ap, sym, subst, ◌∙◌, arith}
 use Rattle.std.specs.Prelude.{slice_get}
 use Rattle.uc_code.specs.declared.op.Op.TheVariants as op
+use Rattle.uc_code.specs.declared.rows.MainOf.{MainOf}
+use Rattle.uc_code.specs.declared.rows.MainOf.TheVariants as main_of
 use Rattle.uc_code.specs.declared.rows.Handler.{Handler}
 use Rattle.uc_code.specs.declared.rows.HandlerRow.{HandlerRow}
 use Rattle.uc_code.specs.declared.rows.Mark.{Mark}
@@ -10,9 +12,9 @@ use Rattle.uc_code.specs.declared.rows.RoutineCode.{RoutineCode}
 use Rattle.uc_code.specs.declared.rows.RowKind.TheVariants.{CatchResume}
 use Rattle.uc_code.specs.Laid.{Laid, handlers, guards}
 use Rattle.uc_code.specs.Pace.{behind, height, power, In, AllIn, Text, Beneath}
-use Rattle.uc_code.specs.Ranges.{OpAt, Nothing, One, Both, WholeAt, MainAt, Guarded, HandledAt, ApartAt, HandlerAt, clean_up}
+use Rattle.uc_code.specs.Ranges.{OpAt, Nothing, One, Both, WholeAt, main_end, main_left, MainAt, Guarded, HandledAt, ApartAt, HandlerAt, clean_up}
 use Rattle.uc_code.specs.Lowered.{kind_of, handler_of, NamedAt}
-use Rattle.uc_code.proofs.Heights.{under_none, Outside, Plain, Each, Ahead, Around, around_less, clean_ahead, Below, beneath_of, paced_by, none, only, join, own_plain, jump_plain, jump_outside, jump_paced, Starts, burden_is, PadTo, pad_less, exit_paced, RowIn, row_in, Env, AllStay, stay_none, stay_one, stay_join}
+use Rattle.uc_code.proofs.Heights.{under_none, Outside, Plain, PacedAt, Each, Ahead, Around, around_less, clean_ahead, Below, beneath_of, paced_by, none, only, join, own_plain, jump_plain, jump_outside, jump_paced, Starts, burden_is, PadTo, pad_less, exit_paced, RowIn, row_in, Env, AllStay, stay_none, stay_one, stay_join}
 use Rattle.uc_code.proofs.Powers.{power_rises}
 use Rattle.uc_code.proofs.Pacing as pacing
 
@@ -76,42 +78,63 @@ module _ (code : Laid) (table : List RoutineCode) (any : Bool) where
 
   -- the statements of a main
 
-  unhandled_plain : (line a : ℕ) → OpAt code a op.Unhandled line → Outside code table (a + 1) → Plain code table a
-  unhandled_plain line a h o = own_plain code table a op.Unhandled line h (λ n k x. refl) (λ k t. refl) o
+  left_plain : (main : MainOf) (line a : ℕ) → OpAt code a (main_left main) line → Outside code table (a + 1) → Plain code table a
+  left_plain main_of.Task line a h o = own_plain code table a op.Unhandled line h (λ n k x. refl) (λ k t. refl) o
+  left_plain main_of.Coroutine line a h o = own_plain code table a op.Escape line h (λ n k x. refl) (λ k t. refl) o
 
-  module _ (number line : ℕ) (B : List Mark → ℕ → ℕ → Type 0) (b : (ns : List Mark) → Paces ns (B ns)) where
+  end_plain : (main : MainOf) (line a : ℕ) → OpAt code a (main_end main) line → Outside code table (a + 1) → Plain code table a
+  end_plain main_of.Task line a h o = own_plain code table a op.Return line h (λ n k x. refl) (λ k t. refl) o
+  end_plain main_of.Coroutine line a h o = own_plain code table a op.EndMain line h (λ n k x. refl) (λ k t. refl) o
+
+  left_paced : (main : MainOf) (line a : ℕ) → OpAt code a (main_left main) line → PacedAt code table a
+  left_paced main_of.Task line a h = paced_by code table a op.Unhandled line h tt
+  left_paced main_of.Coroutine line a h = paced_by code table a op.Escape line h tt
+
+  end_paced : (main : MainOf) (line a : ℕ) → OpAt code a (main_end main) line → PacedAt code table a
+  end_paced main_of.Task line a h = paced_by code table a op.Return line h tt
+  end_paced main_of.Coroutine line a h = paced_by code table a op.EndMain line h tt
+
+  left_stays : (main : MainOf) (from to floor line a z : ℕ) → OpAt code a (main_left main) line → z ≡ a + 1 → AllStay code table from to floor a z
+  left_stays main_of.Task from to floor line a z h e = stay_one code table from to floor a z op.Unhandled line h e tt
+  left_stays main_of.Coroutine from to floor line a z h e = stay_one code table from to floor a z op.Escape line h e tt
+
+  end_stays : (main : MainOf) (from to floor line a z : ℕ) → OpAt code a (main_end main) line → z ≡ a + 1 → AllStay code table from to floor a z
+  end_stays main_of.Task from to floor line a z h e = stay_one code table from to floor a z op.Return line h e tt
+  end_stays main_of.Coroutine from to floor line a z h e = stay_one code table from to floor a z op.EndMain line h e tt
+
+  module _ (main : MainOf) (number line : ℕ) (B : List Mark → ℕ → ℕ → Type 0) (b : (ns : List Mark) → Paces ns (B ns)) where
     abbrev marks : ℕ → List Mark
-    marks row = mark.Finish number line row ∷ []
+    marks row = mark.Finish main number line row ∷ []
 
-    pub main_rises : (a z : ℕ) → MainAt code number line B a z → a < z
+    pub main_rises : (a z : ℕ) → MainAt code main number line B a z → a < z
     main_rises a z h = let k = (b (marks h.row)).rises a h.body_end h.body in let e = h.end in omega arith
 
-    pub main_ends : (a z : ℕ) (h : MainAt code number line B a z) → Outside code table z → Plain code table (h.body_end + 1)
-    main_ends a z h o = let e : z ≡ (h.body_end + 1) + 1 = (let i = h.end in omega arith) in unhandled_plain line (h.body_end + 1) h.unwound (subst (Outside code table) e o)
+    pub main_ends : (a z : ℕ) (h : MainAt code main number line B a z) → Outside code table z → Plain code table (h.body_end + 1)
+    main_ends a z h o = let e : z ≡ (h.body_end + 1) + 1 = (let i = h.end in omega arith) in left_plain main line (h.body_end + 1) h.unwound (subst (Outside code table) e o)
 
-    returns_plain : (a z : ℕ) (h : MainAt code number line B a z) → Outside code table z → Plain code table h.body_end
-    returns_plain a z h o = let u = main_ends a z h o in own_plain code table h.body_end op.Return line h.returns (λ n k x. refl) (λ k t. refl) u.outside
+    returns_plain : (a z : ℕ) (h : MainAt code main number line B a z) → Outside code table z → Plain code table h.body_end
+    returns_plain a z h o = let u = main_ends a z h o in end_plain main line h.body_end h.returns u.outside
 
-    pub main_plain : (a z : ℕ) → MainAt code number line B a z → Outside code table z → Plain code table a
+    pub main_plain : (a z : ℕ) → MainAt code main number line B a z → Outside code table z → Plain code table a
     main_plain a z h o = (b (marks h.row)).plain a h.body_end h.body (returns_plain a z h o)
 
-    pub main_each : Starts code table → (a z : ℕ) (h : MainAt code number line B a z) → ((y : ℕ) → y ≤ z → Around code table (mark.Body number ∷ []) y) → Outside code table z → Each code table a z
+    pub main_each : Starts code table → (a z : ℕ) (h : MainAt code main number line B a z) → ((y : ℕ) → y ≤ z → Around code table (mark.Body number ∷ []) y) → Outside code table z → Each code table a z
     main_each q a z h f o =
         let u = main_ends a z h o in
         let e = h.end in
         let around : Around code table (marks h.row) h.body_end = (clean_ahead code table h.row (h.body_end + 1) h.body_end [] h.handler u (omega arith), (f h.body_end (omega arith)).0, refl) in
         join code table a h.body_end z ((b (marks h.row)).each q a h.body_end h.body around (returns_plain a z h o)) (
-        join code table h.body_end (h.body_end + 1) z (only code table h.body_end (h.body_end + 1) refl (paced_by code table h.body_end op.Return line h.returns tt))
-        (only code table (h.body_end + 1) z (omega arith) (paced_by code table (h.body_end + 1) op.Unhandled line h.unwound tt)))
+        join code table h.body_end (h.body_end + 1) z (only code table h.body_end (h.body_end + 1) refl (end_paced main line h.body_end h.returns))
+        (only code table (h.body_end + 1) z (omega arith) (left_paced main line (h.body_end + 1) h.unwound)))
 
-    pub main_stays : (to floor a z : ℕ) → MainAt code number line B a z → z ≤ to → Loud floor to → AllStay code table a to floor a z
+    pub main_stays : (to floor a z : ℕ) → MainAt code main number line B a z → z ≤ to → Loud floor to → AllStay code table a to floor a z
     main_stays to floor a z h l x =
         let e = h.end in
         let k = (b (marks h.row)).rises a h.body_end h.body in
         let g = row_in code table a to h.row (clean_up (h.body_end + 1)) h.handler (record { first = omega arith; last = omega arith }) in
         stay_join code table a to floor a h.body_end z ((b (marks h.row)).stays a to floor a h.body_end h.body (g, tt) (omega arith) (omega arith) x) (
-        stay_join code table a to floor h.body_end (h.body_end + 1) z (stay_one code table a to floor h.body_end (h.body_end + 1) op.Return line h.returns refl tt)
-        (stay_one code table a to floor (h.body_end + 1) z op.Unhandled line h.unwound (omega arith) tt))
+        stay_join code table a to floor h.body_end (h.body_end + 1) z (end_stays main a to floor line h.body_end (h.body_end + 1) h.returns refl)
+        (left_stays main a to floor line (h.body_end + 1) z h.unwound (omega arith)))
 
   -- the code of one handler, which may go on at this pad
   pub record Handles (ms : List Mark) (resumes : Bool) (K : ℕ → ℕ → ℕ → Type 0) : Type 0 where

@@ -206,7 +206,7 @@ rows_few here rs ms Bare = omega arith
 rows_few here rs ms (Ended r qs _ l n) = let k = rows_few here qs ms n in omega arith
 rows_few here rs ms (InBody routine _ ns n) = rows_few here rs ns n
 rows_few here rs ms (InLoop leave again _ ns n) = rows_few here rs ns n
-rows_few here rs ms (InRow (opening.Main routine line) from qs ns l n) = let k = rows_few here qs ns n in omega arith
+rows_few here rs ms (InRow (opening.Main main routine line) from qs ns l n) = let k = rows_few here qs ns n in omega arith
 rows_few here rs ms (InRow (opening.Whole leave) from qs ns l n) = let k = rows_few here qs ns n in omega arith
 rows_few here rs ms (InRow opening.Handler from qs ns l n) = let k = rows_few here qs ns n in omega arith
 rows_few here rs ms (InRow (opening.Object what line) from qs ns l n) = let k = rows_few here qs ns n in omega arith

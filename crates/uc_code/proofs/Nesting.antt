@@ -58,7 +58,7 @@ other_name r rs ns b = other_row r rs (named_by ns) (name_small (length rs) ns b
 
 -- the number of the row that an opening makes, where it is a handler, before those around it
 abbrev own_in : Opening → ℕ → List ℕ
-own_in (opening.Main routine line) n = n ∷ []
+own_in (opening.Main main routine line) n = n ∷ []
 own_in (opening.Whole leave) n = n ∷ []
 own_in opening.Handler n = n ∷ []
 own_in (opening.Object what line) n = n ∷ []
@@ -67,7 +67,7 @@ own_in opening.Elements n = n ∷ []
 own_in (opening.Outward below) n = []
 
 handlers_in : (o : Opening) (n : ℕ) (ms : List Mark) → handlers (opening_mark o n ∷ ms) ≡ own_in o n ++ opening_around o ms
-handlers_in (opening.Main routine line) n ms = refl
+handlers_in (opening.Main main routine line) n ms = refl
 handlers_in (opening.Whole leave) n ms = refl
 handlers_in opening.Handler n ms = refl
 handlers_in (opening.Object what line) n ms = refl
@@ -76,7 +76,7 @@ handlers_in opening.Elements n ms = refl
 handlers_in (opening.Outward below) n ms = refl
 
 counted_in : (o : Opening) (n : ℕ) → counted_by (opening_kind o) (opening_event o) n ≡ own_in o n
-counted_in (opening.Main routine line) n = refl
+counted_in (opening.Main main routine line) n = refl
 counted_in (opening.Whole leave) n = refl
 counted_in opening.Handler n = refl
 counted_in (opening.Object what line) n = refl
@@ -90,7 +90,7 @@ module _ (here : ℕ) where
   all_below rs ms (Ended r qs _ l n) = below_rise (length qs) (length rs) (handlers ms) (omega arith) (all_below qs ms n)
   all_below rs ms (InBody routine _ qs n) = all_below rs qs n
   all_below rs ms (InLoop leave again _ qs n) = all_below rs qs n
-  all_below rs ms (InRow (opening.Main routine line) from qs ns l n) = (omega arith, below_rise (length qs) (length rs) (handlers ns) (omega arith) (all_below qs ns n))
+  all_below rs ms (InRow (opening.Main main routine line) from qs ns l n) = (omega arith, below_rise (length qs) (length rs) (handlers ns) (omega arith) (all_below qs ns n))
   all_below rs ms (InRow (opening.Whole leave) from qs ns l n) = (omega arith, below_rise (length qs) (length rs) (handlers ns) (omega arith) (all_below qs ns n))
   all_below rs ms (InRow opening.Handler from qs ns l n) = (omega arith, below_rise (length qs) (length rs) (handlers ns) (omega arith) (all_below qs ns n))
   all_below rs ms (InRow (opening.Object what line) from qs ns l n) = (omega arith, below_rise (length qs) (length rs) (handlers ns) (omega arith) (all_below qs ns n))
@@ -121,7 +121,7 @@ module _ (here : ℕ) where
   named rs ms (Ended r qs _ l n) below = other_name r qs (under below (handlers ms)) (below_under (length qs) below (handlers ms) (all_below qs ms n)) ∙ named qs ms n below
   named rs ms (InBody routine _ qs n) below = named rs qs n below
   named rs ms (InLoop leave again _ qs n) below = named rs qs n below
-  named rs ms (InRow (opening.Main routine line) from qs ns l n) below = named_own (opening.Main routine line) from below qs ns (all_below qs ns n) (λ b. named qs ns n b) refl refl
+  named rs ms (InRow (opening.Main main routine line) from qs ns l n) below = named_own (opening.Main main routine line) from below qs ns (all_below qs ns n) (λ b. named qs ns n b) refl refl
   named rs ms (InRow (opening.Whole leave) from qs ns l n) below = named_own (opening.Whole leave) from below qs ns (all_below qs ns n) (λ b. named qs ns n b) refl refl
   named rs ms (InRow opening.Handler from qs ns l n) below = named_own opening.Handler from below qs ns (all_below qs ns n) (λ b. named qs ns n b) refl refl
   named rs ms (InRow (opening.Object what line) from qs ns l n) below = named_own (opening.Object what line) from below qs ns (all_below qs ns n) (λ b. named qs ns n b) refl refl
@@ -139,7 +139,7 @@ module _ (here : ℕ) where
       ap (λ l. from_row qs (named_by l)) (sym same) ∙ (named qs ns n (length qs) ∙ same)
 
   around_named : (o : Opening) (qs : List HandlerRow) (ns : List Mark) → Nested here qs ns → from_row qs (named_by (opening_around o ns)) ≡ opening_around o ns
-  around_named (opening.Main routine line) qs ns n = all_named qs ns n
+  around_named (opening.Main main routine line) qs ns n = all_named qs ns n
   around_named (opening.Whole leave) qs ns n = all_named qs ns n
   around_named opening.Handler qs ns n = all_named qs ns n
   around_named (opening.Object what line) qs ns n = all_named qs ns n
@@ -181,7 +181,7 @@ falls here rs ms Bare = tt
 falls here rs ms (Ended r qs _ l n) = falls here qs ms n
 falls here rs ms (InBody routine _ qs n) = falls here rs qs n
 falls here rs ms (InLoop leave again _ qs n) = falls here rs qs n
-falls here rs ms (InRow (opening.Main routine line) from qs ns l n) = (all_below here qs ns n, falls here qs ns n)
+falls here rs ms (InRow (opening.Main main routine line) from qs ns l n) = (all_below here qs ns n, falls here qs ns n)
 falls here rs ms (InRow (opening.Whole leave) from qs ns l n) = (all_below here qs ns n, falls here qs ns n)
 falls here rs ms (InRow opening.Handler from qs ns l n) = (all_below here qs ns n, falls here qs ns n)
 falls here rs ms (InRow (opening.Object what line) from qs ns l n) = (all_below here qs ns n, falls here qs ns n)

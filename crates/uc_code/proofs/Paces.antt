@@ -2,19 +2,21 @@
 use Rattle.std.proofs.Common.{◌≡◌, ℕ, zero, suc, ◌+◌, ◌-◌, ◌<◌, ◌≤◌, max, pos, List, [], ◌∷◌, Bool, true, false, Option, Some, None, length, refl, sym, subst, ◌∙◌, arith}
 use Rattle.std.specs.Prelude.{slice_get}
 use Rattle.std.proofs.lemmas.Option.{slice_get_within}
-use Rattle.uc_tree.specs.Source.{Shape, Integer, Character, Truth, Binding, Last, Field, Array, shape_cells, field_cells, Operator, Plus, Minus, Times, Over, Modulo, Equal, NotEqual, Less, AtMost, Greater, AtLeast, Expr, Literal, Variable, Element, Get, Load, Negated, Not, AsCharacter, AsTruth, Operate, And, Or, Set, Assign, First, Update, StepBehind, Fail, Call, OfObject, ObjectExpr, This, OwnField, GetOwn, FieldOf, Counted, CallOn, CallUnwritten, EnterOn, Wait, Signal, SignalBlock, IsEmpty, FrontOf, Exprs, NoExprs, MoreExprs, Item, Show, ShowText, Target, Declared, Stmt, Skip, Block, Whole, Evaluate, Declare, Print, PrintTogether, Read, If, Loop, Break, Continue, Return, Fill, OfEvents, OfTasks, EventStmt, Throw, Raise, Try, RaiseAt, Enable, Disable, Raised, Plainly, BuiltAt as BuildsAt, AgainFrom, Handlers, NoHandlers, MoreHandlers, Stmts, Nil, Then, Scoped, Built, Way, ToBreak, ToContinue, ToReturn, ToEnd, Purpose, TaskMain, Procedure, Function, Builder, Routine, Source}
+use Rattle.uc_tree.specs.Source.{Shape, Integer, Character, Truth, Binding, Last, Field, Array, shape_cells, field_cells, Operator, Plus, Minus, Times, Over, Modulo, Equal, NotEqual, Less, AtMost, Greater, AtLeast, Expr, Literal, Variable, Element, Get, Load, Negated, Not, AsCharacter, AsTruth, Operate, And, Or, Set, Assign, First, Update, StepBehind, Fail, Call, OfObject, ObjectExpr, This, OwnField, GetOwn, FieldOf, Counted, CallOn, CallUnwritten, CallLive, EnterOn, Wait, Signal, SignalBlock, IsEmpty, FrontOf, Exprs, NoExprs, MoreExprs, Item, Show, ShowText, Target, Declared, Stmt, Skip, Block, Whole, Evaluate, Declare, Print, PrintTogether, Read, If, Loop, Break, Continue, Return, Fill, OfEvents, OfTasks, TaskStmt, Resume, Suspend, SetUp, Enliven, TakeDown, Yield, Migrate, Accept, EventStmt, Throw, Raise, Try, RaiseAt, Enable, Disable, Raised, Plainly, BuiltAt as BuildsAt, AgainFrom, Handlers, NoHandlers, MoreHandlers, Stmts, Nil, Then, Scoped, Built, Way, ToBreak, ToContinue, ToReturn, ToEnd, Purpose, TaskMain, CoroutineMain, Procedure, Function, Builder, Routine, Source}
 use Rattle.uc_tree.specs.Hidden.{EVENT_FIELDS}
 use Rattle.uc_code.specs.declared.op.Op.{Op}
 use Rattle.uc_code.specs.declared.op.Op.TheVariants as op
+use Rattle.uc_code.specs.declared.rows.MainOf.{MainOf}
+use Rattle.uc_code.specs.declared.rows.MainOf.TheVariants as main_of
 use Rattle.uc_code.specs.declared.rows.Mark.{Mark}
 use Rattle.uc_code.specs.declared.rows.Mark.TheVariants as mark
 use Rattle.uc_code.specs.declared.rows.RoutineCode.{RoutineCode}
 use Rattle.uc_code.specs.Codes.{Code}
 use Rattle.uc_code.specs.Laid.{Laid, laid_of}
-use Rattle.uc_code.specs.Pace.{climb_op, above, Test, test_by, In, Stays, Text, Mute, Onward, Paced, IsPaced}
-use Rattle.uc_code.specs.Ranges.{OpAt, One, Both, Fork}
-use Rattle.uc_code.specs.Silent.{silent, silent_all}
-use Rattle.uc_code.specs.Lowered.{operator_op, item_op, handler_rows, ConvertAt, ExprAt, ObjectAt, ArgumentsAt, ValueAt, ItemsAt, ValuesAt, PiecesAt, TogetherAt, TargetsAt, StartAt, VariablesAt, RaisedAt, FieldsAt, KeepAt, KeepsAt, ExitAt, StepAt, HandlerBy, StmtAt, EventAt, HandlersAt, StmtsAt, BodyAt, RoutineAt, RoutinesAt, Lowered}
+use Rattle.uc_code.specs.Pace.{climb_op, above, Test, test_by, In, Stays, Mute, Onward, Paced, IsPaced}
+use Rattle.uc_code.specs.Ranges.{OpAt, One, Both, Fork, main_end, MainAt}
+use Rattle.uc_code.specs.Silent.{silent, silent_all, silent_task}
+use Rattle.uc_code.specs.Lowered.{operator_op, item_op, handler_rows, ConvertAt, ExprAt, ObjectAt, ArgumentsAt, ValueAt, ItemsAt, ValuesAt, PiecesAt, TogetherAt, TargetsAt, StartAt, VariablesAt, RaisedAt, FieldsAt, KeepAt, KeepsAt, ExitAt, StepAt, HandlerBy, TaskAt, StmtAt, EventAt, HandlersAt, StmtsAt, BodyAt, RoutineAt, RoutinesAt, Lowered}
 use Rattle.uc_code.proofs.Heights.{Outside, Plain, PacedAt, Each, Around, paced_by, none, only, join, within, own_plain, outside_next, Starts, Further, down, height_is, outside_end, AllStay, stay_one, stay_join}
 use Rattle.uc_code.proofs.Pacing as pacing
 use Rattle.uc_code.proofs.Spans as spans
@@ -96,6 +98,7 @@ module _ (code : Laid) (table : List RoutineCode) (any : Bool) where
     object_paces ms line (FieldOf s i e) = both ms (expr_paces ms line e) (onward ms (op.Field (field_cells s i)) line (λ n k h. refl) (λ k t. refl) (λ at l. l) (λ from to floor at i. i))
     object_paces ms line Counted = onward ms op.Counted line (λ n k h. refl) (λ k t. refl) (λ at l. l) (λ from to floor at i. i)
     object_paces ms line (CallOn r e es) = both ms (expr_paces ms line e) (both ms (args_paces ms line es) (pacing.call_on_paces code table any ms line r))
+    object_paces ms line (CallLive r e es) = both ms (expr_paces ms line e) (both ms (args_paces ms line es) (pacing.call_live_paces code table any ms line r))
     object_paces ms line (CallUnwritten r e) = both ms (expr_paces ms line e) (pacing.calls_behind_paces code table any ms line r)
     object_paces ms line (EnterOn m r e es) = pacing.never_paces code table any ms
     object_paces ms line (Wait c n) = pacing.never_paces code table any ms
@@ -167,6 +170,10 @@ module _ (code : Laid) (table : List RoutineCode) (any : Bool) where
   drop_paces : (ms : List Mark) (line : ℕ) → Paces ms (One code op.Discard line)
   drop_paces ms line = onward ms op.Discard line (λ n k h. refl) (λ k t. refl) (λ at l. l) (λ from to floor at i. i)
 
+  end_paces : (main : MainOf) (ms : List Mark) (line : ℕ) → Paces ms (One code (main_end main) line)
+  end_paces main_of.Task ms line = pacing.return_paces code table any ms line
+  end_paces main_of.Coroutine ms line = pacing.main_end_paces code table any ms line
+
   exit_paces : (w : Way) (ms : List Mark) → Paces ms (ExitAt code w ms)
   exit_paces ToBreak [] = pacing.return_paces code table any [] 0
   exit_paces ToContinue [] = pacing.return_paces code table any [] 0
@@ -176,7 +183,7 @@ module _ (code : Laid) (table : List RoutineCode) (any : Bool) where
   exit_paces ToContinue (mark.Body routine ∷ ms) = pacing.return_paces code table any (mark.Body routine ∷ ms) 0
   exit_paces ToReturn (mark.Body routine ∷ ms) = pacing.value_return_paces code table any (mark.Body routine ∷ ms) 0
   exit_paces ToEnd (mark.Body routine ∷ ms) = pacing.none_return_paces code table any (mark.Body routine ∷ ms) 0
-  exit_paces w (mark.Finish routine line row ∷ ms) = pacing.return_paces code table any (mark.Finish routine line row ∷ ms) line
+  exit_paces w (mark.Finish main routine line row ∷ ms) = end_paces main (mark.Finish main routine line row ∷ ms) line
   exit_paces ToBreak (mark.Loop leave again ∷ ms) = pacing.leave_paces code table any ms leave again
   exit_paces ToContinue (mark.Loop leave again ∷ ms) = pacing.again_paces code table any ms leave again
   exit_paces ToReturn (mark.Loop leave again ∷ ms) = pacing.in_loop code table any ms leave again (exit_paces ToReturn ms)
@@ -203,6 +210,16 @@ module _ (code : Laid) (table : List RoutineCode) (any : Bool) where
 
   no_silence : {X : Type 0} → any ≡ true → any ≡ false → X
   no_silence t e = let f : true ≡ false = sym t ∙ e in absurd (cc)
+
+  task_paces : (ms : List Mark) (s : TaskStmt) → (any ≡ false → silent_task s) → Paces ms (TaskAt code ms s)
+  task_paces ms (Resume line) f = both ms (pacing.resume_paces code table any (raised_any any f) ms line) (pacing.land_paces code table any ms line)
+  task_paces ms (Suspend line) f = both ms (onward ms op.Suspend line (λ n k h. refl) (λ k t. refl) (λ at l. l) (λ from to floor at i. i)) (pacing.land_paces code table any ms line)
+  task_paces ms (SetUp r) f = pacing.set_up_paces code table any ms 0 r
+  task_paces ms Enliven f = onward ms op.Live 0 (λ n k h. refl) (λ k t. refl) (λ at l. l) (λ from to floor at i. i)
+  task_paces ms TakeDown f = onward ms op.UnwindCoroutine 0 (λ n k h. refl) (λ k t. refl) (λ at l. l) (λ from to floor at i. i)
+  task_paces ms (Yield line) f = pacing.never_paces code table any ms
+  task_paces ms (Migrate line e) f = pacing.never_paces code table any ms
+  task_paces ms (Accept line site cs) f = pacing.never_paces code table any ms
 
   catches_paces : (ms : List Mark) (line cell : ℕ) (B : List Mark → ℕ → ℕ → Type 0) → ((ns : List Mark) → Paces ns (B ns)) → blocks.Handles code table any ms false (λ pad. Both (KeepsAt code line cell) (Both (B ms) (One code (op.Jump pad) line)))
   catches_paces ms line cell B b =
@@ -232,7 +249,7 @@ module _ (code : Laid) (table : List RoutineCode) (any : Bool) where
     stmt_paces ms (Return line (Some e)) f = both ms (expr_paces ms line e) (exit_paces ToReturn ms)
     stmt_paces ms (Fill line n b d) f = spans.filled_paces code table any ms line n b d
     stmt_paces ms (OfEvents s) f = event_paces ms s (raised_any any f)
-    stmt_paces ms (OfTasks s) f = pacing.never_paces code table any ms
+    stmt_paces ms (OfTasks s) f = task_paces ms s f
 
     event_paces : (ms : List Mark) (s : EventStmt) → any ≡ true → Paces ms (EventAt code ms s)
     event_paces ms (Throw line r) t = both ms (raised_paces ms line r) (pacing.throw_paces code table any ms line)
@@ -312,18 +329,19 @@ module _ (code : Laid) (table : List RoutineCode) (any : Bool) where
         (stay_one code table a z floor h.second.middle z op.Return 0 h.second.second.here h.second.second.end tt));
   }
 
-  main_ends : (number line : ℕ) (ss : Stmts) → (any ≡ false → silent_all ss) → Ends number (BodyAt code TaskMain number line ss)
-  main_ends number line ss f =
+  main_ends : (main : MainOf) (number line : ℕ) (ss : Stmts) → (any ≡ false → silent_all ss) → Ends number (MainAt code main number line (λ ms. StmtsAt code ms line ss))
+  main_ends main number line ss f =
       let b = λ (ns : List Mark). stmts_paces ns line ss f in
       record {
-        rises = λ a z h. blocks.main_rises code table any number line (λ ms. StmtsAt code ms line ss) b a z h;
-        plain = λ a z h o. blocks.main_plain code table any number line (λ ms. StmtsAt code ms line ss) b a z h o;
-        each = λ q a z h g o. blocks.main_each code table any number line (λ ms. StmtsAt code ms line ss) b q a z h g o;
-        stays = λ floor a z h x. blocks.main_stays code table any number line (λ ms. StmtsAt code ms line ss) b z floor a z h (omega arith) x;
+        rises = λ a z h. blocks.main_rises code table any main number line (λ ms. StmtsAt code ms line ss) b a z h;
+        plain = λ a z h o. blocks.main_plain code table any main number line (λ ms. StmtsAt code ms line ss) b a z h o;
+        each = λ q a z h g o. blocks.main_each code table any main number line (λ ms. StmtsAt code ms line ss) b q a z h g o;
+        stays = λ floor a z h x. blocks.main_stays code table any main number line (λ ms. StmtsAt code ms line ss) b z floor a z h (omega arith) x;
       }
 
   pub routine_ends : (p : Purpose) (number line : ℕ) (ss : Stmts) → (any ≡ false → silent_all ss) → Ends number (BodyAt code p number line ss)
-  routine_ends TaskMain number line ss f = main_ends number line ss f
+  routine_ends TaskMain number line ss f = main_ends main_of.Task number line ss f
+  routine_ends CoroutineMain number line ss f = main_ends main_of.Coroutine number line ss f
   routine_ends Procedure number line ss f = body_ends number 0 (StmtsAt code (mark.Body number ∷ []) line ss) (stmts_paces (mark.Body number ∷ []) line ss f)
   routine_ends Function number line ss f = function_ends number line (StmtsAt code (mark.Body number ∷ []) line ss) (stmts_paces (mark.Body number ∷ []) line ss f)
   routine_ends Builder number line ss f = body_ends number 0 (StmtsAt code (mark.Body number ∷ []) 0 ss) (stmts_paces (mark.Body number ∷ []) 0 ss f)

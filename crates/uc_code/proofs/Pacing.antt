@@ -7,10 +7,11 @@ use Rattle.uc_code.specs.declared.rows.Mark.{Mark}
 use Rattle.uc_code.specs.declared.rows.Mark.TheVariants as mark
 use Rattle.uc_code.specs.declared.rows.RoutineCode.{RoutineCode}
 use Rattle.uc_code.specs.Laid.{Laid, handlers, chain}
-use Rattle.uc_code.specs.Pace.{behind, climb_op, height, power, Test, test_by, In, Risks, Stays, Waits, Calling, High, Onward, Paced}
+use Rattle.uc_code.specs.Pace.{behind, climb_op, height, power, Test, test_by, above, In, Risks, Stays, Waits, Calling, Begins, High, Onward, Paced}
 use Rattle.uc_code.specs.Ranges.{OpAt, Nothing, Never, One, Risk, CallsBehind, Both, Fork, pads_at, begin_at, BackAt, Turns}
 use Rattle.uc_code.specs.Lowered.{Any}
-use Rattle.uc_code.proofs.Heights.{Outside, Plain, PacedAt, Each, Around, around_less, further_of, paced_by, none, only, join, within, onward_plain, onward_falls, own_plain, outside_next, jump_plain, jump_outside, jump_paced, zero_paced, tick_plain, tick_paced, back_paced, back_test_paced, Starts, calling, down, risky, waits_at, raises_at, high_waits, waiting_more, exit_paced, PadTo, height_is, Env, AllStay, stay_none, stay_one, stay_join, risks_in}
+use Rattle.uc_code.proofs.Powers.{power_less, power_room_less}
+use Rattle.uc_code.proofs.Heights.{Outside, Plain, PacedAt, Each, Around, around_less, further_of, paced_by, none, only, join, within, burden_is, onward_lower, onward_plain, onward_falls, own_plain, outside_next, jump_plain, jump_outside, jump_paced, zero_paced, tick_plain, tick_paced, back_paced, back_test_paced, Starts, calling, down, risky, waits_at, raises_at, high_waits, waiting_more, exit_paced, PadTo, height_is, Env, AllStay, stay_none, stay_one, stay_join, risks_in}
 
 module _ (code : Laid) (table : List RoutineCode) (any : Bool) where
   -- the number above which raises stand in a text that ends there, if there are any
@@ -136,6 +137,38 @@ module _ (code : Laid) (table : List RoutineCode) (any : Bool) where
   pub call_on_paces : (ms : List Mark) (line r : ℕ) → Paces ms (Both (One code op.Tick line) (Risk code ms (op.CallOn r) line))
   call_on_paces ms line r = high_paces ms line r (op.CallOn r) (λ n k h. refl) (λ k t. refl) (λ at p. p) (λ from to floor at s. s)
 
+  -- so does a call of a coroutine's member, which must be live
+  alive_outside : (ms : List Mark) (line r a z : ℕ) → Both (One code (op.Alive r) line) (Risk code ms (op.CallOn r) line) a z → Outside code table z → Outside code table a
+  alive_outside ms line r a z h o =
+      let k : Outside code table h.middle = outside_next code table h.middle (op.CallOn r) line h.second.here (λ k t. refl) (subst (Outside code table) h.second.end o) in
+      outside_next code table a (op.Alive r) line h.first.here (λ k t. refl) (subst (Outside code table) h.first.end k)
+
+  pub call_live_paces : (ms : List Mark) (line r : ℕ) → Paces ms (Both (One code op.Tick line) (Both (One code (op.Alive r) line) (Risk code ms (op.CallOn r) line)))
+  call_live_paces ms line r = record {
+    rises = λ a z h. let e = h.first.end in let f = h.second.first.end in let i = h.second.second.end in omega arith;
+    plain = λ a z h p. tick_plain code table a line h.first.here (subst (Outside code table) h.first.end (alive_outside ms line r h.middle z h.second p.outside));
+    each = λ q a z h x p.
+        let c = h.second in
+        let e : c.middle ≡ h.middle + 1 = c.first.end in
+        let u : chain code.rows (c.middle + 1) ≡ handlers ms = subst (λ n. chain code.rows n ≡ handlers ms) c.second.end c.second.under in
+        let y : Around code table ms (c.middle + 1) = subst (Around code table ms) c.second.end x in
+        let b : Outside code table (c.middle + 1) = subst (Outside code table) c.second.end p.outside in
+        let o : Outside code table (h.middle + 1) = subst (Outside code table) e (outside_next code table c.middle (op.CallOn r) line c.second.here (λ k t. refl) b) in
+        let w : Outside code table h.middle = outside_next code table h.middle (op.Alive r) line c.first.here (λ k t. refl) o in
+        join code table a h.middle z (only code table a h.middle h.first.end (tick_paced code table a line h.first.here)) (
+        join code table h.middle c.middle z (only code table h.middle c.middle c.first.end (paced_by code table h.middle (op.Alive r) line c.first.here (down code table h.middle (h.middle + 1) w o (onward_lower code table h.middle (op.Alive r) line c.first.here (λ n k h. refl)))))
+        (only code table c.middle z c.second.end (paced_by code table c.middle (op.CallOn r) line c.second.here (high_waits code table c.middle r line (op.CallOn r) ms c.second.here u (λ n k h. refl) (λ k t. refl) q (subst (Plain code table) c.second.end p) y))));
+    stays = λ from to floor a z h n l m x.
+        let c = h.second in
+        let e = h.first.end in
+        let f = c.first.end in
+        let i = c.second.end in
+        let u : chain code.rows (c.middle + 1) ≡ handlers ms = subst (λ n. chain code.rows n ≡ handlers ms) c.second.end c.second.under in
+        stay_join code table from to floor a h.middle z (stay_one code table from to floor a h.middle op.Tick line h.first.here h.first.end (next_in from to a h.middle h.first.end l (omega arith))) (
+        stay_join code table from to floor h.middle c.middle z (stay_one code table from to floor h.middle c.middle (op.Alive r) line c.first.here c.first.end (next_in from to h.middle c.middle c.first.end (omega arith) (omega arith)))
+        (stay_one code table from to floor c.middle z (op.CallOn r) line c.second.here c.second.end (next_in from to c.middle z c.second.end (omega arith) m, risks_in code table from to c.middle ms u n)));
+  }
+
   pub calls_behind_paces : (ms : List Mark) (line r : ℕ) → Paces ms (CallsBehind code ms r line)
   calls_behind_paces ms line r = record {
     rises = λ a z h. let e = h.risk.end in omega arith;
@@ -202,6 +235,46 @@ module _ (code : Laid) (table : List RoutineCode) (any : Bool) where
       (λ at w e u y p o. let l = p.low in (risky code table at ms u w (omega arith) y, down code table at (at + 1) o p.outside (omega arith)))
       (λ from to floor at w e l x i r. (i, r))
 
+  -- where a switch comes back
+  pub land_paces : (ms : List Mark) (line : ℕ) → Paces ms (Risk code ms op.Land line)
+  land_paces ms line =
+      risk_paces ms op.Land line (λ n k h. refl) (λ k t. refl)
+      (λ at w e u y p o. let l = p.low in (risky code table at ms u w (omega arith) y, down code table at (at + 1) o p.outside (omega arith)))
+      (λ from to floor at w e l x i r. (i, r))
+
+  -- a coroutine is resumed in what is not silent
+
+  loud_low : any ≡ true → (floor to : ℕ) → Loud floor to → floor < above code.ops
+  loud_low t floor to x =
+      let f : Allowed true floor to = subst (λ b. Allowed b floor to) t x in
+      let k = power_room_less (behind (length code.ops) to) (behind (length code.ops) 0 + 2) (omega arith) in
+      omega arith
+
+  pub resume_paces : (any ≡ true) → (ms : List Mark) (line : ℕ) → Paces ms (One code op.Resume line)
+  resume_paces t ms line = record {
+    rises = λ a z h. let e = h.end in omega arith;
+    plain = λ a z h p. onward_plain code table a op.Resume line h.here (λ n k x. refl) (λ k x. refl) (subst (Plain code table) h.end p);
+    each = λ q a z h r p. only code table a z h.end (paced_by code table a op.Resume line h.here (onward_falls code table a op.Resume line h.here (λ n k x. refl) (λ k x. refl) (subst (Plain code table) h.end p)));
+    stays = λ from to floor a z h n l m x. stay_one code table from to floor a z op.Resume line h.here h.end (next_in from to a z h.end l m, loud_low t floor to x);
+  }
+
+  -- an execution is set up for a coroutine, whose main begins low
+
+  begins_low : (r : ℕ) → Starts code table → Begins code table r
+  begins_low r q = λ c g.
+      let s = q r c g in
+      let l = s.low in
+      let m = power_less (height code.ops c.entry) (behind (length code.ops) 0 + 2) (omega arith) in
+      rw (burden_is code table c.entry 0 s.outside) m
+
+  pub set_up_paces : (ms : List Mark) (line r : ℕ) → Paces ms (One code (op.Coroutine r) line)
+  set_up_paces ms line r = record {
+    rises = λ a z h. let e = h.end in omega arith;
+    plain = λ a z h p. onward_plain code table a (op.Coroutine r) line h.here (λ n k x. refl) (λ k x. refl) (subst (Plain code table) h.end p);
+    each = λ q a z h x p. only code table a z h.end (paced_by code table a (op.Coroutine r) line h.here (onward_falls code table a (op.Coroutine r) line h.here (λ n k y. refl) (λ k y. refl) (subst (Plain code table) h.end p), begins_low r q));
+    stays = λ from to floor a z h n l m x. stay_one code table from to floor a z (op.Coroutine r) line h.here h.end (next_in from to a z h.end l m);
+  }
+
   -- a loop whose parts are paced under its mark
   module _ (ms : List Mark) (line : ℕ) (T S : ℕ → ℕ → Type 0) (B : Mark → ℕ → ℕ → Type 0) (t : Paces ms T) (s : Paces ms S) (b : (m : Mark) → Paces (m ∷ ms) (B m)) where
     back_rises : (o : Order) (turn a z : ℕ) → BackAt code o T turn line a z → a < z
@@ -235,12 +308,12 @@ module _ (code : Laid) (table : List RoutineCode) (any : Bool) where
     begin_paced NoTest a test h l k u p = jump_paced code table a (a + 3) line h (omega arith) u k
 
     -- the tick and the pads of a loop that begins here
-    record Begins (a : ℕ) : Type 0 where
+    record Entering (a : ℕ) : Type 0 where
       pub tick : Plain code table (a + 3)
       pub again : Outside code table (a + 2)
       pub leave : Outside code table (a + 1)
 
-    begins : (o : Order) (a z : ℕ) (h : Turns code line o T S B a z) → Plain code table z → Begins a
+    begins : (o : Order) (a z : ℕ) (h : Turns code line o T S B a z) → Plain code table z → Entering a
     begins o a z h p =
         let test = back_plain o (a + 3) h.test_at z h.back p in
         let step = s.plain h.step_at h.test_at h.step test in
@@ -355,6 +428,14 @@ module _ (code : Laid) (table : List RoutineCode) (any : Bool) where
     plain = λ a z h p. return_plain line a z h p.outside;
     each = λ q a z h r p. return_each line a z h;
     stays = λ from to floor a z h n l m x. stay_one code table from to floor a z op.Return line h.here h.end tt;
+  }
+
+  pub main_end_paces : (ms : List Mark) (line : ℕ) → Paces ms (One code op.EndMain line)
+  main_end_paces ms line = record {
+    rises = λ a z h. let e = h.end in omega arith;
+    plain = λ a z h p. own_plain code table a op.EndMain line h.here (λ n k x. refl) (λ k t. refl) (subst (Outside code table) h.end p.outside);
+    each = λ q a z h r p. only code table a z h.end (paced_by code table a op.EndMain line h.here tt);
+    stays = λ from to floor a z h n l m x. stay_one code table from to floor a z op.EndMain line h.here h.end tt;
   }
 
   pub value_return_paces : (ms : List Mark) (line : ℕ) → Paces ms (One code op.ReturnValue line)

@@ -3,6 +3,8 @@ use Rattle.std.proofs.Common.{◌≡◌, ℕ, ◌+◌, ◌*◌, ◌≤◌, ◌<�
 use Rattle.uc_code.specs.declared.op.Op.{Op}
 use Rattle.uc_code.specs.declared.op.Op.TheVariants as op
 use Rattle.uc_code.specs.declared.rows.Array.{Array}
+use Rattle.uc_code.specs.declared.rows.Cleaning.{Cleaning}
+use Rattle.uc_code.specs.declared.rows.Cleaning.TheVariants as cleaning
 use Rattle.uc_code.specs.declared.rows.Mark.{Mark}
 use Rattle.uc_code.specs.declared.rows.Mark.TheVariants as mark
 use Rattle.uc_code.specs.declared.rows.ObjectCall.{ObjectCall}
@@ -11,7 +13,7 @@ use Rattle.uc_code.specs.Drafts.{Draft, ops_with}
 use Rattle.uc_code.specs.Laid.{Laid, laid_in, routine_in}
 use Rattle.uc_code.specs.Ranges.{One, Risk, CallsBehind, Both, OverElements, Stable}
 use Rattle.uc_code.specs.Lowered.{spot_op, SpotAt, CalledAt, CallAt, CallDone, CleanBy, CleanAt, KeepAt, KeepsAt}
-use Rattle.uc_code.specs.Open.{StandsBehind}
+use Rattle.uc_code.specs.Open.{StandsBehind, CleansBehind}
 use Rattle.uc_code.specs.Puts.{Puts, place_length, called_length, done_length, clean_by, clean_length}
 use Rattle.uc_code.proofs.Patches.{kept_with, one_with}
 use Rattle.uc_code.proofs.Stable.{elements_stable, kept_then, kept_same, nothing_stable, one_stable, risk_stable, calls_behind_stable, both_stable}
@@ -80,8 +82,10 @@ pub clean_by_stable : (line : ℕ) (o : Option Array) (what : ObjectCall) (ms : 
 clean_by_stable line None what ms = done_stable line what ms
 clean_by_stable line (Some x) what ms = elements_stable line ms x.length x.length op.Sweep op.Sweep (λ code ns. CallDone code line what ns) (λ code ns. CallDone code line what ns) (λ ns. done_stable line what ns) (λ ns. done_stable line what ns)
 
-pub clean_stable : (line : ℕ) (what : ObjectCall) (ms : List Mark) → Stable (λ code. CleanAt code line what ms)
-clean_stable line what ms = clean_by_stable line what.array what ms
+pub clean_stable : (line : ℕ) (what : Cleaning) (ms : List Mark) → Stable (λ code. CleanAt code line what ms)
+clean_stable line (cleaning.Call what) ms = clean_by_stable line what.array what ms
+clean_stable line cleaning.TakeDown ms = one_stable op.UnwindCoroutine line
+clean_stable line cleaning.Forget ms = one_stable op.Forget line
 
 -- how long they are
 
@@ -113,8 +117,10 @@ clean_by_is code line None what ms a z h = done_is code line what ms a z h
 clean_by_is code line (Some x) what ms a z h = elements_are code line x.length what ms a z h
 
 -- where a clean-up ends
-pub clean_is : (code : Laid) (line : ℕ) (what : ObjectCall) (ms : List Mark) (a z : ℕ) → CleanAt code line what ms a z → z ≡ a + clean_length what
-clean_is code line what ms a z h = clean_by_is code line what.array what ms a z h
+pub clean_is : (code : Laid) (line : ℕ) (what : Cleaning) (ms : List Mark) (a z : ℕ) → CleanAt code line what ms a z → z ≡ a + clean_length what
+clean_is code line (cleaning.Call what) ms a z h = clean_by_is code line what.array what ms a z h
+clean_is code line cleaning.TakeDown ms a z h = h.end
+clean_is code line cleaning.Forget ms a z h = h.end
 
 -- what is behind the call of a routine that nobody wrote
 pub puts_behind : (r line : ℕ) (old new : Draft) → routine_in old.marks < r → Puts 1 (λ code. Risk code old.marks (op.CallUnwritten r) line) old new → Puts 1 (λ code. CallsBehind code old.marks r line) old new
@@ -134,6 +140,14 @@ pub puts_written : (line r : ℕ) (old mid new : Draft) → Puts 1 (λ code. One
 puts_written line r old mid new p q =
     let s : Puts 1 (λ code. Risk code old.marks (op.CallOn r) line) mid new = subst (λ (ms : List Mark). Puts 1 (λ code. Risk code ms (op.CallOn r) line) mid new) (marks_of p) q in
     puts_as (puts_both (one_stable op.Tick line) p s) (λ code a z h. record { middle = a; first = record { end = refl }; second = h })
+
+-- a clean-up
+
+pub puts_clean : {n : ℕ} (line : ℕ) (what w : Cleaning) (old new : Draft) → what ≡ w → n ≤ 17 → Puts n (λ code. CleanAt code line w old.marks) old new → Puts 17 (λ code. CleanAt code line what old.marks) old new
+puts_clean {n} line what w old new e l p = subst (λ (x : Cleaning). Puts 17 (λ code. CleanAt code line x old.marks) old new) (sym e) (puts_more l p)
+
+pub calls_behind : (ms : List Mark) (what : Cleaning) (call : ObjectCall) → what ≡ cleaning.Call call → CleansBehind ms what → StandsBehind ms call
+calls_behind ms what call e b = subst (λ (x : Cleaning). CleansBehind ms x) e b
 
 -- a handler keeps its event
 

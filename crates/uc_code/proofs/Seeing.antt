@@ -47,7 +47,7 @@ seen_row_is (mark.Clean what line row) ms bound k e = row_seen row bound k (hand
 seen_row_is (mark.Part row) ms bound k e = row_seen row bound k (handlers ms) e
 seen_row_is (mark.Elements row) ms bound k e = row_seen row bound k (handlers ms) e
 seen_row_is (mark.Guard row) ms bound k e = row_seen row bound k (handlers ms) e
-seen_row_is (mark.Finish routine line row) ms bound k e = row_seen row bound k (handlers ms) e
+seen_row_is (mark.Finish main routine line row) ms bound k e = row_seen row bound k (handlers ms) e
 seen_row_is (mark.Whole leave row) ms bound k e = row_seen row bound k (handlers ms) e
 
 pub seen_next : (m : Mark) (ms : List Mark) (bound k : ℕ) → seen_at m bound ≡ seen.Bound k → under bound (handlers (m ∷ ms)) ≡ under k (handlers ms)
@@ -58,7 +58,7 @@ seen_next (mark.Clean what line row) ms bound k e = row_next row bound k (handle
 seen_next (mark.Part row) ms bound k e = row_next row bound k (handlers ms) e
 seen_next (mark.Elements row) ms bound k e = row_next row bound k (handlers ms) e
 seen_next (mark.Guard row) ms bound k e = row_next row bound k (handlers ms) e
-seen_next (mark.Finish routine line row) ms bound k e = row_next row bound k (handlers ms) e
+seen_next (mark.Finish main routine line row) ms bound k e = row_next row bound k (handlers ms) e
 seen_next (mark.Whole leave row) ms bound k e = row_next row bound k (handlers ms) e
 
 -- the steps of the loops

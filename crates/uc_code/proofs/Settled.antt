@@ -56,7 +56,7 @@ tail_of [] = []
 tail_of (m ∷ ms) = ms
 
 rowless_opening : (o : Opening) (n : ℕ) (ms : List Mark) → is_rowless (opening_mark o n ∷ ms) ≡ false
-rowless_opening (opening.Main routine line) n ms = refl
+rowless_opening (opening.Main main routine line) n ms = refl
 rowless_opening (opening.Whole leave) n ms = refl
 rowless_opening opening.Handler n ms = refl
 rowless_opening (opening.Object what line) n ms = refl
@@ -74,7 +74,7 @@ nested_left here rs ms (InRow o from qs ns l n) e = let f : true ≡ false = sym
 behind_left : (ms : List Mark) → AllBehind ms → AllBehind (left_marks ms)
 behind_left [] b = b
 behind_left (mark.Body routine ∷ ms) b = b
-behind_left (mark.Finish routine line row ∷ ms) b = b
+behind_left (mark.Finish main routine line row ∷ ms) b = b
 behind_left (mark.Loop leave again ∷ ms) b = b
 behind_left (mark.Whole leave row ∷ ms) b = b
 behind_left (mark.Guard row ∷ ms) b = b
@@ -89,7 +89,7 @@ settled_left ops settled rows ms e s = record { past = s.past; few = s.few; nest
 -- where it has no row, the innermost mark is what is left out
 pub left_rowless : (m : Mark) (ms : List Mark) → is_rowless (m ∷ ms) ≡ true → left_marks (m ∷ ms) ≡ ms
 left_rowless (mark.Body routine) ms e = refl
-left_rowless (mark.Finish routine line row) ms e = absurd (cc)
+left_rowless (mark.Finish main routine line row) ms e = absurd (cc)
 left_rowless (mark.Loop leave again) ms e = refl
 left_rowless (mark.Whole leave row) ms e = absurd (cc)
 left_rowless (mark.Guard row) ms e = absurd (cc)
@@ -101,7 +101,7 @@ left_rowless (mark.Outward below row) ms e = absurd (cc)
 pub left_not : (ms : List Mark) → is_rowless ms ≡ false → left_marks ms ≡ ms
 left_not [] e = refl
 left_not (mark.Body routine ∷ ms) e = absurd (cc)
-left_not (mark.Finish routine line row ∷ ms) e = refl
+left_not (mark.Finish main routine line row ∷ ms) e = refl
 left_not (mark.Loop leave again ∷ ms) e = absurd (cc)
 left_not (mark.Whole leave row ∷ ms) e = refl
 left_not (mark.Guard row ∷ ms) e = refl
@@ -117,7 +117,7 @@ left_tail (m ∷ ms) e = left_rowless m ms e
 -- opening
 
 behind_opening : (o : Opening) (n : ℕ) (ms : List Mark) → OpensBehind o ms → AllBehind ms → AllBehind (opening_mark o n ∷ ms)
-behind_opening (opening.Main routine line) n ms h b = b
+behind_opening (opening.Main main routine line) n ms h b = b
 behind_opening (opening.Whole leave) n ms h b = b
 behind_opening opening.Handler n ms h b = b
 behind_opening (opening.Object what line) n ms h b = (h, b)
@@ -146,7 +146,7 @@ all_rows ops settled rows ms s = under_all (length rows) (handlers ms) (rows_bel
 
 -- the row around a new one
 pub outer_is : (o : Opening) (ops settled : ℕ) (rows : List HandlerRow) (ms : List Mark) → IsSettled ops settled rows ms → first_in (under (opening_bound o (length rows)) (handlers ms)) ≡ first_in (opening_around o ms)
-outer_is (opening.Main routine line) ops settled rows ms s = ap first_in (all_rows ops settled rows ms s)
+outer_is (opening.Main main routine line) ops settled rows ms s = ap first_in (all_rows ops settled rows ms s)
 outer_is (opening.Whole leave) ops settled rows ms s = ap first_in (all_rows ops settled rows ms s)
 outer_is opening.Handler ops settled rows ms s = ap first_in (all_rows ops settled rows ms s)
 outer_is (opening.Object what line) ops settled rows ms s = ap first_in (all_rows ops settled rows ms s)
@@ -205,7 +205,7 @@ length_closed here entry (suc k) (r ∷ rs) = ap suc (length_closed here entry k
 behind_tail : (ms : List Mark) → AllBehind ms → AllBehind (drop 1 ms)
 behind_tail [] b = b
 behind_tail (mark.Body routine ∷ ms) b = b
-behind_tail (mark.Finish routine line row ∷ ms) b = b
+behind_tail (mark.Finish main routine line row ∷ ms) b = b
 behind_tail (mark.Loop leave again ∷ ms) b = b
 behind_tail (mark.Whole leave row ∷ ms) b = b
 behind_tail (mark.Guard row ∷ ms) b = b
@@ -288,7 +288,7 @@ module _ (entry : ℕ) (ops : List Instruction) (settled : ℕ) (rows : List Han
 pub handler_row : (ms : List Mark) (k : ℕ) → handler_in ms ≡ Some k → row_in ms ≡ Some k
 handler_row [] k e = absurd (cc)
 handler_row (mark.Body routine ∷ ms) k e = absurd (cc)
-handler_row (mark.Finish routine line row ∷ ms) k e = e
+handler_row (mark.Finish main routine line row ∷ ms) k e = e
 handler_row (mark.Loop leave again ∷ ms) k e = absurd (cc)
 handler_row (mark.Whole leave row ∷ ms) k e = e
 handler_row (mark.Guard row ∷ ms) k e = absurd (cc)
@@ -300,7 +300,7 @@ handler_row (mark.Outward below row ∷ ms) k e = absurd (cc)
 pub guard_row : (ms : List Mark) (k : ℕ) → guard_in ms ≡ Some k → row_in ms ≡ Some k
 guard_row [] k e = absurd (cc)
 guard_row (mark.Body routine ∷ ms) k e = absurd (cc)
-guard_row (mark.Finish routine line row ∷ ms) k e = absurd (cc)
+guard_row (mark.Finish main routine line row ∷ ms) k e = absurd (cc)
 guard_row (mark.Loop leave again ∷ ms) k e = absurd (cc)
 guard_row (mark.Whole leave row ∷ ms) k e = absurd (cc)
 guard_row (mark.Guard row ∷ ms) k e = e
@@ -312,7 +312,7 @@ guard_row (mark.Outward below row ∷ ms) k e = absurd (cc)
 pub guard_entry : (ms : List Mark) (k entry : ℕ) → guard_in ms ≡ Some k → entry_in ms entry ≡ 0
 guard_entry [] k entry e = absurd (cc)
 guard_entry (mark.Body routine ∷ ms) k entry e = absurd (cc)
-guard_entry (mark.Finish routine line row ∷ ms) k entry e = absurd (cc)
+guard_entry (mark.Finish main routine line row ∷ ms) k entry e = absurd (cc)
 guard_entry (mark.Loop leave again ∷ ms) k entry e = absurd (cc)
 guard_entry (mark.Whole leave row ∷ ms) k entry e = absurd (cc)
 guard_entry (mark.Guard row ∷ ms) k entry e = refl
@@ -324,7 +324,7 @@ guard_entry (mark.Outward below row ∷ ms) k entry e = absurd (cc)
 pub handler_entry : (ms : List Mark) (k entry : ℕ) → handler_in ms ≡ Some k → entry_in ms entry ≡ entry
 handler_entry [] k entry e = absurd (cc)
 handler_entry (mark.Body routine ∷ ms) k entry e = refl
-handler_entry (mark.Finish routine line row ∷ ms) k entry e = refl
+handler_entry (mark.Finish main routine line row ∷ ms) k entry e = refl
 handler_entry (mark.Loop leave again ∷ ms) k entry e = refl
 handler_entry (mark.Whole leave row ∷ ms) k entry e = refl
 handler_entry (mark.Guard row ∷ ms) k entry e = absurd (cc)

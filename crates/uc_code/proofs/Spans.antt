@@ -6,11 +6,13 @@ use Rattle.uc_code.specs.declared.op.Op.{Op}
 use Rattle.uc_code.specs.declared.op.Op.TheVariants as op
 use Rattle.uc_code.specs.declared.rows.Array.{Array as ArrayOf}
 use Rattle.uc_code.specs.declared.rows.HandlerRow.{HandlerRow}
+use Rattle.uc_code.specs.declared.rows.Cleaning.{Cleaning}
+use Rattle.uc_code.specs.declared.rows.Cleaning.TheVariants as cleaning
 use Rattle.uc_code.specs.declared.rows.Mark.{Mark}
 use Rattle.uc_code.specs.declared.rows.Mark.TheVariants as mark
 use Rattle.uc_code.specs.declared.rows.ObjectCall.{ObjectCall}
 use Rattle.uc_code.specs.declared.rows.RoutineCode.{RoutineCode}
-use Rattle.uc_code.specs.declared.rows.RowKind.TheVariants.{CatchResume, CleanUp as Cleaning}
+use Rattle.uc_code.specs.declared.rows.RowKind.TheVariants.{CatchResume, CleanUp as OfCleanUp}
 use Rattle.uc_code.specs.declared.rows.Spot.{Spot}
 use Rattle.uc_code.specs.declared.rows.Spot.TheVariants as spot
 use Rattle.uc_code.specs.Laid.{Laid, handlers, routine_in}
@@ -99,7 +101,7 @@ module _ (code : Laid) (table : List RoutineCode) (any : Bool) where
     low = λ row test turn z h. sweep_low code table line (mark.Elements row ∷ ms) what test turn z h;
   }
 
-  clean_is_none : {X : Type 0} → Cleaning ≡ CatchResume → X
+  clean_is_none : {X : Type 0} → OfCleanUp ≡ CatchResume → X
   clean_is_none e = absurd (cc)
 
   -- the row of a clean-up
@@ -253,8 +255,10 @@ module _ (code : Laid) (table : List RoutineCode) (any : Bool) where
   clean_by_paces ms line (Some a) what =
       elements_paces line ms a.length a.length op.Sweep (CallDone code line what) (CallDone code line what) (λ few. sweep_round line ms what) (sweep_count line ms a.length what) (sweep_round line ms what) (sweep_undo line ms what)
 
-  pub clean_paces : (ms : List Mark) (line : ℕ) (what : ObjectCall) → Paces ms (CleanAt code line what ms)
-  clean_paces ms line what = clean_by_paces ms line what.array what
+  pub clean_paces : (ms : List Mark) (line : ℕ) (what : Cleaning) → Paces ms (CleanAt code line what ms)
+  clean_paces ms line (cleaning.Call what) = clean_by_paces ms line what.array what
+  clean_paces ms line cleaning.TakeDown = onward ms op.UnwindCoroutine line (λ n k h. refl) (λ k t. refl) (λ at l. l) (λ from to floor at i. i)
+  clean_paces ms line cleaning.Forget = onward ms op.Forget line (λ n k h. refl) (λ k t. refl) (λ at l. l) (λ from to floor at i. i)
 
   pub filled_paces : (ms : List Mark) (line n : ℕ) (b d : Expr) → Paces ms (FilledAt code line ms n b d)
   filled_paces ms line n b d =
@@ -335,7 +339,7 @@ module _ (code : Laid) (table : List RoutineCode) (any : Bool) where
 
   pub scoped_paces : (ms : List Mark) (line : ℕ) (c : CleanUp) (B : List Mark → ℕ → ℕ → Type 0) → ((ns : List Mark) → Paces ns (B ns)) → Paces ms (ScopedAt code line ms c B)
   scoped_paces ms line c B b =
-      let all = λ (what : ObjectCall). scope_paces ms line (λ row. mark.Clean what line row) (CleanAt code line what ms) B (λ row z x r. (x, r)) (λ from to row x n. (x, n)) (clean_paces ms line what) b in
+      let all = λ (what : Cleaning). scope_paces ms line (λ row. mark.Clean what line row) (CleanAt code line what ms) B (λ row z x r. (x, r)) (λ from to row x n. (x, n)) (clean_paces ms line what) b in
       record {
         rises = λ a z h. (all h.what).rises a z h.scope;
         plain = λ a z h p. (all h.what).plain a z h.scope p;
@@ -345,7 +349,7 @@ module _ (code : Laid) (table : List RoutineCode) (any : Bool) where
 
   pub built_part_paces : (ms : List Mark) (line : ℕ) (c : CleanUp) (B : List Mark → ℕ → ℕ → Type 0) → ((ns : List Mark) → Paces ns (B ns)) → Paces ms (BuiltAt code line ms c B)
   built_part_paces ms line c B b =
-      let all = λ (what : ObjectCall). part_paces ms line (λ row. mark.Part row) (CleanAt code line what ms) B (λ row z x r. (x, r)) (λ from to row x n. (x, n)) (clean_paces ms line what) b in
+      let all = λ (what : Cleaning). part_paces ms line (λ row. mark.Part row) (CleanAt code line what ms) B (λ row z x r. (x, r)) (λ from to row x n. (x, n)) (clean_paces ms line what) b in
       record {
         rises = λ a z h. (all h.what).rises a z h.part;
         plain = λ a z h p. (all h.what).plain a z h.part p;

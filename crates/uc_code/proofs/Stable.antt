@@ -4,12 +4,13 @@ use Rattle.std.specs.Prelude.{slice_get}
 use Rattle.uc_code.specs.declared.rows.HandlerRow.{HandlerRow}
 use Rattle.uc_code.specs.declared.op.Op.{Op}
 use Rattle.uc_tree.specs.Source.{Order, TestFirst, BodyFirst, NoTest}
-use Rattle.uc_code.specs.declared.op.Op.TheVariants.{Jump, IfZero, IfNonzero, Tick, CallUnwritten, Count, Return, Handled, Unhandled, Unwind}
+use Rattle.uc_code.specs.declared.op.Op.TheVariants.{Jump, IfZero, IfNonzero, Tick, CallUnwritten, Count, Return, Handled, Unwind}
+use Rattle.uc_code.specs.declared.rows.MainOf.{MainOf}
 use Rattle.uc_code.specs.declared.rows.Mark.{Mark}
 use Rattle.uc_code.specs.declared.rows.Mark.TheVariants.{Finish, Whole, Elements, Outward}
 use Rattle.uc_code.specs.declared.rows.Handler.{Handler}
 use Rattle.uc_code.specs.Laid.{Laid, guards}
-use Rattle.uc_code.specs.Ranges.{Nothing, Never, One, Risk, CallsBehind, Both, Behind, When, Unless, Fork, Leads, Arrived, Jumped, pads_at, begin_at, BackAt, Turns, WholeAt, MainAt, Guarded, HandledAt, ApartAt, clean_up, Rounds, OverElements, ScopeOf, BehindPart, Same, Kept, KeptBut, Stable}
+use Rattle.uc_code.specs.Ranges.{Nothing, Never, One, Risk, CallsBehind, Both, Behind, When, Unless, Fork, Leads, Arrived, Jumped, pads_at, begin_at, BackAt, Turns, WholeAt, main_end, main_left, MainAt, Guarded, HandledAt, ApartAt, clean_up, Rounds, OverElements, ScopeOf, BehindPart, Same, Kept, KeptBut, Stable}
 
 pub part : (old new : Laid) (a z b y : ℕ) → a ≤ b → y ≤ z → Same old new a z → Same old new b y
 part old new a z b y h k s = record {
@@ -218,21 +219,21 @@ module _ (line : ℕ) (B : Laid → List Mark → ℕ → ℕ → Type 0) (b : (
         };
   }
 
-  pub main_stable : (routine : ℕ) → Stable (λ code. MainAt code routine line (B code))
-  main_stable routine = record {
+  pub main_stable : (main : MainOf) (routine : ℕ) → Stable (λ code. MainAt code main routine line (B code))
+  main_stable main routine = record {
     rises = λ code a z h.
-        let l = (b (Finish routine line h.row ∷ [])).rises code a h.body_end h.body in
+        let l = (b (Finish main routine line h.row ∷ [])).rises code a h.body_end h.body in
         let e = h.end in
         omega arith;
     moves = λ old new a z s h.
-        let l = (b (Finish routine line h.row ∷ [])).rises old a h.body_end h.body in
+        let l = (b (Finish main routine line h.row ∷ [])).rises old a h.body_end h.body in
         let e = h.end in
         record {
           row = h.row;
           body_end = h.body_end;
-          body = (b (Finish routine line h.row ∷ [])).moves old new a h.body_end (part old new a z a h.body_end (omega arith) (omega arith) s) h.body;
-          returns = s.same h.body_end Return line (omega arith) (omega arith) h.returns;
-          unwound = s.same (h.body_end + 1) Unhandled line (omega arith) (omega arith) h.unwound;
+          body = (b (Finish main routine line h.row ∷ [])).moves old new a h.body_end (part old new a z a h.body_end (omega arith) (omega arith) s) h.body;
+          returns = s.same h.body_end (main_end main) line (omega arith) (omega arith) h.returns;
+          unwound = s.same (h.body_end + 1) (main_left main) line (omega arith) (omega arith) h.unwound;
           end = h.end;
           handler = s.handlers h.row (clean_up (h.body_end + 1)) h.handler;
         };

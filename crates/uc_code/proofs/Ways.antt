@@ -4,16 +4,18 @@ use Rattle.std.proofs.lemmas.List.{reverse-reverse, length-reverse, take_all}
 use Rattle.uc_tree.specs.Source as source
 use Rattle.uc_code.specs.declared.op.Op.{Op}
 use Rattle.uc_code.specs.declared.op.Op.TheVariants as op
+use Rattle.uc_code.specs.declared.rows.Cleaning.{Cleaning}
+use Rattle.uc_code.specs.declared.rows.Cleaning.TheVariants as cleaning
 use Rattle.uc_code.specs.declared.rows.Mark.{Mark}
 use Rattle.uc_code.specs.declared.rows.Mark.TheVariants as mark
 use Rattle.uc_code.specs.declared.rows.Way.{Way}
 use Rattle.uc_code.specs.declared.rows.Way.TheVariants as way
 use Rattle.uc_code.specs.Drafts.{Draft}
-use Rattle.uc_code.specs.Laid.{Laid}
+use Rattle.uc_code.specs.Laid.{Laid, routine_in}
 use Rattle.uc_code.specs.Leaving.{way_of}
-use Rattle.uc_code.specs.Ranges.{One}
+use Rattle.uc_code.specs.Ranges.{One, main_end}
 use Rattle.uc_code.specs.Lowered.{Any, ExitAt}
-use Rattle.uc_code.specs.Open.{StandsBehind, exit_room}
+use Rattle.uc_code.specs.Open.{CleansBehind, exit_room}
 use Rattle.uc_code.specs.Puts.{Puts, PastBehind, PutsPast, Leaves, past_room, outermost, end_op, ends_at}
 use Rattle.uc_code.proofs.Closed.{reverse_take}
 use Rattle.uc_code.proofs.Exiting.{Passing, passes_clean, passes_guard, passes_part, passes_elements, passes_loop, leaves_mark, leaves_clean, leaves_end}
@@ -46,7 +48,7 @@ module _ (code : Laid) where
 
   ends_exit : (w : Way) (m : Mark) (rest : List Mark) (line : ℕ) (s : Op × ℕ) (a z : ℕ) → ends_at w m line ≡ Some s → One code s.0 s.1 a z → ExitAt code (way_of w) (m ∷ rest) a z
   ends_exit way.Break (mark.Body routine) rest line s a z e h = one_end (op.Return, 0) s a z (some_same (op.Return, 0) s e) h
-  ends_exit way.Break (mark.Finish routine last row) rest line s a z e h = one_end (op.Return, last) s a z (some_same (op.Return, last) s e) h
+  ends_exit way.Break (mark.Finish main routine last row) rest line s a z e h = one_end (main_end main, last) s a z (some_same (main_end main, last) s e) h
   ends_exit way.Break (mark.Loop leave again) rest line s a z e h = any_end (op.Jump leave) s line a z (some_same (op.Jump leave, line) s e) h
   ends_exit way.Break (mark.Whole leave row) rest line s a z e h = any_end (op.Jump leave) s line a z (some_same (op.Jump leave, line) s e) h
   ends_exit way.Break (mark.Guard row) rest line s a z e h = absurd (cc)
@@ -55,7 +57,7 @@ module _ (code : Laid) where
   ends_exit way.Break (mark.Elements row) rest line s a z e h = absurd (cc)
   ends_exit way.Break (mark.Outward below row) rest line s a z e h = one_end (op.Return, 0) s a z (some_same (op.Return, 0) s e) h
   ends_exit way.Continue (mark.Body routine) rest line s a z e h = one_end (op.Return, 0) s a z (some_same (op.Return, 0) s e) h
-  ends_exit way.Continue (mark.Finish routine last row) rest line s a z e h = one_end (op.Return, last) s a z (some_same (op.Return, last) s e) h
+  ends_exit way.Continue (mark.Finish main routine last row) rest line s a z e h = one_end (main_end main, last) s a z (some_same (main_end main, last) s e) h
   ends_exit way.Continue (mark.Loop leave again) rest line s a z e h = any_end (op.Jump again) s line a z (some_same (op.Jump again, line) s e) h
   ends_exit way.Continue (mark.Whole leave row) rest line s a z e h = any_end (op.Jump leave) s line a z (some_same (op.Jump leave, line) s e) h
   ends_exit way.Continue (mark.Guard row) rest line s a z e h = absurd (cc)
@@ -64,7 +66,7 @@ module _ (code : Laid) where
   ends_exit way.Continue (mark.Elements row) rest line s a z e h = absurd (cc)
   ends_exit way.Continue (mark.Outward below row) rest line s a z e h = one_end (op.Return, 0) s a z (some_same (op.Return, 0) s e) h
   ends_exit way.Value (mark.Body routine) rest line s a z e h = one_end (op.ReturnValue, 0) s a z (some_same (op.ReturnValue, 0) s e) h
-  ends_exit way.Value (mark.Finish routine last row) rest line s a z e h = one_end (op.Return, last) s a z (some_same (op.Return, last) s e) h
+  ends_exit way.Value (mark.Finish main routine last row) rest line s a z e h = one_end (main_end main, last) s a z (some_same (main_end main, last) s e) h
   ends_exit way.Value (mark.Loop leave again) rest line s a z e h = absurd (cc)
   ends_exit way.Value (mark.Whole leave row) rest line s a z e h = any_end (op.Jump leave) s line a z (some_same (op.Jump leave, line) s e) h
   ends_exit way.Value (mark.Guard row) rest line s a z e h = absurd (cc)
@@ -73,7 +75,7 @@ module _ (code : Laid) where
   ends_exit way.Value (mark.Elements row) rest line s a z e h = absurd (cc)
   ends_exit way.Value (mark.Outward below row) rest line s a z e h = one_end (op.ReturnValue, 0) s a z (some_same (op.ReturnValue, 0) s e) h
   ends_exit way.End (mark.Body routine) rest line s a z e h = one_end (op.ReturnNone, 0) s a z (some_same (op.ReturnNone, 0) s e) h
-  ends_exit way.End (mark.Finish routine last row) rest line s a z e h = one_end (op.Return, last) s a z (some_same (op.Return, last) s e) h
+  ends_exit way.End (mark.Finish main routine last row) rest line s a z e h = one_end (main_end main, last) s a z (some_same (main_end main, last) s e) h
   ends_exit way.End (mark.Loop leave again) rest line s a z e h = absurd (cc)
   ends_exit way.End (mark.Whole leave row) rest line s a z e h = any_end (op.Jump leave) s line a z (some_same (op.Jump leave, line) s e) h
   ends_exit way.End (mark.Guard row) rest line s a z e h = absurd (cc)
@@ -91,7 +93,7 @@ module _ (code : Laid) where
 exit_least : (ms : List Mark) → 1 ≤ exit_room ms
 exit_least [] = omega arith
 exit_least (mark.Body routine ∷ ms) = omega arith
-exit_least (mark.Finish routine last row ∷ ms) = omega arith
+exit_least (mark.Finish main routine last row ∷ ms) = omega arith
 exit_least (mark.Loop leave again ∷ ms) = exit_least ms
 exit_least (mark.Whole leave row ∷ ms) = omega arith
 exit_least (mark.Guard row ∷ ms) = exit_least ms
@@ -114,7 +116,7 @@ exit_bare w old now new p q = leaves_end (way_of w) old now new [] (end_op w) 0 
 
 pub past_fits : (w : Way) (m : Mark) (rest : List Mark) (line : ℕ) → ends_at w m line ≡ None → past_room m + exit_room rest ≤ exit_room (m ∷ rest)
 past_fits w (mark.Body routine) rest line e = absurd (cc)
-past_fits w (mark.Finish routine last row) rest line e = absurd (cc)
+past_fits w (mark.Finish main routine last row) rest line e = absurd (cc)
 past_fits w (mark.Loop leave again) rest line e = omega arith
 past_fits w (mark.Whole leave row) rest line e = absurd (cc)
 past_fits w (mark.Guard row) rest line e = omega arith
@@ -126,20 +128,25 @@ past_fits w (mark.Outward below row) rest line e = absurd (cc)
 pub past_room_left : (w : Way) (old now : Draft) (m : Mark) (rest : List Mark) (line most : ℕ) → length old.ops + exit_room old.marks ≤ most → ends_at w m line ≡ None → Leaves (way_of w) old now (m ∷ rest) → length now.ops + past_room m ≤ most
 past_room_left w old now m rest line most l e p = let r = p.room in let f = past_fits w m rest line e in omega arith
 
+cleans_further : (what : Cleaning) (rest all : List Mark) → routine_in rest ≡ routine_in all → CleansBehind rest what → CleansBehind all what
+cleans_further (cleaning.Call what) rest all r b = record { behind = λ f. let c = b.behind f in omega arith }
+cleans_further cleaning.TakeDown rest all r b = tt
+cleans_further cleaning.Forget rest all r b = tt
+
 pub past_behind : (m : Mark) (all rest now : List Mark) → now ≡ all → Passing all (m ∷ rest) → PastBehind m now
 past_behind (mark.Body routine) all rest now e p = tt
-past_behind (mark.Finish routine last row) all rest now e p = tt
+past_behind (mark.Finish main routine last row) all rest now e p = tt
 past_behind (mark.Loop leave again) all rest now e p = tt
 past_behind (mark.Whole leave row) all rest now e p = tt
 past_behind (mark.Guard row) all rest now e p = tt
-past_behind (mark.Clean what last row) all rest now e p = subst (λ (ms : List Mark). StandsBehind ms what) (sym e) (record { behind = λ f. let r = p.routine in let b = p.behind.0.behind f in omega arith })
+past_behind (mark.Clean what last row) all rest now e p = subst (λ (ms : List Mark). CleansBehind ms what) (sym e) (cleans_further what rest all p.routine p.behind.0)
 past_behind (mark.Part row) all rest now e p = tt
 past_behind (mark.Elements row) all rest now e p = tt
 past_behind (mark.Outward below row) all rest now e p = tt
 
 pub passes_past : (w : Way) (all : List Mark) (m : Mark) (rest : List Mark) (line : ℕ) → ends_at w m line ≡ None → Passing all (m ∷ rest) → Passing all rest
 passes_past w all (mark.Body routine) rest line e p = absurd (cc)
-passes_past w all (mark.Finish routine last row) rest line e p = absurd (cc)
+passes_past w all (mark.Finish main routine last row) rest line e p = absurd (cc)
 passes_past w all (mark.Loop leave again) rest line e p = passes_loop all leave again rest p
 passes_past w all (mark.Whole leave row) rest line e p = absurd (cc)
 passes_past w all (mark.Guard row) rest line e p = passes_guard all row rest p
@@ -177,7 +184,7 @@ same_left w old now next rest e p = subst (λ (d : Draft). Leaves w old d rest) 
 
 pub leaves_past : (w : Way) (old now next : Draft) (m : Mark) (rest : List Mark) (line : ℕ) → ends_at w m line ≡ None → Passing old.marks (m ∷ rest) → Leaves (way_of w) old now (m ∷ rest) → PutsPast m now next → Leaves (way_of w) old next rest
 leaves_past w old now next (mark.Body routine) rest line e s p q = absurd (cc)
-leaves_past w old now next (mark.Finish routine last row) rest line e s p q = absurd (cc)
+leaves_past w old now next (mark.Finish main routine last row) rest line e s p q = absurd (cc)
 leaves_past w old now next (mark.Loop leave again) rest line e s p q = same_left (way_of w) old now next rest q (leaves_mark (way_of w) old now (mark.Loop leave again) rest refl (λ code a z h. loop_exit w leave again line e code rest a z h) p)
 leaves_past w old now next (mark.Whole leave row) rest line e s p q = absurd (cc)
 leaves_past w old now next (mark.Guard row) rest line e s p q = same_left (way_of w) old now next rest q (leaves_mark (way_of w) old now (mark.Guard row) rest refl (λ code a z h. guard_exit (way_of w) code row rest a z h) p)

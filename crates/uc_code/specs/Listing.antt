@@ -3,7 +3,7 @@ use Rattle.std.specs.Prelude.{ℕ, ℤ, pos, ◌+◌, List, [], ◌∷◌, ◌++
 use Rattle.std.specs.Fmt.{signed_decimal}
 use Rattle.uc_code.specs.declared.op.Op.{Op}
 use Rattle.uc_tree.specs.ValueForms.{form_number}
-use Rattle.uc_code.specs.declared.op.Op.TheVariants.{Push, Duplicate, Discard, Over, DiscardBelow, Local, Own, This, Via, ViaThis, Field, Counted, Index, Load, Store, Keep, Set, Clear, Add, Subtract, Multiply, Divide, Remainder, Negate, Not, Equal, NotEqual, Less, AtMost, Greater, AtLeast, ToChar, ToBool, Jump, IfZero, IfNonzero, Count, More, Fill, Sweep, Tick, Call, CallOn, CallUnwritten, Return, ReturnValue, ReturnNone, NoReturn, Enter, Leave, Make, Made, Spawn, Gone, Coroutine, Live, UnwindCoroutine, Resume, Suspend, EndMain, Throw, Raise, RaiseAt, RaiseAtCoroutine, Handled, Unhandled, Unwind, Enable, Disable, Restore, Poll, Accept, Wait, Signal, SignalBlock, Empty, Front, Print, Text, Hold, Flush, Read, Fail, Yield, Cluster, ClusterEnd, Processor, ProcessorEnd, Migrate}
+use Rattle.uc_code.specs.declared.op.Op.TheVariants.{Push, Duplicate, Discard, Over, DiscardBelow, Local, Own, This, Via, ViaThis, Field, Counted, Index, Load, Store, Keep, Set, Clear, Add, Subtract, Multiply, Divide, Remainder, Negate, Not, Equal, NotEqual, Less, AtMost, Greater, AtLeast, ToChar, ToBool, Jump, IfZero, IfNonzero, Count, More, Fill, Sweep, Tick, Call, CallOn, CallUnwritten, Return, ReturnValue, ReturnNone, NoReturn, Enter, Leave, Make, Made, Spawn, Gone, Coroutine, Live, Alive, UnwindCoroutine, Forget, Resume, Suspend, Land, EndMain, Escape, Throw, Raise, RaiseAt, RaiseAtCoroutine, Handled, Unhandled, Unwind, Enable, Disable, Restore, Poll, Accept, Wait, Signal, SignalBlock, Empty, Front, Print, Text, Hold, Flush, Read, Fail, Yield, Cluster, ClusterEnd, Processor, ProcessorEnd, Migrate}
 use Rattle.uc_code.specs.declared.rows.HandlerRow.{HandlerRow}
 use Rattle.uc_code.specs.declared.rows.RowKind.{RowKind}
 use Rattle.uc_code.specs.declared.rows.RowKind.TheVariants.{Catch, CatchResume, CleanUp}
@@ -68,10 +68,14 @@ word_of (Spawn _) = codes "spawn"
 word_of Gone = codes "gone"
 word_of (Coroutine _) = codes "coro"
 word_of Live = codes "live"
+word_of (Alive _) = codes "alive"
 word_of UnwindCoroutine = codes "uncoro"
+word_of Forget = codes "forget"
 word_of Resume = codes "resume"
 word_of Suspend = codes "suspend"
+word_of Land = codes "land"
 word_of EndMain = codes "endmain"
+word_of Escape = codes "escape"
 word_of Throw = codes "throw"
 word_of Raise = codes "raise"
 word_of (RaiseAt _) = codes "at"
@@ -160,10 +164,14 @@ operands_of (Spawn n) = pos n ∷ []
 operands_of Gone = []
 operands_of (Coroutine n) = pos n ∷ []
 operands_of Live = []
+operands_of (Alive n) = pos n ∷ []
 operands_of UnwindCoroutine = []
+operands_of Forget = []
 operands_of Resume = []
 operands_of Suspend = []
+operands_of Land = []
 operands_of EndMain = []
+operands_of Escape = []
 operands_of Throw = []
 operands_of Raise = []
 operands_of (RaiseAt n) = pos n ∷ []

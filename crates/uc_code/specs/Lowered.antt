@@ -1,7 +1,7 @@
 -- The code of the resolved tree: for each piece what its range of ops must hold. `line` is that of the innermost
 -- statement around the piece, and the marks are what stands around it in its routine, the innermost first.
 use Rattle.std.specs.Prelude.{◌≡◌, ℕ, suc, ◌+◌, ◌<◌, max, slice_get, pos, List, [], ◌∷◌, Bool, true, false, Option, Some, None, length, map}
-use Rattle.uc_tree.specs.Source.{Shape, Integer, Character, Truth, Binding, Last, Field, Array, shape_cells, field_cells, Operator, Plus, Minus, Times, Over, Modulo, Equal, NotEqual, Less, AtMost, Greater, AtLeast, Expr, Literal, Variable, Element, Get, Load, Negated, Not, AsCharacter, AsTruth, Operate, And, Or, Set, Assign, First, Update, StepBehind, Fail, Call, OfObject, ObjectExpr, This, OwnField, GetOwn, FieldOf, Counted, CallOn, CallUnwritten, EnterOn, Wait, Signal, SignalBlock, IsEmpty, FrontOf, Exprs, NoExprs, MoreExprs, Item, Show, ShowText, Target, Declared, Stmt, Skip, Block, Whole, Evaluate, Declare, Print, PrintTogether, Read, If, Loop, Break, Continue, Return, Fill, OfEvents, OfTasks, EventStmt, Throw, Raise, Try, RaiseAt, Enable, Disable, Raised, Plainly, BuiltAt as BuildsAt, AgainFrom, Handlers, NoHandlers, MoreHandlers, CleanUp, Stmts, Nil, Then, Scoped, Built, Way, ToBreak, ToContinue, ToReturn, ToEnd, Purpose, TaskMain, Procedure, Function, Builder, Routine, Source}
+use Rattle.uc_tree.specs.Source.{Shape, Integer, Character, Truth, Binding, Last, Field, Array, shape_cells, field_cells, Operator, Plus, Minus, Times, Over, Modulo, Equal, NotEqual, Less, AtMost, Greater, AtLeast, Expr, Literal, Variable, Element, Get, Load, Negated, Not, AsCharacter, AsTruth, Operate, And, Or, Set, Assign, First, Update, StepBehind, Fail, Call, OfObject, ObjectExpr, This, OwnField, GetOwn, FieldOf, Counted, CallOn, CallUnwritten, CallLive, EnterOn, Wait, Signal, SignalBlock, IsEmpty, FrontOf, Exprs, NoExprs, MoreExprs, Item, Show, ShowText, Target, Declared, Stmt, Skip, Block, Whole, Evaluate, Declare, Print, PrintTogether, Read, If, Loop, Break, Continue, Return, Fill, OfEvents, OfTasks, TaskStmt, Resume, Suspend, SetUp, Enliven, TakeDown, Yield, Migrate, Accept, EventStmt, Throw, Raise, Try, RaiseAt, Enable, Disable, Raised, Plainly, BuiltAt as BuildsAt, AgainFrom, Handlers, NoHandlers, MoreHandlers, CleanUp, Stmts, Nil, Then, Scoped, Built, Way, ToBreak, ToContinue, ToReturn, ToEnd, Purpose, TaskMain, CoroutineMain, Procedure, Function, Builder, Routine, Source}
 use Rattle.uc_code.specs.declared.op.Op.{Op}
 use Rattle.uc_code.specs.declared.op.Op.TheVariants as op
 use Rattle.uc_code.specs.declared.rows.Mark.{Mark}
@@ -10,6 +10,9 @@ use Rattle.uc_code.specs.declared.rows.Spot.{Spot}
 use Rattle.uc_code.specs.declared.rows.Spot.TheVariants as spot
 use Rattle.uc_code.specs.declared.rows.Array.{Array as ArrayOf}
 use Rattle.uc_code.specs.declared.rows.ObjectCall.{ObjectCall}
+use Rattle.uc_code.specs.declared.rows.Cleaning.{Cleaning}
+use Rattle.uc_code.specs.declared.rows.Cleaning.TheVariants as cleaning
+use Rattle.uc_code.specs.declared.rows.MainOf.TheVariants as main_of
 use Rattle.uc_code.specs.declared.rows.RoutineCode.{RoutineCode}
 use Rattle.uc_code.specs.Codes.{Code}
 use Rattle.uc_tree.specs.Hidden.{EVENT_FIELDS}
@@ -18,7 +21,7 @@ use Rattle.uc_code.specs.declared.rows.RowKind.{RowKind}
 use Rattle.uc_code.specs.declared.rows.RowKind.TheVariants as kind
 use Rattle.uc_code.specs.declared.rows.TheConstants.{ANY_EVENT}
 use Rattle.uc_code.specs.Laid.{Laid, laid_of, handlers}
-use Rattle.uc_code.specs.Ranges.{Nothing, Never, One, Risk, CallsBehind, Both, Fork, Turns, WholeAt, MainAt, Guarded, HandledAt, ApartAt, OverElements, ScopeOf, BehindPart}
+use Rattle.uc_code.specs.Ranges.{Nothing, Never, One, Risk, CallsBehind, Both, Fork, Turns, WholeAt, main_end, MainAt, Guarded, HandledAt, ApartAt, OverElements, ScopeOf, BehindPart}
 use Rattle.uc_code.specs.ObjectCalls.{Calls, Cleans}
 use Rattle.uc_code.specs.Silent.{silent_all}
 
@@ -116,6 +119,8 @@ module _ (code : Laid) (line : ℕ) where
     ObjectAt ms (FieldOf s i e) = Both (ExprAt ms e) (Is (op.Field (field_cells s i)))
     ObjectAt ms Counted = Is op.Counted
     ObjectAt ms (CallOn r e es) = Both (ExprAt ms e) (Both (ArgumentsAt ms es) (Both (Is op.Tick) (Risk code ms (op.CallOn r) line)))
+    -- a coroutine must be live
+    ObjectAt ms (CallLive r e es) = Both (ExprAt ms e) (Both (ArgumentsAt ms es) (Both (Is op.Tick) (Both (Is (op.Alive r)) (Risk code ms (op.CallOn r) line))))
     ObjectAt ms (CallUnwritten r e) = Both (ExprAt ms e) (CallsBehind code ms r line)
     ObjectAt ms (EnterOn m r e es) = Never
     ObjectAt ms (Wait c n) = Never
@@ -216,8 +221,11 @@ module _ (code : Laid) (line : ℕ) where
   CleanBy None what ms = CallDone what ms
   CleanBy (Some a) what ms = OverElements code line ms a.length a.length op.Sweep op.Sweep (CallDone what) (CallDone what)
 
-  abbrev pub CleanAt : ObjectCall → List Mark → ℕ → ℕ → Type 0
-  CleanAt what ms = CleanBy what.array what ms
+  -- a coroutine is unwound, its execution is no more
+  abbrev pub CleanAt : Cleaning → List Mark → ℕ → ℕ → Type 0
+  CleanAt (cleaning.Call what) ms = CleanBy what.array what ms
+  CleanAt cleaning.TakeDown ms = Is op.UnwindCoroutine
+  CleanAt cleaning.Forget ms = Is op.Forget
 
   -- the elements of an array are built, the first one first
   pub record FilledAt (ms : List Mark) (n : ℕ) (b d : Expr) (a z : ℕ) : Type 0 where
@@ -229,13 +237,13 @@ module _ (code : Laid) (line : ℕ) where
 
   -- what follows in the scope of an object
   pub record ScopedAt (ms : List Mark) (c : CleanUp) (B : List Mark → ℕ → ℕ → Type 0) (a z : ℕ) : Type 0 where
-    pub what : ObjectCall
+    pub what : Cleaning
     pub cleans : Cleans c what
     pub scope : ScopeOf code line ms (λ row. mark.Clean what line row) (CleanAt what ms) B a z
 
   -- what follows a part of an object under construction
   pub record BuiltAt (ms : List Mark) (c : CleanUp) (B : List Mark → ℕ → ℕ → Type 0) (a z : ℕ) : Type 0 where
-    pub what : ObjectCall
+    pub what : Cleaning
     pub cleans : Cleans c what
     pub part : BehindPart code line ms (λ row. mark.Part row) (CleanAt what ms) B a z
 
@@ -257,7 +265,7 @@ module _ (code : Laid) where
   ExitAt ToContinue (mark.Body routine ∷ ms) = One code op.Return 0
   ExitAt ToReturn (mark.Body routine ∷ ms) = One code op.ReturnValue 0
   ExitAt ToEnd (mark.Body routine ∷ ms) = One code op.ReturnNone 0
-  ExitAt w (mark.Finish routine line row ∷ ms) = One code op.Return line
+  ExitAt w (mark.Finish main routine line row ∷ ms) = One code (main_end main) line
   ExitAt ToBreak (mark.Loop leave again ∷ ms) = Any (op.Jump leave)
   ExitAt ToContinue (mark.Loop leave again ∷ ms) = Any (op.Jump again)
   ExitAt ToReturn (mark.Loop leave again ∷ ms) = ExitAt ToReturn ms
@@ -283,6 +291,18 @@ module _ (code : Laid) where
     pub named : IsNamed event
     pub handler : B a z
 
+  -- what goes on behind a switch may be unwound there
+  abbrev pub TaskAt : List Mark → TaskStmt → ℕ → ℕ → Type 0
+  TaskAt ms (Resume line) = Both (One code op.Resume line) (Risk code ms op.Land line)
+  TaskAt ms (Suspend line) = Both (One code op.Suspend line) (Risk code ms op.Land line)
+  -- what nobody wrote
+  TaskAt ms (SetUp r) = One code (op.Coroutine r) 0
+  TaskAt ms Enliven = One code op.Live 0
+  TaskAt ms TakeDown = One code op.UnwindCoroutine 0
+  TaskAt ms (Yield line) = Never
+  TaskAt ms (Migrate line e) = Never
+  TaskAt ms (Accept line site cs) = Never
+
   -- a statement sets its own line
   abbrev mutual
     pub StmtAt : List Mark → Stmt → ℕ → ℕ → Type 0
@@ -302,7 +322,7 @@ module _ (code : Laid) where
     StmtAt ms (Return line (Some e)) = Both (ExprAt code line ms e) (ExitAt ToReturn ms)
     StmtAt ms (Fill line n b d) = FilledAt code line ms n b d
     StmtAt ms (OfEvents s) = EventAt ms s
-    StmtAt ms (OfTasks s) = Never
+    StmtAt ms (OfTasks s) = TaskAt ms s
 
     pub EventAt : List Mark → EventStmt → ℕ → ℕ → Type 0
     EventAt ms (Throw line r) = Both (RaisedAt code line ms r) (Risk code ms op.Throw line)
@@ -329,7 +349,8 @@ module _ (code : Laid) where
   -- the statements of the routine of this number, whose block has this line, and what is done behind them. What builds and destroys
   -- the fields of an object has no line.
   abbrev pub BodyAt : Purpose → ℕ → ℕ → Stmts → ℕ → ℕ → Type 0
-  BodyAt TaskMain number line ss = MainAt code number line (λ ms. StmtsAt ms line ss)
+  BodyAt TaskMain number line ss = MainAt code main_of.Task number line (λ ms. StmtsAt ms line ss)
+  BodyAt CoroutineMain number line ss = MainAt code main_of.Coroutine number line (λ ms. StmtsAt ms line ss)
   BodyAt Procedure number line ss = Both (StmtsAt (mark.Body number ∷ []) line ss) (One code op.Return 0)
   BodyAt Function number line ss = Both (StmtsAt (mark.Body number ∷ []) line ss) (Both (One code op.NoReturn line) (One code op.Return 0))
   BodyAt Builder number line ss = Both (StmtsAt (mark.Body number ∷ []) 0 ss) (One code op.Return 0)

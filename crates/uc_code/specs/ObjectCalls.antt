@@ -1,10 +1,12 @@
--- Calls of constructors and destructors without arguments, as the resolved tree has them and as marks do.
+-- Calls of constructors and destructors without arguments, and clean-ups, as the resolved tree has them and as marks do.
 use Rattle.std.specs.Prelude.{◌≡◌, ℕ, Option, Some, None, true, false}
-use Rattle.uc_tree.specs.Source.{Shape, shape_cells, field_cells, Expr, Variable, Element, OfObject, OwnField, Counted, CallOn, CallUnwritten, NoExprs, CleanUp, Destroys, DestroysAll}
+use Rattle.uc_tree.specs.Source.{Shape, shape_cells, field_cells, Expr, Variable, Element, OfObject, OwnField, Counted, CallOn, CallUnwritten, NoExprs, CleanUp, Destroys, DestroysAll, Unwinds, Forgets}
 use Rattle.uc_code.specs.declared.rows.Spot.{Spot}
 use Rattle.uc_code.specs.declared.rows.Spot.TheVariants.{Local, This}
 use Rattle.uc_code.specs.declared.rows.Array.{Array}
 use Rattle.uc_code.specs.declared.rows.ObjectCall.{ObjectCall}
+use Rattle.uc_code.specs.declared.rows.Cleaning.{Cleaning}
+use Rattle.uc_code.specs.declared.rows.Cleaning.TheVariants as cleaning
 
 -- a place that begins in a spot: a variable, a field of the object at hand
 pub data BeginsAt : Expr → Spot → Type 0 where
@@ -21,7 +23,9 @@ pub data Calls : Expr → ObjectCall → Type 0 where
   Written : (r : ℕ) (e : Expr) (spot : Spot) (array : Option Array) → LiesAt e spot array → Calls (OfObject (CallOn r e NoExprs)) (record { spot = spot; array = array; routine = r; written = true })
   Unwritten : (r : ℕ) (e : Expr) (spot : Spot) (array : Option Array) → LiesAt e spot array → Calls (OfObject (CallUnwritten r e)) (record { spot = spot; array = array; routine = r; written = false })
 
--- the call that cleans up an object, or each element of an array of this length
-pub data Cleans : CleanUp → ObjectCall → Type 0 where
-  One : (e : Expr) (what : ObjectCall) → Calls e what → what.array ≡ None → Cleans (Destroys e) what
-  All : (n size : ℕ) (e : Expr) (what : ObjectCall) → Calls e what → what.array ≡ Some (record { length = n; size = size }) → Cleans (DestroysAll n e) what
+-- the call that cleans up an object, or each element of an array of this length; and what cleans up a coroutine
+pub data Cleans : CleanUp → Cleaning → Type 0 where
+  One : (e : Expr) (what : ObjectCall) → Calls e what → what.array ≡ None → Cleans (Destroys e) (cleaning.Call what)
+  All : (n size : ℕ) (e : Expr) (what : ObjectCall) → Calls e what → what.array ≡ Some (record { length = n; size = size }) → Cleans (DestroysAll n e) (cleaning.Call what)
+  TakesDown : Cleans Unwinds cleaning.TakeDown
+  IsForgotten : Cleans Forgets cleaning.Forget

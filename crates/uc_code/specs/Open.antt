@@ -8,6 +8,8 @@ use Rattle.uc_code.specs.declared.rows.TheConstants.{ANY_EVENT, NO_EVENT, OPEN_E
 use Rattle.uc_code.specs.declared.rows.Mark.{Mark}
 use Rattle.uc_code.specs.declared.rows.Mark.TheVariants as mark
 use Rattle.uc_code.specs.declared.rows.ObjectCall.{ObjectCall}
+use Rattle.uc_code.specs.declared.rows.Cleaning.{Cleaning}
+use Rattle.uc_code.specs.declared.rows.Cleaning.TheVariants as cleaning
 use Rattle.uc_code.specs.declared.rows.Opening.{Opening}
 use Rattle.uc_code.specs.declared.rows.Opening.TheVariants as opening
 use Rattle.uc_code.specs.declared.marks.Seen.{Seen}
@@ -32,7 +34,7 @@ named_by ns = name_of (first_in ns)
 abbrev pub row_in : List Mark → Option ℕ
 row_in [] = None
 row_in (mark.Body routine ∷ ms) = None
-row_in (mark.Finish routine line row ∷ ms) = Some row
+row_in (mark.Finish main routine line row ∷ ms) = Some row
 row_in (mark.Loop leave again ∷ ms) = None
 row_in (mark.Whole leave row ∷ ms) = Some row
 row_in (mark.Guard row ∷ ms) = Some row
@@ -45,7 +47,7 @@ row_in (mark.Outward below row ∷ ms) = Some row
 abbrev pub handler_in : List Mark → Option ℕ
 handler_in [] = None
 handler_in (mark.Body routine ∷ ms) = None
-handler_in (mark.Finish routine line row ∷ ms) = Some row
+handler_in (mark.Finish main routine line row ∷ ms) = Some row
 handler_in (mark.Loop leave again ∷ ms) = None
 handler_in (mark.Whole leave row ∷ ms) = Some row
 handler_in (mark.Guard row ∷ ms) = None
@@ -58,7 +60,7 @@ handler_in (mark.Outward below row ∷ ms) = None
 abbrev pub guard_in : List Mark → Option ℕ
 guard_in [] = None
 guard_in (mark.Body routine ∷ ms) = None
-guard_in (mark.Finish routine line row ∷ ms) = None
+guard_in (mark.Finish main routine line row ∷ ms) = None
 guard_in (mark.Loop leave again ∷ ms) = None
 guard_in (mark.Whole leave row ∷ ms) = None
 guard_in (mark.Guard row ∷ ms) = Some row
@@ -71,7 +73,7 @@ guard_in (mark.Outward below row ∷ ms) = None
 
 -- the mark of a row
 abbrev pub opening_mark : Opening → ℕ → Mark
-opening_mark (opening.Main routine line) row = mark.Finish routine line row
+opening_mark (opening.Main main routine line) row = mark.Finish main routine line row
 opening_mark (opening.Whole leave) row = mark.Whole leave row
 opening_mark opening.Handler row = mark.Guard row
 opening_mark (opening.Object what line) row = mark.Clean what line row
@@ -81,7 +83,7 @@ opening_mark (opening.Outward below) row = mark.Outward below row
 
 -- what kind of row it is: that of a handler is set once it is laid out
 abbrev pub opening_kind : Opening → RowKind
-opening_kind (opening.Main routine line) = CleanUp
+opening_kind (opening.Main main routine line) = CleanUp
 opening_kind (opening.Whole leave) = CleanUp
 opening_kind opening.Handler = Catch
 opening_kind (opening.Object what line) = CleanUp
@@ -90,7 +92,7 @@ opening_kind opening.Elements = CleanUp
 opening_kind (opening.Outward below) = CleanUp
 
 abbrev pub opening_event : Opening → ℕ
-opening_event (opening.Main routine line) = ANY_EVENT
+opening_event (opening.Main main routine line) = ANY_EVENT
 opening_event (opening.Whole leave) = ANY_EVENT
 opening_event opening.Handler = ANY_EVENT
 opening_event (opening.Object what line) = ANY_EVENT
@@ -100,7 +102,7 @@ opening_event (opening.Outward below) = NO_EVENT
 
 -- the number below which the rows around it are, where there are so many rows
 abbrev pub opening_bound : Opening → ℕ → ℕ
-opening_bound (opening.Main routine line) rows = rows
+opening_bound (opening.Main main routine line) rows = rows
 opening_bound (opening.Whole leave) rows = rows
 opening_bound opening.Handler rows = rows
 opening_bound (opening.Object what line) rows = rows
@@ -110,7 +112,7 @@ opening_bound (opening.Outward below) rows = below
 
 -- the rows around it
 abbrev pub opening_around : Opening → List Mark → List ℕ
-opening_around (opening.Main routine line) ms = handlers ms
+opening_around (opening.Main main routine line) ms = handlers ms
 opening_around (opening.Whole leave) ms = handlers ms
 opening_around opening.Handler ms = handlers ms
 opening_around (opening.Object what line) ms = handlers ms
@@ -130,12 +132,18 @@ opened o d = record d { rows = d.rows ++ made o (length d.ops) d.marks ∷ []; s
 pub record StandsBehind (ms : List Mark) (what : ObjectCall) : Type 0 where
   pub behind : what.written ≡ false → routine_in ms < what.routine
 
+-- so it does for what cleans up by a call
+abbrev pub CleansBehind : List Mark → Cleaning → Type 0
+CleansBehind ms (cleaning.Call what) = StandsBehind ms what
+CleansBehind ms cleaning.TakeDown = Unit {0}
+CleansBehind ms cleaning.Forget = Unit {0}
+
 -- so it is for what cleans up the objects in whose scope these marks stand
 abbrev pub OpensBehind : Opening → List Mark → Type 0
-OpensBehind (opening.Main routine line) ms = Unit {0}
+OpensBehind (opening.Main main routine line) ms = Unit {0}
 OpensBehind (opening.Whole leave) ms = Unit {0}
 OpensBehind opening.Handler ms = Unit {0}
-OpensBehind (opening.Object what line) ms = StandsBehind ms what
+OpensBehind (opening.Object what line) ms = CleansBehind ms what
 OpensBehind opening.Part ms = Unit {0}
 OpensBehind opening.Elements ms = Unit {0}
 OpensBehind (opening.Outward below) ms = Unit {0}
@@ -143,11 +151,11 @@ OpensBehind (opening.Outward below) ms = Unit {0}
 abbrev pub AllBehind : List Mark → Type 0
 AllBehind [] = Unit {0}
 AllBehind (mark.Body routine ∷ ms) = AllBehind ms
-AllBehind (mark.Finish routine line row ∷ ms) = AllBehind ms
+AllBehind (mark.Finish main routine line row ∷ ms) = AllBehind ms
 AllBehind (mark.Loop leave again ∷ ms) = AllBehind ms
 AllBehind (mark.Whole leave row ∷ ms) = AllBehind ms
 AllBehind (mark.Guard row ∷ ms) = AllBehind ms
-AllBehind (mark.Clean what line row ∷ ms) = StandsBehind ms what × AllBehind ms
+AllBehind (mark.Clean what line row ∷ ms) = CleansBehind ms what × AllBehind ms
 AllBehind (mark.Part row ∷ ms) = AllBehind ms
 AllBehind (mark.Elements row ∷ ms) = AllBehind ms
 AllBehind (mark.Outward below row ∷ ms) = AllBehind ms
@@ -170,7 +178,7 @@ Below k (n ∷ ns) = (n < k) × Below k ns
 abbrev pub Falling : List Mark → Type 0
 Falling [] = Unit {0}
 Falling (mark.Body routine ∷ ms) = Falling ms
-Falling (mark.Finish routine line row ∷ ms) = Below row (handlers ms) × Falling ms
+Falling (mark.Finish main routine line row ∷ ms) = Below row (handlers ms) × Falling ms
 Falling (mark.Loop leave again ∷ ms) = Falling ms
 Falling (mark.Whole leave row ∷ ms) = Below row (handlers ms) × Falling ms
 Falling (mark.Guard row ∷ ms) = Below row (handlers ms) × Falling ms
@@ -206,7 +214,7 @@ closed_by (Some number) entry d = record d { rows = closed_rows (length d.ops) e
 abbrev pub entry_in : List Mark → ℕ → ℕ
 entry_in [] entry = entry
 entry_in (mark.Body routine ∷ ms) entry = entry
-entry_in (mark.Finish routine line row ∷ ms) entry = entry
+entry_in (mark.Finish main routine line row ∷ ms) entry = entry
 entry_in (mark.Loop leave again ∷ ms) entry = entry
 entry_in (mark.Whole leave row ∷ ms) entry = entry
 entry_in (mark.Guard row ∷ ms) entry = 0
@@ -236,7 +244,7 @@ handled_rows h (suc number) (r ∷ rs) = r ∷ handled_rows h number rs
 abbrev pub is_rowless : List Mark → Bool
 is_rowless [] = false
 is_rowless (mark.Body routine ∷ ms) = true
-is_rowless (mark.Finish routine line row ∷ ms) = false
+is_rowless (mark.Finish main routine line row ∷ ms) = false
 is_rowless (mark.Loop leave again ∷ ms) = true
 is_rowless (mark.Whole leave row ∷ ms) = false
 is_rowless (mark.Guard row ∷ ms) = false
@@ -248,7 +256,7 @@ is_rowless (mark.Outward below row ∷ ms) = false
 abbrev pub left_marks : List Mark → List Mark
 left_marks [] = []
 left_marks (mark.Body routine ∷ ms) = ms
-left_marks (mark.Finish routine line row ∷ ms) = mark.Finish routine line row ∷ ms
+left_marks (mark.Finish main routine line row ∷ ms) = mark.Finish main routine line row ∷ ms
 left_marks (mark.Loop leave again ∷ ms) = ms
 left_marks (mark.Whole leave row ∷ ms) = mark.Whole leave row ∷ ms
 left_marks (mark.Guard row ∷ ms) = mark.Guard row ∷ ms
@@ -264,7 +272,7 @@ seen_row row bound = if nat_lt row bound then seen.Row row else seen.Bound bound
 
 abbrev pub seen_at : Mark → ℕ → Seen
 seen_at (mark.Body routine) bound = seen.Bound bound
-seen_at (mark.Finish routine line row) bound = seen_row row bound
+seen_at (mark.Finish main routine line row) bound = seen_row row bound
 seen_at (mark.Loop leave again) bound = seen.Bound bound
 seen_at (mark.Whole leave row) bound = seen_row row bound
 seen_at (mark.Guard row) bound = seen_row row bound
@@ -281,7 +289,7 @@ clean_room = 17
 abbrev pub exit_room : List Mark → ℕ
 exit_room [] = 1
 exit_room (mark.Body routine ∷ ms) = 1
-exit_room (mark.Finish routine line row ∷ ms) = 1
+exit_room (mark.Finish main routine line row ∷ ms) = 1
 exit_room (mark.Loop leave again ∷ ms) = exit_room ms
 exit_room (mark.Whole leave row ∷ ms) = 1
 exit_room (mark.Guard row ∷ ms) = exit_room ms

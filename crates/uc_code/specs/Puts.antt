@@ -6,14 +6,16 @@ use Rattle.uc_code.specs.declared.rows.Array.{Array}
 use Rattle.uc_code.specs.declared.rows.Mark.{Mark}
 use Rattle.uc_code.specs.declared.rows.Mark.TheVariants as mark
 use Rattle.uc_code.specs.declared.rows.ObjectCall.{ObjectCall}
+use Rattle.uc_code.specs.declared.rows.Cleaning.{Cleaning}
+use Rattle.uc_code.specs.declared.rows.Cleaning.TheVariants as cleaning
 use Rattle.uc_code.specs.declared.rows.Way.{Way}
 use Rattle.uc_code.specs.declared.rows.Way.TheVariants as way
 use Rattle.uc_code.specs.Drafts.{Draft}
 use Rattle.uc_tree.specs.Source as source
 use Rattle.uc_code.specs.Laid.{Laid, laid_in, handlers, under, routine_in}
-use Rattle.uc_code.specs.Ranges.{Kept}
+use Rattle.uc_code.specs.Ranges.{Kept, main_end}
 use Rattle.uc_code.specs.Lowered.{CleanAt, ExitAt}
-use Rattle.uc_code.specs.Open.{StandsBehind, clean_room, exit_room}
+use Rattle.uc_code.specs.Open.{CleansBehind, clean_room, exit_room}
 
 -- a draft with at most n ops more, for which S holds, and with rows that are closed; else it is as it was
 pub record Puts (n : ℕ) (S : Laid → ℕ → ℕ → Type 0) (old new : Draft) : Type 0 where
@@ -39,8 +41,13 @@ abbrev pub clean_by : Option Array → ObjectCall → ℕ
 clean_by None what = done_length what
 clean_by (Some a) what = 2 * done_length what + 5
 
-abbrev pub clean_length : ObjectCall → ℕ
-clean_length what = clean_by what.array what
+abbrev pub call_length : ObjectCall → ℕ
+call_length what = clean_by what.array what
+
+abbrev pub clean_length : Cleaning → ℕ
+clean_length (cleaning.Call what) = call_length what
+clean_length cleaning.TakeDown = 1
+clean_length cleaning.Forget = 1
 
 -- the last op of a way out
 
@@ -54,7 +61,7 @@ end_op way.End = op.ReturnNone
 -- the op with which a mark ends a way, and its line, where it does
 abbrev pub ends_at : Way → Mark → ℕ → Option (Op × ℕ)
 ends_at w (mark.Body routine) line = Some (end_op w, 0)
-ends_at w (mark.Finish routine last row) line = Some (op.Return, last)
+ends_at w (mark.Finish main routine last row) line = Some (main_end main, last)
 ends_at way.Break (mark.Loop leave again) line = Some (op.Jump leave, line)
 ends_at way.Continue (mark.Loop leave again) line = Some (op.Jump again, line)
 ends_at way.Value (mark.Loop leave again) line = None
@@ -67,7 +74,7 @@ ends_at w (mark.Elements row) line = None
 ends_at w (mark.Outward below row) line = Some (end_op w, 0)
 
 -- a draft with the code of a clean-up under whatever marks have the rows below this one
-pub record PutsLeft (what : ObjectCall) (row line : ℕ) (old new : Draft) : Type 0 where
+pub record PutsLeft (what : Cleaning) (row line : ℕ) (old new : Draft) : Type 0 where
   pub rest : new ≡ record old { ops = new.ops; rows = new.rows; settled = new.settled }
   pub kept : Kept (laid_in old) (laid_in new)
   pub room : length new.ops ≤ length old.ops + clean_room
@@ -80,7 +87,7 @@ past_room (mark.Clean what line row) = clean_room
 past_room _ = 0
 
 abbrev pub PastBehind : Mark → List Mark → Type 0
-PastBehind (mark.Clean what line row) ms = StandsBehind ms what
+PastBehind (mark.Clean what line row) ms = CleansBehind ms what
 PastBehind _ ms = Unit {0}
 
 -- what leaving it does to a draft

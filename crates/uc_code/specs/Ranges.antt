@@ -2,11 +2,13 @@
 -- hold is said by cases on the piece, and these are the parts of which such cases are made.
 use Rattle.std.specs.Prelude.{◌≡◌, ◌≢◌, ℕ, ◌+◌, ◌^◌, ◌≤◌, ◌<◌, List, [], ◌∷◌, true, Some, slice_get, length}
 use Rattle.uc_code.specs.declared.op.Op.{Op}
-use Rattle.uc_code.specs.declared.op.Op.TheVariants.{Jump, IfZero, IfNonzero, Tick, CallUnwritten, Count, Return, Handled, Unhandled, Unwind}
+use Rattle.uc_code.specs.declared.op.Op.TheVariants.{Jump, IfZero, IfNonzero, Tick, CallUnwritten, Count, Return, EndMain, Escape, Handled, Unhandled, Unwind}
 use Rattle.uc_code.specs.declared.rows.HandlerRow.{HandlerRow}
 use Rattle.uc_code.specs.declared.rows.Handler.{Handler}
 use Rattle.uc_code.specs.declared.rows.RowKind.TheVariants.{CleanUp}
 use Rattle.uc_code.specs.declared.rows.TheConstants.{ANY_EVENT, OPEN_END}
+use Rattle.uc_code.specs.declared.rows.MainOf.{MainOf}
+use Rattle.uc_code.specs.declared.rows.MainOf.TheVariants as main_of
 use Rattle.uc_code.specs.declared.rows.Mark.{Mark}
 use Rattle.uc_code.specs.declared.rows.Mark.TheVariants.{Finish, Loop, Whole, Elements, Outward}
 use Rattle.uc_tree.specs.Source.{Order, TestFirst, BodyFirst, NoTest}
@@ -130,13 +132,23 @@ pub record WholeAt (code : Laid) (line : ℕ) (ms : List Mark) (B : List Mark �
   pub tests : Risk code ms Handled line (body_end + 1) z
   pub handler : HandlerAt code row (clean_up (body_end + 1))
 
+-- the end of a main, and its end where it is unwound
+
+abbrev pub main_end : MainOf → Op
+main_end main_of.Task = Return
+main_end main_of.Coroutine = EndMain
+
+abbrev pub main_left : MainOf → Op
+main_left main_of.Task = Unhandled
+main_left main_of.Coroutine = Escape
+
 -- the statements of a main, which ends in this line, also where it is unwound
-pub record MainAt (code : Laid) (routine line : ℕ) (B : List Mark → ℕ → ℕ → Type 0) (a z : ℕ) : Type 0 where
+pub record MainAt (code : Laid) (main : MainOf) (routine line : ℕ) (B : List Mark → ℕ → ℕ → Type 0) (a z : ℕ) : Type 0 where
   pub row : ℕ
   pub body_end : ℕ
-  pub body : B (Finish routine line row ∷ []) a body_end
-  pub returns : OpAt code body_end Return line
-  pub unwound : OpAt code (body_end + 1) Unhandled line
+  pub body : B (Finish main routine line row ∷ []) a body_end
+  pub returns : OpAt code body_end (main_end main) line
+  pub unwound : OpAt code (body_end + 1) (main_left main) line
   pub end : z ≡ body_end + 2
   pub handler : HandlerAt code row (clean_up (body_end + 1))
 

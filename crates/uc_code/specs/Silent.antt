@@ -1,5 +1,9 @@
--- Statements in which no event is raised: those of constructors and destructors that nobody wrote.
-use Rattle.uc_tree.specs.Source.{Stmt, Block, Whole, If, Loop, OfEvents, Stmts, Nil, Then, Scoped, Built}
+-- Statements in which no event is raised and no coroutine resumed: those of constructors and destructors that nobody wrote.
+use Rattle.uc_tree.specs.Source.{Stmt, Block, Whole, If, Loop, OfEvents, OfTasks, TaskStmt, Resume, Stmts, Nil, Then, Scoped, Built}
+
+abbrev pub silent_task : TaskStmt → Type 0
+silent_task (Resume line) = ⊥
+silent_task _ = Unit {0}
 
 abbrev mutual
   pub silent : Stmt → Type 0
@@ -8,6 +12,7 @@ abbrev mutual
   silent (If line test chosen other) = silent chosen × silent other
   silent (Loop line order test step body) = silent body
   silent (OfEvents s) = ⊥
+  silent (OfTasks s) = silent_task s
   silent _ = Unit {0}
 
   pub silent_all : Stmts → Type 0

@@ -4,13 +4,14 @@ ghost use Rattle.std.specs.Prelude.{◌≡◌, ◌+◌, ◌≤◌, ◌<◌, true
 ghost use Rattle.uc_tree.specs.declared.limits.TheConstants.{PROGRAM_OPS};
 ghost use Rattle.uc_code.specs.Leaving.{way_of};
 ghost use Rattle.uc_code.specs.Ranges.{One, Risk};
+ghost use Rattle.uc_code.specs.declared.rows.Cleaning.TheVariants as cleaning;
 ghost use Rattle.uc_code.specs.Lowered.{spot_op, SpotAt, CalledAt, CallAt, CallDone, CleanBy, CleanAt, ExitAt};
-ghost use Rattle.uc_code.specs.Open.{StandsBehind, clean_room, exit_room};
-ghost use Rattle.uc_code.specs.Puts.{Puts, PutsLeft, PastBehind, PutsPast, past_room, done_length, clean_length, end_op, ends_at};
+ghost use Rattle.uc_code.specs.Open.{StandsBehind, CleansBehind, clean_room, exit_room};
+ghost use Rattle.uc_code.specs.Puts.{Puts, PutsLeft, PastBehind, PutsPast, past_room, done_length, call_length, clean_length, end_op, ends_at};
 
 use crate::draft::Draft;
 use crate::op::Op;
-use crate::rows::{Array, Mark, ObjectCall, Opening, Spot, Way};
+use crate::rows::{Array, Cleaning, Mark, ObjectCall, Opening, Spot, Way};
 use std::alloc::AllocError;
 
 // One op.
@@ -132,13 +133,24 @@ pub fn done_length(what: ObjectCall) -> u32
     place + called + 1
 }
 
-/// How many ops a clean-up takes.
-pub fn clean_length(what: ObjectCall) -> u32
-    ensures { result ≡ clean_length what }
+// How many ops the clean-up of an object, or of all elements of an array, takes.
+fn call_length(what: ObjectCall) -> u32
+    ensures { result ≡ call_length what }
 {
     match what.array {
         Some(_) => 2 * done_length(what) + 5,
         None => done_length(what),
+    }
+}
+
+/// How many ops a clean-up takes.
+pub fn clean_length(what: Cleaning) -> u32
+    ensures { result ≡ clean_length what }
+{
+    match what {
+        Cleaning::Call(call) => call_length(call),
+        Cleaning::TakeDown => 1,
+        Cleaning::Forget => 1,
     }
 }
 
@@ -167,12 +179,11 @@ fn put_sweep(what: ObjectCall, array: Array, line: u32, out: &mut Draft) -> Resu
     Ok(())
 }
 
-/// Adds the code that cleans up an object, or all elements of an array, the last one first. After want of memory the draft is
-/// spent.
-pub fn put_clean(what: ObjectCall, line: u32, out: &mut Draft) -> Result<(), AllocError>
+// An object is cleaned up, or all elements of an array, the last one first.
+fn put_destroyed(what: ObjectCall, line: u32, out: &mut Draft) -> Result<(), AllocError>
     requires room { length out.old.ops + clean_room ≤ PROGRAM_OPS }
     requires behind { StandsBehind out.old.marks what }
-    ensures { OnOk result (Puts clean_room (λ code. CleanAt code line what out.old.marks) out.old out.new) }
+    ensures { OnOk result (Puts clean_room (λ code. CleanAt code line (cleaning.Call what) out.old.marks) out.old out.new) }
 {
     match what.array {
         Some(array) => {
@@ -181,6 +192,28 @@ pub fn put_clean(what: ObjectCall, line: u32, out: &mut Draft) -> Result<(), All
         }
         None => {
             put_done(what, line, out)?;
+            Ok(())
+        }
+    }
+}
+
+/// Adds the code of a clean-up. After want of memory the draft is spent.
+pub fn put_clean(what: Cleaning, line: u32, out: &mut Draft) -> Result<(), AllocError>
+    requires room { length out.old.ops + clean_room ≤ PROGRAM_OPS }
+    requires behind { CleansBehind out.old.marks what }
+    ensures { OnOk result (Puts clean_room (λ code. CleanAt code line what out.old.marks) out.old out.new) }
+{
+    match what {
+        Cleaning::Call(call) => {
+            put_destroyed(call, line, out)?;
+            Ok(())
+        }
+        Cleaning::TakeDown => {
+            put(Op::UnwindCoroutine, line, out)?;
+            Ok(())
+        }
+        Cleaning::Forget => {
+            put(Op::Forget, line, out)?;
             Ok(())
         }
     }
@@ -204,7 +237,7 @@ fn ends_at(way: Way, mark: Mark, line: u32) -> Option<(Op, u32)>
 {
     match mark {
         Mark::Body { .. } => Some((end_op(way), 0)),
-        Mark::Finish { line, .. } => Some((Op::Return, line)),
+        Mark::Finish { main, line, .. } => Some((main.end(), line)),
         Mark::Loop { leave, again } => match way {
             Way::Break => Some((Op::Jump(leave), line)),
             Way::Continue => Some((Op::Jump(again), line)),
@@ -221,9 +254,9 @@ fn ends_at(way: Way, mark: Mark, line: u32) -> Option<(Op, u32)>
 }
 
 // An object is cleaned up on the way out of its scope, whose row is left for the while.
-fn put_left(what: ObjectCall, row: u32, line: u32, out: &mut Draft) -> Result<(), AllocError>
+fn put_left(what: Cleaning, row: u32, line: u32, out: &mut Draft) -> Result<(), AllocError>
     requires room { length out.old.ops + clean_room ≤ PROGRAM_OPS }
-    requires behind { StandsBehind out.old.marks what }
+    requires behind { CleansBehind out.old.marks what }
     ensures { OnOk result (PutsLeft what row line out.old out.new) }
 {
     let _row = out.open(Opening::Outward { below: row })?;

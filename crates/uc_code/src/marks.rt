@@ -12,7 +12,16 @@ pub(crate) fn mark_of(opening: Opening, row: u32) -> Mark
     ensures { result ≡ opening_mark opening row }
 {
     match opening {
-        Opening::Main { routine, line } => Mark::Finish { routine, line, row },
+        Opening::Main {
+            main,
+            routine,
+            line,
+        } => Mark::Finish {
+            main,
+            routine,
+            line,
+            row,
+        },
         Opening::Whole { leave } => Mark::Whole { leave, row },
         Opening::Handler => Mark::Guard { row },
         Opening::Object { what, line } => Mark::Clean { what, line, row },

@@ -119,18 +119,26 @@ pub enum Op {
     Spawn(u32),
     /// The object is no more.
     Gone,
-    /// Sets up a coroutine whose main is the routine.
+    /// The coroutine at hand gets an execution whose main is the routine.
     Coroutine(u32),
-    /// Marks a coroutine live.
+    /// The coroutine at hand is live.
     Live,
-    /// Unwinds a coroutine.
+    /// The fault of a coroutine that is not live, whose place lies below the arguments of the routine.
+    Alive(u32),
+    /// The coroutine at hand is live no more, and unwound.
     UnwindCoroutine,
-    /// Resumes a coroutine.
+    /// The execution of the coroutine at hand is no more.
+    Forget,
+    /// Resumes the coroutine at hand.
     Resume,
-    /// Suspends the running coroutine.
+    /// Suspends the running execution.
     Suspend,
+    /// Goes on behind a switch, or unwinds where there is a reason by now.
+    Land,
     /// Ends the main of a coroutine.
     EndMain,
+    /// Where the main of a coroutine is unwound, ends it as the reason says: by a return, a destruction or an event.
+    Escape,
     /// Throws an event: pops its fields and its number.
     Throw,
     /// Raises an event for resumption: pops its fields and its number.
@@ -253,10 +261,14 @@ impl Op {
             Op::Gone => b"gone",
             Op::Coroutine(_) => b"coro",
             Op::Live => b"live",
+            Op::Alive(_) => b"alive",
             Op::UnwindCoroutine => b"uncoro",
+            Op::Forget => b"forget",
             Op::Resume => b"resume",
             Op::Suspend => b"suspend",
+            Op::Land => b"land",
             Op::EndMain => b"endmain",
+            Op::Escape => b"escape",
             Op::Throw => b"throw",
             Op::Raise => b"raise",
             Op::RaiseAt(_) => b"at",
@@ -350,10 +362,14 @@ impl Op {
             Op::Gone => Operands::Nothing,
             Op::Coroutine(number) => Operands::One(number as u64),
             Op::Live => Operands::Nothing,
+            Op::Alive(number) => Operands::One(number as u64),
             Op::UnwindCoroutine => Operands::Nothing,
+            Op::Forget => Operands::Nothing,
             Op::Resume => Operands::Nothing,
             Op::Suspend => Operands::Nothing,
+            Op::Land => Operands::Nothing,
             Op::EndMain => Operands::Nothing,
+            Op::Escape => Operands::Nothing,
             Op::Throw => Operands::Nothing,
             Op::Raise => Operands::Nothing,
             Op::RaiseAt(number) => Operands::One(number as u64),

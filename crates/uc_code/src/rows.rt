@@ -2,6 +2,7 @@
 
 ghost use Rattle.std.specs.Prelude.{◌≡◌};
 ghost use Rattle.uc_code.specs.Listing.{kind_number};
+ghost use Rattle.uc_code.specs.Ranges.{main_end, main_left};
 
 use crate::op::Op;
 
@@ -92,10 +93,48 @@ pub struct ObjectCall {
     pub written: bool,
 }
 
-/// What stands around a statement in its routine: the statements of the routine of this number, which is the main of a task
-/// where it has the line in which that ends and a row; a loop, with the ops to which `break` and `continue` jump; a
+/// What cleans up: the call of a destructor; or, of the coroutine that is built or destroyed, that it is unwound, and that its
+/// execution is no more.
+#[derive(Clone, Copy, PartialEq, Eq, Debug)]
+pub enum Cleaning {
+    Call(ObjectCall),
+    TakeDown,
+    Forget,
+}
+
+/// Whose main a routine is: that of a task or that of a coroutine.
+#[derive(Clone, Copy, PartialEq, Eq, Debug)]
+pub enum MainOf {
+    Task,
+    Coroutine,
+}
+
+impl MainOf {
+    /// The end of such a main.
+    pub fn end(self) -> Op
+        ensures { result ≡ main_end self }
+    {
+        match self {
+            MainOf::Task => Op::Return,
+            MainOf::Coroutine => Op::EndMain,
+        }
+    }
+
+    /// Its end where it is unwound.
+    pub fn left(self) -> Op
+        ensures { result ≡ main_left self }
+    {
+        match self {
+            MainOf::Task => Op::Unhandled,
+            MainOf::Coroutine => Op::Escape,
+        }
+    }
+}
+
+/// What stands around a statement in its routine: the statements of the routine of this number, which is the main of a task or of a
+/// coroutine where it has the line in which that ends and a row; a loop, with the ops to which `break` and `continue` jump; a
 /// block that is left as a whole, with the op to which whatever leaves it jumps and its row; a handler of a guarded block, with its
-/// row; the scope of an object, with the call that cleans it up, the line of its
+/// row; the scope of an object, with what cleans it up, the line of its
 /// block, and its row; a part of an object under construction, with its row; the turns over the elements of an array, with
 /// their row; or the code of an exit or of a handler of resumptions, which has left all marks with rows from this number on.
 #[derive(Clone, Copy, PartialEq, Eq, Debug)]
@@ -104,6 +143,7 @@ pub enum Mark {
         routine: u32,
     },
     Finish {
+        main: MainOf,
         routine: u32,
         line: u32,
         row: u32,
@@ -120,7 +160,7 @@ pub enum Mark {
         row: u32,
     },
     Clean {
-        what: ObjectCall,
+        what: Cleaning,
         line: u32,
         row: u32,
     },
@@ -136,19 +176,30 @@ pub enum Mark {
     },
 }
 
-/// What opens a row: the statements of the routine of this number, which is the main of a task and ends in this line; a block that is
-/// left as a whole, by a jump to this op; a handler of a guarded block; the scope of an object, with the call that cleans it up and the
-/// line of its block; a part of an object under construction; turns over the elements of an array; or the code of an exit or of a
+/// What opens a row: the statements of the routine of this number, which is the main of a task or of a coroutine and ends in this line; a
+/// block that is left as a whole, by a jump to this op; a handler of a guarded block; the scope of an object, with what cleans it up and
+/// the line of its block; a part of an object under construction; turns over the elements of an array; or the code of an exit or of a
 /// handler, which leaves all marks with rows from this number on.
 #[derive(Clone, Copy, PartialEq, Eq, Debug)]
 pub enum Opening {
-    Main { routine: u32, line: u32 },
-    Whole { leave: u32 },
+    Main {
+        main: MainOf,
+        routine: u32,
+        line: u32,
+    },
+    Whole {
+        leave: u32,
+    },
     Handler,
-    Object { what: ObjectCall, line: u32 },
+    Object {
+        what: Cleaning,
+        line: u32,
+    },
     Part,
     Elements,
-    Outward { below: u32 },
+    Outward {
+        below: u32,
+    },
 }
 
 /// What leaves statements before their end: `break`, `continue`, and a return with a value or without one.

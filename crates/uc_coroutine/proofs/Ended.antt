@@ -8,6 +8,7 @@ use Rattle.uc_meaning.specs.Quiet as quiet
 use Rattle.uc_meaning.specs.Quiet.{Finish, State, Goes, stay, more, nought, quiet as step}
 use Rattle.uc_meaning.specs.Pieces.{Unwind}
 use Rattle.uc_meaning.specs.Raising.{arrives, whole_left, main_left, unwind_past}
+use Rattle.uc_code.specs.declared.rows.MainOf.TheVariants as main_of
 use Rattle.uc_code.specs.Laid.{Laid}
 use Rattle.uc_frames.specs.Machine.{Active, Machine}
 use Rattle.uc_frames.specs.Machine as machine
@@ -61,7 +62,7 @@ module _ (source : Source) (code : Laid) (old new : Machine) (s : State) where
         let f : b ≡ arrives s.run.raised (length s.callers) = e ∙ (ap (λ o. arrives o (length old.callers)) r ∙ ap (arrives s.run.raised) n) in
         block_by b (past_is ∙ ap (λ c. whole_left c h.run.rest s) (sym f)) (q ∙ ap (λ j. block_over b j old) k)
 
-  module _ (h : EndsMain code old s) where
+  module _ (h : EndsMain code main_of.Task old s) where
     main_is : step source s ≡ main_left s.run.raised h.run.rest s
     main_is = ap (λ todo. quiet.act_todo source todo s) h.run.todo ∙ ap (λ x. unwind_past x h.run.rest s) h.run.main
 
@@ -70,7 +71,7 @@ module _ (source : Source) (code : Laid) (old new : Machine) (s : State) where
     calm = record s { run = calmed (Finish ∷ h.run.rest) s.run }
 
     ended : (ms : List Active) (cs : List quiet.Active) → old.callers ≡ ms → s.callers ≡ cs → Lined (CallerStands code) ms cs → step source s ≡ Goes calm → new ≡ main_over (ended_by ms) old → MainLeft source code (ended_by ms) new s
-    ended [] [] i j l w q = record { before = calm; after = calm; by = more w stay; line = sym (main_line code old s h); asks = ap (λ cs. quiet.return_step nought cs calm) j }
+    ended [] [] i j l w q = record { before = calm; after = calm; by = more w stay; line = sym (main_line code main_of.Task old s h); asks = ap (λ cs. quiet.return_step nought cs calm) j }
     ended [] (c ∷ cs) i j l w q = absurd l
     ended (m ∷ ms) [] i j l w q = absurd l
     ended (m ∷ ms) (c ∷ cs) i j l w q =

@@ -9,7 +9,7 @@ use Rattle.uc_meaning.specs.Executions.{one_call_less, others, left_for, returne
 use Rattle.uc_meaning.specs.Quiet as quiet
 use Rattle.uc_meaning.specs.Quiet.{Value, State, Step, Goes, quiet as step}
 use Rattle.uc_meaning.specs.Pieces.{Unwind}
-use Rattle.uc_meaning.specs.Raising.{arrives, escapes, pass_on, leave_for, leave_step, return_past, end_by}
+use Rattle.uc_meaning.specs.Raising.{arrives, escapes, why_by, pass_on, leave_for, leave_step, return_past, end_by}
 use Rattle.uc_code.specs.Laid.{Laid}
 use Rattle.uc_frames.specs.declared.cell.Cell.{Cell}
 use Rattle.uc_frames.specs.Machine.{Active, Machine, Cells, cell_of}
@@ -20,7 +20,7 @@ use Rattle.uc_frames.specs.Unwinding.{passed, unwound_by}
 use Rattle.uc_frames.specs.Unwound.{UnwindStands, Unwinds, LeavesNow, Returns}
 use Rattle.uc_coroutine.specs.declared.leaving.Left.{Left}
 use Rattle.uc_coroutine.specs.declared.leaving.Left.TheVariants.{Returned, Escaped}
-use Rattle.uc_coroutine.specs.Unwinding.{goes_by, ending_by, passed_as, left_as, past_of, Made}
+use Rattle.uc_coroutine.specs.Unwinding.{goes_by, ending_by, passed_for, passed_as, left_as, past_of, Made}
 use Rattle.uc_coroutine.specs.Outcomes.{GoesTo, LeftAs, ReturnsPast}
 
 frames_others : (fs : List (List Value)) → others (map (map cell_of) fs) ≡ map (map cell_of) (others fs)
@@ -108,7 +108,9 @@ module _ (source : Source) (code : Laid) where
     by_reason : (o : Option Reason) (m : Active) (ms : List Active) (c : quiet.Active) (cs : List quiet.Active) → CallerStands code m c → Lined (CallerStands code) ms cs → old.callers ≡ m ∷ ms → old.run.raised ≡ o → step source s ≡ pass_on o c cs s → new ≡ left_as (goes_by o) old → LeftAs source code (goes_by o) new s
     by_reason None m ms c cs k l i z w q = w
     by_reason (Some why) m ms c cs k l i z w q =
-        passes why m ms c cs k l w (q ∙ (ap (λ o. passed_as o old) z ∙ ap (λ ns. passed why old.run.result ns old) i))
+        let x : m.raised ≡ c.raised = ap (λ (a : Active). a.raised) k.stands.is in
+        passes (why_by why c.raised) m ms c cs k l w
+        (q ∙ (ap (λ o. passed_as o old) z ∙ (ap (λ ns. passed_for why ns old) i ∙ ap (λ o. passed (why_by why o) old.run.result (m ∷ ms) old) x)))
 
     by_escape : (b : Bool) (m : Active) (ms : List Active) (c : quiet.Active) (cs : List quiet.Active) → CallerStands code m c → Lined (CallerStands code) ms cs → old.callers ≡ m ∷ ms → step source s ≡ leave_for b c cs s → new ≡ left_as (if b then Escaped else goes_by r) old → LeftAs source code (if b then Escaped else goes_by r) new s
     by_escape true m ms c cs k l i w q = w

@@ -1,3 +1,4 @@
 pub mod Ended
 pub mod Lefts
+pub mod Switched
 pub mod Unwound

@@ -9,6 +9,7 @@ use Rattle.uc_meaning.specs.Pieces.{Unwind}
 use Rattle.uc_code.specs.declared.rows.HandlerRow.{HandlerRow}
 use Rattle.uc_code.specs.declared.rows.RowKind.{RowKind}
 use Rattle.uc_code.specs.declared.rows.RowKind.TheVariants as kind
+use Rattle.uc_code.specs.declared.rows.MainOf.{MainOf}
 use Rattle.uc_code.specs.Laid.{Laid, handlers, chain}
 use Rattle.uc_code.specs.Ranges.{HandlerAt, clean_up}
 use Rattle.uc_frames.specs.declared.search.Sought.{Sought}
@@ -193,19 +194,22 @@ module _ (code : Laid) where
           });
         }))
 
-    ends : (n : ℕ) → comes_to.EndsMain source code s.run s.callers s.env r n s → new ≡ cleaned_by (slice_get code.rows n) old → Begins source code new s
-    ends n c q =
+    ends : (n : ℕ) (whose : MainOf) → comes_to.EndsMain source code s.run s.callers s.env r whose n s → new ≡ cleaned_by (slice_get code.rows n) old → Begins source code new s
+    ends n whose c q =
         let e : new ≡ record old { run = cleaning c.entry old.run } = q ∙ cleaned_now n c.entry c.handler in
         let t : State = record s { run = record s.run { control = Unwind ∷ (c.finish ∷ c.rest); operands = c.operands } } in
-        inr (inr (record {
-          after = t;
-          by = c.by;
-          stands = subst (λ (m : Machine). EndsMain code m t) (sym e) (record {
-            run = record { finish = c.finish; main = c.main; rest = c.rest; todo = refl; ends = c.ends; is = cleaned c.entry (Unwind ∷ (c.finish ∷ c.rest)) };
-            callers = h.callers;
-            env = h.env;
-          });
-        }))
+        inr (inr (
+          whose,
+          record {
+            after = t;
+            by = c.by;
+            stands = subst (λ (m : Machine). EndsMain code whose m t) (sym e) (record {
+              run = record { finish = c.finish; main = c.main; rest = c.rest; todo = refl; ends = c.ends; is = cleaned c.entry (Unwind ∷ (c.finish ∷ c.rest)) };
+              callers = h.callers;
+              env = h.env;
+            });
+          },
+        ))
 
     leaves : Leaves source code s.run s.callers s.env r s → new ≡ old → Leads source code (LeavesNow code) new s
     leaves c q =
@@ -263,9 +267,9 @@ module _ (code : Laid) where
       by_comes (Some n) t i e m (ToBlock _ _ c) =
           let d = begins_by n c.entry c.handler e m in
           subst (λ x. UnwoundTo source code x row new s) (sym d.0) (tests n (subst (comes_to.TestsBlock source code s.run s.callers s.env r n) i c) d.1)
-      by_comes (Some n) t i e m (ToMain _ _ c) =
+      by_comes (Some n) t i e m (ToMain whose _ _ c) =
           let d = begins_by n c.entry c.handler e m in
-          subst (λ x. UnwoundTo source code x row new s) (sym d.0) (ends n (subst (comes_to.EndsMain source code s.run s.callers s.env r n) i c) d.1)
+          subst (λ x. UnwoundTo source code x row new s) (sym d.0) (ends n whose (subst (comes_to.EndsMain source code s.run s.callers s.env r whose n) i c) d.1)
       by_comes (Some n) t i e m (ToHandler _ _ c) =
           let w = c.handler_at in
           let f : is_found (sought.Stop row) n (slice_get code.rows n) ≡ true = found_is code.rows (sought.Stop row) ns n (stop_is ∙ e) in

@@ -6,6 +6,7 @@ use Rattle.uc_meaning.specs.Faults.{fault_number}
 use Rattle.uc_meaning.specs.declared.request.Request.TheVariants as ask
 use Rattle.uc_meaning.specs.Quiet.{Value, State, Goes, Asks, quiet, Quietly}
 use Rattle.uc_meaning.specs.Raising.{end_by}
+use Rattle.uc_code.specs.declared.rows.MainOf.{MainOf}
 use Rattle.uc_code.specs.Laid.{Laid, chain}
 use Rattle.uc_frames.specs.Machine.{Machine}
 use Rattle.uc_frames.specs.Searches.{catcher_in}
@@ -33,9 +34,13 @@ module _ (source : Source) (code : Laid) where
     pub by : Quietly source s after
     pub stands : P m after
 
+  -- a main is left, of a task or of a coroutine
+  abbrev pub LeavesMain : Machine → State → Type 0
+  LeavesMain m s = (whose : MainOf) × Leads (EndsMain code whose) m s
+
   -- a clean-up begins, or the op comes that tests whether the unwinding of a block is over, or that ends a main
   abbrev pub Begins : Machine → State → Type 0
-  Begins m s = Leads (Stands code) m s ⊎ (Leads (TestsBlock code) m s ⊎ Leads (EndsMain code) m s)
+  Begins m s = Leads (Stands code) m s ⊎ (Leads (TestsBlock code) m s ⊎ LeavesMain m s)
 
   abbrev pub UnwoundTo : Bool → Option ℕ → Machine → State → Type 0
   UnwoundTo true row m s = Begins m s

@@ -3,7 +3,7 @@ use Rattle.std.specs.Prelude.{◌≡◌, ℕ, List, [], ◌∷◌, length, Optio
 use Rattle.uc_meaning.specs.declared.exec.Reason.{Reason}
 use Rattle.uc_meaning.specs.declared.exec.Reason.TheVariants as reason
 use Rattle.uc_meaning.specs.declared.exec.Visited.{Visited}
-use Rattle.uc_meaning.specs.Raising.{arrives, escapes}
+use Rattle.uc_meaning.specs.Raising.{arrives, escapes, why_by}
 use Rattle.uc_code.specs.declared.rows.HandlerRow.{HandlerRow}
 use Rattle.uc_code.specs.Laid.{chain}
 use Rattle.uc_frames.specs.declared.search.Sought.TheVariants.{Stop}
@@ -24,11 +24,17 @@ abbrev pub cleaned_by : Option HandlerRow → Machine → Machine
 cleaned_by None m = m
 cleaned_by (Some r) m = record m { run = cleaning r.entry m.run }
 
--- the running activation is left, where one of these waits
+-- the running activation is left for the newest of these, which is unwound in its turn; where that is destroyed with its coroutine, that
+-- goes on
+abbrev pub passed_for : Reason → List Active → Machine → Machine
+passed_for why [] m = m
+passed_for why (c ∷ cs) m = passed (why_by why c.raised) m.run.result (c ∷ cs) m
+
+-- so it is, where one of these waits
 abbrev pub passed_on : Option Reason → List Active → Machine → Option Machine
 passed_on None cs m = None
 passed_on (Some why) [] m = None
-passed_on (Some why) (c ∷ cs) m = Some (passed why m.run.result (c ∷ cs) m)
+passed_on (Some why) (c ∷ cs) m = Some (passed_for why (c ∷ cs) m)
 
 module _ (rows : List HandlerRow) (frame : ℕ) (row : Option ℕ) where
   abbrev pub step_by : Option ℕ → Machine → Option Machine
@@ -55,7 +61,7 @@ ending_by r (c ∷ cs) = if arrives r (length (c ∷ cs)) then Returned else (if
 
 abbrev pub passed_as : Option Reason → Machine → Machine
 passed_as None m = m
-passed_as (Some why) m = passed why m.run.result m.callers m
+passed_as (Some why) m = passed_for why m.callers m
 
 -- so it is afterwards
 abbrev pub left_as : Left → Machine → Machine

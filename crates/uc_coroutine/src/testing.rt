@@ -5,6 +5,7 @@ ghost use Rattle.uc_tree.specs.Source.{Source};
 ghost use Rattle.uc_meaning.specs.Quiet.{State};
 ghost use Rattle.uc_meaning.specs.Raising.{arrives as arrives_by};
 ghost use Rattle.uc_code.specs.Laid.{Laid};
+ghost use Rattle.uc_code.specs.declared.rows.MainOf.TheVariants as main_of;
 ghost use Rattle.uc_frames.specs.Unwound.{TestsBlock, EndsMain};
 ghost use Rattle.uc_coroutine.specs.Ends.{is_return as is_return_by, block_over, main_by, main_over, BlockLeft, MainLeft};
 
@@ -47,12 +48,12 @@ fn end_at(work: &mut Work, behind: u32) -> bool
     }
 }
 
-/// A main that is unwound ends where the reason is a return. Where it is the last activation, or an event is not handled, all stays as it is.
+/// The main of a task that is unwound ends where the reason is a return. Where it is the last activation, or an event is not handled, all stays as it is.
 pub fn end_main(work: &mut Work) -> Result<MainEnd, AllocError>
     ensures how { IfOk result (λ end. end ≡ main_by work.old.run.raised work.old.callers) }
     ensures now { IfOk result (λ end. work.new ≡ main_over end work.old) }
     ensures err { OnErr result (work.new ≡ work.old) }
-    ensures source { IfOk result (λ end. (source : Source) (code : Laid) (s : State) → EndsMain code work.old s → MainLeft source code end work.new s) }
+    ensures source { IfOk result (λ end. (source : Source) (code : Laid) (s : State) → EndsMain code main_of.Task work.old s → MainLeft source code end work.new s) }
 {
     let end = end_now(work)?;
     Ok(end)

@@ -4,6 +4,7 @@ ghost use Rattle.std.specs.Prelude.{◌≡◌, nat_eq, if◌then◌else◌, slic
 ghost use Rattle.uc_frames.specs.Searches.{is_named as is_named_by};
 ghost use Rattle.uc_tree.specs.Source.{Source};
 ghost use Rattle.uc_meaning.specs.Quiet.{State};
+ghost use Rattle.uc_meaning.specs.Raising.{why_by};
 ghost use Rattle.uc_code.specs.Laid.{laid_of};
 ghost use Rattle.uc_frames.specs.Unwound.{Unwinds};
 ghost use Rattle.uc_coroutine.specs.Outcomes.{IsOwn, UnwoundTo};
@@ -12,6 +13,7 @@ ghost use Rattle.uc_coroutine.specs.Unwinding.{point_in, cleaned_by, passed_on, 
 use uc_code::code::Code;
 use uc_frames::search::{Sought, first_handler};
 use uc_frames::work::Work;
+use uc_meaning::exec::Reason;
 
 /// One step of unwinding the running execution down to an activation, by how many are below it, and to a row there, or else to its end:
 /// the next clean-up of the running activation begins, or where none is left, that activation is left with its frame, and the one that
@@ -79,10 +81,28 @@ pub(crate) fn pass_on(work: &mut Work) -> bool
 {
     match work.raised() {
         None => false,
-        Some(why) => {
-            let given = work.result();
-            let made = work.pass_on(why, given);
-            made
-        }
+        Some(why) => match work.caller() {
+            None => false,
+            Some(waits) => {
+                let given = work.result();
+                let made = work.pass_on(why_on(why, waits), given);
+                made
+            }
+        },
+    }
+}
+
+// Why the one that waits is unwound in its turn, which is unwound for the second reason, or is not: the destruction of a coroutine is
+// not ended by what is unwound within it.
+fn why_on(why: Reason, waits: Option<Reason>) -> Reason
+    ensures { result ≡ why_by why waits }
+{
+    match waits {
+        None => why,
+        Some(waits) => match waits {
+            Reason::Event { .. } => why,
+            Reason::ReturnTo(_) => why,
+            Reason::Destroyed => Reason::Destroyed,
+        },
     }
 }

@@ -3,7 +3,7 @@ use Rattle.std.proofs.Common.{◌≡◌, ℕ, ◌+◌, List, [], ◌∷◌, ◌+
 use Rattle.std.specs.Prelude.{if◌then◌else◌, slice_get}
 use Rattle.uc_tree.specs.Source.{Handlers}
 use Rattle.uc_meaning.specs.Quiet as quiet
-use Rattle.uc_meaning.specs.Quiet.{Todo, Sort, Simple, IsLoop, IsWhole, IsClean, IsFill, IsSweep, IsPart, IsGuard, IsFinish, sort, own_line}
+use Rattle.uc_meaning.specs.Quiet.{Todo, Sort, Simple, IsLoop, IsWhole, IsClean, IsFill, IsSweep, IsPart, IsGuard, IsFinish, IsFinishCoroutine, sort, own_line}
 use Rattle.uc_meaning.specs.Raising.{Event, Handler, handler_for, count_by, count_round}
 use Rattle.uc_code.specs.declared.rows.Mark.{Mark}
 use Rattle.uc_code.specs.Laid.{Laid, handlers, chain}
@@ -33,6 +33,7 @@ none_caught_by (IsGuard hs) e ps q f =
     let h : handler_for false e hs ≡ None = none_for false e hs (omega arith) in
     rw h (f (omega arith))
 none_caught_by IsFinish e ps q f = absurd (omega arith)
+none_caught_by IsFinishCoroutine e ps q f = absurd (omega arith)
 
 none_caught : (e : Event) (ps : List Todo) → count_round ps ≡ 0 → catch_in e ps ≡ None
 none_caught e [] q = refl
@@ -94,6 +95,8 @@ module _ (code : Laid) (e : Event) where
   finds_by (IsPart c) P ps ih ms k f = one_row ms (handlers f.outer) f.row f.entry (catch_in e ps) (ap handlers f.pops) f.handler (ih f.outer f.end f.on)
   finds_by (IsGuard hs) P ps ih ms k f = at_guard hs ps ms k f ih
   finds_by IsFinish P ps ih ms k f =
+      one_row ms [] f.row f.entry (catch_in e ps) (ap handlers f.pops) f.handler (subst (λ q. Caught code None q) (sym (none_caught e ps f.behind)) tt)
+  finds_by IsFinishCoroutine P ps ih ms k f =
       one_row ms [] f.row f.entry (catch_in e ps) (ap handlers f.pops) f.handler (subst (λ q. Caught code None q) (sym (none_caught e ps f.behind)) tt)
 
   finds : (ps : List Todo) → Finds ps

@@ -6,7 +6,7 @@ use Rattle.uc_tree.specs.Source.{Handlers, NoHandlers, MoreHandlers}
 use Rattle.uc_meaning.specs.declared.exec.Visited.{Visited}
 use Rattle.uc_meaning.specs.Executions.{at_depth}
 use Rattle.uc_meaning.specs.Quiet as quiet
-use Rattle.uc_meaning.specs.Quiet.{Todo, Sort, Simple, IsLoop, IsWhole, IsClean, IsFill, IsSweep, IsPart, IsGuard, IsFinish, sort, own_line}
+use Rattle.uc_meaning.specs.Quiet.{Todo, Sort, Simple, IsLoop, IsWhole, IsClean, IsFill, IsSweep, IsPart, IsGuard, IsFinish, IsFinishCoroutine, sort, own_line}
 use Rattle.uc_meaning.specs.Raising.{Event, Handler, Hit, Found as Sought, handler_for, handler_count, count_by, count_round, within as within_list, hit_or, hit_by, hit_in, home_of, found_or, seek}
 use Rattle.uc_code.specs.declared.rows.HandlerRow.{HandlerRow}
 use Rattle.uc_code.specs.declared.rows.Mark.{Mark}
@@ -51,6 +51,7 @@ none_hit_by (IsGuard hs) e ps q f =
     let h : handler_for true e hs ≡ None = none_for true e hs (omega arith) in
     rw h (f (omega arith))
 none_hit_by IsFinish e ps q f = absurd (omega arith)
+none_hit_by IsFinishCoroutine e ps q f = absurd (omega arith)
 
 none_hit : (e : Event) (ps : List Todo) → count_round ps ≡ 0 → hit_in e ps ≡ None
 none_hit e [] q = refl
@@ -96,6 +97,7 @@ module _ (code : Laid) where
       let d : handler_rows hs ≡ handler_count hs = rows_count hs in
       omega arith
   counts_by IsFinish P ps ih ms k f = let z = f.behind in let l : length (handlers ms) ≡ 1 = ap (λ ns. length (handlers ns)) f.pops in omega arith
+  counts_by IsFinishCoroutine P ps ih ms k f = let z = f.behind in let l : length (handlers ms) ≡ 1 = ap (λ ns. length (handlers ns)) f.pops in omega arith
 
   pub counts : (ps : List Todo) (ms : List Mark) (k : ℕ) → FollowsAt code ps ms k → count_round ps ≡ length (handlers ms)
   counts [] ms k f = sym (ap length (last_rows code ms f.last))
@@ -149,6 +151,8 @@ module _ (code : Laid) where
     finds_by (IsPart c) P ps ih ms k f = one_row ms (handlers f.outer) f.row f.entry (hit_in e ps) (ap handlers f.pops) f.handler (ih f.outer f.end f.on)
     finds_by (IsGuard hs) P ps ih ms k f = at_guard hs ps ms k f ih
     finds_by IsFinish P ps ih ms k f =
+        one_row ms [] f.row f.entry (hit_in e ps) (ap handlers f.pops) f.handler (subst (λ q. Hits code None q) (sym (none_hit e ps f.behind)) tt)
+    finds_by IsFinishCoroutine P ps ih ms k f =
         one_row ms [] f.row f.entry (hit_in e ps) (ap handlers f.pops) f.handler (subst (λ q. Hits code None q) (sym (none_hit e ps f.behind)) tt)
 
     pub finds : (ps : List Todo) (ms : List Mark) (k : ℕ) → FollowsAt code ps ms k → Hits code (look (handlers ms)) (hit_in e ps)
@@ -209,6 +213,8 @@ module _ (code : Laid) where
     within_by (IsPart c) P n ps ih ms k round f l d = row_within n round f.row f.entry ms f.outer _ (ap handlers f.pops) f.handler d (ih f.outer f.end (length (handlers f.outer)) f.on (omega arith))
     within_by (IsGuard hs) P n ps ih ms k round f l d = guard_within n round hs ps ms k f l d ih
     within_by IsFinish P n ps ih ms k round f l d =
+        row_within n round f.row f.entry ms [] _ (ap handlers f.pops) f.handler d (subst (λ q. Hits code None q) (sym (none_within e n ps f.behind)) tt)
+    within_by IsFinishCoroutine P n ps ih ms k round f l d =
         row_within n round f.row f.entry ms [] _ (ap handlers f.pops) f.handler d (subst (λ q. Hits code None q) (sym (none_within e n ps f.behind)) tt)
 
     within_test : (b : Bool) (n round : ℕ) (p : Todo) (ps : List Todo) (ms : List Mark) → nat_eq (length (handlers ms)) n ≡ b → length (handlers ms) ≤ round → Hits code (look (handlers ms)) (hit_in e (p ∷ ps)) → (nat_eq (length (handlers ms)) n ≡ false → Hits code (look (within code.rows n round (handlers ms))) (hit_in e (within_list n ps))) → Hits code (look (within code.rows n round (handlers ms))) (hit_in e (if b then p ∷ ps else within_list n ps))

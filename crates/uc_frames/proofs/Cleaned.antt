@@ -7,10 +7,10 @@ use Rattle.uc_meaning.specs.Pieces.{Unwind}
 use Rattle.uc_code.specs.declared.op.Op.TheVariants as op
 use Rattle.uc_code.specs.declared.rows.Mark.{Mark}
 use Rattle.uc_code.specs.declared.rows.Mark.TheVariants as mark
-use Rattle.uc_code.specs.declared.rows.ObjectCall.{ObjectCall}
+use Rattle.uc_code.specs.declared.rows.Cleaning.{Cleaning}
 use Rattle.uc_code.specs.Laid.{Laid}
 use Rattle.uc_code.specs.Ranges.{Risk, HandlerAt, clean_up, OverElements, Leads, Arrived, Jumped}
-use Rattle.uc_code.specs.ObjectCalls.{Cleans, One as CleansOne, All}
+use Rattle.uc_code.specs.ObjectCalls.{Cleans, One as CleansOne, All, TakesDown, IsForgotten}
 use Rattle.uc_code.specs.Lowered.{CallDone, CleanBy, CleanAt}
 use Rattle.uc_code.proofs.Called.{called}
 use Rattle.uc_frames.specs.Searches.{stops_at}
@@ -31,8 +31,8 @@ module _ (code : Laid) where
     pub marks : List Mark
     pub follows : FollowsAt code todo marks pc
 
-  pub begins_clean : (c : CleanUp) (what : ObjectCall) → Cleans c what → (ps : List Todo) (ms : List Mark) (a m back end : ℕ) → CleanAt code (own_line ps) what ms a m → Risk code ms op.Unwind (own_line ps) m back → FollowsAt code ps ms end → Begins (clean_todo c (Unwind ∷ ps)) a
-  begins_clean c what (CleansOne e _ k n) ps ms a m back end h r f =
+  pub begins_clean : (c : CleanUp) (what : Cleaning) → Cleans c what → (ps : List Todo) (ms : List Mark) (a m back end : ℕ) → CleanAt code (own_line ps) what ms a m → Risk code ms op.Unwind (own_line ps) m back → FollowsAt code ps ms end → Begins (clean_todo c (Unwind ∷ ps)) a
+  begins_clean c _ (CleansOne e what k n) ps ms a m back end h r f =
       let d : CallDone code (own_line ps) what ms a m = subst (λ o. CleanBy code (own_line ps) o what ms a m) n h in
       record {
         marks = ms;
@@ -46,7 +46,7 @@ module _ (code : Laid) where
                   record { from = d.middle; to = m; leads = Arrived d.middle; piece = d.second; on = goes_on ps ms m m back end (Arrived m) r f };
             };
       }
-  begins_clean c what (All n size e _ k q) ps ms a m back end h r f =
+  begins_clean c _ (All n size e what k q) ps ms a m back end h r f =
       let d : OverElements code (own_line ps) ms n n op.Sweep op.Sweep (CallDone code (own_line ps) what) (CallDone code (own_line ps) what) a m = subst (λ o. CleanBy code (own_line ps) o what ms a m) q h in
       record {
         marks = mark.Elements d.row ∷ ms;
@@ -81,3 +81,7 @@ module _ (code : Laid) where
                   };
             };
       }
+  begins_clean c _ TakesDown ps ms a m back end h r f =
+      record { marks = ms; follows = record { from = a; to = m; leads = Arrived a; piece = record { line = own_line ps; one = h }; on = goes_on ps ms m m back end (Arrived m) r f } }
+  begins_clean c _ IsForgotten ps ms a m back end h r f =
+      record { marks = ms; follows = record { from = a; to = m; leads = Arrived a; piece = record { line = own_line ps; one = h }; on = goes_on ps ms m m back end (Arrived m) r f } }

@@ -5,12 +5,14 @@ use Rattle.std.proofs.lemmas.Bool.{le-ltb}
 use Rattle.uc_tree.specs.Source.{Source, Expr, Handlers}
 use Rattle.uc_meaning.specs.declared.exec.Reason.{Reason}
 use Rattle.uc_meaning.specs.declared.exec.Reason.TheVariants as reason
-use Rattle.uc_meaning.specs.Quiet.{Todo, Sweep, Value, Active, Env, State, Goes, Sort, Simple, IsLoop, IsWhole, IsClean, IsFill, IsSweep, IsPart, IsGuard, IsFinish, sort, own_line, clean_todo, quiet, stay, more}
+use Rattle.uc_meaning.specs.Quiet.{Todo, Sweep, Value, Active, Env, State, Goes, Sort, Simple, IsLoop, IsWhole, IsClean, IsFill, IsSweep, IsPart, IsGuard, IsFinish, IsFinishCoroutine, sort, own_line, clean_todo, quiet, stay, more}
 use Rattle.uc_meaning.specs.Pieces.{Unwind}
 use Rattle.uc_meaning.specs.Raising.{Event, Handler, handler_for, catch_step, guard_left, count_round}
 use Rattle.uc_code.specs.declared.op.Op.{Op}
 use Rattle.uc_code.specs.declared.op.Op.TheVariants as op
 use Rattle.uc_code.specs.declared.rows.HandlerRow.{HandlerRow}
+use Rattle.uc_code.specs.declared.rows.MainOf.{MainOf}
+use Rattle.uc_code.specs.declared.rows.MainOf.TheVariants as main_of
 use Rattle.uc_code.specs.declared.rows.Mark.{Mark}
 use Rattle.uc_code.specs.declared.rows.ObjectCall.{ObjectCall}
 use Rattle.uc_code.specs.Laid.{Laid, under, handlers}
@@ -18,7 +20,7 @@ use Rattle.uc_code.specs.Ranges.{Risk, HandlerAt, clean_up, Arrived}
 use Rattle.uc_code.specs.Lowered.{handler_rows}
 use Rattle.uc_frames.specs.declared.search.Sought.TheVariants as sought
 use Rattle.uc_frames.specs.Searches.{stops_at, first_stop, first_in}
-use Rattle.uc_frames.specs.Stands.{PieceAt, IsLast, OfRoutine, OfHandler, AtWhole, AtFinish, AtTest, AtGuard, FollowsBy, FollowsAt}
+use Rattle.uc_frames.specs.Stands.{finish_sort, PieceAt, IsLast, OfRoutine, OfHandler, AtWhole, AtFinish, AtTest, AtGuard, FollowsBy, FollowsAt}
 use Rattle.uc_frames.proofs.Guards.{numbers, guards_rows, Choice, chosen_in, stops_in, none_stops, follows_caught}
 use Rattle.uc_frames.proofs.Cleaned.{clean_stops, goes_on, Begins, begins_clean}
 use Rattle.uc_frames.specs.Comes.{event_by, st, CleansUp, TestsBlock, EndsMain, Catches, Comes, ToEnd, ToCleanUp, ToBlock, ToMain, ToHandler}
@@ -65,8 +67,8 @@ module _ (source : Source) (code : Laid) (a : Active) (cs : List Active) (env : 
   block_before : (row : ℕ) (s t : State) → quiet source s ≡ Goes t → TestsBlock source code a cs env r row t → TestsBlock source code a cs env r row s
   block_before row s t e h = record { entry = h.entry; handler = h.handler; block = h.block; whole = h.whole; rest = h.rest; marks = h.marks; tests = h.tests; follows = h.follows; operands = h.operands; by = more e h.by }
 
-  main_before : (row : ℕ) (s t : State) → quiet source s ≡ Goes t → EndsMain source code a cs env r row t → EndsMain source code a cs env r row s
-  main_before row s t e h = record { entry = h.entry; handler = h.handler; finish = h.finish; main = h.main; rest = h.rest; ends = h.ends; operands = h.operands; by = more e h.by }
+  main_before : (whose : MainOf) (row : ℕ) (s t : State) → quiet source s ≡ Goes t → EndsMain source code a cs env r whose row t → EndsMain source code a cs env r whose row s
+  main_before whose row s t e h = record { entry = h.entry; handler = h.handler; finish = h.finish; main = h.main; rest = h.rest; ends = h.ends; operands = h.operands; by = more e h.by }
 
   catch_before : (row : ℕ) (s t : State) → quiet source s ≡ Goes t → Catches source code a cs env r row t → Catches source code a cs env r row s
   catch_before row s t e h = record { event = h.event; is = h.is; named = h.named; rest = h.rest; entry = h.entry; handler_at = h.handler_at; handler = h.handler; todo = h.todo; marks = h.marks; follows = h.follows; by = more e h.by }
@@ -75,7 +77,7 @@ module _ (source : Source) (code : Laid) (a : Active) (cs : List Active) (env : 
   before o s t e (ToEnd _ h) = ToEnd s (record { operands = h.operands; by = more e h.by })
   before o s t e (ToCleanUp row _ h) = ToCleanUp row s (clean_before row s t e h)
   before o s t e (ToBlock row _ h) = ToBlock row s (block_before row s t e h)
-  before o s t e (ToMain row _ h) = ToMain row s (main_before row s t e h)
+  before o s t e (ToMain whose row _ h) = ToMain whose row s (main_before whose row s t e h)
   before o s t e (ToHandler row _ h) = ToHandler row s (catch_before row s t e h)
 
   abbrev All : List Todo → Type 0
@@ -159,11 +161,11 @@ module _ (source : Source) (code : Laid) (a : Active) (cs : List Active) (env : 
         by = stay;
       }))
 
-  at_main : (q : Todo) (ps : List Todo) (round : ℕ) (ms : List Mark) (k : ℕ) (vs : List Value) → sort q ≡ IsFinish → AtFinish code (own_line ps) round ms k → ComesTo (first_stop ev code.rows (handlers ms)) (at vs (Unwind ∷ (q ∷ ps)))
-  at_main q ps round ms k vs i f =
+  at_main : (whose : MainOf) (q : Todo) (ps : List Todo) (round : ℕ) (ms : List Mark) (k : ℕ) (vs : List Value) → sort q ≡ finish_sort whose → AtFinish code whose (own_line ps) round ms k → ComesTo (first_stop ev code.rows (handlers ms)) (at vs (Unwind ∷ (q ∷ ps)))
+  at_main whose q ps round ms k vs i f =
       let s : State = at vs (Unwind ∷ (q ∷ ps)) in
       subst (λ o. ComesTo o s) (sym (row_stops ms [] f.row f.entry (ap handlers f.pops) f.handler))
-      (ToMain f.row s (record { entry = f.entry; handler = f.handler; finish = q; main = i; rest = ps; ends = f.unwound; operands = vs; by = stay }))
+      (ToMain whose f.row s (record { entry = f.entry; handler = f.handler; finish = q; main = i; rest = ps; ends = f.unwound; operands = vs; by = stay }))
 
   -- elements are destroyed
   at_elements : (q : Todo) (back : ℕ → Op) (T : ObjectCall → List Mark → ℕ → ℕ → Type 0) (e d : Expr) (ps : List Todo) (ms : List Mark) (k : ℕ) (vs : List Value) → AtTest code (own_line ps) back T e d (FollowsAt code ps) ms k → quiet source (at vs (Unwind ∷ (q ∷ ps))) ≡ Goes (at [] (Sweep d ∷ (Unwind ∷ ps))) → ComesTo (first_stop ev code.rows (handlers ms)) (at vs (Unwind ∷ (q ∷ ps)))
@@ -210,7 +212,8 @@ module _ (source : Source) (code : Laid) (a : Active) (cs : List Active) (env : 
       at_clean ms (handlers f.outer) f.row f.entry (at vs (Unwind ∷ (q ∷ ps))) (clean_todo c (Unwind ∷ ps)) (ap handlers f.pops) f.handler
       (begins_clean code c f.what f.cleans ps f.outer f.entry f.unwinds.middle f.back f.end f.unwinds.first f.unwinds.second f.on) (rw (← i) refl)
   comes_by q (IsGuard hs) P ps i ih ms k vs f = at_guard r refl q hs ps ms k vs f (rw (← i) refl) ih
-  comes_by q IsFinish P ps i ih ms k vs f = at_main q ps (count_round ps) ms k vs (sym i) f
+  comes_by q IsFinish P ps i ih ms k vs f = at_main main_of.Task q ps (count_round ps) ms k vs (sym i) f
+  comes_by q IsFinishCoroutine P ps i ih ms k vs f = at_main main_of.Coroutine q ps (count_round ps) ms k vs (sym i) f
 
   pub comes : (ps : List Todo) → All ps
   comes [] ms k vs f =

@@ -1,9 +1,10 @@
 -- Numbered things in a list: the first with a number, and what a change in its place does.
-use Rattle.std.proofs.Common.{◌≡◌, ℕ, zero, suc, ◌<◌, arith, eq-eqb, List, [], ◌∷◌, length, Option, Some, None, true, false, refl, sym, ap, ◌∙◌, get_or, set}
-use Rattle.std.specs.Prelude.{nat_eq, slice_get, slice_set}
+use Rattle.std.proofs.Common.{◌≡◌, ℕ, zero, suc, ◌<◌, arith, eq-eqb, List, [], ◌∷◌, length, Option, Some, None, Bool, true, false, refl, sym, ap, ◌∙◌, get_or, set}
+use Rattle.std.specs.Prelude.{nat_eq, if◌then◌else◌, slice_get, slice_set}
 use Rattle.std.proofs.lemmas.Bool.{ne_eqb}
 use Rattle.std.proofs.lemmas.Option.{slice_get_read}
 use Rattle.uc_meaning.specs.Executions.{find, update, joined}
+use Rattle.uc_meaning.specs.Switches.{without}
 use Rattle.uc_frames.specs.Numbered.{IsAt}
 
 none-some : {A B : Type 0} {x : A} → None ≡ Some x → B
@@ -21,12 +22,12 @@ module _ {X : Type 0} (k : ℕ) where
   found_at (q ∷ ps) zero x e none =
       let s : q ≡ (k, x) = some-same e in
       let t : nat_eq q.0 k ≡ true = eq-eqb q.0 k (ap (λ r. r.0) s) in
-      record { within = omega arith; item = x; is = e; finds = rw t (ap (λ r. Some r.1) s); updates = λ y. rw t refl }
+      record { within = omega arith; item = x; is = e; finds = rw t (ap (λ r. Some r.1) s); updates = λ y. rw t refl; removes = rw t refl }
   found_at (q ∷ ps) (suc i) x e none =
       let t : nat_eq q.0 k ≡ false = ne_eqb q.0 k (none 0 (omega arith) q refl) in
       let r = found_at ps i x e (λ j l p s h. none (suc j) (omega arith) p s h) in
       let w = r.within in
-      record { within = omega arith; item = x; is = e; finds = rw t (r.finds ∙ some-is ps i k x r.item r.is e); updates = λ y. rw t (ap (λ l. q ∷ l) (r.updates y)) }
+      record { within = omega arith; item = x; is = e; finds = rw t (r.finds ∙ some-is ps i k x r.item r.is e); updates = λ y. rw t (ap (λ l. q ∷ l) (r.updates y)); removes = rw t (ap (λ l. q ∷ l) r.removes) }
 
   pub not_found : (ps : List (ℕ × X)) → ((j : ℕ) → j < length ps → (q : ℕ × X) → slice_get ps j ≡ Some q → q.0 ≡ k → ⊥) → find k ps ≡ None
   not_found [] none = refl
@@ -42,6 +43,18 @@ module _ {X : Type 0} (ps : List (ℕ × X)) (i k : ℕ) (p : ℕ × X) where
   read_other q l e h s z = h (ap (λ r. r.0) (some-same (sym (slice_get_read ps (length ps) i p refl l e) ∙ s)) ∙ z)
 
 module _ {X : Type 0} (k : ℕ) where
+  none_by : (b : Bool) (q : ℕ × X) (x : Option X) → (if b then Some q.1 else x) ≡ None → (b ≡ false) × (x ≡ None)
+  none_by true q x e = absurd (cc)
+  none_by false q x e = (refl, e)
+
+  pub update_none : (ps : List (ℕ × X)) (y : X) → find k ps ≡ None → update k y ps ≡ ps
+  update_none [] y e = refl
+  update_none (q ∷ ps) y e = let h = none_by (nat_eq q.0 k) q (find k ps) e in rw h.0 (ap (λ l. q ∷ l) (update_none ps y h.1))
+
+  pub without_none : (ps : List (ℕ × X)) → find k ps ≡ None → without k ps ≡ ps
+  without_none [] e = refl
+  without_none (q ∷ ps) e = let h = none_by (nat_eq q.0 k) q (find k ps) e in rw h.0 (ap (λ l. q ∷ l) (without_none ps h.1))
+
   module _ (ps : List (ℕ × X)) (i : ℕ) (h : IsAt k ps i) (p : ℕ × X) (e : p ≡ get_or ps i p) where
     item_is : p ≡ (k, h.item)
     item_is = some-same (sym (slice_get_read ps (length ps) i p refl h.within e) ∙ h.is)

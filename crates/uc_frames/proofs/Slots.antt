@@ -1,11 +1,13 @@
--- Another frame in an execution that is left at a home.
-use Rattle.std.proofs.Common.{◌≡◌, ℕ, List, Option, Some, None, sym, ap, ◌∙◌, get_or}
+-- Executions that are left at a home, changed, exchanged, or no more.
+use Rattle.std.proofs.Common.{◌≡◌, ℕ, List, Bool, Option, Some, None, sym, ap, ◌∙◌, get_or}
 use Rattle.std.specs.Prelude.{slice_set}
-use Rattle.uc_meaning.specs.Executions.{Execution, find, joined, update, frames_by, frames_changed}
+use Rattle.uc_meaning.specs.declared.exec.Home.TheVariants.{Object}
+use Rattle.uc_meaning.specs.Executions.{Execution, find, joined, update, change_in, change, frames_by, frames_changed}
+use Rattle.uc_meaning.specs.Switches.{slot_set, slot_gone, live_by, live_changed}
 use Rattle.uc_frames.specs.declared.cell.Cell.{Cell}
-use Rattle.uc_frames.specs.Machine.{Members}
+use Rattle.uc_frames.specs.Machine.{Machine, Members, with_hand}
 use Rattle.uc_frames.specs.Numbered.{IsAt}
-use Rattle.uc_frames.proofs.Positions.{set_is, set_same, joined_is}
+use Rattle.uc_frames.proofs.Positions.{update_none, without_none, find_is, set_is, set_same, joined_is}
 
 abbrev Slot : Type 0
 Slot = Option (Execution ℕ Cell)
@@ -14,12 +16,28 @@ with_parked : (m : Members) (ps qs : List (ℕ × Slot)) → ps ≡ qs → (let 
 with_parked m ps qs e = ap (λ (l : List (ℕ × Slot)). let r : Members = record m { parked = l } in r) e
 
 module _ (k : ℕ) (m : Members) where
+  pub slot_none : (x : Slot) → find k m.parked ≡ None → m ≡ slot_set k x m
+  slot_none x e = with_parked m _ _ (sym (update_none k m.parked x e))
+
+  pub gone_none : find k m.parked ≡ None → m ≡ slot_gone k m
+  gone_none e = with_parked m _ _ (sym (without_none k m.parked e))
+
+  pub live_absent : (b : Bool) → find k m.parked ≡ None → m ≡ live_changed b k m
+  live_absent b e = sym (ap (λ x. live_by b k (joined x) m) e)
+
   module _ (i : ℕ) (h : IsAt k m.parked i) (p : ℕ × Slot) (e : p ≡ get_or m.parked i p) where
-    slot_there : (x y : Slot) → x ≡ y → (let r : Members = record m { parked = slice_set m.parked i (p.0, x) } in r) ≡ record m { parked = update k y m.parked }
+    pub slot_there : (x y : Slot) → x ≡ y → (let r : Members = record m { parked = slice_set m.parked i (p.0, x) } in r) ≡ slot_set k y m
     slot_there x y q = with_parked m _ _ (set_is k m.parked i h p e x ∙ ap (λ z. update k z m.parked) q)
 
-    joined_there : joined (find k m.parked) ≡ p.1
+    pub joined_there : joined (find k m.parked) ≡ p.1
     joined_there = joined_is k m.parked i h p e
+
+    pub live_none : (b : Bool) → p.1 ≡ None → (let r : Members = record m { parked = slice_set m.parked i (p.0, p.1) } in r) ≡ live_changed b k m
+    live_none b q =
+        with_parked m _ _ (set_same m.parked i p e h.within) ∙ sym (ap (λ x. live_by b k x m) (joined_there ∙ q))
+
+    pub live_there : (b : Bool) (x y : Execution ℕ Cell) → p.1 ≡ Some x → y ≡ record x { links = record x.links { live = b } } → (let r : Members = record m { parked = slice_set m.parked i (p.0, Some y) } in r) ≡ live_changed b k m
+    live_there b x y q s = slot_there (Some y) (Some (record x { links = record x.links { live = b } })) (ap Some s) ∙ sym (ap (λ z. live_by b k z m) (joined_there ∙ q))
 
     pub frames_none : (g : List (List Cell) → List (List Cell)) → p.1 ≡ None → (let r : Members = record m { parked = slice_set m.parked i (p.0, p.1) } in r) ≡ frames_changed k g m
     frames_none g q =
@@ -30,3 +48,10 @@ module _ (k : ℕ) (m : Members) where
 
   pub frames_absent : (g : List (List Cell) → List (List Cell)) → find k m.parked ≡ None → m ≡ frames_changed k g m
   frames_absent g e = sym (ap (λ z. frames_by k g (joined z) m) e)
+
+-- what is at home in an object in hand is changed
+module _ (o : ℕ) (t : Machine) (hs : List (ℕ × Members)) (i : ℕ) (h : IsAt o hs i) (p : ℕ × Members) (e : p ≡ get_or hs i p) where
+  pub hand_there : (g : Members → Members) (m : Members) → m ≡ g p.1 → with_hand (slice_set hs i (p.0, m)) t ≡ (let s : Machine = with_hand hs t in record s { env = change (Object o) g s.env })
+  hand_there g m q =
+      ap (λ (l : List (ℕ × Members)). with_hand l t) (set_is o hs i h p e m ∙ ap (λ z. update o z hs) q)
+      ∙ sym (ap (λ x. let s : Machine = with_hand hs t in let r : Machine = record s { env = change_in (Object o) g x s.env } in r) (find_is o hs i h p e))

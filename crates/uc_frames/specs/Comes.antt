@@ -3,15 +3,16 @@ use Rattle.std.specs.Prelude.{◌≡◌, ℕ, ◌+◌, List, [], ◌∷◌, Opti
 use Rattle.uc_tree.specs.Source.{Source}
 use Rattle.uc_meaning.specs.declared.exec.Reason.{Reason}
 use Rattle.uc_meaning.specs.declared.exec.Reason.TheVariants as reason
-use Rattle.uc_meaning.specs.Quiet.{Todo, Value, Active, Env, State, Quietly, IsWhole, IsFinish, sort, own_line}
+use Rattle.uc_meaning.specs.Quiet.{Todo, Value, Active, Env, State, Quietly, IsWhole, sort, own_line}
 use Rattle.uc_meaning.specs.Pieces.{Unwind}
 use Rattle.uc_meaning.specs.Raising.{Event, Handler, handler_todo, operands_of}
+use Rattle.uc_code.specs.declared.rows.MainOf.{MainOf}
 use Rattle.uc_code.specs.declared.rows.Mark.{Mark}
 use Rattle.uc_code.specs.Laid.{Laid}
 use Rattle.uc_code.specs.declared.op.Op.TheVariants as op
-use Rattle.uc_code.specs.Ranges.{OpAt, Risk, HandlerAt, clean_up}
+use Rattle.uc_code.specs.Ranges.{OpAt, Risk, HandlerAt, clean_up, main_left}
 use Rattle.uc_code.specs.Lowered.{handler_of}
-use Rattle.uc_frames.specs.Stands.{FollowsAt}
+use Rattle.uc_frames.specs.Stands.{finish_sort, FollowsAt}
 
 -- the number of the event by which it is unwound, if it is one
 abbrev pub event_by : Option Reason → Option ℕ
@@ -50,13 +51,13 @@ module _ (source : Source) (code : Laid) (a : Active) (cs : List Active) (env : 
     pub by : Quietly source s (st operands (Unwind ∷ (block ∷ rest)))
 
   -- the end of a main that is unwound comes
-  pub record EndsMain (row : ℕ) (s : State) : Type 0 where
+  pub record EndsMain (whose : MainOf) (row : ℕ) (s : State) : Type 0 where
     pub entry : ℕ
     pub handler : HandlerAt code row (clean_up entry)
     pub finish : Todo
-    pub main : sort finish ≡ IsFinish
+    pub main : sort finish ≡ finish_sort whose
     pub rest : List Todo
-    pub ends : OpAt code entry op.Unhandled (own_line rest)
+    pub ends : OpAt code entry (main_left whose) (own_line rest)
     pub operands : List Value
     pub by : Quietly source s (st operands (Unwind ∷ (finish ∷ rest)))
 
@@ -83,5 +84,5 @@ module _ (source : Source) (code : Laid) (a : Active) (cs : List Active) (env : 
     ToEnd : (s : State) → Leaves s → Comes None s
     ToCleanUp : (row : ℕ) (s : State) → CleansUp row s → Comes (Some row) s
     ToBlock : (row : ℕ) (s : State) → TestsBlock row s → Comes (Some row) s
-    ToMain : (row : ℕ) (s : State) → EndsMain row s → Comes (Some row) s
+    ToMain : (whose : MainOf) (row : ℕ) (s : State) → EndsMain whose row s → Comes (Some row) s
     ToHandler : (row : ℕ) (s : State) → Catches row s → Comes (Some row) s

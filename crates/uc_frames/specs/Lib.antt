@@ -6,6 +6,7 @@ pub mod Numbered
 pub mod Parts
 pub mod Searches
 pub mod Stands
+pub mod Switching
 pub mod Unwinding
 pub mod Unwound
 pub mod Weight

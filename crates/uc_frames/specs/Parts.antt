@@ -3,6 +3,7 @@ use Rattle.std.specs.Prelude.{◌≡◌, ℕ, List, [], ◌∷◌, map, Option, 
 use Rattle.uc_meaning.specs.declared.exec.Stage.{Stage}
 use Rattle.uc_meaning.specs.declared.exec.Stage.TheVariants.{Fresh, Started, Ended}
 use Rattle.uc_meaning.specs.Executions.{Activation, Execution, Members, Env, State}
+use Rattle.uc_meaning.specs.Switches.{Moved, To, Stops}
 
 -- one by one
 abbrev pub Lined : {X Y : Type 0} → (X → Y → Type 0) → List X → List Y → Type 0
@@ -58,3 +59,10 @@ module _ {A B V W : Type 0} (R K : Activation A V → Activation B W → Type 0)
     pub run : R m.run s.run
     pub callers : Lined K m.callers s.callers
     pub env : EnvStands m.env s.env
+
+  -- both go on, or both stop by one fault
+  abbrev pub MovedStand : Moved A V → Moved B W → Type 0
+  MovedStand (To m) (To s) = StateStands m s
+  MovedStand (To m) (Stops r) = ⊥
+  MovedStand (Stops r) (To s) = ⊥
+  MovedStand (Stops a) (Stops b) = a ≡ b

@@ -2,15 +2,16 @@
 use Rattle.std.specs.Prelude.{◌≡◌, ℕ, ◌+◌, List, [], ◌∷◌}
 use Rattle.uc_meaning.specs.Raising as raising
 use Rattle.uc_meaning.specs.Quiet as quiet
-use Rattle.uc_meaning.specs.Quiet.{Todo, DropNow, RaiseNow, ThrowNow, Unwind, IsWhole, IsFinish, sort, State, below, own_line}
+use Rattle.uc_meaning.specs.Quiet.{Todo, DropNow, RaiseNow, ThrowNow, Unwind, IsWhole, sort, State, below, own_line}
 use Rattle.uc_code.specs.declared.rows.Mark.{Mark}
 use Rattle.uc_code.specs.declared.op.Op.TheVariants as op
 use Rattle.uc_code.specs.Laid.{Laid, handlers, chain}
-use Rattle.uc_code.specs.Ranges.{OpAt, Risk}
+use Rattle.uc_code.specs.declared.rows.MainOf.{MainOf}
+use Rattle.uc_code.specs.Ranges.{OpAt, Risk, main_left}
 use Rattle.uc_frames.specs.declared.event.Event.{Event}
 use Rattle.uc_frames.specs.Machine.{Active, Machine, cell_of}
 use Rattle.uc_frames.specs.Parts.{Lined}
-use Rattle.uc_frames.specs.Stands.{image, FollowsAt, CallerStands, EnvironmentStands}
+use Rattle.uc_frames.specs.Stands.{finish_sort, image, FollowsAt, CallerStands, EnvironmentStands}
 
 -- an event as the source has it
 abbrev pub raised_as : Event → raising.Event
@@ -50,12 +51,12 @@ module _ (code : Laid) where
     pub is : m ≡ image m.control (record s { operands = [] })
 
   -- the next op ends a main that is unwound
-  pub record MainStands (m : Active) (s : quiet.Active) : Type 0 where
+  pub record MainStands (whose : MainOf) (m : Active) (s : quiet.Active) : Type 0 where
     pub finish : Todo
-    pub main : sort finish ≡ IsFinish
+    pub main : sort finish ≡ finish_sort whose
     pub rest : List Todo
     pub todo : s.control ≡ Unwind ∷ (finish ∷ rest)
-    pub ends : OpAt code m.control op.Unhandled (own_line rest)
+    pub ends : OpAt code m.control (main_left whose) (own_line rest)
     pub is : m ≡ image m.control (record s { operands = [] })
 
   -- nothing is left to unwind in an activation
@@ -76,8 +77,8 @@ module _ (code : Laid) where
   abbrev pub TestsBlock : Machine → State → Type 0
   TestsBlock = StandsBy BlockStands
 
-  abbrev pub EndsMain : Machine → State → Type 0
-  EndsMain = StandsBy MainStands
+  abbrev pub EndsMain : MainOf → Machine → State → Type 0
+  EndsMain whose = StandsBy (MainStands whose)
 
   abbrev pub LeavesNow : Machine → State → Type 0
   LeavesNow = StandsBy EndStands

@@ -1,6 +1,6 @@
 // An activation of a routine or a handler.
 
-ghost use Rattle.std.specs.Prelude.{◌≡◌, ◌∷◌, ◌-◌, ◌+◌, ◌≤◌, [], drop, reverse, OnOk, OnErr, IfOk, replicate, vec_len, vec_capacity};
+ghost use Rattle.std.specs.Prelude.{◌≡◌, ◌∷◌, ◌-◌, ◌+◌, ◌≤◌, [], Some, drop, reverse, OnOk, OnErr, IfOk, replicate, vec_len, vec_capacity};
 ghost use Rattle.uc_meaning.specs.Executions.{begun, taken, calmed};
 ghost use Rattle.uc_frames.specs.Machine.{top, below, nought};
 ghost use Rattle.uc_frames.specs.Left.{call_frame, waiting};
@@ -140,6 +140,13 @@ impl Active {
         self.operands.clear();
         self.raised = Some(why);
         self.result = given;
+    }
+
+    /// It is to be unwound for this reason, as soon as it goes on.
+    pub fn raise(&mut self, reason: Reason)
+        ensures { self.new ≡ record self.old { raised = Some reason } }
+    {
+        self.raised = Some(reason);
     }
 
     /// Its unwinding is over: it goes on at this op.

@@ -1,7 +1,7 @@
 // What a cell holds.
 
 ghost use Rattle.std.specs.Prelude.{◌≡◌};
-ghost use Rattle.uc_frames.specs.Machine.{cell_number, shifted, stored};
+ghost use Rattle.uc_frames.specs.Machine.{cell_number, exec_in as exec_named, shifted, stored};
 
 use uc_meaning::exec::{Exec, Owner};
 
@@ -25,6 +25,19 @@ pub fn number_in(cell: Cell) -> i64
         Cell::Running(_) => 0,
         Cell::Object(_) => 0,
         Cell::Nothing => 0,
+    }
+}
+
+/// The execution that a cell names, if it names one.
+pub fn exec_in(cell: Cell) -> Option<Exec>
+    ensures { result ≡ exec_named cell }
+{
+    match cell {
+        Cell::Number(_) => None,
+        Cell::Place(_, _) => None,
+        Cell::Running(exec) => Some(exec),
+        Cell::Object(_) => None,
+        Cell::Nothing => None,
     }
 }
 

@@ -1,7 +1,9 @@
 // What travels with an execution besides its stack.
 
-ghost use Rattle.std.specs.Prelude.{◌≡◌, ◌<◌, true};
+ghost use Rattle.std.specs.Prelude.{◌≡◌, ◌<◌, None, Some, true, false};
 ghost use Rattle.uc_meaning.specs.Executions.{no_links, one_call_more, one_call_less};
+ghost use Rattle.uc_meaning.specs.Switches.{fresh_links, woken};
+ghost use Rattle.uc_meaning.specs.declared.exec.Stage.TheVariants.{Ended};
 ghost use Rattle.uc_tree.specs.declared.limits.TheConstants.{CALLS};
 
 use std::alloc::Global;
@@ -48,6 +50,84 @@ impl Links {
             mutex_calls: 0,
             builds: 0,
         }
+    }
+
+    /// The links of one whose main has not begun.
+    pub fn fresh(alloc: Global) -> Links
+        ensures { result ≡ fresh_links }
+    {
+        let mut links = Links::new(alloc);
+        links.stage = Stage::Fresh;
+        links
+    }
+
+    /// Who resumed it first, if any did.
+    pub fn starter(&self) -> Option<Exec>
+        ensures { result ≡ self.now.starter }
+    {
+        self.starter
+    }
+
+    /// Who resumed it last, if any did.
+    pub fn resumer(&self) -> Option<Exec>
+        ensures { result ≡ self.now.resumer }
+    {
+        self.resumer
+    }
+
+    /// Whether its coroutine is live.
+    pub fn is_live(&self) -> bool
+        ensures { result ≡ self.now.live }
+    {
+        self.live
+    }
+
+    /// How far its main is.
+    pub fn stage(&self) -> Stage
+        ensures { result ≡ self.now.stage }
+    {
+        self.stage
+    }
+
+    /// Who destroys its coroutine, while it is unwound for that.
+    pub fn destroyer(&self) -> Option<Exec>
+        ensures { result ≡ self.now.destroyer }
+    {
+        self.destroyer
+    }
+
+    /// It is resumed by another.
+    pub fn wake(&mut self, by: Exec)
+        ensures { self.new ≡ woken by self.old }
+    {
+        if self.starter.is_none() {
+            self.starter = Some(by);
+        }
+        self.resumer = Some(by);
+        self.stage = Stage::Started;
+    }
+
+    /// Its main has ended, or was unwound.
+    pub fn end(&mut self)
+        ensures { self.new ≡ record self.old { stage = Ended; destroyer = None } }
+    {
+        self.stage = Stage::Ended;
+        self.destroyer = None;
+    }
+
+    /// Its coroutine is live, or is not.
+    pub fn set_live(&mut self, live: bool)
+        ensures { self.new ≡ record self.old { live = live } }
+    {
+        self.live = live;
+    }
+
+    /// Its coroutine is destroyed by another: it is live no more.
+    pub fn destroy(&mut self, by: Exec)
+        ensures { self.new ≡ record self.old { live = false; destroyer = Some by } }
+    {
+        self.live = false;
+        self.destroyer = Some(by);
     }
 
     /// How many calls are active.

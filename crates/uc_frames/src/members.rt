@@ -1,18 +1,20 @@
 // What is at home in a mutex object or in a task.
 
-ghost use Rattle.std.specs.Prelude.{◌≡◌, [], ◌∷◌, replicate, None, Some, IfOk, MatchOption, slice_index_or};
+ghost use Rattle.std.specs.Prelude.{◌≡◌, [], ◌∷◌, replicate, None, Some, IfOk, OnOk, OnErr, MatchOption, slice_index_or};
 ghost use Rattle.uc_meaning.specs.Executions.{find, joined, frame_changed, frames_changed};
+ghost use Rattle.uc_meaning.specs.Switches.{one_more, slot_set, slot_gone, live_changed};
 ghost use Rattle.uc_frames.specs.Machine.{nought, cell_written};
 
 use crate::cell::Cell;
 use crate::frames::{get, put, zeros};
-use crate::numbered::position;
+use crate::numbered::position_in_order;
 use crate::stack::Stack;
 use std::alloc::{AllocError, Global};
 use std::marker::Model;
+use std::mem;
 use uc_meaning::list::List;
 
-/// The fields, how many executions were made here, and those that are left, with nothing for one that runs.
+/// The fields, how many executions were made here, and those that are left, in the order of their numbers, with nothing for one that runs.
 #[derive(Drop)]
 pub struct Members {
     cells: Vec<Cell>,
@@ -22,10 +24,13 @@ pub struct Members {
 
 impl Model for Members {
     ghost use Rattle.uc_frames.specs.Machine.{Members};
+    ghost use Rattle.uc_frames.specs.Numbered.{Ascends};
 
     ghost Value = { Members };
 
     ghost view = { λ m. record { values = m.cells.items; serial = m.serial; parked = m.parked.items } };
+
+    ghost invariant = { λ m. Ascends 0 m.parked.items m.serial };
 }
 
 impl Members {
@@ -73,7 +78,7 @@ impl Members {
     pub fn parked(&self, serial: u64) -> Option<&Stack>
         ensures { MatchOption result (joined (find serial self.now.parked) ≡ None) (λ s. joined (find serial self.now.parked) ≡ Some s.now) }
     {
-        match position(&self.parked, serial) {
+        match position_in_order(&self.parked, serial) {
             None => None,
             Some(i) => self.parked.get(i).1.as_ref(),
         }
@@ -83,10 +88,64 @@ impl Members {
     pub fn write(&mut self, serial: u64, depth: u32, at: u64, cell: Cell)
         ensures { self.new ≡ frames_changed serial (frame_changed depth (cell_written at cell)) self.old }
     {
-        if let Some(i) = position(&self.parked, serial) {
+        if let Some(i) = position_in_order(&self.parked, serial) {
             let slot = self.parked.get_mut(i);
             if let Some(stack) = &mut slot.1 {
                 stack.write(depth, at, cell);
+            }
+        }
+    }
+
+    /// How many executions were made here; so the next one is numbered.
+    pub fn serial(&self) -> u64
+        ensures { result ≡ self.now.serial }
+    {
+        self.serial
+    }
+
+    /// One more execution is left here.
+    pub fn add(&mut self, stack: Stack) -> Result<(), AllocError>
+        ensures ok { OnOk result (self.new ≡ one_more stack self.old) }
+        ensures err { OnErr result (self.new ≡ self.old) }
+    {
+        self.parked.room()?;
+        self.parked.push((self.serial, Some(stack)));
+        self.serial = self.serial.saturating_add(1);
+        Ok(())
+    }
+
+    /// That execution is left here as this, or runs where it is nothing. What was left of it is handed over.
+    pub fn exchange(&mut self, serial: u64, slot: Option<Stack>) -> Option<Stack>
+        ensures value { result ≡ joined (find serial self.old.parked) }
+        ensures after { self.new ≡ slot_set serial slot self.old }
+    {
+        match position_in_order(&self.parked, serial) {
+            None => None,
+            Some(i) => {
+                let place = self.parked.get_mut(i);
+                let left = mem::replace(&mut place.1, slot);
+                left
+            }
+        }
+    }
+
+    /// That execution is no more.
+    pub fn remove(&mut self, serial: u64)
+        ensures { self.new ≡ slot_gone serial self.old }
+    {
+        if let Some(i) = position_in_order(&self.parked, serial) {
+            let _ = self.parked.take(i);
+        }
+    }
+
+    /// The coroutine of that execution is live, or is not, if it is left and does not run.
+    pub fn set_live(&mut self, serial: u64, live: bool)
+        ensures { self.new ≡ live_changed live serial self.old }
+    {
+        if let Some(i) = position_in_order(&self.parked, serial) {
+            let slot = self.parked.get_mut(i);
+            if let Some(stack) = &mut slot.1 {
+                stack.set_live(live);
             }
         }
     }

@@ -1,8 +1,8 @@
 // Numbered things, and whether two names are one.
 
-ghost use Rattle.std.specs.Prelude.{◌≡◌, None, MatchOption};
+ghost use Rattle.std.specs.Prelude.{◌≡◌, ℕ, None, MatchOption};
 ghost use Rattle.uc_meaning.specs.Executions.{find, home_eq, exec_eq};
-ghost use Rattle.uc_frames.specs.Numbered.{IsAt};
+ghost use Rattle.uc_frames.specs.Numbered.{Ascends, IsAt, IsBound};
 
 use uc_meaning::exec::{Exec, Home};
 use uc_meaning::list::List;
@@ -17,6 +17,41 @@ pub(crate) fn position<X>(list: &List<(u64, X)>, key: u64) -> Option<u32>
         }
     }
     None
+}
+
+// The same in a list in the order of its numbers: a search by halves.
+pub(crate) fn position_in_order<X>(list: &List<(u64, X)>, key: u64) -> Option<u32>
+    requires { (high : ℕ) × Ascends 0 list.now.items high }
+    ensures { MatchOption result (find key list.now.items ≡ None) (λ i. IsAt key list.now.items i) }
+{
+    let first = count_below(list, key);
+    if first < list.len() {
+        if list.get(first).0 == key {
+            Some(first)
+        } else {
+            None
+        }
+    } else {
+        None
+    }
+}
+
+// How many stand first whose numbers are below this one.
+fn count_below<X>(list: &List<(u64, X)>, key: u64) -> u32
+    requires { (high : ℕ) × Ascends 0 list.now.items high }
+    ensures { IsBound key list.now.items result }
+{
+    let mut from = 0;
+    let mut to = list.len();
+    while from < to {
+        let middle = from + (to - from) / 2;
+        if list.get(middle).0 < key {
+            from = middle + 1;
+        } else {
+            to = middle;
+        }
+    }
+    from
 }
 
 pub(crate) fn is_same_home(a: Home, b: Home) -> bool

@@ -1,10 +1,13 @@
 // The stack of one execution.
 
-ghost use Rattle.std.specs.Prelude.{◌≡◌, ◌∷◌, ◌-◌, ◌<◌, [], length, drop, replicate, reverse, nat_lt, None, Some, IfOk, OnOk, OnErr, MatchOption, vec_len, slice_get, slice_index_or, true};
+ghost use Rattle.std.specs.Prelude.{◌≡◌, ◌∷◌, ◌-◌, ◌<◌, [], length, drop, replicate, reverse, nat_lt, None, Some, IfOk, OnOk, OnErr, MatchOption, vec_len, slice_get, slice_index_or, true, false};
 ghost use Rattle.uc_meaning.specs.Executions.{at_depth, list_in, frame_changed, values_cleared, one_call_less, calmed};
-ghost use Rattle.uc_frames.specs.Machine.{nought, top, below, cell_written, first_execution, line_in, line_at};
+ghost use Rattle.uc_frames.specs.Machine.{nought, top, below, cell_written, first_execution, fresh_execution, line_in, line_at};
 ghost use Rattle.uc_frames.specs.Left.{stack_left, stack_entered};
 ghost use Rattle.uc_frames.specs.Unwinding.{IsCaller, event_at, unwound_by, cleaning, catching, stack_passed, stack_handled};
+ghost use Rattle.uc_meaning.specs.Switches.{woken, unwound_there};
+ghost use Rattle.uc_meaning.specs.declared.exec.Reason.TheVariants as reason;
+ghost use Rattle.uc_meaning.specs.declared.exec.Stage.TheVariants.{Ended};
 ghost use Rattle.uc_tree.specs.declared.limits.TheConstants.{CALLS};
 
 use crate::active::Active;
@@ -18,7 +21,7 @@ use std::marker::Model;
 use std::mem;
 use uc_code::code::Code;
 use uc_code::rows::RoutineCode;
-use uc_meaning::exec::{Reason, Visited};
+use uc_meaning::exec::{Exec, Reason, Stage, Visited};
 
 /// An execution: its newest activation, those that wait for it, its frames and its links. The lists of calls that have ended
 /// are kept, so that a call takes memory only where no call before it left enough.
@@ -60,6 +63,86 @@ impl Stack {
             links: Links::new(alloc),
             spare: Vec::new(alloc),
         })
+    }
+
+    /// An execution for this object, whose main has not begun.
+    pub fn fresh(alloc: Global, routine: RoutineCode, this: Cell) -> Result<Stack, AllocError>
+        ensures { IfOk result (λ s. s ≡ fresh_execution routine this) }
+    {
+        let mut stack = Stack::first(alloc, routine, this)?;
+        stack.links = Links::fresh(alloc);
+        Ok(stack)
+    }
+
+    /// Who resumed it first, if any did.
+    pub fn starter(&self) -> Option<Exec>
+        ensures { result ≡ self.now.links.starter }
+    {
+        self.links.starter()
+    }
+
+    /// Who resumed it last, if any did.
+    pub fn resumer(&self) -> Option<Exec>
+        ensures { result ≡ self.now.links.resumer }
+    {
+        self.links.resumer()
+    }
+
+    /// Whether its coroutine is live.
+    pub fn is_live(&self) -> bool
+        ensures { result ≡ self.now.links.live }
+    {
+        self.links.is_live()
+    }
+
+    /// How far its main is.
+    pub fn stage(&self) -> Stage
+        ensures { result ≡ self.now.links.stage }
+    {
+        self.links.stage()
+    }
+
+    /// Who destroys its coroutine, while it is unwound for that.
+    pub fn destroyer(&self) -> Option<Exec>
+        ensures { result ≡ self.now.links.destroyer }
+    {
+        self.links.destroyer()
+    }
+
+    /// It is resumed by another.
+    pub fn wake(&mut self, by: Exec)
+        ensures { self.new ≡ record self.old { links = woken by self.old.links } }
+    {
+        self.links.wake(by);
+    }
+
+    /// Its main has ended, or was unwound.
+    pub fn end(&mut self)
+        ensures { self.new ≡ record self.old { links = record self.old.links { stage = Ended; destroyer = None } } }
+    {
+        self.links.end();
+    }
+
+    /// Its coroutine is live, or is not.
+    pub fn set_live(&mut self, live: bool)
+        ensures { self.new ≡ record self.old { links = record self.old.links { live = live } } }
+    {
+        self.links.set_live(live);
+    }
+
+    /// It is to be unwound for this reason, as soon as it goes on.
+    pub fn raise(&mut self, why: Reason)
+        ensures { self.new ≡ unwound_there why self.old }
+    {
+        self.running.raise(why);
+    }
+
+    /// Its coroutine is destroyed by another, for which it is to be unwound.
+    pub fn destroy(&mut self, by: Exec)
+        ensures { self.new ≡ unwound_there reason.Destroyed (record self.old { links = record self.old.links { live = false; destroyer = Some by } }) }
+    {
+        self.links.destroy(by);
+        self.running.raise(Reason::Destroyed);
     }
 
     /// The next op.

@@ -2,9 +2,10 @@
 
 ghost use Rattle.std.specs.Prelude.{◌≡◌, ◌-◌, ◌<◌, ◌∷◌, [], length, nat_lt, None, Some, IfOk, OnOk, OnErr, MatchOption, slice_get, slice_index_or, drop, true};
 ghost use Rattle.std.specs.Option.{is_some, option_map};
-ghost use Rattle.uc_meaning.specs.Executions.{at_depth, list_in, frame_changed, frames_changed, values_cleared, members_at, change, exec_eq, calmed};
+ghost use Rattle.uc_meaning.specs.Executions.{at_depth, list_in, frame_changed, frames_changed, values_cleared, members_at, slot_in, joined, change, exec_eq, calmed};
+ghost use Rattle.uc_meaning.specs.Switches.{born, ended, live_changed, slot_gone, slot_set, spread, stopped};
 ghost use Rattle.uc_meaning.specs.Quiet.{with_piece};
-ghost use Rattle.uc_frames.specs.Machine.{nought, top, below, cell_written, first_machine, line_in, line_at};
+ghost use Rattle.uc_frames.specs.Machine.{nought, top, below, cell_written, first_machine, fresh_execution, line_in, line_at};
 ghost use Rattle.uc_frames.specs.Left.{left, called};
 ghost use Rattle.uc_frames.specs.Unwinding.{IsCaller, event_at, unwound_by, cleaning, catching, passed, handled};
 ghost use Rattle.uc_tree.specs.declared.limits.TheConstants.{CALLS};
@@ -19,6 +20,7 @@ use crate::pieces::Pieces;
 use crate::stack::Stack;
 use std::alloc::{AllocError, Global};
 use std::marker::Model;
+use std::mem;
 use uc_code::code::Code;
 use uc_code::rows::RoutineCode;
 use uc_meaning::exec::{Exec, Home, Reason, Visited};
@@ -328,7 +330,97 @@ impl Task {
         }
     }
 
-    // A cell is written to a frame of an execution that is at home in the task of that object, if it is this one.
+    pub(crate) fn starter(&self) -> Option<Exec>
+        ensures { result ≡ self.now.env.links.starter }
+    {
+        self.running.starter()
+    }
+
+    pub(crate) fn resumer(&self) -> Option<Exec>
+        ensures { result ≡ self.now.env.links.resumer }
+    {
+        self.running.resumer()
+    }
+
+    pub(crate) fn is_live(&self) -> bool
+        ensures { result ≡ self.now.env.links.live }
+    {
+        self.running.is_live()
+    }
+
+    pub(crate) fn destroyer(&self) -> Option<Exec>
+        ensures { result ≡ self.now.env.links.destroyer }
+    {
+        self.running.destroyer()
+    }
+
+    pub(crate) fn end(&mut self)
+        ensures { self.new ≡ ended self.old }
+    {
+        self.running.end();
+    }
+
+    // Another execution runs from now on; the one that ran is handed over.
+    pub(crate) fn run(&mut self, exec: Exec, stack: Stack) -> Stack
+        ensures value { result ≡ stopped self.old }
+        ensures after { self.new ≡ spread exec stack self.old.env }
+    {
+        self.exec = exec;
+        let ran = mem::replace(&mut self.running, stack);
+        ran
+    }
+
+    // An execution for the object at hand, whose main is this routine and has not begun.
+    pub(crate) fn fresh(&self, routine: RoutineCode, this: Cell) -> Result<Stack, AllocError>
+        ensures { IfOk result (λ s. s ≡ fresh_execution routine this) }
+    {
+        let stack = Stack::fresh(self.alloc, routine, this)?;
+        Ok(stack)
+    }
+
+    // What follows is of executions that are at home in the task of that object, if it is this one. One more is left there.
+    pub(crate) fn add(&mut self, task: u32, stack: Stack) -> Result<(), AllocError>
+        ensures ok { OnOk result (self.new ≡ record self.old { env = born (Home.Task task) stack self.old.env }) }
+        ensures err { OnErr result (self.new ≡ self.old) }
+    {
+        if task == self.own {
+            self.house.add(stack)?;
+        }
+        Ok(())
+    }
+
+    // One is left as this, or runs where it is nothing; what was left of it is handed over.
+    pub(crate) fn exchange(&mut self, task: u32, serial: u64, slot: Option<Stack>) -> Option<Stack>
+        ensures value { result ≡ joined (slot_in serial (members_at (Home.Task task) self.old.env)) }
+        ensures after { self.new ≡ record self.old { env = change (Home.Task task) (slot_set serial slot) self.old.env } }
+    {
+        if task == self.own {
+            let left = self.house.exchange(serial, slot);
+            left
+        } else {
+            None
+        }
+    }
+
+    // One is no more.
+    pub(crate) fn remove(&mut self, task: u32, serial: u64)
+        ensures { self.new ≡ record self.old { env = change (Home.Task task) (slot_gone serial) self.old.env } }
+    {
+        if task == self.own {
+            self.house.remove(serial);
+        }
+    }
+
+    // The coroutine of one that does not run is live, or is not.
+    pub(crate) fn set_live(&mut self, task: u32, serial: u64, live: bool)
+        ensures { self.new ≡ record self.old { env = change (Home.Task task) (live_changed live serial) self.old.env } }
+    {
+        if task == self.own {
+            self.house.set_live(serial, live);
+        }
+    }
+
+    // A cell is written to a frame of one.
     pub(crate) fn write_parked(&mut self, task: u32, serial: u64, depth: u32, at: u64, cell: Cell)
         ensures { self.new ≡ record self.old { env = change (Home.Task task) (frames_changed serial (frame_changed depth (cell_written at cell))) self.old.env } }
     {

@@ -1,17 +1,20 @@
 // The cells of a task with its hand.
 
-ghost use Rattle.std.specs.Prelude.{◌≡◌, ◌-◌, ◌<◌, ◌∷◌, [], length, nat_lt, None, Some, IfOk, OnOk, OnErr, MatchOption, slice_get, drop, true};
+ghost use Rattle.std.specs.Prelude.{◌≡◌, ◌-◌, ◌<◌, ◌∷◌, [], length, nat_lt, None, Some, IfOk, OnOk, OnErr, MatchOption, slice_get, drop, pos, true, false};
 ghost use Rattle.std.specs.Option.{is_some, option_map};
-ghost use Rattle.uc_meaning.specs.Executions.{at_depth, calmed, frame_changed, frames_changed, members_at, parked_at, change, value_at, with_owned};
+ghost use Rattle.uc_meaning.specs.Executions.{at_depth, calmed, exec_eq, frame_changed, frames_changed, members_at, parked_at, change, value_at, with_owned};
+ghost use Rattle.uc_meaning.specs.Switches.{born, ended, enlivened, forgotten, gone, home_in as home_of_owner, is_live, live_at, new_exec, set_slot, spread, stopped, switched, unwound_there, with_live, woken};
+ghost use Rattle.uc_meaning.specs.Raising.{home_of};
 ghost use Rattle.uc_meaning.specs.Quiet.{with_piece};
-ghost use Rattle.uc_frames.specs.Machine.{nought, top, below, cell_written, shifted, loaded, written, this_frame, cleared, with_hand, first_machine, line_in, line_at};
+ghost use Rattle.uc_meaning.specs.declared.exec.Reason.TheVariants as reason;
+ghost use Rattle.uc_frames.specs.Machine.{nought, top, below, cell_written, shifted, loaded, written, this_frame, cleared, with_hand, first_machine, exec_at, own_exec, resumed, home_at, set_up, line_in, line_at};
 ghost use Rattle.uc_frames.specs.Left.{left, called};
 ghost use Rattle.uc_frames.specs.Unwinding.{IsCaller, event_at, unwound_by, cleaning, catching, passed, handled};
-ghost use Rattle.uc_tree.specs.declared.limits.TheConstants.{CALLS};
+ghost use Rattle.uc_tree.specs.declared.limits.TheConstants.{CALLS, UNHANDLED};
 
 use crate::active::Active;
 use crate::call::Call;
-use crate::cell::Cell;
+use crate::cell::{Cell, exec_in};
 use crate::event::{Event, Handling};
 use crate::members::Members;
 use crate::numbered::position;
@@ -22,9 +25,10 @@ use std::alloc::{AllocError, Global};
 use std::marker::Model;
 use uc_code::code::Code;
 use uc_code::rows::RoutineCode;
-use uc_meaning::exec::{Exec, Home, Owner, Reason, Visited};
+use uc_meaning::exec::{Exec, Home, Owner, Reason, Stage, Visited};
 use uc_meaning::list::List;
 use uc_meaning::request::Piece;
+use uc_tree::limits::UNHANDLED;
 
 /// The members of the objects that a task is inside, by the objects' numbers.
 pub type Hand = List<(u64, Members)>;
@@ -446,6 +450,287 @@ impl Work {
         }
     }
 
+    /// Who resumed the running execution first, if any did.
+    pub fn starter(&self) -> Option<Exec>
+        ensures { result ≡ self.now.env.links.starter }
+    {
+        self.task.starter()
+    }
+
+    /// Who resumed the running execution last, if any did.
+    pub fn resumer(&self) -> Option<Exec>
+        ensures { result ≡ self.now.env.links.resumer }
+    {
+        self.task.resumer()
+    }
+
+    /// Who destroys the coroutine of the running execution, while that is unwound for it.
+    pub fn destroyer(&self) -> Option<Exec>
+        ensures { result ≡ self.now.env.links.destroyer }
+    {
+        self.task.destroyer()
+    }
+
+    /// Whether this is the execution that runs.
+    pub fn runs(&self, exec: Exec) -> bool
+        ensures { result ≡ exec_eq exec self.now.env.exec }
+    {
+        self.task.runs(exec)
+    }
+
+    /// How far an execution in hand is that does not run.
+    pub fn stage(&self, exec: Exec) -> Option<Stage>
+        ensures { MatchOption result (parked_at exec self.now.env ≡ None) (λ t. (x : _) × (parked_at exec self.now.env ≡ Some x) × (x.links.stage ≡ t)) }
+    {
+        match self.parked(exec) {
+            None => None,
+            Some(stack) => Some(stack.stage()),
+        }
+    }
+
+    /// The main of the running execution has ended, or was unwound.
+    pub fn end(&mut self)
+        ensures { self.new ≡ ended self.old }
+    {
+        self.task.end();
+    }
+
+    /// The running execution stops, and one in hand goes on.
+    pub fn activate(&mut self, exec: Exec)
+        ensures { (x : _) → parked_at exec self.old.env ≡ Some x → self.new ≡ switched exec x self.old }
+    {
+        if let Some(stack) = self.exchange(exec, None) {
+            self.run(exec, stack);
+        }
+    }
+
+    /// The running execution resumes one in hand.
+    pub fn wake(&mut self, exec: Exec)
+        ensures { (x : _) → parked_at exec self.old.env ≡ Some x → self.new ≡ switched exec (record x { links = woken self.old.env.exec x.links }) self.old }
+    {
+        let by = self.exec();
+        if let Some(stack) = self.exchange(exec, None) {
+            let mut stack = stack;
+            stack.wake(by);
+            self.run(exec, stack);
+        }
+    }
+
+    /// The running execution stops, and one in hand is unwound from where it stands: an event that has left a main is thrown there as
+    /// another one.
+    pub fn throw_at(&mut self, exec: Exec)
+        ensures { (x : _) → parked_at exec self.old.env ≡ Some x → self.new ≡ switched exec (unwound_there (reason.Event UNHANDLED (pos 0) (pos 0)) x) self.old }
+    {
+        if let Some(stack) = self.exchange(exec, None) {
+            let mut stack = stack;
+            stack.raise(Reason::Event {
+                event: UNHANDLED,
+                x: 0,
+                y: 0,
+            });
+            self.run(exec, stack);
+        }
+    }
+
+    /// The running execution destroys the coroutine of one in hand, which is unwound from where it stands.
+    pub fn take_down(&mut self, exec: Exec)
+        ensures { (x : _) → parked_at exec self.old.env ≡ Some x → self.new
+            ≡ switched exec (unwound_there reason.Destroyed (record x { links = record x.links { live = false; destroyer = Some self.old.env.exec } })) self.old }
+    {
+        let by = self.exec();
+        if let Some(stack) = self.exchange(exec, None) {
+            let mut stack = stack;
+            stack.destroy(by);
+            self.run(exec, stack);
+        }
+    }
+
+    // The running execution stops, and this one, which was taken out, goes on.
+    fn run(&mut self, exec: Exec, stack: Stack)
+        ensures { self.new ≡ spread exec stack (set_slot self.old.env.exec (Some (stopped self.old)) self.old.env) }
+    {
+        let stops = self.task.exec();
+        let ran = self.task.run(exec, stack);
+        let _ = self.exchange(stops, Some(ran));
+    }
+
+    // An execution in hand is left as this, or runs where it is nothing; what was left of it is handed over.
+    fn exchange(&mut self, exec: Exec, slot: Option<Stack>) -> Option<Stack>
+        ensures value { result ≡ parked_at exec self.old.env }
+        ensures after { self.new ≡ record self.old { env = set_slot exec slot self.old.env } }
+    {
+        match exec.home {
+            Home::Task(task) => {
+                let left = self.task.exchange(task, exec.serial, slot);
+                left
+            }
+            Home::Object(object) => match position(&self.hand, u64::from(object)) {
+                None => None,
+                Some(i) => {
+                    let members = self.hand.get_mut(i);
+                    let left = members.1.exchange(exec.serial, slot);
+                    left
+                }
+            },
+        }
+    }
+
+    /// The execution of the coroutine at hand, which its first cell names.
+    pub fn own_exec(&self) -> Option<Exec>
+        ensures { result ≡ own_exec self.now }
+    {
+        exec_in(self.read(self.this()))
+    }
+
+    /// The execution that a `resume` resumes: a main runs in that of its own, and so does a handler that stands in it.
+    pub fn resumed(&self) -> Option<Exec>
+        ensures { result ≡ resumed self.now }
+    {
+        if self.home() == 0 {
+            Some(self.exec())
+        } else {
+            self.own_exec()
+        }
+    }
+
+    // How many activations are below that of the routine to which the running one belongs.
+    fn home(&self) -> u32
+        ensures { result ≡ home_of self.now.run.handles (length self.now.callers) }
+    {
+        match self.handles() {
+            None => self.level(),
+            Some(visited) => visited.home,
+        }
+    }
+
+    /// Whether the coroutine is live whose place lies below so many of the newest operands.
+    pub fn is_live(&self, count: u32) -> bool
+        ensures { result ≡ is_live (exec_at (top (drop count self.now.run.operands)) self.now.env) self.now.env }
+    {
+        match exec_in(self.read(self.below(count))) {
+            None => false,
+            Some(exec) => self.is_live_at(exec),
+        }
+    }
+
+    fn is_live_at(&self, exec: Exec) -> bool
+        ensures { result ≡ live_at exec self.now.env }
+    {
+        if self.task.runs(exec) {
+            return self.task.is_live();
+        }
+        match self.parked(exec) {
+            None => false,
+            Some(stack) => stack.is_live(),
+        }
+    }
+
+    /// The object at hand gets an execution, whose main is this routine and has not begun; its first cell names it.
+    pub fn set_up(&mut self, routine: RoutineCode) -> Result<(), AllocError>
+        ensures ok { OnOk result (self.new ≡ record self.old { env = set_up routine self.old }) }
+        ensures err { OnErr result (self.new ≡ self.old) }
+    {
+        let this = self.this();
+        let stack = self.task.fresh(routine, this)?;
+        let home = self.home_at(this);
+        let exec = self.new_exec(home);
+        self.add(home, stack)?;
+        self.write(this, Cell::Running(exec));
+        Ok(())
+    }
+
+    // Where the coroutine at a place is at home.
+    fn home_at(&self, place: Cell) -> Home
+        ensures { result ≡ home_at place self.now.env }
+    {
+        match place {
+            Cell::Number(_) => self.exec().home,
+            Cell::Place(owner, _) => home_in(owner),
+            Cell::Running(_) => self.exec().home,
+            Cell::Object(object) => Home::Object(object),
+            Cell::Nothing => self.exec().home,
+        }
+    }
+
+    // The name of the next execution at a home.
+    fn new_exec(&self, home: Home) -> Exec
+        ensures { result ≡ new_exec home self.now.env }
+    {
+        match self.members(home) {
+            None => Exec { home, serial: 0 },
+            Some(members) => Exec {
+                home,
+                serial: members.serial(),
+            },
+        }
+    }
+
+    fn add(&mut self, home: Home, stack: Stack) -> Result<(), AllocError>
+        ensures ok { OnOk result (self.new ≡ record self.old { env = born home stack self.old.env }) }
+        ensures err { OnErr result (self.new ≡ self.old) }
+    {
+        match home {
+            Home::Task(task) => {
+                self.task.add(task, stack)?;
+                Ok(())
+            }
+            Home::Object(object) => {
+                if let Some(i) = position(&self.hand, u64::from(object)) {
+                    let members = self.hand.get_mut(i);
+                    members.1.add(stack)?;
+                }
+                Ok(())
+            }
+        }
+    }
+
+    /// The coroutine at hand is live.
+    pub fn enliven(&mut self)
+        ensures { self.new ≡ record self.old { env = enlivened (own_exec self.old) self.old.env } }
+    {
+        if let Some(exec) = self.own_exec() {
+            self.set_live(exec, true);
+        }
+    }
+
+    /// The coroutine of an execution in hand is live, or is not, if that does not run.
+    pub fn set_live(&mut self, exec: Exec, live: bool)
+        ensures { self.new ≡ record self.old { env = with_live live exec self.old.env } }
+    {
+        match exec.home {
+            Home::Task(task) => self.task.set_live(task, exec.serial, live),
+            Home::Object(object) => {
+                if let Some(i) = position(&self.hand, u64::from(object)) {
+                    let members = self.hand.get_mut(i);
+                    members.1.set_live(exec.serial, live);
+                }
+            }
+        }
+    }
+
+    /// The execution of the coroutine at hand is no more.
+    pub fn forget(&mut self)
+        ensures { self.new ≡ record self.old { env = forgotten (own_exec self.old) self.old.env } }
+    {
+        if let Some(exec) = self.own_exec() {
+            self.remove(exec);
+        }
+    }
+
+    fn remove(&mut self, exec: Exec)
+        ensures { self.new ≡ record self.old { env = gone exec self.old.env } }
+    {
+        match exec.home {
+            Home::Task(task) => self.task.remove(task, exec.serial),
+            Home::Object(object) => {
+                if let Some(i) = position(&self.hand, u64::from(object)) {
+                    let members = self.hand.get_mut(i);
+                    members.1.remove(exec.serial);
+                }
+            }
+        }
+    }
+
     /// So many cells of the frame of the running activation are 0, from this one on.
     pub fn clear(&mut self, cell: u32, cells: u32)
         ensures { self.new ≡ record self.old { env = cleared cell cells self.old } }
@@ -483,5 +768,15 @@ impl Work {
     {
         let pieces = self.task.take_gathered();
         pieces
+    }
+}
+
+// Where a coroutine is at home that is held by this.
+fn home_in(owner: Owner) -> Home
+    ensures { result ≡ home_of_owner owner }
+{
+    match owner {
+        Owner::Frame { exec, depth: _ } => exec.home,
+        Owner::Fields(object) => Home::Object(object),
     }
 }

@@ -2,11 +2,13 @@
 // the listing of a small code.
 #![tactic(auto)]
 
+mod executions;
 mod listed;
 mod shown;
 
+use crate::executions::executions;
 use crate::listed::listed;
-use crate::shown::shown;
+use crate::shown::{line, number, truth};
 use std::alloc::{AllocError, Global};
 use std::io;
 use uc_code::rows::RoutineCode;
@@ -63,17 +65,6 @@ const HANDLING: Handling = Handling {
         y: 7,
     },
 };
-
-/// A line of a name and cells.
-fn line(alloc: Global, name: &str, cells: &[Cell]) -> Result<String, AllocError> {
-    let mut text = format!(in alloc; "{name}:")?;
-    for cell in cells {
-        let one = shown(alloc, *cell)?;
-        text.push_str(one.as_str())?;
-    }
-    text.push_str("\n")?;
-    Ok(text)
-}
 
 /// The next op, and whether there is a call to go back to.
 fn ops(alloc: Global) -> Result<String, AllocError> {
@@ -204,14 +195,6 @@ fn replaced(alloc: Global) -> Result<String, AllocError> {
     work.replace(Cell::Object(8))?;
     let cells = [second, work.pop(), work.pop(), work.pop()];
     line(alloc, "replaced", cells.as_slice())
-}
-
-fn number(n: u32) -> Cell {
-    Cell::Number(i64::from(n))
-}
-
-fn truth(b: bool) -> Cell {
-    Cell::Number(i64::from(b))
 }
 
 fn operands(alloc: Global) -> Result<String, AllocError> {
@@ -497,6 +480,7 @@ fn main(rt: HostRuntime) -> io::Result<()> {
         gathered(alloc)?,
         gathering(alloc)?,
         item(alloc)?,
+        executions(alloc)?,
         listed(alloc)?,
     ];
     for text in &texts {

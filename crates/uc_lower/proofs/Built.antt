@@ -85,8 +85,8 @@ module _ (c : Option Class) (n : ℕ) where
     stmt_sites (Print place items) e = refl
     stmt_sites (PrintTogether place items) e = refl
     stmt_sites (Read place places) e = refl
-    stmt_sites (Resume place) e = absurd (true≢false (sym e))
-    stmt_sites (Suspend place) e = absurd (true≢false (sym e))
+    stmt_sites (Resume place) e = refl
+    stmt_sites (Suspend place) e = refl
     stmt_sites (Yield place) e = absurd (true≢false (sym e))
     stmt_sites (Migrate place cluster) e = absurd (true≢false (sym e))
 

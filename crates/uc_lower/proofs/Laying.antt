@@ -9,6 +9,7 @@ use Rattle.uc_tree.specs.Programs.{Program, Routine}
 use Rattle.uc_tree.specs.Source as source
 use Rattle.uc_tree.specs.Resolve.{all_unwritten, place_by, routine_scope, routine_meant, routines_meant, unwritten_meant}
 use Rattle.uc_built.specs.BuiltForms.{are_built}
+use Rattle.uc_code.specs.declared.rows.MainOf.TheVariants as main_of
 use Rattle.uc_code.specs.declared.rows.RoutineCode.{RoutineCode}
 use Rattle.uc_code.specs.Drafts.{Draft}
 use Rattle.uc_code.specs.Laid.{Laid, laid_in}
@@ -31,7 +32,8 @@ use Rattle.uc_lower.proofs.Built.{stmts_sites}
 
 -- the statements of a routine and its end
 body_stable : (q : source.Purpose) (n line : ℕ) (ss : source.Stmts) → Stable (λ code. BodyAt code q n line ss)
-body_stable source.TaskMain n line ss = main_stable line (λ code ms. StmtsAt code ms line ss) (λ ms. stmts_stable ms line ss) n
+body_stable source.TaskMain n line ss = main_stable line (λ code ms. StmtsAt code ms line ss) (λ ms. stmts_stable ms line ss) main_of.Task n
+body_stable source.CoroutineMain n line ss = main_stable line (λ code ms. StmtsAt code ms line ss) (λ ms. stmts_stable ms line ss) main_of.Coroutine n
 body_stable source.Procedure n line ss = both (stmts_stable (mark.Body n ∷ []) line ss) (one_stable op.Return 0)
 body_stable source.Function n line ss = both (stmts_stable (mark.Body n ∷ []) line ss) (both (one_stable op.NoReturn line) (one_stable op.Return 0))
 body_stable source.Builder n line ss = both (stmts_stable (mark.Body n ∷ []) 0 ss) (one_stable op.Return 0)

@@ -1,9 +1,11 @@
 -- The number of main among the routines of items.
-use Rattle.std.proofs.Common.{◌≡◌, ℕ, ◌+◌, ◌∷◌, List, [], Bool, true, false, if◌then◌else◌, length, drop, ap, ◌∙◌, refl, arith}
+use Rattle.std.proofs.Common.{◌≡◌, ℕ, ◌+◌, ◌∷◌, List, [], Bool, true, false, Option, Some, None, if◌then◌else◌, length, drop, ap, ◌∙◌, refl, arith}
 use Rattle.std.proofs.lemmas.List.{length-append}
 use Rattle.uc_tree.specs.Programs.{MemberForm, FieldsMember, RoutineMember, ProtoMember, Member, Item, ClassItem, RoutineItem, ConstItem, ProtoItem, ForwardItem, UsingItem, Program}
 use Rattle.uc_tree.specs.Numbering.{form_defined, item_defined, items_defined, members_defined}
 use Rattle.uc_tree.specs.ProgramMain.{is_main_item, main_among}
+use Rattle.uc_code.specs.declared.rows.MainOf.{MainOf}
+use Rattle.uc_code.specs.declared.rows.MainOf.TheVariants as main_of
 use Rattle.uc_lower.specs.Mains.{routines_in, routines_in_form, routines_in_members}
 
 form_count : (p : Program) (name : List ℕ) (f : MemberForm) → length (form_defined p name f) ≡ routines_in_form f
@@ -26,6 +28,22 @@ item_count p (ConstItem c) = refl
 item_count p (ProtoItem s) = refl
 item_count p (ForwardItem f) = refl
 item_count p (UsingItem at) = refl
+
+-- whose main a routine is, by the two tests
+
+pub mains_first : (b d : Bool) → b ≡ true → Some main_of.Task ≡ (if b then Some main_of.Task else if d then Some main_of.Coroutine else None)
+mains_first true d e = refl
+mains_first false d e = cc
+
+pub mains_else : (b d : Bool) → b ≡ false → d ≡ true → Some main_of.Coroutine ≡ (if b then Some main_of.Task else if d then Some main_of.Coroutine else None)
+mains_else true d e f = cc
+mains_else false true e f = refl
+mains_else false false e f = cc
+
+pub mains_none : (b d : Bool) → b ≡ false → d ≡ false → (let o : Option MainOf = None in o ≡ (if b then Some main_of.Task else if d then Some main_of.Coroutine else None))
+mains_none true d e f = cc
+mains_none false true e f = cc
+mains_none false false e f = refl
 
 case_main : (b : Bool) (k m : ℕ) → b ≡ true → (if b then 0 else k + m) ≡ 0
 case_main true k m e = refl

@@ -11,15 +11,15 @@ use Rattle.uc_tree.specs.Sizes.{inits_size, program_size}
 use Rattle.uc_tree.specs.Programs.{Init, Routine, Class, Program}
 use Rattle.uc_tree.specs.Cells.{classes_of}
 use Rattle.uc_tree.specs.Numbering.{Defined, is_event, routines_of}
-use Rattle.uc_tree.specs.Objects.{ClassField, Unwritten, class_at, fields_of, unwritten_at, unwritten_by, unwritten_of, written_at}
+use Rattle.uc_tree.specs.Objects.{ClassField, Unwritten, has_execution, class_at, fields_of, unwritten_at, unwritten_by, unwritten_of, written_at}
 use Rattle.uc_tree.specs.Resolve.{class_by, place_by}
 use Rattle.uc_meaning.specs.declared.rules.Home.{Home}
 use Rattle.uc_meaning.specs.Breaks.{breaks_among, breaks_of}
 use Rattle.uc_meaning.specs.ProgramVisits.{items_visits, members_visits}
 use Rattle.uc_meaning.specs.Scopes.{class_around, plain_env}
 use Rattle.uc_meaning.specs.Visits.{AtClass, AtProgram}
-use Rattle.uc_lower_class.specs.Bodies.{builder_room, left_room, part_end, role_room, unwritten_room}
-use Rattle.uc_lower_class.specs.Fields.{all_room, fields_room, room_by}
+use Rattle.uc_lower_class.specs.Bodies.{builder_room, part_end, role_room, unwritten_room}
+use Rattle.uc_lower_class.specs.Fields.{all_room, enliven_room, fields_room, forget_count, left_room, live_room, room_by, set_up_room, start_room, take_down_room}
 use Rattle.uc_lower_class.specs.Inits.{init_exprs}
 use Rattle.uc_lower.specs.Laying.{own_room, role_room_of, routine_room, unwritten_rooms, written_room}
 use Rattle.uc_lower.proofs.Ruled.{class_none, rest_none}
@@ -31,12 +31,34 @@ use Rattle.uc_lower.proofs.Placed.{belongs}
 use Rattle.uc_lower.proofs.Apart.{routines_apart}
 use Rattle.uc_lower.proofs.Sums.{all_weight, class_weight, sum, sum_add, sum_le_at, weight, weight_join}
 
+-- the execution of a coroutine costs as much in its constructor, and in its destructor
+
+abbrev execution_cost : Bool → ℕ
+execution_cost true = 8
+execution_cost false = 0
+
+abbrev destruction_cost : Bool → ℕ
+destruction_cost true = 37
+destruction_cost false = 0
+
+execution_few : (b : Bool) → execution_cost b + destruction_cost b ≤ 45
+execution_few true = omega arith
+execution_few false = omega arith
+
+execution_is : (b : Bool) → set_up_room b + start_room b + enliven_room b ≡ execution_cost b
+execution_is true = refl
+execution_is false = refl
+
+destruction_is : (b : Bool) → 36 * forget_count b + take_down_room b ≡ destruction_cost b
+destruction_is true = refl
+destruction_is false = refl
+
 abbrev cost : Role → Option Class → ℕ
 cost role.Plain o = 0
 cost role.Constructor None = 0
-cost role.Constructor (Some c) = fields_cost (fields_of c.members)
+cost role.Constructor (Some c) = fields_cost (fields_of c.members) + execution_cost (has_execution c.kind)
 cost role.Destructor None = 0
-cost role.Destructor (Some c) = 40 * length (fields_of c.members)
+cost role.Destructor (Some c) = 36 * length (fields_of c.members) + destruction_cost (has_execution c.kind)
 
 cost_plain : (o : Option Class) → cost role.Plain o ≡ 0
 cost_plain o = refl
@@ -90,20 +112,21 @@ module _ (p : Program) (none : breaks_of p ≡ []) where
 
   -- a written routine
 
-  built_few : (r : Routine) (place : Option ℕ) → all_room r.inits (class_by p place) ≤ cost role.Constructor (class_by p place) + 64 * inits_size r.inits
+  built_few : (r : Routine) (place : Option ℕ) → all_room r.inits (class_by p place) + live_room (class_by p place) ≤ cost role.Constructor (class_by p place) + 64 * inits_size r.inits
   built_few r None = omega arith
   built_few r (Some i) = by_class (class_at p i) refl
     where
-      by_class : (o : Option Class) → class_at p i ≡ o → all_room r.inits o ≤ cost role.Constructor o + 64 * inits_size r.inits
+      by_class : (o : Option Class) → class_at p i ≡ o → all_room r.inits o + live_room o ≤ cost role.Constructor o + 64 * inits_size r.inits
       by_class None e = omega arith
       by_class (Some c) e =
           let a = fields_are r.inits (fields_of c.members) in
           let b = inits_few r.inits (names_of (fields_of c.members)) (fresh_fields i c e) in
-          omega (arith, a, b)
+          let d = execution_is (has_execution c.kind) in
+          omega (arith, a, b, d)
 
   left_is : (o : Option Class) → left_room o ≡ cost role.Destructor o
   left_is None = refl
-  left_is (Some c) = refl
+  left_is (Some c) = let d = destruction_is (has_execution c.kind) in omega (arith, d)
 
   routine_few : (d : Defined) (r : Role) → d.routine.sig.role ≡ r → routine_room p d ≤ cost r (class_by p (place_by p d)) + 64 * (1 + own_size d.routine)
   routine_few d role.Plain e =
@@ -134,24 +157,26 @@ module _ (p : Program) (none : breaks_of p ≡ []) where
   same_weight (u ∷ us) = ap (λ n. own_room p u + n) (same_weight us)
 
   -- one of them, written or not
-  one_few : (r : Role) (i : ℕ) (c : Class) → class_at p i ≡ Some c → is_event c.kind ≡ false → own_room p (record { class = i; role = r }) ≤ cost r (Some c) + 20 → (o : Option ℕ) → written_at p i r ≡ o → one p cost cost_plain cost_none (routines_of p) r c i + weight p (own_room p) (unwritten_by o i r) ≤ cost r (Some c) + 20
-  one_few r i c e v l None w =
+  one_few : (k : ℕ) (r : Role) (i : ℕ) (c : Class) → class_at p i ≡ Some c → is_event c.kind ≡ false → own_room p (record { class = i; role = r }) ≤ cost r (Some c) + k → (o : Option ℕ) → written_at p i r ≡ o → one p cost cost_plain cost_none (routines_of p) r c i + weight p (own_room p) (unwritten_by o i r) ≤ cost r (Some c) + k
+  one_few k r i c e v l None w =
       let nobody = none_written p i c r e v [] (routines_of p) 0 (routines_apart p none) w in
       let nothing : one p cost cost_plain cost_none (routines_of p) r c i ≡ 0 = ap (λ (t : Bool). if t then cost r (Some c) else 0) nobody in
       omega (arith, l, nothing)
-  one_few r i c e v l (Some n) w = let few = if_few (list_any (belongs p i r) (routines_of p)) (cost r (Some c)) in omega (arith, few)
+  one_few k r i c e v l (Some n) w = let few = if_few (list_any (belongs p i r) (routines_of p)) (cost r (Some c)) in omega (arith, few)
 
-  builds_few : (i : ℕ) (c : Class) → class_at p i ≡ Some c → own_room p (record { class = i; role = role.Constructor }) ≤ cost role.Constructor (Some c) + 20
+  builds_few : (i : ℕ) (c : Class) → class_at p i ≡ Some c → own_room p (record { class = i; role = role.Constructor }) ≤ cost role.Constructor (Some c) + 17
   builds_few i c e =
       let a : own_room p (record { class = i; role = role.Constructor }) ≡ unwritten_room role.Constructor (Some c) + 1 = ap (λ (o : Option Class). unwritten_room role.Constructor o + 1) e in
-      let b : all_room [] (Some c) ≡ cost role.Constructor (Some c) = no_inits (fields_of c.members) in
-      let d : unwritten_room role.Constructor (Some c) ≡ all_room [] (Some c) + part_end = refl in
-      omega (arith, a, b, d)
+      let b = no_inits (fields_of c.members) in
+      let f = execution_is (has_execution c.kind) in
+      let d : unwritten_room role.Constructor (Some c) ≡ all_room [] (Some c) + live_room (Some c) + part_end = refl in
+      omega (arith, a, b, d, f)
 
-  destroys_few : (i : ℕ) (c : Class) → class_at p i ≡ Some c → own_room p (record { class = i; role = role.Destructor }) ≤ cost role.Destructor (Some c) + 20
+  destroys_few : (i : ℕ) (c : Class) → class_at p i ≡ Some c → own_room p (record { class = i; role = role.Destructor }) ≤ cost role.Destructor (Some c) + 1
   destroys_few i c e =
       let a : unwritten_room role.Destructor (class_at p i) ≡ unwritten_room role.Destructor (Some c) = ap (unwritten_room role.Destructor) e in
-      omega (arith, a)
+      let d = left_is (Some c) in
+      omega (arith, a, d)
 
   -- nobody but its written constructor builds an event
   class_few : (i : ℕ) (c : Class) → class_at p i ≡ Some c → paid p cost cost_plain cost_none (routines_of p) c i + class_weight p (own_room p) c i ≤ 64 * (1 + fields_size (fields_of c.members))
@@ -162,13 +187,15 @@ module _ (p : Program) (none : breaks_of p ≡ []) where
           let a = if_few (list_any (belongs p i role.Constructor) (routines_of p)) (cost role.Constructor (Some c)) in
           let b = if_few (list_any (belongs p i role.Destructor) (routines_of p)) (cost role.Destructor (Some c)) in
           let f = fields_few (fields_of c.members) in
-          omega (arith, a, b, f)
+          let g = execution_few (has_execution c.kind) in
+          omega (arith, a, b, f, g)
       by_kind false v =
           let j = weight_join p (own_room p) (unwritten_by (written_at p i role.Constructor) i role.Constructor) (unwritten_by (written_at p i role.Destructor) i role.Destructor) in
-          let a = one_few role.Constructor i c e v (builds_few i c e) (written_at p i role.Constructor) refl in
-          let b = one_few role.Destructor i c e v (destroys_few i c e) (written_at p i role.Destructor) refl in
+          let a = one_few 17 role.Constructor i c e v (builds_few i c e) (written_at p i role.Constructor) refl in
+          let b = one_few 1 role.Destructor i c e v (destroys_few i c e) (written_at p i role.Destructor) refl in
           let f = fields_few (fields_of c.members) in
-          omega (arith, j, a, b, f)
+          let g = execution_few (has_execution c.kind) in
+          omega (arith, j, a, b, f, g)
 
   sizes_are : (cs : List Class) (i : ℕ) → sum (λ c i. 64 * (1 + fields_size (fields_of c.members))) cs i ≡ 64 * class_sizes cs
   sizes_are [] i = refl

@@ -1,13 +1,13 @@
 -- No event is raised in constructors and destructors that nobody wrote, and they are behind all that are written.
-use Rattle.std.proofs.Common.{◌≡◌, ℕ, zero, suc, ◌+◌, ◌-◌, ◌≤◌, ◌<◌, List, [], ◌∷◌, ◌++◌, Option, Some, None, length, subst, arith}
+use Rattle.std.proofs.Common.{◌≡◌, ℕ, zero, suc, ◌+◌, ◌-◌, ◌≤◌, ◌<◌, Bool, true, false, List, [], ◌∷◌, ◌++◌, Option, Some, None, length, subst, arith}
 use Rattle.std.specs.Prelude.{slice_get}
 use Rattle.uc_tree.specs.declared.kinds.Role.{Role}
 use Rattle.uc_tree.specs.declared.kinds.Role.TheVariants as role
 use Rattle.uc_tree.specs.Numbering.{Defined, routines_of}
 use Rattle.uc_tree.specs.Cells.{leading_cells}
-use Rattle.uc_tree.specs.Objects.{ClassField, Unwritten, class_at, class_shape, fields_of, unwritten_of}
+use Rattle.uc_tree.specs.Objects.{ClassField, Unwritten, has_execution, class_at, class_shape, fields_of, unwritten_of}
 use Rattle.uc_tree.specs.Programs.{Class, Program}
-use Rattle.uc_tree.specs.Resolve.{Meant, Own, all_unwritten, build, construction, destruction, field_built, field_class, field_left, field_place, fields_built, fields_left, length_in_class, nowhere, routines_meant, source_of, unwritten_body, unwritten_meant}
+use Rattle.uc_tree.specs.Resolve.{Meant, Own, all_unwritten, build, construction, construction_ends, destruction, enlivened, field_built, field_class, field_left, field_place, fields_built, fields_left, forgotten, length_in_class, nowhere, routines_meant, set_up, source_of, started_in, taken_down, unwritten_body, unwritten_meant}
 use Rattle.uc_tree.specs.Source as source
 use Rattle.uc_code.specs.Silent.{silent, silent_all}
 use Rattle.uc_lower.specs.Laying.{last_of}
@@ -36,13 +36,41 @@ module _ (p : Program) (c : Class) (i : ℕ) where
   all_left (f ∷ fs) n rest h =
       left_silent p (field_class p f) (length_in_class p c i f) (field_place (class_shape p i) n Own) (fields_left p c i fs (suc n) rest) (all_left fs (suc n) rest h)
 
-built_silent : (p : Program) (o : Option Class) (i : ℕ) → silent_all (construction p o i [] (nowhere p) source.Nil)
+-- what builds and destroys a coroutine resumes none
+
+set_up_silent : (p : Program) (b : Bool) (i : ℕ) (rest : source.Stmts) → silent_all rest → silent_all (set_up p b i rest)
+set_up_silent p true i rest h = (tt, h)
+set_up_silent p false i rest h = h
+
+started_silent : (p : Program) (b : Bool) (rest : source.Stmts) → silent_all rest → silent_all (started_in p b rest)
+started_silent p true rest h = h
+started_silent p false rest h = h
+
+enlivened_silent : (p : Program) (b : Bool) → silent_all (enlivened p b)
+enlivened_silent p true = (tt, tt)
+enlivened_silent p false = tt
+
+taken_silent : (p : Program) (b : Bool) (rest : source.Stmts) → silent_all rest → silent_all (taken_down p b rest)
+taken_silent p true rest h = (tt, h)
+taken_silent p false rest h = h
+
+forgotten_silent : (p : Program) (b : Bool) (rest : source.Stmts) → silent_all rest → silent_all (forgotten p b rest)
+forgotten_silent p true rest h = h
+forgotten_silent p false rest h = h
+
+built_silent : (p : Program) (o : Option Class) (i : ℕ) → silent_all (construction p o i [] (nowhere p) (construction_ends p o))
 built_silent p None i = tt
-built_silent p (Some c) i = all_built p c i (fields_of c.members) (leading_cells c.kind) source.Nil tt
+built_silent p (Some c) i =
+    let within : source.Stmts = started_in p (has_execution c.kind) (enlivened p (has_execution c.kind)) in
+    set_up_silent p (has_execution c.kind) i (fields_built p c i [] (nowhere p) (fields_of c.members) (leading_cells c.kind) within)
+    (all_built p c i (fields_of c.members) (leading_cells c.kind) within (started_silent p (has_execution c.kind) (enlivened p (has_execution c.kind)) (enlivened_silent p (has_execution c.kind))))
 
 destroyed_silent : (p : Program) (o : Option Class) (i : ℕ) → silent_all (destruction p o i source.Nil)
 destroyed_silent p None i = tt
-destroyed_silent p (Some c) i = all_left p c i (fields_of c.members) (leading_cells c.kind) source.Nil tt
+destroyed_silent p (Some c) i =
+    let within : source.Stmts = taken_down p (has_execution c.kind) source.Nil in
+    forgotten_silent p (has_execution c.kind) (fields_left p c i (fields_of c.members) (leading_cells c.kind) within)
+    (all_left p c i (fields_of c.members) (leading_cells c.kind) within (taken_silent p (has_execution c.kind) source.Nil tt))
 
 body_silent : (p : Program) (r : Role) (i : ℕ) → silent_all (unwritten_body p r i)
 body_silent p role.Plain i = tt

@@ -1,6 +1,6 @@
 // The code of all routines, one after another.
 
-ghost use Rattle.std.specs.Prelude.{◌≡◌, ◌+◌, ◌*◌, ◌^◌, ◌≤◌, ◌<◌, [], true, false, None, Some, length, map, nat_eq, slice_get, slice_set, IfOk, OnOk};
+ghost use Rattle.std.specs.Prelude.{◌≡◌, ℕ, ◌+◌, ◌*◌, ◌^◌, ◌≤◌, ◌<◌, [], true, false, None, Some, length, map, nat_eq, slice_get, slice_set, IfOk, OnOk};
 ghost use Rattle.uc_tree.specs.declared.limits.TheConstants.{FRAME_CELLS, OPS_FOR_SIZE, PROGRAM_OPS, PROGRAM_SIZE};
 ghost use Rattle.uc_tree.specs.StatementSizes.{stmts_size};
 ghost use Rattle.uc_tree.specs.Cells.{routine_cells};
@@ -8,21 +8,21 @@ ghost use Rattle.uc_tree.specs.Gathered.{gathered_all};
 ghost use Rattle.uc_tree.specs.Numbering.{is_plain, own_sites, own_texts, routines_of};
 ghost use Rattle.uc_tree.specs.Objects.{unwritten_of};
 ghost use Rattle.uc_tree.specs.ProgramMain.{main_number};
-ghost use Rattle.uc_tree.specs.Resolve.{place_by, routine_meant, routine_scope};
+ghost use Rattle.uc_tree.specs.Resolve.{class_by, has_coroutines, is_coroutine_main, place_by, routine_meant, routine_scope};
 ghost use Rattle.uc_built.specs.BuiltForms.{are_built, IsBuilt};
 ghost use Rattle.uc_meaning.specs.Breaks.{breaks_of};
 ghost use Rattle.uc_code.specs.Laid.{laid_in};
 ghost use Rattle.uc_code.specs.Lowered.{RoutineAt};
 ghost use Rattle.uc_code.specs.Ranges.{Kept};
 ghost use Rattle.uc_numbers.specs.Routines.{defined_at};
-ghost use Rattle.uc_lower_stmt.specs.Routines.{frame_cells};
+ghost use Rattle.uc_lower_stmt.specs.Routines.{frame_cells, main_in};
 ghost use Rattle.uc_unwritten.specs.Unwritten.{unwritten_as};
 ghost use Rattle.uc_lower.specs.Laying.{Lays, LaysAll, routine_room};
 ghost use Rattle.uc_lower.specs.Refusing.{Fits};
 
 use std::alloc::{AllocError, Global};
 use uc_code::draft::Draft;
-use uc_code::rows::RoutineCode;
+use uc_code::rows::{MainOf, RoutineCode};
 use uc_lower_class::builder::{lower_builder, lower_unwritten};
 use uc_lower_expr::events::builds_event;
 use uc_lower_expr::program_names::{ProgramNames, name_of, sig_of};
@@ -67,6 +67,36 @@ fn class_of(names: &ProgramNames, one: &Defined) -> Option<usize>
     names.class_of(one.number)
 }
 
+// Whose main a routine of the class with this place is, where `main` says whether it is the program's.
+fn main_in(names: &ProgramNames, main: bool, class: Option<usize>, sig: &Sig) -> Option<MainOf>
+    ensures { (number : ℕ) → main ≡ nat_eq number (main_number names.now) → result ≡ main_in names.now number (class_by names.now class) sig.now }
+{
+    if main {
+        return Some(MainOf::Task);
+    }
+    if is_coroutine_main(names, class, sig) {
+        return Some(MainOf::Coroutine);
+    }
+    None
+}
+
+// Whether a routine of the class with this place is the main of its coroutines.
+fn is_coroutine_main(names: &ProgramNames, class: Option<usize>, sig: &Sig) -> bool
+    ensures { result ≡ is_coroutine_main names.now (class_by names.now class) sig.now }
+{
+    has_coroutines(names, class) && is_plain(sig) && sig.name.is(b"main")
+}
+
+// Whether the class with this place is one of coroutines, if there is one.
+fn has_coroutines(names: &ProgramNames, class: Option<usize>) -> bool
+    ensures { result ≡ has_coroutines names.now (class_by names.now class) }
+{
+    match class {
+        Some(class) => names.has_executions(class),
+        None => false,
+    }
+}
+
 // Adds the code of a written routine, behind so many text literals and accept statements of the program, where `last` is the number
 // of the last one that is written.
 fn lower_written(
@@ -102,7 +132,9 @@ fn lower_written(
 {
     let routine = one.routine;
     let class = class_of(names, one);
-    if is_plain(sig_of(routine)) {
+    let sig = sig_of(routine);
+    if is_plain(sig) {
+        let main = main_in(names, main, class, sig);
         lower_routine(
             alloc, names, routine, main, class, number, last, texts, sites, out,
         )?;

@@ -1,21 +1,22 @@
 -- The code of constructors and destructors.
 use Rattle.std.proofs.Common.{◌≡◌, ℕ, ◌+◌, ◌*◌, ◌≤◌, ◌<◌, Bool, true, false, List, [], ◌∷◌, ◌++◌, length, nat_eq, refl, ap, sym, subst, ◌∙◌, arith}
-use Rattle.std.specs.Prelude.{Option, None, max, slice_set, if◌then◌else◌}
+use Rattle.std.specs.Prelude.{◌&&◌, Option, None, max, slice_set, if◌then◌else◌}
 use Rattle.std.proofs.Math.Nat.{max-eq_left, max-eq_right}
 use Rattle.uc_tree.specs.declared.kinds.Base.{Base}
 use Rattle.uc_tree.specs.declared.kinds.Param.{Param}
 use Rattle.uc_tree.specs.declared.kinds.Role.{Role}
 use Rattle.uc_tree.specs.declared.kinds.Role.TheVariants as role
 use Rattle.uc_tree.specs.Gathered.{gathered_all}
-use Rattle.uc_tree.specs.Numbering.{is_plain, own_texts, own_sites}
+use Rattle.uc_tree.specs.Names.{same_name}
+use Rattle.uc_tree.specs.Numbering.{is_plain, main_name, own_texts, own_sites}
 use Rattle.uc_tree.specs.Objects.{Unwritten, class_at}
 use Rattle.uc_tree.specs.ProgramMain.{main_number}
 use Rattle.uc_tree.specs.StatementSizes.{stmts_size}
 use Rattle.uc_tree.specs.Cells.{declared_cells, params_cells, routine_cells, stmts_cells}
 use Rattle.uc_tree.specs.Scopes.{stmts_scopes}
-use Rattle.uc_tree.specs.Programs.{Program, Routine}
+use Rattle.uc_tree.specs.Programs.{Class, Program, Routine}
 use Rattle.uc_tree.specs.Source as source
-use Rattle.uc_tree.specs.Resolve.{Scope, body_by, params_known, purpose_of, role_purpose, routine_meant, routine_scope, scope_behind, unwritten_body, unwritten_meant}
+use Rattle.uc_tree.specs.Resolve.{Scope, body_by, class_by, has_coroutines, is_coroutine_main, params_known, purpose_of, role_purpose, routine_meant, routine_scope, scope_behind, unwritten_body, unwritten_meant}
 use Rattle.uc_code.specs.declared.op.Op.TheVariants as op
 use Rattle.uc_code.specs.declared.rows.Mark.{Mark}
 use Rattle.uc_code.specs.declared.rows.Mark.TheVariants as mark
@@ -113,8 +114,16 @@ builds_role p role.Plain b e = cc
 builds_role p role.Constructor b e = refl
 builds_role p role.Destructor b e = refl
 
-pub builder_purpose : (p : Program) (r : Routine) (number : ℕ) → is_plain r.sig.role ≡ false → nat_eq number (main_number p) ≡ false → purpose_of p number r ≡ source.Builder
-builder_purpose p r number e m = ap (λ (b : Bool). if b then source.TaskMain else role_purpose p r.sig.role r.sig.ret) m ∙ builds_role p r.sig.role r.sig.ret e
+-- no constructor and no destructor is the main of a coroutine
+no_main : (b t u : Bool) → t ≡ false → (b && (t && u)) ≡ false
+no_main true t u e = ap (λ (x : Bool). x && u) e
+no_main false t u e = refl
+
+pub builder_purpose : (p : Program) (r : Routine) (number : ℕ) (c : Option Class) → is_plain r.sig.role ≡ false → nat_eq number (main_number p) ≡ false → purpose_of p number c r ≡ source.Builder
+builder_purpose p r number c e m =
+    let plain : is_coroutine_main p c r.sig ≡ false = no_main (has_coroutines p c) (is_plain r.sig.role) (same_name r.sig.name main_name) e in
+    ap (λ (b : Bool). if b then source.TaskMain else if is_coroutine_main p c r.sig then source.CoroutineMain else role_purpose p r.sig.role r.sig.ret) m
+    ∙ ap (λ (b : Bool). if b then source.CoroutineMain else role_purpose p r.sig.role r.sig.ret) plain ∙ builds_role p r.sig.role r.sig.ret e
 
 -- what lowering one does to a draft
 pub record Written (p : Program) (r : Routine) (s : Scope) (class : Option ℕ) (last number : ℕ) (old new : Draft) : Type 0 where
@@ -172,7 +181,7 @@ module _ (p : Program) (r : Routine) (wanted : Role) (class : Option ℕ) (last 
 
   pub arm_builder : Written p r s class last number d0 new
   arm_builder =
-      let purpose = builder_purpose p r number builds main in
+      let purpose = builder_purpose p r number (class_by p class) builds main in
       record {
         kept = placed.kept;
         room = placed.room;

@@ -12,7 +12,8 @@ use Rattle.uc_tree.specs.Source.{field_cells, Expr, Literal, OfObject, OwnField,
 use Rattle.uc_tree.specs.Resolve.{Meant, AtPlace, args_meant, meant, build, clean_up, converted, value_of, field_built, field_class, field_left, field_type, length_in_class}
 use Rattle.uc_code.specs.declared.op.Op.TheVariants as op
 use Rattle.uc_code.specs.declared.rows.Mark.{Mark}
-use Rattle.uc_code.specs.declared.rows.ObjectCall.{ObjectCall}
+use Rattle.uc_code.specs.declared.rows.Cleaning.{Cleaning}
+use Rattle.uc_code.specs.declared.rows.Cleaning.TheVariants as cleaning
 use Rattle.uc_code.specs.declared.rows.Spot.{Spot}
 use Rattle.uc_code.specs.declared.rows.Spot.TheVariants as spot
 use Rattle.uc_code.specs.Drafts.{Draft}
@@ -125,13 +126,13 @@ module _ (p : Program) (c : Class) (i number : ℕ) (f : ClassField) (v : Field)
   held_same : (m : Meant) → held_by v.by_ref (shape_as v.told.scalar) m ≡ (if f.declarator.by_ref then m.expr else converted (shape_of f.base) (value_of m))
   held_same m = ap (λ (b : Bool). held_by b (shape_as v.told.scalar) m) (sym h.by_ref) ∙ ap (λ (s : Shape). held_by f.declarator.by_ref s m) (sym (told_shape p c i number f v h))
 
-  pub started_on : {n : ℕ} {old new : Draft} → (m : Meant) (ms : List Meant) (ws : List ObjectCall) → Adds n (StartedCode old.marks v.cell (held_by v.by_ref (shape_as v.told.scalar) m)) old new → Constructs n (started_then p i number f (m ∷ ms)) ws old ws new
+  pub started_on : {n : ℕ} {old new : Draft} → (m : Meant) (ms : List Meant) (ws : List Cleaning) → Adds n (StartedCode old.marks v.cell (held_by v.by_ref (shape_as v.told.scalar) m)) old new → Constructs n (started_then p i number f (m ∷ ms)) ws old ws new
   started_on {n} {old} {new} m ms ws g =
       let by_cell = subst (λ (k : ℕ). Adds n (StartedCode old.marks k (held_by v.by_ref (shape_as v.told.scalar) m)) old new) (sym h.cell) g in
       let by_value = subst (λ (e : Expr). Adds n (StartedCode old.marks (field_cells (class_shape p i) number) e) old new) (held_same m) by_cell in
       constructs_does (Evaluate 0 (Assign place (if f.declarator.by_ref then m.expr else converted (shape_of f.base) (value_of m)))) ws (puts_adds by_value)
 
-pub started_none : (p : Program) (i number n : ℕ) (f : ClassField) (ws : List ObjectCall) (old : Draft) → Constructs n (started_then p i number f []) ws old ws old
+pub started_none : (p : Program) (i number n : ℕ) (f : ClassField) (ws : List Cleaning) (old : Draft) → Constructs n (started_then p i number f []) ws old ws old
 started_none p i number n f ws old = constructs_as (constructs_nothing ws old) (omega arith) (λ ss. refl)
 
 -- the code of a value that is kept
@@ -151,10 +152,10 @@ started_code n cell e d0 d1 d2 d3 d4 h1 h2 h3 h4 =
 
 -- how many ops a part takes
 
-pub part_fits : (p : Program) (j : ℕ) (r : ClassRoutine) (s : Spot) (l : Option ℕ) → build_room l + (clean_length (call_by r s (array_by p j l)) + 2) ≤ part_room l
+pub part_fits : (p : Program) (j : ℕ) (r : ClassRoutine) (s : Spot) (l : Option ℕ) → build_room l + (clean_length (cleaning.Call (call_by r s (array_by p j l))) + 2) ≤ part_room l
 part_fits p j r s l = by_written p j r.number r.written s l
   where
-    by_written : (p : Program) (j k : ℕ) (w : Bool) (s : Spot) (l : Option ℕ) → build_room l + (clean_length (call_by (record { number = k; written = w }) s (array_by p j l)) + 2) ≤ part_room l
+    by_written : (p : Program) (j k : ℕ) (w : Bool) (s : Spot) (l : Option ℕ) → build_room l + (clean_length (cleaning.Call (call_by (record { number = k; written = w }) s (array_by p j l))) + 2) ≤ part_room l
     by_written p j k true s None = omega arith
     by_written p j k false s None = omega arith
     by_written p j k true s (Some n) = omega arith
@@ -163,7 +164,7 @@ part_fits p j r s l = by_written p j r.number r.written s l
 -- arguments, of which the first counts
 
 pub started_some : (p : Program) (v : Field) (args : List tree.Expr) (e : tree.Expr) (old new : Draft) → Some e ≡ slice_get args 0 → Adds (OPS_FOR_SIZE * expr_size e + 4) (StartedCode old.marks v.cell (held_by v.by_ref (shape_as v.told.scalar) (meant (context_in p old) e))) old new
-    → (c : Class) (i number : ℕ) (f : ClassField) (parts : List ObjectCall) → IsFieldAt p c i number f v → Constructs (OPS_FOR_SIZE * exprs_size (exprs_of args) + 4) (started_then p i number f (args_meant (context_in p old) (exprs_of args))) parts old parts new
+    → (c : Class) (i number : ℕ) (f : ClassField) (parts : List Cleaning) → IsFieldAt p c i number f v → Constructs (OPS_FOR_SIZE * exprs_size (exprs_of args) + 4) (started_then p i number f (args_meant (context_in p old) (exprs_of args))) parts old parts new
 started_some p v [] e old new is h c i number f parts at = cc
 started_some p v (x ∷ xs) e old new is h c i number f parts at =
     let same : e ≡ x = cc in
@@ -172,7 +173,7 @@ started_some p v (x ∷ xs) e old new is h c i number f parts at =
     constructs_as (started_on p c i number f v at (meant (context_in p old) x) (args_meant (context_in p old) (exprs_of xs)) parts one) (omega arith) (λ ss. refl)
 
 pub started_nothing : (p : Program) (v : Field) (args : List tree.Expr) (old : Draft) → None ≡ slice_get args 0
-    → (c : Class) (i number : ℕ) (f : ClassField) (parts : List ObjectCall) → IsFieldAt p c i number f v → Constructs (OPS_FOR_SIZE * exprs_size (exprs_of args) + 4) (started_then p i number f (args_meant (context_in p old) (exprs_of args))) parts old parts old
+    → (c : Class) (i number : ℕ) (f : ClassField) (parts : List Cleaning) → IsFieldAt p c i number f v → Constructs (OPS_FOR_SIZE * exprs_size (exprs_of args) + 4) (started_then p i number f (args_meant (context_in p old) (exprs_of args))) parts old parts old
 started_nothing p v [] old is c i number f parts at = started_none p i number (OPS_FOR_SIZE * 0 + 4) f parts old
 started_nothing p v (x ∷ xs) old is c i number f parts at = cc
 

@@ -1,7 +1,7 @@
 -- The scopes of fields, which are opened one after another.
 use Rattle.std.proofs.Common.{◌≡◌, ℕ, ◌+◌, ◌≤◌, [], ◌∷◌, length, refl, sym, subst, arith}
 use Rattle.uc_tree.specs.Source.{CleanUp, Stmts, Scoped}
-use Rattle.uc_code.specs.declared.rows.ObjectCall.{ObjectCall}
+use Rattle.uc_code.specs.declared.rows.Cleaning.{Cleaning}
 use Rattle.uc_code.specs.declared.rows.Opening.TheVariants as opening
 use Rattle.uc_code.specs.Drafts.{Draft}
 use Rattle.uc_code.specs.Laid.{laid_in}
@@ -21,7 +21,7 @@ opens_as h l e = lays_as h refl e (omega arith) (omega arith) (omega arith) l (o
 pub opens_then : {m n : ℕ} {F G : Stmts → Stmts} {old mid new : Draft} → Opens m F old mid → Opens n G mid new → Opens (m + n) (λ ss. F (G ss)) old new
 opens_then {m} {n} {F} {G} {old} {mid} {new} h g = lays_as (lays_join h g) h.scope (λ ss. refl) (omega arith) (omega arith) (omega arith) (omega arith) (omega arith)
 
-scope_opened : (c : CleanUp) (what : ObjectCall) (old : Draft) → Kept (laid_in old) (laid_in (opened (opening.Object what 0) old)) → Cleans c what → Opens 1 (λ ss. Scoped c ss) old (opened (opening.Object what 0) old)
+scope_opened : (c : CleanUp) (what : Cleaning) (old : Draft) → Kept (laid_in old) (laid_in (opened (opening.Object what 0) old)) → Cleans c what → Opens 1 (λ ss. Scoped c ss) old (opened (opening.Object what 0) old)
 scope_opened c what old k g = record {
   rest = refl;
   scope = refl;
@@ -37,6 +37,6 @@ scope_opened c what old k g = record {
   code = Opened [] old.marks (length old.ops) (length old.rows) c what Begins g;
 }
 
-pub opens_scope : (c : CleanUp) (what : ObjectCall) (old new : Draft) → new ≡ opened (opening.Object what 0) old → Kept (laid_in old) (laid_in new) → Cleans c what → Opens 1 (λ ss. Scoped c ss) old new
+pub opens_scope : (c : CleanUp) (what : Cleaning) (old new : Draft) → new ≡ opened (opening.Object what 0) old → Kept (laid_in old) (laid_in new) → Cleans c what → Opens 1 (λ ss. Scoped c ss) old new
 opens_scope c what old new e k g =
     subst (λ (d : Draft). Opens 1 (λ ss. Scoped c ss) old d) (sym e) (scope_opened c what old (subst (λ (d : Draft). Kept (laid_in old) (laid_in d)) e k) g)

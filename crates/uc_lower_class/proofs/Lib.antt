@@ -3,6 +3,7 @@ pub mod Builders
 pub mod Fielding
 pub mod Further
 pub mod Leaving
+pub mod Living
 pub mod Looping
 pub mod Naming
 pub mod Parting

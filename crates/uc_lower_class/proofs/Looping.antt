@@ -11,7 +11,7 @@ use Rattle.uc_tree.specs.Cells.{leading_cells, seen_in}
 use Rattle.uc_tree.specs.Constants.{constants_of}
 use Rattle.uc_tree.specs.Objects.{ClassField, class_shape, fields_of}
 use Rattle.uc_tree.specs.Resolve.{Meant, Own, Scope, args_meant, context_at, field_built, field_class, field_length, field_place, fields_built, fields_left, init_args, init_named, length_in_class}
-use Rattle.uc_code.specs.declared.rows.ObjectCall.{ObjectCall}
+use Rattle.uc_code.specs.declared.rows.Cleaning.{Cleaning}
 use Rattle.uc_code.specs.Drafts.{Draft}
 use Rattle.uc_code.specs.Laid.{routine_in}
 use Rattle.uc_lower_stmt.proofs.Laying.{lays_routine}
@@ -89,13 +89,13 @@ module _ (p : Program) (c : Class) (i : ℕ) where
   lead = leading_cells c.kind
 
   -- fields that are built up to a place: whatever builds the others from here builds all
-  pub record Building (inits : List Init) (s : Scope) (ws : List ObjectCall) (old : Draft) (place : ℕ) (us : List ObjectCall) (now : Draft) : Type 0 where
+  pub record Building (inits : List Init) (s : Scope) (ws : List Cleaning) (old : Draft) (place : ℕ) (us : List Cleaning) (now : Draft) : Type 0 where
     pub same : now ≡ record old { ops = now.ops; rows = now.rows; settled = now.settled; marks = now.marks }
     pub inside : routine_in now.marks ≡ routine_in old.marks
     pub room : length now.ops + end_room us + fields_room inits (drop place fs) ≤ length old.ops + end_room ws + fields_room inits fs
-    pub on : (vs : List ObjectCall) (new : Draft) → Constructs (fields_room inits (drop place fs)) (fields_built p c i inits s (drop place fs) (lead + place)) us now vs new → Constructs (fields_room inits fs) (fields_built p c i inits s fs lead) ws old vs new
+    pub on : (vs : List Cleaning) (new : Draft) → Constructs (fields_room inits (drop place fs)) (fields_built p c i inits s (drop place fs) (lead + place)) us now vs new → Constructs (fields_room inits fs) (fields_built p c i inits s fs lead) ws old vs new
 
-  pub building_begin : (inits : List Init) (s : Scope) (ws : List ObjectCall) (old : Draft) → Building inits s ws old 0 ws old
+  pub building_begin : (inits : List Init) (s : Scope) (ws : List Cleaning) (old : Draft) → Building inits s ws old 0 ws old
   building_begin inits s ws old =
       let z : lead + 0 ≡ lead = omega arith in
       record {
@@ -108,14 +108,14 @@ module _ (p : Program) (c : Class) (i : ℕ) where
   abbrev field_room : List Init → ClassField → ℕ
   field_room inits f = room_by f.declarator.len + OPS_FOR_SIZE * exprs_size (init_exprs inits f.declarator.name)
 
-  one_more : (inits : List Init) (s : Scope) (f : ClassField) (xs : List ClassField) (n m : ℕ) (us vs ts : List ObjectCall) (now mid new : Draft) → m ≡ suc n → Constructs (field_room inits f) (field_then p c i n f (args_meant (context_at p s) (init_exprs inits f.declarator.name))) us now vs mid
+  one_more : (inits : List Init) (s : Scope) (f : ClassField) (xs : List ClassField) (n m : ℕ) (us vs ts : List Cleaning) (now mid new : Draft) → m ≡ suc n → Constructs (field_room inits f) (field_then p c i n f (args_meant (context_at p s) (init_exprs inits f.declarator.name))) us now vs mid
       → Constructs (fields_room inits xs) (fields_built p c i inits s xs m) vs mid ts new → Constructs (fields_room inits (f ∷ xs)) (fields_built p c i inits s (f ∷ xs) n) us now ts new
   one_more inits s f xs n m us vs ts now mid new e h g =
       constructs_as (constructs_then h g) (omega arith) (λ ss.
       ap (λ (args : List Meant). field_built p (field_class p f) f (length_in_class p c i f) (field_place (class_shape p i) n Own) args (fields_built p c i inits s xs m ss)) (sym (init_same p s inits f.declarator.name))
       ∙ ap (λ (k : ℕ). field_built p (field_class p f) f (length_in_class p c i f) (field_place (class_shape p i) n Own) (init_args p s (init_named p inits f.declarator.name)) (fields_built p c i inits s xs k ss)) e)
 
-  pub building_step : (inits : List Init) (s : Scope) (ws : List ObjectCall) (old : Draft) (place : ℕ) (us : List ObjectCall) (now : Draft) (f : ClassField) (vs : List ObjectCall) (mid : Draft) → Building inits s ws old place us now → slice_get fs place ≡ Some f
+  pub building_step : (inits : List Init) (s : Scope) (ws : List Cleaning) (old : Draft) (place : ℕ) (us : List Cleaning) (now : Draft) (f : ClassField) (vs : List Cleaning) (mid : Draft) → Building inits s ws old place us now → slice_get fs place ≡ Some f
       → Constructs (field_room inits f) (field_then p c i (lead + place) f (args_meant (context_at p s) (init_exprs inits f.declarator.name))) us now vs mid → Building inits s ws old (place + 1) vs mid
   building_step inits s ws old place us now f vs mid b e h =
       let split = drop_at fs place f e in
@@ -127,7 +127,7 @@ module _ (p : Program) (c : Class) (i : ℕ) where
         on = λ ts new g. b.on ts new (subst (λ (xs : List ClassField). Constructs (fields_room inits xs) (fields_built p c i inits s xs (lead + place)) us now ts new) (sym split) (one_more inits s f (drop (place + 1) fs) (lead + place) (lead + (place + 1)) us vs ts now mid new next h g));
       }
 
-  pub building_end : (inits : List Init) (s : Scope) (ws : List ObjectCall) (old : Draft) (place : ℕ) (us : List ObjectCall) (now : Draft) → Building inits s ws old place us now → length fs ≤ place → Constructs (fields_room inits fs) (fields_built p c i inits s fs lead) ws old us now
+  pub building_end : (inits : List Init) (s : Scope) (ws : List Cleaning) (old : Draft) (place : ℕ) (us : List Cleaning) (now : Draft) → Building inits s ws old place us now → length fs ≤ place → Constructs (fields_room inits fs) (fields_built p c i inits s fs lead) ws old us now
   building_end inits s ws old place us now b h =
       b.on us now (subst (λ (xs : List ClassField). Constructs (fields_room inits xs) (fields_built p c i inits s xs (lead + place)) us now us now) (sym (drop_past fs place h)) (constructs_nothing us now))
 

@@ -4,11 +4,11 @@ use Rattle.std.proofs.lemmas.List.{reverse-append}
 use Rattle.uc_tree.specs.Source.{CleanUp, Stmt, Stmts, Then, Scoped, Built}
 use Rattle.uc_code.specs.declared.rows.Mark.{Mark}
 use Rattle.uc_code.specs.declared.rows.Mark.TheVariants as mark
-use Rattle.uc_code.specs.declared.rows.ObjectCall.{ObjectCall}
+use Rattle.uc_code.specs.declared.rows.Cleaning.{Cleaning}
 use Rattle.uc_code.specs.declared.rows.Opening.TheVariants as opening
 use Rattle.uc_code.specs.Drafts.{Draft}
 use Rattle.uc_code.specs.Laid.{Laid, laid_in, routine_in}
-use Rattle.uc_code.specs.Open.{StandsBehind, opened}
+use Rattle.uc_code.specs.Open.{CleansBehind, opened}
 use Rattle.uc_code.specs.Ranges.{Kept}
 use Rattle.uc_code.specs.Lowered.{StmtAt, StmtsAt}
 use Rattle.uc_code.specs.ObjectCalls.{Cleans}
@@ -17,6 +17,7 @@ use Rattle.uc_code.proofs.Stable.{kept_refl, kept_then, kept_same}
 use Rattle.uc_lower_expr.specs.Added.{Adds}
 use Rattle.uc_lower_stmt.specs.Objects.{ClosesPart, InPart}
 use Rattle.uc_lower_stmt.specs.Pending.{Step, Does, Opens, Builds, block_of}
+use Rattle.uc_lower_stmt.proofs.Ending.{cleans_under}
 use Rattle.uc_lower_stmt.proofs.Kept.{stmt_stable, stmts_stable}
 use Rattle.uc_lower_class.specs.Pended.{Pended, Begins, Done, Parted, PartsIn, MoreParts, Constructs, EndsParts, end_room}
 
@@ -27,7 +28,7 @@ block_join ks (Opens c ∷ ls) ss = block_join ks ls (Scoped c ss)
 block_join ks (Builds c ∷ ls) ss = block_join ks ls (Built c ss)
 
 -- what is laid out stays where more comes behind it
-pub pended_kept : (old new : Laid) (ms : List Mark) (a : ℕ) (ws : List ObjectCall) (ks : List Step) (ns : List Mark) (z : ℕ) → Kept old new → z ≤ length old.ops → Pended old ms a ws ks ns z → Pended new ms a ws ks ns z
+pub pended_kept : (old new : Laid) (ms : List Mark) (a : ℕ) (ws : List Cleaning) (ks : List Step) (ns : List Mark) (z : ℕ) → Kept old new → z ≤ length old.ops → Pended old ms a ws ks ns z → Pended new ms a ws ks ns z
 pended_kept old new ms a ws ks ns z k l Begins = Begins
 pended_kept old new ms a ws ks ns z k l (Done vs qs os y w s p at) =
     let le = (stmt_stable os s).rises old y w at in
@@ -50,13 +51,13 @@ drop_none : (ns : List Mark) → drop 0 ns ≡ ns
 drop_none [] = refl
 drop_none (n ∷ ns) = refl
 
-pub marks_behind : (code : Laid) (ms : List Mark) (a : ℕ) (ws : List ObjectCall) (ks : List Step) (ns : List Mark) (z : ℕ) → Pended code ms a ws ks ns z → drop (length ws) ns ≡ ms
+pub marks_behind : (code : Laid) (ms : List Mark) (a : ℕ) (ws : List Cleaning) (ks : List Step) (ns : List Mark) (z : ℕ) → Pended code ms a ws ks ns z → drop (length ws) ns ≡ ms
 marks_behind code ms a ws ks ns z Begins = drop_none ms
 marks_behind code ms a ws ks ns z (Done vs qs os x w s p at) = marks_behind code ms a vs qs os x p
 marks_behind code ms a ws ks ns z (Parted vs qs os x row c what p g) = marks_behind code ms a vs qs os x p
 
 -- what stands before the newest part, and behind it
-record Uncovered (code : Laid) (ms : List Mark) (a : ℕ) (what : ObjectCall) (ws : List ObjectCall) (ns : List Mark) (z : ℕ) (whole : Stmts) : Type 0 where
+record Uncovered (code : Laid) (ms : List Mark) (a : ℕ) (what : Cleaning) (ws : List Cleaning) (ns : List Mark) (z : ℕ) (whole : Stmts) : Type 0 where
   row : ℕ
   outer : List Mark
   is : ns ≡ mark.Part row ∷ outer
@@ -69,7 +70,7 @@ record Uncovered (code : Laid) (ms : List Mark) (a : ℕ) (what : ObjectCall) (w
   body : StmtsAt code ns 0 rest at z
   block : block_of left (Built clean rest) ≡ whole
 
-uncovered : (code : Laid) (ms : List Mark) (a : ℕ) (what : ObjectCall) (ws : List ObjectCall) (ks : List Step) (ns : List Mark) (y z : ℕ) (ss : Stmts) → Pended code ms a (what ∷ ws) ks ns y → StmtsAt code ns 0 ss y z → Uncovered code ms a what ws ns z (block_of ks ss)
+uncovered : (code : Laid) (ms : List Mark) (a : ℕ) (what : Cleaning) (ws : List Cleaning) (ks : List Step) (ns : List Mark) (y z : ℕ) (ss : Stmts) → Pended code ms a (what ∷ ws) ks ns y → StmtsAt code ns 0 ss y z → Uncovered code ms a what ws ns z (block_of ks ss)
 uncovered code ms a what ws ks ns y z ss (Done vs qs os x w s p at) h = uncovered code ms a what ws qs os x z (Then s ss) p (record { middle = w; first = at; second = h })
 uncovered code ms a what ws ks ns y z ss (Parted vs qs os x row c w p g) h = record { row = row; outer = os; is = refl; left = qs; at = x; clean = c; rest = ss; before = p; cleans = g; body = h; block = refl }
 
@@ -84,7 +85,7 @@ ends_nothing old = record {
   marks = sym (drop_none old.marks);
 }
 
-module _ (what : ObjectCall) (ws : List ObjectCall) (old mid new : Draft) (q : InPart old.marks) (h : ClosesPart what 0 old mid) (g : EndsParts ws mid new) where
+module _ (what : Cleaning) (ws : List Cleaning) (old mid new : Draft) (q : InPart old.marks) (h : ClosesPart what 0 old mid) (g : EndsParts ws mid new) where
   abbrev was : Laid
   was = laid_in old
 
@@ -134,22 +135,22 @@ module _ (what : ObjectCall) (ws : List ObjectCall) (old mid new : Draft) (q : I
 
 -- the parts of marks
 
-pub in_part : (what : ObjectCall) (ws : List ObjectCall) (ms : List Mark) → PartsIn (what ∷ ws) ms → InPart ms
+pub in_part : (what : Cleaning) (ws : List Cleaning) (ms : List Mark) → PartsIn (what ∷ ws) ms → InPart ms
 in_part what ws ms (MoreParts w us row ns b p) = record { row = row; outer = ns; is = refl }
 
-pub part_behind : (what : ObjectCall) (ws : List ObjectCall) (ms : List Mark) → PartsIn (what ∷ ws) ms → StandsBehind ms what
-part_behind what ws ms (MoreParts w us row ns b p) = record { behind = b.behind }
+pub part_behind : (what : Cleaning) (ws : List Cleaning) (ms : List Mark) → PartsIn (what ∷ ws) ms → CleansBehind ms what
+part_behind what ws ms (MoreParts w us row ns b p) = cleans_under what row ns b
 
-pub parts_behind : (what : ObjectCall) (ws : List ObjectCall) (ms ns : List Mark) → ns ≡ drop 1 ms → PartsIn (what ∷ ws) ms → PartsIn ws ns
+pub parts_behind : (what : Cleaning) (ws : List Cleaning) (ms ns : List Mark) → ns ≡ drop 1 ms → PartsIn (what ∷ ws) ms → PartsIn ws ns
 parts_behind what ws ms ns e (MoreParts w us row os b p) = subst (λ (qs : List Mark). PartsIn us qs) (sym (e ∙ drop_none os)) p
 
 -- room
 
-pub end_push : (ws : List ObjectCall) (what : ObjectCall) → end_room (ws ++ what ∷ []) ≡ end_room ws + (clean_length what + 2)
+pub end_push : (ws : List Cleaning) (what : Cleaning) → end_room (ws ++ what ∷ []) ≡ end_room ws + (clean_length what + 2)
 end_push [] what = omega arith
 end_push (w ∷ ws) what = omega (arith, end_push ws what)
 
-pub end_reverse : (ws : List ObjectCall) → end_room (reverse ws) ≡ end_room ws
+pub end_reverse : (ws : List Cleaning) → end_room (reverse ws) ≡ end_room ws
 end_reverse [] = refl
 end_reverse (w ∷ ws) =
     let e : reverse (w ∷ ws) ≡ reverse ws ++ w ∷ [] = reverse-append (w ∷ []) ws in
@@ -157,7 +158,7 @@ end_reverse (w ∷ ws) =
 
 -- what builds fields, one after another
 
-pub constructs_nothing : (ws : List ObjectCall) (old : Draft) → Constructs 0 (λ ss. ss) ws old ws old
+pub constructs_nothing : (ws : List Cleaning) (old : Draft) → Constructs 0 (λ ss. ss) ws old ws old
 constructs_nothing ws old = record {
   rest = refl;
   kept = kept_refl (laid_in old);
@@ -169,7 +170,7 @@ constructs_nothing ws old = record {
   code = λ ms a ks h. h;
 }
 
-pub constructs_as : {m n : ℕ} {F G : Stmts → Stmts} {ws us : List ObjectCall} {old new : Draft} → Constructs m F ws old us new → m ≤ n → ((ss : Stmts) → F ss ≡ G ss) → Constructs n G ws old us new
+pub constructs_as : {m n : ℕ} {F G : Stmts → Stmts} {ws us : List Cleaning} {old new : Draft} → Constructs m F ws old us new → m ≤ n → ((ss : Stmts) → F ss ≡ G ss) → Constructs n G ws old us new
 constructs_as {m} {n} {F} {G} {ws} {us} {old} {new} h l e = record {
   rest = h.rest;
   kept = h.kept;
@@ -181,7 +182,7 @@ constructs_as {m} {n} {F} {G} {ws} {us} {old} {new} h l e = record {
   code = h.code;
 }
 
-pub constructs_then : {m n : ℕ} {F G : Stmts → Stmts} {ws us vs : List ObjectCall} {old mid new : Draft} → Constructs m F ws old us mid → Constructs n G us mid vs new → Constructs (m + n) (λ ss. F (G ss)) ws old vs new
+pub constructs_then : {m n : ℕ} {F G : Stmts → Stmts} {ws us vs : List Cleaning} {old mid new : Draft} → Constructs m F ws old us mid → Constructs n G us mid vs new → Constructs (m + n) (λ ss. F (G ss)) ws old vs new
 constructs_then {m} {n} {F} {G} {ws} {us} {vs} {old} {mid} {new} h g = record {
   rest = g.rest ∙ ap (λ (d : Draft). let x : Draft = record d { ops = new.ops; rows = new.rows; settled = new.settled; marks = new.marks } in x) h.rest;
   kept = kept_then (laid_in old) (laid_in mid) (laid_in new) h.kept g.kept;
@@ -195,7 +196,7 @@ constructs_then {m} {n} {F} {G} {ws} {us} {vs} {old} {mid} {new} h g = record {
 
 -- a statement, and what follows a part
 
-pub constructs_does : {n : ℕ} {old new : Draft} → (s : Stmt) (ws : List ObjectCall) → Puts n (λ code. StmtAt code old.marks s) old new → Constructs n (λ ss. Then s ss) ws old ws new
+pub constructs_does : {n : ℕ} {old new : Draft} → (s : Stmt) (ws : List Cleaning) → Puts n (λ code. StmtAt code old.marks s) old new → Constructs n (λ ss. Then s ss) ws old ws new
 constructs_does {n} {old} {new} s ws h =
     let marks : new.marks ≡ old.marks = ap (λ (d : Draft). d.marks) h.rest in
     record {
@@ -218,38 +219,38 @@ puts_adds {n} {S} {old} {new} h = record {
   code = h.code;
 }
 
-reverse_push : (ws : List ObjectCall) (what : ObjectCall) → reverse (ws ++ what ∷ []) ≡ what ∷ reverse ws
+reverse_push : (ws : List Cleaning) (what : Cleaning) → reverse (ws ++ what ∷ []) ≡ what ∷ reverse ws
 reverse_push ws what = reverse-append ws (what ∷ [])
 
-parts_push : (c : CleanUp) (what : ObjectCall) (ws : List ObjectCall) (old : Draft) → Kept (laid_in old) (laid_in (opened opening.Part old)) → Cleans c what → StandsBehind old.marks what → Constructs (clean_length what + 2) (λ ss. Built c ss) ws old (ws ++ what ∷ []) (opened opening.Part old)
+parts_push : (c : CleanUp) (what : Cleaning) (ws : List Cleaning) (old : Draft) → Kept (laid_in old) (laid_in (opened opening.Part old)) → Cleans c what → CleansBehind old.marks what → Constructs (clean_length what + 2) (λ ss. Built c ss) ws old (ws ++ what ∷ []) (opened opening.Part old)
 parts_push c what ws old k g b = record {
   rest = refl;
   kept = k;
   room = let e = end_push ws what in omega arith;
-  parts = λ p. subst (λ (us : List ObjectCall). PartsIn us (mark.Part (length old.rows) ∷ old.marks)) (sym (reverse_push ws what)) (MoreParts what (reverse ws) (length old.rows) old.marks b p);
+  parts = λ p. subst (λ (us : List Cleaning). PartsIn us (mark.Part (length old.rows) ∷ old.marks)) (sym (reverse_push ws what)) (MoreParts what (reverse ws) (length old.rows) old.marks b p);
   inside = refl;
   steps = Builds c ∷ [];
   block = λ ss. refl;
-  code = λ ms a ks p. subst (λ (us : List ObjectCall). Pended (laid_in (opened opening.Part old)) ms a us (Builds c ∷ ks) (mark.Part (length old.rows) ∷ old.marks) (length old.ops)) (sym (reverse_push ws what))
+  code = λ ms a ks p. subst (λ (us : List Cleaning). Pended (laid_in (opened opening.Part old)) ms a us (Builds c ∷ ks) (mark.Part (length old.rows) ∷ old.marks) (length old.ops)) (sym (reverse_push ws what))
       (Parted (reverse ws) ks old.marks (length old.ops) (length old.rows) c what (pended_kept (laid_in old) (laid_in (opened opening.Part old)) ms a (reverse ws) ks old.marks (length old.ops) k (omega arith) p) g);
 }
 
-pub constructs_part : (c : CleanUp) (what : ObjectCall) (ws us : List ObjectCall) (old new : Draft) → new ≡ opened opening.Part old → us ≡ ws ++ what ∷ [] → Kept (laid_in old) (laid_in new) → Cleans c what → StandsBehind old.marks what → Constructs (clean_length what + 2) (λ ss. Built c ss) ws old us new
+pub constructs_part : (c : CleanUp) (what : Cleaning) (ws us : List Cleaning) (old new : Draft) → new ≡ opened opening.Part old → us ≡ ws ++ what ∷ [] → Kept (laid_in old) (laid_in new) → Cleans c what → CleansBehind old.marks what → Constructs (clean_length what + 2) (λ ss. Built c ss) ws old us new
 constructs_part c what ws us old new e f k g b =
     subst (λ (d : Draft). Constructs (clean_length what + 2) (λ ss. Built c ss) ws old us d) (sym e) (
-    subst (λ (vs : List ObjectCall). Constructs (clean_length what + 2) (λ ss. Built c ss) ws old vs (opened opening.Part old)) (sym f) (
+    subst (λ (vs : List Cleaning). Constructs (clean_length what + 2) (λ ss. Built c ss) ws old vs (opened opening.Part old)) (sym f) (
     parts_push c what ws old (subst (λ (d : Draft). Kept (laid_in old) (laid_in d)) e k) g b))
 
 -- parts that have ended one after another: whatever ends the others from here ends all
-pub record Ending (ws : List ObjectCall) (old : Draft) (us : List ObjectCall) (now : Draft) : Type 0 where
+pub record Ending (ws : List Cleaning) (old : Draft) (us : List Cleaning) (now : Draft) : Type 0 where
   pub parts : PartsIn us now.marks
   pub room : length now.ops + end_room us ≤ length old.ops + end_room ws
   pub on : (new : Draft) → EndsParts us now new → EndsParts ws old new
 
-pub ending_begin : (ws : List ObjectCall) (old : Draft) → PartsIn ws old.marks → Ending ws old ws old
+pub ending_begin : (ws : List Cleaning) (old : Draft) → PartsIn ws old.marks → Ending ws old ws old
 ending_begin ws old p = record { parts = p; room = omega arith; on = λ new e. e }
 
-pub ending_step : (ws : List ObjectCall) (old : Draft) (what : ObjectCall) (us : List ObjectCall) (now mid : Draft) → Ending ws old (what ∷ us) now → ClosesPart what 0 now mid → Ending ws old us mid
+pub ending_step : (ws : List Cleaning) (old : Draft) (what : Cleaning) (us : List Cleaning) (now mid : Draft) → Ending ws old (what ∷ us) now → ClosesPart what 0 now mid → Ending ws old us mid
 ending_step ws old what us now mid b h =
     let q = in_part what us now.marks b.parts in
     let marks : mid.marks ≡ drop 1 now.marks = h.marks q.row q.outer q.is ∙ sym (ap (λ (ns : List Mark). drop 1 ns) q.is ∙ drop_none q.outer) in
@@ -259,9 +260,9 @@ ending_step ws old what us now mid b h =
       on = λ new e. b.on new (ends_part what us now mid new q h e);
     }
 
-pub ending_end : (ws : List ObjectCall) (old now : Draft) → Ending ws old [] now → EndsParts ws old now
+pub ending_end : (ws : List Cleaning) (old now : Draft) → Ending ws old [] now → EndsParts ws old now
 ending_end ws old now b = b.on now (ends_nothing now)
 
 -- the newest part stands last in a list of the oldest first
-pub reverse_pop : (vs us : List ObjectCall) (what : ObjectCall) → vs ≡ us ++ what ∷ [] → reverse vs ≡ what ∷ reverse us
+pub reverse_pop : (vs us : List Cleaning) (what : Cleaning) → vs ≡ us ++ what ∷ [] → reverse vs ≡ what ∷ reverse us
 reverse_pop vs us what e = ap reverse e ∙ reverse_push us what

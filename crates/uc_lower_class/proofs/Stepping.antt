@@ -9,7 +9,7 @@ use Rattle.uc_tree.specs.Cells.{classes_of, leading_cells}
 use Rattle.uc_tree.specs.Objects.{ClassField, class_at, fields_of}
 use Rattle.uc_tree.specs.Resolve.{Meant, Scope, args_meant, context_at}
 use Rattle.uc_code.specs.declared.rows.Mark.{Mark}
-use Rattle.uc_code.specs.declared.rows.ObjectCall.{ObjectCall}
+use Rattle.uc_code.specs.declared.rows.Cleaning.{Cleaning}
 use Rattle.uc_code.specs.Drafts.{Draft}
 use Rattle.uc_code.specs.Laid.{routine_in}
 use Rattle.uc_lower_expr.specs.Contexts.{context_in}
@@ -70,7 +70,7 @@ module _ (p : Program) (c : Class) (i place : ℕ) (v : Field) (n : Nth p c i pl
       let room = room_of in
       omega (arith, split, size, room)
 
-  pub build_next : (inits : List Init) (args : Exprs) (name : List ℕ) (ws us vs : List ObjectCall) (old now mid : Draft) → args ≡ init_exprs inits name → name ≡ n.field.declarator.name → Building p c i inits (scope_of old) ws old place us now
+  pub build_next : (inits : List Init) (args : Exprs) (name : List ℕ) (ws us vs : List Cleaning) (old now mid : Draft) → args ≡ init_exprs inits name → name ≡ n.field.declarator.name → Building p c i inits (scope_of old) ws old place us now
       → ((c : Class) (i number : ℕ) (f : ClassField) → IsFieldAt p c i number f v → Constructs (OPS_FOR_SIZE * exprs_size args + part_room v.told.elements) (field_then p c i number f (args_meant (context_in p now) args)) us now vs mid) → Building p c i inits (scope_of old) ws old (place + 1) vs mid
   build_next inits args name ws us vs old now mid a e b h =
       let one = h c i (leading_cells c.kind + place) n.field n.at in
@@ -93,7 +93,7 @@ none_here p c i place f e h is =
     let both : None ≡ Some f = sym none ∙ is in
     cc
 
-pub built_here : {ws us : List ObjectCall} {old new : Draft} → (p : Program) (c : Class) (i place : ℕ) (v : Field) (n : Nth p c i place v) (f : ClassField) (size : ℕ) (args : List Meant) → slice_get (fields_of c.members) place ≡ Some f
+pub built_here : {ws us : List Cleaning} {old new : Draft} → (p : Program) (c : Class) (i place : ℕ) (v : Field) (n : Nth p c i place v) (f : ClassField) (size : ℕ) (args : List Meant) → slice_get (fields_of c.members) place ≡ Some f
     → ((c : Class) (i number : ℕ) (f : ClassField) → IsFieldAt p c i number f v → Constructs (size + part_room v.told.elements) (field_then p c i number f args) ws old us new) → Constructs (size + room_by f.declarator.len) (field_then p c i (leading_cells c.kind + place) f args) ws old us new
 built_here {ws} {us} {old} {new} p c i place v n f size args is h =
     let both : Some n.field ≡ Some f = sym n.is ∙ is in
@@ -130,7 +130,7 @@ module _ (p : Program) (c : Class) (i place : ℕ) (f : ClassField) (is : slice_
       let size : exprs_size args ≡ exprs_size (init_exprs inits f.declarator.name) = ap exprs_size (a ∙ ap (init_exprs inits) e) in
       omega (arith, split, size)
 
-  pub build_turn : (inits : List Init) (args : Exprs) (name : List ℕ) (ws us vs : List ObjectCall) (old now mid : Draft) → args ≡ init_exprs inits name → name ≡ f.declarator.name → Building p c i inits (scope_of old) ws old place us now
+  pub build_turn : (inits : List Init) (args : Exprs) (name : List ℕ) (ws us vs : List Cleaning) (old now mid : Draft) → args ≡ init_exprs inits name → name ≡ f.declarator.name → Building p c i inits (scope_of old) ws old place us now
       → Constructs (OPS_FOR_SIZE * exprs_size args + room_by f.declarator.len) (field_then p c i (leading_cells c.kind + place) f (args_meant (context_in p now) args)) us now vs mid → Building p c i inits (scope_of old) ws old (place + 1) vs mid
   build_turn inits args name ws us vs old now mid a e b one =
       let values : args ≡ init_exprs inits f.declarator.name = a ∙ ap (init_exprs inits) e in

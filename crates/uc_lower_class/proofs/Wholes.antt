@@ -1,7 +1,7 @@
 -- A block that is left as a whole, and the bodies that are made of it.
 use Rattle.std.proofs.Common.{◌≡◌, ℕ, ◌+◌, ◌*◌, ◌≤◌, List, [], ◌∷◌, ◌++◌, drop, length, reverse, Some, refl, ap, sym, subst, ◌∙◌, arith}
 use Rattle.std.proofs.lemmas.Option.{slice_get_within}
-use Rattle.uc_tree.specs.Source.{Stmt, Stmts, Nil, Then, Whole}
+use Rattle.uc_tree.specs.Source.{Stmts, Whole}
 use Rattle.uc_tree.specs.declared.limits.TheConstants.{OPS_FOR_SIZE}
 use Rattle.uc_tree.specs.Statements as tree
 use Rattle.uc_tree.specs.StatementSizes.{stmts_size}
@@ -14,7 +14,7 @@ use Rattle.uc_code.specs.declared.op.Op.TheVariants as op
 use Rattle.uc_code.specs.declared.rows.Mark.{Mark}
 use Rattle.uc_code.specs.declared.rows.Mark.TheVariants as mark
 use Rattle.uc_code.specs.declared.rows.Opening.TheVariants as opening
-use Rattle.uc_code.specs.declared.rows.ObjectCall.{ObjectCall}
+use Rattle.uc_code.specs.declared.rows.Cleaning.{Cleaning}
 use Rattle.uc_code.specs.Drafts.{Draft, patched}
 use Rattle.uc_code.specs.Laid.{Laid, laid_in}
 use Rattle.uc_code.specs.Open.{closed, handler_in, opened, row_in}
@@ -24,7 +24,7 @@ use Rattle.uc_code.proofs.Patches.{bare_stays, handler_stays, length-patched, pa
 use Rattle.uc_code.proofs.Stable.{kept_piece, kept_then, part, risk_stable}
 use Rattle.uc_code.proofs.Sweeping.{closed_marks, closed_ops, like_closed}
 use Rattle.uc_lower_expr.specs.Added.{Adds, OpCode, RiskCode}
-use Rattle.uc_lower_stmt.specs.Pending.{Step, block_of}
+use Rattle.uc_lower_stmt.specs.Pending.{block_of}
 use Rattle.uc_lower_stmt.specs.Marked.{objects_in}
 use Rattle.uc_lower_stmt.specs.Scoped.{Lowers, LowersStmts, scope_of, sizes_at}
 use Rattle.uc_lower_class.specs.Bodies.{LowersWhole, whole_room}
@@ -217,8 +217,8 @@ module _ (line start end n k c o : ℕ) (ss : Stmts) (after : Scope) (d0 d1 d2 d
         code = subst (λ (z : ℕ). StmtAt (laid_in new) ms (Whole line ss) a z) (sym long_new) (subst (λ (code : Laid). StmtAt code ms (Whole line ss) a (length now.ops)) (sym laid_new) whole_at);
       }
 
--- a block behind fields that are built, and the end of their parts
-module _ (n m k c o : ℕ) (F : Stmts → Stmts) (us : List ObjectCall) (s : Stmt) (after : Scope) (d0 d1 d2 new : Draft) (h : Constructs n F [] d0 us d1) (w : Lowers m k c o (λ code. StmtAt code d1.marks s) after d1 d2) (e : EndsParts (reverse us) d2 new) where
+-- statements behind fields that are built, and the end of their parts
+module _ (n m k c o : ℕ) (F : Stmts → Stmts) (us : List Cleaning) (ss : Stmts) (after : Scope) (d0 d1 d2 new : Draft) (h : Constructs n F [] d0 us d1) (w : Lowers m k c o (λ code. StmtsAt code d1.marks 0 ss) after d1 d2) (e : EndsParts (reverse us) d2 new) where
   marks_two-built : d2.marks ≡ d1.marks
   marks_two-built = ap (λ (d : Draft). d.marks) w.rest
 
@@ -228,15 +228,15 @@ module _ (n m k c o : ℕ) (F : Stmts → Stmts) (us : List ObjectCall) (s : Stm
   marks_back : new.marks ≡ d0.marks
   marks_back = e.marks ∙ ap (λ (ns : List Mark). drop (length (reverse us)) ns) marks_two-built ∙ marks_behind (laid_in d1) d0.marks (length d0.ops) (reverse us) (h.steps ++ []) d1.marks (length d1.ops) laid
 
-  block_is : block_of (h.steps ++ []) (Then s Nil) ≡ F (Then s Nil)
-  block_is = block_join [] h.steps (Then s Nil) ∙ h.block (Then s Nil)
+  block_is : block_of (h.steps ++ []) ss ≡ F ss
+  block_is = block_join [] h.steps ss ∙ h.block ss
 
-  built_code : StmtsAt (laid_in new) d0.marks 0 (F (Then s Nil)) (length d0.ops) (length new.ops)
+  built_code : StmtsAt (laid_in new) d0.marks 0 (F ss) (length d0.ops) (length new.ops)
   built_code =
       let before : Pended (laid_in d2) d0.marks (length d0.ops) (reverse us) (h.steps ++ []) d2.marks (length d1.ops) = subst (λ (ns : List Mark). Pended (laid_in d2) d0.marks (length d0.ops) (reverse us) (h.steps ++ []) ns (length d1.ops)) (sym marks_two-built)
       (pended_kept (laid_in d1) (laid_in d2) d0.marks (length d0.ops) (reverse us) (h.steps ++ []) d1.marks (length d1.ops) w.kept (omega arith) laid) in
-      let behind : StmtsAt (laid_in d2) d2.marks 0 (Then s Nil) (length d1.ops) (length d2.ops) = subst (λ (ns : List Mark). StmtsAt (laid_in d2) ns 0 (Then s Nil) (length d1.ops) (length d2.ops)) (sym marks_two-built) (record { middle = length d2.ops; first = w.code; second = record { end = refl } }) in
-      subst (λ (ss : Stmts). StmtsAt (laid_in new) d0.marks 0 ss (length d0.ops) (length new.ops)) block_is (e.block d0.marks (length d0.ops) (length d1.ops) (h.steps ++ []) (Then s Nil) before behind)
+      let behind : StmtsAt (laid_in d2) d2.marks 0 ss (length d1.ops) (length d2.ops) = subst (λ (ns : List Mark). StmtsAt (laid_in d2) ns 0 ss (length d1.ops) (length d2.ops)) (sym marks_two-built) w.code in
+      subst (λ (qs : Stmts). StmtsAt (laid_in new) d0.marks 0 qs (length d0.ops) (length new.ops)) block_is (e.block d0.marks (length d0.ops) (length d1.ops) (h.steps ++ []) ss before behind)
 
   new_is : new ≡ record d0 { ops = new.ops; rows = new.rows; settled = new.settled; scopes = d2.scopes; names = d2.names; cells = d2.cells; hidden = d2.hidden; texts = d2.texts; sites = d2.sites }
   new_is =
@@ -244,7 +244,7 @@ module _ (n m k c o : ℕ) (F : Stmts → Stmts) (us : List ObjectCall) (s : Stm
       ∙ ap (λ (d : Draft). let x : Draft = record d { ops = new.ops; rows = new.rows; settled = new.settled; marks = new.marks; scopes = d2.scopes; names = d2.names; cells = d2.cells; hidden = d2.hidden; texts = d2.texts; sites = d2.sites } in x) h.rest
       ∙ ap (λ (ns : List Mark). let x : Draft = record d0 { ops = new.ops; rows = new.rows; settled = new.settled; marks = ns; scopes = d2.scopes; names = d2.names; cells = d2.cells; hidden = d2.hidden; texts = d2.texts; sites = d2.sites } in x) marks_back
 
-  pub arm_built : Lowers (n + m) k c o (λ code. StmtsAt code d0.marks 0 (F (Then s Nil))) after d0 new
+  pub arm_built : Lowers (n + m) k c o (λ code. StmtsAt code d0.marks 0 (F ss)) after d0 new
   arm_built =
       let texts_one : d1.texts ≡ d0.texts = ap (λ (d : Draft). d.texts) h.rest in
       let cells_one : d1.cells ≡ d0.cells = ap (λ (d : Draft). d.cells) h.rest in
@@ -261,36 +261,6 @@ module _ (n m k c o : ℕ) (F : Stmts → Stmts) (us : List ObjectCall) (s : Stm
         texts = let x = w.texts in omega arith;
         cells = let x = w.cells in omega arith;
         code = built_code;
-      }
-
--- nothing stands behind them
-module _ (n : ℕ) (F : Stmts → Stmts) (us : List ObjectCall) (d0 d1 new : Draft) (h : Constructs n F [] d0 us d1) (e : EndsParts (reverse us) d1 new) where
-  laid-alone : Pended (laid_in d1) d0.marks (length d0.ops) (reverse us) (h.steps ++ []) d1.marks (length d1.ops)
-  laid-alone = h.code d0.marks (length d0.ops) [] Begins
-
-  back-alone : new.marks ≡ d0.marks
-  back-alone = e.marks ∙ marks_behind (laid_in d1) d0.marks (length d0.ops) (reverse us) (h.steps ++ []) d1.marks (length d1.ops) laid-alone
-
-  alone_is : new ≡ record d0 { ops = new.ops; rows = new.rows; settled = new.settled }
-  alone_is =
-      e.rest ∙ ap (λ (d : Draft). let x : Draft = record d { ops = new.ops; rows = new.rows; settled = new.settled; marks = new.marks } in x) h.rest
-      ∙ ap (λ (ns : List Mark). let x : Draft = record d0 { ops = new.ops; rows = new.rows; settled = new.settled; marks = ns } in x) back-alone
-
-  pub arm_alone : Lowers n 0 0 0 (λ code. StmtsAt code d0.marks 0 (F Nil)) (scope_of d0) d0 new
-  arm_alone =
-      let texts_new : new.texts ≡ d0.texts = ap (λ (d : Draft). d.texts) alone_is in
-      let cells_new : new.cells ≡ d0.cells = ap (λ (d : Draft). d.cells) alone_is in
-      let scopes_new : new.scopes ≡ d0.scopes = ap (λ (d : Draft). d.scopes) alone_is in
-      let block : block_of (h.steps ++ []) Nil ≡ F Nil = block_join [] h.steps Nil ∙ h.block Nil in
-      record {
-        rest = subst (λ (d : Draft). d ≡ record d0 { ops = d.ops; rows = d.rows; settled = d.settled; scopes = d.scopes; names = d.names; cells = d.cells; hidden = d.hidden; texts = d.texts; sites = d.sites }) (sym alone_is) refl;
-        scope = ap scope_of alone_is;
-        opened = omega arith;
-        kept = kept_then (laid_in d0) (laid_in d1) (laid_in new) h.kept e.kept;
-        room = let x = h.room in let z = e.room in let r = end_reverse us in omega arith;
-        texts = omega arith;
-        cells = omega arith;
-        code = subst (λ (ss : Stmts). StmtsAt (laid_in new) d0.marks 0 ss (length d0.ops) (length new.ops)) block (e.block d0.marks (length d0.ops) (length d1.ops) (h.steps ++ []) Nil laid-alone (record { end = refl }));
       }
 
 -- a routine's body as such a block

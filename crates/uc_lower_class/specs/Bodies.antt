@@ -13,11 +13,8 @@ use Rattle.uc_tree.specs.Source.{Stmts, Whole}
 use Rattle.uc_tree.specs.Resolve.{Scope, body_by, class_by, scope_behind, stmts_meant, unwritten_body}
 use Rattle.uc_code.specs.Drafts.{Draft}
 use Rattle.uc_code.specs.Lowered.{StmtAt, StmtsAt}
-use Rattle.uc_code.specs.Open.{clean_room}
-use Rattle.uc_lower_expr.specs.Members.{count_fields}
-use Rattle.uc_lower_stmt.specs.Marked.{close_room}
 use Rattle.uc_lower_stmt.specs.Scoped.{Lowers, scope_of, sizes_at}
-use Rattle.uc_lower_class.specs.Fields.{all_built, all_left, all_room}
+use Rattle.uc_lower_class.specs.Fields.{all_built, all_left, all_room, left_room, live_room}
 
 -- a body, and the block that it is
 
@@ -38,21 +35,18 @@ abbrev pub left_at : Program → Option ℕ → Stmts → Stmts
 left_at p None rest = rest
 left_at p (Some i) rest = all_left p i (class_at p i) rest
 
--- how many ops they take at most: those that build them, and those that destroy them
+-- how many ops they take at most: those that build them (`left_room` of Fields: those that destroy them)
 
 abbrev pub built_room : Program → Option ℕ → Routine → ℕ
 built_room p place r = all_room r.inits (class_by p place)
 
-abbrev pub left_room : Option Class → ℕ
-left_room c = close_room * count_fields c
-
--- what the end of a part may take at most
+-- what the end of a part may take at most, beyond the least that it takes
 abbrev pub part_end : ℕ
-part_end = clean_room + 2
+part_end = 16
 
 abbrev pub role_room : Program → Role → Option ℕ → Routine → ℕ
 role_room p role.Plain place r = 0
-role_room p role.Constructor place r = built_room p place r + whole_room r + part_end
+role_room p role.Constructor place r = built_room p place r + whole_room r + live_room (class_by p place) + part_end
 role_room p role.Destructor place r = left_room (class_by p place) + whole_room r
 
 -- the code of a written routine of the class with this place, its return included
@@ -74,7 +68,7 @@ pub record IsUnwritten (p : Program) (u : Unwritten) (number : ℕ) : Type 0 whe
 
 abbrev pub unwritten_room : Role → Option Class → ℕ
 unwritten_room role.Plain c = 0
-unwritten_room role.Constructor c = all_room [] c + part_end
+unwritten_room role.Constructor c = all_room [] c + live_room c + part_end
 unwritten_room role.Destructor c = left_room c
 
 abbrev pub LowersUnwritten : Program → Role → ℕ → Draft → Draft → Type 0

@@ -1,14 +1,14 @@
 -- The fields of a class, as its constructor builds them and its destructor leaves them.
-use Rattle.std.specs.Prelude.{◌≡◌, ℕ, ◌+◌, ◌*◌, ◌<◌, Bool, List, [], ◌∷◌, Option, Some, None, false, option_map, slice_get, if◌then◌else◌}
+use Rattle.std.specs.Prelude.{◌≡◌, ℕ, ◌+◌, ◌*◌, ◌<◌, Bool, List, [], ◌∷◌, length, Option, Some, None, true, false, option_map, slice_get, if◌then◌else◌}
 use Rattle.uc_tree.specs.declared.limits.TheConstants.{OPS_FOR_SIZE}
 use Rattle.uc_tree.specs.declared.kinds.Role.{Role}
 use Rattle.uc_tree.specs.Expressions as tree
 use Rattle.uc_tree.specs.ExpressionSizes.{exprs_size}
 use Rattle.uc_tree.specs.Programs.{Class, Init, Program}
 use Rattle.uc_tree.specs.Cells.{leading_cells}
-use Rattle.uc_tree.specs.Objects.{ClassField, class_at, class_shape, fields_of}
+use Rattle.uc_tree.specs.Objects.{ClassField, has_execution, class_at, class_shape, fields_of}
 use Rattle.uc_tree.specs.Source.{Expr, Shape, Stmts}
-use Rattle.uc_tree.specs.Resolve.{Meant, Own, Scope, converted, value_of, field_built, field_class, field_left, field_place, field_started, fields_built, fields_left, length_in_class}
+use Rattle.uc_tree.specs.Resolve.{Meant, Own, Scope, converted, value_of, field_built, field_class, field_left, field_place, field_started, fields_built, fields_left, forgotten, length_in_class, set_up, started_in, taken_down}
 use Rattle.uc_code.specs.declared.rows.Mark.{Mark}
 use Rattle.uc_code.specs.declared.rows.Spot.TheVariants as spot
 use Rattle.uc_code.specs.declared.op.Op.TheVariants as op
@@ -18,6 +18,7 @@ use Rattle.uc_code.specs.Lowered.{ExprAt}
 use Rattle.uc_lower_expr.specs.declared.fields.Field.{Field}
 use Rattle.uc_lower_expr.specs.Members.{routine_for}
 use Rattle.uc_lower_stmt.specs.Blocks.{AllStandBehind}
+use Rattle.uc_lower_stmt.specs.Marked.{close_room}
 use Rattle.uc_lower_class.specs.declared.parts.Part.{Part}
 use Rattle.uc_lower_class.specs.Inits.{init_exprs}
 
@@ -65,15 +66,52 @@ held_by by_ref s m = if by_ref then m.expr else converted s (value_of m)
 abbrev pub StartedCode : List Mark → ℕ → Expr → Laid → ℕ → ℕ → Type 0
 StartedCode ms cell e code = Both (Both (One code (op.This cell) 0) (Both (ExprAt code 0 ms e) (One code op.Keep 0))) (One code op.Discard 0)
 
--- all of the fields of the class with the place i
+-- coroutines: how many ops set up an execution, begin with what its body starts, and make it live; and in a destructor how many objects
+-- are in scope more, and how many ops unwind it
+
+abbrev pub set_up_room : Bool → ℕ
+set_up_room true = 4
+set_up_room false = 0
+
+abbrev pub start_room : Bool → ℕ
+start_room true = 3
+start_room false = 0
+
+abbrev pub enliven_room : Bool → ℕ
+enliven_room true = 1
+enliven_room false = 0
+
+abbrev pub forget_count : Bool → ℕ
+forget_count true = 1
+forget_count false = 0
+
+abbrev pub take_down_room : Bool → ℕ
+take_down_room true = 1
+take_down_room false = 0
+
+-- all of the fields of the class with the place i, and the execution of its objects
 abbrev pub all_built : Program → ℕ → List Init → Scope → Option Class → Stmts → Stmts
 all_built p i inits s None rest = rest
-all_built p i inits s (Some c) rest = fields_built p c i inits s (fields_of c.members) (leading_cells c.kind) rest
+all_built p i inits s (Some c) rest =
+    set_up p (has_execution c.kind) i (fields_built p c i inits s (fields_of c.members) (leading_cells c.kind) (started_in p (has_execution c.kind) rest))
 
 abbrev pub all_left : Program → ℕ → Option Class → Stmts → Stmts
 all_left p i None rest = rest
-all_left p i (Some c) rest = fields_left p c i (fields_of c.members) (leading_cells c.kind) rest
+all_left p i (Some c) rest =
+    forgotten p (has_execution c.kind) (fields_left p c i (fields_of c.members) (leading_cells c.kind) (taken_down p (has_execution c.kind) rest))
 
 abbrev pub all_room : List Init → Option Class → ℕ
 all_room inits None = 0
-all_room inits (Some c) = fields_room inits (fields_of c.members)
+all_room inits (Some c) = set_up_room (has_execution c.kind) + (fields_room inits (fields_of c.members) + start_room (has_execution c.kind))
+
+abbrev pub live_room : Option Class → ℕ
+live_room None = 0
+live_room (Some c) = enliven_room (has_execution c.kind)
+
+abbrev pub left_count : Option Class → ℕ
+left_count None = 0
+left_count (Some c) = forget_count (has_execution c.kind) + length (fields_of c.members)
+
+abbrev pub left_room : Option Class → ℕ
+left_room None = 0
+left_room (Some c) = close_room * left_count (Some c) + take_down_room (has_execution c.kind)

@@ -10,7 +10,6 @@ ghost use Rattle.uc_tree.specs.Objects.{class_at};
 ghost use Rattle.uc_tree.specs.ProgramMain.{main_number};
 ghost use Rattle.uc_tree.specs.Scopes.{stmts_scopes};
 ghost use Rattle.uc_tree.specs.Resolve.{class_by, nowhere, routine_meant, routine_scope, unwritten_meant};
-ghost use Rattle.uc_lower_expr.specs.Members.{count_fields};
 ghost use Rattle.uc_tree.specs.declared.kinds.Role.TheVariants as role;
 ghost use Rattle.uc_built.specs.BuiltForms.{are_built};
 ghost use Rattle.uc_code.specs.Laid.{laid_in, routine_in};
@@ -20,17 +19,18 @@ ghost use Rattle.uc_lower_stmt.specs.Marked.{objects_in};
 ghost use Rattle.uc_lower_stmt.specs.Routines.{frame_cells};
 ghost use Rattle.uc_lower_stmt.specs.Scoped.{scope_of};
 ghost use Rattle.uc_unwritten.specs.Unwritten.{unwritten_as};
-ghost use Rattle.uc_lower_class.specs.Bodies.{IsUnwritten, LowersBody, LowersUnwritten, builder_room, built_at, built_room, left_at, left_room, role_room, unwritten_room};
-ghost use Rattle.uc_lower_class.specs.Fields.{FieldsBehind, all_room};
-ghost use Rattle.uc_lower_class.specs.Pended.{Constructs, Opens, end_room};
+ghost use Rattle.uc_lower_class.specs.Bodies.{IsUnwritten, LowersBody, LowersUnwritten, builder_room, built_at, built_room, left_at, role_room, unwritten_room};
+ghost use Rattle.uc_lower_class.specs.Fields.{FieldsBehind, all_room, left_count, left_room};
+ghost use Rattle.uc_lower_class.specs.Pended.{Constructs, LeavesAll, end_room};
 
+use crate::executions::end_construction;
 use crate::fields::{build_all, leave_all};
 use crate::parts::close_parts;
 use crate::whole::lower_whole;
 use std::alloc::{AllocError, Global};
 use uc_code::draft::Draft;
 use uc_code::op::Op;
-use uc_code::rows::{ObjectCall, RoutineCode};
+use uc_code::rows::{Cleaning, RoutineCode};
 use uc_lower_expr::program_names::{ProgramNames, params_of, sig_of};
 use uc_lower_expr::put::put;
 use uc_lower_stmt::block::close_scopes;
@@ -52,13 +52,13 @@ fn inits_of(routine: &Routine) -> &[Init]
     &routine.inits
 }
 
-// The fields of the class of a constructor are built.
+// The object of the class of a constructor is built, but for its body: its execution, if it is a coroutine, and its fields.
 fn build_own(
     alloc: Global,
     class: Option<usize>,
     routine: &Routine,
     names: &ProgramNames,
-    parts: &mut Vec<ObjectCall>,
+    parts: &mut Vec<Cleaning>,
     out: &mut Draft,
 ) -> Result<(), AllocError>
     requires written { routine_in out.old.marks < length (routines_of names.now) }
@@ -74,10 +74,12 @@ fn build_own(
     }
 }
 
-// The scopes of the fields of the class of a destructor are opened.
+// The scopes of the class of a destructor are opened, of its execution, if it is a coroutine, and of its fields; a coroutine is unwound.
 fn leave_own(class: Option<usize>, names: &ProgramNames, out: &mut Draft) -> Result<(), AllocError>
-    requires { routine_in out.old.marks < length (routines_of names.now) }
-    ensures { OnOk result (Opens (count_fields (class_by names.now class)) (left_at names.now class) out.old out.new) }
+    requires written { routine_in out.old.marks < length (routines_of names.now) }
+    requires outside { objects_in out.old.marks ≡ 0 }
+    requires room { length out.old.ops + left_room (class_by names.now class) ≤ PROGRAM_OPS }
+    ensures { OnOk result (LeavesAll (left_room (class_by names.now class)) (left_count (class_by names.now class)) (left_at names.now class) out.old out.new) }
 {
     match class {
         Some(class) => {
@@ -107,6 +109,7 @@ fn lower_constructor(
     let mut parts = Vec::new(alloc);
     build_own(alloc, class, routine, names, &mut parts, out)?;
     lower_whole(alloc, names, routine, out)?;
+    end_construction(class, names, out)?;
     close_parts(&mut parts, out)?;
     Ok(())
 }
@@ -238,6 +241,7 @@ fn lower_unwritten_constructor(
 {
     let mut parts = Vec::new(alloc);
     build_all(alloc, class, &[], names, &mut parts, out)?;
+    end_construction(Some(class), names, out)?;
     close_parts(&mut parts, out)?;
     Ok(())
 }

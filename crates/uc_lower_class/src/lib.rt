@@ -2,6 +2,7 @@
 #![tactic(auto)]
 
 pub mod builder;
+mod executions;
 mod fields;
 mod inits;
 mod parts;

@@ -9,21 +9,21 @@ ghost use Rattle.uc_tree.specs.Objects.{ClassField};
 ghost use Rattle.uc_tree.specs.Programs.{Class};
 ghost use Rattle.uc_tree.specs.Source.{Built, Expr as Place, Scoped, Then};
 ghost use Rattle.uc_tree.specs.Resolve.{args_meant, build, clean_up, meant};
-ghost use Rattle.uc_code.specs.declared.rows.ObjectCall.{ObjectCall as Call};
+ghost use Rattle.uc_code.specs.declared.rows.Cleaning.{Cleaning as Clean};
 ghost use Rattle.uc_code.specs.ObjectCalls.{BeginsAt};
-ghost use Rattle.uc_code.specs.Open.{clean_room};
 ghost use Rattle.uc_lower_expr.specs.Added.{Adds, ExprCode};
 ghost use Rattle.uc_lower_expr.specs.Contexts.{context_in};
 ghost use Rattle.uc_lower_expr.specs.Meanings.{shape_as};
 ghost use Rattle.uc_lower_expr.specs.Members.{IsFieldAt};
 ghost use Rattle.uc_lower_stmt.specs.Blocks.{AllStandBehind};
+ghost use Rattle.uc_lower_class.specs.Bodies.{part_end};
 ghost use Rattle.uc_lower_class.specs.Fields.{PartBehind, StartedCode, field_then, held_by, left_then, part_in, part_room, started_then};
 ghost use Rattle.uc_lower_class.specs.Pended.{Constructs, EndsParts, Opens, PartsIn, end_room};
 
 use std::alloc::AllocError;
 use uc_code::draft::Draft;
 use uc_code::op::Op;
-use uc_code::rows::{ObjectCall, Opening, Spot};
+use uc_code::rows::{Cleaning, Opening, Spot};
 use uc_lower_expr::expr::{lower_expr, lower_value};
 use uc_lower_expr::fields::Field;
 use uc_lower_expr::program_names::ProgramNames;
@@ -101,7 +101,7 @@ fn lower_started(
     out: &mut Draft,
 ) -> Result<(), AllocError>
     requires { length out.old.ops + (OPS_FOR_SIZE * exprs_size (exprs_of args.now) + 4) ≤ PROGRAM_OPS }
-    ensures { OnOk result ((c : Class) (i number : ℕ) (f : ClassField) (parts : List Call) → IsFieldAt names.now c i number f field → Constructs (OPS_FOR_SIZE * exprs_size (exprs_of args.now) + 4) (started_then names.now i number f (args_meant (context_in names.now out.old) (exprs_of args.now))) parts out.old parts out.new) }
+    ensures { OnOk result ((c : Class) (i number : ℕ) (f : ClassField) (parts : List Clean) → IsFieldAt names.now c i number f field → Constructs (OPS_FOR_SIZE * exprs_size (exprs_of args.now) + 4) (started_then names.now i number f (args_meant (context_in names.now out.old) (exprs_of args.now))) parts out.old parts out.new) }
 {
     match args.first() {
         Some(value) => {
@@ -117,7 +117,7 @@ fn lower_part(
     part: Part,
     args: &[Expr],
     names: &ProgramNames,
-    parts: &mut Vec<ObjectCall>,
+    parts: &mut Vec<Cleaning>,
     out: &mut Draft,
 ) -> Result<(), AllocError>
     requires class { part.class < length (classes_of names.now.items) }
@@ -137,7 +137,7 @@ pub(crate) fn lower_built(
     field: Field,
     args: &[Expr],
     names: &ProgramNames,
-    parts: &mut Vec<ObjectCall>,
+    parts: &mut Vec<Cleaning>,
     out: &mut Draft,
 ) -> Result<(), AllocError>
     requires room { length out.old.ops + end_room parts.old.items + (OPS_FOR_SIZE * exprs_size (exprs_of args.now) + part_room field.told.elements) ≤ PROGRAM_OPS }
@@ -178,9 +178,9 @@ pub(crate) fn lower_left(
 }
 
 /// Ends what follows these parts, the last one first. After want of memory the draft is spent.
-pub(crate) fn close_parts(parts: &mut Vec<ObjectCall>, out: &mut Draft) -> Result<(), AllocError>
+pub(crate) fn close_parts(parts: &mut Vec<Cleaning>, out: &mut Draft) -> Result<(), AllocError>
     requires parts { PartsIn (reverse parts.old.items) out.old.marks }
-    requires room { length out.old.ops + end_room parts.old.items + (clean_room + 2) ≤ PROGRAM_OPS }
+    requires room { length out.old.ops + end_room parts.old.items + part_end ≤ PROGRAM_OPS }
     ensures { OnOk result (EndsParts (reverse parts.old.items) out.old out.new) }
 {
     while let Some(what) = parts.pop() {

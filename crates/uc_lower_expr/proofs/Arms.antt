@@ -98,6 +98,7 @@ variable_told standing.Input s h = ap variable_in h
 variable_told standing.Fail s h = ap variable_in h
 variable_told (standing.Routine r) s h = ap variable_in h
 variable_told (standing.Member r) s h = ap variable_in h
+variable_told (standing.LiveMember r) s h = ap variable_in h
 variable_told standing.Nothing s h = ap variable_in h
 
 pub told_variable : {p : Program} → (s : Meaning) (m : Meant) (k : ℕ) → Tells p s m → Some k ≡ cell_in s.standing → variable_in m.standing ≡ Some k

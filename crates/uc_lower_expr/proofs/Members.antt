@@ -7,8 +7,8 @@ use Rattle.uc_tree.specs.Names.{same_name}
 use Rattle.uc_tree.specs.Programs.{Class, Constant, Program}
 use Rattle.uc_tree.specs.Source.{Shape, Expr, Literal, field_cells}
 use Rattle.uc_tree.specs.Numbering.{is_event, routines_of}
-use Rattle.uc_tree.specs.Objects.{class_at, class_shape, member_from, number_at, plain_class}
-use Rattle.uc_tree.specs.Resolve.{Meant, Standing, AtPlace, AsValue, AsInput, AsFail, no_meaning, NumberedField, class_or_event, event_place, field_type, Whose, Own, Of, field_by_ref, field_found, method_by, member_by, member_in, member_meant, meant_or, own_meant, item_meant, constant_meant_by, routine_meant_by, object_member, place_member, field_by, field_meant, fail_name, bool_type, result_of, scalar}
+use Rattle.uc_tree.specs.Objects.{has_execution, class_at, class_shape, member_from, number_at, plain_class}
+use Rattle.uc_tree.specs.Resolve.{Meant, Standing, AtPlace, AsValue, AsInput, AsFail, no_meaning, NumberedField, class_or_event, event_place, field_type, Whose, Own, Of, field_by_ref, field_found, method_by, method_standing, has_coroutines, member_by, member_in, member_meant, meant_or, own_meant, item_meant, constant_meant_by, routine_meant_by, object_member, place_member, field_by, field_meant, fail_name, bool_type, result_of, scalar}
 use Rattle.uc_code.specs.declared.op.Op.{Op}
 use Rattle.uc_code.specs.declared.op.Op.TheVariants as op
 use Rattle.uc_code.specs.declared.rows.Mark.{Mark}
@@ -24,7 +24,7 @@ use Rattle.uc_lower_expr.specs.declared.meaning.Meaning.{Meaning}
 use Rattle.uc_lower_expr.specs.declared.fields.Field.{Field}
 use Rattle.uc_lower_expr.specs.declared.numbering.Fixed.{Fixed}
 use Rattle.uc_lower_expr.specs.Numbered.{IsFixed}
-use Rattle.uc_lower_expr.specs.Meanings.{FieldAt, Begins, StandsAs, Tells}
+use Rattle.uc_lower_expr.specs.Meanings.{FieldAt, Begins, StandsAs, Tells, member_standing}
 use Rattle.uc_lower_expr.specs.Members.{IsFieldAt, IsField, no_field, member_at}
 use Rattle.uc_lower_expr.specs.Added.{Adds, ExprCode, Grows, OpCode}
 use Rattle.uc_lower_expr.specs.Parts.{FieldCode, Restarts, own_place_op, own_standing, input_told}
@@ -43,26 +43,26 @@ module _ (p : Program) (i : ℕ) (name : List ℕ) where
 
   -- no field
 
-  none_case : (whose : Whose) (b : Bool) (o : Option ℕ) → (if b then None else o) ≡ None → (if b then no_meaning else method_by p whose o) ≡ no_meaning
-  none_case whose true o k = refl
-  none_case whose false o k = ap (method_by p whose) k
+  none_case : (d : Bool) (whose : Whose) (b : Bool) (o : Option ℕ) → (if b then None else o) ≡ None → (if b then no_meaning else method_by p d whose o) ≡ no_meaning
+  none_case d whose true o k = refl
+  none_case d whose false o k = ap (method_by p d whose) k
 
-  method_case : (whose : Whose) (b : Bool) (o : Option ℕ) (r : ℕ) → (if b then None else o) ≡ Some r → (if b then no_meaning else method_by p whose o) ≡ method_by p whose (Some r)
-  method_case whose true o r k = cc
-  method_case whose false o r k = ap (method_by p whose) k
+  method_case : (d : Bool) (whose : Whose) (b : Bool) (o : Option ℕ) (r : ℕ) → (if b then None else o) ≡ Some r → (if b then no_meaning else method_by p d whose o) ≡ method_by p d whose (Some r)
+  method_case d whose true o r k = cc
+  method_case d whose false o r k = ap (method_by p d whose) k
 
   none_in : (whose : Whose) (o : Option Class) → no_field p i name o → member_at p i name o ≡ None → member_in p i whose name o ≡ no_meaning
   none_in whose None h k = refl
-  none_in whose (Some c) h k = ap (member_by p c i whose name) h ∙ none_case whose (is_event c.kind) (member_from (routines_of p) 0 (number_at p i) name) k
+  none_in whose (Some c) h k = ap (member_by p c i whose name) h ∙ none_case (has_execution c.kind) whose (is_event c.kind) (member_from (routines_of p) 0 (number_at p i) name) k
 
-  method_in : (whose : Whose) (o : Option Class) (r : ℕ) → no_field p i name o → member_at p i name o ≡ Some r → member_in p i whose name o ≡ method_by p whose (Some r)
+  method_in : (whose : Whose) (o : Option Class) (r : ℕ) → no_field p i name o → member_at p i name o ≡ Some r → member_in p i whose name o ≡ method_by p (has_coroutines p o) whose (Some r)
   method_in whose None r h k = cc
-  method_in whose (Some c) r h k = ap (member_by p c i whose name) h ∙ method_case whose (is_event c.kind) (member_from (routines_of p) 0 (number_at p i) name) r k
+  method_in whose (Some c) r h k = ap (member_by p c i whose name) h ∙ method_case (has_execution c.kind) whose (is_event c.kind) (member_from (routines_of p) 0 (number_at p i) name) r k
 
   pub none_is : (whose : Whose) → no_field p i name (class_at p i) → member_at p i name (class_at p i) ≡ None → member_meant p i whose name ≡ no_meaning
   none_is whose h k = none_in whose (class_at p i) h k
 
-  pub method_is : (whose : Whose) (r : ℕ) → no_field p i name (class_at p i) → member_at p i name (class_at p i) ≡ Some r → member_meant p i whose name ≡ method_by p whose (Some r)
+  pub method_is : (whose : Whose) (r : ℕ) → no_field p i name (class_at p i) → member_at p i name (class_at p i) ≡ Some r → member_meant p i whose name ≡ method_by p (has_coroutines p (class_at p i)) whose (Some r)
   method_is whose r h k = method_in whose (class_at p i) r h k
 
   -- own names
@@ -77,8 +77,8 @@ module _ (p : Program) (i : ℕ) (name : List ℕ) where
   pub own_field : (v : Field) (f : IsField p i name v) → own_meant p (Some i) name ≡ field_found p f.class i Own f.numbered
   own_field v f = own_by (field_found p f.class i Own f.numbered) (field_is Own v f) ∙ own_field_by f.numbered.field.declarator.by_ref (class_shape p i) f.numbered.number (field_type p f.class f.numbered.field)
 
-  pub own_method : (r : ℕ) → no_field p i name (class_at p i) → member_at p i name (class_at p i) ≡ Some r → own_meant p (Some i) name ≡ method_by p Own (Some r)
-  own_method r h k = own_by (method_by p Own (Some r)) (method_is Own r h k)
+  pub own_method : (r : ℕ) → no_field p i name (class_at p i) → member_at p i name (class_at p i) ≡ Some r → own_meant p (Some i) name ≡ method_by p (has_coroutines p (class_at p i)) Own (Some r)
+  own_method r h k = own_by (method_by p (has_coroutines p (class_at p i)) Own (Some r)) (method_is Own r h k)
 
   pub own_item : no_field p i name (class_at p i) → member_at p i name (class_at p i) ≡ None → own_meant p (Some i) name ≡ item_meant p name
   own_item h k = own_by no_meaning (none_is Own h k)
@@ -100,10 +100,19 @@ own_told p i name v x t f e is =
     subst (λ (y : Meant). Tells p (record v.told { standing = own_standing v.by_ref v.cell }) y) (sym (own_field p i name v f)) (
     subst (λ (b : Bool). Tells p (record v.told { standing = own_standing v.by_ref v.cell }) (field_by_ref b (class_shape p i) f.numbered.number Own (field_type p f.class f.numbered.field))) (sym f.at.by_ref) (own_told_by p f.class i f.numbered v v.by_ref f.at)))
 
-pub method_told : (p : Program) (r : ℕ) (u t : Meaning) (whose : Whose) → ((e : Expr) → Tells p u (record { expr = e; ty = scalar (result_of p r); standing = AsValue })) → t ≡ record u { standing = standing.Member r } → Tells p t (method_by p whose (Some r))
-method_told p r u t whose h e =
+pub own_method_told : (p : Program) (d : Bool) (r : ℕ) (u t : Meaning) → ((e : Expr) → Tells p u (record { expr = e; ty = scalar (result_of p r); standing = AsValue })) → t ≡ record u { standing = standing.Member r } → Tells p t (method_by p d Own (Some r))
+own_method_told p d r u t h e =
     let v = h (Literal (pos 0)) in
-    subst (λ (y : Meaning). Tells p y (method_by p whose (Some r))) (sym e) (record { shape = v.shape; class = v.class; event = v.event; len = v.len; standing = refl })
+    subst (λ (y : Meaning). Tells p y (method_by p d Own (Some r))) (sym e) (record { shape = v.shape; class = v.class; event = v.event; len = v.len; standing = refl })
+
+standing_told : (d : Bool) (object : Expr) (r : ℕ) → StandsAs (member_standing d r) (method_standing d (Of object) r)
+standing_told true object r = refl
+standing_told false object r = refl
+
+method_told : (p : Program) (d : Bool) (r : ℕ) (u t : Meaning) (object : Expr) → ((e : Expr) → Tells p u (record { expr = e; ty = scalar (result_of p r); standing = AsValue })) → t ≡ record u { standing = member_standing d r } → Tells p t (method_by p d (Of object) (Some r))
+method_told p d r u t object h e =
+    let v = h (Literal (pos 0)) in
+    subst (λ (y : Meaning). Tells p y (method_by p d (Of object) (Some r))) (sym e) (record { shape = v.shape; class = v.class; event = v.event; len = v.len; standing = standing_told d object r })
 
 -- what a name of the program stands for is told
 
@@ -159,14 +168,14 @@ module _ (ms : List Mark) (line : ℕ) where
       (λ m u code c z w g. subst (λ (x : Meant). ExprAt code line ms x.expr a z) (sym (field_is p i name (Of m.expr) v f)) (
       field_code_by b (class_shape p i) f.numbered.number v.cell ty m.expr code a c z f.at.cell w (subst (λ (y : Bool). FieldCode line y v.cell code c z) (sym f.at.by_ref) g)))
 
-  pub arm_method : (p : Program) (i a r : ℕ) (name : List ℕ) (s u t : Meaning) (old : Draft) → a ≤ length old.ops → no_field p i name (class_at p i) → member_at p i name (class_at p i) ≡ Some r → ((e : Expr) → Tells p u (record { expr = e; ty = scalar (result_of p r); standing = AsValue })) → t ≡ record u { standing = standing.Member r } → Grows p OPS_FOR_SIZE line ms a (λ m. member_meant p i (Of m.expr) name) s t old old
+  pub arm_method : (p : Program) (i a r : ℕ) (name : List ℕ) (s u t : Meaning) (old : Draft) → a ≤ length old.ops → no_field p i name (class_at p i) → member_at p i name (class_at p i) ≡ Some r → ((e : Expr) → Tells p u (record { expr = e; ty = scalar (result_of p r); standing = AsValue })) → t ≡ record u { standing = member_standing (has_coroutines p (class_at p i)) r } → Grows p OPS_FOR_SIZE line ms a (λ m. member_meant p i (Of m.expr) name) s t old old
   arm_method p i a r name s u t old l h k g e = record {
     rest = refl;
     front = record { same = λ j o n x y w. w; chains = λ next x w. refl; handlers = λ k e w. w };
     past = l;
     room = omega arith;
     code = λ m st. record {
-      tells = subst (λ (x : Meant). Tells p t x) (sym (method_is p i name (Of m.expr) r h k)) (method_told p r u t (Of m.expr) g e);
+      tells = subst (λ (x : Meant). Tells p t x) (sym (method_is p i name (Of m.expr) r h k)) (method_told p (has_coroutines p (class_at p i)) r u t m.expr g e);
       code = subst (λ (x : Meant). ExprAt (record { ops = old.ops; rows = old.rows }) line ms x.expr a (length old.ops)) (sym (method_is p i name (Of m.expr) r h k)) st.code;
     };
   }

@@ -1,6 +1,6 @@
 -- The code of an expression goes on standing where its own range does not change.
 use Rattle.std.proofs.Common.{ℕ, List, pos}
-use Rattle.uc_tree.specs.Source.{Shape, Integer, Character, Truth, Binding, Last, Field, Array, shape_cells, field_cells, Expr, Literal, Variable, Element, Get, Load, Negated, Not, AsCharacter, AsTruth, Operate, And, Or, Set, Assign, First, Update, StepBehind, Fail, Call, OfObject, ObjectExpr, This, OwnField, GetOwn, FieldOf, Counted, CallOn, CallUnwritten, EnterOn, Wait, Signal, SignalBlock, IsEmpty, FrontOf, Exprs, NoExprs, MoreExprs}
+use Rattle.uc_tree.specs.Source.{Shape, Integer, Character, Truth, Binding, Last, Field, Array, shape_cells, field_cells, Expr, Literal, Variable, Element, Get, Load, Negated, Not, AsCharacter, AsTruth, Operate, And, Or, Set, Assign, First, Update, StepBehind, Fail, Call, OfObject, ObjectExpr, This, OwnField, GetOwn, FieldOf, Counted, CallOn, CallUnwritten, CallLive, EnterOn, Wait, Signal, SignalBlock, IsEmpty, FrontOf, Exprs, NoExprs, MoreExprs}
 use Rattle.uc_code.specs.declared.op.Op.TheVariants as op
 use Rattle.uc_code.specs.declared.rows.Mark.{Mark}
 use Rattle.uc_code.specs.Laid.{Laid}
@@ -55,6 +55,7 @@ mutual
   object_stable line ms (FieldOf s i e) = both (expr_stable line ms e) (one_stable (op.Field (field_cells s i)) line)
   object_stable line ms Counted = one_stable op.Counted line
   object_stable line ms (CallOn r e es) = both (expr_stable line ms e) (both (args_stable line ms es) (both (one_stable op.Tick line) (risk_stable ms (op.CallOn r) line)))
+  object_stable line ms (CallLive r e es) = both (expr_stable line ms e) (both (args_stable line ms es) (both (one_stable op.Tick line) (both (one_stable (op.Alive r) line) (risk_stable ms (op.CallOn r) line))))
   object_stable line ms (CallUnwritten r e) = both (expr_stable line ms e) (calls_behind_stable ms r line)
   object_stable line ms (EnterOn m r e es) = never_stable
   object_stable line ms (Wait c n) = never_stable

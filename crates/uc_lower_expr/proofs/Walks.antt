@@ -22,7 +22,7 @@ use Rattle.uc_tree.specs.Expressions as tree
 use Rattle.uc_tree.specs.Expressions.{exprs_of, parts_of, links_of}
 use Rattle.uc_tree.specs.ExpressionViews.{expr_at, part_at}
 use Rattle.uc_tree.specs.ExpressionSizes.{expr_size, exprs_size, part_size, parts_size, link_size, links_size}
-use Rattle.uc_tree.specs.Source.{Shape, shape_cells, Plus, Minus, Times, Over, Modulo, Expr, Call, OfObject, CallOn, Exprs, NoExprs, MoreExprs}
+use Rattle.uc_tree.specs.Source.{Shape, shape_cells, Plus, Minus, Times, Over, Modulo, Expr, Call, OfObject, CallOn, CallLive, Exprs, NoExprs, MoreExprs}
 use Rattle.uc_tree.specs.Objects.{plain_class, base_shape, shape_of}
 use Rattle.uc_tree.specs.Resolve.{Meant, Context, meant, value_by, value_of, converted, Standing, AsValue, unary_meant, binary_meant, assign_meant, written_by, variable_in, link_meant, chain_meant, part_meant, args_meant, arg_meant, args_by, params_of, parts_meant, element_by, element_meant, call_by, call_meant, step_meant, no_meaning}
 use Rattle.uc_code.specs.declared.op.Op.{Op}
@@ -41,7 +41,7 @@ use Rattle.uc_lower_expr.specs.declared.meaning.Meaning.{Meaning}
 use Rattle.uc_lower_expr.specs.declared.ops.Joining.{Joining}
 use Rattle.uc_lower_expr.specs.Contexts.{context_in}
 use Rattle.uc_lower_expr.specs.Meanings.{FieldAt, Begins, StandsAs, cell_in, shape_as, Tells}
-use Rattle.uc_lower_expr.specs.Added.{Adds, Cuts, ExprCode, ArgumentsCode, ConvertCode, OpCode, RiskCode, Grows, fetched}
+use Rattle.uc_lower_expr.specs.Added.{Adds, Cuts, ExprCode, ArgumentsCode, ConvertCode, OpCode, RiskCode, Grows, fetched, LiveCallCode}
 use Rattle.uc_lower_expr.specs.Parts.{joining_of, combining_of, scalar_of, RightCode, BeginCode, EndCode, SetCode, VariableCode, PlaceCode, ArgumentCode, Restarts, bumped}
 use Rattle.uc_lower_expr.proofs.Adding.{adds_nothing, adds_more, adds_as, adds_both}
 use Rattle.uc_lower_expr.proofs.Settled.{both, expr_stable, args_stable, convert_stable}
@@ -343,6 +343,16 @@ module _ (ms : List Mark) where
       (adds_more (omega arith) (adds_both (args_stable line ms es) h (adds_both (one_stable op.Tick line) h2 h3)))
       (λ m u. subst (λ (o : Standing). Tells p t (call_by p o m args)) (sym (stands s m (standing.Member r) u e)) (as_value s t m (OfObject (CallOn r m.expr es)) i u))
       (λ m u code b z w v. subst (λ (o : Standing). ExprAt code line ms (call_by p o m args).expr a z) (sym (stands s m (standing.Member r) u e)) (record { middle = b; first = w; second = v }))
+
+  pub arm_live_called : (p : Program) (n k line a r : ℕ) (xs : List Param) (args : List Meant) (s t : Meaning) (old d1 new : Draft) → n + 3 ≤ k → a ≤ length old.ops → s.standing ≡ standing.LiveMember r → xs ≡ params_of p r → t ≡ record s { standing = standing.Value }
+      → Adds n (ArgumentsCode line ms (args_by xs args)) old d1 → Adds 3 (LiveCallCode line ms r) d1 new → Grows p k line ms a (λ m. call_meant p m args) s t old new
+  arm_live_called p n k line a r xs args s t old d1 new le l e x i h1 h2 =
+      let es : Exprs = args_by (params_of p r) args in
+      let h : Adds n (ArgumentsCode line ms es) old d1 = subst (λ (ys : List Param). Adds n (ArgumentsCode line ms (args_by ys args)) old d1) x h1 in
+      grows_adds k line ms a (λ m. call_meant p m args) s t (λ code. Both (ArgumentsCode line ms es code) (LiveCallCode line ms r code)) old new l
+      (adds_more (omega arith) (adds_both (args_stable line ms es) h h2))
+      (λ m u. subst (λ (o : Standing). Tells p t (call_by p o m args)) (sym (stands s m (standing.LiveMember r) u e)) (as_value s t m (OfObject (CallLive r m.expr es)) i u))
+      (λ m u code b z w v. subst (λ (o : Standing). ExprAt code line ms (call_by p o m args).expr a z) (sym (stands s m (standing.LiveMember r) u e)) (record { middle = b; first = w; second = v }))
 
   -- in the place of what stands, 0, which stands for nothing
   pub arm_nothing : (p : Program) (n line a : ℕ) (f : Meant → Meant) (s t : Meaning) (old new : Draft) → 1 ≤ n → a ≤ length old.ops → ((m : Meant) → Tells p s m → f m ≡ no_meaning) → t ≡ record { scalar = scalar.Number; class = None; event = None; elements = None; standing = standing.Nothing } → Restarts (op.Push (pos 0)) line a old new → Grows p n line ms a f s t old new

@@ -4,10 +4,11 @@ use Rattle.uc_tree.specs.Programs.{Program}
 use Rattle.uc_tree.specs.Source.{Shape, Expr, Exprs}
 use Rattle.uc_tree.specs.Resolve.{Meant, value_meant, value_of}
 use Rattle.uc_code.specs.declared.op.Op.{Op}
+use Rattle.uc_code.specs.declared.op.Op.TheVariants as op
 use Rattle.uc_code.specs.declared.rows.Mark.{Mark}
 use Rattle.uc_code.specs.Drafts.{Draft}
 use Rattle.uc_code.specs.Laid.{Laid, laid_in}
-use Rattle.uc_code.specs.Ranges.{One, Risk, Same, Kept}
+use Rattle.uc_code.specs.Ranges.{Both, One, Risk, Same, Kept}
 use Rattle.uc_code.specs.Lowered.{ExprAt, ArgumentsAt, ConvertAt}
 use Rattle.uc_lower_expr.specs.declared.meaning.Meaning.{Meaning}
 use Rattle.uc_lower_expr.specs.Meanings.{Tells}
@@ -35,6 +36,10 @@ OpCode line o code = One code o line
 -- of one op from which an event may come
 abbrev pub RiskCode : ℕ → List Mark → Op → Laid → ℕ → ℕ → Type 0
 RiskCode line ms o code = Risk code ms o line
+
+-- of a call of a coroutine's member behind its arguments
+abbrev pub LiveCallCode : ℕ → List Mark → ℕ → Laid → ℕ → ℕ → Type 0
+LiveCallCode line ms r code = Both (One code op.Tick line) (Both (One code (op.Alive r) line) (Risk code ms (op.CallOn r) line))
 
 -- a draft whose ops from a on are the code, under marks, of what is meant in a program, which is told
 pub record Stood (p : Program) (line : ℕ) (ms : List Mark) (a : ℕ) (m : Meant) (told : Meaning) (d : Draft) : Type 0 where

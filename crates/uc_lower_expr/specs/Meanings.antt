@@ -1,5 +1,5 @@
 -- What lowering tells of an expression besides its code.
-use Rattle.std.specs.Prelude.{◌≡◌, ℕ, Option, Some, None}
+use Rattle.std.specs.Prelude.{◌≡◌, ℕ, Bool, true, false, Option, Some, None}
 use Rattle.uc_tree.specs.Source.{Shape, Integer, Character, Truth, field_cells}
 use Rattle.uc_tree.specs.Objects.{shape_of, plain_class}
 use Rattle.uc_tree.specs.Programs.{Program}
@@ -25,7 +25,13 @@ cell_in standing.Input = None
 cell_in standing.Fail = None
 cell_in (standing.Routine r) = None
 cell_in (standing.Member r) = None
+cell_in (standing.LiveMember r) = None
 cell_in standing.Nothing = None
+
+-- a member that a path names, by whether its class is one of coroutines
+abbrev pub member_standing : Bool → ℕ → Standing
+member_standing true r = standing.LiveMember r
+member_standing false r = standing.Member r
 
 -- a field of the object of the running call, which begins at this cell of it
 pub data FieldAt (k : ℕ) : resolve.Standing → Type 0 where
@@ -41,6 +47,7 @@ StandsAs standing.Input s = s ≡ resolve.AsInput
 StandsAs standing.Fail s = s ≡ resolve.AsFail
 StandsAs (standing.Routine r) s = s ≡ resolve.AsRoutine r
 StandsAs (standing.Member r) s = s ≡ resolve.AsMember r
+StandsAs (standing.LiveMember r) s = s ≡ resolve.AsLiveMember r
 StandsAs standing.Nothing s = s ≡ resolve.AsNothing
 
 -- what is told of an expression of a program that stands for this: how its base keeps a number, the class or the event that it

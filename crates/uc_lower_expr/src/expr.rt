@@ -8,8 +8,8 @@ ghost use Rattle.uc_tree.specs.Numbering.{routines_of};
 ghost use Rattle.uc_tree.specs.Objects.{class_at};
 ghost use Rattle.uc_tree.specs.Resolve.{Meant, meant, value_of, unary_meant, assign_meant, link_meant, chain_meant, part_meant, parts_meant, element_meant, field_meant, call_meant, args_meant, args_by, name_meant, own_meant, place_member, member_meant, Of, item_meant, routine_meant_by, routine_from, known_named};
 ghost use Rattle.uc_lower_expr.specs.Contexts.{context_in};
-ghost use Rattle.uc_lower_expr.specs.Meanings.{Tells, shape_as};
-ghost use Rattle.uc_lower_expr.specs.Added.{Adds, Grows, ExprCode, ArgumentsCode};
+ghost use Rattle.uc_lower_expr.specs.Meanings.{Tells, member_standing, shape_as};
+ghost use Rattle.uc_lower_expr.specs.Added.{Adds, Grows, ExprCode, ArgumentsCode, LiveCallCode};
 ghost use Rattle.uc_lower_expr.specs.Members.{no_field};
 ghost use Rattle.uc_lower_expr.specs.Parts.{RightCode, VariableCode, PlaceCode, ArgumentCode, FieldCode, Restarts, place_op_of, own_place_op, own_standing, input_told};
 
@@ -576,6 +576,7 @@ fn lower_field(
         Standing::Fail => put_nothing(start, line, out),
         Standing::Routine(_) => put_nothing(start, line, out),
         Standing::Member(_) => put_nothing(start, line, out),
+        Standing::LiveMember(_) => put_nothing(start, line, out),
         Standing::Nothing => put_nothing(start, line, out),
     }
 }
@@ -641,6 +642,17 @@ fn lower_member(
     }
 }
 
+// A member that a path names, of a class of coroutines or another.
+fn member_of(coroutine: bool, routine: u32) -> Standing
+    ensures { result ≡ member_standing coroutine routine }
+{
+    if coroutine {
+        Standing::LiveMember(routine)
+    } else {
+        Standing::Member(routine)
+    }
+}
+
 // A member of an object of the class with this place.
 fn lower_member_of(
     class: usize,
@@ -662,7 +674,11 @@ fn lower_member_of(
             Ok(field.told)
         }
         None => match names.member(class, name) {
-            Some(routine) => Ok(names.result(routine).standing_as(Standing::Member(routine))),
+            Some(routine) => Ok(
+                names
+                    .result(routine)
+                    .standing_as(member_of(names.has_executions(class), routine)),
+            ),
             None => put_nothing(start, line, out),
         },
     }
@@ -677,6 +693,17 @@ fn put_field(field: Field, line: u32, out: &mut Draft) -> Result<(), AllocError>
     if field.by_ref {
         put(Op::Load, line, out)?;
     }
+    Ok(())
+}
+
+// The call of a coroutine's member behind its arguments: the coroutine must be live.
+fn put_live_call(routine: u32, line: u32, out: &mut Draft) -> Result<(), AllocError>
+    requires { length out.old.ops + 3 ≤ PROGRAM_OPS }
+    ensures { OnOk result (Adds 3 (LiveCallCode line out.old.marks routine) out.old out.new) }
+{
+    put(Op::Tick, line, out)?;
+    put(Op::Alive(routine), line, out)?;
+    put_at_risk(Op::CallOn(routine), line, out)?;
     Ok(())
 }
 
@@ -711,6 +738,11 @@ fn lower_call(
             lower_args(names.params(routine), args, line, names, out)?;
             put(Op::Tick, line, out)?;
             put_at_risk(Op::CallOn(routine), line, out)?;
+            Ok(told.standing_as(Standing::Value))
+        }
+        Standing::LiveMember(routine) => {
+            lower_args(names.params(routine), args, line, names, out)?;
+            put_live_call(routine, line, out)?;
             Ok(told.standing_as(Standing::Value))
         }
         Standing::Variable(_) => put_nothing(start, line, out),

@@ -17,7 +17,8 @@ pub enum Scalar {
 
 /// What an expression is: a variable that is no reference, by its first cell; a field that is none of the object of the running
 /// call, by its first cell in that; another place, a value, `cin`, the member `fail` of `cin`, a routine by its number, a member
-/// of the object at the place, by the number of its routine, or nothing, where a rule is broken.
+/// of the object at the place, by the number of its routine, one of the coroutine there, which must be live, or nothing, where a rule is
+/// broken.
 #[derive(Clone, Copy, PartialEq, Eq, Debug)]
 pub enum Standing {
     Variable(u32),
@@ -28,6 +29,7 @@ pub enum Standing {
     Fail,
     Routine(u32),
     Member(u32),
+    LiveMember(u32),
     Nothing,
 }
 
@@ -45,6 +47,7 @@ impl Standing {
             Standing::Fail => None,
             Standing::Routine(_) => None,
             Standing::Member(_) => None,
+            Standing::LiveMember(_) => None,
             Standing::Nothing => None,
         }
     }

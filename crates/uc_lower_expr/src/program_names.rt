@@ -7,9 +7,9 @@ ghost use Rattle.uc_tree.specs.declared.kinds.Role.TheVariants as role;
 ghost use Rattle.uc_tree.specs.Constants.{constants_of, constant_named};
 ghost use Rattle.uc_tree.specs.Numbering.{Defined, is_plain, routines_of};
 ghost use Rattle.uc_tree.specs.Cells.{classes_of, class_cells};
-ghost use Rattle.uc_tree.specs.Objects.{class_at, place_of, plain_class, base_shape, shape_of};
+ghost use Rattle.uc_tree.specs.Objects.{class_at, has_execution, place_of, plain_class, base_shape, shape_of};
 ghost use Rattle.uc_tree.specs.Source.{Expr, shape_cells};
-ghost use Rattle.uc_tree.specs.Resolve.{AsValue, event_constructor, is_here, number_of_event, routine_from, params_of, result_of, scalar};
+ghost use Rattle.uc_tree.specs.Resolve.{AsValue, event_constructor, has_coroutines, is_here, main_at, number_of_event, routine_from, params_of, result_of, scalar};
 ghost use Rattle.uc_lower_expr.specs.Meanings.{Tells, shape_as};
 ghost use Rattle.uc_lower_expr.specs.Numbered.{is_called_alone, AreAmong, IsFixed, IsNumbering};
 ghost use Rattle.uc_lower_expr.specs.Members.{AreTables, FitClasses, IsField, IsNthField, count_fields, member_at, no_field, no_field_at, object_places, routine_for};
@@ -19,14 +19,14 @@ use crate::events::{builders_of, events_of, is_event, number_of};
 use crate::fields::{Field, FieldTable, count_of, field_of, fields_of, nth_field, value_of_base};
 use crate::meaning::{Meaning, Scalar};
 use crate::numbering::{ClassRoutine, Fixed, Numbering};
-use crate::routine_table::{RoutineTable, member_in, table_of, tables_of};
+use crate::routine_table::{RoutineTable, main_in, member_in, table_of, tables_of};
 use std::alloc::{AllocError, Global};
 use std::marker::Model;
 use uc_names::scope::Scope;
 use uc_sizes::places::{no_places, place_in};
 use uc_sizes::sizes::Sizes;
 use uc_tree::class::{Class, Routine, Sig};
-use uc_tree::kinds::{Base, Owner, Param, Role};
+use uc_tree::kinds::{Base, Kind, Owner, Param, Role};
 use uc_tree::limits::UNHANDLED;
 use uc_tree::name::Name;
 
@@ -161,6 +161,30 @@ fn is_event_at(sizes: &Sizes, place: usize) -> bool
 {
     match sizes.class(place) {
         Some(class) => is_event(class.kind),
+        None => false,
+    }
+}
+
+// Whether objects of this kind are coroutines.
+fn has_execution(kind: Kind) -> bool
+    ensures { result ≡ has_execution kind }
+{
+    match kind {
+        Kind::Class => false,
+        Kind::Coroutine => true,
+        Kind::Monitor => false,
+        Kind::Cormonitor => true,
+        Kind::Task => false,
+        Kind::Event => false,
+    }
+}
+
+// Whether the class with this place is one of coroutines.
+fn has_executions_at(sizes: &Sizes, place: usize) -> bool
+    ensures { result ≡ has_coroutines sizes.now (class_at sizes.now place) }
+{
+    match sizes.class(place) {
+        Some(class) => has_execution(class.kind),
         None => false,
     }
 }
@@ -398,6 +422,24 @@ impl<'a> ProgramNames<'a> {
         match self.routines_of(class) {
             Some(table) => member_in(table, name),
             None => None,
+        }
+    }
+
+    /// Whether the class with this place is one of coroutines.
+    pub fn has_executions(&self, class: usize) -> bool
+        ensures { result ≡ has_coroutines self.now (class_at self.now class) }
+    {
+        has_executions_at(self.sizes, class)
+    }
+
+    /// The number of the main of the coroutines of the class with this place; 0 where there is none.
+    pub fn main_of(&self, class: usize) -> u32
+        requires { class < length (classes_of self.now.items) }
+        ensures { result ≡ main_at self.now class }
+    {
+        match self.routines_of(class) {
+            Some(table) => main_in(table),
+            None => 0,
         }
     }
 

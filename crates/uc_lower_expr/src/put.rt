@@ -87,6 +87,7 @@ pub fn put_load(
         Standing::Fail => Ok(told.standing_as(Standing::Value)),
         Standing::Routine(_) => Ok(told.standing_as(Standing::Value)),
         Standing::Member(_) => Ok(told.standing_as(Standing::Value)),
+        Standing::LiveMember(_) => Ok(told.standing_as(Standing::Value)),
         Standing::Nothing => Ok(told.standing_as(Standing::Value)),
     }
 }

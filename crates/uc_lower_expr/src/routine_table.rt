@@ -2,7 +2,7 @@
 
 ghost use Rattle.std.specs.Prelude.{◌≡◌, ℕ, List, [], Some, None, IfOk, OnOk, MatchOption, length, map, slice_get, unwrap_or};
 ghost use Rattle.uc_tree.specs.Cells.{classes_of};
-ghost use Rattle.uc_tree.specs.Numbering.{Defined};
+ghost use Rattle.uc_tree.specs.Numbering.{Defined, main_name};
 ghost use Rattle.uc_tree.specs.Programs.{Program};
 ghost use Rattle.uc_lower_expr.specs.declared.routine_table.RoutineTable.{RoutineTable as Table};
 ghost use Rattle.uc_tree.specs.Objects.{class_at, member_from};
@@ -125,6 +125,14 @@ pub fn member_in(table: &RoutineTable, name: &Name) -> Option<u32>
 {
     let number = table.members.find(name.bytes());
     number
+}
+
+/// The number of the member that is called `main`, by the table of its class; 0 where there is none.
+pub fn main_in(table: &RoutineTable) -> u32
+    ensures { (ds : List Defined) (number : ℕ) → AreRoutines ds number table.now → result ≡ unwrap_or (member_from ds 0 number main_name) 0 }
+{
+    let number = table.members.find(b"main");
+    number.unwrap_or(0)
 }
 
 fn table_at(tables: &[RoutineTable], number: u32) -> Option<&RoutineTable>

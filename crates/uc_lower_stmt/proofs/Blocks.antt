@@ -5,12 +5,12 @@ use Rattle.std.proofs.lemmas.Bool.{lt-leb, le-leb}
 use Rattle.uc_tree.specs.Source.{CleanUp, Stmts, Then, Scoped, Built}
 use Rattle.uc_code.specs.declared.rows.Mark.{Mark}
 use Rattle.uc_code.specs.declared.rows.Mark.TheVariants as mark
-use Rattle.uc_code.specs.declared.rows.ObjectCall.{ObjectCall}
+use Rattle.uc_code.specs.declared.rows.Cleaning.{Cleaning}
 use Rattle.uc_code.specs.Drafts.{Draft}
 use Rattle.uc_code.specs.Laid.{Laid, laid_in, routine_in}
 use Rattle.uc_code.specs.Ranges.{Kept, ScopeOf}
 use Rattle.uc_code.specs.ObjectCalls.{Cleans}
-use Rattle.uc_code.specs.Open.{AllBehind, StandsBehind}
+use Rattle.uc_code.specs.Open.{AllBehind, CleansBehind}
 use Rattle.uc_code.specs.Lowered.{CleanAt, StmtAt, StmtsAt}
 use Rattle.uc_code.proofs.Stable.{kept_refl, kept_then, kept_piece}
 use Rattle.uc_lower_stmt.specs.declared.block.ObjectScope.{ObjectScope}
@@ -60,7 +60,7 @@ module _ (code : Laid) (line : ℕ) (ms : List Mark) (a : ℕ) where
   -- innermost that is left
   pub data Taken (ns : List Mark) (z : ℕ) (whole : Stmts) : Type 0 where
     Whole : ns ≡ ms → StmtsAt code ns line whole a z → Taken ns z whole
-    Within : (ks : List Step) (os : List Mark) (y row : ℕ) (c : CleanUp) (what : ObjectCall) (ss : Stmts) → NoParts ks → ns ≡ mark.Clean what line row ∷ os → Pending code line ms a ks os y → Cleans c what → StmtsAt code ns line ss y z → block_of ks (Scoped c ss) ≡ whole → Taken ns z whole
+    Within : (ks : List Step) (os : List Mark) (y row : ℕ) (c : CleanUp) (what : Cleaning) (ss : Stmts) → NoParts ks → ns ≡ mark.Clean what line row ∷ os → Pending code line ms a ks os y → Cleans c what → StmtsAt code ns line ss y z → block_of ks (Scoped c ss) ≡ whole → Taken ns z whole
 
   pub taken_up : (ks : List Step) (ns : List Mark) (y z : ℕ) (ss : Stmts) → NoParts ks → Pending code line ms a ks ns y → StmtsAt code ns line ss y z → Taken ns z (block_of ks ss)
   taken_up ks ns y z ss n Begins h = Whole refl h
@@ -88,9 +88,9 @@ none_some o e = cc
 clean_scope : (m : Mark) (ms : List Mark) (o : ObjectScope) → scope_at m ≡ Some o → AllBehind (m ∷ ms) → InScope o.what o.line (m ∷ ms)
 clean_scope (mark.Clean what line row) ms o e b =
     let f : (record { what = what; line = line }) ≡ o = cc in
-    record { row = row; outer = ms; is = ap (λ (x : ObjectScope). mark.Clean x.what x.line row ∷ ms) f; behind = subst (λ (x : ObjectScope). StandsBehind ms x.what) f b.0 }
+    record { row = row; outer = ms; is = ap (λ (x : ObjectScope). mark.Clean x.what x.line row ∷ ms) f; behind = subst (λ (x : ObjectScope). CleansBehind ms x.what) f b.0 }
 clean_scope (mark.Body routine) ms o e b = absurd (none_some o e)
-clean_scope (mark.Finish routine line row) ms o e b = absurd (none_some o e)
+clean_scope (mark.Finish main routine line row) ms o e b = absurd (none_some o e)
 clean_scope (mark.Loop leave again) ms o e b = absurd (none_some o e)
 clean_scope (mark.Whole leave row) ms o e b = absurd (none_some o e)
 clean_scope (mark.Guard row) ms o e b = absurd (none_some o e)
@@ -109,14 +109,14 @@ in_scope ms count o e b = scope_by (nat_le (length ms) count) ms o e b
 few_marks : (ms : List Mark) (count : ℕ) (o : ObjectScope) → length ms ≤ count → innermost_in ms count ≡ Some o → ⊥
 few_marks ms count o l e = none_some o (sym (ap (λ (b : Bool). innermost_by b ms) (le-leb (length ms) count l)) ∙ e)
 
-many_marks : (ms : List Mark) (count row line : ℕ) (what : ObjectCall) (os : List Mark) → ms ≡ mark.Clean what line row ∷ os → count ≤ length os → innermost_in ms count ≡ None → ⊥
+many_marks : (ms : List Mark) (count row line : ℕ) (what : Cleaning) (os : List Mark) → ms ≡ mark.Clean what line row ∷ os → count ≤ length os → innermost_in ms count ≡ None → ⊥
 many_marks ms count row line what os e l n =
     let t : innermost_in (mark.Clean what line row ∷ os) count ≡ None = ap (λ (xs : List Mark). innermost_in xs count) (sym e) ∙ n in
     let f : nat_le (length (mark.Clean what line row ∷ os)) count ≡ false = lt-leb (length (mark.Clean what line row ∷ os)) count (omega arith) in
     none_some (record { what = what; line = line }) (sym t ∙ ap (λ (b : Bool). innermost_by b (mark.Clean what line row ∷ os)) f)
 
 -- the scope of that mark is in the count of objects
-pub scope_room : (what : ObjectCall) (line : ℕ) (ms : List Mark) → InScope what line ms → 1 ≤ objects_in ms
+pub scope_room : (what : Cleaning) (line : ℕ) (ms : List Mark) → InScope what line ms → 1 ≤ objects_in ms
 scope_room what line ms h = let e : objects_in ms ≡ 1 + objects_in h.outer = ap objects_in h.is in omega (arith, e)
 
 -- how scopes end, one after another
@@ -129,7 +129,7 @@ ending_none count d = record {
   block = λ line a y ks ms ss l n p h. record { steps = ks; none = n; behind = ss; middle = y; before = p; code = h; same = refl };
 }
 
-same_mark : (what : ObjectCall) (line row : ℕ) (os : List Mark) (w : ObjectCall) (k r : ℕ) (ps : List Mark) → mark.Clean what line row ∷ os ≡ mark.Clean w k r ∷ ps → (what ≡ w) × (line ≡ k)
+same_mark : (what : Cleaning) (line row : ℕ) (os : List Mark) (w : Cleaning) (k r : ℕ) (ps : List Mark) → mark.Clean what line row ∷ os ≡ mark.Clean w k r ∷ ps → (what ≡ w) × (line ≡ k)
 same_mark what line row os w k r ps e = (cc, cc)
 
 module _ (count : ℕ) (scope : ObjectScope) (now next : Draft) (at : innermost_in now.marks count ≡ Some scope) (all : AllBehind now.marks) (h : ClosesScope scope.what scope.line now next) where
@@ -141,7 +141,7 @@ module _ (count : ℕ) (scope : ObjectScope) (now next : Draft) (at : innermost_
       by_taken (Within ks os y row c what ss n e p g s q) =
           let i : InScope scope.what scope.line now.marks = in_scope now.marks count scope at all in
           let m = same_mark what line row os scope.what scope.line i.row i.outer (sym e ∙ i.is) in
-          let f : now.marks ≡ mark.Clean scope.what scope.line row ∷ os = e ∙ (ap (λ (x : ObjectCall). mark.Clean x line row ∷ os) m.0 ∙ ap (λ (x : ℕ). mark.Clean scope.what x row ∷ os) m.1) in
+          let f : now.marks ≡ mark.Clean scope.what scope.line row ∷ os = e ∙ (ap (λ (x : Cleaning). mark.Clean x line row ∷ os) m.0 ∙ ap (λ (x : ℕ). mark.Clean scope.what x row ∷ os) m.1) in
           let ends = h.scope row os f in
           let marks : next.marks ≡ os = h.marks row os f in
           let body : StmtsAt (laid_in next) (mark.Clean what line row ∷ os) line ss y (length now.ops) =
@@ -149,11 +149,11 @@ module _ (count : ℕ) (scope : ObjectScope) (now next : Draft) (at : innermost_
           let rises = (stmts_stable now.marks line ss).rises (laid_in now) y (length now.ops) s in
           let there = pending_kept (laid_in now) line ms a (laid_in next) ks os y (omega arith) h.kept p in
           let ended =
-          subst (λ (x : ObjectCall). ScopeOf (laid_in next) line os (λ r. mark.Clean x line r) (CleanAt (laid_in next) line x os) (λ xs. StmtsAt (laid_in next) xs line ss) y (length next.ops)) (sym m.0) (
+          subst (λ (x : Cleaning). ScopeOf (laid_in next) line os (λ r. mark.Clean x line r) (CleanAt (laid_in next) line x os) (λ xs. StmtsAt (laid_in next) xs line ss) y (length next.ops)) (sym m.0) (
           subst (λ (k : ℕ). ScopeOf (laid_in next) k os (λ r. mark.Clean scope.what k r) (CleanAt (laid_in next) k scope.what os) (λ xs. StmtsAt (laid_in next) xs line ss) y (length next.ops)) (sym m.1) (
           scope_ended (laid_in next) scope.line os scope.what row (λ xs. StmtsAt (laid_in next) xs line ss) y (length now.ops) (length next.ops) (
           subst (λ (k : ℕ). StmtsAt (laid_in next) (mark.Clean scope.what k row ∷ os) line ss y (length now.ops)) m.1 (
-          subst (λ (x : ObjectCall). StmtsAt (laid_in next) (mark.Clean x line row ∷ os) line ss y (length now.ops)) m.0 body)) ends)) in
+          subst (λ (x : Cleaning). StmtsAt (laid_in next) (mark.Clean x line row ∷ os) line ss y (length now.ops)) m.0 body)) ends)) in
           record {
             steps = ks;
             none = n;

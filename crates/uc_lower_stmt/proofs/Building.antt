@@ -15,6 +15,8 @@ use Rattle.uc_code.specs.declared.op.Op.TheVariants as op
 use Rattle.uc_code.specs.declared.rows.Array.{Array}
 use Rattle.uc_code.specs.declared.rows.Mark.{Mark}
 use Rattle.uc_code.specs.declared.rows.ObjectCall.{ObjectCall}
+use Rattle.uc_code.specs.declared.rows.Cleaning.{Cleaning}
+use Rattle.uc_code.specs.declared.rows.Cleaning.TheVariants as cleaning
 use Rattle.uc_code.specs.declared.rows.Spot.{Spot}
 use Rattle.uc_code.specs.Drafts.{Draft}
 use Rattle.uc_code.specs.Laid.{Laid, routine_in}
@@ -59,12 +61,12 @@ module _ (p : Program) (i : ℕ) where
   element_lies laws n place spot b =
       subst (λ (k : ℕ). LiesAt (counted_element p i n place) spot (Some (record { length = n; size = k }))) (laws.cells p i) (Part n (class_shape p i) place spot b)
 
-  cleans_by : LawCells → (length : Option ℕ) (place : Expr) (spot : Spot) → BeginsAt place spot → Cleans (clean_up p i length place) (call_by (routine_for p i role.Destructor) spot (array_by p i length))
+  cleans_by : LawCells → (length : Option ℕ) (place : Expr) (spot : Spot) → BeginsAt place spot → Cleans (clean_up p i length place) (cleaning.Call (call_by (routine_for p i role.Destructor) spot (array_by p i length)))
   cleans_by laws None place spot b = CleansOne _ _ (calls_of role.Destructor place spot None (Whole place spot b)) refl
   cleans_by laws (Some n) place spot b = All n (class_cells p i) _ _ (calls_of role.Destructor (counted_element p i n place) spot (array_by p i (Some n)) (element_lies laws n place spot b)) refl
 
-  pub cleans_is : LawCells → (length : Option ℕ) (spot : Spot) (what : ObjectCall) → what ≡ call_by (routine_for p i role.Destructor) spot (array_by p i length) → (place : Expr) → BeginsAt place spot → Cleans (clean_up p i length place) what
-  cleans_is laws length spot what e place b = subst (λ (c : ObjectCall). Cleans (clean_up p i length place) c) (sym e) (cleans_by laws length place spot b)
+  pub cleans_is : LawCells → (length : Option ℕ) (spot : Spot) (what : Cleaning) → what ≡ cleaning.Call (call_by (routine_for p i role.Destructor) spot (array_by p i length)) → (place : Expr) → BeginsAt place spot → Cleans (clean_up p i length place) what
+  cleans_is laws length spot what e place b = subst (λ (c : Cleaning). Cleans (clean_up p i length place) c) (sym e) (cleans_by laws length place spot b)
 
   -- an object is built
 

@@ -5,11 +5,13 @@ use Rattle.uc_code.specs.declared.rows.Array.{Array}
 use Rattle.uc_code.specs.declared.rows.Mark.{Mark}
 use Rattle.uc_code.specs.declared.rows.Mark.TheVariants as mark
 use Rattle.uc_code.specs.declared.rows.ObjectCall.{ObjectCall}
+use Rattle.uc_code.specs.declared.rows.Cleaning.{Cleaning}
+use Rattle.uc_code.specs.declared.rows.Cleaning.TheVariants as cleaning
 use Rattle.uc_code.specs.Drafts.{Draft}
 use Rattle.uc_code.specs.Laid.{Laid, laid_in}
 use Rattle.uc_code.specs.Ranges.{OpAt, One, Risk, HandlerAt, clean_up, ScopeOf, BehindPart, Kept}
 use Rattle.uc_code.specs.Lowered.{CleanAt}
-use Rattle.uc_code.specs.Open.{StandsBehind, handler_in, row_in, closed}
+use Rattle.uc_code.specs.Open.{CleansBehind, handler_in, row_in, closed}
 use Rattle.uc_code.specs.Puts.{Puts, place_length, called_length, clean_by, clean_length}
 use Rattle.uc_code.proofs.Stable.{kept_then, kept_piece}
 use Rattle.uc_code.proofs.Putting.{clean_is, clean_stable, marks_of}
@@ -18,11 +20,11 @@ use Rattle.uc_lower_stmt.specs.Objects.{InScope, InPart, ScopeEnds, PartEnds, Cl
 
 -- what stands in a scope, and its end
 
-pub scope_ended : (code : Laid) (line : ℕ) (ms : List Mark) (what : ObjectCall) (row : ℕ) (B : List Mark → ℕ → ℕ → Type 0) (a y z : ℕ) → B (mark.Clean what line row ∷ ms) a y → ScopeEnds code line ms what row y z
+pub scope_ended : (code : Laid) (line : ℕ) (ms : List Mark) (what : Cleaning) (row : ℕ) (B : List Mark → ℕ → ℕ → Type 0) (a y z : ℕ) → B (mark.Clean what line row ∷ ms) a y → ScopeEnds code line ms what row y z
     → ScopeOf code line ms (λ r. mark.Clean what line r) (CleanAt code line what ms) B a z
 scope_ended code line ms what row B a y z b h = record { row = row; body_end = y; clean_end = h.clean_end; body = b; clean = h.clean; leave = h.leave; unwinds = h.unwinds; handler = h.handler }
 
-pub part_ended : (code : Laid) (line : ℕ) (ms : List Mark) (what : ObjectCall) (row : ℕ) (B : List Mark → ℕ → ℕ → Type 0) (a y z : ℕ) → B (mark.Part row ∷ ms) a y → PartEnds code line ms what row y z
+pub part_ended : (code : Laid) (line : ℕ) (ms : List Mark) (what : Cleaning) (row : ℕ) (B : List Mark → ℕ → ℕ → Type 0) (a y z : ℕ) → B (mark.Part row ∷ ms) a y → PartEnds code line ms what row y z
     → BehindPart code line ms (λ r. mark.Part r) (CleanAt code line what ms) B a z
 part_ended code line ms what row B a y z b h = record { row = row; body_end = y; body = b; leave = h.leave; unwinds = h.unwinds; handler = h.handler }
 
@@ -40,29 +42,41 @@ clean_by_few : (o : Option Array) (what : ObjectCall) → clean_by o what ≤ 17
 clean_by_few None what = let a = place_few what.array in let b = called_few what.written in omega arith
 clean_by_few (Some x) what = let a = place_few what.array in let b = called_few what.written in omega arith
 
-pub clean_few : (what : ObjectCall) → clean_length what ≤ 17
-clean_few what = clean_by_few what.array what
+pub clean_few : (what : Cleaning) → clean_length what ≤ 17
+clean_few (cleaning.Call what) = clean_by_few what.array what
+clean_few cleaning.TakeDown = omega arith
+clean_few cleaning.Forget = omega arith
 
 -- under marks from which the innermost one is gone, a routine still stands further on
 
-pub behind_scope : (what : ObjectCall) (line : ℕ) (ms ns : List Mark) → InScope what line ms → ns ≡ drop 1 ms → StandsBehind ns what
+pub behind_scope : (what : Cleaning) (line : ℕ) (ms ns : List Mark) → InScope what line ms → ns ≡ drop 1 ms → CleansBehind ns what
 behind_scope what line ms ns h e =
     let f : ns ≡ h.outer = e ∙ ap (λ (l : List Mark). drop 1 l) h.is in
-    subst (λ (l : List Mark). StandsBehind l what) (sym f) h.behind
+    subst (λ (l : List Mark). CleansBehind l what) (sym f) h.behind
 
-pub behind_part : (what : ObjectCall) (ms ns : List Mark) → InPart ms → StandsBehind ms what → ns ≡ drop 1 ms → StandsBehind ns what
+cleans_past : (what : Cleaning) (row : ℕ) (ms : List Mark) → CleansBehind (mark.Part row ∷ ms) what → CleansBehind ms what
+cleans_past (cleaning.Call what) row ms b = record { behind = b.behind }
+cleans_past cleaning.TakeDown row ms b = tt
+cleans_past cleaning.Forget row ms b = tt
+
+pub cleans_under : (what : Cleaning) (row : ℕ) (ms : List Mark) → CleansBehind ms what → CleansBehind (mark.Part row ∷ ms) what
+cleans_under (cleaning.Call what) row ms b = record { behind = b.behind }
+cleans_under cleaning.TakeDown row ms b = tt
+cleans_under cleaning.Forget row ms b = tt
+
+pub behind_part : (what : Cleaning) (ms ns : List Mark) → InPart ms → CleansBehind ms what → ns ≡ drop 1 ms → CleansBehind ns what
 behind_part what ms ns h b e =
-    let a : StandsBehind (mark.Part h.row ∷ h.outer) what = subst (λ (l : List Mark). StandsBehind l what) h.is b in
+    let a : CleansBehind (mark.Part h.row ∷ h.outer) what = subst (λ (l : List Mark). CleansBehind l what) h.is b in
     let f : ns ≡ h.outer = e ∙ ap (λ (l : List Mark). drop 1 l) h.is in
-    subst (λ (l : List Mark). StandsBehind l what) (sym f) (record { behind = a.behind })
+    subst (λ (l : List Mark). CleansBehind l what) (sym f) (cleans_past what h.row h.outer a)
 
-pub marks_past_scope : (what : ObjectCall) (line ahead : ℕ) (d0 d1 : Draft) → InScope what line d0.marks → d1 ≡ closed ahead d0 → d1.marks ≡ drop 1 d0.marks
+pub marks_past_scope : (what : Cleaning) (line ahead : ℕ) (d0 d1 : Draft) → InScope what line d0.marks → d1 ≡ closed ahead d0 → d1.marks ≡ drop 1 d0.marks
 marks_past_scope what line ahead d0 d1 h e = closed_marks ahead h.row d0 d1 e (ap row_in h.is)
 
 pub marks_past_part : (ahead : ℕ) (d0 d1 : Draft) → InPart d0.marks → d1 ≡ closed ahead d0 → d1.marks ≡ drop 1 d0.marks
 marks_past_part ahead d0 d1 h e = closed_marks ahead h.row d0 d1 e (ap row_in h.is)
 
-module _ (line end ahead : ℕ) (what : ObjectCall) (d0 d1 d2 d3 d4 d5 : Draft) (in_scope : InScope what line d0.marks)
+module _ (line end ahead : ℕ) (what : Cleaning) (d0 d1 d2 d3 d4 d5 : Draft) (in_scope : InScope what line d0.marks)
     (c1 : d1 ≡ closed ahead d0) (k1 : Kept (laid_in d0) (laid_in d1)) (h1 : (row : ℕ) → handler_in d0.marks ≡ Some row → HandlerAt (laid_in d1) row (clean_up (length d0.ops + ahead)))
     (p2 : Puts 17 (λ code. CleanAt code line what d1.marks) d1 d2) (p3 : Puts 1 (λ code. One code (op.Jump end) line) d2 d3)
     (p4 : Puts 17 (λ code. CleanAt code line what d3.marks) d3 d4) (p5 : Puts 1 (λ code. Risk code d4.marks op.Unwind line) d4 d5)
@@ -146,7 +160,7 @@ module _ (line end ahead : ℕ) (what : ObjectCall) (d0 d1 d2 d3 d4 d5 : Draft) 
     marks = λ row ms e. marks_of p5 ∙ (marks4 ∙ ap (λ (l : List Mark). drop 1 l) e);
   }
 
-module _ (line end : ℕ) (what : ObjectCall) (d0 d1 d2 d3 d4 : Draft) (in_part : InPart d0.marks)
+module _ (line end : ℕ) (what : Cleaning) (d0 d1 d2 d3 d4 : Draft) (in_part : InPart d0.marks)
     (c1 : d1 ≡ closed 1 d0) (k1 : Kept (laid_in d0) (laid_in d1)) (h1 : (row : ℕ) → handler_in d0.marks ≡ Some row → HandlerAt (laid_in d1) row (clean_up (length d0.ops + 1)))
     (p2 : Puts 1 (λ code. One code (op.Jump end) line) d1 d2) (p3 : Puts 17 (λ code. CleanAt code line what d2.marks) d2 d3) (p4 : Puts 1 (λ code. Risk code d3.marks op.Unwind line) d3 d4)
     (ee : end ≡ length d0.ops + clean_length what + 2) where

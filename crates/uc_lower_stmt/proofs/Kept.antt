@@ -1,15 +1,15 @@
 -- The code of statements goes on standing where its own range does not change.
 use Rattle.std.proofs.Common.{ℕ, ◌+◌, pos, Bool, true, false, List, [], ◌∷◌, Option, Some, None, length}
-use Rattle.uc_tree.specs.Source.{Expr, CleanUp, Item, Show, ShowText, Target, Declared, Stmt, Skip, Block, Whole, Evaluate, Declare, Print, PrintTogether, Read, If, Loop, Break, Continue, Return, Fill, OfEvents, OfTasks, EventStmt, Throw, Raise, Try, RaiseAt, Enable, Disable, Raised, Plainly, BuiltAt as BuildsAt, AgainFrom, Handlers, NoHandlers, MoreHandlers, Stmts, Nil, Then, Scoped, Built, Way, ToBreak, ToContinue, ToReturn, ToEnd}
+use Rattle.uc_tree.specs.Source.{Expr, CleanUp, Item, Show, ShowText, Target, Declared, Stmt, Skip, Block, Whole, Evaluate, Declare, Print, PrintTogether, Read, If, Loop, Break, Continue, Return, Fill, OfEvents, OfTasks, TaskStmt, Resume, Suspend, SetUp, Enliven, TakeDown, Yield, Migrate, Accept, EventStmt, Throw, Raise, Try, RaiseAt, Enable, Disable, Raised, Plainly, BuiltAt as BuildsAt, AgainFrom, Handlers, NoHandlers, MoreHandlers, Stmts, Nil, Then, Scoped, Built, Way, ToBreak, ToContinue, ToReturn, ToEnd}
 use Rattle.uc_code.specs.declared.op.Op.{Op}
 use Rattle.uc_code.specs.declared.op.Op.TheVariants as op
 use Rattle.uc_code.specs.declared.rows.Mark.{Mark}
 use Rattle.uc_code.specs.declared.rows.Mark.TheVariants as mark
 use Rattle.uc_tree.specs.Hidden.{EVENT_FIELDS}
-use Rattle.uc_code.specs.Ranges.{Both, HandledAt, Stable}
+use Rattle.uc_code.specs.Ranges.{Both, HandledAt, Stable, main_end}
 use Rattle.uc_code.specs.Laid.{Laid, handlers}
 use Rattle.uc_code.specs.declared.rows.ObjectCall.{ObjectCall}
-use Rattle.uc_code.specs.Lowered.{item_op, ExprAt, ValueAt, PiecesAt, StepAt, Any, ExitAt, CallBuilt, CallDone, CleanAt, FilledAt, ScopedAt, BuiltAt, StmtAt, StmtsAt, RaisedAt, KeepAt, KeepsAt, HandlerBy, NamedAt, EventAt, HandlersAt, handler_of, handler_rows}
+use Rattle.uc_code.specs.Lowered.{item_op, ExprAt, ValueAt, PiecesAt, StepAt, Any, ExitAt, CallBuilt, CallDone, CleanAt, FilledAt, ScopedAt, BuiltAt, TaskAt, StmtAt, StmtsAt, RaisedAt, KeepAt, KeepsAt, HandlerBy, NamedAt, EventAt, HandlersAt, handler_of, handler_rows}
 use Rattle.uc_code.proofs.Stable.{nothing_stable, never_stable, one_stable, risk_stable, turns_stable, whole_stable, guarded_stable, handled_stable, apart_stable, elements_stable, scope_stable, behind_part_stable}
 use Rattle.uc_code.proofs.Putting.{clean_stable, done_stable}
 use Rattle.uc_lower_expr.proofs.Settled.{both, fork, expr_stable}
@@ -69,10 +69,10 @@ exit_stable ToBreak (mark.Body routine ∷ ms) = one_stable op.Return 0
 exit_stable ToContinue (mark.Body routine ∷ ms) = one_stable op.Return 0
 exit_stable ToReturn (mark.Body routine ∷ ms) = one_stable op.ReturnValue 0
 exit_stable ToEnd (mark.Body routine ∷ ms) = one_stable op.ReturnNone 0
-exit_stable ToBreak (mark.Finish routine line row ∷ ms) = one_stable op.Return line
-exit_stable ToContinue (mark.Finish routine line row ∷ ms) = one_stable op.Return line
-exit_stable ToReturn (mark.Finish routine line row ∷ ms) = one_stable op.Return line
-exit_stable ToEnd (mark.Finish routine line row ∷ ms) = one_stable op.Return line
+exit_stable ToBreak (mark.Finish main routine line row ∷ ms) = one_stable (main_end main) line
+exit_stable ToContinue (mark.Finish main routine line row ∷ ms) = one_stable (main_end main) line
+exit_stable ToReturn (mark.Finish main routine line row ∷ ms) = one_stable (main_end main) line
+exit_stable ToEnd (mark.Finish main routine line row ∷ ms) = one_stable (main_end main) line
 exit_stable ToBreak (mark.Loop leave again ∷ ms) = any_stable (op.Jump leave)
 exit_stable ToContinue (mark.Loop leave again ∷ ms) = any_stable (op.Jump again)
 exit_stable ToReturn (mark.Loop leave again ∷ ms) = exit_stable ToReturn ms
@@ -155,6 +155,16 @@ named_stable event B b = record {
   moves = λ old new a z s h. record { named = h.named; handler = b.moves old new a z s h.handler };
 }
 
+task_stable : (ms : List Mark) (s : TaskStmt) → Stable (λ code. TaskAt code ms s)
+task_stable ms (Resume line) = both (one_stable op.Resume line) (risk_stable ms op.Land line)
+task_stable ms (Suspend line) = both (one_stable op.Suspend line) (risk_stable ms op.Land line)
+task_stable ms (SetUp r) = one_stable (op.Coroutine r) 0
+task_stable ms Enliven = one_stable op.Live 0
+task_stable ms TakeDown = one_stable op.UnwindCoroutine 0
+task_stable ms (Yield line) = never_stable
+task_stable ms (Migrate line e) = never_stable
+task_stable ms (Accept line site cs) = never_stable
+
 mutual
   pub stmt_stable : (ms : List Mark) (s : Stmt) → Stable (λ code. StmtAt code ms s)
   stmt_stable ms (Skip line) = nothing_stable
@@ -174,7 +184,7 @@ mutual
   stmt_stable ms (Return line (Some e)) = both (expr_stable line ms e) (exit_stable ToReturn ms)
   stmt_stable ms (Fill line n b d) = filled_stable line ms n b d
   stmt_stable ms (OfEvents s) = event_stable ms s
-  stmt_stable ms (OfTasks s) = never_stable
+  stmt_stable ms (OfTasks s) = task_stable ms s
 
   pub stmts_stable : (ms : List Mark) (line : ℕ) (ss : Stmts) → Stable (λ code. StmtsAt code ms line ss)
   stmts_stable ms line Nil = nothing_stable

@@ -23,5 +23,6 @@ pub mod Routines
 pub mod Scoping
 pub mod Shaping
 pub mod Stating
+pub mod Switches
 pub mod Tried
 pub mod Turned

@@ -20,14 +20,15 @@ use Rattle.uc_code.specs.declared.op.Op.TheVariants as op
 use Rattle.uc_code.specs.declared.rows.Array.{Array}
 use Rattle.uc_code.specs.declared.rows.Mark.{Mark}
 use Rattle.uc_code.specs.declared.rows.Mark.TheVariants as mark
-use Rattle.uc_code.specs.declared.rows.ObjectCall.{ObjectCall}
+use Rattle.uc_code.specs.declared.rows.Cleaning.{Cleaning}
+use Rattle.uc_code.specs.declared.rows.Cleaning.TheVariants as cleaning
 use Rattle.uc_code.specs.declared.rows.Opening.TheVariants as opening
 use Rattle.uc_code.specs.declared.rows.Spot.{Spot}
 use Rattle.uc_code.specs.declared.rows.Spot.TheVariants.{Local}
 use Rattle.uc_code.specs.Drafts.{Draft}
 use Rattle.uc_code.specs.Laid.{laid_in, routine_in}
 use Rattle.uc_code.specs.ObjectCalls.{BeginsAt, InFrame, Cleans}
-use Rattle.uc_code.specs.Open.{StandsBehind, opened}
+use Rattle.uc_code.specs.Open.{StandsBehind, CleansBehind, opened}
 use Rattle.uc_code.specs.Puts.{Puts}
 use Rattle.uc_code.specs.Ranges.{One, Kept}
 use Rattle.uc_code.specs.Lowered.{StmtAt}
@@ -54,8 +55,8 @@ all_behind p i ms l = record { each = λ wanted e. behind_by p i (routine_in ms)
 pub behind_of : (p : Program) (i : ℕ) (wanted : Role) (spot : Spot) (array : Option Array) (ms ns : List Mark) → AllStandBehind p i ms → ns ≡ ms → StandsBehind ns (call_by (routine_for p i wanted) spot array)
 behind_of p i wanted spot array ms ns b e = record { behind = λ f. subst (λ (l : List Mark). routine_in l < (routine_for p i wanted).number) (sym e) (b.each wanted f) }
 
-pub behind_call : (p : Program) (i : ℕ) (wanted : Role) (spot : Spot) (array : Option Array) (what : ObjectCall) (ms ns : List Mark) → what ≡ call_by (routine_for p i wanted) spot array → AllStandBehind p i ms → ns ≡ ms → StandsBehind ns what
-behind_call p i wanted spot array what ms ns w b e = subst (λ (x : ObjectCall). StandsBehind ns x) (sym w) (behind_of p i wanted spot array ms ns b e)
+pub behind_call : (p : Program) (i : ℕ) (wanted : Role) (spot : Spot) (array : Option Array) (what : Cleaning) (ms ns : List Mark) → what ≡ cleaning.Call (call_by (routine_for p i wanted) spot array) → AllStandBehind p i ms → ns ≡ ms → CleansBehind ns what
+behind_call p i wanted spot array what ms ns w b e = subst (λ (x : Cleaning). CleansBehind ns x) (sym w) (behind_of p i wanted spot array ms ns b e)
 
 pub behind_next : (p : Program) (i : ℕ) (ms ns : List Mark) → AllStandBehind p i ms → routine_in ns ≡ routine_in ms → AllStandBehind p i ns
 behind_next p i ms ns b e = record { each = λ wanted f. let l = b.each wanted f in omega (arith, e) }
@@ -71,7 +72,7 @@ room_few : (o : Option ℕ) → build_room o ≤ 18
 room_few None = omega arith
 room_few (Some n) = omega arith
 
-module _ (p : Program) (i : ℕ) (b : Base) (d : Declarator) (line block cell cells : ℕ) (elements : Option ℕ) (args : List tree.Expr) (what : ObjectCall) (d0 d1 d2 d3 new : Draft)
+module _ (p : Program) (i : ℕ) (b : Base) (d : Declarator) (line block cell cells : ℕ) (elements : Option ℕ) (args : List tree.Expr) (what : Cleaning) (d0 d1 d2 d3 new : Draft)
     (le : cell ≡ d0.cells) (ce : cells ≡ declared_cells p b d) (ne : elements ≡ length_of p d d.len) (ae : (c : Context) → args_meant c (exprs_of args) ≡ started_args c d.start) (few : exprs_size (exprs_of args) ≤ start_size d.start)
     (c1 : Adds 1 (OpCode line (op.Clear cell cells)) d0 d1)
     (h2 : (place : Expr) → BeginsAt place (Local cell) → Puts (OPS_FOR_SIZE * exprs_size (exprs_of args) + build_room elements) (λ code. StmtAt code d1.marks (build p line i elements place (args_meant (context_in p d1) (exprs_of args)))) d1 d2)

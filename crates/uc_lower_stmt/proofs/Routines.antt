@@ -16,11 +16,12 @@ use Rattle.uc_tree.specs.Statements.{Stmts}
 use Rattle.uc_tree.specs.StatementSizes.{stmts_size}
 use Rattle.uc_tree.specs.Cells.{param_cells, params_cells, routine_cells}
 use Rattle.uc_tree.specs.ProgramMain.{is_void, main_number}
-use Rattle.uc_tree.specs.Programs.{Program, Routine}
+use Rattle.uc_tree.specs.Programs.{Class, Program, Routine}
 use Rattle.uc_tree.specs.Source as source
-use Rattle.uc_tree.specs.Source.{TaskMain}
-use Rattle.uc_tree.specs.Resolve.{Scope, param_known, params_known, stmts_meant, scope_behind, routine_scope, body_by, routine_meant, purpose_of, role_purpose, value_purpose}
+use Rattle.uc_tree.specs.Resolve.{Scope, param_known, params_known, stmts_meant, scope_behind, routine_scope, body_by, class_by, is_coroutine_main, routine_meant, purpose_of, role_purpose, value_purpose}
 use Rattle.uc_code.specs.declared.op.Op.TheVariants as op
+use Rattle.uc_code.specs.declared.rows.MainOf.{MainOf}
+use Rattle.uc_code.specs.declared.rows.MainOf.TheVariants as main_of
 use Rattle.uc_code.specs.declared.rows.Mark.{Mark}
 use Rattle.uc_code.specs.declared.rows.Mark.TheVariants as mark
 use Rattle.uc_code.specs.declared.rows.Opening.TheVariants as opening
@@ -28,7 +29,7 @@ use Rattle.uc_code.specs.declared.rows.RoutineCode.{RoutineCode}
 use Rattle.uc_code.specs.Drafts.{Draft}
 use Rattle.uc_code.specs.Laid.{Laid, laid_in}
 use Rattle.uc_code.specs.Open.{closed, handler_in, left_marks, opened, row_in}
-use Rattle.uc_code.specs.Ranges.{Both, HandlerAt, Kept, MainAt, OpAt, clean_up}
+use Rattle.uc_code.specs.Ranges.{Both, HandlerAt, Kept, MainAt, OpAt, clean_up, main_end, main_left}
 use Rattle.uc_code.specs.Lowered.{StmtsAt, BodyAt, RoutineAt}
 use Rattle.uc_code.proofs.Stable.{kept_piece, kept_then, one_stable}
 use Rattle.uc_code.proofs.Sweeping.{closed_marks, closed_ops, like_closed}
@@ -36,7 +37,7 @@ use Rattle.uc_lower_expr.specs.Added.{Adds, OpCode}
 use Rattle.uc_lower_expr.proofs.Adding.{adds_more, adds_both}
 use Rattle.uc_lower_stmt.specs.Marked.{objects_in}
 use Rattle.uc_lower_stmt.specs.Scoped.{LowersStmts, scope_of, sizes_at}
-use Rattle.uc_lower_stmt.specs.Routines.{EndCode, LowersRoutine, frame_cells}
+use Rattle.uc_lower_stmt.specs.Routines.{EndCode, LowersRoutine, frame_cells, main_in, purpose_by}
 use Rattle.uc_lower_stmt.proofs.Kept.{stmts_stable}
 use Rattle.uc_lower_stmt.proofs.Counted.{behind_counted}
 use Rattle.uc_lower_stmt.proofs.Joined.{lowers_as, lowers_put}
@@ -99,22 +100,26 @@ plain_role role.Plain e = refl
 plain_role role.Constructor e = cc
 plain_role role.Destructor e = cc
 
--- behind the statements of the program's main
+-- behind the statements of a main
 
-module _ (p : Program) (r : Routine) (number line : ℕ) (body : Stmts) (d0 d1 d2 d3 d4 new : Draft) (none : d0.marks ≡ []) (le : line ≡ r.brace.line) (be : body ≡ r.body)
-    (oe : d1 ≡ opened (opening.Main number line) d0) (k1 : Kept (laid_in d0) (laid_in d1)) (h : LowersStmts p line body d1 d2)
+main_code : (code : Laid) (main : MainOf) (number line : ℕ) (ss : source.Stmts) (a z : ℕ) → MainAt code main number line (λ ms. StmtsAt code ms line ss) a z → BodyAt code (purpose_by main) number line ss a z
+main_code code main_of.Task number line ss a z h = h
+main_code code main_of.Coroutine number line ss a z h = h
+
+module _ (p : Program) (r : Routine) (main : MainOf) (number line : ℕ) (body : Stmts) (d0 d1 d2 d3 d4 new : Draft) (none : d0.marks ≡ []) (le : line ≡ r.brace.line) (be : body ≡ r.body)
+    (oe : d1 ≡ opened (opening.Main main number line) d0) (k1 : Kept (laid_in d0) (laid_in d1)) (h : LowersStmts p line body d1 d2)
     (ce : d3 ≡ closed 1 d2) (k3 : Kept (laid_in d2) (laid_in d3)) (h3 : (row : ℕ) → handler_in d2.marks ≡ Some row → HandlerAt (laid_in d3) row (clean_up (length d2.ops + 1)))
-    (g4 : Adds 1 (OpCode line op.Return) d3 d4) (g5 : Adds 1 (OpCode line op.Unhandled) d4 new) where
+    (g4 : Adds 1 (OpCode line (main_end main)) d3 d4) (g5 : Adds 1 (OpCode line (main_left main)) d4 new) where
   abbrev row : ℕ
   row = length d0.rows
 
   abbrev code : Laid
   code = laid_in new
 
-  marks1 : d1.marks ≡ mark.Finish number line row ∷ []
-  marks1 = ap (λ (d : Draft). d.marks) oe ∙ ap (λ (ms : List Mark). mark.Finish number line row ∷ ms) none
+  marks1 : d1.marks ≡ mark.Finish main number line row ∷ []
+  marks1 = ap (λ (d : Draft). d.marks) oe ∙ ap (λ (ms : List Mark). mark.Finish main number line row ∷ ms) none
 
-  marks2 : d2.marks ≡ mark.Finish number line row ∷ []
+  marks2 : d2.marks ≡ mark.Finish main number line row ∷ []
   marks2 = ap (λ (d : Draft). d.marks) h.rest ∙ marks1
 
   marks3 : d3.marks ≡ d0.marks
@@ -138,22 +143,22 @@ module _ (p : Program) (r : Routine) (number line : ℕ) (body : Stmts) (d0 d1 d
   keep2 : Kept (laid_in d2) code
   keep2 = kept_then (laid_in d2) (laid_in d3) code k3 keep3
 
-  body_at : StmtsAt code (mark.Finish number line row ∷ []) line (stmts_meant p body (scope_of d0)) (length d0.ops) (length d2.ops)
+  body_at : StmtsAt code (mark.Finish main number line row ∷ []) line (stmts_meant p body (scope_of d0)) (length d0.ops) (length d2.ops)
   body_at =
-      subst (λ (s : Scope). StmtsAt code (mark.Finish number line row ∷ []) line (stmts_meant p body s) (length d0.ops) (length d2.ops)) scope1 (
-      subst (λ (a : ℕ). StmtsAt code (mark.Finish number line row ∷ []) line (stmts_meant p body (scope_of d1)) a (length d2.ops)) ops1 (
+      subst (λ (s : Scope). StmtsAt code (mark.Finish main number line row ∷ []) line (stmts_meant p body s) (length d0.ops) (length d2.ops)) scope1 (
+      subst (λ (a : ℕ). StmtsAt code (mark.Finish main number line row ∷ []) line (stmts_meant p body (scope_of d1)) a (length d2.ops)) ops1 (
       subst (λ (ms : List Mark). StmtsAt code ms line (stmts_meant p body (scope_of d1)) (length d1.ops) (length d2.ops)) marks1 (
       kept_piece (λ c. StmtsAt c d1.marks line (stmts_meant p body (scope_of d1))) (stmts_stable d1.marks line (stmts_meant p body (scope_of d1))) (laid_in d2) code (length d1.ops) (length d2.ops) (omega arith) keep2 h.code)))
 
-  main_at : MainAt code number line (λ ms. StmtsAt code ms line (stmts_meant p body (scope_of d0))) (length d0.ops) (length new.ops)
+  main_at : MainAt code main number line (λ ms. StmtsAt code ms line (stmts_meant p body (scope_of d0))) (length d0.ops) (length new.ops)
   main_at =
       let e4 : length d4.ops ≡ length d2.ops + 1 = (let a = ops3 in let b = g4.code.end in omega arith) in
       record {
         row = row;
         body_end = length d2.ops;
         body = body_at;
-        returns = subst (λ (a : ℕ). OpAt code a op.Return line) ops3 (keep4.same (length d3.ops) op.Return line g4.code.here);
-        unwound = subst (λ (a : ℕ). OpAt code a op.Unhandled line) e4 g5.code.here;
+        returns = subst (λ (a : ℕ). OpAt code a (main_end main) line) ops3 (keep4.same (length d3.ops) (main_end main) line g4.code.here);
+        unwound = subst (λ (a : ℕ). OpAt code a (main_left main) line) e4 g5.code.here;
         end = (let b = g5.code.end in omega arith);
         handler = keep3.handlers row (clean_up (length d2.ops + 1)) (h3 row (ap handler_in marks2));
       }
@@ -168,7 +173,7 @@ module _ (p : Program) (r : Routine) (number line : ℕ) (body : Stmts) (d0 d1 d
   rest : new ≡ record d0 { ops = new.ops; rows = d3.rows; settled = d3.settled; scopes = d2.scopes; names = d2.names; cells = d2.cells; hidden = d2.hidden; texts = d2.texts; sites = d2.sites }
   rest = g5.rest ∙ ap (λ (d : Draft). let x : Draft = record d { ops = new.ops } in x) g4.rest ∙ ap (λ (d : Draft). let x : Draft = record d { ops = new.ops } in x) rest3
 
-  whole : LowersRoutine p TaskMain number (record r { body = body; brace = record r.brace { line = line } }) d0 new
+  whole : LowersRoutine p (purpose_by main) number (record r { body = body; brace = record r.brace { line = line } }) d0 new
   whole =
       let none_in : objects_in d1.marks ≡ 0 = ap objects_in marks1 in
       let size : sizes_at body (objects_in d1.marks) ≡ sizes_at body 0 = ap (sizes_at body) none_in in
@@ -186,13 +191,13 @@ module _ (p : Program) (r : Routine) (number line : ℕ) (body : Stmts) (d0 d1 d
         room = (let x = h.room in let y = g4.room in let z = g5.room in omega (arith, size, ops1, ops3));
         texts = (let x = h.texts in omega arith);
         cells = (let x = h.cells in omega arith);
-        code = main_at;
+        code = main_code code main number line (stmts_meant p body (scope_of d0)) (length d0.ops) (length new.ops) main_at;
       }
 
-  pub main_lowered : LowersRoutine p TaskMain number r d0 new
+  pub main_lowered : LowersRoutine p (purpose_by main) number r d0 new
   main_lowered =
-      subst (λ (b : Stmts). LowersRoutine p TaskMain number (record r { body = b }) d0 new) be (
-      subst (λ (l : ℕ). LowersRoutine p TaskMain number (record r { body = body; brace = record r.brace { line = l } }) d0 new) le whole)
+      subst (λ (b : Stmts). LowersRoutine p (purpose_by main) number (record r { body = b }) d0 new) be (
+      subst (λ (l : ℕ). LowersRoutine p (purpose_by main) number (record r { body = body; brace = record r.brace { line = l } }) d0 new) le whole)
 
 -- behind those of a routine that is called
 
@@ -231,11 +236,32 @@ plain_purpose p role.Plain b e = refl
 plain_purpose p role.Constructor b e = cc
 plain_purpose p role.Destructor b e = cc
 
-pub main_purpose : (p : Program) (r : Routine) (number : ℕ) → nat_eq number (main_number p) ≡ true → source.TaskMain ≡ purpose_of p number r
-main_purpose p r number m = sym (ap (λ (b : Bool). if b then source.TaskMain else role_purpose p r.sig.role r.sig.ret) m)
+-- what is a main, by the two tests
 
-pub called_purpose : (p : Program) (r : Routine) (number : ℕ) → is_plain r.sig.role ≡ true → nat_eq number (main_number p) ≡ false → value_purpose p r.sig.ret ≡ purpose_of p number r
-called_purpose p r number e m = plain_purpose p r.sig.role r.sig.ret e ∙ sym (ap (λ (b : Bool). if b then source.TaskMain else role_purpose p r.sig.role r.sig.ret) m)
+abbrev main_by : Bool → Bool → Option MainOf
+main_by b d = if b then Some main_of.Task else if d then Some main_of.Coroutine else None
+
+abbrev purpose_in : Bool → Bool → source.Purpose → source.Purpose
+purpose_in b d q = if b then source.TaskMain else if d then source.CoroutineMain else q
+
+same_main : (m k : MainOf) → Some m ≡ Some k → m ≡ k
+same_main m k e = cc
+
+main_is : (b d : Bool) (q : source.Purpose) (m : MainOf) → Some m ≡ main_by b d → purpose_by m ≡ purpose_in b d q
+main_is true d q m e = ap purpose_by (same_main m main_of.Task e)
+main_is false true q m e = ap purpose_by (same_main m main_of.Coroutine e)
+main_is false false q m e = absurd (cc)
+
+no_main : (b d : Bool) (q : source.Purpose) → (let n : Option MainOf = None in n ≡ main_by b d) → q ≡ purpose_in b d q
+no_main true d q e = absurd (cc)
+no_main false true q e = absurd (cc)
+no_main false false q e = refl
+
+pub main_purpose : (p : Program) (r : Routine) (number : ℕ) (c : Option Class) (m : MainOf) → Some m ≡ main_in p number c r.sig → purpose_by m ≡ purpose_of p number c r
+main_purpose p r number c m e = main_is (nat_eq number (main_number p)) (is_coroutine_main p c r.sig) (role_purpose p r.sig.role r.sig.ret) m e
+
+pub called_purpose : (p : Program) (r : Routine) (number : ℕ) (c : Option Class) → is_plain r.sig.role ≡ true → (let n : Option MainOf = None in n ≡ main_in p number c r.sig) → value_purpose p r.sig.ret ≡ purpose_of p number c r
+called_purpose p r number c e m = plain_purpose p r.sig.role r.sig.ret e ∙ no_main (nat_eq number (main_number p)) (is_coroutine_main p c r.sig) (role_purpose p r.sig.role r.sig.ret) m
 
 -- what lowering a routine, which begins in this scope, does to a draft
 pub record Written (p : Program) (r : Routine) (s : Scope) (last number : ℕ) (old new : Draft) : Type 0 where
@@ -264,7 +290,7 @@ begun_is p r class number hidden texts sites xs d0 db d1 xe he e1 e2 =
 
 module _ (p : Program) (r : Routine) (plain : r.sig.role ≡ role.Plain) (class : Option ℕ) (last number texts sites entry cells params : ℕ) (d0 d1 d2 new : Draft) (few : number ≤ last)
     (ee : entry ≡ length d0.ops) (ce : cells ≡ d2.hidden) (pe : params ≡ length r.sig.params) (e1 : d1 ≡ begun p r class number texts sites d0)
-    (h : LowersRoutine p (purpose_of p number r) last r d1 d2) (e : new ≡ record d2 { routines = slice_set d2.routines number (record { entry = entry; cells = cells; params = params }) }) where
+    (h : LowersRoutine p (purpose_of p number (class_by p d1.place.class) r) last r d1 d2) (e : new ≡ record d2 { routines = slice_set d2.routines number (record { entry = entry; cells = cells; params = params }) }) where
   abbrev s : Scope
   s = routine_scope p r class number texts sites
 
@@ -274,8 +300,8 @@ module _ (p : Program) (r : Routine) (plain : r.sig.role ≡ role.Plain) (class 
   abbrev begins : RoutineCode
   begins = record { entry = length d0.ops; cells = frame_cells p r; params = length r.sig.params }
 
-  k : LowersRoutine p (purpose_of p number r) last r first d2
-  k = subst (λ (d : Draft). LowersRoutine p (purpose_of p number r) last r d d2) e1 h
+  k : LowersRoutine p (purpose_of p number (class_by p class) r) last r first d2
+  k = subst (λ (d : Draft). LowersRoutine p (purpose_of p number (class_by p d.place.class) r) last r d d2) e1 h
 
   scope_first : scope_of first ≡ s
   scope_first = let z : 0 + params_cells p r.sig.params ≡ params_cells p r.sig.params = omega arith in ap (λ (n : ℕ). let t : Scope = record s { cells = n } in t) z
@@ -292,11 +318,11 @@ module _ (p : Program) (r : Routine) (plain : r.sig.role ≡ role.Plain) (class 
       ∙ ap (λ (n : ℕ). let d : Draft = record d2 { routines = slice_set d2.routines number (record { entry = length d0.ops; cells = n; params = params }) } in d) frame
       ∙ ap (λ (n : ℕ). let d : Draft = record d2 { routines = slice_set d2.routines number (record { entry = length d0.ops; cells = frame_cells p r; params = n }) } in d) pe
 
-  ends : BodyAt (laid_in d2) (purpose_of p number r) (max number last) r.brace.line (body_by p r.sig.role r s) (length d0.ops) (length d2.ops)
+  ends : BodyAt (laid_in d2) (purpose_of p number (class_by p class) r) (max number last) r.brace.line (body_by p r.sig.role r s) (length d0.ops) (length d2.ops)
   ends =
-      subst (λ (n : ℕ). BodyAt (laid_in d2) (purpose_of p number r) n r.brace.line (body_by p r.sig.role r s) (length d0.ops) (length d2.ops)) (sym (max_last number last few)) (
-      subst (λ (x : Role). BodyAt (laid_in d2) (purpose_of p number r) last r.brace.line (body_by p x r s) (length d0.ops) (length d2.ops)) (sym plain) (
-      subst (λ (t : Scope). BodyAt (laid_in d2) (purpose_of p number r) last r.brace.line (stmts_meant p r.body t) (length d0.ops) (length d2.ops)) scope_first k.code))
+      subst (λ (n : ℕ). BodyAt (laid_in d2) (purpose_of p number (class_by p class) r) n r.brace.line (body_by p r.sig.role r s) (length d0.ops) (length d2.ops)) (sym (max_last number last few)) (
+      subst (λ (x : Role). BodyAt (laid_in d2) (purpose_of p number (class_by p class) r) last r.brace.line (body_by p x r s) (length d0.ops) (length d2.ops)) (sym plain) (
+      subst (λ (t : Scope). BodyAt (laid_in d2) (purpose_of p number (class_by p class) r) last r.brace.line (stmts_meant p r.body t) (length d0.ops) (length d2.ops)) scope_first k.code))
 
   -- the body behind where the routine begins, its end, and its row
   pub arm_routine : Written p r s last number d0 new

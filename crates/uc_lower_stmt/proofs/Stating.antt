@@ -148,7 +148,7 @@ arm_for_stmt p s place start test step body body0 old new h i a =
 pub exit_few : (ms : List Mark) → exit_room ms ≤ 1 + 17 * objects_in ms
 exit_few [] = omega arith
 exit_few (mark.Body routine ∷ ms) = omega arith
-exit_few (mark.Finish routine line row ∷ ms) = omega arith
+exit_few (mark.Finish main routine line row ∷ ms) = omega arith
 exit_few (mark.Loop leave again ∷ ms) = exit_few ms
 exit_few (mark.Whole leave row ∷ ms) = omega arith
 exit_few (mark.Guard row ∷ ms) = exit_few ms

@@ -61,7 +61,7 @@ started_args c (StartArgs es) = args_meant c es
 abbrev pub scope_at : Mark → Option ObjectScope
 scope_at (mark.Clean what line row) = Some (record { what = what; line = line })
 scope_at (mark.Body routine) = None
-scope_at (mark.Finish routine line row) = None
+scope_at (mark.Finish main routine line row) = None
 scope_at (mark.Loop leave again) = None
 scope_at (mark.Whole leave row) = None
 scope_at (mark.Guard row) = None

@@ -8,7 +8,7 @@ use Rattle.uc_code.specs.Drafts.{Draft}
 abbrev pub objects_in : List Mark → ℕ
 objects_in [] = 0
 objects_in (mark.Body routine ∷ ms) = objects_in ms
-objects_in (mark.Finish routine line row ∷ ms) = objects_in ms
+objects_in (mark.Finish main routine line row ∷ ms) = objects_in ms
 objects_in (mark.Loop leave again ∷ ms) = objects_in ms
 objects_in (mark.Whole leave row ∷ ms) = 0
 objects_in (mark.Guard row ∷ ms) = objects_in ms
@@ -19,7 +19,7 @@ objects_in (mark.Outward below row ∷ ms) = objects_in ms
 
 -- the ops of a draft, with those that end the scopes of the objects in scope
 abbrev pub close_room : ℕ
-close_room = 40
+close_room = 36
 
 abbrev pub taken : Draft → ℕ
 taken d = length d.ops + close_room * objects_in d.marks

@@ -7,10 +7,11 @@ use Rattle.uc_code.specs.declared.rows.Array.{Array}
 use Rattle.uc_code.specs.declared.rows.Mark.{Mark}
 use Rattle.uc_code.specs.declared.rows.Mark.TheVariants as mark
 use Rattle.uc_code.specs.declared.rows.ObjectCall.{ObjectCall}
+use Rattle.uc_code.specs.declared.rows.Cleaning.{Cleaning}
 use Rattle.uc_code.specs.declared.rows.Spot.{Spot}
 use Rattle.uc_code.specs.Drafts.{Draft}
 use Rattle.uc_code.specs.Laid.{Laid, laid_in}
-use Rattle.uc_code.specs.Open.{StandsBehind, clean_room}
+use Rattle.uc_code.specs.Open.{CleansBehind, clean_room}
 use Rattle.uc_code.specs.Puts.{clean_length}
 use Rattle.uc_code.specs.Ranges.{OpAt, Both, Risk, HandlerAt, clean_up, OverElements, Kept}
 use Rattle.uc_code.specs.Lowered.{CallBuilt, CallDone, CleanAt}
@@ -36,11 +37,11 @@ abbrev pub FillCode : ℕ → List Mark → ObjectCall → ObjectCall → ℕ �
 FillCode line ms builder destroyer n code = OverElements code line ms 0 n (op.Fill n) op.Sweep (CallBuilt code line builder) (CallDone code line destroyer)
 
 -- the innermost mark is the scope of an object with this clean-up, in a block of this line; it is a part of an object under construction
-pub record InScope (what : ObjectCall) (line : ℕ) (ms : List Mark) : Type 0 where
+pub record InScope (what : Cleaning) (line : ℕ) (ms : List Mark) : Type 0 where
   pub row : ℕ
   pub outer : List Mark
   pub is : ms ≡ mark.Clean what line row ∷ outer
-  pub behind : StandsBehind outer what
+  pub behind : CleansBehind outer what
 
 pub record InPart (ms : List Mark) : Type 0 where
   pub row : ℕ
@@ -48,7 +49,7 @@ pub record InPart (ms : List Mark) : Type 0 where
   pub is : ms ≡ mark.Part row ∷ outer
 
 -- behind the statements in the scope of an object, up to z: its clean-up, and its clean-up once more, for unwinding
-pub record ScopeEnds (code : Laid) (line : ℕ) (ms : List Mark) (what : ObjectCall) (row a z : ℕ) : Type 0 where
+pub record ScopeEnds (code : Laid) (line : ℕ) (ms : List Mark) (what : Cleaning) (row a z : ℕ) : Type 0 where
   pub clean_end : ℕ
   pub clean : CleanAt code line what ms a clean_end
   pub leave : OpAt code clean_end (op.Jump z) line
@@ -56,13 +57,13 @@ pub record ScopeEnds (code : Laid) (line : ℕ) (ms : List Mark) (what : ObjectC
   pub handler : HandlerAt code row (clean_up (clean_end + 1))
 
 -- behind what follows a part of an object under construction: its clean-up, for unwinding alone
-pub record PartEnds (code : Laid) (line : ℕ) (ms : List Mark) (what : ObjectCall) (row a z : ℕ) : Type 0 where
+pub record PartEnds (code : Laid) (line : ℕ) (ms : List Mark) (what : Cleaning) (row a z : ℕ) : Type 0 where
   pub leave : OpAt code a (op.Jump z) line
   pub unwinds : Both (CleanAt code line what ms) (Risk code ms op.Unwind line) (a + 1) z
   pub handler : HandlerAt code row (clean_up (a + 1))
 
 -- a draft in which the scope of the innermost mark, of an object, has ended
-pub record ClosesScope (what : ObjectCall) (line : ℕ) (old new : Draft) : Type 0 where
+pub record ClosesScope (what : Cleaning) (line : ℕ) (old new : Draft) : Type 0 where
   pub rest : new ≡ record old { ops = new.ops; rows = new.rows; settled = new.settled; marks = new.marks }
   pub kept : Kept (laid_in old) (laid_in new)
   pub room : length new.ops ≤ length old.ops + (2 * clean_room + 2)
@@ -70,7 +71,7 @@ pub record ClosesScope (what : ObjectCall) (line : ℕ) (old new : Draft) : Type
   pub marks : (row : ℕ) (ms : List Mark) → old.marks ≡ mark.Clean what line row ∷ ms → new.marks ≡ ms
 
 -- the same of a part of an object under construction
-pub record ClosesPart (what : ObjectCall) (line : ℕ) (old new : Draft) : Type 0 where
+pub record ClosesPart (what : Cleaning) (line : ℕ) (old new : Draft) : Type 0 where
   pub rest : new ≡ record old { ops = new.ops; rows = new.rows; settled = new.settled; marks = new.marks }
   pub kept : Kept (laid_in old) (laid_in new)
   pub room : length new.ops ≤ length old.ops + (clean_length what + 2)

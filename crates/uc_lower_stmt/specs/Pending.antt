@@ -4,7 +4,7 @@ use Rattle.uc_tree.specs.Source.{CleanUp, Stmt, Stmts, Then, Scoped, Built}
 use Rattle.uc_tree.specs.Resolve.{Scope}
 use Rattle.uc_code.specs.declared.rows.Mark.{Mark}
 use Rattle.uc_code.specs.declared.rows.Mark.TheVariants as mark
-use Rattle.uc_code.specs.declared.rows.ObjectCall.{ObjectCall}
+use Rattle.uc_code.specs.declared.rows.Cleaning.{Cleaning}
 use Rattle.uc_code.specs.Drafts.{Draft}
 use Rattle.uc_code.specs.Laid.{Laid, laid_in}
 use Rattle.uc_code.specs.Ranges.{Kept}
@@ -38,8 +38,8 @@ NoParts (Builds c ∷ ks) = ⊥
 pub data Pending (code : Laid) (line : ℕ) (ms : List Mark) (a : ℕ) : List Step → List Mark → ℕ → Type 0 where
   Begins : Pending code line ms a [] ms a
   Done : (ks : List Step) (ns : List Mark) (y z : ℕ) (s : Stmt) → Pending code line ms a ks ns y → StmtAt code ns s y z → Pending code line ms a (Does s ∷ ks) ns z
-  Opened : (ks : List Step) (ns : List Mark) (z row : ℕ) (c : CleanUp) (what : ObjectCall) → Pending code line ms a ks ns z → Cleans c what → Pending code line ms a (Opens c ∷ ks) (mark.Clean what line row ∷ ns) z
-  Parted : (ks : List Step) (ns : List Mark) (z row : ℕ) (c : CleanUp) (what : ObjectCall) → Pending code line ms a ks ns z → Cleans c what → Pending code line ms a (Builds c ∷ ks) (mark.Part row ∷ ns) z
+  Opened : (ks : List Step) (ns : List Mark) (z row : ℕ) (c : CleanUp) (what : Cleaning) → Pending code line ms a ks ns z → Cleans c what → Pending code line ms a (Opens c ∷ ks) (mark.Clean what line row ∷ ns) z
+  Parted : (ks : List Step) (ns : List Mark) (z row : ℕ) (c : CleanUp) (what : Cleaning) → Pending code line ms a ks ns z → Cleans c what → Pending code line ms a (Builds c ∷ ks) (mark.Part row ∷ ns) z
 
 -- a draft with some steps of a block more, by which a block that goes on in some way is made of one: at most n ops, those that
 -- end the new scopes included, k text literals, c cells and d objects in scope more, o scopes more, and this scope behind them

@@ -18,7 +18,7 @@ use crate::objects::{clean_call, close_scope, lower_build};
 use std::alloc::{AllocError, Global};
 use uc_code::draft::Draft;
 use uc_code::op::Op;
-use uc_code::rows::{Mark, ObjectCall, Opening, Spot};
+use uc_code::rows::{Cleaning, Mark, Opening, Spot};
 use uc_lower_expr::program_names::ProgramNames;
 use uc_lower_expr::put::put;
 use uc_tree::declare::{Declarator, Start, StartForm};
@@ -92,10 +92,10 @@ pub(crate) fn lower_objects(
     Ok(())
 }
 
-// The scope of an object: the call that cleans it up, and the line of its block.
+// The scope of an object: what cleans it up, and the line of its block.
 #[derive(Clone, Copy)]
 pub(crate) struct ObjectScope {
-    what: ObjectCall,
+    what: Cleaning,
     line: u32,
 }
 

@@ -9,4 +9,5 @@ pub mod print;
 pub mod raise;
 pub mod routine;
 pub mod stmt;
+pub mod switching;
 pub mod turning;

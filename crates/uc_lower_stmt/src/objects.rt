@@ -8,9 +8,10 @@ ghost use Rattle.uc_tree.specs.ExpressionSizes.{exprs_size};
 ghost use Rattle.uc_tree.specs.Cells.{class_cells, classes_of};
 ghost use Rattle.uc_tree.specs.Source.{Expr as Place};
 ghost use Rattle.uc_tree.specs.Resolve.{args_meant, build, clean_up, constructed};
+ghost use Rattle.uc_code.specs.declared.rows.Cleaning.TheVariants as cleaning;
 ghost use Rattle.uc_code.specs.Lowered.{CallBuilt, StmtAt, spot_op};
 ghost use Rattle.uc_code.specs.ObjectCalls.{BeginsAt, Cleans};
-ghost use Rattle.uc_code.specs.Open.{StandsBehind, clean_room};
+ghost use Rattle.uc_code.specs.Open.{StandsBehind, CleansBehind, clean_room};
 ghost use Rattle.uc_code.specs.Puts.{Puts};
 ghost use Rattle.uc_lower_expr.specs.Added.{Adds, ExprCode};
 ghost use Rattle.uc_lower_expr.specs.Contexts.{context_in};
@@ -21,7 +22,7 @@ use std::alloc::AllocError;
 use uc_code::cleaning::{clean_length, done_length, put_call, put_clean, put_done};
 use uc_code::draft::Draft;
 use uc_code::op::Op;
-use uc_code::rows::{Array, ObjectCall, Opening, Spot};
+use uc_code::rows::{Array, Cleaning, ObjectCall, Opening, Spot};
 use uc_lower_expr::expr::lower_args;
 use uc_lower_expr::numbering::ClassRoutine;
 use uc_lower_expr::program_names::ProgramNames;
@@ -74,19 +75,14 @@ fn array_of(class: usize, elements: Option<u32>, names: &ProgramNames) -> Option
 
 /// The call that cleans up an object of the class with this place, or each of so many elements of an array, which begins in a
 /// spot.
-pub fn clean_call(
-    class: usize,
-    spot: Spot,
-    elements: Option<u32>,
-    names: &ProgramNames,
-) -> ObjectCall
+pub fn clean_call(class: usize, spot: Spot, elements: Option<u32>, names: &ProgramNames) -> Cleaning
     requires { class < length (classes_of names.now.items) }
-    ensures call { result ≡ call_by (routine_for names.now class role.Destructor) spot (array_by names.now class elements) }
+    ensures call { result ≡ cleaning.Call (call_by (routine_for names.now class role.Destructor) spot (array_by names.now class elements)) }
     ensures cleans { (place : Place) → BeginsAt place spot → Cleans (clean_up names.now class elements place) result }
 {
     law_cells();
     let array = array_of(class, elements, names);
-    call_by(names.destructor_of(class), spot, array)
+    Cleaning::Call(call_by(names.destructor_of(class), spot, array))
 }
 
 /// Adds the code that builds an object of the class with this place, which begins in a spot. After want of memory the draft is
@@ -201,7 +197,7 @@ pub fn lower_build(
 
 /// Ends the scope of the object of the innermost mark: it is cleaned up, and once more for unwinding. After want of memory the draft
 /// is spent.
-pub fn close_scope(what: ObjectCall, line: u32, out: &mut Draft) -> Result<(), AllocError>
+pub fn close_scope(what: Cleaning, line: u32, out: &mut Draft) -> Result<(), AllocError>
     requires scope { InScope what line out.old.marks }
     requires room { length out.old.ops + (2 * clean_room + 2) ≤ PROGRAM_OPS }
     ensures { OnOk result (ClosesScope what line out.old out.new) }
@@ -218,9 +214,9 @@ pub fn close_scope(what: ObjectCall, line: u32, out: &mut Draft) -> Result<(), A
 
 /// Ends the scope of the part of an object under construction of the innermost mark: it is cleaned up for unwinding alone. After
 /// want of memory the draft is spent.
-pub fn close_part(what: ObjectCall, line: u32, out: &mut Draft) -> Result<(), AllocError>
+pub fn close_part(what: Cleaning, line: u32, out: &mut Draft) -> Result<(), AllocError>
     requires part { InPart out.old.marks }
-    requires behind { StandsBehind out.old.marks what }
+    requires behind { CleansBehind out.old.marks what }
     requires room { length out.old.ops + (clean_room + 2) ≤ PROGRAM_OPS }
     ensures { OnOk result (ClosesPart what line out.old out.new) }
 {

@@ -1,30 +1,29 @@
 // The code of routines.
 
-ghost use Rattle.std.specs.Prelude.{◌≡◌, ◌+◌, ◌*◌, ◌≤◌, ◌<◌, ◌++◌, [], true, None, length, nat_eq, slice_set, OnOk};
+ghost use Rattle.std.specs.Prelude.{◌≡◌, ◌+◌, ◌*◌, ◌≤◌, ◌<◌, ◌++◌, [], true, None, length, slice_set, OnOk};
 ghost use Rattle.uc_tree.specs.declared.limits.TheConstants.{FRAME_CELLS, OPS_FOR_SIZE, PROGRAM_OPS, PROGRAM_SIZE};
 ghost use Rattle.uc_tree.specs.Statements.{stmts_of};
 ghost use Rattle.uc_tree.specs.StatementSizes.{stmts_size};
 ghost use Rattle.uc_tree.specs.Cells.{declared_cells, params_cells, routine_cells, stmts_cells};
 ghost use Rattle.uc_tree.specs.Gathered.{gathered_all};
 ghost use Rattle.uc_tree.specs.Numbering.{is_plain, own_sites, own_texts, routines_of};
-ghost use Rattle.uc_tree.specs.ProgramMain.{is_void, main_number};
+ghost use Rattle.uc_tree.specs.ProgramMain.{is_void};
 ghost use Rattle.uc_tree.specs.Scopes.{stmts_scopes};
-ghost use Rattle.uc_tree.specs.Source.{TaskMain};
-ghost use Rattle.uc_tree.specs.Resolve.{params_known, purpose_of, value_purpose, routine_scope, routine_meant};
+ghost use Rattle.uc_tree.specs.Resolve.{class_by, params_known, purpose_of, value_purpose, routine_scope, routine_meant};
 ghost use Rattle.uc_built.specs.BuiltForms.{are_built};
 ghost use Rattle.uc_code.specs.Laid.{laid_in};
 ghost use Rattle.uc_code.specs.Ranges.{Kept};
 ghost use Rattle.uc_code.specs.Lowered.{RoutineAt};
 ghost use Rattle.uc_lower_expr.specs.Added.{Adds};
 ghost use Rattle.uc_lower_stmt.specs.Scoped.{sizes_at};
-ghost use Rattle.uc_lower_stmt.specs.Routines.{EndCode, LowersRoutine, frame_cells};
+ghost use Rattle.uc_lower_stmt.specs.Routines.{EndCode, LowersRoutine, frame_cells, main_in, purpose_by};
 
 use crate::declare::copy_of;
 use crate::stmt::lower_stmts;
 use std::alloc::{AllocError, Global};
 use uc_code::draft::Draft;
 use uc_code::op::Op;
-use uc_code::rows::{Opening, RoutineCode};
+use uc_code::rows::{MainOf, Opening, RoutineCode};
 use uc_lower_expr::program_names::{ProgramNames, params_of, result_of, sig_of};
 use uc_lower_expr::put::put;
 use uc_sizes::frames::cells_of_routine;
@@ -99,12 +98,12 @@ fn put_end(base: &Base, line: u32, out: &mut Draft) -> Result<(), AllocError>
     Ok(())
 }
 
-// The statements of the program's main, and its end, also where an event leaves it. `last` is the number of the last routine that is
-// written.
+// The statements of a main, and its end, also where an event leaves it. `last` is the number of the last routine that is written.
 fn lower_main(
     alloc: Global,
     names: &ProgramNames,
     routine: &Routine,
+    main: MainOf,
     last: u32,
     out: &mut Draft,
 ) -> Result<(), AllocError>
@@ -115,17 +114,18 @@ fn lower_main(
     requires cells { out.old.cells + stmts_cells routine.now.body (declared_cells names.now) ≤ FRAME_CELLS }
     requires scopes { out.old.scopes + stmts_scopes routine.now.body ≤ PROGRAM_SIZE }
     requires texts { out.old.texts + stmts_size routine.now.body ≤ PROGRAM_SIZE }
-    ensures { OnOk result (LowersRoutine names.now TaskMain last routine.now out.old out.new) }
+    ensures { OnOk result (LowersRoutine names.now (purpose_by main) last routine.now out.old out.new) }
 {
     let line = line_of(routine);
     let _row = out.open(Opening::Main {
+        main,
         routine: last,
         line,
     })?;
     lower_stmts(alloc, names, body_of(routine), line, out)?;
     out.close(1);
-    put(Op::Return, line, out)?;
-    put(Op::Unhandled, line, out)?;
+    put(main.end(), line, out)?;
+    put(main.left(), line, out)?;
     Ok(())
 }
 
@@ -159,13 +159,13 @@ fn lower_statements(
     alloc: Global,
     names: &ProgramNames,
     routine: &Routine,
-    main: bool,
+    main: Option<MainOf>,
     number: u32,
     last: u32,
     out: &mut Draft,
 ) -> Result<(), AllocError>
     requires plain { is_plain routine.now.sig.role ≡ true }
-    requires main { main ≡ nat_eq number (main_number names.now) }
+    requires main { main ≡ main_in names.now number (class_by names.now out.old.place.class) routine.now.sig }
     requires built { are_built routine.now.body ≡ true }
     requires written { last < length (routines_of names.now) }
     requires outside { out.old.marks ≡ [] }
@@ -173,25 +173,29 @@ fn lower_statements(
     requires cells { out.old.cells + stmts_cells routine.now.body (declared_cells names.now) ≤ FRAME_CELLS }
     requires scopes { out.old.scopes + stmts_scopes routine.now.body ≤ PROGRAM_SIZE }
     requires texts { out.old.texts + stmts_size routine.now.body ≤ PROGRAM_SIZE }
-    ensures { OnOk result (LowersRoutine names.now (purpose_of names.now number routine.now) last routine.now out.old out.new) }
+    ensures { OnOk result (LowersRoutine names.now (purpose_of names.now number (class_by names.now out.old.place.class) routine.now) last routine.now out.old out.new) }
 {
-    if main {
-        lower_main(alloc, names, routine, last, out)?;
-        return Ok(());
+    match main {
+        Some(main) => {
+            lower_main(alloc, names, routine, main, last, out)?;
+            Ok(())
+        }
+        None => {
+            lower_called(alloc, names, routine, last, out)?;
+            Ok(())
+        }
     }
-    lower_called(alloc, names, routine, last, out)?;
-    Ok(())
 }
 
 /// Adds the code of a routine that is no constructor and no destructor, behind so many text literals and accept statements of the
-/// program, and writes down under its number where it begins; `main` says whether it is the program's main. Its statements are of
+/// program, and writes down under its number where it begins; `main` says whose main it is, if it is one. Its statements are of
 /// forms that are built. `class` is the place of its class, and `last` the
 /// number of the last routine that is written. After want of memory the draft is spent.
 pub fn lower_routine(
     alloc: Global,
     names: &ProgramNames,
     routine: &Routine,
-    main: bool,
+    main: Option<MainOf>,
     class: Option<usize>,
     number: u32,
     last: u32,
@@ -200,7 +204,7 @@ pub fn lower_routine(
     out: &mut Draft,
 ) -> Result<(), AllocError>
     requires plain { is_plain routine.now.sig.role ≡ true }
-    requires main { main ≡ nat_eq number (main_number names.now) }
+    requires main { main ≡ main_in names.now number (class_by names.now class) routine.now.sig }
     requires built { are_built routine.now.body ≡ true }
     requires few_params { length routine.now.sig.params ≤ PROGRAM_SIZE }
     requires known { number < length out.old.routines }

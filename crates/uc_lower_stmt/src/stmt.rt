@@ -30,6 +30,7 @@ use crate::declare::lower_declarators;
 use crate::guard::lower_try;
 use crate::print::{lower_items, lower_targets, lower_together};
 use crate::raise::{lower_raise, lower_throw};
+use crate::switching::put_switch;
 use crate::turning::Turning;
 use std::alloc::{AllocError, Global};
 use uc_code::cleaning::put_exit;
@@ -149,8 +150,14 @@ pub fn lower_stmt(
         StmtForm::Enable { .. } => Ok(()),
         StmtForm::Disable { .. } => Ok(()),
         StmtForm::Accept { .. } => Ok(()),
-        StmtForm::Resume => Ok(()),
-        StmtForm::Suspend => Ok(()),
+        StmtForm::Resume => {
+            put_switch(Op::Resume, line, out)?;
+            Ok(())
+        }
+        StmtForm::Suspend => {
+            put_switch(Op::Suspend, line, out)?;
+            Ok(())
+        }
         StmtForm::Yield => Ok(()),
         StmtForm::Migrate { .. } => Ok(()),
     }

@@ -21,6 +21,7 @@ pub mod Sampled
 pub mod RunsSampled
 pub mod ObjectsSampled
 pub mod RaisingSampled
+pub mod CoroutinesSampled
 pub mod Cuts
 pub mod Others
 pub mod Held

@@ -83,9 +83,9 @@ module _ {source : Source} {opts : Options} where
   given {j} r o c f q h =
       more r o (gives 0 0 (record { cluster = 0; later = []; opened = c; free = f; queued = q }) (leb-true (length j + 2) opts.entries h))
 
-  pub acted : {j : Journal} {w : World} (x : Answer) (r : Ridden) (a : List Entry) → Runs source [] opts j w → is_over j ≡ false → running 0 j ≡ 0 ∷ [] → answer_to source.sites 0 j ≡ Some x → ride source 100 (left opts j 0) (answered x (drawn j w 0)) ≡ Some r → act opts source.sites [] j 0 0 r.made r.asked ≡ a → Runs source [] opts (j ++ a) (world_after source a w 0 r.reached)
+  pub acted : {j : Journal} {w : World} (x : Answer) (r : Ridden) (a : List Entry) → Runs source [] opts j w → is_over j ≡ false → running 0 j ≡ 0 ∷ [] → answer_to source.sites 0 j ≡ Some x → ride source 150 (left opts j 0) (answered x (drawn j w 0)) ≡ Some r → act opts source.sites [] j 0 0 r.made r.asked ≡ a → Runs source [] opts (j ++ a) (world_after source a w 0 r.reached)
   acted {j} {w} x r a run o h told e k =
-      subst (λ y. Runs source [] opts (j ++ y) (world_after source y w 0 r.reached)) k (more run o (acts 0 0 r.made r.reached r.asked (record { given = x; runs = h; told = told; rides = leads source 100 (left opts j 0) (answered x (drawn j w 0)) r e })))
+      subst (λ y. Runs source [] opts (j ++ y) (world_after source y w 0 r.reached)) k (more run o (acts 0 0 r.made r.reached r.asked (record { given = x; runs = h; told = told; rides = leads source 150 (left opts j 0) (answered x (drawn j w 0)) r e })))
 
 abbrev first_source : Source
 first_source = record {

@@ -13,6 +13,7 @@ pub mod Answers
 pub mod Serves
 pub mod Executions
 pub mod Faults
+pub mod Switches
 pub mod Pieces
 pub mod Raising
 pub mod Quiet
@@ -26,6 +27,7 @@ pub mod Runs
 pub mod SamplePrograms
 pub mod ObjectSamples
 pub mod RaisingSamples
+pub mod CoroutineSamples
 pub mod Cuts
 pub mod Texts
 pub mod Fit

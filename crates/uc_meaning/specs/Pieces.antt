@@ -3,7 +3,7 @@ use Rattle.std.specs.Prelude.{ℕ, ◌+◌, ◌-◌, ◌*◌, ◌^◌, min, ◌+
 use Rattle.std.specs.Int.{int_rem_euclid}
 use Rattle.std.specs.Ordering.{int_eq}
 use Rattle.uc_tree.specs.declared.limits.TheConstants.{INT_MIN, INT_MAX, CHAR_VALUES, PRINT_ITEMS}
-use Rattle.uc_tree.specs.Source.{Shape, shape_cells, field_cells, Operator, Plus, Minus, Times, Over, Modulo, Equal, NotEqual, Less, AtMost, Greater, AtLeast, Expr, Exprs, Item, Target, Declared, Order, Way, Stmt, CleanUp, Destroys, DestroysAll, Stmts, Handlers}
+use Rattle.uc_tree.specs.Source.{Shape, shape_cells, field_cells, Operator, Plus, Minus, Times, Over, Modulo, Equal, NotEqual, Less, AtMost, Greater, AtLeast, Expr, Exprs, Item, Target, Declared, Order, Way, Stmt, CleanUp, Destroys, DestroysAll, Unwinds, Forgets, Stmts, Handlers}
 use Rattle.uc_tree.specs.declared.kinds.ValueForm.{ValueForm}
 use Rattle.uc_meaning.specs.declared.exec.Exec.{Exec}
 use Rattle.uc_meaning.specs.declared.exec.Owner.{Owner}
@@ -15,6 +15,7 @@ use Rattle.uc_meaning.specs.declared.request.Piece.{Piece}
 use Rattle.uc_meaning.specs.declared.request.Request.{Request}
 use Rattle.uc_meaning.specs.declared.request.Request.TheVariants as ask
 use Rattle.uc_meaning.specs.Executions as exec
+use Rattle.uc_meaning.specs.Switches.{Moved, To, Stops}
 use Rattle.uc_meaning.specs.Executions.{returned, value_at, with_owned, value_changed, values_cleared}
 
 -- a step of a path: a variable of a frame, by the first of its cells; a field of a class; an element of an array of that shape
@@ -110,17 +111,30 @@ pub data Todo : Type 0 where
   Part : CleanUp → Todo
   -- what stands before is a guarded block, with these handlers
   Guard : Handlers → Todo
-  -- all up to a handler, to the routine in which a handler returns, or to the end of the task is left
+  -- all up to a handler, to the routine in which a handler returns, or to the end of the execution is left
   Unwind : Todo
   -- an event is thrown, or resumed: its number and its fields are the newest operands, the last field the newest
   ThrowNow : Todo
   RaiseNow : Todo
-  -- the end of a main, which has a line
+  -- of the object at hand, which is a coroutine: an execution with the main of this number is made for it; it is live, is live no more
+  -- and unwound, is no more
+  SetUpNow : ℕ → Todo
+  EnlivenNow : Todo
+  TakeDownNow : Todo
+  ForgetNow : Todo
+  -- the coroutine below the arguments of this routine must be live
+  LiveNow : ℕ → Todo
+  -- the coroutine at hand is resumed; the running execution is suspended; where it stopped it goes on, or is unwound
+  ResumeNow : Todo
+  SuspendNow : Todo
+  Land : Todo
+  -- the end of a task's main, and of a coroutine's, which have a line
   Finish : Todo
+  FinishCoroutine : Todo
 
 -- what a piece is for one who leaves it: nothing; a loop; a block that is left as a whole; the scope of an object; an array that is
--- being built or destroyed; a part of an object that is being built; a guarded block; or the end of a main, behind which nothing is
--- to do
+-- being built or destroyed; a part of an object that is being built; a guarded block; or the end of a main, of a task or of a
+-- coroutine, behind which nothing is to do
 pub data Sort : Type 0 where
   Simple : Sort
   IsLoop : Order → Expr → Option Expr → Stmt → Sort
@@ -131,6 +145,7 @@ pub data Sort : Type 0 where
   IsPart : CleanUp → Sort
   IsGuard : Handlers → Sort
   IsFinish : Sort
+  IsFinishCoroutine : Sort
 
 abbrev pub sort : Todo → Sort
 sort (InLoop o t s b) = IsLoop o t s b
@@ -141,6 +156,7 @@ sort (Sweep e) = IsSweep e
 sort (Part c) = IsPart c
 sort (Guard hs) = IsGuard hs
 sort Finish = IsFinish
+sort FinishCoroutine = IsFinishCoroutine
 sort _ = Simple
 
 abbrev pub Active : Type 0
@@ -365,9 +381,31 @@ return_step given (c ∷ cs) s = Goes (returned (Some given) s.run.counts c cs s
 abbrev pub turns : List Todo → State → Step
 turns todo s = goes todo s.run.operands s
 
+-- a switch, or a fault in this state
+abbrev pub moves : Moved (List Todo) Value → State → Step
+moves (To t) s = Goes t
+moves (Stops f) s = Asks (ask.Fault (fault_number f)) s
+
+-- the execution of the coroutine at a place, which its first cell names
+abbrev pub exec_in : Value → Option Exec
+exec_in (Number n) = None
+exec_in (Place o p) = None
+exec_in (Running n) = Some n
+exec_in (Object o) = None
+exec_in Nothing = None
+
+abbrev pub exec_at : Value → Env → Option Exec
+exec_at v e = exec_in (loaded v e)
+
+-- that of the object at hand
+abbrev pub own_exec : State → Option Exec
+own_exec s = exec_at s.run.this s.env
+
 -- clean-ups
 
 -- an object is destroyed; so are all elements of an array
 abbrev pub clean_todo : CleanUp → List Todo → List Todo
 clean_todo (Destroys e) todo = Eval e ∷ (DropNow ∷ todo)
 clean_todo (DestroysAll n e) todo = CountNow n ∷ (Sweep e ∷ todo)
+clean_todo Unwinds todo = TakeDownNow ∷ todo
+clean_todo Forgets todo = ForgetNow ∷ todo

@@ -1,15 +1,20 @@
 -- The machine over the resolved tree: one quiet step of a task with its hand.
-use Rattle.std.specs.Prelude.{◌≡◌, ℕ, zero, suc, ◌+◌, ◌-◌, ◌^◌, min, pos, neg_ℤ, List, [], ◌∷◌, replicate, drop, slice_get, Option, Some, None, Bool, true, false, nat_lt, if◌then◌else◌}
+use Rattle.std.specs.Prelude.{◌≡◌, ℕ, zero, suc, ◌+◌, ◌-◌, ◌^◌, min, pos, neg_ℤ, List, [], ◌∷◌, length, replicate, drop, slice_get, Option, Some, None, Bool, true, false, nat_eq, nat_lt, if◌then◌else◌}
 use Rattle.uc_tree.specs.declared.limits.TheConstants.{CALLS}
-use Rattle.uc_tree.specs.Source.{Shape, Character, Truth, Expr, Literal, Variable, Element, Load, Negated, Not, AsCharacter, AsTruth, Operate, And, Or, Assign, Update, StepBehind, Fail, Get, Set, First, Call, OfObject, ObjectExpr, This, OwnField, GetOwn, FieldOf, Counted, CallOn, CallUnwritten, EnterOn, Wait, Signal, SignalBlock, IsEmpty, FrontOf, NoExprs, MoreExprs, Item, Show, ShowText, Order, TestFirst, BodyFirst, NoTest, Way, ToBreak, ToContinue, ToReturn, ToEnd, Stmt, Skip, Block, Whole, Evaluate, Declare, Print, PrintTogether, Read, If, Loop, Break, Continue, Return, Fill, OfEvents, OfTasks, Stmts, Nil, Then, Scoped, Built, Purpose, TaskMain, Procedure, Function, Builder, Routine, Source, EventStmt, Throw, Raise, Try, RaiseAt, Enable, Disable}
+use Rattle.uc_tree.specs.Source.{Shape, Character, Truth, Expr, Literal, Variable, Element, Load, Negated, Not, AsCharacter, AsTruth, Operate, And, Or, Assign, Update, StepBehind, Fail, Get, Set, First, Call, OfObject, ObjectExpr, This, OwnField, GetOwn, FieldOf, Counted, CallOn, CallUnwritten, CallLive, EnterOn, Wait, Signal, SignalBlock, IsEmpty, FrontOf, NoExprs, MoreExprs, Item, Show, ShowText, Order, TestFirst, BodyFirst, NoTest, Way, ToBreak, ToContinue, ToReturn, ToEnd, Stmt, Skip, Block, Whole, Evaluate, Declare, Print, PrintTogether, Read, If, Loop, Break, Continue, Return, Fill, OfEvents, OfTasks, Stmts, Nil, Then, Scoped, Built, Purpose, TaskMain, CoroutineMain, Procedure, Function, Builder, Routine, Source, EventStmt, Throw, Raise, Try, RaiseAt, Enable, Disable, TaskStmt, Resume, Suspend, SetUp, Enliven, TakeDown, Yield, Migrate, Accept}
 use Rattle.uc_tree.specs.ValueForms.{form_number}
 use Rattle.uc_meaning.specs.declared.exec.Home.TheVariants as home
-use Rattle.uc_meaning.specs.declared.fault.RunFault.TheVariants.{Depth, NoReturn}
+use Rattle.uc_meaning.specs.declared.exec.Reason.{Reason}
+use Rattle.uc_meaning.specs.declared.exec.Exec.{Exec}
+use Rattle.uc_meaning.specs.declared.exec.Home.{Home}
+use Rattle.uc_meaning.specs.declared.fault.RunFault.TheVariants.{Depth, NoReturn, NotLive}
 use Rattle.uc_meaning.specs.declared.request.TheConstants.{TEXT_FORM}
 use Rattle.uc_meaning.specs.declared.request.Request.TheVariants as ask
+use Rattle.uc_meaning.specs.Executions as exec
 use Rattle.uc_meaning.specs.Executions.{no_links, taken, begun, entered}
-use Rattle.uc_meaning.specs.Raising.{event_in, raised_todo, throw_step, unwind_step, raise_step, end_by}
-pub use Rattle.uc_meaning.specs.Pieces.{Link, Value, Todo, Sort, sort, Active, State, Env, Members, Step, top, below, number, fits, is_zero, truth, as_character, as_truth, Outcome, int_outcome, outcome, link_cells, LAST_ADDRESS, address, further, nought, loaded, stored, written, this_frame, variable_at, cleared, index_in, blank, print_of, piece, with_piece, own_line, line_from, line_of, at, in_env, goes, fault, outcome_step, element_step, print_step, flush_step, return_step, turns, clean_todo, Slot, FieldAt, At, Number, Place, Running, Object, Nothing, Eval, LoadNow, ElementNow, FieldNow, NegateNow, NotNow, CharacterNow, TruthNow, OperateNow, CopyNow, CopyBelowNow, DropNow, DropBelowNow, StoreNow, KeepNow, SetNow, Choose, Branch, Arguments, TickNow, CallNow, CallOnNow, CallUnwrittenNow, CountNow, MoreNow, FillNow, TurnNow, Again, PrintNow, TextNow, GatherNow, FlushNow, ReadNow, ClearNow, Items, Values, Pieces, Targets, Variables, Do, Rest, Within, Exit, NoReturnNow, InLoop, InWhole, Clean, Sweep, Part, Guard, Unwind, ThrowNow, RaiseNow, Finish, Simple, IsLoop, IsWhole, IsClean, IsFill, IsSweep, IsPart, IsGuard, IsFinish, Goes, Ticks, Asks, Gives, Faults}
+use Rattle.uc_meaning.specs.Switches.{home_in, fresh_links, new_exec, born, forgotten, is_live, enlivened, wake, suspend, finish, take_down}
+use Rattle.uc_meaning.specs.Raising.{event_in, raised_todo, throw_step, unwinds, unwind_step, home_of, raise_step, end_by}
+pub use Rattle.uc_meaning.specs.Pieces.{Link, Value, Todo, Sort, sort, Active, State, Env, Members, Step, top, below, number, fits, is_zero, truth, as_character, as_truth, Outcome, int_outcome, outcome, link_cells, LAST_ADDRESS, address, further, nought, loaded, stored, written, this_frame, variable_at, cleared, index_in, blank, print_of, piece, with_piece, own_line, line_from, line_of, at, in_env, goes, fault, outcome_step, element_step, print_step, flush_step, return_step, turns, moves, exec_in, exec_at, own_exec, clean_todo, Slot, FieldAt, At, Number, Place, Running, Object, Nothing, Eval, LoadNow, ElementNow, FieldNow, NegateNow, NotNow, CharacterNow, TruthNow, OperateNow, CopyNow, CopyBelowNow, DropNow, DropBelowNow, StoreNow, KeepNow, SetNow, Choose, Branch, Arguments, TickNow, CallNow, CallOnNow, CallUnwrittenNow, CountNow, MoreNow, FillNow, TurnNow, Again, PrintNow, TextNow, GatherNow, FlushNow, ReadNow, ClearNow, Items, Values, Pieces, Targets, Variables, Do, Rest, Within, Exit, NoReturnNow, InLoop, InWhole, Clean, Sweep, Part, Guard, Unwind, ThrowNow, RaiseNow, SetUpNow, EnlivenNow, TakeDownNow, ForgetNow, LiveNow, ResumeNow, SuspendNow, Land, Finish, FinishCoroutine, Simple, IsLoop, IsWhole, IsClean, IsFill, IsSweep, IsPart, IsGuard, IsFinish, IsFinishCoroutine, Goes, Ticks, Asks, Gives, Faults}
 
 -- a value as it is kept in a scalar of this shape
 abbrev pub converting : Shape → List Todo → List Todo
@@ -43,6 +48,7 @@ object_step (GetOwn k i) todo s = goes todo (loaded (further (FieldAt k i) s.run
 object_step Counted todo s = goes todo (Number (pos s.run.elements) ∷ s.run.operands) s
 object_step (FieldOf k i a) todo s = turns (Eval a ∷ (FieldNow k i ∷ todo)) s
 object_step (CallOn r a args) todo s = turns (Eval a ∷ (Arguments args ∷ (TickNow ∷ (CallOnNow r ∷ todo)))) s
+object_step (CallLive r a args) todo s = turns (Eval a ∷ (Arguments args ∷ (TickNow ∷ (LiveNow r ∷ (CallOnNow r ∷ todo))))) s
 object_step (CallUnwritten r a) todo s = turns (Eval a ∷ (CallUnwrittenNow r ∷ todo)) s
 -- to come
 object_step (EnterOn m r a args) todo s = goes todo (nought ∷ s.run.operands) s
@@ -124,6 +130,7 @@ left_behind w (IsSweep e) todo = Exit w ∷ todo
 left_behind w (IsPart c) todo = Exit w ∷ todo
 left_behind w (IsGuard hs) todo = Exit w ∷ todo
 left_behind w IsFinish todo = Finish ∷ todo
+left_behind w IsFinishCoroutine todo = FinishCoroutine ∷ todo
 
 -- an exit leaves the pieces one by one
 abbrev pub exit_step : Way → List Todo → State → Step
@@ -160,6 +167,18 @@ event_step (RaiseAt line r a) todo s = turns todo s
 event_step (Enable line events a) todo s = turns todo s
 event_step (Disable line events a) todo s = turns todo s
 
+-- what coroutines and tasks do
+abbrev pub task_step : TaskStmt → List Todo → State → Step
+task_step (Resume line) todo s = turns (ResumeNow ∷ (Within line ∷ todo)) s
+task_step (Suspend line) todo s = turns (SuspendNow ∷ (Within line ∷ todo)) s
+task_step (SetUp r) todo s = turns (SetUpNow r ∷ todo) s
+task_step Enliven todo s = turns (EnlivenNow ∷ todo) s
+task_step TakeDown todo s = turns (TakeDownNow ∷ todo) s
+-- to come
+task_step (Yield line) todo s = turns todo s
+task_step (Migrate line a) todo s = turns todo s
+task_step (Accept line site cs) todo s = turns todo s
+
 -- to do a statement
 abbrev pub stmt_step : Stmt → List Todo → State → Step
 stmt_step (Skip line) todo s = turns todo s
@@ -179,8 +198,7 @@ stmt_step (Return line None) todo s = turns (Exit ToEnd ∷ todo) s
 stmt_step (Return line (Some e)) todo s = turns (Eval e ∷ (Exit ToReturn ∷ (Within line ∷ todo))) s
 stmt_step (Fill line n b d) todo s = turns (CountNow 0 ∷ (FillNow n b d ∷ (Within line ∷ todo))) s
 stmt_step (OfEvents a) todo s = event_step a todo s
--- to come
-stmt_step (OfTasks a) todo s = turns todo s
+stmt_step (OfTasks a) todo s = task_step a todo s
 
 -- to do the statements that are left of a block
 abbrev pub rest_step : Stmts → List Todo → State → Step
@@ -193,6 +211,7 @@ rest_step (Built c rest) todo s = turns (Rest rest ∷ (Part c ∷ todo)) s
 -- and destroys the fields of an object is in no statement, and the body in one of its own
 abbrev pub behind_body : Purpose → ℕ → List Todo
 behind_body TaskMain line = Finish ∷ (Within line ∷ [])
+behind_body CoroutineMain line = FinishCoroutine ∷ (Within line ∷ [])
 behind_body Procedure line = Within line ∷ []
 behind_body Function line = NoReturnNow ∷ (Within line ∷ [])
 behind_body Builder line = []
@@ -232,6 +251,43 @@ abbrev pub call_unwritten_step : Option Routine → List Todo → State → Step
 call_unwritten_step None todo s = Asks ask.End (at todo s.run.operands s)
 call_unwritten_step (Some r) todo s =
     begun_step r (top (drop r.params s.run.operands)) false todo (below (drop r.params s.run.operands)) s
+
+-- coroutines
+
+-- an execution for this object, whose main has not begun
+abbrev pub fresh : Routine → Value → exec.Execution (List Todo) Value
+fresh r this = record { run = begun (routine_todo r) this 0 Nothing false; callers = []; frames = replicate r.cells nought ∷ []; links = fresh_links }
+
+-- where the coroutine at a place is at home
+abbrev pub home_at : Value → Env → Home
+home_at (Number n) e = e.exec.home
+home_at (Place o p) e = home_in o
+home_at (Running n) e = e.exec.home
+home_at (Object o) e = home.Object o
+home_at Nothing e = e.exec.home
+
+-- the object at hand gets an execution, which its first cell names
+abbrev pub set_up_at : Routine → Home → List Todo → State → Step
+set_up_at r h todo s = turns todo (in_env (written s.run.this (Running (new_exec h s.env)) (born h (fresh r s.run.this) s.env)) s)
+
+abbrev pub set_up_step : Option Routine → List Todo → State → Step
+set_up_step None todo s = turns todo s
+set_up_step (Some r) todo s = set_up_at r (home_at s.run.this s.env) todo s
+
+-- a member of the coroutine below the arguments is called
+abbrev pub live_step : Option Routine → List Todo → State → Step
+live_step None todo s = Asks ask.End (at todo s.run.operands s)
+live_step (Some r) todo s =
+    if is_live (exec_at (top (drop r.params s.run.operands)) s.env) s.env then turns todo s else fault NotLive todo s.run.operands s
+
+-- the execution of the coroutine whose member runs: a main runs in that of its own, and so does a handler that stands in it
+abbrev pub resumed : State → Option Exec
+resumed s = if nat_eq (home_of s.run.handles (length s.callers)) 0 then Some s.env.exec else own_exec s
+
+-- an execution that stopped lands: it goes on, or is unwound if there is a reason by now
+abbrev pub land_step : Option Reason → List Todo → State → Step
+land_step None todo s = turns todo s
+land_step (Some why) todo s = unwinds todo s
 
 -- the next step in a source, by what is to do
 module _ (source : Source) where
@@ -301,7 +357,16 @@ module _ (source : Source) where
   act Unwind todo s = unwind_step todo s
   act ThrowNow todo s = throw_step (event_in s.run.operands) todo s
   act RaiseNow todo s = raise_step (event_in s.run.operands) todo s
+  act (SetUpNow r) todo s = set_up_step (slice_get source.routines r) todo s
+  act EnlivenNow todo s = turns todo (in_env (enlivened (own_exec s) s.env) s)
+  act TakeDownNow todo s = moves (take_down (own_exec s) (at todo s.run.operands s)) (at todo s.run.operands s)
+  act ForgetNow todo s = turns todo (in_env (forgotten (own_exec s) s.env) s)
+  act (LiveNow r) todo s = live_step (slice_get source.routines r) todo s
+  act ResumeNow todo s = moves (wake (resumed s) (at (Land ∷ todo) s.run.operands s)) (at (Land ∷ todo) s.run.operands s)
+  act SuspendNow todo s = moves (suspend (at (Land ∷ todo) s.run.operands s)) (at (Land ∷ todo) s.run.operands s)
+  act Land todo s = land_step s.run.raised todo s
   act Finish todo s = return_step nought s.callers s
+  act FinishCoroutine todo s = moves (finish (at todo s.run.operands s)) (at todo s.run.operands s)
 
   abbrev pub act_todo : List Todo → State → Step
   act_todo [] s = return_step nought s.callers s

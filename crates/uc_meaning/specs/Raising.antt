@@ -5,11 +5,12 @@ use Rattle.uc_tree.specs.Source.{Literal, Get, Stmts, Handlers, NoHandlers, More
 use Rattle.uc_meaning.specs.declared.fault.RunFault.TheVariants.{Unhandled, EscapeInUnwind}
 use Rattle.uc_meaning.specs.Faults.{fault_number}
 use Rattle.uc_meaning.specs.declared.request.Request.TheVariants as ask
+use Rattle.uc_meaning.specs.Switches.{escape, taken_down}
 use Rattle.uc_meaning.specs.Executions.{left_for, handler_entered, unwound, calmed}
 use Rattle.uc_meaning.specs.declared.exec.Reason.{Reason}
 use Rattle.uc_meaning.specs.declared.exec.Reason.TheVariants as reason
 use Rattle.uc_meaning.specs.declared.exec.Visited.{Visited}
-use Rattle.uc_meaning.specs.Pieces.{Value, Todo, Sort, sort, Active, State, Step, top, below, number, goes, fault, return_step, clean_todo, Number, Nothing, Eval, SetNow, DropNow, ClearNow, Rest, Within, Sweep, Unwind, Finish, Simple, IsLoop, IsWhole, IsClean, IsFill, IsSweep, IsPart, IsGuard, IsFinish, Goes, Asks}
+use Rattle.uc_meaning.specs.Pieces.{Value, Todo, Sort, sort, Active, State, Step, top, below, number, at, goes, fault, moves, return_step, clean_todo, Number, Nothing, Eval, SetNow, DropNow, ClearNow, Rest, Within, Sweep, Unwind, Finish, FinishCoroutine, Simple, IsLoop, IsWhole, IsClean, IsFill, IsSweep, IsPart, IsGuard, IsFinish, IsFinishCoroutine, Goes, Asks}
 
 -- an event with its fields, which are 0 where it has none
 pub record Event : Type 0 where
@@ -79,7 +80,7 @@ abbrev pub catch_step : Option Handler → Event → List Todo → State → Ste
 catch_step None e todo s = unwinds todo s
 catch_step (Some h) e todo s = Goes (record s { run = record (calmed (handler_todo h todo) s.run) { operands = operands_of e } })
 
--- a guarded block is left; none stops a return
+-- a guarded block is left; none stops a return or the destruction of a coroutine
 abbrev pub guard_left : Handlers → Option Reason → List Todo → State → Step
 guard_left hs (Some (reason.Event n x y)) todo s =
     catch_step (handler_for false (record { number = n; x = x; y = y }) hs) (record { number = n; x = x; y = y }) todo s
@@ -95,10 +96,16 @@ abbrev pub whole_left : Bool → List Todo → State → Step
 whole_left true todo s = Goes (record s { run = calmed todo s.run })
 whole_left false todo s = unwinds todo s
 
--- a main is left: by a return, or by an event that nothing handles
+-- the main of a task is left: by a return, or by an event that nothing handles
 abbrev pub main_left : Option Reason → List Todo → State → Step
 main_left (Some (reason.ReturnTo home)) todo s = Goes (record s { run = calmed (Finish ∷ todo) s.run })
 main_left _ todo s = fault Unhandled todo [] s
+
+-- the main of a coroutine is left: by a return, by the destruction of the coroutine, or by an event
+abbrev pub coroutine_left : Option Reason → List Todo → State → Step
+coroutine_left (Some (reason.ReturnTo home)) todo s = Goes (record s { run = calmed (FinishCoroutine ∷ todo) s.run })
+coroutine_left (Some reason.Destroyed) todo s = moves (taken_down (at todo [] s)) (at todo [] s)
+coroutine_left _ todo s = moves (escape (at todo [] s)) (at todo [] s)
 
 -- a piece is left: what stands is cleaned up, of elements those that stand
 abbrev pub unwind_past : Sort → List Todo → State → Step
@@ -111,6 +118,7 @@ unwind_past (IsSweep e) todo s = goes (Sweep e ∷ (Unwind ∷ todo)) [] s
 unwind_past (IsPart c) todo s = goes (clean_todo c (Unwind ∷ todo)) [] s
 unwind_past (IsGuard hs) todo s = guard_left hs s.run.raised todo s
 unwind_past IsFinish todo s = main_left s.run.raised todo s
+unwind_past IsFinishCoroutine todo s = coroutine_left s.run.raised todo s
 
 -- whether what is unwound for the first reason has escaped from a clean-up, where the second says why the one that waits is unwound:
 -- only an event does
@@ -118,10 +126,15 @@ abbrev pub escapes : Option Reason → Option Reason → Bool
 escapes (Some (reason.Event n x y)) (Some why) = true
 escapes _ _ = false
 
+-- the destruction of a coroutine is not ended by a return of a handler, which unwinds what a destructor has called meanwhile
+abbrev pub why_by : Reason → Option Reason → Reason
+why_by why (Some reason.Destroyed) = reason.Destroyed
+why_by why _ = why
+
 -- the one that waits is unwound in its turn
 abbrev pub pass_on : Option Reason → Active → List Active → State → Step
 pass_on None c cs s = Asks ask.End s
-pass_on (Some why) c cs s = Goes (left_for s.run.counts (unwound (Unwind ∷ c.control) why s.run.result c) cs s.env)
+pass_on (Some why) c cs s = Goes (left_for s.run.counts (unwound (Unwind ∷ c.control) (why_by why c.raised) s.run.result c) cs s.env)
 
 abbrev pub leave_for : Bool → Active → List Active → State → Step
 leave_for true c cs s = Asks (ask.Fault (fault_number EscapeInUnwind)) s
@@ -156,6 +169,7 @@ count_by (IsSweep e) = 1
 count_by (IsPart c) = 1
 count_by (IsGuard hs) = handler_count hs
 count_by IsFinish = 1
+count_by IsFinishCoroutine = 1
 
 -- how many stand round what is done first
 abbrev pub count_round : List Todo → ℕ

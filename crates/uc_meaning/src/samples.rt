@@ -4,6 +4,7 @@ ghost use Rattle.uc_meaning.specs.Samples.{FirstProgram, AcceptedDestructor, Sli
 ghost use Rattle.uc_meaning.specs.SamplePrograms.{FirstRun, LoopRun, CallRun};
 ghost use Rattle.uc_meaning.specs.ObjectSamples.{NestedRun, ArrayRun, MemberRun, UnwrittenRun, ReferenceRun};
 ghost use Rattle.uc_meaning.specs.RaisingSamples.{ThrownRun, ResumedRun, EscapedRun, ReturnedRun};
+ghost use Rattle.uc_meaning.specs.CoroutineSamples.{SwitchedRun, DestroyedRun, EndedRun, LeftRun};
 
 /// The journal of a program that prints one line is a run of a kernel.
 pub fn first_program()
@@ -119,4 +120,25 @@ pub fn escaped_run()
 /// So is that of a program in which a resumption handler returns: all from the raise on is unwound.
 pub fn returned_run()
     ensures { ReturnedRun }
+{}
+
+/// So is that of a program whose expression resumes a coroutine twice: its operands wait, and what is left of the coroutine is unwound
+/// as it is destroyed.
+pub fn switched_run()
+    ensures { SwitchedRun }
+{}
+
+/// So is that of a program that destroys a coroutine in a guarded block of its main: an object there is destroyed, and no handler runs.
+pub fn destroyed_run()
+    ensures { DestroyedRun }
+{}
+
+/// So is that of a program in which the main of a coroutine ends behind another resumer than the first: its starter goes on.
+pub fn ended_run()
+    ensures { EndedRun }
+{}
+
+/// So is that of a program with an event that leaves the main of a coroutine, which is resumed once more.
+pub fn left_run()
+    ensures { LeftRun }
 {}

@@ -5,6 +5,7 @@ use Rattle.std.proofs.lemmas.Bool.{eq-eqb}
 use Rattle.uc_meaning.specs.declared.exec.Reason.{Reason}
 use Rattle.uc_meaning.specs.declared.exec.Reason.TheVariants as reason
 use Rattle.uc_meaning.specs.declared.exec.Visited.{Visited}
+use Rattle.uc_meaning.specs.Raising.{why_by}
 use Rattle.uc_code.specs.declared.op.Op.TheVariants as op
 use Rattle.uc_code.specs.declared.rows.HandlerRow.{HandlerRow}
 use Rattle.uc_code.specs.declared.rows.RowKind.{RowKind}
@@ -29,17 +30,23 @@ use Rattle.uc_coroutine.specs.declared.leaving.Left.{Left}
 use Rattle.uc_coroutine.specs.declared.leaving.Left.TheVariants as leave
 use Rattle.uc_coroutine.specs.declared.testing.MainEnd.TheVariants as end
 use Rattle.uc_coroutine.specs.Ends.{block_over, main_by, main_over}
-use Rattle.uc_coroutine.specs.Unwinding.{point_in, cleaned_by, passed_on, step_by, step_of, Made, ending_by, passed_as, left_as, past_of}
-use Rattle.uc_step.specs.Falls.{Lowers}
+use Rattle.uc_coroutine.specs.Unwinding.{point_in, cleaned_by, passed_on, step_by, step_of, Made, ending_by, passed_for, passed_as, left_as, past_of}
+use Rattle.uc_step.specs.Falls.{RunLowers}
 use Rattle.uc_ride.specs.Led.{left_in, Entered}
 
 module _ (code : Code) (w : ℕ) where
   -- the handler of a resumption that is found
-  pub found_goes : (event frame row : ℕ) (e : Event) (m n : Machine) → RaisesBelow (laid_of code) code.routines w m → taken_at code.rows None event (m.run ∷ m.callers) ≡ Some (frame, row) → n ≡ handler_begun code.rows (Handler frame row) e m → Lowers code w n
+  pub found_goes : (event frame row : ℕ) (e : Event) (m n : Machine) → RaisesBelow (laid_of code) code.routines w m → taken_at code.rows None event (m.run ∷ m.callers) ≡ Some (frame, row) → n ≡ handler_begun code.rows (Handler frame row) e m → RunLowers code w n
   found_goes event frame row e m n u q b =
       let t = u.takes event frame row q in
       let x = b ∙ (ap (λ o. handled_at o frame e m) t.there ∙ (ap (λ k. handled_by k t.handler frame e m) t.kind ∙ ap (λ o. resumed_by o t.handler frame e m) t.here)) in
       t.begins n (ap (λ (y : Machine). y.callers) x) (ap (λ (y : Machine). y.run.control) x) (ap (λ (y : Machine). y.run.handles) x) (ap (λ (y : Machine). y.run.elements) x)
+
+  pub found_env : (event frame row : ℕ) (e : Event) (m n : Machine) → RaisesBelow (laid_of code) code.routines w m → taken_at code.rows None event (m.run ∷ m.callers) ≡ Some (frame, row) → n ≡ handler_begun code.rows (Handler frame row) e m → n.env ≡ record m.env { frames = [] ∷ m.env.frames }
+  found_env event frame row e m n u q b =
+      let t = u.takes event frame row q in
+      let x = b ∙ (ap (λ o. handled_at o frame e m) t.there ∙ (ap (λ k. handled_by k t.handler frame e m) t.kind ∙ ap (λ o. resumed_by o t.handler frame e m) t.here)) in
+      ap (λ (y : Machine). y.env) x
 
   -- a row that catches
 
@@ -71,11 +78,17 @@ module _ (code : Code) (w : ℕ) where
   ]
 
   -- the handler that catches an event begins in the running activation
-  pub catch_goes : (event frame row : ℕ) (e : Event) (m n : Machine) → UnwoundBelow (laid_of code) code.routines w m → m.run.elements < 2 ^ 32 → first_in (Catch event) code.rows (chain code.rows m.run.control) ≡ Some row → n ≡ handler_begun code.rows (Handler frame row) e m → Lowers code w n
+  pub catch_goes : (event frame row : ℕ) (e : Event) (m n : Machine) → UnwoundBelow (laid_of code) code.routines w m → m.run.elements < 2 ^ 32 → first_in (Catch event) code.rows (chain code.rows m.run.control) ≡ Some row → n ≡ handler_begun code.rows (Handler frame row) e m → RunLowers code w n
   catch_goes event frame row e m n u few q b =
       let c = catcher_of event row (chain code.rows m.run.control) q in
       let x = b ∙ (ap (λ o. handled_at o frame e m) c.entry.there ∙ ap (λ k. handled_by k c.entry.row frame e m) c.catches) in
       lands (laid_of code) code.routines w m n u row c.entry (ap (λ (y : Machine). y.callers) x) (ap (λ (y : Machine). y.run.control) x) (ap (λ (y : Machine). y.run.elements) x) (ap (λ (y : Machine). y.run.handles) x) (ap (λ (y : Machine). y.run.counts) x) few
+
+  pub catch_env : (event frame row : ℕ) (e : Event) (m n : Machine) → first_in (Catch event) code.rows (chain code.rows m.run.control) ≡ Some row → n ≡ handler_begun code.rows (Handler frame row) e m → n.env ≡ m.env
+  catch_env event frame row e m n q b =
+      let c = catcher_of event row (chain code.rows m.run.control) q in
+      let x = b ∙ (ap (λ o. handled_at o frame e m) c.entry.there ∙ ap (λ k. handled_by k c.entry.row frame e m) c.catches) in
+      ap (λ (y : Machine). y.env) x
 
   -- a clean-up begins
 
@@ -121,8 +134,20 @@ module _ (code : Code) (w : ℕ) where
   entered frame row m n left u is here few g =
       entered_by frame row m n left u is here few (first_in (Stop (point_in frame row (length m.callers))) code.rows (chain code.rows m.run.control)) refl (made (step_of code.rows frame row m) m n g)
 
+  entered_env_by : (frame : ℕ) (row : Option ℕ) (m n : Machine) → frame ≡ length m.callers → (o : Option ℕ) → first_in (Stop (point_in frame row (length m.callers))) code.rows (chain code.rows m.run.control) ≡ o → step_by code.rows frame row o m ≡ Some n → n.env ≡ m.env
+  entered_env_by frame row m n here None q e =
+      absurd (not_here (nat_eq (length m.callers) frame) (passed_on m.run.raised m.callers m) n (eq-eqb (length m.callers) frame (sym here)) e)
+  entered_env_by frame row m n here (Some k) q e =
+      let a = first_among (laid_of code) code.routines (Stop (point_in frame row (length m.callers))) k (chain code.rows m.run.control) q in
+      let x = sym (cleaned (is_named (point_in frame row (length m.callers)) k) (cleaned_by (slice_get code.rows k) m) n e) ∙ ap (λ o. cleaned_by o m) a.there in
+      ap (λ (y : Machine). y.env) x
+
+  pub entered_env : (frame : ℕ) (row : Option ℕ) (m n : Machine) → frame ≡ length m.callers → Made (step_of code.rows frame row m) m true n → n.env ≡ m.env
+  entered_env frame row m n here g =
+      entered_env_by frame row m n here (first_in (Stop (point_in frame row (length m.callers))) code.rows (chain code.rows m.run.control)) refl (made (step_of code.rows frame row m) m n g)
+
   -- what has begun is executed
-  pub entered_goes : (left : ℕ) (m : Machine) → Entered code w left m → Lowers code w m
+  pub entered_goes : (left : ℕ) (m : Machine) → Entered code w left m → RunLowers code w m
   entered_goes left m g = lands (laid_of code) code.routines w g.old m g.below g.row g.entry g.callers g.control g.elements g.handles g.counts g.few
 
   -- the test at the end of a block
@@ -134,7 +159,7 @@ module _ (code : Code) (w : ℕ) where
     behind : m.run.control + 1 ≡ g.entry.row.entry + 1
     behind = ap (λ k. k + 1) g.control
 
-    pub over_goes : n ≡ block_over true (m.run.control + 1) m → Lowers code w n
+    pub over_goes : n ≡ block_over true (m.run.control + 1) m → RunLowers code w n
     over_goes b =
         let p = paced.each g.entry.row.entry (record { op = op.Handled; line = line }) here in
         tested_over (laid_of code) code.routines w g.old n g.below g.row g.entry p.1 (λ t i. (t.each g.entry.row.entry (record { op = op.Handled; line = line }) i here).0)
@@ -150,12 +175,12 @@ module _ (code : Code) (w : ℕ) where
 
   -- the one that waits goes on
 
-  returned_by : (given : Cell) (m n : Machine) (us : List Active) → m.callers ≡ us → (us ≡ [] → ⊥) → n ≡ left given us m → LeavesBelow (laid_of code) code.routines w m → Lowers code w n
+  returned_by : (given : Cell) (m n : Machine) (us : List Active) → m.callers ≡ us → (us ≡ [] → ⊥) → n ≡ left given us m → LeavesBelow (laid_of code) code.routines w m → RunLowers code w n
   returned_by given m n [] e f b u = absurd (f refl)
   returned_by given m n (c ∷ us) e f b u =
       returns_below (laid_of code) code.routines w m n c us e (ap (λ (y : Machine). y.callers) b) (ap (λ (y : Machine). y.run.control) b) (ap (λ (y : Machine). y.run.elements) b) (ap (λ (y : Machine). y.run.handles) b) (ap (λ (y : Machine). y.run.counts) b) u
 
-  pub returned_goes : (given : Cell) (m n : Machine) → (m.callers ≡ [] → ⊥) → n ≡ left given m.callers m → LeavesBelow (laid_of code) code.routines w m → Lowers code w n
+  pub returned_goes : (given : Cell) (m n : Machine) → (m.callers ≡ [] → ⊥) → n ≡ left given m.callers m → LeavesBelow (laid_of code) code.routines w m → RunLowers code w n
   returned_goes given m n f b u = returned_by given m n m.callers refl f b u
 
   -- where a main has begun to end
@@ -179,8 +204,12 @@ module _ (code : Code) (w : ℕ) where
       let k = ap (λ (y : Machine). y.run.counts) b in
       (passes (laid_of code) code.routines w m n c us e p q i h k u, passes_less (laid_of code) code.routines m n c us e p q i h k)
 
-  pub passed_falls : (why : Reason) (m n : Machine) → (m.callers ≡ [] → ⊥) → n ≡ passed why m.run.result m.callers m → UnwoundBelow (laid_of code) code.routines w m → UnwoundBelow (laid_of code) code.routines w n × (left_in code n < left_in code m)
-  passed_falls why m n f b u = passed_by why m n m.callers refl f b u
+  passed_on_by : (why : Reason) (m n : Machine) (us : List Active) → m.callers ≡ us → (us ≡ [] → ⊥) → n ≡ passed_for why us m → UnwoundBelow (laid_of code) code.routines w m → UnwoundBelow (laid_of code) code.routines w n × (left_in code n < left_in code m)
+  passed_on_by why m n [] e f b u = absurd (f refl)
+  passed_on_by why m n (c ∷ us) e f b u = passed_by (why_by why c.raised) m n (c ∷ us) e f b u
+
+  pub passed_falls : (why : Reason) (m n : Machine) → (m.callers ≡ [] → ⊥) → n ≡ passed_for why m.callers m → UnwoundBelow (laid_of code) code.routines w m → UnwoundBelow (laid_of code) code.routines w n × (left_in code n < left_in code m)
+  passed_falls why m n f b u = passed_on_by why m n m.callers refl f b u
 
   -- an event is thrown
   pub thrown_goes : (why : Reason) (m n : Machine) → n ≡ thrown why m → UnwoundBelow (laid_of code) code.routines w m → UnwoundBelow (laid_of code) code.routines w n
@@ -207,7 +236,7 @@ module _ (code : Code) (w : ℕ) where
   main_calls (Some (reason.ReturnTo home)) (c ∷ us) e f = absurd (cc)
   main_calls (Some reason.Destroyed) us e f = absurd (cc)
 
-  pub main_goes : (l : ℕ) (m n : Machine) → end.Returned ≡ main_by m.run.raised m.callers → n ≡ main_over end.Returned m → Entered code w l m → Lowers code w n
+  pub main_goes : (l : ℕ) (m n : Machine) → end.Returned ≡ main_by m.run.raised m.callers → n ≡ main_over end.Returned m → Entered code w l m → RunLowers code w n
   main_goes l m n e b g = returned_goes nought m n (main_calls m.run.raised m.callers e) b (entered_leaves l m g)
 
   -- the running activation is left
@@ -222,7 +251,7 @@ module _ (code : Code) (w : ℕ) where
   passed_is : leave.PassedOn ≡ leave.Ended → ⊥
   passed_is e = absurd (cc)
 
-  pub leave_returns : (m n : Machine) → leave.Returned ≡ ending_by m.run.raised m.callers → n ≡ left_as leave.Returned m → UnwoundBelow (laid_of code) code.routines w m → Lowers code w n
+  pub leave_returns : (m n : Machine) → leave.Returned ≡ ending_by m.run.raised m.callers → n ≡ left_as leave.Returned m → UnwoundBelow (laid_of code) code.routines w m → RunLowers code w n
   leave_returns m n e b u = returned_goes m.run.result m n (waits_for m.run.raised m.callers leave.Returned e returned_is) b (may_leave (laid_of code) code.routines w m u)
 
   why_passed : (r : Option Reason) (us : List Active) → leave.PassedOn ≡ ending_by r us → (why : Reason) × (r ≡ Some why)

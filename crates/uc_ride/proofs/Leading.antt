@@ -5,6 +5,7 @@ use Rattle.uc_tree.specs.Source.{Source}
 use Rattle.uc_meaning.specs.declared.exec.Reason.{Reason}
 use Rattle.uc_meaning.specs.declared.exec.Reason.TheVariants as reason
 use Rattle.uc_meaning.specs.declared.exec.Visited.{Visited}
+use Rattle.uc_meaning.specs.declared.fault.RunFault.{RunFault}
 use Rattle.uc_meaning.specs.declared.fault.RunFault.TheVariants.{Unhandled, EscapeInUnwind}
 use Rattle.uc_meaning.specs.declared.request.Asked.{Asked}
 use Rattle.uc_meaning.specs.declared.request.Request.{Request}
@@ -16,6 +17,9 @@ use Rattle.uc_meaning.specs.Raising.{event_in}
 use Rattle.uc_code.specs.declared.op.Op.{Op}
 use Rattle.uc_code.specs.declared.op.Op.TheVariants as op
 use Rattle.uc_code.specs.declared.rows.Instruction.{Instruction}
+use Rattle.uc_code.specs.declared.rows.MainOf.{MainOf}
+use Rattle.uc_code.specs.declared.rows.MainOf.TheVariants as main_of
+use Rattle.uc_code.specs.Ranges.{main_left}
 use Rattle.uc_code.specs.Codes.{Code}
 use Rattle.uc_code.specs.Laid.{Laid, laid_of}
 use Rattle.uc_code.specs.Lowered.{Lowered}
@@ -30,14 +34,15 @@ use Rattle.uc_coroutine.specs.declared.testing.MainEnd.{MainEnd}
 use Rattle.uc_coroutine.specs.declared.testing.MainEnd.TheVariants as end
 use Rattle.uc_coroutine.specs.Ends.{BlockLeft, MainLeft}
 use Rattle.uc_coroutine.specs.Outcomes.{ReturnsPast, Begins, LeftAs}
+use Rattle.uc_coroutine.specs.Switching.{SwitchedAs}
 use Rattle.uc_coroutine.specs.Unwinding.{Made, past_of}
 use Rattle.uc_except.specs.Handling.{GoesOn, UnwindsNow}
 use Rattle.uc_step.specs.declared.stepped.Stepped.{Stepped}
-use Rattle.uc_step.specs.declared.stepped.Stepped.TheVariants.{Quiet, Tick, Ask, Throw, Raise, Unwind, Past, Astray}
-use Rattle.uc_step.specs.Follow.{Follow}
-use Rattle.uc_step.proofs.Apart.{no_test, no_end}
+use Rattle.uc_step.specs.declared.stepped.Stepped.TheVariants.{Quiet, Tick, Ask, Throw, Raise, Unwind, Past, Resume, Suspend, TakeDown, EndMain, Astray}
+use Rattle.uc_step.specs.Follow.{behind_line, Follow}
+use Rattle.uc_step.proofs.Apart.{no_test, no_end, no_coroutine_end}
 use Rattle.uc_step.proofs.Simulates.{lines}
-use Rattle.uc_ride.specs.declared.events.Test.TheVariants.{Block, Main, Nothing}
+use Rattle.uc_ride.specs.declared.events.Test.TheVariants.{Block, Main, Coroutine, Nothing}
 use Rattle.uc_ride.specs.Led.{test_by}
 
 true_false : true ≡ false → ⊥
@@ -57,6 +62,10 @@ module _ (source : Source) (code : Laid) where
   follow_before (Raise x) m s t q (u, p, e, h) = (u, then_quietly q p, e, h)
   follow_before Unwind m s t q (u, p, h) = (u, then_quietly q p, h)
   follow_before (Past g) m s t q (u, v, w, p, a, b, c, h) = (u, v, w, then_quietly q p, a, b, c, h)
+  follow_before Resume m s t q (u, p, l, h) = (u, then_quietly q p, l, h)
+  follow_before Suspend m s t q (u, p, l, h) = (u, then_quietly q p, l, h)
+  follow_before TakeDown m s t q (u, p, h) = (u, then_quietly q p, h)
+  follow_before EndMain m s t q (u, p, l, h) = (u, then_quietly q p, l, h)
   follow_before Astray m s t q f = f
 
   -- the same fields
@@ -119,14 +128,22 @@ module _ (code : Code) where
 
 other_op : (a b : Op) (x y : ℕ) (o : Option Instruction) → o ≡ Some (record { op = a; line = x }) → o ≡ Some (record { op = b; line = y }) → a ≡ b
 other_op a b x y o e f =
-    let g : Some (record { op = a; line = x }) ≡ Some (record { op = b; line = y }) = sym e ∙ f in
     let i : Instruction = record { op = a; line = x } in
     let j : Instruction = record { op = b; line = y } in
+    let g : Some i ≡ Some j = sym e ∙ f in
     let h : i ≡ j = cc in
     ap (λ (k : Instruction). k.op) h
 
-test_or_end : op.Handled ≡ op.Unhandled → ⊥
-test_or_end e = absurd (cc)
+-- an op that tests a block, and one that ends a main
+main_is : (whose : MainOf) → op.Handled ≡ main_left whose → ⊥
+main_is main_of.Task e = absurd (cc)
+main_is main_of.Coroutine e = absurd (cc)
+
+task_is : main_left main_of.Coroutine ≡ op.Unhandled → ⊥
+task_is e = absurd (cc)
+
+coroutine_is : main_left main_of.Task ≡ op.Escape → ⊥
+coroutine_is e = absurd (cc)
 
 -- the op is one that makes this test
 
@@ -137,6 +154,13 @@ block_op _ e = absurd (cc e)
 main_op : (o : Op) → test_by o ≡ Main → o ≡ op.Unhandled
 main_op op.Unhandled e = refl
 main_op _ e = absurd (cc e)
+
+coroutine_op : (o : Op) → test_by o ≡ Coroutine → o ≡ op.Escape
+coroutine_op op.Escape e = refl
+coroutine_op _ e = absurd (cc e)
+
+no_coroutine : Nothing ≡ Coroutine → ⊥
+no_coroutine e = absurd (cc)
 
 no_block : Nothing ≡ Block → ⊥
 no_block e = absurd (cc)
@@ -153,6 +177,9 @@ at_block i o e t = same_op op.Handled i o e (block_op i.op t)
 pub at_main : (i : Instruction) (o : Option Instruction) → o ≡ Some i → test_by i.op ≡ Main → o ≡ Some (record { op = op.Unhandled; line = i.line })
 at_main i o e t = same_op op.Unhandled i o e (main_op i.op t)
 
+pub at_coroutine : (i : Instruction) (o : Option Instruction) → o ≡ Some i → test_by i.op ≡ Coroutine → o ≡ Some (record { op = op.Escape; line = i.line })
+at_coroutine i o e t = same_op op.Escape i o e (coroutine_op i.op t)
+
 no_op : (p : Op) (line : ℕ) (o : Option Instruction) → o ≡ None → o ≡ Some (record { op = p; line = line }) → ⊥
 no_op p line o e f =
     let i : Instruction = record { op = p; line = line } in
@@ -165,17 +192,21 @@ asked_now code r line m n a e f = sym (f ∙ ap (λ (x : Machine). let b : Asked
 
 module _ (source : Source) (code : Code) (low : Lowered source code) (m n : Machine) (s : State) where
   -- a clean-up, where the op is no test
-  pub cleans : ((line : ℕ) → slice_get code.ops m.run.control ≡ Some (record { op = op.Handled; line = line }) → ⊥) → ((line : ℕ) → slice_get code.ops m.run.control ≡ Some (record { op = op.Unhandled; line = line }) → ⊥) → Begins source (laid_of code) m s → Follow (laid_of code) source Quiet m s
+  cleans : ((line : ℕ) → slice_get code.ops m.run.control ≡ Some (record { op = op.Handled; line = line }) → ⊥) → ((whose : MainOf) (line : ℕ) → slice_get code.ops m.run.control ≡ Some (record { op = main_left whose; line = line }) → ⊥) → Begins source (laid_of code) m s → Follow (laid_of code) source Quiet m s
   cleans f g (inl l) = (l.after, l.by, l.stands)
   cleans f g (inr (inl l)) = absurd (f (own_line l.stands.run.rest) l.stands.run.tests.here.here)
-  cleans f g (inr (inr l)) = absurd (g (own_line l.stands.run.rest) l.stands.run.ends.here)
+  cleans f g (inr (inr (whose, l))) = absurd (g whose (own_line l.stands.run.rest) l.stands.run.ends.here)
+
+  no_end_by : (i : Instruction) → slice_get code.ops m.run.control ≡ Some i → test_by i.op ≡ Nothing → (whose : MainOf) (line : ℕ) → slice_get code.ops m.run.control ≡ Some (record { op = main_left whose; line = line }) → ⊥
+  no_end_by i is t main_of.Task line e = no_main (sym t ∙ ap test_by (other_op i.op op.Unhandled i.line line (slice_get code.ops m.run.control) is e))
+  no_end_by i is t main_of.Coroutine line e = no_coroutine (sym t ∙ ap test_by (other_op i.op op.Escape i.line line (slice_get code.ops m.run.control) is e))
 
   pub cleans_by : (i : Instruction) → slice_get code.ops m.run.control ≡ Some i → test_by i.op ≡ Nothing → Begins source (laid_of code) m s → Follow (laid_of code) source Quiet m s
   cleans_by i is t =
-      cleans (λ line e. no_block (sym t ∙ ap test_by (other_op i.op op.Handled i.line line (slice_get code.ops m.run.control) is e))) (λ line e. no_main (sym t ∙ ap test_by (other_op i.op op.Unhandled i.line line (slice_get code.ops m.run.control) is e)))
+      cleans (λ line e. no_block (sym t ∙ ap test_by (other_op i.op op.Handled i.line line (slice_get code.ops m.run.control) is e))) (no_end_by i is t)
 
   pub cleans_no : slice_get code.ops m.run.control ≡ None → Begins source (laid_of code) m s → Follow (laid_of code) source Quiet m s
-  cleans_no q = cleans (λ line e. no_op op.Handled line (slice_get code.ops m.run.control) q e) (λ line e. no_op op.Unhandled line (slice_get code.ops m.run.control) q e)
+  cleans_no q = cleans (λ line e. no_op op.Handled line (slice_get code.ops m.run.control) q e) (λ whose line e. no_op (main_left whose) line (slice_get code.ops m.run.control) q e)
 
   -- the test at the end of a block
   module _ (line : ℕ) (is : slice_get code.ops m.run.control ≡ Some (record { op = op.Handled; line = line })) where
@@ -190,44 +221,77 @@ module _ (source : Source) (code : Code) (low : Lowered source code) (m n : Mach
     pub tests : (over : Bool) → ((t : State) → TestsBlock (laid_of code) m t → BlockLeft source (laid_of code) over n t) → Begins source (laid_of code) m s → Follow (laid_of code) source (tested over) n s
     tests over f (inl l) = absurd (no_test source code low m l.after l.stands line is)
     tests over f (inr (inl l)) = tested_by over l.after l.by (f l.after l.stands)
-    tests over f (inr (inr l)) = absurd (test_or_end (other_op op.Handled op.Unhandled line (own_line l.stands.run.rest) (slice_get code.ops m.run.control) is l.stands.run.ends.here))
+    tests over f (inr (inr (whose, l))) = absurd (main_is whose (other_op op.Handled (main_left whose) line (own_line l.stands.run.rest) (slice_get code.ops m.run.control) is l.stands.run.ends.here))
 
-  -- the end of a main
-  module _ (line : ℕ) (is : slice_get code.ops m.run.control ≡ Some (record { op = op.Unhandled; line = line })) where
-    abbrev asks_by : Request → Asked
+  -- the op that ends a main, and its line
+  module _ (whose : MainOf) (line : ℕ) (is : slice_get code.ops m.run.control ≡ Some (record { op = main_left whose; line = line })) where
+    abbrev pub asks_by : Request → Asked
     asks_by r = record { request = r; line = line_at code.ops line m.callers }
 
-    abbrev ended : MainEnd → Stepped
-    ended end.Ended = Ask (asks_by ask.End)
-    ended end.Returned = Quiet
-    ended end.Unhandled = Ask (asks_by (ask.Fault (fault_number Unhandled)))
-
-    line_is : (x y : ℕ) (o : Option Instruction) → o ≡ Some (record { op = op.Unhandled; line = x }) → o ≡ Some (record { op = op.Unhandled; line = y }) → x ≡ y
+    line_is : (x y : ℕ) (o : Option Instruction) → o ≡ Some (record { op = main_left whose; line = x }) → o ≡ Some (record { op = main_left whose; line = y }) → x ≡ y
     line_is x y o e f =
-        let i : Instruction = record { op = op.Unhandled; line = x } in
-        let j : Instruction = record { op = op.Unhandled; line = y } in
+        let i : Instruction = record { op = main_left whose; line = x } in
+        let j : Instruction = record { op = main_left whose; line = y } in
         let g : Some i ≡ Some j = sym e ∙ f in
         let h : i ≡ j = cc in
         ap (λ (k : Instruction). k.line) h
 
     -- the line is that of the source
-    same_line : (t : State) → EndsMain (laid_of code) m t → line_at code.ops line m.callers ≡ line_of t
+    same_line : (t : State) → EndsMain (laid_of code) whose m t → line_at code.ops line m.callers ≡ line_of t
     same_line t h =
         let l : line ≡ own_line h.run.rest = line_is line (own_line h.run.rest) (slice_get code.ops m.run.control) is h.run.ends.here in
-        ap (λ k. line_at code.ops k m.callers) l ∙ (lines code (own_line h.run.rest) m.callers t.callers h.callers ∙ sym (main_line (laid_of code) m t h))
+        ap (λ k. line_at code.ops k m.callers) l ∙ (lines code (own_line h.run.rest) m.callers t.callers h.callers ∙ sym (main_line (laid_of code) whose m t h))
 
     asked_as : (r : Request) (k : ℕ) → line_at code.ops line m.callers ≡ k → asks_by r ≡ record { request = r; line = k }
     asked_as r k e = ap (λ (x : ℕ). let a : Asked = record { request = r; line = x } in a) e
 
-    ended_by : (e : MainEnd) (t : State) → Quietly source s t → line_at code.ops line m.callers ≡ line_of t → MainLeft source (laid_of code) e n t → Follow (laid_of code) source (ended e) n s
-    ended_by end.Ended t q l x = (x.before, x.after, ask.End, then_quietly q x.by, x.asks, asked_as ask.End (line_of x.before) (l ∙ sym x.line), tt)
-    ended_by end.Returned t q l x = (x.after, then_quietly q x.by, x.stands)
-    ended_by end.Unhandled t q l x = (t, x.after, ask.Fault (fault_number Unhandled), q, x.asks, asked_as (ask.Fault (fault_number Unhandled)) (line_of t) l, tt)
+    no_block_here : (l : ℕ) → slice_get code.ops m.run.control ≡ Some (record { op = op.Handled; line = l }) → ⊥
+    no_block_here l e = main_is whose (sym (other_op (main_left whose) op.Handled line l (slice_get code.ops m.run.control) is e))
 
-    pub ends : (e : MainEnd) → ((t : State) → EndsMain (laid_of code) m t → MainLeft source (laid_of code) e n t) → Begins source (laid_of code) m s → Follow (laid_of code) source (ended e) n s
+  -- the end of the main of a task
+  module _ (line : ℕ) (is : slice_get code.ops m.run.control ≡ Some (record { op = op.Unhandled; line = line })) where
+    abbrev ended : MainEnd → Stepped
+    ended end.Ended = Ask (asks_by main_of.Task line is ask.End)
+    ended end.Returned = Quiet
+    ended end.Unhandled = Ask (asks_by main_of.Task line is (ask.Fault (fault_number Unhandled)))
+
+    ended_by : (e : MainEnd) (t : State) → Quietly source s t → line_at code.ops line m.callers ≡ line_of t → MainLeft source (laid_of code) e n t → Follow (laid_of code) source (ended e) n s
+    ended_by end.Ended t q l x = (x.before, x.after, ask.End, then_quietly q x.by, x.asks, asked_as main_of.Task line is ask.End (line_of x.before) (l ∙ sym x.line), tt)
+    ended_by end.Returned t q l x = (x.after, then_quietly q x.by, x.stands)
+    ended_by end.Unhandled t q l x = (t, x.after, ask.Fault (fault_number Unhandled), q, x.asks, asked_as main_of.Task line is (ask.Fault (fault_number Unhandled)) (line_of t) l, tt)
+
+    pub ends : (e : MainEnd) → ((t : State) → EndsMain (laid_of code) main_of.Task m t → MainLeft source (laid_of code) e n t) → Begins source (laid_of code) m s → Follow (laid_of code) source (ended e) n s
     ends e f (inl l) = absurd (no_end source code low m l.after l.stands line is)
-    ends e f (inr (inl l)) = absurd (test_or_end (sym (other_op op.Unhandled op.Handled line (own_line l.stands.run.rest) (slice_get code.ops m.run.control) is l.stands.run.tests.here.here)))
-    ends e f (inr (inr l)) = ended_by e l.after l.by (same_line l.after l.stands) (f l.after l.stands)
+    ends e f (inr (inl l)) = absurd (no_block_here main_of.Task line is (own_line l.stands.run.rest) l.stands.run.tests.here.here)
+    ends e f (inr (inr (main_of.Task, l))) = ended_by e l.after l.by (same_line main_of.Task line is l.after l.stands) (f l.after l.stands)
+    ends e f (inr (inr (main_of.Coroutine, l))) = absurd (task_is (other_op op.Escape op.Unhandled (own_line l.stands.run.rest) line (slice_get code.ops m.run.control) l.stands.run.ends.here is))
+
+  -- the main of a coroutine is left
+  module _ (line : ℕ) (is : slice_get code.ops m.run.control ≡ Some (record { op = op.Escape; line = line })) where
+    abbrev left_by : Option RunFault → Stepped
+    left_by None = Quiet
+    left_by (Some f) = Ask (asks_by main_of.Coroutine line is (ask.Fault (fault_number f)))
+
+    switched_by : (o : Option RunFault) (t : State) → Quietly source s t → line_at code.ops line m.callers ≡ line_of t → SwitchedAs source (laid_of code) o n t → Follow (laid_of code) source (left_by o) n s
+    switched_by None t q l x = (x.after, then_quietly q x.by, x.stands)
+    switched_by (Some f) t q l x = (x.before, x.after, ask.Fault (fault_number f), then_quietly q x.by, x.asks, asked_as main_of.Coroutine line is (ask.Fault (fault_number f)) (line_of x.before) (l ∙ sym x.line), tt)
+
+    pub leaves_coroutine : (o : Option RunFault) → ((t : State) → EndsMain (laid_of code) main_of.Coroutine m t → SwitchedAs source (laid_of code) o n t) → Begins source (laid_of code) m s → Follow (laid_of code) source (left_by o) n s
+    leaves_coroutine o f (inl l) = absurd (no_coroutine_end source code low m l.after l.stands line is)
+    leaves_coroutine o f (inr (inl l)) = absurd (no_block_here main_of.Coroutine line is (own_line l.stands.run.rest) l.stands.run.tests.here.here)
+    leaves_coroutine o f (inr (inr (main_of.Coroutine, l))) = switched_by o l.after l.by (same_line main_of.Coroutine line is l.after l.stands) (f l.after l.stands)
+    leaves_coroutine o f (inr (inr (main_of.Task, l))) = absurd (coroutine_is (other_op op.Unhandled op.Escape (own_line l.stands.run.rest) line (slice_get code.ops m.run.control) l.stands.run.ends.here is))
+
+-- a switch, from a state to which quiet steps lead
+
+module _ (source : Source) (code : Code) (m n : Machine) (s t : State) (p : Quietly source s t) where
+  pub switch_leads : SwitchedAs source (laid_of code) None n t → Follow (laid_of code) source Quiet n s
+  switch_leads x = (x.after, then_quietly p x.by, x.stands)
+
+  pub switch_stops : (f : RunFault) (a : Asked) → n ≡ m → behind_line (laid_of code) m ≡ line_of t → a ≡ record { request = ask.Fault (fault_number f); line = behind_line (laid_of code) n } → SwitchedAs source (laid_of code) (Some f) n t → Follow (laid_of code) source (Ask a) n s
+  switch_stops f a e l i x =
+      let k : behind_line (laid_of code) n ≡ line_of x.before = ap (behind_line (laid_of code)) e ∙ (l ∙ sym x.line) in
+      (x.before, x.after, ask.Fault (fault_number f), then_quietly p x.by, x.asks, i ∙ ap (λ (y : ℕ). let b : Asked = record { request = ask.Fault (fault_number f); line = y } in b) k, tt)
 
 -- an activation is left
 

@@ -4,6 +4,7 @@ use Rattle.uc_tree.specs.Source.{Source}
 use Rattle.uc_meaning.specs.declared.request.Asked.{Asked}
 use Rattle.uc_meaning.specs.declared.request.Request.{Request}
 use Rattle.uc_meaning.specs.declared.request.Request.TheVariants as ask
+use Rattle.uc_meaning.specs.declared.exec.Stage.TheVariants.{Started}
 use Rattle.uc_meaning.specs.Quiet.{State}
 use Rattle.uc_meaning.specs.Rides.{Rides, slices, asked_in}
 use Rattle.uc_code.specs.Codes.{Code}
@@ -12,7 +13,8 @@ use Rattle.uc_code.specs.Lowered.{Lowered}
 use Rattle.uc_code.specs.Pace.{IsPaced}
 use Rattle.uc_frames.specs.Machine.{Machine}
 use Rattle.uc_frames.specs.Stands.{Stands}
-use Rattle.uc_frames.specs.Weight.{weight}
+use Rattle.uc_frames.specs.Keeping.{AllIdle}
+use Rattle.uc_frames.specs.Weight.{total}
 use Rattle.uc_step.specs.declared.stepped.Stepped.{Stepped}
 use Rattle.uc_step.specs.declared.stepped.Stepped.TheVariants.{Quiet, Tick, Ask}
 use Rattle.uc_step.specs.declared.onward.Onward.{Onward}
@@ -124,34 +126,37 @@ module _ (code : Code) where
 
 -- what is left behind an op that was left to `step`
 module _ (code : Code) (paced : IsPaced (laid_of code) code.routines) (m n o p : Machine) (kept : Keeps code m) (same : n ≡ m) (how : Stepped) (after : Settled) where
-  pub settled_falls : Falls code n how o → ((w : ℕ) → FallsBelow code w how o → FallsBelow code w (how_settled after) p) → FallsBelow code (weight code.ops m) (how_settled after) p
-  settled_falls f g = subst (λ (x : Machine). FallsBelow code (weight code.ops x) (how_settled after) p) same (g (weight code.ops n) (f paced (subst (λ (x : Machine). Keeps code x) (sym same) kept)))
+  pub settled_falls : Falls code n how o → ((w : ℕ) → FallsBelow code w how o → FallsBelow code w (how_settled after) p) → FallsBelow code (total code.ops m) (how_settled after) p
+  settled_falls f g = subst (λ (x : Machine). FallsBelow code (total code.ops x) (how_settled after) p) same (g (total code.ops n) (f paced (subst (λ (x : Machine). Keeps code x) (sym same) kept)))
 
 -- a request behind which less is left keeps as much
-pub asked_keeps : (code : Code) (w : ℕ) (r : Request) (m : Machine) → AskFalls code w r m → KeepsAfter code r m
-asked_keeps code w ask.End m l = tt
-asked_keeps code w (ask.Fault n) m l = tt
-asked_keeps code w (ask.Make x0) m l = l.1
-asked_keeps code w (ask.Made x0) m l = l.1
-asked_keeps code w (ask.Spawn x0) m l = l.1
-asked_keeps code w (ask.Call x0 x1) m l = l.1
-asked_keeps code w (ask.Leave x0) m l = l.1
-asked_keeps code w (ask.Accept x0 x1 x2) m l = l.1
-asked_keeps code w (ask.Wait x0 x1 x2) m l = l.1
-asked_keeps code w (ask.Signal x0 x1) m l = l.1
-asked_keeps code w (ask.SignalBlock x0 x1) m l = l.1
-asked_keeps code w (ask.Empty x0 x1) m l = l.1
-asked_keeps code w (ask.Front x0 x1) m l = l.1
-asked_keeps code w (ask.Raise x0 x1 x2 x3) m l = l.1
-asked_keeps code w (ask.Poll x0) m l = l.1
-asked_keeps code w ask.Yield m l = l.1
-asked_keeps code w ask.Slice m l = l.1
-asked_keeps code w (ask.Print x0 x1) m l = l.1
-asked_keeps code w (ask.Read x0) m l = l.1
-asked_keeps code w ask.Fail m l = l.1
-asked_keeps code w ask.Cluster m l = l.1
-asked_keeps code w (ask.ClusterEnd x0) m l = l.1
-asked_keeps code w (ask.Processor x0) m l = l.1
-asked_keeps code w (ask.ProcessorEnd x0) m l = l.1
-asked_keeps code w (ask.Migrate x0) m l = l.1
-asked_keeps code w (ask.Gone x0) m l = l.1
+kept_by : (code : Code) (v : ℕ) (r : Request) (m : Machine) → AskFalls code v r m → m.env.links.stage ≡ Started → AllIdle (laid_of code) code.routines m.env → KeepsAfter code r m
+kept_by code v ask.End m l b o = tt
+kept_by code v (ask.Fault n) m l b o = tt
+kept_by code v (ask.Make x0) m l b o = record { run = l.1; begun = b; others = o }
+kept_by code v (ask.Made x0) m l b o = record { run = l.1; begun = b; others = o }
+kept_by code v (ask.Spawn x0) m l b o = record { run = l.1; begun = b; others = o }
+kept_by code v (ask.Call x0 x1) m l b o = record { run = l.1; begun = b; others = o }
+kept_by code v (ask.Leave x0) m l b o = record { run = l.1; begun = b; others = o }
+kept_by code v (ask.Accept x0 x1 x2) m l b o = record { run = l.1; begun = b; others = o }
+kept_by code v (ask.Wait x0 x1 x2) m l b o = record { run = l.1; begun = b; others = o }
+kept_by code v (ask.Signal x0 x1) m l b o = record { run = l.1; begun = b; others = o }
+kept_by code v (ask.SignalBlock x0 x1) m l b o = record { run = l.1; begun = b; others = o }
+kept_by code v (ask.Empty x0 x1) m l b o = record { run = l.1; begun = b; others = o }
+kept_by code v (ask.Front x0 x1) m l b o = record { run = l.1; begun = b; others = o }
+kept_by code v (ask.Raise x0 x1 x2 x3) m l b o = record { run = l.1; begun = b; others = o }
+kept_by code v (ask.Poll x0) m l b o = record { run = l.1; begun = b; others = o }
+kept_by code v ask.Yield m l b o = record { run = l.1; begun = b; others = o }
+kept_by code v ask.Slice m l b o = record { run = l.1; begun = b; others = o }
+kept_by code v (ask.Print x0 x1) m l b o = record { run = l.1; begun = b; others = o }
+kept_by code v (ask.Read x0) m l b o = record { run = l.1; begun = b; others = o }
+kept_by code v ask.Fail m l b o = record { run = l.1; begun = b; others = o }
+kept_by code v ask.Cluster m l b o = record { run = l.1; begun = b; others = o }
+kept_by code v (ask.ClusterEnd x0) m l b o = record { run = l.1; begun = b; others = o }
+kept_by code v (ask.Processor x0) m l b o = record { run = l.1; begun = b; others = o }
+kept_by code v (ask.ProcessorEnd x0) m l b o = record { run = l.1; begun = b; others = o }
+kept_by code v (ask.Migrate x0) m l b o = record { run = l.1; begun = b; others = o }
+kept_by code v (ask.Gone x0) m l b o = record { run = l.1; begun = b; others = o }
+
+pub asked_keeps : (code : Code) (w : ℕ) (a : Asked) (m : Machine) → FallsBelow code w (Ask a) m → KeepsAfter code a.request m
+asked_keeps code w a m h = kept_by code h.part a.request m h.is h.begun h.others

@@ -7,17 +7,17 @@ use Rattle.uc_code.specs.declared.op.Op.{Op}
 use Rattle.uc_code.specs.declared.op.Op.TheVariants as op
 use Rattle.uc_code.specs.Codes.{Code}
 use Rattle.uc_code.specs.Laid.{laid_of, chain}
-use Rattle.uc_frames.specs.Keeping.{UnwoundBelow, Entry}
+use Rattle.uc_frames.specs.Keeping.{UnwoundBelow, Entry, Within}
 use Rattle.uc_frames.specs.Machine.{Machine}
 use Rattle.uc_frames.specs.Weight.{waits}
 use Rattle.uc_step.specs.declared.stepped.Stepped.{Stepped}
 use Rattle.uc_step.specs.declared.stepped.Stepped.TheVariants.{Quiet, Tick, Ask, Unwind}
-use Rattle.uc_step.specs.Falls.{Keeps, Lowers, AskFalls}
+use Rattle.uc_step.specs.Falls.{Keeps, FallsBelow}
 use Rattle.uc_ride.specs.declared.events.Caught.{Caught}
 use Rattle.uc_ride.specs.declared.events.Settled.{Settled}
 use Rattle.uc_ride.specs.declared.events.Settled.TheVariants as settled
 use Rattle.uc_ride.specs.declared.events.Test.{Test}
-use Rattle.uc_ride.specs.declared.events.Test.TheVariants.{Block, Main, Nothing}
+use Rattle.uc_ride.specs.declared.events.Test.TheVariants.{Block, Main, Coroutine, Nothing}
 use Rattle.uc_ride.specs.declared.events.Unwound.{Unwound}
 use Rattle.uc_ride.specs.declared.events.Unwound.TheVariants as unwound
 
@@ -30,6 +30,7 @@ row_of (Some c) = Some c.row
 abbrev pub test_by : Op → Test
 test_by op.Handled = Block
 test_by op.Unhandled = Main
+test_by op.Escape = Coroutine
 test_by _ = Nothing
 
 -- these ends as those of an op
@@ -55,9 +56,9 @@ module _ (code : Code) where
 
   -- a step of unwinding leaves less than w, and where it goes on less than before
   abbrev pub StepFalls : ℕ → ℕ → Unwound → Machine → Type 0
-  StepFalls w left unwound.On m = Lowers code w m
-  StepFalls w left unwound.Still m = UnwoundBelow (laid_of code) code.routines w m × (left_in m < left)
-  StepFalls w left (unwound.Asks a) m = AskFalls code w a.request m
+  StepFalls w left unwound.On m = FallsBelow code w Quiet m
+  StepFalls w left unwound.Still m = FallsBelow code w Unwind m × (left_in m < left)
+  StepFalls w left (unwound.Asks a) m = FallsBelow code w (Ask a) m
 
   -- the entry of a row has begun in a machine that unwinds, to which so much was left
   pub record Entered (w left : ℕ) (m : Machine) : Type 0 where
@@ -72,6 +73,9 @@ module _ (code : Code) where
     pub handles : m.run.handles ≡ old.run.handles
     pub counts : m.run.counts ≡ old.run.counts
     pub few : old.run.elements < 2 ^ 32
+
+  abbrev pub EnteredBelow : ℕ → ℕ → Machine → Type 0
+  EnteredBelow w left m = Within (laid_of code) code.routines (λ v n. Entered v left n) w m
 
   -- what is kept while a ride goes on, and where it asks something behind which the task goes on
 

@@ -10,22 +10,22 @@ ghost use Rattle.uc_code.specs.Laid.{chain, laid_of};
 ghost use Rattle.uc_code.specs.Lowered.{Lowered};
 ghost use Rattle.uc_code.specs.Pace.{IsPaced};
 ghost use Rattle.uc_frames.specs.Comes.{event_by};
-ghost use Rattle.uc_frames.specs.Keeping.{UnwoundBelow, RaisesBelow};
 ghost use Rattle.uc_frames.specs.Machine.{line_at};
 ghost use Rattle.uc_frames.specs.Searches.{catcher_in};
 ghost use Rattle.uc_frames.specs.Unwound.{LeavesNow, Unwinds};
 ghost use Rattle.uc_coroutine.specs.Outcomes.{Begins};
 ghost use Rattle.uc_step.specs.Falls.{FallsBelow};
-ghost use Rattle.uc_step.specs.Follow.{Follow};
+ghost use Rattle.uc_step.specs.Follow.{behind_line, Follow};
 ghost use Rattle.uc_meaning.specs.declared.exec.Reason.TheVariants as reason;
 ghost use Rattle.uc_ride.specs.declared.events.Caught.{Caught};
-ghost use Rattle.uc_ride.specs.Led.{how_settled, how_ended, how_unwound, row_of, test_by, StepFalls, Entered, left_in};
+ghost use Rattle.uc_ride.specs.Led.{how_settled, how_ended, how_unwound, row_of, test_by, StepFalls, EnteredBelow, left_in};
 
 use std::alloc::AllocError;
 use uc_code::code::Code;
 use uc_code::op::Op;
 use uc_code::rows::Instruction;
 use uc_coroutine::leaving::{Left, leave, return_past};
+use uc_coroutine::switching::{finish, leave_main, resume, suspend, take_down};
 use uc_coroutine::testing::{MainEnd, end_block, end_main};
 use uc_coroutine::unwinding::unwind;
 use uc_except::found::Found;
@@ -54,11 +54,13 @@ pub(crate) enum Unwound {
     Asks(Asked),
 }
 
-/// What the first op of a row tests: whether a block or a main that is unwound up to it is left, or nothing, where it cleans up.
+/// What the first op of a row tests: whether a block or a main that is unwound up to it is left, or nothing, where it cleans up. The
+/// main is that of a task or of a coroutine.
 #[derive(Clone, Copy)]
 pub(crate) enum Test {
     Block,
     Main,
+    Coroutine,
     Nothing,
 }
 
@@ -102,10 +104,61 @@ pub(crate) fn settle(code: &Code, work: &mut Work, how: Stepped) -> Result<Settl
                 Ok(Settled::Asks(asked))
             }
         }
+        Stepped::Resume => Ok(settled_by(resumed(code, work))),
+        Stepped::Suspend => Ok(settled_by(suspended(code, work))),
+        Stepped::TakeDown => {
+            take_down(work);
+            Ok(Settled::On)
+        }
+        Stepped::EndMain => Ok(settled_by(finished(code, work))),
         Stepped::Astray => {
             let asked = asks(code, 0, work, Request::End);
             Ok(Settled::Asks(asked))
         }
+    }
+}
+
+// The execution is resumed of the coroutine whose member runs.
+fn resumed(code: &Code, work: &mut Work) -> Option<Asked>
+    ensures source { (source : Source) (s : State) → Follow (laid_of code.now) source Stepped.Resume work.old s → Follow (laid_of code.now) source (how_ended result) work.new s }
+    ensures falls { (w : ℕ) → FallsBelow code.now w Stepped.Resume work.old → FallsBelow code.now w (how_ended result) work.new }
+{
+    match resume(work) {
+        None => None,
+        Some(fault) => Some(faults_behind(code, work, fault)),
+    }
+}
+
+// The running execution is suspended.
+fn suspended(code: &Code, work: &mut Work) -> Option<Asked>
+    ensures source { (source : Source) (s : State) → Follow (laid_of code.now) source Stepped.Suspend work.old s → Follow (laid_of code.now) source (how_ended result) work.new s }
+    ensures falls { (w : ℕ) → FallsBelow code.now w Stepped.Suspend work.old → FallsBelow code.now w (how_ended result) work.new }
+{
+    match suspend(work) {
+        None => None,
+        Some(fault) => Some(faults_behind(code, work, fault)),
+    }
+}
+
+// The main of a coroutine ends.
+fn finished(code: &Code, work: &mut Work) -> Option<Asked>
+    ensures source { (source : Source) (s : State) → Follow (laid_of code.now) source Stepped.EndMain work.old s → Follow (laid_of code.now) source (how_ended result) work.new s }
+    ensures falls { (w : ℕ) → FallsBelow code.now w Stepped.EndMain work.old → FallsBelow code.now w (how_ended result) work.new }
+{
+    match finish(work) {
+        None => None,
+        Some(fault) => Some(faults_behind(code, work, fault)),
+    }
+}
+
+// A run fault, in the line of the op before the next one, or of the newest call around it that has one.
+fn faults_behind(code: &Code, work: &Work, fault: RunFault) -> Asked
+    ensures { result ≡ record { request = ask.Fault (fault_number fault); line = behind_line (laid_of code.now) work.now } }
+{
+    let number = fault.number();
+    Asked {
+        request: Request::Fault { number },
+        line: work.line_behind(code),
     }
 }
 
@@ -121,9 +174,9 @@ fn settled_by(end: Option<Asked>) -> Settled
 // The handler begins that the event finds; where it finds none, it is thrown.
 fn raise(code: &Code, work: &mut Work, event: Event) -> Result<Option<Asked>, AllocError>
     requires paced { IsPaced (laid_of code.now) code.now.routines }
-    requires below { (w : ℕ) × RaisesBelow (laid_of code.now) code.now.routines w work.old }
+    requires below { (w : ℕ) × FallsBelow code.now w (Stepped.Raise event) work.old }
     ensures source { IfOk result (λ end. (source : Source) (s : State) → Lowered source code.now → Follow (laid_of code.now) source (Stepped.Raise event) work.old s → Follow (laid_of code.now) source (how_ended end) work.new s) }
-    ensures falls { IfOk result (λ end. (w : ℕ) → RaisesBelow (laid_of code.now) code.now.routines w work.old → FallsBelow code.now w (how_ended end) work.new) }
+    ensures falls { IfOk result (λ end. (w : ℕ) → FallsBelow code.now w (Stepped.Raise event) work.old → FallsBelow code.now w (how_ended end) work.new) }
 {
     let found = propagate(code, work, event.number, true);
     match found {
@@ -142,9 +195,9 @@ fn raise(code: &Code, work: &mut Work, event: Event) -> Result<Option<Asked>, Al
 // Step after step, as long as it unwinds.
 fn unwinds(code: &Code, work: &mut Work) -> Result<Option<Asked>, AllocError>
     requires paced { IsPaced (laid_of code.now) code.now.routines }
-    requires below { (w : ℕ) × UnwoundBelow (laid_of code.now) code.now.routines w work.old }
+    requires below { (w : ℕ) × FallsBelow code.now w Stepped.Unwind work.old }
     ensures source { IfOk result (λ end. (source : Source) (s : State) → Lowered source code.now → Unwinds (laid_of code.now) work.old s → Follow (laid_of code.now) source (how_ended end) work.new s) }
-    ensures falls { IfOk result (λ end. (w : ℕ) → UnwoundBelow (laid_of code.now) code.now.routines w work.old → FallsBelow code.now w (how_ended end) work.new) }
+    ensures falls { IfOk result (λ end. (w : ℕ) → FallsBelow code.now w Stepped.Unwind work.old → FallsBelow code.now w (how_ended end) work.new) }
 {
     'steps: loop {
         let how = unwind_once(code, work)?;
@@ -161,7 +214,7 @@ fn unwinds(code: &Code, work: &mut Work) -> Result<Option<Asked>, AllocError>
 fn unwind_once(code: &Code, work: &mut Work) -> Result<Unwound, AllocError>
     requires paced { IsPaced (laid_of code.now) code.now.routines }
     ensures source { IfOk result (λ after. (source : Source) (s : State) → Lowered source code.now → Unwinds (laid_of code.now) work.old s → Follow (laid_of code.now) source (how_unwound after) work.new s) }
-    ensures falls { IfOk result (λ after. (w : ℕ) → UnwoundBelow (laid_of code.now) code.now.routines w work.old → StepFalls code.now w (left_in code.now work.old) after work.new) }
+    ensures falls { IfOk result (λ after. (w : ℕ) → FallsBelow code.now w Stepped.Unwind work.old → StepFalls code.now w (left_in code.now work.old) after work.new) }
 {
     // A number of elements that is a `u32` bounds what is left of the activation.
     let _ = work.elements();
@@ -223,7 +276,7 @@ fn row_in(caught: Option<Caught>) -> Option<u32>
 fn begin(code: &Code, work: &mut Work) -> Result<Unwound, AllocError>
     requires paced { IsPaced (laid_of code.now) code.now.routines }
     ensures source { IfOk result (λ after. (source : Source) (s : State) → Lowered source code.now → Begins source (laid_of code.now) work.old s → Follow (laid_of code.now) source (how_unwound after) work.new s) }
-    ensures falls { IfOk result (λ after. (w left : ℕ) → Entered code.now w left work.old → StepFalls code.now w left after work.new) }
+    ensures falls { IfOk result (λ after. (w left : ℕ) → EnteredBelow code.now w left work.old → StepFalls code.now w left after work.new) }
 {
     let next = work.next();
     match op_at(code, next) {
@@ -239,6 +292,10 @@ fn begin(code: &Code, work: &mut Work) -> Result<Unwound, AllocError>
             }
             Test::Main => {
                 let after = end_on(code, work, instruction.line)?;
+                Ok(after)
+            }
+            Test::Coroutine => {
+                let after = leave_coroutine(code, work, instruction.line);
                 Ok(after)
             }
         },
@@ -260,15 +317,16 @@ fn test_of(op: Op) -> Test
     match op {
         Op::Handled => Test::Block,
         Op::Unhandled => Test::Main,
+        Op::Escape => Test::Coroutine,
         _ => Test::Nothing,
     }
 }
 
-// A main that is unwound ends, by an op of this line.
+// The main of a task that is unwound ends, by an op of this line.
 fn end_on(code: &Code, work: &mut Work, line: u32) -> Result<Unwound, AllocError>
     requires { slice_get code.now.ops work.old.run.control ≡ Some (record { op = Op.Unhandled; line = line }) }
     ensures source { IfOk result (λ after. (source : Source) (s : State) → Lowered source code.now → Begins source (laid_of code.now) work.old s → Follow (laid_of code.now) source (how_unwound after) work.new s) }
-    ensures falls { IfOk result (λ after. (w left : ℕ) → Entered code.now w left work.old → StepFalls code.now w left after work.new) }
+    ensures falls { IfOk result (λ after. (w left : ℕ) → EnteredBelow code.now w left work.old → StepFalls code.now w left after work.new) }
 {
     let end = end_main(work)?;
     match end {
@@ -281,10 +339,22 @@ fn end_on(code: &Code, work: &mut Work, line: u32) -> Result<Unwound, AllocError
     }
 }
 
+// The main of a coroutine that is unwound is left, by an op of this line: another execution goes on, or none can.
+fn leave_coroutine(code: &Code, work: &mut Work, line: u32) -> Unwound
+    requires { slice_get code.now.ops work.old.run.control ≡ Some (record { op = Op.Escape; line = line }) }
+    ensures source { (source : Source) (s : State) → Lowered source code.now → Begins source (laid_of code.now) work.old s → Follow (laid_of code.now) source (how_unwound result) work.new s }
+    ensures falls { (w left : ℕ) → EnteredBelow code.now w left work.old → StepFalls code.now w left result work.new }
+{
+    match leave_main(work) {
+        None => Unwound::On,
+        Some(fault) => Unwound::Asks(faults(code, line, work, fault)),
+    }
+}
+
 // The running activation, of which nothing is left, is left.
 fn leave_on(code: &Code, work: &mut Work) -> Result<Unwound, AllocError>
     ensures source { IfOk result (λ after. (source : Source) (s : State) → LeavesNow (laid_of code.now) work.old s → Follow (laid_of code.now) source (how_unwound after) work.new s) }
-    ensures falls { IfOk result (λ after. (w : ℕ) → UnwoundBelow (laid_of code.now) code.now.routines w work.old → StepFalls code.now w (left_in code.now work.old) after work.new) }
+    ensures falls { IfOk result (λ after. (w : ℕ) → FallsBelow code.now w Stepped.Unwind work.old → StepFalls code.now w (left_in code.now work.old) after work.new) }
 {
     let left = leave(work)?;
     match left {

@@ -1,6 +1,3 @@
-pub mod Lists
-pub mod Changes
-pub mod Operands
 pub mod Settles
 pub mod SettleExpressions
 pub mod SettleLists
@@ -19,3 +16,5 @@ pub mod Rode
 pub mod Falls
 pub mod Onwards
 pub mod Apart
+pub mod Idles
+pub mod SimulateSwitches

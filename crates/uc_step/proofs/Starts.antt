@@ -1,7 +1,7 @@
 -- A main as it begins, and answers.
 use Rattle.std.proofs.Common.{◌≡◌, ℕ, ◌+◌, List, [], ◌∷◌, None, Some, ℤ, refl, sym, subst, ap, ◌∙◌}
 use Rattle.std.specs.Prelude.{max, slice_get}
-use Rattle.uc_tree.specs.Source.{Purpose, TaskMain, Procedure, Function, Builder, Stmts, Routine, Source}
+use Rattle.uc_tree.specs.Source.{Purpose, TaskMain, CoroutineMain, Procedure, Function, Builder, Stmts, Routine, Source}
 use Rattle.uc_meaning.specs.declared.request.Answer.{Answer}
 use Rattle.uc_meaning.specs.declared.request.Answer.TheVariants as answer
 use Rattle.uc_meaning.specs.Quiet as quiet
@@ -9,6 +9,7 @@ use Rattle.uc_meaning.specs.Quiet.{Todo, State, Rest, Within, behind_body, routi
 use Rattle.uc_meaning.specs.Runs as runs
 use Rattle.uc_meaning.specs.Runs.{with_operand}
 use Rattle.uc_code.specs.declared.op.Op.TheVariants as op
+use Rattle.uc_code.specs.declared.rows.MainOf.TheVariants as main_of
 use Rattle.uc_code.specs.declared.rows.Mark.{Mark}
 use Rattle.uc_code.specs.declared.rows.Mark.TheVariants as mark
 use Rattle.uc_code.specs.declared.rows.RoutineCode.{RoutineCode}
@@ -21,7 +22,7 @@ use Rattle.uc_frames.specs.Machine.{Machine, cell_of, first_machine}
 use Rattle.uc_frames.specs.Stands.{OfRoutine, FollowsAt, Stands}
 use Rattle.uc_step.specs.Acts.{with_operands, answered}
 use Rattle.uc_step.specs.Starts.{Starts}
-use Rattle.uc_step.proofs.Lists.{replicate_map}
+use Rattle.uc_frames.proofs.Lists.{replicate_map}
 use Rattle.uc_step.proofs.Routines.{routine_at}
 
 module _ (code : Laid) where
@@ -39,7 +40,28 @@ module _ (code : Laid) where
 
   begun_by : (p : Purpose) (number line : ℕ) (ss : Stmts) (a z : ℕ) → BodyAt code p number line ss a z → Begun (Rest ss ∷ behind_body p line) a
   begun_by TaskMain number line ss a z h = record {
-    marks = mark.Finish number line h.row ∷ [];
+    marks = mark.Finish main_of.Task number line h.row ∷ [];
+    follows = record {
+      from = a;
+      to = h.body_end;
+      leads = Arrived a;
+      piece = h.body;
+      on = record {
+        behind = refl;
+        routine = number;
+        row = h.row;
+        pops = refl;
+        end = h.body_end;
+        entry = h.body_end + 1;
+        leads = Arrived h.body_end;
+        returns = h.returns;
+        handler = h.handler;
+        unwound = h.unwound;
+      };
+    };
+  }
+  begun_by CoroutineMain number line ss a z h = record {
+    marks = mark.Finish main_of.Coroutine number line h.row ∷ [];
     follows = record {
       from = a;
       to = h.body_end;

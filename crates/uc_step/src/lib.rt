@@ -2,6 +2,7 @@
 #![tactic(auto)]
 
 pub mod begin;
+mod coroutines;
 mod jumps;
 mod memory;
 mod numbers;

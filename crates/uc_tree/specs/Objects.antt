@@ -2,6 +2,8 @@
 use Rattle.std.specs.Prelude.{ℕ, zero, suc, ◌+◌, max, ℤ, List, [], ◌∷◌, ◌++◌, length, slice_get, Bool, true, false, not, ◌&&◌, Option, Some, None, unwrap_or, nat_eq, if◌then◌else◌}
 use Rattle.uc_tree.specs.declared.kinds.Base.{Base}
 use Rattle.uc_tree.specs.declared.kinds.Base.TheVariants as base
+use Rattle.uc_tree.specs.declared.kinds.Kind.{Kind}
+use Rattle.uc_tree.specs.declared.kinds.Kind.TheVariants as kind
 use Rattle.uc_tree.specs.declared.kinds.Role.{Role}
 use Rattle.uc_tree.specs.declared.kinds.Role.TheVariants as role
 use Rattle.uc_tree.specs.declared.rows.Object.{Object}
@@ -42,6 +44,16 @@ place_of p number = place_from (classes_of p.items) 0 number
 abbrev pub plain_in : Option Object → Option ℕ
 plain_in None = None
 plain_in (Some o) = if o.plain then Some o.class else None
+
+-- whether an object has an execution of its own, which is found at the first of its cells: a coroutine has one, and so has a
+-- cormonitor
+abbrev pub has_execution : Kind → Bool
+has_execution kind.Class = false
+has_execution kind.Coroutine = true
+has_execution kind.Monitor = false
+has_execution kind.Cormonitor = true
+has_execution kind.Task = false
+has_execution kind.Event = false
 
 -- the class of plain objects that a base names, by its place
 abbrev pub plain_class : Program → Base → Option ℕ

@@ -17,14 +17,14 @@ use Rattle.uc_tree.specs.Statements as stmt
 use Rattle.uc_tree.specs.Programs as whole
 use Rattle.uc_tree.specs.Cells.{classes_of, class_cells, declared_cells, param_cells, params_cells, stmt_cells, stmts_cells, routine_cells, leading_cells, seen_in}
 use Rattle.uc_tree.specs.Gathered.{gathered, gathered_all}
-use Rattle.uc_tree.specs.Numbering.{is_event, event_number, Defined, routines_of, own_texts, own_sites, sites_of, texts_of}
-use Rattle.uc_tree.specs.Objects.{is_constructor, class_at, place_of, plain_class, ClassField, fields_of, shape_of, class_shape, written_at, Unwritten, unwritten_of, unwritten_number}
+use Rattle.uc_tree.specs.Numbering.{is_event, is_plain, main_name, event_number, Defined, routines_of, own_texts, own_sites, sites_of, texts_of}
+use Rattle.uc_tree.specs.Objects.{has_execution, is_constructor, class_at, number_at, member_from, place_of, plain_class, ClassField, fields_of, shape_of, class_shape, written_at, Unwritten, unwritten_of, unwritten_number}
 use Rattle.uc_tree.specs.ProgramMain.{is_void, main_number}
 use Rattle.uc_tree.specs.declared.kinds.ValueForm.{ValueForm}
 use Rattle.uc_tree.specs.declared.kinds.ValueForm.TheVariants as value_form
-use Rattle.uc_tree.specs.Source.{Shape, Order, TestFirst, BodyFirst, NoTest, Expr, Literal, Variable, Element, Assign, OfObject, Counted, CallOn, CallUnwritten, Item, Show, ShowText, Target, Declared, CleanUp, Destroys, DestroysAll, Stmt, Skip, Block, Whole, Evaluate, Declare, Print, PrintTogether, Read, If, Loop, Break, Continue, Return, Fill, OfEvents, Raised, Plainly, BuiltAt, AgainFrom, Throw, Raise, Try, Handlers, NoHandlers, MoreHandlers, Stmts, Nil, Then, Scoped, Built, Purpose, TaskMain, Procedure, Function, Builder, Routine, Class, Source}
+use Rattle.uc_tree.specs.Source.{Shape, Order, TestFirst, BodyFirst, NoTest, Expr, Literal, Variable, Element, Assign, OfObject, Counted, CallOn, CallUnwritten, Item, Show, ShowText, Target, Declared, CleanUp, Destroys, DestroysAll, Unwinds, Forgets, Stmt, Skip, Block, Whole, Evaluate, Declare, Print, PrintTogether, Read, If, Loop, Break, Continue, Return, Fill, OfEvents, OfTasks, Resume, Suspend, SetUp, Enliven, TakeDown, Raised, Plainly, BuiltAt, AgainFrom, Throw, Raise, Try, Handlers, NoHandlers, MoreHandlers, Stmts, Nil, Then, Scoped, Built, Purpose, TaskMain, CoroutineMain, Procedure, Function, Builder, Routine, Class, Source}
 use Rattle.uc_tree.specs.Hidden.{KEPT_CELLS, hidden_in, hidden_in_all}
-pub use Rattle.uc_tree.specs.Standings.{scalar, int_type, bool_type, converted, Standing, Meant, no_meaning, value_meant, value_by, value_of, later_or, known_named, known_meant, value_or_zero, is_here, is_named, routine_from, params_in, result_in, params_of, result_of, routine_meant_by, constant_meant_by, item_meant, NumberedField, field_named, field_length, field_type, Whose, object_of_whose, field_place, field_held, field_standing, field_by_ref, field_found, method_by, method_meant, member_by, member_in, member_meant, meant_or, own_meant, name_meant, combined, binary_meant, variable_in, written_by, updated_by, updated, unary_meant, assign_meant, fail_name, object_member, event_from, event_place, class_or_event, place_member, field_by, field_meant, arg_meant, args_by, call_by, call_meant, element_by, element_meant, stepped_by, stepped, step_meant, Context, meant, part_meant, args_meant, parts_meant, link_meant, chain_meant, value_in_scope, AtVariable, AtField, AtPlace, AsValue, AsInput, AsFail, AsRoutine, AsMember, AsCondition, AsEvent, AsNothing, Own, Of}
+pub use Rattle.uc_tree.specs.Standings.{scalar, int_type, bool_type, converted, Standing, Meant, no_meaning, value_meant, value_by, value_of, later_or, known_named, known_meant, value_or_zero, is_here, is_named, routine_from, params_in, result_in, params_of, result_of, routine_meant_by, constant_meant_by, item_meant, NumberedField, field_named, field_length, field_type, Whose, object_of_whose, field_place, field_held, field_standing, field_by_ref, field_found, method_standing, method_by, method_meant, member_by, member_in, member_meant, meant_or, own_meant, name_meant, combined, binary_meant, variable_in, written_by, updated_by, updated, unary_meant, assign_meant, fail_name, object_member, event_from, event_place, class_or_event, place_member, field_by, field_meant, arg_meant, args_by, call_by, call_meant, element_by, element_meant, stepped_by, stepped, step_meant, Context, meant, part_meant, args_meant, parts_meant, link_meant, chain_meant, value_in_scope, AtVariable, AtField, AtPlace, AsValue, AsInput, AsFail, AsRoutine, AsMember, AsLiveMember, AsCondition, AsEvent, AsNothing, Own, Of}
 
 -- what statements stand for
 
@@ -293,6 +293,8 @@ module _ (p : whole.Program) where
     -- the guarded block is a block of its own
     stmt_meant (stmt.Try place brace body hs) s =
         OfEvents (Try place.line (Then (Block brace.line (stmts_meant body s)) Nil) (handlers_meant hs (scope_past_all body s)))
+    stmt_meant (stmt.Resume place) s = OfTasks (Resume place.line)
+    stmt_meant (stmt.Suspend place) s = OfTasks (Suspend place.line)
     -- to come
     stmt_meant _ s = Skip 0
 
@@ -384,14 +386,50 @@ module _ (p : whole.Program) where
     fields_left (f ∷ fs) number rest =
         field_left (field_class f) (length_in_class f) (field_place (class_shape p i) number Own) (fields_left fs (suc number) rest)
 
+  -- coroutines: one of the class with the place i has an execution from the start of its building to the end of its destruction, and
+  -- is live between the end of the one and the start of the other
+
+  -- the number of its main
+  abbrev pub main_at : ℕ → ℕ
+  main_at i = unwrap_or (member_from (routines_of p) 0 (number_at p i) main_name) 0
+
+  -- an event that ends a constructor unwinds what the body has started, before the fields are destroyed
+  abbrev pub set_up : Bool → ℕ → Stmts → Stmts
+  set_up false i rest = rest
+  set_up true i rest = Then (OfTasks (SetUp (main_at i))) (Built Forgets rest)
+
+  abbrev pub started_in : Bool → Stmts → Stmts
+  started_in false body = body
+  started_in true body = Built Unwinds body
+
+  abbrev pub enlivened : Bool → Stmts
+  enlivened false = Nil
+  enlivened true = Then (OfTasks Enliven) Nil
+
+  -- its destruction unwinds it first
+  abbrev pub taken_down : Bool → Stmts → Stmts
+  taken_down false body = body
+  taken_down true body = Then (OfTasks TakeDown) body
+
+  abbrev pub forgotten : Bool → Stmts → Stmts
+  forgotten false rest = rest
+  forgotten true rest = Scoped Forgets rest
+
   -- the statements of a constructor and of a destructor, with these of its body
   abbrev pub construction : Option whole.Class → ℕ → List whole.Init → Scope → Stmts → Stmts
   construction None i inits s body = body
-  construction (Some c) i inits s body = fields_built c i inits s (fields_of c.members) (leading_cells c.kind) body
+  construction (Some c) i inits s body =
+      set_up (has_execution c.kind) i (fields_built c i inits s (fields_of c.members) (leading_cells c.kind) (started_in (has_execution c.kind) body))
 
   abbrev pub destruction : Option whole.Class → ℕ → Stmts → Stmts
   destruction None i body = body
-  destruction (Some c) i body = fields_left c i (fields_of c.members) (leading_cells c.kind) body
+  destruction (Some c) i body =
+      forgotten (has_execution c.kind) (fields_left c i (fields_of c.members) (leading_cells c.kind) (taken_down (has_execution c.kind) body))
+
+  -- what follows the body of a constructor
+  abbrev pub construction_ends : Option whole.Class → Stmts
+  construction_ends None = Nil
+  construction_ends (Some c) = enlivened (has_execution c.kind)
 
   -- the class of a place
   abbrev pub class_by : Option ℕ → Option whole.Class
@@ -410,14 +448,24 @@ module _ (p : whole.Program) where
   role_purpose role.Constructor b = Builder
   role_purpose role.Destructor b = Builder
 
-  abbrev pub purpose_of : ℕ → whole.Routine → Purpose
-  purpose_of number r = if nat_eq number (main_number p) then TaskMain else role_purpose r.sig.role r.sig.ret
+  -- whether a class has coroutines
+  abbrev pub has_coroutines : Option whole.Class → Bool
+  has_coroutines None = false
+  has_coroutines (Some c) = has_execution c.kind
+
+  -- the main of a coroutine is a member of its class
+  abbrev pub is_coroutine_main : Option whole.Class → whole.Sig → Bool
+  is_coroutine_main c s = has_coroutines c && (is_plain s.role && same_name s.name main_name)
+
+  abbrev pub purpose_of : ℕ → Option whole.Class → whole.Routine → Purpose
+  purpose_of number c r =
+      if nat_eq number (main_number p) then TaskMain else if is_coroutine_main c r.sig then CoroutineMain else role_purpose r.sig.role r.sig.ret
 
   -- the body of a constructor and of a destructor is a block that is left as a whole, behind the construction of the fields and before their destruction
   abbrev pub body_by : Role → whole.Routine → Scope → Stmts
   body_by role.Plain r s = stmts_meant r.body s
   body_by role.Constructor r s =
-      construction (class_by s.class) (place_or_zero s.class) r.inits s (Then (Whole r.brace.line (stmts_meant r.body s)) Nil)
+      construction (class_by s.class) (place_or_zero s.class) r.inits s (Then (Whole r.brace.line (stmts_meant r.body s)) (construction_ends (class_by s.class)))
   body_by role.Destructor r s =
       destruction (class_by s.class) (place_or_zero s.class) (Then (Whole r.brace.line (stmts_meant r.body s)) Nil)
 
@@ -426,7 +474,7 @@ module _ (p : whole.Program) where
     line = r.brace.line;
     cells = routine_cells p r + hidden_in_all r.body;
     params = length r.sig.params;
-    purpose = purpose_of s.routine r;
+    purpose = purpose_of s.routine (class_by s.class) r;
     written = true;
     body = body_by r.sig.role r s;
   }
@@ -444,7 +492,7 @@ module _ (p : whole.Program) where
 
   abbrev pub unwritten_body : Role → ℕ → Stmts
   unwritten_body role.Plain i = Nil
-  unwritten_body role.Constructor i = construction (class_at p i) i [] nowhere Nil
+  unwritten_body role.Constructor i = construction (class_at p i) i [] nowhere (construction_ends (class_at p i))
   unwritten_body role.Destructor i = destruction (class_at p i) i Nil
 
   abbrev pub unwritten_meant : Unwritten → Routine

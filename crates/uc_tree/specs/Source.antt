@@ -115,6 +115,8 @@ mutual
     Counted : ObjectExpr
     -- a written routine of a class is called at an object: a member, a constructor or a destructor
     CallOn : ℕ → Expr → Exprs → ObjectExpr
+    -- a member is called through a path at a coroutine, which must be live
+    CallLive : ℕ → Expr → Exprs → ObjectExpr
     -- so is a constructor or a destructor that nobody wrote, which has no parameters and makes no tick
     CallUnwritten : ℕ → Expr → ObjectExpr
     -- a mutex member, by its number, enters its object first (to come)
@@ -149,10 +151,13 @@ pub data Raised : Type 0 where
   BuiltAt : ℕ → ℕ → Expr → Raised
   AgainFrom : ℕ → Raised
 
--- what cleans up an object: its destruction; of an array of so many objects, the destruction of the one that is counted
+-- what cleans up an object: its destruction; of an array of so many objects, the destruction of the one that is counted; of the
+-- coroutine that is built or destroyed, the unwinding of its execution, and that this is no more
 pub data CleanUp : Type 0 where
   Destroys : Expr → CleanUp
   DestroysAll : ℕ → Expr → CleanUp
+  Unwinds : CleanUp
+  Forgets : CleanUp
 
 mutual
   -- a statement, with its line
@@ -209,10 +214,17 @@ mutual
     NoHandlers : Handlers
     MoreHandlers : Bool → Option ℕ → ℕ → ℕ → Stmts → Handlers → Handlers
 
-  -- what coroutines and tasks do, with its line (to come)
+  -- what coroutines and tasks do, with its line
   pub data TaskStmt : Type 0 where
+    -- the coroutine whose member runs is resumed; the running execution is suspended
     Resume : ℕ → TaskStmt
     Suspend : ℕ → TaskStmt
+    -- the coroutine that is built gets an execution with the main of this number; it is live. The one that is destroyed is live no
+    -- more, and unwound. Nobody wrote these, so they have no line
+    SetUp : ℕ → TaskStmt
+    Enliven : TaskStmt
+    TakeDown : TaskStmt
+    -- to come
     Yield : ℕ → TaskStmt
     Migrate : ℕ → Expr → TaskStmt
     -- the accept statement of this number, with its clauses
@@ -224,10 +236,11 @@ mutual
     Otherwise : Stmt → Clauses
     MoreClauses : Option Expr → Stmt → Clauses → Clauses
 
--- what a routine is: the main of a task; a routine without a value, which hands over 0; a routine with a value, whose end is a
--- fault; a constructor or a destructor, of whose statements the body is a block
+-- what a routine is: the main of a task; that of a coroutine; a routine without a value, which hands over 0; a routine with a value,
+-- whose end is a fault; a constructor or a destructor, of whose statements the body is a block
 pub data Purpose : Type 0 where
   TaskMain : Purpose
+  CoroutineMain : Purpose
   Procedure : Purpose
   Function : Purpose
   Builder : Purpose

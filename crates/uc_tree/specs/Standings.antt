@@ -23,8 +23,8 @@ use Rattle.uc_tree.specs.Statements as stmt
 use Rattle.uc_tree.specs.Programs as whole
 use Rattle.uc_tree.specs.Cells.{classes_of, leading_cells, seen_in}
 use Rattle.uc_tree.specs.Numbering.{is_event, is_plain, Defined, routines_of}
-use Rattle.uc_tree.specs.Objects.{class_at, number_at, plain_class, ClassField, fields_of, shape_of, class_shape, base_shape, member_from}
-use Rattle.uc_tree.specs.Source.{Shape, Character, Truth, Operator, Plus, Minus, Times, Over, Modulo, Equal, NotEqual, Less, AtMost, Greater, AtLeast, Expr, Literal, Variable, Element, Get, Load, Negated, Not, AsCharacter, AsTruth, Operate, And, Or, Set, Assign, First, Update, StepBehind, Fail, Call, OfObject, This, OwnField, GetOwn, FieldOf, CallOn, Exprs, NoExprs, MoreExprs}
+use Rattle.uc_tree.specs.Objects.{has_execution, class_at, number_at, plain_class, ClassField, fields_of, shape_of, class_shape, base_shape, member_from}
+use Rattle.uc_tree.specs.Source.{Shape, Character, Truth, Operator, Plus, Minus, Times, Over, Modulo, Equal, NotEqual, Less, AtMost, Greater, AtLeast, Expr, Literal, Variable, Element, Get, Load, Negated, Not, AsCharacter, AsTruth, Operate, And, Or, Set, Assign, First, Update, StepBehind, Fail, Call, OfObject, This, OwnField, GetOwn, FieldOf, CallOn, CallLive, Exprs, NoExprs, MoreExprs}
 
 -- types
 
@@ -47,8 +47,8 @@ converted _ e = e
 
 -- a variable that is no reference, by its first cell; a field of the object of the running call that is none, by the shape of
 -- its class and its number; another place, a value, `cin`, the member `fail` of `cin`; a routine, a
--- member of the object at the place, a condition of that object and an event, by their numbers; or nothing, where a rule is
--- broken
+-- member of the object at the place, one of the coroutine there that a path names, a condition of that object and an event, by their
+-- numbers; or nothing, where a rule is broken
 pub data Standing : Type 0 where
   AtVariable : ℕ → Standing
   AtField : Shape → ℕ → Standing
@@ -58,6 +58,7 @@ pub data Standing : Type 0 where
   AsFail : Standing
   AsRoutine : ℕ → Standing
   AsMember : ℕ → Standing
+  AsLiveMember : ℕ → Standing
   AsCondition : ℕ → Standing
   AsEvent : ℕ → Standing
   AsNothing : Standing
@@ -85,6 +86,7 @@ value_by AsInput e = e
 value_by AsFail e = e
 value_by (AsRoutine r) e = e
 value_by (AsMember r) e = e
+value_by (AsLiveMember r) e = e
 value_by (AsCondition k) e = e
 value_by (AsEvent k) e = e
 value_by AsNothing e = e
@@ -204,17 +206,22 @@ field_by_ref true s i whose ty = record { expr = field_held s i whose; ty = ty; 
 abbrev pub field_found : whole.Program → whole.Class → ℕ → Whose → NumberedField → Meant
 field_found p c i whose f = field_by_ref f.field.declarator.by_ref (class_shape p i) f.number whose (field_type p c f.field)
 
-abbrev pub method_by : whole.Program → Whose → Option ℕ → Meant
-method_by p whose None = no_meaning
-method_by p whose (Some r) = record { expr = object_of_whose whose; ty = scalar (result_of p r); standing = AsMember r }
+-- a coroutine that a path names must be live for a member of it
+abbrev pub method_standing : Bool → Whose → ℕ → Standing
+method_standing coroutine Own r = AsMember r
+method_standing coroutine (Of object) r = if coroutine then AsLiveMember r else AsMember r
+
+abbrev pub method_by : whole.Program → Bool → Whose → Option ℕ → Meant
+method_by p coroutine whose None = no_meaning
+method_by p coroutine whose (Some r) = record { expr = object_of_whose whose; ty = scalar (result_of p r); standing = method_standing coroutine whose r }
 
 -- a member's routine stands inside or outside of its class
-abbrev pub method_meant : whole.Program → ℕ → Whose → List ℕ → Meant
-method_meant p i whose name = method_by p whose (member_from (routines_of p) 0 (number_at p i) name)
+abbrev pub method_meant : whole.Program → Bool → ℕ → Whose → List ℕ → Meant
+method_meant p coroutine i whose name = method_by p coroutine whose (member_from (routines_of p) 0 (number_at p i) name)
 
 -- an event has no members but its fields
 abbrev pub member_by : whole.Program → whole.Class → ℕ → Whose → List ℕ → Option NumberedField → Meant
-member_by p c i whose name None = if is_event c.kind then no_meaning else method_meant p i whose name
+member_by p c i whose name None = if is_event c.kind then no_meaning else method_meant p (has_execution c.kind) i whose name
 member_by p c i whose name (Some f) = field_found p c i whose f
 
 abbrev pub member_in : whole.Program → ℕ → Whose → List ℕ → Option whole.Class → Meant
@@ -347,6 +354,7 @@ abbrev pub call_by : whole.Program → Standing → Meant → List Meant → Mea
 call_by p AsFail root args = value_meant Fail bool_type
 call_by p (AsRoutine r) root args = value_meant (Call r (args_by (params_of p r) args)) root.ty
 call_by p (AsMember r) root args = value_meant (OfObject (CallOn r root.expr (args_by (params_of p r) args))) root.ty
+call_by p (AsLiveMember r) root args = value_meant (OfObject (CallLive r root.expr (args_by (params_of p r) args))) root.ty
 -- to come
 call_by p _ root args = no_meaning
 

@@ -3,7 +3,7 @@ use Rattle.uc_tree.specs.Expressions as tree
 use Rattle.std.proofs.lemmas.Bool.{and_parts}
 use Rattle.uc_tree.specs.Cells.{declared_cells, maybe_cells, stmt_cells}
 use Rattle.uc_tree.specs.Scopes.{alone_scopes, maybe_scopes, stmt_scopes}
-use Rattle.uc_tree.specs.Statements.{Break, Continue, If, OneStmt, Raise, Throw}
+use Rattle.uc_tree.specs.Statements.{Break, Continue, If, OneStmt, Raise, Resume, Suspend, Throw}
 use Rattle.uc_tree.specs.StatementSizes.{maybe_stmt_size, stmt_size}
 use Rattle.uc_tree.specs.StatementViews.{maybe_at}
 use Rattle.uc_built.specs.BuiltForms.{is_built_maybe, is_built_stmt}
@@ -13,6 +13,7 @@ use Rattle.uc_code.specs.declared.rows.Mark.{Mark}
 use Rattle.uc_code.specs.Drafts.{Draft}
 use Rattle.uc_lower_stmt.proofs.Stating.{stmt_is, arm_empty, arm_unasked, arm_evaluate, arm_declare, arm_print, arm_print_together, arm_read, arm_block, arm_if, arm_while, arm_do, arm_for_stmt, arm_break, arm_continue, arm_return, built_at, exit_few, sizes_at_item}
 use Rattle.uc_lower_stmt.proofs.Raising.{arm_resumed, arm_thrown}
+use Rattle.uc_lower_stmt.proofs.Switches.{arm_resume, arm_suspend}
 use Rattle.uc_lower_stmt.proofs.Handling.{arm_catches, arm_resumes, handler_done, listed, more_laid, none_laid}
 use Rattle.uc_lower_stmt.proofs.Fitting.{HandlersFit, behind_fits, handlers_bare, handlers_fit, parts_built, rest_bare, rest_fits_in, rest_less, try_asks, try_fits}
 use Rattle.uc_lower_stmt.proofs.Tried.{arm_tried, arm_try}
@@ -148,11 +149,23 @@ stmt::lower_stmt-returns-in-Disable t c = arm_unasked c.args.names.now c.args.s.
 pub stmt::lower_stmt-returns-in-Accept : goal.stmt::lower_stmt-returns-in-Accept
 stmt::lower_stmt-returns-in-Accept t c = arm_unasked c.args.names.now c.args.s.now _ _ (stmt_is _ _ _ _ c.in-Accept.is c.s.view_is) c.requires.built refl
 
-pub stmt::lower_stmt-returns-in-Resume : goal.stmt::lower_stmt-returns-in-Resume
-stmt::lower_stmt-returns-in-Resume t c = arm_unasked c.args.names.now c.args.s.now _ _ (stmt_is _ _ _ _ c.in-Resume.is c.s.view_is) c.requires.built refl
+pub stmt::lower_stmt-put_switch-requires : goal.stmt::lower_stmt-put_switch-requires
+stmt::lower_stmt-put_switch-requires t c =
+    let is : Resume c.s.inside.pos ≡ c.args.s.now = stmt_is _ _ _ _ c.in-Resume.is c.s.view_is in
+    let size = ap (λ s. size_at s (objects_in c.args.out.now.marks)) is in
+    omega (arith, size, c.requires.room)
 
-pub stmt::lower_stmt-returns-in-Suspend : goal.stmt::lower_stmt-returns-in-Suspend
-stmt::lower_stmt-returns-in-Suspend t c = arm_unasked c.args.names.now c.args.s.now _ _ (stmt_is _ _ _ _ c.in-Suspend.is c.s.view_is) c.requires.built refl
+pub stmt::lower_stmt-returns-in_ok-put_switch-in-Resume : goal.stmt::lower_stmt-returns-in_ok-put_switch-in-Resume
+stmt::lower_stmt-returns-in_ok-put_switch-in-Resume t c = arm_resume c.args.names.now c.args.s.now c.s.inside.pos _ _ (stmt_is _ _ _ _ c.in-Resume.is c.s.view_is) c.in_ok-put_switch-in-Resume.ensures
+
+pub stmt::lower_stmt-put_switch-requires-in-Suspend : goal.stmt::lower_stmt-put_switch-requires-in-Suspend
+stmt::lower_stmt-put_switch-requires-in-Suspend t c =
+    let is : Suspend c.s.inside.pos ≡ c.args.s.now = stmt_is _ _ _ _ c.in-Suspend.is c.s.view_is in
+    let size = ap (λ s. size_at s (objects_in c.args.out.now.marks)) is in
+    omega (arith, size, c.requires.room)
+
+pub stmt::lower_stmt-returns-in_ok-put_switch-in-Suspend : goal.stmt::lower_stmt-returns-in_ok-put_switch-in-Suspend
+stmt::lower_stmt-returns-in_ok-put_switch-in-Suspend t c = arm_suspend c.args.names.now c.args.s.now c.s.inside.pos _ _ (stmt_is _ _ _ _ c.in-Suspend.is c.s.view_is) c.in_ok-put_switch-in-Suspend.ensures
 
 pub stmt::lower_stmt-returns-in-Yield : goal.stmt::lower_stmt-returns-in-Yield
 stmt::lower_stmt-returns-in-Yield t c = arm_unasked c.args.names.now c.args.s.now _ _ (stmt_is _ _ _ _ c.in-Yield.is c.s.view_is) c.requires.built refl

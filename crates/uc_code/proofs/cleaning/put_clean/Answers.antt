@@ -1,12 +1,15 @@
-use Rattle.std.proofs.Common.{Option, sym, subst, arith}
-use Rattle.uc_code.specs.declared.rows.Array.{Array}
-use Rattle.uc_code.specs.Lowered.{CleanBy}
-use Rattle.uc_code.specs.Puts.{Puts}
-use Rattle.uc_code.proofs.Putting.{puts_more}
+use Rattle.std.proofs.Common.{arith}
+use Rattle.uc_code.proofs.Putting.{puts_clean, calls_behind}
 use Rattle.uc_code.proofs.cleaning.put_clean.Goals as goal
 
-pub returns-in_ok-put_sweep-in-Some : goal.returns-in_ok-put_sweep-in-Some
-returns-in_ok-put_sweep-in-Some c = subst (λ (a : Option Array). Puts 17 (λ code. CleanBy code c.args.line a c.args.what c.args.out.now.marks) c.args.out.now c.put_sweep.new.out) (sym c.in-Some.is) c.in_ok-put_sweep-in-Some.ensures
+pub put_destroyed-requires-clause-behind : goal.put_destroyed-requires-clause-behind
+put_destroyed-requires-clause-behind c = calls_behind c.args.out.now.marks c.args.what c.in-Call.call c.in-Call.is c.requires.behind
 
-pub returns-in_ok-put_done-in-None : goal.returns-in_ok-put_done-in-None
-returns-in_ok-put_done-in-None c = subst (λ (a : Option Array). Puts 17 (λ code. CleanBy code c.args.line a c.args.what c.args.out.now.marks) c.args.out.now c.put_done.new.out) (sym c.in-None.is) (puts_more (omega arith) c.in_ok-put_done-in-None.ensures)
+pub returns-in_ok-put_destroyed-in-Call : goal.returns-in_ok-put_destroyed-in-Call
+returns-in_ok-put_destroyed-in-Call c = puts_clean c.args.line c.args.what _ c.args.out.now c.put_destroyed.new.out c.in-Call.is (omega arith) c.in_ok-put_destroyed-in-Call.ensures
+
+pub returns-in_ok-put-in-TakeDown : goal.returns-in_ok-put-in-TakeDown
+returns-in_ok-put-in-TakeDown c = puts_clean c.args.line c.args.what _ c.args.out.now c.put.new.out c.in-TakeDown.is (omega arith) c.in_ok-put-in-TakeDown.ensures
+
+pub returns-in_ok-put-in-Forget : goal.returns-in_ok-put-in-Forget
+returns-in_ok-put-in-Forget c = puts_clean c.args.line c.args.what _ c.args.out.now c.put-in-Forget.new.out c.in-Forget.is (omega arith) c.in_ok-put-in-Forget.ensures

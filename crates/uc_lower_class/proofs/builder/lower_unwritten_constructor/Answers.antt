@@ -1,9 +1,17 @@
-use Rattle.std.proofs.Common.{refl}
+use Rattle.std.proofs.Common.{[], ap, arith}
+use Rattle.uc_code.specs.Drafts.{Draft}
 use Rattle.uc_lower_class.proofs.Assembling.{from_none, parts_on, unwritten_built}
 use Rattle.uc_lower_class.proofs.builder.lower_unwritten_constructor.Goals as goal
 
 pub returns : goal.returns
-returns c = unwritten_built c.args.names.now c.args.class c.build_all.new.parts.items c.args.out.now c.build_all.new.out c.close_parts.new.out c.requires.nowhere (from_none c.new-parts.ensures.items c.in_ok-build_all.ensures) c.in_ok-close_parts.ensures
+returns c = unwritten_built c.args.names.now c.args.class c.build_all.new.parts.items c.args.out.now c.build_all.new.out c.end_construction.new.out c.close_parts.new.out c.requires.nowhere (from_none c.new-parts.ensures.items c.in_ok-build_all.ensures) c.in_ok-end_construction.ensures c.in_ok-close_parts.ensures
 
 pub close_parts-requires-clause-parts : goal.close_parts-requires-clause-parts
-close_parts-requires-clause-parts c = parts_on c.build_all.new.parts.items c.args.out.now c.build_all.new.out c.build_all.new.out (from_none c.new-parts.ensures.items c.in_ok-build_all.ensures) refl
+close_parts-requires-clause-parts c = parts_on c.build_all.new.parts.items c.args.out.now c.build_all.new.out c.end_construction.new.out (from_none c.new-parts.ensures.items c.in_ok-build_all.ensures) (ap (λ (d : Draft). d.marks) (c.in_ok-end_construction.ensures []).rest)
+
+pub close_parts-requires-clause-room : goal.close_parts-requires-clause-room
+close_parts-requires-clause-room c =
+    let first = (from_none c.new-parts.ensures.items c.in_ok-build_all.ensures).room in
+    let live = (c.in_ok-end_construction.ensures []).room in
+    let room = c.requires.room in
+    omega (arith, first, live, room)

@@ -1,5 +1,7 @@
-use Rattle.std.proofs.Common.{rules, ◌≡◌, [], reverse, ap, subst, arith}
-use Rattle.uc_lower_class.specs.Pended.{PartsIn}
+use Rattle.std.proofs.Common.{rules, ◌≡◌, ◌+◌, [], reverse, ap, subst, arith}
+use Rattle.uc_code.specs.Puts.{clean_length}
+use Rattle.uc_lower_class.specs.Pended.{PartsIn, end_room}
+use Rattle.uc_lower_class.proofs.Assembling.{clean_some}
 use Rattle.uc_lower_class.proofs.Parting.{Ending, end_reverse, ending_begin, ending_end, ending_step, in_part, part_behind, reverse_pop}
 use Rattle.uc_lower_class.proofs.parts.close_parts.Goals as goal
 
@@ -18,10 +20,13 @@ close_part-requires-clause-behind c =
 
 pub close_part-requires-clause-room : goal.close_part-requires-clause-room
 close_part-requires-clause-room c =
+    let e = reverse_pop c.loop-what.parts.items c.pop.new.self.items c.in-Some.what c.in-Some.ensures.items in
+    let all : end_room (reverse c.loop-what.parts.items) ≡ clean_length c.in-Some.what + 2 + end_room (reverse c.pop.new.self.items) = ap end_room e in
+    let some = clean_some c.in-Some.what in
     let room = c.loop-what.invariant.room in
     let same = end_reverse c.args.parts.now.items in
     let most = c.requires.room in
-    omega (arith, room, same, most)
+    omega (arith, room, same, most, all, some)
 
 pub loop-what-preserved : goal.loop-what-preserved
 loop-what-preserved c =

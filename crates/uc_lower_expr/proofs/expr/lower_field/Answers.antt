@@ -28,5 +28,8 @@ returns-in-Routine c = no_part c.put_nothing-in-Routine.result c.args.names.now 
 pub returns-in-Member : goal.returns-in-Member
 returns-in-Member c = no_part c.put_nothing-in-Member.result c.args.names.now c.args.out.now.marks c.args.line c.args.start c.args.name.now (standing.Member c.in-Member.field-0) c.args.told _ _ c.requires.inside c.in-Member.is (λ o m h. ap (λ (s : Standing). field_by c.args.names.now s m c.args.name.now) h) c.put_nothing-in-Member.ensures.code c.put_nothing-in-Member.ensures.tells
 
+pub returns-in-LiveMember : goal.returns-in-LiveMember
+returns-in-LiveMember c = no_part c.put_nothing-in-LiveMember.result c.args.names.now c.args.out.now.marks c.args.line c.args.start c.args.name.now (standing.LiveMember c.in-LiveMember.field-0) c.args.told _ _ c.requires.inside c.in-LiveMember.is (λ o m h. ap (λ (s : Standing). field_by c.args.names.now s m c.args.name.now) h) c.put_nothing-in-LiveMember.ensures.code c.put_nothing-in-LiveMember.ensures.tells
+
 pub returns-in-Nothing : goal.returns-in-Nothing
 returns-in-Nothing c = no_part c.put_nothing-in-Nothing.result c.args.names.now c.args.out.now.marks c.args.line c.args.start c.args.name.now standing.Nothing c.args.told _ _ c.requires.inside c.in-Nothing.is (λ o m h. ap (λ (s : Standing). field_by c.args.names.now s m c.args.name.now) h) c.put_nothing-in-Nothing.ensures.code c.put_nothing-in-Nothing.ensures.tells

@@ -28,5 +28,8 @@ returns-in-Routine-clause-code c = λ p. load_none c.args.out.now.marks c.args.l
 pub returns-in-Member-clause-code : goal.returns-in-Member-clause-code
 returns-in-Member-clause-code c = λ p. load_none c.args.out.now.marks c.args.line c.args.start (standing.Member c.in-Member.field-0) c.args.told _ _ c.requires.inside c.in-Member.is (λ o e h. ap (λ (s : Standing). value_by s e) h) c.standing_as-in-Member.ensures
 
+pub returns-in-LiveMember-clause-code : goal.returns-in-LiveMember-clause-code
+returns-in-LiveMember-clause-code c = λ p. load_none c.args.out.now.marks c.args.line c.args.start (standing.LiveMember c.in-LiveMember.field-0) c.args.told _ _ c.requires.inside c.in-LiveMember.is (λ o e h. ap (λ (s : Standing). value_by s e) h) c.standing_as-in-LiveMember.ensures
+
 pub returns-in-Nothing-clause-code : goal.returns-in-Nothing-clause-code
 returns-in-Nothing-clause-code c = λ p. load_none c.args.out.now.marks c.args.line c.args.start standing.Nothing c.args.told _ _ c.requires.inside c.in-Nothing.is (λ o e h. ap (λ (s : Standing). value_by s e) h) c.standing_as-in-Nothing.ensures

@@ -1,12 +1,14 @@
-use Rattle.std.proofs.Common.{◌≡◌, length, ap, ◌∙◌, arith}
+use Rattle.std.proofs.Common.{◌≡◌, length, ap, subst, ◌∙◌, arith}
 use Rattle.uc_tree.specs.Statements.{stmts_of}
 use Rattle.uc_tree.specs.Cells.{declared_cells, stmts_cells}
 use Rattle.uc_tree.specs.Scopes.{stmts_scopes}
 use Rattle.uc_tree.specs.StatementSizes.{stmts_size}
 use Rattle.uc_built.specs.BuiltForms.{are_built}
+use Rattle.uc_code.specs.declared.op.Op.{Op}
 use Rattle.uc_code.specs.Drafts.{Draft}
 use Rattle.uc_code.specs.Laid.{routine_in}
 use Rattle.uc_code.proofs.Sweeping.{closed_ops}
+use Rattle.uc_lower_expr.specs.Added.{Adds, OpCode}
 use Rattle.uc_lower_stmt.specs.Marked.{objects_in}
 use Rattle.uc_lower_stmt.specs.Scoped.{sizes_at}
 use Rattle.uc_lower_stmt.proofs.Routines.{main_lowered}
@@ -69,5 +71,6 @@ put-requires-2 c =
 
 pub returns : goal.returns
 returns c =
-    main_lowered c.args.names.now c.args.routine.now c.args.last c.line_of-line.result (stmts_of c.body_of.result.now) c.args.out.now c.open.new.self c.lower_stmts.new.out c.close.new.self c.put.new.out c.put-2.new.out
-    c.requires.outside c.line_of-line.ensures c.body_of.ensures c.in_ok-_row.ensures.ok c.in_ok-_row.ensures.kept c.in_ok-lower_stmts.ensures c.close.ensures.closed c.close.ensures.kept c.close.ensures.handler c.in_ok-put.ensures c.in_ok-put-2.ensures
+    main_lowered c.args.names.now c.args.routine.now c.args.main c.args.last c.line_of-line.result (stmts_of c.body_of.result.now) c.args.out.now c.open.new.self c.lower_stmts.new.out c.close.new.self c.put.new.out c.put-2.new.out
+    c.requires.outside c.line_of-line.ensures c.body_of.ensures c.in_ok-_row.ensures.ok c.in_ok-_row.ensures.kept c.in_ok-lower_stmts.ensures c.close.ensures.closed c.close.ensures.kept c.close.ensures.handler
+    (subst (λ (o : Op). Adds 1 (OpCode c.line_of-line.result o) c.close.new.self c.put.new.out) c.end.ensures c.in_ok-put.ensures) (subst (λ (o : Op). Adds 1 (OpCode c.line_of-line.result o) c.put.new.out c.put-2.new.out) c.left.ensures c.in_ok-put-2.ensures)

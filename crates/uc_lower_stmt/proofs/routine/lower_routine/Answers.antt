@@ -1,12 +1,19 @@
-use Rattle.std.proofs.Common.{◌≡◌, length, ap, ◌∙◌, arith}
+use Rattle.std.proofs.Common.{◌≡◌, ℕ, Option, length, ap, sym, ◌∙◌, arith}
 use Rattle.uc_tree.specs.Capped.{capped}
 use Rattle.uc_tree.specs.Cells.{routine_cells}
 use Rattle.uc_tree.specs.Programs.{Program, Sig}
+use Rattle.uc_tree.specs.Resolve.{class_by}
 use Rattle.uc_code.specs.Drafts.{Draft}
+use Rattle.uc_lower_stmt.specs.Routines.{main_in}
 use Rattle.uc_lower_stmt.proofs.Declaring.{uncapped}
 use Rattle.uc_lower_stmt.proofs.Opened.{stmts_few}
 use Rattle.uc_lower_stmt.proofs.Routines.{arm_routine, begun_is, plain_role}
 use Rattle.uc_lower_stmt.proofs.routine.lower_routine.Goals as goal
+
+pub lower_statements-requires-clause-main : goal.lower_statements-requires-clause-main
+lower_statements-requires-clause-main c =
+    let e : c.declare_params.new.out.place.class ≡ c.args.class = ap (λ (d : Draft). d.place.class) c.in_ok-declare_params.ensures ∙ ap (λ (d : Draft). d.place.class) c.begin_routine.ensures in
+    c.requires.main ∙ ap (λ (o : Option ℕ). main_in c.args.names.now c.args.number (class_by c.args.names.now o) c.args.routine.now.sig) (sym e)
 
 pub lower_statements-requires-clause-scopes : goal.lower_statements-requires-clause-scopes
 lower_statements-requires-clause-scopes c =

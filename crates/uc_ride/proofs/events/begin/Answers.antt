@@ -1,10 +1,9 @@
 use Rattle.std.proofs.Common.{◌≡◌, ◌+◌, true, false, Some, sym, ap, subst, ◌∙◌}
 use Rattle.std.specs.Prelude.{slice_get}
-use Rattle.uc_code.specs.declared.op.Op.TheVariants as op
 use Rattle.uc_code.specs.Laid.{laid_of}
 use Rattle.uc_coroutine.specs.Ends.{BlockLeft, block_over}
-use Rattle.uc_ride.proofs.Leading.{at_block, at_main, cleans_by, cleans_no, tests}
-use Rattle.uc_ride.proofs.Falling.{entered_goes, over_goes, on_falls}
+use Rattle.uc_ride.proofs.Leading.{at_block, at_main, at_coroutine, cleans_by, cleans_no, tests}
+use Rattle.uc_ride.proofs.Lowering.{entered_falls, over_falls, tested_falls}
 use Rattle.uc_ride.proofs.events.begin.Goals as goal
 
 pub returns-in-None-clause-source : goal.returns-in-None-clause-source
@@ -12,7 +11,7 @@ returns-in-None-clause-source c =
     λ source s low b. cleans_no source c.args.code.now low c.args.work.now c.args.work.now s (sym (ap (slice_get c.args.code.now.ops) c.next-next.ensures) ∙ (sym c.op_at.ensures.op ∙ c.in-None.is)) b
 
 pub returns-in-None-clause-falls : goal.returns-in-None-clause-falls
-returns-in-None-clause-falls c = λ w left g. entered_goes c.args.code.now w left c.args.work.now g
+returns-in-None-clause-falls c = λ w left g. entered_falls c.args.code.now w left c.args.work.now g
 
 pub returns-in-Nothing-clause-source : goal.returns-in-Nothing-clause-source
 returns-in-Nothing-clause-source c =
@@ -22,7 +21,7 @@ returns-in-Nothing-clause-source c =
     λ source s low b. cleans_by source code low c.args.work.now c.args.work.now s i is (sym c.test_of.ensures ∙ c.in-Nothing.is) b
 
 pub returns-in-Nothing-clause-falls : goal.returns-in-Nothing-clause-falls
-returns-in-Nothing-clause-falls c = λ w left g. entered_goes c.args.code.now w left c.args.work.now g
+returns-in-Nothing-clause-falls c = λ w left g. entered_falls c.args.code.now w left c.args.work.now g
 
 pub returns-then-end_block-clause-source : goal.returns-then-end_block-clause-source
 returns-then-end_block-clause-source c =
@@ -44,7 +43,7 @@ returns-then-end_block-clause-falls c =
     let is : slice_get code.ops m.run.control ≡ Some i = sym (ap (slice_get code.ops) c.next-next.ensures) ∙ (sym c.op_at.ensures.op ∙ c.in-Some.is) in
     let here = at_block i (slice_get code.ops m.run.control) is (sym c.test_of.ensures ∙ c.in-Block.is) in
     let over : n ≡ block_over true (m.run.control + 1) m = c.end_block.ensures.now ∙ (ap (λ x. block_over x (c.next-next.result + 1) m) c.if-end_block.true ∙ ap (λ k. block_over true (k + 1) m) c.next-next.ensures) in
-    λ w left g. over_goes code w c.requires.paced left m n g i.line here over
+    λ w left g. over_falls code w c.requires.paced left m n g i.line here over
 
 pub returns-else-end_block-clause-source : goal.returns-else-end_block-clause-source
 returns-else-end_block-clause-source c =
@@ -66,7 +65,7 @@ returns-else-end_block-clause-falls c =
     let is : slice_get code.ops m.run.control ≡ Some i = sym (ap (slice_get code.ops) c.next-next.ensures) ∙ (sym c.op_at.ensures.op ∙ c.in-Some.is) in
     let here = at_block i (slice_get code.ops m.run.control) is (sym c.test_of.ensures ∙ c.in-Block.is) in
     let on : n ≡ block_over false (m.run.control + 1) m = c.end_block.ensures.now ∙ (ap (λ x. block_over x (c.next-next.result + 1) m) c.if-end_block.false ∙ ap (λ k. block_over false (k + 1) m) c.next-next.ensures) in
-    λ w left g. on_falls code w c.requires.paced left m n g i.line here on
+    λ w left g. tested_falls code w c.requires.paced left m n g i.line here on
 
 pub end_on-requires : goal.end_on-requires
 end_on-requires c =
@@ -75,3 +74,11 @@ end_on-requires c =
     let i = c.in-Some.instruction in
     let is : slice_get code.ops m.run.control ≡ Some i = sym (ap (slice_get code.ops) c.next-next.ensures) ∙ (sym c.op_at.ensures.op ∙ c.in-Some.is) in
     at_main i (slice_get code.ops m.run.control) is (sym c.test_of.ensures ∙ c.in-Main.is)
+
+pub leave_coroutine-after-requires : goal.leave_coroutine-after-requires
+leave_coroutine-after-requires c =
+    let code = c.args.code.now in
+    let m = c.args.work.now in
+    let i = c.in-Some.instruction in
+    let is : slice_get code.ops m.run.control ≡ Some i = sym (ap (slice_get code.ops) c.next-next.ensures) ∙ (sym c.op_at.ensures.op ∙ c.in-Some.is) in
+    at_coroutine i (slice_get code.ops m.run.control) is (sym c.test_of.ensures ∙ c.in-Coroutine.is)

@@ -8,7 +8,8 @@ use Rattle.uc_coroutine.specs.Ends.{MainLeft, main_over}
 use Rattle.uc_step.specs.declared.stepped.Stepped.TheVariants.{Ask}
 use Rattle.uc_step.specs.Follow.{Follow}
 use Rattle.uc_ride.proofs.Leading.{asked_now, ends}
-use Rattle.uc_ride.proofs.Falling.{main_goes}
+use Rattle.uc_ride.specs.Led.{Entered}
+use Rattle.uc_ride.proofs.Lowering.{end_falls, fault_falls, main_falls}
 use Rattle.uc_ride.proofs.events.end_on.Goals as goal
 
 pub returns-in-Ended-clause-source : goal.returns-in-Ended-clause-source
@@ -34,7 +35,7 @@ returns-in-Returned-clause-falls c =
     let code = c.args.code.now in
     let m = c.args.work.now in
     let n = c.end_main.new.work in
-    λ w left g. main_goes code w left m n (sym c.in-Returned.is ∙ c.in_ok-end.ensures.how) (c.in_ok-end.ensures.now ∙ ap (λ e. main_over e m) c.in-Returned.is) g
+    λ w left g. main_falls code w left m n (sym c.in-Returned.is ∙ c.in_ok-end.ensures.how) (c.in_ok-end.ensures.now ∙ ap (λ e. main_over e m) c.in-Returned.is) g
 
 pub returns-in-Unhandled-clause-source : goal.returns-in-Unhandled-clause-source
 returns-in-Unhandled-clause-source c =
@@ -45,3 +46,19 @@ returns-in-Unhandled-clause-source c =
     λ source s low b.
     let f = ends source code low m n s c.args.line c.requires end.Unhandled (λ t h. subst (λ e. MainLeft source (laid_of code) e n t) c.in-Unhandled.is (c.in_ok-end.ensures.source source (laid_of code) t h)) b in
     subst (λ a. Follow (laid_of code) source (Ask a) n s) (asked_now code (ask.Fault (fault_number Unhandled)) c.args.line m n c.faults-unhandled.result same c.faults-unhandled.ensures) f
+
+pub returns-in-Ended-clause-falls : goal.returns-in-Ended-clause-falls
+returns-in-Ended-clause-falls c =
+    let code = c.args.code.now in
+    let m = c.args.work.now in
+    let n = c.end_main.new.work in
+    let same : n ≡ m = c.in_ok-end.ensures.now ∙ ap (λ e. main_over e m) c.in-Ended.is in
+    λ w left g. end_falls code w (λ v x. Entered code v left x) m n c.asks.result _ c.asks.ensures same g
+
+pub returns-in-Unhandled-clause-falls : goal.returns-in-Unhandled-clause-falls
+returns-in-Unhandled-clause-falls c =
+    let code = c.args.code.now in
+    let m = c.args.work.now in
+    let n = c.end_main.new.work in
+    let same : n ≡ m = c.in_ok-end.ensures.now ∙ ap (λ e. main_over e m) c.in-Unhandled.is in
+    λ w left g. fault_falls code w (λ v x. Entered code v left x) m n c.faults-unhandled.result (fault_number Unhandled) _ c.faults-unhandled.ensures same g

@@ -6,10 +6,11 @@ use Rattle.uc_meaning.specs.Faults.{fault_number}
 use Rattle.uc_coroutine.specs.declared.leaving.Left.TheVariants as left
 use Rattle.uc_coroutine.specs.Outcomes.{LeftAs}
 use Rattle.uc_coroutine.specs.Unwinding.{left_as}
-use Rattle.uc_step.specs.declared.stepped.Stepped.TheVariants.{Ask}
+use Rattle.uc_step.specs.declared.stepped.Stepped.TheVariants.{Ask, Unwind}
+use Rattle.uc_step.specs.Falls.{RunFalls}
 use Rattle.uc_step.specs.Follow.{Follow}
 use Rattle.uc_ride.proofs.Leading.{asked_now, leaves}
-use Rattle.uc_ride.proofs.Falling.{leave_returns, leave_passes}
+use Rattle.uc_ride.proofs.Lowering.{end_falls, fault_falls, returned_falls, passed_on_falls}
 use Rattle.uc_ride.proofs.events.leave_on.Goals as goal
 
 pub returns-in-Ended-clause-source : goal.returns-in-Ended-clause-source
@@ -34,7 +35,7 @@ returns-in-Returned-clause-falls c =
     let code = c.args.code.now in
     let m = c.args.work.now in
     let n = c.leave.new.work in
-    λ w u. leave_returns code w m n (sym c.in-Returned.is ∙ c.in_ok-left.ensures.how) (c.in_ok-left.ensures.ok ∙ ap (λ x. left_as x m) c.in-Returned.is) u
+    λ w u. returned_falls code w m n (sym c.in-Returned.is ∙ c.in_ok-left.ensures.how) (c.in_ok-left.ensures.ok ∙ ap (λ x. left_as x m) c.in-Returned.is) u
 
 pub returns-in-Escaped-clause-source : goal.returns-in-Escaped-clause-source
 returns-in-Escaped-clause-source c =
@@ -58,4 +59,20 @@ returns-in-PassedOn-clause-falls c =
     let code = c.args.code.now in
     let m = c.args.work.now in
     let n = c.leave.new.work in
-    λ w u. leave_passes code w m n (sym c.in-PassedOn.is ∙ c.in_ok-left.ensures.how) (c.in_ok-left.ensures.ok ∙ ap (λ x. left_as x m) c.in-PassedOn.is) u
+    λ w u. passed_on_falls code w m n (sym c.in-PassedOn.is ∙ c.in_ok-left.ensures.how) (c.in_ok-left.ensures.ok ∙ ap (λ x. left_as x m) c.in-PassedOn.is) u
+
+pub returns-in-Ended-clause-falls : goal.returns-in-Ended-clause-falls
+returns-in-Ended-clause-falls c =
+    let code = c.args.code.now in
+    let m = c.args.work.now in
+    let n = c.leave.new.work in
+    let same : n ≡ m = c.in_ok-left.ensures.ok ∙ ap (λ x. left_as x m) c.in-Ended.is in
+    λ w u. end_falls code w (RunFalls code Unwind) m n c.asks.result _ c.asks.ensures same u
+
+pub returns-in-Escaped-clause-falls : goal.returns-in-Escaped-clause-falls
+returns-in-Escaped-clause-falls c =
+    let code = c.args.code.now in
+    let m = c.args.work.now in
+    let n = c.leave.new.work in
+    let same : n ≡ m = c.in_ok-left.ensures.ok ∙ ap (λ x. left_as x m) c.in-Escaped.is in
+    λ w u. fault_falls code w (RunFalls code Unwind) m n c.faults-escape.result (fault_number EscapeInUnwind) _ c.faults-escape.ensures same u

@@ -8,7 +8,7 @@ use Rattle.uc_except.proofs.Taken.{taken}
 use Rattle.uc_except.proofs.Thrown.{thrown_as}
 use Rattle.uc_ride.specs.Led.{how_ended}
 use Rattle.uc_ride.proofs.Leading.{Unwinding, fields_as, leads_on, raise_leads, handle_leads}
-use Rattle.uc_ride.proofs.Falling.{thrown_goes, found_goes}
+use Rattle.uc_ride.proofs.Lowering.{raised_falls, found_falls}
 use Rattle.uc_ride.proofs.events.raise.Goals as goal
 
 pub unwinds-requires-clause-below : goal.unwinds-requires-clause-below
@@ -19,7 +19,7 @@ unwinds-requires-clause-below c =
     let y : to_z w64 (of_z w64 c.args.event.y) ≡ c.args.event.y = search rules in
     let e = c.args.event in
     let thrown = thrown_as c.args.work.now c.throw.new.work e.number e.x e.y _ _ c.throw.ensures.now x y in
-    (w, thrown_goes code w (reason.Event e.number e.x e.y) c.args.work.now c.throw.new.work thrown c.requires.below.1.thrown)
+    (w, raised_falls code w e (reason.Event e.number e.x e.y) c.args.work.now c.throw.new.work thrown c.requires.below.1)
 
 pub returns-in_ok-end-in-None-clause-source : goal.returns-in_ok-end-in-None-clause-source
 returns-in_ok-end-in-None-clause-source c =
@@ -40,7 +40,7 @@ returns-in_ok-end-in-None-clause-falls c =
     let y : to_z w64 (of_z w64 c.args.event.y) ≡ c.args.event.y = search rules in
     let e = c.args.event in
     let thrown = thrown_as c.args.work.now c.throw.new.work e.number e.x e.y _ _ c.throw.ensures.now x y in
-    λ w f. c.in_ok-end-in-None.ensures.falls w (thrown_goes code w (reason.Event e.number e.x e.y) c.args.work.now c.throw.new.work thrown f.thrown)
+    λ w f. c.in_ok-end-in-None.ensures.falls w (raised_falls code w e (reason.Event e.number e.x e.y) c.args.work.now c.throw.new.work thrown f)
 
 pub returns-in_ok-handle-in-Handler-clause-source : goal.returns-in_ok-handle-in-Handler-clause-source
 returns-in_ok-handle-in-Handler-clause-source c =
@@ -60,4 +60,4 @@ returns-in_ok-handle-in-Handler-clause-falls c =
     let e = c.args.event in
     let b = begun_as code.rows c.propagate-found.result m c.handle.new.work e.number e.x e.y _ _ c.in_ok-handle-in-Handler.ensures.ok x y in
     let q = taken code.rows None e.number c.in-Handler.frame c.in-Handler.row (m.run ∷ m.callers) (sym c.propagate-found.ensures.rows ∙ c.in-Handler.is) in
-    λ w f. found_goes code w e.number c.in-Handler.frame c.in-Handler.row e m c.handle.new.work f q (b ∙ ap (λ x. handler_begun code.rows x e m) c.in-Handler.is)
+    λ w f. found_falls code w e.number c.in-Handler.frame c.in-Handler.row e m c.handle.new.work q (b ∙ ap (λ x. handler_begun code.rows x e m) c.in-Handler.is) f

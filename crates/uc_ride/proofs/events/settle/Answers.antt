@@ -6,8 +6,8 @@ use Rattle.uc_except.proofs.Thrown.{thrown_as}
 use Rattle.uc_step.specs.Falls.{FallsBelow}
 use Rattle.uc_step.specs.Follow.{Follow}
 use Rattle.uc_ride.specs.Led.{how_ended}
-use Rattle.uc_ride.proofs.Leading.{Unwinding, fields_as, leads_on, throw_leads, past_leads, past_made}
-use Rattle.uc_ride.proofs.Falling.{thrown_goes, past_goes}
+use Rattle.uc_ride.proofs.Leading.{Unwinding, fields_as, leads_on, throw_leads, past_leads, past_made, switch_leads}
+use Rattle.uc_ride.proofs.Lowering.{thrown_falls, past_falls, taken_falls}
 use Rattle.uc_ride.proofs.events.settle.Goals as goal
 
 pub returns-in_ok-end-in-Throw-clause-source : goal.returns-in_ok-end-in-Throw-clause-source
@@ -29,7 +29,7 @@ returns-in_ok-end-in-Throw-clause-falls c =
     let y : to_z w64 (of_z w64 e.y) ≡ e.y = search rules in
     let thrown = thrown_as c.args.work.now c.throw.new.work e.number e.x e.y _ _ c.throw.ensures.now x y in
     λ w f.
-    let u = thrown_goes code w (reason.Event e.number e.x e.y) c.args.work.now c.throw.new.work thrown (subst (λ h. FallsBelow code w h c.args.work.now) c.in-Throw.is f) in
+    let u = thrown_falls code w e (reason.Event e.number e.x e.y) c.args.work.now c.throw.new.work thrown (subst (λ h. FallsBelow code w h c.args.work.now) c.in-Throw.is f) in
     subst (λ h. FallsBelow code w h c.unwinds.new.work) (sym c.settled_by.ensures) (c.in_ok-end-in-Throw.ensures.falls w u)
 
 pub raise-requires-clause-below : goal.raise-requires-clause-below
@@ -67,7 +67,7 @@ pub unwinds-requires-then-return_past-clause-below : goal.unwinds-requires-then-
 unwinds-requires-then-return_past-clause-below c =
     let code = c.args.code.now in
     let w = c.requires.below.0 in
-    (w, past_goes code w c.in-Past.given c.args.work.now c.return_past.new.work c.return_past.result c.if-return_past.true c.return_past.ensures.now (subst (λ h. FallsBelow code w h c.args.work.now) c.in-Past.is c.requires.below.1))
+    (w, past_falls code w c.in-Past.given c.args.work.now c.return_past.new.work c.return_past.result c.if-return_past.true c.return_past.ensures.now (subst (λ h. FallsBelow code w h c.args.work.now) c.in-Past.is c.requires.below.1))
 
 pub returns-in_ok-end-in-Past-clause-source : goal.returns-in_ok-end-in-Past-clause-source
 returns-in_ok-end-in-Past-clause-source c =
@@ -81,7 +81,7 @@ pub returns-in_ok-end-in-Past-clause-falls : goal.returns-in_ok-end-in-Past-clau
 returns-in_ok-end-in-Past-clause-falls c =
     let code = c.args.code.now in
     λ w f.
-    let u = past_goes code w c.in-Past.given c.args.work.now c.return_past.new.work c.return_past.result c.if-return_past.true c.return_past.ensures.now (subst (λ h. FallsBelow code w h c.args.work.now) c.in-Past.is f) in
+    let u = past_falls code w c.in-Past.given c.args.work.now c.return_past.new.work c.return_past.result c.if-return_past.true c.return_past.ensures.now (subst (λ h. FallsBelow code w h c.args.work.now) c.in-Past.is f) in
     subst (λ h. FallsBelow code w h c.unwinds-then-return_past.new.work) (sym c.settled_by-then-return_past.ensures) (c.in_ok-end-in-Past.ensures.falls w u)
 
 pub returns-else-return_past-clause-source : goal.returns-else-return_past-clause-source
@@ -89,9 +89,57 @@ returns-else-return_past-clause-source c =
     let code = c.args.code.now in
     let w = c.requires.below.0 in
     λ source s low f.
-    absurd (past_made source (laid_of code) c.args.work.now c.return_past.new.work c.in-Past.given s c.return_past.result c.if-return_past.false c.return_past.ensures.now (subst (λ h. FallsBelow code w h c.args.work.now) c.in-Past.is c.requires.below.1).1 (subst (λ h. Follow (laid_of code) source h c.args.work.now s) c.in-Past.is f))
+    absurd (past_made source (laid_of code) c.args.work.now c.return_past.new.work c.in-Past.given s c.return_past.result c.if-return_past.false c.return_past.ensures.now (subst (λ h. FallsBelow code w h c.args.work.now) c.in-Past.is c.requires.below.1).is.1 (subst (λ h. Follow (laid_of code) source h c.args.work.now s) c.in-Past.is f))
 
 pub returns-in-Astray-clause-source : goal.returns-in-Astray-clause-source
 returns-in-Astray-clause-source c =
     let code = c.args.code.now in
     λ source s low f. absurd (subst (λ h. Follow (laid_of code) source h c.args.work.now s) c.in-Astray.is f)
+
+pub returns-in-Resume-clause-source : goal.returns-in-Resume-clause-source
+returns-in-Resume-clause-source c =
+    let code = c.args.code.now in
+    λ source s low f.
+    subst (λ h. Follow (laid_of code) source h c.resumed.new.work s) (sym c.settled_by-in-Resume.ensures) (c.resumed.ensures.source source s (subst (λ h. Follow (laid_of code) source h c.args.work.now s) c.in-Resume.is f))
+
+pub returns-in-Resume-clause-falls : goal.returns-in-Resume-clause-falls
+returns-in-Resume-clause-falls c =
+    let code = c.args.code.now in
+    λ w f.
+    subst (λ h. FallsBelow code w h c.resumed.new.work) (sym c.settled_by-in-Resume.ensures) (c.resumed.ensures.falls w (subst (λ h. FallsBelow code w h c.args.work.now) c.in-Resume.is f))
+
+pub returns-in-Suspend-clause-source : goal.returns-in-Suspend-clause-source
+returns-in-Suspend-clause-source c =
+    let code = c.args.code.now in
+    λ source s low f.
+    subst (λ h. Follow (laid_of code) source h c.suspended.new.work s) (sym c.settled_by-in-Suspend.ensures) (c.suspended.ensures.source source s (subst (λ h. Follow (laid_of code) source h c.args.work.now s) c.in-Suspend.is f))
+
+pub returns-in-Suspend-clause-falls : goal.returns-in-Suspend-clause-falls
+returns-in-Suspend-clause-falls c =
+    let code = c.args.code.now in
+    λ w f.
+    subst (λ h. FallsBelow code w h c.suspended.new.work) (sym c.settled_by-in-Suspend.ensures) (c.suspended.ensures.falls w (subst (λ h. FallsBelow code w h c.args.work.now) c.in-Suspend.is f))
+
+pub returns-in-EndMain-clause-source : goal.returns-in-EndMain-clause-source
+returns-in-EndMain-clause-source c =
+    let code = c.args.code.now in
+    λ source s low f.
+    subst (λ h. Follow (laid_of code) source h c.finished.new.work s) (sym c.settled_by-in-EndMain.ensures) (c.finished.ensures.source source s (subst (λ h. Follow (laid_of code) source h c.args.work.now s) c.in-EndMain.is f))
+
+pub returns-in-EndMain-clause-falls : goal.returns-in-EndMain-clause-falls
+returns-in-EndMain-clause-falls c =
+    let code = c.args.code.now in
+    λ w f.
+    subst (λ h. FallsBelow code w h c.finished.new.work) (sym c.settled_by-in-EndMain.ensures) (c.finished.ensures.falls w (subst (λ h. FallsBelow code w h c.args.work.now) c.in-EndMain.is f))
+
+pub returns-in-TakeDown-clause-source : goal.returns-in-TakeDown-clause-source
+returns-in-TakeDown-clause-source c =
+    let code = c.args.code.now in
+    λ source s low f.
+    let g = subst (λ h. Follow (laid_of code) source h c.args.work.now s) c.in-TakeDown.is f in
+    switch_leads source code c.args.work.now c.take_down.new.work s g.0 g.1 (c.take_down.ensures.source source (laid_of code) g.0 g.2)
+
+pub returns-in-TakeDown-clause-falls : goal.returns-in-TakeDown-clause-falls
+returns-in-TakeDown-clause-falls c =
+    let code = c.args.code.now in
+    λ w f. taken_falls code w c.args.work.now c.take_down.new.work c.take_down.ensures.fault c.take_down.ensures.state (subst (λ h. FallsBelow code w h c.args.work.now) c.in-TakeDown.is f)

@@ -11,7 +11,7 @@ use Rattle.uc_except.specs.Handling.{handler_begun}
 use Rattle.uc_except.proofs.Handled.{begun_as}
 use Rattle.uc_ride.specs.Led.{row_of, how_unwound, left_in}
 use Rattle.uc_ride.proofs.Leading.{follow_before, reason_as, stays}
-use Rattle.uc_ride.proofs.Falling.{entered, catch_goes}
+use Rattle.uc_ride.proofs.Lowering.{entered_below, caught_falls}
 use Rattle.uc_ride.proofs.events.unwind_once.Goals as goal
 
 pub returns-in_ok-after-clause-falls : goal.returns-in_ok-after-clause-falls
@@ -21,7 +21,7 @@ returns-in_ok-after-clause-falls c =
     let n = c.unwind.new.work in
     let few : m.run.elements < 2 ^ 32 = search rules in
     let made : Made (step_of code.rows c.level-frame.result c.row_in.result m) m true n = subst (λ b. Made (step_of code.rows c.level-frame.result c.row_in.result m) m b n) c.if-unwind.true c.unwind.ensures.step in
-    λ w u. c.in_ok-after.ensures.falls w (left_in code m) (entered code w c.level-frame.result c.row_in.result m n (left_in code m) u refl c.level-frame.ensures few made)
+    λ w u. c.in_ok-after.ensures.falls w (left_in code m) (entered_below code w c.level-frame.result c.row_in.result m n c.level-frame.ensures few made u)
 
 pub returns-in_ok-after-in-None-clause-source : goal.returns-in_ok-after-in-None-clause-source
 returns-in_ok-after-in-None-clause-source c =
@@ -70,4 +70,4 @@ returns-in_ok-handle-in-Some-clause-falls c =
     let first = sym (ap (λ o. catcher_in (event_by o) code.rows (chain code.rows m.run.control)) why) ∙ q in
     let b = begun_as code.rows (Handler c.level-frame.result row) n c.handle.new.work e.number e.x e.y _ _ c.in_ok-handle-in-Some.ensures.ok x y in
     λ w u.
-    catch_goes code w e.number c.level-frame.result row e m c.handle.new.work u few first (b ∙ ap (λ x. handler_begun code.rows (Handler c.level-frame.result row) e x) same)
+    caught_falls code w e.number c.level-frame.result row e m c.handle.new.work few first (b ∙ ap (λ x. handler_begun code.rows (Handler c.level-frame.result row) e x) same) u

@@ -1,6 +1,5 @@
 use Rattle.std.proofs.Common.{ℕ}
-use Rattle.uc_code.specs.Laid.{laid_of}
-use Rattle.uc_frames.specs.Keeping.{UnwoundBelow}
+use Rattle.uc_step.specs.Falls.{FallsBelow}
 use Rattle.uc_step.specs.declared.stepped.Stepped.TheVariants.{Unwind}
 use Rattle.uc_ride.specs.Led.{left_in}
 use Rattle.uc_ride.proofs.Leading.{Unwinding}
@@ -10,7 +9,7 @@ use Rattle.uc_ride.proofs.events.unwinds.Given as goal
 abbrev pub invariant-steps : goal.invariant-steps
 invariant-steps l = record {
   source : Unwinding l.code l.fn.work Unwind l.work;
-  below : (w : ℕ) → UnwoundBelow (laid_of l.code) l.code.routines w l.fn.work → UnwoundBelow (laid_of l.code) l.code.routines w l.work;
+  below : (w : ℕ) → FallsBelow l.code w Unwind l.fn.work → FallsBelow l.code w Unwind l.work;
 }
 
 abbrev pub decreases-steps : goal.decreases-steps

@@ -1,7 +1,8 @@
-use Rattle.std.proofs.Common.{◌≡◌, subst}
-use Rattle.uc_frames.specs.Weight.{weight}
-use Rattle.uc_step.specs.Falls.{FallsBelow}
+use Rattle.std.proofs.Common.{◌≡◌, sym, subst}
+use Rattle.uc_frames.specs.Weight.{total}
+use Rattle.uc_step.specs.Falls.{Keeps, FallsBelow}
 use Rattle.uc_step.specs.Onwards.{OnwardFalls}
+use Rattle.uc_step.proofs.Falls.{lowers, keeps}
 use Rattle.uc_ride.specs.Led.{how_settled}
 use Rattle.uc_ride.specs.Rode.{HasCome}
 use Rattle.uc_ride.proofs.Riding.{Stepping, Onwarding, Settling, settled_on, settled_falls, asked_keeps, come_first, come_same, come_on, come_ticked, come_asked}
@@ -37,6 +38,12 @@ returns-in-Tick-clause-kept c =
 
 -- where the op was left to `step`, nothing was done before it.
 
+pub settle-requires-clause-below : goal.settle-requires-clause-below
+settle-requires-clause-below c =
+    let code = c.args.code.now in
+    let same : c.go_onward.new.work ≡ c.ops.work = subst (λ x. OnwardFalls code c.ops.work x c.go_onward.new.work) c.in-Asks.is c.in_ok-go_onward.ensures.falls in
+    (total code.ops c.go_onward.new.work, c.in_ok-how-in-Asks.ensures.falls c.requires.paced (subst (λ m. Keeps code m) (sym same) c.ops.invariant.kept))
+
 pub ops-preserved : goal.ops-preserved
 ops-preserved c =
     let code = c.args.code.now in
@@ -49,7 +56,7 @@ ops-preserved c =
     record {
       come = come_on code c.args.work.now c.go_onward.new.work c.settle.new.work h
           (subst (λ x. Stepping code c.go_onward.new.work (how_settled x) c.settle.new.work) c.in-On.is (settled_on code c.go_onward.new.work c.step.new.work c.settle.new.work c.in_ok-how-in-Asks.how c.in_ok-after-in-Asks.after f g));
-      kept = (subst (λ x. FallsBelow code (weight code.ops c.ops.work) (how_settled x) c.settle.new.work) c.in-On.is l).1;
+      kept = (lowers code (total code.ops c.ops.work) c.settle.new.work (subst (λ x. FallsBelow code (total code.ops c.ops.work) (how_settled x) c.settle.new.work) c.in-On.is l)).1;
     }
 
 pub ops-smaller : goal.ops-smaller
@@ -57,7 +64,7 @@ ops-smaller c =
     let code = c.args.code.now in
     let same : c.go_onward.new.work ≡ c.ops.work = subst (λ x. OnwardFalls code c.ops.work x c.go_onward.new.work) c.in-Asks.is c.in_ok-go_onward.ensures.falls in
     let l = settled_falls code c.requires.paced c.ops.work c.go_onward.new.work c.step.new.work c.settle.new.work c.ops.invariant.kept same c.in_ok-how-in-Asks.how c.in_ok-after-in-Asks.after c.in_ok-how-in-Asks.ensures.falls c.in_ok-after-in-Asks.ensures.falls in
-    (subst (λ x. FallsBelow code (weight code.ops c.ops.work) (how_settled x) c.settle.new.work) c.in-On.is l).0
+    (lowers code (total code.ops c.ops.work) c.settle.new.work (subst (λ x. FallsBelow code (total code.ops c.ops.work) (how_settled x) c.settle.new.work) c.in-On.is l)).0
 
 -- it makes a tick, or asks
 
@@ -76,7 +83,7 @@ returns-in-Tick-after-clause-kept c =
     let code = c.args.code.now in
     let same : c.go_onward.new.work ≡ c.ops.work = subst (λ x. OnwardFalls code c.ops.work x c.go_onward.new.work) c.in-Asks.is c.in_ok-go_onward.ensures.falls in
     let l = settled_falls code c.requires.paced c.ops.work c.go_onward.new.work c.step.new.work c.settle.new.work c.ops.invariant.kept same c.in_ok-how-in-Asks.how c.in_ok-after-in-Asks.after c.in_ok-how-in-Asks.ensures.falls c.in_ok-after-in-Asks.ensures.falls in
-    subst (λ x. FallsBelow code (weight code.ops c.ops.work) (how_settled x) c.settle.new.work) c.in-Tick-after.is l
+    keeps code (total code.ops c.ops.work) c.settle.new.work (subst (λ x. FallsBelow code (total code.ops c.ops.work) (how_settled x) c.settle.new.work) c.in-Tick-after.is l)
 
 pub returns-in-Asks-after-clause-burst : goal.returns-in-Asks-after-clause-burst
 returns-in-Asks-after-clause-burst c =
@@ -93,4 +100,4 @@ returns-in-Asks-after-clause-kept c =
     let code = c.args.code.now in
     let same : c.go_onward.new.work ≡ c.ops.work = subst (λ x. OnwardFalls code c.ops.work x c.go_onward.new.work) c.in-Asks.is c.in_ok-go_onward.ensures.falls in
     let l = settled_falls code c.requires.paced c.ops.work c.go_onward.new.work c.step.new.work c.settle.new.work c.ops.invariant.kept same c.in_ok-how-in-Asks.how c.in_ok-after-in-Asks.after c.in_ok-how-in-Asks.ensures.falls c.in_ok-after-in-Asks.ensures.falls in
-    asked_keeps code (weight code.ops c.ops.work) c.in-Asks-after.asked.request c.settle.new.work (subst (λ x. FallsBelow code (weight code.ops c.ops.work) (how_settled x) c.settle.new.work) c.in-Asks-after.is l)
+    asked_keeps code (total code.ops c.ops.work) c.in-Asks-after.asked c.settle.new.work (subst (λ x. FallsBelow code (total code.ops c.ops.work) (how_settled x) c.settle.new.work) c.in-Asks-after.is l)

@@ -1,4 +1,4 @@
-use Rattle.uc_frames.specs.Weight.{weight}
+use Rattle.uc_frames.specs.Weight.{total}
 use Rattle.uc_step.specs.Falls.{Keeps}
 use Rattle.uc_ride.specs.Rode.{HasCome}
 use Rattle.uc_ride.proofs.ride.burst.Given as goal
@@ -11,4 +11,4 @@ invariant-ops l = record {
 }
 
 abbrev pub decreases-ops : goal.decreases-ops
-decreases-ops l = weight l.code.ops l.work
+decreases-ops l = total l.code.ops l.work

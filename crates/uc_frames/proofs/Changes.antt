@@ -1,6 +1,6 @@
 -- What is done to a task is done to its parts.
-use Rattle.std.proofs.Common.{◌≡◌, ℕ, List, Option, Some, None, Bool, true, false, refl, subst, ap, ◌∙◌, map}
-use Rattle.std.specs.Prelude.{nat_eq, if◌then◌else◌}
+use Rattle.std.proofs.Common.{◌≡◌, ℕ, ◌+◌, List, [], ◌∷◌, ◌++◌, Option, Some, None, Bool, true, false, refl, subst, ap, ◌∙◌, map}
+use Rattle.std.specs.Prelude.{nat_eq, min, if◌then◌else◌}
 use Rattle.std.proofs.Math.ListN.{get_or-map}
 use Rattle.uc_meaning.specs.declared.exec.Exec.{Exec}
 use Rattle.uc_meaning.specs.declared.exec.Home.{Home}
@@ -9,8 +9,9 @@ use Rattle.uc_meaning.specs.declared.exec.Owner.{Owner}
 use Rattle.uc_meaning.specs.declared.exec.Owner.TheVariants.{Frame, Fields}
 use Rattle.uc_meaning.specs.declared.request.Piece.{Piece}
 use Rattle.uc_meaning.specs.Executions.{Activation, Execution, Links, Members, Env, exec_eq, at_depth, frame_changed, list_in, values_in, frames_in, members_at, set_members, slot_in, parked_at, change_in, change, frames_of, frames_by, frames_changed, with_frames, owned, value_at, with_owned}
-use Rattle.uc_frames.specs.Parts.{Alike, ExecutionStands, MembersStand, EnvStands}
-use Rattle.uc_step.proofs.Lists.{find_both, update_both, joined_both, at_map, frame_map}
+use Rattle.uc_meaning.specs.Switches.{LAST_SERIAL, slot_set, set_slot, serial_in, new_exec, one_more, born, slot_gone, gone, forgotten}
+use Rattle.uc_frames.specs.Parts.{Numbered, Alike, ExecutionStands, MembersStand, EnvStands}
+use Rattle.uc_frames.proofs.Lists.{find_both, update_both, without_both, more_both, joined_both, at_map, frame_map}
 
 module _ {A B V W : Type 0} (R K : Activation A V → Activation B W → Type 0) (f : W → V) where
   abbrev Ex : Execution A V → Execution B W → Type 0
@@ -26,7 +27,7 @@ module _ {A B V W : Type 0} (R K : Activation A V → Activation B W → Type 0)
   house_by true x y h = h
   house_by false x y h = tt
 
-  members_both : (h : Home) (m : Env A V) (s : Env B W) → En m s → Alike Me (members_at h m) (members_at h s)
+  pub members_both : (h : Home) (m : Env A V) (s : Env B W) → En m s → Alike Me (members_at h m) (members_at h s)
   members_both (Task t) m s e = rw e.own (house_by (nat_eq t s.own) m.house s.house e.house)
   members_both (Object o) m s e = find_both Me o m.hand s.hand e.hand
 
@@ -36,7 +37,7 @@ module _ {A B V W : Type 0} (R K : Activation A V → Activation B W → Type 0)
   slot_both k (Some x) None h = absurd h
   slot_both k (Some x) (Some y) h = find_both (Alike Ex) k x.parked y.parked h.parked
 
-  parked_both : (n : Exec) (m : Env A V) (s : Env B W) → En m s → Alike Ex (parked_at n m) (parked_at n s)
+  pub parked_both : (n : Exec) (m : Env A V) (s : Env B W) → En m s → Alike Ex (parked_at n m) (parked_at n s)
   parked_both n m s e = joined_both Ex _ _ (slot_both n.serial _ _ (members_both n.home m s e))
 
   env_same : (b : Bool) (m n : Env A V) (s t : Env B W) → En m s → En n t → En (if b then m else n) (if b then s else t)
@@ -59,7 +60,7 @@ module _ {A B V W : Type 0} (R K : Activation A V → Activation B W → Type 0)
   change_by h g k (Some a) None m s q r e = absurd r
   change_by h g k (Some a) (Some b) m s q r e = set_members_both h (g a) (k b) m s (q a b r) e
 
-  change_both : (h : Home) (g : Members A V → Members A V) (k : Members B W → Members B W) (m : Env A V) (s : Env B W) → ((c : Members A V) (d : Members B W) → Me c d → Me (g c) (k d)) → En m s → En (change h g m) (change h k s)
+  pub change_both : (h : Home) (g : Members A V → Members A V) (k : Members B W → Members B W) (m : Env A V) (s : Env B W) → ((c : Members A V) (d : Members B W) → Me c d → Me (g c) (k d)) → En m s → En (change h g m) (change h k s)
   change_both h g k m s q e = change_by h g k _ _ m s q (members_both h m s e) e
 
   frames_in_both : (x : Option (Execution A V)) (y : Option (Execution B W)) → Alike Ex x y → frames_in x ≡ map (map f) (frames_in y)
@@ -120,3 +121,39 @@ module _ {A B V W : Type 0} (R K : Activation A V → Activation B W → Type 0)
   pub framed_both : (m : Env A V) (s : Env B W) (fs : List (List V)) (gs : List (List W)) (l k : Links) → fs ≡ map (map f) gs → l ≡ k → En m s → En (record m { frames = fs; links = l }) (record s { frames = gs; links = k })
   framed_both m s fs gs l k q r e =
       record { frames = q; links = r; exec = e.exec; own = e.own; house = e.house; depths = e.depths; hand = e.hand; gathered = e.gathered }
+
+  -- what is left of an execution at a home is another
+  pub slot_set_both : (k : ℕ) (x : Option (Execution A V)) (y : Option (Execution B W)) → Alike Ex x y → (c : Members A V) (d : Members B W) → Me c d → Me (slot_set k x c) (slot_set k y d)
+  slot_set_both k x y g c d h = record { values = h.values; serial = h.serial; parked = update_both (Alike Ex) k x y c.parked d.parked g h.parked }
+
+  pub set_slot_both : (n : Exec) (x : Option (Execution A V)) (y : Option (Execution B W)) (m : Env A V) (s : Env B W) → Alike Ex x y → En m s → En (set_slot n x m) (set_slot n y s)
+  set_slot_both n x y m s g e = change_both n.home (slot_set n.serial x) (slot_set n.serial y) m s (slot_set_both n.serial x y g) e
+
+  -- a new execution, and one that is no more
+  serial_both : (x : Option (Members A V)) (y : Option (Members B W)) → Alike Me x y → serial_in x ≡ serial_in y
+  serial_both None None h = refl
+  serial_both None (Some y) h = absurd h
+  serial_both (Some x) None h = absurd h
+  serial_both (Some x) (Some y) h = h.serial
+
+  pub new_exec_both : (h : Home) (m : Env A V) (s : Env B W) → En m s → new_exec h m ≡ new_exec h s
+  new_exec_both h m s e = ap (λ (k : ℕ). let n : Exec = record { home = h; serial = k } in n) (serial_both _ _ (members_both h m s e))
+
+  one_more_both : (x : Execution A V) (y : Execution B W) → Ex x y → (a : Members A V) (b : Members B W) → Me a b → Me (one_more x a) (one_more y b)
+  one_more_both x y g a b q =
+      record {
+        values = q.values;
+        serial = ap (λ k. min (k + 1) LAST_SERIAL) q.serial;
+        parked = subst (λ k. Numbered (Alike Ex) (a.parked ++ (a.serial, Some x) ∷ []) (b.parked ++ (k, Some y) ∷ [])) q.serial (more_both (Alike Ex) a.serial (Some x) (Some y) a.parked b.parked g q.parked);
+      }
+
+  pub born_both : (h : Home) (x : Execution A V) (y : Execution B W) (m : Env A V) (s : Env B W) → Ex x y → En m s → En (born h x m) (born h y s)
+  born_both h x y m s g e = change_both h (one_more x) (one_more y) m s (one_more_both x y g) e
+
+  gone_both : (n : Exec) (m : Env A V) (s : Env B W) → En m s → En (gone n m) (gone n s)
+  gone_both n m s e =
+      change_both n.home (slot_gone n.serial) (slot_gone n.serial) m s (λ a b q. record { values = q.values; serial = q.serial; parked = without_both (Alike Ex) n.serial a.parked b.parked q.parked }) e
+
+  pub forgotten_both : (o : Option Exec) (m : Env A V) (s : Env B W) → En m s → En (forgotten o m) (forgotten o s)
+  forgotten_both None m s e = e
+  forgotten_both (Some n) m s e = gone_both n m s e

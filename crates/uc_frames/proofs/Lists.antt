@@ -4,6 +4,7 @@ use Rattle.std.specs.Prelude.{nat_eq, if◌then◌else◌, slice_index_or, slice
 use Rattle.std.proofs.lemmas.List.{length-map, map-set, map-append, take-map, drop-map}
 use Rattle.std.proofs.Math.ListN.{get_or-map}
 use Rattle.uc_meaning.specs.Executions.{find, update, at_depth, set_depth, frame_changed, list_in, joined, taken, value_changed, values_cleared}
+use Rattle.uc_meaning.specs.Switches.{without}
 use Rattle.uc_frames.specs.Parts.{Numbered, Alike}
 
 module _ {X Y : Type 0} (P : X → Y → Type 0) where
@@ -27,6 +28,18 @@ module _ {X Y : Type 0} (P : X → Y → Type 0) where
   update_both k x y (p ∷ ps) [] h r = absurd r
   update_both k x y (p ∷ ps) (q ∷ qs) h (e, g, r) =
       rw e (lined_by (nat_eq q.0 k) _ _ _ _ (refl, h, r) (refl, g, update_both k x y ps qs h r))
+
+  pub without_both : (k : ℕ) (ps : List (ℕ × X)) (qs : List (ℕ × Y)) → Numbered P ps qs → Numbered P (without k ps) (without k qs)
+  without_both k [] [] h = tt
+  without_both k [] (q ∷ qs) h = absurd h
+  without_both k (p ∷ ps) [] h = absurd h
+  without_both k (p ∷ ps) (q ∷ qs) (e, h, r) = rw e (lined_by (nat_eq q.0 k) _ _ _ _ r (refl, h, without_both k ps qs r))
+
+  pub more_both : (k : ℕ) (x : X) (y : Y) (ps : List (ℕ × X)) (qs : List (ℕ × Y)) → P x y → Numbered P ps qs → Numbered P (ps ++ (k, x) ∷ []) (qs ++ (k, y) ∷ [])
+  more_both k x y [] [] h r = (refl, h, tt)
+  more_both k x y [] (q ∷ qs) h r = absurd r
+  more_both k x y (p ∷ ps) [] h r = absurd r
+  more_both k x y (p ∷ ps) (q ∷ qs) h (e, g, r) = (e, g, more_both k x y ps qs h r)
 
   pub joined_both : (x : Option (Option X)) (y : Option (Option Y)) → Alike (Alike P) x y → Alike P (joined x) (joined y)
   joined_both None None h = tt

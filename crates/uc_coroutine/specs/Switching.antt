@@ -1,0 +1,45 @@
+-- Switches on cells, as functions tell them, and what they are in the source.
+use Rattle.std.specs.Prelude.{◌≡◌, Option, Some, None}
+use Rattle.uc_tree.specs.Source.{Source}
+use Rattle.uc_meaning.specs.declared.exec.Reason.{Reason}
+use Rattle.uc_meaning.specs.declared.exec.Reason.TheVariants as reason
+use Rattle.uc_meaning.specs.declared.fault.RunFault.{RunFault}
+use Rattle.uc_meaning.specs.Faults.{fault_number}
+use Rattle.uc_meaning.specs.declared.request.Request.TheVariants as ask
+use Rattle.uc_meaning.specs.Quiet.{State, Asks, quiet, Quietly, line_of}
+use Rattle.uc_meaning.specs.Executions as exec
+use Rattle.uc_meaning.specs.Switches.{Moved, To, Stops, finish, escape, taken_down}
+use Rattle.uc_code.specs.Laid.{Laid}
+use Rattle.uc_frames.specs.Machine.{Machine}
+use Rattle.uc_frames.specs.Stands.{Stands}
+use Rattle.uc_coroutine.specs.Outcomes.{Leads}
+
+module _ {C V : Type 0} where
+  -- the fault, if a switch is one
+  abbrev pub fault_in : Moved C V → Option RunFault
+  fault_in (To s) = None
+  fault_in (Stops f) = Some f
+
+  -- the state that it leads to, or else the old one
+  abbrev pub state_in : exec.State C V → Moved C V → exec.State C V
+  state_in old (To s) = s
+  state_in old (Stops f) = old
+
+  -- the main of a coroutine is left, which is unwound for this reason
+  abbrev pub left_by : Option Reason → exec.State C V → Moved C V
+  left_by (Some (reason.ReturnTo home)) s = finish s
+  left_by (Some reason.Destroyed) s = taken_down s
+  left_by _ s = escape s
+
+module _ (source : Source) (code : Laid) where
+  -- it ends by this fault, behind some quiet steps, in the same line
+  pub record AsksFault (f : RunFault) (s : State) : Type 0 where
+    pub before : State
+    pub after : State
+    pub by : Quietly source s before
+    pub line : line_of before ≡ line_of s
+    pub asks : quiet source before ≡ Asks (ask.Fault (fault_number f)) after
+
+  abbrev pub SwitchedAs : Option RunFault → Machine → State → Type 0
+  SwitchedAs None m s = Leads source code (Stands code) m s
+  SwitchedAs (Some f) m s = AsksFault f s

@@ -1,0 +1,132 @@
+// The execution of a coroutine in its constructors and its destructor, in no line.
+
+ghost use Rattle.std.specs.Prelude.{◌≡◌, List, ◌+◌, ◌<◌, ◌≤◌, OnOk, length};
+ghost use Rattle.uc_tree.specs.declared.limits.TheConstants.{PROGRAM_OPS};
+ghost use Rattle.uc_tree.specs.Cells.{classes_of};
+ghost use Rattle.uc_tree.specs.Programs.{Program};
+ghost use Rattle.uc_tree.specs.Source.{Built, CleanUp};
+ghost use Rattle.uc_tree.specs.Resolve.{class_by, construction_ends, enlivened, forgotten, has_coroutines, set_up, started_in, taken_down};
+ghost use Rattle.uc_code.specs.declared.rows.Mark.{Mark};
+ghost use Rattle.uc_code.specs.Lowered.{StmtsAt};
+ghost use Rattle.uc_code.specs.ObjectCalls.{Cleans};
+ghost use Rattle.uc_code.specs.Open.{CleansBehind};
+ghost use Rattle.uc_code.specs.Puts.{clean_length};
+ghost use Rattle.uc_lower_expr.specs.Added.{Adds};
+ghost use Rattle.uc_lower_class.specs.Fields.{enliven_room, forget_count, live_room, set_up_room, start_room, take_down_room};
+ghost use Rattle.uc_lower_class.specs.Pended.{Constructs, LeavesAll, Opens};
+
+use std::alloc::AllocError;
+use uc_code::draft::Draft;
+use uc_code::op::Op;
+use uc_code::rows::{Cleaning, Opening};
+use uc_lower_expr::program_names::ProgramNames;
+use uc_lower_expr::put::put;
+
+// What follows stands behind a part with this clean-up.
+fn open_part(what: Cleaning, parts: &mut Vec<Cleaning>, out: &mut Draft) -> Result<(), AllocError>
+    requires { CleansBehind out.old.marks what }
+    ensures { OnOk result ((c : CleanUp) → Cleans c what → Constructs (clean_length what + 2) (λ rest. Built c rest) parts.old.items out.old parts.new.items out.new) }
+{
+    parts.push(what)?;
+    let _row = out.open(Opening::Part)?;
+    Ok(())
+}
+
+/// A coroutine that is built gets its execution, with the main of its class, which has this place; where an event ends the constructor,
+/// that is no more. After want of memory the draft is spent.
+pub(crate) fn set_up(
+    coroutine: bool,
+    class: usize,
+    names: &ProgramNames,
+    parts: &mut Vec<Cleaning>,
+    out: &mut Draft,
+) -> Result<(), AllocError>
+    requires class { class < length (classes_of names.now.items) }
+    requires room { length out.old.ops + set_up_room coroutine ≤ PROGRAM_OPS }
+    ensures { OnOk result (Constructs (set_up_room coroutine) (set_up names.now coroutine class) parts.old.items out.old parts.new.items out.new) }
+{
+    if coroutine {
+        put(Op::Coroutine(names.main_of(class)), 0, out)?;
+        open_part(Cleaning::Forget, parts, out)?;
+        return Ok(());
+    }
+    Ok(())
+}
+
+/// Behind its fields: what its body starts is unwound where an event ends the constructor. After want of memory the draft is spent.
+pub(crate) fn start(
+    coroutine: bool,
+    parts: &mut Vec<Cleaning>,
+    out: &mut Draft,
+) -> Result<(), AllocError>
+    ensures { OnOk result ((p : Program) → Constructs (start_room coroutine) (started_in p coroutine) parts.old.items out.old parts.new.items out.new) }
+{
+    if coroutine {
+        open_part(Cleaning::TakeDown, parts, out)?;
+        return Ok(());
+    }
+    Ok(())
+}
+
+// Behind its body it is live.
+fn enliven(coroutine: bool, out: &mut Draft) -> Result<(), AllocError>
+    requires { length out.old.ops + enliven_room coroutine ≤ PROGRAM_OPS }
+    ensures { OnOk result ((p : Program) (ms : List Mark) → Adds (enliven_room coroutine) (λ code. StmtsAt code ms 0 (enlivened p coroutine)) out.old out.new) }
+{
+    if coroutine {
+        put(Op::Live, 0, out)?;
+        return Ok(());
+    }
+    Ok(())
+}
+
+/// What follows the body of a constructor of the class with this place. After want of memory the draft is spent.
+pub(crate) fn end_construction(
+    class: Option<usize>,
+    names: &ProgramNames,
+    out: &mut Draft,
+) -> Result<(), AllocError>
+    requires { length out.old.ops + live_room (class_by names.now class) ≤ PROGRAM_OPS }
+    ensures { OnOk result ((ms : List Mark) → Adds (live_room (class_by names.now class)) (λ code. StmtsAt code ms 0 (construction_ends names.now (class_by names.now class))) out.old out.new) }
+{
+    let coroutine = has_executions(class, names);
+    enliven(coroutine, out)?;
+    Ok(())
+}
+
+// Whether the class with this place is one of coroutines, if there is one.
+fn has_executions(class: Option<usize>, names: &ProgramNames) -> bool
+    ensures { result ≡ has_coroutines names.now (class_by names.now class) }
+{
+    match class {
+        Some(class) => names.has_executions(class),
+        None => false,
+    }
+}
+
+/// The scope of the execution of a coroutine that is destroyed is opened, around those of its fields. After want of memory the draft is
+/// spent.
+pub(crate) fn open_execution(coroutine: bool, out: &mut Draft) -> Result<(), AllocError>
+    ensures { OnOk result ((p : Program) → Opens (forget_count coroutine) (forgotten p coroutine) out.old out.new) }
+{
+    if coroutine {
+        let _row = out.open(Opening::Object {
+            what: Cleaning::Forget,
+            line: 0,
+        })?;
+        return Ok(());
+    }
+    Ok(())
+}
+
+/// A coroutine that is destroyed is unwound before its body. After want of memory the draft is spent.
+pub(crate) fn take_down(coroutine: bool, out: &mut Draft) -> Result<(), AllocError>
+    requires { length out.old.ops + take_down_room coroutine ≤ PROGRAM_OPS }
+    ensures { OnOk result ((p : Program) → LeavesAll (take_down_room coroutine) 0 (taken_down p coroutine) out.old out.new) }
+{
+    if coroutine {
+        put(Op::UnwindCoroutine, 0, out)?;
+        return Ok(());
+    }
+    Ok(())
+}

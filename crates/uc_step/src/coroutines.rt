@@ -1,0 +1,76 @@
+// The ops of coroutines, but for those that switch.
+
+ghost use Rattle.std.specs.Prelude.{◌≡◌, IfOk, OnOk, OnErr};
+ghost use Rattle.uc_step.specs.Acts.{Does};
+
+use crate::stepped::{Stepped, asked, faulted};
+use std::alloc::AllocError;
+use uc_code::code::Code;
+use uc_code::op::Op;
+use uc_frames::work::Work;
+use uc_meaning::fault::RunFault;
+use uc_meaning::request::Request;
+
+// The object at hand gets an execution.
+pub(crate) fn set_up(code: &Code, line: u32, work: &mut Work, number: u32) -> Result<(), AllocError>
+    ensures ok { OnOk result (Does code.now line (Op.Coroutine number) work.old Stepped.Quiet work.new) }
+    ensures err { OnErr result (work.new ≡ work.old) }
+{
+    if let Some(routine) = code.routine(number) {
+        work.set_up(routine)?;
+    }
+    Ok(())
+}
+
+pub(crate) fn live(code: &Code, line: u32, work: &mut Work) -> Result<(), AllocError>
+    ensures ok { OnOk result (Does code.now line Op.Live work.old Stepped.Quiet work.new) }
+    ensures err { OnErr result (work.new ≡ work.old) }
+{
+    work.enliven();
+    Ok(())
+}
+
+// The coroutine below the arguments of a routine must be live.
+pub(crate) fn alive(
+    code: &Code,
+    line: u32,
+    work: &mut Work,
+    number: u32,
+) -> Result<Stepped, AllocError>
+    ensures ok { IfOk result (λ how. Does code.now line (Op.Alive number) work.old how work.new) }
+    ensures err { OnErr result (work.new ≡ work.old) }
+{
+    match code.routine(number) {
+        None => Ok(asked(code, line, work, Request::End)),
+        Some(routine) => {
+            if work.is_live(routine.params) {
+                Ok(Stepped::Quiet)
+            } else {
+                Ok(faulted(code, line, work, RunFault::NotLive))
+            }
+        }
+    }
+}
+
+pub(crate) fn forget(code: &Code, line: u32, work: &mut Work) -> Result<(), AllocError>
+    ensures ok { OnOk result (Does code.now line Op.Forget work.old Stepped.Quiet work.new) }
+    ensures err { OnErr result (work.new ≡ work.old) }
+{
+    work.forget();
+    Ok(())
+}
+
+// Where an execution stopped it goes on, or is unwound.
+pub(crate) fn land(code: &Code, line: u32, work: &mut Work) -> Result<Stepped, AllocError>
+    ensures ok { IfOk result (λ how. Does code.now line Op.Land work.old how work.new) }
+    ensures err { OnErr result (work.new ≡ work.old) }
+{
+    match work.raised() {
+        None => Ok(Stepped::Quiet),
+        Some(_) => {
+            let next = work.next();
+            work.clean(next);
+            Ok(Stepped::Unwind)
+        }
+    }
+}
