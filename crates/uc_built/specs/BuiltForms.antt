@@ -1,5 +1,6 @@
--- The forms of programs that run: `using`, constants, prototypes, classes of kind `class`, events and routines, with one program
--- main; their variables, fields and parameters are scalars and objects of such classes, and no statement is one of coroutines or tasks.
+-- The forms of programs that run: `using`, constants, prototypes, classes of kind `class`, coroutines, events and routines, with one
+-- program main; their variables, fields and parameters are scalars and objects of such classes, and no statement raises an event at an
+-- execution, enables or disables events, or is one of monitors or tasks.
 use Rattle.std.specs.Prelude.{◌≡◌, List, [], ◌∷◌, Bool, true, false, not, ◌&&◌}
 use Rattle.std.specs.List.{list_any}
 use Rattle.uc_tree.specs.declared.kinds.Base.{Base}

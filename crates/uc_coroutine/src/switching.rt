@@ -1,4 +1,5 @@
-// Switches between executions: each answers the fault, if it is one; then all stays as it is.
+// Switches between executions: each answers the fault, if it is one; then all stays as it is. Each public call is a private one with the
+// same two clauses, from which what it is in the source follows.
 
 ghost use Rattle.std.specs.Prelude.{◌≡◌, Some, None, MatchOption};
 ghost use Rattle.uc_tree.specs.Source.{Source};

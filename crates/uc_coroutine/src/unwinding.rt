@@ -92,8 +92,7 @@ pub(crate) fn pass_on(work: &mut Work) -> bool
     }
 }
 
-// Why the one that waits is unwound in its turn, which is unwound for the second reason, or is not: the destruction of a coroutine is
-// not ended by what is unwound within it.
+// Why the one that waits is unwound now: for this reason, unless it is unwound by a destruction, which nothing within it ends.
 fn why_on(why: Reason, waits: Option<Reason>) -> Reason
     ensures { result ≡ why_by why waits }
 {

@@ -1,4 +1,5 @@
-// What an event leads to: the handler that a resumption finds begins, or activations are unwound, up to a clean-up, a handler, or the end.
+// What an event or a switch leads to: the handler that a resumption finds begins; or activations are unwound, up to a clean-up, a handler,
+// or the end; or another execution goes on.
 
 ghost use Rattle.std.specs.Prelude.{◌≡◌, ◌<◌, ℕ, IfOk, IfSome, Some, slice_get};
 ghost use Rattle.uc_tree.specs.declared.limits.TheConstants.{PROGRAM_OPS};
@@ -38,7 +39,7 @@ use uc_meaning::fault::RunFault;
 use uc_meaning::request::{Asked, Request};
 use uc_step::stepped::Stepped;
 
-/// How an op ends with what an event leads to by it: the task goes on, after a tick or without one, or it asks.
+/// How an op ends with what an event or a switch leads to by it: the task goes on, after a tick or without one, or it asks.
 #[derive(Clone, Copy)]
 pub(crate) enum Settled {
     On,
@@ -71,7 +72,7 @@ pub(crate) struct Caught {
     pub event: Event,
 }
 
-/// Goes on from where a step leaves what an event leads to, up to its end.
+/// Goes on from where a step leaves what an event or a switch leads to, up to its end.
 pub(crate) fn settle(code: &Code, work: &mut Work, how: Stepped) -> Result<Settled, AllocError>
     requires paced { IsPaced (laid_of code.now) code.now.routines }
     requires below { (w : ℕ) × FallsBelow code.now w how work.old }
@@ -118,7 +119,7 @@ pub(crate) fn settle(code: &Code, work: &mut Work, how: Stepped) -> Result<Settl
     }
 }
 
-// The execution is resumed of the coroutine whose member runs.
+// Resumes the execution of the coroutine whose member runs; in a main, the one that runs, which is a fault.
 fn resumed(code: &Code, work: &mut Work) -> Option<Asked>
     ensures source { (source : Source) (s : State) → Follow (laid_of code.now) source Stepped.Resume work.old s → Follow (laid_of code.now) source (how_ended result) work.new s }
     ensures falls { (w : ℕ) → FallsBelow code.now w Stepped.Resume work.old → FallsBelow code.now w (how_ended result) work.new }

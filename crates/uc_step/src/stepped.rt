@@ -14,8 +14,9 @@ use uc_meaning::request::{Asked, Request};
 
 /// Going on; going on after a tick; or waiting for the answer to a request. What is left to others: an event that was popped and
 /// is thrown or raised; unwinding, which goes on behind the op; the end of a handler of resumptions by a return, with what
-/// it hands over; and switches to other executions, behind whose op what is left to do stands: a resume, a suspend, the destruction of
-/// the coroutine at hand, and the end of a coroutine's main. No task comes to an op that ends an unwinding but by unwinding: at such an op it has gone astray.
+/// it hands over; and switches to other executions, which leave the task behind their op: a resume, a suspend, the destruction of the
+/// coroutine at hand, and the end of a coroutine's main. No task comes to an op that ends an unwinding but by unwinding: at such an op
+/// it has gone astray.
 #[derive(Clone, Copy)]
 pub enum Stepped {
     Quiet,
