@@ -1,6 +1,6 @@
 // The ops that only push and drop operands.
 
-ghost use Rattle.std.specs.Prelude.{◌≡◌, IfOk, OnOk, OnErr};
+ghost use Rattle.std.specs.Prelude.{◌≡◌, OnOk, OnErr};
 ghost use Rattle.uc_step.specs.Acts.{Does};
 
 use crate::stepped::Stepped;
