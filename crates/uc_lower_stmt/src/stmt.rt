@@ -129,7 +129,7 @@ pub fn lower_stmt(
             lower_return(value, line, names, out)?;
             Ok(())
         }
-        StmtForm::Empty => Ok(()),
+        StmtForm::Empty | StmtForm::Yield => Ok(()),
         StmtForm::Try {
             brace,
             body,
@@ -158,7 +158,6 @@ pub fn lower_stmt(
             put_switch(Op::Suspend, line, out)?;
             Ok(())
         }
-        StmtForm::Yield => Ok(()),
         StmtForm::Migrate { .. } => Ok(()),
     }
 }

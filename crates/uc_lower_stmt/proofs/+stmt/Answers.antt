@@ -1,4 +1,4 @@
-use Rattle.std.proofs.Common.{◌≡◌, ◌+◌, ◌-◌, ℕ, List, ◌∷◌, Bor, None, length, subst, ap, sym, refl, rules, arith, ◌∙◌}
+use Rattle.std.proofs.Common.{◌≡◌, ◌+◌, ◌-◌, ℕ, List, ◌∷◌, Bor, None, inl, inr, length, subst, ap, sym, refl, rules, arith, ◌∙◌}
 use Rattle.uc_tree.specs.Expressions as tree
 use Rattle.std.proofs.lemmas.Bool.{and_parts}
 use Rattle.uc_tree.specs.Cells.{declared_cells, maybe_cells, stmt_cells}
@@ -107,7 +107,10 @@ stmt::lower_stmt-put_exit-requires-in-Continue t c =
     omega (arith, size, few, c.requires.room)
 
 pub stmt::lower_stmt-returns-in-Empty : goal.stmt::lower_stmt-returns-in-Empty
-stmt::lower_stmt-returns-in-Empty t c = arm_empty c.args.names.now c.args.s.now _ _ (stmt_is _ _ _ _ c.in-Empty.is c.s.view_is)
+stmt::lower_stmt-returns-in-Empty t c = elim c.in-Empty.is [
+  | inl is ↦ arm_empty c.args.names.now c.args.s.now _ _ (stmt_is _ _ _ _ is c.s.view_is)
+  | inr is ↦ arm_unasked c.args.names.now c.args.s.now _ _ (stmt_is _ _ _ _ is c.s.view_is) c.requires.built refl
+]
 
 pub stmt::lower_stmt-lower_try-requires : goal.stmt::lower_stmt-lower_try-requires
 stmt::lower_stmt-lower_try-requires t c =
@@ -166,9 +169,6 @@ stmt::lower_stmt-put_switch-requires-in-Suspend t c =
 
 pub stmt::lower_stmt-returns-in_ok-put_switch-in-Suspend : goal.stmt::lower_stmt-returns-in_ok-put_switch-in-Suspend
 stmt::lower_stmt-returns-in_ok-put_switch-in-Suspend t c = arm_suspend c.args.names.now c.args.s.now c.s.inside.pos _ _ (stmt_is _ _ _ _ c.in-Suspend.is c.s.view_is) c.in_ok-put_switch-in-Suspend.ensures
-
-pub stmt::lower_stmt-returns-in-Yield : goal.stmt::lower_stmt-returns-in-Yield
-stmt::lower_stmt-returns-in-Yield t c = arm_unasked c.args.names.now c.args.s.now _ _ (stmt_is _ _ _ _ c.in-Yield.is c.s.view_is) c.requires.built refl
 
 pub stmt::lower_stmt-returns-in-Migrate : goal.stmt::lower_stmt-returns-in-Migrate
 stmt::lower_stmt-returns-in-Migrate t c = arm_unasked c.args.names.now c.args.s.now _ _ (stmt_is _ _ _ _ c.in-Migrate.is c.s.view_is) c.requires.built refl
