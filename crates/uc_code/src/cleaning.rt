@@ -149,8 +149,7 @@ pub fn clean_length(what: Cleaning) -> u32
 {
     match what {
         Cleaning::Call(call) => call_length(call),
-        Cleaning::TakeDown => 1,
-        Cleaning::Forget => 1,
+        Cleaning::TakeDown | Cleaning::Forget => 1,
     }
 }
 

@@ -7,7 +7,7 @@ ghost use Rattle.uc_code.specs.Operands.{numbers_of};
 use crate::operands::Operands;
 use uc_tree::kinds::ValueForm;
 
-/// An instruction. Values are pushed and popped on the running frame; a cell, a routine, a class, an accept
+/// An instruction. Values are pushed to the operands of the running activation and popped from them; a cell, a routine, a class, an accept
 /// statement and a text literal go by number, an event and a mutex member too. A jump names the op at which it goes on.
 #[derive(Clone, Copy)]
 pub enum Op {
@@ -121,15 +121,15 @@ pub enum Op {
     Gone,
     /// The coroutine at hand gets an execution whose main is the routine.
     Coroutine(u32),
-    /// The coroutine at hand is live.
+    /// The coroutine at hand is live from now on.
     Live,
-    /// The fault of a coroutine that is not live, whose place lies below the arguments of the routine.
+    /// Asks that the coroutine is live whose place lies below the arguments of the routine; else its fault.
     Alive(u32),
     /// The coroutine at hand is live no more, and unwound.
     UnwindCoroutine,
     /// The execution of the coroutine at hand is no more.
     Forget,
-    /// Resumes the coroutine at hand.
+    /// Resumes the coroutine at hand; in a main the execution that runs, which is a fault.
     Resume,
     /// Suspends the running execution.
     Suspend,
@@ -149,7 +149,7 @@ pub enum Op {
     RaiseAtCoroutine(u8),
     /// Where a return of a handler unwinds to this activation, that is over; else goes on unwinding.
     Handled,
-    /// Ends a main where a return of a handler unwinds it; else the fault of an event that nothing handles.
+    /// Ends the main of a task where a return of a handler unwinds it; else the fault of an event that nothing handles.
     Unhandled,
     /// Ends a clean-up that unwinding performs, and goes on unwinding.
     Unwind,

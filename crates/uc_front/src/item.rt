@@ -1,6 +1,6 @@
 // The names in scope at a place of an item.
 
-ghost use Rattle.std.specs.Prelude.{◌≡◌, ◌≤◌, ◌∷◌, [], IfOk, length};
+ghost use Rattle.std.specs.Prelude.{◌≡◌, ◌≤◌, IfOk, length};
 ghost use Rattle.uc_tree.specs.Cells.{classes_of};
 ghost use Rattle.uc_meaning.specs.ProgramVisits.{classes_in};
 ghost use Rattle.uc_meaning.specs.Scopes.{no_around, plain_env, with_params};

@@ -1,6 +1,6 @@
 // The names in scope at a place of a program.
 
-ghost use Rattle.std.specs.Prelude.{◌≡◌, IfOk, OnOk, Option, Some, length};
+ghost use Rattle.std.specs.Prelude.{◌≡◌, IfOk, OnOk, Option, Some};
 ghost use Rattle.uc_tree.specs.StatementViews.{maybe_at};
 ghost use Rattle.uc_tree.specs.Statements.{clauses_of, handlers_of, stmts_of};
 ghost use Rattle.uc_meaning.specs.Scopes.{Env, all_declared, block_env, env_after, env_behind, for_declared, opened, with_params};

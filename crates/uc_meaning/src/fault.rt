@@ -16,9 +16,9 @@ pub enum RunFault {
     Depth,
     /// A resume of a coroutine whose main has ended.
     ResumeEnded,
-    /// A resume of a coroutine that is active already, or at home elsewhere.
+    /// A resume of the execution that runs.
     ResumeInUse,
-    /// A suspend of a coroutine that nobody resumed.
+    /// A suspend, an end of a coroutine's main, or an event that leaves one, behind which no execution can go on.
     SuspendWithoutResumer,
     /// An event that leaves the main of a task.
     Unhandled,
@@ -32,7 +32,7 @@ pub enum RunFault {
     NoReturn,
     /// An event that leaves a clean-up while another one unwinds.
     EscapeInUnwind,
-    /// A switch of coroutines while one is unwound.
+    /// A resume or a suspend while a coroutine is unwound since it is destroyed.
     SwitchInUnwind,
     /// One task too many.
     TooManyTasks,

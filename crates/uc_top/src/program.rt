@@ -1,6 +1,6 @@
 // Checks a program, lowers it and runs it.
 
-ghost use Rattle.std.specs.Prelude.{◌≡◌, ◌≤◌, ◌∷◌, ◌++◌, [], false, IfOk, IfErr, IfSome, IfNone, IsTrue, IsFalse, length};
+ghost use Rattle.std.specs.Prelude.{◌≡◌, ◌≤◌, ◌++◌, [], IfOk, IfErr, length};
 ghost use Rattle.uc_tree.specs.declared.limits.TheConstants.{INPUT_BYTES, MAKE_MAX};
 ghost use Rattle.uc_tree.specs.Resolve.{source_of};
 ghost use Rattle.uc_meaning.specs.Breaks.{breaks_of};
