@@ -17,7 +17,7 @@ use Rattle.uc_frames.specs.Stands.{CallerStands, Stands}
 use Rattle.uc_frames.specs.Left.{left}
 use Rattle.uc_frames.proofs.Finishes.{main_line}
 use Rattle.uc_frames.specs.Unwound.{TestsBlock, EndsMain, Unwinds}
-use Rattle.uc_coroutine.specs.declared.testing.MainEnd.{MainEnd}
+use Rattle.uc_coroutine.specs.declared.testing.TaskMainEnd.{TaskMainEnd}
 use Rattle.uc_coroutine.specs.Ends.{block_over, ended_by, main_by, main_over, BlockLeft, MainLeft}
 use Rattle.uc_coroutine.proofs.Lefts.{same_count, handed_on, env_left}
 
@@ -83,14 +83,14 @@ module _ (source : Source) (code : Laid) (old new : Machine) (s : State) where
         let z : Stands code (returned (Some machine.nought) s.run.counts m ms old.env) t = record { run = handed_on code m c machine.nought nought refl l.0.stands; callers = l.1; env = v } in
         record { after = t; by = more w (more y stay); stands = subst (λ (n : Machine). Stands code n t) (sym p) (subst (λ k. Stands code (returned (Some machine.nought) k m ms old.env) t) (sym b) z) }
 
-    by_reason : (o : Option Reason) (e : MainEnd) → old.run.raised ≡ o → s.run.raised ≡ o → e ≡ main_by o old.callers → new ≡ main_over e old → MainLeft source code e new s
+    by_reason : (o : Option Reason) (e : TaskMainEnd) → old.run.raised ≡ o → s.run.raised ≡ o → e ≡ main_by o old.callers → new ≡ main_over e old → MainLeft source code e new s
     by_reason None e i j k q = subst (λ x. MainLeft source code x new s) (sym k) (record { after = _; asks = main_is ∙ ap (λ o. main_left o h.run.rest s) j })
     by_reason (Some (reason.Event n x y)) e i j k q = subst (λ x. MainLeft source code x new s) (sym k) (record { after = _; asks = main_is ∙ ap (λ o. main_left o h.run.rest s) j })
     by_reason (Some (reason.ReturnTo home)) e i j k q =
         subst (λ x. MainLeft source code x new s) (sym k) (ended old.callers s.callers refl refl h.callers (main_is ∙ ap (λ o. main_left o h.run.rest s) j) (q ∙ ap (λ x. main_over x old) k))
     by_reason (Some reason.Destroyed) e i j k q = subst (λ x. MainLeft source code x new s) (sym k) (record { after = _; asks = main_is ∙ ap (λ o. main_left o h.run.rest s) j })
 
-    pub main_left_as : (e : MainEnd) → e ≡ main_by old.run.raised old.callers → new ≡ main_over e old → MainLeft source code e new s
+    pub main_left_as : (e : TaskMainEnd) → e ≡ main_by old.run.raised old.callers → new ≡ main_over e old → MainLeft source code e new s
     main_left_as e k q =
         let r : s.run.raised ≡ old.run.raised = sym (ap (λ (a : Active). a.raised) h.run.is) in
         by_reason old.run.raised e refl r k q

@@ -13,8 +13,8 @@ use Rattle.uc_frames.specs.Machine.{Active, Machine, nought}
 use Rattle.uc_frames.specs.Left.{left}
 use Rattle.uc_frames.specs.Stands.{Stands}
 use Rattle.uc_frames.specs.Unwound.{Unwinds}
-use Rattle.uc_coroutine.specs.declared.testing.MainEnd.{MainEnd}
-use Rattle.uc_coroutine.specs.declared.testing.MainEnd.TheVariants.{Ended, Returned, Unhandled}
+use Rattle.uc_coroutine.specs.declared.testing.TaskMainEnd.{TaskMainEnd}
+use Rattle.uc_coroutine.specs.declared.testing.TaskMainEnd.TheVariants.{Ended, Returned, Unhandled}
 use Rattle.uc_coroutine.specs.Outcomes.{Leads, GoesTo}
 
 -- an unwinding is over, or goes on at this op
@@ -26,15 +26,15 @@ abbrev pub is_return : Option Reason → Bool
 is_return (Some (reason.ReturnTo home)) = true
 is_return _ = false
 
-abbrev pub ended_by : List Active → MainEnd
+abbrev pub ended_by : List Active → TaskMainEnd
 ended_by [] = Ended
 ended_by (c ∷ cs) = Returned
 
-abbrev pub main_by : Option Reason → List Active → MainEnd
+abbrev pub main_by : Option Reason → List Active → TaskMainEnd
 main_by (Some (reason.ReturnTo home)) cs = ended_by cs
 main_by _ cs = Unhandled
 
-abbrev pub main_over : MainEnd → Machine → Machine
+abbrev pub main_over : TaskMainEnd → Machine → Machine
 main_over Ended m = m
 main_over Returned m = left nought m.callers m
 main_over Unhandled m = m
@@ -56,7 +56,7 @@ module _ (source : Source) (code : Laid) where
     pub after : State
     pub asks : quiet source s ≡ Asks (ask.Fault (fault_number fault.Unhandled)) after
 
-  abbrev pub MainLeft : MainEnd → Machine → State → Type 0
+  abbrev pub MainLeft : TaskMainEnd → Machine → State → Type 0
   MainLeft Ended m s = AsksEnd s
   MainLeft Returned m s = Leads source code (Stands code) m s
   MainLeft Unhandled m s = AsksUnhandled s

@@ -98,11 +98,7 @@ fn wake_one(work: &mut Work, to: Exec) -> Option<RunFault>
     match work.stage(to) {
         None => Some(RunFault::ResumeEnded),
         Some(stage) => match stage {
-            Stage::Fresh => {
-                work.wake(to);
-                None
-            }
-            Stage::Started => {
+            Stage::Fresh | Stage::Started => {
                 work.wake(to);
                 None
             }
@@ -120,9 +116,8 @@ fn able(work: &Work, exec: Option<Exec>) -> Option<Exec>
         Some(exec) => match work.stage(exec) {
             None => None,
             Some(stage) => match stage {
-                Stage::Fresh => None,
                 Stage::Started => Some(exec),
-                Stage::Ended => None,
+                Stage::Fresh | Stage::Ended => None,
             },
         },
     }
@@ -178,13 +173,10 @@ fn unwind_one(work: &mut Work, exec: Exec)
     match work.stage(exec) {
         None => {}
         Some(stage) => match stage {
-            Stage::Fresh => {
-                work.set_live(exec, false);
-            }
             Stage::Started => {
                 work.take_down(exec);
             }
-            Stage::Ended => {
+            Stage::Fresh | Stage::Ended => {
                 work.set_live(exec, false);
             }
         },

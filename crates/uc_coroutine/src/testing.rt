@@ -18,7 +18,7 @@ use uc_meaning::exec::Reason;
 /// What becomes of a main that is unwound: it ends, as the last activation or for one that waits, or nothing handles the event by which
 /// it is unwound.
 #[derive(Clone, Copy, PartialEq, Eq, Debug)]
-pub enum MainEnd {
+pub enum TaskMainEnd {
     Ended,
     Returned,
     Unhandled,
@@ -49,7 +49,7 @@ fn end_at(work: &mut Work, behind: u32) -> bool
 }
 
 /// The main of a task that is unwound ends where the reason is a return. Where it is the last activation, or an event is not handled, all stays as it is.
-pub fn end_main(work: &mut Work) -> Result<MainEnd, AllocError>
+pub fn end_task_main(work: &mut Work) -> Result<TaskMainEnd, AllocError>
     ensures how { IfOk result (λ end. end ≡ main_by work.old.run.raised work.old.callers) }
     ensures now { IfOk result (λ end. work.new ≡ main_over end work.old) }
     ensures err { OnErr result (work.new ≡ work.old) }
@@ -59,19 +59,19 @@ pub fn end_main(work: &mut Work) -> Result<MainEnd, AllocError>
     Ok(end)
 }
 
-fn end_now(work: &mut Work) -> Result<MainEnd, AllocError>
+fn end_now(work: &mut Work) -> Result<TaskMainEnd, AllocError>
     ensures how { IfOk result (λ end. end ≡ main_by work.old.run.raised work.old.callers) }
     ensures now { IfOk result (λ end. work.new ≡ main_over end work.old) }
     ensures err { OnErr result (work.new ≡ work.old) }
 {
     if !is_return(work.raised()) {
-        return Ok(MainEnd::Unhandled);
+        return Ok(TaskMainEnd::Unhandled);
     }
     let called = work.leave(Cell::Number(0))?;
     if called {
-        Ok(MainEnd::Returned)
+        Ok(TaskMainEnd::Returned)
     } else {
-        Ok(MainEnd::Ended)
+        Ok(TaskMainEnd::Ended)
     }
 }
 

@@ -99,8 +99,7 @@ fn why_on(why: Reason, waits: Option<Reason>) -> Reason
     match waits {
         None => why,
         Some(waits) => match waits {
-            Reason::Event { .. } => why,
-            Reason::ReturnTo(_) => why,
+            Reason::Event { .. } | Reason::ReturnTo(_) => why,
             Reason::Destroyed => Reason::Destroyed,
         },
     }

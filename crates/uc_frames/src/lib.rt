@@ -10,6 +10,7 @@ pub mod links;
 pub mod members;
 mod numbered;
 mod operands;
+pub mod parked;
 pub mod pieces;
 pub mod search;
 pub mod stack;

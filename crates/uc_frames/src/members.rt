@@ -8,7 +8,7 @@ ghost use Rattle.uc_frames.specs.Machine.{nought, cell_written};
 use crate::cell::Cell;
 use crate::frames::{get, put, zeros};
 use crate::numbered::position_in_order;
-use crate::stack::Stack;
+use crate::parked::Parked;
 use std::alloc::{AllocError, Global};
 use std::marker::Model;
 use std::mem;
@@ -19,7 +19,7 @@ use uc_meaning::list::List;
 pub struct Members {
     cells: Vec<Cell>,
     serial: u64,
-    parked: List<(u64, Option<Stack>)>,
+    parked: List<(u64, Option<Parked>)>,
 }
 
 impl Model for Members {
@@ -75,7 +75,7 @@ impl Members {
     }
 
     /// The execution of that number, if it is left and does not run.
-    pub fn parked(&self, serial: u64) -> Option<&Stack>
+    pub fn parked(&self, serial: u64) -> Option<&Parked>
         ensures { MatchOption result (joined (find serial self.now.parked) ≡ None) (λ s. joined (find serial self.now.parked) ≡ Some s.now) }
     {
         match position_in_order(&self.parked, serial) {
@@ -104,7 +104,7 @@ impl Members {
     }
 
     /// One more execution is left here.
-    pub fn add(&mut self, stack: Stack) -> Result<(), AllocError>
+    pub fn add(&mut self, stack: Parked) -> Result<(), AllocError>
         ensures ok { OnOk result (self.new ≡ one_more stack self.old) }
         ensures err { OnErr result (self.new ≡ self.old) }
     {
@@ -115,7 +115,7 @@ impl Members {
     }
 
     /// That execution is left here as this, or runs where it is nothing. What was left of it is handed over.
-    pub fn exchange(&mut self, serial: u64, slot: Option<Stack>) -> Option<Stack>
+    pub fn exchange(&mut self, serial: u64, slot: Option<Parked>) -> Option<Parked>
         ensures value { result ≡ joined (find serial self.old.parked) }
         ensures after { self.new ≡ slot_set serial slot self.old }
     {

@@ -16,11 +16,11 @@ use crate::cell::Cell;
 use crate::event::{Event, Handling};
 use crate::members::Members;
 use crate::numbered::is_same;
+use crate::parked::Parked;
 use crate::pieces::Pieces;
 use crate::stack::Stack;
 use std::alloc::{AllocError, Global};
 use std::marker::Model;
-use std::mem;
 use uc_code::code::Code;
 use uc_code::rows::RoutineCode;
 use uc_meaning::exec::{Exec, Home, Reason, Visited};
@@ -360,26 +360,27 @@ impl Task {
         self.running.end();
     }
 
-    // Another execution runs from now on; the one that ran is handed over.
-    pub(crate) fn run(&mut self, exec: Exec, stack: Stack) -> Stack
+    // Another execution runs from now on; the one that ran is handed over in its place.
+    pub(crate) fn run(&mut self, exec: Exec, stack: Parked) -> Parked
         ensures value { result ≡ stopped self.old }
         ensures after { self.new ≡ spread exec stack self.old.env }
     {
         self.exec = exec;
-        let ran = mem::replace(&mut self.running, stack);
+        let mut ran = stack;
+        ran.swap(&mut self.running);
         ran
     }
 
     // An execution for the object at hand, whose main is this routine and has not begun.
-    pub(crate) fn fresh(&self, routine: RoutineCode, this: Cell) -> Result<Stack, AllocError>
+    pub(crate) fn fresh(&self, routine: RoutineCode, this: Cell) -> Result<Parked, AllocError>
         ensures { IfOk result (λ s. s ≡ fresh_execution routine this) }
     {
-        let stack = Stack::fresh(self.alloc, routine, this)?;
+        let stack = Parked::fresh(self.alloc, routine, this)?;
         Ok(stack)
     }
 
-    // What follows is of executions that are at home in the task of that object, if it is this one. One more is left there.
-    pub(crate) fn add(&mut self, task: u32, stack: Stack) -> Result<(), AllocError>
+    // One more execution is left at home in the task of that object, if it is this one.
+    pub(crate) fn add(&mut self, task: u32, stack: Parked) -> Result<(), AllocError>
         ensures ok { OnOk result (self.new ≡ record self.old { env = born (Home.Task task) stack self.old.env }) }
         ensures err { OnErr result (self.new ≡ self.old) }
     {
@@ -389,8 +390,9 @@ impl Task {
         Ok(())
     }
 
-    // One is left as this, or runs where it is nothing; what was left of it is handed over.
-    pub(crate) fn exchange(&mut self, task: u32, serial: u64, slot: Option<Stack>) -> Option<Stack>
+    // The execution of that number in the task of that object, if it is this one, is left as this, or runs where it is nothing; what was left
+    // of it is handed over.
+    pub(crate) fn exchange(&mut self, task: u32, serial: u64, slot: Option<Parked>) -> Option<Parked>
         ensures value { result ≡ joined (slot_in serial (members_at (Home.Task task) self.old.env)) }
         ensures after { self.new ≡ record self.old { env = change (Home.Task task) (slot_set serial slot) self.old.env } }
     {
@@ -402,7 +404,7 @@ impl Task {
         }
     }
 
-    // One is no more.
+    // The execution of that number in the task of that object, if it is this one, is no more.
     pub(crate) fn remove(&mut self, task: u32, serial: u64)
         ensures { self.new ≡ record self.old { env = change (Home.Task task) (slot_gone serial) self.old.env } }
     {
@@ -411,7 +413,7 @@ impl Task {
         }
     }
 
-    // The coroutine of one that does not run is live, or is not.
+    // Sets whether the coroutine is live of the execution of that number in the task of that object, if it is this one; one that runs stays.
     pub(crate) fn set_live(&mut self, task: u32, serial: u64, live: bool)
         ensures { self.new ≡ record self.old { env = change (Home.Task task) (live_changed live serial) self.old.env } }
     {
@@ -420,7 +422,7 @@ impl Task {
         }
     }
 
-    // A cell is written to a frame of one.
+    // Writes a cell to a frame of the execution of that number in the task of that object, if it is this one; one that runs stays.
     pub(crate) fn write_parked(&mut self, task: u32, serial: u64, depth: u32, at: u64, cell: Cell)
         ensures { self.new ≡ record self.old { env = change (Home.Task task) (frames_changed serial (frame_changed depth (cell_written at cell))) self.old.env } }
     {

@@ -18,8 +18,8 @@ use crate::cell::{Cell, exec_in};
 use crate::event::{Event, Handling};
 use crate::members::Members;
 use crate::numbered::position;
+use crate::parked::Parked;
 use crate::pieces::Pieces;
-use crate::stack::Stack;
 use crate::task::Task;
 use std::alloc::{AllocError, Global};
 use std::marker::Model;
@@ -393,7 +393,7 @@ impl Work {
     }
 
     // An execution in hand that does not run.
-    fn parked(&self, exec: Exec) -> Option<&Stack>
+    fn parked(&self, exec: Exec) -> Option<&Parked>
         ensures { MatchOption result (parked_at exec self.now.env ≡ None) (λ s. parked_at exec self.now.env ≡ Some s.now) }
     {
         match self.members(exec.home) {
@@ -495,7 +495,7 @@ impl Work {
         self.task.end();
     }
 
-    /// The running execution stops, and one in hand goes on.
+    /// The running execution stops, and one in hand goes on. Nothing is claimed of one that has no `stage`.
     pub fn activate(&mut self, exec: Exec)
         ensures { (x : _) → parked_at exec self.old.env ≡ Some x → self.new ≡ switched exec x self.old }
     {
@@ -504,7 +504,7 @@ impl Work {
         }
     }
 
-    /// The running execution resumes one in hand.
+    /// The running execution resumes one in hand. Nothing is claimed of one that has no `stage`.
     pub fn wake(&mut self, exec: Exec)
         ensures { (x : _) → parked_at exec self.old.env ≡ Some x → self.new ≡ switched exec (record x { links = woken self.old.env.exec x.links }) self.old }
     {
@@ -517,7 +517,7 @@ impl Work {
     }
 
     /// The running execution stops, and one in hand is unwound from where it stands: an event that has left a main is thrown there as
-    /// another one.
+    /// another one. Nothing is claimed of one that has no `stage`.
     pub fn throw_at(&mut self, exec: Exec)
         ensures { (x : _) → parked_at exec self.old.env ≡ Some x → self.new ≡ switched exec (unwound_there (reason.Event UNHANDLED (pos 0) (pos 0)) x) self.old }
     {
@@ -532,7 +532,8 @@ impl Work {
         }
     }
 
-    /// The running execution destroys the coroutine of one in hand, which is unwound from where it stands.
+    /// The running execution destroys the coroutine of one in hand, which is unwound from where it stands. Nothing is claimed of one
+    /// that has no `stage`.
     pub fn take_down(&mut self, exec: Exec)
         ensures { (x : _) → parked_at exec self.old.env ≡ Some x → self.new
             ≡ switched exec (unwound_there reason.Destroyed (record x { links = record x.links { live = false; destroyer = Some self.old.env.exec } })) self.old }
@@ -546,7 +547,7 @@ impl Work {
     }
 
     // The running execution stops, and this one, which was taken out, goes on.
-    fn run(&mut self, exec: Exec, stack: Stack)
+    fn run(&mut self, exec: Exec, stack: Parked)
         ensures { self.new ≡ spread exec stack (set_slot self.old.env.exec (Some (stopped self.old)) self.old.env) }
     {
         let stops = self.task.exec();
@@ -555,7 +556,7 @@ impl Work {
     }
 
     // An execution in hand is left as this, or runs where it is nothing; what was left of it is handed over.
-    fn exchange(&mut self, exec: Exec, slot: Option<Stack>) -> Option<Stack>
+    fn exchange(&mut self, exec: Exec, slot: Option<Parked>) -> Option<Parked>
         ensures value { result ≡ parked_at exec self.old.env }
         ensures after { self.new ≡ record self.old { env = set_slot exec slot self.old.env } }
     {
@@ -665,7 +666,7 @@ impl Work {
         }
     }
 
-    fn add(&mut self, home: Home, stack: Stack) -> Result<(), AllocError>
+    fn add(&mut self, home: Home, stack: Parked) -> Result<(), AllocError>
         ensures ok { OnOk result (self.new ≡ record self.old { env = born home stack self.old.env }) }
         ensures err { OnErr result (self.new ≡ self.old) }
     {

@@ -6,7 +6,7 @@ use uc_code::rows::RoutineCode;
 use uc_frames::call::Call;
 use uc_frames::cell::Cell;
 use uc_frames::members::Members;
-use uc_frames::stack::Stack;
+use uc_frames::parked::Parked;
 use uc_frames::task::Task;
 use uc_frames::work::{Hand, Work};
 use uc_meaning::exec::{Exec, Home, Owner, Reason, Stage};
@@ -343,7 +343,7 @@ fn out_of_hand(alloc: Global) -> Result<String, AllocError> {
 fn numbered(alloc: Global) -> Result<String, AllocError> {
     let mut members = Members::new(alloc, 0)?;
     for _ in 0..5 {
-        members.add(Stack::fresh(alloc, BODY, Cell::Nothing)?)?;
+        members.add(Parked::fresh(alloc, BODY, Cell::Nothing)?)?;
     }
     members.remove(1);
     members.set_live(3, true);

@@ -8,7 +8,7 @@ ghost use Rattle.uc_tree.specs.Gathered.{gathered_all};
 ghost use Rattle.uc_tree.specs.Numbering.{is_plain, own_sites, own_texts, routines_of};
 ghost use Rattle.uc_tree.specs.Objects.{unwritten_of};
 ghost use Rattle.uc_tree.specs.ProgramMain.{main_number};
-ghost use Rattle.uc_tree.specs.Resolve.{class_by, has_coroutines, is_coroutine_main, place_by, routine_meant, routine_scope};
+ghost use Rattle.uc_tree.specs.Resolve.{class_by, is_coroutine_main, place_by, routine_meant, routine_scope};
 ghost use Rattle.uc_built.specs.BuiltForms.{are_built, IsBuilt};
 ghost use Rattle.uc_meaning.specs.Breaks.{breaks_of};
 ghost use Rattle.uc_code.specs.Laid.{laid_in};
@@ -67,11 +67,16 @@ fn class_of(names: &ProgramNames, one: &Defined) -> Option<usize>
     names.class_of(one.number)
 }
 
-// Whose main a routine of the class with this place is, where `main` says whether it is the program's.
-fn main_in(names: &ProgramNames, main: bool, class: Option<usize>, sig: &Sig) -> Option<MainOf>
-    ensures { (number : ℕ) → main ≡ nat_eq number (main_number names.now) → result ≡ main_in names.now number (class_by names.now class) sig.now }
+// Whose main a routine of the class with this place is, if it is one.
+fn main_in(
+    names: &ProgramNames,
+    is_program_main: bool,
+    class: Option<usize>,
+    sig: &Sig,
+) -> Option<MainOf>
+    ensures { (number : ℕ) → is_program_main ≡ nat_eq number (main_number names.now) → result ≡ main_in names.now number (class_by names.now class) sig.now }
 {
-    if main {
+    if is_program_main {
         return Some(MainOf::Task);
     }
     if is_coroutine_main(names, class, sig) {
@@ -84,17 +89,7 @@ fn main_in(names: &ProgramNames, main: bool, class: Option<usize>, sig: &Sig) ->
 fn is_coroutine_main(names: &ProgramNames, class: Option<usize>, sig: &Sig) -> bool
     ensures { result ≡ is_coroutine_main names.now (class_by names.now class) sig.now }
 {
-    has_coroutines(names, class) && is_plain(sig) && sig.name.is(b"main")
-}
-
-// Whether the class with this place is one of coroutines, if there is one.
-fn has_coroutines(names: &ProgramNames, class: Option<usize>) -> bool
-    ensures { result ≡ has_coroutines names.now (class_by names.now class) }
-{
-    match class {
-        Some(class) => names.has_executions(class),
-        None => false,
-    }
+    names.has_coroutines(class) && is_plain(sig) && sig.name.is(b"main")
 }
 
 // Adds the code of a written routine, behind so many text literals and accept statements of the program, where `last` is the number
@@ -103,15 +98,15 @@ fn lower_written(
     alloc: Global,
     names: &ProgramNames,
     one: &Defined,
-    main: bool,
+    is_program_main: bool,
     number: u32,
     last: u32,
     texts: u32,
     sites: u32,
     out: &mut Draft,
 ) -> Result<(), AllocError>
-    requires main { main ≡ nat_eq number (main_number names.now) }
-    requires alone { is_plain one.now.routine.now.sig.role ≡ false → main ≡ false }
+    requires main { is_program_main ≡ nat_eq number (main_number names.now) }
+    requires alone { is_plain one.now.routine.now.sig.role ≡ false → is_program_main ≡ false }
     requires built { are_built one.now.routine.now.body ≡ true }
     requires params { length one.now.routine.now.sig.params ≤ PROGRAM_SIZE }
     requires known { number < length out.old.routines }
@@ -134,9 +129,9 @@ fn lower_written(
     let class = class_of(names, one);
     let sig = sig_of(routine);
     if is_plain(sig) {
-        let main = main_in(names, main, class, sig);
+        let whose_main = main_in(names, is_program_main, class, sig);
         lower_routine(
-            alloc, names, routine, main, class, number, last, texts, sites, out,
+            alloc, names, routine, whose_main, class, number, last, texts, sites, out,
         )?;
         return Ok(());
     }

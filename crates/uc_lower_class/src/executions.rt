@@ -1,11 +1,11 @@
 // The execution of a coroutine in its constructors and its destructor, in no line.
 
-ghost use Rattle.std.specs.Prelude.{◌≡◌, List, ◌+◌, ◌<◌, ◌≤◌, OnOk, length};
+ghost use Rattle.std.specs.Prelude.{List, ◌+◌, ◌<◌, ◌≤◌, OnOk, length};
 ghost use Rattle.uc_tree.specs.declared.limits.TheConstants.{PROGRAM_OPS};
 ghost use Rattle.uc_tree.specs.Cells.{classes_of};
 ghost use Rattle.uc_tree.specs.Programs.{Program};
 ghost use Rattle.uc_tree.specs.Source.{Built, CleanUp};
-ghost use Rattle.uc_tree.specs.Resolve.{class_by, construction_ends, enlivened, forgotten, has_coroutines, set_up, started_in, taken_down};
+ghost use Rattle.uc_tree.specs.Resolve.{class_by, construction_ends, enlivened, forgotten, set_up, started_in, taken_down};
 ghost use Rattle.uc_code.specs.declared.rows.Mark.{Mark};
 ghost use Rattle.uc_code.specs.Lowered.{StmtsAt};
 ghost use Rattle.uc_code.specs.ObjectCalls.{Cleans};
@@ -54,7 +54,7 @@ pub(crate) fn set_up(
 }
 
 /// Behind its fields: what its body starts is unwound where an event ends the constructor. After want of memory the draft is spent.
-pub(crate) fn start(
+pub(crate) fn open_started(
     coroutine: bool,
     parts: &mut Vec<Cleaning>,
     out: &mut Draft,
@@ -89,19 +89,9 @@ pub(crate) fn end_construction(
     requires { length out.old.ops + live_room (class_by names.now class) ≤ PROGRAM_OPS }
     ensures { OnOk result ((ms : List Mark) → Adds (live_room (class_by names.now class)) (λ code. StmtsAt code ms 0 (construction_ends names.now (class_by names.now class))) out.old out.new) }
 {
-    let coroutine = has_executions(class, names);
+    let coroutine = names.has_coroutines(class);
     enliven(coroutine, out)?;
     Ok(())
-}
-
-// Whether the class with this place is one of coroutines, if there is one.
-fn has_executions(class: Option<usize>, names: &ProgramNames) -> bool
-    ensures { result ≡ has_coroutines names.now (class_by names.now class) }
-{
-    match class {
-        Some(class) => names.has_executions(class),
-        None => false,
-    }
 }
 
 /// The scope of the execution of a coroutine that is destroyed is opened, around those of its fields. After want of memory the draft is

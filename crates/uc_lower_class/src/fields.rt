@@ -15,7 +15,7 @@ ghost use Rattle.uc_lower_stmt.specs.Scoped.{scope_of};
 ghost use Rattle.uc_lower_class.specs.Fields.{FieldsBehind, all_built, all_left, all_room, field_then, fields_room, left_count, left_room, left_then, room_by};
 ghost use Rattle.uc_lower_class.specs.Pended.{Constructs, LeavesAll, Opens, end_room};
 
-use crate::executions::{open_execution, set_up, start, take_down};
+use crate::executions::{open_execution, open_started, set_up, take_down};
 use crate::inits::{args_for, names_of_fields, places_of};
 use crate::parts::{lower_built, lower_left};
 use std::alloc::{AllocError, Global};
@@ -87,10 +87,10 @@ fn build_class(
     requires behind { FieldsBehind names.now class (routine_in out.old.marks) }
     ensures { OnOk result (Constructs (all_room inits.now (Some at.now)) (all_built names.now class inits.now (scope_of out.old) (Some at.now)) parts.old.items out.old parts.new.items out.new) }
 {
-    let coroutine = names.has_executions(class);
+    let coroutine = names.has_coroutines(Some(class));
     set_up(coroutine, class, names, parts, out)?;
     build_fields(alloc, at, class, inits, names, parts, out)?;
-    start(coroutine, parts, out)?;
+    open_started(coroutine, parts, out)?;
     Ok(())
 }
 
@@ -166,7 +166,7 @@ fn leave_class(
     requires behind { FieldsBehind names.now class (routine_in out.old.marks) }
     ensures { OnOk result (LeavesAll (left_room (Some at.now)) (left_count (Some at.now)) (all_left names.now class (Some at.now)) out.old out.new) }
 {
-    let coroutine = names.has_executions(class);
+    let coroutine = names.has_coroutines(Some(class));
     open_execution(coroutine, out)?;
     leave_fields(at, class, names, out)?;
     take_down(coroutine, out)?;

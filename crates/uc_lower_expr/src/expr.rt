@@ -677,7 +677,7 @@ fn lower_member_of(
             Some(routine) => Ok(
                 names
                     .result(routine)
-                    .standing_as(member_of(names.has_executions(class), routine)),
+                    .standing_as(member_of(names.has_coroutines(Some(class)), routine)),
             ),
             None => put_nothing(start, line, out),
         },

@@ -9,7 +9,7 @@ ghost use Rattle.uc_tree.specs.Numbering.{Defined, is_plain, routines_of};
 ghost use Rattle.uc_tree.specs.Cells.{classes_of, class_cells};
 ghost use Rattle.uc_tree.specs.Objects.{class_at, has_execution, place_of, plain_class, base_shape, shape_of};
 ghost use Rattle.uc_tree.specs.Source.{Expr, shape_cells};
-ghost use Rattle.uc_tree.specs.Resolve.{AsValue, event_constructor, has_coroutines, is_here, main_at, number_of_event, routine_from, params_of, result_of, scalar};
+ghost use Rattle.uc_tree.specs.Resolve.{AsValue, class_by, event_constructor, has_coroutines, is_here, main_at, number_of_event, routine_from, params_of, result_of, scalar};
 ghost use Rattle.uc_lower_expr.specs.Meanings.{Tells, shape_as};
 ghost use Rattle.uc_lower_expr.specs.Numbered.{is_called_alone, AreAmong, IsFixed, IsNumbering};
 ghost use Rattle.uc_lower_expr.specs.Members.{AreTables, FitClasses, IsField, IsNthField, count_fields, member_at, no_field, no_field_at, object_places, routine_for};
@@ -19,7 +19,7 @@ use crate::events::{builders_of, events_of, is_event, number_of};
 use crate::fields::{Field, FieldTable, count_of, field_of, fields_of, nth_field, value_of_base};
 use crate::meaning::{Meaning, Scalar};
 use crate::numbering::{ClassRoutine, Fixed, Numbering};
-use crate::routine_table::{RoutineTable, main_in, member_in, table_of, tables_of};
+use crate::routine_table::{RoutineTable, main_number_in, member_in, table_of, tables_of};
 use std::alloc::{AllocError, Global};
 use std::marker::Model;
 use uc_names::scope::Scope;
@@ -165,7 +165,7 @@ fn is_event_at(sizes: &Sizes, place: usize) -> bool
     }
 }
 
-// Whether objects of this kind are coroutines.
+// Whether objects of this kind have an execution as coroutines have: `coroutine` and `cormonitor`.
 fn has_execution(kind: Kind) -> bool
     ensures { result ≡ has_execution kind }
 {
@@ -179,8 +179,8 @@ fn has_execution(kind: Kind) -> bool
     }
 }
 
-// Whether the class with this place is one of coroutines.
-fn has_executions_at(sizes: &Sizes, place: usize) -> bool
+// Whether objects of the class with this place have an execution as coroutines have.
+fn has_coroutines_at(sizes: &Sizes, place: usize) -> bool
     ensures { result ≡ has_coroutines sizes.now (class_at sizes.now place) }
 {
     match sizes.class(place) {
@@ -425,11 +425,15 @@ impl<'a> ProgramNames<'a> {
         }
     }
 
-    /// Whether the class with this place is one of coroutines.
-    pub fn has_executions(&self, class: usize) -> bool
-        ensures { result ≡ has_coroutines self.now (class_at self.now class) }
+    /// Whether objects of the class with this place, if there is one, have an execution as coroutines have: its kind is `coroutine` or
+    /// `cormonitor`.
+    pub fn has_coroutines(&self, class: Option<usize>) -> bool
+        ensures { result ≡ has_coroutines self.now (class_by self.now class) }
     {
-        has_executions_at(self.sizes, class)
+        match class {
+            Some(class) => has_coroutines_at(self.sizes, class),
+            None => false,
+        }
     }
 
     /// The number of the main of the coroutines of the class with this place; 0 where there is none.
@@ -438,7 +442,7 @@ impl<'a> ProgramNames<'a> {
         ensures { result ≡ main_at self.now class }
     {
         match self.routines_of(class) {
-            Some(table) => main_in(table),
+            Some(table) => main_number_in(table),
             None => 0,
         }
     }

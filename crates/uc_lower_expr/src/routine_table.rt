@@ -128,7 +128,7 @@ pub fn member_in(table: &RoutineTable, name: &Name) -> Option<u32>
 }
 
 /// The number of the member that is called `main`, by the table of its class; 0 where there is none.
-pub fn main_in(table: &RoutineTable) -> u32
+pub fn main_number_in(table: &RoutineTable) -> u32
     ensures { (ds : List Defined) (number : ℕ) → AreRoutines ds number table.now → result ≡ unwrap_or (member_from ds 0 number main_name) 0 }
 {
     let number = table.members.find(b"main");

@@ -2,7 +2,6 @@
 
 ghost use Rattle.std.specs.Prelude.{◌+◌, ◌≤◌, length, OnOk};
 ghost use Rattle.uc_tree.specs.declared.limits.TheConstants.{PROGRAM_OPS};
-ghost use Rattle.uc_code.specs.declared.op.Op.TheVariants as op;
 ghost use Rattle.uc_code.specs.Ranges.{Both, One, Risk};
 ghost use Rattle.uc_lower_expr.specs.Added.{Adds};
 
@@ -12,11 +11,11 @@ use uc_code::op::Op;
 use uc_lower_expr::put::{put, put_at_risk};
 
 /// Adds an op that switches to another execution, and that at which this one goes on. After want of memory the draft is spent.
-pub(crate) fn put_switch(how: Op, line: u32, out: &mut Draft) -> Result<(), AllocError>
+pub(crate) fn put_switch(op: Op, line: u32, out: &mut Draft) -> Result<(), AllocError>
     requires { length out.old.ops + 2 ≤ PROGRAM_OPS }
-    ensures { OnOk result (Adds 2 (λ code. Both (One code how line) (Risk code out.old.marks op.Land line)) out.old out.new) }
+    ensures { OnOk result (Adds 2 (λ code. Both (One code op line) (Risk code out.old.marks Op.Land line)) out.old out.new) }
 {
-    put(how, line, out)?;
+    put(op, line, out)?;
     put_at_risk(Op::Land, line, out)?;
     Ok(())
 }

@@ -28,7 +28,7 @@ use Rattle.uc_except.specs.declared.found.Found.TheVariants.{Handler}
 use Rattle.uc_except.specs.Handling.{thrown, handled_at, handled_by, resumed_by, handler_begun}
 use Rattle.uc_coroutine.specs.declared.leaving.Left.{Left}
 use Rattle.uc_coroutine.specs.declared.leaving.Left.TheVariants as leave
-use Rattle.uc_coroutine.specs.declared.testing.MainEnd.TheVariants as end
+use Rattle.uc_coroutine.specs.declared.testing.TaskMainEnd.TheVariants as end
 use Rattle.uc_coroutine.specs.Ends.{block_over, main_by, main_over}
 use Rattle.uc_coroutine.specs.Unwinding.{point_in, cleaned_by, passed_on, step_by, step_of, Made, ending_by, passed_for, passed_as, left_as, past_of}
 use Rattle.uc_step.specs.Falls.{RunLowers}

@@ -30,8 +30,8 @@ use Rattle.uc_frames.specs.Unwound.{raised_as, Unwinds, TestsBlock, EndsMain, Le
 use Rattle.uc_frames.proofs.Finishes.{main_line}
 use Rattle.uc_coroutine.specs.declared.leaving.Left.{Left}
 use Rattle.uc_coroutine.specs.declared.leaving.Left.TheVariants as left
-use Rattle.uc_coroutine.specs.declared.testing.MainEnd.{MainEnd}
-use Rattle.uc_coroutine.specs.declared.testing.MainEnd.TheVariants as end
+use Rattle.uc_coroutine.specs.declared.testing.TaskMainEnd.{TaskMainEnd}
+use Rattle.uc_coroutine.specs.declared.testing.TaskMainEnd.TheVariants as end
 use Rattle.uc_coroutine.specs.Ends.{BlockLeft, MainLeft}
 use Rattle.uc_coroutine.specs.Outcomes.{ReturnsPast, Begins, LeftAs}
 use Rattle.uc_coroutine.specs.Switching.{SwitchedAs}
@@ -42,8 +42,8 @@ use Rattle.uc_step.specs.declared.stepped.Stepped.TheVariants.{Quiet, Tick, Ask,
 use Rattle.uc_step.specs.Follow.{behind_line, Follow}
 use Rattle.uc_step.proofs.Apart.{no_test, no_end, no_coroutine_end}
 use Rattle.uc_step.proofs.Simulates.{lines}
-use Rattle.uc_ride.specs.declared.events.Test.TheVariants.{Block, Main, Coroutine, Nothing}
-use Rattle.uc_ride.specs.Led.{test_by}
+use Rattle.uc_ride.specs.declared.events.Test.TheVariants.{Block, Task, Coroutine, Nothing}
+use Rattle.uc_ride.specs.Led.{how_ended, stop_by, test_by}
 
 true_false : true ≡ false → ⊥
 true_false e = absurd (cc)
@@ -151,7 +151,7 @@ block_op : (o : Op) → test_by o ≡ Block → o ≡ op.Handled
 block_op op.Handled e = refl
 block_op _ e = absurd (cc e)
 
-main_op : (o : Op) → test_by o ≡ Main → o ≡ op.Unhandled
+main_op : (o : Op) → test_by o ≡ Task → o ≡ op.Unhandled
 main_op op.Unhandled e = refl
 main_op _ e = absurd (cc e)
 
@@ -165,7 +165,7 @@ no_coroutine e = absurd (cc)
 no_block : Nothing ≡ Block → ⊥
 no_block e = absurd (cc)
 
-no_main : Nothing ≡ Main → ⊥
+no_main : Nothing ≡ Task → ⊥
 no_main e = absurd (cc)
 
 same_op : (p : Op) (i : Instruction) (o : Option Instruction) → o ≡ Some i → i.op ≡ p → o ≡ Some (record { op = p; line = i.line })
@@ -174,7 +174,7 @@ same_op p i o e f = e ∙ ap (λ (k : Op). let j : Instruction = record { op = k
 pub at_block : (i : Instruction) (o : Option Instruction) → o ≡ Some i → test_by i.op ≡ Block → o ≡ Some (record { op = op.Handled; line = i.line })
 at_block i o e t = same_op op.Handled i o e (block_op i.op t)
 
-pub at_main : (i : Instruction) (o : Option Instruction) → o ≡ Some i → test_by i.op ≡ Main → o ≡ Some (record { op = op.Unhandled; line = i.line })
+pub at_main : (i : Instruction) (o : Option Instruction) → o ≡ Some i → test_by i.op ≡ Task → o ≡ Some (record { op = op.Unhandled; line = i.line })
 at_main i o e t = same_op op.Unhandled i o e (main_op i.op t)
 
 pub at_coroutine : (i : Instruction) (o : Option Instruction) → o ≡ Some i → test_by i.op ≡ Coroutine → o ≡ Some (record { op = op.Escape; line = i.line })
@@ -250,17 +250,17 @@ module _ (source : Source) (code : Code) (low : Lowered source code) (m n : Mach
 
   -- the end of the main of a task
   module _ (line : ℕ) (is : slice_get code.ops m.run.control ≡ Some (record { op = op.Unhandled; line = line })) where
-    abbrev ended : MainEnd → Stepped
+    abbrev ended : TaskMainEnd → Stepped
     ended end.Ended = Ask (asks_by main_of.Task line is ask.End)
     ended end.Returned = Quiet
     ended end.Unhandled = Ask (asks_by main_of.Task line is (ask.Fault (fault_number Unhandled)))
 
-    ended_by : (e : MainEnd) (t : State) → Quietly source s t → line_at code.ops line m.callers ≡ line_of t → MainLeft source (laid_of code) e n t → Follow (laid_of code) source (ended e) n s
+    ended_by : (e : TaskMainEnd) (t : State) → Quietly source s t → line_at code.ops line m.callers ≡ line_of t → MainLeft source (laid_of code) e n t → Follow (laid_of code) source (ended e) n s
     ended_by end.Ended t q l x = (x.before, x.after, ask.End, then_quietly q x.by, x.asks, asked_as main_of.Task line is ask.End (line_of x.before) (l ∙ sym x.line), tt)
     ended_by end.Returned t q l x = (x.after, then_quietly q x.by, x.stands)
     ended_by end.Unhandled t q l x = (t, x.after, ask.Fault (fault_number Unhandled), q, x.asks, asked_as main_of.Task line is (ask.Fault (fault_number Unhandled)) (line_of t) l, tt)
 
-    pub ends : (e : MainEnd) → ((t : State) → EndsMain (laid_of code) main_of.Task m t → MainLeft source (laid_of code) e n t) → Begins source (laid_of code) m s → Follow (laid_of code) source (ended e) n s
+    pub ends : (e : TaskMainEnd) → ((t : State) → EndsMain (laid_of code) main_of.Task m t → MainLeft source (laid_of code) e n t) → Begins source (laid_of code) m s → Follow (laid_of code) source (ended e) n s
     ends e f (inl l) = absurd (no_end source code low m l.after l.stands line is)
     ends e f (inr (inl l)) = absurd (no_block_here main_of.Task line is (own_line l.stands.run.rest) l.stands.run.tests.here.here)
     ends e f (inr (inr (main_of.Task, l))) = ended_by e l.after l.by (same_line main_of.Task line is l.after l.stands) (f l.after l.stands)
@@ -288,10 +288,17 @@ module _ (source : Source) (code : Code) (m n : Machine) (s t : State) (p : Quie
   pub switch_leads : SwitchedAs source (laid_of code) None n t → Follow (laid_of code) source Quiet n s
   switch_leads x = (x.after, then_quietly p x.by, x.stands)
 
-  pub switch_stops : (f : RunFault) (a : Asked) → n ≡ m → behind_line (laid_of code) m ≡ line_of t → a ≡ record { request = ask.Fault (fault_number f); line = behind_line (laid_of code) n } → SwitchedAs source (laid_of code) (Some f) n t → Follow (laid_of code) source (Ask a) n s
+  switch_stops : (f : RunFault) (a : Asked) → n ≡ m → behind_line (laid_of code) m ≡ line_of t → a ≡ record { request = ask.Fault (fault_number f); line = behind_line (laid_of code) n } → SwitchedAs source (laid_of code) (Some f) n t → Follow (laid_of code) source (Ask a) n s
   switch_stops f a e l i x =
       let k : behind_line (laid_of code) n ≡ line_of x.before = ap (behind_line (laid_of code)) e ∙ (l ∙ sym x.line) in
       (x.before, x.after, ask.Fault (fault_number f), then_quietly p x.by, x.asks, i ∙ ap (λ (y : ℕ). let b : Asked = record { request = ask.Fault (fault_number f); line = y } in b) k, tt)
+
+  -- whether or not it is a fault
+  pub switch_settles : (o : Option RunFault) (a : Option Asked) → ((f : RunFault) → Some f ≡ o → n ≡ m) → behind_line (laid_of code) m ≡ line_of t → a ≡ stop_by (behind_line (laid_of code) n) o → SwitchedAs source (laid_of code) o n t → Follow (laid_of code) source (how_ended a) n s
+  switch_settles None a g l i x = subst (λ (y : Option Asked). Follow (laid_of code) source (how_ended y) n s) (sym i) (switch_leads x)
+  switch_settles (Some f) a g l i x =
+      let b : Asked = record { request = ask.Fault (fault_number f); line = behind_line (laid_of code) n } in
+      subst (λ (y : Option Asked). Follow (laid_of code) source (how_ended y) n s) (sym i) (switch_stops f b (g f refl) l refl x)
 
 -- an activation is left
 

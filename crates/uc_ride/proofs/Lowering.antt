@@ -8,6 +8,7 @@ use Rattle.uc_meaning.specs.declared.fault.RunFault.{RunFault}
 use Rattle.uc_meaning.specs.declared.request.Asked.{Asked}
 use Rattle.uc_meaning.specs.declared.request.Request.TheVariants as ask
 use Rattle.uc_meaning.specs.Executions.{Links, one_call_less}
+use Rattle.uc_meaning.specs.Faults.{fault_number}
 use Rattle.uc_meaning.specs.Switches.{Moved, To, Stops, wake, suspend, finish, escape, taken_down, take_down}
 use Rattle.uc_code.specs.declared.op.Op.TheVariants as op
 use Rattle.uc_code.specs.Codes.{Code}
@@ -26,14 +27,14 @@ use Rattle.uc_frames.proofs.Shifts.{within_idly, wake_goes, suspend_goes, finish
 use Rattle.uc_except.specs.declared.found.Found.TheVariants.{Handler}
 use Rattle.uc_except.specs.Handling.{thrown, handler_begun}
 use Rattle.uc_coroutine.specs.declared.leaving.Left.TheVariants as leave
-use Rattle.uc_coroutine.specs.declared.testing.MainEnd.TheVariants as end
+use Rattle.uc_coroutine.specs.declared.testing.TaskMainEnd.TheVariants as end
 use Rattle.uc_coroutine.specs.Ends.{block_over, main_by, main_over}
 use Rattle.uc_coroutine.specs.Switching.{fault_in, state_in, left_by}
 use Rattle.uc_coroutine.specs.Unwinding.{step_of, Made, ending_by, passed_for, passed_as, left_as, past_of}
 use Rattle.uc_step.specs.declared.stepped.Stepped.{Stepped}
 use Rattle.uc_step.specs.declared.stepped.Stepped.TheVariants.{Quiet, Ask, Throw, Raise, Unwind, Past, Resume, Suspend, TakeDown, EndMain}
 use Rattle.uc_step.specs.Falls.{AskFalls, RunFalls, FallsBelow}
-use Rattle.uc_ride.specs.Led.{left_in, Entered, EnteredBelow}
+use Rattle.uc_ride.specs.Led.{how_ended, left_in, stop_by, Entered, EnteredBelow}
 use Rattle.uc_ride.proofs.Falling.{found_goes, found_env, catch_goes, catch_env, entered, entered_env, entered_goes, entered_leaves, over_goes, on_falls, main_goes, leave_returns, leave_passes, thrown_goes, past_goes}
 
 less_stage : (b : Bool) (l : Links) → (one_call_less b l).stage ≡ l.stage
@@ -77,6 +78,13 @@ module _ (code : Code) (w : ℕ) where
   fault_falls P m n a k line q e h =
       within_idly (laid_of code) code.routines P (RunFalls code (Ask a)) w m n (same_env m n (ap (λ (x : Machine). x.env) e))
       (λ v p. subst (λ (b : Asked). AskFalls code v b.request n) (sym q) tt) h
+
+  -- a switch, whether or not it is a fault
+  pub switch_falls : (P : ℕ → Machine → Type 0) (m n : Machine) (line : ℕ) (o : Option RunFault) (a : Option Asked) → (None ≡ o → Falls Quiet n) → ((f : RunFault) → Some f ≡ o → n ≡ m) → a ≡ stop_by line o → Within (laid_of code) code.routines P w m → Falls (how_ended a) n
+  switch_falls P m n line None a q e i h = subst (λ (x : Option Asked). Falls (how_ended x) n) (sym i) (q refl)
+  switch_falls P m n line (Some f) a q e i h =
+      let b : Asked = record { request = ask.Fault (fault_number f); line = line } in
+      subst (λ (x : Option Asked). Falls (how_ended x) n) (sym i) (fault_falls P m n b (fault_number f) line refl (e f refl) h)
 
   -- events
 

@@ -1,8 +1,10 @@
 -- What becomes of a machine by what an event leads to.
 use Rattle.std.specs.Prelude.{◌≡◌, ℕ, ◌^◌, ◌<◌, ◌∷◌, Option, Some, None}
+use Rattle.uc_meaning.specs.declared.fault.RunFault.{RunFault}
 use Rattle.uc_meaning.specs.declared.request.Asked.{Asked}
 use Rattle.uc_meaning.specs.declared.request.Request.{Request}
 use Rattle.uc_meaning.specs.declared.request.Request.TheVariants as ask
+use Rattle.uc_meaning.specs.Faults.{fault_number}
 use Rattle.uc_code.specs.declared.op.Op.{Op}
 use Rattle.uc_code.specs.declared.op.Op.TheVariants as op
 use Rattle.uc_code.specs.Codes.{Code}
@@ -17,7 +19,7 @@ use Rattle.uc_ride.specs.declared.events.Caught.{Caught}
 use Rattle.uc_ride.specs.declared.events.Settled.{Settled}
 use Rattle.uc_ride.specs.declared.events.Settled.TheVariants as settled
 use Rattle.uc_ride.specs.declared.events.Test.{Test}
-use Rattle.uc_ride.specs.declared.events.Test.TheVariants.{Block, Main, Coroutine, Nothing}
+use Rattle.uc_ride.specs.declared.events.Test.TheVariants.{Block, Task, Coroutine, Nothing}
 use Rattle.uc_ride.specs.declared.events.Unwound.{Unwound}
 use Rattle.uc_ride.specs.declared.events.Unwound.TheVariants as unwound
 
@@ -29,9 +31,14 @@ row_of (Some c) = Some c.row
 -- the test that an op makes
 abbrev pub test_by : Op → Test
 test_by op.Handled = Block
-test_by op.Unhandled = Main
+test_by op.Unhandled = Task
 test_by op.Escape = Coroutine
 test_by _ = Nothing
+
+-- what a switch asks in this line, where it is a fault
+abbrev pub stop_by : ℕ → Option RunFault → Option Asked
+stop_by line None = None
+stop_by line (Some f) = Some (record { request = ask.Fault (fault_number f); line = line })
 
 -- these ends as those of an op
 

@@ -19,7 +19,7 @@ ghost use Rattle.uc_step.specs.Falls.{FallsBelow};
 ghost use Rattle.uc_step.specs.Follow.{behind_line, Follow};
 ghost use Rattle.uc_meaning.specs.declared.exec.Reason.TheVariants as reason;
 ghost use Rattle.uc_ride.specs.declared.events.Caught.{Caught};
-ghost use Rattle.uc_ride.specs.Led.{how_settled, how_ended, how_unwound, row_of, test_by, StepFalls, EnteredBelow, left_in};
+ghost use Rattle.uc_ride.specs.Led.{how_settled, how_ended, how_unwound, row_of, stop_by, test_by, StepFalls, EnteredBelow, left_in};
 
 use std::alloc::AllocError;
 use uc_code::code::Code;
@@ -27,7 +27,7 @@ use uc_code::op::Op;
 use uc_code::rows::Instruction;
 use uc_coroutine::leaving::{Left, leave, return_past};
 use uc_coroutine::switching::{finish, leave_main, resume, suspend, take_down};
-use uc_coroutine::testing::{MainEnd, end_block, end_main};
+use uc_coroutine::testing::{TaskMainEnd, end_block, end_task_main};
 use uc_coroutine::unwinding::unwind;
 use uc_except::found::Found;
 use uc_except::handling::{handle, throw};
@@ -60,7 +60,7 @@ pub(crate) enum Unwound {
 #[derive(Clone, Copy)]
 pub(crate) enum Test {
     Block,
-    Main,
+    Task,
     Coroutine,
     Nothing,
 }
@@ -105,13 +105,13 @@ pub(crate) fn settle(code: &Code, work: &mut Work, how: Stepped) -> Result<Settl
                 Ok(Settled::Asks(asked))
             }
         }
-        Stepped::Resume => Ok(settled_by(resumed(code, work))),
-        Stepped::Suspend => Ok(settled_by(suspended(code, work))),
+        Stepped::Resume => Ok(settled_by(settle_resume(code, work))),
+        Stepped::Suspend => Ok(settled_by(settle_suspend(code, work))),
         Stepped::TakeDown => {
             take_down(work);
             Ok(Settled::On)
         }
-        Stepped::EndMain => Ok(settled_by(finished(code, work))),
+        Stepped::EndMain => Ok(settled_by(settle_end(code, work))),
         Stepped::Astray => {
             let asked = asks(code, 0, work, Request::End);
             Ok(Settled::Asks(asked))
@@ -120,33 +120,40 @@ pub(crate) fn settle(code: &Code, work: &mut Work, how: Stepped) -> Result<Settl
 }
 
 // Resumes the execution of the coroutine whose member runs; in a main, the one that runs, which is a fault.
-fn resumed(code: &Code, work: &mut Work) -> Option<Asked>
+fn settle_resume(code: &Code, work: &mut Work) -> Option<Asked>
     ensures source { (source : Source) (s : State) → Follow (laid_of code.now) source Stepped.Resume work.old s → Follow (laid_of code.now) source (how_ended result) work.new s }
     ensures falls { (w : ℕ) → FallsBelow code.now w Stepped.Resume work.old → FallsBelow code.now w (how_ended result) work.new }
 {
-    match resume(work) {
-        None => None,
-        Some(fault) => Some(faults_behind(code, work, fault)),
-    }
+    let fault = resume(work);
+    let asked = asked_behind(code, work, fault);
+    asked
 }
 
 // The running execution is suspended.
-fn suspended(code: &Code, work: &mut Work) -> Option<Asked>
+fn settle_suspend(code: &Code, work: &mut Work) -> Option<Asked>
     ensures source { (source : Source) (s : State) → Follow (laid_of code.now) source Stepped.Suspend work.old s → Follow (laid_of code.now) source (how_ended result) work.new s }
     ensures falls { (w : ℕ) → FallsBelow code.now w Stepped.Suspend work.old → FallsBelow code.now w (how_ended result) work.new }
 {
-    match suspend(work) {
-        None => None,
-        Some(fault) => Some(faults_behind(code, work, fault)),
-    }
+    let fault = suspend(work);
+    let asked = asked_behind(code, work, fault);
+    asked
 }
 
 // The main of a coroutine ends.
-fn finished(code: &Code, work: &mut Work) -> Option<Asked>
+fn settle_end(code: &Code, work: &mut Work) -> Option<Asked>
     ensures source { (source : Source) (s : State) → Follow (laid_of code.now) source Stepped.EndMain work.old s → Follow (laid_of code.now) source (how_ended result) work.new s }
     ensures falls { (w : ℕ) → FallsBelow code.now w Stepped.EndMain work.old → FallsBelow code.now w (how_ended result) work.new }
 {
-    match finish(work) {
+    let fault = finish(work);
+    let asked = asked_behind(code, work, fault);
+    asked
+}
+
+// What is asked behind the op of a switch, where that is a fault.
+fn asked_behind(code: &Code, work: &Work, fault: Option<RunFault>) -> Option<Asked>
+    ensures { result ≡ stop_by (behind_line (laid_of code.now) work.now) fault }
+{
+    match fault {
         None => None,
         Some(fault) => Some(faults_behind(code, work, fault)),
     }
@@ -291,7 +298,7 @@ fn begin(code: &Code, work: &mut Work) -> Result<Unwound, AllocError>
                     Ok(Unwound::Still)
                 }
             }
-            Test::Main => {
+            Test::Task => {
                 let after = end_on(code, work, instruction.line)?;
                 Ok(after)
             }
@@ -317,7 +324,7 @@ fn test_of(op: Op) -> Test
 {
     match op {
         Op::Handled => Test::Block,
-        Op::Unhandled => Test::Main,
+        Op::Unhandled => Test::Task,
         Op::Escape => Test::Coroutine,
         _ => Test::Nothing,
     }
@@ -329,11 +336,11 @@ fn end_on(code: &Code, work: &mut Work, line: u32) -> Result<Unwound, AllocError
     ensures source { IfOk result (λ after. (source : Source) (s : State) → Lowered source code.now → Begins source (laid_of code.now) work.old s → Follow (laid_of code.now) source (how_unwound after) work.new s) }
     ensures falls { IfOk result (λ after. (w left : ℕ) → EnteredBelow code.now w left work.old → StepFalls code.now w left after work.new) }
 {
-    let end = end_main(work)?;
+    let end = end_task_main(work)?;
     match end {
-        MainEnd::Ended => Ok(Unwound::Asks(asks(code, line, work, Request::End))),
-        MainEnd::Returned => Ok(Unwound::On),
-        MainEnd::Unhandled => {
+        TaskMainEnd::Ended => Ok(Unwound::Asks(asks(code, line, work, Request::End))),
+        TaskMainEnd::Returned => Ok(Unwound::On),
+        TaskMainEnd::Unhandled => {
             let unhandled = faults(code, line, work, RunFault::Unhandled);
             Ok(Unwound::Asks(unhandled))
         }

@@ -22,7 +22,7 @@ pub(crate) fn set_up(code: &Code, line: u32, work: &mut Work, number: u32) -> Re
     Ok(())
 }
 
-pub(crate) fn live(code: &Code, line: u32, work: &mut Work) -> Result<(), AllocError>
+pub(crate) fn enliven(code: &Code, line: u32, work: &mut Work) -> Result<(), AllocError>
     ensures ok { OnOk result (Does code.now line Op.Live work.old Stepped.Quiet work.new) }
     ensures err { OnErr result (work.new ≡ work.old) }
 {

@@ -12,7 +12,7 @@ pub lower_routine-requires-clause-plain : goal.lower_routine-requires-clause-pla
 lower_routine-requires-clause-plain c = ap (λ (s : Sig). is_plain s.role) (sym c.sig_of-sig.ensures) ∙ sym c.is_plain.ensures ∙ c.if-is_plain.true
 
 pub lower_routine-requires-clause-main : goal.lower_routine-requires-clause-main
-lower_routine-requires-clause-main c = c.main_in-main.ensures c.args.number c.requires.main ∙ ap (λ (s : Sig). main_in c.args.names.now c.args.number (class_by c.args.names.now c.class_of-class.result) s) c.sig_of-sig.ensures
+lower_routine-requires-clause-main c = c.main_in-whose_main.ensures c.args.number c.requires.main ∙ ap (λ (s : Sig). main_in c.args.names.now c.args.number (class_by c.args.names.now c.class_of-class.result) s) c.sig_of-sig.ensures
 
 pub lower_routine-requires-clause-room : goal.lower_routine-requires-clause-room
 lower_routine-requires-clause-room c =

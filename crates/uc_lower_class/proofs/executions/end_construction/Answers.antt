@@ -10,11 +10,11 @@ use Rattle.uc_lower_class.proofs.executions.end_construction.Goals as goal
 
 pub enliven-requires : goal.enliven-requires
 enliven-requires c =
-    let few = ap enliven_room c.has_executions-coroutine.ensures ∙ live_is c.args.names.now (class_by c.args.names.now c.args.class) in
+    let few = ap enliven_room c.has_coroutines-coroutine.ensures ∙ live_is c.args.names.now (class_by c.args.names.now c.args.class) in
     let room = c.requires in
     omega (arith, few, room)
 
 pub returns : goal.returns
 returns c = λ ms.
     ends_as c.args.names.now (class_by c.args.names.now c.args.class) ms c.args.out.now c.enliven.new.out
-    (subst (λ (b : Bool). (p : Program) (ns : List Mark) → Adds (enliven_room b) (λ code. StmtsAt code ns 0 (enlivened p b)) c.args.out.now c.enliven.new.out) c.has_executions-coroutine.ensures c.in_ok-enliven.ensures)
+    (subst (λ (b : Bool). (p : Program) (ns : List Mark) → Adds (enliven_room b) (λ code. StmtsAt code ns 0 (enlivened p b)) c.args.out.now c.enliven.new.out) c.has_coroutines-coroutine.ensures c.in_ok-enliven.ensures)

@@ -12,14 +12,14 @@ set_up-requires-clause-class c = slice_get_within (classes_of c.args.names.now.i
 
 pub set_up-requires-clause-room : goal.set_up-requires-clause-room
 set_up-requires-clause-room c =
-    let kind = c.has_executions-coroutine.ensures ∙ ap (λ (o : Option Class). has_coroutines c.args.names.now o) c.requires.there in
+    let kind = c.has_coroutines-coroutine.ensures ∙ ap (λ (o : Option Class). has_coroutines c.args.names.now o) c.requires.there in
     let few = ap set_up_room kind in
     let room = c.requires.room in
     omega (arith, few, room)
 
 pub build_fields-requires-clause-room : goal.build_fields-requires-clause-room
 build_fields-requires-clause-room c =
-    let kind = c.has_executions-coroutine.ensures ∙ ap (λ (o : Option Class). has_coroutines c.args.names.now o) c.requires.there in
+    let kind = c.has_coroutines-coroutine.ensures ∙ ap (λ (o : Option Class). has_coroutines c.args.names.now o) c.requires.there in
     let few = ap set_up_room kind in
     let now = c.in_ok-set_up.ensures.room in
     let room = c.requires.room in
@@ -30,5 +30,5 @@ build_fields-requires-clause-behind c = subst (λ n. FieldsBehind c.args.names.n
 
 pub returns : goal.returns
 returns c =
-    let kind = c.has_executions-coroutine.ensures ∙ ap (λ (o : Option Class). has_coroutines c.args.names.now o) c.requires.there in
-    class_on c.args.names.now c.args.class c.args.at.now c.has_executions-coroutine.result c.args.inits.now _ _ _ _ c.args.out.now _ _ _ kind c.in_ok-set_up.ensures c.in_ok-build_fields.ensures (c.in_ok-start.ensures c.args.names.now)
+    let kind = c.has_coroutines-coroutine.ensures ∙ ap (λ (o : Option Class). has_coroutines c.args.names.now o) c.requires.there in
+    class_on c.args.names.now c.args.class c.args.at.now c.has_coroutines-coroutine.result c.args.inits.now _ _ _ _ c.args.out.now _ _ _ kind c.in_ok-set_up.ensures c.in_ok-build_fields.ensures (c.in_ok-open_started.ensures c.args.names.now)

@@ -11,7 +11,7 @@ leave_fields-requires-clause-behind c = subst (λ n. FieldsBehind c.args.names.n
 
 pub take_down-requires : goal.take_down-requires
 take_down-requires c =
-    let kind = c.has_executions-coroutine.ensures ∙ ap (λ (o : Option Class). has_coroutines c.args.names.now o) c.requires.there in
+    let kind = c.has_coroutines-coroutine.ensures ∙ ap (λ (o : Option Class). has_coroutines c.args.names.now o) c.requires.there in
     let few = ap take_down_room kind in
     let count = ap forget_count kind in
     let first = (c.in_ok-open_execution.ensures c.args.names.now).room in
@@ -22,5 +22,5 @@ take_down-requires c =
 
 pub returns : goal.returns
 returns c =
-    let kind = c.has_executions-coroutine.ensures ∙ ap (λ (o : Option Class). has_coroutines c.args.names.now o) c.requires.there in
-    left_on c.args.names.now c.args.class c.args.at.now c.has_executions-coroutine.result c.args.out.now _ _ _ kind (c.in_ok-open_execution.ensures c.args.names.now) c.in_ok-leave_fields.ensures (c.in_ok-take_down.ensures c.args.names.now)
+    let kind = c.has_coroutines-coroutine.ensures ∙ ap (λ (o : Option Class). has_coroutines c.args.names.now o) c.requires.there in
+    left_on c.args.names.now c.args.class c.args.at.now c.has_coroutines-coroutine.result c.args.out.now _ _ _ kind (c.in_ok-open_execution.ensures c.args.names.now) c.in_ok-leave_fields.ensures (c.in_ok-take_down.ensures c.args.names.now)

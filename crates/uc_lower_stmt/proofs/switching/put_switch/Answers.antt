@@ -5,5 +5,5 @@ use Rattle.uc_lower_stmt.proofs.switching.put_switch.Goals as goal
 
 pub returns : goal.returns
 returns c =
-    adds_both (one_stable c.args.how c.args.line) c.in_ok-put.ensures (
+    adds_both (one_stable c.args.op c.args.line) c.in_ok-put.ensures (
     risk_in c.args.line op.Land c.args.out.now _ _ c.in_ok-put.ensures.rest c.in_ok-put_at_risk.ensures)

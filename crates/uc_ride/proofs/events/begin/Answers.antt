@@ -73,7 +73,7 @@ end_on-requires c =
     let m = c.args.work.now in
     let i = c.in-Some.instruction in
     let is : slice_get code.ops m.run.control ≡ Some i = sym (ap (slice_get code.ops) c.next-next.ensures) ∙ (sym c.op_at.ensures.op ∙ c.in-Some.is) in
-    at_main i (slice_get code.ops m.run.control) is (sym c.test_of.ensures ∙ c.in-Main.is)
+    at_main i (slice_get code.ops m.run.control) is (sym c.test_of.ensures ∙ c.in-Task.is)
 
 pub leave_coroutine-after-requires : goal.leave_coroutine-after-requires
 leave_coroutine-after-requires c =

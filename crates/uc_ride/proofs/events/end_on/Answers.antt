@@ -3,7 +3,7 @@ use Rattle.uc_code.specs.Laid.{laid_of}
 use Rattle.uc_meaning.specs.declared.fault.RunFault.TheVariants.{Unhandled}
 use Rattle.uc_meaning.specs.declared.request.Request.TheVariants as ask
 use Rattle.uc_meaning.specs.Faults.{fault_number}
-use Rattle.uc_coroutine.specs.declared.testing.MainEnd.TheVariants as end
+use Rattle.uc_coroutine.specs.declared.testing.TaskMainEnd.TheVariants as end
 use Rattle.uc_coroutine.specs.Ends.{MainLeft, main_over}
 use Rattle.uc_step.specs.declared.stepped.Stepped.TheVariants.{Ask}
 use Rattle.uc_step.specs.Follow.{Follow}
@@ -16,7 +16,7 @@ pub returns-in-Ended-clause-source : goal.returns-in-Ended-clause-source
 returns-in-Ended-clause-source c =
     let code = c.args.code.now in
     let m = c.args.work.now in
-    let n = c.end_main.new.work in
+    let n = c.end_task_main.new.work in
     let same : n ≡ m = c.in_ok-end.ensures.now ∙ ap (λ e. main_over e m) c.in-Ended.is in
     λ source s low b.
     let f = ends source code low m n s c.args.line c.requires end.Ended (λ t h. subst (λ e. MainLeft source (laid_of code) e n t) c.in-Ended.is (c.in_ok-end.ensures.source source (laid_of code) t h)) b in
@@ -26,7 +26,7 @@ pub returns-in-Returned-clause-source : goal.returns-in-Returned-clause-source
 returns-in-Returned-clause-source c =
     let code = c.args.code.now in
     let m = c.args.work.now in
-    let n = c.end_main.new.work in
+    let n = c.end_task_main.new.work in
     λ source s low b.
     ends source code low m n s c.args.line c.requires end.Returned (λ t h. subst (λ e. MainLeft source (laid_of code) e n t) c.in-Returned.is (c.in_ok-end.ensures.source source (laid_of code) t h)) b
 
@@ -34,14 +34,14 @@ pub returns-in-Returned-clause-falls : goal.returns-in-Returned-clause-falls
 returns-in-Returned-clause-falls c =
     let code = c.args.code.now in
     let m = c.args.work.now in
-    let n = c.end_main.new.work in
+    let n = c.end_task_main.new.work in
     λ w left g. main_falls code w left m n (sym c.in-Returned.is ∙ c.in_ok-end.ensures.how) (c.in_ok-end.ensures.now ∙ ap (λ e. main_over e m) c.in-Returned.is) g
 
 pub returns-in-Unhandled-clause-source : goal.returns-in-Unhandled-clause-source
 returns-in-Unhandled-clause-source c =
     let code = c.args.code.now in
     let m = c.args.work.now in
-    let n = c.end_main.new.work in
+    let n = c.end_task_main.new.work in
     let same : n ≡ m = c.in_ok-end.ensures.now ∙ ap (λ e. main_over e m) c.in-Unhandled.is in
     λ source s low b.
     let f = ends source code low m n s c.args.line c.requires end.Unhandled (λ t h. subst (λ e. MainLeft source (laid_of code) e n t) c.in-Unhandled.is (c.in_ok-end.ensures.source source (laid_of code) t h)) b in
@@ -51,7 +51,7 @@ pub returns-in-Ended-clause-falls : goal.returns-in-Ended-clause-falls
 returns-in-Ended-clause-falls c =
     let code = c.args.code.now in
     let m = c.args.work.now in
-    let n = c.end_main.new.work in
+    let n = c.end_task_main.new.work in
     let same : n ≡ m = c.in_ok-end.ensures.now ∙ ap (λ e. main_over e m) c.in-Ended.is in
     λ w left g. end_falls code w (λ v x. Entered code v left x) m n c.asks.result _ c.asks.ensures same g
 
@@ -59,6 +59,6 @@ pub returns-in-Unhandled-clause-falls : goal.returns-in-Unhandled-clause-falls
 returns-in-Unhandled-clause-falls c =
     let code = c.args.code.now in
     let m = c.args.work.now in
-    let n = c.end_main.new.work in
+    let n = c.end_task_main.new.work in
     let same : n ≡ m = c.in_ok-end.ensures.now ∙ ap (λ e. main_over e m) c.in-Unhandled.is in
     λ w left g. fault_falls code w (λ v x. Entered code v left x) m n c.faults-unhandled.result (fault_number Unhandled) _ c.faults-unhandled.ensures same g

@@ -100,37 +100,37 @@ pub returns-in-Resume-clause-source : goal.returns-in-Resume-clause-source
 returns-in-Resume-clause-source c =
     let code = c.args.code.now in
     λ source s low f.
-    subst (λ h. Follow (laid_of code) source h c.resumed.new.work s) (sym c.settled_by-in-Resume.ensures) (c.resumed.ensures.source source s (subst (λ h. Follow (laid_of code) source h c.args.work.now s) c.in-Resume.is f))
+    subst (λ h. Follow (laid_of code) source h c.settle_resume.new.work s) (sym c.settled_by-in-Resume.ensures) (c.settle_resume.ensures.source source s (subst (λ h. Follow (laid_of code) source h c.args.work.now s) c.in-Resume.is f))
 
 pub returns-in-Resume-clause-falls : goal.returns-in-Resume-clause-falls
 returns-in-Resume-clause-falls c =
     let code = c.args.code.now in
     λ w f.
-    subst (λ h. FallsBelow code w h c.resumed.new.work) (sym c.settled_by-in-Resume.ensures) (c.resumed.ensures.falls w (subst (λ h. FallsBelow code w h c.args.work.now) c.in-Resume.is f))
+    subst (λ h. FallsBelow code w h c.settle_resume.new.work) (sym c.settled_by-in-Resume.ensures) (c.settle_resume.ensures.falls w (subst (λ h. FallsBelow code w h c.args.work.now) c.in-Resume.is f))
 
 pub returns-in-Suspend-clause-source : goal.returns-in-Suspend-clause-source
 returns-in-Suspend-clause-source c =
     let code = c.args.code.now in
     λ source s low f.
-    subst (λ h. Follow (laid_of code) source h c.suspended.new.work s) (sym c.settled_by-in-Suspend.ensures) (c.suspended.ensures.source source s (subst (λ h. Follow (laid_of code) source h c.args.work.now s) c.in-Suspend.is f))
+    subst (λ h. Follow (laid_of code) source h c.settle_suspend.new.work s) (sym c.settled_by-in-Suspend.ensures) (c.settle_suspend.ensures.source source s (subst (λ h. Follow (laid_of code) source h c.args.work.now s) c.in-Suspend.is f))
 
 pub returns-in-Suspend-clause-falls : goal.returns-in-Suspend-clause-falls
 returns-in-Suspend-clause-falls c =
     let code = c.args.code.now in
     λ w f.
-    subst (λ h. FallsBelow code w h c.suspended.new.work) (sym c.settled_by-in-Suspend.ensures) (c.suspended.ensures.falls w (subst (λ h. FallsBelow code w h c.args.work.now) c.in-Suspend.is f))
+    subst (λ h. FallsBelow code w h c.settle_suspend.new.work) (sym c.settled_by-in-Suspend.ensures) (c.settle_suspend.ensures.falls w (subst (λ h. FallsBelow code w h c.args.work.now) c.in-Suspend.is f))
 
 pub returns-in-EndMain-clause-source : goal.returns-in-EndMain-clause-source
 returns-in-EndMain-clause-source c =
     let code = c.args.code.now in
     λ source s low f.
-    subst (λ h. Follow (laid_of code) source h c.finished.new.work s) (sym c.settled_by-in-EndMain.ensures) (c.finished.ensures.source source s (subst (λ h. Follow (laid_of code) source h c.args.work.now s) c.in-EndMain.is f))
+    subst (λ h. Follow (laid_of code) source h c.settle_end.new.work s) (sym c.settled_by-in-EndMain.ensures) (c.settle_end.ensures.source source s (subst (λ h. Follow (laid_of code) source h c.args.work.now s) c.in-EndMain.is f))
 
 pub returns-in-EndMain-clause-falls : goal.returns-in-EndMain-clause-falls
 returns-in-EndMain-clause-falls c =
     let code = c.args.code.now in
     λ w f.
-    subst (λ h. FallsBelow code w h c.finished.new.work) (sym c.settled_by-in-EndMain.ensures) (c.finished.ensures.falls w (subst (λ h. FallsBelow code w h c.args.work.now) c.in-EndMain.is f))
+    subst (λ h. FallsBelow code w h c.settle_end.new.work) (sym c.settled_by-in-EndMain.ensures) (c.settle_end.ensures.falls w (subst (λ h. FallsBelow code w h c.args.work.now) c.in-EndMain.is f))
 
 pub returns-in-TakeDown-clause-source : goal.returns-in-TakeDown-clause-source
 returns-in-TakeDown-clause-source c =

@@ -1,0 +1,107 @@
+// An execution that does not run.
+
+ghost use Rattle.std.specs.Prelude.{◌≡◌, Some, IfOk, slice_index_or, false};
+ghost use Rattle.uc_meaning.specs.Executions.{at_depth, list_in, frame_changed};
+ghost use Rattle.uc_meaning.specs.Switches.{woken, unwound_there};
+ghost use Rattle.uc_meaning.specs.declared.exec.Reason.TheVariants as reason;
+ghost use Rattle.uc_frames.specs.Machine.{nought, cell_written, fresh_execution};
+
+use crate::cell::Cell;
+use crate::stack::Stack;
+use std::alloc::{AllocError, Global};
+use std::marker::Model;
+use std::mem;
+use uc_code::rows::RoutineCode;
+use uc_meaning::exec::{Exec, Reason, Stage};
+
+/// A stack in a place of its own, so that it is handed on without being moved. Contracts see the stack.
+#[derive(Drop)]
+pub struct Parked {
+    stack: Box<Stack>,
+}
+
+impl Model for Parked {
+    ghost use Rattle.std.specs.Prelude.{ℕ};
+    ghost use Rattle.uc_meaning.specs.Executions.{Execution};
+    ghost use Rattle.uc_frames.specs.declared.cell.Cell.{Cell};
+
+    ghost Value = { Execution ℕ Cell };
+
+    ghost view = { λ p. p.stack.value };
+}
+
+impl Parked {
+    /// An execution for this object, whose main has not begun.
+    pub fn fresh(alloc: Global, routine: RoutineCode, this: Cell) -> Result<Parked, AllocError>
+        ensures { IfOk result (λ p. p ≡ fresh_execution routine this) }
+    {
+        let stack = Stack::fresh(alloc, routine, this)?;
+        let stack = Box::new(alloc, stack)?;
+        Ok(Parked { stack })
+    }
+
+    /// This one runs from now on, and the one that ran is left here.
+    pub fn swap(&mut self, running: &mut Stack)
+        ensures left { self.new ≡ running.old }
+        ensures runs { running.new ≡ self.old }
+    {
+        let stack = &mut *self.stack;
+        mem::swap(stack, running);
+    }
+
+    /// Whether its coroutine is live.
+    pub fn is_live(&self) -> bool
+        ensures { result ≡ self.now.links.live }
+    {
+        self.stack.is_live()
+    }
+
+    /// How far its main is.
+    pub fn stage(&self) -> Stage
+        ensures { result ≡ self.now.links.stage }
+    {
+        self.stack.stage()
+    }
+
+    /// It is resumed by another.
+    pub fn wake(&mut self, by: Exec)
+        ensures { self.new ≡ record self.old { links = woken by self.old.links } }
+    {
+        self.stack.wake(by);
+    }
+
+    /// Its coroutine is live, or is not.
+    pub fn set_live(&mut self, live: bool)
+        ensures { self.new ≡ record self.old { links = record self.old.links { live = live } } }
+    {
+        self.stack.set_live(live);
+    }
+
+    /// It is to be unwound for this reason, as soon as it goes on.
+    pub fn raise(&mut self, why: Reason)
+        ensures { self.new ≡ unwound_there why self.old }
+    {
+        self.stack.raise(why);
+    }
+
+    /// Its coroutine is destroyed by another, for which it is to be unwound.
+    pub fn destroy(&mut self, by: Exec)
+        ensures { self.new ≡ unwound_there reason.Destroyed (record self.old { links = record self.old.links { live = false; destroyer = Some by } }) }
+    {
+        self.stack.destroy(by);
+    }
+
+    /// The cell at a place of a frame, 0 where there is none. The oldest frame has depth 0.
+    pub fn read(&self, depth: u32, at: u64) -> Cell
+        ensures { result ≡ slice_index_or (list_in (at_depth self.now.frames depth)) at nought }
+    {
+        self.stack.read(depth, at)
+    }
+
+    /// A cell is written at a place of a frame; a binding stays.
+    pub fn write(&mut self, depth: u32, at: u64, cell: Cell)
+        ensures { self.new ≡ record self.old { frames = frame_changed depth (cell_written at cell) self.old.frames } }
+    {
+        self.stack.write(depth, at, cell);
+    }
+}

@@ -1,0 +1,26 @@
+use Rattle.std.proofs.Common.{◌∙◌}
+use Rattle.uc_meaning.specs.Switches.{finish}
+use Rattle.uc_code.specs.Laid.{laid_of}
+use Rattle.uc_step.specs.declared.stepped.Stepped.TheVariants.{EndMain}
+use Rattle.uc_step.specs.Falls.{RunFalls}
+use Rattle.uc_step.specs.Follow.{behind_line}
+use Rattle.uc_ride.proofs.Leading.{switch_settles}
+use Rattle.uc_ride.proofs.Lowering.{moved_same, finished_falls, switch_falls}
+use Rattle.uc_ride.proofs.events.settle_end.Goals as goal
+
+pub returns-clause-source : goal.returns-clause-source
+returns-clause-source c =
+    let code = c.args.code.now in
+    let m = c.args.work.now in
+    let n = c.finish-fault.new.work in
+    λ source s f.
+    switch_settles source code m n s f.0 f.1 c.finish-fault.result c.asked_behind-asked.result (λ g e. moved_same (finish m) m n g (e ∙ c.finish-fault.ensures.fault) c.finish-fault.ensures.state) f.2 c.asked_behind-asked.ensures (c.finish-fault.ensures.source source (laid_of code) f.0 f.3)
+
+pub returns-clause-falls : goal.returns-clause-falls
+returns-clause-falls c =
+    let code = c.args.code.now in
+    let m = c.args.work.now in
+    let n = c.finish-fault.new.work in
+    λ w h.
+    switch_falls code w (RunFalls code EndMain) m n (behind_line (laid_of code) n) c.finish-fault.result c.asked_behind-asked.result (λ e. finished_falls code w m n (e ∙ c.finish-fault.ensures.fault) c.finish-fault.ensures.state h)
+    (λ g e. moved_same (finish m) m n g (e ∙ c.finish-fault.ensures.fault) c.finish-fault.ensures.state) c.asked_behind-asked.ensures h
