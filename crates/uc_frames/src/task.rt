@@ -392,7 +392,12 @@ impl Task {
 
     // The execution of that number in the task of that object, if it is this one, is left as this, or runs where it is nothing; what was left
     // of it is handed over.
-    pub(crate) fn exchange(&mut self, task: u32, serial: u64, slot: Option<Parked>) -> Option<Parked>
+    pub(crate) fn exchange(
+        &mut self,
+        task: u32,
+        serial: u64,
+        slot: Option<Parked>,
+    ) -> Option<Parked>
         ensures value { result ≡ joined (slot_in serial (members_at (Home.Task task) self.old.env)) }
         ensures after { self.new ≡ record self.old { env = change (Home.Task task) (slot_set serial slot) self.old.env } }
     {
