@@ -1,0 +1,22 @@
+_Coroutine Numbers {
+    int n;
+    void main() {
+        for (;;) {
+            n = (n + 1) % 10;
+            suspend();
+        }
+    }
+  public:
+    int next() {
+        resume();
+        return n;
+    }
+};
+
+void uMain::main() {
+    Numbers numbers[10];
+    int total = 0;
+    for (int r = 0; r < 20000; r++)
+        for (int i = 0; i < 10; i++) total += numbers[i].next();
+    cout << total << endl;
+}

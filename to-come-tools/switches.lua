@@ -1,0 +1,14 @@
+local numbers = coroutine.create(function()
+  local n = 0
+  while true do
+    n = (n + 1) % 10
+    coroutine.yield(n)
+  end
+end)
+
+local total = 0
+for i = 1, 200000 do
+  local _, n = coroutine.resume(numbers)
+  total = total + n
+end
+print(total)
