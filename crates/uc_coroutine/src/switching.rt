@@ -17,7 +17,7 @@ use uc_frames::work::Work;
 use uc_meaning::exec::{Exec, Reason, Stage};
 use uc_meaning::fault::RunFault;
 
-/// The running execution resumes the one of the coroutine whose member runs.
+/// The running execution resumes the one of the coroutine whose member runs. Answers the fault, if it is one; then all stays as it is.
 pub fn resume(work: &mut Work) -> Option<RunFault>
     ensures fault { result ≡ fault_in (wake_of (resumed work.old) work.old) }
     ensures state { work.new ≡ state_in work.old (wake_of (resumed work.old) work.old) }
@@ -27,7 +27,7 @@ pub fn resume(work: &mut Work) -> Option<RunFault>
     fault
 }
 
-/// The running execution is suspended: its last resumer goes on.
+/// The running execution is suspended: its last resumer goes on. Answers the fault, if it is one; then all stays as it is.
 pub fn suspend(work: &mut Work) -> Option<RunFault>
     ensures fault { result ≡ fault_in (suspend_of work.old) }
     ensures state { work.new ≡ state_in work.old (suspend_of work.old) }
@@ -37,7 +37,8 @@ pub fn suspend(work: &mut Work) -> Option<RunFault>
     fault
 }
 
-/// The main of a coroutine ends: its starter goes on, if that may be activated, or else its last resumer.
+/// The main of a coroutine ends: its starter goes on, if that may be activated, or else its last resumer. Answers the fault, if it is one;
+/// then all stays as it is.
 pub fn finish(work: &mut Work) -> Option<RunFault>
     ensures fault { result ≡ fault_in (finish_of work.old) }
     ensures state { work.new ≡ state_in work.old (finish_of work.old) }

@@ -15,7 +15,7 @@ use uc_frames::cell::Cell;
 use uc_frames::work::Work;
 use uc_meaning::exec::Reason;
 
-/// What becomes of a main that is unwound: it ends, as the last activation or for one that waits, or nothing handles the event by which
+/// What becomes of a task's main that is unwound: it ends, as the last activation or for one that waits, or nothing handles the event by which
 /// it is unwound.
 #[derive(Clone, Copy, PartialEq, Eq, Debug)]
 pub enum TaskMainEnd {

@@ -17,7 +17,8 @@ use uc_meaning::exec::Reason;
 
 /// One step of unwinding the running execution down to an activation, by how many are below it, and to a row there, or else to its end:
 /// the next clean-up of the running activation begins, or where none is left, that activation is left with its frame, and the one that
-/// waits for it is unwound in its turn for the same reason. Where that point is reached, all stays as it is, and the answer is false.
+/// waits for it is unwound in its turn for the same reason, or still by the destruction of its coroutine. Where that point is reached,
+/// all stays as it is, and the answer is false.
 pub fn unwind(code: &Code, work: &mut Work, frame: u32, row: Option<u32>) -> bool
     ensures step { Made (step_of code.now.rows frame row work.old) work.old result work.new }
     ensures source { (source : Source) (s : State) → Unwinds (laid_of code.now) work.old s → IsOwn (laid_of code.now) frame row work.old → UnwoundTo source (laid_of code.now) result row work.new s }

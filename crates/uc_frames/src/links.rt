@@ -34,7 +34,7 @@ impl Model for Links {
 }
 
 impl Links {
-    /// The links of an execution as it is made.
+    /// The links of an execution whose main has begun and that nobody resumed, as that of a task.
     pub fn new(alloc: Global) -> Links
         ensures { result ≡ no_links }
     {
