@@ -1,6 +1,6 @@
 -- Worked rows: what an accept takes, by hand.
 use Rattle.std.proofs.Common.{◌≡◌, ℕ, List, [], ◌∷◌, Some, None, false, true, refl}
-use Rattle.uc_meaning.specs.Doors.{Met, met, offers_from}
+use Rattle.uc_tree.specs.SiteOffers.{Met, met, offers_from}
 use Rattle.uc_mutex.specs.Doors.{Door, Doors}
 use Rattle.uc_accept.specs.declared.accepting.Accepted.TheVariants as accepted
 use Rattle.uc_accept.specs.Accepting.{answer_of, doors_of}

@@ -4,7 +4,7 @@ use Rattle.std.specs.Prelude.{option_map}
 use Rattle.std.specs.List.{find, AllByRecursion}
 use Rattle.std.proofs.lemmas.List.{at_drop_more, at_drop_all, length-map}
 use Rattle.uc_links.specs.Lists.{first_with, without}
-use Rattle.uc_meaning.specs.Doors.{Met, met, met_or, oldest}
+use Rattle.uc_tree.specs.SiteOffers.{Met, met, met_or, oldest}
 use Rattle.uc_mutex.specs.Doors.{Doors, IsFree, door_at, with_door, pulled_by, pulled_out}
 use Rattle.uc_mutex.proofs.Views.{free_then, then}
 use Rattle.uc_accept.specs.Accepting.{unpulled, out_of_queue, taken_door}

@@ -2,7 +2,7 @@
 use Rattle.std.specs.Prelude.{ℕ, ◌==◌, Bool, List, Option, Some, None, if◌then◌else◌}
 use Rattle.uc_tree.specs.declared.limits.TheConstants.{DESTRUCTOR}
 use Rattle.uc_links.specs.Lists.{without}
-use Rattle.uc_meaning.specs.Doors.{Met}
+use Rattle.uc_tree.specs.SiteOffers.{Met}
 use Rattle.uc_mutex.specs.Doors.{Door, Doors, door_at, with_door, on_top, let_in, accepting}
 use Rattle.uc_mutex.specs.Offers.{clauses_of}
 use Rattle.uc_accept.specs.declared.accepting.Accepted.{Accepted}

@@ -1,6 +1,6 @@
 //! An accept statement: the listed members of its true clauses are tried in textual order.
 ghost use Rattle.std.specs.Prelude.{◌≡◌, ◌<◌, ◌≤◌, ◌+◌, ◌++◌, ℕ, List, length, map, Some, None, IfSome, IfNone, option_map, is_some, if◌then◌else◌};
-ghost use Rattle.uc_meaning.specs.Doors.{met};
+ghost use Rattle.uc_tree.specs.SiteOffers.{met};
 ghost use Rattle.uc_mutex.specs.Doors.{IsFree, door_at, with_door, pulled_by};
 ghost use Rattle.uc_mutex.specs.Offers.{offers_by, AreMembers, IsKnownSite};
 ghost use Rattle.uc_accept.specs.Accepting.{unpulled, to_met, answer_of, doors_of, taken_door};

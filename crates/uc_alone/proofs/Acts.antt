@@ -6,27 +6,27 @@ use Rattle.std.proofs.lemmas.Bool.{le-leb, lt-leb}
 use Rattle.std.proofs.lemmas.List.{take_min}
 use Rattle.std.proofs.Math.Seq.{take-append_seam}
 use Rattle.uc_tree.specs.Programs.{Site}
-use Rattle.uc_meaning.specs.declared.entry.Entry.{Entry}
-use Rattle.uc_meaning.specs.declared.entry.EntryKind.{EntryKind}
-use Rattle.uc_meaning.specs.declared.entry.EntryKind.TheVariants as kind
-use Rattle.uc_meaning.specs.declared.entry.Options.{Options}
-use Rattle.uc_meaning.specs.declared.request.Answer.{Answer}
-use Rattle.uc_meaning.specs.declared.request.Answer.TheVariants as answer
-use Rattle.uc_meaning.specs.declared.request.Asked.{Asked}
-use Rattle.uc_meaning.specs.declared.request.Piece.{Piece}
-use Rattle.uc_meaning.specs.declared.request.Request.{Request}
-use Rattle.uc_meaning.specs.declared.request.Request.TheVariants as ask
-use Rattle.uc_meaning.specs.declared.got.Got.{Got}
-use Rattle.uc_meaning.specs.Journal.{Journal, begin, entry, holds, is_over, is_ending, held, own_object, entries_at}
-use Rattle.uc_meaning.specs.Queues.{running, ready, waiting, stacked, used, next, successor, first_ended, ends_first, none_running, none_ready, none_served, all_ticks, processor_count, cluster_count, processors, open_processors, is_processor, is_cluster, is_nobody, closes, makes_processor}
-use Rattle.uc_meaning.specs.Open.{still_open}
-use Rattle.uc_meaning.specs.Known.{takes_out}
-use Rattle.uc_meaning.specs.Reading.{next_read, bytes_used, has_failed}
-use Rattle.uc_meaning.specs.Answers.{answer_to, tells, asks}
-use Rattle.uc_meaning.specs.Acts.{act, settled, fault, admission, entries_of, verdict, ending, fitted, closing, prints, read_entry, truth, is_faulty, dispatch}
-use Rattle.uc_meaning.proofs.Open.{any_push}
-use Rattle.uc_meaning.proofs.Answered.{answer_push, later}
-use Rattle.uc_meaning.proofs.Given.{answer_given}
+use Rattle.uc_entry.specs.declared.entry.Entry.{Entry}
+use Rattle.uc_entry.specs.declared.entry.EntryKind.{EntryKind}
+use Rattle.uc_entry.specs.declared.entry.EntryKind.TheVariants as kind
+use Rattle.uc_entry.specs.declared.entry.Options.{Options}
+use Rattle.uc_entry.specs.declared.request.Answer.{Answer}
+use Rattle.uc_entry.specs.declared.request.Answer.TheVariants as answer
+use Rattle.uc_entry.specs.declared.request.Asked.{Asked}
+use Rattle.uc_entry.specs.declared.request.Piece.{Piece}
+use Rattle.uc_entry.specs.declared.request.Request.{Request}
+use Rattle.uc_entry.specs.declared.request.Request.TheVariants as ask
+use Rattle.uc_acts.specs.declared.got.Got.{Got}
+use Rattle.uc_acts.specs.Journal.{Journal, begin, entry, holds, is_over, is_ending, held, own_object, entries_at}
+use Rattle.uc_acts.specs.Queues.{running, ready, waiting, stacked, used, next, successor, first_ended, ends_first, none_running, none_ready, none_served, all_ticks, processor_count, cluster_count, processors, open_processors, is_processor, is_cluster, is_nobody, closes, makes_processor}
+use Rattle.uc_acts.specs.Open.{still_open}
+use Rattle.uc_acts.specs.Known.{takes_out}
+use Rattle.uc_acts.specs.Reading.{next_read, bytes_used, has_failed}
+use Rattle.uc_acts.specs.Answers.{answer_to, tells, asks}
+use Rattle.uc_acts.specs.Acts.{act, settled, fault, admission, entries_of, verdict, ending, fitted, closing, prints, read_entry, truth, is_faulty, dispatch}
+use Rattle.uc_acts.proofs.Open.{any_push}
+use Rattle.uc_acts.proofs.Answered.{answer_push, later}
+use Rattle.uc_acts.proofs.Given.{answer_given}
 use Rattle.uc_alone.specs.declared.tally.Tally.{Tally}
 use Rattle.uc_alone.specs.Alone.{opening, plain, limited, Unseen, Running, Ready, Tells, Told}
 use Rattle.uc_alone.specs.Kept.{tick_limit, Fitted, stands, replaced, Acted, goes_on, stops, Makes, goes, given, full, over, odd, After, Closing, by_done, by_fault, by_limit, Ended, is_few, is_answered, tally_after_read, tally_after_ticks, tally_dispatched}

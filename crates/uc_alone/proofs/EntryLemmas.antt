@@ -5,19 +5,19 @@ use Rattle.std.specs.Option.{option_to_list}
 use Rattle.std.specs.List.{filter, sum_by, list_any}
 use Rattle.std.proofs.lemmas.List.Elements.{filter-append}
 use Rattle.std.proofs.lemmas.List.Sums.{sum_by_push}
-use Rattle.uc_meaning.specs.declared.entry.Entry.{Entry}
-use Rattle.uc_meaning.specs.declared.entry.EntryKind.{EntryKind}
-use Rattle.uc_meaning.specs.declared.entry.EntryKind.TheVariants as kind
-use Rattle.uc_meaning.specs.Open.{still_open}
-use Rattle.uc_meaning.specs.Journal.{Journal, is_over, is_ending, entries_at, held, own_object, owns, first_or_0, where_true, is_task, lets_in, moves}
-use Rattle.uc_meaning.specs.Queues.{running, ready, waiting, stacked, used, first_ended, all_ticks, ends_first, spent, dispatches, readies, on_cluster, puts_on, takes_off, calls, takes, stacks, admits, cluster_of, last_clusters, closes}
-use Rattle.uc_meaning.specs.Known.{takes_out}
-use Rattle.uc_meaning.specs.Reading.{used_from, used_by, failed_from, fails_by}
-use Rattle.uc_meaning.specs.Acts.{dispatch}
+use Rattle.uc_entry.specs.declared.entry.Entry.{Entry}
+use Rattle.uc_entry.specs.declared.entry.EntryKind.{EntryKind}
+use Rattle.uc_entry.specs.declared.entry.EntryKind.TheVariants as kind
+use Rattle.uc_acts.specs.Open.{still_open}
+use Rattle.uc_acts.specs.Journal.{Journal, is_over, is_ending, entries_at, held, own_object, owns, first_or_0, where_true, is_task, lets_in, moves}
+use Rattle.uc_acts.specs.Queues.{running, ready, waiting, stacked, used, first_ended, all_ticks, ends_first, spent, dispatches, readies, on_cluster, puts_on, takes_off, calls, takes, stacks, admits, cluster_of, last_clusters, closes}
+use Rattle.uc_acts.specs.Known.{takes_out}
+use Rattle.uc_acts.specs.Reading.{used_from, used_by, failed_from, fails_by}
+use Rattle.uc_acts.specs.Acts.{dispatch}
 use Rattle.uc_alone.specs.Alone.{Calm, Unseen, Alone, Running, Ready, plain}
-use Rattle.uc_meaning.proofs.Open.{still_open_silent, still_open_begins, still_open_push, any_push, or_false}
-use Rattle.uc_meaning.proofs.Noted.{noted_at, last_clusters_push}
-use Rattle.uc_meaning.proofs.Seats.{running_same, running_given, ready_push}
+use Rattle.uc_acts.proofs.Open.{still_open_silent, still_open_begins, still_open_push, any_push, or_false}
+use Rattle.uc_acts.proofs.Noted.{noted_at, last_clusters_push}
+use Rattle.uc_acts.proofs.Seats.{running_same, running_given, ready_push}
 
 pub print_calm : Calm kind.Print
 print_calm = record { goes_on = refl; faultless = refl; ends = λ e. refl; lets = λ e. refl; moves = λ e t. refl; owns = λ t e. refl; calls = λ e. refl; takes = λ e t. refl; stacks = λ e. refl; admits = λ e t. refl; clusters = λ on e. refl; closes = λ p e. refl; out = λ e o. refl }

@@ -3,22 +3,23 @@ use Rattle.std.proofs.Common.{cond, ◌≡◌, ℕ, ◌-◌, List, [], ◌∷◌
 use Rattle.std.specs.Prelude.{false}
 use Rattle.std.specs.List.{Contains}
 use Rattle.uc_tree.specs.Source.{Source}
-use Rattle.uc_meaning.specs.declared.entry.Entry.{Entry}
-use Rattle.uc_meaning.specs.declared.entry.Options.{Options}
-use Rattle.uc_meaning.specs.declared.request.Answer.{Answer}
-use Rattle.uc_meaning.specs.declared.request.Answer.TheVariants as answer
-use Rattle.uc_meaning.specs.declared.request.Asked.{Asked}
-use Rattle.uc_meaning.specs.Executions.{find}
-use Rattle.uc_meaning.specs.Journal.{Journal, begin, is_over, held, first_or_0}
-use Rattle.uc_meaning.specs.Queues.{ready, running}
-use Rattle.uc_meaning.specs.Known.{takes_out}
-use Rattle.uc_meaning.specs.Answers.{answer_to}
-use Rattle.uc_meaning.specs.Acts.{dispatch}
-use Rattle.uc_meaning.specs.Quiet.{State, Members, no_members}
-use Rattle.uc_meaning.specs.Rides.{Rides}
-use Rattle.uc_meaning.specs.Serves.{Serves, left}
-use Rattle.uc_meaning.specs.KernelRuns.{InRange}
-use Rattle.uc_meaning.specs.Runs.{World, Runs, begun, more, acts, gives, no_room, drawn, first_world, hand_of, with_home, with_hand, bare, world_after, answered, or_else}
+use Rattle.uc_entry.specs.declared.entry.Entry.{Entry}
+use Rattle.uc_entry.specs.declared.entry.Options.{Options}
+use Rattle.uc_entry.specs.declared.request.Answer.{Answer}
+use Rattle.uc_entry.specs.declared.request.Answer.TheVariants as answer
+use Rattle.uc_entry.specs.declared.request.Asked.{Asked}
+use Rattle.uc_entry.specs.Keyed.{find}
+use Rattle.uc_acts.specs.Journal.{Journal, begin, is_over, held, first_or_0}
+use Rattle.uc_acts.specs.Queues.{ready, running}
+use Rattle.uc_acts.specs.Known.{takes_out}
+use Rattle.uc_acts.specs.Answers.{answer_to}
+use Rattle.uc_acts.specs.Acts.{dispatch}
+use Rattle.uc_machine.specs.Quiet.{State, Members, no_members}
+use Rattle.uc_machine.specs.Rides.{Rides}
+use Rattle.uc_acts.specs.Serves.{Serves, left}
+use Rattle.uc_acts.specs.KernelRuns.{InRange}
+use Rattle.uc_meaning.specs.Runs.{World, Runs, begun, more, acts, gives, no_room, drawn, first_world, hand_of, with_home, bare, world_after, or_else}
+use Rattle.uc_machine.specs.Answering.{with_hand, answered}
 use Rattle.uc_alone.specs.declared.tally.Tally.{Tally}
 use Rattle.uc_alone.specs.Alone.{opening, limited, HasOwn, Ready, Tells, Told, Going, start}
 use Rattle.uc_alone.specs.Kept.{Makes, Kept, goes, given, full, over, odd}

@@ -2,25 +2,25 @@
 use Rattle.std.proofs.Common.{◌≡◌, ℕ, zero, suc, pos, Bool, true, false, cond, List, [], ◌∷◌, length, Option, Some, None, refl, sym, ap, ◌∙◌, subst, map}
 use Rattle.std.specs.Prelude.{nat_eq, nat_lt, drop, slice_get, if◌then◌else◌}
 use Rattle.std.proofs.lemmas.Bool.{eqb-true}
-use Rattle.uc_meaning.specs.declared.exec.Exec.{Exec}
-use Rattle.uc_meaning.specs.declared.exec.Home.{Home}
-use Rattle.uc_meaning.specs.declared.exec.Home.TheVariants.{Task, Object}
-use Rattle.uc_meaning.specs.declared.exec.Owner.{Owner}
-use Rattle.uc_meaning.specs.declared.exec.Owner.TheVariants.{Frame, Fields}
-use Rattle.uc_meaning.specs.declared.exec.Reason.{Reason}
-use Rattle.uc_meaning.specs.declared.exec.Reason.TheVariants as reason
-use Rattle.uc_meaning.specs.declared.exec.Stage.{Stage}
-use Rattle.uc_meaning.specs.declared.exec.Stage.TheVariants.{Fresh, Started, Ended}
-use Rattle.uc_meaning.specs.declared.exec.Visited.{Visited}
-use Rattle.uc_meaning.specs.declared.request.Asked.{Asked}
-use Rattle.uc_meaning.specs.declared.request.Piece.{Piece}
+use Rattle.uc_machine.specs.declared.exec.Exec.{Exec}
+use Rattle.uc_machine.specs.declared.exec.Home.{Home}
+use Rattle.uc_machine.specs.declared.exec.Home.TheVariants.{Task, Object}
+use Rattle.uc_machine.specs.declared.exec.Owner.{Owner}
+use Rattle.uc_machine.specs.declared.exec.Owner.TheVariants.{Frame, Fields}
+use Rattle.uc_machine.specs.declared.exec.Reason.{Reason}
+use Rattle.uc_machine.specs.declared.exec.Reason.TheVariants as reason
+use Rattle.uc_machine.specs.declared.exec.Stage.{Stage}
+use Rattle.uc_machine.specs.declared.exec.Stage.TheVariants.{Fresh, Started, Ended}
+use Rattle.uc_machine.specs.declared.exec.Visited.{Visited}
+use Rattle.uc_entry.specs.declared.request.Asked.{Asked}
+use Rattle.uc_entry.specs.declared.request.Piece.{Piece}
 use Rattle.uc_tree.specs.Source.{Shape, Expr, Literal, Variable, Element, Load, Negated, Not, AsCharacter, AsTruth, Operate, And, Or, Assign, Update, StepBehind, Fail, Get, Set, First, Call, OfObject, ObjectExpr, This, OwnField, GetOwn, FieldOf, Counted, CallOn, CallLive, CallUnwritten, EnterOn, Wait, Signal, SignalBlock, IsEmpty, FrontOf, NoExprs, MoreExprs, Way, ToBreak, ToContinue, ToReturn, ToEnd, Stmt, Skip, Block, Whole, Evaluate, Declare, Print, PrintTogether, Read, If, Loop, Break, Continue, Return, Fill, OfEvents, OfTasks, TaskStmt, Resume, Suspend, SetUp, Enliven, TakeDown, Yield, Migrate, Accept, Stmts, Nil, Then, Scoped, Built, Routine, Source, EventStmt, Throw, Raise, Try, RaiseAt, Enable, Disable, Handlers}
-use Rattle.uc_meaning.specs.Executions.{Execution, update, set_members, members_at, change_in, change, with_owned, exec_eq, parked_at, values_cleared}
-use Rattle.uc_meaning.specs.Quiet as q
-use Rattle.uc_meaning.specs.Quiet.{Active, State, Env, Members, Todo, Step, Goes, Ticks, Asks, Outcome, Gives, Faults, Eval, LoadNow, ElementNow, FieldNow, NegateNow, NotNow, CharacterNow, TruthNow, OperateNow, CopyNow, CopyBelowNow, DropNow, DropBelowNow, StoreNow, KeepNow, SetNow, Choose, Branch, TickNow, TurnNow, Arguments, CallNow, CallOnNow, CallUnwrittenNow, CountNow, MoreNow, FillNow, Again, PrintNow, TextNow, GatherNow, FlushNow, ReadNow, ClearNow, Items, Values, Pieces, Targets, Variables, Do, Rest, Within, Exit, NoReturnNow, InLoop, InWhole, Clean, Sweep, Part, Guard, Unwind, ThrowNow, RaiseNow, SetUpNow, EnlivenNow, TakeDownNow, ForgetNow, LiveNow, ResumeNow, SuspendNow, Land, Finish, FinishCoroutine, Sort, sort, Simple, IsLoop, IsWhole, IsClean, IsFill, IsSweep, IsPart, IsGuard, IsFinish, IsFinishCoroutine, Value, Number, Place, Running, Nothing, quiet, act_todo, act, object_step, eval_step, event_step, stmt_step, rest_step, call_step, call_on_step, call_unwritten_step, sweep_step, exit_step, end_step, task_step, fresh, home_at, set_up_step, live_step, resumed, land_step, at, moves, exec_at, own_exec, outcome_step, element_step, print_step, flush_step, return_step, written, outcome, index_in, number, top, below}
-use Rattle.uc_meaning.specs.Raising.{Event, Handler, Found, event_in, handler_for, catch_step, guard_left, arrives, whole_left, main_left, coroutine_left, unwind_past, escapes, pass_on, leave_for, leave_step, unwind_step, seek, handle_step, return_past, end_by}
-use Rattle.uc_meaning.specs.Switches.{Moved, new_exec, one_more, born, slot_gone, forgotten, is_live, live_changed, enlivened, woken, slot_set, set_slot, stopped, switched, able, go_on, in_destruction, wake_at, wake_by, wake_one, wake, suspend, or_else, ended, finish, unwound_there, throw_at, escape, taken_down, take_down_at, take_down_by, take_down}
-use Rattle.uc_meaning.specs.Rides.{Rides, slices, goes_on, ticks, asks}
+use Rattle.uc_machine.specs.Executions.{Execution, update, set_members, members_at, change_in, change, with_owned, exec_eq, parked_at, values_cleared}
+use Rattle.uc_machine.specs.Quiet as q
+use Rattle.uc_machine.specs.Quiet.{Active, State, Env, Members, Todo, Step, Goes, Ticks, Asks, Outcome, Gives, Faults, Eval, LoadNow, ElementNow, FieldNow, NegateNow, NotNow, CharacterNow, TruthNow, OperateNow, CopyNow, CopyBelowNow, DropNow, DropBelowNow, StoreNow, KeepNow, SetNow, Choose, Branch, TickNow, TurnNow, Arguments, CallNow, CallOnNow, CallUnwrittenNow, CountNow, MoreNow, FillNow, Again, PrintNow, TextNow, GatherNow, FlushNow, ReadNow, ClearNow, Items, Values, Pieces, Targets, Variables, Do, Rest, Within, Exit, NoReturnNow, InLoop, InWhole, Clean, Sweep, Part, Guard, Unwind, ThrowNow, RaiseNow, SetUpNow, EnlivenNow, TakeDownNow, ForgetNow, LiveNow, ResumeNow, SuspendNow, Land, Finish, FinishCoroutine, Sort, sort, Simple, IsLoop, IsWhole, IsClean, IsFill, IsSweep, IsPart, IsGuard, IsFinish, IsFinishCoroutine, Value, Number, Place, Running, Nothing, quiet, act_todo, act, object_step, eval_step, event_step, stmt_step, rest_step, call_step, call_on_step, call_unwritten_step, sweep_step, exit_step, end_step, task_step, fresh, home_at, set_up_step, live_step, resumed, land_step, at, moves, exec_at, own_exec, outcome_step, element_step, print_step, flush_step, return_step, written, outcome, index_in, number, top, below}
+use Rattle.uc_machine.specs.Raising.{Event, Handler, Found, event_in, handler_for, catch_step, guard_left, arrives, whole_left, main_left, coroutine_left, unwind_past, escapes, pass_on, leave_for, leave_step, unwind_step, seek, handle_step, return_past, end_by}
+use Rattle.uc_machine.specs.Switches.{Moved, new_exec, one_more, born, slot_gone, forgotten, is_live, live_changed, enlivened, woken, slot_set, set_slot, stopped, switched, able, go_on, in_destruction, wake_at, wake_by, wake_one, wake, suspend, or_else, ended, finish, unwound_there, throw_at, escape, taken_down, take_down_at, take_down_by, take_down}
+use Rattle.uc_machine.specs.Rides.{Rides, slices, goes_on, ticks, asks}
 use Rattle.uc_tree.specs.declared.limits.TheConstants.{CALLS, UNHANDLED}
 use Rattle.uc_alone.specs.Kept.{is_few}
 

@@ -1,15 +1,15 @@
 -- What one ride and its request make of a run.
 use Rattle.std.proofs.Common.{◌≡◌, ◌-◌, ℕ, List, Some, None, true, subst}
 use Rattle.uc_tree.specs.Source.{Source}
-use Rattle.uc_meaning.specs.declared.entry.Options.{Options}
-use Rattle.uc_meaning.specs.declared.request.Answer.{Answer}
-use Rattle.uc_meaning.specs.declared.request.Asked.{Asked}
-use Rattle.uc_meaning.specs.declared.request.Request.{Request}
-use Rattle.uc_meaning.specs.declared.request.Request.TheVariants as ask
-use Rattle.uc_meaning.specs.Journal.{Journal}
-use Rattle.uc_meaning.specs.Quiet.{State}
-use Rattle.uc_meaning.specs.Rides.{Rides}
-use Rattle.uc_meaning.specs.Runs.{answered}
+use Rattle.uc_entry.specs.declared.entry.Options.{Options}
+use Rattle.uc_entry.specs.declared.request.Answer.{Answer}
+use Rattle.uc_entry.specs.declared.request.Asked.{Asked}
+use Rattle.uc_entry.specs.declared.request.Request.{Request}
+use Rattle.uc_entry.specs.declared.request.Request.TheVariants as ask
+use Rattle.uc_acts.specs.Journal.{Journal}
+use Rattle.uc_machine.specs.Quiet.{State}
+use Rattle.uc_machine.specs.Rides.{Rides}
+use Rattle.uc_machine.specs.Answering.{answered}
 use Rattle.uc_code.specs.Codes.{Code}
 use Rattle.uc_code.specs.Laid.{Laid, laid_of}
 use Rattle.uc_code.specs.Lowered.{Lowered}

@@ -2,8 +2,8 @@
 use Rattle.std.proofs.Common.{◌≡◌, ℕ, [], ◌∷◌, Some, None, refl, sym, ap, subst, ◌∙◌}
 use Rattle.std.specs.Prelude.{slice_get}
 use Rattle.uc_tree.specs.Source.{Source, routine_or_none}
-use Rattle.uc_meaning.specs.Quiet.{State, no_members, first_state}
-use Rattle.uc_meaning.specs.Runs as runs
+use Rattle.uc_machine.specs.Quiet.{State, no_members, first_state}
+use Rattle.uc_machine.specs.Answering as answering
 use Rattle.uc_code.specs.Codes.{Code}
 use Rattle.uc_code.specs.Lowered.{Lowered}
 use Rattle.uc_code.specs.Laid.{Laid, laid_of}
@@ -17,7 +17,7 @@ use Rattle.uc_step.specs.Starts.{Starts}
 use Rattle.uc_alone.specs.Alone.{start}
 use Rattle.uc_alone.specs.Run.{HasMain, with_own}
 
-own_stands : (code : Laid) (m : Machine) (s : State) → Stands code m s → Stands code (with_own m) (runs.with_hand ((0, no_members) ∷ []) s)
+own_stands : (code : Laid) (m : Machine) (s : State) → Stands code m s → Stands code (with_own m) (answering.with_hand ((0, no_members) ∷ []) s)
 own_stands code m s h = record {
   run = h.run;
   callers = h.callers;
@@ -37,8 +37,8 @@ pub started : (code : Code) (main : ℕ) (m n : Machine) (source : Source) → S
 started code main m n source s e l k h =
     let there : slice_get source.routines main ≡ Some h.routine = subst (λ j. slice_get source.routines j ≡ Some h.routine) k h.there in
     let first : Stands (laid_of code) m (first_state h.routine 0) = s source h.routine l there in
-    let own : Stands (laid_of code) (with_own m) (runs.with_hand ((0, no_members) ∷ []) (first_state h.routine 0)) = own_stands (laid_of code) m (first_state h.routine 0) first in
-    subst (λ x. Stands (laid_of code) x (start source)) (sym e) (subst (λ r. Stands (laid_of code) (with_own m) (runs.with_hand ((0, no_members) ∷ []) (first_state r 0))) (sym (ap routine_or_none h.there)) own)
+    let own : Stands (laid_of code) (with_own m) (answering.with_hand ((0, no_members) ∷ []) (first_state h.routine 0)) = own_stands (laid_of code) m (first_state h.routine 0) first in
+    subst (λ x. Stands (laid_of code) x (start source)) (sym e) (subst (λ r. Stands (laid_of code) (with_own m) (answering.with_hand ((0, no_members) ∷ []) (first_state r 0))) (sym (ap routine_or_none h.there)) own)
 
 pub unstarted : (code : Code) (main : ℕ) (source : Source) → Starts code main 0 None → Lowered source code → source.main ≡ main → HasMain source → ⊥
 unstarted code main source s l k h = s source h.routine l (subst (λ j. slice_get source.routines j ≡ Some h.routine) k h.there)

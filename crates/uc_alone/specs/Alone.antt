@@ -3,19 +3,20 @@ use Rattle.std.specs.Prelude.{◌≡◌, ℕ, ℤ, pos, false, List, [], ◌∷�
 use Rattle.std.specs.List.{list_any}
 use Rattle.uc_tree.specs.Programs.{Site}
 use Rattle.uc_tree.specs.Source.{Source, routine_of}
-use Rattle.uc_meaning.specs.declared.entry.Entry.{Entry}
-use Rattle.uc_meaning.specs.declared.entry.EntryKind.{EntryKind}
-use Rattle.uc_meaning.specs.declared.entry.EntryKind.TheVariants as kind
-use Rattle.uc_meaning.specs.declared.entry.Options.{Options}
-use Rattle.uc_meaning.specs.declared.request.Answer.{Answer}
-use Rattle.uc_meaning.specs.Journal.{Journal, entry, begin, is_over, is_ending, is_fault, held, own_object, lets_in, moves, owns}
-use Rattle.uc_meaning.specs.Queues.{ready, running, waiting, stacked, used, first_ended, all_ticks, ends_first, calls, takes, stacks, admits, puts_on, takes_off, dispatches, readies, clusters, cluster_of, closes}
-use Rattle.uc_meaning.specs.Known.{takes_object}
-use Rattle.uc_meaning.specs.Reading.{bytes_used, has_failed}
-use Rattle.uc_meaning.specs.Answers.{answer_to}
-use Rattle.uc_meaning.specs.Acts.{dispatch}
-use Rattle.uc_meaning.specs.Quiet.{State, Members, no_members, first_state}
-use Rattle.uc_meaning.specs.Runs.{World, Runs, drawn, with_hand}
+use Rattle.uc_entry.specs.declared.entry.Entry.{Entry}
+use Rattle.uc_entry.specs.declared.entry.EntryKind.{EntryKind}
+use Rattle.uc_entry.specs.declared.entry.EntryKind.TheVariants as kind
+use Rattle.uc_entry.specs.declared.entry.Options.{Options}
+use Rattle.uc_entry.specs.declared.request.Answer.{Answer}
+use Rattle.uc_acts.specs.Journal.{Journal, entry, begin, is_over, is_ending, is_fault, held, own_object, lets_in, moves, owns}
+use Rattle.uc_acts.specs.Queues.{ready, running, waiting, stacked, used, first_ended, all_ticks, ends_first, calls, takes, stacks, admits, puts_on, takes_off, dispatches, readies, clusters, cluster_of, closes}
+use Rattle.uc_acts.specs.Known.{takes_object}
+use Rattle.uc_acts.specs.Reading.{bytes_used, has_failed}
+use Rattle.uc_acts.specs.Answers.{answer_to}
+use Rattle.uc_acts.specs.Acts.{dispatch}
+use Rattle.uc_machine.specs.Quiet.{State, Members, no_members, first_state}
+use Rattle.uc_meaning.specs.Runs.{World, Runs, drawn}
+use Rattle.uc_machine.specs.Answering.{with_hand}
 use Rattle.uc_alone.specs.declared.tally.Tally.{Tally}
 
 -- a run opens with its options, and task 0 is dispatched

@@ -1,10 +1,10 @@
 -- How far a run of one task has come.
 use Rattle.std.specs.Prelude.{ℕ, List}
 use Rattle.uc_tree.specs.Source.{Source}
-use Rattle.uc_meaning.specs.declared.entry.Options.{Options}
-use Rattle.uc_meaning.specs.declared.request.Answer.{Answer}
-use Rattle.uc_meaning.specs.Journal.{Journal}
-use Rattle.uc_meaning.specs.Quiet.{State}
+use Rattle.uc_entry.specs.declared.entry.Options.{Options}
+use Rattle.uc_entry.specs.declared.request.Answer.{Answer}
+use Rattle.uc_acts.specs.Journal.{Journal}
+use Rattle.uc_machine.specs.Quiet.{State}
 use Rattle.uc_code.specs.Laid.{Laid}
 use Rattle.uc_frames.specs.Machine.{Machine}
 use Rattle.uc_frames.specs.Stands.{Stands}

@@ -1,8 +1,8 @@
 -- A whole run of one task.
 use Rattle.std.specs.Prelude.{◌≡◌, ℕ, List, [], ◌∷◌, Option, Some, None, slice_get}
 use Rattle.uc_tree.specs.Source.{Source, Routine}
-use Rattle.uc_meaning.specs.declared.entry.Options.{Options}
-use Rattle.uc_meaning.specs.Journal.{Journal}
+use Rattle.uc_entry.specs.declared.entry.Options.{Options}
+use Rattle.uc_acts.specs.Journal.{Journal}
 use Rattle.uc_meaning.specs.Runs.{IsRun}
 use Rattle.uc_code.specs.Codes.{Code}
 use Rattle.uc_frames.specs.Machine.{Machine, Members, with_hand}

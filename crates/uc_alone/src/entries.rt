@@ -2,15 +2,15 @@
 
 ghost use Rattle.std.specs.Prelude.{◌≡◌, ◌≤◌, pos};
 ghost use Rattle.uc_tree.specs.declared.limits.TheConstants.{TICKS_MAX};
-ghost use Rattle.uc_meaning.specs.Acts.{truth, read_entry};
-ghost use Rattle.uc_meaning.specs.Journal.{begin, entry};
-ghost use Rattle.uc_meaning.specs.declared.entry.EntryKind.TheVariants as kind;
-ghost use Rattle.uc_meaning.specs.declared.request.Answer.TheVariants as answer;
+ghost use Rattle.uc_acts.specs.Acts.{truth, read_entry};
+ghost use Rattle.uc_acts.specs.Journal.{begin, entry};
+ghost use Rattle.uc_entry.specs.declared.entry.EntryKind.TheVariants as kind;
+ghost use Rattle.uc_entry.specs.declared.request.Answer.TheVariants as answer;
 ghost use Rattle.uc_alone.specs.Alone.{plain};
 
-use uc_meaning::entry::{Entry, EntryKind, Options};
-use uc_meaning::got::Got;
-use uc_meaning::request::{Answer, Piece};
+use uc_acts::got::Got;
+use uc_entry::entry::{Entry, EntryKind, Options};
+use uc_entry::request::{Answer, Piece};
 
 /// The first entry, which tells the options.
 pub fn begin_entry(opts: Options) -> Entry

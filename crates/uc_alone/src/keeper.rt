@@ -2,21 +2,21 @@
 
 ghost use Rattle.std.specs.Prelude.{◌≡◌, ◌≤◌, ◌<◌, ◌∷◌, [], true, false, IsTrue, IsFalse, ◌+◌, ◌-◌, ◌++◌, length, take, is_some, min, IfOk, OnOk, List, ℕ, Some, None};
 ghost use Rattle.uc_tree.specs.declared.limits.TheConstants.{INPUT_BYTES, SLICE_MAX, TICKS_MAX};
-ghost use Rattle.uc_meaning.specs.declared.request.Request.TheVariants as ask;
-ghost use Rattle.uc_meaning.specs.Reading.{next_read};
-ghost use Rattle.uc_meaning.specs.Acts.{prints, fault, dispatch};
-ghost use Rattle.uc_meaning.specs.Journal.{Journal};
-ghost use Rattle.uc_meaning.specs.KernelRuns.{InRange};
+ghost use Rattle.uc_entry.specs.declared.request.Request.TheVariants as ask;
+ghost use Rattle.uc_acts.specs.Reading.{next_read};
+ghost use Rattle.uc_acts.specs.Acts.{prints, fault, dispatch};
+ghost use Rattle.uc_acts.specs.Journal.{Journal};
+ghost use Rattle.uc_acts.specs.KernelRuns.{InRange};
 ghost use Rattle.uc_alone.specs.Alone.{Tells, limited};
 ghost use Rattle.uc_alone.specs.Kept.{Acted, Fitted, After};
 
 use crate::entries::{fail_answer, fail_entry, got_entry, plain_entry, print_entry, value_answer};
 use crate::tally::{Tally, dispatched, with_read, with_ticks};
 use std::alloc::AllocError;
+use uc_acts::got::Got;
+use uc_entry::entry::{Entry, EntryKind, Options};
+use uc_entry::request::{Answer, Asked, Piece, Request};
 use uc_input::reading::read_form;
-use uc_meaning::entry::{Entry, EntryKind, Options};
-use uc_meaning::got::Got;
-use uc_meaning::request::{Answer, Asked, Piece, Request};
 
 // The next read.
 fn next_got(tally: Tally, form: u8, input: &[u8]) -> Got

@@ -2,14 +2,14 @@
 
 ghost use Rattle.std.specs.Prelude.{◌≡◌, ◌≤◌, ◌<◌, false, IfOk, MatchOption, Some, None, length};
 ghost use Rattle.uc_tree.specs.declared.limits.TheConstants.{INPUT_BYTES};
-ghost use Rattle.uc_meaning.specs.KernelRuns.{InRange};
+ghost use Rattle.uc_acts.specs.KernelRuns.{InRange};
 ghost use Rattle.uc_code.specs.Pace.{IsPaced};
 ghost use Rattle.uc_code.specs.Laid.{laid_of};
 ghost use Rattle.uc_tree.specs.Source.{Source};
 ghost use Rattle.uc_code.specs.Lowered.{Lowered};
 ghost use Rattle.uc_frames.specs.Stands.{Stands};
-ghost use Rattle.uc_meaning.specs.Quiet.{State};
-ghost use Rattle.uc_meaning.specs.declared.request.Answer.TheVariants as answer;
+ghost use Rattle.uc_machine.specs.Quiet.{State};
+ghost use Rattle.uc_entry.specs.declared.request.Answer.TheVariants as answer;
 ghost use Rattle.uc_alone.specs.Alone.{Going, Tells, start};
 ghost use Rattle.uc_step.specs.Falls.{Keeps};
 ghost use Rattle.uc_alone.specs.Run.{IsRunOf, HasMain, KeptByAll, with_own};
@@ -19,11 +19,11 @@ use crate::keeper::keep;
 use crate::tally::Tally;
 use std::alloc::{AllocError, Global};
 use uc_code::code::Code;
+use uc_entry::entry::{Entry, EntryKind, Options};
+use uc_entry::list::List;
+use uc_entry::request::Answer;
 use uc_frames::members::Members;
 use uc_frames::work::Work;
-use uc_meaning::entry::{Entry, EntryKind, Options};
-use uc_meaning::list::List;
-use uc_meaning::request::Answer;
 use uc_ride::ride::ride_on;
 use uc_step::begin::begin;
 

@@ -4,7 +4,7 @@ ghost use Rattle.std.specs.Prelude.{◌≡◌, ◌+◌, ◌≤◌, ◌<◌, ◌^
 ghost use Rattle.uc_tree.specs.declared.limits.TheConstants.{INPUT_BYTES, SLICE_MAX, TICKS_MAX};
 ghost use Rattle.uc_alone.specs.Kept.{tally_after_read, tally_after_ticks, tally_dispatched};
 
-use uc_meaning::got::Got;
+use uc_acts::got::Got;
 
 /// How many bytes of the input the reads of a journal took, whether one failed, the ticks of its task since the last
 /// dispatch, and the ticks of all.

@@ -4,9 +4,9 @@ use Rattle.std.proofs.Math.Seq.{take-length}
 use Rattle.std.proofs.lemmas.List.{take-append-le}
 use Rattle.uc_tree.specs.declared.kinds.Base.{Base}
 use Rattle.uc_tree.specs.Statements.{Declarator, ForStart, NoFor, ForDeclare, ForEvaluate, Stmt, Declare, Stmts, NoStmts, MoreStmts}
-use Rattle.uc_meaning.specs.declared.rules.Around.{Around}
-use Rattle.uc_meaning.specs.declared.rules.Seen.{Seen}
-use Rattle.uc_meaning.specs.Scopes.{Env, opened, block_env, with_seen, seen_as, with_around, with_joins, in_loop, in_handler, declared, all_declared, with_caught, env_after, env_behind, for_declared}
+use Rattle.uc_rules.specs.declared.rules.Around.{Around}
+use Rattle.uc_rules.specs.declared.rules.Seen.{Seen}
+use Rattle.uc_rules.specs.Scopes.{Env, opened, block_env, with_seen, seen_as, with_around, with_joins, in_loop, in_handler, declared, all_declared, with_caught, env_after, env_behind, for_declared}
 
 -- the program and the first names stay
 record Grows (env now : Env) : Type 0 where

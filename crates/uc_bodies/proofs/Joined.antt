@@ -1,10 +1,10 @@
 -- Breaks at visits that are joined.
 use Rattle.std.proofs.Common.{◌≡◌, List, [], ◌∷◌, ◌++◌, Option, Bool, true, false, ◌&&◌, length, refl, arith}
 use Rattle.uc_tree.specs.Expressions.{Expr, exprs_of}
-use Rattle.uc_meaning.specs.declared.rule.Break.{Break}
-use Rattle.uc_meaning.specs.Entities.{count}
-use Rattle.uc_meaning.specs.Firsts.{sooner, after}
-use Rattle.uc_meaning.specs.Visits.{Visit}
+use Rattle.uc_rules.specs.declared.rule.Break.{Break}
+use Rattle.uc_rules.specs.Entities.{count}
+use Rattle.uc_rules.specs.Firsts.{sooner, after}
+use Rattle.uc_rules.specs.Visits.{Visit}
 use Rattle.uc_types.specs.Told.{told, noted}
 
 pub noted_append : (f : Option Break) (a b : List Visit) → noted f (a ++ b) ≡ noted (noted f a) b

@@ -3,8 +3,8 @@ use Rattle.std.proofs.Common.{◌≡◌, Bool, true, false, List, [], ◌∷◌,
 use Rattle.std.proofs.lemmas.Bool.Decides.{nat_tests}
 use Rattle.std.specs.Bool.{◌==◌}
 use Rattle.uc_tree.specs.Expressions.{Expr, exprs_of}
-use Rattle.uc_meaning.specs.Scopes.{Env}
-use Rattle.uc_meaning.specs.ExpressionBreaks.{are_single}
+use Rattle.uc_rules.specs.Scopes.{Env}
+use Rattle.uc_rules.specs.ExpressionBreaks.{are_single}
 
 is_some : (e f : Expr) (es : List Expr) → (length (e ∷ f ∷ es) == 0) ≡ false
 is_some e f es = grind (arith, nat_tests)

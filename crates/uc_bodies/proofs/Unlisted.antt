@@ -7,11 +7,11 @@ use Rattle.uc_tree.specs.declared.limits.TheConstants.{CLAUSES}
 use Rattle.uc_tree.specs.declared.pos.Pos.{Pos}
 use Rattle.uc_tree.specs.Expressions.{Expr}
 use Rattle.uc_tree.specs.Statements.{Stmt, Clause, Accepts, clauses_of}
-use Rattle.uc_meaning.specs.declared.rule.Rule.TheVariants.{S20}
-use Rattle.uc_meaning.specs.declared.rule.Break.{Break}
-use Rattle.uc_meaning.specs.Asked.{unless}
-use Rattle.uc_meaning.specs.ExpressionBreaks.{all_listed, are_fresh, clauses_breaks, listed_in}
-use Rattle.uc_meaning.specs.Firsts.{after}
+use Rattle.uc_rules.specs.declared.rule.Rule.TheVariants.{S20}
+use Rattle.uc_rules.specs.declared.rule.Break.{Break}
+use Rattle.uc_rules.specs.Asked.{unless}
+use Rattle.uc_rules.specs.ExpressionBreaks.{all_listed, are_fresh, clauses_breaks, listed_in}
+use Rattle.uc_rules.specs.Firsts.{after}
 use Rattle.uc_bodies.proofs.Joined.{after_append}
 use Rattle.uc_bodies.proofs.Walks.{split}
 

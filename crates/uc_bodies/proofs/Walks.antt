@@ -3,9 +3,9 @@ use Rattle.std.proofs.Common.{◌≡◌, ℕ, ◌+◌, ◌<◌, ◌≤◌, List,
 use Rattle.std.proofs.lemmas.List.{at_drop_more}
 use Rattle.uc_tree.specs.Statements.{Stmt, Handler, Clause, stmts_of, handlers_of, clauses_of}
 use Rattle.uc_tree.specs.StatementSizes.{stmt_size, stmts_size, handler_size, handlers_size, clause_size, clauses_size}
-use Rattle.uc_meaning.specs.declared.rule.Break.{Break}
-use Rattle.uc_meaning.specs.Scopes.{Env}
-use Rattle.uc_meaning.specs.Visits.{Visit}
+use Rattle.uc_rules.specs.declared.rule.Break.{Break}
+use Rattle.uc_rules.specs.Scopes.{Env}
+use Rattle.uc_rules.specs.Visits.{Visit}
 use Rattle.uc_types.specs.Told.{noted}
 use Rattle.uc_bodies.proofs.Joined.{noted_append}
 

@@ -1,8 +1,8 @@
 -- Statements that hold no other one and declare nothing.
 use Rattle.std.specs.Prelude.{List, [], Bool, true, false, if◌then◌else◌}
 use Rattle.uc_tree.specs.Statements.{Stmt, Block, Empty, Evaluate, Declare, If, While, Do, For, Break, Continue, Return, Try, Throw, Raise, RaiseAt, Enable, Disable, Accept, Print, PrintTogether, Read, Resume, Suspend, Yield, Migrate}
-use Rattle.uc_meaning.specs.Scopes.{Env}
-use Rattle.uc_meaning.specs.Visits.{Visit, stmt_visits}
+use Rattle.uc_rules.specs.Scopes.{Env}
+use Rattle.uc_rules.specs.Visits.{Visit, stmt_visits}
 
 abbrev pub is_alone : Stmt → Bool
 is_alone (Block p body) = false

@@ -2,21 +2,21 @@
 
 ghost use Rattle.std.specs.Prelude.{◌≡◌, OnOk, length};
 ghost use Rattle.uc_tree.specs.Expressions.{exprs_of};
-ghost use Rattle.uc_meaning.specs.Asked.{of_sort};
-ghost use Rattle.uc_meaning.specs.Entities.{count, entity_of, expected};
-ghost use Rattle.uc_meaning.specs.ExpressionBreaks.{are_single, is_element, is_length, is_no_event, is_scalar_of, is_value_start, length_breaks, length_value_breaks, started_breaks, starts_well};
-ghost use Rattle.uc_meaning.specs.declared.rule.Rule.TheVariants.{O4, S22};
-ghost use Rattle.uc_meaning.specs.Firsts.{after};
-ghost use Rattle.uc_meaning.specs.Names.{constructor_params};
-ghost use Rattle.uc_meaning.specs.OwnerBreaks.{is_no_condition_sort};
-ghost use Rattle.uc_meaning.specs.Scopes.{all_declared};
-ghost use Rattle.uc_meaning.specs.Visits.{arg_visits, args_visits, declaration_visits, maybe_visits, single_target, start_values, variable_target, variable_visits, variables_visits};
+ghost use Rattle.uc_rules.specs.Asked.{of_sort};
+ghost use Rattle.uc_rules.specs.Entities.{count, entity_of, expected};
+ghost use Rattle.uc_rules.specs.ExpressionBreaks.{are_single, is_element, is_length, is_no_event, is_scalar_of, is_value_start, length_breaks, length_value_breaks, started_breaks, starts_well};
+ghost use Rattle.uc_rules.specs.declared.rule.Rule.TheVariants.{O4, S22};
+ghost use Rattle.uc_rules.specs.Firsts.{after};
+ghost use Rattle.uc_rules.specs.Names.{constructor_params};
+ghost use Rattle.uc_rules.specs.OwnerBreaks.{is_no_condition_sort};
+ghost use Rattle.uc_rules.specs.Scopes.{all_declared};
+ghost use Rattle.uc_rules.specs.Visits.{arg_visits, args_visits, declaration_visits, maybe_visits, single_target, start_values, variable_target, variable_visits, variables_visits};
 ghost use Rattle.uc_types.specs.Told.{noted};
 
 use crate::judge::{ask_base, is_new};
 use std::alloc::AllocError;
-use uc_meaning::rule::Rule;
-use uc_meaning::rules::{Entity, Sort, Target};
+use uc_rules::rule::Rule;
+use uc_rules::rules::{Entity, Sort, Target};
 use uc_tree::declare::{Declarator, Start, StartForm};
 use uc_tree::expr::Expr;
 use uc_tree::kinds::Base;

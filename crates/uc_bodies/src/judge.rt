@@ -1,17 +1,17 @@
 // What the rules ask at one place in a statement.
 
 ghost use Rattle.std.specs.Prelude.{◌≡◌, Some};
-ghost use Rattle.uc_meaning.specs.ExpressionBreaks.{event_takes, is_new, raise_breaks, return_breaks};
-ghost use Rattle.uc_meaning.specs.Firsts.{after};
-ghost use Rattle.uc_meaning.specs.OwnerBreaks.{is_cluster_place, is_raise_target, is_raise_target_sort, may_switch, returned_breaks};
-ghost use Rattle.uc_meaning.specs.Visits.{AtAgain, AtBase, AtCaught, AtCondition, AtEvent, AtLoopExit, AtMigrate, AtPrinted, AtRaise, AtRaiseTarget, AtRead, AtReturn, AtStatement, AtSwitch, AtTogether};
+ghost use Rattle.uc_rules.specs.ExpressionBreaks.{event_takes, is_new, raise_breaks, return_breaks};
+ghost use Rattle.uc_rules.specs.Firsts.{after};
+ghost use Rattle.uc_rules.specs.OwnerBreaks.{is_cluster_place, is_raise_target, is_raise_target_sort, may_switch, returned_breaks};
+ghost use Rattle.uc_rules.specs.Visits.{AtAgain, AtBase, AtCaught, AtCondition, AtEvent, AtLoopExit, AtMigrate, AtPrinted, AtRaise, AtRaiseTarget, AtRead, AtReturn, AtStatement, AtSwitch, AtTogether};
 ghost use Rattle.uc_types.specs.Told.{told};
 
-use uc_meaning::rule::Rule;
-use uc_meaning::rules::{Around, Entity, Sort};
+use uc_entry::request::PRINT_ITEMS;
+use uc_rules::rule::Rule;
+use uc_rules::rules::{Around, Entity, Sort};
 use uc_tree::declare::OutItem;
 use uc_tree::kinds::Base;
-use uc_tree::limits::PRINT_ITEMS;
 use uc_tree::name::Name;
 use uc_tree::pos::Pos;
 use uc_types::entity::{is_object, is_of_conditions, is_operation, is_readable, is_scalar};

@@ -2,15 +2,15 @@
 
 ghost use Rattle.std.specs.Prelude.{◌≡◌};
 ghost use Rattle.uc_tree.specs.Expressions.{exprs_of};
-ghost use Rattle.uc_meaning.specs.Entities.{count, entity_of};
-ghost use Rattle.uc_meaning.specs.Visits.{args_visits, class_target, condition_visits, event_class_target, event_target, events_visits, maybe_condition_visits, maybe_statement_visits, out_visits, outs_visits, raise_visits, raised_visits, read_visits, reads_visits, return_visits, statement_visits};
+ghost use Rattle.uc_rules.specs.Entities.{count, entity_of};
+ghost use Rattle.uc_rules.specs.Visits.{args_visits, class_target, condition_visits, event_class_target, event_target, events_visits, maybe_condition_visits, maybe_statement_visits, out_visits, outs_visits, raise_visits, raised_visits, read_visits, reads_visits, return_visits, statement_visits};
 ghost use Rattle.uc_types.specs.Told.{noted};
 
 use crate::judge::{
     ask_again, ask_condition, ask_event, ask_printed, ask_raise, ask_read, ask_return,
     ask_statement,
 };
-use uc_meaning::rules::{Sort, Target};
+use uc_rules::rules::{Sort, Target};
 use uc_tree::declare::{OutForm, OutItem, Raised};
 use uc_tree::expr::Expr;
 use uc_tree::kinds::EventName;

@@ -4,9 +4,9 @@ ghost use Rattle.std.specs.Prelude.{◌≡◌, [], ◌∷◌, ◌++◌, OnOk};
 ghost use Rattle.uc_tree.specs.Expressions.{expr_pos};
 ghost use Rattle.uc_tree.specs.Statements.{RaiseAt, clauses_of, handlers_of, stmts_of};
 ghost use Rattle.uc_tree.specs.StatementViews.{maybe_at};
-ghost use Rattle.uc_meaning.specs.Scopes.{block_env, env_after, env_behind, for_declared, in_handler, in_loop, opened, with_around, with_joins};
-ghost use Rattle.uc_meaning.specs.Entities.{entity_of};
-ghost use Rattle.uc_meaning.specs.Visits.{AtAccept, AtHandlers, AtMigrate, AtTogether, clause_visits, clauses_visits, condition_visits, events_visits, for_visits, handler_visits, handlers_visits, joined, looped, maybe_condition_visits, maybe_statement_visits, maybe_stmt_visits, outs_visits, stmt_visits, stmts_visits, visits};
+ghost use Rattle.uc_rules.specs.Scopes.{block_env, env_after, env_behind, for_declared, in_handler, in_loop, opened, with_around, with_joins};
+ghost use Rattle.uc_rules.specs.Entities.{entity_of};
+ghost use Rattle.uc_rules.specs.Visits.{AtAccept, AtHandlers, AtMigrate, AtTogether, clause_visits, clauses_visits, condition_visits, events_visits, for_visits, handler_visits, handlers_visits, joined, looped, maybe_condition_visits, maybe_statement_visits, maybe_stmt_visits, outs_visits, stmt_visits, stmts_visits, visits};
 ghost use Rattle.uc_types.specs.Told.{noted};
 ghost use Rattle.uc_bodies.specs.Alone.{alone_visits};
 
@@ -20,7 +20,7 @@ use crate::parts::{
     check_places, check_raise, check_raised, check_return, check_statement,
 };
 use std::alloc::AllocError;
-use uc_meaning::rules::Around;
+use uc_rules::rules::Around;
 use uc_tree::declare::{ForForm, ForStart, OutItem, Raised};
 use uc_tree::expr::Expr;
 use uc_tree::kinds::EventName;

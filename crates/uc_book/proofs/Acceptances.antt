@@ -1,18 +1,19 @@
 -- What an accept does to all parts, and the entries of its request, by what becomes of it.
 use Rattle.std.proofs.Common.{◌≡◌, ℕ, ◌<◌, ◌^◌, Bool, false, List, [], ◌∷◌, ◌++◌, Option, Some, sym, ap, ◌∙◌, subst, length, set, get_or}
 use Rattle.uc_tree.specs.Programs.{Site}
-use Rattle.uc_meaning.specs.declared.entry.Entry.{Entry}
-use Rattle.uc_meaning.specs.declared.entry.Options.{Options}
-use Rattle.uc_meaning.specs.declared.request.Request.TheVariants as ask
-use Rattle.uc_meaning.specs.Journal.{Journal, inside}
-use Rattle.uc_meaning.specs.Queues.{running}
-use Rattle.uc_meaning.specs.Doors.{Met, met, next_met, site_at}
-use Rattle.uc_meaning.specs.Known.{task_count}
-use Rattle.uc_meaning.specs.KernelRuns.{IsAt}
-use Rattle.uc_meaning.specs.Acts.{admit, push, accept_entry, accepted, fault, row, settled}
-use Rattle.uc_meaning.specs.Legal.{Legal}
-use Rattle.uc_meaning.proofs.Moves.{one_inside}
-use Rattle.uc_meaning.proofs.Rows.{Lawful, row_lawful}
+use Rattle.uc_entry.specs.declared.entry.Entry.{Entry}
+use Rattle.uc_entry.specs.declared.entry.Options.{Options}
+use Rattle.uc_entry.specs.declared.request.Request.TheVariants as ask
+use Rattle.uc_acts.specs.Journal.{Journal, inside}
+use Rattle.uc_acts.specs.Queues.{running}
+use Rattle.uc_acts.specs.Doors.{next_met, site_at}
+use Rattle.uc_tree.specs.SiteOffers.{Met, met}
+use Rattle.uc_acts.specs.Known.{task_count}
+use Rattle.uc_acts.specs.KernelRuns.{IsAt}
+use Rattle.uc_acts.specs.Acts.{admit, push, accept_entry, accepted, fault, row, settled}
+use Rattle.uc_acts.specs.Legal.{Legal}
+use Rattle.uc_acts.proofs.Moves.{one_inside}
+use Rattle.uc_acts.proofs.Rows.{Lawful, row_lawful}
 use Rattle.uc_mutex.specs.Doors.{Doors, door_at, with_door, let_in, on_top}
 use Rattle.uc_mutex.specs.Offers.{offers_by}
 use Rattle.uc_accept.specs.declared.accepting.Accepted.TheVariants as as_accepted

@@ -5,25 +5,25 @@ use Rattle.std.specs.Option.{option_to_list, is_some}
 use Rattle.std.specs.List.{filter, list_any}
 use Rattle.std.proofs.lemmas.Bool.{eqb-true}
 use Rattle.uc_tree.specs.Programs.{Site}
-use Rattle.uc_meaning.specs.declared.entry.Entry.{Entry}
-use Rattle.uc_meaning.specs.declared.entry.Options.{Options}
-use Rattle.uc_meaning.specs.declared.entry.EntryKind.TheVariants as kind
-use Rattle.uc_meaning.specs.Journal.{Journal, entry, inside, where_true}
-use Rattle.uc_meaning.specs.Queues.{running, cluster_of, last_actor}
-use Rattle.uc_meaning.specs.Doors.{last_call, last_called, calls_destructor, is_member}
-use Rattle.uc_meaning.specs.Known.{object_count, is_make}
-use Rattle.uc_meaning.specs.Acts.{admit}
-use Rattle.uc_meaning.specs.Stations.{Ready, Running, Waits, Stacked, Blocked, times}
-use Rattle.uc_meaning.specs.Sound.{Spot, Unborn, Ended, At, spot, here, own_or_ready}
-use Rattle.uc_meaning.specs.Legal.{Legal}
-use Rattle.uc_meaning.proofs.Noted.{noted_at}
-use Rattle.uc_meaning.proofs.Seats.{running_other, running_same}
-use Rattle.uc_meaning.proofs.Sound.{self_test, all_kept_nil}
-use Rattle.uc_meaning.proofs.Moves.{inside_now, spot_stays, spot_moves, first_at}
-use Rattle.uc_meaning.proofs.Stood.{last_same, last_stays, flip}
+use Rattle.uc_entry.specs.declared.entry.Entry.{Entry}
+use Rattle.uc_entry.specs.declared.entry.Options.{Options}
+use Rattle.uc_entry.specs.declared.entry.EntryKind.TheVariants as kind
+use Rattle.uc_acts.specs.Journal.{Journal, entry, inside, where_true}
+use Rattle.uc_acts.specs.Queues.{running, cluster_of, last_actor}
+use Rattle.uc_acts.specs.Doors.{last_call, last_called, calls_destructor, is_member}
+use Rattle.uc_acts.specs.Known.{object_count, is_make}
+use Rattle.uc_acts.specs.Acts.{admit}
+use Rattle.uc_acts.specs.Stations.{Ready, Running, Waits, Stacked, Blocked, times}
+use Rattle.uc_acts.specs.Sound.{Spot, Unborn, Ended, At, spot, here, own_or_ready}
+use Rattle.uc_acts.specs.Legal.{Legal}
+use Rattle.uc_acts.proofs.Noted.{noted_at}
+use Rattle.uc_acts.proofs.Seats.{running_other, running_same}
+use Rattle.uc_acts.proofs.Sound.{self_test, all_kept_nil}
+use Rattle.uc_acts.proofs.Moves.{inside_now, spot_stays, spot_moves, first_at}
+use Rattle.uc_acts.proofs.Stood.{last_same, last_stays, flip}
 use Rattle.uc_mutex.specs.Doors.{Door, Doors, door_at, with_door, behind}
-use Rattle.uc_mutex.specs.Laws.{IsDoor}
-use Rattle.uc_mutex.proofs.Mirrors.{call}
+use Rattle.uc_book.specs.DoorLaws.{IsDoor}
+use Rattle.uc_book.proofs.DoorLemmas.{call}
 use Rattle.uc_condition.specs.Waiting.{Waiting}
 use Rattle.uc_condition.specs.Laws.{takes_out}
 use Rattle.uc_condition.proofs.Mirrors.{elsewhere as waits_elsewhere}

@@ -6,33 +6,33 @@ use Rattle.std.proofs.Math.Seq.{take-suc}
 use Rattle.std.proofs.lemmas.List.{length-append, length-take-le}
 use Rattle.std.proofs.lemmas.List.Folds.{list_any-append}
 use Rattle.uc_tree.specs.declared.limits.TheConstants.{TASKS}
-use Rattle.uc_meaning.specs.declared.entry.Entry.{Entry}
-use Rattle.uc_meaning.specs.declared.entry.Options.{Options}
+use Rattle.uc_entry.specs.declared.entry.Entry.{Entry}
+use Rattle.uc_entry.specs.declared.entry.Options.{Options}
 use Rattle.uc_chronicle.specs.Told.{Told, told_more}
 use Rattle.uc_chronicle.specs.Saying.{IsSayable}
-use Rattle.uc_meaning.specs.declared.entry.EntryKind.TheVariants as kind
-use Rattle.uc_meaning.specs.declared.request.Request.{Request}
-use Rattle.uc_meaning.specs.declared.request.Piece.{Piece}
-use Rattle.uc_meaning.specs.declared.request.Request.TheVariants as ask
-use Rattle.uc_meaning.specs.Journal.{Journal, entry, inside, is_over, is_ending}
+use Rattle.uc_entry.specs.declared.entry.EntryKind.TheVariants as kind
+use Rattle.uc_entry.specs.declared.request.Request.{Request}
+use Rattle.uc_entry.specs.declared.request.Piece.{Piece}
+use Rattle.uc_entry.specs.declared.request.Request.TheVariants as ask
+use Rattle.uc_acts.specs.Journal.{Journal, entry, inside, is_over, is_ending}
 use Rattle.uc_tree.specs.Programs.{Site}
-use Rattle.uc_meaning.specs.Queues.{waiting, stacked, next, successor, last_actor, actor}
+use Rattle.uc_acts.specs.Queues.{waiting, stacked, next, successor, last_actor, actor}
 use Rattle.uc_condition.specs.Waiting.{first_number}
-use Rattle.uc_meaning.specs.Queues.{is_nobody}
-use Rattle.uc_meaning.specs.Doors.{OnStack, stack_at, stack_after, clause_on, last_call}
-use Rattle.uc_meaning.specs.Known.{object_count}
-use Rattle.uc_meaning.specs.Stations.{Waits, Stacked, Running}
-use Rattle.uc_meaning.proofs.Noted.{last_actor_push}
-use Rattle.uc_meaning.proofs.Seats.{waiting_after, stacked_after, inside_after}
-use Rattle.uc_meaning.proofs.Sound.{self_test, all_kept, all_kept_nil}
-use Rattle.uc_meaning.proofs.Stood.{stands_same}
+use Rattle.uc_acts.specs.Queues.{is_nobody}
+use Rattle.uc_acts.specs.Doors.{OnStack, stack_at, stack_after, clause_on, last_call}
+use Rattle.uc_acts.specs.Known.{object_count}
+use Rattle.uc_acts.specs.Stations.{Waits, Stacked, Running}
+use Rattle.uc_acts.proofs.Noted.{last_actor_push}
+use Rattle.uc_acts.proofs.Seats.{waiting_after, stacked_after, inside_after}
+use Rattle.uc_acts.proofs.Sound.{self_test, all_kept, all_kept_nil}
+use Rattle.uc_acts.proofs.Stood.{stands_same}
 use Rattle.std.specs.List.{filter}
-use Rattle.uc_meaning.specs.Acts.{row, fault, prints, settled, admission, admit, front, poll_entry}
-use Rattle.uc_meaning.specs.KernelRuns.{Fits, IsAt}
-use Rattle.uc_meaning.specs.Sound.{Sound, Spot, At, Ended, spot, here, mover}
-use Rattle.uc_meaning.specs.Legal.{Legal}
-use Rattle.uc_meaning.proofs.Moves.{legal_still, object_0, more_objects, inside_now, waiting_now, stacked_now, spot_stays, one_inside}
-use Rattle.uc_meaning.proofs.Rows.{Lawful, row_lawful, at_run}
+use Rattle.uc_acts.specs.Acts.{row, fault, prints, settled, admission, admit, front, poll_entry}
+use Rattle.uc_acts.specs.KernelRuns.{Fits, IsAt}
+use Rattle.uc_acts.specs.Sound.{Sound, Spot, At, Ended, spot, here, mover}
+use Rattle.uc_acts.specs.Legal.{Legal}
+use Rattle.uc_acts.proofs.Moves.{legal_still, object_0, more_objects, inside_now, waiting_now, stacked_now, spot_stays, one_inside}
+use Rattle.uc_acts.proofs.Rows.{Lawful, row_lawful, at_run}
 use Rattle.uc_book.specs.Mirrors.{Seen, seen, is_still, Appended, CanPut, MayAct, IsAside, ACT_ENTRIES, rows}
 
 pub goes_on : (j : Journal) (e : Entry) → is_over j ≡ false → is_ending e.kind ≡ false → is_over (j ++ e ∷ []) ≡ false

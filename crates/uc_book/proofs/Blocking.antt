@@ -1,20 +1,20 @@
 -- All parts once a task waits on a condition, or signals and stands aside.
 use Rattle.std.proofs.Common.{◌≡◌, ℕ, ℤ, pos, ◌==◌, ◌<◌, ◌&&◌, Bool, true, false, List, [], ◌∷◌, ◌++◌, Option, None, map, refl, ap, ◌∙◌, length, set, get_or}
 use Rattle.uc_tree.specs.Programs.{Site}
-use Rattle.uc_meaning.specs.declared.entry.EntryKind.TheVariants as kind
-use Rattle.uc_meaning.specs.declared.entry.Options.{Options}
-use Rattle.uc_meaning.specs.Journal.{Journal, entry, inside}
-use Rattle.uc_meaning.specs.Queues.{running}
-use Rattle.uc_meaning.specs.Doors.{open_at, offered}
-use Rattle.uc_meaning.specs.Known.{object_count}
-use Rattle.uc_meaning.specs.Acts.{accept_entry}
-use Rattle.uc_meaning.specs.Sound.{Sound}
-use Rattle.uc_meaning.specs.Legal.{Legal}
-use Rattle.uc_meaning.proofs.Sound.{self_test, nothing_open}
+use Rattle.uc_entry.specs.declared.entry.EntryKind.TheVariants as kind
+use Rattle.uc_entry.specs.declared.entry.Options.{Options}
+use Rattle.uc_acts.specs.Journal.{Journal, entry, inside}
+use Rattle.uc_acts.specs.Queues.{running}
+use Rattle.uc_acts.specs.Doors.{open_at, offered}
+use Rattle.uc_acts.specs.Known.{object_count}
+use Rattle.uc_acts.specs.Acts.{accept_entry}
+use Rattle.uc_acts.specs.Sound.{Sound}
+use Rattle.uc_acts.specs.Legal.{Legal}
+use Rattle.uc_acts.proofs.Sound.{self_test, nothing_open}
 use Rattle.uc_mutex.specs.Doors.{Door, Doors, door_at, with_door, inside_is, on_top}
 use Rattle.uc_mutex.specs.Offers.{clauses_of}
-use Rattle.uc_mutex.specs.Laws.{IsDoor, goes_on_top}
-use Rattle.uc_mutex.proofs.Mirrors.{out, signal_block}
+use Rattle.uc_book.specs.DoorLaws.{IsDoor, goes_on_top}
+use Rattle.uc_book.proofs.DoorLemmas.{out, signal_block}
 use Rattle.uc_condition.specs.Waiting.{Waiting, Became, queue_at}
 use Rattle.uc_condition.proofs.Mirrors.{wait}
 use Rattle.uc_events.specs.Pending.{Event}

@@ -6,17 +6,17 @@ use Rattle.std.specs.List.{AllByRecursion}
 use Rattle.std.proofs.lemmas.Bool.{ne_eqb}
 use Rattle.std.proofs.lemmas.List.FromFn.{get_or-map-range_with_len}
 use Rattle.uc_tree.specs.Programs.{Site}
-use Rattle.uc_meaning.specs.declared.entry.Entry.{Entry}
-use Rattle.uc_meaning.specs.Journal.{Journal, inside}
-use Rattle.uc_meaning.specs.Pending.{has_bit}
-use Rattle.uc_meaning.specs.Doors.{OnStack, open_at, offered, offers, offers_from, site_at, clause_for, or_0, stack_at}
-use Rattle.uc_meaning.specs.Acts.{admit, push, called, met_by}
-use Rattle.uc_meaning.specs.Sound.{Sound, Stood}
+use Rattle.uc_entry.specs.declared.entry.Entry.{Entry}
+use Rattle.uc_acts.specs.Journal.{Journal, inside}
+use Rattle.uc_tree.specs.SiteOffers.{has_bit, offers_from, clause_for, or_0}
+use Rattle.uc_acts.specs.Doors.{OnStack, open_at, offered, offers, site_at, stack_at}
+use Rattle.uc_acts.specs.Acts.{admit, push, called, met_by}
+use Rattle.uc_acts.specs.Sound.{Sound, Stood}
 use Rattle.uc_links.specs.Lists.{member_limit}
 use Rattle.uc_mutex.specs.declared.called.Called.TheVariants as called_as
 use Rattle.uc_mutex.specs.Doors.{Door, answer, answer_by, after_call, door_by, behind, let_in, on_top, off_top, met, met_door, meeting}
 use Rattle.uc_mutex.specs.Offers.{clauses_of}
-use Rattle.uc_mutex.specs.Laws.{IsDoor, pair}
+use Rattle.uc_book.specs.DoorLaws.{IsDoor, pair}
 
 -- ---- clauses count from 1
 abbrev ArePositive : List (ℕ × ℕ) → Type 0

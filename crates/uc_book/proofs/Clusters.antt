@@ -5,18 +5,18 @@ use Rattle.std.specs.List.{AllByRecursion, filter, count_by}
 use Rattle.std.proofs.lemmas.Bool.{eqb-true, eq-eqb, cases_lt}
 use Rattle.std.proofs.lemmas.List.{get_or_past}
 use Rattle.std.proofs.lemmas.List.Sums.{fold_push}
-use Rattle.uc_meaning.specs.declared.entry.Entry.{Entry}
-use Rattle.uc_meaning.specs.declared.entry.Options.{Options}
-use Rattle.uc_meaning.specs.Journal.{Journal, where_true}
-use Rattle.uc_meaning.specs.Queues.{ready, running, readies, dispatches, puts_on, takes_off, clusters, cluster_of, cluster_count, last_clusters, on_cluster, is_cluster}
-use Rattle.uc_meaning.specs.Stations.{Ready, times}
-use Rattle.uc_meaning.specs.Sound.{spot, mover, Sound, here}
-use Rattle.uc_meaning.proofs.Open.{filter_true}
-use Rattle.uc_meaning.proofs.Noted.{noted_at, last_clusters_push}
-use Rattle.uc_meaning.proofs.Seats.{ready_push, running_other, running_same}
-use Rattle.uc_meaning.proofs.Sound.{self_test, plus}
-use Rattle.uc_meaning.proofs.Moves.{spot_stays}
-use Rattle.uc_meaning.proofs.Room.{in_none}
+use Rattle.uc_entry.specs.declared.entry.Entry.{Entry}
+use Rattle.uc_entry.specs.declared.entry.Options.{Options}
+use Rattle.uc_acts.specs.Journal.{Journal, where_true}
+use Rattle.uc_acts.specs.Queues.{ready, running, readies, dispatches, puts_on, takes_off, clusters, cluster_of, cluster_count, last_clusters, on_cluster, is_cluster}
+use Rattle.uc_acts.specs.Stations.{Ready, times}
+use Rattle.uc_acts.specs.Sound.{spot, mover, Sound, here}
+use Rattle.uc_acts.proofs.Open.{filter_true}
+use Rattle.uc_acts.proofs.Noted.{noted_at, last_clusters_push}
+use Rattle.uc_acts.proofs.Seats.{ready_push, running_other, running_same}
+use Rattle.uc_acts.proofs.Sound.{self_test, plus}
+use Rattle.uc_acts.proofs.Moves.{spot_stays}
+use Rattle.uc_acts.proofs.Room.{in_none}
 use Rattle.uc_cluster.specs.Standing.{Standing, IsUnready, queue_at, processor_at, place_of, no_processor, with_processor, made_ready, or_0}
 use Rattle.uc_cluster.specs.Standing.{running as runs_on}
 use Rattle.uc_cluster.specs.Standing.{is_on}

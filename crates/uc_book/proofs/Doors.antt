@@ -3,26 +3,26 @@ use Rattle.std.proofs.Common.{◌≡◌, ◌≢◌, ℕ, ℤ, ◌==◌, ◌+◌,
 use Rattle.std.specs.List.{AllByRecursion}
 use Rattle.std.proofs.lemmas.Bool.{eqb-true, eq-eqb}
 use Rattle.uc_tree.specs.Programs.{Site}
-use Rattle.uc_meaning.specs.declared.entry.Entry.{Entry}
-use Rattle.uc_meaning.specs.declared.entry.EntryKind.{EntryKind}
-use Rattle.uc_meaning.specs.declared.entry.EntryKind.TheVariants as kind
-use Rattle.uc_meaning.specs.Journal.{Journal, entries_at, owns, own_object, first_or_0}
-use Rattle.uc_meaning.specs.Queues.{waiting}
-use Rattle.uc_meaning.specs.Doors.{OnStack, stack_at, stack_after, offered, last_call, blocked}
-use Rattle.uc_meaning.specs.Known.{object_count, task_count, is_make, is_spawn, owner, owned}
-use Rattle.uc_meaning.specs.Stations.{Waits, Stacked, Blocked, times}
-use Rattle.uc_meaning.specs.Sound.{spot, here, Sound, Stood}
-use Rattle.uc_meaning.proofs.Sound.{objects_push, tasks_push}
-use Rattle.uc_meaning.proofs.Hush.{is_silent, door_silent}
-use Rattle.uc_meaning.proofs.Stood.{stands_other, stands_same}
-use Rattle.uc_meaning.proofs.Seats.{at_push, at_other}
-use Rattle.uc_meaning.proofs.Open.{still_open_silent}
-use Rattle.uc_meaning.specs.Open.{still_open}
-use Rattle.uc_meaning.proofs.Room.{in_none}
+use Rattle.uc_entry.specs.declared.entry.Entry.{Entry}
+use Rattle.uc_entry.specs.declared.entry.EntryKind.{EntryKind}
+use Rattle.uc_entry.specs.declared.entry.EntryKind.TheVariants as kind
+use Rattle.uc_acts.specs.Journal.{Journal, entries_at, owns, own_object, first_or_0}
+use Rattle.uc_acts.specs.Queues.{waiting}
+use Rattle.uc_acts.specs.Doors.{OnStack, stack_at, stack_after, offered, last_call, blocked}
+use Rattle.uc_acts.specs.Known.{object_count, task_count, is_make, is_spawn, owner, owned}
+use Rattle.uc_acts.specs.Stations.{Waits, Stacked, Blocked, times}
+use Rattle.uc_acts.specs.Sound.{spot, here, Sound, Stood}
+use Rattle.uc_acts.proofs.Sound.{objects_push, tasks_push}
+use Rattle.uc_acts.proofs.Hush.{is_silent, door_silent}
+use Rattle.uc_acts.proofs.Stood.{stands_other, stands_same}
+use Rattle.uc_acts.proofs.Seats.{at_push, at_other}
+use Rattle.uc_acts.proofs.Open.{still_open_silent}
+use Rattle.uc_acts.specs.Open.{still_open}
+use Rattle.uc_acts.proofs.Room.{in_none}
 use Rattle.uc_mutex.specs.Doors.{Door, Doors, IsFree, door_at, with_door}
 use Rattle.uc_mutex.specs.Offers.{clauses_of}
-use Rattle.uc_mutex.specs.Laws.{IsDoor, pair}
-use Rattle.uc_mutex.proofs.Mirrors.{elsewhere}
+use Rattle.uc_book.specs.DoorLaws.{IsDoor, pair}
+use Rattle.uc_book.proofs.DoorLemmas.{elsewhere}
 use Rattle.uc_condition.specs.Waiting.{Waiting}
 use Rattle.uc_condition.specs.Waiting.{IsFree as IsIdle}
 use Rattle.uc_condition.specs.Laws.{is_silent as tells_no_wait}
@@ -30,7 +30,7 @@ use Rattle.uc_condition.proofs.Mirrors.{others as other_waits}
 use Rattle.uc_events.specs.Pending.{Event}
 use Rattle.uc_events.specs.Laws.{tells}
 use Rattle.uc_events.proofs.Mirrors.{others as other_events}
-use Rattle.uc_meaning.specs.Pending.{pending_by}
+use Rattle.uc_acts.specs.Pending.{pending_by}
 use Rattle.uc_book.specs.Mirrors.{DoorsAre, WaitsAre, EventsAre, OwnersAre}
 use Rattle.uc_book.proofs.Fresh.{pending_other}
 

@@ -6,21 +6,22 @@ use Rattle.std.proofs.lemmas.Bool.{leb-true, le-leb}
 use Rattle.std.proofs.lemmas.List.{length-append, take-append-le, drop-append-le, take-append-drop}
 use Rattle.uc_tree.specs.Programs.{Site}
 use Rattle.uc_tree.specs.declared.limits.TheConstants.{TASKS, OBJECTS, PENDING_EVENTS, CLUSTERS, PROCESSORS}
-use Rattle.uc_meaning.specs.declared.entry.Entry.{Entry}
-use Rattle.uc_meaning.specs.declared.entry.EntryKind.{EntryKind}
-use Rattle.uc_meaning.specs.declared.entry.EntryKind.TheVariants as kind
-use Rattle.uc_meaning.specs.declared.entry.Options.{Options}
-use Rattle.uc_meaning.specs.declared.request.Piece.{Piece}
-use Rattle.uc_meaning.specs.declared.request.Request.{Request}
-use Rattle.uc_meaning.specs.declared.request.Request.TheVariants as ask
-use Rattle.uc_meaning.specs.Journal.{Journal, entry, inside, own_object, first_or_0, is_over, is_ending, is_fault}
-use Rattle.uc_meaning.specs.Queues.{next, cluster_count, processor_count, is_in_use, first_ended, none_running, none_ready, none_served, all_ticks}
-use Rattle.uc_meaning.specs.Known.{object_count, task_count, owner}
-use Rattle.uc_meaning.specs.Pending.{pending, oldest_in}
-use Rattle.uc_meaning.specs.Doors.{site_at, open_at, offered, clause_for, Met, next_met, blocked, destroys_busy}
-use Rattle.uc_meaning.specs.Acts.{fault, admission, met_by, called, took, accepted, signalled, handed, front, poll_entry, prints, or_fault, row, settled, is_faulty, verdict, closing, ending, fitted}
-use Rattle.uc_meaning.specs.KernelRuns.{Fits, MayAsk}
-use Rattle.uc_meaning.proofs.Bounds.{over_push}
+use Rattle.uc_entry.specs.declared.entry.Entry.{Entry}
+use Rattle.uc_entry.specs.declared.entry.EntryKind.{EntryKind}
+use Rattle.uc_entry.specs.declared.entry.EntryKind.TheVariants as kind
+use Rattle.uc_entry.specs.declared.entry.Options.{Options}
+use Rattle.uc_entry.specs.declared.request.Piece.{Piece}
+use Rattle.uc_entry.specs.declared.request.Request.{Request}
+use Rattle.uc_entry.specs.declared.request.Request.TheVariants as ask
+use Rattle.uc_acts.specs.Journal.{Journal, entry, inside, own_object, first_or_0, is_over, is_ending, is_fault}
+use Rattle.uc_acts.specs.Queues.{next, cluster_count, processor_count, is_in_use, first_ended, none_running, none_ready, none_served, all_ticks}
+use Rattle.uc_acts.specs.Known.{object_count, task_count, owner}
+use Rattle.uc_acts.specs.Pending.{pending, oldest_in}
+use Rattle.uc_acts.specs.Doors.{site_at, open_at, offered, next_met, blocked, destroys_busy}
+use Rattle.uc_tree.specs.SiteOffers.{clause_for, Met}
+use Rattle.uc_acts.specs.Acts.{fault, admission, met_by, called, took, accepted, signalled, handed, front, poll_entry, prints, or_fault, row, settled, is_faulty, verdict, closing, ending, fitted}
+use Rattle.uc_acts.specs.KernelRuns.{Fits, MayAsk}
+use Rattle.uc_acts.proofs.Bounds.{over_push}
 use Rattle.uc_cluster.specs.declared.clusters.Stalled.{Stalled}
 use Rattle.uc_cluster.specs.declared.clusters.Stalled.TheVariants as stalled
 use Rattle.uc_cluster.specs.Standing.{stalled_by}

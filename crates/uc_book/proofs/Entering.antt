@@ -6,26 +6,26 @@ use Rattle.std.proofs.lemmas.Bool.{eqb-true}
 use Rattle.std.proofs.lemmas.List.{set-set, set-get_or}
 use Rattle.std.proofs.lemmas.List.Elements.{filter-append}
 use Rattle.uc_tree.specs.Programs.{Site}
-use Rattle.uc_meaning.specs.declared.entry.Entry.{Entry}
-use Rattle.uc_meaning.specs.declared.entry.EntryKind.TheVariants as kind
-use Rattle.uc_meaning.specs.declared.entry.Options.{Options}
-use Rattle.uc_meaning.specs.Journal.{Journal, entry, inside}
-use Rattle.uc_meaning.specs.Queues.{running, last_actor}
-use Rattle.uc_meaning.specs.Doors.{OnStack, stack_at, taken_off, last_call, last_called, calls_destructor, is_member}
-use Rattle.uc_meaning.specs.Known.{object_count}
-use Rattle.uc_meaning.specs.Acts.{admit, push, settled}
-use Rattle.uc_meaning.specs.Stations.{Running, Waits, Stacked, Blocked, times, tasks_at}
-use Rattle.uc_meaning.specs.Sound.{At, spot, here}
-use Rattle.uc_meaning.specs.Legal.{Legal}
-use Rattle.uc_meaning.proofs.Noted.{last_actor_push}
-use Rattle.uc_meaning.proofs.Sound.{self_test, all_kept_nil}
-use Rattle.uc_meaning.proofs.Moves.{inside_now, spot_moves, spot_stays, first_at, apart}
-use Rattle.uc_meaning.proofs.Room.{in_none}
-use Rattle.uc_meaning.proofs.Stood.{last_same, stands_same, flip}
+use Rattle.uc_entry.specs.declared.entry.Entry.{Entry}
+use Rattle.uc_entry.specs.declared.entry.EntryKind.TheVariants as kind
+use Rattle.uc_entry.specs.declared.entry.Options.{Options}
+use Rattle.uc_acts.specs.Journal.{Journal, entry, inside}
+use Rattle.uc_acts.specs.Queues.{running, last_actor}
+use Rattle.uc_acts.specs.Doors.{OnStack, stack_at, taken_off, last_call, last_called, calls_destructor, is_member}
+use Rattle.uc_acts.specs.Known.{object_count}
+use Rattle.uc_acts.specs.Acts.{admit, push, settled}
+use Rattle.uc_acts.specs.Stations.{Running, Waits, Stacked, Blocked, times, tasks_at}
+use Rattle.uc_acts.specs.Sound.{At, spot, here}
+use Rattle.uc_acts.specs.Legal.{Legal}
+use Rattle.uc_acts.proofs.Noted.{last_actor_push}
+use Rattle.uc_acts.proofs.Sound.{self_test, all_kept_nil}
+use Rattle.uc_acts.proofs.Moves.{inside_now, spot_moves, spot_stays, first_at, apart}
+use Rattle.uc_acts.proofs.Room.{in_none}
+use Rattle.uc_acts.proofs.Stood.{last_same, stands_same, flip}
 use Rattle.uc_links.specs.Lists.{without, is_nil}
 use Rattle.uc_mutex.specs.Doors.{Door, Doors, IsFree, door_at, with_door, behind, let_in, on_top, off_top, rest_of, has_tasks}
-use Rattle.uc_mutex.specs.Laws.{IsDoor, admitted, pair, met_by}
-use Rattle.uc_mutex.proofs.Mirrors.{call, admit_one, meets, push_one}
+use Rattle.uc_book.specs.DoorLaws.{IsDoor, admitted, pair, met_by}
+use Rattle.uc_book.proofs.DoorLemmas.{call, admit_one, meets, push_one}
 use Rattle.uc_condition.specs.Waiting.{Waiting}
 use Rattle.uc_events.specs.Pending.{Event}
 use Rattle.uc_cluster.specs.Standing.{Standing, IsPlaced, IsUnready, processor_at, no_processor, with_processor, made_ready}

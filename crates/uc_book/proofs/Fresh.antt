@@ -6,25 +6,25 @@ use Rattle.std.proofs.lemmas.Bool.{eqb-true}
 use Rattle.std.proofs.lemmas.List.Folds.{list_any-append}
 use Rattle.std.proofs.lemmas.List.Sums.{fold_push}
 use Rattle.uc_tree.specs.Programs.{Site}
-use Rattle.uc_meaning.specs.declared.entry.Entry.{Entry}
-use Rattle.uc_meaning.specs.declared.entry.EntryKind.{EntryKind}
-use Rattle.uc_meaning.specs.declared.entry.EntryKind.TheVariants as kind
-use Rattle.uc_meaning.specs.Journal.{Journal, number, where_true, entries_at, inside, lets_in, moves, owns}
-use Rattle.uc_meaning.specs.Queues.{waiting, calls, takes, tasks_on, on_cluster, comes_to_stand, leaves_cluster}
-use Rattle.uc_meaning.specs.Doors.{last_call, last_called, last_from, told_from, stack_at, stack_after, open_at, opens, shuts, offered}
-use Rattle.uc_meaning.specs.Known.{object_count, task_count, owner, owned}
-use Rattle.uc_meaning.specs.Pending.{pending, pending_by}
-use Rattle.uc_meaning.specs.Open.{still_open}
-use Rattle.uc_meaning.specs.Legal.{Legal}
-use Rattle.uc_meaning.specs.Sound.{mover}
-use Rattle.uc_meaning.proofs.Noted.{noted_at}
-use Rattle.uc_meaning.proofs.Open.{still_open_silent}
-use Rattle.uc_meaning.proofs.Seats.{at_other}
-use Rattle.uc_meaning.proofs.Sound.{objects_push, tasks_push}
-use Rattle.uc_meaning.proofs.Stood.{last_same, last_other, flip}
+use Rattle.uc_entry.specs.declared.entry.Entry.{Entry}
+use Rattle.uc_entry.specs.declared.entry.EntryKind.{EntryKind}
+use Rattle.uc_entry.specs.declared.entry.EntryKind.TheVariants as kind
+use Rattle.uc_acts.specs.Journal.{Journal, number, where_true, entries_at, inside, lets_in, moves, owns}
+use Rattle.uc_acts.specs.Queues.{waiting, calls, takes, tasks_on, on_cluster, comes_to_stand, leaves_cluster}
+use Rattle.uc_acts.specs.Doors.{last_call, last_called, last_from, told_from, stack_at, stack_after, open_at, opens, shuts, offered}
+use Rattle.uc_acts.specs.Known.{object_count, task_count, owner, owned}
+use Rattle.uc_acts.specs.Pending.{pending, pending_by}
+use Rattle.uc_acts.specs.Open.{still_open}
+use Rattle.uc_acts.specs.Legal.{Legal}
+use Rattle.uc_acts.specs.Sound.{mover}
+use Rattle.uc_acts.proofs.Noted.{noted_at}
+use Rattle.uc_acts.proofs.Open.{still_open_silent}
+use Rattle.uc_acts.proofs.Seats.{at_other}
+use Rattle.uc_acts.proofs.Sound.{objects_push, tasks_push}
+use Rattle.uc_acts.proofs.Stood.{last_same, last_other, flip}
 use Rattle.uc_mutex.specs.Doors.{no_door}
 use Rattle.uc_mutex.specs.Offers.{clauses_of}
-use Rattle.uc_mutex.specs.Laws.{IsDoor, pair}
+use Rattle.uc_book.specs.DoorLaws.{IsDoor, pair}
 use Rattle.uc_cluster.proofs.Places.{on_push}
 use Rattle.uc_book.specs.Mirrors.{Fresh, own_objects}
 

@@ -5,23 +5,23 @@ use Rattle.std.specs.List.{filter}
 use Rattle.std.proofs.lemmas.List.{set-set}
 use Rattle.std.proofs.lemmas.Bool.{eqb-true}
 use Rattle.uc_tree.specs.Programs.{Site}
-use Rattle.uc_meaning.specs.declared.entry.Entry.{Entry}
-use Rattle.uc_meaning.specs.declared.entry.Options.{Options}
-use Rattle.uc_meaning.specs.Journal.{Journal, inside, holds}
-use Rattle.uc_meaning.specs.Queues.{running, last_actor}
-use Rattle.uc_meaning.specs.Doors.{blocked, calls_destructor, open_at}
-use Rattle.uc_meaning.specs.Known.{object_count, task_count}
-use Rattle.uc_meaning.specs.Acts.{admit, push, settled}
-use Rattle.uc_meaning.specs.Stations.{Waits, Stacked, Blocked}
-use Rattle.uc_meaning.specs.Sound.{At, spot, here}
-use Rattle.uc_meaning.specs.Legal.{Legal}
-use Rattle.uc_meaning.proofs.Sound.{self_test, all_kept_nil}
-use Rattle.uc_meaning.proofs.Moves.{first_at, known_at, inside_now, from_blocked, apart}
-use Rattle.uc_meaning.proofs.Rows.{legal_admit, legal_push}
+use Rattle.uc_entry.specs.declared.entry.Entry.{Entry}
+use Rattle.uc_entry.specs.declared.entry.Options.{Options}
+use Rattle.uc_acts.specs.Journal.{Journal, inside, holds}
+use Rattle.uc_acts.specs.Queues.{running, last_actor}
+use Rattle.uc_acts.specs.Doors.{blocked, calls_destructor, open_at}
+use Rattle.uc_acts.specs.Known.{object_count, task_count}
+use Rattle.uc_acts.specs.Acts.{admit, push, settled}
+use Rattle.uc_acts.specs.Stations.{Waits, Stacked, Blocked}
+use Rattle.uc_acts.specs.Sound.{At, spot, here}
+use Rattle.uc_acts.specs.Legal.{Legal}
+use Rattle.uc_acts.proofs.Sound.{self_test, all_kept_nil}
+use Rattle.uc_acts.proofs.Moves.{first_at, known_at, inside_now, from_blocked, apart}
+use Rattle.uc_acts.proofs.Rows.{legal_admit, legal_push}
 use Rattle.uc_links.specs.Lists.{without}
 use Rattle.uc_mutex.specs.Doors.{Door, Doors, IsFree, door_at, with_door, on_top, let_in, has_tasks}
-use Rattle.uc_mutex.specs.Laws.{IsDoor}
-use Rattle.uc_mutex.proofs.Mirrors.{push_one, admit_one}
+use Rattle.uc_book.specs.DoorLaws.{IsDoor}
+use Rattle.uc_book.proofs.DoorLemmas.{push_one, admit_one}
 use Rattle.uc_condition.specs.Waiting.{Waiting, Became, IsBusy, queue_at, first_task, rest_of, put}
 use Rattle.uc_condition.specs.Waiting.{IsFree as IsIdle}
 use Rattle.uc_condition.proofs.Mirrors.{take_one}

@@ -4,24 +4,24 @@ use Rattle.std.proofs.Common.{◌≡◌, ℕ, ◌==◌, ◌<◌, Bool, true, fal
 use Rattle.std.specs.Option.{option_to_list}
 use Rattle.std.proofs.lemmas.Bool.{eqb-true}
 use Rattle.uc_tree.specs.Programs.{Site}
-use Rattle.uc_meaning.specs.declared.entry.Entry.{Entry}
-use Rattle.uc_meaning.specs.declared.entry.EntryKind.{EntryKind}
-use Rattle.uc_meaning.specs.declared.entry.Options.{Options}
-use Rattle.uc_meaning.specs.Journal.{Journal, inside, owns}
-use Rattle.uc_meaning.specs.Queues.{Noted, readies, dispatches, puts_on, takes_off, clusters, is_cluster, running}
-use Rattle.uc_meaning.specs.Doors.{last_called, calls_destructor, is_member}
-use Rattle.uc_meaning.specs.Known.{is_make, is_spawn, object_count, owned}
-use Rattle.uc_meaning.specs.Acts.{push}
-use Rattle.uc_meaning.specs.Stations.{Running}
-use Rattle.uc_meaning.specs.Sound.{mover, target, spot}
-use Rattle.uc_meaning.specs.Legal.{Legal}
-use Rattle.uc_meaning.proofs.Noted.{noted_at}
-use Rattle.uc_meaning.proofs.Sound.{self_test}
-use Rattle.uc_meaning.proofs.Moves.{spot_stays, spot_moves, first_at}
-use Rattle.uc_meaning.proofs.Stood.{flip}
+use Rattle.uc_entry.specs.declared.entry.Entry.{Entry}
+use Rattle.uc_entry.specs.declared.entry.EntryKind.{EntryKind}
+use Rattle.uc_entry.specs.declared.entry.Options.{Options}
+use Rattle.uc_acts.specs.Journal.{Journal, inside, owns}
+use Rattle.uc_acts.specs.Queues.{Noted, readies, dispatches, puts_on, takes_off, clusters, is_cluster, running}
+use Rattle.uc_acts.specs.Doors.{last_called, calls_destructor, is_member}
+use Rattle.uc_acts.specs.Known.{is_make, is_spawn, object_count, owned}
+use Rattle.uc_acts.specs.Acts.{push}
+use Rattle.uc_acts.specs.Stations.{Running}
+use Rattle.uc_acts.specs.Sound.{mover, target, spot}
+use Rattle.uc_acts.specs.Legal.{Legal}
+use Rattle.uc_acts.proofs.Noted.{noted_at}
+use Rattle.uc_acts.proofs.Sound.{self_test}
+use Rattle.uc_acts.proofs.Moves.{spot_stays, spot_moves, first_at}
+use Rattle.uc_acts.proofs.Stood.{flip}
 use Rattle.uc_mutex.specs.Doors.{Door, Doors, door_at, with_door}
-use Rattle.uc_mutex.specs.Laws.{IsDoor, is_still}
-use Rattle.uc_mutex.proofs.Mirrors.{still}
+use Rattle.uc_book.specs.DoorLaws.{IsDoor, is_still}
+use Rattle.uc_book.proofs.DoorLemmas.{still}
 use Rattle.uc_condition.specs.Waiting.{Waiting}
 use Rattle.uc_events.specs.Pending.{Event}
 use Rattle.uc_events.specs.Laws.{tells}

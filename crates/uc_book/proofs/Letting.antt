@@ -4,27 +4,27 @@ use Rattle.std.specs.Prelude.{◌⊎◌}
 use Rattle.std.specs.Option.{option_to_list}
 use Rattle.uc_tree.specs.Programs.{Site}
 use Rattle.uc_tree.specs.declared.limits.TheConstants.{TASKS}
-use Rattle.uc_meaning.specs.declared.entry.Entry.{Entry}
-use Rattle.uc_meaning.specs.declared.entry.Options.{Options}
-use Rattle.uc_meaning.specs.Journal.{Journal, inside}
-use Rattle.uc_meaning.specs.Queues.{next}
-use Rattle.uc_meaning.specs.Doors.{calls_destructor, has_others, blocked_at}
+use Rattle.uc_entry.specs.declared.entry.Entry.{Entry}
+use Rattle.uc_entry.specs.declared.entry.Options.{Options}
+use Rattle.uc_acts.specs.Journal.{Journal, inside}
+use Rattle.uc_acts.specs.Queues.{next}
+use Rattle.uc_acts.specs.Doors.{calls_destructor, has_others, blocked_at}
 use Rattle.std.specs.List.{list_any}
-use Rattle.uc_meaning.specs.Queues.{running, waiting, stacked, is_nobody}
-use Rattle.uc_meaning.specs.Stations.{Running, Waits, Stacked, times}
-use Rattle.uc_meaning.specs.Sound.{here}
-use Rattle.uc_meaning.proofs.Moves.{first_at}
-use Rattle.uc_meaning.proofs.Stood.{flip}
-use Rattle.uc_meaning.proofs.Room.{not_blocked}
-use Rattle.uc_meaning.proofs.Busy.{is_busy}
-use Rattle.uc_meaning.specs.Known.{object_count, task_count}
-use Rattle.uc_meaning.specs.Legal.{Legal}
+use Rattle.uc_acts.specs.Queues.{running, waiting, stacked, is_nobody}
+use Rattle.uc_acts.specs.Stations.{Running, Waits, Stacked, times}
+use Rattle.uc_acts.specs.Sound.{here}
+use Rattle.uc_acts.proofs.Moves.{first_at}
+use Rattle.uc_acts.proofs.Stood.{flip}
+use Rattle.uc_acts.proofs.Room.{not_blocked}
+use Rattle.uc_acts.proofs.Busy.{is_busy}
+use Rattle.uc_acts.specs.Known.{object_count, task_count}
+use Rattle.uc_acts.specs.Legal.{Legal}
 use Rattle.std.proofs.lemmas.List.{set-get_or}
-use Rattle.uc_meaning.specs.Acts.{admit, admission, settled}
+use Rattle.uc_acts.specs.Acts.{admit, admission, settled}
 use Rattle.uc_mutex.specs.declared.called.Passed.{Passed}
 use Rattle.uc_mutex.specs.Doors.{Door, Doors, no_door, door_at, with_door, next_of, after_next, has_tasks}
-use Rattle.uc_mutex.specs.Laws.{IsDoor}
-use Rattle.uc_mutex.proofs.Mirrors.{admit_one}
+use Rattle.uc_book.specs.DoorLaws.{IsDoor}
+use Rattle.uc_book.proofs.DoorLemmas.{admit_one}
 use Rattle.uc_condition.specs.Waiting.{Waiting, IsBusy, queue_at}
 use Rattle.uc_events.specs.Pending.{Event}
 use Rattle.uc_cluster.specs.Standing.{Standing, IsPlaced, IsUnready, made_ready}

@@ -6,27 +6,27 @@ use Rattle.std.proofs.lemmas.Bool.{eqb-true, eq-eqb, cases_lt}
 use Rattle.std.proofs.lemmas.List.{get_or_append_left, get_or_push}
 use Rattle.uc_tree.specs.declared.limits.TheConstants.{TASKS}
 use Rattle.uc_tree.specs.Programs.{Site}
-use Rattle.uc_meaning.specs.declared.entry.Entry.{Entry}
-use Rattle.uc_meaning.specs.declared.entry.Options.{Options}
-use Rattle.uc_meaning.specs.declared.entry.EntryKind.TheVariants as kind
-use Rattle.uc_meaning.specs.Journal.{Journal, entry, inside, owns, own_object, first_or_0, where_true}
-use Rattle.uc_meaning.specs.Queues.{running, cluster_of}
-use Rattle.uc_meaning.specs.Doors.{last_call, is_member, calls_destructor}
-use Rattle.uc_meaning.specs.Known.{object_count, task_count, owner, owned}
-use Rattle.uc_meaning.specs.Open.{still_open}
-use Rattle.uc_meaning.specs.Pending.{pending}
-use Rattle.uc_meaning.specs.Sound.{spot, here}
-use Rattle.uc_meaning.specs.Stations.{Ready}
-use Rattle.uc_meaning.specs.Legal.{Legal}
-use Rattle.uc_meaning.proofs.Noted.{last_clusters_push}
-use Rattle.uc_meaning.proofs.Open.{still_open_begins}
-use Rattle.uc_meaning.proofs.Seats.{inside_other, at_other}
-use Rattle.uc_meaning.proofs.Sound.{sound_step, objects_push, tasks_push, self_test}
-use Rattle.uc_meaning.proofs.Stood.{stood_step}
-use Rattle.uc_meaning.proofs.Moves.{spot_stays, spot_moves, more_tasks}
+use Rattle.uc_entry.specs.declared.entry.Entry.{Entry}
+use Rattle.uc_entry.specs.declared.entry.Options.{Options}
+use Rattle.uc_entry.specs.declared.entry.EntryKind.TheVariants as kind
+use Rattle.uc_acts.specs.Journal.{Journal, entry, inside, owns, own_object, first_or_0, where_true}
+use Rattle.uc_acts.specs.Queues.{running, cluster_of}
+use Rattle.uc_acts.specs.Doors.{last_call, is_member, calls_destructor}
+use Rattle.uc_acts.specs.Known.{object_count, task_count, owner, owned}
+use Rattle.uc_acts.specs.Open.{still_open}
+use Rattle.uc_acts.specs.Pending.{pending}
+use Rattle.uc_acts.specs.Sound.{spot, here}
+use Rattle.uc_acts.specs.Stations.{Ready}
+use Rattle.uc_acts.specs.Legal.{Legal}
+use Rattle.uc_acts.proofs.Noted.{last_clusters_push}
+use Rattle.uc_acts.proofs.Open.{still_open_begins}
+use Rattle.uc_acts.proofs.Seats.{inside_other, at_other}
+use Rattle.uc_acts.proofs.Sound.{sound_step, objects_push, tasks_push, self_test}
+use Rattle.uc_acts.proofs.Stood.{stood_step}
+use Rattle.uc_acts.proofs.Moves.{spot_stays, spot_moves, more_tasks}
 use Rattle.uc_mutex.specs.Doors.{Doors, door_at, no_door, with_door, with_new, inside_is}
-use Rattle.uc_mutex.specs.Laws.{IsDoor}
-use Rattle.uc_mutex.proofs.Mirrors.{elsewhere, make_one, spawn_one}
+use Rattle.uc_book.specs.DoorLaws.{IsDoor}
+use Rattle.uc_book.proofs.DoorLemmas.{elsewhere, make_one, spawn_one}
 use Rattle.uc_condition.specs.Waiting.{Waiting, SameQueues}
 use Rattle.uc_condition.proofs.Mirrors.{others as other_waits}
 use Rattle.uc_events.specs.Pending.{Event, pending_at}

@@ -1,14 +1,14 @@
 -- The marks with one entry more.
 use Rattle.std.proofs.Common.{◌≡◌, ℕ, ◌==◌, ◌<◌, Bool, true, false, List, [], ◌∷◌, ◌++◌, Option, refl, sym, ap, ◌∙◌, subst, length, set, get_or, get_or-set_same, get_or-set_other, length-set}
 use Rattle.std.proofs.lemmas.Bool.{eqb-true, eq-eqb}
-use Rattle.uc_meaning.specs.declared.entry.Entry.{Entry}
-use Rattle.uc_meaning.specs.Journal.{Journal, inside}
-use Rattle.uc_meaning.specs.Doors.{last_call, last_called, calls_destructor, is_member}
-use Rattle.uc_meaning.specs.Known.{is_make}
-use Rattle.uc_meaning.specs.Sound.{spot, mover}
-use Rattle.uc_meaning.proofs.Moves.{spot_stays}
-use Rattle.uc_meaning.proofs.Seats.{inside_other}
-use Rattle.uc_meaning.proofs.Stood.{last_same, last_other}
+use Rattle.uc_entry.specs.declared.entry.Entry.{Entry}
+use Rattle.uc_acts.specs.Journal.{Journal, inside}
+use Rattle.uc_acts.specs.Doors.{last_call, last_called, calls_destructor, is_member}
+use Rattle.uc_acts.specs.Known.{is_make}
+use Rattle.uc_acts.specs.Sound.{spot, mover}
+use Rattle.uc_acts.proofs.Moves.{spot_stays}
+use Rattle.uc_acts.proofs.Seats.{inside_other}
+use Rattle.uc_acts.proofs.Stood.{last_same, last_other}
 use Rattle.uc_book.specs.Mirrors.{MarksAre, queued_at}
 use Rattle.uc_book.proofs.Doors.{no_both, same_objects}
 

@@ -6,24 +6,24 @@ use Rattle.std.specs.List.{AllByRecursion, filter}
 use Rattle.std.proofs.lemmas.Bool.{eqb-true}
 use Rattle.uc_tree.specs.Programs.{Site}
 use Rattle.uc_links.specs.Lists.{without, is_nil}
-use Rattle.uc_meaning.specs.declared.entry.Entry.{Entry}
-use Rattle.uc_meaning.specs.declared.entry.EntryKind.TheVariants as kind
-use Rattle.uc_meaning.specs.Known.{object_count, task_count}
-use Rattle.uc_meaning.specs.Journal.{Journal, inside}
-use Rattle.uc_meaning.specs.Queues.{waiting, stacked, next, successor, is_nobody, last_actor}
-use Rattle.uc_meaning.specs.Doors.{OnStack, stack_at, clause_on, blocked_at, calls_destructor, has_others, destroys_busy}
-use Rattle.uc_meaning.specs.Acts.{admit, admission, settled}
-use Rattle.uc_meaning.specs.Stations.{Station, Waits, Stacked, Blocked, times, one_if, is_same}
-use Rattle.uc_meaning.specs.Sound.{At, spot, here, Sound, Stood}
-use Rattle.uc_meaning.proofs.Sound.{self_test}
-use Rattle.uc_meaning.specs.Legal.{Legal}
-use Rattle.uc_meaning.proofs.Rows.{legal_admit}
-use Rattle.uc_meaning.proofs.Moves.{first_at, known_at, from_waits, from_stacked}
-use Rattle.uc_meaning.proofs.Busy.{is_busy, busy_after}
-use Rattle.uc_meaning.proofs.Room.{in_none}
+use Rattle.uc_entry.specs.declared.entry.Entry.{Entry}
+use Rattle.uc_entry.specs.declared.entry.EntryKind.TheVariants as kind
+use Rattle.uc_acts.specs.Known.{object_count, task_count}
+use Rattle.uc_acts.specs.Journal.{Journal, inside}
+use Rattle.uc_acts.specs.Queues.{waiting, stacked, next, successor, is_nobody, last_actor}
+use Rattle.uc_acts.specs.Doors.{OnStack, stack_at, clause_on, blocked_at, calls_destructor, has_others, destroys_busy}
+use Rattle.uc_acts.specs.Acts.{admit, admission, settled}
+use Rattle.uc_acts.specs.Stations.{Station, Waits, Stacked, Blocked, times, one_if, is_same}
+use Rattle.uc_acts.specs.Sound.{At, spot, here, Sound, Stood}
+use Rattle.uc_acts.proofs.Sound.{self_test}
+use Rattle.uc_acts.specs.Legal.{Legal}
+use Rattle.uc_acts.proofs.Rows.{legal_admit}
+use Rattle.uc_acts.proofs.Moves.{first_at, known_at, from_waits, from_stacked}
+use Rattle.uc_acts.proofs.Busy.{is_busy, busy_after}
+use Rattle.uc_acts.proofs.Room.{in_none}
 use Rattle.uc_mutex.specs.declared.called.Passed.{Passed}
 use Rattle.uc_mutex.specs.Doors.{Door, door_at, next_of, next_by, next_door, after_next, inside_is, let_in, passed, has_tasks}
-use Rattle.uc_mutex.specs.Laws.{IsDoor, admitted, pair}
+use Rattle.uc_book.specs.DoorLaws.{IsDoor, admitted, pair}
 use Rattle.uc_condition.specs.Waiting.{Waiting, IsBusy, queue_at}
 use Rattle.uc_condition.specs.Waiting.{is_nobody as nobody_on}
 use Rattle.uc_condition.specs.Laws.{AreBlocked}

@@ -6,19 +6,19 @@ use Rattle.std.proofs.lemmas.Bool.{eqb-true}
 use Rattle.std.proofs.lemmas.List.{get_or-replicate, length-replicate}
 use Rattle.uc_tree.specs.Programs.{Site}
 use Rattle.uc_tree.specs.declared.limits.TheConstants.{TASKS}
-use Rattle.uc_meaning.specs.declared.entry.Entry.{Entry}
-use Rattle.uc_meaning.specs.declared.entry.Options.{Options}
-use Rattle.uc_meaning.specs.Journal.{begin, inside, own_object, entries_at}
-use Rattle.uc_meaning.specs.Queues.{waiting, stacked, cluster_of}
-use Rattle.uc_meaning.specs.Doors.{stack_at, open_at, blocked_at, blocked, last_call, calls_destructor}
-use Rattle.uc_meaning.specs.Known.{object_count, task_count, owner}
-use Rattle.uc_meaning.specs.Pending.{pending}
-use Rattle.uc_meaning.specs.Sound.{Unborn, spot, Stood}
-use Rattle.uc_meaning.proofs.Law.{sound_none, legal_begin, good_begin}
-use Rattle.uc_meaning.proofs.Moves.{spot_stays, spot_moves}
-use Rattle.uc_meaning.proofs.Stood.{stood_step}
+use Rattle.uc_entry.specs.declared.entry.Entry.{Entry}
+use Rattle.uc_entry.specs.declared.entry.Options.{Options}
+use Rattle.uc_acts.specs.Journal.{begin, inside, own_object, entries_at}
+use Rattle.uc_acts.specs.Queues.{waiting, stacked, cluster_of}
+use Rattle.uc_acts.specs.Doors.{stack_at, open_at, blocked_at, blocked, last_call, calls_destructor}
+use Rattle.uc_acts.specs.Known.{object_count, task_count, owner}
+use Rattle.uc_acts.specs.Pending.{pending}
+use Rattle.uc_acts.specs.Sound.{Unborn, spot, Stood}
+use Rattle.uc_acts.proofs.Law.{sound_none, legal_begin, good_begin}
+use Rattle.uc_acts.proofs.Moves.{spot_stays, spot_moves}
+use Rattle.uc_acts.proofs.Stood.{stood_step}
 use Rattle.uc_mutex.specs.Doors.{no_doors, with_new, door_at}
-use Rattle.uc_mutex.specs.Laws.{IsDoor}
+use Rattle.uc_book.specs.DoorLaws.{IsDoor}
 use Rattle.uc_condition.specs.Waiting.{Waiting, queue_at}
 use Rattle.uc_events.specs.Pending.{pending_at}
 use Rattle.uc_cluster.specs.Standing.{opening, made_ready, place_of, or_0}

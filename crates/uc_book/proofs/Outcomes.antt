@@ -3,20 +3,20 @@ use Rattle.std.proofs.Common.{◌≡◌, ℕ, pos, ◌==◌, ◌<◌, ◌≤◌,
 use Rattle.std.specs.Prelude.{◌⊎◌}
 use Rattle.uc_tree.specs.Programs.{Site}
 use Rattle.uc_tree.specs.declared.limits.TheConstants.{MEMBERS}
-use Rattle.uc_meaning.specs.declared.entry.Entry.{Entry}
-use Rattle.uc_meaning.specs.declared.entry.Options.{Options}
-use Rattle.uc_meaning.specs.declared.entry.EntryKind.TheVariants as kind
-use Rattle.uc_meaning.specs.declared.request.Request.TheVariants as ask
-use Rattle.uc_meaning.specs.Journal.{Journal, entry, inside}
-use Rattle.uc_meaning.specs.Queues.{running}
-use Rattle.uc_meaning.specs.Doors.{open_at, calls_destructor}
-use Rattle.uc_meaning.specs.Known.{task_count}
-use Rattle.uc_meaning.specs.KernelRuns.{IsOutside}
-use Rattle.uc_meaning.specs.Acts.{admit, push, called, fault, row, settled}
-use Rattle.uc_meaning.specs.Stations.{Stacked}
-use Rattle.uc_meaning.specs.Legal.{Legal}
-use Rattle.uc_meaning.proofs.Moves.{known_at}
-use Rattle.uc_meaning.proofs.Rows.{Lawful}
+use Rattle.uc_entry.specs.declared.entry.Entry.{Entry}
+use Rattle.uc_entry.specs.declared.entry.Options.{Options}
+use Rattle.uc_entry.specs.declared.entry.EntryKind.TheVariants as kind
+use Rattle.uc_entry.specs.declared.request.Request.TheVariants as ask
+use Rattle.uc_acts.specs.Journal.{Journal, entry, inside}
+use Rattle.uc_acts.specs.Queues.{running}
+use Rattle.uc_acts.specs.Doors.{open_at, calls_destructor}
+use Rattle.uc_acts.specs.Known.{task_count}
+use Rattle.uc_acts.specs.KernelRuns.{IsOutside}
+use Rattle.uc_acts.specs.Acts.{admit, push, called, fault, row, settled}
+use Rattle.uc_acts.specs.Stations.{Stacked}
+use Rattle.uc_acts.specs.Legal.{Legal}
+use Rattle.uc_acts.proofs.Moves.{known_at}
+use Rattle.uc_acts.proofs.Rows.{Lawful}
 use Rattle.uc_links.specs.Lists.{member_limit}
 use Rattle.uc_mutex.specs.declared.called.Called.TheVariants as called_as
 use Rattle.uc_mutex.specs.Doors.{Doors, door_at, with_door, after_call, answer, has_tasks}
@@ -29,7 +29,7 @@ use Rattle.uc_book.proofs.Fronts.{kept_by, cut_by}
 use Rattle.uc_book.proofs.Several.{rest_lawful}
 use Rattle.uc_book.proofs.Calling.{Waits, Free, Taken, Destroys, waits_by, comes_by, pushed_by}
 use Rattle.uc_book.proofs.Entering.{m_waits, m_comes, mark_is, door_free, door_taken, acceptor_stacked, acceptor_after, acceptor_placed, acceptor_unready, acceptor_cut, acceptor_kept, m_pushed}
-use Rattle.uc_meaning.proofs.Sound.{self_test}
+use Rattle.uc_acts.proofs.Sound.{self_test}
 
 module _ (opts : Options) (sites : List Site) (j : Journal) (doors : Doors) (waits : Waiting) (events : List (List Event)) (standing : Standing) (marks ins : List Bool) (owners : List (Option ℕ)) (own : List ℕ) (h : Mirrors opts sites j doors waits events standing marks ins owners own) (input : List ℕ) (p t k line o m : ℕ) (runs : running p j ≡ t ∷ []) (out : IsOutside t o j) (small : m ≤ MEMBERS) where
   abbrev the_call : Entry

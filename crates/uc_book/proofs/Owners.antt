@@ -1,16 +1,16 @@
 -- Whoever owns an object is a task, with one entry more.
 use Rattle.std.proofs.Common.{◌≡◌, ℕ, ◌==◌, ◌<◌, Bool, true, false, List, [], ◌∷◌, ◌++◌, Some, None, refl, sym, ap, ◌∙◌, arith, inl, inr, ⊎_elim}
 use Rattle.std.specs.Prelude.{◌⊎◌}
-use Rattle.uc_meaning.specs.declared.entry.Entry.{Entry}
-use Rattle.uc_meaning.specs.declared.entry.EntryKind.{EntryKind}
-use Rattle.uc_meaning.specs.declared.entry.EntryKind.TheVariants as kind
-use Rattle.uc_meaning.specs.Journal.{Journal, entries_at}
-use Rattle.uc_meaning.specs.Known.{task_count, is_spawn, owner, owned}
-use Rattle.uc_meaning.specs.Open.{still_open}
-use Rattle.uc_meaning.proofs.Moves.{more_tasks}
-use Rattle.uc_meaning.proofs.Open.{still_open_silent, still_open_begins}
-use Rattle.uc_meaning.proofs.Seats.{at_push, at_other}
-use Rattle.uc_meaning.proofs.Sound.{some_task}
+use Rattle.uc_entry.specs.declared.entry.Entry.{Entry}
+use Rattle.uc_entry.specs.declared.entry.EntryKind.{EntryKind}
+use Rattle.uc_entry.specs.declared.entry.EntryKind.TheVariants as kind
+use Rattle.uc_acts.specs.Journal.{Journal, entries_at}
+use Rattle.uc_acts.specs.Known.{task_count, is_spawn, owner, owned}
+use Rattle.uc_acts.specs.Open.{still_open}
+use Rattle.uc_acts.proofs.Moves.{more_tasks}
+use Rattle.uc_acts.proofs.Open.{still_open_silent, still_open_begins}
+use Rattle.uc_acts.proofs.Seats.{at_push, at_other}
+use Rattle.uc_acts.proofs.Sound.{some_task}
 
 pub no_owner : (o t : ℕ) → owner o [] ≡ t ∷ [] → ⊥
 unfolding owner entries_at

@@ -4,14 +4,14 @@ use Rattle.std.specs.Prelude.{nat_lt}
 use Rattle.std.specs.Option.{option_to_list}
 use Rattle.uc_tree.specs.Programs.{Site}
 use Rattle.uc_tree.specs.declared.limits.TheConstants.{PENDING_EVENTS}
-use Rattle.uc_meaning.specs.declared.entry.Entry.{Entry}
-use Rattle.uc_meaning.specs.declared.entry.Options.{Options}
-use Rattle.uc_meaning.specs.Journal.{Journal, first_or_0}
-use Rattle.uc_meaning.specs.Known.{object_count, owner}
-use Rattle.uc_meaning.specs.Pending.{pending}
-use Rattle.uc_meaning.specs.Acts.{raise_entry, fault, or_fault, settled}
-use Rattle.uc_meaning.specs.Legal.{Legal}
-use Rattle.uc_meaning.proofs.Moves.{legal_still, more_objects}
+use Rattle.uc_entry.specs.declared.entry.Entry.{Entry}
+use Rattle.uc_entry.specs.declared.entry.Options.{Options}
+use Rattle.uc_acts.specs.Journal.{Journal, first_or_0}
+use Rattle.uc_acts.specs.Known.{object_count, owner}
+use Rattle.uc_acts.specs.Pending.{pending}
+use Rattle.uc_acts.specs.Acts.{raise_entry, fault, or_fault, settled}
+use Rattle.uc_acts.specs.Legal.{Legal}
+use Rattle.uc_acts.proofs.Moves.{legal_still, more_objects}
 use Rattle.uc_mutex.specs.Doors.{Doors}
 use Rattle.uc_condition.specs.Waiting.{Waiting}
 use Rattle.uc_events.specs.Pending.{Event, pending_at, with_pending, has_room, raised}

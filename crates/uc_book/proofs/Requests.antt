@@ -4,17 +4,17 @@ use Rattle.std.specs.Prelude.{nat_lt}
 use Rattle.std.specs.Option.{option_to_list, IsSome}
 use Rattle.std.proofs.lemmas.Bool.{eqb-true, leb-true, le-leb}
 use Rattle.uc_tree.specs.declared.limits.TheConstants.{TASKS, OBJECTS, CLUSTERS, PROCESSORS}
-use Rattle.uc_meaning.specs.declared.entry.Entry.{Entry}
-use Rattle.uc_meaning.specs.declared.entry.EntryKind.TheVariants as kind
-use Rattle.uc_meaning.specs.declared.entry.Options.{Options}
-use Rattle.uc_meaning.specs.declared.request.Request.{Request}
-use Rattle.uc_meaning.specs.declared.request.Request.TheVariants as ask
-use Rattle.uc_meaning.specs.Journal.{Journal, entry}
-use Rattle.uc_meaning.specs.Queues.{cluster_count, processor_count, processors, cluster_in}
-use Rattle.uc_meaning.specs.Known.{object_count, task_count}
-use Rattle.uc_meaning.specs.Doors.{destroys_busy}
-use Rattle.uc_meaning.specs.Acts.{row, fault, or_fault, settled}
-use Rattle.uc_meaning.proofs.Sound.{self_test}
+use Rattle.uc_entry.specs.declared.entry.Entry.{Entry}
+use Rattle.uc_entry.specs.declared.entry.EntryKind.TheVariants as kind
+use Rattle.uc_entry.specs.declared.entry.Options.{Options}
+use Rattle.uc_entry.specs.declared.request.Request.{Request}
+use Rattle.uc_entry.specs.declared.request.Request.TheVariants as ask
+use Rattle.uc_acts.specs.Journal.{Journal, entry}
+use Rattle.uc_acts.specs.Queues.{cluster_count, processor_count, processors, cluster_in}
+use Rattle.uc_acts.specs.Known.{object_count, task_count}
+use Rattle.uc_acts.specs.Doors.{destroys_busy}
+use Rattle.uc_acts.specs.Acts.{row, fault, or_fault, settled}
+use Rattle.uc_acts.proofs.Sound.{self_test}
 use Rattle.uc_cluster.specs.declared.clusters.Processor.{Processor}
 use Rattle.uc_cluster.specs.Standing.{Standing, no_processor, processor_at, new_number, is_in_use}
 use Rattle.uc_cluster.specs.Laws.{numbered}

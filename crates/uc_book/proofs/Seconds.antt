@@ -2,19 +2,19 @@
 use Rattle.std.proofs.Common.{◌≡◌, ℕ, ℤ, pos, ◌==◌, ◌+◌, ◌<◌, ◌≤◌, ◌&&◌, Bool, true, false, not, List, [], ◌∷◌, ◌++◌, map, refl, sym, ap, ◌∙◌, subst, arith, length}
 use Rattle.std.specs.List.{filter}
 use Rattle.std.proofs.lemmas.List.{length-append}
-use Rattle.uc_meaning.specs.declared.entry.Entry.{Entry}
-use Rattle.uc_meaning.specs.declared.entry.EntryKind.TheVariants as kind
-use Rattle.uc_meaning.specs.Journal.{Journal, entry, inside, is_over, is_ending}
-use Rattle.uc_meaning.specs.Queues.{is_nobody, last_actor}
-use Rattle.uc_meaning.specs.Doors.{open_at, blocked, blocked_at}
-use Rattle.uc_meaning.specs.Known.{object_count}
-use Rattle.uc_meaning.specs.Acts.{truth, settled, signalled, handed}
-use Rattle.uc_meaning.specs.Stations.{Stacked}
-use Rattle.uc_meaning.specs.Sound.{At, spot, Sound}
-use Rattle.uc_meaning.proofs.Noted.{last_actor_push}
-use Rattle.uc_meaning.proofs.Seats.{blocked_same, blocked_after, open_after, inside_after}
-use Rattle.uc_meaning.proofs.Sound.{self_test, all_kept_nil}
-use Rattle.uc_meaning.proofs.Moves.{more_objects, inside_now, open_now, spot_moves}
+use Rattle.uc_entry.specs.declared.entry.Entry.{Entry}
+use Rattle.uc_entry.specs.declared.entry.EntryKind.TheVariants as kind
+use Rattle.uc_acts.specs.Journal.{Journal, entry, inside, is_over, is_ending}
+use Rattle.uc_acts.specs.Queues.{is_nobody, last_actor}
+use Rattle.uc_acts.specs.Doors.{open_at, blocked, blocked_at}
+use Rattle.uc_acts.specs.Known.{object_count}
+use Rattle.uc_acts.specs.Acts.{truth, settled, signalled, handed}
+use Rattle.uc_acts.specs.Stations.{Stacked}
+use Rattle.uc_acts.specs.Sound.{At, spot, Sound}
+use Rattle.uc_acts.proofs.Noted.{last_actor_push}
+use Rattle.uc_acts.proofs.Seats.{blocked_same, blocked_after, open_after, inside_after}
+use Rattle.uc_acts.proofs.Sound.{self_test, all_kept_nil}
+use Rattle.uc_acts.proofs.Moves.{more_objects, inside_now, open_now, spot_moves}
 use Rattle.uc_book.specs.Mirrors.{Seen, Appended, ACT_ENTRIES}
 use Rattle.uc_book.specs.Waiters.{front_pushed, front_admitted}
 use Rattle.uc_book.proofs.Asks.{goes_on, appended_both}

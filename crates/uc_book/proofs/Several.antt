@@ -2,16 +2,16 @@
 use Rattle.std.proofs.Common.{◌≡◌, ℕ, ◌+◌, ◌<◌, ◌≤◌, true, false, List, [], ◌∷◌, ◌++◌, refl, sym, ap, ◌∙◌, subst, arith, length}
 use Rattle.std.proofs.lemmas.List.{length-append}
 use Rattle.uc_tree.specs.Programs.{Site}
-use Rattle.uc_meaning.specs.declared.entry.Entry.{Entry}
-use Rattle.uc_meaning.specs.declared.entry.Options.{Options}
-use Rattle.uc_meaning.specs.declared.request.Request.{Request}
-use Rattle.uc_meaning.specs.Journal.{Journal, is_over, is_ending}
-use Rattle.uc_meaning.specs.Queues.{running}
-use Rattle.uc_meaning.specs.Acts.{row}
-use Rattle.uc_meaning.specs.KernelRuns.{Fits}
-use Rattle.uc_meaning.specs.Sound.{Sound}
-use Rattle.uc_meaning.specs.Legal.{Legal}
-use Rattle.uc_meaning.proofs.Rows.{Lawful, row_lawful}
+use Rattle.uc_entry.specs.declared.entry.Entry.{Entry}
+use Rattle.uc_entry.specs.declared.entry.Options.{Options}
+use Rattle.uc_entry.specs.declared.request.Request.{Request}
+use Rattle.uc_acts.specs.Journal.{Journal, is_over, is_ending}
+use Rattle.uc_acts.specs.Queues.{running}
+use Rattle.uc_acts.specs.Acts.{row}
+use Rattle.uc_acts.specs.KernelRuns.{Fits}
+use Rattle.uc_acts.specs.Sound.{Sound}
+use Rattle.uc_acts.specs.Legal.{Legal}
+use Rattle.uc_acts.proofs.Rows.{Lawful, row_lawful}
 use Rattle.uc_chronicle.specs.Told.{Told, told_more}
 use Rattle.uc_chronicle.proofs.Tellings.{over_push}
 use Rattle.uc_book.specs.Mirrors.{Appended, seen}

@@ -6,23 +6,23 @@ use Rattle.std.proofs.lemmas.Bool.{eqb-true, eq-eqb, cases_lt}
 use Rattle.std.proofs.lemmas.List.{get_or_past}
 use Rattle.uc_tree.specs.declared.limits.TheConstants.{TASKS}
 use Rattle.uc_tree.specs.Programs.{Site}
-use Rattle.uc_meaning.specs.declared.entry.Entry.{Entry}
-use Rattle.uc_meaning.specs.declared.entry.Options.{Options}
-use Rattle.uc_meaning.specs.declared.entry.EntryKind.{EntryKind}
-use Rattle.uc_meaning.specs.declared.entry.EntryKind.TheVariants as kind
-use Rattle.uc_meaning.specs.Journal.{Journal, entry, owns}
-use Rattle.uc_meaning.specs.Queues.{running, ready, cluster_of}
-use Rattle.uc_meaning.specs.Doors.{last_called}
-use Rattle.uc_meaning.specs.Known.{is_make, is_spawn, owned}
-use Rattle.uc_meaning.specs.Acts.{dispatch}
-use Rattle.uc_meaning.specs.Sound.{At, mover, spot, here}
-use Rattle.uc_meaning.specs.Stations.{Ready, times, one_if}
-use Rattle.uc_meaning.specs.Legal.{Legal}
-use Rattle.uc_meaning.proofs.Hush.{is_silent, door_silent}
-use Rattle.uc_meaning.proofs.Noted.{last_clusters_push}
-use Rattle.uc_meaning.proofs.Sound.{self_test}
-use Rattle.uc_meaning.proofs.Moves.{spot_stays, spot_moves, first_at, known_at}
-use Rattle.uc_meaning.proofs.Room.{in_none}
+use Rattle.uc_entry.specs.declared.entry.Entry.{Entry}
+use Rattle.uc_entry.specs.declared.entry.Options.{Options}
+use Rattle.uc_entry.specs.declared.entry.EntryKind.{EntryKind}
+use Rattle.uc_entry.specs.declared.entry.EntryKind.TheVariants as kind
+use Rattle.uc_acts.specs.Journal.{Journal, entry, owns}
+use Rattle.uc_acts.specs.Queues.{running, ready, cluster_of}
+use Rattle.uc_acts.specs.Doors.{last_called}
+use Rattle.uc_acts.specs.Known.{is_make, is_spawn, owned}
+use Rattle.uc_acts.specs.Acts.{dispatch}
+use Rattle.uc_acts.specs.Sound.{At, mover, spot, here}
+use Rattle.uc_acts.specs.Stations.{Ready, times, one_if}
+use Rattle.uc_acts.specs.Legal.{Legal}
+use Rattle.uc_acts.proofs.Hush.{is_silent, door_silent}
+use Rattle.uc_acts.proofs.Noted.{last_clusters_push}
+use Rattle.uc_acts.proofs.Sound.{self_test}
+use Rattle.uc_acts.proofs.Moves.{spot_stays, spot_moves, first_at, known_at}
+use Rattle.uc_acts.proofs.Room.{in_none}
 use Rattle.uc_mutex.specs.Doors.{Doors}
 use Rattle.uc_condition.specs.Waiting.{Waiting}
 use Rattle.uc_condition.specs.Laws.{is_silent as tells_no_wait}

@@ -4,38 +4,38 @@ use Rattle.std.specs.Option.{is_some}
 use Rattle.std.proofs.lemmas.Bool.{eqb-true, eq-eqb}
 use Rattle.uc_tree.specs.declared.limits.TheConstants.{TASKS}
 use Rattle.uc_tree.specs.Programs.{Site}
-use Rattle.uc_meaning.specs.declared.entry.Entry.{Entry}
-use Rattle.uc_meaning.specs.declared.entry.Options.{Options}
-use Rattle.uc_meaning.specs.declared.entry.EntryKind.{EntryKind}
-use Rattle.uc_meaning.specs.declared.entry.EntryKind.TheVariants as kind
-use Rattle.uc_meaning.specs.Journal.{Journal, inside, owns}
-use Rattle.uc_meaning.specs.Queues.{Noted, readies, dispatches, puts_on, takes_off, clusters, is_cluster, running, cluster_of}
-use Rattle.uc_meaning.specs.Doors.{last_called}
-use Rattle.uc_meaning.specs.Known.{is_make, is_spawn, object_count, owned}
-use Rattle.uc_meaning.specs.Sound.{At, mover, target, spot, here}
-use Rattle.uc_meaning.specs.Stations.{Ready, Running}
-use Rattle.uc_meaning.specs.Legal.{Legal}
-use Rattle.uc_meaning.proofs.Hush.{is_silent, door_silent}
-use Rattle.uc_meaning.proofs.Noted.{noted_at}
-use Rattle.uc_meaning.proofs.Sound.{sound_step, self_test}
-use Rattle.uc_meaning.proofs.Stood.{stood_step}
-use Rattle.uc_meaning.proofs.Moves.{spot_stays, spot_moves, first_at, known_at}
+use Rattle.uc_entry.specs.declared.entry.Entry.{Entry}
+use Rattle.uc_entry.specs.declared.entry.Options.{Options}
+use Rattle.uc_entry.specs.declared.entry.EntryKind.{EntryKind}
+use Rattle.uc_entry.specs.declared.entry.EntryKind.TheVariants as kind
+use Rattle.uc_acts.specs.Journal.{Journal, inside, owns}
+use Rattle.uc_acts.specs.Queues.{Noted, readies, dispatches, puts_on, takes_off, clusters, is_cluster, running, cluster_of}
+use Rattle.uc_acts.specs.Doors.{last_called}
+use Rattle.uc_acts.specs.Known.{is_make, is_spawn, object_count, owned}
+use Rattle.uc_acts.specs.Sound.{At, mover, target, spot, here}
+use Rattle.uc_acts.specs.Stations.{Ready, Running}
+use Rattle.uc_acts.specs.Legal.{Legal}
+use Rattle.uc_acts.proofs.Hush.{is_silent, door_silent}
+use Rattle.uc_acts.proofs.Noted.{noted_at}
+use Rattle.uc_acts.proofs.Sound.{sound_step, self_test}
+use Rattle.uc_acts.proofs.Stood.{stood_step}
+use Rattle.uc_acts.proofs.Moves.{spot_stays, spot_moves, first_at, known_at}
 use Rattle.uc_mutex.specs.Doors.{Doors, door_at, with_door, inside_is}
-use Rattle.uc_mutex.specs.Laws.{goes_out}
-use Rattle.uc_mutex.proofs.Mirrors.{out}
+use Rattle.uc_book.specs.DoorLaws.{goes_out}
+use Rattle.uc_book.proofs.DoorLemmas.{out}
 use Rattle.uc_condition.specs.Waiting.{Waiting}
 use Rattle.uc_condition.specs.Laws.{is_silent as tells_no_wait}
 use Rattle.uc_events.specs.Pending.{Event}
 use Rattle.uc_events.specs.Laws.{tells, ArePending}
 use Rattle.uc_events.specs.Pending.{pending_at, with_pending, without_oldest}
 use Rattle.uc_events.proofs.Mirrors.{poll}
-use Rattle.uc_meaning.specs.Pending.{pending, pending_by, oldest_in}
-use Rattle.uc_meaning.specs.Acts.{poll_entry}
+use Rattle.uc_acts.specs.Pending.{pending, pending_by, oldest_in}
+use Rattle.uc_acts.specs.Acts.{poll_entry}
 use Rattle.uc_cluster.specs.Standing.{Standing, IsPlaced, IsUnready, queue_at, processor_at, place_of, with_processor, with_place, made_ready, or_0}
 use Rattle.uc_cluster.proofs.Places.{ended}
-use Rattle.uc_meaning.proofs.Noted.{last_clusters_push}
-use Rattle.uc_meaning.specs.Queues.{last_clusters}
-use Rattle.uc_mutex.specs.Laws.{IsDoor}
+use Rattle.uc_acts.proofs.Noted.{last_clusters_push}
+use Rattle.uc_acts.specs.Queues.{last_clusters}
+use Rattle.uc_book.specs.DoorLaws.{IsDoor}
 use Rattle.uc_book.proofs.Clusters.{same_clusters}
 use Rattle.std.proofs.Common.{get_or-set_other}
 use Rattle.uc_cluster.specs.Standing.{running as runs_on}

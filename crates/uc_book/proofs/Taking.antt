@@ -4,26 +4,27 @@ use Rattle.std.specs.Option.{option_to_list}
 use Rattle.std.specs.List.{filter, AllByRecursion}
 use Rattle.std.proofs.lemmas.Bool.{eqb-true}
 use Rattle.uc_tree.specs.Programs.{Site}
-use Rattle.uc_meaning.specs.declared.entry.Entry.{Entry}
-use Rattle.uc_meaning.specs.declared.entry.EntryKind.TheVariants as kind
-use Rattle.uc_meaning.specs.declared.entry.Options.{Options}
-use Rattle.uc_meaning.specs.Journal.{Journal, inside}
-use Rattle.uc_meaning.specs.Queues.{running, waiting}
-use Rattle.uc_meaning.specs.Doors.{OnStack, Met, site_at, offers, met, met_or, next_met, oldest, clause_for, or_0, stack_at, taken_off, last_call, calls_destructor, is_member}
-use Rattle.uc_meaning.specs.Known.{object_count, task_count}
-use Rattle.uc_meaning.specs.Acts.{admit, push, accept_entry, accepted, took, settled}
-use Rattle.uc_meaning.specs.Stations.{Running, Waits, Stacked, Blocked, times}
-use Rattle.uc_meaning.specs.Sound.{At, Each, spot, here}
-use Rattle.uc_meaning.specs.Legal.{Legal}
-use Rattle.uc_meaning.proofs.Noted.{last_actor_push}
-use Rattle.uc_meaning.proofs.Sound.{self_test, all_kept_nil}
-use Rattle.uc_meaning.proofs.Moves.{inside_now, spot_stays, counted_at, known_at, apart, met_counts}
-use Rattle.uc_meaning.proofs.Stood.{stands_same, flip}
+use Rattle.uc_entry.specs.declared.entry.Entry.{Entry}
+use Rattle.uc_entry.specs.declared.entry.EntryKind.TheVariants as kind
+use Rattle.uc_entry.specs.declared.entry.Options.{Options}
+use Rattle.uc_acts.specs.Journal.{Journal, inside}
+use Rattle.uc_acts.specs.Queues.{running, waiting}
+use Rattle.uc_acts.specs.Doors.{OnStack, site_at, offers, next_met, stack_at, taken_off, last_call, calls_destructor, is_member}
+use Rattle.uc_tree.specs.SiteOffers.{Met, met, met_or, oldest, clause_for, or_0}
+use Rattle.uc_acts.specs.Known.{object_count, task_count}
+use Rattle.uc_acts.specs.Acts.{admit, push, accept_entry, accepted, took, settled}
+use Rattle.uc_acts.specs.Stations.{Running, Waits, Stacked, Blocked, times}
+use Rattle.uc_acts.specs.Sound.{At, Each, spot, here}
+use Rattle.uc_acts.specs.Legal.{Legal}
+use Rattle.uc_acts.proofs.Noted.{last_actor_push}
+use Rattle.uc_acts.proofs.Sound.{self_test, all_kept_nil}
+use Rattle.uc_acts.proofs.Moves.{inside_now, spot_stays, counted_at, known_at, apart, met_counts}
+use Rattle.uc_acts.proofs.Stood.{stands_same, flip}
 use Rattle.uc_links.specs.Lists.{without}
 use Rattle.uc_mutex.specs.Doors.{Door, Doors, door_at, with_door, on_top, let_in, accepting}
 use Rattle.uc_mutex.specs.Offers.{IsKnownSite, clauses_of, offers_by}
-use Rattle.uc_mutex.specs.Laws.{IsDoor, goes_on_top, admitted, met_by}
-use Rattle.uc_mutex.proofs.Mirrors.{opens, accepts, meets, push_one}
+use Rattle.uc_book.specs.DoorLaws.{IsDoor, goes_on_top, admitted, met_by}
+use Rattle.uc_book.proofs.DoorLemmas.{opens, accepts, meets, push_one}
 use Rattle.uc_accept.specs.declared.accepting.Accepted.TheVariants as as_accepted
 use Rattle.uc_accept.specs.Accepting.{unpulled, answer_of, doors_of, out_of_queue}
 use Rattle.uc_condition.specs.Waiting.{Waiting}

@@ -1,13 +1,13 @@
 -- What an act and a dispatch leave of the journal.
 use Rattle.std.specs.Prelude.{◌≡◌, ℕ, ◌+◌, ◌<◌, ◌≤◌, Bool, true, false, List, [], ◌∷◌, ◌++◌, length, take}
-use Rattle.uc_meaning.specs.declared.entry.Entry.{Entry}
-use Rattle.uc_meaning.specs.declared.entry.Options.{Options}
-use Rattle.uc_meaning.specs.declared.request.Request.{Request}
-use Rattle.uc_meaning.specs.declared.request.Request.TheVariants as ask
-use Rattle.uc_meaning.specs.Journal.{Journal, is_over}
-use Rattle.uc_meaning.specs.Serves.{Serves}
-use Rattle.uc_meaning.specs.Laws.{IsServed}
-use Rattle.uc_meaning.specs.Acts.{act, dispatch, lone_limit}
+use Rattle.uc_entry.specs.declared.entry.Entry.{Entry}
+use Rattle.uc_entry.specs.declared.entry.Options.{Options}
+use Rattle.uc_entry.specs.declared.request.Request.{Request}
+use Rattle.uc_entry.specs.declared.request.Request.TheVariants as ask
+use Rattle.uc_acts.specs.Journal.{Journal, is_over}
+use Rattle.uc_acts.specs.Serves.{Serves}
+use Rattle.uc_acts.specs.Laws.{IsServed}
+use Rattle.uc_acts.specs.Acts.{act, dispatch, lone_limit}
 use Rattle.uc_book.specs.Mirrors.{Seen, Appended}
 
 -- the act of what task t on p asks after k ticks, in a line

@@ -4,24 +4,24 @@ use Rattle.std.specs.Option.{option_to_list}
 use Rattle.std.specs.List.{AllByRecursion, list_any}
 use Rattle.uc_tree.specs.Programs.{Site}
 use Rattle.uc_tree.specs.declared.limits.TheConstants.{TASKS}
-use Rattle.uc_meaning.specs.declared.entry.Entry.{Entry}
-use Rattle.uc_meaning.specs.declared.entry.EntryKind.{EntryKind}
-use Rattle.uc_meaning.specs.declared.entry.EntryKind.TheVariants as kind
-use Rattle.uc_meaning.specs.declared.entry.Options.{Options}
-use Rattle.uc_meaning.specs.declared.request.Request.{Request}
-use Rattle.uc_meaning.specs.Journal.{Journal, inside, own_object, owns, entries_at, is_over, holds}
-use Rattle.uc_meaning.specs.Queues.{running, cluster_of, next, last_actor, tasks_on}
-use Rattle.uc_meaning.specs.Doors.{calls_destructor, last_call}
-use Rattle.uc_meaning.specs.Known.{object_count, task_count, owner}
-use Rattle.uc_meaning.specs.Open.{still_open}
-use Rattle.uc_meaning.specs.Pending.{pending as pending_at_task}
-use Rattle.uc_meaning.specs.Stations.{Waits, Stacked, Blocked}
-use Rattle.uc_meaning.specs.Sound.{Spot, At, spot, here, Sound, Stood}
-use Rattle.uc_meaning.specs.Acts.{entries_of, clause_by_way}
-use Rattle.uc_meaning.specs.Legal.{Legal}
+use Rattle.uc_entry.specs.declared.entry.Entry.{Entry}
+use Rattle.uc_entry.specs.declared.entry.EntryKind.{EntryKind}
+use Rattle.uc_entry.specs.declared.entry.EntryKind.TheVariants as kind
+use Rattle.uc_entry.specs.declared.entry.Options.{Options}
+use Rattle.uc_entry.specs.declared.request.Request.{Request}
+use Rattle.uc_acts.specs.Journal.{Journal, inside, own_object, owns, entries_at, is_over, holds}
+use Rattle.uc_acts.specs.Queues.{running, cluster_of, next, last_actor, tasks_on}
+use Rattle.uc_acts.specs.Doors.{calls_destructor, last_call}
+use Rattle.uc_acts.specs.Known.{object_count, task_count, owner}
+use Rattle.uc_acts.specs.Open.{still_open}
+use Rattle.uc_acts.specs.Pending.{pending as pending_at_task}
+use Rattle.uc_acts.specs.Stations.{Waits, Stacked, Blocked}
+use Rattle.uc_acts.specs.Sound.{Spot, At, spot, here, Sound, Stood}
+use Rattle.uc_acts.specs.Acts.{entries_of, clause_by_way}
+use Rattle.uc_acts.specs.Legal.{Legal}
 use Rattle.uc_mutex.specs.Doors.{Doors, door_at}
 use Rattle.uc_mutex.specs.declared.called.Passed.{Passed}
-use Rattle.uc_mutex.specs.Laws.{IsDoor}
+use Rattle.uc_book.specs.DoorLaws.{IsDoor}
 use Rattle.uc_mutex.specs.Offers.{IsKnownSite}
 use Rattle.uc_condition.specs.Waiting.{Waiting}
 use Rattle.uc_condition.specs.Laws.{AreBlocked}

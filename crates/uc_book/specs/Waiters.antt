@@ -1,7 +1,7 @@
 -- What becomes of the front waiter of a condition.
 use Rattle.std.specs.Prelude.{ℕ, ℤ, List, [], ◌∷◌}
-use Rattle.uc_meaning.specs.declared.entry.Entry.{Entry}
-use Rattle.uc_meaning.specs.Acts.{admit, push}
+use Rattle.uc_entry.specs.declared.entry.Entry.{Entry}
+use Rattle.uc_acts.specs.Acts.{admit, push}
 
 -- it goes on the stack
 abbrev pub front_pushed : ℕ → ℕ → List (ℕ × ℤ) → List Entry

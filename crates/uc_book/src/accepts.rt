@@ -1,8 +1,8 @@
 //! Accept statements.
 ghost use Rattle.std.specs.Prelude.{◌≡◌, ◌<◌, ◌^◌, length};
-ghost use Rattle.uc_meaning.specs.Doors.{site_at};
-ghost use Rattle.uc_meaning.specs.KernelRuns.{IsAt};
-ghost use Rattle.uc_meaning.specs.declared.request.Request.TheVariants as ask;
+ghost use Rattle.uc_acts.specs.Doors.{site_at};
+ghost use Rattle.uc_acts.specs.KernelRuns.{IsAt};
+ghost use Rattle.uc_entry.specs.declared.request.Request.TheVariants as ask;
 ghost use Rattle.uc_book.specs.Mirrors.{Appended, MayAct, rows};
 
 use crate::book::Book;

@@ -1,15 +1,15 @@
 //! An act: the entries of a request, and last the ending, or the limit in the place of all.
 ghost use Rattle.std.specs.Prelude.{◌≡◌, ◌≤◌, false, length, OnOk, OnErr};
 ghost use Rattle.uc_tree.specs.declared.limits.TheConstants.{INPUT_BYTES};
-ghost use Rattle.uc_meaning.specs.declared.request.Request.TheVariants as ask;
-ghost use Rattle.uc_meaning.specs.KernelRuns.{Fits, MayAsk};
+ghost use Rattle.uc_entry.specs.declared.request.Request.TheVariants as ask;
+ghost use Rattle.uc_acts.specs.KernelRuns.{Fits, MayAsk};
 ghost use Rattle.uc_book.specs.Mirrors.{Appended, MayAct, rows};
 ghost use Rattle.uc_book.specs.Acting.{acts, makes_new, IsReady};
 
 use crate::book::Book;
 use crate::entries::Actor;
 use std::alloc::AllocError;
-use uc_meaning::request::Request;
+use uc_entry::request::Request;
 
 impl Book {
     /// The act of what a task asks: any request but those for which memory is taken, `make_object` and `spawn`.

@@ -2,15 +2,15 @@
 ghost use Rattle.std.specs.Prelude.{◌≡◌, ◌<◌, false, IfSome};
 ghost use Rattle.std.specs.Option.{is_some, option_to_list};
 ghost use Rattle.uc_tree.specs.declared.limits.TheConstants.{TASKS};
-ghost use Rattle.uc_meaning.specs.Answers.{answer_to};
-ghost use Rattle.uc_meaning.specs.Journal.{is_over};
-ghost use Rattle.uc_meaning.specs.Queues.{running};
-ghost use Rattle.uc_meaning.specs.Serves.{left};
+ghost use Rattle.uc_acts.specs.Answers.{answer_to};
+ghost use Rattle.uc_acts.specs.Journal.{is_over};
+ghost use Rattle.uc_acts.specs.Queues.{running};
+ghost use Rattle.uc_acts.specs.Serves.{left};
 ghost use Rattle.uc_chronicle.specs.Told.{last_kind};
 
 use crate::book::Book;
-use uc_meaning::entry::EntryKind;
-use uc_meaning::request::Answer;
+use uc_entry::entry::EntryKind;
+use uc_entry::request::Answer;
 
 impl Book {
     /// The kind of the entry that ends the run, if there is one. It is the last.

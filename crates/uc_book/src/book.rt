@@ -1,23 +1,23 @@
 //! The journal and the parts, one act at a time.
 ghost use Rattle.std.specs.Prelude.{◌≡◌, ◌⊎◌, ◌<◌, ◌≤◌, ◌+◌, ◌++◌, ◌∷◌, [], ℕ, false, true, length, pos, ◌==◌, if◌then◌else◌, replicate, IfOk, Some};
 ghost use Rattle.uc_tree.specs.declared.limits.TheConstants.{TASKS, PROCESSORS};
-ghost use Rattle.uc_meaning.specs.Journal;
-ghost use Rattle.uc_meaning.specs.declared.entry.EntryKind.TheVariants as kind;
-ghost use Rattle.uc_meaning.specs.Journal.{begin, is_over, is_ending, inside, own_object};
-ghost use Rattle.uc_meaning.specs.Queues.{running};
-ghost use Rattle.uc_meaning.specs.Sound.{Sound, Stood};
-ghost use Rattle.uc_meaning.specs.Doors.{has_others, blocked};
-ghost use Rattle.uc_meaning.specs.Known.{object_count, task_count};
-ghost use Rattle.uc_meaning.specs.declared.request.Request.TheVariants as ask;
+ghost use Rattle.uc_acts.specs.Journal;
+ghost use Rattle.uc_entry.specs.declared.entry.EntryKind.TheVariants as kind;
+ghost use Rattle.uc_acts.specs.Journal.{begin, is_over, is_ending, inside, own_object};
+ghost use Rattle.uc_acts.specs.Queues.{running};
+ghost use Rattle.uc_acts.specs.Sound.{Sound, Stood};
+ghost use Rattle.uc_acts.specs.Doors.{has_others, blocked};
+ghost use Rattle.uc_acts.specs.Known.{object_count, task_count};
+ghost use Rattle.uc_entry.specs.declared.request.Request.TheVariants as ask;
 ghost use Rattle.uc_chronicle.specs.Saying.{IsSayable};
 ghost use Rattle.uc_cluster.specs.Standing.{opening, made_ready};
-ghost use Rattle.uc_meaning.specs.Acts.{fault, settled, admission};
-ghost use Rattle.uc_meaning.specs.Queues.{next, is_nobody};
-ghost use Rattle.uc_meaning.specs.KernelRuns.{IsAt, InRange};
+ghost use Rattle.uc_acts.specs.Acts.{fault, settled, admission};
+ghost use Rattle.uc_acts.specs.Queues.{next, is_nobody};
+ghost use Rattle.uc_acts.specs.KernelRuns.{IsAt, InRange};
 ghost use Rattle.uc_mutex.specs.Doors.{door_at, has_tasks, no_doors, with_new};
 ghost use Rattle.uc_condition.specs.Waiting.{IsBusy, queue_at, first_number};
 ghost use Rattle.uc_book.specs.Mirrors.{AreKnownSites, Appended, CanPut, IsAside, MayAct, rows, is_back, is_leave, is_quiet};
-ghost use Rattle.uc_meaning.specs.Reading.{next_read, read_after, bytes_used, has_failed};
+ghost use Rattle.uc_acts.specs.Reading.{next_read, read_after, bytes_used, has_failed};
 ghost use Rattle.uc_tree.specs.declared.limits.TheConstants.{INPUT_BYTES};
 
 use crate::entries::{
@@ -26,14 +26,14 @@ use crate::entries::{
 };
 use std::alloc::{AllocError, Global};
 use std::marker::Model;
+use uc_acts::got::Got;
 use uc_chronicle::Chronicle;
 use uc_cluster::Clusters;
 use uc_condition::Conditions;
+use uc_entry::entry::{Entry, EntryKind, Options};
+use uc_entry::request::Piece;
 use uc_events::Events;
 use uc_input::reading::read_form;
-use uc_meaning::entry::{Entry, EntryKind, Options};
-use uc_meaning::got::Got;
-use uc_meaning::request::Piece;
 use uc_mutex::Entries;
 use uc_tree::limits::TASKS;
 use uc_tree::site::Site;

@@ -1,8 +1,8 @@
 //! Calls of members.
 ghost use Rattle.std.specs.Prelude.{◌≡◌, ◌≤◌};
 ghost use Rattle.uc_tree.specs.declared.limits.TheConstants.{MEMBERS};
-ghost use Rattle.uc_meaning.specs.KernelRuns.{IsOutside};
-ghost use Rattle.uc_meaning.specs.declared.request.Request.TheVariants as ask;
+ghost use Rattle.uc_acts.specs.KernelRuns.{IsOutside};
+ghost use Rattle.uc_entry.specs.declared.request.Request.TheVariants as ask;
 ghost use Rattle.uc_book.specs.Mirrors.{Appended, MayAct, rows};
 
 use crate::book::{Book, destroys_busy};

@@ -4,7 +4,7 @@ ghost use Rattle.uc_book.specs.Acting.{Gave, GaveNone, IsReady};
 
 use crate::book::Book;
 use crate::entries::{closing_entry, dispatch_entry};
-use uc_meaning::entry::EntryKind;
+use uc_entry::entry::EntryKind;
 
 impl Book {
     /// The least processor that is open and free and whose cluster has a ready task is given the front of that cluster's queue:

@@ -1,13 +1,13 @@
 //! Entries of a journal, one function for each shape.
 ghost use Rattle.std.specs.Prelude.{◌≡◌, ◌+◌, not, pos};
-ghost use Rattle.uc_meaning.specs.Acts;
-ghost use Rattle.uc_meaning.specs.Acts.{truth, signed_64};
-ghost use Rattle.uc_meaning.specs.Journal;
-ghost use Rattle.uc_meaning.specs.declared.entry.EntryKind.TheVariants as kind;
+ghost use Rattle.uc_acts.specs.Acts;
+ghost use Rattle.uc_acts.specs.Acts.{truth, signed_64};
+ghost use Rattle.uc_acts.specs.Journal;
+ghost use Rattle.uc_entry.specs.declared.entry.EntryKind.TheVariants as kind;
 
-use uc_meaning::entry::{Entry, EntryKind};
-use uc_meaning::got::Got;
-use uc_meaning::request::Piece;
+use uc_acts::got::Got;
+use uc_entry::entry::{Entry, EntryKind};
+use uc_entry::request::Piece;
 
 /// The task that acts: its processor, its ticks since its last entry, and the line of its request.
 #[derive(Clone, Copy)]

@@ -1,17 +1,17 @@
 //! The end of an act: the ending, if the run ends there, or the limit in the place of an act that leaves no room.
 ghost use Rattle.std.specs.Prelude.{◌≡◌, ◌<◌, ◌≤◌, ◌+◌, ◌++◌, [], false, length, drop, take, nat_le, Some, None, if◌then◌else◌};
 ghost use Rattle.uc_tree.specs.declared.limits.TheConstants.{TASKS};
-ghost use Rattle.uc_meaning.specs.declared.entry.EntryKind.TheVariants as kind;
-ghost use Rattle.uc_meaning.specs.Journal.{is_over};
-ghost use Rattle.uc_meaning.specs.Queues.{all_ticks};
-ghost use Rattle.uc_meaning.specs.Acts.{closing, fitted, verdict};
+ghost use Rattle.uc_entry.specs.declared.entry.EntryKind.TheVariants as kind;
+ghost use Rattle.uc_acts.specs.Journal.{is_over};
+ghost use Rattle.uc_acts.specs.Queues.{all_ticks};
+ghost use Rattle.uc_acts.specs.Acts.{closing, fitted, verdict};
 ghost use Rattle.uc_book.specs.Mirrors.{Appended};
 ghost use Rattle.uc_book.specs.Acting.{Replaced};
 
 use crate::book::Book;
 use crate::entries::{Actor, closing_entry};
 use uc_cluster::Stalled;
-use uc_meaning::entry::EntryKind;
+use uc_entry::entry::EntryKind;
 
 impl Book {
     /// Ends the act whose entries stand behind the first `before`.

@@ -9,6 +9,7 @@ mod calls;
 mod dispatch;
 pub mod entries;
 mod finish;
+pub mod laws;
 mod processors;
 mod raises;
 mod tasks;

@@ -1,13 +1,13 @@
 //! Clusters and processors are made and closed, and tasks go from one cluster to another.
 ghost use Rattle.std.specs.Prelude.{◌≡◌, ◌<◌};
-ghost use Rattle.uc_meaning.specs.Queues.{cluster_count, processor_count};
-ghost use Rattle.uc_meaning.specs.declared.request.Request.TheVariants as ask;
+ghost use Rattle.uc_acts.specs.Queues.{cluster_count, processor_count};
+ghost use Rattle.uc_entry.specs.declared.request.Request.TheVariants as ask;
 ghost use Rattle.uc_book.specs.Mirrors.{Appended, MayAct, rows};
 
 use crate::book::Book;
 use crate::entries::{Actor, fault_entry, number_entry};
-use uc_meaning::entry::EntryKind;
-use uc_meaning::fault::RunFault;
+use uc_entry::entry::EntryKind;
+use uc_entry::fault::RunFault;
 
 impl Book {
     /// A task makes a cluster.

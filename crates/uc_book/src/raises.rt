@@ -1,10 +1,10 @@
 //! Events that a task raises at another.
 ghost use Rattle.std.specs.Prelude.{◌≡◌, ◌<◌, false, length};
 ghost use Rattle.uc_tree.specs.declared.limits.TheConstants.{EVENTS};
-ghost use Rattle.uc_meaning.specs.Journal.{first_or_0, is_over};
-ghost use Rattle.uc_meaning.specs.KernelRuns.{IsMade};
-ghost use Rattle.uc_meaning.specs.Known.{object_count, owner};
-ghost use Rattle.uc_meaning.specs.declared.request.Request.TheVariants as ask;
+ghost use Rattle.uc_acts.specs.Journal.{first_or_0, is_over};
+ghost use Rattle.uc_acts.specs.KernelRuns.{IsMade};
+ghost use Rattle.uc_acts.specs.Known.{object_count, owner};
+ghost use Rattle.uc_entry.specs.declared.request.Request.TheVariants as ask;
 ghost use Rattle.uc_book.specs.Mirrors.{Appended, MayAct, rows};
 
 use crate::book::Book;

@@ -1,17 +1,17 @@
 //! Objects and tasks are made, for which memory is taken first.
 ghost use Rattle.std.specs.Prelude.{◌≡◌, ◌∷◌, [], OnOk, OnErr};
-ghost use Rattle.uc_meaning.specs.Acts.{fault};
-ghost use Rattle.uc_meaning.specs.Faults.{fault_number};
-ghost use Rattle.uc_meaning.specs.KernelRuns.{IsAt};
-ghost use Rattle.uc_meaning.specs.Known.{owner};
-ghost use Rattle.uc_meaning.specs.declared.request.Request.TheVariants as ask;
+ghost use Rattle.uc_acts.specs.Acts.{fault};
+ghost use Rattle.uc_entry.specs.Faults.{fault_number};
+ghost use Rattle.uc_acts.specs.KernelRuns.{IsAt};
+ghost use Rattle.uc_acts.specs.Known.{owner};
+ghost use Rattle.uc_entry.specs.declared.request.Request.TheVariants as ask;
 ghost use Rattle.uc_book.specs.Mirrors.{Appended, MayAct, rows};
 
 use crate::book::Book;
 use crate::entries::{Actor, fault_entry, object_entry};
 use std::alloc::AllocError;
-use uc_meaning::entry::EntryKind;
-use uc_meaning::fault::RunFault;
+use uc_entry::entry::EntryKind;
+use uc_entry::fault::RunFault;
 use uc_tree::limits::{OBJECTS, TASKS};
 
 impl Book {

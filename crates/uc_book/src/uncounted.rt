@@ -1,6 +1,6 @@
 //! Calls of the parts that count their moves, for a caller that counts none.
 ghost use Rattle.std.specs.Prelude.{◌≡◌, ◌<◌, length, Some};
-ghost use Rattle.uc_meaning.specs.Doors.{met};
+ghost use Rattle.uc_tree.specs.SiteOffers.{met};
 ghost use Rattle.uc_accept.specs.Accepting.{answer_of, doors_of, unpulled};
 ghost use Rattle.uc_mutex.specs.Doors.{IsFree, door_at, on_top, with_door};
 ghost use Rattle.uc_mutex.specs.Offers.{IsKnownSite, offers_by};

@@ -1,24 +1,24 @@
 //! Requests about conditions.
 ghost use Rattle.std.specs.Prelude.{◌≡◌, ◌<◌, ◌≤◌, ◌+◌, ◌∷◌, [], ℕ, true, false, length, pos};
 ghost use Rattle.uc_tree.specs.declared.limits.TheConstants.{TASKS};
-ghost use Rattle.uc_meaning.specs.Acts.{fault, settled};
-ghost use Rattle.uc_meaning.specs.Doors.{blocked, open_at};
-ghost use Rattle.uc_meaning.specs.Journal;
-ghost use Rattle.uc_meaning.specs.Journal.{inside, is_over};
-ghost use Rattle.uc_meaning.specs.KernelRuns.{IsAt};
-ghost use Rattle.uc_meaning.specs.Known.{object_count};
-ghost use Rattle.uc_meaning.specs.Queues.{last_actor, running};
-ghost use Rattle.uc_meaning.specs.Sound.{At, spot};
-ghost use Rattle.uc_meaning.specs.Stations.{Stacked};
-ghost use Rattle.uc_meaning.specs.declared.entry.EntryKind.TheVariants as kind;
-ghost use Rattle.uc_meaning.specs.declared.request.Request.TheVariants as ask;
+ghost use Rattle.uc_acts.specs.Acts.{fault, settled};
+ghost use Rattle.uc_acts.specs.Doors.{blocked, open_at};
+ghost use Rattle.uc_acts.specs.Journal;
+ghost use Rattle.uc_acts.specs.Journal.{inside, is_over};
+ghost use Rattle.uc_acts.specs.KernelRuns.{IsAt};
+ghost use Rattle.uc_acts.specs.Known.{object_count};
+ghost use Rattle.uc_acts.specs.Queues.{last_actor, running};
+ghost use Rattle.uc_acts.specs.Sound.{At, spot};
+ghost use Rattle.uc_acts.specs.Stations.{Stacked};
+ghost use Rattle.uc_entry.specs.declared.entry.EntryKind.TheVariants as kind;
+ghost use Rattle.uc_entry.specs.declared.request.Request.TheVariants as ask;
 ghost use Rattle.uc_book.specs.Mirrors.{Appended, CanPut, MayAct, rows};
 ghost use Rattle.uc_book.specs.Waiters.{front_admitted, front_pushed};
 
 use crate::book::{Book, destroys_busy};
 use crate::entries::{Actor, admit_entry, condition_entry, fault_entry, push_entry, signal_entry};
 use crate::uncounted::push_on;
-use uc_meaning::entry::EntryKind;
+use uc_entry::entry::EntryKind;
 
 impl Book {
     /// A task waits on a condition of the object that it is inside: it goes out, and off its processor.

@@ -6,7 +6,7 @@ use Rattle.uc_tree.specs.Programs.{Program}
 use Rattle.uc_tree.specs.Cells.{routine_cells}
 use Rattle.uc_tree.specs.Sizes.{program_size}
 use Rattle.uc_built.specs.BuiltForms.{IsBuilt}
-use Rattle.uc_meaning.specs.Breaks.{breaks_of}
+use Rattle.uc_rules.specs.Breaks.{breaks_of}
 
 -- the frame of each written routine, of a class or not, has at most so many cells; a routine that nobody wrote has none
 pub record FitFrames (program : Program) : Type 0 where

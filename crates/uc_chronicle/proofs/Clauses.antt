@@ -2,8 +2,7 @@
 use Rattle.std.proofs.Common.{◌≡◌, ℕ, ◌==◌, ◌+◌, ◌<◌, ◌||◌, Bool, true, false, cond, List, [], ◌∷◌, ◌++◌, Some, map, refl, sym, ap, ◌∙◌, length, get_or, drop}
 use Rattle.std.specs.List.{list_any}
 use Rattle.std.proofs.lemmas.List.{at_drop_more}
-use Rattle.uc_meaning.specs.Doors.{clause_for, offers_from}
-use Rattle.uc_meaning.specs.Pending.{has_bit}
+use Rattle.uc_tree.specs.SiteOffers.{has_bit, clause_for, offers_from}
 
 -- one clause, for a member
 pub clause_step : (n m : ℕ) (c : List ℕ) (rest : List (ℕ × ℕ)) → clause_for (map (λ x. (n, x)) c ++ rest) m ≡ cond (list_any (λ x. x == m) c) (Some n) (clause_for rest m)

@@ -8,20 +8,20 @@ use Rattle.std.proofs.lemmas.List.{length-append, get_or-replicate, length-repli
 use Rattle.std.proofs.lemmas.List.Sums.{sum_by_push, sum_by-append}
 use Rattle.std.proofs.lemmas.List.Folds.{list_any-append}
 use Rattle.uc_tree.specs.Programs.{Site}
-use Rattle.uc_meaning.specs.declared.entry.Entry.{Entry}
-use Rattle.uc_meaning.specs.declared.entry.EntryKind.{EntryKind}
-use Rattle.uc_meaning.specs.declared.entry.EntryKind.TheVariants as kind
-use Rattle.uc_meaning.specs.declared.request.Answer.{Answer}
-use Rattle.uc_meaning.specs.declared.request.Answer.TheVariants as answer
-use Rattle.uc_meaning.specs.declared.entry.Options.{Options}
-use Rattle.uc_meaning.specs.Journal.{begin, Journal, number, holds, where_true, is_over, is_ending}
-use Rattle.uc_meaning.specs.Queues.{used, spent, dispatches, all_ticks, first_ended, ends_first}
-use Rattle.uc_meaning.specs.Reading.{bytes_used, has_failed, used_by, used_from, fails_by, failed_from}
-use Rattle.uc_meaning.specs.Answers.{tells, asks, answer_to, told_if, accept_answer}
-use Rattle.uc_meaning.specs.Open.{still_open}
-use Rattle.uc_meaning.proofs.Open.{still_open_push, any_push}
-use Rattle.uc_meaning.proofs.Answered.{later, answer_push}
-use Rattle.uc_meaning.proofs.Sound.{self_test}
+use Rattle.uc_entry.specs.declared.entry.Entry.{Entry}
+use Rattle.uc_entry.specs.declared.entry.EntryKind.{EntryKind}
+use Rattle.uc_entry.specs.declared.entry.EntryKind.TheVariants as kind
+use Rattle.uc_entry.specs.declared.request.Answer.{Answer}
+use Rattle.uc_entry.specs.declared.request.Answer.TheVariants as answer
+use Rattle.uc_entry.specs.declared.entry.Options.{Options}
+use Rattle.uc_acts.specs.Journal.{begin, Journal, number, holds, where_true, is_over, is_ending}
+use Rattle.uc_acts.specs.Queues.{used, spent, dispatches, all_ticks, first_ended, ends_first}
+use Rattle.uc_acts.specs.Reading.{bytes_used, has_failed, used_by, used_from, fails_by, failed_from}
+use Rattle.uc_acts.specs.Answers.{tells, asks, answer_to, told_if, accept_answer}
+use Rattle.uc_acts.specs.Open.{still_open}
+use Rattle.uc_acts.proofs.Open.{still_open_push, any_push}
+use Rattle.uc_acts.proofs.Answered.{later, answer_push}
+use Rattle.uc_acts.proofs.Sound.{self_test}
 use Rattle.uc_chronicle.specs.Saying.{says, takes_up, IsSayable, answer_after, answers_after, child_told, spent_after}
 use Rattle.uc_chronicle.specs.Told.{Tells, last_kind}
 

@@ -1,13 +1,13 @@
 -- What an entry says to its own task, and what it asks of the numbers that it has.
 use Rattle.std.specs.Prelude.{ℕ, ◌+◌, ◌<◌, ◌≤◌, Bool, true, false, List, Option, Some, None, slice_index_or, slice_set}
 use Rattle.uc_tree.specs.Programs.{Site}
-use Rattle.uc_meaning.specs.declared.entry.Entry.{Entry}
-use Rattle.uc_meaning.specs.declared.entry.EntryKind.{EntryKind}
-use Rattle.uc_meaning.specs.declared.entry.EntryKind.TheVariants as kind
-use Rattle.uc_meaning.specs.declared.request.Answer.{Answer}
-use Rattle.uc_meaning.specs.declared.request.Answer.TheVariants as answer
-use Rattle.uc_meaning.specs.Journal.{number, holds, where_true}
-use Rattle.uc_meaning.specs.Answers.{let_in_answer, poll_answer, accept_answer}
+use Rattle.uc_entry.specs.declared.entry.Entry.{Entry}
+use Rattle.uc_entry.specs.declared.entry.EntryKind.{EntryKind}
+use Rattle.uc_entry.specs.declared.entry.EntryKind.TheVariants as kind
+use Rattle.uc_entry.specs.declared.request.Answer.{Answer}
+use Rattle.uc_entry.specs.declared.request.Answer.TheVariants as answer
+use Rattle.uc_acts.specs.Journal.{number, holds, where_true}
+use Rattle.uc_acts.specs.Answers.{let_in_answer, poll_answer, accept_answer}
 
 -- what an entry answers to the task that it names
 abbrev pub says : List Site → EntryKind → Entry → Option Answer

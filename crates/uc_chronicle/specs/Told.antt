@@ -3,14 +3,14 @@ use Rattle.std.specs.Prelude.{◌≡◌, ℕ, ◌*◌, ◌<◌, ◌≤◌, Bool,
 use Rattle.std.specs.List.{AllByRecursion}
 use Rattle.uc_tree.specs.Programs.{Site}
 use Rattle.uc_tree.specs.declared.limits.TheConstants.{CLAUSES}
-use Rattle.uc_meaning.specs.declared.entry.Entry.{Entry}
-use Rattle.uc_meaning.specs.declared.entry.EntryKind.{EntryKind}
-use Rattle.uc_meaning.specs.declared.entry.EntryKind.TheVariants as kind
-use Rattle.uc_meaning.specs.declared.request.Answer.{Answer}
-use Rattle.uc_meaning.specs.Journal.{Journal, is_over, is_ending}
-use Rattle.uc_meaning.specs.Queues.{used, all_ticks, first_ended}
-use Rattle.uc_meaning.specs.Reading.{bytes_used, has_failed}
-use Rattle.uc_meaning.specs.Answers.{answer_to}
+use Rattle.uc_entry.specs.declared.entry.Entry.{Entry}
+use Rattle.uc_entry.specs.declared.entry.EntryKind.{EntryKind}
+use Rattle.uc_entry.specs.declared.entry.EntryKind.TheVariants as kind
+use Rattle.uc_entry.specs.declared.request.Answer.{Answer}
+use Rattle.uc_acts.specs.Journal.{Journal, is_over, is_ending}
+use Rattle.uc_acts.specs.Queues.{used, all_ticks, first_ended}
+use Rattle.uc_acts.specs.Reading.{bytes_used, has_failed}
+use Rattle.uc_acts.specs.Answers.{answer_to}
 
 pub record Told : Type 0 where
   pub journal : List Entry

@@ -1,20 +1,20 @@
 //! The journal of a run, with what it tells at once.
 ghost use Rattle.std.specs.Prelude.{◌≡◌, ◌≤◌, ◌<◌, ◌++◌, ◌∷◌, [], false, true, length, take, replicate, slice_set, IfOk, IfSome, Some, None};
 ghost use Rattle.std.specs.Option.{is_some};
-ghost use Rattle.uc_meaning.specs.declared.request.Answer.TheVariants as answer;
-ghost use Rattle.uc_meaning.specs.Journal.{begin, is_over, is_ending};
-ghost use Rattle.uc_meaning.specs.KernelRuns.{InRange};
-ghost use Rattle.uc_meaning.specs.Queues.{used, all_ticks, first_ended};
-ghost use Rattle.uc_meaning.specs.Reading.{bytes_used, has_failed};
-ghost use Rattle.uc_meaning.specs.Answers.{answer_to};
+ghost use Rattle.uc_entry.specs.declared.request.Answer.TheVariants as answer;
+ghost use Rattle.uc_acts.specs.Journal.{begin, is_over, is_ending};
+ghost use Rattle.uc_acts.specs.KernelRuns.{InRange};
+ghost use Rattle.uc_acts.specs.Queues.{used, all_ticks, first_ended};
+ghost use Rattle.uc_acts.specs.Reading.{bytes_used, has_failed};
+ghost use Rattle.uc_acts.specs.Answers.{answer_to};
 ghost use Rattle.uc_chronicle.specs.Saying.{IsSayable};
 ghost use Rattle.uc_chronicle.specs.Told.{AreShort, told_more, with_journal, last_kind};
 
 use crate::notes::{note_answers, note_bytes, note_ended, note_failed, note_spent};
 use std::alloc::{AllocError, Global};
 use std::marker::Model;
-use uc_meaning::entry::{Entry, EntryKind, Options};
-use uc_meaning::request::Answer;
+use uc_entry::entry::{Entry, EntryKind, Options};
+use uc_entry::request::Answer;
 use uc_tree::site::Site;
 
 /// The journal of a run, and beside it what it tells of ticks, reads and answers, so that no question goes through it.

@@ -1,18 +1,18 @@
 //! What one entry more says.
 ghost use Rattle.std.specs.Prelude.{◌≡◌, ◌≤◌, ◌<◌, ◌+◌, ◌==◌, ◌||◌, ℕ, length, slice_index_or, slice_set, Some, None, if◌then◌else◌};
 ghost use Rattle.std.specs.List.{list_any};
-ghost use Rattle.uc_meaning.specs.Answers.{accept_answer, let_in_answer, poll_answer};
-ghost use Rattle.uc_meaning.specs.Doors.{clause_for, offers, offers_from, or_0};
-ghost use Rattle.uc_meaning.specs.Journal.{number};
-ghost use Rattle.uc_meaning.specs.Pending.{has_bit};
-ghost use Rattle.uc_meaning.specs.Queues.{ends_first};
-ghost use Rattle.uc_meaning.specs.Reading.{used_by, fails_by};
+ghost use Rattle.uc_acts.specs.Answers.{accept_answer, let_in_answer, poll_answer};
+ghost use Rattle.uc_acts.specs.Doors.{offers};
+ghost use Rattle.uc_acts.specs.Journal.{number};
+ghost use Rattle.uc_tree.specs.SiteOffers.{has_bit, clause_for, offers_from, or_0};
+ghost use Rattle.uc_acts.specs.Queues.{ends_first};
+ghost use Rattle.uc_acts.specs.Reading.{used_by, fails_by};
 ghost use Rattle.uc_tree.specs.declared.limits.TheConstants.{CLAUSES, DESTRUCTOR};
 ghost use Rattle.uc_chronicle.specs.Saying.{says, takes_up, IsSayable, answers_after, spent_after};
 ghost use Rattle.uc_chronicle.specs.Told.{AreShort};
 
-use uc_meaning::entry::{Entry, EntryKind};
-use uc_meaning::request::Answer;
+use uc_entry::entry::{Entry, EntryKind};
+use uc_entry::request::Answer;
 use uc_tree::limits::DESTRUCTOR;
 use uc_tree::site::{Members, Site};
 

@@ -4,7 +4,7 @@ use Rattle.std.specs.Prelude.{slice_get}
 use Rattle.uc_tree.specs.Programs.{Class, Program, Item, ClassItem, RoutineItem, ConstItem, ProtoItem, ForwardItem, UsingItem}
 use Rattle.uc_tree.specs.Cells.{classes_of}
 use Rattle.uc_tree.specs.Numbering.{is_event, event_names}
-use Rattle.uc_meaning.specs.ProgramVisits.{classes_in}
+use Rattle.uc_rules.specs.ProgramVisits.{classes_in}
 use Rattle.uc_classes.specs.Counted.{events_in, ItemAt, StandBefore}
 
 pub stand_first : (items : List Item) → StandBefore items items 0 0

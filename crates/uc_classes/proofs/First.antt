@@ -3,9 +3,9 @@ use Rattle.std.proofs.Common.{◌≡◌, List, [], ◌∷◌, Some, None, Bool, 
 use Rattle.std.specs.Prelude.{Contains}
 use Rattle.std.proofs.lemmas.Bool.Decides.{nat_tests}
 use Rattle.std.proofs.lemmas.List.Elements.{Contains-append_left, Contains-append_right, Contains-push, Contains-push_cases, Contains-append_cases}
-use Rattle.uc_meaning.specs.declared.rule.Break.{Break}
-use Rattle.uc_meaning.specs.Firsts.{before, is_owner_number, IsFirst, sooner, after}
-use Rattle.uc_meaning.specs.RuleNames.{rule_number}
+use Rattle.uc_rules.specs.declared.rule.Break.{Break}
+use Rattle.uc_rules.specs.Firsts.{before, is_owner_number, IsFirst, sooner, after}
+use Rattle.uc_rules.specs.RuleNames.{rule_number}
 
 record From (a : Break) (bs : List Break) (b : Break) : Type 0 where
   is : (b ≡ a) ⊎ Contains bs b

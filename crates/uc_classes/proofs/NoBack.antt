@@ -10,8 +10,8 @@ use Rattle.uc_tree.specs.Constants.{constants_of}
 use Rattle.uc_tree.specs.Cells.{classes_of, rows_of, row_of, held_by, member_held, members_held, seen_in}
 use Rattle.uc_tree.specs.Statements.{Declarator}
 use Rattle.uc_tree.specs.Programs.{Class, Member, Program}
-use Rattle.uc_meaning.specs.Sorts.{class_at}
-use Rattle.uc_meaning.specs.ClassBreaks.{fields_at, form_fields, leads_back, member_fields}
+use Rattle.uc_rules.specs.Sorts.{class_at}
+use Rattle.uc_rules.specs.ClassBreaks.{fields_at, form_fields, leads_back, member_fields}
 use Rattle.uc_classes.specs.Circling.{AreFields}
 
 or_left : (a b : Bool) → a ≡ true → (a || b) ≡ true

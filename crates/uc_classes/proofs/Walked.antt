@@ -2,13 +2,13 @@
 use Rattle.std.proofs.Common.{◌≡◌, ℕ, ◌+◌, ◌<◌, List, ◌∷◌, ◌++◌, Option, length, get_or, Some, None, refl, drop, ap, sym, ◌∙◌}
 use Rattle.std.specs.Prelude.{slice_get}
 use Rattle.std.proofs.lemmas.Option.{slice_get-get_or}
-use Rattle.uc_meaning.specs.declared.rule.Break.{Break}
+use Rattle.uc_rules.specs.declared.rule.Break.{Break}
 use Rattle.uc_tree.specs.Expressions.{Expr}
-use Rattle.uc_meaning.specs.declared.rules.Expected.{Expected}
-use Rattle.uc_meaning.specs.declared.rules.FieldPlace.{FieldPlace}
-use Rattle.uc_meaning.specs.ProgramVisits.{argument_env}
-use Rattle.uc_meaning.specs.Scopes.{Env, with_around}
-use Rattle.uc_meaning.specs.Visits.{Visit}
+use Rattle.uc_rules.specs.declared.rules.Expected.{Expected}
+use Rattle.uc_rules.specs.declared.rules.FieldPlace.{FieldPlace}
+use Rattle.uc_rules.specs.ProgramVisits.{argument_env}
+use Rattle.uc_rules.specs.Scopes.{Env, with_around}
+use Rattle.uc_rules.specs.Visits.{Visit}
 use Rattle.uc_types.specs.Told.{noted}
 use Rattle.uc_bodies.proofs.Joined.{noted_append}
 use Rattle.uc_bodies.proofs.Walks.{split}

@@ -1,12 +1,12 @@
 -- The rules on names, types and places, and those on who owns what, each by themselves.
 use Rattle.std.specs.Prelude.{◌≡◌, false, true, Contains}
 use Rattle.uc_tree.specs.Programs.{Program}
-use Rattle.uc_meaning.specs.declared.checked.RuleFault.{RuleFault}
-use Rattle.uc_meaning.specs.declared.checked.RuleFault.TheVariants.{Rule, NoMemory}
-use Rattle.uc_meaning.specs.declared.rule.Break.{Break}
-use Rattle.uc_meaning.specs.Breaks.{breaks_of}
-use Rattle.uc_meaning.specs.Firsts.{is_owner_number}
-use Rattle.uc_meaning.specs.RuleNames.{rule_number}
+use Rattle.uc_rules.specs.declared.checked.RuleFault.{RuleFault}
+use Rattle.uc_rules.specs.declared.checked.RuleFault.TheVariants.{Rule, NoMemory}
+use Rattle.uc_rules.specs.declared.rule.Break.{Break}
+use Rattle.uc_rules.specs.Breaks.{breaks_of}
+use Rattle.uc_rules.specs.Firsts.{is_owner_number}
+use Rattle.uc_rules.specs.RuleNames.{rule_number}
 
 -- it is of one of the rules on names, types and places
 abbrev pub IsTextFault : RuleFault → Type 0

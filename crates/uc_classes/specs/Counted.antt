@@ -3,7 +3,7 @@ use Rattle.std.specs.Prelude.{◌≡◌, ℕ, List, if◌then◌else◌, length,
 use Rattle.uc_tree.specs.Cells.{classes_of}
 use Rattle.uc_tree.specs.Numbering.{is_event, event_names}
 use Rattle.uc_tree.specs.Programs.{Item, ClassItem, RoutineItem, ConstItem, ProtoItem, ForwardItem, UsingItem, Program}
-use Rattle.uc_meaning.specs.Sorts.{class_at}
+use Rattle.uc_rules.specs.Sorts.{class_at}
 
 abbrev pub events_in : Item → ℕ
 events_in (ClassItem c) = if is_event c.kind then 1 else 0

@@ -1,15 +1,15 @@
 // The rules on names, types and places, and those on who owns what, each by themselves.
 
 ghost use Rattle.std.specs.Prelude.{◌≡◌, [], IfErr, OnOk};
-ghost use Rattle.uc_meaning.specs.Breaks.{breaks_of};
-ghost use Rattle.uc_meaning.specs.FirstRule.{IsFaultOf};
-ghost use Rattle.uc_meaning.specs.Firsts.{is_owner_number};
+ghost use Rattle.uc_rules.specs.Breaks.{breaks_of};
+ghost use Rattle.uc_rules.specs.FirstRule.{IsFaultOf};
+ghost use Rattle.uc_rules.specs.Firsts.{is_owner_number};
 ghost use Rattle.uc_classes.specs.Apart.{IsOwnerFault, IsTextFault, KeepsText};
 
 use crate::check::first_break;
 use std::alloc::Global;
-use uc_meaning::checked::RuleFault;
-use uc_meaning::rule::Break;
+use uc_rules::checked::RuleFault;
+use uc_rules::rule::Break;
 use uc_tree::program::Program;
 
 fn is_owner_number(number: u8) -> bool

@@ -1,9 +1,9 @@
 // The rules on routines: signatures, initialisers and bodies.
 
 ghost use Rattle.std.specs.Prelude.{◌≡◌, [], ◌∷◌, OnOk};
-ghost use Rattle.uc_meaning.specs.ProgramVisits.{base_visits, body_visits, params_visits, routine_visits, sig_visits};
-ghost use Rattle.uc_meaning.specs.Scopes.{with_params};
-ghost use Rattle.uc_meaning.specs.Visits.{AtBase, AtParam};
+ghost use Rattle.uc_rules.specs.ProgramVisits.{base_visits, body_visits, params_visits, routine_visits, sig_visits};
+ghost use Rattle.uc_rules.specs.Scopes.{with_params};
+ghost use Rattle.uc_rules.specs.Visits.{AtBase, AtParam};
 ghost use Rattle.uc_types.specs.Told.{noted};
 
 use crate::ask::{ask_inits, ask_param, ask_sig};

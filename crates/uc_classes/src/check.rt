@@ -1,15 +1,15 @@
 // The first rule that a program breaks.
 
 ghost use Rattle.std.specs.Prelude.{◌≡◌, None, IfOk};
-ghost use Rattle.uc_meaning.specs.Breaks.{breaks_of};
-ghost use Rattle.uc_meaning.specs.Firsts.{after};
+ghost use Rattle.uc_rules.specs.Breaks.{breaks_of};
+ghost use Rattle.uc_rules.specs.Firsts.{after};
 
 use crate::ask::ask_program;
 use crate::item::check_items;
 use crate::tabled::tables_of;
 use std::alloc::{AllocError, Global};
 use uc_index::index::Index;
-use uc_meaning::rule::Break;
+use uc_rules::rule::Break;
 use uc_tree::program::Program;
 use uc_types::found::Found;
 use uc_types::tables::Tables;

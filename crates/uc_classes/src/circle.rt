@@ -2,7 +2,7 @@
 
 ghost use Rattle.std.specs.Prelude.{◌≡◌, Some, slice_get};
 ghost use Rattle.uc_tree.specs.Rows.{object_leads};
-ghost use Rattle.uc_meaning.specs.ClassBreaks.{field_object, leads_back};
+ghost use Rattle.uc_rules.specs.ClassBreaks.{field_object, leads_back};
 ghost use Rattle.uc_sizes.specs.Reached.{flag_at};
 ghost use Rattle.uc_classes.specs.Circling.{AreFields, Walks};
 

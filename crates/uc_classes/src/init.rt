@@ -2,17 +2,17 @@
 
 ghost use Rattle.std.specs.Prelude.{◌≡◌, None, [], ◌∷◌, ◌++◌};
 ghost use Rattle.uc_tree.specs.Expressions.{exprs_of};
-ghost use Rattle.uc_meaning.specs.Entities.{entity_of, expected};
-ghost use Rattle.uc_meaning.specs.ProgramVisits.{argument_env, bound_of, bound_target, field_of, home_member, init_arg_visits, init_args_visits, init_target, inits_visits, is_name, is_reference, maybe_bound_target, meant_target, origin_target};
-ghost use Rattle.uc_meaning.specs.Scopes.{in_argument};
-ghost use Rattle.uc_meaning.specs.Visits.{AtInit};
+ghost use Rattle.uc_rules.specs.Entities.{entity_of, expected};
+ghost use Rattle.uc_rules.specs.ProgramVisits.{argument_env, bound_of, bound_target, field_of, home_member, init_arg_visits, init_args_visits, init_target, inits_visits, is_name, is_reference, maybe_bound_target, meant_target, origin_target};
+ghost use Rattle.uc_rules.specs.Scopes.{in_argument};
+ghost use Rattle.uc_rules.specs.Visits.{AtInit};
 ghost use Rattle.uc_types.specs.Told.{noted};
 
 use crate::ask::ask_init;
 use uc_bodies::declare::single_target;
 use uc_declares::init::{home_member, last_field, meant_field};
-use uc_meaning::rules::{Around, Bound, Entity, Expected, FieldPlace, Meant, Origin, Target};
 use uc_owner::judge::{is_reference, note_bound};
+use uc_rules::rules::{Around, Bound, Entity, Expected, FieldPlace, Meant, Origin, Target};
 use uc_tree::class::Init;
 use uc_tree::expr::{Expr, ExprForm};
 use uc_tree::name::Name;

@@ -1,10 +1,10 @@
 // The rules on items.
 
 ghost use Rattle.std.specs.Prelude.{◌≡◌, ◌≤◌, [], ◌∷◌, ◌++◌, IfOk, OnOk};
-ghost use Rattle.uc_meaning.specs.ClassBreaks.{events_before};
-ghost use Rattle.uc_meaning.specs.ProgramVisits.{classes_in, is_of_main, item_visits, items_visits, outer_env, outer_mark, routine_visits, sig_visits};
-ghost use Rattle.uc_meaning.specs.Scopes.{no_around, plain_env};
-ghost use Rattle.uc_meaning.specs.Visits.{AtConstant, AtItem, visits};
+ghost use Rattle.uc_rules.specs.ClassBreaks.{events_before};
+ghost use Rattle.uc_rules.specs.ProgramVisits.{classes_in, is_of_main, item_visits, items_visits, outer_env, outer_mark, routine_visits, sig_visits};
+ghost use Rattle.uc_rules.specs.Scopes.{no_around, plain_env};
+ghost use Rattle.uc_rules.specs.Visits.{AtConstant, AtItem, visits};
 ghost use Rattle.uc_types.specs.Told.{noted};
 ghost use Rattle.uc_classes.specs.Counted.{events_in, ItemAt};
 
@@ -14,7 +14,7 @@ use crate::class::{check_class, sig_around};
 use std::alloc::{AllocError, Global};
 use uc_declares::item::owner_home;
 use uc_index::index::Index;
-use uc_meaning::rules::{Around, Home};
+use uc_rules::rules::{Around, Home};
 use uc_tree::class::{Routine, Sig};
 use uc_tree::kinds::{Mark, Owner, Role};
 use uc_tree::program::{Constant, Item, ItemForm};

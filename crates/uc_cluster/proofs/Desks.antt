@@ -4,15 +4,15 @@ use Rattle.std.specs.Option.{option_to_list}
 use Rattle.std.specs.List.{filter, list_any, count_by, range_with_len}
 use Rattle.std.proofs.lemmas.List.Elements.{filter-append}
 use Rattle.std.proofs.lemmas.List.Sums.{fold_push}
-use Rattle.uc_meaning.specs.declared.entry.Entry.{Entry}
-use Rattle.uc_meaning.specs.declared.entry.EntryKind.{EntryKind}
-use Rattle.uc_meaning.specs.declared.entry.EntryKind.TheVariants as kind
-use Rattle.uc_meaning.specs.declared.entry.Options.{Options}
-use Rattle.uc_meaning.specs.Open.{still_open}
-use Rattle.uc_meaning.specs.Journal.{Journal, entry}
-use Rattle.uc_meaning.specs.Queues.{cluster_count, processor_count, is_cluster, is_processor, makes_processor, closes, processors, open_processors}
-use Rattle.uc_meaning.proofs.Open.{any_push, still_open_push, filter_true, or_false}
-use Rattle.uc_meaning.proofs.Sound.{self_test}
+use Rattle.uc_entry.specs.declared.entry.Entry.{Entry}
+use Rattle.uc_entry.specs.declared.entry.EntryKind.{EntryKind}
+use Rattle.uc_entry.specs.declared.entry.EntryKind.TheVariants as kind
+use Rattle.uc_entry.specs.declared.entry.Options.{Options}
+use Rattle.uc_acts.specs.Open.{still_open}
+use Rattle.uc_acts.specs.Journal.{Journal, entry}
+use Rattle.uc_acts.specs.Queues.{cluster_count, processor_count, is_cluster, is_processor, makes_processor, closes, processors, open_processors}
+use Rattle.uc_acts.proofs.Open.{any_push, still_open_push, filter_true, or_false}
+use Rattle.uc_acts.proofs.Sound.{self_test}
 use Rattle.uc_cluster.specs.declared.clusters.Processor.{Processor}
 use Rattle.uc_cluster.specs.Standing.{no_processor, new_processor, queue_at, closed}
 use Rattle.uc_cluster.specs.Standing.{running as runs}

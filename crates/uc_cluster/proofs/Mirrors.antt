@@ -4,15 +4,15 @@ use Rattle.std.specs.Option.{option_to_list}
 use Rattle.std.specs.List.{AllByRecursion, filter}
 use Rattle.std.proofs.lemmas.Bool.{cases_eq}
 use Rattle.std.proofs.lemmas.List.{append-nil}
-use Rattle.uc_meaning.specs.declared.entry.Entry.{Entry}
-use Rattle.uc_meaning.specs.declared.entry.EntryKind.{EntryKind}
-use Rattle.uc_meaning.specs.declared.entry.EntryKind.TheVariants as kind
-use Rattle.uc_meaning.specs.Journal.{Journal, where_true}
-use Rattle.uc_meaning.specs.Queues.{ready, running, readies, puts_on, takes_off, dispatches, on_cluster, cluster_of}
-use Rattle.uc_meaning.specs.Acts.{dispatch}
-use Rattle.uc_meaning.proofs.Noted.{noted_at, last_clusters_push}
-use Rattle.uc_meaning.proofs.Seats.{ready_push, running_same, running_other, running_given}
-use Rattle.uc_meaning.proofs.Sound.{self_test, all_kept}
+use Rattle.uc_entry.specs.declared.entry.Entry.{Entry}
+use Rattle.uc_entry.specs.declared.entry.EntryKind.{EntryKind}
+use Rattle.uc_entry.specs.declared.entry.EntryKind.TheVariants as kind
+use Rattle.uc_acts.specs.Journal.{Journal, where_true}
+use Rattle.uc_acts.specs.Queues.{ready, running, readies, puts_on, takes_off, dispatches, on_cluster, cluster_of}
+use Rattle.uc_acts.specs.Acts.{dispatch}
+use Rattle.uc_acts.proofs.Noted.{noted_at, last_clusters_push}
+use Rattle.uc_acts.proofs.Seats.{ready_push, running_same, running_other, running_given}
+use Rattle.uc_acts.proofs.Sound.{self_test, all_kept}
 use Rattle.uc_cluster.specs.declared.clusters.Processor.{Processor}
 use Rattle.uc_cluster.specs.Standing.{no_processor, queue_at, processor_at, place_of, or_0, made_ready, with_processor, started, front_at, front_or_0, rest_of}
 use Rattle.uc_cluster.specs.Standing.{running as runs}

@@ -4,15 +4,15 @@ use Rattle.std.specs.Option.{option_to_list}
 use Rattle.std.specs.List.{filter, list_any}
 use Rattle.std.proofs.lemmas.Bool.{cases_eq}
 use Rattle.std.proofs.lemmas.List.Folds.{list_any-append}
-use Rattle.uc_meaning.specs.declared.entry.Entry.{Entry}
-use Rattle.uc_meaning.specs.declared.entry.EntryKind.{EntryKind}
-use Rattle.uc_meaning.specs.declared.entry.EntryKind.TheVariants as kind
-use Rattle.uc_meaning.specs.Journal.{Journal, entry, where_true}
-use Rattle.uc_meaning.specs.Open.{still_open}
-use Rattle.uc_meaning.specs.Queues.{Noted, tasks_on, comes_to_stand, leaves_cluster, on_cluster, cluster_of, clusters, noted, last_clusters}
-use Rattle.uc_meaning.proofs.Open.{still_open_push, or_false, filter_true}
-use Rattle.uc_meaning.proofs.Noted.{noted_at, noted_push, last_clusters_push}
-use Rattle.uc_meaning.proofs.Sound.{self_test}
+use Rattle.uc_entry.specs.declared.entry.Entry.{Entry}
+use Rattle.uc_entry.specs.declared.entry.EntryKind.{EntryKind}
+use Rattle.uc_entry.specs.declared.entry.EntryKind.TheVariants as kind
+use Rattle.uc_acts.specs.Journal.{Journal, entry, where_true}
+use Rattle.uc_acts.specs.Open.{still_open}
+use Rattle.uc_acts.specs.Queues.{Noted, tasks_on, comes_to_stand, leaves_cluster, on_cluster, cluster_of, clusters, noted, last_clusters}
+use Rattle.uc_acts.proofs.Open.{still_open_push, or_false, filter_true}
+use Rattle.uc_acts.proofs.Noted.{noted_at, noted_push, last_clusters_push}
+use Rattle.uc_acts.proofs.Sound.{self_test}
 use Rattle.uc_cluster.specs.Standing.{Standing, place_of, with_place, is_on}
 use Rattle.uc_cluster.specs.Laws.{tells_place, LawSpawned, LawMigrates, LawEnded, LawStands}
 

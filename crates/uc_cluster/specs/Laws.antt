@@ -2,14 +2,14 @@
 use Rattle.std.specs.Prelude.{◌≡◌, ℕ, pos, ◌<◌, ◌≤◌, ◌+◌, ◌==◌, Bool, true, false, List, [], ◌∷◌, ◌++◌, length, Option, Some, None, if◌then◌else◌}
 use Rattle.std.specs.Option.{option_to_list}
 use Rattle.std.specs.List.{list_any}
-use Rattle.uc_meaning.specs.declared.entry.Entry.{Entry}
-use Rattle.uc_meaning.specs.declared.entry.EntryKind.{EntryKind}
-use Rattle.uc_meaning.specs.declared.entry.EntryKind.TheVariants as kind
-use Rattle.uc_meaning.specs.declared.entry.Options.{Options}
-use Rattle.uc_meaning.specs.Journal.{Journal, begin, entry}
-use Rattle.uc_meaning.specs.Queues.{ready, running, readies, puts_on, takes_off, cluster_of, last_actor, actor, cluster_count, processor_count, processors, open_processors, closes, tasks_on}
-use Rattle.uc_meaning.specs.Queues.{is_in_use as uses, none_running, none_ready as nobody_ready, none_served as nobody_served}
-use Rattle.uc_meaning.specs.Acts.{dispatch}
+use Rattle.uc_entry.specs.declared.entry.Entry.{Entry}
+use Rattle.uc_entry.specs.declared.entry.EntryKind.{EntryKind}
+use Rattle.uc_entry.specs.declared.entry.EntryKind.TheVariants as kind
+use Rattle.uc_entry.specs.declared.entry.Options.{Options}
+use Rattle.uc_acts.specs.Journal.{Journal, begin, entry}
+use Rattle.uc_acts.specs.Queues.{ready, running, readies, puts_on, takes_off, cluster_of, last_actor, actor, cluster_count, processor_count, processors, open_processors, closes, tasks_on}
+use Rattle.uc_acts.specs.Queues.{is_in_use as uses, none_running, none_ready as nobody_ready, none_served as nobody_served}
+use Rattle.uc_acts.specs.Acts.{dispatch}
 use Rattle.uc_cluster.specs.declared.clusters.Processor.{Processor}
 use Rattle.uc_cluster.specs.Standing.{Standing, IsUnready, queue_at, processor_at, place_of, or_0, opening, made_ready, with_processor, with_place, with_cluster, one_more_processor, started, closed, is_on, is_in_use, stall_of, stalled_by}
 use Rattle.uc_cluster.specs.Standing.{running as runs}

@@ -4,13 +4,13 @@ use Rattle.std.specs.List.{AllByRecursion, filter}
 use Rattle.std.proofs.lemmas.Bool.{cases_eq}
 use Rattle.std.proofs.lemmas.List.{append-nil, map-append}
 use Rattle.std.proofs.lemmas.List.Elements.{filter-append}
-use Rattle.uc_meaning.specs.declared.entry.Entry.{Entry}
-use Rattle.uc_meaning.specs.declared.entry.EntryKind.{EntryKind}
-use Rattle.uc_meaning.specs.declared.entry.EntryKind.TheVariants as kind
-use Rattle.uc_meaning.specs.Journal.{Journal, entry, entries_at}
-use Rattle.uc_meaning.specs.Doors.{blocked, blocked_at}
-use Rattle.uc_meaning.proofs.Seats.{blocked_other, blocked_same, blocked_after}
-use Rattle.uc_meaning.proofs.Sound.{self_test, all_kept, all_kept_nil}
+use Rattle.uc_entry.specs.declared.entry.Entry.{Entry}
+use Rattle.uc_entry.specs.declared.entry.EntryKind.{EntryKind}
+use Rattle.uc_entry.specs.declared.entry.EntryKind.TheVariants as kind
+use Rattle.uc_acts.specs.Journal.{Journal, entry, entries_at}
+use Rattle.uc_acts.specs.Doors.{blocked, blocked_at}
+use Rattle.uc_acts.proofs.Seats.{blocked_other, blocked_same, blocked_after}
+use Rattle.uc_acts.proofs.Sound.{self_test, all_kept, all_kept_nil}
 use Rattle.uc_condition.specs.Waiting.{put, queue_at, first_task, rest_of}
 use Rattle.uc_condition.specs.Laws.{takes_out, is_silent, LawOpening, LawWait, LawTake, LawElsewhere, LawOthers}
 

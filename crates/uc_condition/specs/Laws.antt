@@ -1,10 +1,10 @@
 -- The queues are the filters of the journal, entry by entry.
 use Rattle.std.specs.Prelude.{◌≡◌, ℕ, ℤ, pos, Bool, true, false, [], ◌∷◌, ◌++◌, Some}
-use Rattle.uc_meaning.specs.declared.entry.Entry.{Entry}
-use Rattle.uc_meaning.specs.declared.entry.EntryKind.{EntryKind}
-use Rattle.uc_meaning.specs.declared.entry.EntryKind.TheVariants as kind
-use Rattle.uc_meaning.specs.Journal.{Journal, entry}
-use Rattle.uc_meaning.specs.Doors.{blocked}
+use Rattle.uc_entry.specs.declared.entry.Entry.{Entry}
+use Rattle.uc_entry.specs.declared.entry.EntryKind.{EntryKind}
+use Rattle.uc_entry.specs.declared.entry.EntryKind.TheVariants as kind
+use Rattle.uc_acts.specs.Journal.{Journal, entry}
+use Rattle.uc_acts.specs.Doors.{blocked}
 use Rattle.uc_condition.specs.Waiting.{Waiting, Became, IsFree, queue_at, first_task, rest_of}
 
 -- the queue of each condition of each object is what the journal tells is blocked there

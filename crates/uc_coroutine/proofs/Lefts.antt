@@ -2,14 +2,14 @@
 use Rattle.std.proofs.Common.{◌≡◌, suc, List, [], ◌∷◌, length, map, Bool, true, false, Option, Some, None, refl, sym, ap, subst, ◌∙◌}
 use Rattle.std.specs.Prelude.{if◌then◌else◌}
 use Rattle.uc_tree.specs.Source.{Source}
-use Rattle.uc_meaning.specs.declared.exec.Reason.{Reason}
-use Rattle.uc_meaning.specs.declared.exec.Reason.TheVariants as reason
-use Rattle.uc_meaning.specs.declared.exec.Visited.{Visited}
-use Rattle.uc_meaning.specs.Executions.{one_call_less, others, left_for, returned, unwound}
-use Rattle.uc_meaning.specs.Quiet as quiet
-use Rattle.uc_meaning.specs.Quiet.{Value, State, Step, Goes, quiet as step}
-use Rattle.uc_meaning.specs.Pieces.{Unwind}
-use Rattle.uc_meaning.specs.Raising.{arrives, escapes, why_by, pass_on, leave_for, leave_step, return_past, end_by}
+use Rattle.uc_machine.specs.declared.exec.Reason.{Reason}
+use Rattle.uc_machine.specs.declared.exec.Reason.TheVariants as reason
+use Rattle.uc_machine.specs.declared.exec.Visited.{Visited}
+use Rattle.uc_machine.specs.Executions.{one_call_less, others, left_for, returned, unwound}
+use Rattle.uc_machine.specs.Quiet as quiet
+use Rattle.uc_machine.specs.Quiet.{Value, State, Step, Goes, quiet as step}
+use Rattle.uc_machine.specs.Pieces.{Unwind}
+use Rattle.uc_machine.specs.Raising.{arrives, escapes, why_by, pass_on, leave_for, leave_step, return_past, end_by}
 use Rattle.uc_code.specs.Laid.{Laid}
 use Rattle.uc_frames.specs.declared.cell.Cell.{Cell}
 use Rattle.uc_frames.specs.Machine.{Active, Machine, Cells, cell_of}

@@ -1,16 +1,16 @@
 -- Switches are what the source does.
 use Rattle.std.proofs.Common.{◌≡◌, ℕ, List, [], ◌∷◌, Option, Some, None, refl, sym, ap, subst, ◌∙◌}
 use Rattle.uc_tree.specs.Source.{Source}
-use Rattle.uc_meaning.specs.declared.exec.Reason.{Reason}
-use Rattle.uc_meaning.specs.declared.exec.Reason.TheVariants as reason
-use Rattle.uc_meaning.specs.declared.fault.RunFault.{RunFault}
-use Rattle.uc_meaning.specs.Faults.{fault_number}
-use Rattle.uc_meaning.specs.declared.request.Request.TheVariants as ask
-use Rattle.uc_meaning.specs.Executions.{calmed}
-use Rattle.uc_meaning.specs.Switches.{Moved, To, Stops, wake, suspend, finish, escape, taken_down, take_down}
-use Rattle.uc_meaning.specs.Quiet as quiet
-use Rattle.uc_meaning.specs.Quiet.{Todo, Value, FinishCoroutine, State, Goes, Asks, Quietly, stay, more, moves, at, line_of, quiet as step}
-use Rattle.uc_meaning.specs.Raising.{coroutine_left, unwind_past}
+use Rattle.uc_machine.specs.declared.exec.Reason.{Reason}
+use Rattle.uc_machine.specs.declared.exec.Reason.TheVariants as reason
+use Rattle.uc_entry.specs.declared.fault.RunFault.{RunFault}
+use Rattle.uc_entry.specs.Faults.{fault_number}
+use Rattle.uc_entry.specs.declared.request.Request.TheVariants as ask
+use Rattle.uc_machine.specs.Executions.{calmed}
+use Rattle.uc_machine.specs.Switches.{Moved, To, Stops, wake, suspend, finish, escape, taken_down, take_down}
+use Rattle.uc_machine.specs.Quiet as quiet
+use Rattle.uc_machine.specs.Quiet.{Todo, Value, FinishCoroutine, State, Goes, Asks, Quietly, stay, more, moves, at, line_of, quiet as step}
+use Rattle.uc_machine.specs.Raising.{coroutine_left, unwind_past}
 use Rattle.uc_code.specs.declared.rows.MainOf.TheVariants as main_of
 use Rattle.uc_code.specs.Laid.{Laid}
 use Rattle.uc_frames.specs.declared.cell.Cell.{Cell}

@@ -1,11 +1,11 @@
 -- What a step of unwinding is in the source.
 use Rattle.std.specs.Prelude.{◌≡◌, ℕ, length, ◌⊎◌, Option, Some, None, Bool, true, false}
 use Rattle.uc_tree.specs.Source.{Source}
-use Rattle.uc_meaning.specs.declared.fault.RunFault.TheVariants.{EscapeInUnwind}
-use Rattle.uc_meaning.specs.Faults.{fault_number}
-use Rattle.uc_meaning.specs.declared.request.Request.TheVariants as ask
-use Rattle.uc_meaning.specs.Quiet.{Value, State, Goes, Asks, quiet, Quietly}
-use Rattle.uc_meaning.specs.Raising.{end_by}
+use Rattle.uc_entry.specs.declared.fault.RunFault.TheVariants.{EscapeInUnwind}
+use Rattle.uc_entry.specs.Faults.{fault_number}
+use Rattle.uc_entry.specs.declared.request.Request.TheVariants as ask
+use Rattle.uc_machine.specs.Quiet.{Value, State, Goes, Asks, quiet, Quietly}
+use Rattle.uc_machine.specs.Raising.{end_by}
 use Rattle.uc_code.specs.declared.rows.MainOf.{MainOf}
 use Rattle.uc_code.specs.Laid.{Laid, chain}
 use Rattle.uc_frames.specs.Machine.{Machine}

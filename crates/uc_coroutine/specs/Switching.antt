@@ -1,14 +1,14 @@
 -- Switches on cells, as functions tell them, and what they are in the source.
 use Rattle.std.specs.Prelude.{◌≡◌, Option, Some, None}
 use Rattle.uc_tree.specs.Source.{Source}
-use Rattle.uc_meaning.specs.declared.exec.Reason.{Reason}
-use Rattle.uc_meaning.specs.declared.exec.Reason.TheVariants as reason
-use Rattle.uc_meaning.specs.declared.fault.RunFault.{RunFault}
-use Rattle.uc_meaning.specs.Faults.{fault_number}
-use Rattle.uc_meaning.specs.declared.request.Request.TheVariants as ask
-use Rattle.uc_meaning.specs.Quiet.{State, Asks, quiet, Quietly, line_of}
-use Rattle.uc_meaning.specs.Executions as exec
-use Rattle.uc_meaning.specs.Switches.{Moved, To, Stops, finish, escape, taken_down}
+use Rattle.uc_machine.specs.declared.exec.Reason.{Reason}
+use Rattle.uc_machine.specs.declared.exec.Reason.TheVariants as reason
+use Rattle.uc_entry.specs.declared.fault.RunFault.{RunFault}
+use Rattle.uc_entry.specs.Faults.{fault_number}
+use Rattle.uc_entry.specs.declared.request.Request.TheVariants as ask
+use Rattle.uc_machine.specs.Quiet.{State, Asks, quiet, Quietly, line_of}
+use Rattle.uc_machine.specs.Executions as exec
+use Rattle.uc_machine.specs.Switches.{Moved, To, Stops, finish, escape, taken_down}
 use Rattle.uc_code.specs.Laid.{Laid}
 use Rattle.uc_frames.specs.Machine.{Machine}
 use Rattle.uc_frames.specs.Stands.{Stands}

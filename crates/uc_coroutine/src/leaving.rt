@@ -1,9 +1,9 @@
 // Activations that are unwound to their end are left.
 
 ghost use Rattle.std.specs.Prelude.{◌≡◌, length, true, IfOk, OnErr, if◌then◌else◌};
-ghost use Rattle.uc_meaning.specs.Raising.{arrives as arrives_by, escapes as escapes_by};
+ghost use Rattle.uc_machine.specs.Raising.{arrives as arrives_by, escapes as escapes_by};
 ghost use Rattle.uc_tree.specs.Source.{Source};
-ghost use Rattle.uc_meaning.specs.Quiet.{State, Value};
+ghost use Rattle.uc_machine.specs.Quiet.{State, Value};
 ghost use Rattle.uc_code.specs.Laid.{Laid};
 ghost use Rattle.uc_frames.specs.Unwound.{LeavesNow, Returns};
 ghost use Rattle.uc_frames.specs.Machine.{cell_of};
@@ -15,7 +15,7 @@ use crate::unwinding::pass_on;
 use std::alloc::AllocError;
 use uc_frames::cell::Cell;
 use uc_frames::work::Work;
-use uc_meaning::exec::Reason;
+use uc_machine::exec::Reason;
 
 /// What becomes of an activation that is unwound to its end: it was the last one; a return arrives that ends it; an event has escaped
 /// from a clean-up; or the one that waits is unwound in its turn.

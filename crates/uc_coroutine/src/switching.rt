@@ -3,9 +3,9 @@
 
 ghost use Rattle.std.specs.Prelude.{◌≡◌, Some, None, MatchOption};
 ghost use Rattle.uc_tree.specs.Source.{Source};
-ghost use Rattle.uc_meaning.specs.Executions.{parked_at};
-ghost use Rattle.uc_meaning.specs.Quiet.{State};
-ghost use Rattle.uc_meaning.specs.Switches.{able as able_in, escape as escape_of, finish as finish_of, suspend as suspend_of, take_down as take_down_of, taken_down as taken_down_of, wake as wake_of, wake_one as wake_one_of};
+ghost use Rattle.uc_machine.specs.Executions.{parked_at};
+ghost use Rattle.uc_machine.specs.Quiet.{State};
+ghost use Rattle.uc_machine.specs.Switches.{able as able_in, escape as escape_of, finish as finish_of, suspend as suspend_of, take_down as take_down_of, taken_down as taken_down_of, wake as wake_of, wake_one as wake_one_of};
 ghost use Rattle.uc_code.specs.Laid.{Laid};
 ghost use Rattle.uc_code.specs.declared.rows.MainOf.TheVariants as main_of;
 ghost use Rattle.uc_frames.specs.Machine.{own_exec, resumed};
@@ -13,9 +13,9 @@ ghost use Rattle.uc_frames.specs.Switching.{Resumes, Suspends, TakesDown, EndsCo
 ghost use Rattle.uc_frames.specs.Unwound.{EndsMain};
 ghost use Rattle.uc_coroutine.specs.Switching.{fault_in, state_in, left_by, SwitchedAs};
 
+use uc_entry::fault::RunFault;
 use uc_frames::work::Work;
-use uc_meaning::exec::{Exec, Reason, Stage};
-use uc_meaning::fault::RunFault;
+use uc_machine::exec::{Exec, Reason, Stage};
 
 /// The running execution resumes the one of the coroutine whose member runs. Answers the fault, if it is one; then all stays as it is.
 pub fn resume(work: &mut Work) -> Option<RunFault>

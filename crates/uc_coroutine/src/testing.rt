@@ -2,8 +2,8 @@
 
 ghost use Rattle.std.specs.Prelude.{◌≡◌, ◌+◌, length, IfOk, OnErr};
 ghost use Rattle.uc_tree.specs.Source.{Source};
-ghost use Rattle.uc_meaning.specs.Quiet.{State};
-ghost use Rattle.uc_meaning.specs.Raising.{arrives as arrives_by};
+ghost use Rattle.uc_machine.specs.Quiet.{State};
+ghost use Rattle.uc_machine.specs.Raising.{arrives as arrives_by};
 ghost use Rattle.uc_code.specs.Laid.{Laid};
 ghost use Rattle.uc_code.specs.declared.rows.MainOf.TheVariants as main_of;
 ghost use Rattle.uc_frames.specs.Unwound.{TestsBlock, EndsMain};
@@ -13,7 +13,7 @@ use crate::leaving::arrives;
 use std::alloc::AllocError;
 use uc_frames::cell::Cell;
 use uc_frames::work::Work;
-use uc_meaning::exec::Reason;
+use uc_machine::exec::Reason;
 
 /// What becomes of a task's main that is unwound: it ends, as the last activation or for one that waits, or nothing handles the event by which
 /// it is unwound.

@@ -3,8 +3,8 @@
 ghost use Rattle.std.specs.Prelude.{◌≡◌, nat_eq, if◌then◌else◌, slice_get};
 ghost use Rattle.uc_frames.specs.Searches.{is_named as is_named_by};
 ghost use Rattle.uc_tree.specs.Source.{Source};
-ghost use Rattle.uc_meaning.specs.Quiet.{State};
-ghost use Rattle.uc_meaning.specs.Raising.{why_by};
+ghost use Rattle.uc_machine.specs.Quiet.{State};
+ghost use Rattle.uc_machine.specs.Raising.{why_by};
 ghost use Rattle.uc_code.specs.Laid.{laid_of};
 ghost use Rattle.uc_frames.specs.Unwound.{Unwinds};
 ghost use Rattle.uc_coroutine.specs.Outcomes.{IsOwn, UnwoundTo};
@@ -13,7 +13,7 @@ ghost use Rattle.uc_coroutine.specs.Unwinding.{point_in, cleaned_by, passed_on, 
 use uc_code::code::Code;
 use uc_frames::search::{Sought, first_handler};
 use uc_frames::work::Work;
-use uc_meaning::exec::Reason;
+use uc_machine::exec::Reason;
 
 /// One step of unwinding the running execution down to an activation, by how many are below it, and to a row there, or else to its end:
 /// the next clean-up of the running activation begins, or where none is left, that activation is left with its frame, and the one that

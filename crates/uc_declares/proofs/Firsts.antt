@@ -10,13 +10,13 @@ use Rattle.uc_tree.specs.Names.{same_name}
 use Rattle.uc_tree.specs.Numbering.{is_plain, unhandled_name}
 use Rattle.uc_tree.specs.Statements.{Declarator}
 use Rattle.uc_tree.specs.Programs.{Class, FieldsMember, Member, MemberForm, ProtoMember, Program, RoutineMember, Sig}
-use Rattle.uc_meaning.specs.declared.rules.FieldPlace.{FieldPlace}
-use Rattle.uc_meaning.specs.declared.rules.Meant.{Meant}
-use Rattle.uc_meaning.specs.declared.rules.Entity.TheVariants.{Method}
-use Rattle.uc_meaning.specs.declared.rules.Origin.TheVariants as origin
-use Rattle.uc_meaning.specs.ClassBreaks.{declared_names, fields_at, form_declares_names, form_fields, is_new_field, is_new_routine, member_fields, members_declare, sig_declares}
-use Rattle.uc_meaning.specs.Names.{Owned, field_meant, field_named, first_of, form_named, is_field_before, is_inner_only, member_in, member_named, members_named, method_named, place_in}
-use Rattle.uc_meaning.specs.Sorts.{class_at}
+use Rattle.uc_rules.specs.declared.rules.FieldPlace.{FieldPlace}
+use Rattle.uc_rules.specs.declared.rules.Meant.{Meant}
+use Rattle.uc_rules.specs.declared.rules.Entity.TheVariants.{Method}
+use Rattle.uc_rules.specs.declared.rules.Origin.TheVariants as origin
+use Rattle.uc_rules.specs.ClassBreaks.{declared_names, fields_at, form_declares_names, form_fields, is_new_field, is_new_routine, member_fields, members_declare, sig_declares}
+use Rattle.uc_rules.specs.Names.{Owned, field_meant, field_named, first_of, form_named, is_field_before, is_inner_only, member_in, member_named, members_named, method_named, place_in}
+use Rattle.uc_rules.specs.Sorts.{class_at}
 use Rattle.uc_declares.specs.Earlier.{meant_before, stands_before}
 
 earlier : (j i k n : ℕ) → j < k → is_field_before (place_in j i) (place_in k n) ≡ true

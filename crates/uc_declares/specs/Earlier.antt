@@ -1,12 +1,12 @@
 -- Whether what a name of a class means stands before a place in it: a field by its place, a routine by that of its member.
 use Rattle.std.specs.Prelude.{Bool, false, Option, Some, None, nat_lt}
-use Rattle.uc_meaning.specs.declared.rules.Entity.{Entity}
-use Rattle.uc_meaning.specs.declared.rules.Entity.TheVariants as entity
-use Rattle.uc_meaning.specs.declared.rules.FieldPlace.{FieldPlace}
-use Rattle.uc_meaning.specs.declared.rules.Meant.{Meant}
-use Rattle.uc_meaning.specs.declared.rules.Origin.{Origin}
-use Rattle.uc_meaning.specs.declared.rules.Origin.TheVariants as origin
-use Rattle.uc_meaning.specs.Names.{is_field_before}
+use Rattle.uc_rules.specs.declared.rules.Entity.{Entity}
+use Rattle.uc_rules.specs.declared.rules.Entity.TheVariants as entity
+use Rattle.uc_rules.specs.declared.rules.FieldPlace.{FieldPlace}
+use Rattle.uc_rules.specs.declared.rules.Meant.{Meant}
+use Rattle.uc_rules.specs.declared.rules.Origin.{Origin}
+use Rattle.uc_rules.specs.declared.rules.Origin.TheVariants as origin
+use Rattle.uc_rules.specs.Names.{is_field_before}
 
 abbrev pub entity_before : FieldPlace → Entity → Bool
 entity_before place (entity.Value s) = false

@@ -8,15 +8,15 @@ ghost use Rattle.uc_tree.specs.ProgramViews.{member_form_at};
 ghost use Rattle.uc_tree.specs.Numbering.{exclusive_name, is_exclusive, main_name, member_form_name, mutex_members, sig_name};
 ghost use Rattle.uc_tree.specs.Statements.{stmts_of};
 ghost use Rattle.uc_tree.specs.declared.limits.TheConstants.{EVENT_FIELDS, MEMBERS};
-ghost use Rattle.uc_meaning.specs.ClassBreaks.{declared_names, events_before, fields_before, fields_in, form_fields, has_number, is_empty_body, is_empty_constructor, is_event_field, is_event_member, is_field_of, is_owner, is_sound_event, is_well_marked, form_declares_names, form_is_main, form_may_be_marked, form_unset, has_unset, is_unmarked, is_unset, is_well_built, is_well_mained, maybe_needs, members_declare, needs_init, sig_declares, sort_needs};
-ghost use Rattle.uc_meaning.specs.Names.{constructor_among, constructor_params};
+ghost use Rattle.uc_rules.specs.ClassBreaks.{declared_names, events_before, fields_before, fields_in, form_fields, has_number, is_empty_body, is_empty_constructor, is_event_field, is_event_member, is_field_of, is_owner, is_sound_event, is_well_marked, form_declares_names, form_is_main, form_may_be_marked, form_unset, has_unset, is_unmarked, is_unset, is_well_built, is_well_mained, maybe_needs, members_declare, needs_init, sig_declares, sort_needs};
+ghost use Rattle.uc_rules.specs.Names.{constructor_among, constructor_params};
 
 use crate::sig::{is_main_of_class, may_be_marked};
 use std::alloc::{AllocError, Global};
 use uc_index::index::Index;
-use uc_meaning::rules::{FieldPlace, Sort};
 use uc_names::scope::Scope;
 use uc_numbers::members::member_number;
+use uc_rules::rules::{FieldPlace, Sort};
 use uc_tree::class::{Class, Init, Member, MemberForm, Routine, Sig};
 use uc_tree::declare::Declarator;
 use uc_tree::kinds::{Access, Base, Mark, Owner};

@@ -4,12 +4,12 @@ ghost use Rattle.std.specs.Prelude.{◌≡◌, ◌||◌, Some, not};
 ghost use Rattle.uc_tree.specs.Names.{same_name};
 ghost use Rattle.uc_tree.specs.Numbering.{unhandled_name};
 ghost use Rattle.uc_tree.specs.Programs.{Class};
-ghost use Rattle.uc_meaning.specs.ClassBreaks.{fields_at, is_new_field, is_new_routine};
-ghost use Rattle.uc_meaning.specs.Names.{member_named, place_in};
-ghost use Rattle.uc_meaning.specs.Sorts.{class_at};
+ghost use Rattle.uc_rules.specs.ClassBreaks.{fields_at, is_new_field, is_new_routine};
+ghost use Rattle.uc_rules.specs.Names.{member_named, place_in};
+ghost use Rattle.uc_rules.specs.Sorts.{class_at};
 ghost use Rattle.uc_declares.specs.Earlier.{entity_before, meant_before, method_before, stands_before};
 
-use uc_meaning::rules::{Entity, FieldPlace, Meant, Origin};
+use uc_rules::rules::{Entity, FieldPlace, Meant, Origin};
 use uc_tree::class::Sig;
 use uc_tree::name::Name;
 use uc_types::sort::is_plain;

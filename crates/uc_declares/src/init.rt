@@ -1,12 +1,12 @@
 // Tests of initialisers, by the field that they name.
 
 ghost use Rattle.std.specs.Prelude.{◌≡◌, option_and_then};
-ghost use Rattle.uc_meaning.specs.ClassBreaks.{entity_takes, is_behind, is_by_ref, is_from, may_init, may_start, maybe_start, sort_takes};
-ghost use Rattle.uc_meaning.specs.declared.rules.Entity.TheVariants as entity;
-ghost use Rattle.uc_meaning.specs.ProgramVisits.{field_place, home_member, last_field, later_field};
+ghost use Rattle.uc_rules.specs.ClassBreaks.{entity_takes, is_behind, is_by_ref, is_from, may_init, may_start, maybe_start, sort_takes};
+ghost use Rattle.uc_rules.specs.declared.rules.Entity.TheVariants as entity;
+ghost use Rattle.uc_rules.specs.ProgramVisits.{field_place, home_member, last_field, later_field};
 
 use crate::class::count_params;
-use uc_meaning::rules::{Entity, FieldPlace, Home, Meant, Origin, Sort};
+use uc_rules::rules::{Entity, FieldPlace, Home, Meant, Origin, Sort};
 use uc_tree::name::Name;
 use uc_types::entity::{is_array, is_of_conditions};
 use uc_types::spans::is_field_before;

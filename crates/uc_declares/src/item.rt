@@ -3,13 +3,13 @@
 ghost use Rattle.std.specs.Prelude.{◌≡◌, IfOk, MatchOption, None, Some, if◌then◌else◌, nat_eq, take};
 ghost use Rattle.std.specs.List.{list_any};
 ghost use Rattle.uc_tree.specs.ProgramViews.{member_form_at};
-ghost use Rattle.uc_meaning.specs.ItemBreaks.{has_role, is_defined, is_definition, is_member_definition, is_new_item, is_only_one, is_program_main, is_sound_item, is_sound_member, is_well_declared, item_mains, item_name, item_pos, mains_in, outer_name};
-ghost use Rattle.uc_meaning.specs.ProgramVisits.{home_of, owner_home};
+ghost use Rattle.uc_rules.specs.ItemBreaks.{has_role, is_defined, is_definition, is_member_definition, is_new_item, is_only_one, is_program_main, is_sound_item, is_sound_member, is_well_declared, item_mains, item_name, item_pos, mains_in, outer_name};
+ghost use Rattle.uc_rules.specs.ProgramVisits.{home_of, owner_home};
 
 use crate::sig::{has_class_name, is_program_main, same_role};
 use std::alloc::{AllocError, Global};
 use uc_index::index::Index;
-use uc_meaning::rules::{Home, Sort};
+use uc_rules::rules::{Home, Sort};
 use uc_tree::class::{Class, Member, MemberForm, Sig};
 use uc_tree::kinds::Owner;
 use uc_tree::name::Name;

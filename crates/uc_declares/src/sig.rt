@@ -1,11 +1,11 @@
 // Tests of signatures.
 
 ghost use Rattle.std.specs.Prelude.{◌≡◌, ◌&&◌};
-ghost use Rattle.uc_meaning.specs.ClassBreaks.{is_main_of_class, is_void_base, may_return, sig_may_be_marked};
-ghost use Rattle.uc_meaning.specs.ItemBreaks.{has_class_name, is_int_base, is_main_base, is_program_main};
-ghost use Rattle.uc_meaning.specs.ProgramVisits.{same_role};
+ghost use Rattle.uc_rules.specs.ClassBreaks.{is_main_of_class, is_void_base, may_return, sig_may_be_marked};
+ghost use Rattle.uc_rules.specs.ItemBreaks.{has_class_name, is_int_base, is_main_base, is_program_main};
+ghost use Rattle.uc_rules.specs.ProgramVisits.{same_role};
 
-use uc_meaning::rules::Sort;
+use uc_rules::rules::Sort;
 use uc_tree::class::Sig;
 use uc_tree::kinds::{Base, Owner, Role};
 use uc_tree::name::Name;

@@ -2,12 +2,13 @@
 use Rattle.std.proofs.Common.{◌≡◌, ◌≢◌, ℕ, zero, suc, pos, ◌<◌, ◌+◌, ◌==◌, T, eqb→eq, Bool, true, false, cond, List, [], ◌∷◌, ◌++◌, length, replicate, Option, Some, None, refl, sym, ap, ◌∙◌, subst, inl, inr, arith, rules, length-set, get_or-set_same, get_or-set_other}
 use Rattle.std.proofs.lemmas.Bool.{cases_eq}
 use Rattle.std.proofs.lemmas.List.Sums.{fold_push}
-use Rattle.uc_meaning.specs.declared.entry.Entry.{Entry}
-use Rattle.uc_meaning.specs.declared.entry.EntryKind.{EntryKind}
-use Rattle.uc_meaning.specs.declared.entry.EntryKind.TheVariants as kind
-use Rattle.uc_meaning.specs.Journal.{Journal, holds}
-use Rattle.uc_meaning.specs.Acts.{raise_entry, poll_entry}
-use Rattle.uc_meaning.specs.Pending.{pending, pending_by, oldest_in, has_bit, drop_first}
+use Rattle.uc_entry.specs.declared.entry.Entry.{Entry}
+use Rattle.uc_entry.specs.declared.entry.EntryKind.{EntryKind}
+use Rattle.uc_entry.specs.declared.entry.EntryKind.TheVariants as kind
+use Rattle.uc_acts.specs.Journal.{Journal, holds}
+use Rattle.uc_acts.specs.Acts.{raise_entry, poll_entry}
+use Rattle.uc_acts.specs.Pending.{pending, pending_by, oldest_in, drop_first}
+use Rattle.uc_tree.specs.SiteOffers.{has_bit}
 use Rattle.uc_events.specs.Pending.{Event, pending_at, with_pending, raised, without_oldest}
 use Rattle.uc_events.specs.Laws.{LawOpening, ArePending, tells, LawRaise, LawPoll, LawOthers}
 

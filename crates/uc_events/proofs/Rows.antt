@@ -1,6 +1,6 @@
 -- Worked rows: what is pending, by hand.
 use Rattle.std.proofs.Common.{◌≡◌, pos, List, [], ◌∷◌, Some, None, false, true, refl, replicate}
-use Rattle.uc_meaning.specs.Pending.{oldest_in}
+use Rattle.uc_acts.specs.Pending.{oldest_in}
 use Rattle.uc_events.specs.Pending.{Event, has_room, without_oldest}
 
 -- of three, an event of a smaller mask goes first, and then the oldest

@@ -3,7 +3,8 @@ use Rattle.std.proofs.Common.{◌≡◌, ℕ, ◌<◌, ◌≤◌, ◌+◌, true,
 use Rattle.std.specs.List.{remove}
 use Rattle.std.proofs.lemmas.List.{at_drop_more, at_drop_all, append-nil}
 use Rattle.std.proofs.lemmas.List.{take_all, get_or_default}
-use Rattle.uc_meaning.specs.Pending.{has_bit, oldest_in}
+use Rattle.uc_acts.specs.Pending.{oldest_in}
+use Rattle.uc_tree.specs.SiteOffers.{has_bit}
 use Rattle.uc_events.specs.Pending.{Event, without_oldest}
 
 pub chosen : (mask n : ℕ) (es : List Event) (seen e : Event) → seen ≡ get_or es n seen → e ≡ get_or es n e → n < length es → has_bit seen.0 mask ≡ true → has_bit e.0 mask ≡ true

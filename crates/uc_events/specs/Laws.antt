@@ -1,11 +1,11 @@
 -- The lists are the filters of the journal, entry by entry.
 use Rattle.std.specs.Prelude.{◌≡◌, ℕ, ℤ, ◌<◌, Bool, true, false, List, [], ◌∷◌, ◌++◌, length, replicate}
-use Rattle.uc_meaning.specs.declared.entry.Entry.{Entry}
-use Rattle.uc_meaning.specs.declared.entry.EntryKind.{EntryKind}
-use Rattle.uc_meaning.specs.declared.entry.EntryKind.TheVariants as kind
-use Rattle.uc_meaning.specs.Journal.{Journal}
-use Rattle.uc_meaning.specs.Acts.{raise_entry, poll_entry}
-use Rattle.uc_meaning.specs.Pending.{pending, oldest_in}
+use Rattle.uc_entry.specs.declared.entry.Entry.{Entry}
+use Rattle.uc_entry.specs.declared.entry.EntryKind.{EntryKind}
+use Rattle.uc_entry.specs.declared.entry.EntryKind.TheVariants as kind
+use Rattle.uc_acts.specs.Journal.{Journal}
+use Rattle.uc_acts.specs.Acts.{raise_entry, poll_entry}
+use Rattle.uc_acts.specs.Pending.{pending, oldest_in}
 use Rattle.uc_events.specs.Pending.{Event, pending_at, with_pending, has_room, raised, without_oldest}
 
 -- the list of each known task is what the journal tells is pending there

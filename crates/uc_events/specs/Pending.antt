@@ -1,7 +1,8 @@
 -- What is pending at each task, as lists, and what a raise and a poll do to them.
 use Rattle.std.specs.Prelude.{ℕ, ℤ, Bool, List, [], ◌∷◌, ◌++◌, slice_index_or, slice_set, nat_lt, if◌then◌else◌, length}
 use Rattle.uc_tree.specs.declared.limits.TheConstants.{PENDING_EVENTS}
-use Rattle.uc_meaning.specs.Pending.{has_bit, drop_first}
+use Rattle.uc_acts.specs.Pending.{drop_first}
+use Rattle.uc_tree.specs.SiteOffers.{has_bit}
 
 -- an event that was raised, by its number, with its two fields
 abbrev pub Event : Type 0

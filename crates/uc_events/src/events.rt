@@ -1,6 +1,6 @@
 //! The events that are pending at the tasks of a run.
 ghost use Rattle.std.specs.Prelude.{◌≡◌, ◌<◌, [], length, replicate, ◌++◌, ◌∷◌, ◌-◌, OnOk, OnErr};
-ghost use Rattle.uc_meaning.specs.Pending.{oldest_in};
+ghost use Rattle.uc_acts.specs.Pending.{oldest_in};
 ghost use Rattle.uc_events.specs.Pending.{pending_at, without_oldest, has_room, raised, with_pending};
 ghost use Rattle.uc_tree.specs.declared.limits.TheConstants.{EVENTS};
 

@@ -1,6 +1,7 @@
 //! The events that are pending at one task.
 ghost use Rattle.std.specs.Prelude.{◌≡◌, [], IfOk};
-ghost use Rattle.uc_meaning.specs.Pending.{has_bit, oldest_in};
+ghost use Rattle.uc_acts.specs.Pending.{oldest_in};
+ghost use Rattle.uc_tree.specs.SiteOffers.{has_bit};
 ghost use Rattle.uc_events.specs.Pending.{without_oldest, has_room, raised};
 
 use std::alloc::{AllocError, Global};

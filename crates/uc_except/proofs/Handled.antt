@@ -1,14 +1,14 @@
 -- A handler begins as in the source.
 use Rattle.std.proofs.Common.{◌≡◌, ℕ, ℤ, List, [], ◌∷◌, map, Option, Some, None, sym, ap, subst, ◌∙◌}
 use Rattle.uc_tree.specs.Source.{Source}
-use Rattle.uc_meaning.specs.declared.exec.Reason.{Reason}
-use Rattle.uc_meaning.specs.declared.exec.Reason.TheVariants as reason
-use Rattle.uc_meaning.specs.declared.exec.Visited.{Visited}
-use Rattle.uc_meaning.specs.Executions.{handler_entered}
-use Rattle.uc_meaning.specs.Quiet as quiet
-use Rattle.uc_meaning.specs.Quiet.{DropNow, Nothing, State, stay, more, below, quiet as step}
-use Rattle.uc_meaning.specs.Raising as raising
-use Rattle.uc_meaning.specs.Raising.{Found as Sought, handler_todo, event_in, home_of, seek, handle_step}
+use Rattle.uc_machine.specs.declared.exec.Reason.{Reason}
+use Rattle.uc_machine.specs.declared.exec.Reason.TheVariants as reason
+use Rattle.uc_machine.specs.declared.exec.Visited.{Visited}
+use Rattle.uc_machine.specs.Executions.{handler_entered}
+use Rattle.uc_machine.specs.Quiet as quiet
+use Rattle.uc_machine.specs.Quiet.{DropNow, Nothing, State, stay, more, below, quiet as step}
+use Rattle.uc_machine.specs.Raising as raising
+use Rattle.uc_machine.specs.Raising.{Found as Sought, handler_todo, event_in, home_of, seek, handle_step}
 use Rattle.uc_code.specs.declared.rows.HandlerRow.{HandlerRow}
 use Rattle.uc_code.specs.Laid.{Laid}
 use Rattle.uc_frames.specs.declared.cell.Cell.{Cell}

@@ -3,8 +3,8 @@ use Rattle.std.proofs.Common.{◌≡◌, ℕ, zero, suc, ◌+◌, ◌-◌, ◌<�
 use Rattle.std.specs.Prelude.{nat_eq, if◌then◌else◌}
 use Rattle.std.proofs.lemmas.Bool.{eq-eqb}
 use Rattle.std.proofs.lemmas.List.{length-drop}
-use Rattle.uc_meaning.specs.Executions.{at_depth}
-use Rattle.uc_meaning.specs.declared.exec.Visited.{Visited}
+use Rattle.uc_machine.specs.Executions.{at_depth}
+use Rattle.uc_machine.specs.declared.exec.Visited.{Visited}
 use Rattle.uc_code.specs.declared.rows.HandlerRow.{HandlerRow}
 use Rattle.uc_frames.specs.Machine.{Active}
 use Rattle.uc_except.specs.declared.found.Found.TheVariants.{Handler, None as Nowhere}

@@ -3,11 +3,11 @@ use Rattle.std.proofs.Common.{◌≡◌, ℕ, suc, ◌+◌, ◌≤◌, List, [],
 use Rattle.std.specs.Prelude.{nat_eq, nat_le, nat_lt, ◌&&◌, if◌then◌else◌, slice_get}
 use Rattle.std.proofs.lemmas.Bool.{eq-eqb, ne_eqb, eqb-true, le-leb, le-ltb, cases_lt}
 use Rattle.uc_tree.specs.Source.{Handlers, NoHandlers, MoreHandlers}
-use Rattle.uc_meaning.specs.declared.exec.Visited.{Visited}
-use Rattle.uc_meaning.specs.Executions.{at_depth}
-use Rattle.uc_meaning.specs.Quiet as quiet
-use Rattle.uc_meaning.specs.Quiet.{Todo, Sort, Simple, IsLoop, IsWhole, IsClean, IsFill, IsSweep, IsPart, IsGuard, IsFinish, IsFinishCoroutine, sort, own_line}
-use Rattle.uc_meaning.specs.Raising.{Event, Handler, Hit, Found as Sought, handler_for, handler_count, count_by, count_round, within as within_list, hit_or, hit_by, hit_in, home_of, found_or, seek}
+use Rattle.uc_machine.specs.declared.exec.Visited.{Visited}
+use Rattle.uc_machine.specs.Executions.{at_depth}
+use Rattle.uc_machine.specs.Quiet as quiet
+use Rattle.uc_machine.specs.Quiet.{Todo, Sort, Simple, IsLoop, IsWhole, IsClean, IsFill, IsSweep, IsPart, IsGuard, IsFinish, IsFinishCoroutine, sort, own_line}
+use Rattle.uc_machine.specs.Raising.{Event, Handler, Hit, Found as Sought, handler_for, handler_count, count_by, count_round, within as within_list, hit_or, hit_by, hit_in, home_of, found_or, seek}
 use Rattle.uc_code.specs.declared.rows.HandlerRow.{HandlerRow}
 use Rattle.uc_code.specs.declared.rows.Mark.{Mark}
 use Rattle.uc_code.specs.Laid.{Laid, under, handlers, chain}

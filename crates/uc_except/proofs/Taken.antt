@@ -1,7 +1,7 @@
 -- The handler of a resumption that is found stands where a search among activations comes to.
 use Rattle.std.proofs.Common.{◌≡◌, ℕ, List, [], ◌∷◌, length, Bool, true, false, Option, Some, None, refl, ap, sym, ◌∙◌}
 use Rattle.std.specs.Prelude.{nat_eq, if◌then◌else◌}
-use Rattle.uc_meaning.specs.declared.exec.Visited.{Visited}
+use Rattle.uc_machine.specs.declared.exec.Visited.{Visited}
 use Rattle.uc_code.specs.declared.rows.HandlerRow.{HandlerRow}
 use Rattle.uc_code.specs.Laid.{chain}
 use Rattle.uc_frames.specs.Keeping.{place_or, taken_at}

@@ -1,6 +1,6 @@
 -- The handlers that events find, by rows.
 use Rattle.std.specs.Prelude.{ℕ, List, [], ◌∷◌, length, Option, Some, None, nat_eq, if◌then◌else◌}
-use Rattle.uc_meaning.specs.declared.exec.Visited.{Visited}
+use Rattle.uc_machine.specs.declared.exec.Visited.{Visited}
 use Rattle.uc_code.specs.declared.rows.HandlerRow.{HandlerRow}
 use Rattle.uc_code.specs.Laid.{chain}
 use Rattle.uc_frames.specs.declared.search.Sought.TheVariants.{Catch, Resume}

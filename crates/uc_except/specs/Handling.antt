@@ -1,10 +1,10 @@
 -- What a machine is once the handler of an event has begun.
 use Rattle.std.specs.Prelude.{◌≡◌, ℕ, List, ◌∷◌, Option, Some, None, slice_get}
 use Rattle.uc_tree.specs.Source.{Source}
-use Rattle.uc_meaning.specs.declared.exec.Reason.{Reason}
-use Rattle.uc_meaning.specs.Executions.{at_depth}
-use Rattle.uc_meaning.specs.Quiet.{State, Goes, quiet, Quietly}
-use Rattle.uc_meaning.specs.Raising.{home_of}
+use Rattle.uc_machine.specs.declared.exec.Reason.{Reason}
+use Rattle.uc_machine.specs.Executions.{at_depth}
+use Rattle.uc_machine.specs.Quiet.{State, Goes, quiet, Quietly}
+use Rattle.uc_machine.specs.Raising.{home_of}
 use Rattle.uc_code.specs.declared.rows.HandlerRow.{HandlerRow}
 use Rattle.uc_code.specs.declared.rows.RowKind.{RowKind}
 use Rattle.uc_code.specs.declared.rows.RowKind.TheVariants as kind

@@ -1,9 +1,9 @@
 -- When a handler that is found by rows is the one that the source finds.
 use Rattle.std.specs.Prelude.{◌≡◌, ℕ, List, [], ◌∷◌, length, Option, Some, None, true, false}
-use Rattle.uc_meaning.specs.Executions.{at_depth}
-use Rattle.uc_meaning.specs.Quiet as quiet
-use Rattle.uc_meaning.specs.Quiet.{Todo, Sort, IsGuard, sort}
-use Rattle.uc_meaning.specs.Raising.{Event, Handler, Hit, Found as Sought, handler_for, home_of, handler_todo}
+use Rattle.uc_machine.specs.Executions.{at_depth}
+use Rattle.uc_machine.specs.Quiet as quiet
+use Rattle.uc_machine.specs.Quiet.{Todo, Sort, IsGuard, sort}
+use Rattle.uc_machine.specs.Raising.{Event, Handler, Hit, Found as Sought, handler_for, home_of, handler_todo}
 use Rattle.uc_code.specs.declared.rows.Mark.{Mark}
 use Rattle.uc_code.specs.Laid.{Laid}
 use Rattle.uc_code.specs.Ranges.{HandlerAt}

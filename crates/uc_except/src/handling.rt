@@ -2,12 +2,12 @@
 
 ghost use Rattle.std.specs.Prelude.{◌≡◌, ◌∷◌, ℕ, Some, None, OnOk, OnErr, slice_get};
 ghost use Rattle.std.specs.Option.{option_map};
-ghost use Rattle.uc_meaning.specs.Executions.{at_depth};
-ghost use Rattle.uc_meaning.specs.Raising.{home_of};
+ghost use Rattle.uc_machine.specs.Executions.{at_depth};
+ghost use Rattle.uc_machine.specs.Raising.{home_of};
 ghost use Rattle.uc_tree.specs.Source.{Source};
-ghost use Rattle.uc_meaning.specs.declared.exec.Reason.TheVariants as reason;
-ghost use Rattle.uc_meaning.specs.Quiet.{State};
-ghost use Rattle.uc_meaning.specs.Raising.{event_in};
+ghost use Rattle.uc_machine.specs.declared.exec.Reason.TheVariants as reason;
+ghost use Rattle.uc_machine.specs.Quiet.{State};
+ghost use Rattle.uc_machine.specs.Raising.{event_in};
 ghost use Rattle.uc_code.specs.Laid.{Laid, laid_of};
 ghost use Rattle.uc_frames.specs.Comes.{Catches};
 ghost use Rattle.uc_frames.specs.Unwound.{Raises, Throws, Unwinds};
@@ -21,7 +21,7 @@ use uc_code::code::Code;
 use uc_code::rows::{HandlerRow, RowKind};
 use uc_frames::event::{Event, Handling};
 use uc_frames::work::Work;
-use uc_meaning::exec::{Reason, Visited};
+use uc_machine::exec::{Reason, Visited};
 
 /// The handler that was found begins, with the event as its operands: one that catches in the running activation, which is unwound up to
 /// it; one of resumptions as an activation of its own, before the running one, which has popped the event. Where none was found, all

@@ -1,22 +1,22 @@
 // The search for the handler of an event.
 
 ghost use Rattle.std.specs.Prelude.{◌≡◌, ◌∷◌, List, None, true, false, if◌then◌else◌};
-ghost use Rattle.uc_meaning.specs.Quiet.{Active};
-ghost use Rattle.uc_meaning.specs.Raising.{Event, seek};
+ghost use Rattle.uc_machine.specs.Quiet.{Active};
+ghost use Rattle.uc_machine.specs.Raising.{Event, seek};
 ghost use Rattle.uc_code.specs.Laid.{chain, laid_of};
 ghost use Rattle.uc_frames.specs.Parts.{Lined};
 ghost use Rattle.uc_frames.specs.Unwound.{SearchStands};
 ghost use Rattle.uc_except.specs.Meeting.{FoundAs, CaughtAs, catcher};
 ghost use Rattle.uc_frames.specs.declared.search.Sought.TheVariants as sought;
 ghost use Rattle.uc_frames.specs.Searches.{first_in};
-ghost use Rattle.uc_meaning.specs.Executions.{at_depth};
+ghost use Rattle.uc_machine.specs.Executions.{at_depth};
 ghost use Rattle.uc_except.specs.Finding.{caught, resumed, catch_in, resumption_in, handles_in};
 
 use crate::found::Found;
 use uc_code::code::Code;
 use uc_frames::search::{Sought, first_handler, first_within};
 use uc_frames::work::Work;
-use uc_meaning::exec::Visited;
+use uc_machine::exec::Visited;
 
 /// The handler of an event that the running activation raises by the op before its next one. Where it is thrown, that is the first one that
 /// catches it, from the innermost one outwards; where it is resumed, the first one that takes it so, and behind an activation that

@@ -2,8 +2,9 @@
 use Rattle.std.proofs.Common.{◌≡◌, ℕ, zero, suc, ◌+◌, ◌<◌, ◌≤◌, arith, List, [], ◌∷◌, ◌++◌, length, inl, inr, Some, None, Bool, true, false, refl, sym, ap, subst, ◌∙◌, get_or}
 use Rattle.std.specs.Prelude.{nat_eq, slice_get, slice_set, remove, if◌then◌else◌}
 use Rattle.std.proofs.lemmas.Bool.{eqb-true, cases_lt}
-use Rattle.uc_meaning.specs.Executions.{find, update}
-use Rattle.uc_meaning.specs.Switches.{without}
+use Rattle.uc_machine.specs.Executions.{update}
+use Rattle.uc_entry.specs.Keyed.{find}
+use Rattle.uc_machine.specs.Switches.{without}
 use Rattle.uc_frames.specs.Numbered.{IsAt, Ascends, IsBound}
 use Rattle.uc_frames.proofs.Positions.{some-same, found_at, not_found, set_is}
 

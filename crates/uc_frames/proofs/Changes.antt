@@ -2,14 +2,14 @@
 use Rattle.std.proofs.Common.{◌≡◌, ℕ, ◌+◌, List, [], ◌∷◌, ◌++◌, Option, Some, None, Bool, true, false, refl, subst, ap, ◌∙◌, map}
 use Rattle.std.specs.Prelude.{nat_eq, min, if◌then◌else◌}
 use Rattle.std.proofs.Math.ListN.{get_or-map}
-use Rattle.uc_meaning.specs.declared.exec.Exec.{Exec}
-use Rattle.uc_meaning.specs.declared.exec.Home.{Home}
-use Rattle.uc_meaning.specs.declared.exec.Home.TheVariants.{Task, Object}
-use Rattle.uc_meaning.specs.declared.exec.Owner.{Owner}
-use Rattle.uc_meaning.specs.declared.exec.Owner.TheVariants.{Frame, Fields}
-use Rattle.uc_meaning.specs.declared.request.Piece.{Piece}
-use Rattle.uc_meaning.specs.Executions.{Activation, Execution, Links, Members, Env, exec_eq, at_depth, frame_changed, list_in, values_in, frames_in, members_at, set_members, slot_in, parked_at, change_in, change, frames_of, frames_by, frames_changed, with_frames, owned, value_at, with_owned}
-use Rattle.uc_meaning.specs.Switches.{LAST_SERIAL, slot_set, set_slot, serial_in, new_exec, one_more, born, slot_gone, gone, forgotten}
+use Rattle.uc_machine.specs.declared.exec.Exec.{Exec}
+use Rattle.uc_machine.specs.declared.exec.Home.{Home}
+use Rattle.uc_machine.specs.declared.exec.Home.TheVariants.{Task, Object}
+use Rattle.uc_machine.specs.declared.exec.Owner.{Owner}
+use Rattle.uc_machine.specs.declared.exec.Owner.TheVariants.{Frame, Fields}
+use Rattle.uc_entry.specs.declared.request.Piece.{Piece}
+use Rattle.uc_machine.specs.Executions.{Activation, Execution, Links, Members, Env, exec_eq, at_depth, frame_changed, list_in, values_in, frames_in, members_at, set_members, slot_in, parked_at, change_in, change, frames_of, frames_by, frames_changed, with_frames, owned, value_at, with_owned}
+use Rattle.uc_machine.specs.Switches.{LAST_SERIAL, slot_set, set_slot, serial_in, new_exec, one_more, born, slot_gone, gone, forgotten}
 use Rattle.uc_frames.specs.Parts.{Numbered, Alike, ExecutionStands, MembersStand, EnvStands}
 use Rattle.uc_frames.proofs.Lists.{find_both, update_both, without_both, more_both, joined_both, at_map, frame_map}
 

@@ -2,8 +2,8 @@
 use Rattle.std.proofs.Common.{◌≡◌, ℕ, ◌+◌, List, ◌∷◌, Option, Some, None, true, refl, subst}
 use Rattle.std.specs.Prelude.{slice_get}
 use Rattle.uc_tree.specs.Source.{CleanUp}
-use Rattle.uc_meaning.specs.Quiet.{Todo, own_line, clean_todo}
-use Rattle.uc_meaning.specs.Pieces.{Unwind}
+use Rattle.uc_machine.specs.Quiet.{Todo, own_line, clean_todo}
+use Rattle.uc_machine.specs.Pieces.{Unwind}
 use Rattle.uc_code.specs.declared.op.Op.TheVariants as op
 use Rattle.uc_code.specs.declared.rows.Mark.{Mark}
 use Rattle.uc_code.specs.declared.rows.Mark.TheVariants as mark

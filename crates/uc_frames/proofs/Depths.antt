@@ -6,7 +6,7 @@ use Rattle.std.proofs.lemmas.Bool.{eq-eqb, ne_eqb}
 use Rattle.std.specs.Option.{option_map}
 use Rattle.std.proofs.lemmas.Option.{slice_get-map, slice_get_read}
 use Rattle.std.proofs.lemmas.List.{map-set, length-reverse}
-use Rattle.uc_meaning.specs.Executions.{at_depth, set_depth, list_in, frame_changed}
+use Rattle.uc_machine.specs.Executions.{at_depth, set_depth, list_in, frame_changed}
 
 older : {X : Type 0} (j : X) (ks : List X) (d : ℕ) → d < length ks → at_depth (j ∷ ks) d ≡ at_depth ks d
 older j ks d l = let n : d ≡ length ks → ⊥ = λ q. omega arith in let e : nat_eq d (length ks) ≡ false = ne_eqb d (length ks) n in rw e refl

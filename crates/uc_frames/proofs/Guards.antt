@@ -3,8 +3,8 @@ use Rattle.std.proofs.Common.{◌≡◌, ℕ, zero, suc, ◌+◌, ◌<◌, List,
 use Rattle.std.specs.Prelude.{nat_eq, nat_le, ◌&&◌, if◌then◌else◌, slice_get}
 use Rattle.std.proofs.lemmas.Bool.{ne_eqb}
 use Rattle.uc_tree.specs.Source.{Handlers, NoHandlers, MoreHandlers}
-use Rattle.uc_meaning.specs.Quiet.{Todo, Rest, Within}
-use Rattle.uc_meaning.specs.Raising.{Event, Handler, takes, same_kind, handler_for, handler_count, handler_todo}
+use Rattle.uc_machine.specs.Quiet.{Todo, Rest, Within}
+use Rattle.uc_machine.specs.Raising.{Event, Handler, takes, same_kind, handler_for, handler_count, handler_todo}
 use Rattle.uc_code.specs.declared.rows.HandlerRow.{HandlerRow}
 use Rattle.uc_code.specs.declared.rows.TheConstants.{ANY_EVENT}
 use Rattle.uc_code.specs.declared.rows.Mark.{Mark}

@@ -3,8 +3,9 @@ use Rattle.std.proofs.Common.{◌≡◌, ℕ, ◌++◌, List, [], ◌∷◌, len
 use Rattle.std.specs.Prelude.{nat_eq, if◌then◌else◌, slice_index_or, slice_set}
 use Rattle.std.proofs.lemmas.List.{length-map, map-set, map-append, take-map, drop-map}
 use Rattle.std.proofs.Math.ListN.{get_or-map}
-use Rattle.uc_meaning.specs.Executions.{find, update, at_depth, set_depth, frame_changed, list_in, joined, taken, value_changed, values_cleared}
-use Rattle.uc_meaning.specs.Switches.{without}
+use Rattle.uc_machine.specs.Executions.{update, at_depth, set_depth, frame_changed, list_in, joined, taken, value_changed, values_cleared}
+use Rattle.uc_entry.specs.Keyed.{find}
+use Rattle.uc_machine.specs.Switches.{without}
 use Rattle.uc_frames.specs.Parts.{Numbered, Alike}
 
 module _ {X Y : Type 0} (P : X → Y → Type 0) where

@@ -3,7 +3,7 @@ use Rattle.std.proofs.Common.{◌≡◌, ℕ, zero, suc, ◌+◌, ◌-◌, ◌<�
 use Rattle.std.proofs.lemmas.Bool.{cases_lt}
 use Rattle.std.proofs.lemmas.List.{append_assoc, reverse-append, reverse-reverse, length-reverse, length-drop, take-append-drop, drop_at, drop_all, take_all, take_more}
 use Rattle.std.proofs.lemmas.Grind.{common_steps}
-use Rattle.uc_meaning.specs.Executions.{taken}
+use Rattle.uc_machine.specs.Executions.{taken}
 use Rattle.uc_frames.specs.declared.cell.Cell.{Cell}
 use Rattle.uc_frames.specs.Machine.{top}
 

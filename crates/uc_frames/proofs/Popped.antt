@@ -1,10 +1,10 @@
 -- How a machine comes to search a handler or to unwind: behind an op that throws or raises it has popped the event.
 use Rattle.std.proofs.Common.{◌≡◌, ℕ, ◌+◌, ◌-◌, List, [], ◌∷◌, map, refl, sym, ap, subst, ◌∙◌, arith}
 use Rattle.std.specs.Prelude.{slice_get}
-use Rattle.uc_meaning.specs.Quiet as quiet
-use Rattle.uc_meaning.specs.Quiet.{Todo, Value, DropNow, RaiseNow, ThrowNow, State, own_line}
-use Rattle.uc_meaning.specs.Pieces.{Unwind}
-use Rattle.uc_meaning.specs.Raising.{as_event, event_in}
+use Rattle.uc_machine.specs.Quiet as quiet
+use Rattle.uc_machine.specs.Quiet.{Todo, Value, DropNow, RaiseNow, ThrowNow, State, own_line}
+use Rattle.uc_machine.specs.Pieces.{Unwind}
+use Rattle.uc_machine.specs.Raising.{as_event, event_in}
 use Rattle.uc_code.specs.declared.op.Op.TheVariants as op
 use Rattle.uc_code.specs.declared.rows.Mark.{Mark}
 use Rattle.uc_code.specs.Laid.{Laid, handlers, chain}

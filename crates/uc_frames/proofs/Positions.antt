@@ -3,8 +3,9 @@ use Rattle.std.proofs.Common.{◌≡◌, ℕ, zero, suc, ◌<◌, arith, eq-eqb,
 use Rattle.std.specs.Prelude.{nat_eq, if◌then◌else◌, slice_get, slice_set}
 use Rattle.std.proofs.lemmas.Bool.{ne_eqb}
 use Rattle.std.proofs.lemmas.Option.{slice_get_read}
-use Rattle.uc_meaning.specs.Executions.{find, update, joined}
-use Rattle.uc_meaning.specs.Switches.{without}
+use Rattle.uc_machine.specs.Executions.{update, joined}
+use Rattle.uc_entry.specs.Keyed.{find}
+use Rattle.uc_machine.specs.Switches.{without}
 use Rattle.uc_frames.specs.Numbered.{IsAt}
 
 none-some : {A B : Type 0} {x : A} → None ≡ Some x → B

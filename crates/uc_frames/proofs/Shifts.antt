@@ -3,17 +3,18 @@ use Rattle.std.proofs.Common.{◌≡◌, ℕ, suc, ◌+◌, ◌<◌, ◌≤◌, 
 use Rattle.std.specs.Prelude.{nat_eq, if◌then◌else◌}
 use Rattle.std.proofs.lemmas.Bool.{eq-eqb}
 use Rattle.uc_tree.specs.declared.limits.TheConstants.{UNHANDLED}
-use Rattle.uc_meaning.specs.declared.exec.Exec.{Exec}
-use Rattle.uc_meaning.specs.declared.exec.Home.{Home}
-use Rattle.uc_meaning.specs.declared.exec.Home.TheVariants.{Task, Object}
-use Rattle.uc_meaning.specs.declared.exec.Reason.TheVariants as reason
-use Rattle.uc_meaning.specs.declared.exec.Stage.{Stage}
-use Rattle.uc_meaning.specs.declared.exec.Stage.TheVariants.{Fresh, Started, Ended}
-use Rattle.uc_meaning.specs.declared.fault.RunFault.{RunFault}
-use Rattle.uc_meaning.specs.declared.fault.RunFault.TheVariants.{ResumeInUse, SwitchInUnwind}
-use Rattle.uc_meaning.specs.Executions.{Execution, home_eq, exec_eq, find, joined, members_at, slot_in, parked_at, change_in}
-use Rattle.uc_meaning.specs.Raising.{home_of}
-use Rattle.uc_meaning.specs.Switches.{Moved, To, Stops, or_else, woken, slot_set, set_slot, with_live, stopped, spread, switched, able_at, able_by, able, go_on, in_destruction, wake_at, wake_by, wake_one, wake, suspend, ended, finish, unwound_there, throw_at, escape, taken_down, take_down_at, take_down_by, take_down}
+use Rattle.uc_machine.specs.declared.exec.Exec.{Exec}
+use Rattle.uc_machine.specs.declared.exec.Home.{Home}
+use Rattle.uc_machine.specs.declared.exec.Home.TheVariants.{Task, Object}
+use Rattle.uc_machine.specs.declared.exec.Reason.TheVariants as reason
+use Rattle.uc_machine.specs.declared.exec.Stage.{Stage}
+use Rattle.uc_machine.specs.declared.exec.Stage.TheVariants.{Fresh, Started, Ended}
+use Rattle.uc_entry.specs.declared.fault.RunFault.{RunFault}
+use Rattle.uc_entry.specs.declared.fault.RunFault.TheVariants.{ResumeInUse, SwitchInUnwind}
+use Rattle.uc_machine.specs.Executions.{Execution, home_eq, exec_eq, joined, members_at, slot_in, parked_at, change_in}
+use Rattle.uc_entry.specs.Keyed.{find}
+use Rattle.uc_machine.specs.Raising.{home_of}
+use Rattle.uc_machine.specs.Switches.{Moved, To, Stops, or_else, woken, slot_set, set_slot, with_live, stopped, spread, switched, able_at, able_by, able, go_on, in_destruction, wake_at, wake_by, wake_one, wake, suspend, ended, finish, unwound_there, throw_at, escape, taken_down, take_down_at, take_down_by, take_down}
 use Rattle.uc_code.specs.declared.rows.RoutineCode.{RoutineCode}
 use Rattle.uc_code.specs.Laid.{Laid}
 use Rattle.uc_frames.specs.declared.cell.Cell.{Cell}

@@ -1,9 +1,10 @@
 -- Executions that are left at a home, changed, exchanged, or no more.
 use Rattle.std.proofs.Common.{◌≡◌, ℕ, List, Bool, Option, Some, None, sym, ap, ◌∙◌, get_or}
 use Rattle.std.specs.Prelude.{slice_set}
-use Rattle.uc_meaning.specs.declared.exec.Home.TheVariants.{Object}
-use Rattle.uc_meaning.specs.Executions.{Execution, find, joined, update, change_in, change, frames_by, frames_changed}
-use Rattle.uc_meaning.specs.Switches.{slot_set, slot_gone, live_by, live_changed}
+use Rattle.uc_machine.specs.declared.exec.Home.TheVariants.{Object}
+use Rattle.uc_machine.specs.Executions.{Execution, joined, update, change_in, change, frames_by, frames_changed}
+use Rattle.uc_entry.specs.Keyed.{find}
+use Rattle.uc_machine.specs.Switches.{slot_set, slot_gone, live_by, live_changed}
 use Rattle.uc_frames.specs.declared.cell.Cell.{Cell}
 use Rattle.uc_frames.specs.Machine.{Machine, Members, with_hand}
 use Rattle.uc_frames.specs.Numbered.{IsAt}

@@ -2,13 +2,13 @@
 use Rattle.std.proofs.Common.{◌≡◌, ℕ, pos, Option, Some, None, Bool, true, false, refl, sym, subst, ap, ◌∙◌}
 use Rattle.std.specs.Prelude.{is_some, if◌then◌else◌}
 use Rattle.uc_tree.specs.declared.limits.TheConstants.{UNHANDLED}
-use Rattle.uc_meaning.specs.declared.exec.Exec.{Exec}
-use Rattle.uc_meaning.specs.declared.exec.Reason.{Reason}
-use Rattle.uc_meaning.specs.declared.exec.Reason.TheVariants as reason
-use Rattle.uc_meaning.specs.declared.exec.Stage.{Stage}
-use Rattle.uc_meaning.specs.declared.exec.Stage.TheVariants.{Fresh, Started, Ended}
-use Rattle.uc_meaning.specs.Executions.{Links, Activation, Execution, Members, Env, State, exec_eq}
-use Rattle.uc_meaning.specs.Switches.{Moved, or_else, woken, live_in, live_at, is_live, live_by, live_changed, with_live, enlivened, set_slot, stopped, switched, able_at, able_by, able, go_on, in_destruction, wake_at, wake_by, wake_one, wake, suspend, ended, finish, unwound_there, throw_at, escape, taken_down, take_down_at, take_down_by, take_down}
+use Rattle.uc_machine.specs.declared.exec.Exec.{Exec}
+use Rattle.uc_machine.specs.declared.exec.Reason.{Reason}
+use Rattle.uc_machine.specs.declared.exec.Reason.TheVariants as reason
+use Rattle.uc_machine.specs.declared.exec.Stage.{Stage}
+use Rattle.uc_machine.specs.declared.exec.Stage.TheVariants.{Fresh, Started, Ended}
+use Rattle.uc_machine.specs.Executions.{Links, Activation, Execution, Members, Env, State, exec_eq}
+use Rattle.uc_machine.specs.Switches.{Moved, or_else, woken, live_in, live_at, is_live, live_by, live_changed, with_live, enlivened, set_slot, stopped, switched, able_at, able_by, able, go_on, in_destruction, wake_at, wake_by, wake_one, wake, suspend, ended, finish, unwound_there, throw_at, escape, taken_down, take_down_at, take_down_by, take_down}
 use Rattle.uc_frames.specs.Parts.{Lined, Alike, Unless, ExecutionStands, MembersStand, EnvStands, StateStands, MovedStand}
 use Rattle.uc_frames.proofs.Lists.{find_both, joined_both}
 use Rattle.uc_frames.proofs.Changes.{parked_both, change_both, slot_set_both, set_slot_both}

@@ -1,11 +1,11 @@
 -- What an unwinding of one activation comes to in the source, by the row that stops it.
 use Rattle.std.specs.Prelude.{◌≡◌, ℕ, ◌+◌, List, [], ◌∷◌, Option, Some, None, false}
 use Rattle.uc_tree.specs.Source.{Source}
-use Rattle.uc_meaning.specs.declared.exec.Reason.{Reason}
-use Rattle.uc_meaning.specs.declared.exec.Reason.TheVariants as reason
-use Rattle.uc_meaning.specs.Quiet.{Todo, Value, Active, Env, State, Quietly, IsWhole, sort, own_line}
-use Rattle.uc_meaning.specs.Pieces.{Unwind}
-use Rattle.uc_meaning.specs.Raising.{Event, Handler, handler_todo, operands_of}
+use Rattle.uc_machine.specs.declared.exec.Reason.{Reason}
+use Rattle.uc_machine.specs.declared.exec.Reason.TheVariants as reason
+use Rattle.uc_machine.specs.Quiet.{Todo, Value, Active, Env, State, Quietly, IsWhole, sort, own_line}
+use Rattle.uc_machine.specs.Pieces.{Unwind}
+use Rattle.uc_machine.specs.Raising.{Event, Handler, handler_todo, operands_of}
 use Rattle.uc_code.specs.declared.rows.MainOf.{MainOf}
 use Rattle.uc_code.specs.declared.rows.Mark.{Mark}
 use Rattle.uc_code.specs.Laid.{Laid}

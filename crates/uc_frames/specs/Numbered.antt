@@ -1,7 +1,8 @@
 -- Where a numbered thing stands in a list, and lists in the order of their numbers.
 use Rattle.std.specs.Prelude.{◌≡◌, ℕ, ◌<◌, ◌≤◌, List, [], ◌∷◌, length, Some, slice_get, slice_set, remove}
-use Rattle.uc_meaning.specs.Executions.{find, update}
-use Rattle.uc_meaning.specs.Switches.{without}
+use Rattle.uc_machine.specs.Executions.{update}
+use Rattle.uc_entry.specs.Keyed.{find}
+use Rattle.uc_machine.specs.Switches.{without}
 
 pub record IsAt {X : Type 0} (k : ℕ) (ps : List (ℕ × X)) (i : ℕ) : Type 0 where
   pub within : i < length ps

@@ -1,9 +1,9 @@
 -- When a task's state in cells stands for one of the source, part by part.
 use Rattle.std.specs.Prelude.{◌≡◌, ℕ, List, [], ◌∷◌, map, Option, Some, None}
-use Rattle.uc_meaning.specs.declared.exec.Stage.{Stage}
-use Rattle.uc_meaning.specs.declared.exec.Stage.TheVariants.{Fresh, Started, Ended}
-use Rattle.uc_meaning.specs.Executions.{Activation, Execution, Members, Env, State}
-use Rattle.uc_meaning.specs.Switches.{Moved, To, Stops}
+use Rattle.uc_machine.specs.declared.exec.Stage.{Stage}
+use Rattle.uc_machine.specs.declared.exec.Stage.TheVariants.{Fresh, Started, Ended}
+use Rattle.uc_machine.specs.Executions.{Activation, Execution, Members, Env, State}
+use Rattle.uc_machine.specs.Switches.{Moved, To, Stops}
 
 -- one by one
 abbrev pub Lined : {X Y : Type 0} → (X → Y → Type 0) → List X → List Y → Type 0

@@ -1,6 +1,6 @@
 -- When a machine that comes to a switch stands for a state of the source that does.
 use Rattle.std.specs.Prelude.{◌≡◌, List, ◌∷◌}
-use Rattle.uc_meaning.specs.Quiet.{Todo, ResumeNow, SuspendNow, TakeDownNow, Land, FinishCoroutine, State}
+use Rattle.uc_machine.specs.Quiet.{Todo, ResumeNow, SuspendNow, TakeDownNow, Land, FinishCoroutine, State}
 use Rattle.uc_code.specs.Laid.{Laid}
 use Rattle.uc_frames.specs.Machine.{Machine}
 use Rattle.uc_frames.specs.Parts.{Lined}

@@ -1,8 +1,8 @@
 -- When a machine that searches a handler or unwinds stands for a state of the source.
 use Rattle.std.specs.Prelude.{◌≡◌, ℕ, ◌+◌, List, [], ◌∷◌}
-use Rattle.uc_meaning.specs.Raising as raising
-use Rattle.uc_meaning.specs.Quiet as quiet
-use Rattle.uc_meaning.specs.Quiet.{Todo, DropNow, RaiseNow, ThrowNow, Unwind, IsWhole, sort, State, below, own_line}
+use Rattle.uc_machine.specs.Raising as raising
+use Rattle.uc_machine.specs.Quiet as quiet
+use Rattle.uc_machine.specs.Quiet.{Todo, DropNow, RaiseNow, ThrowNow, Unwind, IsWhole, sort, State, below, own_line}
 use Rattle.uc_code.specs.declared.rows.Mark.{Mark}
 use Rattle.uc_code.specs.declared.op.Op.TheVariants as op
 use Rattle.uc_code.specs.Laid.{Laid, handlers, chain}

@@ -1,7 +1,7 @@
 // An activation of a routine or a handler.
 
 ghost use Rattle.std.specs.Prelude.{◌≡◌, ◌∷◌, ◌-◌, ◌+◌, ◌≤◌, [], Some, drop, reverse, OnOk, OnErr, IfOk, replicate, vec_len, vec_capacity};
-ghost use Rattle.uc_meaning.specs.Executions.{begun, taken, calmed};
+ghost use Rattle.uc_machine.specs.Executions.{begun, taken, calmed};
 ghost use Rattle.uc_frames.specs.Machine.{top, below, nought};
 ghost use Rattle.uc_frames.specs.Left.{call_frame, waiting};
 ghost use Rattle.uc_frames.specs.Unwinding.{event_at, unwound_by, cleaning, catching, handler_of};
@@ -12,7 +12,7 @@ use crate::operands::{drop_newest, event_operands, new_frame, put_event, put_on_
 use std::alloc::AllocError;
 use std::marker::Model;
 use uc_code::rows::RoutineCode;
-use uc_meaning::exec::{Reason, Visited};
+use uc_machine::exec::{Reason, Visited};
 
 /// What is next in an activation, its operands, the object of a member's call, the depth of the frame whose variables it
 /// uses, whether it counts as an active call, how many elements stand of the array that it builds or destroys, how far the search

@@ -3,7 +3,7 @@
 ghost use Rattle.std.specs.Prelude.{◌≡◌};
 ghost use Rattle.uc_frames.specs.Machine.{cell_number, exec_in as exec_named, shifted, stored};
 
-use uc_meaning::exec::{Exec, Owner};
+use uc_machine::exec::{Exec, Owner};
 
 /// A number; a place, by what holds it and the cells before it there; an execution; a mutex object; or nothing.
 #[derive(Clone, Copy, PartialEq, Eq, Debug)]

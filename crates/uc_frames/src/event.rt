@@ -5,7 +5,7 @@ ghost use Rattle.uc_frames.specs.Machine.{cell_number};
 ghost use Rattle.uc_frames.specs.Unwinding.{byte_of};
 
 use crate::cell::{Cell, number_in};
-use uc_meaning::exec::Visited;
+use uc_machine::exec::Visited;
 
 /// An event by its number, with its fields.
 #[derive(Clone, Copy, PartialEq, Eq, Debug)]

@@ -1,7 +1,7 @@
 // Cells in frames, the oldest frame first.
 
 ghost use Rattle.std.specs.Prelude.{◌≡◌, length, map, replicate, IfOk, slice_index_or, slice_get, slice_set, vec_len};
-ghost use Rattle.uc_meaning.specs.Executions.{list_in, values_cleared};
+ghost use Rattle.uc_machine.specs.Executions.{list_in, values_cleared};
 ghost use Rattle.uc_frames.specs.Machine.{nought, cell_written};
 
 use crate::cell::{Cell, written_over};

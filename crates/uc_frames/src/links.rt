@@ -1,14 +1,14 @@
 // What travels with an execution besides its stack.
 
 ghost use Rattle.std.specs.Prelude.{◌≡◌, ◌<◌, None, Some, true, false};
-ghost use Rattle.uc_meaning.specs.Executions.{no_links, one_call_more, one_call_less};
-ghost use Rattle.uc_meaning.specs.Switches.{fresh_links, woken};
-ghost use Rattle.uc_meaning.specs.declared.exec.Stage.TheVariants.{Ended};
+ghost use Rattle.uc_machine.specs.Executions.{no_links, one_call_more, one_call_less};
+ghost use Rattle.uc_machine.specs.Switches.{fresh_links, woken};
+ghost use Rattle.uc_machine.specs.declared.exec.Stage.TheVariants.{Ended};
 ghost use Rattle.uc_tree.specs.declared.limits.TheConstants.{CALLS};
 
 use std::alloc::Global;
 use std::marker::Model;
-use uc_meaning::exec::{Exec, Pending, Stage};
+use uc_machine::exec::{Exec, Pending, Stage};
 
 /// Who resumed an execution first and last, whether its coroutine is live, how far its main is, who destroys it, its enabled and pending events, and its counts.
 #[derive(Drop)]
@@ -26,7 +26,7 @@ pub struct Links {
 }
 
 impl Model for Links {
-    ghost use Rattle.uc_meaning.specs.Executions.{Links};
+    ghost use Rattle.uc_machine.specs.Executions.{Links};
 
     ghost Value = { Links };
 

@@ -1,8 +1,9 @@
 // What is at home in a mutex object or in a task.
 
 ghost use Rattle.std.specs.Prelude.{◌≡◌, [], ◌∷◌, replicate, None, Some, IfOk, OnOk, OnErr, MatchOption, slice_index_or};
-ghost use Rattle.uc_meaning.specs.Executions.{find, joined, frame_changed, frames_changed};
-ghost use Rattle.uc_meaning.specs.Switches.{one_more, slot_set, slot_gone, live_changed};
+ghost use Rattle.uc_machine.specs.Executions.{joined, frame_changed, frames_changed};
+ghost use Rattle.uc_entry.specs.Keyed.{find};
+ghost use Rattle.uc_machine.specs.Switches.{one_more, slot_set, slot_gone, live_changed};
 ghost use Rattle.uc_frames.specs.Machine.{nought, cell_written};
 
 use crate::cell::Cell;
@@ -12,7 +13,7 @@ use crate::parked::Parked;
 use std::alloc::{AllocError, Global};
 use std::marker::Model;
 use std::mem;
-use uc_meaning::list::List;
+use uc_entry::list::List;
 
 /// The fields, how many executions were made here, and those that are left, in the order of their numbers, with nothing for one that runs.
 #[derive(Drop)]

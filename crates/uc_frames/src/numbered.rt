@@ -1,11 +1,12 @@
 // Numbered things, and whether two names are one.
 
 ghost use Rattle.std.specs.Prelude.{◌≡◌, ℕ, None, MatchOption};
-ghost use Rattle.uc_meaning.specs.Executions.{find, home_eq, exec_eq};
+ghost use Rattle.uc_machine.specs.Executions.{home_eq, exec_eq};
+ghost use Rattle.uc_entry.specs.Keyed.{find};
 ghost use Rattle.uc_frames.specs.Numbered.{Ascends, IsAt, IsBound};
 
-use uc_meaning::exec::{Exec, Home};
-use uc_meaning::list::List;
+use uc_entry::list::List;
+use uc_machine::exec::{Exec, Home};
 
 // Where the thing with that number stands.
 pub(crate) fn position<X>(list: &List<(u64, X)>, key: u64) -> Option<u32>

@@ -1,7 +1,7 @@
 // Operands, the newest last.
 
 ghost use Rattle.std.specs.Prelude.{◌≡◌, ◌∷◌, ◌-◌, ◌≤◌, [], drop, reverse, replicate, OnOk, OnErr, IfOk, vec_capacity};
-ghost use Rattle.uc_meaning.specs.Executions.{taken};
+ghost use Rattle.uc_machine.specs.Executions.{taken};
 ghost use Rattle.uc_frames.specs.Machine.{below, nought};
 ghost use Rattle.uc_frames.specs.Left.{call_frame};
 ghost use Rattle.uc_frames.specs.Unwinding.{operands_of};

@@ -1,9 +1,9 @@
 // An execution that does not run.
 
 ghost use Rattle.std.specs.Prelude.{◌≡◌, Some, IfOk, slice_index_or, false};
-ghost use Rattle.uc_meaning.specs.Executions.{at_depth, list_in, frame_changed};
-ghost use Rattle.uc_meaning.specs.Switches.{woken, unwound_there};
-ghost use Rattle.uc_meaning.specs.declared.exec.Reason.TheVariants as reason;
+ghost use Rattle.uc_machine.specs.Executions.{at_depth, list_in, frame_changed};
+ghost use Rattle.uc_machine.specs.Switches.{woken, unwound_there};
+ghost use Rattle.uc_machine.specs.declared.exec.Reason.TheVariants as reason;
 ghost use Rattle.uc_frames.specs.Machine.{nought, cell_written, fresh_execution};
 
 use crate::cell::Cell;
@@ -12,7 +12,7 @@ use std::alloc::{AllocError, Global};
 use std::marker::Model;
 use std::mem;
 use uc_code::rows::RoutineCode;
-use uc_meaning::exec::{Exec, Reason, Stage};
+use uc_machine::exec::{Exec, Reason, Stage};
 
 /// A stack in a place of its own, so that it is handed on without being moved. Contracts see the stack.
 #[derive(Drop)]
@@ -22,7 +22,7 @@ pub struct Parked {
 
 impl Model for Parked {
     ghost use Rattle.std.specs.Prelude.{ℕ};
-    ghost use Rattle.uc_meaning.specs.Executions.{Execution};
+    ghost use Rattle.uc_machine.specs.Executions.{Execution};
     ghost use Rattle.uc_frames.specs.declared.cell.Cell.{Cell};
 
     ghost Value = { Execution ℕ Cell };

@@ -1,14 +1,13 @@
 // Items that are printed at once.
 
 ghost use Rattle.std.specs.Prelude.{◌≡◌, ◌≤◌, [], length, OnOk, OnErr};
-ghost use Rattle.uc_tree.specs.declared.limits.TheConstants.{PRINT_ITEMS};
-ghost use Rattle.uc_meaning.specs.Quiet.{with_piece, print_of};
+ghost use Rattle.uc_entry.specs.declared.request.TheConstants.{PRINT_ITEMS};
+ghost use Rattle.uc_machine.specs.Quiet.{with_piece, print_of};
 ghost use Rattle.uc_frames.specs.Machine.{request_of};
 
 use std::alloc::{AllocError, Global};
 use std::marker::Model;
-use uc_meaning::request::{Piece, Request};
-use uc_tree::limits::PRINT_ITEMS;
+use uc_entry::request::{PRINT_ITEMS, Piece, Request};
 
 /// At most as many items as one request prints, the first one first.
 #[derive(Drop)]
@@ -18,8 +17,8 @@ pub struct Pieces {
 
 impl Model for Pieces {
     ghost use Rattle.std.specs.Prelude.{List, ◌≤◌, length};
-    ghost use Rattle.uc_tree.specs.declared.limits.TheConstants.{PRINT_ITEMS};
-    ghost use Rattle.uc_meaning.specs.declared.request.Piece.{Piece};
+    ghost use Rattle.uc_entry.specs.declared.request.TheConstants.{PRINT_ITEMS};
+    ghost use Rattle.uc_entry.specs.declared.request.Piece.{Piece};
 
     ghost Value = { List Piece };
 

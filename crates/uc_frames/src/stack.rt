@@ -1,13 +1,13 @@
 // The stack of one execution.
 
 ghost use Rattle.std.specs.Prelude.{◌≡◌, ◌∷◌, ◌-◌, ◌<◌, [], length, drop, replicate, reverse, nat_lt, None, Some, IfOk, OnOk, OnErr, MatchOption, vec_len, slice_get, slice_index_or, true, false};
-ghost use Rattle.uc_meaning.specs.Executions.{at_depth, list_in, frame_changed, values_cleared, one_call_less, calmed};
+ghost use Rattle.uc_machine.specs.Executions.{at_depth, list_in, frame_changed, values_cleared, one_call_less, calmed};
 ghost use Rattle.uc_frames.specs.Machine.{nought, top, below, cell_written, first_execution, fresh_execution, line_in, line_at};
 ghost use Rattle.uc_frames.specs.Left.{stack_left, stack_entered};
 ghost use Rattle.uc_frames.specs.Unwinding.{IsCaller, event_at, unwound_by, cleaning, catching, stack_passed, stack_handled};
-ghost use Rattle.uc_meaning.specs.Switches.{woken, unwound_there};
-ghost use Rattle.uc_meaning.specs.declared.exec.Reason.TheVariants as reason;
-ghost use Rattle.uc_meaning.specs.declared.exec.Stage.TheVariants.{Ended};
+ghost use Rattle.uc_machine.specs.Switches.{woken, unwound_there};
+ghost use Rattle.uc_machine.specs.declared.exec.Reason.TheVariants as reason;
+ghost use Rattle.uc_machine.specs.declared.exec.Stage.TheVariants.{Ended};
 ghost use Rattle.uc_tree.specs.declared.limits.TheConstants.{CALLS};
 
 use crate::active::Active;
@@ -21,7 +21,7 @@ use std::marker::Model;
 use std::mem;
 use uc_code::code::Code;
 use uc_code::rows::RoutineCode;
-use uc_meaning::exec::{Exec, Reason, Stage, Visited};
+use uc_machine::exec::{Exec, Reason, Stage, Visited};
 
 /// An execution: its newest activation, those that wait for it, its frames and its links. The lists of calls that have ended
 /// are kept, so that a call takes memory only where no call before it left enough.
@@ -37,7 +37,7 @@ pub struct Stack {
 
 impl Model for Stack {
     ghost use Rattle.std.specs.Prelude.{ℕ, ◌<◌, ◌^◌, map, reverse, vec_len};
-    ghost use Rattle.uc_meaning.specs.Executions.{Execution};
+    ghost use Rattle.uc_machine.specs.Executions.{Execution};
     ghost use Rattle.uc_frames.specs.declared.cell.Cell.{Cell};
 
     ghost Value = { Execution ℕ Cell };

@@ -2,9 +2,9 @@
 
 ghost use Rattle.std.specs.Prelude.{◌≡◌, ◌-◌, ◌<◌, ◌∷◌, [], length, nat_lt, None, Some, IfOk, OnOk, OnErr, MatchOption, slice_get, slice_index_or, drop, true};
 ghost use Rattle.std.specs.Option.{is_some, option_map};
-ghost use Rattle.uc_meaning.specs.Executions.{at_depth, list_in, frame_changed, frames_changed, values_cleared, members_at, slot_in, joined, change, exec_eq, calmed};
-ghost use Rattle.uc_meaning.specs.Switches.{born, ended, live_changed, slot_gone, slot_set, spread, stopped};
-ghost use Rattle.uc_meaning.specs.Quiet.{with_piece};
+ghost use Rattle.uc_machine.specs.Executions.{at_depth, list_in, frame_changed, frames_changed, values_cleared, members_at, slot_in, joined, change, exec_eq, calmed};
+ghost use Rattle.uc_machine.specs.Switches.{born, ended, live_changed, slot_gone, slot_set, spread, stopped};
+ghost use Rattle.uc_machine.specs.Quiet.{with_piece};
 ghost use Rattle.uc_frames.specs.Machine.{nought, top, below, cell_written, first_machine, fresh_execution, line_in, line_at};
 ghost use Rattle.uc_frames.specs.Left.{left, called};
 ghost use Rattle.uc_frames.specs.Unwinding.{IsCaller, event_at, unwound_by, cleaning, catching, passed, handled};
@@ -23,8 +23,8 @@ use std::alloc::{AllocError, Global};
 use std::marker::Model;
 use uc_code::code::Code;
 use uc_code::rows::RoutineCode;
-use uc_meaning::exec::{Exec, Home, Reason, Visited};
-use uc_meaning::request::Piece;
+use uc_entry::request::Piece;
+use uc_machine::exec::{Exec, Home, Reason, Visited};
 
 /// A task: the execution that runs, its own object, what is at home in it, its depth in each object, and the
 /// items that it gathers. Contracts see a machine with an empty hand.

@@ -2,11 +2,11 @@
 
 ghost use Rattle.std.specs.Prelude.{◌≡◌, ◌-◌, ◌<◌, ◌∷◌, [], length, nat_lt, None, Some, IfOk, OnOk, OnErr, MatchOption, slice_get, drop, pos, true, false};
 ghost use Rattle.std.specs.Option.{is_some, option_map};
-ghost use Rattle.uc_meaning.specs.Executions.{at_depth, calmed, exec_eq, frame_changed, frames_changed, members_at, parked_at, change, value_at, with_owned};
-ghost use Rattle.uc_meaning.specs.Switches.{born, ended, enlivened, forgotten, gone, home_in as home_of_owner, is_live, live_at, new_exec, set_slot, spread, stopped, switched, unwound_there, with_live, woken};
-ghost use Rattle.uc_meaning.specs.Raising.{home_of};
-ghost use Rattle.uc_meaning.specs.Quiet.{with_piece};
-ghost use Rattle.uc_meaning.specs.declared.exec.Reason.TheVariants as reason;
+ghost use Rattle.uc_machine.specs.Executions.{at_depth, calmed, exec_eq, frame_changed, frames_changed, members_at, parked_at, change, value_at, with_owned};
+ghost use Rattle.uc_machine.specs.Switches.{born, ended, enlivened, forgotten, gone, home_in as home_of_owner, is_live, live_at, new_exec, set_slot, spread, stopped, switched, unwound_there, with_live, woken};
+ghost use Rattle.uc_machine.specs.Raising.{home_of};
+ghost use Rattle.uc_machine.specs.Quiet.{with_piece};
+ghost use Rattle.uc_machine.specs.declared.exec.Reason.TheVariants as reason;
 ghost use Rattle.uc_frames.specs.Machine.{nought, top, below, cell_written, shifted, loaded, written, this_frame, cleared, with_hand, first_machine, exec_at, own_exec, resumed, home_at, set_up, line_in, line_at};
 ghost use Rattle.uc_frames.specs.Left.{left, called};
 ghost use Rattle.uc_frames.specs.Unwinding.{IsCaller, event_at, unwound_by, cleaning, catching, passed, handled};
@@ -25,9 +25,9 @@ use std::alloc::{AllocError, Global};
 use std::marker::Model;
 use uc_code::code::Code;
 use uc_code::rows::RoutineCode;
-use uc_meaning::exec::{Exec, Home, Owner, Reason, Stage, Visited};
-use uc_meaning::list::List;
-use uc_meaning::request::Piece;
+use uc_entry::list::List;
+use uc_entry::request::Piece;
+use uc_machine::exec::{Exec, Home, Owner, Reason, Stage, Visited};
 use uc_tree::limits::UNHANDLED;
 
 /// The members of the objects that a task is inside, by the objects' numbers.

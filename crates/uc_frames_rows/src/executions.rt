@@ -9,7 +9,7 @@ use uc_frames::members::Members;
 use uc_frames::parked::Parked;
 use uc_frames::task::Task;
 use uc_frames::work::{Hand, Work};
-use uc_meaning::exec::{Exec, Home, Owner, Reason, Stage};
+use uc_machine::exec::{Exec, Home, Owner, Reason, Stage};
 use uc_tree::limits::CALLS;
 
 /// The main of the task.

@@ -12,6 +12,7 @@ use crate::shown::{line, number, truth};
 use std::alloc::{AllocError, Global};
 use std::io;
 use uc_code::rows::RoutineCode;
+use uc_entry::request::{Piece, Request};
 use uc_frames::call::Call;
 use uc_frames::cell::{Cell, further_on, number_in};
 use uc_frames::event::{Event, Handling};
@@ -20,8 +21,7 @@ use uc_frames::pieces::print_request;
 use uc_frames::stack::Stack;
 use uc_frames::task::Task;
 use uc_frames::work::{Hand, Work};
-use uc_meaning::exec::{Exec, Home, Owner, Reason, Visited};
-use uc_meaning::request::{Piece, Request};
+use uc_machine::exec::{Exec, Home, Owner, Reason, Visited};
 use uc_tree::limits::CALLS;
 
 const MAIN: RoutineCode = RoutineCode {

@@ -5,9 +5,9 @@ use Rattle.uc_tree.specs.declared.kinds.Base.{Base}
 use Rattle.uc_tree.specs.Cells.{classes_of}
 use Rattle.uc_tree.specs.Statements.{Declarator, Stmt, stmts_of, Handler, handlers_of, Clause, clauses_of}
 use Rattle.uc_tree.specs.Programs.{Item, ClassItem, RoutineItem, ConstItem, ProtoItem, ForwardItem, UsingItem}
-use Rattle.uc_meaning.specs.ProgramVisits.{classes_in}
-use Rattle.uc_meaning.specs.declared.rules.Around.{Around}
-use Rattle.uc_meaning.specs.Scopes.{Env, declared, all_declared, env_after, env_behind, no_around, plain_env, with_around}
+use Rattle.uc_rules.specs.ProgramVisits.{classes_in}
+use Rattle.uc_rules.specs.declared.rules.Around.{Around}
+use Rattle.uc_rules.specs.Scopes.{Env, declared, all_declared, env_after, env_behind, no_around, plain_env, with_around}
 use Rattle.uc_front.specs.declared.place.Step.{Step}
 use Rattle.uc_front.specs.Places.{Node, AtStmt, AtLeaf, node_env, next_node, nth_node, behind_node, handler_node, handling_node, clause_node, accepted_node, env_along, env_from, reached}
 

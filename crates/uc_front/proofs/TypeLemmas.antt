@@ -1,10 +1,10 @@
 -- The first break of an expression that is a statement.
 use Rattle.std.proofs.Common.{◌≡◌, List, Bool, true, false, Option, Some, None, if◌then◌else◌, refl, ap, sym, ◌∙◌, subst}
-use Rattle.uc_meaning.specs.declared.rule.Break.{Break}
-use Rattle.uc_meaning.specs.Breaks.{breaks_among}
-use Rattle.uc_meaning.specs.Firsts.{after, is_owner_number}
-use Rattle.uc_meaning.specs.RuleNames.{rule_number}
-use Rattle.uc_meaning.specs.Visits.{Visit}
+use Rattle.uc_rules.specs.declared.rule.Break.{Break}
+use Rattle.uc_rules.specs.Breaks.{breaks_among}
+use Rattle.uc_rules.specs.Firsts.{after, is_owner_number}
+use Rattle.uc_rules.specs.RuleNames.{rule_number}
+use Rattle.uc_rules.specs.Visits.{Visit}
 use Rattle.uc_types.specs.Told.{noted}
 use Rattle.uc_types.proofs.Noted.{noted_is}
 use Rattle.uc_classes.proofs.First.{first_is, none_is, all_owners, no_owners}

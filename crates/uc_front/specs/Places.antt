@@ -5,10 +5,10 @@ use Rattle.uc_tree.specs.declared.kinds.Mark.{Mark}
 use Rattle.uc_tree.specs.Cells.{classes_of}
 use Rattle.uc_tree.specs.Statements.{Declarator, ForStart, NoFor, ForDeclare, ForEvaluate, Stmt, Block, Declare, If, While, Do, For, Try, Enable, Disable, Accept, Stmts, NoStmts, MoreStmts, MaybeStmt, NoStmt, OneStmt, Handler, Handles, Handlers, NoHandlers, MoreHandlers, Clause, Accepts, Clauses, NoClauses, MoreClauses}
 use Rattle.uc_tree.specs.Programs.{MemberForm, FieldsMember, RoutineMember, ProtoMember, Class, Item, ClassItem, RoutineItem, ConstItem, ProtoItem, ForwardItem, UsingItem, Program}
-use Rattle.uc_meaning.specs.declared.rules.Home.{Home}
-use Rattle.uc_meaning.specs.Scopes.{Env, opened, block_env, declared, with_caught, env_after, for_declared, no_around, class_around, plain_env, with_params}
-use Rattle.uc_meaning.specs.Visits.{handling, joined, looped}
-use Rattle.uc_meaning.specs.ProgramVisits.{outer_env, sig_env}
+use Rattle.uc_rules.specs.declared.rules.Home.{Home}
+use Rattle.uc_rules.specs.Scopes.{Env, opened, block_env, declared, with_caught, env_after, for_declared, no_around, class_around, plain_env, with_params}
+use Rattle.uc_rules.specs.Visits.{handling, joined, looped}
+use Rattle.uc_rules.specs.ProgramVisits.{outer_env, sig_env}
 use Rattle.uc_front.specs.declared.place.Step.{Step}
 use Rattle.uc_front.specs.declared.place.Step.TheVariants as to
 

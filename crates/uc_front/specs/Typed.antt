@@ -5,20 +5,20 @@ use Rattle.uc_tree.specs.declared.kinds.Base.TheVariants as base
 use Rattle.uc_tree.specs.declared.kinds.Ty.{Ty}
 use Rattle.uc_tree.specs.Expressions.{Expr}
 use Rattle.uc_tree.specs.Programs.{Class, Program}
-use Rattle.uc_meaning.specs.declared.checked.RuleFault.{RuleFault}
-use Rattle.uc_meaning.specs.declared.checked.RuleFault.TheVariants.{Rule, NoMemory}
-use Rattle.uc_meaning.specs.declared.rule.Break.{Break}
-use Rattle.uc_meaning.specs.declared.rules.Sort.{Sort}
-use Rattle.uc_meaning.specs.declared.rules.Sort.TheVariants as sort
-use Rattle.uc_meaning.specs.declared.rules.Entity.{Entity}
-use Rattle.uc_meaning.specs.declared.rules.Entity.TheVariants as entity
-use Rattle.uc_meaning.specs.Breaks.{breaks_among}
-use Rattle.uc_meaning.specs.Entities.{entity_of}
-use Rattle.uc_meaning.specs.Firsts.{IsFirst, is_owner_number}
-use Rattle.uc_meaning.specs.RuleNames.{rule_number}
-use Rattle.uc_meaning.specs.Scopes.{Env}
-use Rattle.uc_meaning.specs.Sorts.{class_at}
-use Rattle.uc_meaning.specs.Visits.{statement_visits}
+use Rattle.uc_rules.specs.declared.checked.RuleFault.{RuleFault}
+use Rattle.uc_rules.specs.declared.checked.RuleFault.TheVariants.{Rule, NoMemory}
+use Rattle.uc_rules.specs.declared.rule.Break.{Break}
+use Rattle.uc_rules.specs.declared.rules.Sort.{Sort}
+use Rattle.uc_rules.specs.declared.rules.Sort.TheVariants as sort
+use Rattle.uc_rules.specs.declared.rules.Entity.{Entity}
+use Rattle.uc_rules.specs.declared.rules.Entity.TheVariants as entity
+use Rattle.uc_rules.specs.Breaks.{breaks_among}
+use Rattle.uc_rules.specs.Entities.{entity_of}
+use Rattle.uc_rules.specs.Firsts.{IsFirst, is_owner_number}
+use Rattle.uc_rules.specs.RuleNames.{rule_number}
+use Rattle.uc_rules.specs.Scopes.{Env}
+use Rattle.uc_rules.specs.Sorts.{class_at}
+use Rattle.uc_rules.specs.Visits.{statement_visits}
 
 abbrev pub class_base : Option Class → Base
 class_base None = base.Void

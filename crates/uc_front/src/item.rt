@@ -2,8 +2,8 @@
 
 ghost use Rattle.std.specs.Prelude.{◌≡◌, ◌≤◌, IfOk, length};
 ghost use Rattle.uc_tree.specs.Cells.{classes_of};
-ghost use Rattle.uc_meaning.specs.ProgramVisits.{classes_in};
-ghost use Rattle.uc_meaning.specs.Scopes.{no_around, plain_env, with_params};
+ghost use Rattle.uc_rules.specs.ProgramVisits.{classes_in};
+ghost use Rattle.uc_rules.specs.Scopes.{no_around, plain_env, with_params};
 ghost use Rattle.uc_front.specs.Places.{AtBody, AtLeaf, class_home, class_node, env_along, env_from, form_node, item_node, member_node, outer_node, place_env, reached};
 
 use crate::outer::outer_around;
@@ -11,7 +11,7 @@ use crate::place::{Place, Step};
 use crate::walk::{add_params, follow_body, is_end};
 use std::alloc::AllocError;
 use uc_classes::class::{class_around, sig_around};
-use uc_meaning::rules::Home;
+use uc_rules::rules::Home;
 use uc_tree::class::{Class, Member, MemberForm, Routine, Sig};
 use uc_tree::program::{Item, ItemForm};
 use uc_types::names::Names;

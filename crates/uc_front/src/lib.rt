@@ -2,8 +2,8 @@
 #![tactic(auto)]
 
 ghost use Rattle.std.specs.Prelude.{◌≡◌, [], IfErr, IfOk};
-ghost use Rattle.uc_meaning.specs.Breaks.{breaks_of};
-ghost use Rattle.uc_meaning.specs.FirstRule.{IsFaultOf};
+ghost use Rattle.uc_rules.specs.Breaks.{breaks_of};
+ghost use Rattle.uc_rules.specs.FirstRule.{IsFaultOf};
 
 mod item;
 mod outer;
@@ -13,9 +13,9 @@ mod walk;
 
 use std::alloc::{AllocError, Global};
 use uc_classes::check::first_break;
-use uc_meaning::checked::{Checked, RuleFault};
 use uc_numbers::sites::sites_of;
 use uc_numbers::texts::texts_of;
+use uc_rules::checked::{Checked, RuleFault};
 use uc_tree::program::Program;
 
 fn number(alloc: Global, program: Program) -> Result<Checked, AllocError>

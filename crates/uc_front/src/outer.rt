@@ -3,13 +3,13 @@
 
 ghost use Rattle.std.specs.Prelude.{◌≡◌};
 ghost use Rattle.uc_tree.specs.ProgramViews.{member_form_at};
-ghost use Rattle.uc_meaning.specs.ProgramVisits.{form_declares, is_of_main, mark_among, mark_in, outer_env, outer_mark};
-ghost use Rattle.uc_meaning.specs.Sorts.{class_at};
+ghost use Rattle.uc_rules.specs.ProgramVisits.{form_declares, is_of_main, mark_among, mark_in, outer_env, outer_mark};
+ghost use Rattle.uc_rules.specs.Sorts.{class_at};
 
 use uc_classes::class::sig_around;
 use uc_declares::item::owner_home;
 use uc_declares::sig::same_role;
-use uc_meaning::rules::{Around, Home};
+use uc_rules::rules::{Around, Home};
 use uc_tree::class::{Member, MemberForm, Sig};
 use uc_tree::kinds::{Mark, Owner};
 use uc_types::tables::Tables;

@@ -1,11 +1,11 @@
 // The types of expressions.
 
 ghost use Rattle.std.specs.Prelude.{◌≡◌, IfErr, IfOk, OnOk, Some, is_some};
-ghost use Rattle.uc_meaning.specs.Entities.{entity_of};
-ghost use Rattle.uc_meaning.specs.Firsts.{is_owner_number};
-ghost use Rattle.uc_meaning.specs.Scopes.{Env};
-ghost use Rattle.uc_meaning.specs.Sorts.{class_at};
-ghost use Rattle.uc_meaning.specs.Visits.{statement_visits};
+ghost use Rattle.uc_rules.specs.Entities.{entity_of};
+ghost use Rattle.uc_rules.specs.Firsts.{is_owner_number};
+ghost use Rattle.uc_rules.specs.Scopes.{Env};
+ghost use Rattle.uc_rules.specs.Sorts.{class_at};
+ghost use Rattle.uc_rules.specs.Visits.{statement_visits};
 ghost use Rattle.uc_types.specs.Told.{noted};
 ghost use Rattle.uc_front.specs.Places.{place_env};
 ghost use Rattle.uc_front.specs.Typed.{AreOfOwners, IsTextFaultOf, class_base, entity_type, expr_type, given_type, sort_base, statement_breaks, text_break, type_with};
@@ -16,9 +16,9 @@ use std::alloc::{AllocError, Global};
 use uc_bodies::judge::ask_statement;
 use uc_classes::item::no_around;
 use uc_classes::tabled::tables_of;
-use uc_meaning::checked::RuleFault;
-use uc_meaning::rule::Break;
-use uc_meaning::rules::{Entity, Sort};
+use uc_rules::checked::RuleFault;
+use uc_rules::rule::Break;
+use uc_rules::rules::{Entity, Sort};
 use uc_tree::expr::Expr;
 use uc_tree::kinds::{Base, Ty};
 use uc_tree::program::Program;

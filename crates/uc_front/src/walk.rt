@@ -3,8 +3,8 @@
 ghost use Rattle.std.specs.Prelude.{◌≡◌, IfOk, OnOk, Option, Some};
 ghost use Rattle.uc_tree.specs.StatementViews.{maybe_at};
 ghost use Rattle.uc_tree.specs.Statements.{clauses_of, handlers_of, stmts_of};
-ghost use Rattle.uc_meaning.specs.Scopes.{Env, all_declared, block_env, env_after, env_behind, for_declared, opened, with_params};
-ghost use Rattle.uc_meaning.specs.Visits.{looped};
+ghost use Rattle.uc_rules.specs.Scopes.{Env, all_declared, block_env, env_after, env_behind, for_declared, opened, with_params};
+ghost use Rattle.uc_rules.specs.Visits.{looped};
 ghost use Rattle.uc_front.specs.Places.{AtBody, AtLeaf, AtStmt, accept_node, accepted_node, behind_node, block_node, body_node, clause_node, declaration_node, env_along, env_from, for_node, handler_node, handling_node, head_node, held_node, if_node, inner_node, lone_node, maybe_node, nth_node, reached, try_node};
 
 use crate::place::Step;

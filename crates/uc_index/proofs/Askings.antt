@@ -5,10 +5,10 @@ use Rattle.uc_tree.specs.declared.kinds.Owner.TheVariants as owner
 use Rattle.uc_tree.specs.declared.kinds.Forward.{Forward}
 use Rattle.uc_tree.specs.Names.{same_name}
 use Rattle.uc_tree.specs.Programs.{Sig, MemberForm, FieldsMember, RoutineMember, ProtoMember, Item, ClassItem, RoutineItem, ConstItem, ProtoItem, ForwardItem, UsingItem}
-use Rattle.uc_meaning.specs.Names.{is_constructor, is_here}
-use Rattle.uc_meaning.specs.ProgramVisits.{form_declares, same_role}
-use Rattle.uc_meaning.specs.ClassBreaks.{builds_more, is_empty_body, is_owner}
-use Rattle.uc_meaning.specs.ItemBreaks.{declares_sig, defines_member, defines_member_sig, defines_name, defines_sig, form_declares_sig, is_class_of, is_named, is_named_proto, same_sig}
+use Rattle.uc_rules.specs.Names.{is_constructor, is_here}
+use Rattle.uc_rules.specs.ProgramVisits.{form_declares, same_role}
+use Rattle.uc_rules.specs.ClassBreaks.{builds_more, is_empty_body, is_owner}
+use Rattle.uc_rules.specs.ItemBreaks.{declares_sig, defines_member, defines_member_sig, defines_name, defines_sig, form_declares_sig, is_class_of, is_named, is_named_proto, same_sig}
 use Rattle.uc_index.specs.Keys.{kind_key, member_key, member_sig_key, role_key, sig_key}
 use Rattle.uc_index.specs.Topics.{built_class, class_key, class_of, form_role_key, form_sig_key, member_of, member_sig_of, owned_key, owned_sig_key, proto_key, proto_name, routine_key, routine_name}
 use Rattle.uc_index.proofs.KeysLemmas.{kinds_back, member_sigs_back, members_back, rolled_back, sigs_back, sigs_same}

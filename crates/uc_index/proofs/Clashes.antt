@@ -3,7 +3,7 @@ use Rattle.std.proofs.Common.{◌≡◌, ℕ, List, [], ◌∷◌, Bool, true, f
 use Rattle.std.specs.List.{list_any}
 use Rattle.uc_tree.specs.declared.kinds.Forward.{Forward}
 use Rattle.uc_tree.specs.Programs.{Sig, Routine, Class, Constant, Item, ClassItem, RoutineItem, ConstItem, ProtoItem, ForwardItem, UsingItem}
-use Rattle.uc_meaning.specs.ItemBreaks.{are_one, clashes, is_named, item_name}
+use Rattle.uc_rules.specs.ItemBreaks.{are_one, clashes, is_named, item_name}
 use Rattle.uc_index.specs.Clashing.{clash_by}
 use Rattle.uc_index.specs.Topics.{class_name, constant_name, forward_name, proto_name, routine_name}
 

@@ -6,7 +6,7 @@ use Rattle.std.proofs.lemmas.Bool.Decides.{nat_tests}
 use Rattle.std.proofs.lemmas.List.{take_more}
 use Rattle.uc_tree.specs.Names.{same_name}
 use Rattle.uc_names.specs.Blocks.{Block, id_in, id_or, found}
-use Rattle.uc_meaning.specs.ItemBreaks.{is_named}
+use Rattle.uc_rules.specs.ItemBreaks.{is_named}
 use Rattle.uc_index.specs.Firsts.{AreFirsts, first_from, is_before, noted, noted_as}
 
 known_or : (o other : Option ℕ) → is_some o ≡ true → id_or o other ≡ o

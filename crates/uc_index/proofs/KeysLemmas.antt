@@ -10,8 +10,8 @@ use Rattle.uc_tree.specs.declared.kinds.Role.{Role}
 use Rattle.uc_tree.specs.declared.kinds.Role.TheVariants as role
 use Rattle.uc_tree.specs.Names.{same_name}
 use Rattle.uc_tree.specs.Programs.{Sig}
-use Rattle.uc_meaning.specs.ProgramVisits.{same_role}
-use Rattle.uc_meaning.specs.ItemBreaks.{same_base, same_flag, same_kind, same_params, same_sig}
+use Rattle.uc_rules.specs.ProgramVisits.{same_role}
+use Rattle.uc_rules.specs.ItemBreaks.{same_base, same_flag, same_kind, same_params, same_sig}
 use Rattle.uc_index.specs.Keys.{base_key, flag_byte, kind_byte, kind_key, member_key, member_sig_key, name_key, params_key, role_byte, role_key, sig_key}
 
 and_again : (a b c : Bool) → (a && (b && c)) ≡ ((a && b) && c)

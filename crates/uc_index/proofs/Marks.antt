@@ -3,8 +3,8 @@ use Rattle.std.proofs.Common.{◌≡◌, ℕ, suc, ◌+◌, ◌-◌, ◌≤◌, 
 use Rattle.std.specs.Prelude.{slice_get}
 use Rattle.uc_tree.specs.declared.kinds.Mark.TheVariants as mark
 use Rattle.uc_tree.specs.Programs.{Sig, Member}
-use Rattle.uc_meaning.specs.ItemBreaks.{is_named}
-use Rattle.uc_meaning.specs.ProgramVisits.{mark_among}
+use Rattle.uc_rules.specs.ItemBreaks.{is_named}
+use Rattle.uc_rules.specs.ProgramVisits.{mark_among}
 use Rattle.uc_index.specs.Firsts.{first_from}
 use Rattle.uc_index.specs.Keys.{role_key}
 use Rattle.uc_index.specs.Marked.{mark_at, mark_of}

@@ -2,7 +2,7 @@
 use Rattle.std.specs.Prelude.{◌≡◌, ℕ, ◌+◌, List, [], ◌∷◌, Bool, true, false, Option, Some, None, nat_lt, length, if◌then◌else◌}
 use Rattle.std.specs.List.{list_any}
 use Rattle.uc_names.specs.Blocks.{Block, declared, found, is_declared}
-use Rattle.uc_meaning.specs.ItemBreaks.{is_named}
+use Rattle.uc_rules.specs.ItemBreaks.{is_named}
 
 -- whether one of these has the name
 abbrev pub any_named : {A : Type 0} → (A → Option (List ℕ)) → List ℕ → List A → Bool

@@ -3,9 +3,9 @@ use Rattle.std.specs.Prelude.{ℕ, List, not, ◌&&◌, Option, Some, None, if�
 use Rattle.uc_tree.specs.declared.kinds.Owner.{Owner}
 use Rattle.uc_tree.specs.declared.kinds.Owner.TheVariants as owner
 use Rattle.uc_tree.specs.Programs.{Sig, Routine, Member, MemberForm, FieldsMember, RoutineMember, ProtoMember, Item, ClassItem, RoutineItem, ConstItem, ProtoItem, ForwardItem, UsingItem}
-use Rattle.uc_meaning.specs.Names.{is_constructor, is_here}
-use Rattle.uc_meaning.specs.ClassBreaks.{is_empty_body}
-use Rattle.uc_meaning.specs.ItemBreaks.{outer_name}
+use Rattle.uc_rules.specs.Names.{is_constructor, is_here}
+use Rattle.uc_rules.specs.ClassBreaks.{is_empty_body}
+use Rattle.uc_rules.specs.ItemBreaks.{outer_name}
 use Rattle.uc_index.specs.Keys.{sig_key, role_key, member_key, member_sig_key, kind_key}
 use Rattle.uc_index.specs.declared.topics.NameTopic.{NameTopic}
 use Rattle.uc_index.specs.declared.topics.NameTopic.TheVariants as name_topic

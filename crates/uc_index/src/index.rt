@@ -2,10 +2,10 @@
 
 ghost use Rattle.std.specs.Prelude.{◌≡◌, ◌&&◌, ◌||◌, IfOk, not, take};
 ghost use Rattle.std.specs.List.{list_any};
-ghost use Rattle.uc_meaning.specs.ClassBreaks.{builds_more};
-ghost use Rattle.uc_meaning.specs.ItemBreaks.{clashes, class_declares, declares_sig, defines_member, defines_member_sig, defines_name, defines_sig, is_class_of, is_named_proto};
-ghost use Rattle.uc_meaning.specs.ProgramVisits.{mark_in};
-ghost use Rattle.uc_meaning.specs.Sorts.{class_at};
+ghost use Rattle.uc_rules.specs.ClassBreaks.{builds_more};
+ghost use Rattle.uc_rules.specs.ItemBreaks.{clashes, class_declares, declares_sig, defines_member, defines_member_sig, defines_name, defines_sig, is_class_of, is_named_proto};
+ghost use Rattle.uc_rules.specs.ProgramVisits.{mark_in};
+ghost use Rattle.uc_rules.specs.Sorts.{class_at};
 ghost use Rattle.uc_index.specs.Clashing.{clash_by};
 ghost use Rattle.uc_index.specs.Firsts.{any_named};
 ghost use Rattle.uc_index.specs.Indexed.{AreKeyed, AreNamed};

@@ -2,9 +2,9 @@
 
 ghost use Rattle.std.specs.Prelude.{◌≡◌, IfOk, None, Some, option_map};
 ghost use Rattle.uc_tree.specs.Statements.{stmts_of};
-ghost use Rattle.uc_meaning.specs.ClassBreaks.{is_empty_body};
-ghost use Rattle.uc_meaning.specs.ItemBreaks.{outer_name};
-ghost use Rattle.uc_meaning.specs.Names.{is_constructor, is_here};
+ghost use Rattle.uc_rules.specs.ClassBreaks.{is_empty_body};
+ghost use Rattle.uc_rules.specs.ItemBreaks.{outer_name};
+ghost use Rattle.uc_rules.specs.Names.{is_constructor, is_here};
 ghost use Rattle.uc_index.specs.Firsts.{AreFirsts};
 ghost use Rattle.uc_index.specs.Topics.{built_by, built_class, class_name, class_of, constant_name, forward_name, name_of, proto_name, routine_name};
 

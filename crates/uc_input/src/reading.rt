@@ -5,9 +5,9 @@ ghost use Rattle.std.specs.List.{prefix_len};
 ghost use Rattle.uc_tree.specs.Bytes.{is_white, is_digit};
 ghost use Rattle.uc_tree.specs.Tokens.{value_of};
 ghost use Rattle.uc_tree.specs.declared.limits.TheConstants.{INPUT_BYTES};
-ghost use Rattle.uc_meaning.specs.Reading.{ranged, signed, missed, got, got_int, got_char, got_signed};
+ghost use Rattle.uc_acts.specs.Reading.{ranged, signed, missed, got, got_int, got_char, got_signed};
 
-use uc_meaning::got::Got;
+use uc_acts::got::Got;
 use uc_tree::bytes::{digits_value, is_digit, is_white};
 use uc_tree::limits::{INPUT_BYTES, INT_MAX, INT_MIN};
 

@@ -10,14 +10,14 @@ use Rattle.std.proofs.lemmas.Fmt.{decimal_digit}
 use Rattle.std.specs.Prelude.{◌<ℤ◌, ◌≤ℤ◌}
 use Rattle.std.proofs.lemmas.Int.{ints}
 use Rattle.std.proofs.lemmas.List.{take_at, drop_at, take-append-drop, take_more}
-use Rattle.uc_meaning.specs.declared.entry.Entry.{Entry}
-use Rattle.uc_meaning.specs.declared.entry.EntryKind.{EntryKind}
-use Rattle.uc_meaning.specs.declared.entry.EntryKind.TheVariants as kind
-use Rattle.uc_meaning.specs.declared.field.FieldType.{FieldType}
-use Rattle.uc_meaning.specs.declared.field.FieldType.TheVariants.{Absent, Byte, Short, Word, Natural, Integer}
-use Rattle.uc_meaning.specs.Journal.{number}
-use Rattle.uc_meaning.specs.Texts.{word_of, line, spaced}
-use Rattle.uc_meaning.specs.Fit.{IsOf, AreOf, IsFit, types_of, numbers_of}
+use Rattle.uc_entry.specs.declared.entry.Entry.{Entry}
+use Rattle.uc_entry.specs.declared.entry.EntryKind.{EntryKind}
+use Rattle.uc_entry.specs.declared.entry.EntryKind.TheVariants as kind
+use Rattle.uc_acts.specs.declared.field.FieldType.{FieldType}
+use Rattle.uc_acts.specs.declared.field.FieldType.TheVariants.{Absent, Byte, Short, Word, Natural, Integer}
+use Rattle.uc_acts.specs.Journal.{number}
+use Rattle.uc_acts.specs.Texts.{word_of, line, spaced}
+use Rattle.uc_acts.specs.Fit.{IsOf, AreOf, IsFit, types_of, numbers_of}
 use Rattle.uc_journal.specs.Fields.{AreFields, AreIntegers, all_spaced, IsLine}
 use Rattle.uc_journal.proofs.Words.{same_kind, word_first, no_space}
 use Rattle.uc_journal.proofs.Numbers.{same_fields}

@@ -5,12 +5,12 @@ use Rattle.std.specs.List.{list_all, concat}
 use Rattle.std.proofs.lemmas.List.{length-map, take_more, nil_from_length, get_or-map, get_or_append_left, get_or-append_right}
 use Rattle.std.proofs.lemmas.Bool.Decides.{nat_tests}
 use Rattle.uc_tree.specs.Bytes.{is_digit}
-use Rattle.uc_meaning.specs.declared.entry.Entry.{Entry}
-use Rattle.uc_meaning.specs.declared.entry.EntryKind.TheVariants as kind
-use Rattle.uc_meaning.specs.declared.field.FieldType.TheVariants.{Integer}
-use Rattle.uc_meaning.specs.Journal.{Journal}
-use Rattle.uc_meaning.specs.Texts.{word_of, line, text, spaced}
-use Rattle.uc_meaning.specs.Fit.{IsOf, IsFit, AreFit, types_of, numbers_of}
+use Rattle.uc_entry.specs.declared.entry.Entry.{Entry}
+use Rattle.uc_entry.specs.declared.entry.EntryKind.TheVariants as kind
+use Rattle.uc_acts.specs.declared.field.FieldType.TheVariants.{Integer}
+use Rattle.uc_acts.specs.Journal.{Journal}
+use Rattle.uc_acts.specs.Texts.{word_of, line, text, spaced}
+use Rattle.uc_acts.specs.Fit.{IsOf, IsFit, AreFit, types_of, numbers_of}
 use Rattle.uc_journal.specs.declared.read.JournalFault.{JournalFault}
 use Rattle.uc_journal.specs.declared.read.JournalFault.TheVariants.{BadLine, NoMemory}
 use Rattle.uc_journal.specs.Fields.{IsLine, AreIntegers, all_spaced}

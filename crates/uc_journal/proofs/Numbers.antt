@@ -5,9 +5,9 @@ use Rattle.std.specs.Prelude.{decimal}
 use Rattle.std.proofs.lemmas.Int.{ints}
 use Rattle.std.proofs.lemmas.Fmt.{decimal_nonempty}
 use Rattle.uc_tree.specs.Bytes.{is_digit}
-use Rattle.uc_meaning.specs.declared.field.FieldType.TheVariants.{Integer}
-use Rattle.uc_meaning.specs.Texts.{spaced}
-use Rattle.uc_meaning.specs.Fit.{IsOf}
+use Rattle.uc_acts.specs.declared.field.FieldType.TheVariants.{Integer}
+use Rattle.uc_acts.specs.Texts.{spaced}
+use Rattle.uc_acts.specs.Fit.{IsOf}
 use Rattle.uc_journal.specs.Fields.{Ends, IsNatural, IsNumber, IsField, AreFields, all_spaced}
 use Rattle.uc_journal.proofs.Digits.{Digits, digits_of, same_natural}
 

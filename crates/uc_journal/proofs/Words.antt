@@ -4,9 +4,9 @@ use Rattle.std.specs.Prelude.{Option, Some, None, find, nat_eq, not, ◌&&◌, I
 use Rattle.std.specs.Cmp.Lexicographic.{same_text}
 use Rattle.std.specs.List.{prefix_len, list_all}
 use lib.Pointwise.{pointwise}
-use Rattle.uc_meaning.specs.declared.entry.EntryKind.{EntryKind}
-use Rattle.uc_meaning.specs.declared.entry.EntryKind.TheVariants as kind
-use Rattle.uc_meaning.specs.Texts.{word_of}
+use Rattle.uc_entry.specs.declared.entry.EntryKind.{EntryKind}
+use Rattle.uc_entry.specs.declared.entry.EntryKind.TheVariants as kind
+use Rattle.uc_acts.specs.Texts.{word_of}
 use Rattle.uc_journal.specs.declared.word.TheConstants.{KINDS}
 
 abbrev pub has : List ℕ → EntryKind → Bool

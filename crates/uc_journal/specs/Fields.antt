@@ -2,10 +2,10 @@
 use Rattle.std.specs.Prelude.{◌≡◌, ℕ, ℤ, List, [], ◌∷◌, ◌++◌, false, decimal}
 use Rattle.std.specs.Fmt.{signed_decimal}
 use Rattle.uc_tree.specs.Bytes.{is_digit}
-use Rattle.uc_meaning.specs.declared.entry.Entry.{Entry}
-use Rattle.uc_meaning.specs.declared.field.FieldType.TheVariants.{Integer}
-use Rattle.uc_meaning.specs.Texts.{spaced, line}
-use Rattle.uc_meaning.specs.Fit.{IsOf, IsFit}
+use Rattle.uc_entry.specs.declared.entry.Entry.{Entry}
+use Rattle.uc_acts.specs.declared.field.FieldType.TheVariants.{Integer}
+use Rattle.uc_acts.specs.Texts.{spaced, line}
+use Rattle.uc_acts.specs.Fit.{IsOf, IsFit}
 
 -- no digit stands first
 abbrev pub Ends : List ℕ → Type 0

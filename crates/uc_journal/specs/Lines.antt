@@ -1,9 +1,9 @@
 -- The lines of a text, and the first that is no entry's text.
 use Rattle.std.specs.Prelude.{◌≡◌, ℕ, suc, ◌==◌, ◌<◌, List, [], ◌∷◌, length, slice_index_or, if◌then◌else◌}
-use Rattle.uc_meaning.specs.declared.entry.Entry.{Entry}
-use Rattle.uc_meaning.specs.Journal.{Journal}
-use Rattle.uc_meaning.specs.Texts.{line, text}
-use Rattle.uc_meaning.specs.Fit.{IsFit, AreFit}
+use Rattle.uc_entry.specs.declared.entry.Entry.{Entry}
+use Rattle.uc_acts.specs.Journal.{Journal}
+use Rattle.uc_acts.specs.Texts.{line, text}
+use Rattle.uc_acts.specs.Fit.{IsFit, AreFit}
 use Rattle.uc_journal.specs.declared.read.JournalFault.{JournalFault}
 use Rattle.uc_journal.specs.declared.read.JournalFault.TheVariants.{BadLine, NoMemory}
 

@@ -2,15 +2,15 @@
 
 ghost use Rattle.std.specs.Prelude.{◌≡◌, ◌≤◌, ◌==◌, ◌∷◌, ℕ, List, not, length, IfSome, IfNone, IsTrue, ◌↔◌};
 ghost use Rattle.std.specs.List.{prefix_len};
-ghost use Rattle.uc_meaning.specs.declared.entry.Entry.{Entry};
-ghost use Rattle.uc_meaning.specs.Fit as fit;
+ghost use Rattle.uc_entry.specs.declared.entry.Entry.{Entry};
+ghost use Rattle.uc_acts.specs.Fit as fit;
 ghost use Rattle.uc_journal.specs.Fields.{IsLine};
 
 use crate::fields::read_fields;
 use crate::types::{is_of, types_of};
 use crate::word::kind_of;
-use uc_meaning::entry::{Entry, EntryKind};
-use uc_meaning::field::FieldType;
+use uc_acts::field::FieldType;
+use uc_entry::entry::{Entry, EntryKind};
 
 /// An entry, and what stands behind its line.
 #[derive(Clone, Copy)]

@@ -1,12 +1,12 @@
 // Reads the text of a journal.
 
 ghost use Rattle.std.specs.Prelude.{◌≡◌, IfOk, IfErr};
-ghost use Rattle.uc_meaning.specs.Journal.{Journal};
+ghost use Rattle.uc_acts.specs.Journal.{Journal};
 ghost use Rattle.uc_journal.specs.Lines.{IsTextOf, IsFault, HasNoJournal, NamesLineBehind};
 
 use crate::line::read_line;
 use std::alloc::Global;
-use uc_meaning::entry::Entry;
+use uc_entry::entry::Entry;
 
 /// Why a text is not read as a journal.
 #[derive(Clone, Copy, PartialEq, Eq, Debug)]

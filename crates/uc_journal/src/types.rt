@@ -1,10 +1,10 @@
 // The types of the fields of each kind of entry.
 
 ghost use Rattle.std.specs.Prelude.{◌≡◌, ◌↔◌, IsTrue};
-ghost use Rattle.uc_meaning.specs.Fit as fit;
+ghost use Rattle.uc_acts.specs.Fit as fit;
 
-use uc_meaning::entry::EntryKind;
-use uc_meaning::field::FieldType::{self, Absent, Byte, Integer, Natural, Short, Word};
+use uc_acts::field::FieldType::{self, Absent, Byte, Integer, Natural, Short, Word};
+use uc_entry::entry::EntryKind;
 
 /// The types of the fields of a kind: processor, task, ticks, object, a, b, c, d.
 pub(crate) fn types_of(kind: EntryKind) -> [FieldType; 8]

@@ -2,10 +2,10 @@
 
 ghost use Rattle.std.specs.Prelude.{◌≡◌, IfSome, IfNone, find, nat_eq};
 ghost use lib.Pointwise.{pointwise};
-ghost use Rattle.uc_meaning.specs.declared.entry.EntryKind.{EntryKind};
-ghost use Rattle.uc_meaning.specs.Texts as texts;
+ghost use Rattle.uc_entry.specs.declared.entry.EntryKind.{EntryKind};
+ghost use Rattle.uc_acts.specs.Texts as texts;
 
-use uc_meaning::entry::EntryKind;
+use uc_entry::entry::EntryKind;
 
 // Every kind of entry, the most frequent first.
 const KINDS: [EntryKind; 34] = [

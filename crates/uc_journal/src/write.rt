@@ -2,15 +2,15 @@
 
 ghost use Rattle.std.specs.Prelude.{◌≡◌, ◌≤◌, ◌+◌, ◌++◌, IfOk, OnOk, take, length, [], ◌∷◌};
 ghost use Rattle.std.specs.Fmt.{signed_decimal};
-ghost use Rattle.uc_meaning.specs.Texts as texts;
-ghost use Rattle.uc_meaning.specs.Fit as fit;
+ghost use Rattle.uc_acts.specs.Texts as texts;
+ghost use Rattle.uc_acts.specs.Fit as fit;
 ghost use Rattle.uc_journal.specs.Fields.{all_spaced};
 ghost use Rattle.uc_journal.specs.Lines.{IsTextOf};
 
 use crate::word::word_of;
 use itoa::Buffer;
 use std::alloc::{AllocError, Global};
-use uc_meaning::entry::Entry;
+use uc_entry::entry::Entry;
 
 /// Bytes of a buffer that takes the text of any entry.
 const LINE_BYTES: usize = 256;

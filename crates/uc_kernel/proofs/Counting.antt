@@ -4,17 +4,17 @@ use Rattle.std.specs.Prelude.{nat_lt}
 use Rattle.std.proofs.lemmas.Bool.{ltb-true}
 use Rattle.uc_tree.specs.Programs.{Site}
 use Rattle.uc_tree.specs.declared.limits.TheConstants.{TASKS}
-use Rattle.uc_meaning.specs.declared.entry.Entry.{Entry}
-use Rattle.uc_meaning.specs.declared.entry.EntryKind.{EntryKind}
-use Rattle.uc_meaning.specs.declared.entry.EntryKind.TheVariants as kind
-use Rattle.uc_meaning.specs.declared.entry.Options.{Options}
-use Rattle.uc_meaning.specs.declared.request.Request.{Request}
-use Rattle.uc_meaning.specs.declared.request.Request.TheVariants as ask
-use Rattle.uc_meaning.specs.Journal.{Journal, begin}
-use Rattle.uc_meaning.specs.Known.{task_count, is_spawn}
-use Rattle.uc_meaning.specs.Acts.{act, dispatch, lone_limit}
-use Rattle.uc_meaning.specs.KernelRuns.{KernelRuns, Fits, begun, more, gives, no_room, acts}
-use Rattle.uc_meaning.proofs.Sound.{tasks_push, plus}
+use Rattle.uc_entry.specs.declared.entry.Entry.{Entry}
+use Rattle.uc_entry.specs.declared.entry.EntryKind.{EntryKind}
+use Rattle.uc_entry.specs.declared.entry.EntryKind.TheVariants as kind
+use Rattle.uc_entry.specs.declared.entry.Options.{Options}
+use Rattle.uc_entry.specs.declared.request.Request.{Request}
+use Rattle.uc_entry.specs.declared.request.Request.TheVariants as ask
+use Rattle.uc_acts.specs.Journal.{Journal, begin}
+use Rattle.uc_acts.specs.Known.{task_count, is_spawn}
+use Rattle.uc_acts.specs.Acts.{act, dispatch, lone_limit}
+use Rattle.uc_acts.specs.KernelRuns.{KernelRuns, Fits, begun, more, gives, no_room, acts}
+use Rattle.uc_acts.proofs.Sound.{tasks_push, plus}
 use Rattle.uc_book.specs.Acting.{makes_new}
 use Rattle.uc_kernel.specs.Shelves.{is_admit}
 use Rattle.uc_kernel.proofs.Shapes.{trails, is_plain, is_making, is_spawning, AllTrail, SecondFits, Shaped, shaped_act, shaped_make, shaped_spawn, shaped_full}

@@ -3,25 +3,25 @@ use Rattle.std.proofs.Common.{◌≡◌, ◌≢◌, ℕ, ◌==◌, ◌+◌, ◌<
 use Rattle.std.specs.Prelude.{slice_index_or, slice_set, if◌then◌else◌, MatchOption}
 use Rattle.uc_tree.specs.Programs.{Site}
 use Rattle.uc_tree.specs.declared.limits.TheConstants.{TASKS}
-use Rattle.uc_meaning.specs.declared.entry.Entry.{Entry}
-use Rattle.uc_meaning.specs.declared.entry.Options.{Options}
+use Rattle.uc_entry.specs.declared.entry.Entry.{Entry}
+use Rattle.uc_entry.specs.declared.entry.Options.{Options}
 use Rattle.std.proofs.lemmas.Bool.{eqb-true, eq-eqb}
-use Rattle.uc_meaning.specs.Journal.{Journal, held, is_over}
-use Rattle.uc_meaning.specs.Known.{has}
-use Rattle.uc_meaning.specs.Queues.{running}
-use Rattle.uc_meaning.specs.Stations.{Ready, Running}
-use Rattle.uc_meaning.specs.Sound.{At, Sound, spot}
-use Rattle.uc_meaning.specs.Serves.{Serves}
-use Rattle.uc_meaning.specs.Acts.{dispatch, lone_limit}
-use Rattle.uc_meaning.specs.KernelRuns.{KernelRuns, gives, no_room, more}
-use Rattle.uc_meaning.proofs.Bounds.{law_room, over_push, over_limit}
-use Rattle.uc_meaning.proofs.Seats.{running_other, running_given}
-use Rattle.uc_meaning.proofs.Sound.{tasks_push, objects_push}
-use Rattle.uc_meaning.proofs.Moves.{first_at, known_at, spot_stays}
-use Rattle.uc_meaning.proofs.Law.{good_whole}
-use Rattle.uc_meaning.proofs.Given.{held_given}
-use Rattle.uc_meaning.proofs.Answered.{law_answered}
-use Rattle.uc_meaning.proofs.Living.{gone_still}
+use Rattle.uc_acts.specs.Journal.{Journal, held, is_over}
+use Rattle.uc_acts.specs.Known.{has}
+use Rattle.uc_acts.specs.Queues.{running}
+use Rattle.uc_acts.specs.Stations.{Ready, Running}
+use Rattle.uc_acts.specs.Sound.{At, Sound, spot}
+use Rattle.uc_acts.specs.Serves.{Serves}
+use Rattle.uc_acts.specs.Acts.{dispatch, lone_limit}
+use Rattle.uc_acts.specs.KernelRuns.{KernelRuns, gives, no_room, more}
+use Rattle.uc_acts.proofs.Bounds.{law_room, over_push, over_limit}
+use Rattle.uc_acts.proofs.Seats.{running_other, running_given}
+use Rattle.uc_acts.proofs.Sound.{tasks_push, objects_push}
+use Rattle.uc_acts.proofs.Moves.{first_at, known_at, spot_stays}
+use Rattle.uc_acts.proofs.Law.{good_whole}
+use Rattle.uc_acts.proofs.Given.{held_given}
+use Rattle.uc_acts.proofs.Answered.{law_answered}
+use Rattle.uc_acts.proofs.Living.{gone_still}
 use Rattle.uc_book.specs.Mirrors.{Seen, Appended}
 use Rattle.uc_book.specs.Acting.{IsReady, IsFirst, Gave, GaveNone}
 use Rattle.uc_book.specs.Acting as book

@@ -3,21 +3,21 @@ use Rattle.std.proofs.Common.{◌≡◌, ℕ, ◌==◌, ◌<◌, ◌≤◌, Bool
 use Rattle.std.specs.Prelude.{slice_index_or, slice_set, if◌then◌else◌}
 use Rattle.std.proofs.lemmas.Bool.{eqb-true, eq-eqb}
 use Rattle.uc_tree.specs.declared.limits.TheConstants.{TASKS}
-use Rattle.uc_meaning.specs.declared.entry.Entry.{Entry}
-use Rattle.uc_meaning.specs.Listed.{Listed}
-use Rattle.uc_meaning.specs.Executions.{find}
-use Rattle.uc_meaning.specs.Journal.{Journal, held, is_over}
-use Rattle.uc_meaning.specs.Known.{has}
-use Rattle.uc_meaning.specs.Queues.{running}
-use Rattle.uc_meaning.specs.Answers.{answer_to}
-use Rattle.uc_meaning.specs.Serves.{left}
-use Rattle.uc_meaning.specs.Stations.{Running}
-use Rattle.uc_meaning.specs.Sound.{At, Sound, spot}
-use Rattle.uc_meaning.specs.KernelRuns.{KernelRuns, InRange}
-use Rattle.uc_meaning.proofs.Sound.{self_test}
-use Rattle.uc_meaning.proofs.Moves.{first_at, known_at}
-use Rattle.uc_meaning.proofs.Law.{good_whole}
-use Rattle.uc_meaning.proofs.Answered.{law_answered}
+use Rattle.uc_entry.specs.declared.entry.Entry.{Entry}
+use Rattle.uc_entry.specs.Listed.{Listed}
+use Rattle.uc_entry.specs.Keyed.{find}
+use Rattle.uc_acts.specs.Journal.{Journal, held, is_over}
+use Rattle.uc_acts.specs.Known.{has}
+use Rattle.uc_acts.specs.Queues.{running}
+use Rattle.uc_acts.specs.Answers.{answer_to}
+use Rattle.uc_acts.specs.Serves.{left}
+use Rattle.uc_acts.specs.Stations.{Running}
+use Rattle.uc_acts.specs.Sound.{At, Sound, spot}
+use Rattle.uc_acts.specs.KernelRuns.{KernelRuns, InRange}
+use Rattle.uc_acts.proofs.Sound.{self_test}
+use Rattle.uc_acts.proofs.Moves.{first_at, known_at}
+use Rattle.uc_acts.proofs.Law.{good_whole}
+use Rattle.uc_acts.proofs.Answered.{law_answered}
 use Rattle.uc_book.specs.Mirrors.{Seen}
 use Rattle.uc_kernel.specs.declared.given.Given.{Given}
 use Rattle.uc_kernel.specs.declared.given.Next.{Next}

@@ -2,28 +2,28 @@
 use Rattle.std.proofs.Common.{◌≡◌, ℕ, zero, suc, ◌==◌, ◌+◌, ◌<◌, ◌≤◌, ◌||◌, Bool, true, false, List, [], ◌∷◌, ◌++◌, Option, Some, None, refl, sym, ap, ◌∙◌, subst, get_or, set, length, arith, get_or-set_same, get_or-set_other, length-set, append-nil, append_assoc, inr}
 use Rattle.std.specs.Prelude.{slice_index_or, slice_get, if◌then◌else◌}
 use Rattle.std.proofs.lemmas.Bool.{eqb-true, eq-eqb}
-use Rattle.uc_meaning.specs.declared.entry.Entry.{Entry}
-use Rattle.uc_meaning.specs.declared.entry.EntryKind.{EntryKind}
-use Rattle.uc_meaning.specs.declared.entry.EntryKind.TheVariants as kind
-use Rattle.uc_meaning.specs.Listed.{Listed}
-use Rattle.uc_meaning.specs.Journal.{Journal, held, inside}
-use Rattle.uc_meaning.specs.Known.{has, is_gone, is_gone_by, is_make, is_spawn, takes_object, takes_out, spawns, spawns_task, object_count}
-use Rattle.uc_meaning.specs.Queues.{running, last_actor}
-use Rattle.uc_meaning.specs.Stations.{Running}
-use Rattle.uc_meaning.specs.Sound.{At, Sound, spot, mover}
-use Rattle.uc_meaning.specs.Legal.{Legal, DoorFit}
-use Rattle.uc_meaning.specs.Doors.{open_at}
-use Rattle.uc_meaning.proofs.Held.{law_held}
-use Rattle.uc_meaning.specs.KernelRuns.{KernelRuns, acts, more}
-use Rattle.uc_meaning.specs.Acts.{act}
-use Rattle.uc_meaning.proofs.Sound.{sound_step, self_test}
-use Rattle.uc_meaning.proofs.Moves.{first_at, known_at}
-use Rattle.uc_meaning.proofs.Rows.{Lawful}
-use Rattle.uc_meaning.proofs.Law.{good_whole, lawful_act}
-use Rattle.uc_meaning.proofs.Living.{alive, lived_run, gone_still}
-use Rattle.uc_meaning.proofs.Acting.{is_own, AllBy, IsBy, by_act, object_of, destroys}
-use Rattle.uc_meaning.proofs.Hush.{is_silent}
-use Rattle.uc_meaning.proofs.Others.{flip, running_apart}
+use Rattle.uc_entry.specs.declared.entry.Entry.{Entry}
+use Rattle.uc_entry.specs.declared.entry.EntryKind.{EntryKind}
+use Rattle.uc_entry.specs.declared.entry.EntryKind.TheVariants as kind
+use Rattle.uc_entry.specs.Listed.{Listed}
+use Rattle.uc_acts.specs.Journal.{Journal, held, inside}
+use Rattle.uc_acts.specs.Known.{has, is_gone, is_gone_by, is_make, is_spawn, takes_object, takes_out, spawns, spawns_task, object_count}
+use Rattle.uc_acts.specs.Queues.{running, last_actor}
+use Rattle.uc_acts.specs.Stations.{Running}
+use Rattle.uc_acts.specs.Sound.{At, Sound, spot, mover}
+use Rattle.uc_acts.specs.Legal.{Legal, DoorFit}
+use Rattle.uc_acts.specs.Doors.{open_at}
+use Rattle.uc_acts.proofs.Held.{law_held}
+use Rattle.uc_acts.specs.KernelRuns.{KernelRuns, acts, more}
+use Rattle.uc_acts.specs.Acts.{act}
+use Rattle.uc_acts.proofs.Sound.{sound_step, self_test}
+use Rattle.uc_acts.proofs.Moves.{first_at, known_at}
+use Rattle.uc_acts.proofs.Rows.{Lawful}
+use Rattle.uc_acts.proofs.Law.{good_whole, lawful_act}
+use Rattle.uc_acts.proofs.Living.{alive, lived_run, gone_still}
+use Rattle.uc_acts.proofs.Acting.{is_own, AllBy, IsBy, by_act, object_of, destroys}
+use Rattle.uc_acts.proofs.Hush.{is_silent}
+use Rattle.uc_acts.proofs.Others.{flip, running_apart}
 use Rattle.uc_book.specs.Mirrors.{Seen}
 use Rattle.uc_book.specs.Acting.{makes_new}
 use Rattle.uc_kernel.specs.declared.given.Back.{Back}

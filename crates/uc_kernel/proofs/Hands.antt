@@ -3,9 +3,9 @@ use Rattle.std.proofs.Common.{◌≡◌, ℕ, zero, suc, ◌<◌, ◌≤◌, ◌
 use Rattle.std.specs.Prelude.{nat_eq, slice_get, remove}
 use Rattle.std.proofs.lemmas.Bool.{ne_eqb, eqb-true}
 use Rattle.std.proofs.lemmas.Option.{slice_get_read}
-use Rattle.uc_meaning.specs.Executions.{find}
-use Rattle.uc_meaning.specs.Known.{has}
-use Rattle.uc_meaning.specs.Stations.{times}
+use Rattle.uc_entry.specs.Keyed.{find}
+use Rattle.uc_acts.specs.Known.{has}
+use Rattle.uc_acts.specs.Stations.{times}
 use Rattle.uc_kernel.specs.Numbered.{keys, without, added, gathered}
 use Rattle.uc_kernel.specs.Shelves.{AreApart, Stands}
 

@@ -3,21 +3,22 @@ use Rattle.std.proofs.Common.{◌≡◌, ℕ, ℤ, zero, suc, ◌+◌, ◌||◌,
 use Rattle.std.specs.Prelude.{pos, nat_lt, nat_le, slice_get}
 use Rattle.uc_tree.specs.Programs.{Site}
 use Rattle.uc_tree.specs.declared.limits.TheConstants.{TASKS, OBJECTS, PENDING_EVENTS, CLUSTERS, PROCESSORS}
-use Rattle.uc_meaning.specs.declared.entry.Entry.{Entry}
-use Rattle.uc_meaning.specs.declared.entry.EntryKind.{EntryKind}
-use Rattle.uc_meaning.specs.declared.entry.EntryKind.TheVariants as kind
-use Rattle.uc_meaning.specs.declared.entry.Options.{Options}
-use Rattle.uc_meaning.specs.declared.request.Piece.{Piece}
-use Rattle.uc_meaning.specs.declared.request.Request.{Request}
-use Rattle.uc_meaning.specs.declared.request.Request.TheVariants as ask
-use Rattle.uc_meaning.specs.Journal.{Journal, begin, entry, inside, own_object, first_or_0, is_over, is_ending, is_fault}
-use Rattle.uc_meaning.specs.Queues.{next, cluster_count, processor_count, is_in_use}
-use Rattle.uc_meaning.specs.Known.{object_count, task_count, owner}
-use Rattle.uc_meaning.specs.Pending.{pending, oldest_in}
-use Rattle.uc_meaning.specs.Doors.{site_at, open_at, offered, clause_for, Met, next_met, blocked, destroys_busy}
-use Rattle.uc_meaning.specs.Acts.{fault, admission, met_by, called, took, accepted, signalled, handed, front, poll_entry, prints, or_fault, row, settled, entries_of, is_faulty, verdict, closing, ending, fitted, dispatch, lone_limit}
-use Rattle.uc_meaning.specs.KernelRuns.{KernelRuns, KernelMay, begun, more, gives, no_room, acts}
-use Rattle.uc_meaning.proofs.Bounds.{over_push}
+use Rattle.uc_entry.specs.declared.entry.Entry.{Entry}
+use Rattle.uc_entry.specs.declared.entry.EntryKind.{EntryKind}
+use Rattle.uc_entry.specs.declared.entry.EntryKind.TheVariants as kind
+use Rattle.uc_entry.specs.declared.entry.Options.{Options}
+use Rattle.uc_entry.specs.declared.request.Piece.{Piece}
+use Rattle.uc_entry.specs.declared.request.Request.{Request}
+use Rattle.uc_entry.specs.declared.request.Request.TheVariants as ask
+use Rattle.uc_acts.specs.Journal.{Journal, begin, entry, inside, own_object, first_or_0, is_over, is_ending, is_fault}
+use Rattle.uc_acts.specs.Queues.{next, cluster_count, processor_count, is_in_use}
+use Rattle.uc_acts.specs.Known.{object_count, task_count, owner}
+use Rattle.uc_acts.specs.Pending.{pending, oldest_in}
+use Rattle.uc_acts.specs.Doors.{site_at, open_at, offered, next_met, blocked, destroys_busy}
+use Rattle.uc_tree.specs.SiteOffers.{clause_for, Met}
+use Rattle.uc_acts.specs.Acts.{fault, admission, met_by, called, took, accepted, signalled, handed, front, poll_entry, prints, or_fault, row, settled, entries_of, is_faulty, verdict, closing, ending, fitted, dispatch, lone_limit}
+use Rattle.uc_acts.specs.KernelRuns.{KernelRuns, KernelMay, begun, more, gives, no_room, acts}
+use Rattle.uc_acts.proofs.Bounds.{over_push}
 use Rattle.uc_kernel.specs.Calls.{EndsRun}
 use Rattle.uc_kernel.proofs.Hands.{no_both, some-same}
 

@@ -2,13 +2,13 @@
 use Rattle.std.proofs.Common.{◌≡◌, ◌≢◌, ℕ, ◌==◌, ◌<◌, ◌≤◌, ◌||◌, Bool, true, false, List, [], ◌∷◌, Option, Some, None, refl, sym, ap, ◌∙◌, subst, get_or, length}
 use Rattle.std.specs.Prelude.{slice_index_or}
 use Rattle.std.proofs.lemmas.Bool.{eqb-true, eq-eqb, ne_eqb}
-use Rattle.uc_meaning.specs.Executions.{find}
-use Rattle.uc_meaning.specs.Journal.{Journal, held, inside}
-use Rattle.uc_meaning.specs.Known.{has}
-use Rattle.uc_meaning.specs.Sound.{Sound}
-use Rattle.uc_meaning.specs.Stations.{times}
-use Rattle.uc_meaning.proofs.Held.{law_held}
-use Rattle.uc_meaning.proofs.Moves.{only_one}
+use Rattle.uc_entry.specs.Keyed.{find}
+use Rattle.uc_acts.specs.Journal.{Journal, held, inside}
+use Rattle.uc_acts.specs.Known.{has}
+use Rattle.uc_acts.specs.Sound.{Sound}
+use Rattle.uc_acts.specs.Stations.{times}
+use Rattle.uc_acts.proofs.Held.{law_held}
+use Rattle.uc_acts.proofs.Moves.{only_one}
 use Rattle.uc_kernel.specs.declared.rests.Rest.{Rest}
 use Rattle.uc_kernel.specs.Numbered.{keys, or_else, gathered}
 use Rattle.uc_kernel.specs.Kept.{member_in, member_among}

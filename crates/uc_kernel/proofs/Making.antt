@@ -4,33 +4,33 @@ use Rattle.std.specs.Prelude.{pos, nat_lt, slice_index_or, slice_set, ifâ—Œthenâ
 use Rattle.std.specs.List.{filter}
 use Rattle.std.proofs.lemmas.Bool.{eqb-true, eq-eqb}
 use Rattle.uc_tree.specs.declared.limits.TheConstants.{OBJECTS, TASKS}
-use Rattle.uc_meaning.specs.declared.entry.Entry.{Entry}
-use Rattle.uc_meaning.specs.declared.entry.EntryKind.{EntryKind}
-use Rattle.uc_meaning.specs.declared.entry.EntryKind.TheVariants as kind
-use Rattle.uc_meaning.specs.Listed.{Listed}
-use Rattle.uc_meaning.specs.Journal.{Journal, held, entry, is_over}
-use Rattle.uc_meaning.specs.Known.{has, is_gone, takes_object, takes_out, spawns_task, spawns, object_count}
-use Rattle.uc_meaning.specs.Queues.{running}
-use Rattle.uc_meaning.specs.Sound.{Sound}
-use Rattle.uc_meaning.specs.Answers.{answer_to}
-use Rattle.uc_meaning.specs.Serves.{left}
-use Rattle.uc_meaning.specs.KernelRuns.{KernelRuns, acts, more}
-use Rattle.uc_meaning.specs.Acts.{act, row, or_fault, fault}
-use Rattle.uc_meaning.specs.Stations.{Running}
-use Rattle.uc_meaning.specs.declared.entry.Options.{Options}
-use Rattle.uc_meaning.specs.declared.request.Asked.{Asked}
-use Rattle.uc_meaning.specs.declared.request.Request.{Request}
-use Rattle.uc_meaning.specs.declared.request.Request.TheVariants as ask
+use Rattle.uc_entry.specs.declared.entry.Entry.{Entry}
+use Rattle.uc_entry.specs.declared.entry.EntryKind.{EntryKind}
+use Rattle.uc_entry.specs.declared.entry.EntryKind.TheVariants as kind
+use Rattle.uc_entry.specs.Listed.{Listed}
+use Rattle.uc_acts.specs.Journal.{Journal, held, entry, is_over}
+use Rattle.uc_acts.specs.Known.{has, is_gone, takes_object, takes_out, spawns_task, spawns, object_count}
+use Rattle.uc_acts.specs.Queues.{running}
+use Rattle.uc_acts.specs.Sound.{Sound}
+use Rattle.uc_acts.specs.Answers.{answer_to}
+use Rattle.uc_acts.specs.Serves.{left}
+use Rattle.uc_acts.specs.KernelRuns.{KernelRuns, acts, more}
+use Rattle.uc_acts.specs.Acts.{act, row, or_fault, fault}
+use Rattle.uc_acts.specs.Stations.{Running}
+use Rattle.uc_entry.specs.declared.entry.Options.{Options}
+use Rattle.uc_entry.specs.declared.request.Asked.{Asked}
+use Rattle.uc_entry.specs.declared.request.Request.{Request}
+use Rattle.uc_entry.specs.declared.request.Request.TheVariants as ask
 use Rattle.uc_tree.specs.Programs.{Site}
-use Rattle.uc_meaning.proofs.Bounds.{over_push}
-use Rattle.uc_meaning.proofs.Living.{going_row}
-use Rattle.uc_meaning.proofs.Held.{law_held}
-use Rattle.uc_meaning.proofs.Living.{gone_still}
-use Rattle.uc_meaning.proofs.Sound.{tasks_push, objects_push, self_test}
-use Rattle.uc_meaning.proofs.Moves.{spot_stays, first_at, known_at}
-use Rattle.uc_meaning.proofs.Others.{flip}
-use Rattle.uc_meaning.proofs.Law.{good_whole}
-use Rattle.uc_meaning.proofs.Answered.{law_answered}
+use Rattle.uc_acts.proofs.Bounds.{over_push}
+use Rattle.uc_acts.proofs.Living.{going_row}
+use Rattle.uc_acts.proofs.Held.{law_held}
+use Rattle.uc_acts.proofs.Living.{gone_still}
+use Rattle.uc_acts.proofs.Sound.{tasks_push, objects_push, self_test}
+use Rattle.uc_acts.proofs.Moves.{spot_stays, first_at, known_at}
+use Rattle.uc_acts.proofs.Others.{flip}
+use Rattle.uc_acts.proofs.Law.{good_whole}
+use Rattle.uc_acts.proofs.Answered.{law_answered}
 use Rattle.uc_book.specs.Mirrors.{Seen}
 use Rattle.uc_kernel.specs.declared.given.Back.{Back}
 use Rattle.uc_kernel.specs.declared.given.Given.{Given}

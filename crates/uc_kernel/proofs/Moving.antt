@@ -3,21 +3,21 @@ use Rattle.std.proofs.Common.{◌≡◌, ℕ, ◌==◌, ◌&&◌, ◌||◌, Bool
 use Rattle.std.specs.Option.{option_to_list}
 use Rattle.std.specs.List.{filter}
 use Rattle.std.proofs.lemmas.Bool.{eqb-true, eq-eqb}
-use Rattle.uc_meaning.specs.declared.entry.Entry.{Entry}
-use Rattle.uc_meaning.specs.declared.entry.EntryKind.{EntryKind}
-use Rattle.uc_meaning.specs.declared.entry.EntryKind.TheVariants as kind
-use Rattle.uc_meaning.specs.Journal.{Journal, where_true, lets_in, moves, is_task, held, holds, stacks_acceptor}
-use Rattle.uc_meaning.specs.Queues.{running, takes_off, puts_on, last_actor, actor}
-use Rattle.uc_meaning.specs.Known.{has, is_gone_by}
-use Rattle.uc_meaning.specs.Stations.{Ready, Running}
-use Rattle.uc_meaning.specs.Sound.{At, Spot, spot, mover, target, here, own_or_ready}
-use Rattle.uc_meaning.specs.Legal.{Legal, removes}
-use Rattle.uc_meaning.proofs.Open.{still_open_push, filter_true}
-use Rattle.uc_meaning.proofs.Noted.{noted_at, last_actor_push}
-use Rattle.uc_meaning.proofs.Seats.{running_same, running_other}
-use Rattle.uc_meaning.proofs.Sound.{self_test}
-use Rattle.uc_meaning.proofs.Moves.{spot_stays, spot_moves}
-use Rattle.uc_meaning.proofs.Others.{flip}
+use Rattle.uc_entry.specs.declared.entry.Entry.{Entry}
+use Rattle.uc_entry.specs.declared.entry.EntryKind.{EntryKind}
+use Rattle.uc_entry.specs.declared.entry.EntryKind.TheVariants as kind
+use Rattle.uc_acts.specs.Journal.{Journal, where_true, lets_in, moves, is_task, held, holds, stacks_acceptor}
+use Rattle.uc_acts.specs.Queues.{running, takes_off, puts_on, last_actor, actor}
+use Rattle.uc_acts.specs.Known.{has, is_gone_by}
+use Rattle.uc_acts.specs.Stations.{Ready, Running}
+use Rattle.uc_acts.specs.Sound.{At, Spot, spot, mover, target, here, own_or_ready}
+use Rattle.uc_acts.specs.Legal.{Legal, removes}
+use Rattle.uc_acts.proofs.Open.{still_open_push, filter_true}
+use Rattle.uc_acts.proofs.Noted.{noted_at, last_actor_push}
+use Rattle.uc_acts.proofs.Seats.{running_same, running_other}
+use Rattle.uc_acts.proofs.Sound.{self_test}
+use Rattle.uc_acts.proofs.Moves.{spot_stays, spot_moves}
+use Rattle.uc_acts.proofs.Others.{flip}
 use Rattle.uc_kernel.specs.Shelves.{goes_out, is_ready}
 use Rattle.uc_kernel.proofs.Hands.{no_both}
 use Rattle.uc_kernel.proofs.Lying.{not_true}

@@ -3,15 +3,15 @@ use Rattle.std.proofs.Common.{◌≡◌, ℕ, zero, suc, ◌==◌, ◌<◌, ◌�
 use Rattle.std.specs.Prelude.{slice_index_or}
 use Rattle.uc_tree.specs.Programs.{Site}
 use Rattle.uc_tree.specs.declared.limits.TheConstants.{INPUT_BYTES}
-use Rattle.uc_meaning.specs.declared.entry.Options.{Options}
-use Rattle.uc_meaning.specs.Executions.{find}
-use Rattle.uc_meaning.specs.Journal.{Journal, begin, held}
-use Rattle.uc_meaning.specs.Known.{has, object_count, task_count}
-use Rattle.uc_meaning.specs.Queues.{running}
-use Rattle.uc_meaning.specs.Sound.{spot}
-use Rattle.uc_meaning.specs.KernelRuns.{InRange, begun}
-use Rattle.uc_meaning.proofs.Moves.{spot_moves}
-use Rattle.uc_meaning.proofs.Others.{flip}
+use Rattle.uc_entry.specs.declared.entry.Options.{Options}
+use Rattle.uc_entry.specs.Keyed.{find}
+use Rattle.uc_acts.specs.Journal.{Journal, begin, held}
+use Rattle.uc_acts.specs.Known.{has, object_count, task_count}
+use Rattle.uc_acts.specs.Queues.{running}
+use Rattle.uc_acts.specs.Sound.{spot}
+use Rattle.uc_acts.specs.KernelRuns.{InRange, begun}
+use Rattle.uc_acts.proofs.Moves.{spot_moves}
+use Rattle.uc_acts.proofs.Others.{flip}
 use Rattle.uc_book.specs.Mirrors.{Seen}
 use Rattle.uc_kernel.specs.declared.rests.Rest.{Rest}
 use Rattle.uc_kernel.specs.Numbered.{keys, or_else}

@@ -2,22 +2,24 @@
 use Rattle.std.proofs.Common.{◌≡◌, ℕ, ℤ, zero, suc, ◌+◌, ◌≤◌, ◌&&◌, ◌||◌, Bool, true, false, cond, not, List, [], ◌∷◌, ◌++◌, Option, Some, None, take, refl, arith, length}
 use Rattle.std.specs.Prelude.{pos, nat_lt, nat_le}
 use Rattle.uc_tree.specs.Programs.{Site}
-use Rattle.uc_tree.specs.declared.limits.TheConstants.{TASKS, OBJECTS, PENDING_EVENTS, CLUSTERS, PROCESSORS, PRINT_ITEMS}
-use Rattle.uc_meaning.specs.declared.entry.Entry.{Entry}
-use Rattle.uc_meaning.specs.declared.entry.EntryKind.{EntryKind}
-use Rattle.uc_meaning.specs.declared.entry.EntryKind.TheVariants as kind
-use Rattle.uc_meaning.specs.declared.entry.Options.{Options}
-use Rattle.uc_meaning.specs.declared.request.Asked.{Asked}
-use Rattle.uc_meaning.specs.declared.request.Piece.{Piece}
-use Rattle.uc_meaning.specs.declared.request.Request.{Request}
-use Rattle.uc_meaning.specs.declared.request.Request.TheVariants as ask
-use Rattle.uc_meaning.specs.Journal.{Journal, inside, entry, own_object, first_or_0}
-use Rattle.uc_meaning.specs.Queues.{next, cluster_count, processor_count, is_in_use, first_ended, none_running, none_ready, none_served, all_ticks}
-use Rattle.uc_meaning.specs.Known.{object_count, task_count, owner, is_gone_by}
-use Rattle.uc_meaning.specs.Pending.{pending, oldest_in}
-use Rattle.uc_meaning.specs.Doors.{site_at, open_at, offered, clause_for, Met, next_met, blocked, destroys_busy}
-use Rattle.uc_meaning.specs.KernelRuns.{Fits}
-use Rattle.uc_meaning.specs.Acts.{admission, met_by, called, took, accepted, signalled, handed, front, poll_entry, prints, or_fault, row, settled, fault, entries_of, is_faulty, verdict, closing, ending, fitted, act}
+use Rattle.uc_tree.specs.declared.limits.TheConstants.{TASKS, OBJECTS, PENDING_EVENTS, CLUSTERS, PROCESSORS}
+use Rattle.uc_entry.specs.declared.request.TheConstants.{PRINT_ITEMS}
+use Rattle.uc_entry.specs.declared.entry.Entry.{Entry}
+use Rattle.uc_entry.specs.declared.entry.EntryKind.{EntryKind}
+use Rattle.uc_entry.specs.declared.entry.EntryKind.TheVariants as kind
+use Rattle.uc_entry.specs.declared.entry.Options.{Options}
+use Rattle.uc_entry.specs.declared.request.Asked.{Asked}
+use Rattle.uc_entry.specs.declared.request.Piece.{Piece}
+use Rattle.uc_entry.specs.declared.request.Request.{Request}
+use Rattle.uc_entry.specs.declared.request.Request.TheVariants as ask
+use Rattle.uc_acts.specs.Journal.{Journal, inside, entry, own_object, first_or_0}
+use Rattle.uc_acts.specs.Queues.{next, cluster_count, processor_count, is_in_use, first_ended, none_running, none_ready, none_served, all_ticks}
+use Rattle.uc_acts.specs.Known.{object_count, task_count, owner, is_gone_by}
+use Rattle.uc_acts.specs.Pending.{pending, oldest_in}
+use Rattle.uc_acts.specs.Doors.{site_at, open_at, offered, next_met, blocked, destroys_busy}
+use Rattle.uc_tree.specs.SiteOffers.{clause_for, Met}
+use Rattle.uc_acts.specs.KernelRuns.{Fits}
+use Rattle.uc_acts.specs.Acts.{admission, met_by, called, took, accepted, signalled, handed, front, poll_entry, prints, or_fault, row, settled, fault, entries_of, is_faulty, verdict, closing, ending, fitted, act}
 use Rattle.uc_book.specs.Acting.{makes_new}
 use Rattle.uc_kernel.specs.Shelves.{is_admit}
 

@@ -7,32 +7,32 @@ use Rattle.std.proofs.lemmas.List.{get_or_append_left}
 use Rattle.std.proofs.Math.Seq.{get_or-append_seam}
 use Rattle.uc_tree.specs.Programs.{Site}
 use Rattle.uc_tree.specs.declared.limits.TheConstants.{TASKS}
-use Rattle.uc_meaning.specs.declared.entry.Entry.{Entry}
-use Rattle.uc_meaning.specs.declared.entry.EntryKind.{EntryKind}
-use Rattle.uc_meaning.specs.declared.entry.EntryKind.TheVariants as kind
-use Rattle.uc_meaning.specs.declared.entry.Options.{Options}
-use Rattle.uc_meaning.specs.declared.request.Asked.{Asked}
-use Rattle.uc_meaning.specs.declared.request.Request.{Request}
-use Rattle.uc_meaning.specs.declared.request.Request.TheVariants as ask
-use Rattle.uc_meaning.specs.Listed.{Listed}
-use Rattle.uc_meaning.specs.Executions.{find}
-use Rattle.uc_meaning.specs.Journal.{Journal, begin, number, held, inside, entry, is_over}
-use Rattle.uc_meaning.specs.Known.{has, is_spawn, takes_object, takes_out, spawns_task, spawns, task_count}
-use Rattle.uc_meaning.specs.Queues.{running}
-use Rattle.uc_meaning.specs.Stations.{Running}
-use Rattle.uc_meaning.specs.Sound.{At, Sound, spot, mover}
-use Rattle.uc_meaning.specs.KernelRuns.{KernelRuns, Fits, begun, gives, no_room, acts, more}
-use Rattle.uc_meaning.specs.Acts.{act, entries_of, ending, row, or_fault, settled, fault, dispatch, lone_limit}
-use Rattle.uc_meaning.proofs.Held.{law_held}
-use Rattle.uc_meaning.proofs.Counted.{has_filter}
-use Rattle.uc_meaning.proofs.Living.{gone_still, going_row}
-use Rattle.uc_meaning.proofs.Sound.{tasks_push, objects_push, self_test, some_task}
-use Rattle.uc_meaning.proofs.Moves.{spot_stays, spot_moves, first_at, known_at, one_inside}
-use Rattle.uc_meaning.proofs.Others.{flip, Foreign, held_foreign, running_apart}
-use Rattle.uc_meaning.proofs.Rows.{Lawful}
-use Rattle.uc_meaning.proofs.Acting.{is_own, AllBy, by_act, object_of, destroys}
-use Rattle.uc_meaning.proofs.Given.{held_given}
-use Rattle.uc_meaning.proofs.Law.{good_whole, lawful_act}
+use Rattle.uc_entry.specs.declared.entry.Entry.{Entry}
+use Rattle.uc_entry.specs.declared.entry.EntryKind.{EntryKind}
+use Rattle.uc_entry.specs.declared.entry.EntryKind.TheVariants as kind
+use Rattle.uc_entry.specs.declared.entry.Options.{Options}
+use Rattle.uc_entry.specs.declared.request.Asked.{Asked}
+use Rattle.uc_entry.specs.declared.request.Request.{Request}
+use Rattle.uc_entry.specs.declared.request.Request.TheVariants as ask
+use Rattle.uc_entry.specs.Listed.{Listed}
+use Rattle.uc_entry.specs.Keyed.{find}
+use Rattle.uc_acts.specs.Journal.{Journal, begin, number, held, inside, entry, is_over}
+use Rattle.uc_acts.specs.Known.{has, is_spawn, takes_object, takes_out, spawns_task, spawns, task_count}
+use Rattle.uc_acts.specs.Queues.{running}
+use Rattle.uc_acts.specs.Stations.{Running}
+use Rattle.uc_acts.specs.Sound.{At, Sound, spot, mover}
+use Rattle.uc_acts.specs.KernelRuns.{KernelRuns, Fits, begun, gives, no_room, acts, more}
+use Rattle.uc_acts.specs.Acts.{act, entries_of, ending, row, or_fault, settled, fault, dispatch, lone_limit}
+use Rattle.uc_acts.proofs.Held.{law_held}
+use Rattle.uc_acts.proofs.Counted.{has_filter}
+use Rattle.uc_acts.proofs.Living.{gone_still, going_row}
+use Rattle.uc_acts.proofs.Sound.{tasks_push, objects_push, self_test, some_task}
+use Rattle.uc_acts.proofs.Moves.{spot_stays, spot_moves, first_at, known_at, one_inside}
+use Rattle.uc_acts.proofs.Others.{flip, Foreign, held_foreign, running_apart}
+use Rattle.uc_acts.proofs.Rows.{Lawful}
+use Rattle.uc_acts.proofs.Acting.{is_own, AllBy, by_act, object_of, destroys}
+use Rattle.uc_acts.proofs.Given.{held_given}
+use Rattle.uc_acts.proofs.Law.{good_whole, lawful_act}
 use Rattle.uc_book.specs.Mirrors.{Seen}
 use Rattle.uc_kernel.specs.declared.given.Back.{Back}
 use Rattle.uc_kernel.specs.declared.rests.Rest.{Rest}

@@ -3,21 +3,21 @@ use Rattle.std.proofs.Common.{◌≡◌, ◌≢◌, ℕ, zero, suc, ◌==◌, �
 use Rattle.std.specs.Prelude.{slice_index_or, slice_set, if◌then◌else◌}
 use Rattle.std.specs.List.{filter}
 use Rattle.std.proofs.lemmas.Bool.{eqb-true, eq-eqb}
-use Rattle.uc_meaning.specs.declared.entry.Entry.{Entry}
-use Rattle.uc_meaning.specs.declared.entry.EntryKind.{EntryKind}
-use Rattle.uc_meaning.specs.declared.entry.EntryKind.TheVariants as kind
-use Rattle.uc_meaning.specs.Listed.{Listed}
-use Rattle.uc_meaning.specs.Executions.{find}
-use Rattle.uc_meaning.specs.Journal.{Journal, held, inside}
-use Rattle.uc_meaning.specs.Known.{has, is_gone, is_gone_by, is_make, is_spawn, takes_object, object_count, task_count}
-use Rattle.uc_meaning.specs.Doors.{open_at}
-use Rattle.uc_meaning.specs.Sound.{Sound}
-use Rattle.uc_meaning.specs.Legal.{Legal, DoorFit}
-use Rattle.uc_meaning.proofs.Held.{law_held}
-use Rattle.uc_meaning.proofs.Living.{gone_still, gone_same}
-use Rattle.uc_meaning.proofs.Counted.{gone_push, has_filter}
-use Rattle.uc_meaning.proofs.Sound.{tasks_push, objects_push, self_test, plus}
-use Rattle.uc_meaning.proofs.Others.{flip}
+use Rattle.uc_entry.specs.declared.entry.Entry.{Entry}
+use Rattle.uc_entry.specs.declared.entry.EntryKind.{EntryKind}
+use Rattle.uc_entry.specs.declared.entry.EntryKind.TheVariants as kind
+use Rattle.uc_entry.specs.Listed.{Listed}
+use Rattle.uc_entry.specs.Keyed.{find}
+use Rattle.uc_acts.specs.Journal.{Journal, held, inside}
+use Rattle.uc_acts.specs.Known.{has, is_gone, is_gone_by, is_make, is_spawn, takes_object, object_count, task_count}
+use Rattle.uc_acts.specs.Doors.{open_at}
+use Rattle.uc_acts.specs.Sound.{Sound}
+use Rattle.uc_acts.specs.Legal.{Legal, DoorFit}
+use Rattle.uc_acts.proofs.Held.{law_held}
+use Rattle.uc_acts.proofs.Living.{gone_still, gone_same}
+use Rattle.uc_acts.proofs.Counted.{gone_push, has_filter}
+use Rattle.uc_acts.proofs.Sound.{tasks_push, objects_push, self_test, plus}
+use Rattle.uc_acts.proofs.Others.{flip}
 use Rattle.uc_kernel.specs.declared.rests.Rest.{Rest}
 use Rattle.uc_kernel.specs.Numbered.{keys, or_else, without}
 use Rattle.uc_kernel.specs.Kept.{member_in, member_among}

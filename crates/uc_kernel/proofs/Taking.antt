@@ -2,13 +2,13 @@
 use Rattle.std.proofs.Common.{◌≡◌, ℕ, ◌+◌, ◌<◌, ◌≤◌, Bool, false, List, [], ◌∷◌, ◌++◌, Option, Some, refl, sym, ap, ◌∙◌, subst, length, arith, length-append}
 use Rattle.std.specs.Prelude.{slice_get}
 use Rattle.uc_tree.specs.declared.limits.TheConstants.{INPUT_BYTES}
-use Rattle.uc_meaning.specs.declared.entry.Entry.{Entry}
-use Rattle.uc_meaning.specs.declared.entry.EntryKind.{EntryKind}
-use Rattle.uc_meaning.specs.declared.request.Request.{Request}
-use Rattle.uc_meaning.specs.Journal.{held, is_over}
-use Rattle.uc_meaning.specs.KernelRuns.{KernelRuns, MayAsk, more}
-use Rattle.uc_meaning.specs.KernelRuns as kernel_runs
-use Rattle.uc_meaning.specs.Acts.{act}
+use Rattle.uc_entry.specs.declared.entry.Entry.{Entry}
+use Rattle.uc_entry.specs.declared.entry.EntryKind.{EntryKind}
+use Rattle.uc_entry.specs.declared.request.Request.{Request}
+use Rattle.uc_acts.specs.Journal.{held, is_over}
+use Rattle.uc_acts.specs.KernelRuns.{KernelRuns, MayAsk, more}
+use Rattle.uc_acts.specs.KernelRuns as kernel_runs
+use Rattle.uc_acts.specs.Acts.{act}
 use Rattle.uc_book.specs.Mirrors.{Seen, Appended}
 use Rattle.uc_book.specs.Acting.{acts, makes_new}
 use Rattle.uc_kernel.specs.declared.given.Back.{Back}

@@ -1,9 +1,9 @@
 -- Who may act.
 use Rattle.std.specs.Prelude.{◌≡◌, ℕ, false, [], ◌∷◌}
-use Rattle.uc_meaning.specs.declared.entry.Options.{Options}
-use Rattle.uc_meaning.specs.Journal.{Journal, is_over}
-use Rattle.uc_meaning.specs.Queues.{running}
-use Rattle.uc_meaning.specs.Serves.{left}
+use Rattle.uc_entry.specs.declared.entry.Options.{Options}
+use Rattle.uc_acts.specs.Journal.{Journal, is_over}
+use Rattle.uc_acts.specs.Queues.{running}
+use Rattle.uc_acts.specs.Serves.{left}
 use Rattle.uc_kernel.specs.declared.asks.Runner.{Runner}
 
 -- the run goes on, and this task runs on processor p

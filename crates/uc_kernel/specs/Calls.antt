@@ -1,15 +1,15 @@
 -- What the calls of a kernel do.
 use Rattle.std.specs.Prelude.{◌≡◌, ℕ, ◌==◌, ◌+◌, ◌<◌, ◌≤◌, true, false, List, [], ◌∷◌, ◌++◌, Option, Some, None, length}
-use Rattle.uc_meaning.specs.declared.entry.Entry.{Entry}
+use Rattle.uc_entry.specs.declared.entry.Entry.{Entry}
 use Rattle.uc_tree.specs.Programs.{Site}
-use Rattle.uc_meaning.specs.declared.entry.Options.{Options}
-use Rattle.uc_meaning.specs.Journal.{begin, held, is_ending, is_over}
-use Rattle.uc_meaning.specs.Queues.{running}
-use Rattle.uc_meaning.specs.Answers.{answer_to}
-use Rattle.uc_meaning.specs.Serves.{Serves, left}
-use Rattle.uc_meaning.specs.Laws.{IsServed}
-use Rattle.uc_meaning.specs.KernelRuns.{MayAsk}
-use Rattle.uc_meaning.specs.Acts.{act, dispatch, lone_limit}
+use Rattle.uc_entry.specs.declared.entry.Options.{Options}
+use Rattle.uc_acts.specs.Journal.{begin, held, is_ending, is_over}
+use Rattle.uc_acts.specs.Queues.{running}
+use Rattle.uc_acts.specs.Answers.{answer_to}
+use Rattle.uc_acts.specs.Serves.{Serves, left}
+use Rattle.uc_acts.specs.Laws.{IsServed}
+use Rattle.uc_acts.specs.KernelRuns.{MayAsk}
+use Rattle.uc_acts.specs.Acts.{act, dispatch, lone_limit}
 use Rattle.uc_book.specs.Acting.{IsFirst}
 use Rattle.uc_kernel.specs.declared.given.Given.{Given}
 use Rattle.uc_kernel.specs.declared.given.Back.{Back}

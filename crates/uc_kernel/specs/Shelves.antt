@@ -1,24 +1,24 @@
 -- How a kernel keeps what is at rest: a task's value with the members in its hand, and loose members by object.
 use Rattle.std.specs.Prelude.{◌≡◌, ℕ, ◌==◌, ◌<◌, ◌≤◌, ◌||◌, ◌+◌, Bool, true, false, List, [], ◌∷◌, ◌++◌, Option, Some, None, length, slice_get, slice_index_or, slice_set, if◌then◌else◌}
 use Rattle.uc_tree.specs.declared.limits.TheConstants.{INPUT_BYTES}
-use Rattle.uc_meaning.specs.declared.entry.Entry.{Entry}
-use Rattle.uc_meaning.specs.declared.entry.EntryKind.{EntryKind}
-use Rattle.uc_meaning.specs.declared.entry.EntryKind.TheVariants as kind
-use Rattle.uc_meaning.specs.Listed.{Listed}
-use Rattle.uc_meaning.specs.Executions.{find}
-use Rattle.uc_meaning.specs.Journal.{Journal, held, is_over, holds, stacks_acceptor}
-use Rattle.uc_meaning.specs.Queues.{running}
-use Rattle.uc_meaning.specs.Known.{has, object_count, task_count, is_gone, is_gone_by}
-use Rattle.uc_meaning.specs.Stations.{Ready, times}
-use Rattle.uc_meaning.specs.Sound.{Spot, At, spot}
-use Rattle.uc_meaning.specs.KernelRuns.{InRange, KernelRuns, MayAsk}
+use Rattle.uc_entry.specs.declared.entry.Entry.{Entry}
+use Rattle.uc_entry.specs.declared.entry.EntryKind.{EntryKind}
+use Rattle.uc_entry.specs.declared.entry.EntryKind.TheVariants as kind
+use Rattle.uc_entry.specs.Listed.{Listed}
+use Rattle.uc_entry.specs.Keyed.{find}
+use Rattle.uc_acts.specs.Journal.{Journal, held, is_over, holds, stacks_acceptor}
+use Rattle.uc_acts.specs.Queues.{running}
+use Rattle.uc_acts.specs.Known.{has, object_count, task_count, is_gone, is_gone_by}
+use Rattle.uc_acts.specs.Stations.{Ready, times}
+use Rattle.uc_acts.specs.Sound.{Spot, At, spot}
+use Rattle.uc_acts.specs.KernelRuns.{InRange, KernelRuns, MayAsk}
 use Rattle.uc_book.specs.Mirrors.{Seen}
-use Rattle.uc_meaning.specs.Acts.{act}
-use Rattle.uc_meaning.specs.declared.request.Request.{Request}
-use Rattle.uc_meaning.specs.declared.request.Request.TheVariants as ask
-use Rattle.uc_meaning.specs.declared.request.Answer.{Answer}
-use Rattle.uc_meaning.specs.Answers.{answer_to}
-use Rattle.uc_meaning.specs.Serves.{left}
+use Rattle.uc_acts.specs.Acts.{act}
+use Rattle.uc_entry.specs.declared.request.Request.{Request}
+use Rattle.uc_entry.specs.declared.request.Request.TheVariants as ask
+use Rattle.uc_entry.specs.declared.request.Answer.{Answer}
+use Rattle.uc_acts.specs.Answers.{answer_to}
+use Rattle.uc_acts.specs.Serves.{left}
 use Rattle.uc_kernel.specs.declared.given.Back.{Back}
 use Rattle.uc_kernel.specs.declared.given.Given.{Given}
 use Rattle.uc_kernel.specs.declared.given.Next.{Next}

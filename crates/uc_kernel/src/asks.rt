@@ -1,7 +1,7 @@
 //! Who may act.
 ghost use Rattle.std.specs.Prelude.{◌≡◌, [], false, IfNone, IfSome};
-ghost use Rattle.uc_meaning.specs.Journal;
-ghost use Rattle.uc_meaning.specs.Queues.{running};
+ghost use Rattle.uc_acts.specs.Journal;
+ghost use Rattle.uc_acts.specs.Queues.{running};
 ghost use Rattle.uc_kernel.specs.Asks.{IsRunner};
 
 use crate::kernel::Kernel;

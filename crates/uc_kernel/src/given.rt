@@ -1,7 +1,7 @@
 //! What a kernel is opened with, what it hands out, and what is brought back to it.
 
-use uc_meaning::list::List;
-use uc_meaning::request::{Answer, Asked};
+use uc_entry::list::List;
+use uc_entry::request::{Answer, Asked};
 use uc_tree::site::Site;
 
 /// What a kernel is to know of a program: its accept statements by their numbers.

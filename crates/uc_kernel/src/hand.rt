@@ -1,10 +1,10 @@
 //! The members in a hand.
 ghost use Rattle.std.specs.Prelude.{◌≡◌, ◌≤◌, None, MatchOption};
-ghost use Rattle.uc_meaning.specs.Executions.{find};
+ghost use Rattle.uc_entry.specs.Keyed.{find};
 ghost use Rattle.uc_kernel.specs.Numbered.{without};
 ghost use Rattle.uc_kernel.specs.Shelves.{AreApart, Stands};
 
-use uc_meaning::list::List;
+use uc_entry::list::List;
 
 /// Where the members of an object stand.
 fn position<M>(hand: &List<(u32, M)>, object: u32) -> Option<u32>

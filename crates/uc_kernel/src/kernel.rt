@@ -1,15 +1,15 @@
 //! The kernel: the core with the task values and the members that it keeps.
 ghost use Rattle.std.specs.Prelude.{◌≡◌, ◌++◌, not, ◌≤◌, ◌<◌, ◌==◌, ◌∷◌, [], ℕ, false, true, Bool, length, slice_index_or, slice_set, slice_get, Some, None, IfOk, IfNone, IfSome, OnErr, IsSome, MatchOption, vec_len, vec_capacity};
 ghost use Rattle.uc_tree.specs.declared.limits.TheConstants.{INPUT_BYTES, TASKS};
-ghost use Rattle.uc_meaning.specs.Acts.{act};
-ghost use Rattle.uc_meaning.specs.Answers.{answer_to};
-ghost use Rattle.uc_meaning.specs.Executions.{find};
-ghost use Rattle.uc_meaning.specs.Journal;
-ghost use Rattle.uc_meaning.specs.KernelRuns.{InRange};
-ghost use Rattle.uc_meaning.specs.Known.{is_spawn};
-ghost use Rattle.uc_meaning.specs.Queues.{running};
-ghost use Rattle.uc_meaning.specs.Serves.{left};
-ghost use Rattle.uc_meaning.specs.declared.request.Request.TheVariants as ask;
+ghost use Rattle.uc_acts.specs.Acts.{act};
+ghost use Rattle.uc_acts.specs.Answers.{answer_to};
+ghost use Rattle.uc_entry.specs.Keyed.{find};
+ghost use Rattle.uc_acts.specs.Journal;
+ghost use Rattle.uc_acts.specs.KernelRuns.{InRange};
+ghost use Rattle.uc_acts.specs.Known.{is_spawn};
+ghost use Rattle.uc_acts.specs.Queues.{running};
+ghost use Rattle.uc_acts.specs.Serves.{left};
+ghost use Rattle.uc_entry.specs.declared.request.Request.TheVariants as ask;
 ghost use Rattle.uc_book.specs.Acting.{makes_new};
 ghost use Rattle.uc_book.specs.Mirrors.{AreKnownSites};
 ghost use Rattle.uc_kernel.specs.Numbered.{without};
@@ -24,9 +24,9 @@ use std::alloc::{AllocError, Global};
 use std::marker::Model;
 use uc_book::book::Book;
 use uc_book::entries::Actor;
-use uc_meaning::entry::{Entry, EntryKind, Options};
-use uc_meaning::list::List;
-use uc_meaning::request::{Answer, Request};
+use uc_entry::entry::{Entry, EntryKind, Options};
+use uc_entry::list::List;
+use uc_entry::request::{Answer, Request};
 
 /// The journal of a run with its queues, the values of the tasks that do not run, and the members of objects that no
 /// running task is inside.

@@ -1,13 +1,13 @@
 //! What is at rest: values with the hands of their tasks, and loose members.
 ghost use Rattle.std.specs.Prelude.{◌≡◌, ◌≤◌, ◌<◌, ◌==◌, ◌||◌, true, false, length, slice_index_or, slice_set, slice_get, Some, None, if◌then◌else◌};
-ghost use Rattle.uc_meaning.specs.Executions.{find};
-ghost use Rattle.uc_meaning.specs.Known.{is_gone_by};
+ghost use Rattle.uc_entry.specs.Keyed.{find};
+ghost use Rattle.uc_acts.specs.Known.{is_gone_by};
 ghost use Rattle.uc_kernel.specs.Numbered.{without};
 ghost use Rattle.uc_kernel.specs.Shelves.{admission_in, goes_out, hand_after, laid, loose_after, is_admit, AreApart, CanLetIn, GivenTo, HasRoom, LetIn, LetInBy};
 
 use crate::hand::take_from;
-use uc_meaning::entry::{Entry, EntryKind};
-use uc_meaning::list::List;
+use uc_entry::entry::{Entry, EntryKind};
+use uc_entry::list::List;
 
 /// A task at rest: its value, and the members of the objects that it is inside.
 #[derive(Drop)]

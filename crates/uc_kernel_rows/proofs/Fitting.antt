@@ -2,9 +2,9 @@
 use Rattle.std.proofs.Common.{◌≡◌, ℕ, zero, suc, ◌==◌, ◌<◌, ◌≤◌, ◌+◌, ◌&&◌, Bool, true, false, cond, List, [], ◌∷◌, ◌++◌, refl, sym, ap, ◌∙◌, arith, length, append-nil, append_assoc, take, drop, get_or}
 use Rattle.std.specs.List.{list_any}
 use Rattle.std.proofs.lemmas.Bool.{eq-eqb, ne_eqb}
-use Rattle.uc_meaning.specs.Journal.{Journal, first_or_0, inside, own_object}
-use Rattle.uc_meaning.specs.Known.{has}
-use Rattle.uc_meaning.proofs.Held.{law_held}
+use Rattle.uc_acts.specs.Journal.{Journal, first_or_0, inside, own_object}
+use Rattle.uc_acts.specs.Known.{has}
+use Rattle.uc_acts.proofs.Held.{law_held}
 use Rattle.uc_kernel_rows.specs.declared.watch.Pair.{Pair}
 use Rattle.uc_kernel.specs.Numbered.{keys}
 use Rattle.uc_kernel_rows.specs.Watched.{Watched, Watches, objects_of}

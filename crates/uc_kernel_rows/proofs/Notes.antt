@@ -6,19 +6,19 @@ use Rattle.std.specs.List.{filter, count_by}
 use Rattle.std.proofs.lemmas.Bool.{eqb-true}
 use Rattle.std.proofs.lemmas.List.Elements.{filter-append}
 use Rattle.std.proofs.lemmas.List.Folds.{list_any-append}
-use Rattle.uc_meaning.specs.declared.entry.Entry.{Entry}
-use Rattle.uc_meaning.specs.declared.entry.EntryKind.{EntryKind}
-use Rattle.uc_meaning.specs.declared.entry.EntryKind.TheVariants as kind
-use Rattle.uc_meaning.specs.declared.entry.Options.{Options}
-use Rattle.uc_meaning.specs.Open.{still_open}
-use Rattle.uc_meaning.specs.Journal.{Journal, number, where_true, entries_at, lets_in, moves, is_task, held, owns}
-use Rattle.uc_meaning.specs.Known.{has, is_make, object_count, is_gone, is_gone_by, takes_object, owned, owner}
-use Rattle.uc_meaning.specs.Queues.{is_cluster, is_processor, cluster_count, processor_count}
-use Rattle.uc_meaning.proofs.Open.{still_open_push, filter_true}
-use Rattle.uc_meaning.proofs.Seats.{at_push}
+use Rattle.uc_entry.specs.declared.entry.Entry.{Entry}
+use Rattle.uc_entry.specs.declared.entry.EntryKind.{EntryKind}
+use Rattle.uc_entry.specs.declared.entry.EntryKind.TheVariants as kind
+use Rattle.uc_entry.specs.declared.entry.Options.{Options}
+use Rattle.uc_acts.specs.Open.{still_open}
+use Rattle.uc_acts.specs.Journal.{Journal, number, where_true, entries_at, lets_in, moves, is_task, held, owns}
+use Rattle.uc_acts.specs.Known.{has, is_make, object_count, is_gone, is_gone_by, takes_object, owned, owner}
+use Rattle.uc_acts.specs.Queues.{is_cluster, is_processor, cluster_count, processor_count}
+use Rattle.uc_acts.proofs.Open.{still_open_push, filter_true}
+use Rattle.uc_acts.proofs.Seats.{at_push}
 use Rattle.std.proofs.lemmas.List.Sums.{fold_push}
-use Rattle.uc_meaning.proofs.Sound.{plus, objects_push}
-use Rattle.uc_meaning.proofs.Counted.{gone_push}
+use Rattle.uc_acts.proofs.Sound.{plus, objects_push}
+use Rattle.uc_acts.proofs.Counted.{gone_push}
 use Rattle.uc_kernel_rows.specs.declared.watch.Pair.{Pair}
 use Rattle.uc_kernel_rows.specs.Watched.{Watched, Watches, nothing_read, pair_of, number_if, objects_of, tasks_of, still_inside, own_object_by, own_objects, noted, noted_all}
 

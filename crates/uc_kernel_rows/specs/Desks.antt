@@ -1,8 +1,8 @@
 -- A kernel beside a reader of its journal.
 use Rattle.std.specs.Prelude.{◌≡◌, ℕ, true, false, List, [], ◌∷◌}
 use Rattle.uc_tree.specs.Programs.{Site}
-use Rattle.uc_meaning.specs.declared.entry.Options.{Options}
-use Rattle.uc_meaning.specs.declared.request.Request.{Request}
+use Rattle.uc_entry.specs.declared.entry.Options.{Options}
+use Rattle.uc_entry.specs.declared.request.Request.{Request}
 use Rattle.uc_book.specs.Acting.{makes_new}
 use Rattle.uc_kernel.specs.Kept.{Store}
 use Rattle.uc_kernel.specs.Shelves.{IsMake, IsSpawn}

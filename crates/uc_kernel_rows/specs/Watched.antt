@@ -1,14 +1,14 @@
 -- What a reader of a journal knows of it, and what one entry more makes of that.
 use Rattle.std.specs.Prelude.{◌≡◌, ℕ, ◌==◌, ◌&&◌, ◌+◌, Bool, true, false, not, List, [], ◌∷◌, ◌++◌, Option, Some, None, length, map}
 use Rattle.std.specs.List.{filter}
-use Rattle.uc_meaning.specs.declared.entry.Entry.{Entry}
-use Rattle.uc_meaning.specs.declared.entry.EntryKind.{EntryKind}
-use Rattle.uc_meaning.specs.declared.entry.EntryKind.TheVariants as kind
-use Rattle.uc_meaning.specs.declared.entry.Options.{Options}
-use Rattle.uc_meaning.specs.Open.{still_open}
-use Rattle.uc_meaning.specs.Journal.{Journal, lets_in, moves, held, owns}
-use Rattle.uc_meaning.specs.Known.{has, is_make, object_count, is_gone, is_gone_by, owned, owner}
-use Rattle.uc_meaning.specs.Queues.{is_cluster, is_processor, cluster_count, processor_count}
+use Rattle.uc_entry.specs.declared.entry.Entry.{Entry}
+use Rattle.uc_entry.specs.declared.entry.EntryKind.{EntryKind}
+use Rattle.uc_entry.specs.declared.entry.EntryKind.TheVariants as kind
+use Rattle.uc_entry.specs.declared.entry.Options.{Options}
+use Rattle.uc_acts.specs.Open.{still_open}
+use Rattle.uc_acts.specs.Journal.{Journal, lets_in, moves, held, owns}
+use Rattle.uc_acts.specs.Known.{has, is_make, object_count, is_gone, is_gone_by, owned, owner}
+use Rattle.uc_acts.specs.Queues.{is_cluster, is_processor, cluster_count, processor_count}
 use Rattle.uc_kernel_rows.specs.declared.watch.Pair.{Pair}
 
 -- who is inside which objects, in the order in which they entered; whose own which object is; what was made beside the opening ones, and what is gone

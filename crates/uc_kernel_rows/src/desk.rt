@@ -1,8 +1,8 @@
 //! A kernel that is driven by its public calls, with a reader of its journal that tells what may be brought to it.
 ghost use Rattle.std.specs.Prelude.{◌≡◌, ◌≤◌, ◌<◌, ◌∷◌, [], true, false, length, drop, IfOk, OnOk, IfSome, IsSome};
 ghost use Rattle.uc_tree.specs.declared.limits.TheConstants.{INPUT_BYTES};
-ghost use Rattle.uc_meaning.specs.Journal.{is_over};
-ghost use Rattle.uc_meaning.specs.KernelRuns.{InRange};
+ghost use Rattle.uc_acts.specs.Journal.{is_over};
+ghost use Rattle.uc_acts.specs.KernelRuns.{InRange};
 ghost use Rattle.uc_book.specs.Acting.{makes_new};
 ghost use Rattle.uc_kernel.specs.Kept.{kept};
 ghost use Rattle.uc_kernel.specs.Calls.{Acted, MayBring};
@@ -12,10 +12,10 @@ ghost use Rattle.uc_kernel_rows.specs.Desks.{HasForm, IsDesk};
 use crate::sites::known_sites;
 use crate::watch::Watch;
 use std::alloc::{AllocError, Global};
+use uc_entry::entry::{Entry, Options};
+use uc_entry::request::Request;
 use uc_kernel::given::{Back, Given, Next, Shape};
 use uc_kernel::kernel::Kernel;
-use uc_meaning::entry::{Entry, Options};
-use uc_meaning::request::Request;
 use uc_tree::limits::{
     ENTRIES_MAX, ENTRIES_MIN, INPUT_BYTES, PROCESSORS, PROCESSORS_MIN, SLICE_MAX, SLICE_MIN,
     TICKS_MAX, TICKS_MIN,

@@ -1,20 +1,21 @@
 //! What a task may ask of a kernel, by what a reader of the journal knows.
 ghost use Rattle.std.specs.Prelude.{◌≡◌, ◌<◌, ◌≤◌, ◌^◌, ◌&&◌, ◌==◌, ◌∷◌, ◌++◌, [], true, length, drop, IfSome};
 ghost use Rattle.std.specs.List.{list_any, filter};
-ghost use Rattle.uc_tree.specs.declared.limits.TheConstants.{MEMBERS, EVENTS, PRINT_ITEMS};
-ghost use Rattle.uc_meaning.specs.Doors.{site_at};
-ghost use Rattle.uc_meaning.specs.Journal.{Journal, first_or_0, own_object};
-ghost use Rattle.uc_meaning.specs.Known.{has, owner};
-ghost use Rattle.uc_meaning.specs.Queues.{cluster_count, processor_count};
-ghost use Rattle.uc_meaning.specs.KernelRuns.{Fits, IsAt, IsMade, IsOutside};
+ghost use Rattle.uc_tree.specs.declared.limits.TheConstants.{MEMBERS, EVENTS};
+ghost use Rattle.uc_entry.specs.declared.request.TheConstants.{PRINT_ITEMS};
+ghost use Rattle.uc_acts.specs.Doors.{site_at};
+ghost use Rattle.uc_acts.specs.Journal.{Journal, first_or_0, own_object};
+ghost use Rattle.uc_acts.specs.Known.{has, owner};
+ghost use Rattle.uc_acts.specs.Queues.{cluster_count, processor_count};
+ghost use Rattle.uc_acts.specs.KernelRuns.{Fits, IsAt, IsMade, IsOutside};
 ghost use Rattle.uc_kernel.specs.Numbered.{keys};
 ghost use Rattle.uc_kernel_rows.specs.Watched.{Watches, objects_of};
 
 use crate::watch::{Pair, Watch};
-use uc_meaning::entry::Options;
-use uc_meaning::list::List;
-use uc_meaning::request::{Piece, Request};
-use uc_tree::limits::{EVENTS, MEMBERS, PRINT_ITEMS};
+use uc_entry::entry::Options;
+use uc_entry::list::List;
+use uc_entry::request::{PRINT_ITEMS, Piece, Request};
+use uc_tree::limits::{EVENTS, MEMBERS};
 use uc_tree::site::Site;
 
 impl Watch {

@@ -6,10 +6,10 @@ use crate::desk::{Desk, Turn, give, open, take_turn};
 use crate::show::{dispatch_text, journal_text, turn_text};
 use crate::words::Words;
 use std::alloc::{AllocError, Global};
+use uc_entry::entry::Options;
+use uc_entry::list::List;
+use uc_entry::request::{Answer, Asked, Request};
 use uc_kernel::given::{Back, Given, Next};
-use uc_meaning::entry::Options;
-use uc_meaning::list::List;
-use uc_meaning::request::{Answer, Asked, Request};
 
 // What a task of a row asks: on which processor, after how many ticks, with which value of a new task.
 #[derive(Clone, Copy)]

@@ -2,10 +2,10 @@
 
 use crate::desk::Turn;
 use std::alloc::{AllocError, Global};
+use uc_entry::entry::Entry;
+use uc_entry::list::List;
 use uc_journal::write_entry;
 use uc_kernel::given::{Given, Next};
-use uc_meaning::entry::Entry;
-use uc_meaning::list::List;
 
 // The members of a hand, each behind the number of its object.
 fn hand_text(alloc: Global, hand: &List<(u32, u32)>) -> Result<String, AllocError> {

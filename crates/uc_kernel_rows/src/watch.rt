@@ -1,13 +1,13 @@
 //! What a reader of a journal knows of it, entry by entry.
 ghost use Rattle.std.specs.Prelude.{◌≡◌, ◌==◌, ◌&&◌, ◌++◌, OnOk};
-ghost use Rattle.uc_meaning.specs.Journal.{number, lets_in, moves};
-ghost use Rattle.uc_meaning.specs.Known.{owned, is_make, is_gone_by};
-ghost use Rattle.uc_meaning.specs.Queues.{is_cluster, is_processor};
+ghost use Rattle.uc_acts.specs.Journal.{number, lets_in, moves};
+ghost use Rattle.uc_acts.specs.Known.{owned, is_make, is_gone_by};
+ghost use Rattle.uc_acts.specs.Queues.{is_cluster, is_processor};
 ghost use Rattle.uc_kernel_rows.specs.Watched.{nothing_read, noted, noted_all, still_inside, pair_of, number_if, own_object_by};
 
 use std::alloc::{AllocError, Global};
 use std::marker::Model;
-use uc_meaning::entry::{Entry, EntryKind};
+use uc_entry::entry::{Entry, EntryKind};
 
 /// A task and an object that it is inside of, or that is its own.
 #[derive(Clone, Copy)]

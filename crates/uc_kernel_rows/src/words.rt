@@ -2,7 +2,7 @@
 ghost use Rattle.std.specs.Prelude.{◌<◌};
 
 use std::alloc::{AllocError, Global};
-use uc_meaning::request::{Piece, Request};
+use uc_entry::request::{Piece, Request};
 
 /// The words of a line, and the object that `new` stands for.
 #[derive(Drop)]

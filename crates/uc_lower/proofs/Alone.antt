@@ -15,19 +15,19 @@ use Rattle.uc_tree.specs.Programs.{Sig, Routine, MemberForm, FieldsMember, Routi
 use Rattle.uc_tree.specs.Cells.{classes_of}
 use Rattle.uc_tree.specs.Numbering.{is_plain, main_name, unhandled_name}
 use Rattle.uc_tree.specs.Objects.{same_role}
-use Rattle.uc_meaning.specs.declared.rules.Home.{Home}
-use Rattle.uc_meaning.specs.declared.rules.Sort.{Sort}
-use Rattle.uc_meaning.specs.declared.rules.Sort.TheVariants as sort
-use Rattle.uc_meaning.specs.declared.rules.Sort.TheVariants.{Object}
-use Rattle.uc_meaning.specs.Breaks.{breaks_at, breaks_among, breaks_of}
-use Rattle.uc_meaning.specs.ItemBreaks.{are_one, class_declares, clashes, defines_member, form_declares_sig, has_class_name, is_defined, is_definition, is_forward_item, is_main_base, is_member_definition, is_named, is_named_proto, is_new_item, is_only_one, is_program_main, is_sound_item, is_sound_member, item_name, outer_name, same_base, same_params, same_sig}
-use Rattle.uc_meaning.specs.ItemBreaks as rules
-use Rattle.uc_meaning.specs.ProgramVisits as visits
-use Rattle.uc_meaning.specs.ProgramVisits.{class_visits, classes_in, form_visits, home_of, item_visits, items_visits, members_visits, owner_home, program_visits, routine_visits, sig_env, sig_visits}
-use Rattle.uc_meaning.specs.Names.{is_destructor, is_here}
-use Rattle.uc_meaning.specs.Scopes.{class_around, plain_env}
-use Rattle.uc_meaning.specs.Sorts.{class_at, class_named}
-use Rattle.uc_meaning.specs.Visits.{AtClass, AtItem, AtMark, AtProgram, AtRoutine}
+use Rattle.uc_rules.specs.declared.rules.Home.{Home}
+use Rattle.uc_rules.specs.declared.rules.Sort.{Sort}
+use Rattle.uc_rules.specs.declared.rules.Sort.TheVariants as sort
+use Rattle.uc_rules.specs.declared.rules.Sort.TheVariants.{Object}
+use Rattle.uc_rules.specs.Breaks.{breaks_at, breaks_among, breaks_of}
+use Rattle.uc_rules.specs.ItemBreaks.{are_one, class_declares, clashes, defines_member, form_declares_sig, has_class_name, is_defined, is_definition, is_forward_item, is_main_base, is_member_definition, is_named, is_named_proto, is_new_item, is_only_one, is_program_main, is_sound_item, is_sound_member, item_name, outer_name, same_base, same_params, same_sig}
+use Rattle.uc_rules.specs.ItemBreaks as rules
+use Rattle.uc_rules.specs.ProgramVisits as visits
+use Rattle.uc_rules.specs.ProgramVisits.{class_visits, classes_in, form_visits, home_of, item_visits, items_visits, members_visits, owner_home, program_visits, routine_visits, sig_env, sig_visits}
+use Rattle.uc_rules.specs.Names.{is_destructor, is_here}
+use Rattle.uc_rules.specs.Scopes.{class_around, plain_env}
+use Rattle.uc_rules.specs.Sorts.{class_at, class_named}
+use Rattle.uc_rules.specs.Visits.{AtClass, AtItem, AtMark, AtProgram, AtRoutine}
 use Rattle.uc_lower.proofs.Ruled.{among_left, among_right, class_none, first_none, rest_none, no_left, no_right, holds}
 use Rattle.uc_lower.proofs.Distinct.{Fresh, same_self}
 use Rattle.uc_lower.proofs.Numbers.{first_named, names_in}

@@ -13,11 +13,11 @@ use Rattle.uc_tree.specs.Cells.{classes_of}
 use Rattle.uc_tree.specs.Numbering.{Defined, class_number, defined_by, form_defined, in_class, is_plain, item_defined, items_defined, members_defined, routines_of}
 use Rattle.uc_tree.specs.Objects.{place_of}
 use Rattle.uc_tree.specs.Objects as objects
-use Rattle.uc_tree.specs.Resolve.{place_by}
-use Rattle.uc_meaning.specs.Breaks.{breaks_of}
-use Rattle.uc_meaning.specs.ItemBreaks.{defines_member}
-use Rattle.uc_meaning.specs.ClassBreaks.{is_owner}
-use Rattle.uc_meaning.specs.ProgramVisits as visits
+use Rattle.uc_resolve.specs.Resolve.{place_by}
+use Rattle.uc_rules.specs.Breaks.{breaks_of}
+use Rattle.uc_rules.specs.ItemBreaks.{defines_member}
+use Rattle.uc_rules.specs.ClassBreaks.{is_owner}
+use Rattle.uc_rules.specs.ProgramVisits as visits
 use Rattle.uc_lower.proofs.Distinct.{same_self}
 use Rattle.uc_lower.proofs.Numbers.{names_in, number_back, same_number}
 use Rattle.uc_lower.proofs.Owed.{IsApart, AreApart}

@@ -12,12 +12,12 @@ use Rattle.uc_tree.specs.Names.{same_name}
 use Rattle.uc_tree.specs.Objects.{Unwritten, unwritten_of}
 use Rattle.uc_tree.specs.ProgramMain.{is_main_item, is_main_sig, main_among, main_number, no_params, returns_as_main}
 use Rattle.uc_tree.specs.Programs.{Routine, Item, ClassItem, RoutineItem, ConstItem, ProtoItem, ForwardItem, UsingItem, Program, Sig}
-use Rattle.uc_tree.specs.Resolve.{all_classes, all_unwritten, place_by, routine_scope, routine_meant, routines_meant, source_of}
+use Rattle.uc_resolve.specs.Resolve.{all_classes, all_unwritten, place_by, routine_scope, routine_meant, routines_meant, source_of}
 use Rattle.uc_tree.specs.Sizes.{program_size}
 use Rattle.uc_tree.specs.Source as source
 use Rattle.uc_tree.specs.StatementSizes.{stmts_size}
 use Rattle.uc_built.specs.BuiltForms.{are_built, is_built_sig, IsBuilt}
-use Rattle.uc_meaning.specs.Breaks.{breaks_of}
+use Rattle.uc_rules.specs.Breaks.{breaks_of}
 use Rattle.uc_code.specs.declared.rows.RoutineCode.{RoutineCode}
 use Rattle.uc_code.specs.Codes.{Code}
 use Rattle.uc_code.specs.Drafts.{Draft}

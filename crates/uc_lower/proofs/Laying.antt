@@ -7,7 +7,7 @@ use Rattle.uc_tree.specs.Numbering.{Defined, own_texts, own_sites}
 use Rattle.uc_tree.specs.Objects.{Unwritten}
 use Rattle.uc_tree.specs.Programs.{Program, Routine}
 use Rattle.uc_tree.specs.Source as source
-use Rattle.uc_tree.specs.Resolve.{all_unwritten, place_by, routine_scope, routine_meant, routines_meant, unwritten_meant}
+use Rattle.uc_resolve.specs.Resolve.{all_unwritten, place_by, routine_scope, routine_meant, routines_meant, unwritten_meant}
 use Rattle.uc_built.specs.BuiltForms.{are_built}
 use Rattle.uc_code.specs.declared.rows.MainOf.TheVariants as main_of
 use Rattle.uc_code.specs.declared.rows.RoutineCode.{RoutineCode}

@@ -13,14 +13,14 @@ use Rattle.uc_tree.specs.Numbering.{unhandled_name}
 use Rattle.uc_tree.specs.Statements.{Declarator}
 use Rattle.uc_tree.specs.Programs.{MemberForm, FieldsMember, RoutineMember, ProtoMember, Member, Class, Program}
 use Rattle.uc_tree.specs.Objects.{ClassField, declared_fields, fields_of, form_fields}
-use Rattle.uc_meaning.specs.declared.rules.Home.{Home}
-use Rattle.uc_meaning.specs.Breaks.{breaks_at, breaks_among}
-use Rattle.uc_meaning.specs.ClassBreaks.{declared_names, fields_at, form_declares_names, is_new_field, is_new_member, member_fields, members_declare, sig_declares}
-use Rattle.uc_meaning.specs.ClassBreaks as rules
-use Rattle.uc_meaning.specs.ProgramVisits.{fields_visits, form_visits, members_visits}
-use Rattle.uc_meaning.specs.Scopes.{class_around, plain_env}
-use Rattle.uc_meaning.specs.Names.{place_in}
-use Rattle.uc_meaning.specs.Visits.{AtBase, AtField, AtMark, maybe_visits}
+use Rattle.uc_rules.specs.declared.rules.Home.{Home}
+use Rattle.uc_rules.specs.Breaks.{breaks_at, breaks_among}
+use Rattle.uc_rules.specs.ClassBreaks.{declared_names, fields_at, form_declares_names, is_new_field, is_new_member, member_fields, members_declare, sig_declares}
+use Rattle.uc_rules.specs.ClassBreaks as rules
+use Rattle.uc_rules.specs.ProgramVisits.{fields_visits, form_visits, members_visits}
+use Rattle.uc_rules.specs.Scopes.{class_around, plain_env}
+use Rattle.uc_rules.specs.Names.{place_in}
+use Rattle.uc_rules.specs.Visits.{AtBase, AtField, AtMark, maybe_visits}
 use Rattle.uc_lower.proofs.Ruled.{among_left, among_right, first_none, rest_none, no_left, holds}
 use Rattle.uc_lower.proofs.Distinct.{Fresh}
 

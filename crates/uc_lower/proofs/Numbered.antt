@@ -6,7 +6,7 @@ use Rattle.uc_tree.specs.Programs.{Class, Program}
 use Rattle.uc_tree.specs.Cells.{class_cells}
 use Rattle.uc_tree.specs.Numbering.{is_event, routines_of}
 use Rattle.uc_tree.specs.Objects.{Unwritten, place_among, unwritten_number, unwritten_of}
-use Rattle.uc_tree.specs.Resolve.{classes_meant}
+use Rattle.uc_resolve.specs.Resolve.{classes_meant}
 use Rattle.uc_tree.specs.Source as source
 use Rattle.std.specs.Prelude.{slice_get}
 use Rattle.uc_unwritten.specs.declared.unwritten.Unwritten.{Unwritten as Nobody}

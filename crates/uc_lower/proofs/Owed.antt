@@ -9,7 +9,7 @@ use Rattle.uc_tree.specs.Programs.{Class, Program}
 use Rattle.uc_tree.specs.Cells.{classes_of}
 use Rattle.uc_tree.specs.Numbering.{Defined, is_event, is_plain}
 use Rattle.uc_tree.specs.Objects.{class_at, has_role, number_at, place_of, role_from, same_role}
-use Rattle.uc_tree.specs.Resolve.{class_by, place_by}
+use Rattle.uc_resolve.specs.Resolve.{class_by, place_by}
 use Rattle.uc_lower.proofs.Placed.{belongs, belongs_has, is_place}
 use Rattle.uc_lower.proofs.Sums.{sum, sum_le, sum_more}
 

@@ -9,9 +9,9 @@ use Rattle.uc_tree.specs.Names.{same_name}
 use Rattle.uc_tree.specs.Programs.{Class, Program}
 use Rattle.uc_tree.specs.Cells.{classes_of}
 use Rattle.uc_tree.specs.Numbering.{Defined, is_event}
-use Rattle.uc_tree.specs.Objects.{class_at, has_role, is_constructor, number_at, place_of, same_role}
+use Rattle.uc_tree.specs.Objects.{class_at, has_role, is_constructor, number_at, place_of, same_role, event_from, event_place}
 use Rattle.uc_tree.specs.Objects as objects
-use Rattle.uc_tree.specs.Resolve.{event_from, event_place, place_by}
+use Rattle.uc_resolve.specs.Resolve.{place_by}
 use Rattle.uc_lower_expr.specs.Events.{builds_event}
 
 pub nat_same : (a b : ℕ) → nat_eq a b ≡ true → a ≡ b

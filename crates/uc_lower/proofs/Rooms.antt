@@ -12,12 +12,12 @@ use Rattle.uc_tree.specs.Programs.{Init, Routine, Class, Program}
 use Rattle.uc_tree.specs.Cells.{classes_of}
 use Rattle.uc_tree.specs.Numbering.{Defined, is_event, routines_of}
 use Rattle.uc_tree.specs.Objects.{ClassField, Unwritten, has_execution, class_at, fields_of, unwritten_at, unwritten_by, unwritten_of, written_at}
-use Rattle.uc_tree.specs.Resolve.{class_by, place_by}
-use Rattle.uc_meaning.specs.declared.rules.Home.{Home}
-use Rattle.uc_meaning.specs.Breaks.{breaks_among, breaks_of}
-use Rattle.uc_meaning.specs.ProgramVisits.{items_visits, members_visits}
-use Rattle.uc_meaning.specs.Scopes.{class_around, plain_env}
-use Rattle.uc_meaning.specs.Visits.{AtClass, AtProgram}
+use Rattle.uc_resolve.specs.Resolve.{class_by, place_by}
+use Rattle.uc_rules.specs.declared.rules.Home.{Home}
+use Rattle.uc_rules.specs.Breaks.{breaks_among, breaks_of}
+use Rattle.uc_rules.specs.ProgramVisits.{items_visits, members_visits}
+use Rattle.uc_rules.specs.Scopes.{class_around, plain_env}
+use Rattle.uc_rules.specs.Visits.{AtClass, AtProgram}
 use Rattle.uc_lower_class.specs.Bodies.{builder_room, part_end, role_room, unwritten_room}
 use Rattle.uc_lower_class.specs.Fields.{all_room, enliven_room, fields_room, forget_count, left_room, live_room, room_by, set_up_room, start_room, take_down_room}
 use Rattle.uc_lower_class.specs.Inits.{init_exprs}

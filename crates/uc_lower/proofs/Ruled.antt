@@ -19,15 +19,15 @@ use Rattle.uc_tree.specs.Numbering.{condition_count}
 use Rattle.uc_sizes.proofs.Depths.{row_past, cells_next}
 use Rattle.uc_sizes.proofs.Reached.{further}
 use Rattle.uc_unwritten.proofs.Deep.{count_rows}
-use Rattle.uc_meaning.specs.declared.rule.Rule.{Rule}
-use Rattle.uc_meaning.specs.declared.rules.Home.{Home}
-use Rattle.uc_meaning.specs.Asked.{unless}
-use Rattle.uc_meaning.specs.Breaks.{breaks_at, breaks_among, breaks_of}
-use Rattle.uc_meaning.specs.ClassBreaks.{has_room, field_object, leads_back}
-use Rattle.uc_meaning.specs.ProgramVisits.{class_visits, fields_visits, form_visits, item_visits, items_visits, members_visits}
-use Rattle.uc_meaning.specs.Scopes.{Env, class_around, plain_env}
-use Rattle.uc_meaning.specs.Names.{place_in}
-use Rattle.uc_meaning.specs.Visits.{Visit, AtField, AtBase, AtClass, AtItem, AtMark, AtProgram, maybe_visits}
+use Rattle.uc_rules.specs.declared.rule.Rule.{Rule}
+use Rattle.uc_rules.specs.declared.rules.Home.{Home}
+use Rattle.uc_rules.specs.Asked.{unless}
+use Rattle.uc_rules.specs.Breaks.{breaks_at, breaks_among, breaks_of}
+use Rattle.uc_rules.specs.ClassBreaks.{has_room, field_object, leads_back}
+use Rattle.uc_rules.specs.ProgramVisits.{class_visits, fields_visits, form_visits, item_visits, items_visits, members_visits}
+use Rattle.uc_rules.specs.Scopes.{Env, class_around, plain_env}
+use Rattle.uc_rules.specs.Names.{place_in}
+use Rattle.uc_rules.specs.Visits.{Visit, AtField, AtBase, AtClass, AtItem, AtMark, AtProgram, maybe_visits}
 use Rattle.uc_lower_expr.specs.Members.{FitClasses}
 
 -- what is empty has empty parts

@@ -7,7 +7,7 @@ use Rattle.uc_tree.specs.Numbering.{Defined, routines_of}
 use Rattle.uc_tree.specs.Cells.{leading_cells}
 use Rattle.uc_tree.specs.Objects.{ClassField, Unwritten, has_execution, class_at, class_shape, fields_of, unwritten_of}
 use Rattle.uc_tree.specs.Programs.{Class, Program}
-use Rattle.uc_tree.specs.Resolve.{Meant, Own, all_unwritten, build, construction, construction_ends, destruction, enlivened, field_built, field_class, field_left, field_place, fields_built, fields_left, forgotten, length_in_class, nowhere, routines_meant, set_up, source_of, started_in, taken_down, unwritten_body, unwritten_meant}
+use Rattle.uc_resolve.specs.Resolve.{Meant, Own, all_unwritten, build, construction, construction_ends, destruction, enlivened, field_built, field_class, field_left, field_place, fields_built, fields_left, forgotten, length_in_class, nowhere, routines_meant, set_up, source_of, started_in, taken_down, unwritten_body, unwritten_meant}
 use Rattle.uc_tree.specs.Source as source
 use Rattle.uc_code.specs.Silent.{silent, silent_all}
 use Rattle.uc_lower.specs.Laying.{last_of}

@@ -7,7 +7,7 @@ use Rattle.uc_tree.specs.Gathered.{gathered_all}
 use Rattle.uc_tree.specs.Numbering.{Defined, own_texts}
 use Rattle.uc_tree.specs.Objects.{Unwritten, class_at}
 use Rattle.uc_tree.specs.Programs.{Program}
-use Rattle.uc_tree.specs.Resolve.{all_unwritten, place_by, routines_meant}
+use Rattle.uc_resolve.specs.Resolve.{all_unwritten, place_by, routines_meant}
 use Rattle.uc_code.specs.Drafts.{Draft}
 use Rattle.uc_code.specs.Laid.{laid_in}
 use Rattle.uc_code.specs.Lowered.{RoutinesAt}

@@ -5,7 +5,7 @@ ghost use Rattle.uc_tree.specs.Cells.{class_cells, classes_of};
 ghost use Rattle.uc_tree.specs.Numbering.{routines_of};
 ghost use Rattle.uc_tree.specs.Objects.{unwritten_of};
 ghost use Rattle.uc_tree.specs.Programs.{Program};
-ghost use Rattle.uc_tree.specs.Resolve.{all_classes, classes_meant};
+ghost use Rattle.uc_resolve.specs.Resolve.{all_classes, classes_meant};
 ghost use Rattle.uc_lower_expr.specs.Members.{FitClasses};
 ghost use Rattle.uc_lower_expr.specs.Numbered.{IsNumbering};
 ghost use Rattle.uc_numbers.specs.Routines.{defined_at};

@@ -8,7 +8,7 @@ use Rattle.uc_tree.specs.StatementSizes.{stmts_size}
 use Rattle.uc_tree.specs.Programs.{Class, Init, Program, Routine}
 use Rattle.uc_tree.specs.Objects.{class_at}
 use Rattle.uc_tree.specs.Source.{Expr, Stmt, Stmts, Nil, Then, Built, Whole}
-use Rattle.uc_tree.specs.Resolve.{Meant, Scope, body_by, build, class_by, clean_up, construction, construction_ends, destruction, nowhere, place_or_zero, scope_behind, stmts_meant, unwritten_body}
+use Rattle.uc_resolve.specs.Resolve.{Meant, Scope, body_by, build, class_by, clean_up, construction, construction_ends, destruction, nowhere, place_or_zero, scope_behind, stmts_meant, unwritten_body}
 use Rattle.uc_code.specs.declared.rows.Array.{Array}
 use Rattle.uc_code.specs.declared.rows.Mark.{Mark}
 use Rattle.uc_code.specs.declared.rows.ObjectCall.{ObjectCall}

@@ -16,7 +16,7 @@ use Rattle.uc_tree.specs.Cells.{declared_cells, params_cells, routine_cells, stm
 use Rattle.uc_tree.specs.Scopes.{stmts_scopes}
 use Rattle.uc_tree.specs.Programs.{Class, Program, Routine}
 use Rattle.uc_tree.specs.Source as source
-use Rattle.uc_tree.specs.Resolve.{Scope, body_by, class_by, has_coroutines, is_coroutine_main, params_known, purpose_of, role_purpose, routine_meant, routine_scope, scope_behind, unwritten_body, unwritten_meant}
+use Rattle.uc_resolve.specs.Resolve.{Scope, body_by, class_by, has_coroutines, is_coroutine_main, params_known, purpose_of, role_purpose, routine_meant, routine_scope, scope_behind, unwritten_body, unwritten_meant}
 use Rattle.uc_code.specs.declared.op.Op.TheVariants as op
 use Rattle.uc_code.specs.declared.rows.Mark.{Mark}
 use Rattle.uc_code.specs.declared.rows.Mark.TheVariants as mark

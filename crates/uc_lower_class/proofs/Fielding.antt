@@ -9,7 +9,7 @@ use Rattle.uc_tree.specs.declared.limits.TheConstants.{OPS_FOR_SIZE}
 use Rattle.uc_tree.specs.Programs.{Class, Program}
 use Rattle.uc_tree.specs.Objects.{ClassField, class_shape, plain_class, shape_of}
 use Rattle.uc_tree.specs.Source.{field_cells, Expr, Literal, OfObject, OwnField, Shape, Stmts, Assign, Evaluate, Then, Built, Scoped}
-use Rattle.uc_tree.specs.Resolve.{Meant, AtPlace, args_meant, meant, build, clean_up, converted, value_of, field_built, field_class, field_left, field_type, length_in_class}
+use Rattle.uc_resolve.specs.Resolve.{Meant, AtPlace, args_meant, meant, build, clean_up, converted, value_of, field_built, field_class, field_left, field_type, length_in_class}
 use Rattle.uc_code.specs.declared.op.Op.TheVariants as op
 use Rattle.uc_code.specs.declared.rows.Mark.{Mark}
 use Rattle.uc_code.specs.declared.rows.Cleaning.{Cleaning}

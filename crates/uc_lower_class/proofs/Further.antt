@@ -10,7 +10,7 @@ use Rattle.uc_tree.specs.Cells.{classes_of, held_by, object_of, row_of, rows_of,
 use Rattle.uc_tree.specs.Constants.{constants_of}
 use Rattle.uc_tree.specs.Numbering.{routines_of}
 use Rattle.uc_tree.specs.Objects.{ClassField, Unwritten, class_at, class_height, fields_of, height_within, plain_class, plain_in, written_at}
-use Rattle.uc_tree.specs.Resolve.{field_class}
+use Rattle.uc_resolve.specs.Resolve.{field_class}
 use Rattle.uc_sizes.specs.Depths.{Holds, First, Later}
 use Rattle.uc_sizes.proofs.Depths.{heights_fall, heights_few}
 use Rattle.uc_lower_expr.specs.Members.{FitClasses, routine_by}

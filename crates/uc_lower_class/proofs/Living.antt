@@ -4,7 +4,7 @@ use Rattle.uc_tree.specs.Cells.{leading_cells}
 use Rattle.uc_tree.specs.Objects.{has_execution, fields_of}
 use Rattle.uc_tree.specs.Programs.{Class, Init, Program}
 use Rattle.uc_tree.specs.Source.{CleanUp, Unwinds, Forgets, Built, OfTasks, SetUp, TakeDown}
-use Rattle.uc_tree.specs.Resolve.{Scope, construction_ends, enlivened, fields_built, fields_left, forgotten, has_coroutines, main_at, set_up, started_in, taken_down}
+use Rattle.uc_resolve.specs.Resolve.{Scope, construction_ends, enlivened, fields_built, fields_left, forgotten, has_coroutines, main_at, set_up, started_in, taken_down}
 use Rattle.uc_code.specs.declared.op.Op.TheVariants as op
 use Rattle.uc_code.specs.declared.rows.Cleaning.{Cleaning}
 use Rattle.uc_code.specs.declared.rows.Cleaning.TheVariants as cleaning

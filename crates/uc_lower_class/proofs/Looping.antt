@@ -10,7 +10,7 @@ use Rattle.uc_tree.specs.Programs.{Class, Init, Program}
 use Rattle.uc_tree.specs.Cells.{leading_cells, seen_in}
 use Rattle.uc_tree.specs.Constants.{constants_of}
 use Rattle.uc_tree.specs.Objects.{ClassField, class_shape, fields_of}
-use Rattle.uc_tree.specs.Resolve.{Meant, Own, Scope, args_meant, context_at, field_built, field_class, field_length, field_place, fields_built, fields_left, init_args, init_named, length_in_class}
+use Rattle.uc_resolve.specs.Resolve.{Meant, Own, Scope, args_meant, context_at, field_built, field_class, field_length, field_place, fields_built, fields_left, init_args, init_named, length_in_class}
 use Rattle.uc_code.specs.declared.rows.Cleaning.{Cleaning}
 use Rattle.uc_code.specs.Drafts.{Draft}
 use Rattle.uc_code.specs.Laid.{routine_in}

@@ -7,7 +7,7 @@ use Rattle.uc_tree.specs.ExpressionSizes.{exprs_size}
 use Rattle.uc_tree.specs.Programs.{Class, Init, Program}
 use Rattle.uc_tree.specs.Cells.{classes_of, leading_cells}
 use Rattle.uc_tree.specs.Objects.{ClassField, class_at, fields_of}
-use Rattle.uc_tree.specs.Resolve.{Meant, Scope, args_meant, context_at}
+use Rattle.uc_resolve.specs.Resolve.{Meant, Scope, args_meant, context_at}
 use Rattle.uc_code.specs.declared.rows.Mark.{Mark}
 use Rattle.uc_code.specs.declared.rows.Cleaning.{Cleaning}
 use Rattle.uc_code.specs.Drafts.{Draft}

@@ -8,7 +8,7 @@ use Rattle.uc_tree.specs.StatementSizes.{stmts_size}
 use Rattle.uc_tree.specs.Cells.{declared_cells, stmts_cells}
 use Rattle.uc_tree.specs.Scopes.{stmts_scopes}
 use Rattle.uc_tree.specs.Programs.{Program, Routine}
-use Rattle.uc_tree.specs.Resolve.{Scope, scope_behind, stmts_meant}
+use Rattle.uc_resolve.specs.Resolve.{Scope, scope_behind, stmts_meant}
 use Rattle.uc_code.specs.declared.op.Op.{Op}
 use Rattle.uc_code.specs.declared.op.Op.TheVariants as op
 use Rattle.uc_code.specs.declared.rows.Mark.{Mark}

@@ -10,7 +10,7 @@ use Rattle.uc_tree.specs.Programs.{Class, Program, Routine}
 use Rattle.uc_tree.specs.Numbering.{is_event, is_plain}
 use Rattle.uc_tree.specs.Objects.{Unwritten, class_at, written_at, unwritten_number}
 use Rattle.uc_tree.specs.Source.{Stmts, Whole}
-use Rattle.uc_tree.specs.Resolve.{Scope, body_by, class_by, scope_behind, stmts_meant, unwritten_body}
+use Rattle.uc_resolve.specs.Resolve.{Scope, body_by, class_by, scope_behind, stmts_meant, unwritten_body}
 use Rattle.uc_code.specs.Drafts.{Draft}
 use Rattle.uc_code.specs.Lowered.{StmtAt, StmtsAt}
 use Rattle.uc_lower_stmt.specs.Scoped.{Lowers, scope_of, sizes_at}

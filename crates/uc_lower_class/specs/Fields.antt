@@ -8,7 +8,7 @@ use Rattle.uc_tree.specs.Programs.{Class, Init, Program}
 use Rattle.uc_tree.specs.Cells.{leading_cells}
 use Rattle.uc_tree.specs.Objects.{ClassField, has_execution, class_at, class_shape, fields_of}
 use Rattle.uc_tree.specs.Source.{Expr, Shape, Stmts}
-use Rattle.uc_tree.specs.Resolve.{Meant, Own, Scope, converted, value_of, field_built, field_class, field_left, field_place, field_started, fields_built, fields_left, forgotten, length_in_class, set_up, started_in, taken_down}
+use Rattle.uc_resolve.specs.Resolve.{Meant, Own, Scope, converted, value_of, field_built, field_class, field_left, field_place, field_started, fields_built, fields_left, forgotten, length_in_class, set_up, started_in, taken_down}
 use Rattle.uc_code.specs.declared.rows.Mark.{Mark}
 use Rattle.uc_code.specs.declared.rows.Spot.TheVariants as spot
 use Rattle.uc_code.specs.declared.op.Op.TheVariants as op

@@ -9,7 +9,7 @@ ghost use Rattle.uc_tree.specs.Numbering.{is_plain, own_sites, own_texts, routin
 ghost use Rattle.uc_tree.specs.Objects.{class_at};
 ghost use Rattle.uc_tree.specs.ProgramMain.{main_number};
 ghost use Rattle.uc_tree.specs.Scopes.{stmts_scopes};
-ghost use Rattle.uc_tree.specs.Resolve.{class_by, nowhere, routine_meant, routine_scope, unwritten_meant};
+ghost use Rattle.uc_resolve.specs.Resolve.{class_by, nowhere, routine_meant, routine_scope, unwritten_meant};
 ghost use Rattle.uc_tree.specs.declared.kinds.Role.TheVariants as role;
 ghost use Rattle.uc_built.specs.BuiltForms.{are_built};
 ghost use Rattle.uc_code.specs.Laid.{laid_in, routine_in};

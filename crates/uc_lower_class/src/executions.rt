@@ -5,7 +5,7 @@ ghost use Rattle.uc_tree.specs.declared.limits.TheConstants.{PROGRAM_OPS};
 ghost use Rattle.uc_tree.specs.Cells.{classes_of};
 ghost use Rattle.uc_tree.specs.Programs.{Program};
 ghost use Rattle.uc_tree.specs.Source.{Built, CleanUp};
-ghost use Rattle.uc_tree.specs.Resolve.{class_by, construction_ends, enlivened, forgotten, set_up, started_in, taken_down};
+ghost use Rattle.uc_resolve.specs.Resolve.{class_by, construction_ends, enlivened, forgotten, set_up, started_in, taken_down};
 ghost use Rattle.uc_code.specs.declared.rows.Mark.{Mark};
 ghost use Rattle.uc_code.specs.Lowered.{StmtsAt};
 ghost use Rattle.uc_code.specs.ObjectCalls.{Cleans};

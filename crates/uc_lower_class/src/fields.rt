@@ -7,7 +7,7 @@ ghost use Rattle.uc_tree.specs.Expressions.{exprs_of};
 ghost use Rattle.uc_tree.specs.ExpressionSizes.{exprs_size};
 ghost use Rattle.uc_tree.specs.Objects.{ClassField, class_at, fields_of};
 ghost use Rattle.uc_tree.specs.Programs.{Class as Whole};
-ghost use Rattle.uc_tree.specs.Resolve.{args_meant, fields_built, fields_left};
+ghost use Rattle.uc_resolve.specs.Resolve.{args_meant, fields_built, fields_left};
 ghost use Rattle.uc_lower_expr.specs.Contexts.{context_in};
 ghost use Rattle.uc_code.specs.Laid.{routine_in};
 ghost use Rattle.uc_lower_stmt.specs.Marked.{objects_in};

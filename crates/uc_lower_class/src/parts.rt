@@ -8,7 +8,7 @@ ghost use Rattle.uc_tree.specs.ExpressionSizes.{expr_size, exprs_size};
 ghost use Rattle.uc_tree.specs.Objects.{ClassField};
 ghost use Rattle.uc_tree.specs.Programs.{Class};
 ghost use Rattle.uc_tree.specs.Source.{Built, Expr as Place, Scoped, Then};
-ghost use Rattle.uc_tree.specs.Resolve.{args_meant, build, clean_up, meant};
+ghost use Rattle.uc_resolve.specs.Resolve.{args_meant, build, clean_up, meant};
 ghost use Rattle.uc_code.specs.declared.rows.Cleaning.{Cleaning as Clean};
 ghost use Rattle.uc_code.specs.ObjectCalls.{BeginsAt};
 ghost use Rattle.uc_lower_expr.specs.Added.{Adds, ExprCode};

@@ -8,8 +8,8 @@ use Rattle.uc_tree.specs.Programs.{Constant, Program}
 use Rattle.uc_tree.specs.Constants.{constants_of, constant_named}
 use Rattle.uc_tree.specs.Numbering.{routines_of}
 use Rattle.uc_tree.specs.Source.{Shape, Integer, Character, Truth, Binding, Last, Field, Array, Operator, Plus, Minus, Expr, Literal, Variable as Var, Get, Operate, Set}
-use Rattle.uc_tree.specs.Objects.{plain_class, shape_of}
-use Rattle.uc_tree.specs.Resolve.{Meant, converted, value_by, value_of, Standing, AtVariable, AtPlace, AsValue, event_place, known_named, known_meant, name_meant, item_meant, constant_meant_by, routine_meant_by, routine_from, variable_in, updated, updated_by, stepped, stepped_by, step_meant}
+use Rattle.uc_tree.specs.Objects.{plain_class, shape_of, event_place}
+use Rattle.uc_resolve.specs.Resolve.{Meant, converted, value_by, value_of, Standing, AtVariable, AtPlace, AsValue, known_named, known_meant, name_meant, item_meant, constant_meant_by, routine_meant_by, routine_from, variable_in, updated, updated_by, stepped, stepped_by, step_meant}
 use Rattle.uc_code.specs.declared.op.Op.{Op}
 use Rattle.uc_code.specs.declared.op.Op.TheVariants as op
 use Rattle.uc_code.specs.declared.rows.Mark.{Mark}

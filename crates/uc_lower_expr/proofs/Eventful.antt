@@ -12,7 +12,7 @@ use Rattle.uc_tree.specs.Programs.{Class, Program, Routine, Sig}
 use Rattle.uc_tree.specs.Cells.{classes_of}
 use Rattle.uc_tree.specs.Numbering.{Defined, at_most, event_names, is_event, place_from, unhandled_name}
 use Rattle.uc_tree.specs.Objects.{is_constructor}
-use Rattle.uc_tree.specs.Resolve.{event_constructor_from, number_of_event}
+use Rattle.uc_resolve.specs.Resolve.{event_constructor_from, number_of_event}
 use Rattle.uc_lower_expr.specs.Events.{AreBuilders, NotesEvent, builds_event, event_by, noted_builder}
 use Rattle.uc_lower_expr.specs.Routed.{noted_name}
 use Rattle.uc_lower_expr.proofs.Owned.{IsNext}

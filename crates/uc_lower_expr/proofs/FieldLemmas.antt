@@ -15,8 +15,8 @@ use Rattle.uc_tree.specs.Programs.{MemberForm, FieldsMember, RoutineMember, Prot
 use Rattle.uc_tree.specs.Rows.{Row, row_at, has_itself, element_cells, held_cells, all_held_cells, row_cells, cells_within}
 use Rattle.uc_tree.specs.Cells.{classes_of, class_cells, object_of, held_by, member_held, members_held, row_of, rows_of, leading_cells, seen_in}
 use Rattle.uc_tree.specs.Source.{Shape, Binding, Last, shape_cells, field_cells}
-use Rattle.uc_tree.specs.Objects.{class_at, ClassField, declared_fields, form_fields, fields_of, shape_of, kept_shape, arrayed, field_shape, fields_shape, behind_bindings, form_shape, shape_within, class_shape, plain_class}
-use Rattle.uc_tree.specs.Resolve.{event_place, field_length}
+use Rattle.uc_tree.specs.Objects.{class_at, ClassField, declared_fields, form_fields, fields_of, shape_of, kept_shape, arrayed, field_shape, fields_shape, behind_bindings, form_shape, shape_within, class_shape, plain_class, event_place}
+use Rattle.uc_resolve.specs.Resolve.{field_length}
 use Rattle.uc_sizes.specs.Places.{IsPlaces}
 use Rattle.uc_sizes.specs.Depths.{Holds, First, Later}
 use Rattle.uc_sizes.proofs.Depths.{cells_deep, cells_next}

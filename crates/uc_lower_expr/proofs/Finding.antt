@@ -6,7 +6,7 @@ use Rattle.uc_tree.specs.Programs.{Class, Program}
 use Rattle.uc_tree.specs.Cells.{leading_cells}
 use Rattle.uc_tree.specs.Numbering.{place_from}
 use Rattle.uc_tree.specs.Objects.{ClassField, class_at, fields_of}
-use Rattle.uc_tree.specs.Resolve.{NumberedField, field_named}
+use Rattle.uc_resolve.specs.Resolve.{NumberedField, field_named}
 use Rattle.uc_lower_expr.specs.declared.fields.Field.{Field}
 use Rattle.uc_lower_expr.specs.declared.fields.FieldTable.{FieldTable}
 use Rattle.uc_lower_expr.specs.Members.{AreFields, IsField, no_field}

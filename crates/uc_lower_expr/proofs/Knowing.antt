@@ -16,8 +16,8 @@ use Rattle.uc_tree.specs.Programs.{Class, Program}
 use Rattle.uc_tree.specs.Cells.{classes_of, class_cells, object_of_kind, object_named, object_of, rows_of}
 use Rattle.uc_tree.specs.Numbering.{is_event, at_most, class_names, place_from as name_from}
 use Rattle.uc_tree.specs.Source.{Binding, Expr, shape_cells}
-use Rattle.uc_tree.specs.Resolve.{AsValue, event_place, result_of, scalar}
-use Rattle.uc_tree.specs.Objects.{class_at, number_in, number_at, place_from, place_of, plain_in, plain_class, shape_of, kept_shape, class_shape, base_shape, written_at, unwritten_number}
+use Rattle.uc_resolve.specs.Resolve.{AsValue, result_of, scalar}
+use Rattle.uc_tree.specs.Objects.{class_at, number_in, number_at, place_from, place_of, plain_in, plain_class, shape_of, kept_shape, class_shape, base_shape, written_at, unwritten_number, event_place}
 use Rattle.uc_lower_expr.specs.declared.meaning.Meaning.{Meaning}
 use Rattle.uc_lower_expr.specs.declared.meaning.Scalar.TheVariants as scalars
 use Rattle.uc_lower_expr.specs.declared.meaning.Standing.{Standing as Told}

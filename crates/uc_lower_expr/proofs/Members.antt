@@ -3,12 +3,12 @@ use Rattle.std.proofs.Common.{◌≡◌, ℕ, ◌≤◌, pos, List, Bool, true, 
 use Rattle.std.specs.Prelude.{Result, OnOk, IfOk, if◌then◌else◌}
 use Rattle.uc_tree.specs.declared.limits.TheConstants.{OPS_FOR_SIZE}
 use Rattle.uc_tree.specs.declared.kinds.Ty.{Ty}
-use Rattle.uc_tree.specs.Names.{same_name}
+use Rattle.uc_tree.specs.Names.{same_name, fail_name}
 use Rattle.uc_tree.specs.Programs.{Class, Constant, Program}
 use Rattle.uc_tree.specs.Source.{Shape, Expr, Literal, field_cells}
 use Rattle.uc_tree.specs.Numbering.{is_event, routines_of}
-use Rattle.uc_tree.specs.Objects.{has_execution, class_at, class_shape, member_from, number_at, plain_class}
-use Rattle.uc_tree.specs.Resolve.{Meant, Standing, AtPlace, AsValue, AsInput, AsFail, no_meaning, NumberedField, class_or_event, event_place, field_type, Whose, Own, Of, field_by_ref, field_found, method_by, method_standing, has_coroutines, member_by, member_in, member_meant, meant_or, own_meant, item_meant, constant_meant_by, routine_meant_by, object_member, place_member, field_by, field_meant, fail_name, bool_type, result_of, scalar}
+use Rattle.uc_tree.specs.Objects.{has_execution, class_at, class_shape, member_from, number_at, plain_class, event_place}
+use Rattle.uc_resolve.specs.Resolve.{Meant, Standing, AtPlace, AsValue, AsInput, AsFail, no_meaning, NumberedField, class_or_event, field_type, Whose, Own, Of, field_by_ref, field_found, method_by, method_standing, has_coroutines, member_by, member_in, member_meant, meant_or, own_meant, item_meant, constant_meant_by, routine_meant_by, object_member, place_member, field_by, field_meant, bool_type, result_of, scalar}
 use Rattle.uc_code.specs.declared.op.Op.{Op}
 use Rattle.uc_code.specs.declared.op.Op.TheVariants as op
 use Rattle.uc_code.specs.declared.rows.Mark.{Mark}

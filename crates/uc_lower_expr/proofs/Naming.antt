@@ -4,7 +4,7 @@ use Rattle.std.specs.Prelude.{slice_get, if◌then◌else◌}
 use Rattle.std.specs.Cmp.Lexicographic.{bytes_decides}
 use Rattle.uc_tree.specs.declared.kinds.Known.{Known}
 use Rattle.uc_tree.specs.Names.{same_name}
-use Rattle.uc_tree.specs.Resolve.{known_named, later_or}
+use Rattle.uc_resolve.specs.Resolve.{known_named, later_or}
 use Rattle.uc_code.specs.Drafts.{IsInnermost, IsUnknown}
 
 is_same : (a b : List ℕ) → a ≡ b → same_name a b ≡ true

@@ -8,7 +8,7 @@ use Rattle.uc_names.specs.Blocks.{Block, id_in, id_or, found, is_declared, decla
 use Rattle.uc_tree.specs.Names.{same_name}
 use Rattle.uc_tree.specs.Programs.{Routine, Program}
 use Rattle.uc_tree.specs.Numbering.{Defined, is_plain, routines_of}
-use Rattle.uc_tree.specs.Resolve.{is_here, is_named, routine_from, params_in, params_of, result_in, result_of}
+use Rattle.uc_resolve.specs.Resolve.{is_here, is_named, routine_from, params_in, params_of, result_in, result_of}
 use Rattle.uc_lower_expr.specs.Numbered.{is_called_alone, AreAmong}
 
 all_three : (a b c : Bool) → (a && b) ≡ true → (a && (b && c)) ≡ c

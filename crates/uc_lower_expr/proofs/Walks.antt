@@ -24,7 +24,7 @@ use Rattle.uc_tree.specs.ExpressionViews.{expr_at, part_at}
 use Rattle.uc_tree.specs.ExpressionSizes.{expr_size, exprs_size, part_size, parts_size, link_size, links_size}
 use Rattle.uc_tree.specs.Source.{Shape, shape_cells, Plus, Minus, Times, Over, Modulo, Expr, Call, OfObject, CallOn, CallLive, Exprs, NoExprs, MoreExprs}
 use Rattle.uc_tree.specs.Objects.{plain_class, base_shape, shape_of}
-use Rattle.uc_tree.specs.Resolve.{Meant, Context, meant, value_by, value_of, converted, Standing, AsValue, unary_meant, binary_meant, assign_meant, written_by, variable_in, link_meant, chain_meant, part_meant, args_meant, arg_meant, args_by, params_of, parts_meant, element_by, element_meant, call_by, call_meant, step_meant, no_meaning}
+use Rattle.uc_resolve.specs.Resolve.{Meant, Context, meant, value_by, value_of, converted, Standing, AsValue, unary_meant, binary_meant, assign_meant, written_by, variable_in, link_meant, chain_meant, part_meant, args_meant, arg_meant, args_by, params_of, parts_meant, element_by, element_meant, call_by, call_meant, step_meant, no_meaning}
 use Rattle.uc_code.specs.declared.op.Op.{Op}
 use Rattle.uc_code.specs.declared.op.Op.TheVariants as op
 use Rattle.uc_code.specs.declared.rows.Mark.{Mark}

@@ -2,7 +2,7 @@
 use Rattle.std.specs.Prelude.{◌≡◌, ℕ, ◌+◌, ◌≤◌, List, length}
 use Rattle.uc_tree.specs.Programs.{Program}
 use Rattle.uc_tree.specs.Source.{Shape, Expr, Exprs}
-use Rattle.uc_tree.specs.Resolve.{Meant, value_meant, value_of}
+use Rattle.uc_resolve.specs.Resolve.{Meant, value_meant, value_of}
 use Rattle.uc_code.specs.declared.op.Op.{Op}
 use Rattle.uc_code.specs.declared.op.Op.TheVariants as op
 use Rattle.uc_code.specs.declared.rows.Mark.{Mark}

@@ -1,6 +1,6 @@
 -- Where lowering stands, as what an expression stands for sees it.
 use Rattle.uc_tree.specs.Programs.{Program}
-use Rattle.uc_tree.specs.Resolve.{Context}
+use Rattle.uc_resolve.specs.Resolve.{Context}
 use Rattle.uc_code.specs.Drafts.{Draft}
 
 abbrev pub context_in : Program → Draft → Context

@@ -6,7 +6,7 @@ use Rattle.uc_tree.specs.declared.limits.TheConstants.{FIRST_EVENT, LAST_EVENT}
 use Rattle.uc_tree.specs.Programs.{Class, Sig}
 use Rattle.uc_tree.specs.Numbering.{Defined, at_most, event_names}
 use Rattle.uc_tree.specs.Objects.{is_constructor}
-use Rattle.uc_tree.specs.Resolve.{event_constructor_from}
+use Rattle.uc_resolve.specs.Resolve.{event_constructor_from}
 use Rattle.uc_lower_expr.specs.Routed.{noted_name}
 
 -- a constructor builds an event where its class has no number

@@ -6,7 +6,7 @@ use Rattle.uc_tree.specs.Cells.{classes_of}
 use Rattle.uc_sizes.specs.Places.{IsPlaces}
 use Rattle.uc_tree.specs.Numbering.{event_names, is_event, routines_of}
 use Rattle.uc_tree.specs.Objects.{class_at, number_at}
-use Rattle.uc_tree.specs.Resolve.{routine_from}
+use Rattle.uc_resolve.specs.Resolve.{routine_from}
 use Rattle.uc_lower_expr.specs.Events.{AreBuilders}
 use Rattle.uc_lower_expr.specs.Numbered.{IsNumbering}
 use Rattle.uc_lower_expr.specs.Members.{AreByNumber, AreFields, AreRoutines, AreTables, FitClasses, object_places}

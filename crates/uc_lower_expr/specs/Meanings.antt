@@ -1,9 +1,9 @@
 -- What lowering tells of an expression besides its code.
 use Rattle.std.specs.Prelude.{◌≡◌, ℕ, Bool, true, false, Option, Some, None}
 use Rattle.uc_tree.specs.Source.{Shape, Integer, Character, Truth, field_cells}
-use Rattle.uc_tree.specs.Objects.{shape_of, plain_class}
+use Rattle.uc_tree.specs.Objects.{shape_of, plain_class, event_place}
 use Rattle.uc_tree.specs.Programs.{Program}
-use Rattle.uc_tree.specs.Resolve as resolve
+use Rattle.uc_resolve.specs.Resolve as resolve
 use Rattle.uc_lower_expr.specs.declared.meaning.Scalar.{Scalar}
 use Rattle.uc_lower_expr.specs.declared.meaning.Scalar.TheVariants as scalar
 use Rattle.uc_lower_expr.specs.declared.meaning.Standing.{Standing}
@@ -55,6 +55,6 @@ StandsAs standing.Nothing s = s ≡ resolve.AsNothing
 pub record Tells (p : Program) (told : Meaning) (m : resolve.Meant) : Type 0 where
   pub shape : shape_of m.ty.base ≡ shape_as told.scalar
   pub class : plain_class p m.ty.base ≡ told.class
-  pub event : resolve.event_place p m.ty.base ≡ told.event
+  pub event : event_place p m.ty.base ≡ told.event
   pub len : m.ty.len ≡ told.elements
   pub standing : StandsAs told.standing m.standing

@@ -11,7 +11,7 @@ use Rattle.uc_tree.specs.Cells.{classes_of, class_cells, rows_of, leading_cells}
 use Rattle.uc_tree.specs.Numbering.{Defined, is_event, routines_of}
 use Rattle.uc_tree.specs.Source.{field_cells}
 use Rattle.uc_tree.specs.Objects.{ClassField, class_at, fields_of, class_shape, number_at, member_from, role_from, written_at, unwritten_number}
-use Rattle.uc_tree.specs.Resolve.{Meant, AtPlace, NumberedField, field_named, field_type}
+use Rattle.uc_resolve.specs.Resolve.{Meant, AtPlace, NumberedField, field_named, field_type}
 use Rattle.uc_lower_expr.specs.Meanings.{Tells}
 use Rattle.uc_lower_expr.specs.declared.fields.Field.{Field}
 use Rattle.uc_lower_expr.specs.declared.fields.FieldTable.{FieldTable}

@@ -7,8 +7,7 @@ use Rattle.uc_tree.specs.Expressions.{Expr}
 use Rattle.uc_tree.specs.Programs.{Program}
 use Rattle.uc_tree.specs.Rows.{held_cells}
 use Rattle.uc_tree.specs.Cells.{class_cells}
-use Rattle.uc_tree.specs.Objects.{ClassField, plain_class, shape_of}
-use Rattle.uc_tree.specs.Resolve.{event_place}
+use Rattle.uc_tree.specs.Objects.{ClassField, plain_class, shape_of, event_place}
 use Rattle.uc_lower_expr.specs.Meanings.{shape_as}
 use Rattle.uc_lower_expr.specs.declared.meaning.Standing.TheVariants as standing
 use Rattle.uc_lower_expr.specs.declared.fields.Field.{Field}

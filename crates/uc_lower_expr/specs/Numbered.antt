@@ -6,8 +6,8 @@ use Rattle.uc_tree.specs.Programs.{Sig, Constant, Class, Program}
 use Rattle.uc_tree.specs.Constants.{constants_of, constant_named, value_of_name}
 use Rattle.uc_tree.specs.Cells.{classes_of}
 use Rattle.uc_tree.specs.Numbering.{Defined, is_plain, class_number, routines_of}
-use Rattle.uc_tree.specs.Objects.{plain_class, shape_of, unwritten_number}
-use Rattle.uc_tree.specs.Resolve.{event_place, is_here, routine_from, value_or_zero}
+use Rattle.uc_tree.specs.Objects.{plain_class, shape_of, unwritten_number, event_place}
+use Rattle.uc_resolve.specs.Resolve.{is_here, routine_from, value_or_zero}
 use Rattle.uc_lower_expr.specs.Meanings.{shape_as}
 use Rattle.uc_lower_expr.specs.declared.numbering.Fixed.{Fixed}
 use Rattle.uc_lower_expr.specs.declared.numbering.Numbering.{Numbering}

@@ -9,9 +9,9 @@ use Rattle.uc_tree.specs.declared.ops.StepOp.{StepOp}
 use Rattle.uc_tree.specs.declared.ops.StepOp.TheVariants as step
 use Rattle.uc_tree.specs.declared.kinds.Param.{Param}
 use Rattle.uc_tree.specs.Source.{Shape, Plus, Minus, Expr, Literal}
-use Rattle.uc_tree.specs.Names.{same_name}
+use Rattle.uc_tree.specs.Names.{same_name, fail_name}
 use Rattle.uc_tree.specs.Programs.{Program}
-use Rattle.uc_tree.specs.Resolve.{Meant, known_named, known_meant, updated, arg_meant, fail_name}
+use Rattle.uc_resolve.specs.Resolve.{Meant, known_named, known_meant, updated, arg_meant}
 use Rattle.uc_code.specs.declared.op.Op.{Op}
 use Rattle.uc_code.specs.declared.op.Op.TheVariants as op
 use Rattle.uc_code.specs.declared.rows.Mark.{Mark}

@@ -1,10 +1,9 @@
 // The fields of classes, by their names.
 
 ghost use Rattle.std.specs.Prelude.{◌≡◌, ◌∷◌, [], ℕ, None, Some, IfOk, OnOk, MatchOption, get_or, slice_get};
-ghost use Rattle.uc_tree.specs.Objects.{class_at, declared_fields, fields_of, form_fields, plain_class, shape_of};
+ghost use Rattle.uc_tree.specs.Objects.{class_at, declared_fields, fields_of, form_fields, plain_class, shape_of, event_place};
 ghost use Rattle.uc_tree.specs.Programs.{Class as Whole, Program};
 ghost use Rattle.uc_tree.specs.ProgramViews.{member_form_at};
-ghost use Rattle.uc_tree.specs.Resolve.{event_place};
 ghost use Rattle.uc_lower_expr.specs.Meanings.{shape_as};
 ghost use Rattle.uc_lower_expr.specs.Members.{AreFields, AreTables, FitClasses, IsField, IsNthField, count_fields, no_field, no_field_at};
 ghost use Rattle.uc_lower_expr.specs.Noted.{HasNames, Notes, length_by, one_scalar};

@@ -2,7 +2,7 @@
 
 ghost use Rattle.std.specs.Prelude.{◌≡◌, None};
 ghost use Rattle.uc_tree.specs.Objects.{shape_of};
-ghost use Rattle.uc_tree.specs.Resolve.{class_or_event};
+ghost use Rattle.uc_resolve.specs.Resolve.{class_or_event};
 ghost use Rattle.uc_lower_expr.specs.Meanings.{cell_in, shape_as};
 
 use uc_tree::kinds::Base;

@@ -1,7 +1,7 @@
 // What names stand for.
 
 ghost use Rattle.std.specs.Prelude.{◌≡◌, MatchOption, None};
-ghost use Rattle.uc_tree.specs.Resolve.{known_named};
+ghost use Rattle.uc_resolve.specs.Resolve.{known_named};
 ghost use Rattle.uc_lower_expr.specs.Parts.{IsVariable, standing_by};
 
 use crate::meaning::{Meaning, Scalar, Standing};

@@ -9,7 +9,7 @@ ghost use Rattle.uc_tree.specs.Numbering.{Defined, is_plain, routines_of};
 ghost use Rattle.uc_tree.specs.Cells.{classes_of, class_cells};
 ghost use Rattle.uc_tree.specs.Objects.{class_at, has_execution, place_of, plain_class, base_shape, shape_of};
 ghost use Rattle.uc_tree.specs.Source.{Expr, shape_cells};
-ghost use Rattle.uc_tree.specs.Resolve.{AsValue, class_by, event_constructor, has_coroutines, is_here, main_at, number_of_event, routine_from, params_of, result_of, scalar};
+ghost use Rattle.uc_resolve.specs.Resolve.{AsValue, class_by, event_constructor, has_coroutines, is_here, main_at, number_of_event, routine_from, params_of, result_of, scalar};
 ghost use Rattle.uc_lower_expr.specs.Meanings.{Tells, shape_as};
 ghost use Rattle.uc_lower_expr.specs.Numbered.{is_called_alone, AreAmong, IsFixed, IsNumbering};
 ghost use Rattle.uc_lower_expr.specs.Members.{AreTables, FitClasses, IsField, IsNthField, count_fields, member_at, no_field, no_field_at, object_places, routine_for};

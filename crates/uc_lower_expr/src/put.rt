@@ -5,7 +5,7 @@ ghost use Rattle.uc_tree.specs.declared.limits.TheConstants.{PROGRAM_OPS};
 ghost use Rattle.uc_tree.specs.Programs.{Program};
 ghost use Rattle.uc_tree.specs.Source.{Literal};
 ghost use Rattle.uc_code.specs.Drafts.{patched};
-ghost use Rattle.uc_tree.specs.Resolve.{step_meant};
+ghost use Rattle.uc_resolve.specs.Resolve.{step_meant};
 ghost use Rattle.uc_lower_expr.specs.Meanings.{shape_as};
 ghost use Rattle.uc_lower_expr.specs.Added.{Adds, Cuts, Grows, OpCode, RiskCode, ConvertCode, fetched};
 ghost use Rattle.uc_lower_expr.specs.Parts.{BeginCode, EndCode, UpdateCode, SetByCode, BehindCode, StepCode, Restarts, bumped};

@@ -10,7 +10,7 @@ use Rattle.uc_tree.specs.Laws.{LawCells}
 use Rattle.uc_tree.specs.Programs.{Program}
 use Rattle.uc_tree.specs.Objects.{class_shape, unwritten_number, written_at}
 use Rattle.uc_tree.specs.Source.{Expr, OfObject, CallOn, Exprs, NoExprs}
-use Rattle.uc_tree.specs.Resolve.{Meant, args_by, params_of, called_by, constructed, counted_element, build, clean_up}
+use Rattle.uc_resolve.specs.Resolve.{Meant, args_by, params_of, called_by, constructed, counted_element, build, clean_up}
 use Rattle.uc_code.specs.declared.op.Op.TheVariants as op
 use Rattle.uc_code.specs.declared.rows.Array.{Array}
 use Rattle.uc_code.specs.declared.rows.Mark.{Mark}

@@ -10,7 +10,7 @@ use Rattle.uc_tree.specs.Scopes.{alone_scopes, stmt_scopes, maybe_scopes}
 use Rattle.uc_tree.specs.Cells.{declared_cells, stmt_cells, maybe_cells}
 use Rattle.uc_tree.specs.Programs.{Program}
 use Rattle.uc_tree.specs.Source.{Expr}
-use Rattle.uc_tree.specs.Resolve.{Scope, meant, value_of, stmt_meant, maybe_meant, scope_past}
+use Rattle.uc_resolve.specs.Resolve.{Scope, meant, value_of, stmt_meant, maybe_meant, scope_past}
 use Rattle.uc_code.specs.declared.op.Op.TheVariants as op
 use Rattle.uc_code.specs.declared.rows.Instruction.{Instruction}
 use Rattle.uc_code.specs.declared.rows.Mark.{Mark}

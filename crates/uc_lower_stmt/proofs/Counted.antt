@@ -9,7 +9,7 @@ use Rattle.uc_tree.specs.Gathered.{gathered, gathered_all}
 use Rattle.uc_tree.specs.Hidden.{hidden_in, hidden_in_all}
 use Rattle.uc_tree.specs.Numbering.{own_texts, own_sites}
 use Rattle.uc_tree.specs.Programs.{Program}
-use Rattle.uc_tree.specs.Resolve.{Scope, with_declared, with_all, scope_after, scope_behind}
+use Rattle.uc_resolve.specs.Resolve.{Scope, with_declared, with_all, scope_after, scope_behind}
 
 -- a scope of the same routine with these names, behind so many cells, hidden cells, text literals and accept statements
 abbrev pub counted : Scope → List Known → ℕ → ℕ → ℕ → ℕ → Scope

@@ -18,7 +18,7 @@ use Rattle.uc_tree.specs.Cells.{declared_cells, declarators_cells}
 use Rattle.uc_tree.specs.Programs.{Program}
 use Rattle.uc_tree.specs.Source.{Shape, Expr}
 use Rattle.uc_tree.specs.Objects.{shape_of}
-use Rattle.uc_tree.specs.Resolve.{Scope, meant, value_of, converted, start_meant, first_value, declared_type, declared_known, declared_meant, all_declared, with_declared, with_all}
+use Rattle.uc_resolve.specs.Resolve.{Scope, meant, value_of, converted, start_meant, first_value, declared_type, declared_known, declared_meant, all_declared, with_declared, with_all}
 use Rattle.uc_code.specs.declared.op.Op.TheVariants as op
 use Rattle.uc_code.specs.declared.rows.Mark.{Mark}
 use Rattle.uc_code.specs.Drafts.{Draft}

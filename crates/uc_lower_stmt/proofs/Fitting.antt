@@ -8,7 +8,7 @@ use Rattle.uc_tree.specs.Cells.{declared_cells, handler_cells, handlers_cells, s
 use Rattle.uc_tree.specs.Exits.{exits_handler, exits_handlers}
 use Rattle.uc_tree.specs.Numbering.{routines_of}
 use Rattle.uc_tree.specs.Programs.{Program}
-use Rattle.uc_tree.specs.Resolve.{Scope}
+use Rattle.uc_resolve.specs.Resolve.{Scope}
 use Rattle.uc_tree.specs.Scopes.{handler_scopes, handlers_scopes, stmt_scopes, stmts_scopes}
 use Rattle.uc_tree.specs.Sizes.{size_at}
 use Rattle.uc_tree.specs.Statements as tree

@@ -16,7 +16,7 @@ use Rattle.uc_tree.specs.Cells.{declared_cells, stmt_cells}
 use Rattle.uc_tree.specs.Programs.{Program}
 use Rattle.uc_tree.specs.Source as source
 use Rattle.uc_tree.specs.Source.{Order, Expr}
-use Rattle.uc_tree.specs.Resolve.{Scope, meant, scope_past, for_scope, order_of, test_of}
+use Rattle.uc_resolve.specs.Resolve.{Scope, meant, scope_past, for_scope, order_of, test_of}
 use Rattle.uc_code.specs.declared.op.Op.TheVariants as op
 use Rattle.uc_code.specs.declared.draft_parts.Outside.{Outside}
 use Rattle.uc_code.specs.Drafts.{Draft}

@@ -14,7 +14,7 @@ use Rattle.uc_tree.specs.Gathered.{gathered_all}
 use Rattle.uc_tree.specs.Hidden.{KEPT_CELLS, hidden_in_all}
 use Rattle.uc_tree.specs.Numbering.{at_most, event_names, own_sites, own_texts, place_from, unhandled_name}
 use Rattle.uc_tree.specs.Programs.{Program}
-use Rattle.uc_tree.specs.Resolve.{Scope, event_of_handler, number_of_event, handlers_meant, in_handler, scope_behind, scope_past_handler, stmts_meant, takes_resumptions, with_event}
+use Rattle.uc_resolve.specs.Resolve.{Scope, event_of_handler, number_of_event, handlers_meant, in_handler, scope_behind, scope_past_handler, stmts_meant, takes_resumptions, with_event}
 use Rattle.uc_tree.specs.Statements as tree
 use Rattle.uc_code.specs.declared.draft_parts.Outside.{Outside}
 use Rattle.uc_code.specs.declared.op.Op.TheVariants as op

@@ -1,6 +1,6 @@
 -- How what statements do to a draft is joined.
 use Rattle.std.proofs.Common.{◌≡◌, ℕ, ◌+◌, ◌≤◌, length, refl, ap, sym, subst, ◌∙◌, arith}
-use Rattle.uc_tree.specs.Resolve.{Scope}
+use Rattle.uc_resolve.specs.Resolve.{Scope}
 use Rattle.uc_code.specs.Drafts.{Draft}
 use Rattle.uc_code.specs.Laid.{Laid, laid_in}
 use Rattle.uc_code.specs.Ranges.{Nothing, Both, Stable}

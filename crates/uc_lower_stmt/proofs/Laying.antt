@@ -1,7 +1,7 @@
 -- Steps of a block in a draft: one after another, a statement as one step, and the block at their end.
 use Rattle.std.proofs.Common.{◌≡◌, ℕ, ◌+◌, ◌≤◌, List, [], ◌∷◌, ◌++◌, length, refl, ap, sym, subst, ◌∙◌, arith}
 use Rattle.uc_tree.specs.Source.{Stmt, Stmts, Nil, Then}
-use Rattle.uc_tree.specs.Resolve.{Scope}
+use Rattle.uc_resolve.specs.Resolve.{Scope}
 use Rattle.uc_code.specs.declared.rows.Mark.{Mark}
 use Rattle.uc_code.specs.Drafts.{Draft}
 use Rattle.uc_code.specs.Laid.{Laid, laid_in, routine_in}

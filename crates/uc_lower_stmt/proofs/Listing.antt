@@ -17,7 +17,7 @@ use Rattle.uc_tree.specs.Cells.{declared_cells, declarators_cells, stmt_cells, s
 use Rattle.uc_tree.specs.Objects.{plain_class}
 use Rattle.uc_tree.specs.Programs.{Program}
 use Rattle.uc_tree.specs.Source as source
-use Rattle.uc_tree.specs.Resolve.{Scope, all_declared, declared_alone, declared_then, objects_scoped, stmt_meant, stmts_meant, stmt_then, scope_after, scope_behind, with_all}
+use Rattle.uc_resolve.specs.Resolve.{Scope, all_declared, declared_alone, declared_then, objects_scoped, stmt_meant, stmts_meant, stmt_then, scope_after, scope_behind, with_all}
 use Rattle.uc_code.specs.declared.rows.Mark.{Mark}
 use Rattle.uc_code.specs.Drafts.{Draft}
 use Rattle.uc_code.specs.Lowered.{StmtAt, StmtsAt}

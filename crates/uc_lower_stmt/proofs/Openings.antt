@@ -15,7 +15,7 @@ use Rattle.uc_tree.specs.Numbering.{routines_of}
 use Rattle.uc_tree.specs.Programs.{Program}
 use Rattle.uc_tree.specs.Objects.{written_at}
 use Rattle.uc_tree.specs.Source.{Expr, Variable, CleanUp, Stmt, Stmts, Declare}
-use Rattle.uc_tree.specs.Resolve.{Scope, Context, Meant, args_meant, context_at, length_of, start_args, declared_known, with_declared, with_all, object_scoped, objects_scoped, build, clean_up}
+use Rattle.uc_resolve.specs.Resolve.{Scope, Context, Meant, args_meant, context_at, length_of, start_args, declared_known, with_declared, with_all, object_scoped, objects_scoped, build, clean_up}
 use Rattle.uc_code.specs.declared.op.Op.TheVariants as op
 use Rattle.uc_code.specs.declared.rows.Array.{Array}
 use Rattle.uc_code.specs.declared.rows.Mark.{Mark}

@@ -4,7 +4,7 @@ use Rattle.uc_tree.specs.declared.limits.TheConstants.{OPS_FOR_SIZE}
 use Rattle.uc_tree.specs.Expressions as tree
 use Rattle.uc_tree.specs.ExpressionSizes.{expr_size}
 use Rattle.uc_tree.specs.Programs.{Program}
-use Rattle.uc_tree.specs.Resolve.{meant, value_of}
+use Rattle.uc_resolve.specs.Resolve.{meant, value_of}
 use Rattle.uc_tree.specs.Statements.{MaybeStmt, NoStmt}
 use Rattle.uc_tree.specs.StatementSizes.{maybe_expr_size}
 use Rattle.uc_code.specs.declared.op.Op.TheVariants as op

@@ -19,7 +19,7 @@ use Rattle.uc_tree.specs.Source.{Shape, Integer, Character, Truth, Binding, Last
 use Rattle.uc_tree.specs.Numbering.{item_texts}
 use Rattle.uc_tree.specs.Programs.{Program}
 use Rattle.uc_tree.specs.Objects.{shape_of}
-use Rattle.uc_tree.specs.Resolve.{Scope, Context, Meant, meant, value_of, form_of, newline, context_at, items_meant, target_meant, targets_meant}
+use Rattle.uc_resolve.specs.Resolve.{Scope, Context, Meant, meant, value_of, form_of, newline, context_at, items_meant, target_meant, targets_meant}
 use Rattle.uc_code.specs.declared.op.Op.{Op}
 use Rattle.uc_code.specs.declared.op.Op.TheVariants as op
 use Rattle.uc_code.specs.declared.rows.Mark.{Mark}

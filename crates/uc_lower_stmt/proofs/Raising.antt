@@ -6,7 +6,7 @@ use Rattle.uc_tree.specs.Expressions as tree
 use Rattle.uc_tree.specs.Hidden.{EVENT_FIELDS, raised_cells}
 use Rattle.uc_tree.specs.Programs.{Program}
 use Rattle.uc_tree.specs.declared.kinds.Param.{Param}
-use Rattle.uc_tree.specs.Resolve.{Meant, Scope, args_by, args_meant, built_event, context_at, event_constructor, number_of_event, params_of, raised_meant}
+use Rattle.uc_resolve.specs.Resolve.{Meant, Scope, args_by, args_meant, built_event, context_at, event_constructor, number_of_event, params_of, raised_meant}
 use Rattle.uc_tree.specs.Source as source
 use Rattle.uc_tree.specs.Source.{BuiltAt, CallOn, Exprs, OfObject, Plainly, AgainFrom, Variable}
 use Rattle.uc_tree.specs.declared.pos.Pos.{Pos}

@@ -18,7 +18,7 @@ use Rattle.uc_tree.specs.Cells.{param_cells, params_cells, routine_cells}
 use Rattle.uc_tree.specs.ProgramMain.{is_void, main_number}
 use Rattle.uc_tree.specs.Programs.{Class, Program, Routine}
 use Rattle.uc_tree.specs.Source as source
-use Rattle.uc_tree.specs.Resolve.{Scope, param_known, params_known, stmts_meant, scope_behind, routine_scope, body_by, class_by, is_coroutine_main, routine_meant, purpose_of, role_purpose, value_purpose}
+use Rattle.uc_resolve.specs.Resolve.{Scope, param_known, params_known, stmts_meant, scope_behind, routine_scope, body_by, class_by, is_coroutine_main, routine_meant, purpose_of, role_purpose, value_purpose}
 use Rattle.uc_code.specs.declared.op.Op.TheVariants as op
 use Rattle.uc_code.specs.declared.rows.MainOf.{MainOf}
 use Rattle.uc_code.specs.declared.rows.MainOf.TheVariants as main_of

@@ -6,7 +6,7 @@ use Rattle.uc_tree.specs.declared.kinds.Known.{Known}
 use Rattle.uc_tree.specs.Statements.{Declarator, ForStart, NoFor, ForDeclare, ForEvaluate, Stmt, Block, Empty, Evaluate, Declare, If, While, Do, For, Break, Continue, Return, Try, Throw, Raise, RaiseAt, Enable, Disable, Accept, Print, PrintTogether, Read, Resume, Suspend, Yield, Migrate, Stmts, NoStmts, MoreStmts}
 use Rattle.uc_tree.specs.Scopes.{alone_scopes}
 use Rattle.uc_tree.specs.Programs.{Program}
-use Rattle.uc_tree.specs.Resolve.{Scope, with_declared, with_all, declared_known, names_behind, scope_after, scope_behind, for_scope}
+use Rattle.uc_resolve.specs.Resolve.{Scope, with_declared, with_all, declared_known, names_behind, scope_after, scope_behind, for_scope}
 use Rattle.uc_code.specs.declared.draft_parts.Outside.{Outside}
 use Rattle.uc_code.specs.Drafts.{Draft}
 use Rattle.uc_code.specs.Laid.{Laid}

@@ -18,7 +18,7 @@ use Rattle.uc_tree.specs.Numbering.{own_texts, own_sites}
 use Rattle.uc_tree.specs.Programs.{Program}
 use Rattle.uc_tree.specs.Source.{Shape, Expr}
 use Rattle.uc_tree.specs.Objects.{shape_of}
-use Rattle.uc_tree.specs.Resolve.{Scope, meant, value_of, converted, result_of, targets_meant, scope_past, scope_after}
+use Rattle.uc_resolve.specs.Resolve.{Scope, meant, value_of, converted, result_of, targets_meant, scope_past, scope_after}
 use Rattle.uc_built.specs.BuiltForms.{is_built_stmt, are_built}
 use Rattle.uc_code.specs.declared.op.Op.TheVariants as op
 use Rattle.uc_code.specs.declared.rows.Mark.{Mark}

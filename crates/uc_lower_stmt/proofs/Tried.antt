@@ -9,7 +9,7 @@ use Rattle.uc_tree.specs.Gathered.{gathered, gathered_all, gathered_handlers}
 use Rattle.uc_tree.specs.Hidden.{KEPT_CELLS, hidden_in_all, hidden_in_handlers}
 use Rattle.uc_tree.specs.Numbering.{own_sites, own_texts}
 use Rattle.uc_tree.specs.Programs.{Program}
-use Rattle.uc_tree.specs.Resolve.{Scope, handlers_meant, scope_after, scope_behind, scope_past_all, scope_past_handler, stmts_meant}
+use Rattle.uc_resolve.specs.Resolve.{Scope, handlers_meant, scope_after, scope_behind, scope_past_all, scope_past_handler, stmts_meant}
 use Rattle.uc_tree.specs.Scopes.{handlers_scopes, stmts_scopes}
 use Rattle.uc_tree.specs.Source as source
 use Rattle.uc_tree.specs.Source.{Stmts}

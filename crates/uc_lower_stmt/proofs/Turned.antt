@@ -7,7 +7,7 @@ use Rattle.uc_tree.specs.StatementSizes.{maybe_expr_size}
 use Rattle.uc_tree.specs.Sizes.{size_at}
 use Rattle.uc_tree.specs.Programs.{Program}
 use Rattle.uc_tree.specs.Source.{Order, Expr}
-use Rattle.uc_tree.specs.Resolve.{Scope, stmt_meant, scope_past, step_of}
+use Rattle.uc_resolve.specs.Resolve.{Scope, stmt_meant, scope_past, step_of}
 use Rattle.uc_code.specs.declared.op.Op.TheVariants as op
 use Rattle.uc_code.specs.declared.rows.Instruction.{Instruction}
 use Rattle.uc_code.specs.declared.rows.Mark.{Mark}

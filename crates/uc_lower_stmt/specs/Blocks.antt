@@ -4,7 +4,7 @@ use Rattle.uc_tree.specs.declared.kinds.Role.{Role}
 use Rattle.uc_tree.specs.Programs.{Program}
 use Rattle.uc_tree.specs.Source.{Stmts}
 use Rattle.uc_tree.specs.Statements.{Start, NoStart, StartValue, StartArgs}
-use Rattle.uc_tree.specs.Resolve.{Context, Meant, args_meant}
+use Rattle.uc_resolve.specs.Resolve.{Context, Meant, args_meant}
 use Rattle.uc_code.specs.declared.rows.Mark.{Mark}
 use Rattle.uc_code.specs.declared.rows.Mark.TheVariants as mark
 use Rattle.uc_code.specs.Drafts.{Draft}

@@ -14,7 +14,7 @@ use Rattle.uc_tree.specs.Cells.{declared_cells, declarators_cells, for_cells, st
 use Rattle.uc_tree.specs.Programs.{Program}
 use Rattle.uc_tree.specs.Source as source
 use Rattle.uc_tree.specs.Source.{Order, TestFirst, BodyFirst, NoTest, Expr, Literal}
-use Rattle.uc_tree.specs.Resolve.{Scope, context_at, value_in_scope, declared_alone, declared_then, start_then, stmt_then, stmt_meant, maybe_meant, scope_after, scope_past, with_all, return_meant, for_scope, order_of, test_of, step_of}
+use Rattle.uc_resolve.specs.Resolve.{Scope, context_at, value_in_scope, declared_alone, declared_then, start_then, stmt_then, stmt_meant, maybe_meant, scope_after, scope_past, with_all, return_meant, for_scope, order_of, test_of, step_of}
 use Rattle.uc_code.specs.declared.op.Op.TheVariants as op
 use Rattle.uc_code.specs.declared.rows.Mark.{Mark}
 use Rattle.uc_code.specs.Drafts.{Draft, patched}

@@ -1,6 +1,6 @@
 -- What handlers of guarded blocks do to a draft: rows that are there get handlers.
 use Rattle.std.specs.Prelude.{◌≡◌, ℕ, ◌+◌, ◌≤◌, ◌<◌, length}
-use Rattle.uc_tree.specs.Resolve.{Scope}
+use Rattle.uc_resolve.specs.Resolve.{Scope}
 use Rattle.uc_code.specs.declared.rows.Handler.{Handler}
 use Rattle.uc_code.specs.declared.op.Op.{Op}
 use Rattle.uc_code.specs.Drafts.{Draft}

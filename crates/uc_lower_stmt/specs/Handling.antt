@@ -5,7 +5,7 @@ use Rattle.uc_tree.specs.Cells.{declared_cells, handler_cells, handlers_cells, s
 use Rattle.uc_tree.specs.Exits.{exits_handler, exits_handlers}
 use Rattle.uc_tree.specs.Hidden.{KEPT_CELLS}
 use Rattle.uc_tree.specs.Programs.{Program}
-use Rattle.uc_tree.specs.Resolve.{Scope, event_of_handler, handlers_meant, in_handler, scope_behind, scope_past_all, scope_past_handler, stmts_meant, takes_resumptions, with_event}
+use Rattle.uc_resolve.specs.Resolve.{Scope, event_of_handler, handlers_meant, in_handler, scope_behind, scope_past_all, scope_past_handler, stmts_meant, takes_resumptions, with_event}
 use Rattle.uc_tree.specs.Scopes.{handler_scopes, handlers_scopes, stmts_scopes}
 use Rattle.uc_tree.specs.Source.{Block, Nil, Then, Try}
 use Rattle.uc_tree.specs.Statements as tree

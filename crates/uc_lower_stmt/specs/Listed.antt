@@ -8,7 +8,7 @@ use Rattle.uc_tree.specs.Scopes.{stmts_scopes}
 use Rattle.uc_tree.specs.Cells.{declared_cells, stmts_cells}
 use Rattle.uc_tree.specs.Programs.{Program}
 use Rattle.uc_tree.specs.Source as source
-use Rattle.uc_tree.specs.Resolve.{Scope, stmt_meant, stmt_then, scope_after, scope_behind}
+use Rattle.uc_resolve.specs.Resolve.{Scope, stmt_meant, stmt_then, scope_after, scope_behind}
 use Rattle.uc_code.specs.Drafts.{Draft}
 use Rattle.uc_lower_stmt.specs.Marked.{objects_in}
 use Rattle.uc_lower_stmt.specs.Pending.{Lays}

@@ -1,7 +1,7 @@
 -- Statements of a block that are laid out, where objects that they declare are still in scope: their clean-ups are to come.
 use Rattle.std.specs.Prelude.{◌≡◌, ℕ, ◌+◌, ◌≤◌, List, [], ◌∷◌, length}
 use Rattle.uc_tree.specs.Source.{CleanUp, Stmt, Stmts, Then, Scoped, Built}
-use Rattle.uc_tree.specs.Resolve.{Scope}
+use Rattle.uc_resolve.specs.Resolve.{Scope}
 use Rattle.uc_code.specs.declared.rows.Mark.{Mark}
 use Rattle.uc_code.specs.declared.rows.Mark.TheVariants as mark
 use Rattle.uc_code.specs.declared.rows.Cleaning.{Cleaning}

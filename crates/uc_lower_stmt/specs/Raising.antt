@@ -3,7 +3,7 @@ use Rattle.std.specs.Prelude.{ℕ, ◌+◌, ◌*◌, Option}
 use Rattle.uc_tree.specs.declared.limits.TheConstants.{OPS_FOR_SIZE}
 use Rattle.uc_tree.specs.Hidden.{raised_cells}
 use Rattle.uc_tree.specs.Programs.{Program}
-use Rattle.uc_tree.specs.Resolve.{Scope, raised_meant}
+use Rattle.uc_resolve.specs.Resolve.{Scope, raised_meant}
 use Rattle.uc_tree.specs.Source.{EventStmt}
 use Rattle.uc_tree.specs.Statements.{Raised}
 use Rattle.uc_tree.specs.StatementSizes.{maybe_raised_size}

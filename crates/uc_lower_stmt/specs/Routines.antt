@@ -5,7 +5,7 @@ use Rattle.uc_tree.specs.Cells.{declared_cells, routine_cells, stmts_cells}
 use Rattle.uc_tree.specs.Hidden.{hidden_in_all}
 use Rattle.uc_tree.specs.ProgramMain.{main_number}
 use Rattle.uc_tree.specs.Programs.{Class, Sig, Routine, Program}
-use Rattle.uc_tree.specs.Resolve.{stmts_meant, scope_behind, is_coroutine_main}
+use Rattle.uc_resolve.specs.Resolve.{stmts_meant, scope_behind, is_coroutine_main}
 use Rattle.uc_tree.specs.Scopes.{stmts_scopes}
 use Rattle.uc_tree.specs.Source.{Purpose, TaskMain, CoroutineMain}
 use Rattle.uc_tree.specs.StatementSizes.{stmts_size}

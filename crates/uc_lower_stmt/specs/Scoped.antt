@@ -8,7 +8,7 @@ use Rattle.uc_tree.specs.Sizes.{size_at}
 use Rattle.uc_tree.specs.Scopes.{stmt_scopes, stmts_scopes}
 use Rattle.uc_tree.specs.Cells.{declared_cells, stmt_cells, stmts_cells}
 use Rattle.uc_tree.specs.Programs.{Program}
-use Rattle.uc_tree.specs.Resolve.{Scope, stmt_meant, stmts_meant, scope_after, scope_behind}
+use Rattle.uc_resolve.specs.Resolve.{Scope, stmt_meant, stmts_meant, scope_after, scope_behind}
 use Rattle.uc_code.specs.Drafts.{Draft}
 use Rattle.uc_code.specs.Laid.{Laid, laid_in}
 use Rattle.uc_code.specs.Ranges.{Kept}

@@ -7,7 +7,7 @@ ghost use Rattle.uc_tree.specs.Cells.{classes_of, declared_cells, declarators_ce
 ghost use Rattle.uc_tree.specs.ExpressionSizes.{exprs_size};
 ghost use Rattle.uc_tree.specs.StatementSizes.{declarator_size, declarators_size, start_size};
 ghost use Rattle.uc_tree.specs.Expressions.{exprs_of};
-ghost use Rattle.uc_tree.specs.Resolve.{Context, args_meant, object_scoped, objects_scoped, with_all, with_declared};
+ghost use Rattle.uc_resolve.specs.Resolve.{Context, args_meant, object_scoped, objects_scoped, with_all, with_declared};
 ghost use Rattle.uc_lower_stmt.specs.Blocks.{AllStandBehind, EndsScopes, innermost_in, scope_at, started_args};
 ghost use Rattle.uc_lower_stmt.specs.Marked.{taken};
 ghost use Rattle.uc_lower_stmt.specs.Pending.{Lays};

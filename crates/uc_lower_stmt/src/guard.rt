@@ -7,7 +7,7 @@ ghost use Rattle.uc_tree.specs.Cells.{declared_cells, handler_cells, handlers_ce
 ghost use Rattle.uc_tree.specs.Exits.{exits_handler, exits_handlers};
 ghost use Rattle.uc_tree.specs.Numbering.{routines_of};
 ghost use Rattle.uc_tree.specs.Programs.{Program};
-ghost use Rattle.uc_tree.specs.Resolve.{Scope, event_of_handler, scalar, takes_resumptions, with_event};
+ghost use Rattle.uc_resolve.specs.Resolve.{Scope, event_of_handler, scalar, takes_resumptions, with_event};
 ghost use Rattle.uc_tree.specs.Scopes.{handler_scopes, handlers_scopes, stmts_scopes};
 ghost use Rattle.uc_tree.specs.Statements.{handlers_of, stmts_of};
 ghost use Rattle.uc_tree.specs.StatementSizes.{handler_size, handlers_size, stmts_size};

@@ -7,7 +7,7 @@ ghost use Rattle.uc_tree.specs.Expressions.{exprs_of};
 ghost use Rattle.uc_tree.specs.ExpressionSizes.{exprs_size};
 ghost use Rattle.uc_tree.specs.Cells.{class_cells, classes_of};
 ghost use Rattle.uc_tree.specs.Source.{Expr as Place};
-ghost use Rattle.uc_tree.specs.Resolve.{args_meant, build, clean_up, constructed};
+ghost use Rattle.uc_resolve.specs.Resolve.{args_meant, build, clean_up, constructed};
 ghost use Rattle.uc_code.specs.declared.rows.Cleaning.TheVariants as cleaning;
 ghost use Rattle.uc_code.specs.Lowered.{CallBuilt, StmtAt, spot_op};
 ghost use Rattle.uc_code.specs.ObjectCalls.{BeginsAt, Cleans};

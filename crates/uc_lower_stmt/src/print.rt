@@ -6,7 +6,7 @@ ghost use Rattle.uc_tree.specs.Expressions.{exprs_of};
 ghost use Rattle.uc_tree.specs.ExpressionSizes.{expr_size, exprs_size};
 ghost use Rattle.uc_tree.specs.StatementSizes.{out_item_size, out_items_size};
 ghost use Rattle.uc_tree.specs.Numbering.{item_texts};
-ghost use Rattle.uc_tree.specs.Resolve.{items_meant, target_meant, targets_meant};
+ghost use Rattle.uc_resolve.specs.Resolve.{items_meant, target_meant, targets_meant};
 ghost use Rattle.uc_code.specs.Lowered.{item_op};
 ghost use Rattle.uc_lower_expr.specs.Added.{Adds};
 ghost use Rattle.uc_lower_expr.specs.Contexts.{context_in};

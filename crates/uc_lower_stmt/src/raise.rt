@@ -4,7 +4,7 @@ ghost use Rattle.std.specs.Prelude.{◌+◌, ◌*◌, ◌^◌, ◌≤◌, ◌<�
 ghost use Rattle.uc_tree.specs.declared.limits.TheConstants.{OPS_FOR_SIZE, PROGRAM_OPS};
 ghost use Rattle.uc_tree.specs.Expressions.{exprs_of};
 ghost use Rattle.uc_tree.specs.ExpressionSizes.{exprs_size};
-ghost use Rattle.uc_tree.specs.Resolve.{args_by, args_meant, params_of, raised_meant};
+ghost use Rattle.uc_resolve.specs.Resolve.{args_by, args_meant, params_of, raised_meant};
 ghost use Rattle.uc_tree.specs.Source.{BuiltAt, CallOn, OfObject, Raise, Throw, Variable};
 ghost use Rattle.uc_tree.specs.StatementSizes.{maybe_raised_size, raised_size};
 ghost use Rattle.uc_code.specs.Lowered.{RaisedAt};

@@ -9,7 +9,7 @@ ghost use Rattle.uc_tree.specs.Gathered.{gathered_all};
 ghost use Rattle.uc_tree.specs.Numbering.{is_plain, own_sites, own_texts, routines_of};
 ghost use Rattle.uc_tree.specs.ProgramMain.{is_void};
 ghost use Rattle.uc_tree.specs.Scopes.{stmts_scopes};
-ghost use Rattle.uc_tree.specs.Resolve.{class_by, params_known, purpose_of, value_purpose, routine_scope, routine_meant};
+ghost use Rattle.uc_resolve.specs.Resolve.{class_by, params_known, purpose_of, value_purpose, routine_scope, routine_meant};
 ghost use Rattle.uc_built.specs.BuiltForms.{are_built};
 ghost use Rattle.uc_code.specs.Laid.{laid_in};
 ghost use Rattle.uc_code.specs.Ranges.{Kept};

@@ -15,7 +15,7 @@ ghost use Rattle.uc_tree.specs.Sizes.{size_at};
 ghost use Rattle.uc_tree.specs.Scopes.{alone_scopes, maybe_scopes, stmt_scopes, stmts_scopes};
 ghost use Rattle.uc_tree.specs.ExpressionSizes.{expr_size};
 ghost use Rattle.uc_tree.specs.Cells.{declared_cells, declarators_cells, for_cells, maybe_cells, stmt_cells, stmts_cells};
-ghost use Rattle.uc_tree.specs.Resolve.{Scope, order_of, test_of};
+ghost use Rattle.uc_resolve.specs.Resolve.{Scope, order_of, test_of};
 ghost use Rattle.uc_built.specs.BuiltForms.{is_built_maybe, is_built_start, is_built_stmt, are_built};
 ghost use Rattle.uc_code.specs.Laid.{routine_in};
 ghost use Rattle.uc_code.specs.Puts.{Puts};

@@ -3,26 +3,27 @@ use Rattle.std.proofs.Common.{◌≡◌, ℕ, suc, ◌+◌, ◌<◌, ◌≤◌, 
 use Rattle.std.specs.Prelude.{pos, nat_le}
 use Rattle.uc_tree.specs.Source.{Source}
 use Rattle.uc_tree.specs.Programs.{Site}
-use Rattle.uc_meaning.specs.declared.entry.Entry.{Entry}
-use Rattle.uc_meaning.specs.declared.entry.EntryKind.{EntryKind}
-use Rattle.uc_meaning.specs.declared.entry.EntryKind.TheVariants as kind
-use Rattle.uc_meaning.specs.declared.entry.Options.{Options}
-use Rattle.uc_meaning.specs.declared.request.Asked.{Asked}
-use Rattle.uc_meaning.specs.declared.request.Request.TheVariants as ask
-use Rattle.uc_meaning.specs.Journal.{Journal, entry, begin, is_over, first_or_0}
-use Rattle.uc_meaning.specs.Queues.{running}
-use Rattle.uc_meaning.specs.Answers.{asks, answer_to}
-use Rattle.uc_meaning.specs.Doors.{destroys_busy}
-use Rattle.uc_meaning.specs.Acts.{act, row, settled, fault, entries_of, ending, fitted, dispatch, lone_limit}
-use Rattle.uc_meaning.specs.Serves.{left}
-use Rattle.uc_meaning.specs.KernelRuns.{InRange, Fits, KernelMay, KernelRuns, begun, more, gives as gives_in, no_room as none_in, acts as acts_in}
-use Rattle.uc_meaning.specs.Quiet.{State, Goes, Ticks, Asks as AsksNow, quiet}
-use Rattle.uc_meaning.specs.Rides.{asked_in, Rides, slices, goes_on as moves_on, ticks as makes_tick, asks as asks_now}
-use Rattle.uc_meaning.specs.Runs.{World, world_after, first_world, drawn, answered}
+use Rattle.uc_entry.specs.declared.entry.Entry.{Entry}
+use Rattle.uc_entry.specs.declared.entry.EntryKind.{EntryKind}
+use Rattle.uc_entry.specs.declared.entry.EntryKind.TheVariants as kind
+use Rattle.uc_entry.specs.declared.entry.Options.{Options}
+use Rattle.uc_entry.specs.declared.request.Asked.{Asked}
+use Rattle.uc_entry.specs.declared.request.Request.TheVariants as ask
+use Rattle.uc_acts.specs.Journal.{Journal, entry, begin, is_over, first_or_0}
+use Rattle.uc_acts.specs.Queues.{running}
+use Rattle.uc_acts.specs.Answers.{asks, answer_to}
+use Rattle.uc_acts.specs.Doors.{destroys_busy}
+use Rattle.uc_acts.specs.Acts.{act, row, settled, fault, entries_of, ending, fitted, dispatch, lone_limit}
+use Rattle.uc_acts.specs.Serves.{left}
+use Rattle.uc_acts.specs.KernelRuns.{InRange, Fits, KernelMay, KernelRuns, begun, more, gives as gives_in, no_room as none_in, acts as acts_in}
+use Rattle.uc_machine.specs.Quiet.{State, Goes, Ticks, Asks as AsksNow, quiet}
+use Rattle.uc_machine.specs.Rides.{asked_in, Rides, slices, goes_on as moves_on, ticks as makes_tick, asks as asks_now}
+use Rattle.uc_meaning.specs.Runs.{World, world_after, first_world, drawn}
+use Rattle.uc_machine.specs.Answering.{answered}
 use Rattle.uc_meaning.specs.Cuts.{Step, gives, no_room, acts, Cut, ends, goes_on, OneCut, OneRide, LawCut}
-use Rattle.uc_meaning.proofs.Bounds.{over_limit, law_room}
-use Rattle.uc_meaning.proofs.Acting.{is_giving, object_of, destroys, AllBy, by_act}
-use Rattle.uc_meaning.proofs.Making.{row_asks}
+use Rattle.uc_acts.proofs.Bounds.{over_limit, law_room}
+use Rattle.uc_acts.proofs.Acting.{is_giving, object_of, destroys, AllBy, by_act}
+use Rattle.uc_acts.proofs.Making.{row_asks}
 
 no_both : (b : Bool) → b ≡ true → b ≡ false → ⊥
 no_both b t f = cc

@@ -4,18 +4,18 @@ use Rattle.uc_tree.specs.declared.kinds.ValueForm.TheVariants as value_form
 use Rattle.uc_tree.specs.Constants.{constant_value}
 use Rattle.uc_tree.specs.Rows.{reaches, cells_within}
 use Rattle.uc_tree.specs.Objects.{shape_within, height_within}
-use Rattle.uc_tree.specs.Resolve.{source_of}
+use Rattle.uc_resolve.specs.Resolve.{source_of}
 use Rattle.uc_tree.specs.Source.{Shape, Integer, Binding, Last, Field as FieldIn, Array, Source, Builder, TaskMain, Procedure, Function, NoTest, Plus, Minus, Over, Call, Expr, Literal, Variable, Element, Get, Load, Assign, Operate, OfObject, This, OwnField, GetOwn, Counted, CallOn, CallUnwritten, NoExprs, MoreExprs, Show, ShowText, CleanUp, Destroys, DestroysAll, Skip, Block, Whole, Evaluate, Declare, Print, Loop, Break, Return, Fill, Stmts, Nil, Then, Scoped, Built, Routine}
-use Rattle.uc_meaning.specs.declared.request.Answer.TheVariants as answer
-use Rattle.uc_meaning.specs.declared.entry.EntryKind.TheVariants as kind
-use Rattle.uc_meaning.specs.Journal.{entry, begin, is_over, inside, own_object, entries_at}
-use Rattle.uc_meaning.specs.Queues.{waiting, stacked, ready, running, used, cluster_count, processor_count, processors, open_processors, tasks_on, none_running, none_ready, none_served, first_ended, all_ticks}
-use Rattle.uc_meaning.specs.Known.{object_count, task_count, is_gone, owner}
-use Rattle.uc_meaning.specs.Doors.{open_at, blocked_at, last_call, offers, stack_at}
-use Rattle.uc_meaning.specs.Journal.{held}
-use Rattle.uc_meaning.specs.Answers.{answer_to}
+use Rattle.uc_entry.specs.declared.request.Answer.TheVariants as answer
+use Rattle.uc_entry.specs.declared.entry.EntryKind.TheVariants as kind
+use Rattle.uc_acts.specs.Journal.{entry, begin, is_over, inside, own_object, entries_at}
+use Rattle.uc_acts.specs.Queues.{waiting, stacked, ready, running, used, cluster_count, processor_count, processors, open_processors, tasks_on, none_running, none_ready, none_served, first_ended, all_ticks}
+use Rattle.uc_acts.specs.Known.{object_count, task_count, is_gone, owner}
+use Rattle.uc_acts.specs.Doors.{open_at, blocked_at, last_call, offers, stack_at}
+use Rattle.uc_acts.specs.Journal.{held}
+use Rattle.uc_acts.specs.Answers.{answer_to}
 use Rattle.uc_meaning.specs.Runs.{Runs, IsRun, begun, first_world}
-use Rattle.uc_meaning.specs.Samples.{options}
+use Rattle.uc_acts.specs.Samples.{options}
 use Rattle.uc_meaning.specs.ObjectSamples.{nested_text, nested_journal, NestedRun, array_text, array_journal, ArrayRun, member_text, member_journal, MemberRun, unwritten_text, unwritten_journal, UnwrittenRun, reference_text, reference_journal, ReferenceRun}
 use Rattle.uc_meaning.proofs.RunsSampled.{given, acted, printed, the_end}
 

@@ -4,26 +4,27 @@ use Rattle.std.specs.Prelude.{nat_le}
 use Rattle.std.specs.List.{Contains}
 use Rattle.std.proofs.lemmas.Bool.{leb-true}
 use Rattle.uc_tree.specs.declared.kinds.ValueForm.TheVariants as value_form
-use Rattle.uc_tree.specs.Resolve.{source_of}
+use Rattle.uc_resolve.specs.Resolve.{source_of}
 use Rattle.uc_tree.specs.Source.{Source, TaskMain, Function, TestFirst, Less, Plus, Over, Literal, Get, Set, First, Operate, Call, NoExprs, MoreExprs, Show, Block, Declare, Print, Loop, Return, Nil, Then}
-use Rattle.uc_meaning.specs.declared.entry.Entry.{Entry}
-use Rattle.uc_meaning.specs.declared.entry.EntryKind.TheVariants as kind
-use Rattle.uc_meaning.specs.declared.entry.Options.{Options}
-use Rattle.uc_meaning.specs.declared.request.Answer.{Answer}
-use Rattle.uc_meaning.specs.declared.request.Answer.TheVariants as answer
-use Rattle.uc_meaning.specs.declared.request.Asked.{Asked}
-use Rattle.uc_meaning.specs.declared.request.Request.TheVariants as ask
-use Rattle.uc_meaning.specs.Journal.{Journal, entry, begin, is_over, held, inside, own_object, entries_at}
-use Rattle.uc_meaning.specs.Queues.{waiting, stacked, ready, running, used, cluster_count, processor_count, processors, open_processors, tasks_on, none_running, none_ready, none_served, first_ended, all_ticks}
-use Rattle.uc_meaning.specs.Known.{object_count, task_count, is_gone, owner}
-use Rattle.uc_meaning.specs.Doors.{open_at, blocked_at, last_call, offers, stack_at}
-use Rattle.uc_meaning.specs.Answers.{answer_to}
-use Rattle.uc_meaning.specs.Serves.{left}
-use Rattle.uc_meaning.specs.Acts.{act, dispatch}
-use Rattle.uc_meaning.specs.Quiet.{State, Step, Goes, Ticks, Asks, quiet}
-use Rattle.uc_meaning.specs.Rides.{Rides, slices, goes_on, ticks, asks, asked_in}
-use Rattle.uc_meaning.specs.Runs.{World, Runs, IsRun, begun, more, gives, acts, drawn, answered, world_after, first_world}
-use Rattle.uc_meaning.specs.Samples.{options, first_journal}
+use Rattle.uc_entry.specs.declared.entry.Entry.{Entry}
+use Rattle.uc_entry.specs.declared.entry.EntryKind.TheVariants as kind
+use Rattle.uc_entry.specs.declared.entry.Options.{Options}
+use Rattle.uc_entry.specs.declared.request.Answer.{Answer}
+use Rattle.uc_entry.specs.declared.request.Answer.TheVariants as answer
+use Rattle.uc_entry.specs.declared.request.Asked.{Asked}
+use Rattle.uc_entry.specs.declared.request.Request.TheVariants as ask
+use Rattle.uc_acts.specs.Journal.{Journal, entry, begin, is_over, held, inside, own_object, entries_at}
+use Rattle.uc_acts.specs.Queues.{waiting, stacked, ready, running, used, cluster_count, processor_count, processors, open_processors, tasks_on, none_running, none_ready, none_served, first_ended, all_ticks}
+use Rattle.uc_acts.specs.Known.{object_count, task_count, is_gone, owner}
+use Rattle.uc_acts.specs.Doors.{open_at, blocked_at, last_call, offers, stack_at}
+use Rattle.uc_acts.specs.Answers.{answer_to}
+use Rattle.uc_acts.specs.Serves.{left}
+use Rattle.uc_acts.specs.Acts.{act, dispatch}
+use Rattle.uc_machine.specs.Quiet.{State, Step, Goes, Ticks, Asks, quiet}
+use Rattle.uc_machine.specs.Rides.{Rides, slices, goes_on, ticks, asks, asked_in}
+use Rattle.uc_meaning.specs.Runs.{World, Runs, IsRun, begun, more, gives, acts, drawn, world_after, first_world}
+use Rattle.uc_machine.specs.Answering.{answered}
+use Rattle.uc_acts.specs.Samples.{options, first_journal}
 use Rattle.uc_meaning.specs.SamplePrograms.{first_text, FirstRun, loop_text, two_ticks, loop_journal, LoopRun, call_text, call_journal, CallRun}
 
 -- where a ride leads: the state, its ticks, and what is asked

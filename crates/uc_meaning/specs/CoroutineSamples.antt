@@ -11,11 +11,11 @@ use Rattle.uc_tree.specs.declared.ops.BinaryOp.TheVariants as binary
 use Rattle.uc_tree.specs.Expressions.{Expr, exprs_of}
 use Rattle.uc_tree.specs.Statements.{NoStart, StartArgs, Stmt, Block, Evaluate, Declare, For, NoFor, Print, Return, Try, Throw, Resume, Suspend, stmts_of, Handles, handlers_of}
 use Rattle.uc_tree.specs.Programs.{Item, ClassItem, FieldsMember, RoutineMember, Member, Program}
-use Rattle.uc_tree.specs.Resolve.{source_of}
-use Rattle.uc_meaning.specs.declared.entry.EntryKind.TheVariants as kind
-use Rattle.uc_meaning.specs.Journal.{Journal, entry}
+use Rattle.uc_resolve.specs.Resolve.{source_of}
+use Rattle.uc_entry.specs.declared.entry.EntryKind.TheVariants as kind
+use Rattle.uc_acts.specs.Journal.{Journal, entry}
 use Rattle.uc_meaning.specs.Runs.{IsRun}
-use Rattle.uc_meaning.specs.Samples.{options}
+use Rattle.uc_acts.specs.Samples.{options}
 use Rattle.uc_meaning.specs.ObjectSamples.{at, named, number, called_at, joined, sum, set, character, value, variable, reference, sig, routine, init, hidden, open_to_all, constructor, destructor, class, main, prints, opening, done}
 
 -- trees

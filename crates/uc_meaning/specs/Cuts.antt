@@ -1,15 +1,15 @@
 -- A run of a program as its acts, one after the other.
 use Rattle.std.specs.Prelude.{◌≡◌, ℕ, ◌+◌, ◌<◌, ◌≤◌, false, List, [], ◌∷◌, ◌++◌, length}
 use Rattle.uc_tree.specs.Source.{Source}
-use Rattle.uc_meaning.specs.declared.entry.Entry.{Entry}
-use Rattle.uc_meaning.specs.declared.entry.Options.{Options}
-use Rattle.uc_meaning.specs.declared.request.Asked.{Asked}
-use Rattle.uc_meaning.specs.Journal.{Journal, begin, is_over}
-use Rattle.uc_meaning.specs.Quiet.{State}
-use Rattle.uc_meaning.specs.Rides.{Rides}
-use Rattle.uc_meaning.specs.Acts.{act, dispatch, lone_limit}
-use Rattle.uc_meaning.specs.Serves.{Serves}
-use Rattle.uc_meaning.specs.KernelRuns.{InRange, Fits}
+use Rattle.uc_entry.specs.declared.entry.Entry.{Entry}
+use Rattle.uc_entry.specs.declared.entry.Options.{Options}
+use Rattle.uc_entry.specs.declared.request.Asked.{Asked}
+use Rattle.uc_acts.specs.Journal.{Journal, begin, is_over}
+use Rattle.uc_machine.specs.Quiet.{State}
+use Rattle.uc_machine.specs.Rides.{Rides}
+use Rattle.uc_acts.specs.Acts.{act, dispatch, lone_limit}
+use Rattle.uc_acts.specs.Serves.{Serves}
+use Rattle.uc_acts.specs.KernelRuns.{InRange, Fits}
 use Rattle.uc_meaning.specs.Runs.{World, AsksIn, world_after, first_world}
 
 -- one act, whose request fits, and the world after it

@@ -18,13 +18,13 @@ use Rattle.uc_tree.specs.declared.ops.AssignOp.TheVariants as assign
 use Rattle.uc_tree.specs.Expressions.{Expr, Number, Character, Name, Postfix, Chain, Assign, Exprs, exprs_of, Part, Field, Index, Call, parts_of, Linked, links_of}
 use Rattle.uc_tree.specs.Statements.{Start, NoStart, StartArgs, Declarator, OutItem, Literal, Printed, NoFor, Stmt, Block, Evaluate, Declare, For, Break, Print, Return, stmts_of}
 use Rattle.uc_tree.specs.Programs.{Sig, Init, Routine, MemberForm, FieldsMember, RoutineMember, ProtoMember, Member, Class, Item, ClassItem, RoutineItem, Program}
-use Rattle.uc_tree.specs.Resolve.{source_of}
-use Rattle.uc_meaning.specs.declared.entry.EntryKind.TheVariants as kind
-use Rattle.uc_meaning.specs.declared.entry.Entry.{Entry}
-use Rattle.uc_meaning.specs.Journal.{Journal, entry, begin}
-use Rattle.uc_meaning.specs.Acts.{dispatch}
+use Rattle.uc_resolve.specs.Resolve.{source_of}
+use Rattle.uc_entry.specs.declared.entry.EntryKind.TheVariants as kind
+use Rattle.uc_entry.specs.declared.entry.Entry.{Entry}
+use Rattle.uc_acts.specs.Journal.{Journal, entry, begin}
+use Rattle.uc_acts.specs.Acts.{dispatch}
 use Rattle.uc_meaning.specs.Runs.{IsRun}
-use Rattle.uc_meaning.specs.Samples.{options}
+use Rattle.uc_acts.specs.Samples.{options}
 
 -- trees
 

@@ -10,11 +10,11 @@ use Rattle.uc_tree.specs.declared.kinds.HandlerKind.TheVariants as handler_kind
 use Rattle.uc_tree.specs.Expressions.{Expr, Postfix, exprs_of, Field, parts_of}
 use Rattle.uc_tree.specs.Statements.{NoStart, StartValue, Raised, Stmt, Evaluate, Declare, Print, Return, Try, Throw, Raise, stmts_of, Handler, Handles, handlers_of}
 use Rattle.uc_tree.specs.Programs.{Item, ClassItem, RoutineItem, FieldsMember, Member, Program}
-use Rattle.uc_tree.specs.Resolve.{source_of}
-use Rattle.uc_meaning.specs.declared.entry.EntryKind.TheVariants as kind
-use Rattle.uc_meaning.specs.Journal.{Journal, entry}
+use Rattle.uc_resolve.specs.Resolve.{source_of}
+use Rattle.uc_entry.specs.declared.entry.EntryKind.TheVariants as kind
+use Rattle.uc_acts.specs.Journal.{Journal, entry}
 use Rattle.uc_meaning.specs.Runs.{IsRun}
-use Rattle.uc_meaning.specs.Samples.{options}
+use Rattle.uc_acts.specs.Samples.{options}
 use Rattle.uc_meaning.specs.ObjectSamples.{at, named, number, called, character, value, variable, int_param, sig, routine, init, open_to_all, constructor, destructor, class, main, prints, opening, done}
 
 -- trees

@@ -1,20 +1,20 @@
 -- The world that a journal leaves, what may follow in a journal, and the runs of a program.
 use Rattle.std.specs.Prelude.{◌≡◌, ℕ, ◌+◌, ◌<◌, ◌≤◌, ◌==◌, true, false, List, [], ◌∷◌, ◌++◌, Option, Some, None, length, if◌then◌else◌}
-use Rattle.uc_meaning.specs.declared.entry.Entry.{Entry}
-use Rattle.uc_meaning.specs.declared.entry.Options.{Options}
-use Rattle.uc_meaning.specs.declared.request.Answer.{Answer}
-use Rattle.uc_meaning.specs.declared.request.Answer.TheVariants as answer
-use Rattle.uc_meaning.specs.declared.request.Asked.{Asked}
-use Rattle.uc_meaning.specs.Journal.{Journal, begin, held, is_over, own_object}
-use Rattle.uc_meaning.specs.Known.{spawns, takes_out}
-use Rattle.uc_meaning.specs.Queues.{running}
-use Rattle.uc_meaning.specs.Answers.{answer_to}
-use Rattle.uc_meaning.specs.Serves.{Serves, left}
-use Rattle.uc_meaning.specs.Executions.{find}
+use Rattle.uc_entry.specs.declared.entry.Entry.{Entry}
+use Rattle.uc_entry.specs.declared.entry.Options.{Options}
+use Rattle.uc_entry.specs.declared.request.Answer.{Answer}
+use Rattle.uc_entry.specs.declared.request.Asked.{Asked}
+use Rattle.uc_acts.specs.Journal.{Journal, begin, held, is_over, own_object}
+use Rattle.uc_acts.specs.Known.{spawns, takes_out}
+use Rattle.uc_acts.specs.Queues.{running}
+use Rattle.uc_acts.specs.Answers.{answer_to}
+use Rattle.uc_acts.specs.Serves.{Serves, left}
+use Rattle.uc_entry.specs.Keyed.{find}
 use Rattle.uc_tree.specs.Source.{Source, routine_of}
-use Rattle.uc_meaning.specs.Quiet.{Value, Number, State, Todo, Members, no_members, first_state}
-use Rattle.uc_meaning.specs.Rides.{Rides}
-use Rattle.uc_meaning.specs.Acts.{act, dispatch, lone_limit}
+use Rattle.uc_machine.specs.Quiet.{State, Members, no_members, first_state}
+use Rattle.uc_machine.specs.Rides.{Rides}
+use Rattle.uc_acts.specs.Acts.{act, dispatch, lone_limit}
+use Rattle.uc_machine.specs.Answering.{with_hand, entered, answered, child_of}
 
 -- each task as its last ride left it, with nothing in hand, and what is at home in each object that is made and not gone, by their numbers
 pub record World : Type 0 where
@@ -31,9 +31,6 @@ first_world source = record {
   tasks = λ t. first_state (routine_of source source.main) 0;
   homes = first_home;
 }
-
-abbrev pub with_hand : List (ℕ × Members) → State → State
-with_hand hand s = record s { env = record s.env { hand = hand } }
 
 -- a task with nothing in hand
 abbrev pub bare : State → State
@@ -52,34 +49,6 @@ hand_of (o ∷ os) homes = with_home o (homes o) (hand_of os homes)
 -- task t with its hand: the objects that it is inside, in the order in which it entered them
 abbrev pub drawn : Journal → World → ℕ → State
 drawn j w t = with_hand (hand_of (held t j) w.homes) (w.tasks t)
-
--- a task with a new operand
-abbrev pub with_operand : Value → State → State
-with_operand v s = record s { run = record s.run { operands = v ∷ s.run.operands } }
-
--- what the object that was asked for begins with, as the innermost piece tells; no piece tells of an object yet
-abbrev pub new_members : List Todo → Option Members
-new_members todo = None
-
--- a new object is the last in hand
-abbrev pub entered : Option Members → ℕ → State → State
-entered None o s = s
-entered (Some m) o s = with_hand (s.env.hand ++ (o, m) ∷ []) s
-
--- the state that goes on with an answer: a number is its newest operand, a new object comes into its hand
-abbrev pub answered : Answer → State → State
-answered (answer.Number n) s = with_operand (Number n) s
-answered (answer.Value n failed) s = with_operand (Number n) s
-answered (answer.Object o) s = entered (new_members s.run.control) o s
-answered _ s = s
-
--- the main of the task that is spawned, as the innermost piece tells; no piece tells of one yet
-abbrev pub child_main : Source → List Todo → ℕ
-child_main source todo = source.main
-
--- the task, with its object o, that is spawned by one in this state
-abbrev pub child_of : Source → ℕ → State → State
-child_of source o s = first_state (routine_of source (child_main source s.run.control)) o
 
 -- the first of these, if it is there, or else the second
 abbrev pub or_else : {X : Type 0} → Option X → Option X → Option X

@@ -9,13 +9,13 @@ use Rattle.uc_tree.specs.declared.ops.StepOp.TheVariants as step
 use Rattle.uc_tree.specs.Expressions.{Number, Name, Postfix, Chain, NoExprs, MoreExprs, Call, Step, NoParts, MoreParts, Linked, NoLinks, MoreLinks}
 use Rattle.uc_tree.specs.Statements.{StartValue, Endl, Printed, ForDeclare, Stmt, For, Print, Return, stmts_of}
 use Rattle.uc_tree.specs.Programs.{Sig, Routine, RoutineItem, Program}
-use Rattle.uc_tree.specs.Resolve.{source_of}
-use Rattle.uc_meaning.specs.declared.entry.EntryKind.TheVariants as kind
-use Rattle.uc_meaning.specs.declared.entry.Options.{Options}
-use Rattle.uc_meaning.specs.Journal.{Journal, entry, begin}
-use Rattle.uc_meaning.specs.Acts.{dispatch}
+use Rattle.uc_resolve.specs.Resolve.{source_of}
+use Rattle.uc_entry.specs.declared.entry.EntryKind.TheVariants as kind
+use Rattle.uc_entry.specs.declared.entry.Options.{Options}
+use Rattle.uc_acts.specs.Journal.{Journal, entry, begin}
+use Rattle.uc_acts.specs.Acts.{dispatch}
 use Rattle.uc_meaning.specs.Runs.{IsRun}
-use Rattle.uc_meaning.specs.Samples.{options, first_journal}
+use Rattle.uc_acts.specs.Samples.{options, first_journal}
 
 abbrev at : ℕ → ℕ → Pos
 at line col = record { line = line; col = col }

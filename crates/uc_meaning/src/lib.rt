@@ -1,15 +1,10 @@
-// What programs mean: the machine over source trees, the journal of a run and what may follow in it, and the plain types in which they are told.
+// What programs mean: the runs of a program, their cuts into acts, and samples. What they are told in is given out again.
 #![tactic(auto)]
 
-pub mod checked;
-pub mod entry;
-pub mod exec;
-pub mod fault;
-pub mod field;
-pub mod got;
 pub mod laws;
-pub mod list;
-pub mod request;
-pub mod rule;
-pub mod rules;
 pub mod samples;
+
+pub use uc_acts::{field, got};
+pub use uc_entry::{entry, fault, list, request};
+pub use uc_machine::exec;
+pub use uc_rules::{checked, rule, rules};

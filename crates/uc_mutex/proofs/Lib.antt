@@ -1,4 +1,3 @@
-pub mod Mirrors
 pub mod Nexts
 pub mod Offering
 pub mod Rows

@@ -4,8 +4,7 @@ use Rattle.std.proofs.lemmas.Bool.{cases_eq}
 use Rattle.std.proofs.lemmas.List.{at_drop_more, at_drop_all}
 use Rattle.std.proofs.lemmas.List.FromFn.{fill_by_all}
 use Rattle.uc_links.specs.Lists.{member_limit}
-use Rattle.uc_meaning.specs.Doors.{clause_for, or_0, offers_from}
-use Rattle.uc_meaning.specs.Pending.{has_bit}
+use Rattle.uc_tree.specs.SiteOffers.{has_bit, clause_for, or_0, offers_from}
 use Rattle.uc_mutex.specs.Offers.{found_or, clauses_of}
 
 pub other_test : (b : Bool) → (b ≡ true → ⊥) → b ≡ false

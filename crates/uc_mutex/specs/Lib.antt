@@ -1,4 +1,3 @@
 pub mod Doors
-pub mod Laws
 pub mod Offers
 pub mod View

@@ -4,7 +4,7 @@ use Rattle.std.specs.List.{AllByRecursion, range_with_len}
 use Rattle.uc_tree.specs.Programs.{Site}
 use Rattle.uc_tree.specs.declared.limits.TheConstants.{CLAUSES}
 use Rattle.uc_links.specs.Lists.{member_limit}
-use Rattle.uc_meaning.specs.Doors.{clause_for, offers_from, or_0}
+use Rattle.uc_tree.specs.SiteOffers.{clause_for, offers_from, or_0}
 
 -- what an accept statement offers under a mask of its clauses: each clause with a member that it lists
 abbrev pub offers_by : Site → ℕ → List (ℕ × ℕ)

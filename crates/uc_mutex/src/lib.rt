@@ -4,7 +4,6 @@
 pub mod called;
 pub mod door;
 pub mod entries;
-pub mod laws;
 pub mod offers;
 
 pub use called::{Called, Passed};

@@ -1,7 +1,7 @@
 //! Which clause of an accept statement takes a call of each member.
 ghost use Rattle.std.specs.Prelude.{◌≡◌, ◌<◌, ◌++◌, ℕ, List, map, length, slice_index_or};
 ghost use Rattle.uc_links.specs.Lists.{member_limit};
-ghost use Rattle.uc_meaning.specs.Pending.{has_bit};
+ghost use Rattle.uc_tree.specs.SiteOffers.{has_bit};
 ghost use Rattle.uc_mutex.specs.Offers.{offers_by, clauses_of, found_or, AreMembers, IsKnownSite};
 
 use uc_links::MEMBERS;

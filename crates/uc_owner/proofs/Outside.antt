@@ -3,9 +3,9 @@ use Rattle.std.proofs.Common.{◌≡◌, ℕ, List, [], ◌∷◌, Bool, true, f
 use Rattle.std.specs.List.{list_any}
 use Rattle.std.proofs.lemmas.List.Folds.{list_any-append}
 use Rattle.uc_tree.specs.Programs.{Item, ClassItem, RoutineItem, ConstItem, ProtoItem, ForwardItem, UsingItem, Program, Routine}
-use Rattle.uc_meaning.specs.ClassBreaks.{is_owner}
-use Rattle.uc_meaning.specs.Names.{is_constructor}
-use Rattle.uc_meaning.specs.OwnerBreaks.{init_binds, item_binds, routine_binds}
+use Rattle.uc_rules.specs.ClassBreaks.{is_owner}
+use Rattle.uc_rules.specs.Names.{is_constructor}
+use Rattle.uc_rules.specs.OwnerBreaks.{init_binds, item_binds, routine_binds}
 use Rattle.uc_types.specs.Outside.{constructor_in, constructors_in}
 
 or_false : (b : Bool) → b || false ≡ b

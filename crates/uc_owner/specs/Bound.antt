@@ -2,7 +2,7 @@
 use Rattle.std.specs.Prelude.{◌≡◌, ℕ, List, Bool, true, false, is_some}
 use Rattle.uc_tree.specs.Programs.{Class, Program}
 use Rattle.uc_names.specs.Blocks.{Block, found}
-use Rattle.uc_meaning.specs.OwnerBreaks.{is_bound_inside}
+use Rattle.uc_rules.specs.OwnerBreaks.{is_bound_inside}
 
 -- the names of these fields, where they are known
 abbrev pub AreBound : Program → Class → ℕ → Bool → List Block → Type 0

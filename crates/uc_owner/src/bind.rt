@@ -6,12 +6,12 @@ ghost use Rattle.uc_names.specs.Blocks.{found};
 ghost use Rattle.uc_tree.specs.Expressions.{exprs_of};
 ghost use Rattle.uc_tree.specs.Names.{same_name};
 ghost use Rattle.uc_tree.specs.ProgramViews.{member_form_at};
-ghost use Rattle.uc_meaning.specs.OwnerBreaks.{binds_own, form_binds, init_binds, is_bound_inside, is_field_meant, is_field_origin, names_own_field, root_name, routine_binds};
+ghost use Rattle.uc_rules.specs.OwnerBreaks.{binds_own, form_binds, init_binds, is_bound_inside, is_field_meant, is_field_origin, names_own_field, root_name, routine_binds};
 ghost use Rattle.uc_owner.specs.Bound.{AreBound};
 
 use std::alloc::{AllocError, Global};
-use uc_meaning::rules::{Meant, Origin};
 use uc_names::scope::Scope;
+use uc_rules::rules::{Meant, Origin};
 use uc_tree::class::{Class, Init, Member, MemberForm, Routine};
 use uc_tree::expr::{Expr, ExprForm};
 use uc_tree::name::Name;

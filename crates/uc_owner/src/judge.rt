@@ -1,25 +1,25 @@
 // The rules on who owns what, at one parameter, field or argument.
 
 ghost use Rattle.std.specs.Prelude.{◌≡◌, IfOk, OnOk, Some, not};
-ghost use Rattle.uc_meaning.specs.Asked.{of_sort, unless};
-ghost use Rattle.uc_meaning.specs.declared.rule.Rule.TheVariants.{O4, O5};
-ghost use Rattle.uc_meaning.specs.Firsts.{after};
-ghost use Rattle.uc_meaning.specs.OwnerBreaks.{begins_well, condition_field_breaks, is_home_of, is_no_condition_sort, is_root, is_root_origin, is_shared, is_unshared, lone_condition, may_refer, reference_breaks, root_name, shared_breaks, unbound_reference, unshared_reference};
-ghost use Rattle.uc_meaning.specs.ProgramVisits.{is_reference};
-ghost use Rattle.uc_meaning.specs.Visits.{AtBound, AtField, AtParam};
+ghost use Rattle.uc_rules.specs.Asked.{of_sort, unless};
+ghost use Rattle.uc_rules.specs.declared.rule.Rule.TheVariants.{O4, O5};
+ghost use Rattle.uc_rules.specs.Firsts.{after};
+ghost use Rattle.uc_rules.specs.OwnerBreaks.{begins_well, condition_field_breaks, is_home_of, is_no_condition_sort, is_root, is_root_origin, is_shared, is_unshared, lone_condition, may_refer, reference_breaks, root_name, shared_breaks, unbound_reference, unshared_reference};
+ghost use Rattle.uc_rules.specs.ProgramVisits.{is_reference};
+ghost use Rattle.uc_rules.specs.Visits.{AtBound, AtField, AtParam};
 ghost use Rattle.uc_tree.specs.declared.kinds.Access.{Access};
-ghost use Rattle.uc_meaning.specs.Sorts.{sort_of};
+ghost use Rattle.uc_rules.specs.Sorts.{sort_of};
 ghost use Rattle.uc_tree.specs.Numbering.{is_mutex};
 ghost use Rattle.uc_types.specs.Told.{told};
-ghost use Rattle.uc_meaning.specs.declared.rules.FieldPlace.{FieldPlace};
-ghost use Rattle.uc_meaning.specs.declared.rules.Home as rules;
+ghost use Rattle.uc_rules.specs.declared.rules.FieldPlace.{FieldPlace};
+ghost use Rattle.uc_rules.specs.declared.rules.Home as rules;
 ghost use Rattle.uc_tree.specs.declared.kinds.Base as base;
 ghost use Rattle.uc_owner.specs.Bound.{AreBound};
 
 use crate::bind::{BoundFields, is_bound_inside, root_name};
 use std::alloc::AllocError;
-use uc_meaning::rule::Rule;
-use uc_meaning::rules::{Expected, Home, Meant, Origin, Sort};
+use uc_rules::rule::Rule;
+use uc_rules::rules::{Expected, Home, Meant, Origin, Sort};
 use uc_tree::class::Class;
 use uc_tree::declare::Declarator;
 use uc_tree::expr::Expr;

@@ -2,18 +2,18 @@
 use Rattle.std.proofs.Common.{◌≡◌, ℕ, ℤ, List, [], ◌∷◌, inl, inr, Option, Some, None, Bool, true, false, refl, sym, ap, subst, ◌∙◌}
 use Rattle.std.specs.Prelude.{slice_get}
 use Rattle.uc_tree.specs.Source.{Source}
-use Rattle.uc_meaning.specs.declared.exec.Reason.{Reason}
-use Rattle.uc_meaning.specs.declared.exec.Reason.TheVariants as reason
-use Rattle.uc_meaning.specs.declared.exec.Visited.{Visited}
-use Rattle.uc_meaning.specs.declared.fault.RunFault.{RunFault}
-use Rattle.uc_meaning.specs.declared.fault.RunFault.TheVariants.{Unhandled, EscapeInUnwind}
-use Rattle.uc_meaning.specs.declared.request.Asked.{Asked}
-use Rattle.uc_meaning.specs.declared.request.Request.{Request}
-use Rattle.uc_meaning.specs.declared.request.Request.TheVariants as ask
-use Rattle.uc_meaning.specs.Faults.{fault_number}
-use Rattle.uc_meaning.specs.Quiet.{Value, State, Quietly, stay, more, own_line, line_from, line_of}
-use Rattle.uc_meaning.specs.Raising as raising
-use Rattle.uc_meaning.specs.Raising.{event_in}
+use Rattle.uc_machine.specs.declared.exec.Reason.{Reason}
+use Rattle.uc_machine.specs.declared.exec.Reason.TheVariants as reason
+use Rattle.uc_machine.specs.declared.exec.Visited.{Visited}
+use Rattle.uc_entry.specs.declared.fault.RunFault.{RunFault}
+use Rattle.uc_entry.specs.declared.fault.RunFault.TheVariants.{Unhandled, EscapeInUnwind}
+use Rattle.uc_entry.specs.declared.request.Asked.{Asked}
+use Rattle.uc_entry.specs.declared.request.Request.{Request}
+use Rattle.uc_entry.specs.declared.request.Request.TheVariants as ask
+use Rattle.uc_entry.specs.Faults.{fault_number}
+use Rattle.uc_machine.specs.Quiet.{Value, State, Quietly, stay, more, own_line, line_from, line_of}
+use Rattle.uc_machine.specs.Raising as raising
+use Rattle.uc_machine.specs.Raising.{event_in}
 use Rattle.uc_code.specs.declared.op.Op.{Op}
 use Rattle.uc_code.specs.declared.op.Op.TheVariants as op
 use Rattle.uc_code.specs.declared.rows.Instruction.{Instruction}

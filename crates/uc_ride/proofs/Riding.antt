@@ -1,12 +1,12 @@
 -- Ops, one after another, are a ride of the source.
 use Rattle.std.proofs.Common.{◌≡◌, ℕ, zero, suc, ◌+◌, ◌<◌, Some, None, refl, sym, subst, arith}
 use Rattle.uc_tree.specs.Source.{Source}
-use Rattle.uc_meaning.specs.declared.request.Asked.{Asked}
-use Rattle.uc_meaning.specs.declared.request.Request.{Request}
-use Rattle.uc_meaning.specs.declared.request.Request.TheVariants as ask
-use Rattle.uc_meaning.specs.declared.exec.Stage.TheVariants.{Started}
-use Rattle.uc_meaning.specs.Quiet.{State}
-use Rattle.uc_meaning.specs.Rides.{Rides, slices, asked_in}
+use Rattle.uc_entry.specs.declared.request.Asked.{Asked}
+use Rattle.uc_entry.specs.declared.request.Request.{Request}
+use Rattle.uc_entry.specs.declared.request.Request.TheVariants as ask
+use Rattle.uc_machine.specs.declared.exec.Stage.TheVariants.{Started}
+use Rattle.uc_machine.specs.Quiet.{State}
+use Rattle.uc_machine.specs.Rides.{Rides, slices, asked_in}
 use Rattle.uc_code.specs.Codes.{Code}
 use Rattle.uc_code.specs.Laid.{laid_of}
 use Rattle.uc_code.specs.Lowered.{Lowered}

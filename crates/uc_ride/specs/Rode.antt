@@ -1,9 +1,9 @@
 -- Rides of a task, by what its machine stands for.
 use Rattle.std.specs.Prelude.{◌≡◌, ℕ, suc, ◌+◌, Option, Some, None}
 use Rattle.uc_tree.specs.Source.{Source}
-use Rattle.uc_meaning.specs.declared.request.Asked.{Asked}
-use Rattle.uc_meaning.specs.Quiet.{State, line_of}
-use Rattle.uc_meaning.specs.Rides.{Rides}
+use Rattle.uc_entry.specs.declared.request.Asked.{Asked}
+use Rattle.uc_machine.specs.Quiet.{State, line_of}
+use Rattle.uc_machine.specs.Rides.{Rides}
 use Rattle.uc_code.specs.Codes.{Code}
 use Rattle.uc_code.specs.Laid.{Laid, laid_of}
 use Rattle.uc_code.specs.Lowered.{Lowered}

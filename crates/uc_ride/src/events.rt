@@ -4,9 +4,9 @@
 ghost use Rattle.std.specs.Prelude.{◌≡◌, ◌<◌, ℕ, IfOk, IfSome, Some, slice_get};
 ghost use Rattle.uc_tree.specs.declared.limits.TheConstants.{PROGRAM_OPS};
 ghost use Rattle.uc_tree.specs.Source.{Source};
-ghost use Rattle.uc_meaning.specs.declared.request.Request.TheVariants as ask;
-ghost use Rattle.uc_meaning.specs.Faults.{fault_number};
-ghost use Rattle.uc_meaning.specs.Quiet.{State};
+ghost use Rattle.uc_entry.specs.declared.request.Request.TheVariants as ask;
+ghost use Rattle.uc_entry.specs.Faults.{fault_number};
+ghost use Rattle.uc_machine.specs.Quiet.{State};
 ghost use Rattle.uc_code.specs.Laid.{chain, laid_of};
 ghost use Rattle.uc_code.specs.Lowered.{Lowered};
 ghost use Rattle.uc_code.specs.Pace.{IsPaced};
@@ -17,7 +17,7 @@ ghost use Rattle.uc_frames.specs.Unwound.{LeavesNow, Unwinds};
 ghost use Rattle.uc_coroutine.specs.Outcomes.{Begins};
 ghost use Rattle.uc_step.specs.Falls.{FallsBelow};
 ghost use Rattle.uc_step.specs.Follow.{behind_line, Follow};
-ghost use Rattle.uc_meaning.specs.declared.exec.Reason.TheVariants as reason;
+ghost use Rattle.uc_machine.specs.declared.exec.Reason.TheVariants as reason;
 ghost use Rattle.uc_ride.specs.declared.events.Caught.{Caught};
 ghost use Rattle.uc_ride.specs.Led.{how_settled, how_ended, how_unwound, row_of, stop_by, test_by, StepFalls, EnteredBelow, left_in};
 
@@ -29,14 +29,14 @@ use uc_coroutine::leaving::{Left, leave, return_past};
 use uc_coroutine::switching::{finish, leave_main, resume, suspend, take_down};
 use uc_coroutine::testing::{TaskMainEnd, end_block, end_task_main};
 use uc_coroutine::unwinding::unwind;
+use uc_entry::fault::RunFault;
+use uc_entry::request::{Asked, Request};
 use uc_except::found::Found;
 use uc_except::handling::{handle, throw};
 use uc_except::seeking::{catching_row, propagate};
 use uc_frames::event::Event;
 use uc_frames::work::Work;
-use uc_meaning::exec::Reason;
-use uc_meaning::fault::RunFault;
-use uc_meaning::request::{Asked, Request};
+use uc_machine::exec::Reason;
 use uc_step::stepped::Stepped;
 
 /// How an op ends with what an event or a switch leads to by it: the task goes on, after a tick or without one, or it asks.

@@ -2,9 +2,9 @@
 
 ghost use Rattle.std.specs.Prelude.{◌≡◌, ◌≤◌, ◌<◌, None, IfOk};
 ghost use Rattle.uc_tree.specs.Source.{Source};
-ghost use Rattle.uc_meaning.specs.declared.request.Request.TheVariants as ask;
-ghost use Rattle.uc_meaning.specs.Quiet.{State};
-ghost use Rattle.uc_meaning.specs.Runs as runs;
+ghost use Rattle.uc_entry.specs.declared.request.Request.TheVariants as ask;
+ghost use Rattle.uc_machine.specs.Quiet.{State};
+ghost use Rattle.uc_machine.specs.Answering as answering;
 ghost use Rattle.uc_code.specs.Laid.{laid_of};
 ghost use Rattle.uc_code.specs.Lowered.{Lowered};
 ghost use Rattle.uc_code.specs.Pace.{IsPaced};
@@ -18,9 +18,9 @@ ghost use Rattle.uc_ride.specs.Rode.{Rode, HasBurst, HasRidden};
 use crate::events::{Settled, settle};
 use std::alloc::AllocError;
 use uc_code::code::Code;
+use uc_entry::request::{Answer, Asked, Request};
 use uc_frames::task::Task;
 use uc_frames::work::Work;
-use uc_meaning::request::{Answer, Asked, Request};
 use uc_outside::Gate;
 use uc_step::onward::{Onward, go_onward};
 use uc_step::step::{answer as give, step};
@@ -56,7 +56,7 @@ pub fn ride<G: Gate>(
     requires some { 1 ≤ quantum }
     requires paced { IsPaced (laid_of code.now) code.now.routines }
     requires kept { Keeps code.now work }
-    ensures rides { IfOk result (λ r. (source : Source) (s : State) → Lowered source code.now → Stands (laid_of code.now) work s → Rode source (laid_of code.now) (runs.answered answer s) quantum r.ticks r.asked r.work) }
+    ensures rides { IfOk result (λ r. (source : Source) (s : State) → Lowered source code.now → Stands (laid_of code.now) work s → Rode source (laid_of code.now) (answering.answered answer s) quantum r.ticks r.asked r.work) }
     ensures few { IfOk result (λ r. r.ticks ≤ quantum) }
     ensures early { IfOk result (λ r. (r.asked.request ≡ ask.Slice → ⊥) → r.ticks < quantum) }
     ensures kept { IfOk result (λ r. KeepsAfter code.now r.asked.request r.work) }
@@ -86,7 +86,7 @@ pub fn ride_on(
     requires some { 1 ≤ quantum }
     requires paced { IsPaced (laid_of code.now) code.now.routines }
     requires kept { Keeps code.now work.old }
-    ensures rides { IfOk result (λ r. (source : Source) (s : State) → Lowered source code.now → Stands (laid_of code.now) work.old s → Rode source (laid_of code.now) (runs.answered answer s) quantum r.ticks r.asked work.new) }
+    ensures rides { IfOk result (λ r. (source : Source) (s : State) → Lowered source code.now → Stands (laid_of code.now) work.old s → Rode source (laid_of code.now) (answering.answered answer s) quantum r.ticks r.asked work.new) }
     ensures few { IfOk result (λ r. r.ticks ≤ quantum) }
     ensures early { IfOk result (λ r. (r.asked.request ≡ ask.Slice → ⊥) → r.ticks < quantum) }
     ensures kept { IfOk result (λ r. KeepsAfter code.now r.asked.request work.new) }

@@ -4,7 +4,7 @@ use Rattle.uc_tree.specs.declared.kinds.Base.{Base}
 use Rattle.uc_tree.specs.declared.kinds.Base.TheVariants as base
 use Rattle.uc_tree.specs.Programs.{Program}
 use Rattle.uc_tree.specs.Cells.{classes_of}
-use Rattle.uc_tree.specs.Standings.{event_place}
+use Rattle.uc_tree.specs.Objects.{event_place}
 use Rattle.uc_sizes.specs.Held.{event_in}
 
 pub event_is : (p : Program) (b : Base) → event_in (classes_of p.items) b ≡ event_place p b

@@ -5,7 +5,7 @@ use Rattle.std.proofs.lemmas.List.{length-map}
 use Rattle.std.specs.Cmp.Lexicographic.{bytes_decides}
 use Rattle.uc_tree.specs.Names.{same_name}
 use Rattle.uc_tree.specs.Numbering.{is_event, place_from}
-use Rattle.uc_tree.specs.Standings.{event_from}
+use Rattle.uc_tree.specs.Objects.{event_from}
 use Rattle.uc_tree.specs.Programs.{Class, Constant}
 use Rattle.uc_tree.specs.Constants.{constant_named}
 use Rattle.uc_tree.specs.Cells.{object_named, object_of_kind}

@@ -5,7 +5,7 @@ use Rattle.uc_tree.specs.declared.kinds.Base.TheVariants as base
 use Rattle.uc_tree.specs.Programs.{Class, Constant}
 use Rattle.uc_tree.specs.Cells.{leading_cells, members_held}
 use Rattle.uc_tree.specs.Rows.{Row}
-use Rattle.uc_tree.specs.Standings.{event_from}
+use Rattle.uc_tree.specs.Objects.{event_from}
 use Rattle.uc_sizes.specs.Values.{seen_at}
 
 abbrev pub row_by : List Class → List Constant → List (Option ℤ) → Class → Row

@@ -5,7 +5,7 @@ ghost use Rattle.uc_tree.specs.Constants.{sound_length, elements};
 ghost use Rattle.uc_tree.specs.Cells.{object_of_kind, object_named, object_of, held_by, member_held, members_held, leading_cells};
 ghost use Rattle.uc_tree.specs.ProgramViews.{member_form_at};
 ghost use Rattle.uc_tree.specs.Numbering.{is_event};
-ghost use Rattle.uc_tree.specs.Standings.{event_from};
+ghost use Rattle.uc_tree.specs.Objects.{event_from};
 ghost use Rattle.uc_sizes.specs.Held.{event_in, row_by, rows_by};
 
 use crate::eval::value_by;

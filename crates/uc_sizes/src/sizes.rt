@@ -3,8 +3,7 @@
 ghost use Rattle.std.specs.Prelude.{◌≡◌, ℕ, IfOk, false, map, option_map, slice_get};
 ghost use Rattle.uc_tree.specs.Capped.{capped};
 ghost use Rattle.uc_tree.specs.Cells.{class_cells, classes_of, declared_cells, held_by, object_of, param_cells, rows_of, seen_in};
-ghost use Rattle.uc_tree.specs.Objects.{class_at, plain_class, plain_in};
-ghost use Rattle.uc_tree.specs.Standings.{event_from, event_place};
+ghost use Rattle.uc_tree.specs.Objects.{class_at, plain_class, plain_in, event_from, event_place};
 ghost use Rattle.uc_tree.specs.Rows.{element_cells, has_itself, held_cells, reaches, row_at};
 ghost use Rattle.uc_sizes.specs.Reached.{IsCircle, Reaching};
 ghost use Rattle.uc_sizes.specs.Known.{known_by};

@@ -2,12 +2,12 @@
 use Rattle.std.proofs.Common.{◌≡◌, ℕ, ◌+◌, List, [], ◌∷◌, None, Some, ℤ, refl, sym, subst, ap, ◌∙◌}
 use Rattle.std.specs.Prelude.{max, slice_get}
 use Rattle.uc_tree.specs.Source.{Purpose, TaskMain, CoroutineMain, Procedure, Function, Builder, Stmts, Routine, Source}
-use Rattle.uc_meaning.specs.declared.request.Answer.{Answer}
-use Rattle.uc_meaning.specs.declared.request.Answer.TheVariants as answer
-use Rattle.uc_meaning.specs.Quiet as quiet
-use Rattle.uc_meaning.specs.Quiet.{Todo, State, Rest, Within, behind_body, routine_todo, first_state}
-use Rattle.uc_meaning.specs.Runs as runs
-use Rattle.uc_meaning.specs.Runs.{with_operand}
+use Rattle.uc_entry.specs.declared.request.Answer.{Answer}
+use Rattle.uc_entry.specs.declared.request.Answer.TheVariants as answer
+use Rattle.uc_machine.specs.Quiet as quiet
+use Rattle.uc_machine.specs.Quiet.{Todo, State, Rest, Within, behind_body, routine_todo, first_state}
+use Rattle.uc_machine.specs.Answering as answering
+use Rattle.uc_machine.specs.Answering.{with_operand}
 use Rattle.uc_code.specs.declared.op.Op.TheVariants as op
 use Rattle.uc_code.specs.declared.rows.MainOf.TheVariants as main_of
 use Rattle.uc_code.specs.declared.rows.Mark.{Mark}
@@ -117,7 +117,7 @@ module _ (code : Laid) where
       rw (h.run.is) (record { run = record { marks = h.run.marks; follows = h.run.follows; is = refl }; callers = h.callers; env = h.env })
 
   -- an answer
-  pub answered_stands : (a : Answer) (m : Machine) (s : State) → Stands code m s → Stands code (answered a m) (runs.answered a s)
+  pub answered_stands : (a : Answer) (m : Machine) (s : State) → Stands code m s → Stands code (answered a m) (answering.answered a s)
   answered_stands answer.Go m s h = h
   answered_stands (answer.Object o) m s h = h
   answered_stands (answer.Number n) m s h = pushed n m s h

@@ -1,7 +1,7 @@
 -- A task as its main begins, on cells and in the source.
 use Rattle.std.specs.Prelude.{◌≡◌, ℕ, Option, Some, MatchOption, slice_get}
 use Rattle.uc_tree.specs.Source.{Source, Routine}
-use Rattle.uc_meaning.specs.Quiet.{first_state}
+use Rattle.uc_machine.specs.Quiet.{first_state}
 use Rattle.uc_code.specs.Codes.{Code}
 use Rattle.uc_code.specs.Laid.{laid_of}
 use Rattle.uc_code.specs.Lowered.{Lowered}

@@ -7,9 +7,9 @@ use crate::stepped::{Stepped, asked, faulted};
 use std::alloc::AllocError;
 use uc_code::code::Code;
 use uc_code::op::Op;
+use uc_entry::fault::RunFault;
+use uc_entry::request::Request;
 use uc_frames::work::Work;
-use uc_meaning::fault::RunFault;
-use uc_meaning::request::Request;
 
 // The object at hand gets an execution.
 pub(crate) fn set_up(code: &Code, line: u32, work: &mut Work, number: u32) -> Result<(), AllocError>

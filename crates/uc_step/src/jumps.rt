@@ -9,11 +9,11 @@ use std::alloc::AllocError;
 use uc_code::code::Code;
 use uc_code::op::Op;
 use uc_code::rows::RoutineCode;
+use uc_entry::fault::RunFault;
+use uc_entry::request::Request;
 use uc_frames::call::Call;
 use uc_frames::cell::{Cell, number_in};
 use uc_frames::work::Work;
-use uc_meaning::fault::RunFault;
-use uc_meaning::request::Request;
 use uc_tree::limits::CALLS;
 
 pub(crate) fn jump(code: &Code, line: u32, work: &mut Work, to: u32) -> Result<(), AllocError>

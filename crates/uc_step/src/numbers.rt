@@ -3,10 +3,10 @@
 ghost use Rattle.std.specs.Prelude.{◌≡◌, ℤ, neg_ℤ};
 ghost use Rattle.uc_tree.specs.Constants.{int_value};
 ghost use Rattle.uc_tree.specs.Source.{Plus, Minus, Times, Over, Modulo, Equal, NotEqual, Less, AtMost, Greater, AtLeast};
-ghost use Rattle.uc_meaning.specs.Quiet.{outcome, int_outcome, truth};
+ghost use Rattle.uc_machine.specs.Quiet.{outcome, int_outcome, truth};
 ghost use Rattle.uc_step.specs.Given.{outcome_of};
 
-use uc_meaning::fault::RunFault;
+use uc_entry::fault::RunFault;
 use uc_tree::int::{difference, negated, product, quotient, remainder, sum};
 
 // A number, or a fault.

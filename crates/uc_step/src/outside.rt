@@ -7,10 +7,10 @@ use crate::stepped::{Stepped, asked};
 use std::alloc::AllocError;
 use uc_code::code::Code;
 use uc_code::op::Op;
+use uc_entry::request::{Piece, Request, TEXT_FORM};
 use uc_frames::cell::number_in;
 use uc_frames::pieces::print_request;
 use uc_frames::work::Work;
-use uc_meaning::request::{Piece, Request, TEXT_FORM};
 use uc_tree::kinds::ValueForm;
 
 pub(crate) fn print(

@@ -1,16 +1,16 @@
 // How one op ends.
 
 ghost use Rattle.std.specs.Prelude.{◌≡◌};
-ghost use Rattle.uc_meaning.specs.declared.request.Request.TheVariants as ask;
-ghost use Rattle.uc_meaning.specs.Faults.{fault_number};
+ghost use Rattle.uc_entry.specs.declared.request.Request.TheVariants as ask;
+ghost use Rattle.uc_entry.specs.Faults.{fault_number};
 ghost use Rattle.uc_frames.specs.Machine.{line_at};
 
 use uc_code::code::Code;
+use uc_entry::fault::RunFault;
+use uc_entry::request::{Asked, Request};
 use uc_frames::cell::Cell;
 use uc_frames::event::Event;
 use uc_frames::work::Work;
-use uc_meaning::fault::RunFault;
-use uc_meaning::request::{Asked, Request};
 
 /// Going on; going on after a tick; or waiting for the answer to a request. What is left to others: an event that was popped and
 /// is thrown or raised; unwinding, which goes on behind the op; the end of a handler of resumptions by a return, with what

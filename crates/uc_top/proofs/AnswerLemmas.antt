@@ -1,7 +1,7 @@
 -- A text that is refused gets just its refusal.
 use Rattle.std.proofs.Common.{◌≡◌, ℕ, List, [], inl, inr, refl, subst}
 use Rattle.uc_tree.specs.Programs.{Program}
-use Rattle.uc_meaning.specs.Journal.{Journal}
+use Rattle.uc_acts.specs.Journal.{Journal}
 use Rattle.uc_outside.specs.Taking.{Took}
 use Rattle.uc_top.specs.declared.refusals.Refusal.{Refusal}
 use Rattle.uc_top.specs.declared.refusals.Refusal.TheVariants.{Word, CannotRead, TooLong, Lexical, Syntax, TooDeep, Broken, NotBuilt, FrameTooLarge, CodeTooLarge, NoMemory}

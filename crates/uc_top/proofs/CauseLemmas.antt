@@ -11,9 +11,9 @@ use Rattle.uc_grammar.specs.declared.fault.ParseFault.{ParseFault}
 use Rattle.uc_grammar.specs.declared.fault.ParseFault.TheVariants as fault
 use Rattle.uc_grammar.specs.Text.{IsProgram, ProgramFails}
 use Rattle.uc_parse_class.specs.Found.{NoProgram}
-use Rattle.uc_meaning.specs.declared.rule.Rule.{Rule}
-use Rattle.uc_meaning.specs.declared.rule.Break.{Break}
-use Rattle.uc_meaning.specs.Breaks.{breaks_of}
+use Rattle.uc_rules.specs.declared.rule.Rule.{Rule}
+use Rattle.uc_rules.specs.declared.rule.Break.{Break}
+use Rattle.uc_rules.specs.Breaks.{breaks_of}
 use Rattle.uc_built.specs.BuiltForms.{IsBuilt, is_built}
 use Rattle.uc_top.specs.declared.refusals.Refusal.{Refusal}
 use Rattle.uc_top.specs.declared.refusals.Refusal.TheVariants.{Lexical, Syntax, TooDeep, Broken}

@@ -7,12 +7,12 @@ use Rattle.uc_tree.specs.declared.scan.Reason.{Reason}
 use Rattle.uc_tree.specs.declared.token.Token.{Token}
 use Rattle.uc_tree.specs.Tokens.{tokens, Read}
 use Rattle.uc_grammar.specs.Text.{IsProgram}
-use Rattle.uc_meaning.specs.declared.rule.Rule.{Rule}
-use Rattle.uc_meaning.specs.declared.rule.Break.{Break}
-use Rattle.uc_meaning.specs.Breaks.{breaks_of}
+use Rattle.uc_rules.specs.declared.rule.Rule.{Rule}
+use Rattle.uc_rules.specs.declared.rule.Break.{Break}
+use Rattle.uc_rules.specs.Breaks.{breaks_of}
 use Rattle.uc_built.specs.BuiltForms.{is_built}
 use Rattle.uc_tree.specs.Programs.{Program}
-use Rattle.uc_meaning.specs.Journal.{Journal}
+use Rattle.uc_acts.specs.Journal.{Journal}
 use Rattle.uc_built.specs.Accepted.{IsAccepted}
 use Rattle.uc_top.proofs.Frames.{no_large}
 use Rattle.uc_outside.specs.Reading.{StoreState, KeepsFiles, ReadBytes, ReadFailed, ReadTooLong, HasFile}

@@ -1,8 +1,8 @@
 -- What the parts of the top call find, put together.
 use Rattle.std.proofs.Common.{◌≡◌, ℕ, Bool, List, refl, sym, ap, subst}
 use Rattle.std.specs.Prelude.{Option, None}
-use Rattle.uc_meaning.specs.declared.entry.Options.{Options}
-use Rattle.uc_meaning.specs.Journal.{Journal}
+use Rattle.uc_entry.specs.declared.entry.Options.{Options}
+use Rattle.uc_acts.specs.Journal.{Journal}
 use Rattle.uc_outside.specs.Reading.{StoreState}
 use Rattle.uc_words.specs.Words.{Words, IsFirstBad, Command, RunFile, CheckFile, LowerFile, MakeProgram, IsLine}
 use Rattle.uc_make.specs.Generated.{generated}

@@ -2,11 +2,11 @@
 use Rattle.std.proofs.Common.{◌≡◌, ℕ, zero, suc, List, [], ◌∷◌, Bool, true, false, not, ◌&&◌, ◌||◌, nat_lt, nat_eq, refl, ap, sym, ◌∙◌, arith}
 use Rattle.std.proofs.lemmas.Bool.Decides.{nat_tests}
 use Rattle.uc_tree.specs.declared.pos.Pos.{Pos}
-use Rattle.uc_meaning.specs.declared.rule.Rule.{Rule}
-use Rattle.uc_meaning.specs.declared.rule.Rule.TheVariants.{S1, S2, S3, S4, S5, S6, S7, S8, S9, S10, S11, S12, S13, S14, S15, S16, S17, S18, S19, S20, S21, S22, S23, S24, O1, O2, O3, O4, O5, O6, O7, O8, O9}
-use Rattle.uc_meaning.specs.declared.rule.Break.{Break}
-use Rattle.uc_meaning.specs.Firsts.{is_owner_number, IsFirst}
-use Rattle.uc_meaning.specs.RuleNames.{rule_number}
+use Rattle.uc_rules.specs.declared.rule.Rule.{Rule}
+use Rattle.uc_rules.specs.declared.rule.Rule.TheVariants.{S1, S2, S3, S4, S5, S6, S7, S8, S9, S10, S11, S12, S13, S14, S15, S16, S17, S18, S19, S20, S21, S22, S23, S24, O1, O2, O3, O4, O5, O6, O7, O8, O9}
+use Rattle.uc_rules.specs.declared.rule.Break.{Break}
+use Rattle.uc_rules.specs.Firsts.{is_owner_number, IsFirst}
+use Rattle.uc_rules.specs.RuleNames.{rule_number}
 
 -- rules have different numbers
 

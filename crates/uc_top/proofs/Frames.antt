@@ -8,7 +8,7 @@ use Rattle.uc_tree.specs.Gathered.{gathered_all}
 use Rattle.uc_tree.specs.Numbering.{Defined, item_defined, items_defined, own_texts, own_sites, routines_of}
 use Rattle.uc_tree.specs.ProgramMain.{is_main_item, main_among, main_number}
 use Rattle.uc_tree.specs.Objects.{unwritten_of}
-use Rattle.uc_tree.specs.Resolve.{all_unwritten, routines_meant, source_of}
+use Rattle.uc_resolve.specs.Resolve.{all_unwritten, routines_meant, source_of}
 use Rattle.uc_tree.specs.Source as source
 use Rattle.uc_built.specs.Accepted.{FitFrames, IsAccepted}
 use Rattle.uc_built.specs.BuiltForms.{are_built_items, has_main, IsBuilt}

@@ -2,7 +2,7 @@
 use Rattle.std.proofs.Common.{◌≡◌, ℕ, List, [], sym, subst, ap, ◌∙◌, inl, inr, ℤ, ◌∷◌}
 use Rattle.std.specs.Prelude.{OnOk, OnErr, Result, Ok, Err, codes}
 use Rattle.std.specs.List.{concat}
-use Rattle.uc_meaning.specs.Journal.{Journal}
+use Rattle.uc_acts.specs.Journal.{Journal}
 use Rattle.uc_outside.specs.Taking.{SinkState, Took, TookPrefix, FailedAt}
 use Rattle.uc_top.specs.declared.endings.Ending.{Ending}
 use Rattle.uc_top.specs.declared.endings.Ending.TheVariants.{Fault}

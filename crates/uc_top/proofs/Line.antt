@@ -3,7 +3,7 @@ use Rattle.std.proofs.Common.{◌≡◌, ℕ, ◌≤◌, Bool, true, false, List
 use Rattle.std.specs.Prelude.{Option, Some, None, option_to_list, filter_map, unwrap_or, if◌then◌else◌}
 use Rattle.std.specs.List.{cons_option}
 use Rattle.uc_tree.specs.declared.limits.TheConstants.{ENTRIES_DEFAULT, PROCESSORS_DEFAULT, SLICE_DEFAULT, TICKS_DEFAULT}
-use Rattle.uc_meaning.specs.declared.entry.Options.{Options}
+use Rattle.uc_entry.specs.declared.entry.Options.{Options}
 use Rattle.uc_words.specs.declared.numbers.NumberOption.{NumberOption}
 use Rattle.uc_words.specs.declared.numbers.NumberOption.TheVariants.{Processors, Slice, Ticks, Entries}
 use Rattle.uc_words.specs.Words.{Words, Piece, File, Number, Journal, Input, ArePieces, IsLine, IsRunLine, Command, RunFile, CheckFile, LowerFile, MakeProgram, number_in, least_of, most_of, same_option}

@@ -1,9 +1,9 @@
 -- What one more entry prints.
 use Rattle.std.proofs.Common.{◌≡◌, ℕ, ◌+◌, ◌<◌, List, [], ◌∷◌, ◌++◌, length, take, get_or, ap, sym, refl, ◌∙◌, append_assoc, append-nil}
 use Rattle.std.proofs.lemmas.List.{take_more}
-use Rattle.uc_meaning.specs.declared.entry.Entry.{Entry}
-use Rattle.uc_meaning.specs.Journal.{Journal}
-use Rattle.uc_meaning.specs.Texts.{printed, printed_by}
+use Rattle.uc_entry.specs.declared.entry.Entry.{Entry}
+use Rattle.uc_acts.specs.Journal.{Journal}
+use Rattle.uc_acts.specs.Texts.{printed, printed_by}
 
 pub printed-append : (texts : List (List ℕ)) (i j : Journal) → printed texts (i ++ j) ≡ printed texts i ++ printed texts j
 printed-append texts [] j = refl

@@ -4,19 +4,19 @@ use Rattle.uc_tree.specs.Programs.{Program}
 use Rattle.uc_tree.specs.Numbering.{texts_of}
 use Rattle.uc_tree.specs.Source.{Source}
 use Rattle.uc_tree.specs.ProgramMain.{main_number}
-use Rattle.uc_tree.specs.Resolve.{source_of}
+use Rattle.uc_resolve.specs.Resolve.{source_of}
 use Rattle.uc_code.specs.Codes.{Code}
 use Rattle.uc_code.specs.Lowered.{Lowered}
-use Rattle.uc_meaning.specs.declared.entry.Options.{Options}
-use Rattle.uc_meaning.specs.Journal.{Journal}
-use Rattle.uc_meaning.specs.Texts.{printed}
+use Rattle.uc_entry.specs.declared.entry.Options.{Options}
+use Rattle.uc_acts.specs.Journal.{Journal}
+use Rattle.uc_acts.specs.Texts.{printed}
 use Rattle.uc_built.specs.Accepted.{IsAccepted}
 use Rattle.uc_top.specs.declared.endings.Ending.{Ending}
 use Rattle.uc_top.specs.Endings.{EndsWith, EndsAlone}
 use Rattle.uc_top.specs.Built.{ProgramRan, told_text}
 use Rattle.uc_top.proofs.Frames.{main_there}
-use Rattle.uc_meaning.specs.declared.entry.EntryKind.{EntryKind}
-use Rattle.uc_meaning.specs.declared.entry.EntryKind.TheVariants as kind
+use Rattle.uc_entry.specs.declared.entry.EntryKind.{EntryKind}
+use Rattle.uc_entry.specs.declared.entry.EntryKind.TheVariants as kind
 use Rattle.uc_alone.specs.Run as alone
 use Rattle.uc_alone.specs.Kept.{Closing, by_done, by_fault, by_limit, Ended}
 

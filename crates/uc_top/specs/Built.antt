@@ -9,19 +9,19 @@ use Rattle.uc_tree.specs.Programs.{Program}
 use Rattle.uc_tree.specs.Cells.{routine_cells}
 use Rattle.uc_tree.specs.Sizes.{program_size}
 use Rattle.uc_tree.specs.Numbering.{Defined, routines_of, texts_of}
-use Rattle.uc_tree.specs.Resolve.{source_of}
+use Rattle.uc_resolve.specs.Resolve.{source_of}
 use Rattle.uc_grammar.specs.declared.fault.ParseFault.TheVariants.{Syntax, TooDeep}
 use Rattle.uc_grammar.specs.Text.{IsProgram, ProgramFails}
 use Rattle.uc_parse_class.specs.Found.{FirstTooDeep, NeverProgram, NoProgram}
-use Rattle.uc_meaning.specs.declared.entry.Options.{Options}
-use Rattle.uc_meaning.specs.Journal.{Journal}
-use Rattle.uc_meaning.specs.declared.rule.Rule.{Rule}
+use Rattle.uc_entry.specs.declared.entry.Options.{Options}
+use Rattle.uc_acts.specs.Journal.{Journal}
+use Rattle.uc_rules.specs.declared.rule.Rule.{Rule}
 use Rattle.uc_built.specs.BuiltForms.{IsBuilt, is_built}
-use Rattle.uc_meaning.specs.Breaks.{breaks_of}
-use Rattle.uc_meaning.specs.Firsts.{IsFirst}
+use Rattle.uc_rules.specs.Breaks.{breaks_of}
+use Rattle.uc_rules.specs.Firsts.{IsFirst}
 use Rattle.uc_built.specs.Accepted.{FitFrames, IsAccepted}
 use Rattle.uc_meaning.specs.Runs.{IsRun}
-use Rattle.uc_meaning.specs.Texts as texts
+use Rattle.uc_acts.specs.Texts as texts
 use Rattle.uc_outside.specs.Reading.{StoreState, KeepsFiles, ReadBytes, HasFile}
 use Rattle.uc_words.specs.Words.{Words, Command, RunFile, CheckFile, LowerFile, MakeProgram, IsLine}
 use Rattle.uc_code.specs.Codes.{Code}

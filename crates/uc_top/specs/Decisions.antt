@@ -5,9 +5,9 @@ use Rattle.uc_tree.specs.declared.pos.Pos.{Pos}
 use Rattle.uc_tree.specs.declared.token.Token.{Token}
 use Rattle.uc_tree.specs.Programs.{Program}
 use Rattle.uc_grammar.specs.Text.{IsProgram}
-use Rattle.uc_meaning.specs.declared.entry.Options.{Options}
-use Rattle.uc_meaning.specs.Journal.{Journal}
-use Rattle.uc_meaning.specs.KernelRuns.{InRange}
+use Rattle.uc_entry.specs.declared.entry.Options.{Options}
+use Rattle.uc_acts.specs.Journal.{Journal}
+use Rattle.uc_acts.specs.KernelRuns.{InRange}
 use Rattle.uc_outside.specs.Reading.{StoreState, ReadFailed, ReadTooLong}
 use Rattle.uc_outside.specs.Taking.{SinkState, Took}
 use Rattle.uc_words.specs.Words.{Command, RunFile, CheckFile, LowerFile, MakeProgram}

@@ -7,8 +7,8 @@ use Rattle.uc_tree.specs.Programs.{Program}
 use Rattle.uc_outside.specs.Faults.{CountRose}
 use Rattle.uc_outside.specs.Reading.{StoreState, HasFile}
 use Rattle.uc_outside.specs.Taking.{SinkState, Took, TookPrefix, FailedAt, HasRoom, Stopped}
-use Rattle.uc_meaning.specs.declared.rule.Rule.{Rule}
-use Rattle.uc_meaning.specs.Journal.{Journal}
+use Rattle.uc_rules.specs.declared.rule.Rule.{Rule}
+use Rattle.uc_acts.specs.Journal.{Journal}
 use Rattle.uc_words.specs.Words.{Words, Command, RunFile, CheckFile, LowerFile, MakeProgram, IsLine}
 use Rattle.uc_top.specs.declared.endings.Ending.{Ending}
 use Rattle.uc_top.specs.declared.refusals.Refusal.{Refusal}

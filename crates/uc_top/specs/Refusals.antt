@@ -5,7 +5,7 @@ use Rattle.uc_tree.specs.declared.pos.Pos.{Pos}
 use Rattle.uc_tree.specs.declared.scan.Reason.{Reason}
 use Rattle.uc_tree.specs.declared.scan.Reason.TheVariants as reason
 use Rattle.uc_tree.specs.declared.limits.TheConstants.{PROGRAM_BYTES, INPUT_BYTES}
-use Rattle.uc_meaning.specs.RuleNames.{rule_name}
+use Rattle.uc_rules.specs.RuleNames.{rule_name}
 use Rattle.uc_outside.specs.Reading.{StoreState, KeepsFiles, ReadBytes, ReadFailed, ReadTooLong}
 use Rattle.uc_words.specs.Words.{Words, Command, IsFirstBad}
 use Rattle.uc_top.specs.declared.refusals.Refusal.{Refusal}

@@ -2,8 +2,8 @@
 use Rattle.std.specs.Prelude.{◌≡◌, ℕ, ◌⊎◌, IsTrue}
 use Rattle.uc_tree.specs.declared.pos.Pos.{Pos}
 use Rattle.uc_tree.specs.declared.scan.Reason.{Reason}
-use Rattle.uc_meaning.specs.declared.rule.Rule.{Rule}
-use Rattle.uc_meaning.specs.Journal.{Journal}
+use Rattle.uc_rules.specs.declared.rule.Rule.{Rule}
+use Rattle.uc_acts.specs.Journal.{Journal}
 use Rattle.uc_top.specs.declared.refusals.Refusal.{Refusal}
 use Rattle.uc_top.specs.declared.refusals.Refusal.TheVariants as refusal
 use Rattle.uc_top.specs.Built.{BreaksFirst, HasDeepFault, HasFault, HasLargeCode, HasLargeFrame, HasSyntaxFault, IsTextOf, IsUnbuilt}

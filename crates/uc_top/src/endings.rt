@@ -6,8 +6,8 @@ ghost use Rattle.uc_top.specs.Endings.{Tells, EndsAlone, EndsWith, ending_status
 
 use crate::refusals::{put_line, put_pieces};
 use itoa::Buffer;
-use uc_meaning::entry::{Entry, EntryKind};
-use uc_meaning::fault::RunFault;
+use uc_entry::entry::{Entry, EntryKind};
+use uc_entry::fault::RunFault;
 use uc_outside::{Sink, SinkFault};
 
 /// How the run of one task ends.

@@ -1,12 +1,12 @@
 // What a journal prints.
 
 ghost use Rattle.std.specs.Prelude.{◌≡◌, ◌++◌, IfOk, OnOk, [], slice_index_or};
-ghost use Rattle.uc_meaning.specs.Journal.{number};
-ghost use Rattle.uc_meaning.specs.Texts.{printed, printed_by, bytes_of, byte_of};
+ghost use Rattle.uc_acts.specs.Journal.{number};
+ghost use Rattle.uc_acts.specs.Texts.{printed, printed_by, bytes_of, byte_of};
 
 use itoa::Buffer;
 use std::alloc::{AllocError, Global};
-use uc_meaning::entry::{Entry, EntryKind};
+use uc_entry::entry::{Entry, EntryKind};
 use uc_tree::name::Text;
 
 #[tactic(auto, using(crate::proofs::Prints::printed_more))]

@@ -6,8 +6,8 @@ ghost use Rattle.uc_outside.specs.Taking.{Took, TookPrefix, FailedAt};
 ghost use Rattle.uc_top.specs.Refusals.{status_of, lexical_reason, refusal_text, err_line, placed_line};
 
 use itoa::Buffer;
-use uc_meaning::rule::Rule;
 use uc_outside::{Sink, SinkFault, put_all};
+use uc_rules::rule::Rule;
 use uc_tree::pos::Pos;
 use uc_tree::scan::Reason;
 

@@ -11,7 +11,7 @@ use crate::endings::{Ending, put_ending};
 use crate::program::Run;
 use crate::refusals::{put_line, put_refusal};
 use std::alloc::Global;
-use uc_meaning::entry::Entry;
+use uc_entry::entry::Entry;
 use uc_outside::{Gate, Sink, SinkFault, Store, put_all};
 
 /// What the program ends with: its status, and the journal of the run, which is empty where nothing was run.

@@ -21,13 +21,12 @@ pub mod ProgramCodes
 pub mod ProgramMain
 pub mod ProgramViews
 pub mod Programs
-pub mod Resolve
 pub mod Rows
 pub mod Scopes
+pub mod SiteOffers
 pub mod Sizes
 pub mod Source
 pub mod Spelling
-pub mod Standings
 pub mod StatementCodes
 pub mod StatementFalls
 pub mod StatementForms

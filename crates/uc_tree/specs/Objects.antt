@@ -220,3 +220,12 @@ place_among (u ∷ us) i wanted = if nat_eq u.class i && same_role wanted u.role
 
 abbrev pub unwritten_number : Program → ℕ → Role → ℕ
 unwritten_number p i wanted = length (routines_of p) + place_among (unwritten_of p) i wanted
+
+-- the event that a base names, by its place among the classes, the first of which has the place i
+abbrev pub event_from : List Class → ℕ → List ℕ → Option ℕ
+event_from [] i name = None
+event_from (c ∷ cs) i name = if same_name c.name name then (if is_event c.kind then Some i else None) else event_from cs (i + 1) name
+
+abbrev pub event_place : Program → Base → Option ℕ
+event_place p (base.Named name) = event_from (classes_of p.items) 0 name
+event_place p _ = None

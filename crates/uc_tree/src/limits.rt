@@ -115,11 +115,6 @@ pub const CLAUSES: u8 = 32;
 
 const _: () = prove!(CLAUSES == 32);
 
-/// Items printed under one `osacquire`.
-pub const PRINT_ITEMS: u8 = 32;
-
-const _: () = prove!(PRINT_ITEMS == 32);
-
 /// Active calls of one execution.
 pub const CALLS: u32 = 1_000;
 

@@ -7,8 +7,8 @@ use Rattle.uc_tree.specs.declared.limits.TheConstants.{MEMBERS}
 use Rattle.uc_tree.specs.Cells.{classes_of}
 use Rattle.uc_tree.specs.Numbering.{mutex_members}
 use Rattle.uc_tree.specs.Programs.{Class, Program}
-use Rattle.uc_meaning.specs.Names.{constructor_among, constructor_params, params_in}
-use Rattle.uc_meaning.specs.Sorts.{class_at}
+use Rattle.uc_rules.specs.Names.{constructor_among, constructor_params, params_in}
+use Rattle.uc_rules.specs.Sorts.{class_at}
 use Rattle.uc_types.specs.Members.{built_with, numbered_in}
 
 built_case : (o : Option Class) → unwrap_or (option_map built_with o) [] ≡ params_in (option_and_then (λ c. constructor_among c.members) o)

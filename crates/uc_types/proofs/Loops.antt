@@ -3,12 +3,12 @@ use Rattle.std.proofs.Common.{◌≡◌, ℕ, ◌+◌, ◌<◌, ◌≤◌, List,
 use Rattle.std.proofs.lemmas.List.{at_drop_more}
 use Rattle.uc_tree.specs.Expressions.{Expr, Part, Link, exprs_of, parts_of, links_of}
 use Rattle.uc_tree.specs.ExpressionSizes.{expr_size, exprs_size, part_size, parts_size, link_size, links_size}
-use Rattle.uc_meaning.specs.declared.rules.Entity.{Entity}
-use Rattle.uc_meaning.specs.declared.rule.Break.{Break}
-use Rattle.uc_meaning.specs.declared.rules.Target.{Target}
-use Rattle.uc_meaning.specs.Scopes.{Env}
-use Rattle.uc_meaning.specs.Entities.{entity_of, part_entity, parts_entity, link_entity, chain_entity, are_sound, call_follows, has_fitting, expected}
-use Rattle.uc_meaning.specs.Visits.{part_visits, parts_visits, link_visits, chain_visits, arg_visits, args_visits}
+use Rattle.uc_rules.specs.declared.rules.Entity.{Entity}
+use Rattle.uc_rules.specs.declared.rule.Break.{Break}
+use Rattle.uc_rules.specs.declared.rules.Target.{Target}
+use Rattle.uc_rules.specs.Scopes.{Env}
+use Rattle.uc_rules.specs.Entities.{entity_of, part_entity, parts_entity, link_entity, chain_entity, are_sound, call_follows, has_fitting, expected}
+use Rattle.uc_rules.specs.Visits.{part_visits, parts_visits, link_visits, chain_visits, arg_visits, args_visits}
 use Rattle.uc_types.specs.Told.{noted}
 use Rattle.uc_types.proofs.Noted.{noted_append, and_again}
 

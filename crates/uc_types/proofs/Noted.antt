@@ -1,13 +1,13 @@
 -- Breaks at visits that are joined.
 use Rattle.std.proofs.Common.{◌≡◌, List, [], ◌∷◌, ◌++◌, Option, Bool, true, false, ◌&&◌, length, refl, ap, sym, ◌∙◌, arith}
 use Rattle.uc_tree.specs.Expressions.{Expr, exprs_of}
-use Rattle.uc_meaning.specs.declared.rule.Break.{Break}
-use Rattle.uc_meaning.specs.Entities.{count}
-use Rattle.uc_meaning.specs.Firsts.{sooner, after}
-use Rattle.uc_meaning.specs.Visits.{Visit}
-use Rattle.uc_meaning.specs.ExpressionBreaks.{undeclared, main_called, no_scalar, no_place, no_routine, no_loop, bad_clause, no_event, no_handler, no_stream}
-use Rattle.uc_meaning.specs.OwnerBreaks.{unshared_reference, field_outside, called_outside, lone_condition, unbound_reference, unowned_argument, copied_object, no_target}
-use Rattle.uc_meaning.specs.Breaks.{declared_twice, no_main, within_itself, badly_defined, badly_mained, bad_argument, bad_return, no_length, no_constant, bad_start, bad_init, not_open, badly_marked, bad_event, breaks_at, breaks_among}
+use Rattle.uc_rules.specs.declared.rule.Break.{Break}
+use Rattle.uc_rules.specs.Entities.{count}
+use Rattle.uc_rules.specs.Firsts.{sooner, after}
+use Rattle.uc_rules.specs.Visits.{Visit}
+use Rattle.uc_rules.specs.ExpressionBreaks.{undeclared, main_called, no_scalar, no_place, no_routine, no_loop, bad_clause, no_event, no_handler, no_stream}
+use Rattle.uc_rules.specs.OwnerBreaks.{unshared_reference, field_outside, called_outside, lone_condition, unbound_reference, unowned_argument, copied_object, no_target}
+use Rattle.uc_rules.specs.Breaks.{declared_twice, no_main, within_itself, badly_defined, badly_mained, bad_argument, bad_return, no_length, no_constant, bad_start, bad_init, not_open, badly_marked, bad_event, breaks_at, breaks_among}
 use Rattle.uc_types.specs.Told.{told, noted}
 
 pub after_append : (f : Option Break) (a b : List Break) → after f (a ++ b) ≡ after (after f a) b

@@ -9,13 +9,13 @@ use Rattle.uc_tree.specs.Numbering.{is_plain}
 use Rattle.uc_tree.specs.declared.kinds.Base.{Base}
 use Rattle.uc_tree.specs.declared.kinds.Access.{Access}
 use Rattle.uc_tree.specs.declared.kinds.Mark.{Mark}
-use Rattle.uc_meaning.specs.declared.rules.Entity.TheVariants.{Routine}
-use Rattle.uc_meaning.specs.declared.rules.Meant.{Meant}
-use Rattle.uc_meaning.specs.declared.rules.Seen.{Seen}
-use Rattle.uc_meaning.specs.declared.rules.Sort.TheVariants.{Object}
-use Rattle.uc_meaning.specs.Sorts.{class_sort}
+use Rattle.uc_rules.specs.declared.rules.Entity.TheVariants.{Routine}
+use Rattle.uc_rules.specs.declared.rules.Meant.{Meant}
+use Rattle.uc_rules.specs.declared.rules.Seen.{Seen}
+use Rattle.uc_rules.specs.declared.rules.Sort.TheVariants.{Object}
+use Rattle.uc_rules.specs.Sorts.{class_sort}
 use Rattle.uc_tree.specs.Cells.{classes_of}
-use Rattle.uc_meaning.specs.Names.{Owned, member_in, member_named, field_meant, place_in, first_of, field_named, form_named, members_named, item_named, items_named, is_here, outer}
+use Rattle.uc_rules.specs.Names.{Owned, member_in, member_named, field_meant, place_in, first_of, field_named, form_named, members_named, item_named, items_named, is_here, outer}
 use Rattle.uc_types.specs.Listings.{first_named, seen, fields_seen, method_meant, form_seen, members_seen, class_seen, classes_seen, item_seen, items_seen}
 
 low_case : (b : Bool) (i : ℕ) (ns : List (List ℕ)) (name : List ℕ) (p : ℕ) → (place_from (i + 1) ns name ≡ Some p → i + 1 ≤ p) → (if b then Some i else place_from (i + 1) ns name) ≡ Some p → i ≤ p

@@ -5,9 +5,9 @@ use Rattle.std.proofs.lemmas.Bool.{le-leb, lt-leb}
 use Rattle.std.specs.List.{list_any}
 use Rattle.uc_tree.specs.Names.{same_name}
 use Rattle.uc_names.specs.Blocks.{Block, id_or, found}
-use Rattle.uc_meaning.specs.declared.rules.Meant.{Meant}
-use Rattle.uc_meaning.specs.declared.rules.Seen.{Seen}
-use Rattle.uc_meaning.specs.Scopes.{later_or, local_named}
+use Rattle.uc_rules.specs.declared.rules.Meant.{Meant}
+use Rattle.uc_rules.specs.declared.rules.Seen.{Seen}
+use Rattle.uc_rules.specs.Scopes.{later_or, local_named}
 use Rattle.uc_types.specs.Stacked.{stacked}
 
 pub stacked_push : (i : ℕ) (ss : List Seen) (s : Seen) (bs : List Block) → stacked i (ss ++ s ∷ []) bs ≡ ((s.name, i + length ss) ∷ []) ∷ stacked i ss bs

@@ -7,11 +7,11 @@ use Rattle.uc_tree.specs.Names.{same_name}
 use Rattle.uc_tree.specs.Numbering.{is_plain}
 use Rattle.uc_tree.specs.Statements.{Declarator}
 use Rattle.uc_tree.specs.Programs.{Sig, MemberForm, FieldsMember, RoutineMember, ProtoMember, Member, Class, Item, ClassItem, RoutineItem, ConstItem, ProtoItem, ForwardItem, UsingItem, Program}
-use Rattle.uc_meaning.specs.declared.rules.Entity.TheVariants.{Method, Routine, ClassName}
-use Rattle.uc_meaning.specs.declared.rules.Origin.TheVariants as origin
-use Rattle.uc_meaning.specs.declared.rules.Meant.{Meant}
-use Rattle.uc_meaning.specs.declared.rules.Seen.{Seen}
-use Rattle.uc_meaning.specs.Names.{Owned, place_in, field_meant, is_inner_only, outer, constant_meant, is_here}
+use Rattle.uc_rules.specs.declared.rules.Entity.TheVariants.{Method, Routine, ClassName}
+use Rattle.uc_rules.specs.declared.rules.Origin.TheVariants as origin
+use Rattle.uc_rules.specs.declared.rules.Meant.{Meant}
+use Rattle.uc_rules.specs.declared.rules.Seen.{Seen}
+use Rattle.uc_rules.specs.Names.{Owned, place_in, field_meant, is_inner_only, outer, constant_meant, is_here}
 
 -- what the first of a name means
 abbrev pub first_named : List Seen → List ℕ → Option Meant

@@ -4,7 +4,7 @@ use Rattle.uc_tree.specs.declared.limits.TheConstants.{MEMBERS}
 use Rattle.uc_tree.specs.declared.kinds.Param.{Param}
 use Rattle.uc_tree.specs.Numbering.{mutex_members}
 use Rattle.uc_tree.specs.Programs.{Class}
-use Rattle.uc_meaning.specs.Names.{constructor_among, params_in}
+use Rattle.uc_rules.specs.Names.{constructor_among, params_in}
 
 -- what an object of a class is built with
 abbrev pub built_with : Class → List Param

@@ -4,8 +4,8 @@ use Rattle.uc_tree.specs.Names.{same_name}
 use Rattle.uc_tree.specs.Programs.{Routine, Item, ClassItem, RoutineItem, ConstItem, ProtoItem, ForwardItem, UsingItem}
 use Rattle.uc_names.specs.Blocks.{Block}
 use Rattle.uc_sizes.specs.Places.{IsPlaces}
-use Rattle.uc_meaning.specs.ClassBreaks.{is_owner}
-use Rattle.uc_meaning.specs.Names.{is_constructor}
+use Rattle.uc_rules.specs.ClassBreaks.{is_owner}
+use Rattle.uc_rules.specs.Names.{is_constructor}
 
 -- the constructor of a class of this name that an item is
 abbrev pub routine_in : List ℕ → Routine → List Routine

@@ -3,7 +3,7 @@ use Rattle.std.specs.Prelude.{◌≡◌, ℕ, List, map}
 use Rattle.uc_tree.specs.declared.kinds.Param.{Param}
 use Rattle.uc_tree.specs.Programs.{Class, Item, Program}
 use Rattle.uc_tree.specs.Cells.{classes_of}
-use Rattle.uc_meaning.specs.declared.rules.Seen.{Seen}
+use Rattle.uc_rules.specs.declared.rules.Seen.{Seen}
 use Rattle.uc_types.specs.Listings.{classes_seen, items_seen}
 use Rattle.uc_types.specs.Members.{built_with, numbered_in}
 

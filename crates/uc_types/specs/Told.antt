@@ -1,11 +1,11 @@
 -- The first break so far, and how visits change it.
 use Rattle.std.specs.Prelude.{List, [], ◌∷◌, Option}
-use Rattle.uc_meaning.specs.declared.rule.Break.{Break}
-use Rattle.uc_meaning.specs.Firsts.{after}
-use Rattle.uc_meaning.specs.Visits.{Visit}
-use Rattle.uc_meaning.specs.ExpressionBreaks.{undeclared, main_called, no_scalar, no_place, no_routine, no_loop, bad_clause, no_event, no_handler, no_stream}
-use Rattle.uc_meaning.specs.OwnerBreaks.{unshared_reference, field_outside, called_outside, lone_condition, unbound_reference, unowned_argument, copied_object, no_target, misplaced}
-use Rattle.uc_meaning.specs.Breaks.{declared_twice, no_main, within_itself, badly_defined, badly_mained, bad_argument, bad_return, no_length, no_constant, bad_start, bad_init, not_open, badly_marked, bad_event}
+use Rattle.uc_rules.specs.declared.rule.Break.{Break}
+use Rattle.uc_rules.specs.Firsts.{after}
+use Rattle.uc_rules.specs.Visits.{Visit}
+use Rattle.uc_rules.specs.ExpressionBreaks.{undeclared, main_called, no_scalar, no_place, no_routine, no_loop, bad_clause, no_event, no_handler, no_stream}
+use Rattle.uc_rules.specs.OwnerBreaks.{unshared_reference, field_outside, called_outside, lone_condition, unbound_reference, unowned_argument, copied_object, no_target, misplaced}
+use Rattle.uc_rules.specs.Breaks.{declared_twice, no_main, within_itself, badly_defined, badly_mained, bad_argument, bad_return, no_length, no_constant, bad_start, bad_init, not_open, badly_marked, bad_event}
 
 -- with the breaks of the first rules at a visit, of the next ones, and so on
 abbrev pub told_names : Option Break → Visit → Option Break

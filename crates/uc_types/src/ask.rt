@@ -1,13 +1,13 @@
 // What the rules ask at one place in an expression.
 
 ghost use Rattle.std.specs.Prelude.{◌≡◌, List, None, if◌then◌else◌, is_some, ℕ};
-ghost use Rattle.uc_meaning.specs.Firsts.{after};
-ghost use Rattle.uc_meaning.specs.ProgramVisits.{is_reference};
-ghost use Rattle.uc_meaning.specs.Entities.{binary_gives, both_scalars, by_path, has_fitting, is_home, is_object, is_open, meant_entity, of_assign, of_both, of_call, of_field, of_index, of_missing, of_place, of_scalar, open_entity, unary_entity};
-ghost use Rattle.uc_meaning.specs.ExpressionBreaks.{is_open_member};
-ghost use Rattle.uc_meaning.specs.OwnerBreaks.{is_condition_of, is_mutex_field, is_mutex_field_of, may_be_called, may_use, may_use_field, may_use_origin, names_condition, use_breaks};
-ghost use Rattle.uc_meaning.specs.Scopes.{named};
-ghost use Rattle.uc_meaning.specs.Visits.{AtArgument, AtAssign, AtCall, AtChange, AtIndex, AtMember, AtOperand, AtOperands, AtUse, unary_visit};
+ghost use Rattle.uc_rules.specs.Firsts.{after};
+ghost use Rattle.uc_rules.specs.ProgramVisits.{is_reference};
+ghost use Rattle.uc_rules.specs.Entities.{binary_gives, both_scalars, by_path, has_fitting, is_home, is_object, is_open, meant_entity, of_assign, of_both, of_call, of_field, of_index, of_missing, of_place, of_scalar, open_entity, unary_entity};
+ghost use Rattle.uc_rules.specs.ExpressionBreaks.{is_open_member};
+ghost use Rattle.uc_rules.specs.OwnerBreaks.{is_condition_of, is_mutex_field, is_mutex_field_of, may_be_called, may_use, may_use_field, may_use_origin, names_condition, use_breaks};
+ghost use Rattle.uc_rules.specs.Scopes.{named};
+ghost use Rattle.uc_rules.specs.Visits.{AtArgument, AtAssign, AtCall, AtChange, AtIndex, AtMember, AtOperand, AtOperands, AtUse, unary_visit};
 ghost use Rattle.uc_types.specs.Told.{told};
 
 use crate::entity::{
@@ -19,8 +19,8 @@ use crate::names::Names;
 use crate::sort::{is_coroutine, is_mutex, is_public};
 use crate::spans::{class_allows, is_field_before};
 use crate::tables::Tables;
-use uc_meaning::rule::Rule;
-use uc_meaning::rules::{Bound, Entity, Expected, FieldPlace, Home, Meant, Origin, Sort};
+use uc_rules::rule::Rule;
+use uc_rules::rules::{Bound, Entity, Expected, FieldPlace, Home, Meant, Origin, Sort};
 use uc_tree::name::Name;
 use uc_tree::ops::{BinaryOp, UnaryOp};
 use uc_tree::pos::Pos;

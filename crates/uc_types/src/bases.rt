@@ -1,19 +1,19 @@
 // The classes of a program by name, and what bases and declarators stand for.
 
 ghost use Rattle.std.specs.Prelude.{◌≡◌, IfOk, MatchOption, None, Some, if◌then◌else◌, map, option_map, slice_get};
-ghost use Rattle.uc_meaning.specs.declared.rules.Sort.TheVariants.{Object};
+ghost use Rattle.uc_rules.specs.declared.rules.Sort.TheVariants.{Object};
 ghost use Rattle.uc_tree.specs.Cells.{classes_of};
 ghost use Rattle.uc_tree.specs.Constants.{constants_of, value_of_name};
-ghost use Rattle.uc_meaning.specs.Names.{constant_meant, declared_entity, variable};
-ghost use Rattle.uc_meaning.specs.Scopes.{event_among, event_named, event_sort};
-ghost use Rattle.uc_meaning.specs.Sorts.{class_at, class_named, class_sort, sort_of};
+ghost use Rattle.uc_rules.specs.Names.{constant_meant, declared_entity, variable};
+ghost use Rattle.uc_rules.specs.Scopes.{event_among, event_named, event_sort};
+ghost use Rattle.uc_rules.specs.Sorts.{class_at, class_named, class_sort, sort_of};
 ghost use Rattle.uc_sizes.specs.Places.{IsPlaces};
 
 use crate::sort::is_event_sort;
 use std::alloc::{AllocError, Global};
 use std::marker::Model;
-use uc_meaning::rules::{Entity, Meant, Origin, Sort};
 use uc_names::scope::Scope;
+use uc_rules::rules::{Entity, Meant, Origin, Sort};
 use uc_sizes::lists::classes_in;
 use uc_sizes::places::{place_in, places_of_classes};
 use uc_sizes::sizes::Sizes;

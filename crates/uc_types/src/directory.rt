@@ -6,8 +6,8 @@ ghost use Rattle.uc_types.specs.Listings.{first_named};
 
 use std::alloc::{AllocError, Global};
 use std::marker::Model;
-use uc_meaning::rules::{Meant, Seen};
 use uc_names::scope::Scope;
+use uc_rules::rules::{Meant, Seen};
 use uc_sizes::places::{no_places, note_place, place_in};
 use uc_tree::name::Name;
 
@@ -20,7 +20,7 @@ pub struct Directory {
 
 impl Model for Directory {
     ghost use Rattle.std.specs.Prelude.{List, map};
-    ghost use Rattle.uc_meaning.specs.declared.rules.Seen.{Seen};
+    ghost use Rattle.uc_rules.specs.declared.rules.Seen.{Seen};
     ghost use Rattle.uc_sizes.specs.Places.{IsPlaces};
 
     ghost Value = { List Seen };

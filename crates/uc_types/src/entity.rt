@@ -1,17 +1,16 @@
 // What expressions stand for: tests of it, and what follows from it.
 
 ghost use Rattle.std.specs.Prelude.{◌≡◌, None, Some, if◌then◌else◌, option_and_then, slice_get};
-ghost use Rattle.uc_meaning.specs.Entities.{binary_gives, built_in, call_target, condition_member, element, expected, fits, given, is_array, is_main, is_main_sig, is_object, is_object_sort, is_of_conditions, is_operation, is_place, is_place_of, is_readable, is_scalar, none_of, object_member, operation_gives, operation_named, operation_takes, param_expected, path_member, sig_gives, sig_takes, takes, value_of, value_of_sort, value_test};
-ghost use Rattle.uc_meaning.specs.Names.{method_sig, params_in, routine_sig};
-ghost use Rattle.uc_meaning.specs.Sorts.{is_scalar_sort, sort_of};
-ghost use Rattle.uc_meaning.specs.declared.rules.Entity.TheVariants.{Fail, Value};
-ghost use Rattle.uc_meaning.specs.declared.rules.Target.TheVariants as target;
-ghost use Rattle.uc_tree.specs.Names.{same_name};
-ghost use Rattle.uc_tree.specs.Resolve.{fail_name};
+ghost use Rattle.uc_rules.specs.Entities.{binary_gives, built_in, call_target, condition_member, element, expected, fits, given, is_array, is_main, is_main_sig, is_object, is_object_sort, is_of_conditions, is_operation, is_place, is_place_of, is_readable, is_scalar, none_of, object_member, operation_gives, operation_named, operation_takes, param_expected, path_member, sig_gives, sig_takes, takes, value_of, value_of_sort, value_test};
+ghost use Rattle.uc_rules.specs.Names.{method_sig, params_in, routine_sig};
+ghost use Rattle.uc_rules.specs.Sorts.{is_scalar_sort, sort_of};
+ghost use Rattle.uc_rules.specs.declared.rules.Entity.TheVariants.{Fail, Value};
+ghost use Rattle.uc_rules.specs.declared.rules.Target.TheVariants as target;
+ghost use Rattle.uc_tree.specs.Names.{same_name, fail_name};
 
 use crate::sort::{is_char, is_condition, is_int, is_scalar_sort, same_sort};
 use crate::tables::Tables;
-use uc_meaning::rules::{Entity, Expected, Meant, Operation, Sort, Target};
+use uc_rules::rules::{Entity, Expected, Meant, Operation, Sort, Target};
 use uc_tree::kinds::{Base, Param};
 use uc_tree::name::Name;
 use uc_tree::ops::BinaryOp;

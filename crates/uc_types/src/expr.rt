@@ -2,8 +2,8 @@
 
 ghost use Rattle.std.specs.Prelude.{◌≡◌, ◌&&◌, [], drop, if◌then◌else◌};
 ghost use Rattle.uc_tree.specs.Expressions.{exprs_of, links_of, parts_of};
-ghost use Rattle.uc_meaning.specs.Entities.{are_sound, call_follows, chain_entity, entity_of, expected, field_follows, has_fitting, is_call, is_cin, is_field, is_input, link_entity, part_entity, parts_entity};
-ghost use Rattle.uc_meaning.specs.Visits.{arg_visits, args_visits, chain_visits, link_visits, part_visits, parts_visits, root_entity, visits};
+ghost use Rattle.uc_rules.specs.Entities.{are_sound, call_follows, chain_entity, entity_of, expected, field_follows, has_fitting, is_call, is_cin, is_field, is_input, link_entity, part_entity, parts_entity};
+ghost use Rattle.uc_rules.specs.Visits.{arg_visits, args_visits, chain_visits, link_visits, part_visits, parts_visits, root_entity, visits};
 ghost use Rattle.uc_types.specs.Told.{noted};
 
 use crate::ask::{
@@ -13,8 +13,8 @@ use crate::ask::{
 use crate::entity::{call_target, expected};
 use crate::found::Found;
 use crate::names::Names;
-use uc_meaning::rule::Rule;
-use uc_meaning::rules::{Entity, Sort, Target};
+use uc_rules::rule::Rule;
+use uc_rules::rules::{Entity, Sort, Target};
 use uc_tree::expr::{Expr, ExprForm, Link, Part, PartForm};
 
 fn is_field(part: &Part) -> bool

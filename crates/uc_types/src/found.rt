@@ -1,11 +1,11 @@
 // The first break found so far.
 
 ghost use Rattle.std.specs.Prelude.{◌≡◌, Bool, None, Some, false, true};
-ghost use Rattle.uc_meaning.specs.Asked.{unless};
-ghost use Rattle.uc_meaning.specs.Firsts.{after, before, is_owner_number, sooner};
+ghost use Rattle.uc_rules.specs.Asked.{unless};
+ghost use Rattle.uc_rules.specs.Firsts.{after, before, is_owner_number, sooner};
 
 use std::marker::Model;
-use uc_meaning::rule::{Break, Rule};
+use uc_rules::rule::{Break, Rule};
 use uc_tree::pos::Pos;
 
 /// The first break found so far. Contracts see it as an option.
@@ -16,7 +16,7 @@ pub struct Found {
 
 impl Model for Found {
     ghost use Rattle.std.specs.Prelude.{Option};
-    ghost use Rattle.uc_meaning.specs.declared.rule.Break.{Break};
+    ghost use Rattle.uc_rules.specs.declared.rule.Break.{Break};
 
     ghost Value = { Option Break };
 

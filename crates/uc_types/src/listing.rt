@@ -6,7 +6,7 @@ ghost use Rattle.uc_tree.specs.Cells.{classes_of, member_form_named, seen_in};
 ghost use Rattle.uc_tree.specs.Constants.{constants_of, elements};
 ghost use Rattle.uc_tree.specs.ProgramViews.{member_form_at};
 ghost use Rattle.uc_names.specs.Blocks.{found};
-ghost use Rattle.uc_meaning.specs.Names.{field_meant, is_here, outer};
+ghost use Rattle.uc_rules.specs.Names.{field_meant, is_here, outer};
 ghost use Rattle.uc_types.specs.Lengths.{lengths_by};
 ghost use Rattle.uc_types.specs.Listings.{class_seen, classes_seen, fields_seen, form_seen, item_seen, items_seen, members_seen, method_meant, method_seen, routine_seen, seen};
 
@@ -14,8 +14,8 @@ use crate::bases::Bases;
 use crate::directory::Directory;
 use crate::sort::{is_inner_only, is_plain};
 use std::alloc::{AllocError, Global};
-use uc_meaning::rules::{Entity, FieldPlace, Meant, Origin, Seen};
 use uc_names::scope::Scope;
+use uc_rules::rules::{Entity, FieldPlace, Meant, Origin, Seen};
 use uc_sizes::held::elements_of;
 use uc_sizes::known::names_of_members;
 use uc_sizes::named::NameValues;

@@ -7,14 +7,14 @@ ghost use Rattle.uc_tree.specs.Expressions.{links_of};
 ghost use Rattle.uc_tree.specs.Names.{same_name};
 ghost use Rattle.uc_tree.specs.Numbering.{main_name};
 ghost use Rattle.uc_types.specs.Stacked.{stacked};
-ghost use Rattle.uc_meaning.specs.Scopes.{caught_entity, declared, is_hidden, is_own, local_named, main_meant, named, named_behind, opened, own_named, param_seen, plain_env, seen_as, value_named, with_around, with_caught, with_param, with_seen};
+ghost use Rattle.uc_rules.specs.Scopes.{caught_entity, declared, is_hidden, is_own, local_named, main_meant, named, named_behind, opened, own_named, param_seen, plain_env, seen_as, value_named, with_around, with_caught, with_param, with_seen};
 
 use crate::directory::meant_at;
 use crate::tables::Tables;
 use std::alloc::{AllocError, Global};
 use std::marker::Model;
-use uc_meaning::rules::{Around, Entity, Meant, Origin, Seen};
 use uc_names::scope::Scope;
+use uc_rules::rules::{Around, Entity, Meant, Origin, Seen};
 use uc_sizes::eval::{binary_of, unary_of};
 use uc_sizes::held::sound_length;
 use uc_tree::declare::Declarator;
@@ -39,7 +39,7 @@ impl<'a> Model for Names<'a> {
     ghost use Rattle.std.specs.Coded.{codes};
     ghost use Rattle.uc_tree.specs.ProgramCodes.{program_coded};
     ghost use Rattle.std.specs.Prelude.{◌≡◌, []};
-    ghost use Rattle.uc_meaning.specs.Scopes.{Env};
+    ghost use Rattle.uc_rules.specs.Scopes.{Env};
     ghost use Rattle.uc_types.specs.Stacked.{stacked};
 
     ghost Value = { Env };

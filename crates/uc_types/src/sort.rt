@@ -2,10 +2,10 @@
 
 ghost use Rattle.std.specs.Prelude.{◌≡◌};
 ghost use Rattle.uc_tree.specs.Numbering.{is_event, is_exclusive, is_mutex, is_plain, is_public};
-ghost use Rattle.uc_meaning.specs.Names.{is_constructor, is_destructor, is_inner_only, is_nomutex};
-ghost use Rattle.uc_meaning.specs.Sorts.{has_main, is_char, is_cluster, is_condition, is_cormonitor, is_coroutine, is_event_class, is_int, is_mutex_class, is_plain_class, is_plain_kind, is_processor, is_same_class, is_scalar_sort, is_task, is_truth, is_void, of_class, same_sort};
+ghost use Rattle.uc_rules.specs.Names.{is_constructor, is_destructor, is_inner_only, is_nomutex};
+ghost use Rattle.uc_rules.specs.Sorts.{has_main, is_char, is_cluster, is_condition, is_cormonitor, is_coroutine, is_event_class, is_int, is_mutex_class, is_plain_class, is_plain_kind, is_processor, is_same_class, is_scalar_sort, is_task, is_truth, is_void, of_class, same_sort};
 
-use uc_meaning::rules::Sort;
+use uc_rules::rules::Sort;
 use uc_tree::kinds::{Access, Kind, Mark, Role};
 
 /// Whether it is a scalar.

@@ -3,13 +3,13 @@
 ghost use Rattle.std.specs.Prelude.{◌≡◌, ◌&&◌};
 ghost use Rattle.std.specs.List.{list_all};
 ghost use Rattle.uc_tree.specs.ProgramViews.{member_form_at};
-ghost use Rattle.uc_meaning.specs.Names.{is_field_before};
-ghost use Rattle.uc_meaning.specs.OwnerBreaks.{class_allows, fields_allow, form_allows, form_is_simple, is_bare_class, is_bare_field, is_bare_sort, is_inside, is_outside, is_simple_class, is_simple_field, is_simple_sort, may_stand_between, members_allow, span_allows};
-ghost use Rattle.uc_meaning.specs.Sorts.{class_at};
+ghost use Rattle.uc_rules.specs.Names.{is_field_before};
+ghost use Rattle.uc_rules.specs.OwnerBreaks.{class_allows, fields_allow, form_allows, form_is_simple, is_bare_class, is_bare_field, is_bare_sort, is_inside, is_outside, is_simple_class, is_simple_field, is_simple_sort, may_stand_between, members_allow, span_allows};
+ghost use Rattle.uc_rules.specs.Sorts.{class_at};
 
 use crate::sort::{is_coroutine, is_scalar_sort};
 use crate::tables::Tables;
-use uc_meaning::rules::{FieldPlace, Sort};
+use uc_rules::rules::{FieldPlace, Sort};
 use uc_tree::class::{Member, MemberForm};
 use uc_tree::declare::Declarator;
 use uc_tree::kinds::{Base, Kind};

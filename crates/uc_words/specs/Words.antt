@@ -3,7 +3,7 @@ use Rattle.std.specs.Prelude.{◌≡◌, ℕ, ◌+◌, ◌<◌, ◌≤◌, ◌==
 use Rattle.uc_tree.specs.Bytes.{is_digit}
 use Rattle.uc_tree.specs.Tokens.{value_of}
 use Rattle.uc_tree.specs.declared.limits.TheConstants.{PROCESSORS_MIN, PROCESSORS_DEFAULT, SLICE_MIN, SLICE_MAX, SLICE_DEFAULT, TICKS_MIN, TICKS_MAX, TICKS_DEFAULT, ENTRIES_MIN, ENTRIES_MAX, ENTRIES_DEFAULT, MAKE_MAX}
-use Rattle.uc_meaning.specs.declared.entry.Options.{Options}
+use Rattle.uc_entry.specs.declared.entry.Options.{Options}
 use Rattle.uc_words.specs.declared.numbers.NumberOption.{NumberOption}
 use Rattle.uc_words.specs.declared.numbers.NumberOption.TheVariants.{Processors, Slice, Ticks, Entries}
 

@@ -1,6 +1,6 @@
 // What words ask for, and what is wrong with them.
 
-use uc_meaning::entry::Options;
+use uc_entry::entry::Options;
 
 /// What a line asks for. Its names are the words themselves.
 #[derive(Clone, Copy, PartialEq, Eq, Debug)]

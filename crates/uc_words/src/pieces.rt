@@ -9,7 +9,7 @@ use crate::job::{Job, WordsFault};
 use crate::number::read_number;
 use crate::numbers::NumberOption;
 use crate::told::{Told, has_number, with_number};
-use uc_meaning::entry::Options;
+use uc_entry::entry::Options;
 use uc_tree::limits::{ENTRIES_DEFAULT, PROCESSORS_DEFAULT, SLICE_DEFAULT, TICKS_DEFAULT};
 
 /// What is told once a piece is read, and the words behind it.

@@ -17,7 +17,7 @@ use Rattle.uc_lower_stmt.proofs.Switches.{arm_resume, arm_suspend}
 use Rattle.uc_lower_stmt.proofs.Handling.{arm_catches, arm_resumes, handler_done, listed, more_laid, none_laid}
 use Rattle.uc_lower_stmt.proofs.Fitting.{HandlersFit, behind_fits, handlers_bare, handlers_fit, parts_built, rest_bare, rest_fits_in, rest_less, try_asks, try_fits}
 use Rattle.uc_lower_stmt.proofs.Tried.{arm_tried, arm_try}
-use Rattle.uc_tree.specs.Resolve.{takes_resumptions}
+use Rattle.uc_resolve.specs.Resolve.{takes_resumptions}
 use Rattle.std.proofs.lemmas.Option.{MatchOption-at_none}
 use Rattle.uc_tree.specs.Statements.{handlers_of, stmts_of}
 use Rattle.uc_code.specs.declared.op.Op.TheVariants as op

@@ -1,7 +1,6 @@
 use Rattle.std.proofs.Common.{◌≡◌, ℕ, ◌<◌, ◌+◌, true, false, List, ◌∙◌, ap, sym, arith, length, drop, slice_index_or}
 use Rattle.uc_tree.specs.Programs.{Site}
-use Rattle.uc_meaning.specs.Doors.{met, offers_from}
-use Rattle.uc_meaning.specs.Pending.{has_bit}
+use Rattle.uc_tree.specs.SiteOffers.{has_bit, met, offers_from}
 use Rattle.uc_mutex.specs.Doors.{Doors, door_at}
 use Rattle.uc_mutex.proofs.Offering.{next_true, next_false}
 use Rattle.uc_accept.specs.Accepting.{unpulled}

@@ -1,5 +1,5 @@
 use Rattle.std.proofs.Common.{◌≡◌, ◌+◌, ◌≤◌, drop, length}
-use Rattle.uc_meaning.specs.Doors.{met, offers_from}
+use Rattle.uc_tree.specs.SiteOffers.{met, offers_from}
 use Rattle.uc_mutex.specs.Doors.{door_at}
 use Rattle.uc_mutex.specs.Offers.{offers_by}
 use Rattle.uc_accept.specs.Accepting.{unpulled}

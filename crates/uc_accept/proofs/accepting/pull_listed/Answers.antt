@@ -1,6 +1,6 @@
 use Rattle.std.proofs.Common.{ℕ, ◌<◌, ◌≤◌, List, ◌∙◌, ap, sym, arith, length, slice_index_or}
 use Rattle.uc_links.specs.Lists.{first_with}
-use Rattle.uc_meaning.specs.Doors.{met}
+use Rattle.uc_tree.specs.SiteOffers.{met}
 use Rattle.uc_mutex.specs.Doors.{Doors, door_at}
 use Rattle.uc_accept.proofs.Trying.{found_here, missed_here, pull_missed, all_listed}
 use Rattle.uc_accept.proofs.accepting.pull_listed.Goals as goal

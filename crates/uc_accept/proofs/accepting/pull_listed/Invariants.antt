@@ -1,5 +1,5 @@
 use Rattle.std.proofs.Common.{◌≡◌, ℕ, ◌+◌, ◌≤◌, List, drop}
-use Rattle.uc_meaning.specs.Doors.{met}
+use Rattle.uc_tree.specs.SiteOffers.{met}
 use Rattle.uc_mutex.specs.Doors.{door_at}
 use Rattle.uc_accept.specs.Accepting.{unpulled}
 use Rattle.uc_accept.proofs.Trying.{listed}

@@ -1,6 +1,6 @@
 use Rattle.std.proofs.Common.{◌≡◌, rules}
-use Rattle.uc_meaning.specs.declared.request.Answer.TheVariants as answer
-use Rattle.uc_meaning.specs.Acts.{truth}
+use Rattle.uc_entry.specs.declared.request.Answer.TheVariants as answer
+use Rattle.uc_acts.specs.Acts.{truth}
 use Rattle.uc_alone.proofs.Acts.{fail_goes, fail_stops}
 use Rattle.uc_alone.proofs.keeper.keep_fail.Goals as goal
 

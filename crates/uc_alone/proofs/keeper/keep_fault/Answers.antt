@@ -1,5 +1,5 @@
 use Rattle.std.proofs.Common.{◌≡◌, pos, length, rules, ◌∙◌}
-use Rattle.uc_meaning.specs.declared.entry.EntryKind.TheVariants as kind
+use Rattle.uc_entry.specs.declared.entry.EntryKind.TheVariants as kind
 use Rattle.uc_alone.specs.Alone.{plain}
 use Rattle.uc_alone.proofs.Acts.{fault_after}
 use Rattle.uc_alone.proofs.keeper.keep_fault.Goals as goal

@@ -1,5 +1,5 @@
 use Rattle.std.proofs.Common.{◌≡◌, ◌++◌, drop}
-use Rattle.uc_meaning.specs.Acts.{prints}
+use Rattle.uc_acts.specs.Acts.{prints}
 use Rattle.uc_alone.proofs.keeper.push_prints.Given as goal
 
 -- with the entries of the items that are left, all entries stand

@@ -1,5 +1,5 @@
 use Rattle.std.proofs.Common.{◌≡◌, ◌&&◌, Some, drop, map}
-use Rattle.uc_meaning.specs.ExpressionBreaks.{all_listed, are_fresh, listed_in}
+use Rattle.uc_rules.specs.ExpressionBreaks.{all_listed, are_fresh, listed_in}
 use Rattle.uc_bodies.proofs.accept.list_members.Given as goal
 
 abbrev pub invariant-loop-member : goal.invariant-loop-member

@@ -1,7 +1,7 @@
 use Rattle.std.proofs.Common.{◌≡◌, false, drop}
 use Rattle.uc_tree.specs.Statements.{handlers_of}
-use Rattle.uc_meaning.specs.ExpressionBreaks.{handlers_breaks}
-use Rattle.uc_meaning.specs.Firsts.{after}
+use Rattle.uc_rules.specs.ExpressionBreaks.{handlers_breaks}
+use Rattle.uc_rules.specs.Firsts.{after}
 use Rattle.uc_bodies.proofs.accept.note_handlers.Given as goal
 
 abbrev pub invariant-loop-handler : goal.invariant-loop-handler

@@ -1,9 +1,9 @@
 use Rattle.std.proofs.Common.{◌≡◌, None, [], ◌&&◌, map, nat_lt, ap, sym, ◌∙◌}
 use Rattle.uc_tree.specs.declared.limits.TheConstants.{CLAUSES}
-use Rattle.uc_meaning.specs.declared.rule.Rule.TheVariants.{S20}
-use Rattle.uc_meaning.specs.Asked.{unless}
-use Rattle.uc_meaning.specs.ExpressionBreaks.{are_fresh, listed_in}
-use Rattle.uc_meaning.specs.Firsts.{after}
+use Rattle.uc_rules.specs.declared.rule.Rule.TheVariants.{S20}
+use Rattle.uc_rules.specs.Asked.{unless}
+use Rattle.uc_rules.specs.ExpressionBreaks.{are_fresh, listed_in}
+use Rattle.uc_rules.specs.Firsts.{after}
 use Rattle.uc_bodies.proofs.Unlisted.{unowned_more}
 use Rattle.uc_bodies.proofs.accept.note_unowned.Goals as goal
 

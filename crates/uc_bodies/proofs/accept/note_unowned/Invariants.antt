@@ -1,7 +1,7 @@
 use Rattle.std.proofs.Common.{◌≡◌, None, [], drop}
 use Rattle.uc_tree.specs.Statements.{clauses_of}
-use Rattle.uc_meaning.specs.ExpressionBreaks.{clauses_breaks}
-use Rattle.uc_meaning.specs.Firsts.{after}
+use Rattle.uc_rules.specs.ExpressionBreaks.{clauses_breaks}
+use Rattle.uc_rules.specs.Firsts.{after}
 use Rattle.uc_bodies.proofs.accept.note_unowned.Given as goal
 
 abbrev pub invariant-loop-place : goal.invariant-loop-place

@@ -1,6 +1,6 @@
 use Rattle.std.proofs.Common.{refl}
-use Rattle.uc_meaning.specs.Scopes.{declared, all_declared}
-use Rattle.uc_meaning.specs.Visits.{variable_visits, variables_visits}
+use Rattle.uc_rules.specs.Scopes.{declared, all_declared}
+use Rattle.uc_rules.specs.Visits.{variable_visits, variables_visits}
 use Rattle.uc_bodies.proofs.Walks.{names_more, walked_more}
 use Rattle.uc_bodies.proofs.declare.check_variables.Goals as goal
 

@@ -1,6 +1,6 @@
 use Rattle.std.proofs.Common.{◌≡◌, drop}
-use Rattle.uc_meaning.specs.Scopes.{all_declared}
-use Rattle.uc_meaning.specs.Visits.{variables_visits}
+use Rattle.uc_rules.specs.Scopes.{all_declared}
+use Rattle.uc_rules.specs.Visits.{variables_visits}
 use Rattle.uc_types.specs.Told.{noted}
 use Rattle.uc_bodies.proofs.declare.check_variables.Given as goal
 

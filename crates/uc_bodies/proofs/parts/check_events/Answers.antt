@@ -1,5 +1,5 @@
 use Rattle.std.proofs.Common.{refl, [], ◌∷◌}
-use Rattle.uc_meaning.specs.Visits.{AtEvent, events_visits}
+use Rattle.uc_rules.specs.Visits.{AtEvent, events_visits}
 use Rattle.uc_bodies.proofs.Walks.{noted_more}
 use Rattle.uc_bodies.proofs.parts.check_events.Goals as goal
 

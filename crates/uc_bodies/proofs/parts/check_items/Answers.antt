@@ -1,5 +1,5 @@
 use Rattle.std.proofs.Common.{refl}
-use Rattle.uc_meaning.specs.Visits.{out_visits, outs_visits}
+use Rattle.uc_rules.specs.Visits.{out_visits, outs_visits}
 use Rattle.uc_bodies.proofs.Walks.{noted_more}
 use Rattle.uc_bodies.proofs.parts.check_items.Goals as goal
 

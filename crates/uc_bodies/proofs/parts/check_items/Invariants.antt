@@ -1,5 +1,5 @@
 use Rattle.std.proofs.Common.{◌≡◌, drop}
-use Rattle.uc_meaning.specs.Visits.{outs_visits}
+use Rattle.uc_rules.specs.Visits.{outs_visits}
 use Rattle.uc_types.specs.Told.{noted}
 use Rattle.uc_bodies.proofs.parts.check_items.Given as goal
 

@@ -1,6 +1,6 @@
 use Rattle.std.proofs.Common.{refl}
 use Rattle.uc_tree.specs.Expressions.{exprs_of}
-use Rattle.uc_meaning.specs.Visits.{read_visits, reads_visits}
+use Rattle.uc_rules.specs.Visits.{read_visits, reads_visits}
 use Rattle.uc_bodies.proofs.Walks.{noted_more}
 use Rattle.uc_bodies.proofs.parts.check_places.Goals as goal
 

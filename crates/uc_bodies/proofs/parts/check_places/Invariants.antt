@@ -1,6 +1,6 @@
 use Rattle.std.proofs.Common.{◌≡◌, drop}
 use Rattle.uc_tree.specs.Expressions.{exprs_of}
-use Rattle.uc_meaning.specs.Visits.{reads_visits}
+use Rattle.uc_rules.specs.Visits.{reads_visits}
 use Rattle.uc_types.specs.Told.{noted}
 use Rattle.uc_bodies.proofs.parts.check_places.Given as goal
 

@@ -1,6 +1,6 @@
 use Rattle.std.proofs.Common.{◌≡◌, [], ◌∷◌, ap, sym, ◌∙◌}
-use Rattle.uc_meaning.specs.Entities.{count}
-use Rattle.uc_meaning.specs.Visits.{AtEvent, AtRaise, args_visits, event_target}
+use Rattle.uc_rules.specs.Entities.{count}
+use Rattle.uc_rules.specs.Visits.{AtEvent, AtRaise, args_visits, event_target}
 use Rattle.uc_types.specs.Told.{noted, told}
 use Rattle.uc_bodies.proofs.Joined.{noted_append}
 use Rattle.uc_bodies.proofs.parts.check_raised.Goals as goal

@@ -1,7 +1,7 @@
 use Rattle.std.proofs.Common.{refl, ap, ◌∙◌}
 use Rattle.uc_tree.specs.Statements.{stmts_of, handlers_of, clauses_of}
-use Rattle.uc_meaning.specs.Scopes.{env_after, env_behind}
-use Rattle.uc_meaning.specs.Visits.{stmt_visits, stmts_visits, handler_visits, handlers_visits, clause_visits, clauses_visits}
+use Rattle.uc_rules.specs.Scopes.{env_after, env_behind}
+use Rattle.uc_rules.specs.Visits.{stmt_visits, stmts_visits, handler_visits, handlers_visits, clause_visits, clauses_visits}
 use Rattle.uc_types.specs.Told.{noted}
 use Rattle.uc_bodies.proofs.Walks.{names_more, walked_more, noted_more, stmts_fall, handlers_fall, clauses_fall}
 use Rattle.uc_bodies.proofs.stmt.+stmt.Goals as goal

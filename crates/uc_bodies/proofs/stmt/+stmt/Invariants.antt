@@ -2,8 +2,8 @@ use Rattle.std.proofs.Common.{◌≡◌, ◌≤◌, ◌+◌, ◌*◌, drop}
 use Rattle.uc_tree.specs.Statements.{stmts_of, handlers_of, clauses_of}
 use Rattle.uc_tree.specs.StatementSizes.{stmt_size, stmts_size, maybe_stmt_size, handler_size, handlers_size, clause_size, clauses_size}
 use Rattle.uc_tree.specs.StatementViews.{maybe_at}
-use Rattle.uc_meaning.specs.Scopes.{env_behind}
-use Rattle.uc_meaning.specs.Visits.{stmts_visits, handlers_visits, clauses_visits}
+use Rattle.uc_rules.specs.Scopes.{env_behind}
+use Rattle.uc_rules.specs.Visits.{stmts_visits, handlers_visits, clauses_visits}
 use Rattle.uc_types.specs.Told.{noted}
 use Rattle.uc_bodies.proofs.stmt.+stmt.Given as goal
 

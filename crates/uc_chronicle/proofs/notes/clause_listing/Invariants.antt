@@ -1,5 +1,5 @@
 use Rattle.std.proofs.Common.{◌≡◌, drop}
-use Rattle.uc_meaning.specs.Doors.{clause_for, offers_from}
+use Rattle.uc_tree.specs.SiteOffers.{clause_for, offers_from}
 use Rattle.uc_chronicle.proofs.notes.clause_listing.Given as goal
 
 abbrev pub invariant-loop-at : goal.invariant-loop-at

@@ -2,7 +2,8 @@ use Rattle.std.proofs.Common.{◌≡◌, sym, ap, ◌∙◌, length}
 use Rattle.std.proofs.lemmas.Bool.{ltb-false}
 use Rattle.std.proofs.lemmas.List.{get_or_past}
 use Rattle.uc_tree.specs.declared.limits.TheConstants.{DESTRUCTOR}
-use Rattle.uc_meaning.specs.Doors.{offers, site_at, no_site, offers_from, clause_for, or_0}
+use Rattle.uc_acts.specs.Doors.{offers, site_at, no_site}
+use Rattle.uc_tree.specs.SiteOffers.{offers_from, clause_for, or_0}
 use Rattle.uc_chronicle.proofs.notes.destroyer_clause.Goals as goal
 
 pub returns-in-None : goal.returns-in-None

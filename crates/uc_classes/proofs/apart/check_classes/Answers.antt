@@ -1,6 +1,6 @@
 use Rattle.std.proofs.Common.{ap, sym, ◌∙◌}
-use Rattle.uc_meaning.specs.Breaks.{breaks_of}
-use Rattle.uc_meaning.specs.Firsts.{is_owner_number}
+use Rattle.uc_rules.specs.Breaks.{breaks_of}
+use Rattle.uc_rules.specs.Firsts.{is_owner_number}
 use Rattle.uc_classes.proofs.First.{first_is, all_owners}
 use Rattle.uc_classes.proofs.apart.check_classes.Goals as goal
 

@@ -1,5 +1,5 @@
 use Rattle.std.proofs.Common.{sym, ◌∙◌, subst}
-use Rattle.uc_meaning.specs.Breaks.{breaks_of}
+use Rattle.uc_rules.specs.Breaks.{breaks_of}
 use Rattle.uc_classes.specs.Apart.{IsOwnerFault}
 use Rattle.uc_classes.proofs.First.{first_is}
 use Rattle.uc_classes.proofs.apart.check_owner.Goals as goal

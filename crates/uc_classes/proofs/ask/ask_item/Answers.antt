@@ -1,5 +1,5 @@
 use Rattle.std.proofs.Common.{ap, ◌∙◌}
-use Rattle.uc_meaning.specs.Visits.{AtItem}
+use Rattle.uc_rules.specs.Visits.{AtItem}
 use Rattle.uc_types.specs.Told.{told}
 use Rattle.uc_classes.proofs.ask.ask_item.Goals as goal
 

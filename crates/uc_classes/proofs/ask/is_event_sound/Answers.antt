@@ -1,5 +1,5 @@
 use Rattle.std.proofs.Common.{ap, sym, ◌∙◌}
-use Rattle.uc_meaning.specs.ClassBreaks.{events_before, is_sound_event}
+use Rattle.uc_rules.specs.ClassBreaks.{events_before, is_sound_event}
 use Rattle.uc_classes.proofs.ask.is_event_sound.Goals as goal
 
 pub is_sound_event-holds-requires : goal.is_sound_event-holds-requires

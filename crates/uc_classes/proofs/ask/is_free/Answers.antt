@@ -1,5 +1,5 @@
 use Rattle.std.proofs.Common.{ap, ◌∙◌}
-use Rattle.uc_meaning.specs.Sorts.{class_at}
+use Rattle.uc_rules.specs.Sorts.{class_at}
 use Rattle.uc_classes.proofs.ask.is_free.Goals as goal
 
 pub returns : goal.returns

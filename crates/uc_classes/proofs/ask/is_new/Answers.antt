@@ -1,7 +1,7 @@
 use Rattle.std.proofs.Common.{ap, ◌∙◌}
-use Rattle.uc_meaning.specs.ClassBreaks.{fields_at, is_new_field}
-use Rattle.uc_meaning.specs.Names.{place_in}
-use Rattle.uc_meaning.specs.Sorts.{class_at}
+use Rattle.uc_rules.specs.ClassBreaks.{fields_at, is_new_field}
+use Rattle.uc_rules.specs.Names.{place_in}
+use Rattle.uc_rules.specs.Sorts.{class_at}
 use Rattle.uc_classes.proofs.ask.is_new.Goals as goal
 
 pub returns : goal.returns

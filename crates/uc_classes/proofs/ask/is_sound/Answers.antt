@@ -1,5 +1,5 @@
 use Rattle.std.proofs.Common.{ap, ◌∙◌}
-use Rattle.uc_meaning.specs.ItemBreaks.{is_sound_member}
+use Rattle.uc_rules.specs.ItemBreaks.{is_sound_member}
 use Rattle.uc_classes.proofs.ask.is_sound.Goals as goal
 
 pub returns : goal.returns

@@ -1,5 +1,5 @@
 use Rattle.std.proofs.Common.{ap, subst, sym, ◌∙◌}
-use Rattle.uc_meaning.specs.ClassBreaks.{home_leads_back, leads_back}
+use Rattle.uc_rules.specs.ClassBreaks.{home_leads_back, leads_back}
 use Rattle.uc_classes.specs.Circling.{Walks}
 use Rattle.uc_classes.proofs.ask.leads_home.Goals as goal
 

@@ -1,14 +1,14 @@
 use Rattle.std.proofs.Common.{◌≡◌, Option, not, ◌&&◌, ap, ◌∙◌}
 use Rattle.uc_tree.specs.Numbering.{is_public}
-use Rattle.uc_meaning.specs.declared.rule.Break.{Break}
-use Rattle.uc_meaning.specs.declared.rule.Rule.TheVariants.{S16, S18, S22, S4}
-use Rattle.uc_meaning.specs.declared.rules.Sort.{Sort}
-use Rattle.uc_meaning.specs.Asked.{of_sort, unless}
-use Rattle.uc_meaning.specs.ClassBreaks.{home_leads_back, is_field_of, is_field_sort}
-use Rattle.uc_meaning.specs.ExpressionBreaks.{length_breaks, length_value_breaks}
-use Rattle.uc_meaning.specs.Firsts.{after}
-use Rattle.uc_meaning.specs.Names.{place_in}
-use Rattle.uc_meaning.specs.Sorts.{is_coroutine, sort_of}
+use Rattle.uc_rules.specs.declared.rule.Break.{Break}
+use Rattle.uc_rules.specs.declared.rule.Rule.TheVariants.{S16, S18, S22, S4}
+use Rattle.uc_rules.specs.declared.rules.Sort.{Sort}
+use Rattle.uc_rules.specs.Asked.{of_sort, unless}
+use Rattle.uc_rules.specs.ClassBreaks.{home_leads_back, is_field_of, is_field_sort}
+use Rattle.uc_rules.specs.ExpressionBreaks.{length_breaks, length_value_breaks}
+use Rattle.uc_rules.specs.Firsts.{after}
+use Rattle.uc_rules.specs.Names.{place_in}
+use Rattle.uc_rules.specs.Sorts.{is_coroutine, sort_of}
 use Rattle.uc_classes.proofs.ask.note_text.Goals as goal
 
 pub returns : goal.returns

@@ -1,6 +1,6 @@
 use Rattle.std.proofs.Common.{◌≡◌, drop}
-use Rattle.uc_meaning.specs.ProgramVisits.{params_visits}
-use Rattle.uc_meaning.specs.Scopes.{with_params}
+use Rattle.uc_rules.specs.ProgramVisits.{params_visits}
+use Rattle.uc_rules.specs.Scopes.{with_params}
 use Rattle.uc_types.specs.Told.{noted}
 use Rattle.uc_classes.proofs.body.check_params.Given as goal
 

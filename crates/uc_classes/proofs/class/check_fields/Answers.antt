@@ -1,7 +1,7 @@
 use Rattle.std.proofs.Common.{◌+◌, [], ◌∷◌, ◌++◌, refl}
-use Rattle.uc_meaning.specs.Names.{place_in}
-use Rattle.uc_meaning.specs.ProgramVisits.{fields_visits}
-use Rattle.uc_meaning.specs.Visits.{AtField, maybe_visits}
+use Rattle.uc_rules.specs.Names.{place_in}
+use Rattle.uc_rules.specs.ProgramVisits.{fields_visits}
+use Rattle.uc_rules.specs.Visits.{AtField, maybe_visits}
 use Rattle.uc_classes.proofs.Walked.{walked_by}
 use Rattle.uc_classes.proofs.class.check_fields.Goals as goal
 

@@ -1,5 +1,5 @@
 use Rattle.std.proofs.Common.{◌≡◌, drop}
-use Rattle.uc_meaning.specs.ProgramVisits.{fields_visits}
+use Rattle.uc_rules.specs.ProgramVisits.{fields_visits}
 use Rattle.uc_types.specs.Told.{noted}
 use Rattle.uc_classes.proofs.class.check_fields.Given as goal
 

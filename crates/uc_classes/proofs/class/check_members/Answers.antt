@@ -1,8 +1,8 @@
 use Rattle.std.proofs.Common.{◌+◌, ◌∷◌, refl, ap, sym, ◌∙◌}
 use Rattle.std.specs.Prelude.{slice_get}
-use Rattle.uc_meaning.specs.ProgramVisits.{form_visits, members_visits}
-use Rattle.uc_meaning.specs.Scopes.{class_around, plain_env}
-use Rattle.uc_meaning.specs.Visits.{AtMark}
+use Rattle.uc_rules.specs.ProgramVisits.{form_visits, members_visits}
+use Rattle.uc_rules.specs.Scopes.{class_around, plain_env}
+use Rattle.uc_rules.specs.Visits.{AtMark}
 use Rattle.uc_classes.proofs.Walked.{walked_by, got}
 use Rattle.uc_classes.proofs.class.check_members.Goals as goal
 

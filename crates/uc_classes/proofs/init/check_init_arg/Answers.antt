@@ -1,10 +1,10 @@
 use Rattle.std.proofs.Common.{◌≡◌, [], ◌∷◌, ap, sym, ◌∙◌}
 use Rattle.uc_tree.specs.Expressions.{expr_pos}
-use Rattle.uc_meaning.specs.Entities.{entity_of}
-use Rattle.uc_meaning.specs.ProgramVisits.{argument_env}
-use Rattle.uc_meaning.specs.Scopes.{with_around}
-use Rattle.uc_meaning.specs.Visits as visit
-use Rattle.uc_meaning.specs.Visits.{AtArgument, AtBound}
+use Rattle.uc_rules.specs.Entities.{entity_of}
+use Rattle.uc_rules.specs.ProgramVisits.{argument_env}
+use Rattle.uc_rules.specs.Scopes.{with_around}
+use Rattle.uc_rules.specs.Visits as visit
+use Rattle.uc_rules.specs.Visits.{AtArgument, AtBound}
 use Rattle.uc_types.specs.Told.{noted, told}
 use Rattle.uc_bodies.proofs.Joined.{noted_append}
 use Rattle.uc_classes.proofs.Walked.{back_around}

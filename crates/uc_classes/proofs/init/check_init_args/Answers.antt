@@ -1,7 +1,7 @@
 use Rattle.std.proofs.Common.{◌≡◌, ◌+◌, refl, ap, ◌∙◌}
 use Rattle.uc_tree.specs.Expressions.{exprs_of}
-use Rattle.uc_meaning.specs.Entities as entities
-use Rattle.uc_meaning.specs.ProgramVisits.{init_arg_visits, init_args_visits}
+use Rattle.uc_rules.specs.Entities as entities
+use Rattle.uc_rules.specs.ProgramVisits.{init_arg_visits, init_args_visits}
 use Rattle.uc_types.specs.Told.{noted}
 use Rattle.uc_classes.proofs.Walked.{walked_by}
 use Rattle.uc_classes.proofs.init.check_init_args.Goals as goal

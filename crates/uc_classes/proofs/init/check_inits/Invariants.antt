@@ -1,5 +1,5 @@
 use Rattle.std.proofs.Common.{◌≡◌, None, drop}
-use Rattle.uc_meaning.specs.ProgramVisits.{inits_visits}
+use Rattle.uc_rules.specs.ProgramVisits.{inits_visits}
 use Rattle.uc_types.specs.Told.{noted}
 use Rattle.uc_classes.proofs.init.check_inits.Given as goal
 

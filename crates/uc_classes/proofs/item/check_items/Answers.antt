@@ -1,6 +1,6 @@
 use Rattle.std.proofs.Common.{ℕ, ◌+◌, ◌∷◌, drop, refl, ap, subst, sym, arith}
-use Rattle.uc_meaning.specs.ProgramVisits.{classes_in, item_visits, items_visits}
-use Rattle.uc_meaning.specs.Visits.{AtItem}
+use Rattle.uc_rules.specs.ProgramVisits.{classes_in, item_visits, items_visits}
+use Rattle.uc_rules.specs.Visits.{AtItem}
 use Rattle.uc_types.specs.Told.{noted}
 use Rattle.uc_bodies.proofs.Walks.{split}
 use Rattle.uc_classes.specs.Counted.{StandBefore, events_in}

@@ -1,5 +1,5 @@
 use Rattle.std.proofs.Common.{ap, ◌∙◌}
-use Rattle.uc_meaning.specs.ProgramVisits.{outer_mark}
+use Rattle.uc_rules.specs.ProgramVisits.{outer_mark}
 use Rattle.uc_classes.proofs.item.outer_mark.Goals as goal
 
 pub returns : goal.returns

@@ -2,7 +2,7 @@ use Rattle.std.proofs.Common.{◌≡◌, drop}
 use Rattle.std.specs.List.{list_any}
 use Rattle.uc_tree.specs.Names.{same_name}
 use Rattle.uc_tree.specs.Numbering.{main_name}
-use Rattle.uc_meaning.specs.ClassBreaks.{members_declare}
+use Rattle.uc_rules.specs.ClassBreaks.{members_declare}
 use Rattle.uc_declares.proofs.class.declares_main.Given as goal
 
 abbrev pub invariant-loop-member : goal.invariant-loop-member

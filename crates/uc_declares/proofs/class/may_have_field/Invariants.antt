@@ -1,5 +1,5 @@
 use Rattle.std.proofs.Common.{◌≡◌, ◌+◌, drop}
-use Rattle.uc_meaning.specs.ClassBreaks.{fields_in}
+use Rattle.uc_rules.specs.ClassBreaks.{fields_in}
 use Rattle.uc_declares.proofs.class.may_have_field.Given as goal
 
 abbrev pub invariant-loop-member : goal.invariant-loop-member

@@ -1,7 +1,7 @@
 use Rattle.std.proofs.Common.{ap, not, ◌||◌, ◌∙◌}
 use Rattle.uc_tree.specs.Names.{same_name}
 use Rattle.uc_tree.specs.Numbering.{is_plain, unhandled_name}
-use Rattle.uc_meaning.specs.Names.{member_named, place_in}
+use Rattle.uc_rules.specs.Names.{member_named, place_in}
 use Rattle.uc_declares.specs.Earlier.{stands_before}
 use Rattle.uc_declares.proofs.Firsts.{routine_new}
 use Rattle.uc_declares.proofs.earlier.is_new_routine.Goals as goal

@@ -1,5 +1,5 @@
 use Rattle.std.proofs.Common.{◌≡◌, ◌≤◌, ◌+◌, drop}
-use Rattle.uc_meaning.specs.ItemBreaks.{mains_in}
+use Rattle.uc_rules.specs.ItemBreaks.{mains_in}
 use Rattle.uc_declares.proofs.item.has_one_main.Given as goal
 
 abbrev pub invariant-loop-item : goal.invariant-loop-item

@@ -1,5 +1,5 @@
 use Rattle.std.proofs.Common.{ap, sym, ◌∙◌}
-use Rattle.uc_meaning.specs.ProgramVisits.{owner_home}
+use Rattle.uc_rules.specs.ProgramVisits.{owner_home}
 use Rattle.uc_declares.proofs.item.is_sound_item.Goals as goal
 
 pub is_definition-requires : goal.is_definition-requires

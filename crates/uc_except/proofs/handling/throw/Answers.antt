@@ -1,5 +1,5 @@
 use Rattle.std.proofs.Common.{rules, ◌∷◌, None, ap, sym, ◌∙◌}
-use Rattle.uc_meaning.specs.Raising as raising
+use Rattle.uc_machine.specs.Raising as raising
 use Rattle.uc_except.specs.Finding.{resumed}
 use Rattle.uc_except.specs.Handling.{thrown}
 use Rattle.uc_except.proofs.Thrown.{reason_by, thrown_as, throws_now, resumes_none}

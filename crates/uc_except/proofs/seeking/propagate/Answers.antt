@@ -1,6 +1,6 @@
 use Rattle.std.proofs.Common.{◌≡◌, ◌∷◌, None, ap, sym, subst, ◌∙◌}
 use Rattle.std.specs.Prelude.{if◌then◌else◌}
-use Rattle.uc_meaning.specs.Raising.{seek}
+use Rattle.uc_machine.specs.Raising.{seek}
 use Rattle.uc_code.specs.Laid.{laid_of}
 use Rattle.uc_except.specs.Finding.{resumed, caught}
 use Rattle.uc_except.specs.Meeting.{FoundAs, CaughtAs, catcher}

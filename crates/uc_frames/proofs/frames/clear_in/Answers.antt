@@ -1,5 +1,5 @@
 use Rattle.std.proofs.Common.{arith}
-use Rattle.uc_meaning.specs.Executions.{values_cleared}
+use Rattle.uc_machine.specs.Executions.{values_cleared}
 use Rattle.uc_frames.specs.Machine.{nought}
 use Rattle.uc_frames.proofs.Depths.{set_frame}
 use Rattle.uc_frames.proofs.frames.clear_in.Goals as goal

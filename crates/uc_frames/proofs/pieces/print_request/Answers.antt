@@ -1,10 +1,10 @@
 use Rattle.std.proofs.Common.{List, ◌++◌, length, ap}
 use Rattle.std.proofs.lemmas.List.{drop-replicate}
-use Rattle.uc_tree.specs.declared.limits.TheConstants.{PRINT_ITEMS}
-use Rattle.uc_meaning.specs.declared.request.Piece.{Piece}
-use Rattle.uc_meaning.specs.declared.request.Request.{Request}
-use Rattle.uc_meaning.specs.declared.request.Request.TheVariants as ask
-use Rattle.uc_meaning.specs.Quiet.{blank}
+use Rattle.uc_entry.specs.declared.request.TheConstants.{PRINT_ITEMS}
+use Rattle.uc_entry.specs.declared.request.Piece.{Piece}
+use Rattle.uc_entry.specs.declared.request.Request.{Request}
+use Rattle.uc_entry.specs.declared.request.Request.TheVariants as ask
+use Rattle.uc_machine.specs.Quiet.{blank}
 use Rattle.uc_frames.proofs.pieces.print_request.Goals as goal
 
 pub returns : goal.returns

@@ -1,5 +1,5 @@
 use Rattle.std.proofs.Common.{◌≡◌, drop}
-use Rattle.uc_meaning.specs.ProgramVisits.{mark_among}
+use Rattle.uc_rules.specs.ProgramVisits.{mark_among}
 use Rattle.uc_front.proofs.outer.mark_among.Given as goal
 
 abbrev pub invariant-loop-member : goal.invariant-loop-member

@@ -1,5 +1,5 @@
 use Rattle.std.proofs.Common.{rules}
-use Rattle.uc_meaning.specs.Visits.{statement_visits}
+use Rattle.uc_rules.specs.Visits.{statement_visits}
 use Rattle.uc_front.specs.Typed.{statement_breaks}
 use Rattle.uc_front.proofs.TypeLemmas.{broken_by, found_is, kept_by}
 use Rattle.uc_front.proofs.typed.type_in.Goals as goal

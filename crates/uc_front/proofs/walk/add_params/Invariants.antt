@@ -1,5 +1,5 @@
 use Rattle.std.proofs.Common.{◌≡◌, drop}
-use Rattle.uc_meaning.specs.Scopes.{with_params}
+use Rattle.uc_rules.specs.Scopes.{with_params}
 use Rattle.uc_front.proofs.walk.add_params.Given as goal
 
 abbrev pub invariant-loop-param : goal.invariant-loop-param

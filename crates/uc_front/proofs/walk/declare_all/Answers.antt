@@ -1,5 +1,5 @@
 use Rattle.std.proofs.Common.{refl}
-use Rattle.uc_meaning.specs.Scopes.{declared, all_declared}
+use Rattle.uc_rules.specs.Scopes.{declared, all_declared}
 use Rattle.uc_bodies.proofs.Walks.{names_more}
 use Rattle.uc_front.proofs.walk.declare_all.Goals as goal
 

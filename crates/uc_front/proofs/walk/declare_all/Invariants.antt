@@ -1,5 +1,5 @@
 use Rattle.std.proofs.Common.{◌≡◌, drop}
-use Rattle.uc_meaning.specs.Scopes.{all_declared}
+use Rattle.uc_rules.specs.Scopes.{all_declared}
 use Rattle.uc_front.proofs.walk.declare_all.Given as goal
 
 abbrev pub invariant-loop-declarator : goal.invariant-loop-declarator

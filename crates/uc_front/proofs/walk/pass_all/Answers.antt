@@ -1,6 +1,6 @@
 use Rattle.std.proofs.Common.{refl}
 use Rattle.uc_tree.specs.Statements.{stmts_of}
-use Rattle.uc_meaning.specs.Scopes.{env_after, env_behind}
+use Rattle.uc_rules.specs.Scopes.{env_after, env_behind}
 use Rattle.uc_bodies.proofs.Walks.{names_more}
 use Rattle.uc_front.proofs.walk.pass_all.Goals as goal
 

@@ -1,6 +1,6 @@
 use Rattle.std.proofs.Common.{◌≡◌, drop}
 use Rattle.uc_tree.specs.Statements.{stmts_of}
-use Rattle.uc_meaning.specs.Scopes.{env_behind}
+use Rattle.uc_rules.specs.Scopes.{env_behind}
 use Rattle.uc_front.proofs.walk.pass_all.Given as goal
 
 abbrev pub invariant-loop-s : goal.invariant-loop-s

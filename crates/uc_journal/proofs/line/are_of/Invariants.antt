@@ -1,5 +1,5 @@
 use Rattle.std.proofs.Common.{drop}
-use Rattle.uc_meaning.specs.Fit.{AreOf}
+use Rattle.uc_acts.specs.Fit.{AreOf}
 use Rattle.uc_journal.proofs.line.are_of.Given as goal
 
 -- the numbers that were passed are of their types

@@ -1,7 +1,7 @@
 use Rattle.std.proofs.Common.{◌≡◌, refl, sym, ◌∙◌}
 use Rattle.std.specs.List.{prefix_len}
 use Rattle.std.proofs.lemmas.List.{take_rest}
-use Rattle.uc_meaning.specs.Fit.{numbers_of}
+use Rattle.uc_acts.specs.Fit.{numbers_of}
 use Rattle.uc_journal.proofs.Words.{same_kind, no_space}
 use Rattle.uc_journal.proofs.Numbers.{same_fields}
 use Rattle.uc_journal.proofs.Entries.{has_line, line_from}

@@ -1,7 +1,7 @@
 use Rattle.std.proofs.Common.{◌≡◌, drop}
 use Rattle.std.specs.Prelude.{find, nat_eq}
 use lib.Pointwise.{pointwise}
-use Rattle.uc_meaning.specs.Texts.{word_of}
+use Rattle.uc_acts.specs.Texts.{word_of}
 use Rattle.uc_journal.proofs.word.first_of.Given as goal
 
 -- no kind that was passed has the word

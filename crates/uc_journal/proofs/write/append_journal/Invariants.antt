@@ -1,5 +1,5 @@
 use Rattle.std.proofs.Common.{◌≡◌, ◌++◌, take}
-use Rattle.uc_meaning.specs.Texts as texts
+use Rattle.uc_acts.specs.Texts as texts
 use Rattle.uc_journal.proofs.write.append_journal.Given as goal
 
 -- the entries so far are written

@@ -1,5 +1,5 @@
 use Rattle.std.proofs.Common.{sym, ◌∙◌, subst, arith}
-use Rattle.uc_meaning.specs.Acts.{act}
+use Rattle.uc_acts.specs.Acts.{act}
 use Rattle.uc_kernel.specs.Kept.{kept, put_back, stored}
 use Rattle.uc_kernel.specs.Calls.{Follows}
 use Rattle.uc_kernel.specs.Shelves.{Lies, earlier}

@@ -1,7 +1,7 @@
 use Rattle.std.proofs.Common.{sym, ap, ◌∙◌, subst, Some, arith, not}
 use Rattle.std.specs.Prelude.{slice_set}
-use Rattle.uc_meaning.specs.Acts.{act}
-use Rattle.uc_meaning.specs.Journal.{is_over}
+use Rattle.uc_acts.specs.Acts.{act}
+use Rattle.uc_acts.specs.Journal.{is_over}
 use Rattle.uc_kernel.specs.Kept.{kept, put_back, stored}
 use Rattle.uc_kernel.specs.Calls.{Ends, Follows}
 use Rattle.uc_kernel.specs.Shelves.{earlier}

@@ -4,9 +4,9 @@ use Rattle.uc_tree.specs.Numbering.{routines_of}
 use Rattle.uc_tree.specs.Objects.{unwritten_of}
 use Rattle.uc_tree.specs.Programs.{Program}
 use Rattle.uc_built.specs.BuiltForms.{IsBuilt}
-use Rattle.uc_meaning.specs.Breaks.{breaks_of}
+use Rattle.uc_rules.specs.Breaks.{breaks_of}
 use Rattle.uc_unwritten.specs.Unwritten.{unwritten_as}
-use Rattle.uc_tree.specs.Resolve.{source_of}
+use Rattle.uc_resolve.specs.Resolve.{source_of}
 use Rattle.uc_code.proofs.Paces.{lowered_paced}
 use Rattle.uc_lower.specs.Laying.{LaysAll}
 use Rattle.uc_lower.specs.Refusing.{Fits}

@@ -1,6 +1,6 @@
 use Rattle.std.proofs.Common.{◌≡◌, ℕ, ◌+◌, ◌++◌, ◌∷◌, [], List, drop, map, sym, ap, ◌∙◌, append_assoc, rules}
 use Rattle.uc_tree.specs.Programs.{Class}
-use Rattle.uc_tree.specs.Resolve.{classes_meant}
+use Rattle.uc_resolve.specs.Resolve.{classes_meant}
 use Rattle.uc_lower.proofs.Numbered.{cells_of, dropped, first_cells}
 use Rattle.uc_lower.proofs.numbering.cells_in.Goals as goal
 

@@ -1,5 +1,5 @@
 use Rattle.std.proofs.Common.{◌≡◌, ◌++◌, drop, map}
-use Rattle.uc_tree.specs.Resolve.{all_classes, classes_meant}
+use Rattle.uc_resolve.specs.Resolve.{all_classes, classes_meant}
 use Rattle.uc_lower.proofs.numbering.cells_in.Given as goal
 
 abbrev pub invariant-loop-place : goal.invariant-loop-place

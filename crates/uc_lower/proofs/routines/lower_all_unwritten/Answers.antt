@@ -1,7 +1,7 @@
 use Rattle.std.proofs.Common.{◌≡◌, ◌+◌, ◌<◌, ℕ, length, sym, subst, ap, ◌∙◌, arith}
 use Rattle.uc_tree.specs.Numbering.{routines_of}
 use Rattle.uc_tree.specs.Objects.{unwritten_of}
-use Rattle.uc_tree.specs.Resolve.{unwritten_meant}
+use Rattle.uc_resolve.specs.Resolve.{unwritten_meant}
 use Rattle.uc_code.specs.declared.rows.RoutineCode.{RoutineCode}
 use Rattle.uc_code.specs.Laid.{laid_in}
 use Rattle.uc_code.specs.Lowered.{RoutineAt}

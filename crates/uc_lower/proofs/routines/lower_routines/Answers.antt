@@ -1,6 +1,6 @@
 use Rattle.std.proofs.Common.{◌+◌, ℕ, length, nat_eq, refl, sym, subst, ap, ◌∙◌, arith}
 use Rattle.uc_tree.specs.Numbering.{routines_of}
-use Rattle.uc_tree.specs.Resolve.{place_by, routine_meant, routine_scope}
+use Rattle.uc_resolve.specs.Resolve.{place_by, routine_meant, routine_scope}
 use Rattle.uc_code.specs.Laid.{laid_in}
 use Rattle.uc_code.specs.Lowered.{RoutineAt}
 use Rattle.uc_lower_stmt.specs.Routines.{frame_cells}

@@ -1,7 +1,7 @@
 use Rattle.std.proofs.Common.{◌≡◌, true, false, refl, sym, ap, ◌∙◌, arith}
 use Rattle.uc_tree.specs.Numbering.{is_plain}
 use Rattle.uc_tree.specs.Programs.{Sig}
-use Rattle.uc_tree.specs.Resolve.{class_by}
+use Rattle.uc_resolve.specs.Resolve.{class_by}
 use Rattle.uc_numbers.specs.Routines.{defined_at}
 use Rattle.uc_lower_stmt.specs.Routines.{main_in}
 use Rattle.uc_lower_class.specs.Bodies.{builder_room}

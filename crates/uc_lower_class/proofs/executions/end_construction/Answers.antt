@@ -1,6 +1,6 @@
 use Rattle.std.proofs.Common.{Bool, List, ap, subst, ◌∙◌, arith}
 use Rattle.uc_tree.specs.Programs.{Program}
-use Rattle.uc_tree.specs.Resolve.{class_by, enlivened}
+use Rattle.uc_resolve.specs.Resolve.{class_by, enlivened}
 use Rattle.uc_code.specs.declared.rows.Mark.{Mark}
 use Rattle.uc_code.specs.Lowered.{StmtsAt}
 use Rattle.uc_lower_expr.specs.Added.{Adds}

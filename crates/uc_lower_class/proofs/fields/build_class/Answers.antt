@@ -2,7 +2,7 @@ use Rattle.std.proofs.Common.{Option, ap, sym, subst, ◌∙◌, arith}
 use Rattle.std.proofs.lemmas.Option.{slice_get_within}
 use Rattle.uc_tree.specs.Cells.{classes_of}
 use Rattle.uc_tree.specs.Programs.{Class}
-use Rattle.uc_tree.specs.Resolve.{has_coroutines}
+use Rattle.uc_resolve.specs.Resolve.{has_coroutines}
 use Rattle.uc_lower_class.specs.Fields.{FieldsBehind, set_up_room}
 use Rattle.uc_lower_class.proofs.Living.{class_on}
 use Rattle.uc_lower_class.proofs.fields.build_class.Goals as goal

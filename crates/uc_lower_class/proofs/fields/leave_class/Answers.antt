@@ -1,6 +1,6 @@
 use Rattle.std.proofs.Common.{Option, ap, sym, subst, ◌∙◌, arith}
 use Rattle.uc_tree.specs.Programs.{Class}
-use Rattle.uc_tree.specs.Resolve.{has_coroutines}
+use Rattle.uc_resolve.specs.Resolve.{has_coroutines}
 use Rattle.uc_lower_stmt.proofs.Laying.{lays_routine}
 use Rattle.uc_lower_class.specs.Fields.{FieldsBehind, forget_count, take_down_room}
 use Rattle.uc_lower_class.proofs.Living.{left_on}

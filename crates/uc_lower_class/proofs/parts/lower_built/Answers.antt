@@ -1,6 +1,6 @@
 use Rattle.std.proofs.Common.{ap, sym, ◌∙◌, arith}
 use Rattle.uc_tree.specs.Expressions.{exprs_of}
-use Rattle.uc_tree.specs.Resolve.{args_meant}
+use Rattle.uc_resolve.specs.Resolve.{args_meant}
 use Rattle.uc_lower_expr.specs.Contexts.{context_in}
 use Rattle.uc_lower_class.specs.Fields.{part_in, part_room}
 use Rattle.uc_lower_class.proofs.Assembling.{behind_in, none_room}

@@ -3,7 +3,7 @@ use Rattle.uc_tree.specs.declared.kinds.Role.TheVariants as role
 use Rattle.uc_tree.specs.declared.limits.TheConstants.{OPS_FOR_SIZE}
 use Rattle.uc_tree.specs.Expressions.{exprs_of}
 use Rattle.uc_tree.specs.ExpressionSizes.{exprs_size}
-use Rattle.uc_tree.specs.Resolve.{args_meant}
+use Rattle.uc_resolve.specs.Resolve.{args_meant}
 use Rattle.uc_code.specs.declared.rows.Cleaning.TheVariants as cleaning
 use Rattle.uc_lower_expr.specs.Contexts.{context_in}
 use Rattle.uc_lower_expr.specs.Members.{routine_for}

@@ -1,4 +1,4 @@
-use Rattle.uc_tree.specs.Resolve.{meant}
+use Rattle.uc_resolve.specs.Resolve.{meant}
 use Rattle.uc_lower_expr.specs.Contexts.{context_in}
 use Rattle.uc_lower_expr.specs.Meanings.{shape_as}
 use Rattle.uc_lower_class.proofs.Fielding.{held_value}

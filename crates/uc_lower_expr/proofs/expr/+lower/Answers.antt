@@ -3,7 +3,7 @@ use Rattle.std.proofs.lemmas.Option.{slice_get_read}
 use Rattle.uc_code.specs.Drafts.{Draft}
 use Rattle.uc_tree.specs.declared.limits.TheConstants.{OPS_FOR_SIZE}
 use Rattle.uc_tree.specs.ExpressionSizes.{expr_size, exprs_size, link_size}
-use Rattle.uc_tree.specs.Resolve.{Context, args_by, meant, value_of}
+use Rattle.uc_resolve.specs.Resolve.{Context, args_by, meant, value_of}
 use Rattle.uc_code.specs.declared.op.Op.TheVariants as op
 use Rattle.uc_lower_expr.specs.declared.ops.Joining.TheVariants as joining
 use Rattle.uc_lower_expr.specs.Contexts.{context_in}
@@ -15,7 +15,7 @@ use Rattle.uc_lower_expr.specs.declared.meaning.Standing.TheVariants as standing
 use Rattle.uc_tree.specs.declared.ops.UnaryOp.{UnaryOp}
 use Rattle.uc_tree.specs.declared.ops.StepOp.TheVariants as step
 use Rattle.uc_tree.specs.Expressions.{exprs_of}
-use Rattle.uc_tree.specs.Resolve.{Standing, args_meant, call_by, unary_meant}
+use Rattle.uc_resolve.specs.Resolve.{Standing, args_meant, call_by, unary_meant}
 use Rattle.uc_lower_expr.proofs.Walks.{tree_is, value_in, arm_number, arm_character, arm_truth, arm_cin, arm_minus, arm_not, arm_value, arm_argument, arm_bumped, told_bumped, arm_assigned, told_assigned, arm_to_variable, arm_to_place, arm_set, arm_set_by, arm_keep, arm_keep_by, variable_in_cut, args_in_cut, arm_link, right_as, links_fit, links_step, links_end, part_is, arm_called, arm_routine, arm_member_called, arm_live_called, field_not_called, grown_in, not_called, called_part, stepped_part, args_begin, args_step, args_skip, args_fit, parts_fit, parts_step, arm_no_element, arm_element, some_size, arm_postfix, told_postfix, arm_chain, told_chain, postfix_size, chain_size}
 use Rattle.uc_lower_expr.specs.Added.{Adds, ArgumentsCode}
 use Rattle.uc_lower_expr.proofs.expr.+lower.Goals.{lower_args-then-place-params+in_ok-lower_arg, lower_args-else-place-params}

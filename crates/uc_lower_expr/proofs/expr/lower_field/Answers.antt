@@ -1,5 +1,5 @@
 use Rattle.std.proofs.Common.{ap}
-use Rattle.uc_tree.specs.Resolve.{Standing, field_by}
+use Rattle.uc_resolve.specs.Resolve.{Standing, field_by}
 use Rattle.uc_lower_expr.specs.declared.meaning.Standing.TheVariants as standing
 use Rattle.uc_lower_expr.proofs.Members.{no_part, input_member, variable_member, field_member, at_place_member}
 use Rattle.uc_lower_expr.proofs.expr.lower_field.Goals as goal

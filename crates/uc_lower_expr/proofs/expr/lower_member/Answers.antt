@@ -1,5 +1,5 @@
 use Rattle.std.proofs.Common.{sym, arith, ◌∙◌}
-use Rattle.uc_tree.specs.Resolve.{Of, member_meant, place_member}
+use Rattle.uc_resolve.specs.Resolve.{Of, member_meant, place_member}
 use Rattle.uc_lower_expr.proofs.Members.{array_none, scalar_none, object_is, grown_told}
 use Rattle.uc_lower_expr.proofs.Walks.{put_for_nothing}
 use Rattle.uc_lower_expr.proofs.expr.lower_member.Goals as goal

@@ -1,5 +1,5 @@
 use Rattle.std.proofs.Common.{Bool, ap, sym, arith, ◌∙◌}
-use Rattle.uc_tree.specs.Resolve.{Of, member_meant}
+use Rattle.uc_resolve.specs.Resolve.{Of, member_meant}
 use Rattle.uc_lower_expr.specs.declared.meaning.Meaning.{Meaning}
 use Rattle.uc_lower_expr.specs.declared.meaning.Standing.{Standing as Told}
 use Rattle.uc_lower_expr.specs.Meanings.{member_standing}

@@ -1,7 +1,7 @@
 use Rattle.std.proofs.Common.{subst, sym, ◌∙◌}
 use Rattle.std.specs.Prelude.{OnOk, IfOk}
 use Rattle.uc_tree.specs.Objects.{class_at}
-use Rattle.uc_tree.specs.Resolve.{Meant, has_coroutines}
+use Rattle.uc_resolve.specs.Resolve.{Meant, has_coroutines}
 use Rattle.uc_lower_expr.specs.Added.{Adds, ExprCode}
 use Rattle.uc_lower_expr.specs.Meanings.{Tells}
 use Rattle.uc_lower_expr.specs.declared.meaning.Meaning.{Meaning}

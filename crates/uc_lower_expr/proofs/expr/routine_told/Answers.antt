@@ -1,6 +1,6 @@
 use Rattle.std.proofs.Common.{sym, ◌∙◌}
 use Rattle.uc_tree.specs.Numbering.{routines_of}
-use Rattle.uc_tree.specs.Resolve.{routine_from}
+use Rattle.uc_resolve.specs.Resolve.{routine_from}
 use Rattle.uc_lower_expr.proofs.Members.{routine_named}
 use Rattle.uc_lower_expr.proofs.expr.routine_told.Goals as goal
 

@@ -1,6 +1,5 @@
 use Rattle.std.proofs.Common.{ℕ, List, refl, sym, ap, subst, ◌∙◌}
-use Rattle.uc_tree.specs.Objects.{plain_class}
-use Rattle.uc_tree.specs.Resolve.{event_place}
+use Rattle.uc_tree.specs.Objects.{plain_class, event_place}
 use Rattle.uc_code.specs.Drafts.{IsInnermost, IsUnknown}
 use Rattle.uc_lower_expr.proofs.Naming.{unknown_named, innermost_named}
 use Rattle.uc_lower_expr.proofs.Arms.{told_known}

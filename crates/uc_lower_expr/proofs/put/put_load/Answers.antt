@@ -1,5 +1,5 @@
 use Rattle.std.proofs.Common.{ap}
-use Rattle.uc_tree.specs.Resolve.{Standing, value_by}
+use Rattle.uc_resolve.specs.Resolve.{Standing, value_by}
 use Rattle.uc_lower_expr.specs.declared.meaning.Standing.TheVariants as standing
 use Rattle.uc_lower_expr.proofs.Arms.{load_variable, load_field, load_place, load_none}
 use Rattle.uc_lower_expr.proofs.put.put_load.Goals as goal

@@ -2,7 +2,7 @@ use Rattle.std.proofs.Common.{◌*◌, length, take}
 use Rattle.uc_tree.specs.declared.limits.TheConstants.{OPS_FOR_SIZE}
 use Rattle.uc_tree.specs.StatementSizes.{declarators_size}
 use Rattle.uc_tree.specs.Cells.{declared_cells, declarators_cells}
-use Rattle.uc_tree.specs.Resolve.{objects_scoped, with_all}
+use Rattle.uc_resolve.specs.Resolve.{objects_scoped, with_all}
 use Rattle.uc_lower_stmt.specs.Pending.{Lays}
 use Rattle.uc_lower_stmt.specs.Scoped.{scope_of}
 use Rattle.uc_lower_stmt.proofs.block.lower_objects.Given as goal

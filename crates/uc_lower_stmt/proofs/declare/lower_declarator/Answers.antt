@@ -2,7 +2,7 @@ use Rattle.std.proofs.Common.{ap, sym, ◌∙◌, refl, arith}
 use Rattle.uc_tree.specs.Capped.{capped}
 use Rattle.uc_tree.specs.Cells.{declared_cells}
 use Rattle.uc_tree.specs.Programs.{Program}
-use Rattle.uc_tree.specs.Resolve.{declared_type}
+use Rattle.uc_resolve.specs.Resolve.{declared_type}
 use Rattle.uc_tree.specs.Statements.{Declarator}
 use Rattle.uc_lower_expr.specs.Meanings.{shape_as}
 use Rattle.uc_lower_stmt.proofs.Declaring.{uncapped, arm_declared}

@@ -1,7 +1,7 @@
 use Rattle.std.proofs.Common.{◌*◌}
 use Rattle.uc_tree.specs.declared.limits.TheConstants.{OPS_FOR_SIZE}
 use Rattle.uc_tree.specs.ExpressionSizes.{expr_size}
-use Rattle.uc_tree.specs.Resolve.{meant, value_of}
+use Rattle.uc_resolve.specs.Resolve.{meant, value_of}
 use Rattle.uc_lower_expr.specs.Contexts.{context_in}
 use Rattle.uc_lower_expr.specs.Meanings.{shape_as}
 use Rattle.uc_lower_expr.proofs.Walks.{value_in}

@@ -4,7 +4,7 @@ use Rattle.uc_tree.specs.declared.kinds.Role.TheVariants as role
 use Rattle.uc_tree.specs.declared.limits.TheConstants.{OPS_FOR_SIZE}
 use Rattle.uc_tree.specs.Expressions.{exprs_of}
 use Rattle.uc_tree.specs.ExpressionSizes.{exprs_size}
-use Rattle.uc_tree.specs.Resolve.{args_by, args_meant}
+use Rattle.uc_resolve.specs.Resolve.{args_by, args_meant}
 use Rattle.uc_code.specs.declared.op.Op.{Op}
 use Rattle.uc_code.specs.Drafts.{Draft}
 use Rattle.uc_lower_expr.specs.Added.{Adds, ArgumentsCode, OpCode}

@@ -1,7 +1,7 @@
 use Rattle.std.proofs.Common.{◌*◌, ◌-◌, arith}
 use Rattle.uc_tree.specs.declared.limits.TheConstants.{OPS_FOR_SIZE}
 use Rattle.uc_tree.specs.ExpressionSizes.{expr_size}
-use Rattle.uc_tree.specs.Resolve.{meant}
+use Rattle.uc_resolve.specs.Resolve.{meant}
 use Rattle.uc_lower_expr.specs.Contexts.{context_in}
 use Rattle.uc_lower_expr.proofs.Walks.{some_size}
 use Rattle.uc_lower_stmt.proofs.Printing.{arm_target}

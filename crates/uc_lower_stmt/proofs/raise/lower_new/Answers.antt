@@ -1,7 +1,7 @@
 use Rattle.std.proofs.Common.{length, ap, sym, ◌∙◌, arith}
 use Rattle.uc_tree.specs.Expressions.{exprs_of}
 use Rattle.uc_tree.specs.ExpressionSizes.{exprs_size}
-use Rattle.uc_tree.specs.Resolve.{event_constructor, number_of_event}
+use Rattle.uc_resolve.specs.Resolve.{event_constructor, number_of_event}
 use Rattle.uc_tree.specs.Statements.{Raised}
 use Rattle.uc_code.specs.Drafts.{Draft}
 use Rattle.uc_lower_stmt.proofs.Raising.{arm_built, arm_plain}

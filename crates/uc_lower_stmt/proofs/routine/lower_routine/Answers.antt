@@ -2,7 +2,7 @@ use Rattle.std.proofs.Common.{◌≡◌, ℕ, Option, length, ap, sym, ◌∙◌
 use Rattle.uc_tree.specs.Capped.{capped}
 use Rattle.uc_tree.specs.Cells.{routine_cells}
 use Rattle.uc_tree.specs.Programs.{Program, Sig}
-use Rattle.uc_tree.specs.Resolve.{class_by}
+use Rattle.uc_resolve.specs.Resolve.{class_by}
 use Rattle.uc_code.specs.Drafts.{Draft}
 use Rattle.uc_lower_stmt.specs.Routines.{main_in}
 use Rattle.uc_lower_stmt.proofs.Declaring.{uncapped}

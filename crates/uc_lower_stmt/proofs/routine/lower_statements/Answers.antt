@@ -1,6 +1,6 @@
 use Rattle.std.proofs.Common.{subst, sym, ◌∙◌}
 use Rattle.uc_tree.specs.Source.{Purpose}
-use Rattle.uc_tree.specs.Resolve.{class_by}
+use Rattle.uc_resolve.specs.Resolve.{class_by}
 use Rattle.uc_lower_stmt.specs.Routines.{LowersRoutine}
 use Rattle.uc_lower_stmt.proofs.Routines.{called_purpose, main_purpose}
 use Rattle.uc_lower_stmt.proofs.routine.lower_statements.Goals as goal

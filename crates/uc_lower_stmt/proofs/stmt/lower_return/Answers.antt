@@ -1,6 +1,6 @@
 use Rattle.std.proofs.Common.{◌≡◌, ◌∙◌, ap, arith}
 use Rattle.uc_tree.specs.StatementSizes.{maybe_expr_size}
-use Rattle.uc_tree.specs.Resolve.{meant, value_of}
+use Rattle.uc_resolve.specs.Resolve.{meant, value_of}
 use Rattle.uc_tree.specs.declared.kinds.Place.{Place}
 use Rattle.uc_code.specs.Drafts.{Draft}
 use Rattle.uc_code.specs.Open.{exit_room}

@@ -1,8 +1,7 @@
 use Rattle.std.proofs.Common.{◌≡◌, ℕ, ◌<◌, ◌≤◌, ◌+◌, true, false, List, ◌∙◌, ap, sym, subst, arith, length, drop, slice_index_or}
 use Rattle.std.proofs.lemmas.List.{at_drop_all, get_or-replicate}
 use Rattle.uc_tree.specs.Programs.{Site}
-use Rattle.uc_meaning.specs.Doors.{offers_from}
-use Rattle.uc_meaning.specs.Pending.{has_bit}
+use Rattle.uc_tree.specs.SiteOffers.{has_bit, offers_from}
 use Rattle.uc_mutex.specs.Offers.{found_or, offers_by}
 use Rattle.uc_mutex.proofs.Offering.{clauses_are, none_left, next_true, next_false}
 use Rattle.uc_mutex.proofs.offers.clauses_by.Goals as goal

@@ -1,6 +1,6 @@
 use Rattle.std.proofs.Common.{◌≡◌, ℕ, ◌<◌, length, drop, slice_index_or}
 use Rattle.uc_links.specs.Lists.{member_limit}
-use Rattle.uc_meaning.specs.Doors.{clause_for, or_0, offers_from}
+use Rattle.uc_tree.specs.SiteOffers.{clause_for, or_0, offers_from}
 use Rattle.uc_mutex.specs.Offers.{found_or, offers_by}
 use Rattle.uc_mutex.proofs.offers.clauses_by.Given as goal
 

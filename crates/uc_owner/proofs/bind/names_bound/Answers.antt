@@ -1,7 +1,7 @@
 use Rattle.std.proofs.Common.{◌||◌, List, Bool, ap, ◌∙◌, map}
 use Rattle.std.specs.List.{list_any}
 use Rattle.uc_tree.specs.Programs.{Member, Routine}
-use Rattle.uc_meaning.specs.OwnerBreaks.{form_binds, is_bound_inside, routine_binds}
+use Rattle.uc_rules.specs.OwnerBreaks.{form_binds, is_bound_inside, routine_binds}
 use Rattle.uc_owner.proofs.Outside.{outside_bind}
 use Rattle.uc_owner.proofs.bind.names_bound.Goals as goal
 

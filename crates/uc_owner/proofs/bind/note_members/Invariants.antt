@@ -1,7 +1,7 @@
 use Rattle.std.proofs.Common.{◌≡◌, ◌<◌, ◌||◌, ℕ, List, is_some, length, drop}
 use Rattle.std.specs.List.{list_any}
 use Rattle.uc_names.specs.Blocks.{found}
-use Rattle.uc_meaning.specs.OwnerBreaks.{form_binds}
+use Rattle.uc_rules.specs.OwnerBreaks.{form_binds}
 use Rattle.uc_owner.proofs.bind.note_members.Given as goal
 
 abbrev pub invariant-loop-member : goal.invariant-loop-member

@@ -1,7 +1,7 @@
 use Rattle.std.proofs.Common.{◌≡◌, ◌<◌, ◌||◌, ℕ, List, is_some, length, drop, map}
 use Rattle.std.specs.List.{list_any}
 use Rattle.uc_names.specs.Blocks.{found}
-use Rattle.uc_meaning.specs.OwnerBreaks.{routine_binds}
+use Rattle.uc_rules.specs.OwnerBreaks.{routine_binds}
 use Rattle.uc_owner.proofs.bind.note_routines.Given as goal
 
 abbrev pub invariant-loop-routine : goal.invariant-loop-routine

@@ -1,8 +1,8 @@
 use Rattle.std.proofs.Common.{◌≡◌, sym, subst, ap, ◌∙◌}
 use Rattle.uc_code.specs.Laid.{laid_of}
-use Rattle.uc_meaning.specs.declared.fault.RunFault.TheVariants.{Unhandled}
-use Rattle.uc_meaning.specs.declared.request.Request.TheVariants as ask
-use Rattle.uc_meaning.specs.Faults.{fault_number}
+use Rattle.uc_entry.specs.declared.fault.RunFault.TheVariants.{Unhandled}
+use Rattle.uc_entry.specs.declared.request.Request.TheVariants as ask
+use Rattle.uc_entry.specs.Faults.{fault_number}
 use Rattle.uc_coroutine.specs.declared.testing.TaskMainEnd.TheVariants as end
 use Rattle.uc_coroutine.specs.Ends.{MainLeft, main_over}
 use Rattle.uc_step.specs.declared.stepped.Stepped.TheVariants.{Ask}

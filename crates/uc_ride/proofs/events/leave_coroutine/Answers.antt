@@ -1,6 +1,6 @@
 use Rattle.std.proofs.Common.{◌≡◌, None, Some, sym, subst, ◌∙◌}
-use Rattle.uc_meaning.specs.Faults.{fault_number}
-use Rattle.uc_meaning.specs.declared.request.Request.TheVariants as ask
+use Rattle.uc_entry.specs.Faults.{fault_number}
+use Rattle.uc_entry.specs.declared.request.Request.TheVariants as ask
 use Rattle.uc_code.specs.Laid.{laid_of}
 use Rattle.uc_coroutine.specs.Switching.{left_by, SwitchedAs}
 use Rattle.uc_step.specs.declared.stepped.Stepped.TheVariants.{Ask}

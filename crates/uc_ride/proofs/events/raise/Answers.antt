@@ -1,7 +1,7 @@
 use Rattle.std.proofs.Common.{◌≡◌, ◌∷◌, None, sym, ap, subst, ◌∙◌, to_z, of_z, w64, rules}
 use Rattle.uc_code.specs.Laid.{laid_of}
-use Rattle.uc_meaning.specs.declared.exec.Reason.TheVariants as reason
-use Rattle.uc_meaning.specs.Raising.{event_in}
+use Rattle.uc_machine.specs.declared.exec.Reason.TheVariants as reason
+use Rattle.uc_machine.specs.Raising.{event_in}
 use Rattle.uc_except.specs.Handling.{IsFound, handler_begun}
 use Rattle.uc_except.proofs.Handled.{begun_as}
 use Rattle.uc_except.proofs.Taken.{taken}

@@ -1,7 +1,7 @@
 use Rattle.std.proofs.Common.{◌≡◌, sym, subst, to_z, of_z, w64, rules}
 use Rattle.uc_code.specs.Laid.{laid_of}
-use Rattle.uc_meaning.specs.declared.exec.Reason.TheVariants as reason
-use Rattle.uc_meaning.specs.Raising.{event_in}
+use Rattle.uc_machine.specs.declared.exec.Reason.TheVariants as reason
+use Rattle.uc_machine.specs.Raising.{event_in}
 use Rattle.uc_except.proofs.Thrown.{thrown_as}
 use Rattle.uc_step.specs.Falls.{FallsBelow}
 use Rattle.uc_step.specs.Follow.{Follow}

@@ -1,5 +1,5 @@
 use Rattle.std.proofs.Common.{◌∙◌}
-use Rattle.uc_meaning.specs.Switches.{wake}
+use Rattle.uc_machine.specs.Switches.{wake}
 use Rattle.uc_code.specs.Laid.{laid_of}
 use Rattle.uc_frames.specs.Machine.{resumed}
 use Rattle.uc_step.specs.declared.stepped.Stepped.TheVariants.{Resume}

@@ -1,5 +1,5 @@
 use Rattle.std.proofs.Common.{subst, sym, arith}
-use Rattle.uc_meaning.specs.declared.request.Asked.{Asked}
+use Rattle.uc_entry.specs.declared.request.Asked.{Asked}
 use Rattle.uc_step.specs.Falls.{Keeps}
 use Rattle.uc_ride.specs.Led.{BurstKeeps, KeepsAfter}
 use Rattle.uc_ride.specs.Rode.{HasBurst}

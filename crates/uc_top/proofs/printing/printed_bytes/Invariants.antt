@@ -1,5 +1,5 @@
 use Rattle.std.proofs.Common.{◌≡◌, take}
-use Rattle.uc_meaning.specs.Texts.{printed}
+use Rattle.uc_acts.specs.Texts.{printed}
 use Rattle.uc_top.proofs.printing.printed_bytes.Given as goal
 
 abbrev pub invariant-loop-entry : goal.invariant-loop-entry

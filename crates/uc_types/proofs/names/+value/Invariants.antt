@@ -2,7 +2,7 @@ use Rattle.std.proofs.Common.{◌≡◌, ◌≤◌, ◌+◌, ◌*◌, drop}
 use Rattle.uc_tree.specs.Expressions.{links_of}
 use Rattle.uc_tree.specs.ExpressionSizes.{expr_size, link_size, links_size}
 use Rattle.uc_tree.specs.Constants.{chain_value_in}
-use Rattle.uc_meaning.specs.Scopes.{value_named}
+use Rattle.uc_rules.specs.Scopes.{value_named}
 use Rattle.uc_types.proofs.names.+value.Given as goal
 
 abbrev pub invariant-chain_value-loop-link : goal.invariant-chain_value-loop-link

@@ -1,6 +1,6 @@
 use Rattle.std.proofs.Common.{◌≡◌, drop}
 use Rattle.std.specs.List.{list_all}
-use Rattle.uc_meaning.specs.OwnerBreaks.{is_simple_field}
+use Rattle.uc_rules.specs.OwnerBreaks.{is_simple_field}
 use Rattle.uc_types.proofs.spans.are_simple.Given as goal
 
 abbrev pub invariant-loop-declarator : goal.invariant-loop-declarator

@@ -1,6 +1,6 @@
 use Rattle.std.proofs.Common.{◌≡◌, drop}
 use Rattle.std.specs.List.{list_all}
-use Rattle.uc_meaning.specs.OwnerBreaks.{form_is_simple}
+use Rattle.uc_rules.specs.OwnerBreaks.{form_is_simple}
 use Rattle.uc_types.proofs.spans.are_simple_members.Given as goal
 
 abbrev pub invariant-loop-member : goal.invariant-loop-member

@@ -1,5 +1,5 @@
 use Rattle.std.proofs.Common.{◌≡◌, drop}
-use Rattle.uc_meaning.specs.OwnerBreaks.{fields_allow}
+use Rattle.uc_rules.specs.OwnerBreaks.{fields_allow}
 use Rattle.uc_types.proofs.spans.fields_allow.Given as goal
 
 abbrev pub invariant-loop-index : goal.invariant-loop-index

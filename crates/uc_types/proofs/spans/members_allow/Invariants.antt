@@ -1,5 +1,5 @@
 use Rattle.std.proofs.Common.{◌≡◌, drop}
-use Rattle.uc_meaning.specs.OwnerBreaks.{members_allow}
+use Rattle.uc_rules.specs.OwnerBreaks.{members_allow}
 use Rattle.uc_types.proofs.spans.members_allow.Given as goal
 
 abbrev pub invariant-loop-place : goal.invariant-loop-place

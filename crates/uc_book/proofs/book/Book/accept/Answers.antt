@@ -1,10 +1,10 @@
 use Rattle.std.proofs.Common.{◌≡◌, ◌<◌, ◌^◌, ◌∙◌, ◌∷◌, [], false, refl, sym, ap, subst, length, get_or}
 use Rattle.uc_tree.specs.Programs.{Site}
-use Rattle.uc_meaning.specs.Journal.{is_ending}
-use Rattle.uc_meaning.specs.Acts.{accept_entry, admit, push}
-use Rattle.uc_meaning.specs.Doors.{no_site, site_at}
-use Rattle.uc_meaning.specs.KernelRuns.{IsAt}
-use Rattle.uc_meaning.specs.declared.request.Request.TheVariants as ask
+use Rattle.uc_acts.specs.Journal.{is_ending}
+use Rattle.uc_acts.specs.Acts.{accept_entry, admit, push}
+use Rattle.uc_acts.specs.Doors.{no_site, site_at}
+use Rattle.uc_acts.specs.KernelRuns.{IsAt}
+use Rattle.uc_entry.specs.declared.request.Request.TheVariants as ask
 use Rattle.uc_cluster.specs.Standing.{IsPlaced, IsUnready}
 use Rattle.uc_book.specs.Mirrors.{MayAct, Seen, seen, Appended, rows}
 use Rattle.uc_book.proofs.Acceptances as acceptances

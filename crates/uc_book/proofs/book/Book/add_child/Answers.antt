@@ -1,12 +1,12 @@
 use Rattle.std.proofs.Common.{◌≡◌, ◌<◌, [], sym, ◌∙◌, subst, arith}
 use Rattle.std.specs.Prelude.{pos}
 use Rattle.uc_tree.specs.declared.limits.TheConstants.{TASKS}
-use Rattle.uc_meaning.specs.Journal.{entry}
-use Rattle.uc_meaning.specs.KernelRuns.{IsAt}
-use Rattle.uc_meaning.specs.Known.{task_count, owner}
-use Rattle.uc_meaning.specs.declared.entry.EntryKind.TheVariants as kind
-use Rattle.uc_meaning.specs.declared.request.Request.TheVariants as ask
-use Rattle.uc_meaning.proofs.Moves.{one_inside}
+use Rattle.uc_acts.specs.Journal.{entry}
+use Rattle.uc_acts.specs.KernelRuns.{IsAt}
+use Rattle.uc_acts.specs.Known.{task_count, owner}
+use Rattle.uc_entry.specs.declared.entry.EntryKind.TheVariants as kind
+use Rattle.uc_entry.specs.declared.request.Request.TheVariants as ask
+use Rattle.uc_acts.proofs.Moves.{one_inside}
 use Rattle.uc_cluster.specs.Standing.{IsPlaced, IsUnready}
 use Rattle.uc_book.specs.Mirrors.{MayAct, Seen, seen}
 use Rattle.uc_book.proofs.Asks as asks

@@ -1,12 +1,12 @@
 use Rattle.std.proofs.Common.{◌≡◌, ◌<◌, ◌∙◌, ◌∷◌, [], false, sym, ap, subst, arith}
 use Rattle.std.specs.Prelude.{IfSome}
-use Rattle.uc_meaning.specs.Journal.{inside, is_over, is_ending}
-use Rattle.uc_meaning.specs.Doors.{blocked}
-use Rattle.uc_meaning.specs.Known.{object_count}
-use Rattle.uc_meaning.specs.Queues.{last_actor}
-use Rattle.uc_meaning.specs.Acts.{fault, settled}
-use Rattle.uc_meaning.specs.Sound.{At, spot}
-use Rattle.uc_meaning.specs.Stations.{Stacked}
+use Rattle.uc_acts.specs.Journal.{inside, is_over, is_ending}
+use Rattle.uc_acts.specs.Doors.{blocked}
+use Rattle.uc_acts.specs.Known.{object_count}
+use Rattle.uc_acts.specs.Queues.{last_actor}
+use Rattle.uc_acts.specs.Acts.{fault, settled}
+use Rattle.uc_acts.specs.Sound.{At, spot}
+use Rattle.uc_acts.specs.Stations.{Stacked}
 use Rattle.uc_condition.specs.Waiting.{IsFree}
 use Rattle.uc_chronicle.specs.Told.{Told}
 use Rattle.uc_chronicle.proofs.Tellings.{over_push}

@@ -1,8 +1,8 @@
 use Rattle.std.proofs.Common.{◌≡◌, ◌<◌, ◌∷◌, [], false, sym, ap, ◌∙◌, subst, arith}
-use Rattle.uc_meaning.specs.Journal.{inside, is_over, is_ending}
-use Rattle.uc_meaning.specs.Queues.{next}
-use Rattle.uc_meaning.specs.Known.{object_count}
-use Rattle.uc_meaning.specs.Acts.{fault, settled, admission}
+use Rattle.uc_acts.specs.Journal.{inside, is_over, is_ending}
+use Rattle.uc_acts.specs.Queues.{next}
+use Rattle.uc_acts.specs.Known.{object_count}
+use Rattle.uc_acts.specs.Acts.{fault, settled, admission}
 use Rattle.uc_mutex.specs.Doors.{door_at, after_next}
 use Rattle.uc_chronicle.specs.Told.{Told}
 use Rattle.uc_chronicle.proofs.Tellings.{over_push}

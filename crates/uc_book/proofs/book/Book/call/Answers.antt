@@ -1,8 +1,8 @@
 use Rattle.std.proofs.Common.{◌==◌, ◌∙◌, ◌∷◌, [], sym, ap, subst, arith, length-set}
-use Rattle.uc_meaning.specs.Journal.{is_ending}
-use Rattle.uc_meaning.specs.Acts.{admit, fault, push}
-use Rattle.uc_meaning.specs.KernelRuns.{IsOutside}
-use Rattle.uc_meaning.specs.declared.request.Request.TheVariants as ask
+use Rattle.uc_acts.specs.Journal.{is_ending}
+use Rattle.uc_acts.specs.Acts.{admit, fault, push}
+use Rattle.uc_acts.specs.KernelRuns.{IsOutside}
+use Rattle.uc_entry.specs.declared.request.Request.TheVariants as ask
 use Rattle.uc_cluster.specs.Standing.{IsPlaced, IsUnready}
 use Rattle.uc_book.specs.Mirrors.{MayAct, Seen, seen, Appended, rows}
 use Rattle.uc_book.proofs.Asks as asks

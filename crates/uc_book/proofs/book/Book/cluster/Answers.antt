@@ -1,9 +1,9 @@
 use Rattle.std.proofs.Common.{◌≡◌, [], sym, ap, ◌∙◌, subst, length}
 use Rattle.std.specs.Prelude.{pos}
 use Rattle.uc_tree.specs.declared.limits.TheConstants.{CLUSTERS}
-use Rattle.uc_meaning.specs.Journal.{entry, is_over, is_ending}
-use Rattle.uc_meaning.specs.declared.entry.EntryKind.TheVariants as kind
-use Rattle.uc_meaning.specs.declared.request.Request.TheVariants as ask
+use Rattle.uc_acts.specs.Journal.{entry, is_over, is_ending}
+use Rattle.uc_entry.specs.declared.entry.EntryKind.TheVariants as kind
+use Rattle.uc_entry.specs.declared.request.Request.TheVariants as ask
 use Rattle.uc_cluster.specs.Standing.{with_cluster}
 use Rattle.uc_chronicle.specs.Told.{Told}
 use Rattle.uc_chronicle.proofs.Tellings.{over_push}

@@ -1,8 +1,8 @@
 use Rattle.std.proofs.Common.{◌≡◌, ◌≤◌, ◌<◌, ◌+◌, ◌∷◌, [], refl, sym, ap, ◌∙◌, subst, arith, length}
-use Rattle.uc_meaning.specs.Journal.{is_over, is_ending}
-use Rattle.uc_meaning.specs.KernelRuns.{gives}
-use Rattle.uc_meaning.specs.Acts.{dispatch, lone_limit}
-use Rattle.uc_meaning.proofs.Law.{lawful_may}
+use Rattle.uc_acts.specs.Journal.{is_over, is_ending}
+use Rattle.uc_acts.specs.KernelRuns.{gives}
+use Rattle.uc_acts.specs.Acts.{dispatch, lone_limit}
+use Rattle.uc_acts.proofs.Law.{lawful_may}
 use Rattle.uc_cluster.specs.Standing.{started}
 use Rattle.uc_chronicle.specs.Told.{Told}
 use Rattle.uc_chronicle.proofs.Tellings.{over_push}

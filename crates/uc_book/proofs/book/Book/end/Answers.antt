@@ -1,13 +1,13 @@
 use Rattle.std.proofs.Common.{◌∷◌, [], refl, subst, ap, ◌∙◌}
 use Rattle.std.specs.Prelude.{pos}
-use Rattle.uc_meaning.specs.declared.entry.Entry.{Entry}
-use Rattle.uc_meaning.specs.declared.entry.EntryKind.TheVariants as kind
-use Rattle.uc_meaning.specs.declared.request.Request.TheVariants as ask
-use Rattle.uc_meaning.specs.Acts.{fault, settled, admission}
-use Rattle.uc_meaning.specs.Queues.{next}
-use Rattle.uc_meaning.specs.Journal.{entry, own_object}
-use Rattle.uc_meaning.proofs.Moves.{spot_moves}
-use Rattle.uc_meaning.proofs.Sound.{self_test}
+use Rattle.uc_entry.specs.declared.entry.Entry.{Entry}
+use Rattle.uc_entry.specs.declared.entry.EntryKind.TheVariants as kind
+use Rattle.uc_entry.specs.declared.request.Request.TheVariants as ask
+use Rattle.uc_acts.specs.Acts.{fault, settled, admission}
+use Rattle.uc_acts.specs.Queues.{next}
+use Rattle.uc_acts.specs.Journal.{entry, own_object}
+use Rattle.uc_acts.proofs.Moves.{spot_moves}
+use Rattle.uc_acts.proofs.Sound.{self_test}
 use Rattle.uc_book.specs.Mirrors.{Appended}
 use Rattle.uc_book.proofs.Asks as asks
 use Rattle.uc_book.proofs.book.Book.end.Goals as goal

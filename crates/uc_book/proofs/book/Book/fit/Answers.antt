@@ -1,5 +1,5 @@
 use Rattle.std.proofs.Common.{take, sym, ap, ◌∙◌}
-use Rattle.uc_meaning.specs.Journal.{is_over, is_ending}
+use Rattle.uc_acts.specs.Journal.{is_over, is_ending}
 use Rattle.uc_chronicle.specs.Told.{Told}
 use Rattle.uc_chronicle.proofs.Tellings.{over_push}
 use Rattle.uc_book.proofs.book.Book.fit.Goals as goal

@@ -1,6 +1,6 @@
 use Rattle.std.proofs.Common.{◌<◌, ◌∙◌, sym, ap, subst}
-use Rattle.uc_meaning.specs.Doors.{has_others}
-use Rattle.uc_meaning.specs.Known.{object_count}
+use Rattle.uc_acts.specs.Doors.{has_others}
+use Rattle.uc_acts.specs.Known.{object_count}
 use Rattle.uc_book.specs.Mirrors.{MayAct, Seen}
 use Rattle.uc_book.proofs.Letting as letting
 use Rattle.uc_book.proofs.book.Book.has_others.Goals as goal

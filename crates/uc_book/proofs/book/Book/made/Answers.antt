@@ -1,10 +1,10 @@
 use Rattle.std.proofs.Common.{◌∷◌, [], refl, subst}
 use Rattle.std.specs.Prelude.{pos}
-use Rattle.uc_meaning.specs.declared.entry.Entry.{Entry}
-use Rattle.uc_meaning.specs.declared.entry.EntryKind.TheVariants as kind
-use Rattle.uc_meaning.specs.declared.request.Request.TheVariants as ask
-use Rattle.uc_meaning.specs.Acts.{fault}
-use Rattle.uc_meaning.specs.Journal.{entry}
+use Rattle.uc_entry.specs.declared.entry.Entry.{Entry}
+use Rattle.uc_entry.specs.declared.entry.EntryKind.TheVariants as kind
+use Rattle.uc_entry.specs.declared.request.Request.TheVariants as ask
+use Rattle.uc_acts.specs.Acts.{fault}
+use Rattle.uc_acts.specs.Journal.{entry}
 use Rattle.uc_book.specs.Mirrors.{Appended}
 use Rattle.uc_book.proofs.Asks as asks
 use Rattle.uc_book.proofs.book.Book.made.Goals as goal

@@ -2,10 +2,10 @@ use Rattle.std.proofs.Common.{◌≡◌, ◌≤◌, ◌<◌, ◌+◌, ◌∷◌,
 use Rattle.std.specs.Prelude.{pos, max}
 use Rattle.std.proofs.Math.Nat.{le-max_right}
 use Rattle.uc_tree.specs.declared.limits.TheConstants.{TASKS, OBJECTS}
-use Rattle.uc_meaning.specs.Journal.{entry}
-use Rattle.uc_meaning.specs.Known.{object_count}
-use Rattle.uc_meaning.specs.declared.entry.EntryKind.TheVariants as kind
-use Rattle.uc_meaning.specs.declared.request.Request.TheVariants as ask
+use Rattle.uc_acts.specs.Journal.{entry}
+use Rattle.uc_acts.specs.Known.{object_count}
+use Rattle.uc_entry.specs.declared.entry.EntryKind.TheVariants as kind
+use Rattle.uc_entry.specs.declared.request.Request.TheVariants as ask
 use Rattle.uc_book.specs.Mirrors.{MayAct, Seen, seen}
 use Rattle.uc_book.proofs.Asks as asks
 use Rattle.uc_book.proofs.Steps as steps

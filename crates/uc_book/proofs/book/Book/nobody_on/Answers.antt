@@ -1,5 +1,5 @@
 use Rattle.std.proofs.Common.{◌∙◌, sym}
-use Rattle.uc_meaning.specs.Doors.{blocked}
+use Rattle.uc_acts.specs.Doors.{blocked}
 use Rattle.uc_book.proofs.Asks as asks
 use Rattle.uc_book.proofs.book.Book.nobody_on.Goals as goal
 

@@ -1,6 +1,6 @@
 use Rattle.std.proofs.Common.{◌≡◌, ◌<◌, ◌∙◌, false, sym, ap, subst}
-use Rattle.uc_meaning.specs.Journal.{first_or_0, is_over}
-use Rattle.uc_meaning.specs.Known.{object_count, owner}
+use Rattle.uc_acts.specs.Journal.{first_or_0, is_over}
+use Rattle.uc_acts.specs.Known.{object_count, owner}
 use Rattle.uc_book.specs.Mirrors.{Seen}
 use Rattle.uc_book.proofs.Raising as raising
 use Rattle.uc_book.proofs.book.Book.owner_of.Goals as goal

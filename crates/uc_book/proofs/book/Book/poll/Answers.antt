@@ -1,9 +1,9 @@
 use Rattle.std.proofs.Common.{◌≡◌, ◌∙◌, ◌∷◌, [], sym, ap, subst, rules}
-use Rattle.uc_meaning.specs.Acts.{fault, poll_entry}
-use Rattle.uc_meaning.specs.Pending.{pending, oldest_in}
-use Rattle.uc_meaning.specs.Legal.{Legal}
-use Rattle.uc_meaning.specs.declared.entry.Entry.{Entry}
-use Rattle.uc_meaning.specs.declared.request.Request.TheVariants as ask
+use Rattle.uc_acts.specs.Acts.{fault, poll_entry}
+use Rattle.uc_acts.specs.Pending.{pending, oldest_in}
+use Rattle.uc_acts.specs.Legal.{Legal}
+use Rattle.uc_entry.specs.declared.entry.Entry.{Entry}
+use Rattle.uc_entry.specs.declared.request.Request.TheVariants as ask
 use Rattle.uc_events.specs.Pending.{pending_at}
 use Rattle.uc_chronicle.specs.Saying.{IsSayable}
 use Rattle.uc_book.specs.Mirrors.{MayAct, Seen, Appended, seen, rows, is_still}

@@ -1,10 +1,10 @@
 use Rattle.std.proofs.Common.{◌≡◌, ◌<◌, [], sym, ap, ◌∙◌, subst, length}
 use Rattle.std.specs.Prelude.{pos}
 use Rattle.uc_tree.specs.declared.limits.TheConstants.{PROCESSORS}
-use Rattle.uc_meaning.specs.Journal.{entry, is_over, is_ending}
-use Rattle.uc_meaning.specs.Queues.{cluster_count}
-use Rattle.uc_meaning.specs.declared.entry.EntryKind.TheVariants as kind
-use Rattle.uc_meaning.specs.declared.request.Request.TheVariants as ask
+use Rattle.uc_acts.specs.Journal.{entry, is_over, is_ending}
+use Rattle.uc_acts.specs.Queues.{cluster_count}
+use Rattle.uc_entry.specs.declared.entry.EntryKind.TheVariants as kind
+use Rattle.uc_entry.specs.declared.request.Request.TheVariants as ask
 use Rattle.uc_cluster.specs.Standing.{one_more_processor}
 use Rattle.uc_chronicle.specs.Told.{Told}
 use Rattle.uc_chronicle.proofs.Tellings.{over_push}

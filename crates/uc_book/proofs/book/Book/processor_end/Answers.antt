@@ -1,9 +1,9 @@
 use Rattle.std.proofs.Common.{◌<◌, ◌∷◌, [], refl, sym, ap, ◌∙◌, subst, length}
 use Rattle.std.specs.Prelude.{pos}
-use Rattle.uc_meaning.specs.Journal.{entry}
-use Rattle.uc_meaning.specs.Queues.{processor_count}
-use Rattle.uc_meaning.specs.declared.entry.EntryKind.TheVariants as kind
-use Rattle.uc_meaning.specs.declared.request.Request.TheVariants as ask
+use Rattle.uc_acts.specs.Journal.{entry}
+use Rattle.uc_acts.specs.Queues.{processor_count}
+use Rattle.uc_entry.specs.declared.entry.EntryKind.TheVariants as kind
+use Rattle.uc_entry.specs.declared.request.Request.TheVariants as ask
 use Rattle.uc_book.specs.Mirrors.{MayAct, Seen, Appended, seen, rows}
 use Rattle.uc_book.proofs.Asks as asks
 use Rattle.uc_book.proofs.Steps as steps

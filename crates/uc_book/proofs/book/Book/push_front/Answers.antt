@@ -1,8 +1,8 @@
 use Rattle.std.proofs.Common.{◌≡◌, ◌<◌, ◌∙◌, ◌∷◌, [], false, sym, ap, subst}
 use Rattle.std.specs.Prelude.{IfSome}
-use Rattle.uc_meaning.specs.Journal.{is_over}
-use Rattle.uc_meaning.specs.Doors.{blocked, open_at}
-use Rattle.uc_meaning.specs.Known.{object_count}
+use Rattle.uc_acts.specs.Journal.{is_over}
+use Rattle.uc_acts.specs.Doors.{blocked, open_at}
+use Rattle.uc_acts.specs.Known.{object_count}
 use Rattle.uc_condition.specs.Waiting.{IsFree}
 use Rattle.uc_book.specs.Mirrors.{Seen, seen, Appended}
 use Rattle.uc_book.specs.Waiters.{front_pushed}

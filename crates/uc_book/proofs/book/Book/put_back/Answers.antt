@@ -1,5 +1,5 @@
 use Rattle.std.proofs.Common.{◌≡◌, ◌∷◌, [], sym, subst}
-use Rattle.uc_meaning.specs.Queues.{running}
+use Rattle.uc_acts.specs.Queues.{running}
 use Rattle.uc_cluster.specs.Standing.{IsPlaced, IsUnready}
 use Rattle.uc_book.specs.Mirrors.{CanPut, Seen}
 use Rattle.uc_book.proofs.Steps as steps

@@ -1,6 +1,6 @@
 use Rattle.std.proofs.Common.{◌≡◌, ◌<◌, ◌∷◌, [], sym, subst}
-use Rattle.uc_meaning.specs.Journal.{inside}
-use Rattle.uc_meaning.specs.Known.{object_count}
+use Rattle.uc_acts.specs.Journal.{inside}
+use Rattle.uc_acts.specs.Known.{object_count}
 use Rattle.uc_book.specs.Mirrors.{CanPut, Seen}
 use Rattle.uc_book.proofs.Steps as steps
 use Rattle.uc_book.proofs.book.Book.put_out.Goals as goal

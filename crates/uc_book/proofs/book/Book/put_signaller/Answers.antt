@@ -1,9 +1,9 @@
 use Rattle.std.proofs.Common.{◌≡◌, ◌<◌, ◌∷◌, [], sym, subst}
 use Rattle.std.specs.Prelude.{pos}
-use Rattle.uc_meaning.specs.Journal.{entry, inside}
-use Rattle.uc_meaning.specs.Queues.{running}
-use Rattle.uc_meaning.specs.Known.{object_count}
-use Rattle.uc_meaning.specs.declared.entry.EntryKind.TheVariants as kind
+use Rattle.uc_acts.specs.Journal.{entry, inside}
+use Rattle.uc_acts.specs.Queues.{running}
+use Rattle.uc_acts.specs.Known.{object_count}
+use Rattle.uc_entry.specs.declared.entry.EntryKind.TheVariants as kind
 use Rattle.uc_book.specs.Mirrors.{CanPut, Seen}
 use Rattle.uc_book.proofs.Blocking as blocking
 use Rattle.uc_book.proofs.Fronts as fronts

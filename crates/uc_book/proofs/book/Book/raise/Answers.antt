@@ -1,8 +1,8 @@
 use Rattle.std.proofs.Common.{◌≡◌, ◌<◌, ◌∙◌, ◌∷◌, [], sym, ap, subst, length, to_z, of_z, w64, rules}
-use Rattle.uc_meaning.specs.Acts.{fault, raise_entry, row, settled}
-use Rattle.uc_meaning.specs.Journal.{first_or_0, is_ending}
-use Rattle.uc_meaning.specs.Known.{object_count, owner}
-use Rattle.uc_meaning.specs.declared.request.Request.TheVariants as ask
+use Rattle.uc_acts.specs.Acts.{fault, raise_entry, row, settled}
+use Rattle.uc_acts.specs.Journal.{first_or_0, is_ending}
+use Rattle.uc_acts.specs.Known.{object_count, owner}
+use Rattle.uc_entry.specs.declared.request.Request.TheVariants as ask
 use Rattle.uc_book.specs.Mirrors.{MayAct, Seen, Appended, seen, rows}
 use Rattle.uc_book.proofs.Asks as asks
 use Rattle.uc_book.proofs.Raising as raising

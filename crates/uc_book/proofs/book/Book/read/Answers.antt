@@ -1,7 +1,7 @@
 use Rattle.std.proofs.Common.{refl}
-use Rattle.uc_meaning.specs.Acts.{read_entry}
-use Rattle.uc_meaning.specs.Reading.{next_read, bytes_used}
-use Rattle.uc_meaning.specs.declared.request.Request.TheVariants as ask
+use Rattle.uc_acts.specs.Acts.{read_entry}
+use Rattle.uc_acts.specs.Reading.{next_read, bytes_used}
+use Rattle.uc_entry.specs.declared.request.Request.TheVariants as ask
 use Rattle.uc_book.proofs.Asks as asks
 use Rattle.uc_book.proofs.book.Book.read.Goals as goal
 

@@ -1,12 +1,12 @@
 use Rattle.std.proofs.Common.{◌≡◌, ◌∙◌, true, false, refl, sym, subst}
 use Rattle.std.specs.Prelude.{pos}
-use Rattle.uc_meaning.specs.Acts.{fault, settled}
-use Rattle.uc_meaning.specs.Doors.{blocked}
-use Rattle.uc_meaning.specs.Journal.{entry}
-use Rattle.uc_meaning.specs.Queues.{is_nobody}
-use Rattle.uc_meaning.specs.declared.entry.EntryKind.TheVariants as kind
-use Rattle.uc_meaning.specs.declared.request.Request.TheVariants as ask
-use Rattle.uc_meaning.proofs.Moves.{one_inside}
+use Rattle.uc_acts.specs.Acts.{fault, settled}
+use Rattle.uc_acts.specs.Doors.{blocked}
+use Rattle.uc_acts.specs.Journal.{entry}
+use Rattle.uc_acts.specs.Queues.{is_nobody}
+use Rattle.uc_entry.specs.declared.entry.EntryKind.TheVariants as kind
+use Rattle.uc_entry.specs.declared.request.Request.TheVariants as ask
+use Rattle.uc_acts.proofs.Moves.{one_inside}
 use Rattle.uc_book.specs.Mirrors.{Appended}
 use Rattle.uc_book.proofs.Asks as asks
 use Rattle.uc_book.proofs.Seconds as seconds

@@ -1,5 +1,5 @@
 use Rattle.std.proofs.Common.{◌≡◌, ap, ◌∙◌, length}
-use Rattle.uc_meaning.specs.declared.request.Request.TheVariants as ask
+use Rattle.uc_entry.specs.declared.request.Request.TheVariants as ask
 use Rattle.uc_book.specs.Mirrors.{Seen}
 use Rattle.uc_book.proofs.Endings as endings
 use Rattle.uc_book.proofs.book.Book.spawn.Goals as goal

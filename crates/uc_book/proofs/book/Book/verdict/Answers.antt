@@ -1,9 +1,9 @@
 use Rattle.std.proofs.Common.{◌≡◌, false, cond, Some, None, sym, ap, ◌∙◌, subst}
 use Rattle.std.specs.Prelude.{nat_le}
-use Rattle.uc_meaning.specs.declared.entry.EntryKind.TheVariants as kind
-use Rattle.uc_meaning.specs.Journal.{is_over}
-use Rattle.uc_meaning.specs.Queues.{first_ended, all_ticks}
-use Rattle.uc_meaning.specs.Acts.{verdict}
+use Rattle.uc_entry.specs.declared.entry.EntryKind.TheVariants as kind
+use Rattle.uc_acts.specs.Journal.{is_over}
+use Rattle.uc_acts.specs.Queues.{first_ended, all_ticks}
+use Rattle.uc_acts.specs.Acts.{verdict}
 use Rattle.uc_cluster.specs.declared.clusters.Stalled.TheVariants as stalled
 use Rattle.uc_cluster.proofs.Asked.{stalled as stalled_law}
 use Rattle.uc_book.specs.Mirrors.{Seen, seen}

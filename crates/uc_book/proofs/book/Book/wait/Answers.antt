@@ -1,13 +1,13 @@
 use Rattle.std.proofs.Common.{◌≡◌, ◌∷◌, [], refl, subst, to_z, of_z, w64, rules}
 use Rattle.std.specs.Prelude.{pos}
-use Rattle.uc_meaning.specs.declared.entry.EntryKind.TheVariants as kind
-use Rattle.uc_meaning.specs.declared.request.Request.TheVariants as ask
-use Rattle.uc_meaning.specs.Acts.{fault}
-use Rattle.uc_meaning.specs.Journal.{entry}
-use Rattle.uc_meaning.specs.Sound.{At}
-use Rattle.uc_meaning.specs.Stations.{Blocked}
-use Rattle.uc_meaning.proofs.Moves.{spot_moves}
-use Rattle.uc_meaning.proofs.Sound.{self_test}
+use Rattle.uc_entry.specs.declared.entry.EntryKind.TheVariants as kind
+use Rattle.uc_entry.specs.declared.request.Request.TheVariants as ask
+use Rattle.uc_acts.specs.Acts.{fault}
+use Rattle.uc_acts.specs.Journal.{entry}
+use Rattle.uc_acts.specs.Sound.{At}
+use Rattle.uc_acts.specs.Stations.{Blocked}
+use Rattle.uc_acts.proofs.Moves.{spot_moves}
+use Rattle.uc_acts.proofs.Sound.{self_test}
 use Rattle.uc_book.specs.Mirrors.{Appended}
 use Rattle.uc_book.proofs.Asks as asks
 use Rattle.uc_book.proofs.book.Book.wait.Goals as goal

@@ -1,8 +1,8 @@
 use Rattle.std.proofs.Common.{refl, []}
 use Rattle.std.specs.Prelude.{pos}
-use Rattle.uc_meaning.specs.Journal.{entry}
-use Rattle.uc_meaning.specs.declared.entry.EntryKind.TheVariants as kind
-use Rattle.uc_meaning.specs.declared.request.Request.TheVariants as ask
+use Rattle.uc_acts.specs.Journal.{entry}
+use Rattle.uc_entry.specs.declared.entry.EntryKind.TheVariants as kind
+use Rattle.uc_entry.specs.declared.request.Request.TheVariants as ask
 use Rattle.uc_book.proofs.Asks as asks
 use Rattle.uc_book.proofs.book.Book.yields.Goals as goal
 

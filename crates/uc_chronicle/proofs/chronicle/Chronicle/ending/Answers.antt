@@ -1,5 +1,5 @@
 use Rattle.std.proofs.Common.{◌≡◌, ◌+◌, ◌-◌, sym, ap, ◌∙◌, arith, length}
-use Rattle.uc_meaning.specs.Journal.{is_over, is_ending}
+use Rattle.uc_acts.specs.Journal.{is_over, is_ending}
 use Rattle.uc_chronicle.specs.Told.{Told, last_kind}
 use Rattle.uc_chronicle.proofs.Tellings as tellings
 use Rattle.uc_chronicle.proofs.chronicle.Chronicle.ending.Goals as goal

@@ -1,7 +1,7 @@
 use Rattle.std.proofs.Common.{◌∙◌, length-set, None, Some, rules}
 use Rattle.std.proofs.lemmas.List.{length-replicate}
 use Rattle.std.specs.Prelude.{replicate}
-use Rattle.uc_meaning.specs.declared.request.Answer.TheVariants as answer
+use Rattle.uc_entry.specs.declared.request.Answer.TheVariants as answer
 use Rattle.uc_chronicle.proofs.Tellings as tellings
 use Rattle.uc_chronicle.proofs.chronicle.Chronicle.new.Goals as goal
 

@@ -1,6 +1,6 @@
 use Rattle.std.proofs.Common.{◌≡◌, ◌<◌, ◌∷◌, [], false, sym, ap, ◌∙◌, subst, arith, length, length-set, rules}
 use Rattle.std.proofs.lemmas.List.{length-append}
-use Rattle.uc_meaning.specs.Journal.{is_over}
+use Rattle.uc_acts.specs.Journal.{is_over}
 use Rattle.uc_chronicle.specs.Saying.{IsSayable}
 use Rattle.uc_chronicle.specs.Told.{Told}
 use Rattle.uc_chronicle.proofs.Tellings as tellings

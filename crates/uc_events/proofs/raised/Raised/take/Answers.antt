@@ -1,5 +1,5 @@
 use Rattle.std.proofs.Common.{◌≡◌, true, sym, ◌∙◌, arith}
-use Rattle.uc_meaning.specs.Pending.{has_bit}
+use Rattle.uc_tree.specs.SiteOffers.{has_bit}
 use Rattle.uc_events.proofs.Takes.{chosen, oldest_here, others_here, nowhere, all_others}
 use Rattle.uc_events.proofs.raised.Raised.take.Goals as goal
 

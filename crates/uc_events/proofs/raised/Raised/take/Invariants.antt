@@ -1,5 +1,5 @@
 use Rattle.std.proofs.Common.{◌≡◌, take, drop, ◌++◌}
-use Rattle.uc_meaning.specs.Pending.{oldest_in}
+use Rattle.uc_acts.specs.Pending.{oldest_in}
 use Rattle.uc_events.specs.Pending.{without_oldest}
 use Rattle.uc_events.proofs.raised.Raised.take.Given as goal
 

@@ -1,4 +1,4 @@
-use Rattle.uc_meaning.specs.Executions.{frame_changed}
+use Rattle.uc_machine.specs.Executions.{frame_changed}
 use Rattle.uc_frames.specs.Machine.{cell_written}
 use Rattle.uc_frames.proofs.Slots.{frames_none, frames_there}
 use Rattle.uc_frames.proofs.Ascending.{ascends_set}

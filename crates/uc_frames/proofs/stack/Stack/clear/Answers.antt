@@ -1,5 +1,5 @@
 use Rattle.std.proofs.Common.{ℕ, ap, reverse, List}
-use Rattle.uc_meaning.specs.Executions.{Execution, values_cleared}
+use Rattle.uc_machine.specs.Executions.{Execution, values_cleared}
 use Rattle.uc_frames.specs.declared.cell.Cell.{Cell}
 use Rattle.uc_frames.specs.Machine.{nought}
 use Rattle.uc_frames.proofs.Depths.{change_view}

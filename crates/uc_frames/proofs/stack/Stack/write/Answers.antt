@@ -1,5 +1,5 @@
 use Rattle.std.proofs.Common.{ℕ, ap, reverse, List}
-use Rattle.uc_meaning.specs.Executions.{Execution}
+use Rattle.uc_machine.specs.Executions.{Execution}
 use Rattle.uc_frames.specs.declared.cell.Cell.{Cell}
 use Rattle.uc_frames.specs.Machine.{cell_written}
 use Rattle.uc_frames.proofs.Depths.{change_view}

@@ -1,5 +1,5 @@
 use Rattle.std.proofs.Common.{subst, ℕ}
-use Rattle.uc_meaning.specs.Switches.{one_more}
+use Rattle.uc_machine.specs.Switches.{one_more}
 use Rattle.uc_frames.specs.Numbered.{IsAt}
 use Rattle.uc_frames.proofs.Slots.{hand_there}
 use Rattle.uc_frames.proofs.work.Work.add.Goals as goal

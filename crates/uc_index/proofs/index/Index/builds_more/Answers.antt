@@ -1,7 +1,7 @@
 use Rattle.std.proofs.Common.{◌≡◌, ap, ◌∙◌}
 use Rattle.std.specs.List.{list_any}
 use Rattle.uc_names.specs.Blocks.{found}
-use Rattle.uc_meaning.specs.ClassBreaks.{builds_more}
+use Rattle.uc_rules.specs.ClassBreaks.{builds_more}
 use Rattle.uc_index.specs.Topics.{built_class}
 use Rattle.uc_index.proofs.Askings.{builders_named}
 use Rattle.uc_index.proofs.FirstsLemmas.{is_anywhere}

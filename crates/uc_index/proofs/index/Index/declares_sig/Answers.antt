@@ -1,7 +1,7 @@
 use Rattle.std.proofs.Common.{◌≡◌, ap, ◌∙◌}
 use Rattle.std.specs.List.{list_any}
 use Rattle.uc_names.specs.Blocks.{found}
-use Rattle.uc_meaning.specs.ItemBreaks.{declares_sig}
+use Rattle.uc_rules.specs.ItemBreaks.{declares_sig}
 use Rattle.uc_index.specs.Keys.{sig_key}
 use Rattle.uc_index.specs.Topics.{proto_key}
 use Rattle.uc_index.proofs.Askings.{protos_keyed}

@@ -1,7 +1,7 @@
 use Rattle.std.proofs.Common.{◌≡◌, take, ap, ◌∙◌}
 use Rattle.std.specs.List.{list_any}
 use Rattle.uc_names.specs.Blocks.{found}
-use Rattle.uc_meaning.specs.ItemBreaks.{defines_member}
+use Rattle.uc_rules.specs.ItemBreaks.{defines_member}
 use Rattle.uc_index.specs.Keys.{member_key}
 use Rattle.uc_index.specs.Topics.{member_of}
 use Rattle.uc_index.proofs.Askings.{members_keyed}

@@ -1,7 +1,7 @@
 use Rattle.std.proofs.Common.{◌≡◌, ap, ◌∙◌}
 use Rattle.std.specs.List.{list_any}
 use Rattle.uc_names.specs.Blocks.{found}
-use Rattle.uc_meaning.specs.ItemBreaks.{defines_member_sig}
+use Rattle.uc_rules.specs.ItemBreaks.{defines_member_sig}
 use Rattle.uc_index.specs.Keys.{member_sig_key}
 use Rattle.uc_index.specs.Topics.{member_sig_of}
 use Rattle.uc_index.proofs.Askings.{member_sigs_keyed}

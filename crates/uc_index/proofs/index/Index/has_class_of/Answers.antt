@@ -1,7 +1,7 @@
 use Rattle.std.proofs.Common.{◌≡◌, ap, ◌∙◌}
 use Rattle.std.specs.List.{list_any}
 use Rattle.uc_names.specs.Blocks.{found}
-use Rattle.uc_meaning.specs.ItemBreaks.{is_class_of}
+use Rattle.uc_rules.specs.ItemBreaks.{is_class_of}
 use Rattle.uc_index.specs.Keys.{kind_key}
 use Rattle.uc_index.specs.Topics.{class_key}
 use Rattle.uc_index.proofs.Askings.{classes_keyed}

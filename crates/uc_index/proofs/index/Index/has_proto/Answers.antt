@@ -1,7 +1,7 @@
 use Rattle.std.proofs.Common.{◌≡◌, ap, ◌∙◌}
 use Rattle.std.specs.List.{list_any}
 use Rattle.uc_names.specs.Blocks.{found}
-use Rattle.uc_meaning.specs.ItemBreaks.{is_named_proto}
+use Rattle.uc_rules.specs.ItemBreaks.{is_named_proto}
 use Rattle.uc_index.specs.Topics.{proto_name}
 use Rattle.uc_index.proofs.Askings.{protos_named}
 use Rattle.uc_index.proofs.FirstsLemmas.{is_anywhere}

@@ -1,7 +1,7 @@
 use Rattle.std.proofs.Common.{◌≡◌, refl, take, ap, ◌∙◌}
 use Rattle.std.specs.List.{list_any}
 use Rattle.uc_names.specs.Blocks.{found}
-use Rattle.uc_meaning.specs.ItemBreaks.{is_named}
+use Rattle.uc_rules.specs.ItemBreaks.{is_named}
 use Rattle.uc_index.specs.Topics.{routine_name}
 use Rattle.uc_index.proofs.FirstsLemmas.{is_among}
 use Rattle.uc_index.proofs.index.Index.has_routine.Goals as goal

@@ -1,7 +1,7 @@
 use Rattle.std.proofs.Common.{ap, ◌∙◌}
 use Rattle.std.specs.Prelude.{slice_get}
-use Rattle.uc_meaning.specs.ProgramVisits.{mark_in}
-use Rattle.uc_meaning.specs.Sorts.{class_at}
+use Rattle.uc_rules.specs.ProgramVisits.{mark_in}
+use Rattle.uc_rules.specs.Sorts.{class_at}
 use Rattle.uc_index.proofs.index.Index.mark_in.Goals as goal
 
 pub returns : goal.returns

@@ -1,6 +1,6 @@
 use Rattle.std.proofs.Common.{◌≡◌, ap, ◌∙◌}
 use Rattle.uc_names.specs.Blocks.{found}
-use Rattle.uc_meaning.specs.ProgramVisits.{mark_among}
+use Rattle.uc_rules.specs.ProgramVisits.{mark_among}
 use Rattle.uc_index.specs.Keys.{role_key}
 use Rattle.uc_index.specs.Marked.{mark_at}
 use Rattle.uc_index.proofs.Marks.{mark_found}

@@ -1,6 +1,6 @@
 use Rattle.std.proofs.Common.{sym, ap, ◌∙◌, subst, arith}
-use Rattle.uc_meaning.specs.Journal.{is_over}
-use Rattle.uc_meaning.specs.KernelRuns.{KernelRuns}
+use Rattle.uc_acts.specs.Journal.{is_over}
+use Rattle.uc_acts.specs.KernelRuns.{KernelRuns}
 use Rattle.uc_kernel.specs.Kept.{Store}
 use Rattle.uc_kernel.specs.Calls.{EndsRun}
 use Rattle.uc_kernel.proofs.Lasts.{ends_at}

@@ -1,5 +1,5 @@
 use Rattle.std.proofs.Common.{sym, ap, ◌∙◌, subst}
-use Rattle.uc_meaning.specs.KernelRuns.{MayAsk}
+use Rattle.uc_acts.specs.KernelRuns.{MayAsk}
 use Rattle.uc_kernel.specs.Kept.{Store, kept, stored}
 use Rattle.uc_kernel.specs.Calls.{Acted}
 use Rattle.uc_kernel.specs.Shelves.{IsKept}

@@ -1,5 +1,5 @@
 use Rattle.std.proofs.Common.{sym, ◌∙◌, subst}
-use Rattle.uc_meaning.specs.KernelRuns.{IsAt}
+use Rattle.uc_acts.specs.KernelRuns.{IsAt}
 use Rattle.uc_kernel_rows.proofs.Fitting.{own_is}
 use Rattle.uc_kernel_rows.proofs.watch.Watch.may_end.Goals as goal
 

@@ -1,5 +1,5 @@
 use Rattle.std.proofs.Common.{◌≡◌, drop}
-use Rattle.uc_meaning.specs.Journal.{first_or_0}
+use Rattle.uc_acts.specs.Journal.{first_or_0}
 use Rattle.uc_kernel_rows.specs.Watched.{objects_of}
 use Rattle.uc_kernel_rows.proofs.watch.Watch.own_object.Given as goal
 

@@ -1,7 +1,7 @@
 use Rattle.std.proofs.Common.{ap, sym, ◌∙◌}
 use Rattle.uc_tree.specs.Cells.{classes_of}
 use Rattle.uc_tree.specs.Numbering.{event_names}
-use Rattle.uc_tree.specs.Resolve.{number_of_event}
+use Rattle.uc_resolve.specs.Resolve.{number_of_event}
 use Rattle.uc_lower_expr.proofs.Eventful.{event_is, unhandled_is}
 use Rattle.uc_lower_expr.proofs.program_names.ProgramNames.event.Goals as goal
 

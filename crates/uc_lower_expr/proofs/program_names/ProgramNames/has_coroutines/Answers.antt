@@ -1,6 +1,6 @@
 use Rattle.std.proofs.Common.{Option, ℕ, ap, sym, ◌∙◌}
 use Rattle.uc_tree.specs.Objects.{class_at}
-use Rattle.uc_tree.specs.Resolve.{class_by, has_coroutines}
+use Rattle.uc_resolve.specs.Resolve.{class_by, has_coroutines}
 use Rattle.uc_lower_expr.proofs.program_names.ProgramNames.has_coroutines.Goals as goal
 
 pub returns-in-Some : goal.returns-in-Some

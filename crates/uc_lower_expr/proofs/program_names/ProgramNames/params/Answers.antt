@@ -3,7 +3,7 @@ use Rattle.std.specs.Prelude.{slice_get, option_map}
 use Rattle.std.proofs.lemmas.Option.{slice_get-map}
 use Rattle.uc_tree.specs.declared.class.Routine.{Routine as Held}
 use Rattle.uc_tree.specs.Programs.{Sig, Routine}
-use Rattle.uc_tree.specs.Resolve.{params_of}
+use Rattle.uc_resolve.specs.Resolve.{params_of}
 use Rattle.uc_lower_expr.proofs.Numbers.{params_at, no_params_at}
 use Rattle.uc_lower_expr.proofs.program_names.ProgramNames.params.Goals as goal
 

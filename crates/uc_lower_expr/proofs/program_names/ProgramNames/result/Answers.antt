@@ -3,8 +3,8 @@ use Rattle.std.specs.Prelude.{slice_get, option_map}
 use Rattle.std.proofs.lemmas.Option.{slice_get-map}
 use Rattle.uc_tree.specs.declared.class.Routine.{Routine as Held}
 use Rattle.uc_tree.specs.Programs.{Sig, Routine}
-use Rattle.uc_tree.specs.Objects.{plain_class}
-use Rattle.uc_tree.specs.Resolve.{event_place, result_of}
+use Rattle.uc_tree.specs.Objects.{plain_class, event_place}
+use Rattle.uc_resolve.specs.Resolve.{result_of}
 use Rattle.uc_lower_expr.proofs.Numbers.{result_at, no_result_at}
 use Rattle.uc_lower_expr.proofs.Knowing.{result_told, result_none}
 use Rattle.uc_lower_expr.proofs.program_names.ProgramNames.result.Goals as goal

@@ -1,5 +1,5 @@
 use Rattle.std.proofs.Common.{ap, ◌∙◌}
-use Rattle.uc_tree.specs.Standings.{event_from}
+use Rattle.uc_tree.specs.Objects.{event_from}
 use Rattle.uc_sizes.proofs.sizes.Sizes.event_named.Goals as goal
 
 pub returns : goal.returns

@@ -1,5 +1,5 @@
 use Rattle.std.proofs.Common.{[], ap, ◌∙◌, option_map, slice_get, unwrap_or}
-use Rattle.uc_meaning.specs.Names.{constructor_params}
+use Rattle.uc_rules.specs.Names.{constructor_params}
 use Rattle.uc_types.proofs.Looked.{params_are}
 use Rattle.uc_types.proofs.tables.Tables.constructor_params.Goals as goal
 

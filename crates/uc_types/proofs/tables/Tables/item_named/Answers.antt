@@ -1,5 +1,5 @@
 use Rattle.std.proofs.Common.{ap, ◌∙◌}
-use Rattle.uc_meaning.specs.Names.{items_named}
+use Rattle.uc_rules.specs.Names.{items_named}
 use Rattle.uc_types.proofs.Placed.{outer_is}
 use Rattle.uc_types.proofs.tables.Tables.item_named.Goals as goal
 

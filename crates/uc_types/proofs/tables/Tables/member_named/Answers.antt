@@ -1,5 +1,5 @@
 use Rattle.std.proofs.Common.{ap, ◌∙◌, option_and_then, slice_get}
-use Rattle.uc_meaning.specs.Names.{member_named}
+use Rattle.uc_rules.specs.Names.{member_named}
 use Rattle.uc_types.specs.Listings.{first_named}
 use Rattle.uc_types.proofs.Placed.{member_is}
 use Rattle.uc_types.proofs.tables.Tables.member_named.Goals as goal

@@ -1,5 +1,5 @@
 use Rattle.std.proofs.Common.{[], ap, ◌∙◌, map, option_map, slice_get, unwrap_or}
-use Rattle.uc_meaning.specs.Sorts.{class_at}
+use Rattle.uc_rules.specs.Sorts.{class_at}
 use Rattle.uc_types.proofs.Looked.{names_are, names_few}
 use Rattle.uc_types.proofs.tables.Tables.numbered.Goals as goal
 

@@ -1,0 +1,4 @@
+pub mod Listed
+pub mod Lending
+pub mod Faults
+pub mod Keyed

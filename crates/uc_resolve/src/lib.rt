@@ -1,0 +1,2 @@
+// The source that a program's tree stands for.
+#![tactic(auto)]

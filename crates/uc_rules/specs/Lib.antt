@@ -1,0 +1,16 @@
+pub mod RuleNames
+pub mod Sorts
+pub mod Names
+pub mod Scopes
+pub mod Entities
+pub mod Visits
+pub mod ProgramVisits
+pub mod Asked
+pub mod ExpressionBreaks
+pub mod ClassBreaks
+pub mod ItemBreaks
+pub mod OwnerBreaks
+pub mod Breaks
+pub mod Firsts
+pub mod Unbroken
+pub mod FirstRule
