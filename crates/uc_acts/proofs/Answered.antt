@@ -12,7 +12,7 @@ use Rattle.uc_entry.specs.declared.entry.EntryKind.TheVariants as kind
 use Rattle.uc_entry.specs.declared.entry.Options.{Options}
 use Rattle.uc_entry.specs.declared.request.Answer.{Answer}
 use Rattle.uc_entry.specs.declared.request.Answer.TheVariants as answer
-use Rattle.uc_acts.specs.Journal.{Journal, begin, number, holds, where_true, stacks_acceptor, is_over, is_fault}
+use Rattle.uc_acts.specs.Journal.{Journal, begin, number, holds, where_true, stacks_acceptor, is_over, is_fault, cost, no_cost}
 use Rattle.uc_acts.specs.Queues.{Noted, ready}
 use Rattle.uc_acts.specs.Known.{has}
 use Rattle.uc_acts.specs.Answers.{tells, asks, answer_to, first_of, told_if, accept_answer, let_in_answer}
@@ -22,7 +22,7 @@ use Rattle.uc_acts.specs.Acts.{row, fault, is_faulty, dispatch, lone_limit}
 use Rattle.uc_acts.specs.KernelRuns.{KernelMay, KernelRuns, gives, no_room, acts, begun, more}
 use Rattle.uc_acts.specs.Laws.{LawAnswered, IsAnswered}
 use Rattle.uc_acts.specs.Open.{still_open}
-use Rattle.uc_acts.proofs.Open.{still_open_push}
+use Rattle.uc_acts.proofs.OpenLemmas.{still_open_push}
 use Rattle.uc_acts.proofs.Noted.{noted_at}
 use Rattle.uc_acts.proofs.Spots.{spot_push}
 use Rattle.uc_acts.proofs.Moves.{first_at, counted_at}
@@ -90,7 +90,7 @@ target_told sites kind.Spawn x t g m a = there_where ((t == x.entry.task) || (t 
 target_told sites kind.Slice x t g m a = there_where (t == x.entry.task) answer.Go m
 target_told sites kind.Yield x t g m a = there_where (t == x.entry.task) answer.Go m
 target_told sites kind.Migrate x t g m a = there_where (t == x.entry.task) answer.Go m
-target_told sites kind.Admit x t g m a = there_where (t == x.entry.task) (let_in_answer (number x.entry.b)) m
+target_told sites kind.Admit x t g m a = there_where (t == x.entry.task) (let_in_answer (number x.entry.b) (holds 1 x.entry.c)) m
 target_told sites k x t g m a = cc
 
 -- who asks and is not moved is told something, but for a fault
@@ -176,9 +176,9 @@ told_may opts sites input j _ s old (gives p t v le) o = told_given sites j p t 
 told_may opts sites input j _ s old (no_room p t v le) o = absurd (no_both (is_over (j ++ lone_limit ∷ [])) (over_limit j 0 0) o)
 told_may opts sites input j _ s old (acts p t k asked m) o =
     let g = going_row opts sites input j p t k asked o in
-    let rows = row opts sites input j p t k asked.line asked.request in
-    let calm : is_faulty rows ≡ false = ap is_faulty (sym (settled_calm (fault p t 0 10 asked.line) j rows refl g.1)) ∙ g.1 in
-    subst (λ a. Told sites (j ++ a)) (sym g.0) (told_all p t (object_of t j asked.request) (Unit {0}) (destroys asked.request) sites j rows (by_row opts sites input j p t k asked.line (Unit {0}) asked.request (λ h. tt)) calm old)
+    let rows = row opts sites input j p t (cost k asked.line) asked.line asked.request in
+    let calm : is_faulty rows ≡ false = ap is_faulty (sym (settled_calm (fault p t no_cost 10 asked.line) j rows refl g.1)) ∙ g.1 in
+    subst (λ a. Told sites (j ++ a)) (sym g.0) (told_all p t (object_of t j asked.request) (Unit {0}) (destroys asked.request) sites j rows (by_row opts sites input j p t (cost k asked.line) asked.line (Unit {0}) asked.request (λ h. tt)) calm old)
 
 told_run : (opts : Options) (sites : List Site) (input : List ℕ) {j : Journal} → KernelRuns opts sites input j → is_over j ≡ false → Told sites j
 told_run opts sites input begun o = told_begin opts sites

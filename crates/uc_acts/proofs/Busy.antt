@@ -7,7 +7,7 @@ use Rattle.uc_acts.specs.Doors.{blocked_at, has_others}
 use Rattle.uc_acts.specs.Acts.{admit}
 use Rattle.uc_acts.proofs.Seats.{blocked_same}
 use Rattle.uc_acts.proofs.Moves.{waiting_now, stacked_now}
-use Rattle.uc_acts.proofs.Sound.{self_test}
+use Rattle.uc_acts.proofs.SoundLemmas.{self_test}
 
 -- whether a task is in a queue of an object
 abbrev pub is_busy : ℕ → Journal → Bool

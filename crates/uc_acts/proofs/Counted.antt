@@ -16,8 +16,8 @@ use Rattle.uc_acts.specs.Legal.{Legal, IsNext}
 use Rattle.uc_acts.specs.Acts.{act, dispatch, lone_limit}
 use Rattle.uc_acts.specs.KernelRuns.{KernelMay, KernelRuns, gives, no_room, acts, begun, more}
 use Rattle.uc_acts.specs.Laws.{LawMade}
-use Rattle.uc_acts.proofs.Open.{still_open_push, still_open_silent}
-use Rattle.uc_acts.proofs.Sound.{plus, objects_push}
+use Rattle.uc_acts.proofs.OpenLemmas.{still_open_push, still_open_silent}
+use Rattle.uc_acts.proofs.SoundLemmas.{plus, objects_push}
 use Rattle.uc_acts.proofs.Rows.{Lawful}
 use Rattle.uc_acts.proofs.Law.{good_whole, lawful_act}
 use Rattle.uc_acts.proofs.Given.{made_given}

@@ -12,7 +12,7 @@ use Rattle.uc_acts.specs.Stations.{Ready, Running}
 use Rattle.uc_acts.specs.Sound.{At, Sound, Spot, spot}
 use Rattle.uc_acts.specs.Acts.{dispatch}
 use Rattle.uc_acts.specs.Laws.{LawDispatch, Untouched}
-use Rattle.uc_acts.proofs.Open.{still_open_silent}
+use Rattle.uc_acts.proofs.OpenLemmas.{still_open_silent}
 use Rattle.uc_acts.proofs.Seats.{running_other, running_given}
 use Rattle.uc_acts.proofs.Moves.{first_at}
 use Rattle.uc_acts.proofs.Law.{good_whole}

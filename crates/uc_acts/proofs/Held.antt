@@ -14,7 +14,7 @@ use Rattle.uc_acts.specs.Known.{has}
 use Rattle.uc_acts.specs.Stations.{times}
 use Rattle.uc_acts.specs.Laws.{LawHeld}
 use Rattle.uc_acts.proofs.Times.{times_append}
-use Rattle.uc_acts.proofs.Sound.{self_test}
+use Rattle.uc_acts.proofs.SoundLemmas.{self_test}
 
 no_both : (b : Bool) → b ≡ true → b ≡ false → ⊥
 no_both b t f = cc

@@ -8,7 +8,7 @@ use Rattle.uc_entry.specs.declared.entry.EntryKind.TheVariants as kind
 use Rattle.uc_acts.specs.Journal.{Journal, inside, lets_in, moves}
 use Rattle.uc_acts.specs.Queues.{waiting, stacked, calls, takes, stacks, admits}
 use Rattle.uc_acts.specs.Doors.{open_at, opens, shuts}
-use Rattle.uc_acts.proofs.Open.{filter_true}
+use Rattle.uc_acts.proofs.OpenLemmas.{filter_true}
 use Rattle.uc_acts.proofs.Seats.{inside_other, inside_same, open_other, open_same, stacked_other, stacked_same, waiting_other, waiting_same}
 
 abbrev pub is_silent : EntryKind → Bool

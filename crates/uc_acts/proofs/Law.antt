@@ -8,7 +8,7 @@ use Rattle.uc_entry.specs.declared.entry.Entry.{Entry}
 use Rattle.uc_entry.specs.declared.entry.Options.{Options}
 use Rattle.uc_entry.specs.declared.entry.EntryKind.TheVariants as kind
 use Rattle.uc_entry.specs.declared.request.Asked.{Asked}
-use Rattle.uc_acts.specs.Journal.{Journal, inside, entry, begin, entries_at}
+use Rattle.uc_acts.specs.Journal.{Journal, inside, entry, begin, entries_at, cost, no_cost}
 use Rattle.uc_acts.specs.Queues.{running, ready, waiting, stacked, first_ended, none_running, none_ready, none_served, all_ticks}
 use Rattle.uc_acts.specs.Doors.{open_at, blocked_at, destroys_busy}
 use Rattle.uc_acts.specs.Known.{task_count, has_ended}
@@ -19,7 +19,7 @@ use Rattle.uc_acts.specs.Acts.{fault, row, settled, entries_of, is_faulty, verdi
 use Rattle.uc_acts.specs.Sound.{At, Ended, Sound, Spot, Unborn, here, spot}
 use Rattle.uc_acts.specs.Legal.{Legal}
 use Rattle.uc_acts.proofs.Noted.{noted_at}
-use Rattle.uc_acts.proofs.Sound.{Grown, tasks_push, some_task, sound_step, grown_step, shut_door, target_born}
+use Rattle.uc_acts.proofs.SoundLemmas.{Grown, tasks_push, some_task, sound_step, grown_step, shut_door, target_born}
 use Rattle.uc_acts.proofs.Moves.{first_at, known_at, from_ready, legal_still, legal_one, more_tasks, object_0, spot_moves, spot_stays}
 use Rattle.uc_acts.proofs.Rows.{Lawful, legal_fault, row_lawful}
 
@@ -35,12 +35,12 @@ lawful_append j [] b h f = f j
 lawful_append j (e ∷ a) b h f = (h.0, lawful_append (j ++ e ∷ []) a b h.1 f)
 
 -- an act that a fault cuts short
-pub lawful_settled : (p t line : ℕ) (j : Journal) (a : List Entry) → Lawful j a → Lawful j (settled (fault p t 0 10 line) j a)
+pub lawful_settled : (p t line : ℕ) (j : Journal) (a : List Entry) → Lawful j a → Lawful j (settled (fault p t no_cost 10 line) j a)
 lawful_settled p t line j [] h = tt
 lawful_settled p t line j (e ∷ a) h = by (destroys_busy j e.kind e) (lawful_settled p t line (j ++ e ∷ []) a h.1)
   where
-    by : (b : Bool) → Lawful (j ++ e ∷ []) (settled (fault p t 0 10 line) (j ++ e ∷ []) a) → Lawful j (cond b (fault p t e.ticks 10 line ∷ []) (e ∷ settled (fault p t 0 10 line) (j ++ e ∷ []) a))
-    by true ih = (legal_fault j p t e.ticks 10 line, tt)
+    by : (b : Bool) → Lawful (j ++ e ∷ []) (settled (fault p t no_cost 10 line) (j ++ e ∷ []) a) → Lawful j (cond b (fault p t (cost e.ticks e.line) 10 line ∷ []) (e ∷ settled (fault p t no_cost 10 line) (j ++ e ∷ []) a))
+    by true ih = (legal_fault j p t (cost e.ticks e.line) 10 line, tt)
     by false ih = (h.0, ih)
 
 module _ (p t : ℕ) where
@@ -72,7 +72,7 @@ module _ (p t : ℕ) where
 pub lawful_act : (opts : Options) (sites : List Site) (input : List ℕ) (j : Journal) (p t k : ℕ) (asked : Asked) → Sound j → MayAsk opts sites j p t k asked.request → Lawful j (act opts sites input j p t k asked)
 lawful_act opts sites input j p t k asked s m =
     let a = entries_of opts sites input j p t k asked in
-    lawful_fitted p t opts j (a ++ ending opts j p t a) (lawful_append j a (ending opts j p t a) (lawful_settled p t asked.line j (row opts sites input j p t k asked.line asked.request) (row_lawful opts sites input j p t k asked.line s m.runs asked.request m.fits)) (λ i. lawful_ending p t opts j i a))
+    lawful_fitted p t opts j (a ++ ending opts j p t a) (lawful_append j a (ending opts j p t a) (lawful_settled p t asked.line j (row opts sites input j p t (cost k asked.line) asked.line asked.request) (row_lawful opts sites input j p t (cost k asked.line) asked.line s m.runs asked.request m.fits)) (λ i. lawful_ending p t opts j i a))
 
 pub lawful_may : (opts : Options) (sites : List Site) (input : List ℕ) (j : Journal) (a : List Entry) → Sound j → KernelMay opts sites input j a → Lawful j a
 lawful_may opts sites input j _ s (gives p t v le) =

@@ -1,9 +1,9 @@
-pub mod Open
+pub mod OpenLemmas
 pub mod Noted
 pub mod Times
 pub mod Spots
 pub mod Seats
-pub mod Sound
+pub mod SoundLemmas
 pub mod Stood
 pub mod Moves
 pub mod Rows
@@ -25,3 +25,4 @@ pub mod Goes
 pub mod Given
 pub mod Filters
 pub mod FitRows
+pub mod Lines

@@ -12,7 +12,7 @@ use Rattle.uc_entry.specs.declared.entry.Options.{Options}
 use Rattle.uc_entry.specs.declared.request.Asked.{Asked}
 use Rattle.uc_entry.specs.declared.request.Request.{Request}
 use Rattle.uc_entry.specs.declared.request.Request.TheVariants as ask
-use Rattle.uc_acts.specs.Journal.{Journal, inside, entries_at, entry, is_over, begin}
+use Rattle.uc_acts.specs.Journal.{Journal, inside, entries_at, is_over, begin, Cost, cost, no_cost, asking}
 use Rattle.uc_acts.specs.Queues.{waiting, stacked, running}
 use Rattle.uc_acts.specs.Known.{object_count, is_gone, is_gone_by}
 use Rattle.uc_acts.specs.Doors.{blocked_at, has_others}
@@ -20,9 +20,9 @@ use Rattle.uc_acts.specs.Stations.{Waits, Stacked, times}
 use Rattle.uc_acts.specs.Sound.{Sound, here}
 use Rattle.uc_acts.specs.Acts.{row, settled, is_faulty, act, fault, dispatch, lone_limit}
 use Rattle.uc_acts.specs.KernelRuns.{Fits, KernelMay, KernelRuns, gives, no_room, acts, begun, more}
-use Rattle.uc_acts.proofs.Open.{any_push}
+use Rattle.uc_acts.proofs.OpenLemmas.{any_push}
 use Rattle.uc_acts.proofs.Seats.{blocked_after, inside_other, waiting_other, stacked_other, blocked_other, blocked_same, at_push, at_other}
-use Rattle.uc_acts.proofs.Sound.{self_test, all_kept, all_kept_nil}
+use Rattle.uc_acts.proofs.SoundLemmas.{self_test, all_kept, all_kept_nil}
 use Rattle.uc_acts.proofs.Moves.{waiting_now, stacked_now, one_inside, more_objects}
 use Rattle.uc_acts.proofs.Rows.{at_run, out_of}
 use Rattle.uc_acts.proofs.Hush.{is_silent, door_silent}
@@ -155,7 +155,7 @@ alive opts sites j t (ask.Make class) l f h = fresh j l
 alive opts sites j t (ask.Made o) l f h = f.known.not_gone
 alive opts sites j t (ask.Spawn o) l f h = f.0.known.not_gone
 alive opts sites j t (ask.Call o m) l f h = f.0.known.not_gone
-alive opts sites j t (ask.Leave o) l f h = f.known.not_gone
+alive opts sites j t (ask.Leave o failed) l f h = f.known.not_gone
 alive opts sites j t (ask.Accept o site mask) l f h = f.0.known.not_gone
 alive opts sites j t (ask.Wait o c n) l f h = f.known.not_gone
 alive opts sites j t (ask.Signal o c) l f h = f.known.not_gone
@@ -165,21 +165,21 @@ alive opts sites j t (ask.Gone o) l f h = f.known.not_gone
 alive opts sites j t r l f h = cc
 
 -- an act without a fault is its row
-pub going_row : (opts : Options) (sites : List Site) (input : List ℕ) (j : Journal) (p t k : ℕ) (asked : Asked) → is_over (j ++ act opts sites input j p t k asked) ≡ false → (act opts sites input j p t k asked ≡ row opts sites input j p t k asked.line asked.request) × (is_faulty (settled (fault p t 0 10 asked.line) j (row opts sites input j p t k asked.line asked.request)) ≡ false)
+pub going_row : (opts : Options) (sites : List Site) (input : List ℕ) (j : Journal) (p t k : ℕ) (asked : Asked) → is_over (j ++ act opts sites input j p t k asked) ≡ false → (act opts sites input j p t k asked ≡ row opts sites input j p t (cost k asked.line) asked.line asked.request) × (is_faulty (settled (fault p t no_cost 10 asked.line) j (row opts sites input j p t (cost k asked.line) asked.line asked.request)) ≡ false)
 going_row opts sites input j p t k asked o =
     let g = going_act opts sites input j p t k asked o in
-    (g.is ∙ settled_calm (fault p t 0 10 asked.line) j (row opts sites input j p t k asked.line asked.request) refl g.faultless, g.faultless)
+    (g.is ∙ settled_calm (fault p t no_cost 10 asked.line) j (row opts sites input j p t (cost k asked.line) asked.line asked.request) refl g.faultless, g.faultless)
 
-module _ (opts : Options) (sites : List Site) (input : List ℕ) (j : Journal) (p t k line : ℕ) (s : Sound j) (runs : running p j ≡ t ∷ []) (l : Lived j) where
-  lived_gone : (o : ℕ) → Fits opts sites j t (ask.Gone o) → has_others o t j ≡ false → Lived (j ++ entry kind.Gone p t k o (pos 0) (pos 0) ∷ [])
+module _ (opts : Options) (sites : List Site) (input : List ℕ) (j : Journal) (p t : ℕ) (k : Cost) (line : ℕ) (s : Sound j) (runs : running p j ≡ t ∷ []) (l : Lived j) where
+  lived_gone : (o : ℕ) → Fits opts sites j t (ask.Gone o) → has_others o t j ≡ false → Lived (j ++ asking kind.Gone p t k o (pos 0) (pos 0) ∷ [])
   lived_gone o f h = record { dead = λ v g. by v (o == v) refl g }
     where
       e : Entry
-      e = entry kind.Gone p t k o (pos 0) (pos 0)
+      e = asking kind.Gone p t k o (pos 0) (pos 0)
 
-      nobody : Dead o (j ++ entry kind.Gone p t k o (pos 0) (pos 0) ∷ [])
+      nobody : Dead o (j ++ asking kind.Gone p t k o (pos 0) (pos 0) ∷ [])
       nobody =
-          let e = entry kind.Gone p t k o (pos 0) (pos 0) in
+          let e = asking kind.Gone p t k o (pos 0) (pos 0) in
           let at = at_run opts sites input j p t k line s runs in
           let x = or_parts (list_any (λ w. not (w.0 == t)) (waiting o j)) _ h in
           let y = or_parts (list_any (λ x. not (x == t)) (stacked o j)) _ x.1 in
@@ -191,10 +191,10 @@ module _ (opts : Options) (sites : List Site) (input : List ℕ) (j : Journal) (
             blocks = blocked_same o j e (self_test o) ∙ all_kept_nil (blocked_at o j) ∙ all_of (λ b. b.0) t (blocked_at o j) y.1 (not_blocked j s o p t at);
           }
 
-      by : (v : ℕ) (b : Bool) → (o == v) ≡ b → is_gone v (j ++ entry kind.Gone p t k o (pos 0) (pos 0) ∷ []) ≡ true → Dead v (j ++ entry kind.Gone p t k o (pos 0) (pos 0) ∷ [])
-      by v true h g = subst (λ x. Dead x (j ++ entry kind.Gone p t k o (pos 0) (pos 0) ∷ [])) (eqb-true o v h) nobody
+      by : (v : ℕ) (b : Bool) → (o == v) ≡ b → is_gone v (j ++ asking kind.Gone p t k o (pos 0) (pos 0) ∷ []) ≡ true → Dead v (j ++ asking kind.Gone p t k o (pos 0) (pos 0) ∷ [])
+      by v true h g = subst (λ x. Dead x (j ++ asking kind.Gone p t k o (pos 0) (pos 0) ∷ [])) (eqb-true o v h) nobody
       by v false h g =
-          let e = entry kind.Gone p t k o (pos 0) (pos 0) in
+          let e = asking kind.Gone p t k o (pos 0) (pos 0) in
           dead_same v j e (inside_other v j e h) (waiting_other v j e h) (stacked_other v j e h) (blocked_other v j e h) (l.dead v (sym (gone_other v j e h) ∙ g))
 
   lived_plain : (r : Request) → destroys r ≡ false → Fits opts sites j t r → Lived (j ++ row opts sites input j p t k line r)
@@ -202,13 +202,13 @@ module _ (opts : Options) (sites : List Site) (input : List ℕ) (j : Journal) (
       let b = by_row opts sites input j p t k line (is_gone (object_of t j r) j ≡ false) r (alive opts sites j t r l f) in
       lived_all p t (object_of t j r) j (row opts sites input j p t k line r) j (subst (λ g. AllBy p t (object_of t j r) (is_gone (object_of t j r) j ≡ false) g (row opts sites input j p t k line r)) h b) (λ v. refl) l
 
-  lived_row : (r : Request) → Fits opts sites j t r → is_faulty (settled (fault p t 0 10 line) j (row opts sites input j p t k line r)) ≡ false → Lived (j ++ row opts sites input j p t k line r)
+  lived_row : (r : Request) → Fits opts sites j t r → is_faulty (settled (fault p t no_cost 10 line) j (row opts sites input j p t k line r)) ≡ false → Lived (j ++ row opts sites input j p t k line r)
   lived_row (ask.Gone o) f calm = by (has_others o t j) refl calm
     where
       clash : true ≡ false → ⊥
       clash e = cc
 
-      by : (b : Bool) → has_others o t j ≡ b → is_faulty (settled (fault p t 0 10 line) j (row opts sites input j p t k line (ask.Gone o))) ≡ false → Lived (j ++ entry kind.Gone p t k o (pos 0) (pos 0) ∷ [])
+      by : (b : Bool) → has_others o t j ≡ b → is_faulty (settled (fault p t no_cost 10 line) j (row opts sites input j p t k line (ask.Gone o))) ≡ false → Lived (j ++ asking kind.Gone p t k o (pos 0) (pos 0) ∷ [])
       by true h c = absurd (clash (simp h at c))
       by false h c = lived_gone o f h
   lived_row r f calm = lived_plain r refl f
@@ -218,7 +218,7 @@ lived_may opts sites input j _ s l (gives p t v le) o = lived_silent j (dispatch
 lived_may opts sites input j _ s l (no_room p t v le) o = lived_silent j lone_limit refl l
 lived_may opts sites input j _ s l (acts p t k asked m) o =
     let g = going_row opts sites input j p t k asked o in
-    subst (λ a. Lived (j ++ a)) (sym g.0) (lived_row opts sites input j p t k asked.line s m.runs l asked.request m.fits g.1)
+    subst (λ a. Lived (j ++ a)) (sym g.0) (lived_row opts sites input j p t (cost k asked.line) asked.line s m.runs l asked.request m.fits g.1)
 
 lived_begin : (opts : Options) → Lived (begin opts ∷ [])
 lived_begin opts = record { dead = λ o h. absurd (none o h) }

@@ -17,7 +17,7 @@ use Rattle.uc_entry.specs.declared.request.Asked.{Asked}
 use Rattle.uc_entry.specs.declared.request.Piece.{Piece}
 use Rattle.uc_entry.specs.declared.request.Request.{Request}
 use Rattle.uc_entry.specs.declared.request.Request.TheVariants as ask
-use Rattle.uc_acts.specs.Journal.{Journal, entry, begin, is_over, inside, held, moves, lets_in, is_task, where_true, first_or_0}
+use Rattle.uc_acts.specs.Journal.{Journal, begin, is_over, inside, held, moves, lets_in, is_task, where_true, first_or_0, Cost, cost, no_cost, asking}
 use Rattle.uc_acts.specs.Queues.{running, cluster_count, processor_count, is_in_use}
 use Rattle.uc_acts.specs.Pending.{pending, oldest_in}
 use Rattle.uc_acts.specs.Known.{has, object_count, task_count, owner, is_make, is_gone, is_gone_by, made, takes_object, takes_out}
@@ -30,9 +30,9 @@ use Rattle.uc_acts.specs.Acts.{row, settled, fault, is_faulty, act, dispatch, lo
 use Rattle.uc_acts.specs.KernelRuns.{Fits, MayAsk, KernelMay, KernelRuns, gives, no_room, acts, begun, more}
 use Rattle.uc_acts.specs.Laws.{LawNew, IsNew, LawMakes, Elsewhere}
 use Rattle.uc_acts.specs.Open.{still_open}
-use Rattle.uc_acts.proofs.Open.{still_open_push, still_open_silent}
+use Rattle.uc_acts.proofs.OpenLemmas.{still_open_push, still_open_silent}
 use Rattle.uc_acts.proofs.Seats.{running_same}
-use Rattle.uc_acts.proofs.Sound.{self_test, plus, objects_push, all_kept_nil}
+use Rattle.uc_acts.proofs.SoundLemmas.{self_test, plus, objects_push, all_kept_nil}
 use Rattle.uc_acts.proofs.Rows.{Lawful, row_lawful}
 use Rattle.uc_acts.proofs.Law.{good_whole}
 use Rattle.uc_acts.proofs.Hush.{is_silent}
@@ -155,7 +155,7 @@ pub record Asks (t : ℕ) (a : List Entry) : Type 0 where
   pub is : a ≡ first ∷ rest
   pub asks : asks t first.kind first ≡ true
 
-module _ (opts : Options) (sites : List Site) (input : List ℕ) (j : Journal) (p t k line : ℕ) where
+module _ (opts : Options) (sites : List Site) (input : List ℕ) (j : Journal) (p t : ℕ) (k : Cost) (line : ℕ) where
   by_first : (e : Entry) (a : List Entry) → asks t e.kind e ≡ true → Asks t (e ∷ a)
   by_first e a h = record { first = e; rest = a; is = refl; asks = h }
 
@@ -218,7 +218,7 @@ known_object opts sites j t (ask.Make class) n f h = cc
 known_object opts sites j t (ask.Made o) n f h = f.known.made
 known_object opts sites j t (ask.Spawn o) n f h = f.0.known.made
 known_object opts sites j t (ask.Call o m) n f h = f.0.known.made
-known_object opts sites j t (ask.Leave o) n f h = f.known.made
+known_object opts sites j t (ask.Leave o failed) n f h = f.known.made
 known_object opts sites j t (ask.Accept o site mask) n f h = f.0.known.made
 known_object opts sites j t (ask.Wait o c x) n f h = f.known.made
 known_object opts sites j t (ask.Signal o c) n f h = f.known.made
@@ -228,31 +228,31 @@ known_object opts sites j t (ask.Gone o) n f h = f.known.made
 known_object opts sites j t r n f h = cc
 
 -- an act that goes on, in what it makes: an object, or none
-data Made (opts : Options) (sites : List Site) (j : Journal) (p t k : ℕ) (a : List Entry) : Type 0 where
-  one : (class : ℕ) → a ≡ entry kind.Make p t k (object_count j) (pos class) (pos 0) ∷ [] → Made opts sites j p t k a
+data Made (opts : Options) (sites : List Site) (j : Journal) (p t : ℕ) (k : Cost) (a : List Entry) : Type 0 where
+  one : (class : ℕ) → a ≡ asking kind.Make p t k (object_count j) (pos class) (pos 0) ∷ [] → Made opts sites j p t k a
   none : MakesNone a → Asks t a → Made opts sites j p t k a
 
 module _ (opts : Options) (sites : List Site) (input : List ℕ) (j : Journal) (p t k : ℕ) (asked : Asked) (s : Sound j) (m : MayAsk opts sites j p t k asked.request) (going : is_over (j ++ act opts sites input j p t k asked) ≡ false) where
-  making_none : (r : Request) → is_making r ≡ false → asked.request ≡ r → Made opts sites j p t k (row opts sites input j p t k asked.line r)
+  making_none : (r : Request) → is_making r ≡ false → asked.request ≡ r → Made opts sites j p t (cost k asked.line) (row opts sites input j p t (cost k asked.line) asked.line r)
   making_none r n e =
       let f : Fits opts sites j t r = subst (Fits opts sites j t) e m.fits in
-      none (makes_none p t (object_of t j r) (is_quiet r ≡ false) (destroys r) j (row opts sites input j p t k asked.line r) (row_lawful opts sites input j p t k asked.line s m.runs r f) (by_row opts sites input j p t k asked.line (is_quiet r ≡ false) r (λ h. h)) (known_object opts sites j t r n f)) (row_asks opts sites input j p t k asked.line r f)
+      none (makes_none p t (object_of t j r) (is_quiet r ≡ false) (destroys r) j (row opts sites input j p t (cost k asked.line) asked.line r) (row_lawful opts sites input j p t (cost k asked.line) asked.line s m.runs r f) (by_row opts sites input j p t (cost k asked.line) asked.line (is_quiet r ≡ false) r (λ h. h)) (known_object opts sites j t r n f)) (row_asks opts sites input j p t (cost k asked.line) asked.line r f)
 
-  making : (r : Request) → asked.request ≡ r → Made opts sites j p t k (row opts sites input j p t k asked.line r)
+  making : (r : Request) → asked.request ≡ r → Made opts sites j p t (cost k asked.line) (row opts sites input j p t (cost k asked.line) asked.line r)
   making (ask.Make class) e =
-      by (nat_lt (object_count j) OBJECTS) refl (ap (λ r. is_faulty (settled (fault p t 0 10 asked.line) j (row opts sites input j p t k asked.line r))) (sym e) ∙ (going_row opts sites input j p t k asked going).1)
+      by (nat_lt (object_count j) OBJECTS) refl (ap (λ r. is_faulty (settled (fault p t no_cost 10 asked.line) j (row opts sites input j p t (cost k asked.line) asked.line r))) (sym e) ∙ (going_row opts sites input j p t k asked going).1)
     where
       clash : true ≡ false → ⊥
       clash e = cc
 
-      by : (b : Bool) → nat_lt (object_count j) OBJECTS ≡ b → is_faulty (settled (fault p t 0 10 asked.line) j (or_fault (nat_lt (object_count j) OBJECTS) (entry kind.Make p t k (object_count j) (pos class) (pos 0)) (fault p t k 16 asked.line))) ≡ false → Made opts sites j p t k (or_fault (nat_lt (object_count j) OBJECTS) (entry kind.Make p t k (object_count j) (pos class) (pos 0)) (fault p t k 16 asked.line))
+      by : (b : Bool) → nat_lt (object_count j) OBJECTS ≡ b → is_faulty (settled (fault p t no_cost 10 asked.line) j (or_fault (nat_lt (object_count j) OBJECTS) (asking kind.Make p t (cost k asked.line) (object_count j) (pos class) (pos 0)) (fault p t (cost k asked.line) 16 asked.line))) ≡ false → Made opts sites j p t (cost k asked.line) (or_fault (nat_lt (object_count j) OBJECTS) (asking kind.Make p t (cost k asked.line) (object_count j) (pos class) (pos 0)) (fault p t (cost k asked.line) 16 asked.line))
       by true h c = one class (simp h)
       by false h c = absurd (clash (simp h at c))
   making r e = making_none r refl e
 
-  making_act : Made opts sites j p t k (act opts sites input j p t k asked)
+  making_act : Made opts sites j p t (cost k asked.line) (act opts sites input j p t k asked)
   making_act =
-      subst (Made opts sites j p t k) (sym (going_row opts sites input j p t k asked going).0) (making asked.request refl)
+      subst (Made opts sites j p t (cost k asked.line)) (sym (going_row opts sites input j p t k asked going).0) (making asked.request refl)
 
 -- law_makes
 
@@ -270,13 +270,13 @@ or_none : (a b : Bool) → (a || b) ≡ false → (a ≡ false) × (b ≡ false)
 or_none true b h = cc
 or_none false b h = (refl, h)
 
-module _ (opts : Options) (sites : List Site) (input : List ℕ) (j : Journal) (p t k : ℕ) where
+module _ (opts : Options) (sites : List Site) (input : List ℕ) (j : Journal) (p t : ℕ) (k : Cost) where
   made_entry : ℕ → Entry
-  made_entry class = entry kind.Make p t k (object_count j) (pos class) (pos 0)
+  made_entry class = asking kind.Make p t k (object_count j) (pos class) (pos 0)
 
-  just_now : (class : ℕ) (a : List Entry) → a ≡ entry kind.Make p t k (object_count j) (pos class) (pos 0) ∷ [] → just_made t (j ++ a) ≡ object_count j ∷ []
+  just_now : (class : ℕ) (a : List Entry) → a ≡ asking kind.Make p t k (object_count j) (pos class) (pos 0) ∷ [] → just_made t (j ++ a) ≡ object_count j ∷ []
   just_now class a h =
-      let e = entry kind.Make p t k (object_count j) (pos class) (pos 0) in
+      let e = asking kind.Make p t k (object_count j) (pos class) (pos 0) in
       let self = self_test t in
       ap (λ x. just_made t (j ++ x)) h ∙ just_made_asked t j e self ∙ ap (λ b. option_to_list (where_true b (object_count j))) self
 
@@ -306,7 +306,7 @@ module _ (opts : Options) (sites : List Site) (input : List ℕ) (j : Journal) (
         by (one class e) =
             let lt = (d.of_made o h).0 in
             let g = (or_none (is_gone o j) (takes_out a o) (sym (gone_append o j a) ∙ (d.of_made o h).1)).0 in
-            let more' : object_count (j ++ a) ≡ object_count j + 1 = ap (λ l. object_count (j ++ l)) e ∙ objects_push j (entry kind.Make p t k (object_count j) (pos class) (pos 0)) in
+            let more' : object_count (j ++ a) ≡ object_count j + 1 = ap (λ l. object_count (j ++ l)) e ∙ objects_push j (asking kind.Make p t k (object_count j) (pos class) (pos 0)) in
             let same : object_count j ≡ o = ⊎_elim (λ lt. absurd (old g lt)) (λ le. omega (arith, lt, more', le)) (cases_lt o (object_count j)) in
             just_now class a e ∙ ap (λ v. v ∷ []) same
 
@@ -335,7 +335,7 @@ module _ (opts : Options) (sites : List Site) (input : List ℕ) (j : Journal) (
             not_true (has (made j) o) (λ g. let lt = (c.of_made o g).0 in absurd (omega (arith, lt, same)))
 
 -- what is taken out, its task is inside of
-taken_row : (opts : Options) (sites : List Site) (input : List ℕ) (j : Journal) (p t k line : ℕ) (r : Request) → Fits opts sites j t r → (o : ℕ) → takes_out (row opts sites input j p t k line r) o ≡ true → has (inside o j) t ≡ true
+taken_row : (opts : Options) (sites : List Site) (input : List ℕ) (j : Journal) (p t : ℕ) (k : Cost) (line : ℕ) (r : Request) → Fits opts sites j t r → (o : ℕ) → takes_out (row opts sites input j p t k line r) o ≡ true → has (inside o j) t ≡ true
 taken_row opts sites input j p t k line (ask.Gone u) f o h =
     let same : o ≡ u = eqb-true o u (first (o == u) h) in rw same f.inside
   where
@@ -345,7 +345,7 @@ taken_row opts sites input j p t k line (ask.Gone u) f o h =
 taken_row opts sites input j p t k line r f o h =
     not_taken opts sites input j p t k line r o refl h
   where
-    not_taken : (opts : Options) (sites : List Site) (input : List ℕ) (j : Journal) (p t k line : ℕ) (r : Request) (o : ℕ) → destroys r ≡ false → takes_out (row opts sites input j p t k line r) o ≡ true → has (inside o j) t ≡ true
+    not_taken : (opts : Options) (sites : List Site) (input : List ℕ) (j : Journal) (p t : ℕ) (k : Cost) (line : ℕ) (r : Request) (o : ℕ) → destroys r ≡ false → takes_out (row opts sites input j p t k line r) o ≡ true → has (inside o j) t ≡ true
     not_taken opts sites input j p t k line r o n h =
         absurd (no_both (takes_out (row opts sites input j p t k line r) o) h (takes_none p t (object_of t j r) (Unit {0}) (destroys r) o (row opts sites input j p t k line r) n (by_row opts sites input j p t k line (Unit {0}) r (λ h. tt))))
 
@@ -360,24 +360,24 @@ law_makes opts sites input j p t k asked runs m going =
     let d = counted_run opts sites input (more runs (before_over j a going) (acts p t k asked m)) in
     let w = making_act opts sites input j p t k asked s m going in
     record {
-      new = makes_new opts sites input j p t k a c d w;
-      stays = makes_stays opts sites input j p t k a c d w;
-      out = makes_out opts sites input j p t k a c d w;
-      mine = makes_mine opts sites input j p t k a c d w;
+      new = makes_new opts sites input j p t (cost k asked.line) a c d w;
+      stays = makes_stays opts sites input j p t (cost k asked.line) a c d w;
+      out = makes_out opts sites input j p t (cost k asked.line) a c d w;
+      mine = makes_mine opts sites input j p t (cost k asked.line) a c d w;
       others = λ u n. just_made_by p t (object_of t j asked.request) (Unit {0}) (destroys asked.request) u j a n (by_act opts sites input j p t k (Unit {0}) asked (λ h. tt));
-      taken = λ o h. (law_held j).inside t o ∙ taken_row opts sites input j p t k asked.line asked.request m.fits o (ap (λ l. takes_out l o) (sym (going_row opts sites input j p t k asked going).0) ∙ h);
+      taken = λ o h. (law_held j).inside t o ∙ taken_row opts sites input j p t (cost k asked.line) asked.line asked.request m.fits o (ap (λ l. takes_out l o) (sym (going_row opts sites input j p t k asked going).0) ∙ h);
     }
 
 -- law_new
 
-module _ (sites : List Site) (j : Journal) (p t k class : ℕ) (s : Sound j) (runs : running p j ≡ t ∷ []) where
+module _ (sites : List Site) (j : Journal) (p t : ℕ) (k : Cost) (class : ℕ) (s : Sound j) (runs : running p j ≡ t ∷ []) where
   abbrev Made_now : Journal
-  Made_now = j ++ entry kind.Make p t k (object_count j) (pos class) (pos 0) ∷ []
+  Made_now = j ++ asking kind.Make p t k (object_count j) (pos class) (pos 0) ∷ []
 
-  answer_now : answer_to sites t (j ++ entry kind.Make p t k (object_count j) (pos class) (pos 0) ∷ []) ≡ Some (answer.Object (object_count j))
+  answer_now : answer_to sites t (j ++ asking kind.Make p t k (object_count j) (pos class) (pos 0) ∷ []) ≡ Some (answer.Object (object_count j))
   unfolding answer_to
   answer_now =
-      let e = entry kind.Make p t k (object_count j) (pos class) (pos 0) in
+      let e = asking kind.Make p t k (object_count j) (pos class) (pos 0) in
       let self = self_test t in
       let old = still_open (λ e. tells sites t e.kind e) (λ e x. asks t e.kind e) j in
       ap (λ l. first_of (reverse l)) (still_open_push (λ e. tells sites t e.kind e) (λ e x. asks t e.kind e) j e) ∙ ap (λ b. first_of (reverse (filter (λ x. not b) old ++ option_to_list (where_true b (answer.Object (object_count j)))))) self ∙ ap (λ l. first_of (reverse (l ++ answer.Object (object_count j) ∷ []))) (none_left old)
@@ -386,10 +386,10 @@ module _ (sites : List Site) (j : Journal) (p t k class : ℕ) (s : Sound j) (ru
       none_left [] = refl
       none_left (x ∷ xs) = none_left xs
 
-  held_now : held t (j ++ entry kind.Make p t k (object_count j) (pos class) (pos 0) ∷ []) ≡ filter (λ o. not ((object_count j == o) && (t == t))) (held t j) ++ object_count j ∷ []
+  held_now : held t (j ++ asking kind.Make p t k (object_count j) (pos class) (pos 0) ∷ []) ≡ filter (λ o. not ((object_count j == o) && (t == t))) (held t j) ++ object_count j ∷ []
   unfolding held
   held_now =
-      let e = entry kind.Make p t k (object_count j) (pos class) (pos 0) in
+      let e = asking kind.Make p t k (object_count j) (pos class) (pos 0) in
       let self = self_test t in
       still_open_push (λ e. where_true (is_task t (lets_in e.kind e)) e.object) (λ e o. (e.object == o) && moves e.kind e t) j e ∙ ap (λ b. filter (λ o. not ((object_count j == o) && (t == t))) (held t j) ++ option_to_list (where_true b (object_count j))) self
 
@@ -403,14 +403,14 @@ module _ (sites : List Site) (j : Journal) (p t k class : ℕ) (s : Sound j) (ru
       and_false true = refl
       and_false false = refl
 
-  new_now : IsNew sites (j ++ entry kind.Make p t k (object_count j) (pos class) (pos 0) ∷ []) t (object_count j)
+  new_now : IsNew sites (j ++ asking kind.Make p t k (object_count j) (pos class) (pos 0) ∷ []) t (object_count j)
   new_now = record {
     answer = answer_now;
     before = filter (λ o. not ((object_count j == o) && (t == t))) (held t j);
     last = held_now;
     once = once_now;
     processor = p;
-    runs = running_same p j (entry kind.Make p t k (object_count j) (pos class) (pos 0)) (self_test p) ∙ all_kept_nil (running p j) ∙ runs;
+    runs = running_same p j (asking kind.Make p t k (object_count j) (pos class) (pos 0)) (self_test p) ∙ all_kept_nil (running p j) ∙ runs;
   }
 
 -- it stays new while others act
@@ -457,13 +457,13 @@ new_may opts sites input j _ runs (acts p u k asked m) going t o ih h = by (t ==
         new_elsewhere sites j a p t o n (law_elsewhere opts sites input j p u k asked runs m n.processor (other_processor j p n.processor (u ∷ []) (t ∷ []) m.runs n.runs (λ same. no_both (t == u) (eq-eqb t u (sym (head_same u t same))) e)))
     by true e = mine (eqb-true t u e) (making_act opts sites input j p u k asked (good_whole opts sites input runs).sound m going)
       where
-        mine : t ≡ u → Made opts sites j p u k (act opts sites input j p u k asked) → IsNew sites (j ++ act opts sites input j p u k asked) t o
+        mine : t ≡ u → Made opts sites j p u (cost k asked.line) (act opts sites input j p u k asked) → IsNew sites (j ++ act opts sites input j p u k asked) t o
         mine same (none n q) =
-            absurd (no_cons o [] (sym (none_now opts sites input j p u k (act opts sites input j p u k asked) n q) ∙ ap (λ v. just_made v (j ++ act opts sites input j p u k asked)) (sym same) ∙ h))
+            absurd (no_cons o [] (sym (none_now opts sites input j p u (cost k asked.line) (act opts sites input j p u k asked) n q) ∙ ap (λ v. just_made v (j ++ act opts sites input j p u k asked)) (sym same) ∙ h))
         mine same (one class e) =
             let a = act opts sites input j p u k asked in
-            let here : object_count j ≡ o = head_same (object_count j) o (sym (just_now opts sites input j p u k class a e) ∙ ap (λ v. just_made v (j ++ a)) (sym same) ∙ h) in
-            let n = new_now sites j p u k class (good_whole opts sites input runs).sound m.runs in
+            let here : object_count j ≡ o = head_same (object_count j) o (sym (just_now opts sites input j p u (cost k asked.line) class a e) ∙ ap (λ v. just_made v (j ++ a)) (sym same) ∙ h) in
+            let n = new_now sites j p u (cost k asked.line) class (good_whole opts sites input runs).sound m.runs in
             subst (λ v. IsNew sites (j ++ a) v o) (sym same) (subst (λ v. IsNew sites (j ++ a) u v) here (subst (λ l. IsNew sites (j ++ l) u (object_count j)) (sym e) n))
 
 pub law_new : LawNew

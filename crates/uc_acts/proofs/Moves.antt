@@ -15,7 +15,7 @@ use Rattle.uc_acts.specs.Legal.{DoorFit, IsFree, IsNext, Legal, removes}
 use Rattle.uc_acts.proofs.Noted.{noted_at}
 use Rattle.uc_acts.proofs.Spots.{spot_push}
 use Rattle.uc_acts.proofs.Seats.{inside_after, open_after, stacked_after, waiting_after, inside_same, open_same, stacked_same, waiting_same}
-use Rattle.uc_acts.proofs.Sound.{self_test, objects_push, tasks_push, some_object}
+use Rattle.uc_acts.proofs.SoundLemmas.{self_test, objects_push, tasks_push, some_object}
 
 -- where a task is
 

@@ -16,9 +16,9 @@ use Rattle.uc_acts.specs.Sound.{At, Sound, Spot, mover, spot, here}
 use Rattle.uc_acts.specs.Legal.{Legal, IsNext, removes}
 use Rattle.uc_acts.specs.Laws.{LawElsewhere, Untouched}
 use Rattle.uc_acts.specs.Acts.{act}
-use Rattle.uc_acts.proofs.Open.{still_open_silent}
+use Rattle.uc_acts.proofs.OpenLemmas.{still_open_silent}
 use Rattle.uc_acts.proofs.Seats.{running_other}
-use Rattle.uc_acts.proofs.Sound.{self_test, sound_step}
+use Rattle.uc_acts.proofs.SoundLemmas.{self_test, sound_step}
 use Rattle.uc_acts.proofs.Moves.{first_at, known_at, spot_stays}
 use Rattle.uc_acts.proofs.Rows.{Lawful}
 use Rattle.uc_acts.proofs.Law.{lawful_act, good_whole}

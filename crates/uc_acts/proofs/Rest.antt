@@ -12,7 +12,7 @@ use Rattle.uc_entry.specs.declared.entry.EntryKind.TheVariants as kind
 use Rattle.uc_entry.specs.declared.request.Request.{Request}
 use Rattle.uc_entry.specs.declared.request.Request.TheVariants as ask
 use Rattle.uc_entry.specs.declared.request.Piece.{Piece}
-use Rattle.uc_acts.specs.Journal.{Journal, entries_at, inside, entry, own_object, begin, is_fault, first_or_0}
+use Rattle.uc_acts.specs.Journal.{Journal, entries_at, inside, entry, own_object, begin, is_fault, first_or_0, Cost, cost, no_cost, asking}
 use Rattle.uc_acts.specs.Queues.{running, waiting, stacked, successor, first_ended, none_running, none_ready, none_served, all_ticks, cluster_count, processor_count, is_in_use}
 use Rattle.uc_acts.specs.Doors.{site_at, open_at, offered, next_met, blocked, destroys_busy, has_others}
 use Rattle.uc_tree.specs.SiteOffers.{clause_for, Met}
@@ -21,11 +21,11 @@ use Rattle.uc_acts.specs.Pending.{pending, oldest_in}
 use Rattle.uc_acts.specs.Stations.{Waits, Stacked, times}
 use Rattle.uc_acts.specs.Laws.{IsDeserted, LawInside}
 use Rattle.uc_acts.specs.KernelRuns.{Fits, KernelMay, KernelRuns, gives, no_room, acts, begun, more}
-use Rattle.uc_acts.specs.Acts.{admit, push, fault, admission, clause_by_way, met_by, called, took, accepted, accept_entry, signalled, handed, front, poll_entry, prints, or_fault, left_by, row, settled, entries_of, is_faulty, verdict, closing, ending, dispatch, lone_limit}
+use Rattle.uc_acts.specs.Acts.{admit, push, fault, admission, clause_by_way, met_by, called, took, accepted, accept_entry, signalled, handed, front, poll_entry, prints, or_fault, left_by, row, settled, entries_of, is_faulty, verdict, closing, ending, dispatch, lone_limit, admit_failed, failed_by_way, truth}
 use Rattle.uc_tree.specs.declared.limits.TheConstants.{OBJECTS, TASKS, PENDING_EVENTS, CLUSTERS, PROCESSORS}
 use Rattle.uc_acts.specs.Sound.{Sound, here}
 use Rattle.uc_acts.proofs.Seats.{inside_after}
-use Rattle.uc_acts.proofs.Sound.{self_test, all_kept, all_kept_nil}
+use Rattle.uc_acts.proofs.SoundLemmas.{self_test, all_kept, all_kept_nil}
 use Rattle.uc_acts.proofs.Moves.{one_inside, inside_now, open_now, waiting_now, stacked_now}
 use Rattle.uc_acts.proofs.Rows.{at_run, out_of, inside_called, open_called}
 use Rattle.uc_acts.proofs.Hush.{is_silent, SameDoor, door_other, door_silent}
@@ -87,13 +87,13 @@ rest_at o j a h here others v = by (o == v) refl
     by false e = rest_elsewhere o v j a h e (others v)
 
 -- whoever is admitted is inside
-rest_admit : (i : Journal) (p u o way clause : ℕ) → inside o i ≡ [] → Rest o (i ++ admit p u o way clause ∷ [])
-rest_admit i p u o way clause empty =
-    rest_inside o u [] _ (inside_now i (admit p u o way clause) ∙ ap (inside_after kind.Admit (admit p u o way clause)) empty)
+rest_admit : (i : Journal) (p u o way clause : ℕ) (failed : Bool) → inside o i ≡ [] → Rest o (i ++ admit_failed p u o way clause failed ∷ [])
+rest_admit i p u o way clause failed empty =
+    rest_inside o u [] _ (inside_now i (admit_failed p u o way clause failed) ∙ ap (inside_after kind.Admit (admit_failed p u o way clause failed)) empty)
 
-silent_prints : (p t k : ℕ) (items : List Piece) → AreSilent (prints p t k items)
+silent_prints : (p t : ℕ) (k : Cost) (items : List Piece) → AreSilent (prints p t k items)
 silent_prints p t k [] = tt
-silent_prints p t k (x ∷ items) = (refl, silent_prints p t 0 items)
+silent_prints p t k (x ∷ items) = (refl, silent_prints p t no_cost items)
 
 silent_or : (b : Bool) (e f : Entry) → is_silent e.kind ≡ true → is_silent f.kind ≡ true → AreSilent (or_fault b e f)
 silent_or true e f h g = (h, tt)
@@ -120,17 +120,17 @@ pub or_parts : (a b : Bool) → (a || b) ≡ false → (a ≡ false) × (b ≡ f
 or_parts true b h = cc
 or_parts false b h = (refl, h)
 
-module _ (opts : Options) (sites : List Site) (input : List ℕ) (j : Journal) (p t k line : ℕ) (s : Sound j) (runs : running p j ≡ t ∷ []) (rests : (o : ℕ) → Rest o j) where
+module _ (opts : Options) (sites : List Site) (input : List ℕ) (j : Journal) (p t : ℕ) (k : Cost) (line : ℕ) (s : Sound j) (runs : running p j ≡ t ∷ []) (rests : (o : ℕ) → Rest o j) where
   -- t goes out
   module _ (e : Entry) (out : inside e.object (j ++ e ∷ []) ≡ []) (w : waiting e.object (j ++ e ∷ []) ≡ waiting e.object j) (q : stacked e.object (j ++ e ∷ []) ≡ stacked e.object j) where
-    rest_next : (ss : List ℕ) (ws : List (ℕ × ℕ)) → stacked e.object j ≡ ss → waiting e.object j ≡ ws → Rest e.object (after (j ++ e ∷ []) (admission sites p e.object j (successor ss ws)))
+    rest_next : (ss : List ℕ) (ws : List (ℕ × ℕ)) → stacked e.object j ≡ ss → waiting e.object j ≡ ws → Rest e.object (after (j ++ e ∷ []) (admission sites p e.object (j ++ e ∷ []) (successor ss ws)))
     rest_next [] [] a b = λ f g. record { none_waits = w ∙ b; none_stacked = q ∙ a }
     rest_next [] (x ∷ ws) a b =
-        rest_admit (j ++ e ∷ []) p x.0 e.object 2 (clause_by_way sites e.object j (x.0, 2)) out
+        rest_admit (j ++ e ∷ []) p x.0 e.object 2 (clause_by_way sites e.object (j ++ e ∷ []) (x.0, 2)) (failed_by_way sites e.object (j ++ e ∷ []) (x.0, 2)) out
     rest_next (u ∷ us) ws a b =
-        rest_admit (j ++ e ∷ []) p u e.object 3 (clause_by_way sites e.object j (u, 3)) out
+        rest_admit (j ++ e ∷ []) p u e.object 3 (clause_by_way sites e.object (j ++ e ∷ []) (u, 3)) (failed_by_way sites e.object (j ++ e ∷ []) (u, 3)) out
 
-    at_next : (ss : List ℕ) (ws : List (ℕ × ℕ)) → AreAt e.object (admission sites p e.object j (successor ss ws))
+    at_next : (ss : List ℕ) (ws : List (ℕ × ℕ)) → AreAt e.object (admission sites p e.object (j ++ e ∷ []) (successor ss ws))
     at_next [] [] = tt
     at_next [] (x ∷ ws) = (refl, tt)
     at_next (u ∷ us) ws = (refl, tt)
@@ -143,19 +143,19 @@ module _ (opts : Options) (sites : List Site) (input : List ℕ) (j : Journal) (
   out_here e i h = out_of opts sites input j p t k line s runs e i h
 
   -- a call
-  rest_met : (o m m' : ℕ) (a : Entry) (rest : List Entry) (c : Option ℕ) → o < object_count j → open_at o j ≡ a ∷ rest → Rest o (after (j ++ entry kind.Call p t k o (pos m) (pos 0) ∷ []) (met_by p t o a.task m' c))
+  rest_met : (o m m' : ℕ) (a : Entry) (rest : List Entry) (c : Option ℕ) → o < object_count j → open_at o j ≡ a ∷ rest → Rest o (after (j ++ asking kind.Call p t k o (pos m) (pos 0) ∷ []) (met_by p t o a.task m' c))
   rest_met o m m' a rest None made h =
       rest_open o a rest _ (open_called opts sites input j p t k line s runs o m made ∙ h)
   rest_met o m (suc m') a rest (Some c) made h =
-      rest_admit _ p t o 1 0 (inside_called opts sites input j p t k line s runs o m made ∙ (s.doors o).top a rest h)
+      rest_admit _ p t o 1 0 false (inside_called opts sites input j p t k line s runs o m made ∙ (s.doors o).top a rest h)
   rest_met o m zero a rest (Some c) made h =
-      let i = j ++ entry kind.Call p t k o (pos m) (pos 0) ∷ [] in
+      let i = j ++ asking kind.Call p t k o (pos m) (pos 0) ∷ [] in
       let x = admit p a.task o 3 c in
       let now : inside o (i ++ x ∷ []) ≡ a.task ∷ [] = inside_now i x ∙ ap (inside_after kind.Admit x) (inside_called opts sites input j p t k line s runs o m made ∙ (s.doors o).top a rest h) in
       rest_inside o a.task [] _ (inside_now (i ++ x ∷ []) (push p t o) ∙ all_kept_nil (inside o (i ++ x ∷ [])) ∙ now)
 
-  rest_called : (o m : ℕ) (within : List ℕ) (opened : List Entry) → o < object_count j → inside o j ≡ within → open_at o j ≡ opened → Rest o (after (j ++ entry kind.Call p t k o (pos m) (pos 0) ∷ []) (called sites p t o m within opened))
-  rest_called o m [] [] made a b = rest_admit _ p t o 0 0 (inside_called opts sites input j p t k line s runs o m made ∙ a)
+  rest_called : (o m : ℕ) (within : List ℕ) (opened : List Entry) → o < object_count j → inside o j ≡ within → open_at o j ≡ opened → Rest o (after (j ++ asking kind.Call p t k o (pos m) (pos 0) ∷ []) (called sites p t o m within opened))
+  rest_called o m [] [] made a b = rest_admit _ p t o 0 0 false (inside_called opts sites input j p t k line s runs o m made ∙ a)
   rest_called o m (x ∷ xs) [] made a b = rest_inside o x xs _ (inside_called opts sites input j p t k line s runs o m made ∙ a)
   rest_called o m [] (x ∷ rest) made a b = rest_met o m m x rest (clause_for (offered sites x) m) made b
   rest_called o m (y ∷ ys) (x ∷ rest) made a b = rest_met o m m x rest (clause_for (offered sites x) m) made b
@@ -185,7 +185,7 @@ module _ (opts : Options) (sites : List Site) (input : List ℕ) (j : Journal) (
     rest_took site mask b (suc m) u =
         let e = accept_entry p t k o site mask b 1 in
         let self = self_test t in
-        rest_admit (j ++ e ∷ []) p u o 1 0 (inside_now j e ∙ ap (inside_after kind.Accept e) i ∙ simp self)
+        rest_admit (j ++ e ∷ []) p u o 1 0 false (inside_now j e ∙ ap (inside_after kind.Accept e) i ∙ simp self)
 
     at_took : (site mask : ℕ) (b : Bool) (m u : ℕ) → AreAt o (took p t k o site mask b m u)
     at_took site mask b zero u = (refl, (refl, tt))
@@ -212,10 +212,10 @@ module _ (opts : Options) (sites : List Site) (input : List ℕ) (j : Journal) (
 
     rest_signalled : (c : ℕ) (ws : List (ℕ × ℤ)) → Rest o (after j (signalled p t k o c ws))
     rest_signalled c [] =
-        let e = entry kind.Signal p t k o (pos c) (pos 0) in
+        let e = asking kind.Signal p t k o (pos c) (pos 0) in
         rest_inside o t [] _ (inside_now j e ∙ all_kept_nil (inside o j) ∙ i)
     rest_signalled c (w ∷ ws) =
-        let e = entry kind.Signal p t k o (pos c) (pos 1) in
+        let e = asking kind.Signal p t k o (pos c) (pos 1) in
         pushed e w.0 (inside_now j e ∙ all_kept_nil (inside o j) ∙ i)
 
     at_signalled : (c : ℕ) (ws : List (ℕ × ℤ)) → AreAt o (signalled p t k o c ws)
@@ -224,13 +224,13 @@ module _ (opts : Options) (sites : List Site) (input : List ℕ) (j : Journal) (
 
     rest_handed : (c : ℕ) (ws : List (ℕ × ℤ)) → Rest o (after j (handed p t k o c ws))
     rest_handed c [] =
-        let e = entry kind.SignalBlock p t k o (pos c) (pos 0) in
+        let e = asking kind.SignalBlock p t k o (pos c) (pos 0) in
         let self = self_test t in
         rest_inside o t [] _ (inside_now j e ∙ ap (inside_after kind.SignalBlock e) i ∙ simp self)
     rest_handed c (w ∷ ws) =
-        let e = entry kind.SignalBlock p t k o (pos c) (pos 1) in
+        let e = asking kind.SignalBlock p t k o (pos c) (pos 1) in
         let self = self_test t in
-        rest_admit (j ++ e ∷ []) p w.0 o 4 0 (inside_now j e ∙ ap (inside_after kind.SignalBlock e) i ∙ simp self)
+        rest_admit (j ++ e ∷ []) p w.0 o 4 0 false (inside_now j e ∙ ap (inside_after kind.SignalBlock e) i ∙ simp self)
 
     at_handed : (c : ℕ) (ws : List (ℕ × ℤ)) → AreAt o (handed p t k o c ws)
     at_handed c [] = (refl, tt)
@@ -249,40 +249,40 @@ module _ (opts : Options) (sites : List Site) (input : List ℕ) (j : Journal) (
 
   -- no fault stands in place of an entry of this row
   abbrev Calm : Request → Type 0
-  Calm r = is_faulty (settled (fault p t 0 10 line) j (row opts sites input j p t k line r)) ≡ false
+  Calm r = is_faulty (settled (fault p t no_cost 10 line) j (row opts sites input j p t k line r)) ≡ false
 
   row_rests : (r : Request) → Fits opts sites j t r → Calm r → (v : ℕ) → Rest v (after j (row opts sites input j p t k line r))
   row_rests (ask.Make class) f calm v = by (nat_lt (object_count j) OBJECTS)
     where
-      by : (b : Bool) → Rest v (after j (or_fault b (entry kind.Make p t k (object_count j) (pos class) (pos 0)) (fault p t k 16 line)))
+      by : (b : Bool) → Rest v (after j (or_fault b (asking kind.Make p t k (object_count j) (pos class) (pos 0)) (fault p t k 16 line)))
       by true =
-          let e = entry kind.Make p t k (object_count j) (pos class) (pos 0) in
+          let e = asking kind.Make p t k (object_count j) (pos class) (pos 0) in
           rest_at (object_count j) j (e ∷ []) (refl, tt) (rest_inside (object_count j) t [] _ (inside_now j e ∙ ap (inside_after kind.Make e) (s.fresh_inside (object_count j) (omega arith)))) rests v
       by false = rest_silent v j (fault p t k 16 line ∷ []) (refl, tt) (rests v)
   row_rests (ask.Made o) f calm v =
-      let e = entry kind.Made p t k o (pos 0) (pos 0) in
+      let e = asking kind.Made p t k o (pos 0) (pos 0) in
       rest_left e (out_here e (one_inside j o t s f.inside) (λ xs. refl)) (waiting_now j e ∙ all_kept_nil (waiting o j)) (stacked_now j e ∙ all_kept (stacked o j)) v
-  row_rests (ask.Leave o) f calm v =
-      let e = entry kind.Leave p t k o (pos 0) (pos 0) in
+  row_rests (ask.Leave o failed) f calm v =
+      let e = asking kind.Leave p t k o (truth failed) (pos 0) in
       rest_left e (out_here e (one_inside j o t s f.inside) (λ xs. refl)) (waiting_now j e ∙ all_kept_nil (waiting o j)) (stacked_now j e ∙ all_kept (stacked o j)) v
   row_rests (ask.Wait o c n) f calm v =
-      let e = entry kind.Wait p t k o (pos c) n in
+      let e = asking kind.Wait p t k o (pos c) n in
       rest_left e (out_here e (one_inside j o t s f.inside) (λ xs. refl)) (waiting_now j e ∙ all_kept_nil (waiting o j)) (stacked_now j e ∙ all_kept (stacked o j)) v
   row_rests ask.End f calm v =
       let o = own_object t j in
-      let e = entry kind.End p t k o (pos 0) (pos 0) in
+      let e = asking kind.End p t k o (pos 0) (pos 0) in
       rest_left e (out_here e (one_inside j o t s f.inside) (λ xs. refl)) (waiting_now j e ∙ all_kept_nil (waiting o j)) (stacked_now j e ∙ all_kept (stacked o j)) v
   row_rests (ask.Gone o) f calm v =
-      let e = entry kind.Gone p t k o (pos 0) (pos 0) in
+      let e = asking kind.Gone p t k o (pos 0) (pos 0) in
       rest_at o j (e ∷ []) (refl, tt) (gone_rests (has_others o t j) refl calm) rests v
     where
-      gone_rests : (b : Bool) → has_others o t j ≡ b → Calm (ask.Gone o) → Rest o (j ++ entry kind.Gone p t k o (pos 0) (pos 0) ∷ [])
+      gone_rests : (b : Bool) → has_others o t j ≡ b → Calm (ask.Gone o) → Rest o (j ++ asking kind.Gone p t k o (pos 0) (pos 0) ∷ [])
       gone_rests true h c = absurd (faulty (simp h at c))
         where
           faulty : true ≡ false → ⊥
           faulty e = cc
       gone_rests false h c =
-          let e = entry kind.Gone p t k o (pos 0) (pos 0) in
+          let e = asking kind.Gone p t k o (pos 0) (pos 0) in
           let d = none_there o h in
           λ a b. record {
             none_waits = waiting_now j e ∙ all_kept_nil (waiting o j) ∙ d.none_waits;
@@ -290,9 +290,9 @@ module _ (opts : Options) (sites : List Site) (input : List ℕ) (j : Journal) (
           }
   row_rests (ask.Spawn o) f calm v = by (nat_lt (task_count j) TASKS)
     where
-      by : (b : Bool) → Rest v (after j (or_fault b (entry kind.Spawn p t k o (pos (task_count j)) (pos 0)) (fault p t k 15 line)))
+      by : (b : Bool) → Rest v (after j (or_fault b (asking kind.Spawn p t k o (pos (task_count j)) (pos 0)) (fault p t k 15 line)))
       by true =
-          let e = entry kind.Spawn p t k o (pos (task_count j)) (pos 0) in
+          let e = asking kind.Spawn p t k o (pos (task_count j)) (pos 0) in
           let self = self_test t in
           rest_at o j (e ∷ []) (refl, tt) (rest_inside o (task_count j) [] _ (inside_now j e ∙ ap (inside_after kind.Spawn e) (one_inside j o t s f.0.inside) ∙ simp self)) rests v
       by false = rest_silent v j (fault p t k 15 line ∷ []) (refl, tt) (rests v)
@@ -377,10 +377,10 @@ rests_may opts sites input j _ s r (acts p t k asked m) n v = by (nat_le (length
     by : (b : Bool) → is_faulty (cond b whole (entry kind.Limit p t 0 0 (pos 0) (pos 0) ∷ [])) ≡ false → Rest v (j ++ cond b whole (entry kind.Limit p t 0 0 (pos 0) (pos 0) ∷ []))
     by false h = rest_silent v j (entry kind.Limit p t 0 0 (pos 0) (pos 0) ∷ []) (refl, tt) (r v)
     by true h =
-        let rows = row opts sites input j p t k asked.line asked.request in
+        let rows = row opts sites input j p t (cost k asked.line) asked.line asked.request in
         let parts = faulty_append a (ending opts j p t a) h in
-        let same : a ≡ rows = settled_calm (fault p t 0 10 asked.line) j rows refl parts.0 in
-        let r1 = row_rests opts sites input j p t k asked.line s m.runs r asked.request m.fits parts.0 v in
+        let same : a ≡ rows = settled_calm (fault p t no_cost 10 asked.line) j rows refl parts.0 in
+        let r1 = row_rests opts sites input j p t (cost k asked.line) asked.line s m.runs r asked.request m.fits parts.0 v in
         let r2 = rest_silent v (after j rows) (ending opts j p t a) (silent_ending opts j p t a) r1 in
         let there : after (after j rows) (ending opts j p t a) ≡ j ++ (a ++ ending opts j p t a) = after_append j rows (ending opts j p t a) ∙ ap (λ l. j ++ (l ++ ending opts j p t a)) (sym same) in
         subst (λ i. Rest v i) there r2

@@ -10,7 +10,7 @@ use Rattle.uc_acts.specs.Stations.{Station, Blocked, Running, times, tasks_at, o
 use Rattle.uc_acts.specs.Sound.{Spot, Unborn, Ended, At, spot, here, Sound}
 use Rattle.uc_acts.proofs.Seats.{blocked_tasks}
 use Rattle.uc_acts.proofs.Moves.{counted_at, known_at}
-use Rattle.uc_acts.proofs.Sound.{self_test}
+use Rattle.uc_acts.proofs.SoundLemmas.{self_test}
 
 below_one : (r : Station) (P : Spot) → here r P ≤ 1
 below_one r Unborn = omega arith

@@ -13,7 +13,7 @@ use Rattle.uc_acts.specs.Doors.{blocks, blocked_at, open_at, opens, shuts}
 use Rattle.uc_acts.specs.Stations.{Ready, Running, Waits, Stacked, Blocked, times, tasks_at}
 use Rattle.uc_acts.specs.Acts.{dispatch}
 use Rattle.std.proofs.lemmas.Bool.{eq-eqb}
-use Rattle.uc_acts.proofs.Open.{still_open_push}
+use Rattle.uc_acts.proofs.OpenLemmas.{still_open_push}
 use Rattle.uc_acts.proofs.Noted.{noted_at, noted_push}
 use Rattle.uc_acts.proofs.Times.{times_push, times_push_in, times_append}
 

@@ -7,15 +7,15 @@ use Rattle.std.proofs.lemmas.List.Sums.{fold_push}
 use Rattle.uc_entry.specs.declared.entry.Entry.{Entry}
 use Rattle.uc_entry.specs.declared.entry.EntryKind.{EntryKind}
 use Rattle.uc_entry.specs.declared.entry.EntryKind.TheVariants as kind
-use Rattle.uc_acts.specs.Journal.{Journal, inside, entries_at, holds, number}
+use Rattle.uc_acts.specs.Journal.{Journal, inside, entries_at, holds, number, is_task}
 use Rattle.uc_acts.specs.Queues.{waiting, stacked, stacks}
 use Rattle.uc_tree.specs.Programs.{Site}
-use Rattle.uc_acts.specs.Doors.{OnStack, open_at, offered, stack_at, stack_after, put_top, taken_off, admitted_past, met_top, last_call, last_called, last_from, told_from}
+use Rattle.uc_acts.specs.Doors.{OnStack, open_at, offered, stack_at, stack_after, put_top, taken_off, admitted_past, met_top, last_call, last_called, last_from, told_from, left_by_task}
 use Rattle.uc_acts.specs.Stations.{Waits, times, tasks_at}
 use Rattle.uc_acts.specs.Sound.{mover, DoorOk, Sound, Each, IsOffering, Stood}
 use Rattle.uc_acts.specs.Legal.{DoorFit, Legal, removes}
 use Rattle.uc_acts.proofs.Seats.{at_push, at_other, open_after, stacked_after, waiting_after, open_other, open_same, stacked_other, stacked_same, waiting_other, waiting_same}
-use Rattle.uc_acts.proofs.Sound.{nothing_open, self_test, all_kept, all_kept_nil, none_kept}
+use Rattle.uc_acts.proofs.SoundLemmas.{nothing_open, self_test, all_kept, all_kept_nil, none_kept}
 
 -- the last call of each task
 
@@ -63,14 +63,22 @@ stands_same sites o j e h =
 
 -- its tasks are those of the stack
 
-tasks_met : (m : Option ℕ) (ss : List OnStack) → map (λ s. s.task) (met_top m ss) ≡ map (λ s. s.task) ss
-tasks_met None ss = refl
-tasks_met (Some m) [] = refl
-tasks_met (Some m) (s ∷ ss) = refl
+tasks_met : (t : ℕ) (m : Option ℕ) (ss : List OnStack) → map (λ s. s.task) (met_top t m ss) ≡ map (λ s. s.task) ss
+tasks_met t None ss = refl
+tasks_met t (Some m) [] = refl
+tasks_met t (Some m) (s ∷ ss) = refl
 
-tasks_past : (b : Bool) (m : Option ℕ) (ss : List OnStack) → map (λ s. s.task) (admitted_past b m ss) ≡ map (λ s. s.task) ss
-tasks_past true m ss = tasks_met m ss
-tasks_past false m ss = refl
+tasks_past : (b : Bool) (t : ℕ) (m : Option ℕ) (ss : List OnStack) → map (λ s. s.task) (admitted_past b t m ss) ≡ map (λ s. s.task) ss
+tasks_past true t m ss = tasks_met t m ss
+tasks_past false t m ss = refl
+
+tasks_left : (t : ℕ) (b : Bool) (ss : List OnStack) → map (λ s. s.task) (map (left_by_task t b) ss) ≡ map (λ s. s.task) ss
+tasks_left t b [] = refl
+tasks_left t b (s ∷ ss) = by (is_task t s.met) (tasks_left t b ss)
+  where
+    by : (c : Bool) → map (λ s. s.task) (map (left_by_task t b) ss) ≡ map (λ s. s.task) ss → (cond c (record s { met = None; failed = b }) s).task ∷ map (λ s. s.task) (map (left_by_task t b) ss) ≡ s.task ∷ map (λ s. s.task) ss
+    by true ih = ap (λ l. s.task ∷ l) ih
+    by false ih = ap (λ l. s.task ∷ l) ih
 
 pub flip : (a b : ℕ) (c : Bool) → (a == b) ≡ c → (b == a) ≡ c
 flip a b true h = eq-eqb b a (sym (eqb-true a b h))
@@ -103,7 +111,8 @@ tasks_after sites kind.SignalBlock e m ss =
 tasks_after sites kind.Push e m ss =
     tasks_top (stacks kind.Push e) [] ss ∙ ap (λ l. option_to_list (stacks kind.Push e) ++ l) (sym (all_kept (map (λ s. s.task) ss)))
 tasks_after sites kind.Admit e m ss =
-    tasks_past (holds 1 e.a) m (taken_off e.task ss) ∙ tasks_off e.task ss
+    tasks_past (holds 1 e.a) e.task m (taken_off e.task ss) ∙ tasks_off e.task ss
+tasks_after sites kind.Leave e m ss = tasks_left e.task (holds 1 e.a) ss ∙ sym (all_kept (map (λ s. s.task) ss))
 tasks_after sites k e m ss = sym (all_kept (map (λ s. s.task) ss))
 
 -- the acceptor of an open accept stays on top
@@ -123,8 +132,8 @@ module _ (sites : List Site) (e : Entry) (within : List ℕ) (opened : List Entr
       let now : open_after kind.Accept e opened ≡ e ∷ [] = ap (open_after kind.Accept e) n ∙ simp g in
       let same : a ∷ rest ≡ e ∷ [] = sym f ∙ now in
       let first : a ≡ e = cc in
-      let up : stack_after sites kind.Accept e m ss ≡ record { task = e.task; offers = offered sites e; clause = 0 } ∷ ss = simp g in
-      record { below = ss; top = up ∙ ap (λ x. record { task = x.task; offers = offered sites x; clause = 0 } ∷ ss) (sym first) }
+      let up : stack_after sites kind.Accept e m ss ≡ record { task = e.task; offers = offered sites e; clause = 0; met = None; failed = false } ∷ ss = simp g in
+      record { below = ss; top = up ∙ ap (λ x. record { task = x.task; offers = offered sites x; clause = 0; met = None; failed = false } ∷ ss) (sym first) }
   offering_accept false g n a rest f =
       no_open a rest (open_after kind.Accept e opened) (ap (open_after kind.Accept e) n ∙ simp g) f
 
@@ -135,6 +144,7 @@ module _ (sites : List Site) (e : Entry) (within : List ℕ) (opened : List Entr
   offering_step kind.Accept f = offering_accept (holds 0 e.d) refl (nothing_open within opened stack e.task d f)
   offering_step kind.SignalBlock f = offering_shut kind.SignalBlock (nothing_open within opened stack e.task d f) refl
   offering_step kind.Push f = offering_shut kind.Push f refl
+  offering_step kind.Leave f = offering_shut kind.Leave (nothing_open within opened stack e.task d f) refl
   offering_step kind.Admit f = λ a rest g. no_open a rest (open_after kind.Admit e opened) (none_kept opened) g
   offering_step k f = offering_kept sites opened ss h
 

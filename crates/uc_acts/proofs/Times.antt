@@ -7,7 +7,7 @@ use Rattle.std.proofs.lemmas.List.{map-append}
 use Rattle.std.proofs.lemmas.List.Elements.{filter-append}
 use Rattle.uc_acts.specs.Open.{still_open}
 use Rattle.uc_acts.specs.Stations.{times}
-use Rattle.uc_acts.proofs.Open.{still_open_push}
+use Rattle.uc_acts.proofs.OpenLemmas.{still_open_push}
 
 pub times_append : (t : ℕ) (xs ys : List ℕ) → times t (xs ++ ys) ≡ times t xs + times t ys
 times_append t [] ys = omega arith

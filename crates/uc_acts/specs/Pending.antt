@@ -1,16 +1,12 @@
 -- The events that are pending at a task.
-use Rattle.std.specs.Prelude.{ℕ, ℤ, ◌==◌, ◌+◌, Bool, List, [], ◌∷◌, ◌++◌, Option, if◌then◌else◌}
+use Rattle.std.specs.Prelude.{ℕ, ℤ, ◌==◌, ◌+◌, List, [], ◌∷◌, ◌++◌, Option, if◌then◌else◌}
 use Rattle.std.specs.List.{find, fold}
 use Rattle.uc_entry.specs.declared.entry.Entry.{Entry}
 use Rattle.uc_entry.specs.declared.entry.EntryKind.{EntryKind}
 use Rattle.uc_entry.specs.declared.entry.EntryKind.TheVariants as kind
+pub use Rattle.uc_entry.specs.Keyed.{signed_64, drop_first}
 use Rattle.uc_acts.specs.Journal.{Journal, number, holds}
 use Rattle.uc_tree.specs.SiteOffers.{has_bit}
-
--- without the first that passes a test
-abbrev pub drop_first : {A : Type 0} → (A → Bool) → List A → List A
-drop_first p [] = []
-drop_first p (x ∷ xs) = if p x then xs else x ∷ drop_first p xs
 
 -- what is pending at task t once an entry stands: a raise at it comes to the end, and a poll that delivers an event takes its oldest
 abbrev pub pending_by : ℕ → List (ℕ × ℤ × ℤ) → EntryKind → Entry → List (ℕ × ℤ × ℤ)

@@ -17,19 +17,19 @@ use Rattle.uc_entry.specs.declared.request.Piece.{Piece}
 use Rattle.uc_entry.specs.declared.request.Request.{Request}
 use Rattle.uc_entry.specs.declared.request.Request.TheVariants as ask
 use Rattle.uc_acts.specs.declared.got.Got.{Got}
-use Rattle.uc_acts.specs.Journal.{Journal, begin, entry, holds, is_over, is_ending, held, own_object, entries_at}
+use Rattle.uc_acts.specs.Journal.{Journal, Cost, cost, no_cost, asking, begin, entry, holds, is_over, is_ending, held, own_object, entries_at}
 use Rattle.uc_acts.specs.Queues.{running, ready, waiting, stacked, used, next, successor, first_ended, ends_first, none_running, none_ready, none_served, all_ticks, processor_count, cluster_count, processors, open_processors, is_processor, is_cluster, is_nobody, closes, makes_processor}
 use Rattle.uc_acts.specs.Open.{still_open}
 use Rattle.uc_acts.specs.Known.{takes_out}
 use Rattle.uc_acts.specs.Reading.{next_read, bytes_used, has_failed}
 use Rattle.uc_acts.specs.Answers.{answer_to, tells, asks}
 use Rattle.uc_acts.specs.Acts.{act, settled, fault, admission, entries_of, verdict, ending, fitted, closing, prints, read_entry, truth, is_faulty, dispatch}
-use Rattle.uc_acts.proofs.Open.{any_push}
+use Rattle.uc_acts.proofs.OpenLemmas.{any_push}
 use Rattle.uc_acts.proofs.Answered.{answer_push, later}
 use Rattle.uc_acts.proofs.Given.{answer_given}
 use Rattle.uc_alone.specs.declared.tally.Tally.{Tally}
-use Rattle.uc_alone.specs.Alone.{opening, plain, limited, Unseen, Running, Ready, Tells, Told}
-use Rattle.uc_alone.specs.Kept.{tick_limit, Fitted, stands, replaced, Acted, goes_on, stops, Makes, goes, given, full, over, odd, After, Closing, by_done, by_fault, by_limit, Ended, is_few, is_answered, tally_after_read, tally_after_ticks, tally_dispatched}
+use Rattle.uc_alone.specs.Alone.{opening, plain, limited, Unseen, Running, Ready, Tells, Told, is_object}
+use Rattle.uc_alone.specs.Kept.{tick_limit, Fitted, stands, replaced, Acted, goes_on, stops, Makes, goes, given, full, over, After, Closing, by_done, by_fault, by_limit, Ended, is_answered, tally_after_read, tally_after_ticks, tally_dispatched}
 use Rattle.uc_alone.proofs.EntryLemmas.{print_unseen, read_unseen, fail_unseen, running_more, more_used, more_ticks, sliced, dispatched, no_used, slice_takes_none, used_last, failed_last}
 
 or_true : (b : Bool) → (b || true) ≡ true
@@ -59,7 +59,7 @@ ended_over j e =
 
 pub data AllUnseen : ℕ → List Entry → Type 0 where
   none : AllUnseen 0 []
-  one : (k : EntryKind) (n m : ℕ) (a b c d : ℤ) (es : List Entry) → Unseen k → AllUnseen m es → AllUnseen (n + m) (plain k n a b c d ∷ es)
+  one : (k : EntryKind) (n : Cost) (m : ℕ) (a b c d : ℤ) (es : List Entry) → Unseen k → AllUnseen m es → AllUnseen (n.ticks + m) (plain k n a b c d ∷ es)
 
 running_all : {n : ℕ} (es : List Entry) (j : Journal) → AllUnseen n es → Running j → Running (j ++ es)
 running_all _ j none f = subst Running (sym (append-nil j)) f
@@ -209,15 +209,15 @@ module _ (opts : Options) (alone : opts.processors ≡ 1) (input : List ℕ) (ol
   act_then h r t sites =
       acted_is opts sites input old ticks tally.all asked es (h.makes t sites) (not_faulty es h.unseen) (running_verdict opts alone (old ++ es) (running_all es old h.unseen r)) (all_then h t)
 
-  pub entered : (x : Answer) → is_answered asked.request ≡ true → (asked.request ≡ ask.Slice → ⊥) → Enters → Told (old ++ es) x → Acted opts old es tally.all new true → After opts input old told ticks asked new tally (Some x)
-  entered x i n h told_then (goes_on lt room e) =
+  pub entered : (x : Answer) → is_object x ≡ false → is_answered asked.request ≡ true → (asked.request ≡ ask.Slice → ⊥) → Enters → Told (old ++ es) x → Acted opts old es tally.all new true → After opts input old told ticks asked new tally (Some x)
+  entered x made i n h told_then (goes_on lt room e) =
       let whole : fitted opts old 0 0 (es ++ tick_limit opts tally.all) ≡ es = ap (λ c. fitted opts old 0 0 (es ++ cond c limited [])) (lt-leb _ _ lt) ∙ ap (fitted opts old 0 0) (append-nil es) ∙ ap (λ b. cond b es limited) (le-leb _ _ room) in
       let l = length-append old es in
       let m = ap length e in
       let some = h.some in
       let s = h.since in
       record {
-        kept = λ r t. goes es x i (λ sites. act_then h r t sites ∙ whole) (takes_all es h.unseen) e (subst Running (sym e) (running_all es old h.unseen r)) (λ sites. ap (answer_to sites 0) e ∙ told_then sites);
+        kept = λ r t. goes es x i (λ sites. act_then h r t sites ∙ whole) (takes_all es h.unseen) made e (subst Running (sym e) (running_all es old h.unseen r)) (λ sites. ap (answer_to sites 0) e ∙ told_then sites);
         tells = λ y q t. record {
           bytes = ap bytes_used e ∙ h.bytes t;
           failed = ap has_failed e ∙ h.failed t;
@@ -245,40 +245,40 @@ module _ (opts : Options) (alone : opts.processors ≡ 1) (input : List ℕ) (ol
 
 -- printing
 
-prints_are : (f : Entry) (j : Journal) (k : ℕ) (is : List Piece) → settled f j (prints 0 0 k is) ≡ prints 0 0 k is
+prints_are : (f : Entry) (j : Journal) (k : Cost) (is : List Piece) → settled f j (prints 0 0 k is) ≡ prints 0 0 k is
 prints_are f j k [] = refl
 prints_are f j k (i ∷ is) =
-    let e = entry kind.Print 0 0 k 0 (pos i.form) i.value in ap (λ es. e ∷ es) (prints_are f (j ++ e ∷ []) 0 is)
+    let e = asking kind.Print 0 0 k 0 (pos i.form) i.value in ap (λ es. e ∷ es) (prints_are f (j ++ e ∷ []) no_cost is)
 
-more_prints : (is : List Piece) → AllUnseen 0 (prints 0 0 0 is)
+more_prints : (is : List Piece) → AllUnseen 0 (prints 0 0 no_cost is)
 more_prints [] = none
-more_prints (i ∷ is) = one kind.Print 0 0 (pos i.form) i.value (pos 0) (pos 0) (prints 0 0 0 is) print_unseen (more_prints is)
+more_prints (i ∷ is) = one kind.Print no_cost 0 (pos i.form) i.value (pos 0) (pos 0) (prints 0 0 no_cost is) print_unseen (more_prints is)
 
-prints_unseen : (k : ℕ) (is : List Piece) → 1 ≤ length is → AllUnseen k (prints 0 0 k is)
+prints_unseen : (k : Cost) (is : List Piece) → 1 ≤ length is → AllUnseen k.ticks (prints 0 0 k is)
 prints_unseen k [] h = absurd (omega (arith, h))
 prints_unseen k (i ∷ is) h =
-    subst (λ n. AllUnseen n (prints 0 0 k (i ∷ is))) (add-zero k) (one kind.Print k 0 (pos i.form) i.value (pos 0) (pos 0) (prints 0 0 0 is) print_unseen (more_prints is))
+    subst (λ n. AllUnseen n (prints 0 0 k (i ∷ is))) (add-zero k.ticks) (one kind.Print k 0 (pos i.form) i.value (pos 0) (pos 0) (prints 0 0 no_cost is) print_unseen (more_prints is))
 
-prints_some : (k : ℕ) (is : List Piece) → 1 ≤ length is → 0 < length (prints 0 0 k is)
+prints_some : (k : Cost) (is : List Piece) → 1 ≤ length is → 0 < length (prints 0 0 k is)
 prints_some k [] h = absurd (omega (arith, h))
 prints_some k (i ∷ is) h = omega arith
 
-prints_bytes : (j : Journal) (k : ℕ) (is : List Piece) → bytes_used (j ++ prints 0 0 k is) ≡ bytes_used j
+prints_bytes : (j : Journal) (k : Cost) (is : List Piece) → bytes_used (j ++ prints 0 0 k is) ≡ bytes_used j
 unfolding bytes_used
 prints_bytes j k [] = ap bytes_used (append-nil j)
 prints_bytes j k (i ∷ is) =
-    let e = entry kind.Print 0 0 k 0 (pos i.form) i.value in
-    ap bytes_used (sym (append_assoc j (e ∷ []) (prints 0 0 0 is))) ∙ prints_bytes (j ++ e ∷ []) 0 is ∙ by e refl
+    let e = asking kind.Print 0 0 k 0 (pos i.form) i.value in
+    ap bytes_used (sym (append_assoc j (e ∷ []) (prints 0 0 no_cost is))) ∙ prints_bytes (j ++ e ∷ []) no_cost is ∙ by e refl
   where
     by : (e : Entry) → e.kind ≡ kind.Print → bytes_used (j ++ e ∷ []) ≡ bytes_used j
     by e h = used_last j 0 e ∙ simp h
 
-prints_failed : (j : Journal) (k : ℕ) (is : List Piece) → has_failed (j ++ prints 0 0 k is) ≡ has_failed j
+prints_failed : (j : Journal) (k : Cost) (is : List Piece) → has_failed (j ++ prints 0 0 k is) ≡ has_failed j
 unfolding has_failed
 prints_failed j k [] = ap has_failed (append-nil j)
 prints_failed j k (i ∷ is) =
-    let e = entry kind.Print 0 0 k 0 (pos i.form) i.value in
-    ap has_failed (sym (append_assoc j (e ∷ []) (prints 0 0 0 is))) ∙ prints_failed (j ++ e ∷ []) 0 is ∙ by e refl
+    let e = asking kind.Print 0 0 k 0 (pos i.form) i.value in
+    ap has_failed (sym (append_assoc j (e ∷ []) (prints 0 0 no_cost is))) ∙ prints_failed (j ++ e ∷ []) no_cost is ∙ by e refl
   where
     by : (e : Entry) → e.kind ≡ kind.Print → has_failed (j ++ e ∷ []) ≡ has_failed j
     by e h = failed_last j false e ∙ simp h
@@ -286,36 +286,36 @@ prints_failed j k (i ∷ is) =
 told_last : (j : Journal) (e : Entry) (x : Answer) → ((sites : List Site) → tells sites 0 e.kind e ≡ Some x) → Told (j ++ e ∷ []) x
 told_last j e x h sites = answer_push sites 0 j e ∙ ap (λ o. later o (asks 0 e.kind e) (answer_to sites 0 j)) (h sites)
 
-prints_told_more : (j : Journal) (is : List Piece) → Told j answer.Go → Told (j ++ prints 0 0 0 is) answer.Go
+prints_told_more : (j : Journal) (is : List Piece) → Told j answer.Go → Told (j ++ prints 0 0 no_cost is) answer.Go
 prints_told_more j [] h sites = ap (answer_to sites 0) (append-nil j) ∙ h sites
 prints_told_more j (i ∷ is) h sites =
-    let e = entry kind.Print 0 0 0 0 (pos i.form) i.value in
-    ap (answer_to sites 0) (sym (append_assoc j (e ∷ []) (prints 0 0 0 is))) ∙ prints_told_more (j ++ e ∷ []) is (told_last j e answer.Go (λ s. refl)) sites
+    let e = asking kind.Print 0 0 no_cost 0 (pos i.form) i.value in
+    ap (answer_to sites 0) (sym (append_assoc j (e ∷ []) (prints 0 0 no_cost is))) ∙ prints_told_more (j ++ e ∷ []) is (told_last j e answer.Go (λ s. refl)) sites
 
-prints_told : (j : Journal) (k : ℕ) (is : List Piece) → 1 ≤ length is → Told (j ++ prints 0 0 k is) answer.Go
+prints_told : (j : Journal) (k : Cost) (is : List Piece) → 1 ≤ length is → Told (j ++ prints 0 0 k is) answer.Go
 prints_told j k [] h sites = absurd (omega (arith, h))
 prints_told j k (i ∷ is) h sites =
-    let e = entry kind.Print 0 0 k 0 (pos i.form) i.value in
-    ap (answer_to sites 0) (sym (append_assoc j (e ∷ []) (prints 0 0 0 is))) ∙ prints_told_more (j ++ e ∷ []) is (told_last j e answer.Go (λ s. refl)) sites
+    let e = asking kind.Print 0 0 k 0 (pos i.form) i.value in
+    ap (answer_to sites 0) (sym (append_assoc j (e ∷ []) (prints 0 0 no_cost is))) ∙ prints_told_more (j ++ e ∷ []) is (told_last j e answer.Go (λ s. refl)) sites
 
-prints_enter : (opts : Options) (alone : opts.processors ≡ 1) (input : List ℕ) (old new : Journal) (told : Tally) (ticks n line : ℕ) (items pieces : List Piece) → take n items ≡ pieces → 1 ≤ length pieces → Enters opts alone input old new told (tally_after_ticks told ticks) ticks (record { request = ask.Print n items; line = line }) (prints 0 0 ticks pieces)
+prints_enter : (opts : Options) (alone : opts.processors ≡ 1) (input : List ℕ) (old new : Journal) (told : Tally) (ticks n line : ℕ) (items pieces : List Piece) → take n items ≡ pieces → 1 ≤ length pieces → Enters opts alone input old new told (tally_after_ticks told ticks) ticks (record { request = ask.Print n items; line = line }) (prints 0 0 (cost ticks line) pieces)
 prints_enter opts alone input old new told ticks n line items pieces e some = record {
-  unseen = prints_unseen ticks pieces some;
-  some = prints_some ticks pieces some;
-  makes = λ t sites. ap (λ is. settled (fault 0 0 0 10 line) old (prints 0 0 ticks is)) e ∙ prints_are (fault 0 0 0 10 line) old ticks pieces;
-  bytes = λ t. prints_bytes old ticks pieces ∙ t.bytes;
-  failed = λ t. prints_failed old ticks pieces ∙ t.failed;
+  unseen = prints_unseen (cost ticks line) pieces some;
+  some = prints_some (cost ticks line) pieces some;
+  makes = λ t sites. ap (λ is. settled (fault 0 0 no_cost 10 line) old (prints 0 0 (cost ticks line) is)) e ∙ prints_are (fault 0 0 no_cost 10 line) old (cost ticks line) pieces;
+  bytes = λ t. prints_bytes old (cost ticks line) pieces ∙ t.bytes;
+  failed = λ t. prints_failed old (cost ticks line) pieces ∙ t.failed;
   since = refl;
   all = refl;
 }
 
-pub print_goes : (opts : Options) (alone : opts.processors ≡ 1) (input : List ℕ) (old new : Journal) (told after : Tally) (ticks n line : ℕ) (items pieces : List Piece) (going : Bool) → take n items ≡ pieces → 1 ≤ length pieces → after ≡ tally_after_ticks told ticks → Acted opts old (prints 0 0 ticks pieces) after.all new going → going ≡ true → After opts input old told ticks (record { request = ask.Print n items; line = line }) new after (Some answer.Go)
+pub print_goes : (opts : Options) (alone : opts.processors ≡ 1) (input : List ℕ) (old new : Journal) (told after : Tally) (ticks n line : ℕ) (items pieces : List Piece) (going : Bool) → take n items ≡ pieces → 1 ≤ length pieces → after ≡ tally_after_ticks told ticks → Acted opts old (prints 0 0 (cost ticks line) pieces) after.all new going → going ≡ true → After opts input old told ticks (record { request = ask.Print n items; line = line }) new after (Some answer.Go)
 print_goes opts alone input old new told after ticks n line items pieces g e some q h b =
-    subst (λ t. After opts input old told ticks (record { request = ask.Print n items; line = line }) new t (Some answer.Go)) (sym q) (entered opts alone input old new told (tally_after_ticks told ticks) ticks (record { request = ask.Print n items; line = line }) (prints 0 0 ticks pieces) answer.Go refl (λ e. absurd (cc e)) (prints_enter opts alone input old new told ticks n line items pieces e some) (prints_told old ticks pieces some) (subst (λ t. Acted opts old (prints 0 0 ticks pieces) t.all new true) q (subst (Acted opts old (prints 0 0 ticks pieces) after.all new) b h)))
+    subst (λ t. After opts input old told ticks (record { request = ask.Print n items; line = line }) new t (Some answer.Go)) (sym q) (entered opts alone input old new told (tally_after_ticks told ticks) ticks (record { request = ask.Print n items; line = line }) (prints 0 0 (cost ticks line) pieces) answer.Go refl refl (λ e. absurd (cc e)) (prints_enter opts alone input old new told ticks n line items pieces e some) (prints_told old (cost ticks line) pieces some) (subst (λ t. Acted opts old (prints 0 0 (cost ticks line) pieces) t.all new true) q (subst (Acted opts old (prints 0 0 (cost ticks line) pieces) after.all new) b h)))
 
-pub print_stops : (opts : Options) (alone : opts.processors ≡ 1) (input : List ℕ) (old new : Journal) (told after : Tally) (ticks n line : ℕ) (items pieces : List Piece) (going : Bool) → take n items ≡ pieces → 1 ≤ length pieces → after ≡ tally_after_ticks told ticks → Acted opts old (prints 0 0 ticks pieces) after.all new going → going ≡ false → After opts input old told ticks (record { request = ask.Print n items; line = line }) new after None
+pub print_stops : (opts : Options) (alone : opts.processors ≡ 1) (input : List ℕ) (old new : Journal) (told after : Tally) (ticks n line : ℕ) (items pieces : List Piece) (going : Bool) → take n items ≡ pieces → 1 ≤ length pieces → after ≡ tally_after_ticks told ticks → Acted opts old (prints 0 0 (cost ticks line) pieces) after.all new going → going ≡ false → After opts input old told ticks (record { request = ask.Print n items; line = line }) new after None
 print_stops opts alone input old new told after ticks n line items pieces g e some q h b =
-    subst (λ t. After opts input old told ticks (record { request = ask.Print n items; line = line }) new t None) (sym q) (stopped opts alone input old new told (tally_after_ticks told ticks) ticks (record { request = ask.Print n items; line = line }) (prints 0 0 ticks pieces) (prints_enter opts alone input old new told ticks n line items pieces e some) (subst (λ t. Acted opts old (prints 0 0 ticks pieces) t.all new false) q (subst (Acted opts old (prints 0 0 ticks pieces) after.all new) b h)))
+    subst (λ t. After opts input old told ticks (record { request = ask.Print n items; line = line }) new t None) (sym q) (stopped opts alone input old new told (tally_after_ticks told ticks) ticks (record { request = ask.Print n items; line = line }) (prints 0 0 (cost ticks line) pieces) (prints_enter opts alone input old new told ticks n line items pieces e some) (subst (λ t. Acted opts old (prints 0 0 (cost ticks line) pieces) t.all new false) q (subst (Acted opts old (prints 0 0 (cost ticks line) pieces) after.all new) b h)))
 
 -- reading
 
@@ -328,8 +328,8 @@ failed_by true c = refl
 failed_by false c = refl
 
 -- one entry that no filter sees
-one_unseen : (k : EntryKind) (n : ℕ) (a b c d : ℤ) → Unseen k → AllUnseen n (plain k n a b c d ∷ [])
-one_unseen k n a b c d u = subst (λ m. AllUnseen m (plain k n a b c d ∷ [])) (add-zero n) (one k n 0 a b c d [] u none)
+one_unseen : (k : EntryKind) (n : Cost) (a b c d : ℤ) → Unseen k → AllUnseen n.ticks (plain k n a b c d ∷ [])
+one_unseen k n a b c d u = subst (λ m. AllUnseen m (plain k n a b c d ∷ [])) (add-zero n.ticks) (one k n 0 a b c d [] u none)
 
 module _ (opts : Options) (alone : opts.processors ≡ 1) (input : List ℕ) (old new : Journal) (told : Tally) (ticks form line : ℕ) (g : Got) (is : Tells old told → g ≡ next_read form input old) where
   abbrev read_asked : Asked
@@ -338,26 +338,26 @@ module _ (opts : Options) (alone : opts.processors ≡ 1) (input : List ℕ) (ol
   abbrev read_tally : Tally
   read_tally = tally_after_ticks (tally_after_read told g) ticks
 
-  read_enters : Enters opts alone input old new told read_tally ticks read_asked (read_entry 0 0 ticks form g told.bytes ∷ [])
+  read_enters : Enters opts alone input old new told read_tally ticks read_asked (read_entry 0 0 (cost ticks line) form g told.bytes ∷ [])
   unfolding bytes_used has_failed
   read_enters = record {
-    unseen = one_unseen kind.Read ticks (pos form) g.value (truth g.failed) (pos (told.bytes + g.taken)) read_unseen;
+    unseen = one_unseen kind.Read (cost ticks line) (pos form) g.value (truth g.failed) (pos (told.bytes + g.taken)) read_unseen;
     some = omega arith;
-    makes = λ t sites. ap (λ x. read_entry 0 0 ticks form x (bytes_used old) ∷ []) (sym (is t)) ∙ ap (λ u. read_entry 0 0 ticks form g u ∷ []) t.bytes;
-    bytes = λ t. used_last old 0 (read_entry 0 0 ticks form g told.bytes);
-    failed = λ t. failed_last old false (read_entry 0 0 ticks form g told.bytes) ∙ ap (λ b. cond (holds 1 (truth g.failed)) true b) t.failed ∙ failed_by g.failed told.failed;
+    makes = λ t sites. ap (λ x. read_entry 0 0 (cost ticks line) form x (bytes_used old) ∷ []) (sym (is t)) ∙ ap (λ u. read_entry 0 0 (cost ticks line) form g u ∷ []) t.bytes;
+    bytes = λ t. used_last old 0 (read_entry 0 0 (cost ticks line) form g told.bytes);
+    failed = λ t. failed_last old false (read_entry 0 0 (cost ticks line) form g told.bytes) ∙ ap (λ b. cond (holds 1 (truth g.failed)) true b) t.failed ∙ failed_by g.failed told.failed;
     since = refl;
     all = refl;
   }
 
-  pub read_goes : (after : Tally) (e : Entry) (going : Bool) (x : Answer) → after ≡ read_tally → e ≡ read_entry 0 0 ticks form g told.bytes → x ≡ answer.Value g.value g.failed → Acted opts old (e ∷ []) after.all new going → going ≡ true → After opts input old told ticks read_asked new after (Some x)
+  pub read_goes : (after : Tally) (e : Entry) (going : Bool) (x : Answer) → after ≡ read_tally → e ≡ read_entry 0 0 (cost ticks line) form g told.bytes → x ≡ answer.Value g.value g.failed → Acted opts old (e ∷ []) after.all new going → going ≡ true → After opts input old told ticks read_asked new after (Some x)
   read_goes after e going x q k y h b =
-      let told_then : Told (old ++ read_entry 0 0 ticks form g told.bytes ∷ []) (answer.Value g.value g.failed) = told_last old (read_entry 0 0 ticks form g told.bytes) (answer.Value g.value g.failed) (λ s. ap (λ f. Some (answer.Value g.value f)) (holds_truth g.failed)) in
-      subst (λ t. After opts input old told ticks read_asked new t (Some x)) (sym q) (subst (λ y. After opts input old told ticks read_asked new read_tally (Some y)) (sym y) (entered opts alone input old new told read_tally ticks read_asked (read_entry 0 0 ticks form g told.bytes ∷ []) (answer.Value g.value g.failed) refl (λ e. absurd (cc e)) read_enters told_then (subst (λ t. Acted opts old (read_entry 0 0 ticks form g told.bytes ∷ []) t.all new true) q (subst (λ z. Acted opts old (z ∷ []) after.all new true) k (subst (Acted opts old (e ∷ []) after.all new) b h)))))
+      let told_then : Told (old ++ read_entry 0 0 (cost ticks line) form g told.bytes ∷ []) (answer.Value g.value g.failed) = told_last old (read_entry 0 0 (cost ticks line) form g told.bytes) (answer.Value g.value g.failed) (λ s. ap (λ f. Some (answer.Value g.value f)) (holds_truth g.failed)) in
+      subst (λ t. After opts input old told ticks read_asked new t (Some x)) (sym q) (subst (λ y. After opts input old told ticks read_asked new read_tally (Some y)) (sym y) (entered opts alone input old new told read_tally ticks read_asked (read_entry 0 0 (cost ticks line) form g told.bytes ∷ []) (answer.Value g.value g.failed) refl refl (λ e. absurd (cc e)) read_enters told_then (subst (λ t. Acted opts old (read_entry 0 0 (cost ticks line) form g told.bytes ∷ []) t.all new true) q (subst (λ z. Acted opts old (z ∷ []) after.all new true) k (subst (Acted opts old (e ∷ []) after.all new) b h)))))
 
-  pub read_stops : (after : Tally) (e : Entry) (going : Bool) → after ≡ read_tally → e ≡ read_entry 0 0 ticks form g told.bytes → Acted opts old (e ∷ []) after.all new going → going ≡ false → After opts input old told ticks read_asked new after None
+  pub read_stops : (after : Tally) (e : Entry) (going : Bool) → after ≡ read_tally → e ≡ read_entry 0 0 (cost ticks line) form g told.bytes → Acted opts old (e ∷ []) after.all new going → going ≡ false → After opts input old told ticks read_asked new after None
   read_stops after e going q k h b =
-      subst (λ t. After opts input old told ticks read_asked new t None) (sym q) (stopped opts alone input old new told read_tally ticks read_asked (read_entry 0 0 ticks form g told.bytes ∷ []) read_enters (subst (λ t. Acted opts old (read_entry 0 0 ticks form g told.bytes ∷ []) t.all new false) q (subst (λ z. Acted opts old (z ∷ []) after.all new false) k (subst (Acted opts old (e ∷ []) after.all new) b h))))
+      subst (λ t. After opts input old told ticks read_asked new t None) (sym q) (stopped opts alone input old new told read_tally ticks read_asked (read_entry 0 0 (cost ticks line) form g told.bytes ∷ []) read_enters (subst (λ t. Acted opts old (read_entry 0 0 (cost ticks line) form g told.bytes ∷ []) t.all new false) q (subst (λ z. Acted opts old (z ∷ []) after.all new false) k (subst (Acted opts old (e ∷ []) after.all new) b h))))
 
 -- asking for failures
 
@@ -366,14 +366,14 @@ module _ (opts : Options) (alone : opts.processors ≡ 1) (input : List ℕ) (ol
   fail_asked = record { request = ask.Fail; line = line }
 
   abbrev fails : Entry
-  fails = entry kind.Fail 0 0 ticks 0 (pos 0) (truth told.failed)
+  fails = asking kind.Fail 0 0 (cost ticks line) 0 (pos 0) (truth told.failed)
 
   fail_enters : Enters opts alone input old new told (tally_after_ticks told ticks) ticks fail_asked (fails ∷ [])
   unfolding bytes_used has_failed
   fail_enters = record {
-    unseen = one_unseen kind.Fail ticks (pos 0) (truth told.failed) (pos 0) (pos 0) fail_unseen;
+    unseen = one_unseen kind.Fail (cost ticks line) (pos 0) (truth told.failed) (pos 0) (pos 0) fail_unseen;
     some = omega arith;
-    makes = λ t sites. ap (λ b. entry kind.Fail 0 0 ticks 0 (pos 0) (truth b) ∷ []) t.failed;
+    makes = λ t sites. ap (λ b. asking kind.Fail 0 0 (cost ticks line) 0 (pos 0) (truth b) ∷ []) t.failed;
     bytes = λ t. used_last old 0 fails ∙ t.bytes;
     failed = λ t. failed_last old false fails ∙ t.failed;
     since = refl;
@@ -382,7 +382,7 @@ module _ (opts : Options) (alone : opts.processors ≡ 1) (input : List ℕ) (ol
 
   pub fail_goes : (after : Tally) (e : Entry) (going : Bool) (x : Answer) → after ≡ tally_after_ticks told ticks → e ≡ fails → x ≡ answer.Number (truth told.failed) → Acted opts old (e ∷ []) after.all new going → going ≡ true → After opts input old told ticks fail_asked new after (Some x)
   fail_goes after e going x q k y h b =
-      subst (λ t. After opts input old told ticks fail_asked new t (Some x)) (sym q) (subst (λ y. After opts input old told ticks fail_asked new (tally_after_ticks told ticks) (Some y)) (sym y) (entered opts alone input old new told (tally_after_ticks told ticks) ticks fail_asked (fails ∷ []) (answer.Number (truth told.failed)) refl (λ e. absurd (cc e)) fail_enters (told_last old fails (answer.Number (truth told.failed)) (λ s. refl)) (subst (λ t. Acted opts old (fails ∷ []) t.all new true) q (subst (λ z. Acted opts old (z ∷ []) after.all new true) k (subst (Acted opts old (e ∷ []) after.all new) b h)))))
+      subst (λ t. After opts input old told ticks fail_asked new t (Some x)) (sym q) (subst (λ y. After opts input old told ticks fail_asked new (tally_after_ticks told ticks) (Some y)) (sym y) (entered opts alone input old new told (tally_after_ticks told ticks) ticks fail_asked (fails ∷ []) (answer.Number (truth told.failed)) refl refl (λ e. absurd (cc e)) fail_enters (told_last old fails (answer.Number (truth told.failed)) (λ s. refl)) (subst (λ t. Acted opts old (fails ∷ []) t.all new true) q (subst (λ z. Acted opts old (z ∷ []) after.all new true) k (subst (Acted opts old (e ∷ []) after.all new) b h)))))
 
   pub fail_stops : (after : Tally) (e : Entry) (going : Bool) → after ≡ tally_after_ticks told ticks → e ≡ fails → Acted opts old (e ∷ []) after.all new going → going ≡ false → After opts input old told ticks fail_asked new after None
   fail_stops after e going q k h b =
@@ -394,7 +394,7 @@ module _ (opts : Options) (alone : opts.processors ≡ 1) (input : List ℕ) (ol
   slice_asked = record { request = ask.Slice; line = line }
 
   abbrev slice : Entry
-  slice = plain kind.Slice ticks (pos 0) (pos 0) (pos 0) (pos 0)
+  slice = plain kind.Slice (cost ticks line) (pos 0) (pos 0) (pos 0) (pos 0)
 
   -- what the journal tells after the next dispatch
   abbrev slice_tally : Tally
@@ -402,7 +402,7 @@ module _ (opts : Options) (alone : opts.processors ≡ 1) (input : List ℕ) (ol
 
   slice_act : Running old → Tells old told → Makes opts input old ticks slice_asked (fitted opts old 0 0 (slice ∷ [] ++ tick_limit opts slice_tally.all))
   slice_act r t sites =
-      acted_is opts sites input old ticks slice_tally.all slice_asked (slice ∷ []) refl refl (ready_verdict opts alone (old ++ slice ∷ []) (sliced ticks old r)) (more_ticks kind.Slice ticks (pos 0) (pos 0) (pos 0) (pos 0) old ∙ ap (λ n. n + ticks) t.all)
+      acted_is opts sites input old ticks slice_tally.all slice_asked (slice ∷ []) refl refl (ready_verdict opts alone (old ++ slice ∷ []) (sliced (cost ticks line) old r)) (more_ticks kind.Slice (cost ticks line) (pos 0) (pos 0) (pos 0) (pos 0) old ∙ ap (λ n. n + ticks) t.all)
 
   slice_whole : slice_tally.all < opts.ticks → length old + 1 + 1 ≤ opts.entries → fitted opts old 0 0 (slice ∷ [] ++ tick_limit opts slice_tally.all) ≡ slice ∷ []
   slice_whole lt room =
@@ -417,7 +417,7 @@ module _ (opts : Options) (alone : opts.processors ≡ 1) (input : List ℕ) (ol
     bytes = ap bytes_used n ∙ used_last mid 0 (dispatch 0 0) ∙ ap bytes_used m ∙ used_last old 0 slice ∙ t.bytes;
     failed = ap has_failed n ∙ failed_last mid false (dispatch 0 0) ∙ ap has_failed m ∙ failed_last old false slice ∙ t.failed;
     since = ap (used 0) n ∙ no_used mid;
-    all = ap all_ticks n ∙ more_ticks kind.Dispatch 0 (pos 0) (pos 0) (pos 0) (pos 0) mid ∙ add-zero (all_ticks mid) ∙ ap all_ticks m ∙ more_ticks kind.Slice ticks (pos 0) (pos 0) (pos 0) (pos 0) old ∙ ap (λ n. n + ticks) t.all;
+    all = ap all_ticks n ∙ more_ticks kind.Dispatch no_cost (pos 0) (pos 0) (pos 0) (pos 0) mid ∙ add-zero (all_ticks mid) ∙ ap all_ticks m ∙ more_ticks kind.Slice (cost ticks line) (pos 0) (pos 0) (pos 0) (pos 0) old ∙ ap (λ n. n + ticks) t.all;
   }
 
   -- the next dispatch follows
@@ -429,8 +429,8 @@ module _ (opts : Options) (alone : opts.processors ≡ 1) (input : List ℕ) (ol
       let p = length-append old (slice ∷ []) in
       record {
         kept = λ r t.
-            let f : Ready mid = subst Ready (sym e) (sliced ticks old r) in
-            given (slice ∷ []) mid answer.Go refl (λ sites. slice_act r t sites ∙ slice_whole lt room) (slice_takes_none ticks 0) e f (λ sites. ap (answer_to sites 0) e ∙ slice_told sites) (omega (arith, more)) n (subst Running (sym n) (dispatched mid f)) (λ sites. ap (answer_to sites 0) n ∙ answer_given 0 0 mid sites 0 ∙ ap (answer_to sites 0) e ∙ slice_told sites);
+            let f : Ready mid = subst Ready (sym e) (sliced (cost ticks line) old r) in
+            given (slice ∷ []) mid answer.Go refl (λ sites. slice_act r t sites ∙ slice_whole lt room) (slice_takes_none (cost ticks line) 0) refl e f (λ sites. ap (answer_to sites 0) e ∙ slice_told sites) (omega (arith, more)) n (subst Running (sym n) (dispatched mid f)) (λ sites. ap (answer_to sites 0) n ∙ answer_given 0 0 mid sites 0 ∙ ap (answer_to sites 0) e ∙ slice_told sites);
         tells = λ y q t. slice_tells mid e n t;
         answered = λ y q. refl;
         longer = λ y q. omega (arith, m, l, o, p);
@@ -443,7 +443,7 @@ module _ (opts : Options) (alone : opts.processors ≡ 1) (input : List ℕ) (ol
   slice_no_room : (mid : Journal) → Acted opts old (slice ∷ []) slice_tally.all mid true → opts.entries < length mid + 1 + 1 → new ≡ mid ++ limited → After opts input old told ticks slice_asked new slice_tally None
   slice_no_room mid (goes_on lt room e) less n = record {
     kept = λ r t.
-        full (slice ∷ []) mid (λ sites. slice_act r t sites ∙ slice_whole lt room) e (subst Ready (sym e) (sliced ticks old r)) (omega (arith, less)) n (limit_closes mid new n);
+        full (slice ∷ []) mid (λ sites. slice_act r t sites ∙ slice_whole lt room) e (subst Ready (sym e) (sliced (cost ticks line) old r)) (omega (arith, less)) n (limit_closes mid new n);
     tells = λ y q. absurd (cc q);
     answered = λ y q. absurd (cc q);
     longer = λ y q. absurd (cc q);
@@ -471,7 +471,7 @@ module _ (opts : Options) (alone : opts.processors ≡ 1) (input : List ℕ) (ol
     slice_as : {o : Option Answer} → After opts input old told ticks slice_asked new slice_tally o → After opts input old told ticks slice_asked new tally o
     slice_as {o} a = subst (λ t. After opts input old told ticks slice_asked new t o) (sym (p ∙ ap tally_dispatched q)) a
 
-    pub slice_goes : (d : Entry) → going ≡ true → length mid + 1 + 1 ≤ opts.entries → d ≡ plain kind.Dispatch 0 (pos 0) (pos 0) (pos 0) (pos 0) → new ≡ mid ++ d ∷ [] → After opts input old told ticks slice_asked new tally (Some answer.Go)
+    pub slice_goes : (d : Entry) → going ≡ true → length mid + 1 + 1 ≤ opts.entries → d ≡ plain kind.Dispatch no_cost (pos 0) (pos 0) (pos 0) (pos 0) → new ≡ mid ++ d ∷ [] → After opts input old told ticks slice_asked new tally (Some answer.Go)
     slice_goes d b room f n = slice_as (slice_goes_on mid (subst (Acted opts old (slice ∷ []) slice_tally.all mid) b slice_acted) room (n ∙ ap (λ z. mid ++ z ∷ []) f))
 
     pub slice_full : going ≡ true → opts.entries < length mid + 1 + 1 → new ≡ mid ++ limited → After opts input old told ticks slice_asked new tally None
@@ -487,10 +487,10 @@ module _ (opts : Options) (alone : opts.processors ≡ 1) (input : List ℕ) (ol
   end_asked = record { request = ask.End; line = line }
 
   abbrev end_entry : Entry
-  end_entry = plain kind.End ticks (pos 0) (pos 0) (pos 0) (pos 0)
+  end_entry = plain kind.End (cost ticks line) (pos 0) (pos 0) (pos 0) (pos 0)
 
   abbrev done_entry : Entry
-  done_entry = plain kind.Done 0 (pos 0) (pos 0) (pos 0) (pos 0)
+  done_entry = plain kind.Done no_cost (pos 0) (pos 0) (pos 0) (pos 0)
 
   ends_it : (j : Journal) → first_ended (j ++ end_entry ∷ []) ≡ true
   unfolding first_ended
@@ -499,7 +499,8 @@ module _ (opts : Options) (alone : opts.processors ≡ 1) (input : List ℕ) (ol
   -- nobody is let in behind the end
   end_alone : Running old → (sites : List Site) → entries_of opts sites input old 0 0 ticks end_asked ≡ end_entry ∷ []
   end_alone f sites =
-      let by : ℕ → Option (ℕ × ℕ) → List Entry = λ o n. settled (fault 0 0 0 10 line) old (entry kind.End 0 0 ticks o (pos 0) (pos 0) ∷ admission sites 0 o old n) in
+      let of : ℕ → Entry = λ o. asking kind.End 0 0 (cost ticks line) o (pos 0) (pos 0) in
+      let by : ℕ → Option (ℕ × ℕ) → List Entry = λ o n. settled (fault 0 0 no_cost 10 line) old (of o ∷ admission sites 0 o (old ++ of o ∷ []) n) in
       ap (λ o. by o (next o old)) f.alone.own ∙ ap (λ n. by 0 n) (ap (λ xs. successor xs (waiting 0 old)) f.alone.stacks ∙ ap (λ ws. successor [] ws) f.alone.waits)
 
   -- the rest of a verdict where task 0 goes on
@@ -536,7 +537,7 @@ module _ (opts : Options) (alone : opts.processors ≡ 1) (input : List ℕ) (ol
     fault_asked = record { request = ask.Fault number; line = line }
 
     abbrev fault_entry : Entry
-    fault_entry = plain kind.Fault ticks (pos number) (pos line) (pos 0) (pos 0)
+    fault_entry = plain kind.Fault (cost ticks line) (pos number) (pos line) (pos 0) (pos 0)
 
     pub fault_after : (last : Journal) (e : Entry) (b : Bool) → e ≡ fault_entry → last ≡ old ++ e ∷ [] → ((k a : Journal) → last ≡ k ++ a → length k ≡ length old → Fitted opts k a new b) → After opts input old told ticks fault_asked new told None
     fault_after last e b p l f =
@@ -550,18 +551,6 @@ module _ (opts : Options) (alone : opts.processors ≡ 1) (input : List ℕ) (ol
           below = λ y h. absurd (cc h);
           since = λ le f y q. absurd (cc q);
         }
-
--- a request that no task without objects makes
-pub odd_after : (opts : Options) (input : List ℕ) (old : Journal) (told : Tally) (ticks : ℕ) (asked : Asked) (r : Request) → asked.request ≡ r → is_few r ≡ false → After opts input old told ticks asked old told None
-odd_after opts input old told ticks asked r e f = record {
-  kept = λ s t. odd (ap is_few e ∙ f);
-  tells = λ y h. absurd (cc h);
-  answered = λ y h. absurd (cc h);
-  longer = λ y h. absurd (cc h);
-  room = λ y h. absurd (cc h);
-  below = λ y h. absurd (cc h);
-  since = λ le f y q. absurd (cc q);
-}
 
 -- a request is what it was found to be
 pub by_request : {opts : Options} {input : List ℕ} {old new : Journal} {told next : Tally} {ticks : ℕ} {o : Option Answer} (asked : Asked) (r : Request) → asked.request ≡ r → After opts input old told ticks (record { request = r; line = asked.line }) new next o → After opts input old told ticks asked new next o
@@ -591,13 +580,9 @@ running_opening opts = record {
   ready = refl;
 }
 
-pub opened_by : (opts : Options) (start mid new : Journal) (b d : Entry) → start ≡ [] → b ≡ begin opts → d ≡ plain kind.Dispatch 0 (pos 0) (pos 0) (pos 0) (pos 0) → mid ≡ start ++ b ∷ [] → new ≡ mid ++ d ∷ [] → new ≡ opening opts
+pub opened_by : (opts : Options) (start mid new : Journal) (b d : Entry) → start ≡ [] → b ≡ begin opts → d ≡ plain kind.Dispatch no_cost (pos 0) (pos 0) (pos 0) (pos 0) → mid ≡ start ++ b ∷ [] → new ≡ mid ++ d ∷ [] → new ≡ opening opts
 opened_by opts start mid new b d e k l m w =
     w ∙ ap (λ j. j ++ d ∷ []) (m ∙ ap (λ j. j ++ b ∷ []) e) ∙ ap (λ x. x ∷ (d ∷ [])) k ∙ ap (λ x. begin opts ∷ (x ∷ [])) l
-
--- a print of no items
-pub none_shown : (n : ℕ) (items : List Piece) → n ≡ 0 → is_few (ask.Print n items) ≡ false
-none_shown n items e = ap (λ m. is_few (ask.Print m items)) e
 
 -- items that are counted first
 pub counted : (n count : ℕ) (items : List Piece) → count ≡ min n (length items) → take n items ≡ take count items

@@ -9,13 +9,13 @@ use Rattle.uc_entry.specs.declared.entry.Entry.{Entry}
 use Rattle.uc_entry.specs.declared.entry.EntryKind.{EntryKind}
 use Rattle.uc_entry.specs.declared.entry.EntryKind.TheVariants as kind
 use Rattle.uc_acts.specs.Open.{still_open}
-use Rattle.uc_acts.specs.Journal.{Journal, is_over, is_ending, entries_at, held, own_object, owns, first_or_0, where_true, is_task, lets_in, moves}
+use Rattle.uc_acts.specs.Journal.{Journal, Cost, no_cost, is_over, is_ending, entries_at, held, own_object, owns, first_or_0, where_true, is_task, lets_in, moves}
 use Rattle.uc_acts.specs.Queues.{running, ready, waiting, stacked, used, first_ended, all_ticks, ends_first, spent, dispatches, readies, on_cluster, puts_on, takes_off, calls, takes, stacks, admits, cluster_of, last_clusters, closes}
 use Rattle.uc_acts.specs.Known.{takes_out}
 use Rattle.uc_acts.specs.Reading.{used_from, used_by, failed_from, fails_by}
 use Rattle.uc_acts.specs.Acts.{dispatch}
 use Rattle.uc_alone.specs.Alone.{Calm, Unseen, Alone, Running, Ready, plain}
-use Rattle.uc_acts.proofs.Open.{still_open_silent, still_open_begins, still_open_push, any_push, or_false}
+use Rattle.uc_acts.proofs.OpenLemmas.{still_open_silent, still_open_begins, still_open_push, any_push, or_false}
 use Rattle.uc_acts.proofs.Noted.{noted_at, last_clusters_push}
 use Rattle.uc_acts.proofs.Seats.{running_same, running_given, ready_push}
 
@@ -58,7 +58,7 @@ none_left (x ∷ xs) = none_left xs
 kept_one : (p : ℕ → Bool) (x : ℕ) → p x ≡ true → filter p (x ∷ []) ≡ x ∷ []
 kept_one p x h = simp h
 
-module _ (k : EntryKind) (n : ℕ) (a b c d : ℤ) where
+module _ (k : EntryKind) (n : Cost) (a b c d : ℤ) where
   abbrev here : Entry
   here = plain k n a b c d
 
@@ -117,12 +117,12 @@ module _ (k : EntryKind) (n : ℕ) (a b c d : ℤ) where
     }
 
   -- its ticks are added
-  pub more_used : (j : Journal) → ((t : ℕ) → dispatches k here t ≡ false) → used 0 (j ++ here ∷ []) ≡ used 0 j + n
+  pub more_used : (j : Journal) → ((t : ℕ) → dispatches k here t ≡ false) → used 0 (j ++ here ∷ []) ≡ used 0 j + n.ticks
   unfolding used
   more_used j u =
-      ap (sum_by (λ n. n)) (still_open_begins (spent 0) (λ e x. dispatches e.kind e 0) j here n refl (λ x. u 0)) ∙ sum_by_push (λ n. n) (still_open (spent 0) (λ e x. dispatches e.kind e 0) j) n
+      ap (sum_by (λ n. n)) (still_open_begins (spent 0) (λ e x. dispatches e.kind e 0) j here n.ticks refl (λ x. u 0)) ∙ sum_by_push (λ n. n) (still_open (spent 0) (λ e x. dispatches e.kind e 0) j) n.ticks
 
-  pub more_ticks : (j : Journal) → all_ticks (j ++ here ∷ []) ≡ all_ticks j + n
+  pub more_ticks : (j : Journal) → all_ticks (j ++ here ∷ []) ≡ all_ticks j + n.ticks
   unfolding all_ticks
   more_ticks j = sum_by_push (λ e. e.ticks) j here
 
@@ -144,7 +144,7 @@ module _ (k : EntryKind) (n : ℕ) (a b c d : ℤ) where
     }
 
 -- a slice: the task is ready
-pub sliced : (n : ℕ) (j : Journal) → Running j → Ready (j ++ plain kind.Slice n (pos 0) (pos 0) (pos 0) (pos 0) ∷ [])
+pub sliced : (n : Cost) (j : Journal) → Running j → Ready (j ++ plain kind.Slice n (pos 0) (pos 0) (pos 0) (pos 0) ∷ [])
 sliced n j f =
     let e = plain kind.Slice n (pos 0) (pos 0) (pos 0) (pos 0) in
     record {
@@ -156,7 +156,7 @@ sliced n j f =
 -- a dispatch: it runs
 pub dispatched : (j : Journal) → Ready j → Running (j ++ dispatch 0 0 ∷ [])
 dispatched j f = record {
-  alone = alone_more kind.Dispatch 0 (pos 0) (pos 0) (pos 0) (pos 0) dispatch_calm j f.alone;
+  alone = alone_more kind.Dispatch no_cost (pos 0) (pos 0) (pos 0) (pos 0) dispatch_calm j f.alone;
   runs = running_given 0 0 j;
   ready = ready_push 0 j (dispatch 0 0) ∙ ap (λ l. filter (λ t. not (t == 0)) l ++ []) f.ready;
 }
@@ -167,7 +167,7 @@ unfolding used
 no_used j =
     ap (sum_by (λ n. n)) (still_open_push (spent 0) (λ e x. dispatches e.kind e 0) j (dispatch 0 0) ∙ ap (λ l. l ++ 0 ∷ []) (none_left (still_open (spent 0) (λ e x. dispatches e.kind e 0) j)))
 
-pub slice_takes_none : (n o : ℕ) → takes_out (plain kind.Slice n (pos 0) (pos 0) (pos 0) (pos 0) ∷ []) o ≡ false
+pub slice_takes_none : (n : Cost) (o : ℕ) → takes_out (plain kind.Slice n (pos 0) (pos 0) (pos 0) (pos 0) ∷ []) o ≡ false
 slice_takes_none n o = takes_none kind.Slice n (pos 0) (pos 0) (pos 0) (pos 0) slice_calm o
 
 -- what a journal with one more entry tells of its reads

@@ -21,11 +21,11 @@ use Rattle.uc_acts.specs.KernelRuns.{InRange}
 use Rattle.uc_meaning.specs.Runs.{World, Runs, begun, more, acts, gives, no_room, drawn, first_world, hand_of, with_home, bare, world_after, or_else}
 use Rattle.uc_machine.specs.Answering.{with_hand, answered}
 use Rattle.uc_alone.specs.declared.tally.Tally.{Tally}
-use Rattle.uc_alone.specs.Alone.{opening, limited, HasOwn, Ready, Tells, Told, Going, start}
-use Rattle.uc_alone.specs.Kept.{Makes, Kept, goes, given, full, over, odd}
+use Rattle.uc_alone.specs.Alone.{opening, limited, HasOwn, Ready, Tells, Told, Going, is_object, start}
+use Rattle.uc_alone.specs.Kept.{Makes, Kept, goes, given, full, over}
 use Rattle.uc_alone.specs.Run.{IsRunOf}
 use Rattle.uc_alone.proofs.Acts.{first_processor, ended_over, running_opening}
-use Rattle.uc_alone.proofs.Hands.{inside_of, ride_keeps, ride_few, keys}
+use Rattle.uc_alone.proofs.Hands.{inside_of, ride_keeps, keys}
 
 first_of : (x : ℕ × ℕ) (xs : List (ℕ × ℕ)) → Contains (x ∷ xs) x
 first_of x xs = (0, omega arith, refl)
@@ -68,6 +68,7 @@ going_first source input opts range alone =
       runs = more b refl (gives 0 0 (first_dispatch opts alone) (omega arith));
       running = running_opening opts;
       told = first_told opts;
+      plain = refl;
       is_drawn = refl;
       own = record { members = no_members; hand = refl };
     }
@@ -78,15 +79,15 @@ one_of [] e = absurd (cc e)
 one_of (h ∷ []) e = (h.1, ap (λ k. (k, h.1) ∷ []) (ap first_or_0 e))
 one_of (h ∷ (i ∷ hs)) e = absurd (cc e)
 
--- an answer leaves the hand of a task without objects
-answered_hand : (x : Answer) (s : State) → inside_of (answered x s) ≡ inside_of s
-answered_hand answer.Go s = refl
-answered_hand (answer.Object o) s = refl
-answered_hand (answer.Number n) s = refl
-answered_hand (answer.Clause c) s = refl
-answered_hand (answer.Event e x y) s = refl
-answered_hand answer.Nothing s = refl
-answered_hand (answer.Value v f) s = refl
+-- an answer that names nothing new leaves the hand
+answered_hand : (source : Source) (x : Answer) (s : State) → is_object x ≡ false → inside_of (answered source x s) ≡ inside_of s
+answered_hand source answer.Go s p = refl
+answered_hand source (answer.Object o) s p = absurd (cc p)
+answered_hand source (answer.Number n) s p = refl
+answered_hand source (answer.Clause c failed) s p = refl
+answered_hand source (answer.Event e x y) s p = refl
+answered_hand source answer.Nothing s p = refl
+answered_hand source (answer.Value v f) s p = refl
 
 -- the state that a ride reached is drawn again
 drawn_again : (source : Source) (j : Journal) (a : List Entry) (w : World) (u : State) (m : Members) → held 0 j ≡ 0 ∷ [] → takes_out a 0 ≡ false → u.env.hand ≡ (0, m) ∷ [] → drawn j (world_after source a w 0 u) 0 ≡ u
@@ -95,14 +96,14 @@ drawn_again source j a w u m h t k =
     let home : w'.homes 0 ≡ Some m = ap (λ b. cond b None (or_else (find 0 u.env.hand) (w.homes 0))) t ∙ ap (λ hs. or_else (find 0 hs) (w.homes 0)) k in
     ap (λ os. with_hand (hand_of os w'.homes) (bare u)) h ∙ ap (λ o. with_hand (with_home 0 o []) (bare u)) home ∙ ap (λ hs. with_hand hs u) (sym k)
 
-module _ {source : Source} {input : List ℕ} {opts : Options} {j : Journal} {x : Answer} {s u : State} {ticks : ℕ} {asked : Asked} {tally : Tally} (alone : opts.processors ≡ 1) (g : Going source input opts j x s) (t : Tells j tally) (r : Rides source (answered x s) (opts.slice - tally.since) u ticks asked) where
+module _ {source : Source} {input : List ℕ} {opts : Options} {j : Journal} {x : Answer} {s u : State} {ticks : ℕ} {asked : Asked} {tally : Tally} (alone : opts.processors ≡ 1) (g : Going source input opts j x s) (t : Tells j tally) (r : Rides source (answered source x s) (opts.slice - tally.since) u ticks asked) where
   hand_then : HasOwn u
   hand_then =
-      let one = one_of u.env.hand (ride_keeps r ∙ answered_hand x s ∙ ap keys g.own.hand) in record { members = one.0; hand = one.1 }
+      let one = one_of u.env.hand (ride_keeps r ∙ answered_hand source x s g.plain ∙ ap keys g.own.hand) in record { members = one.0; hand = one.1 }
 
-  rides : Rides source (answered x (drawn j g.world 0)) (left opts j 0) u ticks asked
+  rides : Rides source (answered source x (drawn j g.world 0)) (left opts j 0) u ticks asked
   rides =
-      subst (λ q. Rides source (answered x (drawn j g.world 0)) q u ticks asked) (sym (ap (λ k. opts.slice - k) t.since)) (subst (λ z. Rides source (answered x z) (opts.slice - tally.since) u ticks asked) (sym g.is_drawn) r)
+      subst (λ q. Rides source (answered source x (drawn j g.world 0)) q u ticks asked) (sym (ap (λ k. opts.slice - k) t.since)) (subst (λ z. Rides source (answered source x z) (opts.slice - tally.since) u ticks asked) (sym g.is_drawn) r)
 
   one_act : (a : List Entry) → Makes opts input j ticks asked a → Runs source input opts (j ++ a) (world_after source a g.world 0 u)
   one_act a e =
@@ -113,19 +114,21 @@ module _ {source : Source} {input : List ℕ} {opts : Options} {j : Journal} {x 
 
   -- a request behind which the task goes on
   pub goes_then : (new : Journal) (y : Answer) → Kept opts input j ticks asked new (Some y) → Going source input opts new y u
-  goes_then new y (goes a _ i m o e f told) = record {
+  goes_then new y (goes a _ i m o p e f told) = record {
     world = world_after source a g.world 0 u;
     runs = moved a (j ++ a) new (sym e) (one_act a m);
     running = f;
     told = told;
+    plain = p;
     is_drawn = drawn_again source new a g.world u hand_then.members f.alone.inside o hand_then.hand;
     own = hand_then;
   }
-  goes_then new y (given a mid _ i m o e f told room n h told_then) = record {
+  goes_then new y (given a mid _ i m o p e f told room n h told_then) = record {
     world = world_after source a g.world 0 u;
     runs = moved a (mid ++ dispatch 0 0 ∷ []) new (sym n) (more (moved a (j ++ a) mid (sym e) (one_act a m)) f.alone.going (gives 0 0 (serves opts alone mid f) room));
     running = h;
     told = told_then;
+    plain = p;
     is_drawn = drawn_again source new a g.world u hand_then.members h.alone.inside o hand_then.hand;
     own = hand_then;
   }
@@ -149,4 +152,3 @@ module _ {source : Source} {input : List ℕ} {opts : Options} {j : Journal} {x 
     };
     ended = d;
   }
-  ends_then new (odd e) = absurd (cc (e, ride_few r))

@@ -6,13 +6,13 @@ use Rattle.uc_machine.specs.Quiet.{State, no_members, first_state}
 use Rattle.uc_machine.specs.Answering as answering
 use Rattle.uc_code.specs.Codes.{Code}
 use Rattle.uc_code.specs.Lowered.{Lowered}
-use Rattle.uc_code.specs.Laid.{Laid, laid_of}
+use Rattle.uc_code.specs.Layout.{Laid, laid_of}
 use Rattle.uc_code.specs.declared.rows.RoutineCode.{RoutineCode}
-use Rattle.uc_frames.specs.Keeping.{AllIdle}
+use Rattle.uc_frames.specs.PaceInvariant.{AllIdle, has_begun}
 use Rattle.uc_frames.specs.Machine.{Machine, Cells, first_machine}
 use Rattle.uc_frames.proofs.Keeps.{first_kept}
 use Rattle.uc_frames.specs.Stands.{Stands}
-use Rattle.uc_step.specs.Falls.{Keeps}
+use Rattle.uc_step.specs.WeightFalls.{Keeps}
 use Rattle.uc_step.specs.Starts.{Starts}
 use Rattle.uc_alone.specs.Alone.{start}
 use Rattle.uc_alone.specs.Run.{HasMain, with_own}
@@ -49,6 +49,6 @@ begun_kept code main own m n (r, there, is) e =
     let f : n ≡ with_own (first_machine r own) = e ∙ ap with_own is in
     record {
       run = first_kept (laid_of code) code.routines n (ap (λ (x : Machine). x.callers) f) (ap (λ (x : Machine). x.run.handles) f);
-      begun = ap (λ (x : Machine). x.env.links.stage) f;
+      begun = ap (λ (x : Machine). has_begun x.env.links.stage) f;
       others = subst (λ (x : Cells). AllIdle (laid_of code) code.routines x) (sym (ap (λ (x : Machine). x.env) f)) ((tt, tt), (tt, tt));
     }

@@ -1,5 +1,5 @@
 -- One task on one processor: its entries, what a journal of it keeps, and how far its run has come.
-use Rattle.std.specs.Prelude.{◌≡◌, ℕ, ℤ, pos, false, List, [], ◌∷◌, None, Some}
+use Rattle.std.specs.Prelude.{◌≡◌, ℕ, ℤ, pos, Bool, true, false, List, [], ◌∷◌, None, Some}
 use Rattle.std.specs.List.{list_any}
 use Rattle.uc_tree.specs.Programs.{Site}
 use Rattle.uc_tree.specs.Source.{Source, routine_of}
@@ -8,7 +8,8 @@ use Rattle.uc_entry.specs.declared.entry.EntryKind.{EntryKind}
 use Rattle.uc_entry.specs.declared.entry.EntryKind.TheVariants as kind
 use Rattle.uc_entry.specs.declared.entry.Options.{Options}
 use Rattle.uc_entry.specs.declared.request.Answer.{Answer}
-use Rattle.uc_acts.specs.Journal.{Journal, entry, begin, is_over, is_ending, is_fault, held, own_object, lets_in, moves, owns}
+use Rattle.uc_entry.specs.declared.request.Answer.TheVariants as answer
+use Rattle.uc_acts.specs.Journal.{Journal, Cost, entry, asking, begin, is_over, is_ending, is_fault, held, own_object, lets_in, moves, owns}
 use Rattle.uc_acts.specs.Queues.{ready, running, waiting, stacked, used, first_ended, all_ticks, ends_first, calls, takes, stacks, admits, puts_on, takes_off, dispatches, readies, clusters, cluster_of, closes}
 use Rattle.uc_acts.specs.Known.{takes_object}
 use Rattle.uc_acts.specs.Reading.{bytes_used, has_failed}
@@ -23,9 +24,9 @@ use Rattle.uc_alone.specs.declared.tally.Tally.{Tally}
 abbrev pub opening : Options → Journal
 opening opts = begin opts ∷ (dispatch 0 0 ∷ [])
 
--- an entry of task 0 on processor 0 after so many ticks, without an object
-abbrev pub plain : EntryKind → ℕ → ℤ → ℤ → ℤ → ℤ → Entry
-plain k n a b c d = record (entry k 0 0 n 0 a b) { c = c; d = d }
+-- an entry of task 0 on processor 0 that carries this, without an object
+abbrev pub plain : EntryKind → Cost → ℤ → ℤ → ℤ → ℤ → Entry
+plain k n a b c d = record (asking k 0 0 n 0 a b) { c = c; d = d }
 
 -- the limit in the place of an act of task 0, or behind it
 abbrev pub limited : List Entry
@@ -93,6 +94,11 @@ pub record Tells (j : Journal) (t : Tally) : Type 0 where
 abbrev pub Told : Journal → Answer → Type 0
 Told j x = (sites : List Site) → answer_to sites 0 j ≡ Some x
 
+-- whether an answer names what is made
+abbrev pub is_object : Answer → Bool
+is_object (answer.Object o) = true
+is_object _ = false
+
 -- runs
 
 -- a task that has its own object alone in hand
@@ -106,6 +112,7 @@ pub record Going (source : Source) (input : List ℕ) (opts : Options) (j : Jour
   pub runs : Runs source input opts j world
   pub running : Running j
   pub told : Told j x
+  pub plain : is_object x ≡ false
   pub is_drawn : drawn j world 0 ≡ s
   pub own : HasOwn s
 

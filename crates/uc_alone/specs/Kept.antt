@@ -1,5 +1,5 @@
 -- What one request of the one task makes of its journal.
-use Rattle.std.specs.Prelude.{◌≡◌, ℕ, zero, suc, ◌+◌, ◌<◌, ◌≤◌, ◌||◌, Bool, true, false, List, [], ◌∷◌, ◌++◌, Option, Some, None, length, nat_le, if◌then◌else◌}
+use Rattle.std.specs.Prelude.{◌≡◌, ℕ, ◌+◌, ◌<◌, ◌≤◌, ◌||◌, Bool, true, false, List, [], ◌∷◌, ◌++◌, Option, Some, None, length, nat_le, if◌then◌else◌}
 use Rattle.uc_tree.specs.Programs.{Site}
 use Rattle.uc_entry.specs.declared.entry.Entry.{Entry}
 use Rattle.uc_entry.specs.declared.entry.EntryKind.{EntryKind}
@@ -14,21 +14,9 @@ use Rattle.uc_acts.specs.Journal.{Journal}
 use Rattle.uc_acts.specs.Known.{takes_out}
 use Rattle.uc_acts.specs.Acts.{act, fitted, dispatch}
 use Rattle.uc_alone.specs.declared.tally.Tally.{Tally}
-use Rattle.uc_alone.specs.Alone.{Running, Ready, Tells, Told, limited}
+use Rattle.uc_alone.specs.Alone.{Running, Ready, Tells, Told, is_object, limited}
 
--- the requests that one task without objects makes
-abbrev pub is_few : Request → Bool
-is_few (ask.Print zero items) = false
-is_few (ask.Print (suc n) []) = false
-is_few (ask.Print (suc n) (i ∷ is)) = true
-is_few (ask.Read form) = true
-is_few ask.Fail = true
-is_few ask.Slice = true
-is_few ask.End = true
-is_few (ask.Fault number) = true
-is_few _ = false
-
--- those after which the task goes on, if the run does
+-- the requests after which the one task goes on, if the run does
 abbrev pub is_answered : Request → Bool
 is_answered (ask.Print n items) = true
 is_answered (ask.Read form) = true
@@ -69,11 +57,10 @@ Makes opts input j ticks asked a = (sites : List Site) → act opts sites input 
 
 -- the journal after a request: the task goes on with an answer, at once or after a dispatch, or the run is over
 pub data Kept (opts : Options) (input : List ℕ) (old : Journal) (ticks : ℕ) (asked : Asked) (new : Journal) : Option Answer → Type 0 where
-  goes : (a : List Entry) (x : Answer) → is_answered asked.request ≡ true → Makes opts input old ticks asked a → takes_out a 0 ≡ false → new ≡ old ++ a → Running new → Told new x → Kept opts input old ticks asked new (Some x)
-  given : (a : List Entry) (mid : Journal) (x : Answer) → is_answered asked.request ≡ true → Makes opts input old ticks asked a → takes_out a 0 ≡ false → mid ≡ old ++ a → Ready mid → Told mid x → length mid + 2 ≤ opts.entries → new ≡ mid ++ dispatch 0 0 ∷ [] → Running new → Told new x → Kept opts input old ticks asked new (Some x)
+  goes : (a : List Entry) (x : Answer) → is_answered asked.request ≡ true → Makes opts input old ticks asked a → takes_out a 0 ≡ false → is_object x ≡ false → new ≡ old ++ a → Running new → Told new x → Kept opts input old ticks asked new (Some x)
+  given : (a : List Entry) (mid : Journal) (x : Answer) → is_answered asked.request ≡ true → Makes opts input old ticks asked a → takes_out a 0 ≡ false → is_object x ≡ false → mid ≡ old ++ a → Ready mid → Told mid x → length mid + 2 ≤ opts.entries → new ≡ mid ++ dispatch 0 0 ∷ [] → Running new → Told new x → Kept opts input old ticks asked new (Some x)
   full : (a : List Entry) (mid : Journal) → Makes opts input old ticks asked a → mid ≡ old ++ a → Ready mid → opts.entries < length mid + 2 → new ≡ mid ++ limited → Ended new → Kept opts input old ticks asked new None
   over : (a : List Entry) → Makes opts input old ticks asked a → new ≡ old ++ a → Ended new → Kept opts input old ticks asked new None
-  odd : is_few asked.request ≡ false → Kept opts input old ticks asked new None
 
 -- how many bytes were used, and whether a read failed, after one more read
 abbrev pub tally_after_read : Tally → Got → Tally

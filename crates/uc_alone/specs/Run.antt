@@ -6,7 +6,7 @@ use Rattle.uc_acts.specs.Journal.{Journal}
 use Rattle.uc_meaning.specs.Runs.{IsRun}
 use Rattle.uc_code.specs.Codes.{Code}
 use Rattle.uc_frames.specs.Machine.{Machine, Members, with_hand}
-use Rattle.uc_step.specs.Falls.{Keeps}
+use Rattle.uc_step.specs.WeightFalls.{Keeps}
 use Rattle.uc_alone.specs.Kept.{Ended}
 
 -- a complete run of the source on this input under these options; its last entry is its ending

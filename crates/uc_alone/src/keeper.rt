@@ -5,7 +5,7 @@ ghost use Rattle.uc_tree.specs.declared.limits.TheConstants.{INPUT_BYTES, SLICE_
 ghost use Rattle.uc_entry.specs.declared.request.Request.TheVariants as ask;
 ghost use Rattle.uc_acts.specs.Reading.{next_read};
 ghost use Rattle.uc_acts.specs.Acts.{prints, fault, dispatch};
-ghost use Rattle.uc_acts.specs.Journal.{Journal};
+ghost use Rattle.uc_acts.specs.Journal.{Journal, cost};
 ghost use Rattle.uc_acts.specs.KernelRuns.{InRange};
 ghost use Rattle.uc_alone.specs.Alone.{Tells, limited};
 ghost use Rattle.uc_alone.specs.Kept.{Acted, Fitted, After};
@@ -48,7 +48,7 @@ fn has_room(journal: &Vec<Entry>, count: usize, opts: Options) -> bool
 fn push_limit(journal: &mut Vec<Entry>) -> Result<(), AllocError>
     ensures { OnOk result (journal.new.items ≡ journal.old.items ++ limited) }
 {
-    journal.push(plain_entry(EntryKind::Limit, 0, 0, 0, 0, 0))?;
+    journal.push(plain_entry(EntryKind::Limit, 0, 0, 0, 0))?;
     Ok(())
 }
 
@@ -101,14 +101,21 @@ fn enter(
     Ok(goes)
 }
 
-// One entry for each item; only the first carries ticks.
-fn push_prints(journal: &mut Vec<Entry>, ticks: u32, pieces: &[Piece]) -> Result<(), AllocError>
-    ensures { OnOk result (journal.new.items ≡ journal.old.items ++ prints 0 0 ticks pieces.now) }
+// One entry for each item; only the first carries ticks and the line.
+fn push_prints(
+    journal: &mut Vec<Entry>,
+    ticks: u32,
+    line: u32,
+    pieces: &[Piece],
+) -> Result<(), AllocError>
+    ensures { OnOk result (journal.new.items ≡ journal.old.items ++ prints 0 0 (cost ticks line) pieces.now) }
 {
     let mut ticks = ticks;
+    let mut line = line;
     for piece in pieces {
-        journal.push(print_entry(ticks, *piece))?;
+        journal.push(print_entry(ticks, line, *piece))?;
         ticks = 0;
+        line = 0;
     }
     Ok(())
 }
@@ -118,12 +125,13 @@ fn enter_prints(
     opts: Options,
     all: u64,
     ticks: u32,
+    line: u32,
     pieces: &[Piece],
 ) -> Result<bool, AllocError>
-    ensures { IfOk result (λ goes. Acted opts journal.old.items (prints 0 0 ticks pieces.now) all journal.new.items goes) }
+    ensures { IfOk result (λ goes. Acted opts journal.old.items (prints 0 0 (cost ticks line) pieces.now) all journal.new.items goes) }
 {
     let start = journal.len();
-    push_prints(journal, ticks, pieces)?;
+    push_prints(journal, ticks, line, pieces)?;
     let goes = finish(journal, start, opts, all)?;
     Ok(goes)
 }
@@ -135,6 +143,7 @@ fn keep_print(
     tally: &mut Tally,
     opts: Options,
     ticks: u32,
+    line: u32,
     pieces: &[Piece],
 ) -> Result<Option<Answer>, AllocError>
     requires some { 1 ≤ length pieces.now }
@@ -142,11 +151,11 @@ fn keep_print(
     requires alone { opts.processors ≡ 1 }
     requires since { tally.old.since + ticks ≤ opts.slice }
     requires all { tally.old.all < opts.ticks }
-    ensures after { IfOk result (λ o. (input : List ℕ) (n line : ℕ) (items : List Piece) → take n items ≡ pieces.now → After opts input journal.old.items tally.old ticks (record { request = ask.Print n items; line = line }) journal.new.items tally.new o) }
+    ensures after { IfOk result (λ o. (input : List ℕ) (n : ℕ) (items : List Piece) → take n items ≡ pieces.now → After opts input journal.old.items tally.old ticks (record { request = ask.Print n items; line = line }) journal.new.items tally.new o) }
     ensures bytes { IfOk result (λ o. tally.new.bytes ≡ tally.old.bytes) }
 {
     let next = with_ticks(*tally, ticks);
-    let goes = enter_prints(journal, opts, next.all, ticks, pieces)?;
+    let goes = enter_prints(journal, opts, next.all, ticks, line, pieces)?;
     *tally = next;
     if !goes {
         return Ok(None);
@@ -160,6 +169,7 @@ fn keep_read(
     tally: &mut Tally,
     opts: Options,
     ticks: u32,
+    line: u32,
     form: u8,
     got: Got,
 ) -> Result<Option<Answer>, AllocError>
@@ -168,12 +178,12 @@ fn keep_read(
     requires alone { opts.processors ≡ 1 }
     requires since { tally.old.since + ticks ≤ opts.slice }
     requires all { tally.old.all < opts.ticks }
-    ensures after { IfOk result (λ o. (input : List ℕ) (line : ℕ) → (Tells journal.old.items tally.old → got ≡ next_read form input journal.old.items) → After opts input journal.old.items tally.old ticks (record { request = ask.Read form; line = line }) journal.new.items tally.new o) }
+    ensures after { IfOk result (λ o. (input : List ℕ) → (Tells journal.old.items tally.old → got ≡ next_read form input journal.old.items) → After opts input journal.old.items tally.old ticks (record { request = ask.Read form; line = line }) journal.new.items tally.new o) }
     ensures bytes { IfOk result (λ o. tally.new.bytes ≡ tally.old.bytes + got.taken) }
 {
     let read = with_read(*tally, got);
     let next = with_ticks(read, ticks);
-    let entry = got_entry(ticks, form, got, tally.bytes);
+    let entry = got_entry(ticks, line, form, got, tally.bytes);
     let goes = enter(journal, opts, next.all, entry)?;
     *tally = next;
     if !goes {
@@ -188,16 +198,17 @@ fn keep_fail(
     tally: &mut Tally,
     opts: Options,
     ticks: u32,
+    line: u32,
 ) -> Result<Option<Answer>, AllocError>
     requires range { InRange opts }
     requires alone { opts.processors ≡ 1 }
     requires since { tally.old.since + ticks ≤ opts.slice }
     requires all { tally.old.all < opts.ticks }
-    ensures after { IfOk result (λ o. (input : List ℕ) (line : ℕ) → After opts input journal.old.items tally.old ticks (record { request = ask.Fail; line = line }) journal.new.items tally.new o) }
+    ensures after { IfOk result (λ o. (input : List ℕ) → After opts input journal.old.items tally.old ticks (record { request = ask.Fail; line = line }) journal.new.items tally.new o) }
     ensures bytes { IfOk result (λ o. tally.new.bytes ≡ tally.old.bytes) }
 {
     let next = with_ticks(*tally, ticks);
-    let entry = fail_entry(ticks, tally.failed);
+    let entry = fail_entry(ticks, line, tally.failed);
     let goes = enter(journal, opts, next.all, entry)?;
     *tally = next;
     if !goes {
@@ -213,16 +224,17 @@ fn keep_slice(
     tally: &mut Tally,
     opts: Options,
     ticks: u32,
+    line: u32,
 ) -> Result<Option<Answer>, AllocError>
     requires range { InRange opts }
     requires alone { opts.processors ≡ 1 }
     requires since { tally.old.since + ticks ≤ opts.slice }
     requires all { tally.old.all < opts.ticks }
-    ensures after { IfOk result (λ o. (input : List ℕ) (line : ℕ) → After opts input journal.old.items tally.old ticks (record { request = ask.Slice; line = line }) journal.new.items tally.new o) }
+    ensures after { IfOk result (λ o. (input : List ℕ) → After opts input journal.old.items tally.old ticks (record { request = ask.Slice; line = line }) journal.new.items tally.new o) }
     ensures bytes { IfOk result (λ o. tally.new.bytes ≡ tally.old.bytes) }
 {
     let next = with_ticks(*tally, ticks);
-    let entry = plain_entry(EntryKind::Slice, ticks, 0, 0, 0, 0);
+    let entry = plain_entry(EntryKind::Slice, ticks, line, 0, 0);
     let goes = enter(journal, opts, next.all, entry)?;
     *tally = dispatched(next);
     if !goes {
@@ -232,7 +244,7 @@ fn keep_slice(
         push_limit(journal)?;
         return Ok(None);
     }
-    journal.push(plain_entry(EntryKind::Dispatch, 0, 0, 0, 0, 0))?;
+    journal.push(plain_entry(EntryKind::Dispatch, 0, 0, 0, 0))?;
     Ok(Some(Answer::Go))
 }
 
@@ -241,13 +253,14 @@ fn keep_end(
     journal: &mut Vec<Entry>,
     opts: Options,
     ticks: u32,
+    line: u32,
 ) -> Result<Option<Answer>, AllocError>
     requires { opts.processors ≡ 1 }
-    ensures { IfOk result (λ o. (input : List ℕ) (told : Tally) (line : ℕ) → After opts input journal.old.items told ticks (record { request = ask.End; line = line }) journal.new.items told o) }
+    ensures { IfOk result (λ o. (input : List ℕ) (told : Tally) → After opts input journal.old.items told ticks (record { request = ask.End; line = line }) journal.new.items told o) }
 {
     let start = journal.len();
-    journal.push(plain_entry(EntryKind::End, ticks, 0, 0, 0, 0))?;
-    journal.push(plain_entry(EntryKind::Done, 0, 0, 0, 0, 0))?;
+    journal.push(plain_entry(EntryKind::End, ticks, line, 0, 0))?;
+    journal.push(plain_entry(EntryKind::Done, 0, 0, 0, 0))?;
     fit(journal, start, opts)?;
     Ok(None)
 }
@@ -257,8 +270,8 @@ fn keep_fault(
     journal: &mut Vec<Entry>,
     opts: Options,
     ticks: u32,
-    number: u8,
     line: u32,
+    number: u8,
 ) -> Result<Option<Answer>, AllocError>
     requires { opts.processors ≡ 1 }
     ensures { IfOk result (λ o. (input : List ℕ) (told : Tally) → After opts input journal.old.items told ticks (record { request = ask.Fault number; line = line }) journal.new.items told o) }
@@ -267,17 +280,16 @@ fn keep_fault(
     journal.push(plain_entry(
         EntryKind::Fault,
         ticks,
+        line,
         i64::from(number),
         i64::from(line),
-        0,
-        0,
     ))?;
     fit(journal, start, opts)?;
     Ok(None)
 }
 
 /// The journal after a request of the task, which it made after so many ticks: it goes on with an answer, or the run is
-/// over. A request that no task without objects makes ends it without an entry.
+/// over. A request that only a task with mutex objects makes is answered as want of memory.
 pub(crate) fn keep(
     journal: &mut Vec<Entry>,
     tally: &mut Tally,
@@ -295,56 +307,38 @@ pub(crate) fn keep(
     ensures after { IfOk result (λ o. After opts input.now journal.old.items tally.old ticks asked journal.new.items tally.new o) }
     ensures inside { IfOk result (λ o. tally.new.bytes ≤ length input.now) }
 {
+    let line = asked.line;
     match asked.request {
         Request::Print { n, items } => {
             if n == 0 {
-                return Ok(None);
+                return Err(AllocError);
             }
             let count = least(n as usize, items.len());
-            let answer = keep_print(journal, tally, opts, ticks, &items[..count])?;
+            let answer = keep_print(journal, tally, opts, ticks, line, &items[..count])?;
             Ok(answer)
         }
         Request::Read { form } => {
             let got = next_got(*tally, form, input);
-            let answer = keep_read(journal, tally, opts, ticks, form, got)?;
+            let answer = keep_read(journal, tally, opts, ticks, line, form, got)?;
             Ok(answer)
         }
         Request::Fail => {
-            let answer = keep_fail(journal, tally, opts, ticks)?;
+            let answer = keep_fail(journal, tally, opts, ticks, line)?;
             Ok(answer)
         }
         Request::Slice => {
-            let answer = keep_slice(journal, tally, opts, ticks)?;
+            let answer = keep_slice(journal, tally, opts, ticks, line)?;
             Ok(answer)
         }
         Request::End => {
-            let answer = keep_end(journal, opts, ticks)?;
+            let answer = keep_end(journal, opts, ticks, line)?;
             Ok(answer)
         }
         Request::Fault { number } => {
-            let answer = keep_fault(journal, opts, ticks, number, asked.line)?;
+            let answer = keep_fault(journal, opts, ticks, line, number)?;
             Ok(answer)
         }
-        Request::Make { .. } => Ok(None),
-        Request::Made { .. } => Ok(None),
-        Request::Spawn { .. } => Ok(None),
-        Request::Call { .. } => Ok(None),
-        Request::Leave { .. } => Ok(None),
-        Request::Accept { .. } => Ok(None),
-        Request::Wait { .. } => Ok(None),
-        Request::Signal { .. } => Ok(None),
-        Request::SignalBlock { .. } => Ok(None),
-        Request::Empty { .. } => Ok(None),
-        Request::Front { .. } => Ok(None),
-        Request::Raise { .. } => Ok(None),
-        Request::Poll { .. } => Ok(None),
-        Request::Yield => Ok(None),
-        Request::Cluster => Ok(None),
-        Request::ClusterEnd { .. } => Ok(None),
-        Request::Processor { .. } => Ok(None),
-        Request::ProcessorEnd { .. } => Ok(None),
-        Request::Migrate { .. } => Ok(None),
-        Request::Gone { .. } => Ok(None),
+        _ => Err(AllocError),
     }
 }
 

@@ -4,14 +4,14 @@ ghost use Rattle.std.specs.Prelude.{◌≡◌, ◌≤◌, ◌<◌, false, IfOk, 
 ghost use Rattle.uc_tree.specs.declared.limits.TheConstants.{INPUT_BYTES};
 ghost use Rattle.uc_acts.specs.KernelRuns.{InRange};
 ghost use Rattle.uc_code.specs.Pace.{IsPaced};
-ghost use Rattle.uc_code.specs.Laid.{laid_of};
+ghost use Rattle.uc_code.specs.Layout.{laid_of};
 ghost use Rattle.uc_tree.specs.Source.{Source};
 ghost use Rattle.uc_code.specs.Lowered.{Lowered};
 ghost use Rattle.uc_frames.specs.Stands.{Stands};
 ghost use Rattle.uc_machine.specs.Quiet.{State};
 ghost use Rattle.uc_entry.specs.declared.request.Answer.TheVariants as answer;
 ghost use Rattle.uc_alone.specs.Alone.{Going, Tells, start};
-ghost use Rattle.uc_step.specs.Falls.{Keeps};
+ghost use Rattle.uc_step.specs.WeightFalls.{Keeps};
 ghost use Rattle.uc_alone.specs.Run.{IsRunOf, HasMain, KeptByAll, with_own};
 
 use crate::entries::{begin_entry, plain_entry};
@@ -45,7 +45,7 @@ pub fn run_alone(
 {
     let mut journal = Vec::new(alloc);
     journal.push(begin_entry(opts))?;
-    journal.push(plain_entry(EntryKind::Dispatch, 0, 0, 0, 0, 0))?;
+    journal.push(plain_entry(EntryKind::Dispatch, 0, 0, 0, 0))?;
     match begin_inside(alloc, code, main)? {
         None => Ok(journal),
         Some(work) => {

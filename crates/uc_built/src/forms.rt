@@ -15,31 +15,13 @@ use uc_tree::stmt::{Handler, Stmt, StmtForm};
 fn is_scalar_base(base: &Base) -> bool
     ensures { result ≡ is_scalar_base base.now }
 {
-    match base {
-        Base::Void => false,
-        Base::Int => true,
-        Base::Char => true,
-        Base::Bool => true,
-        Base::Condition => false,
-        Base::Cluster => false,
-        Base::Processor => false,
-        Base::Named(_) => false,
-    }
+    matches!(base, Base::Int | Base::Char | Base::Bool)
 }
 
 fn is_built_base(base: &Base) -> bool
     ensures { result ≡ is_built_base base.now }
 {
-    match base {
-        Base::Void => false,
-        Base::Int => true,
-        Base::Char => true,
-        Base::Bool => true,
-        Base::Condition => false,
-        Base::Cluster => false,
-        Base::Processor => false,
-        Base::Named(_) => true,
-    }
+    matches!(base, Base::Int | Base::Char | Base::Bool | Base::Named(_))
 }
 
 fn are_plain(declarators: &[Declarator]) -> bool
@@ -57,13 +39,12 @@ fn is_built_start(start: &ForStart) -> bool
     ensures { result ≡ is_built_start start.now }
 {
     match &start.form {
-        ForForm::Nothing => true,
         ForForm::Declare {
             base,
             declarators,
             ..
         } => is_built_base(base) && are_plain(declarators),
-        ForForm::Evaluate { .. } => true,
+        _ => true,
     }
 }
 
@@ -73,8 +54,6 @@ fn is_built_stmt(s: &Stmt) -> bool
 {
     match &s.form {
         StmtForm::Block { body } => are_built(body),
-        StmtForm::Empty => true,
-        StmtForm::Evaluate { .. } => true,
         StmtForm::Declare { base, declarators } => is_built_base(base) && are_plain(declarators),
         StmtForm::If { chosen, other, .. } => match other {
             None => is_built_stmt(chosen),
@@ -83,23 +62,14 @@ fn is_built_stmt(s: &Stmt) -> bool
         StmtForm::While { body, .. } => is_built_stmt(body),
         StmtForm::Do { body, .. } => is_built_stmt(body),
         StmtForm::For { start, body, .. } => is_built_start(start) && is_built_stmt(body),
-        StmtForm::Break => true,
-        StmtForm::Continue => true,
-        StmtForm::Return { .. } => true,
         StmtForm::Try { body, handlers, .. } => are_built(body) && are_built_handlers(handlers),
-        StmtForm::Throw { .. } => true,
-        StmtForm::Raise { .. } => true,
         StmtForm::RaiseAt { .. } => false,
         StmtForm::Enable { .. } => false,
         StmtForm::Disable { .. } => false,
         StmtForm::Accept { .. } => false,
-        StmtForm::Print { .. } => true,
-        StmtForm::PrintTogether { .. } => true,
-        StmtForm::Read { .. } => true,
-        StmtForm::Resume => true,
-        StmtForm::Suspend => true,
         StmtForm::Yield => false,
         StmtForm::Migrate { .. } => false,
+        _ => true,
     }
 }
 
@@ -137,16 +107,7 @@ fn are_built_handlers(handlers: &[Handler]) -> bool
 fn is_built_result(base: &Base) -> bool
     ensures { result ≡ is_built_result base.now }
 {
-    match base {
-        Base::Void => true,
-        Base::Int => true,
-        Base::Char => true,
-        Base::Bool => true,
-        Base::Condition => false,
-        Base::Cluster => false,
-        Base::Processor => false,
-        Base::Named(_) => false,
-    }
+    matches!(base, Base::Void | Base::Int | Base::Char | Base::Bool)
 }
 
 fn are_built_params(params: &[Param]) -> bool
@@ -175,14 +136,7 @@ fn is_built_routine(routine: &Routine) -> bool
 fn is_built_kind(kind: Kind) -> bool
     ensures { result ≡ is_built_kind kind }
 {
-    match kind {
-        Kind::Class => true,
-        Kind::Coroutine => true,
-        Kind::Monitor => false,
-        Kind::Cormonitor => false,
-        Kind::Task => false,
-        Kind::Event => true,
-    }
+    matches!(kind, Kind::Class | Kind::Coroutine | Kind::Event)
 }
 
 fn is_built_member(member: &Member) -> bool
@@ -240,12 +194,8 @@ fn is_main(item: &Item) -> bool
     ensures { result ≡ is_main_item item.now }
 {
     match &item.form {
-        ItemForm::Class { .. } => false,
         ItemForm::Routine { routine } => routine.sig.is_main(),
-        ItemForm::Constant { .. } => false,
-        ItemForm::Proto { .. } => false,
-        ItemForm::Forward { .. } => false,
-        ItemForm::Using { .. } => false,
+        _ => false,
     }
 }
 

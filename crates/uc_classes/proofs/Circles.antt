@@ -2,7 +2,7 @@
 use Rattle.std.proofs.Common.{◌≡◌, ℕ, List, Bool, Option, Some, None, ◌||◌, nat_eq, length, refl, ap}
 use Rattle.uc_tree.specs.declared.rows.Object.{Object}
 use Rattle.uc_tree.specs.Rows.{Row, object_leads, reaches}
-use Rattle.uc_sizes.specs.Reached.{flag_at, Reaching}
+use Rattle.uc_layout.specs.ContainmentProgress.{flag_at, Reaching}
 
 pub leads_by : (rows : List Row) (to : ℕ) (flags : List Bool) → Reaching rows to flags → (o : Option Object) → object_leads (flag_at flags) to o ≡ object_leads (reaches (length rows) rows to) to o
 leads_by rows to flags r None = refl

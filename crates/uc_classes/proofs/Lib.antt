@@ -3,3 +3,4 @@ pub mod Counts
 pub mod First
 pub mod Walked
 pub mod NoBack
+mod Inside

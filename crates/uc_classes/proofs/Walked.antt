@@ -9,9 +9,9 @@ use Rattle.uc_rules.specs.declared.rules.FieldPlace.{FieldPlace}
 use Rattle.uc_rules.specs.ProgramVisits.{argument_env}
 use Rattle.uc_rules.specs.Scopes.{Env, with_around}
 use Rattle.uc_rules.specs.Visits.{Visit}
-use Rattle.uc_types.specs.Told.{noted}
-use Rattle.uc_bodies.proofs.Joined.{noted_append}
-use Rattle.uc_bodies.proofs.Walks.{split}
+use Rattle.uc_types.specs.FirstBreak.{noted}
+use Rattle.uc_check_stmt.proofs.Joined.{noted_append}
+use Rattle.uc_check_stmt.proofs.Walks.{split}
 
 pub walked_by : {S A : Type 0} (own : S → A → List Visit) (next : S → A → S) (all : S → List A → List Visit) → ((s : S) (x : A) (xs : List A) → all s (x ∷ xs) ≡ own s x ++ all (next s x) xs) → (s now : S) (xs : List A) (i : ℕ) (x : A) (f g r : Option Break) → i < length xs → x ≡ get_or xs i x → now ≡ next s x → g ≡ noted f (own s x) → noted f (all s (drop i xs)) ≡ r → noted g (all now (drop (i + 1) xs)) ≡ r
 walked_by own next all opens s now xs i x f g r h k a b inv =

@@ -9,7 +9,7 @@ use Rattle.uc_tree.specs.Statements.{Declarator}
 use Rattle.uc_tree.specs.Programs.{Class, Member, FieldsMember, Program}
 use Rattle.uc_rules.specs.declared.rules.Home.{Home}
 use Rattle.uc_rules.specs.Sorts.{class_at}
-use Rattle.uc_sizes.specs.Reached.{Reaching}
+use Rattle.uc_layout.specs.ContainmentProgress.{Reaching}
 use Rattle.uc_names.specs.Blocks.{Block}
 use Rattle.uc_owner.specs.Bound.{AreBound}
 

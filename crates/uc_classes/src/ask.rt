@@ -5,9 +5,9 @@ ghost use Rattle.uc_tree.specs.Cells.{class_cells};
 ghost use Rattle.uc_tree.specs.Numbering.{condition_count, is_public, mutex_members};
 ghost use Rattle.uc_tree.specs.declared.limits.TheConstants.{CLASS_CELLS, CLASS_CONDITIONS, MEMBERS};
 ghost use Rattle.uc_rules.specs.Asked.{asked, of_sort, unless};
-ghost use Rattle.uc_rules.specs.ClassBreaks.{constant_breaks, entity_takes, events_before, fields_at, has_room, has_unset, home_class, home_leads_back, init_count_breaks, inits_breaks, is_field_of, is_field_sort, is_new_field, is_new_routine, is_sound_event, param_breaks, sig_breaks};
+ghost use Rattle.uc_rules.specs.ClassBreaks.{constant_breaks, entity_takes, events_before, fields_at, has_room, has_unset, home_class, home_leads_back, init_count_breaks, inits_breaks, is_field_sort, is_new_field, is_new_routine, is_param_sort, is_sound_event, param_breaks, sig_breaks};
 ghost use Rattle.uc_rules.specs.Entities.{count, entity_of};
-ghost use Rattle.uc_rules.specs.ExpressionBreaks.{length_breaks, length_value_breaks};
+ghost use Rattle.uc_rules.specs.ExpressionBreaks.{are_single, length_breaks, length_value_breaks};
 ghost use Rattle.uc_rules.specs.Firsts.{after};
 ghost use Rattle.uc_rules.specs.ItemBreaks.{is_sound_member};
 ghost use Rattle.uc_rules.specs.Names.{place_in};
@@ -17,23 +17,23 @@ ghost use Rattle.uc_rules.specs.ProgramVisits.{home_member};
 ghost use Rattle.uc_rules.specs.Sorts.{class_at, is_coroutine, sort_of};
 ghost use Rattle.uc_rules.specs.Visits.{AtClass, AtConstant, AtField, AtInit, AtInits, AtItem, AtMark, AtParam, AtProgram, AtRoutine, AtSig};
 ghost use Rattle.uc_rules.specs.declared.rule.Rule.TheVariants.{S16, S17, S18, S2, S22, S4, S5};
-ghost use Rattle.uc_types.specs.Told.{told, told_forms, told_names, told_owners, told_uses, told_values};
+ghost use Rattle.uc_types.specs.FirstBreak.{told, told_forms, told_names, told_owners, told_uses, told_values};
 ghost use Rattle.uc_classes.specs.Circling.{AreFields, Walks};
 
 use crate::circle::leads_back;
 use crate::class::{Listed, Walked};
 use crate::conditions::count_conditions;
 use std::alloc::{AllocError, Global};
-use uc_bodies::declare::{is_element, judge_length};
-use uc_bodies::judge;
-use uc_declares::class::{
-    has_unset, is_field_of, is_sound_event, is_well_built, is_well_mained, is_well_marked,
+use uc_check_decl::class::{
+    has_unset, is_sound_event, is_well_built, is_well_mained, is_well_marked,
 };
-use uc_declares::earlier::{is_new_field, is_new_routine};
-use uc_declares::init::{entity_takes, is_by_ref, may_init};
-use uc_declares::item::{has_one_main, is_new_item, is_sound_item, is_sound_member, item_pos};
-use uc_declares::sig::may_return;
-use uc_index::index::Index;
+use uc_check_decl::earlier::{is_new_field, is_new_routine};
+use uc_check_decl::init::{entity_takes, is_by_ref, may_init};
+use uc_check_decl::item::{has_one_main, is_new_item, is_sound_item, is_sound_member, item_pos};
+use uc_check_decl::sig::may_return;
+use uc_check_index::index::Index;
+use uc_check_stmt::declare::{is_element, judge_event, judge_length};
+use uc_check_stmt::judge;
 use uc_owner::judge::{note_field, note_param};
 use uc_rules::rule::Rule;
 use uc_rules::rules::{Entity, FieldPlace, Meant, Sort};
@@ -49,14 +49,24 @@ use uc_types::names::{Names, length_value};
 use uc_types::sort::{is_constructor, is_coroutine, is_plain, is_public, is_scalar_sort, is_void};
 use uc_types::tables::Tables;
 
-fn note_value_param(names: &Names, param: &Param, found: &mut Found)
+fn is_param_sort(by_ref: bool, sort: Sort) -> bool
+    ensures { result ≡ is_param_sort by_ref sort }
+{
+    if by_ref {
+        !is_void(sort)
+    } else {
+        is_scalar_sort(sort)
+    }
+}
+
+fn note_param_sort(names: &Names, param: &Param, found: &mut Found)
     ensures { found.new ≡ after found.old (param_breaks names.now param.now) }
 {
-    if param.by_ref {
-        return;
-    }
     match names.tables().sort_of(&param.base) {
-        Some(sort) => found.note_unless(is_scalar_sort(sort), Rule::S11, param.pos),
+        Some(sort) => {
+            let holds = is_param_sort(param.by_ref, sort);
+            found.note_unless(holds, Rule::S11, param.pos);
+        }
         None => {}
     }
 }
@@ -66,7 +76,7 @@ pub fn ask_param(names: &Names, param: &Param, found: &mut Found)
     ensures { found.new ≡ told found.old (AtParam names.now param.now) }
 {
     found.note_unless(judge::is_new(names, &param.name), Rule::S2, param.pos);
-    note_value_param(names, param, found);
+    note_param_sort(names, param, found);
     note_param(names, param, found);
 }
 
@@ -107,37 +117,6 @@ fn note_field_sort(names: &Names, declarator: &Declarator, sort: Option<Sort>, f
     }
 }
 
-// Behind the first field too many no further one is counted.
-fn note_event_sort(
-    class: &Class,
-    declarator: &Declarator,
-    field: FieldPlace,
-    sort: Sort,
-    found: &mut Found,
-)
-    ensures { found.new ≡ after found.old (unless (is_field_of class.now declarator.now field sort) S22 declarator.now.pos) }
-{
-    if found.is_open(Rule::S22, declarator.pos) {
-        let holds = is_field_of(class, declarator, field, sort);
-        found.note_unless(holds, Rule::S22, declarator.pos);
-    }
-}
-
-fn note_event_field(
-    class: &Class,
-    declarator: &Declarator,
-    field: FieldPlace,
-    sort: Option<Sort>,
-    found: &mut Found,
-)
-    ensures { found.new ≡ after found.old (of_sort sort (is_field_of class.now declarator.now field) S22 declarator.now.pos) }
-{
-    match sort {
-        Some(sort) => note_event_sort(class, declarator, field, sort, found),
-        None => {}
-    }
-}
-
 fn is_new(
     names: &Names,
     walked: Walked,
@@ -152,7 +131,13 @@ fn is_new(
         member: listed.member,
         index,
     };
-    let new = is_new_field(names.tables(), walked.home.class, field, &declarator.name);
+    let new = is_new_field(
+        names.tables(),
+        walked.home.class,
+        walked.class,
+        field,
+        &declarator.name,
+    );
     new
 }
 
@@ -247,10 +232,6 @@ fn note_text(
     requires there { slice_get listed.declarators.now index ≡ Some declarator.now }
     ensures { found.new ≡ told_forms (told_values (told_uses (told_names found.old (AtField names.now walked.entry.class.now listed.entry.access listed.entry.base.now declarator.now (place_in listed.entry.member index))) (AtField names.now walked.entry.class.now listed.entry.access listed.entry.base.now declarator.now (place_in listed.entry.member index))) (AtField names.now walked.entry.class.now listed.entry.access listed.entry.base.now declarator.now (place_in listed.entry.member index))) (AtField names.now walked.entry.class.now listed.entry.access listed.entry.base.now declarator.now (place_in listed.entry.member index)) }
 {
-    let field = FieldPlace {
-        member: listed.member,
-        index,
-    };
     let tables = names.tables();
     let sort = tables.sort_of(listed.base);
     note_declared(names, walked, listed, index, declarator, found);
@@ -258,7 +239,7 @@ fn note_text(
     note_length(names, declarator, found);
     note_field_sort(names, declarator, sort, found);
     note_access(walked.class, listed.access, declarator, found);
-    note_event_field(walked.class, declarator, field, sort, found);
+    judge_event(sort, declarator.pos, found);
 }
 
 // What the rules on who owns what ask of a field.
@@ -336,7 +317,14 @@ fn is_free(names: &Names, walked: Walked, sig: &Sig, member: usize) -> bool
     requires walks { Walks names.now.program walked.home walked.class.now walked.circular walked.holders.now walked.bound.known walked.bound.names.now }
     ensures { result ≡ is_new_routine walked.entry.class.now member sig.now }
 {
-    let new = is_new_routine(names.tables(), walked.home.class, member, sig);
+    let new = is_new_routine(
+        names.tables(),
+        walked.home.class,
+        walked.class,
+        member,
+        sig.role,
+        &sig.name,
+    );
     new
 }
 
@@ -405,7 +393,7 @@ fn is_event_sound(names: &Names, index: &Index, class: &Class, place: usize, eve
     requires events { events ≡ events_before names.now.program place }
     ensures { result ≡ is_sound_event names.now.program class.now place }
 {
-    let holds = is_sound_event(index, class, place, events);
+    let holds = is_sound_event(names.tables(), index, class, place, events);
     holds
 }
 
@@ -561,40 +549,54 @@ pub fn ask_inits(
     Ok(())
 }
 
-#[tactic(auto, using(uc_bodies::proofs::Joined::joining))]
-fn note_values(names: &Names, init: &Init, by_ref: bool, entity: Option<Entity>, found: &mut Found)
-    ensures { found.new ≡ after found.old (asked entity (entity_takes names.now.program by_ref (count init.now.args)) S16 init.now.pos) }
+#[tactic(auto, using(uc_check_stmt::proofs::Joined::joining))]
+fn note_values(
+    names: &Names,
+    init: &Init,
+    by_ref: bool,
+    single: bool,
+    entity: Option<Entity>,
+    found: &mut Found,
+)
+    ensures { found.new ≡ after found.old (asked entity (entity_takes names.now.program by_ref (count init.now.args) single) S16 init.now.pos) }
 {
     match entity {
         Some(entity) => {
             let count = init.args.len();
-            let holds = entity_takes(names.tables(), by_ref, count, entity);
+            let holds = entity_takes(names.tables(), by_ref, count, single, entity);
             found.note_unless(holds, Rule::S16, init.pos);
         }
         None => {}
     }
 }
 
-fn note_count(names: &Names, init: &Init, meant: Option<Meant>, found: &mut Found)
+fn note_count(names: &Names, init: &Init, meant: Option<Meant>, single: bool, found: &mut Found)
+    requires { single ≡ are_single names.now init.now.args }
     ensures { found.new ≡ after found.old (init_count_breaks names.now init.now meant) }
 {
     match meant {
-        Some(meant) => note_values(names, init, is_by_ref(meant.origin), meant.entity, found),
+        Some(meant) => {
+            let by_ref = is_by_ref(meant.origin);
+            note_values(names, init, by_ref, single, meant.entity, found);
+        }
         None => {}
     }
 }
 
-/// An initialiser behind others, of which `last` is the last field that they name, and what it names.
+/// An initialiser behind others, of which `last` is the last field that they name, what it names, and whether it has no value or
+/// one alone that is a scalar.
 pub fn ask_init(
     names: &Names,
     init: &Init,
     last: Option<FieldPlace>,
     meant: Option<Meant>,
+    single: bool,
     found: &mut Found,
 )
-    requires { meant ≡ home_member names.now.program names.now.around.home init.now.name }
+    requires meant { meant ≡ home_member names.now.program names.now.around.home init.now.name }
+    requires single { single ≡ are_single names.now init.now.args }
     ensures { found.new ≡ told found.old (AtInit names.now init.now last) }
 {
-    note_count(names, init, meant, found);
+    note_count(names, init, meant, single, found);
     found.note_unless(may_init(last, meant), Rule::S17, init.pos);
 }

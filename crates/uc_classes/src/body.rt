@@ -4,13 +4,13 @@ ghost use Rattle.std.specs.Prelude.{◌≡◌, [], ◌∷◌, OnOk};
 ghost use Rattle.uc_rules.specs.ProgramVisits.{base_visits, body_visits, params_visits, routine_visits, sig_visits};
 ghost use Rattle.uc_rules.specs.Scopes.{with_params};
 ghost use Rattle.uc_rules.specs.Visits.{AtBase, AtParam};
-ghost use Rattle.uc_types.specs.Told.{noted};
+ghost use Rattle.uc_types.specs.FirstBreak.{noted};
 
 use crate::ask::{ask_inits, ask_param, ask_sig};
 use crate::init::check_inits;
 use std::alloc::AllocError;
-use uc_bodies::judge::ask_base;
-use uc_bodies::stmt::check_stmts;
+use uc_check_stmt::judge::ask_base;
+use uc_check_stmt::stmt::check_stmts;
 use uc_tree::class::{Routine, Sig};
 use uc_tree::kinds::Param;
 use uc_types::found::Found;
@@ -32,7 +32,7 @@ fn check_param(names: &Names, param: &Param, found: &mut Found)
     ask_param(names, param, found);
 }
 
-#[tactic(auto, using(uc_bodies::proofs::Joined::joining))]
+#[tactic(auto, using(uc_check_stmt::proofs::Joined::joining))]
 fn check_params(names: &mut Names, params: &[Param], found: &mut Found) -> Result<(), AllocError>
     ensures names { OnOk result (names.new ≡ with_params names.old params.now) }
     ensures breaks { OnOk result (found.new ≡ noted found.old (params_visits names.old params.now)) }
@@ -45,7 +45,7 @@ fn check_params(names: &mut Names, params: &[Param], found: &mut Found) -> Resul
 }
 
 /// A signature; its parameters are then in scope.
-#[tactic(auto, using(uc_bodies::proofs::Joined::joining))]
+#[tactic(auto, using(uc_check_stmt::proofs::Joined::joining))]
 pub fn check_sig(names: &mut Names, sig: &Sig, found: &mut Found) -> Result<(), AllocError>
     ensures names { OnOk result (names.new ≡ with_params names.old sig.now.params) }
     ensures breaks { OnOk result (found.new ≡ noted found.old (sig_visits names.old sig.now)) }
@@ -56,7 +56,7 @@ pub fn check_sig(names: &mut Names, sig: &Sig, found: &mut Found) -> Result<(), 
     Ok(())
 }
 
-#[tactic(auto, using(uc_bodies::proofs::Joined::joining))]
+#[tactic(auto, using(uc_check_stmt::proofs::Joined::joining))]
 fn check_body(names: &mut Names, routine: &Routine, found: &mut Found) -> Result<(), AllocError>
     ensures { OnOk result (found.new ≡ noted found.old (body_visits names.old routine.now)) }
 {
@@ -67,7 +67,7 @@ fn check_body(names: &mut Names, routine: &Routine, found: &mut Found) -> Result
 }
 
 /// A routine where no local is in scope yet.
-#[tactic(auto, using(uc_bodies::proofs::Joined::joining))]
+#[tactic(auto, using(uc_check_stmt::proofs::Joined::joining))]
 pub fn check_routine(
     names: &mut Names,
     routine: &Routine,

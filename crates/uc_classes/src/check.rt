@@ -8,7 +8,7 @@ use crate::ask::ask_program;
 use crate::item::check_items;
 use crate::tabled::tables_of;
 use std::alloc::{AllocError, Global};
-use uc_index::index::Index;
+use uc_check_index::index::Index;
 use uc_rules::rule::Break;
 use uc_tree::program::Program;
 use uc_types::found::Found;

@@ -3,11 +3,11 @@
 ghost use Rattle.std.specs.Prelude.{◌≡◌, Some, slice_get};
 ghost use Rattle.uc_tree.specs.Rows.{object_leads};
 ghost use Rattle.uc_rules.specs.ClassBreaks.{field_object, leads_back};
-ghost use Rattle.uc_sizes.specs.Reached.{flag_at};
+ghost use Rattle.uc_layout.specs.ContainmentProgress.{flag_at};
 ghost use Rattle.uc_classes.specs.Circling.{AreFields, Walks};
 
 use crate::class::{Listed, Walked};
-use uc_sizes::circles::flag_at;
+use uc_layout::circles::flag_at;
 use uc_tree::declare::Declarator;
 use uc_tree::kinds::Base;
 use uc_tree::rows::Object;

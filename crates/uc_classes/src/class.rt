@@ -10,7 +10,7 @@ ghost use Rattle.uc_rules.specs.ProgramVisits.{class_visits, fields_visits, form
 ghost use Rattle.uc_rules.specs.Scopes.{class_around, is_inner, plain_env, returns_scalar, sig_around};
 ghost use Rattle.uc_rules.specs.Visits.{AtBase, AtClass, AtField, AtMark, AtRoutine, maybe_visits};
 ghost use Rattle.uc_owner.specs.Bound.{AreBound};
-ghost use Rattle.uc_types.specs.Told.{noted, told};
+ghost use Rattle.uc_types.specs.FirstBreak.{noted, told};
 ghost use Rattle.uc_tree.specs.Cells.{rows_of};
 ghost use Rattle.uc_tree.specs.Rows.{reaches};
 ghost use Rattle.uc_rules.specs.Sorts.{class_at};
@@ -19,9 +19,9 @@ ghost use Rattle.uc_classes.specs.Circling.{AreFields, Circling, Walks};
 use crate::ask::{ask_class, ask_field, ask_mark, ask_routine};
 use crate::body::{check_routine, check_sig};
 use std::alloc::{AllocError, Global};
-use uc_bodies::declare::check_maybe;
-use uc_bodies::judge::ask_base;
-use uc_index::index::Index;
+use uc_check_index::index::Index;
+use uc_check_stmt::declare::check_maybe;
+use uc_check_stmt::judge::ask_base;
 use uc_owner::bind::{BoundFields, bound_fields};
 use uc_rules::rule::Rule;
 use uc_rules::rules::{Around, FieldPlace, Home};
@@ -121,7 +121,7 @@ pub fn sig_around(tables: &Tables, home: Option<Home>, main: bool, mark: Mark, s
     }
 }
 
-#[tactic(auto, using(uc_bodies::proofs::Joined::joining))]
+#[tactic(auto, using(uc_check_stmt::proofs::Joined::joining))]
 fn check_field(
     names: &Names,
     walked: Walked,
@@ -141,7 +141,7 @@ fn check_field(
     Ok(())
 }
 
-#[tactic(auto, using(uc_bodies::proofs::Joined::joining))]
+#[tactic(auto, using(uc_check_stmt::proofs::Joined::joining))]
 fn check_fields(
     names: &Names,
     walked: Walked,
@@ -266,7 +266,7 @@ fn check_form(
     }
 }
 
-#[tactic(auto, using(uc_bodies::proofs::Joined::joining))]
+#[tactic(auto, using(uc_check_stmt::proofs::Joined::joining))]
 fn check_member(
     walked: Walked,
     place: usize,
@@ -285,7 +285,7 @@ fn check_member(
     Ok(())
 }
 
-#[tactic(auto, using(uc_bodies::proofs::Joined::joining))]
+#[tactic(auto, using(uc_check_stmt::proofs::Joined::joining))]
 fn check_members(walked: Walked, found: &mut Found) -> Result<(), AllocError>
     requires walks { Walks walked.tables.now walked.home walked.class.now walked.circular walked.holders.now walked.bound.known walked.bound.names.now }
     requires names { map (λ n. n.now) walked.numbered.now ≡ take MEMBERS (mutex_members walked.class.now) }

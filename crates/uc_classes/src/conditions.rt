@@ -9,9 +9,9 @@ ghost use Rattle.uc_tree.specs.Numbering.{condition_count, conditions_of, elemen
 ghost use Rattle.uc_types.specs.Lengths.{lengths_by};
 
 use std::alloc::{AllocError, Global};
-use uc_numbers::conditions::conditions_in;
-use uc_sizes::held::elements_of;
-use uc_sizes::known::names_of_members;
+use uc_layout::held::elements_of;
+use uc_layout::known::names_of_members;
+use uc_numbering::conditions::conditions_in;
 use uc_tree::class::Class;
 use uc_tree::declare::Declarator;
 use uc_types::listing::Lengths;

@@ -3,20 +3,21 @@
 ghost use Rattle.std.specs.Prelude.{◌≡◌, None, [], ◌∷◌, ◌++◌};
 ghost use Rattle.uc_tree.specs.Expressions.{exprs_of};
 ghost use Rattle.uc_rules.specs.Entities.{entity_of, expected};
+ghost use Rattle.uc_rules.specs.ExpressionBreaks.{are_single};
 ghost use Rattle.uc_rules.specs.ProgramVisits.{argument_env, bound_of, bound_target, field_of, home_member, init_arg_visits, init_args_visits, init_target, inits_visits, is_name, is_reference, maybe_bound_target, meant_target, origin_target};
 ghost use Rattle.uc_rules.specs.Scopes.{in_argument};
 ghost use Rattle.uc_rules.specs.Visits.{AtInit};
-ghost use Rattle.uc_types.specs.Told.{noted};
+ghost use Rattle.uc_types.specs.FirstBreak.{noted};
 
 use crate::ask::ask_init;
-use uc_bodies::declare::single_target;
-use uc_declares::init::{home_member, last_field, meant_field};
-use uc_owner::judge::{is_reference, note_bound};
+use uc_check_decl::init::{home_member, last_field, meant_field};
+use uc_check_stmt::declare::{is_scalar_of, single_target};
+use uc_owner::judge::note_bound;
 use uc_rules::rules::{Around, Bound, Entity, Expected, FieldPlace, Meant, Origin, Target};
 use uc_tree::class::Init;
 use uc_tree::expr::{Expr, ExprForm};
 use uc_tree::name::Name;
-use uc_types::ask::ask_argument;
+use uc_types::ask::{ask_argument, is_reference};
 use uc_types::entity::expected;
 use uc_types::expr::check_expr;
 use uc_types::found::Found;
@@ -26,7 +27,6 @@ fn bound_target(by_ref: bool, entity: Entity) -> Target
     ensures { result ≡ bound_target by_ref entity }
 {
     match entity {
-        Entity::Value { .. } => Target::Unknown,
         Entity::Place { sort } => {
             if by_ref {
                 Target::Reference { sort }
@@ -34,15 +34,7 @@ fn bound_target(by_ref: bool, entity: Entity) -> Target
                 single_target(sort)
             }
         }
-        Entity::Array { .. } => Target::Unknown,
-        Entity::Input => Target::Unknown,
-        Entity::Fail => Target::Unknown,
-        Entity::Operation { .. } => Target::Unknown,
-        Entity::Main => Target::Unknown,
-        Entity::Routine { .. } => Target::Unknown,
-        Entity::Method { .. } => Target::Unknown,
-        Entity::ClassName => Target::Unknown,
-        Entity::Missing => Target::Unknown,
+        _ => Target::Unknown,
     }
 }
 
@@ -59,11 +51,8 @@ fn origin_target(entity: Option<Entity>, origin: Origin) -> Target
     ensures { result ≡ origin_target entity origin }
 {
     match origin {
-        Origin::Local => Target::Unknown,
-        Origin::Parameter { .. } => Target::Unknown,
         Origin::Field { by_ref, .. } => maybe_bound_target(by_ref, entity),
-        Origin::Method { .. } => Target::Unknown,
-        Origin::Outer => Target::Unknown,
+        _ => Target::Unknown,
     }
 }
 
@@ -79,17 +68,7 @@ fn meant_target(meant: Option<Meant>) -> Target
 fn is_name(e: &Expr) -> bool
     ensures { result ≡ is_name e.now }
 {
-    match &e.form {
-        ExprForm::Number { .. } => false,
-        ExprForm::Character { .. } => false,
-        ExprForm::Truth { .. } => false,
-        ExprForm::Name { .. } => true,
-        ExprForm::Cin => false,
-        ExprForm::Postfix { .. } => false,
-        ExprForm::Unary { .. } => false,
-        ExprForm::Chain { .. } => false,
-        ExprForm::Assign { .. } => false,
-    }
+    matches!(&e.form, ExprForm::Name { .. })
 }
 
 fn bound_of(e: &Expr, expected: Expected, field: FieldPlace) -> Bound
@@ -123,15 +102,16 @@ fn enter_argument(names: &mut Names, field: Option<FieldPlace>, e: &Expr, expect
     }
 }
 
-#[tactic(auto, using(uc_bodies::proofs::Joined::joining))]
+#[tactic(auto, using(uc_check_stmt::proofs::Joined::joining))]
 fn check_init_arg(
     names: &mut Names,
     field: Option<FieldPlace>,
     e: &Expr,
     expected: Expected,
     found: &mut Found,
-)
+) -> Option<Entity>
     ensures names { names.new ≡ names.old }
+    ensures entity { result ≡ entity_of names.old e.now }
     ensures breaks { found.new ≡ noted found.old (init_arg_visits names.old field e.now expected) }
 {
     let around = names.around();
@@ -140,9 +120,10 @@ fn check_init_arg(
     names.set_around(around);
     let _fits = ask_argument(e.first_token(), expected, entity, found);
     note_bound(names, e, expected, found);
+    entity
 }
 
-#[tactic(auto, using(uc_bodies::proofs::Joined::joining))]
+#[tactic(auto, using(uc_check_stmt::proofs::Joined::joining))]
 fn check_init_args(
     names: &mut Names,
     field: Option<FieldPlace>,
@@ -155,12 +136,34 @@ fn check_init_args(
 {
     for (place, arg) in args.iter().enumerate() {
         let expected = expected(names.tables(), target, place);
-        check_init_arg(names, field, arg, expected, found);
+        let _entity = check_init_arg(names, field, arg, expected, found);
     }
 }
 
+// The arguments of an initialiser; the answer is whether there is none, or one alone that is a scalar.
+#[tactic(auto, using(uc_check_stmt::proofs::Joined::joining))]
+fn check_values(
+    names: &mut Names,
+    field: Option<FieldPlace>,
+    args: &[Expr],
+    target: Target,
+    found: &mut Found,
+) -> bool
+    ensures names { names.new ≡ names.old }
+    ensures single { result ≡ are_single names.old (exprs_of args.now) }
+    ensures breaks { found.new ≡ noted found.old (init_args_visits names.old field (exprs_of args.now) target 0) }
+{
+    if args.len() == 1 {
+        let expected = expected(names.tables(), target, 0);
+        let entity = check_init_arg(names, field, &args[0], expected, found);
+        return is_scalar_of(entity);
+    }
+    check_init_args(names, field, args, target, found);
+    args.is_empty()
+}
+
 // An initialiser behind others, of which `last` is the last field that they name; the answer is the field that it names.
-#[tactic(auto, using(uc_bodies::proofs::Joined::joining))]
+#[tactic(auto, using(uc_check_stmt::proofs::Joined::joining))]
 fn check_init(
     names: &mut Names,
     init: &Init,
@@ -173,13 +176,13 @@ fn check_init(
 {
     let meant = home_member(names.tables(), names.around().home, &init.name);
     let field = meant_field(meant);
-    check_init_args(names, field, &init.args, meant_target(meant), found);
-    ask_init(names, init, last, meant, found);
+    let single = check_values(names, field, &init.args, meant_target(meant), found);
+    ask_init(names, init, last, meant, single, found);
     field
 }
 
 /// The initialisers of a routine.
-#[tactic(auto, using(uc_bodies::proofs::Joined::joining))]
+#[tactic(auto, using(uc_check_stmt::proofs::Joined::joining))]
 pub fn check_inits(names: &mut Names, inits: &[Init], found: &mut Found)
     ensures names { names.new ≡ names.old }
     ensures breaks { found.new ≡ noted found.old (inits_visits names.old None inits.now) }

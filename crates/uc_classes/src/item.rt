@@ -5,15 +5,15 @@ ghost use Rattle.uc_rules.specs.ClassBreaks.{events_before};
 ghost use Rattle.uc_rules.specs.ProgramVisits.{classes_in, is_of_main, item_visits, items_visits, outer_env, outer_mark, routine_visits, sig_visits};
 ghost use Rattle.uc_rules.specs.Scopes.{no_around, plain_env};
 ghost use Rattle.uc_rules.specs.Visits.{AtConstant, AtItem, visits};
-ghost use Rattle.uc_types.specs.Told.{noted};
+ghost use Rattle.uc_types.specs.FirstBreak.{noted};
 ghost use Rattle.uc_classes.specs.Counted.{events_in, ItemAt};
 
 use crate::ask::{ask_constant, ask_item};
 use crate::body::{check_routine, check_sig};
 use crate::class::{check_class, sig_around};
 use std::alloc::{AllocError, Global};
-use uc_declares::item::owner_home;
-use uc_index::index::Index;
+use uc_check_decl::item::owner_home;
+use uc_check_index::index::Index;
 use uc_rules::rules::{Around, Home};
 use uc_tree::class::{Routine, Sig};
 use uc_tree::kinds::{Mark, Owner, Role};
@@ -71,11 +71,7 @@ fn outer_mark(
 fn is_of_main(owner: &Owner) -> bool
     ensures { result ≡ is_of_main owner.now }
 {
-    match owner {
-        Owner::Here => false,
-        Owner::Main => true,
-        Owner::Class(_) => false,
-    }
+    matches!(owner, Owner::Main)
 }
 
 /// The environment of a routine that stands outside of classes, before its parameters.
@@ -109,7 +105,7 @@ fn check_outer(
     Ok(())
 }
 
-#[tactic(auto, using(uc_bodies::proofs::Joined::joining))]
+#[tactic(auto, using(uc_check_stmt::proofs::Joined::joining))]
 fn check_constant(alloc: Global, tables: &Tables, constant: &Constant, found: &mut Found)
     ensures { found.new ≡ noted found.old (visits (plain_env tables.now no_around) constant.now.value ++ AtConstant (plain_env tables.now no_around) constant.now ∷ []) }
 {
@@ -187,11 +183,7 @@ fn class_count(item: &Item) -> usize
 {
     match &item.form {
         ItemForm::Class { .. } => 1,
-        ItemForm::Routine { .. } => 0,
-        ItemForm::Constant { .. } => 0,
-        ItemForm::Proto { .. } => 0,
-        ItemForm::Forward { .. } => 0,
-        ItemForm::Using { .. } => 0,
+        _ => 0,
     }
 }
 
@@ -201,16 +193,12 @@ fn event_count(item: &Item) -> usize
 {
     match &item.form {
         ItemForm::Class { class } => usize::from(is_event(class.kind)),
-        ItemForm::Routine { .. } => 0,
-        ItemForm::Constant { .. } => 0,
-        ItemForm::Proto { .. } => 0,
-        ItemForm::Forward { .. } => 0,
-        ItemForm::Using { .. } => 0,
+        _ => 0,
     }
 }
 
 // An item by its place.
-#[tactic(auto, using(uc_bodies::proofs::Joined::joining))]
+#[tactic(auto, using(uc_check_stmt::proofs::Joined::joining))]
 fn check_placed(
     alloc: Global,
     tables: &Tables,
@@ -231,7 +219,7 @@ fn check_placed(
 }
 
 /// The items of a program.
-#[tactic(auto, using(uc_bodies::proofs::Joined::joining))]
+#[tactic(auto, using(uc_check_stmt::proofs::Joined::joining))]
 pub fn check_items(
     alloc: Global,
     tables: &Tables,

@@ -5,8 +5,8 @@ ghost use Rattle.uc_tree.specs.Cells.{classes_of};
 ghost use Rattle.uc_types.specs.Members.{numbered_in};
 
 use std::alloc::{AllocError, Global};
-use uc_numbers::members::members_of;
-use uc_sizes::lists::classes_in;
+use uc_layout::lists::classes_in;
+use uc_numbering::members::members_of;
 use uc_tree::class::Class;
 use uc_tree::name::Name;
 use uc_tree::program::Program;

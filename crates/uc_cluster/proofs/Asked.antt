@@ -5,9 +5,9 @@ use Rattle.std.specs.List.{filter, list_any, list_all, range_with_len}
 use Rattle.uc_entry.specs.declared.entry.Options.{Options}
 use Rattle.uc_acts.specs.Journal.{Journal, begin, where_true}
 use Rattle.uc_acts.specs.Queues.{ready, running, cluster_count, processor_count, processors, open_processors, tasks_on, none_running, none_ready as nobody_ready, none_served as nobody_served, is_nobody as is_none_in}
-use Rattle.uc_acts.proofs.Open.{or_false, filter_true}
+use Rattle.uc_acts.proofs.OpenLemmas.{or_false, filter_true}
 use Rattle.uc_acts.proofs.Seats.{ready_push, running_same, running_other}
-use Rattle.uc_acts.proofs.Sound.{self_test}
+use Rattle.uc_acts.proofs.SoundLemmas.{self_test}
 use Rattle.uc_cluster.specs.declared.clusters.Processor.{Processor}
 use Rattle.uc_cluster.specs.Standing.{Standing, no_processor, new_processor, queue_at, is_nobody, is_on, none_ready, none_served, stalled_by, made_ready, opening}
 use Rattle.uc_cluster.proofs.Places.{on_push}

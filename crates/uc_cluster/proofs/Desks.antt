@@ -9,10 +9,10 @@ use Rattle.uc_entry.specs.declared.entry.EntryKind.{EntryKind}
 use Rattle.uc_entry.specs.declared.entry.EntryKind.TheVariants as kind
 use Rattle.uc_entry.specs.declared.entry.Options.{Options}
 use Rattle.uc_acts.specs.Open.{still_open}
-use Rattle.uc_acts.specs.Journal.{Journal, entry}
+use Rattle.uc_acts.specs.Journal.{Journal, asking}
 use Rattle.uc_acts.specs.Queues.{cluster_count, processor_count, is_cluster, is_processor, makes_processor, closes, processors, open_processors}
-use Rattle.uc_acts.proofs.Open.{any_push, still_open_push, filter_true, or_false}
-use Rattle.uc_acts.proofs.Sound.{self_test}
+use Rattle.uc_acts.proofs.OpenLemmas.{any_push, still_open_push, filter_true, or_false}
+use Rattle.uc_acts.proofs.SoundLemmas.{self_test}
 use Rattle.uc_cluster.specs.declared.clusters.Processor.{Processor}
 use Rattle.uc_cluster.specs.Standing.{no_processor, new_processor, queue_at, closed}
 use Rattle.uc_cluster.specs.Standing.{running as runs}
@@ -196,7 +196,7 @@ task_push (x ∷ ps) k (suc p) = task_push ps k p
 pub processor_more : LawProcessor
 processor_more opts v j p t k c is are =
     let ps = v.processors in let n = length ps in
-    let e = entry kind.Processor p t k 0 (pos n) (pos c) in
+    let e = asking kind.Processor p t k 0 (pos n) (pos c) in
     let new = made_push opts j e in
     let same = filter_same (λ x. not (shut (j ++ e ∷ []) x)) (λ x. not (shut j x)) (λ x. ap not (shut_push j e x ∙ or_false (shut j x))) in (
       record {
@@ -226,7 +226,7 @@ closed_task (x ∷ ps) (suc q) (suc p) = closed_task ps q p
 pub closes_one : LawCloses
 closes_one opts v j p t k q c lt is are =
     let ps = v.processors in
-    let e = entry kind.ProcessorEnd p t k 0 (pos q) (pos c) in
+    let e = asking kind.ProcessorEnd p t k 0 (pos q) (pos c) in
     let x = closed (slice_index_or ps q no_processor) in
     let all = made_push opts j e ∙ append-nil (processors opts j) in (
       record {
@@ -254,7 +254,7 @@ queue_push (q ∷ qs) (suc k) = queue_push qs k
 
 pub cluster_more : LawCluster
 cluster_more v j p t k n are counted =
-    let e = entry kind.Cluster p t k 0 (pos n) (pos 0) in
+    let e = asking kind.Cluster p t k 0 (pos n) (pos 0) in
     (λ c. queue_push v.queues c ∙ unready v j e refl refl are c, length-append v.queues ([] ∷ []) ∙ ap (λ (m : ℕ). m + 1) counted ∙ sym (clusters_push j e))
 
 silent_clusters : (k : EntryKind) → tells_cluster k ≡ false → is_cluster k ≡ false

@@ -12,7 +12,7 @@ use Rattle.uc_acts.specs.Queues.{ready, running, readies, puts_on, takes_off, di
 use Rattle.uc_acts.specs.Acts.{dispatch}
 use Rattle.uc_acts.proofs.Noted.{noted_at, last_clusters_push}
 use Rattle.uc_acts.proofs.Seats.{ready_push, running_same, running_other, running_given}
-use Rattle.uc_acts.proofs.Sound.{self_test, all_kept}
+use Rattle.uc_acts.proofs.SoundLemmas.{self_test, all_kept}
 use Rattle.uc_cluster.specs.declared.clusters.Processor.{Processor}
 use Rattle.uc_cluster.specs.Standing.{no_processor, queue_at, processor_at, place_of, or_0, made_ready, with_processor, started, front_at, front_or_0, rest_of}
 use Rattle.uc_cluster.specs.Standing.{running as runs}

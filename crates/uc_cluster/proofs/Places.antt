@@ -7,12 +7,12 @@ use Rattle.std.proofs.lemmas.List.Folds.{list_any-append}
 use Rattle.uc_entry.specs.declared.entry.Entry.{Entry}
 use Rattle.uc_entry.specs.declared.entry.EntryKind.{EntryKind}
 use Rattle.uc_entry.specs.declared.entry.EntryKind.TheVariants as kind
-use Rattle.uc_acts.specs.Journal.{Journal, entry, where_true}
+use Rattle.uc_acts.specs.Journal.{Journal, Cost, asking, where_true}
 use Rattle.uc_acts.specs.Open.{still_open}
 use Rattle.uc_acts.specs.Queues.{Noted, tasks_on, comes_to_stand, leaves_cluster, on_cluster, cluster_of, clusters, noted, last_clusters}
-use Rattle.uc_acts.proofs.Open.{still_open_push, or_false, filter_true}
+use Rattle.uc_acts.proofs.OpenLemmas.{still_open_push, or_false, filter_true}
 use Rattle.uc_acts.proofs.Noted.{noted_at, noted_push, last_clusters_push}
-use Rattle.uc_acts.proofs.Sound.{self_test}
+use Rattle.uc_acts.proofs.SoundLemmas.{self_test}
 use Rattle.uc_cluster.specs.Standing.{Standing, place_of, with_place, is_on}
 use Rattle.uc_cluster.specs.Laws.{tells_place, LawSpawned, LawMigrates, LawEnded, LawStands}
 
@@ -81,15 +81,15 @@ and_false true = refl
 and_false false = refl
 
 -- ---- a new task
-spawned_on : (k : ℕ) (j : Journal) (p t i o u : ℕ) → tasks_on k (j ++ entry kind.Spawn p t i o (pos u) (pos 0) ∷ []) ≡ tasks_on k j ++ option_to_list (where_true (cluster_of t j == k) u)
+spawned_on : (k : ℕ) (j : Journal) (p t : ℕ) (i : Cost) (o u : ℕ) → tasks_on k (j ++ asking kind.Spawn p t i o (pos u) (pos 0) ∷ []) ≡ tasks_on k j ++ option_to_list (where_true (cluster_of t j == k) u)
 spawned_on k j p t i o u =
-    let e = entry kind.Spawn p t i o (pos u) (pos 0) in
+    let e = asking kind.Spawn p t i o (pos u) (pos 0) in
     on_push k j e ∙ ap (λ (l : List ℕ). l ++ option_to_list (where_true ((noted_at j e).cluster u == k) u)) (filter_true (λ x. true) (tasks_on k j) (λ x. refl))
     ∙ ap (λ (b : Bool). tasks_on k j ++ option_to_list (where_true (cond b (cluster_of t j) (last_clusters (λ x. 0) j u) == k) u)) (self_test u)
 
 pub spawned : LawSpawned
 spawned v j p t i o u c lt none creator are =
-    let e = entry kind.Spawn p t i o (pos u) (pos 0) in
+    let e = asking kind.Spawn p t i o (pos u) (pos 0) in
     let w = with_place v u (place_of v t) in
     let mine = are.cluster c t creator in
     let now : place_of w u ≡ Some c = place_here v u (place_of v t) lt ∙ creator in
@@ -119,14 +119,14 @@ spawned v j p t i o u c lt none creator are =
     some_same m n s = cc
 
 -- ---- a task migrates
-migrated_on : (k : ℕ) (j : Journal) (p t i c : ℕ) → tasks_on k (j ++ entry kind.Migrate p t i 0 (pos c) (pos 0) ∷ []) ≡ off t (tasks_on k j) ++ option_to_list (where_true (c == k) t)
+migrated_on : (k : ℕ) (j : Journal) (p t : ℕ) (i : Cost) (c : ℕ) → tasks_on k (j ++ asking kind.Migrate p t i 0 (pos c) (pos 0) ∷ []) ≡ off t (tasks_on k j) ++ option_to_list (where_true (c == k) t)
 migrated_on k j p t i c =
-    let e = entry kind.Migrate p t i 0 (pos c) (pos 0) in
+    let e = asking kind.Migrate p t i 0 (pos c) (pos 0) in
     on_push k j e ∙ ap (λ (b : Bool). off t (tasks_on k j) ++ option_to_list (where_true (cond b c (last_clusters (λ x. 0) j t) == k) t)) (self_test t)
 
 pub migrates : LawMigrates
 migrates v j p t i c lt are =
-    let e = entry kind.Migrate p t i 0 (pos c) (pos 0) in
+    let e = asking kind.Migrate p t i 0 (pos c) (pos 0) in
     let w = with_place v t (Some c) in
     let now = place_here v t (Some c) lt in
     record {

@@ -6,7 +6,7 @@ use Rattle.uc_entry.specs.declared.entry.Entry.{Entry}
 use Rattle.uc_entry.specs.declared.entry.EntryKind.{EntryKind}
 use Rattle.uc_entry.specs.declared.entry.EntryKind.TheVariants as kind
 use Rattle.uc_entry.specs.declared.entry.Options.{Options}
-use Rattle.uc_acts.specs.Journal.{Journal, begin, entry}
+use Rattle.uc_acts.specs.Journal.{Journal, Cost, begin, asking}
 use Rattle.uc_acts.specs.Queues.{ready, running, readies, puts_on, takes_off, cluster_of, last_actor, actor, cluster_count, processor_count, processors, open_processors, closes, tasks_on}
 use Rattle.uc_acts.specs.Queues.{is_in_use as uses, none_running, none_ready as nobody_ready, none_served as nobody_served}
 use Rattle.uc_acts.specs.Acts.{dispatch}
@@ -113,7 +113,7 @@ LawKeeps = (v : Standing) (j : Journal) (e f : Entry) (t : ℕ) → e.proc ≡ f
 -- ---- clusters
 -- one cluster more, where nobody is ready
 abbrev pub LawCluster : Type 0
-LawCluster = (v : Standing) (j : Journal) (p t k n : ℕ) → let e = entry kind.Cluster p t k 0 (pos n) (pos 0) in AreReady v j → AreCounted v j → AreReady (with_cluster v) (j ++ e ∷ []) × AreCounted (with_cluster v) (j ++ e ∷ [])
+LawCluster = (v : Standing) (j : Journal) (p t : ℕ) (k : Cost) (n : ℕ) → let e = asking kind.Cluster p t k 0 (pos n) (pos 0) in AreReady v j → AreCounted v j → AreReady (with_cluster v) (j ++ e ∷ []) × AreCounted (with_cluster v) (j ++ e ∷ [])
 
 abbrev pub LawClusters : Type 0
 LawClusters = (v : Standing) (j : Journal) (e : Entry) → tells_cluster e.kind ≡ false → AreCounted v j → AreCounted v (j ++ e ∷ [])
@@ -121,12 +121,12 @@ LawClusters = (v : Standing) (j : Journal) (e : Entry) → tells_cluster e.kind 
 -- ---- processors
 -- one processor more, with the next number, where nobody runs
 abbrev pub LawProcessor : Type 0
-LawProcessor = (opts : Options) (v : Standing) (j : Journal) (p t k c : ℕ) → let e = entry kind.Processor p t k 0 (pos (length v.processors)) (pos c) in
+LawProcessor = (opts : Options) (v : Standing) (j : Journal) (p t : ℕ) (k : Cost) (c : ℕ) → let e = asking kind.Processor p t k 0 (pos (length v.processors)) (pos c) in
     AreOpen opts v.processors j → AreRunning v j → AreOpen opts (one_more_processor c v).processors (j ++ e ∷ []) × AreRunning (one_more_processor c v) (j ++ e ∷ [])
 
 -- a known processor is closed; its task goes on
 abbrev pub LawCloses : Type 0
-LawCloses = (opts : Options) (v : Standing) (j : Journal) (p t k q c : ℕ) → let e = entry kind.ProcessorEnd p t k 0 (pos q) (pos c) in
+LawCloses = (opts : Options) (v : Standing) (j : Journal) (p t : ℕ) (k : Cost) (q c : ℕ) → let e = asking kind.ProcessorEnd p t k 0 (pos q) (pos c) in
     let w = with_processor v q (closed (processor_at v q)) in
     q < length v.processors → AreOpen opts v.processors j → AreRunning v j → AreOpen opts w.processors (j ++ e ∷ []) × AreRunning w (j ++ e ∷ [])
 
@@ -138,12 +138,12 @@ LawOpenStays = (opts : Options) (v : Standing) (j : Journal) (e : Entry) → tel
 -- ---- places
 -- a new task stands where its creator does
 abbrev pub LawSpawned : Type 0
-LawSpawned = (v : Standing) (j : Journal) (p t k o u c : ℕ) → let e = entry kind.Spawn p t k o (pos u) (pos 0) in
+LawSpawned = (v : Standing) (j : Journal) (p t : ℕ) (k : Cost) (o u c : ℕ) → let e = asking kind.Spawn p t k o (pos u) (pos 0) in
     u < length v.places → place_of v u ≡ None → place_of v t ≡ Some c → ArePlaced v j → ArePlaced (with_place v u (place_of v t)) (j ++ e ∷ [])
 
 -- a task stands on the cluster to which it migrates
 abbrev pub LawMigrates : Type 0
-LawMigrates = (v : Standing) (j : Journal) (p t k c : ℕ) → let e = entry kind.Migrate p t k 0 (pos c) (pos 0) in
+LawMigrates = (v : Standing) (j : Journal) (p t : ℕ) (k : Cost) (c : ℕ) → let e = asking kind.Migrate p t k 0 (pos c) (pos 0) in
     t < length v.places → ArePlaced v j → ArePlaced (with_place v t (Some c)) (j ++ e ∷ [])
 
 -- a task that ends stands nowhere

@@ -145,7 +145,8 @@ impl Clusters {
 
     /// The task that runs on a processor; none where there is no such processor.
     pub fn task_on(&self, processor: u32) -> Option<u32>
-        ensures { result ≡ (processor_at self.now processor).task }
+        ensures value { result ≡ (processor_at self.now processor).task }
+        ensures known { IfSome result (λ t. processor < PROCESSORS) }
     {
         match self.processors.get(processor as usize) {
             Some(one) => one.task,

@@ -4,7 +4,7 @@ use Rattle.std.specs.Prelude.{slice_set}
 use Rattle.std.proofs.lemmas.List.{take_more, take_all}
 use Rattle.uc_code.specs.declared.rows.HandlerRow.{HandlerRow}
 use Rattle.uc_code.specs.declared.rows.Mark.{Mark}
-use Rattle.uc_code.specs.Open.{closed_row, closed_rows}
+use Rattle.uc_code.specs.OpenRows.{closed_row, closed_rows}
 use Rattle.uc_code.proofs.Closing.{reverse_push}
 
 set_is : (rows : List HandlerRow) (k here entry : ℕ) (d : HandlerRow) → k < length rows → slice_set rows k (closed_row here entry (get_or rows k d)) ≡ closed_rows here entry k rows

@@ -9,8 +9,8 @@ use Rattle.uc_code.specs.declared.rows.TheConstants.{ANY_EVENT, OPEN_END}
 use Rattle.uc_code.specs.declared.rows.Mark.{Mark}
 use Rattle.uc_code.specs.declared.rows.Opening.{Opening}
 use Rattle.uc_code.specs.declared.rows.Opening.TheVariants as opening
-use Rattle.uc_code.specs.Laid.{covers, takes_events, from_row, from_newest}
-use Rattle.uc_code.specs.Open.{row_in, handler_in, guard_in, opening_mark, opening_kind, made, Nested, Bare, Ended, InBody, InLoop, InRow, closed_row, closed_rows}
+use Rattle.uc_code.specs.Layout.{covers, takes_events, from_row, from_newest}
+use Rattle.uc_code.specs.OpenRows.{row_in, handler_in, guard_in, opening_mark, opening_kind, made, Nested, Bare, Ended, InBody, InLoop, InRow, closed_row, closed_rows}
 use Rattle.uc_code.proofs.Nesting.{nested_rise}
 
 pub reverse_cons : {X : Type 0} → (x : X) (xs : List X) → reverse (x ∷ xs) ≡ reverse xs ++ x ∷ []

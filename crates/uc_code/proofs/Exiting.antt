@@ -11,11 +11,11 @@ use Rattle.uc_code.specs.declared.rows.Mark.TheVariants as mark
 use Rattle.uc_code.specs.declared.rows.ObjectCall.{ObjectCall}
 use Rattle.uc_code.specs.declared.rows.Opening.TheVariants as opening
 use Rattle.uc_code.specs.Drafts.{Draft}
-use Rattle.uc_code.specs.Laid.{Laid, laid_in, handlers, under, routine_in}
-use Rattle.uc_code.specs.Ranges.{One, Risk, Both, Kept}
+use Rattle.uc_code.specs.Layout.{Laid, laid_in, handlers, under, routine_in}
+use Rattle.uc_code.specs.CodeShapes.{One, Risk, Both, Kept}
 use Rattle.uc_code.specs.Lowered.{CalledAt, CallDone, CleanBy, CleanAt, ExitAt}
-use Rattle.uc_code.specs.Open.{Below, Falling, AllBehind, row_in, opened, closed, exit_room}
-use Rattle.uc_code.specs.Puts.{Puts, PutsLeft, Leaves}
+use Rattle.uc_code.specs.OpenRows.{Below, Falling, AllBehind, row_in, opened, closed, exit_room}
+use Rattle.uc_code.specs.Emits.{Puts, PutsLeft, Leaves}
 use Rattle.uc_code.proofs.Stable.{kept_then, kept_piece, kept_refl}
 use Rattle.uc_code.proofs.Nesting.{under_all, under_drop}
 use Rattle.uc_code.proofs.Putting.{clean_stable, marks_of}

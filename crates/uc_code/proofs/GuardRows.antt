@@ -6,9 +6,9 @@ use Rattle.uc_code.specs.declared.rows.Mark.{Mark}
 use Rattle.uc_code.specs.declared.rows.Mark.TheVariants as mark
 use Rattle.uc_code.specs.declared.rows.Opening.TheVariants as opening
 use Rattle.uc_code.specs.Drafts.{Draft}
-use Rattle.uc_code.specs.Laid.{guards, laid_in}
-use Rattle.uc_code.specs.Ranges.{IsBare, Kept}
-use Rattle.uc_code.specs.Open.{made, row_in, guard_in, entry_in, opened, closed, closed_by}
+use Rattle.uc_code.specs.Layout.{guards, laid_in}
+use Rattle.uc_code.specs.CodeShapes.{IsBare, Kept}
+use Rattle.uc_code.specs.OpenRows.{made, row_in, guard_in, entry_in, opened, closed, closed_by}
 use Rattle.uc_code.specs.Guarding.{OpensGuards, ClosesGuards}
 use Rattle.uc_code.proofs.Stable.{kept_refl, kept_then}
 use Rattle.uc_code.proofs.Sweeping.{closed_ops}

@@ -10,9 +10,9 @@ use Rattle.uc_code.specs.declared.rows.Mark.{Mark}
 use Rattle.uc_code.specs.declared.rows.Mark.TheVariants as mark
 use Rattle.uc_code.specs.declared.rows.RoutineCode.{RoutineCode}
 use Rattle.uc_code.specs.declared.rows.RowKind.TheVariants.{CatchResume}
-use Rattle.uc_code.specs.Laid.{Laid, handlers, guards}
+use Rattle.uc_code.specs.Layout.{Laid, handlers, guards}
 use Rattle.uc_code.specs.Pace.{behind, height, power, In, AllIn, Text, Beneath}
-use Rattle.uc_code.specs.Ranges.{OpAt, Nothing, One, Both, WholeAt, main_end, main_left, MainAt, Guarded, HandledAt, ApartAt, HandlerAt, clean_up}
+use Rattle.uc_code.specs.CodeShapes.{OpAt, Nothing, One, Both, WholeAt, main_end, main_left, MainAt, Guarded, HandledAt, ApartAt, HandlerAt, clean_up}
 use Rattle.uc_code.specs.Lowered.{kind_of, handler_of, NamedAt}
 use Rattle.uc_code.proofs.Heights.{under_none, Outside, Plain, PacedAt, Each, Ahead, Around, around_less, clean_ahead, Below, beneath_of, paced_by, none, only, join, own_plain, jump_plain, jump_outside, jump_paced, Starts, burden_is, PadTo, pad_less, exit_paced, RowIn, row_in, Env, AllStay, stay_none, stay_one, stay_join}
 use Rattle.uc_code.proofs.Powers.{power_rises}
@@ -83,7 +83,7 @@ module _ (code : Laid) (table : List RoutineCode) (any : Bool) where
   left_plain main_of.Coroutine line a h o = own_plain code table a op.Escape line h (λ n k x. refl) (λ k t. refl) o
 
   end_plain : (main : MainOf) (line a : ℕ) → OpAt code a (main_end main) line → Outside code table (a + 1) → Plain code table a
-  end_plain main_of.Task line a h o = own_plain code table a op.Return line h (λ n k x. refl) (λ k t. refl) o
+  end_plain main_of.Task line a h o = own_plain code table a op.EndTask line h (λ n k x. refl) (λ k t. refl) o
   end_plain main_of.Coroutine line a h o = own_plain code table a op.EndMain line h (λ n k x. refl) (λ k t. refl) o
 
   left_paced : (main : MainOf) (line a : ℕ) → OpAt code a (main_left main) line → PacedAt code table a
@@ -91,7 +91,7 @@ module _ (code : Laid) (table : List RoutineCode) (any : Bool) where
   left_paced main_of.Coroutine line a h = paced_by code table a op.Escape line h tt
 
   end_paced : (main : MainOf) (line a : ℕ) → OpAt code a (main_end main) line → PacedAt code table a
-  end_paced main_of.Task line a h = paced_by code table a op.Return line h tt
+  end_paced main_of.Task line a h = paced_by code table a op.EndTask line h tt
   end_paced main_of.Coroutine line a h = paced_by code table a op.EndMain line h tt
 
   left_stays : (main : MainOf) (from to floor line a z : ℕ) → OpAt code a (main_left main) line → z ≡ a + 1 → AllStay code table from to floor a z
@@ -99,7 +99,7 @@ module _ (code : Laid) (table : List RoutineCode) (any : Bool) where
   left_stays main_of.Coroutine from to floor line a z h e = stay_one code table from to floor a z op.Escape line h e tt
 
   end_stays : (main : MainOf) (from to floor line a z : ℕ) → OpAt code a (main_end main) line → z ≡ a + 1 → AllStay code table from to floor a z
-  end_stays main_of.Task from to floor line a z h e = stay_one code table from to floor a z op.Return line h e tt
+  end_stays main_of.Task from to floor line a z h e = stay_one code table from to floor a z op.EndTask line h e tt
   end_stays main_of.Coroutine from to floor line a z h e = stay_one code table from to floor a z op.EndMain line h e tt
 
   module _ (main : MainOf) (number line : ℕ) (B : List Mark → ℕ → ℕ → Type 0) (b : (ns : List Mark) → Paces ns (B ns)) where

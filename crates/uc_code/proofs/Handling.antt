@@ -12,9 +12,9 @@ use Rattle.uc_code.specs.declared.rows.Opening.TheVariants as opening
 use Rattle.uc_code.specs.declared.rows.RowKind.{RowKind}
 use Rattle.uc_code.specs.declared.rows.RowKind.TheVariants as kind
 use Rattle.uc_code.specs.declared.rows.TheConstants.{OPEN_END}
-use Rattle.uc_code.specs.Laid.{under, handlers, takes_events, counted_by, from_row, from_newest}
-use Rattle.uc_code.specs.Open.{opening_mark, made, Nested, Bare, Ended, InBody, InLoop, InRow, IsSettled, handled_row, handled_rows}
-use Rattle.uc_code.specs.Ranges.{HandlerAt, IsBare, KeptBut}
+use Rattle.uc_code.specs.Layout.{under, handlers, takes_events, counted_by, from_row, from_newest}
+use Rattle.uc_code.specs.OpenRows.{opening_mark, made, Nested, Bare, Ended, InBody, InLoop, InRow, IsSettled, handled_row, handled_rows}
+use Rattle.uc_code.specs.CodeShapes.{HandlerAt, IsBare, KeptBut}
 use Rattle.uc_code.proofs.Closing.{reverse_cons}
 use Rattle.uc_code.proofs.Nesting.{under_take, under_drop}
 use Rattle.uc_code.proofs.Settled.{all_rows}

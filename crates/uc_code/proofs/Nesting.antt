@@ -8,8 +8,8 @@ use Rattle.uc_code.specs.declared.rows.TheConstants.{OPEN_END}
 use Rattle.uc_code.specs.declared.rows.Mark.{Mark}
 use Rattle.uc_code.specs.declared.rows.Opening.{Opening}
 use Rattle.uc_code.specs.declared.rows.Opening.TheVariants as opening
-use Rattle.uc_code.specs.Laid.{under, handlers, covers, counted_by, from_row, from_newest}
-use Rattle.uc_code.specs.Open.{named_by, opening_mark, opening_kind, opening_event, opening_around, made, Below, Falling, Nested, Bare, Ended, InBody, InLoop, InRow}
+use Rattle.uc_code.specs.Layout.{under, handlers, covers, counted_by, from_row, from_newest}
+use Rattle.uc_code.specs.OpenRows.{named_by, opening_mark, opening_kind, opening_event, opening_around, made, Below, Falling, Nested, Bare, Ended, InBody, InLoop, InRow}
 
 -- numbers below another
 

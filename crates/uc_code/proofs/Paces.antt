@@ -2,7 +2,7 @@
 use Rattle.std.proofs.Common.{◌≡◌, ℕ, zero, suc, ◌+◌, ◌-◌, ◌<◌, ◌≤◌, max, pos, List, [], ◌∷◌, Bool, true, false, Option, Some, None, length, refl, sym, subst, ◌∙◌, arith}
 use Rattle.std.specs.Prelude.{slice_get}
 use Rattle.std.proofs.lemmas.Option.{slice_get_within}
-use Rattle.uc_tree.specs.Source.{Shape, Integer, Character, Truth, Binding, Last, Field, Array, shape_cells, field_cells, Operator, Plus, Minus, Times, Over, Modulo, Equal, NotEqual, Less, AtMost, Greater, AtLeast, Expr, Literal, Variable, Element, Get, Load, Negated, Not, AsCharacter, AsTruth, Operate, And, Or, Set, Assign, First, Update, StepBehind, Fail, Call, OfObject, ObjectExpr, This, OwnField, GetOwn, FieldOf, Counted, CallOn, CallUnwritten, CallLive, EnterOn, Wait, Signal, SignalBlock, IsEmpty, FrontOf, Exprs, NoExprs, MoreExprs, Item, Show, ShowText, Target, Declared, Stmt, Skip, Block, Whole, Evaluate, Declare, Print, PrintTogether, Read, If, Loop, Break, Continue, Return, Fill, OfEvents, OfTasks, TaskStmt, Resume, Suspend, SetUp, Enliven, TakeDown, Yield, Migrate, Accept, EventStmt, Throw, Raise, Try, RaiseAt, Enable, Disable, Raised, Plainly, BuiltAt as BuildsAt, AgainFrom, Handlers, NoHandlers, MoreHandlers, Stmts, Nil, Then, Scoped, Built, Way, ToBreak, ToContinue, ToReturn, ToEnd, Purpose, TaskMain, CoroutineMain, Procedure, Function, Builder, Routine, Source}
+use Rattle.uc_tree.specs.Source.{Shape, Integer, Character, Truth, Binding, Last, Field, Array, shape_cells, field_cells, Operator, Plus, Minus, Times, Over, Modulo, Equal, NotEqual, Less, AtMost, Greater, AtLeast, Expr, Literal, Variable, Element, Get, Load, Negated, Not, AsCharacter, AsTruth, Operate, And, Or, Set, Assign, First, Update, StepBehind, Fail, Call, OfObject, ObjectExpr, This, OwnField, GetOwn, FieldOf, Counted, CallOn, CallUnwritten, CallLive, EnterOn, EndOn, Bind, MakeOn, NewCluster, NewProcessor, EndCluster, EndProcessor, ConditionAt, Wait, Signal, SignalBlock, IsEmpty, FrontOf, Exprs, NoExprs, MoreExprs, Item, Show, ShowText, Target, Declared, Stmt, Skip, Block, Whole, Evaluate, Declare, Print, PrintTogether, Read, If, Loop, Break, Continue, Return, Owes, Fill, OfEvents, OfTasks, TaskStmt, Resume, Suspend, SetUp, Enliven, TakeDown, Yield, Migrate, Accept, EventStmt, Throw, Raise, Try, RaiseAt, Enable, Disable, Raised, Plainly, BuiltAt as BuildsAt, AgainFrom, Handlers, NoHandlers, MoreHandlers, Stmts, Nil, Then, Scoped, Built, Way, ToBreak, ToContinue, ToReturn, ToEnd, Purpose, TaskMain, CoroutineMain, Procedure, Function, Builder, Routine, Source}
 use Rattle.uc_tree.specs.Hidden.{EVENT_FIELDS}
 use Rattle.uc_code.specs.declared.op.Op.{Op}
 use Rattle.uc_code.specs.declared.op.Op.TheVariants as op
@@ -12,9 +12,9 @@ use Rattle.uc_code.specs.declared.rows.Mark.{Mark}
 use Rattle.uc_code.specs.declared.rows.Mark.TheVariants as mark
 use Rattle.uc_code.specs.declared.rows.RoutineCode.{RoutineCode}
 use Rattle.uc_code.specs.Codes.{Code}
-use Rattle.uc_code.specs.Laid.{Laid, laid_of}
+use Rattle.uc_code.specs.Layout.{Laid, laid_of}
 use Rattle.uc_code.specs.Pace.{climb_op, above, Test, test_by, In, Stays, Mute, Onward, Paced, IsPaced}
-use Rattle.uc_code.specs.Ranges.{OpAt, One, Both, Fork, main_end, MainAt}
+use Rattle.uc_code.specs.CodeShapes.{OpAt, One, Both, Fork, main_end, MainAt}
 use Rattle.uc_code.specs.Silent.{silent, silent_all, silent_task}
 use Rattle.uc_code.specs.Lowered.{operator_op, item_op, handler_rows, ConvertAt, ExprAt, ObjectAt, ArgumentsAt, ValueAt, ItemsAt, ValuesAt, PiecesAt, TogetherAt, TargetsAt, StartAt, VariablesAt, RaisedAt, FieldsAt, KeepAt, KeepsAt, ExitAt, StepAt, HandlerBy, TaskAt, StmtAt, EventAt, HandlersAt, StmtsAt, BodyAt, RoutineAt, RoutinesAt, Lowered}
 use Rattle.uc_code.proofs.Heights.{Outside, Plain, PacedAt, Each, Around, paced_by, none, only, join, within, own_plain, outside_next, Starts, Further, down, height_is, outside_end, AllStay, stay_one, stay_join}
@@ -100,7 +100,15 @@ module _ (code : Laid) (table : List RoutineCode) (any : Bool) where
     object_paces ms line (CallOn r e es) = both ms (expr_paces ms line e) (both ms (args_paces ms line es) (pacing.call_on_paces code table any ms line r))
     object_paces ms line (CallLive r e es) = both ms (expr_paces ms line e) (both ms (args_paces ms line es) (pacing.call_live_paces code table any ms line r))
     object_paces ms line (CallUnwritten r e) = both ms (expr_paces ms line e) (pacing.calls_behind_paces code table any ms line r)
+    object_paces ms line (Bind p e) = both ms (expr_paces ms line p) (both ms (expr_paces ms line e) (onward ms op.Bind line (λ n k h. refl) (λ k t. refl) (λ at l. l) (λ from to floor at i. i)))
     object_paces ms line (EnterOn m r e es) = pacing.never_paces code table any ms
+    object_paces ms line (EndOn r written e) = pacing.never_paces code table any ms
+    object_paces ms line (MakeOn c r written e es) = pacing.never_paces code table any ms
+    object_paces ms line NewCluster = pacing.never_paces code table any ms
+    object_paces ms line (NewProcessor e) = pacing.never_paces code table any ms
+    object_paces ms line (EndCluster e) = pacing.never_paces code table any ms
+    object_paces ms line (EndProcessor e) = pacing.never_paces code table any ms
+    object_paces ms line (ConditionAt k n e) = pacing.never_paces code table any ms
     object_paces ms line (Wait c n) = pacing.never_paces code table any ms
     object_paces ms line (Signal c) = pacing.never_paces code table any ms
     object_paces ms line (SignalBlock c) = pacing.never_paces code table any ms
@@ -171,7 +179,7 @@ module _ (code : Laid) (table : List RoutineCode) (any : Bool) where
   drop_paces ms line = onward ms op.Discard line (λ n k h. refl) (λ k t. refl) (λ at l. l) (λ from to floor at i. i)
 
   end_paces : (main : MainOf) (ms : List Mark) (line : ℕ) → Paces ms (One code (main_end main) line)
-  end_paces main_of.Task ms line = pacing.return_paces code table any ms line
+  end_paces main_of.Task ms line = pacing.task_end_paces code table any ms line
   end_paces main_of.Coroutine ms line = pacing.main_end_paces code table any ms line
 
   exit_paces : (w : Way) (ms : List Mark) → Paces ms (ExitAt code w ms)
@@ -212,8 +220,8 @@ module _ (code : Laid) (table : List RoutineCode) (any : Bool) where
   no_silence t e = let f : true ≡ false = sym t ∙ e in absurd (cc)
 
   task_paces : (ms : List Mark) (s : TaskStmt) → (any ≡ false → silent_task s) → Paces ms (TaskAt code ms s)
-  task_paces ms (Resume line) f = both ms (pacing.resume_paces code table any (raised_any any f) ms line) (pacing.land_paces code table any ms line)
-  task_paces ms (Suspend line) f = both ms (onward ms op.Suspend line (λ n k h. refl) (λ k t. refl) (λ at l. l) (λ from to floor at i. i)) (pacing.land_paces code table any ms line)
+  task_paces ms (Resume line) f = both ms (pacing.resume_paces code table any (raised_any any f) ms line) (both ms (pacing.land_paces code table any ms line) (pacing.poll_paces code table any (raised_any any f) ms line))
+  task_paces ms (Suspend line) f = both ms (onward ms op.Suspend line (λ n k h. refl) (λ k t. refl) (λ at l. l) (λ from to floor at i. i)) (both ms (pacing.land_paces code table any ms line) (pacing.poll_paces code table any (raised_any any f) ms line))
   task_paces ms (SetUp r) f = pacing.set_up_paces code table any ms 0 r
   task_paces ms Enliven f = onward ms op.Live 0 (λ n k h. refl) (λ k t. refl) (λ at l. l) (λ from to floor at i. i)
   task_paces ms TakeDown f = onward ms op.UnwindCoroutine 0 (λ n k h. refl) (λ k t. refl) (λ at l. l) (λ from to floor at i. i)
@@ -247,6 +255,7 @@ module _ (code : Laid) (table : List RoutineCode) (any : Bool) where
     stmt_paces ms (Continue line) f = exit_paces ToContinue ms
     stmt_paces ms (Return line None) f = exit_paces ToEnd ms
     stmt_paces ms (Return line (Some e)) f = both ms (expr_paces ms line e) (exit_paces ToReturn ms)
+    stmt_paces ms (Owes line) f = pacing.never_paces code table any ms
     stmt_paces ms (Fill line n b d) f = spans.filled_paces code table any ms line n b d
     stmt_paces ms (OfEvents s) f = event_paces ms s (raised_any any f)
     stmt_paces ms (OfTasks s) f = task_paces ms s f
@@ -257,8 +266,8 @@ module _ (code : Laid) (table : List RoutineCode) (any : Bool) where
     event_paces ms (Try line body hs) t =
         blocks.guarded_paces code table any ms line (handler_rows hs) (λ ns. StmtsAt code ns line body) (λ first pad. HandlersAt code ms first pad hs) (λ ns. stmts_paces ns line body (λ e. no_silence t e)) (handlers_paces ms hs t)
     event_paces ms (RaiseAt line r e) t = pacing.never_paces code table any ms
-    event_paces ms (Enable line events s) t = pacing.never_paces code table any ms
-    event_paces ms (Disable line events s) t = pacing.never_paces code table any ms
+    event_paces ms (Enable line events cell s) t = pacing.never_paces code table any ms
+    event_paces ms (Disable line events cell s) t = pacing.never_paces code table any ms
 
     handlers_paces : (ms : List Mark) (hs : Handlers) → any ≡ true → blocks.AllHandle code table any ms (handler_rows hs) (λ first pad. HandlersAt code ms first pad hs)
     handlers_paces ms NoHandlers t = blocks.no_handles code table any ms

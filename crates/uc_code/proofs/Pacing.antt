@@ -1,17 +1,17 @@
 -- How pieces of code that are paced are joined, and how an activation stays in them.
-use Rattle.std.proofs.Common.{◌≡◌, ℕ, suc, ◌+◌, ◌*◌, ◌^◌, ◌<◌, ◌≤◌, List, ◌∷◌, Bool, true, false, Option, length, refl, subst, ◌∙◌, arith}
+use Rattle.std.proofs.Common.{◌≡◌, ℕ, suc, ◌+◌, ◌*◌, ◌^◌, ◌<◌, ◌≤◌, List, ◌∷◌, Bool, true, false, Option, length, refl, subst, ◌∙◌, arith, ap, sym, true}
 use Rattle.uc_tree.specs.Source.{Order, TestFirst, BodyFirst, NoTest}
 use Rattle.uc_code.specs.declared.op.Op.{Op}
 use Rattle.uc_code.specs.declared.op.Op.TheVariants as op
 use Rattle.uc_code.specs.declared.rows.Mark.{Mark}
 use Rattle.uc_code.specs.declared.rows.Mark.TheVariants as mark
 use Rattle.uc_code.specs.declared.rows.RoutineCode.{RoutineCode}
-use Rattle.uc_code.specs.Laid.{Laid, handlers, chain}
+use Rattle.uc_code.specs.Layout.{Laid, handlers, chain}
 use Rattle.uc_code.specs.Pace.{behind, climb_op, height, power, Test, test_by, above, In, Risks, Stays, Waits, Calling, Begins, High, Onward, Paced}
-use Rattle.uc_code.specs.Ranges.{OpAt, Nothing, Never, One, Risk, CallsBehind, Both, Fork, pads_at, begin_at, BackAt, Turns}
+use Rattle.uc_code.specs.CodeShapes.{OpAt, Nothing, Never, One, Risk, CallsBehind, Both, Fork, pads_at, begin_at, BackAt, Turns, PollAt}
 use Rattle.uc_code.specs.Lowered.{Any}
 use Rattle.uc_code.proofs.Powers.{power_less, power_room_less}
-use Rattle.uc_code.proofs.Heights.{Outside, Plain, PacedAt, Each, Around, around_less, further_of, paced_by, none, only, join, within, burden_is, onward_lower, onward_plain, onward_falls, own_plain, outside_next, jump_plain, jump_outside, jump_paced, zero_paced, tick_plain, tick_paced, back_paced, back_test_paced, Starts, calling, down, risky, waits_at, raises_at, high_waits, waiting_more, exit_paced, PadTo, height_is, Env, AllStay, stay_none, stay_one, stay_join, risks_in}
+use Rattle.uc_code.proofs.Heights.{Outside, Plain, PacedAt, Each, Around, around_less, further_of, paced_by, none, only, join, within, burden_is, onward_lower, onward_plain, onward_falls, own_plain, outside_next, jump_plain, jump_outside, jump_paced, zero_paced, tick_plain, tick_paced, back_paced, back_test_paced, Starts, calling, down, risky, waits_at, raises_at, high_waits, waiting_more, exit_paced, PadTo, height_is, Env, AllStay, stay_none, stay_one, stay_join, risks_in, if_ge}
 
 module _ (code : Laid) (table : List RoutineCode) (any : Bool) where
   -- the number above which raises stand in a text that ends there, if there are any
@@ -258,6 +258,95 @@ module _ (code : Laid) (table : List RoutineCode) (any : Bool) where
     stays = λ from to floor a z h n l m x. stay_one code table from to floor a z op.Resume line h.here h.end (next_in from to a z h.end l m, loud_low t floor to x);
   }
 
+  -- no turns over elements go on at the ops of a poll that begins here
+  record Entered (a : ℕ) : Type 0 where
+    pub again : Outside code table (a + 3)
+    pub discard : Outside code table (a + 2)
+    pub deliver : Outside code table (a + 1)
+    pub poll : Outside code table a
+
+  -- events are delivered one by one: behind the tick or the request of a poll another one may follow
+
+  poll_outside : (ms : List Mark) (line a z : ℕ) → PollAt code ms line a z → Outside code table z → Entered a
+  poll_outside ms line a z h o =
+      let e : z ≡ (a + 3) + 1 = (let i = h.end in omega arith) in
+      let f : a + 3 ≡ (a + 2) + 1 = omega arith in
+      let g : a + 2 ≡ (a + 1) + 1 = omega arith in
+      let again : Outside code table (a + 3) = jump_outside code table (a + 3) a line h.again (subst (Outside code table) e o) in
+      let discard : Outside code table (a + 2) = outside_next code table (a + 2) op.Discard line h.discard (λ k t. refl) (subst (Outside code table) f again) in
+      let deliver : Outside code table (a + 1) = outside_next code table (a + 1) (op.Deliver z) line h.deliver.here (λ k t. refl) (subst (Outside code table) g discard) in
+      record { again = again; discard = discard; deliver = deliver; poll = outside_next code table a (op.Poll z) line h.poll (λ k t. refl) deliver }
+
+  poll_height : (ms : List Mark) (line a z : ℕ) → PollAt code ms line a z → height code.ops a ≡ behind (length code.ops) z + 1
+  poll_height ms line a z h = height_is code table a (op.Poll z) line h.poll
+
+  again_height : (ms : List Mark) (line a z : ℕ) → PollAt code ms line a z → height code.ops (a + 3) ≡ behind (length code.ops) (a + 3)
+  again_height ms line a z h = height_is code table (a + 3) (op.Jump a) line h.again ∙ if_ge (a + 3) a (behind (length code.ops) a + 1) (behind (length code.ops) (a + 3)) (omega arith)
+
+  discard_height : (ms : List Mark) (line a z : ℕ) → PollAt code ms line a z → height code.ops (a + 2) ≡ behind (length code.ops) (a + 3) + 1
+  discard_height ms line a z h =
+      let e : height code.ops (a + 2) ≡ suc (height code.ops ((a + 2) + 1)) = height_is code table (a + 2) op.Discard line h.discard in
+      let f : (a + 2) + 1 ≡ a + 3 = omega arith in
+      let g : height code.ops ((a + 2) + 1) ≡ height code.ops (a + 3) = ap (height code.ops) f in
+      let k = again_height ms line a z h in
+      omega arith
+
+  -- the op that delivers
+  deliver_risk : any ≡ true → (ms : List Mark) (line a z : ℕ) → PollAt code ms line a z → Around code table ms z → Plain code table z → Paced code table (a + 1) (op.Deliver z)
+  deliver_risk t ms line a z h x p =
+      let i = h.end in
+      let o = poll_outside ms line a z h p.outside in
+      let e : a + 2 ≡ (a + 1) + 1 = omega arith in
+      let k : height code.ops (a + 1) ≡ behind (length code.ops) (a + 1) = height_is code table (a + 1) (op.Deliver z) line h.deliver.here in
+      let d = discard_height ms line a z h in
+      let w = within code table (a + 3) (op.Jump a) line h.again in
+      let l = p.low in
+      let u : chain code.rows ((a + 1) + 1) ≡ handlers ms = subst (λ n. chain code.rows n ≡ handlers ms) e h.deliver.under in
+      let y : Around code table ms ((a + 1) + 1) = around_less code table ms ((a + 1) + 1) z (omega arith) x in
+      let next : Plain code table (a + 2) = record { low = omega arith; outside = o.discard } in
+      let f : height code.ops ((a + 1) + 1) ≡ height code.ops (a + 2) = ap (height code.ops) (sym e) in (
+        raises_at code table (a + 1) (risky code table (a + 1) ms u (omega arith) (omega arith) y) o.deliver (subst (Plain code table) e next) (omega arith) (omega arith),
+        down code table (a + 1) z o.deliver p.outside (omega arith),
+      )
+
+  pub poll_paces : any ≡ true → (ms : List Mark) (line : ℕ) → Paces ms (PollAt code ms line)
+  poll_paces t ms line = record {
+    rises = λ a z h. let e = h.end in omega arith;
+    plain = λ a z h p.
+        let i = h.end in
+        let o = poll_outside ms line a z h p.outside in
+        let k = poll_height ms line a z h in
+        let w = within code table (a + 3) (op.Jump a) line h.again in
+        record { low = omega arith; outside = o.poll };
+    each = λ q a z h x p.
+        let i = h.end in
+        let o = poll_outside ms line a z h p.outside in
+        let k = poll_height ms line a z h in
+        let b = again_height ms line a z h in
+        let d = discard_height ms line a z h in
+        let l = p.low in
+        let w = within code table (a + 3) (op.Jump a) line h.again in
+        let f : (a + 2) + 1 ≡ a + 3 = omega arith in
+        let g : Onward code table (a + 2) (a + 3) = down code table (a + 2) (a + 3) o.discard o.again (omega arith) in
+        join code table a (a + 1) z (only code table a (a + 1) refl (paced_by code table a (op.Poll z) line h.poll (down code table a z o.poll p.outside (omega arith)))) (
+        join code table (a + 1) (a + 2) z (only code table (a + 1) (a + 2) (omega arith) (paced_by code table (a + 1) (op.Deliver z) line h.deliver.here (deliver_risk t ms line a z h x p))) (
+        join code table (a + 2) (a + 3) z (only code table (a + 2) (a + 3) (omega arith) (paced_by code table (a + 2) op.Discard line h.discard (subst (λ n. Onward code table (a + 2) n) (sym f) g)))
+        (only code table (a + 3) z (omega arith) (paced_by code table (a + 3) (op.Jump a) line h.again (down code table (a + 3) a o.again o.poll (omega arith))))));
+    stays = λ from to floor a z h n l m x.
+        let i = h.end in
+        let k : height code.ops (a + 1) ≡ behind (length code.ops) (a + 1) = height_is code table (a + 1) (op.Deliver z) line h.deliver.here in
+        let w = within code table (a + 3) (op.Jump a) line h.again in
+        let e : a + 2 ≡ (a + 1) + 1 = omega arith in
+        let u : chain code.rows ((a + 1) + 1) ≡ handlers ms = subst (λ n. chain code.rows n ≡ handlers ms) e h.deliver.under in
+        let f : Allowed true floor to = subst (λ b. Allowed b floor to) t x in
+        let b = waiting_more code.ops (a + 1) 0 (behind (length code.ops) to) (omega arith) in
+        let here = end_in from to a z (omega arith) l m in
+        stay_join code table from to floor a (a + 1) z (stay_one code table from to floor a (a + 1) (op.Poll z) line h.poll refl (here, next_in from to a (a + 1) refl l (omega arith))) (
+        stay_join code table from to floor (a + 1) (a + 2) z (stay_one code table from to floor (a + 1) (a + 2) (op.Deliver z) line h.deliver.here e (here, next_in from to (a + 1) (a + 2) e (omega arith) (omega arith), risks_in code table from to (a + 1) ms u n, omega arith)) (
+        stay_join code table from to floor (a + 2) (a + 3) z (stay_one code table from to floor (a + 2) (a + 3) op.Discard line h.discard (omega arith) (next_in from to (a + 2) (a + 3) (omega arith) (omega arith) (omega arith)))
+        (stay_one code table from to floor (a + 3) z (op.Jump a) line h.again (omega arith) (end_in from to a a (omega arith) l (omega arith)))));
+  }
+
   -- an execution is set up for a coroutine, whose main begins low
 
   begins_low : (r : ℕ) → Starts code table → Begins code table r
@@ -436,6 +525,14 @@ module _ (code : Laid) (table : List RoutineCode) (any : Bool) where
     plain = λ a z h p. own_plain code table a op.EndMain line h.here (λ n k x. refl) (λ k t. refl) (subst (Outside code table) h.end p.outside);
     each = λ q a z h r p. only code table a z h.end (paced_by code table a op.EndMain line h.here tt);
     stays = λ from to floor a z h n l m x. stay_one code table from to floor a z op.EndMain line h.here h.end tt;
+  }
+
+  pub task_end_paces : (ms : List Mark) (line : ℕ) → Paces ms (One code op.EndTask line)
+  task_end_paces ms line = record {
+    rises = λ a z h. let e = h.end in omega arith;
+    plain = λ a z h p. own_plain code table a op.EndTask line h.here (λ n k x. refl) (λ k t. refl) (subst (Outside code table) h.end p.outside);
+    each = λ q a z h r p. only code table a z h.end (paced_by code table a op.EndTask line h.here tt);
+    stays = λ from to floor a z h n l m x. stay_one code table from to floor a z op.EndTask line h.here h.end tt;
   }
 
   pub value_return_paces : (ms : List Mark) (line : ℕ) → Paces ms (One code op.ReturnValue line)

@@ -5,8 +5,8 @@ use Rattle.uc_code.specs.declared.op.Op.{Op}
 use Rattle.uc_code.specs.declared.rows.Handler.{Handler}
 use Rattle.uc_code.specs.declared.rows.Instruction.{Instruction}
 use Rattle.uc_code.specs.Drafts.{ops_with, patched}
-use Rattle.uc_code.specs.Laid.{Laid}
-use Rattle.uc_code.specs.Ranges.{OpAt, HandlerAt, IsBare, One, Same, Kept}
+use Rattle.uc_code.specs.Layout.{Laid}
+use Rattle.uc_code.specs.CodeShapes.{OpAt, HandlerAt, IsBare, One, Same, Kept}
 
 -- a handler stays where the rows do, and so does a row without one
 pub handler_stays : (old new : Laid) → new.rows ≡ old.rows → (number : ℕ) (handler : Handler) → HandlerAt old number handler → HandlerAt new number handler

@@ -10,11 +10,11 @@ use Rattle.uc_code.specs.declared.rows.Mark.TheVariants as mark
 use Rattle.uc_code.specs.declared.rows.ObjectCall.{ObjectCall}
 use Rattle.uc_code.specs.declared.rows.Spot.{Spot}
 use Rattle.uc_code.specs.Drafts.{Draft, ops_with}
-use Rattle.uc_code.specs.Laid.{Laid, laid_in, routine_in}
-use Rattle.uc_code.specs.Ranges.{One, Risk, CallsBehind, Both, OverElements, Stable}
+use Rattle.uc_code.specs.Layout.{Laid, laid_in, routine_in}
+use Rattle.uc_code.specs.CodeShapes.{OpAt, One, Risk, CallsBehind, Both, OverElements, PollAt, Stable}
 use Rattle.uc_code.specs.Lowered.{spot_op, SpotAt, CalledAt, CallAt, CallDone, CleanBy, CleanAt, KeepAt, KeepsAt}
-use Rattle.uc_code.specs.Open.{StandsBehind, CleansBehind}
-use Rattle.uc_code.specs.Puts.{Puts, place_length, called_length, done_length, clean_by, clean_length}
+use Rattle.uc_code.specs.OpenRows.{StandsBehind, CleansBehind}
+use Rattle.uc_code.specs.Emits.{Puts, place_length, called_length, done_length, clean_by, clean_length}
 use Rattle.uc_code.proofs.Patches.{kept_with, one_with}
 use Rattle.uc_code.proofs.Stable.{elements_stable, kept_then, kept_same, nothing_stable, one_stable, risk_stable, calls_behind_stable, both_stable}
 
@@ -156,6 +156,35 @@ keep_stable line k = both (one_stable (op.Set k) line) (one_stable op.Discard li
 
 pub puts_kept : (line k : ℕ) (d0 d1 d2 d3 : Draft) → Puts 2 (λ code. KeepAt code line (k + 2)) d0 d1 → Puts 2 (λ code. KeepAt code line (k + 1)) d1 d2 → Puts 2 (λ code. KeepAt code line k) d2 d3 → Puts 6 (λ code. KeepsAt code line k) d0 d3
 puts_kept line k d0 d1 d2 d3 p q r = puts_both (keep_stable line (k + 2)) p (puts_both (keep_stable line (k + 1)) q r)
+
+-- events are delivered
+
+poll_of : (code : Laid) (ms : List Mark) (line e b a z : ℕ) → b ≡ a → e ≡ a + 4 → Both (One code (op.Poll e) line) (Both (Risk code ms (op.Deliver e) line) (Both (One code op.Discard line) (One code (op.Jump b) line))) a z → PollAt code ms line a z
+poll_of code ms line e b a z f g h =
+    let i = h.first.end in
+    let j = h.second.first.end in
+    let k = h.second.second.first.end in
+    let l = h.second.second.second.end in
+    let ends : e ≡ z = omega arith in
+    let deliver : h.middle ≡ a + 1 = omega arith in
+    let discard : h.second.middle ≡ a + 2 = omega arith in
+    let again : h.second.second.middle ≡ a + 3 = omega arith in
+    let to : Risk code ms (op.Deliver z) line h.middle h.second.middle = subst (λ x. Risk code ms (op.Deliver x) line h.middle h.second.middle) ends h.second.first in
+    let from : Risk code ms (op.Deliver z) line (a + 1) h.second.middle = subst (λ x. Risk code ms (op.Deliver z) line x h.second.middle) deliver to in
+    let back : OpAt code h.second.second.middle (op.Jump a) line = subst (λ x. OpAt code h.second.second.middle (op.Jump x) line) f h.second.second.second.here in
+    record {
+      poll = subst (λ x. OpAt code a (op.Poll x) line) ends h.first.here;
+      deliver = subst (λ x. Risk code ms (op.Deliver z) line (a + 1) x) discard from;
+      discard = subst (λ x. OpAt code x op.Discard line) discard h.second.second.first.here;
+      again = subst (λ x. OpAt code x (op.Jump a) line) again back;
+      end = omega arith;
+    }
+
+pub puts_poll : (line e b : ℕ) (d0 d1 d2 d3 d4 : Draft) → b ≡ length d0.ops → e ≡ length d0.ops + 4 → Puts 1 (λ code. One code (op.Poll e) line) d0 d1 → Puts 1 (λ code. Risk code d1.marks (op.Deliver e) line) d1 d2 → Puts 1 (λ code. One code op.Discard line) d2 d3 → Puts 1 (λ code. One code (op.Jump b) line) d3 d4 → Puts 4 (λ code. PollAt code d0.marks line) d0 d4
+puts_poll line e b d0 d1 d2 d3 d4 f g p q r s =
+    let t : Puts 1 (λ code. Risk code d0.marks (op.Deliver e) line) d1 d2 = subst (λ (ms : List Mark). Puts 1 (λ code. Risk code ms (op.Deliver e) line) d1 d2) (marks_of p) q in
+    let all = puts_both (one_stable (op.Poll e) line) p (puts_both (risk_stable d0.marks (op.Deliver e) line) t (puts_both (one_stable op.Discard line) r s)) in
+    record { rest = all.rest; kept = all.kept; room = all.room; code = poll_of (laid_in d4) d0.marks line e b (length d0.ops) (length d4.ops) f g all.code }
 
 -- a call is of a routine further on also in a draft with the same marks
 pub behind_stays : {n : ℕ} {S : Laid → ℕ → ℕ → Type 0} {old new : Draft} → (what : ObjectCall) → StandsBehind old.marks what → Puts n S old new → StandsBehind new.marks what

@@ -5,9 +5,9 @@ use Rattle.uc_code.specs.declared.op.Op.TheVariants as op
 use Rattle.uc_code.specs.declared.rows.Mark.{Mark}
 use Rattle.uc_code.specs.declared.rows.ObjectCall.{ObjectCall}
 use Rattle.uc_code.specs.declared.rows.RoutineCode.{RoutineCode}
-use Rattle.uc_code.specs.Laid.{Laid, handlers, routine_in}
+use Rattle.uc_code.specs.Layout.{Laid, handlers, routine_in}
 use Rattle.uc_code.specs.Pace.{behind, height, power, Test, test_by, test_of, burden, Entries, Nests}
-use Rattle.uc_code.specs.Ranges.{OpAt, Rounds}
+use Rattle.uc_code.specs.CodeShapes.{OpAt, Rounds}
 use Rattle.uc_code.specs.Lowered.{CallDone, CallBuilt}
 use Rattle.uc_code.proofs.Powers.{power_more, power_less, power_few, times_rise, times_one_more}
 use Rattle.uc_code.proofs.Heights.{Low, Outside, Plain, PacedAt, Each, paced_by, only, join, within, height_is, test_is, burden_is, onward_low, onward_lower, Starts, Further}

@@ -4,8 +4,8 @@ use Rattle.std.proofs.lemmas.Bool.{cases_lt, lt-ltb, le-ltb}
 use Rattle.uc_code.specs.declared.rows.Mark.{Mark}
 use Rattle.uc_code.specs.declared.rows.Mark.TheVariants as mark
 use Rattle.uc_code.specs.declared.marks.Seen.TheVariants as seen
-use Rattle.uc_code.specs.Laid.{under, handlers}
-use Rattle.uc_code.specs.Open.{first_in, seen_row, seen_at}
+use Rattle.uc_code.specs.Layout.{under, handlers}
+use Rattle.uc_code.specs.OpenRows.{first_in, seen_row, seen_at}
 use Rattle.uc_code.proofs.Nesting.{under_take, under_drop, under_under}
 use Rattle.uc_code.proofs.Closed.{reverse_take}
 

@@ -15,9 +15,9 @@ use Rattle.uc_code.specs.declared.rows.Mark.TheVariants as mark
 use Rattle.uc_code.specs.declared.rows.Opening.{Opening}
 use Rattle.uc_code.specs.declared.rows.Opening.TheVariants as opening
 use Rattle.uc_code.specs.Drafts.{ops_with}
-use Rattle.uc_code.specs.Laid.{Laid, under, handlers, covers, from_newest}
-use Rattle.uc_code.specs.Ranges.{Risk, HandlerAt, IsBare, Kept, clean_up}
-use Rattle.uc_code.specs.Open.{Below, first_in, named_by, opening_bound, row_in, handler_in, guard_in, entry_in, opening_mark, opening_kind, opening_event, opening_around, made, OpensBehind, AllBehind, Nested, Bare, Ended, InBody, InLoop, InRow, IsSettled, closed_row, closed_rows, left_marks, is_rowless}
+use Rattle.uc_code.specs.Layout.{Laid, under, handlers, covers, from_newest}
+use Rattle.uc_code.specs.CodeShapes.{Risk, HandlerAt, IsBare, Kept, clean_up}
+use Rattle.uc_code.specs.OpenRows.{Below, first_in, named_by, opening_bound, row_in, handler_in, guard_in, entry_in, opening_mark, opening_kind, opening_event, opening_around, made, OpensBehind, AllBehind, Nested, Bare, Ended, InBody, InLoop, InRow, IsSettled, closed_row, closed_rows, left_marks, is_rowless}
 use Rattle.uc_code.proofs.Patches.{one_with}
 use Rattle.uc_code.proofs.Nesting.{newest, nested_rise, all_below, under_all, below_under}
 use Rattle.uc_code.proofs.Closing.{Leaves, leaves, closes_list, closes_newest, reverse_push}

@@ -15,9 +15,9 @@ use Rattle.uc_code.specs.declared.rows.RoutineCode.{RoutineCode}
 use Rattle.uc_code.specs.declared.rows.RowKind.TheVariants.{CatchResume, CleanUp as OfCleanUp}
 use Rattle.uc_code.specs.declared.rows.Spot.{Spot}
 use Rattle.uc_code.specs.declared.rows.Spot.TheVariants as spot
-use Rattle.uc_code.specs.Laid.{Laid, handlers, routine_in}
+use Rattle.uc_code.specs.Layout.{Laid, handlers, routine_in}
 use Rattle.uc_code.specs.Pace.{behind, climb_op, height, power, Test, test_by, burden, waiting, In, Stays, Entry, Entries, Beneath, Nests, Onward, Paced}
-use Rattle.uc_code.specs.Ranges.{One, Risk, Both, HandlerAt, clean_up, Rounds, OverElements, ScopeOf, BehindPart}
+use Rattle.uc_code.specs.CodeShapes.{One, Risk, Both, HandlerAt, clean_up, Rounds, OverElements, ScopeOf, BehindPart}
 use Rattle.uc_code.specs.Lowered.{spot_op, SpotAt, CalledAt, CallAt, CallDone, CallBuilt, CleanBy, CleanAt, FilledAt, ScopedAt, BuiltAt}
 use Rattle.uc_code.proofs.Heights.{Low, waiting_more, Outside, Plain, Each, Ahead, Around, around_less, further_of, clean_ahead, entries_of, nests_of, paced_by, only, join, within, own_plain, jump_plain, jump_plain_at, jump_paced_at, jump_paced, Starts, Further, height_is, RowIn, row_in, Env, AllStay, stay_one, stay_join}
 use Rattle.uc_code.proofs.Powers.{power_rises, power_sum_few}

@@ -4,13 +4,13 @@ use Rattle.std.specs.Prelude.{slice_get}
 use Rattle.uc_code.specs.declared.rows.HandlerRow.{HandlerRow}
 use Rattle.uc_code.specs.declared.op.Op.{Op}
 use Rattle.uc_tree.specs.Source.{Order, TestFirst, BodyFirst, NoTest}
-use Rattle.uc_code.specs.declared.op.Op.TheVariants.{Jump, IfZero, IfNonzero, Tick, CallUnwritten, Count, Return, Handled, Unwind}
+use Rattle.uc_code.specs.declared.op.Op.TheVariants.{Jump, IfZero, IfNonzero, Tick, CallUnwritten, Count, Return, Handled, Unwind, Poll, Deliver, Discard}
 use Rattle.uc_code.specs.declared.rows.MainOf.{MainOf}
 use Rattle.uc_code.specs.declared.rows.Mark.{Mark}
 use Rattle.uc_code.specs.declared.rows.Mark.TheVariants.{Finish, Whole, Elements, Outward}
 use Rattle.uc_code.specs.declared.rows.Handler.{Handler}
-use Rattle.uc_code.specs.Laid.{Laid, guards}
-use Rattle.uc_code.specs.Ranges.{Nothing, Never, One, Risk, CallsBehind, Both, Behind, When, Unless, Fork, Leads, Arrived, Jumped, pads_at, begin_at, BackAt, Turns, WholeAt, main_end, main_left, MainAt, Guarded, HandledAt, ApartAt, clean_up, Rounds, OverElements, ScopeOf, BehindPart, Same, Kept, KeptBut, Stable}
+use Rattle.uc_code.specs.Layout.{Laid, guards}
+use Rattle.uc_code.specs.CodeShapes.{Nothing, Never, One, Risk, CallsBehind, Both, Behind, When, Unless, Fork, Leads, Arrived, Jumped, pads_at, begin_at, BackAt, Turns, WholeAt, main_end, main_left, MainAt, Guarded, HandledAt, ApartAt, clean_up, Rounds, OverElements, ScopeOf, BehindPart, PollAt, Same, Kept, KeptBut, Stable}
 
 pub part : (old new : Laid) (a z b y : ℕ) → a ≤ b → y ≤ z → Same old new a z → Same old new b y
 part old new a z b y h k s = record {
@@ -144,6 +144,20 @@ module _ (B : Laid → ℕ → ℕ → Type 0) (b : Stable B) where
 
 pub behind_stable : (B : Laid → ℕ → ℕ → Type 0) → Stable B → (op : Op) (line : ℕ) → Stable (λ code. Behind code (B code) op line)
 behind_stable B b op line = both_stable B b (λ code. One code op line) (one_stable op line)
+
+pub poll_stable : (ms : List Mark) (line : ℕ) → Stable (λ code. PollAt code ms line)
+poll_stable ms line = record {
+  rises = λ code a z h. let e = h.end in omega arith;
+  moves = λ old new a z s h.
+      let e = h.end in
+      record {
+        poll = s.same a (Poll z) line (omega arith) (omega arith) h.poll;
+        deliver = (risk_stable ms (Deliver z) line).moves old new (a + 1) (a + 2) (part old new a z (a + 1) (a + 2) (omega arith) (omega arith) s) h.deliver;
+        discard = s.same (a + 2) Discard line (omega arith) (omega arith) h.discard;
+        again = s.same (a + 3) (Jump a) line (omega arith) (omega arith) h.again;
+        end = h.end;
+      };
+}
 
 -- appending keeps a piece
 pub kept_piece : (B : Laid → ℕ → ℕ → Type 0) → Stable B → (old new : Laid) (a z : ℕ) → z ≤ length old.ops → Kept old new → B old a z → B new a z

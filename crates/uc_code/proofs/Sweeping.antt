@@ -9,11 +9,11 @@ use Rattle.uc_code.specs.declared.rows.ObjectCall.{ObjectCall}
 use Rattle.uc_code.specs.declared.rows.Opening.{Opening}
 use Rattle.uc_code.specs.declared.rows.Opening.TheVariants as opening
 use Rattle.uc_code.specs.Drafts.{Draft}
-use Rattle.uc_code.specs.Laid.{Laid, laid_in}
-use Rattle.uc_code.specs.Ranges.{OpAt, One, Risk, HandlerAt, clean_up, OverElements, Kept}
+use Rattle.uc_code.specs.Layout.{Laid, laid_in}
+use Rattle.uc_code.specs.CodeShapes.{OpAt, One, Risk, HandlerAt, clean_up, OverElements, Kept}
 use Rattle.uc_code.specs.Lowered.{CallDone}
-use Rattle.uc_code.specs.Open.{row_in, handler_in, entry_in, opened, closed, closed_by}
-use Rattle.uc_code.specs.Puts.{Puts, done_length}
+use Rattle.uc_code.specs.OpenRows.{row_in, handler_in, entry_in, opened, closed, closed_by}
+use Rattle.uc_code.specs.Emits.{Puts, done_length}
 use Rattle.uc_code.proofs.Stable.{kept_then, kept_piece}
 use Rattle.uc_code.proofs.Putting.{done_stable, done_is, marks_of}
 

@@ -10,9 +10,9 @@ use Rattle.uc_code.specs.declared.rows.ObjectCall.{ObjectCall}
 use Rattle.uc_code.specs.declared.rows.RoutineCode.{RoutineCode}
 use Rattle.uc_code.specs.declared.rows.Spot.{Spot}
 use Rattle.uc_code.specs.declared.rows.Spot.TheVariants as spot
-use Rattle.uc_code.specs.Laid.{Laid, handlers, chain, routine_in}
+use Rattle.uc_code.specs.Layout.{Laid, handlers, chain, routine_in}
 use Rattle.uc_code.specs.Pace.{climb_op, height, power, Test, test_by, test_of, turns_left, left_at, turn_height, behind, burden, waiting, Entries, Nests, Waits, Onward, Paced}
-use Rattle.uc_code.specs.Ranges.{OpAt, Nothing, One, Risk, CallsBehind, Both}
+use Rattle.uc_code.specs.CodeShapes.{OpAt, Nothing, One, Risk, CallsBehind, Both}
 use Rattle.uc_code.specs.Lowered.{spot_op, SpotAt, CalledAt, CallAt}
 use Rattle.uc_code.proofs.Powers.{power_less, power_rises, power_twice}
 use Rattle.uc_code.proofs.Heights.{Low, Each, paced_by, none, only, join, within, height_is, test_is, onward_low, onward_lower, Starts, Further, if_ge, waits_are, burdens_are, calling, risky_by, burden_high}

@@ -11,12 +11,12 @@ use Rattle.uc_code.specs.declared.rows.Mark.TheVariants as mark
 use Rattle.uc_code.specs.declared.rows.Way.{Way}
 use Rattle.uc_code.specs.declared.rows.Way.TheVariants as way
 use Rattle.uc_code.specs.Drafts.{Draft}
-use Rattle.uc_code.specs.Laid.{Laid, routine_in}
-use Rattle.uc_code.specs.Leaving.{way_of}
-use Rattle.uc_code.specs.Ranges.{One, main_end}
+use Rattle.uc_code.specs.Layout.{Laid, routine_in}
+use Rattle.uc_code.specs.Exits.{way_of}
+use Rattle.uc_code.specs.CodeShapes.{One, main_end}
 use Rattle.uc_code.specs.Lowered.{Any, ExitAt}
-use Rattle.uc_code.specs.Open.{CleansBehind, exit_room}
-use Rattle.uc_code.specs.Puts.{Puts, PastBehind, PutsPast, Leaves, past_room, outermost, end_op, ends_at}
+use Rattle.uc_code.specs.OpenRows.{CleansBehind, exit_room}
+use Rattle.uc_code.specs.Emits.{Puts, PastBehind, PutsPast, Leaves, past_room, outermost, end_op, ends_at}
 use Rattle.uc_code.proofs.Closed.{reverse_take}
 use Rattle.uc_code.proofs.Exiting.{Passing, passes_clean, passes_guard, passes_part, passes_elements, passes_loop, leaves_mark, leaves_clean, leaves_end}
 

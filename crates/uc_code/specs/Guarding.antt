@@ -2,8 +2,8 @@
 use Rattle.std.specs.Prelude.{◌≡◌, ℕ, ◌+◌, ◌<◌, List, length}
 use Rattle.uc_code.specs.declared.rows.Mark.{Mark}
 use Rattle.uc_code.specs.Drafts.{Draft}
-use Rattle.uc_code.specs.Laid.{guards, laid_in}
-use Rattle.uc_code.specs.Ranges.{IsBare, Kept}
+use Rattle.uc_code.specs.Layout.{guards, laid_in}
+use Rattle.uc_code.specs.CodeShapes.{IsBare, Kept}
 
 -- what comes next stands in a guarded block with so many handlers
 pub record OpensGuards (count : ℕ) (old new : Draft) : Type 0 where

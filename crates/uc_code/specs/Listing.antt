@@ -3,7 +3,7 @@ use Rattle.std.specs.Prelude.{ℕ, ℤ, pos, ◌+◌, List, [], ◌∷◌, ◌++
 use Rattle.std.specs.Fmt.{signed_decimal}
 use Rattle.uc_code.specs.declared.op.Op.{Op}
 use Rattle.uc_tree.specs.ValueForms.{form_number}
-use Rattle.uc_code.specs.declared.op.Op.TheVariants.{Push, Duplicate, Discard, Over, DiscardBelow, Local, Own, This, Via, ViaThis, Field, Counted, Index, Load, Store, Keep, Set, Clear, Add, Subtract, Multiply, Divide, Remainder, Negate, Not, Equal, NotEqual, Less, AtMost, Greater, AtLeast, ToChar, ToBool, Jump, IfZero, IfNonzero, Count, More, Fill, Sweep, Tick, Call, CallOn, CallUnwritten, Return, ReturnValue, ReturnNone, NoReturn, Enter, Leave, Make, Made, Spawn, Gone, Coroutine, Live, Alive, UnwindCoroutine, Forget, Resume, Suspend, Land, EndMain, Escape, Throw, Raise, RaiseAt, RaiseAtCoroutine, Handled, Unhandled, Unwind, Enable, Disable, Restore, Poll, Accept, Wait, Signal, SignalBlock, Empty, Front, Print, Text, Hold, Flush, Read, Fail, Yield, Cluster, ClusterEnd, Processor, ProcessorEnd, Migrate}
+use Rattle.uc_code.specs.declared.op.Op.TheVariants.{Push, Duplicate, Discard, Over, DiscardBelow, Local, Own, This, Via, ViaThis, Field, Counted, Index, Load, Store, Keep, Set, Bind, Clear, Add, Subtract, Multiply, Divide, Remainder, Negate, Not, Equal, NotEqual, Less, AtMost, Greater, AtLeast, ToChar, ToBool, Jump, IfZero, IfNonzero, Count, More, Fill, Sweep, Tick, Call, CallOn, CallUnwritten, Return, ReturnValue, ReturnNone, NoReturn, Enter, Leave, Make, Made, Spawn, Gone, Coroutine, Live, Alive, UnwindCoroutine, Forget, Resume, Suspend, Land, EndMain, EndTask, Escape, Throw, Raise, RaiseAt, RaiseAtCoroutine, Handled, Unhandled, Unwind, Enable, Disable, Restore, Poll, Deliver, Accept, Wait, Signal, SignalBlock, Empty, Front, Print, Text, Hold, Flush, Read, Fail, Yield, Cluster, ClusterEnd, Processor, ProcessorEnd, Migrate}
 use Rattle.uc_code.specs.declared.rows.HandlerRow.{HandlerRow}
 use Rattle.uc_code.specs.declared.rows.RowKind.{RowKind}
 use Rattle.uc_code.specs.declared.rows.RowKind.TheVariants.{Catch, CatchResume, CleanUp}
@@ -29,6 +29,7 @@ word_of Load = codes "load"
 word_of Store = codes "store"
 word_of Keep = codes "keep"
 word_of (Set _) = codes "set"
+word_of Bind = codes "bind"
 word_of (Clear _ _) = codes "clear"
 word_of Add = codes "add"
 word_of Subtract = codes "sub"
@@ -75,6 +76,7 @@ word_of Resume = codes "resume"
 word_of Suspend = codes "suspend"
 word_of Land = codes "land"
 word_of EndMain = codes "endmain"
+word_of EndTask = codes "endtask"
 word_of Escape = codes "escape"
 word_of Throw = codes "throw"
 word_of Raise = codes "raise"
@@ -86,7 +88,8 @@ word_of Unwind = codes "unwind"
 word_of (Enable _) = codes "enable"
 word_of (Disable _) = codes "disable"
 word_of Restore = codes "restore"
-word_of Poll = codes "poll"
+word_of (Poll _) = codes "poll"
+word_of (Deliver _) = codes "deliver"
 word_of (Accept _) = codes "accept"
 word_of Wait = codes "wait"
 word_of Signal = codes "signal"
@@ -125,6 +128,7 @@ operands_of Load = []
 operands_of Store = []
 operands_of Keep = []
 operands_of (Set n) = pos n ∷ []
+operands_of Bind = []
 operands_of (Clear cell cells) = pos cell ∷ pos cells ∷ []
 operands_of Add = []
 operands_of Subtract = []
@@ -171,6 +175,7 @@ operands_of Resume = []
 operands_of Suspend = []
 operands_of Land = []
 operands_of EndMain = []
+operands_of EndTask = []
 operands_of Escape = []
 operands_of Throw = []
 operands_of Raise = []
@@ -182,7 +187,8 @@ operands_of Unwind = []
 operands_of (Enable n) = pos n ∷ []
 operands_of (Disable n) = pos n ∷ []
 operands_of Restore = []
-operands_of Poll = []
+operands_of (Poll n) = pos n ∷ []
+operands_of (Deliver n) = pos n ∷ []
 operands_of (Accept n) = pos n ∷ []
 operands_of Wait = []
 operands_of Signal = []

@@ -1,7 +1,7 @@
 -- The code of the resolved tree: for each piece what its range of ops must hold. `line` is that of the innermost
 -- statement around the piece, and the marks are what stands around it in its routine, the innermost first.
 use Rattle.std.specs.Prelude.{◌≡◌, ℕ, suc, ◌+◌, ◌<◌, max, slice_get, pos, List, [], ◌∷◌, Bool, true, false, Option, Some, None, length, map}
-use Rattle.uc_tree.specs.Source.{Shape, Integer, Character, Truth, Binding, Last, Field, Array, shape_cells, field_cells, Operator, Plus, Minus, Times, Over, Modulo, Equal, NotEqual, Less, AtMost, Greater, AtLeast, Expr, Literal, Variable, Element, Get, Load, Negated, Not, AsCharacter, AsTruth, Operate, And, Or, Set, Assign, First, Update, StepBehind, Fail, Call, OfObject, ObjectExpr, This, OwnField, GetOwn, FieldOf, Counted, CallOn, CallUnwritten, CallLive, EnterOn, Wait, Signal, SignalBlock, IsEmpty, FrontOf, Exprs, NoExprs, MoreExprs, Item, Show, ShowText, Target, Declared, Stmt, Skip, Block, Whole, Evaluate, Declare, Print, PrintTogether, Read, If, Loop, Break, Continue, Return, Fill, OfEvents, OfTasks, TaskStmt, Resume, Suspend, SetUp, Enliven, TakeDown, Yield, Migrate, Accept, EventStmt, Throw, Raise, Try, RaiseAt, Enable, Disable, Raised, Plainly, BuiltAt as BuildsAt, AgainFrom, Handlers, NoHandlers, MoreHandlers, CleanUp, Stmts, Nil, Then, Scoped, Built, Way, ToBreak, ToContinue, ToReturn, ToEnd, Purpose, TaskMain, CoroutineMain, Procedure, Function, Builder, Routine, Source}
+use Rattle.uc_tree.specs.Source.{Shape, Integer, Character, Truth, Binding, Last, Field, Array, shape_cells, field_cells, Operator, Plus, Minus, Times, Over, Modulo, Equal, NotEqual, Less, AtMost, Greater, AtLeast, Expr, Literal, Variable, Element, Get, Load, Negated, Not, AsCharacter, AsTruth, Operate, And, Or, Set, Assign, First, Update, StepBehind, Fail, Call, OfObject, ObjectExpr, This, OwnField, GetOwn, FieldOf, Counted, CallOn, CallUnwritten, CallLive, EnterOn, EndOn, Bind, MakeOn, NewCluster, NewProcessor, EndCluster, EndProcessor, ConditionAt, Wait, Signal, SignalBlock, IsEmpty, FrontOf, Exprs, NoExprs, MoreExprs, Item, Show, ShowText, Target, Declared, Stmt, Skip, Block, Whole, Evaluate, Declare, Print, PrintTogether, Read, If, Loop, Break, Continue, Return, Owes, Fill, OfEvents, OfTasks, TaskStmt, Resume, Suspend, SetUp, Enliven, TakeDown, Yield, Migrate, Accept, EventStmt, Throw, Raise, Try, RaiseAt, Enable, Disable, Raised, Plainly, BuiltAt as BuildsAt, AgainFrom, Handlers, NoHandlers, MoreHandlers, CleanUp, Stmts, Nil, Then, Scoped, Built, Way, ToBreak, ToContinue, ToReturn, ToEnd, Purpose, TaskMain, CoroutineMain, Procedure, Function, Builder, Routine, Source}
 use Rattle.uc_code.specs.declared.op.Op.{Op}
 use Rattle.uc_code.specs.declared.op.Op.TheVariants as op
 use Rattle.uc_code.specs.declared.rows.Mark.{Mark}
@@ -20,8 +20,8 @@ use Rattle.uc_code.specs.declared.rows.Handler.{Handler}
 use Rattle.uc_code.specs.declared.rows.RowKind.{RowKind}
 use Rattle.uc_code.specs.declared.rows.RowKind.TheVariants as kind
 use Rattle.uc_code.specs.declared.rows.TheConstants.{ANY_EVENT}
-use Rattle.uc_code.specs.Laid.{Laid, laid_of, handlers}
-use Rattle.uc_code.specs.Ranges.{Nothing, Never, One, Risk, CallsBehind, Both, Fork, Turns, WholeAt, main_end, MainAt, Guarded, HandledAt, ApartAt, OverElements, ScopeOf, BehindPart}
+use Rattle.uc_code.specs.Layout.{Laid, laid_of, handlers}
+use Rattle.uc_code.specs.CodeShapes.{Nothing, Never, One, Risk, CallsBehind, Both, Fork, Turns, WholeAt, main_end, MainAt, Guarded, HandledAt, ApartAt, OverElements, ScopeOf, BehindPart, PollAt}
 use Rattle.uc_code.specs.ObjectCalls.{Calls, Cleans}
 use Rattle.uc_code.specs.Silent.{silent_all}
 
@@ -122,7 +122,15 @@ module _ (code : Laid) (line : ℕ) where
     -- a coroutine must be live
     ObjectAt ms (CallLive r e es) = Both (ExprAt ms e) (Both (ArgumentsAt ms es) (Both (Is op.Tick) (Both (Is (op.Alive r)) (Risk code ms (op.CallOn r) line))))
     ObjectAt ms (CallUnwritten r e) = Both (ExprAt ms e) (CallsBehind code ms r line)
+    ObjectAt ms (Bind p e) = Both (ExprAt ms p) (Both (ExprAt ms e) (Is op.Bind))
     ObjectAt ms (EnterOn m r e es) = Never
+    ObjectAt ms (EndOn r written e) = Never
+    ObjectAt ms (MakeOn c r written e es) = Never
+    ObjectAt ms NewCluster = Never
+    ObjectAt ms (NewProcessor e) = Never
+    ObjectAt ms (EndCluster e) = Never
+    ObjectAt ms (EndProcessor e) = Never
+    ObjectAt ms (ConditionAt k n e) = Never
     ObjectAt ms (Wait c n) = Never
     ObjectAt ms (Signal c) = Never
     ObjectAt ms (SignalBlock c) = Never
@@ -291,10 +299,10 @@ module _ (code : Laid) where
     pub named : IsNamed event
     pub handler : B a z
 
-  -- what goes on behind a switch may be unwound there
+  -- what goes on behind a switch may be unwound there, and is delivered events
   abbrev pub TaskAt : List Mark → TaskStmt → ℕ → ℕ → Type 0
-  TaskAt ms (Resume line) = Both (One code op.Resume line) (Risk code ms op.Land line)
-  TaskAt ms (Suspend line) = Both (One code op.Suspend line) (Risk code ms op.Land line)
+  TaskAt ms (Resume line) = Both (One code op.Resume line) (Both (Risk code ms op.Land line) (PollAt code ms line))
+  TaskAt ms (Suspend line) = Both (One code op.Suspend line) (Both (Risk code ms op.Land line) (PollAt code ms line))
   -- what nobody wrote
   TaskAt ms (SetUp r) = One code (op.Coroutine r) 0
   TaskAt ms Enliven = One code op.Live 0
@@ -320,6 +328,7 @@ module _ (code : Laid) where
     StmtAt ms (Continue line) = ExitAt ToContinue ms
     StmtAt ms (Return line None) = ExitAt ToEnd ms
     StmtAt ms (Return line (Some e)) = Both (ExprAt code line ms e) (ExitAt ToReturn ms)
+    StmtAt ms (Owes line) = Never
     StmtAt ms (Fill line n b d) = FilledAt code line ms n b d
     StmtAt ms (OfEvents s) = EventAt ms s
     StmtAt ms (OfTasks s) = TaskAt ms s
@@ -330,8 +339,8 @@ module _ (code : Laid) where
     EventAt ms (Raise line r) = Both (RaisedAt code line ms r) (Both (Risk code ms op.Raise line) (One code op.Discard line))
     EventAt ms (Try line body hs) = Guarded code line ms (handler_rows hs) (λ ns. StmtsAt ns line body) (λ first pad. HandlersAt ms first pad hs)
     EventAt ms (RaiseAt line r e) = Never
-    EventAt ms (Enable line events s) = Never
-    EventAt ms (Disable line events s) = Never
+    EventAt ms (Enable line events cell s) = Never
+    EventAt ms (Disable line events cell s) = Never
 
     -- the handlers of a guarded block whose last one has this row; a handler that catches goes on at this pad
     pub HandlersAt : List Mark → ℕ → ℕ → Handlers → ℕ → ℕ → Type 0

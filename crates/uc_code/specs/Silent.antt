@@ -1,9 +1,11 @@
--- Statements in which no event is raised and no coroutine resumed: those of constructors and destructors that nobody wrote.
-use Rattle.uc_tree.specs.Source.{Stmt, Block, Whole, If, Loop, OfEvents, OfTasks, TaskStmt, Resume, Stmts, Nil, Then, Scoped, Built}
+-- Statements in which no event is raised and no switch made: those of constructors and destructors that nobody wrote.
+use Rattle.uc_tree.specs.Source.{Stmt, Block, Whole, If, Loop, OfEvents, OfTasks, TaskStmt, SetUp, Enliven, TakeDown, Stmts, Nil, Then, Scoped, Built}
 
 abbrev pub silent_task : TaskStmt → Type 0
-silent_task (Resume line) = ⊥
-silent_task _ = Unit {0}
+silent_task (SetUp r) = Unit {0}
+silent_task Enliven = Unit {0}
+silent_task TakeDown = Unit {0}
+silent_task _ = ⊥
 
 abbrev mutual
   pub silent : Stmt → Type 0

@@ -2,12 +2,12 @@
 
 ghost use Rattle.std.specs.Prelude.{◌≡◌, ◌+◌, ◌≤◌, ◌<◌, true, Some, length, OnOk};
 ghost use Rattle.uc_tree.specs.declared.limits.TheConstants.{PROGRAM_OPS};
-ghost use Rattle.uc_code.specs.Leaving.{way_of};
-ghost use Rattle.uc_code.specs.Ranges.{One, Risk};
+ghost use Rattle.uc_code.specs.Exits.{way_of};
+ghost use Rattle.uc_code.specs.CodeShapes.{One, Risk};
 ghost use Rattle.uc_code.specs.declared.rows.Cleaning.TheVariants as cleaning;
 ghost use Rattle.uc_code.specs.Lowered.{spot_op, SpotAt, CalledAt, CallAt, CallDone, CleanBy, CleanAt, ExitAt};
-ghost use Rattle.uc_code.specs.Open.{StandsBehind, CleansBehind, clean_room, exit_room};
-ghost use Rattle.uc_code.specs.Puts.{Puts, PutsLeft, PastBehind, PutsPast, past_room, done_length, call_length, clean_length, end_op, ends_at};
+ghost use Rattle.uc_code.specs.OpenRows.{StandsBehind, CleansBehind, clean_room, exit_room};
+ghost use Rattle.uc_code.specs.Emits.{Puts, PutsLeft, PastBehind, PutsPast, past_room, done_length, call_length, clean_length, end_op, ends_at};
 
 use crate::draft::Draft;
 use crate::op::Op;

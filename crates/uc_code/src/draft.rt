@@ -3,10 +3,10 @@
 ghost use Rattle.std.specs.Prelude.{◌≡◌, ◌+◌, ◌^◌, ◌<◌, ◌≤◌, ℕ, true, Some, None, [], ◌∷◌, ◌++◌, length, reverse, take, slice_set, slice_get, MatchOption, IfOk, OnOk, OnErr};
 ghost use Rattle.uc_tree.specs.declared.limits.TheConstants.{FRAME_CELLS, PROGRAM_OPS, PROGRAM_SIZE};
 ghost use Rattle.uc_code.specs.Drafts.{ops_with, patched, IsInnermost, IsUnknown};
-ghost use Rattle.uc_code.specs.Laid.{laid_in, handlers, takes_events};
+ghost use Rattle.uc_code.specs.Layout.{laid_in, handlers, takes_events};
 ghost use Rattle.uc_code.specs.declared.rows.Mark.TheVariants as mark;
-ghost use Rattle.uc_code.specs.Open.{AllBehind, Falling, OpensBehind, handler_in, guard_in, opened, closed, handled_rows, left_marks};
-ghost use Rattle.uc_code.specs.Ranges.{HandlerAt, IsBare, Kept, KeptBut, Risk, clean_up};
+ghost use Rattle.uc_code.specs.OpenRows.{AllBehind, Falling, OpensBehind, handler_in, guard_in, opened, closed, handled_rows, left_marks};
+ghost use Rattle.uc_code.specs.CodeShapes.{HandlerAt, IsBare, Kept, KeptBut, Risk, clean_up};
 
 use crate::code::Code;
 use crate::draft_parts::Outside;
@@ -46,7 +46,7 @@ impl Model for Draft {
     ghost use Rattle.uc_code.specs.Drafts.{Draft};
     ghost use Rattle.std.specs.Prelude.{◌≤◌, length, reverse};
     ghost use Rattle.uc_tree.specs.declared.limits.TheConstants.{PROGRAM_OPS};
-    ghost use Rattle.uc_code.specs.Open.{IsSettled};
+    ghost use Rattle.uc_code.specs.OpenRows.{IsSettled};
 
     ghost Value = { Draft };
 

@@ -2,7 +2,7 @@
 
 ghost use Rattle.std.specs.Prelude.{◌≡◌, ◌<◌, ℕ, List, length, OnOk};
 ghost use Rattle.uc_code.specs.declared.rows.Mark.{Mark};
-ghost use Rattle.uc_code.specs.Laid.{guards};
+ghost use Rattle.uc_code.specs.Layout.{guards};
 ghost use Rattle.uc_code.specs.Guarding.{ClosesGuards, OpensGuards};
 
 use crate::draft::Draft;

@@ -2,8 +2,8 @@
 
 ghost use Rattle.std.specs.Prelude.{◌≡◌, ◌<◌, ◌+◌, ◌^◌, ℕ, List, ◌∷◌, length, reverse, Some};
 ghost use Rattle.uc_code.specs.declared.rows.Mark.{Mark};
-ghost use Rattle.uc_code.specs.Laid.{under, handlers};
-ghost use Rattle.uc_code.specs.Open.{first_in, name_of, row_in, opening_mark, opening_kind, opening_event, opening_bound, entry_in, closed_rows, handled_rows, is_rowless, seen_at, seen_row};
+ghost use Rattle.uc_code.specs.Layout.{under, handlers};
+ghost use Rattle.uc_code.specs.OpenRows.{first_in, name_of, row_in, opening_mark, opening_kind, opening_event, opening_bound, entry_in, closed_rows, handled_rows, is_rowless, seen_at, seen_row};
 
 use crate::rows::{ANY_EVENT, Handler, HandlerRow, Mark, NO_EVENT, Opening, RowKind};
 

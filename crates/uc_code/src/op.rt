@@ -39,12 +39,14 @@ pub enum Op {
     Index { length: u32, size: u32 },
     /// What the popped place holds.
     Load,
-    /// Writes a value to a place and pops both.
+    /// Writes a value to a place as a number and pops both. What is no number is 0.
     Store,
-    /// Writes a value to a place and leaves the value.
+    /// Writes a value to a place as a number and leaves the value.
     Keep,
-    /// Writes the top operand to this cell of the frame and leaves it.
+    /// Writes the top operand to this cell of the frame as a number and leaves it.
     Set(u32),
+    /// Binds the place below the top operand to that, which is a place or what has a number of its own, and leaves the top operand.
+    Bind,
     /// So many cells of the frame, from this one on, are 0 again.
     Clear { cell: u32, cells: u32 },
     /// The sum.
@@ -137,6 +139,8 @@ pub enum Op {
     Land,
     /// Ends the main of a coroutine.
     EndMain,
+    /// Ends the main of a task, which is a fault where calls or buildings hold it up in its own object.
+    EndTask,
     /// Where the main of a coroutine is unwound, ends it as the reason says: by a return, a destruction or an event.
     Escape,
     /// Throws an event: pops its fields and its number.
@@ -159,8 +163,11 @@ pub enum Op {
     Disable(u64),
     /// Restores the events that were enabled before.
     Restore,
-    /// Takes delivery of a pending event.
-    Poll,
+    /// Goes on at this op where no event is enabled, or where a coroutine has none pending that is. Else the oldest enabled one that is
+    /// pending is delivered as three operands, its number and its fields, by a tick or by a request that may deliver none.
+    Poll(u32),
+    /// Drops the three operands and goes on at this op where none was delivered. Else raises the event for resumption.
+    Deliver(u32),
     /// Accepts by the accept statement of this number.
     Accept(u32),
     /// Waits on the condition.
@@ -222,6 +229,7 @@ impl Op {
             Op::Store => b"store",
             Op::Keep => b"keep",
             Op::Set(_) => b"set",
+            Op::Bind => b"bind",
             Op::Clear { .. } => b"clear",
             Op::Add => b"add",
             Op::Subtract => b"sub",
@@ -268,6 +276,7 @@ impl Op {
             Op::Suspend => b"suspend",
             Op::Land => b"land",
             Op::EndMain => b"endmain",
+            Op::EndTask => b"endtask",
             Op::Escape => b"escape",
             Op::Throw => b"throw",
             Op::Raise => b"raise",
@@ -279,7 +288,8 @@ impl Op {
             Op::Enable(_) => b"enable",
             Op::Disable(_) => b"disable",
             Op::Restore => b"restore",
-            Op::Poll => b"poll",
+            Op::Poll(_) => b"poll",
+            Op::Deliver(_) => b"deliver",
             Op::Accept(_) => b"accept",
             Op::Wait => b"wait",
             Op::Signal => b"signal",
@@ -323,6 +333,7 @@ impl Op {
             Op::Store => Operands::Nothing,
             Op::Keep => Operands::Nothing,
             Op::Set(cell) => Operands::One(cell as u64),
+            Op::Bind => Operands::Nothing,
             Op::Clear { cell, cells } => Operands::Two(cell as u64, cells as u64),
             Op::Add => Operands::Nothing,
             Op::Subtract => Operands::Nothing,
@@ -369,6 +380,7 @@ impl Op {
             Op::Suspend => Operands::Nothing,
             Op::Land => Operands::Nothing,
             Op::EndMain => Operands::Nothing,
+            Op::EndTask => Operands::Nothing,
             Op::Escape => Operands::Nothing,
             Op::Throw => Operands::Nothing,
             Op::Raise => Operands::Nothing,
@@ -380,7 +392,8 @@ impl Op {
             Op::Enable(number) => Operands::One(number),
             Op::Disable(number) => Operands::One(number),
             Op::Restore => Operands::Nothing,
-            Op::Poll => Operands::Nothing,
+            Op::Poll(number) => Operands::One(number as u64),
+            Op::Deliver(number) => Operands::One(number as u64),
             Op::Accept(number) => Operands::One(number as u64),
             Op::Wait => Operands::Nothing,
             Op::Signal => Operands::Nothing,

@@ -1,12 +1,12 @@
-// The code that raises an event, and that by which a handler keeps one.
+// The code that raises an event, that by which a handler keeps one, and that which is delivered some.
 
 ghost use Rattle.std.specs.Prelude.{◌+◌, ◌≤◌, ◌<◌, ◌^◌, pos, length, OnOk};
 ghost use Rattle.uc_tree.specs.declared.limits.TheConstants.{PROGRAM_OPS};
 ghost use Rattle.uc_tree.specs.Source.{Plainly, AgainFrom};
 ghost use Rattle.uc_code.specs.declared.op.Op.TheVariants as op;
-ghost use Rattle.uc_code.specs.Ranges.{Both, One, Risk};
+ghost use Rattle.uc_code.specs.CodeShapes.{Both, One, Risk, PollAt};
 ghost use Rattle.uc_code.specs.Lowered.{RaisedAt, FieldsAt, KeepsAt};
-ghost use Rattle.uc_code.specs.Puts.{Puts};
+ghost use Rattle.uc_code.specs.Emits.{Puts};
 
 use crate::cleaning::{put, put_at_risk};
 use crate::draft::Draft;
@@ -69,6 +69,19 @@ pub fn put_raise(line: u32, out: &mut Draft) -> Result<(), AllocError>
 {
     put_at_risk(Op::Raise, line, out)?;
     put(Op::Discard, line, out)?;
+    Ok(())
+}
+
+/// Adds the code that is delivered events, one by one, and raises each for resumption. After want of memory the draft is spent.
+pub fn put_poll(line: u32, out: &mut Draft) -> Result<(), AllocError>
+    requires { length out.old.ops + 4 ≤ PROGRAM_OPS }
+    ensures { OnOk result (Puts 4 (λ code. PollAt code out.old.marks line) out.old out.new) }
+{
+    let begin = out.here();
+    put(Op::Poll(begin + 4), line, out)?;
+    put_at_risk(Op::Deliver(begin + 4), line, out)?;
+    put(Op::Discard, line, out)?;
+    put(Op::Jump(begin), line, out)?;
     Ok(())
 }
 

@@ -2,7 +2,7 @@
 
 ghost use Rattle.std.specs.Prelude.{◌≡◌};
 ghost use Rattle.uc_code.specs.Listing.{kind_number};
-ghost use Rattle.uc_code.specs.Ranges.{main_end, main_left};
+ghost use Rattle.uc_code.specs.CodeShapes.{main_end, main_left};
 
 use crate::op::Op;
 
@@ -115,7 +115,7 @@ impl MainOf {
         ensures { result ≡ main_end self }
     {
         match self {
-            MainOf::Task => Op::Return,
+            MainOf::Task => Op::EndTask,
             MainOf::Coroutine => Op::EndMain,
         }
     }

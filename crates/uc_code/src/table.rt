@@ -1,8 +1,8 @@
 // Which row covers the op before each place.
 
 ghost use Rattle.std.specs.Prelude.{◌≡◌, ◌≤◌, ◌<◌, ◌^◌, length, IfOk};
-ghost use Rattle.uc_code.specs.Laid.{covers as covers_by};
-ghost use Rattle.uc_code.specs.Tables.{covering_from, IsTable, IsFree, Filled, FirstFree};
+ghost use Rattle.uc_code.specs.Layout.{covers as covers_by};
+ghost use Rattle.uc_code.specs.RowTable.{covering_from, IsTable, IsFree, Filled, FirstFree};
 ghost use Rattle.uc_code.specs.declared.rows.TheConstants.{OPEN_END};
 
 use crate::rows::HandlerRow;

@@ -7,10 +7,10 @@ use Rattle.std.proofs.lemmas.List.Elements.{filter-append}
 use Rattle.uc_entry.specs.declared.entry.Entry.{Entry}
 use Rattle.uc_entry.specs.declared.entry.EntryKind.{EntryKind}
 use Rattle.uc_entry.specs.declared.entry.EntryKind.TheVariants as kind
-use Rattle.uc_acts.specs.Journal.{Journal, entry, entries_at}
+use Rattle.uc_acts.specs.Journal.{Journal, asking, entries_at}
 use Rattle.uc_acts.specs.Doors.{blocked, blocked_at}
 use Rattle.uc_acts.proofs.Seats.{blocked_other, blocked_same, blocked_after}
-use Rattle.uc_acts.proofs.Sound.{self_test, all_kept, all_kept_nil}
+use Rattle.uc_acts.proofs.SoundLemmas.{self_test, all_kept, all_kept_nil}
 use Rattle.uc_condition.specs.Waiting.{put, queue_at, first_task, rest_of}
 use Rattle.uc_condition.specs.Laws.{takes_out, is_silent, LawOpening, LawWait, LawTake, LawElsewhere, LawOthers}
 
@@ -52,13 +52,13 @@ seen_more d xs x = ap (map (λ (y : Triple). (y.0, y.2))) (filter-append (λ b. 
 
 pub wait : LawWait
 wait v w j p t k o c n are became q d = elim (cases_eq q o) [
-  | inl at ↦ subst (λ (x : ℕ). queue_at w x d ≡ blocked x d (j ++ entry kind.Wait p t k o (pos c) n ∷ [])) (sym at) (
+  | inl at ↦ subst (λ (x : ℕ). queue_at w x d ≡ blocked x d (j ++ asking kind.Wait p t k o (pos c) n ∷ [])) (sym at) (
       became.queue o d ∙ put_here o c d (queue_at v o c ++ (t, n) ∷ []) (queue_at v)
       ∙ wait_case (c == d) (queue_at v o c) (queue_at v o d) (t, c, n) (λ s. ap (queue_at v o) (test_same c d s))
       ∙ ap (λ (l : List (ℕ × ℤ)). l ++ map (λ (y : Triple). (y.0, y.2)) (cond (c == d) ((t, c, n) ∷ []) [])) (are o d)
-      ∙ sym (here_blocked d j (entry kind.Wait p t k o (pos c) n) ∙ ap (λ (l : List Triple). seen d (l ++ (t, c, n) ∷ [])) (all_kept (blocked_at o j)) ∙ seen_more d (blocked_at o j) (t, c, n))
+      ∙ sym (here_blocked d j (asking kind.Wait p t k o (pos c) n) ∙ ap (λ (l : List Triple). seen d (l ++ (t, c, n) ∷ [])) (all_kept (blocked_at o j)) ∙ seen_more d (blocked_at o j) (t, c, n))
       )
-  | inr off ↦ became.queue q d ∙ put_elsewhere o c q d (queue_at v o c ++ (t, n) ∷ []) (queue_at v) off ∙ are q d ∙ sym (elsewhere_blocked q d j (entry kind.Wait p t k o (pos c) n) off)
+  | inr off ↦ became.queue q d ∙ put_elsewhere o c q d (queue_at v o c ++ (t, n) ∷ []) (queue_at v) off ∙ are q d ∙ sym (elsewhere_blocked q d j (asking kind.Wait p t k o (pos c) n) off)
 ]
 
 -- ---- a task is taken out

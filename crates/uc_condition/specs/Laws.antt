@@ -3,7 +3,7 @@ use Rattle.std.specs.Prelude.{◌≡◌, ℕ, ℤ, pos, Bool, true, false, [], �
 use Rattle.uc_entry.specs.declared.entry.Entry.{Entry}
 use Rattle.uc_entry.specs.declared.entry.EntryKind.{EntryKind}
 use Rattle.uc_entry.specs.declared.entry.EntryKind.TheVariants as kind
-use Rattle.uc_acts.specs.Journal.{Journal, entry}
+use Rattle.uc_acts.specs.Journal.{Journal, Cost, asking}
 use Rattle.uc_acts.specs.Doors.{blocked}
 use Rattle.uc_condition.specs.Waiting.{Waiting, Became, IsFree, queue_at, first_task, rest_of}
 
@@ -29,7 +29,7 @@ abbrev pub LawOpening : Type 0
 LawOpening = (v : Waiting) → ((o c : ℕ) → queue_at v o c ≡ []) → AreBlocked v []
 
 abbrev pub LawWait : Type 0
-LawWait = (v w : Waiting) (j : Journal) (p t k o c : ℕ) (n : ℤ) → AreBlocked v j → Became v w o c (queue_at v o c ++ (t, n) ∷ []) → AreBlocked w (j ++ entry kind.Wait p t k o (pos c) n ∷ [])
+LawWait = (v w : Waiting) (j : Journal) (p t : ℕ) (k : Cost) (o c : ℕ) (n : ℤ) → AreBlocked v j → Became v w o c (queue_at v o c ++ (t, n) ∷ []) → AreBlocked w (j ++ asking kind.Wait p t k o (pos c) n ∷ [])
 
 -- the task was taken from the queue of c, and waits nowhere then
 abbrev pub LawTake : Type 0

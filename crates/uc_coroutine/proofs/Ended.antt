@@ -7,18 +7,23 @@ use Rattle.uc_machine.specs.Executions.{calmed, returned}
 use Rattle.uc_machine.specs.Quiet as quiet
 use Rattle.uc_machine.specs.Quiet.{Finish, State, Goes, stay, more, nought, quiet as step}
 use Rattle.uc_machine.specs.Pieces.{Unwind}
+use Rattle.uc_machine.specs.Monitors.{unless_held_up}
+use Rattle.uc_machine.specs.Insides.{is_held_up}
+use Rattle.uc_entry.specs.declared.fault.RunFault.TheVariants.{BlockedInside}
+use Rattle.std.specs.Prelude.{if◌then◌else◌}
 use Rattle.uc_machine.specs.Raising.{arrives, whole_left, main_left, unwind_past}
 use Rattle.uc_code.specs.declared.rows.MainOf.TheVariants as main_of
-use Rattle.uc_code.specs.Laid.{Laid}
+use Rattle.uc_code.specs.Layout.{Laid}
 use Rattle.uc_frames.specs.Machine.{Active, Machine}
 use Rattle.uc_frames.specs.Machine as machine
-use Rattle.uc_frames.specs.Parts.{Lined}
+use Rattle.uc_frames.specs.StandsByParts.{Lined}
 use Rattle.uc_frames.specs.Stands.{CallerStands, Stands}
-use Rattle.uc_frames.specs.Left.{left}
+use Rattle.uc_frames.specs.Calls.{left}
 use Rattle.uc_frames.proofs.Finishes.{main_line}
-use Rattle.uc_frames.specs.Unwound.{TestsBlock, EndsMain, Unwinds}
+use Rattle.uc_frames.proofs.Insides.{own_held_up_both}
+use Rattle.uc_frames.specs.UnwindingStands.{TestsBlock, EndsMain, Unwinds}
 use Rattle.uc_coroutine.specs.declared.testing.TaskMainEnd.{TaskMainEnd}
-use Rattle.uc_coroutine.specs.Ends.{block_over, ended_by, main_by, main_over, BlockLeft, MainLeft}
+use Rattle.uc_coroutine.specs.MainEnds.{block_over, ended_by, returned_by, main_by, main_over, BlockLeft, MainLeft}
 use Rattle.uc_coroutine.proofs.Lefts.{same_count, handed_on, env_left}
 
 module _ (source : Source) (code : Laid) (old new : Machine) (s : State) where
@@ -70,27 +75,42 @@ module _ (source : Source) (code : Laid) (old new : Machine) (s : State) where
     abbrev calm : State
     calm = record s { run = calmed (Finish ∷ h.run.rest) s.run }
 
-    ended : (ms : List Active) (cs : List quiet.Active) → old.callers ≡ ms → s.callers ≡ cs → Lined (CallerStands code) ms cs → step source s ≡ Goes calm → new ≡ main_over (ended_by ms) old → MainLeft source code (ended_by ms) new s
-    ended [] [] i j l w q = record { before = calm; after = calm; by = more w stay; line = sym (main_line code main_of.Task old s h); asks = ap (λ cs. quiet.return_step nought cs calm) j }
-    ended [] (c ∷ cs) i j l w q = absurd l
-    ended (m ∷ ms) [] i j l w q = absurd l
-    ended (m ∷ ms) (c ∷ cs) i j l w q =
+    -- the step at its end
+    finish_is : step source calm ≡ unless_held_up s.env.own (quiet.return_step nought s.callers calm) h.run.rest calm
+    finish_is = refl
+
+    held_if : (b : Bool) → is_held_up s.env.own s.env ≡ b → step source calm ≡ (if b then quiet.fault BlockedInside h.run.rest [] calm else quiet.return_step nought s.callers calm)
+    held_if b e = finish_is ∙ ap (λ x. if x then quiet.fault BlockedInside h.run.rest [] calm else quiet.return_step nought s.callers calm) e
+
+    ended : (ms : List Active) (cs : List quiet.Active) → old.callers ≡ ms → s.callers ≡ cs → Lined (CallerStands code) ms cs → step source s ≡ Goes calm → step source calm ≡ quiet.return_step nought s.callers calm → new ≡ main_over (ended_by ms) old → MainLeft source code (ended_by ms) new s
+    ended [] [] i j l w v q = record { before = calm; after = calm; by = more w stay; line = sym (main_line code main_of.Task old s h); asks = v ∙ ap (λ cs. quiet.return_step nought cs calm) j }
+    ended [] (c ∷ cs) i j l w v q = absurd l
+    ended (m ∷ ms) [] i j l w v q = absurd l
+    ended (m ∷ ms) (c ∷ cs) i j l w v q =
         let t : State = returned (Some nought) s.run.counts c cs s.env in
         let b : old.run.counts ≡ s.run.counts = ap (λ (a : Active). a.counts) h.run.is in
-        let v = env_left code s.run.counts old.env s.env h.env in
+        let u = env_left code s.run.counts old.env s.env h.env in
         let p : new ≡ left machine.nought (m ∷ ms) old = q ∙ ap (λ ns. left machine.nought ns old) i in
-        let y : step source calm ≡ Goes t = ap (λ ns. quiet.return_step nought ns calm) j in
-        let z : Stands code (returned (Some machine.nought) s.run.counts m ms old.env) t = record { run = handed_on code m c machine.nought nought refl l.0.stands; callers = l.1; env = v } in
+        let y : step source calm ≡ Goes t = v ∙ ap (λ ns. quiet.return_step nought ns calm) j in
+        let z : Stands code (returned (Some machine.nought) s.run.counts m ms old.env) t = record { run = handed_on code m c machine.nought nought refl l.0.stands; callers = l.1; env = u } in
         record { after = t; by = more w (more y stay); stands = subst (λ (n : Machine). Stands code n t) (sym p) (subst (λ k. Stands code (returned (Some machine.nought) k m ms old.env) t) (sym b) z) }
 
-    by_reason : (o : Option Reason) (e : TaskMainEnd) → old.run.raised ≡ o → s.run.raised ≡ o → e ≡ main_by o old.callers → new ≡ main_over e old → MainLeft source code e new s
+    -- where the task is held up in its own object, that is a fault
+    returned_as : (b : Bool) → is_held_up s.env.own s.env ≡ b → step source s ≡ Goes calm → new ≡ main_over (returned_by b old.callers) old → MainLeft source code (returned_by b old.callers) new s
+    returned_as true e w q = record { before = calm; after = _; by = more w stay; line = sym (main_line code main_of.Task old s h); asks = held_if true e }
+    returned_as false e w q = ended old.callers s.callers refl refl h.callers w (held_if false e) q
+
+    abbrev held : Bool
+    held = is_held_up old.env.own old.env
+
+    by_reason : (o : Option Reason) (e : TaskMainEnd) → old.run.raised ≡ o → s.run.raised ≡ o → e ≡ main_by held o old.callers → new ≡ main_over e old → MainLeft source code e new s
     by_reason None e i j k q = subst (λ x. MainLeft source code x new s) (sym k) (record { after = _; asks = main_is ∙ ap (λ o. main_left o h.run.rest s) j })
     by_reason (Some (reason.Event n x y)) e i j k q = subst (λ x. MainLeft source code x new s) (sym k) (record { after = _; asks = main_is ∙ ap (λ o. main_left o h.run.rest s) j })
     by_reason (Some (reason.ReturnTo home)) e i j k q =
-        subst (λ x. MainLeft source code x new s) (sym k) (ended old.callers s.callers refl refl h.callers (main_is ∙ ap (λ o. main_left o h.run.rest s) j) (q ∙ ap (λ x. main_over x old) k))
+        subst (λ x. MainLeft source code x new s) (sym k) (returned_as held (sym (own_held_up_both _ _ _ old.env s.env h.env)) (main_is ∙ ap (λ o. main_left o h.run.rest s) j) (q ∙ ap (λ x. main_over x old) k))
     by_reason (Some reason.Destroyed) e i j k q = subst (λ x. MainLeft source code x new s) (sym k) (record { after = _; asks = main_is ∙ ap (λ o. main_left o h.run.rest s) j })
 
-    pub main_left_as : (e : TaskMainEnd) → e ≡ main_by old.run.raised old.callers → new ≡ main_over e old → MainLeft source code e new s
+    pub main_left_as : (e : TaskMainEnd) → e ≡ main_by held old.run.raised old.callers → new ≡ main_over e old → MainLeft source code e new s
     main_left_as e k q =
         let r : s.run.raised ≡ old.run.raised = sym (ap (λ (a : Active). a.raised) h.run.is) in
         by_reason old.run.raised e refl r k q

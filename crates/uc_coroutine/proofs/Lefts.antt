@@ -10,18 +10,18 @@ use Rattle.uc_machine.specs.Quiet as quiet
 use Rattle.uc_machine.specs.Quiet.{Value, State, Step, Goes, quiet as step}
 use Rattle.uc_machine.specs.Pieces.{Unwind}
 use Rattle.uc_machine.specs.Raising.{arrives, escapes, why_by, pass_on, leave_for, leave_step, return_past, end_by}
-use Rattle.uc_code.specs.Laid.{Laid}
+use Rattle.uc_code.specs.Layout.{Laid}
 use Rattle.uc_frames.specs.declared.cell.Cell.{Cell}
 use Rattle.uc_frames.specs.Machine.{Active, Machine, Cells, cell_of}
-use Rattle.uc_frames.specs.Parts.{Lined}
+use Rattle.uc_frames.specs.StandsByParts.{Lined}
 use Rattle.uc_frames.specs.Stands.{image, RunStands, CallerStands, EnvironmentStands, Stands}
-use Rattle.uc_frames.specs.Left.{left}
+use Rattle.uc_frames.specs.Calls.{left}
 use Rattle.uc_frames.specs.Unwinding.{passed, unwound_by}
-use Rattle.uc_frames.specs.Unwound.{UnwindStands, Unwinds, LeavesNow, Returns}
+use Rattle.uc_frames.specs.UnwindingStands.{UnwindStands, Unwinds, LeavesNow, Returns}
 use Rattle.uc_coroutine.specs.declared.leaving.Left.{Left}
 use Rattle.uc_coroutine.specs.declared.leaving.Left.TheVariants.{Returned, Escaped}
 use Rattle.uc_coroutine.specs.Unwinding.{goes_by, ending_by, passed_for, passed_as, left_as, past_of, Made}
-use Rattle.uc_coroutine.specs.Outcomes.{GoesTo, LeftAs, ReturnsPast}
+use Rattle.uc_coroutine.specs.UnwindingSteps.{GoesTo, LeftAs, ReturnsPast}
 
 frames_others : (fs : List (List Value)) → others (map (map cell_of) fs) ≡ map (map cell_of) (others fs)
 frames_others [] = refl

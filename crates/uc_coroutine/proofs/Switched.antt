@@ -12,13 +12,13 @@ use Rattle.uc_machine.specs.Quiet as quiet
 use Rattle.uc_machine.specs.Quiet.{Todo, Value, FinishCoroutine, State, Goes, Asks, Quietly, stay, more, moves, at, line_of, quiet as step}
 use Rattle.uc_machine.specs.Raising.{coroutine_left, unwind_past}
 use Rattle.uc_code.specs.declared.rows.MainOf.TheVariants as main_of
-use Rattle.uc_code.specs.Laid.{Laid}
+use Rattle.uc_code.specs.Layout.{Laid}
 use Rattle.uc_frames.specs.declared.cell.Cell.{Cell}
 use Rattle.uc_frames.specs.Machine.{Active, Machine, cell_of, own_exec, resumed}
-use Rattle.uc_frames.specs.Parts.{MovedStand}
+use Rattle.uc_frames.specs.StandsByParts.{MovedStand}
 use Rattle.uc_frames.specs.Stands.{RunStands, CallerStands, Stands}
-use Rattle.uc_frames.specs.Switching.{landing, Resumes, Suspends, TakesDown, EndsCoroutine}
-use Rattle.uc_frames.specs.Unwound.{EndsMain}
+use Rattle.uc_frames.specs.SwitchStands.{landing, Resumes, Suspends, TakesDown, EndsCoroutine}
+use Rattle.uc_frames.specs.UnwindingStands.{EndsMain}
 use Rattle.uc_frames.proofs.Finishes.{main_line}
 use Rattle.uc_frames.proofs.Switches.{wake_both, suspend_both, finish_both, taken_down_both, take_down_both, escape_both}
 use Rattle.uc_frames.proofs.Values.{own_exec_of, resumed_of, raised_stands}

@@ -10,20 +10,20 @@ use Rattle.uc_code.specs.declared.rows.HandlerRow.{HandlerRow}
 use Rattle.uc_code.specs.declared.rows.RowKind.{RowKind}
 use Rattle.uc_code.specs.declared.rows.RowKind.TheVariants as kind
 use Rattle.uc_code.specs.declared.rows.MainOf.{MainOf}
-use Rattle.uc_code.specs.Laid.{Laid, handlers, chain}
-use Rattle.uc_code.specs.Ranges.{HandlerAt, clean_up}
+use Rattle.uc_code.specs.Layout.{Laid, handlers, chain}
+use Rattle.uc_code.specs.CodeShapes.{HandlerAt, clean_up}
 use Rattle.uc_frames.specs.declared.search.Sought.{Sought}
 use Rattle.uc_frames.specs.declared.search.Sought.TheVariants as sought
 use Rattle.uc_frames.specs.Machine.{Active, Machine}
 use Rattle.uc_frames.specs.Searches.{catches, cleans, row_takes, is_named, is_found, first_in, stops, stops_at, first_stop, catcher_in}
 use Rattle.uc_frames.specs.Stands.{image, Stands}
 use Rattle.uc_frames.specs.Unwinding.{cleaning}
-use Rattle.uc_frames.specs.Unwound.{Unwinds, TestsBlock, EndsMain, LeavesNow}
-use Rattle.uc_frames.specs.Comes.{event_by, st, CleansUp, Catches, Leaves, Comes, ToEnd, ToCleanUp, ToBlock, ToMain, ToHandler}
-use Rattle.uc_frames.specs.Comes as comes_to
+use Rattle.uc_frames.specs.UnwindingStands.{Unwinds, TestsBlock, EndsMain, LeavesNow}
+use Rattle.uc_frames.specs.UnwindingOutcomes.{event_by, st, CleansUp, Catches, Leaves, Comes, ToEnd, ToCleanUp, ToBlock, ToMain, ToHandler}
+use Rattle.uc_frames.specs.UnwindingOutcomes as comes_to
 use Rattle.uc_frames.proofs.Coming.{comes}
 use Rattle.uc_coroutine.specs.Unwinding.{point_in, cleaned_by, passed_on, step_by, step_of, Made}
-use Rattle.uc_coroutine.specs.Outcomes.{IsOwn, Leads, Begins, UnwoundTo}
+use Rattle.uc_coroutine.specs.UnwindingSteps.{IsOwn, Leads, Begins, UnwoundTo}
 
 -- the kinds of rows
 

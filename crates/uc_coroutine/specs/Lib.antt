@@ -1,4 +1,4 @@
-pub mod Ends
-pub mod Outcomes
+pub mod MainEnds
+pub mod UnwindingSteps
 pub mod Switching
 pub mod Unwinding

@@ -9,10 +9,10 @@ use Rattle.uc_entry.specs.declared.request.Request.TheVariants as ask
 use Rattle.uc_machine.specs.Quiet.{State, Asks, quiet, Quietly, line_of}
 use Rattle.uc_machine.specs.Executions as exec
 use Rattle.uc_machine.specs.Switches.{Moved, To, Stops, finish, escape, taken_down}
-use Rattle.uc_code.specs.Laid.{Laid}
+use Rattle.uc_code.specs.Layout.{Laid}
 use Rattle.uc_frames.specs.Machine.{Machine}
 use Rattle.uc_frames.specs.Stands.{Stands}
-use Rattle.uc_coroutine.specs.Outcomes.{Leads}
+use Rattle.uc_coroutine.specs.UnwindingSteps.{Leads}
 
 module _ {C V : Type 0} where
   -- the fault, if a switch is one

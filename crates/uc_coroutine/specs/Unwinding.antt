@@ -5,13 +5,13 @@ use Rattle.uc_machine.specs.declared.exec.Reason.TheVariants as reason
 use Rattle.uc_machine.specs.declared.exec.Visited.{Visited}
 use Rattle.uc_machine.specs.Raising.{arrives, escapes, why_by}
 use Rattle.uc_code.specs.declared.rows.HandlerRow.{HandlerRow}
-use Rattle.uc_code.specs.Laid.{chain}
+use Rattle.uc_code.specs.Layout.{chain}
 use Rattle.uc_frames.specs.declared.search.Sought.TheVariants.{Stop}
 use Rattle.uc_frames.specs.declared.cell.Cell.{Cell}
 use Rattle.uc_frames.specs.Machine.{Active, Machine}
 use Rattle.uc_frames.specs.Searches.{is_named, first_in}
 use Rattle.uc_frames.specs.Unwinding.{cleaning, passed}
-use Rattle.uc_frames.specs.Left.{left}
+use Rattle.uc_frames.specs.Calls.{left}
 use Rattle.uc_coroutine.specs.declared.leaving.Left.{Left}
 use Rattle.uc_coroutine.specs.declared.leaving.Left.TheVariants.{Ended, Returned, Escaped, PassedOn}
 

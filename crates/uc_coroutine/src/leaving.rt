@@ -4,10 +4,10 @@ ghost use Rattle.std.specs.Prelude.{◌≡◌, length, true, IfOk, OnErr, if◌t
 ghost use Rattle.uc_machine.specs.Raising.{arrives as arrives_by, escapes as escapes_by};
 ghost use Rattle.uc_tree.specs.Source.{Source};
 ghost use Rattle.uc_machine.specs.Quiet.{State, Value};
-ghost use Rattle.uc_code.specs.Laid.{Laid};
-ghost use Rattle.uc_frames.specs.Unwound.{LeavesNow, Returns};
+ghost use Rattle.uc_code.specs.Layout.{Laid};
+ghost use Rattle.uc_frames.specs.UnwindingStands.{LeavesNow, Returns};
 ghost use Rattle.uc_frames.specs.Machine.{cell_of};
-ghost use Rattle.uc_coroutine.specs.Outcomes.{LeftAs, ReturnsPast};
+ghost use Rattle.uc_coroutine.specs.UnwindingSteps.{LeftAs, ReturnsPast};
 ghost use Rattle.uc_coroutine.specs.Unwinding.{ending_by, goes_by, left_as, past_of, Made};
 ghost use Rattle.uc_coroutine.specs.declared.leaving.Left.TheVariants as left;
 

@@ -6,11 +6,11 @@ ghost use Rattle.uc_tree.specs.Source.{Source};
 ghost use Rattle.uc_machine.specs.Executions.{parked_at};
 ghost use Rattle.uc_machine.specs.Quiet.{State};
 ghost use Rattle.uc_machine.specs.Switches.{able as able_in, escape as escape_of, finish as finish_of, suspend as suspend_of, take_down as take_down_of, taken_down as taken_down_of, wake as wake_of, wake_one as wake_one_of};
-ghost use Rattle.uc_code.specs.Laid.{Laid};
+ghost use Rattle.uc_code.specs.Layout.{Laid};
 ghost use Rattle.uc_code.specs.declared.rows.MainOf.TheVariants as main_of;
 ghost use Rattle.uc_frames.specs.Machine.{own_exec, resumed};
-ghost use Rattle.uc_frames.specs.Switching.{Resumes, Suspends, TakesDown, EndsCoroutine};
-ghost use Rattle.uc_frames.specs.Unwound.{EndsMain};
+ghost use Rattle.uc_frames.specs.SwitchStands.{Resumes, Suspends, TakesDown, EndsCoroutine};
+ghost use Rattle.uc_frames.specs.UnwindingStands.{EndsMain};
 ghost use Rattle.uc_coroutine.specs.Switching.{fault_in, state_in, left_by, SwitchedAs};
 
 use uc_entry::fault::RunFault;

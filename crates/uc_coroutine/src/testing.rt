@@ -2,12 +2,13 @@
 
 ghost use Rattle.std.specs.Prelude.{◌≡◌, ◌+◌, length, IfOk, OnErr};
 ghost use Rattle.uc_tree.specs.Source.{Source};
+ghost use Rattle.uc_machine.specs.Insides.{is_held_up};
 ghost use Rattle.uc_machine.specs.Quiet.{State};
 ghost use Rattle.uc_machine.specs.Raising.{arrives as arrives_by};
-ghost use Rattle.uc_code.specs.Laid.{Laid};
+ghost use Rattle.uc_code.specs.Layout.{Laid};
 ghost use Rattle.uc_code.specs.declared.rows.MainOf.TheVariants as main_of;
-ghost use Rattle.uc_frames.specs.Unwound.{TestsBlock, EndsMain};
-ghost use Rattle.uc_coroutine.specs.Ends.{is_return as is_return_by, block_over, main_by, main_over, BlockLeft, MainLeft};
+ghost use Rattle.uc_frames.specs.UnwindingStands.{TestsBlock, EndsMain};
+ghost use Rattle.uc_coroutine.specs.MainEnds.{is_return as is_return_by, block_over, main_by, main_over, BlockLeft, MainLeft};
 
 use crate::leaving::arrives;
 use std::alloc::AllocError;
@@ -15,13 +16,14 @@ use uc_frames::cell::Cell;
 use uc_frames::work::Work;
 use uc_machine::exec::Reason;
 
-/// What becomes of a task's main that is unwound: it ends, as the last activation or for one that waits, or nothing handles the event by which
-/// it is unwound.
+/// What becomes of a task's main that is unwound: it ends, as the last activation or for one that waits; nothing handles the event by which
+/// it is unwound; or it is held up in the task's own object.
 #[derive(Clone, Copy, PartialEq, Eq, Debug)]
 pub enum TaskMainEnd {
     Ended,
     Returned,
     Unhandled,
+    HeldUp,
 }
 
 /// A block that is left as a whole is unwound up to the op before `behind`: where a return arrives that is over, and the answer is true; else
@@ -48,9 +50,10 @@ fn end_at(work: &mut Work, behind: u32) -> bool
     }
 }
 
-/// The main of a task that is unwound ends where the reason is a return. Where it is the last activation, or an event is not handled, all stays as it is.
+/// The main of a task that is unwound ends where the reason is a return. Where it is the last activation, an event is not handled, or the task is
+/// held up in its own object, all stays as it is.
 pub fn end_task_main(work: &mut Work) -> Result<TaskMainEnd, AllocError>
-    ensures how { IfOk result (λ end. end ≡ main_by work.old.run.raised work.old.callers) }
+    ensures how { IfOk result (λ end. end ≡ main_by (is_held_up work.old.env.own work.old.env) work.old.run.raised work.old.callers) }
     ensures now { IfOk result (λ end. work.new ≡ main_over end work.old) }
     ensures err { OnErr result (work.new ≡ work.old) }
     ensures source { IfOk result (λ end. (source : Source) (code : Laid) (s : State) → EndsMain code main_of.Task work.old s → MainLeft source code end work.new s) }
@@ -60,12 +63,15 @@ pub fn end_task_main(work: &mut Work) -> Result<TaskMainEnd, AllocError>
 }
 
 fn end_now(work: &mut Work) -> Result<TaskMainEnd, AllocError>
-    ensures how { IfOk result (λ end. end ≡ main_by work.old.run.raised work.old.callers) }
+    ensures how { IfOk result (λ end. end ≡ main_by (is_held_up work.old.env.own work.old.env) work.old.run.raised work.old.callers) }
     ensures now { IfOk result (λ end. work.new ≡ main_over end work.old) }
     ensures err { OnErr result (work.new ≡ work.old) }
 {
     if !is_return(work.raised()) {
         return Ok(TaskMainEnd::Unhandled);
+    }
+    if work.is_held_up(work.own()) {
+        return Ok(TaskMainEnd::HeldUp);
     }
     let called = work.leave(Cell::Number(0))?;
     if called {

@@ -5,9 +5,9 @@ ghost use Rattle.uc_frames.specs.Searches.{is_named as is_named_by};
 ghost use Rattle.uc_tree.specs.Source.{Source};
 ghost use Rattle.uc_machine.specs.Quiet.{State};
 ghost use Rattle.uc_machine.specs.Raising.{why_by};
-ghost use Rattle.uc_code.specs.Laid.{laid_of};
-ghost use Rattle.uc_frames.specs.Unwound.{Unwinds};
-ghost use Rattle.uc_coroutine.specs.Outcomes.{IsOwn, UnwoundTo};
+ghost use Rattle.uc_code.specs.Layout.{laid_of};
+ghost use Rattle.uc_frames.specs.UnwindingStands.{Unwinds};
+ghost use Rattle.uc_coroutine.specs.UnwindingSteps.{IsOwn, UnwoundTo};
 ghost use Rattle.uc_coroutine.specs.Unwinding.{point_in, cleaned_by, passed_on, step_of, Made};
 
 use uc_code::code::Code;

@@ -22,9 +22,10 @@ pub enum RunFault {
     SuspendWithoutResumer,
     /// An event that leaves the main of a task.
     Unhandled,
-    /// A wait of a task that is inside another object.
+    /// A wait, an accept, a leave or an end at an object where an execution at home there runs, or has a mutex call or the
+    /// building of an object that has not ended.
     BlockedInside,
-    /// A destruction of an object at which tasks wait.
+    /// A destruction of an object at which other tasks wait, or of a cluster on which something stands.
     DestroyBusy,
     /// The front of a condition on which nobody waits.
     FrontOfEmpty,
@@ -40,7 +41,7 @@ pub enum RunFault {
     TooManyObjects,
     /// One pending event too many.
     TooManyPending,
-    /// One processor too many.
+    /// One cluster or processor too many.
     TooManyProcessors,
     /// A use of a coroutine that is not live.
     NotLive,

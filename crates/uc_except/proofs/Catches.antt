@@ -6,19 +6,19 @@ use Rattle.uc_machine.specs.Quiet as quiet
 use Rattle.uc_machine.specs.Quiet.{Todo, Sort, Simple, IsLoop, IsWhole, IsClean, IsFill, IsSweep, IsPart, IsGuard, IsFinish, IsFinishCoroutine, sort, own_line}
 use Rattle.uc_machine.specs.Raising.{Event, Handler, handler_for, count_by, count_round}
 use Rattle.uc_code.specs.declared.rows.Mark.{Mark}
-use Rattle.uc_code.specs.Laid.{Laid, handlers, chain}
-use Rattle.uc_code.specs.Ranges.{HandlerAt, clean_up}
+use Rattle.uc_code.specs.Layout.{Laid, handlers, chain}
+use Rattle.uc_code.specs.CodeShapes.{HandlerAt, clean_up}
 use Rattle.uc_code.specs.Lowered.{handler_rows}
 use Rattle.uc_frames.specs.declared.search.Sought.TheVariants as sought
 use Rattle.uc_frames.specs.Machine.{Active}
-use Rattle.uc_frames.specs.Parts.{Lined}
+use Rattle.uc_frames.specs.StandsByParts.{Lined}
 use Rattle.uc_frames.specs.Searches.{is_found, first_in}
 use Rattle.uc_frames.specs.Stands.{PieceAt, AtGuard, FollowsBy, FollowsAt}
-use Rattle.uc_frames.specs.Unwound.{SearchStands}
+use Rattle.uc_frames.specs.UnwindingStands.{SearchStands}
 use Rattle.uc_frames.proofs.Guards.{numbers, guards_rows, Choice, chosen_in, follows_caught}
 use Rattle.uc_except.specs.declared.found.Found.{Found}
-use Rattle.uc_except.specs.Finding.{found_at, caught}
-use Rattle.uc_except.specs.Meeting.{catch_or, catch_by, catch_in, Catcher, catcher_or, catcher, Caught, CaughtAs}
+use Rattle.uc_except.specs.RowSearch.{found_at, caught}
+use Rattle.uc_except.specs.FoundAgrees.{catch_or, catch_by, catch_in, Catcher, catcher_or, catcher, Caught, CaughtAs}
 use Rattle.uc_except.proofs.Seeks.{last_rows, none_for, lengths}
 
 none_caught_by : (x : Sort) (e : Event) (ps : List Todo) → count_by x + count_round ps ≡ 0 → (count_round ps ≡ 0 → catch_in e ps ≡ None) → catch_by x e (catch_in e ps) ≡ None

@@ -10,20 +10,20 @@ use Rattle.uc_machine.specs.Quiet.{DropNow, Nothing, State, stay, more, below, q
 use Rattle.uc_machine.specs.Raising as raising
 use Rattle.uc_machine.specs.Raising.{Found as Sought, handler_todo, event_in, home_of, seek, handle_step}
 use Rattle.uc_code.specs.declared.rows.HandlerRow.{HandlerRow}
-use Rattle.uc_code.specs.Laid.{Laid}
+use Rattle.uc_code.specs.Layout.{Laid}
 use Rattle.uc_frames.specs.declared.cell.Cell.{Cell}
 use Rattle.uc_frames.specs.declared.event.Event.{Event}
 use Rattle.uc_frames.specs.declared.event.Handling.{Handling}
 use Rattle.uc_frames.specs.Machine.{Active, Machine, cell_of}
-use Rattle.uc_frames.specs.Parts.{Lined}
+use Rattle.uc_frames.specs.StandsByParts.{Lined}
 use Rattle.uc_frames.specs.Stands.{image, FollowsAt, RunStands, CallerStands, EnvironmentStands, Stands}
 use Rattle.uc_frames.specs.Unwinding.{catching, handler_of, handled}
-use Rattle.uc_frames.specs.Unwound.{SearchStands, Unwinds, Raises}
-use Rattle.uc_frames.specs.Comes.{Catches, caught}
+use Rattle.uc_frames.specs.UnwindingStands.{SearchStands, Unwinds, Raises}
+use Rattle.uc_frames.specs.UnwindingOutcomes.{Catches, caught}
 use Rattle.uc_except.specs.declared.found.Found.{Found}
 use Rattle.uc_except.specs.declared.found.Found.TheVariants.{Handler as At, None as Nowhere}
-use Rattle.uc_except.specs.Finding.{resumed}
-use Rattle.uc_except.specs.Meeting.{Meets, FoundAs}
+use Rattle.uc_except.specs.RowSearch.{resumed}
+use Rattle.uc_except.specs.FoundAgrees.{Meets, FoundAs}
 use Rattle.uc_except.specs.Handling.{handling_of, resumed_by, handled_by, handled_at, handler_begun, IsFound, GoesOn}
 use Rattle.uc_except.proofs.Seeks.{seeks}
 

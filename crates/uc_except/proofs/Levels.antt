@@ -8,7 +8,7 @@ use Rattle.uc_machine.specs.declared.exec.Visited.{Visited}
 use Rattle.uc_code.specs.declared.rows.HandlerRow.{HandlerRow}
 use Rattle.uc_frames.specs.Machine.{Active}
 use Rattle.uc_except.specs.declared.found.Found.TheVariants.{Handler, None as Nowhere}
-use Rattle.uc_except.specs.Finding.{found_at, caught, resumed, catch_in, resumption_in, resumed_from, handles_in}
+use Rattle.uc_except.specs.RowSearch.{found_at, caught, resumed, catch_in, resumption_in, resumed_from, handles_in}
 
 -- the oldest, so many of them
 abbrev pub oldest : {X : Type 0} → ℕ → List X → List X

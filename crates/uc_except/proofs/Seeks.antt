@@ -10,20 +10,20 @@ use Rattle.uc_machine.specs.Quiet.{Todo, Sort, Simple, IsLoop, IsWhole, IsClean,
 use Rattle.uc_machine.specs.Raising.{Event, Handler, Hit, Found as Sought, handler_for, handler_count, count_by, count_round, within as within_list, hit_or, hit_by, hit_in, home_of, found_or, seek}
 use Rattle.uc_code.specs.declared.rows.HandlerRow.{HandlerRow}
 use Rattle.uc_code.specs.declared.rows.Mark.{Mark}
-use Rattle.uc_code.specs.Laid.{Laid, under, handlers, chain}
-use Rattle.uc_code.specs.Ranges.{HandlerAt, clean_up}
+use Rattle.uc_code.specs.Layout.{Laid, under, handlers, chain}
+use Rattle.uc_code.specs.CodeShapes.{HandlerAt, clean_up}
 use Rattle.uc_code.specs.Lowered.{handler_rows}
 use Rattle.uc_frames.specs.declared.search.Sought.TheVariants as sought
 use Rattle.uc_frames.specs.Machine.{Active}
-use Rattle.uc_frames.specs.Parts.{Lined}
+use Rattle.uc_frames.specs.StandsByParts.{Lined}
 use Rattle.uc_frames.specs.Searches.{is_found, first_in, behind_row, within, last_of, chain_within}
 use Rattle.uc_frames.specs.Stands.{PieceAt, IsLast, OfRoutine, OfHandler, AtGuard, FollowsBy, FollowsAt}
-use Rattle.uc_frames.specs.Unwound.{SearchStands}
+use Rattle.uc_frames.specs.UnwindingStands.{SearchStands}
 use Rattle.uc_frames.proofs.Guards.{numbers, guards_rows, numbers_count, rows_count, Choice, chosen_in, past_first, follows_resumed}
 use Rattle.uc_except.specs.declared.found.Found.{Found}
 use Rattle.uc_except.specs.declared.found.Found.TheVariants.{Handler as At, None as Nowhere}
-use Rattle.uc_except.specs.Finding.{found_at, resumed}
-use Rattle.uc_except.specs.Meeting.{ResumesAt, Hits, FoundAs}
+use Rattle.uc_except.specs.RowSearch.{found_at, resumed}
+use Rattle.uc_except.specs.FoundAgrees.{ResumesAt, Hits, FoundAs}
 use Rattle.uc_except.proofs.Levels.{depth_within}
 
 under_none : (ns : List ℕ) → under 0 ns ≡ []

@@ -3,14 +3,14 @@ use Rattle.std.proofs.Common.{◌≡◌, ℕ, List, [], ◌∷◌, length, Bool,
 use Rattle.std.specs.Prelude.{nat_eq, if◌then◌else◌}
 use Rattle.uc_machine.specs.declared.exec.Visited.{Visited}
 use Rattle.uc_code.specs.declared.rows.HandlerRow.{HandlerRow}
-use Rattle.uc_code.specs.Laid.{chain}
-use Rattle.uc_frames.specs.Keeping.{place_or, taken_at}
+use Rattle.uc_code.specs.Layout.{chain}
+use Rattle.uc_frames.specs.PaceInvariant.{place_or, taken_at}
 use Rattle.uc_frames.specs.Machine.{Active}
 use Rattle.uc_frames.specs.declared.search.Sought.TheVariants.{Resume}
 use Rattle.uc_frames.specs.Searches.{first_in, chain_within}
 use Rattle.uc_except.specs.declared.found.Found.{Found}
 use Rattle.uc_except.specs.declared.found.Found.TheVariants.{Handler, None as Nowhere}
-use Rattle.uc_except.specs.Finding.{found_at, resumed}
+use Rattle.uc_except.specs.RowSearch.{found_at, resumed}
 
 abbrev place_of : Found → Option (ℕ × ℕ)
 place_of Nowhere = None

@@ -9,16 +9,16 @@ use Rattle.uc_machine.specs.Quiet.{Todo, Value, State, quiet as step}
 use Rattle.uc_machine.specs.Pieces.{Unwind}
 use Rattle.uc_machine.specs.Raising as raising
 use Rattle.uc_machine.specs.Raising.{event_in, throw_step, handle_step, seek}
-use Rattle.uc_code.specs.Laid.{Laid}
+use Rattle.uc_code.specs.Layout.{Laid}
 use Rattle.uc_frames.specs.Machine.{Active, Machine}
-use Rattle.uc_frames.specs.Parts.{Lined}
+use Rattle.uc_frames.specs.StandsByParts.{Lined}
 use Rattle.uc_frames.specs.Stands.{image, CallerStands, EnvironmentStands}
 use Rattle.uc_frames.specs.Unwinding.{unwound_by}
-use Rattle.uc_frames.specs.Unwound.{RowsStand, UnwindStands, Unwinds, Raises, Throws}
+use Rattle.uc_frames.specs.UnwindingStands.{RowsStand, UnwindStands, Unwinds, Raises, Throws}
 use Rattle.uc_except.specs.declared.found.Found.{Found}
 use Rattle.uc_except.specs.declared.found.Found.TheVariants.{Handler as At, None as Nowhere}
-use Rattle.uc_except.specs.Finding.{resumed}
-use Rattle.uc_except.specs.Meeting.{FoundAs}
+use Rattle.uc_except.specs.RowSearch.{resumed}
+use Rattle.uc_except.specs.FoundAgrees.{FoundAs}
 use Rattle.uc_except.specs.Handling.{thrown, UnwindsNow}
 use Rattle.uc_except.proofs.Seeks.{seeks}
 use Rattle.uc_except.proofs.Handled.{all_search, searched}

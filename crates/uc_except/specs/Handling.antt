@@ -8,13 +8,13 @@ use Rattle.uc_machine.specs.Raising.{home_of}
 use Rattle.uc_code.specs.declared.rows.HandlerRow.{HandlerRow}
 use Rattle.uc_code.specs.declared.rows.RowKind.{RowKind}
 use Rattle.uc_code.specs.declared.rows.RowKind.TheVariants as kind
-use Rattle.uc_code.specs.Laid.{Laid}
+use Rattle.uc_code.specs.Layout.{Laid}
 use Rattle.uc_frames.specs.declared.event.Event.{Event}
 use Rattle.uc_frames.specs.declared.event.Handling.{Handling}
 use Rattle.uc_frames.specs.Machine.{Active, Machine}
 use Rattle.uc_frames.specs.Stands.{Stands}
 use Rattle.uc_frames.specs.Unwinding.{unwound_by, catching, handled}
-use Rattle.uc_frames.specs.Unwound.{Unwinds}
+use Rattle.uc_frames.specs.UnwindingStands.{Unwinds}
 use Rattle.uc_except.specs.declared.found.Found.{Found}
 use Rattle.uc_except.specs.declared.found.Found.TheVariants.{Handler, None as Nowhere}
 

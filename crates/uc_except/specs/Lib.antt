@@ -1,3 +1,3 @@
-pub mod Finding
+pub mod RowSearch
 pub mod Handling
-pub mod Meeting
+pub mod FoundAgrees

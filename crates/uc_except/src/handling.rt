@@ -8,11 +8,11 @@ ghost use Rattle.uc_tree.specs.Source.{Source};
 ghost use Rattle.uc_machine.specs.declared.exec.Reason.TheVariants as reason;
 ghost use Rattle.uc_machine.specs.Quiet.{State};
 ghost use Rattle.uc_machine.specs.Raising.{event_in};
-ghost use Rattle.uc_code.specs.Laid.{Laid, laid_of};
-ghost use Rattle.uc_frames.specs.Comes.{Catches};
-ghost use Rattle.uc_frames.specs.Unwound.{Raises, Throws, Unwinds};
+ghost use Rattle.uc_code.specs.Layout.{Laid, laid_of};
+ghost use Rattle.uc_frames.specs.UnwindingOutcomes.{Catches};
+ghost use Rattle.uc_frames.specs.UnwindingStands.{Raises, Throws, Unwinds};
 ghost use Rattle.uc_except.specs.declared.found.Found.TheVariants as at;
-ghost use Rattle.uc_except.specs.Finding.{resumed};
+ghost use Rattle.uc_except.specs.RowSearch.{resumed};
 ghost use Rattle.uc_except.specs.Handling.{handling_of, resumed_by, handled_by, handler_begun, thrown, IsFound, GoesOn, UnwindsNow};
 
 use crate::found::Found;

@@ -3,14 +3,14 @@
 ghost use Rattle.std.specs.Prelude.{◌≡◌, ◌∷◌, List, None, true, false, if◌then◌else◌};
 ghost use Rattle.uc_machine.specs.Quiet.{Active};
 ghost use Rattle.uc_machine.specs.Raising.{Event, seek};
-ghost use Rattle.uc_code.specs.Laid.{chain, laid_of};
-ghost use Rattle.uc_frames.specs.Parts.{Lined};
-ghost use Rattle.uc_frames.specs.Unwound.{SearchStands};
-ghost use Rattle.uc_except.specs.Meeting.{FoundAs, CaughtAs, catcher};
+ghost use Rattle.uc_code.specs.Layout.{chain, laid_of};
+ghost use Rattle.uc_frames.specs.StandsByParts.{Lined};
+ghost use Rattle.uc_frames.specs.UnwindingStands.{SearchStands};
+ghost use Rattle.uc_except.specs.FoundAgrees.{FoundAs, CaughtAs, catcher};
 ghost use Rattle.uc_frames.specs.declared.search.Sought.TheVariants as sought;
 ghost use Rattle.uc_frames.specs.Searches.{first_in};
 ghost use Rattle.uc_machine.specs.Executions.{at_depth};
-ghost use Rattle.uc_except.specs.Finding.{caught, resumed, catch_in, resumption_in, handles_in};
+ghost use Rattle.uc_except.specs.RowSearch.{caught, resumed, catch_in, resumption_in, handles_in};
 
 use crate::found::Found;
 use uc_code::code::Code;

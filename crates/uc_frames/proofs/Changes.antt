@@ -1,6 +1,6 @@
 -- What is done to a task is done to its parts.
 use Rattle.std.proofs.Common.{◌≡◌, ℕ, ◌+◌, List, [], ◌∷◌, ◌++◌, Option, Some, None, Bool, true, false, refl, subst, ap, ◌∙◌, map}
-use Rattle.std.specs.Prelude.{nat_eq, min, if◌then◌else◌}
+use Rattle.std.specs.Prelude.{nat_eq, if◌then◌else◌}
 use Rattle.std.proofs.Math.ListN.{get_or-map}
 use Rattle.uc_machine.specs.declared.exec.Exec.{Exec}
 use Rattle.uc_machine.specs.declared.exec.Home.{Home}
@@ -9,8 +9,8 @@ use Rattle.uc_machine.specs.declared.exec.Owner.{Owner}
 use Rattle.uc_machine.specs.declared.exec.Owner.TheVariants.{Frame, Fields}
 use Rattle.uc_entry.specs.declared.request.Piece.{Piece}
 use Rattle.uc_machine.specs.Executions.{Activation, Execution, Links, Members, Env, exec_eq, at_depth, frame_changed, list_in, values_in, frames_in, members_at, set_members, slot_in, parked_at, change_in, change, frames_of, frames_by, frames_changed, with_frames, owned, value_at, with_owned}
-use Rattle.uc_machine.specs.Switches.{LAST_SERIAL, slot_set, set_slot, serial_in, new_exec, one_more, born, slot_gone, gone, forgotten}
-use Rattle.uc_frames.specs.Parts.{Numbered, Alike, ExecutionStands, MembersStand, EnvStands}
+use Rattle.uc_machine.specs.Switches.{slot_set, set_slot, serial_in, new_exec, one_more, born, slot_gone, gone, forgotten}
+use Rattle.uc_frames.specs.StandsByParts.{Numbered, Alike, ExecutionStands, MembersStand, EnvStands}
 use Rattle.uc_frames.proofs.Lists.{find_both, update_both, without_both, more_both, joined_both, at_map, frame_map}
 
 module _ {A B V W : Type 0} (R K : Activation A V → Activation B W → Type 0) (f : W → V) where
@@ -40,11 +40,11 @@ module _ {A B V W : Type 0} (R K : Activation A V → Activation B W → Type 0)
   pub parked_both : (n : Exec) (m : Env A V) (s : Env B W) → En m s → Alike Ex (parked_at n m) (parked_at n s)
   parked_both n m s e = joined_both Ex _ _ (slot_both n.serial _ _ (members_both n.home m s e))
 
-  env_same : (b : Bool) (m n : Env A V) (s t : Env B W) → En m s → En n t → En (if b then m else n) (if b then s else t)
+  pub env_same : (b : Bool) (m n : Env A V) (s t : Env B W) → En m s → En n t → En (if b then m else n) (if b then s else t)
   env_same true m n s t g h = g
   env_same false m n s t g h = h
 
-  env_by : (b c : Bool) (m n : Env A V) (s t : Env B W) → b ≡ c → En m s → En n t → En (if b then m else n) (if c then s else t)
+  pub env_by : (b c : Bool) (m n : Env A V) (s t : Env B W) → b ≡ c → En m s → En n t → En (if b then m else n) (if c then s else t)
   env_by b c m n s t q g h = subst (λ x. En (if b then m else n) (if x then s else t)) q (env_same b m n s t g h)
 
   set_members_both : (h : Home) (a : Members A V) (b : Members B W) (m : Env A V) (s : Env B W) → Me a b → En m s → En (set_members h a m) (set_members h b s)
@@ -143,7 +143,7 @@ module _ {A B V W : Type 0} (R K : Activation A V → Activation B W → Type 0)
   one_more_both x y g a b q =
       record {
         values = q.values;
-        serial = ap (λ k. min (k + 1) LAST_SERIAL) q.serial;
+        serial = ap (λ k. k + 1) q.serial;
         parked = subst (λ k. Numbered (Alike Ex) (a.parked ++ (a.serial, Some x) ∷ []) (b.parked ++ (k, Some y) ∷ [])) q.serial (more_both (Alike Ex) a.serial (Some x) (Some y) a.parked b.parked g q.parked);
       }
 

@@ -1,15 +1,16 @@
 -- Clean-ups that an unwinding does.
-use Rattle.std.proofs.Common.{◌≡◌, ℕ, ◌+◌, List, ◌∷◌, Option, Some, None, true, refl, subst}
+use Rattle.std.proofs.Common.{◌≡◌, ℕ, ◌+◌, List, [], ◌∷◌, Option, Some, None, Bool, true, refl, subst}
 use Rattle.std.specs.Prelude.{slice_get}
 use Rattle.uc_tree.specs.Source.{CleanUp}
-use Rattle.uc_machine.specs.Quiet.{Todo, own_line, clean_todo}
+use Rattle.uc_machine.specs.Quiet.{Todo, State, own_line, clean_todo, goes}
 use Rattle.uc_machine.specs.Pieces.{Unwind}
+use Rattle.uc_machine.specs.Raising.{scope_left}
 use Rattle.uc_code.specs.declared.op.Op.TheVariants as op
 use Rattle.uc_code.specs.declared.rows.Mark.{Mark}
 use Rattle.uc_code.specs.declared.rows.Mark.TheVariants as mark
 use Rattle.uc_code.specs.declared.rows.Cleaning.{Cleaning}
-use Rattle.uc_code.specs.Laid.{Laid}
-use Rattle.uc_code.specs.Ranges.{Risk, HandlerAt, clean_up, OverElements, Leads, Arrived, Jumped}
+use Rattle.uc_code.specs.Layout.{Laid}
+use Rattle.uc_code.specs.CodeShapes.{Risk, HandlerAt, clean_up, OverElements, Leads, Arrived, Jumped}
 use Rattle.uc_code.specs.ObjectCalls.{Cleans, One as CleansOne, All, TakesDown, IsForgotten}
 use Rattle.uc_code.specs.Lowered.{CallDone, CleanBy, CleanAt}
 use Rattle.uc_code.proofs.Called.{called}
@@ -25,6 +26,13 @@ module _ (code : Laid) where
   -- behind it the unwinding goes on
   pub goes_on : (ps : List Todo) (ms : List Mark) (pc at back end : ℕ) → Leads code pc at → Risk code ms op.Unwind (own_line ps) at back → FollowsAt code ps ms end → FollowsAt code (Unwind ∷ ps) ms pc
   goes_on ps ms pc at back end l r f = record { from = at; to = end; leads = l; piece = record { end = back; unwinds = r }; on = f }
+
+  -- so it is where a scope is left, whether a return arrives or not
+  pub scope_cleans : (c : CleanUp) (what : Cleaning) → Cleans c what → (arrived : Bool) (todo : List Todo) (s : State) → scope_left c arrived todo s ≡ goes (clean_todo c (Unwind ∷ todo)) [] s
+  scope_cleans _ _ (CleansOne e what k n) arrived todo s = refl
+  scope_cleans _ _ (All n size e what k q) arrived todo s = refl
+  scope_cleans _ _ TakesDown arrived todo s = refl
+  scope_cleans _ _ IsForgotten arrived todo s = refl
 
   -- the code of a clean-up does it
   pub record Begins (todo : List Todo) (pc : ℕ) : Type 0 where

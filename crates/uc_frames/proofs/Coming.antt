@@ -7,7 +7,7 @@ use Rattle.uc_machine.specs.declared.exec.Reason.{Reason}
 use Rattle.uc_machine.specs.declared.exec.Reason.TheVariants as reason
 use Rattle.uc_machine.specs.Quiet.{Todo, Sweep, Value, Active, Env, State, Goes, Sort, Simple, IsLoop, IsWhole, IsClean, IsFill, IsSweep, IsPart, IsGuard, IsFinish, IsFinishCoroutine, sort, own_line, clean_todo, quiet, stay, more}
 use Rattle.uc_machine.specs.Pieces.{Unwind}
-use Rattle.uc_machine.specs.Raising.{Event, Handler, handler_for, catch_step, guard_left, count_round}
+use Rattle.uc_machine.specs.Raising.{Event, Handler, arrives, handler_for, catch_step, guard_left, count_round}
 use Rattle.uc_code.specs.declared.op.Op.{Op}
 use Rattle.uc_code.specs.declared.op.Op.TheVariants as op
 use Rattle.uc_code.specs.declared.rows.HandlerRow.{HandlerRow}
@@ -15,15 +15,15 @@ use Rattle.uc_code.specs.declared.rows.MainOf.{MainOf}
 use Rattle.uc_code.specs.declared.rows.MainOf.TheVariants as main_of
 use Rattle.uc_code.specs.declared.rows.Mark.{Mark}
 use Rattle.uc_code.specs.declared.rows.ObjectCall.{ObjectCall}
-use Rattle.uc_code.specs.Laid.{Laid, under, handlers}
-use Rattle.uc_code.specs.Ranges.{Risk, HandlerAt, clean_up, Arrived}
+use Rattle.uc_code.specs.Layout.{Laid, under, handlers}
+use Rattle.uc_code.specs.CodeShapes.{Risk, HandlerAt, clean_up, Arrived}
 use Rattle.uc_code.specs.Lowered.{handler_rows}
 use Rattle.uc_frames.specs.declared.search.Sought.TheVariants as sought
 use Rattle.uc_frames.specs.Searches.{stops_at, first_stop, first_in}
 use Rattle.uc_frames.specs.Stands.{finish_sort, PieceAt, IsLast, OfRoutine, OfHandler, AtWhole, AtFinish, AtTest, AtGuard, FollowsBy, FollowsAt}
 use Rattle.uc_frames.proofs.Guards.{numbers, guards_rows, Choice, chosen_in, stops_in, none_stops, follows_caught}
-use Rattle.uc_frames.proofs.Cleaned.{clean_stops, goes_on, Begins, begins_clean}
-use Rattle.uc_frames.specs.Comes.{event_by, st, CleansUp, TestsBlock, EndsMain, Catches, Comes, ToEnd, ToCleanUp, ToBlock, ToMain, ToHandler}
+use Rattle.uc_frames.proofs.Cleaned.{clean_stops, goes_on, Begins, begins_clean, scope_cleans}
+use Rattle.uc_frames.specs.UnwindingOutcomes.{event_by, st, CleansUp, TestsBlock, EndsMain, Catches, Comes, ToEnd, ToCleanUp, ToBlock, ToMain, ToHandler}
 
 under_none : (ns : List ℕ) → under 0 ns ≡ []
 under_none [] = refl
@@ -205,7 +205,8 @@ module _ (source : Source) (code : Laid) (a : Active) (cs : List Active) (env : 
   comes_by q IsWhole P ps i ih ms k vs f = at_block q ps ms k vs (sym i) f
   comes_by q (IsClean c) P ps i ih ms k vs f =
       at_clean ms (handlers f.outer) f.row f.entry (at vs (Unwind ∷ (q ∷ ps))) (clean_todo c (Unwind ∷ ps)) (ap handlers f.pops) f.handler
-      (begins_clean code c f.what f.cleans ps f.outer f.entry f.unwinds.middle f.back f.to f.unwinds.first f.unwinds.second f.on) (rw (← i) refl)
+      (begins_clean code c f.what f.cleans ps f.outer f.entry f.unwinds.middle f.back f.to f.unwinds.first f.unwinds.second f.on)
+      (rw (← i) (scope_cleans code c f.what f.cleans (arrives r (length cs)) ps (at vs (Unwind ∷ (q ∷ ps)))))
   comes_by q (IsFill n b d) P ps i ih ms k vs f = at_elements q _ _ b d ps ms k vs f (rw (← i) refl)
   comes_by q (IsSweep e) P ps i ih ms k vs f = at_elements q _ _ e e ps ms k vs f (rw (← i) refl)
   comes_by q (IsPart c) P ps i ih ms k vs f =

@@ -1,12 +1,12 @@
 -- The line of a main that is unwound to its end.
 use Rattle.std.proofs.Common.{◌≡◌, List, ◌∷◌, refl, ap, ◌∙◌}
-use Rattle.uc_machine.specs.Pieces.{Todo, sort, State, own_line, line_from, line_of, Eval, LoadNow, ElementNow, FieldNow, NegateNow, NotNow, CharacterNow, TruthNow, OperateNow, CopyNow, CopyBelowNow, DropNow, DropBelowNow, StoreNow, KeepNow, SetNow, Choose, Branch, Arguments, TickNow, CallNow, CallOnNow, CallUnwrittenNow, CountNow, MoreNow, FillNow, TurnNow, Again, PrintNow, TextNow, GatherNow, FlushNow, ReadNow, ClearNow, Items, Values, Pieces, Targets, Variables, Do, Rest, Within, Exit, NoReturnNow, InLoop, InWhole, Clean, Sweep, Part, Guard, Unwind, ThrowNow, RaiseNow, SetUpNow, EnlivenNow, TakeDownNow, ForgetNow, LiveNow, ResumeNow, SuspendNow, Land, Finish, FinishCoroutine}
+use Rattle.uc_machine.specs.Pieces.{Todo, sort, State, own_line, line_from, line_of, Eval, LoadNow, ElementNow, FieldNow, NegateNow, NotNow, CharacterNow, TruthNow, OperateNow, CopyNow, CopyBelowNow, DropNow, DropBelowNow, StoreNow, KeepNow, SetNow, Choose, Branch, Arguments, TickNow, CallNow, CallOnNow, CallUnwrittenNow, CountNow, MoreNow, FillNow, TurnNow, Again, PrintNow, TextNow, GatherNow, FlushNow, ReadNow, ClearNow, Items, Values, Pieces, Targets, Variables, Do, Rest, Within, Exit, NoReturnNow, InLoop, InWhole, Clean, Sweep, Part, Guard, Unwind, ThrowNow, RaiseNow, SetUpNow, EnlivenNow, TakeDownNow, ForgetNow, LiveNow, ResumeNow, SuspendNow, Land, EnterNow, LeaveNow, MakeNow, BindMadeNow, MadeNow, SpawnNow, ChildNow, GoneNow, GiveUpNow, ClusterNow, ProcessorNow, ClusterEndNow, ProcessorEndNow, ConditionNow, WaitNow, SignalNow, SignalBlockNow, EmptyNow, FrontNow, YieldNow, MigrateNow, Guards, AcceptNow, FailedNow, ChooseNow, RaiseAtNow, EnableNow, DisableNow, RestoreNow, PollNow, DeliverNow, BindNow, Finish, FinishCoroutine}
 use Rattle.uc_code.specs.declared.rows.MainOf.{MainOf}
 use Rattle.uc_code.specs.declared.rows.MainOf.TheVariants as main_of
-use Rattle.uc_code.specs.Laid.{Laid}
+use Rattle.uc_code.specs.Layout.{Laid}
 use Rattle.uc_frames.specs.Machine.{Machine}
 use Rattle.uc_frames.specs.Stands.{finish_sort}
-use Rattle.uc_frames.specs.Unwound.{EndsMain}
+use Rattle.uc_frames.specs.UnwindingStands.{EndsMain}
 
 pub finish_line : (whose : MainOf) (p : Todo) (ps : List Todo) → sort p ≡ finish_sort whose → own_line (p ∷ ps) ≡ own_line ps
 finish_line whose (Eval a) ps e = refl
@@ -71,6 +71,38 @@ finish_line whose (LiveNow a) ps e = refl
 finish_line whose ResumeNow ps e = refl
 finish_line whose SuspendNow ps e = refl
 finish_line whose Land ps e = refl
+finish_line whose (EnterNow a b) ps e = refl
+finish_line whose LeaveNow ps e = refl
+finish_line whose (MakeNow a b) ps e = refl
+finish_line whose (BindMadeNow a b) ps e = refl
+finish_line whose MadeNow ps e = refl
+finish_line whose (SpawnNow a) ps e = refl
+finish_line whose (ChildNow a) ps e = refl
+finish_line whose GoneNow ps e = refl
+finish_line whose GiveUpNow ps e = refl
+finish_line whose ClusterNow ps e = refl
+finish_line whose ProcessorNow ps e = refl
+finish_line whose ClusterEndNow ps e = refl
+finish_line whose ProcessorEndNow ps e = refl
+finish_line whose (ConditionNow a b) ps e = refl
+finish_line whose WaitNow ps e = refl
+finish_line whose SignalNow ps e = refl
+finish_line whose SignalBlockNow ps e = refl
+finish_line whose EmptyNow ps e = refl
+finish_line whose FrontNow ps e = refl
+finish_line whose YieldNow ps e = refl
+finish_line whose MigrateNow ps e = refl
+finish_line whose (Guards a) ps e = refl
+finish_line whose (AcceptNow a b) ps e = refl
+finish_line whose FailedNow ps e = refl
+finish_line whose (ChooseNow a) ps e = refl
+finish_line whose RaiseAtNow ps e = refl
+finish_line whose (EnableNow a b) ps e = refl
+finish_line whose (DisableNow a b) ps e = refl
+finish_line whose (RestoreNow a) ps e = refl
+finish_line whose PollNow ps e = refl
+finish_line whose DeliverNow ps e = refl
+finish_line whose BindNow ps e = refl
 finish_line whose Finish ps e = refl
 finish_line whose FinishCoroutine ps e = refl
 

@@ -9,8 +9,8 @@ use Rattle.uc_code.specs.declared.rows.HandlerRow.{HandlerRow}
 use Rattle.uc_code.specs.declared.rows.TheConstants.{ANY_EVENT}
 use Rattle.uc_code.specs.declared.rows.Mark.{Mark}
 use Rattle.uc_code.specs.declared.rows.Mark.TheVariants as mark
-use Rattle.uc_code.specs.Laid.{Laid, guards, handlers, takes_events}
-use Rattle.uc_code.specs.Ranges.{Both, HandlerAt, Arrived, Jumped}
+use Rattle.uc_code.specs.Layout.{Laid, guards, handlers, takes_events}
+use Rattle.uc_code.specs.CodeShapes.{Both, HandlerAt, Arrived, Jumped}
 use Rattle.uc_code.specs.Lowered.{kind_of, event_of, IsNamed, handler_of, handler_rows, KeepsAt, HandlerBy, StmtsAt, HandlersAt}
 use Rattle.uc_frames.specs.declared.search.Sought.{Sought}
 use Rattle.uc_frames.specs.declared.search.Sought.TheVariants as sought

@@ -6,6 +6,7 @@ pub mod Depths
 pub mod Finishes
 pub mod Guards
 pub mod Idling
+pub mod Insides
 pub mod Keeps
 pub mod Landing
 pub mod Lists

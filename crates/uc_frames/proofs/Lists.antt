@@ -6,7 +6,7 @@ use Rattle.std.proofs.Math.ListN.{get_or-map}
 use Rattle.uc_machine.specs.Executions.{update, at_depth, set_depth, frame_changed, list_in, joined, taken, value_changed, values_cleared}
 use Rattle.uc_entry.specs.Keyed.{find}
 use Rattle.uc_machine.specs.Switches.{without}
-use Rattle.uc_frames.specs.Parts.{Numbered, Alike}
+use Rattle.uc_frames.specs.StandsByParts.{Numbered, Alike}
 
 module _ {X Y : Type 0} (P : X → Y → Type 0) where
   find_by : (b : Bool) (p : ℕ × X) (q : ℕ × Y) (x : Option X) (y : Option Y) → P p.1 q.1 → Alike P x y → Alike P (if b then Some p.1 else x) (if b then Some q.1 else y)

@@ -6,8 +6,8 @@ use Rattle.std.proofs.lemmas.List.{reverse-append, length-append, length-reverse
 use Rattle.std.proofs.lemmas.Option.{slice_get_read}
 use Rattle.uc_code.specs.declared.rows.HandlerRow.{HandlerRow}
 use Rattle.uc_code.specs.declared.rows.RowKind.TheVariants as kind
-use Rattle.uc_code.specs.Laid.{covers, counted_by, from_row, from_newest, chain}
-use Rattle.uc_code.specs.Tables.{name_or, covering_from}
+use Rattle.uc_code.specs.Layout.{covers, counted_by, from_row, from_newest, chain}
+use Rattle.uc_code.specs.RowTable.{name_or, covering_from}
 use Rattle.uc_frames.specs.declared.search.Sought.{Sought}
 use Rattle.uc_frames.specs.Searches.{is_found, is_sought, first_in, behind_row, within, counted, own_row, named, last_of, IsHandler, IsSoughtAt}
 

@@ -5,16 +5,17 @@ use Rattle.uc_machine.specs.Quiet as quiet
 use Rattle.uc_machine.specs.Quiet.{Todo, Value, DropNow, RaiseNow, ThrowNow, State, own_line}
 use Rattle.uc_machine.specs.Pieces.{Unwind}
 use Rattle.uc_machine.specs.Raising.{as_event, event_in}
+use Rattle.uc_code.specs.declared.op.Op.{Op}
 use Rattle.uc_code.specs.declared.op.Op.TheVariants as op
 use Rattle.uc_code.specs.declared.rows.Mark.{Mark}
-use Rattle.uc_code.specs.Laid.{Laid, handlers, chain}
-use Rattle.uc_code.specs.Ranges.{One, Risk, Both, Arrived}
+use Rattle.uc_code.specs.Layout.{Laid, handlers, chain}
+use Rattle.uc_code.specs.CodeShapes.{OpAt, One, Risk, Both, Arrived}
 use Rattle.uc_frames.specs.declared.event.Event.{Event}
 use Rattle.uc_frames.specs.Machine.{Active, Machine, cell_of, cell_number, top, below, line_in}
-use Rattle.uc_frames.specs.Parts.{Lined}
+use Rattle.uc_frames.specs.StandsByParts.{Lined}
 use Rattle.uc_frames.specs.Stands.{image, GoesOn, FollowsAt, CallerStands, EnvironmentStands}
 use Rattle.uc_frames.specs.Unwinding.{cleaning, event_at}
-use Rattle.uc_frames.specs.Unwound.{raised_as, Unwinds, Raises, Throws}
+use Rattle.uc_frames.specs.UnwindingStands.{raised_as, Unwinds, Raises, Throws}
 
 number_is : (v : Value) → cell_number (cell_of v) ≡ quiet.number v
 number_is (quiet.Number n) = refl
@@ -62,23 +63,29 @@ module _ (code : Laid) (m : Machine) (s : State) (rest : List Todo) (ms : List M
       ap (λ (x : Active). let y : Active = record x { control = m.run.control + 1; operands = below (below (below m.run.operands)) } in y) i
       ∙ ap (λ os. let y : Active = record (image (m.run.control + 1) s.run) { operands = os } in y) a
 
+  -- behind an op of its line, which has the handlers of the marks
+  pub raises_as : (o : Op) → s.run.control ≡ RaiseNow ∷ rest → OpAt code m.run.control o (own_line rest) → chain code.rows (m.run.control + 1) ≡ handlers ms → FollowsAt code (DropNow ∷ rest) ms (m.run.control + 1) → Raises code (behind_event m) s
+  raises_as o q h u f =
+      let n : m.run.control + 1 - 1 ≡ m.run.control = omega arith in
+      record {
+        rest = rest;
+        todo = q;
+        run = record {
+          stands = record { marks = ms; follows = f; is = image_behind (DropNow ∷ rest) };
+          line = ap (λ k. line_in (slice_get code.ops k)) n ∙ ap line_in h.here;
+          under = u;
+        };
+        callers = l;
+        env = e;
+      }
+
   pub raises_behind : (to : ℕ) → s.run.control ≡ RaiseNow ∷ rest → Both (Risk code ms op.Raise (own_line rest)) (One code op.Discard (own_line rest)) m.run.control to → FollowsAt code rest ms to → Raises code (behind_event m) s
   raises_behind to q b f =
       let r = b.first in
       let z : b.middle ≡ m.run.control + 1 = r.end in
       let d : One code op.Discard (own_line rest) (m.run.control + 1) to = subst (λ n. One code op.Discard (own_line rest) n to) z b.second in
-      let u : m.run.control + 1 - 1 ≡ m.run.control = omega arith in
-      record {
-        rest = rest;
-        todo = q;
-        run = record {
-          stands = record { marks = ms; follows = record { from = m.run.control + 1; to = to; leads = Arrived (m.run.control + 1); piece = d; on = f }; is = image_behind (DropNow ∷ rest) };
-          line = ap (λ n. line_in (slice_get code.ops n)) u ∙ ap line_in r.here.here;
-          under = subst (λ n. chain code.rows n ≡ handlers ms) z r.under;
-        };
-        callers = l;
-        env = e;
-      }
+      raises_as op.Raise q r.here (subst (λ n. chain code.rows n ≡ handlers ms) z r.under)
+      (record { from = m.run.control + 1; to = to; leads = Arrived (m.run.control + 1); piece = d; on = f })
 
   pub throws_behind : (to : ℕ) → s.run.control ≡ ThrowNow ∷ rest → Risk code ms op.Throw (own_line rest) m.run.control to → FollowsAt code rest ms to → Throws code (behind_event m) s
   throws_behind to q r f = record {

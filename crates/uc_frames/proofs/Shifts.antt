@@ -11,17 +11,17 @@ use Rattle.uc_machine.specs.declared.exec.Stage.{Stage}
 use Rattle.uc_machine.specs.declared.exec.Stage.TheVariants.{Fresh, Started, Ended}
 use Rattle.uc_entry.specs.declared.fault.RunFault.{RunFault}
 use Rattle.uc_entry.specs.declared.fault.RunFault.TheVariants.{ResumeInUse, SwitchInUnwind}
-use Rattle.uc_machine.specs.Executions.{Execution, home_eq, exec_eq, joined, members_at, slot_in, parked_at, change_in}
+use Rattle.uc_machine.specs.Executions.{Links, Execution, home_eq, exec_eq, joined, members_at, slot_in, parked_at, change_in, change}
 use Rattle.uc_entry.specs.Keyed.{find}
 use Rattle.uc_machine.specs.Raising.{home_of}
-use Rattle.uc_machine.specs.Switches.{Moved, To, Stops, or_else, woken, slot_set, set_slot, with_live, stopped, spread, switched, able_at, able_by, able, go_on, in_destruction, wake_at, wake_by, wake_one, wake, suspend, ended, finish, unwound_there, throw_at, escape, taken_down, take_down_at, take_down_by, take_down}
+use Rattle.uc_machine.specs.Switches.{Moved, To, Stops, or_else, woken, slot_set, set_slot, links_changed, stopped, spread, switched, able_at, able_by, able, go_on, in_destruction, wake_at, wake_by, wake_one, wake, suspend, ended, finish, unwound_there, throw_at, escape, taken_down, over, take_down_at, take_down_by, take_down}
 use Rattle.uc_code.specs.declared.rows.RoutineCode.{RoutineCode}
-use Rattle.uc_code.specs.Laid.{Laid}
+use Rattle.uc_code.specs.Layout.{Laid}
 use Rattle.uc_frames.specs.declared.cell.Cell.{Cell}
-use Rattle.uc_frames.specs.Keeping.{Holds, IsFresh, HasStopped, IdlesBy, Idles, IdlesAt, AllIdle, Kept, Goes, ResumesBelow, Within, Idly}
+use Rattle.uc_frames.specs.PaceInvariant.{has_begun, Holds, IsFresh, HasStopped, IdlesBy, Idles, IdlesAt, AllIdle, Kept, Goes, ResumesBelow, Within, Idly}
 use Rattle.uc_frames.specs.Machine.{Machine, Members, Cells, own_exec, resumed}
-use Rattle.uc_frames.specs.Weight.{weight, weight_of, idle_in, idle_at, idle}
-use Rattle.uc_frames.proofs.Idling.{update_out, update_more, update_each, found_each, with_live_idly}
+use Rattle.uc_frames.specs.Weight.{weight, weight_of, idle_by, idle_in, idle_at, idle}
+use Rattle.uc_frames.proofs.Idling.{update_out, update_more, update_each, found_each, over_idly}
 use Rattle.uc_frames.proofs.Keeps.{holds_moved, first_kept}
 
 abbrev Ex : Type 0
@@ -167,18 +167,31 @@ module _ (code : Laid) (routines : List RoutineCode) where
         part = suc (weight_of code.ops x);
         fits = omega arith;
         is = (omega arith, record { run = h.run; callers = h.callers });
-        begun = t;
+        begun = ap has_begun t;
         others = slot_each m.env.exec (Some z) (set_slot k None m.env) i (slot_each k None m.env tt r);
       }
 
   -- the one that stops
 
-  stopped_weight : (m : Machine) → m.env.links.stage ≡ Started → W (Some (stopped m)) ≡ weight code.ops m
+  stopped_is : (m : Machine) → weight_of code.ops (stopped m) ≡ weight code.ops m
   unfolding weight
-  stopped_weight m t = rw t refl
+  stopped_is m = refl
 
-  stopped_idles : (m : Machine) → m.env.links.stage ≡ Started → Kept code routines m → Idles code routines (Some (stopped m))
-  stopped_idles m t k = rw t (record { run = k.run; callers = k.callers })
+  stopped_by : (t : Stage) (m : Machine) → has_begun t ≡ true → idle_by code.ops t (stopped m) ≤ weight code.ops m
+  stopped_by Fresh m e = absurd (cc)
+  stopped_by Started m e = let f = stopped_is m in omega arith
+  stopped_by Ended m e = omega arith
+
+  stopped_weight : (m : Machine) → has_begun m.env.links.stage ≡ true → W (Some (stopped m)) ≤ weight code.ops m
+  stopped_weight m t = stopped_by m.env.links.stage m t
+
+  stopped_kept : (t : Stage) (m : Machine) → has_begun t ≡ true → Kept code routines m → IdlesBy code routines t (stopped m)
+  stopped_kept Fresh m e k = absurd (cc)
+  stopped_kept Started m e k = record { run = k.run; callers = k.callers }
+  stopped_kept Ended m e k = tt
+
+  stopped_idles : (m : Machine) → has_begun m.env.links.stage ≡ true → Kept code routines m → Idles code routines (Some (stopped m))
+  stopped_idles m t k = stopped_kept m.env.links.stage m t k
 
   -- what goes on holds as it did, whatever it is to be unwound for
   raised_holds : (x y : Ex) → y.callers ≡ x.callers → y.run.control ≡ x.run.control → y.run.handles ≡ x.run.handles → y.run.counts ≡ x.run.counts → HasStopped code routines x → HasStopped code routines y
@@ -345,10 +358,18 @@ module _ (code : Laid) (routines : List RoutineCode) where
   unfolding weight
   goes_as_it_is v m e g = (g.0, record { run = g.1.run; callers = g.1.callers })
 
-  live_no_more : (k : Exec) (m n : Machine) (w : ℕ) → Within code routines (Goes code routines) w m → (let x : Moved ℕ Cell = To (record m { env = with_live false k m.env }) in x ≡ To n) → Within code routines (Goes code routines) w n
-  live_no_more k m n w u e =
-      subst (Within code routines (Goes code routines) w) (same_to e)
-      (within_idly (Goes code routines) (Goes code routines) w m (record m { env = with_live false k m.env }) (with_live_idly code routines false k m.env) (λ v g. goes_as_it_is v m (with_live false k m.env) g) u)
+  abbrev ends : Links → Links
+  ends l = record l { live = false; stage = Ended }
+
+  over_by : (b : Bool) (k : Exec) (m : Machine) (w : ℕ) → Within code routines (Goes code routines) w m → Within code routines (Goes code routines) w (record m { env = if b then record m.env { links = ends m.env.links } else change k.home (links_changed ends k.serial) m.env })
+  over_by true k m w u =
+      record { part = u.part; fits = u.fits; is = goes_as_it_is u.part m (record m.env { links = ends m.env.links }) u.is; begun = refl; others = u.others }
+  over_by false k m w u =
+      let e : Cells = change k.home (links_changed ends k.serial) m.env in
+      within_idly (Goes code routines) (Goes code routines) w m (record m { env = e }) (over_idly code routines k m.env) (λ v g. goes_as_it_is v m e g) u
+
+  live_no_more : (k : Exec) (m n : Machine) (w : ℕ) → Within code routines (Goes code routines) w m → (let x : Moved ℕ Cell = To (over k m) in x ≡ To n) → Within code routines (Goes code routines) w n
+  live_no_more k m n w u e = subst (Within code routines (Goes code routines) w) (same_to e) (over_by (exec_eq k m.env.exec) k m w u)
 
   to_take_down : (t : Stage) (k : Exec) (x : Ex) (m n : Machine) (w : ℕ) → x.links.stage ≡ t → parked_at k m.env ≡ Some x → Within code routines (Goes code routines) w m → take_down_at t k x m ≡ To n → Within code routines (Goes code routines) w n
   to_take_down Fresh k x m n w s f u e = live_no_more k m n w u e

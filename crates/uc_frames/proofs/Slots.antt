@@ -1,10 +1,10 @@
 -- Executions that are left at a home, changed, exchanged, or no more.
-use Rattle.std.proofs.Common.{◌≡◌, ℕ, List, Bool, Option, Some, None, sym, ap, ◌∙◌, get_or}
+use Rattle.std.proofs.Common.{◌≡◌, ℕ, List, Option, Some, None, sym, ap, ◌∙◌, get_or}
 use Rattle.std.specs.Prelude.{slice_set}
 use Rattle.uc_machine.specs.declared.exec.Home.TheVariants.{Object}
-use Rattle.uc_machine.specs.Executions.{Execution, joined, update, change_in, change, frames_by, frames_changed}
+use Rattle.uc_machine.specs.Executions.{Links, Execution, joined, update, change_in, change, frames_by, frames_changed}
 use Rattle.uc_entry.specs.Keyed.{find}
-use Rattle.uc_machine.specs.Switches.{slot_set, slot_gone, live_by, live_changed}
+use Rattle.uc_machine.specs.Switches.{slot_set, slot_gone, links_by, links_changed}
 use Rattle.uc_frames.specs.declared.cell.Cell.{Cell}
 use Rattle.uc_frames.specs.Machine.{Machine, Members, with_hand}
 use Rattle.uc_frames.specs.Numbered.{IsAt}
@@ -23,8 +23,8 @@ module _ (k : ℕ) (m : Members) where
   pub gone_none : find k m.parked ≡ None → m ≡ slot_gone k m
   gone_none e = with_parked m _ _ (sym (without_none k m.parked e))
 
-  pub live_absent : (b : Bool) → find k m.parked ≡ None → m ≡ live_changed b k m
-  live_absent b e = sym (ap (λ x. live_by b k (joined x) m) e)
+  pub links_absent : (g : Links → Links) → find k m.parked ≡ None → m ≡ links_changed g k m
+  links_absent g e = sym (ap (λ x. links_by g k (joined x) m) e)
 
   module _ (i : ℕ) (h : IsAt k m.parked i) (p : ℕ × Slot) (e : p ≡ get_or m.parked i p) where
     pub slot_there : (x y : Slot) → x ≡ y → (let r : Members = record m { parked = slice_set m.parked i (p.0, x) } in r) ≡ slot_set k y m
@@ -33,12 +33,12 @@ module _ (k : ℕ) (m : Members) where
     pub joined_there : joined (find k m.parked) ≡ p.1
     joined_there = joined_is k m.parked i h p e
 
-    pub live_none : (b : Bool) → p.1 ≡ None → (let r : Members = record m { parked = slice_set m.parked i (p.0, p.1) } in r) ≡ live_changed b k m
-    live_none b q =
-        with_parked m _ _ (set_same m.parked i p e h.within) ∙ sym (ap (λ x. live_by b k x m) (joined_there ∙ q))
+    pub links_none : (g : Links → Links) → p.1 ≡ None → (let r : Members = record m { parked = slice_set m.parked i (p.0, p.1) } in r) ≡ links_changed g k m
+    links_none g q =
+        with_parked m _ _ (set_same m.parked i p e h.within) ∙ sym (ap (λ x. links_by g k x m) (joined_there ∙ q))
 
-    pub live_there : (b : Bool) (x y : Execution ℕ Cell) → p.1 ≡ Some x → y ≡ record x { links = record x.links { live = b } } → (let r : Members = record m { parked = slice_set m.parked i (p.0, Some y) } in r) ≡ live_changed b k m
-    live_there b x y q s = slot_there (Some y) (Some (record x { links = record x.links { live = b } })) (ap Some s) ∙ sym (ap (λ z. live_by b k z m) (joined_there ∙ q))
+    pub links_there : (g : Links → Links) (x y : Execution ℕ Cell) → p.1 ≡ Some x → y ≡ record x { links = g x.links } → (let r : Members = record m { parked = slice_set m.parked i (p.0, Some y) } in r) ≡ links_changed g k m
+    links_there g x y q s = slot_there (Some y) (Some (record x { links = g x.links })) (ap Some s) ∙ sym (ap (λ z. links_by g k z m) (joined_there ∙ q))
 
     pub frames_none : (g : List (List Cell) → List (List Cell)) → p.1 ≡ None → (let r : Members = record m { parked = slice_set m.parked i (p.0, p.1) } in r) ≡ frames_changed k g m
     frames_none g q =

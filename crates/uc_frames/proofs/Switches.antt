@@ -8,10 +8,10 @@ use Rattle.uc_machine.specs.declared.exec.Reason.TheVariants as reason
 use Rattle.uc_machine.specs.declared.exec.Stage.{Stage}
 use Rattle.uc_machine.specs.declared.exec.Stage.TheVariants.{Fresh, Started, Ended}
 use Rattle.uc_machine.specs.Executions.{Links, Activation, Execution, Members, Env, State, exec_eq}
-use Rattle.uc_machine.specs.Switches.{Moved, or_else, woken, live_in, live_at, is_live, live_by, live_changed, with_live, enlivened, set_slot, stopped, switched, able_at, able_by, able, go_on, in_destruction, wake_at, wake_by, wake_one, wake, suspend, ended, finish, unwound_there, throw_at, escape, taken_down, take_down_at, take_down_by, take_down}
-use Rattle.uc_frames.specs.Parts.{Lined, Alike, Unless, ExecutionStands, MembersStand, EnvStands, StateStands, MovedStand}
+use Rattle.uc_machine.specs.Switches.{Moved, or_else, woken, live_in, live_at, is_live, links_by, links_changed, with_links, enlivened, set_slot, stopped, switched, able_at, able_by, able, go_on, in_destruction, wake_at, wake_by, wake_one, wake, suspend, ended, finish, unwound_there, throw_at, escape, taken_down, over, take_down_at, take_down_by, take_down}
+use Rattle.uc_frames.specs.StandsByParts.{Lined, Alike, Unless, ExecutionStands, MembersStand, EnvStands, StateStands, MovedStand}
 use Rattle.uc_frames.proofs.Lists.{find_both, joined_both}
-use Rattle.uc_frames.proofs.Changes.{parked_both, change_both, slot_set_both, set_slot_both}
+use Rattle.uc_frames.proofs.Changes.{env_by, parked_both, change_both, slot_set_both, set_slot_both}
 
 module _ {A B V W : Type 0} (R K : Activation A V → Activation B W → Type 0) (f : W → V) where
   abbrev Ex : Execution A V → Execution B W → Type 0
@@ -153,24 +153,40 @@ module _ {A B V W : Type 0} (R K : Activation A V → Activation B W → Type 0)
   taken_down_both m s h e =
       go_both _ _ (ended m) (ended s) (able_both _ _ m.env s.env (ap (λ (l : Links). l.destroyer) e.links) e) (ended_both m s h e) (ended_env m s e)
 
-  -- a coroutine is live, or is not
-  lively_both : (b : Bool) (x : Execution A V) (y : Execution B W) → Ex x y → Ex (record x { links = record x.links { live = b } }) (record y { links = record y.links { live = b } })
-  lively_both b x y q = record { run = q.run; callers = q.callers; frames = q.frames; links = ap (λ (l : Links). record l { live = b }) q.links }
+  -- other links of an execution that does not run, at which nothing goes on that did not before
+  pub record Quieter (g : Links → Links) : Type 0 where
+    pub stage : (l : Links) (x : Activation A V) (y : Activation B W) → Unless l.stage (R x y) → Unless (g l).stage (R x y)
 
-  live_by_both : (b : Bool) (k : ℕ) (x : Option (Execution A V)) (y : Option (Execution B W)) → Alike Ex x y → (c : Members A V) (d : Members B W) → Me c d → Me (live_by b k x c) (live_by b k y d)
-  live_by_both b k None None q c d e = e
-  live_by_both b k None (Some y) q c d e = absurd q
-  live_by_both b k (Some x) None q c d e = absurd q
-  live_by_both b k (Some x) (Some y) q c d e = slot_set_both R K f k _ _ (lively_both b x y q) c d e
+  linked_both : (g : Links → Links) → Quieter g → (x : Execution A V) (y : Execution B W) → Ex x y → Ex (record x { links = g x.links }) (record y { links = g y.links })
+  linked_both g c x y q = record { run = c.stage y.links x.run y.run q.run; callers = q.callers; frames = q.frames; links = ap g q.links }
 
-  live_both : (b : Bool) (n : Exec) (m : Env A V) (s : Env B W) → En m s → En (with_live b n m) (with_live b n s)
-  live_both b n m s e =
-      change_both R K f n.home (live_changed b n.serial) (live_changed b n.serial) m s
-      (λ c d h. live_by_both b n.serial _ _ (joined_both Ex _ _ (find_both (Alike Ex) n.serial c.parked d.parked h.parked)) c d h) e
+  links_by_both : (g : Links → Links) → Quieter g → (k : ℕ) (x : Option (Execution A V)) (y : Option (Execution B W)) → Alike Ex x y → (c : Members A V) (d : Members B W) → Me c d → Me (links_by g k x c) (links_by g k y d)
+  links_by_both g h k None None q c d e = e
+  links_by_both g h k None (Some y) q c d e = absurd q
+  links_by_both g h k (Some x) None q c d e = absurd q
+  links_by_both g h k (Some x) (Some y) q c d e = slot_set_both R K f k _ _ (linked_both g h x y q) c d e
+
+  links_both : (g : Links → Links) → Quieter g → (n : Exec) (m : Env A V) (s : Env B W) → En m s → En (with_links g n m) (with_links g n s)
+  links_both g h n m s e =
+      env_by R K f (exec_eq n m.exec) (exec_eq n s.exec) _ _ _ _ (ap (exec_eq n) e.exec)
+      (record { frames = e.frames; links = ap g e.links; exec = e.exec; own = e.own; house = e.house; depths = e.depths; hand = e.hand; gathered = e.gathered })
+      (change_both R K f n.home (links_changed g n.serial) (links_changed g n.serial) m s
+      (λ c d i. links_by_both g h n.serial _ _ (joined_both Ex _ _ (find_both (Alike Ex) n.serial c.parked d.parked i.parked)) c d i) e)
+
+  -- a coroutine is live; or its main does not begin, or go on, any more
+
+  lives : Quieter (λ l. record l { live = true })
+  lives = record { stage = λ l x y p. p }
+
+  is_over : Quieter (λ l. record l { live = false; stage = Ended })
+  is_over = record { stage = λ l x y p. tt }
+
+  over_both : (n : Exec) (m : State A V) (s : State B W) → St m s → St (over n m) (over n s)
+  over_both n m s h = record { run = h.run; callers = h.callers; env = links_both (λ l. record l { live = false; stage = Ended }) is_over n m.env s.env h.env }
 
   enlivened_same : (o : Option Exec) (m : Env A V) (s : Env B W) → En m s → En (enlivened o m) (enlivened o s)
   enlivened_same None m s e = e
-  enlivened_same (Some n) m s e = live_both true n m s e
+  enlivened_same (Some n) m s e = links_both (λ l. record l { live = true }) lives n m s e
 
   pub enlivened_both : (o p : Option Exec) (m : Env A V) (s : Env B W) → o ≡ p → En m s → En (enlivened o m) (enlivened p s)
   enlivened_both o p m s q e = subst (λ r. En (enlivened o m) (enlivened r s)) q (enlivened_same o m s e)
@@ -204,14 +220,14 @@ module _ {A B V W : Type 0} (R K : Activation A V → Activation B W → Type 0)
     unwinding_there n y = unwound_there reason.Destroyed (record y { links = record y.links { live = false; destroyer = Some n } })
 
     take_down_stage : (t : Stage) (n : Exec) (x : Execution A V) (y : Execution B W) (m : State A V) (s : State B W) → Unless t (R x.run y.run) → Ex x y → St m s → Mo (take_down_at t n x m) (take_down_at t n y s)
-    take_down_stage Fresh n x y m s u q h = record { run = h.run; callers = h.callers; env = live_both false n m.env s.env h.env }
+    take_down_stage Fresh n x y m s u q h = over_both n m s h
     take_down_stage Started n x y m s u q h =
         let r : R (record x.run { raised = Some reason.Destroyed }) (record y.run { raised = Some reason.Destroyed }) = raises x.run y.run (Some reason.Destroyed) u in
         let l : record x.links { live = false; destroyer = Some m.env.exec } ≡ record y.links { live = false; destroyer = Some s.env.exec } =
         ap (λ k. record x.links { live = false; destroyer = Some k }) h.env.exec ∙ ap (λ (g : Links). record g { live = false; destroyer = Some s.env.exec }) q.links in
         switched_both n (unwinding m.env.exec x) (unwinding_there s.env.exec y) m s (stopped_both m s h) r
         (record { run = unless_of y.links.stage (R (record x.run { raised = Some reason.Destroyed }) (record y.run { raised = Some reason.Destroyed })) r; callers = q.callers; frames = q.frames; links = l }) h.env
-    take_down_stage Ended n x y m s u q h = record { run = h.run; callers = h.callers; env = live_both false n m.env s.env h.env }
+    take_down_stage Ended n x y m s u q h = over_both n m s h
 
     take_down_in : (n : Exec) (a : Option (Execution A V)) (b : Option (Execution B W)) (m : State A V) (s : State B W) → Alike Ex a b → St m s → Mo (take_down_by n a m) (take_down_by n b s)
     take_down_in n None None m s q h = h

@@ -1,14 +1,16 @@
 // An activation of a routine or a handler.
 
-ghost use Rattle.std.specs.Prelude.{◌≡◌, ◌∷◌, ◌-◌, ◌+◌, ◌≤◌, [], Some, drop, reverse, OnOk, OnErr, IfOk, replicate, vec_len, vec_capacity};
+ghost use Rattle.std.specs.Prelude.{◌≡◌, ◌∷◌, ◌-◌, ◌+◌, ◌≤◌, ◌++◌, [], Some, drop, reverse, OnOk, OnErr, IfOk, replicate, vec_len, vec_capacity};
 ghost use Rattle.uc_machine.specs.Executions.{begun, taken, calmed};
 ghost use Rattle.uc_frames.specs.Machine.{top, below, nought};
-ghost use Rattle.uc_frames.specs.Left.{call_frame, waiting};
-ghost use Rattle.uc_frames.specs.Unwinding.{event_at, unwound_by, cleaning, catching, handler_of};
+ghost use Rattle.uc_frames.specs.Calls.{call_frame, waiting};
+ghost use Rattle.uc_frames.specs.Unwinding.{event_at, unwound_by, cleaning, catching, handler_of, operands_of};
 
 use crate::cell::{Cell, number_in};
 use crate::event::{Event, Handling, event_number};
-use crate::operands::{drop_newest, event_operands, new_frame, put_event, put_on_top, put_on_two};
+use crate::operands::{
+    drop_newest, event_operands, new_frame, push_event, put_event, put_on_top, put_on_two,
+};
 use std::alloc::AllocError;
 use std::marker::Model;
 use uc_code::rows::RoutineCode;
@@ -197,6 +199,25 @@ impl Active {
         ensures err { OnErr result (self.new ≡ self.old) }
     {
         self.operands.push(cell)?;
+        Ok(())
+    }
+
+    /// These operands are the newest, the last one on top.
+    pub fn push_all(&mut self, cells: &[Cell]) -> Result<(), AllocError>
+        ensures ok { OnOk result (self.new ≡ record self.old { operands = reverse cells.now ++ self.old.operands }) }
+        ensures err { OnErr result (self.new ≡ self.old) }
+    {
+        self.operands.extend_from_slice(cells)?;
+        Ok(())
+    }
+
+    /// An event is the newest operands: its number and its fields, the last one on top.
+    pub fn push_event(&mut self, event: Event) -> Result<(), AllocError>
+        ensures ok { OnOk result (self.new ≡ record self.old { operands = operands_of event ++ self.old.operands }) }
+        ensures err { OnErr result (self.new ≡ self.old) }
+    {
+        self.operands.reserve(3)?;
+        push_event(&mut self.operands, event);
         Ok(())
     }
 

@@ -41,7 +41,7 @@ pub fn exec_in(cell: Cell) -> Option<Exec>
     }
 }
 
-/// The place so many cells on, at most the last address; nothing where the cell is no place.
+/// The place so many cells on, at most the last address; in a mutex object that of its fields. Nothing where the cell is no place.
 pub fn further_on(by: u64, cell: Cell) -> Cell
     ensures { result ≡ shifted by cell }
 {
@@ -49,7 +49,7 @@ pub fn further_on(by: u64, cell: Cell) -> Cell
         Cell::Number(_) => Cell::Nothing,
         Cell::Place(owner, at) => Cell::Place(owner, at.saturating_add(by)),
         Cell::Running(_) => Cell::Nothing,
-        Cell::Object(_) => Cell::Nothing,
+        Cell::Object(object) => Cell::Place(Owner::Fields(object), by),
         Cell::Nothing => Cell::Nothing,
     }
 }

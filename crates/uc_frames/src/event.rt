@@ -2,10 +2,10 @@
 
 ghost use Rattle.std.specs.Prelude.{◌≡◌};
 ghost use Rattle.uc_frames.specs.Machine.{cell_number};
-ghost use Rattle.uc_frames.specs.Unwinding.{byte_of};
+ghost use Rattle.uc_frames.specs.Unwinding.{byte_of, pending_event};
 
 use crate::cell::{Cell, number_in};
-use uc_machine::exec::Visited;
+use uc_machine::exec::{Pending, Visited};
 
 /// An event by its number, with its fields.
 #[derive(Clone, Copy, PartialEq, Eq, Debug)]
@@ -24,6 +24,17 @@ pub struct Handling {
     pub frame: u32,
     pub visited: Visited,
     pub event: Event,
+}
+
+// A pending event.
+pub(crate) fn event_of(pending: Pending) -> Event
+    ensures { result ≡ pending_event pending }
+{
+    Event {
+        number: pending.event,
+        x: pending.x,
+        y: pending.y,
+    }
 }
 
 // The number of an event in a cell; 0 where it holds none.

@@ -4,6 +4,7 @@
 pub mod active;
 pub mod call;
 pub mod cell;
+mod coroutines;
 pub mod event;
 mod frames;
 pub mod links;

@@ -1,14 +1,19 @@
 // What travels with an execution besides its stack.
 
-ghost use Rattle.std.specs.Prelude.{◌≡◌, ◌<◌, None, Some, true, false};
+ghost use Rattle.std.specs.Prelude.{◌≡◌, ◌<◌, ◌+◌, nat_lt, None, Some, true, false};
 ghost use Rattle.uc_machine.specs.Executions.{no_links, one_call_more, one_call_less};
 ghost use Rattle.uc_machine.specs.Switches.{fresh_links, woken};
 ghost use Rattle.uc_machine.specs.declared.exec.Stage.TheVariants.{Ended};
 ghost use Rattle.uc_tree.specs.declared.limits.TheConstants.{CALLS};
+ghost use Rattle.uc_tree.specs.SiteOffers.{has_bit};
+ghost use Rattle.uc_entry.specs.Keyed.{drop_first};
+ghost use Rattle.uc_machine.specs.Insides.{oldest_enabled};
+ghost use Rattle.uc_frames.specs.Machine.{lively};
 
 use std::alloc::Global;
 use std::marker::Model;
 use uc_machine::exec::{Exec, Pending, Stage};
+use uc_tree::limits::EVENTS;
 
 /// Who resumed an execution first and last, whether its coroutine is live, how far its main is, who destroys it, its enabled and pending events, and its counts.
 #[derive(Drop)]
@@ -115,11 +120,14 @@ impl Links {
         self.destroyer = None;
     }
 
-    /// Its coroutine is live, or is not.
+    /// Its coroutine is live; or it is no more, and its main does not begin, or go on, any more.
     pub fn set_live(&mut self, live: bool)
-        ensures { self.new ≡ record self.old { live = live } }
+        ensures { self.new ≡ lively live self.old }
     {
         self.live = live;
+        if !live {
+            self.stage = Stage::Ended;
+        }
     }
 
     /// Its coroutine is destroyed by another: it is live no more.
@@ -128,6 +136,40 @@ impl Links {
     {
         self.live = false;
         self.destroyer = Some(by);
+    }
+
+    /// Whether it has a mutex call that has not ended, or builds a mutex object.
+    pub fn is_engaged(&self) -> bool
+        ensures { result ≡ nat_lt 0 (self.now.mutex_calls + self.now.builds) }
+    {
+        0 < self.mutex_calls || 0 < self.builds
+    }
+
+    /// The enabled events, by their numbers as bits.
+    pub fn enabled(&self) -> u64
+        ensures { result ≡ self.now.enabled }
+    {
+        self.enabled
+    }
+
+    /// The oldest pending event that is enabled, if there is one.
+    pub fn oldest_enabled(&self) -> Option<Pending>
+        ensures { result ≡ oldest_enabled self.now }
+    {
+        for at in 0..self.pending.len() {
+            let event = self.pending[at];
+            if has_event(self.enabled, event.event) {
+                return Some(event);
+            }
+        }
+        None
+    }
+
+    /// The oldest pending event that is enabled goes, if there is one.
+    pub fn drop_oldest(&mut self)
+        ensures { self.new ≡ record self.old { pending = drop_first (λ p. has_bit p.event self.old.enabled) self.old.pending } }
+    {
+        drop_enabled(&mut self.pending, self.enabled);
     }
 
     /// How many calls are active.
@@ -155,4 +197,23 @@ impl Links {
             self.calls = self.calls.saturating_sub(1);
         }
     }
+}
+
+// The oldest of these that a mask has goes.
+fn drop_enabled(pending: &mut Vec<Pending>, mask: u64)
+    ensures { pending.new.items ≡ drop_first (λ p. has_bit p.event mask) pending.old.items }
+{
+    for at in 0..pending.len() {
+        if has_event(mask, pending[at].event) {
+            let _ = pending.remove(at);
+            return;
+        }
+    }
+}
+
+// Whether a mask has an event.
+fn has_event(mask: u64, event: u8) -> bool
+    ensures { result ≡ has_bit event mask }
+{
+    event < EVENTS && (mask >> event) % 2 == 1
 }

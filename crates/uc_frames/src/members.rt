@@ -3,8 +3,10 @@
 ghost use Rattle.std.specs.Prelude.{◌≡◌, [], ◌∷◌, replicate, None, Some, IfOk, OnOk, OnErr, MatchOption, slice_index_or};
 ghost use Rattle.uc_machine.specs.Executions.{joined, frame_changed, frames_changed};
 ghost use Rattle.uc_entry.specs.Keyed.{find};
-ghost use Rattle.uc_machine.specs.Switches.{one_more, slot_set, slot_gone, live_changed};
-ghost use Rattle.uc_frames.specs.Machine.{nought, cell_written};
+ghost use Rattle.std.specs.List.{list_any};
+ghost use Rattle.uc_machine.specs.Insides.{is_engaged};
+ghost use Rattle.uc_machine.specs.Switches.{one_more, slot_set, slot_gone, links_changed};
+ghost use Rattle.uc_frames.specs.Machine.{nought, cell_written, lively};
 
 use crate::cell::Cell;
 use crate::frames::{get, put, zeros};
@@ -97,6 +99,18 @@ impl Members {
         }
     }
 
+    /// Whether an execution that is left here and does not run has a mutex call that has not ended, or builds a mutex object.
+    pub fn has_engaged(&self) -> bool
+        ensures { result ≡ list_any (λ p. is_engaged p.1) self.now.parked }
+    {
+        for at in 0..self.parked.len() {
+            if is_engaged(&self.parked.get(at).1) {
+                return true;
+            }
+        }
+        false
+    }
+
     /// How many executions were made here; so the next one is numbered.
     pub fn serial(&self) -> u64
         ensures { result ≡ self.now.serial }
@@ -104,14 +118,17 @@ impl Members {
         self.serial
     }
 
-    /// One more execution is left here.
+    /// One more execution is left here. A home at which `u64::MAX` were made has no more.
     pub fn add(&mut self, stack: Parked) -> Result<(), AllocError>
         ensures ok { OnOk result (self.new ≡ one_more stack self.old) }
         ensures err { OnErr result (self.new ≡ self.old) }
     {
+        if self.serial == u64::MAX {
+            return Err(AllocError);
+        }
         self.parked.room()?;
         self.parked.push((self.serial, Some(stack)));
-        self.serial = self.serial.saturating_add(1);
+        self.serial += 1;
         Ok(())
     }
 
@@ -139,9 +156,10 @@ impl Members {
         }
     }
 
-    /// The coroutine of that execution is live, or is not, if it is left and does not run.
+    /// The coroutine of that execution is live; or it is no more, and its main does not begin, or go on, any more. An execution that is not
+    /// left, or runs, stays.
     pub fn set_live(&mut self, serial: u64, live: bool)
-        ensures { self.new ≡ live_changed live serial self.old }
+        ensures { self.new ≡ links_changed (lively live) serial self.old }
     {
         if let Some(i) = position_in_order(&self.parked, serial) {
             let slot = self.parked.get_mut(i);
@@ -149,5 +167,14 @@ impl Members {
                 stack.set_live(live);
             }
         }
+    }
+}
+
+fn is_engaged(slot: &Option<Parked>) -> bool
+    ensures { result ≡ is_engaged slot.now }
+{
+    match slot {
+        None => false,
+        Some(stack) => stack.links().is_engaged(),
     }
 }

@@ -1,9 +1,9 @@
 // Operands, the newest last.
 
-ghost use Rattle.std.specs.Prelude.{◌≡◌, ◌∷◌, ◌-◌, ◌≤◌, [], drop, reverse, replicate, OnOk, OnErr, IfOk, vec_capacity};
+ghost use Rattle.std.specs.Prelude.{◌≡◌, ◌∷◌, ◌-◌, ◌+◌, ◌≤◌, ◌++◌, [], length, drop, reverse, replicate, OnOk, OnErr, IfOk, vec_capacity};
 ghost use Rattle.uc_machine.specs.Executions.{taken};
 ghost use Rattle.uc_frames.specs.Machine.{below, nought};
-ghost use Rattle.uc_frames.specs.Left.{call_frame};
+ghost use Rattle.uc_frames.specs.Calls.{call_frame};
 ghost use Rattle.uc_frames.specs.Unwinding.{operands_of};
 
 use crate::cell::Cell;
@@ -87,10 +87,10 @@ pub(crate) fn event_operands(empty: Vec<Cell>, event: Event) -> Vec<Cell>
     operands
 }
 
-fn push_event(operands: &mut Vec<Cell>, event: Event)
-    requires empty { operands.old.items ≡ [] }
-    requires room { 3 ≤ vec_capacity operands.old }
-    ensures { reverse operands.new.items ≡ operands_of event }
+// An event on top of the operands, where there is room for it.
+pub(crate) fn push_event(operands: &mut Vec<Cell>, event: Event)
+    requires { length operands.old.items + 3 ≤ vec_capacity operands.old }
+    ensures { reverse operands.new.items ≡ operands_of event ++ reverse operands.old.items }
 {
     operands.push_reserved(Cell::Number(event.number as i64));
     operands.push_reserved(Cell::Number(event.x));

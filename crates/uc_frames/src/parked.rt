@@ -4,15 +4,16 @@ ghost use Rattle.std.specs.Prelude.{◌≡◌, Some, IfOk, slice_index_or, false
 ghost use Rattle.uc_machine.specs.Executions.{at_depth, list_in, frame_changed};
 ghost use Rattle.uc_machine.specs.Switches.{woken, unwound_there};
 ghost use Rattle.uc_machine.specs.declared.exec.Reason.TheVariants as reason;
-ghost use Rattle.uc_frames.specs.Machine.{nought, cell_written, fresh_execution};
+ghost use Rattle.uc_frames.specs.Machine.{nought, cell_written, fresh_execution, lively};
 
 use crate::cell::Cell;
+use crate::links::Links;
 use crate::stack::Stack;
 use std::alloc::{AllocError, Global};
 use std::marker::Model;
 use std::mem;
 use uc_code::rows::RoutineCode;
-use uc_machine::exec::{Exec, Reason, Stage};
+use uc_machine::exec::{Exec, Reason};
 
 /// A stack in a place of its own, so that it is handed on without being moved. Contracts see the stack.
 #[derive(Drop)]
@@ -49,18 +50,11 @@ impl Parked {
         mem::swap(stack, running);
     }
 
-    /// Whether its coroutine is live.
-    pub fn is_live(&self) -> bool
-        ensures { result ≡ self.now.links.live }
+    /// What travels with it besides its activations and its frames.
+    pub fn links(&self) -> &Links
+        ensures { result.now ≡ self.now.links }
     {
-        self.stack.is_live()
-    }
-
-    /// How far its main is.
-    pub fn stage(&self) -> Stage
-        ensures { result ≡ self.now.links.stage }
-    {
-        self.stack.stage()
+        self.stack.links()
     }
 
     /// It is resumed by another.
@@ -70,9 +64,9 @@ impl Parked {
         self.stack.wake(by);
     }
 
-    /// Its coroutine is live, or is not.
+    /// Its coroutine is live; or it is no more, and its main does not begin, or go on, any more.
     pub fn set_live(&mut self, live: bool)
-        ensures { self.new ≡ record self.old { links = record self.old.links { live = live } } }
+        ensures { self.new ≡ record self.old { links = lively live self.old.links } }
     {
         self.stack.set_live(live);
     }

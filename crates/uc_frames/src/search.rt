@@ -1,7 +1,7 @@
 // Searches among the handlers of an op, from the innermost one outwards.
 
 ghost use Rattle.std.specs.Prelude.{◌≡◌, ◌≤◌, ◌<◌, ◌-◌, ◌^◌, ◌++◌, [], Some, length, MatchOption};
-ghost use Rattle.uc_code.specs.Laid.{chain};
+ghost use Rattle.uc_code.specs.Layout.{chain};
 ghost use Rattle.uc_frames.specs.Searches.{catches as catches_by, resumes as resumes_by, cleans as cleans_by, is_named as is_named_by, is_sought, row_takes, behind_row, first_in, own_row, named, last_of, chain_within, IsHandler, IsSoughtAt};
 
 use uc_code::code::Code;

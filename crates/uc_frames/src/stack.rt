@@ -1,10 +1,12 @@
 // The stack of one execution.
 
-ghost use Rattle.std.specs.Prelude.{◌≡◌, ◌∷◌, ◌-◌, ◌<◌, [], length, drop, replicate, reverse, nat_lt, None, Some, IfOk, OnOk, OnErr, MatchOption, vec_len, slice_get, slice_index_or, true, false};
+ghost use Rattle.std.specs.Prelude.{◌≡◌, ◌∷◌, ◌++◌, ◌-◌, ◌<◌, [], length, drop, replicate, reverse, nat_lt, None, Some, IfOk, OnOk, OnErr, MatchOption, vec_len, slice_get, slice_index_or, true, false};
 ghost use Rattle.uc_machine.specs.Executions.{at_depth, list_in, frame_changed, values_cleared, one_call_less, calmed};
-ghost use Rattle.uc_frames.specs.Machine.{nought, top, below, cell_written, first_execution, fresh_execution, line_in, line_at};
-ghost use Rattle.uc_frames.specs.Left.{stack_left, stack_entered};
-ghost use Rattle.uc_frames.specs.Unwinding.{IsCaller, event_at, unwound_by, cleaning, catching, stack_passed, stack_handled};
+ghost use Rattle.uc_frames.specs.Machine.{nought, top, below, cell_written, first_execution, fresh_execution, lively, line_in, line_at};
+ghost use Rattle.uc_frames.specs.Calls.{stack_left, stack_entered};
+ghost use Rattle.uc_frames.specs.Unwinding.{IsCaller, event_at, unwound_by, cleaning, catching, stack_passed, stack_handled, stack_delivered};
+ghost use Rattle.std.specs.Option.{is_some};
+ghost use Rattle.uc_machine.specs.Insides.{oldest_enabled};
 ghost use Rattle.uc_machine.specs.Switches.{woken, unwound_there};
 ghost use Rattle.uc_machine.specs.declared.exec.Reason.TheVariants as reason;
 ghost use Rattle.uc_machine.specs.declared.exec.Stage.TheVariants.{Ended};
@@ -13,7 +15,7 @@ ghost use Rattle.uc_tree.specs.declared.limits.TheConstants.{CALLS};
 use crate::active::Active;
 use crate::call::Call;
 use crate::cell::Cell;
-use crate::event::{Event, Handling};
+use crate::event::{Event, Handling, event_of};
 use crate::frames::{clear_in, get_in, put_in, zeros};
 use crate::links::Links;
 use std::alloc::{AllocError, Global};
@@ -21,7 +23,7 @@ use std::marker::Model;
 use std::mem;
 use uc_code::code::Code;
 use uc_code::rows::RoutineCode;
-use uc_machine::exec::{Exec, Reason, Stage, Visited};
+use uc_machine::exec::{Exec, Reason, Visited};
 
 /// An execution: its newest activation, those that wait for it, its frames and its links. The lists of calls that have ended
 /// are kept, so that a call takes memory only where no call before it left enough.
@@ -74,39 +76,11 @@ impl Stack {
         Ok(stack)
     }
 
-    /// Who resumed it first, if any did.
-    pub fn starter(&self) -> Option<Exec>
-        ensures { result ≡ self.now.links.starter }
+    /// What travels with it besides its activations and its frames.
+    pub fn links(&self) -> &Links
+        ensures { result.now ≡ self.now.links }
     {
-        self.links.starter()
-    }
-
-    /// Who resumed it last, if any did.
-    pub fn resumer(&self) -> Option<Exec>
-        ensures { result ≡ self.now.links.resumer }
-    {
-        self.links.resumer()
-    }
-
-    /// Whether its coroutine is live.
-    pub fn is_live(&self) -> bool
-        ensures { result ≡ self.now.links.live }
-    {
-        self.links.is_live()
-    }
-
-    /// How far its main is.
-    pub fn stage(&self) -> Stage
-        ensures { result ≡ self.now.links.stage }
-    {
-        self.links.stage()
-    }
-
-    /// Who destroys its coroutine, while it is unwound for that.
-    pub fn destroyer(&self) -> Option<Exec>
-        ensures { result ≡ self.now.links.destroyer }
-    {
-        self.links.destroyer()
+        &self.links
     }
 
     /// It is resumed by another.
@@ -123,9 +97,9 @@ impl Stack {
         self.links.end();
     }
 
-    /// Its coroutine is live, or is not.
+    /// Its coroutine is live; or it is no more, and its main does not begin, or go on, any more.
     pub fn set_live(&mut self, live: bool)
-        ensures { self.new ≡ record self.old { links = record self.old.links { live = live } } }
+        ensures { self.new ≡ record self.old { links = lively live self.old.links } }
     {
         self.links.set_live(live);
     }
@@ -164,13 +138,6 @@ impl Stack {
         ensures { result ≡ nat_lt 0 (length self.now.callers) }
     {
         0 < self.callers.len()
-    }
-
-    /// How many calls are active.
-    pub fn calls(&self) -> u32
-        ensures { result ≡ self.now.links.calls }
-    {
-        self.links.calls()
     }
 
     /// How many activations wait for the newest one.
@@ -312,6 +279,32 @@ impl Stack {
     {
         self.running.push(cell)?;
         Ok(())
+    }
+
+    /// These operands are the newest, the last one on top.
+    pub fn push_all(&mut self, cells: &[Cell]) -> Result<(), AllocError>
+        ensures ok { OnOk result (self.new ≡ record self.old { run = record self.old.run { operands = reverse cells.now ++ self.old.run.operands } }) }
+        ensures err { OnErr result (self.new ≡ self.old) }
+    {
+        self.running.push_all(cells)?;
+        Ok(())
+    }
+
+    /// The oldest pending event that is enabled, if there is one, goes, and its number and its fields are the newest operands, the last
+    /// field on top. The answer is whether there is one.
+    pub fn deliver(&mut self) -> Result<bool, AllocError>
+        ensures there { IfOk result (λ there. there ≡ is_some (oldest_enabled self.old.links)) }
+        ensures after { OnOk result (self.new ≡ stack_delivered (oldest_enabled self.old.links) self.old) }
+        ensures err { OnErr result (self.new ≡ self.old) }
+    {
+        match self.links.oldest_enabled() {
+            None => Ok(false),
+            Some(pending) => {
+                self.running.push_event(event_of(pending))?;
+                self.links.drop_oldest();
+                Ok(true)
+            }
+        }
     }
 
     /// The object of the running activation.

@@ -1,19 +1,21 @@
 // A task without its hand.
 
-ghost use Rattle.std.specs.Prelude.{◌≡◌, ◌-◌, ◌<◌, ◌∷◌, [], length, nat_lt, None, Some, IfOk, OnOk, OnErr, MatchOption, slice_get, slice_index_or, drop, true};
+ghost use Rattle.std.specs.Prelude.{◌≡◌, ◌-◌, ◌<◌, ◌∷◌, ◌++◌, [], length, reverse, nat_lt, None, Some, IfOk, OnOk, OnErr, MatchOption, slice_get, slice_index_or, drop, true};
 ghost use Rattle.std.specs.Option.{is_some, option_map};
 ghost use Rattle.uc_machine.specs.Executions.{at_depth, list_in, frame_changed, frames_changed, values_cleared, members_at, slot_in, joined, change, exec_eq, calmed};
-ghost use Rattle.uc_machine.specs.Switches.{born, ended, live_changed, slot_gone, slot_set, spread, stopped};
+ghost use Rattle.uc_machine.specs.Switches.{born, ended, links_changed, slot_gone, slot_set, spread, stopped};
+ghost use Rattle.uc_machine.specs.Insides.{oldest_enabled};
 ghost use Rattle.uc_machine.specs.Quiet.{with_piece};
-ghost use Rattle.uc_frames.specs.Machine.{nought, top, below, cell_written, first_machine, fresh_execution, line_in, line_at};
-ghost use Rattle.uc_frames.specs.Left.{left, called};
-ghost use Rattle.uc_frames.specs.Unwinding.{IsCaller, event_at, unwound_by, cleaning, catching, passed, handled};
+ghost use Rattle.uc_frames.specs.Machine.{nought, top, below, cell_written, first_machine, fresh_execution, lively, line_in, line_at};
+ghost use Rattle.uc_frames.specs.Calls.{left, called};
+ghost use Rattle.uc_frames.specs.Unwinding.{IsCaller, event_at, unwound_by, cleaning, catching, passed, handled, delivered};
 ghost use Rattle.uc_tree.specs.declared.limits.TheConstants.{CALLS};
 
 use crate::active::Active;
 use crate::call::Call;
 use crate::cell::Cell;
 use crate::event::{Event, Handling};
+use crate::links::Links;
 use crate::members::Members;
 use crate::numbered::is_same;
 use crate::parked::Parked;
@@ -103,6 +105,23 @@ impl Task {
         Ok(())
     }
 
+    pub(crate) fn push_all(&mut self, cells: &[Cell]) -> Result<(), AllocError>
+        ensures ok { OnOk result (self.new ≡ record self.old { run = record self.old.run { operands = reverse cells.now ++ self.old.run.operands } }) }
+        ensures err { OnErr result (self.new ≡ self.old) }
+    {
+        self.running.push_all(cells)?;
+        Ok(())
+    }
+
+    pub(crate) fn deliver(&mut self) -> Result<bool, AllocError>
+        ensures there { IfOk result (λ there. there ≡ is_some (oldest_enabled self.old.env.links)) }
+        ensures after { OnOk result (self.new ≡ delivered (oldest_enabled self.old.env.links) self.old) }
+        ensures err { OnErr result (self.new ≡ self.old) }
+    {
+        let there = self.running.deliver()?;
+        Ok(there)
+    }
+
     pub(crate) fn this(&self) -> Cell
         ensures { result ≡ self.now.run.this }
     {
@@ -167,12 +186,6 @@ impl Task {
         ensures { result ≡ self.now.run.frame }
     {
         self.running.frame()
-    }
-
-    pub(crate) fn calls(&self) -> u32
-        ensures { result ≡ self.now.env.links.calls }
-    {
-        self.running.calls()
     }
 
     pub(crate) fn enter(&mut self, call: Call) -> Result<(), AllocError>
@@ -330,28 +343,23 @@ impl Task {
         }
     }
 
-    pub(crate) fn starter(&self) -> Option<Exec>
-        ensures { result ≡ self.now.env.links.starter }
+    pub(crate) fn links(&self) -> &Links
+        ensures { result.now ≡ self.now.env.links }
     {
-        self.running.starter()
+        self.running.links()
     }
 
-    pub(crate) fn resumer(&self) -> Option<Exec>
-        ensures { result ≡ self.now.env.links.resumer }
+    pub(crate) fn own(&self) -> u32
+        ensures { result ≡ self.now.env.own }
     {
-        self.running.resumer()
+        self.own
     }
 
-    pub(crate) fn is_live(&self) -> bool
-        ensures { result ≡ self.now.env.links.live }
+    // Whether the coroutine is live of the execution that runs.
+    pub(crate) fn set_own_live(&mut self, live: bool)
+        ensures { self.new ≡ record self.old { env = record self.old.env { links = lively live self.old.env.links } } }
     {
-        self.running.is_live()
-    }
-
-    pub(crate) fn destroyer(&self) -> Option<Exec>
-        ensures { result ≡ self.now.env.links.destroyer }
-    {
-        self.running.destroyer()
+        self.running.set_live(live);
     }
 
     pub(crate) fn end(&mut self)
@@ -420,7 +428,7 @@ impl Task {
 
     // Sets whether the coroutine is live of the execution of that number in the task of that object, if it is this one; one that runs stays.
     pub(crate) fn set_live(&mut self, task: u32, serial: u64, live: bool)
-        ensures { self.new ≡ record self.old { env = change (Home.Task task) (live_changed live serial) self.old.env } }
+        ensures { self.new ≡ record self.old { env = change (Home.Task task) (links_changed (lively live) serial) self.old.env } }
     {
         if task == self.own {
             self.house.set_live(serial, live);

@@ -1,15 +1,16 @@
 // The cells of a task with its hand.
 
-ghost use Rattle.std.specs.Prelude.{◌≡◌, ◌-◌, ◌<◌, ◌∷◌, [], length, nat_lt, None, Some, IfOk, OnOk, OnErr, MatchOption, slice_get, drop, pos, true, false};
+ghost use Rattle.std.specs.Prelude.{◌≡◌, ◌-◌, ◌<◌, ◌∷◌, ◌++◌, [], length, reverse, nat_lt, None, Some, IfOk, OnOk, OnErr, MatchOption, slice_get, drop, pos, true, false};
 ghost use Rattle.std.specs.Option.{is_some, option_map};
 ghost use Rattle.uc_machine.specs.Executions.{at_depth, calmed, exec_eq, frame_changed, frames_changed, members_at, parked_at, change, value_at, with_owned};
-ghost use Rattle.uc_machine.specs.Switches.{born, ended, enlivened, forgotten, gone, home_in as home_of_owner, is_live, live_at, new_exec, set_slot, spread, stopped, switched, unwound_there, with_live, woken};
+ghost use Rattle.uc_machine.specs.Switches.{born, ended, enlivened, forgotten, gone, home_in as home_of_owner, is_live, live_at, new_exec, set_slot, spread, stopped, switched, unwound_there, links_changed, with_links, woken};
 ghost use Rattle.uc_machine.specs.Raising.{home_of};
+ghost use Rattle.uc_machine.specs.Insides.{is_own, is_held_up, oldest_enabled};
 ghost use Rattle.uc_machine.specs.Quiet.{with_piece};
 ghost use Rattle.uc_machine.specs.declared.exec.Reason.TheVariants as reason;
-ghost use Rattle.uc_frames.specs.Machine.{nought, top, below, cell_written, shifted, loaded, written, this_frame, cleared, with_hand, first_machine, exec_at, own_exec, resumed, home_at, set_up, line_in, line_at};
-ghost use Rattle.uc_frames.specs.Left.{left, called};
-ghost use Rattle.uc_frames.specs.Unwinding.{IsCaller, event_at, unwound_by, cleaning, catching, passed, handled};
+ghost use Rattle.uc_frames.specs.Machine.{nought, top, below, cell_written, shifted, loaded, written, this_frame, cleared, with_hand, first_machine, exec_at, own_exec, resumed, home_at, set_up, lively, line_in, line_at};
+ghost use Rattle.uc_frames.specs.Calls.{left, called};
+ghost use Rattle.uc_frames.specs.Unwinding.{IsCaller, event_at, unwound_by, cleaning, catching, passed, handled, delivered};
 ghost use Rattle.uc_tree.specs.declared.limits.TheConstants.{CALLS, UNHANDLED};
 
 use crate::active::Active;
@@ -17,7 +18,7 @@ use crate::call::Call;
 use crate::cell::{Cell, exec_in};
 use crate::event::{Event, Handling};
 use crate::members::Members;
-use crate::numbered::position;
+use crate::numbered::{is_same_home, position};
 use crate::parked::Parked;
 use crate::pieces::Pieces;
 use crate::task::Task;
@@ -36,8 +37,8 @@ pub type Hand = List<(u64, Members)>;
 /// A task with its hand. A call that wants memory in vain changes nothing.
 #[derive(Drop)]
 pub struct Work {
-    task: Task,
-    hand: Hand,
+    pub(crate) task: Task,
+    pub(crate) hand: Hand,
 }
 
 impl Model for Work {
@@ -107,7 +108,7 @@ impl Work {
     pub fn calls(&self) -> u32
         ensures { result ≡ self.now.env.links.calls }
     {
-        self.task.calls()
+        self.task.links().calls()
     }
 
     /// Makes a call: the newest operands are the routine's parameters.
@@ -254,6 +255,15 @@ impl Work {
         Ok(())
     }
 
+    /// These operands are the newest, the last one on top.
+    pub fn push_all(&mut self, cells: &[Cell]) -> Result<(), AllocError>
+        ensures ok { OnOk result (self.new ≡ record self.old { run = record self.old.run { operands = reverse cells.now ++ self.old.run.operands } }) }
+        ensures err { OnErr result (self.new ≡ self.old) }
+    {
+        self.task.push_all(cells)?;
+        Ok(())
+    }
+
     /// The object of the running activation.
     pub fn this(&self) -> Cell
         ensures { result ≡ self.now.run.this }
@@ -349,13 +359,16 @@ impl Work {
         self.task.write(frame, u64::from(cell), value);
     }
 
-    /// What the place in a cell holds; 0 where the cell is no place, or nothing in hand is there.
+    /// What the place in a cell holds, a mutex object its first field; 0 where the cell is no place, or nothing in hand is there.
     pub fn read(&self, place: Cell) -> Cell
         ensures { result ≡ loaded place self.now.env }
     {
         match place {
             Cell::Place(owner, at) => self.read_at(owner, at),
-            _ => Cell::Number(0),
+            Cell::Object(object) => self.read_at(Owner::Fields(object), 0),
+            Cell::Number(_) => Cell::Number(0),
+            Cell::Running(_) => Cell::Number(0),
+            Cell::Nothing => Cell::Number(0),
         }
     }
 
@@ -380,7 +393,7 @@ impl Work {
     }
 
     // What is at a home, if that is in hand.
-    fn members(&self, home: Home) -> Option<&Members>
+    pub(crate) fn members(&self, home: Home) -> Option<&Members>
         ensures { MatchOption result (members_at home self.now.env ≡ None) (λ m. members_at home self.now.env ≡ Some m.now) }
     {
         match home {
@@ -393,7 +406,7 @@ impl Work {
     }
 
     // An execution in hand that does not run.
-    fn parked(&self, exec: Exec) -> Option<&Parked>
+    pub(crate) fn parked(&self, exec: Exec) -> Option<&Parked>
         ensures { MatchOption result (parked_at exec self.now.env ≡ None) (λ s. parked_at exec self.now.env ≡ Some s.now) }
     {
         match self.members(exec.home) {
@@ -402,13 +415,17 @@ impl Work {
         }
     }
 
-    /// Writes a cell to a place. Where the place holds a binding, or the cell is no place, or nothing in hand is
-    /// there, all stays as it is.
+    /// Writes a cell to a place, of a mutex object to its first field. Where the place holds a binding, or the cell is no place, or nothing in
+    /// hand is there, all stays as it is.
     pub fn write(&mut self, place: Cell, cell: Cell)
         ensures { self.new ≡ record self.old { env = written place cell self.old.env } }
     {
-        if let Cell::Place(owner, at) = place {
-            self.write_at(owner, at, cell);
+        match place {
+            Cell::Place(owner, at) => self.write_at(owner, at, cell),
+            Cell::Object(object) => self.write_at(Owner::Fields(object), 0, cell),
+            Cell::Number(_) => {}
+            Cell::Running(_) => {}
+            Cell::Nothing => {}
         }
     }
 
@@ -454,21 +471,21 @@ impl Work {
     pub fn starter(&self) -> Option<Exec>
         ensures { result ≡ self.now.env.links.starter }
     {
-        self.task.starter()
+        self.task.links().starter()
     }
 
     /// Who resumed the running execution last, if any did.
     pub fn resumer(&self) -> Option<Exec>
         ensures { result ≡ self.now.env.links.resumer }
     {
-        self.task.resumer()
+        self.task.links().resumer()
     }
 
     /// Who destroys the coroutine of the running execution, while that is unwound for it.
     pub fn destroyer(&self) -> Option<Exec>
         ensures { result ≡ self.now.env.links.destroyer }
     {
-        self.task.destroyer()
+        self.task.links().destroyer()
     }
 
     /// Whether this is the execution that runs.
@@ -484,7 +501,7 @@ impl Work {
     {
         match self.parked(exec) {
             None => None,
-            Some(stack) => Some(stack.stage()),
+            Some(stack) => Some(stack.links().stage()),
         }
     }
 
@@ -576,162 +593,6 @@ impl Work {
         }
     }
 
-    /// The execution of the coroutine at hand, which its first cell names.
-    pub fn own_exec(&self) -> Option<Exec>
-        ensures { result ≡ own_exec self.now }
-    {
-        exec_in(self.read(self.this()))
-    }
-
-    /// The execution that a `resume` resumes: a main runs in that of its own, and so does a handler that stands in it.
-    pub fn resumed(&self) -> Option<Exec>
-        ensures { result ≡ resumed self.now }
-    {
-        if self.home() == 0 {
-            Some(self.exec())
-        } else {
-            self.own_exec()
-        }
-    }
-
-    // How many activations are below that of the routine to which the running one belongs.
-    fn home(&self) -> u32
-        ensures { result ≡ home_of self.now.run.handles (length self.now.callers) }
-    {
-        match self.handles() {
-            None => self.level(),
-            Some(visited) => visited.home,
-        }
-    }
-
-    /// Whether the coroutine is live whose place lies below so many of the newest operands.
-    pub fn is_live(&self, count: u32) -> bool
-        ensures { result ≡ is_live (exec_at (top (drop count self.now.run.operands)) self.now.env) self.now.env }
-    {
-        match exec_in(self.read(self.below(count))) {
-            None => false,
-            Some(exec) => self.is_live_at(exec),
-        }
-    }
-
-    fn is_live_at(&self, exec: Exec) -> bool
-        ensures { result ≡ live_at exec self.now.env }
-    {
-        if self.task.runs(exec) {
-            return self.task.is_live();
-        }
-        match self.parked(exec) {
-            None => false,
-            Some(stack) => stack.is_live(),
-        }
-    }
-
-    /// The object at hand gets an execution, whose main is this routine and has not begun; its first cell names it.
-    pub fn set_up(&mut self, routine: RoutineCode) -> Result<(), AllocError>
-        ensures ok { OnOk result (self.new ≡ record self.old { env = set_up routine self.old }) }
-        ensures err { OnErr result (self.new ≡ self.old) }
-    {
-        let this = self.this();
-        let stack = self.task.fresh(routine, this)?;
-        let home = self.home_at(this);
-        let exec = self.new_exec(home);
-        self.add(home, stack)?;
-        self.write(this, Cell::Running(exec));
-        Ok(())
-    }
-
-    // Where the coroutine at a place is at home.
-    fn home_at(&self, place: Cell) -> Home
-        ensures { result ≡ home_at place self.now.env }
-    {
-        match place {
-            Cell::Number(_) => self.exec().home,
-            Cell::Place(owner, _) => home_in(owner),
-            Cell::Running(_) => self.exec().home,
-            Cell::Object(object) => Home::Object(object),
-            Cell::Nothing => self.exec().home,
-        }
-    }
-
-    // The name of the next execution at a home.
-    fn new_exec(&self, home: Home) -> Exec
-        ensures { result ≡ new_exec home self.now.env }
-    {
-        match self.members(home) {
-            None => Exec { home, serial: 0 },
-            Some(members) => Exec {
-                home,
-                serial: members.serial(),
-            },
-        }
-    }
-
-    fn add(&mut self, home: Home, stack: Parked) -> Result<(), AllocError>
-        ensures ok { OnOk result (self.new ≡ record self.old { env = born home stack self.old.env }) }
-        ensures err { OnErr result (self.new ≡ self.old) }
-    {
-        match home {
-            Home::Task(task) => {
-                self.task.add(task, stack)?;
-                Ok(())
-            }
-            Home::Object(object) => {
-                if let Some(i) = position(&self.hand, u64::from(object)) {
-                    let members = self.hand.get_mut(i);
-                    members.1.add(stack)?;
-                }
-                Ok(())
-            }
-        }
-    }
-
-    /// The coroutine at hand is live.
-    pub fn enliven(&mut self)
-        ensures { self.new ≡ record self.old { env = enlivened (own_exec self.old) self.old.env } }
-    {
-        if let Some(exec) = self.own_exec() {
-            self.set_live(exec, true);
-        }
-    }
-
-    /// The coroutine of an execution in hand is live, or is not, if that does not run.
-    pub fn set_live(&mut self, exec: Exec, live: bool)
-        ensures { self.new ≡ record self.old { env = with_live live exec self.old.env } }
-    {
-        match exec.home {
-            Home::Task(task) => self.task.set_live(task, exec.serial, live),
-            Home::Object(object) => {
-                if let Some(i) = position(&self.hand, u64::from(object)) {
-                    let members = self.hand.get_mut(i);
-                    members.1.set_live(exec.serial, live);
-                }
-            }
-        }
-    }
-
-    /// The execution of the coroutine at hand is no more.
-    pub fn forget(&mut self)
-        ensures { self.new ≡ record self.old { env = forgotten (own_exec self.old) self.old.env } }
-    {
-        if let Some(exec) = self.own_exec() {
-            self.remove(exec);
-        }
-    }
-
-    fn remove(&mut self, exec: Exec)
-        ensures { self.new ≡ record self.old { env = gone exec self.old.env } }
-    {
-        match exec.home {
-            Home::Task(task) => self.task.remove(task, exec.serial),
-            Home::Object(object) => {
-                if let Some(i) = position(&self.hand, u64::from(object)) {
-                    let members = self.hand.get_mut(i);
-                    members.1.remove(exec.serial);
-                }
-            }
-        }
-    }
-
     /// So many cells of the frame of the running activation are 0, from this one on.
     pub fn clear(&mut self, cell: u32, cells: u32)
         ensures { self.new ≡ record self.old { env = cleared cell cells self.old } }
@@ -769,15 +630,5 @@ impl Work {
     {
         let pieces = self.task.take_gathered();
         pieces
-    }
-}
-
-// Where a coroutine is at home that is held by this.
-fn home_in(owner: Owner) -> Home
-    ensures { result ≡ home_of_owner owner }
-{
-    match owner {
-        Owner::Frame { exec, depth: _ } => exec.home,
-        Owner::Fields(object) => Home::Object(object),
     }
 }

@@ -5,7 +5,7 @@ use Rattle.uc_rules.specs.Breaks.{breaks_among}
 use Rattle.uc_rules.specs.Firsts.{after, is_owner_number}
 use Rattle.uc_rules.specs.RuleNames.{rule_number}
 use Rattle.uc_rules.specs.Visits.{Visit}
-use Rattle.uc_types.specs.Told.{noted}
+use Rattle.uc_types.specs.FirstBreak.{noted}
 use Rattle.uc_types.proofs.Noted.{noted_is}
 use Rattle.uc_classes.proofs.First.{first_is, none_is, all_owners, no_owners}
 use Rattle.uc_front.specs.Typed.{AreOfOwners, IsTextBreak, text_break}

@@ -22,11 +22,7 @@ fn class_count(item: &Item) -> usize
 {
     match &item.form {
         ItemForm::Class { .. } => 1,
-        ItemForm::Routine { .. } => 0,
-        ItemForm::Constant { .. } => 0,
-        ItemForm::Proto { .. } => 0,
-        ItemForm::Forward { .. } => 0,
-        ItemForm::Using { .. } => 0,
+        _ => 0,
     }
 }
 

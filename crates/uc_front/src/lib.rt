@@ -13,8 +13,8 @@ mod walk;
 
 use std::alloc::{AllocError, Global};
 use uc_classes::check::first_break;
-use uc_numbers::sites::sites_of;
-use uc_numbers::texts::texts_of;
+use uc_numbering::sites::sites_of;
+use uc_numbering::texts::texts_of;
 use uc_rules::checked::{Checked, RuleFault};
 use uc_tree::program::Program;
 

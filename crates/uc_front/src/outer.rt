@@ -6,9 +6,9 @@ ghost use Rattle.uc_tree.specs.ProgramViews.{member_form_at};
 ghost use Rattle.uc_rules.specs.ProgramVisits.{form_declares, is_of_main, mark_among, mark_in, outer_env, outer_mark};
 ghost use Rattle.uc_rules.specs.Sorts.{class_at};
 
+use uc_check_decl::item::owner_home;
+use uc_check_decl::sig::same_role;
 use uc_classes::class::sig_around;
-use uc_declares::item::owner_home;
-use uc_declares::sig::same_role;
 use uc_rules::rules::{Around, Home};
 use uc_tree::class::{Member, MemberForm, Sig};
 use uc_tree::kinds::{Mark, Owner};
@@ -19,11 +19,10 @@ fn declares(sig: &Sig, form: &MemberForm) -> bool
     ensures { result ≡ form_declares sig.now (member_form_at form.now) }
 {
     match form {
-        MemberForm::Fields { .. } => false,
-        MemberForm::Routine { .. } => false,
         MemberForm::Proto { sig: proto } => {
             same_role(sig.role, proto.role) && sig.name.is(proto.name.bytes())
         }
+        _ => false,
     }
 }
 
@@ -59,11 +58,7 @@ fn outer_mark(tables: &Tables, home: Option<Home>, sig: &Sig) -> Mark
 fn is_of_main(owner: &Owner) -> bool
     ensures { result ≡ is_of_main owner.now }
 {
-    match owner {
-        Owner::Here => false,
-        Owner::Main => true,
-        Owner::Class(_) => false,
-    }
+    matches!(owner, Owner::Main)
 }
 
 /// What stands round a routine outside of classes.

@@ -6,14 +6,14 @@ ghost use Rattle.uc_rules.specs.Firsts.{is_owner_number};
 ghost use Rattle.uc_rules.specs.Scopes.{Env};
 ghost use Rattle.uc_rules.specs.Sorts.{class_at};
 ghost use Rattle.uc_rules.specs.Visits.{statement_visits};
-ghost use Rattle.uc_types.specs.Told.{noted};
+ghost use Rattle.uc_types.specs.FirstBreak.{noted};
 ghost use Rattle.uc_front.specs.Places.{place_env};
 ghost use Rattle.uc_front.specs.Typed.{AreOfOwners, IsTextFaultOf, class_base, entity_type, expr_type, given_type, sort_base, statement_breaks, text_break, type_with};
 
 use crate::item::enter_place;
 use crate::place::Place;
 use std::alloc::{AllocError, Global};
-use uc_bodies::judge::ask_statement;
+use uc_check_stmt::judge::ask_statement;
 use uc_classes::item::no_around;
 use uc_classes::tabled::tables_of;
 use uc_rules::checked::RuleFault;
@@ -114,7 +114,7 @@ fn given_type(alloc: Global, tables: &Tables, entity: Option<Entity>) -> Result<
 }
 
 // What an expression that is a statement stands for, with its breaks noted.
-#[tactic(auto, using(uc_bodies::proofs::Joined::joining))]
+#[tactic(auto, using(uc_check_stmt::proofs::Joined::joining))]
 fn check_value(names: &Names, e: &Expr, found: &mut Found) -> Option<Entity>
     ensures entity { result ≡ entity_of names.now e.now }
     ensures breaks { found.new ≡ noted found.old (statement_visits names.now e.now) }

@@ -9,7 +9,7 @@ ghost use Rattle.uc_front.specs.Places.{AtBody, AtLeaf, AtStmt, accept_node, acc
 
 use crate::place::Step;
 use std::alloc::AllocError;
-use uc_bodies::stmt::{in_handler, in_loop, open_block, with_joins};
+use uc_check_stmt::stmt::{in_handler, in_loop, open_block, with_joins};
 use uc_tree::declare::{Declarator, ForForm, ForStart};
 use uc_tree::kinds::{Base, Param};
 use uc_tree::stmt::{Clause, Handler, Stmt, StmtForm};
@@ -100,10 +100,7 @@ fn declare_start(names: &mut Names, start: &ForStart) -> Result<(), AllocError>
 pub(crate) fn is_end(steps: &[Step]) -> bool
     ensures { (env : Env) → env_along (AtLeaf env) steps.now ≡ reached result env }
 {
-    match steps.split_first() {
-        Some(_) => false,
-        None => true,
-    }
+    steps.split_first().is_none()
 }
 
 fn is_alone(number: usize, steps: &[Step]) -> bool

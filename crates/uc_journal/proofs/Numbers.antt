@@ -1,14 +1,16 @@
 -- Numbers with a sign, alone, behind a space, and several of them.
-use Rattle.std.proofs.Common.{◌≡◌, ℕ, ℤ, pos, negsuc, suc, ◌+◌, ◌<◌, ◌≤◌, ◌^◌, true, List, [], ◌∷◌, ◌++◌, length, refl, sym, ◌∙◌, ap, arith, append_assoc, append-nil, drop, length-append, length-drop}
-use Rattle.std.proofs.lemmas.List.{drop-drop}
+use Rattle.std.proofs.Common.{◌≡◌, ℕ, ℤ, pos, negsuc, suc, ◌+◌, ◌-◌, ◌<◌, ◌≤◌, ◌^◌, true, false, rules, tests, List, [], ◌∷◌, ◌++◌, length, get_or, refl, sym, ◌∙◌, ap, arith, append_assoc, append-nil, set, take, drop, length-drop}
+use Rattle.std.proofs.lemmas.List.{drop-drop, drop-set-lt, length-set, length-take-le, take-append-drop, take_more_set}
 use Rattle.std.specs.Prelude.{decimal}
 use Rattle.std.proofs.lemmas.Int.{ints}
-use Rattle.std.proofs.lemmas.Fmt.{decimal_nonempty}
+use Rattle.std.proofs.lemmas.Fmt.{decimal_nonempty, decimal_digit}
 use Rattle.uc_tree.specs.Bytes.{is_digit}
 use Rattle.uc_acts.specs.declared.field.FieldType.TheVariants.{Integer}
 use Rattle.uc_acts.specs.Texts.{spaced}
 use Rattle.uc_acts.specs.Fit.{IsOf}
-use Rattle.uc_journal.specs.Fields.{Ends, IsNatural, IsNumber, IsField, AreFields, all_spaced}
+use Rattle.uc_journal.specs.declared.form.Form.{Form}
+use Rattle.uc_journal.specs.declared.form.Form.TheVariants.{Old, New}
+use Rattle.uc_journal.specs.Fields.{Ends, IsNatural, IsNumber, IsField, AreFields, AreNumbers, all_spaced, count_in, left_out}
 use Rattle.uc_journal.proofs.Digits.{Digits, digits_of, same_natural}
 
 -- a type's numbers are in the range of decimal texts
@@ -89,6 +91,25 @@ pub same_field : (bs : List ℕ) (m n : ℤ) (s t : List ℕ) → IsField bs m s
 same_field [] m n s t a b = absurd (no_field m s a)
 same_field (c ∷ bs) m n s t a b = same_number bs m n s t (number_of_field c bs m s a).1 (number_of_field c bs n t b).1
 
+-- a digit behind a space, behind which no digit stands
+pub one_digit_field : (digit next : ℕ) (more : List ℕ) → is_digit digit ≡ true → is_digit next ≡ false → IsField (32 ∷ (digit ∷ (next ∷ more))) (pos (digit - 48)) (next ∷ more)
+one_digit_field digit next more d n =
+    let low : 48 ≤ digit = search (rules, tests, arith, d) in
+    let high : digit ≤ 57 = search (rules, tests, arith, d) in
+    let is : digit ≡ 48 + (digit - 48) = omega (arith, low) in
+    let decimal_is : decimal (digit - 48) ≡ digit ∷ [] = decimal_digit (digit - 48) (omega (arith, high)) ∙ ap (λ x. x ∷ []) (sym is) in
+    record {
+      is = ap (λ t. 32 ∷ (t ++ next ∷ more)) (sym decimal_is);
+      type = of_natural (digit - 48) (omega (arith, high));
+      ends = n;
+    }
+
+pub digit_field : (bs : List ℕ) (v : ℤ) → 3 ≤ length bs → get_or bs 0 0 ≡ 32 → is_digit (get_or bs 1 0) ≡ true → is_digit (get_or bs 2 0) ≡ false → v ≡ pos (get_or bs 1 0 - 48) → IsField bs v (drop 2 bs)
+digit_field [] v l s d n e = absurd (omega (arith, l))
+digit_field (b ∷ []) v l s d n e = absurd (omega (arith, l))
+digit_field (b ∷ (c ∷ [])) v l s d n e = absurd (omega (arith, l))
+digit_field (b ∷ (c ∷ (x ∷ more))) v l s d n e = rw (s, e) (one_digit_field c x more d n)
+
 -- several
 
 cons_same : (m n : ℤ) (ms ns : List ℤ) → m ≡ n → ms ≡ ns → m ∷ ms ≡ n ∷ ns
@@ -118,21 +139,27 @@ same_fields bs (m ∷ ms) (n ∷ ns) s t l a b =
     let rest = same_fields (all_spaced ms ++ s) ms ns s t (omega (arith, l)) (more_fields m ms bs s a) behind in
     (cons_same m n ms ns one.0 rest.0, rest.1)
 
--- so many numbers were read from the front of a text, and what numbers the text is goes on from there
-pub record ReadSo (bytes rest : List ℕ) (done : List ℤ) (all count : ℕ) : Type 0 where
-  pub length_all : all ≡ 8
-  pub length_done : length done ≡ count
-  pub ends : 0 < count → Ends rest
-  pub there : (more : List ℤ) (behind : List ℕ) → AreFields rest more behind → AreFields bytes (done ++ more) behind
-  pub back : (ns : List ℤ) (behind : List ℕ) → length ns ≡ 8 → AreFields bytes ns behind → AreFields rest (drop count ns) behind
+-- the nine numbers before any is read
+abbrev pub zeros : List ℤ
+zeros = pos 0 ∷ pos 0 ∷ pos 0 ∷ pos 0 ∷ pos 0 ∷ pos 0 ∷ pos 0 ∷ pos 0 ∷ pos 0 ∷ []
 
-pub reads_none : (bytes : List ℕ) (all : ℕ) → all ≡ 8 → ReadSo bytes bytes [] all 0
-reads_none bytes all l = record {
-  length_all = l;
-  length_done = refl;
+-- so many of the numbers were read from the front of a text, and what numbers the text is goes on from there; no other was written
+pub record ReadSo (bytes rest : List ℕ) (values : List ℤ) (wanted count : ℕ) : Type 0 where
+  pub length_all : length values ≡ 9
+  pub within : count ≤ wanted
+  pub ends : 0 < count → Ends rest
+  pub there : (more : List ℤ) (behind : List ℕ) → AreFields rest more behind → AreFields bytes (take count values ++ more) behind
+  pub back : (ns : List ℤ) (behind : List ℕ) → length ns ≡ wanted → AreFields bytes ns behind → AreFields rest (drop count ns) behind
+  pub others : drop count values ≡ drop count zeros
+
+pub reads_none : (bytes : List ℕ) (values : List ℤ) (wanted : ℕ) → values ≡ zeros → ReadSo bytes bytes values wanted 0
+reads_none bytes values wanted e = record {
+  length_all = ap length e;
+  within = omega arith;
   ends = λ h. absurd (omega (arith, h));
   there = λ more behind a. a;
   back = λ ns behind h a. a;
+  others = e;
 }
 
 one_back : (rest more : List ℕ) (v : ℤ) (ns : List ℤ) (behind : List ℕ) → IsField rest v more → 0 < length ns → AreFields rest ns behind → AreFields more (drop 1 ns) behind
@@ -142,26 +169,48 @@ one_back rest more v (n ∷ ns) behind f l a =
     let b = more_fields n ns rest behind a in
     record { is = same.1; types = b.types; ends = b.ends }
 
-pub reads_more : (bytes rest more : List ℕ) (done : List ℤ) (v : ℤ) (all count : ℕ) → count < 8 → ReadSo bytes rest done all count → IsField rest v more → ReadSo bytes more (done ++ v ∷ []) all (count + 1)
-reads_more bytes rest more done v all count h r f = record {
-  length_all = r.length_all;
-  length_done = omega (arith, length-append done (v ∷ []), r.length_done);
-  ends = λ h. f.ends;
-  there = λ ns behind a.
-      let with : AreFields rest (v ∷ ns) behind = record { is = f.is ∙ ap (λ t. spaced v ++ t) a.is ∙ sym (append_assoc (spaced v) (all_spaced ns) behind); types = (f.type, a.types); ends = a.ends } in
-      rw append_assoc (r.there (v ∷ ns) behind with);
-  back = λ ns behind l a.
-      rw (← drop-drop 1 count ns) (one_back rest more v (drop count ns) behind f (omega (arith, length-drop count ns, l)) (r.back ns behind l a));
-}
+pub reads_more : (bytes rest more : List ℕ) (values : List ℤ) (v : ℤ) (wanted count : ℕ) → wanted ≤ 9 → count < wanted → ReadSo bytes rest values wanted count → IsField rest v more → ReadSo bytes more (set values count v) wanted (count + 1)
+reads_more bytes rest more values v wanted count most h r f =
+    let inside : count < length values = omega (arith, most, h, r.length_all) in
+    record {
+      length_all = length-set values count v ∙ r.length_all;
+      within = omega (arith, h);
+      ends = λ h. f.ends;
+      there = λ ns behind a.
+          let with : AreFields rest (v ∷ ns) behind = record { is = f.is ∙ ap (λ t. spaced v ++ t) a.is ∙ sym (append_assoc (spaced v) (all_spaced ns) behind); types = (f.type, a.types); ends = a.ends } in
+          rw (take_more_set values count v inside, append_assoc) (r.there (v ∷ ns) behind with);
+      back = λ ns behind l a.
+          rw (← drop-drop 1 count ns) (one_back rest more v (drop count ns) behind f (omega (arith, length-drop count ns, l, h)) (r.back ns behind l a));
+      others = drop-set-lt (count + 1) values count v (omega arith) ∙ sym (drop-drop 1 count values) ∙ ap (drop 1) r.others ∙ drop-drop 1 count zeros;
+    }
 
-pub reads_all : (bytes rest : List ℕ) (done : List ℤ) (all count : ℕ) → 8 ≤ count → ReadSo bytes rest done all count → AreFields bytes done rest
-reads_all bytes rest done all count h r = rw append-nil at (r.there [] rest (record { is = refl; types = tt; ends = r.ends (omega (arith, h)) }))
+zeros_behind : (form : Form) → drop (count_in form) zeros ≡ left_out form
+zeros_behind Old = refl
+zeros_behind New = refl
+
+pub some_in : (form : Form) → 0 < count_in form
+some_in Old = omega arith
+some_in New = omega arith
+
+few_in : (form : Form) → count_in form ≤ 9
+few_in Old = omega arith
+few_in New = omega arith
+
+pub reads_all : (form : Form) (bytes rest : List ℕ) (values : List ℤ) (wanted count : ℕ) → wanted ≡ count_in form → wanted ≤ count → ReadSo bytes rest values wanted count → AreNumbers form bytes values rest
+reads_all form bytes rest values wanted count w h r =
+    let n : count ≡ count_in form = omega (arith, w, h, r.within) in
+    record {
+      shown = take count values;
+      count = length-take-le count values (omega (arith, n, few_in form, r.length_all)) ∙ n;
+      all = sym (take-append-drop count values) ∙ ap (λ t. take count values ++ t) (r.others ∙ ap (λ k. drop k zeros) n ∙ zeros_behind form);
+      fields = rw append-nil at (r.there [] rest (record { is = refl; types = tt; ends = r.ends (omega (arith, n, some_in form)) }));
+    }
 
 no_first : (rest : List ℕ) (ns : List ℤ) (behind : List ℕ) → 0 < length ns → ((n : ℤ) (more : List ℕ) → IsField rest n more → ⊥) → AreFields rest ns behind → ⊥
 no_first rest [] behind l none a = absurd (omega (arith, l))
 no_first rest (n ∷ ns) behind l none a = none n (all_spaced ns ++ behind) (first_field rest n ns behind a)
 
-pub reads_not : (bytes rest : List ℕ) (done : List ℤ) (all count : ℕ) → count < 8 → ReadSo bytes rest done all count → ((n : ℤ) (more : List ℕ) → IsField rest n more → ⊥) → (ns : List ℤ) (behind : List ℕ) → length ns ≡ 8 → AreFields bytes ns behind → ⊥
-reads_not bytes rest done all count h r none ns behind l a =
+pub reads_not : (bytes rest : List ℕ) (values : List ℤ) (wanted count : ℕ) → count < wanted → ReadSo bytes rest values wanted count → ((n : ℤ) (more : List ℕ) → IsField rest n more → ⊥) → (ns : List ℤ) (behind : List ℕ) → length ns ≡ wanted → AreFields bytes ns behind → ⊥
+reads_not bytes rest values wanted count h r none ns behind l a =
     let left = r.back ns behind l a in
-    no_first rest (drop count ns) behind (omega (arith, length-drop count ns, l)) none left
+    no_first rest (drop count ns) behind (omega (arith, length-drop count ns, l, h)) none left

@@ -1,11 +1,33 @@
 -- What a text begins with: a number behind a space, several of them, a line.
-use Rattle.std.specs.Prelude.{◌≡◌, ℕ, ℤ, List, [], ◌∷◌, ◌++◌, false, decimal}
+use Rattle.std.specs.Prelude.{◌≡◌, ℕ, ℤ, pos, List, [], ◌∷◌, ◌++◌, false, decimal, length}
 use Rattle.std.specs.Fmt.{signed_decimal}
 use Rattle.uc_tree.specs.Bytes.{is_digit}
 use Rattle.uc_entry.specs.declared.entry.Entry.{Entry}
 use Rattle.uc_acts.specs.declared.field.FieldType.TheVariants.{Integer}
-use Rattle.uc_acts.specs.Texts.{spaced, line}
-use Rattle.uc_acts.specs.Fit.{IsOf, IsFit}
+use Rattle.uc_acts.specs.Texts as texts
+use Rattle.uc_acts.specs.Texts.{spaced}
+use Rattle.uc_acts.specs.Fit.{IsOf, IsFit, numbers_of}
+use Rattle.uc_journal.specs.declared.form.Form.{Form}
+use Rattle.uc_journal.specs.declared.form.Form.TheVariants.{Old, New}
+
+-- an entry's line, and its numbers, in a form
+
+abbrev pub line_in : Form → Entry → List ℕ
+line_in Old e = texts.old_line e
+line_in New e = texts.line e
+
+abbrev pub numbers_in : Form → Entry → List ℤ
+numbers_in Old e = pos e.proc ∷ pos e.task ∷ pos e.ticks ∷ pos e.object ∷ e.a ∷ e.b ∷ e.c ∷ e.d ∷ []
+numbers_in New e = numbers_of e
+
+abbrev pub count_in : Form → ℕ
+count_in Old = 8
+count_in New = 9
+
+-- what the form leaves out of the entry is 0
+abbrev pub IsTold : Form → Entry → Type 0
+IsTold Old e = e.line ≡ 0
+IsTold New e = Unit {0}
 
 -- no digit stands first
 abbrev pub Ends : List ℕ → Type 0
@@ -44,7 +66,20 @@ pub record AreFields (bytes : List ℕ) (ns : List ℤ) (rest : List ℕ) : Type
   pub types : AreIntegers ns
   pub ends : Ends rest
 
+-- the numbers that a form leaves out
+abbrev pub left_out : Form → List ℤ
+left_out Old = pos 0 ∷ []
+left_out New = []
+
+-- these are the nine numbers of a text in a form: those that it shows, and 0 for what it leaves out
+pub record AreNumbers (form : Form) (bytes : List ℕ) (values : List ℤ) (rest : List ℕ) : Type 0 where
+  pub shown : List ℤ
+  pub count : length shown ≡ count_in form
+  pub all : values ≡ shown ++ left_out form
+  pub fields : AreFields bytes shown rest
+
 -- the text is the line of a fit entry, and then the rest
-pub record IsLine (bytes : List ℕ) (e : Entry) (rest : List ℕ) : Type 0 where
-  pub is : bytes ≡ line e ++ rest
+pub record IsLine (form : Form) (bytes : List ℕ) (e : Entry) (rest : List ℕ) : Type 0 where
+  pub is : bytes ≡ line_in form e ++ rest
   pub fit : IsFit e
+  pub told : IsTold form e

@@ -1,9 +1,11 @@
 // Reads the fields of an entry.
 
 ghost use Rattle.std.specs.Prelude.{◌≡◌, ℕ, ℤ, ◌<◌, ◌∷◌, List, length, slice_index, IfSome, IfNone, IsFalse};
-ghost use Rattle.uc_journal.specs.Fields.{IsNumber, IsField, AreFields};
+ghost use Rattle.uc_journal.specs.Fields.{IsNumber, IsField, AreFields, AreNumbers, count_in};
 
+use crate::form::Form;
 use crate::number::read_natural;
+use uc_tree::bytes::is_digit;
 
 /// A field, and what stands behind it.
 #[derive(Clone, Copy)]
@@ -12,10 +14,10 @@ pub(crate) struct Field<'a> {
     pub rest: &'a [u8],
 }
 
-/// The fields of an entry in their order, and what stands behind them.
+/// The numbers of an entry in their order, and what stands behind them. The line is 0 in the old form.
 #[derive(Clone, Copy)]
 pub(crate) struct Fields<'a> {
-    pub values: [i64; 8],
+    pub values: [i64; 9],
     pub rest: &'a [u8],
 }
 
@@ -24,15 +26,15 @@ const MOST: u64 = 9_223_372_036_854_775_807;
 
 const MOST_BELOW: u64 = 9_223_372_036_854_775_808;
 
-/// Reads eight numbers, each behind a space.
-pub(crate) fn read_fields(text: &[u8]) -> Option<Fields<'_>>
-    ensures fields { IfSome result (λ f. AreFields text.now f.values f.rest.now) }
-    ensures count { IfSome result (λ f. length f.values ≡ 8) }
-    ensures none { IfNone result ((ns : List ℤ) (rest : List ℕ) → length ns ≡ 8 → AreFields text.now ns rest → ⊥) }
+/// Reads the numbers that the form has, each behind a space.
+pub(crate) fn read_fields(text: &[u8], form: Form) -> Option<Fields<'_>>
+    ensures fields { IfSome result (λ f. AreNumbers form text.now f.values f.rest.now) }
+    ensures none { IfNone result ((ns : List ℤ) (rest : List ℕ) → length ns ≡ count_in form → AreFields text.now ns rest → ⊥) }
 {
-    let mut values = [0; 8];
+    let count = form.count();
+    let mut values = [0; 9];
     let mut rest = text;
-    for i in 0..8 {
+    for i in 0..count {
         let Some(field) = read_field(rest) else {
             return None;
         };
@@ -42,11 +44,36 @@ pub(crate) fn read_fields(text: &[u8]) -> Option<Fields<'_>>
     Some(Fields { values, rest })
 }
 
+// Reads a number of one digit behind a space, as most fields of an entry are.
+fn read_digit(text: &[u8]) -> Option<Field<'_>>
+    ensures { IfSome result (λ f. IsField text.now f.value f.rest.now) }
+{
+    let [space, digit, next, ..] = text else {
+        return None;
+    };
+    if *space != b' ' {
+        return None;
+    }
+    if !is_digit(*digit) {
+        return None;
+    }
+    if is_digit(*next) {
+        return None;
+    }
+    Some(Field {
+        value: i64::from(digit.saturating_sub(b'0')),
+        rest: &text[2..],
+    })
+}
+
 // Reads a number behind a space.
 fn read_field(text: &[u8]) -> Option<Field<'_>>
     ensures field { IfSome result (λ f. IsField text.now f.value f.rest.now) }
     ensures none { IfNone result ((n : ℤ) (rest : List ℕ) → IsField text.now n rest → ⊥) }
 {
+    if let Some(field) = read_digit(text) {
+        return Some(field);
+    }
     let Some((first, numeral)) = text.split_first() else {
         return None;
     };

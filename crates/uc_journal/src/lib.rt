@@ -2,6 +2,7 @@
 #![tactic(auto)]
 
 mod fields;
+mod form;
 mod line;
 mod number;
 mod read;
@@ -9,5 +10,6 @@ mod types;
 mod word;
 mod write;
 
+pub use form::version;
 pub use read::{JournalFault, read_journal};
 pub use write::{append_journal, write_entry, write_journal};

@@ -7,6 +7,7 @@ ghost use Rattle.uc_acts.specs.Fit as fit;
 ghost use Rattle.uc_journal.specs.Fields.{IsLine};
 
 use crate::fields::read_fields;
+use crate::form::Form;
 use crate::types::{is_of, types_of};
 use crate::word::kind_of;
 use uc_acts::field::FieldType;
@@ -20,15 +21,15 @@ pub(crate) struct Line<'a> {
 }
 
 /// Reads the line of a fit entry that stands first.
-pub(crate) fn read_line(text: &[u8]) -> Option<Line<'_>>
-    ensures line { IfSome result (λ l. IsLine text.now l.entry l.rest.now) }
-    ensures none { IfNone result ((e : Entry) (rest : List ℕ) → IsLine text.now e rest → ⊥) }
+pub(crate) fn read_line(text: &[u8], form: Form) -> Option<Line<'_>>
+    ensures line { IfSome result (λ l. IsLine form text.now l.entry l.rest.now) }
+    ensures none { IfNone result ((e : Entry) (rest : List ℕ) → IsLine form text.now e rest → ⊥) }
 {
     let length = word_length(text);
     let Some(kind) = kind_of(&text[..length]) else {
         return None;
     };
-    let Some(fields) = read_fields(&text[length..]) else {
+    let Some(fields) = read_fields(&text[length..], form) else {
         return None;
     };
     let Some(entry) = entry_of(kind, &fields.values) else {
@@ -70,7 +71,7 @@ fn behind_newline(text: &[u8]) -> Option<&[u8]>
 }
 
 // The entry of a kind with these fields, where it is fit.
-fn entry_of(kind: EntryKind, values: &[i64; 8]) -> Option<Entry>
+fn entry_of(kind: EntryKind, values: &[i64; 9]) -> Option<Entry>
     ensures kind { IfSome result (λ e. e.kind ≡ kind) }
     ensures fields { IfSome result (λ e. fit.numbers_of e ≡ values.now) }
     ensures fit { IfSome result (λ e. fit.IsFit e) }
@@ -83,10 +84,10 @@ fn entry_of(kind: EntryKind, values: &[i64; 8]) -> Option<Entry>
 }
 
 // Whether each number is of its type.
-fn are_of(types: &[FieldType; 8], values: &[i64; 8]) -> bool
+fn are_of(types: &[FieldType; 9], values: &[i64; 9]) -> bool
     ensures { IsTrue result ↔ fit.AreOf types.now values.now }
 {
-    for i in 0..8 {
+    for i in 0..9 {
         if !is_of(types[i], values[i]) {
             return false;
         }
@@ -95,7 +96,7 @@ fn are_of(types: &[FieldType; 8], values: &[i64; 8]) -> bool
 }
 
 // The entry of a kind with fields of their types.
-fn made_of(kind: EntryKind, values: &[i64; 8]) -> Entry
+fn made_of(kind: EntryKind, values: &[i64; 9]) -> Entry
     requires { fit.AreOf (fit.types_of kind) values.now }
     ensures kind { result.kind ≡ kind }
     ensures fields { fit.numbers_of result ≡ values.now }
@@ -110,5 +111,6 @@ fn made_of(kind: EntryKind, values: &[i64; 8]) -> Entry
         b: values[5],
         c: values[6],
         d: values[7],
+        line: values[8] as u32,
     }
 }

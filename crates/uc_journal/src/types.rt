@@ -6,13 +6,13 @@ ghost use Rattle.uc_acts.specs.Fit as fit;
 use uc_acts::field::FieldType::{self, Absent, Byte, Integer, Natural, Short, Word};
 use uc_entry::entry::EntryKind;
 
-/// The types of the fields of a kind: processor, task, ticks, object, a, b, c, d.
-pub(crate) fn types_of(kind: EntryKind) -> [FieldType; 8]
+/// The types of the fields of a kind: processor, task, ticks, object, a, b, c, d, line.
+pub(crate) fn types_of(kind: EntryKind) -> [FieldType; 9]
     ensures { result ≡ fit.types_of kind }
 {
     match kind {
         EntryKind::Begin => [
-            Absent, Absent, Word, Absent, Natural, Natural, Natural, Natural,
+            Absent, Absent, Word, Absent, Natural, Natural, Natural, Natural, Word,
         ],
         EntryKind::Dispatch => acting(Absent, Absent, Absent, Absent, Absent),
         EntryKind::Slice => acting(Absent, Absent, Absent, Absent, Absent),
@@ -21,8 +21,8 @@ pub(crate) fn types_of(kind: EntryKind) -> [FieldType; 8]
         EntryKind::Made => acting(Word, Absent, Absent, Absent, Absent),
         EntryKind::Spawn => acting(Word, Word, Absent, Absent, Absent),
         EntryKind::Call => acting(Word, Byte, Absent, Absent, Absent),
-        EntryKind::Leave => acting(Word, Absent, Absent, Absent, Absent),
-        EntryKind::Admit => acting(Word, Natural, Natural, Absent, Absent),
+        EntryKind::Leave => acting(Word, Natural, Absent, Absent, Absent),
+        EntryKind::Admit => acting(Word, Natural, Natural, Natural, Absent),
         EntryKind::Push => acting(Word, Absent, Absent, Absent, Absent),
         EntryKind::Accept => acting(Word, Word, Word, Natural, Natural),
         EntryKind::Wait => acting(Word, Short, Integer, Absent, Absent),
@@ -50,17 +50,17 @@ pub(crate) fn types_of(kind: EntryKind) -> [FieldType; 8]
     }
 }
 
-// Those of every kind but `begin`: any processor, any task, any ticks.
+// Those of every kind but `begin`: any processor, any task, any ticks, any line.
 fn acting(
     object: FieldType,
     a: FieldType,
     b: FieldType,
     c: FieldType,
     d: FieldType,
-) -> [FieldType; 8]
+) -> [FieldType; 9]
     ensures { result ≡ fit.acting object a b c d }
 {
-    [Byte, Word, Word, object, a, b, c, d]
+    [Byte, Word, Word, object, a, b, c, d, Word]
 }
 
 /// Whether a number is of a type.

@@ -7,6 +7,7 @@ ghost use Rattle.uc_acts.specs.Fit as fit;
 ghost use Rattle.uc_journal.specs.Fields.{all_spaced};
 ghost use Rattle.uc_journal.specs.Lines.{IsTextOf};
 
+use crate::form::HEADING;
 use crate::word::word_of;
 use itoa::Buffer;
 use std::alloc::{AllocError, Global};
@@ -15,7 +16,7 @@ use uc_entry::entry::Entry;
 /// Bytes of a buffer that takes the text of any entry.
 const LINE_BYTES: usize = 256;
 
-/// Writes the text of an entry to the front of the buffer, and answers how many bytes it has.
+/// Writes the line of an entry to the front of the buffer, and answers how many bytes it has.
 pub fn write_entry(e: &Entry, buffer: &mut [u8; 256]) -> usize
     ensures text { take result buffer.new ≡ texts.line e.now }
     ensures within { result ≤ 256 }
@@ -25,8 +26,8 @@ pub fn write_entry(e: &Entry, buffer: &mut [u8; 256]) -> usize
     put(buffer, at, b"\n")
 }
 
-/// The text of a journal: that of each entry in order. Where the entries are fit, it is the text that reads back as this
-/// journal alone.
+/// The text of a journal: the heading, and the line of each entry in order. Where the entries are fit, it is a text
+/// that reads back as this journal alone.
 pub fn write_journal(alloc: Global, j: &[Entry]) -> Result<Vec<u8>, AllocError>
     ensures text { IfOk result (λ text. text.items ≡ texts.text j.now) }
     ensures back { IfOk result (λ text. fit.AreFit j.now → IsTextOf text.items j.now) }
@@ -40,6 +41,7 @@ pub fn write_journal(alloc: Global, j: &[Entry]) -> Result<Vec<u8>, AllocError>
 pub fn append_journal(text: &mut Vec<u8>, j: &[Entry]) -> Result<(), AllocError>
     ensures { OnOk result (text.new.items ≡ text.old.items ++ texts.text j.now) }
 {
+    text.extend_from_slice(&HEADING)?;
     let mut buffer = [0; LINE_BYTES];
     for e in j {
         let length = write_entry(e, &mut buffer);
@@ -49,7 +51,7 @@ pub fn append_journal(text: &mut Vec<u8>, j: &[Entry]) -> Result<(), AllocError>
 }
 
 // The fields of an entry in their order.
-fn numbers_of(e: &Entry) -> [i64; 8]
+fn numbers_of(e: &Entry) -> [i64; 9]
     ensures { result ≡ fit.numbers_of e.now }
 {
     [
@@ -61,14 +63,15 @@ fn numbers_of(e: &Entry) -> [i64; 8]
         e.b,
         e.c,
         e.d,
+        i64::from(e.line),
     ]
 }
 
 // Writes numbers, each behind a space, from a place on, and answers the place behind them.
-fn put_numbers(buffer: &mut [u8; 256], from: usize, numbers: &[i64; 8]) -> usize
-    requires room { from ≤ 80 }
+fn put_numbers(buffer: &mut [u8; 256], from: usize, numbers: &[i64; 9]) -> usize
+    requires room { from ≤ 60 }
     ensures text { take result buffer.new ≡ take from buffer.old ++ all_spaced numbers.now }
-    ensures within { result ≤ from + 168 }
+    ensures within { result ≤ from + 189 }
 {
     let mut at = from;
     for number in numbers {

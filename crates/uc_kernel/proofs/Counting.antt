@@ -14,9 +14,9 @@ use Rattle.uc_acts.specs.Journal.{Journal, begin}
 use Rattle.uc_acts.specs.Known.{task_count, is_spawn}
 use Rattle.uc_acts.specs.Acts.{act, dispatch, lone_limit}
 use Rattle.uc_acts.specs.KernelRuns.{KernelRuns, Fits, begun, more, gives, no_room, acts}
-use Rattle.uc_acts.proofs.Sound.{tasks_push, plus}
-use Rattle.uc_book.specs.Acting.{makes_new}
-use Rattle.uc_kernel.specs.Shelves.{is_admit}
+use Rattle.uc_acts.proofs.SoundLemmas.{tasks_push, plus}
+use Rattle.uc_kernel_core.specs.CoreActs.{makes_new}
+use Rattle.uc_kernel.specs.AtRest.{is_admit}
 use Rattle.uc_kernel.proofs.Shapes.{trails, is_plain, is_making, is_spawning, AllTrail, SecondFits, Shaped, shaped_act, shaped_make, shaped_spawn, shaped_full}
 
 count_none : (j : Journal) (e : Entry) → is_spawn e.kind ≡ false → task_count (j ++ e ∷ []) ≡ task_count j

@@ -16,22 +16,22 @@ use Rattle.uc_acts.specs.Acts.{dispatch, lone_limit}
 use Rattle.uc_acts.specs.KernelRuns.{KernelRuns, gives, no_room, more}
 use Rattle.uc_acts.proofs.Bounds.{law_room, over_push, over_limit}
 use Rattle.uc_acts.proofs.Seats.{running_other, running_given}
-use Rattle.uc_acts.proofs.Sound.{tasks_push, objects_push}
+use Rattle.uc_acts.proofs.SoundLemmas.{tasks_push, objects_push}
 use Rattle.uc_acts.proofs.Moves.{first_at, known_at, spot_stays}
 use Rattle.uc_acts.proofs.Law.{good_whole}
 use Rattle.uc_acts.proofs.Given.{held_given}
 use Rattle.uc_acts.proofs.Answered.{law_answered}
 use Rattle.uc_acts.proofs.Living.{gone_still}
-use Rattle.uc_book.specs.Mirrors.{Seen, Appended}
-use Rattle.uc_book.specs.Acting.{IsReady, IsFirst, Gave, GaveNone}
-use Rattle.uc_book.specs.Acting as book
+use Rattle.uc_kernel_core.specs.Mirrors.{Seen, Appended}
+use Rattle.uc_kernel_core.specs.CoreActs.{IsReady, IsFirst, Gave, GaveNone}
+use Rattle.uc_kernel_core.specs.CoreActs as book
 use Rattle.uc_kernel.specs.declared.given.Given.{Given}
 use Rattle.uc_kernel.specs.declared.rests.Rest.{Rest}
 use Rattle.uc_kernel.specs.Numbered.{or_else, gathered}
-use Rattle.uc_kernel.specs.Kept.{Same, stored, kept, handed, with_entry, member_among, task_in}
+use Rattle.uc_kernel.specs.KernelState.{Same, stored, kept, handed, with_entry, member_among, task_in}
 use Rattle.uc_kernel.specs.Calls.{HandsOut, Gives, GivesNone, Dispatched}
 use Rattle.uc_kernel.specs.Calls as calls
-use Rattle.uc_kernel.specs.Shelves.{Lies, IsKept, IsOut, TakenOut, is_ready}
+use Rattle.uc_kernel.specs.AtRest.{Lies, IsKept, IsOut, TakenOut, is_ready}
 use Rattle.uc_kernel.proofs.Counting.{few_tasks}
 use Rattle.uc_kernel.proofs.Hands.{no_both}
 use Rattle.uc_kernel.proofs.Places.{among_same}

@@ -10,12 +10,12 @@ use Rattle.uc_entry.specs.Keyed.{find}
 use Rattle.uc_acts.specs.Journal.{Journal, held, is_over}
 use Rattle.uc_acts.specs.Known.{has, is_gone_by, takes_object, takes_out, spawns}
 use Rattle.uc_acts.specs.Sound.{Sound}
-use Rattle.uc_book.specs.Mirrors.{Seen}
+use Rattle.uc_kernel_core.specs.Mirrors.{Seen}
 use Rattle.uc_kernel.specs.declared.rests.Rest.{Rest}
 use Rattle.uc_kernel.specs.Numbered.{keys, or_else, without}
-use Rattle.uc_kernel.specs.Kept.{Kept, kept, stored, put_back, task_in, member_in, member_among}
+use Rattle.uc_kernel.specs.KernelState.{Kept, kept, stored, put_back, task_in, member_in, member_among}
 use Rattle.uc_kernel.specs.Calls.{Ends}
-use Rattle.uc_kernel.specs.Shelves.{Lies, earlier}
+use Rattle.uc_kernel.specs.AtRest.{Lies, earlier}
 use Rattle.uc_kernel.proofs.Hands.{no_both, find_some}
 use Rattle.uc_kernel.proofs.Places.{among_only, among_same}
 use Rattle.uc_kernel.proofs.Lying.{loose_none, others_none, nowhere_else}

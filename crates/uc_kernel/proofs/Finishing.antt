@@ -14,19 +14,19 @@ use Rattle.uc_acts.specs.Serves.{left}
 use Rattle.uc_acts.specs.Stations.{Running}
 use Rattle.uc_acts.specs.Sound.{At, Sound, spot}
 use Rattle.uc_acts.specs.KernelRuns.{KernelRuns, InRange}
-use Rattle.uc_acts.proofs.Sound.{self_test}
+use Rattle.uc_acts.proofs.SoundLemmas.{self_test}
 use Rattle.uc_acts.proofs.Moves.{first_at, known_at}
 use Rattle.uc_acts.proofs.Law.{good_whole}
 use Rattle.uc_acts.proofs.Answered.{law_answered}
-use Rattle.uc_book.specs.Mirrors.{Seen}
+use Rattle.uc_kernel_core.specs.Mirrors.{Seen}
 use Rattle.uc_kernel.specs.declared.given.Given.{Given}
 use Rattle.uc_kernel.specs.declared.given.Next.{Next}
 use Rattle.uc_kernel.specs.declared.given.Next.TheVariants.{Go, Blocked, Ended}
 use Rattle.uc_kernel.specs.declared.rests.Rest.{Rest}
 use Rattle.uc_kernel.specs.Numbered.{keys, or_else, gathered}
-use Rattle.uc_kernel.specs.Kept.{Kept, kept, stored, put_back, task_in, member_in, member_among}
+use Rattle.uc_kernel.specs.KernelState.{Kept, kept, stored, put_back, task_in, member_in, member_among}
 use Rattle.uc_kernel.specs.Calls.{Goes, Blocks, Follows}
-use Rattle.uc_kernel.specs.Shelves.{Lies, IsOut, is_ready, AreApart, GoesWith, HandedOn, earlier}
+use Rattle.uc_kernel.specs.AtRest.{Lies, IsOut, is_ready, AreApart, GoesWith, HandedOn, earlier}
 use Rattle.uc_kernel.proofs.Hands.{no_both, some-same, none_found, find_some, gathered_hand}
 use Rattle.uc_kernel.proofs.Places.{among_only, among_same}
 use Rattle.uc_kernel.proofs.Lying.{not_true, apart_of, loose_none, others_none, nowhere_else}

@@ -16,7 +16,7 @@ use Rattle.uc_acts.specs.Doors.{open_at}
 use Rattle.uc_acts.proofs.Held.{law_held}
 use Rattle.uc_acts.specs.KernelRuns.{KernelRuns, acts, more}
 use Rattle.uc_acts.specs.Acts.{act}
-use Rattle.uc_acts.proofs.Sound.{sound_step, self_test}
+use Rattle.uc_acts.proofs.SoundLemmas.{sound_step, self_test}
 use Rattle.uc_acts.proofs.Moves.{first_at, known_at}
 use Rattle.uc_acts.proofs.Rows.{Lawful}
 use Rattle.uc_acts.proofs.Law.{good_whole, lawful_act}
@@ -24,12 +24,12 @@ use Rattle.uc_acts.proofs.Living.{alive, lived_run, gone_still}
 use Rattle.uc_acts.proofs.Acting.{is_own, AllBy, IsBy, by_act, object_of, destroys}
 use Rattle.uc_acts.proofs.Hush.{is_silent}
 use Rattle.uc_acts.proofs.Others.{flip, running_apart}
-use Rattle.uc_book.specs.Mirrors.{Seen}
-use Rattle.uc_book.specs.Acting.{makes_new}
+use Rattle.uc_kernel_core.specs.Mirrors.{Seen}
+use Rattle.uc_kernel_core.specs.CoreActs.{makes_new}
 use Rattle.uc_kernel.specs.declared.given.Back.{Back}
 use Rattle.uc_kernel.specs.declared.rests.Rest.{Rest}
-use Rattle.uc_kernel.specs.Kept.{task_in}
-use Rattle.uc_kernel.specs.Shelves.{Lies, IsAct, CanLetIn, LetIn, LetInBy, none_there, own, another, hand_after, loose_after, admission_in, is_admit, is_ready, AreApart}
+use Rattle.uc_kernel.specs.KernelState.{task_in}
+use Rattle.uc_kernel.specs.AtRest.{Lies, IsAct, CanLetIn, LetIn, LetInBy, none_there, own, another, hand_after, loose_after, admission_in, is_admit, is_ready, AreApart}
 use Rattle.uc_kernel.proofs.Hands.{no_both, some-same}
 use Rattle.uc_kernel.proofs.Lying.{not_true, apart_of}
 use Rattle.uc_kernel.proofs.Shapes.{trails, is_plain, AllTrail, Shaped, shaped_act}

@@ -7,7 +7,7 @@ use Rattle.uc_entry.specs.Keyed.{find}
 use Rattle.uc_acts.specs.Known.{has}
 use Rattle.uc_acts.specs.Stations.{times}
 use Rattle.uc_kernel.specs.Numbered.{keys, without, added, gathered}
-use Rattle.uc_kernel.specs.Shelves.{AreApart, Stands}
+use Rattle.uc_kernel.specs.AtRest.{AreApart, Stands}
 
 none-some : {A B : Type 0} {x : A} → None ≡ Some x → B
 none-some e = absurd (cc)

@@ -10,13 +10,13 @@ use Rattle.uc_entry.specs.declared.entry.Options.{Options}
 use Rattle.uc_entry.specs.declared.request.Piece.{Piece}
 use Rattle.uc_entry.specs.declared.request.Request.{Request}
 use Rattle.uc_entry.specs.declared.request.Request.TheVariants as ask
-use Rattle.uc_acts.specs.Journal.{Journal, begin, entry, inside, own_object, first_or_0, is_over, is_ending, is_fault}
+use Rattle.uc_acts.specs.Journal.{Journal, begin, entry, inside, own_object, first_or_0, is_over, is_ending, is_fault, asking, Cost, cost, no_cost}
 use Rattle.uc_acts.specs.Queues.{next, cluster_count, processor_count, is_in_use}
 use Rattle.uc_acts.specs.Known.{object_count, task_count, owner}
 use Rattle.uc_acts.specs.Pending.{pending, oldest_in}
 use Rattle.uc_acts.specs.Doors.{site_at, open_at, offered, next_met, blocked, destroys_busy}
 use Rattle.uc_tree.specs.SiteOffers.{clause_for, Met}
-use Rattle.uc_acts.specs.Acts.{fault, admission, met_by, called, took, accepted, signalled, handed, front, poll_entry, prints, or_fault, row, settled, entries_of, is_faulty, verdict, closing, ending, fitted, dispatch, lone_limit}
+use Rattle.uc_acts.specs.Acts.{fault, admission, met_by, called, took, accepted, signalled, handed, front, poll_entry, prints, or_fault, row, settled, entries_of, is_faulty, verdict, closing, ending, fitted, dispatch, lone_limit, truth}
 use Rattle.uc_acts.specs.KernelRuns.{KernelRuns, KernelMay, begun, more, gives, no_room, acts}
 use Rattle.uc_acts.proofs.Bounds.{over_push}
 use Rattle.uc_kernel.specs.Calls.{EndsRun}
@@ -59,49 +59,49 @@ last_called sites p t o m (x ∷ xs) [] = tt
 last_called sites p t o m [] (y ∷ rest) = last_met p t o y.task m (clause_for (offered sites y) m)
 last_called sites p t o m (x ∷ xs) (y ∷ rest) = last_met p t o y.task m (clause_for (offered sites y) m)
 
-last_took : (p t k o site mask : ℕ) (b : Bool) (m u : ℕ) → EndsLast (took p t k o site mask b m u)
+last_took : (p t : ℕ) (k : Cost) (o site mask : ℕ) (b : Bool) (m u : ℕ) → EndsLast (took p t k o site mask b m u)
 last_took p t k o site mask b zero u = (refl, refl)
 last_took p t k o site mask b (suc m) u = (refl, refl)
 
-last_accepted : (p t k o site mask : ℕ) (b : Bool) (x : Option Met) → EndsLast (accepted p t k o site mask b x)
+last_accepted : (p t : ℕ) (k : Cost) (o site mask : ℕ) (b : Bool) (x : Option Met) → EndsLast (accepted p t k o site mask b x)
 last_accepted p t k o site mask b (Some x) = last_took p t k o site mask b x.member x.task
 last_accepted p t k o site mask true None = refl
 last_accepted p t k o site mask false None = refl
 
-last_signalled : (p t k o c : ℕ) (ws : List (ℕ × ℤ)) → EndsLast (signalled p t k o c ws)
+last_signalled : (p t : ℕ) (k : Cost) (o c : ℕ) (ws : List (ℕ × ℤ)) → EndsLast (signalled p t k o c ws)
 last_signalled p t k o c [] = refl
 last_signalled p t k o c (w ∷ ws) = (refl, refl)
 
-last_handed : (p t k o c : ℕ) (ws : List (ℕ × ℤ)) → EndsLast (handed p t k o c ws)
+last_handed : (p t : ℕ) (k : Cost) (o c : ℕ) (ws : List (ℕ × ℤ)) → EndsLast (handed p t k o c ws)
 last_handed p t k o c [] = refl
 last_handed p t k o c (w ∷ ws) = (refl, refl)
 
-last_front : (p t k line o c : ℕ) (ws : List (ℕ × ℤ)) → EndsLast (front p t k line o c ws)
+last_front : (p t : ℕ) (k : Cost) (line o c : ℕ) (ws : List (ℕ × ℤ)) → EndsLast (front p t k line o c ws)
 last_front p t k line o c [] = refl
 last_front p t k line o c (w ∷ ws) = refl
 
-last_poll : (p t k mask : ℕ) (r : Option (ℕ × ℤ × ℤ)) → EndsLast (poll_entry p t k mask r ∷ [])
+last_poll : (p t : ℕ) (k : Cost) (mask : ℕ) (r : Option (ℕ × ℤ × ℤ)) → EndsLast (poll_entry p t k mask r ∷ [])
 last_poll p t k mask None = refl
 last_poll p t k mask (Some r) = refl
 
-last_prints : (p t k : ℕ) (is : List Piece) → EndsLast (prints p t k is)
+last_prints : (p t : ℕ) (k : Cost) (is : List Piece) → EndsLast (prints p t k is)
 last_prints p t k [] = tt
-last_prints p t k (i ∷ is) = after_calm (entry kind.Print p t k 0 (pos i.form) i.value) (prints p t 0 is) refl (last_prints p t 0 is)
+last_prints p t k (i ∷ is) = after_calm (asking kind.Print p t k 0 (pos i.form) i.value) (prints p t no_cost is) refl (last_prints p t no_cost is)
 
-module _ (opts : Options) (sites : List Site) (input : List ℕ) (j : Journal) (p t k line : ℕ) where
-  last_left : (o : ℕ) (e : Entry) → is_ending e.kind ≡ false → EndsLast (e ∷ admission sites p o j (next o j))
-  last_left o e h = after_calm e (admission sites p o j (next o j)) h (last_admission sites p o j (next o j))
+module _ (opts : Options) (sites : List Site) (input : List ℕ) (j : Journal) (p t : ℕ) (k : Cost) (line : ℕ) where
+  last_left : (o : ℕ) (e : Entry) → is_ending e.kind ≡ false → EndsLast (e ∷ admission sites p o (j ++ e ∷ []) (next o j))
+  last_left o e h = after_calm e (admission sites p o (j ++ e ∷ []) (next o j)) h (last_admission sites p o (j ++ e ∷ []) (next o j))
 
   last_row : (r : Request) → EndsLast (row opts sites input j p t k line r)
   last_row (ask.Make class) = last_or (nat_lt (object_count j) OBJECTS) _ _ refl refl
-  last_row (ask.Made o) = last_left o (entry kind.Made p t k o (pos 0) (pos 0)) refl
+  last_row (ask.Made o) = last_left o (asking kind.Made p t k o (pos 0) (pos 0)) refl
   last_row (ask.Spawn o) = last_or (nat_lt (task_count j) TASKS) _ _ refl refl
   last_row (ask.Call o m) =
-      after_calm (entry kind.Call p t k o (pos m) (pos 0)) (called sites p t o m (inside o j) (open_at o j)) refl (last_called sites p t o m (inside o j) (open_at o j))
-  last_row (ask.Leave o) = last_left o (entry kind.Leave p t k o (pos 0) (pos 0)) refl
+      after_calm (asking kind.Call p t k o (pos m) (pos 0)) (called sites p t o m (inside o j) (open_at o j)) refl (last_called sites p t o m (inside o j) (open_at o j))
+  last_row (ask.Leave o failed) = last_left o (asking kind.Leave p t k o (truth failed) (pos 0)) refl
   last_row (ask.Accept o site mask) =
       last_accepted p t k o site mask (site_at sites site).has_else (next_met sites site mask o j)
-  last_row (ask.Wait o c n) = last_left o (entry kind.Wait p t k o (pos c) n) refl
+  last_row (ask.Wait o c n) = last_left o (asking kind.Wait p t k o (pos c) n) refl
   last_row (ask.Signal o c) = last_signalled p t k o c (blocked o c j)
   last_row (ask.SignalBlock o c) = last_handed p t k o c (blocked o c j)
   last_row (ask.Empty o c) = refl
@@ -120,7 +120,7 @@ module _ (opts : Options) (sites : List Site) (input : List ℕ) (j : Journal) (
   last_row (ask.ProcessorEnd q) = refl
   last_row (ask.Migrate c) = refl
   last_row ask.End =
-      last_left (own_object t j) (entry kind.End p t k (own_object t j) (pos 0) (pos 0)) refl
+      last_left (own_object t j) (asking kind.End p t k (own_object t j) (pos 0) (pos 0)) refl
   last_row (ask.Gone o) = refl
   last_row (ask.Fault n) = refl
 
@@ -128,12 +128,12 @@ last_settled : (f : Entry) (j : Journal) (a : List Entry) → is_ending f.kind �
 last_settled f j [] g h = tt
 last_settled f j (e ∷ []) g h = by (destroys_busy j e.kind e)
   where
-    by : (b : Bool) → EndsLast (cond b (record f { ticks = e.ticks } ∷ []) (e ∷ []))
+    by : (b : Bool) → EndsLast (cond b (record f { ticks = e.ticks; line = e.line } ∷ []) (e ∷ []))
     by true = g
     by false = h
 last_settled f j (e ∷ x ∷ a) g h = by (destroys_busy j e.kind e) (last_settled f (j ++ e ∷ []) (x ∷ a) g h.1)
   where
-    by : (b : Bool) → EndsLast (settled f (j ++ e ∷ []) (x ∷ a)) → EndsLast (cond b (record f { ticks = e.ticks } ∷ []) (e ∷ settled f (j ++ e ∷ []) (x ∷ a)))
+    by : (b : Bool) → EndsLast (settled f (j ++ e ∷ []) (x ∷ a)) → EndsLast (cond b (record f { ticks = e.ticks; line = e.line } ∷ []) (e ∷ settled f (j ++ e ∷ []) (x ∷ a)))
     by true ih = g
     by false ih = after_calm e (settled f (j ++ e ∷ []) (x ∷ a)) h.0 ih
 
@@ -210,7 +210,7 @@ ends_may : (opts : Options) (sites : List Site) (input : List ℕ) (j : Journal)
 ends_may opts sites input j _ (gives p t v le) o = ends_one (dispatch p t) (sym (over_one (dispatch p t)) ∙ o)
 ends_may opts sites input j _ (no_room p t v le) o = ends_one lone_limit refl
 ends_may opts sites input j _ (acts p t k asked m) o =
-    ends_fitted opts j p t (entries_of opts sites input j p t k asked) (last_settled (fault p t 0 10 asked.line) j (row opts sites input j p t k asked.line asked.request) refl (last_row opts sites input j p t k asked.line asked.request)) o
+    ends_fitted opts j p t (entries_of opts sites input j p t k asked) (last_settled (fault p t no_cost 10 asked.line) j (row opts sites input j p t (cost k asked.line) asked.line asked.request) refl (last_row opts sites input j p t (cost k asked.line) asked.line asked.request)) o
 
 ends_run : (opts : Options) (sites : List Site) (input : List ℕ) {j : Journal} → KernelRuns opts sites input j → is_over j ≡ true → IsEnding j
 ends_run opts sites input begun o = ends_one (begin opts) (sym (over_one (begin opts)) ∙ o)

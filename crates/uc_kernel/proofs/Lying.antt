@@ -11,8 +11,8 @@ use Rattle.uc_acts.proofs.Held.{law_held}
 use Rattle.uc_acts.proofs.Moves.{only_one}
 use Rattle.uc_kernel.specs.declared.rests.Rest.{Rest}
 use Rattle.uc_kernel.specs.Numbered.{keys, or_else, gathered}
-use Rattle.uc_kernel.specs.Kept.{member_in, member_among}
-use Rattle.uc_kernel.specs.Shelves.{AreApart}
+use Rattle.uc_kernel.specs.KernelState.{member_in, member_among}
+use Rattle.uc_kernel.specs.AtRest.{AreApart}
 use Rattle.uc_kernel.proofs.Hands.{no_both, none_found, find_some, gathered_hand}
 use Rattle.uc_kernel.proofs.Places.{among_none, among_only}
 

@@ -8,7 +8,7 @@ use Rattle.uc_entry.specs.declared.entry.Entry.{Entry}
 use Rattle.uc_entry.specs.declared.entry.EntryKind.{EntryKind}
 use Rattle.uc_entry.specs.declared.entry.EntryKind.TheVariants as kind
 use Rattle.uc_entry.specs.Listed.{Listed}
-use Rattle.uc_acts.specs.Journal.{Journal, held, entry, is_over}
+use Rattle.uc_acts.specs.Journal.{Journal, held, entry, is_over, asking, Cost, cost}
 use Rattle.uc_acts.specs.Known.{has, is_gone, takes_object, takes_out, spawns_task, spawns, object_count}
 use Rattle.uc_acts.specs.Queues.{running}
 use Rattle.uc_acts.specs.Sound.{Sound}
@@ -26,21 +26,21 @@ use Rattle.uc_acts.proofs.Bounds.{over_push}
 use Rattle.uc_acts.proofs.Living.{going_row}
 use Rattle.uc_acts.proofs.Held.{law_held}
 use Rattle.uc_acts.proofs.Living.{gone_still}
-use Rattle.uc_acts.proofs.Sound.{tasks_push, objects_push, self_test}
+use Rattle.uc_acts.proofs.SoundLemmas.{tasks_push, objects_push, self_test}
 use Rattle.uc_acts.proofs.Moves.{spot_stays, first_at, known_at}
 use Rattle.uc_acts.proofs.Others.{flip}
 use Rattle.uc_acts.proofs.Law.{good_whole}
 use Rattle.uc_acts.proofs.Answered.{law_answered}
-use Rattle.uc_book.specs.Mirrors.{Seen}
+use Rattle.uc_kernel_core.specs.Mirrors.{Seen}
 use Rattle.uc_kernel.specs.declared.given.Back.{Back}
 use Rattle.uc_kernel.specs.declared.given.Given.{Given}
 use Rattle.uc_kernel.specs.declared.given.Next.{Next}
 use Rattle.uc_kernel.specs.declared.given.Next.TheVariants.{Go, Blocked, Ended}
 use Rattle.uc_kernel.specs.declared.rests.Rest.{Rest}
 use Rattle.uc_kernel.specs.Numbered.{keys, or_else, added, gathered}
-use Rattle.uc_kernel.specs.Kept.{Kept, kept, stored, put_back, task_in, member_among}
+use Rattle.uc_kernel.specs.KernelState.{Kept, kept, stored, put_back, task_in, member_among}
 use Rattle.uc_kernel.specs.Calls.{Goes, Ends, Follows}
-use Rattle.uc_kernel.specs.Shelves.{Lies, FromAct, is_admit, IsMake, is_ready, GoesWith, HandedOn, earlier, AreApart}
+use Rattle.uc_kernel.specs.AtRest.{Lies, FromAct, is_admit, IsMake, is_ready, GoesWith, HandedOn, earlier, AreApart}
 use Rattle.uc_kernel.proofs.Hands.{no_both, none_found, gathered_hand}
 use Rattle.uc_kernel.proofs.Places.{get_past}
 use Rattle.uc_kernel.proofs.Lying.{not_true, apart_of, loose_none, nowhere_else, nobody_has}
@@ -66,15 +66,15 @@ slot_more [] (suc i) = refl
 slot_more (x ∷ xs) zero = refl
 slot_more (x ∷ xs) (suc i) = slot_more xs i
 
-module _ {T M : Type 0} (s : Seen) (t p k class : ℕ) (j : Journal) (after : s.journal ≡ j ++ entry kind.Make p t k (object_count j) (pos class) (pos 0) ∷ []) (runs_on : KernelRuns s.opts s.sites s.input s.journal) (going : is_over s.journal ≡ false) (runs : running p j ≡ t ∷ []) (sound : Sound j) (items : List (ℕ × M)) (hand_is : keys items ≡ held t j) (tasks : List (Option (Rest T M))) (loose : List (Option M)) (lies : Lies j tasks loose) where
+module _ {T M : Type 0} (s : Seen) (t p : ℕ) (k : Cost) (class : ℕ) (j : Journal) (after : s.journal ≡ j ++ asking kind.Make p t k (object_count j) (pos class) (pos 0) ∷ []) (runs_on : KernelRuns s.opts s.sites s.input s.journal) (going : is_over s.journal ≡ false) (runs : running p j ≡ t ∷ []) (sound : Sound j) (items : List (ℕ × M)) (hand_is : keys items ≡ held t j) (tasks : List (Option (Rest T M))) (loose : List (Option M)) (lies : Lies j tasks loose) where
   abbrev e : Entry
-  e = entry kind.Make p t k (object_count j) (pos class) (pos 0)
+  e = asking kind.Make p t k (object_count j) (pos class) (pos 0)
 
   abbrev o : ℕ
   o = object_count j
 
   abbrev i : Journal
-  i = j ++ entry kind.Make p t k (object_count j) (pos class) (pos 0) ∷ []
+  i = j ++ asking kind.Make p t k (object_count j) (pos class) (pos 0) ∷ []
 
   fresh : (u : ℕ) → has (held u j) (object_count j) ≡ false
   fresh u =
@@ -166,7 +166,7 @@ module _ {T M : Type 0} (s : Seen) (t p k class : ℕ) (j : Journal) (after : s.
 
   module _ (value : T) (wanted : Bool) (child : Option T) where
     abbrev back : Kept T M
-    back = put_back (entry kind.Make p t k (object_count j) (pos class) (pos 0) ∷ []) t value items child (kept (stored (earlier j s) wanted tasks loose))
+    back = put_back (asking kind.Make p t k (object_count j) (pos class) (pos 0) ∷ []) t value items child (kept (stored (earlier j s) wanted tasks loose))
 
     hand_apart : AreApart items
     hand_apart = apart_of t j items hand_is
@@ -236,21 +236,21 @@ or_true : (b : Bool) → (b || true) ≡ true
 or_true true = refl
 or_true false = refl
 
-pub over_fault : (j : Journal) (p t k n line : ℕ) → is_over (j ++ fault p t k n line ∷ []) ≡ true
+pub over_fault : (j : Journal) (p t : ℕ) (k : Cost) (n line : ℕ) → is_over (j ++ fault p t k n line ∷ []) ≡ true
 unfolding is_over
 over_fault j p t k n line = over_push j (fault p t k n line ∷ []) ∙ or_true (is_over j)
 
 module _ (opts : Options) (sites : List Site) (input : List ℕ) (j : Journal) (p t k : ℕ) where
-  row_made : (class line : ℕ) → is_over (j ++ row opts sites input j p t k line (ask.Make class)) ≡ false → row opts sites input j p t k line (ask.Make class) ≡ entry kind.Make p t k (object_count j) (pos class) (pos 0) ∷ []
+  row_made : (class line : ℕ) → is_over (j ++ row opts sites input j p t (cost k line) line (ask.Make class)) ≡ false → row opts sites input j p t (cost k line) line (ask.Make class) ≡ asking kind.Make p t (cost k line) (object_count j) (pos class) (pos 0) ∷ []
   row_made class line h = by (nat_lt (object_count j) OBJECTS) h
     where
-      by : (b : Bool) → is_over (j ++ or_fault b (entry kind.Make p t k (object_count j) (pos class) (pos 0)) (fault p t k 16 line)) ≡ false → or_fault b (entry kind.Make p t k (object_count j) (pos class) (pos 0)) (fault p t k 16 line) ≡ entry kind.Make p t k (object_count j) (pos class) (pos 0) ∷ []
+      by : (b : Bool) → is_over (j ++ or_fault b (asking kind.Make p t (cost k line) (object_count j) (pos class) (pos 0)) (fault p t (cost k line) 16 line)) ≡ false → or_fault b (asking kind.Make p t (cost k line) (object_count j) (pos class) (pos 0)) (fault p t (cost k line) 16 line) ≡ asking kind.Make p t (cost k line) (object_count j) (pos class) (pos 0) ∷ []
       by true h = refl
-      by false h = absurd (no_both (is_over (j ++ fault p t k 16 line ∷ [])) (over_fault j p t k 16 line) h)
+      by false h = absurd (no_both (is_over (j ++ fault p t (cost k line) 16 line ∷ [])) (over_fault j p t (cost k line) 16 line) h)
 
-  act_made : (asked : Asked) → IsMake asked.request → is_over (j ++ act opts sites input j p t k asked) ≡ false → act opts sites input j p t k asked ≡ entry kind.Make p t k (object_count j) (pos (class_in asked.request)) (pos 0) ∷ []
+  act_made : (asked : Asked) → IsMake asked.request → is_over (j ++ act opts sites input j p t k asked) ≡ false → act opts sites input j p t k asked ≡ asking kind.Make p t (cost k asked.line) (object_count j) (pos (class_in asked.request)) (pos 0) ∷ []
   act_made asked m h =
-      let g = (going_row opts sites input j p t k asked h).0 ∙ ap (row opts sites input j p t k asked.line) (request_is asked.request m) in
+      let g = (going_row opts sites input j p t k asked h).0 ∙ ap (row opts sites input j p t (cost k asked.line) asked.line) (request_is asked.request m) in
       g ∙ row_made (class_in asked.request) asked.line (ap (λ a. is_over (j ++ a)) (sym g) ∙ h)
 
   shaped_of : (asked : Asked) → IsMake asked.request → Shaped is_making (act opts sites input j p t k asked)
@@ -322,15 +322,15 @@ module _ {T M : Type 0} (s : Seen) (t : ℕ) (b : Back T M) (tasks : List (Optio
       ended s t x.before a x.after over sound0 b.members.items x.hand tasks loose x.lies (x.lies.out b.processor t x.asks.runs) known (λ u. made_spawns a u shape) nothing_gone (λ k. made_takes a k shape) (λ k h. cc) b.task b.members refl wanted b.child
 
   module _ (going : is_over s.journal ≡ false) where
-    is_made : a ≡ entry kind.Make b.processor t b.ticks (object_count x.before) (pos (class_in b.asked.request)) (pos 0) ∷ []
+    is_made : a ≡ asking kind.Make b.processor t (cost b.ticks b.asked.line) (object_count x.before) (pos (class_in b.asked.request)) (pos 0) ∷ []
     is_made = act_made s.opts s.sites s.input x.before b.processor t b.ticks b.asked makes (ap is_over (sym x.after) ∙ going)
 
-    after : s.journal ≡ x.before ++ entry kind.Make b.processor t b.ticks (object_count x.before) (pos (class_in b.asked.request)) (pos 0) ∷ []
+    after : s.journal ≡ x.before ++ asking kind.Make b.processor t (cost b.ticks b.asked.line) (object_count x.before) (pos (class_in b.asked.request)) (pos 0) ∷ []
     after = x.after ∙ ap (λ l. x.before ++ l) is_made
 
     still_runs : running b.processor s.journal ≡ t ∷ []
     still_runs =
-        ap (running b.processor) after ∙ running_silent b.processor x.before (entry kind.Make b.processor t b.ticks (object_count x.before) (pos (class_in b.asked.request)) (pos 0)) (λ u. refl) (λ u. refl) ∙ x.asks.runs
+        ap (running b.processor) after ∙ running_silent b.processor x.before (asking kind.Make b.processor t (cost b.ticks b.asked.line) (object_count x.before) (pos (class_in b.asked.request)) (pos 0)) (λ u. refl) (λ u. refl) ∙ x.asks.runs
 
     pub few_made : length (running b.processor s.journal) ≤ 1
     few_made = subst (λ l. length l ≤ 1) (sym still_runs) (omega arith)
@@ -340,7 +340,7 @@ module _ {T M : Type 0} (s : Seen) (t : ℕ) (b : Back T M) (tasks : List (Optio
       lies_on_made = by next handed_on
         where
           all : Lies s.journal tasks (loose ++ None ∷ [])
-          all = lies_made s t b.processor b.ticks (class_in b.asked.request) x.before after runs_on going x.asks.runs sound0 b.members.items x.hand tasks loose x.lies
+          all = lies_made s t b.processor (cost b.ticks b.asked.line) (class_in b.asked.request) x.before after runs_on going x.asks.runs sound0 b.members.items x.hand tasks loose x.lies
 
           by : (next : Next T M) → HandedOn s b.processor t b.task b.members tasks next tasks' → Lies s.journal tasks' (loose ++ None ∷ [])
           by (Go g) w = subst (λ l. Lies s.journal l (loose ++ None ∷ [])) (sym w.rest) all
@@ -355,11 +355,11 @@ module _ {T M : Type 0} (s : Seen) (t : ℕ) (b : Back T M) (tasks : List (Optio
           subst (λ l. Follows (put_back l t b.task b.members.items b.child (kept (stored (earlier x.before s) wanted tasks loose))) (kept (stored s wanted tasks' (loose ++ None ∷ []))) b.processor t next) (sym is_made) (by next handed_on)
         where
           e : Entry
-          e = entry kind.Make b.processor t b.ticks (object_count x.before) (pos (class_in b.asked.request)) (pos 0)
+          e = asking kind.Make b.processor t (cost b.ticks b.asked.line) (object_count x.before) (pos (class_in b.asked.request)) (pos 0)
 
-          by : (next : Next T M) → HandedOn s b.processor t b.task b.members tasks next tasks' → Follows (put_back (entry kind.Make b.processor t b.ticks (object_count x.before) (pos (class_in b.asked.request)) (pos 0) ∷ []) t b.task b.members.items b.child (kept (stored (earlier x.before s) wanted tasks loose))) (kept (stored s wanted tasks' (loose ++ None ∷ []))) b.processor t next
+          by : (next : Next T M) → HandedOn s b.processor t b.task b.members tasks next tasks' → Follows (put_back (asking kind.Make b.processor t (cost b.ticks b.asked.line) (object_count x.before) (pos (class_in b.asked.request)) (pos 0) ∷ []) t b.task b.members.items b.child (kept (stored (earlier x.before s) wanted tasks loose))) (kept (stored s wanted tasks' (loose ++ None ∷ []))) b.processor t next
           by (Go g) w =
-              subst (λ l. Goes (put_back (entry kind.Make b.processor t b.ticks (object_count x.before) (pos (class_in b.asked.request)) (pos 0) ∷ []) t b.task b.members.items b.child (kept (stored (earlier x.before s) wanted tasks loose))) (kept (stored s wanted l (loose ++ None ∷ []))) b.processor t g) (sym w.rest) (goes_made s t b.processor b.ticks (class_in b.asked.request) x.before after runs_on going x.asks.runs sound0 b.members.items x.hand tasks loose x.lies b.task wanted b.child b.members refl g (record { runner = w.runner; runs = w.runs; processor = w.processor; task = w.task; members_are = w.members_are; answer = w.answer; left = w.left; rest = refl }))
+              subst (λ l. Goes (put_back (asking kind.Make b.processor t (cost b.ticks b.asked.line) (object_count x.before) (pos (class_in b.asked.request)) (pos 0) ∷ []) t b.task b.members.items b.child (kept (stored (earlier x.before s) wanted tasks loose))) (kept (stored s wanted l (loose ++ None ∷ []))) b.processor t g) (sym w.rest) (goes_made s t b.processor (cost b.ticks b.asked.line) (class_in b.asked.request) x.before after runs_on going x.asks.runs sound0 b.members.items x.hand tasks loose x.lies b.task wanted b.child b.members refl g (record { runner = w.runner; runs = w.runs; processor = w.processor; task = w.task; members_are = w.members_are; answer = w.answer; left = w.left; rest = refl }))
           by Blocked w = absurd (no_one (sym w.free ∙ still_runs))
             where
               no_one : [] ≡ t ∷ [] → ⊥

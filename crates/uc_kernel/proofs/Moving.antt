@@ -12,13 +12,13 @@ use Rattle.uc_acts.specs.Known.{has, is_gone_by}
 use Rattle.uc_acts.specs.Stations.{Ready, Running}
 use Rattle.uc_acts.specs.Sound.{At, Spot, spot, mover, target, here, own_or_ready}
 use Rattle.uc_acts.specs.Legal.{Legal, removes}
-use Rattle.uc_acts.proofs.Open.{still_open_push, filter_true}
+use Rattle.uc_acts.proofs.OpenLemmas.{still_open_push, filter_true}
 use Rattle.uc_acts.proofs.Noted.{noted_at, last_actor_push}
 use Rattle.uc_acts.proofs.Seats.{running_same, running_other}
-use Rattle.uc_acts.proofs.Sound.{self_test}
+use Rattle.uc_acts.proofs.SoundLemmas.{self_test}
 use Rattle.uc_acts.proofs.Moves.{spot_stays, spot_moves}
 use Rattle.uc_acts.proofs.Others.{flip}
-use Rattle.uc_kernel.specs.Shelves.{goes_out, is_ready}
+use Rattle.uc_kernel.specs.AtRest.{goes_out, is_ready}
 use Rattle.uc_kernel.proofs.Hands.{no_both}
 use Rattle.uc_kernel.proofs.Lying.{not_true}
 use Rattle.uc_kernel.proofs.Shapes.{trails, is_plain}

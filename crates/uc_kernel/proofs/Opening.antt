@@ -12,12 +12,12 @@ use Rattle.uc_acts.specs.Sound.{spot}
 use Rattle.uc_acts.specs.KernelRuns.{InRange, begun}
 use Rattle.uc_acts.proofs.Moves.{spot_moves}
 use Rattle.uc_acts.proofs.Others.{flip}
-use Rattle.uc_book.specs.Mirrors.{Seen}
+use Rattle.uc_kernel_core.specs.Mirrors.{Seen}
 use Rattle.uc_kernel.specs.declared.rests.Rest.{Rest}
 use Rattle.uc_kernel.specs.Numbered.{keys, or_else}
-use Rattle.uc_kernel.specs.Kept.{kept, stored, task_in, member_among}
+use Rattle.uc_kernel.specs.KernelState.{kept, stored, task_in, member_among}
 use Rattle.uc_kernel.specs.Calls.{Opened}
-use Rattle.uc_kernel.specs.Shelves.{Lies, IsKept, IsOut, IsFirst, is_ready}
+use Rattle.uc_kernel.specs.AtRest.{Lies, IsKept, IsOut, IsFirst, is_ready}
 use Rattle.uc_kernel.proofs.Hands.{no_both, some-same}
 use Rattle.uc_kernel.proofs.Moving.{running_silent}
 use Rattle.uc_kernel.proofs.Dispatching.{seen_of}

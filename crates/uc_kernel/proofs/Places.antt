@@ -5,8 +5,8 @@ use Rattle.uc_entry.specs.declared.entry.Entry.{Entry}
 use Rattle.uc_entry.specs.Listed.{Listed}
 use Rattle.uc_kernel.specs.declared.rests.Rest.{Rest}
 use Rattle.uc_kernel.specs.Numbered.{or_else}
-use Rattle.uc_kernel.specs.Kept.{member_in, member_among}
-use Rattle.uc_kernel.specs.Shelves.{GivenTo, LetIn, LetInBy, another}
+use Rattle.uc_kernel.specs.KernelState.{member_in, member_among}
+use Rattle.uc_kernel.specs.AtRest.{GivenTo, LetIn, LetInBy, another}
 use Rattle.uc_kernel.proofs.Hands.{some-same}
 
 pub set_twice : {A : Type 0} (xs : List A) (i : ℕ) (x y : A) → slice_set (slice_set xs i x) i y ≡ slice_set xs i y

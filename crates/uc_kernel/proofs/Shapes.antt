@@ -12,16 +12,16 @@ use Rattle.uc_entry.specs.declared.request.Asked.{Asked}
 use Rattle.uc_entry.specs.declared.request.Piece.{Piece}
 use Rattle.uc_entry.specs.declared.request.Request.{Request}
 use Rattle.uc_entry.specs.declared.request.Request.TheVariants as ask
-use Rattle.uc_acts.specs.Journal.{Journal, inside, entry, own_object, first_or_0}
+use Rattle.uc_acts.specs.Journal.{Journal, inside, entry, own_object, first_or_0, asking, Cost, cost, no_cost}
 use Rattle.uc_acts.specs.Queues.{next, cluster_count, processor_count, is_in_use, first_ended, none_running, none_ready, none_served, all_ticks}
 use Rattle.uc_acts.specs.Known.{object_count, task_count, owner, is_gone_by}
 use Rattle.uc_acts.specs.Pending.{pending, oldest_in}
 use Rattle.uc_acts.specs.Doors.{site_at, open_at, offered, next_met, blocked, destroys_busy}
 use Rattle.uc_tree.specs.SiteOffers.{clause_for, Met}
 use Rattle.uc_acts.specs.KernelRuns.{Fits}
-use Rattle.uc_acts.specs.Acts.{admission, met_by, called, took, accepted, signalled, handed, front, poll_entry, prints, or_fault, row, settled, fault, entries_of, is_faulty, verdict, closing, ending, fitted, act}
-use Rattle.uc_book.specs.Acting.{makes_new}
-use Rattle.uc_kernel.specs.Shelves.{is_admit}
+use Rattle.uc_acts.specs.Acts.{admission, met_by, called, took, accepted, signalled, handed, front, poll_entry, prints, or_fault, row, settled, fault, entries_of, is_faulty, verdict, closing, ending, fitted, act, truth}
+use Rattle.uc_kernel_core.specs.CoreActs.{makes_new}
+use Rattle.uc_kernel.specs.AtRest.{is_admit}
 
 -- an entry that lets nobody in or out, and begins nothing
 abbrev pub trails : EntryKind → Bool
@@ -113,61 +113,61 @@ module _ (p t : ℕ) where
   shaped_called sites o m [] (y ∷ rest) = shaped_met o y.task m (clause_for (offered sites y) m)
   shaped_called sites o m (x ∷ xs) (y ∷ rest) = shaped_met o y.task m (clause_for (offered sites y) m)
 
-  shaped_took : (k o site mask : ℕ) (b : Bool) (m u : ℕ) → Shaped is_plain (took p t k o site mask b m u)
+  shaped_took : (k : Cost) (o site mask : ℕ) (b : Bool) (m u : ℕ) → Shaped is_plain (took p t k o site mask b m u)
   shaped_took k o site mask b zero u = (refl, (refl, tt), λ d. cc)
   shaped_took k o site mask b (suc m) u = (refl, (refl, tt), λ d. cc)
 
-  shaped_accepted : (k o site mask : ℕ) (b : Bool) (x : Option Met) → Shaped is_plain (accepted p t k o site mask b x)
+  shaped_accepted : (k : Cost) (o site mask : ℕ) (b : Bool) (x : Option Met) → Shaped is_plain (accepted p t k o site mask b x)
   shaped_accepted k o site mask b (Some x) = shaped_took k o site mask b x.member x.task
   shaped_accepted k o site mask true None = (refl, tt, λ d. tt)
   shaped_accepted k o site mask false None = (refl, tt, λ d. tt)
 
-  shaped_signalled : (k o c : ℕ) (ws : List (ℕ × ℤ)) → Shaped is_plain (signalled p t k o c ws)
+  shaped_signalled : (k : Cost) (o c : ℕ) (ws : List (ℕ × ℤ)) → Shaped is_plain (signalled p t k o c ws)
   shaped_signalled k o c [] = (refl, tt, λ d. tt)
   shaped_signalled k o c (w ∷ ws) = (refl, (refl, tt), λ d. cc)
 
-  shaped_handed : (k o c : ℕ) (ws : List (ℕ × ℤ)) → Shaped is_plain (handed p t k o c ws)
+  shaped_handed : (k : Cost) (o c : ℕ) (ws : List (ℕ × ℤ)) → Shaped is_plain (handed p t k o c ws)
   shaped_handed k o c [] = (refl, tt, λ d. tt)
   shaped_handed k o c (w ∷ ws) = (refl, (refl, tt), λ d. cc)
 
-  shaped_front : (k line o c : ℕ) (ws : List (ℕ × ℤ)) → Shaped is_plain (front p t k line o c ws)
+  shaped_front : (k : Cost) (line o c : ℕ) (ws : List (ℕ × ℤ)) → Shaped is_plain (front p t k line o c ws)
   shaped_front k line o c [] = (refl, tt, λ d. tt)
   shaped_front k line o c (w ∷ ws) = (refl, tt, λ d. tt)
 
-  shaped_poll : (k mask : ℕ) (r : Option (ℕ × ℤ × ℤ)) → Shaped is_plain (poll_entry p t k mask r ∷ [])
+  shaped_poll : (k : Cost) (mask : ℕ) (r : Option (ℕ × ℤ × ℤ)) → Shaped is_plain (poll_entry p t k mask r ∷ [])
   shaped_poll k mask None = (refl, tt, λ d. tt)
   shaped_poll k mask (Some r) = (refl, tt, λ d. tt)
 
-  trail_prints : (k : ℕ) (is : List Piece) → AllTrail (prints p t k is)
+  trail_prints : (k : Cost) (is : List Piece) → AllTrail (prints p t k is)
   trail_prints k [] = tt
-  trail_prints k (i ∷ is) = (refl, trail_prints 0 is)
+  trail_prints k (i ∷ is) = (refl, trail_prints no_cost is)
 
-  shaped_prints : (k n : ℕ) (is : List Piece) → 1 ≤ n → length is ≡ PRINT_ITEMS → Shaped is_plain (prints p t k (take n is))
+  shaped_prints : (k : Cost) (n : ℕ) (is : List Piece) → 1 ≤ n → length is ≡ PRINT_ITEMS → Shaped is_plain (prints p t k (take n is))
   shaped_prints k zero is le h = absurd (omega arith)
   shaped_prints k (suc n) [] le h = cc
-  shaped_prints k (suc n) (i ∷ is) le h = (refl, second_trail _ (trail_prints 0 (take n is)), λ d. cc)
+  shaped_prints k (suc n) (i ∷ is) le h = (refl, second_trail _ (trail_prints no_cost (take n is)), λ d. cc)
 
-  trail_settled : (line : ℕ) (j : Journal) (a : List Entry) → AllTrail a → AllTrail (settled (fault p t 0 10 line) j a)
+  trail_settled : (line : ℕ) (j : Journal) (a : List Entry) → AllTrail a → AllTrail (settled (fault p t no_cost 10 line) j a)
   trail_settled line j [] h = tt
   trail_settled line j (e ∷ a) h = by (destroys_busy j e.kind e) (trail_settled line (j ++ e ∷ []) a h.1)
     where
-      by : (b : Bool) → AllTrail (settled (fault p t 0 10 line) (j ++ e ∷ []) a) → AllTrail (cond b (fault p t e.ticks 10 line ∷ []) (e ∷ settled (fault p t 0 10 line) (j ++ e ∷ []) a))
+      by : (b : Bool) → AllTrail (settled (fault p t no_cost 10 line) (j ++ e ∷ []) a) → AllTrail (cond b (fault p t (cost e.ticks e.line) 10 line ∷ []) (e ∷ settled (fault p t no_cost 10 line) (j ++ e ∷ []) a))
       by true ih = (refl, tt)
       by false ih = (h.0, ih)
 
-  second_settled : (line : ℕ) (j : Journal) (a : List Entry) → SecondFits a → SecondFits (settled (fault p t 0 10 line) j a)
+  second_settled : (line : ℕ) (j : Journal) (a : List Entry) → SecondFits a → SecondFits (settled (fault p t no_cost 10 line) j a)
   second_settled line j [] h = tt
   second_settled line j (e ∷ a) h = by (destroys_busy j e.kind e)
     where
-      by : (b : Bool) → SecondFits (cond b (fault p t e.ticks 10 line ∷ []) (e ∷ settled (fault p t 0 10 line) (j ++ e ∷ []) a))
+      by : (b : Bool) → SecondFits (cond b (fault p t (cost e.ticks e.line) 10 line ∷ []) (e ∷ settled (fault p t no_cost 10 line) (j ++ e ∷ []) a))
       by true = (refl, tt)
       by false = (h.0, trail_settled line (j ++ e ∷ []) a h.1)
 
-  shaped_settled : (P : EntryKind → Bool) → P kind.Fault ≡ true → (line : ℕ) (j : Journal) (a : List Entry) → Shaped P a → Shaped P (settled (fault p t 0 10 line) j a)
+  shaped_settled : (P : EntryKind → Bool) → P kind.Fault ≡ true → (line : ℕ) (j : Journal) (a : List Entry) → Shaped P a → Shaped P (settled (fault p t no_cost 10 line) j a)
   shaped_settled P pf line j [] h = absurd h
   shaped_settled P pf line j (e ∷ a) h = by (destroys_busy j e.kind e)
     where
-      by : (b : Bool) → Shaped P (cond b (fault p t e.ticks 10 line ∷ []) (e ∷ settled (fault p t 0 10 line) (j ++ e ∷ []) a))
+      by : (b : Bool) → Shaped P (cond b (fault p t (cost e.ticks e.line) 10 line ∷ []) (e ∷ settled (fault p t no_cost 10 line) (j ++ e ∷ []) a))
       by true = (pf, tt, λ d. tt)
       by false = (h.0, second_settled line (j ++ e ∷ []) a h.1, λ d. trail_settled line (j ++ e ∷ []) a (h.2 d))
 
@@ -193,15 +193,15 @@ module _ (p t : ℕ) where
       by true = h
       by false = (pl, tt, λ d. tt)
 
-module _ (opts : Options) (sites : List Site) (input : List ℕ) (j : Journal) (p t k : ℕ) where
+module _ (opts : Options) (sites : List Site) (input : List ℕ) (j : Journal) (p t : ℕ) (k : Cost) where
   shaped_row : (line : ℕ) (r : Request) → makes_new r ≡ false → Fits opts sites j t r → Shaped is_plain (row opts sites input j p t k line r)
   shaped_row line (ask.Make class) n f = cc
-  shaped_row line (ask.Made o) n f = shaped_left p t sites o j (entry kind.Made p t k o (pos 0) (pos 0)) (next o j) refl refl
+  shaped_row line (ask.Made o) n f = shaped_left p t sites o _ (asking kind.Made p t k o (pos 0) (pos 0)) (next o j) refl refl
   shaped_row line (ask.Spawn o) n f = cc
   shaped_row line (ask.Call o m) n f = (refl, shaped_called p t sites o m (inside o j) (open_at o j), λ d. cc)
-  shaped_row line (ask.Leave o) n f = shaped_left p t sites o j (entry kind.Leave p t k o (pos 0) (pos 0)) (next o j) refl refl
+  shaped_row line (ask.Leave o failed) n f = shaped_left p t sites o _ (asking kind.Leave p t k o (truth failed) (pos 0)) (next o j) refl refl
   shaped_row line (ask.Accept o site mask) n f = shaped_accepted p t k o site mask (site_at sites site).has_else (next_met sites site mask o j)
-  shaped_row line (ask.Wait o c x) n f = shaped_left p t sites o j (entry kind.Wait p t k o (pos c) x) (next o j) refl refl
+  shaped_row line (ask.Wait o c x) n f = shaped_left p t sites o _ (asking kind.Wait p t k o (pos c) x) (next o j) refl refl
   shaped_row line (ask.Signal o c) n f = shaped_signalled p t k o c (blocked o c j)
   shaped_row line (ask.SignalBlock o c) n f = shaped_handed p t k o c (blocked o c j)
   shaped_row line (ask.Empty o c) n f = (refl, tt, λ d. tt)
@@ -218,17 +218,18 @@ module _ (opts : Options) (sites : List Site) (input : List ℕ) (j : Journal) (
   shaped_row line (ask.Processor c) n f = shaped_or p t is_plain (nat_lt (processor_count opts j) PROCESSORS) _ _ refl refl
   shaped_row line (ask.ProcessorEnd q) n f = (refl, tt, λ d. tt)
   shaped_row line (ask.Migrate c) n f = (refl, tt, λ d. tt)
-  shaped_row line ask.End n f = shaped_left p t sites (own_object t j) j (entry kind.End p t k (own_object t j) (pos 0) (pos 0)) (next (own_object t j) j) refl refl
+  shaped_row line ask.End n f = shaped_left p t sites (own_object t j) _ (asking kind.End p t k (own_object t j) (pos 0) (pos 0)) (next (own_object t j) j) refl refl
   shaped_row line (ask.Gone o) n f = (refl, tt, λ d. tt)
   shaped_row line (ask.Fault m) n f = (refl, tt, λ d. tt)
 
-  of_row : (P : EntryKind → Bool) → P kind.Fault ≡ true → P kind.Limit ≡ true → (asked : Asked) → Shaped P (row opts sites input j p t k asked.line asked.request) → Shaped P (act opts sites input j p t k asked)
+module _ (opts : Options) (sites : List Site) (input : List ℕ) (j : Journal) (p t k : ℕ) where
+  of_row : (P : EntryKind → Bool) → P kind.Fault ≡ true → P kind.Limit ≡ true → (asked : Asked) → Shaped P (row opts sites input j p t (cost k asked.line) asked.line asked.request) → Shaped P (act opts sites input j p t k asked)
   of_row P pf pl asked h =
       let a = entries_of opts sites input j p t k asked in
-      shaped_fitted p t P pl opts j (a ++ ending opts j p t a) (shaped_append P a (ending opts j p t a) (shaped_settled p t P pf asked.line j (row opts sites input j p t k asked.line asked.request) h) (trail_ending p t opts j a))
+      shaped_fitted p t P pl opts j (a ++ ending opts j p t a) (shaped_append P a (ending opts j p t a) (shaped_settled p t P pf asked.line j (row opts sites input j p t (cost k asked.line) asked.line asked.request) h) (trail_ending p t opts j a))
 
   pub shaped_act : (asked : Asked) → makes_new asked.request ≡ false → Fits opts sites j t asked.request → Shaped is_plain (act opts sites input j p t k asked)
-  shaped_act asked n f = of_row is_plain refl refl asked (shaped_row asked.line asked.request n f)
+  shaped_act asked n f = of_row is_plain refl refl asked (shaped_row opts sites input j p t (cost k asked.line) asked.line asked.request n f)
 
   pub shaped_make : (class line : ℕ) → Shaped is_making (act opts sites input j p t k (record { request = ask.Make class; line = line }))
   shaped_make class line =

@@ -16,7 +16,7 @@ use Rattle.uc_entry.specs.declared.request.Request.{Request}
 use Rattle.uc_entry.specs.declared.request.Request.TheVariants as ask
 use Rattle.uc_entry.specs.Listed.{Listed}
 use Rattle.uc_entry.specs.Keyed.{find}
-use Rattle.uc_acts.specs.Journal.{Journal, begin, number, held, inside, entry, is_over}
+use Rattle.uc_acts.specs.Journal.{Journal, begin, number, held, inside, entry, is_over, asking, Cost, cost, no_cost}
 use Rattle.uc_acts.specs.Known.{has, is_spawn, takes_object, takes_out, spawns_task, spawns, task_count}
 use Rattle.uc_acts.specs.Queues.{running}
 use Rattle.uc_acts.specs.Stations.{Running}
@@ -26,20 +26,20 @@ use Rattle.uc_acts.specs.Acts.{act, entries_of, ending, row, or_fault, settled, 
 use Rattle.uc_acts.proofs.Held.{law_held}
 use Rattle.uc_acts.proofs.Counted.{has_filter}
 use Rattle.uc_acts.proofs.Living.{gone_still, going_row}
-use Rattle.uc_acts.proofs.Sound.{tasks_push, objects_push, self_test, some_task}
+use Rattle.uc_acts.proofs.SoundLemmas.{tasks_push, objects_push, self_test, some_task}
 use Rattle.uc_acts.proofs.Moves.{spot_stays, spot_moves, first_at, known_at, one_inside}
 use Rattle.uc_acts.proofs.Others.{flip, Foreign, held_foreign, running_apart}
 use Rattle.uc_acts.proofs.Rows.{Lawful}
 use Rattle.uc_acts.proofs.Acting.{is_own, AllBy, by_act, object_of, destroys}
 use Rattle.uc_acts.proofs.Given.{held_given}
 use Rattle.uc_acts.proofs.Law.{good_whole, lawful_act}
-use Rattle.uc_book.specs.Mirrors.{Seen}
+use Rattle.uc_kernel_core.specs.Mirrors.{Seen}
 use Rattle.uc_kernel.specs.declared.given.Back.{Back}
 use Rattle.uc_kernel.specs.declared.rests.Rest.{Rest}
 use Rattle.uc_kernel.specs.Numbered.{keys, or_else, without}
-use Rattle.uc_kernel.specs.Kept.{Kept, kept, stored, put_back, task_in, member_in, member_among}
+use Rattle.uc_kernel.specs.KernelState.{Kept, kept, stored, put_back, task_in, member_in, member_among}
 use Rattle.uc_kernel.specs.Calls.{Ends}
-use Rattle.uc_kernel.specs.Shelves.{Lies, AreApart, FromAct, HasChild, IsSpawn, earlier, is_ready}
+use Rattle.uc_kernel.specs.AtRest.{Lies, AreApart, FromAct, HasChild, IsSpawn, earlier, is_ready}
 use Rattle.uc_kernel.proofs.Hands.{no_both, some-same, find_none, find_some}
 use Rattle.uc_kernel.proofs.Places.{get_past, among_only, among_same}
 use Rattle.uc_kernel.proofs.Lying.{not_true, apart_of, one_holder, loose_none, others_none, nowhere_else}
@@ -72,12 +72,12 @@ slot_at : {A : Type 0} (xs : List (Option A)) (x : Option A) → get_or (xs ++ x
 slot_at xs x = get_or-append_seam xs x [] None
 
 -- the new task's entry
-module _ {T M : Type 0} (t p k o : ℕ) (j : Journal) (sound : Sound j) (runs : running p j ≡ t ∷ []) (inside_it : inside o j ≡ t ∷ []) (items : List (ℕ × M)) (hand_is : keys items ≡ held t j) (child : T) (tasks : List (Option (Rest T M))) (loose : List (Option M)) (lies : Lies j tasks loose) (r : Rest T M) (r_task : r.task ≡ child) (m : M) (found : find o items ≡ Some m) (r_items : r.members.items ≡ (o, m) ∷ []) where
+module _ {T M : Type 0} (t p : ℕ) (k : Cost) (o : ℕ) (j : Journal) (sound : Sound j) (runs : running p j ≡ t ∷ []) (inside_it : inside o j ≡ t ∷ []) (items : List (ℕ × M)) (hand_is : keys items ≡ held t j) (child : T) (tasks : List (Option (Rest T M))) (loose : List (Option M)) (lies : Lies j tasks loose) (r : Rest T M) (r_task : r.task ≡ child) (m : M) (found : find o items ≡ Some m) (r_items : r.members.items ≡ (o, m) ∷ []) where
   abbrev e : Entry
-  e = entry kind.Spawn p t k o (pos (task_count j)) (pos 0)
+  e = asking kind.Spawn p t k o (pos (task_count j)) (pos 0)
 
   abbrev i : Journal
-  i = j ++ entry kind.Spawn p t k o (pos (task_count j)) (pos 0) ∷ []
+  i = j ++ asking kind.Spawn p t k o (pos (task_count j)) (pos 0) ∷ []
 
   abbrev new : ℕ
   new = task_count j
@@ -217,7 +217,7 @@ module _ {T M : Type 0} (t p k o : ℕ) (j : Journal) (sound : Sound j) (runs : 
     view k false g =
         ap (λ x. or_else x (or_else (slice_index_or loose k None) (member_among k tasks2))) (ap (find k) hand2_is ∙ find_kept o k items g) ∙ ap (λ x. or_else (find k items) (or_else (slice_index_or loose k None) x)) (among_more k (Some r) tasks ∙ ap (or_else (member_among k tasks)) (child_member k g) ∙ or_nothing (member_among k tasks))
 
-    pub done_spawn : Done t p j i (entry kind.Spawn p t k o (pos (task_count j)) (pos 0) ∷ []) items (Some child) tasks loose hand2 (tasks ++ Some r ∷ []) loose
+    pub done_spawn : Done t p j i (asking kind.Spawn p t k o (pos (task_count j)) (pos 0) ∷ []) items (Some child) tasks loose hand2 (tasks ++ Some r ∷ []) loose
     done_spawn = record {
       mid = mid;
       view = λ k. view k (k == o) refl;
@@ -414,19 +414,19 @@ first_is : (x y : Entry) (a c : List Entry) → x ∷ a ≡ y ∷ c → x ≡ y
 first_is x y a c h = cc
 
 module _ (opts : Options) (sites : List Site) (input : List ℕ) (j : Journal) (p t k : ℕ) where
-  abbrev new_entry : ℕ → Entry
-  new_entry o = entry kind.Spawn p t k o (pos (task_count j)) (pos 0)
+  abbrev new_entry : ℕ → ℕ → Entry
+  new_entry o line = asking kind.Spawn p t (cost k line) o (pos (task_count j)) (pos 0)
 
-  row_spawned : (o line : ℕ) → is_over (j ++ row opts sites input j p t k line (ask.Spawn o)) ≡ false → row opts sites input j p t k line (ask.Spawn o) ≡ new_entry o ∷ []
+  row_spawned : (o line : ℕ) → is_over (j ++ row opts sites input j p t (cost k line) line (ask.Spawn o)) ≡ false → row opts sites input j p t (cost k line) line (ask.Spawn o) ≡ new_entry o line ∷ []
   row_spawned o line h = by (nat_lt (task_count j) TASKS) h
     where
-      by : (b : Bool) → is_over (j ++ or_fault b (new_entry o) (fault p t k 15 line)) ≡ false → or_fault b (new_entry o) (fault p t k 15 line) ≡ new_entry o ∷ []
+      by : (b : Bool) → is_over (j ++ or_fault b (new_entry o line) (fault p t (cost k line) 15 line)) ≡ false → or_fault b (new_entry o line) (fault p t (cost k line) 15 line) ≡ new_entry o line ∷ []
       by true h = refl
-      by false h = absurd (no_both (is_over (j ++ fault p t k 15 line ∷ [])) (over_fault j p t k 15 line) h)
+      by false h = absurd (no_both (is_over (j ++ fault p t (cost k line) 15 line ∷ [])) (over_fault j p t (cost k line) 15 line) h)
 
-  act_spawned : (asked : Asked) → IsSpawn asked.request → is_over (j ++ act opts sites input j p t k asked) ≡ false → act opts sites input j p t k asked ≡ new_entry (object_in asked.request) ∷ []
+  act_spawned : (asked : Asked) → IsSpawn asked.request → is_over (j ++ act opts sites input j p t k asked) ≡ false → act opts sites input j p t k asked ≡ new_entry (object_in asked.request) asked.line ∷ []
   act_spawned asked m h =
-      let g = (going_row opts sites input j p t k asked h).0 ∙ ap (row opts sites input j p t k asked.line) (spawn_is asked.request m) in
+      let g = (going_row opts sites input j p t k asked h).0 ∙ ap (row opts sites input j p t (cost k asked.line) asked.line) (spawn_is asked.request m) in
       g ∙ row_spawned (object_in asked.request) asked.line (ap (λ a. is_over (j ++ a)) (sym g) ∙ h)
 
   pub shaped_spawned : (asked : Asked) → IsSpawn asked.request → Shaped is_spawning (act opts sites input j p t k asked)
@@ -436,21 +436,21 @@ module _ (opts : Options) (sites : List Site) (input : List ℕ) (j : Journal) (
   not_spawn : (e first : Entry) (a c : List Entry) → e ∷ a ≡ first ∷ c → is_spawn e.kind ≡ false → first.kind ≡ kind.Spawn → ⊥
   not_spawn e first a c h n s = no_both (is_spawn first.kind) (ap is_spawn s) (ap (λ x. is_spawn x.kind) (sym (first_is e first a c h)) ∙ n)
 
-  head_of : (o line : ℕ) (first : Entry) (rest : List Entry) → act opts sites input j p t k (record { request = ask.Spawn o; line = line }) ≡ first ∷ rest → first.kind ≡ kind.Spawn → first ≡ new_entry o
+  head_of : (o line : ℕ) (first : Entry) (rest : List Entry) → act opts sites input j p t k (record { request = ask.Spawn o; line = line }) ≡ first ∷ rest → first.kind ≡ kind.Spawn → first ≡ new_entry o line
   head_of o line first rest h s = by (nat_le (length j + length (row0 ++ ending opts j p t row0) + 1) opts.entries) h
     where
       row0 : List Entry
       row0 = entries_of opts sites input j p t k (record { request = ask.Spawn o; line = line })
 
-      settled_by : (b : Bool) (last : List Entry) → settled (fault p t 0 10 line) j (or_fault b (new_entry o) (fault p t k 15 line)) ++ last ≡ first ∷ rest → first ≡ new_entry o
-      settled_by true last h = sym (first_is (new_entry o) first last rest h)
-      settled_by false last h = absurd (not_spawn (fault p t k 15 line) first last rest h refl s)
+      settled_by : (b : Bool) (last : List Entry) → settled (fault p t no_cost 10 line) j (or_fault b (new_entry o line) (fault p t (cost k line) 15 line)) ++ last ≡ first ∷ rest → first ≡ new_entry o line
+      settled_by true last h = sym (first_is (new_entry o line) first last rest h)
+      settled_by false last h = absurd (not_spawn (fault p t (cost k line) 15 line) first last rest h refl s)
 
-      by : (b : Bool) → cond b (row0 ++ ending opts j p t row0) (entry kind.Limit p t 0 0 (pos 0) (pos 0) ∷ []) ≡ first ∷ rest → first ≡ new_entry o
+      by : (b : Bool) → cond b (row0 ++ ending opts j p t row0) (entry kind.Limit p t 0 0 (pos 0) (pos 0) ∷ []) ≡ first ∷ rest → first ≡ new_entry o line
       by true h = settled_by (nat_lt (task_count j) TASKS) (ending opts j p t row0) h
       by false h = absurd (not_spawn (entry kind.Limit p t 0 0 (pos 0) (pos 0)) first [] rest h refl s)
 
-  spawn_head : (asked : Asked) → IsSpawn asked.request → (first : Entry) (rest : List Entry) → act opts sites input j p t k asked ≡ first ∷ rest → first.kind ≡ kind.Spawn → first ≡ new_entry (object_in asked.request)
+  spawn_head : (asked : Asked) → IsSpawn asked.request → (first : Entry) (rest : List Entry) → act opts sites input j p t k asked ≡ first ∷ rest → first.kind ≡ kind.Spawn → first ≡ new_entry (object_in asked.request) asked.line
   spawn_head asked m first rest h s =
       head_of (object_in asked.request) asked.line first rest (ap (λ r. act opts sites input j p t k (record { request = r; line = asked.line })) (sym (spawn_is asked.request m)) ∙ h) s
 
@@ -541,7 +541,7 @@ module _ {T M : Type 0} (s : Seen) (t : ℕ) (b : Back T M) (tasks : List (Optio
   head = head_is x.before act_of first shape (ap (λ l. slice_get l (length x.before)) (sym x.after) ∙ first_there)
 
   abbrev made : Entry
-  made = entry kind.Spawn b.processor t b.ticks (object_in b.asked.request) (pos (task_count x.before)) (pos 0)
+  made = asking kind.Spawn b.processor t (cost b.ticks b.asked.line) (object_in b.asked.request) (pos (task_count x.before)) (pos 0)
 
   first_made : first.kind ≡ kind.Spawn → first ≡ made
   first_made h = spawn_head s.opts s.sites s.input x.before b.processor t b.ticks b.asked sp first head.rest head.is h
@@ -588,13 +588,13 @@ module _ {T M : Type 0} (s : Seen) (t : ℕ) (b : Back T M) (tasks : List (Optio
 
     pub ended_with : is_over s.journal ≡ true → (w : Bool) → Ends (put_back act_of t b.task b.members.items b.child (kept (stored (earlier x.before s) w tasks loose))) (kept (stored s w (slice_set tasks2 t (Some (record { task = b.task; members = hand2 }))) loose))
     ended_with over w =
-        subst (λ y. Ends (put_back act_of t b.task b.members.items y (kept (stored (earlier x.before s) w tasks loose))) (kept (stored s w (slice_set tasks2 t (Some (record { task = b.task; members = hand2 }))) loose))) (sym c_is) (subst (λ l. Ends (put_back act_of t b.task b.members.items (Some c) (kept (stored (earlier x.before s) w tasks loose))) (kept (stored s w (slice_set l t (Some (record { task = b.task; members = hand2 }))) loose))) (sym has_child.last) (ended_spawn t b.processor b.ticks object x.before sound_spawn x.asks.runs within b.members.items x.hand c tasks loose x.lies has_child.rest has_child.task held_object.item held_object.found has_child.items s act_of x.after over takes_none born_one b.task hand2 hand_without w))
+        subst (λ y. Ends (put_back act_of t b.task b.members.items y (kept (stored (earlier x.before s) w tasks loose))) (kept (stored s w (slice_set tasks2 t (Some (record { task = b.task; members = hand2 }))) loose))) (sym c_is) (subst (λ l. Ends (put_back act_of t b.task b.members.items (Some c) (kept (stored (earlier x.before s) w tasks loose))) (kept (stored s w (slice_set l t (Some (record { task = b.task; members = hand2 }))) loose))) (sym has_child.last) (ended_spawn t b.processor (cost b.ticks b.asked.line) object x.before sound_spawn x.asks.runs within b.members.items x.hand c tasks loose x.lies has_child.rest has_child.task held_object.item held_object.found has_child.items s act_of x.after over takes_none born_one b.task hand2 hand_without w))
 
     pub done_with : is_over s.journal ≡ false → Done t b.processor x.before s.journal act_of b.members.items b.child tasks loose hand2 tasks2 loose
     done_with going =
         let empty = unborn_run s.opts s.sites s.input x.runs (task_count x.before) (omega arith) in
         let enough : 1 ≤ hand2.spare = (let r = x.room in omega (arith, r, spare)) in
-        let d = done_spawn t b.processor b.ticks object x.before sound_spawn x.asks.runs within b.members.items x.hand c tasks loose x.lies has_child.rest has_child.task held_object.item held_object.found has_child.items empty hand2 hand_without enough in
+        let d = done_spawn t b.processor (cost b.ticks b.asked.line) object x.before sound_spawn x.asks.runs within b.members.items x.hand c tasks loose x.lies has_child.rest has_child.task held_object.item held_object.found has_child.items empty hand2 hand_without enough in
         subst (λ y. Done t b.processor x.before s.journal act_of b.members.items y tasks loose hand2 tasks2 loose) (sym c_is) (subst (λ l. Done t b.processor x.before s.journal act_of b.members.items (Some c) tasks loose hand2 l loose) (sym has_child.last) (subst (λ l. Done t b.processor x.before s.journal l b.members.items (Some c) tasks loose hand2 (tasks ++ Some has_child.rest ∷ []) loose) (sym (going_made going)) (subst (λ i. Done t b.processor x.before i (made ∷ []) b.members.items (Some c) tasks loose hand2 (tasks ++ Some has_child.rest ∷ []) loose) (sym (x.after ∙ ap (λ l. x.before ++ l) (going_made going))) d)))
 
 -- what was brought brings a child

@@ -16,12 +16,12 @@ use Rattle.uc_acts.specs.Legal.{Legal, DoorFit}
 use Rattle.uc_acts.proofs.Held.{law_held}
 use Rattle.uc_acts.proofs.Living.{gone_still, gone_same}
 use Rattle.uc_acts.proofs.Counted.{gone_push, has_filter}
-use Rattle.uc_acts.proofs.Sound.{tasks_push, objects_push, self_test, plus}
+use Rattle.uc_acts.proofs.SoundLemmas.{tasks_push, objects_push, self_test, plus}
 use Rattle.uc_acts.proofs.Others.{flip}
 use Rattle.uc_kernel.specs.declared.rests.Rest.{Rest}
 use Rattle.uc_kernel.specs.Numbered.{keys, or_else, without}
-use Rattle.uc_kernel.specs.Kept.{member_in, member_among}
-use Rattle.uc_kernel.specs.Shelves.{goes_out, hand_after, laid, loose_after, LetIn, none_there, own, another}
+use Rattle.uc_kernel.specs.KernelState.{member_in, member_among}
+use Rattle.uc_kernel.specs.AtRest.{goes_out, hand_after, laid, loose_after, LetIn, none_there, own, another}
 use Rattle.uc_kernel.proofs.Hands.{no_both, some-same, none_found, find_none}
 use Rattle.uc_kernel.proofs.Places.{among_only, among_same}
 use Rattle.uc_kernel.proofs.Lying.{not_true, one_holder, HandsAre, LooseAre, loose_none, no_member, nowhere_else}

@@ -9,14 +9,14 @@ use Rattle.uc_acts.specs.Journal.{held, is_over}
 use Rattle.uc_acts.specs.KernelRuns.{KernelRuns, MayAsk, more}
 use Rattle.uc_acts.specs.KernelRuns as kernel_runs
 use Rattle.uc_acts.specs.Acts.{act}
-use Rattle.uc_book.specs.Mirrors.{Seen, Appended}
-use Rattle.uc_book.specs.Acting.{acts, makes_new}
+use Rattle.uc_kernel_core.specs.Mirrors.{Seen, Appended}
+use Rattle.uc_kernel_core.specs.CoreActs.{acts, makes_new}
 use Rattle.uc_kernel.specs.declared.given.Back.{Back}
 use Rattle.uc_kernel.specs.declared.given.Next.{Next}
 use Rattle.uc_kernel.specs.declared.rests.Rest.{Rest}
-use Rattle.uc_kernel.specs.Kept.{Store, kept, stored, put_back}
+use Rattle.uc_kernel.specs.KernelState.{Store, kept, stored, put_back}
 use Rattle.uc_kernel.specs.Calls.{MayBring, Acted, Follows}
-use Rattle.uc_kernel.specs.Shelves.{Lies, IsKept, IsAct, IsSpawn, FromAct, FromFirst, admission_in, earlier}
+use Rattle.uc_kernel.specs.AtRest.{Lies, IsKept, IsAct, IsSpawn, FromAct, FromFirst, admission_in, earlier}
 use Rattle.uc_kernel.proofs.Hands.{no_both}
 use Rattle.uc_kernel.proofs.Shapes.{Shaped, is_plain, is_spawning, shaped_act}
 use Rattle.uc_kernel.proofs.Spawning.{shaped_spawned}

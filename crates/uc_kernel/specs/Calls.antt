@@ -10,13 +10,13 @@ use Rattle.uc_acts.specs.Serves.{Serves, left}
 use Rattle.uc_acts.specs.Laws.{IsServed}
 use Rattle.uc_acts.specs.KernelRuns.{MayAsk}
 use Rattle.uc_acts.specs.Acts.{act, dispatch, lone_limit}
-use Rattle.uc_book.specs.Acting.{IsFirst}
+use Rattle.uc_kernel_core.specs.CoreActs.{IsFirst}
 use Rattle.uc_kernel.specs.declared.given.Given.{Given}
 use Rattle.uc_kernel.specs.declared.given.Back.{Back}
 use Rattle.uc_kernel.specs.declared.given.Next.{Next}
 use Rattle.uc_kernel.specs.declared.given.Next.TheVariants.{Go, Blocked, Ended}
 use Rattle.uc_kernel.specs.Numbered.{keys, gathered}
-use Rattle.uc_kernel.specs.Kept.{Kept, Same, put_back, handed, with_entry}
+use Rattle.uc_kernel.specs.KernelState.{Kept, Same, put_back, handed, with_entry}
 
 -- what a worker brings may be taken: its task runs on its processor, what it asks fits, and its members are those of the objects that the task is inside, in the order in which it entered them, with room for one more
 pub record MayBring {T M : Type 0} (k : Kept T M) (b : Back T M) : Type 0 where

@@ -15,7 +15,7 @@ pub struct Runner {
 
 impl<T, M> Kernel<T, M> {
     /// Who runs on a processor. None where nobody does, or the run is over.
-    pub fn runner(&self, processor: u8) -> Option<Runner>
+    pub fn runner(&self, processor: u32) -> Option<Runner>
         ensures none { IfNone result (Journal.is_over self.now.journal ≡ false → running processor self.now.journal ≡ []) }
         ensures some { IfSome result (λ r. IsRunner self.now.opts self.now.journal processor r) }
     {

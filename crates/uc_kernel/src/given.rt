@@ -14,7 +14,7 @@ pub struct Shape {
 /// entered them, what its last request is answered, and the ticks that it has left.
 #[derive(Drop)]
 pub struct Given<T, M> {
-    pub processor: u8,
+    pub processor: u32,
     pub task: T,
     pub members: List<(u32, M)>,
     pub answer: Answer,
@@ -25,7 +25,7 @@ pub struct Given<T, M> {
 /// since, the ticks that it made, and what it asks in which line. With a spawn comes the value of the new task.
 #[derive(Drop)]
 pub struct Back<T, M> {
-    pub processor: u8,
+    pub processor: u32,
     pub task: T,
     pub members: List<(u32, M)>,
     pub child: Option<T>,

@@ -2,7 +2,7 @@
 ghost use Rattle.std.specs.Prelude.{◌≡◌, ◌≤◌, None, MatchOption};
 ghost use Rattle.uc_entry.specs.Keyed.{find};
 ghost use Rattle.uc_kernel.specs.Numbered.{without};
-ghost use Rattle.uc_kernel.specs.Shelves.{AreApart, Stands};
+ghost use Rattle.uc_kernel.specs.AtRest.{AreApart, Stands};
 
 use uc_entry::list::List;
 

@@ -10,23 +10,23 @@ ghost use Rattle.uc_acts.specs.Known.{is_spawn};
 ghost use Rattle.uc_acts.specs.Queues.{running};
 ghost use Rattle.uc_acts.specs.Serves.{left};
 ghost use Rattle.uc_entry.specs.declared.request.Request.TheVariants as ask;
-ghost use Rattle.uc_book.specs.Acting.{makes_new};
-ghost use Rattle.uc_book.specs.Mirrors.{AreKnownSites};
+ghost use Rattle.uc_kernel_core.specs.CoreActs.{makes_new};
+ghost use Rattle.uc_kernel_core.specs.Mirrors.{AreKnownSites};
 ghost use Rattle.uc_kernel.specs.Numbered.{without};
-ghost use Rattle.uc_kernel.specs.Kept.{kept, put_back, stored};
+ghost use Rattle.uc_kernel.specs.KernelState.{kept, put_back, stored};
 ghost use Rattle.uc_kernel.specs.Calls.{MayBring, Acted, Dispatched, EndsRun, Follows, Opened};
-ghost use Rattle.uc_kernel.specs.Shelves.{earlier, AreApart, FromAct, FromFirst, HasChild, IsAct, IsFirst, HandedOn, TakenOut, IsMake, IsSpawn, Lies};
+ghost use Rattle.uc_kernel.specs.AtRest.{earlier, AreApart, FromAct, FromFirst, HasChild, IsAct, IsFirst, HandedOn, TakenOut, IsMake, IsSpawn, Lies};
 
 use crate::given::{Back, Given, Next, Shape};
 use crate::hand::take_from;
 use crate::rests::{Rest, admission_at, drop_destroyed, entry_at, follow_first, follow_second};
 use std::alloc::{AllocError, Global};
 use std::marker::Model;
-use uc_book::book::Book;
-use uc_book::entries::Actor;
 use uc_entry::entry::{Entry, EntryKind, Options};
 use uc_entry::list::List;
 use uc_entry::request::{Answer, Request};
+use uc_kernel_core::book::Book;
+use uc_kernel_core::entries::Actor;
 
 /// The journal of a run with its queues, the values of the tasks that do not run, and the members of objects that no
 /// running task is inside.
@@ -42,8 +42,8 @@ pub struct Kernel<T, M> {
 }
 
 impl<T, M> Model for Kernel<T, M> {
-    ghost use Rattle.uc_kernel.specs.Kept.{Store, stored};
-    ghost use Rattle.uc_kernel.specs.Shelves.{IsKept};
+    ghost use Rattle.uc_kernel.specs.KernelState.{Store, stored};
+    ghost use Rattle.uc_kernel.specs.AtRest.{IsKept};
 
     ghost Value = { Store T M };
 
@@ -231,17 +231,17 @@ fn is_over(book: &Book) -> bool
 // The task that acts.
 fn actor<T, M>(book: &Book, back: &Back<T, M>) -> Actor
     requires going { Journal.is_over book.now.journal ≡ false }
-    ensures processor { result.processor ≡ back.now.processor }
+    ensures processor { (t : ℕ) → running back.now.processor book.now.journal ≡ t ∷ [] → result.processor ≡ back.now.processor }
     ensures task { (t : ℕ) → running back.now.processor book.now.journal ≡ t ∷ [] → result.task ≡ t }
     ensures ticks { result.ticks ≡ back.now.ticks }
     ensures line { result.line ≡ back.now.asked.line }
 {
-    let task = match book.runner(back.processor) {
-        Some(task) => task,
-        None => 0,
+    let (processor, task) = match book.runner(back.processor) {
+        Some(task) => (back.processor as u8, task),
+        None => (0, 0),
     };
     Actor {
-        processor: back.processor,
+        processor,
         task,
         ticks: back.ticks,
         line: back.asked.line,
@@ -264,7 +264,7 @@ fn answer_of(book: &Book, task: u32) -> Answer
 fn take_out<T: Drop, M: Drop>(
     book: &Book,
     tasks: &mut Vec<Option<Rest<T, M>>>,
-    processor: u8,
+    processor: u32,
     task: u32,
 ) -> Option<Given<T, M>>
     requires going { Journal.is_over book.now.journal ≡ false }
@@ -289,7 +289,7 @@ fn take_out<T: Drop, M: Drop>(
 fn hand_on<T: Drop, M: Drop>(
     book: &Book,
     tasks: &mut Vec<Option<Rest<T, M>>>,
-    processor: u8,
+    processor: u32,
     task: u32,
     value: T,
     members: List<(u32, M)>,

@@ -3,7 +3,7 @@ ghost use Rattle.std.specs.Prelude.{◌≡◌, ◌≤◌, ◌<◌, ◌==◌, ◌
 ghost use Rattle.uc_entry.specs.Keyed.{find};
 ghost use Rattle.uc_acts.specs.Known.{is_gone_by};
 ghost use Rattle.uc_kernel.specs.Numbered.{without};
-ghost use Rattle.uc_kernel.specs.Shelves.{admission_in, goes_out, hand_after, laid, loose_after, is_admit, AreApart, CanLetIn, GivenTo, HasRoom, LetIn, LetInBy};
+ghost use Rattle.uc_kernel.specs.AtRest.{admission_in, goes_out, hand_after, laid, loose_after, is_admit, AreApart, CanLetIn, GivenTo, HasRoom, LetIn, LetInBy};
 
 use crate::hand::take_from;
 use uc_entry::entry::{Entry, EntryKind};

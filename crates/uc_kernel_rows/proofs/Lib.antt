@@ -1,3 +1,3 @@
 pub mod Notes
 pub mod Fitting
-pub mod Desks
+pub mod DesksLemmas

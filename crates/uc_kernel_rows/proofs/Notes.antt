@@ -14,10 +14,10 @@ use Rattle.uc_acts.specs.Open.{still_open}
 use Rattle.uc_acts.specs.Journal.{Journal, number, where_true, entries_at, lets_in, moves, is_task, held, owns}
 use Rattle.uc_acts.specs.Known.{has, is_make, object_count, is_gone, is_gone_by, takes_object, owned, owner}
 use Rattle.uc_acts.specs.Queues.{is_cluster, is_processor, cluster_count, processor_count}
-use Rattle.uc_acts.proofs.Open.{still_open_push, filter_true}
+use Rattle.uc_acts.proofs.OpenLemmas.{still_open_push, filter_true}
 use Rattle.uc_acts.proofs.Seats.{at_push}
 use Rattle.std.proofs.lemmas.List.Sums.{fold_push}
-use Rattle.uc_acts.proofs.Sound.{plus, objects_push}
+use Rattle.uc_acts.proofs.SoundLemmas.{plus, objects_push}
 use Rattle.uc_acts.proofs.Counted.{gone_push}
 use Rattle.uc_kernel_rows.specs.declared.watch.Pair.{Pair}
 use Rattle.uc_kernel_rows.specs.Watched.{Watched, Watches, nothing_read, pair_of, number_if, objects_of, tasks_of, still_inside, own_object_by, own_objects, noted, noted_all}
@@ -208,4 +208,4 @@ pub noted_next : (i : ℕ) (es : List Entry) (w : Watched) (d : Entry) → i < l
 noted_next i es w d lt = ap (λ n. noted_all (take n es) w) (more_is i) ∙ noted_after i es w d lt
 
 abbrev pub some_entry : Entry
-some_entry = record { kind = kind.Begin; proc = 0; task = 0; ticks = 0; object = 0; a = pos 0; b = pos 0; c = pos 0; d = pos 0 }
+some_entry = record { kind = kind.Begin; proc = 0; task = 0; ticks = 0; object = 0; a = pos 0; b = pos 0; c = pos 0; d = pos 0; line = 0 }

@@ -3,9 +3,9 @@ use Rattle.std.specs.Prelude.{◌≡◌, ℕ, true, false, List, [], ◌∷◌}
 use Rattle.uc_tree.specs.Programs.{Site}
 use Rattle.uc_entry.specs.declared.entry.Options.{Options}
 use Rattle.uc_entry.specs.declared.request.Request.{Request}
-use Rattle.uc_book.specs.Acting.{makes_new}
-use Rattle.uc_kernel.specs.Kept.{Store}
-use Rattle.uc_kernel.specs.Shelves.{IsMake, IsSpawn}
+use Rattle.uc_kernel_core.specs.CoreActs.{makes_new}
+use Rattle.uc_kernel.specs.KernelState.{Store}
+use Rattle.uc_kernel.specs.AtRest.{IsMake, IsSpawn}
 use Rattle.uc_kernel_rows.specs.declared.desk.Form.{Form}
 use Rattle.uc_kernel_rows.specs.declared.desk.Form.TheVariants.{Makes, Spawns, Acts}
 use Rattle.uc_kernel_rows.specs.Watched.{Watched, Watches}

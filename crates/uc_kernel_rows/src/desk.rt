@@ -3,10 +3,10 @@ ghost use Rattle.std.specs.Prelude.{◌≡◌, ◌≤◌, ◌<◌, ◌∷◌, []
 ghost use Rattle.uc_tree.specs.declared.limits.TheConstants.{INPUT_BYTES};
 ghost use Rattle.uc_acts.specs.Journal.{is_over};
 ghost use Rattle.uc_acts.specs.KernelRuns.{InRange};
-ghost use Rattle.uc_book.specs.Acting.{makes_new};
-ghost use Rattle.uc_kernel.specs.Kept.{kept};
+ghost use Rattle.uc_kernel_core.specs.CoreActs.{makes_new};
+ghost use Rattle.uc_kernel.specs.KernelState.{kept};
 ghost use Rattle.uc_kernel.specs.Calls.{Acted, MayBring};
-ghost use Rattle.uc_kernel.specs.Shelves.{IsMake, IsSpawn};
+ghost use Rattle.uc_kernel.specs.AtRest.{IsMake, IsSpawn};
 ghost use Rattle.uc_kernel_rows.specs.Desks.{HasForm, IsDesk};
 
 use crate::sites::known_sites;

@@ -130,7 +130,7 @@ impl Watch {
             Request::Made { object } => self.is_at(task, object),
             Request::Spawn { object } => self.may_spawn(task, object),
             Request::Call { object, member } => self.may_call(task, object, member),
-            Request::Leave { object } => self.is_at(task, object),
+            Request::Leave { object, .. } => self.is_at(task, object),
             Request::Accept { object, site, mask } => self.may_accept(
                 sites, task, object, site, mask,
             ),

@@ -14,14 +14,14 @@ use uc_kernel::given::{Back, Given, Next};
 // What a task of a row asks: on which processor, after how many ticks, with which value of a new task.
 #[derive(Clone, Copy)]
 struct Order {
-    processor: u8,
+    processor: u32,
     ticks: u32,
     child: u32,
     asked: Asked,
 }
 
 // What a processor holds, if it holds something.
-fn take_given(hands: &mut Vec<Option<Given<u32, u32>>>, processor: u8) -> Option<Given<u32, u32>> {
+fn take_given(hands: &mut Vec<Option<Given<u32, u32>>>, processor: u32) -> Option<Given<u32, u32>> {
     match hands.get_mut(processor as usize) {
         None => None,
         Some(place) => place.take(),
@@ -155,7 +155,7 @@ fn dispatch(alloc: Global, desk: &mut Desk) -> Result<String, AllocError>
 fn order_of(words: &Words<'_>) -> Option<Order> {
     let request = words.request(4)?;
     Some(Order {
-        processor: words.byte(1),
+        processor: words.number(1),
         ticks: words.number(2),
         child: words.number(6),
         asked: Asked {

@@ -87,7 +87,10 @@ impl<'a> Words<'a> {
                 object,
                 member: self.byte(at + 2),
             }),
-            "leave" => Some(Request::Leave { object }),
+            "leave" => Some(Request::Leave {
+                object,
+                failed: self.byte(at + 2) == 1,
+            }),
             "accept" => Some(Request::Accept {
                 object,
                 site: self.number(at + 2),

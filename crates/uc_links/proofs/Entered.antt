@@ -8,9 +8,8 @@ use lib.Dec.{eqb_refl}
 use Rattle.uc_links.specs.declared.chain.Ends.{Ends}
 use Rattle.uc_links.specs.declared.chain.NodePtr.{NodePtr}
 use Rattle.uc_links.specs.declared.chain.Node.{Node}
-use Rattle.uc_links.specs.declared.object.Object.{Object}
 use Rattle.uc_links.specs.Chain.{Nodes, node, link, index_of, place_of, IsNode, first_or, Avoids, IsChain, ChangedWithin, Labelled}
-use Rattle.uc_links.specs.Held.{IsHeld, IsOf, IsStack, Changed, peers, ends_of, no_ends}
+use Rattle.uc_links.specs.Held.{AllEnds, IsHeld, IsOf, IsStack, Changed, peers, ends_of, no_ends}
 use Rattle.uc_links.proofs.Segments.{all_both, all_more, kept}
 use Rattle.uc_links.proofs.Chains.{at_places, same_places, index_same, flip}
 use Rattle.uc_links.proofs.Filters.{all_every, all_and, differ, filter_append, filter_same, filter_all, filter_true}
@@ -41,7 +40,7 @@ stack_links v w [] e h s = tt
 stack_links v w (i ∷ is) e h s =
     (ap (λ l. l.next) h.0 ∙ s.0 ∙ ap (λ (r : ℕ → NodePtr). first_or r is None) (sym (same_places v w e)), stack_links v w is e h.1 s.1)
 
-module _ (v0 v1 v2 v3 : Nodes) (i o m : ℕ) (ob : Object) (e' f' : Ends) (lm : m < 32) (li : i < vec_len v0)
+module _ (v0 v1 v2 v3 : Nodes) (i o m : ℕ) (ob : AllEnds) (e' f' : Ends) (lm : m < 32) (li : i < vec_len v0)
     (lab : Labelled i o false m v0 v1)
     (c1 : (es : List ℕ) → IsChain 0 v1 ob.entries es → Avoids i es → IsChain 0 v2 e' (es ++ i ∷ []))
     (r1 : (es : List ℕ) → IsChain 0 v1 ob.entries es → ChangedWithin 0 (i ∷ es) v1 v2)
@@ -103,7 +102,7 @@ module _ (v0 v1 v2 v3 : Nodes) (i o m : ℕ) (ob : Object) (e' f' : Ends) (lm : 
       (differ (λ j. ((node v0 j).member == m) ≡ true) (λ j. ((node v0 j).member == k) ≡ true) (λ j a b. n (sym (test_same _ k b) ∙ test_same _ m a)) (peers v0 m es) (peers v0 k es)
       (filter_true (λ j. (node v0 j).member == m) es) (filter_true (λ j. (node v0 j).member == k) es))
 
-  abbrev new : Object
+  abbrev new : AllEnds
   new = record { entries = e'; members = slice_set ob.members m f'; top = ob.top }
 
   in_range : m < length ob.members
@@ -153,7 +152,7 @@ module _ (v0 v1 v2 v3 : Nodes) (i o m : ℕ) (ob : Object) (e' f' : Ends) (lm : 
   label = member_i
 
 -- what the two calls of `link_last` ask for
-module _ (v0 v1 : Nodes) (i o m : ℕ) (ob : Object) (lab : Labelled i o false m v0 v1) (es st : List ℕ) (h : IsHeld v0 o ob es st) where
+module _ (v0 v1 : Nodes) (i o m : ℕ) (ob : AllEnds) (lab : Labelled i o false m v0 v1) (es st : List ℕ) (h : IsHeld v0 o ob es st) where
   pub first_chain : IsChain 0 v1 ob.entries es
   first_chain = chain_links 0 v0 v1 ob.entries es lab.0 lab.1 (all_every (λ j. link 0 v1 j ≡ link 0 v0 j) (lab.6 0) es) h.0
 
@@ -168,7 +167,7 @@ abbrev pub Keeps : ℕ → Nodes → Ends → Nodes → ℕ → Type 0
 Keeps k v e w i = (es : List ℕ) → IsChain k v e es → ChangedWithin k (i ∷ es) v w
 
 -- the three steps together, at a pointer
-pub at_place : (v0 v1 v2 v3 : Nodes) (o m : ℕ) (ob : Object) (e' f' : Ends) (p : NodePtr) → m < 32 → IsNode v0 p → Labelled (index_of v0 p) o false m v0 v1
+pub at_place : (v0 v1 v2 v3 : Nodes) (o m : ℕ) (ob : AllEnds) (e' f' : Ends) (p : NodePtr) → m < 32 → IsNode v0 p → Labelled (index_of v0 p) o false m v0 v1
     → Links 0 v1 ob.entries v2 e' (index_of v1 p) → Keeps 0 v1 ob.entries v2 (index_of v1 p) → Links 1 v2 (ends_of ob m) v3 f' (index_of v2 p) → Keeps 1 v2 (ends_of ob m) v3 (index_of v2 p)
     → let i = index_of v0 p in (es st : List ℕ) → IsHeld v0 o ob es st → Avoids i es → Avoids i st
     → IsHeld v3 o (record { entries = e'; members = slice_set ob.members m f'; top = ob.top }) (es ++ i ∷ []) st × Changed i (i ∷ es) v0 v3 × ((node v3 i).member ≡ m)

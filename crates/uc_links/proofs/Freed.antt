@@ -24,11 +24,11 @@ named v id (x ∷ xs) h = (h.0, named v id xs h.1)
 avoids : (v : Nodes) (o : ℕ) (b : Bool) (id : ℕ) (xs : List ℕ) → (IsOf v o b id → ⊥) → AllByRecursion (IsOf v o b) xs → Avoids id xs
 avoids v o b id xs no_such h = all_more (IsOf v o b) (λ j. j ≢ id) (λ j p e. no_such (subst (IsOf v o b) e p)) xs h
 
-seen_at : (v : Nodes) (obs : Objects) (o : ℕ) → o < length obs.items → lists_at (pool_of v obs) o ≡ lists_of v (object_at obs o)
-seen_at v obs o lo = get_map (lists_of v) obs.items o no_object no_lists lo
+seen_at : (v : Nodes) (obs : Objects) (o : ℕ) → o < length obs → lists_at (pool_of v obs) o ≡ lists_of v (object_at obs o)
+seen_at v obs o lo = get_map (lists_of v) obs o no_object no_lists lo
 
 -- the lists of another object have other nodes
-other : (v : Nodes) (obs : Objects) (o q id : ℕ) (b : Bool) → Holds v obs → q < length obs.items → q ≢ o → IsOf v o b id → Clear id (lists_at (pool_of v obs) q)
+other : (v : Nodes) (obs : Objects) (o q id : ℕ) (b : Bool) → Holds v obs → q < length obs → q ≢ o → IsOf v o b id → Clear id (lists_at (pool_of v obs) q)
 other v obs o q id b hold lq n me =
     let h = hold.2 q lq in
     let no_such = λ (c : Bool) (p : IsOf v q c id). n (sym p.0 ∙ me.0) in
@@ -48,14 +48,14 @@ cleared : (id : ℕ) (es : List (ℕ × ℕ)) → AllByRecursion (λ e. e.0 ≢ 
 cleared id [] = tt
 cleared id (x ∷ xs) = kept id x (without id xs) (x.0 == id) refl (cleared id xs)
 
-in_map : (v : Nodes) (obs : Objects) (o : ℕ) → o < length obs.items → o < length (map (lists_of v) obs.items)
-in_map v obs o lo = subst (λ (k : ℕ). o < k) (sym (length-map obs.items (lists_of v))) lo
+in_map : (v : Nodes) (obs : Objects) (o : ℕ) → o < length obs → o < length (map (lists_of v) obs)
+in_map v obs o lo = subst (λ (k : ℕ). o < k) (sym (length-map obs (lists_of v))) lo
 
-out_of_map : (v : Nodes) (obs : Objects) (o : ℕ) → o < length (map (lists_of v) obs.items) → o < length obs.items
-out_of_map v obs o lo = subst (λ (k : ℕ). o < k) (length-map obs.items (lists_of v)) lo
+out_of_map : (v : Nodes) (obs : Objects) (o : ℕ) → o < length (map (lists_of v) obs) → o < length obs
+out_of_map v obs o lo = subst (λ (k : ℕ). o < k) (length-map obs (lists_of v)) lo
 
 module _ (v : Nodes) (obs : Objects) (o id : ℕ) (hold : Holds v obs) where
-  freed_entry : o < length obs.items → IsEntry id (lists_at (pool_of v obs) o).entries → IsFree id (unlinked (pool_of v obs) o id)
+  freed_entry : o < length obs → IsEntry id (lists_at (pool_of v obs) o).entries → IsFree id (unlinked (pool_of v obs) o id)
   freed_entry lo is_in =
       let at = entry_at id _ is_in in
       let c = cut_map v id at.1 (entries_of v (object_at obs o)) at.0 at.2 (ap (λ (x : Lists). x.entries) (sym (seen_at v obs o lo)) ∙ at.3) in
@@ -65,7 +65,7 @@ module _ (v : Nodes) (obs : Objects) (o id : ℕ) (hold : Holds v obs) where
       (cleared id (lists_at (pool_of v obs) o).entries, subst (λ (l : Lists). Avoids id l.stack) (sym (seen_at v obs o lo)) stack)
       (λ q lq n. other v obs o q id false hold (out_of_map v obs q lq) n me)
 
-  freed_top : (is : List ℕ) → o < length obs.items → stack_of v (object_at obs o) ≡ id ∷ is → IsFree id (popped (pool_of v obs) o)
+  freed_top : (is : List ℕ) → o < length obs → stack_of v (object_at obs o) ≡ id ∷ is → IsFree id (popped (pool_of v obs) o)
   freed_top is lo top =
       let h = hold.2 o lo in
       let me = (subst (AllByRecursion (IsOf v o true)) top h.5).0 in
@@ -75,7 +75,7 @@ module _ (v : Nodes) (obs : Objects) (o id : ℕ) (hold : Holds v obs) where
       (subst (λ (l : Lists). Clear id (record { entries = l.entries; stack = rest_of l.stack })) (sym (seen_at v obs o lo)) (named v id (entries_of v (object_at obs o)) entries, subst (λ (st : List ℕ). Avoids id (rest_of st)) (sym top) below))
       (λ q lq n. other v obs o q id true hold (out_of_map v obs q lq) n me)
 
-  known_top : (is : List ℕ) → o < length obs.items → stack_of v (object_at obs o) ≡ id ∷ is → id < vec_len v
+  known_top : (is : List ℕ) → o < length obs → stack_of v (object_at obs o) ≡ id ∷ is → id < vec_len v
   known_top is lo top = (subst (AllByRecursion (λ j. j < vec_len v)) top (hold.2 o lo).6).0
 
 -- the top of a list
@@ -83,11 +83,11 @@ topped : (id : ℕ) (st : List ℕ) → Some id ≡ first_of st → st ≡ id �
 topped id [] h = absurd cc
 topped id (x ∷ xs) h = let same : id ≡ x = cc in ap (λ (y : ℕ). y ∷ xs) (sym same)
 
-known_object : (v : Nodes) (obs : Objects) (o id : ℕ) → Some id ≡ first_of (lists_at (pool_of v obs) o).stack → o < length obs.items
-known_object v obs o id h = elim (cases_lt o (length obs.items)) [
+known_object : (v : Nodes) (obs : Objects) (o id : ℕ) → Some id ≡ first_of (lists_at (pool_of v obs) o).stack → o < length obs
+known_object v obs o id h = elim (cases_lt o (length obs)) [
   | inl l ↦ l
   | inr g ↦
-      let none : lists_at (pool_of v obs) o ≡ no_lists = get_or_past (map (lists_of v) obs.items) o no_lists (subst (λ (k : ℕ). k ≤ o) (sym (length-map obs.items (lists_of v))) g) in
+      let none : lists_at (pool_of v obs) o ≡ no_lists = get_or_past (map (lists_of v) obs) o no_lists (subst (λ (k : ℕ). k ≤ o) (sym (length-map obs (lists_of v))) g) in
       let wrong : Some id ≡ first_of [] = h ∙ ap (λ (l : Lists). first_of l.stack) none in
       absurd cc
 ]

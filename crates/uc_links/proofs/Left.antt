@@ -5,9 +5,8 @@ use Rattle.std.specs.List.{AllByRecursion}
 use Rattle.std.specs.Vec.{vec_len, vec_ptr}
 use Rattle.uc_links.specs.declared.chain.Ends.{Ends}
 use Rattle.uc_links.specs.declared.chain.NodePtr.{NodePtr}
-use Rattle.uc_links.specs.declared.object.Object.{Object}
 use Rattle.uc_links.specs.Chain.{Nodes, node, link, first_or, Avoids, IsChain, ChangedWithin}
-use Rattle.uc_links.specs.Held.{IsHeld, IsOf, Changed, peers, ends_of, no_ends}
+use Rattle.uc_links.specs.Held.{AllEnds, IsHeld, IsOf, Changed, peers, ends_of, no_ends}
 use Rattle.uc_links.proofs.Segments.{all_left, all_right, all_both, all_more}
 use Rattle.uc_links.proofs.Chains.{same_places}
 use Rattle.uc_links.proofs.Entered.{chain_links, stack_links, same_test, test_same, other_test}
@@ -19,7 +18,7 @@ Unlinks k v e w e' i = (xs ys : List ℕ) → IsChain k v e (xs ++ i ∷ ys) →
 abbrev pub Spares : ℕ → Nodes → Ends → Nodes → ℕ → Type 0
 Spares k v e w i = (xs ys : List ℕ) → IsChain k v e (xs ++ i ∷ ys) → ChangedWithin k (xs ++ ys) v w
 
-module _ (v0 : Nodes) (i o m : ℕ) (ob : Object) (lm : m < 32) (mi : (node v0 i).member ≡ m) (xs ys st : List ℕ) (h : IsHeld v0 o ob (xs ++ i ∷ ys) st) where
+module _ (v0 : Nodes) (i o m : ℕ) (ob : AllEnds) (lm : m < 32) (mi : (node v0 i).member ≡ m) (xs ys st : List ℕ) (h : IsHeld v0 o ob (xs ++ i ∷ ys) st) where
   peers_i : peers v0 m (xs ++ i ∷ ys) ≡ peers v0 m xs ++ i ∷ peers v0 m ys
   peers_i = filter_append (λ j. (node v0 j).member == m) xs (i ∷ ys) ∙ ap (λ (b : Bool). peers v0 m xs ++ cond b (i ∷ peers v0 m ys) (peers v0 m ys)) (same_test _ m mi)
 
@@ -59,7 +58,7 @@ module _ (v0 : Nodes) (i o m : ℕ) (ob : Object) (lm : m < 32) (mi : (node v0 i
     joined_peers : (k : ℕ) → peers v0 k xs ++ peers v0 k ys ≡ peers v0 k (xs ++ ys)
     joined_peers k = sym (filter_append (λ j. (node v0 j).member == k) xs ys)
 
-    abbrev new : Object
+    abbrev new : AllEnds
     new = record { entries = e'; members = slice_set ob.members m f'; top = ob.top }
 
     in_range : m < length ob.members

@@ -1,11 +1,15 @@
 pub mod Chains
+pub mod Claims
 pub mod Entered
 pub mod Filters
 pub mod Firsts
 pub mod Freed
+pub mod Grown
 pub mod Left
 pub mod Pools
 pub mod Looks
+pub mod Moves
 pub mod Pops
 pub mod Segments
 pub mod Stacks
+pub mod Wholes

@@ -1,16 +1,15 @@
 -- What is read from a pool, which a read leaves as it is; and a node that leaves it.
-use Rattle.std.proofs.Common.{T, ◌||◌, eqb→eq, ◌≡◌, ◌≢◌, ℕ, zero, suc, ◌<◌, ◌==◌, List, [], ◌∷◌, ◌++◌, map, Bool, true, false, not, cond, Option, Some, None, refl, sym, ap, ◌∙◌, subst, inl, inr, slice_index_or, length}
+use Rattle.std.proofs.Common.{T, ◌||◌, eqb→eq, ◌≡◌, ◌≢◌, ℕ, zero, suc, ◌<◌, ◌==◌, List, [], ◌∷◌, ◌++◌, map, Bool, true, false, not, cond, Option, Some, None, refl, sym, ap, ◌∙◌, subst, inl, inr, slice_index_or, slice_set, length}
 use Rattle.std.proofs.lemmas.Bool.{cases_lt}
-use Rattle.std.proofs.lemmas.List.{map-append, get_or_default, get_or_past}
+use Rattle.std.proofs.lemmas.List.{map-append, get_or_past}
 use Rattle.std.proofs.lemmas.List.Elements.{filter-append}
 use Rattle.std.specs.List.{AllByRecursion, list_any}
-use Rattle.std.specs.Vec.{vec_len, vec_ptr, with_item}
+use Rattle.std.specs.Vec.{vec_len, vec_ptr}
 use denote.RawPtr.{InBlock}
 use Rattle.uc_links.specs.declared.chain.NodePtr.{NodePtr}
 use Rattle.uc_links.specs.declared.chain.Node.{Node}
-use Rattle.uc_links.specs.declared.object.Object.{Object}
 use Rattle.uc_links.specs.Chain.{Nodes, node, blank, no_link, link, index_of, place_of, IsNode, Avoids}
-use Rattle.uc_links.specs.Held.{IsHeld, IsOf, Changed, follow, entries_of, stack_of}
+use Rattle.uc_links.specs.Held.{AllEnds, IsHeld, IsOf, Changed, follow, entries_of, stack_of}
 use Rattle.uc_links.specs.Lists.{Lists, Pool, no_lists, lists_at, IsEntry, without, unlinked, first_of}
 use Rattle.uc_links.specs.View.{Objects, no_object, object_at, entry, lists_of, pool_of, Holds}
 use Rattle.uc_links.proofs.Segments.{all_left, all_right, all_both, all_more}
@@ -40,13 +39,13 @@ module _ (v u : Nodes) (s : Same v u) where
   entries_same : (es : List ℕ) → map (entry u) es ≡ map (entry v) es
   entries_same es = map_same v u es (all_every (λ i. (node u i).member ≡ (node v i).member) (λ i. ap (λ (x : Node). x.member) (nodes i)) es)
 
-  lists_same : (ob : Object) → lists_of u ob ≡ lists_of v ob
+  lists_same : (ob : AllEnds) → lists_of u ob ≡ lists_of v ob
   lists_same ob =
       let es = ap (map (entry u)) (walks ob.entries.first) ∙ entries_same (entries_of v ob) in let st = walks ob.top in
       λ z. record { entries = es z; stack = st z }
 
   pub pool_same : (obs : Objects) → pool_of u obs ≡ pool_of v obs
-  pool_same obs = λ z. record { count = s.1 z; lists = map (λ ob. lists_same ob z) obs.items }
+  pool_same obs = λ z. record { count = s.1 z; lists = map (λ ob. lists_same ob z) obs }
 
   pub holds_same : (obs : Objects) → Holds v obs → Holds u obs
   holds_same obs h = (
@@ -65,7 +64,7 @@ Front v es p = (i : ℕ) × (is : List ℕ) × (es ≡ i ∷ is) × (p ≡ place
 pub some_is : (p q : NodePtr) → (let a : Option NodePtr = Some p in a ≡ Some q) → p ≡ q
 some_is p q e = cc
 
-front_from : (v : Nodes) (o : ℕ) (ob : Object) (p : NodePtr) (es st : List ℕ) → IsHeld v o ob es st → ob.entries.first ≡ Some p → Front v es p
+front_from : (v : Nodes) (o : ℕ) (ob : AllEnds) (p : NodePtr) (es st : List ℕ) → IsHeld v o ob es st → ob.entries.first ≡ Some p → Front v es p
 front_from v o ob p [] st h e = let wrong : None ≡ Some p = sym (ap (λ x. x.first) h.0.0) ∙ e in absurd cc
 front_from v o ob p (i ∷ is) st h e = (i, is, refl, some_is p (place_of v i) (sym e ∙ ap (λ x. x.first) h.0.0), h.0.2.0)
 
@@ -83,7 +82,7 @@ front_is v obs o p r h f e =
     let id = e.0 ∙ ap (λ (j : ℕ). (node v j).id) at_i ∙ h.1 i f.4 in let m = e.1 ∙ ap (λ (j : ℕ). (node v j).member) at_i in
     (λ z. Some (id z, m z)) ∙ ap (λ (es : List ℕ). first_of (map (entry v) es)) (sym f.2) ∙ ap (λ (x : Lists). first_of x.entries) (sym (any_lists v obs o))
 
-none_from : (v : Nodes) (o : ℕ) (ob : Object) (es st : List ℕ) → IsHeld v o ob es st → ob.entries.first ≡ None → None ≡ first_of (map (entry v) es)
+none_from : (v : Nodes) (o : ℕ) (ob : AllEnds) (es st : List ℕ) → IsHeld v o ob es st → ob.entries.first ≡ None → None ≡ first_of (map (entry v) es)
 none_from v o ob [] st h e = refl
 none_from v o ob (i ∷ is) st h e = let wrong : None ≡ Some (place_of v i) = sym e ∙ ap (λ x. x.first) h.0.0 in absurd cc
 
@@ -128,7 +127,7 @@ drop_one v id xs ys a b =
     ∙ (λ z. keep_all v id xs a z ++ cond (not (same_test id id refl z)) (entry v id ∷ without id (map (entry v) ys)) (without id (map (entry v) ys)))
     ∙ ap (λ (l : List (ℕ × ℕ)). map (entry v) xs ++ l) (keep_all v id ys b) ∙ sym (map-append (entry v) xs ys)
 
-module _ (v w : Nodes) (obs : Objects) (o id : ℕ) (ob' : Object) (hold : Holds v obs) (lo : o < length obs.items) (xs ys : List ℕ) (cut : entries_of v (object_at obs o) ≡ xs ++ id ∷ ys)
+module _ (v w : Nodes) (obs : Objects) (o id : ℕ) (ob' : AllEnds) (hold : Holds v obs) (lo : o < length obs) (xs ys : List ℕ) (cut : entries_of v (object_at obs o) ≡ xs ++ id ∷ ys)
     (left : (st : List ℕ) → IsHeld v o (object_at obs o) (xs ++ id ∷ ys) st → IsHeld w o ob' (xs ++ ys) st × Changed id (xs ++ ys) v w) where
   abbrev S0 : List ℕ
   S0 = stack_of v (object_at obs o)
@@ -142,24 +141,24 @@ module _ (v w : Nodes) (obs : Objects) (o id : ℕ) (ob' : Object) (hold : Holds
       let r = all_right (λ j. j ≢ i) xs (id ∷ ys) a in (flip id i r.0, all_both (λ j. j ≢ i) xs ys (all_left (λ j. j ≢ i) xs (id ∷ ys) a) r.1)) is
       (differ (IsOf v o false) (IsOf v p b) (λ i x y. n (sym y.0 ∙ x.0)) (xs ++ id ∷ ys) is before.2 h)
 
-  pub unlink_both : Holds w (with_item obs o ob') × (pool_of w (with_item obs o ob') ≡ unlinked (pool_of v obs) o id)
+  pub unlink_both : Holds w (slice_set obs o ob') × (pool_of w (slice_set obs o ob') ≡ unlinked (pool_of v obs) o id)
   unlink_both =
       let g = left S0 before in let here = g.0 in let change = g.1 in
       let ax = all_more (λ j. Avoids j (id ∷ ys)) (λ j. j ≢ id) (λ j a. flip id j a.0) xs (apart_cross xs (id ∷ ys) before.0.3) in
       let ay = (apart_right xs (id ∷ ys) before.0.3).0 in
       let f = found w o ob' (xs ++ ys) S0 (subst InBlock (sym change.0) hold.0) here in
       let labels = map_same v w (xs ++ ys) (all_more (λ i. i ≢ id) (λ i. (node w i).member ≡ (node v i).member) change.3 (xs ++ ys) (all_both (λ i. i ≢ id) xs ys ax ay)) in
-      let at_object = get_map (lists_of v) obs.items o no_object no_lists lo in
+      let at_object = get_map (lists_of v) obs o no_object no_lists lo in
       let es = ap (map (entry w)) f.0 ∙ labels ∙ sym (drop_one v id xs ys ax ay) ∙ ap (λ (l : List ℕ). without id (map (entry v) l)) (sym cut) ∙ ap (λ (x : Lists). without id x.entries) (sym at_object) in
       let st = f.1 ∙ ap (λ (x : Lists). x.stack) (sym at_object) in
       both v w obs o id ob' (xs ++ ys) S0 (xs ++ ys) _ hold lo here change (λ z. record { entries = es z; stack = st z })
       (λ p l n. apart false p (entries_of v (object_at obs p)) n (hold.2 p l).2) (λ p l n. apart true p (stack_of v (object_at obs p)) n (hold.2 p l).5)
 
 -- ---- what `Links::unlink` asks for and gives: v as it begins, v0 at the pointer, u after the label was read
-module _ (v v0 u : Nodes) (obs : Objects) (o id : ℕ) (b : Object) (p : NodePtr) (hold : Holds v obs) (lo : o < length obs.items) (is_in : IsEntryAt id (lists_at (pool_of v obs) o).entries)
-    (ep : p ≡ place_of v id) (e0 : v0 ≡ v) (same : Same v0 u) (eb : b ≡ slice_index_or obs.items o b) where
+module _ (v v0 u : Nodes) (obs : Objects) (o id : ℕ) (b : AllEnds) (p : NodePtr) (hold : Holds v obs) (lo : o < length obs) (is_in : IsEntryAt id (lists_at (pool_of v obs) o).entries)
+    (ep : p ≡ place_of v id) (e0 : v0 ≡ v) (same : Same v0 u) (same_b : b ≡ object_at obs o) where
   cut : (xs : List ℕ) × (ys : List ℕ) × (entries_of v (object_at obs o) ≡ xs ++ id ∷ ys)
-  cut = cut_map v id is_in.1 (entries_of v (object_at obs o)) is_in.0 is_in.2 (ap (λ (x : Lists). x.entries) (sym (get_map (lists_of v) obs.items o no_object no_lists lo)) ∙ is_in.3)
+  cut = cut_map v id is_in.1 (entries_of v (object_at obs o)) is_in.0 is_in.2 (ap (λ (x : Lists). x.entries) (sym (get_map (lists_of v) obs o no_object no_lists lo)) ∙ is_in.3)
 
   abbrev S1 : List ℕ
   S1 = stack_of v (object_at obs o)
@@ -194,34 +193,31 @@ module _ (v v0 u : Nodes) (obs : Objects) (o id : ℕ) (b : Object) (p : NodePtr
       let of_id = (all_right (IsOf u o false) cut.0 (id ∷ cut.1) held_u.2).0 in
       (hold_u.0, node_moved v0 u p same.0 same.1 is_node_v0, subst (λ (x : ℕ). x < 32) (ap (λ (j : ℕ). (node u j).member) (sym index_u) ∙ m) of_id.2, m)
 
-  same_b : b ≡ object_at obs o
-  same_b = eb ∙ get_or_default obs.items o b no_object lo
-
   pub held_asked : (q : ℕ) × (xs : List ℕ) × (ys : List ℕ) × (st : List ℕ) × IsHeld u q b (xs ++ index_of u p ∷ ys) st
   held_asked = (
     o,
     cut.0,
     cut.1,
     stack_of u (object_at obs o),
-    subst (λ (x : Object). IsHeld u o x (cut.0 ++ index_of u p ∷ cut.1) (stack_of u (object_at obs o))) (sym same_b)
+    subst (λ (x : AllEnds). IsHeld u o x (cut.0 ++ index_of u p ∷ cut.1) (stack_of u (object_at obs o))) (sym same_b)
         (subst (λ (j : ℕ). IsHeld u o (object_at obs o) (cut.0 ++ j ∷ cut.1) (stack_of u (object_at obs o))) (sym index_u) held_u),
   )
 
-  abbrev pub Leaves : Object → Nodes → Object → ℕ → Type 0
+  abbrev pub Leaves : AllEnds → Nodes → AllEnds → ℕ → Type 0
   Leaves x w b' i = (q : ℕ) (xs ys st : List ℕ) → IsHeld u q x (xs ++ i ∷ ys) st → IsHeld w q b' (xs ++ ys) st × Changed i (xs ++ ys) u w
 
-  pub unlink_gives : (w : Nodes) (b' : Object) → Leaves b w b' (index_of u p) → Holds w (with_item obs o b') × (pool_of w (with_item obs o b') ≡ unlinked (pool_of v obs) o id)
+  pub unlink_gives : (w : Nodes) (b' : AllEnds) → Leaves b w b' (index_of u p) → Holds w (slice_set obs o b') × (pool_of w (slice_set obs o b') ≡ unlinked (pool_of v obs) o id)
   unlink_gives w b' e =
-      let e' = subst (λ (x : Object). Leaves x w b' id) same_b (subst (Leaves b w b') index_u e) in
+      let e' = subst (λ (x : AllEnds). Leaves x w b' id) same_b (subst (Leaves b w b') index_u e) in
       let g = unlink_both u w obs o id b' hold_u lo cut.0 cut.1 cut_u (λ st h. e' o cut.0 cut.1 st h) in
       (g.0, g.1 ∙ ap (λ (q : Pool). unlinked q o id) (pool_same v u same_v obs))
 
-pub entry_below : (v : Nodes) (obs : Objects) (o id : ℕ) → Holds v obs → o < length obs.items → IsEntryAt id (lists_at (pool_of v obs) o).entries → id < vec_len v
+pub entry_below : (v : Nodes) (obs : Objects) (o id : ℕ) → Holds v obs → o < length obs → IsEntryAt id (lists_at (pool_of v obs) o).entries → id < vec_len v
 entry_below v obs o id hold lo is_in =
-    let c = cut_map v id is_in.1 (entries_of v (object_at obs o)) is_in.0 is_in.2 (ap (λ (x : Lists). x.entries) (sym (get_map (lists_of v) obs.items o no_object no_lists lo)) ∙ is_in.3) in
+    let c = cut_map v id is_in.1 (entries_of v (object_at obs o)) is_in.0 is_in.2 (ap (λ (x : Lists). x.entries) (sym (get_map (lists_of v) obs o no_object no_lists lo)) ∙ is_in.3) in
     (all_right (λ j. j < vec_len v) c.0 (id ∷ c.1) (subst (AllByRecursion (λ j. j < vec_len v)) c.2 (hold.2 o lo).0.2)).0
 
-pub entry_node : (v v0 : Nodes) (obs : Objects) (o id : ℕ) (p : NodePtr) → Holds v obs → o < length obs.items → IsEntryAt id (lists_at (pool_of v obs) o).entries → p ≡ place_of v id → v0 ≡ v → IsNode v0 p
+pub entry_node : (v v0 : Nodes) (obs : Objects) (o id : ℕ) (p : NodePtr) → Holds v obs → o < length obs → IsEntryAt id (lists_at (pool_of v obs) o).entries → p ≡ place_of v id → v0 ≡ v → IsNode v0 p
 entry_node v v0 obs o id p hold lo is_in ep e0 = subst (λ (x : Nodes). IsNode x p) (sym e0) (subst (IsNode v) (sym ep) (is_node v hold.0 id (entry_below v obs o id hold lo is_in)))
 
 any_case : (b : Bool) (id x m : ℕ) (es : List (ℕ × ℕ)) → ((x == id) ≡ b) → (T b → IsEntryAt id ((x, m) ∷ es)) → ((list_any (λ e. e.0 == id) es ≡ true) → IsEntryAt id ((x, m) ∷ es)) → (b || list_any (λ e. e.0 == id) es) ≡ true → IsEntryAt id ((x, m) ∷ es)

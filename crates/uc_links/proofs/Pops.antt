@@ -1,18 +1,17 @@
 -- The top of a stack, and the first entry of a member.
-use Rattle.std.proofs.Common.{◌≡◌, ◌≢◌, ℕ, ◌<◌, ◌≤◌, ◌==◌, List, [], ◌∷◌, Bool, true, false, cond, Option, Some, None, refl, sym, ap, ◌∙◌, subst, inl, inr, arith, slice_index_or, length, map, replicate}
+use Rattle.std.proofs.Common.{◌≡◌, ◌≢◌, ℕ, ◌<◌, ◌≤◌, ◌==◌, List, [], ◌∷◌, Bool, true, false, cond, Option, Some, None, refl, sym, ap, ◌∙◌, subst, inl, inr, arith, slice_set, length, map}
 use Rattle.std.proofs.lemmas.Bool.{cases_lt}
-use Rattle.std.proofs.lemmas.List.{get_or_default, get_or_past, get_or-replicate}
+use Rattle.std.proofs.lemmas.List.{get_or_past}
 use Rattle.std.specs.List.{AllByRecursion, find}
 use Rattle.std.specs.Prelude.{option_map}
-use Rattle.std.specs.Vec.{vec_len, vec_ptr, with_item}
+use Rattle.std.specs.Vec.{vec_len, vec_ptr}
 use denote.RawPtr.{InBlock}
 use Rattle.uc_links.specs.declared.chain.Link.{Link}
 use Rattle.uc_links.specs.declared.chain.Ends.{Ends}
 use Rattle.uc_links.specs.declared.chain.NodePtr.{NodePtr}
 use Rattle.uc_links.specs.declared.chain.Node.{Node}
-use Rattle.uc_links.specs.declared.object.Object.{Object}
 use Rattle.uc_links.specs.Chain.{Nodes, node, link, index_of, place_of, IsNode, first_or, Avoids, IsChain}
-use Rattle.uc_links.specs.Held.{no_ends, IsHeld, IsOf, Changed, entries_of, stack_of, peers, ends_of}
+use Rattle.uc_links.specs.Held.{AllEnds, no_ends, IsHeld, IsOf, Changed, entries_of, stack_of, peers, ends_of}
 use Rattle.uc_links.specs.Lists.{Lists, member_limit, no_lists, lists_at, first_of, first_with, rest_of, popped}
 use Rattle.uc_links.specs.View.{Objects, no_object, object_at, entry, lists_of, pool_of, Holds}
 use Rattle.uc_links.proofs.Segments.{all_more}
@@ -31,13 +30,6 @@ first_peers : (v : Nodes) (m : ℕ) (es : List ℕ) → first_with m (map (entry
 first_peers v m [] = refl
 first_peers v m (x ∷ xs) = first_case ((node v x).member == m) x (node v x).member (find (λ e. e.1 == m) (map (entry v) xs)) (peers v m xs) (first_peers v m xs)
 
--- an object that is not known has no caller
-no_ends_of : (m : ℕ) → ends_of no_object m ≡ no_ends
-no_ends_of m = elim (cases_lt m member_limit) [ inl l ↦ get_or-replicate member_limit m no_ends no_ends l | inr g ↦ get_or_past (replicate member_limit no_ends) m no_ends g ]
-
-pub no_caller : (obs : Objects) (o m : ℕ) → length obs.items ≤ o → None ≡ (ends_of (object_at obs o) m).first
-no_caller obs o m g = ap (λ (e : Ends). e.first) (sym (ap (λ (b : Object). ends_of b m) (get_or_past obs.items o no_object g) ∙ no_ends_of m))
-
 -- an order that has no member's number is empty
 no_peers : (v : Nodes) (m : ℕ) (es : List ℕ) → member_limit ≤ m → AllByRecursion (λ i. (node v i).member < member_limit) es → peers v m es ≡ []
 no_peers v m [] g h = refl
@@ -46,7 +38,7 @@ no_peers v m (x ∷ xs) g h =
     let differs = other_test ((node v x).member == m) (λ t. let e = test_same (node v x).member m t in omega (arith, e)) in
     ap (λ (b : Bool). cond b (x ∷ peers v m xs) (peers v m xs)) differs ∙ no_peers v m xs g h.1
 
-any_chain : (v : Nodes) (o : ℕ) (ob : Object) (es st : List ℕ) (m : ℕ) → IsHeld v o ob es st → IsChain 1 v (ends_of ob m) (peers v m es)
+any_chain : (v : Nodes) (o : ℕ) (ob : AllEnds) (es st : List ℕ) (m : ℕ) → IsHeld v o ob es st → IsChain 1 v (ends_of ob m) (peers v m es)
 any_chain v o ob es st m h = elim (cases_lt m member_limit) [
   | inl l ↦ h.1 m l
   | inr g ↦
@@ -83,24 +75,24 @@ module _ (v : Nodes) (obs : Objects) (o m : ℕ) (r : Option NodePtr) (hold : Ho
   member_none e = chain_none v (ends_of (object_at obs o) m) _ chain (sym er ∙ e) ∙ sym listed
 
 -- ---- the top of a stack is taken off
-taken : (v : Nodes) (o : ℕ) (ob : Object) (p : NodePtr) (l : Link) (es st : List ℕ) → InBlock (vec_ptr v) → IsHeld v o ob es st → ob.top ≡ Some p → l ≡ link 0 v (index_of v p)
+taken : (v : Nodes) (o : ℕ) (ob : AllEnds) (p : NodePtr) (l : Link) (es st : List ℕ) → InBlock (vec_ptr v) → IsHeld v o ob es st → ob.top ≡ Some p → l ≡ link 0 v (index_of v p)
     → IsHeld v o (record { entries = ob.entries; members = ob.members; top = l.next }) es (rest_of st)
 taken v o ob p l es [] t h e el = let wrong : None ≡ Some p = sym h.3 ∙ e in absurd cc
 taken v o ob p l es (i ∷ is) t h e el =
     let at_i = ap (index_of v) (some_is p (place_of v i) (sym e ∙ h.3)) ∙ index_place v t i in
     (h.0, h.1, h.2, ap (λ (x : Link). x.next) (el ∙ ap (link 0 v) at_i) ∙ h.4.0, h.4.1, h.5.1, h.6.1, h.7.1, h.8)
 
-pub pop_gives : (v u : Nodes) (obs : Objects) (o : ℕ) (b : Object) (p : NodePtr) (l : Link) → Same v u → Holds v obs → o < length obs.items → b ≡ slice_index_or obs.items o b → b.top ≡ Some p → l ≡ link 0 v (index_of v p)
-    → let b' : Object = record { entries = b.entries; members = b.members; top = l.next } in Holds u (with_item obs o b') × (pool_of u (with_item obs o b') ≡ popped (pool_of v obs) o)
+pub pop_gives : (v u : Nodes) (obs : Objects) (o : ℕ) (b : AllEnds) (p : NodePtr) (l : Link) → Same v u → Holds v obs → o < length obs → b ≡ object_at obs o → b.top ≡ Some p → l ≡ link 0 v (index_of v p)
+    → let b' : AllEnds = record { entries = b.entries; members = b.members; top = l.next } in Holds u (slice_set obs o b') × (pool_of u (slice_set obs o b') ≡ popped (pool_of v obs) o)
 pop_gives v u obs o b p l s hold lo eb e el =
     let ob = object_at obs o in let es = entries_of v ob in let st = stack_of v ob in let n = vec_len v in
-    let b' : Object = record { entries = b.entries; members = b.members; top = l.next } in
+    let b' : AllEnds = record { entries = b.entries; members = b.members; top = l.next } in
     let kept = λ (is : List ℕ). all_every (λ i. node u i ≡ node v i) (nodes v u s) is in
-    let hb = subst (λ (x : Object). IsHeld v o x es st) (sym (eb ∙ get_or_default obs.items o b no_object lo)) (hold.2 o lo) in
+    let hb = subst (λ (x : AllEnds). IsHeld v o x es st) (sym eb) (hold.2 o lo) in
     let here = held_kept v u o b' es (rest_of st) s.0 s.1 (kept es) (kept (rest_of st)) (taken v o b p l es st hold.0 hb e el) in
     let change : Changed n [] v u = (s.0, s.1, λ i. ap (λ (x : Node). x.id) (nodes v u s i), λ i m. ap (λ (x : Node). x.member) (nodes v u s i), λ i a. nodes v u s i) in
     let f = found u o b' es (rest_of st) (subst InBlock (sym s.0) hold.0) here in
-    let at_object = get_map (lists_of v) obs.items o no_object no_lists lo in
+    let at_object = get_map (lists_of v) obs o no_object no_lists lo in
     let labels = map_same v u es (all_every (λ i. (node u i).member ≡ (node v i).member) (λ i. ap (λ (x : Node). x.member) (nodes v u s i)) es) in
     let entries = ap (map (entry u)) f.0 ∙ labels ∙ ap (λ (x : Lists). x.entries) (sym at_object) in
     let stack = f.1 ∙ ap (λ (x : Lists). rest_of x.stack) (sym at_object) in
@@ -109,8 +101,8 @@ pop_gives v u obs o b p l s hold lo eb e el =
 
 -- the object of a top is known, and the top is its node
 module _ (v : Nodes) (obs : Objects) (o : ℕ) (r : Option NodePtr) (p : NodePtr) (hold : Holds v obs) (er : r ≡ (object_at obs o).top) (e : r ≡ Some p) where
-  pub top_known : o < length obs.items
-  top_known = elim (cases_lt o (length obs.items)) [ inl l ↦ l | inr g ↦ let wrong : Some p ≡ None = sym e ∙ er ∙ ap (λ (b : Object). b.top) (get_or_past obs.items o no_object g) in absurd cc ]
+  pub top_known : o < length obs
+  top_known = elim (cases_lt o (length obs)) [ inl l ↦ l | inr g ↦ let wrong : Some p ≡ None = sym e ∙ er ∙ ap (λ (b : AllEnds). b.top) (get_or_past obs o no_object g) in absurd cc ]
 
   top_first : Front v (stack_of v (object_at obs o)) p
   top_first = let h = any_held v obs hold o in top_from (stack_of v (object_at obs o)) h.3 h.6
@@ -129,8 +121,8 @@ module _ (v : Nodes) (obs : Objects) (o : ℕ) (r : Option NodePtr) (p : NodePtr
       let same : id ≡ f.0 = ei ∙ ap (λ (j : ℕ). (node v j).id) at_i ∙ hold.1 f.0 f.4 in
       (λ z. Some (same z)) ∙ ap first_of (sym f.2) ∙ sym (ap (λ (x : Lists). first_of x.stack) (any_lists v obs o))
 
-  pub top_gives : (u : Nodes) (b b' : Object) → Same v u → b ≡ slice_index_or obs.items o b → (let top : Option NodePtr = (link 0 v (index_of v p)).next in b' ≡ record b { top = top })
-      → Holds u (with_item obs o b') × (pool_of u (with_item obs o b') ≡ popped (pool_of v obs) o)
+  pub top_gives : (u : Nodes) (b b' : AllEnds) → Same v u → b ≡ object_at obs o → (let top : Option NodePtr = (link 0 v (index_of v p)).next in b' ≡ record b { top = top })
+      → Holds u (slice_set obs o b') × (pool_of u (slice_set obs o b') ≡ popped (pool_of v obs) o)
   top_gives u b b' s eb eb' =
-      let top_is_p = ap (λ (x : Object). x.top) (eb ∙ get_or_default obs.items o b no_object top_known) ∙ sym er ∙ e in
-      subst (λ (x : Object). Holds u (with_item obs o x) × (pool_of u (with_item obs o x) ≡ popped (pool_of v obs) o)) (sym eb') (pop_gives v u obs o b p (link 0 v (index_of v p)) s hold top_known eb top_is_p refl)
+      let top_is_p = ap (λ (x : AllEnds). x.top) eb ∙ sym er ∙ e in
+      subst (λ (x : AllEnds). Holds u (slice_set obs o x) × (pool_of u (slice_set obs o x) ≡ popped (pool_of v obs) o)) (sym eb') (pop_gives v u obs o b p (link 0 v (index_of v p)) s hold top_known eb top_is_p refl)

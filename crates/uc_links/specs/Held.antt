@@ -4,9 +4,14 @@ use Rattle.std.specs.List.{AllByRecursion, filter}
 use Rattle.std.specs.Vec.{vec_len, vec_ptr}
 use Rattle.uc_links.specs.declared.chain.Ends.{Ends}
 use Rattle.uc_links.specs.declared.chain.NodePtr.{NodePtr}
-use Rattle.uc_links.specs.declared.object.Object.{Object}
 use Rattle.uc_links.specs.Chain.{Nodes, node, link, index_of, place_of, first_or, Avoids, IsApart, IsChain}
 use Rattle.uc_links.specs.Lists.{member_limit}
+
+-- the ends of an object's entries and of each member's, and the top of its stack
+pub record AllEnds : Type 0 where
+  pub entries : Ends
+  pub members : List Ends
+  pub top : Option NodePtr
 
 -- ---- the lists, read from the nodes: at most n steps from p on
 abbrev pub follow : ℕ → Nodes → Option NodePtr → List ℕ
@@ -14,17 +19,17 @@ follow zero v p = []
 follow (suc n) v None = []
 follow (suc n) v (Some p) = index_of v p ∷ follow n v (link 0 v (index_of v p)).next
 
-abbrev pub entries_of : Nodes → Object → List ℕ
+abbrev pub entries_of : Nodes → AllEnds → List ℕ
 entries_of v ob = follow (vec_len v) v ob.entries.first
 
-abbrev pub stack_of : Nodes → Object → List ℕ
+abbrev pub stack_of : Nodes → AllEnds → List ℕ
 stack_of v ob = follow (vec_len v) v ob.top
 
 -- ---- what must hold
 abbrev pub no_ends : Ends
 no_ends = record { first = None; last = None }
 
-abbrev pub ends_of : Object → ℕ → Ends
+abbrev pub ends_of : AllEnds → ℕ → Ends
 ends_of ob m = slice_index_or ob.members m no_ends
 
 -- the entries of a member
@@ -41,7 +46,7 @@ abbrev pub IsOf : Nodes → ℕ → Bool → ℕ → Type 0
 IsOf v o stacked i = ((node v i).object ≡ o) × ((node v i).stacked ≡ stacked) × ((node v i).member < member_limit)
 
 -- the object o has these entries and this stack
-abbrev pub IsHeld : Nodes → ℕ → Object → List ℕ → List ℕ → Type 0
+abbrev pub IsHeld : Nodes → ℕ → AllEnds → List ℕ → List ℕ → Type 0
 IsHeld v o ob es st =
     IsChain 0 v ob.entries es
     × ((m : ℕ) → m < member_limit → IsChain 1 v (ends_of ob m) (peers v m es))

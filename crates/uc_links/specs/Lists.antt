@@ -1,5 +1,5 @@
 -- A pool as its callers see it: how many nodes it has, and for each object a list of entries and a stack.
-use Rattle.std.specs.Prelude.{true, false, Bool, ◌&&◌, ◌≡◌, ◌≢◌, ℕ, ◌<◌, List, [], ◌∷◌, ◌++◌, length, ◌==◌, not, Option, Some, None, option_map, slice_index_or, slice_set}
+use Rattle.std.specs.Prelude.{true, false, Bool, ◌&&◌, ◌≡◌, ◌≢◌, ℕ, ◌<◌, ◌+◌, List, [], ◌∷◌, ◌++◌, length, ◌==◌, not, Option, Some, None, option_map, slice_index_or, slice_set}
 use Rattle.std.specs.List.{AllByRecursion, filter, find, list_any}
 
 -- the members of an object are numbered below this
@@ -54,6 +54,9 @@ has_none l = is_nil l.entries && is_nil l.stack
 -- ---- what a call leaves
 abbrev pub empty_pool : ℕ → Pool
 empty_pool n = record { count = n; lists = [] }
+
+abbrev pub with_node : Pool → Pool
+with_node p = record { count = p.count + 1; lists = p.lists }
 
 abbrev pub with_object : Pool → Pool
 with_object p = record { count = p.count; lists = p.lists ++ no_lists ∷ [] }

@@ -5,8 +5,9 @@ mod chain;
 mod object;
 pub mod pool;
 mod raw;
+mod rows;
 pub mod steps;
 
-pub use object::MEMBERS;
 pub use pool::Links;
+pub use rows::MEMBERS;
 pub use steps::Steps;

@@ -1,37 +1,67 @@
 //! An object's ends in the pool, and the nodes that enter and leave its lists.
-ghost use Rattle.std.specs.Prelude.{◌≡◌, ℕ, ◌<◌, List, [], ◌∷◌, ◌++◌};
-ghost use Rattle.std.specs.Vec.{vec_ptr};
+ghost use Rattle.std.specs.Prelude.{◌≡◌, ℕ, ◌<◌, List, [], ◌∷◌, ◌++◌, length};
+ghost use Rattle.std.specs.Vec.{vec_capacity, vec_ptr};
 ghost use denote.RawPtr.{InBlock};
 ghost use Rattle.uc_links.specs.Chain.{IsNode, index_of, node, link, Avoids, SameNodes};
 ghost use Rattle.uc_links.specs.Held.{IsHeld, Changed, ends_of};
 ghost use Rattle.uc_links.specs.Lists.{member_limit};
-ghost use Rattle.uc_links.specs.View.{no_object, object_at};
+ghost use Rattle.uc_links.specs.Rows.{bare, bare_at, joined, with_members, whole, MayClaim, Claimed, Vacated};
 
 use crate::chain::{Ends, Link, Node, NodePtr, link_last, link_of, set_label, set_link, unlink};
+use crate::rows::{Row, Rows, take};
 use std::alloc::Global;
 
-/// The members of an object are numbered below this.
-pub const MEMBERS: usize = 32;
-
-/// The ends of an object's entries, of each member's entries, and the top of its stack.
+/// The ends of an object's entries, and the top of its stack.
 #[derive(Drop)]
 pub struct Object {
     pub(crate) entries: Ends,
-    pub(crate) members: [Ends; MEMBERS],
+    // The number of the row with the ends of each member's entries, as long as there are entries.
+    pub(crate) row: Option<u32>,
     pub(crate) top: Option<NodePtr>,
 }
 
 pub(crate) fn blank_object() -> Object
-    ensures { result ≡ no_object }
+    ensures { result ≡ bare }
 {
-    let none = Ends {
-        first: None,
-        last: None,
-    };
     Object {
-        entries: none,
-        members: [none; MEMBERS],
+        entries: Ends {
+            first: None,
+            last: None,
+        },
+        row: None,
         top: None,
+    }
+}
+
+/// The number of an object's row. An object that has none takes one.
+pub(crate) fn claim(object: &mut Object, rows: &mut Rows) -> u32
+    requires { MayClaim rows.old object.old.row }
+    ensures claimed { Claimed object.old.row object.old rows.old object.new rows.new result }
+    ensures capacity { vec_capacity rows.new.list ≡ vec_capacity rows.old.list }
+{
+    match object.row {
+        Some(row) => row,
+        None => {
+            let row = take(rows);
+            object.row = Some(row);
+            row
+        }
+    }
+}
+
+/// An object without entries gives its row back.
+pub(crate) fn vacate(object: &mut Object, rows: &mut Rows, row: u32)
+    requires { row < length rows.old.list.items }
+    ensures vacated { Vacated object.old.entries.first object.old rows.old row object.new rows.new }
+    ensures capacity { vec_capacity rows.new.list ≡ vec_capacity rows.old.list }
+{
+    match object.entries.first {
+        Some(_) => {}
+        None => {
+            object.row = None;
+            rows.list[row as usize].next = rows.free;
+            rows.free = Some(row);
+        }
     }
 }
 
@@ -39,38 +69,51 @@ pub(crate) fn blank_object() -> Object
 pub(crate) fn enter(
     nodes: &mut Vec<Node, Global>,
     object: &mut Object,
+    row: &mut Row,
     number: u32,
     member: u8,
     place: NodePtr,
 )
     requires node { InBlock (vec_ptr nodes.old) × (member < member_limit) × IsNode nodes.old place }
     requires held { let i = index_of nodes.old place in
-        (es : List ℕ) × (st : List ℕ) × IsHeld nodes.old number object.old es st × Avoids i es × Avoids i st }
+        (es : List ℕ) × (st : List ℕ) × IsHeld nodes.old number (joined object.old row.old) es st
+        × Avoids i es × Avoids i st }
     ensures held { let i = index_of nodes.old place in
-        (es st : List ℕ) → IsHeld nodes.old number object.old es st → Avoids i es → Avoids i st
-        → IsHeld nodes.new number object.new (es ++ i ∷ []) st }
+        (es st : List ℕ) → IsHeld nodes.old number (joined object.old row.old) es st
+        → Avoids i es → Avoids i st
+        → IsHeld nodes.new number (joined object.new row.new) (es ++ i ∷ []) st }
     ensures label { (node nodes.new (index_of nodes.old place)).member ≡ member }
     ensures rest { let i = index_of nodes.old place in
-        (es st : List ℕ) → IsHeld nodes.old number object.old es st → Avoids i es → Avoids i st
-        → Changed i (i ∷ es) nodes.old nodes.new }
+        (es st : List ℕ) → IsHeld nodes.old number (joined object.old row.old) es st
+        → Avoids i es → Avoids i st → Changed i (i ∷ es) nodes.old nodes.new }
+    ensures row { object.new.row ≡ object.old.row }
 {
     set_label(nodes, place, number, false, member);
     link_last(nodes, &mut object.entries, place, 0);
-    link_last(nodes, &mut object.members[member as usize], place, 1);
+    link_last(nodes, &mut row.members[member as usize], place, 1);
 }
 
 /// Takes a node out of the entries, and out of its member's.
-pub(crate) fn leave(nodes: &mut Vec<Node, Global>, object: &mut Object, member: u8, place: NodePtr)
+pub(crate) fn leave(
+    nodes: &mut Vec<Node, Global>,
+    object: &mut Object,
+    row: &mut Row,
+    member: u8,
+    place: NodePtr,
+)
     requires node { InBlock (vec_ptr nodes.old) × IsNode nodes.old place × (member < member_limit)
         × ((node nodes.old (index_of nodes.old place)).member ≡ member) }
     requires held { let i = index_of nodes.old place in
-        (o : ℕ) × (xs : List ℕ) × (ys : List ℕ) × (st : List ℕ) × IsHeld nodes.old o object.old (xs ++ i ∷ ys) st }
+        (o : ℕ) × (xs : List ℕ) × (ys : List ℕ) × (st : List ℕ)
+        × IsHeld nodes.old o (joined object.old row.old) (xs ++ i ∷ ys) st }
     ensures held { let i = index_of nodes.old place in
-        (o : ℕ) (xs ys st : List ℕ) → IsHeld nodes.old o object.old (xs ++ i ∷ ys) st
-        → IsHeld nodes.new o object.new (xs ++ ys) st × Changed i (xs ++ ys) nodes.old nodes.new }
+        (o : ℕ) (xs ys st : List ℕ) → IsHeld nodes.old o (joined object.old row.old) (xs ++ i ∷ ys) st
+        → IsHeld nodes.new o (joined object.new row.new) (xs ++ ys) st
+        × Changed i (xs ++ ys) nodes.old nodes.new }
+    ensures row { object.new.row ≡ object.old.row }
 {
     unlink(nodes, &mut object.entries, place, 0);
-    unlink(nodes, &mut object.members[member as usize], place, 1);
+    unlink(nodes, &mut row.members[member as usize], place, 1);
 }
 
 /// Puts a node on top of the stack.
@@ -82,8 +125,11 @@ pub(crate) fn stack_on(
 )
     requires node { InBlock (vec_ptr nodes.old) × IsNode nodes.old place }
     ensures held { let i = index_of nodes.old place in
-        (es st : List ℕ) → IsHeld nodes.old number object.old es st → Avoids i es → Avoids i st
-        → IsHeld nodes.new number object.new es (i ∷ st) × Changed i (i ∷ []) nodes.old nodes.new }
+        (ms : List Ends) (es st : List ℕ) → IsHeld nodes.old number (with_members object.old ms) es st
+        → Avoids i es → Avoids i st
+        → IsHeld nodes.new number (with_members object.new ms) es (i ∷ st)
+        × Changed i (i ∷ []) nodes.old nodes.new }
+    ensures same { (object.new.row ≡ object.old.row) × (object.new.entries ≡ object.old.entries) }
 {
     set_label(nodes, place, number, true, 0);
     let link = Link {
@@ -106,7 +152,7 @@ pub(crate) fn unstack(nodes: &mut Vec<Node, Global>, object: &mut Object, place:
 
 /// Where the oldest entry of an object lies. `None` too where the object is not known.
 pub(crate) fn first_entry(objects: &Vec<Object, Global>, object: u32) -> Option<NodePtr>
-    ensures { result ≡ (object_at objects.now object).entries.first }
+    ensures { result ≡ (bare_at objects.now.items object).entries.first }
 {
     match objects.get(object as usize) {
         Some(known) => known.entries.first,
@@ -117,23 +163,21 @@ pub(crate) fn first_entry(objects: &Vec<Object, Global>, object: u32) -> Option<
 /// Where a member's oldest entry lies. `None` too where the object or the member is not known.
 pub(crate) fn first_caller(
     objects: &Vec<Object, Global>,
+    rows: &Rows,
     object: u32,
     member: u8,
 ) -> Option<NodePtr>
-    ensures { result ≡ (ends_of (object_at objects.now object) member).first }
+    ensures { let known = whole rows.now.list.items (bare_at objects.now.items object) in
+        result ≡ (ends_of known member).first }
 {
-    match objects.get(object as usize) {
-        Some(known) => match known.members.get(member as usize) {
-            Some(ends) => ends.first,
-            None => None,
-        },
-        None => None,
-    }
+    let row = objects.get(object as usize)?.row?;
+    let ends = rows.list.get(row as usize)?.members.get(member as usize)?;
+    ends.first
 }
 
 /// Where the top of an object's stack lies. `None` too where the object is not known.
 pub(crate) fn top_of(objects: &Vec<Object, Global>, object: u32) -> Option<NodePtr>
-    ensures { result ≡ (object_at objects.now object).top }
+    ensures { result ≡ (bare_at objects.now.items object).top }
 {
     match objects.get(object as usize) {
         Some(known) => known.top,

@@ -1,12 +1,14 @@
 //! The pool: each object's entries and stack, in nodes that are taken once.
 ghost use Rattle.std.specs.Prelude.{◌≡◌, ◌<◌, ◌+◌, length, IfOk, IfErr, IfSome};
-ghost use Rattle.uc_links.specs.Lists.{IsFree, IsEntry, lists_at, first_of, first_with, popped, pushed_back, pushed_top, unlinked, empty_pool, with_object, member_limit, has_none};
+ghost use Rattle.uc_links.specs.Lists.{IsFree, IsEntry, lists_at, first_of, first_with, popped, pushed_back, pushed_top, unlinked, empty_pool, with_node, with_object, member_limit, has_none};
 
 use crate::chain::{Node, blank_node, label_of, node_at};
 use crate::object::{
-    Object, blank_object, enter, first_caller, first_entry, leave, stack_on, top_of, unstack,
+    Object, blank_object, claim, enter, first_caller, first_entry, leave, stack_on, top_of,
+    unstack, vacate,
 };
 use crate::raw::block_of;
+use crate::rows::Rows;
 use crate::steps::Steps;
 use std::alloc::{AllocError, Global};
 use std::marker::{Model, Send};
@@ -18,23 +20,30 @@ use std::sync::ledger::Ledger;
 /// member with the oldest first, and the list of its stack with the top first. Node `id` stands for task `id` and is in
 /// at most one list at a time.
 ///
-/// `new` takes the memory of all nodes and `add_object` that of one object; no other call takes memory. Each of the
-/// others visits a fixed number of nodes, whatever waits (no function that changes links has a loop), and counts one move. The memory is freed when the pool ends.
+/// `with_room`, `new`, `add_node` and `add_object` take all memory; no other call takes any. Each of the others visits a
+/// fixed number of nodes, whatever waits (no function that changes links has a loop), and counts one move. The memory is
+/// freed when the pool ends.
 #[derive(Drop)]
 pub struct Links {
+    // They never move: there is room for all from the start.
     nodes: Vec<Node, Global>,
     objects: Vec<Object, Global>,
+    // There is room for one of each node.
+    rows: Rows,
 }
 
 impl Model for Links {
+    ghost use Rattle.std.specs.Vec.{vec_capacity};
     ghost use Rattle.uc_links.specs.Lists.{Pool};
-    ghost use Rattle.uc_links.specs.View.{pool_of, Holds};
+    ghost use Rattle.uc_links.specs.Rows.{wholes};
+    ghost use Rattle.uc_links.specs.View.{pool_of, IsPool};
 
     ghost Value = { Pool };
 
-    ghost view = { λ l. pool_of l.nodes l.objects };
+    ghost view = { λ l. pool_of l.nodes (wholes l.rows.list.items l.objects.items) };
 
-    ghost invariant = { λ l. Holds l.nodes l.objects };
+    ghost invariant = { λ l.
+        IsPool l.nodes (vec_capacity l.rows.list) l.objects.items l.rows.list.items l.rows.free };
 }
 
 impl Links {
@@ -42,16 +51,46 @@ impl Links {
     pub fn new(alloc: Global, nodes: u32) -> Result<Links, AllocError>
         ensures { IfOk result (λ l. l ≡ empty_pool nodes) }
     {
-        let mut list = Vec::with_capacity(alloc, nodes as usize)?;
-        for id in 0..nodes {
-            let node = blank_node(id);
-            list.push(node)?;
+        let mut links = Links::with_room(alloc, nodes)?;
+        for _id in 0..nodes {
+            links.add_node()?;
         }
+        Ok(links)
+    }
+
+    /// A pool with no nodes and no objects, to which so many nodes may be added. It takes their memory, and writes to none
+    /// of it.
+    pub fn with_room(alloc: Global, nodes: u32) -> Result<Links, AllocError>
+        ensures { IfOk result (λ l. l ≡ empty_pool 0) }
+    {
+        let mut list = Vec::with_capacity(alloc, nodes as usize)?;
         block_of(&mut list);
         Ok(Links {
             nodes: list,
             objects: Vec::new(alloc),
+            rows: Rows {
+                list: Vec::new(alloc),
+                free: None,
+            },
         })
+    }
+
+    /// Adds a node that is in no list, and returns its number: nodes are numbered from 0. Where memory is wanting, or there
+    /// are as many nodes as the pool was made for, it is unchanged.
+    pub fn add_node(&mut self) -> Result<u32, AllocError>
+        ensures number { IfOk result (λ n. n ≡ self.old.count) }
+        ensures added { IfOk result (λ _. self.new ≡ with_node self.old) }
+        ensures err { IfErr result (λ _. self.new ≡ self.old) }
+    {
+        let count = self.nodes.len();
+        if count >= self.nodes.capacity() || count > u32::MAX as usize {
+            return Err(AllocError);
+        }
+        let more = count + 1 - self.rows.list.len();
+        self.rows.list.reserve(more)?;
+        let id = count as u32;
+        self.nodes.push_reserved(blank_node(id));
+        Ok(id)
     }
 
     /// Adds an object with empty lists, and returns its number: objects are numbered from 0. Where memory is wanting, or no
@@ -88,7 +127,9 @@ impl Links {
         moves.tick();
         let place = node_at(&mut self.nodes, id as usize);
         let entered = &mut self.objects[object as usize];
-        enter(&mut self.nodes, entered, object, member, place);
+        let number = claim(entered, &mut self.rows);
+        let row = &mut self.rows.list[number as usize];
+        enter(&mut self.nodes, entered, row, object, member, place);
     }
 
     /// The oldest entry of an object: its task and member. `None` where it has no entries.
@@ -120,7 +161,7 @@ impl Links {
         ensures moves { moves.new ≡ moves.old + 1 }
     {
         moves.tick();
-        match first_caller(&self.objects, object, member) {
+        match first_caller(&self.objects, &self.rows, object, member) {
             Some(place) => {
                 let label = label_of(&mut self.nodes, place);
                 Some(label.0)
@@ -140,7 +181,10 @@ impl Links {
         let place = node_at(&mut self.nodes, id as usize);
         let label = label_of(&mut self.nodes, place);
         let left = &mut self.objects[object as usize];
-        leave(&mut self.nodes, left, label.1, place);
+        let number = left.row.unwrap();
+        let row = &mut self.rows.list[number as usize];
+        leave(&mut self.nodes, left, row, label.1, place);
+        vacate(left, &mut self.rows, number);
     }
 
     /// Puts task `id` on top of an object's stack.

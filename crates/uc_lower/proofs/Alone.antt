@@ -13,7 +13,7 @@ use Rattle.uc_tree.specs.declared.kinds.Role.TheVariants as role
 use Rattle.uc_tree.specs.Names.{same_name}
 use Rattle.uc_tree.specs.Programs.{Sig, Routine, MemberForm, FieldsMember, RoutineMember, ProtoMember, Member, Class, Item, ClassItem, RoutineItem, ConstItem, ProtoItem, ForwardItem, UsingItem, Program}
 use Rattle.uc_tree.specs.Cells.{classes_of}
-use Rattle.uc_tree.specs.Numbering.{is_plain, main_name, unhandled_name}
+use Rattle.uc_tree.specs.Numbering.{is_plain, main_name, is_given}
 use Rattle.uc_tree.specs.Objects.{same_role}
 use Rattle.uc_rules.specs.declared.rules.Home.{Home}
 use Rattle.uc_rules.specs.declared.rules.Sort.{Sort}
@@ -300,7 +300,7 @@ module _ (p : Program) where
         let b = list_any (is_named_proto c.name) p.items in
         let first : take (length before) p.items ≡ before = ap (take (length before)) is ∙ take_at before (ClassItem c ∷ after) (length before) refl in
         let new = holds (is_new_item p (ClassItem c) (length before) (Some c.name)) _ _ (no_left _ _ (item_quiet (length before) (ClassItem c) here)) in
-        let quiet = or_left (list_any (clashes b c.name (ClassItem c)) (take (length before) p.items)) (same_name c.name unhandled_name) (not_true (list_any (clashes b c.name (ClassItem c)) (take (length before) p.items) || same_name c.name unhandled_name) new) in
+        let quiet = or_left (list_any (clashes b c.name (ClassItem c)) (take (length before) p.items)) (is_given c.name) (not_true (list_any (clashes b c.name (ClassItem c)) (take (length before) p.items) || is_given c.name) new) in
         no_clash b c before (ap (list_any (clashes b c.name (ClassItem c))) (sym first) ∙ quiet)
 
     -- nor that of a routine outside of classes
@@ -309,7 +309,7 @@ module _ (p : Program) where
     outer_clash j l q c e o f n first =
         let b = list_any (is_named_proto c.name) p.items in
         let new = holds (is_new_item p (ClassItem c) l (Some c.name)) _ _ (no_left _ _ (item_quiet l (ClassItem c) f)) in
-        let quiet = or_left (list_any (clashes b c.name (ClassItem c)) (take l p.items)) (same_name c.name unhandled_name) (not_true (list_any (clashes b c.name (ClassItem c)) (take l p.items) || same_name c.name unhandled_name) new) in
+        let quiet = or_left (list_any (clashes b c.name (ClassItem c)) (take l p.items)) (is_given c.name) (not_true (list_any (clashes b c.name (ClassItem c)) (take l p.items) || is_given c.name) new) in
         let clash : clashes b c.name (ClassItem c) (RoutineItem q) ≡ true =
         ap (λ w. is_named (if is_here w then Some q.sig.name else None) c.name && true) o
         ∙ ap (λ x. same_name q.sig.name x && true) n
@@ -322,7 +322,7 @@ module _ (p : Program) where
         let name = q.sig.name in
         let named : outer_name q.sig ≡ Some q.sig.name = ap (λ w. if is_here w then Some q.sig.name else None) o in
         let new : is_new_item p (RoutineItem q) j (Some name) ≡ true = sym (ap (is_new_item p (RoutineItem q) j) named) ∙ holds (is_new_item p (RoutineItem q) j (outer_name q.sig)) _ _ (no_left _ _ (item_quiet j (RoutineItem q) e)) in
-        let quiet = or_left (list_any (clashes b name (RoutineItem q)) (take j p.items)) (same_name name unhandled_name) (not_true (list_any (clashes b name (RoutineItem q)) (take j p.items) || same_name name unhandled_name) new) in
+        let quiet = or_left (list_any (clashes b name (RoutineItem q)) (take j p.items)) (is_given name) (not_true (list_any (clashes b name (RoutineItem q)) (take j p.items) || is_given name) new) in
         let clash : clashes b name (RoutineItem q) (ClassItem c) ≡ true =
         ap (λ t. same_name c.name name && not (false || t)) (and_none b)
         ∙ ap (λ x. same_name x name && true) n

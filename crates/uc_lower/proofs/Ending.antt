@@ -21,17 +21,17 @@ use Rattle.uc_rules.specs.Breaks.{breaks_of}
 use Rattle.uc_code.specs.declared.rows.RoutineCode.{RoutineCode}
 use Rattle.uc_code.specs.Codes.{Code}
 use Rattle.uc_code.specs.Drafts.{Draft}
-use Rattle.uc_code.specs.Laid.{Laid, laid_of, laid_in}
+use Rattle.uc_code.specs.Layout.{Laid, laid_of, laid_in}
 use Rattle.uc_code.specs.Lowered.{RoutineAt, RoutinesAt, Lowered}
-use Rattle.uc_code.specs.Ranges.{Kept}
-use Rattle.uc_numbers.specs.declared.routines.Defined.{Defined as Found}
-use Rattle.uc_numbers.specs.Routines.{defined_at}
+use Rattle.uc_code.specs.CodeShapes.{Kept}
+use Rattle.uc_numbering.specs.declared.routines.Defined.{Defined as Found}
+use Rattle.uc_numbering.specs.Routines.{defined_at}
 use Rattle.uc_lower_stmt.specs.Routines.{frame_cells}
-use Rattle.uc_lower.specs.Laying.{Lays, LaysAll, defined_texts, last_of, own_room, routine_room, unwritten_rooms}
-use Rattle.uc_lower.specs.Refusing.{Fits}
+use Rattle.uc_lower.specs.RoutineLayout.{Lays, LaysAll, defined_texts, last_of, own_room, routine_room, unwritten_rooms}
+use Rattle.uc_lower.specs.Refusals.{Fits}
 use Rattle.uc_lower.proofs.Built.{built_routine, owned_alone, stmts_sites}
 use Rattle.uc_lower.proofs.Costs.{own_few, own_size, owns, owns_push, size_split}
-use Rattle.uc_lower.proofs.Laying.{lays_step, room_within, rooms_within, taken_more, texts_push, within}
+use Rattle.uc_lower.proofs.RoutineLayoutLemmas.{lays_step, room_within, rooms_within, taken_more, texts_push, within}
 use Rattle.uc_lower.proofs.Rooms.{rooms_fit}
 use Rattle.uc_lower.proofs.Silence.{silent_behind}
 

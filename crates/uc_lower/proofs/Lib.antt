@@ -4,7 +4,7 @@ mod Built
 mod Costs
 mod Distinct
 mod Ending
-pub mod Laying
+pub mod RoutineLayoutLemmas
 pub mod Mained
 mod Named
 mod Numbered

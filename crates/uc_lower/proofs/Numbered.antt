@@ -9,10 +9,10 @@ use Rattle.uc_tree.specs.Objects.{Unwritten, place_among, unwritten_number, unwr
 use Rattle.uc_resolve.specs.Resolve.{classes_meant}
 use Rattle.uc_tree.specs.Source as source
 use Rattle.std.specs.Prelude.{slice_get}
-use Rattle.uc_unwritten.specs.declared.unwritten.Unwritten.{Unwritten as Nobody}
-use Rattle.uc_unwritten.specs.Unwritten.{unwritten_as}
-use Rattle.uc_numbers.specs.declared.routines.Defined.{Defined as Found}
-use Rattle.uc_numbers.specs.Routines.{defined_at}
+use Rattle.uc_implicit.specs.declared.unwritten.Unwritten.{Unwritten as Nobody}
+use Rattle.uc_implicit.specs.Unwritten.{unwritten_as}
+use Rattle.uc_numbering.specs.declared.routines.Defined.{Defined as Found}
+use Rattle.uc_numbering.specs.Routines.{defined_at}
 
 abbrev pub cells_of : List source.Class → List ℕ
 cells_of cs = map (λ (c : source.Class). c.cells) cs

@@ -12,7 +12,7 @@ use Rattle.uc_tree.specs.Cells.{classes_of}
 use Rattle.uc_tree.specs.Numbering.{at_most, class_names, class_number, is_event, place_from}
 use Rattle.uc_tree.specs.Objects.{class_at, number_at, number_in, place_of}
 use Rattle.uc_tree.specs.Objects as objects
-use Rattle.uc_sizes.proofs.PlacesLemmas.{place_within}
+use Rattle.uc_layout.proofs.PlacesLemmas.{place_within}
 use Rattle.uc_rules.specs.declared.rules.Sort.TheVariants.{Object}
 use Rattle.uc_rules.specs.Sorts.{class_sort}
 use Rattle.uc_lower.proofs.Distinct.{Fresh, any_last, any_new, same_self}

@@ -8,8 +8,8 @@ use Rattle.uc_tree.specs.Cells.{routine_cells}
 use Rattle.uc_tree.specs.Numbering.{Defined, routines_of}
 use Rattle.uc_tree.specs.Programs.{Program}
 use Rattle.uc_tree.specs.Sizes.{program_size}
-use Rattle.uc_lower.specs.Refusing.{FitsBefore, FitsAll, IsFirstLarge, IsLarge, Fits}
-use Rattle.uc_lower.proofs.Laying.{within}
+use Rattle.uc_lower.specs.Refusals.{FitsBefore, FitsAll, IsFirstLarge, IsLarge, Fits}
+use Rattle.uc_lower.proofs.RoutineLayoutLemmas.{within}
 
 pub none_before : (p : Program) → FitsBefore p 0
 none_before p = record { each = λ k d l e. absurd (omega (arith, l)) }

@@ -21,7 +21,7 @@ use Rattle.uc_rules.specs.Visits.{AtClass, AtProgram}
 use Rattle.uc_lower_class.specs.Bodies.{builder_room, part_end, role_room, unwritten_room}
 use Rattle.uc_lower_class.specs.Fields.{all_room, enliven_room, fields_room, forget_count, left_room, live_room, room_by, set_up_room, start_room, take_down_room}
 use Rattle.uc_lower_class.specs.Inits.{init_exprs}
-use Rattle.uc_lower.specs.Laying.{own_room, role_room_of, routine_room, unwritten_rooms, written_room}
+use Rattle.uc_lower.specs.RoutineLayout.{own_room, role_room_of, routine_room, unwritten_rooms, written_room}
 use Rattle.uc_lower.proofs.Ruled.{class_none, rest_none}
 use Rattle.uc_lower.proofs.Costs.{class_sizes, fields_cost, fields_few, fields_size, length_cost, own_size, owns, size_split}
 use Rattle.uc_lower.proofs.Distinct.{Fresh, init_size, inits_few, named_sizes, none_named}

@@ -16,9 +16,9 @@ use Rattle.uc_tree.specs.Programs.{MemberForm, FieldsMember, RoutineMember, Prot
 use Rattle.uc_tree.specs.Rows.{Row, row_at, row_cells, leads, object_leads, reaches, has_itself, cells_within}
 use Rattle.uc_tree.specs.Cells.{classes_of, class_cells, held_by, member_held, members_held, row_of, rows_of, seen_in}
 use Rattle.uc_tree.specs.Numbering.{condition_count}
-use Rattle.uc_sizes.proofs.Depths.{row_past, cells_next}
-use Rattle.uc_sizes.proofs.Reached.{further}
-use Rattle.uc_unwritten.proofs.Deep.{count_rows}
+use Rattle.uc_layout.proofs.DepthsLemmas.{row_past, cells_next}
+use Rattle.uc_layout.proofs.ContainmentProgressLemmas.{further}
+use Rattle.uc_implicit.proofs.Deep.{count_rows}
 use Rattle.uc_rules.specs.declared.rule.Rule.{Rule}
 use Rattle.uc_rules.specs.declared.rules.Home.{Home}
 use Rattle.uc_rules.specs.Asked.{unless}
@@ -28,7 +28,9 @@ use Rattle.uc_rules.specs.ProgramVisits.{class_visits, fields_visits, form_visit
 use Rattle.uc_rules.specs.Scopes.{Env, class_around, plain_env}
 use Rattle.uc_rules.specs.Names.{place_in}
 use Rattle.uc_rules.specs.Visits.{Visit, AtField, AtBase, AtClass, AtItem, AtMark, AtProgram, maybe_visits}
+use Rattle.uc_built.specs.BuiltForms.{IsBuilt}
 use Rattle.uc_lower_expr.specs.Members.{FitClasses}
+use Rattle.uc_lower.proofs.Built.{class_plain, fields_held}
 
 -- what is empty has empty parts
 
@@ -205,5 +207,5 @@ module _ (p : Program) where
         let room = room_at (plain_env p (class_around h)) t.0 i (first_none (AtClass (plain_env p (class_around h)) t.0 i) (members_visits p h t.0 0 t.0.members) (own_none i t.0 t.1)) in
         leb-true (class_cells p i) CLASS_CELLS (and_parts (nat_le (class_cells p i) CLASS_CELLS) (nat_le (condition_count p i t.0) CLASS_CONDITIONS) room).0
 
-    pub fit_classes : FitClasses p
-    fit_classes = record { apart = apart; small = λ i. small_case i (cases_lt i (length (classes_of p.items))) }
+    pub fit_classes : IsBuilt p → FitClasses p
+    fit_classes built = record { apart = apart; small = λ i. small_case i (cases_lt i (length (classes_of p.items))); plain = class_plain p built; held = fields_held p built }

@@ -1,40 +1,42 @@
 -- No event is raised in constructors and destructors that nobody wrote, and they are behind all that are written.
-use Rattle.std.proofs.Common.{◌≡◌, ℕ, zero, suc, ◌+◌, ◌-◌, ◌≤◌, ◌<◌, Bool, true, false, List, [], ◌∷◌, ◌++◌, Option, Some, None, length, subst, arith}
+use Rattle.std.proofs.Common.{◌≡◌, ℕ, zero, suc, ◌-◌, ◌≤◌, ◌<◌, Bool, true, false, List, [], ◌∷◌, ◌++◌, Option, Some, None, length, subst, arith}
 use Rattle.std.specs.Prelude.{slice_get}
 use Rattle.uc_tree.specs.declared.kinds.Role.{Role}
 use Rattle.uc_tree.specs.declared.kinds.Role.TheVariants as role
-use Rattle.uc_tree.specs.Numbering.{Defined, routines_of}
+use Rattle.uc_tree.specs.declared.kinds.Kind.{Kind}
+use Rattle.uc_tree.specs.declared.kinds.Kind.TheVariants as kind
+use Rattle.uc_tree.specs.Numbering.{Defined, is_mutex, routines_of}
 use Rattle.uc_tree.specs.Cells.{leading_cells}
-use Rattle.uc_tree.specs.Objects.{ClassField, Unwritten, has_execution, class_at, class_shape, fields_of, unwritten_of}
+use Rattle.uc_tree.specs.Objects.{Making, ClassField, Unwritten, has_execution, class_at, class_shape, fields_of, unwritten_of}
 use Rattle.uc_tree.specs.Programs.{Class, Program}
-use Rattle.uc_resolve.specs.Resolve.{Meant, Own, all_unwritten, build, construction, construction_ends, destruction, enlivened, field_built, field_class, field_left, field_place, fields_built, fields_left, forgotten, length_in_class, nowhere, routines_meant, set_up, source_of, started_in, taken_down, unwritten_body, unwritten_meant}
+use Rattle.uc_resolve.specs.Resolve.{Meant, Own, all_unwritten, build, construction, construction_ends, destruction, ending, enlivened, field_built, field_making, field_left, field_place, fields_built, fields_left, forgotten, freed, length_in_class, nowhere, routines_meant, set_up, source_of, started_in, taken_down, unwritten_body, unwritten_meant}
 use Rattle.uc_tree.specs.Source as source
 use Rattle.uc_code.specs.Silent.{silent, silent_all}
-use Rattle.uc_lower.specs.Laying.{last_of}
-use Rattle.uc_lower.proofs.Laying.{meant_long}
+use Rattle.uc_lower.specs.RoutineLayout.{last_of}
+use Rattle.uc_lower.proofs.RoutineLayoutLemmas.{meant_long}
 
-build_silent : (p : Program) (line i : ℕ) (len : Option ℕ) (place : source.Expr) (ms : List Meant) → silent (build p line i len place ms)
-build_silent p line i None place ms = tt
-build_silent p line i (Some n) place ms = tt
+build_silent : (p : Program) (line : ℕ) (m : Making) (len : Option ℕ) (place : source.Expr) (ms : List Meant) → silent (build p line m len place ms)
+build_silent p line m None place ms = tt
+build_silent p line m (Some n) place ms = tt
 
-field_silent : (p : Program) (o : Option ℕ) (f : ClassField) (len : Option ℕ) (place : source.Expr) (rest : source.Stmts) → silent_all rest → silent_all (field_built p o f len place [] rest)
+field_silent : (p : Program) (o : Option Making) (f : ClassField) (len : Option ℕ) (place : source.Expr) (rest : source.Stmts) → silent_all rest → silent_all (field_built p o f len place [] rest)
 field_silent p None f len place rest h = h
-field_silent p (Some j) f len place rest h = (build_silent p 0 j len place [], h)
+field_silent p (Some m) f len place rest h = (build_silent p 0 m len place [], h)
 
-left_silent : (p : Program) (o len : Option ℕ) (place : source.Expr) (rest : source.Stmts) → silent_all rest → silent_all (field_left p o len place rest)
+left_silent : (p : Program) (o : Option Making) (len : Option ℕ) (place : source.Expr) (rest : source.Stmts) → silent_all rest → silent_all (field_left p o len place rest)
 left_silent p None len place rest h = h
-left_silent p (Some j) len place rest h = h
+left_silent p (Some m) len place rest h = h
 
 module _ (p : Program) (c : Class) (i : ℕ) where
   all_built : (fs : List ClassField) (n : ℕ) (rest : source.Stmts) → silent_all rest → silent_all (fields_built p c i [] (nowhere p) fs n rest)
   all_built [] n rest h = h
   all_built (f ∷ fs) n rest h =
-      field_silent p (field_class p f) f (length_in_class p c i f) (field_place (class_shape p i) n Own) (fields_built p c i [] (nowhere p) fs (suc n) rest) (all_built fs (suc n) rest h)
+      field_silent p (field_making p f) f (length_in_class p c i f) (field_place (class_shape p i) n Own) (fields_built p c i [] (nowhere p) fs (suc n) rest) (all_built fs (suc n) rest h)
 
   all_left : (fs : List ClassField) (n : ℕ) (rest : source.Stmts) → silent_all rest → silent_all (fields_left p c i fs n rest)
   all_left [] n rest h = h
   all_left (f ∷ fs) n rest h =
-      left_silent p (field_class p f) (length_in_class p c i f) (field_place (class_shape p i) n Own) (fields_left p c i fs (suc n) rest) (all_left fs (suc n) rest h)
+      left_silent p (field_making p f) (length_in_class p c i f) (field_place (class_shape p i) n Own) (fields_left p c i fs (suc n) rest) (all_left fs (suc n) rest h)
 
 -- what builds and destroys a coroutine resumes none
 
@@ -58,19 +60,35 @@ forgotten_silent : (p : Program) (b : Bool) (rest : source.Stmts) → silent_all
 forgotten_silent p true rest h = h
 forgotten_silent p false rest h = h
 
-built_silent : (p : Program) (o : Option Class) (i : ℕ) → silent_all (construction p o i [] (nowhere p) (construction_ends p o))
+freed_silent : (p : Program) (k : Kind) (i : ℕ) (rest : source.Stmts) → silent_all rest → silent_all (freed p k i rest)
+freed_silent p kind.Class i rest h = h
+freed_silent p kind.Coroutine i rest h = h
+freed_silent p kind.Monitor i rest h = h
+freed_silent p kind.Cormonitor i rest h = h
+freed_silent p kind.Task i rest h = h
+freed_silent p kind.Event i rest h = h
+
+ending_silent : (p : Program) (b : Bool) (rest : source.Stmts) → silent_all rest → silent_all (ending p b rest)
+ending_silent p true rest h = h
+ending_silent p false rest h = h
+
+built_silent : (p : Program) (o : Option Class) (i : ℕ) → silent_all (construction p o i [] (nowhere p) (construction_ends p o i))
 built_silent p None i = tt
 built_silent p (Some c) i =
     let within : source.Stmts = started_in p (has_execution c.kind) (enlivened p (has_execution c.kind)) in
-    set_up_silent p (has_execution c.kind) i (fields_built p c i [] (nowhere p) (fields_of c.members) (leading_cells c.kind) within)
-    (all_built p c i (fields_of c.members) (leading_cells c.kind) within (started_silent p (has_execution c.kind) (enlivened p (has_execution c.kind)) (enlivened_silent p (has_execution c.kind))))
+    let built : source.Stmts = fields_built p c i [] (nowhere p) (fields_of c.members) (leading_cells c.kind) within in
+    freed_silent p c.kind i (set_up p (has_execution c.kind) i built)
+    (set_up_silent p (has_execution c.kind) i built
+    (all_built p c i (fields_of c.members) (leading_cells c.kind) within (started_silent p (has_execution c.kind) (enlivened p (has_execution c.kind)) (enlivened_silent p (has_execution c.kind)))))
 
 destroyed_silent : (p : Program) (o : Option Class) (i : ℕ) → silent_all (destruction p o i source.Nil)
 destroyed_silent p None i = tt
 destroyed_silent p (Some c) i =
     let within : source.Stmts = taken_down p (has_execution c.kind) source.Nil in
-    forgotten_silent p (has_execution c.kind) (fields_left p c i (fields_of c.members) (leading_cells c.kind) within)
-    (all_left p c i (fields_of c.members) (leading_cells c.kind) within (taken_silent p (has_execution c.kind) source.Nil tt))
+    let left : source.Stmts = fields_left p c i (fields_of c.members) (leading_cells c.kind) within in
+    ending_silent p (is_mutex c.kind) (forgotten p (has_execution c.kind) left)
+    (forgotten_silent p (has_execution c.kind) left
+    (all_left p c i (fields_of c.members) (leading_cells c.kind) within (taken_silent p (has_execution c.kind) source.Nil tt)))
 
 body_silent : (p : Program) (r : Role) (i : ℕ) → silent_all (unwritten_body p r i)
 body_silent p role.Plain i = tt

@@ -8,7 +8,7 @@ use Rattle.uc_tree.specs.Programs.{Class, Program}
 use Rattle.uc_tree.specs.Cells.{classes_of}
 use Rattle.uc_tree.specs.Numbering.{is_event, is_plain, routines_of}
 use Rattle.uc_tree.specs.Objects.{class_at, class_height, same_role, Unwritten, written_at, unwritten_by, unwritten_at, unwritten_of_height, unwritten_up_to, unwritten_of, place_among}
-use Rattle.uc_unwritten.proofs.Order.{stands, is_it, join_stands, own_at, elsewhere, has_height, eqb_same, same_self}
+use Rattle.uc_implicit.proofs.Order.{stands, is_it, join_stands, own_at, elsewhere, has_height, eqb_same, same_self}
 use Rattle.uc_lower_class.specs.Bodies.{IsUnwritten}
 
 -- what is asked of each, its number apart

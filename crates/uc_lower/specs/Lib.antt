@@ -1,3 +1,3 @@
-pub mod Laying
+pub mod RoutineLayout
 pub mod Mains
-pub mod Refusing
+pub mod Refusals

@@ -9,12 +9,12 @@ ghost use Rattle.uc_resolve.specs.Resolve.{source_of};
 ghost use Rattle.uc_tree.specs.Sizes.{program_size};
 ghost use Rattle.uc_built.specs.BuiltForms.{IsBuilt};
 ghost use Rattle.uc_rules.specs.Breaks.{breaks_of};
-ghost use Rattle.uc_code.specs.Laid.{laid_of};
+ghost use Rattle.uc_code.specs.Layout.{laid_of};
 ghost use Rattle.uc_code.specs.Pace.{IsPaced};
 ghost use Rattle.uc_code.specs.Lowered.{Lowered};
-ghost use Rattle.uc_numbers.specs.Routines.{defined_at};
-ghost use Rattle.uc_unwritten.specs.Unwritten.{number_of_class, unwritten_as};
-ghost use Rattle.uc_lower.specs.Refusing.{Fits, FitsAll, IsFirstLarge, Refuses};
+ghost use Rattle.uc_numbering.specs.Routines.{defined_at};
+ghost use Rattle.uc_implicit.specs.Unwritten.{number_of_class, unwritten_as};
+ghost use Rattle.uc_lower.specs.Refusals.{Fits, FitsAll, IsFirstLarge, Refuses};
 
 use crate::numbering::{cells_of_classes, numbering_of};
 use crate::program_main::number_of_main;
@@ -22,17 +22,17 @@ use crate::routines::{lower_all_unwritten, lower_routines, no_code};
 use std::alloc::{AllocError, Global};
 use uc_code::code::Code;
 use uc_code::draft::Draft;
+use uc_implicit::numbers::numbers_of_classes;
+use uc_implicit::unwritten::{Unwritten, unwritten_of};
+use uc_layout::frames::cells_of_routine;
+use uc_layout::sizes::Sizes;
 use uc_lower_expr::program_names::ProgramNames;
-use uc_numbers::routines::{Defined, routines_of};
-use uc_numbers::sites::sites_of;
-use uc_numbers::texts::texts_of;
-use uc_program_size::program::size_of_program;
-use uc_sizes::frames::cells_of_routine;
-use uc_sizes::sizes::Sizes;
+use uc_numbering::routines::{Defined, routines_of};
+use uc_numbering::sites::sites_of;
+use uc_numbering::texts::texts_of;
+use uc_size::program::size_of_program;
 use uc_tree::limits::{FRAME_CELLS, PROGRAM_SIZE};
 use uc_tree::program::Program;
-use uc_unwritten::numbers::numbers_of_classes;
-use uc_unwritten::unwritten::{Unwritten, unwritten_of};
 
 /// Why a program is not lowered: the frame of this routine, the first such, has too many cells; the program counts too much; or
 /// memory is wanting. The greatest number stands for all that are greater.

@@ -8,19 +8,19 @@ ghost use Rattle.uc_tree.specs.Programs.{Program};
 ghost use Rattle.uc_resolve.specs.Resolve.{all_classes, classes_meant};
 ghost use Rattle.uc_lower_expr.specs.Members.{FitClasses};
 ghost use Rattle.uc_lower_expr.specs.Numbered.{IsNumbering};
-ghost use Rattle.uc_numbers.specs.Routines.{defined_at};
-ghost use Rattle.uc_unwritten.specs.Unwritten.{number_of_class, unwritten_as};
+ghost use Rattle.uc_numbering.specs.Routines.{defined_at};
+ghost use Rattle.uc_implicit.specs.Unwritten.{number_of_class, unwritten_as};
 
 use std::alloc::{AllocError, Global};
+use uc_implicit::unwritten::{Unwritten, numbers_of};
+use uc_layout::lists::classes_in;
+use uc_layout::sizes::Sizes;
 use uc_lower_expr::numbering::Numbering;
-use uc_numbers::classes::is_event;
-use uc_numbers::routines::Defined;
-use uc_sizes::lists::classes_in;
-use uc_sizes::sizes::Sizes;
+use uc_numbering::classes::is_event;
+use uc_numbering::routines::Defined;
 use uc_tree::class::{Class, Routine};
 use uc_tree::kinds::Role;
 use uc_tree::program::Program;
-use uc_unwritten::unwritten::{Unwritten, numbers_of};
 
 // The routines alone.
 fn routines_in<'a>(alloc: Global, defined: &[Defined<'a>]) -> Result<Vec<&'a Routine>, AllocError>

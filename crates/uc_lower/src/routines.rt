@@ -1,6 +1,6 @@
 // The code of all routines, one after another.
 
-ghost use Rattle.std.specs.Prelude.{◌≡◌, ℕ, ◌+◌, ◌*◌, ◌^◌, ◌≤◌, ◌<◌, [], true, false, None, Some, length, map, nat_eq, slice_get, slice_set, IfOk, OnOk};
+ghost use Rattle.std.specs.Prelude.{◌≡◌, ◌&&◌, ℕ, ◌+◌, ◌*◌, ◌^◌, ◌≤◌, ◌<◌, [], true, false, None, Some, length, map, nat_eq, slice_get, slice_set, IfOk, OnOk};
 ghost use Rattle.uc_tree.specs.declared.limits.TheConstants.{FRAME_CELLS, OPS_FOR_SIZE, PROGRAM_OPS, PROGRAM_SIZE};
 ghost use Rattle.uc_tree.specs.StatementSizes.{stmts_size};
 ghost use Rattle.uc_tree.specs.Cells.{routine_cells};
@@ -8,29 +8,29 @@ ghost use Rattle.uc_tree.specs.Gathered.{gathered_all};
 ghost use Rattle.uc_tree.specs.Numbering.{is_plain, own_sites, own_texts, routines_of};
 ghost use Rattle.uc_tree.specs.Objects.{unwritten_of};
 ghost use Rattle.uc_tree.specs.ProgramMain.{main_number};
-ghost use Rattle.uc_resolve.specs.Resolve.{class_by, is_coroutine_main, place_by, routine_meant, routine_scope};
+ghost use Rattle.uc_resolve.specs.Resolve.{class_by, has_coroutines, is_main, place_by, routine_meant, routine_scope};
 ghost use Rattle.uc_built.specs.BuiltForms.{are_built, IsBuilt};
 ghost use Rattle.uc_rules.specs.Breaks.{breaks_of};
-ghost use Rattle.uc_code.specs.Laid.{laid_in};
+ghost use Rattle.uc_code.specs.Layout.{laid_in};
 ghost use Rattle.uc_code.specs.Lowered.{RoutineAt};
-ghost use Rattle.uc_code.specs.Ranges.{Kept};
-ghost use Rattle.uc_numbers.specs.Routines.{defined_at};
+ghost use Rattle.uc_code.specs.CodeShapes.{Kept};
+ghost use Rattle.uc_numbering.specs.Routines.{defined_at};
 ghost use Rattle.uc_lower_stmt.specs.Routines.{frame_cells, main_in};
-ghost use Rattle.uc_unwritten.specs.Unwritten.{unwritten_as};
-ghost use Rattle.uc_lower.specs.Laying.{Lays, LaysAll, routine_room};
-ghost use Rattle.uc_lower.specs.Refusing.{Fits};
+ghost use Rattle.uc_implicit.specs.Unwritten.{unwritten_as};
+ghost use Rattle.uc_lower.specs.RoutineLayout.{Lays, LaysAll, routine_room};
+ghost use Rattle.uc_lower.specs.Refusals.{Fits};
 
 use std::alloc::{AllocError, Global};
 use uc_code::draft::Draft;
 use uc_code::rows::{MainOf, RoutineCode};
+use uc_implicit::unwritten::Unwritten;
 use uc_lower_class::builder::{lower_builder, lower_unwritten};
 use uc_lower_expr::events::builds_event;
 use uc_lower_expr::program_names::{ProgramNames, name_of, sig_of};
 use uc_lower_stmt::routine::lower_routine;
-use uc_numbers::routines::Defined;
+use uc_numbering::routines::Defined;
 use uc_tree::class::Sig;
 use uc_tree::kinds::Role;
-use uc_unwritten::unwritten::Unwritten;
 
 // A row for each routine, of which nothing is known.
 pub(crate) fn no_code(alloc: Global, count: usize) -> Result<Vec<RoutineCode>, AllocError>
@@ -87,7 +87,7 @@ fn main_in(
 
 // Whether a routine of the class with this place is the main of its coroutines.
 fn is_coroutine_main(names: &ProgramNames, class: Option<usize>, sig: &Sig) -> bool
-    ensures { result ≡ is_coroutine_main names.now (class_by names.now class) sig.now }
+    ensures { result ≡ (has_coroutines names.now (class_by names.now class) && is_main names.now sig.now) }
 {
     names.has_coroutines(class) && is_plain(sig) && sig.name.is(b"main")
 }

@@ -1,14 +1,17 @@
 -- What constructors and destructors are made of, put together.
-use Rattle.std.proofs.Common.{◌≡◌, ℕ, ◌+◌, ◌≤◌, List, [], ◌∷◌, ◌++◌, Option, Some, None, length, reverse, refl, ap, sym, subst, ◌∙◌, arith}
+use Rattle.std.proofs.Common.{◌≡◌, ℕ, ◌+◌, ◌≤◌, List, [], ◌∷◌, ◌++◌, Bool, false, Option, Some, None, length, reverse, refl, ap, sym, subst, ◌∙◌, arith}
 use Rattle.uc_tree.specs.declared.kinds.Role.{Role}
 use Rattle.uc_tree.specs.declared.kinds.Role.TheVariants as role
 use Rattle.uc_tree.specs.Cells.{declared_cells, stmts_cells}
 use Rattle.uc_tree.specs.Scopes.{stmts_scopes}
 use Rattle.uc_tree.specs.StatementSizes.{stmts_size}
 use Rattle.uc_tree.specs.Programs.{Class, Init, Program, Routine}
-use Rattle.uc_tree.specs.Objects.{class_at}
+use Rattle.uc_tree.specs.declared.kinds.Kind.{Kind}
+use Rattle.uc_tree.specs.declared.kinds.Kind.TheVariants as kind
+use Rattle.uc_tree.specs.Numbering.{is_mutex}
+use Rattle.uc_tree.specs.Objects.{APlain, class_at}
 use Rattle.uc_tree.specs.Source.{Expr, Stmt, Stmts, Nil, Then, Built, Whole}
-use Rattle.uc_resolve.specs.Resolve.{Meant, Scope, body_by, build, class_by, clean_up, construction, construction_ends, destruction, nowhere, place_or_zero, scope_behind, stmts_meant, unwritten_body}
+use Rattle.uc_resolve.specs.Resolve.{Meant, Scope, body_by, build, class_by, clean_up, construction, construction_ends, destruction, ending, freed, nowhere, place_or_zero, scope_behind, stmts_meant, unwritten_body}
 use Rattle.uc_code.specs.declared.rows.Array.{Array}
 use Rattle.uc_code.specs.declared.rows.Mark.{Mark}
 use Rattle.uc_code.specs.declared.rows.ObjectCall.{ObjectCall}
@@ -17,24 +20,25 @@ use Rattle.uc_code.specs.declared.rows.Cleaning.TheVariants as cleaning
 use Rattle.uc_code.specs.declared.rows.Opening.TheVariants as opening
 use Rattle.uc_code.specs.declared.rows.Spot.{Spot}
 use Rattle.uc_code.specs.Drafts.{Draft}
-use Rattle.uc_code.specs.Laid.{laid_in}
-use Rattle.uc_code.specs.Open.{StandsBehind, CleansBehind, opened}
-use Rattle.uc_code.specs.Ranges.{Kept}
+use Rattle.uc_code.specs.Layout.{laid_in}
+use Rattle.uc_code.specs.OpenRows.{StandsBehind, CleansBehind, opened}
+use Rattle.uc_code.specs.CodeShapes.{Kept}
 use Rattle.uc_code.specs.Lowered.{StmtAt, StmtsAt}
 use Rattle.uc_code.specs.ObjectCalls.{Cleans}
-use Rattle.uc_code.specs.Puts.{Puts, clean_by, clean_length}
-use Rattle.uc_lower_expr.specs.Added.{Adds}
-use Rattle.uc_lower_expr.specs.Members.{routine_for}
+use Rattle.uc_code.specs.Emits.{Puts, clean_by, clean_length}
+use Rattle.uc_lower_expr.specs.DraftGrowth.{Adds}
+use Rattle.uc_lower_expr.specs.Members.{FitClasses, routine_for}
 use Rattle.uc_lower_stmt.specs.Blocks.{AllStandBehind, EndsScopes}
 use Rattle.uc_lower_stmt.specs.Objects.{array_by, build_room, call_by}
-use Rattle.uc_lower_stmt.specs.Scoped.{Lowers, scope_of}
+use Rattle.uc_lower_stmt.specs.LowersStatement.{Lowers, scope_of}
 use Rattle.uc_lower_stmt.proofs.Joined.{lowers_adds, lowers_as, lowers_nothing, lowers_put}
 use Rattle.uc_lower_stmt.proofs.Laying.{lays_ended, lays_join, lays_nothing, lays_one}
 use Rattle.uc_lower_stmt.proofs.Kept.{stmt_stable}
+use Rattle.uc_lower_stmt.proofs.RoutinesLemmas.{IsPlain, class_plain}
 use Rattle.uc_lower_class.specs.Bodies.{LowersBody, LowersUnwritten, LowersWhole, built_at, built_room, left_at, role_room, unwritten_room, whole_room}
 use Rattle.uc_lower_class.specs.Fields.{PartBehind, all_built, all_left, all_room, left_count, left_room, live_room, part_room}
 use Rattle.uc_lower_class.specs.declared.parts.Part.{Part}
-use Rattle.uc_lower_class.specs.Pended.{Constructs, EndsParts, LeavesAll, NoParts, PartsIn}
+use Rattle.uc_lower_class.specs.OpenParts.{Constructs, EndsParts, LeavesAll, NoParts, PartsIn}
 use Rattle.uc_lower_class.proofs.Fielding.{part_fits}
 use Rattle.uc_lower_class.proofs.Parting.{constructs_as, constructs_does, constructs_part, constructs_then}
 use Rattle.uc_lower_class.proofs.Wholes.{arm_built}
@@ -45,46 +49,54 @@ pub stands_by : (p : Program) (j : ℕ) (ms ns : List Mark) (wanted : Role) (s :
 stands_by p j ms ns wanted s l what b e w =
     subst (λ (x : Cleaning). CleansBehind ns x) (sym w) (subst (λ (os : List Mark). StandsBehind os (call_by (routine_for p j wanted) s (array_by p j l))) (sym e) (record { behind = λ h. b.each wanted h }))
 
-pub part_built : (p : Program) (j n : ℕ) (s : Spot) (l : Option ℕ) (place : Expr) (ms : List Meant) (what : Cleaning) (ws us : List Cleaning) (old mid new : Draft) → Puts (n + build_room l) (λ code. StmtAt code old.marks (build p 0 j l place ms)) old mid
-    → us ≡ ws ++ what ∷ [] → what ≡ cleaning.Call (call_by (routine_for p j role.Destructor) s (array_by p j l)) → Cleans (clean_up p j l place) what → new ≡ opened opening.Part mid → Kept (laid_in mid) (laid_in new) → AllStandBehind p j old.marks
-    → Constructs (n + part_room l) (λ rest. Then (build p 0 j l place ms) (Built (clean_up p j l place) rest)) ws old us new
+pub part_built : (p : Program) (j n : ℕ) (s : Spot) (l : Option ℕ) (place : Expr) (ms : List Meant) (what : Cleaning) (ws us : List Cleaning) (old mid new : Draft) → Puts (n + build_room l) (λ code. StmtAt code old.marks (build p 0 (APlain j) l place ms)) old mid
+    → us ≡ ws ++ what ∷ [] → what ≡ cleaning.Call (call_by (routine_for p j role.Destructor) s (array_by p j l)) → Cleans (clean_up p (APlain j) l place) what → new ≡ opened opening.Part mid → Kept (laid_in mid) (laid_in new) → AllStandBehind p j old.marks
+    → Constructs (n + part_room l) (λ rest. Then (build p 0 (APlain j) l place ms) (Built (clean_up p (APlain j) l place) rest)) ws old us new
 part_built p j n s l place ms what ws us old mid new h f w g e k b =
     let marks : mid.marks ≡ old.marks = ap (λ (d : Draft). d.marks) h.rest in
     let fits : build_room l + (clean_length what + 2) ≤ part_room l = subst (λ (x : Cleaning). build_room l + (clean_length x + 2) ≤ part_room l) (sym w) (part_fits p j (routine_for p j role.Destructor) s l) in
-    constructs_as (constructs_then (constructs_does (build p 0 j l place ms) ws h) (constructs_part (clean_up p j l place) what ws us mid new e f k g (stands_by p j old.marks mid.marks role.Destructor s l what b marks w))) (omega (arith, fits)) (λ ss. refl)
+    constructs_as (constructs_then (constructs_does (build p 0 (APlain j) l place ms) ws h) (constructs_part (clean_up p (APlain j) l place) what ws us mid new e f k g (stands_by p j old.marks mid.marks role.Destructor s l what b marks w))) (omega (arith, fits)) (λ ss. refl)
 
 -- the fields of a class that may be missing
 
-all_construction : (p : Program) (i : ℕ) (inits : List Init) (s : Scope) (o : Option Class) (ss : Stmts) → all_built p i inits s o ss ≡ construction p o i inits s ss
-all_construction p i inits s None ss = refl
-all_construction p i inits s (Some c) ss = refl
+not_freed : (p : Program) (k : Kind) (i : ℕ) (ss : Stmts) → is_mutex k ≡ false → ss ≡ freed p k i ss
+not_freed p kind.Class i ss h = refl
+not_freed p kind.Coroutine i ss h = refl
+not_freed p kind.Monitor i ss h = cc
+not_freed p kind.Cormonitor i ss h = cc
+not_freed p kind.Task i ss h = cc
+not_freed p kind.Event i ss h = refl
 
-all_destruction : (p : Program) (i : ℕ) (o : Option Class) (ss : Stmts) → all_left p i o ss ≡ destruction p o i ss
-all_destruction p i None ss = refl
-all_destruction p i (Some c) ss = refl
+all_construction : (p : Program) (i : ℕ) (inits : List Init) (s : Scope) (o : Option Class) (ss : Stmts) → IsPlain o → all_built p i inits s o ss ≡ construction p o i inits s ss
+all_construction p i inits s None ss plain = refl
+all_construction p i inits s (Some c) ss plain = not_freed p c.kind i (all_built p i inits s (Some c) ss) (plain c refl)
 
-built_construction : (p : Program) (place : Option ℕ) (r : Routine) (s : Scope) (ss : Stmts) → built_at p place r s ss ≡ construction p (class_by p place) (place_or_zero p place) r.inits s ss
-built_construction p None r s ss = refl
-built_construction p (Some i) r s ss = all_construction p i r.inits s (class_at p i) ss
+all_destruction : (p : Program) (i : ℕ) (o : Option Class) (ss : Stmts) → IsPlain o → all_left p i o ss ≡ destruction p o i ss
+all_destruction p i None ss plain = refl
+all_destruction p i (Some c) ss plain = sym (ap (λ (b : Bool). ending p b (all_left p i (Some c) ss)) (plain c refl))
 
-left_destruction : (p : Program) (place : Option ℕ) (ss : Stmts) → left_at p place ss ≡ destruction p (class_by p place) (place_or_zero p place) ss
-left_destruction p None ss = refl
-left_destruction p (Some i) ss = all_destruction p i (class_at p i) ss
+built_construction : (p : Program) → FitClasses p → (place : Option ℕ) (r : Routine) (s : Scope) (ss : Stmts) → built_at p place r s ss ≡ construction p (class_by p place) (place_or_zero p place) r.inits s ss
+built_construction p fit None r s ss = refl
+built_construction p fit (Some i) r s ss = all_construction p i r.inits s (class_at p i) ss (class_plain p fit (Some i))
+
+left_destruction : (p : Program) → FitClasses p → (place : Option ℕ) (ss : Stmts) → left_at p place ss ≡ destruction p (class_by p place) (place_or_zero p place) ss
+left_destruction p fit None ss = refl
+left_destruction p fit (Some i) ss = all_destruction p i (class_at p i) ss (class_plain p fit (Some i))
 
 abbrev block_of_body : Program → Routine → Scope → Stmt
 block_of_body p r s = Whole r.brace.line (stmts_meant p r.body s)
 
 -- the body of a constructor, and what follows it
 abbrev body_within : Program → Option ℕ → Routine → Scope → Stmts
-body_within p place r s = Then (block_of_body p r s) (construction_ends p (class_by p place))
+body_within p place r s = Then (block_of_body p r s) (construction_ends p (class_by p place) (place_or_zero p place))
 
-pub constructor_body : (p : Program) (place : Option ℕ) (r : Routine) (s : Scope) → place ≡ s.class → built_at p place r s (body_within p place r s) ≡ body_by p role.Constructor r s
-constructor_body p place r s e =
-    built_construction p place r s (body_within p place r s) ∙ ap (λ (o : Option ℕ). construction p (class_by p o) (place_or_zero p o) r.inits s (body_within p o r s)) e
+pub constructor_body : (p : Program) → FitClasses p → (place : Option ℕ) (r : Routine) (s : Scope) → place ≡ s.class → built_at p place r s (body_within p place r s) ≡ body_by p role.Constructor r s
+constructor_body p fit place r s e =
+    built_construction p fit place r s (body_within p place r s) ∙ ap (λ (o : Option ℕ). construction p (class_by p o) (place_or_zero p o) r.inits s (body_within p o r s)) e
 
-pub destructor_body : (p : Program) (place : Option ℕ) (r : Routine) (s : Scope) → place ≡ s.class → left_at p place (Then (block_of_body p r s) Nil) ≡ body_by p role.Destructor r s
-destructor_body p place r s e =
-    left_destruction p place (Then (block_of_body p r s) Nil) ∙ ap (λ (o : Option ℕ). destruction p (class_by p o) (place_or_zero p o) (Then (block_of_body p r s) Nil)) e
+pub destructor_body : (p : Program) → FitClasses p → (place : Option ℕ) (r : Routine) (s : Scope) → place ≡ s.class → left_at p place (Then (block_of_body p r s) Nil) ≡ body_by p role.Destructor r s
+destructor_body p fit place r s e =
+    left_destruction p fit place (Then (block_of_body p r s) Nil) ∙ ap (λ (o : Option ℕ). destruction p (class_by p o) (place_or_zero p o) (Then (block_of_body p r s) Nil)) e
 
 -- written ones
 
@@ -96,23 +108,23 @@ whole_on : (p : Program) (r : Routine) (s : Scope) (old new : Draft) → scope_o
 whole_on p r s old new e h =
     subst (λ (t : Scope). Lowers (whole_room r) (stmts_size r.body) (stmts_cells r.body (declared_cells p)) (stmts_scopes r.body) (λ code. StmtAt code old.marks (block_of_body p r t)) (scope_behind p r.body t) old new) e h
 
-pub constructor_laid : (p : Program) (place : Option ℕ) (r : Routine) (us : List Cleaning) (d0 d1 d2 d3 new : Draft) → place ≡ d0.place.class → Constructs (built_room p place r) (built_at p place r (scope_of d0)) [] d0 us d1 → LowersWhole p r d1 d2
-    → ((ms : List Mark) → Adds (live_room (class_by p place)) (λ code. StmtsAt code ms 0 (construction_ends p (class_by p place))) d2 d3) → EndsParts (reverse us) d3 new → LowersBody p role.Constructor r d0 new
-constructor_laid p place r us d0 d1 d2 d3 new e h w l g =
+pub constructor_laid : (p : Program) → FitClasses p → (place : Option ℕ) (r : Routine) (us : List Cleaning) (d0 d1 d2 d3 new : Draft) → place ≡ d0.place.class → Constructs (built_room p place r) (built_at p place r (scope_of d0)) [] d0 us d1 → LowersWhole p r d1 d2
+    → ((ms : List Mark) → Adds (live_room (class_by p place)) (λ code. StmtsAt code ms 0 (construction_ends p (class_by p place) (place_or_zero p place))) d2 d3) → EndsParts (reverse us) d3 new → LowersBody p role.Constructor r d0 new
+constructor_laid p fit place r us d0 d1 d2 d3 new e h w l g =
     let scope : scope_of d1 ≡ scope_of d0 = ap scope_of h.rest in
     let within : Lowers (whole_room r + live_room (class_by p place)) (stmts_size r.body) (stmts_cells r.body (declared_cells p)) (stmts_scopes r.body) (λ code. StmtsAt code d1.marks 0 (body_within p place r (scope_of d0))) (scope_behind p r.body (scope_of d0)) d1 d3 =
     lowers_put (stmt_stable d1.marks (block_of_body p r (scope_of d0))) (whole_on p r (scope_of d0) d1 d2 scope w) (l d1.marks) in
     let all = arm_built (built_room p place r) (whole_room r + live_room (class_by p place)) (stmts_size r.body) (stmts_cells r.body (declared_cells p)) (stmts_scopes r.body) (built_at p place r (scope_of d0)) us (body_within p place r (scope_of d0)) (scope_behind p r.body (scope_of d0)) d0 d1 d3 new h within g in
     let placed : low_body p r (role_room p role.Constructor place r) (body_by p role.Constructor r (scope_of d0)) d0 new =
-    subst (λ (ss : Stmts). low_body p r (role_room p role.Constructor place r) ss d0 new) (constructor_body p place r (scope_of d0) e) (lowers_as all refl (λ code x z q. q) (omega arith) (omega arith) (omega arith) refl) in
+    subst (λ (ss : Stmts). low_body p r (role_room p role.Constructor place r) ss d0 new) (constructor_body p fit place r (scope_of d0) e) (lowers_as all refl (λ code x z q. q) (omega arith) (omega arith) (omega arith) refl) in
     subst (λ (o : Option ℕ). low_body p r (role_room p role.Constructor o r) (body_by p role.Constructor r (scope_of d0)) d0 new) e placed
 
-pub destructor_laid : (p : Program) (place : Option ℕ) (r : Routine) (depth : ℕ) (d0 d1 d2 new : Draft) → place ≡ d0.place.class → depth ≡ length d0.marks → LeavesAll (left_room (class_by p place)) (left_count (class_by p place)) (left_at p place) d0 d1 → LowersWhole p r d1 d2 → EndsScopes depth d2 new → LowersBody p role.Destructor r d0 new
-destructor_laid p place r depth d0 d1 d2 new e q h w g =
+pub destructor_laid : (p : Program) → FitClasses p → (place : Option ℕ) (r : Routine) (depth : ℕ) (d0 d1 d2 new : Draft) → place ≡ d0.place.class → depth ≡ length d0.marks → LeavesAll (left_room (class_by p place)) (left_count (class_by p place)) (left_at p place) d0 d1 → LowersWhole p r d1 d2 → EndsScopes depth d2 new → LowersBody p role.Destructor r d0 new
+destructor_laid p fit place r depth d0 d1 d2 new e q h w g =
     let whole = whole_on p r (scope_of d0) d1 d2 h.scope w in
     let all = lays_ended depth q (lays_join h (lays_one {s = block_of_body p r (scope_of d0)} 0 whole)) g in
     let placed : low_body p r (role_room p role.Destructor place r) (body_by p role.Destructor r (scope_of d0)) d0 new =
-    subst (λ (ss : Stmts). low_body p r (role_room p role.Destructor place r) ss d0 new) (destructor_body p place r (scope_of d0) e) (lowers_as all refl (λ code x z y. y) (omega arith) (omega arith) (omega arith) (omega arith)) in
+    subst (λ (ss : Stmts). low_body p r (role_room p role.Destructor place r) ss d0 new) (destructor_body p fit place r (scope_of d0) e) (lowers_as all refl (λ code x z y. y) (omega arith) (omega arith) (omega arith) (omega arith)) in
     subst (λ (o : Option ℕ). low_body p r (role_room p role.Destructor o r) (body_by p role.Destructor r (scope_of d0)) d0 new) e placed
 
 -- those that nobody wrote
@@ -120,20 +132,20 @@ destructor_laid p place r depth d0 d1 d2 new e q h w g =
 abbrev low_bare : ℕ → Stmts → Draft → Draft → Type 0
 low_bare n ss old new = Lowers n 0 0 0 (λ code. StmtsAt code old.marks 0 ss) (scope_of old) old new
 
-pub unwritten_built : (p : Program) (i : ℕ) (us : List Cleaning) (d0 d1 d2 new : Draft) → scope_of d0 ≡ nowhere p → Constructs (all_room [] (class_at p i)) (all_built p i [] (scope_of d0) (class_at p i)) [] d0 us d1
-    → ((ms : List Mark) → Adds (live_room (class_at p i)) (λ code. StmtsAt code ms 0 (construction_ends p (class_at p i))) d1 d2) → EndsParts (reverse us) d2 new → LowersUnwritten p role.Constructor i d0 new
-unwritten_built p i us d0 d1 d2 new e h l g =
-    let ends : Stmts = construction_ends p (class_at p i) in
-    let within : Lowers (live_room (class_at p i)) 0 0 0 (λ code. StmtsAt code d1.marks 0 (construction_ends p (class_at p i))) (scope_of d1) d1 d2 = lowers_adds 0 0 (l d1.marks) in
+pub unwritten_built : (p : Program) → FitClasses p → (i : ℕ) (us : List Cleaning) (d0 d1 d2 new : Draft) → scope_of d0 ≡ nowhere p → Constructs (all_room [] (class_at p i)) (all_built p i [] (scope_of d0) (class_at p i)) [] d0 us d1
+    → ((ms : List Mark) → Adds (live_room (class_at p i)) (λ code. StmtsAt code ms 0 (construction_ends p (class_at p i) i)) d1 d2) → EndsParts (reverse us) d2 new → LowersUnwritten p role.Constructor i d0 new
+unwritten_built p fit i us d0 d1 d2 new e h l g =
+    let ends : Stmts = construction_ends p (class_at p i) i in
+    let within : Lowers (live_room (class_at p i)) 0 0 0 (λ code. StmtsAt code d1.marks 0 (construction_ends p (class_at p i) i)) (scope_of d1) d1 d2 = lowers_adds 0 0 (l d1.marks) in
     let scope : scope_of d1 ≡ scope_of d0 = ap scope_of h.rest in
     let all = arm_built (all_room [] (class_at p i)) (live_room (class_at p i)) 0 0 0 (all_built p i [] (scope_of d0) (class_at p i)) us ends (scope_of d1) d0 d1 d2 new h within g in
-    let body : all_built p i [] (scope_of d0) (class_at p i) ends ≡ unwritten_body p role.Constructor i = all_construction p i [] (scope_of d0) (class_at p i) ends ∙ ap (λ (s : Scope). construction p (class_at p i) i [] s ends) e in
+    let body : all_built p i [] (scope_of d0) (class_at p i) ends ≡ unwritten_body p role.Constructor i = all_construction p i [] (scope_of d0) (class_at p i) ends (class_plain p fit (Some i)) ∙ ap (λ (s : Scope). construction p (class_at p i) i [] s ends) e in
     subst (λ (ss : Stmts). low_bare (unwritten_room role.Constructor (class_at p i)) ss d0 new) body (lowers_as all scope (λ code x z y. y) (omega arith) (omega arith) (omega arith) (omega arith))
 
-pub unwritten_left : (p : Program) (i depth : ℕ) (d0 d1 new : Draft) → depth ≡ length d0.marks → LeavesAll (left_room (class_at p i)) (left_count (class_at p i)) (all_left p i (class_at p i)) d0 d1 → EndsScopes depth d1 new → LowersUnwritten p role.Destructor i d0 new
-unwritten_left p i depth d0 d1 new q h g =
+pub unwritten_left : (p : Program) → FitClasses p → (i depth : ℕ) (d0 d1 new : Draft) → depth ≡ length d0.marks → LeavesAll (left_room (class_at p i)) (left_count (class_at p i)) (all_left p i (class_at p i)) d0 d1 → EndsScopes depth d1 new → LowersUnwritten p role.Destructor i d0 new
+unwritten_left p fit i depth d0 d1 new q h g =
     let all = lays_ended depth q h g in
-    subst (λ (ss : Stmts). low_bare (left_room (class_at p i)) ss d0 new) (all_destruction p i (class_at p i) Nil) (lowers_as all refl (λ code x z y. y) (omega arith) (omega arith) (omega arith) (omega arith))
+    subst (λ (ss : Stmts). low_bare (left_room (class_at p i)) ss d0 new) (all_destruction p i (class_at p i) Nil (class_plain p fit (Some i))) (lowers_as all refl (λ code x z y. y) (omega arith) (omega arith) (omega arith) (omega arith))
 
 -- a part that ends takes some ops
 pub clean_some : (what : Cleaning) → 1 ≤ clean_length what

@@ -1,6 +1,6 @@
 -- The code of constructors and destructors.
-use Rattle.std.proofs.Common.{◌≡◌, ℕ, ◌+◌, ◌*◌, ◌≤◌, ◌<◌, Bool, true, false, List, [], ◌∷◌, ◌++◌, length, nat_eq, refl, ap, sym, subst, ◌∙◌, arith}
-use Rattle.std.specs.Prelude.{◌&&◌, Option, None, max, slice_set, if◌then◌else◌}
+use Rattle.std.proofs.Common.{◌≡◌, ℕ, ◌+◌, ◌≤◌, Bool, true, false, List, [], ◌∷◌, ◌++◌, length, nat_eq, refl, ap, sym, subst, ◌∙◌, arith}
+use Rattle.std.specs.Prelude.{◌&&◌, Option, Some, None, is_some, max, slice_set}
 use Rattle.std.proofs.Math.Nat.{max-eq_left, max-eq_right}
 use Rattle.uc_tree.specs.declared.kinds.Base.{Base}
 use Rattle.uc_tree.specs.declared.kinds.Param.{Param}
@@ -8,15 +8,15 @@ use Rattle.uc_tree.specs.declared.kinds.Role.{Role}
 use Rattle.uc_tree.specs.declared.kinds.Role.TheVariants as role
 use Rattle.uc_tree.specs.Gathered.{gathered_all}
 use Rattle.uc_tree.specs.Names.{same_name}
-use Rattle.uc_tree.specs.Numbering.{is_plain, main_name, own_texts, own_sites}
+use Rattle.uc_tree.specs.Numbering.{is_plain, main_name, member_number, own_texts, own_sites}
 use Rattle.uc_tree.specs.Objects.{Unwritten, class_at}
 use Rattle.uc_tree.specs.ProgramMain.{main_number}
 use Rattle.uc_tree.specs.StatementSizes.{stmts_size}
 use Rattle.uc_tree.specs.Cells.{declared_cells, params_cells, routine_cells, stmts_cells}
 use Rattle.uc_tree.specs.Scopes.{stmts_scopes}
-use Rattle.uc_tree.specs.Programs.{Class, Program, Routine}
+use Rattle.uc_tree.specs.Programs.{Class, Program, Routine, Sig}
 use Rattle.uc_tree.specs.Source as source
-use Rattle.uc_resolve.specs.Resolve.{Scope, body_by, class_by, has_coroutines, is_coroutine_main, params_known, purpose_of, role_purpose, routine_meant, routine_scope, scope_behind, unwritten_body, unwritten_meant}
+use Rattle.uc_resolve.specs.Resolve.{Scope, body_by, class_by, has_coroutines, has_number_in, has_tasks, is_main, params_known, purpose_of, role_purpose, routine_meant, routine_scope, scope_behind, unwritten_body, unwritten_meant}
 use Rattle.uc_code.specs.declared.op.Op.TheVariants as op
 use Rattle.uc_code.specs.declared.rows.Mark.{Mark}
 use Rattle.uc_code.specs.declared.rows.Mark.TheVariants as mark
@@ -24,16 +24,17 @@ use Rattle.uc_code.specs.declared.rows.HandlerRow.{HandlerRow}
 use Rattle.uc_code.specs.declared.rows.Instruction.{Instruction}
 use Rattle.uc_code.specs.declared.rows.RoutineCode.{RoutineCode}
 use Rattle.uc_code.specs.Drafts.{Draft}
-use Rattle.uc_code.specs.Laid.{Laid, laid_in}
-use Rattle.uc_code.specs.Open.{left_marks}
-use Rattle.uc_code.specs.Ranges.{Both, Kept, One}
+use Rattle.uc_code.specs.Layout.{Laid, laid_in}
+use Rattle.uc_code.specs.OpenRows.{left_marks}
+use Rattle.uc_code.specs.CodeShapes.{Both, Kept, One}
 use Rattle.uc_code.specs.Lowered.{StmtsAt, BodyAt, RoutineAt}
 use Rattle.uc_code.proofs.Stable.{kept_then, kept_same}
-use Rattle.uc_lower_expr.specs.Added.{Adds, OpCode}
+use Rattle.uc_lower_expr.specs.DraftGrowth.{Adds, OpCode}
 use Rattle.uc_lower_stmt.specs.Routines.{frame_cells}
-use Rattle.uc_lower_stmt.specs.Scoped.{Lowers, scope_of}
+use Rattle.uc_lower_stmt.specs.LowersStatement.{Lowers, scope_of}
 use Rattle.uc_lower_stmt.proofs.Counted.{behind_counted}
 use Rattle.uc_lower_stmt.proofs.Kept.{stmts_stable}
+use Rattle.uc_lower_stmt.proofs.RoutinesLemmas.{purpose_with}
 use Rattle.uc_lower_class.specs.Bodies.{LowersBody, LowersUnwritten, builder_room, role_room, unwritten_room}
 
 -- a routine with this body is laid out, and written down under its number
@@ -114,16 +115,28 @@ builds_role p role.Plain b e = cc
 builds_role p role.Constructor b e = refl
 builds_role p role.Destructor b e = refl
 
--- no constructor and no destructor is the main of a coroutine
-no_main : (b t u : Bool) → t ≡ false → (b && (t && u)) ≡ false
-no_main true t u e = ap (λ (x : Bool). x && u) e
-no_main false t u e = refl
+-- no constructor and no destructor is the main of a coroutine or a task, and none has a number in its class
+
+no_number : (p : Program) (c : Option Class) (s : Sig) → is_plain s.role ≡ false → has_number_in p c s ≡ false
+no_number p None s e = refl
+no_number p (Some k) s e = ap (λ (x : Bool). x && is_some (member_number k s.name)) e
+
+not_main : (t d : Bool) (q : source.Purpose) → purpose_with false t d false false q ≡ q
+not_main true true q = refl
+not_main true false q = refl
+not_main false true q = refl
+not_main false false q = refl
 
 pub builder_purpose : (p : Program) (r : Routine) (number : ℕ) (c : Option Class) → is_plain r.sig.role ≡ false → nat_eq number (main_number p) ≡ false → purpose_of p number c r ≡ source.Builder
 builder_purpose p r number c e m =
-    let plain : is_coroutine_main p c r.sig ≡ false = no_main (has_coroutines p c) (is_plain r.sig.role) (same_name r.sig.name main_name) e in
-    ap (λ (b : Bool). if b then source.TaskMain else if is_coroutine_main p c r.sig then source.CoroutineMain else role_purpose p r.sig.role r.sig.ret) m
-    ∙ ap (λ (b : Bool). if b then source.CoroutineMain else role_purpose p r.sig.role r.sig.ret) plain ∙ builds_role p r.sig.role r.sig.ret e
+    let q = role_purpose p r.sig.role r.sig.ret in
+    let t = has_tasks p c in
+    let d = has_coroutines p c in
+    let no_main : is_main p r.sig ≡ false = ap (λ (x : Bool). x && same_name r.sig.name main_name) e in
+    ap (λ (b : Bool). purpose_with b t d (is_main p r.sig) (has_number_in p c r.sig) q) m
+    ∙ ap (λ (b : Bool). purpose_with false t d b (has_number_in p c r.sig) q) no_main
+    ∙ ap (λ (b : Bool). purpose_with false t d false b q) (no_number p c r.sig e)
+    ∙ not_main t d q ∙ builds_role p r.sig.role r.sig.ret e
 
 -- what lowering one does to a draft
 pub record Written (p : Program) (r : Routine) (s : Scope) (class : Option ℕ) (last number : ℕ) (old new : Draft) : Type 0 where

@@ -7,9 +7,10 @@ use Rattle.uc_tree.specs.ExpressionSizes.{expr_size, exprs_size}
 use Rattle.uc_lower_expr.specs.Contexts.{context_in}
 use Rattle.uc_tree.specs.declared.limits.TheConstants.{OPS_FOR_SIZE}
 use Rattle.uc_tree.specs.Programs.{Class, Program}
-use Rattle.uc_tree.specs.Objects.{ClassField, class_shape, plain_class, shape_of}
-use Rattle.uc_tree.specs.Source.{field_cells, Expr, Literal, OfObject, OwnField, Shape, Stmts, Assign, Evaluate, Then, Built, Scoped}
-use Rattle.uc_resolve.specs.Resolve.{Meant, AtPlace, args_meant, meant, build, clean_up, converted, value_of, field_built, field_class, field_left, field_type, length_in_class}
+use Rattle.uc_tree.specs.Objects.{Making, APlain, ClassField, class_shape, plain_class, shape_of}
+use Rattle.uc_tree.specs.Source.{field_cells, Expr, Literal, OfObject, OwnField, Shape, Stmts, Evaluate, Then, Built, Scoped}
+use Rattle.uc_resolve.specs.Resolve.{Meant, AtPlace, args_meant, meant, build, clean_up, value_of, field_built, field_making, field_left, field_start, field_type, length_in_class}
+use Rattle.uc_code.specs.declared.op.Op.{Op}
 use Rattle.uc_code.specs.declared.op.Op.TheVariants as op
 use Rattle.uc_code.specs.declared.rows.Mark.{Mark}
 use Rattle.uc_code.specs.declared.rows.Cleaning.{Cleaning}
@@ -17,10 +18,12 @@ use Rattle.uc_code.specs.declared.rows.Cleaning.TheVariants as cleaning
 use Rattle.uc_code.specs.declared.rows.Spot.{Spot}
 use Rattle.uc_code.specs.declared.rows.Spot.TheVariants as spot
 use Rattle.uc_code.specs.Drafts.{Draft}
+use Rattle.uc_code.specs.Layout.{Laid}
+use Rattle.uc_code.specs.Lowered.{StmtAt}
 use Rattle.uc_code.specs.ObjectCalls.{BeginsAt, InObject}
-use Rattle.uc_code.specs.Puts.{clean_length}
+use Rattle.uc_code.specs.Emits.{clean_length}
 use Rattle.uc_code.proofs.Stable.{one_stable}
-use Rattle.uc_lower_expr.specs.Added.{Adds, ConvertCode, ExprCode, OpCode}
+use Rattle.uc_lower_expr.specs.DraftGrowth.{Adds, ConvertCode, ExprCode, OpCode}
 use Rattle.uc_lower_expr.specs.Meanings.{Tells, shape_as}
 use Rattle.uc_lower_expr.specs.Members.{IsFieldAt}
 use Rattle.uc_lower_expr.specs.declared.fields.Field.{Field}
@@ -30,8 +33,8 @@ use Rattle.uc_lower_expr.proofs.Arms.{converted_at}
 use Rattle.uc_lower_expr.proofs.Settled.{both, expr_stable}
 use Rattle.uc_lower_stmt.specs.Objects.{array_by, build_room, call_by}
 use Rattle.uc_lower_class.specs.declared.parts.Part.{Part}
-use Rattle.uc_lower_class.specs.Fields.{StartedCode, field_then, held_by, left_then, part_in, part_room, started_then}
-use Rattle.uc_lower_class.specs.Pended.{Constructs}
+use Rattle.uc_lower_class.specs.Fields.{StartedCode, field_class, field_then, held_by, keep_op, left_then, part_in, part_room, started_then}
+use Rattle.uc_lower_class.specs.OpenParts.{Constructs}
 use Rattle.uc_lower_class.proofs.Parting.{constructs_as, constructs_does, constructs_nothing, puts_adds}
 
 -- what is told of a field
@@ -54,6 +57,13 @@ module _ (p : Program) (c : Class) (i number : ℕ) (f : ClassField) (v : Field)
 
   pub class_told : field_class p f ≡ (if v.by_ref then None else v.told.class)
   class_told = ap (λ (b : Bool). if b then None else plain_class p f.base) h.by_ref ∙ ap (λ (o : Option ℕ). if v.by_ref then None else o) told_class
+
+  making_told : field_making p f ≡ option_map APlain (field_class p f)
+  making_told = ap (λ (o : Option Making). if f.declarator.by_ref then None else o) h.made ∙ held_class f.declarator.by_ref (plain_class p f.base)
+    where
+      held_class : (b : Bool) (o : Option ℕ) → (let m : Option Making = if b then None else option_map APlain o in m) ≡ option_map APlain (if b then None else o)
+      held_class true o = refl
+      held_class false o = refl
 
 -- the part that a field is
 
@@ -89,12 +99,20 @@ part_class v part e = (parts_by v.by_ref v.told.class v.cell v.told.elements par
 pub part_long : (v : Field) (part : Part) → part_in v ≡ Some part → part.length ≡ v.told.elements
 part_long v part e = (parts_by v.by_ref v.told.class v.cell v.told.elements part e).long
 
+-- a reference is bound, a scalar is written
+start_code : (p : Program) (b : Bool) (s t : Shape) (n : ℕ) (m : Meant) (ms : List Mark) (code : Laid) (a z : ℕ) → StartedCode ms (field_cells t n) b (held_by b s m) code a z → StmtAt code ms (Evaluate 0 (field_start p b s (OfObject (OwnField t n)) m)) a z
+start_code p true s t n m ms code a z h = h
+start_code p false s t n m ms code a z h = h
+
 module _ (p : Program) (c : Class) (i number : ℕ) (f : ClassField) (v : Field) (h : IsFieldAt p c i number f v) where
   abbrev place : Expr
   place = OfObject (OwnField (class_shape p i) number)
 
   pub field_object : (part : Part) → part_in v ≡ Some part → field_class p f ≡ Some part.class
   field_object part e = class_told p c i number f v h ∙ (parts_by v.by_ref v.told.class v.cell v.told.elements part e).object
+
+  field_made : (part : Part) → part_in v ≡ Some part → field_making p f ≡ Some (APlain part.class)
+  field_made part e = making_told p c i number f v h ∙ ap (λ (o : Option ℕ). option_map APlain o) (field_object part e)
 
   pub field_begins : (part : Part) → part_in v ≡ Some part → BeginsAt place part.spot
   field_begins part e =
@@ -104,33 +122,31 @@ module _ (p : Program) (c : Class) (i number : ℕ) (f : ClassField) (v : Field)
   length_is : (part : Part) → part_in v ≡ Some part → length_in_class p c i f ≡ part.length
   length_is part e = told_length p c i number f v h ∙ sym (part_long v part e)
 
-  pub field_part : (part : Part) → part_in v ≡ Some part → (args : List Meant) (rest : Stmts) → Then (build p 0 part.class part.length place args) (Built (clean_up p part.class part.length place) rest) ≡ field_then p c i number f args rest
+  pub field_part : (part : Part) → part_in v ≡ Some part → (args : List Meant) (rest : Stmts) → Then (build p 0 (APlain part.class) part.length place args) (Built (clean_up p (APlain part.class) part.length place) rest) ≡ field_then p c i number f args rest
   field_part part e args rest =
-      sym (ap (λ (o : Option ℕ). field_built p o f (length_in_class p c i f) place args rest) (field_object part e) ∙ ap (λ (l : Option ℕ). field_built p (Some part.class) f l place args rest) (length_is part e))
+      sym (ap (λ (o : Option Making). field_built p o f (length_in_class p c i f) place args rest) (field_made part e) ∙ ap (λ (l : Option ℕ). field_built p (Some (APlain part.class)) f l place args rest) (length_is part e))
 
-  pub left_part : (part : Part) → part_in v ≡ Some part → (rest : Stmts) → Scoped (clean_up p part.class part.length place) rest ≡ left_then p c i number f rest
+  pub left_part : (part : Part) → part_in v ≡ Some part → (rest : Stmts) → Scoped (clean_up p (APlain part.class) part.length place) rest ≡ left_then p c i number f rest
   left_part part e rest =
-      sym (ap (λ (o : Option ℕ). field_left p o (length_in_class p c i f) place rest) (field_object part e) ∙ ap (λ (l : Option ℕ). field_left p (Some part.class) l place rest) (length_is part e))
+      sym (ap (λ (o : Option Making). field_left p o (length_in_class p c i f) place rest) (field_made part e) ∙ ap (λ (l : Option ℕ). field_left p (Some (APlain part.class)) l place rest) (length_is part e))
 
-  no_class : part_in v ≡ None → field_class p f ≡ None
-  no_class e = class_told p c i number f v h ∙ no_part v.by_ref v.told.class v.cell v.told.elements e
+  no_class : part_in v ≡ None → field_making p f ≡ None
+  no_class e = making_told p c i number f v h ∙ ap (λ (o : Option ℕ). option_map APlain o) (class_told p c i number f v h ∙ no_part v.by_ref v.told.class v.cell v.told.elements e)
 
   pub field_plain : part_in v ≡ None → (args : List Meant) (rest : Stmts) → started_then p i number f args rest ≡ field_then p c i number f args rest
-  field_plain e args rest = sym (ap (λ (o : Option ℕ). field_built p o f (length_in_class p c i f) place args rest) (no_class e))
+  field_plain e args rest = sym (ap (λ (o : Option Making). field_built p o f (length_in_class p c i f) place args rest) (no_class e))
 
   pub left_plain : part_in v ≡ None → (rest : Stmts) → rest ≡ left_then p c i number f rest
-  left_plain e rest = sym (ap (λ (o : Option ℕ). field_left p o (length_in_class p c i f) place rest) (no_class e))
+  left_plain e rest = sym (ap (λ (o : Option Making). field_left p o (length_in_class p c i f) place rest) (no_class e))
 
   -- a field that is no object
 
-  held_same : (m : Meant) → held_by v.by_ref (shape_as v.told.scalar) m ≡ (if f.declarator.by_ref then m.expr else converted (shape_of f.base) (value_of m))
-  held_same m = ap (λ (b : Bool). held_by b (shape_as v.told.scalar) m) (sym h.by_ref) ∙ ap (λ (s : Shape). held_by f.declarator.by_ref s m) (sym (told_shape p c i number f v h))
-
-  pub started_on : {n : ℕ} {old new : Draft} → (m : Meant) (ms : List Meant) (ws : List Cleaning) → Adds n (StartedCode old.marks v.cell (held_by v.by_ref (shape_as v.told.scalar) m)) old new → Constructs n (started_then p i number f (m ∷ ms)) ws old ws new
+  pub started_on : {n : ℕ} {old new : Draft} → (m : Meant) (ms : List Meant) (ws : List Cleaning) → Adds n (StartedCode old.marks v.cell v.by_ref (held_by v.by_ref (shape_as v.told.scalar) m)) old new → Constructs n (started_then p i number f (m ∷ ms)) ws old ws new
   started_on {n} {old} {new} m ms ws g =
-      let by_cell = subst (λ (k : ℕ). Adds n (StartedCode old.marks k (held_by v.by_ref (shape_as v.told.scalar) m)) old new) (sym h.cell) g in
-      let by_value = subst (λ (e : Expr). Adds n (StartedCode old.marks (field_cells (class_shape p i) number) e) old new) (held_same m) by_cell in
-      constructs_does (Evaluate 0 (Assign place (if f.declarator.by_ref then m.expr else converted (shape_of f.base) (value_of m)))) ws (puts_adds by_value)
+      let by_cell = subst (λ (k : ℕ). Adds n (StartedCode old.marks k v.by_ref (held_by v.by_ref (shape_as v.told.scalar) m)) old new) (sym h.cell) g in
+      let by_form = subst (λ (b : Bool). Adds n (StartedCode old.marks (field_cells (class_shape p i) number) b (held_by b (shape_as v.told.scalar) m)) old new) (sym h.by_ref) by_cell in
+      let by_shape = subst (λ (s : Shape). Adds n (StartedCode old.marks (field_cells (class_shape p i) number) f.declarator.by_ref (held_by f.declarator.by_ref s m)) old new) (sym (told_shape p c i number f v h)) by_form in
+      constructs_does (Evaluate 0 (field_start p f.declarator.by_ref (shape_of f.base) place m)) ws (puts_adds (adds_as by_shape (λ code a z w. start_code p f.declarator.by_ref (shape_of f.base) (class_shape p i) number m old.marks code a z w)))
 
 pub started_none : (p : Program) (i number n : ℕ) (f : ClassField) (ws : List Cleaning) (old : Draft) → Constructs n (started_then p i number f []) ws old ws old
 started_none p i number n f ws old = constructs_as (constructs_nothing ws old) (omega arith) (λ ss. refl)
@@ -144,10 +160,10 @@ pub held_value : {n : ℕ} {old mid new : Draft} → (r : Bool) (s : Shape) (m :
 held_value {n} {old} {mid} {new} r s m e h g =
     subst (λ (b : Bool). Adds (n + 1) (ExprCode 0 old.marks (held_by b s m)) old new) (sym e) (adds_as (adds_both (expr_stable 0 old.marks (value_of m)) h g) (λ code a z w. converted_at old.marks 0 s (value_of m) code a z w))
 
-pub started_code : (n cell : ℕ) (e : Expr) (d0 d1 d2 d3 d4 : Draft) → Adds 1 (OpCode 0 (op.This cell)) d0 d1 → Adds n (ExprCode 0 d1.marks e) d1 d2 → Adds 1 (OpCode 0 op.Keep) d2 d3 → Adds 1 (OpCode 0 op.Discard) d3 d4 → Adds (n + 3) (StartedCode d0.marks cell e) d0 d4
-started_code n cell e d0 d1 d2 d3 d4 h1 h2 h3 h4 =
+pub started_code : (n cell : ℕ) (r : Bool) (e : Expr) (d0 d1 d2 d3 d4 : Draft) → Adds 1 (OpCode 0 (op.This cell)) d0 d1 → Adds n (ExprCode 0 d1.marks e) d1 d2 → Adds 1 (OpCode 0 (keep_op r)) d2 d3 → Adds 1 (OpCode 0 op.Discard) d3 d4 → Adds (n + 3) (StartedCode d0.marks cell r e) d0 d4
+started_code n cell r e d0 d1 d2 d3 d4 h1 h2 h3 h4 =
     let k2 = subst (λ (ms : List Mark). Adds n (ExprCode 0 ms e) d1 d2) (ap (λ (d : Draft). d.marks) h1.rest) h2 in
-    let inner = both (one_stable (op.This cell) 0) (both (expr_stable 0 d0.marks e) (one_stable op.Keep 0)) in
+    let inner = both (one_stable (op.This cell) 0) (both (expr_stable 0 d0.marks e) (one_stable (keep_op r) 0)) in
     adds_more (omega arith) (adds_both inner (adds_both (one_stable (op.This cell) 0) h1 (adds_both (expr_stable 0 d0.marks e) k2 h3)) h4)
 
 -- how many ops a part takes
@@ -163,13 +179,13 @@ part_fits p j r s l = by_written p j r.number r.written s l
 
 -- arguments, of which the first counts
 
-pub started_some : (p : Program) (v : Field) (args : List tree.Expr) (e : tree.Expr) (old new : Draft) → Some e ≡ slice_get args 0 → Adds (OPS_FOR_SIZE * expr_size e + 4) (StartedCode old.marks v.cell (held_by v.by_ref (shape_as v.told.scalar) (meant (context_in p old) e))) old new
+pub started_some : (p : Program) (v : Field) (args : List tree.Expr) (e : tree.Expr) (old new : Draft) → Some e ≡ slice_get args 0 → Adds (OPS_FOR_SIZE * expr_size e + 4) (StartedCode old.marks v.cell v.by_ref (held_by v.by_ref (shape_as v.told.scalar) (meant (context_in p old) e))) old new
     → (c : Class) (i number : ℕ) (f : ClassField) (parts : List Cleaning) → IsFieldAt p c i number f v → Constructs (OPS_FOR_SIZE * exprs_size (exprs_of args) + 4) (started_then p i number f (args_meant (context_in p old) (exprs_of args))) parts old parts new
 started_some p v [] e old new is h c i number f parts at = cc
 started_some p v (x ∷ xs) e old new is h c i number f parts at =
     let same : e ≡ x = cc in
-    let one : Adds (OPS_FOR_SIZE * expr_size x + 4) (StartedCode old.marks v.cell (held_by v.by_ref (shape_as v.told.scalar) (meant (context_in p old) x))) old new =
-    subst (λ (y : tree.Expr). Adds (OPS_FOR_SIZE * expr_size y + 4) (StartedCode old.marks v.cell (held_by v.by_ref (shape_as v.told.scalar) (meant (context_in p old) y))) old new) same h in
+    let one : Adds (OPS_FOR_SIZE * expr_size x + 4) (StartedCode old.marks v.cell v.by_ref (held_by v.by_ref (shape_as v.told.scalar) (meant (context_in p old) x))) old new =
+    subst (λ (y : tree.Expr). Adds (OPS_FOR_SIZE * expr_size y + 4) (StartedCode old.marks v.cell v.by_ref (held_by v.by_ref (shape_as v.told.scalar) (meant (context_in p old) y))) old new) same h in
     constructs_as (started_on p c i number f v at (meant (context_in p old) x) (args_meant (context_in p old) (exprs_of xs)) parts one) (omega arith) (λ ss. refl)
 
 pub started_nothing : (p : Program) (v : Field) (args : List tree.Expr) (old : Draft) → None ≡ slice_get args 0
@@ -177,9 +193,12 @@ pub started_nothing : (p : Program) (v : Field) (args : List tree.Expr) (old : D
 started_nothing p v [] old is c i number f parts at = started_none p i number (OPS_FOR_SIZE * 0 + 4) f parts old
 started_nothing p v (x ∷ xs) old is c i number f parts at = cc
 
+pub kept_by : (r : Bool) (o : Op) (old new : Draft) → o ≡ keep_op r → Adds 1 (OpCode 0 o) old new → Adds 1 (OpCode 0 (keep_op r)) old new
+kept_by r o old new e h = subst (λ (x : Op). Adds 1 (OpCode 0 x) old new) e h
+
 -- in a draft with the same names and marks
-pub started_in : (n cell : ℕ) (p : Program) (r : Bool) (s : Shape) (value : tree.Expr) (d0 d1 d2 d3 d4 : Draft) → Adds 1 (OpCode 0 (op.This cell)) d0 d1 → Adds n (ExprCode 0 d1.marks (held_by r s (meant (context_in p d1) value))) d1 d2 → Adds 1 (OpCode 0 op.Keep) d2 d3 → Adds 1 (OpCode 0 op.Discard) d3 d4
-    → Adds (n + 3) (StartedCode d0.marks cell (held_by r s (meant (context_in p d0) value))) d0 d4
+pub started_in : (n cell : ℕ) (p : Program) (r : Bool) (s : Shape) (value : tree.Expr) (d0 d1 d2 d3 d4 : Draft) → Adds 1 (OpCode 0 (op.This cell)) d0 d1 → Adds n (ExprCode 0 d1.marks (held_by r s (meant (context_in p d1) value))) d1 d2 → Adds 1 (OpCode 0 (keep_op r)) d2 d3 → Adds 1 (OpCode 0 op.Discard) d3 d4
+    → Adds (n + 3) (StartedCode d0.marks cell r (held_by r s (meant (context_in p d0) value))) d0 d4
 started_in n cell p r s value d0 d1 d2 d3 d4 h1 h2 h3 h4 =
     let same : held_by r s (meant (context_in p d1) value) ≡ held_by r s (meant (context_in p d0) value) = ap (λ (d : Draft). held_by r s (meant (context_in p d) value)) h1.rest in
-    started_code n cell (held_by r s (meant (context_in p d0) value)) d0 d1 d2 d3 d4 h1 (subst (λ (e : Expr). Adds n (ExprCode 0 d1.marks e) d1 d2) same h2) h3 h4
+    started_code n cell r (held_by r s (meant (context_in p d0) value)) d0 d1 d2 d3 d4 h1 (subst (λ (e : Expr). Adds n (ExprCode 0 d1.marks e) d1 d2) same h2) h3 h4

@@ -10,14 +10,13 @@ use Rattle.uc_tree.specs.Cells.{classes_of, held_by, object_of, row_of, rows_of,
 use Rattle.uc_tree.specs.Constants.{constants_of}
 use Rattle.uc_tree.specs.Numbering.{routines_of}
 use Rattle.uc_tree.specs.Objects.{ClassField, Unwritten, class_at, class_height, fields_of, height_within, plain_class, plain_in, written_at}
-use Rattle.uc_resolve.specs.Resolve.{field_class}
-use Rattle.uc_sizes.specs.Depths.{Holds, First, Later}
-use Rattle.uc_sizes.proofs.Depths.{heights_fall, heights_few}
+use Rattle.uc_layout.specs.Depths.{Holds, First, Later}
+use Rattle.uc_layout.proofs.DepthsLemmas.{heights_fall, heights_few}
 use Rattle.uc_lower_expr.specs.Members.{FitClasses, routine_by}
 use Rattle.uc_lower_expr.proofs.FieldLemmas.{held_is}
-use Rattle.uc_unwritten.proofs.Order.{stands_before}
+use Rattle.uc_implicit.proofs.Order.{stands_before}
 use Rattle.uc_lower_class.specs.Bodies.{IsUnwritten}
-use Rattle.uc_lower_class.specs.Fields.{FieldsBehind}
+use Rattle.uc_lower_class.specs.Fields.{FieldsBehind, field_class}
 
 -- written routines stand before all others
 

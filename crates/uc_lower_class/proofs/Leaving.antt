@@ -4,13 +4,13 @@ use Rattle.uc_tree.specs.Source.{CleanUp, Stmts, Scoped}
 use Rattle.uc_code.specs.declared.rows.Cleaning.{Cleaning}
 use Rattle.uc_code.specs.declared.rows.Opening.TheVariants as opening
 use Rattle.uc_code.specs.Drafts.{Draft}
-use Rattle.uc_code.specs.Laid.{laid_in}
-use Rattle.uc_code.specs.Open.{opened}
-use Rattle.uc_code.specs.Ranges.{Kept}
+use Rattle.uc_code.specs.Layout.{laid_in}
+use Rattle.uc_code.specs.OpenRows.{opened}
+use Rattle.uc_code.specs.CodeShapes.{Kept}
 use Rattle.uc_code.specs.ObjectCalls.{Cleans}
-use Rattle.uc_lower_stmt.specs.Pending.{Opens as Scope, Begins, Opened}
+use Rattle.uc_lower_stmt.specs.OpenScopes.{Opens as Scope, Begins, Opened}
 use Rattle.uc_lower_stmt.proofs.Laying.{lays_as, lays_join, lays_nothing}
-use Rattle.uc_lower_class.specs.Pended.{Opens}
+use Rattle.uc_lower_class.specs.OpenParts.{Opens}
 
 pub opens_nothing : (n : ℕ) (old : Draft) → Opens n (λ ss. ss) old old
 opens_nothing n old = lays_as (lays_nothing 0 old) refl (λ ss. refl) (omega arith) (omega arith) (omega arith) (omega arith) (omega arith)

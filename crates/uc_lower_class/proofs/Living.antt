@@ -11,19 +11,19 @@ use Rattle.uc_code.specs.declared.rows.Cleaning.TheVariants as cleaning
 use Rattle.uc_code.specs.declared.rows.Mark.{Mark}
 use Rattle.uc_code.specs.declared.rows.Opening.TheVariants as opening
 use Rattle.uc_code.specs.Drafts.{Draft}
-use Rattle.uc_code.specs.Laid.{laid_in}
+use Rattle.uc_code.specs.Layout.{laid_in}
 use Rattle.uc_code.specs.ObjectCalls.{Cleans, TakesDown, IsForgotten}
-use Rattle.uc_code.specs.Open.{opened}
-use Rattle.uc_code.specs.Puts.{Puts, clean_length}
-use Rattle.uc_code.specs.Ranges.{Kept}
+use Rattle.uc_code.specs.OpenRows.{opened}
+use Rattle.uc_code.specs.Emits.{Puts, clean_length}
+use Rattle.uc_code.specs.CodeShapes.{Kept}
 use Rattle.uc_code.specs.Lowered.{StmtAt, StmtsAt}
-use Rattle.uc_lower_expr.specs.Added.{Adds, OpCode}
+use Rattle.uc_lower_expr.specs.DraftGrowth.{Adds, OpCode}
 use Rattle.uc_lower_expr.proofs.Adding.{adds_as, adds_nothing}
-use Rattle.uc_lower_stmt.specs.Scoped.{Lowers, scope_of}
+use Rattle.uc_lower_stmt.specs.LowersStatement.{Lowers, scope_of}
 use Rattle.uc_lower_stmt.proofs.Joined.{lowers_adds}
 use Rattle.uc_lower_stmt.proofs.Laying.{lays_as, lays_join, lays_nothing, lays_one}
 use Rattle.uc_lower_class.specs.Fields.{all_built, all_left, all_room, enliven_room, fields_room, forget_count, left_count, left_room, live_room, set_up_room, start_room, take_down_room}
-use Rattle.uc_lower_class.specs.Pended.{Constructs, LeavesAll, Opens}
+use Rattle.uc_lower_class.specs.OpenParts.{Constructs, LeavesAll, Opens}
 use Rattle.uc_lower_class.proofs.Leaving.{opens_nothing, opens_scope}
 use Rattle.uc_lower_class.proofs.Parting.{constructs_as, constructs_does, constructs_nothing, constructs_then, puts_adds}
 
@@ -53,9 +53,9 @@ pub enliven_none : (p : Program) (b : Bool) (ms : List Mark) (old : Draft) → b
 enliven_none p b ms old e = subst (λ (x : Bool). Adds (enliven_room x) (λ code. StmtsAt code ms 0 (enlivened p x)) old old) (sym e) (adds_nothing old)
 
 -- what follows the body, by the class
-pub ends_as : (p : Program) (o : Option Class) (ms : List Mark) (old new : Draft) → ((p : Program) (ms : List Mark) → Adds (enliven_room (has_coroutines p o)) (λ code. StmtsAt code ms 0 (enlivened p (has_coroutines p o))) old new) → Adds (live_room o) (λ code. StmtsAt code ms 0 (construction_ends p o)) old new
-ends_as p None ms old new h = h p ms
-ends_as p (Some c) ms old new h = h p ms
+pub ends_as : (p : Program) (o : Option Class) (i : ℕ) (ms : List Mark) (old new : Draft) → ((p : Program) (ms : List Mark) → Adds (enliven_room (has_coroutines p o)) (λ code. StmtsAt code ms 0 (enlivened p (has_coroutines p o))) old new) → Adds (live_room o) (λ code. StmtsAt code ms 0 (construction_ends p o i)) old new
+ends_as p None i ms old new h = h p ms
+ends_as p (Some c) i ms old new h = h p ms
 
 pub live_is : (p : Program) (o : Option Class) → enliven_room (has_coroutines p o) ≡ live_room o
 live_is p None = refl

@@ -10,14 +10,14 @@ use Rattle.uc_tree.specs.Programs.{Class, Init, Program}
 use Rattle.uc_tree.specs.Cells.{leading_cells, seen_in}
 use Rattle.uc_tree.specs.Constants.{constants_of}
 use Rattle.uc_tree.specs.Objects.{ClassField, class_shape, fields_of}
-use Rattle.uc_resolve.specs.Resolve.{Meant, Own, Scope, args_meant, context_at, field_built, field_class, field_length, field_place, fields_built, fields_left, init_args, init_named, length_in_class}
+use Rattle.uc_resolve.specs.Resolve.{Meant, Own, Scope, args_meant, context_at, field_built, field_making, field_length, field_place, fields_built, fields_left, init_args, init_named, length_in_class}
 use Rattle.uc_code.specs.declared.rows.Cleaning.{Cleaning}
 use Rattle.uc_code.specs.Drafts.{Draft}
-use Rattle.uc_code.specs.Laid.{routine_in}
+use Rattle.uc_code.specs.Layout.{routine_in}
 use Rattle.uc_lower_stmt.proofs.Laying.{lays_routine}
 use Rattle.uc_lower_class.specs.Inits.{init_exprs, names_of}
 use Rattle.uc_lower_class.specs.Fields.{field_then, fields_room, left_then, part_room, room_by}
-use Rattle.uc_lower_class.specs.Pended.{Constructs, Opens, end_room}
+use Rattle.uc_lower_class.specs.OpenParts.{Constructs, Opens, end_room}
 use Rattle.uc_lower_class.proofs.Parting.{constructs_as, constructs_nothing, constructs_then}
 use Rattle.uc_lower_class.proofs.Leaving.{opens_as, opens_nothing, opens_then}
 
@@ -112,8 +112,8 @@ module _ (p : Program) (c : Class) (i : ℕ) where
       → Constructs (fields_room inits xs) (fields_built p c i inits s xs m) vs mid ts new → Constructs (fields_room inits (f ∷ xs)) (fields_built p c i inits s (f ∷ xs) n) us now ts new
   one_more inits s f xs n m us vs ts now mid new e h g =
       constructs_as (constructs_then h g) (omega arith) (λ ss.
-      ap (λ (args : List Meant). field_built p (field_class p f) f (length_in_class p c i f) (field_place (class_shape p i) n Own) args (fields_built p c i inits s xs m ss)) (sym (init_same p s inits f.declarator.name))
-      ∙ ap (λ (k : ℕ). field_built p (field_class p f) f (length_in_class p c i f) (field_place (class_shape p i) n Own) (init_args p s (init_named p inits f.declarator.name)) (fields_built p c i inits s xs k ss)) e)
+      ap (λ (args : List Meant). field_built p (field_making p f) f (length_in_class p c i f) (field_place (class_shape p i) n Own) args (fields_built p c i inits s xs m ss)) (sym (init_same p s inits f.declarator.name))
+      ∙ ap (λ (k : ℕ). field_built p (field_making p f) f (length_in_class p c i f) (field_place (class_shape p i) n Own) (init_args p s (init_named p inits f.declarator.name)) (fields_built p c i inits s xs k ss)) e)
 
   pub building_step : (inits : List Init) (s : Scope) (ws : List Cleaning) (old : Draft) (place : ℕ) (us : List Cleaning) (now : Draft) (f : ClassField) (vs : List Cleaning) (mid : Draft) → Building inits s ws old place us now → slice_get fs place ≡ Some f
       → Constructs (field_room inits f) (field_then p c i (lead + place) f (args_meant (context_at p s) (init_exprs inits f.declarator.name))) us now vs mid → Building inits s ws old (place + 1) vs mid

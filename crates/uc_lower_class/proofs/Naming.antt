@@ -9,7 +9,7 @@ use Rattle.uc_tree.specs.Statements.{Declarator}
 use Rattle.uc_tree.specs.Numbering.{place_from}
 use Rattle.uc_tree.specs.Programs.{Init, Member}
 use Rattle.uc_tree.specs.Objects.{ClassField, declared_fields, fields_of, form_fields}
-use Rattle.uc_sizes.proofs.PlacesLemmas.{place_within}
+use Rattle.uc_layout.proofs.PlacesLemmas.{place_within}
 use Rattle.uc_lower_class.specs.Inits.{init_exprs, names_of}
 
 -- one name more

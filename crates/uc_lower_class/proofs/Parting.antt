@@ -7,19 +7,19 @@ use Rattle.uc_code.specs.declared.rows.Mark.TheVariants as mark
 use Rattle.uc_code.specs.declared.rows.Cleaning.{Cleaning}
 use Rattle.uc_code.specs.declared.rows.Opening.TheVariants as opening
 use Rattle.uc_code.specs.Drafts.{Draft}
-use Rattle.uc_code.specs.Laid.{Laid, laid_in, routine_in}
-use Rattle.uc_code.specs.Open.{CleansBehind, opened}
-use Rattle.uc_code.specs.Ranges.{Kept}
+use Rattle.uc_code.specs.Layout.{Laid, laid_in, routine_in}
+use Rattle.uc_code.specs.OpenRows.{CleansBehind, opened}
+use Rattle.uc_code.specs.CodeShapes.{Kept}
 use Rattle.uc_code.specs.Lowered.{StmtAt, StmtsAt}
 use Rattle.uc_code.specs.ObjectCalls.{Cleans}
-use Rattle.uc_code.specs.Puts.{Puts, clean_length}
+use Rattle.uc_code.specs.Emits.{Puts, clean_length}
 use Rattle.uc_code.proofs.Stable.{kept_refl, kept_then, kept_same}
-use Rattle.uc_lower_expr.specs.Added.{Adds}
+use Rattle.uc_lower_expr.specs.DraftGrowth.{Adds}
 use Rattle.uc_lower_stmt.specs.Objects.{ClosesPart, InPart}
-use Rattle.uc_lower_stmt.specs.Pending.{Step, Does, Opens, Builds, block_of}
+use Rattle.uc_lower_stmt.specs.OpenScopes.{Step, Does, Opens, Builds, block_of}
 use Rattle.uc_lower_stmt.proofs.Ending.{cleans_under}
 use Rattle.uc_lower_stmt.proofs.Kept.{stmt_stable, stmts_stable}
-use Rattle.uc_lower_class.specs.Pended.{Pended, Begins, Done, Parted, PartsIn, MoreParts, Constructs, EndsParts, end_room}
+use Rattle.uc_lower_class.specs.OpenParts.{Pended, Begins, Done, Parted, PartsIn, MoreParts, Constructs, EndsParts, end_room}
 
 pub block_join : (ks ls : List Step) (ss : Stmts) → block_of (ls ++ ks) ss ≡ block_of ks (block_of ls ss)
 block_join ks [] ss = refl

@@ -11,16 +11,16 @@ use Rattle.uc_resolve.specs.Resolve.{Meant, Scope, args_meant, context_at}
 use Rattle.uc_code.specs.declared.rows.Mark.{Mark}
 use Rattle.uc_code.specs.declared.rows.Cleaning.{Cleaning}
 use Rattle.uc_code.specs.Drafts.{Draft}
-use Rattle.uc_code.specs.Laid.{routine_in}
+use Rattle.uc_code.specs.Layout.{routine_in}
 use Rattle.uc_lower_expr.specs.Contexts.{context_in}
 use Rattle.uc_lower_expr.specs.Members.{IsFieldAt, IsNthField, no_field_at}
 use Rattle.uc_lower_expr.specs.declared.fields.Field.{Field}
 use Rattle.uc_lower_expr.proofs.Knowing.{plain_within}
-use Rattle.uc_lower_stmt.specs.Scoped.{scope_of}
+use Rattle.uc_lower_stmt.specs.LowersStatement.{scope_of}
 use Rattle.uc_lower_class.specs.declared.parts.Part.{Part}
 use Rattle.uc_lower_class.specs.Inits.{init_exprs}
 use Rattle.uc_lower_class.specs.Fields.{FieldsBehind, PartBehind, field_then, fields_room, left_then, part_in, part_room, room_by}
-use Rattle.uc_lower_class.specs.Pended.{Constructs, Opens}
+use Rattle.uc_lower_class.specs.OpenParts.{Constructs, Opens}
 use Rattle.uc_lower_class.proofs.Fielding.{field_object, told_class, told_length}
 use Rattle.uc_lower_class.proofs.Looping.{Building, Leaving, building_step, drop_at, field_past, leaving_step, room_same}
 use Rattle.uc_lower_class.proofs.Parting.{constructs_as}

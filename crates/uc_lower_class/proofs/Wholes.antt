@@ -16,20 +16,20 @@ use Rattle.uc_code.specs.declared.rows.Mark.TheVariants as mark
 use Rattle.uc_code.specs.declared.rows.Opening.TheVariants as opening
 use Rattle.uc_code.specs.declared.rows.Cleaning.{Cleaning}
 use Rattle.uc_code.specs.Drafts.{Draft, patched}
-use Rattle.uc_code.specs.Laid.{Laid, laid_in}
-use Rattle.uc_code.specs.Open.{closed, handler_in, opened, row_in}
-use Rattle.uc_code.specs.Ranges.{HandlerAt, OpAt, Kept, Risk, Same, clean_up}
+use Rattle.uc_code.specs.Layout.{Laid, laid_in}
+use Rattle.uc_code.specs.OpenRows.{closed, handler_in, opened, row_in}
+use Rattle.uc_code.specs.CodeShapes.{HandlerAt, OpAt, Kept, Risk, Same, clean_up}
 use Rattle.uc_code.specs.Lowered.{StmtAt, StmtsAt}
 use Rattle.uc_code.proofs.Patches.{bare_stays, handler_stays, length-patched, patched_at, same_after, same_before}
 use Rattle.uc_code.proofs.Stable.{kept_piece, kept_then, part, risk_stable}
 use Rattle.uc_code.proofs.Sweeping.{closed_marks, closed_ops, like_closed}
-use Rattle.uc_lower_expr.specs.Added.{Adds, OpCode, RiskCode}
-use Rattle.uc_lower_stmt.specs.Pending.{block_of}
+use Rattle.uc_lower_expr.specs.DraftGrowth.{Adds, OpCode, RiskCode}
+use Rattle.uc_lower_stmt.specs.OpenScopes.{block_of}
 use Rattle.uc_lower_stmt.specs.Marked.{objects_in}
-use Rattle.uc_lower_stmt.specs.Scoped.{Lowers, LowersStmts, scope_of, sizes_at}
+use Rattle.uc_lower_stmt.specs.LowersStatement.{Lowers, LowersStmts, scope_of, sizes_at}
 use Rattle.uc_lower_class.specs.Bodies.{LowersWhole, whole_room}
 use Rattle.uc_lower_stmt.proofs.Kept.{stmts_stable}
-use Rattle.uc_lower_class.specs.Pended.{Pended, Begins, Constructs, EndsParts}
+use Rattle.uc_lower_class.specs.OpenParts.{Pended, Begins, Constructs, EndsParts}
 use Rattle.uc_lower_class.proofs.Parting.{block_join, end_reverse, marks_behind, pended_kept}
 
 -- what was laid out before a place stays where the op at the place is another one

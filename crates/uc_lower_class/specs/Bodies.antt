@@ -13,7 +13,7 @@ use Rattle.uc_tree.specs.Source.{Stmts, Whole}
 use Rattle.uc_resolve.specs.Resolve.{Scope, body_by, class_by, scope_behind, stmts_meant, unwritten_body}
 use Rattle.uc_code.specs.Drafts.{Draft}
 use Rattle.uc_code.specs.Lowered.{StmtAt, StmtsAt}
-use Rattle.uc_lower_stmt.specs.Scoped.{Lowers, scope_of, sizes_at}
+use Rattle.uc_lower_stmt.specs.LowersStatement.{Lowers, scope_of, sizes_at}
 use Rattle.uc_lower_class.specs.Fields.{all_built, all_left, all_room, left_room, live_room}
 
 -- a body, and the block that it is

@@ -6,14 +6,15 @@ use Rattle.uc_tree.specs.Expressions as tree
 use Rattle.uc_tree.specs.ExpressionSizes.{exprs_size}
 use Rattle.uc_tree.specs.Programs.{Class, Init, Program}
 use Rattle.uc_tree.specs.Cells.{leading_cells}
-use Rattle.uc_tree.specs.Objects.{ClassField, has_execution, class_at, class_shape, fields_of}
+use Rattle.uc_tree.specs.Objects.{ClassField, has_execution, class_at, class_shape, fields_of, plain_class}
 use Rattle.uc_tree.specs.Source.{Expr, Shape, Stmts}
-use Rattle.uc_resolve.specs.Resolve.{Meant, Own, Scope, converted, value_of, field_built, field_class, field_left, field_place, field_started, fields_built, fields_left, forgotten, length_in_class, set_up, started_in, taken_down}
+use Rattle.uc_resolve.specs.Resolve.{Meant, Own, Scope, converted, value_of, field_built, field_making, field_left, field_place, field_started, fields_built, fields_left, forgotten, length_in_class, set_up, started_in, taken_down}
 use Rattle.uc_code.specs.declared.rows.Mark.{Mark}
 use Rattle.uc_code.specs.declared.rows.Spot.TheVariants as spot
+use Rattle.uc_code.specs.declared.op.Op.{Op}
 use Rattle.uc_code.specs.declared.op.Op.TheVariants as op
-use Rattle.uc_code.specs.Laid.{Laid}
-use Rattle.uc_code.specs.Ranges.{Both, One}
+use Rattle.uc_code.specs.Layout.{Laid}
+use Rattle.uc_code.specs.CodeShapes.{Both, One}
 use Rattle.uc_code.specs.Lowered.{ExprAt}
 use Rattle.uc_lower_expr.specs.declared.fields.Field.{Field}
 use Rattle.uc_lower_expr.specs.Members.{routine_for}
@@ -45,26 +46,34 @@ abbrev pub PartBehind : Program → List Mark → Option Part → Type 0
 PartBehind p ms None = Unit {0}
 PartBehind p ms (Some part) = AllStandBehind p part.class ms
 
+-- the class of the plain objects of a field, by its place; a reference names no object of its own
+abbrev pub field_class : Program → ClassField → Option ℕ
+field_class p f = if f.declarator.by_ref then None else plain_class p f.base
+
 -- so it is for each field of the class with the place i, for a routine of this number
 pub record FieldsBehind (p : Program) (i number : ℕ) : Type 0 where
   pub each : (c : Class) (place : ℕ) (f : ClassField) (j : ℕ) → class_at p i ≡ Some c → slice_get (fields_of c.members) place ≡ Some f → field_class p f ≡ Some j → (wanted : Role) → (routine_for p j wanted).written ≡ false → number < (routine_for p j wanted).number
 
 -- a field of the class c with the place i is built with these arguments, before other statements; and it is in scope in them
 abbrev pub field_then : Program → Class → ℕ → ℕ → ClassField → List Meant → Stmts → Stmts
-field_then p c i number f args rest = field_built p (field_class p f) f (length_in_class p c i f) (field_place (class_shape p i) number Own) args rest
+field_then p c i number f args rest = field_built p (field_making p f) f (length_in_class p c i f) (field_place (class_shape p i) number Own) args rest
 
 abbrev pub left_then : Program → Class → ℕ → ℕ → ClassField → Stmts → Stmts
-left_then p c i number f rest = field_left p (field_class p f) (length_in_class p c i f) (field_place (class_shape p i) number Own) rest
+left_then p c i number f rest = field_left p (field_making p f) (length_in_class p c i f) (field_place (class_shape p i) number Own) rest
 
 abbrev pub started_then : Program → ℕ → ℕ → ClassField → List Meant → Stmts → Stmts
 started_then p i number f args rest = field_started p f (field_place (class_shape p i) number Own) args rest
 
--- what a reference is bound to, and the value that a scalar keeps; the code that writes it to the field that begins at this cell
+-- what a reference is bound to, and the value that a scalar keeps; the op that binds or writes it, and the code that does so to the
+-- field that begins at this cell
 abbrev pub held_by : Bool → Shape → Meant → Expr
 held_by by_ref s m = if by_ref then m.expr else converted s (value_of m)
 
-abbrev pub StartedCode : List Mark → ℕ → Expr → Laid → ℕ → ℕ → Type 0
-StartedCode ms cell e code = Both (Both (One code (op.This cell) 0) (Both (ExprAt code 0 ms e) (One code op.Keep 0))) (One code op.Discard 0)
+abbrev pub keep_op : Bool → Op
+keep_op by_ref = if by_ref then op.Bind else op.Keep
+
+abbrev pub StartedCode : List Mark → ℕ → Bool → Expr → Laid → ℕ → ℕ → Type 0
+StartedCode ms cell by_ref e code = Both (Both (One code (op.This cell) 0) (Both (ExprAt code 0 ms e) (One code (keep_op by_ref) 0))) (One code op.Discard 0)
 
 -- coroutines: how many ops set up an execution, begin with what its body starts, and make it live; and in a destructor how many objects
 -- are in scope more, and how many ops unwind it

@@ -1,4 +1,4 @@
 pub mod Bodies
 pub mod Fields
 pub mod Inits
-pub mod Pended
+pub mod OpenParts

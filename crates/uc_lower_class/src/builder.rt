@@ -12,16 +12,16 @@ ghost use Rattle.uc_tree.specs.Scopes.{stmts_scopes};
 ghost use Rattle.uc_resolve.specs.Resolve.{class_by, nowhere, routine_meant, routine_scope, unwritten_meant};
 ghost use Rattle.uc_tree.specs.declared.kinds.Role.TheVariants as role;
 ghost use Rattle.uc_built.specs.BuiltForms.{are_built};
-ghost use Rattle.uc_code.specs.Laid.{laid_in, routine_in};
+ghost use Rattle.uc_code.specs.Layout.{laid_in, routine_in};
 ghost use Rattle.uc_code.specs.Lowered.{RoutineAt};
-ghost use Rattle.uc_code.specs.Ranges.{Kept};
+ghost use Rattle.uc_code.specs.CodeShapes.{Kept};
 ghost use Rattle.uc_lower_stmt.specs.Marked.{objects_in};
 ghost use Rattle.uc_lower_stmt.specs.Routines.{frame_cells};
-ghost use Rattle.uc_lower_stmt.specs.Scoped.{scope_of};
-ghost use Rattle.uc_unwritten.specs.Unwritten.{unwritten_as};
+ghost use Rattle.uc_lower_stmt.specs.LowersStatement.{scope_of};
+ghost use Rattle.uc_implicit.specs.Unwritten.{unwritten_as};
 ghost use Rattle.uc_lower_class.specs.Bodies.{IsUnwritten, LowersBody, LowersUnwritten, builder_room, built_at, built_room, left_at, role_room, unwritten_room};
 ghost use Rattle.uc_lower_class.specs.Fields.{FieldsBehind, all_room, left_count, left_room};
-ghost use Rattle.uc_lower_class.specs.Pended.{Constructs, LeavesAll, end_room};
+ghost use Rattle.uc_lower_class.specs.OpenParts.{Constructs, LeavesAll, end_room};
 
 use crate::executions::end_construction;
 use crate::fields::{build_all, leave_all};
@@ -31,14 +31,14 @@ use std::alloc::{AllocError, Global};
 use uc_code::draft::Draft;
 use uc_code::op::Op;
 use uc_code::rows::{Cleaning, RoutineCode};
+use uc_implicit::unwritten::Unwritten;
+use uc_layout::frames::cells_of_routine;
 use uc_lower_expr::program_names::{ProgramNames, params_of, sig_of};
 use uc_lower_expr::put::put;
 use uc_lower_stmt::block::close_scopes;
 use uc_lower_stmt::routine::declare_params;
-use uc_sizes::frames::cells_of_routine;
 use uc_tree::class::{Init, Routine, Sig};
 use uc_tree::kinds::Role;
-use uc_unwritten::unwritten::Unwritten;
 
 fn role_of(sig: &Sig) -> Role
     ensures { result ≡ sig.now.role }
@@ -106,6 +106,7 @@ fn lower_constructor(
     requires texts { out.old.texts + stmts_size routine.now.body ≤ PROGRAM_SIZE }
     ensures { OnOk result (LowersBody names.now role.Constructor routine.now out.old out.new) }
 {
+    names.fit();
     let mut parts = Vec::new(alloc);
     build_own(alloc, class, routine, names, &mut parts, out)?;
     lower_whole(alloc, names, routine, out)?;
@@ -131,6 +132,7 @@ fn lower_destructor(
     requires texts { out.old.texts + stmts_size routine.now.body ≤ PROGRAM_SIZE }
     ensures { OnOk result (LowersBody names.now role.Destructor routine.now out.old out.new) }
 {
+    names.fit();
     let depth = out.marks().len();
     leave_own(class, names, out)?;
     lower_whole(alloc, names, routine, out)?;
@@ -239,6 +241,7 @@ fn lower_unwritten_constructor(
     requires room { length out.old.ops + unwritten_room role.Constructor (class_at names.now class) ≤ PROGRAM_OPS }
     ensures { OnOk result (LowersUnwritten names.now role.Constructor class out.old out.new) }
 {
+    names.fit();
     let mut parts = Vec::new(alloc);
     build_all(alloc, class, &[], names, &mut parts, out)?;
     end_construction(Some(class), names, out)?;
@@ -256,6 +259,7 @@ fn lower_unwritten_destructor(
     requires room { length out.old.ops + unwritten_room role.Destructor (class_at names.now class) ≤ PROGRAM_OPS }
     ensures { OnOk result (LowersUnwritten names.now role.Destructor class out.old out.new) }
 {
+    names.fit();
     let depth = out.marks().len();
     leave_all(class, names, out)?;
     close_scopes(depth, out)?;

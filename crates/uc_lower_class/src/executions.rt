@@ -5,15 +5,15 @@ ghost use Rattle.uc_tree.specs.declared.limits.TheConstants.{PROGRAM_OPS};
 ghost use Rattle.uc_tree.specs.Cells.{classes_of};
 ghost use Rattle.uc_tree.specs.Programs.{Program};
 ghost use Rattle.uc_tree.specs.Source.{Built, CleanUp};
-ghost use Rattle.uc_resolve.specs.Resolve.{class_by, construction_ends, enlivened, forgotten, set_up, started_in, taken_down};
+ghost use Rattle.uc_resolve.specs.Resolve.{class_by, construction_ends, enlivened, forgotten, place_or_zero, set_up, started_in, taken_down};
 ghost use Rattle.uc_code.specs.declared.rows.Mark.{Mark};
 ghost use Rattle.uc_code.specs.Lowered.{StmtsAt};
 ghost use Rattle.uc_code.specs.ObjectCalls.{Cleans};
-ghost use Rattle.uc_code.specs.Open.{CleansBehind};
-ghost use Rattle.uc_code.specs.Puts.{clean_length};
-ghost use Rattle.uc_lower_expr.specs.Added.{Adds};
+ghost use Rattle.uc_code.specs.OpenRows.{CleansBehind};
+ghost use Rattle.uc_code.specs.Emits.{clean_length};
+ghost use Rattle.uc_lower_expr.specs.DraftGrowth.{Adds};
 ghost use Rattle.uc_lower_class.specs.Fields.{enliven_room, forget_count, live_room, set_up_room, start_room, take_down_room};
-ghost use Rattle.uc_lower_class.specs.Pended.{Constructs, LeavesAll, Opens};
+ghost use Rattle.uc_lower_class.specs.OpenParts.{Constructs, LeavesAll, Opens};
 
 use std::alloc::AllocError;
 use uc_code::draft::Draft;
@@ -87,7 +87,7 @@ pub(crate) fn end_construction(
     out: &mut Draft,
 ) -> Result<(), AllocError>
     requires { length out.old.ops + live_room (class_by names.now class) ≤ PROGRAM_OPS }
-    ensures { OnOk result ((ms : List Mark) → Adds (live_room (class_by names.now class)) (λ code. StmtsAt code ms 0 (construction_ends names.now (class_by names.now class))) out.old out.new) }
+    ensures { OnOk result ((ms : List Mark) → Adds (live_room (class_by names.now class)) (λ code. StmtsAt code ms 0 (construction_ends names.now (class_by names.now class) (place_or_zero names.now class))) out.old out.new) }
 {
     let coroutine = names.has_coroutines(class);
     enliven(coroutine, out)?;

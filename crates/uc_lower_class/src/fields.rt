@@ -9,11 +9,11 @@ ghost use Rattle.uc_tree.specs.Objects.{ClassField, class_at, fields_of};
 ghost use Rattle.uc_tree.specs.Programs.{Class as Whole};
 ghost use Rattle.uc_resolve.specs.Resolve.{args_meant, fields_built, fields_left};
 ghost use Rattle.uc_lower_expr.specs.Contexts.{context_in};
-ghost use Rattle.uc_code.specs.Laid.{routine_in};
+ghost use Rattle.uc_code.specs.Layout.{routine_in};
 ghost use Rattle.uc_lower_stmt.specs.Marked.{objects_in};
-ghost use Rattle.uc_lower_stmt.specs.Scoped.{scope_of};
+ghost use Rattle.uc_lower_stmt.specs.LowersStatement.{scope_of};
 ghost use Rattle.uc_lower_class.specs.Fields.{FieldsBehind, all_built, all_left, all_room, field_then, fields_room, left_count, left_room, left_then, room_by};
-ghost use Rattle.uc_lower_class.specs.Pended.{Constructs, LeavesAll, Opens, end_room};
+ghost use Rattle.uc_lower_class.specs.OpenParts.{Constructs, LeavesAll, Opens, end_room};
 
 use crate::executions::{open_execution, open_started, set_up, take_down};
 use crate::inits::{args_for, names_of_fields, places_of};

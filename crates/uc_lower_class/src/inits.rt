@@ -4,12 +4,12 @@ ghost use Rattle.std.specs.Prelude.{◌≡◌, ◌++◌, IfOk, OnOk, map};
 ghost use Rattle.uc_tree.specs.Expressions.{exprs_of};
 ghost use Rattle.uc_tree.specs.Objects.{declared_fields, fields_of, form_fields};
 ghost use Rattle.uc_tree.specs.ProgramViews.{member_form_at};
-ghost use Rattle.uc_sizes.specs.Places.{IsPlaces};
+ghost use Rattle.uc_layout.specs.Places.{IsPlaces};
 ghost use Rattle.uc_lower_class.specs.Inits.{init_exprs, names_of};
 
 use std::alloc::{AllocError, Global};
+use uc_layout::places::{no_places, note_place, place_in};
 use uc_names::scope::Scope;
-use uc_sizes::places::{no_places, note_place, place_in};
 use uc_tree::class::{Class, Init, Member, MemberForm};
 use uc_tree::declare::Declarator;
 use uc_tree::expr::Expr;

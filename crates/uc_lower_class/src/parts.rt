@@ -5,20 +5,20 @@ ghost use Rattle.uc_tree.specs.declared.limits.TheConstants.{OPS_FOR_SIZE, PROGR
 ghost use Rattle.uc_tree.specs.Cells.{classes_of};
 ghost use Rattle.uc_tree.specs.Expressions.{exprs_of};
 ghost use Rattle.uc_tree.specs.ExpressionSizes.{expr_size, exprs_size};
-ghost use Rattle.uc_tree.specs.Objects.{ClassField};
+ghost use Rattle.uc_tree.specs.Objects.{APlain, ClassField};
 ghost use Rattle.uc_tree.specs.Programs.{Class};
 ghost use Rattle.uc_tree.specs.Source.{Built, Expr as Place, Scoped, Then};
 ghost use Rattle.uc_resolve.specs.Resolve.{args_meant, build, clean_up, meant};
 ghost use Rattle.uc_code.specs.declared.rows.Cleaning.{Cleaning as Clean};
 ghost use Rattle.uc_code.specs.ObjectCalls.{BeginsAt};
-ghost use Rattle.uc_lower_expr.specs.Added.{Adds, ExprCode};
+ghost use Rattle.uc_lower_expr.specs.DraftGrowth.{Adds, ExprCode};
 ghost use Rattle.uc_lower_expr.specs.Contexts.{context_in};
 ghost use Rattle.uc_lower_expr.specs.Meanings.{shape_as};
 ghost use Rattle.uc_lower_expr.specs.Members.{IsFieldAt};
 ghost use Rattle.uc_lower_stmt.specs.Blocks.{AllStandBehind};
 ghost use Rattle.uc_lower_class.specs.Bodies.{part_end};
-ghost use Rattle.uc_lower_class.specs.Fields.{PartBehind, StartedCode, field_then, held_by, left_then, part_in, part_room, started_then};
-ghost use Rattle.uc_lower_class.specs.Pended.{Constructs, EndsParts, Opens, PartsIn, end_room};
+ghost use Rattle.uc_lower_class.specs.Fields.{PartBehind, StartedCode, field_then, held_by, keep_op, left_then, part_in, part_room, started_then};
+ghost use Rattle.uc_lower_class.specs.OpenParts.{Constructs, EndsParts, Opens, PartsIn, end_room};
 
 use std::alloc::AllocError;
 use uc_code::draft::Draft;
@@ -76,6 +76,13 @@ fn put_held(
     }
 }
 
+// The op that binds a reference, or writes a scalar.
+fn keep_op(by_ref: bool) -> Op
+    ensures { result ≡ keep_op by_ref }
+{
+    if by_ref { Op::Bind } else { Op::Keep }
+}
+
 // A reference is bound to its argument, a scalar has the value of its.
 fn put_started(
     field: Field,
@@ -84,11 +91,11 @@ fn put_started(
     out: &mut Draft,
 ) -> Result<(), AllocError>
     requires { length out.old.ops + (OPS_FOR_SIZE * expr_size value.now + 4) ≤ PROGRAM_OPS }
-    ensures { OnOk result (Adds (OPS_FOR_SIZE * expr_size value.now + 4) (StartedCode out.old.marks field.cell (held_by field.by_ref (shape_as field.told.scalar) (meant (context_in names.now out.old) value.now))) out.old out.new) }
+    ensures { OnOk result (Adds (OPS_FOR_SIZE * expr_size value.now + 4) (StartedCode out.old.marks field.cell field.by_ref (held_by field.by_ref (shape_as field.told.scalar) (meant (context_in names.now out.old) value.now))) out.old out.new) }
 {
     put(Op::This(field.cell), 0, out)?;
     put_held(field, value, names, out)?;
-    put(Op::Keep, 0, out)?;
+    put(keep_op(field.by_ref), 0, out)?;
     put(Op::Discard, 0, out)?;
     Ok(())
 }
@@ -123,7 +130,7 @@ fn lower_part(
     requires class { part.class < length (classes_of names.now.items) }
     requires room { length out.old.ops + end_room parts.old.items + (OPS_FOR_SIZE * exprs_size (exprs_of args.now) + part_room part.length) ≤ PROGRAM_OPS }
     requires behind { AllStandBehind names.now part.class out.old.marks }
-    ensures { OnOk result ((place : Place) → BeginsAt place part.spot → Constructs (OPS_FOR_SIZE * exprs_size (exprs_of args.now) + part_room part.length) (λ rest. Then (build names.now 0 part.class part.length place (args_meant (context_in names.now out.old) (exprs_of args.now))) (Built (clean_up names.now part.class part.length place) rest)) parts.old.items out.old parts.new.items out.new) }
+    ensures { OnOk result ((place : Place) → BeginsAt place part.spot → Constructs (OPS_FOR_SIZE * exprs_size (exprs_of args.now) + part_room part.length) (λ rest. Then (build names.now 0 (APlain part.class) part.length place (args_meant (context_in names.now out.old) (exprs_of args.now))) (Built (clean_up names.now (APlain part.class) part.length place) rest)) parts.old.items out.old parts.new.items out.new) }
 {
     lower_build(part.class, part.spot, part.length, args, 0, names, out)?;
     parts.push(clean_call(part.class, part.spot, part.length, names))?;

@@ -7,8 +7,8 @@ ghost use Rattle.uc_tree.specs.Cells.{declared_cells, stmts_cells};
 ghost use Rattle.uc_tree.specs.Numbering.{routines_of};
 ghost use Rattle.uc_tree.specs.Scopes.{stmts_scopes};
 ghost use Rattle.uc_built.specs.BuiltForms.{are_built};
-ghost use Rattle.uc_code.specs.Laid.{routine_in};
-ghost use Rattle.uc_lower_stmt.specs.Scoped.{sizes_at};
+ghost use Rattle.uc_code.specs.Layout.{routine_in};
+ghost use Rattle.uc_lower_stmt.specs.LowersStatement.{sizes_at};
 ghost use Rattle.uc_lower_class.specs.Bodies.{LowersWhole};
 
 use std::alloc::{AllocError, Global};

@@ -4,12 +4,12 @@ use Rattle.std.proofs.lemmas.Option.{slice_get_within}
 use Rattle.uc_code.specs.declared.op.Op.{Op}
 use Rattle.uc_code.specs.declared.op.Op.TheVariants as op
 use Rattle.uc_code.specs.declared.rows.Instruction.{Instruction}
-use Rattle.uc_code.specs.Laid.{Laid, laid_in}
+use Rattle.uc_code.specs.Layout.{Laid, laid_in}
 use Rattle.uc_code.specs.Drafts.{Draft, ops_with, patched}
-use Rattle.uc_code.specs.Ranges.{OpAt, Nothing, Risk, Both, Fork, Same, Kept, Stable}
+use Rattle.uc_code.specs.CodeShapes.{OpAt, Nothing, Risk, Both, Fork, Same, Kept, Stable}
 use Rattle.uc_code.proofs.Stable.{kept_refl, kept_then, kept_same, same_then}
 use Rattle.uc_code.proofs.Patches.{bare_stays, kept_with, one_with, length-patched, patched_at, same_before, same_after}
-use Rattle.uc_lower_expr.specs.Added.{Adds, LiveCallCode, OpCode, RiskCode}
+use Rattle.uc_lower_expr.specs.DraftGrowth.{Adds, LiveCallCode, OpCode, RiskCode}
 
 pub rest_then : (a b c : Draft) → b ≡ record a { ops = b.ops } → c ≡ record b { ops = c.ops } → c ≡ record a { ops = c.ops }
 rest_then a b c h k = k ∙ ap (λ d. let e : Draft = record d { ops = c.ops } in e) h

@@ -1,6 +1,6 @@
 -- One lemma for each piece of code that lowering adds.
 use Rattle.std.proofs.Common.{◌≡◌, ℕ, ℤ, ◌+◌, ◌≤◌, pos, Bool, true, false, List, Option, Some, None, length, refl, ap, sym, subst, ◌∙◌, arith}
-use Rattle.std.specs.Prelude.{if◌then◌else◌}
+use Rattle.std.specs.Prelude.{◌||◌, if◌then◌else◌}
 use Rattle.uc_tree.specs.declared.kinds.Known.{Known}
 use Rattle.uc_tree.specs.declared.ops.StepOp.{StepOp}
 use Rattle.uc_tree.specs.declared.ops.StepOp.TheVariants as step
@@ -9,13 +9,13 @@ use Rattle.uc_tree.specs.Constants.{constants_of, constant_named}
 use Rattle.uc_tree.specs.Numbering.{routines_of}
 use Rattle.uc_tree.specs.Source.{Shape, Integer, Character, Truth, Binding, Last, Field, Array, Operator, Plus, Minus, Expr, Literal, Variable as Var, Get, Operate, Set}
 use Rattle.uc_tree.specs.Objects.{plain_class, shape_of, event_place}
-use Rattle.uc_resolve.specs.Resolve.{Meant, converted, value_by, value_of, Standing, AtVariable, AtPlace, AsValue, known_named, known_meant, name_meant, item_meant, constant_meant_by, routine_meant_by, routine_from, variable_in, updated, updated_by, stepped, stepped_by, step_meant}
+use Rattle.uc_resolve.specs.Resolve.{Meant, converted, value_by, value_of, Standing, AtVariable, AtPlace, AsNumber, AsValue, has_number, known_by, known_named, known_meant, name_meant, item_meant, constant_meant_by, routine_meant_by, routine_from, variable_in, updated, updated_by, stepped, stepped_by, step_meant}
 use Rattle.uc_code.specs.declared.op.Op.{Op}
 use Rattle.uc_code.specs.declared.op.Op.TheVariants as op
 use Rattle.uc_code.specs.declared.rows.Mark.{Mark}
 use Rattle.uc_code.specs.Drafts.{Draft}
-use Rattle.uc_code.specs.Laid.{Laid, laid_in}
-use Rattle.uc_code.specs.Ranges.{One, Both, Stable}
+use Rattle.uc_code.specs.Layout.{Laid, laid_in}
+use Rattle.uc_code.specs.CodeShapes.{One, Both, Stable}
 use Rattle.uc_code.specs.Lowered.{operator_op, ExprAt, ConvertAt}
 use Rattle.uc_code.proofs.Stable.{one_stable}
 use Rattle.uc_lower_expr.specs.declared.meaning.Scalar.{Scalar}
@@ -27,7 +27,7 @@ use Rattle.uc_lower_expr.specs.declared.names.Variable.{Variable}
 use Rattle.uc_lower_expr.specs.declared.numbering.Fixed.{Fixed}
 use Rattle.uc_lower_expr.specs.Numbered.{IsFixed}
 use Rattle.uc_lower_expr.specs.Meanings.{FieldAt, Begins, StandsAs, cell_in, shape_as, Tells}
-use Rattle.uc_lower_expr.specs.Added.{Adds, Cuts, Grows, ExprCode, ConvertCode, OpCode, fetched}
+use Rattle.uc_lower_expr.specs.DraftGrowth.{Adds, Cuts, Grows, ExprCode, ConvertCode, OpCode, fetched}
 use Rattle.uc_lower_expr.specs.Parts.{BeginCode, EndCode, UpdateCode, SetByCode, BehindCode, StepCode, Restarts, step_op_of, place_op_of, standing_by, bumped, IsVariable}
 use Rattle.uc_lower_expr.proofs.Adding.{adds_nothing, adds_more, adds_as, adds_both, regroup, and_nothing}
 use Rattle.uc_lower_expr.proofs.Growing.{grows_adds, grows_restart, grows_cut}
@@ -40,6 +40,9 @@ convert_as line s t old new e h = subst (λ (x : Scalar). Adds 1 (ConvertCode li
 
 pub convert_none : (line : ℕ) (s : Scalar) (old : Draft) → s ≡ scalar.Number → Adds 1 (ConvertCode line (shape_as s)) old old
 convert_none line s old e = convert_as line s scalar.Number old old e (adds_more (omega arith) (adds_nothing old))
+
+pub convert_binding : (line : ℕ) (s : Scalar) (old : Draft) → s ≡ scalar.Binding → Adds 1 (ConvertCode line (shape_as s)) old old
+convert_binding line s old e = convert_as line s scalar.Binding old old e (adds_more (omega arith) (adds_nothing old))
 
 -- the parts of an update
 
@@ -80,12 +83,16 @@ as_value {p} told t m e i u = subst (λ (x : Meaning). Tells p x (record { expr 
 abbrev meant_by : Bool → Known → Meant
 meant_by b k = if b then record { expr = Get k.cell; ty = k.ty; standing = AtPlace } else record { expr = Var k.cell; ty = k.ty; standing = AtVariable k.cell }
 
-told_by : {p : Program} → (k : Known) (t : Meaning) (b : Bool) → shape_of k.ty.base ≡ shape_as t.scalar → plain_class p k.ty.base ≡ t.class → event_place p k.ty.base ≡ t.event → k.ty.len ≡ t.elements → t.standing ≡ standing_by b k.cell → Tells p t (meant_by b k)
+told_by : {p : Program} → (k : Known) (t : Meaning) (b : Bool) → shape_of k.ty.base ≡ shape_as t.scalar → plain_class p k.ty.base ≡ t.class → event_place p k.ty.base ≡ t.event → k.ty.len ≡ t.elements → t.standing ≡ standing_by false b k.cell → Tells p t (meant_by b k)
 told_by k t true s c v l e = record { shape = s; class = c; event = v; len = l; standing = subst (λ (x : Told). StandsAs x AtPlace) (sym e) refl }
 told_by k t false s c v l e = record { shape = s; class = c; event = v; len = l; standing = subst (λ (x : Told). StandsAs x (AtVariable k.cell)) (sym e) refl }
 
-pub told_known : {p : Program} → (k : Known) (t : Meaning) → shape_of k.ty.base ≡ shape_as t.scalar → plain_class p k.ty.base ≡ t.class → event_place p k.ty.base ≡ t.event → k.ty.len ≡ t.elements → t.standing ≡ standing_by k.ty.by_ref k.cell → Tells p t (known_meant k)
-told_known k t s c v l e = told_by k t k.ty.by_ref s c v l e
+told_held : {p : Program} → (k : Known) (t : Meaning) (n : Bool) → shape_of k.ty.base ≡ shape_as t.scalar → plain_class p k.ty.base ≡ t.class → event_place p k.ty.base ≡ t.event → k.ty.len ≡ t.elements → t.standing ≡ standing_by n k.ty.by_ref k.cell → Tells p t (known_by n k)
+told_held k t true s c v l e = record { shape = s; class = c; event = v; len = l; standing = subst (λ (x : Told). StandsAs x AsNumber) (sym e) refl }
+told_held k t false s c v l e = told_by k t k.ty.by_ref s c v l e
+
+pub told_known : {p : Program} → (k : Known) (t : Meaning) → shape_of k.ty.base ≡ shape_as t.scalar → plain_class p k.ty.base ≡ t.class → event_place p k.ty.base ≡ t.event → k.ty.len ≡ t.elements → t.standing ≡ standing_by (has_number p k.ty) k.ty.by_ref k.cell → Tells p t (known_meant p k)
+told_known {p} k t s c v l e = told_held k t (has_number p k.ty) s c v l e
 
 -- the variable that is told of
 
@@ -93,6 +100,7 @@ variable_told : (x : Told) (s : Standing) → StandsAs x s → variable_in s ≡
 variable_told (standing.Variable k) s h = ap variable_in h
 variable_told (standing.Field k) s (Begins t i e) = refl
 variable_told standing.Place s h = ap variable_in h
+variable_told standing.Number s h = ap variable_in h
 variable_told standing.Value s h = ap variable_in h
 variable_told standing.Input s h = ap variable_in h
 variable_told standing.Fail s h = ap variable_in h
@@ -138,19 +146,21 @@ module _ (ms : List Mark) where
       adds_as (adds_more l (adds_both (begin_stable line) h1 (adds_both (expr_stable line ms e) h2 h3)))
       (λ code a z h. regroup (One code op.Duplicate line) (One code op.Load line) (Both (ExprAt code line ms e) (EndCode line o s code)) a z h)
 
-  known_by : (line : ℕ) (k : Known) (b : Bool) (old new : Draft) → Adds 1 (OpCode line (place_op_of b k.cell)) old new → Adds 1 (ExprCode line ms (meant_by b k).expr) old new
-  known_by line k true old new h = h
-  known_by line k false old new h = h
+  placed_code : (line : ℕ) (k : Known) (b : Bool) (old new : Draft) → Adds 1 (OpCode line (place_op_of b k.cell)) old new → Adds 1 (ExprCode line ms (meant_by b k).expr) old new
+  placed_code line k true old new h = h
+  placed_code line k false old new h = h
 
-  known_code : (line : ℕ) (k : Known) (b : Bool) (old new : Draft) → k.ty.by_ref ≡ b → Adds 1 (OpCode line (place_op_of b k.cell)) old new → Adds 1 (ExprCode line ms (known_meant k).expr) old new
-  known_code line k b old new e h = subst (λ (x : Bool). Adds 1 (ExprCode line ms (meant_by x k).expr) old new) (sym e) (known_by line k b old new h)
+  held_code : (line : ℕ) (k : Known) (n : Bool) (old new : Draft) → Adds 1 (OpCode line (place_op_of (n || k.ty.by_ref) k.cell)) old new → Adds 1 (ExprCode line ms (known_by n k).expr) old new
+  held_code line k true old new h = h
+  held_code line k false old new h = placed_code line k k.ty.by_ref old new h
 
-  pub name_known : (p : Program) (class : Option ℕ) (line : ℕ) (names : List Known) (name : List ℕ) (v : Variable) (o : Op) (old new : Draft) → IsVariable p names name v → o ≡ place_op_of v.by_ref v.cell → Adds 1 (OpCode line o) old new → Adds 1 (ExprCode line ms (name_meant p class name (known_named names name)).expr) old new
+  pub name_known : (p : Program) (class : Option ℕ) (line : ℕ) (names : List Known) (name : List ℕ) (v : Variable) (o : Op) (old new : Draft) → IsVariable p names name v → o ≡ place_op_of v.held v.cell → Adds 1 (OpCode line o) old new → Adds 1 (ExprCode line ms (name_meant p class name (known_named names name)).expr) old new
   name_known p class line names name v o old new n i h =
       subst (λ (x : Option Known). Adds 1 (ExprCode line ms (name_meant p class name x).expr) old new) (sym n.is) (
-      known_code line n.known v.by_ref old new n.by_ref (
-      subst (λ (k : ℕ). Adds 1 (OpCode line (place_op_of v.by_ref k)) old new) (sym n.cell) (
-      subst (λ (x : Op). Adds 1 (OpCode line x) old new) i h)))
+      held_code line n.known (has_number p n.known.ty) old new (
+      subst (λ (b : Bool). Adds 1 (OpCode line (place_op_of b n.known.cell)) old new) (sym n.held) (
+      subst (λ (k : ℕ). Adds 1 (OpCode line (place_op_of v.held k)) old new) (sym n.cell) (
+      subst (λ (x : Op). Adds 1 (OpCode line x) old new) i h))))
 
   pub item_fixed : (p : Program) (line : ℕ) (name : List ℕ) (v : Fixed) (x : ℤ) (old new : Draft) → IsFixed p name v → x ≡ v.value → Adds 1 (OpCode line (op.Push x)) old new → Adds 1 (ExprCode line ms (item_meant p name).expr) old new
   item_fixed p line name v x old new f e h =

@@ -5,16 +5,16 @@ use Rattle.std.proofs.lemmas.Bool.{le-leb, lt-leb}
 use Rattle.std.proofs.lemmas.List.{append-nil, length-append}
 use Rattle.std.specs.Cmp.Lexicographic.{bytes_decides}
 use Rattle.uc_names.specs.Blocks.{Block, id_or, found, declared, is_declared}
-use Rattle.uc_sizes.specs.Places.{IsPlaces}
-use Rattle.uc_tree.specs.declared.limits.TheConstants.{FIRST_EVENT, LAST_EVENT, UNHANDLED}
+use Rattle.uc_layout.specs.Places.{IsPlaces}
+use Rattle.uc_tree.specs.declared.limits.TheConstants.{FIRST_EVENT, LAST_EVENT, UNHANDLED, FAILURE}
 use Rattle.uc_tree.specs.Names.{same_name}
 use Rattle.uc_tree.specs.Programs.{Class, Program, Routine, Sig}
 use Rattle.uc_tree.specs.Cells.{classes_of}
-use Rattle.uc_tree.specs.Numbering.{Defined, at_most, event_names, is_event, place_from, unhandled_name}
+use Rattle.uc_tree.specs.Numbering.{Defined, at_most, event_names, is_event, place_from, unhandled_name, failure_name}
 use Rattle.uc_tree.specs.Objects.{is_constructor}
 use Rattle.uc_resolve.specs.Resolve.{event_constructor_from, number_of_event}
 use Rattle.uc_lower_expr.specs.Events.{AreBuilders, NotesEvent, builds_event, event_by, noted_builder}
-use Rattle.uc_lower_expr.specs.Routed.{noted_name}
+use Rattle.uc_lower_expr.specs.RoutineTables.{noted_name}
 use Rattle.uc_lower_expr.proofs.Owned.{IsNext}
 use Rattle.uc_lower_expr.proofs.Routing.{found_noted, noted_long}
 
@@ -140,14 +140,18 @@ not_same : (a b : List ℕ) (t : Bool) → same_name b a ≡ t → same_name a b
 not_same a b true e h = absurd (true≢false (sym ((bytes_decides a b).1 (sym (same_eq b a e))) ∙ h))
 not_same a b false e h = refl
 
-pub event_is : (p : Program) (name : List ℕ) (place : Option ℕ) → place ≡ place_from 0 (event_names (classes_of p.items)) name → same_name name unhandled_name ≡ false → event_by place ≡ number_of_event p name
-event_is p name place e u =
+pub event_is : (p : Program) (name : List ℕ) (place : Option ℕ) → place ≡ place_from 0 (event_names (classes_of p.items)) name → same_name name unhandled_name ≡ false → same_name name failure_name ≡ false → event_by place ≡ number_of_event p name
+event_is p name place e u w =
     ap (λ o. unwrap_or (option_and_then (at_most LAST_EVENT) (option_map (λ k. FIRST_EVENT + k) o)) 0) e
     ∙ ap (λ o. unwrap_or (option_and_then (at_most LAST_EVENT) o) 0) (place_shift FIRST_EVENT 0 FIRST_EVENT (event_names (classes_of p.items)) name refl)
-    ∙ sym (ap (λ (t : Bool). unwrap_or (if t then Some UNHANDLED else option_and_then (at_most LAST_EVENT) (place_from FIRST_EVENT (event_names (classes_of p.items)) name)) 0) (not_same name unhandled_name (same_name unhandled_name name) refl u))
+    ∙ sym (ap (λ (t : Bool). unwrap_or (if t then Some UNHANDLED else if same_name failure_name name then Some FAILURE else option_and_then (at_most LAST_EVENT) (place_from FIRST_EVENT (event_names (classes_of p.items)) name)) 0) (not_same name unhandled_name (same_name unhandled_name name) refl u)
+    ∙ ap (λ (t : Bool). unwrap_or (if t then Some FAILURE else option_and_then (at_most LAST_EVENT) (place_from FIRST_EVENT (event_names (classes_of p.items)) name)) 0) (not_same name failure_name (same_name failure_name name) refl w))
 
 pub unhandled_is : (p : Program) (name : List ℕ) → same_name name unhandled_name ≡ true → 0 ≡ number_of_event p name
 unhandled_is p name u = ap (λ (n : List ℕ). number_of_event p n) (sym (same_eq name unhandled_name u))
+
+pub failure_is : (p : Program) (name : List ℕ) → same_name name failure_name ≡ true → 1 ≡ number_of_event p name
+failure_is p name u = ap (λ (n : List ℕ). number_of_event p n) (sym (same_eq name failure_name u))
 
 -- the number of an event that has one
 

@@ -17,15 +17,16 @@ use Rattle.uc_tree.specs.Cells.{classes_of, class_cells, object_of, held_by, mem
 use Rattle.uc_tree.specs.Source.{Shape, Binding, Last, shape_cells, field_cells}
 use Rattle.uc_tree.specs.Objects.{class_at, ClassField, declared_fields, form_fields, fields_of, shape_of, kept_shape, arrayed, field_shape, fields_shape, behind_bindings, form_shape, shape_within, class_shape, plain_class, event_place}
 use Rattle.uc_resolve.specs.Resolve.{field_length}
-use Rattle.uc_sizes.specs.Places.{IsPlaces}
-use Rattle.uc_sizes.specs.Depths.{Holds, First, Later}
-use Rattle.uc_sizes.proofs.Depths.{cells_deep, cells_next}
+use Rattle.uc_layout.specs.Places.{IsPlaces}
+use Rattle.uc_layout.specs.Depths.{Holds, First, Later}
+use Rattle.uc_layout.proofs.DepthsLemmas.{cells_deep, cells_next}
 use Rattle.uc_lower_expr.specs.declared.meaning.Standing.{Standing as Told}
 use Rattle.uc_lower_expr.specs.declared.fields.Field.{Field}
 use Rattle.uc_lower_expr.specs.declared.fields.FieldTable.{FieldTable}
 use Rattle.uc_lower_expr.specs.Meanings.{StandsAs}
 use Rattle.uc_lower_expr.specs.Members.{FitClasses, IsFieldAt, AreFields}
-use Rattle.uc_lower_expr.specs.Noted.{one_scalar, length_by, IsNoted, AreNoted, NoMore, OneMore, Notes}
+use Rattle.uc_lower_expr.specs.FieldTables.{one_scalar, length_by, IsNoted, AreNoted, NoMore, OneMore, Notes}
+use Rattle.uc_lower_expr.proofs.Plainness.{found_plain, making_plain}
 
 -- what the fields of a class hold
 
@@ -321,6 +322,8 @@ module _ (p : Program) (fit : FitClasses p) (i : ℕ) (c : Class) (there : class
       let at : 0 + k ≡ k = omega arith in
       let len : v.told.elements ≡ field_length named f.declarator f.declarator.len = n.len ∙ ap (λ (h : Held). length_by f.declarator.len h.count) (ap (λ x. get_or hs x one_scalar) at ∙ here) ∙ length_is f f.declarator.len in
       record {
+        made = making_plain p fit f.base (fit.held i k c f there e);
+        found = found_plain p fit c i (leading_cells c.kind + k) f (fit.held i k c f there e);
         by_ref = n.by_ref;
         cell = before ∙ ap (λ x. leading_cells c.kind + x) (sym first) ∙ sym n.cell;
         tells = λ m t s. record {

@@ -6,14 +6,14 @@ use Rattle.uc_resolve.specs.Resolve.{Meant}
 use Rattle.uc_code.specs.declared.op.Op.{Op}
 use Rattle.uc_code.specs.declared.rows.Mark.{Mark}
 use Rattle.uc_code.specs.Drafts.{Draft}
-use Rattle.uc_code.specs.Laid.{Laid, laid_in, chain}
-use Rattle.uc_code.specs.Ranges.{One}
+use Rattle.uc_code.specs.Layout.{Laid, laid_in, chain}
+use Rattle.uc_code.specs.CodeShapes.{One}
 use Rattle.uc_code.specs.Lowered.{ExprAt}
 use Rattle.uc_code.proofs.Patches.{bare_stays}
 use Rattle.uc_code.proofs.Stable.{kept_same, same_then}
 use Rattle.uc_lower_expr.specs.declared.meaning.Meaning.{Meaning}
 use Rattle.uc_lower_expr.specs.Meanings.{Tells}
-use Rattle.uc_lower_expr.specs.Added.{Adds, Cuts, ExprCode, Grows, Stood}
+use Rattle.uc_lower_expr.specs.DraftGrowth.{Adds, Cuts, ExprCode, Grows, Stood}
 use Rattle.uc_lower_expr.specs.Parts.{Restarts}
 use Rattle.uc_lower_expr.proofs.Adding.{rest_then}
 use Rattle.uc_lower_expr.proofs.Settled.{expr_stable}

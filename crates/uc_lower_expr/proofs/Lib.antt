@@ -5,11 +5,12 @@ pub mod FieldLemmas
 pub mod Finding
 pub mod Growing
 pub mod Knowing
-pub mod Members
+pub mod MembersLemmas
 pub mod Naming
 pub mod Noting
 pub mod Numbers
 pub mod Owned
+pub mod Plainness
 pub mod Routing
 pub mod Settled
 pub mod Tabled

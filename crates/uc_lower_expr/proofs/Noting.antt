@@ -12,11 +12,11 @@ use Rattle.uc_tree.specs.Rows.{held_cells}
 use Rattle.uc_tree.specs.Cells.{classes_of, class_cells}
 use Rattle.uc_tree.specs.Objects.{class_at, ClassField, declared_fields, form_fields, fields_of}
 use Rattle.uc_names.specs.Blocks.{Block}
-use Rattle.uc_sizes.specs.Places.{IsPlaces}
+use Rattle.uc_layout.specs.Places.{IsPlaces}
 use Rattle.uc_lower_expr.specs.declared.fields.Field.{Field}
 use Rattle.uc_lower_expr.specs.declared.fields.FieldTable.{FieldTable}
 use Rattle.uc_lower_expr.specs.Members.{AreFields, AreTables, IsNthField, no_field_at, object_places}
-use Rattle.uc_lower_expr.specs.Noted.{one_scalar, IsNoted, AreNoted, NoMore, OneMore, HasNames, Notes}
+use Rattle.uc_lower_expr.specs.FieldTables.{one_scalar, IsNoted, AreNoted, NoMore, OneMore, HasNames, Notes}
 use Rattle.uc_lower_expr.proofs.FieldLemmas.{noted_long}
 use Rattle.uc_lower_expr.proofs.Finding.{names_of}
 use Rattle.uc_lower_expr.proofs.Knowing.{places_push}

@@ -10,7 +10,7 @@ use Rattle.uc_tree.specs.Numbering.{Defined, is_plain}
 use Rattle.uc_tree.specs.Objects.{same_role, has_role, role_from, is_member, member_from}
 use Rattle.uc_lower_expr.specs.declared.routine_table.RoutineTable.{RoutineTable}
 use Rattle.uc_lower_expr.specs.Members.{AreRoutines}
-use Rattle.uc_lower_expr.specs.Routed.{noted_name, routed}
+use Rattle.uc_lower_expr.specs.RoutineTables.{noted_name, routed}
 use Rattle.uc_lower_expr.proofs.Numbers.{found_one, stood_case, new_case}
 
 -- a name that is declared once

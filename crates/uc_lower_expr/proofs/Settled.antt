@@ -1,13 +1,13 @@
 -- The code of an expression goes on standing where its own range does not change.
 use Rattle.std.proofs.Common.{ℕ, List, pos}
-use Rattle.uc_tree.specs.Source.{Shape, Integer, Character, Truth, Binding, Last, Field, Array, shape_cells, field_cells, Expr, Literal, Variable, Element, Get, Load, Negated, Not, AsCharacter, AsTruth, Operate, And, Or, Set, Assign, First, Update, StepBehind, Fail, Call, OfObject, ObjectExpr, This, OwnField, GetOwn, FieldOf, Counted, CallOn, CallUnwritten, CallLive, EnterOn, Wait, Signal, SignalBlock, IsEmpty, FrontOf, Exprs, NoExprs, MoreExprs}
+use Rattle.uc_tree.specs.Source.{Shape, Integer, Character, Truth, Binding, Last, Field, Array, shape_cells, field_cells, Expr, Literal, Variable, Element, Get, Load, Negated, Not, AsCharacter, AsTruth, Operate, And, Or, Set, Assign, First, Update, StepBehind, Fail, Call, OfObject, ObjectExpr, This, OwnField, GetOwn, FieldOf, Counted, CallOn, CallUnwritten, CallLive, EnterOn, EndOn, Bind, MakeOn, NewCluster, NewProcessor, EndCluster, EndProcessor, ConditionAt, Wait, Signal, SignalBlock, IsEmpty, FrontOf, Exprs, NoExprs, MoreExprs}
 use Rattle.uc_code.specs.declared.op.Op.TheVariants as op
 use Rattle.uc_code.specs.declared.rows.Mark.{Mark}
-use Rattle.uc_code.specs.Laid.{Laid}
-use Rattle.uc_code.specs.Ranges.{One, Both, Fork, Stable}
+use Rattle.uc_code.specs.Layout.{Laid}
+use Rattle.uc_code.specs.CodeShapes.{One, Both, Fork, Stable}
 use Rattle.uc_code.specs.Lowered.{operator_op, ExprAt, ObjectAt}
 use Rattle.uc_code.proofs.Stable.{nothing_stable, never_stable, one_stable, risk_stable, calls_behind_stable, both_stable, fork_stable}
-use Rattle.uc_lower_expr.specs.Added.{ExprCode, ArgumentsCode, ConvertCode}
+use Rattle.uc_lower_expr.specs.DraftGrowth.{ExprCode, ArgumentsCode, ConvertCode}
 use Rattle.uc_lower_expr.specs.Parts.{BeginCode}
 
 pub both : {B C : Laid → ℕ → ℕ → Type 0} → Stable B → Stable C → Stable (λ code. Both (B code) (C code))
@@ -57,7 +57,15 @@ mutual
   object_stable line ms (CallOn r e es) = both (expr_stable line ms e) (both (args_stable line ms es) (both (one_stable op.Tick line) (risk_stable ms (op.CallOn r) line)))
   object_stable line ms (CallLive r e es) = both (expr_stable line ms e) (both (args_stable line ms es) (both (one_stable op.Tick line) (both (one_stable (op.Alive r) line) (risk_stable ms (op.CallOn r) line))))
   object_stable line ms (CallUnwritten r e) = both (expr_stable line ms e) (calls_behind_stable ms r line)
+  object_stable line ms (Bind p e) = both (expr_stable line ms p) (both (expr_stable line ms e) (one_stable op.Bind line))
   object_stable line ms (EnterOn m r e es) = never_stable
+  object_stable line ms (EndOn r written e) = never_stable
+  object_stable line ms (MakeOn c r written e es) = never_stable
+  object_stable line ms NewCluster = never_stable
+  object_stable line ms (NewProcessor e) = never_stable
+  object_stable line ms (EndCluster e) = never_stable
+  object_stable line ms (EndProcessor e) = never_stable
+  object_stable line ms (ConditionAt k n e) = never_stable
   object_stable line ms (Wait c n) = never_stable
   object_stable line ms (Signal c) = never_stable
   object_stable line ms (SignalBlock c) = never_stable

@@ -14,7 +14,7 @@ use Rattle.uc_lower_expr.specs.declared.routine_table.RoutineTable.{RoutineTable
 use Rattle.uc_lower_expr.specs.Known.{HasRoutines}
 use Rattle.uc_lower_expr.specs.Members.{AreByNumber, AreRoutines}
 use Rattle.uc_lower_expr.specs.Numbered.{AreAmong, number_of_class}
-use Rattle.uc_lower_expr.specs.Routed.{NoteOne, noted_in, routed}
+use Rattle.uc_lower_expr.specs.RoutineTables.{NoteOne, noted_in, routed}
 use Rattle.uc_lower_expr.proofs.Knowing.{number_here, number_few}
 use Rattle.uc_lower_expr.proofs.Noting.{last_of, past, beyond}
 use Rattle.uc_lower_expr.proofs.Owned.{routines_in, owners_in, IsNext, next_is}

@@ -9,6 +9,7 @@ use Rattle.uc_tree.specs.declared.expr.ExprForm.{ExprForm}
 use Rattle.uc_tree.specs.declared.expr.PartForm.{PartForm}
 use Rattle.uc_tree.specs.declared.kinds.Base.{Base}
 use Rattle.uc_tree.specs.declared.kinds.Param.{Param}
+use Rattle.uc_tree.specs.declared.kinds.Ty.{Ty}
 use Rattle.uc_tree.specs.Programs.{Program}
 use Rattle.uc_tree.specs.declared.ops.UnaryOp.{UnaryOp}
 use Rattle.uc_tree.specs.declared.ops.UnaryOp.TheVariants as unary
@@ -22,15 +23,15 @@ use Rattle.uc_tree.specs.Expressions as tree
 use Rattle.uc_tree.specs.Expressions.{exprs_of, parts_of, links_of}
 use Rattle.uc_tree.specs.ExpressionViews.{expr_at, part_at}
 use Rattle.uc_tree.specs.ExpressionSizes.{expr_size, exprs_size, part_size, parts_size, link_size, links_size}
-use Rattle.uc_tree.specs.Source.{Shape, shape_cells, Plus, Minus, Times, Over, Modulo, Expr, Call, OfObject, CallOn, CallLive, Exprs, NoExprs, MoreExprs}
+use Rattle.uc_tree.specs.Source.{Shape, shape_cells, Plus, Minus, Times, Over, Modulo, Expr, Element, Call, OfObject, CallOn, CallLive, Exprs, NoExprs, MoreExprs}
 use Rattle.uc_tree.specs.Objects.{plain_class, base_shape, shape_of}
-use Rattle.uc_resolve.specs.Resolve.{Meant, Context, meant, value_by, value_of, converted, Standing, AsValue, unary_meant, binary_meant, assign_meant, written_by, variable_in, link_meant, chain_meant, part_meant, args_meant, arg_meant, args_by, params_of, parts_meant, element_by, element_meant, call_by, call_meant, step_meant, no_meaning}
+use Rattle.uc_resolve.specs.Resolve.{Meant, Context, meant, value_by, value_of, converted, Standing, AsValue, unary_meant, binary_meant, assign_meant, written_by, variable_in, link_meant, chain_meant, part_meant, args_meant, arg_meant, args_by, params_of, parts_meant, has_number, one_of, place_or_number, element_in, element_by, element_meant, call_by, call_meant, step_meant, no_meaning}
 use Rattle.uc_code.specs.declared.op.Op.{Op}
 use Rattle.uc_code.specs.declared.op.Op.TheVariants as op
 use Rattle.uc_code.specs.declared.rows.Mark.{Mark}
 use Rattle.uc_code.specs.Drafts.{Draft}
-use Rattle.uc_code.specs.Laid.{Laid}
-use Rattle.uc_code.specs.Ranges.{One, Risk, Both}
+use Rattle.uc_code.specs.Layout.{Laid}
+use Rattle.uc_code.specs.CodeShapes.{One, Risk, Both}
 use Rattle.uc_code.specs.Lowered.{ExprAt, ArgumentsAt}
 use Rattle.uc_code.proofs.Stable.{one_stable}
 use Rattle.uc_lower_expr.specs.declared.meaning.Scalar.{Scalar}
@@ -40,10 +41,12 @@ use Rattle.uc_lower_expr.specs.declared.meaning.Standing.TheVariants as standing
 use Rattle.uc_lower_expr.specs.declared.meaning.Meaning.{Meaning}
 use Rattle.uc_lower_expr.specs.declared.ops.Joining.{Joining}
 use Rattle.uc_lower_expr.specs.Contexts.{context_in}
-use Rattle.uc_lower_expr.specs.Meanings.{FieldAt, Begins, StandsAs, cell_in, shape_as, Tells}
-use Rattle.uc_lower_expr.specs.Added.{Adds, Cuts, ExprCode, ArgumentsCode, ConvertCode, OpCode, RiskCode, Grows, fetched, LiveCallCode}
-use Rattle.uc_lower_expr.specs.Parts.{joining_of, combining_of, scalar_of, RightCode, BeginCode, EndCode, SetCode, VariableCode, PlaceCode, ArgumentCode, Restarts, bumped}
-use Rattle.uc_lower_expr.proofs.Adding.{adds_nothing, adds_more, adds_as, adds_both}
+use Rattle.uc_lower_expr.specs.Meanings.{FieldAt, Begins, StandsAs, binds, cell_in, element_told, shape_as, Tells}
+use Rattle.uc_lower_expr.specs.DraftGrowth.{Adds, Cuts, ExprCode, ArgumentsCode, ConvertCode, OpCode, RiskCode, Grows, fetched, LiveCallCode}
+use Rattle.uc_lower_expr.specs.Parts.{joining_of, combining_of, scalar_of, RightCode, BeginCode, EndCode, SetCode, VariableCode, PlaceCode, ArgumentCode, FoundCode, Restarts, bumped}
+use Rattle.uc_lower_expr.specs.Members.{FitClasses}
+use Rattle.uc_lower_expr.proofs.Adding.{adds_nothing, adds_more, adds_as, adds_both, and_nothing}
+use Rattle.uc_lower_expr.proofs.Plainness.{numbered_binds}
 use Rattle.uc_lower_expr.proofs.Settled.{both, expr_stable, args_stable, convert_stable}
 use Rattle.uc_lower_expr.proofs.Growing.{grows_as, grows_then, grows_adds, grows_restart, grows_cut, adds_grows, tells_grows}
 use Rattle.uc_lower_expr.proofs.Arms.{as_value, told_variable, told_no_variable, updated_variable, updated_place, arm_update, converted_at, stands}
@@ -77,6 +80,43 @@ right_tells binary.Sub l r = record { shape = refl; class = refl; event = refl; 
 right_tells binary.Mul l r = record { shape = refl; class = refl; event = refl; len = refl; standing = refl }
 right_tells binary.Div l r = record { shape = refl; class = refl; event = refl; len = refl; standing = refl }
 right_tells binary.Rem l r = record { shape = refl; class = refl; event = refl; len = refl; standing = refl }
+
+-- an element, by whether it is known by its number
+
+abbrev element_at : Program → ℕ → Meant → Expr → Meant
+element_at p n m i = place_or_number (has_number p (one_of m.ty)) (Element n (base_shape p m.ty.base) m.expr i) (one_of m.ty)
+
+element_found : (p : Program) (x : Told) (o : Standing) (n : ℕ) (m : Meant) (i : Expr) → StandsAs x o → element_in p o n m i ≡ element_at p n m i
+element_found p (standing.Variable k) o n m i h = ap (λ (s : Standing). element_in p s n m i) h
+element_found p (standing.Field k) o n m i (Begins s j e) = refl
+element_found p standing.Place o n m i h = ap (λ (s : Standing). element_in p s n m i) h
+element_found p standing.Number o n m i h = ap (λ (s : Standing). element_in p s n m i) h
+element_found p standing.Value o n m i h = ap (λ (s : Standing). element_in p s n m i) h
+element_found p standing.Input o n m i h = ap (λ (s : Standing). element_in p s n m i) h
+element_found p standing.Fail o n m i h = ap (λ (s : Standing). element_in p s n m i) h
+element_found p (standing.Routine r) o n m i h = ap (λ (s : Standing). element_in p s n m i) h
+element_found p (standing.Member r) o n m i h = ap (λ (s : Standing). element_in p s n m i) h
+element_found p (standing.LiveMember r) o n m i h = ap (λ (s : Standing). element_in p s n m i) h
+element_found p standing.Nothing o n m i h = ap (λ (s : Standing). element_in p s n m i) h
+
+element_is : (p : Program) → FitClasses p → (s : Meaning) (n : ℕ) (i : Meant) → s.elements ≡ Some n → (m : Meant) → Tells p s m → element_meant p m i ≡ place_or_number (binds (shape_as s.scalar)) (Element n (base_shape p m.ty.base) m.expr (value_of i)) (one_of m.ty)
+element_is p fit s n i e m u =
+    ap (λ (o : Option ℕ). element_by p o m (value_of i)) (u.len ∙ e)
+    ∙ element_found p s.standing m.standing n m (value_of i) u.standing
+    ∙ ap (λ (b : Bool). place_or_number b (Element n (base_shape p m.ty.base) m.expr (value_of i)) (one_of m.ty)) (numbered_binds p fit m.ty.base ∙ ap binds u.shape)
+
+element_tells : {p : Program} → (s : Meaning) (m : Meant) (number : Bool) (e : Expr) → Tells p s m → Tells p (record s { elements = None; standing = if number then standing.Number else standing.Place }) (place_or_number number e (one_of m.ty))
+element_tells s m true e u = record { shape = u.shape; class = u.class; event = u.event; len = refl; standing = refl }
+element_tells s m false e u = record { shape = u.shape; class = u.class; event = u.event; len = refl; standing = refl }
+
+pub element_as : (told : Meaning) (number : Bool) → binds (shape_as told.scalar) ≡ number → record told { elements = None; standing = if number then standing.Number else standing.Place } ≡ element_told told
+element_as told number e = ap (λ (b : Bool). let m : Meaning = record told { elements = None; standing = if b then standing.Number else standing.Place } in m) (sym e)
+
+pub found_load : (line : ℕ) (b : Bool) (old new : Draft) → b ≡ true → Adds 1 (OpCode line op.Load) old new → Adds 1 (FoundCode line b) old new
+found_load line b old new e h = subst (λ (x : Bool). Adds 1 (FoundCode line x) old new) (sym e) h
+
+pub found_none : (line : ℕ) (b : Bool) (old : Draft) → b ≡ false → Adds 1 (FoundCode line b) old old
+found_none line b old e = subst (λ (x : Bool). Adds 1 (FoundCode line x) old old) (sym e) (adds_more (omega arith) (adds_nothing old))
 
 -- a field is no routine
 pub field_not_called : (p : Program) (k : ℕ) (args : List Meant) (o : Standing) (m : Meant) → FieldAt k o → call_by p o m args ≡ no_meaning
@@ -307,13 +347,25 @@ module _ (ms : List Mark) where
       (λ m u. subst (λ (x : Meaning). Tells p x (element_meant p m i)) (sym q) (subst (λ (o : Option ℕ). Tells p (record { scalar = scalar.Number; class = None; event = None; elements = None; standing = standing.Nothing }) (element_by p o m (value_of i))) (sym (u.len ∙ e)) (record { shape = refl; class = refl; event = refl; len = refl; standing = refl })))
       (λ m u code z w. subst (λ (o : Option ℕ). ExprAt code line ms (element_by p o m (value_of i)).expr a z) (sym (u.len ∙ e)) w)
 
-  pub arm_element : (p : Program) (n k line a length_of size : ℕ) (i : Meant) (s : Meaning) (old mid new : Draft) → ((b : Base) → plain_class p b ≡ s.class → size ≡ shape_cells (base_shape p b)) → n + 1 ≤ k → a ≤ length old.ops → s.elements ≡ Some length_of → Adds n (ExprCode line ms (value_of i)) old mid → Adds 1 (OpCode line (op.Index length_of size)) mid new → Grows p k line ms a (λ m. element_meant p m i) s (record s { elements = None; standing = standing.Place }) old new
-  arm_element p n k line a c size i s old mid new sized r l e h g =
-      grows_adds k line ms a (λ m. element_meant p m i) s (record s { elements = None; standing = standing.Place }) (λ code. Both (ExprAt code line ms (value_of i)) (One code (op.Index c size) line)) old new l
-      (adds_more r (adds_both (expr_stable line ms (value_of i)) h g))
-      (λ m u. subst (λ (o : Option ℕ). Tells p (record s { elements = None; standing = standing.Place }) (element_by p o m (value_of i))) (sym (u.len ∙ e)) (record { shape = u.shape; class = u.class; event = u.event; len = refl; standing = refl }))
-      (λ m u code b z w v. subst (λ (o : Option ℕ). ExprAt code line ms (element_by p o m (value_of i)).expr a z) (sym (u.len ∙ e))
-      (record { middle = b; first = w; second = record { middle = v.middle; first = v.first; second = subst (λ (y : ℕ). One code (op.Index c y) line v.middle z) (sized m.ty.base u.class) v.second } }))
+  element_code : (number : Bool) (line n size : ℕ) (s : Shape) (place index : Expr) (ty : Ty) (code : Laid) (a b z : ℕ) → size ≡ shape_cells s → ExprAt code line ms place a b → Both (ExprAt code line ms index) (Both (One code (op.Index n size) line) (FoundCode line number code)) b z → ExprAt code line ms (place_or_number number (Element n s place index) ty).expr a z
+  element_code true line n size s place index ty code a b z e w v = record {
+    middle = v.second.middle;
+    first = record { middle = b; first = w; second = record { middle = v.middle; first = v.first; second = subst (λ (y : ℕ). One code (op.Index n y) line v.middle v.second.middle) e v.second.first } };
+    second = v.second.second;
+  }
+  element_code false line n size s place index ty code a b z e w v = record {
+    middle = b;
+    first = w;
+    second = record { middle = v.middle; first = v.first; second = subst (λ (y : ℕ). One code (op.Index n y) line v.middle z) e (and_nothing (One code (op.Index n size) line) v.middle z v.second) };
+  }
+
+  pub arm_element : (p : Program) (n k line a length_of size : ℕ) (i : Meant) (s t : Meaning) (old mid next new : Draft) → FitClasses p → ((b : Base) → plain_class p b ≡ s.class → size ≡ shape_cells (base_shape p b)) → n + 2 ≤ k → a ≤ length old.ops → s.elements ≡ Some length_of → t ≡ element_told s → Adds n (ExprCode line ms (value_of i)) old mid → Adds 1 (OpCode line (op.Index length_of size)) mid next → Adds 1 (FoundCode line (binds (shape_as s.scalar))) next new → Grows p k line ms a (λ m. element_meant p m i) s t old new
+  arm_element p n k line a c size i s t old mid next new fit sized r l e j h g q =
+      let number = binds (shape_as s.scalar) in
+      grows_adds k line ms a (λ m. element_meant p m i) s t (λ code. Both (ExprAt code line ms (value_of i)) (Both (One code (op.Index c size) line) (FoundCode line number code))) old new l
+      (adds_more r (adds_both (expr_stable line ms (value_of i)) h (adds_both (one_stable (op.Index c size) line) g q)))
+      (λ m u. subst (λ (x : Meaning). Tells p x (element_meant p m i)) (sym j) (subst (λ (y : Meant). Tells p (element_told s) y) (sym (element_is p fit s c i e m u)) (element_tells s m number (Element c (base_shape p m.ty.base) m.expr (value_of i)) u)))
+      (λ m u code b z w v. subst (λ (y : Meant). ExprAt code line ms y.expr a z) (sym (element_is p fit s c i e m u)) (element_code number line c size (base_shape p m.ty.base) m.expr (value_of i) (one_of m.ty) code a b z (sized m.ty.base u.class) w v))
 
   -- calls
 

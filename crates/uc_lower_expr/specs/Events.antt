@@ -1,13 +1,13 @@
 -- Tables of the events of a program and of their constructors, by the names of the events.
 use Rattle.std.specs.Prelude.{◌≡◌, ℕ, ◌+◌, List, [], ◌∷◌, ◌++◌, Bool, ◌&&◌, Option, nat_eq, if◌then◌else◌, length, option_and_then, option_map, unwrap_or}
 use Rattle.uc_names.specs.Blocks.{Block, found}
-use Rattle.uc_sizes.specs.Places.{IsPlaces}
+use Rattle.uc_layout.specs.Places.{IsPlaces}
 use Rattle.uc_tree.specs.declared.limits.TheConstants.{FIRST_EVENT, LAST_EVENT}
 use Rattle.uc_tree.specs.Programs.{Class, Sig}
 use Rattle.uc_tree.specs.Numbering.{Defined, at_most, event_names}
 use Rattle.uc_tree.specs.Objects.{is_constructor}
 use Rattle.uc_resolve.specs.Resolve.{event_constructor_from}
-use Rattle.uc_lower_expr.specs.Routed.{noted_name}
+use Rattle.uc_lower_expr.specs.RoutineTables.{noted_name}
 
 -- a constructor builds an event where its class has no number
 abbrev pub builds_event : ℕ → Sig → Bool

@@ -3,7 +3,7 @@ use Rattle.std.specs.Prelude.{◌≡◌, ℕ, zero, suc, List, [], ◌∷◌, �
 use Rattle.uc_names.specs.Blocks.{Block, found}
 use Rattle.uc_tree.specs.Programs.{Class, Program}
 use Rattle.uc_tree.specs.Cells.{classes_of}
-use Rattle.uc_sizes.specs.Places.{IsPlaces}
+use Rattle.uc_layout.specs.Places.{IsPlaces}
 use Rattle.uc_tree.specs.Numbering.{event_names, is_event, routines_of}
 use Rattle.uc_tree.specs.Objects.{class_at, number_at}
 use Rattle.uc_resolve.specs.Resolve.{routine_from}

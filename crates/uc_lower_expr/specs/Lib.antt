@@ -1,10 +1,10 @@
-pub mod Added
+pub mod DraftGrowth
 pub mod Contexts
 pub mod Events
 pub mod Known
 pub mod Meanings
 pub mod Members
-pub mod Noted
+pub mod FieldTables
 pub mod Numbered
 pub mod Parts
-pub mod Routed
+pub mod RoutineTables

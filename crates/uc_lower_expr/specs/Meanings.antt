@@ -1,6 +1,6 @@
 -- What lowering tells of an expression besides its code.
-use Rattle.std.specs.Prelude.{◌≡◌, ℕ, Bool, true, false, Option, Some, None}
-use Rattle.uc_tree.specs.Source.{Shape, Integer, Character, Truth, field_cells}
+use Rattle.std.specs.Prelude.{◌≡◌, ℕ, Bool, true, false, Option, Some, None, if◌then◌else◌}
+use Rattle.uc_tree.specs.Source.{Shape, Integer, Character, Truth, Binding, Last, Field, Array, field_cells}
 use Rattle.uc_tree.specs.Objects.{shape_of, plain_class, event_place}
 use Rattle.uc_tree.specs.Programs.{Program}
 use Rattle.uc_resolve.specs.Resolve as resolve
@@ -14,12 +14,24 @@ abbrev pub shape_as : Scalar → Shape
 shape_as scalar.Number = Integer
 shape_as scalar.Character = Character
 shape_as scalar.Truth = Truth
+shape_as scalar.Binding = Binding
+
+-- whether what has this shape is known by its number
+abbrev pub binds : Shape → Bool
+binds Integer = false
+binds Character = false
+binds Truth = false
+binds Binding = true
+binds Last = false
+binds (Field s t) = false
+binds (Array n s) = false
 
 -- the variable that is told of
 abbrev pub cell_in : Standing → Option ℕ
 cell_in (standing.Variable k) = Some k
 cell_in (standing.Field k) = None
 cell_in standing.Place = None
+cell_in standing.Number = None
 cell_in standing.Value = None
 cell_in standing.Input = None
 cell_in standing.Fail = None
@@ -37,11 +49,16 @@ member_standing false r = standing.Member r
 pub data FieldAt (k : ℕ) : resolve.Standing → Type 0 where
   Begins : (s : Shape) (i : ℕ) → field_cells s i ≡ k → FieldAt k (resolve.AtField s i)
 
+-- what is told of an element of what is told of: a number, or a place
+abbrev pub element_told : Meaning → Meaning
+element_told told = record told { elements = None; standing = if binds (shape_as told.scalar) then standing.Number else standing.Place }
+
 -- the standing that is told
 abbrev pub StandsAs : Standing → resolve.Standing → Type 0
 StandsAs (standing.Variable k) s = s ≡ resolve.AtVariable k
 StandsAs (standing.Field k) s = FieldAt k s
 StandsAs standing.Place s = s ≡ resolve.AtPlace
+StandsAs standing.Number s = s ≡ resolve.AsNumber
 StandsAs standing.Value s = s ≡ resolve.AsValue
 StandsAs standing.Input s = s ≡ resolve.AsInput
 StandsAs standing.Fail s = s ≡ resolve.AsFail

@@ -1,32 +1,51 @@
 -- Members of classes: fields with the cells before them, and routines by the numbers of their classes.
-use Rattle.std.specs.Prelude.{◌≡◌, ℕ, ◌+◌, ◌≤◌, ◌<◌, List, [], ◌∷◌, true, false, Option, Some, None, length, map, slice_get, if◌then◌else◌}
+use Rattle.std.specs.Prelude.{◌≡◌, ℕ, ◌+◌, ◌≤◌, ◌<◌, List, [], ◌∷◌, Bool, true, false, Option, Some, None, option_map, length, map, slice_get, if◌then◌else◌}
 use Rattle.uc_names.specs.Blocks.{found}
-use Rattle.uc_sizes.specs.Places.{IsPlaces}
+use Rattle.uc_layout.specs.Places.{IsPlaces}
 use Rattle.uc_tree.specs.declared.limits.TheConstants.{CLASS_CELLS}
+use Rattle.uc_tree.specs.declared.kinds.Base.{Base}
+use Rattle.uc_tree.specs.declared.kinds.Base.TheVariants as base
 use Rattle.uc_tree.specs.declared.kinds.Role.{Role}
 use Rattle.uc_tree.specs.declared.kinds.Role.TheVariants as role
 use Rattle.uc_tree.specs.Programs.{Class, Program}
 use Rattle.uc_tree.specs.Rows.{has_itself}
 use Rattle.uc_tree.specs.Cells.{classes_of, class_cells, rows_of, leading_cells}
-use Rattle.uc_tree.specs.Numbering.{Defined, is_event, routines_of}
+use Rattle.uc_tree.specs.Numbering.{Defined, is_event, is_mutex, routines_of}
 use Rattle.uc_tree.specs.Source.{field_cells}
-use Rattle.uc_tree.specs.Objects.{ClassField, class_at, fields_of, class_shape, number_at, member_from, role_from, written_at, unwritten_number}
-use Rattle.uc_resolve.specs.Resolve.{Meant, AtPlace, NumberedField, field_named, field_type}
+use Rattle.uc_tree.specs.Objects.{APlain, ClassField, making, plain_class, class_at, fields_of, class_shape, number_at, member_from, role_from, written_at, unwritten_number}
+use Rattle.uc_resolve.specs.Resolve.{Meant, AtPlace, NumberedField, Whose, field_by_ref, field_found, field_named, field_type}
 use Rattle.uc_lower_expr.specs.Meanings.{Tells}
 use Rattle.uc_lower_expr.specs.declared.fields.Field.{Field}
 use Rattle.uc_lower_expr.specs.declared.fields.FieldTable.{FieldTable}
 use Rattle.uc_lower_expr.specs.declared.routine_table.RoutineTable.{RoutineTable}
 use Rattle.uc_lower_expr.specs.declared.numbering.ClassRoutine.{ClassRoutine}
 
--- no class has itself in its fields, and none has more cells than a class may have
+-- whether a base is no condition, and neither a cluster nor a processor
+abbrev pub is_held_base : Base → Bool
+is_held_base base.Void = true
+is_held_base base.Int = true
+is_held_base base.Char = true
+is_held_base base.Bool = true
+is_held_base base.Condition = false
+is_held_base base.Cluster = false
+is_held_base base.Processor = false
+is_held_base (base.Named name) = true
+
+-- no class has itself in its fields, and none has more cells than a class may have; none has mutex objects, and the fields of each
+-- are of such bases
 pub record FitClasses (p : Program) : Type 0 where
   pub apart : (i : ℕ) → has_itself (rows_of p) i ≡ false
   pub small : (i : ℕ) → class_cells p i ≤ CLASS_CELLS
+  pub plain : (i : ℕ) (c : Class) → class_at p i ≡ Some c → is_mutex c.kind ≡ false
+  pub held : (i k : ℕ) (c : Class) (f : ClassField) → class_at p i ≡ Some c → slice_get (fields_of c.members) k ≡ Some f → is_held_base f.base ≡ true
 
 -- fields
 
--- a field of the class c with the place i, and its number: what is told of it as a place of its type, and the cells before it
+-- a field of the class c with the place i, and its number: what is told of it as a place of its type, and the cells before it; it is
+-- found at its place, and holds a plain object, if any
 pub record IsFieldAt (p : Program) (c : Class) (i number : ℕ) (f : ClassField) (v : Field) : Type 0 where
+  pub made : making p f.base ≡ option_map APlain (plain_class p f.base)
+  pub found : (whose : Whose) → field_found p c i whose (record { number = number; field = f }) ≡ field_by_ref f.declarator.by_ref (class_shape p i) number whose (field_type p c f)
   pub by_ref : f.declarator.by_ref ≡ v.by_ref
   pub cell : field_cells (class_shape p i) number ≡ v.cell
   pub tells : (m : Meant) → m.ty ≡ field_type p c f → m.standing ≡ AtPlace → Tells p v.told m

@@ -1,5 +1,5 @@
 -- The code behind a left side, and in an update.
-use Rattle.std.specs.Prelude.{◌≡◌, ℕ, ◌+◌, pos, List, Bool, true, false, Option, Some, None, length, if◌then◌else◌}
+use Rattle.std.specs.Prelude.{◌≡◌, ℕ, ◌+◌, pos, List, Bool, true, false, ◌||◌, Option, Some, None, length, if◌then◌else◌}
 use Rattle.uc_tree.specs.declared.kinds.Known.{Known}
 use Rattle.uc_tree.specs.declared.ops.BinaryOp.{BinaryOp}
 use Rattle.uc_tree.specs.declared.ops.BinaryOp.TheVariants as binary
@@ -11,13 +11,13 @@ use Rattle.uc_tree.specs.declared.kinds.Param.{Param}
 use Rattle.uc_tree.specs.Source.{Shape, Plus, Minus, Expr, Literal}
 use Rattle.uc_tree.specs.Names.{same_name, fail_name}
 use Rattle.uc_tree.specs.Programs.{Program}
-use Rattle.uc_resolve.specs.Resolve.{Meant, known_named, known_meant, updated, arg_meant}
+use Rattle.uc_resolve.specs.Resolve.{Meant, has_number, known_named, known_meant, updated, arg_meant}
 use Rattle.uc_code.specs.declared.op.Op.{Op}
 use Rattle.uc_code.specs.declared.op.Op.TheVariants as op
 use Rattle.uc_code.specs.declared.rows.Mark.{Mark}
 use Rattle.uc_code.specs.Drafts.{Draft}
-use Rattle.uc_code.specs.Laid.{Laid, laid_in}
-use Rattle.uc_code.specs.Ranges.{One, Both, Fork, Same}
+use Rattle.uc_code.specs.Layout.{Laid, laid_in}
+use Rattle.uc_code.specs.CodeShapes.{Nothing, One, Both, Fork, Same}
 use Rattle.uc_code.specs.Lowered.{ExprAt, ConvertAt}
 use Rattle.uc_lower_expr.specs.declared.meaning.Scalar.{Scalar}
 use Rattle.uc_lower_expr.specs.declared.meaning.Scalar.TheVariants as scalar
@@ -117,9 +117,14 @@ pub record Restarts (o : Op) (line a : ℕ) (old new : Draft) : Type 0 where
   pub end : length new.ops ≡ a + 1
   pub code : One (laid_in new) o line a (length new.ops)
 
--- a reference is the place that it holds
-abbrev pub standing_by : Bool → ℕ → Standing
-standing_by by_ref k = if by_ref then standing.Place else standing.Variable k
+-- what is known by its number is the number that it holds, a reference is the place
+abbrev pub standing_by : Bool → Bool → ℕ → Standing
+standing_by number by_ref k = if number then standing.Number else if by_ref then standing.Place else standing.Variable k
+
+-- the code behind the place of an element: of one that is known by its number, that
+abbrev pub FoundCode : ℕ → Bool → Laid → ℕ → ℕ → Type 0
+FoundCode line true code = One code op.Load line
+FoundCode line false code = Nothing
 
 -- the op that finds the place of a field of the object of the running call; the op that does so where the object stands below
 abbrev pub own_place_op : Bool → ℕ → Op
@@ -139,12 +144,12 @@ pub record IsVariable (p : Program) (names : List Known) (name : List ℕ) (v : 
   pub known : Known
   pub is : known_named names name ≡ Some known
   pub cell : known.cell ≡ v.cell
-  pub by_ref : known.ty.by_ref ≡ v.by_ref
-  pub tells : Tells p v.told (known_meant known)
+  pub held : (has_number p known.ty || known.ty.by_ref) ≡ v.held
+  pub tells : Tells p v.told (known_meant p known)
 
--- the op that finds the place of a variable
+-- the op that finds the place of a variable, or the number or the place that it holds
 abbrev pub place_op_of : Bool → ℕ → Op
-place_op_of by_ref k = if by_ref then op.Via k else op.Local k
+place_op_of held k = if held then op.Via k else op.Local k
 
 -- one more or one less is written to what is meant
 abbrev pub bumped : StepOp → Meant → Meant

@@ -4,14 +4,14 @@ ghost use Rattle.std.specs.Prelude.{◌≡◌, ◌+◌, List, IfOk, OnOk, length
 ghost use Rattle.uc_tree.specs.Cells.{classes_of};
 ghost use Rattle.uc_tree.specs.Numbering.{Defined, event_names, is_event};
 ghost use Rattle.uc_tree.specs.Objects.{is_constructor};
-ghost use Rattle.uc_sizes.specs.Places.{IsPlaces};
+ghost use Rattle.uc_layout.specs.Places.{IsPlaces};
 ghost use Rattle.uc_lower_expr.specs.Events.{AreBuilders, NotesEvent, builds_event, event_by, noted_builder};
 
 use crate::program_names::{name_of, sig_of};
 use std::alloc::{AllocError, Global};
+use uc_layout::places::{no_places, note_place};
+use uc_layout::sizes::Sizes;
 use uc_names::scope::Scope;
-use uc_sizes::places::{no_places, note_place};
-use uc_sizes::sizes::Sizes;
 use uc_tree::class::{Class, Routine, Sig};
 use uc_tree::kinds::{Kind, Role};
 use uc_tree::limits::{FIRST_EVENT, LAST_EVENT};

@@ -9,7 +9,7 @@ ghost use Rattle.uc_tree.specs.Objects.{class_at};
 ghost use Rattle.uc_resolve.specs.Resolve.{Meant, meant, value_of, unary_meant, assign_meant, link_meant, chain_meant, part_meant, parts_meant, element_meant, field_meant, call_meant, args_meant, args_by, name_meant, own_meant, place_member, member_meant, Of, item_meant, routine_meant_by, routine_from, known_named};
 ghost use Rattle.uc_lower_expr.specs.Contexts.{context_in};
 ghost use Rattle.uc_lower_expr.specs.Meanings.{Tells, member_standing, shape_as};
-ghost use Rattle.uc_lower_expr.specs.Added.{Adds, Grows, ExprCode, ArgumentsCode, LiveCallCode};
+ghost use Rattle.uc_lower_expr.specs.DraftGrowth.{Adds, Grows, ExprCode, ArgumentsCode, LiveCallCode};
 ghost use Rattle.uc_lower_expr.specs.Members.{no_field};
 ghost use Rattle.uc_lower_expr.specs.Parts.{RightCode, VariableCode, PlaceCode, ArgumentCode, FieldCode, Restarts, place_op_of, own_place_op, own_standing, input_told};
 
@@ -21,7 +21,7 @@ use crate::ops::{Joining, combining, joined_by};
 use crate::program_names::ProgramNames;
 use crate::put::{
     begin_update, close_fork, cut, end_update, put, put_at_risk, put_bump, put_conversion,
-    put_load, put_stepped, restart,
+    put_element, put_load, put_stepped, restart,
 };
 use std::alloc::AllocError;
 use uc_code::draft::Draft;
@@ -396,11 +396,9 @@ fn lower_index(
             let size = names.element_size(told.class);
             let _index = lower_value(index, line, names, out)?;
             put(Op::Index { length, size }, line, out)?;
-            Ok(Meaning {
-                elements: None,
-                standing: Standing::Place,
-                ..told
-            })
+            names.fit();
+            let element = put_element(told, line, out)?;
+            Ok(element)
         }
     }
 }
@@ -418,7 +416,7 @@ fn lower_name(
 {
     match variable_named(out, names, name) {
         Some(variable) => {
-            put(place_op(variable.by_ref, variable.cell), line, out)?;
+            put(place_op(variable.held, variable.cell), line, out)?;
             Ok(variable.told)
         }
         None => match out.place().class {
@@ -487,6 +485,7 @@ fn lower_own_member(
     ensures code { OnOk result (Adds 1 (ExprCode line out.old.marks (own_meant names.now (Some class) name.now).expr) out.old out.new) }
     ensures tells { IfOk result (λ told. Tells names.now told (own_meant names.now (Some class) name.now)) }
 {
+    names.fit();
     match names.member(class, name) {
         Some(routine) => {
             put(Op::Own, line, out)?;
@@ -496,15 +495,11 @@ fn lower_own_member(
     }
 }
 
-// The op that finds the place of a variable: a reference holds it.
-fn place_op(by_ref: bool, cell: u32) -> Op
-    ensures { result ≡ place_op_of by_ref cell }
+// The op that finds the place of a variable, or what it holds.
+fn place_op(held: bool, cell: u32) -> Op
+    ensures { result ≡ place_op_of held cell }
 {
-    if by_ref {
-        Op::Via(cell)
-    } else {
-        Op::Local(cell)
-    }
+    if held { Op::Via(cell) } else { Op::Local(cell) }
 }
 
 fn lower_item_name(
@@ -572,6 +567,7 @@ fn lower_field(
         Standing::Variable(_) => lower_member(name, told, start, line, names, out),
         Standing::Field(_) => lower_member(name, told, start, line, names, out),
         Standing::Place => lower_member(name, told, start, line, names, out),
+        Standing::Number => lower_member(name, told, start, line, names, out),
         Standing::Value => put_nothing(start, line, out),
         Standing::Fail => put_nothing(start, line, out),
         Standing::Routine(_) => put_nothing(start, line, out),
@@ -635,10 +631,13 @@ fn lower_member(
 {
     match told.elements {
         Some(_) => put_nothing(start, line, out),
-        None => match told.members_of() {
-            Some(class) => lower_member_of(class, name, told, start, line, names, out),
-            None => put_nothing(start, line, out),
-        },
+        None => {
+            names.fit();
+            match told.members_of() {
+                Some(class) => lower_member_of(class, name, told, start, line, names, out),
+                None => put_nothing(start, line, out),
+            }
+        }
     }
 }
 
@@ -673,14 +672,17 @@ fn lower_member_of(
             put_field(field, line, out)?;
             Ok(field.told)
         }
-        None => match names.member(class, name) {
-            Some(routine) => Ok(
-                names
-                    .result(routine)
-                    .standing_as(member_of(names.has_coroutines(Some(class)), routine)),
-            ),
-            None => put_nothing(start, line, out),
-        },
+        None => {
+            names.fit();
+            match names.member(class, name) {
+                Some(routine) => Ok(
+                    names
+                        .result(routine)
+                        .standing_as(member_of(names.has_coroutines(Some(class)), routine)),
+                ),
+                None => put_nothing(start, line, out),
+            }
+        }
     }
 }
 
@@ -748,6 +750,7 @@ fn lower_call(
         Standing::Variable(_) => put_nothing(start, line, out),
         Standing::Field(_) => put_nothing(start, line, out),
         Standing::Place => put_nothing(start, line, out),
+        Standing::Number => put_nothing(start, line, out),
         Standing::Value => put_nothing(start, line, out),
         Standing::Input => put_nothing(start, line, out),
         Standing::Nothing => put_nothing(start, line, out),

@@ -6,14 +6,14 @@ ghost use Rattle.uc_tree.specs.Programs.{Class as Whole, Program};
 ghost use Rattle.uc_tree.specs.ProgramViews.{member_form_at};
 ghost use Rattle.uc_lower_expr.specs.Meanings.{shape_as};
 ghost use Rattle.uc_lower_expr.specs.Members.{AreFields, AreTables, FitClasses, IsField, IsNthField, count_fields, no_field, no_field_at};
-ghost use Rattle.uc_lower_expr.specs.Noted.{HasNames, Notes, length_by, one_scalar};
+ghost use Rattle.uc_lower_expr.specs.FieldTables.{HasNames, Notes, length_by, one_scalar};
 
 use crate::meaning::{Meaning, Scalar, Standing};
 use std::alloc::{AllocError, Global};
+use uc_layout::held::leading_cells;
+use uc_layout::places::{no_places, note_place, place_in};
+use uc_layout::sizes::Sizes;
 use uc_names::scope::Scope;
-use uc_sizes::held::leading_cells;
-use uc_sizes::places::{no_places, note_place, place_in};
-use uc_sizes::sizes::Sizes;
 use uc_tree::class::{Class, Member, MemberForm};
 use uc_tree::declare::Declarator;
 use uc_tree::kinds::Base;

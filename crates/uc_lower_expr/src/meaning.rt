@@ -3,20 +3,21 @@
 ghost use Rattle.std.specs.Prelude.{◌≡◌, None};
 ghost use Rattle.uc_tree.specs.Objects.{shape_of};
 ghost use Rattle.uc_resolve.specs.Resolve.{class_or_event};
-ghost use Rattle.uc_lower_expr.specs.Meanings.{cell_in, shape_as};
+ghost use Rattle.uc_lower_expr.specs.Meanings.{binds, cell_in, shape_as};
 
 use uc_tree::kinds::Base;
 
-/// How a place of a base keeps a number.
+/// How a place of a base keeps a number; a cluster or a processor is known by one, to which its place is bound.
 #[derive(Clone, Copy, PartialEq, Eq, Debug)]
 pub enum Scalar {
     Number,
     Character,
     Truth,
+    Binding,
 }
 
 /// What an expression is: a variable that is no reference, by its first cell; a field that is none of the object of the running
-/// call, by its first cell in that; another place, a value, `cin`, the member `fail` of `cin`, a routine by its number, a member
+/// call, by its first cell in that; another place; a cluster or a processor, by its number; a value, `cin`, the member `fail` of `cin`, a routine by its number, a member
 /// of the object at the place, by the number of its routine, one of the coroutine there, which must be live, or nothing, where a rule is
 /// broken.
 #[derive(Clone, Copy, PartialEq, Eq, Debug)]
@@ -24,6 +25,7 @@ pub enum Standing {
     Variable(u32),
     Field(u32),
     Place,
+    Number,
     Value,
     Input,
     Fail,
@@ -42,6 +44,7 @@ impl Standing {
             Standing::Variable(cell) => Some(cell),
             Standing::Field(_) => None,
             Standing::Place => None,
+            Standing::Number => None,
             Standing::Value => None,
             Standing::Input => None,
             Standing::Fail => None,
@@ -65,6 +68,13 @@ pub struct Meaning {
 }
 
 impl Scalar {
+    // Whether what is kept so is known by its number.
+    pub(crate) fn binds(self) -> bool
+        ensures { result ≡ binds (shape_as self) }
+    {
+        matches!(self, Scalar::Binding)
+    }
+
     /// How a base keeps a number.
     pub fn of_base(base: &Base) -> Scalar
         ensures shape { shape_of base.now ≡ shape_as result }
@@ -75,8 +85,8 @@ impl Scalar {
             Base::Void => Scalar::Number,
             Base::Int => Scalar::Number,
             Base::Condition => Scalar::Number,
-            Base::Cluster => Scalar::Number,
-            Base::Processor => Scalar::Number,
+            Base::Cluster => Scalar::Binding,
+            Base::Processor => Scalar::Binding,
             Base::Named(_) => Scalar::Number,
         }
     }

@@ -1,48 +1,69 @@
 // What names stand for.
 
-ghost use Rattle.std.specs.Prelude.{◌≡◌, MatchOption, None};
-ghost use Rattle.uc_resolve.specs.Resolve.{known_named};
+ghost use Rattle.std.specs.Prelude.{◌≡◌, ◌||◌, MatchOption, None};
+ghost use Rattle.uc_resolve.specs.Resolve.{has_number, known_named};
 ghost use Rattle.uc_lower_expr.specs.Parts.{IsVariable, standing_by};
 
 use crate::meaning::{Meaning, Scalar, Standing};
 use crate::program_names::ProgramNames;
 use uc_code::draft::Draft;
+use uc_tree::kinds::Ty;
 use uc_tree::name::Name;
 
-/// A variable in scope: the first of its cells, whether it is a reference, and what is told of it.
+/// A variable in scope: the first of its cells, whether that holds a place or a number, as that of a reference, a cluster or a
+/// processor does, and what is told of it.
 #[derive(Clone, Copy, PartialEq, Eq, Debug)]
 pub struct Variable {
     pub cell: u32,
-    pub by_ref: bool,
+    pub held: bool,
     pub told: Meaning,
 }
 
-// A reference is the place that it holds.
-fn standing_of(by_ref: bool, cell: u32) -> Standing
-    ensures { result ≡ standing_by by_ref cell }
+// What is known by its number is the number that it holds, a reference is the place.
+fn standing_of(number: bool, by_ref: bool, cell: u32) -> Standing
+    ensures { result ≡ standing_by number by_ref cell }
 {
-    if by_ref {
+    if number {
+        Standing::Number
+    } else if by_ref {
         Standing::Place
     } else {
         Standing::Variable(cell)
     }
 }
 
+fn is_held(number: bool, by_ref: bool) -> bool
+    ensures { result ≡ (number || by_ref) }
+{
+    number || by_ref
+}
+
 pub(crate) fn variable_named(out: &Draft, names: &ProgramNames, name: &Name) -> Option<Variable>
     ensures { MatchOption result (known_named out.now.names name.now ≡ None) (λ v. IsVariable names.now out.now.names name.now v) }
 {
     match out.find(name.bytes()) {
-        Some(known) => Some(Variable {
-            cell: known.cell,
-            by_ref: known.ty.by_ref,
-            told: Meaning {
-                scalar: Scalar::of_base(&known.ty.base),
-                class: names.sizes().plain_class(&known.ty.base),
-                event: names.sizes().event_place(&known.ty.base),
-                elements: known.ty.len,
-                standing: standing_of(known.ty.by_ref, known.cell),
-            },
-        }),
+        Some(known) => {
+            let number = has_number(&known.ty, names);
+            Some(Variable {
+                cell: known.cell,
+                held: is_held(number, known.ty.by_ref),
+                told: Meaning {
+                    scalar: Scalar::of_base(&known.ty.base),
+                    class: names.sizes().plain_class(&known.ty.base),
+                    event: names.sizes().event_place(&known.ty.base),
+                    elements: known.ty.len,
+                    standing: standing_of(number, known.ty.by_ref, known.cell),
+                },
+            })
+        }
         None => None,
     }
+}
+
+// Whether what has this type is known by its number: an array is not.
+fn has_number(ty: &Ty, names: &ProgramNames) -> bool
+    ensures { result ≡ has_number names.now ty.now }
+{
+    names.fit();
+    ty.len.is_none() && Scalar::of_base(&ty.base).binds()
 }

@@ -22,16 +22,17 @@ use crate::numbering::{ClassRoutine, Fixed, Numbering};
 use crate::routine_table::{RoutineTable, main_number_in, member_in, table_of, tables_of};
 use std::alloc::{AllocError, Global};
 use std::marker::Model;
+use uc_layout::places::{no_places, place_in};
+use uc_layout::sizes::Sizes;
 use uc_names::scope::Scope;
-use uc_sizes::places::{no_places, place_in};
-use uc_sizes::sizes::Sizes;
 use uc_tree::class::{Class, Routine, Sig};
 use uc_tree::kinds::{Base, Kind, Owner, Param, Role};
-use uc_tree::limits::UNHANDLED;
+use uc_tree::limits::{FAILURE, UNHANDLED};
 use uc_tree::name::Name;
 
 /// A program whose constants, routines, classes and their members are known by their names, with their numbers. No class has itself
-/// in its fields, and each fits the limit on its cells. Contracts see the program.
+/// in its fields, and each fits the limit on its cells; none has mutex objects, and no field is a condition, a cluster or a processor.
+/// Contracts see the program.
 #[derive(Drop)]
 pub struct ProgramNames<'a> {
     sizes: &'a Sizes<'a>,
@@ -305,7 +306,7 @@ impl<'a> ProgramNames<'a> {
         self.sizes
     }
 
-    /// Each class fits, and none has itself in its fields.
+    /// Each class fits: none has itself in its fields, and none has mutex objects.
     pub fn fit(&self)
         ensures { FitClasses self.now }
     {
@@ -361,6 +362,9 @@ impl<'a> ProgramNames<'a> {
     {
         if name.is(b"uUnhandled") {
             return UNHANDLED;
+        }
+        if name.is(b"RendezvousFailure") {
+            return FAILURE;
         }
         number_of(place_in(&self.events, name))
     }

@@ -9,11 +9,11 @@ ghost use Rattle.uc_tree.specs.Objects.{class_at, member_from};
 ghost use Rattle.uc_lower_expr.specs.Known.{HasRoutines};
 ghost use Rattle.uc_lower_expr.specs.Members.{AreByNumber, AreRoutines};
 ghost use Rattle.uc_lower_expr.specs.Numbered.{number_of_class};
-ghost use Rattle.uc_lower_expr.specs.Routed.{NoteOne, Routes};
+ghost use Rattle.uc_lower_expr.specs.RoutineTables.{NoteOne, Routes};
 
 use std::alloc::{AllocError, Global};
+use uc_layout::places::no_places;
 use uc_names::scope::Scope;
-use uc_sizes::places::no_places;
 use uc_tree::class::Routine;
 use uc_tree::kinds::Role;
 use uc_tree::name::Name;

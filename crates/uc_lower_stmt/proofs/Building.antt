@@ -8,7 +8,7 @@ use Rattle.uc_tree.specs.Capped.{capped}
 use Rattle.uc_tree.specs.Cells.{class_cells}
 use Rattle.uc_tree.specs.Laws.{LawCells}
 use Rattle.uc_tree.specs.Programs.{Program}
-use Rattle.uc_tree.specs.Objects.{class_shape, unwritten_number, written_at}
+use Rattle.uc_tree.specs.Objects.{APlain, class_shape, unwritten_number, written_at}
 use Rattle.uc_tree.specs.Source.{Expr, OfObject, CallOn, Exprs, NoExprs}
 use Rattle.uc_resolve.specs.Resolve.{Meant, args_by, params_of, called_by, constructed, counted_element, build, clean_up}
 use Rattle.uc_code.specs.declared.op.Op.TheVariants as op
@@ -19,17 +19,17 @@ use Rattle.uc_code.specs.declared.rows.Cleaning.{Cleaning}
 use Rattle.uc_code.specs.declared.rows.Cleaning.TheVariants as cleaning
 use Rattle.uc_code.specs.declared.rows.Spot.{Spot}
 use Rattle.uc_code.specs.Drafts.{Draft}
-use Rattle.uc_code.specs.Laid.{Laid, routine_in}
-use Rattle.uc_code.specs.Ranges.{One}
+use Rattle.uc_code.specs.Layout.{Laid, routine_in}
+use Rattle.uc_code.specs.CodeShapes.{One}
 use Rattle.uc_code.specs.ObjectCalls.{BeginsAt, InFrame, InObject, LiesAt, Whole, Part, Calls, Written, Unwritten, Cleans, One as CleansOne, All}
 use Rattle.uc_code.specs.Lowered.{spot_op, ExprAt, StmtAt}
-use Rattle.uc_code.specs.Open.{StandsBehind}
-use Rattle.uc_code.specs.Puts.{Puts}
+use Rattle.uc_code.specs.OpenRows.{StandsBehind}
+use Rattle.uc_code.specs.Emits.{Puts}
 use Rattle.uc_code.proofs.Stable.{one_stable}
 use Rattle.uc_code.proofs.Putting.{puts_as, puts_more}
 use Rattle.uc_lower_expr.specs.declared.numbering.ClassRoutine.{ClassRoutine}
 use Rattle.uc_lower_expr.specs.Members.{routine_by, routine_for}
-use Rattle.uc_lower_expr.specs.Added.{Adds, ExprCode, ArgumentsCode, OpCode, RiskCode}
+use Rattle.uc_lower_expr.specs.DraftGrowth.{Adds, ExprCode, ArgumentsCode, OpCode, RiskCode}
 use Rattle.uc_lower_expr.proofs.Adding.{adds_as, adds_both, adds_more}
 use Rattle.uc_lower_expr.proofs.Settled.{args_stable, expr_stable}
 use Rattle.uc_lower_stmt.specs.Objects.{FillCode, array_by, build_room, call_by}
@@ -57,16 +57,16 @@ module _ (p : Program) (i : ℕ) where
   pub calls_of : (wanted : Role) (e : Expr) (spot : Spot) (array : Option Array) → LiesAt e spot array → Calls (called_by p i wanted e [] (written_at p i wanted)) (call_by (routine_for p i wanted) spot array)
   calls_of wanted e spot array l = calls_at wanted e spot array l (written_at p i wanted)
 
-  element_lies : LawCells → (n : ℕ) (place : Expr) (spot : Spot) → BeginsAt place spot → LiesAt (counted_element p i n place) spot (array_by p i (Some n))
+  element_lies : LawCells → (n : ℕ) (place : Expr) (spot : Spot) → BeginsAt place spot → LiesAt (counted_element p (APlain i) n place) spot (array_by p i (Some n))
   element_lies laws n place spot b =
-      subst (λ (k : ℕ). LiesAt (counted_element p i n place) spot (Some (record { length = n; size = k }))) (laws.cells p i) (Part n (class_shape p i) place spot b)
+      subst (λ (k : ℕ). LiesAt (counted_element p (APlain i) n place) spot (Some (record { length = n; size = k }))) (laws.cells p i) (Part n (class_shape p i) place spot b)
 
-  cleans_by : LawCells → (length : Option ℕ) (place : Expr) (spot : Spot) → BeginsAt place spot → Cleans (clean_up p i length place) (cleaning.Call (call_by (routine_for p i role.Destructor) spot (array_by p i length)))
+  cleans_by : LawCells → (length : Option ℕ) (place : Expr) (spot : Spot) → BeginsAt place spot → Cleans (clean_up p (APlain i) length place) (cleaning.Call (call_by (routine_for p i role.Destructor) spot (array_by p i length)))
   cleans_by laws None place spot b = CleansOne _ _ (calls_of role.Destructor place spot None (Whole place spot b)) refl
-  cleans_by laws (Some n) place spot b = All n (class_cells p i) _ _ (calls_of role.Destructor (counted_element p i n place) spot (array_by p i (Some n)) (element_lies laws n place spot b)) refl
+  cleans_by laws (Some n) place spot b = All n (class_cells p i) _ _ (calls_of role.Destructor (counted_element p (APlain i) n place) spot (array_by p i (Some n)) (element_lies laws n place spot b)) refl
 
-  pub cleans_is : LawCells → (length : Option ℕ) (spot : Spot) (what : Cleaning) → what ≡ cleaning.Call (call_by (routine_for p i role.Destructor) spot (array_by p i length)) → (place : Expr) → BeginsAt place spot → Cleans (clean_up p i length place) what
-  cleans_is laws length spot what e place b = subst (λ (c : Cleaning). Cleans (clean_up p i length place) c) (sym e) (cleans_by laws length place spot b)
+  pub cleans_is : LawCells → (length : Option ℕ) (spot : Spot) (what : Cleaning) → what ≡ cleaning.Call (call_by (routine_for p i role.Destructor) spot (array_by p i length)) → (place : Expr) → BeginsAt place spot → Cleans (clean_up p (APlain i) length place) what
+  cleans_is laws length spot what e place b = subst (λ (c : Cleaning). Cleans (clean_up p (APlain i) length place) c) (sym e) (cleans_by laws length place spot b)
 
   -- an object is built
 
@@ -111,23 +111,23 @@ module _ (p : Program) (i : ℕ) where
 
   -- the statement that builds an object, or the elements of an array
 
-  pub arm_one : (line : ℕ) (spot : Spot) (length : Option ℕ) (args : List Meant) (n : ℕ) (old d1 new : Draft) → length ≡ None → ((place : Expr) → BeginsAt place spot → Adds (n + 3) (ExprCode line old.marks (constructed p i place args)) old d1) → Adds 1 (OpCode line op.Discard) d1 new
-      → (place : Expr) → BeginsAt place spot → Puts (n + build_room length) (λ code. StmtAt code old.marks (build p line i length place args)) old new
+  pub arm_one : (line : ℕ) (spot : Spot) (length : Option ℕ) (args : List Meant) (n : ℕ) (old d1 new : Draft) → length ≡ None → ((place : Expr) → BeginsAt place spot → Adds (n + 3) (ExprCode line old.marks (constructed p (APlain i) place args)) old d1) → Adds 1 (OpCode line op.Discard) d1 new
+      → (place : Expr) → BeginsAt place spot → Puts (n + build_room length) (λ code. StmtAt code old.marks (build p line (APlain i) length place args)) old new
   arm_one line spot length args n old d1 new e a b place h =
-      subst (λ (o : Option ℕ). Puts (n + build_room o) (λ code. StmtAt code old.marks (build p line i o place args)) old new) (sym e) (
-      puts_adds (adds_more (omega arith) (adds_both (expr_stable line old.marks (constructed p i place args)) (a place h) b)))
+      subst (λ (o : Option ℕ). Puts (n + build_room o) (λ code. StmtAt code old.marks (build p line (APlain i) o place args)) old new) (sym e) (
+      puts_adds (adds_more (omega arith) (adds_both (expr_stable line old.marks (constructed p (APlain i) place args)) (a place h) b)))
 
   pub arm_all : LawCells → (line : ℕ) (spot : Spot) (length : Option ℕ) (array : Option Array) (args : List Meant) (n count : ℕ) (builder destroyer : ObjectCall) (old new : Draft) → length ≡ Some count → array ≡ array_by p i (Some count)
       → builder ≡ call_by (routine_for p i role.Constructor) spot array → destroyer ≡ call_by (routine_for p i role.Destructor) spot array → Puts 18 (FillCode line old.marks builder destroyer count) old new
-      → (place : Expr) → BeginsAt place spot → Puts (n + build_room length) (λ code. StmtAt code old.marks (build p line i length place args)) old new
+      → (place : Expr) → BeginsAt place spot → Puts (n + build_room length) (λ code. StmtAt code old.marks (build p line (APlain i) length place args)) old new
   arm_all laws line spot length array args n count builder destroyer old new e ae be de h place b =
       let g : builder ≡ call_by (routine_for p i role.Constructor) spot (array_by p i (Some count)) = be ∙ ap (λ (o : Option Array). call_by (routine_for p i role.Constructor) spot o) ae in
       let k : destroyer ≡ call_by (routine_for p i role.Destructor) spot (array_by p i (Some count)) = de ∙ ap (λ (o : Option Array). call_by (routine_for p i role.Destructor) spot o) ae in
-      subst (λ (o : Option ℕ). Puts (n + build_room o) (λ code. StmtAt code old.marks (build p line i o place args)) old new) (sym e) (
+      subst (λ (o : Option ℕ). Puts (n + build_room o) (λ code. StmtAt code old.marks (build p line (APlain i) o place args)) old new) (sym e) (
       puts_more (omega arith) (puts_as h (λ code x z w. record {
         builder = builder;
         destroyer = destroyer;
-        builds = subst (λ (c : ObjectCall). Calls (constructed p i (counted_element p i count place) []) c) (sym g) (calls_of role.Constructor (counted_element p i count place) spot (array_by p i (Some count)) (element_lies laws count place spot b));
-        destroys = subst (λ (c : ObjectCall). Calls (called_by p i role.Destructor (counted_element p i count place) [] (written_at p i role.Destructor)) c) (sym k) (calls_of role.Destructor (counted_element p i count place) spot (array_by p i (Some count)) (element_lies laws count place spot b));
+        builds = subst (λ (c : ObjectCall). Calls (constructed p (APlain i) (counted_element p (APlain i) count place) []) c) (sym g) (calls_of role.Constructor (counted_element p (APlain i) count place) spot (array_by p i (Some count)) (element_lies laws count place spot b));
+        destroys = subst (λ (c : ObjectCall). Calls (called_by p i role.Destructor (counted_element p (APlain i) count place) [] (written_at p i role.Destructor)) c) (sym k) (calls_of role.Destructor (counted_element p (APlain i) count place) spot (array_by p i (Some count)) (element_lies laws count place spot b));
         filled = w;
       })))

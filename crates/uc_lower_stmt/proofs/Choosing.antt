@@ -15,15 +15,15 @@ use Rattle.uc_code.specs.declared.op.Op.TheVariants as op
 use Rattle.uc_code.specs.declared.rows.Instruction.{Instruction}
 use Rattle.uc_code.specs.declared.rows.Mark.{Mark}
 use Rattle.uc_code.specs.Drafts.{Draft, patched}
-use Rattle.uc_code.specs.Laid.{Laid, laid_in}
-use Rattle.uc_code.specs.Ranges.{Both, Fork}
+use Rattle.uc_code.specs.Layout.{Laid, laid_in}
+use Rattle.uc_code.specs.CodeShapes.{Both, Fork}
 use Rattle.uc_code.specs.Lowered.{ExprAt, StmtAt}
 use Rattle.uc_code.proofs.Stable.{one_stable}
 use Rattle.uc_lower_expr.specs.Contexts.{context_in}
-use Rattle.uc_lower_expr.specs.Added.{Adds, ExprCode, OpCode}
+use Rattle.uc_lower_expr.specs.DraftGrowth.{Adds, ExprCode, OpCode}
 use Rattle.uc_lower_expr.proofs.Settled.{both, expr_stable}
 use Rattle.uc_lower_stmt.specs.Marked.{objects_in}
-use Rattle.uc_lower_stmt.specs.Scoped.{Lowers, scope_of}
+use Rattle.uc_lower_stmt.specs.LowersStatement.{Lowers, scope_of}
 use Rattle.uc_lower_stmt.specs.Control.{LowersAlone, LowersMaybe, LowersIf, maybe_past, maybe_at_size}
 use Rattle.uc_lower_stmt.proofs.Joined.{lowers_adds, lowers_as, lowers_join, lowers_put}
 use Rattle.uc_lower_stmt.proofs.Kept.{stmt_stable}

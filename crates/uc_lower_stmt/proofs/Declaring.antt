@@ -22,16 +22,16 @@ use Rattle.uc_resolve.specs.Resolve.{Scope, meant, value_of, converted, start_me
 use Rattle.uc_code.specs.declared.op.Op.TheVariants as op
 use Rattle.uc_code.specs.declared.rows.Mark.{Mark}
 use Rattle.uc_code.specs.Drafts.{Draft}
-use Rattle.uc_code.specs.Laid.{Laid}
-use Rattle.uc_code.specs.Ranges.{One, Both}
+use Rattle.uc_code.specs.Layout.{Laid}
+use Rattle.uc_code.specs.CodeShapes.{One, Both}
 use Rattle.uc_code.specs.Lowered.{StartAt, VariablesAt}
 use Rattle.uc_code.proofs.Stable.{one_stable}
-use Rattle.uc_lower_expr.specs.Added.{Adds, ExprCode, ConvertCode, OpCode}
+use Rattle.uc_lower_expr.specs.DraftGrowth.{Adds, ExprCode, ConvertCode, OpCode}
 use Rattle.uc_lower_expr.specs.Contexts.{context_in}
 use Rattle.uc_lower_expr.proofs.Adding.{adds_more, adds_as, adds_both, adds_nothing}
 use Rattle.uc_lower_expr.proofs.Settled.{expr_stable}
 use Rattle.uc_lower_expr.proofs.Arms.{converted_at}
-use Rattle.uc_lower_stmt.specs.Scoped.{Lowers, scope_of}
+use Rattle.uc_lower_stmt.specs.LowersStatement.{Lowers, scope_of}
 use Rattle.uc_lower_stmt.specs.Pieces.{StartCode, VariablesCode}
 use Rattle.uc_lower_stmt.proofs.Kept.{variables_stable}
 use Rattle.uc_lower_stmt.proofs.Joined.{lowers_as, lowers_join}

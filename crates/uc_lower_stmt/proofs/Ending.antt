@@ -8,11 +8,11 @@ use Rattle.uc_code.specs.declared.rows.ObjectCall.{ObjectCall}
 use Rattle.uc_code.specs.declared.rows.Cleaning.{Cleaning}
 use Rattle.uc_code.specs.declared.rows.Cleaning.TheVariants as cleaning
 use Rattle.uc_code.specs.Drafts.{Draft}
-use Rattle.uc_code.specs.Laid.{Laid, laid_in}
-use Rattle.uc_code.specs.Ranges.{OpAt, One, Risk, HandlerAt, clean_up, ScopeOf, BehindPart, Kept}
+use Rattle.uc_code.specs.Layout.{Laid, laid_in}
+use Rattle.uc_code.specs.CodeShapes.{OpAt, One, Risk, HandlerAt, clean_up, ScopeOf, BehindPart, Kept}
 use Rattle.uc_code.specs.Lowered.{CleanAt}
-use Rattle.uc_code.specs.Open.{CleansBehind, handler_in, row_in, closed}
-use Rattle.uc_code.specs.Puts.{Puts, place_length, called_length, clean_by, clean_length}
+use Rattle.uc_code.specs.OpenRows.{CleansBehind, handler_in, row_in, closed}
+use Rattle.uc_code.specs.Emits.{Puts, place_length, called_length, clean_by, clean_length}
 use Rattle.uc_code.proofs.Stable.{kept_then, kept_piece}
 use Rattle.uc_code.proofs.Putting.{clean_is, clean_stable, marks_of}
 use Rattle.uc_code.proofs.Sweeping.{like_puts, like_closed, closed_ops, closed_marks}

@@ -6,11 +6,11 @@ use Rattle.uc_code.specs.declared.rows.Mark.TheVariants as mark
 use Rattle.uc_code.specs.declared.rows.ObjectCall.{ObjectCall}
 use Rattle.uc_code.specs.declared.rows.Opening.TheVariants as opening
 use Rattle.uc_code.specs.Drafts.{Draft}
-use Rattle.uc_code.specs.Laid.{Laid, laid_in}
-use Rattle.uc_code.specs.Ranges.{OpAt, One, Risk, HandlerAt, clean_up, Kept, Stable}
+use Rattle.uc_code.specs.Layout.{Laid, laid_in}
+use Rattle.uc_code.specs.CodeShapes.{OpAt, One, Risk, HandlerAt, clean_up, Kept, Stable}
 use Rattle.uc_code.specs.Lowered.{CallAt, CallBuilt, CallDone}
-use Rattle.uc_code.specs.Open.{handler_in, row_in, opened, closed}
-use Rattle.uc_code.specs.Puts.{Puts, done_length}
+use Rattle.uc_code.specs.OpenRows.{handler_in, row_in, opened, closed}
+use Rattle.uc_code.specs.Emits.{Puts, done_length}
 use Rattle.uc_code.proofs.Stable.{kept_then, kept_piece, one_stable}
 use Rattle.uc_code.proofs.Putting.{call_stable, done_is, done_stable, marks_of, puts_both, puts_more}
 use Rattle.uc_code.proofs.Sweeping.{like_puts, like_opened, like_closed, like_rest, closed_ops, closed_marks}

@@ -20,15 +20,15 @@ use Rattle.uc_code.specs.declared.rows.Mark.{Mark}
 use Rattle.uc_code.specs.declared.rows.Opening.TheVariants as opening
 use Rattle.uc_code.specs.Drafts.{Draft}
 use Rattle.uc_code.specs.Guarding.{ClosesGuards, OpensGuards}
-use Rattle.uc_code.specs.Laid.{Laid, guards, laid_in, routine_in}
-use Rattle.uc_code.specs.Open.{opened}
-use Rattle.uc_code.specs.Ranges.{IsBare}
-use Rattle.uc_lower_expr.specs.Added.{Adds, OpCode}
+use Rattle.uc_code.specs.Layout.{Laid, guards, laid_in, routine_in}
+use Rattle.uc_code.specs.OpenRows.{opened}
+use Rattle.uc_code.specs.CodeShapes.{IsBare}
+use Rattle.uc_lower_expr.specs.DraftGrowth.{Adds, OpCode}
 use Rattle.uc_lower_stmt.specs.Guarding.{LowersFrom}
 use Rattle.uc_lower_stmt.specs.Handling.{EntersHandler, LowersHandler}
 use Rattle.uc_lower_stmt.specs.Marked.{objects_in, taken}
-use Rattle.uc_lower_stmt.specs.Scoped.{Lowers, LowersStmts, sizes_at}
-use Rattle.uc_lower_stmt.proofs.Guarding.{from_lowers, guards_objects, guards_routine}
+use Rattle.uc_lower_stmt.specs.LowersStatement.{Lowers, LowersStmts, sizes_at}
+use Rattle.uc_lower_stmt.proofs.GuardingLemmas.{from_lowers, guards_objects, guards_routine}
 use Rattle.uc_lower_stmt.proofs.Scoping as scoping
 
 -- a draft of a routine of the program has room for so many ops, cells, scopes and text literals more

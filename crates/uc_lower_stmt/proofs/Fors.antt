@@ -21,7 +21,7 @@ use Rattle.uc_code.specs.declared.op.Op.TheVariants as op
 use Rattle.uc_code.specs.declared.draft_parts.Outside.{Outside}
 use Rattle.uc_code.specs.Drafts.{Draft}
 use Rattle.uc_code.specs.Lowered.{StmtAt}
-use Rattle.uc_lower_expr.specs.Added.{Adds, ExprCode, OpCode}
+use Rattle.uc_lower_expr.specs.DraftGrowth.{Adds, ExprCode, OpCode}
 use Rattle.uc_lower_expr.specs.Contexts.{context_in}
 use Rattle.uc_lower_expr.proofs.Adding.{adds_both}
 use Rattle.uc_lower_expr.proofs.Settled.{expr_stable}
@@ -29,7 +29,7 @@ use Rattle.uc_lower_stmt.specs.declared.turning.Turning.{Turning}
 use Rattle.uc_lower_stmt.specs.Blocks.{EndsScopes}
 use Rattle.uc_lower_stmt.specs.Control.{LaysDeclaration, LaysStart, LowersFor, LowersLoop, loop_meant, turning_order, turning_size, turning_test}
 use Rattle.uc_lower_stmt.specs.Marked.{objects_in}
-use Rattle.uc_lower_stmt.specs.Scoped.{Lowers, scope_of}
+use Rattle.uc_lower_stmt.specs.LowersStatement.{Lowers, scope_of}
 use Rattle.uc_lower_stmt.proofs.Growth.{exits_grow}
 use Rattle.uc_lower_stmt.proofs.Joined.{lowers_adds, lowers_as, lowers_nothing}
 use Rattle.uc_lower_stmt.proofs.Laying.{lays_as, lays_ended, lays_join, lays_one}

@@ -2,12 +2,12 @@
 use Rattle.std.proofs.Common.{◌≡◌, ℕ, ◌+◌, ◌≤◌, length, refl, ap, sym, subst, ◌∙◌, arith}
 use Rattle.uc_resolve.specs.Resolve.{Scope}
 use Rattle.uc_code.specs.Drafts.{Draft}
-use Rattle.uc_code.specs.Laid.{Laid, laid_in}
-use Rattle.uc_code.specs.Ranges.{Nothing, Both, Stable}
-use Rattle.uc_code.specs.Puts.{Puts}
+use Rattle.uc_code.specs.Layout.{Laid, laid_in}
+use Rattle.uc_code.specs.CodeShapes.{Nothing, Both, Stable}
+use Rattle.uc_code.specs.Emits.{Puts}
 use Rattle.uc_code.proofs.Stable.{kept_refl, kept_then, kept_same}
-use Rattle.uc_lower_expr.specs.Added.{Adds}
-use Rattle.uc_lower_stmt.specs.Scoped.{Lowers, scope_of}
+use Rattle.uc_lower_expr.specs.DraftGrowth.{Adds}
+use Rattle.uc_lower_stmt.specs.LowersStatement.{Lowers, scope_of}
 
 pub lowers_adds : {n : ℕ} {S : Laid → ℕ → ℕ → Type 0} {old new : Draft} → (k c : ℕ) → Adds n S old new → Lowers n k c 0 S (scope_of old) old new
 lowers_adds {n} {S} {old} {new} k c h = record {

@@ -1,16 +1,16 @@
 -- The code of statements goes on standing where its own range does not change.
 use Rattle.std.proofs.Common.{ℕ, ◌+◌, pos, Bool, true, false, List, [], ◌∷◌, Option, Some, None, length}
-use Rattle.uc_tree.specs.Source.{Expr, CleanUp, Item, Show, ShowText, Target, Declared, Stmt, Skip, Block, Whole, Evaluate, Declare, Print, PrintTogether, Read, If, Loop, Break, Continue, Return, Fill, OfEvents, OfTasks, TaskStmt, Resume, Suspend, SetUp, Enliven, TakeDown, Yield, Migrate, Accept, EventStmt, Throw, Raise, Try, RaiseAt, Enable, Disable, Raised, Plainly, BuiltAt as BuildsAt, AgainFrom, Handlers, NoHandlers, MoreHandlers, Stmts, Nil, Then, Scoped, Built, Way, ToBreak, ToContinue, ToReturn, ToEnd}
+use Rattle.uc_tree.specs.Source.{Expr, CleanUp, Item, Show, ShowText, Target, Declared, Stmt, Skip, Block, Whole, Evaluate, Declare, Print, PrintTogether, Read, If, Loop, Break, Continue, Return, Owes, Fill, OfEvents, OfTasks, TaskStmt, Resume, Suspend, SetUp, Enliven, TakeDown, Yield, Migrate, Accept, EventStmt, Throw, Raise, Try, RaiseAt, Enable, Disable, Raised, Plainly, BuiltAt as BuildsAt, AgainFrom, Handlers, NoHandlers, MoreHandlers, Stmts, Nil, Then, Scoped, Built, Way, ToBreak, ToContinue, ToReturn, ToEnd}
 use Rattle.uc_code.specs.declared.op.Op.{Op}
 use Rattle.uc_code.specs.declared.op.Op.TheVariants as op
 use Rattle.uc_code.specs.declared.rows.Mark.{Mark}
 use Rattle.uc_code.specs.declared.rows.Mark.TheVariants as mark
 use Rattle.uc_tree.specs.Hidden.{EVENT_FIELDS}
-use Rattle.uc_code.specs.Ranges.{Both, HandledAt, Stable, main_end}
-use Rattle.uc_code.specs.Laid.{Laid, handlers}
+use Rattle.uc_code.specs.CodeShapes.{Both, HandledAt, Stable, main_end}
+use Rattle.uc_code.specs.Layout.{Laid, handlers}
 use Rattle.uc_code.specs.declared.rows.ObjectCall.{ObjectCall}
 use Rattle.uc_code.specs.Lowered.{item_op, ExprAt, ValueAt, PiecesAt, StepAt, Any, ExitAt, CallBuilt, CallDone, CleanAt, FilledAt, ScopedAt, BuiltAt, TaskAt, StmtAt, StmtsAt, RaisedAt, KeepAt, KeepsAt, HandlerBy, NamedAt, EventAt, HandlersAt, handler_of, handler_rows}
-use Rattle.uc_code.proofs.Stable.{nothing_stable, never_stable, one_stable, risk_stable, turns_stable, whole_stable, guarded_stable, handled_stable, apart_stable, elements_stable, scope_stable, behind_part_stable}
+use Rattle.uc_code.proofs.Stable.{nothing_stable, never_stable, one_stable, risk_stable, poll_stable, turns_stable, whole_stable, guarded_stable, handled_stable, apart_stable, elements_stable, scope_stable, behind_part_stable}
 use Rattle.uc_code.proofs.Putting.{clean_stable, done_stable}
 use Rattle.uc_lower_expr.proofs.Settled.{both, fork, expr_stable}
 use Rattle.uc_lower_stmt.specs.Objects.{FillCode}
@@ -156,8 +156,8 @@ named_stable event B b = record {
 }
 
 task_stable : (ms : List Mark) (s : TaskStmt) → Stable (λ code. TaskAt code ms s)
-task_stable ms (Resume line) = both (one_stable op.Resume line) (risk_stable ms op.Land line)
-task_stable ms (Suspend line) = both (one_stable op.Suspend line) (risk_stable ms op.Land line)
+task_stable ms (Resume line) = both (one_stable op.Resume line) (both (risk_stable ms op.Land line) (poll_stable ms line))
+task_stable ms (Suspend line) = both (one_stable op.Suspend line) (both (risk_stable ms op.Land line) (poll_stable ms line))
 task_stable ms (SetUp r) = one_stable (op.Coroutine r) 0
 task_stable ms Enliven = one_stable op.Live 0
 task_stable ms TakeDown = one_stable op.UnwindCoroutine 0
@@ -182,6 +182,7 @@ mutual
   stmt_stable ms (Continue line) = exit_stable ToContinue ms
   stmt_stable ms (Return line None) = exit_stable ToEnd ms
   stmt_stable ms (Return line (Some e)) = both (expr_stable line ms e) (exit_stable ToReturn ms)
+  stmt_stable ms (Owes line) = never_stable
   stmt_stable ms (Fill line n b d) = filled_stable line ms n b d
   stmt_stable ms (OfEvents s) = event_stable ms s
   stmt_stable ms (OfTasks s) = task_stable ms s
@@ -198,8 +199,8 @@ mutual
   event_stable ms (Try line body hs) =
       guarded_stable line (handler_rows hs) ms (λ code ns. StmtsAt code ns line body) (λ code first exit. HandlersAt code ms first exit hs) (λ ns. stmts_stable ns line body) (λ first exit. handlers_stable ms first exit hs)
   event_stable ms (RaiseAt line r e) = never_stable
-  event_stable ms (Enable line events s) = never_stable
-  event_stable ms (Disable line events s) = never_stable
+  event_stable ms (Enable line events cell s) = never_stable
+  event_stable ms (Disable line events cell s) = never_stable
 
   pub handlers_stable : (ms : List Mark) (first exit : ℕ) (hs : Handlers) → Stable (λ code. HandlersAt code ms first exit hs)
   handlers_stable ms first exit NoHandlers = nothing_stable

@@ -4,14 +4,14 @@ use Rattle.uc_tree.specs.Source.{Stmt, Stmts, Nil, Then}
 use Rattle.uc_resolve.specs.Resolve.{Scope}
 use Rattle.uc_code.specs.declared.rows.Mark.{Mark}
 use Rattle.uc_code.specs.Drafts.{Draft}
-use Rattle.uc_code.specs.Laid.{Laid, laid_in, routine_in}
+use Rattle.uc_code.specs.Layout.{Laid, laid_in, routine_in}
 use Rattle.uc_code.specs.Lowered.{StmtAt, StmtsAt}
 use Rattle.uc_code.proofs.Stable.{kept_refl, kept_then}
 use Rattle.uc_lower_stmt.specs.Blocks.{BlockStands, EndsScopes}
 use Rattle.uc_lower_stmt.specs.Marked.{objects_in}
-use Rattle.uc_lower_stmt.specs.Pending.{Does, block_of, Pending, Begins, Done, Lays}
-use Rattle.uc_lower_stmt.specs.Scoped.{Lowers, scope_of}
-use Rattle.uc_lower_stmt.proofs.Blocks.{block_join, none_join, pending_join, pending_kept, pending_routine}
+use Rattle.uc_lower_stmt.specs.OpenScopes.{Does, block_of, Pending, Begins, Done, Lays}
+use Rattle.uc_lower_stmt.specs.LowersStatement.{Lowers, scope_of}
+use Rattle.uc_lower_stmt.proofs.BlocksLemmas.{block_join, none_join, pending_join, pending_kept, pending_routine}
 
 pub lays_nothing : (line : ℕ) (old : Draft) → Lays 0 0 0 0 0 line (λ ss. ss) (scope_of old) old old
 lays_nothing line old = record {

@@ -1,4 +1,4 @@
-pub mod Blocks
+pub mod BlocksLemmas
 pub mod Building
 pub mod Choosing
 pub mod Counted
@@ -8,8 +8,8 @@ pub mod Filling
 pub mod Fitting
 pub mod Fors
 pub mod Growth
-pub mod Guarding
-pub mod Handling
+pub mod GuardingLemmas
+pub mod HandlingLemmas
 pub mod Joined
 pub mod Kept
 pub mod Laying
@@ -18,8 +18,8 @@ pub mod Opened
 pub mod Openings
 pub mod Parting
 pub mod Printing
-pub mod Raising
-pub mod Routines
+pub mod RaisingLemmas
+pub mod RoutinesLemmas
 pub mod Scoping
 pub mod Shaping
 pub mod Stating

@@ -13,7 +13,7 @@ use Rattle.uc_tree.specs.StatementSizes.{start_size, declarator_size, declarator
 use Rattle.uc_tree.specs.Cells.{declared_cells, declarators_cells}
 use Rattle.uc_tree.specs.Numbering.{routines_of}
 use Rattle.uc_tree.specs.Programs.{Program}
-use Rattle.uc_tree.specs.Objects.{written_at}
+use Rattle.uc_tree.specs.Objects.{APlain, written_at}
 use Rattle.uc_tree.specs.Source.{Expr, Variable, CleanUp, Stmt, Stmts, Declare}
 use Rattle.uc_resolve.specs.Resolve.{Scope, Context, Meant, args_meant, context_at, length_of, start_args, declared_known, with_declared, with_all, object_scoped, objects_scoped, build, clean_up}
 use Rattle.uc_code.specs.declared.op.Op.TheVariants as op
@@ -26,20 +26,20 @@ use Rattle.uc_code.specs.declared.rows.Opening.TheVariants as opening
 use Rattle.uc_code.specs.declared.rows.Spot.{Spot}
 use Rattle.uc_code.specs.declared.rows.Spot.TheVariants.{Local}
 use Rattle.uc_code.specs.Drafts.{Draft}
-use Rattle.uc_code.specs.Laid.{laid_in, routine_in}
+use Rattle.uc_code.specs.Layout.{laid_in, routine_in}
 use Rattle.uc_code.specs.ObjectCalls.{BeginsAt, InFrame, Cleans}
-use Rattle.uc_code.specs.Open.{StandsBehind, CleansBehind, opened}
-use Rattle.uc_code.specs.Puts.{Puts}
-use Rattle.uc_code.specs.Ranges.{One, Kept}
+use Rattle.uc_code.specs.OpenRows.{StandsBehind, CleansBehind, opened}
+use Rattle.uc_code.specs.Emits.{Puts}
+use Rattle.uc_code.specs.CodeShapes.{One, Kept}
 use Rattle.uc_code.specs.Lowered.{StmtAt}
 use Rattle.uc_code.proofs.Stable.{kept_then, kept_piece, one_stable}
-use Rattle.uc_lower_expr.specs.Added.{Adds, OpCode}
+use Rattle.uc_lower_expr.specs.DraftGrowth.{Adds, OpCode}
 use Rattle.uc_lower_expr.specs.Contexts.{context_in}
 use Rattle.uc_lower_expr.specs.Members.{routine_by, routine_for}
 use Rattle.uc_lower_stmt.specs.Blocks.{AllStandBehind, started_args}
 use Rattle.uc_lower_stmt.specs.Objects.{build_room, call_by}
-use Rattle.uc_lower_stmt.specs.Pending.{Does, Opens, Begins, Done, Opened, Lays}
-use Rattle.uc_lower_stmt.specs.Scoped.{scope_of}
+use Rattle.uc_lower_stmt.specs.OpenScopes.{Does, Opens, Begins, Done, Opened, Lays}
+use Rattle.uc_lower_stmt.specs.LowersStatement.{scope_of}
 use Rattle.uc_lower_stmt.proofs.Kept.{stmt_stable}
 use Rattle.uc_lower_stmt.proofs.Laying.{lays_as, lays_join, lays_nothing}
 
@@ -75,8 +75,8 @@ room_few (Some n) = omega arith
 module _ (p : Program) (i : ℕ) (b : Base) (d : Declarator) (line block cell cells : ℕ) (elements : Option ℕ) (args : List tree.Expr) (what : Cleaning) (d0 d1 d2 d3 new : Draft)
     (le : cell ≡ d0.cells) (ce : cells ≡ declared_cells p b d) (ne : elements ≡ length_of p d d.len) (ae : (c : Context) → args_meant c (exprs_of args) ≡ started_args c d.start) (few : exprs_size (exprs_of args) ≤ start_size d.start)
     (c1 : Adds 1 (OpCode line (op.Clear cell cells)) d0 d1)
-    (h2 : (place : Expr) → BeginsAt place (Local cell) → Puts (OPS_FOR_SIZE * exprs_size (exprs_of args) + build_room elements) (λ code. StmtAt code d1.marks (build p line i elements place (args_meant (context_in p d1) (exprs_of args)))) d1 d2)
-    (cleans : (place : Expr) → BeginsAt place (Local cell) → Cleans (clean_up p i elements place) what)
+    (h2 : (place : Expr) → BeginsAt place (Local cell) → Puts (OPS_FOR_SIZE * exprs_size (exprs_of args) + build_room elements) (λ code. StmtAt code d1.marks (build p line (APlain i) elements place (args_meant (context_in p d1) (exprs_of args)))) d1 d2)
+    (cleans : (place : Expr) → BeginsAt place (Local cell) → Cleans (clean_up p (APlain i) elements place) what)
     (o3 : d3 ≡ opened (opening.Object what block) d2) (k3 : Kept (laid_in d2) (laid_in d3))
     (e4 : new ≡ record d3 { names = d3.names ++ declared_known p (scope_of d3) b d ∷ []; cells = d3.cells + cells }) where
   abbrev s : Scope
@@ -88,7 +88,7 @@ module _ (p : Program) (i : ℕ) (b : Base) (d : Declarator) (line block cell ce
   abbrev place : BeginsAt (Variable cell) (Local cell)
   place = InFrame cell
 
-  built : Puts (OPS_FOR_SIZE * exprs_size (exprs_of args) + build_room elements) (λ code. StmtAt code d1.marks (build p line i elements (Variable cell) (args_meant (context_in p d1) (exprs_of args)))) d1 d2
+  built : Puts (OPS_FOR_SIZE * exprs_size (exprs_of args) + build_room elements) (λ code. StmtAt code d1.marks (build p line (APlain i) elements (Variable cell) (args_meant (context_in p d1) (exprs_of args)))) d1 d2
   built = h2 (Variable cell) place
 
   abbrev inner : Mark
@@ -134,27 +134,27 @@ module _ (p : Program) (i : ℕ) (b : Base) (d : Declarator) (line block cell ce
   args_are = ap (λ (x : Draft). args_meant (context_in p x) (exprs_of args)) c1.rest ∙ (ae (context_at p s) ∙ args_same p s d.start)
 
   abbrev builds : Stmt
-  builds = build p line i (length_of p d d.len) there (start_args p s d.start)
+  builds = build p line (APlain i) (length_of p d d.len) there (start_args p s d.start)
 
   build_at : StmtAt (laid_in last) d0.marks builds (length d1.ops) (length d2.ops)
   build_at =
-      subst (λ (x : Option ℕ). StmtAt (laid_in last) d0.marks (build p line i x there (start_args p s d.start)) (length d1.ops) (length d2.ops)) ne (
-      subst (λ (x : ℕ). StmtAt (laid_in last) d0.marks (build p line i elements (Variable x) (start_args p s d.start)) (length d1.ops) (length d2.ops)) le (
-      subst (λ (x : List Meant). StmtAt (laid_in last) d0.marks (build p line i elements (Variable cell) x) (length d1.ops) (length d2.ops)) args_are (
-      subst (λ (ms : List Mark). StmtAt (laid_in last) ms (build p line i elements (Variable cell) (args_meant (context_in p d1) (exprs_of args))) (length d1.ops) (length d2.ops)) marks1 (
-      kept_piece (λ k. StmtAt k d1.marks (build p line i elements (Variable cell) (args_meant (context_in p d1) (exprs_of args)))) (stmt_stable d1.marks (build p line i elements (Variable cell) (args_meant (context_in p d1) (exprs_of args))))
+      subst (λ (x : Option ℕ). StmtAt (laid_in last) d0.marks (build p line (APlain i) x there (start_args p s d.start)) (length d1.ops) (length d2.ops)) ne (
+      subst (λ (x : ℕ). StmtAt (laid_in last) d0.marks (build p line (APlain i) elements (Variable x) (start_args p s d.start)) (length d1.ops) (length d2.ops)) le (
+      subst (λ (x : List Meant). StmtAt (laid_in last) d0.marks (build p line (APlain i) elements (Variable cell) x) (length d1.ops) (length d2.ops)) args_are (
+      subst (λ (ms : List Mark). StmtAt (laid_in last) ms (build p line (APlain i) elements (Variable cell) (args_meant (context_in p d1) (exprs_of args))) (length d1.ops) (length d2.ops)) marks1 (
+      kept_piece (λ k. StmtAt k d1.marks (build p line (APlain i) elements (Variable cell) (args_meant (context_in p d1) (exprs_of args)))) (stmt_stable d1.marks (build p line (APlain i) elements (Variable cell) (args_meant (context_in p d1) (exprs_of args))))
       (laid_in d2) (laid_in last) (length d1.ops) (length d2.ops) (omega arith) keep2 built.code))))
 
-  cleaned : Cleans (clean_up p i (length_of p d d.len) there) what
+  cleaned : Cleans (clean_up p (APlain i) (length_of p d d.len) there) what
   cleaned =
-      subst (λ (x : Option ℕ). Cleans (clean_up p i x there) what) ne (
-      subst (λ (x : ℕ). Cleans (clean_up p i elements (Variable x)) what) le (cleans (Variable cell) place))
+      subst (λ (x : Option ℕ). Cleans (clean_up p (APlain i) x there) what) ne (
+      subst (λ (x : ℕ). Cleans (clean_up p (APlain i) elements (Variable x)) what) le (cleans (Variable cell) place))
 
-  pub arm_object : Lays (OPS_FOR_SIZE * declarator_size d) 0 (declared_cells p b d) 1 0 block (object_scoped p i line b d (scope_of d0)) (with_declared p (scope_of d0) b d) d0 new
+  pub arm_object : Lays (OPS_FOR_SIZE * declarator_size d) 0 (declared_cells p b d) 1 0 block (object_scoped p (APlain i) line b d (scope_of d0)) (with_declared p (scope_of d0) b d) d0 new
   arm_object =
       let declares : Stmt = Declare line (record { cell = s.cells; cells = declared_cells p b d; value = None } ∷ []) in
-      let c : CleanUp = clean_up p i (length_of p d d.len) there in
-      subst (λ (x : Draft). Lays (OPS_FOR_SIZE * declarator_size d) 0 (declared_cells p b d) 1 0 block (object_scoped p i line b d (scope_of d0)) (with_declared p (scope_of d0) b d) d0 x) (sym new_is) (record {
+      let c : CleanUp = clean_up p (APlain i) (length_of p d d.len) there in
+      subst (λ (x : Draft). Lays (OPS_FOR_SIZE * declarator_size d) 0 (declared_cells p b d) 1 0 block (object_scoped p (APlain i) line b d (scope_of d0)) (with_declared p (scope_of d0) b d) d0 x) (sym new_is) (record {
         rest = refl;
         scope = refl;
         opened = omega arith;
@@ -172,9 +172,9 @@ module _ (p : Program) (i : ℕ) (b : Base) (d : Declarator) (line block cell ce
 
 -- one object after another
 
-objects_push : (p : Program) (i line : ℕ) (b : Base) (xs : List Declarator) (x : Declarator) (s : Scope) (ss : Stmts) → objects_scoped p i line b xs s (object_scoped p i line b x (with_all p s b xs) ss) ≡ objects_scoped p i line b (xs ++ x ∷ []) s ss
+objects_push : (p : Program) (i line : ℕ) (b : Base) (xs : List Declarator) (x : Declarator) (s : Scope) (ss : Stmts) → objects_scoped p (APlain i) line b xs s (object_scoped p (APlain i) line b x (with_all p s b xs) ss) ≡ objects_scoped p (APlain i) line b (xs ++ x ∷ []) s ss
 objects_push p i line b [] x s ss = refl
-objects_push p i line b (d ∷ ds) x s ss = ap (λ (r : Stmts). object_scoped p i line b d s r) (objects_push p i line b ds x (with_declared p s b d) ss)
+objects_push p i line b (d ∷ ds) x s ss = ap (λ (r : Stmts). object_scoped p (APlain i) line b d s r) (objects_push p i line b ds x (with_declared p s b d) ss)
 
 with_push : (p : Program) (b : Base) (xs : List Declarator) (x : Declarator) (s : Scope) → with_declared p (with_all p s b xs) b x ≡ with_all p s b (xs ++ x ∷ [])
 with_push p b [] x s = refl
@@ -189,26 +189,26 @@ cells_push f [] x = omega arith
 cells_push f (d ∷ ds) x = omega (arith, cells_push f ds x)
 
 pub objects_step : (p : Program) (i : ℕ) (b : Base) (xs : List Declarator) (k : ℕ) (x : Declarator) (line block : ℕ) (old mid new : Draft) → k < length xs → x ≡ get_or xs k x
-    → Lays (OPS_FOR_SIZE * declarators_size (take k xs)) 0 (declarators_cells (declared_cells p b) (take k xs)) (length (take k xs)) 0 block (objects_scoped p i line b (take k xs) (scope_of old)) (with_all p (scope_of old) b (take k xs)) old mid
-    → Lays (OPS_FOR_SIZE * declarator_size x) 0 (declared_cells p b x) 1 0 block (object_scoped p i line b x (scope_of mid)) (with_declared p (scope_of mid) b x) mid new
-    → Lays (OPS_FOR_SIZE * declarators_size (take (k + 1) xs)) 0 (declarators_cells (declared_cells p b) (take (k + 1) xs)) (length (take (k + 1) xs)) 0 block (objects_scoped p i line b (take (k + 1) xs) (scope_of old)) (with_all p (scope_of old) b (take (k + 1) xs)) old new
+    → Lays (OPS_FOR_SIZE * declarators_size (take k xs)) 0 (declarators_cells (declared_cells p b) (take k xs)) (length (take k xs)) 0 block (objects_scoped p (APlain i) line b (take k xs) (scope_of old)) (with_all p (scope_of old) b (take k xs)) old mid
+    → Lays (OPS_FOR_SIZE * declarator_size x) 0 (declared_cells p b x) 1 0 block (object_scoped p (APlain i) line b x (scope_of mid)) (with_declared p (scope_of mid) b x) mid new
+    → Lays (OPS_FOR_SIZE * declarators_size (take (k + 1) xs)) 0 (declarators_cells (declared_cells p b) (take (k + 1) xs)) (length (take (k + 1) xs)) 0 block (objects_scoped p (APlain i) line b (take (k + 1) xs) (scope_of old)) (with_all p (scope_of old) b (take (k + 1) xs)) old new
 objects_step p i b xs k x line block old mid new l e g h =
     let ys : List Declarator = take k xs in
     let s : Scope = scope_of old in
     let split : ys ++ x ∷ [] ≡ take (k + 1) xs = ap (λ (y : Declarator). ys ++ y ∷ []) e ∙ sym (take_more xs k x l) in
-    let h1 : Lays (OPS_FOR_SIZE * declarator_size x) 0 (declared_cells p b x) 1 0 block (object_scoped p i line b x (with_all p s b ys)) (with_declared p (with_all p s b ys) b x) mid new =
-    subst (λ (t : Scope). Lays (OPS_FOR_SIZE * declarator_size x) 0 (declared_cells p b x) 1 0 block (object_scoped p i line b x t) (with_declared p t b x) mid new) g.scope h in
+    let h1 : Lays (OPS_FOR_SIZE * declarator_size x) 0 (declared_cells p b x) 1 0 block (object_scoped p (APlain i) line b x (with_all p s b ys)) (with_declared p (with_all p s b ys) b x) mid new =
+    subst (λ (t : Scope). Lays (OPS_FOR_SIZE * declarator_size x) 0 (declared_cells p b x) 1 0 block (object_scoped p (APlain i) line b x t) (with_declared p t b x) mid new) g.scope h in
     let long = length-append ys (x ∷ []) in
-    subst (λ (zs : List Declarator). Lays (OPS_FOR_SIZE * declarators_size zs) 0 (declarators_cells (declared_cells p b) zs) (length zs) 0 block (objects_scoped p i line b zs s) (with_all p s b zs) old new) split (
+    subst (λ (zs : List Declarator). Lays (OPS_FOR_SIZE * declarators_size zs) 0 (declarators_cells (declared_cells p b) zs) (length zs) 0 block (objects_scoped p (APlain i) line b zs s) (with_all p s b zs) old new) split (
     lays_as (lays_join g h1) (with_push p b ys x s) (λ ss. objects_push p i line b ys x s ss) (omega (arith, sizes_push ys x)) (omega arith) (omega (arith, cells_push (declared_cells p b) ys x)) (omega (arith, long)) (omega arith))
 
 pub objects_start : (p : Program) (i : ℕ) (b : Base) (xs : List Declarator) (line block : ℕ) (old : Draft)
-    → Lays (OPS_FOR_SIZE * declarators_size (take 0 xs)) 0 (declarators_cells (declared_cells p b) (take 0 xs)) (length (take 0 xs)) 0 block (objects_scoped p i line b (take 0 xs) (scope_of old)) (with_all p (scope_of old) b (take 0 xs)) old old
+    → Lays (OPS_FOR_SIZE * declarators_size (take 0 xs)) 0 (declarators_cells (declared_cells p b) (take 0 xs)) (length (take 0 xs)) 0 block (objects_scoped p (APlain i) line b (take 0 xs) (scope_of old)) (with_all p (scope_of old) b (take 0 xs)) old old
 objects_start p i b [] line block old = lays_as (lays_nothing block old) refl (λ ss. refl) (omega arith) (omega arith) (omega arith) (omega arith) (omega arith)
 objects_start p i b (x ∷ xs) line block old = lays_as (lays_nothing block old) refl (λ ss. refl) (omega arith) (omega arith) (omega arith) (omega arith) (omega arith)
 
 pub objects_end : (p : Program) (i : ℕ) (b : Base) (xs : List Declarator) (n line block : ℕ) (old new : Draft) → length xs ≤ n
-    → Lays (OPS_FOR_SIZE * declarators_size (take n xs)) 0 (declarators_cells (declared_cells p b) (take n xs)) (length (take n xs)) 0 block (objects_scoped p i line b (take n xs) (scope_of old)) (with_all p (scope_of old) b (take n xs)) old new
-    → Lays (OPS_FOR_SIZE * declarators_size xs) 0 (declarators_cells (declared_cells p b) xs) (length xs) 0 block (objects_scoped p i line b xs (scope_of old)) (with_all p (scope_of old) b xs) old new
+    → Lays (OPS_FOR_SIZE * declarators_size (take n xs)) 0 (declarators_cells (declared_cells p b) (take n xs)) (length (take n xs)) 0 block (objects_scoped p (APlain i) line b (take n xs) (scope_of old)) (with_all p (scope_of old) b (take n xs)) old new
+    → Lays (OPS_FOR_SIZE * declarators_size xs) 0 (declarators_cells (declared_cells p b) xs) (length xs) 0 block (objects_scoped p (APlain i) line b xs (scope_of old)) (with_all p (scope_of old) b xs) old new
 objects_end p i b xs n line block old new l h =
-    subst (λ (zs : List Declarator). Lays (OPS_FOR_SIZE * declarators_size zs) 0 (declarators_cells (declared_cells p b) zs) (length zs) 0 block (objects_scoped p i line b zs (scope_of old)) (with_all p (scope_of old) b zs) old new) (take_all n xs l) h
+    subst (λ (zs : List Declarator). Lays (OPS_FOR_SIZE * declarators_size zs) 0 (declarators_cells (declared_cells p b) zs) (length zs) 0 block (objects_scoped p (APlain i) line b zs (scope_of old)) (with_all p (scope_of old) b zs) old new) (take_all n xs l) h

@@ -9,7 +9,7 @@ use Rattle.uc_tree.specs.Statements.{MaybeStmt, NoStmt}
 use Rattle.uc_tree.specs.StatementSizes.{maybe_expr_size}
 use Rattle.uc_code.specs.declared.op.Op.TheVariants as op
 use Rattle.uc_code.specs.Drafts.{Draft}
-use Rattle.uc_lower_expr.specs.Added.{Adds, ExprCode, OpCode}
+use Rattle.uc_lower_expr.specs.DraftGrowth.{Adds, ExprCode, OpCode}
 use Rattle.uc_lower_expr.specs.Contexts.{context_in}
 use Rattle.uc_lower_expr.proofs.Adding.{adds_nothing, adds_more, adds_both}
 use Rattle.uc_lower_expr.proofs.Settled.{expr_stable}
@@ -17,7 +17,7 @@ use Rattle.uc_lower_expr.proofs.Walks.{some_size}
 use Rattle.uc_lower_stmt.specs.declared.turning.Turning.{Turning}
 use Rattle.uc_lower_stmt.specs.declared.turning.Turning.TheVariants as turning
 use Rattle.uc_lower_stmt.specs.Control.{StepCode, BackCode, LowersMaybe, turning_size}
-use Rattle.uc_lower_stmt.specs.Scoped.{scope_of}
+use Rattle.uc_lower_stmt.specs.LowersStatement.{scope_of}
 use Rattle.uc_lower_stmt.proofs.Joined.{lowers_as, lowers_nothing}
 
 -- the step

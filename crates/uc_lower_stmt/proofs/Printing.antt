@@ -24,8 +24,8 @@ use Rattle.uc_code.specs.declared.op.Op.{Op}
 use Rattle.uc_code.specs.declared.op.Op.TheVariants as op
 use Rattle.uc_code.specs.declared.rows.Mark.{Mark}
 use Rattle.uc_code.specs.Drafts.{Draft}
-use Rattle.uc_code.specs.Laid.{Laid, laid_in}
-use Rattle.uc_code.specs.Ranges.{Nothing, One, Both}
+use Rattle.uc_code.specs.Layout.{Laid, laid_in}
+use Rattle.uc_code.specs.CodeShapes.{Nothing, One, Both}
 use Rattle.uc_code.specs.Lowered.{item_op, ExprAt, ItemsAt, ValuesAt, PiecesAt, TargetsAt}
 use Rattle.uc_code.proofs.Stable.{one_stable, kept_refl}
 use Rattle.uc_lower_expr.specs.declared.meaning.Scalar.{Scalar}
@@ -33,10 +33,10 @@ use Rattle.uc_lower_expr.specs.declared.meaning.Scalar.TheVariants as scalar
 use Rattle.uc_lower_expr.specs.declared.meaning.Meaning.{Meaning}
 use Rattle.uc_lower_expr.specs.Meanings.{shape_as, Tells}
 use Rattle.uc_lower_expr.specs.Contexts.{context_in}
-use Rattle.uc_lower_expr.specs.Added.{Adds, ExprCode, OpCode}
+use Rattle.uc_lower_expr.specs.DraftGrowth.{Adds, ExprCode, OpCode}
 use Rattle.uc_lower_expr.proofs.Adding.{adds_more, adds_as, adds_both, adds_nothing}
 use Rattle.uc_lower_expr.proofs.Settled.{expr_stable}
-use Rattle.uc_lower_stmt.specs.Scoped.{Lowers, scope_of}
+use Rattle.uc_lower_stmt.specs.LowersStatement.{Lowers, scope_of}
 use Rattle.uc_lower_stmt.specs.Pieces.{ItemsCode, ValuesCode, PiecesCode, TogetherCode, TargetsCode, form_as}
 use Rattle.uc_lower_stmt.proofs.Kept.{items_stable, values_stable, pieces_stable, ops_stable, targets_stable}
 use Rattle.uc_lower_stmt.proofs.Joined.{lowers_adds, lowers_as, lowers_join, lowers_put}
@@ -68,6 +68,7 @@ unfolding form_in
 form_as_shape scalar.Number = refl
 form_as_shape scalar.Character = refl
 form_as_shape scalar.Truth = refl
+form_as_shape scalar.Binding = refl
 
 pub form_told : (p : Program) (m : Meant) (t : Meaning) → Tells p t m → form_as t.scalar ≡ form_of m.ty.base
 form_told p m t u = form_as_shape t.scalar ∙ sym (ap form_in u.shape) ∙ sym (form_of_shape m.ty.base)

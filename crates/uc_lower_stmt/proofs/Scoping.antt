@@ -9,8 +9,8 @@ use Rattle.uc_tree.specs.Programs.{Program}
 use Rattle.uc_resolve.specs.Resolve.{Scope, with_declared, with_all, declared_known, names_behind, scope_after, scope_behind, for_scope}
 use Rattle.uc_code.specs.declared.draft_parts.Outside.{Outside}
 use Rattle.uc_code.specs.Drafts.{Draft}
-use Rattle.uc_code.specs.Laid.{Laid}
-use Rattle.uc_lower_stmt.specs.Scoped.{Lowers, LowersStmt, scope_of}
+use Rattle.uc_code.specs.Layout.{Laid}
+use Rattle.uc_lower_stmt.specs.LowersStatement.{Lowers, LowersStmt, scope_of}
 use Rattle.uc_lower_stmt.specs.Control.{is_declaration, LowersAlone}
 use Rattle.uc_lower_stmt.proofs.Joined.{lowers_as}
 

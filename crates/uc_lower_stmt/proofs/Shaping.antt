@@ -6,13 +6,13 @@ use Rattle.uc_resolve.specs.Resolve.{Scope}
 use Rattle.uc_code.specs.declared.op.Op.TheVariants as op
 use Rattle.uc_code.specs.declared.rows.Mark.{Mark}
 use Rattle.uc_code.specs.Drafts.{Draft, patched}
-use Rattle.uc_code.specs.Laid.{Laid, laid_in}
-use Rattle.uc_code.specs.Open.{left_marks}
-use Rattle.uc_code.specs.Ranges.{OpAt, One, Both, Fork, pads_at, begin_at, BackAt, Turns, Same, Kept, Stable}
+use Rattle.uc_code.specs.Layout.{Laid, laid_in}
+use Rattle.uc_code.specs.OpenRows.{left_marks}
+use Rattle.uc_code.specs.CodeShapes.{OpAt, One, Both, Fork, pads_at, begin_at, BackAt, Turns, Same, Kept, Stable}
 use Rattle.uc_code.proofs.Stable.{back_stable, same_then, kept_then, kept_same}
 use Rattle.uc_code.proofs.Patches.{bare_stays, length-patched, patched_at, same_before, same_after}
-use Rattle.uc_lower_expr.specs.Added.{Adds}
-use Rattle.uc_lower_stmt.specs.Scoped.{Lowers}
+use Rattle.uc_lower_expr.specs.DraftGrowth.{Adds}
+use Rattle.uc_lower_stmt.specs.LowersStatement.{Lowers}
 use Rattle.uc_lower_stmt.specs.Control.{BeginCode}
 
 -- code with at most n ops more, for which S holds

@@ -26,20 +26,20 @@ use Rattle.uc_code.specs.declared.rows.Mark.TheVariants as mark
 use Rattle.uc_code.specs.declared.rows.Way.TheVariants as way
 use Rattle.uc_code.specs.declared.draft_parts.Outside.{Outside}
 use Rattle.uc_code.specs.Drafts.{Draft}
-use Rattle.uc_code.specs.Leaving.{way_of}
+use Rattle.uc_code.specs.Exits.{way_of}
 use Rattle.uc_code.specs.Lowered.{ExitAt}
-use Rattle.uc_code.specs.Open.{exit_room}
-use Rattle.uc_code.specs.Puts.{Puts}
+use Rattle.uc_code.specs.OpenRows.{exit_room}
+use Rattle.uc_code.specs.Emits.{Puts}
 use Rattle.uc_code.proofs.Putting.{puts_both}
 use Rattle.uc_lower_expr.specs.declared.meaning.Scalar.{Scalar}
 use Rattle.uc_lower_expr.specs.Contexts.{context_in}
 use Rattle.uc_lower_expr.specs.Meanings.{shape_as}
-use Rattle.uc_lower_expr.specs.Added.{Adds, ExprCode, ConvertCode, OpCode}
+use Rattle.uc_lower_expr.specs.DraftGrowth.{Adds, ExprCode, ConvertCode, OpCode}
 use Rattle.uc_lower_expr.proofs.Adding.{adds_as, adds_both}
 use Rattle.uc_lower_expr.proofs.Arms.{converted_at}
 use Rattle.uc_lower_expr.proofs.Settled.{expr_stable}
 use Rattle.uc_lower_stmt.specs.declared.turning.Turning.TheVariants as turning
-use Rattle.uc_lower_stmt.specs.Scoped.{Lowers, LowersStmt, LowersStmts, scope_of}
+use Rattle.uc_lower_stmt.specs.LowersStatement.{Lowers, LowersStmt, LowersStmts, scope_of}
 use Rattle.uc_lower_stmt.specs.Marked.{objects_in}
 use Rattle.uc_lower_stmt.specs.Pieces.{ItemsCode, TogetherCode, TargetsCode}
 use Rattle.uc_lower_stmt.specs.Control.{ReturnCode, LowersDeclaration, LowersIf, LowersLoop, LowersFor, maybe_past, for_past}

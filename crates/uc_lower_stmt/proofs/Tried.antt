@@ -20,20 +20,20 @@ use Rattle.uc_code.specs.declared.op.Op.{Op}
 use Rattle.uc_code.specs.declared.op.Op.TheVariants as op
 use Rattle.uc_code.specs.declared.rows.Mark.{Mark}
 use Rattle.uc_code.specs.Drafts.{Draft, patched}
-use Rattle.uc_code.specs.Laid.{Laid, guards, laid_in}
+use Rattle.uc_code.specs.Layout.{Laid, guards, laid_in}
 use Rattle.uc_code.specs.Lowered.{HandlersAt, StmtsAt, handler_rows}
-use Rattle.uc_code.specs.Ranges.{Guarded, Kept, OpAt, Same}
+use Rattle.uc_code.specs.CodeShapes.{Guarded, Kept, OpAt, Same}
 use Rattle.uc_code.proofs.Patches.{bare_stays, handler_stays, length-patched, patched_at, same_after, same_before}
 use Rattle.uc_code.proofs.Stable.{kept_piece, kept_then, part}
-use Rattle.uc_lower_expr.specs.Added.{Adds, OpCode}
+use Rattle.uc_lower_expr.specs.DraftGrowth.{Adds, OpCode}
 use Rattle.uc_code.specs.Guarding.{ClosesGuards, OpensGuards}
 use Rattle.uc_lower_stmt.specs.Guarding.{LowersFrom}
 use Rattle.uc_lower_stmt.specs.Handling.{LowersHandlers, LowersTry, past_handlers}
 use Rattle.uc_lower_stmt.specs.Marked.{objects_in}
-use Rattle.uc_lower_stmt.specs.Scoped.{Lowers, LowersStmt, LowersStmts, scope_of, sizes_at}
+use Rattle.uc_lower_stmt.specs.LowersStatement.{Lowers, LowersStmt, LowersStmts, scope_of, sizes_at}
 use Rattle.uc_lower_stmt.proofs.Counted.{behind_counted, counted, counted_as, nothing_counted}
-use Rattle.uc_lower_stmt.proofs.Guarding.{guards_objects, kept_under, under_same}
-use Rattle.uc_lower_stmt.proofs.Handling.{from_as, rows_are}
+use Rattle.uc_lower_stmt.proofs.GuardingLemmas.{guards_objects, kept_under, under_same}
+use Rattle.uc_lower_stmt.proofs.HandlingLemmas.{from_as, rows_are}
 use Rattle.uc_lower_stmt.proofs.Joined.{lowers_as}
 use Rattle.uc_lower_stmt.proofs.Kept.{handlers_stable, stmts_stable}
 use Rattle.uc_lower_stmt.proofs.Scoping.{back_out, lowers_scoped, opened}

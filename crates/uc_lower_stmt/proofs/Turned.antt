@@ -13,17 +13,17 @@ use Rattle.uc_code.specs.declared.rows.Instruction.{Instruction}
 use Rattle.uc_code.specs.declared.rows.Mark.{Mark}
 use Rattle.uc_code.specs.declared.rows.Mark.TheVariants as mark
 use Rattle.uc_code.specs.Drafts.{Draft, patched}
-use Rattle.uc_code.specs.Laid.{Laid, laid_in}
-use Rattle.uc_code.specs.Open.{left_marks}
-use Rattle.uc_code.specs.Ranges.{Stable, pads_at, begin_at, BackAt, Turns}
+use Rattle.uc_code.specs.Layout.{Laid, laid_in}
+use Rattle.uc_code.specs.OpenRows.{left_marks}
+use Rattle.uc_code.specs.CodeShapes.{Stable, pads_at, begin_at, BackAt, Turns}
 use Rattle.uc_code.specs.Lowered.{ExprAt, StepAt, StmtAt}
 use Rattle.uc_code.proofs.Stable.{one_stable}
-use Rattle.uc_lower_expr.specs.Added.{Adds}
+use Rattle.uc_lower_expr.specs.DraftGrowth.{Adds}
 use Rattle.uc_lower_expr.proofs.Settled.{both, expr_stable}
 use Rattle.uc_lower_stmt.specs.declared.turning.Turning.{Turning}
 use Rattle.uc_lower_stmt.specs.declared.turning.Turning.TheVariants as turning
 use Rattle.uc_lower_stmt.specs.Marked.{objects_in}
-use Rattle.uc_lower_stmt.specs.Scoped.{scope_of}
+use Rattle.uc_lower_stmt.specs.LowersStatement.{scope_of}
 use Rattle.uc_lower_stmt.specs.Control.{BeginCode, StepCode, BackCode, EndsLoop, LowersAlone, LowersLoop, turning_order, turning_test, turning_size}
 use Rattle.uc_lower_stmt.proofs.Joined.{lowers_adds, lowers_as, lowers_join, lowers_put}
 use Rattle.uc_lower_stmt.proofs.Kept.{stmt_stable, step_stable}

@@ -8,13 +8,13 @@ use Rattle.uc_resolve.specs.Resolve.{Context, Meant, args_meant}
 use Rattle.uc_code.specs.declared.rows.Mark.{Mark}
 use Rattle.uc_code.specs.declared.rows.Mark.TheVariants as mark
 use Rattle.uc_code.specs.Drafts.{Draft}
-use Rattle.uc_code.specs.Laid.{laid_in, routine_in}
-use Rattle.uc_code.specs.Ranges.{Kept}
+use Rattle.uc_code.specs.Layout.{laid_in, routine_in}
+use Rattle.uc_code.specs.CodeShapes.{Kept}
 use Rattle.uc_code.specs.Lowered.{StmtsAt}
 use Rattle.uc_lower_expr.specs.Members.{routine_for}
 use Rattle.uc_lower_stmt.specs.declared.block.ObjectScope.{ObjectScope}
 use Rattle.uc_lower_stmt.specs.Marked.{taken}
-use Rattle.uc_lower_stmt.specs.Pending.{Step, NoParts, Pending, block_of}
+use Rattle.uc_lower_stmt.specs.OpenScopes.{Step, NoParts, Pending, block_of}
 
 -- what builds and destroys the objects of the class with the place i, and nobody wrote, stands further on than the routine of these
 -- marks

@@ -7,7 +7,7 @@ use Rattle.uc_tree.specs.ExpressionSizes.{expr_size}
 use Rattle.uc_tree.specs.Statements.{Declarator, ForStart, Stmt, Declare, MaybeStmt, NoStmt, OneStmt}
 use Rattle.uc_tree.specs.StatementSizes.{declarators_size, for_start_size, maybe_expr_size, maybe_stmt_size, stmt_size}
 use Rattle.uc_tree.specs.Exits.{declares, exits_maybe, for_declares}
-use Rattle.uc_tree.specs.Objects.{plain_class}
+use Rattle.uc_tree.specs.Objects.{making, plain_class}
 use Rattle.uc_tree.specs.Sizes.{size_at}
 use Rattle.uc_tree.specs.Scopes.{alone_scopes, stmt_scopes, maybe_scopes}
 use Rattle.uc_tree.specs.Cells.{declared_cells, declarators_cells, for_cells, stmt_cells, maybe_cells}
@@ -18,15 +18,15 @@ use Rattle.uc_resolve.specs.Resolve.{Scope, context_at, value_in_scope, declared
 use Rattle.uc_code.specs.declared.op.Op.TheVariants as op
 use Rattle.uc_code.specs.declared.rows.Mark.{Mark}
 use Rattle.uc_code.specs.Drafts.{Draft, patched}
-use Rattle.uc_code.specs.Laid.{Laid}
-use Rattle.uc_code.specs.Ranges.{One, Both, begin_at, BackAt}
+use Rattle.uc_code.specs.Layout.{Laid}
+use Rattle.uc_code.specs.CodeShapes.{One, Both, begin_at, BackAt}
 use Rattle.uc_code.specs.Lowered.{ExprAt, StepAt, StmtAt}
 use Rattle.uc_lower_stmt.specs.declared.stmt.Objects.{Objects}
 use Rattle.uc_lower_stmt.specs.declared.turning.Turning.{Turning}
 use Rattle.uc_lower_stmt.specs.declared.turning.Turning.TheVariants as turning
 use Rattle.uc_lower_stmt.specs.Marked.{objects_in}
-use Rattle.uc_lower_stmt.specs.Pending.{Lays}
-use Rattle.uc_lower_stmt.specs.Scoped.{Lowers, scope_of}
+use Rattle.uc_lower_stmt.specs.OpenScopes.{Lays}
+use Rattle.uc_lower_stmt.specs.LowersStatement.{Lowers, scope_of}
 
 -- how a loop turns, by what, and how large that is
 
@@ -110,12 +110,12 @@ DeclaresObjects p s (Some o) = ⊥
 -- a declaration that is a statement of its own
 abbrev pub LowersDeclaration : Program → ℕ → Base → List Declarator → Draft → Draft → Type 0
 LowersDeclaration p line b ds old new =
-    Lowers (OPS_FOR_SIZE * declarators_size ds) 0 (declarators_cells (declared_cells p b) ds) 0 (λ code. StmtAt code old.marks (declared_alone p (plain_class p b) line b ds (scope_of old))) (with_all p (scope_of old) b ds) old new
+    Lowers (OPS_FOR_SIZE * declarators_size ds) 0 (declarators_cells (declared_cells p b) ds) 0 (λ code. StmtAt code old.marks (declared_alone p (making p b) line b ds (scope_of old))) (with_all p (scope_of old) b ds) old new
 
 -- one in a block of a line, and any statement in it
 abbrev pub LaysDeclaration : Program → ℕ → ℕ → Base → List Declarator → Draft → Draft → Type 0
 LaysDeclaration p line block b ds old new =
-    Lays (OPS_FOR_SIZE * declarators_size ds) 0 (declarators_cells (declared_cells p b) ds) (length ds) 0 block (declared_then p (plain_class p b) line b ds (scope_of old)) (with_all p (scope_of old) b ds) old new
+    Lays (OPS_FOR_SIZE * declarators_size ds) 0 (declarators_cells (declared_cells p b) ds) (length ds) 0 block (declared_then p (making p b) line b ds (scope_of old)) (with_all p (scope_of old) b ds) old new
 
 abbrev pub LaysStmt : Program → ℕ → Stmt → Draft → Draft → Type 0
 LaysStmt p block s old new =

@@ -4,9 +4,9 @@ use Rattle.uc_resolve.specs.Resolve.{Scope}
 use Rattle.uc_code.specs.declared.rows.Handler.{Handler}
 use Rattle.uc_code.specs.declared.op.Op.{Op}
 use Rattle.uc_code.specs.Drafts.{Draft}
-use Rattle.uc_code.specs.Laid.{Laid, chain, laid_in}
-use Rattle.uc_code.specs.Ranges.{HandlerAt, IsBare, OpAt}
-use Rattle.uc_lower_stmt.specs.Scoped.{scope_of}
+use Rattle.uc_code.specs.Layout.{Laid, chain, laid_in}
+use Rattle.uc_code.specs.CodeShapes.{HandlerAt, IsBare, OpAt}
+use Rattle.uc_lower_stmt.specs.LowersStatement.{scope_of}
 
 -- what is laid out stays, and so do the rows below this number that have no handler yet
 pub record KeptUnder (first : ℕ) (old new : Laid) : Type 0 where

@@ -12,12 +12,12 @@ use Rattle.uc_tree.specs.Statements as tree
 use Rattle.uc_tree.specs.StatementSizes.{handler_size, handlers_size, stmts_size}
 use Rattle.uc_code.specs.declared.rows.Mark.{Mark}
 use Rattle.uc_code.specs.Drafts.{Draft}
-use Rattle.uc_code.specs.Laid.{Laid, handlers, laid_in}
+use Rattle.uc_code.specs.Layout.{Laid, handlers, laid_in}
 use Rattle.uc_code.specs.Lowered.{EventAt, HandlerBy, HandlersAt, IsNamed, KeepsAt, NamedAt, StmtsAt, handler_of}
-use Rattle.uc_code.specs.Ranges.{Both, HandledAt, HandlerAt}
+use Rattle.uc_code.specs.CodeShapes.{Both, HandledAt, HandlerAt}
 use Rattle.uc_lower_stmt.specs.Guarding.{KeptUnder, LowersFrom}
 use Rattle.uc_lower_stmt.specs.Marked.{objects_in}
-use Rattle.uc_lower_stmt.specs.Scoped.{Lowers, scope_of, sizes_at}
+use Rattle.uc_lower_stmt.specs.LowersStatement.{Lowers, scope_of, sizes_at}
 
 -- one handler
 

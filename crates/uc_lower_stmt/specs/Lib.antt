@@ -5,8 +5,8 @@ pub mod Handling
 pub mod Listed
 pub mod Marked
 pub mod Objects
-pub mod Pending
+pub mod OpenScopes
 pub mod Pieces
 pub mod Raising
 pub mod Routines
-pub mod Scoped
+pub mod LowersStatement

@@ -11,8 +11,8 @@ use Rattle.uc_tree.specs.Source as source
 use Rattle.uc_resolve.specs.Resolve.{Scope, stmt_meant, stmt_then, scope_after, scope_behind}
 use Rattle.uc_code.specs.Drafts.{Draft}
 use Rattle.uc_lower_stmt.specs.Marked.{objects_in}
-use Rattle.uc_lower_stmt.specs.Pending.{Lays}
-use Rattle.uc_lower_stmt.specs.Scoped.{scope_of, sizes_at}
+use Rattle.uc_lower_stmt.specs.OpenScopes.{Lays}
+use Rattle.uc_lower_stmt.specs.LowersStatement.{scope_of, sizes_at}
 
 abbrev pub declares_all : List Stmt → ℕ
 declares_all [] = 0

@@ -10,10 +10,10 @@ use Rattle.uc_code.specs.declared.rows.ObjectCall.{ObjectCall}
 use Rattle.uc_code.specs.declared.rows.Cleaning.{Cleaning}
 use Rattle.uc_code.specs.declared.rows.Spot.{Spot}
 use Rattle.uc_code.specs.Drafts.{Draft}
-use Rattle.uc_code.specs.Laid.{Laid, laid_in}
-use Rattle.uc_code.specs.Open.{CleansBehind, clean_room}
-use Rattle.uc_code.specs.Puts.{clean_length}
-use Rattle.uc_code.specs.Ranges.{OpAt, Both, Risk, HandlerAt, clean_up, OverElements, Kept}
+use Rattle.uc_code.specs.Layout.{Laid, laid_in}
+use Rattle.uc_code.specs.OpenRows.{CleansBehind, clean_room}
+use Rattle.uc_code.specs.Emits.{clean_length}
+use Rattle.uc_code.specs.CodeShapes.{OpAt, Both, Risk, HandlerAt, clean_up, OverElements, Kept}
 use Rattle.uc_code.specs.Lowered.{CallBuilt, CallDone, CleanAt}
 use Rattle.uc_lower_expr.specs.declared.numbering.ClassRoutine.{ClassRoutine}
 

@@ -5,8 +5,8 @@ use Rattle.uc_tree.specs.declared.kinds.ValueForm.TheVariants as value_form
 use Rattle.uc_tree.specs.Source.{Expr, Item, Target, Declared}
 use Rattle.uc_code.specs.declared.op.Op.{Op}
 use Rattle.uc_code.specs.declared.rows.Mark.{Mark}
-use Rattle.uc_code.specs.Laid.{Laid}
-use Rattle.uc_code.specs.Ranges.{Nothing, One, Both}
+use Rattle.uc_code.specs.Layout.{Laid}
+use Rattle.uc_code.specs.CodeShapes.{Nothing, One, Both}
 use Rattle.uc_code.specs.Lowered.{ItemsAt, ValuesAt, TogetherAt, TargetsAt, StartAt, VariablesAt}
 use Rattle.uc_lower_expr.specs.declared.meaning.Scalar.{Scalar}
 use Rattle.uc_lower_expr.specs.declared.meaning.Scalar.TheVariants as scalar
@@ -39,3 +39,4 @@ abbrev pub form_as : Scalar → ValueForm
 form_as scalar.Number = value_form.Number
 form_as scalar.Character = value_form.Character
 form_as scalar.Truth = value_form.Number
+form_as scalar.Binding = value_form.Number

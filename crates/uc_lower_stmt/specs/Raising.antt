@@ -9,7 +9,7 @@ use Rattle.uc_tree.specs.Statements.{Raised}
 use Rattle.uc_tree.specs.StatementSizes.{maybe_raised_size}
 use Rattle.uc_code.specs.Drafts.{Draft}
 use Rattle.uc_code.specs.Lowered.{EventAt, RaisedAt}
-use Rattle.uc_lower_stmt.specs.Scoped.{Lowers, scope_of}
+use Rattle.uc_lower_stmt.specs.LowersStatement.{Lowers, scope_of}
 
 -- behind so many hidden cells more
 abbrev pub hidden_past : Scope → ℕ → Scope

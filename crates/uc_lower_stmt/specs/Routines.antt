@@ -1,11 +1,11 @@
 -- The code of routines.
-use Rattle.std.specs.Prelude.{ℕ, ◌+◌, ◌*◌, Bool, true, false, Option, Some, None, nat_eq, if◌then◌else◌}
+use Rattle.std.specs.Prelude.{ℕ, ◌+◌, ◌*◌, Bool, true, false, ◌&&◌, Option, Some, None, nat_eq, if◌then◌else◌}
 use Rattle.uc_tree.specs.declared.limits.TheConstants.{OPS_FOR_SIZE}
 use Rattle.uc_tree.specs.Cells.{declared_cells, routine_cells, stmts_cells}
 use Rattle.uc_tree.specs.Hidden.{hidden_in_all}
 use Rattle.uc_tree.specs.ProgramMain.{main_number}
 use Rattle.uc_tree.specs.Programs.{Class, Sig, Routine, Program}
-use Rattle.uc_resolve.specs.Resolve.{stmts_meant, scope_behind, is_coroutine_main}
+use Rattle.uc_resolve.specs.Resolve.{stmts_meant, scope_behind, has_coroutines, is_main}
 use Rattle.uc_tree.specs.Scopes.{stmts_scopes}
 use Rattle.uc_tree.specs.Source.{Purpose, TaskMain, CoroutineMain}
 use Rattle.uc_tree.specs.StatementSizes.{stmts_size}
@@ -13,10 +13,10 @@ use Rattle.uc_code.specs.declared.op.Op.TheVariants as op
 use Rattle.uc_code.specs.declared.rows.MainOf.{MainOf}
 use Rattle.uc_code.specs.declared.rows.MainOf.TheVariants as main_of
 use Rattle.uc_code.specs.Drafts.{Draft}
-use Rattle.uc_code.specs.Laid.{Laid}
-use Rattle.uc_code.specs.Ranges.{Both, One}
+use Rattle.uc_code.specs.Layout.{Laid}
+use Rattle.uc_code.specs.CodeShapes.{Both, One}
 use Rattle.uc_code.specs.Lowered.{BodyAt}
-use Rattle.uc_lower_stmt.specs.Scoped.{Lowers, scope_of, sizes_at}
+use Rattle.uc_lower_stmt.specs.LowersStatement.{Lowers, scope_of, sizes_at}
 
 -- the cells of a routine's frame: of its variables, and those that are hidden
 abbrev pub frame_cells : Program → Routine → ℕ
@@ -24,7 +24,7 @@ frame_cells p r = routine_cells p r + hidden_in_all r.body
 
 -- whose main a routine of this number and this class is, if it is one
 abbrev pub main_in : Program → ℕ → Option Class → Sig → Option MainOf
-main_in p number c s = if nat_eq number (main_number p) then Some main_of.Task else if is_coroutine_main p c s then Some main_of.Coroutine else None
+main_in p number c s = if nat_eq number (main_number p) then Some main_of.Task else if has_coroutines p c && is_main p s then Some main_of.Coroutine else None
 
 -- what such a main is
 abbrev pub purpose_by : MainOf → Purpose

@@ -7,11 +7,12 @@ ghost use Rattle.uc_tree.specs.Cells.{classes_of, declared_cells, declarators_ce
 ghost use Rattle.uc_tree.specs.ExpressionSizes.{exprs_size};
 ghost use Rattle.uc_tree.specs.StatementSizes.{declarator_size, declarators_size, start_size};
 ghost use Rattle.uc_tree.specs.Expressions.{exprs_of};
+ghost use Rattle.uc_tree.specs.Objects.{APlain};
 ghost use Rattle.uc_resolve.specs.Resolve.{Context, args_meant, object_scoped, objects_scoped, with_all, with_declared};
 ghost use Rattle.uc_lower_stmt.specs.Blocks.{AllStandBehind, EndsScopes, innermost_in, scope_at, started_args};
 ghost use Rattle.uc_lower_stmt.specs.Marked.{taken};
-ghost use Rattle.uc_lower_stmt.specs.Pending.{Lays};
-ghost use Rattle.uc_lower_stmt.specs.Scoped.{scope_of};
+ghost use Rattle.uc_lower_stmt.specs.OpenScopes.{Lays};
+ghost use Rattle.uc_lower_stmt.specs.LowersStatement.{scope_of};
 
 use crate::declare::{declare_variable, length_of};
 use crate::objects::{clean_call, close_scope, lower_build};
@@ -53,7 +54,7 @@ fn lower_object(
     requires room { taken out.old + OPS_FOR_SIZE * declarator_size declarator.now ≤ PROGRAM_OPS }
     requires cells { out.old.cells + declared_cells names.now base.now declarator.now ≤ FRAME_CELLS }
     requires behind { AllStandBehind names.now class out.old.marks }
-    ensures { OnOk result (Lays (OPS_FOR_SIZE * declarator_size declarator.now) 0 (declared_cells names.now base.now declarator.now) 1 0 block (object_scoped names.now class line base.now declarator.now (scope_of out.old)) (with_declared names.now (scope_of out.old) base.now declarator.now) out.old out.new) }
+    ensures { OnOk result (Lays (OPS_FOR_SIZE * declarator_size declarator.now) 0 (declared_cells names.now base.now declarator.now) 1 0 block (object_scoped names.now (APlain class) line base.now declarator.now (scope_of out.old)) (with_declared names.now (scope_of out.old) base.now declarator.now) out.old out.new) }
 {
     let cells = names.sizes().cells_of_variable(base, declarator) as u32;
     let cell = out.cells();
@@ -84,7 +85,7 @@ pub(crate) fn lower_objects(
     requires room { taken out.old + OPS_FOR_SIZE * declarators_size declarators.now ≤ PROGRAM_OPS }
     requires cells { out.old.cells + declarators_cells (declared_cells names.now base.now) declarators.now ≤ FRAME_CELLS }
     requires behind { AllStandBehind names.now class out.old.marks }
-    ensures { OnOk result (Lays (OPS_FOR_SIZE * declarators_size declarators.now) 0 (declarators_cells (declared_cells names.now base.now) declarators.now) (length declarators.now) 0 block (objects_scoped names.now class line base.now declarators.now (scope_of out.old)) (with_all names.now (scope_of out.old) base.now declarators.now) out.old out.new) }
+    ensures { OnOk result (Lays (OPS_FOR_SIZE * declarators_size declarators.now) 0 (declarators_cells (declared_cells names.now base.now) declarators.now) (length declarators.now) 0 block (objects_scoped names.now (APlain class) line base.now declarators.now (scope_of out.old)) (with_all names.now (scope_of out.old) base.now declarators.now) out.old out.new) }
 {
     for declarator in declarators {
         lower_object(alloc, names, class, base, declarator, line, block, out)?;

@@ -8,9 +8,9 @@ ghost use Rattle.uc_tree.specs.StatementSizes.{start_size, declarator_size, decl
 ghost use Rattle.uc_tree.specs.Cells.{declared_cells, declarators_cells};
 ghost use Rattle.uc_resolve.specs.Resolve.{meant, value_of, converted, start_meant, first_value, length_of, declared_known, declared_type, declared_meant, all_declared, with_declared, with_all};
 ghost use Rattle.uc_lower_expr.specs.Meanings.{shape_as};
-ghost use Rattle.uc_lower_expr.specs.Added.{Adds};
+ghost use Rattle.uc_lower_expr.specs.DraftGrowth.{Adds};
 ghost use Rattle.uc_lower_expr.specs.Contexts.{context_in};
-ghost use Rattle.uc_lower_stmt.specs.Scoped.{Lowers, scope_of};
+ghost use Rattle.uc_lower_stmt.specs.LowersStatement.{Lowers, scope_of};
 ghost use Rattle.uc_lower_stmt.specs.Pieces.{StartCode, VariablesCode};
 
 use std::alloc::{AllocError, Global};

@@ -12,12 +12,12 @@ ghost use Rattle.uc_tree.specs.Scopes.{handler_scopes, handlers_scopes, stmts_sc
 ghost use Rattle.uc_tree.specs.Statements.{handlers_of, stmts_of};
 ghost use Rattle.uc_tree.specs.StatementSizes.{handler_size, handlers_size, stmts_size};
 ghost use Rattle.uc_built.specs.BuiltForms.{are_built, are_built_handlers, is_built_handler};
-ghost use Rattle.uc_code.specs.Laid.{laid_in, routine_in};
+ghost use Rattle.uc_code.specs.Layout.{laid_in, routine_in};
 ghost use Rattle.uc_code.specs.Lowered.{event_of, kind_of};
-ghost use Rattle.uc_code.specs.Ranges.{IsBare};
+ghost use Rattle.uc_code.specs.CodeShapes.{IsBare};
 ghost use Rattle.uc_lower_stmt.specs.Handling.{EntersHandler, LowersBody, LowersHandler, LowersHandlers, LowersTry};
 ghost use Rattle.uc_lower_stmt.specs.Marked.{objects_in, taken};
-ghost use Rattle.uc_lower_stmt.specs.Scoped.{sizes_at};
+ghost use Rattle.uc_lower_stmt.specs.LowersStatement.{sizes_at};
 
 use crate::stmt::lower_stmts;
 use std::alloc::{AllocError, Global};

@@ -7,13 +7,14 @@ ghost use Rattle.uc_tree.specs.Expressions.{exprs_of};
 ghost use Rattle.uc_tree.specs.ExpressionSizes.{exprs_size};
 ghost use Rattle.uc_tree.specs.Cells.{class_cells, classes_of};
 ghost use Rattle.uc_tree.specs.Source.{Expr as Place};
+ghost use Rattle.uc_tree.specs.Objects.{APlain};
 ghost use Rattle.uc_resolve.specs.Resolve.{args_meant, build, clean_up, constructed};
 ghost use Rattle.uc_code.specs.declared.rows.Cleaning.TheVariants as cleaning;
 ghost use Rattle.uc_code.specs.Lowered.{CallBuilt, StmtAt, spot_op};
 ghost use Rattle.uc_code.specs.ObjectCalls.{BeginsAt, Cleans};
-ghost use Rattle.uc_code.specs.Open.{StandsBehind, CleansBehind, clean_room};
-ghost use Rattle.uc_code.specs.Puts.{Puts};
-ghost use Rattle.uc_lower_expr.specs.Added.{Adds, ExprCode};
+ghost use Rattle.uc_code.specs.OpenRows.{StandsBehind, CleansBehind, clean_room};
+ghost use Rattle.uc_code.specs.Emits.{Puts};
+ghost use Rattle.uc_lower_expr.specs.DraftGrowth.{Adds, ExprCode};
 ghost use Rattle.uc_lower_expr.specs.Contexts.{context_in};
 ghost use Rattle.uc_lower_expr.specs.Members.{routine_for};
 ghost use Rattle.uc_lower_stmt.specs.Objects.{ClosesPart, ClosesScope, FillCode, InPart, InScope, array_by, build_room, call_by, fill_room};
@@ -78,7 +79,7 @@ fn array_of(class: usize, elements: Option<u32>, names: &ProgramNames) -> Option
 pub fn clean_call(class: usize, spot: Spot, elements: Option<u32>, names: &ProgramNames) -> Cleaning
     requires { class < length (classes_of names.now.items) }
     ensures call { result ≡ cleaning.Call (call_by (routine_for names.now class role.Destructor) spot (array_by names.now class elements)) }
-    ensures cleans { (place : Place) → BeginsAt place spot → Cleans (clean_up names.now class elements place) result }
+    ensures cleans { (place : Place) → BeginsAt place spot → Cleans (clean_up names.now (APlain class) elements place) result }
 {
     law_cells();
     let array = array_of(class, elements, names);
@@ -99,7 +100,7 @@ pub fn lower_construction(
     requires room { length out.old.ops + OPS_FOR_SIZE * exprs_size (exprs_of args.now) + 3 ≤ PROGRAM_OPS }
     requires behind { StandsBehind out.old.marks (call_by (routine_for names.now class role.Constructor) spot None) }
     ensures room { OnOk result (length out.new.ops ≤ length out.old.ops + (OPS_FOR_SIZE * exprs_size (exprs_of args.now) + 3)) }
-    ensures code { OnOk result ((place : Place) → BeginsAt place spot → Adds (OPS_FOR_SIZE * exprs_size (exprs_of args.now) + 3) (ExprCode line out.old.marks (constructed names.now class place (args_meant (context_in names.now out.old) (exprs_of args.now)))) out.old out.new) }
+    ensures code { OnOk result ((place : Place) → BeginsAt place spot → Adds (OPS_FOR_SIZE * exprs_size (exprs_of args.now) + 3) (ExprCode line out.old.marks (constructed names.now (APlain class) place (args_meant (context_in names.now out.old) (exprs_of args.now)))) out.old out.new) }
 {
     let routine = names.constructor_of(class);
     put(spot_op(spot), line, out)?;
@@ -176,7 +177,7 @@ pub fn lower_build(
     requires room { length out.old.ops + OPS_FOR_SIZE * exprs_size (exprs_of args.now) + build_room elements ≤ PROGRAM_OPS }
     requires builds { StandsBehind out.old.marks (call_by (routine_for names.now class role.Constructor) spot (array_by names.now class elements)) }
     requires destroys { StandsBehind out.old.marks (call_by (routine_for names.now class role.Destructor) spot (array_by names.now class elements)) }
-    ensures { OnOk result ((place : Place) → BeginsAt place spot → Puts (OPS_FOR_SIZE * exprs_size (exprs_of args.now) + build_room elements) (λ code. StmtAt code out.old.marks (build names.now line class elements place (args_meant (context_in names.now out.old) (exprs_of args.now)))) out.old out.new) }
+    ensures { OnOk result ((place : Place) → BeginsAt place spot → Puts (OPS_FOR_SIZE * exprs_size (exprs_of args.now) + build_room elements) (λ code. StmtAt code out.old.marks (build names.now line (APlain class) elements place (args_meant (context_in names.now out.old) (exprs_of args.now)))) out.old out.new) }
 {
     match elements {
         None => {

@@ -8,9 +8,9 @@ ghost use Rattle.uc_tree.specs.StatementSizes.{out_item_size, out_items_size};
 ghost use Rattle.uc_tree.specs.Numbering.{item_texts};
 ghost use Rattle.uc_resolve.specs.Resolve.{items_meant, target_meant, targets_meant};
 ghost use Rattle.uc_code.specs.Lowered.{item_op};
-ghost use Rattle.uc_lower_expr.specs.Added.{Adds};
+ghost use Rattle.uc_lower_expr.specs.DraftGrowth.{Adds};
 ghost use Rattle.uc_lower_expr.specs.Contexts.{context_in};
-ghost use Rattle.uc_lower_stmt.specs.Scoped.{Lowers, scope_of};
+ghost use Rattle.uc_lower_stmt.specs.LowersStatement.{Lowers, scope_of};
 ghost use Rattle.uc_lower_stmt.specs.Pieces.{ItemsCode, ValuesCode, PiecesCode, TogetherCode, TargetsCode, form_as};
 
 use std::alloc::{AllocError, Global};
@@ -32,6 +32,7 @@ fn form(scalar: Scalar) -> ValueForm
         Scalar::Number => ValueForm::Number,
         Scalar::Character => ValueForm::Character,
         Scalar::Truth => ValueForm::Number,
+        Scalar::Binding => ValueForm::Number,
     }
 }
 

@@ -8,10 +8,10 @@ ghost use Rattle.uc_resolve.specs.Resolve.{args_by, args_meant, params_of, raise
 ghost use Rattle.uc_tree.specs.Source.{BuiltAt, CallOn, OfObject, Raise, Throw, Variable};
 ghost use Rattle.uc_tree.specs.StatementSizes.{maybe_raised_size, raised_size};
 ghost use Rattle.uc_code.specs.Lowered.{RaisedAt};
-ghost use Rattle.uc_code.specs.Puts.{Puts};
+ghost use Rattle.uc_code.specs.Emits.{Puts};
 ghost use Rattle.uc_lower_expr.specs.Contexts.{context_in};
 ghost use Rattle.uc_lower_stmt.specs.Raising.{LowersRaise, LowersRaised};
-ghost use Rattle.uc_lower_stmt.specs.Scoped.{scope_of};
+ghost use Rattle.uc_lower_stmt.specs.LowersStatement.{scope_of};
 
 use std::alloc::AllocError;
 use uc_code::draft::Draft;

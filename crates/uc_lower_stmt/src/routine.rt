@@ -11,11 +11,11 @@ ghost use Rattle.uc_tree.specs.ProgramMain.{is_void};
 ghost use Rattle.uc_tree.specs.Scopes.{stmts_scopes};
 ghost use Rattle.uc_resolve.specs.Resolve.{class_by, params_known, purpose_of, value_purpose, routine_scope, routine_meant};
 ghost use Rattle.uc_built.specs.BuiltForms.{are_built};
-ghost use Rattle.uc_code.specs.Laid.{laid_in};
-ghost use Rattle.uc_code.specs.Ranges.{Kept};
+ghost use Rattle.uc_code.specs.Layout.{laid_in};
+ghost use Rattle.uc_code.specs.CodeShapes.{Kept};
 ghost use Rattle.uc_code.specs.Lowered.{RoutineAt};
-ghost use Rattle.uc_lower_expr.specs.Added.{Adds};
-ghost use Rattle.uc_lower_stmt.specs.Scoped.{sizes_at};
+ghost use Rattle.uc_lower_expr.specs.DraftGrowth.{Adds};
+ghost use Rattle.uc_lower_stmt.specs.LowersStatement.{sizes_at};
 ghost use Rattle.uc_lower_stmt.specs.Routines.{EndCode, LowersRoutine, frame_cells, main_in, purpose_by};
 
 use crate::declare::copy_of;
@@ -24,9 +24,9 @@ use std::alloc::{AllocError, Global};
 use uc_code::draft::Draft;
 use uc_code::op::Op;
 use uc_code::rows::{MainOf, Opening, RoutineCode};
+use uc_layout::frames::cells_of_routine;
 use uc_lower_expr::program_names::{ProgramNames, params_of, result_of, sig_of};
 use uc_lower_expr::put::put;
-use uc_sizes::frames::cells_of_routine;
 use uc_tree::class::Routine;
 use uc_tree::kinds::{Base, Param, Ty};
 use uc_tree::stmt::Stmt;
@@ -175,6 +175,7 @@ fn lower_statements(
     requires texts { out.old.texts + stmts_size routine.now.body ≤ PROGRAM_SIZE }
     ensures { OnOk result (LowersRoutine names.now (purpose_of names.now number (class_by names.now out.old.place.class) routine.now) last routine.now out.old out.new) }
 {
+    names.fit();
     match main {
         Some(main) => {
             lower_main(alloc, names, routine, main, last, out)?;
@@ -223,6 +224,7 @@ pub fn lower_routine(
     ensures few_texts { OnOk result (out.new.texts ≤ texts + stmts_size routine.now.body) }
     ensures sites { OnOk result (out.new.sites ≡ sites + length (gathered_all (own_sites None 0) routine.now.body)) }
 {
+    names.fit();
     let entry = out.here();
     let sig = sig_of(routine);
     let params = params_of(sig);

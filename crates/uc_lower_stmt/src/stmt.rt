@@ -16,13 +16,13 @@ ghost use Rattle.uc_tree.specs.Scopes.{alone_scopes, maybe_scopes, stmt_scopes, 
 ghost use Rattle.uc_tree.specs.ExpressionSizes.{expr_size};
 ghost use Rattle.uc_tree.specs.Cells.{declared_cells, declarators_cells, for_cells, maybe_cells, stmt_cells, stmts_cells};
 ghost use Rattle.uc_resolve.specs.Resolve.{Scope, order_of, test_of};
-ghost use Rattle.uc_built.specs.BuiltForms.{is_built_maybe, is_built_start, is_built_stmt, are_built};
-ghost use Rattle.uc_code.specs.Laid.{routine_in};
-ghost use Rattle.uc_code.specs.Puts.{Puts};
-ghost use Rattle.uc_code.specs.Ranges.{begin_at};
-ghost use Rattle.uc_lower_expr.specs.Added.{Adds};
+ghost use Rattle.uc_built.specs.BuiltForms.{is_built_base, is_built_maybe, is_built_start, is_built_stmt, are_built};
+ghost use Rattle.uc_code.specs.Layout.{routine_in};
+ghost use Rattle.uc_code.specs.Emits.{Puts};
+ghost use Rattle.uc_code.specs.CodeShapes.{begin_at};
+ghost use Rattle.uc_lower_expr.specs.DraftGrowth.{Adds};
 ghost use Rattle.uc_lower_stmt.specs.Marked.{objects_in, taken};
-ghost use Rattle.uc_lower_stmt.specs.Scoped.{LowersStmt, LowersStmts, scope_of, sizes_at};
+ghost use Rattle.uc_lower_stmt.specs.LowersStatement.{LowersStmt, LowersStmts, scope_of, sizes_at};
 ghost use Rattle.uc_lower_stmt.specs.Control.{BackCode, BeginCode, DeclaresObjects, EndsLoop, is_declaration, LaysDeclaration, LaysStart, LaysStmt, LowersAlone, LowersDeclaration, LowersFor, LowersIf, LowersLoop, LowersMaybe, maybe_at_size, ReturnCode, StepCode, turning_order, turning_size, turning_test};
 
 use crate::block::{close_scopes, lower_objects};
@@ -204,6 +204,7 @@ fn lower_next(
     requires texts { out.old.texts + stmt_size s.now ≤ PROGRAM_SIZE }
     ensures { OnOk result (LaysStmt names.now line s.now out.old out.new) }
 {
+    names.fit();
     match declared_in(&s.form, names) {
         Some(declared) => {
             lower_objects(
@@ -281,11 +282,13 @@ fn lower_declaration(
     line: u32,
     out: &mut Draft,
 ) -> Result<(), AllocError>
+    requires built { is_built_base base.now ≡ true }
     requires inside { routine_in out.old.marks < length (routines_of names.now) }
     requires room { taken out.old + OPS_FOR_SIZE * declarators_size declarators.now ≤ PROGRAM_OPS }
     requires cells { out.old.cells + declarators_cells (declared_cells names.now base.now) declarators.now ≤ FRAME_CELLS }
     ensures { OnOk result (LowersDeclaration names.now line base.now declarators.now out.old out.new) }
 {
+    names.fit();
     match names.sizes().plain_class(base) {
         Some(class) => {
             let depth = out.marks().len();
@@ -536,6 +539,7 @@ fn lower_start(
     line: u32,
     out: &mut Draft,
 ) -> Result<(), AllocError>
+    requires built { is_built_start start.now ≡ true }
     requires inside { routine_in out.old.marks < length (routines_of names.now) }
     requires room { taken out.old + OPS_FOR_SIZE * for_start_size start.now ≤ PROGRAM_OPS }
     requires cells { out.old.cells + for_cells start.now (declared_cells names.now) ≤ FRAME_CELLS }
@@ -567,11 +571,13 @@ fn lower_for_declaration(
     line: u32,
     out: &mut Draft,
 ) -> Result<(), AllocError>
+    requires built { is_built_base base.now ≡ true }
     requires inside { routine_in out.old.marks < length (routines_of names.now) }
     requires room { taken out.old + OPS_FOR_SIZE * declarators_size declarators.now ≤ PROGRAM_OPS }
     requires cells { out.old.cells + declarators_cells (declared_cells names.now base.now) declarators.now ≤ FRAME_CELLS }
     ensures { OnOk result (LaysDeclaration names.now line line base.now declarators.now out.old out.new) }
 {
+    names.fit();
     match names.sizes().plain_class(base) {
         Some(class) => {
             lower_objects(alloc, names, class, base, declarators, line, line, out)?;
@@ -608,6 +614,7 @@ fn lower_for(
     out: &mut Draft,
 ) -> Result<(), AllocError>
     requires built { is_built_stmt body.now ≡ true }
+    requires start { is_built_start start.now ≡ true }
     requires inside { routine_in out.old.marks < length (routines_of names.now) }
     requires room { taken out.old + OPS_FOR_SIZE * (1 + for_start_size start.now + maybe_expr_size test.now + maybe_expr_size step.now + size_at body.now (objects_in out.old.marks + for_declares start.now)) ≤ PROGRAM_OPS }
     requires cells { out.old.cells + (for_cells start.now (declared_cells names.now) + stmt_cells body.now (declared_cells names.now)) ≤ FRAME_CELLS }

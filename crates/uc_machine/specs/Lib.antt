@@ -1,7 +1,10 @@
 pub mod Executions
 pub mod Switches
+pub mod Insides
 pub mod Pieces
 pub mod Raising
+pub mod Monitors
+pub mod Polls
 pub mod Quiet
 pub mod Rides
 pub mod Answering

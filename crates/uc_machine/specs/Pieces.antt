@@ -4,11 +4,11 @@ use Rattle.std.specs.Int.{int_rem_euclid}
 use Rattle.std.specs.Ordering.{int_eq}
 use Rattle.uc_tree.specs.declared.limits.TheConstants.{INT_MIN, INT_MAX, CHAR_VALUES}
 use Rattle.uc_entry.specs.declared.request.TheConstants.{PRINT_ITEMS}
-use Rattle.uc_tree.specs.Source.{Shape, shape_cells, field_cells, Operator, Plus, Minus, Times, Over, Modulo, Equal, NotEqual, Less, AtMost, Greater, AtLeast, Expr, Exprs, Item, Target, Declared, Order, Way, Stmt, CleanUp, Destroys, DestroysAll, Unwinds, Forgets, Stmts, Handlers}
+use Rattle.uc_tree.specs.Source.{Shape, shape_cells, field_cells, Operator, Plus, Minus, Times, Over, Modulo, Equal, NotEqual, Less, AtMost, Greater, AtLeast, Expr, Exprs, Item, Target, Declared, Order, Way, Stmt, CleanUp, Destroys, DestroysAll, Unwinds, Forgets, Leaves, Ends, Frees, Restores, Stmts, Handlers, Clauses}
 use Rattle.uc_tree.specs.declared.kinds.ValueForm.{ValueForm}
 use Rattle.uc_machine.specs.declared.exec.Exec.{Exec}
 use Rattle.uc_machine.specs.declared.exec.Owner.{Owner}
-use Rattle.uc_machine.specs.declared.exec.Owner.TheVariants.{Frame}
+use Rattle.uc_machine.specs.declared.exec.Owner.TheVariants.{Frame, Fields}
 use Rattle.uc_entry.specs.declared.fault.RunFault.{RunFault}
 use Rattle.uc_entry.specs.declared.fault.RunFault.TheVariants.{Overflow, DivideByZero, Index}
 use Rattle.uc_entry.specs.Faults.{fault_number}
@@ -53,10 +53,12 @@ pub data Todo : Type 0 where
   -- the newest operand goes, the one below it goes
   DropNow : Todo
   DropBelowNow : Todo
-  -- the newest operand is written to the place below it, and goes or stays; it is written to a variable, and stays
+  -- the newest operand is written as a number to the place below it, and goes or stays; it is written so to a variable, and stays
   StoreNow : Todo
   KeepNow : Todo
   SetNow : ℕ → Todo
+  -- the place below the newest operand is bound to that, which stays
+  BindNow : Todo
   -- the first expression where the newest operand is not 0, else the second; so for statements
   Choose : Expr → Expr → Todo
   Branch : Stmt → Stmt → Todo
@@ -125,6 +127,52 @@ pub data Todo : Type 0 where
   ForgetNow : Todo
   -- the coroutine below the arguments of this routine must be live
   LiveNow : ℕ → Todo
+  -- a mutex call of this member, by this routine, at the object below the arguments enters that; the call of the member leaves the
+  -- object at hand
+  EnterNow : ℕ → ℕ → Todo
+  LeaveNow : Todo
+  -- a mutex object of this class is made, which this constructor builds; the place below the arguments is bound to its number, the
+  -- newest operand, which then takes its place there
+  MakeNow : ℕ → ℕ → Todo
+  BindMadeNow : ℕ → ℕ → Todo
+  -- the mutex object at hand is free; it begins as a task with this main, which a piece that does nothing else tells; it is gone; its
+  -- building is given up
+  MadeNow : Todo
+  SpawnNow : ℕ → Todo
+  ChildNow : ℕ → Todo
+  GoneNow : Todo
+  GiveUpNow : Todo
+  -- a cluster is made, and a processor of the cluster at the newest operand; they end
+  ClusterNow : Todo
+  ProcessorNow : Todo
+  ClusterEndNow : Todo
+  ProcessorEndNow : Todo
+  -- the number of a condition of an array of so many, the first of which has this number
+  ConditionNow : ℕ → ℕ → Todo
+  -- calls of the condition at the newest operand; a wait stores the newest one
+  WaitNow : Todo
+  SignalNow : Todo
+  SignalBlockNow : Todo
+  EmptyNow : Todo
+  FrontNow : Todo
+  -- a task goes to the back of its queue, to the cluster at the newest operand
+  YieldNow : Todo
+  MigrateNow : Todo
+  -- what is left of the guards of an accept statement; so many of them are asked with the statement of this number; where the call that
+  -- it took has failed, that is resumed as an event; the branch of the clause at the newest operand
+  Guards : Clauses → Todo
+  AcceptNow : ℕ → ℕ → Todo
+  FailedNow : Todo
+  ChooseNow : Clauses → Todo
+  -- an event is raised at the task or the coroutine at the newest operand; its number and its fields lie below
+  RaiseAtNow : Todo
+  -- these events are enabled too, or are no more, and a cell of the frame keeps which were enabled before; those are again
+  EnableNow : ℕ → ℕ → Todo
+  DisableNow : ℕ → ℕ → Todo
+  RestoreNow : ℕ → Todo
+  -- an enabled event is asked for; the one that was delivered as the newest operands is resumed, and the next one asked for
+  PollNow : Todo
+  DeliverNow : Todo
   -- the coroutine at hand is resumed; the running execution is suspended; where it stopped it goes on, or is unwound
   ResumeNow : Todo
   SuspendNow : Todo
@@ -189,6 +237,14 @@ abbrev pub below : List Value → List Value
 below [] = []
 below (v ∷ vs) = vs
 
+-- a mutex object, a cluster or a processor by its number
+abbrev pub object_in : Value → ℕ
+object_in (Number n) = 0
+object_in (Place o p) = 0
+object_in (Running e) = 0
+object_in (Object o) = o
+object_in Nothing = 0
+
 -- a value as a number
 abbrev pub number : Value → ℤ
 number (Number n) = n
@@ -198,6 +254,11 @@ number (Object o) = pos 0
 number Nothing = pos 0
 
 -- numbers
+
+-- a number that counts something
+abbrev pub as_number : ℤ → ℕ
+as_number (pos n) = n
+as_number (negsuc n) = 0
 
 -- whether a number is an `int`
 abbrev pub fits : ℤ → Bool
@@ -255,23 +316,23 @@ abbrev pub address : List Link → ℕ
 address [] = 0
 address (l ∷ p) = min (address p + link_cells l) LAST_ADDRESS
 
--- a place one step further
+-- a place one step further; a mutex object leads to its fields
 abbrev pub further : Link → Value → Value
 further l (Number n) = Nothing
 further l (Place o p) = Place o (l ∷ p)
 further l (Running e) = Nothing
-further l (Object o) = Nothing
+further l (Object o) = Place (Fields o) (l ∷ [])
 further l Nothing = Nothing
 
 abbrev pub nought : Value
 nought = Number (pos 0)
 
--- what a place holds
+-- what a place holds, a mutex object its first cell
 abbrev pub loaded : Value → Env → Value
 loaded (Number n) e = nought
 loaded (Place o p) e = value_at o (address p) nought e
 loaded (Running x) e = nought
-loaded (Object o) e = nought
+loaded (Object o) e = value_at (Fields o) 0 nought e
 loaded Nothing e = nought
 
 -- bindings are written once: a number or another value leaves a place, an execution or an object as it is
@@ -287,7 +348,7 @@ abbrev pub written : Value → Value → Env → Env
 written (Number n) v e = e
 written (Place o p) v e = with_owned o (value_changed (address p) (stored v) nought) e
 written (Running x) v e = e
-written (Object o) v e = e
+written (Object o) v e = with_owned (Fields o) (value_changed 0 (stored v) nought) e
 written Nothing v e = e
 
 -- the frame of the running activation
@@ -354,6 +415,9 @@ goes todo operands s = Goes (at todo operands s)
 abbrev pub fault : RunFault → List Todo → List Value → State → Step
 fault f todo operands s = Asks (ask.Fault (fault_number f)) (at todo operands s)
 
+abbrev pub asks : Request → List Todo → List Value → State → Step
+asks r todo operands s = Asks r (at todo operands s)
+
 abbrev pub outcome_step : Outcome → List Todo → List Value → State → Step
 outcome_step (Gives n) todo vs s = goes todo (Number n ∷ vs) s
 outcome_step (Faults f) todo vs s = fault f todo vs s
@@ -410,3 +474,8 @@ clean_todo (Destroys e) todo = Eval e ∷ (DropNow ∷ todo)
 clean_todo (DestroysAll n e) todo = CountNow n ∷ (Sweep e ∷ todo)
 clean_todo Unwinds todo = TakeDownNow ∷ todo
 clean_todo Forgets todo = ForgetNow ∷ todo
+clean_todo Leaves todo = LeaveNow ∷ todo
+clean_todo Ends todo = GoneNow ∷ todo
+clean_todo (Frees None) todo = MadeNow ∷ todo
+clean_todo (Frees (Some r)) todo = SpawnNow r ∷ todo
+clean_todo (Restores k) todo = RestoreNow k ∷ todo

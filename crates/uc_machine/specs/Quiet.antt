@@ -1,20 +1,28 @@
 -- The machine over the resolved tree: one quiet step of a task with its hand.
-use Rattle.std.specs.Prelude.{◌≡◌, ℕ, zero, suc, ◌+◌, ◌-◌, ◌^◌, min, pos, neg_ℤ, List, [], ◌∷◌, length, replicate, drop, slice_get, Option, Some, None, Bool, true, false, nat_eq, nat_lt, if◌then◌else◌}
-use Rattle.uc_tree.specs.declared.limits.TheConstants.{CALLS}
-use Rattle.uc_tree.specs.Source.{Shape, Character, Truth, Expr, Literal, Variable, Element, Load, Negated, Not, AsCharacter, AsTruth, Operate, And, Or, Assign, Update, StepBehind, Fail, Get, Set, First, Call, OfObject, ObjectExpr, This, OwnField, GetOwn, FieldOf, Counted, CallOn, CallUnwritten, CallLive, EnterOn, Wait, Signal, SignalBlock, IsEmpty, FrontOf, NoExprs, MoreExprs, Item, Show, ShowText, Order, TestFirst, BodyFirst, NoTest, Way, ToBreak, ToContinue, ToReturn, ToEnd, Stmt, Skip, Block, Whole, Evaluate, Declare, Print, PrintTogether, Read, If, Loop, Break, Continue, Return, Fill, OfEvents, OfTasks, Stmts, Nil, Then, Scoped, Built, Purpose, TaskMain, CoroutineMain, Procedure, Function, Builder, Routine, Source, EventStmt, Throw, Raise, Try, RaiseAt, Enable, Disable, TaskStmt, Resume, Suspend, SetUp, Enliven, TakeDown, Yield, Migrate, Accept}
+use Rattle.std.specs.Prelude.{◌≡◌, ℕ, zero, suc, ◌+◌, ◌-◌, ◌*◌, ◌^◌, min, pos, neg_ℤ, List, [], ◌∷◌, length, replicate, drop, slice_get, slice_set, Option, Some, None, Bool, true, false, nat_eq, nat_lt, if◌then◌else◌}
+use Rattle.uc_tree.specs.declared.limits.TheConstants.{CALLS, DESTRUCTOR, PENDING_EVENTS, FAILURE}
+use Rattle.uc_tree.specs.Source.{Shape, Character, Truth, Expr, Literal, Variable, Element, Load, Negated, Not, AsCharacter, AsTruth, Operate, And, Or, Assign, Update, StepBehind, Fail, Get, Set, First, Call, OfObject, ObjectExpr, This, OwnField, GetOwn, FieldOf, Counted, CallOn, CallUnwritten, CallLive, EnterOn, EndOn, Bind, MakeOn, NewCluster, NewProcessor, EndCluster, EndProcessor, ConditionAt, Wait, Signal, SignalBlock, IsEmpty, FrontOf, NoExprs, MoreExprs, Item, Show, ShowText, Order, TestFirst, BodyFirst, NoTest, Way, ToBreak, ToContinue, ToReturn, ToEnd, Stmt, Skip, Block, Whole, Evaluate, Declare, Print, PrintTogether, Read, If, Loop, Break, Continue, Return, Owes, Restores, Clauses, NoClauses, Otherwise, MoreClauses, clause_count, Fill, OfEvents, OfTasks, Stmts, Nil, Then, Scoped, Built, Purpose, TaskMain, CoroutineMain, Procedure, Function, Builder, Routine, Source, EventStmt, Throw, Raise, Try, RaiseAt, Enable, Disable, TaskStmt, Resume, Suspend, SetUp, Enliven, TakeDown, Yield, Migrate, Accept}
 use Rattle.uc_tree.specs.ValueForms.{form_number}
 use Rattle.uc_machine.specs.declared.exec.Home.TheVariants as home
 use Rattle.uc_machine.specs.declared.exec.Reason.{Reason}
+use Rattle.uc_machine.specs.declared.exec.Reason.TheVariants as reason
+use Rattle.uc_machine.specs.declared.exec.Pending.{Pending}
+use Rattle.uc_entry.specs.declared.request.Request.{Request}
 use Rattle.uc_machine.specs.declared.exec.Exec.{Exec}
 use Rattle.uc_machine.specs.declared.exec.Home.{Home}
-use Rattle.uc_entry.specs.declared.fault.RunFault.TheVariants.{Depth, NoReturn, NotLive}
+use Rattle.uc_entry.specs.declared.fault.RunFault.TheVariants.{Index, Depth, BlockedInside, NoReturn, TooManyPending, NotLive}
 use Rattle.uc_entry.specs.declared.request.TheConstants.{TEXT_FORM}
 use Rattle.uc_entry.specs.declared.request.Request.TheVariants as ask
 use Rattle.uc_machine.specs.Executions as exec
 use Rattle.uc_machine.specs.Executions.{no_links, taken, begun, entered}
+use Rattle.uc_entry.specs.Keyed.{find}
 use Rattle.uc_machine.specs.Switches.{home_in, fresh_links, new_exec, born, forgotten, is_live, enlivened, wake, suspend, finish, take_down}
-use Rattle.uc_machine.specs.Raising.{event_in, raised_todo, throw_step, unwinds, unwind_step, home_of, raise_step, end_by}
-pub use Rattle.uc_machine.specs.Pieces.{Link, Value, Todo, Sort, sort, Active, State, Env, Members, Step, top, below, number, fits, is_zero, truth, as_character, as_truth, Outcome, int_outcome, outcome, link_cells, LAST_ADDRESS, address, further, nought, loaded, stored, written, this_frame, variable_at, cleared, index_in, blank, print_of, piece, with_piece, own_line, line_from, line_of, at, in_env, goes, fault, outcome_step, element_step, print_step, flush_step, return_step, turns, moves, exec_in, exec_at, own_exec, clean_todo, Slot, FieldAt, At, Number, Place, Running, Object, Nothing, Eval, LoadNow, ElementNow, FieldNow, NegateNow, NotNow, CharacterNow, TruthNow, OperateNow, CopyNow, CopyBelowNow, DropNow, DropBelowNow, StoreNow, KeepNow, SetNow, Choose, Branch, Arguments, TickNow, CallNow, CallOnNow, CallUnwrittenNow, CountNow, MoreNow, FillNow, TurnNow, Again, PrintNow, TextNow, GatherNow, FlushNow, ReadNow, ClearNow, Items, Values, Pieces, Targets, Variables, Do, Rest, Within, Exit, NoReturnNow, InLoop, InWhole, Clean, Sweep, Part, Guard, Unwind, ThrowNow, RaiseNow, SetUpNow, EnlivenNow, TakeDownNow, ForgetNow, LiveNow, ResumeNow, SuspendNow, Land, Finish, FinishCoroutine, Simple, IsLoop, IsWhole, IsClean, IsFill, IsSweep, IsPart, IsGuard, IsFinish, IsFinishCoroutine, Goes, Ticks, Asks, Gives, Faults}
+use Rattle.uc_entry.specs.Keyed.{signed_64}
+use Rattle.uc_machine.specs.Insides.{is_last, call_begun, call_ended, call_gone, build_begun, build_ended, counted_no_more, is_held_up, is_own, pending_at, raised_at, oldest_enabled, without_oldest, with_enabled, enabled_more, enabled_less, events_in}
+pub use Rattle.uc_machine.specs.Monitors.{unless_held_up, may_call, enter_at, enter_on, enter_step, leave_todo, by_event, leave_at, leave_on, make_step, bind_at, bind_step, built_step, gone_step, this_object, condition_in, condition_step, wait_step, signal_block_step, mask_of, accept_by, accept_step, failed_step, branch_todo}
+pub use Rattle.uc_machine.specs.Polls.{pend_step, pend_at, raise_at_step, enable_step, quiet_poll, poll_by, poll_step, deliver_step}
+use Rattle.uc_machine.specs.Raising.{Event, event_in, raised_todo, throw_step, unwinds, unwind_step, home_of, raise_step, end_by}
+pub use Rattle.uc_machine.specs.Pieces.{Link, Value, Todo, Sort, sort, Active, State, Env, Members, Step, top, below, number, fits, is_zero, truth, as_character, as_truth, Outcome, int_outcome, outcome, link_cells, LAST_ADDRESS, address, further, nought, loaded, stored, written, this_frame, variable_at, cleared, index_in, blank, print_of, piece, with_piece, own_line, line_from, line_of, at, in_env, goes, fault, outcome_step, element_step, print_step, flush_step, return_step, turns, moves, exec_in, exec_at, own_exec, clean_todo, asks, object_in, as_number, EnterNow, LeaveNow, BindNow, MakeNow, BindMadeNow, MadeNow, SpawnNow, ChildNow, GoneNow, GiveUpNow, ClusterNow, ProcessorNow, ClusterEndNow, ProcessorEndNow, ConditionNow, WaitNow, SignalNow, SignalBlockNow, EmptyNow, FrontNow, YieldNow, MigrateNow, Guards, AcceptNow, FailedNow, ChooseNow, RaiseAtNow, EnableNow, DisableNow, RestoreNow, PollNow, DeliverNow, Slot, FieldAt, At, Number, Place, Running, Object, Nothing, Eval, LoadNow, ElementNow, FieldNow, NegateNow, NotNow, CharacterNow, TruthNow, OperateNow, CopyNow, CopyBelowNow, DropNow, DropBelowNow, StoreNow, KeepNow, SetNow, Choose, Branch, Arguments, TickNow, CallNow, CallOnNow, CallUnwrittenNow, CountNow, MoreNow, FillNow, TurnNow, Again, PrintNow, TextNow, GatherNow, FlushNow, ReadNow, ClearNow, Items, Values, Pieces, Targets, Variables, Do, Rest, Within, Exit, NoReturnNow, InLoop, InWhole, Clean, Sweep, Part, Guard, Unwind, ThrowNow, RaiseNow, SetUpNow, EnlivenNow, TakeDownNow, ForgetNow, LiveNow, ResumeNow, SuspendNow, Land, Finish, FinishCoroutine, Simple, IsLoop, IsWhole, IsClean, IsFill, IsSweep, IsPart, IsGuard, IsFinish, IsFinishCoroutine, Goes, Ticks, Asks, Gives, Faults}
 
 -- a value as it is kept in a scalar of this shape
 abbrev pub converting : Shape → List Todo → List Todo
@@ -50,13 +58,22 @@ object_step (FieldOf k i a) todo s = turns (Eval a ∷ (FieldNow k i ∷ todo)) 
 object_step (CallOn r a args) todo s = turns (Eval a ∷ (Arguments args ∷ (TickNow ∷ (CallOnNow r ∷ todo)))) s
 object_step (CallLive r a args) todo s = turns (Eval a ∷ (Arguments args ∷ (TickNow ∷ (LiveNow r ∷ (CallOnNow r ∷ todo))))) s
 object_step (CallUnwritten r a) todo s = turns (Eval a ∷ (CallUnwrittenNow r ∷ todo)) s
--- to come
-object_step (EnterOn m r a args) todo s = goes todo (nought ∷ s.run.operands) s
-object_step (Wait a b) todo s = goes todo (nought ∷ s.run.operands) s
-object_step (Signal a) todo s = goes todo (nought ∷ s.run.operands) s
-object_step (SignalBlock a) todo s = goes todo (nought ∷ s.run.operands) s
-object_step (IsEmpty a) todo s = goes todo (nought ∷ s.run.operands) s
-object_step (FrontOf a) todo s = goes todo (nought ∷ s.run.operands) s
+object_step (EnterOn m r a args) todo s = turns (Eval a ∷ (Arguments args ∷ (TickNow ∷ (EnterNow m r ∷ (CallOnNow r ∷ todo))))) s
+object_step (EndOn r false a) todo s = turns (Eval a ∷ (EnterNow DESTRUCTOR r ∷ (CallUnwrittenNow r ∷ todo))) s
+object_step (EndOn r true a) todo s = turns (Eval a ∷ (TickNow ∷ (EnterNow DESTRUCTOR r ∷ (CallOnNow r ∷ todo)))) s
+object_step (MakeOn c r false a args) todo s = turns (Eval a ∷ (Arguments args ∷ (MakeNow c r ∷ (CallUnwrittenNow r ∷ todo)))) s
+object_step (MakeOn c r true a args) todo s = turns (Eval a ∷ (Arguments args ∷ (TickNow ∷ (MakeNow c r ∷ (CallOnNow r ∷ todo))))) s
+object_step (Bind a b) todo s = turns (Eval a ∷ (Eval b ∷ (BindNow ∷ todo))) s
+object_step NewCluster todo s = turns (ClusterNow ∷ todo) s
+object_step (NewProcessor a) todo s = turns (Eval a ∷ (ProcessorNow ∷ todo)) s
+object_step (EndCluster a) todo s = turns (Eval a ∷ (ClusterEndNow ∷ todo)) s
+object_step (EndProcessor a) todo s = turns (Eval a ∷ (ProcessorEndNow ∷ todo)) s
+object_step (ConditionAt k n a) todo s = turns (Eval a ∷ (ConditionNow k n ∷ todo)) s
+object_step (Wait a b) todo s = turns (Eval a ∷ (Eval b ∷ (WaitNow ∷ (PollNow ∷ todo)))) s
+object_step (Signal a) todo s = turns (Eval a ∷ (SignalNow ∷ todo)) s
+object_step (SignalBlock a) todo s = turns (Eval a ∷ (SignalBlockNow ∷ todo)) s
+object_step (IsEmpty a) todo s = turns (Eval a ∷ (EmptyNow ∷ todo)) s
+object_step (FrontOf a) todo s = turns (Eval a ∷ (FrontNow ∷ todo)) s
 
 -- to find a place or to evaluate
 abbrev pub eval_step : Expr → List Todo → State → Step
@@ -162,22 +179,22 @@ abbrev pub event_step : EventStmt → List Todo → State → Step
 event_step (Throw line r) todo s = turns (raised_todo r (ThrowNow ∷ (Within line ∷ todo))) s
 event_step (Raise line r) todo s = turns (raised_todo r (RaiseNow ∷ (Within line ∷ todo))) s
 event_step (Try line body hs) todo s = turns (Rest body ∷ (Guard hs ∷ (Within line ∷ todo))) s
--- to come
-event_step (RaiseAt line r a) todo s = turns todo s
-event_step (Enable line events a) todo s = turns todo s
-event_step (Disable line events a) todo s = turns todo s
+event_step (RaiseAt line r a) todo s = turns (raised_todo r (Eval a ∷ (RaiseAtNow ∷ (Within line ∷ todo)))) s
+event_step (Enable line events cell a) todo s =
+    turns (EnableNow events cell ∷ (PollNow ∷ (Do a ∷ (Clean (Restores cell) ∷ (Within line ∷ todo))))) s
+event_step (Disable line events cell a) todo s =
+    turns (DisableNow events cell ∷ (Do a ∷ (Clean (Restores cell) ∷ (Within line ∷ todo)))) s
 
 -- what coroutines and tasks do
 abbrev pub task_step : TaskStmt → List Todo → State → Step
-task_step (Resume line) todo s = turns (ResumeNow ∷ (Within line ∷ todo)) s
-task_step (Suspend line) todo s = turns (SuspendNow ∷ (Within line ∷ todo)) s
+task_step (Resume line) todo s = turns (ResumeNow ∷ (PollNow ∷ (Within line ∷ todo))) s
+task_step (Suspend line) todo s = turns (SuspendNow ∷ (PollNow ∷ (Within line ∷ todo))) s
 task_step (SetUp r) todo s = turns (SetUpNow r ∷ todo) s
 task_step Enliven todo s = turns (EnlivenNow ∷ todo) s
 task_step TakeDown todo s = turns (TakeDownNow ∷ todo) s
--- to come
-task_step (Yield line) todo s = turns todo s
-task_step (Migrate line a) todo s = turns todo s
-task_step (Accept line site cs) todo s = turns todo s
+task_step (Yield line) todo s = turns (YieldNow ∷ (PollNow ∷ (Within line ∷ todo))) s
+task_step (Migrate line a) todo s = turns (Eval a ∷ (MigrateNow ∷ (Within line ∷ todo))) s
+task_step (Accept line site cs) todo s = turns (Guards cs ∷ (AcceptNow site (clause_count cs) ∷ (ChooseNow cs ∷ (Within line ∷ todo)))) s
 
 -- to do a statement
 abbrev pub stmt_step : Stmt → List Todo → State → Step
@@ -196,6 +213,7 @@ stmt_step (Break line) todo s = turns (Exit ToBreak ∷ todo) s
 stmt_step (Continue line) todo s = turns (Exit ToContinue ∷ todo) s
 stmt_step (Return line None) todo s = turns (Exit ToEnd ∷ todo) s
 stmt_step (Return line (Some e)) todo s = turns (Eval e ∷ (Exit ToReturn ∷ (Within line ∷ todo))) s
+stmt_step (Owes line) todo s = turns (NoReturnNow ∷ (Within line ∷ todo)) s
 stmt_step (Fill line n b d) todo s = turns (CountNow 0 ∷ (FillNow n b d ∷ (Within line ∷ todo))) s
 stmt_step (OfEvents a) todo s = event_step a todo s
 stmt_step (OfTasks a) todo s = task_step a todo s
@@ -308,10 +326,12 @@ module _ (source : Source) where
   act DropNow todo s = goes todo (below s.run.operands) s
   act DropBelowNow todo s = goes todo (top s.run.operands ∷ below (below s.run.operands)) s
   act StoreNow todo s =
-      goes todo (below (below s.run.operands)) (in_env (written (top (below s.run.operands)) (top s.run.operands) s.env) s)
+      goes todo (below (below s.run.operands)) (in_env (written (top (below s.run.operands)) (Number (number (top s.run.operands))) s.env) s)
   act KeepNow todo s =
+      goes todo (top s.run.operands ∷ below (below s.run.operands)) (in_env (written (top (below s.run.operands)) (Number (number (top s.run.operands))) s.env) s)
+  act (SetNow k) todo s = goes todo s.run.operands (in_env (written (variable_at k s) (Number (number (top s.run.operands))) s.env) s)
+  act BindNow todo s =
       goes todo (top s.run.operands ∷ below (below s.run.operands)) (in_env (written (top (below s.run.operands)) (top s.run.operands) s.env) s)
-  act (SetNow k) todo s = goes todo s.run.operands (in_env (written (variable_at k s) (top s.run.operands) s.env) s)
   act (Choose a b) todo s = goes (Eval (if is_zero (number (top s.run.operands)) then b else a) ∷ todo) (below s.run.operands) s
   act (Branch a b) todo s = goes (Do (if is_zero (number (top s.run.operands)) then b else a) ∷ todo) (below s.run.operands) s
   act TickNow todo s = Ticks (at todo s.run.operands s)
@@ -365,7 +385,40 @@ module _ (source : Source) where
   act ResumeNow todo s = moves (wake (resumed s) (at (Land ∷ todo) s.run.operands s)) (at (Land ∷ todo) s.run.operands s)
   act SuspendNow todo s = moves (suspend (at (Land ∷ todo) s.run.operands s)) (at (Land ∷ todo) s.run.operands s)
   act Land todo s = land_step s.run.raised todo s
-  act Finish todo s = return_step nought s.callers s
+  act (EnterNow m r) todo s = enter_step m (slice_get source.routines r) todo s
+  act LeaveNow todo s = leave_on (this_object s) todo s
+  act (MakeNow c r) todo s = make_step c r (slice_get source.routines r) todo s
+  act (BindMadeNow c r) todo s = bind_step (slice_get source.routines r) todo s
+  act MadeNow todo s = built_step (this_object s) (ask.Made (this_object s)) todo s
+  act (SpawnNow r) todo s = built_step (this_object s) (ask.Spawn (this_object s)) (ChildNow r ∷ todo) s
+  act (ChildNow r) todo s = turns todo s
+  act GoneNow todo s = gone_step (this_object s) todo (call_gone (this_object s) s.env) s
+  act GiveUpNow todo s = gone_step (this_object s) todo (build_ended (this_object s) s.env) s
+  act ClusterNow todo s = asks ask.Cluster todo s.run.operands s
+  act ProcessorNow todo s = asks (ask.Processor (object_in (top s.run.operands))) todo (below s.run.operands) s
+  act ClusterEndNow todo s = asks (ask.ClusterEnd (object_in (top s.run.operands))) todo (nought ∷ below s.run.operands) s
+  act ProcessorEndNow todo s = asks (ask.ProcessorEnd (object_in (top s.run.operands))) todo (nought ∷ below s.run.operands) s
+  act (ConditionNow k n) todo s = condition_step k (index_in n (number (top s.run.operands))) todo s
+  act WaitNow todo s = wait_step (this_object s) todo s
+  act SignalNow todo s = asks (ask.Signal (this_object s) (condition_in (top s.run.operands))) todo (nought ∷ below s.run.operands) s
+  act SignalBlockNow todo s = signal_block_step (this_object s) todo s
+  act EmptyNow todo s = asks (ask.Empty (this_object s) (condition_in (top s.run.operands))) todo (below s.run.operands) s
+  act FrontNow todo s = asks (ask.Front (this_object s) (condition_in (top s.run.operands))) todo (below s.run.operands) s
+  act YieldNow todo s = asks ask.Yield todo s.run.operands s
+  act MigrateNow todo s = asks (ask.Migrate (object_in (top s.run.operands))) todo (below s.run.operands) s
+  act (Guards NoClauses) todo s = turns todo s
+  act (Guards (Otherwise b)) todo s = turns todo s
+  act (Guards (MoreClauses guard b cs)) todo s = turns (Eval guard ∷ (Guards cs ∷ todo)) s
+  act (AcceptNow site n) todo s = accept_step (this_object s) site n todo s
+  act FailedNow todo s = failed_step (is_zero (number (top s.run.operands))) todo (below s.run.operands) s
+  act (ChooseNow cs) todo s = goes (branch_todo (as_number (number (top s.run.operands))) cs todo) (below s.run.operands) s
+  act RaiseAtNow todo s = raise_at_step (top s.run.operands) (event_in (below s.run.operands)) todo (drop 4 s.run.operands) s
+  act (EnableNow events cell) todo s = enable_step (enabled_more s.env.links.enabled events) cell todo s
+  act (DisableNow events cell) todo s = enable_step (enabled_less s.env.links.enabled events) cell todo s
+  act (RestoreNow cell) todo s = turns todo (in_env (with_enabled (events_in (number (loaded (variable_at cell s) s.env))) s.env) s)
+  act PollNow todo s = poll_step todo s
+  act DeliverNow todo s = deliver_step (top (drop 2 s.run.operands)) todo s
+  act Finish todo s = unless_held_up s.env.own (return_step nought s.callers s) todo s
   act FinishCoroutine todo s = moves (finish (at todo s.run.operands s)) (at todo s.run.operands s)
 
   abbrev pub act_todo : List Todo → State → Step
@@ -381,9 +434,12 @@ module _ (source : Source) where
     stay : {s : State} → Quietly s s
     more : {s t u : State} → quiet s ≡ Goes t → Quietly t u → Quietly s u
 
--- nothing is at home there
+-- so many cells that are 0, where no execution is at home; no cells
+abbrev pub zeros : ℕ → Members
+zeros n = record { values = replicate n nought; serial = 0; parked = [] }
+
 abbrev pub no_members : Members
-no_members = record { values = []; serial = 0; parked = [] }
+no_members = zeros 0
 
 -- the own execution of the task whose object is o, as its main begins, inside its object
 abbrev pub first_state : Routine → ℕ → State

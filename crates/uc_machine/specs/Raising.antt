@@ -1,7 +1,7 @@
 -- Events: how one is raised, how a handler is found, and how activations are unwound.
 use Rattle.std.specs.Prelude.{ℕ, suc, ◌+◌, ◌&&◌, ℤ, pos, negsuc, List, [], ◌∷◌, length, Option, Some, None, Bool, true, false, nat_eq, nat_lt, ◌^◌, if◌then◌else◌, not}
 use Rattle.uc_tree.specs.Hidden.{EVENT_FIELDS}
-use Rattle.uc_tree.specs.Source.{Literal, Get, Stmts, Handlers, NoHandlers, MoreHandlers, Raised, Plainly, BuiltAt, AgainFrom}
+use Rattle.uc_tree.specs.Source.{Literal, Get, ToReturn, CleanUp, Leaves, Frees, Stmts, Handlers, NoHandlers, MoreHandlers, Raised, Plainly, BuiltAt, AgainFrom}
 use Rattle.uc_entry.specs.declared.fault.RunFault.TheVariants.{Unhandled, EscapeInUnwind}
 use Rattle.uc_entry.specs.Faults.{fault_number}
 use Rattle.uc_entry.specs.declared.request.Request.TheVariants as ask
@@ -10,7 +10,7 @@ use Rattle.uc_machine.specs.Executions.{left_for, handler_entered, unwound, calm
 use Rattle.uc_machine.specs.declared.exec.Reason.{Reason}
 use Rattle.uc_machine.specs.declared.exec.Reason.TheVariants as reason
 use Rattle.uc_machine.specs.declared.exec.Visited.{Visited}
-use Rattle.uc_machine.specs.Pieces.{Value, Todo, Sort, sort, Active, State, Step, top, below, number, at, goes, fault, moves, return_step, clean_todo, Number, Nothing, Eval, SetNow, DropNow, ClearNow, Rest, Within, Sweep, Unwind, Finish, FinishCoroutine, Simple, IsLoop, IsWhole, IsClean, IsFill, IsSweep, IsPart, IsGuard, IsFinish, IsFinishCoroutine, Goes, Asks}
+use Rattle.uc_machine.specs.Pieces.{Value, Todo, Sort, sort, Active, State, Step, top, below, number, at, goes, fault, moves, return_step, clean_todo, Number, Nothing, Eval, SetNow, DropNow, ClearNow, Rest, Within, Exit, Sweep, Unwind, LeaveNow, GiveUpNow, Finish, FinishCoroutine, Simple, IsLoop, IsWhole, IsClean, IsFill, IsSweep, IsPart, IsGuard, IsFinish, IsFinishCoroutine, Goes, Asks}
 
 -- an event with its fields, which are 0 where it has none
 pub record Event : Type 0 where
@@ -96,6 +96,16 @@ abbrev pub whole_left : Bool → List Todo → State → Step
 whole_left true todo s = Goes (record s { run = calmed todo s.run })
 whole_left false todo s = unwinds todo s
 
+-- what cleans up behind a scope that is left by an event: a mutex object that is not built to the end is given up
+abbrev pub left_todo : CleanUp → List Todo → List Todo
+left_todo (Frees r) todo = GiveUpNow ∷ todo
+left_todo c todo = clean_todo c todo
+
+-- a scope is left, and cleaned up behind it; a return of a mutex member is over as it leaves its object
+abbrev pub scope_left : CleanUp → Bool → List Todo → State → Step
+scope_left Leaves true todo s = Goes (record s { run = record (calmed (LeaveNow ∷ (Exit ToReturn ∷ todo)) s.run) { operands = s.run.result ∷ [] } })
+scope_left c arrived todo s = goes (left_todo c (Unwind ∷ todo)) [] s
+
 -- the main of a task is left: by a return, or by an event that nothing handles
 abbrev pub main_left : Option Reason → List Todo → State → Step
 main_left (Some (reason.ReturnTo home)) todo s = Goes (record s { run = calmed (Finish ∷ todo) s.run })
@@ -112,7 +122,7 @@ abbrev pub unwind_past : Sort → List Todo → State → Step
 unwind_past Simple todo s = unwinds todo s
 unwind_past (IsLoop o t e b) todo s = unwinds todo s
 unwind_past IsWhole todo s = whole_left (arrives s.run.raised (length s.callers)) todo s
-unwind_past (IsClean c) todo s = goes (clean_todo c (Unwind ∷ todo)) [] s
+unwind_past (IsClean c) todo s = scope_left c (arrives s.run.raised (length s.callers)) todo s
 unwind_past (IsFill n b d) todo s = goes (Sweep d ∷ (Unwind ∷ todo)) [] s
 unwind_past (IsSweep e) todo s = goes (Sweep e ∷ (Unwind ∷ todo)) [] s
 unwind_past (IsPart c) todo s = goes (clean_todo c (Unwind ∷ todo)) [] s

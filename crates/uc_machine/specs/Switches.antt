@@ -27,10 +27,6 @@ or_else (Some x) y = Some x
 
 -- births
 
--- executions are counted up to the largest number
-abbrev pub LAST_SERIAL : ℕ
-LAST_SERIAL = 2 ^ 64 - 1
-
 -- an execution is at home where that is whose frame holds its coroutine, or in the object whose field that is
 abbrev pub home_in : Owner → Home
 home_in (Frame n d) = n.home
@@ -59,7 +55,7 @@ module _ {C V : Type 0} where
   new_exec h e = record { home = h; serial = serial_in (members_at h e) }
 
   abbrev pub one_more : Execution C V → Members C V → Members C V
-  one_more x m = record m { serial = min (m.serial + 1) LAST_SERIAL; parked = m.parked ++ (m.serial, Some x) ∷ [] }
+  one_more x m = record m { serial = m.serial + 1; parked = m.parked ++ (m.serial, Some x) ∷ [] }
 
   -- it is made there
   abbrev pub born : Home → Execution C V → Env C V → Env C V
@@ -93,20 +89,20 @@ module _ {C V : Type 0} where
   is_live None e = false
   is_live (Some n) e = live_at n e
 
-  abbrev pub live_by : Bool → ℕ → Option (Execution C V) → Members C V → Members C V
-  live_by b k None m = m
-  live_by b k (Some x) m = slot_set k (Some (record x { links = record x.links { live = b } })) m
+  abbrev pub links_by : (Links → Links) → ℕ → Option (Execution C V) → Members C V → Members C V
+  links_by g k None m = m
+  links_by g k (Some x) m = slot_set k (Some (record x { links = g x.links })) m
 
-  abbrev pub live_changed : Bool → ℕ → Members C V → Members C V
-  live_changed b k m = live_by b k (joined (find k m.parked)) m
+  abbrev pub links_changed : (Links → Links) → ℕ → Members C V → Members C V
+  links_changed g k m = links_by g k (joined (find k m.parked)) m
 
-  -- one that does not run is live, or is not
-  abbrev pub with_live : Bool → Exec → Env C V → Env C V
-  with_live b n e = change n.home (live_changed b n.serial) e
+  -- a change to the links of an execution in hand
+  abbrev pub with_links : (Links → Links) → Exec → Env C V → Env C V
+  with_links g n e = if exec_eq n e.exec then record e { links = g e.links } else change n.home (links_changed g n.serial) e
 
   abbrev pub enlivened : Option Exec → Env C V → Env C V
   enlivened None e = e
-  enlivened (Some n) e = with_live true n e
+  enlivened (Some n) e = with_links (λ l. record l { live = true }) n e
 
 -- switches
 
@@ -194,12 +190,16 @@ module _ {C V : Type 0} where
   abbrev pub taken_down : State C V → Moved C V
   taken_down s = go_on (able s.env.links.destroyer s.env) (ended s)
 
+  -- its main does not begin, or go on, any more
+  abbrev pub over : Exec → State C V → State C V
+  over n s = record s { env = with_links (λ l. record l { live = false; stage = Ended }) n s.env }
+
   -- the destruction of a coroutine begins: it is live no more, and unwound if its main has begun and not ended
   abbrev pub take_down_at : Stage → Exec → Execution C V → State C V → Moved C V
-  take_down_at Fresh n x s = To (record s { env = with_live false n s.env })
+  take_down_at Fresh n x s = To (over n s)
   take_down_at Started n x s =
       To (switched n (unwound_there reason.Destroyed (record x { links = record x.links { live = false; destroyer = Some s.env.exec } })) s)
-  take_down_at Ended n x s = To (record s { env = with_live false n s.env })
+  take_down_at Ended n x s = To (over n s)
 
   abbrev pub take_down_by : Exec → Option (Execution C V) → State C V → Moved C V
   take_down_by n None s = To s

@@ -5,7 +5,7 @@ use Rattle.uc_tree.specs.Constants.{constant_value}
 use Rattle.uc_tree.specs.Rows.{reaches, cells_within}
 use Rattle.uc_tree.specs.Objects.{shape_within, height_within}
 use Rattle.uc_resolve.specs.Resolve.{source_of}
-use Rattle.uc_tree.specs.Source.{Shape, Integer, Binding, Last, Field as FieldIn, Source, Builder, TaskMain, CoroutineMain, Procedure, Function, NoTest, Plus, Times, Expr, Literal, Variable, Get, Assign, Operate, OfObject, OwnField, GetOwn, CallOn, CallUnwritten, CallLive, NoExprs, MoreExprs, Show, Destroys, Unwinds, Forgets, Skip, Block, Whole, Evaluate, Declare, Print, Loop, Return, OfEvents, Plainly, Throw, Try, NoHandlers, MoreHandlers, OfTasks, Resume, Suspend, SetUp, Enliven, TakeDown, Stmts, Nil, Then, Scoped, Built, Routine}
+use Rattle.uc_tree.specs.Source.{Shape, Integer, Binding, Last, Field as FieldIn, Source, Builder, TaskMain, CoroutineMain, Procedure, Function, NoTest, Plus, Times, Expr, Literal, Variable, Get, Assign, Operate, OfObject, OwnField, GetOwn, Bind, CallOn, CallUnwritten, CallLive, NoExprs, MoreExprs, Show, Destroys, Unwinds, Forgets, Skip, Block, Whole, Evaluate, Declare, Print, Loop, Return, OfEvents, Plainly, Throw, Try, NoHandlers, MoreHandlers, OfTasks, Resume, Suspend, SetUp, Enliven, TakeDown, Stmts, Nil, Then, Scoped, Built, Routine}
 use Rattle.uc_entry.specs.declared.request.Answer.TheVariants as answer
 use Rattle.uc_entry.specs.declared.entry.EntryKind.TheVariants as kind
 use Rattle.uc_acts.specs.Journal.{entry, begin, is_over, inside, own_object, entries_at}
@@ -14,6 +14,7 @@ use Rattle.uc_acts.specs.Known.{object_count, task_count, is_gone, owner}
 use Rattle.uc_acts.specs.Doors.{open_at, blocked_at, last_call, offers, stack_at}
 use Rattle.uc_acts.specs.Journal.{held}
 use Rattle.uc_acts.specs.Answers.{answer_to}
+use Rattle.uc_meaning.specs.SamplePrograms.{in_line}
 use Rattle.uc_meaning.specs.Runs.{Runs, IsRun, begun, first_world}
 use Rattle.uc_acts.specs.Samples.{options}
 use Rattle.uc_meaning.specs.CoroutineSamples.{switched_text, switched_journal, SwitchedRun, destroyed_text, destroyed_journal, DestroyedRun, ended_text, ended_journal, EndedRun, left_text, left_journal, LeftRun}
@@ -73,8 +74,8 @@ unfolding inside held waiting stacked ready running entries_at open_at blocked_a
 switched_runs =
     let r0 : Runs switched_source [] options (begin options ∷ []) (first_world switched_source) = begun in
     let r1 = given r0 refl (0, lit< tt, refl) refl refl refl in
-    let r2 = acted answer.Go _ (printed 4 0 12) r1 refl refl refl refl refl in
-    let r3 = acted answer.Go _ the_end r2 refl refl refl refl refl in
+    let r2 = acted answer.Go _ (printed 2 4 0 12) r1 refl refl refl refl refl in
+    let r3 = acted answer.Go _ (the_end 2) r2 refl refl refl refl refl in
     record { prefix = record { world = _; runs = r3 }; over = refl }
 
 pub switched_run : SwitchedRun
@@ -98,9 +99,9 @@ unfolding inside held waiting stacked ready running entries_at open_at blocked_a
 destroyed_runs =
     let r0 : Runs destroyed_source [] options (begin options ∷ []) (first_world destroyed_source) = begun in
     let r1 = given r0 refl (0, lit< tt, refl) refl refl refl in
-    let r2 = acted answer.Go _ (printed 2 1 45) r1 refl refl refl refl refl in
-    let r3 = acted answer.Go _ (printed 0 1 46) r2 refl refl refl refl refl in
-    let r4 = acted answer.Go _ the_end r3 refl refl refl refl refl in
+    let r2 = acted answer.Go _ (printed 1 2 1 45) r1 refl refl refl refl refl in
+    let r3 = acted answer.Go _ (printed 3 0 1 46) r2 refl refl refl refl refl in
+    let r4 = acted answer.Go _ (the_end 3) r3 refl refl refl refl refl in
     record { prefix = record { world = _; runs = r4 }; over = refl }
 
 pub destroyed_run : DestroyedRun
@@ -108,7 +109,7 @@ destroyed_run = record { run = subst (λ s. IsRun s [] options destroyed_journal
 
 abbrev ended_source : Source
 ended_source = record {
-  routines = coroutine_main 1 0 (Then (OfTasks (Suspend 1)) (prints_one 1 106 (Then (OfTasks (Suspend 1)) Nil))) ∷ (going_on 1 ∷ (coroutine_main 2 0 (go_then 2 1 (OfObject (GetOwn (with_field Binding) 1)) (Then (OfTasks (Suspend 2)) (prints_one 2 98 Nil))) ∷ (record { line = 2; cells = 1; params = 1; purpose = Builder; written = true; body = Then (OfTasks (SetUp 2)) (Built Forgets (Then (Evaluate 0 (Assign (OfObject (OwnField (with_field Binding) 1)) (Get 0))) (Built Unwinds (Then (Whole 2 Nil) (Then (OfTasks Enliven) Nil))))) } ∷ (going_on 2 ∷ (record { line = 3; cells = 3; params = 0; purpose = TaskMain; written = true; body = in_scope 3 0 1 6 7 (Then (Declare 3 (record { cell = 1; cells = 2; value = None } ∷ [])) (Then (Evaluate 3 (OfObject (CallOn 3 (Variable 1) (MoreExprs (Variable 0) NoExprs)))) (Scoped (Destroys (OfObject (CallUnwritten 8 (Variable 1)))) (go_then 3 4 (Variable 1) (go_then 3 1 (Variable 0) (go_then 3 1 (Variable 0) (prints_one 3 46 Nil))))))) } ∷ (builds 0 ∷ (destroys ∷ (destroys ∷ []))))))));
+  routines = coroutine_main 1 0 (Then (OfTasks (Suspend 1)) (prints_one 1 106 (Then (OfTasks (Suspend 1)) Nil))) ∷ (going_on 1 ∷ (coroutine_main 2 0 (go_then 2 1 (OfObject (GetOwn (with_field Binding) 1)) (Then (OfTasks (Suspend 2)) (prints_one 2 98 Nil))) ∷ (record { line = 2; cells = 1; params = 1; purpose = Builder; written = true; body = Then (OfTasks (SetUp 2)) (Built Forgets (Then (Evaluate 0 (OfObject (Bind (OfObject (OwnField (with_field Binding) 1)) (Get 0)))) (Built Unwinds (Then (Whole 2 Nil) (Then (OfTasks Enliven) Nil))))) } ∷ (going_on 2 ∷ (record { line = 3; cells = 3; params = 0; purpose = TaskMain; written = true; body = in_scope 3 0 1 6 7 (Then (Declare 3 (record { cell = 1; cells = 2; value = None } ∷ [])) (Then (Evaluate 3 (OfObject (CallOn 3 (Variable 1) (MoreExprs (Variable 0) NoExprs)))) (Scoped (Destroys (OfObject (CallUnwritten 8 (Variable 1)))) (go_then 3 4 (Variable 1) (go_then 3 1 (Variable 0) (go_then 3 1 (Variable 0) (prints_one 3 46 Nil))))))) } ∷ (builds 0 ∷ (destroys ∷ (destroys ∷ []))))))));
   main = 5;
   classes = record { cells = 0 } ∷ (record { cells = 1 } ∷ (record { cells = 2 } ∷ []));
   sites = [];
@@ -124,10 +125,10 @@ unfolding inside held waiting stacked ready running entries_at open_at blocked_a
 ended_runs =
     let r0 : Runs ended_source [] options (begin options ∷ []) (first_world ended_source) = begun in
     let r1 = given r0 refl (0, lit< tt, refl) refl refl refl in
-    let r2 = acted answer.Go _ (printed 4 1 106) r1 refl refl refl refl refl in
-    let r3 = acted answer.Go _ (printed 1 1 98) r2 refl refl refl refl refl in
-    let r4 = acted answer.Go _ (printed 0 1 46) r3 refl refl refl refl refl in
-    let r5 = acted answer.Go _ the_end r4 refl refl refl refl refl in
+    let r2 = acted answer.Go _ (printed 1 4 1 106) r1 refl refl refl refl refl in
+    let r3 = acted answer.Go _ (printed 2 1 1 98) r2 refl refl refl refl refl in
+    let r4 = acted answer.Go _ (printed 3 0 1 46) r3 refl refl refl refl refl in
+    let r5 = acted answer.Go _ (the_end 3) r4 refl refl refl refl refl in
     record { prefix = record { world = _; runs = r5 }; over = refl }
 
 pub ended_run : EndedRun
@@ -151,8 +152,8 @@ unfolding inside held waiting stacked ready running entries_at open_at blocked_a
 left_runs =
     let r0 : Runs left_source [] options (begin options ∷ []) (first_world left_source) = begun in
     let r1 = given r0 refl (0, lit< tt, refl) refl refl refl in
-    let r2 = acted answer.Go _ (printed 1 1 117) r1 refl refl refl refl refl in
-    let r3 = acted answer.Go _ (entry kind.Fault 0 0 1 0 (pos 5) (pos 2) ∷ []) r2 refl refl refl refl refl in
+    let r2 = acted answer.Go _ (printed 3 1 1 117) r1 refl refl refl refl refl in
+    let r3 = acted answer.Go _ (in_line 2 (entry kind.Fault 0 0 1 0 (pos 5) (pos 2)) ∷ []) r2 refl refl refl refl refl in
     record { prefix = record { world = _; runs = r3 }; over = refl }
 
 pub left_run : LeftRun

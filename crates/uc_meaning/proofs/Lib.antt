@@ -2,4 +2,5 @@ pub mod RunsSampled
 pub mod ObjectsSampled
 pub mod RaisingSampled
 pub mod CoroutinesSampled
-pub mod Cuts
+pub mod CutsLemmas
+pub mod MonitorsSampled

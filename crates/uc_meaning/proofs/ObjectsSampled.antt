@@ -1,11 +1,11 @@
 -- The journals of sample programs with objects are runs of them, step by step.
-use Rattle.std.proofs.Common.{◌≡◌, ℕ, zero, suc, ◌+◌, false, true, List, [], ◌∷◌, ◌++◌, Option, Some, None, refl, sym, subst, pos, lit<}
+use Rattle.std.proofs.Common.{◌≡◌, ℕ, false, true, [], ◌∷◌, Some, None, refl, sym, subst, pos, lit<}
 use Rattle.uc_tree.specs.declared.kinds.ValueForm.TheVariants as value_form
 use Rattle.uc_tree.specs.Constants.{constant_value}
 use Rattle.uc_tree.specs.Rows.{reaches, cells_within}
 use Rattle.uc_tree.specs.Objects.{shape_within, height_within}
 use Rattle.uc_resolve.specs.Resolve.{source_of}
-use Rattle.uc_tree.specs.Source.{Shape, Integer, Binding, Last, Field as FieldIn, Array, Source, Builder, TaskMain, Procedure, Function, NoTest, Plus, Minus, Over, Call, Expr, Literal, Variable, Element, Get, Load, Assign, Operate, OfObject, This, OwnField, GetOwn, Counted, CallOn, CallUnwritten, NoExprs, MoreExprs, Show, ShowText, CleanUp, Destroys, DestroysAll, Skip, Block, Whole, Evaluate, Declare, Print, Loop, Break, Return, Fill, Stmts, Nil, Then, Scoped, Built, Routine}
+use Rattle.uc_tree.specs.Source.{Shape, Integer, Binding, Last, Field as FieldIn, Array, Source, Builder, TaskMain, Procedure, Function, NoTest, Plus, Minus, Over, Call, Expr, Literal, Variable, Element, Get, Load, Assign, Operate, OfObject, This, OwnField, GetOwn, Bind, Counted, CallOn, CallUnwritten, NoExprs, MoreExprs, Show, ShowText, Destroys, DestroysAll, Skip, Block, Whole, Evaluate, Declare, Print, Loop, Break, Return, Fill, Stmts, Nil, Then, Scoped, Built}
 use Rattle.uc_entry.specs.declared.request.Answer.TheVariants as answer
 use Rattle.uc_entry.specs.declared.entry.EntryKind.TheVariants as kind
 use Rattle.uc_acts.specs.Journal.{entry, begin, is_over, inside, own_object, entries_at}
@@ -14,6 +14,7 @@ use Rattle.uc_acts.specs.Known.{object_count, task_count, is_gone, owner}
 use Rattle.uc_acts.specs.Doors.{open_at, blocked_at, last_call, offers, stack_at}
 use Rattle.uc_acts.specs.Journal.{held}
 use Rattle.uc_acts.specs.Answers.{answer_to}
+use Rattle.uc_meaning.specs.SamplePrograms.{in_line}
 use Rattle.uc_meaning.specs.Runs.{Runs, IsRun, begun, first_world}
 use Rattle.uc_acts.specs.Samples.{options}
 use Rattle.uc_meaning.specs.ObjectSamples.{nested_text, nested_journal, NestedRun, array_text, array_journal, ArrayRun, member_text, member_journal, MemberRun, unwritten_text, unwritten_journal, UnwrittenRun, reference_text, reference_journal, ReferenceRun}
@@ -59,22 +60,22 @@ unfolding inside held waiting stacked ready running entries_at open_at blocked_a
 nested_runs =
     let r0 : Runs nested_source [] options (begin options ∷ []) (first_world nested_source) = begun in
     let r1 = given r0 refl (0, lit< tt, refl) refl refl refl in
-    let r2 = acted answer.Go _ (printed 1 1 43) r1 refl refl refl refl refl in
-    let r3 = acted answer.Go _ (printed 0 0 0) r2 refl refl refl refl refl in
-    let r4 = acted answer.Go _ (printed 2 1 43) r3 refl refl refl refl refl in
-    let r5 = acted answer.Go _ (printed 0 0 1) r4 refl refl refl refl refl in
-    let r6 = acted answer.Go _ (printed 1 1 43) r5 refl refl refl refl refl in
-    let r7 = acted answer.Go _ (printed 0 0 2) r6 refl refl refl refl refl in
-    let r8 = acted answer.Go _ (printed 0 2 0) r7 refl refl refl refl refl in
-    let r9 = acted answer.Go _ (printed 0 1 32) r8 refl refl refl refl refl in
-    let r10 = acted answer.Go _ (printed 1 2 1) r9 refl refl refl refl refl in
-    let r11 = acted answer.Go _ (printed 1 1 45) r10 refl refl refl refl refl in
-    let r12 = acted answer.Go _ (printed 0 0 2) r11 refl refl refl refl refl in
-    let r13 = acted answer.Go _ (printed 1 1 45) r12 refl refl refl refl refl in
-    let r14 = acted answer.Go _ (printed 0 0 1) r13 refl refl refl refl refl in
-    let r15 = acted answer.Go _ (printed 1 1 45) r14 refl refl refl refl refl in
-    let r16 = acted answer.Go _ (printed 0 0 0) r15 refl refl refl refl refl in
-    let r17 = acted answer.Go _ the_end r16 refl refl refl refl refl in
+    let r2 = acted answer.Go _ (printed 1 1 1 43) r1 refl refl refl refl refl in
+    let r3 = acted answer.Go _ (printed 1 0 0 0) r2 refl refl refl refl refl in
+    let r4 = acted answer.Go _ (printed 1 2 1 43) r3 refl refl refl refl refl in
+    let r5 = acted answer.Go _ (printed 1 0 0 1) r4 refl refl refl refl refl in
+    let r6 = acted answer.Go _ (printed 1 1 1 43) r5 refl refl refl refl refl in
+    let r7 = acted answer.Go _ (printed 1 0 0 2) r6 refl refl refl refl refl in
+    let r8 = acted answer.Go _ (printed 2 0 2 0) r7 refl refl refl refl refl in
+    let r9 = acted answer.Go _ (printed 3 0 1 32) r8 refl refl refl refl refl in
+    let r10 = acted answer.Go _ (printed 2 1 2 1) r9 refl refl refl refl refl in
+    let r11 = acted answer.Go _ (printed 1 1 1 45) r10 refl refl refl refl refl in
+    let r12 = acted answer.Go _ (printed 1 0 0 2) r11 refl refl refl refl refl in
+    let r13 = acted answer.Go _ (printed 1 1 1 45) r12 refl refl refl refl refl in
+    let r14 = acted answer.Go _ (printed 1 0 0 1) r13 refl refl refl refl refl in
+    let r15 = acted answer.Go _ (printed 1 1 1 45) r14 refl refl refl refl refl in
+    let r16 = acted answer.Go _ (printed 1 0 0 0) r15 refl refl refl refl refl in
+    let r17 = acted answer.Go _ (the_end 3) r16 refl refl refl refl refl in
     record { prefix = record { world = _; runs = r17 }; over = refl }
 
 pub nested_run : NestedRun
@@ -102,13 +103,13 @@ unfolding inside held waiting stacked ready running entries_at open_at blocked_a
 array_runs =
     let r0 : Runs array_source [] options (begin options ∷ []) (first_world array_source) = begun in
     let r1 = given r0 refl (0, lit< tt, refl) refl refl refl in
-    let r2 = acted answer.Go _ (printed 2 1 43) r1 refl refl refl refl refl in
-    let r3 = acted answer.Go _ (printed 1 1 43) r2 refl refl refl refl refl in
-    let r4 = acted answer.Go _ (printed 2 1 45) r3 refl refl refl refl refl in
-    let r5 = acted answer.Go _ (printed 0 0 7) r4 refl refl refl refl refl in
-    let r6 = acted answer.Go _ (printed 1 1 45) r5 refl refl refl refl refl in
-    let r7 = acted answer.Go _ (printed 0 0 0) r6 refl refl refl refl refl in
-    let r8 = acted answer.Go _ the_end r7 refl refl refl refl refl in
+    let r2 = acted answer.Go _ (printed 1 2 1 43) r1 refl refl refl refl refl in
+    let r3 = acted answer.Go _ (printed 1 1 1 43) r2 refl refl refl refl refl in
+    let r4 = acted answer.Go _ (printed 1 2 1 45) r3 refl refl refl refl refl in
+    let r5 = acted answer.Go _ (printed 1 0 0 7) r4 refl refl refl refl refl in
+    let r6 = acted answer.Go _ (printed 1 1 1 45) r5 refl refl refl refl refl in
+    let r7 = acted answer.Go _ (printed 1 0 0 0) r6 refl refl refl refl refl in
+    let r8 = acted answer.Go _ (the_end 2) r7 refl refl refl refl refl in
     record { prefix = record { world = _; runs = r8 }; over = refl }
 
 pub array_run : ArrayRun
@@ -133,8 +134,8 @@ unfolding inside held waiting stacked ready running entries_at open_at blocked_a
 member_runs =
     let r0 : Runs member_source [] options (begin options ∷ []) (first_world member_source) = begun in
     let r1 = given r0 refl (0, lit< tt, refl) refl refl refl in
-    let r2 = acted answer.Go _ (printed 3 0 11) r1 refl refl refl refl refl in
-    let r3 = acted answer.Go _ the_end r2 refl refl refl refl refl in
+    let r2 = acted answer.Go _ (printed 3 3 0 11) r1 refl refl refl refl refl in
+    let r3 = acted answer.Go _ (the_end 3) r2 refl refl refl refl refl in
     record { prefix = record { world = _; runs = r3 }; over = refl }
 
 pub member_run : MemberRun
@@ -166,10 +167,10 @@ unfolding inside held waiting stacked ready running entries_at open_at blocked_a
 unwritten_runs =
     let r0 : Runs unwritten_source [] options (begin options ∷ []) (first_world unwritten_source) = begun in
     let r1 = given r0 refl (0, lit< tt, refl) refl refl refl in
-    let r2 = acted answer.Go _ (printed 1 1 43) r1 refl refl refl refl refl in
-    let r3 = acted answer.Go _ (printed 1 1 43) r2 refl refl refl refl refl in
-    let r4 = acted answer.Go _ (printed 1 1 43) r3 refl refl refl refl refl in
-    let r5 = acted answer.Go _ the_end r4 refl refl refl refl refl in
+    let r2 = acted answer.Go _ (printed 1 1 1 43) r1 refl refl refl refl refl in
+    let r3 = acted answer.Go _ (printed 1 1 1 43) r2 refl refl refl refl refl in
+    let r4 = acted answer.Go _ (printed 1 1 1 43) r3 refl refl refl refl refl in
+    let r5 = acted answer.Go _ (the_end 3) r4 refl refl refl refl refl in
     record { prefix = record { world = _; runs = r5 }; over = refl }
 
 pub unwritten_run : UnwrittenRun
@@ -181,7 +182,7 @@ bound = own_value (FieldIn Binding Last) 0
 
 abbrev reference_source : Source
 reference_source = record {
-  routines = record { line = 1; cells = 1; params = 1; purpose = Builder; written = true; body = Then (Evaluate 0 (Assign (own_field (FieldIn Binding Last) 0) (Get 0))) (in_block 1 Nil) } ∷ (record { line = 1; cells = 0; params = 0; purpose = Builder; written = true; body = in_block 1 (Then (Evaluate 1 (Assign bound (Operate Plus (Load bound) (Literal (pos 1))))) (Then (Print 1 (Show value_form.Number (Load bound) ∷ [])) Nil)) } ∷ (record { line = 2; cells = 2; params = 1; purpose = Function; written = true; body = Then (Declare 3 (record { cell = 1; cells = 1; value = None } ∷ [])) (Then (Evaluate 3 (OfObject (CallOn 0 (Variable 1) (MoreExprs (Get 0) NoExprs)))) (Scoped (Destroys (call_at 1 (Variable 1))) (Then (Return 3 (Some (Load (Get 0)))) Nil))) } ∷ (record { line = 4; cells = 1; params = 1; purpose = Builder; written = true; body = Then (Evaluate 0 (Assign (own_field one_int 0) (Operate Over (Literal (pos 10)) (Get 0)))) (in_block 4 Nil) } ∷ (record { line = 5; cells = 2; params = 0; purpose = TaskMain; written = true; body = Then (Declare 5 (record { cell = 0; cells = 1; value = None } ∷ [])) (Then (Print 6 (Show value_form.Number (Call 2 (MoreExprs (Variable 0) NoExprs)) ∷ (Show value_form.Number (Get 0) ∷ []))) (Then (Declare 7 (record { cell = 1; cells = 1; value = None } ∷ [])) (Then (Evaluate 7 (OfObject (CallOn 3 (Variable 1) (MoreExprs (Operate Minus (Get 0) (Literal (pos 1))) NoExprs)))) (Scoped (Destroys (OfObject (CallUnwritten 5 (Variable 1)))) Nil)))) } ∷ (record { line = 0; cells = 0; params = 0; purpose = Builder; written = false; body = Nil } ∷ [])))));
+  routines = record { line = 1; cells = 1; params = 1; purpose = Builder; written = true; body = Then (Evaluate 0 (OfObject (Bind (own_field (FieldIn Binding Last) 0) (Get 0)))) (in_block 1 Nil) } ∷ (record { line = 1; cells = 0; params = 0; purpose = Builder; written = true; body = in_block 1 (Then (Evaluate 1 (Assign bound (Operate Plus (Load bound) (Literal (pos 1))))) (Then (Print 1 (Show value_form.Number (Load bound) ∷ [])) Nil)) } ∷ (record { line = 2; cells = 2; params = 1; purpose = Function; written = true; body = Then (Declare 3 (record { cell = 1; cells = 1; value = None } ∷ [])) (Then (Evaluate 3 (OfObject (CallOn 0 (Variable 1) (MoreExprs (Get 0) NoExprs)))) (Scoped (Destroys (call_at 1 (Variable 1))) (Then (Return 3 (Some (Load (Get 0)))) Nil))) } ∷ (record { line = 4; cells = 1; params = 1; purpose = Builder; written = true; body = Then (Evaluate 0 (Assign (own_field one_int 0) (Operate Over (Literal (pos 10)) (Get 0)))) (in_block 4 Nil) } ∷ (record { line = 5; cells = 2; params = 0; purpose = TaskMain; written = true; body = Then (Declare 5 (record { cell = 0; cells = 1; value = None } ∷ [])) (Then (Print 6 (Show value_form.Number (Call 2 (MoreExprs (Variable 0) NoExprs)) ∷ (Show value_form.Number (Get 0) ∷ []))) (Then (Declare 7 (record { cell = 1; cells = 1; value = None } ∷ [])) (Then (Evaluate 7 (OfObject (CallOn 3 (Variable 1) (MoreExprs (Operate Minus (Get 0) (Literal (pos 1))) NoExprs)))) (Scoped (Destroys (OfObject (CallUnwritten 5 (Variable 1)))) Nil)))) } ∷ (record { line = 0; cells = 0; params = 0; purpose = Builder; written = false; body = Nil } ∷ [])))));
   main = 4;
   classes = record { cells = 0 } ∷ (record { cells = 1 } ∷ (record { cells = 1 } ∷ []));
   sites = [];
@@ -197,10 +198,10 @@ unfolding inside held waiting stacked ready running entries_at open_at blocked_a
 reference_runs =
     let r0 : Runs reference_source [] options (begin options ∷ []) (first_world reference_source) = begun in
     let r1 = given r0 refl (0, lit< tt, refl) refl refl refl in
-    let r2 = acted answer.Go _ (printed 3 0 1) r1 refl refl refl refl refl in
-    let r3 = acted answer.Go _ (printed 0 0 0) r2 refl refl refl refl refl in
-    let r4 = acted answer.Go _ (printed 0 0 1) r3 refl refl refl refl refl in
-    let r5 = acted answer.Go _ (entry kind.Fault 0 0 1 0 (pos 2) (pos 7) ∷ []) r4 refl refl refl refl refl in
+    let r2 = acted answer.Go _ (printed 1 3 0 1) r1 refl refl refl refl refl in
+    let r3 = acted answer.Go _ (printed 6 0 0 0) r2 refl refl refl refl refl in
+    let r4 = acted answer.Go _ (printed 6 0 0 1) r3 refl refl refl refl refl in
+    let r5 = acted answer.Go _ (in_line 7 (entry kind.Fault 0 0 1 0 (pos 2) (pos 7)) ∷ []) r4 refl refl refl refl refl in
     record { prefix = record { world = _; runs = r5 }; over = refl }
 
 pub reference_run : ReferenceRun

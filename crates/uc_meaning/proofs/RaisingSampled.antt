@@ -14,6 +14,7 @@ use Rattle.uc_acts.specs.Known.{object_count, task_count, is_gone, owner}
 use Rattle.uc_acts.specs.Doors.{open_at, blocked_at, last_call, offers, stack_at}
 use Rattle.uc_acts.specs.Journal.{held}
 use Rattle.uc_acts.specs.Answers.{answer_to}
+use Rattle.uc_meaning.specs.SamplePrograms.{in_line}
 use Rattle.uc_meaning.specs.Runs.{Runs, IsRun, begun, first_world}
 use Rattle.uc_acts.specs.Samples.{options}
 use Rattle.uc_meaning.specs.RaisingSamples.{thrown_text, thrown_journal, ThrownRun, resumed_text, resumed_journal, ResumedRun, escaped_text, escaped_journal, EscapedRun, returned_text, returned_journal, ReturnedRun}
@@ -54,10 +55,10 @@ unfolding inside held waiting stacked ready running entries_at open_at blocked_a
 thrown_runs =
     let r0 : Runs thrown_source [] options (begin options ∷ []) (first_world thrown_source) = begun in
     let r1 = given r0 refl (0, lit< tt, refl) refl refl refl in
-    let r2 = acted answer.Go _ (printed 2 1 45) r1 refl refl refl refl refl in
-    let r3 = acted answer.Go _ (printed 0 0 7) r2 refl refl refl refl refl in
-    let r4 = acted answer.Go _ (printed 0 1 46) r3 refl refl refl refl refl in
-    let r5 = acted answer.Go _ the_end r4 refl refl refl refl refl in
+    let r2 = acted answer.Go _ (printed 2 2 1 45) r1 refl refl refl refl refl in
+    let r3 = acted answer.Go _ (printed 3 0 0 7) r2 refl refl refl refl refl in
+    let r4 = acted answer.Go _ (printed 3 0 1 46) r3 refl refl refl refl refl in
+    let r5 = acted answer.Go _ (the_end 3) r4 refl refl refl refl refl in
     record { prefix = record { world = _; runs = r5 }; over = refl }
 
 pub thrown_run : ThrownRun
@@ -81,10 +82,10 @@ unfolding inside held waiting stacked ready running entries_at open_at blocked_a
 resumed_runs =
     let r0 : Runs resumed_source [] options (begin options ∷ []) (first_world resumed_source) = begun in
     let r1 = given r0 refl (0, lit< tt, refl) refl refl refl in
-    let r2 = acted answer.Go _ (printed 2 0 2) r1 refl refl refl refl refl in
-    let r3 = acted answer.Go _ (printed 0 0 5) r2 refl refl refl refl refl in
-    let r4 = acted answer.Go _ (printed 0 1 43) r3 refl refl refl refl refl in
-    let r5 = acted answer.Go _ the_end r4 refl refl refl refl refl in
+    let r2 = acted answer.Go _ (printed 5 2 0 2) r1 refl refl refl refl refl in
+    let r3 = acted answer.Go _ (printed 5 0 0 5) r2 refl refl refl refl refl in
+    let r4 = acted answer.Go _ (printed 2 0 1 43) r3 refl refl refl refl refl in
+    let r5 = acted answer.Go _ (the_end 3) r4 refl refl refl refl refl in
     record { prefix = record { world = _; runs = r5 }; over = refl }
 
 pub resumed_run : ResumedRun
@@ -108,7 +109,7 @@ unfolding inside held waiting stacked ready running entries_at open_at blocked_a
 escaped_runs =
     let r0 : Runs escaped_source [] options (begin options ∷ []) (first_world escaped_source) = begun in
     let r1 = given r0 refl (0, lit< tt, refl) refl refl refl in
-    let r2 = acted answer.Go _ (entry kind.Fault 0 0 1 0 (pos 13) (pos 4) ∷ []) r1 refl refl refl refl refl in
+    let r2 = acted answer.Go _ (in_line 4 (entry kind.Fault 0 0 1 0 (pos 13) (pos 4)) ∷ []) r1 refl refl refl refl refl in
     record { prefix = record { world = _; runs = r2 }; over = refl }
 
 pub escaped_run : EscapedRun
@@ -136,10 +137,10 @@ unfolding inside held waiting stacked ready running entries_at open_at blocked_a
 returned_runs =
     let r0 : Runs returned_source [] options (begin options ∷ []) (first_world returned_source) = begun in
     let r1 = given r0 refl (0, lit< tt, refl) refl refl refl in
-    let r2 = acted answer.Go _ (printed 2 1 45) r1 refl refl refl refl refl in
-    let r3 = acted answer.Go _ (printed 1 1 45) r2 refl refl refl refl refl in
-    let r4 = acted answer.Go _ (printed 0 0 7) r3 refl refl refl refl refl in
-    let r5 = acted answer.Go _ the_end r4 refl refl refl refl refl in
+    let r2 = acted answer.Go _ (printed 2 2 1 45) r1 refl refl refl refl refl in
+    let r3 = acted answer.Go _ (printed 2 1 1 45) r2 refl refl refl refl refl in
+    let r4 = acted answer.Go _ (printed 4 0 0 7) r3 refl refl refl refl refl in
+    let r5 = acted answer.Go _ (the_end 4) r4 refl refl refl refl refl in
     record { prefix = record { world = _; runs = r5 }; over = refl }
 
 pub returned_run : ReturnedRun

@@ -25,7 +25,7 @@ use Rattle.uc_machine.specs.Rides.{Rides, slices, goes_on, ticks, asks, asked_in
 use Rattle.uc_meaning.specs.Runs.{World, Runs, IsRun, begun, more, gives, acts, drawn, world_after, first_world}
 use Rattle.uc_machine.specs.Answering.{answered}
 use Rattle.uc_acts.specs.Samples.{options, first_journal}
-use Rattle.uc_meaning.specs.SamplePrograms.{first_text, FirstRun, loop_text, two_ticks, loop_journal, LoopRun, call_text, call_journal, CallRun}
+use Rattle.uc_meaning.specs.SamplePrograms.{in_line, first_text, FirstRun, loop_text, two_ticks, loop_journal, LoopRun, call_text, call_journal, CallRun}
 
 -- where a ride leads: the state, its ticks, and what is asked
 pub record Ridden : Type 0 where
@@ -70,7 +70,7 @@ module _ (source : Source) where
   step_leads s q on ticked r f g (Asks a t) h e =
       subst (Leads (suc q) s) (some_same (record { reached = t; made = 0; asked = asked_in s a }) r e) (asks h)
 
-  leads : (f q : ℕ) (s : State) (r : Ridden) → ride f q s ≡ Some r → Leads q s r
+  pub leads : (f q : ℕ) (s : State) (r : Ridden) → ride f q s ≡ Some r → Leads q s r
   leads zero q s r e = absurd (cc e)
   leads (suc f) zero s r e =
       subst (Leads 0 s) (some_same (record { reached = s; made = 0; asked = asked_in s ask.Slice }) r e) slices
@@ -84,9 +84,9 @@ module _ {source : Source} {opts : Options} where
   given {j} r o c f q h =
       more r o (gives 0 0 (record { cluster = 0; later = []; opened = c; free = f; queued = q }) (leb-true (length j + 2) opts.entries h))
 
-  pub acted : {j : Journal} {w : World} (x : Answer) (r : Ridden) (a : List Entry) → Runs source [] opts j w → is_over j ≡ false → running 0 j ≡ 0 ∷ [] → answer_to source.sites 0 j ≡ Some x → ride source 150 (left opts j 0) (answered x (drawn j w 0)) ≡ Some r → act opts source.sites [] j 0 0 r.made r.asked ≡ a → Runs source [] opts (j ++ a) (world_after source a w 0 r.reached)
+  pub acted : {j : Journal} {w : World} (x : Answer) (r : Ridden) (a : List Entry) → Runs source [] opts j w → is_over j ≡ false → running 0 j ≡ 0 ∷ [] → answer_to source.sites 0 j ≡ Some x → ride source 150 (left opts j 0) (answered source x (drawn j w 0)) ≡ Some r → act opts source.sites [] j 0 0 r.made r.asked ≡ a → Runs source [] opts (j ++ a) (world_after source a w 0 r.reached)
   acted {j} {w} x r a run o h told e k =
-      subst (λ y. Runs source [] opts (j ++ y) (world_after source y w 0 r.reached)) k (more run o (acts 0 0 r.made r.reached r.asked (record { given = x; runs = h; told = told; rides = leads source 150 (left opts j 0) (answered x (drawn j w 0)) r e })))
+      subst (λ y. Runs source [] opts (j ++ y) (world_after source y w 0 r.reached)) k (more run o (acts 0 0 r.made r.reached r.asked (record { given = x; runs = h; told = told; rides = leads source 150 (left opts j 0) (answered source x (drawn j w 0)) r e })))
 
 abbrev first_source : Source
 first_source = record {
@@ -100,20 +100,20 @@ first_source = record {
 first_is : source_of first_text ≡ first_source
 first_is = refl
 
-abbrev pub printed : ℕ → ℕ → ℕ → List Entry
-printed k form value = entry kind.Print 0 0 k 0 (pos form) (pos value) ∷ []
+abbrev pub printed : ℕ → ℕ → ℕ → ℕ → List Entry
+printed line k form value = in_line line (entry kind.Print 0 0 k 0 (pos form) (pos value)) ∷ []
 
-abbrev pub the_end : List Entry
-the_end = entry kind.End 0 0 0 0 (pos 0) (pos 0) ∷ (entry kind.Done 0 0 0 0 (pos 0) (pos 0) ∷ [])
+abbrev pub the_end : ℕ → List Entry
+the_end line = in_line line (entry kind.End 0 0 0 0 (pos 0) (pos 0)) ∷ (entry kind.Done 0 0 0 0 (pos 0) (pos 0) ∷ [])
 
 first_runs : IsRun first_source [] options first_journal
 unfolding inside held waiting stacked ready running entries_at open_at blocked_at last_call none_running none_ready none_served first_ended all_ticks processor_count cluster_count open_processors processors offers own_object stack_at used object_count task_count is_gone owner is_over tasks_on answer_to
 first_runs =
     let r0 : Runs first_source [] options (begin options ∷ []) (first_world first_source) = begun in
     let r1 = given r0 refl (0, lit< tt, refl) refl refl refl in
-    let r2 = acted answer.Go _ (printed 0 0 3) r1 refl refl refl refl refl in
-    let r3 = acted answer.Go _ (printed 0 1 10) r2 refl refl refl refl refl in
-    let r4 = acted answer.Go _ the_end r3 refl refl refl refl refl in
+    let r2 = acted answer.Go _ (printed 1 0 0 3) r1 refl refl refl refl refl in
+    let r3 = acted answer.Go _ (printed 1 0 1 10) r2 refl refl refl refl refl in
+    let r4 = acted answer.Go _ (the_end 1) r3 refl refl refl refl refl in
     record { prefix = record { world = _; runs = r4 }; over = refl }
 
 pub first_run : FirstRun
@@ -143,12 +143,12 @@ unfolding inside held waiting stacked ready running entries_at open_at blocked_a
 loop_runs =
     let r0 : Runs loop_source [] two_ticks (begin two_ticks ∷ []) (first_world loop_source) = begun in
     let r1 = given r0 refl (0, lit< tt, refl) refl refl refl in
-    let r2 = acted answer.Go _ (printed 1 0 0) r1 refl refl refl refl refl in
-    let r3 = acted answer.Go _ (entry kind.Slice 0 0 1 0 (pos 0) (pos 0) ∷ []) r2 refl refl refl refl refl in
+    let r2 = acted answer.Go _ (printed 1 1 0 0) r1 refl refl refl refl refl in
+    let r3 = acted answer.Go _ (in_line 1 (entry kind.Slice 0 0 1 0 (pos 0) (pos 0)) ∷ []) r2 refl refl refl refl refl in
     let r4 = given r3 refl (0, lit< tt, refl) refl refl refl in
-    let r5 = acted answer.Go _ (printed 0 0 1) r4 refl refl refl refl refl in
-    let r6 = acted answer.Go _ (printed 1 0 2) r5 refl refl refl refl refl in
-    let r7 = acted answer.Go _ the_end r6 refl refl refl refl refl in
+    let r5 = acted answer.Go _ (printed 1 0 0 1) r4 refl refl refl refl refl in
+    let r6 = acted answer.Go _ (printed 1 1 0 2) r5 refl refl refl refl refl in
+    let r7 = acted answer.Go _ (the_end 1) r6 refl refl refl refl refl in
     record { prefix = record { world = _; runs = r7 }; over = refl }
 
 pub loop_run : LoopRun
@@ -171,8 +171,8 @@ unfolding inside held waiting stacked ready running entries_at open_at blocked_a
 call_runs =
     let r0 : Runs call_source [] options (begin options ∷ []) (first_world call_source) = begun in
     let r1 = given r0 refl (0, lit< tt, refl) refl refl refl in
-    let r2 = acted answer.Go _ (printed 1 0 2) r1 refl refl refl refl refl in
-    let r3 = acted answer.Go _ (entry kind.Fault 0 0 1 0 (pos 2) (pos 2) ∷ []) r2 refl refl refl refl refl in
+    let r2 = acted answer.Go _ (printed 5 1 0 2) r1 refl refl refl refl refl in
+    let r3 = acted answer.Go _ (in_line 2 (entry kind.Fault 0 0 1 0 (pos 2) (pos 2)) ∷ []) r2 refl refl refl refl refl in
     record { prefix = record { world = _; runs = r3 }; over = refl }
 
 pub call_run : CallRun

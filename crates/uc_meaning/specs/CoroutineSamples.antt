@@ -14,6 +14,7 @@ use Rattle.uc_tree.specs.Programs.{Item, ClassItem, FieldsMember, RoutineMember,
 use Rattle.uc_resolve.specs.Resolve.{source_of}
 use Rattle.uc_entry.specs.declared.entry.EntryKind.TheVariants as kind
 use Rattle.uc_acts.specs.Journal.{Journal, entry}
+use Rattle.uc_meaning.specs.SamplePrograms.{in_line}
 use Rattle.uc_meaning.specs.Runs.{IsRun}
 use Rattle.uc_acts.specs.Samples.{options}
 use Rattle.uc_meaning.specs.ObjectSamples.{at, named, number, called_at, joined, sum, set, character, value, variable, reference, sig, routine, init, hidden, open_to_all, constructor, destructor, class, main, prints, opening, done}
@@ -55,7 +56,7 @@ switched_text = record {
 
 -- 12: the operands of the expression wait for both switches. Each makes two ticks, one of the call and one of a turn.
 abbrev pub switched_journal : Journal
-switched_journal = opening ++ prints 4 0 12 ∷ done
+switched_journal = opening ++ in_line 2 (prints 4 0 12) ∷ done 2
 
 pub record SwitchedRun : Type 0 where
   pub run : IsRun (source_of switched_text) [] options switched_journal
@@ -70,7 +71,7 @@ destroyed_text = record {
 
 -- -.: the stack of the coroutine is unwound as it is destroyed, and no handler stops that
 abbrev pub destroyed_journal : Journal
-destroyed_journal = opening ++ prints 2 1 45 ∷ prints 0 1 46 ∷ done
+destroyed_journal = opening ++ in_line 1 (prints 2 1 45) ∷ in_line 3 (prints 0 1 46) ∷ done 3
 
 pub record DestroyedRun : Type 0 where
   pub run : IsRun (source_of destroyed_text) [] options destroyed_journal
@@ -85,7 +86,7 @@ ended_text = record {
 
 -- jb.: j suspends to the task, which has resumed it last; its end activates b, which has started it, where that is suspended
 abbrev pub ended_journal : Journal
-ended_journal = opening ++ prints 4 1 106 ∷ prints 1 1 98 ∷ prints 0 1 46 ∷ done
+ended_journal = opening ++ in_line 1 (prints 4 1 106) ∷ in_line 2 (prints 1 1 98) ∷ in_line 3 (prints 0 1 46) ∷ done 3
 
 pub record EndedRun : Type 0 where
   pub run : IsRun (source_of ended_text) [] options ended_journal
@@ -100,7 +101,7 @@ left_text = record {
 
 -- u, and fault 5 in line 2: the event has ended the coroutine's main, and is thrown as another one where that was resumed
 abbrev pub left_journal : Journal
-left_journal = opening ++ prints 1 1 117 ∷ entry kind.Fault 0 0 1 0 (pos 5) (pos 2) ∷ []
+left_journal = opening ++ in_line 3 (prints 1 1 117) ∷ in_line 2 (entry kind.Fault 0 0 1 0 (pos 5) (pos 2)) ∷ []
 
 pub record LeftRun : Type 0 where
   pub run : IsRun (source_of left_text) [] options left_journal

@@ -4,3 +4,4 @@ pub mod ObjectSamples
 pub mod RaisingSamples
 pub mod CoroutineSamples
 pub mod Cuts
+pub mod MonitorSamples

@@ -1,6 +1,6 @@
 -- Sample programs with objects, as the trees of their texts, and journals that are worked out by hand. Each place has the line of
 -- its text, and column 1.
-use Rattle.std.specs.Prelude.{ℕ, ℤ, pos, false, true, List, [], ◌∷◌, ◌++◌, codes, Some, None}
+use Rattle.std.specs.Prelude.{ℕ, pos, false, true, List, [], ◌∷◌, ◌++◌, codes, Some, None}
 use Rattle.uc_tree.specs.declared.pos.Pos.{Pos}
 use Rattle.uc_tree.specs.declared.kinds.Base.{Base}
 use Rattle.uc_tree.specs.declared.kinds.Base.TheVariants as base
@@ -15,14 +15,15 @@ use Rattle.uc_tree.specs.declared.kinds.Param.{Param}
 use Rattle.uc_tree.specs.declared.ops.BinaryOp.{BinaryOp}
 use Rattle.uc_tree.specs.declared.ops.BinaryOp.TheVariants as binary
 use Rattle.uc_tree.specs.declared.ops.AssignOp.TheVariants as assign
-use Rattle.uc_tree.specs.Expressions.{Expr, Number, Character, Name, Postfix, Chain, Assign, Exprs, exprs_of, Part, Field, Index, Call, parts_of, Linked, links_of}
+use Rattle.uc_tree.specs.Expressions.{Expr, Number, Character, Name, Postfix, Chain, Assign, exprs_of, Part, Field, Index, Call, parts_of, Linked, links_of}
 use Rattle.uc_tree.specs.Statements.{Start, NoStart, StartArgs, Declarator, OutItem, Literal, Printed, NoFor, Stmt, Block, Evaluate, Declare, For, Break, Print, Return, stmts_of}
-use Rattle.uc_tree.specs.Programs.{Sig, Init, Routine, MemberForm, FieldsMember, RoutineMember, ProtoMember, Member, Class, Item, ClassItem, RoutineItem, Program}
+use Rattle.uc_tree.specs.Programs.{Sig, Init, Routine, MemberForm, FieldsMember, RoutineMember, ProtoMember, Member, Item, ClassItem, RoutineItem, Program}
 use Rattle.uc_resolve.specs.Resolve.{source_of}
 use Rattle.uc_entry.specs.declared.entry.EntryKind.TheVariants as kind
 use Rattle.uc_entry.specs.declared.entry.Entry.{Entry}
 use Rattle.uc_acts.specs.Journal.{Journal, entry, begin}
 use Rattle.uc_acts.specs.Acts.{dispatch}
+use Rattle.uc_meaning.specs.SamplePrograms.{in_line}
 use Rattle.uc_meaning.specs.Runs.{IsRun}
 use Rattle.uc_acts.specs.Samples.{options}
 
@@ -111,8 +112,9 @@ prints ticks form value = entry kind.Print 0 0 ticks 0 (pos form) (pos value)
 abbrev pub opening : Journal
 opening = begin options ∷ dispatch 0 0 ∷ []
 
-abbrev pub done : Journal
-done = entry kind.End 0 0 0 0 (pos 0) (pos 0) ∷ entry kind.Done 0 0 0 0 (pos 0) (pos 0) ∷ []
+-- the end, in this line
+abbrev pub done : ℕ → Journal
+done line = in_line line (entry kind.End 0 0 0 0 (pos 0) (pos 0)) ∷ entry kind.Done 0 0 0 0 (pos 0) (pos 0) ∷ []
 
 -- line 1: class A { int n; public: A(int n) : n(n) { cout << '+' << n; } ~A() { cout << '-' << n; } };
 -- line 2: class B { A x, y; public: B() : x(1), y(2) { cout << "+B"; } ~B() { cout << "-B"; } };
@@ -131,7 +133,7 @@ nested_text = record {
 -- +0+1+2+B -B-2-1-0: each constructor and each destructor makes a tick
 abbrev pub nested_journal : Journal
 nested_journal =
-    opening ++ prints 1 1 43 ∷ prints 0 0 0 ∷ prints 2 1 43 ∷ prints 0 0 1 ∷ prints 1 1 43 ∷ prints 0 0 2 ∷ prints 0 2 0 ∷ prints 0 1 32 ∷ prints 1 2 1 ∷ prints 1 1 45 ∷ prints 0 0 2 ∷ prints 1 1 45 ∷ prints 0 0 1 ∷ prints 1 1 45 ∷ prints 0 0 0 ∷ done
+    opening ++ in_line 1 (prints 1 1 43) ∷ in_line 1 (prints 0 0 0) ∷ in_line 1 (prints 2 1 43) ∷ in_line 1 (prints 0 0 1) ∷ in_line 1 (prints 1 1 43) ∷ in_line 1 (prints 0 0 2) ∷ in_line 2 (prints 0 2 0) ∷ in_line 3 (prints 0 1 32) ∷ in_line 2 (prints 1 2 1) ∷ in_line 1 (prints 1 1 45) ∷ in_line 1 (prints 0 0 2) ∷ in_line 1 (prints 1 1 45) ∷ in_line 1 (prints 0 0 1) ∷ in_line 1 (prints 1 1 45) ∷ in_line 1 (prints 0 0 0) ∷ done 3
 
 pub record NestedRun : Type 0 where
   pub run : IsRun (source_of nested_text) [] options nested_journal
@@ -148,7 +150,7 @@ array_text = record {
 
 -- ++-7-0: the last element is destroyed first
 abbrev pub array_journal : Journal
-array_journal = opening ++ prints 2 1 43 ∷ prints 1 1 43 ∷ prints 2 1 45 ∷ prints 0 0 7 ∷ prints 1 1 45 ∷ prints 0 0 0 ∷ done
+array_journal = opening ++ in_line 1 (prints 2 1 43) ∷ in_line 1 (prints 1 1 43) ∷ in_line 1 (prints 2 1 45) ∷ in_line 1 (prints 0 0 7) ∷ in_line 1 (prints 1 1 45) ∷ in_line 1 (prints 0 0 0) ∷ done 2
 
 pub record ArrayRun : Type 0 where
   pub run : IsRun (source_of array_text) [] options array_journal
@@ -166,7 +168,7 @@ member_text = record {
 
 -- 11; the destructor is not written, and makes no tick
 abbrev pub member_journal : Journal
-member_journal = opening ++ prints 3 0 11 ∷ done
+member_journal = opening ++ in_line 3 (prints 3 0 11) ∷ done 3
 
 pub record MemberRun : Type 0 where
   pub run : IsRun (source_of member_text) [] options member_journal
@@ -187,7 +189,7 @@ unwritten_text = record {
 
 -- +++: only what is written makes ticks
 abbrev pub unwritten_journal : Journal
-unwritten_journal = opening ++ prints 1 1 43 ∷ prints 1 1 43 ∷ prints 1 1 43 ∷ done
+unwritten_journal = opening ++ in_line 1 (prints 1 1 43) ∷ in_line 1 (prints 1 1 43) ∷ in_line 1 (prints 1 1 43) ∷ done 3
 
 pub record UnwrittenRun : Type 0 where
   pub run : IsRun (source_of unwritten_text) [] options unwritten_journal
@@ -213,7 +215,7 @@ reference_text = record {
 -- 101: what a return hands over is found before it destroys what it leaves. The fault of an initialiser is in the line of the
 -- declaration
 abbrev pub reference_journal : Journal
-reference_journal = opening ++ prints 3 0 1 ∷ prints 0 0 0 ∷ prints 0 0 1 ∷ entry kind.Fault 0 0 1 0 (pos 2) (pos 7) ∷ []
+reference_journal = opening ++ in_line 1 (prints 3 0 1) ∷ in_line 6 (prints 0 0 0) ∷ in_line 6 (prints 0 0 1) ∷ in_line 7 (entry kind.Fault 0 0 1 0 (pos 2) (pos 7)) ∷ []
 
 pub record ReferenceRun : Type 0 where
   pub run : IsRun (source_of reference_text) [] options reference_journal

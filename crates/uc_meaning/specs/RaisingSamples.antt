@@ -13,6 +13,7 @@ use Rattle.uc_tree.specs.Programs.{Item, ClassItem, RoutineItem, FieldsMember, M
 use Rattle.uc_resolve.specs.Resolve.{source_of}
 use Rattle.uc_entry.specs.declared.entry.EntryKind.TheVariants as kind
 use Rattle.uc_acts.specs.Journal.{Journal, entry}
+use Rattle.uc_meaning.specs.SamplePrograms.{in_line}
 use Rattle.uc_meaning.specs.Runs.{IsRun}
 use Rattle.uc_acts.specs.Samples.{options}
 use Rattle.uc_meaning.specs.ObjectSamples.{at, named, number, called, character, value, variable, int_param, sig, routine, init, open_to_all, constructor, destructor, class, main, prints, opening, done}
@@ -52,7 +53,7 @@ thrown_text = record {
 
 -- -7.: the constructor of the event and the destructor make a tick each, and the handler runs behind the destructor
 abbrev pub thrown_journal : Journal
-thrown_journal = opening ++ prints 2 1 45 ∷ prints 0 0 7 ∷ prints 0 1 46 ∷ done
+thrown_journal = opening ++ in_line 2 (prints 2 1 45) ∷ in_line 3 (prints 0 0 7) ∷ in_line 3 (prints 0 1 46) ∷ done 3
 
 pub record ThrownRun : Type 0 where
   pub run : IsRun (source_of thrown_text) [] options thrown_journal
@@ -70,7 +71,7 @@ resumed_text = record {
 -- 25+: each handler has the variables of the main and returns to the raise; the second raise passes over the block of the handler
 -- that makes it
 abbrev pub resumed_journal : Journal
-resumed_journal = opening ++ prints 2 0 2 ∷ prints 0 0 5 ∷ prints 0 1 43 ∷ done
+resumed_journal = opening ++ in_line 5 (prints 2 0 2) ∷ in_line 5 (prints 0 0 5) ∷ in_line 2 (prints 0 1 43) ∷ done 3
 
 pub record ResumedRun : Type 0 where
   pub run : IsRun (source_of resumed_text) [] options resumed_journal
@@ -86,7 +87,7 @@ escaped_text = record {
 
 -- the destructor is called as its block is unwound: the second event escapes, in the line of the block
 abbrev pub escaped_journal : Journal
-escaped_journal = opening ++ entry kind.Fault 0 0 1 0 (pos 13) (pos 4) ∷ []
+escaped_journal = opening ++ in_line 4 (entry kind.Fault 0 0 1 0 (pos 13) (pos 4)) ∷ []
 
 pub record EscapedRun : Type 0 where
   pub run : IsRun (source_of escaped_text) [] options escaped_journal
@@ -108,7 +109,7 @@ returned_text = record {
 
 -- --7: a return in a resumption handler leaves the routine in which the handler stands, from the raise on
 abbrev pub returned_journal : Journal
-returned_journal = opening ++ prints 2 1 45 ∷ prints 1 1 45 ∷ prints 0 0 7 ∷ done
+returned_journal = opening ++ in_line 2 (prints 2 1 45) ∷ in_line 2 (prints 1 1 45) ∷ in_line 4 (prints 0 0 7) ∷ done 4
 
 pub record ReturnedRun : Type 0 where
   pub run : IsRun (source_of returned_text) [] options returned_journal

@@ -14,7 +14,7 @@ use Rattle.uc_tree.specs.Source.{Source, routine_of}
 use Rattle.uc_machine.specs.Quiet.{State, Members, no_members, first_state}
 use Rattle.uc_machine.specs.Rides.{Rides}
 use Rattle.uc_acts.specs.Acts.{act, dispatch, lone_limit}
-use Rattle.uc_machine.specs.Answering.{with_hand, entered, answered, child_of}
+use Rattle.uc_machine.specs.Answering.{with_hand, answered, child_of}
 
 -- each task as its last ride left it, with nothing in hand, and what is at home in each object that is made and not gone, by their numbers
 pub record World : Type 0 where
@@ -70,7 +70,7 @@ pub record AsksIn (source : Source) (opts : Options) (j : Journal) (w : World) (
   pub given : Answer
   pub runs : running p j ≡ t ∷ []
   pub told : answer_to source.sites t j ≡ Some given
-  pub rides : Rides source (answered given (drawn j w t)) (left opts j t) s ticks asked
+  pub rides : Rides source (answered source given (drawn j w t)) (left opts j t) s ticks asked
 
 -- the act that may follow a journal without an ending, and the world after it
 pub data May (source : Source) (opts : Options) (input : List ℕ) (j : Journal) (w : World) : List Entry → World → Type 0 where

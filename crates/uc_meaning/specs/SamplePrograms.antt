@@ -11,11 +11,16 @@ use Rattle.uc_tree.specs.Statements.{StartValue, Endl, Printed, ForDeclare, Stmt
 use Rattle.uc_tree.specs.Programs.{Sig, Routine, RoutineItem, Program}
 use Rattle.uc_resolve.specs.Resolve.{source_of}
 use Rattle.uc_entry.specs.declared.entry.EntryKind.TheVariants as kind
+use Rattle.uc_entry.specs.declared.entry.Entry.{Entry}
 use Rattle.uc_entry.specs.declared.entry.Options.{Options}
 use Rattle.uc_acts.specs.Journal.{Journal, entry, begin}
 use Rattle.uc_acts.specs.Acts.{dispatch}
 use Rattle.uc_meaning.specs.Runs.{IsRun}
 use Rattle.uc_acts.specs.Samples.{options, first_journal}
+
+-- an entry that carries the line of what was asked
+abbrev pub in_line : ℕ → Entry → Entry
+in_line line e = record e { line = line }
 
 abbrev at : ℕ → ℕ → Pos
 at line col = record { line = line; col = col }
@@ -56,7 +61,7 @@ two_ticks = record options { slice = 2 }
 -- the tick of the second turn fills the slice: it comes before what the turn does
 abbrev pub loop_journal : Journal
 loop_journal =
-    begin two_ticks ∷ dispatch 0 0 ∷ entry kind.Print 0 0 1 0 (pos 0) (pos 0) ∷ entry kind.Slice 0 0 1 0 (pos 0) (pos 0) ∷ dispatch 0 0 ∷ entry kind.Print 0 0 0 0 (pos 0) (pos 1) ∷ entry kind.Print 0 0 1 0 (pos 0) (pos 2) ∷ entry kind.End 0 0 0 0 (pos 0) (pos 0) ∷ entry kind.Done 0 0 0 0 (pos 0) (pos 0) ∷ []
+    begin two_ticks ∷ dispatch 0 0 ∷ in_line 1 (entry kind.Print 0 0 1 0 (pos 0) (pos 0)) ∷ in_line 1 (entry kind.Slice 0 0 1 0 (pos 0) (pos 0)) ∷ dispatch 0 0 ∷ in_line 1 (entry kind.Print 0 0 0 0 (pos 0) (pos 1)) ∷ in_line 1 (entry kind.Print 0 0 1 0 (pos 0) (pos 2)) ∷ in_line 1 (entry kind.End 0 0 0 0 (pos 0) (pos 0)) ∷ entry kind.Done 0 0 0 0 (pos 0) (pos 0) ∷ []
 
 pub record LoopRun : Type 0 where
   pub run : IsRun (source_of loop_text) [] two_ticks loop_journal
@@ -101,7 +106,7 @@ call_text = record {
 -- each call makes a tick; the second divides by 0 in line 2
 abbrev pub call_journal : Journal
 call_journal =
-    begin options ∷ dispatch 0 0 ∷ entry kind.Print 0 0 1 0 (pos 0) (pos 2) ∷ entry kind.Fault 0 0 1 0 (pos 2) (pos 2) ∷ []
+    begin options ∷ dispatch 0 0 ∷ in_line 5 (entry kind.Print 0 0 1 0 (pos 0) (pos 2)) ∷ in_line 2 (entry kind.Fault 0 0 1 0 (pos 2) (pos 2)) ∷ []
 
 pub record CallRun : Type 0 where
   pub run : IsRun (source_of call_text) [] options call_journal

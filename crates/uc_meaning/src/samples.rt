@@ -4,6 +4,7 @@ ghost use Rattle.uc_meaning.specs.SamplePrograms.{FirstRun, LoopRun, CallRun};
 ghost use Rattle.uc_meaning.specs.ObjectSamples.{NestedRun, ArrayRun, MemberRun, UnwrittenRun, ReferenceRun};
 ghost use Rattle.uc_meaning.specs.RaisingSamples.{ThrownRun, ResumedRun, EscapedRun, ReturnedRun};
 ghost use Rattle.uc_meaning.specs.CoroutineSamples.{SwitchedRun, DestroyedRun, EndedRun, LeftRun};
+ghost use Rattle.uc_meaning.specs.MonitorSamples.{ToldRun, Ping_pongRun, Two_stepsRun, GuardedRun, SignalledRun, PolledRun, MigratedRun, FailedRun, BankRun};
 
 /// That journal is a run of that program: `cout << 3 << endl;` in its main.
 pub fn first_run()
@@ -85,4 +86,51 @@ pub fn ended_run()
 /// So is that of a program with an event that leaves the main of a coroutine, which is resumed once more.
 pub fn left_run()
     ensures { LeftRun }
+{}
+
+// Programs with mutex objects and tasks.
+
+/// So is that of a program with a task that accepts its destructor.
+pub fn told_run()
+    ensures { ToldRun }
+{}
+
+/// So is that of two coroutines that resume each other: the main that ends activates its starter.
+pub fn ping_pong_run()
+    ensures { Ping_pongRun }
+{}
+
+/// So is that of two tasks that resume one cormonitor, whose starter is gone when its main ends.
+pub fn two_steps_run()
+    ensures { Two_stepsRun }
+{}
+
+/// So is that of a buffer as a task, whose accept statements have guards.
+pub fn guarded_run()
+    ensures { GuardedRun }
+{}
+
+/// So is that of a task that signals whom it accepted.
+pub fn signalled_run()
+    ensures { SignalledRun }
+{}
+
+/// So is that of events raised at a task that enables them one after the other.
+pub fn polled_run()
+    ensures { PolledRun }
+{}
+
+/// So is that of a task that migrates to where no processor is.
+pub fn migrated_run()
+    ensures { MigratedRun }
+{}
+
+/// So is that of a task whose accepted call ends by an event.
+pub fn failed_run()
+    ensures { FailedRun }
+{}
+
+/// So is that of two tasks that call one monitor.
+pub fn bank_run()
+    ensures { BankRun }
 {}

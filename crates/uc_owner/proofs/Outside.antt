@@ -6,7 +6,7 @@ use Rattle.uc_tree.specs.Programs.{Item, ClassItem, RoutineItem, ConstItem, Prot
 use Rattle.uc_rules.specs.ClassBreaks.{is_owner}
 use Rattle.uc_rules.specs.Names.{is_constructor}
 use Rattle.uc_rules.specs.OwnerBreaks.{init_binds, item_binds, routine_binds}
-use Rattle.uc_types.specs.Outside.{constructor_in, constructors_in}
+use Rattle.uc_types.specs.OuterConstructors.{constructor_in, constructors_in}
 
 or_false : (b : Bool) → b || false ≡ b
 or_false true = refl

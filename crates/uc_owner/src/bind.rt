@@ -24,28 +24,16 @@ pub fn root_name(e: &Expr) -> Option<&Name>
     ensures { MatchOption result (root_name e.now ≡ None) (λ n. root_name e.now ≡ Some n.now) }
 {
     match &e.form {
-        ExprForm::Number { .. } => None,
-        ExprForm::Character { .. } => None,
-        ExprForm::Truth { .. } => None,
         ExprForm::Name { name } => Some(name),
-        ExprForm::Cin => None,
         ExprForm::Postfix { root, .. } => root_name(root),
-        ExprForm::Unary { .. } => None,
-        ExprForm::Chain { .. } => None,
-        ExprForm::Assign { .. } => None,
+        _ => None,
     }
 }
 
 fn is_field_origin(origin: Origin) -> bool
     ensures { result ≡ is_field_origin origin }
 {
-    match origin {
-        Origin::Local => false,
-        Origin::Parameter { .. } => false,
-        Origin::Field { .. } => true,
-        Origin::Method { .. } => false,
-        Origin::Outer => false,
-    }
+    matches!(origin, Origin::Field { .. })
 }
 
 fn is_field_meant(meant: Option<Meant>) -> bool

@@ -5,12 +5,11 @@ ghost use Rattle.uc_rules.specs.Asked.{of_sort, unless};
 ghost use Rattle.uc_rules.specs.declared.rule.Rule.TheVariants.{O4, O5};
 ghost use Rattle.uc_rules.specs.Firsts.{after};
 ghost use Rattle.uc_rules.specs.OwnerBreaks.{begins_well, condition_field_breaks, is_home_of, is_no_condition_sort, is_root, is_root_origin, is_shared, is_unshared, lone_condition, may_refer, reference_breaks, root_name, shared_breaks, unbound_reference, unshared_reference};
-ghost use Rattle.uc_rules.specs.ProgramVisits.{is_reference};
 ghost use Rattle.uc_rules.specs.Visits.{AtBound, AtField, AtParam};
 ghost use Rattle.uc_tree.specs.declared.kinds.Access.{Access};
 ghost use Rattle.uc_rules.specs.Sorts.{sort_of};
 ghost use Rattle.uc_tree.specs.Numbering.{is_mutex};
-ghost use Rattle.uc_types.specs.Told.{told};
+ghost use Rattle.uc_types.specs.FirstBreak.{told};
 ghost use Rattle.uc_rules.specs.declared.rules.FieldPlace.{FieldPlace};
 ghost use Rattle.uc_rules.specs.declared.rules.Home as rules;
 ghost use Rattle.uc_tree.specs.declared.kinds.Base as base;
@@ -25,6 +24,7 @@ use uc_tree::declare::Declarator;
 use uc_tree::expr::Expr;
 use uc_tree::kinds::{Base, Param};
 use uc_tree::pos::Pos;
+use uc_types::ask::is_reference;
 use uc_types::found::Found;
 use uc_types::names::Names;
 use uc_types::sort::{
@@ -223,27 +223,13 @@ fn note_field_condition(
     }
 }
 
-/// Whether a reference is asked for.
-pub fn is_reference(expected: Expected) -> bool
-    ensures { result ≡ is_reference expected }
-{
-    match expected {
-        Expected::Anything => false,
-        Expected::Nothing => false,
-        Expected::Scalar => false,
-        Expected::Reference { .. } => true,
-    }
-}
-
 fn is_root_origin(origin: Origin) -> bool
     ensures { result ≡ is_root_origin origin }
 {
     match origin {
-        Origin::Local => false,
         Origin::Parameter { by_ref } => by_ref,
         Origin::Field { .. } => true,
-        Origin::Method { .. } => false,
-        Origin::Outer => false,
+        _ => false,
     }
 }
 

@@ -15,7 +15,7 @@ use std::alloc::Global;
 use uc_grammar::fault::ParseFault;
 use uc_parse_expr::parse::read_expr;
 use uc_parse_expr::peek::{expect_sign, expect_word, is_sign, kind_at, pos_at, read_name};
-use uc_parse_plain::peek::{base_at, skip_sign};
+use uc_parse_simple::peek::{base_at, skip_sign};
 use uc_tree::class::Sig;
 use uc_tree::kinds::{Base, Owner, Role};
 use uc_tree::name::Name;

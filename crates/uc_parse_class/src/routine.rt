@@ -11,7 +11,7 @@ use uc_grammar::fault::ParseFault;
 use uc_parse_expr::ops::is_comma_at;
 use uc_parse_expr::parse::read_closed_arguments;
 use uc_parse_expr::peek::{expect_sign, is_sign, pos_at, read_name};
-use uc_parse_plain::peek::{base_at, skip_sign};
+use uc_parse_simple::peek::{base_at, skip_sign};
 use uc_parse_stmt::parse::read_block;
 use uc_tree::class::{Init, Routine, Sig};
 use uc_tree::kinds::{Base, Param};

@@ -1,4 +1,4 @@
 pub mod Told
-pub mod Leads
-pub mod Heads
+pub mod LeadsLemmas
+pub mod HeadsLemmas
 pub mod Below

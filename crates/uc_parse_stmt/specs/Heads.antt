@@ -12,7 +12,7 @@ use Rattle.uc_grammar.specs.Form.{Form, empty, skip, bind, apply, listed, inside
 use Rattle.uc_grammar.specs.Tables.{is_or, is_handler, word_of}
 use Rattle.uc_grammar.specs.Grammar.{expect_sign, maybe_stmt, block_rest, block_form, braced, caught_form, handles, handler_form, handlers_form, tried, clause_form, accepts}
 use Rattle.uc_parse_stmt.specs.Forms.{do_test}
-use Rattle.uc_parse_plain.specs.Parts.{caught_of}
+use Rattle.uc_parse_simple.specs.Parts.{caught_of}
 use Rattle.uc_parse_stmt.specs.declared.head.Head.{Head}
 use Rattle.uc_parse_stmt.specs.declared.head.Head.TheVariants as head
 use Rattle.uc_parse_stmt.specs.declared.head.Begun.{Begun}

@@ -16,11 +16,11 @@ use std::alloc::Global;
 use uc_grammar::fault::ParseFault;
 use uc_grammar::start::StmtStart;
 use uc_parse_expr::peek::{expect_sign, expect_word, pos_at};
-use uc_parse_plain::declare::{read_for_start, read_maybe_expr};
-use uc_parse_plain::event::{
+use uc_parse_simple::declare::{read_for_start, read_maybe_expr};
+use uc_parse_simple::event::{
     Caught, read_caught, read_condition, read_events, read_guard, read_members,
 };
-use uc_parse_plain::plain::read_plain;
+use uc_parse_simple::plain::read_plain;
 use uc_tree::declare::ForStart;
 use uc_tree::expr::Expr;
 use uc_tree::kinds::{EventName, HandlerKind, MemberName};

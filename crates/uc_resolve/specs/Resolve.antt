@@ -1,8 +1,11 @@
 -- What a program's statements and routines stand for, and the source that it is. Every tree stands for something; what breaks a rule
 -- of the language stands for a default.
-use Rattle.std.specs.Prelude.{ℕ, suc, ◌+◌, pos, List, [], ◌∷◌, ◌++◌, length, unwrap_or, Bool, true, false, ◌&&◌, Option, Some, None, nat_eq, if◌then◌else◌}
+use Rattle.std.specs.Prelude.{ℕ, suc, ◌+◌, ◌^◌, bit_or, pos, List, [], ◌∷◌, ◌++◌, length, unwrap_or, Bool, true, false, ◌&&◌, ◌||◌, Option, Some, None, is_some, nat_eq, if◌then◌else◌}
 use Rattle.uc_tree.specs.declared.kinds.Base.{Base}
 use Rattle.uc_tree.specs.declared.kinds.Base.TheVariants as base
+use Rattle.uc_tree.specs.declared.kinds.Kind.{Kind}
+use Rattle.uc_tree.specs.declared.kinds.Kind.TheVariants as kind
+use Rattle.uc_tree.specs.declared.kinds.EventName.{EventName}
 use Rattle.uc_tree.specs.declared.kinds.Ty.{Ty}
 use Rattle.uc_tree.specs.declared.kinds.Known.{Known}
 use Rattle.uc_tree.specs.declared.kinds.Role.{Role}
@@ -17,14 +20,14 @@ use Rattle.uc_tree.specs.Statements as stmt
 use Rattle.uc_tree.specs.Programs as whole
 use Rattle.uc_tree.specs.Cells.{classes_of, class_cells, declared_cells, param_cells, params_cells, stmt_cells, stmts_cells, routine_cells, leading_cells, seen_in}
 use Rattle.uc_tree.specs.Gathered.{gathered, gathered_all}
-use Rattle.uc_tree.specs.Numbering.{is_event, is_plain, main_name, event_number, Defined, routines_of, own_texts, own_sites, sites_of, texts_of}
-use Rattle.uc_tree.specs.Objects.{has_execution, is_constructor, class_at, number_at, member_from, place_of, plain_class, ClassField, fields_of, shape_of, class_shape, written_at, Unwritten, unwritten_of, unwritten_number, event_place}
+use Rattle.uc_tree.specs.Numbering.{is_event, is_mutex, is_plain, main_name, member_number, event_number, Defined, routines_of, own_texts, own_sites, sites_of, texts_of}
+use Rattle.uc_tree.specs.Objects.{has_execution, is_task, is_constructor, class_at, number_at, member_from, place_of, Making, APlain, AMutex, ACluster, AProcessor, making, ClassField, fields_of, shape_of, class_shape, written_at, Unwritten, unwritten_of, unwritten_number, event_place}
 use Rattle.uc_tree.specs.ProgramMain.{is_void, main_number}
 use Rattle.uc_tree.specs.declared.kinds.ValueForm.{ValueForm}
 use Rattle.uc_tree.specs.declared.kinds.ValueForm.TheVariants as value_form
-use Rattle.uc_tree.specs.Source.{Shape, Order, TestFirst, BodyFirst, NoTest, Expr, Literal, Variable, Element, Assign, OfObject, Counted, CallOn, CallUnwritten, Item, Show, ShowText, Target, Declared, CleanUp, Destroys, DestroysAll, Unwinds, Forgets, Stmt, Skip, Block, Whole, Evaluate, Declare, Print, PrintTogether, Read, If, Loop, Break, Continue, Return, Fill, OfEvents, OfTasks, Resume, Suspend, SetUp, Enliven, TakeDown, Raised, Plainly, BuiltAt, AgainFrom, Throw, Raise, Try, Handlers, NoHandlers, MoreHandlers, Stmts, Nil, Then, Scoped, Built, Purpose, TaskMain, CoroutineMain, Procedure, Function, Builder, Routine, Class, Source}
+use Rattle.uc_tree.specs.Source.{Shape, Binding, Order, TestFirst, BodyFirst, NoTest, Expr, Literal, Variable, Element, Load, Assign, NoExprs, OfObject, Counted, CallOn, CallUnwritten, EndOn, Bind, MakeOn, NewCluster, NewProcessor, EndCluster, EndProcessor, Item, Show, ShowText, Target, Declared, CleanUp, Destroys, DestroysAll, Unwinds, Forgets, Leaves, Ends, Frees, Stmt, Skip, Block, Whole, Evaluate, Declare, Print, PrintTogether, Read, If, Loop, Break, Continue, Return, Owes, Fill, OfEvents, OfTasks, Resume, Suspend, SetUp, Enliven, TakeDown, Yield, Migrate, Accept, Clauses, NoClauses, Otherwise, MoreClauses, ALL_EVENTS, Raised, Plainly, BuiltAt, AgainFrom, Throw, Raise, Try, RaiseAt, Enable, Disable, Handlers, NoHandlers, MoreHandlers, Stmts, Nil, Then, Scoped, Built, Purpose, TaskMain, CoroutineMain, Procedure, Function, Builder, Routine, Class, Source}
 use Rattle.uc_tree.specs.Hidden.{KEPT_CELLS, hidden_in, hidden_in_all}
-pub use Rattle.uc_resolve.specs.Standings.{scalar, int_type, bool_type, converted, Standing, Meant, no_meaning, value_meant, value_by, value_of, later_or, known_named, known_meant, value_or_zero, is_here, is_named, routine_from, params_in, result_in, params_of, result_of, routine_meant_by, constant_meant_by, item_meant, NumberedField, field_named, field_length, field_type, Whose, object_of_whose, field_place, field_held, field_standing, field_by_ref, field_found, method_standing, method_by, method_meant, member_by, member_in, member_meant, meant_or, own_meant, name_meant, combined, binary_meant, variable_in, written_by, updated_by, updated, unary_meant, assign_meant, object_member, class_or_event, place_member, field_by, field_meant, arg_meant, args_by, call_by, call_meant, element_by, element_meant, stepped_by, stepped, step_meant, Context, meant, part_meant, args_meant, parts_meant, link_meant, chain_meant, value_in_scope, AtVariable, AtField, AtPlace, AsValue, AsInput, AsFail, AsRoutine, AsMember, AsLiveMember, AsCondition, AsEvent, AsNothing, Own, Of}
+pub use Rattle.uc_resolve.specs.Standings.{scalar, int_type, bool_type, converted, Standing, Meant, no_meaning, value_meant, value_by, value_of, later_or, known_named, has_number, known_by, known_meant, value_or_zero, is_here, is_named, routine_from, params_in, result_in, params_of, result_of, routine_meant_by, constant_meant_by, item_meant, NumberedField, field_named, field_length, field_type, Whose, object_of_whose, field_place, field_held, field_standing, field_by_ref, field_by, condition_meant, field_or_condition, field_found, is_path, method_standing, method_by, method_meant, member_by, member_in, member_meant, meant_or, own_meant, name_meant, combined, binary_meant, variable_in, written_by, updated_by, updated, unary_meant, assign_meant, condition_call, call_of_condition, object_member, class_or_event, place_member, part_by, field_meant, arg_meant, args_by, stored_by, condition_called, call_by, call_meant, one_of, place_or_number, element_in, element_by, element_meant, stepped_by, stepped, step_meant, Context, meant, part_meant, args_meant, parts_meant, link_meant, chain_meant, value_in_scope, ConditionCall, Waits, Signals, SignalsBlocking, AsksEmpty, AsksFront, AtVariable, AtField, AtPlace, AsNumber, AsValue, AsInput, AsFail, AsRoutine, AsMember, AsLiveMember, AsMutexMember, AsCondition, AsCallOf, AsEvent, AsNothing, Own, Of}
 
 -- what statements stand for
 
@@ -81,25 +84,49 @@ abbrev pub called_by : whole.Program → ℕ → Role → Expr → List Meant �
 called_by p i wanted place args None = OfObject (CallUnwritten (unwritten_number p i wanted) place)
 called_by p i wanted place args (Some r) = OfObject (CallOn r place (args_by (params_of p r) args))
 
-abbrev pub constructed : whole.Program → ℕ → Expr → List Meant → Expr
-constructed p i place args = called_by p i role.Constructor place args (written_at p i role.Constructor)
+-- what makes and builds a mutex object, and binds its place to its number; what destroys one
+abbrev pub made_by : whole.Program → ℕ → Expr → List Meant → Option ℕ → Expr
+made_by p i place args None = OfObject (MakeOn (number_at p i) (unwritten_number p i role.Constructor) false place NoExprs)
+made_by p i place args (Some r) = OfObject (MakeOn (number_at p i) r true place (args_by (params_of p r) args))
 
-abbrev pub destroyed : whole.Program → ℕ → Expr → Expr
-destroyed p i place = called_by p i role.Destructor place [] (written_at p i role.Destructor)
+abbrev pub ended_by : whole.Program → ℕ → Expr → Option ℕ → Expr
+ended_by p i object None = OfObject (EndOn (unwritten_number p i role.Destructor) false object)
+ended_by p i object (Some r) = OfObject (EndOn r true object)
+
+-- the cluster of a new processor
+abbrev pub cluster_in : List Meant → Expr
+cluster_in [] = Literal (pos 0)
+cluster_in (m ∷ ms) = m.expr
+
+abbrev pub constructed : whole.Program → Making → Expr → List Meant → Expr
+constructed p (APlain i) place args = called_by p i role.Constructor place args (written_at p i role.Constructor)
+constructed p (AMutex i) place args = made_by p i place args (written_at p i role.Constructor)
+constructed p ACluster place args = OfObject (Bind place (OfObject NewCluster))
+constructed p AProcessor place args = OfObject (Bind place (OfObject (NewProcessor (cluster_in args))))
+
+abbrev pub destroyed : whole.Program → Making → Expr → Expr
+destroyed p (APlain i) place = called_by p i role.Destructor place [] (written_at p i role.Destructor)
+destroyed p (AMutex i) place = ended_by p i (Load place) (written_at p i role.Destructor)
+destroyed p ACluster place = OfObject (EndCluster (Load place))
+destroyed p AProcessor place = OfObject (EndProcessor (Load place))
+
+abbrev pub made_shape : whole.Program → Making → Shape
+made_shape p (APlain i) = class_shape p i
+made_shape p _ = Binding
 
 -- the element of an array of n objects, at this place, that is counted
-abbrev pub counted_element : whole.Program → ℕ → ℕ → Expr → Expr
-counted_element p i n place = Element n (class_shape p i) place (OfObject Counted)
+abbrev pub counted_element : whole.Program → Making → ℕ → Expr → Expr
+counted_element p m n place = Element n (made_shape p m) place (OfObject Counted)
 
 -- the object at a place is built in a statement of this line, and so are the elements of an array, without arguments
-abbrev pub build : whole.Program → ℕ → ℕ → Option ℕ → Expr → List Meant → Stmt
-build p line i None place args = Evaluate line (constructed p i place args)
-build p line i (Some n) place args = Fill line n (constructed p i (counted_element p i n place) []) (destroyed p i (counted_element p i n place))
+abbrev pub build : whole.Program → ℕ → Making → Option ℕ → Expr → List Meant → Stmt
+build p line m None place args = Evaluate line (constructed p m place args)
+build p line m (Some n) place args = Fill line n (constructed p m (counted_element p m n place) []) (destroyed p m (counted_element p m n place))
 
 -- it is destroyed, and so are they
-abbrev pub clean_up : whole.Program → ℕ → Option ℕ → Expr → CleanUp
-clean_up p i None place = Destroys (destroyed p i place)
-clean_up p i (Some n) place = DestroysAll n (destroyed p i (counted_element p i n place))
+abbrev pub clean_up : whole.Program → Making → Option ℕ → Expr → CleanUp
+clean_up p m None place = Destroys (destroyed p m place)
+clean_up p m (Some n) place = DestroysAll n (destroyed p m (counted_element p m n place))
 
 -- events
 
@@ -114,6 +141,16 @@ event_constructor p name = event_constructor_from (routines_of p) 0 name
 
 abbrev pub number_of_event : whole.Program → List ℕ → ℕ
 number_of_event p name = unwrap_or (event_number p name) 0
+
+-- the events of these names, by their numbers as bits
+abbrev pub events_named : whole.Program → List EventName → ℕ
+events_named p [] = 0
+events_named p (e ∷ es) = bit_or (2 ^ number_of_event p e.name) (events_named p es)
+
+-- those of `_Enable` and `_Disable`, which without a list are all there may be
+abbrev pub events_meant : whole.Program → List EventName → ℕ
+events_meant p [] = ALL_EVENTS
+events_meant p (e ∷ es) = events_named p (e ∷ es)
 
 abbrev pub takes_resumptions : HandlerKind → Bool
 takes_resumptions handler_kind.Catch = false
@@ -160,26 +197,26 @@ module _ (p : whole.Program) where
   start_args s (stmt.StartValue e) = []
   start_args s (stmt.StartArgs es) = args_meant (context_at s) es
 
-  -- an object of the class with the place i is declared in this line: its cells start at 0, it is built, and from then on it is in
-  -- scope in what follows; so are the elements of an array
-  abbrev pub object_scoped : ℕ → ℕ → Base → stmt.Declarator → Scope → Stmts → Stmts
-  object_scoped i line b d s rest =
-      Then (Declare line (record { cell = s.cells; cells = declared_cells p b d; value = None } ∷ [])) (Then (build p line i (length_of d d.len) (Variable s.cells) (start_args s d.start)) (Scoped (clean_up p i (length_of d d.len) (Variable s.cells)) rest))
+  -- an object is declared in this line: its cells start at 0, it is built, and from then on it is in scope in what follows; so are
+  -- the elements of an array
+  abbrev pub object_scoped : Making → ℕ → Base → stmt.Declarator → Scope → Stmts → Stmts
+  object_scoped m line b d s rest =
+      Then (Declare line (record { cell = s.cells; cells = declared_cells p b d; value = None } ∷ [])) (Then (build p line m (length_of d d.len) (Variable s.cells) (start_args s d.start)) (Scoped (clean_up p m (length_of d d.len) (Variable s.cells)) rest))
 
-  abbrev pub objects_scoped : ℕ → ℕ → Base → List stmt.Declarator → Scope → Stmts → Stmts
-  objects_scoped i line b [] s rest = rest
-  objects_scoped i line b (d ∷ ds) s rest =
-      object_scoped i line b d s (objects_scoped i line b ds (with_declared s b d) rest)
+  abbrev pub objects_scoped : Making → ℕ → Base → List stmt.Declarator → Scope → Stmts → Stmts
+  objects_scoped m line b [] s rest = rest
+  objects_scoped m line b (d ∷ ds) s rest =
+      object_scoped m line b d s (objects_scoped m line b ds (with_declared s b d) rest)
 
   -- a declaration, by whether it is one of objects, and what follows it
-  abbrev pub declared_then : Option ℕ → ℕ → Base → List stmt.Declarator → Scope → Stmts → Stmts
+  abbrev pub declared_then : Option Making → ℕ → Base → List stmt.Declarator → Scope → Stmts → Stmts
   declared_then None line b ds s rest = Then (Declare line (all_declared s b ds)) rest
-  declared_then (Some i) line b ds s rest = objects_scoped i line b ds s rest
+  declared_then (Some m) line b ds s rest = objects_scoped m line b ds s rest
 
   -- a declaration that is itself the statement of another; objects are destroyed behind it, in its line
-  abbrev pub declared_alone : Option ℕ → ℕ → Base → List stmt.Declarator → Scope → Stmt
+  abbrev pub declared_alone : Option Making → ℕ → Base → List stmt.Declarator → Scope → Stmt
   declared_alone None line b ds s = Declare line (all_declared s b ds)
-  declared_alone (Some i) line b ds s = Block line (objects_scoped i line b ds s Nil)
+  declared_alone (Some m) line b ds s = Block line (objects_scoped m line b ds s Nil)
 
   -- a declaration alone leaves names behind it
   abbrev pub names_behind : stmt.Stmt → Scope → List Known
@@ -213,6 +250,21 @@ module _ (p : whole.Program) where
     sites = s.sites + length (gathered_all (own_sites None 0) ts);
   }
 
+  -- in an accept statement, and behind its clauses
+  abbrev pub within_accept : Scope → Scope
+  within_accept s = record s { sites = s.sites + 1 }
+
+  abbrev pub scope_past_clause : stmt.Clause → Scope → Scope
+  scope_past_clause (stmt.Accepts place guard members body) s = scope_past body s
+
+  abbrev pub scope_past_clauses : stmt.Clauses → Scope → Scope
+  scope_past_clauses stmt.NoClauses s = s
+  scope_past_clauses (stmt.MoreClauses first rest) s = scope_past_clauses rest (scope_past_clause first s)
+
+  -- in a statement for which a hidden cell keeps the enabled events
+  abbrev pub within_events : Scope → Scope
+  within_events s = record s { hidden = s.hidden + 1 }
+
   -- an event with fields that are 0, or built by its constructor in the hidden cells of the statement
   abbrev pub built_event : Scope → ℕ → Option ℕ → List Meant → Raised
   built_event s event None args = Plainly event
@@ -244,7 +296,7 @@ module _ (p : whole.Program) where
   -- what a `for` begins with, and what follows; the scope that it opens
   abbrev pub start_then : ℕ → stmt.ForStart → Scope → Stmts → Stmts
   start_then line stmt.NoFor s rest = Then (Skip line) rest
-  start_then line (stmt.ForDeclare place b ds) s rest = declared_then (plain_class p b) line b ds s rest
+  start_then line (stmt.ForDeclare place b ds) s rest = declared_then (making p b) line b ds s rest
   start_then line (stmt.ForEvaluate e) s rest = Then (Evaluate line (meant (context_at s) e).expr) rest
 
   abbrev pub for_scope : stmt.ForStart → Scope → Scope
@@ -267,7 +319,7 @@ module _ (p : whole.Program) where
 
   -- a statement, which stands for this, and what follows it in its block
   abbrev pub stmt_then : stmt.Stmt → Scope → Stmt → Stmts → Stmts
-  stmt_then (stmt.Declare place b ds) s t rest = declared_then (plain_class p b) place.line b ds s rest
+  stmt_then (stmt.Declare place b ds) s t rest = declared_then (making p b) place.line b ds s rest
   stmt_then _ s t rest = Then t rest
 
   abbrev mutual
@@ -275,7 +327,7 @@ module _ (p : whole.Program) where
     stmt_meant (stmt.Block place body) s = Block place.line (stmts_meant body s)
     stmt_meant (stmt.Empty place) s = Skip place.line
     stmt_meant (stmt.Evaluate place e) s = Evaluate place.line (meant (context_at s) e).expr
-    stmt_meant (stmt.Declare place b ds) s = declared_alone (plain_class p b) place.line b ds s
+    stmt_meant (stmt.Declare place b ds) s = declared_alone (making p b) place.line b ds s
     stmt_meant (stmt.Print place items) s = Print place.line (items_meant (context_at s) s.texts items)
     stmt_meant (stmt.PrintTogether place items) s = PrintTogether place.line (items_meant (context_at s) s.texts items)
     stmt_meant (stmt.Read place es) s = Read place.line (targets_meant (context_at s) es)
@@ -295,8 +347,24 @@ module _ (p : whole.Program) where
         OfEvents (Try place.line (Then (Block brace.line (stmts_meant body s)) Nil) (handlers_meant hs (scope_past_all body s)))
     stmt_meant (stmt.Resume place) s = OfTasks (Resume place.line)
     stmt_meant (stmt.Suspend place) s = OfTasks (Suspend place.line)
-    -- to come
-    stmt_meant _ s = Skip 0
+    stmt_meant (stmt.RaiseAt place raised target) s = OfEvents (RaiseAt place.line (raised_meant s (Some raised)) (meant (context_at s) target).expr)
+    stmt_meant (stmt.Enable place events body) s = OfEvents (Enable place.line (events_meant p events) s.hidden (stmt_meant body (within_events s)))
+    stmt_meant (stmt.Disable place events body) s = OfEvents (Disable place.line (events_meant p events) s.hidden (stmt_meant body (within_events s)))
+    stmt_meant (stmt.Yield place) s = OfTasks (Yield place.line)
+    stmt_meant (stmt.Migrate place cluster) s = OfTasks (Migrate place.line (meant (context_at s) cluster).expr)
+    stmt_meant (stmt.Accept place cs other) s = OfTasks (Accept place.line s.sites (clauses_meant cs (within_accept s) (else_meant other (scope_past_clauses cs (within_accept s)))))
+
+    -- the clauses of an accept statement, and what stands behind them
+    pub clauses_meant : stmt.Clauses → Scope → Clauses → Clauses
+    clauses_meant stmt.NoClauses s other = other
+    clauses_meant (stmt.MoreClauses first rest) s other = clause_then first s (clauses_meant rest (scope_past_clause first s) other)
+
+    pub clause_then : stmt.Clause → Scope → Clauses → Clauses
+    clause_then (stmt.Accepts place guard members body) s rest = MoreClauses (test_of s guard) (stmt_meant body s) rest
+
+    pub else_meant : stmt.MaybeStmt → Scope → Clauses
+    else_meant stmt.NoStmt s = NoClauses
+    else_meant (stmt.OneStmt body) s = Otherwise (stmt_meant body s)
 
     pub handlers_meant : stmt.Handlers → Scope → Handlers
     handlers_meant stmt.NoHandlers s = NoHandlers
@@ -351,23 +419,26 @@ module _ (p : whole.Program) where
   init_args s (Some x) = args_meant (context_at s) x.args
 
   -- a reference is bound to its argument, a scalar has the value of its; without one they stay as they are
+  abbrev pub field_start : Bool → Shape → Expr → Meant → Expr
+  field_start true s place m = OfObject (Bind place m.expr)
+  field_start false s place m = Assign place (converted s (value_of m))
+
   abbrev pub field_started : ClassField → Expr → List Meant → Stmts → Stmts
   field_started f place [] rest = rest
-  field_started f place (m ∷ ms) rest =
-      Then (Evaluate 0 (Assign place (if f.declarator.by_ref then m.expr else converted (shape_of f.base) (value_of m)))) rest
+  field_started f place (m ∷ ms) rest = Then (Evaluate 0 (field_start f.declarator.by_ref (shape_of f.base) place m)) rest
 
   -- a reference names no object of its own
-  abbrev pub field_class : ClassField → Option ℕ
-  field_class f = if f.declarator.by_ref then None else plain_class p f.base
+  abbrev pub field_making : ClassField → Option Making
+  field_making f = if f.declarator.by_ref then None else making p f.base
 
   -- an object is built, and from then on a part of the one under construction
-  abbrev pub field_built : Option ℕ → ClassField → Option ℕ → Expr → List Meant → Stmts → Stmts
+  abbrev pub field_built : Option Making → ClassField → Option ℕ → Expr → List Meant → Stmts → Stmts
   field_built None f len place args rest = field_started f place args rest
-  field_built (Some j) f len place args rest = Then (build p 0 j len place args) (Built (clean_up p j len place) rest)
+  field_built (Some m) f len place args rest = Then (build p 0 m len place args) (Built (clean_up p m len place) rest)
 
-  abbrev pub field_left : Option ℕ → Option ℕ → Expr → Stmts → Stmts
+  abbrev pub field_left : Option Making → Option ℕ → Expr → Stmts → Stmts
   field_left None len place rest = rest
-  field_left (Some j) len place rest = Scoped (clean_up p j len place) rest
+  field_left (Some m) len place rest = Scoped (clean_up p m len place) rest
 
   -- in an object of the class c with the place i: fields from this number on
   module _ (c : whole.Class) (i : ℕ) where
@@ -378,13 +449,13 @@ module _ (p : whole.Program) where
     abbrev pub fields_built : List whole.Init → Scope → List ClassField → ℕ → Stmts → Stmts
     fields_built inits s [] number rest = rest
     fields_built inits s (f ∷ fs) number rest =
-        field_built (field_class f) f (length_in_class f) (field_place (class_shape p i) number Own) (init_args s (init_named inits f.declarator.name)) (fields_built inits s fs (suc number) rest)
+        field_built (field_making f) f (length_in_class f) (field_place (class_shape p i) number Own) (init_args s (init_named inits f.declarator.name)) (fields_built inits s fs (suc number) rest)
 
     -- they are in scope in other statements, and so destroyed behind them, the last one first
     abbrev pub fields_left : List ClassField → ℕ → Stmts → Stmts
     fields_left [] number rest = rest
     fields_left (f ∷ fs) number rest =
-        field_left (field_class f) (length_in_class f) (field_place (class_shape p i) number Own) (fields_left fs (suc number) rest)
+        field_left (field_making f) (length_in_class f) (field_place (class_shape p i) number Own) (fields_left fs (suc number) rest)
 
   -- coroutines: one of the class with the place i has an execution from the start of its building to the end of its destruction, and
   -- is live between the end of the one and the start of the other
@@ -415,21 +486,32 @@ module _ (p : whole.Program) where
   forgotten false rest = rest
   forgotten true rest = Scoped Forgets rest
 
+  -- mutex objects: one is free once it is built, and a task begins then; its destruction ends it
+  abbrev pub freed : Kind → ℕ → Stmts → Stmts
+  freed kind.Monitor i rest = Scoped (Frees None) rest
+  freed kind.Cormonitor i rest = Scoped (Frees None) rest
+  freed kind.Task i rest = Scoped (Frees (Some (main_at i))) rest
+  freed _ i rest = rest
+
+  abbrev pub ending : Bool → Stmts → Stmts
+  ending false rest = rest
+  ending true rest = Scoped Ends rest
+
   -- the statements of a constructor and of a destructor, with these of its body
   abbrev pub construction : Option whole.Class → ℕ → List whole.Init → Scope → Stmts → Stmts
   construction None i inits s body = body
   construction (Some c) i inits s body =
-      set_up (has_execution c.kind) i (fields_built c i inits s (fields_of c.members) (leading_cells c.kind) (started_in (has_execution c.kind) body))
+      freed c.kind i (set_up (has_execution c.kind) i (fields_built c i inits s (fields_of c.members) (leading_cells c.kind) (started_in (has_execution c.kind) body)))
 
   abbrev pub destruction : Option whole.Class → ℕ → Stmts → Stmts
   destruction None i body = body
   destruction (Some c) i body =
-      forgotten (has_execution c.kind) (fields_left c i (fields_of c.members) (leading_cells c.kind) (taken_down (has_execution c.kind) body))
+      ending (is_mutex c.kind) (forgotten (has_execution c.kind) (fields_left c i (fields_of c.members) (leading_cells c.kind) (taken_down (has_execution c.kind) body)))
 
   -- what follows the body of a constructor
-  abbrev pub construction_ends : Option whole.Class → Stmts
-  construction_ends None = Nil
-  construction_ends (Some c) = enlivened (has_execution c.kind)
+  abbrev pub construction_ends : Option whole.Class → ℕ → Stmts
+  construction_ends None i = Nil
+  construction_ends (Some c) i = enlivened (has_execution c.kind)
 
   -- the class of a place
   abbrev pub class_by : Option ℕ → Option whole.Class
@@ -448,24 +530,46 @@ module _ (p : whole.Program) where
   role_purpose role.Constructor b = Builder
   role_purpose role.Destructor b = Builder
 
-  -- whether a class has coroutines
+  -- whether a class has coroutines, tasks
   abbrev pub has_coroutines : Option whole.Class → Bool
   has_coroutines None = false
   has_coroutines (Some c) = has_execution c.kind
 
-  -- the main of a coroutine is a member of its class
-  abbrev pub is_coroutine_main : Option whole.Class → whole.Sig → Bool
-  is_coroutine_main c s = has_coroutines c && (is_plain s.role && same_name s.name main_name)
+  abbrev pub has_tasks : Option whole.Class → Bool
+  has_tasks None = false
+  has_tasks (Some c) = is_task c.kind
+
+  -- the main of a coroutine or a task is a member of its class
+  abbrev pub is_main : whole.Sig → Bool
+  is_main s = is_plain s.role && same_name s.name main_name
+
+  -- whether a routine is a mutex member of its class, and no destructor
+  abbrev pub has_number_in : Option whole.Class → whole.Sig → Bool
+  has_number_in None s = false
+  has_number_in (Some c) s = is_plain s.role && is_some (member_number c s.name)
 
   abbrev pub purpose_of : ℕ → Option whole.Class → whole.Routine → Purpose
   purpose_of number c r =
-      if nat_eq number (main_number p) then TaskMain else if is_coroutine_main c r.sig then CoroutineMain else role_purpose r.sig.role r.sig.ret
+      if nat_eq number (main_number p) || (has_tasks c && is_main r.sig) then TaskMain
+      else if has_coroutines c && is_main r.sig then CoroutineMain
+      else if has_number_in c r.sig then Builder
+      else role_purpose r.sig.role r.sig.ret
+
+  -- a routine with a value owes it at the end of its body
+  abbrev pub owing : ℕ → Purpose → Stmts
+  owing line Function = Then (Owes line) Nil
+  owing line _ = Nil
+
+  -- whatever leaves the body of a mutex member leaves its object; the body is a block
+  abbrev pub plain_body : Bool → whole.Routine → Stmts → Stmts
+  plain_body false r body = body
+  plain_body true r body = Scoped Leaves (Then (Block r.brace.line body) (owing r.brace.line (value_purpose r.sig.ret)))
 
   -- the body of a constructor and of a destructor is a block that is left as a whole, behind the construction of the fields and before their destruction
   abbrev pub body_by : Role → whole.Routine → Scope → Stmts
-  body_by role.Plain r s = stmts_meant r.body s
+  body_by role.Plain r s = plain_body (has_number_in (class_by s.class) r.sig) r (stmts_meant r.body s)
   body_by role.Constructor r s =
-      construction (class_by s.class) (place_or_zero s.class) r.inits s (Then (Whole r.brace.line (stmts_meant r.body s)) (construction_ends (class_by s.class)))
+      construction (class_by s.class) (place_or_zero s.class) r.inits s (Then (Whole r.brace.line (stmts_meant r.body s)) (construction_ends (class_by s.class) (place_or_zero s.class)))
   body_by role.Destructor r s =
       destruction (class_by s.class) (place_or_zero s.class) (Then (Whole r.brace.line (stmts_meant r.body s)) Nil)
 
@@ -492,7 +596,7 @@ module _ (p : whole.Program) where
 
   abbrev pub unwritten_body : Role → ℕ → Stmts
   unwritten_body role.Plain i = Nil
-  unwritten_body role.Constructor i = construction (class_at p i) i [] nowhere (construction_ends (class_at p i))
+  unwritten_body role.Constructor i = construction (class_at p i) i [] nowhere (construction_ends (class_at p i) i)
   unwritten_body role.Destructor i = destruction (class_at p i) i Nil
 
   abbrev pub unwritten_meant : Unwritten → Routine

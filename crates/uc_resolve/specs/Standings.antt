@@ -1,8 +1,9 @@
 -- What a program's expressions stand for: names and types are looked up here and nowhere else.
 -- Every tree stands for something; what breaks a rule of the language stands for a default.
-use Rattle.std.specs.Prelude.{ℕ, suc, ℤ, pos, List, [], ◌∷◌, slice_get, Bool, true, false, ◌&&◌, Option, Some, None, nat_eq, if◌then◌else◌}
+use Rattle.std.specs.Prelude.{ℕ, suc, ℤ, pos, List, [], ◌∷◌, slice_get, codes, Bool, true, false, not, ◌&&◌, Option, Some, None, is_some, unwrap_or, nat_eq, if◌then◌else◌}
 use Rattle.uc_tree.specs.declared.kinds.Base.{Base}
 use Rattle.uc_tree.specs.declared.kinds.Base.TheVariants as base
+use Rattle.uc_tree.specs.declared.kinds.Kind.{Kind}
 use Rattle.uc_tree.specs.declared.kinds.Ty.{Ty}
 use Rattle.uc_tree.specs.declared.kinds.Known.{Known}
 use Rattle.uc_tree.specs.declared.kinds.Owner.{Owner}
@@ -22,9 +23,9 @@ use Rattle.uc_tree.specs.Expressions as expr
 use Rattle.uc_tree.specs.Statements as stmt
 use Rattle.uc_tree.specs.Programs as whole
 use Rattle.uc_tree.specs.Cells.{leading_cells, seen_in}
-use Rattle.uc_tree.specs.Numbering.{is_event, is_plain, Defined, routines_of}
-use Rattle.uc_tree.specs.Objects.{has_execution, class_at, number_at, plain_class, ClassField, fields_of, shape_of, class_shape, base_shape, member_from, event_place}
-use Rattle.uc_tree.specs.Source.{Shape, Character, Truth, Operator, Plus, Minus, Times, Over, Modulo, Equal, NotEqual, Less, AtMost, Greater, AtLeast, Expr, Literal, Variable, Element, Get, Load, Negated, Not, AsCharacter, AsTruth, Operate, And, Or, Set, Assign, First, Update, StepBehind, Fail, Call, OfObject, This, OwnField, GetOwn, FieldOf, CallOn, CallLive, Exprs, NoExprs, MoreExprs}
+use Rattle.uc_tree.specs.Numbering.{is_event, is_plain, member_number, condition_number, Defined, routines_of}
+use Rattle.uc_tree.specs.Objects.{has_execution, is_coroutine, class_at, number_at, making, is_numbered, class_made, ClassField, fields_of, shape_of, class_shape, base_shape, member_from, event_place}
+use Rattle.uc_tree.specs.Source.{Shape, Character, Truth, Operator, Plus, Minus, Times, Over, Modulo, Equal, NotEqual, Less, AtMost, Greater, AtLeast, Expr, Literal, Variable, Element, Get, Load, Negated, Not, AsCharacter, AsTruth, Operate, And, Or, Set, Assign, First, Update, StepBehind, Fail, Call, OfObject, This, OwnField, GetOwn, FieldOf, CallOn, CallLive, EnterOn, ConditionAt, Wait, Signal, SignalBlock, IsEmpty, FrontOf, Exprs, NoExprs, MoreExprs}
 
 -- types
 
@@ -45,25 +46,37 @@ converted _ e = e
 
 -- what an expression stands for
 
+-- the calls of conditions
+pub data ConditionCall : Type 0 where
+  Waits : ConditionCall
+  Signals : ConditionCall
+  SignalsBlocking : ConditionCall
+  AsksEmpty : ConditionCall
+  AsksFront : ConditionCall
+
 -- a variable that is no reference, by its first cell; a field of the object of the running call that is none, by the shape of
--- its class and its number; another place, a value, `cin`, the member `fail` of `cin`; a routine, a
--- member of the object at the place, one of the coroutine there that a path names, a condition of that object and an event, by their
--- numbers; or nothing, where a rule is broken
+-- its class and its number; another place; a mutex object, a cluster or a processor, by its number; a value, `cin`, the member `fail`
+-- of `cin`; a routine, a member of the object at the place, one of the coroutine there that a path names, by their numbers; a mutex
+-- member, by its number and its routine; a condition of the object of the running call, where the first of its array has this number,
+-- and a call of one; an event, by its number; or nothing, where a rule is broken
 pub data Standing : Type 0 where
   AtVariable : ℕ → Standing
   AtField : Shape → ℕ → Standing
   AtPlace : Standing
+  AsNumber : Standing
   AsValue : Standing
   AsInput : Standing
   AsFail : Standing
   AsRoutine : ℕ → Standing
   AsMember : ℕ → Standing
   AsLiveMember : ℕ → Standing
+  AsMutexMember : ℕ → ℕ → Standing
   AsCondition : ℕ → Standing
+  AsCallOf : ConditionCall → Standing
   AsEvent : ℕ → Standing
   AsNothing : Standing
 
--- `expr` finds the place or gives the value; of a member and a condition it finds the object
+-- `expr` finds the place or gives the value; of a member it finds the object, of a condition its number
 pub record Meant : Type 0 where
   pub expr : Expr
   pub ty : Ty
@@ -81,13 +94,16 @@ abbrev pub value_by : Standing → Expr → Expr
 value_by (AtVariable k) e = Get k
 value_by (AtField s i) e = OfObject (GetOwn s i)
 value_by AtPlace e = Load e
+value_by AsNumber e = e
 value_by AsValue e = e
 value_by AsInput e = e
 value_by AsFail e = e
 value_by (AsRoutine r) e = e
 value_by (AsMember r) e = e
 value_by (AsLiveMember r) e = e
+value_by (AsMutexMember k r) e = e
 value_by (AsCondition k) e = e
+value_by (AsCallOf c) e = e
 value_by (AsEvent k) e = e
 value_by AsNothing e = e
 
@@ -104,9 +120,17 @@ abbrev pub known_named : List Known → List ℕ → Option Known
 known_named [] name = None
 known_named (k ∷ ks) name = later_or (known_named ks name) k name
 
--- a reference holds the place that it was bound to
-abbrev pub known_meant : Known → Meant
-known_meant k = if k.ty.by_ref then record { expr = Get k.cell; ty = k.ty; standing = AtPlace } else record { expr = Variable k.cell; ty = k.ty; standing = AtVariable k.cell }
+-- whether what has this type is known by its number: an array is not
+abbrev pub has_number : whole.Program → Ty → Bool
+has_number p ty = not (is_some ty.len) && is_numbered (making p ty.base)
+
+-- a reference holds the place that it was bound to, or the number
+abbrev pub known_by : Bool → Known → Meant
+known_by true k = record { expr = Get k.cell; ty = k.ty; standing = AsNumber }
+known_by false k = if k.ty.by_ref then record { expr = Get k.cell; ty = k.ty; standing = AtPlace } else record { expr = Variable k.cell; ty = k.ty; standing = AtVariable k.cell }
+
+abbrev pub known_meant : whole.Program → Known → Meant
+known_meant p k = known_by (has_number p k.ty) k
 
 -- constants and routines of the program, which any item may name
 
@@ -202,26 +226,43 @@ abbrev pub field_by_ref : Bool → Shape → ℕ → Whose → Ty → Meant
 field_by_ref false s i whose ty = record { expr = field_place s i whose; ty = ty; standing = field_standing s i whose }
 field_by_ref true s i whose ty = record { expr = field_held s i whose; ty = ty; standing = AtPlace }
 
+-- a mutex object, a cluster or a processor, and a reference to one, is held by its number
+abbrev pub field_by : Bool → Bool → Shape → ℕ → Whose → Ty → Meant
+field_by true by_ref s i whose ty = record { expr = field_held s i whose; ty = ty; standing = AsNumber }
+field_by false by_ref s i whose ty = field_by_ref by_ref s i whose ty
+
+-- a condition is named in its class alone, by its number
+abbrev pub condition_meant : ℕ → Ty → Meant
+condition_meant k ty = record { expr = Literal (pos k); ty = ty; standing = AsCondition k }
+
+abbrev pub field_or_condition : whole.Program → whole.Class → ℕ → Whose → NumberedField → Base → Meant
+field_or_condition p c i whose f base.Condition = condition_meant (unwrap_or (condition_number p c f.field.declarator.name) 0) (field_type p c f.field)
+field_or_condition p c i whose f _ = field_by (has_number p (field_type p c f.field)) f.field.declarator.by_ref (class_shape p i) f.number whose (field_type p c f.field)
+
 -- a field of an object of the class c, with the place i
 abbrev pub field_found : whole.Program → whole.Class → ℕ → Whose → NumberedField → Meant
-field_found p c i whose f = field_by_ref f.field.declarator.by_ref (class_shape p i) f.number whose (field_type p c f.field)
+field_found p c i whose f = field_or_condition p c i whose f f.field.base
 
--- a coroutine that a path names must be live for a member of it
-abbrev pub method_standing : Bool → Whose → ℕ → Standing
-method_standing coroutine Own r = AsMember r
-method_standing coroutine (Of object) r = if coroutine then AsLiveMember r else AsMember r
+abbrev pub is_path : Whose → Bool
+is_path Own = false
+is_path (Of object) = true
 
-abbrev pub method_by : whole.Program → Bool → Whose → Option ℕ → Meant
-method_by p coroutine whose None = no_meaning
-method_by p coroutine whose (Some r) = record { expr = object_of_whose whose; ty = scalar (result_of p r); standing = method_standing coroutine whose r }
+-- a member of a class of this kind: a mutex member enters its object; a plain coroutine that a path names must be live
+abbrev pub method_standing : Kind → Whose → Option ℕ → ℕ → Standing
+method_standing k whose (Some m) r = AsMutexMember m r
+method_standing k whose None r = if is_coroutine k && is_path whose then AsLiveMember r else AsMember r
+
+abbrev pub method_by : whole.Program → whole.Class → Whose → List ℕ → Option ℕ → Meant
+method_by p c whose name None = no_meaning
+method_by p c whose name (Some r) = record { expr = object_of_whose whose; ty = scalar (result_of p r); standing = method_standing c.kind whose (member_number c name) r }
 
 -- a member's routine stands inside or outside of its class
-abbrev pub method_meant : whole.Program → Bool → ℕ → Whose → List ℕ → Meant
-method_meant p coroutine i whose name = method_by p coroutine whose (member_from (routines_of p) 0 (number_at p i) name)
+abbrev pub method_meant : whole.Program → whole.Class → ℕ → Whose → List ℕ → Meant
+method_meant p c i whose name = method_by p c whose name (member_from (routines_of p) 0 (number_at p i) name)
 
 -- an event has no members but its fields
 abbrev pub member_by : whole.Program → whole.Class → ℕ → Whose → List ℕ → Option NumberedField → Meant
-member_by p c i whose name None = if is_event c.kind then no_meaning else method_meant p (has_execution c.kind) i whose name
+member_by p c i whose name None = if is_event c.kind then no_meaning else method_meant p c i whose name
 member_by p c i whose name (Some f) = field_found p c i whose f
 
 abbrev pub member_in : whole.Program → ℕ → Whose → List ℕ → Option whole.Class → Meant
@@ -245,7 +286,7 @@ own_meant p (Some i) name = meant_or (member_meant p i Own name).standing (membe
 -- a local hides what its class and the program have under its name
 abbrev pub name_meant : whole.Program → Option ℕ → List ℕ → Option Known → Meant
 name_meant p class name None = own_meant p class name
-name_meant p class name (Some k) = known_meant k
+name_meant p class name (Some k) = known_meant p k
 
 -- operators
 
@@ -302,6 +343,20 @@ assign_meant assign.Rem m v = updated Modulo m (value_of v)
 
 -- parts behind a root
 
+-- a call of a condition, by its name
+abbrev pub condition_call : List ℕ → Option ConditionCall
+condition_call name =
+    if same_name name (codes "wait") then Some Waits
+    else if same_name name (codes "signal") then Some Signals
+    else if same_name name (codes "signalBlock") then Some SignalsBlocking
+    else if same_name name (codes "empty") then Some AsksEmpty
+    else if same_name name (codes "front") then Some AsksFront
+    else None
+
+abbrev pub call_of_condition : Meant → Option ConditionCall → Meant
+call_of_condition root None = no_meaning
+call_of_condition root (Some c) = record { expr = root.expr; ty = int_type; standing = AsCallOf c }
+
 abbrev pub object_member : whole.Program → Option ℕ → Expr → List ℕ → Meant
 object_member p None object name = no_meaning
 object_member p (Some i) object name = member_meant p i (Of object) name
@@ -313,19 +368,21 @@ class_or_event (Some i) event = Some i
 
 -- an array has no members
 abbrev pub place_member : whole.Program → Option ℕ → Meant → List ℕ → Meant
-place_member p None root name = object_member p (class_or_event (plain_class p root.ty.base) (event_place p root.ty.base)) root.expr name
+place_member p None root name = object_member p (class_or_event (class_made (making p root.ty.base)) (event_place p root.ty.base)) root.expr name
 place_member p (Some n) root name = no_meaning
 
--- a field or a member of what the root stands for. Members of mutex types are to come
-abbrev pub field_by : whole.Program → Standing → Meant → List ℕ → Meant
-field_by p AsInput root name = if same_name name fail_name then record { expr = Literal (pos 0); ty = bool_type; standing = AsFail } else no_meaning
-field_by p (AtVariable k) root name = place_member p root.ty.len root name
-field_by p (AtField s i) root name = place_member p root.ty.len root name
-field_by p AtPlace root name = place_member p root.ty.len root name
-field_by p _ root name = no_meaning
+-- a field or a member of what the root stands for
+abbrev pub part_by : whole.Program → Standing → Meant → List ℕ → Meant
+part_by p AsInput root name = if same_name name fail_name then record { expr = Literal (pos 0); ty = bool_type; standing = AsFail } else no_meaning
+part_by p (AtVariable k) root name = place_member p root.ty.len root name
+part_by p (AtField s i) root name = place_member p root.ty.len root name
+part_by p AtPlace root name = place_member p root.ty.len root name
+part_by p AsNumber root name = place_member p root.ty.len root name
+part_by p (AsCondition k) root name = call_of_condition root (condition_call name)
+part_by p _ root name = no_meaning
 
 abbrev pub field_meant : whole.Program → Meant → List ℕ → Meant
-field_meant p root name = field_by p root.standing root name
+field_meant p root name = part_by p root.standing root name
 
 -- a reference is bound to the place of its argument, another parameter has its value
 abbrev pub arg_meant : Param → Meant → Expr
@@ -337,22 +394,46 @@ args_by [] ms = NoExprs
 args_by (x ∷ xs) [] = NoExprs
 args_by (x ∷ xs) (m ∷ ms) = MoreExprs (arg_meant x m) (args_by xs ms)
 
+-- what a wait stores, 0 where nothing is given
+abbrev pub stored_by : List Meant → Expr
+stored_by [] = Literal (pos 0)
+stored_by (m ∷ ms) = value_of m
+
+abbrev pub condition_called : ConditionCall → Expr → List Meant → Meant
+condition_called Waits e args = value_meant (OfObject (Wait e (stored_by args))) (scalar base.Void)
+condition_called Signals e args = value_meant (OfObject (Signal e)) (scalar base.Void)
+condition_called SignalsBlocking e args = value_meant (OfObject (SignalBlock e)) (scalar base.Void)
+condition_called AsksEmpty e args = value_meant (OfObject (IsEmpty e)) bool_type
+condition_called AsksFront e args = value_meant (OfObject (FrontOf e)) int_type
+
 -- a call of what the root stands for with these arguments
 abbrev pub call_by : whole.Program → Standing → Meant → List Meant → Meant
 call_by p AsFail root args = value_meant Fail bool_type
 call_by p (AsRoutine r) root args = value_meant (Call r (args_by (params_of p r) args)) root.ty
 call_by p (AsMember r) root args = value_meant (OfObject (CallOn r root.expr (args_by (params_of p r) args))) root.ty
 call_by p (AsLiveMember r) root args = value_meant (OfObject (CallLive r root.expr (args_by (params_of p r) args))) root.ty
--- to come
+call_by p (AsMutexMember m r) root args = value_meant (OfObject (EnterOn m r root.expr (args_by (params_of p r) args))) root.ty
+call_by p (AsCallOf c) root args = condition_called c root.expr args
 call_by p _ root args = no_meaning
 
 abbrev pub call_meant : whole.Program → Meant → List Meant → Meant
 call_meant p root args = call_by p root.standing root args
 
 -- an element is of the array's base
+abbrev pub one_of : Ty → Ty
+one_of ty = record ty { len = None }
+
+abbrev pub place_or_number : Bool → Expr → Ty → Meant
+place_or_number true place ty = record { expr = Load place; ty = ty; standing = AsNumber }
+place_or_number false place ty = record { expr = place; ty = ty; standing = AtPlace }
+
+abbrev pub element_in : whole.Program → Standing → ℕ → Meant → Expr → Meant
+element_in p (AsCondition k) n m i = record { expr = OfObject (ConditionAt k n i); ty = one_of m.ty; standing = AsCondition k }
+element_in p _ n m i = place_or_number (has_number p (one_of m.ty)) (Element n (base_shape p m.ty.base) m.expr i) (one_of m.ty)
+
 abbrev pub element_by : whole.Program → Option ℕ → Meant → Expr → Meant
 element_by p None m i = no_meaning
-element_by p (Some n) m i = record { expr = Element n (base_shape p m.ty.base) m.expr i; ty = record m.ty { len = None }; standing = AtPlace }
+element_by p (Some n) m i = element_in p m.standing n m i
 
 abbrev pub element_meant : whole.Program → Meant → Meant → Meant
 element_meant p m i = element_by p m.ty.len m (value_of i)

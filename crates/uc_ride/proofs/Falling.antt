@@ -11,13 +11,13 @@ use Rattle.uc_code.specs.declared.rows.HandlerRow.{HandlerRow}
 use Rattle.uc_code.specs.declared.rows.RowKind.{RowKind}
 use Rattle.uc_code.specs.declared.rows.RowKind.TheVariants as kind
 use Rattle.uc_code.specs.Codes.{Code}
-use Rattle.uc_code.specs.Laid.{laid_of, chain}
+use Rattle.uc_code.specs.Layout.{laid_of, chain}
 use Rattle.uc_code.specs.Pace.{IsPaced}
 use Rattle.uc_frames.specs.declared.cell.Cell.{Cell}
 use Rattle.uc_frames.specs.declared.event.Event.{Event}
 use Rattle.uc_frames.specs.declared.search.Sought.TheVariants.{Catch, Stop}
-use Rattle.uc_frames.specs.Keeping.{Whole, Behind, Entry, AllWait, taken_at, UnwoundBelow, LeavesBelow, RaisesBelow}
-use Rattle.uc_frames.specs.Left.{left}
+use Rattle.uc_frames.specs.PaceInvariant.{Whole, Behind, Entry, AllWait, taken_at, UnwoundBelow, LeavesBelow, RaisesBelow}
+use Rattle.uc_frames.specs.Calls.{left}
 use Rattle.uc_frames.specs.Machine.{Active, Machine, nought}
 use Rattle.uc_frames.specs.Searches.{catches, row_takes, is_found, is_named, first_in}
 use Rattle.uc_frames.specs.Unwinding.{passed}
@@ -29,10 +29,10 @@ use Rattle.uc_except.specs.Handling.{thrown, handled_at, handled_by, resumed_by,
 use Rattle.uc_coroutine.specs.declared.leaving.Left.{Left}
 use Rattle.uc_coroutine.specs.declared.leaving.Left.TheVariants as leave
 use Rattle.uc_coroutine.specs.declared.testing.TaskMainEnd.TheVariants as end
-use Rattle.uc_coroutine.specs.Ends.{block_over, main_by, main_over}
+use Rattle.uc_coroutine.specs.MainEnds.{block_over, main_by, main_over}
 use Rattle.uc_coroutine.specs.Unwinding.{point_in, cleaned_by, passed_on, step_by, step_of, Made, ending_by, passed_for, passed_as, left_as, past_of}
-use Rattle.uc_step.specs.Falls.{RunLowers}
-use Rattle.uc_ride.specs.Led.{left_in, Entered}
+use Rattle.uc_step.specs.WeightFalls.{RunLowers}
+use Rattle.uc_ride.specs.UnwindingFalls.{left_in, Entered}
 
 module _ (code : Code) (w : ℕ) where
   -- the handler of a resumption that is found
@@ -229,15 +229,16 @@ module _ (code : Code) (w : ℕ) where
 
   -- a main ends for one that waits
 
-  main_calls : (r : Option Reason) (us : List Active) → end.Returned ≡ main_by r us → us ≡ [] → ⊥
-  main_calls None us e f = absurd (cc)
-  main_calls (Some (reason.Event n x y)) us e f = absurd (cc)
-  main_calls (Some (reason.ReturnTo home)) [] e f = absurd (cc)
-  main_calls (Some (reason.ReturnTo home)) (c ∷ us) e f = absurd (cc)
-  main_calls (Some reason.Destroyed) us e f = absurd (cc)
+  main_calls : (held : Bool) (r : Option Reason) (us : List Active) → end.Returned ≡ main_by held r us → us ≡ [] → ⊥
+  main_calls held None us e f = absurd (cc)
+  main_calls held (Some (reason.Event n x y)) us e f = absurd (cc)
+  main_calls true (Some (reason.ReturnTo home)) us e f = absurd (cc)
+  main_calls false (Some (reason.ReturnTo home)) [] e f = absurd (cc)
+  main_calls false (Some (reason.ReturnTo home)) (c ∷ us) e f = absurd (cc)
+  main_calls held (Some reason.Destroyed) us e f = absurd (cc)
 
-  pub main_goes : (l : ℕ) (m n : Machine) → end.Returned ≡ main_by m.run.raised m.callers → n ≡ main_over end.Returned m → Entered code w l m → RunLowers code w n
-  main_goes l m n e b g = returned_goes nought m n (main_calls m.run.raised m.callers e) b (entered_leaves l m g)
+  pub main_goes : (l : ℕ) (m n : Machine) (held : Bool) → end.Returned ≡ main_by held m.run.raised m.callers → n ≡ main_over end.Returned m → Entered code w l m → RunLowers code w n
+  main_goes l m n held e b g = returned_goes nought m n (main_calls held m.run.raised m.callers e) b (entered_leaves l m g)
 
   -- the running activation is left
 

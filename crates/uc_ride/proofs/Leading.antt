@@ -6,7 +6,7 @@ use Rattle.uc_machine.specs.declared.exec.Reason.{Reason}
 use Rattle.uc_machine.specs.declared.exec.Reason.TheVariants as reason
 use Rattle.uc_machine.specs.declared.exec.Visited.{Visited}
 use Rattle.uc_entry.specs.declared.fault.RunFault.{RunFault}
-use Rattle.uc_entry.specs.declared.fault.RunFault.TheVariants.{Unhandled, EscapeInUnwind}
+use Rattle.uc_entry.specs.declared.fault.RunFault.TheVariants.{Unhandled, EscapeInUnwind, BlockedInside}
 use Rattle.uc_entry.specs.declared.request.Asked.{Asked}
 use Rattle.uc_entry.specs.declared.request.Request.{Request}
 use Rattle.uc_entry.specs.declared.request.Request.TheVariants as ask
@@ -19,31 +19,31 @@ use Rattle.uc_code.specs.declared.op.Op.TheVariants as op
 use Rattle.uc_code.specs.declared.rows.Instruction.{Instruction}
 use Rattle.uc_code.specs.declared.rows.MainOf.{MainOf}
 use Rattle.uc_code.specs.declared.rows.MainOf.TheVariants as main_of
-use Rattle.uc_code.specs.Ranges.{main_left}
+use Rattle.uc_code.specs.CodeShapes.{main_left}
 use Rattle.uc_code.specs.Codes.{Code}
-use Rattle.uc_code.specs.Laid.{Laid, laid_of}
+use Rattle.uc_code.specs.Layout.{Laid, laid_of}
 use Rattle.uc_code.specs.Lowered.{Lowered}
 use Rattle.uc_frames.specs.declared.event.Event.{Event}
 use Rattle.uc_frames.specs.declared.cell.Cell.{Cell}
 use Rattle.uc_frames.specs.Machine.{Active, Machine, cell_of, line_at}
-use Rattle.uc_frames.specs.Unwound.{raised_as, Unwinds, TestsBlock, EndsMain, LeavesNow, Raises, Throws, Returns}
+use Rattle.uc_frames.specs.UnwindingStands.{raised_as, Unwinds, TestsBlock, EndsMain, LeavesNow, Raises, Throws, Returns}
 use Rattle.uc_frames.proofs.Finishes.{main_line}
 use Rattle.uc_coroutine.specs.declared.leaving.Left.{Left}
 use Rattle.uc_coroutine.specs.declared.leaving.Left.TheVariants as left
 use Rattle.uc_coroutine.specs.declared.testing.TaskMainEnd.{TaskMainEnd}
 use Rattle.uc_coroutine.specs.declared.testing.TaskMainEnd.TheVariants as end
-use Rattle.uc_coroutine.specs.Ends.{BlockLeft, MainLeft}
-use Rattle.uc_coroutine.specs.Outcomes.{ReturnsPast, Begins, LeftAs}
+use Rattle.uc_coroutine.specs.MainEnds.{BlockLeft, MainLeft}
+use Rattle.uc_coroutine.specs.UnwindingSteps.{ReturnsPast, Begins, LeftAs}
 use Rattle.uc_coroutine.specs.Switching.{SwitchedAs}
 use Rattle.uc_coroutine.specs.Unwinding.{Made, past_of}
 use Rattle.uc_except.specs.Handling.{GoesOn, UnwindsNow}
 use Rattle.uc_step.specs.declared.stepped.Stepped.{Stepped}
 use Rattle.uc_step.specs.declared.stepped.Stepped.TheVariants.{Quiet, Tick, Ask, Throw, Raise, Unwind, Past, Resume, Suspend, TakeDown, EndMain, Astray}
-use Rattle.uc_step.specs.Follow.{behind_line, Follow}
+use Rattle.uc_step.specs.Simulation.{behind_line, Follow}
 use Rattle.uc_step.proofs.Apart.{no_test, no_end, no_coroutine_end}
 use Rattle.uc_step.proofs.Simulates.{lines}
 use Rattle.uc_ride.specs.declared.events.Test.TheVariants.{Block, Task, Coroutine, Nothing}
-use Rattle.uc_ride.specs.Led.{how_ended, stop_by, test_by}
+use Rattle.uc_ride.specs.UnwindingFalls.{how_ended, stop_by, test_by}
 
 true_false : true ≡ false → ⊥
 true_false e = absurd (cc)
@@ -254,11 +254,13 @@ module _ (source : Source) (code : Code) (low : Lowered source code) (m n : Mach
     ended end.Ended = Ask (asks_by main_of.Task line is ask.End)
     ended end.Returned = Quiet
     ended end.Unhandled = Ask (asks_by main_of.Task line is (ask.Fault (fault_number Unhandled)))
+    ended end.HeldUp = Ask (asks_by main_of.Task line is (ask.Fault (fault_number BlockedInside)))
 
     ended_by : (e : TaskMainEnd) (t : State) → Quietly source s t → line_at code.ops line m.callers ≡ line_of t → MainLeft source (laid_of code) e n t → Follow (laid_of code) source (ended e) n s
     ended_by end.Ended t q l x = (x.before, x.after, ask.End, then_quietly q x.by, x.asks, asked_as main_of.Task line is ask.End (line_of x.before) (l ∙ sym x.line), tt)
     ended_by end.Returned t q l x = (x.after, then_quietly q x.by, x.stands)
     ended_by end.Unhandled t q l x = (t, x.after, ask.Fault (fault_number Unhandled), q, x.asks, asked_as main_of.Task line is (ask.Fault (fault_number Unhandled)) (line_of t) l, tt)
+    ended_by end.HeldUp t q l x = (x.before, x.after, ask.Fault (fault_number BlockedInside), then_quietly q x.by, x.asks, asked_as main_of.Task line is (ask.Fault (fault_number BlockedInside)) (line_of x.before) (l ∙ sym x.line), tt)
 
     pub ends : (e : TaskMainEnd) → ((t : State) → EndsMain (laid_of code) main_of.Task m t → MainLeft source (laid_of code) e n t) → Begins source (laid_of code) m s → Follow (laid_of code) source (ended e) n s
     ends e f (inl l) = absurd (no_end source code low m l.after l.stands line is)

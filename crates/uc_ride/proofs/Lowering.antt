@@ -12,13 +12,13 @@ use Rattle.uc_entry.specs.Faults.{fault_number}
 use Rattle.uc_machine.specs.Switches.{Moved, To, Stops, wake, suspend, finish, escape, taken_down, take_down}
 use Rattle.uc_code.specs.declared.op.Op.TheVariants as op
 use Rattle.uc_code.specs.Codes.{Code}
-use Rattle.uc_code.specs.Laid.{laid_of, chain}
+use Rattle.uc_code.specs.Layout.{laid_of, chain}
 use Rattle.uc_code.specs.Pace.{IsPaced}
 use Rattle.uc_frames.specs.declared.cell.Cell.{Cell}
 use Rattle.uc_frames.specs.declared.event.Event.{Event}
 use Rattle.uc_frames.specs.declared.search.Sought.TheVariants.{Catch}
-use Rattle.uc_frames.specs.Keeping.{taken_at, Idly, Within, Goes, ResumesBelow}
-use Rattle.uc_frames.specs.Left.{left}
+use Rattle.uc_frames.specs.PaceInvariant.{taken_at, Idly, Within, Goes, ResumesBelow}
+use Rattle.uc_frames.specs.Calls.{left}
 use Rattle.uc_frames.specs.Machine.{Active, Machine, Cells, nought, own_exec, resumed}
 use Rattle.uc_frames.specs.Searches.{first_in}
 use Rattle.uc_frames.specs.Unwinding.{passed}
@@ -28,13 +28,13 @@ use Rattle.uc_except.specs.declared.found.Found.TheVariants.{Handler}
 use Rattle.uc_except.specs.Handling.{thrown, handler_begun}
 use Rattle.uc_coroutine.specs.declared.leaving.Left.TheVariants as leave
 use Rattle.uc_coroutine.specs.declared.testing.TaskMainEnd.TheVariants as end
-use Rattle.uc_coroutine.specs.Ends.{block_over, main_by, main_over}
+use Rattle.uc_coroutine.specs.MainEnds.{block_over, main_by, main_over}
 use Rattle.uc_coroutine.specs.Switching.{fault_in, state_in, left_by}
 use Rattle.uc_coroutine.specs.Unwinding.{step_of, Made, ending_by, passed_for, passed_as, left_as, past_of}
 use Rattle.uc_step.specs.declared.stepped.Stepped.{Stepped}
 use Rattle.uc_step.specs.declared.stepped.Stepped.TheVariants.{Quiet, Ask, Throw, Raise, Unwind, Past, Resume, Suspend, TakeDown, EndMain}
-use Rattle.uc_step.specs.Falls.{AskFalls, RunFalls, FallsBelow}
-use Rattle.uc_ride.specs.Led.{how_ended, left_in, stop_by, Entered, EnteredBelow}
+use Rattle.uc_step.specs.WeightFalls.{AskFalls, RunFalls, FallsBelow}
+use Rattle.uc_ride.specs.UnwindingFalls.{how_ended, left_in, stop_by, Entered, EnteredBelow}
 use Rattle.uc_ride.proofs.Falling.{found_goes, found_env, catch_goes, catch_env, entered, entered_env, entered_goes, entered_leaves, over_goes, on_falls, main_goes, leave_returns, leave_passes, thrown_goes, past_goes}
 
 less_stage : (b : Bool) (l : Links) → (one_call_less b l).stage ≡ l.stage
@@ -151,9 +151,9 @@ module _ (code : Code) (w : ℕ) where
   past_env (Some v) given m n [] (x, b) = absurd (cc)
   past_env (Some v) given m n (c ∷ us) (x, b) = passed_env (reason.ReturnTo v.home) given m n (c ∷ us) b
 
-  pub main_falls : (l : ℕ) (m n : Machine) → end.Returned ≡ main_by m.run.raised m.callers → n ≡ main_over end.Returned m → EnteredBelow code w l m → Falls Quiet n
-  main_falls l m n e b h =
-      within_idly (laid_of code) code.routines (λ v x. Entered code v l x) (RunFalls code Quiet) w m n (left_env nought m n m.callers b) (λ v g. main_goes code v l m n e b g) h
+  pub main_falls : (l : ℕ) (m n : Machine) (held : Bool) → end.Returned ≡ main_by held m.run.raised m.callers → n ≡ main_over end.Returned m → EnteredBelow code w l m → Falls Quiet n
+  main_falls l m n held e b h =
+      within_idly (laid_of code) code.routines (λ v x. Entered code v l x) (RunFalls code Quiet) w m n (left_env nought m n m.callers b) (λ v g. main_goes code v l m n held e b g) h
 
   pub returned_falls : (m n : Machine) → leave.Returned ≡ ending_by m.run.raised m.callers → n ≡ left_as leave.Returned m → Falls Unwind m → Falls Quiet n
   returned_falls m n e b h =

@@ -1,31 +1,25 @@
 -- Ops, one after another, are a ride of the source.
-use Rattle.std.proofs.Common.{◌≡◌, ℕ, zero, suc, ◌+◌, ◌<◌, Some, None, refl, sym, subst, arith}
+use Rattle.std.proofs.Common.{◌≡◌, ℕ, zero, suc, ◌+◌, ◌<◌, Some, None, true, refl, sym, subst, arith}
 use Rattle.uc_tree.specs.Source.{Source}
 use Rattle.uc_entry.specs.declared.request.Asked.{Asked}
 use Rattle.uc_entry.specs.declared.request.Request.{Request}
 use Rattle.uc_entry.specs.declared.request.Request.TheVariants as ask
-use Rattle.uc_machine.specs.declared.exec.Stage.TheVariants.{Started}
 use Rattle.uc_machine.specs.Quiet.{State}
 use Rattle.uc_machine.specs.Rides.{Rides, slices, asked_in}
 use Rattle.uc_code.specs.Codes.{Code}
-use Rattle.uc_code.specs.Laid.{laid_of}
+use Rattle.uc_code.specs.Layout.{laid_of}
 use Rattle.uc_code.specs.Lowered.{Lowered}
-use Rattle.uc_code.specs.Pace.{IsPaced}
 use Rattle.uc_frames.specs.Machine.{Machine}
 use Rattle.uc_frames.specs.Stands.{Stands}
-use Rattle.uc_frames.specs.Keeping.{AllIdle}
-use Rattle.uc_frames.specs.Weight.{total}
+use Rattle.uc_frames.specs.PaceInvariant.{has_begun, AllIdle}
 use Rattle.uc_step.specs.declared.stepped.Stepped.{Stepped}
 use Rattle.uc_step.specs.declared.stepped.Stepped.TheVariants.{Quiet, Tick, Ask}
-use Rattle.uc_step.specs.declared.onward.Onward.{Onward}
-use Rattle.uc_step.specs.declared.onward.Onward.TheVariants.{Asks}
-use Rattle.uc_step.specs.Follow.{behind_line, StandsAfter, Follow}
-use Rattle.uc_step.specs.Onwards.{OnwardFollow}
-use Rattle.uc_step.specs.Falls.{Keeps, AskFalls, FallsBelow, Falls}
+use Rattle.uc_step.specs.Simulation.{behind_line, StandsAfter, Follow}
+use Rattle.uc_step.specs.WeightFalls.{AskFalls, FallsBelow}
 use Rattle.uc_step.proofs.Rode.{quiet_rides, tick_rides, ask_rides}
 use Rattle.uc_ride.specs.declared.events.Settled.{Settled}
-use Rattle.uc_ride.specs.Led.{how_settled, KeepsAfter}
-use Rattle.uc_ride.specs.Rode.{HasCome, HasBurst, IsOnWay, HasRidden}
+use Rattle.uc_ride.specs.UnwindingFalls.{how_settled, KeepsAfter}
+use Rattle.uc_ride.specs.RideStands.{HasCome, HasBurst, IsOnWay, HasRidden}
 
 module _ (code : Code) where
   pub come_first : (m : Machine) → HasCome code m m
@@ -47,15 +41,6 @@ module _ (code : Code) where
       let w = h source s l st in
       let o = quiet_rides source (laid_of code) n w.now (f source w.now l w.stands) in
       record { now = o.reached; stands = o.stands; rides = λ q k u a r. w.rides q k u a (o.rides q k u a r) }
-
-  -- what `go_onward` says of each source
-  abbrev pub Onwarding : Machine → Onward → Machine → Type 0
-  Onwarding m how n = (source : Source) (s : State) → Lowered source code → Stands (laid_of code) m s → OnwardFollow (laid_of code) source how n s
-
-  pub come_same : (old m n : Machine) → HasCome code old m → Onwarding m Asks n → HasCome code old n
-  come_same old m n h f source s l st =
-      let w = h source s l st in
-      record { now = w.now; stands = f source w.now l w.stands; rides = w.rides }
 
   pub come_ticked : (old m n : Machine) → HasCome code old m → Stepping m Tick n → HasBurst code old None n
   come_ticked old m n h f source s l st =
@@ -124,20 +109,15 @@ module _ (code : Code) where
         stands = rw q t.stands;
       }
 
--- what is left behind an op that was left to `step`
-module _ (code : Code) (paced : IsPaced (laid_of code) code.routines) (m n o p : Machine) (kept : Keeps code m) (same : n ≡ m) (how : Stepped) (after : Settled) where
-  pub settled_falls : Falls code n how o → ((w : ℕ) → FallsBelow code w how o → FallsBelow code w (how_settled after) p) → FallsBelow code (total code.ops m) (how_settled after) p
-  settled_falls f g = subst (λ (x : Machine). FallsBelow code (total code.ops x) (how_settled after) p) same (g (total code.ops n) (f paced (subst (λ (x : Machine). Keeps code x) (sym same) kept)))
-
 -- a request behind which less is left keeps as much
-kept_by : (code : Code) (v : ℕ) (r : Request) (m : Machine) → AskFalls code v r m → m.env.links.stage ≡ Started → AllIdle (laid_of code) code.routines m.env → KeepsAfter code r m
-kept_by code v ask.End m l b o = tt
+kept_by : (code : Code) (v : ℕ) (r : Request) (m : Machine) → AskFalls code v r m → has_begun m.env.links.stage ≡ true → AllIdle (laid_of code) code.routines m.env → KeepsAfter code r m
+kept_by code v ask.End m l b o = o.1
 kept_by code v (ask.Fault n) m l b o = tt
 kept_by code v (ask.Make x0) m l b o = record { run = l.1; begun = b; others = o }
 kept_by code v (ask.Made x0) m l b o = record { run = l.1; begun = b; others = o }
 kept_by code v (ask.Spawn x0) m l b o = record { run = l.1; begun = b; others = o }
 kept_by code v (ask.Call x0 x1) m l b o = record { run = l.1; begun = b; others = o }
-kept_by code v (ask.Leave x0) m l b o = record { run = l.1; begun = b; others = o }
+kept_by code v (ask.Leave x0 x1) m l b o = record { run = l.1; begun = b; others = o }
 kept_by code v (ask.Accept x0 x1 x2) m l b o = record { run = l.1; begun = b; others = o }
 kept_by code v (ask.Wait x0 x1 x2) m l b o = record { run = l.1; begun = b; others = o }
 kept_by code v (ask.Signal x0 x1) m l b o = record { run = l.1; begun = b; others = o }
@@ -145,7 +125,7 @@ kept_by code v (ask.SignalBlock x0 x1) m l b o = record { run = l.1; begun = b; 
 kept_by code v (ask.Empty x0 x1) m l b o = record { run = l.1; begun = b; others = o }
 kept_by code v (ask.Front x0 x1) m l b o = record { run = l.1; begun = b; others = o }
 kept_by code v (ask.Raise x0 x1 x2 x3) m l b o = record { run = l.1; begun = b; others = o }
-kept_by code v (ask.Poll x0) m l b o = record { run = l.1; begun = b; others = o }
+kept_by code v (ask.Poll x0) m l b o = record { run = l; begun = b; others = o }
 kept_by code v ask.Yield m l b o = record { run = l.1; begun = b; others = o }
 kept_by code v ask.Slice m l b o = record { run = l.1; begun = b; others = o }
 kept_by code v (ask.Print x0 x1) m l b o = record { run = l.1; begun = b; others = o }

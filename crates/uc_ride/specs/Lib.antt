@@ -1,2 +1,2 @@
-pub mod Led
-pub mod Rode
+pub mod UnwindingFalls
+pub mod RideStands

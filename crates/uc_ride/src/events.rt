@@ -7,19 +7,19 @@ ghost use Rattle.uc_tree.specs.Source.{Source};
 ghost use Rattle.uc_entry.specs.declared.request.Request.TheVariants as ask;
 ghost use Rattle.uc_entry.specs.Faults.{fault_number};
 ghost use Rattle.uc_machine.specs.Quiet.{State};
-ghost use Rattle.uc_code.specs.Laid.{chain, laid_of};
+ghost use Rattle.uc_code.specs.Layout.{chain, laid_of};
 ghost use Rattle.uc_code.specs.Lowered.{Lowered};
 ghost use Rattle.uc_code.specs.Pace.{IsPaced};
-ghost use Rattle.uc_frames.specs.Comes.{event_by};
+ghost use Rattle.uc_frames.specs.UnwindingOutcomes.{event_by};
 ghost use Rattle.uc_frames.specs.Machine.{line_at};
 ghost use Rattle.uc_frames.specs.Searches.{catcher_in};
-ghost use Rattle.uc_frames.specs.Unwound.{LeavesNow, Unwinds};
-ghost use Rattle.uc_coroutine.specs.Outcomes.{Begins};
-ghost use Rattle.uc_step.specs.Falls.{FallsBelow};
-ghost use Rattle.uc_step.specs.Follow.{behind_line, Follow};
+ghost use Rattle.uc_frames.specs.UnwindingStands.{LeavesNow, Unwinds};
+ghost use Rattle.uc_coroutine.specs.UnwindingSteps.{Begins};
+ghost use Rattle.uc_step.specs.WeightFalls.{FallsBelow};
+ghost use Rattle.uc_step.specs.Simulation.{behind_line, Follow};
 ghost use Rattle.uc_machine.specs.declared.exec.Reason.TheVariants as reason;
 ghost use Rattle.uc_ride.specs.declared.events.Caught.{Caught};
-ghost use Rattle.uc_ride.specs.Led.{how_settled, how_ended, how_unwound, row_of, stop_by, test_by, StepFalls, EnteredBelow, left_in};
+ghost use Rattle.uc_ride.specs.UnwindingFalls.{how_settled, how_ended, how_unwound, row_of, stop_by, test_by, StepFalls, EnteredBelow, left_in};
 
 use std::alloc::AllocError;
 use uc_code::code::Code;
@@ -343,6 +343,10 @@ fn end_on(code: &Code, work: &mut Work, line: u32) -> Result<Unwound, AllocError
         TaskMainEnd::Unhandled => {
             let unhandled = faults(code, line, work, RunFault::Unhandled);
             Ok(Unwound::Asks(unhandled))
+        }
+        TaskMainEnd::HeldUp => {
+            let blocked = faults(code, line, work, RunFault::BlockedInside);
+            Ok(Unwound::Asks(blocked))
         }
     }
 }

@@ -5,15 +5,15 @@ ghost use Rattle.uc_tree.specs.Source.{Source};
 ghost use Rattle.uc_entry.specs.declared.request.Request.TheVariants as ask;
 ghost use Rattle.uc_machine.specs.Quiet.{State};
 ghost use Rattle.uc_machine.specs.Answering as answering;
-ghost use Rattle.uc_code.specs.Laid.{laid_of};
+ghost use Rattle.uc_code.specs.Layout.{laid_of};
 ghost use Rattle.uc_code.specs.Lowered.{Lowered};
 ghost use Rattle.uc_code.specs.Pace.{IsPaced};
 ghost use Rattle.uc_frames.specs.Stands.{Stands};
-ghost use Rattle.uc_step.specs.Acts.{answered};
-ghost use Rattle.uc_step.specs.Falls.{Keeps};
-ghost use Rattle.uc_step.specs.Follow.{behind_line};
-ghost use Rattle.uc_ride.specs.Led.{KeepsAfter, BurstKeeps};
-ghost use Rattle.uc_ride.specs.Rode.{Rode, HasBurst, HasRidden};
+ghost use Rattle.uc_step.specs.OpEffects.{answered};
+ghost use Rattle.uc_step.specs.WeightFalls.{Keeps};
+ghost use Rattle.uc_step.specs.Simulation.{behind_line};
+ghost use Rattle.uc_ride.specs.UnwindingFalls.{KeepsAfter, BurstKeeps};
+ghost use Rattle.uc_ride.specs.RideStands.{Rode, HasBurst, HasRidden};
 
 use crate::events::{Settled, settle};
 use std::alloc::AllocError;
@@ -22,8 +22,8 @@ use uc_entry::request::{Answer, Asked, Request};
 use uc_frames::task::Task;
 use uc_frames::work::Work;
 use uc_outside::Gate;
-use uc_step::onward::{Onward, go_onward};
 use uc_step::step::{answer as give, step};
+use uc_step::stepped::{Onward, Stepped};
 
 /// How a ride ended: the task with its hand, a new task where one was made, the ticks, and what is asked.
 #[derive(Drop)]
@@ -56,7 +56,7 @@ pub fn ride<G: Gate>(
     requires some { 1 ≤ quantum }
     requires paced { IsPaced (laid_of code.now) code.now.routines }
     requires kept { Keeps code.now work }
-    ensures rides { IfOk result (λ r. (source : Source) (s : State) → Lowered source code.now → Stands (laid_of code.now) work s → Rode source (laid_of code.now) (answering.answered answer s) quantum r.ticks r.asked r.work) }
+    ensures rides { IfOk result (λ r. (source : Source) (s : State) → Lowered source code.now → Stands (laid_of code.now) work s → Rode source (laid_of code.now) (answering.answered source answer s) quantum r.ticks r.asked r.work) }
     ensures few { IfOk result (λ r. r.ticks ≤ quantum) }
     ensures early { IfOk result (λ r. (r.asked.request ≡ ask.Slice → ⊥) → r.ticks < quantum) }
     ensures kept { IfOk result (λ r. KeepsAfter code.now r.asked.request r.work) }
@@ -86,7 +86,7 @@ pub fn ride_on(
     requires some { 1 ≤ quantum }
     requires paced { IsPaced (laid_of code.now) code.now.routines }
     requires kept { Keeps code.now work.old }
-    ensures rides { IfOk result (λ r. (source : Source) (s : State) → Lowered source code.now → Stands (laid_of code.now) work.old s → Rode source (laid_of code.now) (answering.answered answer s) quantum r.ticks r.asked work.new) }
+    ensures rides { IfOk result (λ r. (source : Source) (s : State) → Lowered source code.now → Stands (laid_of code.now) work.old s → Rode source (laid_of code.now) (answering.answered source answer s) quantum r.ticks r.asked work.new) }
     ensures few { IfOk result (λ r. r.ticks ≤ quantum) }
     ensures early { IfOk result (λ r. (r.asked.request ≡ ask.Slice → ⊥) → r.ticks < quantum) }
     ensures kept { IfOk result (λ r. KeepsAfter code.now r.asked.request work.new) }
@@ -107,8 +107,9 @@ fn go_on(code: &Code, work: &mut Work, quantum: u32) -> Result<(u32, Asked), All
     ensures kept { IfOk result (λ r. KeepsAfter code.now r.1.request work.new) }
 {
     let mut ticks = 0;
+    let mut stop = Stepped::Quiet;
     'ticks: loop {
-        match burst(code, work)? {
+        match burst(code, work, &mut stop)? {
             Some(asked) => return Ok((ticks, asked)),
             None => {
                 ticks += 1;
@@ -120,20 +121,19 @@ fn go_on(code: &Code, work: &mut Work, quantum: u32) -> Result<(u32, Asked), All
     }
 }
 
-// Ops up to a tick, or up to a request.
-fn burst(code: &Code, work: &mut Work) -> Result<Option<Asked>, AllocError>
+// Ops up to a tick, or up to a request. What was in the stop does not matter.
+fn burst(code: &Code, work: &mut Work, stop: &mut Stepped) -> Result<Option<Asked>, AllocError>
     requires paced { IsPaced (laid_of code.now) code.now.routines }
     requires kept { Keeps code.now work.old }
     ensures burst { IfOk result (λ asked. HasBurst code.now work.old asked work.new) }
     ensures kept { IfOk result (λ asked. BurstKeeps code.now asked work.new) }
 {
     'ops: loop {
-        match go_onward(code, work)? {
+        match step(code, work, stop)? {
             Onward::Quiet => {}
             Onward::Tick => return Ok(None),
-            Onward::Asks => {
-                let how = step(code, work)?;
-                let after = settle(code, work, how)?;
+            Onward::Stops => {
+                let after = settle(code, work, *stop)?;
                 match after {
                     Settled::On => {}
                     Settled::Tick => return Ok(None),

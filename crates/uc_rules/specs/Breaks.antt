@@ -12,7 +12,7 @@ use Rattle.uc_rules.specs.ProgramVisits.{program_visits, home_member}
 use Rattle.uc_rules.specs.Entities.{fits}
 use Rattle.uc_rules.specs.Asked.{unless, asked, of_sort}
 use Rattle.uc_rules.specs.ExpressionBreaks.{undeclared, is_new, is_maybe_new, main_called, no_scalar, no_place, no_routine, no_loop, length_breaks, length_value_breaks, start_breaks, return_breaks, may_name, bad_clause, no_event, is_no_event, raise_breaks, no_handler, no_stream}
-use Rattle.uc_rules.specs.ClassBreaks.{is_new_field, fields_at, is_new_routine, home_leads_back, is_well_mained, sig_breaks, param_breaks, has_room, constant_breaks, is_field_sort, init_count_breaks, may_init, inits_breaks, is_well_built, is_well_marked, is_field_of, is_sound_event}
+use Rattle.uc_rules.specs.ClassBreaks.{is_new_field, fields_at, is_new_routine, home_leads_back, is_well_mained, sig_breaks, param_breaks, has_room, constant_breaks, is_field_sort, init_count_breaks, may_init, inits_breaks, is_well_built, is_well_marked, is_sound_event}
 use Rattle.uc_rules.specs.ItemBreaks.{main_breaks, item_name, item_pos, is_new_item, item_breaks, is_sound_member}
 use Rattle.uc_rules.specs.OwnerBreaks.{unshared_reference, field_outside, called_outside, lone_condition, unbound_reference, unowned_argument, copied_object, no_target, misplaced}
 
@@ -101,7 +101,7 @@ badly_marked _ = []
 -- S22
 abbrev pub bad_event : Visit → List Break
 bad_event (AtVariable env b d) = of_sort (sort_of env.program b) is_no_event S22 d.pos
-bad_event (AtField env c a b d field) = of_sort (sort_of env.program b) (is_field_of c d field) S22 d.pos
+bad_event (AtField env c a b d field) = of_sort (sort_of env.program b) is_no_event S22 d.pos
 bad_event (AtClass env c place) = unless (is_sound_event env.program c place) S22 c.pos
 bad_event (AtRaise env p name n) = raise_breaks env p name n
 bad_event _ = []

@@ -7,16 +7,18 @@ use Rattle.uc_tree.specs.declared.kinds.Base.{Base}
 use Rattle.uc_tree.specs.declared.kinds.Base.TheVariants as base
 use Rattle.uc_tree.specs.declared.kinds.Mark.{Mark}
 use Rattle.uc_tree.specs.declared.kinds.Mark.TheVariants as mark
+use Rattle.uc_tree.specs.declared.kinds.Role.{Role}
+use Rattle.uc_tree.specs.declared.kinds.Role.TheVariants as role
 use Rattle.uc_tree.specs.declared.kinds.Owner.{Owner}
 use Rattle.uc_tree.specs.declared.kinds.Owner.TheVariants as owner
 use Rattle.uc_tree.specs.declared.kinds.Param.{Param}
 use Rattle.uc_tree.specs.Names.{same_name}
 use Rattle.uc_tree.specs.Rows.{reaches, object_leads}
 use Rattle.uc_tree.specs.Cells.{classes_of, rows_of, class_cells, object_of}
-use Rattle.uc_tree.specs.Numbering.{main_name, unhandled_name, is_event, is_mutex, is_plain, event_names, exclusive_name, member_number, condition_count}
+use Rattle.uc_tree.specs.Numbering.{main_name, is_given, is_event, is_mutex, is_plain, event_names, exclusive_name, member_number, condition_count}
 use Rattle.uc_tree.specs.Expressions.{expr_pos}
 use Rattle.uc_tree.specs.Statements.{Declarator, Stmts, NoStmts, MoreStmts}
-use Rattle.uc_tree.specs.Programs.{Sig, Init, Routine, MemberForm, FieldsMember, RoutineMember, ProtoMember, Member, Class, Constant, Item, ClassItem, RoutineItem, ConstItem, ProtoItem, ForwardItem, UsingItem, Program}
+use Rattle.uc_tree.specs.Programs.{Sig, Init, Routine, MemberForm, FieldsMember, RoutineMember, ProtoMember, Member, Class, Constant, Item, RoutineItem, Program}
 use Rattle.uc_rules.specs.declared.rule.Rule.TheVariants.{S11, S12, S15, S16, S17}
 use Rattle.uc_rules.specs.declared.rule.Break.{Break}
 use Rattle.uc_rules.specs.declared.rules.Sort.{Sort}
@@ -28,14 +30,14 @@ use Rattle.uc_rules.specs.declared.rules.Origin.TheVariants as origin
 use Rattle.uc_rules.specs.declared.rules.FieldPlace.{FieldPlace}
 use Rattle.uc_rules.specs.declared.rules.Meant.{Meant}
 use Rattle.uc_rules.specs.declared.rules.Home.{Home}
-use Rattle.uc_rules.specs.Sorts.{is_scalar_sort, is_void, has_main, is_event_class, of_class, sort_of, class_at}
+use Rattle.uc_rules.specs.Sorts.{is_scalar_sort, is_void, has_main, sort_of, class_at}
 use Rattle.uc_rules.specs.Names.{is_constructor, constructor_among, constructor_params, is_field_before}
 use Rattle.uc_rules.specs.Scopes.{Env}
 use Rattle.uc_rules.specs.Entities.{entity_of, is_array, is_of_conditions, count}
 use Rattle.uc_rules.specs.Asked.{unless, asked, of_sort}
-use Rattle.uc_rules.specs.ExpressionBreaks.{is_element, length_value}
+use Rattle.uc_rules.specs.ExpressionBreaks.{are_single, is_element, length_value}
 
--- S2: the names that a class declares, in textual order; its constructor shares its name, and a destructor has none
+-- S2: the names that a class declares, in textual order, but for that of its constructor; a destructor has none
 abbrev pub declared_names : List Declarator → List (List ℕ)
 declared_names ds = map (λ d. d.name) ds
 
@@ -51,9 +53,20 @@ abbrev pub members_declare : List Member → List (List ℕ)
 members_declare [] = []
 members_declare (m ∷ ms) = form_declares_names m.form ++ members_declare ms
 
+-- a constructor, which has the name of its class
+abbrev pub builds : MemberForm → Bool
+builds (FieldsMember at b ds) = false
+builds (RoutineMember r) = is_constructor r.sig.role
+builds (ProtoMember sig) = is_constructor sig.role
+
+-- names that a member with the place j may not have: those of events that every program has, and behind a constructor that of its
+-- class
+abbrev pub is_kept : Class → ℕ → List ℕ → Bool
+is_kept c j name = is_given name || (same_name name c.name && list_any (λ m. builds m.form) (take j c.members))
+
 -- whether none of the members before the place j declares this name
 abbrev pub is_new_member : Class → ℕ → List ℕ → Bool
-is_new_member c j name = not (list_any (λ x. same_name x name) (members_declare (take j c.members)) || same_name name unhandled_name)
+is_new_member c j name = not (list_any (λ x. same_name x name) (members_declare (take j c.members)) || is_kept c j name)
 
 -- nor one of the fields before it in its own list
 abbrev pub is_new_field : Class → FieldPlace → List Declarator → List ℕ → Bool
@@ -62,8 +75,7 @@ is_new_field c place ds name = is_new_member c place.member name && not (list_an
 -- the fields of the member with this place
 abbrev pub form_fields : MemberForm → List Declarator
 form_fields (FieldsMember at b ds) = ds
-form_fields (RoutineMember r) = []
-form_fields (ProtoMember sig) = []
+form_fields _ = []
 
 abbrev pub member_fields : Option Member → List Declarator
 member_fields None = []
@@ -76,9 +88,14 @@ abbrev pub fields_in : List Member → ℕ
 fields_in [] = 0
 fields_in (m ∷ ms) = length (form_fields m.form) + fields_in ms
 
--- constructors and destructors have no name of their own
+-- a destructor has no name of its own, and of two constructors another rule asks
+abbrev pub is_new_routine_by : Role → Class → ℕ → List ℕ → Bool
+is_new_routine_by role.Plain c j name = is_new_member c j name
+is_new_routine_by role.Constructor c j name = not (list_any (λ x. same_name x name) (members_declare (take j c.members)))
+is_new_routine_by role.Destructor c j name = true
+
 abbrev pub is_new_routine : Class → ℕ → Sig → Bool
-is_new_routine c j sig = not (is_plain sig.role) || is_new_member c j sig.name
+is_new_routine c j sig = is_new_routine_by sig.role c j sig.name
 
 -- S4: a field leads back to its class
 abbrev pub field_object : Program → Base → Declarator → Option Object
@@ -94,13 +111,7 @@ home_leads_back p (Some h) b d = leads_back p h.class b d
 -- S6: a coroutine, cormonitor and task has `void main()`, and no other class a member of that name
 abbrev pub is_void_base : Base → Bool
 is_void_base base.Void = true
-is_void_base base.Int = false
-is_void_base base.Char = false
-is_void_base base.Bool = false
-is_void_base base.Condition = false
-is_void_base base.Cluster = false
-is_void_base base.Processor = false
-is_void_base (base.Named name) = false
+is_void_base _ = false
 
 abbrev pub is_main_of_class : Sig → Bool
 is_main_of_class sig = is_plain sig.role && (same_name sig.name main_name && (is_void_base sig.ret && nat_eq (length sig.params) 0))
@@ -120,9 +131,12 @@ may_return s = is_void s || is_scalar_sort s
 abbrev pub sig_breaks : Env → Sig → List Break
 sig_breaks env sig = if is_plain sig.role then of_sort (sort_of env.program sig.ret) may_return S12 sig.pos else []
 
--- S11: a value parameter is a scalar
+-- S11: a value parameter is a scalar, and no parameter `void`
+abbrev pub is_param_sort : Bool → Sort → Bool
+is_param_sort by_ref s = if by_ref then not (is_void s) else is_scalar_sort s
+
 abbrev pub param_breaks : Env → Param → List Break
-param_breaks env x = if x.by_ref then [] else of_sort (sort_of env.program x.base) is_scalar_sort S11 x.pos
+param_breaks env x = of_sort (sort_of env.program x.base) (is_param_sort x.by_ref) S11 x.pos
 
 -- S14: the cells and the conditions of a class
 abbrev pub has_room : Program → Class → ℕ → Bool
@@ -136,40 +150,27 @@ constant_breaks env c = asked (entity_of env c.value) (λ w. is_some (length_val
 abbrev pub is_field_sort : Program → Declarator → Sort → Bool
 is_field_sort p d s = not (is_void s) && (d.by_ref || (not (is_some d.len) || is_element p s))
 
--- the values that an initialiser gives, by what the field is
-abbrev pub sort_takes : Program → ℕ → Sort → Bool
-sort_takes p n sort.Void = true
-sort_takes p n sort.Int = nat_le n 1
-sort_takes p n sort.Char = nat_le n 1
-sort_takes p n sort.Bool = nat_le n 1
-sort_takes p n sort.Condition = true
-sort_takes p n sort.Cluster = true
-sort_takes p n sort.Processor = nat_eq n 1
-sort_takes p n (sort.Object class k) = nat_eq n (length (constructor_params p class))
+-- the values that an initialiser gives, by what the field is: so many, and whether one alone is a scalar
+abbrev pub sort_takes : Program → ℕ → Bool → Sort → Bool
+sort_takes p n single sort.Int = single
+sort_takes p n single sort.Char = single
+sort_takes p n single sort.Bool = single
+sort_takes p n single sort.Processor = nat_eq n 1
+sort_takes p n single (sort.Object class k) = nat_eq n (length (constructor_params p class))
+sort_takes p n single _ = true
 
-abbrev pub entity_takes : Program → Bool → ℕ → Entity → Bool
-entity_takes p by_ref n (entity.Place s) = if by_ref then nat_eq n 1 else sort_takes p n s
-entity_takes p by_ref n (entity.Value s) = true
-entity_takes p by_ref n (entity.Array s m) = true
-entity_takes p by_ref n entity.Input = true
-entity_takes p by_ref n entity.Fail = true
-entity_takes p by_ref n (entity.Operation o) = true
-entity_takes p by_ref n entity.Main = true
-entity_takes p by_ref n (entity.Routine i) = true
-entity_takes p by_ref n (entity.Method i j inner by_path) = true
-entity_takes p by_ref n entity.ClassName = true
-entity_takes p by_ref n entity.Missing = true
+abbrev pub entity_takes : Program → Bool → ℕ → Bool → Entity → Bool
+entity_takes p by_ref n single (entity.Place s) = if by_ref then nat_eq n 1 else sort_takes p n single s
+entity_takes p by_ref n single _ = true
 
 abbrev pub is_by_ref : Origin → Bool
-is_by_ref origin.Local = false
 is_by_ref (origin.Parameter by_ref) = by_ref
 is_by_ref (origin.Field class k access by_ref i) = by_ref
-is_by_ref (origin.Method class access) = false
-is_by_ref origin.Outer = false
+is_by_ref _ = false
 
 abbrev pub init_count_breaks : Env → Init → Option Meant → List Break
 init_count_breaks env x None = []
-init_count_breaks env x (Some m) = asked m.entity (entity_takes env.program (is_by_ref m.origin) (count x.args)) S16 x.pos
+init_count_breaks env x (Some m) = asked m.entity (entity_takes env.program (is_by_ref m.origin) (count x.args) (are_single env x.args)) S16 x.pos
 
 -- S17: which fields an initialiser may name: no array and no condition, and none before those that are named already
 abbrev pub may_start : Entity → Bool
@@ -184,11 +185,8 @@ is_behind None field = true
 is_behind (Some last) field = is_field_before last field
 
 abbrev pub is_from : Option FieldPlace → Origin → Bool
-is_from last origin.Local = false
-is_from last (origin.Parameter by_ref) = false
 is_from last (origin.Field class k access by_ref i) = is_behind last i
-is_from last (origin.Method class access) = false
-is_from last origin.Outer = false
+is_from last _ = false
 
 abbrev pub may_init : Option FieldPlace → Option Meant → Bool
 may_init last None = false
@@ -196,14 +194,9 @@ may_init last (Some m) = is_from last m.origin && maybe_start m.entity
 
 -- the fields that need an initialiser: references, processors, and objects whose constructor has parameters
 abbrev pub sort_needs : Program → Sort → Bool
-sort_needs p sort.Void = false
-sort_needs p sort.Int = false
-sort_needs p sort.Char = false
-sort_needs p sort.Bool = false
-sort_needs p sort.Condition = false
-sort_needs p sort.Cluster = false
 sort_needs p sort.Processor = true
 sort_needs p (sort.Object class k) = not (nat_eq (length (constructor_params p class)) 0)
+sort_needs p _ = false
 
 abbrev pub maybe_needs : Program → Option Sort → Bool
 maybe_needs p None = false
@@ -217,8 +210,7 @@ is_unset p inits b d = needs_init p b d && not (list_any (λ x. same_name x.name
 
 abbrev pub form_unset : Program → List Init → MemberForm → Bool
 form_unset p inits (FieldsMember at b ds) = list_any (is_unset p inits b) ds
-form_unset p inits (RoutineMember r) = false
-form_unset p inits (ProtoMember sig) = false
+form_unset p inits _ = false
 
 abbrev pub has_unset : Program → List Init → Option Class → Bool
 has_unset p inits None = false
@@ -242,8 +234,7 @@ is_well_built p c = is_some (constructor_among c.members) || not (has_unset p []
 -- mutex members besides its destructor
 abbrev pub is_unmarked : Mark → Bool
 is_unmarked mark.Unmarked = true
-is_unmarked mark.Mutex = false
-is_unmarked mark.Nomutex = false
+is_unmarked _ = false
 
 abbrev pub sig_may_be_marked : Sig → Bool
 sig_may_be_marked sig = is_plain sig.role && not (same_name sig.name main_name)
@@ -260,18 +251,18 @@ has_number c (Some name) = not (is_mutex c.kind) || is_some (member_number c nam
 abbrev pub is_well_marked : Class → Member → Bool
 is_well_marked c m = (is_unmarked m.mark || (is_mutex c.kind && form_may_be_marked m.form)) && has_number c (exclusive_name m)
 
--- S22: an event has at most two scalar fields, no other members but a constructor with an empty body; a program has at most 62
-abbrev pub fields_before : Class → FieldPlace → ℕ
-fields_before c place = fields_in (take place.member c.members) + place.index
+-- S22: an event has at most two scalar fields, no other members but a constructor with an empty body; a program has at most 62.
+-- Of a base that names nothing another rule asks.
+abbrev pub may_be_scalar : Option Sort → Bool
+may_be_scalar None = true
+may_be_scalar (Some s) = is_scalar_sort s
 
-abbrev pub is_event_field : Class → Declarator → FieldPlace → Sort → Bool
-is_event_field c d place s = is_scalar_sort s && (not d.by_ref && (not (is_some d.len) && nat_lt (fields_before c place) EVENT_FIELDS))
+abbrev pub is_event_field : Program → Base → Declarator → Bool
+is_event_field p b d = may_be_scalar (sort_of p b) && (not d.by_ref && not (is_some d.len))
 
-abbrev pub is_no_event_sort : Sort → Bool
-is_no_event_sort s = not (of_class is_event_class s)
-
-abbrev pub is_field_of : Class → Declarator → FieldPlace → Sort → Bool
-is_field_of c d place s = if is_event c.kind then is_event_field c d place s else is_no_event_sort s
+abbrev pub has_event_fields : Program → MemberForm → Bool
+has_event_fields p (FieldsMember at b ds) = list_all (is_event_field p b) ds
+has_event_fields p _ = true
 
 abbrev pub is_empty_body : Stmts → Bool
 is_empty_body NoStmts = true
@@ -281,18 +272,13 @@ abbrev pub is_empty_constructor : Routine → Bool
 is_empty_constructor r = is_constructor r.sig.role && is_empty_body r.body
 
 abbrev pub is_owner : List ℕ → Owner → Bool
-is_owner name owner.Here = false
-is_owner name owner.Main = false
 is_owner name (owner.Class c) = same_name c name
+is_owner name _ = false
 
 -- a constructor of this class that stands outside of it and has a statement
 abbrev pub builds_more : List ℕ → Item → Bool
-builds_more name (ClassItem c) = false
 builds_more name (RoutineItem r) = is_owner name r.sig.owner && (is_constructor r.sig.role && not (is_empty_body r.body))
-builds_more name (ConstItem c) = false
-builds_more name (ProtoItem sig) = false
-builds_more name (ForwardItem f) = false
-builds_more name (UsingItem at) = false
+builds_more name _ = false
 
 abbrev pub is_event_member : Program → Class → MemberForm → Bool
 is_event_member p c (FieldsMember at b ds) = true
@@ -303,4 +289,7 @@ abbrev pub events_before : Program → ℕ → ℕ
 events_before p place = length (event_names (take place (classes_of p.items)))
 
 abbrev pub is_sound_event : Program → Class → ℕ → Bool
-is_sound_event p c place = not (is_event c.kind) || (list_all (λ m. is_event_member p c m.form) c.members && nat_lt (events_before p place) PROGRAM_EVENTS)
+is_sound_event p c place =
+    not (is_event c.kind)
+    || (list_all (λ m. is_event_member p c m.form) c.members
+    && (list_all (λ m. has_event_fields p m.form) c.members && (nat_le (fields_in c.members) EVENT_FIELDS && nat_lt (events_before p place) PROGRAM_EVENTS)))

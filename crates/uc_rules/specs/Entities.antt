@@ -34,14 +34,7 @@ abbrev pub value_test : (Sort → Bool) → (Sort → Bool) → (Sort → Bool) 
 value_test value place array (Value s) = value s
 value_test value place array (Place s) = place s
 value_test value place array (Array s n) = array s
-value_test value place array Input = false
-value_test value place array Fail = false
-value_test value place array (entity.Operation o) = false
-value_test value place array Main = false
-value_test value place array (Routine i) = false
-value_test value place array (Method i j inner by_path) = false
-value_test value place array ClassName = false
-value_test value place array Missing = false
+value_test value place array _ = false
 
 abbrev pub none_of : Sort → Bool
 none_of s = false
@@ -92,17 +85,8 @@ truth_value = Value sort.Bool
 
 -- the value of what is assigned to and of `++` and `--` is that of the place, and none itself
 abbrev pub value_of : Entity → Option Entity
-value_of (Value s) = None
 value_of (Place s) = if is_scalar_sort s then Some (Value s) else None
-value_of (Array s n) = None
-value_of Input = None
-value_of Fail = None
-value_of (entity.Operation o) = None
-value_of Main = None
-value_of (Routine i) = None
-value_of (Method i j inner by_path) = None
-value_of ClassName = None
-value_of Missing = None
+value_of _ = None
 
 abbrev pub of_place : Option Entity → Option Entity
 of_place None = None
@@ -140,16 +124,7 @@ of_assign (Some w) (Some v) = assigned w v
 
 abbrev pub element : Entity → Option Entity
 element (Array s n) = Some (Place s)
-element (Value s) = None
-element (Place s) = None
-element Input = None
-element Fail = None
-element (entity.Operation o) = None
-element Main = None
-element (Routine i) = None
-element (Method i j inner by_path) = None
-element ClassName = None
-element Missing = None
+element _ = None
 
 abbrev pub of_index : Option Entity → Option Entity → Option Entity
 of_index None i = None
@@ -188,55 +163,26 @@ is_operation_name name = is_some (operation_named name)
 
 -- a member of an object of this sort; the members of a condition are no names of a class
 abbrev pub object_member : Program → Sort → List ℕ → Option Meant
-object_member p sort.Void name = None
-object_member p sort.Int name = None
-object_member p sort.Char name = None
-object_member p sort.Bool name = None
-object_member p sort.Condition name = None
-object_member p sort.Cluster name = None
-object_member p sort.Processor name = None
 object_member p (sort.Object class k) name = member_named p class name
+object_member p _ name = None
 
 -- the member of a class that is named behind a `.`
 abbrev pub path_member : Program → Entity → List ℕ → Option Meant
 path_member p (Place s) name = object_member p s name
-path_member p (Value s) name = None
-path_member p (Array s n) name = None
-path_member p Input name = None
-path_member p Fail name = None
-path_member p (entity.Operation o) name = None
-path_member p Main name = None
-path_member p (Routine i) name = None
-path_member p (Method i j inner by_path) name = None
-path_member p ClassName name = None
-path_member p Missing name = None
+path_member p _ name = None
 
 abbrev pub operation_entity : Operation → Entity
 operation_entity o = entity.Operation o
 
 abbrev pub condition_member : Sort → List ℕ → Option Entity
-condition_member sort.Void name = None
-condition_member sort.Int name = None
-condition_member sort.Char name = None
-condition_member sort.Bool name = None
 condition_member sort.Condition name = option_and_then (λ o. Some (operation_entity o)) (operation_named name)
-condition_member sort.Cluster name = None
-condition_member sort.Processor name = None
-condition_member (sort.Object class k) name = None
+condition_member _ name = None
 
 -- a member that no class declares: those of conditions, and `fail` of `cin`
 abbrev pub built_in : Entity → List ℕ → Option Entity
 built_in (Place s) name = condition_member s name
 built_in Input name = if same_name name fail_name then Some Fail else None
-built_in (Value s) name = None
-built_in (Array s n) name = None
-built_in Fail name = None
-built_in (entity.Operation o) name = None
-built_in Main name = None
-built_in (Routine i) name = None
-built_in (Method i j inner by_path) name = None
-built_in ClassName name = None
-built_in Missing name = None
+built_in _ name = None
 
 -- a member that is not there, where it is called of what is no object, breaks the rule on calls and none before
 abbrev pub of_missing : Bool → Option Entity
@@ -244,30 +190,15 @@ of_missing true = Some Missing
 of_missing false = None
 
 abbrev pub is_object_sort : Sort → Bool
-is_object_sort sort.Void = false
-is_object_sort sort.Int = false
-is_object_sort sort.Char = false
-is_object_sort sort.Bool = false
-is_object_sort sort.Condition = false
-is_object_sort sort.Cluster = false
-is_object_sort sort.Processor = false
 is_object_sort (sort.Object class k) = true
+is_object_sort _ = false
 
 abbrev pub is_object : Entity → Bool
 is_object = value_test none_of is_object_sort none_of
 
 abbrev pub by_path : Entity → Entity
-by_path (Value s) = Value s
-by_path (Place s) = Place s
-by_path (Array s n) = Array s n
-by_path Input = Input
-by_path Fail = Fail
-by_path (entity.Operation o) = entity.Operation o
-by_path Main = Main
-by_path (Routine i) = Routine i
 by_path (Method i j inner path) = Method i j inner true
-by_path ClassName = ClassName
-by_path Missing = Missing
+by_path e = e
 
 abbrev pub entity_by_path : Option Entity → Option Entity
 entity_by_path None = None
@@ -283,11 +214,9 @@ is_home (Some h) class = nat_eq h.class class
 
 -- whether a member may be named behind a `.`: what is not public only in its class, and no field of a coroutine
 abbrev pub is_open : Option Home → Origin → Bool
-is_open home origin.Local = true
-is_open home (origin.Parameter by_ref) = true
 is_open home (origin.Field class k access by_ref i) = not (is_coroutine k) && (is_public access || is_home home class)
 is_open home (origin.Method class access) = is_public access || is_home home class
-is_open home origin.Outer = true
+is_open home _ = true
 
 abbrev pub open_entity : Option Home → Meant → Option Entity
 open_entity home m = if is_open home m.origin then entity_by_path m.entity else None
@@ -321,12 +250,7 @@ takes p n (entity.Operation o) = operation_takes o n
 takes p n Main = nat_eq n 0
 takes p n (Routine i) = sig_takes (routine_sig p i) n
 takes p n (Method i j inner by_path) = sig_takes (method_sig p i j) n
-takes p n (Value s) = false
-takes p n (Place s) = false
-takes p n (Array s m) = false
-takes p n Input = false
-takes p n ClassName = false
-takes p n Missing = false
+takes p n _ = false
 
 abbrev pub is_main_sig : Option Sig → Bool
 is_main_sig None = false
@@ -336,14 +260,7 @@ abbrev pub is_main : Program → Entity → Bool
 is_main p Main = true
 is_main p (Routine i) = is_main_sig (routine_sig p i)
 is_main p (Method i j inner by_path) = is_main_sig (method_sig p i j)
-is_main p (Value s) = false
-is_main p (Place s) = false
-is_main p (Array s m) = false
-is_main p Input = false
-is_main p Fail = false
-is_main p (entity.Operation o) = false
-is_main p ClassName = false
-is_main p Missing = false
+is_main p _ = false
 
 abbrev pub operation_gives : Operation → Entity
 operation_gives Wait = Value sort.Void
@@ -362,15 +279,9 @@ sig_gives p (Some sig) = option_and_then value_of_sort (sort_of p sig.ret)
 abbrev pub given : Program → Entity → Option Entity
 given p Fail = Some truth_value
 given p (entity.Operation o) = Some (operation_gives o)
-given p Main = None
 given p (Routine i) = sig_gives p (routine_sig p i)
 given p (Method i j inner by_path) = sig_gives p (method_sig p i j)
-given p (Value s) = None
-given p (Place s) = None
-given p (Array s m) = None
-given p Input = None
-given p ClassName = None
-given p Missing = None
+given p _ = None
 
 -- what is asked of arguments
 
@@ -378,44 +289,31 @@ abbrev pub reference_to : Option Sort → Expected
 reference_to None = Anything
 reference_to (Some s) = Reference s
 
+-- a value is passed to a scalar alone: for another parameter no argument fits
+abbrev pub value_to : Option Sort → Expected
+value_to None = Scalar
+value_to (Some s) = if is_scalar_sort s then Scalar else Nothing
+
 abbrev pub param_expected : Program → Option Param → Expected
 param_expected p None = Anything
-param_expected p (Some x) = if x.by_ref then reference_to (sort_of p x.base) else Scalar
+param_expected p (Some x) = if x.by_ref then reference_to (sort_of p x.base) else value_to (sort_of p x.base)
 
 abbrev pub callee_params : Program → Entity → List Param
 callee_params p (Routine i) = params_in (routine_sig p i)
 callee_params p (Method i j inner by_path) = params_in (method_sig p i j)
-callee_params p (Value s) = []
-callee_params p (Place s) = []
-callee_params p (Array s m) = []
-callee_params p Input = []
-callee_params p Fail = []
-callee_params p (entity.Operation o) = []
-callee_params p Main = []
-callee_params p ClassName = []
-callee_params p Missing = []
+callee_params p _ = []
 
 abbrev pub is_operation : Entity → Bool
 is_operation (entity.Operation o) = true
-is_operation (Routine i) = false
-is_operation (Method i j inner by_path) = false
-is_operation (Value s) = false
-is_operation (Place s) = false
-is_operation (Array s m) = false
-is_operation Input = false
-is_operation Fail = false
-is_operation Main = false
-is_operation ClassName = false
-is_operation Missing = false
+is_operation _ = false
 
 -- what is asked of the argument with this place in a list
 abbrev pub expected : Program → Target → ℕ → Expected
-expected p target.Unknown i = Anything
-expected p target.Scalar i = Anything
 expected p target.Nothing i = Nothing
 expected p (target.Reference s) i = Reference s
 expected p (target.Call e) i = if is_operation e then Scalar else param_expected p (slice_get (callee_params p e) i)
 expected p (target.Constructor class) i = param_expected p (slice_get (constructor_params p class) i)
+expected p _ i = Anything
 
 abbrev pub is_place_of : Sort → Sort → Bool
 is_place_of s t = same_sort s t
@@ -450,15 +348,11 @@ count (MoreExprs e es) = suc (count es)
 
 abbrev pub is_field : Part → Bool
 is_field (Field sign name) = true
-is_field (Index sign index) = false
-is_field (Call sign args) = false
-is_field (Step sign op) = false
+is_field _ = false
 
 abbrev pub is_call : Part → Bool
-is_call (Field sign name) = false
-is_call (Index sign index) = false
 is_call (Call sign args) = true
-is_call (Step sign op) = false
+is_call _ = false
 
 abbrev pub field_follows : Parts → Bool
 field_follows NoParts = false
@@ -470,14 +364,7 @@ call_follows (MoreParts p ps) = is_call p
 
 abbrev pub is_cin : Expr → Bool
 is_cin (Cin p) = true
-is_cin (Number p n) = false
-is_cin (Character p byte) = false
-is_cin (Truth p b) = false
-is_cin (Name p name) = false
-is_cin (Postfix p root parts) = false
-is_cin (Unary p op operand) = false
-is_cin (Chain p first rest) = false
-is_cin (Assign p sign op place value) = false
+is_cin _ = false
 
 -- `cin` stands for something only before a `.`
 abbrev pub is_input : Expr → Parts → Bool

@@ -10,15 +10,16 @@ use Rattle.uc_tree.specs.declared.kinds.HandlerKind.TheVariants as kinds
 use Rattle.uc_tree.specs.declared.kinds.MemberName.{MemberName}
 use Rattle.uc_tree.specs.Names.{same_name}
 use Rattle.uc_tree.specs.Constants.{value_in}
-use Rattle.uc_tree.specs.Numbering.{unhandled_name, is_event, is_mutex, member_number}
+use Rattle.uc_tree.specs.Numbering.{is_given, is_event, is_exclusive, is_mutex, member_number}
 use Rattle.uc_tree.specs.Expressions.{Expr, Exprs, NoExprs, MoreExprs, expr_pos}
-use Rattle.uc_tree.specs.Statements.{Start, NoStart, StartValue, StartArgs, Declarator, OutItem, Endl, Literal, Printed, Handles, Handlers, NoHandlers, MoreHandlers, Accepts, Clauses, NoClauses, MoreClauses}
-use Rattle.uc_tree.specs.Programs.{Class, Program}
+use Rattle.uc_tree.specs.Statements.{Start, StartValue, Declarator, OutItem, Endl, Literal, Printed, Handles, Handlers, NoHandlers, MoreHandlers, Accepts, Clauses, NoClauses, MoreClauses}
+use Rattle.uc_tree.specs.Programs.{Member, Class, Program}
 use Rattle.uc_rules.specs.declared.rule.Rule.TheVariants.{S1, S7, S8, S9, S10, S12, S13, S14, S15, S16, S20, S21, S22, S23, S24}
 use Rattle.uc_rules.specs.declared.rule.Break.{Break}
 use Rattle.uc_rules.specs.declared.rules.Sort.{Sort}
 use Rattle.uc_rules.specs.declared.rules.Sort.TheVariants as sort
 use Rattle.uc_rules.specs.declared.rules.Entity.{Entity}
+use Rattle.uc_rules.specs.declared.rules.Entity.TheVariants.{Method}
 use Rattle.uc_rules.specs.declared.rules.Home.{Home}
 use Rattle.uc_rules.specs.declared.rules.Meant.{Meant}
 use Rattle.uc_rules.specs.Sorts.{is_event_class, of_class, sort_of, class_at}
@@ -26,6 +27,7 @@ use Rattle.uc_rules.specs.Names.{constructor_params}
 use Rattle.uc_rules.specs.Scopes.{Env, named, is_own, value_named, event_sort, event_named}
 use Rattle.uc_rules.specs.Entities.{is_scalar, is_place, is_array, is_readable, is_object, both_scalars, path_member, built_in, is_open, takes, is_main, entity_of, count}
 use Rattle.uc_rules.specs.Visits.{Visit, AtUse, AtCin, AtOperand, AtOperands, AtChange, AtAssign, AtMember, AtIndex, AtCall, AtBase, AtCondition, AtPrinted, AtTogether, AtRead, AtLoopExit, AtEvent, AtAgain, AtHandlers, AtAccept, start_values}
+use Rattle.uc_rules.specs.ProgramVisits.{home_member}
 use Rattle.uc_rules.specs.Asked.{unless, asked, asked_both, of_sort}
 
 -- S1: a name that is used is declared, and so is a member behind a `.`; of what is no object a member that is called is asked
@@ -43,9 +45,9 @@ undeclared (AtBase env p b) = unless (is_some (sort_of env.program b)) S1 p
 undeclared (AtEvent env p name) = unless (is_declared_event env name) S1 p
 undeclared _ = []
 
--- S2: no local is declared twice in one scope, and `uUnhandled` nowhere
+-- S2: no local is declared twice in one scope, and no event that every program has anywhere
 abbrev pub is_new : Env → List ℕ → Bool
-is_new env name = not (is_own env name || same_name name unhandled_name)
+is_new env name = not (is_own env name || is_given name)
 
 abbrev pub is_maybe_new : Env → Option (List ℕ) → Bool
 is_maybe_new env None = true
@@ -115,9 +117,8 @@ length_value_breaks env (Some e) = unless (is_some (length_value env e)) S15 (ex
 -- parameters, in parentheses; a processor with one; an array with none, its constructor without parameters. No variable is
 -- `void`. Of events another rule asks.
 abbrev pub is_value_start : Start → Bool
-is_value_start NoStart = false
 is_value_start (StartValue e) = true
-is_value_start (StartArgs es) = false
+is_value_start _ = false
 
 abbrev pub is_scalar_of : Option Entity → Bool
 is_scalar_of None = true
@@ -131,13 +132,9 @@ are_single env (MoreExprs e (MoreExprs f es)) = false
 -- whether arrays of this sort may be declared
 abbrev pub is_element : Program → Sort → Bool
 is_element p sort.Void = false
-is_element p sort.Int = true
-is_element p sort.Char = true
-is_element p sort.Bool = true
-is_element p sort.Condition = true
-is_element p sort.Cluster = true
 is_element p sort.Processor = false
 is_element p (sort.Object class k) = is_event k || nat_eq (length (constructor_params p class)) 0
+is_element p _ = true
 
 -- whether what a variable of this sort starts with is in order: by `=` or not, so many values, and whether one alone is a scalar
 abbrev pub starts_well : Program → Bool → ℕ → Bool → Sort → Bool
@@ -176,10 +173,26 @@ is_open_member home (Some m) = is_open home m.origin
 abbrev pub may_name : Env → List ℕ → Entity → Bool
 may_name env name w = is_open_member env.around.home (path_member env.program w name)
 
--- S20: `_Accept` lists mutex members of its own class, or `~` with its name, none twice in a statement; at most 32 clauses
-abbrev pub listed_in : Option Class → MemberName → Option ℕ
-listed_in None m = None
-listed_in (Some c) m = if m.destructor then (if is_mutex c.kind && same_name c.name m.name then Some DESTRUCTOR else None) else member_number c m.name
+-- S20: `_Accept` lists mutex members of its own class, or `~` with its name, none twice in a statement; at most 32 clauses. Of
+-- members with one name the first is meant, which may be a field.
+abbrev pub is_exclusive_member : Option Member → Bool
+is_exclusive_member None = false
+is_exclusive_member (Some m) = is_exclusive m.mark m.access
+
+abbrev pub is_exclusive_entity : Class → Option Entity → Bool
+is_exclusive_entity c (Some (Method i j inner by_path)) = is_exclusive_member (slice_get c.members j)
+is_exclusive_entity c _ = false
+
+abbrev pub means_exclusive : Class → Option Meant → Bool
+means_exclusive c None = false
+means_exclusive c (Some m) = is_exclusive_entity c m.entity
+
+-- the number of a listed member of a class, where `meant` is what the names of its members mean
+abbrev pub listed_in : (List ℕ → Option Meant) → Option Class → MemberName → Option ℕ
+listed_in meant None m = None
+listed_in meant (Some c) m =
+    if m.destructor then (if is_mutex c.kind && same_name c.name m.name then Some DESTRUCTOR else None)
+    else (if means_exclusive c (meant m.name) then member_number c m.name else None)
 
 abbrev pub class_of : Env → Option Class
 class_of env = option_and_then (λ h. class_at env.program h.class) env.around.home
@@ -204,13 +217,14 @@ all_listed seen [] = seen
 all_listed seen (n ∷ ns) = all_listed (with_listed seen n) ns
 
 -- clauses, of which the first has the place i, behind others that list the members `seen`
-abbrev pub clauses_breaks : Option Class → ℕ → List ℕ → Clauses → List Break
-clauses_breaks c i seen NoClauses = []
-clauses_breaks c i seen (MoreClauses (Accepts p guard members body) rest) =
-    unless (nat_lt i CLAUSES && are_fresh seen (map (listed_in c) members)) S20 p ++ clauses_breaks c (i + 1) (all_listed seen (map (listed_in c) members)) rest
+abbrev pub clauses_breaks : (List ℕ → Option Meant) → Option Class → ℕ → List ℕ → Clauses → List Break
+clauses_breaks meant c i seen NoClauses = []
+clauses_breaks meant c i seen (MoreClauses (Accepts p guard members body) rest) =
+    unless (nat_lt i CLAUSES && are_fresh seen (map (listed_in meant c) members)) S20 p
+    ++ clauses_breaks meant c (i + 1) (all_listed seen (map (listed_in meant c) members)) rest
 
 abbrev pub bad_clause : Visit → List Break
-bad_clause (AtAccept env p cs) = clauses_breaks (class_of env) 0 [] cs
+bad_clause (AtAccept env p cs) = clauses_breaks (home_member env.program env.around.home) (class_of env) 0 [] cs
 bad_clause _ = []
 
 -- S21: a handler's name, a raised name and a name in a list is an event, and no handler follows one of its kind for all events
@@ -247,17 +261,11 @@ abbrev pub is_no_event : Sort → Bool
 is_no_event s = not (of_class is_event_class s)
 
 abbrev pub event_takes : Program → ℕ → Sort → Bool
-event_takes p n sort.Void = true
-event_takes p n sort.Int = true
-event_takes p n sort.Char = true
-event_takes p n sort.Bool = true
-event_takes p n sort.Condition = true
-event_takes p n sort.Cluster = true
-event_takes p n sort.Processor = true
 event_takes p n (sort.Object class k) = nat_eq n (length (constructor_params p class))
+event_takes p n _ = true
 
 abbrev pub raise_breaks : Env → Pos → List ℕ → ℕ → List Break
-raise_breaks env p name n = if same_name unhandled_name name then unless (nat_eq n 0) S22 p else of_sort (event_sort env.program name) (event_takes env.program n) S22 p
+raise_breaks env p name n = if is_given name then unless (nat_eq n 0) S22 p else of_sort (event_sort env.program name) (event_takes env.program n) S22 p
 
 -- S23: an event is raised again only in a handler
 abbrev pub no_handler : Visit → List Break

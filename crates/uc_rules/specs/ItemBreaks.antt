@@ -11,7 +11,7 @@ use Rattle.uc_tree.specs.declared.kinds.Owner.TheVariants as owner
 use Rattle.uc_tree.specs.declared.kinds.Param.{Param}
 use Rattle.uc_tree.specs.declared.kinds.Forward.{Forward}
 use Rattle.uc_tree.specs.Names.{same_name}
-use Rattle.uc_tree.specs.Numbering.{main_name, unhandled_name, is_event, is_plain}
+use Rattle.uc_tree.specs.Numbering.{main_name, is_given, is_event, is_plain}
 use Rattle.uc_tree.specs.Programs.{Sig, MemberForm, FieldsMember, RoutineMember, ProtoMember, Class, Item, ClassItem, RoutineItem, ConstItem, ProtoItem, ForwardItem, UsingItem, Program}
 use Rattle.uc_rules.specs.declared.rule.Rule.TheVariants.{S3, S5}
 use Rattle.uc_rules.specs.declared.rule.Break.{Break}
@@ -24,14 +24,8 @@ use Rattle.uc_rules.specs.ClassBreaks.{is_void_base, is_owner}
 
 -- S3: the program's main is `void uMain::main()` or `int main()` outside of classes, without parameters
 abbrev pub is_int_base : Base → Bool
-is_int_base base.Void = false
 is_int_base base.Int = true
-is_int_base base.Char = false
-is_int_base base.Bool = false
-is_int_base base.Condition = false
-is_int_base base.Cluster = false
-is_int_base base.Processor = false
-is_int_base (base.Named name) = false
+is_int_base _ = false
 
 abbrev pub is_main_base : Owner → Base → Bool
 is_main_base owner.Here b = is_int_base b
@@ -42,12 +36,8 @@ abbrev pub is_program_main : Sig → Bool
 is_program_main sig = is_plain sig.role && (same_name sig.name main_name && (is_main_base sig.owner sig.ret && nat_eq (length sig.params) 0))
 
 abbrev pub item_mains : Item → ℕ
-item_mains (ClassItem c) = 0
 item_mains (RoutineItem r) = if is_program_main r.sig then 1 else 0
-item_mains (ConstItem c) = 0
-item_mains (ProtoItem sig) = 0
-item_mains (ForwardItem f) = 0
-item_mains (UsingItem at) = 0
+item_mains _ = 0
 
 abbrev pub mains_in : List Item → ℕ
 mains_in [] = 0
@@ -83,35 +73,19 @@ item_pos (UsingItem at) = at
 
 abbrev pub is_class_item : Item → Bool
 is_class_item (ClassItem c) = true
-is_class_item (RoutineItem r) = false
-is_class_item (ConstItem c) = false
-is_class_item (ProtoItem sig) = false
-is_class_item (ForwardItem f) = false
-is_class_item (UsingItem at) = false
+is_class_item _ = false
 
 abbrev pub is_forward_item : Item → Bool
-is_forward_item (ClassItem c) = false
-is_forward_item (RoutineItem r) = false
-is_forward_item (ConstItem c) = false
-is_forward_item (ProtoItem sig) = false
 is_forward_item (ForwardItem f) = true
-is_forward_item (UsingItem at) = false
+is_forward_item _ = false
 
 abbrev pub is_routine_item : Item → Bool
-is_routine_item (ClassItem c) = false
 is_routine_item (RoutineItem r) = true
-is_routine_item (ConstItem c) = false
-is_routine_item (ProtoItem sig) = false
-is_routine_item (ForwardItem f) = false
-is_routine_item (UsingItem at) = false
+is_routine_item _ = false
 
 abbrev pub is_proto_item : Item → Bool
-is_proto_item (ClassItem c) = false
-is_proto_item (RoutineItem r) = false
-is_proto_item (ConstItem c) = false
 is_proto_item (ProtoItem sig) = true
-is_proto_item (ForwardItem f) = false
-is_proto_item (UsingItem at) = false
+is_proto_item _ = false
 
 abbrev pub is_named : Option (List ℕ) → List ℕ → Bool
 is_named None name = false
@@ -124,79 +98,42 @@ is_named_proto name x = is_proto_item x && is_named (item_name x) name
 abbrev pub are_one : Bool → Item → Item → Bool
 are_one proto x (ClassItem c) = is_forward_item x
 are_one proto x (RoutineItem r) = is_proto_item x || (proto && is_routine_item x)
-are_one proto x (ConstItem c) = false
 are_one proto x (ProtoItem sig) = is_routine_item x
 are_one proto x (ForwardItem f) = is_class_item x
-are_one proto x (UsingItem at) = false
+are_one proto x _ = false
 
 abbrev pub clashes : Bool → List ℕ → Item → Item → Bool
 clashes proto name later earlier = is_named (item_name earlier) name && not (are_one proto earlier later)
 
 abbrev pub is_new_item : Program → Item → ℕ → Option (List ℕ) → Bool
 is_new_item p x place None = true
-is_new_item p x place (Some name) = not (list_any (clashes (list_any (is_named_proto name) p.items) name x) (take place p.items) || same_name name unhandled_name)
+is_new_item p x place (Some name) = not (list_any (clashes (list_any (is_named_proto name) p.items) name x) (take place p.items) || is_given name)
 
 -- S5: signatures that are the same: names of parameters do not matter
 
 abbrev pub is_char_base : Base → Bool
-is_char_base base.Void = false
-is_char_base base.Int = false
 is_char_base base.Char = true
-is_char_base base.Bool = false
-is_char_base base.Condition = false
-is_char_base base.Cluster = false
-is_char_base base.Processor = false
-is_char_base (base.Named name) = false
+is_char_base _ = false
 
 abbrev pub is_bool_base : Base → Bool
-is_bool_base base.Void = false
-is_bool_base base.Int = false
-is_bool_base base.Char = false
 is_bool_base base.Bool = true
-is_bool_base base.Condition = false
-is_bool_base base.Cluster = false
-is_bool_base base.Processor = false
-is_bool_base (base.Named name) = false
+is_bool_base _ = false
 
 abbrev pub is_condition_base : Base → Bool
-is_condition_base base.Void = false
-is_condition_base base.Int = false
-is_condition_base base.Char = false
-is_condition_base base.Bool = false
 is_condition_base base.Condition = true
-is_condition_base base.Cluster = false
-is_condition_base base.Processor = false
-is_condition_base (base.Named name) = false
+is_condition_base _ = false
 
 abbrev pub is_cluster_base : Base → Bool
-is_cluster_base base.Void = false
-is_cluster_base base.Int = false
-is_cluster_base base.Char = false
-is_cluster_base base.Bool = false
-is_cluster_base base.Condition = false
 is_cluster_base base.Cluster = true
-is_cluster_base base.Processor = false
-is_cluster_base (base.Named name) = false
+is_cluster_base _ = false
 
 abbrev pub is_processor_base : Base → Bool
-is_processor_base base.Void = false
-is_processor_base base.Int = false
-is_processor_base base.Char = false
-is_processor_base base.Bool = false
-is_processor_base base.Condition = false
-is_processor_base base.Cluster = false
 is_processor_base base.Processor = true
-is_processor_base (base.Named name) = false
+is_processor_base _ = false
 
 abbrev pub is_base_named : List ℕ → Base → Bool
-is_base_named name base.Void = false
-is_base_named name base.Int = false
-is_base_named name base.Char = false
-is_base_named name base.Bool = false
-is_base_named name base.Condition = false
-is_base_named name base.Cluster = false
-is_base_named name base.Processor = false
 is_base_named name (base.Named n) = same_name name n
+is_base_named name _ = false
 
 abbrev pub same_base : Base → Base → Bool
 same_base base.Void b = is_void_base b
@@ -226,27 +163,15 @@ same_sig a b = same_role a.role b.role && (same_name a.name b.name && (same_base
 -- a routine outside of classes, of this name or with this signature
 abbrev pub defines_name : List ℕ → Item → Bool
 defines_name name (RoutineItem r) = is_here r.sig.owner && same_name r.sig.name name
-defines_name name (ClassItem c) = false
-defines_name name (ConstItem c) = false
-defines_name name (ProtoItem sig) = false
-defines_name name (ForwardItem f) = false
-defines_name name (UsingItem at) = false
+defines_name name _ = false
 
 abbrev pub defines_sig : Sig → Item → Bool
 defines_sig sig (RoutineItem r) = is_here r.sig.owner && same_sig sig r.sig
-defines_sig sig (ClassItem c) = false
-defines_sig sig (ConstItem c) = false
-defines_sig sig (ProtoItem s) = false
-defines_sig sig (ForwardItem f) = false
-defines_sig sig (UsingItem at) = false
+defines_sig sig _ = false
 
 abbrev pub declares_sig : Sig → Item → Bool
 declares_sig sig (ProtoItem s) = same_sig s sig
-declares_sig sig (ClassItem c) = false
-declares_sig sig (RoutineItem r) = false
-declares_sig sig (ConstItem c) = false
-declares_sig sig (ForwardItem f) = false
-declares_sig sig (UsingItem at) = false
+declares_sig sig _ = false
 
 -- a routine that has a prototype has one with its signature, and is the first of its name
 abbrev pub is_well_declared : Program → Sig → ℕ → Bool
@@ -256,9 +181,8 @@ is_well_declared p sig place = not (list_any (is_named_proto sig.name) p.items) 
 
 -- the prototype of a member with this signature
 abbrev pub form_declares_sig : Sig → MemberForm → Bool
-form_declares_sig sig (FieldsMember at b ds) = false
-form_declares_sig sig (RoutineMember r) = false
 form_declares_sig sig (ProtoMember s) = same_sig s sig
+form_declares_sig sig _ = false
 
 abbrev pub class_declares : Sig → Option Class → Bool
 class_declares sig None = false
@@ -271,19 +195,11 @@ has_class_name name sig = (is_plain sig.role || same_name sig.name name) && (not
 -- a definition of a member outside of its class
 abbrev pub defines_member : List ℕ → Sig → Item → Bool
 defines_member class sig (RoutineItem r) = is_owner class r.sig.owner && (same_role sig.role r.sig.role && same_name sig.name r.sig.name)
-defines_member class sig (ClassItem c) = false
-defines_member class sig (ConstItem c) = false
-defines_member class sig (ProtoItem s) = false
-defines_member class sig (ForwardItem f) = false
-defines_member class sig (UsingItem at) = false
+defines_member class sig _ = false
 
 abbrev pub defines_member_sig : List ℕ → Sig → Item → Bool
 defines_member_sig class sig (RoutineItem r) = is_owner class r.sig.owner && same_sig sig r.sig
-defines_member_sig class sig (ClassItem c) = false
-defines_member_sig class sig (ConstItem c) = false
-defines_member_sig class sig (ProtoItem s) = false
-defines_member_sig class sig (ForwardItem f) = false
-defines_member_sig class sig (UsingItem at) = false
+defines_member_sig class sig _ = false
 
 -- what is defined outside is declared in its class, and defined once
 abbrev pub is_member_definition : Program → List ℕ → Option Home → Sig → ℕ → Bool
@@ -306,9 +222,8 @@ is_only_one c sig member = is_plain sig.role || not (list_any (λ m. has_role si
 
 -- whether the member with this place is a prototype
 abbrev pub is_proto_form : MemberForm → Bool
-is_proto_form (FieldsMember at b ds) = false
-is_proto_form (RoutineMember r) = false
 is_proto_form (ProtoMember sig) = true
+is_proto_form _ = false
 
 abbrev pub is_defined : Program → Class → Bool → Sig → Bool
 is_defined p c true sig = list_any (defines_member_sig c.name sig) p.items
@@ -321,19 +236,11 @@ is_sound_member p c proto sig member = has_class_name c.name sig && (is_only_one
 
 abbrev pub is_class_kind : Kind → Bool
 is_class_kind kind.Class = true
-is_class_kind kind.Coroutine = false
-is_class_kind kind.Monitor = false
-is_class_kind kind.Cormonitor = false
-is_class_kind kind.Task = false
-is_class_kind kind.Event = false
+is_class_kind _ = false
 
 abbrev pub is_monitor : Kind → Bool
-is_monitor kind.Class = false
-is_monitor kind.Coroutine = false
 is_monitor kind.Monitor = true
-is_monitor kind.Cormonitor = false
-is_monitor kind.Task = false
-is_monitor kind.Event = false
+is_monitor _ = false
 
 abbrev pub same_kind : Kind → Kind → Bool
 same_kind kind.Class k = is_class_kind k
@@ -345,20 +252,14 @@ same_kind kind.Event k = is_event k
 
 abbrev pub is_class_of : Forward → Item → Bool
 is_class_of f (ClassItem c) = same_name c.name f.name && same_kind f.kind c.kind
-is_class_of f (RoutineItem r) = false
-is_class_of f (ConstItem c) = false
-is_class_of f (ProtoItem sig) = false
-is_class_of f (ForwardItem g) = false
-is_class_of f (UsingItem at) = false
+is_class_of f _ = false
 
 -- an item, by its place
 abbrev pub is_sound_item : Program → Item → ℕ → Bool
-is_sound_item p (ClassItem c) place = true
 is_sound_item p (RoutineItem r) place = is_definition p r.sig.owner r.sig place
-is_sound_item p (ConstItem c) place = true
 is_sound_item p (ProtoItem sig) place = list_any (defines_sig sig) p.items
 is_sound_item p (ForwardItem f) place = list_any (is_class_of f) p.items
-is_sound_item p (UsingItem at) place = true
+is_sound_item p _ place = true
 
 abbrev pub item_breaks : Program → Item → ℕ → List Break
 item_breaks p x place = unless (is_sound_item p x place) S5 (item_pos x)

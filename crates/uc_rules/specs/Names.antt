@@ -13,7 +13,7 @@ use Rattle.uc_tree.specs.declared.kinds.Param.{Param}
 use Rattle.uc_tree.specs.Names.{same_name}
 use Rattle.uc_tree.specs.Constants.{constants_of, elements}
 use Rattle.uc_tree.specs.Cells.{seen_in}
-use Rattle.uc_tree.specs.Numbering.{is_mutex, is_public, is_exclusive, is_plain, unhandled_name}
+use Rattle.uc_tree.specs.Numbering.{is_mutex, is_public, is_exclusive, is_plain, is_given}
 use Rattle.uc_tree.specs.Statements.{Declarator}
 use Rattle.uc_tree.specs.Programs.{Sig, Constant, MemberForm, FieldsMember, RoutineMember, ProtoMember, Member, Class, Item, ClassItem, RoutineItem, ConstItem, ProtoItem, ForwardItem, UsingItem, Program}
 use Rattle.uc_rules.specs.declared.rules.Sort.{Sort}
@@ -43,19 +43,16 @@ pub record Owned : Type 0 where
   pub class : Class
 
 abbrev pub is_constructor : Role → Bool
-is_constructor role.Plain = false
 is_constructor role.Constructor = true
-is_constructor role.Destructor = false
+is_constructor _ = false
 
 abbrev pub is_destructor : Role → Bool
-is_destructor role.Plain = false
-is_destructor role.Constructor = false
 is_destructor role.Destructor = true
+is_destructor _ = false
 
 abbrev pub is_nomutex : Mark → Bool
-is_nomutex mark.Unmarked = false
-is_nomutex mark.Mutex = false
 is_nomutex mark.Nomutex = true
+is_nomutex _ = false
 
 -- what only inner routines of its class may call: a member of a mutex type that is neither a mutex member nor public and
 -- marked `_Nomutex`
@@ -119,8 +116,7 @@ constant_meant p c = record { entity = option_map (λ s. Value s) (sort_of p c.b
 
 abbrev pub is_here : Owner → Bool
 is_here owner.Here = true
-is_here owner.Main = false
-is_here (owner.Class name) = false
+is_here _ = false
 
 abbrev pub routine_named : ℕ → Sig → List ℕ → Option Meant
 routine_named i sig name = if is_here sig.owner && same_name sig.name name then Some (outer (entity.Routine i)) else None
@@ -138,17 +134,14 @@ items_named p i [] name = None
 items_named p i (x ∷ xs) name = first_of (item_named p i x name) (items_named p (i + 1) xs name)
 
 abbrev pub outer_named : Program → List ℕ → Option Meant
-outer_named p name = if same_name unhandled_name name then Some (outer ClassName) else items_named p 0 p.items name
+outer_named p name = if is_given name then Some (outer ClassName) else items_named p 0 p.items name
 
 -- signatures of what is called
 
 abbrev pub item_sig : Item → Option Sig
-item_sig (ClassItem c) = None
 item_sig (RoutineItem r) = Some r.sig
-item_sig (ConstItem c) = None
 item_sig (ProtoItem sig) = Some sig
-item_sig (ForwardItem f) = None
-item_sig (UsingItem at) = None
+item_sig _ = None
 
 abbrev pub form_sig : MemberForm → Option Sig
 form_sig (FieldsMember at b ds) = None

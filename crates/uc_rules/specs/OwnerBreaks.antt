@@ -7,9 +7,9 @@ use Rattle.uc_tree.specs.declared.kinds.Kind.{Kind}
 use Rattle.uc_tree.specs.declared.kinds.Param.{Param}
 use Rattle.uc_tree.specs.Names.{same_name}
 use Rattle.uc_tree.specs.Numbering.{is_mutex}
-use Rattle.uc_tree.specs.Expressions.{Expr, Number, Character, Truth, Name, Cin, Postfix, Unary, Chain, Assign, Exprs, NoExprs, MoreExprs, expr_pos}
+use Rattle.uc_tree.specs.Expressions.{Expr, Name, Postfix, Exprs, NoExprs, MoreExprs, expr_pos}
 use Rattle.uc_tree.specs.Statements.{Declarator}
-use Rattle.uc_tree.specs.Programs.{Init, Routine, MemberForm, FieldsMember, RoutineMember, ProtoMember, Member, Class, Item, ClassItem, RoutineItem, ConstItem, ProtoItem, ForwardItem, UsingItem, Program}
+use Rattle.uc_tree.specs.Programs.{Init, Routine, MemberForm, FieldsMember, RoutineMember, Member, Class, Item, RoutineItem, Program}
 use Rattle.uc_rules.specs.declared.rule.Rule.TheVariants.{O1, O2, O3, O4, O5, O6, O7, O8, O9}
 use Rattle.uc_rules.specs.declared.rule.Break.{Break}
 use Rattle.uc_rules.specs.declared.rules.Sort.{Sort}
@@ -49,11 +49,8 @@ unshared_reference _ = []
 
 -- O2: a field of a mutex type is named only without a path, in an inner routine of its class
 abbrev pub is_mutex_field : Origin → Bool
-is_mutex_field origin.Local = false
-is_mutex_field (origin.Parameter by_ref) = false
 is_mutex_field (origin.Field class k access by_ref i) = is_mutex k
-is_mutex_field (origin.Method class access) = false
-is_mutex_field origin.Outer = false
+is_mutex_field _ = false
 
 abbrev pub is_mutex_field_of : Option Meant → Bool
 is_mutex_field_of None = false
@@ -67,16 +64,7 @@ field_outside _ = []
 -- O3: a member of a mutex type that is not a mutex member is called without a path, in an inner routine of its class
 abbrev pub may_be_called : Bool → Entity → Bool
 may_be_called inner (entity.Method i j inner_only by_path) = not inner_only || (inner && not by_path)
-may_be_called inner (entity.Value s) = true
-may_be_called inner (entity.Place s) = true
-may_be_called inner (entity.Array s n) = true
-may_be_called inner entity.Input = true
-may_be_called inner entity.Fail = true
-may_be_called inner (entity.Operation o) = true
-may_be_called inner entity.Main = true
-may_be_called inner (entity.Routine i) = true
-may_be_called inner entity.ClassName = true
-may_be_called inner entity.Missing = true
+may_be_called inner _ = true
 
 abbrev pub called_outside : Visit → List Break
 called_outside (AtCall env sign n w) = asked w (may_be_called env.around.inner) O3 sign
@@ -127,20 +115,11 @@ lone_condition _ = []
 abbrev pub root_name : Expr → Option (List ℕ)
 root_name (Name p name) = Some name
 root_name (Postfix p root parts) = root_name root
-root_name (Number p n) = None
-root_name (Character p byte) = None
-root_name (Truth p b) = None
-root_name (Cin p) = None
-root_name (Unary p op operand) = None
-root_name (Chain p first rest) = None
-root_name (Assign p sign op place value) = None
+root_name _ = None
 
 abbrev pub is_field_origin : Origin → Bool
-is_field_origin origin.Local = false
-is_field_origin (origin.Parameter by_ref) = false
 is_field_origin (origin.Field class k access by_ref i) = true
-is_field_origin (origin.Method class access) = false
-is_field_origin origin.Outer = false
+is_field_origin _ = false
 
 abbrev pub is_field_meant : Option Meant → Bool
 is_field_meant None = false
@@ -152,9 +131,8 @@ names_own_field p class r None = false
 names_own_field p class r (Some name) = not (list_any (λ x. same_name x.name name) r.sig.params) && is_field_meant (member_named p class name)
 
 abbrev pub binds_own : Program → ℕ → Routine → Exprs → Bool
-binds_own p class r NoExprs = false
 binds_own p class r (MoreExprs e NoExprs) = names_own_field p class r (root_name e)
-binds_own p class r (MoreExprs e (MoreExprs f es)) = false
+binds_own p class r _ = false
 
 -- whether a routine binds a field to one of the same object
 abbrev pub init_binds : Program → ℕ → List ℕ → Routine → Init → Bool
@@ -164,17 +142,12 @@ abbrev pub routine_binds : Program → ℕ → List ℕ → Routine → Bool
 routine_binds p class name r = is_constructor r.sig.role && list_any (init_binds p class name r) r.inits
 
 abbrev pub form_binds : Program → ℕ → List ℕ → MemberForm → Bool
-form_binds p class name (FieldsMember at b ds) = false
 form_binds p class name (RoutineMember r) = routine_binds p class name r
-form_binds p class name (ProtoMember sig) = false
+form_binds p class name _ = false
 
 abbrev pub item_binds : Program → ℕ → List ℕ → List ℕ → Item → Bool
 item_binds p class class_name name (RoutineItem r) = is_owner class_name r.sig.owner && routine_binds p class name r
-item_binds p class class_name name (ClassItem c) = false
-item_binds p class class_name name (ConstItem c) = false
-item_binds p class class_name name (ProtoItem sig) = false
-item_binds p class class_name name (ForwardItem f) = false
-item_binds p class class_name name (UsingItem at) = false
+item_binds p class class_name name _ = false
 
 abbrev pub is_bound_inside : Program → Class → ℕ → List ℕ → Bool
 is_bound_inside p c class name = list_any (λ m. form_binds p class name m.form) c.members || list_any (item_binds p class c.name name) p.items
@@ -209,8 +182,7 @@ is_simple_field p b d = d.by_ref || is_simple_sort (sort_of p b)
 
 abbrev pub form_is_simple : Program → MemberForm → Bool
 form_is_simple p (FieldsMember at b ds) = list_all (is_simple_field p b) ds
-form_is_simple p (RoutineMember r) = true
-form_is_simple p (ProtoMember sig) = true
+form_is_simple p _ = true
 
 abbrev pub is_simple_class : Program → Option Class → Bool
 is_simple_class p None = false
@@ -247,8 +219,7 @@ fields_allow p from to j i b (d ∷ ds) = span_allows p from to (place_in j i) b
 
 abbrev pub form_allows : Program → FieldPlace → FieldPlace → ℕ → MemberForm → Bool
 form_allows p from to j (FieldsMember at b ds) = fields_allow p from to j 0 b ds
-form_allows p from to j (RoutineMember r) = true
-form_allows p from to j (ProtoMember sig) = true
+form_allows p from to j _ = true
 
 abbrev pub members_allow : Program → FieldPlace → FieldPlace → ℕ → List Member → Bool
 members_allow p from to j [] = true
@@ -263,11 +234,9 @@ abbrev pub may_use_field : Program → Bound → ℕ → FieldPlace → Bool
 may_use_field p b class place = is_field_before place b.field || (b.whole && (is_field_before b.field place && class_allows p b.field place (class_at p class)))
 
 abbrev pub may_use_origin : Program → Bound → Origin → Bool
-may_use_origin p b origin.Local = true
-may_use_origin p b (origin.Parameter by_ref) = true
 may_use_origin p b (origin.Field class k access by_ref i) = may_use_field p b class i
 may_use_origin p b (origin.Method class access) = false
-may_use_origin p b origin.Outer = true
+may_use_origin p b _ = true
 
 abbrev pub may_use : Program → Bound → Option Meant → Bool
 may_use p b None = true
@@ -278,11 +247,9 @@ use_breaks env None name = []
 use_breaks env (Some b) name = unless (may_use env.program b (named env name)) O6 b.pos
 
 abbrev pub is_root_origin : Origin → Bool
-is_root_origin origin.Local = false
 is_root_origin (origin.Parameter by_ref) = by_ref
 is_root_origin (origin.Field class k access by_ref i) = true
-is_root_origin (origin.Method class access) = false
-is_root_origin origin.Outer = false
+is_root_origin _ = false
 
 abbrev pub is_root : Option Meant → Bool
 is_root None = false

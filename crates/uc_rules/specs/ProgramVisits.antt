@@ -11,12 +11,11 @@ use Rattle.uc_tree.specs.declared.kinds.Owner.TheVariants as owner
 use Rattle.uc_tree.specs.declared.kinds.Param.{Param}
 use Rattle.uc_tree.specs.Names.{same_name}
 use Rattle.uc_tree.specs.Numbering.{is_plain}
-use Rattle.uc_tree.specs.Expressions.{Expr, Number, Character, Truth, Name, Cin, Postfix, Unary, Chain, Assign, Exprs, NoExprs, MoreExprs, expr_pos}
+use Rattle.uc_tree.specs.Expressions.{Expr, Name, Exprs, NoExprs, MoreExprs, expr_pos}
 use Rattle.uc_tree.specs.Statements.{Declarator}
-use Rattle.uc_tree.specs.Programs.{Sig, Init, Routine, MemberForm, FieldsMember, RoutineMember, ProtoMember, Member, Class, Item, ClassItem, RoutineItem, ConstItem, ProtoItem, ForwardItem, UsingItem, Program}
+use Rattle.uc_tree.specs.Programs.{Sig, Init, Routine, MemberForm, FieldsMember, RoutineMember, ProtoMember, Member, Class, Item, ClassItem, RoutineItem, ConstItem, ProtoItem, Program}
 use Rattle.uc_rules.specs.declared.rules.Sort.{Sort}
 use Rattle.uc_rules.specs.declared.rules.Sort.TheVariants.{Object}
-use Rattle.uc_rules.specs.declared.rules.Sort.TheVariants as sort
 use Rattle.uc_rules.specs.declared.rules.Entity.{Entity}
 use Rattle.uc_rules.specs.declared.rules.Entity.TheVariants as entity
 use Rattle.uc_rules.specs.declared.rules.Origin.{Origin}
@@ -26,7 +25,7 @@ use Rattle.uc_rules.specs.declared.rules.Meant.{Meant}
 use Rattle.uc_rules.specs.declared.rules.Home.{Home}
 use Rattle.uc_rules.specs.declared.rules.Bound.{Bound}
 use Rattle.uc_rules.specs.declared.rules.Expected.{Expected}
-use Rattle.uc_rules.specs.declared.rules.Expected.TheVariants.{Anything, Nothing, Scalar, Reference}
+use Rattle.uc_rules.specs.declared.rules.Expected.TheVariants.{Reference}
 use Rattle.uc_rules.specs.declared.rules.Target.{Target}
 use Rattle.uc_rules.specs.declared.rules.Target.TheVariants as target
 use Rattle.uc_rules.specs.Sorts.{class_named, class_at}
@@ -52,11 +51,8 @@ sig_visits env sig = base_visits env sig ++ (AtSig env sig ∷ params_visits env
 
 -- the place of a field among those of its class; none for what is no field
 abbrev pub field_place : Origin → Option FieldPlace
-field_place origin.Local = None
-field_place (origin.Parameter by_ref) = None
 field_place (origin.Field class k access by_ref i) = Some i
-field_place (origin.Method class access) = None
-field_place origin.Outer = None
+field_place _ = None
 
 abbrev pub home_member : Program → Option Home → List ℕ → Option Meant
 home_member p None name = None
@@ -85,11 +81,8 @@ maybe_bound_target by_ref None = target.Unknown
 maybe_bound_target by_ref (Some e) = bound_target by_ref e
 
 abbrev pub origin_target : Option Entity → Origin → Target
-origin_target e origin.Local = target.Unknown
-origin_target e (origin.Parameter by_ref) = target.Unknown
 origin_target e (origin.Field class k access by_ref i) = maybe_bound_target by_ref e
-origin_target e (origin.Method class access) = target.Unknown
-origin_target e origin.Outer = target.Unknown
+origin_target e _ = target.Unknown
 
 abbrev pub meant_target : Option Meant → Target
 meant_target None = target.Unknown
@@ -100,20 +93,11 @@ init_target env name = meant_target (home_member env.program env.around.home nam
 
 abbrev pub is_name : Expr → Bool
 is_name (Name p name) = true
-is_name (Number p n) = false
-is_name (Character p byte) = false
-is_name (Truth p b) = false
-is_name (Cin p) = false
-is_name (Postfix p root parts) = false
-is_name (Unary p op operand) = false
-is_name (Chain p first rest) = false
-is_name (Assign p sign op place value) = false
+is_name _ = false
 
 abbrev pub is_reference : Expected → Bool
-is_reference Anything = false
-is_reference Nothing = false
-is_reference Scalar = false
 is_reference (Reference s) = true
+is_reference _ = false
 
 abbrev pub bound_of : Expr → Expected → FieldPlace → Bound
 bound_of e x field = record { pos = expr_pos e; field = field; whole = is_name e && is_reference x }
@@ -183,9 +167,8 @@ same_role role.Destructor s = is_destructor s
 
 -- the mark of the prototype of a routine
 abbrev pub form_declares : Sig → MemberForm → Bool
-form_declares sig (FieldsMember at b ds) = false
-form_declares sig (RoutineMember r) = false
 form_declares sig (ProtoMember s) = same_role sig.role s.role && same_name sig.name s.name
+form_declares sig _ = false
 
 abbrev pub mark_among : Sig → List Member → Mark
 mark_among sig [] = mark.Unmarked
@@ -196,24 +179,16 @@ mark_in sig None = mark.Unmarked
 mark_in sig (Some c) = mark_among sig c.members
 
 abbrev pub home_of : Sort → Option Home
-home_of sort.Void = None
-home_of sort.Int = None
-home_of sort.Char = None
-home_of sort.Bool = None
-home_of sort.Condition = None
-home_of sort.Cluster = None
-home_of sort.Processor = None
 home_of (Object class k) = Some (record { class = class; kind = k })
+home_of _ = None
 
 abbrev pub owner_home : Program → Owner → Option Home
-owner_home p owner.Here = None
-owner_home p owner.Main = None
 owner_home p (owner.Class name) = option_and_then home_of (class_named p name)
+owner_home p _ = None
 
 abbrev pub is_of_main : Owner → Bool
-is_of_main owner.Here = false
 is_of_main owner.Main = true
-is_of_main (owner.Class name) = false
+is_of_main _ = false
 
 abbrev pub outer_mark : Program → Option Home → Sig → Mark
 outer_mark p None sig = mark.Unmarked
@@ -229,16 +204,11 @@ item_visits p k (ClassItem c) = class_visits p k c
 item_visits p k (RoutineItem r) = routine_visits (outer_env p r.sig) r
 item_visits p k (ConstItem c) = visits (plain_env p no_around) c.value ++ AtConstant (plain_env p no_around) c ∷ []
 item_visits p k (ProtoItem sig) = sig_visits (plain_env p no_around) sig
-item_visits p k (ForwardItem f) = []
-item_visits p k (UsingItem at) = []
+item_visits p k _ = []
 
 abbrev pub classes_in : Item → ℕ
 classes_in (ClassItem c) = 1
-classes_in (RoutineItem r) = 0
-classes_in (ConstItem c) = 0
-classes_in (ProtoItem sig) = 0
-classes_in (ForwardItem f) = 0
-classes_in (UsingItem at) = 0
+classes_in _ = 0
 
 abbrev pub items_visits : Program → ℕ → ℕ → List Item → List Visit
 items_visits p k i [] = []

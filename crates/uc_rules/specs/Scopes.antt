@@ -7,7 +7,7 @@ use Rattle.uc_tree.specs.declared.kinds.Mark.{Mark}
 use Rattle.uc_tree.specs.declared.kinds.Param.{Param}
 use Rattle.uc_tree.specs.Names.{same_name}
 use Rattle.uc_tree.specs.Constants.{constants_of, value_of_name, length_in}
-use Rattle.uc_tree.specs.Numbering.{main_name, unhandled_name, is_mutex, is_plain}
+use Rattle.uc_tree.specs.Numbering.{main_name, is_given, is_mutex, is_plain}
 use Rattle.uc_tree.specs.Statements.{Declarator, ForStart, NoFor, ForDeclare, ForEvaluate, Stmt, Declare, Stmts, NoStmts, MoreStmts}
 use Rattle.uc_tree.specs.Programs.{Sig, Program}
 use Rattle.uc_rules.specs.declared.rules.Sort.{Sort}
@@ -133,9 +133,10 @@ event_among (Some s) = if of_class is_event_class s then Some s else None
 abbrev pub event_sort : Program → List ℕ → Option Sort
 event_sort p name = event_among (class_named p name)
 
--- what stands for an event that is handled; none where the name is no event
+-- what stands for an event that is handled; none where the name is no event. Events are looked up among the classes alone, also
+-- where a local or a member hides the name
 abbrev pub event_named : Program → List ℕ → Option Entity
-event_named p name = if same_name unhandled_name name then Some ClassName else option_map place_of (event_sort p name)
+event_named p name = if is_given name then Some ClassName else option_map place_of (event_sort p name)
 
 -- the parameter of a handler
 abbrev pub caught_entity : Program → Option (List ℕ) → Option Entity

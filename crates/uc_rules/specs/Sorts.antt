@@ -12,95 +12,43 @@ use Rattle.uc_rules.specs.declared.rules.Sort.{Sort}
 use Rattle.uc_rules.specs.declared.rules.Sort.TheVariants.{Void, Int, Char, Bool as Truth, Condition, Cluster, Processor, Object}
 
 abbrev pub is_scalar_sort : Sort → Bool
-is_scalar_sort Void = false
 is_scalar_sort Int = true
 is_scalar_sort Char = true
 is_scalar_sort Truth = true
-is_scalar_sort Condition = false
-is_scalar_sort Cluster = false
-is_scalar_sort Processor = false
-is_scalar_sort (Object class k) = false
+is_scalar_sort _ = false
 
 abbrev pub is_void : Sort → Bool
 is_void Void = true
-is_void Int = false
-is_void Char = false
-is_void Truth = false
-is_void Condition = false
-is_void Cluster = false
-is_void Processor = false
-is_void (Object class k) = false
+is_void _ = false
 
 abbrev pub is_int : Sort → Bool
-is_int Void = false
 is_int Int = true
-is_int Char = false
-is_int Truth = false
-is_int Condition = false
-is_int Cluster = false
-is_int Processor = false
-is_int (Object class k) = false
+is_int _ = false
 
 abbrev pub is_char : Sort → Bool
-is_char Void = false
-is_char Int = false
 is_char Char = true
-is_char Truth = false
-is_char Condition = false
-is_char Cluster = false
-is_char Processor = false
-is_char (Object class k) = false
+is_char _ = false
 
 abbrev pub is_truth : Sort → Bool
-is_truth Void = false
-is_truth Int = false
-is_truth Char = false
 is_truth Truth = true
-is_truth Condition = false
-is_truth Cluster = false
-is_truth Processor = false
-is_truth (Object class k) = false
+is_truth _ = false
 
 abbrev pub is_condition : Sort → Bool
-is_condition Void = false
-is_condition Int = false
-is_condition Char = false
-is_condition Truth = false
 is_condition Condition = true
-is_condition Cluster = false
-is_condition Processor = false
-is_condition (Object class k) = false
+is_condition _ = false
 
 abbrev pub is_cluster : Sort → Bool
-is_cluster Void = false
-is_cluster Int = false
-is_cluster Char = false
-is_cluster Truth = false
-is_cluster Condition = false
 is_cluster Cluster = true
-is_cluster Processor = false
-is_cluster (Object class k) = false
+is_cluster _ = false
 
 abbrev pub is_processor : Sort → Bool
-is_processor Void = false
-is_processor Int = false
-is_processor Char = false
-is_processor Truth = false
-is_processor Condition = false
-is_processor Cluster = false
 is_processor Processor = true
-is_processor (Object class k) = false
+is_processor _ = false
 
 -- a test of the class of an object
 abbrev pub of_class : (ℕ → Kind → Bool) → Sort → Bool
-of_class test Void = false
-of_class test Int = false
-of_class test Char = false
-of_class test Truth = false
-of_class test Condition = false
-of_class test Cluster = false
-of_class test Processor = false
 of_class test (Object class k) = test class k
+of_class test _ = false
 
 abbrev pub is_same_class : ℕ → ℕ → Kind → Bool
 is_same_class c class k = nat_eq c class
@@ -119,46 +67,29 @@ same_sort (Object class k) t = of_class (is_same_class class) t
 -- kinds of classes
 
 abbrev pub is_coroutine : Kind → Bool
-is_coroutine kind.Class = false
 is_coroutine kind.Coroutine = true
-is_coroutine kind.Monitor = false
-is_coroutine kind.Cormonitor = false
-is_coroutine kind.Task = false
-is_coroutine kind.Event = false
+is_coroutine _ = false
 
 abbrev pub is_cormonitor : Kind → Bool
-is_cormonitor kind.Class = false
-is_cormonitor kind.Coroutine = false
-is_cormonitor kind.Monitor = false
 is_cormonitor kind.Cormonitor = true
-is_cormonitor kind.Task = false
-is_cormonitor kind.Event = false
+is_cormonitor _ = false
 
 abbrev pub is_task : Kind → Bool
-is_task kind.Class = false
-is_task kind.Coroutine = false
-is_task kind.Monitor = false
-is_task kind.Cormonitor = false
 is_task kind.Task = true
-is_task kind.Event = false
+is_task _ = false
 
 -- an object of such a class is no mutex object
 abbrev pub is_plain_kind : Kind → Bool
 is_plain_kind kind.Class = true
 is_plain_kind kind.Coroutine = true
-is_plain_kind kind.Monitor = false
-is_plain_kind kind.Cormonitor = false
-is_plain_kind kind.Task = false
-is_plain_kind kind.Event = false
+is_plain_kind _ = false
 
 -- the kinds that have a main
 abbrev pub has_main : Kind → Bool
-has_main kind.Class = false
 has_main kind.Coroutine = true
-has_main kind.Monitor = false
 has_main kind.Cormonitor = true
 has_main kind.Task = true
-has_main kind.Event = false
+has_main _ = false
 
 abbrev pub is_mutex_class : ℕ → Kind → Bool
 is_mutex_class class k = is_mutex k

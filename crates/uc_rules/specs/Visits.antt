@@ -209,9 +209,8 @@ for_visits env (ForDeclare p b ds) = declaration_visits env p b ds
 for_visits env (ForEvaluate e) = statement_visits env e
 
 abbrev pub out_visits : Env → OutItem → List Visit
-out_visits env (stmt.Endl sign) = []
-out_visits env (stmt.Literal sign text) = []
 out_visits env (stmt.Printed sign e) = visits env e ++ AtPrinted sign (entity_of env e) ∷ []
+out_visits env _ = []
 
 abbrev pub outs_visits : Env → List OutItem → List Visit
 outs_visits env [] = []
@@ -226,14 +225,8 @@ reads_visits env (MoreExprs e es) = read_visits env e ++ reads_visits env es
 
 -- to what the arguments of an event go
 abbrev pub class_target : Sort → Target
-class_target sort.Void = target.Unknown
-class_target sort.Int = target.Unknown
-class_target sort.Char = target.Unknown
-class_target sort.Bool = target.Unknown
-class_target sort.Condition = target.Unknown
-class_target sort.Cluster = target.Unknown
-class_target sort.Processor = target.Unknown
 class_target (sort.Object class k) = target.Constructor class
+class_target _ = target.Unknown
 
 abbrev pub event_class_target : Option Sort → Target
 event_class_target None = target.Unknown

@@ -75,7 +75,7 @@ impl Checked {
 }
 
 /// Why a program is not accepted by the rules.
-#[derive(Clone, Copy, PartialEq, Eq, Debug)]
+#[derive(Clone, Copy)]
 pub enum RuleFault {
     /// The first rule that is broken, and where: of the rules on names, types and places, or where none of these is broken,
     /// of those on who owns what; by place, and then by number.

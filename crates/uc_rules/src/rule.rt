@@ -1,46 +1,9 @@
-// What expressions stand for under the rules of the language, and the breaks of rules.
+// The rules of the language by their numbers and names, and the breaks of rules.
 
 ghost use Rattle.std.specs.Prelude.{◌≡◌};
 ghost use Rattle.uc_rules.specs.RuleNames.{rule_number, rule_name};
 
-use uc_tree::name::Name;
 use uc_tree::pos::Pos;
-
-/// What a scalar holds.
-#[derive(Clone, Copy, PartialEq, Eq, Debug)]
-pub enum Scalar {
-    Int,
-    Char,
-    Bool,
-}
-
-/// What an expression stands for.
-#[derive(Clone, Copy, PartialEq, Eq, Debug)]
-pub enum What {
-    /// A scalar that has no place.
-    Value,
-    /// The place of a scalar.
-    Place { scalar: Scalar },
-    /// An array of scalars.
-    Row { scalar: Scalar },
-    /// `cin`.
-    Input,
-    /// The member `fail` of `cin`.
-    Fail,
-    /// The program's main.
-    Main,
-    /// An event.
-    Event,
-    /// A member that is not there.
-    Missing,
-}
-
-/// A name in scope, and what it stands for.
-#[derive(Drop)]
-pub struct Seen {
-    pub name: Name,
-    pub what: What,
-}
 
 /// The rules that a program keeps: those on its text, and those on who owns what.
 #[derive(Clone, Copy, PartialEq, Eq, Debug)]
@@ -165,7 +128,7 @@ impl Rule {
 }
 
 /// A rule that is broken, and the place.
-#[derive(Clone, Copy, PartialEq, Eq, Debug)]
+#[derive(Clone, Copy)]
 pub struct Break {
     pub rule: Rule,
     pub pos: Pos,

@@ -5,7 +5,7 @@ use uc_tree::name::Name;
 use uc_tree::pos::Pos;
 
 /// What a variable holds, or a value is. A class has its place among the classes of the program, events included.
-#[derive(Clone, Copy, PartialEq, Eq, Debug)]
+#[derive(Clone, Copy)]
 pub enum Sort {
     Void,
     Int,
@@ -18,7 +18,7 @@ pub enum Sort {
 }
 
 /// A member of a condition.
-#[derive(Clone, Copy, PartialEq, Eq, Debug)]
+#[derive(Clone, Copy)]
 pub enum Operation {
     Wait,
     Signal,
@@ -28,7 +28,7 @@ pub enum Operation {
 }
 
 /// What an expression stands for.
-#[derive(Clone, Copy, PartialEq, Eq, Debug)]
+#[derive(Clone, Copy)]
 pub enum Entity {
     /// A value without a place; of sort `Void` none.
     Value {
@@ -72,14 +72,14 @@ pub enum Entity {
 }
 
 /// The place of a field in its class: that of its member, and that in the member's list.
-#[derive(Clone, Copy, PartialEq, Eq, Debug)]
+#[derive(Clone, Copy)]
 pub struct FieldPlace {
     pub member: usize,
     pub index: usize,
 }
 
 /// Where a name comes from.
-#[derive(Clone, Copy, PartialEq, Eq, Debug)]
+#[derive(Clone, Copy)]
 pub enum Origin {
     Local,
     Parameter {
@@ -103,7 +103,7 @@ pub enum Origin {
 }
 
 /// What a name stands for. Where its type is unknown, nothing is asked of it.
-#[derive(Clone, Copy, PartialEq, Eq, Debug)]
+#[derive(Clone, Copy)]
 pub struct Meant {
     pub entity: Option<Entity>,
     pub origin: Origin,
@@ -117,7 +117,7 @@ pub struct Seen {
 }
 
 /// What is asked of an argument.
-#[derive(Clone, Copy, PartialEq, Eq, Debug)]
+#[derive(Clone, Copy)]
 pub enum Expected {
     /// Nothing.
     Anything,
@@ -130,7 +130,7 @@ pub enum Expected {
 }
 
 /// What the arguments in a list go to.
-#[derive(Clone, Copy, PartialEq, Eq, Debug)]
+#[derive(Clone, Copy)]
 pub enum Target {
     /// Nothing is asked of them.
     Unknown,
@@ -147,7 +147,7 @@ pub enum Target {
 }
 
 /// The class in whose routine something stands.
-#[derive(Clone, Copy, PartialEq, Eq, Debug)]
+#[derive(Clone, Copy)]
 pub struct Home {
     pub class: usize,
     pub kind: Kind,
@@ -155,7 +155,7 @@ pub struct Home {
 
 /// The initialiser in whose argument something stands: the place of the argument, the field, and whether the argument is a name
 /// that a reference is bound to.
-#[derive(Clone, Copy, PartialEq, Eq, Debug)]
+#[derive(Clone, Copy)]
 pub struct Bound {
     pub pos: Pos,
     pub field: FieldPlace,
@@ -163,7 +163,7 @@ pub struct Bound {
 }
 
 /// What stands round a place in a program.
-#[derive(Clone, Copy, PartialEq, Eq, Debug)]
+#[derive(Clone, Copy)]
 pub struct Around {
     /// The class of the routine; none outside of classes and in uMain.
     pub home: Option<Home>,

@@ -7,14 +7,14 @@ pub mod SimulateValues
 pub mod SimulatePlaces
 pub mod SimulateOutside
 pub mod Routines
-pub mod Starts
+pub mod StartsLemmas
 pub mod SimulateControl
 pub mod SimulateElements
 pub mod SimulateCalls
 pub mod Simulate
 pub mod Rode
-pub mod Falls
-pub mod Onwards
+pub mod WeightFallsLemmas
 pub mod Apart
 pub mod Idles
 pub mod SimulateSwitches
+pub mod SimulatePolls

@@ -3,9 +3,9 @@ use Rattle.std.proofs.Common.{◌≡◌, ℕ, zero, suc, ◌+◌, List, [], ◌�
 use Rattle.std.specs.Prelude.{slice_get}
 use Rattle.uc_tree.specs.Source.{Routine}
 use Rattle.uc_code.specs.declared.rows.RoutineCode.{RoutineCode}
-use Rattle.uc_code.specs.Laid.{Laid}
+use Rattle.uc_code.specs.Layout.{Laid}
 use Rattle.uc_code.specs.Lowered.{RoutineAt, RoutinesAt}
-use Rattle.uc_frames.specs.Parts.{Alike}
+use Rattle.uc_frames.specs.StandsByParts.{Alike}
 
 pub record CodeOf (laid : Laid) (last number : ℕ) (r : Routine) (cs : List RoutineCode) (i : ℕ) : Type 0 where
   pub code : RoutineCode

@@ -1,6 +1,5 @@
-pub mod Acts
-pub mod Falls
-pub mod Follow
-pub mod Given
-pub mod Onwards
+pub mod OpEffects
+pub mod WeightFalls
+pub mod Simulation
+pub mod OperatorResults
 pub mod Starts

@@ -3,7 +3,7 @@ use Rattle.std.specs.Prelude.{◌≡◌, ℕ, Option, Some, MatchOption, slice_g
 use Rattle.uc_tree.specs.Source.{Source, Routine}
 use Rattle.uc_machine.specs.Quiet.{first_state}
 use Rattle.uc_code.specs.Codes.{Code}
-use Rattle.uc_code.specs.Laid.{laid_of}
+use Rattle.uc_code.specs.Layout.{laid_of}
 use Rattle.uc_code.specs.Lowered.{Lowered}
 use Rattle.uc_frames.specs.Machine.{Machine}
 use Rattle.uc_frames.specs.Stands.{Stands}

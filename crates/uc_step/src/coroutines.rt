@@ -1,9 +1,9 @@
 // The ops of coroutines, but for those that switch.
 
-ghost use Rattle.std.specs.Prelude.{◌≡◌, IfOk, OnOk, OnErr};
-ghost use Rattle.uc_step.specs.Acts.{Does};
+ghost use Rattle.std.specs.Prelude.{◌≡◌, OnOk, OnErr};
+ghost use Rattle.uc_step.specs.OpEffects.{ended, Does};
 
-use crate::stepped::{Stepped, asked, faulted};
+use crate::stepped::{Onward, Stepped, asked, faulted};
 use std::alloc::AllocError;
 use uc_code::code::Code;
 use uc_code::op::Op;
@@ -35,18 +35,22 @@ pub(crate) fn alive(
     code: &Code,
     line: u32,
     work: &mut Work,
+    stop: &mut Stepped,
     number: u32,
-) -> Result<Stepped, AllocError>
-    ensures ok { IfOk result (λ how. Does code.now line (Op.Alive number) work.old how work.new) }
-    ensures err { OnErr result (work.new ≡ work.old) }
+) -> Onward
+    ensures { Does code.now line (Op.Alive number) work.old (ended result stop.new) work.new }
 {
     match code.routine(number) {
-        None => Ok(asked(code, line, work, Request::End)),
+        None => {
+            *stop = asked(code, line, work, Request::End);
+            Onward::Stops
+        }
         Some(routine) => {
             if work.is_live(routine.params) {
-                Ok(Stepped::Quiet)
+                Onward::Quiet
             } else {
-                Ok(faulted(code, line, work, RunFault::NotLive))
+                *stop = faulted(code, line, work, RunFault::NotLive);
+                Onward::Stops
             }
         }
     }
@@ -61,16 +65,16 @@ pub(crate) fn forget(code: &Code, line: u32, work: &mut Work) -> Result<(), Allo
 }
 
 // Where an execution stopped it goes on, or is unwound.
-pub(crate) fn land(code: &Code, line: u32, work: &mut Work) -> Result<Stepped, AllocError>
-    ensures ok { IfOk result (λ how. Does code.now line Op.Land work.old how work.new) }
-    ensures err { OnErr result (work.new ≡ work.old) }
+pub(crate) fn land(code: &Code, line: u32, work: &mut Work, stop: &mut Stepped) -> Onward
+    ensures { Does code.now line Op.Land work.old (ended result stop.new) work.new }
 {
     match work.raised() {
-        None => Ok(Stepped::Quiet),
+        None => Onward::Quiet,
         Some(_) => {
             let next = work.next();
             work.clean(next);
-            Ok(Stepped::Unwind)
+            *stop = Stepped::Unwind;
+            Onward::Stops
         }
     }
 }

@@ -4,7 +4,7 @@ ghost use Rattle.std.specs.Prelude.{◌≡◌, ℤ, neg_ℤ};
 ghost use Rattle.uc_tree.specs.Constants.{int_value};
 ghost use Rattle.uc_tree.specs.Source.{Plus, Minus, Times, Over, Modulo, Equal, NotEqual, Less, AtMost, Greater, AtLeast};
 ghost use Rattle.uc_machine.specs.Quiet.{outcome, int_outcome, truth};
-ghost use Rattle.uc_step.specs.Given.{outcome_of};
+ghost use Rattle.uc_step.specs.OperatorResults.{outcome_of};
 
 use uc_entry::fault::RunFault;
 use uc_tree::int::{difference, negated, product, quotient, remainder, sum};

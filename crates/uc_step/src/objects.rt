@@ -1,7 +1,7 @@
 // The ops on the object at hand, on fields, and on the elements of arrays of objects.
 
 ghost use Rattle.std.specs.Prelude.{◌≡◌, OnOk, OnErr};
-ghost use Rattle.uc_step.specs.Acts.{Does};
+ghost use Rattle.uc_step.specs.OpEffects.{Does};
 
 use crate::stepped::Stepped;
 use std::alloc::AllocError;

@@ -1,9 +1,9 @@
 // The ops that print and read.
 
 ghost use Rattle.std.specs.Prelude.{◌≡◌, IfOk, OnOk, OnErr};
-ghost use Rattle.uc_step.specs.Acts.{Does};
+ghost use Rattle.uc_step.specs.OpEffects.{ended, Does};
 
-use crate::stepped::{Stepped, asked};
+use crate::stepped::{Onward, Stepped, asked};
 use std::alloc::AllocError;
 use uc_code::code::Code;
 use uc_code::op::Op;
@@ -17,9 +17,10 @@ pub(crate) fn print(
     code: &Code,
     line: u32,
     work: &mut Work,
+    stop: &mut Stepped,
     form: ValueForm,
-) -> Result<Stepped, AllocError>
-    ensures ok { IfOk result (λ how. Does code.now line (Op.Print form) work.old how work.new) }
+) -> Result<Onward, AllocError>
+    ensures ok { IfOk result (λ how. Does code.now line (Op.Print form) work.old (ended how stop.new) work.new) }
     ensures err { OnErr result (work.new ≡ work.old) }
 {
     let piece = Piece {
@@ -29,10 +30,11 @@ pub(crate) fn print(
     if work.is_gathering() {
         work.gather(piece)?;
         work.pop();
-        Ok(Stepped::Quiet)
+        Ok(Onward::Quiet)
     } else {
         work.pop();
-        Ok(asked(code, line, work, print_request(&[piece])))
+        *stop = asked(code, line, work, print_request(&[piece]));
+        Ok(Onward::Stops)
     }
 }
 
@@ -40,9 +42,10 @@ pub(crate) fn text(
     code: &Code,
     line: u32,
     work: &mut Work,
+    stop: &mut Stepped,
     number: u32,
-) -> Result<Stepped, AllocError>
-    ensures ok { IfOk result (λ how. Does code.now line (Op.Text number) work.old how work.new) }
+) -> Result<Onward, AllocError>
+    ensures ok { IfOk result (λ how. Does code.now line (Op.Text number) work.old (ended how stop.new) work.new) }
     ensures err { OnErr result (work.new ≡ work.old) }
 {
     let piece = Piece {
@@ -51,9 +54,10 @@ pub(crate) fn text(
     };
     if work.is_gathering() {
         work.gather(piece)?;
-        Ok(Stepped::Quiet)
+        Ok(Onward::Quiet)
     } else {
-        Ok(asked(code, line, work, print_request(&[piece])))
+        *stop = asked(code, line, work, print_request(&[piece]));
+        Ok(Onward::Stops)
     }
 }
 
@@ -65,15 +69,17 @@ pub(crate) fn hold(code: &Code, line: u32, work: &mut Work) -> Result<(), AllocE
     Ok(())
 }
 
-pub(crate) fn flush(code: &Code, line: u32, work: &mut Work) -> Result<Stepped, AllocError>
-    ensures ok { IfOk result (λ how. Does code.now line Op.Flush work.old how work.new) }
-    ensures err { OnErr result (work.new ≡ work.old) }
+pub(crate) fn flush(code: &Code, line: u32, work: &mut Work, stop: &mut Stepped) -> Onward
+    ensures { Does code.now line Op.Flush work.old (ended result stop.new) work.new }
 {
     match work.take_gathered() {
-        None => Ok(Stepped::Quiet),
+        None => Onward::Quiet,
         Some(pieces) => match pieces.request() {
-            None => Ok(Stepped::Quiet),
-            Some(request) => Ok(asked(code, line, work, request)),
+            None => Onward::Quiet,
+            Some(request) => {
+                *stop = asked(code, line, work, request);
+                Onward::Stops
+            }
         },
     }
 }
@@ -82,18 +88,12 @@ pub(crate) fn read(
     code: &Code,
     line: u32,
     work: &mut Work,
+    stop: &mut Stepped,
     form: ValueForm,
-) -> Result<Stepped, AllocError>
-    ensures ok { IfOk result (λ how. Does code.now line (Op.Read form) work.old how work.new) }
-    ensures err { OnErr result (work.new ≡ work.old) }
+) -> Onward
+    ensures { Does code.now line (Op.Read form) work.old (ended result stop.new) work.new }
 {
     let form = form.number();
-    Ok(asked(code, line, work, Request::Read { form }))
-}
-
-pub(crate) fn fail(code: &Code, line: u32, work: &mut Work) -> Result<Stepped, AllocError>
-    ensures ok { IfOk result (λ how. Does code.now line Op.Fail work.old how work.new) }
-    ensures err { OnErr result (work.new ≡ work.old) }
-{
-    Ok(asked(code, line, work, Request::Fail))
+    *stop = asked(code, line, work, Request::Read { form });
+    Onward::Stops
 }

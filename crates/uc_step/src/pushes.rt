@@ -1,7 +1,7 @@
 // The ops that only push and drop operands.
 
 ghost use Rattle.std.specs.Prelude.{◌≡◌, OnOk, OnErr};
-ghost use Rattle.uc_step.specs.Acts.{Does};
+ghost use Rattle.uc_step.specs.OpEffects.{Does};
 
 use crate::stepped::Stepped;
 use std::alloc::AllocError;

@@ -12,6 +12,14 @@ use uc_frames::cell::Cell;
 use uc_frames::event::Event;
 use uc_frames::work::Work;
 
+/// How an op ends: going on; going on after a tick; or otherwise, as the stop that the op was lent tells.
+#[derive(Clone, Copy)]
+pub enum Onward {
+    Quiet,
+    Tick,
+    Stops,
+}
+
 /// Going on; going on after a tick; or waiting for the answer to a request. What is left to others: an event that was popped and
 /// is thrown or raised; unwinding, which goes on behind the op; the end of a handler of resumptions by a return, with what
 /// it hands over; and switches to other executions, which leave the task behind their op: a resume, a suspend, the destruction of the

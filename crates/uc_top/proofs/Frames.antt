@@ -12,7 +12,7 @@ use Rattle.uc_resolve.specs.Resolve.{all_unwritten, routines_meant, source_of}
 use Rattle.uc_tree.specs.Source as source
 use Rattle.uc_built.specs.Accepted.{FitFrames, IsAccepted}
 use Rattle.uc_built.specs.BuiltForms.{are_built_items, has_main, IsBuilt}
-use Rattle.uc_lower.specs.Refusing.{Fits, FitsAll}
+use Rattle.uc_lower.specs.Refusals.{Fits, FitsAll}
 use Rattle.uc_alone.specs.Run.{HasMain}
 use Rattle.uc_top.specs.Built.{IsRunnable, HasLargeFrame}
 

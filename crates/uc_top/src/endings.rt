@@ -17,7 +17,7 @@ pub enum Ending {
     Done,
     /// A run fault, at this line, in this task.
     Fault { number: i64, line: i64, task: u32 },
-    /// The journal is full.
+    /// The limit on entries or on ticks was reached.
     Limit,
 }
 

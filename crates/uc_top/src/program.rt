@@ -5,7 +5,7 @@ ghost use Rattle.uc_tree.specs.declared.limits.TheConstants.{INPUT_BYTES, MAKE_M
 ghost use Rattle.uc_resolve.specs.Resolve.{source_of};
 ghost use Rattle.uc_rules.specs.Breaks.{breaks_of};
 ghost use Rattle.uc_built.specs.Accepted.{IsAccepted};
-ghost use Rattle.uc_code.specs.Laid.{laid_of};
+ghost use Rattle.uc_code.specs.Layout.{laid_of};
 ghost use Rattle.uc_code.specs.Pace.{IsPaced};
 ghost use Rattle.uc_code.specs.Lowered.{Lowered};
 ghost use Rattle.uc_acts.specs.Texts.{printed};
@@ -23,10 +23,10 @@ use uc_code::code::Code;
 use uc_code::listing::listing;
 use uc_entry::entry::{Entry, Options};
 use uc_journal::append_journal;
+use uc_layout::sizes::Sizes;
 use uc_lower::lower::{LowerFault, lower};
 use uc_lower::program_main::number_of_main;
 use uc_make::make;
-use uc_sizes::sizes::Sizes;
 use uc_tree::name::Text;
 use uc_tree::program::Program;
 

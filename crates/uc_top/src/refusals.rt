@@ -30,7 +30,7 @@ pub enum Refusal {
     Broken(Rule, Pos),
     /// The program breaks no rule, and has a form that does not run yet.
     NotBuilt,
-    /// `main` has more cells than a frame may have.
+    /// A routine has more cells than a frame may have.
     FrameTooLarge,
     /// The frames fit, and the program is larger than its code may be.
     CodeTooLarge,

@@ -7,8 +7,10 @@
 // - ` + LENGTH`: spaces fill the text to so many bytes;
 // - ` < INPUT`: the bytes of the file in.
 //
-// For each text the words are printed, and what the call put to out and to err, and its status. A line `-- NAME LIMIT`
-// reads a file of the folder in which the program runs, and a line `!! TEXT` puts the text to the error stream.
+// For each text the words are printed, and what the call put to out and to err, and its status. A line `?? TITLE` begins
+// a program that is checked: the title is printed, and the place and the rule that it breaks first, or `accepted`, also
+// where a form of it does not run yet. A line `-- NAME LIMIT` reads a file of the folder in which the program runs, and a
+// line `!! TEXT` puts the text to the error stream.
 #![tactic(auto)]
 
 mod failing;
@@ -22,9 +24,10 @@ use std::io;
 use uc_outside::{FixedSink, OpenGate, SteadyStore};
 use uc_top::run_words;
 
-/// A text with what stands before it.
+/// A text with what stands before it. It has a title where it is only checked.
 #[derive(Drop)]
 struct Row {
+    title: Option<String>,
     header: Header,
     begun: bool,
     text: String,
@@ -33,10 +36,17 @@ struct Row {
 impl Row {
     fn new(alloc: Global, line: &str) -> Result<Row, AllocError> {
         Ok(Row {
+            title: None,
             header: Header::read(alloc, line)?,
             begun: false,
             text: String::new(alloc),
         })
+    }
+
+    fn checked(alloc: Global, title: &str) -> Result<Row, AllocError> {
+        let mut row = Row::new(alloc, "check a.cc")?;
+        row.title = Some(String::from_str(alloc, title)?);
+        Ok(row)
     }
 
     fn add(&mut self, line: &str) -> Result<(), AllocError> {
@@ -86,18 +96,44 @@ fn words_of(alloc: Global, row: &Row) -> Result<Vec<String>, AllocError> {
     Ok(words)
 }
 
-fn answer(alloc: Global, row: &Row) -> Result<String, AllocError> {
+/// What a call put to out and to err, and its status.
+#[derive(Drop)]
+struct Told {
+    out: String,
+    err: String,
+    status: u8,
+}
+
+fn call(alloc: Global, row: &Row) -> Result<Told, AllocError> {
     let words = words_of(alloc, row)?;
     let mut store = store_of(alloc, row)?;
     let mut out = FixedSink::new(alloc, row.header.room)?;
     let mut err = FixedSink::new(alloc, 1_000)?;
     let outcome = run_words(alloc, &words, &mut store, &mut out, &mut err, &OpenGate);
-    let shown = String::from_utf8_lossy(alloc, out.bytes())?;
-    let told = String::from_utf8_lossy(alloc, err.bytes())?;
+    Ok(Told {
+        out: String::from_utf8_lossy(alloc, out.bytes())?,
+        err: String::from_utf8_lossy(alloc, err.bytes())?,
+        status: outcome.status,
+    })
+}
+
+fn answer(alloc: Global, row: &Row) -> Result<String, AllocError> {
+    let told = call(alloc, row)?;
     format!(in alloc;
         "== {}\n{}|\n{}status {}\n",
-        row.header.words, shown, told, outcome.status
+        row.header.words, told.out, told.err, told.status
     )
+}
+
+// The place and the rule that a program breaks first.
+fn answer_of_check(alloc: Global, row: &Row, title: &str) -> Result<String, AllocError> {
+    let told = call(alloc, row)?;
+    let err = told.err.as_str();
+    if told.status == 0 || err == "ucpp: not built\n" {
+        return format!(in alloc; "?? {title}\naccepted\n");
+    }
+    let fault = err.strip_prefix("ucpp: ").unwrap_or(err);
+    format!(in alloc; "?? {title}\n{fault}")
 }
 
 // Of each sink how many bytes it took, its faults, and the puts after its fault; and how many entries the journal has.
@@ -128,12 +164,15 @@ fn answer_of_failing(
 }
 
 fn any_answer(alloc: Global, row: &Option<Row>) -> Result<String, AllocError> {
-    match row {
-        Some(row) => match row.header.fails {
-            Some((out, err)) => answer_of_failing(alloc, row, out, err),
-            None => answer(alloc, row),
-        },
-        None => Ok(String::new(alloc)),
+    let Some(row) = row else {
+        return Ok(String::new(alloc));
+    };
+    if let Some(title) = &row.title {
+        return answer_of_check(alloc, row, title.as_str());
+    }
+    match row.header.fails {
+        Some((out, err)) => answer_of_failing(alloc, row, out, err),
+        None => answer(alloc, row),
     }
 }
 
@@ -146,6 +185,9 @@ fn main(rt: HostRuntime) -> io::Result<()> {
         if let Some(words) = line.strip_prefix("== ") {
             print!(rt; "{}", any_answer(alloc, &row)?)?;
             row = Some(Row::new(alloc, words)?);
+        } else if let Some(title) = line.strip_prefix("?? ") {
+            print!(rt; "{}", any_answer(alloc, &row)?)?;
+            row = Some(Row::checked(alloc, title)?);
         } else if let Some(file) = line.strip_prefix("-- ") {
             print!(rt; "{}", outside::answer(&rt, alloc, file)?)?;
         } else if let Some(text) = line.strip_prefix("!! ") {

@@ -55,9 +55,61 @@ has_execution kind.Cormonitor = true
 has_execution kind.Task = false
 has_execution kind.Event = false
 
+-- whether it is a plain coroutine
+abbrev pub is_coroutine : Kind → Bool
+is_coroutine kind.Class = false
+is_coroutine kind.Coroutine = true
+is_coroutine kind.Monitor = false
+is_coroutine kind.Cormonitor = false
+is_coroutine kind.Task = false
+is_coroutine kind.Event = false
+
+-- whether it is a task
+abbrev pub is_task : Kind → Bool
+is_task kind.Class = false
+is_task kind.Coroutine = false
+is_task kind.Monitor = false
+is_task kind.Cormonitor = false
+is_task kind.Task = true
+is_task kind.Event = false
+
 -- the class of plain objects that a base names, by its place
 abbrev pub plain_class : Program → Base → Option ℕ
 plain_class p b = plain_in (object_of (classes_of p.items) b)
+
+-- what a declaration makes besides scalars, references and conditions: a plain or a mutex object of the class with this place, a
+-- cluster, a processor
+pub data Making : Type 0 where
+  APlain : ℕ → Making
+  AMutex : ℕ → Making
+  ACluster : Making
+  AProcessor : Making
+
+abbrev pub making_by : Option Object → Base → Option Making
+making_by (Some o) b = Some (if o.plain then APlain o.class else AMutex o.class)
+making_by None base.Cluster = Some ACluster
+making_by None base.Processor = Some AProcessor
+making_by None _ = None
+
+-- what a declaration of a base makes
+abbrev pub making : Program → Base → Option Making
+making p b = making_by (object_of (classes_of p.items) b) b
+
+-- whether that is known by its number, and not found at its place
+abbrev pub is_numbered : Option Making → Bool
+is_numbered None = false
+is_numbered (Some (APlain i)) = false
+is_numbered (Some (AMutex i)) = true
+is_numbered (Some ACluster) = true
+is_numbered (Some AProcessor) = true
+
+-- the class of objects that a base names, by its place
+abbrev pub class_made : Option Making → Option ℕ
+class_made None = None
+class_made (Some (APlain i)) = Some i
+class_made (Some (AMutex i)) = Some i
+class_made (Some ACluster) = None
+class_made (Some AProcessor) = None
 
 -- fields
 
@@ -82,15 +134,15 @@ fields_of (m ∷ ms) = form_fields m.form ++ fields_of ms
 
 -- what an object holds
 
--- a scalar of a base; what is no object is kept as a number
+-- a scalar of a base; a cluster or a processor is known by its number
 abbrev pub shape_of : Base → Shape
 shape_of base.Void = Integer
 shape_of base.Int = Integer
 shape_of base.Char = Character
 shape_of base.Bool = Truth
 shape_of base.Condition = Integer
-shape_of base.Cluster = Integer
-shape_of base.Processor = Integer
+shape_of base.Cluster = Binding
+shape_of base.Processor = Binding
 shape_of (base.Named name) = Integer
 
 -- one element of a base, where `shapes` gives what objects of the classes hold: an object of a mutex type is known by its number

@@ -1,5 +1,5 @@
 -- The resolved tree of a program, on which the machine runs: each use carries what it names, and each statement its line.
-use Rattle.std.specs.Prelude.{ℕ, zero, suc, ◌+◌, ◌*◌, ℤ, List, Bool, true, Option, Some, None, slice_get}
+use Rattle.std.specs.Prelude.{ℕ, zero, suc, ◌+◌, ◌-◌, ◌*◌, ◌^◌, ℤ, List, Bool, true, Option, Some, None, slice_get}
 use Rattle.uc_tree.specs.declared.kinds.ValueForm.{ValueForm}
 use Rattle.uc_tree.specs.Programs.{Site}
 
@@ -119,9 +119,22 @@ mutual
     CallLive : ℕ → Expr → Exprs → ObjectExpr
     -- so is a constructor or a destructor that nobody wrote, which has no parameters and makes no tick
     CallUnwritten : ℕ → Expr → ObjectExpr
-    -- a mutex member, by its number, enters its object first (to come)
+    -- a mutex member, by its number and its routine, is called at an object, which it enters first
     EnterOn : ℕ → ℕ → Expr → Exprs → ObjectExpr
-    -- conditions of the object of the running call, by their numbers (to come)
+    -- so is the destructor of a mutex type, which is written or not
+    EndOn : ℕ → Bool → Expr → ObjectExpr
+    -- a reference, or what is known by its number, at the first of two places, is bound to the second, or to a number
+    Bind : Expr → Expr → ObjectExpr
+    -- a mutex object of this class is made, its place is bound to it, and this constructor, which is written or not, builds it
+    MakeOn : ℕ → ℕ → Bool → Expr → Exprs → ObjectExpr
+    -- a cluster, and a processor of a cluster, are made, and end, by their numbers
+    NewCluster : ObjectExpr
+    NewProcessor : Expr → ObjectExpr
+    EndCluster : Expr → ObjectExpr
+    EndProcessor : Expr → ObjectExpr
+    -- the number of an element of an array of so many conditions, the first of which has this number
+    ConditionAt : ℕ → ℕ → Expr → ObjectExpr
+    -- conditions of the object of the running call, by their numbers: a wait, with what it stores, and the others
     Wait : Expr → Expr → ObjectExpr
     Signal : Expr → ObjectExpr
     SignalBlock : Expr → ObjectExpr
@@ -152,12 +165,19 @@ pub data Raised : Type 0 where
   AgainFrom : ℕ → Raised
 
 -- what cleans up an object: its destruction; of an array of so many objects, the destruction of the one that is counted; of the
--- coroutine that is built or destroyed, the unwinding of its execution, and that this is no more
+-- coroutine that is built or destroyed, the unwinding of its execution, and that this is no more; of a mutex object, that its
+-- running call leaves it, that its destruction ends, and that its building ends: it is free then, or begins as a task with the main
+-- of this number, and an event that ends it gives the object up; of events, that those are enabled again which a cell of the frame
+-- keeps
 pub data CleanUp : Type 0 where
   Destroys : Expr → CleanUp
   DestroysAll : ℕ → Expr → CleanUp
   Unwinds : CleanUp
   Forgets : CleanUp
+  Leaves : CleanUp
+  Ends : CleanUp
+  Frees : Option ℕ → CleanUp
+  Restores : ℕ → CleanUp
 
 mutual
   -- a statement, with its line
@@ -180,6 +200,8 @@ mutual
     Continue : ℕ → Stmt
     -- with the value that is handed over, as the routine's result keeps it
     Return : ℕ → Option Expr → Stmt
+    -- the statements of a routine end here without the value that it owes
+    Owes : ℕ → Stmt
     -- so many objects are built from the first one on: what builds the one that is counted, and what destroys it where an event
     -- comes before all are built
     Fill : ℕ → ℕ → Expr → Expr → Stmt
@@ -202,11 +224,11 @@ mutual
     Raise : ℕ → Raised → EventStmt
     -- a guarded block with its handlers
     Try : ℕ → Stmts → Handlers → EventStmt
-    -- it is raised at another execution (to come)
+    -- it is raised at a task or a coroutine
     RaiseAt : ℕ → Raised → Expr → EventStmt
-    -- events by their bits (to come)
-    Enable : ℕ → ℕ → Stmt → EventStmt
-    Disable : ℕ → ℕ → Stmt → EventStmt
+    -- events, by their numbers as bits, are enabled or disabled in a statement; this cell of the frame keeps which were enabled before
+    Enable : ℕ → ℕ → ℕ → Stmt → EventStmt
+    Disable : ℕ → ℕ → ℕ → Stmt → EventStmt
 
   -- handlers in order: whether one takes resumptions, its event or every one, the first of the cells that keep the event and its
   -- fields, the line of its block, and its body
@@ -224,20 +246,20 @@ mutual
     SetUp : ℕ → TaskStmt
     Enliven : TaskStmt
     TakeDown : TaskStmt
-    -- to come
+    -- the task goes to the back of its queue, to a cluster
     Yield : ℕ → TaskStmt
     Migrate : ℕ → Expr → TaskStmt
     -- the accept statement of this number, with its clauses
     Accept : ℕ → ℕ → Clauses → TaskStmt
 
-  -- the clauses of an accept statement: the guard and the branch of each, and the branch of its `_Else`
+  -- the clauses of an accept statement: the guard, 1 where none is written, and the branch of each, and the branch of its `_Else`
   pub data Clauses : Type 0 where
     NoClauses : Clauses
     Otherwise : Stmt → Clauses
-    MoreClauses : Option Expr → Stmt → Clauses → Clauses
+    MoreClauses : Expr → Stmt → Clauses → Clauses
 
 -- what a routine is: the main of a task; that of a coroutine; a routine without a value, which hands over 0; a routine with a value,
--- whose end is a fault; a constructor or a destructor, of whose statements the body is a block
+-- whose end is a fault; a constructor, a destructor or a mutex member, of whose statements the body is a block
 pub data Purpose : Type 0 where
   TaskMain : Purpose
   CoroutineMain : Purpose
@@ -275,3 +297,21 @@ routine_or_none (Some r) = r
 -- a routine by its number
 abbrev pub routine_of : Source → ℕ → Routine
 routine_of source r = routine_or_none (slice_get source.routines r)
+
+abbrev pub cells_in : Option Class → ℕ
+cells_in None = 0
+cells_in (Some c) = c.cells
+
+-- the cells of an object of the class of this number
+abbrev pub cells_of_class : Source → ℕ → ℕ
+cells_of_class source c = cells_in (slice_get source.classes c)
+
+-- how many clauses an accept statement has
+abbrev pub clause_count : Clauses → ℕ
+clause_count NoClauses = 0
+clause_count (Otherwise b) = 0
+clause_count (MoreClauses guard b cs) = suc (clause_count cs)
+
+-- all events that there may be, by their numbers as bits
+abbrev pub ALL_EVENTS : ℕ
+ALL_EVENTS = 2 ^ 64 - 1

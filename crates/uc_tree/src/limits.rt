@@ -3,19 +3,19 @@
 // number, so that a change of either alone is refused.
 
 /// Bits of an `int`.
-pub const INT_BITS: u32 = 32;
+pub const INT_BITS: u32 = 64;
 
 /// The least `int`.
-pub const INT_MIN: i64 = -2_147_483_648;
+pub const INT_MIN: i64 = -9_223_372_036_854_775_808;
 
 /// The greatest `int`.
-pub const INT_MAX: i64 = 2_147_483_647;
+pub const INT_MAX: i64 = 9_223_372_036_854_775_807;
 
 /// How many values a `char` has: its values are below this.
 pub const CHAR_VALUES: i64 = 256;
 
 /// The greatest value of a number literal.
-pub const NUMBER_MAX: u64 = 2_147_483_647;
+pub const NUMBER_MAX: u64 = 9_223_372_036_854_775_807;
 
 /// Bytes of a name.
 pub const NAME_BYTES: usize = 64;
@@ -85,7 +85,10 @@ const _: () = prove!(PROGRAM_OPS as u64 == PROGRAM_SIZE * OPS_FOR_SIZE as u64);
 /// The number of the event `uUnhandled`.
 pub const UNHANDLED: u8 = 0;
 
-/// The number of the first event of the program; the one before it is kept.
+/// The number of the event `RendezvousFailure`.
+pub const FAILURE: u8 = 1;
+
+/// The number of the first event of the program.
 pub const FIRST_EVENT: u8 = 2;
 
 /// The greatest number of an event.
@@ -116,20 +119,20 @@ pub const CLAUSES: u8 = 32;
 const _: () = prove!(CLAUSES == 32);
 
 /// Active calls of one execution.
-pub const CALLS: u32 = 1_000;
+pub const CALLS: u32 = 100_000;
 
 /// Events that are pending at one execution.
 pub const PENDING_EVENTS: u8 = 32;
 
 /// Tasks made in a run, the first included.
-pub const TASKS: u32 = 4_096;
+pub const TASKS: u32 = 65_536;
 
-const _: () = prove!(TASKS == 4_096);
+const _: () = prove!(TASKS == 65_536);
 
 /// Mutex objects made in a run, the first included.
-pub const OBJECTS: u32 = 65_536;
+pub const OBJECTS: u32 = 262_144;
 
-const _: () = prove!(OBJECTS == 65_536);
+const _: () = prove!(OBJECTS == 262_144);
 
 /// Clusters of a run, the first included.
 pub const CLUSTERS: u32 = 64;

@@ -5,7 +5,7 @@ use Rattle.std.specs.Cmp.Lexicographic.{bytes_decides}
 use Rattle.uc_tree.specs.Names.{same_name}
 use Rattle.uc_tree.specs.Numbering.{place_from}
 use Rattle.uc_tree.specs.Programs.{Routine, Item}
-use Rattle.uc_types.specs.Outside.{Group, constructor_in, constructors_in, group_named, grown, grown_at}
+use Rattle.uc_types.specs.OuterConstructors.{Group, constructor_in, constructors_in, group_named, grown, grown_at}
 use Rattle.uc_types.proofs.Placed.{place_low}
 use Rattle.uc_types.proofs.Loops.{split}
 

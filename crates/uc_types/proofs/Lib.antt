@@ -6,3 +6,4 @@ pub mod Grouped
 pub mod Looked
 pub mod Open
 pub mod Gathered
+pub mod Given

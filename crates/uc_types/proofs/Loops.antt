@@ -9,7 +9,7 @@ use Rattle.uc_rules.specs.declared.rules.Target.{Target}
 use Rattle.uc_rules.specs.Scopes.{Env}
 use Rattle.uc_rules.specs.Entities.{entity_of, part_entity, parts_entity, link_entity, chain_entity, are_sound, call_follows, has_fitting, expected}
 use Rattle.uc_rules.specs.Visits.{part_visits, parts_visits, link_visits, chain_visits, arg_visits, args_visits}
-use Rattle.uc_types.specs.Told.{noted}
+use Rattle.uc_types.specs.FirstBreak.{noted}
 use Rattle.uc_types.proofs.Noted.{noted_append, and_again}
 
 pub split : {A : Type 0} (xs : List A) (i : ℕ) (x : A) → i < length xs → x ≡ get_or xs i x → drop i xs ≡ x ∷ drop (i + 1) xs

@@ -8,7 +8,7 @@ use Rattle.uc_rules.specs.Visits.{Visit}
 use Rattle.uc_rules.specs.ExpressionBreaks.{undeclared, main_called, no_scalar, no_place, no_routine, no_loop, bad_clause, no_event, no_handler, no_stream}
 use Rattle.uc_rules.specs.OwnerBreaks.{unshared_reference, field_outside, called_outside, lone_condition, unbound_reference, unowned_argument, copied_object, no_target}
 use Rattle.uc_rules.specs.Breaks.{declared_twice, no_main, within_itself, badly_defined, badly_mained, bad_argument, bad_return, no_length, no_constant, bad_start, bad_init, not_open, badly_marked, bad_event, breaks_at, breaks_among}
-use Rattle.uc_types.specs.Told.{told, noted}
+use Rattle.uc_types.specs.FirstBreak.{told, noted}
 
 pub after_append : (f : Option Break) (a b : List Break) → after f (a ++ b) ≡ after (after f a) b
 after_append f [] b = refl

@@ -8,7 +8,7 @@ use Rattle.uc_names.specs.Blocks.{Block, id_or, found}
 use Rattle.uc_rules.specs.declared.rules.Meant.{Meant}
 use Rattle.uc_rules.specs.declared.rules.Seen.{Seen}
 use Rattle.uc_rules.specs.Scopes.{later_or, local_named}
-use Rattle.uc_types.specs.Stacked.{stacked}
+use Rattle.uc_types.specs.LocalBlocks.{stacked}
 
 pub stacked_push : (i : ℕ) (ss : List Seen) (s : Seen) (bs : List Block) → stacked i (ss ++ s ∷ []) bs ≡ ((s.name, i + length ss) ∷ []) ∷ stacked i ss bs
 stacked_push i [] s bs = let e : i ≡ i + 0 = omega arith in ap (λ k. ((s.name, k) ∷ []) ∷ bs) e

@@ -1,7 +1,7 @@
-pub mod Told
+pub mod FirstBreak
 pub mod Members
-pub mod Outside
-pub mod Tabled
+pub mod OuterConstructors
+pub mod TableInvariant
 pub mod Listings
 pub mod Lengths
-pub mod Stacked
+pub mod LocalBlocks

@@ -8,7 +8,7 @@ ghost use Rattle.uc_rules.specs.ExpressionBreaks.{is_open_member};
 ghost use Rattle.uc_rules.specs.OwnerBreaks.{is_condition_of, is_mutex_field, is_mutex_field_of, may_be_called, may_use, may_use_field, may_use_origin, names_condition, use_breaks};
 ghost use Rattle.uc_rules.specs.Scopes.{named};
 ghost use Rattle.uc_rules.specs.Visits.{AtArgument, AtAssign, AtCall, AtChange, AtIndex, AtMember, AtOperand, AtOperands, AtUse, unary_visit};
-ghost use Rattle.uc_types.specs.Told.{told};
+ghost use Rattle.uc_types.specs.FirstBreak.{told};
 
 use crate::entity::{
     binary_gives, built_in, element, fits, given, is_array, is_main, is_object, is_of_conditions,
@@ -139,8 +139,6 @@ fn is_open(home: Option<Home>, origin: Origin) -> bool
     ensures { result ≡ is_open home origin }
 {
     match origin {
-        Origin::Local => true,
-        Origin::Parameter { .. } => true,
         Origin::Field {
             class,
             kind,
@@ -148,7 +146,7 @@ fn is_open(home: Option<Home>, origin: Origin) -> bool
             ..
         } => !is_coroutine(kind) && (is_public(access) || is_home(home, class)),
         Origin::Method { class, access } => is_public(access) || is_home(home, class),
-        Origin::Outer => true,
+        _ => true,
     }
 }
 
@@ -156,11 +154,8 @@ fn is_mutex_field(origin: Origin) -> bool
     ensures { result ≡ is_mutex_field origin }
 {
     match origin {
-        Origin::Local => false,
-        Origin::Parameter { .. } => false,
         Origin::Field { kind, .. } => is_mutex(kind),
-        Origin::Method { .. } => false,
-        Origin::Outer => false,
+        _ => false,
     }
 }
 
@@ -285,21 +280,12 @@ fn may_be_called(inner: bool, entity: Entity) -> bool
     ensures { result ≡ may_be_called inner entity }
 {
     match entity {
-        Entity::Value { .. } => true,
-        Entity::Place { .. } => true,
-        Entity::Array { .. } => true,
-        Entity::Input => true,
-        Entity::Fail => true,
-        Entity::Operation { .. } => true,
-        Entity::Main => true,
-        Entity::Routine { .. } => true,
         Entity::Method {
             inner: inner_only,
             by_path,
             ..
         } => !inner_only || (inner && !by_path),
-        Entity::ClassName => true,
-        Entity::Missing => true,
+        _ => true,
     }
 }
 
@@ -329,15 +315,11 @@ pub fn ask_call(
     }
 }
 
-fn is_reference(expected: Expected) -> bool
+/// Whether a reference is bound to it.
+pub fn is_reference(expected: Expected) -> bool
     ensures { result ≡ is_reference expected }
 {
-    match expected {
-        Expected::Anything => false,
-        Expected::Nothing => false,
-        Expected::Scalar => false,
-        Expected::Reference { .. } => true,
-    }
+    matches!(expected, Expected::Reference { .. })
 }
 
 /// Whether an argument is what is asked of it.
@@ -370,11 +352,9 @@ fn may_use_origin(tables: &Tables, bound: Bound, origin: Origin) -> bool
     ensures { result ≡ may_use_origin tables.now bound origin }
 {
     match origin {
-        Origin::Local => true,
-        Origin::Parameter { .. } => true,
         Origin::Field { class, field, .. } => may_use_field(tables, bound, class, field),
         Origin::Method { .. } => false,
-        Origin::Outer => true,
+        _ => true,
     }
 }
 

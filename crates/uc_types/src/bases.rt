@@ -4,19 +4,20 @@ ghost use Rattle.std.specs.Prelude.{◌≡◌, IfOk, MatchOption, None, Some, if
 ghost use Rattle.uc_rules.specs.declared.rules.Sort.TheVariants.{Object};
 ghost use Rattle.uc_tree.specs.Cells.{classes_of};
 ghost use Rattle.uc_tree.specs.Constants.{constants_of, value_of_name};
+ghost use Rattle.uc_tree.specs.Numbering.{is_given};
 ghost use Rattle.uc_rules.specs.Names.{constant_meant, declared_entity, variable};
 ghost use Rattle.uc_rules.specs.Scopes.{event_among, event_named, event_sort};
 ghost use Rattle.uc_rules.specs.Sorts.{class_at, class_named, class_sort, sort_of};
-ghost use Rattle.uc_sizes.specs.Places.{IsPlaces};
+ghost use Rattle.uc_layout.specs.Places.{IsPlaces};
 
 use crate::sort::is_event_sort;
 use std::alloc::{AllocError, Global};
 use std::marker::Model;
+use uc_layout::lists::classes_in;
+use uc_layout::places::{place_in, places_of_classes};
+use uc_layout::sizes::Sizes;
 use uc_names::scope::Scope;
 use uc_rules::rules::{Entity, Meant, Origin, Sort};
-use uc_sizes::lists::classes_in;
-use uc_sizes::places::{place_in, places_of_classes};
-use uc_sizes::sizes::Sizes;
 use uc_tree::class::Class;
 use uc_tree::declare::Declarator;
 use uc_tree::expr::Expr;
@@ -37,8 +38,8 @@ impl<'a> Model for Bases<'a> {
     ghost use Rattle.std.specs.Prelude.{map};
     ghost use Rattle.uc_tree.specs.Programs.{Program};
     ghost use Rattle.uc_tree.specs.ProgramCodes.{program_coded};
-    ghost use Rattle.uc_sizes.specs.Places.{IsPlaces};
-    ghost use Rattle.uc_types.specs.Tabled.{IsTabled};
+    ghost use Rattle.uc_layout.specs.Places.{IsPlaces};
+    ghost use Rattle.uc_types.specs.TableInvariant.{IsTabled};
 
     ghost Value = { Program };
 
@@ -92,6 +93,13 @@ fn variable(by_ref: bool, len: &Option<Expr>, count: u32, sort: Sort) -> Entity
         None => Entity::Place { sort },
         Some(_) => Entity::Array { sort, len: count },
     }
+}
+
+/// Whether it is the name of an event that every program has, and none declares.
+pub fn is_given(name: &Name) -> bool
+    ensures { result ≡ is_given name.now }
+{
+    name.is(b"uUnhandled") || name.is(b"RendezvousFailure")
 }
 
 impl<'a> Bases<'a> {
@@ -175,7 +183,7 @@ impl<'a> Bases<'a> {
     pub fn event_named(&self, name: &Name) -> Option<Entity>
         ensures { result ≡ event_named self.now name.now }
     {
-        if name.is(b"uUnhandled") {
+        if is_given(name) {
             return Some(Entity::ClassName);
         }
         let sort = self.event_sort(name)?;

@@ -1,14 +1,14 @@
 // Tables of names with what they mean.
 
 ghost use Rattle.std.specs.Prelude.{◌≡◌, IfOk, map, option_map, slice_get};
-ghost use Rattle.uc_sizes.specs.Places.{IsPlaces};
+ghost use Rattle.uc_layout.specs.Places.{IsPlaces};
 ghost use Rattle.uc_types.specs.Listings.{first_named};
 
 use std::alloc::{AllocError, Global};
 use std::marker::Model;
+use uc_layout::places::{no_places, note_place, place_in};
 use uc_names::scope::Scope;
 use uc_rules::rules::{Meant, Seen};
-use uc_sizes::places::{no_places, note_place, place_in};
 use uc_tree::name::Name;
 
 /// Names with what they mean; of two with one name the first counts. Contracts see the list.
@@ -21,7 +21,7 @@ pub struct Directory {
 impl Model for Directory {
     ghost use Rattle.std.specs.Prelude.{List, map};
     ghost use Rattle.uc_rules.specs.declared.rules.Seen.{Seen};
-    ghost use Rattle.uc_sizes.specs.Places.{IsPlaces};
+    ghost use Rattle.uc_layout.specs.Places.{IsPlaces};
 
     ghost Value = { List Seen };
 

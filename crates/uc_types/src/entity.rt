@@ -1,7 +1,7 @@
 // What expressions stand for: tests of it, and what follows from it.
 
 ghost use Rattle.std.specs.Prelude.{◌≡◌, None, Some, if◌then◌else◌, option_and_then, slice_get};
-ghost use Rattle.uc_rules.specs.Entities.{binary_gives, built_in, call_target, condition_member, element, expected, fits, given, is_array, is_main, is_main_sig, is_object, is_object_sort, is_of_conditions, is_operation, is_place, is_place_of, is_readable, is_scalar, none_of, object_member, operation_gives, operation_named, operation_takes, param_expected, path_member, sig_gives, sig_takes, takes, value_of, value_of_sort, value_test};
+ghost use Rattle.uc_rules.specs.Entities.{binary_gives, built_in, call_target, condition_member, element, expected, fits, given, is_array, is_main, is_main_sig, is_object, is_object_sort, is_of_conditions, is_operation, is_place, is_place_of, is_readable, is_scalar, none_of, object_member, operation_gives, operation_named, operation_takes, param_expected, path_member, reference_to, sig_gives, sig_takes, takes, value_of, value_of_sort, value_test, value_to};
 ghost use Rattle.uc_rules.specs.Names.{method_sig, params_in, routine_sig};
 ghost use Rattle.uc_rules.specs.Sorts.{is_scalar_sort, sort_of};
 ghost use Rattle.uc_rules.specs.declared.rules.Entity.TheVariants.{Fail, Value};
@@ -18,16 +18,7 @@ use uc_tree::ops::BinaryOp;
 fn is_object_sort(sort: Sort) -> bool
     ensures { result ≡ is_object_sort sort }
 {
-    match sort {
-        Sort::Void => false,
-        Sort::Int => false,
-        Sort::Char => false,
-        Sort::Bool => false,
-        Sort::Condition => false,
-        Sort::Cluster => false,
-        Sort::Processor => false,
-        Sort::Object { .. } => true,
-    }
+    matches!(sort, Sort::Object { .. })
 }
 
 /// Whether it is a scalar.
@@ -37,15 +28,7 @@ pub fn is_scalar(entity: Entity) -> bool
     match entity {
         Entity::Value { sort } => is_scalar_sort(sort),
         Entity::Place { sort } => is_scalar_sort(sort),
-        Entity::Array { .. } => false,
-        Entity::Input => false,
-        Entity::Fail => false,
-        Entity::Operation { .. } => false,
-        Entity::Main => false,
-        Entity::Routine { .. } => false,
-        Entity::Method { .. } => false,
-        Entity::ClassName => false,
-        Entity::Missing => false,
+        _ => false,
     }
 }
 
@@ -54,17 +37,8 @@ pub fn is_place(entity: Entity) -> bool
     ensures { result ≡ is_place entity }
 {
     match entity {
-        Entity::Value { .. } => false,
         Entity::Place { sort } => is_scalar_sort(sort),
-        Entity::Array { .. } => false,
-        Entity::Input => false,
-        Entity::Fail => false,
-        Entity::Operation { .. } => false,
-        Entity::Main => false,
-        Entity::Routine { .. } => false,
-        Entity::Method { .. } => false,
-        Entity::ClassName => false,
-        Entity::Missing => false,
+        _ => false,
     }
 }
 
@@ -72,19 +46,7 @@ pub fn is_place(entity: Entity) -> bool
 pub fn is_array(entity: Entity) -> bool
     ensures { result ≡ is_array entity }
 {
-    match entity {
-        Entity::Value { .. } => false,
-        Entity::Place { .. } => false,
-        Entity::Array { .. } => true,
-        Entity::Input => false,
-        Entity::Fail => false,
-        Entity::Operation { .. } => false,
-        Entity::Main => false,
-        Entity::Routine { .. } => false,
-        Entity::Method { .. } => false,
-        Entity::ClassName => false,
-        Entity::Missing => false,
-    }
+    matches!(entity, Entity::Array { .. })
 }
 
 /// Whether a number or a character may be read into it.
@@ -92,17 +54,8 @@ pub fn is_readable(entity: Entity) -> bool
     ensures { result ≡ is_readable entity }
 {
     match entity {
-        Entity::Value { .. } => false,
         Entity::Place { sort } => is_int(sort) || is_char(sort),
-        Entity::Array { .. } => false,
-        Entity::Input => false,
-        Entity::Fail => false,
-        Entity::Operation { .. } => false,
-        Entity::Main => false,
-        Entity::Routine { .. } => false,
-        Entity::Method { .. } => false,
-        Entity::ClassName => false,
-        Entity::Missing => false,
+        _ => false,
     }
 }
 
@@ -111,17 +64,9 @@ pub fn is_of_conditions(entity: Entity) -> bool
     ensures { result ≡ is_of_conditions entity }
 {
     match entity {
-        Entity::Value { .. } => false,
         Entity::Place { sort } => is_condition(sort),
         Entity::Array { sort, .. } => is_condition(sort),
-        Entity::Input => false,
-        Entity::Fail => false,
-        Entity::Operation { .. } => false,
-        Entity::Main => false,
-        Entity::Routine { .. } => false,
-        Entity::Method { .. } => false,
-        Entity::ClassName => false,
-        Entity::Missing => false,
+        _ => false,
     }
 }
 
@@ -130,17 +75,8 @@ pub fn is_object(entity: Entity) -> bool
     ensures { result ≡ is_object entity }
 {
     match entity {
-        Entity::Value { .. } => false,
         Entity::Place { sort } => is_object_sort(sort),
-        Entity::Array { .. } => false,
-        Entity::Input => false,
-        Entity::Fail => false,
-        Entity::Operation { .. } => false,
-        Entity::Main => false,
-        Entity::Routine { .. } => false,
-        Entity::Method { .. } => false,
-        Entity::ClassName => false,
-        Entity::Missing => false,
+        _ => false,
     }
 }
 
@@ -148,19 +84,7 @@ pub fn is_object(entity: Entity) -> bool
 pub fn is_operation(entity: Entity) -> bool
     ensures { result ≡ is_operation entity }
 {
-    match entity {
-        Entity::Value { .. } => false,
-        Entity::Place { .. } => false,
-        Entity::Array { .. } => false,
-        Entity::Input => false,
-        Entity::Fail => false,
-        Entity::Operation { .. } => true,
-        Entity::Main => false,
-        Entity::Routine { .. } => false,
-        Entity::Method { .. } => false,
-        Entity::ClassName => false,
-        Entity::Missing => false,
-    }
+    matches!(entity, Entity::Operation { .. })
 }
 
 /// The value of what is assigned to, where it is a scalar that has a place.
@@ -168,17 +92,8 @@ pub fn value_of(entity: Entity) -> Option<Entity>
     ensures { result ≡ value_of entity }
 {
     match entity {
-        Entity::Value { .. } => None,
         Entity::Place { sort } => value_of_sort(sort),
-        Entity::Array { .. } => None,
-        Entity::Input => None,
-        Entity::Fail => None,
-        Entity::Operation { .. } => None,
-        Entity::Main => None,
-        Entity::Routine { .. } => None,
-        Entity::Method { .. } => None,
-        Entity::ClassName => None,
-        Entity::Missing => None,
+        _ => None,
     }
 }
 
@@ -187,17 +102,8 @@ pub fn element(entity: Entity) -> Option<Entity>
     ensures { result ≡ element entity }
 {
     match entity {
-        Entity::Value { .. } => None,
-        Entity::Place { .. } => None,
         Entity::Array { sort, .. } => Some(Entity::Place { sort }),
-        Entity::Input => None,
-        Entity::Fail => None,
-        Entity::Operation { .. } => None,
-        Entity::Main => None,
-        Entity::Routine { .. } => None,
-        Entity::Method { .. } => None,
-        Entity::ClassName => None,
-        Entity::Missing => None,
+        _ => None,
     }
 }
 
@@ -256,14 +162,8 @@ fn object_member(tables: &Tables, sort: Sort, name: &Name) -> Option<Meant>
     ensures { result ≡ object_member tables.now sort name.now }
 {
     match sort {
-        Sort::Void => None,
-        Sort::Int => None,
-        Sort::Char => None,
-        Sort::Bool => None,
-        Sort::Condition => None,
-        Sort::Cluster => None,
-        Sort::Processor => None,
         Sort::Object { class, .. } => tables.member_named(class, name),
+        _ => None,
     }
 }
 
@@ -271,17 +171,11 @@ fn condition_member(sort: Sort, name: &Name) -> Option<Entity>
     ensures { result ≡ condition_member sort name.now }
 {
     match sort {
-        Sort::Void => None,
-        Sort::Int => None,
-        Sort::Char => None,
-        Sort::Bool => None,
         Sort::Condition => {
             let operation = operation_named(name)?;
             Some(Entity::Operation { operation })
         }
-        Sort::Cluster => None,
-        Sort::Processor => None,
-        Sort::Object { .. } => None,
+        _ => None,
     }
 }
 
@@ -300,17 +194,8 @@ pub fn path_member(tables: &Tables, entity: Entity, name: &Name) -> Option<Meant
     ensures { result ≡ path_member tables.now entity name.now }
 {
     match entity {
-        Entity::Value { .. } => None,
         Entity::Place { sort } => object_member(tables, sort, name),
-        Entity::Array { .. } => None,
-        Entity::Input => None,
-        Entity::Fail => None,
-        Entity::Operation { .. } => None,
-        Entity::Main => None,
-        Entity::Routine { .. } => None,
-        Entity::Method { .. } => None,
-        Entity::ClassName => None,
-        Entity::Missing => None,
+        _ => None,
     }
 }
 
@@ -319,17 +204,9 @@ pub fn built_in(entity: Entity, name: &Name) -> Option<Entity>
     ensures { result ≡ built_in entity name.now }
 {
     match entity {
-        Entity::Value { .. } => None,
         Entity::Place { sort } => condition_member(sort, name),
-        Entity::Array { .. } => None,
         Entity::Input => input_member(name),
-        Entity::Fail => None,
-        Entity::Operation { .. } => None,
-        Entity::Main => None,
-        Entity::Routine { .. } => None,
-        Entity::Method { .. } => None,
-        Entity::ClassName => None,
-        Entity::Missing => None,
+        _ => None,
     }
 }
 
@@ -441,17 +318,12 @@ pub fn takes(tables: &Tables, count: usize, entity: Entity) -> bool
     ensures { result ≡ takes tables.now count entity }
 {
     match entity {
-        Entity::Value { .. } => false,
-        Entity::Place { .. } => false,
-        Entity::Array { .. } => false,
-        Entity::Input => false,
         Entity::Fail => count == 0,
         Entity::Operation { operation } => operation_takes(operation, count),
         Entity::Main => count == 0,
         Entity::Routine { item } => routine_takes(tables, item, count),
         Entity::Method { class, member, .. } => method_takes(tables, class, member, count),
-        Entity::ClassName => false,
-        Entity::Missing => false,
+        _ => false,
     }
 }
 
@@ -460,17 +332,10 @@ pub fn is_main(tables: &Tables, entity: Entity) -> bool
     ensures { result ≡ is_main tables.now entity }
 {
     match entity {
-        Entity::Value { .. } => false,
-        Entity::Place { .. } => false,
-        Entity::Array { .. } => false,
-        Entity::Input => false,
-        Entity::Fail => false,
-        Entity::Operation { .. } => false,
         Entity::Main => true,
         Entity::Routine { item } => is_main_routine(tables, item),
         Entity::Method { class, member, .. } => is_main_method(tables, class, member),
-        Entity::ClassName => false,
-        Entity::Missing => false,
+        _ => false,
     }
 }
 
@@ -479,17 +344,11 @@ pub fn given(tables: &Tables, entity: Entity) -> Option<Entity>
     ensures { result ≡ given tables.now entity }
 {
     match entity {
-        Entity::Value { .. } => None,
-        Entity::Place { .. } => None,
-        Entity::Array { .. } => None,
-        Entity::Input => None,
         Entity::Fail => Some(Entity::Value { sort: Sort::Bool }),
         Entity::Operation { operation } => Some(operation_gives(operation)),
-        Entity::Main => None,
         Entity::Routine { item } => routine_gives(tables, item),
         Entity::Method { class, member, .. } => method_gives(tables, class, member),
-        Entity::ClassName => None,
-        Entity::Missing => None,
+        _ => None,
     }
 }
 
@@ -498,29 +357,45 @@ pub fn call_expected(tables: &Tables, entity: Entity, place: usize) -> Expected
     ensures { result ≡ expected tables.now (target.Call entity) place }
 {
     match entity {
-        Entity::Value { .. } => Expected::Anything,
-        Entity::Place { .. } => Expected::Anything,
-        Entity::Array { .. } => Expected::Anything,
-        Entity::Input => Expected::Anything,
-        Entity::Fail => Expected::Anything,
         Entity::Operation { .. } => Expected::Scalar,
-        Entity::Main => Expected::Anything,
         Entity::Routine { item } => routine_param(tables, item, place),
         Entity::Method { class, member, .. } => method_param(tables, class, member, place),
-        Entity::ClassName => Expected::Anything,
-        Entity::Missing => Expected::Anything,
+        _ => Expected::Anything,
     }
 }
 
 fn one_expected(tables: &Tables, param: &Param) -> Expected
     ensures { result ≡ param_expected tables.now (Some param.now) }
 {
-    if !param.by_ref {
-        return Expected::Scalar;
+    let sort = tables.sort_of(&param.base);
+    if param.by_ref {
+        reference_to(sort)
+    } else {
+        value_to(sort)
     }
-    match tables.sort_of(&param.base) {
+}
+
+fn reference_to(sort: Option<Sort>) -> Expected
+    ensures { result ≡ reference_to sort }
+{
+    match sort {
         Some(sort) => Expected::Reference { sort },
         None => Expected::Anything,
+    }
+}
+
+fn value_to(sort: Option<Sort>) -> Expected
+    ensures { result ≡ value_to sort }
+{
+    match sort {
+        Some(sort) => {
+            if is_scalar_sort(sort) {
+                Expected::Scalar
+            } else {
+                Expected::Nothing
+            }
+        }
+        None => Expected::Scalar,
     }
 }
 
@@ -538,8 +413,6 @@ pub fn expected(tables: &Tables, target: Target, place: usize) -> Expected
     ensures { result ≡ expected tables.now target place }
 {
     match target {
-        Target::Unknown => Expected::Anything,
-        Target::Scalar => Expected::Anything,
         Target::Nothing => Expected::Nothing,
         Target::Reference { sort } => Expected::Reference { sort },
         Target::Call { entity } => call_expected(tables, entity, place),
@@ -547,6 +420,7 @@ pub fn expected(tables: &Tables, target: Target, place: usize) -> Expected
             let params = tables.constructor_params(class);
             param_expected(tables, params, place)
         }
+        _ => Expected::Anything,
     }
 }
 
@@ -554,17 +428,8 @@ fn is_place_of(sort: Sort, entity: Entity) -> bool
     ensures { result ≡ value_test none_of (is_place_of sort) none_of entity }
 {
     match entity {
-        Entity::Value { .. } => false,
         Entity::Place { sort: other } => same_sort(sort, other),
-        Entity::Array { .. } => false,
-        Entity::Input => false,
-        Entity::Fail => false,
-        Entity::Operation { .. } => false,
-        Entity::Main => false,
-        Entity::Routine { .. } => false,
-        Entity::Method { .. } => false,
-        Entity::ClassName => false,
-        Entity::Missing => false,
+        _ => false,
     }
 }
 

@@ -4,7 +4,7 @@ ghost use Rattle.std.specs.Prelude.{◌≡◌, ◌&&◌, [], drop, if◌then◌e
 ghost use Rattle.uc_tree.specs.Expressions.{exprs_of, links_of, parts_of};
 ghost use Rattle.uc_rules.specs.Entities.{are_sound, call_follows, chain_entity, entity_of, expected, field_follows, has_fitting, is_call, is_cin, is_field, is_input, link_entity, part_entity, parts_entity};
 ghost use Rattle.uc_rules.specs.Visits.{arg_visits, args_visits, chain_visits, link_visits, part_visits, parts_visits, root_entity, visits};
-ghost use Rattle.uc_types.specs.Told.{noted};
+ghost use Rattle.uc_types.specs.FirstBreak.{noted};
 
 use crate::ask::{
     ask_argument, ask_assign, ask_call, ask_change, ask_index, ask_member, ask_operands, ask_unary,
@@ -20,23 +20,13 @@ use uc_tree::expr::{Expr, ExprForm, Link, Part, PartForm};
 fn is_field(part: &Part) -> bool
     ensures { result ≡ is_field part.now }
 {
-    match &part.form {
-        PartForm::Field { .. } => true,
-        PartForm::Index { .. } => false,
-        PartForm::Call { .. } => false,
-        PartForm::Step { .. } => false,
-    }
+    matches!(&part.form, PartForm::Field { .. })
 }
 
 fn is_call(part: &Part) -> bool
     ensures { result ≡ is_call part.now }
 {
-    match &part.form {
-        PartForm::Field { .. } => false,
-        PartForm::Index { .. } => false,
-        PartForm::Call { .. } => true,
-        PartForm::Step { .. } => false,
-    }
+    matches!(&part.form, PartForm::Call { .. })
 }
 
 fn field_follows(parts: &[Part]) -> bool
@@ -60,17 +50,7 @@ fn call_follows(parts: &[Part], place: usize) -> bool
 fn is_cin(e: &Expr) -> bool
     ensures { result ≡ is_cin e.now }
 {
-    match &e.form {
-        ExprForm::Number { .. } => false,
-        ExprForm::Character { .. } => false,
-        ExprForm::Truth { .. } => false,
-        ExprForm::Name { .. } => false,
-        ExprForm::Cin => true,
-        ExprForm::Postfix { .. } => false,
-        ExprForm::Unary { .. } => false,
-        ExprForm::Chain { .. } => false,
-        ExprForm::Assign { .. } => false,
-    }
+    matches!(&e.form, ExprForm::Cin)
 }
 
 fn is_input(root: &Expr, parts: &[Part]) -> bool

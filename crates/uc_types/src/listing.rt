@@ -14,12 +14,12 @@ use crate::bases::Bases;
 use crate::directory::Directory;
 use crate::sort::{is_inner_only, is_plain};
 use std::alloc::{AllocError, Global};
+use uc_layout::held::elements_of;
+use uc_layout::known::names_of_members;
+use uc_layout::named::NameValues;
+use uc_layout::sizes::Sizes;
 use uc_names::scope::Scope;
 use uc_rules::rules::{Entity, FieldPlace, Meant, Origin, Seen};
-use uc_sizes::held::elements_of;
-use uc_sizes::known::names_of_members;
-use uc_sizes::named::NameValues;
-use uc_sizes::sizes::Sizes;
 use uc_tree::class::{Class, Member, MemberForm, Sig};
 use uc_tree::declare::Declarator;
 use uc_tree::kinds::{Access, Base, Mark, Owner};
@@ -247,11 +247,7 @@ pub fn names_in_classes<'x>(
 fn is_here(owner: &Owner) -> bool
     ensures { result ≡ is_here owner.now }
 {
-    match owner {
-        Owner::Here => true,
-        Owner::Main => false,
-        Owner::Class(_) => false,
-    }
+    matches!(owner, Owner::Here)
 }
 
 /// What stands outside of classes.

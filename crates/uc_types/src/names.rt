@@ -6,17 +6,17 @@ ghost use Rattle.uc_tree.specs.Constants.{chain_value_in, length_in, link_value_
 ghost use Rattle.uc_tree.specs.Expressions.{links_of};
 ghost use Rattle.uc_tree.specs.Names.{same_name};
 ghost use Rattle.uc_tree.specs.Numbering.{main_name};
-ghost use Rattle.uc_types.specs.Stacked.{stacked};
+ghost use Rattle.uc_types.specs.LocalBlocks.{stacked};
 ghost use Rattle.uc_rules.specs.Scopes.{caught_entity, declared, is_hidden, is_own, local_named, main_meant, named, named_behind, opened, own_named, param_seen, plain_env, seen_as, value_named, with_around, with_caught, with_param, with_seen};
 
 use crate::directory::meant_at;
 use crate::tables::Tables;
 use std::alloc::{AllocError, Global};
 use std::marker::Model;
+use uc_layout::eval::{binary_of, unary_of};
+use uc_layout::held::sound_length;
 use uc_names::scope::Scope;
 use uc_rules::rules::{Around, Entity, Meant, Origin, Seen};
-use uc_sizes::eval::{binary_of, unary_of};
-use uc_sizes::held::sound_length;
 use uc_tree::declare::Declarator;
 use uc_tree::expr::{Expr, ExprForm, Link};
 use uc_tree::int::int_of;
@@ -40,7 +40,7 @@ impl<'a> Model for Names<'a> {
     ghost use Rattle.uc_tree.specs.ProgramCodes.{program_coded};
     ghost use Rattle.std.specs.Prelude.{◌≡◌, []};
     ghost use Rattle.uc_rules.specs.Scopes.{Env};
-    ghost use Rattle.uc_types.specs.Stacked.{stacked};
+    ghost use Rattle.uc_types.specs.LocalBlocks.{stacked};
 
     ghost Value = { Env };
 
@@ -381,8 +381,6 @@ pub fn length_value(names: &Names, e: &Expr) -> Option<i64>
         ExprForm::Character { byte } => Some(i64::from(*byte)),
         ExprForm::Truth { value } => Some(i64::from(*value)),
         ExprForm::Name { name } => names.value_named(name),
-        ExprForm::Cin => None,
-        ExprForm::Postfix { .. } => None,
         ExprForm::Unary { op, operand } => match length_value(names, operand) {
             Some(x) => unary_of(*op, x),
             None => None,
@@ -391,7 +389,7 @@ pub fn length_value(names: &Names, e: &Expr) -> Option<i64>
             let left = length_value(names, first);
             chain_value(names, left, rest)
         }
-        ExprForm::Assign { .. } => None,
+        _ => None,
     }
 }
 

@@ -1,13 +1,13 @@
 // The constructors that stand outside of their classes, by the name of the class.
 
 ghost use Rattle.std.specs.Prelude.{◌≡◌, ◌++◌, ◌∷◌, [], ℕ, List, IfOk, OnOk, map, option_map, slice_get, unwrap_or};
-ghost use Rattle.uc_types.specs.Outside.{ArePlaced, constructor_in, constructors_in, group_named, grown, grown_at, routine_in};
+ghost use Rattle.uc_types.specs.OuterConstructors.{ArePlaced, constructor_in, constructors_in, group_named, grown, grown_at, routine_in};
 
 use crate::sort::is_constructor;
 use std::alloc::{AllocError, Global};
 use std::marker::Model;
+use uc_layout::places::{no_places, note_place, place_in};
 use uc_names::scope::Scope;
-use uc_sizes::places::{no_places, note_place, place_in};
 use uc_tree::class::Routine;
 use uc_tree::kinds::Owner;
 use uc_tree::name::Name;
@@ -24,7 +24,7 @@ impl<'a> Model for Group<'a> {
     ghost use Rattle.std.specs.Coded.{codes};
     ghost use Rattle.std.specs.Prelude.{map};
     ghost use Rattle.uc_tree.specs.ProgramCodes.{routine_coded};
-    ghost use Rattle.uc_types.specs.Outside.{Group};
+    ghost use Rattle.uc_types.specs.OuterConstructors.{Group};
 
     ghost Value = { Group };
 
@@ -55,7 +55,7 @@ impl<'a> Model for OuterConstructors<'a> {
     ghost use Rattle.std.specs.Prelude.{List};
     ghost use Rattle.uc_tree.specs.ProgramCodes.{item_coded};
     ghost use Rattle.uc_tree.specs.Programs.{Item};
-    ghost use Rattle.uc_types.specs.Outside.{AreGrouped, ArePlaced};
+    ghost use Rattle.uc_types.specs.OuterConstructors.{AreGrouped, ArePlaced};
 
     ghost Value = { List Item };
 

@@ -12,128 +12,56 @@ use uc_tree::kinds::{Access, Kind, Mark, Role};
 pub fn is_scalar_sort(sort: Sort) -> bool
     ensures { result ≡ is_scalar_sort sort }
 {
-    match sort {
-        Sort::Void => false,
-        Sort::Int => true,
-        Sort::Char => true,
-        Sort::Bool => true,
-        Sort::Condition => false,
-        Sort::Cluster => false,
-        Sort::Processor => false,
-        Sort::Object { .. } => false,
-    }
+    matches!(sort, Sort::Int | Sort::Char | Sort::Bool)
 }
 
 /// Whether it is none.
 pub fn is_void(sort: Sort) -> bool
     ensures { result ≡ is_void sort }
 {
-    match sort {
-        Sort::Void => true,
-        Sort::Int => false,
-        Sort::Char => false,
-        Sort::Bool => false,
-        Sort::Condition => false,
-        Sort::Cluster => false,
-        Sort::Processor => false,
-        Sort::Object { .. } => false,
-    }
+    matches!(sort, Sort::Void)
 }
 
 /// Whether it is a number.
 pub fn is_int(sort: Sort) -> bool
     ensures { result ≡ is_int sort }
 {
-    match sort {
-        Sort::Void => false,
-        Sort::Int => true,
-        Sort::Char => false,
-        Sort::Bool => false,
-        Sort::Condition => false,
-        Sort::Cluster => false,
-        Sort::Processor => false,
-        Sort::Object { .. } => false,
-    }
+    matches!(sort, Sort::Int)
 }
 
 /// Whether it is a character.
 pub fn is_char(sort: Sort) -> bool
     ensures { result ≡ is_char sort }
 {
-    match sort {
-        Sort::Void => false,
-        Sort::Int => false,
-        Sort::Char => true,
-        Sort::Bool => false,
-        Sort::Condition => false,
-        Sort::Cluster => false,
-        Sort::Processor => false,
-        Sort::Object { .. } => false,
-    }
+    matches!(sort, Sort::Char)
 }
 
 /// Whether it is a truth value.
 pub fn is_truth(sort: Sort) -> bool
     ensures { result ≡ is_truth sort }
 {
-    match sort {
-        Sort::Void => false,
-        Sort::Int => false,
-        Sort::Char => false,
-        Sort::Bool => true,
-        Sort::Condition => false,
-        Sort::Cluster => false,
-        Sort::Processor => false,
-        Sort::Object { .. } => false,
-    }
+    matches!(sort, Sort::Bool)
 }
 
 /// Whether it is a condition.
 pub fn is_condition(sort: Sort) -> bool
     ensures { result ≡ is_condition sort }
 {
-    match sort {
-        Sort::Void => false,
-        Sort::Int => false,
-        Sort::Char => false,
-        Sort::Bool => false,
-        Sort::Condition => true,
-        Sort::Cluster => false,
-        Sort::Processor => false,
-        Sort::Object { .. } => false,
-    }
+    matches!(sort, Sort::Condition)
 }
 
 /// Whether it is a cluster.
 pub fn is_cluster(sort: Sort) -> bool
     ensures { result ≡ is_cluster sort }
 {
-    match sort {
-        Sort::Void => false,
-        Sort::Int => false,
-        Sort::Char => false,
-        Sort::Bool => false,
-        Sort::Condition => false,
-        Sort::Cluster => true,
-        Sort::Processor => false,
-        Sort::Object { .. } => false,
-    }
+    matches!(sort, Sort::Cluster)
 }
 
 /// Whether it is a processor.
 pub fn is_processor(sort: Sort) -> bool
     ensures { result ≡ is_processor sort }
 {
-    match sort {
-        Sort::Void => false,
-        Sort::Int => false,
-        Sort::Char => false,
-        Sort::Bool => false,
-        Sort::Condition => false,
-        Sort::Cluster => false,
-        Sort::Processor => true,
-        Sort::Object { .. } => false,
-    }
+    matches!(sort, Sort::Processor)
 }
 
 /// Whether it is an event.
@@ -141,14 +69,8 @@ pub fn is_event_sort(sort: Sort) -> bool
     ensures { result ≡ of_class is_event_class sort }
 {
     match sort {
-        Sort::Void => false,
-        Sort::Int => false,
-        Sort::Char => false,
-        Sort::Bool => false,
-        Sort::Condition => false,
-        Sort::Cluster => false,
-        Sort::Processor => false,
         Sort::Object { kind, .. } => is_event(kind),
+        _ => false,
     }
 }
 
@@ -157,14 +79,8 @@ pub fn is_mutex_sort(sort: Sort) -> bool
     ensures { result ≡ of_class is_mutex_class sort }
 {
     match sort {
-        Sort::Void => false,
-        Sort::Int => false,
-        Sort::Char => false,
-        Sort::Bool => false,
-        Sort::Condition => false,
-        Sort::Cluster => false,
-        Sort::Processor => false,
         Sort::Object { kind, .. } => is_mutex(kind),
+        _ => false,
     }
 }
 
@@ -173,14 +89,8 @@ pub fn is_plain_sort(sort: Sort) -> bool
     ensures { result ≡ of_class is_plain_class sort }
 {
     match sort {
-        Sort::Void => false,
-        Sort::Int => false,
-        Sort::Char => false,
-        Sort::Bool => false,
-        Sort::Condition => false,
-        Sort::Cluster => false,
-        Sort::Processor => false,
         Sort::Object { kind, .. } => is_plain_kind(kind),
+        _ => false,
     }
 }
 
@@ -188,14 +98,8 @@ fn is_of_class(class: usize, sort: Sort) -> bool
     ensures { result ≡ of_class (is_same_class class) sort }
 {
     match sort {
-        Sort::Void => false,
-        Sort::Int => false,
-        Sort::Char => false,
-        Sort::Bool => false,
-        Sort::Condition => false,
-        Sort::Cluster => false,
-        Sort::Processor => false,
         Sort::Object { class: other, .. } => class == other,
+        _ => false,
     }
 }
 
@@ -219,156 +123,88 @@ pub fn same_sort(a: Sort, b: Sort) -> bool
 pub fn is_event(kind: Kind) -> bool
     ensures { result ≡ is_event kind }
 {
-    match kind {
-        Kind::Class => false,
-        Kind::Coroutine => false,
-        Kind::Monitor => false,
-        Kind::Cormonitor => false,
-        Kind::Task => false,
-        Kind::Event => true,
-    }
+    matches!(kind, Kind::Event)
 }
 
 /// Whether it is a mutex type.
 pub fn is_mutex(kind: Kind) -> bool
     ensures { result ≡ is_mutex kind }
 {
-    match kind {
-        Kind::Class => false,
-        Kind::Coroutine => false,
-        Kind::Monitor => true,
-        Kind::Cormonitor => true,
-        Kind::Task => true,
-        Kind::Event => false,
-    }
+    matches!(kind, Kind::Monitor | Kind::Cormonitor | Kind::Task)
 }
 
 /// Whether it is a plain coroutine.
 pub fn is_coroutine(kind: Kind) -> bool
     ensures { result ≡ is_coroutine kind }
 {
-    match kind {
-        Kind::Class => false,
-        Kind::Coroutine => true,
-        Kind::Monitor => false,
-        Kind::Cormonitor => false,
-        Kind::Task => false,
-        Kind::Event => false,
-    }
+    matches!(kind, Kind::Coroutine)
 }
 
 /// Whether it is a cormonitor.
 pub fn is_cormonitor(kind: Kind) -> bool
     ensures { result ≡ is_cormonitor kind }
 {
-    match kind {
-        Kind::Class => false,
-        Kind::Coroutine => false,
-        Kind::Monitor => false,
-        Kind::Cormonitor => true,
-        Kind::Task => false,
-        Kind::Event => false,
-    }
+    matches!(kind, Kind::Cormonitor)
 }
 
 /// Whether it is a task.
 pub fn is_task(kind: Kind) -> bool
     ensures { result ≡ is_task kind }
 {
-    match kind {
-        Kind::Class => false,
-        Kind::Coroutine => false,
-        Kind::Monitor => false,
-        Kind::Cormonitor => false,
-        Kind::Task => true,
-        Kind::Event => false,
-    }
+    matches!(kind, Kind::Task)
 }
 
 /// Whether its objects are no mutex objects.
 pub fn is_plain_kind(kind: Kind) -> bool
     ensures { result ≡ is_plain_kind kind }
 {
-    match kind {
-        Kind::Class => true,
-        Kind::Coroutine => true,
-        Kind::Monitor => false,
-        Kind::Cormonitor => false,
-        Kind::Task => false,
-        Kind::Event => false,
-    }
+    matches!(kind, Kind::Class | Kind::Coroutine)
 }
 
 /// Whether it has a main.
 pub fn has_main(kind: Kind) -> bool
     ensures { result ≡ has_main kind }
 {
-    match kind {
-        Kind::Class => false,
-        Kind::Coroutine => true,
-        Kind::Monitor => false,
-        Kind::Cormonitor => true,
-        Kind::Task => true,
-        Kind::Event => false,
-    }
+    matches!(kind, Kind::Coroutine | Kind::Cormonitor | Kind::Task)
 }
 
 /// Whether it is public.
 pub fn is_public(access: Access) -> bool
     ensures { result ≡ is_public access }
 {
-    match access {
-        Access::Public => true,
-        Access::Private => false,
-        Access::Protected => false,
-    }
+    matches!(access, Access::Public)
 }
 
 /// Whether it is neither a constructor nor a destructor.
 pub fn is_plain(role: Role) -> bool
     ensures { result ≡ is_plain role }
 {
-    match role {
-        Role::Plain => true,
-        Role::Constructor => false,
-        Role::Destructor => false,
-    }
+    matches!(role, Role::Plain)
 }
 
 /// Whether it is a constructor.
 pub fn is_constructor(role: Role) -> bool
     ensures { result ≡ is_constructor role }
 {
-    match role {
-        Role::Plain => false,
-        Role::Constructor => true,
-        Role::Destructor => false,
-    }
+    matches!(role, Role::Constructor)
 }
 
 /// Whether it is a destructor.
 pub fn is_destructor(role: Role) -> bool
     ensures { result ≡ is_destructor role }
 {
-    match role {
-        Role::Plain => false,
-        Role::Constructor => false,
-        Role::Destructor => true,
-    }
+    matches!(role, Role::Destructor)
 }
 
 /// Whether it is marked `_Nomutex`.
 pub fn is_nomutex(mark: Mark) -> bool
     ensures { result ≡ is_nomutex mark }
 {
-    match mark {
-        Mark::Unmarked => false,
-        Mark::Mutex => false,
-        Mark::Nomutex => true,
-    }
+    matches!(mark, Mark::Nomutex)
 }
 
-fn is_exclusive(mark: Mark, access: Access) -> bool
+/// Whether it is a mutex member, where it may be one.
+pub fn is_exclusive(mark: Mark, access: Access) -> bool
     ensures { result ≡ is_exclusive mark access }
 {
     match mark {

@@ -68,8 +68,7 @@ fn is_simple_form(tables: &Tables, form: &MemberForm) -> bool
             declarators,
             ..
         } => are_simple(tables, base, declarators),
-        MemberForm::Routine { .. } => true,
-        MemberForm::Proto { .. } => true,
+        _ => true,
     }
 }
 
@@ -103,14 +102,8 @@ fn is_bare_object(tables: &Tables, sort: Sort) -> bool
     ensures { result ≡ is_bare_sort tables.now (Some sort) }
 {
     match sort {
-        Sort::Void => false,
-        Sort::Int => false,
-        Sort::Char => false,
-        Sort::Bool => false,
-        Sort::Condition => false,
-        Sort::Cluster => false,
-        Sort::Processor => false,
         Sort::Object { class, kind } => is_bare_class(tables, class, kind),
+        _ => false,
     }
 }
 
@@ -184,8 +177,7 @@ fn form_allows(
             declarators,
             ..
         } => fields_allow(tables, from, to, member, base, declarators),
-        MemberForm::Routine { .. } => true,
-        MemberForm::Proto { .. } => true,
+        _ => true,
     }
 }
 

@@ -3,7 +3,7 @@
 ghost use Rattle.std.specs.Prelude.{◌≡◌, ◌≤◌, IfOk, MatchOption, None, Some, length, map, option_and_then, slice_get, take};
 ghost use Rattle.uc_types.specs.Listings.{first_named};
 ghost use Rattle.uc_types.specs.Members.{numbered_in};
-ghost use Rattle.uc_types.specs.Outside.{constructors_in};
+ghost use Rattle.uc_types.specs.OuterConstructors.{constructors_in};
 ghost use Rattle.uc_tree.specs.Cells.{classes_of};
 ghost use Rattle.uc_tree.specs.Constants.{constants_of, value_of_name};
 ghost use Rattle.uc_tree.specs.Numbering.{mutex_members};
@@ -14,7 +14,7 @@ ghost use Rattle.uc_rules.specs.Names.{constructor_among, constructor_form, cons
 ghost use Rattle.uc_rules.specs.Scopes.{event_named, event_sort};
 ghost use Rattle.uc_rules.specs.Sorts.{class_at, class_named, sort_of};
 
-use crate::bases::Bases;
+use crate::bases::{Bases, is_given};
 use crate::directory::Directory;
 use crate::listing::{names_in_classes, names_outside, outer};
 use crate::members::{names_at, params_at, params_in_each};
@@ -22,8 +22,8 @@ use crate::outside::OuterConstructors;
 use crate::sort::is_constructor;
 use std::alloc::{AllocError, Global};
 use std::marker::Model;
+use uc_layout::sizes::Sizes;
 use uc_rules::rules::{Entity, Meant, Sort};
-use uc_sizes::sizes::Sizes;
 use uc_tree::class::{Class, Member, MemberForm, Routine, Sig};
 use uc_tree::declare::Declarator;
 use uc_tree::kinds::{Base, Param};
@@ -45,7 +45,7 @@ impl<'a> Model for Tables<'a> {
     ghost use Rattle.uc_tree.specs.Programs.{Program};
     ghost use Rattle.uc_tree.specs.ProgramCodes.{program_coded};
     ghost use Rattle.std.specs.Prelude.{map};
-    ghost use Rattle.uc_types.specs.Tabled.{AreMembers, IsListed};
+    ghost use Rattle.uc_types.specs.TableInvariant.{AreMembers, IsListed};
 
     ghost Value = { Program };
 
@@ -104,12 +104,9 @@ fn item_sig(item: &Item) -> Option<&Sig>
     ensures { MatchOption result (item_sig item.now ≡ None) (λ s. item_sig item.now ≡ Some s.now) }
 {
     match &item.form {
-        ItemForm::Class { .. } => None,
         ItemForm::Routine { routine } => Some(&routine.sig),
-        ItemForm::Constant { .. } => None,
         ItemForm::Proto { sig } => Some(sig),
-        ItemForm::Forward { .. } => None,
-        ItemForm::Using { .. } => None,
+        _ => None,
     }
 }
 
@@ -226,7 +223,7 @@ impl<'a> Tables<'a> {
     pub fn outer_named(&self, name: &Name) -> Option<Meant>
         ensures { result ≡ outer_named self.now name.now }
     {
-        if name.is(b"uUnhandled") {
+        if is_given(name) {
             return Some(outer(Entity::ClassName));
         }
         self.item_named(name)

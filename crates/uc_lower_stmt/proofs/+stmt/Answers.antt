@@ -12,9 +12,9 @@ use Rattle.uc_lower_stmt.proofs.Parting.{arm_no_other}
 use Rattle.uc_code.specs.declared.rows.Mark.{Mark}
 use Rattle.uc_code.specs.Drafts.{Draft}
 use Rattle.uc_lower_stmt.proofs.Stating.{stmt_is, arm_empty, arm_unasked, arm_evaluate, arm_declare, arm_print, arm_print_together, arm_read, arm_block, arm_if, arm_while, arm_do, arm_for_stmt, arm_break, arm_continue, arm_return, built_at, exit_few, sizes_at_item}
-use Rattle.uc_lower_stmt.proofs.Raising.{arm_resumed, arm_thrown}
+use Rattle.uc_lower_stmt.proofs.RaisingLemmas.{arm_resumed, arm_thrown}
 use Rattle.uc_lower_stmt.proofs.Switches.{arm_resume, arm_suspend}
-use Rattle.uc_lower_stmt.proofs.Handling.{arm_catches, arm_resumes, handler_done, listed, more_laid, none_laid}
+use Rattle.uc_lower_stmt.proofs.HandlingLemmas.{arm_catches, arm_resumes, handler_done, listed, more_laid, none_laid}
 use Rattle.uc_lower_stmt.proofs.Fitting.{HandlersFit, behind_fits, handlers_bare, handlers_fit, parts_built, rest_bare, rest_fits_in, rest_less, try_asks, try_fits}
 use Rattle.uc_lower_stmt.proofs.Tried.{arm_tried, arm_try}
 use Rattle.uc_resolve.specs.Resolve.{takes_resumptions}
@@ -26,7 +26,7 @@ use Rattle.uc_tree.specs.declared.limits.TheConstants.{FRAME_CELLS, PROGRAM_OPS,
 use Rattle.uc_tree.specs.Exits.{for_declares}
 use Rattle.uc_tree.specs.Sizes.{size_at}
 use Rattle.uc_tree.specs.StatementForms.{stmt_at}
-use Rattle.uc_code.specs.Laid.{routine_in}
+use Rattle.uc_code.specs.Layout.{routine_in}
 use Rattle.uc_lower_stmt.specs.Control.{DeclaresObjects, maybe_at_size}
 use Rattle.uc_lower_stmt.specs.Marked.{objects_in, taken}
 use Rattle.uc_lower_expr.proofs.Knowing.{plain_within}
@@ -66,11 +66,11 @@ stmt::lower_stmts-returns t c = list_ended c.args.names.now c.args.line (length 
 
 pub stmt::lower_next-returns-in_ok-lower_objects-in-Some : goal.stmt::lower_next-returns-in_ok-lower_objects-in-Some
 stmt::lower_next-returns-in_ok-lower_objects-in-Some t c =
-    arm_next_objects c.args.names.now c.args.line c.s.inside.pos c.s.inside.form c.args.s.now c.in-Some.declared _ _ c.s.view_is (subst (λ o. DeclaresObjects c.args.names.now (stmt_at c.s.inside.pos c.s.inside.form) o) c.in-Some.is (c.declared_in.ensures c.s.inside.pos)) c.in_ok-lower_objects-in-Some.ensures
+    arm_next_objects c.args.names.now c.args.line c.s.inside.pos c.s.inside.form c.args.s.now c.in-Some.declared _ _ c.fit.ensures c.requires.built c.s.view_is (subst (λ o. DeclaresObjects c.args.names.now (stmt_at c.s.inside.pos c.s.inside.form) o) c.in-Some.is (c.declared_in.ensures c.s.inside.pos)) c.in_ok-lower_objects-in-Some.ensures
 
 pub stmt::lower_next-returns-in_ok-lower_stmt-in-None : goal.stmt::lower_next-returns-in_ok-lower_stmt-in-None
 stmt::lower_next-returns-in_ok-lower_stmt-in-None t c =
-    arm_next c.args.names.now c.args.line c.args.s.now _ _ (subst (λ u. DeclaresObjects c.args.names.now u None) c.s.view_is (subst (λ o. DeclaresObjects c.args.names.now (stmt_at c.s.inside.pos c.s.inside.form) o) c.in-None.is (c.declared_in.ensures c.s.inside.pos))) c.in_ok-lower_stmt-in-None.ensures
+    arm_next c.args.names.now c.args.line c.args.s.now _ _ c.fit.ensures c.requires.built (subst (λ u. DeclaresObjects c.args.names.now u None) c.s.view_is (subst (λ o. DeclaresObjects c.args.names.now (stmt_at c.s.inside.pos c.s.inside.form) o) c.in-None.is (c.declared_in.ensures c.s.inside.pos))) c.in_ok-lower_stmt-in-None.ensures
 
 pub stmt::lower_next-lower_objects-requires-clause-class : goal.stmt::lower_next-lower_objects-requires-clause-class
 stmt::lower_next-lower_objects-requires-clause-class t c =

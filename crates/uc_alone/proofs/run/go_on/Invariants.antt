@@ -2,10 +2,10 @@ use Rattle.std.proofs.Common.{◌≤◌, ◌<◌, ◌-◌, length}
 use Rattle.uc_tree.specs.Source.{Source}
 use Rattle.uc_entry.specs.declared.request.Answer.TheVariants as answer
 use Rattle.uc_machine.specs.Quiet.{State}
-use Rattle.uc_code.specs.Laid.{laid_of}
+use Rattle.uc_code.specs.Layout.{laid_of}
 use Rattle.uc_code.specs.Lowered.{Lowered}
 use Rattle.uc_frames.specs.Stands.{Stands}
-use Rattle.uc_step.specs.Falls.{Keeps}
+use Rattle.uc_step.specs.WeightFalls.{Keeps}
 use Rattle.uc_alone.specs.Alone.{Going, Tells}
 use Rattle.uc_alone.specs.Loop.{Reached}
 use Rattle.uc_alone.proofs.run.go_on.Given as goal

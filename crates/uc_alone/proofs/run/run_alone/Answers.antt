@@ -1,7 +1,7 @@
 use Rattle.std.proofs.Common.{sym, subst, false}
 use Rattle.std.specs.Prelude.{MatchOption}
 use Rattle.uc_entry.specs.declared.request.Answer.TheVariants as answer
-use Rattle.uc_code.specs.Laid.{laid_of}
+use Rattle.uc_code.specs.Layout.{laid_of}
 use Rattle.uc_frames.specs.Stands.{Stands}
 use Rattle.uc_alone.specs.Alone.{start, Going, Tells}
 use Rattle.uc_alone.specs.Run.{KeptByAll}

@@ -1,7 +1,7 @@
 use Rattle.std.proofs.Common.{ap, ◌∙◌}
 use Rattle.uc_rules.specs.Names.{place_in}
 use Rattle.uc_rules.specs.Visits.{AtField}
-use Rattle.uc_types.specs.Told.{told_owners}
+use Rattle.uc_types.specs.FirstBreak.{told_owners}
 use Rattle.uc_classes.proofs.ask.ask_field.Goals as goal
 
 pub returns : goal.returns

@@ -1,6 +1,6 @@
 use Rattle.std.proofs.Common.{ap, ◌∙◌}
 use Rattle.uc_rules.specs.Visits.{AtItem}
-use Rattle.uc_types.specs.Told.{told}
+use Rattle.uc_types.specs.FirstBreak.{told}
 use Rattle.uc_classes.proofs.ask.ask_item.Goals as goal
 
 pub returns : goal.returns

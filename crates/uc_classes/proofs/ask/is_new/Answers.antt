@@ -8,5 +8,5 @@ pub returns : goal.returns
 returns c =
     let class = c.args.walked.class.now in
     let member = c.args.listed.member in
-    c.is_new_field-new.ensures class (ap (λ p. class_at p c.args.walked.home.class) c.tables.ensures ∙ c.requires.walks.at)
+    c.is_new_field-new.ensures (ap (λ p. class_at p c.args.walked.home.class) c.tables.ensures ∙ c.requires.walks.at)
     ∙ ap (λ d. is_new_field class (place_in member c.args.index) (fields_at class member) d.name) c.declarator.view_is

@@ -2,7 +2,7 @@ use Rattle.std.proofs.Common.{refl, [], ◌∷◌}
 use Rattle.uc_rules.specs.ProgramVisits.{params_visits}
 use Rattle.uc_rules.specs.Scopes.{with_param, with_params}
 use Rattle.uc_rules.specs.Visits.{AtBase, AtParam}
-use Rattle.uc_bodies.proofs.Walks.{names_more, walked_more}
+use Rattle.uc_check_stmt.proofs.Walks.{names_more, walked_more}
 use Rattle.uc_classes.proofs.body.check_params.Goals as goal
 
 pub loop-param-preserved : goal.loop-param-preserved

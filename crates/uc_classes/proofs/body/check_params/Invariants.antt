@@ -1,7 +1,7 @@
 use Rattle.std.proofs.Common.{◌≡◌, drop}
 use Rattle.uc_rules.specs.ProgramVisits.{params_visits}
 use Rattle.uc_rules.specs.Scopes.{with_params}
-use Rattle.uc_types.specs.Told.{noted}
+use Rattle.uc_types.specs.FirstBreak.{noted}
 use Rattle.uc_classes.proofs.body.check_params.Given as goal
 
 abbrev pub invariant-loop-param : goal.invariant-loop-param

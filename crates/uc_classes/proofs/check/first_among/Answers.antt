@@ -1,7 +1,7 @@
 use Rattle.std.proofs.Common.{None, ap, ◌∙◌}
 use Rattle.uc_rules.specs.ProgramVisits.{items_visits, program_visits}
 use Rattle.uc_rules.specs.Visits.{AtProgram}
-use Rattle.uc_types.specs.Told.{noted, told}
+use Rattle.uc_types.specs.FirstBreak.{noted, told}
 use Rattle.uc_types.proofs.Noted.{noted_is}
 use Rattle.uc_classes.proofs.check.first_among.Goals as goal
 

@@ -1,6 +1,6 @@
 use Rattle.std.proofs.Common.{◌≡◌, drop}
 use Rattle.uc_rules.specs.ProgramVisits.{fields_visits}
-use Rattle.uc_types.specs.Told.{noted}
+use Rattle.uc_types.specs.FirstBreak.{noted}
 use Rattle.uc_classes.proofs.class.check_fields.Given as goal
 
 abbrev pub invariant-loop-index : goal.invariant-loop-index

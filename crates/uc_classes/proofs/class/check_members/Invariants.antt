@@ -1,6 +1,6 @@
 use Rattle.std.proofs.Common.{◌≡◌, drop}
 use Rattle.uc_rules.specs.ProgramVisits.{members_visits}
-use Rattle.uc_types.specs.Told.{noted}
+use Rattle.uc_types.specs.FirstBreak.{noted}
 use Rattle.uc_classes.proofs.class.check_members.Given as goal
 
 abbrev pub invariant-loop-place : goal.invariant-loop-place

@@ -5,10 +5,16 @@ use Rattle.uc_rules.specs.ProgramVisits.{argument_env}
 use Rattle.uc_rules.specs.Scopes.{with_around}
 use Rattle.uc_rules.specs.Visits as visit
 use Rattle.uc_rules.specs.Visits.{AtArgument, AtBound}
-use Rattle.uc_types.specs.Told.{noted, told}
-use Rattle.uc_bodies.proofs.Joined.{noted_append}
+use Rattle.uc_types.specs.FirstBreak.{noted, told}
+use Rattle.uc_check_stmt.proofs.Joined.{noted_append}
+use Rattle.uc_classes.proofs.Inside.{same_inside}
 use Rattle.uc_classes.proofs.Walked.{back_around}
 use Rattle.uc_classes.proofs.init.check_init_arg.Goals as goal
+
+pub returns-clause-entity : goal.returns-clause-entity
+returns-clause-entity c =
+    let e = c.args.e.now in
+    c.check_expr-entity.ensures.entity ∙ ap (λ n. entity_of n e) c.enter_argument.ensures ∙ same_inside c.args.names.now c.args.field e c.args.expected
 
 pub returns-clause-breaks : goal.returns-clause-breaks
 returns-clause-breaks c =

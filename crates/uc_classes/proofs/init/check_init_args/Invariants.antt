@@ -1,7 +1,7 @@
 use Rattle.std.proofs.Common.{◌≡◌, drop}
 use Rattle.uc_tree.specs.Expressions.{exprs_of}
 use Rattle.uc_rules.specs.ProgramVisits.{init_args_visits}
-use Rattle.uc_types.specs.Told.{noted}
+use Rattle.uc_types.specs.FirstBreak.{noted}
 use Rattle.uc_classes.proofs.init.check_init_args.Given as goal
 
 abbrev pub invariant-loop-place : goal.invariant-loop-place

@@ -1,7 +1,7 @@
 use Rattle.std.proofs.Common.{◌≡◌, [], ◌∷◌, ◌++◌, refl, ap, ◌∙◌}
 use Rattle.uc_rules.specs.ProgramVisits.{field_of, init_args_visits, init_target, inits_visits, last_field}
 use Rattle.uc_rules.specs.Visits.{AtInit}
-use Rattle.uc_types.specs.Told.{noted}
+use Rattle.uc_types.specs.FirstBreak.{noted}
 use Rattle.uc_classes.proofs.Walked.{walked_by}
 use Rattle.uc_classes.proofs.init.check_inits.Goals as goal
 

@@ -1,6 +1,6 @@
 use Rattle.std.proofs.Common.{◌≡◌, None, drop}
 use Rattle.uc_rules.specs.ProgramVisits.{inits_visits}
-use Rattle.uc_types.specs.Told.{noted}
+use Rattle.uc_types.specs.FirstBreak.{noted}
 use Rattle.uc_classes.proofs.init.check_inits.Given as goal
 
 abbrev pub invariant-loop-init : goal.invariant-loop-init

@@ -1,8 +1,8 @@
 use Rattle.std.proofs.Common.{ℕ, ◌+◌, ◌∷◌, drop, refl, ap, subst, sym, arith}
 use Rattle.uc_rules.specs.ProgramVisits.{classes_in, item_visits, items_visits}
 use Rattle.uc_rules.specs.Visits.{AtItem}
-use Rattle.uc_types.specs.Told.{noted}
-use Rattle.uc_bodies.proofs.Walks.{split}
+use Rattle.uc_types.specs.FirstBreak.{noted}
+use Rattle.uc_check_stmt.proofs.Walks.{split}
 use Rattle.uc_classes.specs.Counted.{StandBefore, events_in}
 use Rattle.uc_classes.proofs.Counts.{stand_first, item_more, item_at}
 use Rattle.uc_classes.proofs.Walked.{walked_by}

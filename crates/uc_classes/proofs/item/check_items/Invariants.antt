@@ -1,6 +1,6 @@
 use Rattle.std.proofs.Common.{◌≡◌, ◌≤◌, drop}
 use Rattle.uc_rules.specs.ProgramVisits.{items_visits}
-use Rattle.uc_types.specs.Told.{noted}
+use Rattle.uc_types.specs.FirstBreak.{noted}
 use Rattle.uc_classes.specs.Counted.{StandBefore}
 use Rattle.uc_classes.proofs.item.check_items.Given as goal
 

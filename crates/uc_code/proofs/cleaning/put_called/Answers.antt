@@ -1,6 +1,6 @@
 use Rattle.std.proofs.Common.{Bool, sym, subst, arith}
 use Rattle.uc_code.specs.Lowered.{CalledAt}
-use Rattle.uc_code.specs.Puts.{Puts}
+use Rattle.uc_code.specs.Emits.{Puts}
 use Rattle.uc_code.proofs.Putting.{puts_more, puts_behind}
 use Rattle.uc_code.proofs.cleaning.put_called.Goals as goal
 

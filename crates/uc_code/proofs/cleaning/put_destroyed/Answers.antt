@@ -1,7 +1,7 @@
 use Rattle.std.proofs.Common.{Option, sym, subst, arith}
 use Rattle.uc_code.specs.declared.rows.Array.{Array}
 use Rattle.uc_code.specs.Lowered.{CleanBy}
-use Rattle.uc_code.specs.Puts.{Puts}
+use Rattle.uc_code.specs.Emits.{Puts}
 use Rattle.uc_code.proofs.Putting.{puts_more}
 use Rattle.uc_code.proofs.cleaning.put_destroyed.Goals as goal
 

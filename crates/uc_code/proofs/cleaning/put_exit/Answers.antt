@@ -3,10 +3,10 @@ use Rattle.std.proofs.lemmas.List.{length-reverse}
 use Rattle.uc_tree.specs.declared.limits.TheConstants.{PROGRAM_OPS}
 use Rattle.uc_code.specs.declared.op.Op.{Op}
 use Rattle.uc_code.specs.declared.rows.Mark.{Mark}
-use Rattle.uc_code.specs.Ranges.{One}
+use Rattle.uc_code.specs.CodeShapes.{One}
 use Rattle.uc_code.specs.Drafts.{Draft}
-use Rattle.uc_code.specs.Leaving.{way_of}
-use Rattle.uc_code.specs.Puts.{Puts, Leaves, outermost, end_op}
+use Rattle.uc_code.specs.Exits.{way_of}
+use Rattle.uc_code.specs.Emits.{Puts, Leaves, outermost, end_op}
 use Rattle.uc_code.proofs.Exiting.{Passing, passes_none, leaves_none}
 use Rattle.uc_code.proofs.Ways.{outermost_all, outermost_next, leaves_room, exit_ends, exit_bare, past_room_left, past_behind, passes_past, leaves_past}
 use Rattle.uc_code.proofs.cleaning.put_exit.Goals as goal

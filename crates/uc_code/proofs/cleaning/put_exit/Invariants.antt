@@ -1,6 +1,6 @@
 use Rattle.std.proofs.Common.{◌≤◌, length}
-use Rattle.uc_code.specs.Leaving.{way_of}
-use Rattle.uc_code.specs.Puts.{Leaves, outermost}
+use Rattle.uc_code.specs.Exits.{way_of}
+use Rattle.uc_code.specs.Emits.{Leaves, outermost}
 use Rattle.uc_code.proofs.Exiting.{Passing}
 use Rattle.uc_code.proofs.cleaning.put_exit.Given as goal
 

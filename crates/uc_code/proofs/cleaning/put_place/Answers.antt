@@ -2,8 +2,8 @@ use Rattle.std.proofs.Common.{Option, sym, subst, arith}
 use Rattle.uc_code.specs.declared.op.Op.{Op}
 use Rattle.uc_code.specs.declared.rows.Array.{Array}
 use Rattle.uc_code.specs.Lowered.{SpotAt}
-use Rattle.uc_code.specs.Puts.{Puts}
-use Rattle.uc_code.specs.Ranges.{One}
+use Rattle.uc_code.specs.Emits.{Puts}
+use Rattle.uc_code.specs.CodeShapes.{One}
 use Rattle.uc_code.proofs.Putting.{puts_more}
 use Rattle.uc_code.proofs.cleaning.put_place.Goals as goal
 

@@ -1,6 +1,6 @@
 use Rattle.std.proofs.Common.{◌≡◌, ◌<◌, ℕ, List, length}
 use Rattle.uc_code.specs.declared.rows.Mark.{Mark}
-use Rattle.uc_code.specs.Laid.{guards}
+use Rattle.uc_code.specs.Layout.{guards}
 use Rattle.uc_code.proofs.GuardRows.{GuardClosing}
 use Rattle.uc_code.proofs.guarding.close_guards.Given as goal
 

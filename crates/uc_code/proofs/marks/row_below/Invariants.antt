@@ -1,6 +1,6 @@
 use Rattle.std.proofs.Common.{◌≡◌, ◌≤◌, length, reverse, take}
-use Rattle.uc_code.specs.Laid.{under, handlers}
-use Rattle.uc_code.specs.Open.{first_in}
+use Rattle.uc_code.specs.Layout.{under, handlers}
+use Rattle.uc_code.specs.OpenRows.{first_in}
 use Rattle.uc_code.proofs.marks.row_below.Given as goal
 
 abbrev pub invariant-loop-i : goal.invariant-loop-i

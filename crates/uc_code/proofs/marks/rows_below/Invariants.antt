@@ -1,5 +1,5 @@
 use Rattle.std.proofs.Common.{◌≡◌, ◌+◌, ◌≤◌, length, reverse, take}
-use Rattle.uc_code.specs.Laid.{under, handlers}
+use Rattle.uc_code.specs.Layout.{under, handlers}
 use Rattle.uc_code.proofs.marks.rows_below.Given as goal
 
 abbrev pub invariant-loop-i : goal.invariant-loop-i

@@ -1,5 +1,5 @@
 use Rattle.std.proofs.Common.{◌≡◌, ◌≤◌, drop, length}
-use Rattle.uc_code.specs.Tables.{covering_from}
+use Rattle.uc_code.specs.RowTable.{covering_from}
 use Rattle.uc_code.proofs.table.covering.Given as goal
 
 abbrev pub invariant-loop-name : goal.invariant-loop-name

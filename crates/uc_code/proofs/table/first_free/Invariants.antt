@@ -1,5 +1,5 @@
 use Rattle.std.proofs.Common.{◌-◌, length}
-use Rattle.uc_code.specs.Tables.{Seeking}
+use Rattle.uc_code.specs.RowTable.{Seeking}
 use Rattle.uc_code.proofs.table.first_free.Given as goal
 
 abbrev pub invariant-loop-at : goal.invariant-loop-at

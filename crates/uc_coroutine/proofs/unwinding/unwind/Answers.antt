@@ -1,4 +1,4 @@
-use Rattle.uc_code.specs.Laid.{laid_of}
+use Rattle.uc_code.specs.Layout.{laid_of}
 use Rattle.uc_coroutine.proofs.Unwound.{unwinds}
 use Rattle.uc_coroutine.proofs.unwinding.unwind.Goals as goal
 

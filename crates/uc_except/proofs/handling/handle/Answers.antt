@@ -1,7 +1,7 @@
 use Rattle.std.proofs.Common.{rules, ◌≡◌, ◌∷◌, None, ap, sym, ◌∙◌}
-use Rattle.uc_code.specs.Laid.{laid_of}
+use Rattle.uc_code.specs.Layout.{laid_of}
 use Rattle.uc_machine.specs.Raising as raising
-use Rattle.uc_except.specs.Finding.{resumed}
+use Rattle.uc_except.specs.RowSearch.{resumed}
 use Rattle.uc_except.specs.Handling.{handler_begun}
 use Rattle.uc_except.proofs.Handled.{catches_now, resumes_now, same_event, event_fields, begun_as}
 use Rattle.uc_except.proofs.handling.handle.Goals as goal

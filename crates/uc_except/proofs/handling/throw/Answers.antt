@@ -1,6 +1,6 @@
 use Rattle.std.proofs.Common.{rules, ◌∷◌, None, ap, sym, ◌∙◌}
 use Rattle.uc_machine.specs.Raising as raising
-use Rattle.uc_except.specs.Finding.{resumed}
+use Rattle.uc_except.specs.RowSearch.{resumed}
 use Rattle.uc_except.specs.Handling.{thrown}
 use Rattle.uc_except.proofs.Thrown.{reason_by, thrown_as, throws_now, resumes_none}
 use Rattle.uc_except.proofs.handling.throw.Goals as goal

@@ -1,9 +1,9 @@
 use Rattle.std.proofs.Common.{◌≡◌, ◌∷◌, None, ap, sym, subst, ◌∙◌}
 use Rattle.std.specs.Prelude.{if◌then◌else◌}
 use Rattle.uc_machine.specs.Raising.{seek}
-use Rattle.uc_code.specs.Laid.{laid_of}
-use Rattle.uc_except.specs.Finding.{resumed, caught}
-use Rattle.uc_except.specs.Meeting.{FoundAs, CaughtAs, catcher}
+use Rattle.uc_code.specs.Layout.{laid_of}
+use Rattle.uc_except.specs.RowSearch.{resumed, caught}
+use Rattle.uc_except.specs.FoundAgrees.{FoundAs, CaughtAs, catcher}
 use Rattle.uc_except.proofs.Catches.{catches_as}
 use Rattle.uc_except.proofs.Seeks.{seeks}
 use Rattle.uc_except.proofs.seeking.propagate.Goals as goal

@@ -1,5 +1,5 @@
 use Rattle.std.proofs.Common.{arith, ◌≡◌, ◌∷◌, ◌-◌, ◌+◌, ◌<◌, suc, Some, length, ap, sym, ◌∙◌}
-use Rattle.uc_except.specs.Finding.{resumed_from}
+use Rattle.uc_except.specs.RowSearch.{resumed_from}
 use Rattle.uc_except.proofs.Levels.{oldest, resumed_found, resumed_past, resumed_further, resumed_nowhere}
 use Rattle.uc_except.proofs.seeking.resumption.Goals as goal
 

@@ -1,5 +1,5 @@
 use Rattle.std.proofs.Common.{◌≡◌, ◌≤◌, ◌∷◌, None, length}
-use Rattle.uc_except.specs.Finding.{resumed, resumed_from}
+use Rattle.uc_except.specs.RowSearch.{resumed, resumed_from}
 use Rattle.uc_except.proofs.Levels.{oldest}
 use Rattle.uc_except.proofs.seeking.resumption.Given as goal
 

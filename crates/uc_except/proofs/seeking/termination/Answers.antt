@@ -1,5 +1,5 @@
 use Rattle.std.proofs.Common.{arith, ◌≡◌, ◌∷◌, ◌-◌, ◌<◌, suc, length, ap, sym, ◌∙◌}
-use Rattle.uc_except.specs.Finding.{caught}
+use Rattle.uc_except.specs.RowSearch.{caught}
 use Rattle.uc_except.proofs.Levels.{oldest, caught_found, caught_step}
 use Rattle.uc_except.proofs.seeking.termination.Goals as goal
 

@@ -1,5 +1,5 @@
 use Rattle.std.proofs.Common.{◌≡◌, ◌≤◌, ◌∷◌, length}
-use Rattle.uc_except.specs.Finding.{caught}
+use Rattle.uc_except.specs.RowSearch.{caught}
 use Rattle.uc_except.proofs.Levels.{oldest}
 use Rattle.uc_except.proofs.seeking.termination.Given as goal
 

@@ -1,7 +1,7 @@
 use Rattle.std.proofs.Common.{◌≡◌, ◌+◌, ap, ◌∙◌, drop, length, arith}
 use Rattle.uc_tree.specs.Cells.{classes_of}
 use Rattle.uc_rules.specs.ProgramVisits.{classes_in}
-use Rattle.uc_bodies.proofs.Walks.{split}
+use Rattle.uc_check_stmt.proofs.Walks.{split}
 use Rattle.uc_front.proofs.PlaceLemmas.{classes_more}
 use Rattle.uc_front.proofs.item.count_classes.Goals as goal
 

@@ -1,6 +1,6 @@
 use Rattle.std.proofs.Common.{refl}
 use Rattle.uc_rules.specs.Scopes.{with_param, with_params}
-use Rattle.uc_bodies.proofs.Walks.{names_more}
+use Rattle.uc_check_stmt.proofs.Walks.{names_more}
 use Rattle.uc_front.proofs.walk.add_params.Goals as goal
 
 pub loop-param-preserved : goal.loop-param-preserved

@@ -1,6 +1,6 @@
 use Rattle.std.proofs.Common.{refl}
 use Rattle.uc_rules.specs.Scopes.{declared, all_declared}
-use Rattle.uc_bodies.proofs.Walks.{names_more}
+use Rattle.uc_check_stmt.proofs.Walks.{names_more}
 use Rattle.uc_front.proofs.walk.declare_all.Goals as goal
 
 pub loop-declarator-preserved : goal.loop-declarator-preserved

@@ -1,7 +1,7 @@
 use Rattle.std.proofs.Common.{refl}
 use Rattle.uc_tree.specs.Statements.{stmts_of}
 use Rattle.uc_rules.specs.Scopes.{env_after, env_behind}
-use Rattle.uc_bodies.proofs.Walks.{names_more}
+use Rattle.uc_check_stmt.proofs.Walks.{names_more}
 use Rattle.uc_front.proofs.walk.pass_all.Goals as goal
 
 pub loop-s-preserved : goal.loop-s-preserved

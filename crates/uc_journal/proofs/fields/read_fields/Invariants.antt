@@ -1,7 +1,6 @@
-use Rattle.std.proofs.Common.{length, take}
 use Rattle.uc_journal.proofs.Numbers.{ReadSo}
 use Rattle.uc_journal.proofs.fields.read_fields.Given as goal
 
--- the fields so far are those of the text, and so are those that are left
+-- the numbers so far are those of the text, and so are those that are left
 abbrev pub invariant-loop-i : goal.invariant-loop-i
-invariant-loop-i l = ReadSo l.text l.rest (take l.i l.values) (length l.values) l.i
+invariant-loop-i l = ReadSo l.text l.rest l.values l.count l.i

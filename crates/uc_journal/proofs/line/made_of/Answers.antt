@@ -12,3 +12,6 @@ overflow_cast-result-4 c = word_fits _ (front_at c.args.kind c.args.values.now c
 
 pub returns-clause-fields : goal.returns-clause-fields
 returns-clause-fields c = made_again c.args.kind c.args.values.now c.told-values c.requires
+
+pub overflow_cast-result-5 : goal.overflow_cast-result-5
+overflow_cast-result-5 c = word_fits _ (front_at c.args.kind c.args.values.now c.told-values c.requires).line

@@ -1,8 +1,8 @@
 use Rattle.std.proofs.Common.{sym, ◌∙◌, subst, arith}
 use Rattle.uc_acts.specs.Acts.{act}
-use Rattle.uc_kernel.specs.Kept.{kept, put_back, stored}
+use Rattle.uc_kernel.specs.KernelState.{kept, put_back, stored}
 use Rattle.uc_kernel.specs.Calls.{Follows}
-use Rattle.uc_kernel.specs.Shelves.{Lies, earlier}
+use Rattle.uc_kernel.specs.AtRest.{Lies, earlier}
 use Rattle.uc_kernel.proofs.Making.{known, ended_made, small_made, few_made, lies_on_made, follows_made}
 use Rattle.uc_kernel.proofs.kernel.follow_make.Goals as goal
 

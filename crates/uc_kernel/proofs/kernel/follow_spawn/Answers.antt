@@ -2,9 +2,9 @@ use Rattle.std.proofs.Common.{sym, ap, ◌∙◌, subst, Some, arith, not}
 use Rattle.std.specs.Prelude.{slice_set}
 use Rattle.uc_acts.specs.Acts.{act}
 use Rattle.uc_acts.specs.Journal.{is_over}
-use Rattle.uc_kernel.specs.Kept.{kept, put_back, stored}
+use Rattle.uc_kernel.specs.KernelState.{kept, put_back, stored}
 use Rattle.uc_kernel.specs.Calls.{Ends, Follows}
-use Rattle.uc_kernel.specs.Shelves.{earlier}
+use Rattle.uc_kernel.specs.AtRest.{earlier}
 use Rattle.uc_kernel.proofs.Hands.{no_both}
 use Rattle.uc_kernel.proofs.Spawning.{sound_spawn, runs_spawn, known_spawn, apart_spawn, elsewhere_spawn, over_without, ended_without, known_with, ended_with, done_with, brings_one}
 use Rattle.uc_kernel.proofs.Finishing.{follows, lies_on, small, few, known_then}

@@ -1,6 +1,6 @@
 use Rattle.std.proofs.Common.{refl, sym, ◌∙◌}
 use Rattle.std.proofs.lemmas.Bool.{eq-eqb, ne_eqb}
-use Rattle.uc_kernel.specs.Shelves.{own}
+use Rattle.uc_kernel.specs.AtRest.{own}
 use Rattle.uc_kernel.proofs.Places.{get_any, let_another}
 use Rattle.uc_kernel.proofs.rests.follow_admission.Goals as goal
 

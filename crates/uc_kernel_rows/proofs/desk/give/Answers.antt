@@ -1,5 +1,5 @@
-use Rattle.uc_kernel.specs.Kept.{kept}
-use Rattle.uc_kernel_rows.proofs.Desks.{desk_on, went_dispatched}
+use Rattle.uc_kernel.specs.KernelState.{kept}
+use Rattle.uc_kernel_rows.proofs.DesksLemmas.{desk_on, went_dispatched}
 use Rattle.uc_kernel_rows.proofs.desk.give.Goals as goal
 
 pub returns : goal.returns

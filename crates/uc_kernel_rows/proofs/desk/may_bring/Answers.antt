@@ -1,5 +1,5 @@
 use Rattle.std.proofs.Common.{sym, ◌∙◌}
-use Rattle.uc_kernel_rows.proofs.Desks.{ended_over}
+use Rattle.uc_kernel_rows.proofs.DesksLemmas.{ended_over}
 use Rattle.uc_kernel_rows.proofs.desk.may_bring.Goals as goal
 
 pub returns-in-None : goal.returns-in-None

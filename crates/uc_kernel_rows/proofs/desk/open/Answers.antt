@@ -1,5 +1,5 @@
 use Rattle.std.proofs.Common.{sym, ◌∙◌}
-use Rattle.uc_kernel_rows.proofs.Desks.{desk_opened}
+use Rattle.uc_kernel_rows.proofs.DesksLemmas.{desk_opened}
 use Rattle.uc_kernel_rows.proofs.desk.open.Goals as goal
 
 pub returns : goal.returns

@@ -2,8 +2,8 @@ use Rattle.std.proofs.Common.{ap, sym, ◌∙◌, arith}
 use Rattle.uc_tree.specs.Capped.{capped}
 use Rattle.uc_tree.specs.Cells.{routine_cells}
 use Rattle.uc_tree.specs.Numbering.{routines_of}
-use Rattle.uc_numbers.specs.declared.routines.Defined.{Defined as Found}
-use Rattle.uc_numbers.specs.Routines.{defined_at}
+use Rattle.uc_numbering.specs.declared.routines.Defined.{Defined as Found}
+use Rattle.uc_numbering.specs.Routines.{defined_at}
 use Rattle.uc_lower.proofs.Ending.{found_at, as_many}
 use Rattle.uc_lower.proofs.Refused.{none_before, before_step, all_fit, first_large}
 use Rattle.uc_lower.proofs.lower.large_frame.Goals as goal

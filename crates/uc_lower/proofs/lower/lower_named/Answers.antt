@@ -5,11 +5,11 @@ use Rattle.uc_tree.specs.Objects.{unwritten_of}
 use Rattle.uc_tree.specs.Programs.{Program}
 use Rattle.uc_built.specs.BuiltForms.{IsBuilt}
 use Rattle.uc_rules.specs.Breaks.{breaks_of}
-use Rattle.uc_unwritten.specs.Unwritten.{unwritten_as}
+use Rattle.uc_implicit.specs.Unwritten.{unwritten_as}
 use Rattle.uc_resolve.specs.Resolve.{source_of}
 use Rattle.uc_code.proofs.Paces.{lowered_paced}
-use Rattle.uc_lower.specs.Laying.{LaysAll}
-use Rattle.uc_lower.specs.Refusing.{Fits}
+use Rattle.uc_lower.specs.RoutineLayout.{LaysAll}
+use Rattle.uc_lower.specs.Refusals.{Fits}
 use Rattle.uc_lower.proofs.Ending.{as_many, whole, whole_few}
 use Rattle.uc_lower.proofs.Ruled.{fit_classes}
 use Rattle.uc_lower.proofs.lower.lower_named.Goals as goal
@@ -62,4 +62,4 @@ pub cells_of_classes-requires-clause-sizes : goal.cells_of_classes-requires-clau
 cells_of_classes-requires-clause-sizes c = c.sizes.ensures ∙ c.requires.names
 
 pub cells_of_classes-requires-clause-fit : goal.cells_of_classes-requires-clause-fit
-cells_of_classes-requires-clause-fit c = fit_classes c.args.program.now c.requires.unbroken
+cells_of_classes-requires-clause-fit c = fit_classes c.args.program.now c.requires.unbroken c.requires.built

@@ -3,7 +3,7 @@ use Rattle.std.proofs.lemmas.List.{length-map}
 use Rattle.uc_tree.specs.declared.kinds.Role.TheVariants as role
 use Rattle.uc_tree.specs.Cells.{classes_of}
 use Rattle.uc_tree.specs.Numbering.{Defined}
-use Rattle.uc_unwritten.specs.Unwritten.{number_of_class, unwritten_as}
+use Rattle.uc_implicit.specs.Unwritten.{number_of_class, unwritten_as}
 use Rattle.uc_lower.proofs.Numbered.{number_is}
 use Rattle.uc_lower.proofs.numbering.numbering_of.Goals as goal
 

@@ -1,5 +1,5 @@
 use Rattle.std.proofs.Common.{◌≡◌, ◌++◌, drop, map}
-use Rattle.uc_numbers.specs.Routines.{defined_at}
+use Rattle.uc_numbering.specs.Routines.{defined_at}
 use Rattle.uc_lower.proofs.numbering.routines_in.Given as goal
 
 abbrev pub invariant-loop-d : goal.invariant-loop-d

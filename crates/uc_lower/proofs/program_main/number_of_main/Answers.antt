@@ -1,5 +1,5 @@
 use Rattle.std.proofs.Common.{◌≡◌, ◌+◌, ◌^◌, ◌≤◌, ◌∷◌, drop, refl, sym, ◌∙◌, arith}
-use Rattle.uc_numbers.proofs.Listed.{drop_at}
+use Rattle.uc_numbering.proofs.Listed.{drop_at}
 use Rattle.uc_lower.proofs.Mained.{count_step, main_here, main_step}
 use Rattle.uc_lower.proofs.program_main.number_of_main.Goals as goal
 

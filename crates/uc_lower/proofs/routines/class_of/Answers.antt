@@ -2,7 +2,7 @@ use Rattle.std.proofs.Common.{◌≡◌, true, false, ap, sym, ◌∙◌}
 use Rattle.uc_tree.specs.Cells.{classes_of}
 use Rattle.uc_tree.specs.Programs.{Program, Sig}
 use Rattle.uc_tree.specs.Objects.{event_from}
-use Rattle.uc_numbers.specs.Routines.{defined_at}
+use Rattle.uc_numbering.specs.Routines.{defined_at}
 use Rattle.uc_lower_expr.specs.Events.{builds_event}
 use Rattle.uc_lower.proofs.Placed.{place_named, place_numbered}
 use Rattle.uc_lower.proofs.routines.class_of.Goals as goal

@@ -3,14 +3,14 @@ use Rattle.uc_tree.specs.Numbering.{routines_of}
 use Rattle.uc_tree.specs.Objects.{unwritten_of}
 use Rattle.uc_resolve.specs.Resolve.{unwritten_meant}
 use Rattle.uc_code.specs.declared.rows.RoutineCode.{RoutineCode}
-use Rattle.uc_code.specs.Laid.{laid_in}
+use Rattle.uc_code.specs.Layout.{laid_in}
 use Rattle.uc_code.specs.Lowered.{RoutineAt}
 use Rattle.std.specs.Prelude.{slice_get, slice_set}
-use Rattle.uc_unwritten.specs.Unwritten.{unwritten_as}
+use Rattle.uc_implicit.specs.Unwritten.{unwritten_as}
 use Rattle.uc_lower_class.specs.Bodies.{IsUnwritten}
-use Rattle.uc_lower.specs.Laying.{LaysAll, last_of}
+use Rattle.uc_lower.specs.RoutineLayout.{LaysAll, last_of}
 use Rattle.uc_lower.proofs.Ending.{unwritten_fits}
-use Rattle.uc_lower.proofs.Laying.{all_none, all_step}
+use Rattle.uc_lower.proofs.RoutineLayoutLemmas.{all_none, all_step}
 use Rattle.uc_lower.proofs.Silence.{last_few}
 use Rattle.uc_lower.proofs.Unwritten.{is_unwritten}
 use Rattle.uc_lower.proofs.routines.lower_all_unwritten.Goals as goal

@@ -1,7 +1,7 @@
 use Rattle.std.proofs.Common.{◌≡◌, ◌+◌, length}
 use Rattle.uc_tree.specs.Numbering.{routines_of}
 use Rattle.uc_tree.specs.Objects.{unwritten_of}
-use Rattle.uc_lower.specs.Laying.{LaysAll}
+use Rattle.uc_lower.specs.RoutineLayout.{LaysAll}
 use Rattle.uc_lower.proofs.routines.lower_all_unwritten.Given as goal
 
 abbrev pub invariant-loop-place : goal.invariant-loop-place

@@ -1,12 +1,12 @@
 use Rattle.std.proofs.Common.{◌+◌, ℕ, length, nat_eq, refl, sym, subst, ap, ◌∙◌, arith}
 use Rattle.uc_tree.specs.Numbering.{routines_of}
 use Rattle.uc_resolve.specs.Resolve.{place_by, routine_meant, routine_scope}
-use Rattle.uc_code.specs.Laid.{laid_in}
+use Rattle.uc_code.specs.Layout.{laid_in}
 use Rattle.uc_code.specs.Lowered.{RoutineAt}
 use Rattle.uc_lower_stmt.specs.Routines.{frame_cells}
-use Rattle.uc_numbers.specs.Routines.{defined_at}
+use Rattle.uc_numbering.specs.Routines.{defined_at}
 use Rattle.uc_lower.proofs.Ending.{Stands, found_at, as_many, follows, stands_none, stands_next}
-use Rattle.uc_lower.proofs.Laying.{lays_none}
+use Rattle.uc_lower.proofs.RoutineLayoutLemmas.{lays_none}
 use Rattle.uc_lower.proofs.Silence.{last_is}
 use Rattle.uc_lower.proofs.routines.lower_routines.Goals as goal
 

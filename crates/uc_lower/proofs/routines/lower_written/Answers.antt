@@ -2,10 +2,10 @@ use Rattle.std.proofs.Common.{◌≡◌, true, false, refl, sym, ap, ◌∙◌, 
 use Rattle.uc_tree.specs.Numbering.{is_plain}
 use Rattle.uc_tree.specs.Programs.{Sig}
 use Rattle.uc_resolve.specs.Resolve.{class_by}
-use Rattle.uc_numbers.specs.Routines.{defined_at}
+use Rattle.uc_numbering.specs.Routines.{defined_at}
 use Rattle.uc_lower_stmt.specs.Routines.{main_in}
 use Rattle.uc_lower_class.specs.Bodies.{builder_room}
-use Rattle.uc_lower.proofs.Laying.{placed_at, plain_room, builder_room_is}
+use Rattle.uc_lower.proofs.RoutineLayoutLemmas.{placed_at, plain_room, builder_room_is}
 use Rattle.uc_lower.proofs.routines.lower_written.Goals as goal
 
 pub lower_routine-requires-clause-plain : goal.lower_routine-requires-clause-plain

@@ -1,7 +1,7 @@
 use Rattle.std.proofs.Common.{ap, sym, subst}
 use Rattle.uc_code.specs.Drafts.{Draft}
-use Rattle.uc_code.specs.Laid.{routine_in}
-use Rattle.uc_unwritten.specs.Unwritten.{unwritten_as}
+use Rattle.uc_code.specs.Layout.{routine_in}
+use Rattle.uc_implicit.specs.Unwritten.{unwritten_as}
 use Rattle.uc_lower_class.specs.Fields.{FieldsBehind}
 use Rattle.uc_lower_class.proofs.Further.{unwritten_behind}
 use Rattle.uc_lower_class.proofs.Builders.{bare_is, unwritten_at}

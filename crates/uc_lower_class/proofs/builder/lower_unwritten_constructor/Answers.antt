@@ -4,7 +4,7 @@ use Rattle.uc_lower_class.proofs.Assembling.{from_none, parts_on, unwritten_buil
 use Rattle.uc_lower_class.proofs.builder.lower_unwritten_constructor.Goals as goal
 
 pub returns : goal.returns
-returns c = unwritten_built c.args.names.now c.args.class c.build_all.new.parts.items c.args.out.now c.build_all.new.out c.end_construction.new.out c.close_parts.new.out c.requires.nowhere (from_none c.new-parts.ensures.items c.in_ok-build_all.ensures) c.in_ok-end_construction.ensures c.in_ok-close_parts.ensures
+returns c = unwritten_built c.args.names.now c.fit.ensures c.args.class c.build_all.new.parts.items c.args.out.now c.build_all.new.out c.end_construction.new.out c.close_parts.new.out c.requires.nowhere (from_none c.new-parts.ensures.items c.in_ok-build_all.ensures) c.in_ok-end_construction.ensures c.in_ok-close_parts.ensures
 
 pub close_parts-requires-clause-parts : goal.close_parts-requires-clause-parts
 close_parts-requires-clause-parts c = parts_on c.build_all.new.parts.items c.args.out.now c.build_all.new.out c.end_construction.new.out (from_none c.new-parts.ensures.items c.in_ok-build_all.ensures) (ap (λ (d : Draft). d.marks) (c.in_ok-end_construction.ensures []).rest)

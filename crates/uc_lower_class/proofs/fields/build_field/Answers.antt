@@ -4,7 +4,7 @@ use Rattle.uc_tree.specs.Expressions.{exprs_of}
 use Rattle.uc_tree.specs.ExpressionSizes.{exprs_size}
 use Rattle.uc_resolve.specs.Resolve.{args_meant}
 use Rattle.uc_lower_expr.specs.Contexts.{context_in}
-use Rattle.uc_lower_class.specs.Pended.{end_room}
+use Rattle.uc_lower_class.specs.OpenParts.{end_room}
 use Rattle.uc_lower_class.proofs.Stepping.{built_here, class_few, none_here, nth_here, part_stands, room_here}
 use Rattle.uc_lower_class.proofs.fields.build_field.Goals as goal
 

@@ -2,7 +2,7 @@ use Rattle.std.proofs.Common.{rules, ◌≡◌, ◌<◌, length, map, ap, sym, s
 use Rattle.std.specs.Prelude.{slice_get, Some}
 use Rattle.uc_tree.specs.Programs.{Class}
 use Rattle.uc_tree.specs.Objects.{fields_of}
-use Rattle.uc_lower_stmt.specs.Scoped.{scope_of}
+use Rattle.uc_lower_stmt.specs.LowersStatement.{scope_of}
 use Rattle.uc_lower_class.specs.Fields.{FieldsBehind}
 use Rattle.uc_lower_class.proofs.Looping.{building_begin, building_end, name_at, names_long}
 use Rattle.uc_lower_class.proofs.Stepping.{build_turn, same_class, there_is, turn_room}

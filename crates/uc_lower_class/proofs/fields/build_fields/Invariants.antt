@@ -1,4 +1,4 @@
-use Rattle.uc_lower_stmt.specs.Scoped.{scope_of}
+use Rattle.uc_lower_stmt.specs.LowersStatement.{scope_of}
 use Rattle.uc_lower_class.proofs.Looping.{Building}
 use Rattle.uc_lower_class.proofs.fields.build_fields.Given as goal
 

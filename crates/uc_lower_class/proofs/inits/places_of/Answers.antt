@@ -1,8 +1,8 @@
 use Rattle.std.proofs.Common.{rules, ap, sym, subst, map, take, length, get_or, ◌∙◌, ◌≡◌, ◌<◌, ◌++◌, ◌∷◌, []}
 use Rattle.std.proofs.lemmas.List.{map_more}
 use Rattle.uc_tree.specs.Programs.{Init}
-use Rattle.uc_sizes.specs.Places.{IsPlaces}
-use Rattle.uc_sizes.proofs.PlacesLemmas.{length_taken}
+use Rattle.uc_layout.specs.Places.{IsPlaces}
+use Rattle.uc_layout.proofs.PlacesLemmas.{length_taken}
 use Rattle.uc_lower_class.proofs.inits.places_of.Goals as goal
 
 pub note_place-requires : goal.note_place-requires

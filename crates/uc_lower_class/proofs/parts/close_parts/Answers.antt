@@ -1,6 +1,6 @@
 use Rattle.std.proofs.Common.{rules, ◌≡◌, ◌+◌, [], reverse, ap, subst, arith}
-use Rattle.uc_code.specs.Puts.{clean_length}
-use Rattle.uc_lower_class.specs.Pended.{PartsIn, end_room}
+use Rattle.uc_code.specs.Emits.{clean_length}
+use Rattle.uc_lower_class.specs.OpenParts.{PartsIn, end_room}
 use Rattle.uc_lower_class.proofs.Assembling.{clean_some}
 use Rattle.uc_lower_class.proofs.Parting.{Ending, end_reverse, ending_begin, ending_end, ending_step, in_part, part_behind, reverse_pop}
 use Rattle.uc_lower_class.proofs.parts.close_parts.Goals as goal

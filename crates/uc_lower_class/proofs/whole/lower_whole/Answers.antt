@@ -5,10 +5,10 @@ use Rattle.uc_tree.specs.Scopes.{stmts_scopes}
 use Rattle.uc_tree.specs.StatementSizes.{stmts_size}
 use Rattle.uc_built.specs.BuiltForms.{are_built}
 use Rattle.uc_code.specs.Drafts.{Draft}
-use Rattle.uc_code.specs.Laid.{routine_in}
+use Rattle.uc_code.specs.Layout.{routine_in}
 use Rattle.uc_code.proofs.Sweeping.{closed_ops}
 use Rattle.uc_lower_stmt.specs.Marked.{objects_in}
-use Rattle.uc_lower_stmt.specs.Scoped.{sizes_at}
+use Rattle.uc_lower_stmt.specs.LowersStatement.{sizes_at}
 use Rattle.uc_lower_class.proofs.Wholes.{whole_laid}
 use Rattle.uc_lower_class.proofs.whole.lower_whole.Goals as goal
 

@@ -1,5 +1,5 @@
 use Rattle.std.proofs.Common.{◌≡◌, length, take}
-use Rattle.uc_sizes.specs.Places.{IsPlaces}
+use Rattle.uc_layout.specs.Places.{IsPlaces}
 use Rattle.uc_tree.specs.Cells.{classes_of}
 use Rattle.uc_tree.specs.Numbering.{event_names}
 use Rattle.uc_lower_expr.proofs.events.events_of.Given as goal

@@ -1,5 +1,5 @@
 use Rattle.std.proofs.Common.{rules, ◌≡◌, ◌+◌, ◌++◌, ◌∷◌, [], true, false, ap, sym, subst, ◌∙◌}
-use Rattle.uc_sizes.specs.Places.{IsPlaces}
+use Rattle.uc_layout.specs.Places.{IsPlaces}
 use Rattle.uc_tree.specs.Numbering.{is_event}
 use Rattle.uc_tree.specs.Programs.{Class}
 use Rattle.uc_lower_expr.proofs.Eventful.{event_noted, event_passed}

@@ -17,7 +17,7 @@ use Rattle.uc_tree.specs.declared.ops.StepOp.TheVariants as step
 use Rattle.uc_tree.specs.Expressions.{exprs_of}
 use Rattle.uc_resolve.specs.Resolve.{Standing, args_meant, call_by, unary_meant}
 use Rattle.uc_lower_expr.proofs.Walks.{tree_is, value_in, arm_number, arm_character, arm_truth, arm_cin, arm_minus, arm_not, arm_value, arm_argument, arm_bumped, told_bumped, arm_assigned, told_assigned, arm_to_variable, arm_to_place, arm_set, arm_set_by, arm_keep, arm_keep_by, variable_in_cut, args_in_cut, arm_link, right_as, links_fit, links_step, links_end, part_is, arm_called, arm_routine, arm_member_called, arm_live_called, field_not_called, grown_in, not_called, called_part, stepped_part, args_begin, args_step, args_skip, args_fit, parts_fit, parts_step, arm_no_element, arm_element, some_size, arm_postfix, told_postfix, arm_chain, told_chain, postfix_size, chain_size}
-use Rattle.uc_lower_expr.specs.Added.{Adds, ArgumentsCode}
+use Rattle.uc_lower_expr.specs.DraftGrowth.{Adds, ArgumentsCode}
 use Rattle.uc_lower_expr.proofs.expr.+lower.Goals.{lower_args-then-place-params+in_ok-lower_arg, lower_args-else-place-params}
 use Rattle.uc_lower_expr.proofs.expr.+lower.Goals as goal
 
@@ -53,8 +53,8 @@ lower_expr-returns-in_ok-told-in-Postfix-clause-tells t c =
 pub lower_index-returns-in_ok-restart-in-None : goal.lower_index-returns-in_ok-restart-in-None
 lower_index-returns-in_ok-restart-in-None t c = arm_no_element c.args.out.now.marks c.args.names.now _ _ _ (meant (context_in c.args.names.now c.args.out.now) c.args.index.now) _ _ _ _ (omega arith) c.requires.inside c.in-None.is c.nothing.ensures c.in_ok-restart-in-None.ensures
 
-pub lower_index-returns-in_ok-put-in-Some : goal.lower_index-returns-in_ok-put-in-Some
-lower_index-returns-in_ok-put-in-Some t c = arm_element c.args.out.now.marks c.args.names.now (OPS_FOR_SIZE * expr_size c.args.index.now) _ c.args.line _ c.in-Some.length c.element_size-size.result (meant (context_in c.args.names.now c.args.out.now) c.args.index.now) c.args.told _ _ _ c.element_size-size.ensures (omega arith) c.requires.inside c.in-Some.is c.in_ok-_index-in-Some.ensures.code c.in_ok-put-in-Some.ensures
+pub lower_index-returns-in_ok-element-in-Some : goal.lower_index-returns-in_ok-element-in-Some
+lower_index-returns-in_ok-element-in-Some t c = arm_element c.args.out.now.marks c.args.names.now (OPS_FOR_SIZE * expr_size c.args.index.now) _ c.args.line _ c.in-Some.length c.element_size-size.result (meant (context_in c.args.names.now c.args.out.now) c.args.index.now) c.args.told _ _ _ _ _ c.fit.ensures c.element_size-size.ensures (omega arith) c.requires.inside c.in-Some.is c.in_ok-element-in-Some.ensures.tells c.in_ok-_index-in-Some.ensures.code c.in_ok-put-in-Some.ensures c.in_ok-element-in-Some.ensures.code
 
 pub lower_parts-lower_part-requires : goal.lower_parts-lower_part-requires
 lower_parts-lower_part-requires t c =
@@ -234,6 +234,9 @@ lower_call-returns-in-Field t c = not_called c.args.out.now.marks c.put_nothing-
 
 pub lower_call-returns-in-Place : goal.lower_call-returns-in-Place
 lower_call-returns-in-Place t c = not_called c.args.out.now.marks c.put_nothing-in-Place.result c.args.names.now _ c.args.line c.args.start standing.Place _ c.args.told _ _ (omega arith) c.requires.inside c.in-Place.is (λ o m h. ap (λ (x : Standing). call_by c.args.names.now x m (args_meant (context_in c.args.names.now c.args.out.now) (exprs_of c.args.args.now))) h) c.put_nothing-in-Place.ensures.code c.put_nothing-in-Place.ensures.tells
+
+pub lower_call-returns-in-Number : goal.lower_call-returns-in-Number
+lower_call-returns-in-Number t c = not_called c.args.out.now.marks c.put_nothing-in-Number.result c.args.names.now _ c.args.line c.args.start standing.Number _ c.args.told _ _ (omega arith) c.requires.inside c.in-Number.is (λ o m h. ap (λ (x : Standing). call_by c.args.names.now x m (args_meant (context_in c.args.names.now c.args.out.now) (exprs_of c.args.args.now))) h) c.put_nothing-in-Number.ensures.code c.put_nothing-in-Number.ensures.tells
 
 pub lower_call-returns-in-Value : goal.lower_call-returns-in-Value
 lower_call-returns-in-Value t c = not_called c.args.out.now.marks c.put_nothing-in-Value.result c.args.names.now _ c.args.line c.args.start standing.Value _ c.args.told _ _ (omega arith) c.requires.inside c.in-Value.is (λ o m h. ap (λ (x : Standing). call_by c.args.names.now x m (args_meant (context_in c.args.names.now c.args.out.now) (exprs_of c.args.args.now))) h) c.put_nothing-in-Value.ensures.code c.put_nothing-in-Value.ensures.tells

@@ -3,7 +3,7 @@ use Rattle.uc_tree.specs.declared.limits.TheConstants.{OPS_FOR_SIZE}
 use Rattle.uc_tree.specs.Expressions.{exprs_of, parts_of, links_of}
 use Rattle.uc_tree.specs.ExpressionSizes.{expr_size, exprs_size, part_size, parts_size, link_size, links_size}
 use Rattle.uc_resolve.specs.Resolve.{args_by, args_meant, parts_meant, chain_meant}
-use Rattle.uc_lower_expr.specs.Added.{Adds, ArgumentsCode, Grows}
+use Rattle.uc_lower_expr.specs.DraftGrowth.{Adds, ArgumentsCode, Grows}
 use Rattle.uc_lower_expr.specs.Contexts.{context_in}
 use Rattle.uc_lower_expr.proofs.expr.+lower.Given as goal
 

@@ -1,7 +1,7 @@
 use Rattle.std.proofs.Common.{ap}
-use Rattle.uc_resolve.specs.Resolve.{Standing, field_by}
+use Rattle.uc_resolve.specs.Resolve.{Standing, part_by}
 use Rattle.uc_lower_expr.specs.declared.meaning.Standing.TheVariants as standing
-use Rattle.uc_lower_expr.proofs.Members.{no_part, input_member, variable_member, field_member, at_place_member}
+use Rattle.uc_lower_expr.proofs.MembersLemmas.{no_part, input_member, variable_member, field_member, at_place_member, number_member}
 use Rattle.uc_lower_expr.proofs.expr.lower_field.Goals as goal
 
 pub returns-in-Input : goal.returns-in-Input
@@ -16,20 +16,23 @@ returns-in-Field c = field_member c.lower_member-in-Field.result c.args.names.no
 pub returns-in-Place : goal.returns-in-Place
 returns-in-Place c = at_place_member c.lower_member-in-Place.result c.args.names.now _ c.args.line c.args.out.now.marks c.args.start c.args.name.now c.args.told _ _ c.in-Place.is c.lower_member-in-Place.ensures
 
+pub returns-in-Number : goal.returns-in-Number
+returns-in-Number c = number_member c.lower_member-in-Number.result c.args.names.now _ c.args.line c.args.out.now.marks c.args.start c.args.name.now c.args.told _ _ c.in-Number.is c.lower_member-in-Number.ensures
+
 pub returns-in-Value : goal.returns-in-Value
-returns-in-Value c = no_part c.put_nothing.result c.args.names.now c.args.out.now.marks c.args.line c.args.start c.args.name.now standing.Value c.args.told _ _ c.requires.inside c.in-Value.is (λ o m h. ap (λ (s : Standing). field_by c.args.names.now s m c.args.name.now) h) c.put_nothing.ensures.code c.put_nothing.ensures.tells
+returns-in-Value c = no_part c.put_nothing.result c.args.names.now c.args.out.now.marks c.args.line c.args.start c.args.name.now standing.Value c.args.told _ _ c.requires.inside c.in-Value.is (λ o m h. ap (λ (s : Standing). part_by c.args.names.now s m c.args.name.now) h) c.put_nothing.ensures.code c.put_nothing.ensures.tells
 
 pub returns-in-Fail : goal.returns-in-Fail
-returns-in-Fail c = no_part c.put_nothing-in-Fail.result c.args.names.now c.args.out.now.marks c.args.line c.args.start c.args.name.now standing.Fail c.args.told _ _ c.requires.inside c.in-Fail.is (λ o m h. ap (λ (s : Standing). field_by c.args.names.now s m c.args.name.now) h) c.put_nothing-in-Fail.ensures.code c.put_nothing-in-Fail.ensures.tells
+returns-in-Fail c = no_part c.put_nothing-in-Fail.result c.args.names.now c.args.out.now.marks c.args.line c.args.start c.args.name.now standing.Fail c.args.told _ _ c.requires.inside c.in-Fail.is (λ o m h. ap (λ (s : Standing). part_by c.args.names.now s m c.args.name.now) h) c.put_nothing-in-Fail.ensures.code c.put_nothing-in-Fail.ensures.tells
 
 pub returns-in-Routine : goal.returns-in-Routine
-returns-in-Routine c = no_part c.put_nothing-in-Routine.result c.args.names.now c.args.out.now.marks c.args.line c.args.start c.args.name.now (standing.Routine c.in-Routine.field-0) c.args.told _ _ c.requires.inside c.in-Routine.is (λ o m h. ap (λ (s : Standing). field_by c.args.names.now s m c.args.name.now) h) c.put_nothing-in-Routine.ensures.code c.put_nothing-in-Routine.ensures.tells
+returns-in-Routine c = no_part c.put_nothing-in-Routine.result c.args.names.now c.args.out.now.marks c.args.line c.args.start c.args.name.now (standing.Routine c.in-Routine.field-0) c.args.told _ _ c.requires.inside c.in-Routine.is (λ o m h. ap (λ (s : Standing). part_by c.args.names.now s m c.args.name.now) h) c.put_nothing-in-Routine.ensures.code c.put_nothing-in-Routine.ensures.tells
 
 pub returns-in-Member : goal.returns-in-Member
-returns-in-Member c = no_part c.put_nothing-in-Member.result c.args.names.now c.args.out.now.marks c.args.line c.args.start c.args.name.now (standing.Member c.in-Member.field-0) c.args.told _ _ c.requires.inside c.in-Member.is (λ o m h. ap (λ (s : Standing). field_by c.args.names.now s m c.args.name.now) h) c.put_nothing-in-Member.ensures.code c.put_nothing-in-Member.ensures.tells
+returns-in-Member c = no_part c.put_nothing-in-Member.result c.args.names.now c.args.out.now.marks c.args.line c.args.start c.args.name.now (standing.Member c.in-Member.field-0) c.args.told _ _ c.requires.inside c.in-Member.is (λ o m h. ap (λ (s : Standing). part_by c.args.names.now s m c.args.name.now) h) c.put_nothing-in-Member.ensures.code c.put_nothing-in-Member.ensures.tells
 
 pub returns-in-LiveMember : goal.returns-in-LiveMember
-returns-in-LiveMember c = no_part c.put_nothing-in-LiveMember.result c.args.names.now c.args.out.now.marks c.args.line c.args.start c.args.name.now (standing.LiveMember c.in-LiveMember.field-0) c.args.told _ _ c.requires.inside c.in-LiveMember.is (λ o m h. ap (λ (s : Standing). field_by c.args.names.now s m c.args.name.now) h) c.put_nothing-in-LiveMember.ensures.code c.put_nothing-in-LiveMember.ensures.tells
+returns-in-LiveMember c = no_part c.put_nothing-in-LiveMember.result c.args.names.now c.args.out.now.marks c.args.line c.args.start c.args.name.now (standing.LiveMember c.in-LiveMember.field-0) c.args.told _ _ c.requires.inside c.in-LiveMember.is (λ o m h. ap (λ (s : Standing). part_by c.args.names.now s m c.args.name.now) h) c.put_nothing-in-LiveMember.ensures.code c.put_nothing-in-LiveMember.ensures.tells
 
 pub returns-in-Nothing : goal.returns-in-Nothing
-returns-in-Nothing c = no_part c.put_nothing-in-Nothing.result c.args.names.now c.args.out.now.marks c.args.line c.args.start c.args.name.now standing.Nothing c.args.told _ _ c.requires.inside c.in-Nothing.is (λ o m h. ap (λ (s : Standing). field_by c.args.names.now s m c.args.name.now) h) c.put_nothing-in-Nothing.ensures.code c.put_nothing-in-Nothing.ensures.tells
+returns-in-Nothing c = no_part c.put_nothing-in-Nothing.result c.args.names.now c.args.out.now.marks c.args.line c.args.start c.args.name.now standing.Nothing c.args.told _ _ c.requires.inside c.in-Nothing.is (λ o m h. ap (λ (s : Standing). part_by c.args.names.now s m c.args.name.now) h) c.put_nothing-in-Nothing.ensures.code c.put_nothing-in-Nothing.ensures.tells

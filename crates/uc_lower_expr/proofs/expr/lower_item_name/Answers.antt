@@ -1,6 +1,6 @@
 use Rattle.std.proofs.Common.{rules}
 use Rattle.uc_lower_expr.proofs.Arms.{item_fixed, item_routine}
-use Rattle.uc_lower_expr.proofs.Members.{fixed_named}
+use Rattle.uc_lower_expr.proofs.MembersLemmas.{fixed_named}
 use Rattle.uc_lower_expr.proofs.expr.lower_item_name.Goals as goal
 
 pub returns-in_ok-put-in-Some-clause-code : goal.returns-in_ok-put-in-Some-clause-code

@@ -1,4 +1,4 @@
-use Rattle.uc_lower_expr.proofs.Members.{own_code, own_told}
+use Rattle.uc_lower_expr.proofs.MembersLemmas.{own_code, own_told}
 use Rattle.uc_lower_expr.proofs.expr.lower_own_name.Goals as goal
 
 pub returns-in_ok-put-in-Some-clause-code : goal.returns-in_ok-put-in-Some-clause-code

@@ -1,5 +1,5 @@
 use Rattle.std.proofs.Common.{rules}
-use Rattle.uc_lower_expr.proofs.Members.{arm_plain_field, arm_held_field}
+use Rattle.uc_lower_expr.proofs.MembersLemmas.{arm_plain_field, arm_held_field}
 use Rattle.uc_lower_expr.proofs.expr.put_field.Goals as goal
 
 pub returns-in_ok-put-2 : goal.returns-in_ok-put-2

@@ -1,7 +1,7 @@
 use Rattle.std.proofs.Common.{sym, ◌∙◌}
 use Rattle.uc_tree.specs.Numbering.{routines_of}
 use Rattle.uc_resolve.specs.Resolve.{routine_from}
-use Rattle.uc_lower_expr.proofs.Members.{routine_named}
+use Rattle.uc_lower_expr.proofs.MembersLemmas.{routine_named}
 use Rattle.uc_lower_expr.proofs.expr.routine_told.Goals as goal
 
 pub returns-in-Some : goal.returns-in-Some

@@ -4,7 +4,7 @@ use Rattle.uc_tree.specs.Rows.{row_at}
 use Rattle.uc_tree.specs.Cells.{leading_cells, rows_of}
 use Rattle.uc_tree.specs.Objects.{fields_of}
 use Rattle.uc_lower_expr.specs.declared.fields.FieldTable.{FieldTable}
-use Rattle.uc_lower_expr.specs.Noted.{Notes}
+use Rattle.uc_lower_expr.specs.FieldTables.{Notes}
 use Rattle.uc_lower_expr.proofs.FieldLemmas.{are_fields}
 use Rattle.uc_lower_expr.proofs.Noting.{no_names}
 use Rattle.uc_lower_expr.proofs.fields.fields_of.Goals as goal

@@ -1,7 +1,7 @@
 use Rattle.std.proofs.Common.{rules, ◌≡◌, ◌<◌, ◌+◌, ◌++◌, ◌∷◌, [], length, take, ap, sym, subst, ◌∙◌}
 use Rattle.std.proofs.lemmas.List.{take_more}
 use Rattle.uc_tree.specs.Objects.{declared_fields}
-use Rattle.uc_lower_expr.specs.Noted.{Notes}
+use Rattle.uc_lower_expr.specs.FieldTables.{Notes}
 use Rattle.uc_lower_expr.proofs.Noting.{declared_more, notes_both, notes_none}
 use Rattle.uc_lower_expr.proofs.fields.note_declarators.Goals as goal
 

@@ -1,6 +1,6 @@
 use Rattle.std.proofs.Common.{take}
 use Rattle.uc_tree.specs.Objects.{declared_fields}
-use Rattle.uc_lower_expr.specs.Noted.{Notes}
+use Rattle.uc_lower_expr.specs.FieldTables.{Notes}
 use Rattle.uc_lower_expr.proofs.fields.note_declarators.Given as goal
 
 abbrev pub invariant-loop-declarator : goal.invariant-loop-declarator

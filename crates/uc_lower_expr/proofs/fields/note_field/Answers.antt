@@ -3,8 +3,8 @@ use Rattle.uc_tree.specs.declared.rows.Held.{Held}
 use Rattle.uc_tree.specs.Capped.{capped}
 use Rattle.uc_tree.specs.Cells.{class_cells}
 use Rattle.uc_tree.specs.Rows.{held_cells}
-use Rattle.uc_sizes.specs.Places.{IsPlaces}
-use Rattle.uc_lower_expr.specs.Noted.{length_by, one_scalar}
+use Rattle.uc_layout.specs.Places.{IsPlaces}
+use Rattle.uc_lower_expr.specs.FieldTables.{length_by, one_scalar}
 use Rattle.uc_lower_expr.proofs.Noting.{notes_one, sum_capped}
 use Rattle.uc_lower_expr.proofs.fields.note_field.Goals as goal
 

@@ -1,7 +1,7 @@
 use Rattle.std.proofs.Common.{◌≡◌, [], ap, sym, subst}
 use Rattle.uc_tree.specs.Objects.{form_fields}
 use Rattle.uc_tree.specs.ProgramViews.{member_form_at}
-use Rattle.uc_lower_expr.specs.Noted.{Notes}
+use Rattle.uc_lower_expr.specs.FieldTables.{Notes}
 use Rattle.uc_lower_expr.proofs.Noting.{notes_none}
 use Rattle.uc_lower_expr.proofs.fields.note_member.Goals as goal
 

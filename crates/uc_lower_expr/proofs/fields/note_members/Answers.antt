@@ -2,7 +2,7 @@ use Rattle.std.proofs.Common.{rules, ◌≡◌, ◌<◌, ◌+◌, ◌++◌, ◌�
 use Rattle.std.proofs.lemmas.List.{take_more}
 use Rattle.uc_tree.specs.Programs.{Member}
 use Rattle.uc_tree.specs.Objects.{fields_of, form_fields}
-use Rattle.uc_lower_expr.specs.Noted.{Notes}
+use Rattle.uc_lower_expr.specs.FieldTables.{Notes}
 use Rattle.uc_lower_expr.proofs.Noting.{members_more, notes_both, notes_none}
 use Rattle.uc_lower_expr.proofs.fields.note_members.Goals as goal
 

@@ -3,7 +3,7 @@ use Rattle.uc_tree.specs.Source.{Literal}
 use Rattle.uc_code.specs.declared.rows.Mark.{Mark}
 use Rattle.uc_code.specs.Drafts.{Draft}
 use Rattle.uc_lower_expr.specs.Meanings.{shape_as}
-use Rattle.uc_lower_expr.specs.Added.{Adds}
+use Rattle.uc_lower_expr.specs.DraftGrowth.{Adds}
 use Rattle.uc_lower_expr.specs.Parts.{SetByCode}
 use Rattle.uc_lower_expr.proofs.Arms.{arm_behind}
 use Rattle.uc_lower_expr.proofs.put.put_behind.Goals as goal

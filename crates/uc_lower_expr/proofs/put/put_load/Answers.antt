@@ -13,6 +13,9 @@ returns-in_ok-put-in-Place-clause-code c = λ p. load_place c.args.out.now.marks
 pub returns-in_ok-restart-in-Field-clause-code : goal.returns-in_ok-restart-in-Field-clause-code
 returns-in_ok-restart-in-Field-clause-code c = λ p. load_field c.args.out.now.marks c.args.line c.args.start c.in-Field.cell c.args.told _ _ _ c.requires.inside c.in-Field.is c.standing_as-in-Field.ensures c.in_ok-restart-in-Field.ensures
 
+pub returns-in-Number-clause-code : goal.returns-in-Number-clause-code
+returns-in-Number-clause-code c = λ p. load_none c.args.out.now.marks c.args.line c.args.start standing.Number c.args.told _ _ c.requires.inside c.in-Number.is (λ o e h. ap (λ (s : Standing). value_by s e) h) c.standing_as-in-Number.ensures
+
 pub returns-in-Value-clause-code : goal.returns-in-Value-clause-code
 returns-in-Value-clause-code c = λ p. load_none c.args.out.now.marks c.args.line c.args.start standing.Value c.args.told _ _ c.requires.inside c.in-Value.is (λ o e h. ap (λ (s : Standing). value_by s e) h) c.standing_as-in-Value.ensures
 

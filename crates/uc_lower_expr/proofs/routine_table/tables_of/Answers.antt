@@ -4,7 +4,7 @@ use Rattle.std.proofs.lemmas.Option.{slice_get-get_or, slice_get-map}
 use Rattle.std.specs.Prelude.{slice_get, option_map}
 use Rattle.uc_tree.specs.declared.class.Routine.{Routine as Held}
 use Rattle.uc_tree.specs.Programs.{Routine}
-use Rattle.uc_lower_expr.specs.Routed.{NoteOne}
+use Rattle.uc_lower_expr.specs.RoutineTables.{NoteOne}
 use Rattle.uc_lower_expr.proofs.Noting.{got}
 use Rattle.uc_lower_expr.proofs.Tabled.{through_all, through_more, through_none}
 use Rattle.uc_lower_expr.proofs.routine_table.tables_of.Goals as goal

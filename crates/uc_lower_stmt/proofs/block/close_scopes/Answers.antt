@@ -1,7 +1,7 @@
 use Rattle.std.proofs.Common.{List, ap, sym, ◌∙◌, arith}
 use Rattle.uc_code.specs.declared.rows.Mark.{Mark}
 use Rattle.uc_lower_stmt.specs.Blocks.{innermost_in}
-use Rattle.uc_lower_stmt.proofs.Blocks.{ending_next, ending_none, in_scope, scope_room, scopes_ended}
+use Rattle.uc_lower_stmt.proofs.BlocksLemmas.{ending_next, ending_none, in_scope, scope_room, scopes_ended}
 use Rattle.uc_lower_stmt.proofs.block.close_scopes.Goals as goal
 
 pub loop-scope-init : goal.loop-scope-init

@@ -3,7 +3,7 @@ use Rattle.uc_tree.specs.declared.limits.TheConstants.{OPS_FOR_SIZE}
 use Rattle.uc_tree.specs.StatementSizes.{declarators_size}
 use Rattle.uc_tree.specs.Cells.{declared_cells, declarators_cells}
 use Rattle.uc_resolve.specs.Resolve.{all_declared, with_all}
-use Rattle.uc_lower_stmt.specs.Scoped.{Lowers, scope_of}
+use Rattle.uc_lower_stmt.specs.LowersStatement.{Lowers, scope_of}
 use Rattle.uc_lower_stmt.specs.Pieces.{VariablesCode}
 use Rattle.uc_lower_stmt.proofs.declare.lower_declarators.Given as goal
 

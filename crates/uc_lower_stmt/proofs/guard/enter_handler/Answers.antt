@@ -1,6 +1,6 @@
 use Rattle.std.proofs.Common.{◌+◌, arith}
 use Rattle.uc_resolve.specs.Resolve.{takes_resumptions}
-use Rattle.uc_lower_stmt.proofs.Handling.{entered, kinds_take, named_few, rows_alone}
+use Rattle.uc_lower_stmt.proofs.HandlingLemmas.{entered, kinds_take, named_few, rows_alone}
 use Rattle.uc_lower_stmt.proofs.guard.enter_handler.Goals as goal
 
 pub returns-clause-entered : goal.returns-clause-entered

@@ -1,5 +1,5 @@
 use Rattle.std.proofs.Common.{◌≡◌, ◌+◌, ap, arith, ◌∙◌}
-use Rattle.uc_code.specs.Puts.{clean_length}
+use Rattle.uc_code.specs.Emits.{clean_length}
 use Rattle.uc_code.proofs.Putting.{marks_of}
 use Rattle.uc_lower_stmt.proofs.Joined.{puts_adds}
 use Rattle.uc_lower_stmt.proofs.Ending.{behind_scope, marks_past_scope, scope_closed}

@@ -7,7 +7,7 @@ use Rattle.uc_tree.specs.ExpressionSizes.{exprs_size}
 use Rattle.uc_resolve.specs.Resolve.{args_by, args_meant}
 use Rattle.uc_code.specs.declared.op.Op.{Op}
 use Rattle.uc_code.specs.Drafts.{Draft}
-use Rattle.uc_lower_expr.specs.Added.{Adds, ArgumentsCode, OpCode}
+use Rattle.uc_lower_expr.specs.DraftGrowth.{Adds, ArgumentsCode, OpCode}
 use Rattle.uc_lower_expr.specs.Contexts.{context_in}
 use Rattle.uc_lower_stmt.proofs.Building.{arm_unwritten, arm_written}
 use Rattle.uc_lower_stmt.proofs.objects.lower_construction.Goals as goal

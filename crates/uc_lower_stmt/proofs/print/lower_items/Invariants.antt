@@ -1,7 +1,7 @@
 use Rattle.std.proofs.Common.{◌*◌, take}
 use Rattle.uc_tree.specs.declared.limits.TheConstants.{OPS_FOR_SIZE}
 use Rattle.uc_tree.specs.StatementSizes.{out_items_size}
-use Rattle.uc_lower_stmt.specs.Scoped.{Lowers, scope_of}
+use Rattle.uc_lower_stmt.specs.LowersStatement.{Lowers, scope_of}
 use Rattle.uc_lower_stmt.specs.Pieces.{ItemsCode}
 use Rattle.uc_lower_stmt.proofs.Printing.{with_texts, texts_among, items_at}
 use Rattle.uc_lower_stmt.proofs.print.lower_items.Given as goal

@@ -1,4 +1,4 @@
-use Rattle.uc_lower_stmt.specs.Scoped.{scope_of}
+use Rattle.uc_lower_stmt.specs.LowersStatement.{scope_of}
 use Rattle.uc_lower_stmt.proofs.Printing.{out_is, piece_endl, piece_value, piece_text, op_endl, op_text, op_value}
 use Rattle.uc_lower_stmt.proofs.print.lower_piece.Goals as goal
 

@@ -1,5 +1,5 @@
 use Rattle.std.proofs.Common.{arith}
-use Rattle.uc_lower_stmt.specs.Scoped.{scope_of}
+use Rattle.uc_lower_stmt.specs.LowersStatement.{scope_of}
 use Rattle.uc_lower_stmt.proofs.Printing.{items_fit, item_counts, pieces_step, ops_step}
 use Rattle.uc_lower_stmt.proofs.print.lower_pieces.Goals as goal
 

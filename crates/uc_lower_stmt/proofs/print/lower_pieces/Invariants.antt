@@ -2,7 +2,7 @@ use Rattle.std.proofs.Common.{◌≡◌, ◌-◌, ◌*◌, map, take}
 use Rattle.uc_tree.specs.declared.limits.TheConstants.{OPS_FOR_SIZE}
 use Rattle.uc_tree.specs.StatementSizes.{out_items_size}
 use Rattle.uc_code.specs.Lowered.{item_op}
-use Rattle.uc_lower_stmt.specs.Scoped.{Lowers, scope_of}
+use Rattle.uc_lower_stmt.specs.LowersStatement.{Lowers, scope_of}
 use Rattle.uc_lower_stmt.specs.Pieces.{ValuesCode}
 use Rattle.uc_lower_stmt.proofs.Printing.{with_texts, texts_among, items_at}
 use Rattle.uc_lower_stmt.proofs.print.lower_pieces.Given as goal

@@ -3,7 +3,7 @@ use Rattle.uc_tree.specs.declared.limits.TheConstants.{OPS_FOR_SIZE}
 use Rattle.uc_tree.specs.Expressions.{exprs_of}
 use Rattle.uc_tree.specs.ExpressionSizes.{exprs_size}
 use Rattle.uc_resolve.specs.Resolve.{targets_meant}
-use Rattle.uc_lower_expr.specs.Added.{Adds}
+use Rattle.uc_lower_expr.specs.DraftGrowth.{Adds}
 use Rattle.uc_lower_expr.specs.Contexts.{context_in}
 use Rattle.uc_lower_stmt.specs.Pieces.{TargetsCode}
 use Rattle.uc_lower_stmt.proofs.print.lower_targets.Given as goal

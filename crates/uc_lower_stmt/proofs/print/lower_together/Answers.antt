@@ -1,5 +1,5 @@
 use Rattle.std.proofs.Common.{◌∙◌, arith}
-use Rattle.uc_lower_stmt.specs.Scoped.{scope_of}
+use Rattle.uc_lower_stmt.specs.LowersStatement.{scope_of}
 use Rattle.uc_lower_stmt.proofs.Printing.{arm_together, pieces_count, all_count}
 use Rattle.uc_lower_stmt.proofs.print.lower_together.Goals as goal
 

@@ -1,5 +1,5 @@
 use Rattle.std.proofs.Common.{◌≤◌, ◌-◌, length, drop}
-use Rattle.uc_lower_expr.specs.Added.{Adds}
+use Rattle.uc_lower_expr.specs.DraftGrowth.{Adds}
 use Rattle.uc_lower_stmt.specs.Pieces.{PiecesCode}
 use Rattle.uc_lower_stmt.proofs.print.put_pieces.Given as goal
 

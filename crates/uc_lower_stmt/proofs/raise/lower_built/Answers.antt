@@ -1,6 +1,6 @@
 use Rattle.std.proofs.Common.{arith}
 use Rattle.uc_tree.specs.Expressions.{exprs_of}
-use Rattle.uc_lower_stmt.proofs.Raising.{built_raised}
+use Rattle.uc_lower_stmt.proofs.RaisingLemmas.{built_raised}
 use Rattle.uc_lower_stmt.proofs.raise.lower_built.Goals as goal
 
 pub returns : goal.returns

@@ -4,7 +4,7 @@ use Rattle.uc_tree.specs.ExpressionSizes.{exprs_size}
 use Rattle.uc_resolve.specs.Resolve.{event_constructor, number_of_event}
 use Rattle.uc_tree.specs.Statements.{Raised}
 use Rattle.uc_code.specs.Drafts.{Draft}
-use Rattle.uc_lower_stmt.proofs.Raising.{arm_built, arm_plain}
+use Rattle.uc_lower_stmt.proofs.RaisingLemmas.{arm_built, arm_plain}
 use Rattle.uc_lower_stmt.proofs.raise.lower_new.Goals as goal
 
 pub returns-in_ok-put_plain-in-None : goal.returns-in_ok-put_plain-in-None

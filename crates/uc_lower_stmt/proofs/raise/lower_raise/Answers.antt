@@ -1,5 +1,5 @@
 use Rattle.std.proofs.Common.{arith}
-use Rattle.uc_lower_stmt.proofs.Raising.{arm_raise}
+use Rattle.uc_lower_stmt.proofs.RaisingLemmas.{arm_raise}
 use Rattle.uc_lower_stmt.proofs.raise.lower_raise.Goals as goal
 
 pub returns : goal.returns

@@ -3,7 +3,7 @@ use Rattle.std.specs.Prelude.{Option}
 use Rattle.uc_tree.specs.Statements.{Raised}
 use Rattle.uc_tree.specs.StatementSizes.{maybe_raised_size}
 use Rattle.uc_lower_stmt.specs.Raising.{LowersRaised}
-use Rattle.uc_lower_stmt.proofs.Raising.{arm_again}
+use Rattle.uc_lower_stmt.proofs.RaisingLemmas.{arm_again}
 use Rattle.uc_lower_stmt.proofs.raise.lower_raised.Goals as goal
 
 pub put_again-requires : goal.put_again-requires

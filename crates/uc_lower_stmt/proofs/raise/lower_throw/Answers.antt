@@ -1,5 +1,5 @@
 use Rattle.std.proofs.Common.{arith}
-use Rattle.uc_lower_stmt.proofs.Raising.{arm_throw}
+use Rattle.uc_lower_stmt.proofs.RaisingLemmas.{arm_throw}
 use Rattle.uc_lower_stmt.proofs.raise.lower_throw.Goals as goal
 
 pub returns : goal.returns

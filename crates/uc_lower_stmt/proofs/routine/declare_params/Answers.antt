@@ -4,7 +4,7 @@ use Rattle.uc_tree.specs.Cells.{param_cells}
 use Rattle.uc_tree.specs.Programs.{Program}
 use Rattle.uc_code.specs.Drafts.{Draft}
 use Rattle.uc_lower_stmt.proofs.Declaring.{uncapped}
-use Rattle.uc_lower_stmt.proofs.Routines.{params_step, params_fit}
+use Rattle.uc_lower_stmt.proofs.RoutinesLemmas.{params_step, params_fit}
 use Rattle.uc_lower_stmt.proofs.routine.declare_params.Goals as goal
 
 pub overflow_cast-cells : goal.overflow_cast-cells

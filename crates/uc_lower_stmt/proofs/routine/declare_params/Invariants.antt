@@ -1,5 +1,5 @@
 use Rattle.std.proofs.Common.{◌≡◌, take}
-use Rattle.uc_lower_stmt.proofs.Routines.{with_params}
+use Rattle.uc_lower_stmt.proofs.RoutinesLemmas.{with_params}
 use Rattle.uc_lower_stmt.proofs.routine.declare_params.Given as goal
 
 abbrev pub invariant-loop-param : goal.invariant-loop-param

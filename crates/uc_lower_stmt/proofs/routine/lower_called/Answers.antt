@@ -6,10 +6,10 @@ use Rattle.uc_tree.specs.Scopes.{stmts_scopes}
 use Rattle.uc_tree.specs.StatementSizes.{stmts_size}
 use Rattle.uc_built.specs.BuiltForms.{are_built}
 use Rattle.uc_code.specs.Drafts.{Draft}
-use Rattle.uc_code.specs.Laid.{routine_in}
+use Rattle.uc_code.specs.Layout.{routine_in}
 use Rattle.uc_lower_stmt.specs.Marked.{objects_in}
-use Rattle.uc_lower_stmt.specs.Scoped.{sizes_at}
-use Rattle.uc_lower_stmt.proofs.Routines.{called_lowered}
+use Rattle.uc_lower_stmt.specs.LowersStatement.{sizes_at}
+use Rattle.uc_lower_stmt.proofs.RoutinesLemmas.{called_lowered}
 use Rattle.uc_lower_stmt.proofs.routine.lower_called.Goals as goal
 
 pub lower_stmts-requires-clause-built : goal.lower_stmts-requires-clause-built

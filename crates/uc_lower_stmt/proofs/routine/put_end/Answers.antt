@@ -1,5 +1,5 @@
 use Rattle.std.proofs.Common.{sym, ◌∙◌}
-use Rattle.uc_lower_stmt.proofs.Routines.{end_with, end_without}
+use Rattle.uc_lower_stmt.proofs.RoutinesLemmas.{end_with, end_without}
 use Rattle.uc_lower_stmt.proofs.routine.put_end.Goals as goal
 
 pub returns-then-is_void : goal.returns-then-is_void

@@ -1,8 +1,8 @@
-use Rattle.std.proofs.Common.{ap, sym, ◌∙◌}
+use Rattle.std.proofs.Common.{None, Some, ap, sym, ◌∙◌}
 use Rattle.uc_tree.specs.Objects.{plain_class}
 use Rattle.uc_tree.specs.Programs.{Program}
 use Rattle.uc_lower_expr.proofs.Knowing.{plain_within}
-use Rattle.uc_lower_stmt.proofs.Listing.{declared_objects, declared_variables}
+use Rattle.uc_lower_stmt.proofs.Listing.{declared_objects, declared_variables, plain_made}
 use Rattle.uc_lower_stmt.proofs.Openings.{all_behind}
 use Rattle.uc_lower_stmt.proofs.stmt.lower_for_declaration.Goals as goal
 
@@ -14,8 +14,8 @@ lower_objects-requires-clause-behind c = all_behind c.args.names.now c.in-Some.c
 
 pub returns-in_ok-lower_objects-in-Some : goal.returns-in_ok-lower_objects-in-Some
 returns-in_ok-lower_objects-in-Some c =
-    declared_objects c.args.names.now c.args.line c.args.line c.args.base.now c.args.declarators.now c.in-Some.class c.args.out.now _ (sym (c.plain_class.ensures ∙ ap (λ (p : Program). plain_class p c.args.base.now) c.sizes.ensures) ∙ c.in-Some.is) c.in_ok-lower_objects-in-Some.ensures
+    declared_objects c.args.names.now c.args.line c.args.line c.args.base.now c.args.declarators.now c.in-Some.class c.args.out.now _ (plain_made c.args.names.now c.fit.ensures c.args.base.now c.requires.built (Some c.in-Some.class) (sym (c.plain_class.ensures ∙ ap (λ (p : Program). plain_class p c.args.base.now) c.sizes.ensures) ∙ c.in-Some.is)) c.in_ok-lower_objects-in-Some.ensures
 
 pub returns-in_ok-lower_declarators-in-None : goal.returns-in_ok-lower_declarators-in-None
 returns-in_ok-lower_declarators-in-None c =
-    declared_variables c.args.names.now c.args.line c.args.line c.args.base.now c.args.declarators.now c.args.out.now _ (sym (c.plain_class.ensures ∙ ap (λ (p : Program). plain_class p c.args.base.now) c.sizes.ensures) ∙ c.in-None.is) c.in_ok-lower_declarators-in-None.ensures
+    declared_variables c.args.names.now c.args.line c.args.line c.args.base.now c.args.declarators.now c.args.out.now _ (plain_made c.args.names.now c.fit.ensures c.args.base.now c.requires.built None (sym (c.plain_class.ensures ∙ ap (λ (p : Program). plain_class p c.args.base.now) c.sizes.ensures) ∙ c.in-None.is)) c.in_ok-lower_declarators-in-None.ensures

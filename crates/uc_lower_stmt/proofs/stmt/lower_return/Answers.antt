@@ -3,7 +3,7 @@ use Rattle.uc_tree.specs.StatementSizes.{maybe_expr_size}
 use Rattle.uc_resolve.specs.Resolve.{meant, value_of}
 use Rattle.uc_tree.specs.declared.kinds.Place.{Place}
 use Rattle.uc_code.specs.Drafts.{Draft}
-use Rattle.uc_code.specs.Open.{exit_room}
+use Rattle.uc_code.specs.OpenRows.{exit_room}
 use Rattle.uc_code.proofs.Putting.{puts_more}
 use Rattle.uc_lower_expr.specs.Contexts.{context_in}
 use Rattle.uc_lower_stmt.proofs.Stating.{arm_handed, arm_ended, exit_few}

@@ -1,4 +1,4 @@
-use Rattle.uc_meaning.proofs.Cuts.{law_cut}
+use Rattle.uc_meaning.proofs.CutsLemmas.{law_cut}
 use Rattle.uc_meaning.proofs.laws.law_cut.Goals as goal
 
 pub returns : goal.returns

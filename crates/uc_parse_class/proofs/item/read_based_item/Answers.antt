@@ -4,7 +4,7 @@ use Rattle.uc_grammar.specs.Spell.{kind_at}
 use Rattle.uc_grammar.specs.Form.{Fails}
 use Rattle.uc_grammar.specs.Grammar.{based_item_at, based_item, outer_routine, inner, faults}
 use Rattle.uc_parse_expr.proofs.Steps.{by_fails}
-use Rattle.uc_parse_plain.proofs.Steps.{behind_fails}
+use Rattle.uc_parse_simple.proofs.Steps.{behind_fails}
 use Rattle.uc_tree.specs.declared.token.TokenKind.TheVariants as token
 use Rattle.uc_tree.specs.declared.token.Sign.TheVariants as sign
 use Rattle.uc_tree.specs.declared.token.Word.TheVariants as word

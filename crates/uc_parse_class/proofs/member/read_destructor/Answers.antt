@@ -2,7 +2,7 @@ use Rattle.std.proofs.Common.{inl, inr}
 use Rattle.std.proofs.lemmas.Result.{err_from_is_err_and}
 use Rattle.uc_grammar.specs.Form.{Fails}
 use Rattle.uc_grammar.specs.Grammar.{member_maker, inner, faults}
-use Rattle.uc_parse_plain.proofs.Steps.{behind_fails}
+use Rattle.uc_parse_simple.proofs.Steps.{behind_fails}
 use Rattle.uc_parse_class.specs.Forms.{destructor_form}
 use Rattle.uc_tree.specs.declared.token.TokenKind.TheVariants as token
 use Rattle.uc_tree.specs.declared.token.Sign.TheVariants as sign

@@ -1,7 +1,7 @@
 use Rattle.std.proofs.lemmas.Result.{err_from_is_err_and}
 use Rattle.uc_grammar.specs.Form.{Fails}
 use Rattle.uc_grammar.specs.Grammar.{params_rest, params_form, inner, faults}
-use Rattle.uc_parse_plain.proofs.Steps.{behind_fails}
+use Rattle.uc_parse_simple.proofs.Steps.{behind_fails}
 use Rattle.uc_tree.specs.declared.token.TokenKind.TheVariants as token
 use Rattle.uc_tree.specs.declared.token.Sign.TheVariants as sign
 use Rattle.uc_parse_class.proofs.routine.read_params.Goals as goal

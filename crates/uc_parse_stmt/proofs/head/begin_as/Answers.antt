@@ -2,8 +2,8 @@ use Rattle.std.proofs.Common.{inl}
 use Rattle.std.proofs.lemmas.Result.{err_from_is_err_and}
 use Rattle.uc_grammar.specs.Form.{Fails}
 use Rattle.uc_grammar.specs.Grammar.{accept_form, inner, faults}
-use Rattle.uc_parse_stmt.proofs.Heads.{accept_head, try_head}
-use Rattle.uc_parse_stmt.proofs.Leads.{skip_read, open_read}
+use Rattle.uc_parse_stmt.proofs.HeadsLemmas.{accept_head, try_head}
+use Rattle.uc_parse_stmt.proofs.LeadsLemmas.{skip_read, open_read}
 use Rattle.uc_parse_stmt.proofs.head.begin_as.Goals as goal
 
 pub returns-in_err-first-in-Accept-clause-fails : goal.returns-in_err-first-in-Accept-clause-fails

@@ -2,7 +2,7 @@ use Rattle.std.proofs.Common.{inl, inr}
 use Rattle.std.proofs.lemmas.Result.{err_from_is_err_and}
 use Rattle.uc_grammar.specs.Form.{Fails}
 use Rattle.uc_grammar.specs.Grammar.{clause_form, inner, faults}
-use Rattle.uc_parse_stmt.proofs.Heads.{clause_head}
+use Rattle.uc_parse_stmt.proofs.HeadsLemmas.{clause_head}
 use Rattle.uc_parse_stmt.proofs.head.read_clause_head.Goals as goal
 
 pub returns-in_err-members-clause-fails : goal.returns-in_err-members-clause-fails

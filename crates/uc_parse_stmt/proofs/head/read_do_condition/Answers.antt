@@ -6,7 +6,7 @@ use Rattle.uc_tree.specs.declared.token.Word.TheVariants as word
 use Rattle.uc_grammar.specs.Form.{Fails}
 use Rattle.uc_grammar.specs.Grammar.{before, condition_form, inner, faults}
 use Rattle.uc_parse_stmt.specs.Forms.{do_condition}
-use Rattle.uc_parse_plain.proofs.Steps.{behind_fails}
+use Rattle.uc_parse_simple.proofs.Steps.{behind_fails}
 use Rattle.uc_parse_stmt.proofs.head.read_do_condition.Goals as goal
 
 pub returns-in_err-test-clause-fails : goal.returns-in_err-test-clause-fails

@@ -2,7 +2,7 @@ use Rattle.std.proofs.lemmas.Result.{err_from_is_err_and}
 use Rattle.uc_grammar.specs.Form.{Fails}
 use Rattle.uc_grammar.specs.Grammar.{inner, faults}
 use Rattle.uc_parse_stmt.specs.Forms.{do_test}
-use Rattle.uc_parse_stmt.proofs.Heads.{do_fails}
+use Rattle.uc_parse_stmt.proofs.HeadsLemmas.{do_fails}
 use Rattle.uc_parse_stmt.proofs.head.read_do_test.Goals as goal
 
 pub returns-in_err-test-clause-fails : goal.returns-in_err-test-clause-fails

@@ -4,7 +4,7 @@ use Rattle.uc_grammar.specs.Form.{Fails}
 use Rattle.uc_grammar.specs.Grammar.{for_rest, inner, faults}
 use Rattle.uc_parse_stmt.specs.Forms.{for_test, for_step}
 use Rattle.uc_parse_stmt.specs.Leads.{Leads}
-use Rattle.uc_parse_stmt.proofs.Heads.{for_opened, for_started, for_tested, for_head}
+use Rattle.uc_parse_stmt.proofs.HeadsLemmas.{for_opened, for_started, for_tested, for_head}
 use Rattle.uc_parse_stmt.proofs.head.read_for_head.Goals as goal
 
 pub returns-in_err-test-clause-fails : goal.returns-in_err-test-clause-fails

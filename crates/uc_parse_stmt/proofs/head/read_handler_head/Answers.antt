@@ -1,7 +1,7 @@
 use Rattle.std.proofs.Common.{rules, ◌≡◌, Some}
 use Rattle.uc_grammar.specs.Spell.{kind_at}
 use Rattle.uc_grammar.specs.Tables.{word_of, handler_of}
-use Rattle.uc_parse_stmt.proofs.Heads.{handler_head}
+use Rattle.uc_parse_stmt.proofs.HeadsLemmas.{handler_head}
 use Rattle.uc_parse_stmt.proofs.head.read_handler_head.Goals as goal
 
 pub returns-in_ok-head-in-Some-clause-leads : goal.returns-in_ok-head-in-Some-clause-leads

@@ -4,8 +4,8 @@ use Rattle.uc_grammar.specs.Form.{Fails, bind, apply}
 use Rattle.uc_grammar.specs.Grammar.{caught_form, handles, block_form, inner, faults}
 use Rattle.uc_parse_stmt.specs.Heads.{taken_form}
 use Rattle.uc_parse_stmt.specs.Leads.{Leads}
-use Rattle.uc_parse_plain.specs.Parts.{caught_of}
-use Rattle.uc_parse_stmt.proofs.Heads.{taken_opened, taken_caught, taken_head}
+use Rattle.uc_parse_simple.specs.Parts.{caught_of}
+use Rattle.uc_parse_stmt.proofs.HeadsLemmas.{taken_opened, taken_caught, taken_head}
 use Rattle.uc_parse_stmt.proofs.head.read_taken.Goals as goal
 
 pub returns-in_err-caught-clause-fails : goal.returns-in_err-caught-clause-fails

@@ -11,8 +11,8 @@ use Rattle.uc_parse_stmt.specs.Forms.{stmts_form}
 use Rattle.uc_parse_stmt.specs.Heads.{accept_rest, bodies_form, handler_rest, handlers_rest, clause_rest, clauses_rest, else_of, head_form, try_form}
 use Rattle.uc_parse_stmt.specs.Leads.{Leads}
 use Rattle.uc_parse_stmt.specs.Parts.{bodies_of}
-use Rattle.uc_parse_stmt.proofs.Heads.{headed_found, bodies_fail, close_fails}
-use Rattle.uc_parse_stmt.proofs.Leads.{in_listed}
+use Rattle.uc_parse_stmt.proofs.HeadsLemmas.{headed_found, bodies_fail, close_fails}
+use Rattle.uc_parse_stmt.proofs.LeadsLemmas.{in_listed}
 use Rattle.uc_parse_stmt.proofs.Below.{below_found, below_fails, none_below}
 use Rattle.uc_parse_stmt.proofs.parse.+stmt.Goals as goal
 

@@ -1,7 +1,7 @@
 use Rattle.std.proofs.Common.{◌≡◌, ◌+◌, true, false, Some, sym, ap, subst, ◌∙◌}
 use Rattle.std.specs.Prelude.{slice_get}
-use Rattle.uc_code.specs.Laid.{laid_of}
-use Rattle.uc_coroutine.specs.Ends.{BlockLeft, block_over}
+use Rattle.uc_code.specs.Layout.{laid_of}
+use Rattle.uc_coroutine.specs.MainEnds.{BlockLeft, block_over}
 use Rattle.uc_ride.proofs.Leading.{at_block, at_main, at_coroutine, cleans_by, cleans_no, tests}
 use Rattle.uc_ride.proofs.Lowering.{entered_falls, over_falls, tested_falls}
 use Rattle.uc_ride.proofs.events.begin.Goals as goal

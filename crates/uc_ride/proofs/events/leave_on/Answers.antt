@@ -1,14 +1,14 @@
 use Rattle.std.proofs.Common.{◌≡◌, sym, subst, ap, ◌∙◌}
-use Rattle.uc_code.specs.Laid.{laid_of}
+use Rattle.uc_code.specs.Layout.{laid_of}
 use Rattle.uc_entry.specs.declared.fault.RunFault.TheVariants.{EscapeInUnwind}
 use Rattle.uc_entry.specs.declared.request.Request.TheVariants as ask
 use Rattle.uc_entry.specs.Faults.{fault_number}
 use Rattle.uc_coroutine.specs.declared.leaving.Left.TheVariants as left
-use Rattle.uc_coroutine.specs.Outcomes.{LeftAs}
+use Rattle.uc_coroutine.specs.UnwindingSteps.{LeftAs}
 use Rattle.uc_coroutine.specs.Unwinding.{left_as}
 use Rattle.uc_step.specs.declared.stepped.Stepped.TheVariants.{Ask, Unwind}
-use Rattle.uc_step.specs.Falls.{RunFalls}
-use Rattle.uc_step.specs.Follow.{Follow}
+use Rattle.uc_step.specs.WeightFalls.{RunFalls}
+use Rattle.uc_step.specs.Simulation.{Follow}
 use Rattle.uc_ride.proofs.Leading.{asked_now, leaves}
 use Rattle.uc_ride.proofs.Lowering.{end_falls, fault_falls, returned_falls, passed_on_falls}
 use Rattle.uc_ride.proofs.events.leave_on.Goals as goal

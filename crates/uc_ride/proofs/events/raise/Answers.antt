@@ -1,12 +1,12 @@
 use Rattle.std.proofs.Common.{◌≡◌, ◌∷◌, None, sym, ap, subst, ◌∙◌, to_z, of_z, w64, rules}
-use Rattle.uc_code.specs.Laid.{laid_of}
+use Rattle.uc_code.specs.Layout.{laid_of}
 use Rattle.uc_machine.specs.declared.exec.Reason.TheVariants as reason
 use Rattle.uc_machine.specs.Raising.{event_in}
 use Rattle.uc_except.specs.Handling.{IsFound, handler_begun}
 use Rattle.uc_except.proofs.Handled.{begun_as}
 use Rattle.uc_except.proofs.Taken.{taken}
 use Rattle.uc_except.proofs.Thrown.{thrown_as}
-use Rattle.uc_ride.specs.Led.{how_ended}
+use Rattle.uc_ride.specs.UnwindingFalls.{how_ended}
 use Rattle.uc_ride.proofs.Leading.{Unwinding, fields_as, leads_on, raise_leads, handle_leads}
 use Rattle.uc_ride.proofs.Lowering.{raised_falls, found_falls}
 use Rattle.uc_ride.proofs.events.raise.Goals as goal

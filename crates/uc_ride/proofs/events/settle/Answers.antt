@@ -1,11 +1,11 @@
 use Rattle.std.proofs.Common.{◌≡◌, sym, subst, to_z, of_z, w64, rules}
-use Rattle.uc_code.specs.Laid.{laid_of}
+use Rattle.uc_code.specs.Layout.{laid_of}
 use Rattle.uc_machine.specs.declared.exec.Reason.TheVariants as reason
 use Rattle.uc_machine.specs.Raising.{event_in}
 use Rattle.uc_except.proofs.Thrown.{thrown_as}
-use Rattle.uc_step.specs.Falls.{FallsBelow}
-use Rattle.uc_step.specs.Follow.{Follow}
-use Rattle.uc_ride.specs.Led.{how_ended}
+use Rattle.uc_step.specs.WeightFalls.{FallsBelow}
+use Rattle.uc_step.specs.Simulation.{Follow}
+use Rattle.uc_ride.specs.UnwindingFalls.{how_ended}
 use Rattle.uc_ride.proofs.Leading.{Unwinding, fields_as, leads_on, throw_leads, past_leads, past_made, switch_leads}
 use Rattle.uc_ride.proofs.Lowering.{thrown_falls, past_falls, taken_falls}
 use Rattle.uc_ride.proofs.events.settle.Goals as goal

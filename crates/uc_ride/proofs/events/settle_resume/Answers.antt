@@ -1,10 +1,10 @@
 use Rattle.std.proofs.Common.{◌∙◌}
 use Rattle.uc_machine.specs.Switches.{wake}
-use Rattle.uc_code.specs.Laid.{laid_of}
+use Rattle.uc_code.specs.Layout.{laid_of}
 use Rattle.uc_frames.specs.Machine.{resumed}
 use Rattle.uc_step.specs.declared.stepped.Stepped.TheVariants.{Resume}
-use Rattle.uc_step.specs.Falls.{RunFalls}
-use Rattle.uc_step.specs.Follow.{behind_line}
+use Rattle.uc_step.specs.WeightFalls.{RunFalls}
+use Rattle.uc_step.specs.Simulation.{behind_line}
 use Rattle.uc_ride.proofs.Leading.{switch_settles}
 use Rattle.uc_ride.proofs.Lowering.{moved_same, resumed_falls, switch_falls}
 use Rattle.uc_ride.proofs.events.settle_resume.Goals as goal

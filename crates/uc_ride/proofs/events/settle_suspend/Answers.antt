@@ -1,9 +1,9 @@
 use Rattle.std.proofs.Common.{◌∙◌}
 use Rattle.uc_machine.specs.Switches.{suspend}
-use Rattle.uc_code.specs.Laid.{laid_of}
+use Rattle.uc_code.specs.Layout.{laid_of}
 use Rattle.uc_step.specs.declared.stepped.Stepped.TheVariants.{Suspend}
-use Rattle.uc_step.specs.Falls.{RunFalls}
-use Rattle.uc_step.specs.Follow.{behind_line}
+use Rattle.uc_step.specs.WeightFalls.{RunFalls}
+use Rattle.uc_step.specs.Simulation.{behind_line}
 use Rattle.uc_ride.proofs.Leading.{switch_settles}
 use Rattle.uc_ride.proofs.Lowering.{moved_same, suspended_falls, switch_falls}
 use Rattle.uc_ride.proofs.events.settle_suspend.Goals as goal

@@ -1,15 +1,15 @@
 use Rattle.std.proofs.Common.{◌≡◌, ◌<◌, ◌^◌, None, Some, true, false, refl, sym, ap, subst, ◌∙◌, to_z, of_z, w64, rules}
-use Rattle.uc_code.specs.Laid.{laid_of, chain}
-use Rattle.uc_frames.specs.Comes.{event_by}
+use Rattle.uc_code.specs.Layout.{laid_of, chain}
+use Rattle.uc_frames.specs.UnwindingOutcomes.{event_by}
 use Rattle.uc_frames.specs.Machine.{Active}
 use Rattle.uc_frames.specs.Searches.{catcher_in}
-use Rattle.uc_frames.specs.Unwound.{Unwinds}
-use Rattle.uc_coroutine.specs.Outcomes.{IsOwn, UnwoundTo}
+use Rattle.uc_frames.specs.UnwindingStands.{Unwinds}
+use Rattle.uc_coroutine.specs.UnwindingSteps.{IsOwn, UnwoundTo}
 use Rattle.uc_coroutine.specs.Unwinding.{Made, step_of}
 use Rattle.uc_except.specs.declared.found.Found.TheVariants.{Handler}
 use Rattle.uc_except.specs.Handling.{handler_begun}
 use Rattle.uc_except.proofs.Handled.{begun_as}
-use Rattle.uc_ride.specs.Led.{row_of, how_unwound, left_in}
+use Rattle.uc_ride.specs.UnwindingFalls.{row_of, how_unwound, left_in}
 use Rattle.uc_ride.proofs.Leading.{follow_before, reason_as, stays}
 use Rattle.uc_ride.proofs.Lowering.{entered_below, caught_falls}
 use Rattle.uc_ride.proofs.events.unwind_once.Goals as goal

@@ -1,6 +1,6 @@
 use Rattle.std.proofs.Common.{subst}
 use Rattle.uc_step.specs.declared.stepped.Stepped.TheVariants.{Quiet, Ask, Unwind}
-use Rattle.uc_ride.specs.Led.{how_unwound, left_in, StepFalls}
+use Rattle.uc_ride.specs.UnwindingFalls.{how_unwound, left_in, StepFalls}
 use Rattle.uc_ride.proofs.Leading.{Unwinding, unwinding_first, unwinding_on}
 use Rattle.uc_ride.proofs.events.unwinds.Goals as goal
 

@@ -1,11 +1,10 @@
-use Rattle.std.proofs.Common.{◌≡◌, sym, subst}
+use Rattle.std.proofs.Common.{subst}
 use Rattle.uc_frames.specs.Weight.{total}
-use Rattle.uc_step.specs.Falls.{Keeps, FallsBelow}
-use Rattle.uc_step.specs.Onwards.{OnwardFalls}
-use Rattle.uc_step.proofs.Falls.{lowers, keeps}
-use Rattle.uc_ride.specs.Led.{how_settled}
-use Rattle.uc_ride.specs.Rode.{HasCome}
-use Rattle.uc_ride.proofs.Riding.{Stepping, Onwarding, Settling, settled_on, settled_falls, asked_keeps, come_first, come_same, come_on, come_ticked, come_asked}
+use Rattle.uc_step.specs.OpEffects.{ended}
+use Rattle.uc_step.specs.WeightFalls.{FallsBelow}
+use Rattle.uc_step.proofs.WeightFallsLemmas.{lowers, keeps}
+use Rattle.uc_ride.specs.UnwindingFalls.{how_settled}
+use Rattle.uc_ride.proofs.Riding.{Stepping, Settling, settled_on, asked_keeps, come_first, come_on, come_ticked, come_asked}
 use Rattle.uc_ride.proofs.ride.burst.Goals as goal
 
 pub ops-init : goal.ops-init
@@ -14,90 +13,90 @@ ops-init c = record { come = come_first c.args.code.now c.args.work.now; kept = 
 pub ops-preserved-in-Quiet : goal.ops-preserved-in-Quiet
 ops-preserved-in-Quiet c =
     let code = c.args.code.now in
-    let f : Onwarding code c.ops.work c.in_ok-go_onward.field-0 c.go_onward.new.work = c.in_ok-go_onward.ensures.source in
+    let f : Stepping code c.ops.work (ended c.in_ok-step.field-0 c.step.new.stop) c.step.new.work = c.in_ok-step.ensures.source in
+    let l : FallsBelow code (total code.ops c.ops.work) (ended c.in_ok-step.field-0 c.step.new.stop) c.step.new.work = c.in_ok-step.ensures.falls c.requires.paced c.ops.invariant.kept in
     record {
-      come = come_on code c.args.work.now c.ops.work c.go_onward.new.work c.ops.invariant.come (subst (λ h. Onwarding code c.ops.work h c.go_onward.new.work) c.in-Quiet.is f);
-      kept = (subst (λ h. OnwardFalls code c.ops.work h c.go_onward.new.work) c.in-Quiet.is c.in_ok-go_onward.ensures.falls c.requires.paced c.ops.invariant.kept).1;
+      come = come_on code c.args.work.now c.ops.work c.step.new.work c.ops.invariant.come (subst (λ h. Stepping code c.ops.work (ended h c.step.new.stop) c.step.new.work) c.in-Quiet.is f);
+      kept = (lowers code (total code.ops c.ops.work) c.step.new.work (subst (λ h. FallsBelow code (total code.ops c.ops.work) (ended h c.step.new.stop) c.step.new.work) c.in-Quiet.is l)).1;
     }
 
 pub ops-smaller-in-Quiet : goal.ops-smaller-in-Quiet
 ops-smaller-in-Quiet c =
     let code = c.args.code.now in
-    (subst (λ h. OnwardFalls code c.ops.work h c.go_onward.new.work) c.in-Quiet.is c.in_ok-go_onward.ensures.falls c.requires.paced c.ops.invariant.kept).0
+    let l : FallsBelow code (total code.ops c.ops.work) (ended c.in_ok-step.field-0 c.step.new.stop) c.step.new.work = c.in_ok-step.ensures.falls c.requires.paced c.ops.invariant.kept in
+    (lowers code (total code.ops c.ops.work) c.step.new.work (subst (λ h. FallsBelow code (total code.ops c.ops.work) (ended h c.step.new.stop) c.step.new.work) c.in-Quiet.is l)).0
 
 pub returns-in-Tick-clause-burst : goal.returns-in-Tick-clause-burst
 returns-in-Tick-clause-burst c =
     let code = c.args.code.now in
-    let f : Onwarding code c.ops.work c.in_ok-go_onward.field-0 c.go_onward.new.work = c.in_ok-go_onward.ensures.source in
-    come_ticked code c.args.work.now c.ops.work c.go_onward.new.work c.ops.invariant.come (subst (λ h. Onwarding code c.ops.work h c.go_onward.new.work) c.in-Tick.is f)
+    let f : Stepping code c.ops.work (ended c.in_ok-step.field-0 c.step.new.stop) c.step.new.work = c.in_ok-step.ensures.source in
+    come_ticked code c.args.work.now c.ops.work c.step.new.work c.ops.invariant.come (subst (λ h. Stepping code c.ops.work (ended h c.step.new.stop) c.step.new.work) c.in-Tick.is f)
 
 pub returns-in-Tick-clause-kept : goal.returns-in-Tick-clause-kept
 returns-in-Tick-clause-kept c =
     let code = c.args.code.now in
-    subst (λ h. OnwardFalls code c.ops.work h c.go_onward.new.work) c.in-Tick.is c.in_ok-go_onward.ensures.falls c.requires.paced c.ops.invariant.kept
+    let l : FallsBelow code (total code.ops c.ops.work) (ended c.in_ok-step.field-0 c.step.new.stop) c.step.new.work = c.in_ok-step.ensures.falls c.requires.paced c.ops.invariant.kept in
+    keeps code (total code.ops c.ops.work) c.step.new.work (subst (λ h. FallsBelow code (total code.ops c.ops.work) (ended h c.step.new.stop) c.step.new.work) c.in-Tick.is l)
 
--- where the op was left to `step`, nothing was done before it.
+-- where it stops, what that leads to is done
 
 pub settle-requires-clause-below : goal.settle-requires-clause-below
 settle-requires-clause-below c =
     let code = c.args.code.now in
-    let same : c.go_onward.new.work ≡ c.ops.work = subst (λ x. OnwardFalls code c.ops.work x c.go_onward.new.work) c.in-Asks.is c.in_ok-go_onward.ensures.falls in
-    (total code.ops c.go_onward.new.work, c.in_ok-how-in-Asks.ensures.falls c.requires.paced (subst (λ m. Keeps code m) (sym same) c.ops.invariant.kept))
+    let l : FallsBelow code (total code.ops c.ops.work) (ended c.in_ok-step.field-0 c.step.new.stop) c.step.new.work = c.in_ok-step.ensures.falls c.requires.paced c.ops.invariant.kept in
+    (total code.ops c.ops.work, subst (λ h. FallsBelow code (total code.ops c.ops.work) (ended h c.step.new.stop) c.step.new.work) c.in-Stops.is l)
 
 pub ops-preserved : goal.ops-preserved
 ops-preserved c =
     let code = c.args.code.now in
-    let o : Onwarding code c.ops.work c.in_ok-go_onward.field-0 c.go_onward.new.work = c.in_ok-go_onward.ensures.source in
-    let h : HasCome code c.args.work.now c.go_onward.new.work = come_same code c.args.work.now c.ops.work c.go_onward.new.work c.ops.invariant.come (subst (λ x. Onwarding code c.ops.work x c.go_onward.new.work) c.in-Asks.is o) in
-    let f : Stepping code c.go_onward.new.work c.in_ok-how-in-Asks.how c.step.new.work = c.in_ok-how-in-Asks.ensures.source in
-    let g : Settling code c.in_ok-how-in-Asks.how c.step.new.work c.in_ok-after-in-Asks.after c.settle.new.work = c.in_ok-after-in-Asks.ensures.source in
-    let same : c.go_onward.new.work ≡ c.ops.work = subst (λ x. OnwardFalls code c.ops.work x c.go_onward.new.work) c.in-Asks.is c.in_ok-go_onward.ensures.falls in
-    let l = settled_falls code c.requires.paced c.ops.work c.go_onward.new.work c.step.new.work c.settle.new.work c.ops.invariant.kept same c.in_ok-how-in-Asks.how c.in_ok-after-in-Asks.after c.in_ok-how-in-Asks.ensures.falls c.in_ok-after-in-Asks.ensures.falls in
+    let f : Stepping code c.ops.work (ended c.in_ok-step.field-0 c.step.new.stop) c.step.new.work = c.in_ok-step.ensures.source in
+    let e : Stepping code c.ops.work c.step.new.stop c.step.new.work = subst (λ h. Stepping code c.ops.work (ended h c.step.new.stop) c.step.new.work) c.in-Stops.is f in
+    let g : Settling code c.step.new.stop c.step.new.work c.in_ok-after-in-Stops.after c.settle.new.work = c.in_ok-after-in-Stops.ensures.source in
+    let l : FallsBelow code (total code.ops c.ops.work) (ended c.in_ok-step.field-0 c.step.new.stop) c.step.new.work = c.in_ok-step.ensures.falls c.requires.paced c.ops.invariant.kept in
+    let k = c.in_ok-after-in-Stops.ensures.falls (total code.ops c.ops.work) (subst (λ h. FallsBelow code (total code.ops c.ops.work) (ended h c.step.new.stop) c.step.new.work) c.in-Stops.is l) in
     record {
-      come = come_on code c.args.work.now c.go_onward.new.work c.settle.new.work h
-          (subst (λ x. Stepping code c.go_onward.new.work (how_settled x) c.settle.new.work) c.in-On.is (settled_on code c.go_onward.new.work c.step.new.work c.settle.new.work c.in_ok-how-in-Asks.how c.in_ok-after-in-Asks.after f g));
-      kept = (lowers code (total code.ops c.ops.work) c.settle.new.work (subst (λ x. FallsBelow code (total code.ops c.ops.work) (how_settled x) c.settle.new.work) c.in-On.is l)).1;
+      come = come_on code c.args.work.now c.ops.work c.settle.new.work c.ops.invariant.come
+          (subst (λ x. Stepping code c.ops.work (how_settled x) c.settle.new.work) c.in-On.is (settled_on code c.ops.work c.step.new.work c.settle.new.work c.step.new.stop c.in_ok-after-in-Stops.after e g));
+      kept = (lowers code (total code.ops c.ops.work) c.settle.new.work (subst (λ x. FallsBelow code (total code.ops c.ops.work) (how_settled x) c.settle.new.work) c.in-On.is k)).1;
     }
 
 pub ops-smaller : goal.ops-smaller
 ops-smaller c =
     let code = c.args.code.now in
-    let same : c.go_onward.new.work ≡ c.ops.work = subst (λ x. OnwardFalls code c.ops.work x c.go_onward.new.work) c.in-Asks.is c.in_ok-go_onward.ensures.falls in
-    let l = settled_falls code c.requires.paced c.ops.work c.go_onward.new.work c.step.new.work c.settle.new.work c.ops.invariant.kept same c.in_ok-how-in-Asks.how c.in_ok-after-in-Asks.after c.in_ok-how-in-Asks.ensures.falls c.in_ok-after-in-Asks.ensures.falls in
-    (lowers code (total code.ops c.ops.work) c.settle.new.work (subst (λ x. FallsBelow code (total code.ops c.ops.work) (how_settled x) c.settle.new.work) c.in-On.is l)).0
+    let l : FallsBelow code (total code.ops c.ops.work) (ended c.in_ok-step.field-0 c.step.new.stop) c.step.new.work = c.in_ok-step.ensures.falls c.requires.paced c.ops.invariant.kept in
+    let k = c.in_ok-after-in-Stops.ensures.falls (total code.ops c.ops.work) (subst (λ h. FallsBelow code (total code.ops c.ops.work) (ended h c.step.new.stop) c.step.new.work) c.in-Stops.is l) in
+    (lowers code (total code.ops c.ops.work) c.settle.new.work (subst (λ x. FallsBelow code (total code.ops c.ops.work) (how_settled x) c.settle.new.work) c.in-On.is k)).0
 
 -- it makes a tick, or asks
 
 pub returns-in-Tick-after-clause-burst : goal.returns-in-Tick-after-clause-burst
 returns-in-Tick-after-clause-burst c =
     let code = c.args.code.now in
-    let o : Onwarding code c.ops.work c.in_ok-go_onward.field-0 c.go_onward.new.work = c.in_ok-go_onward.ensures.source in
-    let h : HasCome code c.args.work.now c.go_onward.new.work = come_same code c.args.work.now c.ops.work c.go_onward.new.work c.ops.invariant.come (subst (λ x. Onwarding code c.ops.work x c.go_onward.new.work) c.in-Asks.is o) in
-    let f : Stepping code c.go_onward.new.work c.in_ok-how-in-Asks.how c.step.new.work = c.in_ok-how-in-Asks.ensures.source in
-    let g : Settling code c.in_ok-how-in-Asks.how c.step.new.work c.in_ok-after-in-Asks.after c.settle.new.work = c.in_ok-after-in-Asks.ensures.source in
-    come_ticked code c.args.work.now c.go_onward.new.work c.settle.new.work h
-    (subst (λ x. Stepping code c.go_onward.new.work (how_settled x) c.settle.new.work) c.in-Tick-after.is (settled_on code c.go_onward.new.work c.step.new.work c.settle.new.work c.in_ok-how-in-Asks.how c.in_ok-after-in-Asks.after f g))
+    let f : Stepping code c.ops.work (ended c.in_ok-step.field-0 c.step.new.stop) c.step.new.work = c.in_ok-step.ensures.source in
+    let e : Stepping code c.ops.work c.step.new.stop c.step.new.work = subst (λ h. Stepping code c.ops.work (ended h c.step.new.stop) c.step.new.work) c.in-Stops.is f in
+    let g : Settling code c.step.new.stop c.step.new.work c.in_ok-after-in-Stops.after c.settle.new.work = c.in_ok-after-in-Stops.ensures.source in
+    come_ticked code c.args.work.now c.ops.work c.settle.new.work c.ops.invariant.come
+    (subst (λ x. Stepping code c.ops.work (how_settled x) c.settle.new.work) c.in-Tick-after.is (settled_on code c.ops.work c.step.new.work c.settle.new.work c.step.new.stop c.in_ok-after-in-Stops.after e g))
 
 pub returns-in-Tick-after-clause-kept : goal.returns-in-Tick-after-clause-kept
 returns-in-Tick-after-clause-kept c =
     let code = c.args.code.now in
-    let same : c.go_onward.new.work ≡ c.ops.work = subst (λ x. OnwardFalls code c.ops.work x c.go_onward.new.work) c.in-Asks.is c.in_ok-go_onward.ensures.falls in
-    let l = settled_falls code c.requires.paced c.ops.work c.go_onward.new.work c.step.new.work c.settle.new.work c.ops.invariant.kept same c.in_ok-how-in-Asks.how c.in_ok-after-in-Asks.after c.in_ok-how-in-Asks.ensures.falls c.in_ok-after-in-Asks.ensures.falls in
-    keeps code (total code.ops c.ops.work) c.settle.new.work (subst (λ x. FallsBelow code (total code.ops c.ops.work) (how_settled x) c.settle.new.work) c.in-Tick-after.is l)
+    let l : FallsBelow code (total code.ops c.ops.work) (ended c.in_ok-step.field-0 c.step.new.stop) c.step.new.work = c.in_ok-step.ensures.falls c.requires.paced c.ops.invariant.kept in
+    let k = c.in_ok-after-in-Stops.ensures.falls (total code.ops c.ops.work) (subst (λ h. FallsBelow code (total code.ops c.ops.work) (ended h c.step.new.stop) c.step.new.work) c.in-Stops.is l) in
+    keeps code (total code.ops c.ops.work) c.settle.new.work (subst (λ x. FallsBelow code (total code.ops c.ops.work) (how_settled x) c.settle.new.work) c.in-Tick-after.is k)
 
-pub returns-in-Asks-after-clause-burst : goal.returns-in-Asks-after-clause-burst
-returns-in-Asks-after-clause-burst c =
+pub returns-in-Asks-clause-burst : goal.returns-in-Asks-clause-burst
+returns-in-Asks-clause-burst c =
     let code = c.args.code.now in
-    let o : Onwarding code c.ops.work c.in_ok-go_onward.field-0 c.go_onward.new.work = c.in_ok-go_onward.ensures.source in
-    let h : HasCome code c.args.work.now c.go_onward.new.work = come_same code c.args.work.now c.ops.work c.go_onward.new.work c.ops.invariant.come (subst (λ x. Onwarding code c.ops.work x c.go_onward.new.work) c.in-Asks.is o) in
-    let f : Stepping code c.go_onward.new.work c.in_ok-how-in-Asks.how c.step.new.work = c.in_ok-how-in-Asks.ensures.source in
-    let g : Settling code c.in_ok-how-in-Asks.how c.step.new.work c.in_ok-after-in-Asks.after c.settle.new.work = c.in_ok-after-in-Asks.ensures.source in
-    come_asked code c.args.work.now c.go_onward.new.work c.settle.new.work c.in-Asks-after.asked h
-    (subst (λ x. Stepping code c.go_onward.new.work (how_settled x) c.settle.new.work) c.in-Asks-after.is (settled_on code c.go_onward.new.work c.step.new.work c.settle.new.work c.in_ok-how-in-Asks.how c.in_ok-after-in-Asks.after f g))
+    let f : Stepping code c.ops.work (ended c.in_ok-step.field-0 c.step.new.stop) c.step.new.work = c.in_ok-step.ensures.source in
+    let e : Stepping code c.ops.work c.step.new.stop c.step.new.work = subst (λ h. Stepping code c.ops.work (ended h c.step.new.stop) c.step.new.work) c.in-Stops.is f in
+    let g : Settling code c.step.new.stop c.step.new.work c.in_ok-after-in-Stops.after c.settle.new.work = c.in_ok-after-in-Stops.ensures.source in
+    come_asked code c.args.work.now c.ops.work c.settle.new.work c.in-Asks.asked c.ops.invariant.come
+    (subst (λ x. Stepping code c.ops.work (how_settled x) c.settle.new.work) c.in-Asks.is (settled_on code c.ops.work c.step.new.work c.settle.new.work c.step.new.stop c.in_ok-after-in-Stops.after e g))
 
-pub returns-in-Asks-after-clause-kept : goal.returns-in-Asks-after-clause-kept
-returns-in-Asks-after-clause-kept c =
+pub returns-in-Asks-clause-kept : goal.returns-in-Asks-clause-kept
+returns-in-Asks-clause-kept c =
     let code = c.args.code.now in
-    let same : c.go_onward.new.work ≡ c.ops.work = subst (λ x. OnwardFalls code c.ops.work x c.go_onward.new.work) c.in-Asks.is c.in_ok-go_onward.ensures.falls in
-    let l = settled_falls code c.requires.paced c.ops.work c.go_onward.new.work c.step.new.work c.settle.new.work c.ops.invariant.kept same c.in_ok-how-in-Asks.how c.in_ok-after-in-Asks.after c.in_ok-how-in-Asks.ensures.falls c.in_ok-after-in-Asks.ensures.falls in
-    asked_keeps code (total code.ops c.ops.work) c.in-Asks-after.asked c.settle.new.work (subst (λ x. FallsBelow code (total code.ops c.ops.work) (how_settled x) c.settle.new.work) c.in-Asks-after.is l)
+    let l : FallsBelow code (total code.ops c.ops.work) (ended c.in_ok-step.field-0 c.step.new.stop) c.step.new.work = c.in_ok-step.ensures.falls c.requires.paced c.ops.invariant.kept in
+    let k = c.in_ok-after-in-Stops.ensures.falls (total code.ops c.ops.work) (subst (λ h. FallsBelow code (total code.ops c.ops.work) (ended h c.step.new.stop) c.step.new.work) c.in-Stops.is l) in
+    asked_keeps code (total code.ops c.ops.work) c.in-Asks.asked c.settle.new.work (subst (λ x. FallsBelow code (total code.ops c.ops.work) (how_settled x) c.settle.new.work) c.in-Asks.is k)

@@ -1,6 +1,6 @@
 use Rattle.uc_frames.specs.Weight.{total}
-use Rattle.uc_step.specs.Falls.{Keeps}
-use Rattle.uc_ride.specs.Rode.{HasCome}
+use Rattle.uc_step.specs.WeightFalls.{Keeps}
+use Rattle.uc_ride.specs.RideStands.{HasCome}
 use Rattle.uc_ride.proofs.ride.burst.Given as goal
 
 -- each ride from here is one from the start

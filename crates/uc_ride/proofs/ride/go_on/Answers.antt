@@ -1,8 +1,8 @@
 use Rattle.std.proofs.Common.{subst, sym, arith}
 use Rattle.uc_entry.specs.declared.request.Asked.{Asked}
-use Rattle.uc_step.specs.Falls.{Keeps}
-use Rattle.uc_ride.specs.Led.{BurstKeeps, KeepsAfter}
-use Rattle.uc_ride.specs.Rode.{HasBurst}
+use Rattle.uc_step.specs.WeightFalls.{Keeps}
+use Rattle.uc_ride.specs.UnwindingFalls.{BurstKeeps, KeepsAfter}
+use Rattle.uc_ride.specs.RideStands.{HasBurst}
 use Rattle.uc_ride.proofs.Riding.{way_first, way_ticked, way_asked, way_sliced}
 use Rattle.uc_ride.proofs.ride.go_on.Goals as goal
 

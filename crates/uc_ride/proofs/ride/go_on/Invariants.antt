@@ -1,6 +1,6 @@
 use Rattle.std.proofs.Common.{◌<◌, ◌-◌}
-use Rattle.uc_step.specs.Falls.{Keeps}
-use Rattle.uc_ride.specs.Rode.{IsOnWay}
+use Rattle.uc_step.specs.WeightFalls.{Keeps}
+use Rattle.uc_ride.specs.RideStands.{IsOnWay}
 use Rattle.uc_ride.proofs.ride.go_on.Given as goal
 
 -- each ride from here is one from the start

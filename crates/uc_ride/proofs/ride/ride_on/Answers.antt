@@ -1,6 +1,6 @@
 use Rattle.std.proofs.Common.{sym, subst}
-use Rattle.uc_step.specs.Falls.{Keeps}
-use Rattle.uc_step.proofs.Falls.{answer_keeps}
+use Rattle.uc_step.specs.WeightFalls.{Keeps}
+use Rattle.uc_step.proofs.WeightFallsLemmas.{answer_keeps}
 use Rattle.uc_ride.proofs.ride.ride_on.Goals as goal
 
 pub go_on-requires-clause-kept : goal.go_on-requires-clause-kept

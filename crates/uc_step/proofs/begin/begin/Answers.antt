@@ -1,4 +1,4 @@
-use Rattle.uc_step.proofs.Starts.{starts_some, starts_none}
+use Rattle.uc_step.proofs.StartsLemmas.{starts_some, starts_none}
 use Rattle.uc_step.proofs.begin.begin.Goals as goal
 
 pub returns-in_ok-work-in-Some-clause-source : goal.returns-in_ok-work-in-Some-clause-source

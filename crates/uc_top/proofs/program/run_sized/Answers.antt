@@ -1,5 +1,5 @@
 use Rattle.std.proofs.Common.{subst}
-use Rattle.uc_lower.specs.Refusing.{Refuses, IsLarge}
+use Rattle.uc_lower.specs.Refusals.{Refuses, IsLarge}
 use Rattle.uc_top.proofs.Frames.{accepted, fit_frames}
 use Rattle.uc_top.proofs.program.run_sized.Goals as goal
 

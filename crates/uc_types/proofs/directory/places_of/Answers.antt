@@ -1,6 +1,6 @@
 use Rattle.std.proofs.Common.{rules, ap, sym, subst, map, take, length, get_or, ◌∙◌, ◌≡◌, ◌<◌, ◌++◌, ◌∷◌, []}
 use Rattle.std.proofs.lemmas.List.{map_more}
-use Rattle.uc_sizes.specs.Places.{IsPlaces}
+use Rattle.uc_layout.specs.Places.{IsPlaces}
 use Rattle.uc_types.proofs.Placed.{length_taken}
 use Rattle.uc_types.proofs.directory.places_of.Goals as goal
 

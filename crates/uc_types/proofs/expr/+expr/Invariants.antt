@@ -3,7 +3,7 @@ use Rattle.uc_tree.specs.Expressions.{exprs_of, parts_of, links_of}
 use Rattle.uc_tree.specs.ExpressionSizes.{expr_size, exprs_size, part_size, parts_size, link_size, links_size}
 use Rattle.uc_rules.specs.Entities.{parts_entity, chain_entity, are_sound}
 use Rattle.uc_rules.specs.Visits.{parts_visits, chain_visits, args_visits}
-use Rattle.uc_types.specs.Told.{noted}
+use Rattle.uc_types.specs.FirstBreak.{noted}
 use Rattle.uc_types.proofs.expr.+expr.Given as goal
 
 abbrev pub invariant-check_args-loop-place : goal.invariant-check_args-loop-place

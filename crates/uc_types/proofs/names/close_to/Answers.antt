@@ -1,5 +1,5 @@
 use Rattle.std.proofs.Common.{ap, ◌∙◌, ◌≡◌, ◌<◌, ◌≤◌, ◌-◌, suc, [], length, take, drop, arith}
-use Rattle.uc_types.specs.Stacked.{stacked}
+use Rattle.uc_types.specs.LocalBlocks.{stacked}
 use Rattle.uc_types.proofs.Stacks.{stacked_pop, stacked_some, take_fewer}
 use Rattle.uc_types.proofs.names.close_to.Goals as goal
 

@@ -1,5 +1,5 @@
 use Rattle.std.proofs.Common.{◌≡◌, ◌≤◌, length, take, []}
-use Rattle.uc_types.specs.Stacked.{stacked}
+use Rattle.uc_types.specs.LocalBlocks.{stacked}
 use Rattle.uc_types.proofs.names.close_to.Given as goal
 
 abbrev pub invariant-loop-place : goal.invariant-loop-place

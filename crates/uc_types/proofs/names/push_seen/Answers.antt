@@ -1,5 +1,5 @@
 use Rattle.std.proofs.Common.{rules, ap, sym, ◌∙◌, ◌≡◌, ◌+◌, ◌++◌, ◌∷◌, [], length, arith}
-use Rattle.uc_types.specs.Stacked.{stacked}
+use Rattle.uc_types.specs.LocalBlocks.{stacked}
 use Rattle.uc_types.proofs.Stacks.{stacked_push}
 use Rattle.uc_types.proofs.names.push_seen.Goals as goal
 

@@ -1,6 +1,6 @@
 use Rattle.std.proofs.Common.{sym, subst, ap, ◌∙◌}
-use Rattle.uc_sizes.specs.Places.{IsPlaces}
-use Rattle.uc_types.specs.Outside.{group_named}
+use Rattle.uc_layout.specs.Places.{IsPlaces}
+use Rattle.uc_types.specs.OuterConstructors.{group_named}
 use Rattle.uc_types.proofs.Grouped.{owners, owners_kept, grown_is, begun_is}
 use Rattle.uc_types.proofs.outside.push.Goals as goal
 

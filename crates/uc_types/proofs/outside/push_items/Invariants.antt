@@ -1,5 +1,5 @@
 use Rattle.std.proofs.Common.{◌≡◌, ◌++◌, ℕ, List, drop}
-use Rattle.uc_types.specs.Outside.{ArePlaced, constructors_in, group_named}
+use Rattle.uc_types.specs.OuterConstructors.{ArePlaced, constructors_in, group_named}
 use Rattle.uc_types.proofs.outside.push_items.Given as goal
 
 abbrev pub invariant-loop-item : goal.invariant-loop-item

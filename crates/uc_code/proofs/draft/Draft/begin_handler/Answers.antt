@@ -2,8 +2,8 @@ use Rattle.std.proofs.Common.{◌≡◌, List, length, reverse, ap, sym, subst, 
 use Rattle.uc_code.specs.declared.rows.Handler.{Handler}
 use Rattle.uc_code.specs.declared.rows.Mark.{Mark}
 use Rattle.uc_code.specs.Drafts.{Draft}
-use Rattle.uc_code.specs.Laid.{laid_in, handlers}
-use Rattle.uc_code.specs.Ranges.{IsBare}
+use Rattle.uc_code.specs.Layout.{laid_in, handlers}
+use Rattle.uc_code.specs.CodeShapes.{IsBare}
 use Rattle.uc_code.proofs.Handling.{rows_are, rows_fit, settled_handler, kept_handler, handler_set}
 use Rattle.uc_code.proofs.draft.Draft.begin_handler.Goals as goal
 

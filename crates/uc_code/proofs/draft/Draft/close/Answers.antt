@@ -1,6 +1,6 @@
 use Rattle.std.proofs.Common.{◌≡◌, ◌∙◌, ◌+◌, length, reverse, drop, Some, ap, sym, arith, rules}
 use Rattle.uc_code.specs.Drafts.{Draft}
-use Rattle.uc_code.specs.Open.{row_in, entry_in}
+use Rattle.uc_code.specs.OpenRows.{row_in, entry_in}
 use Rattle.uc_code.proofs.Closed.{reverse_rest}
 use Rattle.uc_code.proofs.Settled.{settled_close, kept_close, handler_closed, bare_closed}
 use Rattle.uc_code.proofs.draft.Draft.close.Goals as goal

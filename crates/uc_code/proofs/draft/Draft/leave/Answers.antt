@@ -1,6 +1,6 @@
 use Rattle.std.proofs.Common.{◌≡◌, ◌∙◌, List, true, length, reverse, ap, sym, rules}
 use Rattle.uc_code.specs.declared.rows.Mark.{Mark}
-use Rattle.uc_code.specs.Open.{is_rowless, left_marks}
+use Rattle.uc_code.specs.OpenRows.{is_rowless, left_marks}
 use Rattle.uc_code.proofs.Closed.{reverse_rest}
 use Rattle.uc_code.proofs.Settled.{left_tail, settled_left}
 use Rattle.uc_code.proofs.draft.Draft.leave.Goals as goal

@@ -1,5 +1,5 @@
 use Rattle.std.proofs.Common.{arith}
-use Rattle.uc_code.specs.Open.{Bare}
+use Rattle.uc_code.specs.OpenRows.{Bare}
 use Rattle.uc_code.proofs.draft.Draft.new.Goals as goal
 
 pub invariant_of-result : goal.invariant_of-result

@@ -3,8 +3,8 @@ use Rattle.uc_code.specs.declared.rows.HandlerRow.{HandlerRow}
 use Rattle.uc_code.specs.declared.rows.Mark.{Mark}
 use Rattle.uc_code.specs.declared.rows.TheConstants.{OPEN_END}
 use Rattle.uc_code.specs.Drafts.{Draft}
-use Rattle.uc_code.specs.Laid.{handlers, under}
-use Rattle.uc_code.specs.Open.{OpensBehind, first_in, name_of, named_by, opening_bound, opening_around, opening_mark, made}
+use Rattle.uc_code.specs.Layout.{handlers, under}
+use Rattle.uc_code.specs.OpenRows.{OpensBehind, first_in, name_of, named_by, opening_bound, opening_around, opening_mark, made}
 use Rattle.uc_code.proofs.Closing.{reverse_push}
 use Rattle.uc_code.proofs.Settled.{outer_is, outer_fits, row_made, settled_open, kept_open}
 use Rattle.uc_code.proofs.draft.Draft.open.Goals as goal

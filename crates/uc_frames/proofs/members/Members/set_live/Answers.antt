@@ -1,10 +1,11 @@
-use Rattle.uc_frames.proofs.Slots.{live_none, live_there}
+use Rattle.uc_frames.specs.Machine.{lively}
+use Rattle.uc_frames.proofs.Slots.{links_none, links_there}
 use Rattle.uc_frames.proofs.Ascending.{ascends_set}
 use Rattle.uc_frames.proofs.members.Members.set_live.Goals as goal
 
 pub returns-in_default-1₀ : goal.returns-in_default-1₀
 returns-in_default-1₀ c =
-    rw (← c.self.view_is) (live_none c.args.serial _ c.in-Some.i c.in-Some.ensures c.get_mut-slot.result.now c.get_mut-slot.ensures.value c.args.live c.in_default-1₀.is)
+    rw (← c.self.view_is) (links_none c.args.serial _ c.in-Some.i c.in-Some.ensures c.get_mut-slot.result.now c.get_mut-slot.ensures.value (lively c.args.live) c.in_default-1₀.is)
 
 -- the order of the numbers
 pub position_in_order-requires : goal.position_in_order-requires
@@ -16,4 +17,4 @@ invariant_of-self c =
 
 pub returns-in-Some-1₀ : goal.returns-in-Some-1₀
 returns-in-Some-1₀ c =
-    rw (← c.self.view_is) (live_there c.args.serial _ c.in-Some.i c.in-Some.ensures c.get_mut-slot.result.now c.get_mut-slot.ensures.value c.args.live c.in-Some-1₀.stack c.set_live.new.self c.in-Some-1₀.is c.set_live.ensures)
+    rw (← c.self.view_is) (links_there c.args.serial _ c.in-Some.i c.in-Some.ensures c.get_mut-slot.result.now c.get_mut-slot.ensures.value (lively c.args.live) c.in-Some-1₀.stack c.set_live.new.self c.in-Some-1₀.is c.set_live.ensures)

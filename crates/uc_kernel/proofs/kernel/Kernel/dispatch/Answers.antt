@@ -1,5 +1,5 @@
 use Rattle.std.proofs.Common.{sym, ◌∙◌, subst}
-use Rattle.uc_kernel.specs.Kept.{Store, kept, stored}
+use Rattle.uc_kernel.specs.KernelState.{Store, kept, stored}
 use Rattle.uc_kernel.specs.Calls.{GivesNone, Dispatched}
 use Rattle.uc_kernel.proofs.Dispatching.{is_ready_of, known, small, still_going, kept_some, dispatched, gives_none, kept_none}
 use Rattle.uc_kernel.proofs.kernel.Kernel.dispatch.Goals as goal

@@ -1,7 +1,7 @@
 use Rattle.std.proofs.Common.{sym, ap, ◌∙◌, subst, arith}
 use Rattle.uc_acts.specs.Journal.{is_over}
 use Rattle.uc_acts.specs.KernelRuns.{KernelRuns}
-use Rattle.uc_kernel.specs.Kept.{Store}
+use Rattle.uc_kernel.specs.KernelState.{Store}
 use Rattle.uc_kernel.specs.Calls.{EndsRun}
 use Rattle.uc_kernel.proofs.Lasts.{ends_at}
 use Rattle.uc_kernel.proofs.kernel.Kernel.ending.Goals as goal

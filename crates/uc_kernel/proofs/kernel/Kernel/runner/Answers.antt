@@ -5,4 +5,4 @@ use Rattle.uc_kernel.proofs.kernel.Kernel.runner.Goals as goal
 pub left-requires-clause-task : goal.left-requires-clause-task
 left-requires-clause-task g c =
     let b = c.self.inside.book in
-    runner_small b.opts b.sites b.input c.self.invariant.runs c.args.processor c.in-Some.task (sym c.in-Some.ensures)
+    runner_small b.opts b.sites b.input c.self.invariant.runs c.args.processor c.in-Some.task (sym c.in-Some.ensures.runs)

@@ -1,53 +1,40 @@
-use Rattle.std.proofs.Common.{ℕ, ◌<◌, ap, subst, sym, ◌∙◌}
-use Rattle.uc_links.specs.Lists.{Pool, IsEntry, IsFree, lists_at, unlinked}
-use Rattle.uc_links.proofs.Pools.{known}
-use Rattle.uc_links.proofs.Looks.{entry_known, entry_at, entry_below, entry_node, node_asked, held_asked, unlink_gives}
+use Rattle.std.proofs.Common.{ℕ, ◌<◌, subst, sym, refl, length-set}
+use Rattle.std.specs.Vec.{with_item}
+use Rattle.uc_links.specs.Lists.{IsFree}
+use Rattle.uc_links.specs.Rows.{wholes}
 use Rattle.uc_links.proofs.Freed.{unlinked_is_free}
+use Rattle.uc_links.proofs.Moves.{entry_object, entry_is_below, entry_at_node, has_row, row_below, leave_node, leave_held, leaves}
 use Rattle.uc_links.proofs.pool.Links.unlink.Goals as goal
 
 pub node_at-place-requires : goal.node_at-place-requires
-node_at-place-requires g c =
-    let v = c.self.inside.nodes in let obs = c.self.inside.objects in
-    entry_below v obs c.args.object c.args.id c.self.invariant (known v obs c.args.self.now c.self.view_is c.args.object (entry_known c.args.id c.args.self.now c.args.object c.requires.entry)) (entry_at c.args.id _ (subst (λ (p : Pool). IsEntry c.args.id (lists_at p c.args.object).entries) (sym c.self.view_is) c.requires.entry))
+node_at-place-requires g c = let s = c.self.inside in entry_is_below s.nodes s.objects.items s.rows c.args.self.now c.self.invariant c.self.view_is c.args.object c.args.id c.requires.entry
 
 pub label_of-label-requires : goal.label_of-label-requires
-label_of-label-requires g c =
-    let v = c.self.inside.nodes in let obs = c.self.inside.objects in
-    entry_node v c.node_at-place.new.nodes obs c.args.object c.args.id c.node_at-place.result c.self.invariant (known v obs c.args.self.now c.self.view_is c.args.object (entry_known c.args.id c.args.self.now c.args.object c.requires.entry))
-    (entry_at c.args.id _ (subst (λ (p : Pool). IsEntry c.args.id (lists_at p c.args.object).entries) (sym c.self.view_is) c.requires.entry)) c.node_at-place.ensures.value c.node_at-place.ensures.unchanged
-
-pub leave-requires-clause-node : goal.leave-requires-clause-node
-leave-requires-clause-node g c =
-    let v = c.self.inside.nodes in let obs = c.self.inside.objects in
-    node_asked v c.node_at-place.new.nodes c.label_of-label.new.nodes obs c.args.object c.args.id c.index_mut-left.result.now c.node_at-place.result c.self.invariant (known v obs c.args.self.now c.self.view_is c.args.object (entry_known c.args.id c.args.self.now c.args.object c.requires.entry))
-    (entry_at c.args.id _ (subst (λ (p : Pool). IsEntry c.args.id (lists_at p c.args.object).entries) (sym c.self.view_is) c.requires.entry)) c.node_at-place.ensures.value c.node_at-place.ensures.unchanged c.label_of-label.ensures.same c.index_mut-left.ensures.value
-    c.label_of-label.result c.label_of-label.ensures.value
-
-pub leave-requires-clause-held : goal.leave-requires-clause-held
-leave-requires-clause-held g c =
-    let v = c.self.inside.nodes in let obs = c.self.inside.objects in
-    held_asked v c.node_at-place.new.nodes c.label_of-label.new.nodes obs c.args.object c.args.id c.index_mut-left.result.now c.node_at-place.result c.self.invariant (known v obs c.args.self.now c.self.view_is c.args.object (entry_known c.args.id c.args.self.now c.args.object c.requires.entry))
-    (entry_at c.args.id _ (subst (λ (p : Pool). IsEntry c.args.id (lists_at p c.args.object).entries) (sym c.self.view_is) c.requires.entry)) c.node_at-place.ensures.value c.node_at-place.ensures.unchanged c.label_of-label.ensures.same c.index_mut-left.ensures.value
-
-pub invariant_of-self : goal.invariant_of-self
-invariant_of-self g c =
-    let v = c.self.inside.nodes in let obs = c.self.inside.objects in
-    (unlink_gives v c.node_at-place.new.nodes c.label_of-label.new.nodes obs c.args.object c.args.id c.index_mut-left.result.now c.node_at-place.result c.self.invariant (known v obs c.args.self.now c.self.view_is c.args.object (entry_known c.args.id c.args.self.now c.args.object c.requires.entry))
-    (entry_at c.args.id _ (subst (λ (p : Pool). IsEntry c.args.id (lists_at p c.args.object).entries) (sym c.self.view_is) c.requires.entry)) c.node_at-place.ensures.value c.node_at-place.ensures.unchanged c.label_of-label.ensures.same c.index_mut-left.ensures.value
-    c.leave.new.nodes c.leave.new.object c.leave.ensures.held).0
-
-pub returns-clause-lists : goal.returns-clause-lists
-returns-clause-lists g c =
-    let v = c.self.inside.nodes in let obs = c.self.inside.objects in
-    (unlink_gives v c.node_at-place.new.nodes c.label_of-label.new.nodes obs c.args.object c.args.id c.index_mut-left.result.now c.node_at-place.result c.self.invariant (known v obs c.args.self.now c.self.view_is c.args.object (entry_known c.args.id c.args.self.now c.args.object c.requires.entry))
-    (entry_at c.args.id _ (subst (λ (p : Pool). IsEntry c.args.id (lists_at p c.args.object).entries) (sym c.self.view_is) c.requires.entry)) c.node_at-place.ensures.value c.node_at-place.ensures.unchanged c.label_of-label.ensures.same c.index_mut-left.ensures.value
-    c.leave.new.nodes c.leave.new.object c.leave.ensures.held).1 ∙ ap (λ (p : Pool). unlinked p c.args.object c.args.id) c.self.view_is
+label_of-label-requires g c = let s = c.self.inside in entry_at_node s.nodes s.objects.items s.rows c.args.self.now c.self.invariant c.self.view_is c.args.object c.args.id c.requires.entry c.node_at-place.new.nodes c.node_at-place.result c.node_at-place.ensures.value c.node_at-place.ensures.unchanged
 
 pub index_mut-left-requires : goal.index_mut-left-requires
-index_mut-left-requires g c =
-    let v = c.self.inside.nodes in let obs = c.self.inside.objects in
-    subst (λ (n : ℕ). c.args.object < n) (sym obs.ok.0) (known v obs c.args.self.now c.self.view_is c.args.object (entry_known c.args.id c.args.self.now c.args.object c.requires.entry))
+index_mut-left-requires g c = let s = c.self.inside in subst (λ (n : ℕ). c.args.object < n) (sym s.objects.ok.0) (entry_object s.nodes s.objects.items s.rows c.args.self.now c.self.invariant c.self.view_is c.args.object c.args.id c.requires.entry)
+
+pub unwrap-number-requires : goal.unwrap-number-requires
+unwrap-number-requires g c = let s = c.self.inside in has_row s.nodes s.objects.items s.rows c.args.self.now c.self.invariant c.self.view_is c.args.object c.args.id c.requires.entry c.index_mut-left.result.now c.index_mut-left.ensures.value
+
+pub index_mut-row-requires : goal.index_mut-row-requires
+index_mut-row-requires g c = let s = c.self.inside in subst (λ (n : ℕ). c.unwrap-number.result < n) (sym s.rows.list.ok.0) (row_below s.nodes s.objects.items s.rows c.args.self.now c.self.invariant c.self.view_is c.args.object c.args.id c.requires.entry c.index_mut-left.result.now c.index_mut-left.ensures.value c.unwrap-number.result c.unwrap-number.ensures)
+
+pub leave-requires-clause-node : goal.leave-requires-clause-node
+leave-requires-clause-node g c = let s = c.self.inside in leave_node s.nodes s.objects.items s.rows c.args.self.now c.self.invariant c.self.view_is c.args.object c.args.id c.requires.entry c.index_mut-left.result.now c.index_mut-left.ensures.value c.unwrap-number.result c.unwrap-number.ensures c.index_mut-row.result.now c.index_mut-row.ensures.value c.node_at-place.new.nodes c.label_of-label.new.nodes c.node_at-place.result c.node_at-place.ensures.value c.node_at-place.ensures.unchanged c.label_of-label.ensures.same c.label_of-label.result c.label_of-label.ensures.value
+
+pub leave-requires-clause-held : goal.leave-requires-clause-held
+leave-requires-clause-held g c = let s = c.self.inside in leave_held s.nodes s.objects.items s.rows c.args.self.now c.self.invariant c.self.view_is c.args.object c.args.id c.requires.entry c.index_mut-left.result.now c.index_mut-left.ensures.value c.unwrap-number.result c.unwrap-number.ensures c.index_mut-row.result.now c.index_mut-row.ensures.value c.node_at-place.new.nodes c.label_of-label.new.nodes c.node_at-place.result c.node_at-place.ensures.value c.node_at-place.ensures.unchanged c.label_of-label.ensures.same
+
+pub invariant_of-self : goal.invariant_of-self
+invariant_of-self g c = let s = c.self.inside in (leaves s.nodes s.objects.items s.rows c.args.self.now c.self.invariant c.self.view_is c.args.object c.args.id c.requires.entry c.index_mut-left.result.now c.index_mut-left.ensures.value c.unwrap-number.result c.unwrap-number.ensures c.index_mut-row.result.now c.index_mut-row.ensures.value c.node_at-place.new.nodes c.label_of-label.new.nodes c.node_at-place.result c.node_at-place.ensures.value c.node_at-place.ensures.unchanged c.label_of-label.ensures.same c.leave.new.nodes c.leave.new.object c.vacate.new.object c.leave.new.row (record { list = with_item s.rows.list c.unwrap-number.result c.leave.new.row; free = s.rows.free }) c.vacate.new.rows c.leave.ensures.row c.leave.ensures.held refl refl c.vacate.ensures.vacated c.vacate.ensures.capacity).0
+
+pub returns-clause-lists : goal.returns-clause-lists
+returns-clause-lists g c = let s = c.self.inside in (leaves s.nodes s.objects.items s.rows c.args.self.now c.self.invariant c.self.view_is c.args.object c.args.id c.requires.entry c.index_mut-left.result.now c.index_mut-left.ensures.value c.unwrap-number.result c.unwrap-number.ensures c.index_mut-row.result.now c.index_mut-row.ensures.value c.node_at-place.new.nodes c.label_of-label.new.nodes c.node_at-place.result c.node_at-place.ensures.value c.node_at-place.ensures.unchanged c.label_of-label.ensures.same c.leave.new.nodes c.leave.new.object c.vacate.new.object c.leave.new.row (record { list = with_item s.rows.list c.unwrap-number.result c.leave.new.row; free = s.rows.free }) c.vacate.new.rows c.leave.ensures.row c.leave.ensures.held refl refl c.vacate.ensures.vacated c.vacate.ensures.capacity).1
 
 pub returns-clause-free : goal.returns-clause-free
-returns-clause-free g c =
-    subst (IsFree c.args.id) (sym (returns-clause-lists g c)) (unlinked_is_free c.self.inside.nodes c.self.inside.objects c.args.self.now c.args.object c.args.id c.self.invariant c.self.view_is c.requires.entry)
+returns-clause-free g c = let s = c.self.inside in subst (IsFree c.args.id) (sym (returns-clause-lists g c)) (unlinked_is_free s.nodes (wholes s.rows.list.items s.objects.items) c.args.self.now c.args.object c.args.id c.self.invariant.0 c.self.view_is c.requires.entry)
+
+pub vacate-requires : goal.vacate-requires
+vacate-requires g c = let s = c.self.inside in subst (λ (n : ℕ). c.unwrap-number.result < n) (sym (length-set s.rows.list.items c.unwrap-number.result c.leave.new.row)) (row_below s.nodes s.objects.items s.rows c.args.self.now c.self.invariant c.self.view_is c.args.object c.args.id c.requires.entry c.index_mut-left.result.now c.index_mut-left.ensures.value c.unwrap-number.result c.unwrap-number.ensures)

@@ -1,5 +1,5 @@
 use Rattle.std.proofs.Common.{ap, ◌∙◌}
-use Rattle.uc_types.specs.Outside.{constructors_in}
+use Rattle.uc_types.specs.OuterConstructors.{constructors_in}
 use Rattle.uc_types.proofs.tables.Tables.constructors_of.Goals as goal
 
 pub returns : goal.returns

@@ -1,7 +1,0 @@
-use Rattle.std.proofs.Common.{◌≡◌, drop}
-use Rattle.uc_rules.specs.Visits.{outs_visits}
-use Rattle.uc_types.specs.Told.{noted}
-use Rattle.uc_bodies.proofs.parts.check_items.Given as goal
-
-abbrev pub invariant-loop-item : goal.invariant-loop-item
-invariant-loop-item l = noted l.found (outs_visits l.names (drop l.item-index l.items)) ≡ noted l.fn.found (outs_visits l.names l.items)

@@ -1,0 +1,13 @@
+use Rattle.std.proofs.Common.{rules, length, ◌<◌}
+use Rattle.uc_check_index.specs.Topics.{key_of}
+use Rattle.uc_check_index.proofs.FirstsLemmas.{firsts_more, no_firsts}
+use Rattle.uc_check_index.proofs.keyed.firsts_by_key.Goals as goal
+
+pub loop-place-init : goal.loop-place-init
+loop-place-init c = no_firsts (key_of c.args.topic) c.in_ok-firsts.firsts c.in_ok-firsts.ensures
+
+pub loop-place-preserved : goal.loop-place-preserved
+loop-place-preserved c =
+    let xs = c.args.items.now in
+    let within : c.loop-place.place < length xs = search rules in
+    firsts_more (key_of c.args.topic) xs c.loop-place.place c.index-items-place.result _ c.loop-place.firsts c.note_key.new.firsts within c.index-items-place.is c.in_ok-key.ensures c.in_ok-note_key.ensures c.loop-place.invariant

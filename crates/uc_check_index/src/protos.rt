@@ -1,0 +1,199 @@
+// Tables of the prototypes in a class.
+
+ghost use Rattle.std.specs.Prelude.{◌≡◌, ◌∷◌, List, IfOk, MatchOption, option_map, slice_get};
+ghost use Rattle.std.specs.List.{list_any};
+ghost use Rattle.uc_tree.specs.Cells.{classes_of};
+ghost use Rattle.uc_tree.specs.Programs.{Item};
+ghost use Rattle.uc_tree.specs.ProgramViews.{member_form_at};
+ghost use Rattle.uc_rules.specs.ItemBreaks.{class_declares, form_declares_sig};
+ghost use Rattle.uc_rules.specs.ProgramVisits.{mark_among, mark_in};
+ghost use Rattle.uc_check_index.specs.Firsts.{AreFirsts};
+ghost use Rattle.uc_check_index.specs.Marked.{mark_at};
+ghost use Rattle.uc_check_index.specs.Indexed.{AreProtos};
+ghost use Rattle.uc_check_index.specs.Topics.{form_role_key, form_sig_key, member_key_of};
+
+use crate::firsts::{first_in, no_firsts, note_key};
+use crate::keys::{role_key, sig_key};
+use crate::topics::MemberTopic;
+use std::alloc::{AllocError, Global};
+use std::marker::Model;
+use uc_names::scope::Scope;
+use uc_tree::class::{Class, Member, MemberForm, Sig};
+use uc_tree::kinds::Mark;
+use uc_tree::program::{Item, ItemForm};
+
+/// A class, with tables of the prototypes among its members. Contracts see the class.
+#[derive(Drop)]
+pub struct Protos<'a> {
+    class: &'a Class,
+    roles: Scope,
+    sigs: Scope,
+}
+
+impl<'a> Model for Protos<'a> {
+    ghost use Rattle.uc_tree.specs.Programs.{Class};
+    ghost use Rattle.uc_tree.specs.ProgramCodes.{class_coded};
+    ghost use Rattle.uc_check_index.specs.Indexed.{AreProtos};
+
+    ghost Value = { Class };
+
+    ghost coded = { class_coded };
+
+    ghost view = { λ a. a.class.now };
+
+    ghost invariant = { λ a. AreProtos a.class.now.members a.roles a.sigs };
+}
+
+fn form_role_key(alloc: Global, form: &MemberForm) -> Result<Option<Vec<u8>>, AllocError>
+    ensures { IfOk result (λ key. option_map (λ k. k.items) key ≡ form_role_key (member_form_at form.now)) }
+{
+    match form {
+        MemberForm::Fields { .. } => Ok(None),
+        MemberForm::Routine { .. } => Ok(None),
+        MemberForm::Proto { sig } => {
+            let key = role_key(alloc, sig)?;
+            Ok(Some(key))
+        }
+    }
+}
+
+fn form_sig_key(alloc: Global, form: &MemberForm) -> Result<Option<Vec<u8>>, AllocError>
+    ensures { IfOk result (λ key. option_map (λ k. k.items) key ≡ form_sig_key (member_form_at form.now)) }
+{
+    match form {
+        MemberForm::Fields { .. } => Ok(None),
+        MemberForm::Routine { .. } => Ok(None),
+        MemberForm::Proto { sig } => {
+            let key = sig_key(alloc, sig)?;
+            Ok(Some(key))
+        }
+    }
+}
+
+fn key_of(alloc: Global, topic: MemberTopic, member: &Member) -> Result<Option<Vec<u8>>, AllocError>
+    ensures { IfOk result (λ key. option_map (λ k. k.items) key ≡ member_key_of topic member.now) }
+{
+    match topic {
+        MemberTopic::Role => {
+            let key = form_role_key(alloc, &member.form)?;
+            Ok(key)
+        }
+        MemberTopic::Sig => {
+            let key = form_sig_key(alloc, &member.form)?;
+            Ok(key)
+        }
+    }
+}
+
+fn firsts_of(alloc: Global, members: &[Member], topic: MemberTopic) -> Result<Scope, AllocError>
+    ensures { IfOk result (λ firsts. AreFirsts (member_key_of topic) members.now firsts) }
+{
+    let mut firsts = no_firsts(alloc)?;
+    for (place, member) in members.iter().enumerate() {
+        let key = key_of(alloc, topic, member)?;
+        note_key(&mut firsts, key, place)?;
+    }
+    Ok(firsts)
+}
+
+fn mark_at(members: &[Member], place: Option<usize>) -> Mark
+    ensures { result ≡ mark_at members.now place }
+{
+    match place {
+        Some(place) => match members.get(place) {
+            Some(member) => member.mark,
+            None => Mark::Unmarked,
+        },
+        None => Mark::Unmarked,
+    }
+}
+
+impl<'a> Protos<'a> {
+    /// The tables of a class.
+    pub fn new(alloc: Global, class: &'a Class) -> Result<Protos<'a>, AllocError>
+        ensures { IfOk result (λ p. p ≡ class.now) }
+    {
+        let roles = firsts_of(alloc, &class.members, MemberTopic::Role)?;
+        let sigs = firsts_of(alloc, &class.members, MemberTopic::Sig)?;
+        Ok(Protos { class, roles, sigs })
+    }
+
+    /// Whether one of the members is a prototype with this signature.
+    pub fn declares(&self, alloc: Global, sig: &Sig) -> Result<bool, AllocError>
+        ensures { IfOk result (λ b. b ≡ list_any (λ m. form_declares_sig sig.now m.form) self.now.members) }
+    {
+        let key = sig_key(alloc, sig)?;
+        let first = first_in(&self.sigs, &key);
+        Ok(first.is_some())
+    }
+
+    /// The mark of the first prototype among the members that has the role and the name of a routine; where there is none,
+    /// none.
+    pub fn mark_of(&self, alloc: Global, sig: &Sig) -> Result<Mark, AllocError>
+        ensures { IfOk result (λ mark. mark ≡ mark_among sig.now self.now.members) }
+    {
+        let class = self.class;
+        let key = role_key(alloc, sig)?;
+        let first = first_in(&self.roles, &key);
+        Ok(mark_at(&class.members, first))
+    }
+}
+
+// The class that an item is.
+fn class_in(item: &Item) -> Option<&Class>
+    ensures { MatchOption result ((is : List Item) → classes_of (item.now ∷ is) ≡ classes_of is) (λ c. (is : List Item) → classes_of (item.now ∷ is) ≡ c.now ∷ classes_of is) }
+{
+    match &item.form {
+        ItemForm::Class { class } => Some(class),
+        _ => None,
+    }
+}
+
+/// The tables of the classes among these items, events included, in textual order.
+pub fn protos_in<'a>(alloc: Global, items: &'a [Item]) -> Result<Vec<Protos<'a>>, AllocError>
+    ensures { IfOk result (λ v. v.items ≡ classes_of items.now) }
+{
+    let mut protos = Vec::new(alloc);
+    for item in items {
+        if let Some(class) = class_in(item) {
+            protos.push(Protos::new(alloc, class)?)?;
+        }
+    }
+    Ok(protos)
+}
+
+/// Whether the class with this place declares a routine by a prototype with this signature.
+pub fn is_declared_in(
+    alloc: Global,
+    protos: &[Protos],
+    class: usize,
+    sig: &Sig,
+) -> Result<bool, AllocError>
+    ensures { IfOk result (λ b. b ≡ class_declares sig.now (slice_get protos.now class)) }
+{
+    match protos.get(class) {
+        Some(class) => {
+            let declares = class.declares(alloc, sig)?;
+            Ok(declares)
+        }
+        None => Ok(false),
+    }
+}
+
+/// The mark of the first prototype in the class with this place that has the role and the name of a routine.
+pub fn mark_in(
+    alloc: Global,
+    protos: &[Protos],
+    class: usize,
+    sig: &Sig,
+) -> Result<Mark, AllocError>
+    ensures { IfOk result (λ mark. mark ≡ mark_in sig.now (slice_get protos.now class)) }
+{
+    match protos.get(class) {
+        Some(class) => {
+            let mark = class.mark_of(alloc, sig)?;
+            Ok(mark)
+        }
+        None => Ok(Mark::Unmarked),
+    }
+}

@@ -1,0 +1,70 @@
+-- The ends of blocks that are left as a whole, and of mains, where they are unwound.
+use Rattle.std.specs.Prelude.{◌≡◌, ℕ, List, [], ◌∷◌, Option, Some, Bool, true, false}
+use Rattle.uc_tree.specs.Source.{Source}
+use Rattle.uc_machine.specs.declared.exec.Reason.{Reason}
+use Rattle.uc_machine.specs.declared.exec.Reason.TheVariants as reason
+use Rattle.uc_entry.specs.declared.fault.RunFault.TheVariants as fault
+use Rattle.uc_entry.specs.Faults.{fault_number}
+use Rattle.uc_entry.specs.declared.request.Request.TheVariants as ask
+use Rattle.uc_machine.specs.Executions.{calmed}
+use Rattle.uc_machine.specs.Quiet.{State, Asks, quiet, Quietly, line_of}
+use Rattle.uc_code.specs.Layout.{Laid}
+use Rattle.uc_frames.specs.Machine.{Active, Machine, nought}
+use Rattle.uc_frames.specs.Calls.{left}
+use Rattle.uc_frames.specs.Stands.{Stands}
+use Rattle.uc_frames.specs.UnwindingStands.{Unwinds}
+use Rattle.uc_coroutine.specs.declared.testing.TaskMainEnd.{TaskMainEnd}
+use Rattle.uc_coroutine.specs.declared.testing.TaskMainEnd.TheVariants.{Ended, Returned, Unhandled, HeldUp}
+use Rattle.uc_coroutine.specs.UnwindingSteps.{Leads, GoesTo}
+use Rattle.uc_coroutine.specs.Switching.{AsksFault}
+
+-- an unwinding is over, or goes on at this op
+abbrev pub block_over : Bool → ℕ → Machine → Machine
+block_over true behind m = record m { run = calmed behind m.run }
+block_over false behind m = record m { run = record m.run { control = behind } }
+
+abbrev pub is_return : Option Reason → Bool
+is_return (Some (reason.ReturnTo home)) = true
+is_return _ = false
+
+abbrev pub ended_by : List Active → TaskMainEnd
+ended_by [] = Ended
+ended_by (c ∷ cs) = Returned
+
+-- where the task is held up in its own object, or is not
+abbrev pub returned_by : Bool → List Active → TaskMainEnd
+returned_by true cs = HeldUp
+returned_by false cs = ended_by cs
+
+abbrev pub main_by : Bool → Option Reason → List Active → TaskMainEnd
+main_by held (Some (reason.ReturnTo home)) cs = returned_by held cs
+main_by held _ cs = Unhandled
+
+abbrev pub main_over : TaskMainEnd → Machine → Machine
+main_over Ended m = m
+main_over Returned m = left nought m.callers m
+main_over Unhandled m = m
+main_over HeldUp m = m
+
+module _ (source : Source) (code : Laid) where
+  abbrev pub BlockLeft : Bool → Machine → State → Type 0
+  BlockLeft true m s = GoesTo source code (Stands code) m s
+  BlockLeft false m s = GoesTo source code (Unwinds code) m s
+
+  -- it asks this, behind some quiet steps, in the same line
+  pub record AsksEnd (s : State) : Type 0 where
+    pub before : State
+    pub after : State
+    pub by : Quietly source s before
+    pub line : line_of before ≡ line_of s
+    pub asks : quiet source before ≡ Asks ask.End after
+
+  pub record AsksUnhandled (s : State) : Type 0 where
+    pub after : State
+    pub asks : quiet source s ≡ Asks (ask.Fault (fault_number fault.Unhandled)) after
+
+  abbrev pub MainLeft : TaskMainEnd → Machine → State → Type 0
+  MainLeft Ended m s = AsksEnd s
+  MainLeft Returned m s = Leads source code (Stands code) m s
+  MainLeft Unhandled m s = AsksUnhandled s
+  MainLeft HeldUp m s = AsksFault source code fault.BlockedInside s

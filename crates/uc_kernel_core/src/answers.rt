@@ -1,0 +1,51 @@
+//! What the journal tells of its tasks and its end, at once.
+ghost use Rattle.std.specs.Prelude.{◌≡◌, ◌<◌, false, IfSome};
+ghost use Rattle.std.specs.Option.{is_some, option_to_list};
+ghost use Rattle.uc_tree.specs.declared.limits.TheConstants.{PROCESSORS, TASKS};
+ghost use Rattle.uc_acts.specs.Answers.{answer_to};
+ghost use Rattle.uc_acts.specs.Journal.{is_over};
+ghost use Rattle.uc_acts.specs.Queues.{running};
+ghost use Rattle.uc_acts.specs.Serves.{left};
+ghost use Rattle.uc_kernel_journal.specs.JournalSums.{last_kind};
+
+use crate::book::Book;
+use uc_entry::entry::EntryKind;
+use uc_entry::request::Answer;
+
+impl Book {
+    /// The kind of the entry that ends the run, if there is one. It is the last.
+    pub fn ending(&self) -> Option<EntryKind>
+        ensures over { is_some result ≡ is_over self.now.journal }
+        ensures last { IfSome result (λ k. k ≡ last_kind self.now.journal) }
+    {
+        self.told.ending()
+    }
+
+    /// What a task is told to go on with, if it is.
+    pub fn answer(&self, task: u32) -> Option<Answer>
+        requires going { is_over self.now.journal ≡ false }
+        requires task { task < TASKS }
+        ensures { result ≡ answer_to self.now.sites task self.now.journal }
+    {
+        self.told.answer(task)
+    }
+
+    /// The ticks that a task has left of its slice.
+    pub fn left(&self, task: u32) -> u32
+        requires going { is_over self.now.journal ≡ false }
+        requires task { task < TASKS }
+        ensures { result ≡ left self.now.opts self.now.journal task }
+    {
+        let used = self.told.spent(task);
+        u64::from(self.opts.slice).saturating_sub(used) as u32
+    }
+
+    /// The task that runs on a processor, if one does. A processor on which one does is below `PROCESSORS`.
+    pub fn runner(&self, processor: u32) -> Option<u32>
+        requires going { is_over self.now.journal ≡ false }
+        ensures runs { option_to_list result ≡ running processor self.now.journal }
+        ensures known { IfSome result (λ t. processor < PROCESSORS) }
+    {
+        self.clusters.task_on(processor)
+    }
+}

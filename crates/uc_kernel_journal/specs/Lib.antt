@@ -1,0 +1,2 @@
+pub mod JournalSums
+pub mod EntryAnswers

@@ -1,0 +1,10 @@
+pub mod CellTables
+pub mod Depths
+pub mod FieldContents
+pub mod Known
+pub mod Places
+pub mod ContainmentProgress
+pub mod ValueProgress
+pub mod Sized
+pub mod Values
+pub mod SettledClasses

@@ -1,0 +1,202 @@
+-- The end of the scopes of a block: what was laid out step by step becomes the code of its statements.
+use Rattle.std.proofs.Common.{◌≡◌, ℕ, suc, ◌+◌, ◌≤◌, ◌<◌, List, [], ◌∷◌, ◌++◌, Bool, true, false, Option, Some, None, length, refl, sym, subst, ap, ◌∙◌, arith}
+use Rattle.std.specs.Prelude.{nat_le}
+use Rattle.std.proofs.lemmas.Bool.{lt-leb, le-leb}
+use Rattle.uc_tree.specs.Source.{CleanUp, Stmts, Then, Scoped, Built}
+use Rattle.uc_code.specs.declared.rows.Mark.{Mark}
+use Rattle.uc_code.specs.declared.rows.Mark.TheVariants as mark
+use Rattle.uc_code.specs.declared.rows.Cleaning.{Cleaning}
+use Rattle.uc_code.specs.Drafts.{Draft}
+use Rattle.uc_code.specs.Layout.{Laid, laid_in, routine_in}
+use Rattle.uc_code.specs.CodeShapes.{Kept, ScopeOf}
+use Rattle.uc_code.specs.ObjectCalls.{Cleans}
+use Rattle.uc_code.specs.OpenRows.{AllBehind, CleansBehind}
+use Rattle.uc_code.specs.Lowered.{CleanAt, StmtAt, StmtsAt}
+use Rattle.uc_code.proofs.Stable.{kept_refl, kept_then, kept_piece}
+use Rattle.uc_lower_stmt.specs.declared.block.ObjectScope.{ObjectScope}
+use Rattle.uc_lower_stmt.specs.Blocks.{BlockStands, EndsScopes, EndingScopes, Unended, innermost_by, innermost_in, scope_at}
+use Rattle.uc_lower_stmt.specs.Marked.{objects_in}
+use Rattle.uc_lower_stmt.specs.Objects.{ClosesScope, InScope}
+use Rattle.uc_lower_stmt.specs.OpenScopes.{Step, Does, Opens, Builds, NoParts, block_of, Pending, Begins, Done, Opened, Parted}
+use Rattle.uc_lower_stmt.proofs.Ending.{scope_ended}
+use Rattle.uc_lower_stmt.proofs.Kept.{stmt_stable, stmts_stable}
+
+-- steps that are laid out
+
+module _ (code : Laid) (line : ℕ) (ms : List Mark) (a : ℕ) where
+  pub pending_rises : (ks : List Step) (ns : List Mark) (z : ℕ) → Pending code line ms a ks ns z → a ≤ z
+  pending_rises ks ns z Begins = omega arith
+  pending_rises ks ns z (Done qs os y w s p at) = let l = pending_rises qs os y p in let m = (stmt_stable os s).rises code y w at in omega arith
+  pending_rises ks ns z (Opened qs os y row c what p g) = pending_rises qs os y p
+  pending_rises ks ns z (Parted qs os y row c what p g) = pending_rises qs os y p
+
+  pub pending_marks : (ks : List Step) (ns : List Mark) (z : ℕ) → Pending code line ms a ks ns z → length ms ≤ length ns
+  pending_marks ks ns z Begins = omega arith
+  pending_marks ks ns z (Done qs os y w s p at) = pending_marks qs os y p
+  pending_marks ks ns z (Opened qs os y row c what p g) = let l = pending_marks qs os y p in omega arith
+  pending_marks ks ns z (Parted qs os y row c what p g) = let l = pending_marks qs os y p in omega arith
+
+  pub pending_routine : (ks : List Step) (ns : List Mark) (z : ℕ) → Pending code line ms a ks ns z → routine_in ns ≡ routine_in ms
+  pending_routine ks ns z Begins = refl
+  pending_routine ks ns z (Done qs os y w s p at) = pending_routine qs os y p
+  pending_routine ks ns z (Opened qs os y row c what p g) = pending_routine qs os y p
+  pending_routine ks ns z (Parted qs os y row c what p g) = pending_routine qs os y p
+
+  pub pending_kept : (new : Laid) (ks : List Step) (ns : List Mark) (z : ℕ) → z ≤ length code.ops → Kept code new → Pending code line ms a ks ns z → Pending new line ms a ks ns z
+  pending_kept new ks ns z l k Begins = Begins
+  pending_kept new ks ns z l k (Done qs os y w s p at) =
+      let m = (stmt_stable os s).rises code y w at in
+      Done qs os y w s (pending_kept new qs os y (omega arith) k p) (kept_piece (λ c. StmtAt c os s) (stmt_stable os s) code new y w l k at)
+  pending_kept new ks ns z l k (Opened qs os y row c what p g) = Opened qs os y row c what (pending_kept new qs os y l k p) g
+  pending_kept new ks ns z l k (Parted qs os y row c what p g) = Parted qs os y row c what (pending_kept new qs os y l k p) g
+
+  pub pending_join : (ks : List Step) (ns : List Mark) (y : ℕ) → Pending code line ms a ks ns y → (js : List Step) (os : List Mark) (z : ℕ) → Pending code line ns y js os z → Pending code line ms a (js ++ ks) os z
+  pending_join ks ns y p js os z Begins = p
+  pending_join ks ns y p js os z (Done qs ps x w s q at) = Done (qs ++ ks) ps x w s (pending_join ks ns y p qs ps x q) at
+  pending_join ks ns y p js os z (Opened qs ps x row c what q g) = Opened (qs ++ ks) ps x row c what (pending_join ks ns y p qs ps x q) g
+  pending_join ks ns y p js os z (Parted qs ps x row c what q g) = Parted (qs ++ ks) ps x row c what (pending_join ks ns y p qs ps x q) g
+
+  -- where statements at the end of a block have taken up those before them: the whole block stands, or the scope of an object is the
+  -- innermost that is left
+  pub data Taken (ns : List Mark) (z : ℕ) (whole : Stmts) : Type 0 where
+    Whole : ns ≡ ms → StmtsAt code ns line whole a z → Taken ns z whole
+    Within : (ks : List Step) (os : List Mark) (y row : ℕ) (c : CleanUp) (what : Cleaning) (ss : Stmts) → NoParts ks → ns ≡ mark.Clean what line row ∷ os → Pending code line ms a ks os y → Cleans c what → StmtsAt code ns line ss y z → block_of ks (Scoped c ss) ≡ whole → Taken ns z whole
+
+  pub taken_up : (ks : List Step) (ns : List Mark) (y z : ℕ) (ss : Stmts) → NoParts ks → Pending code line ms a ks ns y → StmtsAt code ns line ss y z → Taken ns z (block_of ks ss)
+  taken_up ks ns y z ss n Begins h = Whole refl h
+  taken_up ks ns y z ss n (Done qs os x w s p at) h = taken_up qs os x z (Then s ss) n p (record { middle = y; first = at; second = h })
+  taken_up ks ns y z ss n (Opened qs os x row c what p g) h = Within qs os y row c what ss n refl p g h refl
+  taken_up ks ns y z ss n (Parted qs os x row c what p g) h = absurd n
+
+pub block_join : (js ks : List Step) (ss : Stmts) → block_of (js ++ ks) ss ≡ block_of ks (block_of js ss)
+block_join [] ks ss = refl
+block_join (Does s ∷ js) ks ss = block_join js ks (Then s ss)
+block_join (Opens c ∷ js) ks ss = block_join js ks (Scoped c ss)
+block_join (Builds c ∷ js) ks ss = block_join js ks (Built c ss)
+
+pub none_join : (js ks : List Step) → NoParts js → NoParts ks → NoParts (js ++ ks)
+none_join [] ks m n = n
+none_join (Does s ∷ js) ks m n = none_join js ks m n
+none_join (Opens c ∷ js) ks m n = none_join js ks m n
+none_join (Builds c ∷ js) ks m n = absurd m
+
+-- the innermost scope
+
+none_some : (o : ObjectScope) → (let n : Option ObjectScope = None in n ≡ Some o) → ⊥
+none_some o e = cc
+
+clean_scope : (m : Mark) (ms : List Mark) (o : ObjectScope) → scope_at m ≡ Some o → AllBehind (m ∷ ms) → InScope o.what o.line (m ∷ ms)
+clean_scope (mark.Clean what line row) ms o e b =
+    let f : (record { what = what; line = line }) ≡ o = cc in
+    record { row = row; outer = ms; is = ap (λ (x : ObjectScope). mark.Clean x.what x.line row ∷ ms) f; behind = subst (λ (x : ObjectScope). CleansBehind ms x.what) f b.0 }
+clean_scope (mark.Body routine) ms o e b = absurd (none_some o e)
+clean_scope (mark.Finish main routine line row) ms o e b = absurd (none_some o e)
+clean_scope (mark.Loop leave again) ms o e b = absurd (none_some o e)
+clean_scope (mark.Whole leave row) ms o e b = absurd (none_some o e)
+clean_scope (mark.Guard row) ms o e b = absurd (none_some o e)
+clean_scope (mark.Part row) ms o e b = absurd (none_some o e)
+clean_scope (mark.Elements row) ms o e b = absurd (none_some o e)
+clean_scope (mark.Outward below row) ms o e b = absurd (none_some o e)
+
+scope_by : (b : Bool) (ms : List Mark) (o : ObjectScope) → innermost_by b ms ≡ Some o → AllBehind ms → InScope o.what o.line ms
+scope_by true ms o e b = absurd (none_some o e)
+scope_by false [] o e b = absurd (none_some o e)
+scope_by false (m ∷ ms) o e b = clean_scope m ms o e b
+
+pub in_scope : (ms : List Mark) (count : ℕ) (o : ObjectScope) → innermost_in ms count ≡ Some o → AllBehind ms → InScope o.what o.line ms
+in_scope ms count o e b = scope_by (nat_le (length ms) count) ms o e b
+
+few_marks : (ms : List Mark) (count : ℕ) (o : ObjectScope) → length ms ≤ count → innermost_in ms count ≡ Some o → ⊥
+few_marks ms count o l e = none_some o (sym (ap (λ (b : Bool). innermost_by b ms) (le-leb (length ms) count l)) ∙ e)
+
+many_marks : (ms : List Mark) (count row line : ℕ) (what : Cleaning) (os : List Mark) → ms ≡ mark.Clean what line row ∷ os → count ≤ length os → innermost_in ms count ≡ None → ⊥
+many_marks ms count row line what os e l n =
+    let t : innermost_in (mark.Clean what line row ∷ os) count ≡ None = ap (λ (xs : List Mark). innermost_in xs count) (sym e) ∙ n in
+    let f : nat_le (length (mark.Clean what line row ∷ os)) count ≡ false = lt-leb (length (mark.Clean what line row ∷ os)) count (omega arith) in
+    none_some (record { what = what; line = line }) (sym t ∙ ap (λ (b : Bool). innermost_by b (mark.Clean what line row ∷ os)) f)
+
+-- the scope of that mark is in the count of objects
+pub scope_room : (what : Cleaning) (line : ℕ) (ms : List Mark) → InScope what line ms → 1 ≤ objects_in ms
+scope_room what line ms h = let e : objects_in ms ≡ 1 + objects_in h.outer = ap objects_in h.is in omega (arith, e)
+
+-- how scopes end, one after another
+
+pub ending_none : (count : ℕ) (d : Draft) → EndingScopes count d d
+ending_none count d = record {
+  rest = refl;
+  kept = kept_refl (laid_in d);
+  room = omega arith;
+  block = λ line a y ks ms ss l n p h. record { steps = ks; none = n; behind = ss; middle = y; before = p; code = h; same = refl };
+}
+
+same_mark : (what : Cleaning) (line row : ℕ) (os : List Mark) (w : Cleaning) (k r : ℕ) (ps : List Mark) → mark.Clean what line row ∷ os ≡ mark.Clean w k r ∷ ps → (what ≡ w) × (line ≡ k)
+same_mark what line row os w k r ps e = (cc, cc)
+
+module _ (count : ℕ) (scope : ObjectScope) (now next : Draft) (at : innermost_in now.marks count ≡ Some scope) (all : AllBehind now.marks) (h : ClosesScope scope.what scope.line now next) where
+  scope_next : (line : ℕ) (ms : List Mark) (whole : Stmts) (a : ℕ) → length ms ≡ count → Unended line ms whole a now → Unended line ms whole a next
+  scope_next line ms whole a l u = by_taken (taken_up (laid_in now) line ms a u.steps now.marks u.middle (length now.ops) u.behind u.none u.before u.code)
+    where
+      by_taken : Taken (laid_in now) line ms a now.marks (length now.ops) (block_of u.steps u.behind) → Unended line ms whole a next
+      by_taken (Whole e s) = absurd (few_marks now.marks count scope (let f : length now.marks ≡ length ms = ap length e in omega arith) at)
+      by_taken (Within ks os y row c what ss n e p g s q) =
+          let i : InScope scope.what scope.line now.marks = in_scope now.marks count scope at all in
+          let m = same_mark what line row os scope.what scope.line i.row i.outer (sym e ∙ i.is) in
+          let f : now.marks ≡ mark.Clean scope.what scope.line row ∷ os = e ∙ (ap (λ (x : Cleaning). mark.Clean x line row ∷ os) m.0 ∙ ap (λ (x : ℕ). mark.Clean scope.what x row ∷ os) m.1) in
+          let ends = h.scope row os f in
+          let marks : next.marks ≡ os = h.marks row os f in
+          let body : StmtsAt (laid_in next) (mark.Clean what line row ∷ os) line ss y (length now.ops) =
+          subst (λ (xs : List Mark). StmtsAt (laid_in next) xs line ss y (length now.ops)) e (kept_piece (λ k. StmtsAt k now.marks line ss) (stmts_stable now.marks line ss) (laid_in now) (laid_in next) y (length now.ops) (omega arith) h.kept s) in
+          let rises = (stmts_stable now.marks line ss).rises (laid_in now) y (length now.ops) s in
+          let there = pending_kept (laid_in now) line ms a (laid_in next) ks os y (omega arith) h.kept p in
+          let ended =
+          subst (λ (x : Cleaning). ScopeOf (laid_in next) line os (λ r. mark.Clean x line r) (CleanAt (laid_in next) line x os) (λ xs. StmtsAt (laid_in next) xs line ss) y (length next.ops)) (sym m.0) (
+          subst (λ (k : ℕ). ScopeOf (laid_in next) k os (λ r. mark.Clean scope.what k r) (CleanAt (laid_in next) k scope.what os) (λ xs. StmtsAt (laid_in next) xs line ss) y (length next.ops)) (sym m.1) (
+          scope_ended (laid_in next) scope.line os scope.what row (λ xs. StmtsAt (laid_in next) xs line ss) y (length now.ops) (length next.ops) (
+          subst (λ (k : ℕ). StmtsAt (laid_in next) (mark.Clean scope.what k row ∷ os) line ss y (length now.ops)) m.1 (
+          subst (λ (x : Cleaning). StmtsAt (laid_in next) (mark.Clean x line row ∷ os) line ss y (length now.ops)) m.0 body)) ends)) in
+          record {
+            steps = ks;
+            none = n;
+            behind = Scoped c ss;
+            middle = y;
+            before = subst (λ (xs : List Mark). Pending (laid_in next) line ms a ks xs y) (sym marks) there;
+            code = subst (λ (xs : List Mark). StmtsAt (laid_in next) xs line (Scoped c ss) y (length next.ops)) (sym marks) (record { what = what; cleans = g; scope = ended });
+            same = q ∙ u.same;
+          }
+
+  pub ending_next : (old : Draft) → EndingScopes count old now → EndingScopes count old next
+  ending_next old u =
+      let i : InScope scope.what scope.line now.marks = in_scope now.marks count scope at all in
+      let m : next.marks ≡ i.outer = h.marks i.row i.outer i.is in
+      let o : objects_in now.marks ≡ 1 + objects_in i.outer = ap objects_in i.is in
+      let q : objects_in next.marks ≡ objects_in i.outer = ap objects_in m in
+      record {
+        rest = h.rest ∙ ap (λ (d : Draft). let e : Draft = record d { ops = next.ops; rows = next.rows; settled = next.settled; marks = next.marks } in e) u.rest;
+        kept = kept_then (laid_in old) (laid_in now) (laid_in next) u.kept h.kept;
+        room = (let r = h.room in let s = u.room in omega (arith, o, q));
+        block = λ line a y ks ms ss l n p k. scope_next line ms (block_of ks ss) a l (u.block line a y ks ms ss l n p k);
+      }
+
+  pub fewer_marks : length next.marks < length now.marks
+  fewer_marks =
+      let i : InScope scope.what scope.line now.marks = in_scope now.marks count scope at all in
+      let m : length next.marks ≡ length i.outer = ap length (h.marks i.row i.outer i.is) in
+      let o : length now.marks ≡ suc (length i.outer) = ap length i.is in
+      omega arith
+
+pub scopes_ended : (count : ℕ) (old now : Draft) → innermost_in now.marks count ≡ None → EndingScopes count old now → EndsScopes count old now
+scopes_ended count old now none u = record {
+  rest = u.rest;
+  kept = u.kept;
+  room = u.room;
+  block = λ line a y ks ms ss l n p h. stands line ms (block_of ks ss) a l (u.block line a y ks ms ss l n p h);
+}
+  where
+    stands : (line : ℕ) (ms : List Mark) (whole : Stmts) (a : ℕ) → length ms ≡ count → Unended line ms whole a now → BlockStands line ms whole a now
+    stands line ms whole a l w = by_taken (taken_up (laid_in now) line ms a w.steps now.marks w.middle (length now.ops) w.behind w.none w.before w.code)
+      where
+        by_taken : Taken (laid_in now) line ms a now.marks (length now.ops) (block_of w.steps w.behind) → BlockStands line ms whole a now
+        by_taken (Whole e s) = record { marks = e; code = subst (λ (ss : Stmts). StmtsAt (laid_in now) ms line ss a (length now.ops)) w.same (subst (λ (xs : List Mark). StmtsAt (laid_in now) xs line (block_of w.steps w.behind) a (length now.ops)) e s) }
+        by_taken (Within ks os y row c what ss n e p g s q) =
+            let k = pending_marks (laid_in now) line ms a ks os y p in
+            absurd (many_marks now.marks count row line what os e (omega arith) none)

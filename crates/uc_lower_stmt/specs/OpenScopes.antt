@@ -1,0 +1,58 @@
+-- Statements of a block that are laid out, where objects that they declare are still in scope: their clean-ups are to come.
+use Rattle.std.specs.Prelude.{◌≡◌, ℕ, ◌+◌, ◌≤◌, List, [], ◌∷◌, length}
+use Rattle.uc_tree.specs.Source.{CleanUp, Stmt, Stmts, Then, Scoped, Built}
+use Rattle.uc_resolve.specs.Resolve.{Scope}
+use Rattle.uc_code.specs.declared.rows.Mark.{Mark}
+use Rattle.uc_code.specs.declared.rows.Mark.TheVariants as mark
+use Rattle.uc_code.specs.declared.rows.Cleaning.{Cleaning}
+use Rattle.uc_code.specs.Drafts.{Draft}
+use Rattle.uc_code.specs.Layout.{Laid, laid_in}
+use Rattle.uc_code.specs.CodeShapes.{Kept}
+use Rattle.uc_code.specs.Lowered.{StmtAt}
+use Rattle.uc_code.specs.ObjectCalls.{Cleans}
+use Rattle.uc_lower_stmt.specs.Marked.{objects_in, taken}
+use Rattle.uc_lower_stmt.specs.LowersStatement.{scope_of}
+
+-- what stands in a block, one after another: a statement, the begin of the scope of an object, or that of what follows a part of an
+-- object under construction
+pub data Step : Type 0 where
+  Does : Stmt → Step
+  Opens : CleanUp → Step
+  Builds : CleanUp → Step
+
+-- the statements of a block that begins with these steps, the newest of which stands first, and goes on so
+abbrev pub block_of : List Step → Stmts → Stmts
+block_of [] ss = ss
+block_of (Does s ∷ ks) ss = block_of ks (Then s ss)
+block_of (Opens c ∷ ks) ss = block_of ks (Scoped c ss)
+block_of (Builds c ∷ ks) ss = block_of ks (Built c ss)
+
+-- no part of an object under construction is among them
+abbrev pub NoParts : List Step → Type 0
+NoParts [] = Unit {0}
+NoParts (Does s ∷ ks) = NoParts ks
+NoParts (Opens c ∷ ks) = NoParts ks
+NoParts (Builds c ∷ ks) = ⊥
+
+-- steps that are laid out in a block of this line: from these marks and this place to those marks and that place
+pub data Pending (code : Laid) (line : ℕ) (ms : List Mark) (a : ℕ) : List Step → List Mark → ℕ → Type 0 where
+  Begins : Pending code line ms a [] ms a
+  Done : (ks : List Step) (ns : List Mark) (y z : ℕ) (s : Stmt) → Pending code line ms a ks ns y → StmtAt code ns s y z → Pending code line ms a (Does s ∷ ks) ns z
+  Opened : (ks : List Step) (ns : List Mark) (z row : ℕ) (c : CleanUp) (what : Cleaning) → Pending code line ms a ks ns z → Cleans c what → Pending code line ms a (Opens c ∷ ks) (mark.Clean what line row ∷ ns) z
+  Parted : (ks : List Step) (ns : List Mark) (z row : ℕ) (c : CleanUp) (what : Cleaning) → Pending code line ms a ks ns z → Cleans c what → Pending code line ms a (Builds c ∷ ks) (mark.Part row ∷ ns) z
+
+-- a draft with some steps of a block more, by which a block that goes on in some way is made of one: at most n ops, those that
+-- end the new scopes included, k text literals, c cells and d objects in scope more, o scopes more, and this scope behind them
+pub record Lays (n k c d o line : ℕ) (f : Stmts → Stmts) (after : Scope) (old new : Draft) : Type 0 where
+  pub rest : new ≡ record old { ops = new.ops; rows = new.rows; settled = new.settled; marks = new.marks; scopes = new.scopes; names = new.names; cells = new.cells; hidden = new.hidden; texts = new.texts; sites = new.sites }
+  pub scope : scope_of new ≡ after
+  pub opened : new.scopes ≡ old.scopes + o
+  pub kept : Kept (laid_in old) (laid_in new)
+  pub room : taken new ≤ taken old + n
+  pub texts : new.texts ≤ old.texts + k
+  pub cells : new.cells ≤ old.cells + c
+  pub objects : objects_in new.marks ≤ objects_in old.marks + d
+  pub steps : List Step
+  pub none : NoParts steps
+  pub block : (ss : Stmts) → block_of steps ss ≡ f ss
+  pub code : Pending (laid_in new) line old.marks (length old.ops) steps new.marks (length new.ops)

@@ -1,0 +1,5 @@
+use Rattle.uc_meaning.proofs.MonitorsSampled.{polled_run}
+use Rattle.uc_meaning.proofs.samples.polled_run.Goals as goal
+
+pub returns : goal.returns
+returns c = polled_run

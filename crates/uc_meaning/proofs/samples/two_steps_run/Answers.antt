@@ -1,0 +1,5 @@
+use Rattle.uc_meaning.proofs.MonitorsSampled.{two_steps_run}
+use Rattle.uc_meaning.proofs.samples.two_steps_run.Goals as goal
+
+pub returns : goal.returns
+returns c = two_steps_run

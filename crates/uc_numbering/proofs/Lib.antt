@@ -1,0 +1,5 @@
+pub mod ByClasses
+pub mod FlatLemmas
+pub mod Listed
+pub mod Past
+pub mod Places

@@ -1,0 +1,66 @@
+-- Rides of a task, by what its machine stands for.
+use Rattle.std.specs.Prelude.{◌≡◌, ℕ, suc, ◌+◌, Option, Some, None}
+use Rattle.uc_tree.specs.Source.{Source}
+use Rattle.uc_entry.specs.declared.request.Asked.{Asked}
+use Rattle.uc_machine.specs.Quiet.{State, line_of}
+use Rattle.uc_machine.specs.Rides.{Rides}
+use Rattle.uc_code.specs.Codes.{Code}
+use Rattle.uc_code.specs.Layout.{Laid, laid_of}
+use Rattle.uc_code.specs.Lowered.{Lowered}
+use Rattle.uc_frames.specs.Machine.{Machine}
+use Rattle.uc_frames.specs.Stands.{Stands}
+use Rattle.uc_step.specs.Simulation.{behind_line, StandsAfter}
+
+module _ (source : Source) (code : Laid) where
+  -- from this state, with at most so many ticks, the task makes these ticks and then asks this, and the machine stands for the
+  -- state that it is then in
+  pub record Rode (s : State) (quantum ticks : ℕ) (asked : Asked) (m : Machine) : Type 0 where
+    pub reached : State
+    pub rides : Rides source s quantum reached ticks asked
+    pub stands : StandsAfter code asked.request m reached
+
+  -- without a tick on the way: each ride from the state that is reached is a ride from the start
+  pub record Come (s : State) (m : Machine) : Type 0 where
+    pub now : State
+    pub stands : Stands code m now
+    pub rides : (q k : ℕ) (u : State) (a : Asked) → Rides source now (suc q) u k a → Rides source s (suc q) u k a
+
+  -- up to a tick, which has this line: each ride from there is a ride with one tick more
+  pub record Ticked (s : State) (m : Machine) : Type 0 where
+    pub now : State
+    pub line : behind_line code m ≡ line_of now
+    pub stands : Stands code m now
+    pub rides : (q k : ℕ) (u : State) (a : Asked) → Rides source now q u k a → Rides source s (suc q) u (suc k) a
+
+  -- up to a request
+  pub record Asking (s : State) (asked : Asked) (m : Machine) : Type 0 where
+    pub reached : State
+    pub rides : (q : ℕ) → Rides source s (suc q) reached 0 asked
+    pub stands : StandsAfter code asked.request m reached
+
+  -- up to a tick or to a request
+  abbrev pub Burst : State → Option Asked → Machine → Type 0
+  Burst s None m = Ticked s m
+  Burst s (Some asked) m = Asking s asked m
+
+  -- with these ticks on the way, and so many left: each ride from there is a ride from the start
+  pub record OnWay (s : State) (quantum ticks : ℕ) (m : Machine) : Type 0 where
+    pub now : State
+    pub left : ℕ
+    pub together : ticks + left ≡ quantum
+    pub stands : Stands code m now
+    pub rides : (k : ℕ) (u : State) (a : Asked) → Rides source now left u k a → Rides source s quantum u (ticks + k) a
+
+-- for each source whose code this is, and each state for which the first machine stands
+module _ (code : Code) where
+  abbrev pub HasCome : Machine → Machine → Type 0
+  HasCome old m = (source : Source) (s : State) → Lowered source code → Stands (laid_of code) old s → Come source (laid_of code) s m
+
+  abbrev pub HasBurst : Machine → Option Asked → Machine → Type 0
+  HasBurst old asked m = (source : Source) (s : State) → Lowered source code → Stands (laid_of code) old s → Burst source (laid_of code) s asked m
+
+  abbrev pub IsOnWay : ℕ → Machine → ℕ → Machine → Type 0
+  IsOnWay quantum old ticks m = (source : Source) (s : State) → Lowered source code → Stands (laid_of code) old s → OnWay source (laid_of code) s quantum ticks m
+
+  abbrev pub HasRidden : ℕ → Machine → ℕ → Asked → Machine → Type 0
+  HasRidden quantum old ticks asked m = (source : Source) (s : State) → Lowered source code → Stands (laid_of code) old s → Rode source (laid_of code) s quantum ticks asked m
