@@ -292,7 +292,7 @@ fn hand_on<T: Drop, M: Drop>(
     processor: u32,
     task: u32,
     value: T,
-    members: List<(u32, M)>,
+    members: List<(u64, M)>,
 ) -> Next<T, M>
     requires going { Journal.is_over book.now.journal ≡ false }
     requires small { task < TASKS }
@@ -379,8 +379,8 @@ fn settle_child<T: Drop, M: Drop>(
     tasks: &mut Vec<Option<Rest<T, M>>>,
     object: u32,
     child: Option<T>,
-    hand: List<(u32, M)>,
-    members: &mut List<(u32, M)>,
+    hand: List<(u64, M)>,
+    members: &mut List<(u64, M)>,
 )
     requires apart { AreApart members.old.items }
     requires room { 1 ≤ hand.spare }
@@ -401,7 +401,7 @@ fn settle_child<T: Drop, M: Drop>(
 }
 
 // A hand with the members of an object more, if they are there.
-fn with_own<M: Drop>(hand: List<(u32, M)>, object: u32, own: Option<M>) -> List<(u32, M)>
+fn with_own<M: Drop>(hand: List<(u64, M)>, object: u32, own: Option<M>) -> List<(u64, M)>
     requires room { 1 ≤ hand.spare }
     ensures { (m : M) → own ≡ Some m → result.items ≡ hand.items ++ (object, m) ∷ [] }
 {
@@ -409,7 +409,7 @@ fn with_own<M: Drop>(hand: List<(u32, M)>, object: u32, own: Option<M>) -> List<
     match own {
         None => hand,
         Some(own) => {
-            hand.push((object, own));
+            hand.push((object as u64, own));
             hand
         }
     }
@@ -432,7 +432,7 @@ fn follow_spawn<T: Drop, M: Drop>(
     loose: &Vec<Option<M>>,
     task: u32,
     first: Entry,
-    hand: List<(u32, M)>,
+    hand: List<(u64, M)>,
     back: Back<T, M>,
 ) -> Next<T, M>
     requires is { FromFirst book.now task first back tasks.old.items loose.now.items }

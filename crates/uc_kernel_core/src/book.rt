@@ -249,7 +249,7 @@ impl Book {
         self.clusters.end_task(e.task);
     }
 
-    pub(crate) fn own_object(&self, task: u32) -> u32
+    pub fn own_object(&self, task: u32) -> u32
         requires going { is_over self.now.journal ≡ false }
         requires known { task < TASKS }
         ensures { result ≡ own_object task self.now.journal }

@@ -1,0 +1,16 @@
+use Rattle.std.proofs.Common.{sym, ◌∙◌, subst}
+use Rattle.uc_vproc.specs.Makers.{Log}
+use Rattle.uc_vproc.specs.Desks.{Table, Saw, Brings}
+use Rattle.uc_vproc.specs.declared.desk.RunKey.{RunKey}
+use Rattle.uc_vproc.proofs.work.bring.Goals as goal
+
+pub act-step-requires : goal.act-step-requires
+act-step-requires g c =
+    let n = c.args.seat.now.number in
+    let seen = c.args.seat.now.seen in
+    let t = c.take-held.ensures in
+    let saw : Saw n seen c.take-held.result.log = record { begins = t.seen; mine = t.own ∙ c.requires.own } in
+    let br : Brings c.take-held.result.code n seen c.args.back = subst (λ (k : RunKey). Brings k.code n seen c.args.back) (sym t.key) c.requires.brings in
+    record {
+      brings = subst (λ m. (x : Log) × Saw m x c.value.result.now.log × Brings c.value.result.now.code m x c.args.back) (sym c.number-number.ensures) (subst (λ (y : Table). (x : Log) × Saw n x y.log × Brings y.code n x c.args.back) (sym c.value.ensures.value) (seen, saw, br));
+    }
