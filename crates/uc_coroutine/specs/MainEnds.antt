@@ -9,6 +9,7 @@ use Rattle.uc_entry.specs.declared.request.Request.TheVariants as ask
 use Rattle.uc_machine.specs.Executions.{calmed}
 use Rattle.uc_machine.specs.Quiet.{State, Asks, quiet, Quietly, line_of}
 use Rattle.uc_code.specs.Layout.{Laid}
+use Rattle.uc_frames.specs.Objects.{arrived_at}
 use Rattle.uc_frames.specs.Machine.{Active, Machine, nought}
 use Rattle.uc_frames.specs.Calls.{left}
 use Rattle.uc_frames.specs.Stands.{Stands}
@@ -22,6 +23,11 @@ use Rattle.uc_coroutine.specs.Switching.{AsksFault}
 abbrev pub block_over : Bool → ℕ → Machine → Machine
 block_over true behind m = record m { run = calmed behind m.run }
 block_over false behind m = record m { run = record m.run { control = behind } }
+
+-- a mutex call that a return of a handler reaches goes on at the first of these ops, another is cleaned up from the second on
+abbrev pub call_over : Bool → ℕ → ℕ → Machine → Machine
+call_over true arrived behind m = record m { run = arrived_at arrived m.run }
+call_over false arrived behind m = record m { run = record m.run { control = behind } }
 
 abbrev pub is_return : Option Reason → Bool
 is_return (Some (reason.ReturnTo home)) = true

@@ -10,3 +10,4 @@ pub mod SwitchStands
 pub mod Unwinding
 pub mod UnwindingStands
 pub mod Weight
+pub mod Objects

@@ -9,6 +9,7 @@ use Rattle.uc_tree.specs.declared.kinds.Access.{Access}
 use Rattle.uc_tree.specs.declared.kinds.Base.{Base}
 use Rattle.uc_tree.specs.declared.kinds.Mark.{Mark}
 use Rattle.uc_tree.specs.Names.{same_name}
+use Rattle.uc_tree.specs.Numbering.{is_given}
 use Rattle.uc_tree.specs.Statements.{Declarator}
 use Rattle.uc_tree.specs.Programs.{MemberForm, FieldsMember, RoutineMember, ProtoMember, Member, Class, Program}
 use Rattle.uc_tree.specs.Objects.{ClassField, declared_fields, fields_of, form_fields}
@@ -99,7 +100,7 @@ module _ (p : Program) (h : Home) (c : Class) where
     field_new taken d ds split e =
         let new : is_new_field c (place_in (length before) (length taken)) (fields_at c (length before)) d.name ≡ true = holds (is_new_field c (place_in (length before) (length taken)) (fields_at c (length before)) d.name) _ _ (no_left _ _ e) in
         let parts = and_parts (is_new_member c (length before) d.name) (not (list_any (λ (x : Declarator). same_name x.name d.name) (take (length taken) (fields_at c (length before))))) new in
-        let outer = or_left (list_any (λ x. same_name x d.name) (members_declare (take (length before) c.members))) (rules.is_kept c (length before) d.name) (not_true (list_any (λ x. same_name x d.name) (members_declare (take (length before) c.members)) || rules.is_kept c (length before) d.name) parts.0) in
+        let outer = or_left (list_any (λ x. same_name x d.name) (members_declare (take (length before) c.members))) (is_given d.name) (not_true (list_any (λ x. same_name x d.name) (members_declare (take (length before) c.members)) || is_given d.name) parts.0) in
         let first : take (length before) c.members ≡ before = ap (take (length before)) is ∙ take_at before (m ∷ after) (length before) refl in
         let behind : list_any (λ x. same_name x d.name) (members_declare before) ≡ false = ap (λ ms. list_any (λ x. same_name x d.name) (members_declare ms)) (sym first) ∙ outer in
         let list : fields_at c (length before) ≡ whole = ap (λ ms. member_fields (slice_get ms (length before))) is ∙ ap member_fields (got before m after) ∙ ap rules.form_fields form in

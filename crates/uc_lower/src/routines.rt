@@ -40,6 +40,7 @@ pub(crate) fn no_code(alloc: Global, count: usize) -> Result<Vec<RoutineCode>, A
         entry: 0,
         cells: 0,
         params: 0,
+        written: false,
     };
     let rows = vec![in alloc; none; count]?;
     Ok(rows)

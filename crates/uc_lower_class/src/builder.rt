@@ -23,7 +23,7 @@ ghost use Rattle.uc_lower_class.specs.Bodies.{IsUnwritten, LowersBody, LowersUnw
 ghost use Rattle.uc_lower_class.specs.Fields.{FieldsBehind, all_room, left_count, left_room};
 ghost use Rattle.uc_lower_class.specs.OpenParts.{Constructs, LeavesAll, end_room};
 
-use crate::executions::end_construction;
+use crate::executions::{end_construction, open_ending, open_freed};
 use crate::fields::{build_all, leave_all};
 use crate::parts::close_parts;
 use crate::whole::lower_whole;
@@ -107,11 +107,14 @@ fn lower_constructor(
     ensures { OnOk result (LowersBody names.now role.Constructor routine.now out.old out.new) }
 {
     names.fit();
+    let depth = out.marks().len();
     let mut parts = Vec::new(alloc);
+    open_freed(class, names, out)?;
     build_own(alloc, class, routine, names, &mut parts, out)?;
     lower_whole(alloc, names, routine, out)?;
     end_construction(class, names, out)?;
     close_parts(&mut parts, out)?;
+    close_scopes(depth, out)?;
     Ok(())
 }
 
@@ -134,6 +137,7 @@ fn lower_destructor(
 {
     names.fit();
     let depth = out.marks().len();
+    open_ending(class, names, out)?;
     leave_own(class, names, out)?;
     lower_whole(alloc, names, routine, out)?;
     close_scopes(depth, out)?;
@@ -199,8 +203,8 @@ pub fn lower_builder(
     requires texts { texts + stmts_size routine.now.body ≤ PROGRAM_SIZE }
     ensures kept { OnOk result (Kept (laid_in out.old) (laid_in out.new)) }
     ensures room { OnOk result (length out.new.ops ≤ length out.old.ops + builder_room names.now routine.now class) }
-    ensures code { OnOk result (RoutineAt (laid_in out.new) last number (routine_meant names.now routine.now (routine_scope names.now routine.now class number texts sites)) (record { entry = length out.old.ops; cells = frame_cells names.now routine.now; params = length routine.now.sig.params }) (length out.old.ops) (length out.new.ops)) }
-    ensures written { OnOk result (out.new.routines ≡ slice_set out.old.routines number (record { entry = length out.old.ops; cells = frame_cells names.now routine.now; params = length routine.now.sig.params })) }
+    ensures code { OnOk result (RoutineAt (laid_in out.new) last number (routine_meant names.now routine.now (routine_scope names.now routine.now class number texts sites)) (record { entry = length out.old.ops; cells = frame_cells names.now routine.now; params = length routine.now.sig.params; written = true }) (length out.old.ops) (length out.new.ops)) }
+    ensures written { OnOk result (out.new.routines ≡ slice_set out.old.routines number (record { entry = length out.old.ops; cells = frame_cells names.now routine.now; params = length routine.now.sig.params; written = true })) }
     ensures outside { OnOk result (out.new.marks ≡ []) }
     ensures texts { OnOk result (out.new.texts ≡ texts + length (gathered_all own_texts routine.now.body)) }
     ensures few_texts { OnOk result (out.new.texts ≤ texts + stmts_size routine.now.body) }
@@ -225,6 +229,7 @@ pub fn lower_builder(
             entry,
             cells,
             params: count,
+            written: true,
         },
     );
     Ok(())
@@ -242,10 +247,13 @@ fn lower_unwritten_constructor(
     ensures { OnOk result (LowersUnwritten names.now role.Constructor class out.old out.new) }
 {
     names.fit();
+    let depth = out.marks().len();
     let mut parts = Vec::new(alloc);
+    open_freed(Some(class), names, out)?;
     build_all(alloc, class, &[], names, &mut parts, out)?;
     end_construction(Some(class), names, out)?;
     close_parts(&mut parts, out)?;
+    close_scopes(depth, out)?;
     Ok(())
 }
 
@@ -261,6 +269,7 @@ fn lower_unwritten_destructor(
 {
     names.fit();
     let depth = out.marks().len();
+    open_ending(Some(class), names, out)?;
     leave_all(class, names, out)?;
     close_scopes(depth, out)?;
     Ok(())
@@ -307,8 +316,8 @@ pub fn lower_unwritten(
     requires room { length out.old.ops + (unwritten_room one.role (class_at names.now one.class) + 1) ≤ PROGRAM_OPS }
     ensures kept { OnOk result (Kept (laid_in out.old) (laid_in out.new)) }
     ensures room { OnOk result (length out.new.ops ≤ length out.old.ops + (unwritten_room one.role (class_at names.now one.class) + 1)) }
-    ensures code { OnOk result ((last : ℕ) → last ≤ number → RoutineAt (laid_in out.new) last number (unwritten_meant names.now (unwritten_as one)) (record { entry = length out.old.ops; cells = 0; params = 0 }) (length out.old.ops) (length out.new.ops)) }
-    ensures written { OnOk result (out.new.routines ≡ slice_set out.old.routines number (record { entry = length out.old.ops; cells = 0; params = 0 })) }
+    ensures code { OnOk result ((last : ℕ) → last ≤ number → RoutineAt (laid_in out.new) last number (unwritten_meant names.now (unwritten_as one)) (record { entry = length out.old.ops; cells = 0; params = 0; written = false }) (length out.old.ops) (length out.new.ops)) }
+    ensures written { OnOk result (out.new.routines ≡ slice_set out.old.routines number (record { entry = length out.old.ops; cells = 0; params = 0; written = false })) }
     ensures outside { OnOk result (out.new.marks ≡ []) }
 {
     let entry = out.here();
@@ -324,6 +333,7 @@ pub fn lower_unwritten(
             entry,
             cells: 0,
             params: 0,
+            written: false,
         },
     );
     Ok(())

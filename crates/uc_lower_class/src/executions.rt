@@ -120,3 +120,46 @@ pub(crate) fn take_down(coroutine: bool, out: &mut Draft) -> Result<(), AllocErr
     }
     Ok(())
 }
+
+/// The scope of a mutex object that is built is opened, around all else: behind it the object is free, or begins as a task with the main of
+/// its class, which has this place. After want of memory the draft is spent.
+pub(crate) fn open_freed(
+    class: Option<usize>,
+    names: &ProgramNames,
+    out: &mut Draft,
+) -> Result<(), AllocError>
+    ensures { OnOk result (Opens (mutex_count names.now class) (freed_at names.now class) out.old out.new) }
+{
+    let Some(class) = class else {
+        return Ok(());
+    };
+    if names.is_mutex(class) {
+        let main = names.is_task(class).then(|| names.main_of(class));
+        let _row = out.open(Opening::Object {
+            what: Cleaning::Free(main),
+            line: 0,
+        })?;
+    }
+    Ok(())
+}
+
+/// The scope of a mutex object that is destroyed is opened, around all else: behind it the object is no more. After want of memory the draft
+/// is spent.
+pub(crate) fn open_ending(
+    class: Option<usize>,
+    names: &ProgramNames,
+    out: &mut Draft,
+) -> Result<(), AllocError>
+    ensures { OnOk result (Opens (mutex_count names.now class) (ending_at names.now class) out.old out.new) }
+{
+    let Some(class) = class else {
+        return Ok(());
+    };
+    if names.is_mutex(class) {
+        let _row = out.open(Opening::Object {
+            what: Cleaning::End,
+            line: 0,
+        })?;
+    }
+    Ok(())
+}

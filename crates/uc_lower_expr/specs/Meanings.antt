@@ -1,8 +1,9 @@
 -- What lowering tells of an expression besides its code.
-use Rattle.std.specs.Prelude.{◌≡◌, ℕ, Bool, true, false, Option, Some, None, if◌then◌else◌}
+use Rattle.std.specs.Prelude.{◌≡◌, ℕ, List, Bool, true, false, Option, Some, None, if◌then◌else◌}
 use Rattle.uc_tree.specs.Source.{Shape, Integer, Character, Truth, Binding, Last, Field, Array, field_cells}
-use Rattle.uc_tree.specs.Objects.{shape_of, plain_class, event_place}
-use Rattle.uc_tree.specs.Programs.{Program}
+use Rattle.uc_tree.specs.Numbering.{is_mutex, member_number}
+use Rattle.uc_tree.specs.Objects.{shape_of, plain_class, event_place, class_at}
+use Rattle.uc_tree.specs.Programs.{Class, Program}
 use Rattle.uc_resolve.specs.Resolve as resolve
 use Rattle.uc_lower_expr.specs.declared.meaning.Scalar.{Scalar}
 use Rattle.uc_lower_expr.specs.declared.meaning.Scalar.TheVariants as scalar
@@ -38,12 +39,27 @@ cell_in standing.Fail = None
 cell_in (standing.Routine r) = None
 cell_in (standing.Member r) = None
 cell_in (standing.LiveMember r) = None
+cell_in (standing.MutexMember m r) = None
 cell_in standing.Nothing = None
 
--- a member that a path names, by whether its class is one of coroutines
-abbrev pub member_standing : Bool → ℕ → Standing
-member_standing true r = standing.LiveMember r
-member_standing false r = standing.Member r
+-- a member that a path names, by its number where it is a mutex member, and by whether its class is one of coroutines
+abbrev pub member_standing : Option ℕ → Bool → ℕ → Standing
+member_standing (Some m) coroutine r = standing.MutexMember m r
+member_standing None true r = standing.LiveMember r
+member_standing None false r = standing.Member r
+
+-- whether objects of the class with a place are mutex objects, and tasks
+abbrev pub is_mutex_in : Option Class → Bool
+is_mutex_in None = false
+is_mutex_in (Some c) = is_mutex c.kind
+
+abbrev pub is_mutex_at : Program → ℕ → Bool
+is_mutex_at p i = is_mutex_in (class_at p i)
+
+-- the number of a mutex member of such a class
+abbrev pub mutex_number_in : Option Class → List ℕ → Option ℕ
+mutex_number_in None name = None
+mutex_number_in (Some c) name = member_number c name
 
 -- a field of the object of the running call, which begins at this cell of it
 pub data FieldAt (k : ℕ) : resolve.Standing → Type 0 where
@@ -65,6 +81,7 @@ StandsAs standing.Fail s = s ≡ resolve.AsFail
 StandsAs (standing.Routine r) s = s ≡ resolve.AsRoutine r
 StandsAs (standing.Member r) s = s ≡ resolve.AsMember r
 StandsAs (standing.LiveMember r) s = s ≡ resolve.AsLiveMember r
+StandsAs (standing.MutexMember m r) s = s ≡ resolve.AsMutexMember m r
 StandsAs standing.Nothing s = s ≡ resolve.AsNothing
 
 -- what is told of an expression of a program that stands for this: how its base keeps a number, the class or the event that it

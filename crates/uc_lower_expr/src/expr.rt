@@ -8,10 +8,10 @@ ghost use Rattle.uc_tree.specs.Numbering.{routines_of};
 ghost use Rattle.uc_tree.specs.Objects.{class_at};
 ghost use Rattle.uc_resolve.specs.Resolve.{Meant, meant, value_of, unary_meant, assign_meant, link_meant, chain_meant, part_meant, parts_meant, element_meant, field_meant, call_meant, args_meant, args_by, name_meant, own_meant, place_member, member_meant, Of, item_meant, routine_meant_by, routine_from, known_named};
 ghost use Rattle.uc_lower_expr.specs.Contexts.{context_in};
-ghost use Rattle.uc_lower_expr.specs.Meanings.{Tells, member_standing, shape_as};
+ghost use Rattle.uc_lower_expr.specs.Meanings.{Tells, binds, element_told, member_standing, shape_as};
 ghost use Rattle.uc_lower_expr.specs.DraftGrowth.{Adds, Grows, ExprCode, ArgumentsCode, LiveCallCode};
 ghost use Rattle.uc_lower_expr.specs.Members.{no_field};
-ghost use Rattle.uc_lower_expr.specs.Parts.{RightCode, VariableCode, PlaceCode, ArgumentCode, FieldCode, Restarts, place_op_of, own_place_op, own_standing, input_told};
+ghost use Rattle.uc_lower_expr.specs.Parts.{RightCode, VariableCode, PlaceCode, ArgumentCode, FieldCode, FoundCode, Restarts, place_op_of, own_place_op, own_standing, input_told};
 
 use crate::fields::Field;
 use crate::meaning::{Meaning, Scalar, Standing};
@@ -21,7 +21,7 @@ use crate::ops::{Joining, combining, joined_by};
 use crate::program_names::ProgramNames;
 use crate::put::{
     begin_update, close_fork, cut, end_update, put, put_at_risk, put_bump, put_conversion,
-    put_element, put_load, put_stepped, restart,
+    put_load, put_stepped, restart,
 };
 use std::alloc::AllocError;
 use uc_code::draft::Draft;
@@ -403,6 +403,27 @@ fn lower_index(
     }
 }
 
+// Behind the place of an element of an array: of one that is known by its number, that.
+fn put_element(told: Meaning, line: u32, out: &mut Draft) -> Result<Meaning, AllocError>
+    requires { length out.old.ops < PROGRAM_OPS }
+    ensures code { OnOk result (Adds 1 (FoundCode line (binds (shape_as told.scalar))) out.old out.new) }
+    ensures tells { IfOk result (λ element. element ≡ element_told told) }
+{
+    if told.scalar.binds() {
+        put(Op::Load, line, out)?;
+        return Ok(Meaning {
+            elements: None,
+            standing: Standing::Number,
+            ..told
+        });
+    }
+    Ok(Meaning {
+        elements: None,
+        standing: Standing::Place,
+        ..told
+    })
+}
+
 // A name is that of a variable in scope, of a member of the class, or of a constant or a routine of the program.
 fn lower_name(
     name: &Name,
@@ -489,7 +510,8 @@ fn lower_own_member(
     match names.member(class, name) {
         Some(routine) => {
             put(Op::Own, line, out)?;
-            Ok(names.result(routine).standing_as(Standing::Member(routine)))
+            let standing = member_of(names.mutex_number(class, name), false, routine);
+            Ok(names.result(routine).standing_as(standing))
         }
         None => lower_item_name(name, line, names, out),
     }
@@ -641,14 +663,14 @@ fn lower_member(
     }
 }
 
-// A member that a path names, of a class of coroutines or another.
-fn member_of(coroutine: bool, routine: u32) -> Standing
-    ensures { result ≡ member_standing coroutine routine }
+// A member that a path names, which is a mutex member of this number, or one of a class of coroutines or of another.
+fn member_of(mutex: Option<u8>, coroutine: bool, routine: u32) -> Standing
+    ensures { result ≡ member_standing mutex coroutine routine }
 {
-    if coroutine {
-        Standing::LiveMember(routine)
-    } else {
-        Standing::Member(routine)
+    match mutex {
+        Some(member) => Standing::MutexMember { member, routine },
+        None if coroutine => Standing::LiveMember(routine),
+        None => Standing::Member(routine),
     }
 }
 
@@ -676,9 +698,11 @@ fn lower_member_of(
             names.fit();
             match names.member(class, name) {
                 Some(routine) => Ok(
-                    names
-                        .result(routine)
-                        .standing_as(member_of(names.has_coroutines(Some(class)), routine)),
+                    names.result(routine).standing_as(member_of(
+                        names.mutex_number(class, name),
+                        names.has_coroutines(Some(class)),
+                        routine,
+                    )),
                 ),
                 None => put_nothing(start, line, out),
             }
@@ -705,6 +729,17 @@ fn put_live_call(routine: u32, line: u32, out: &mut Draft) -> Result<(), AllocEr
 {
     put(Op::Tick, line, out)?;
     put(Op::Alive(routine), line, out)?;
+    put_at_risk(Op::CallOn(routine), line, out)?;
+    Ok(())
+}
+
+// The call of a mutex member behind its arguments: its object is entered first.
+fn put_mutex_call(member: u8, routine: u32, line: u32, out: &mut Draft) -> Result<(), AllocError>
+    requires { length out.old.ops + 3 ≤ PROGRAM_OPS }
+    ensures { OnOk result (Adds 3 (MutexCallCode line out.old.marks member routine) out.old out.new) }
+{
+    put(Op::Tick, line, out)?;
+    put(Op::Enter { member, routine }, line, out)?;
     put_at_risk(Op::CallOn(routine), line, out)?;
     Ok(())
 }
@@ -740,6 +775,11 @@ fn lower_call(
             lower_args(names.params(routine), args, line, names, out)?;
             put(Op::Tick, line, out)?;
             put_at_risk(Op::CallOn(routine), line, out)?;
+            Ok(told.standing_as(Standing::Value))
+        }
+        Standing::MutexMember { member, routine } => {
+            lower_args(names.params(routine), args, line, names, out)?;
+            put_mutex_call(member, routine, line, out)?;
             Ok(told.standing_as(Standing::Value))
         }
         Standing::LiveMember(routine) => {

@@ -18,7 +18,7 @@ pub enum Scalar {
 
 /// What an expression is: a variable that is no reference, by its first cell; a field that is none of the object of the running
 /// call, by its first cell in that; another place; a cluster or a processor, by its number; a value, `cin`, the member `fail` of `cin`, a routine by its number, a member
-/// of the object at the place, by the number of its routine, one of the coroutine there, which must be live, or nothing, where a rule is
+/// of the object at the place, by the number of its routine, one of the coroutine there, which must be live, a mutex member of the object there, by its number and its routine, or nothing, where a rule is
 /// broken.
 #[derive(Clone, Copy, PartialEq, Eq, Debug)]
 pub enum Standing {
@@ -32,6 +32,7 @@ pub enum Standing {
     Routine(u32),
     Member(u32),
     LiveMember(u32),
+    MutexMember { member: u8, routine: u32 },
     Nothing,
 }
 
@@ -51,6 +52,7 @@ impl Standing {
             Standing::Routine(_) => None,
             Standing::Member(_) => None,
             Standing::LiveMember(_) => None,
+            Standing::MutexMember { .. } => None,
             Standing::Nothing => None,
         }
     }

@@ -440,7 +440,53 @@ impl<'a> ProgramNames<'a> {
         }
     }
 
-    /// The number of the main of the coroutines of the class with this place; 0 where there is none.
+    /// Whether objects of the class with this place are mutex objects.
+    pub fn is_mutex(&self, class: usize) -> bool
+        ensures { result ≡ is_mutex_at self.now class }
+    {
+        match self.sizes.class(class) {
+            Some(class) => is_mutex(class.kind),
+            None => false,
+        }
+    }
+
+    /// Whether they are tasks.
+    pub fn is_task(&self, class: usize) -> bool
+        ensures { result ≡ has_tasks self.now (class_at self.now class) }
+    {
+        match self.sizes.class(class) {
+            Some(class) => class.kind == Kind::Task,
+            None => false,
+        }
+    }
+
+    /// The number of the class with this place.
+    pub fn class_number(&self, class: usize) -> u32
+        requires { class < length (classes_of self.now.items) }
+        ensures { result ≡ number_of_place self.now class }
+    {
+        number_at(&self.numbering.classes, class)
+    }
+
+    /// The number of a mutex member of the class with this place, if the name is that of one.
+    pub fn mutex_number(&self, class: usize, name: &Name) -> Option<u8>
+        ensures { result ≡ mutex_number_in (class_at self.now class) name.now }
+    {
+        let members = self.mutex_members.get(class)?;
+        member_number(members, name)
+    }
+
+    /// Whether a routine of this name in the class with this place, if it is in one, is a mutex member.
+    pub fn is_mutex_member(&self, class: Option<usize>, name: &Name) -> bool
+        ensures { result ≡ is_some (mutex_number_in (class_by self.now class) name.now) }
+    {
+        match class {
+            Some(class) => self.mutex_number(class, name).is_some(),
+            None => false,
+        }
+    }
+
+    /// The number of the main of the coroutines or of the tasks of the class with this place; 0 where there is none.
     pub fn main_of(&self, class: usize) -> u32
         requires { class < length (classes_of self.now.items) }
         ensures { result ≡ main_at self.now class }

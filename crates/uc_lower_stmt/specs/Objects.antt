@@ -1,9 +1,12 @@
 -- The code that builds objects and ends their scopes.
-use Rattle.std.specs.Prelude.{◌≡◌, ℕ, ◌+◌, ◌*◌, ◌≤◌, List, ◌∷◌, Option, Some, None, length}
+use Rattle.std.specs.Prelude.{◌≡◌, ℕ, ◌+◌, ◌*◌, ◌≤◌, List, [], ◌∷◌, Bool, true, false, Option, Some, None, length}
 use Rattle.uc_tree.specs.Programs.{Program}
 use Rattle.uc_tree.specs.Cells.{class_cells}
+use Rattle.uc_tree.specs.Objects.{Making, APlain, AMutex, number_at}
 use Rattle.uc_code.specs.declared.op.Op.TheVariants as op
 use Rattle.uc_code.specs.declared.rows.Array.{Array}
+use Rattle.uc_code.specs.declared.rows.Manner.{Manner}
+use Rattle.uc_code.specs.declared.rows.Manner.TheVariants as manner
 use Rattle.uc_code.specs.declared.rows.Mark.{Mark}
 use Rattle.uc_code.specs.declared.rows.Mark.TheVariants as mark
 use Rattle.uc_code.specs.declared.rows.ObjectCall.{ObjectCall}
@@ -13,21 +16,39 @@ use Rattle.uc_code.specs.Drafts.{Draft}
 use Rattle.uc_code.specs.Layout.{Laid, laid_in}
 use Rattle.uc_code.specs.OpenRows.{CleansBehind, clean_room}
 use Rattle.uc_code.specs.Emits.{clean_length}
-use Rattle.uc_code.specs.CodeShapes.{OpAt, Both, Risk, HandlerAt, clean_up, OverElements, Kept}
-use Rattle.uc_code.specs.Lowered.{CallBuilt, CallDone, CleanAt}
+use Rattle.uc_code.specs.CodeShapes.{OpAt, Nothing, One, Both, Risk, HandlerAt, clean_up, OverElements, Kept}
+use Rattle.uc_code.specs.Lowered.{CallBuilt, CallDone, CleanAt, PadAt}
 use Rattle.uc_lower_expr.specs.declared.numbering.ClassRoutine.{ClassRoutine}
 
-abbrev pub call_by : ClassRoutine → Spot → Option Array → ObjectCall
-call_by r spot array = record { spot = spot; array = array; routine = r.number; written = r.written }
+abbrev pub call_by : ClassRoutine → Manner → Spot → Option Array → ObjectCall
+call_by r m spot array = record { spot = spot; array = array; routine = r.number; written = r.written; manner = m }
 
--- an array of so many objects of the class with the place i
-abbrev pub array_by : Program → ℕ → Option ℕ → Option Array
-array_by p i None = None
-array_by p i (Some n) = Some (record { length = n; size = class_cells p i })
+-- how an object of the class with the place i is built, and destroyed
+abbrev pub built_by : Program → ℕ → Bool → Manner
+built_by p i true = manner.Makes (number_at p i)
+built_by p i false = manner.Plain
+
+abbrev pub ended_by : Bool → Manner
+ended_by true = manner.Ends
+ended_by false = manner.Plain
+
+-- what such an object is to those that build and destroy it
+abbrev pub making_by : ℕ → Bool → Making
+making_by i true = AMutex i
+making_by i false = APlain i
+
+-- an array of so many objects of the class with the place i; a mutex object is there by its number
+abbrev pub element_cells : Program → ℕ → Bool → ℕ
+element_cells p i true = 1
+element_cells p i false = class_cells p i
+
+abbrev pub array_by : Program → ℕ → Bool → Option ℕ → Option Array
+array_by p i mutex None = None
+array_by p i mutex (Some n) = Some (record { length = n; size = element_cells p i mutex })
 
 -- the turns that build an array: at most so many ops; what builds an object, arguments apart, or an array
 abbrev pub fill_room : ℕ
-fill_room = 18
+fill_room = 24
 
 abbrev pub build_room : Option ℕ → ℕ
 build_room None = 4
@@ -48,12 +69,12 @@ pub record InPart (ms : List Mark) : Type 0 where
   pub outer : List Mark
   pub is : ms ≡ mark.Part row ∷ outer
 
--- behind the statements in the scope of an object, up to z: its clean-up, and its clean-up once more, for unwinding
+-- behind the statements in the scope of an object, up to z: its clean-up, and a pad for unwinding
 pub record ScopeEnds (code : Laid) (line : ℕ) (ms : List Mark) (what : Cleaning) (row a z : ℕ) : Type 0 where
   pub clean_end : ℕ
   pub clean : CleanAt code line what ms a clean_end
   pub leave : OpAt code clean_end (op.Jump z) line
-  pub unwinds : Both (CleanAt code line what ms) (Risk code ms op.Unwind line) (clean_end + 1) z
+  pub unwinds : PadAt code line what ms (clean_end + 1) z
   pub handler : HandlerAt code row (clean_up (clean_end + 1))
 
 -- behind what follows a part of an object under construction: its clean-up, for unwinding alone
@@ -77,3 +98,18 @@ pub record ClosesPart (what : Cleaning) (line : ℕ) (old new : Draft) : Type 0 
   pub room : length new.ops ≤ length old.ops + (clean_length what + 2)
   pub part : (row : ℕ) (ms : List Mark) → old.marks ≡ mark.Part row ∷ ms → PartEnds (laid_in new) line ms what row (length old.ops) (length new.ops)
   pub marks : (row : ℕ) (ms : List Mark) → old.marks ≡ mark.Part row ∷ ms → new.marks ≡ ms
+
+-- a mutex object is made, and its place bound to it; nothing is done for others
+abbrev pub MadeCode : ℕ → Manner → ℕ → Laid → ℕ → ℕ → Type 0
+MadeCode line manner.Plain r code = Nothing
+MadeCode line (manner.Makes c) r code = Both (One code (op.Make c r) line) (One code (op.BindMade c r) line)
+MadeCode line manner.Ends r code = Nothing
+
+-- the marks of a mutex call, outside of its scope: those of a routine alone, so that a return ends it
+pub record InCall (ms : List Mark) : Type 0 where
+  pub routine : ℕ
+  pub is : ms ≡ mark.Body routine ∷ []
+
+-- its pad: at most so many ops
+abbrev pub arrival_room : ℕ
+arrival_room = 2 * clean_room + 3

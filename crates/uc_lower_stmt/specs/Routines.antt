@@ -40,3 +40,8 @@ EndCode false line code = Both (One code op.NoReturn line) (One code op.Return 0
 abbrev pub LowersRoutine : Program → Purpose → ℕ → Routine → Draft → Draft → Type 0
 LowersRoutine p purpose last r old new =
     Lowers (OPS_FOR_SIZE * (1 + sizes_at r.body 0)) (stmts_size r.body) (stmts_cells r.body (declared_cells p)) (stmts_scopes r.body) (λ code. BodyAt code purpose last r.brace.line (stmts_meant p r.body (scope_of old))) (scope_behind p r.body (scope_of old)) old new
+
+-- so it is of those of a mutex member, which stand in the scope that leaves its object
+abbrev pub LowersMutex : Program → ℕ → Routine → Draft → Draft → Type 0
+LowersMutex p last r old new =
+    Lowers (OPS_FOR_SIZE * (1 + sizes_at r.body 1)) (stmts_size r.body) (stmts_cells r.body (declared_cells p)) (stmts_scopes r.body) (λ code. BodyAt code Builder last r.brace.line (plain_body p true r (stmts_meant p r.body (scope_of old)))) (scope_behind p r.body (scope_of old)) old new

@@ -154,6 +154,39 @@ fn lower_called(
     Ok(())
 }
 
+// The statements of a mutex member, and its end: whatever leaves them leaves the object, in the line of the call.
+fn lower_mutex(
+    alloc: Global,
+    names: &ProgramNames,
+    routine: &Routine,
+    last: u32,
+    out: &mut Draft,
+) -> Result<(), AllocError>
+    requires built { are_built routine.now.body ≡ true }
+    requires written { last < length (routines_of names.now) }
+    requires outside { out.old.marks ≡ [] }
+    requires room { length out.old.ops + OPS_FOR_SIZE * (1 + sizes_at routine.now.body 1) ≤ PROGRAM_OPS }
+    requires cells { out.old.cells + stmts_cells routine.now.body (declared_cells names.now) ≤ FRAME_CELLS }
+    requires scopes { out.old.scopes + stmts_scopes routine.now.body ≤ PROGRAM_SIZE }
+    requires texts { out.old.texts + stmts_size routine.now.body ≤ PROGRAM_SIZE }
+    ensures { OnOk result (LowersMutex names.now last routine.now out.old out.new) }
+{
+    let line = line_of(routine);
+    out.enter_body(last)?;
+    let _row = out.open(Opening::Object {
+        what: Cleaning::Leave,
+        line: 0,
+    })?;
+    lower_stmts(alloc, names, body_of(routine), line, out)?;
+    if !is_void(result_of(sig_of(routine))) {
+        put(Op::NoReturn, line, out)?;
+    }
+    close_call(0, out)?;
+    out.leave();
+    put(Op::Return, 0, out)?;
+    Ok(())
+}
+
 // The statements of a routine that is no constructor and no destructor, and its end.
 fn lower_statements(
     alloc: Global,
@@ -182,7 +215,11 @@ fn lower_statements(
             Ok(())
         }
         None => {
-            lower_called(alloc, names, routine, last, out)?;
+            if names.is_mutex_member(out.place().class, name_of(sig_of(routine))) {
+                lower_mutex(alloc, names, routine, last, out)?;
+            } else {
+                lower_called(alloc, names, routine, last, out)?;
+            }
             Ok(())
         }
     }
@@ -217,8 +254,8 @@ pub fn lower_routine(
     requires texts { texts + stmts_size routine.now.body ≤ PROGRAM_SIZE }
     ensures kept { OnOk result (Kept (laid_in out.old) (laid_in out.new)) }
     ensures room { OnOk result (length out.new.ops ≤ length out.old.ops + OPS_FOR_SIZE * (1 + sizes_at routine.now.body 0)) }
-    ensures code { OnOk result (RoutineAt (laid_in out.new) last number (routine_meant names.now routine.now (routine_scope names.now routine.now class number texts sites)) (record { entry = length out.old.ops; cells = frame_cells names.now routine.now; params = length routine.now.sig.params }) (length out.old.ops) (length out.new.ops)) }
-    ensures written { OnOk result (out.new.routines ≡ slice_set out.old.routines number (record { entry = length out.old.ops; cells = frame_cells names.now routine.now; params = length routine.now.sig.params })) }
+    ensures code { OnOk result (RoutineAt (laid_in out.new) last number (routine_meant names.now routine.now (routine_scope names.now routine.now class number texts sites)) (record { entry = length out.old.ops; cells = frame_cells names.now routine.now; params = length routine.now.sig.params; written = true }) (length out.old.ops) (length out.new.ops)) }
+    ensures written { OnOk result (out.new.routines ≡ slice_set out.old.routines number (record { entry = length out.old.ops; cells = frame_cells names.now routine.now; params = length routine.now.sig.params; written = true })) }
     ensures outside { OnOk result (out.new.marks ≡ []) }
     ensures texts { OnOk result (out.new.texts ≡ texts + length (gathered_all own_texts routine.now.body)) }
     ensures few_texts { OnOk result (out.new.texts ≤ texts + stmts_size routine.now.body) }
@@ -240,6 +277,7 @@ pub fn lower_routine(
             entry,
             cells,
             params: count,
+            written: true,
         },
     );
     Ok(())

@@ -30,7 +30,7 @@ use crate::declare::lower_declarators;
 use crate::guard::lower_try;
 use crate::print::{lower_items, lower_targets, lower_together};
 use crate::raise::{lower_raise, lower_throw};
-use crate::switching::put_switch;
+use crate::switching::{put_switch, put_yield};
 use crate::turning::Turning;
 use std::alloc::{AllocError, Global};
 use uc_code::cleaning::put_exit;
@@ -129,7 +129,11 @@ pub fn lower_stmt(
             lower_return(value, line, names, out)?;
             Ok(())
         }
-        StmtForm::Empty | StmtForm::Yield => Ok(()),
+        StmtForm::Empty => Ok(()),
+        StmtForm::Yield => {
+            put_yield(line, out)?;
+            Ok(())
+        }
         StmtForm::Try {
             brace,
             body,

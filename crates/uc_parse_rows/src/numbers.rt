@@ -2,9 +2,6 @@
 
 use crate::bytes::text_of;
 use std::alloc::{AllocError, Global};
-use uc_layout::frames::cells_of_routine;
-use uc_layout::lists::classes_in;
-use uc_layout::sizes::Sizes;
 use uc_numbering::classes::{class_number, event_number, is_event};
 use uc_numbering::conditions::{condition_count, condition_number, conditions_in};
 use uc_numbering::members::{member_number, members_of};
@@ -12,6 +9,9 @@ use uc_numbering::routines::routines_of;
 use uc_numbering::sites::sites_of;
 use uc_numbering::texts::texts_of;
 use uc_size::program::size_of_program;
+use uc_layout::frames::cells_of_routine;
+use uc_layout::lists::classes_in;
+use uc_layout::sizes::Sizes;
 use uc_tree::class::Class;
 use uc_tree::program::Program;
 

@@ -8,7 +8,7 @@ use Rattle.uc_code.specs.Codes.{Code}
 use Rattle.uc_code.specs.Layout.{Laid, laid_of}
 use Rattle.uc_code.specs.Lowered.{Lowered}
 use Rattle.uc_frames.specs.Machine.{Machine}
-use Rattle.uc_frames.specs.Stands.{Stands}
+use Rattle.uc_frames.specs.Stands.{Stands, Rests}
 use Rattle.uc_step.specs.Simulation.{behind_line, StandsAfter}
 
 module _ (source : Source) (code : Laid) where
@@ -62,5 +62,6 @@ module _ (code : Code) where
   abbrev pub IsOnWay : ℕ → Machine → ℕ → Machine → Type 0
   IsOnWay quantum old ticks m = (source : Source) (s : State) → Lowered source code → Stands (laid_of code) old s → OnWay source (laid_of code) s quantum ticks m
 
+  -- a ride begins where the last one ended, which may be where what was made is bound
   abbrev pub HasRidden : ℕ → Machine → ℕ → Asked → Machine → Type 0
-  HasRidden quantum old ticks asked m = (source : Source) (s : State) → Lowered source code → Stands (laid_of code) old s → Rode source (laid_of code) s quantum ticks asked m
+  HasRidden quantum old ticks asked m = (source : Source) (s : State) → Lowered source code → Rests (laid_of code) old s → Rode source (laid_of code) s quantum ticks asked m

@@ -19,7 +19,7 @@ use Rattle.uc_ride.specs.declared.events.Caught.{Caught}
 use Rattle.uc_ride.specs.declared.events.Settled.{Settled}
 use Rattle.uc_ride.specs.declared.events.Settled.TheVariants as settled
 use Rattle.uc_ride.specs.declared.events.Test.{Test}
-use Rattle.uc_ride.specs.declared.events.Test.TheVariants.{Block, Task, Coroutine, Nothing}
+use Rattle.uc_ride.specs.declared.events.Test.TheVariants.{Block, Task, Coroutine, Call, Nothing}
 use Rattle.uc_ride.specs.declared.events.Unwound.{Unwound}
 use Rattle.uc_ride.specs.declared.events.Unwound.TheVariants as unwound
 
@@ -33,6 +33,7 @@ abbrev pub test_by : Op → Test
 test_by op.Handled = Block
 test_by op.Unhandled = Task
 test_by op.Escape = Coroutine
+test_by (op.Arrive arrived) = Call arrived
 test_by _ = Nothing
 
 -- what a switch asks in this line, where it is a fault

@@ -27,7 +27,7 @@ use uc_code::op::Op;
 use uc_code::rows::Instruction;
 use uc_coroutine::leaving::{Left, leave, return_past};
 use uc_coroutine::switching::{finish, leave_main, resume, suspend, take_down};
-use uc_coroutine::testing::{TaskMainEnd, end_block, end_task_main};
+use uc_coroutine::testing::{TaskMainEnd, end_block, end_call, end_task_main};
 use uc_coroutine::unwinding::unwind;
 use uc_entry::fault::RunFault;
 use uc_entry::request::{Asked, Request};
@@ -55,13 +55,14 @@ pub(crate) enum Unwound {
     Asks(Asked),
 }
 
-/// What the first op of a row tests: whether a block or a main that is unwound up to it is left, or nothing, where it cleans up. The
+/// What the first op of a row tests: whether a block, a mutex call or a main that is unwound up to it is left, or nothing, where it cleans up. The
 /// main is that of a task or of a coroutine.
 #[derive(Clone, Copy)]
 pub(crate) enum Test {
     Block,
     Task,
     Coroutine,
+    Call { arrived: u32 },
     Nothing,
 }
 
@@ -298,6 +299,10 @@ fn begin(code: &Code, work: &mut Work) -> Result<Unwound, AllocError>
                     Ok(Unwound::Still)
                 }
             }
+            Test::Call { arrived } => {
+                end_call(work, arrived, next + 1)?;
+                Ok(Unwound::On)
+            }
             Test::Task => {
                 let after = end_on(code, work, instruction.line)?;
                 Ok(after)
@@ -326,6 +331,7 @@ fn test_of(op: Op) -> Test
         Op::Handled => Test::Block,
         Op::Unhandled => Test::Task,
         Op::Escape => Test::Coroutine,
+        Op::Arrive(arrived) => Test::Call { arrived },
         _ => Test::Nothing,
     }
 }

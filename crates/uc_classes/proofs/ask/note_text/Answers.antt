@@ -28,4 +28,4 @@ returns c =
     let three = c.note_length.ensures ∙ ap lengths two in
     let four = c.note_field_sort.ensures ∙ ap (λ s. sorts s c.note_length.new.found) sort ∙ ap (sorts (sort_of env.program base)) three in
     let five = c.note_access.ensures ∙ ap open_field four in
-    c.judge_event.ensures ∙ ap (λ x. after c.note_access.new.found (of_sort c.sort_of-sort.result is_no_event S22 x.pos)) c.declarator.view_is ∙ ap (λ s. events s c.note_access.new.found) sort ∙ ap (events (sort_of env.program base)) five
+    c.judge_event.ensures ∙ ap (λ s. events s c.note_access.new.found) sort ∙ ap (events (sort_of env.program base)) five

@@ -1,6 +1,6 @@
 use Rattle.std.proofs.Common.{true, false, sym, ◌∙◌}
 use Rattle.uc_lower_expr.proofs.Walks.{element_as, found_load, found_none}
-use Rattle.uc_lower_expr.proofs.put.put_element.Goals as goal
+use Rattle.uc_lower_expr.proofs.expr.put_element.Goals as goal
 
 pub returns-then-binds-clause-code : goal.returns-then-binds-clause-code
 returns-then-binds-clause-code c = found_load c.args.line _ _ _ (sym c.binds.ensures ∙ c.if-binds.true) c.in_ok-put.ensures
