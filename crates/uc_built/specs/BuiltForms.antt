@@ -1,13 +1,11 @@
--- The forms of programs that run: `using`, constants, prototypes, classes of kind `class`, coroutines, events and routines, with one
--- program main; their variables, fields and parameters are scalars and objects of such classes, and no statement raises an event at an
--- execution, enables or disables events, or is one of monitors or tasks.
+-- The forms of programs that run: `using`, constants, prototypes, classes and routines, with one program main; their variables, fields
+-- and parameters are scalars and objects, and no statement raises an event at an execution, enables or disables events, accepts calls or
+-- migrates.
 use Rattle.std.specs.Prelude.{◌≡◌, List, [], ◌∷◌, Bool, true, false, not, ◌&&◌}
 use Rattle.std.specs.List.{list_any}
 use Rattle.uc_tree.specs.declared.kinds.Base.{Base}
 use Rattle.uc_tree.specs.declared.kinds.Base.TheVariants as base
 use Rattle.uc_tree.specs.declared.kinds.Param.{Param}
-use Rattle.uc_tree.specs.declared.kinds.Kind.{Kind}
-use Rattle.uc_tree.specs.declared.kinds.Kind.TheVariants as kind
 use Rattle.uc_tree.specs.ProgramMain.{is_main_item}
 use Rattle.uc_tree.specs.Statements.{Declarator, ForStart, NoFor, ForDeclare, ForEvaluate, Stmt, Block, Empty, Evaluate, Declare, If, While, Do, For, Break, Continue, Return, Try, Throw, Raise, RaiseAt, Enable, Disable, Accept, Print, PrintTogether, Read, Resume, Suspend, Yield, Migrate, Stmts, NoStmts, MoreStmts, MaybeStmt, NoStmt, OneStmt, Handler, Handles, Handlers, NoHandlers, MoreHandlers}
 use Rattle.uc_tree.specs.Programs.{Sig, Routine, Member, MemberForm, FieldsMember, RoutineMember, ProtoMember, Class, Item, ClassItem, RoutineItem, ConstItem, ProtoItem, ForwardItem, UsingItem, Program}
@@ -22,7 +20,7 @@ is_scalar_base base.Cluster = false
 is_scalar_base base.Processor = false
 is_scalar_base (base.Named name) = false
 
--- scalars, and objects: all classes of such a program are of kind `class` or coroutines, but for its events, of which nothing is declared
+-- scalars, and objects of classes: nothing is declared of an event
 abbrev pub is_built_base : Base → Bool
 is_built_base base.Void = false
 is_built_base base.Int = true
@@ -68,7 +66,7 @@ abbrev mutual
   is_built_stmt (Read pos places) = true
   is_built_stmt (Resume pos) = true
   is_built_stmt (Suspend pos) = true
-  is_built_stmt (Yield pos) = false
+  is_built_stmt (Yield pos) = true
   is_built_stmt (Migrate pos cluster) = false
 
   pub is_built_maybe : MaybeStmt → Bool
@@ -107,14 +105,6 @@ is_built_sig s = is_built_result s.ret && are_built_params s.params
 abbrev pub is_built_routine : Routine → Bool
 is_built_routine r = is_built_sig r.sig && are_built r.body
 
-abbrev pub is_built_kind : Kind → Bool
-is_built_kind kind.Class = true
-is_built_kind kind.Coroutine = true
-is_built_kind kind.Monitor = false
-is_built_kind kind.Cormonitor = false
-is_built_kind kind.Task = false
-is_built_kind kind.Event = true
-
 abbrev pub is_built_member : MemberForm → Bool
 is_built_member (FieldsMember at b ds) = is_built_base b
 is_built_member (RoutineMember routine) = is_built_routine routine
@@ -125,14 +115,14 @@ are_built_members [] = true
 are_built_members (m ∷ ms) = is_built_member m.form && are_built_members ms
 
 abbrev pub is_built_class : Class → Bool
-is_built_class c = is_built_kind c.kind && are_built_members c.members
+is_built_class c = are_built_members c.members
 
 abbrev pub is_built_item : Item → Bool
 is_built_item (ClassItem class) = is_built_class class
 is_built_item (RoutineItem routine) = is_built_routine routine
 is_built_item (ConstItem constant) = is_scalar_base constant.base
 is_built_item (ProtoItem sig) = is_built_sig sig
-is_built_item (ForwardItem forward) = is_built_kind forward.kind
+is_built_item (ForwardItem forward) = true
 is_built_item (UsingItem pos) = true
 
 abbrev pub are_built_items : List Item → Bool

@@ -4,11 +4,11 @@ ghost use Rattle.std.specs.Prelude.{◌≡◌};
 ghost use Rattle.std.specs.List.{list_any};
 ghost use Rattle.uc_tree.specs.Statements.{handlers_of, stmts_of};
 ghost use Rattle.uc_tree.specs.ProgramMain.{is_main_item};
-ghost use Rattle.uc_built.specs.BuiltForms.{are_built, are_built_handlers, are_built_items, are_built_members, are_built_params, are_plain, has_main, is_built, is_built_base, is_built_class, is_built_handler, is_built_item, is_built_kind, is_built_member, is_built_result, is_built_routine, is_built_sig, is_built_start, is_built_stmt, is_scalar_base};
+ghost use Rattle.uc_built.specs.BuiltForms.{are_built, are_built_handlers, are_built_items, are_built_members, are_built_params, are_plain, has_main, is_built, is_built_base, is_built_class, is_built_handler, is_built_item, is_built_member, is_built_result, is_built_routine, is_built_sig, is_built_start, is_built_stmt, is_scalar_base};
 
 use uc_tree::class::{Class, Member, MemberForm, Routine, Sig};
 use uc_tree::declare::{Declarator, ForForm, ForStart};
-use uc_tree::kinds::{Base, Kind, Param};
+use uc_tree::kinds::{Base, Param};
 use uc_tree::program::{Item, ItemForm, Program};
 use uc_tree::stmt::{Handler, Stmt, StmtForm};
 
@@ -67,7 +67,6 @@ fn is_built_stmt(s: &Stmt) -> bool
         StmtForm::Enable { .. } => false,
         StmtForm::Disable { .. } => false,
         StmtForm::Accept { .. } => false,
-        StmtForm::Yield => false,
         StmtForm::Migrate { .. } => false,
         _ => true,
     }
@@ -133,12 +132,6 @@ fn is_built_routine(routine: &Routine) -> bool
     is_built_sig(&routine.sig) && are_built(&routine.body)
 }
 
-fn is_built_kind(kind: Kind) -> bool
-    ensures { result ≡ is_built_kind kind }
-{
-    matches!(kind, Kind::Class | Kind::Coroutine | Kind::Event)
-}
-
 fn is_built_member(member: &Member) -> bool
     ensures { result ≡ is_built_member member.now.form }
 {
@@ -163,7 +156,7 @@ fn are_built_members(members: &[Member]) -> bool
 fn is_built_class(class: &Class) -> bool
     ensures { result ≡ is_built_class class.now }
 {
-    is_built_kind(class.kind) && are_built_members(&class.members)
+    are_built_members(&class.members)
 }
 
 fn is_built_item(item: &Item) -> bool
@@ -174,7 +167,7 @@ fn is_built_item(item: &Item) -> bool
         ItemForm::Routine { routine } => is_built_routine(routine),
         ItemForm::Constant { constant } => is_scalar_base(&constant.base),
         ItemForm::Proto { sig } => is_built_sig(sig),
-        ItemForm::Forward { forward } => is_built_kind(forward.kind),
+        ItemForm::Forward { .. } => true,
         ItemForm::Using { .. } => true,
     }
 }

@@ -1,5 +1,5 @@
 -- Code of a call of a constructor or a destructor is code of what the resolved tree has there.
-use Rattle.std.proofs.Common.{ℕ, List, Option}
+use Rattle.std.proofs.Common.{ℕ, List, Option, true, false}
 use Rattle.uc_tree.specs.Source.{Expr}
 use Rattle.uc_code.specs.declared.rows.Spot.{Spot}
 use Rattle.uc_code.specs.declared.rows.Array.{Array}
@@ -7,7 +7,7 @@ use Rattle.uc_code.specs.declared.rows.ObjectCall.{ObjectCall}
 use Rattle.uc_code.specs.declared.rows.Mark.{Mark}
 use Rattle.uc_code.specs.Layout.{Laid}
 use Rattle.uc_code.specs.CodeShapes.{One}
-use Rattle.uc_code.specs.ObjectCalls.{BeginsAt, InFrame, InObject, LiesAt, Whole, Part, Calls, Written, Unwritten}
+use Rattle.uc_code.specs.ObjectCalls.{BeginsAt, InFrame, InObject, LiesAt, Whole, Part, Calls, Written, Unwritten, MakesMutex, EndsMutex}
 use Rattle.uc_code.specs.Lowered.{spot_op, SpotAt, CallAt, ExprAt}
 
 module _ (code : Laid) (line : ℕ) (ms : List Mark) where
@@ -22,3 +22,9 @@ module _ (code : Laid) (line : ℕ) (ms : List Mark) where
   pub called : (e : Expr) (what : ObjectCall) → Calls e what → (a z : ℕ) → CallAt code line what ms a z → ExprAt code line ms e a z
   called e what (Written r d s o l) a z h = record { middle = h.middle; first = lies d s o l a h.middle h.first; second = h.second }
   called e what (Unwritten r d s o l) a z h = record { middle = h.middle; first = lies d s o l a h.middle h.first; second = h.second }
+  called e what (MakesMutex c r true d s o l) a z h = record { middle = h.middle; first = lies d s o l a h.middle h.first; second = h.second }
+  called e what (MakesMutex c r false d s o l) a z h = record { middle = h.middle; first = lies d s o l a h.middle h.first; second = h.second }
+  called e what (EndsMutex r true d s o l) a z h =
+      record { middle = h.middle; first = record { middle = h.first.middle; first = lies d s o l a h.first.middle h.first.first; second = h.first.second }; second = h.second }
+  called e what (EndsMutex r false d s o l) a z h =
+      record { middle = h.middle; first = record { middle = h.first.middle; first = lies d s o l a h.first.middle h.first.first; second = h.first.second }; second = h.second }

@@ -6,13 +6,15 @@ use Rattle.uc_code.specs.declared.op.Op.TheVariants as op
 use Rattle.uc_code.specs.declared.rows.Array.{Array}
 use Rattle.uc_code.specs.declared.rows.Cleaning.{Cleaning}
 use Rattle.uc_code.specs.declared.rows.Cleaning.TheVariants as cleaning
+use Rattle.uc_code.specs.declared.rows.Manner.{Manner}
+use Rattle.uc_code.specs.declared.rows.Manner.TheVariants as manner
 use Rattle.uc_code.specs.declared.rows.Mark.{Mark}
 use Rattle.uc_code.specs.declared.rows.Mark.TheVariants as mark
 use Rattle.uc_code.specs.declared.rows.ObjectCall.{ObjectCall}
 use Rattle.uc_code.specs.declared.rows.Opening.TheVariants as opening
 use Rattle.uc_code.specs.Drafts.{Draft}
 use Rattle.uc_code.specs.Layout.{Laid, laid_in, handlers, under, routine_in}
-use Rattle.uc_code.specs.CodeShapes.{One, Risk, Both, Kept}
+use Rattle.uc_code.specs.CodeShapes.{One, Risk, CallsBehind, Both, LeavesAt, Kept}
 use Rattle.uc_code.specs.Lowered.{CalledAt, CallDone, CleanBy, CleanAt, ExitAt}
 use Rattle.uc_code.specs.OpenRows.{Below, Falling, AllBehind, row_in, opened, closed, exit_room}
 use Rattle.uc_code.specs.Emits.{Puts, PutsLeft, Leaves}
@@ -27,14 +29,30 @@ module _ (code : Laid) (line : ℕ) (ms ns : List Mark) (h : handlers ms ≡ han
   risk_moves : (o : Op) (a z : ℕ) → Risk code ms o line a z → Risk code ns o line a z
   risk_moves o a z k = record { here = k.here; end = k.end; under = k.under ∙ h }
 
-  called_moves : (written : Bool) (n a z : ℕ) → CalledAt code line ms written n a z → CalledAt code line ns written n a z
-  called_moves true n a z k = record { middle = k.middle; first = k.first; second = record { middle = k.second.middle; first = k.second.first; second = risk_moves (op.CallOn n) k.second.middle z k.second.second } }
-  called_moves false n a z k = record { risk = risk_moves (op.CallUnwritten n) a z k.risk; behind = let b = k.behind in omega arith }
+  behind_moves : (n a z : ℕ) → CallsBehind code ms n line a z → CallsBehind code ns n line a z
+  behind_moves n a z k = record { risk = risk_moves (op.CallUnwritten n) a z k.risk; behind = let b = k.behind in omega arith }
+
+  both_moves : {A B C : ℕ → ℕ → Type 0} → ((a z : ℕ) → B a z → C a z) → (a z : ℕ) → Both A B a z → Both A C a z
+  both_moves f a z k = record { middle = k.middle; first = k.first; second = f k.middle z k.second }
+
+  called_moves : (m : Manner) (written : Bool) (n a z : ℕ) → CalledAt code line ms m written n a z → CalledAt code line ns m written n a z
+  called_moves manner.Plain true n a z k = both_moves (both_moves (risk_moves (op.CallOn n))) a z k
+  called_moves manner.Plain false n a z k = behind_moves n a z k
+  called_moves (manner.Makes c) true n a z k = both_moves (both_moves (both_moves (both_moves (risk_moves (op.CallOn n))))) a z k
+  called_moves (manner.Makes c) false n a z k = both_moves (both_moves (both_moves (behind_moves n))) a z k
+  called_moves manner.Ends true n a z k = both_moves (both_moves (risk_moves (op.CallOn n))) a z k
+  called_moves manner.Ends false n a z k = both_moves (behind_moves n) a z k
+
+  leaves_moves : (a z : ℕ) → LeavesAt code ms line a z → LeavesAt code ns line a z
+  leaves_moves a z k = record {
+    leave = k.leave;
+    polls = record { poll = k.polls.poll; deliver = risk_moves (op.Deliver z) ((a + 1) + 1) ((a + 1) + 2) k.polls.deliver; discard = k.polls.discard; again = k.polls.again; end = k.polls.end };
+  }
 
   pub done_moves : (what : ObjectCall) (a z : ℕ) → CallDone code line what ms a z → CallDone code line what ns a z
   done_moves what a z k = record {
     middle = k.middle;
-    first = record { middle = k.first.middle; first = k.first.first; second = called_moves what.written what.routine k.first.middle k.middle k.first.second };
+    first = record { middle = k.first.middle; first = k.first.first; second = called_moves what.manner what.written what.routine k.first.middle k.middle k.first.second };
     second = k.second;
   }
 
@@ -61,10 +79,14 @@ module _ (code : Laid) (line : ℕ) (ms ns : List Mark) (h : handlers ms ≡ han
   clean_moves (cleaning.Call what) a z k = by_moves what.array what a z k
   clean_moves cleaning.TakeDown a z k = k
   clean_moves cleaning.Forget a z k = k
+  clean_moves cleaning.Leave a z k = leaves_moves code line ms ns h r a z k
+  clean_moves cleaning.End a z k = k
+  clean_moves (cleaning.Free None) a z k = k
+  clean_moves (cleaning.Free (Some main)) a z k = k
 
 -- a clean-up on the way out: a row that performs nothing is around it
 
-module _ (what : Cleaning) (row line : ℕ) (d0 d1 d2 d3 : Draft) (o1 : d1 ≡ opened (opening.Outward row) d0) (k1 : Kept (laid_in d0) (laid_in d1)) (p2 : Puts 17 (λ code. CleanAt code line what d1.marks) d1 d2) (c3 : d3 ≡ closed 1 d2) (k3 : Kept (laid_in d2) (laid_in d3)) where
+module _ (what : Cleaning) (row line : ℕ) (d0 d1 d2 d3 : Draft) (o1 : d1 ≡ opened (opening.Outward row) d0) (k1 : Kept (laid_in d0) (laid_in d1)) (p2 : Puts 23 (λ code. CleanAt code line what d1.marks) d1 d2) (c3 : d3 ≡ closed 1 d2) (k3 : Kept (laid_in d2) (laid_in d3)) where
   abbrev ns : List Mark
   ns = mark.Outward row (length d0.rows) ∷ d0.marks
 

@@ -2,6 +2,7 @@
 use Rattle.std.proofs.Common.{◌≡◌, ℕ, zero, suc, ◌+◌, ◌-◌, ◌<◌, ◌≤◌, max, pos, List, [], ◌∷◌, Bool, true, false, Option, Some, None, length, refl, sym, subst, ◌∙◌, arith}
 use Rattle.std.specs.Prelude.{slice_get}
 use Rattle.std.proofs.lemmas.Option.{slice_get_within}
+use Rattle.uc_tree.specs.declared.limits.TheConstants.{DESTRUCTOR}
 use Rattle.uc_tree.specs.Source.{Shape, Integer, Character, Truth, Binding, Last, Field, Array, shape_cells, field_cells, Operator, Plus, Minus, Times, Over, Modulo, Equal, NotEqual, Less, AtMost, Greater, AtLeast, Expr, Literal, Variable, Element, Get, Load, Negated, Not, AsCharacter, AsTruth, Operate, And, Or, Set, Assign, First, Update, StepBehind, Fail, Call, OfObject, ObjectExpr, This, OwnField, GetOwn, FieldOf, Counted, CallOn, CallUnwritten, CallLive, EnterOn, EndOn, Bind, MakeOn, NewCluster, NewProcessor, EndCluster, EndProcessor, ConditionAt, Wait, Signal, SignalBlock, IsEmpty, FrontOf, Exprs, NoExprs, MoreExprs, Item, Show, ShowText, Target, Declared, Stmt, Skip, Block, Whole, Evaluate, Declare, Print, PrintTogether, Read, If, Loop, Break, Continue, Return, Owes, Fill, OfEvents, OfTasks, TaskStmt, Resume, Suspend, SetUp, Enliven, TakeDown, Yield, Migrate, Accept, EventStmt, Throw, Raise, Try, RaiseAt, Enable, Disable, Raised, Plainly, BuiltAt as BuildsAt, AgainFrom, Handlers, NoHandlers, MoreHandlers, Stmts, Nil, Then, Scoped, Built, Way, ToBreak, ToContinue, ToReturn, ToEnd, Purpose, TaskMain, CoroutineMain, Procedure, Function, Builder, Routine, Source}
 use Rattle.uc_tree.specs.Hidden.{EVENT_FIELDS}
 use Rattle.uc_code.specs.declared.op.Op.{Op}
@@ -101,9 +102,12 @@ module _ (code : Laid) (table : List RoutineCode) (any : Bool) where
     object_paces ms line (CallLive r e es) = both ms (expr_paces ms line e) (both ms (args_paces ms line es) (pacing.call_live_paces code table any ms line r))
     object_paces ms line (CallUnwritten r e) = both ms (expr_paces ms line e) (pacing.calls_behind_paces code table any ms line r)
     object_paces ms line (Bind p e) = both ms (expr_paces ms line p) (both ms (expr_paces ms line e) (onward ms op.Bind line (λ n k h. refl) (λ k t. refl) (λ at l. l) (λ from to floor at i. i)))
-    object_paces ms line (EnterOn m r e es) = pacing.never_paces code table any ms
-    object_paces ms line (EndOn r written e) = pacing.never_paces code table any ms
-    object_paces ms line (MakeOn c r written e es) = pacing.never_paces code table any ms
+    object_paces ms line (EnterOn m r e es) = both ms (expr_paces ms line e) (both ms (args_paces ms line es) (pacing.enter_paces code table any ms line m r))
+    object_paces ms line (EndOn r false e) = both ms (expr_paces ms line e) (both ms (onward ms (op.Enter DESTRUCTOR r) line (λ n k h. refl) (λ k t. refl) (λ at l. l) (λ from to floor at i. i)) (pacing.calls_behind_paces code table any ms line r))
+    object_paces ms line (EndOn r true e) = both ms (expr_paces ms line e) (pacing.enter_paces code table any ms line DESTRUCTOR r)
+    object_paces ms line (MakeOn c r false e es) =
+        both ms (expr_paces ms line e) (both ms (args_paces ms line es) (both ms (onward ms (op.Make c r) line (λ n k h. refl) (λ k t. refl) (λ at l. l) (λ from to floor at i. i)) (both ms (onward ms (op.BindMade c r) line (λ n k h. refl) (λ k t. refl) (λ at l. l) (λ from to floor at i. i)) (pacing.calls_behind_paces code table any ms line r))))
+    object_paces ms line (MakeOn c r true e es) = both ms (expr_paces ms line e) (both ms (args_paces ms line es) (pacing.make_paces code table any ms line c r))
     object_paces ms line NewCluster = pacing.never_paces code table any ms
     object_paces ms line (NewProcessor e) = pacing.never_paces code table any ms
     object_paces ms line (EndCluster e) = pacing.never_paces code table any ms
@@ -182,34 +186,6 @@ module _ (code : Laid) (table : List RoutineCode) (any : Bool) where
   end_paces main_of.Task ms line = pacing.task_end_paces code table any ms line
   end_paces main_of.Coroutine ms line = pacing.main_end_paces code table any ms line
 
-  exit_paces : (w : Way) (ms : List Mark) → Paces ms (ExitAt code w ms)
-  exit_paces ToBreak [] = pacing.return_paces code table any [] 0
-  exit_paces ToContinue [] = pacing.return_paces code table any [] 0
-  exit_paces ToReturn [] = pacing.value_return_paces code table any [] 0
-  exit_paces ToEnd [] = pacing.none_return_paces code table any [] 0
-  exit_paces ToBreak (mark.Body routine ∷ ms) = pacing.return_paces code table any (mark.Body routine ∷ ms) 0
-  exit_paces ToContinue (mark.Body routine ∷ ms) = pacing.return_paces code table any (mark.Body routine ∷ ms) 0
-  exit_paces ToReturn (mark.Body routine ∷ ms) = pacing.value_return_paces code table any (mark.Body routine ∷ ms) 0
-  exit_paces ToEnd (mark.Body routine ∷ ms) = pacing.none_return_paces code table any (mark.Body routine ∷ ms) 0
-  exit_paces w (mark.Finish main routine line row ∷ ms) = end_paces main (mark.Finish main routine line row ∷ ms) line
-  exit_paces ToBreak (mark.Loop leave again ∷ ms) = pacing.leave_paces code table any ms leave again
-  exit_paces ToContinue (mark.Loop leave again ∷ ms) = pacing.again_paces code table any ms leave again
-  exit_paces ToReturn (mark.Loop leave again ∷ ms) = pacing.in_loop code table any ms leave again (exit_paces ToReturn ms)
-  exit_paces ToEnd (mark.Loop leave again ∷ ms) = pacing.in_loop code table any ms leave again (exit_paces ToEnd ms)
-  exit_paces w (mark.Whole leave row ∷ ms) = pacing.whole_exit_paces code table any ms leave row
-  exit_paces w (mark.Guard row ∷ ms) = pacing.under_mark code table any (mark.Guard row) ms (λ z r. r.1) (λ from to n. n.1) (exit_paces w ms)
-  exit_paces w (mark.Clean what line row ∷ ms) = pacing.under_mark code table any (mark.Clean what line row) ms (λ z r. r.1) (λ from to n. n.1) (both ms (spans.clean_paces code table any ms line what) (exit_paces w ms))
-  exit_paces w (mark.Part row ∷ ms) = pacing.under_mark code table any (mark.Part row) ms (λ z r. r.1) (λ from to n. n.1) (exit_paces w ms)
-  exit_paces w (mark.Elements row ∷ ms) = pacing.under_mark code table any (mark.Elements row) ms (λ z r. r.1) (λ from to n. n.1) (exit_paces w ms)
-  exit_paces ToBreak (mark.Outward below row ∷ ms) = pacing.return_paces code table any (mark.Outward below row ∷ ms) 0
-  exit_paces ToContinue (mark.Outward below row ∷ ms) = pacing.return_paces code table any (mark.Outward below row ∷ ms) 0
-  exit_paces ToReturn (mark.Outward below row ∷ ms) = pacing.value_return_paces code table any (mark.Outward below row ∷ ms) 0
-  exit_paces ToEnd (mark.Outward below row ∷ ms) = pacing.none_return_paces code table any (mark.Outward below row ∷ ms) 0
-
-  step_paces : (ms : List Mark) (line : ℕ) (step : Option Expr) → Paces ms (StepAt code line ms step)
-  step_paces ms line None = pacing.nothing_paces code table any ms
-  step_paces ms line (Some e) = both ms (expr_paces ms line e) (drop_paces ms line)
-
   -- events are raised in what is not silent
 
   raised_any : (b : Bool) → (b ≡ false → ⊥) → b ≡ true
@@ -219,13 +195,43 @@ module _ (code : Laid) (table : List RoutineCode) (any : Bool) where
   no_silence : {X : Type 0} → any ≡ true → any ≡ false → X
   no_silence t e = let f : true ≡ false = sym t ∙ e in absurd (cc)
 
+  exit_paces : any ≡ true → (w : Way) (ms : List Mark) → Paces ms (ExitAt code w ms)
+  exit_paces t ToBreak [] = pacing.return_paces code table any [] 0
+  exit_paces t ToContinue [] = pacing.return_paces code table any [] 0
+  exit_paces t ToReturn [] = pacing.value_return_paces code table any [] 0
+  exit_paces t ToEnd [] = pacing.none_return_paces code table any [] 0
+  exit_paces t ToBreak (mark.Body routine ∷ ms) = pacing.return_paces code table any (mark.Body routine ∷ ms) 0
+  exit_paces t ToContinue (mark.Body routine ∷ ms) = pacing.return_paces code table any (mark.Body routine ∷ ms) 0
+  exit_paces t ToReturn (mark.Body routine ∷ ms) = pacing.value_return_paces code table any (mark.Body routine ∷ ms) 0
+  exit_paces t ToEnd (mark.Body routine ∷ ms) = pacing.none_return_paces code table any (mark.Body routine ∷ ms) 0
+  exit_paces t w (mark.Finish main routine line row ∷ ms) = end_paces main (mark.Finish main routine line row ∷ ms) line
+  exit_paces t ToBreak (mark.Loop leave again ∷ ms) = pacing.leave_paces code table any ms leave again
+  exit_paces t ToContinue (mark.Loop leave again ∷ ms) = pacing.again_paces code table any ms leave again
+  exit_paces t ToReturn (mark.Loop leave again ∷ ms) = pacing.in_loop code table any ms leave again (exit_paces t ToReturn ms)
+  exit_paces t ToEnd (mark.Loop leave again ∷ ms) = pacing.in_loop code table any ms leave again (exit_paces t ToEnd ms)
+  exit_paces t w (mark.Whole leave row ∷ ms) = pacing.whole_exit_paces code table any ms leave row
+  exit_paces t w (mark.Guard row ∷ ms) = pacing.under_mark code table any (mark.Guard row) ms (λ z r. r.1) (λ from to n. n.1) (exit_paces t w ms)
+  exit_paces t w (mark.Clean what line row ∷ ms) = pacing.under_mark code table any (mark.Clean what line row) ms (λ z r. r.1) (λ from to n. n.1) (both ms (spans.clean_paces code table any ms line what (λ e. no_silence t e)) (exit_paces t w ms))
+  exit_paces t w (mark.Part row ∷ ms) = pacing.under_mark code table any (mark.Part row) ms (λ z r. r.1) (λ from to n. n.1) (exit_paces t w ms)
+  exit_paces t w (mark.Elements row ∷ ms) = pacing.under_mark code table any (mark.Elements row) ms (λ z r. r.1) (λ from to n. n.1) (exit_paces t w ms)
+  exit_paces t ToBreak (mark.Outward below row ∷ ms) = pacing.return_paces code table any (mark.Outward below row ∷ ms) 0
+  exit_paces t ToContinue (mark.Outward below row ∷ ms) = pacing.return_paces code table any (mark.Outward below row ∷ ms) 0
+  exit_paces t ToReturn (mark.Outward below row ∷ ms) = pacing.value_return_paces code table any (mark.Outward below row ∷ ms) 0
+  exit_paces t ToEnd (mark.Outward below row ∷ ms) = pacing.none_return_paces code table any (mark.Outward below row ∷ ms) 0
+
+  step_paces : (ms : List Mark) (line : ℕ) (step : Option Expr) → Paces ms (StepAt code line ms step)
+  step_paces ms line None = pacing.nothing_paces code table any ms
+  step_paces ms line (Some e) = both ms (expr_paces ms line e) (drop_paces ms line)
+
+  -- what coroutines and tasks do
+
   task_paces : (ms : List Mark) (s : TaskStmt) → (any ≡ false → silent_task s) → Paces ms (TaskAt code ms s)
   task_paces ms (Resume line) f = both ms (pacing.resume_paces code table any (raised_any any f) ms line) (both ms (pacing.land_paces code table any ms line) (pacing.poll_paces code table any (raised_any any f) ms line))
   task_paces ms (Suspend line) f = both ms (onward ms op.Suspend line (λ n k h. refl) (λ k t. refl) (λ at l. l) (λ from to floor at i. i)) (both ms (pacing.land_paces code table any ms line) (pacing.poll_paces code table any (raised_any any f) ms line))
   task_paces ms (SetUp r) f = pacing.set_up_paces code table any ms 0 r
   task_paces ms Enliven f = onward ms op.Live 0 (λ n k h. refl) (λ k t. refl) (λ at l. l) (λ from to floor at i. i)
   task_paces ms TakeDown f = onward ms op.UnwindCoroutine 0 (λ n k h. refl) (λ k t. refl) (λ at l. l) (λ from to floor at i. i)
-  task_paces ms (Yield line) f = pacing.never_paces code table any ms
+  task_paces ms (Yield line) f = both ms (onward ms op.Yield line (λ n k h. refl) (λ k t. refl) (λ at l. l) (λ from to floor at i. i)) (pacing.poll_paces code table any (raised_any any f) ms line)
   task_paces ms (Migrate line e) f = pacing.never_paces code table any ms
   task_paces ms (Accept line site cs) f = pacing.never_paces code table any ms
 
@@ -237,6 +243,21 @@ module _ (code : Laid) (table : List RoutineCode) (any : Bool) where
   handler_handles : (resumes : Bool) (ms : List Mark) (line cell : ℕ) (B : List Mark → ℕ → ℕ → Type 0) → ((ns : List Mark) → Paces ns (B ns)) → blocks.Handles code table any ms resumes (λ pad. Both (KeepsAt code line cell) (HandlerBy code resumes ms pad line B))
   handler_handles false ms line cell B b = catches_paces ms line cell B b
   handler_handles true ms line cell B b = blocks.apart_handles code table any ms line (KeepsAt code line cell) B (λ ns. keeps_paces ns line cell) b
+
+  lack_paced : (line a : ℕ) → OpAt code a op.NoReturn line → Plain code table (a + 1) → PacedAt code table a
+  lack_paced line a h p =
+      let e = height_is code table a op.NoReturn line h in
+      let w = within code table a op.NoReturn line h in
+      let l = p.low in
+      paced_by code table a op.NoReturn line h (down code table a (a + 1) (outside_next code table a op.NoReturn line h (λ k t. refl) p.outside) p.outside (omega arith))
+
+  no_return_paces : (ms : List Mark) (line : ℕ) → Paces ms (One code op.NoReturn line)
+  no_return_paces ms line = record {
+    rises = λ a z h. let e = h.end in omega arith;
+    plain = λ a z h p. own_plain code table a op.NoReturn line h.here (λ n k x. refl) (λ k t. refl) (subst (Outside code table) h.end p.outside);
+    each = λ q a z h r p. only code table a z h.end (lack_paced line a h.here (subst (Plain code table) h.end p));
+    stays = λ from to floor a z h n l m x. stay_one code table from to floor a z op.NoReturn line h.here h.end (pacing.next_in code table any from to a z h.end l m);
+  }
 
   mutual
     stmt_paces : (ms : List Mark) (s : Stmt) → (any ≡ false → silent s) → Paces ms (StmtAt code ms s)
@@ -251,11 +272,11 @@ module _ (code : Laid) (table : List RoutineCode) (any : Bool) where
     stmt_paces ms (If line test chosen other) f = both ms (expr_paces ms line test) (fork ms line (stmt_paces ms chosen (λ e. (f e).0)) (stmt_paces ms other (λ e. (f e).1)))
     stmt_paces ms (Loop line order test step body) f =
         pacing.turns_paces code table any ms line (ExprAt code line ms test) (StepAt code line ms step) (λ m. StmtAt code (m ∷ ms) body) (expr_paces ms line test) (step_paces ms line step) (λ m. stmt_paces (m ∷ ms) body f) order
-    stmt_paces ms (Break line) f = exit_paces ToBreak ms
-    stmt_paces ms (Continue line) f = exit_paces ToContinue ms
-    stmt_paces ms (Return line None) f = exit_paces ToEnd ms
-    stmt_paces ms (Return line (Some e)) f = both ms (expr_paces ms line e) (exit_paces ToReturn ms)
-    stmt_paces ms (Owes line) f = pacing.never_paces code table any ms
+    stmt_paces ms (Break line) f = exit_paces (raised_any any f) ToBreak ms
+    stmt_paces ms (Continue line) f = exit_paces (raised_any any f) ToContinue ms
+    stmt_paces ms (Return line None) f = exit_paces (raised_any any f) ToEnd ms
+    stmt_paces ms (Return line (Some e)) f = both ms (expr_paces ms line e) (exit_paces (raised_any any f) ToReturn ms)
+    stmt_paces ms (Owes line) f = no_return_paces ms line
     stmt_paces ms (Fill line n b d) f = spans.filled_paces code table any ms line n b d
     stmt_paces ms (OfEvents s) f = event_paces ms s (raised_any any f)
     stmt_paces ms (OfTasks s) f = task_paces ms s f
@@ -278,8 +299,8 @@ module _ (code : Laid) (table : List RoutineCode) (any : Bool) where
     stmts_paces : (ms : List Mark) (line : ℕ) (ss : Stmts) → (any ≡ false → silent_all ss) → Paces ms (StmtsAt code ms line ss)
     stmts_paces ms line Nil f = pacing.nothing_paces code table any ms
     stmts_paces ms line (Then s ss) f = both ms (stmt_paces ms s (λ e. (f e).0)) (stmts_paces ms line ss (λ e. (f e).1))
-    stmts_paces ms line (Scoped c ss) f = spans.scoped_paces code table any ms line c (λ ns. StmtsAt code ns line ss) (λ ns. stmts_paces ns line ss f)
-    stmts_paces ms line (Built c ss) f = spans.built_part_paces code table any ms line c (λ ns. StmtsAt code ns line ss) (λ ns. stmts_paces ns line ss f)
+    stmts_paces ms line (Scoped c ss) f = spans.scoped_paces code table any ms line c (λ ns. StmtsAt code ns line ss) (λ e. (f e).0) (λ t. exit_paces t ToReturn ms) (λ ns. stmts_paces ns line ss (λ e. (f e).1))
+    stmts_paces ms line (Built c ss) f = spans.built_part_paces code table any ms line c (λ ns. StmtsAt code ns line ss) (λ e. (f e).0) (λ ns. stmts_paces ns line ss (λ e. (f e).1))
 
   -- each routine ends in a return, whatever stands behind it
 
@@ -288,13 +309,6 @@ module _ (code : Laid) (table : List RoutineCode) (any : Bool) where
 
   return_each : (line a z : ℕ) → One code op.Return line a z → Each code table a z
   return_each line a z h = pacing.return_each code table any line a z h
-
-  lack_paced : (line a : ℕ) → OpAt code a op.NoReturn line → Plain code table (a + 1) → PacedAt code table a
-  lack_paced line a h p =
-      let e = height_is code table a op.NoReturn line h in
-      let w = within code table a op.NoReturn line h in
-      let l = p.low in
-      paced_by code table a op.NoReturn line h (down code table a (a + 1) (outside_next code table a op.NoReturn line h (λ k t. refl) p.outside) p.outside (omega arith))
 
   -- the code of a routine, with its end
   pub record Ends (number : ℕ) (B : ℕ → ℕ → Type 0) : Type 0 where

@@ -8,7 +8,7 @@ use Rattle.uc_code.specs.declared.rows.Mark.TheVariants as mark
 use Rattle.uc_code.specs.declared.rows.RoutineCode.{RoutineCode}
 use Rattle.uc_code.specs.Layout.{Laid, handlers, chain}
 use Rattle.uc_code.specs.Pace.{behind, climb_op, height, power, Test, test_by, above, In, Risks, Stays, Waits, Calling, Begins, High, Onward, Paced}
-use Rattle.uc_code.specs.CodeShapes.{OpAt, Nothing, Never, One, Risk, CallsBehind, Both, Fork, pads_at, begin_at, BackAt, Turns, PollAt}
+use Rattle.uc_code.specs.CodeShapes.{OpAt, Nothing, Never, One, Risk, CallsBehind, Both, Fork, pads_at, begin_at, BackAt, Turns, PollAt, LeavesAt}
 use Rattle.uc_code.specs.Lowered.{Any}
 use Rattle.uc_code.proofs.Powers.{power_less, power_room_less}
 use Rattle.uc_code.proofs.Heights.{Outside, Plain, PacedAt, Each, Around, around_less, further_of, paced_by, none, only, join, within, burden_is, onward_lower, onward_plain, onward_falls, own_plain, outside_next, jump_plain, jump_outside, jump_paced, zero_paced, tick_plain, tick_paced, back_paced, back_test_paced, Starts, calling, down, risky, waits_at, raises_at, high_waits, waiting_more, exit_paced, PadTo, height_is, Env, AllStay, stay_none, stay_one, stay_join, risks_in, if_ge}
@@ -137,37 +137,68 @@ module _ (code : Laid) (table : List RoutineCode) (any : Bool) where
   pub call_on_paces : (ms : List Mark) (line r : ℕ) → Paces ms (Both (One code op.Tick line) (Risk code ms (op.CallOn r) line))
   call_on_paces ms line r = high_paces ms line r (op.CallOn r) (λ n k h. refl) (λ k t. refl) (λ at p. p) (λ from to floor at s. s)
 
-  -- so does a call of a coroutine's member, which must be live
-  alive_outside : (ms : List Mark) (line r a z : ℕ) → Both (One code (op.Alive r) line) (Risk code ms (op.CallOn r) line) a z → Outside code table z → Outside code table a
-  alive_outside ms line r a z h o =
-      let k : Outside code table h.middle = outside_next code table h.middle (op.CallOn r) line h.second.here (λ k t. refl) (subst (Outside code table) h.second.end o) in
-      outside_next code table a (op.Alive r) line h.first.here (λ k t. refl) (subst (Outside code table) h.first.end k)
+  -- what stands right behind a tick: a call that is high, or an op that falls to what does
+
+  pub record Above (ms : List Mark) (B : ℕ → ℕ → Type 0) : Type 0 where
+    pub rises : (a z : ℕ) → B a z → a < z
+    pub outside : (a z : ℕ) → B a z → Outside code table z → Outside code table a
+    pub each : Starts code table → (a z : ℕ) → B a z → Around code table ms z → Plain code table z → Each code table a z
+    pub stays : (from to floor a z : ℕ) → B a z → Env code table from to ms → from ≤ a → z < to → Loud floor to → AllStay code table from to floor a z
+
+  pub call_above : (ms : List Mark) (line r : ℕ) → Above ms (Risk code ms (op.CallOn r) line)
+  call_above ms line r = record {
+    rises = λ a z h. let e = h.end in omega arith;
+    outside = λ a z h o. outside_next code table a (op.CallOn r) line h.here (λ k t. refl) (subst (Outside code table) h.end o);
+    each = λ q a z h x p.
+        let u : chain code.rows (a + 1) ≡ handlers ms = subst (λ n. chain code.rows n ≡ handlers ms) h.end h.under in
+        let y : Around code table ms (a + 1) = subst (Around code table ms) h.end x in
+        only code table a z h.end (paced_by code table a (op.CallOn r) line h.here (high_waits code table a r line (op.CallOn r) ms h.here u (λ n k h. refl) (λ k t. refl) q (subst (Plain code table) h.end p) y));
+    stays = λ from to floor a z h n l m x.
+        let u : chain code.rows (a + 1) ≡ handlers ms = subst (λ n. chain code.rows n ≡ handlers ms) h.end h.under in
+        stay_one code table from to floor a z (op.CallOn r) line h.here h.end (next_in from to a z h.end l m, risks_in code table from to a ms u n);
+  }
+
+  pub more_above : {B : ℕ → ℕ → Type 0} → (ms : List Mark) (o : Op) (line : ℕ) → ((n k h : ℕ) → climb_op n k o h ≡ suc h) → ((k : ℕ) (t : Option Test) → test_by o k t ≡ t) → ((at : ℕ) → Onward code table at (at + 1) → Paced code table at o) → ((from to floor at : ℕ) → In code table from to (at + 1) → Stays code table from to floor at o) → Above ms B → Above ms (Both (One code o line) B)
+  more_above {B} ms o line c t f g b = record {
+    rises = λ a z h. let e = h.first.end in let i = b.rises h.middle z h.second in omega arith;
+    outside = λ a z h x. outside_next code table a o line h.first.here t (subst (Outside code table) h.first.end (b.outside h.middle z h.second x));
+    each = λ q a z h r p.
+        let n : Outside code table (a + 1) = subst (Outside code table) h.first.end (b.outside h.middle z h.second p.outside) in
+        let w : Outside code table a = outside_next code table a o line h.first.here t n in
+        join code table a h.middle z
+        (only code table a h.middle h.first.end (paced_by code table a o line h.first.here (f a (down code table a (a + 1) w n (onward_lower code table a o line h.first.here c)))))
+        (b.each q h.middle z h.second r p);
+    stays = λ from to floor a z h n l m x.
+        let e = h.first.end in
+        let i = b.rises h.middle z h.second in
+        stay_join code table from to floor a h.middle z
+        (stay_one code table from to floor a h.middle o line h.first.here h.first.end (g from to floor a (next_in from to a h.middle h.first.end l (omega arith))))
+        (b.stays from to floor h.middle z h.second n (omega arith) m x);
+  }
+
+  pub ticked_paces : {B : ℕ → ℕ → Type 0} → (ms : List Mark) (line : ℕ) → Above ms B → Paces ms (Both (One code op.Tick line) B)
+  ticked_paces {B} ms line b = record {
+    rises = λ a z h. let e = h.first.end in let i = b.rises h.middle z h.second in omega arith;
+    plain = λ a z h p. tick_plain code table a line h.first.here (subst (Outside code table) h.first.end (b.outside h.middle z h.second p.outside));
+    each = λ q a z h r p. join code table a h.middle z (only code table a h.middle h.first.end (tick_paced code table a line h.first.here)) (b.each q h.middle z h.second r p);
+    stays = λ from to floor a z h n l m x.
+        let e = h.first.end in
+        let i = b.rises h.middle z h.second in
+        stay_join code table from to floor a h.middle z
+        (stay_one code table from to floor a h.middle op.Tick line h.first.here h.first.end (next_in from to a h.middle h.first.end l (omega arith)))
+        (b.stays from to floor h.middle z h.second n (omega arith) m x);
+  }
+
+  -- a coroutine must be live, a mutex object is entered, or made
 
   pub call_live_paces : (ms : List Mark) (line r : ℕ) → Paces ms (Both (One code op.Tick line) (Both (One code (op.Alive r) line) (Risk code ms (op.CallOn r) line)))
-  call_live_paces ms line r = record {
-    rises = λ a z h. let e = h.first.end in let f = h.second.first.end in let i = h.second.second.end in omega arith;
-    plain = λ a z h p. tick_plain code table a line h.first.here (subst (Outside code table) h.first.end (alive_outside ms line r h.middle z h.second p.outside));
-    each = λ q a z h x p.
-        let c = h.second in
-        let e : c.middle ≡ h.middle + 1 = c.first.end in
-        let u : chain code.rows (c.middle + 1) ≡ handlers ms = subst (λ n. chain code.rows n ≡ handlers ms) c.second.end c.second.under in
-        let y : Around code table ms (c.middle + 1) = subst (Around code table ms) c.second.end x in
-        let b : Outside code table (c.middle + 1) = subst (Outside code table) c.second.end p.outside in
-        let o : Outside code table (h.middle + 1) = subst (Outside code table) e (outside_next code table c.middle (op.CallOn r) line c.second.here (λ k t. refl) b) in
-        let w : Outside code table h.middle = outside_next code table h.middle (op.Alive r) line c.first.here (λ k t. refl) o in
-        join code table a h.middle z (only code table a h.middle h.first.end (tick_paced code table a line h.first.here)) (
-        join code table h.middle c.middle z (only code table h.middle c.middle c.first.end (paced_by code table h.middle (op.Alive r) line c.first.here (down code table h.middle (h.middle + 1) w o (onward_lower code table h.middle (op.Alive r) line c.first.here (λ n k h. refl)))))
-        (only code table c.middle z c.second.end (paced_by code table c.middle (op.CallOn r) line c.second.here (high_waits code table c.middle r line (op.CallOn r) ms c.second.here u (λ n k h. refl) (λ k t. refl) q (subst (Plain code table) c.second.end p) y))));
-    stays = λ from to floor a z h n l m x.
-        let c = h.second in
-        let e = h.first.end in
-        let f = c.first.end in
-        let i = c.second.end in
-        let u : chain code.rows (c.middle + 1) ≡ handlers ms = subst (λ n. chain code.rows n ≡ handlers ms) c.second.end c.second.under in
-        stay_join code table from to floor a h.middle z (stay_one code table from to floor a h.middle op.Tick line h.first.here h.first.end (next_in from to a h.middle h.first.end l (omega arith))) (
-        stay_join code table from to floor h.middle c.middle z (stay_one code table from to floor h.middle c.middle (op.Alive r) line c.first.here c.first.end (next_in from to h.middle c.middle c.first.end (omega arith) (omega arith)))
-        (stay_one code table from to floor c.middle z (op.CallOn r) line c.second.here c.second.end (next_in from to c.middle z c.second.end (omega arith) m, risks_in code table from to c.middle ms u n)));
-  }
+  call_live_paces ms line r = ticked_paces ms line (more_above ms (op.Alive r) line (λ n k h. refl) (λ k t. refl) (λ at l. l) (λ from to floor at i. i) (call_above ms line r))
+
+  pub enter_paces : (ms : List Mark) (line k r : ℕ) → Paces ms (Both (One code op.Tick line) (Both (One code (op.Enter k r) line) (Risk code ms (op.CallOn r) line)))
+  enter_paces ms line k r = ticked_paces ms line (more_above ms (op.Enter k r) line (λ n k h. refl) (λ k t. refl) (λ at l. l) (λ from to floor at i. i) (call_above ms line r))
+
+  pub make_paces : (ms : List Mark) (line c r : ℕ) → Paces ms (Both (One code op.Tick line) (Both (One code (op.Make c r) line) (Both (One code (op.BindMade c r) line) (Risk code ms (op.CallOn r) line))))
+  make_paces ms line c r = ticked_paces ms line (more_above ms (op.Make c r) line (λ n k h. refl) (λ k t. refl) (λ at l. l) (λ from to floor at i. i) (more_above ms (op.BindMade c r) line (λ n k h. refl) (λ k t. refl) (λ at l. l) (λ from to floor at i. i) (call_above ms line r)))
 
   pub calls_behind_paces : (ms : List Mark) (line r : ℕ) → Paces ms (CallsBehind code ms r line)
   calls_behind_paces ms line r = record {
@@ -345,6 +376,34 @@ module _ (code : Laid) (table : List RoutineCode) (any : Bool) where
         stay_join code table from to floor (a + 1) (a + 2) z (stay_one code table from to floor (a + 1) (a + 2) (op.Deliver z) line h.deliver.here e (here, next_in from to (a + 1) (a + 2) e (omega arith) (omega arith), risks_in code table from to (a + 1) ms u n, omega arith)) (
         stay_join code table from to floor (a + 2) (a + 3) z (stay_one code table from to floor (a + 2) (a + 3) op.Discard line h.discard (omega arith) (next_in from to (a + 2) (a + 3) (omega arith) (omega arith) (omega arith)))
         (stay_one code table from to floor (a + 3) z (op.Jump a) line h.again (omega arith) (end_in from to a a (omega arith) l (omega arith)))));
+  }
+
+  -- a mutex call leaves its object: it goes on behind the poll, or behind a request
+  leave_outside : any ≡ true → (ms : List Mark) (line a z : ℕ) → LeavesAt code ms line a z → Plain code table z → Outside code table a
+  leave_outside t ms line a z h p =
+      let u = (poll_paces t ms line).plain (a + 1) z h.polls p in
+      outside_next code table a (op.Leave z) line h.leave (λ k t. refl) u.outside
+
+  pub leaves_paces : any ≡ true → (ms : List Mark) (line : ℕ) → Paces ms (LeavesAt code ms line)
+  leaves_paces t ms line = record {
+    rises = λ a z h. let e = h.polls.end in omega arith;
+    plain = λ a z h p.
+        let i = h.polls.end in
+        let k : height code.ops a ≡ behind (length code.ops) z + 1 = height_is code table a (op.Leave z) line h.leave in
+        let w = within code table (a + 1) (op.Poll z) line h.polls.poll in
+        record { low = omega arith; outside = leave_outside t ms line a z h p };
+    each = λ q a z h x p.
+        let i = h.polls.end in
+        let k : height code.ops a ≡ behind (length code.ops) z + 1 = height_is code table a (op.Leave z) line h.leave in
+        let l = p.low in
+        let o = leave_outside t ms line a z h p in
+        join code table a (a + 1) z (only code table a (a + 1) refl (paced_by code table a (op.Leave z) line h.leave (down code table a z o p.outside (omega arith))))
+        ((poll_paces t ms line).each q (a + 1) z h.polls x p);
+    stays = λ from to floor a z h n l m x.
+        let i = h.polls.end in
+        let here = end_in from to a z (omega arith) l m in
+        stay_join code table from to floor a (a + 1) z (stay_one code table from to floor a (a + 1) (op.Leave z) line h.leave refl (here, next_in from to a (a + 1) refl l (omega arith)))
+        ((poll_paces t ms line).stays from to floor (a + 1) z h.polls n (omega arith) m x);
   }
 
   -- an execution is set up for a coroutine, whose main begins low

@@ -5,18 +5,21 @@ use Rattle.uc_code.specs.declared.op.Op.TheVariants as op
 use Rattle.uc_code.specs.declared.rows.Array.{Array}
 use Rattle.uc_code.specs.declared.rows.Cleaning.{Cleaning}
 use Rattle.uc_code.specs.declared.rows.Cleaning.TheVariants as cleaning
+use Rattle.uc_code.specs.declared.rows.Manner.{Manner}
+use Rattle.uc_code.specs.declared.rows.Manner.TheVariants as manner
 use Rattle.uc_code.specs.declared.rows.Mark.{Mark}
 use Rattle.uc_code.specs.declared.rows.Mark.TheVariants as mark
 use Rattle.uc_code.specs.declared.rows.ObjectCall.{ObjectCall}
 use Rattle.uc_code.specs.declared.rows.Spot.{Spot}
+use Rattle.uc_tree.specs.declared.limits.TheConstants.{DESTRUCTOR}
 use Rattle.uc_code.specs.Drafts.{Draft, ops_with}
 use Rattle.uc_code.specs.Layout.{Laid, laid_in, routine_in}
-use Rattle.uc_code.specs.CodeShapes.{OpAt, One, Risk, CallsBehind, Both, OverElements, PollAt, Stable}
-use Rattle.uc_code.specs.Lowered.{spot_op, SpotAt, CalledAt, CallAt, CallDone, CleanBy, CleanAt, KeepAt, KeepsAt}
+use Rattle.uc_code.specs.CodeShapes.{OpAt, One, Risk, CallsBehind, Both, OverElements, PollAt, LeavesAt, Stable}
+use Rattle.uc_code.specs.Lowered.{spot_op, SpotAt, FoundAt, CalledAt, CallAt, CallDone, CleanBy, CleanAt, KeepAt, KeepsAt}
 use Rattle.uc_code.specs.OpenRows.{StandsBehind, CleansBehind}
-use Rattle.uc_code.specs.Emits.{Puts, place_length, called_length, done_length, clean_by, clean_length}
+use Rattle.uc_code.specs.Emits.{Puts, place_length, called_length, manner_length, done_length, clean_by, clean_length}
 use Rattle.uc_code.proofs.Patches.{kept_with, one_with}
-use Rattle.uc_code.proofs.Stable.{elements_stable, kept_then, kept_same, nothing_stable, one_stable, risk_stable, calls_behind_stable, both_stable}
+use Rattle.uc_code.proofs.Stable.{elements_stable, kept_then, kept_same, nothing_stable, one_stable, risk_stable, calls_behind_stable, leaves_stable, both_stable}
 
 -- a draft with other ops and rows, and once more
 
@@ -68,12 +71,24 @@ pub place_stable : (line : ℕ) (s : Spot) (a : Option Array) → Stable (λ cod
 place_stable line s None = one_stable (spot_op s) line
 place_stable line s (Some a) = both (one_stable (spot_op s) line) (both (one_stable op.Counted line) (one_stable (op.Index a.length a.size) line))
 
-pub called_stable : (line : ℕ) (ms : List Mark) (written : Bool) (r : ℕ) → Stable (λ code. CalledAt code line ms written r)
-called_stable line ms true r = both nothing_stable (both (one_stable op.Tick line) (risk_stable ms (op.CallOn r) line))
-called_stable line ms false r = calls_behind_stable ms r line
+pub found_stable : (line : ℕ) (m : Manner) (s : Spot) (a : Option Array) → Stable (λ code. FoundAt code line m s a)
+found_stable line manner.Plain s a = place_stable line s a
+found_stable line (manner.Makes c) s a = place_stable line s a
+found_stable line manner.Ends s a = both (place_stable line s a) (one_stable op.Load line)
+
+made_stable : {B : Laid → ℕ → ℕ → Type 0} → (line c r : ℕ) → Stable B → Stable (λ code. Both (One code (op.Make c r) line) (Both (One code (op.BindMade c r) line) (B code)))
+made_stable line c r b = both (one_stable (op.Make c r) line) (both (one_stable (op.BindMade c r) line) b)
+
+pub called_stable : (line : ℕ) (ms : List Mark) (m : Manner) (written : Bool) (r : ℕ) → Stable (λ code. CalledAt code line ms m written r)
+called_stable line ms manner.Plain true r = both nothing_stable (both (one_stable op.Tick line) (risk_stable ms (op.CallOn r) line))
+called_stable line ms manner.Plain false r = calls_behind_stable ms r line
+called_stable line ms (manner.Makes c) true r = both nothing_stable (both (one_stable op.Tick line) (made_stable line c r (risk_stable ms (op.CallOn r) line)))
+called_stable line ms (manner.Makes c) false r = both nothing_stable (made_stable line c r (calls_behind_stable ms r line))
+called_stable line ms manner.Ends true r = both (one_stable op.Tick line) (both (one_stable (op.Enter DESTRUCTOR r) line) (risk_stable ms (op.CallOn r) line))
+called_stable line ms manner.Ends false r = both (one_stable (op.Enter DESTRUCTOR r) line) (calls_behind_stable ms r line)
 
 pub call_stable : (line : ℕ) (what : ObjectCall) (ms : List Mark) → Stable (λ code. CallAt code line what ms)
-call_stable line what ms = both (place_stable line what.spot what.array) (called_stable line ms what.written what.routine)
+call_stable line what ms = both (found_stable line what.manner what.spot what.array) (called_stable line ms what.manner what.written what.routine)
 
 pub done_stable : (line : ℕ) (what : ObjectCall) (ms : List Mark) → Stable (λ code. CallDone code line what ms)
 done_stable line what ms = both (call_stable line what ms) (one_stable op.Discard line)
@@ -86,6 +101,10 @@ pub clean_stable : (line : ℕ) (what : Cleaning) (ms : List Mark) → Stable (�
 clean_stable line (cleaning.Call what) ms = clean_by_stable line what.array what ms
 clean_stable line cleaning.TakeDown ms = one_stable op.UnwindCoroutine line
 clean_stable line cleaning.Forget ms = one_stable op.Forget line
+clean_stable line cleaning.Leave ms = leaves_stable ms line
+clean_stable line cleaning.End ms = one_stable op.Gone line
+clean_stable line (cleaning.Free None) ms = one_stable op.Made line
+clean_stable line (cleaning.Free (Some r)) ms = one_stable (op.Spawn r) line
 
 -- how long they are
 
@@ -93,14 +112,47 @@ place_is : (code : Laid) (line : ℕ) (s : Spot) (o : Option Array) (a z : ℕ) 
 place_is code line s None a z h = h.end
 place_is code line s (Some x) a z h = let e = h.first.end in let f = h.second.first.end in let g = h.second.second.end in omega arith
 
-called_is : (code : Laid) (line : ℕ) (ms : List Mark) (written : Bool) (r a z : ℕ) → CalledAt code line ms written r a z → z ≡ a + called_length written
-called_is code line ms true r a z h = let e = h.first.end in let f = h.second.first.end in let g = h.second.second.end in omega arith
-called_is code line ms false r a z h = h.risk.end
+-- how the object is found and how its routine is called take this together
+pub call_is : (code : Laid) (line : ℕ) (ms : List Mark) (m : Manner) (s : Spot) (o : Option Array) (written : Bool) (r a b z : ℕ) → FoundAt code line m s o a b → CalledAt code line ms m written r b z → z ≡ a + (place_length o + manner_length m + called_length written)
+call_is code line ms manner.Plain s o true r a b z f h =
+    let p = place_is code line s o a b f in
+    let e = h.first.end in
+    let i = h.second.first.end in
+    let j = h.second.second.end in
+    omega arith
+call_is code line ms manner.Plain s o false r a b z f h = let p = place_is code line s o a b f in let e = h.risk.end in omega arith
+call_is code line ms (manner.Makes c) s o true r a b z f h =
+    let p = place_is code line s o a b f in
+    let e = h.first.end in
+    let i = h.second.first.end in
+    let j = h.second.second.first.end in
+    let k = h.second.second.second.first.end in
+    let l = h.second.second.second.second.end in
+    omega arith
+call_is code line ms (manner.Makes c) s o false r a b z f h =
+    let p = place_is code line s o a b f in
+    let e = h.first.end in
+    let i = h.second.first.end in
+    let j = h.second.second.first.end in
+    let k = h.second.second.second.risk.end in
+    omega arith
+call_is code line ms manner.Ends s o true r a b z f h =
+    let p = place_is code line s o a f.middle f.first in
+    let q = f.second.end in
+    let e = h.first.end in
+    let i = h.second.first.end in
+    let j = h.second.second.end in
+    omega arith
+call_is code line ms manner.Ends s o false r a b z f h =
+    let p = place_is code line s o a f.middle f.first in
+    let q = f.second.end in
+    let e = h.first.end in
+    let j = h.second.risk.end in
+    omega arith
 
 pub done_is : (code : Laid) (line : ℕ) (what : ObjectCall) (ms : List Mark) (a z : ℕ) → CallDone code line what ms a z → z ≡ a + done_length what
 done_is code line what ms a z h =
-    let p = place_is code line what.spot what.array a h.first.middle h.first.first in
-    let c = called_is code line ms what.written what.routine h.first.middle h.middle h.first.second in
+    let c = call_is code line ms what.manner what.spot what.array what.written what.routine a h.first.middle h.middle h.first.first h.first.second in
     let e = h.second.end in
     omega arith
 
@@ -121,6 +173,10 @@ pub clean_is : (code : Laid) (line : ℕ) (what : Cleaning) (ms : List Mark) (a 
 clean_is code line (cleaning.Call what) ms a z h = clean_by_is code line what.array what ms a z h
 clean_is code line cleaning.TakeDown ms a z h = h.end
 clean_is code line cleaning.Forget ms a z h = h.end
+clean_is code line cleaning.Leave ms a z h = let e = h.polls.end in omega arith
+clean_is code line cleaning.End ms a z h = h.end
+clean_is code line (cleaning.Free None) ms a z h = h.end
+clean_is code line (cleaning.Free (Some r)) ms a z h = h.end
 
 -- what is behind the call of a routine that nobody wrote
 pub puts_behind : (r line : ℕ) (old new : Draft) → routine_in old.marks < r → Puts 1 (λ code. Risk code old.marks (op.CallUnwritten r) line) old new → Puts 1 (λ code. CallsBehind code old.marks r line) old new
@@ -128,23 +184,38 @@ puts_behind r line old new l h = puts_as h (λ code a z k. record { risk = k; be
 
 -- the parts of a call
 
-pub puts_call : (line : ℕ) (what : ObjectCall) (old mid new : Draft) → Puts 3 (λ code. SpotAt code line what.spot what.array) old mid → Puts 2 (λ code. CalledAt code line mid.marks what.written what.routine) mid new → Puts 5 (λ code. CallAt code line what old.marks) old new
+pub puts_call : (line : ℕ) (what : ObjectCall) (old mid new : Draft) → Puts 4 (λ code. FoundAt code line what.manner what.spot what.array) old mid → Puts 4 (λ code. CalledAt code line mid.marks what.manner what.written what.routine) mid new → Puts 8 (λ code. CallAt code line what old.marks) old new
 puts_call line what old mid new p q =
-    let r : Puts 2 (λ code. CalledAt code line old.marks what.written what.routine) mid new = subst (λ (ms : List Mark). Puts 2 (λ code. CalledAt code line ms what.written what.routine) mid new) (marks_of p) q in
-    puts_both (place_stable line what.spot what.array) p r
+    let r : Puts 4 (λ code. CalledAt code line old.marks what.manner what.written what.routine) mid new = subst (λ (ms : List Mark). Puts 4 (λ code. CalledAt code line ms what.manner what.written what.routine) mid new) (marks_of p) q in
+    puts_both (found_stable line what.manner what.spot what.array) p r
 
-pub puts_done : (line : ℕ) (what : ObjectCall) (old mid new : Draft) → Puts 5 (λ code. CallAt code line what old.marks) old mid → Puts 1 (λ code. One code op.Discard line) mid new → Puts 6 (λ code. CallDone code line what old.marks) old new
+pub puts_done : (line : ℕ) (what : ObjectCall) (old mid new : Draft) → Puts 8 (λ code. CallAt code line what old.marks) old mid → Puts 1 (λ code. One code op.Discard line) mid new → Puts 9 (λ code. CallDone code line what old.marks) old new
 puts_done line what old mid new p q = puts_both (call_stable line what old.marks) p q
 
-pub puts_written : (line r : ℕ) (old mid new : Draft) → Puts 1 (λ code. One code op.Tick line) old mid → Puts 1 (λ code. Risk code mid.marks (op.CallOn r) line) mid new → Puts 2 (λ code. CalledAt code line old.marks true r) old new
+pub puts_written : (line r : ℕ) (old mid new : Draft) → Puts 1 (λ code. One code op.Tick line) old mid → Puts 1 (λ code. Risk code mid.marks (op.CallOn r) line) mid new → Puts 2 (λ code. CalledAt code line old.marks manner.Plain true r) old new
 puts_written line r old mid new p q =
     let s : Puts 1 (λ code. Risk code old.marks (op.CallOn r) line) mid new = subst (λ (ms : List Mark). Puts 1 (λ code. Risk code ms (op.CallOn r) line) mid new) (marks_of p) q in
     puts_as (puts_both (one_stable op.Tick line) p s) (λ code a z h. record { middle = a; first = record { end = refl }; second = h })
 
+-- how an object is found, and its routine called, by the manner
+
+pub puts_found : {n : ℕ} (line : ℕ) (what : ObjectCall) (m : Manner) (old new : Draft) → what.manner ≡ m → n ≤ 4 → Puts n (λ code. FoundAt code line m what.spot what.array) old new → Puts 4 (λ code. FoundAt code line what.manner what.spot what.array) old new
+puts_found line what m old new e l p = subst (λ (x : Manner). Puts 4 (λ code. FoundAt code line x what.spot what.array) old new) (sym e) (puts_more l p)
+
+pub puts_called : {n : ℕ} (line : ℕ) (what : ObjectCall) (m : Manner) (old new : Draft) → what.manner ≡ m → n ≤ 4 → Puts n (λ code. CalledAt code line old.marks m what.written what.routine) old new → Puts 4 (λ code. CalledAt code line old.marks what.manner what.written what.routine) old new
+puts_called line what m old new e l p = subst (λ (x : Manner). Puts 4 (λ code. CalledAt code line old.marks x what.written what.routine) old new) (sym e) (puts_more l p)
+
+pub puts_by : {n k : ℕ} (line r : ℕ) (m : Manner) (w v : Bool) (old new : Draft) → w ≡ v → n ≤ k → Puts n (λ code. CalledAt code line old.marks m v r) old new → Puts k (λ code. CalledAt code line old.marks m w r) old new
+puts_by {n} {k} line r m w v old new e l p = subst (λ (x : Bool). Puts k (λ code. CalledAt code line old.marks m x r) old new) (sym e) (puts_more l p)
+
+-- one op behind others, under the marks with which they began
+pub puts_risk_behind : {n : ℕ} {S : Laid → ℕ → ℕ → Type 0} (o : Op) (line : ℕ) (old mid new : Draft) → Puts n S old mid → Puts 1 (λ code. Risk code mid.marks o line) mid new → Puts 1 (λ code. Risk code old.marks o line) mid new
+puts_risk_behind o line old mid new p q = subst (λ (ms : List Mark). Puts 1 (λ code. Risk code ms o line) mid new) (marks_of p) q
+
 -- a clean-up
 
-pub puts_clean : {n : ℕ} (line : ℕ) (what w : Cleaning) (old new : Draft) → what ≡ w → n ≤ 17 → Puts n (λ code. CleanAt code line w old.marks) old new → Puts 17 (λ code. CleanAt code line what old.marks) old new
-puts_clean {n} line what w old new e l p = subst (λ (x : Cleaning). Puts 17 (λ code. CleanAt code line x old.marks) old new) (sym e) (puts_more l p)
+pub puts_clean : {n : ℕ} (line : ℕ) (what w : Cleaning) (old new : Draft) → what ≡ w → n ≤ 23 → Puts n (λ code. CleanAt code line w old.marks) old new → Puts 23 (λ code. CleanAt code line what old.marks) old new
+puts_clean {n} line what w old new e l p = subst (λ (x : Cleaning). Puts 23 (λ code. CleanAt code line x old.marks) old new) (sym e) (puts_more l p)
 
 pub calls_behind : (ms : List Mark) (what : Cleaning) (call : ObjectCall) → what ≡ cleaning.Call call → CleansBehind ms what → StandsBehind ms call
 calls_behind ms what call e b = subst (λ (x : Cleaning). CleansBehind ms x) e b
@@ -185,6 +256,24 @@ puts_poll line e b d0 d1 d2 d3 d4 f g p q r s =
     let t : Puts 1 (λ code. Risk code d0.marks (op.Deliver e) line) d1 d2 = subst (λ (ms : List Mark). Puts 1 (λ code. Risk code ms (op.Deliver e) line) d1 d2) (marks_of p) q in
     let all = puts_both (one_stable (op.Poll e) line) p (puts_both (risk_stable d0.marks (op.Deliver e) line) t (puts_both (one_stable op.Discard line) r s)) in
     record { rest = all.rest; kept = all.kept; room = all.room; code = poll_of (laid_in d4) d0.marks line e b (length d0.ops) (length d4.ops) f g all.code }
+
+-- a mutex call leaves its object
+
+leave_of : (code : Laid) (ms : List Mark) (line e a z : ℕ) → e ≡ a + 5 → Both (One code (op.Leave e) line) (PollAt code ms line) a z → LeavesAt code ms line a z
+leave_of code ms line e a z f h =
+    let i = h.first.end in
+    let j = h.second.end in
+    let ends : e ≡ z = omega arith in
+    record {
+      leave = subst (λ x. OpAt code a (op.Leave x) line) ends h.first.here;
+      polls = subst (λ x. PollAt code ms line x z) i h.second;
+    }
+
+pub puts_leave : (line e : ℕ) (d0 d1 d2 : Draft) → e ≡ length d0.ops + 5 → Puts 1 (λ code. One code (op.Leave e) line) d0 d1 → Puts 4 (λ code. PollAt code d1.marks line) d1 d2 → Puts 5 (λ code. LeavesAt code d0.marks line) d0 d2
+puts_leave line e d0 d1 d2 f p q =
+    let r : Puts 4 (λ code. PollAt code d0.marks line) d1 d2 = subst (λ (ms : List Mark). Puts 4 (λ code. PollAt code ms line) d1 d2) (marks_of p) q in
+    let all = puts_both (one_stable (op.Leave e) line) p r in
+    record { rest = all.rest; kept = all.kept; room = all.room; code = leave_of (laid_in d2) d0.marks line e (length d0.ops) (length d2.ops) f all.code }
 
 -- a call is of a routine further on also in a draft with the same marks
 pub behind_stays : {n : ℕ} {S : Laid → ℕ → ℕ → Type 0} {old new : Draft} → (what : ObjectCall) → StandsBehind old.marks what → Puts n S old new → StandsBehind new.marks what

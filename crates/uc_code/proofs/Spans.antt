@@ -1,13 +1,16 @@
 -- The code of scopes, of turns over elements and of guarded blocks is paced.
 use Rattle.std.proofs.Common.{◌≡◌, ℕ, suc, ◌+◌, ◌-◌, ◌*◌, ◌^◌, ◌<◌, ◌≤◌, List, ◌∷◌, Bool, true, false, Option, Some, None, length, refl, ap, sym, subst, ◌∙◌, arith}
 use Rattle.std.specs.Prelude.{slice_get}
-use Rattle.uc_tree.specs.Source.{Expr, CleanUp}
+use Rattle.uc_tree.specs.Source.{Expr, CleanUp, ToReturn}
+use Rattle.uc_tree.specs.declared.limits.TheConstants.{DESTRUCTOR}
 use Rattle.uc_code.specs.declared.op.Op.{Op}
 use Rattle.uc_code.specs.declared.op.Op.TheVariants as op
 use Rattle.uc_code.specs.declared.rows.Array.{Array as ArrayOf}
 use Rattle.uc_code.specs.declared.rows.HandlerRow.{HandlerRow}
 use Rattle.uc_code.specs.declared.rows.Cleaning.{Cleaning}
 use Rattle.uc_code.specs.declared.rows.Cleaning.TheVariants as cleaning
+use Rattle.uc_code.specs.declared.rows.Manner.{Manner}
+use Rattle.uc_code.specs.declared.rows.Manner.TheVariants as manner
 use Rattle.uc_code.specs.declared.rows.Mark.{Mark}
 use Rattle.uc_code.specs.declared.rows.Mark.TheVariants as mark
 use Rattle.uc_code.specs.declared.rows.ObjectCall.{ObjectCall}
@@ -15,11 +18,13 @@ use Rattle.uc_code.specs.declared.rows.RoutineCode.{RoutineCode}
 use Rattle.uc_code.specs.declared.rows.RowKind.TheVariants.{CatchResume, CleanUp as OfCleanUp}
 use Rattle.uc_code.specs.declared.rows.Spot.{Spot}
 use Rattle.uc_code.specs.declared.rows.Spot.TheVariants as spot
+use Rattle.uc_code.specs.ObjectCalls.{Cleans, One as CleansOne, All as CleansAll, TakesDown, IsForgotten, Left, Ended, Freed}
+use Rattle.uc_code.specs.Silent.{silent_clean}
 use Rattle.uc_code.specs.Layout.{Laid, handlers, routine_in}
 use Rattle.uc_code.specs.Pace.{behind, climb_op, height, power, Test, test_by, burden, waiting, In, Stays, Entry, Entries, Beneath, Nests, Onward, Paced}
-use Rattle.uc_code.specs.CodeShapes.{One, Risk, Both, HandlerAt, clean_up, Rounds, OverElements, ScopeOf, BehindPart}
-use Rattle.uc_code.specs.Lowered.{spot_op, SpotAt, CalledAt, CallAt, CallDone, CallBuilt, CleanBy, CleanAt, FilledAt, ScopedAt, BuiltAt}
-use Rattle.uc_code.proofs.Heights.{Low, waiting_more, Outside, Plain, Each, Ahead, Around, around_less, further_of, clean_ahead, entries_of, nests_of, paced_by, only, join, within, own_plain, jump_plain, jump_plain_at, jump_paced_at, jump_paced, Starts, Further, height_is, RowIn, row_in, Env, AllStay, stay_one, stay_join}
+use Rattle.uc_code.specs.CodeShapes.{One, Risk, Both, HandlerAt, clean_up, Rounds, OverElements, ScopeOf, BehindPart, LeavesAt}
+use Rattle.uc_code.specs.Lowered.{spot_op, SpotAt, FoundAt, CalledAt, CallAt, CallDone, CallBuilt, CleanBy, CleanAt, ExitAt, ArrivesAt, PadAt, FilledAt, ScopedAt, BuiltAt}
+use Rattle.uc_code.proofs.Heights.{Low, waiting_more, Outside, Plain, Each, Ahead, Around, around_less, further_of, clean_ahead, entries_of, nests_of, paced_by, only, join, within, own_plain, down, jump_plain, jump_plain_at, jump_paced_at, jump_paced, Starts, Further, height_is, RowIn, row_in, Env, AllStay, stay_one, stay_join}
 use Rattle.uc_code.proofs.Powers.{power_rises, power_sum_few}
 use Rattle.uc_code.proofs.Turning.{In as InTurn, burden_test, waiting_in}
 use Rattle.uc_code.proofs.Rounds.{before_turns, test_falls, sweep_test, sweep_in, sweep_low, sweep_low_test, sweep_heard, sweep_each, sweep_begins, fill_test, fill_in, fill_low, fill_low_test, fill_heard, fill_each, fill_begins}
@@ -55,13 +60,23 @@ module _ (code : Laid) (table : List RoutineCode) (any : Bool) where
   place_paces ms line s (Some a) =
       both ms (spot_paces ms line s) (both ms (onward ms op.Counted line (λ n k h. refl) (λ k t. refl) (λ at l. l) (λ from to floor at i. i)) (onward ms (op.Index a.length a.size) line (λ n k h. refl) (λ k t. refl) (λ at l. l) (λ from to floor at i. i)))
 
-  called_paces : (ms : List Mark) (line : ℕ) (written : Bool) (r : ℕ) → Paces ms (CalledAt code line ms written r)
-  called_paces ms line true r = both ms (pacing.nothing_paces code table any ms) (pacing.call_on_paces code table any ms line r)
-  called_paces ms line false r = pacing.calls_behind_paces code table any ms line r
+  found_paces : (ms : List Mark) (line : ℕ) (m : Manner) (s : Spot) (a : Option ArrayOf) → Paces ms (FoundAt code line m s a)
+  found_paces ms line manner.Plain s a = place_paces ms line s a
+  found_paces ms line (manner.Makes c) s a = place_paces ms line s a
+  found_paces ms line manner.Ends s a = both ms (place_paces ms line s a) (onward ms op.Load line (λ n k h. refl) (λ k t. refl) (λ at l. l) (λ from to floor at i. i))
+
+  called_paces : (ms : List Mark) (line : ℕ) (m : Manner) (written : Bool) (r : ℕ) → Paces ms (CalledAt code line ms m written r)
+  called_paces ms line manner.Plain true r = both ms (pacing.nothing_paces code table any ms) (pacing.call_on_paces code table any ms line r)
+  called_paces ms line manner.Plain false r = pacing.calls_behind_paces code table any ms line r
+  called_paces ms line (manner.Makes c) true r = both ms (pacing.nothing_paces code table any ms) (pacing.make_paces code table any ms line c r)
+  called_paces ms line (manner.Makes c) false r =
+      both ms (pacing.nothing_paces code table any ms) (both ms (onward ms (op.Make c r) line (λ n k h. refl) (λ k t. refl) (λ at l. l) (λ from to floor at i. i)) (both ms (onward ms (op.BindMade c r) line (λ n k h. refl) (λ k t. refl) (λ at l. l) (λ from to floor at i. i)) (pacing.calls_behind_paces code table any ms line r)))
+  called_paces ms line manner.Ends true r = pacing.enter_paces code table any ms line DESTRUCTOR r
+  called_paces ms line manner.Ends false r = both ms (onward ms (op.Enter DESTRUCTOR r) line (λ n k h. refl) (λ k t. refl) (λ at l. l) (λ from to floor at i. i)) (pacing.calls_behind_paces code table any ms line r)
 
   pub done_paces : (ms : List Mark) (line : ℕ) (what : ObjectCall) → Paces ms (CallDone code line what ms)
   done_paces ms line what =
-      both ms (both ms (place_paces ms line what.spot what.array) (called_paces ms line what.written what.routine)) (onward ms op.Discard line (λ n k h. refl) (λ k t. refl) (λ at l. l) (λ from to floor at i. i))
+      both ms (both ms (found_paces ms line what.manner what.spot what.array) (called_paces ms line what.manner what.written what.routine)) (onward ms op.Discard line (λ n k h. refl) (λ k t. refl) (λ at l. l) (λ from to floor at i. i))
 
   -- turns over elements
 
@@ -80,7 +95,7 @@ module _ (code : Laid) (table : List RoutineCode) (any : Bool) where
   sweep_rises line what ms test turn z h = (done_paces ms line what).rises turn test h.turn
 
   built_paces : (ms : List Mark) (line : ℕ) (what : ObjectCall) → Paces ms (CallAt code line what ms)
-  built_paces ms line what = both ms (place_paces ms line what.spot what.array) (called_paces ms line what.written what.routine)
+  built_paces ms line what = both ms (found_paces ms line what.manner what.spot what.array) (called_paces ms line what.manner what.written what.routine)
 
   fill_rises : (line most : ℕ) (what : ObjectCall) (ms : List Mark) (test turn z : ℕ) → Rounds code line (op.Fill most) (CallBuilt code line what ms) test turn z → turn ≤ test
   fill_rises line most what ms test turn z h =
@@ -255,10 +270,36 @@ module _ (code : Laid) (table : List RoutineCode) (any : Bool) where
   clean_by_paces ms line (Some a) what =
       elements_paces line ms a.length a.length op.Sweep (CallDone code line what) (CallDone code line what) (λ few. sweep_round line ms what) (sweep_count line ms a.length what) (sweep_round line ms what) (sweep_undo line ms what)
 
-  pub clean_paces : (ms : List Mark) (line : ℕ) (what : Cleaning) → Paces ms (CleanAt code line what ms)
-  clean_paces ms line (cleaning.Call what) = clean_by_paces ms line what.array what
-  clean_paces ms line cleaning.TakeDown = onward ms op.UnwindCoroutine line (λ n k h. refl) (λ k t. refl) (λ at l. l) (λ from to floor at i. i)
-  clean_paces ms line cleaning.Forget = onward ms op.Forget line (λ n k h. refl) (λ k t. refl) (λ at l. l) (λ from to floor at i. i)
+  -- a mutex call is left in what is not silent alone
+  abbrev pub silent_by : Cleaning → Type 0
+  silent_by (cleaning.Call what) = Unit {0}
+  silent_by cleaning.TakeDown = Unit {0}
+  silent_by cleaning.Forget = Unit {0}
+  silent_by cleaning.Leave = ⊥
+  silent_by cleaning.End = Unit {0}
+  silent_by (cleaning.Free main) = Unit {0}
+
+  loud : (b : Bool) → (b ≡ false → ⊥) → b ≡ true
+  loud true f = refl
+  loud false f = absurd (f refl)
+
+  silent_of : (c : CleanUp) (what : Cleaning) → Cleans c what → silent_clean c → silent_by what
+  silent_of c what (CleansOne e w k n) s = tt
+  silent_of c what (CleansAll n size e w k i) s = tt
+  silent_of c what TakesDown s = tt
+  silent_of c what IsForgotten s = tt
+  silent_of c what Left s = s
+  silent_of c what Ended s = tt
+  silent_of c what (Freed main) s = tt
+
+  pub clean_paces : (ms : List Mark) (line : ℕ) (what : Cleaning) → (any ≡ false → silent_by what) → Paces ms (CleanAt code line what ms)
+  clean_paces ms line (cleaning.Call what) f = clean_by_paces ms line what.array what
+  clean_paces ms line cleaning.TakeDown f = onward ms op.UnwindCoroutine line (λ n k h. refl) (λ k t. refl) (λ at l. l) (λ from to floor at i. i)
+  clean_paces ms line cleaning.Forget f = onward ms op.Forget line (λ n k h. refl) (λ k t. refl) (λ at l. l) (λ from to floor at i. i)
+  clean_paces ms line cleaning.Leave f = pacing.leaves_paces code table any (loud any f) ms line
+  clean_paces ms line cleaning.End f = onward ms op.Gone line (λ n k h. refl) (λ k t. refl) (λ at l. l) (λ from to floor at i. i)
+  clean_paces ms line (cleaning.Free None) f = onward ms op.Made line (λ n k h. refl) (λ k t. refl) (λ at l. l) (λ from to floor at i. i)
+  clean_paces ms line (cleaning.Free (Some r)) f = onward ms (op.Spawn r) line (λ n k h. refl) (λ k t. refl) (λ at l. l) (λ from to floor at i. i)
 
   pub filled_paces : (ms : List Mark) (line n : ℕ) (b d : Expr) → Paces ms (FilledAt code line ms n b d)
   filled_paces ms line n b d =
@@ -272,43 +313,43 @@ module _ (code : Laid) (table : List RoutineCode) (any : Bool) where
 
   -- scopes of objects, and what follows a part
 
-  module _ (ms : List Mark) (line : ℕ) (M : ℕ → Mark) (C : ℕ → ℕ → Type 0) (B : List Mark → ℕ → ℕ → Type 0) (m : (row z : ℕ) → Ahead code table row z (handlers ms) → Around code table ms z → Around code table (M row ∷ ms) z) (i : (from to row : ℕ) → RowIn code table from to row → Env code table from to ms → Env code table from to (M row ∷ ms)) (c : Paces ms C) (b : (ns : List Mark) → Paces ns (B ns)) where
+  module _ (ms : List Mark) (line : ℕ) (M : ℕ → Mark) (C U : ℕ → ℕ → Type 0) (B : List Mark → ℕ → ℕ → Type 0) (m : (row z : ℕ) → Ahead code table row z (handlers ms) → Around code table ms z → Around code table (M row ∷ ms) z) (i : (from to row : ℕ) → RowIn code table from to row → Env code table from to ms → Env code table from to (M row ∷ ms)) (c : Paces ms C) (u : Paces ms U) (b : (ns : List Mark) → Paces ns (B ns)) where
     unwinding_paces : Paces ms (Both C (Risk code ms op.Unwind line))
     unwinding_paces = both ms c (pacing.unwind_paces code table any ms line)
 
     past_unwind : (a z : ℕ) → Both C (Risk code ms op.Unwind line) (a + 1) z → a < z
     past_unwind a z h = let k = c.rises (a + 1) h.middle h.first in let e = h.second.end in omega arith
 
-    scope_paces : Paces ms (ScopeOf code line ms M C B)
+    scope_paces : Paces ms (ScopeOf code line ms M C U B)
     scope_paces = record {
       rises = λ a z h.
           let k = (b (M h.row ∷ ms)).rises a h.body_end h.body in
           let l = c.rises h.body_end h.clean_end h.clean in
-          let r = unwinding_paces.rises (h.clean_end + 1) z h.unwinds in
+          let r = u.rises (h.clean_end + 1) z h.unwinds in
           omega arith;
       plain = λ a z h p.
-          let u = unwinding_paces.plain (h.clean_end + 1) z h.unwinds p in
-          (b (M h.row ∷ ms)).plain a h.body_end h.body (c.plain h.body_end h.clean_end h.clean (jump_plain code table h.clean_end z line h.leave u.outside));
+          let w = u.plain (h.clean_end + 1) z h.unwinds p in
+          (b (M h.row ∷ ms)).plain a h.body_end h.body (c.plain h.body_end h.clean_end h.clean (jump_plain code table h.clean_end z line h.leave w.outside));
       each = λ q a z h r p.
           let k = (b (M h.row ∷ ms)).rises a h.body_end h.body in
           let l = c.rises h.body_end h.clean_end h.clean in
-          let s = unwinding_paces.rises (h.clean_end + 1) z h.unwinds in
-          let u = unwinding_paces.plain (h.clean_end + 1) z h.unwinds p in
-          let left = jump_plain code table h.clean_end z line h.leave u.outside in
+          let s = u.rises (h.clean_end + 1) z h.unwinds in
+          let w = u.plain (h.clean_end + 1) z h.unwinds p in
+          let left = jump_plain code table h.clean_end z line h.leave w.outside in
           let cleaned = c.plain h.body_end h.clean_end h.clean left in
-          join code table a h.body_end z ((b (M h.row ∷ ms)).each q a h.body_end h.body (m h.row h.body_end (clean_ahead code table h.row (h.clean_end + 1) h.body_end (handlers ms) h.handler u (omega arith)) (around_less code table ms h.body_end z (omega arith) r)) cleaned) (
+          join code table a h.body_end z ((b (M h.row ∷ ms)).each q a h.body_end h.body (m h.row h.body_end (clean_ahead code table h.row (h.clean_end + 1) h.body_end (handlers ms) h.handler w (omega arith)) (around_less code table ms h.body_end z (omega arith) r)) cleaned) (
           join code table h.body_end h.clean_end z (c.each q h.body_end h.clean_end h.clean (around_less code table ms h.clean_end z (omega arith) r) left) (
-          join code table h.clean_end (h.clean_end + 1) z (only code table h.clean_end (h.clean_end + 1) refl (jump_paced code table h.clean_end z line h.leave (omega (arith, past_unwind h.clean_end z h.unwinds)) u.outside p))
-          (unwinding_paces.each q (h.clean_end + 1) z h.unwinds r p)));
+          join code table h.clean_end (h.clean_end + 1) z (only code table h.clean_end (h.clean_end + 1) refl (jump_paced code table h.clean_end z line h.leave (omega (arith, u.rises (h.clean_end + 1) z h.unwinds)) w.outside p))
+          (u.each q (h.clean_end + 1) z h.unwinds r p)));
       stays = λ from to floor a z h n x y v.
           let k = (b (M h.row ∷ ms)).rises a h.body_end h.body in
           let l = c.rises h.body_end h.clean_end h.clean in
-          let s = past_unwind h.clean_end z h.unwinds in
+          let s = u.rises (h.clean_end + 1) z h.unwinds in
           let g = row_in code table from to h.row (clean_up (h.clean_end + 1)) h.handler (end_in from to a (h.clean_end + 1) (omega arith) x (omega arith)) in
           stay_join code table from to floor a h.body_end z ((b (M h.row ∷ ms)).stays from to floor a h.body_end h.body (i from to h.row g n) x (omega arith) v) (
           stay_join code table from to floor h.body_end h.clean_end z (c.stays from to floor h.body_end h.clean_end h.clean n (omega arith) (omega arith) v) (
           stay_join code table from to floor h.clean_end (h.clean_end + 1) z (stay_one code table from to floor h.clean_end (h.clean_end + 1) (op.Jump z) line h.leave refl (end_in from to a z (omega arith) x y))
-          (unwinding_paces.stays from to floor (h.clean_end + 1) z h.unwinds n (omega arith) y v)));
+          (u.stays from to floor (h.clean_end + 1) z h.unwinds n (omega arith) y v)));
     }
 
     part_paces : Paces ms (BehindPart code line ms M C B)
@@ -337,22 +378,66 @@ module _ (code : Laid) (table : List RoutineCode) (any : Bool) where
           (unwinding_paces.stays from to floor (h.body_end + 1) z h.unwinds n (omega arith) y v));
     }
 
-  pub scoped_paces : (ms : List Mark) (line : ℕ) (c : CleanUp) (B : List Mark → ℕ → ℕ → Type 0) → ((ns : List Mark) → Paces ns (B ns)) → Paces ms (ScopedAt code line ms c B)
-  scoped_paces ms line c B b =
-      let all = λ (what : Cleaning). scope_paces ms line (λ row. mark.Clean what line row) (CleanAt code line what ms) B (λ row z x r. (x, r)) (λ from to row x n. (x, n)) (clean_paces ms line what) b in
+  -- pads
+
+  undone_paces : (ms : List Mark) (line : ℕ) (C : ℕ → ℕ → Type 0) → Paces ms C → Paces ms (Both C (Risk code ms op.Unwind line))
+  undone_paces ms line C c = both ms c (pacing.unwind_paces code table any ms line)
+
+  arrives_paces : any ≡ true → (ms : List Mark) (line : ℕ) → Paces ms (ExitAt code ToReturn ms) → Paces ms (ArrivesAt code line ms)
+  arrives_paces t ms line x =
+      let l = pacing.leaves_paces code table any t ms line in
+      let unwinds = undone_paces ms line (LeavesAt code ms line) l in
+      let returns = both ms l x in
       record {
-        rises = λ a z h. (all h.what).rises a z h.scope;
-        plain = λ a z h p. (all h.what).plain a z h.scope p;
-        each = λ q a z h r p. (all h.what).each q a z h.scope r p;
-        stays = λ from to floor a z h n l m x. (all h.what).stays from to floor a z h.scope n l m x;
+        rises = λ a z h. let k = unwinds.rises (a + 1) h.arrived h.unwinds in let r = returns.rises h.arrived z h.returns in omega arith;
+        plain = λ a z h p.
+            let q = unwinds.plain (a + 1) h.arrived h.unwinds (returns.plain h.arrived z h.returns p) in
+            own_plain code table a (op.Arrive h.arrived) line h.arrives (λ n k y. refl) (λ k y. refl) q.outside;
+        each = λ q a z h r p.
+            let k = unwinds.rises (a + 1) h.arrived h.unwinds in
+            let i = returns.rises h.arrived z h.returns in
+            let far = returns.plain h.arrived z h.returns p in
+            let near = unwinds.plain (a + 1) h.arrived h.unwinds far in
+            let o = own_plain code table a (op.Arrive h.arrived) line h.arrives (λ n k y. refl) (λ k y. refl) near.outside in
+            let e = height_is code table a (op.Arrive h.arrived) line h.arrives in
+            let w = within code table a (op.Arrive h.arrived) line h.arrives in
+            let f = far.low in
+            let g = near.low in
+            join code table a (a + 1) z (only code table a (a + 1) refl (paced_by code table a (op.Arrive h.arrived) line h.arrives (down code table a h.arrived o.outside far.outside (omega arith), down code table a (a + 1) o.outside near.outside (omega arith)))) (
+            join code table (a + 1) h.arrived z (unwinds.each q (a + 1) h.arrived h.unwinds (around_less code table ms h.arrived z (omega arith) r) far)
+            (returns.each q h.arrived z h.returns r p));
+        stays = λ from to floor a z h n l m v.
+            let k = unwinds.rises (a + 1) h.arrived h.unwinds in
+            let i = returns.rises h.arrived z h.returns in
+            stay_join code table from to floor a (a + 1) z (stay_one code table from to floor a (a + 1) (op.Arrive h.arrived) line h.arrives refl (end_in from to a h.arrived (omega arith) l (omega arith), next_in from to a (a + 1) refl l (omega arith))) (
+            stay_join code table from to floor (a + 1) h.arrived z (unwinds.stays from to floor (a + 1) h.arrived h.unwinds n (omega arith) (omega arith) v)
+            (returns.stays from to floor h.arrived z h.returns n (omega arith) m v));
       }
 
-  pub built_part_paces : (ms : List Mark) (line : ℕ) (c : CleanUp) (B : List Mark → ℕ → ℕ → Type 0) → ((ns : List Mark) → Paces ns (B ns)) → Paces ms (BuiltAt code line ms c B)
-  built_part_paces ms line c B b =
-      let all = λ (what : Cleaning). part_paces ms line (λ row. mark.Part row) (CleanAt code line what ms) B (λ row z x r. (x, r)) (λ from to row x n. (x, n)) (clean_paces ms line what) b in
+  pad_paces : (ms : List Mark) (line : ℕ) (what : Cleaning) → (any ≡ false → silent_by what) → (any ≡ true → Paces ms (ExitAt code ToReturn ms)) → Paces ms (PadAt code line what ms)
+  pad_paces ms line (cleaning.Call what) f x = undone_paces ms line (CleanAt code line (cleaning.Call what) ms) (clean_paces ms line (cleaning.Call what) f)
+  pad_paces ms line cleaning.TakeDown f x = undone_paces ms line (CleanAt code line cleaning.TakeDown ms) (clean_paces ms line cleaning.TakeDown f)
+  pad_paces ms line cleaning.Forget f x = undone_paces ms line (CleanAt code line cleaning.Forget ms) (clean_paces ms line cleaning.Forget f)
+  pad_paces ms line cleaning.Leave f x = arrives_paces (loud any f) ms line (x (loud any f))
+  pad_paces ms line cleaning.End f x = undone_paces ms line (CleanAt code line cleaning.End ms) (clean_paces ms line cleaning.End f)
+  pad_paces ms line (cleaning.Free main) f x = undone_paces ms line (One code op.GiveUp line) (onward ms op.GiveUp line (λ n k h. refl) (λ k t. refl) (λ at l. l) (λ from to floor at i. i))
+
+  pub scoped_paces : (ms : List Mark) (line : ℕ) (c : CleanUp) (B : List Mark → ℕ → ℕ → Type 0) → (any ≡ false → silent_clean c) → (any ≡ true → Paces ms (ExitAt code ToReturn ms)) → ((ns : List Mark) → Paces ns (B ns)) → Paces ms (ScopedAt code line ms c B)
+  scoped_paces ms line c B f e b =
+      let all = λ (what : Cleaning) (k : Cleans c what). scope_paces ms line (λ row. mark.Clean what line row) (CleanAt code line what ms) (PadAt code line what ms) B (λ row z x r. (x, r)) (λ from to row x n. (x, n)) (clean_paces ms line what (λ i. silent_of c what k (f i))) (pad_paces ms line what (λ i. silent_of c what k (f i)) e) b in
       record {
-        rises = λ a z h. (all h.what).rises a z h.part;
-        plain = λ a z h p. (all h.what).plain a z h.part p;
-        each = λ q a z h r p. (all h.what).each q a z h.part r p;
-        stays = λ from to floor a z h n l m x. (all h.what).stays from to floor a z h.part n l m x;
+        rises = λ a z h. (all h.what h.cleans).rises a z h.scope;
+        plain = λ a z h p. (all h.what h.cleans).plain a z h.scope p;
+        each = λ q a z h r p. (all h.what h.cleans).each q a z h.scope r p;
+        stays = λ from to floor a z h n l m x. (all h.what h.cleans).stays from to floor a z h.scope n l m x;
+      }
+
+  pub built_part_paces : (ms : List Mark) (line : ℕ) (c : CleanUp) (B : List Mark → ℕ → ℕ → Type 0) → (any ≡ false → silent_clean c) → ((ns : List Mark) → Paces ns (B ns)) → Paces ms (BuiltAt code line ms c B)
+  built_part_paces ms line c B f b =
+      let all = λ (what : Cleaning) (k : Cleans c what). part_paces ms line (λ row. mark.Part row) (CleanAt code line what ms) (Both (CleanAt code line what ms) (Risk code ms op.Unwind line)) B (λ row z x r. (x, r)) (λ from to row x n. (x, n)) (clean_paces ms line what (λ i. silent_of c what k (f i))) (undone_paces ms line (CleanAt code line what ms) (clean_paces ms line what (λ i. silent_of c what k (f i)))) b in
+      record {
+        rises = λ a z h. (all h.what h.cleans).rises a z h.part;
+        plain = λ a z h p. (all h.what h.cleans).plain a z h.part p;
+        each = λ q a z h r p. (all h.what h.cleans).each q a z h.part r p;
+        stays = λ from to floor a z h n l m x. (all h.what h.cleans).stays from to floor a z h.part n l m x;
       }

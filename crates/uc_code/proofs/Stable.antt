@@ -4,13 +4,13 @@ use Rattle.std.specs.Prelude.{slice_get}
 use Rattle.uc_code.specs.declared.rows.HandlerRow.{HandlerRow}
 use Rattle.uc_code.specs.declared.op.Op.{Op}
 use Rattle.uc_tree.specs.Source.{Order, TestFirst, BodyFirst, NoTest}
-use Rattle.uc_code.specs.declared.op.Op.TheVariants.{Jump, IfZero, IfNonzero, Tick, CallUnwritten, Count, Return, Handled, Unwind, Poll, Deliver, Discard}
+use Rattle.uc_code.specs.declared.op.Op.TheVariants.{Jump, IfZero, IfNonzero, Tick, CallUnwritten, Count, Return, Handled, Unwind, Poll, Deliver, Discard, Leave}
 use Rattle.uc_code.specs.declared.rows.MainOf.{MainOf}
 use Rattle.uc_code.specs.declared.rows.Mark.{Mark}
 use Rattle.uc_code.specs.declared.rows.Mark.TheVariants.{Finish, Whole, Elements, Outward}
 use Rattle.uc_code.specs.declared.rows.Handler.{Handler}
 use Rattle.uc_code.specs.Layout.{Laid, guards}
-use Rattle.uc_code.specs.CodeShapes.{Nothing, Never, One, Risk, CallsBehind, Both, Behind, When, Unless, Fork, Leads, Arrived, Jumped, pads_at, begin_at, BackAt, Turns, WholeAt, main_end, main_left, MainAt, Guarded, HandledAt, ApartAt, clean_up, Rounds, OverElements, ScopeOf, BehindPart, PollAt, Same, Kept, KeptBut, Stable}
+use Rattle.uc_code.specs.CodeShapes.{Nothing, Never, One, Risk, CallsBehind, Both, Behind, When, Unless, Fork, Leads, Arrived, Jumped, pads_at, begin_at, BackAt, Turns, WholeAt, main_end, main_left, MainAt, Guarded, HandledAt, ApartAt, clean_up, Rounds, OverElements, ScopeOf, BehindPart, PollAt, LeavesAt, Same, Kept, KeptBut, Stable}
 
 pub part : (old new : Laid) (a z b y : ℕ) → a ≤ b → y ≤ z → Same old new a z → Same old new b y
 part old new a z b y h k s = record {
@@ -343,23 +343,36 @@ module _ (line : ℕ) (ms : List Mark) (first most : ℕ) (back undo : ℕ → O
         };
   }
 
+-- a mutex call leaves its object
+pub leaves_stable : (ms : List Mark) (line : ℕ) → Stable (λ code. LeavesAt code ms line)
+leaves_stable ms line = record {
+  rises = λ code a z h. let k = (poll_stable ms line).rises code (a + 1) z h.polls in omega arith;
+  moves = λ old new a z s h.
+      let k = (poll_stable ms line).rises old (a + 1) z h.polls in
+      let e = h.polls.end in
+      record {
+        leave = s.same a (Leave z) line (omega arith) (omega arith) h.leave;
+        polls = (poll_stable ms line).moves old new (a + 1) z (part old new a z (a + 1) z (omega arith) (omega arith) s) h.polls;
+      };
+}
+
 -- scopes of objects, and what follows a part
 
-module _ (line : ℕ) (ms : List Mark) (M : ℕ → Mark) (C : Laid → ℕ → ℕ → Type 0) (B : Laid → List Mark → ℕ → ℕ → Type 0) (c : Stable C) (b : (ns : List Mark) → Stable (λ code. B code ns)) where
+module _ (line : ℕ) (ms : List Mark) (M : ℕ → Mark) (C U : Laid → ℕ → ℕ → Type 0) (B : Laid → List Mark → ℕ → ℕ → Type 0) (c : Stable C) (u : Stable U) (b : (ns : List Mark) → Stable (λ code. B code ns)) where
   unwinds_stable : Stable (λ code. Both (C code) (Risk code ms Unwind line))
   unwinds_stable = both_stable C c (λ code. Risk code ms Unwind line) (risk_stable ms Unwind line)
 
-  pub scope_stable : Stable (λ code. ScopeOf code line ms M (C code) (B code))
+  pub scope_stable : Stable (λ code. ScopeOf code line ms M (C code) (U code) (B code))
   scope_stable = record {
     rises = λ code a z h.
         let k = (b (M h.row ∷ ms)).rises code a h.body_end h.body in
         let l = c.rises code h.body_end h.clean_end h.clean in
-        let r = unwinds_stable.rises code (h.clean_end + 1) z h.unwinds in
+        let r = u.rises code (h.clean_end + 1) z h.unwinds in
         omega arith;
     moves = λ old new a z s h.
         let k = (b (M h.row ∷ ms)).rises old a h.body_end h.body in
         let l = c.rises old h.body_end h.clean_end h.clean in
-        let r = unwinds_stable.rises old (h.clean_end + 1) z h.unwinds in
+        let r = u.rises old (h.clean_end + 1) z h.unwinds in
         record {
           row = h.row;
           body_end = h.body_end;
@@ -367,7 +380,7 @@ module _ (line : ℕ) (ms : List Mark) (M : ℕ → Mark) (C : Laid → ℕ → 
           body = (b (M h.row ∷ ms)).moves old new a h.body_end (part old new a z a h.body_end (omega arith) (omega arith) s) h.body;
           clean = c.moves old new h.body_end h.clean_end (part old new a z h.body_end h.clean_end (omega arith) (omega arith) s) h.clean;
           leave = s.same h.clean_end (Jump z) line (omega arith) (omega arith) h.leave;
-          unwinds = unwinds_stable.moves old new (h.clean_end + 1) z (part old new a z (h.clean_end + 1) z (omega arith) (omega arith) s) h.unwinds;
+          unwinds = u.moves old new (h.clean_end + 1) z (part old new a z (h.clean_end + 1) z (omega arith) (omega arith) s) h.unwinds;
           handler = s.handlers h.row (clean_up (h.clean_end + 1)) h.handler;
         };
   }

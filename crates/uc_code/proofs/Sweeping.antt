@@ -59,8 +59,8 @@ closed_marks ahead k b c e r = ap (λ (d : Draft). d.marks) e ∙ marks_closed (
 
 module _ (line n start test entry : ℕ) (few : n < 2 ^ 32) (what : ObjectCall) (d0 d1 d2 d3 d4 d5 d6 d7 d8 d9 : Draft)
     (p1 : Puts 1 (λ code. One code (op.Count n test) line) d0 d1) (o2 : d2 ≡ opened opening.Elements d1) (k2 : Kept (laid_in d1) (laid_in d2))
-    (p3 : Puts 6 (λ code. CallDone code line what d2.marks) d2 d3) (p4 : Puts 1 (λ code. One code (op.Sweep (start + 1)) line) d3 d4) (p5 : Puts 1 (λ code. One code (op.Jump (entry + 2)) line) d4 d5)
-    (p6 : Puts 6 (λ code. CallDone code line what d5.marks) d5 d6) (c7 : d7 ≡ closed 0 d6) (k7 : Kept (laid_in d6) (laid_in d7)) (h7 : (row : ℕ) → handler_in d6.marks ≡ Some row → HandlerAt (laid_in d7) row (clean_up (length d6.ops + 0)))
+    (p3 : Puts 9 (λ code. CallDone code line what d2.marks) d2 d3) (p4 : Puts 1 (λ code. One code (op.Sweep (start + 1)) line) d3 d4) (p5 : Puts 1 (λ code. One code (op.Jump (entry + 2)) line) d4 d5)
+    (p6 : Puts 9 (λ code. CallDone code line what d5.marks) d5 d6) (c7 : d7 ≡ closed 0 d6) (k7 : Kept (laid_in d6) (laid_in d7)) (h7 : (row : ℕ) → handler_in d6.marks ≡ Some row → HandlerAt (laid_in d7) row (clean_up (length d6.ops + 0)))
     (p8 : Puts 1 (λ code. One code (op.Sweep (test + 2)) line) d7 d8) (p9 : Puts 1 (λ code. Risk code d8.marks op.Unwind line) d8 d9)
     (st : start ≡ length d0.ops) (te : test ≡ start + 1 + done_length what) (en : entry ≡ test + 2 + done_length what) where
   abbrev ms : List Mark
@@ -174,7 +174,7 @@ module _ (line n start test entry : ℕ) (few : n < 2 ^ 32) (what : ObjectCall) 
       let e : length d6.ops + 0 ≡ entry = (let a = at_entry in omega arith) in
       keep7.handlers row (clean_up entry) (subst (λ k. HandlerAt (laid_in d7) row (clean_up k)) e (h7 row (ap handler_in marks6)))
 
-  pub swept : Puts 17 (λ c. OverElements c line ms n n op.Sweep op.Sweep (CallDone c line what) (CallDone c line what)) d0 d9
+  pub swept : Puts 23 (λ c. OverElements c line ms n n op.Sweep op.Sweep (CallDone c line what) (CallDone c line what)) d0 d9
   swept = record {
     rest = like_rest d0 d9 (like_puts d0 d8 d9 (like_puts d0 d7 d8 (like_closed 0 d0 d6 d7 (like_puts d0 d5 d6 (like_puts d0 d4 d5 (like_puts d0 d3 d4 (like_puts d0 d2 d3 (like_opened opening.Elements d0 d1 d2 (like_puts d0 d0 d1 refl p1) o2) p3) p4) p5) p6) c7) p8) p9) (marks_of p9 ∙ marks8);
     kept = kept_then (laid_in d0) (laid_in d1) code p1.kept keep1;

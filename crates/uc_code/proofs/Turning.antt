@@ -2,9 +2,12 @@
 use Rattle.std.proofs.Common.{◌≡◌, ℕ, suc, ◌+◌, ◌-◌, ◌*◌, ◌^◌, ◌<◌, ◌≤◌, List, Bool, true, false, Option, Some, None, refl, ap, sym, subst, ◌∙◌, arith}
 use Rattle.std.specs.Prelude.{length, nat_eq}
 use Rattle.std.proofs.lemmas.Bool.{eq-eqb, ne_eqb}
+use Rattle.uc_tree.specs.declared.limits.TheConstants.{DESTRUCTOR}
 use Rattle.uc_code.specs.declared.op.Op.{Op}
 use Rattle.uc_code.specs.declared.op.Op.TheVariants as op
 use Rattle.uc_code.specs.declared.rows.Array.{Array}
+use Rattle.uc_code.specs.declared.rows.Manner.{Manner}
+use Rattle.uc_code.specs.declared.rows.Manner.TheVariants as manner
 use Rattle.uc_code.specs.declared.rows.Mark.{Mark}
 use Rattle.uc_code.specs.declared.rows.ObjectCall.{ObjectCall}
 use Rattle.uc_code.specs.declared.rows.RoutineCode.{RoutineCode}
@@ -13,7 +16,7 @@ use Rattle.uc_code.specs.declared.rows.Spot.TheVariants as spot
 use Rattle.uc_code.specs.Layout.{Laid, handlers, chain, routine_in}
 use Rattle.uc_code.specs.Pace.{climb_op, height, power, Test, test_by, test_of, turns_left, left_at, turn_height, behind, burden, waiting, Entries, Nests, Waits, Onward, Paced}
 use Rattle.uc_code.specs.CodeShapes.{OpAt, Nothing, One, Risk, CallsBehind, Both}
-use Rattle.uc_code.specs.Lowered.{spot_op, SpotAt, CalledAt, CallAt}
+use Rattle.uc_code.specs.Lowered.{spot_op, SpotAt, FoundAt, CalledAt, CallAt}
 use Rattle.uc_code.proofs.Powers.{power_less, power_rises, power_twice}
 use Rattle.uc_code.proofs.Heights.{Low, Each, paced_by, none, only, join, within, height_is, test_is, onward_low, onward_lower, Starts, Further, if_ge, waits_are, burdens_are, calling, risky_by, burden_high}
 
@@ -120,31 +123,62 @@ module _ (code : Laid) (table : List RoutineCode) (test turn : ℕ) (o : Op) whe
     each = λ s v a z h l m g n q. only code table a z h.end (paced_by code table a op.Tick line h.here tt);
   }
 
-  -- a call is high, so that a tick stands before it
-  pub written_turns : (ms : List Mark) (line r : ℕ) → Turns ms (Both (One code op.Tick line) (Risk code ms (op.CallOn r) line))
-  written_turns ms line r = record {
-    rises = λ a z h. let e = h.first.end in let f = h.second.end in omega arith;
-    begins = λ a z h l n.
+  -- a call is high, so that a tick stands before it, and what it falls from stands between
+
+  pub record Above (ms : List Mark) (B : ℕ → ℕ → Type 0) : Type 0 where
+    pub rises : (a z : ℕ) → B a z → a < z
+    pub begins : (a z : ℕ) → B a z → turn ≤ a → In z → In a
+    pub each : Starts code table → Heard ms → (a z : ℕ) → B a z → turn ≤ a → z < test → In z → Low code table z → Each code table a z
+
+  call_above : (ms : List Mark) (line r : ℕ) → Above ms (Risk code ms (op.CallOn r) line)
+  call_above ms line r = record {
+    rises = λ a z h. let e = h.end in omega arith;
+    begins = λ a z h l n. in_next a (op.CallOn r) line h.here (λ k t. refl) l (subst In h.end n);
+    each = λ s v a z h l m n q.
+        let f = h.end in
+        let k : In (a + 1) = subst In h.end n in
+        let i : In a = in_next a (op.CallOn r) line h.here (λ k t. refl) l k in
+        let x = height_is code table a (op.CallOn r) line h.here in
+        let p : Low code table (a + 1) = subst (Low code table) h.end q in
+        only code table a z h.end (paced_by code table a (op.CallOn r) line h.here (
+          calling code table a r (λ c y. let v = s r c y in let w = v.low in (v, omega arith)),
+          in_waits ms a v (subst (λ n. chain code.rows n ≡ handlers ms) h.end h.under) i k (omega arith) (omega arith) (omega arith) (omega arith) (omega arith),
+          burden_high code table a x,
+        ));
+  }
+
+  more_above : {B : ℕ → ℕ → Type 0} → (ms : List Mark) (p : Op) (line : ℕ) → ((n k h : ℕ) → climb_op n k p h ≡ suc h) → ((k : ℕ) (t : Option Test) → test_by p k t ≡ t) → ((at : ℕ) → Onward code table at (at + 1) → Paced code table at p) → Above ms B → Above ms (Both (One code p line) B)
+  more_above {B} ms p line c t f b = record {
+    rises = λ a z h. let e = h.first.end in let i = b.rises h.middle z h.second in omega arith;
+    begins = λ a z h l n. let e = h.first.end in in_next a p line h.first.here t l (subst In h.first.end (b.begins h.middle z h.second (omega arith) n));
+    each = λ s v a z h l m n q.
         let e = h.first.end in
-        let k : In (h.middle + 1) = subst In h.second.end n in
-        let m : In h.middle = in_next h.middle (op.CallOn r) line h.second.here (λ k t. refl) (omega arith) k in
-        in_next a op.Tick line h.first.here (λ k t. refl) l (subst In h.first.end m);
+        let i = b.rises h.middle z h.second in
+        let k : In (a + 1) = subst In h.first.end (b.begins h.middle z h.second (omega arith) n) in
+        join code table a h.middle z
+        (only code table a h.middle h.first.end (paced_by code table a p line h.first.here (f a (in_down a (in_next a p line h.first.here t l k) k (omega arith) (onward_lower code table a p line h.first.here c)))))
+        (b.each s v h.middle z h.second (omega arith) m n q);
+  }
+
+  ticked_turns : {B : ℕ → ℕ → Type 0} → (ms : List Mark) (line : ℕ) → Above ms B → Turns ms (Both (One code op.Tick line) B)
+  ticked_turns {B} ms line b = record {
+    rises = λ a z h. let e = h.first.end in let i = b.rises h.middle z h.second in omega arith;
+    begins = λ a z h l n. let e = h.first.end in in_next a op.Tick line h.first.here (λ k t. refl) l (subst In h.first.end (b.begins h.middle z h.second (omega arith) n));
     low = λ a z h q. let e = height_is code table a op.Tick line h.first.here in omega arith;
     each = λ s v a z h l m g n q.
         let e = h.first.end in
-        let f = h.second.end in
-        let k : In (h.middle + 1) = subst In h.second.end n in
-        let i : In h.middle = in_next h.middle (op.CallOn r) line h.second.here (λ k t. refl) (omega arith) k in
-        let x = height_is code table h.middle (op.CallOn r) line h.second.here in
-        let p : Low code table (h.middle + 1) = subst (Low code table) h.second.end q in
-        join code table a h.middle z
-        (only code table a h.middle h.first.end (paced_by code table a op.Tick line h.first.here tt))
-        (only code table h.middle z h.second.end (paced_by code table h.middle (op.CallOn r) line h.second.here (
-          calling code table h.middle r (λ c y. let v = s r c y in let w = v.low in (v, omega arith)),
-          in_waits ms h.middle v (subst (λ n. chain code.rows n ≡ handlers ms) h.second.end h.second.under) i k (omega arith) (omega arith) (omega arith) (omega arith) (omega arith),
-          burden_high code table h.middle x,
-        )));
+        join code table a h.middle z (only code table a h.middle h.first.end (paced_by code table a op.Tick line h.first.here tt)) (b.each s v h.middle z h.second (omega arith) m n q);
   }
+
+  pub written_turns : (ms : List Mark) (line r : ℕ) → Turns ms (Both (One code op.Tick line) (Risk code ms (op.CallOn r) line))
+  written_turns ms line r = ticked_turns ms line (call_above ms line r)
+
+  made_written_turns : (ms : List Mark) (line c r : ℕ) → Turns ms (Both (One code op.Tick line) (Both (One code (op.Make c r) line) (Both (One code (op.BindMade c r) line) (Risk code ms (op.CallOn r) line))))
+  made_written_turns ms line c r =
+      ticked_turns ms line (more_above ms (op.Make c r) line (λ n k h. refl) (λ k t. refl) (λ at l. l) (more_above ms (op.BindMade c r) line (λ n k h. refl) (λ k t. refl) (λ at l. l) (call_above ms line r)))
+
+  entered_written_turns : (ms : List Mark) (line k r : ℕ) → Turns ms (Both (One code op.Tick line) (Both (One code (op.Enter k r) line) (Risk code ms (op.CallOn r) line)))
+  entered_written_turns ms line k r = ticked_turns ms line (more_above ms (op.Enter k r) line (λ n k h. refl) (λ k t. refl) (λ at l. l) (call_above ms line r))
 
   pub unwritten_turns : (ms : List Mark) (line r : ℕ) → Turns ms (CallsBehind code ms r line)
   unwritten_turns ms line r = record {
@@ -174,9 +208,22 @@ module _ (code : Laid) (table : List RoutineCode) (test turn : ℕ) (o : Op) whe
   place_turns ms line s (Some a) =
       both_turns ms (spot_turns ms line s) (both_turns ms (onward_turns ms op.Counted line (λ n k h. refl) (λ k t. refl) (λ at l. l)) (onward_turns ms (op.Index a.length a.size) line (λ n k h. refl) (λ k t. refl) (λ at l. l)))
 
-  called_turns : (ms : List Mark) (line : ℕ) (written : Bool) (r : ℕ) → Turns ms (CalledAt code line ms written r)
-  called_turns ms line true r = both_turns ms (nothing_turns ms) (written_turns ms line r)
-  called_turns ms line false r = unwritten_turns ms line r
+  found_turns : (ms : List Mark) (line : ℕ) (m : Manner) (s : Spot) (a : Option Array) → Turns ms (FoundAt code line m s a)
+  found_turns ms line manner.Plain s a = place_turns ms line s a
+  found_turns ms line (manner.Makes c) s a = place_turns ms line s a
+  found_turns ms line manner.Ends s a = both_turns ms (place_turns ms line s a) (onward_turns ms op.Load line (λ n k h. refl) (λ k t. refl) (λ at l. l))
+
+  made_turns : {B : ℕ → ℕ → Type 0} → (ms : List Mark) (line c r : ℕ) → Turns ms B → Turns ms (Both (One code (op.Make c r) line) (Both (One code (op.BindMade c r) line) B))
+  made_turns ms line c r b =
+      both_turns ms (onward_turns ms (op.Make c r) line (λ n k h. refl) (λ k t. refl) (λ at l. l)) (both_turns ms (onward_turns ms (op.BindMade c r) line (λ n k h. refl) (λ k t. refl) (λ at l. l)) b)
+
+  called_turns : (ms : List Mark) (line : ℕ) (m : Manner) (written : Bool) (r : ℕ) → Turns ms (CalledAt code line ms m written r)
+  called_turns ms line manner.Plain true r = both_turns ms (nothing_turns ms) (written_turns ms line r)
+  called_turns ms line manner.Plain false r = unwritten_turns ms line r
+  called_turns ms line (manner.Makes c) true r = both_turns ms (nothing_turns ms) (made_written_turns ms line c r)
+  called_turns ms line (manner.Makes c) false r = both_turns ms (nothing_turns ms) (made_turns ms line c r (unwritten_turns ms line r))
+  called_turns ms line manner.Ends true r = entered_written_turns ms line DESTRUCTOR r
+  called_turns ms line manner.Ends false r = both_turns ms (onward_turns ms (op.Enter DESTRUCTOR r) line (λ n k h. refl) (λ k t. refl) (λ at l. l)) (unwritten_turns ms line r)
 
   pub call_turns : (ms : List Mark) (line : ℕ) (what : ObjectCall) → Turns ms (CallAt code line what ms)
-  call_turns ms line what = both_turns ms (place_turns ms line what.spot what.array) (called_turns ms line what.written what.routine)
+  call_turns ms line what = both_turns ms (found_turns ms line what.manner what.spot what.array) (called_turns ms line what.manner what.written what.routine)

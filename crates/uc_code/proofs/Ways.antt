@@ -132,6 +132,9 @@ cleans_further : (what : Cleaning) (rest all : List Mark) → routine_in rest �
 cleans_further (cleaning.Call what) rest all r b = record { behind = λ f. let c = b.behind f in omega arith }
 cleans_further cleaning.TakeDown rest all r b = tt
 cleans_further cleaning.Forget rest all r b = tt
+cleans_further cleaning.Leave rest all r b = tt
+cleans_further cleaning.End rest all r b = tt
+cleans_further (cleaning.Free main) rest all r b = tt
 
 pub past_behind : (m : Mark) (all rest now : List Mark) → now ≡ all → Passing all (m ∷ rest) → PastBehind m now
 past_behind (mark.Body routine) all rest now e p = tt

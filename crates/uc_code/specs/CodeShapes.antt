@@ -2,7 +2,7 @@
 -- hold is said by cases on the piece, and these are the parts of which such cases are made.
 use Rattle.std.specs.Prelude.{◌≡◌, ◌≢◌, ℕ, ◌+◌, ◌^◌, ◌≤◌, ◌<◌, List, [], ◌∷◌, true, Some, slice_get, length}
 use Rattle.uc_code.specs.declared.op.Op.{Op}
-use Rattle.uc_code.specs.declared.op.Op.TheVariants.{Jump, IfZero, IfNonzero, Tick, CallUnwritten, Count, Return, EndMain, EndTask, Escape, Handled, Unhandled, Unwind, Poll, Deliver, Discard}
+use Rattle.uc_code.specs.declared.op.Op.TheVariants.{Jump, IfZero, IfNonzero, Tick, CallUnwritten, Count, Return, EndMain, EndTask, Escape, Handled, Unhandled, Unwind, Poll, Deliver, Discard, Leave}
 use Rattle.uc_code.specs.declared.rows.HandlerRow.{HandlerRow}
 use Rattle.uc_code.specs.declared.rows.Handler.{Handler}
 use Rattle.uc_code.specs.declared.rows.RowKind.TheVariants.{CleanUp}
@@ -197,15 +197,15 @@ pub record OverElements (code : Laid) (line : ℕ) (ms : List Mark) (first most 
   pub unwind : Risk code ms Unwind line end z
   pub handler : HandlerAt code row (clean_up entry)
 
--- what follows an object that is built: statements in its scope, its clean-up, and its clean-up once more, for unwinding
-pub record ScopeOf (code : Laid) (line : ℕ) (ms : List Mark) (M : ℕ → Mark) (C : ℕ → ℕ → Type 0) (B : List Mark → ℕ → ℕ → Type 0) (a z : ℕ) : Type 0 where
+-- what follows an object that is built: statements in its scope, its clean-up, and a pad that cleans up where they are unwound
+pub record ScopeOf (code : Laid) (line : ℕ) (ms : List Mark) (M : ℕ → Mark) (C U : ℕ → ℕ → Type 0) (B : List Mark → ℕ → ℕ → Type 0) (a z : ℕ) : Type 0 where
   pub row : ℕ
   pub body_end : ℕ
   pub clean_end : ℕ
   pub body : B (M row ∷ ms) a body_end
   pub clean : C body_end clean_end
   pub leave : OpAt code clean_end (Jump z) line
-  pub unwinds : Both C (Risk code ms Unwind line) (clean_end + 1) z
+  pub unwinds : U (clean_end + 1) z
   pub handler : HandlerAt code row (clean_up (clean_end + 1))
 
 -- what follows a part of an object that is built: the other parts and the body, and behind them its clean-up, for unwinding alone
@@ -225,6 +225,11 @@ pub record PollAt (code : Laid) (ms : List Mark) (line a z : ℕ) : Type 0 where
   pub discard : OpAt code (a + 2) Discard line
   pub again : OpAt code (a + 3) (Jump a) line
   pub end : z ≡ a + 4
+
+-- a mutex call leaves the object at hand, and goes on behind this. A call that is not unwound and has left it is delivered events then
+pub record LeavesAt (code : Laid) (ms : List Mark) (line a z : ℕ) : Type 0 where
+  pub leave : OpAt code a (Leave z) line
+  pub polls : PollAt code ms line (a + 1) z
 
 -- jumps alone lead from a place to another
 pub data Leads (code : Laid) : ℕ → ℕ → Type 0 where

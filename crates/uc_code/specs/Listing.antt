@@ -3,7 +3,7 @@ use Rattle.std.specs.Prelude.{ℕ, ℤ, pos, ◌+◌, List, [], ◌∷◌, ◌++
 use Rattle.std.specs.Fmt.{signed_decimal}
 use Rattle.uc_code.specs.declared.op.Op.{Op}
 use Rattle.uc_tree.specs.ValueForms.{form_number}
-use Rattle.uc_code.specs.declared.op.Op.TheVariants.{Push, Duplicate, Discard, Over, DiscardBelow, Local, Own, This, Via, ViaThis, Field, Counted, Index, Load, Store, Keep, Set, Bind, Clear, Add, Subtract, Multiply, Divide, Remainder, Negate, Not, Equal, NotEqual, Less, AtMost, Greater, AtLeast, ToChar, ToBool, Jump, IfZero, IfNonzero, Count, More, Fill, Sweep, Tick, Call, CallOn, CallUnwritten, Return, ReturnValue, ReturnNone, NoReturn, Enter, Leave, Make, Made, Spawn, Gone, Coroutine, Live, Alive, UnwindCoroutine, Forget, Resume, Suspend, Land, EndMain, EndTask, Escape, Throw, Raise, RaiseAt, RaiseAtCoroutine, Handled, Unhandled, Unwind, Enable, Disable, Restore, Poll, Deliver, Accept, Wait, Signal, SignalBlock, Empty, Front, Print, Text, Hold, Flush, Read, Fail, Yield, Cluster, ClusterEnd, Processor, ProcessorEnd, Migrate}
+use Rattle.uc_code.specs.declared.op.Op.TheVariants.{Push, Duplicate, Discard, Over, DiscardBelow, Local, Own, This, Via, ViaThis, Field, Counted, Index, Load, Store, Keep, Set, Bind, Clear, Add, Subtract, Multiply, Divide, Remainder, Negate, Not, Equal, NotEqual, Less, AtMost, Greater, AtLeast, ToChar, ToBool, Jump, IfZero, IfNonzero, Count, More, Fill, Sweep, Tick, Call, CallOn, CallUnwritten, Return, ReturnValue, ReturnNone, NoReturn, Enter, Leave, Arrive, Make, BindMade, Made, Spawn, Gone, GiveUp, Coroutine, Live, Alive, UnwindCoroutine, Forget, Resume, Suspend, Land, EndMain, EndTask, Escape, Throw, Raise, RaiseAt, RaiseAtCoroutine, Handled, Unhandled, Unwind, Enable, Disable, Restore, Poll, Deliver, Accept, Wait, Signal, SignalBlock, Empty, Front, Print, Text, Hold, Flush, Read, Fail, Yield, Cluster, ClusterEnd, Processor, ProcessorEnd, Migrate}
 use Rattle.uc_code.specs.declared.rows.HandlerRow.{HandlerRow}
 use Rattle.uc_code.specs.declared.rows.RowKind.{RowKind}
 use Rattle.uc_code.specs.declared.rows.RowKind.TheVariants.{Catch, CatchResume, CleanUp}
@@ -62,11 +62,14 @@ word_of ReturnValue = codes "retval"
 word_of ReturnNone = codes "retnone"
 word_of NoReturn = codes "noret"
 word_of (Enter _ _) = codes "enter"
-word_of Leave = codes "out"
-word_of (Make _) = codes "make"
+word_of (Leave _) = codes "leave"
+word_of (Arrive _) = codes "arrive"
+word_of (Make _ _) = codes "make"
+word_of (BindMade _ _) = codes "bindmade"
 word_of Made = codes "made"
 word_of (Spawn _) = codes "spawn"
 word_of Gone = codes "gone"
+word_of GiveUp = codes "giveup"
 word_of (Coroutine _) = codes "coro"
 word_of Live = codes "live"
 word_of (Alive _) = codes "alive"
@@ -161,11 +164,14 @@ operands_of ReturnValue = []
 operands_of ReturnNone = []
 operands_of NoReturn = []
 operands_of (Enter member routine) = pos member ∷ pos routine ∷ []
-operands_of Leave = []
-operands_of (Make n) = pos n ∷ []
+operands_of (Leave n) = pos n ∷ []
+operands_of (Arrive n) = pos n ∷ []
+operands_of (Make class routine) = pos class ∷ pos routine ∷ []
+operands_of (BindMade class routine) = pos class ∷ pos routine ∷ []
 operands_of Made = []
 operands_of (Spawn n) = pos n ∷ []
 operands_of Gone = []
+operands_of GiveUp = []
 operands_of (Coroutine n) = pos n ∷ []
 operands_of Live = []
 operands_of (Alive n) = pos n ∷ []

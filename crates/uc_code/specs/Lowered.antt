@@ -9,19 +9,22 @@ use Rattle.uc_code.specs.declared.rows.Mark.TheVariants as mark
 use Rattle.uc_code.specs.declared.rows.Spot.{Spot}
 use Rattle.uc_code.specs.declared.rows.Spot.TheVariants as spot
 use Rattle.uc_code.specs.declared.rows.Array.{Array as ArrayOf}
+use Rattle.uc_code.specs.declared.rows.Manner.{Manner}
+use Rattle.uc_code.specs.declared.rows.Manner.TheVariants as manner
 use Rattle.uc_code.specs.declared.rows.ObjectCall.{ObjectCall}
 use Rattle.uc_code.specs.declared.rows.Cleaning.{Cleaning}
 use Rattle.uc_code.specs.declared.rows.Cleaning.TheVariants as cleaning
 use Rattle.uc_code.specs.declared.rows.MainOf.TheVariants as main_of
 use Rattle.uc_code.specs.declared.rows.RoutineCode.{RoutineCode}
 use Rattle.uc_code.specs.Codes.{Code}
+use Rattle.uc_tree.specs.declared.limits.TheConstants.{DESTRUCTOR}
 use Rattle.uc_tree.specs.Hidden.{EVENT_FIELDS}
 use Rattle.uc_code.specs.declared.rows.Handler.{Handler}
 use Rattle.uc_code.specs.declared.rows.RowKind.{RowKind}
 use Rattle.uc_code.specs.declared.rows.RowKind.TheVariants as kind
 use Rattle.uc_code.specs.declared.rows.TheConstants.{ANY_EVENT}
 use Rattle.uc_code.specs.Layout.{Laid, laid_of, handlers}
-use Rattle.uc_code.specs.CodeShapes.{Nothing, Never, One, Risk, CallsBehind, Both, Fork, Turns, WholeAt, main_end, MainAt, Guarded, HandledAt, ApartAt, OverElements, ScopeOf, BehindPart, PollAt}
+use Rattle.uc_code.specs.CodeShapes.{OpAt, Nothing, Never, One, Risk, CallsBehind, Both, Fork, Turns, WholeAt, main_end, MainAt, Guarded, HandledAt, ApartAt, OverElements, ScopeOf, BehindPart, PollAt, LeavesAt}
 use Rattle.uc_code.specs.ObjectCalls.{Calls, Cleans}
 use Rattle.uc_code.specs.Silent.{silent_all}
 
@@ -123,9 +126,15 @@ module _ (code : Laid) (line : ℕ) where
     ObjectAt ms (CallLive r e es) = Both (ExprAt ms e) (Both (ArgumentsAt ms es) (Both (Is op.Tick) (Both (Is (op.Alive r)) (Risk code ms (op.CallOn r) line))))
     ObjectAt ms (CallUnwritten r e) = Both (ExprAt ms e) (CallsBehind code ms r line)
     ObjectAt ms (Bind p e) = Both (ExprAt ms p) (Both (ExprAt ms e) (Is op.Bind))
-    ObjectAt ms (EnterOn m r e es) = Never
-    ObjectAt ms (EndOn r written e) = Never
-    ObjectAt ms (MakeOn c r written e es) = Never
+    -- a mutex object is entered before the call, and made before it
+    ObjectAt ms (EnterOn m r e es) =
+        Both (ExprAt ms e) (Both (ArgumentsAt ms es) (Both (Is op.Tick) (Both (Is (op.Enter m r)) (Risk code ms (op.CallOn r) line))))
+    ObjectAt ms (EndOn r false e) = Both (ExprAt ms e) (Both (Is (op.Enter DESTRUCTOR r)) (CallsBehind code ms r line))
+    ObjectAt ms (EndOn r true e) = Both (ExprAt ms e) (Both (Is op.Tick) (Both (Is (op.Enter DESTRUCTOR r)) (Risk code ms (op.CallOn r) line)))
+    ObjectAt ms (MakeOn c r false e es) =
+        Both (ExprAt ms e) (Both (ArgumentsAt ms es) (Both (Is (op.Make c r)) (Both (Is (op.BindMade c r)) (CallsBehind code ms r line))))
+    ObjectAt ms (MakeOn c r true e es) =
+        Both (ExprAt ms e) (Both (ArgumentsAt ms es) (Both (Is op.Tick) (Both (Is (op.Make c r)) (Both (Is (op.BindMade c r)) (Risk code ms (op.CallOn r) line)))))
     ObjectAt ms NewCluster = Never
     ObjectAt ms (NewProcessor e) = Never
     ObjectAt ms (EndCluster e) = Never
@@ -209,13 +218,23 @@ module _ (code : Laid) (line : ℕ) where
   SpotAt s None = Is (spot_op s)
   SpotAt s (Some a) = Both (Is (spot_op s)) (Both (Is op.Counted) (Is (op.Index a.length a.size)))
 
-  -- a written routine is called behind a tick, without arguments
-  abbrev pub CalledAt : List Mark → Bool → ℕ → ℕ → ℕ → Type 0
-  CalledAt ms true r = Both Nothing (Both (Is op.Tick) (Risk code ms (op.CallOn r) line))
-  CalledAt ms false r = CallsBehind code ms r line
+  -- of a mutex object that is destroyed its number stands there
+  abbrev pub FoundAt : Manner → Spot → Option ArrayOf → ℕ → ℕ → Type 0
+  FoundAt manner.Plain s o = SpotAt s o
+  FoundAt (manner.Makes c) s o = SpotAt s o
+  FoundAt manner.Ends s o = Both (SpotAt s o) (Is op.Load)
+
+  -- a written routine is called behind a tick, without arguments; a mutex object is made or entered before
+  abbrev pub CalledAt : List Mark → Manner → Bool → ℕ → ℕ → ℕ → Type 0
+  CalledAt ms manner.Plain true r = Both Nothing (Both (Is op.Tick) (Risk code ms (op.CallOn r) line))
+  CalledAt ms manner.Plain false r = CallsBehind code ms r line
+  CalledAt ms (manner.Makes c) true r = Both Nothing (Both (Is op.Tick) (Both (Is (op.Make c r)) (Both (Is (op.BindMade c r)) (Risk code ms (op.CallOn r) line))))
+  CalledAt ms (manner.Makes c) false r = Both Nothing (Both (Is (op.Make c r)) (Both (Is (op.BindMade c r)) (CallsBehind code ms r line)))
+  CalledAt ms manner.Ends true r = Both (Is op.Tick) (Both (Is (op.Enter DESTRUCTOR r)) (Risk code ms (op.CallOn r) line))
+  CalledAt ms manner.Ends false r = Both (Is (op.Enter DESTRUCTOR r)) (CallsBehind code ms r line)
 
   abbrev pub CallAt : ObjectCall → List Mark → ℕ → ℕ → Type 0
-  CallAt what ms = Both (SpotAt what.spot what.array) (CalledAt ms what.written what.routine)
+  CallAt what ms = Both (FoundAt what.manner what.spot what.array) (CalledAt ms what.manner what.written what.routine)
 
   -- such a call, whose value goes; and before one more element stands
   abbrev pub CallDone : ObjectCall → List Mark → ℕ → ℕ → Type 0
@@ -234,6 +253,11 @@ module _ (code : Laid) (line : ℕ) where
   CleanAt (cleaning.Call what) ms = CleanBy what.array what ms
   CleanAt cleaning.TakeDown ms = Is op.UnwindCoroutine
   CleanAt cleaning.Forget ms = Is op.Forget
+  -- the running call leaves its mutex object, its destruction ends, its building ends
+  CleanAt cleaning.Leave ms = LeavesAt code ms line
+  CleanAt cleaning.End ms = Is op.Gone
+  CleanAt (cleaning.Free None) ms = Is op.Made
+  CleanAt (cleaning.Free (Some r)) ms = Is (op.Spawn r)
 
   -- the elements of an array are built, the first one first
   pub record FilledAt (ms : List Mark) (n : ℕ) (b d : Expr) (a z : ℕ) : Type 0 where
@@ -242,18 +266,6 @@ module _ (code : Laid) (line : ℕ) where
     pub builds : Calls b builder
     pub destroys : Calls d destroyer
     pub filled : OverElements code line ms 0 n (op.Fill n) op.Sweep (CallBuilt builder) (CallDone destroyer) a z
-
-  -- what follows in the scope of an object
-  pub record ScopedAt (ms : List Mark) (c : CleanUp) (B : List Mark → ℕ → ℕ → Type 0) (a z : ℕ) : Type 0 where
-    pub what : Cleaning
-    pub cleans : Cleans c what
-    pub scope : ScopeOf code line ms (λ row. mark.Clean what line row) (CleanAt what ms) B a z
-
-  -- what follows a part of an object under construction
-  pub record BuiltAt (ms : List Mark) (c : CleanUp) (B : List Mark → ℕ → ℕ → Type 0) (a z : ℕ) : Type 0 where
-    pub what : Cleaning
-    pub cleans : Cleans c what
-    pub part : BehindPart code line ms (λ row. mark.Part row) (CleanAt what ms) B a z
 
 module _ (code : Laid) where
   -- an op of any line
@@ -289,6 +301,35 @@ module _ (code : Laid) where
   ExitAt ToReturn (mark.Outward below row ∷ ms) = One code op.ReturnValue 0
   ExitAt ToEnd (mark.Outward below row ∷ ms) = One code op.ReturnNone 0
 
+  -- the pad of a mutex call: a return of a handler that arrives there is over, and then the call returns what that hands over; else it
+  -- leaves its object, and unwinding goes on
+  pub record ArrivesAt (line : ℕ) (ms : List Mark) (a z : ℕ) : Type 0 where
+    pub arrived : ℕ
+    pub arrives : OpAt code a (op.Arrive arrived) line
+    pub unwinds : Both (LeavesAt code ms line) (Risk code ms op.Unwind line) (a + 1) arrived
+    pub returns : Both (LeavesAt code ms line) (ExitAt ToReturn ms) arrived z
+
+  -- the pad of a scope that is unwound: its clean-up, and unwinding goes on; the building of a mutex object is given up
+  abbrev pub PadAt : ℕ → Cleaning → List Mark → ℕ → ℕ → Type 0
+  PadAt line (cleaning.Call what) ms = Both (CleanAt code line (cleaning.Call what) ms) (Risk code ms op.Unwind line)
+  PadAt line cleaning.TakeDown ms = Both (CleanAt code line cleaning.TakeDown ms) (Risk code ms op.Unwind line)
+  PadAt line cleaning.Forget ms = Both (CleanAt code line cleaning.Forget ms) (Risk code ms op.Unwind line)
+  PadAt line cleaning.Leave ms = ArrivesAt line ms
+  PadAt line cleaning.End ms = Both (CleanAt code line cleaning.End ms) (Risk code ms op.Unwind line)
+  PadAt line (cleaning.Free main) ms = Both (One code op.GiveUp line) (Risk code ms op.Unwind line)
+
+  -- what follows in the scope of an object
+  pub record ScopedAt (line : ℕ) (ms : List Mark) (c : CleanUp) (B : List Mark → ℕ → ℕ → Type 0) (a z : ℕ) : Type 0 where
+    pub what : Cleaning
+    pub cleans : Cleans c what
+    pub scope : ScopeOf code line ms (λ row. mark.Clean what line row) (CleanAt code line what ms) (PadAt line what ms) B a z
+
+  -- what follows a part of an object under construction
+  pub record BuiltAt (line : ℕ) (ms : List Mark) (c : CleanUp) (B : List Mark → ℕ → ℕ → Type 0) (a z : ℕ) : Type 0 where
+    pub what : Cleaning
+    pub cleans : Cleans c what
+    pub part : BehindPart code line ms (λ row. mark.Part row) (CleanAt code line what ms) B a z
+
   -- a handler that catches goes on behind its guarded block, by its pad; one of resumptions ends, and what raised the event goes on
   abbrev pub HandlerBy : Bool → List Mark → ℕ → ℕ → (List Mark → ℕ → ℕ → Type 0) → ℕ → ℕ → Type 0
   HandlerBy false ms pad line B = Both (B ms) (One code (op.Jump pad) line)
@@ -307,7 +348,8 @@ module _ (code : Laid) where
   TaskAt ms (SetUp r) = One code (op.Coroutine r) 0
   TaskAt ms Enliven = One code op.Live 0
   TaskAt ms TakeDown = One code op.UnwindCoroutine 0
-  TaskAt ms (Yield line) = Never
+  -- one that has let others run is delivered events too
+  TaskAt ms (Yield line) = Both (One code op.Yield line) (PollAt code ms line)
   TaskAt ms (Migrate line e) = Never
   TaskAt ms (Accept line site cs) = Never
 
@@ -328,7 +370,7 @@ module _ (code : Laid) where
     StmtAt ms (Continue line) = ExitAt ToContinue ms
     StmtAt ms (Return line None) = ExitAt ToEnd ms
     StmtAt ms (Return line (Some e)) = Both (ExprAt code line ms e) (ExitAt ToReturn ms)
-    StmtAt ms (Owes line) = Never
+    StmtAt ms (Owes line) = One code op.NoReturn line
     StmtAt ms (Fill line n b d) = FilledAt code line ms n b d
     StmtAt ms (OfEvents s) = EventAt ms s
     StmtAt ms (OfTasks s) = TaskAt ms s
@@ -352,8 +394,8 @@ module _ (code : Laid) where
     pub StmtsAt : List Mark → ℕ → Stmts → ℕ → ℕ → Type 0
     StmtsAt ms line Nil = Nothing
     StmtsAt ms line (Then s ss) = Both (StmtAt ms s) (StmtsAt ms line ss)
-    StmtsAt ms line (Scoped c ss) = ScopedAt code line ms c (λ ns. StmtsAt ns line ss)
-    StmtsAt ms line (Built c ss) = BuiltAt code line ms c (λ ns. StmtsAt ns line ss)
+    StmtsAt ms line (Scoped c ss) = ScopedAt line ms c (λ ns. StmtsAt ns line ss)
+    StmtsAt ms line (Built c ss) = BuiltAt line ms c (λ ns. StmtsAt ns line ss)
 
   -- the statements of the routine of this number, whose block has this line, and what is done behind them. What builds and destroys
   -- the fields of an object has no line.
@@ -370,6 +412,7 @@ module _ (code : Laid) where
     pub entry : begins.entry ≡ a
     pub cells : begins.cells ≡ routine.cells
     pub params : begins.params ≡ routine.params
+    pub written : begins.written ≡ routine.written
     pub body : BodyAt routine.purpose (max number last) routine.line routine.body a z
 
   -- routines, from this number on, one after another

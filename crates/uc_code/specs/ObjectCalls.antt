@@ -1,9 +1,10 @@
 -- Calls of constructors and destructors without arguments, and clean-ups, as the resolved tree has them and as marks do.
-use Rattle.std.specs.Prelude.{◌≡◌, ℕ, Option, Some, None, true, false}
-use Rattle.uc_tree.specs.Source.{Shape, shape_cells, field_cells, Expr, Variable, Element, OfObject, OwnField, Counted, CallOn, CallUnwritten, NoExprs, CleanUp, Destroys, DestroysAll, Unwinds, Forgets}
+use Rattle.std.specs.Prelude.{◌≡◌, ℕ, Option, Some, None, Bool, true, false}
+use Rattle.uc_tree.specs.Source.{Shape, shape_cells, field_cells, Expr, Variable, Element, Load, OfObject, OwnField, Counted, CallOn, CallUnwritten, MakeOn, EndOn, NoExprs, CleanUp, Destroys, DestroysAll, Unwinds, Forgets, Leaves, Ends, Frees}
 use Rattle.uc_code.specs.declared.rows.Spot.{Spot}
 use Rattle.uc_code.specs.declared.rows.Spot.TheVariants.{Local, This}
 use Rattle.uc_code.specs.declared.rows.Array.{Array}
+use Rattle.uc_code.specs.declared.rows.Manner.TheVariants.{Plain, Makes, Ends as EndsIt}
 use Rattle.uc_code.specs.declared.rows.ObjectCall.{ObjectCall}
 use Rattle.uc_code.specs.declared.rows.Cleaning.{Cleaning}
 use Rattle.uc_code.specs.declared.rows.Cleaning.TheVariants as cleaning
@@ -18,14 +19,19 @@ pub data LiesAt : Expr → Spot → Option Array → Type 0 where
   Whole : (e : Expr) (spot : Spot) → BeginsAt e spot → LiesAt e spot None
   Part : (n : ℕ) (s : Shape) (e : Expr) (spot : Spot) → BeginsAt e spot → LiesAt (Element n s e (OfObject Counted)) spot (Some (record { length = n; size = shape_cells s }))
 
--- the call of a routine there, written or not
+-- the call of a routine there, written or not; a mutex object is made there, and the one whose number stands there is destroyed
 pub data Calls : Expr → ObjectCall → Type 0 where
-  Written : (r : ℕ) (e : Expr) (spot : Spot) (array : Option Array) → LiesAt e spot array → Calls (OfObject (CallOn r e NoExprs)) (record { spot = spot; array = array; routine = r; written = true })
-  Unwritten : (r : ℕ) (e : Expr) (spot : Spot) (array : Option Array) → LiesAt e spot array → Calls (OfObject (CallUnwritten r e)) (record { spot = spot; array = array; routine = r; written = false })
+  Written : (r : ℕ) (e : Expr) (spot : Spot) (array : Option Array) → LiesAt e spot array → Calls (OfObject (CallOn r e NoExprs)) (record { spot = spot; array = array; routine = r; written = true; manner = Plain })
+  Unwritten : (r : ℕ) (e : Expr) (spot : Spot) (array : Option Array) → LiesAt e spot array → Calls (OfObject (CallUnwritten r e)) (record { spot = spot; array = array; routine = r; written = false; manner = Plain })
+  MakesMutex : (c r : ℕ) (written : Bool) (e : Expr) (spot : Spot) (array : Option Array) → LiesAt e spot array → Calls (OfObject (MakeOn c r written e NoExprs)) (record { spot = spot; array = array; routine = r; written = written; manner = Makes c })
+  EndsMutex : (r : ℕ) (written : Bool) (e : Expr) (spot : Spot) (array : Option Array) → LiesAt e spot array → Calls (OfObject (EndOn r written (Load e))) (record { spot = spot; array = array; routine = r; written = written; manner = EndsIt })
 
--- the call that cleans up an object, or each element of an array of this length; and what cleans up a coroutine
+-- the call that cleans up an object, or each element of an array of this length; what cleans up a coroutine, and a mutex object
 pub data Cleans : CleanUp → Cleaning → Type 0 where
   One : (e : Expr) (what : ObjectCall) → Calls e what → what.array ≡ None → Cleans (Destroys e) (cleaning.Call what)
   All : (n size : ℕ) (e : Expr) (what : ObjectCall) → Calls e what → what.array ≡ Some (record { length = n; size = size }) → Cleans (DestroysAll n e) (cleaning.Call what)
   TakesDown : Cleans Unwinds cleaning.TakeDown
   IsForgotten : Cleans Forgets cleaning.Forget
+  Left : Cleans Leaves cleaning.Leave
+  Ended : Cleans Ends cleaning.End
+  Freed : (main : Option ℕ) → Cleans (Frees main) (cleaning.Free main)

@@ -137,6 +137,9 @@ abbrev pub CleansBehind : List Mark → Cleaning → Type 0
 CleansBehind ms (cleaning.Call what) = StandsBehind ms what
 CleansBehind ms cleaning.TakeDown = Unit {0}
 CleansBehind ms cleaning.Forget = Unit {0}
+CleansBehind ms cleaning.Leave = Unit {0}
+CleansBehind ms cleaning.End = Unit {0}
+CleansBehind ms (cleaning.Free main) = Unit {0}
 
 -- so it is for what cleans up the objects in whose scope these marks stand
 abbrev pub OpensBehind : Opening → List Mark → Type 0
@@ -284,7 +287,7 @@ seen_at (mark.Outward below row) bound = seen.Bound (min bound below)
 -- how many ops clean-ups and exits take
 
 abbrev pub clean_room : ℕ
-clean_room = 17
+clean_room = 23
 
 abbrev pub exit_room : List Mark → ℕ
 exit_room [] = 1

@@ -1,18 +1,22 @@
 // The code of clean-ups and of exits.
 
-ghost use Rattle.std.specs.Prelude.{◌≡◌, ◌+◌, ◌≤◌, ◌<◌, true, Some, length, OnOk};
+ghost use Rattle.std.specs.Prelude.{◌≡◌, ◌+◌, ◌≤◌, ◌<◌, true, false, Some, length, OnOk};
 ghost use Rattle.uc_tree.specs.declared.limits.TheConstants.{PROGRAM_OPS};
 ghost use Rattle.uc_code.specs.Exits.{way_of};
-ghost use Rattle.uc_code.specs.CodeShapes.{One, Risk};
+ghost use Rattle.uc_code.specs.CodeShapes.{LeavesAt, One, Risk};
 ghost use Rattle.uc_code.specs.declared.rows.Cleaning.TheVariants as cleaning;
-ghost use Rattle.uc_code.specs.Lowered.{spot_op, SpotAt, CalledAt, CallAt, CallDone, CleanBy, CleanAt, ExitAt};
+ghost use Rattle.uc_code.specs.declared.rows.Manner.TheVariants as manner;
+ghost use Rattle.uc_code.specs.Lowered.{spot_op, SpotAt, FoundAt, CalledAt, CallAt, CallDone, CleanBy, CleanAt, ExitAt};
+ghost use Rattle.uc_code.specs.Layout.{routine_in};
 ghost use Rattle.uc_code.specs.OpenRows.{StandsBehind, CleansBehind, clean_room, exit_room};
 ghost use Rattle.uc_code.specs.Emits.{Puts, PutsLeft, PastBehind, PutsPast, past_room, done_length, call_length, clean_length, end_op, ends_at};
 
 use crate::draft::Draft;
 use crate::op::Op;
-use crate::rows::{Array, Cleaning, Mark, ObjectCall, Opening, Spot, Way};
+use crate::raising::put_poll;
+use crate::rows::{Array, Cleaning, Manner, Mark, ObjectCall, Opening, Spot, Way};
 use std::alloc::AllocError;
+use uc_tree::limits::DESTRUCTOR;
 
 // One op.
 pub(crate) fn put(op: Op, line: u32, out: &mut Draft) -> Result<(), AllocError>
@@ -77,47 +81,200 @@ fn put_place(spot: Spot, array: Option<Array>, line: u32, out: &mut Draft) -> Re
     }
 }
 
+// The number of the mutex object that stands there.
+fn put_number(
+    spot: Spot,
+    array: Option<Array>,
+    line: u32,
+    out: &mut Draft,
+) -> Result<(), AllocError>
+    requires { length out.old.ops + 4 ≤ PROGRAM_OPS }
+    ensures { OnOk result (Puts 4 (λ code. FoundAt code line manner.Ends spot array) out.old out.new) }
+{
+    put_place(spot, array, line, out)?;
+    put(Op::Load, line, out)?;
+    Ok(())
+}
+
 // A written routine is called behind a tick.
 fn put_written(routine: u32, line: u32, out: &mut Draft) -> Result<(), AllocError>
     requires { length out.old.ops + 2 ≤ PROGRAM_OPS }
-    ensures { OnOk result (Puts 2 (λ code. CalledAt code line out.old.marks true routine) out.old out.new) }
+    ensures { OnOk result (Puts 2 (λ code. CalledAt code line out.old.marks manner.Plain true routine) out.old out.new) }
 {
     put(Op::Tick, line, out)?;
     put_at_risk(Op::CallOn(routine), line, out)?;
     Ok(())
 }
 
-// The routine is called at the place that is found.
-fn put_called(what: ObjectCall, line: u32, out: &mut Draft) -> Result<(), AllocError>
-    requires room { length out.old.ops + 2 ≤ PROGRAM_OPS }
-    requires behind { StandsBehind out.old.marks what }
-    ensures { OnOk result (Puts 2 (λ code. CalledAt code line out.old.marks what.written what.routine) out.old out.new) }
+// A mutex object is made, and then a written routine builds it.
+fn put_made_written(class: u32, routine: u32, line: u32, out: &mut Draft) -> Result<(), AllocError>
+    requires { length out.old.ops + 4 ≤ PROGRAM_OPS }
+    ensures { OnOk result (Puts 4 (λ code. CalledAt code line out.old.marks (manner.Makes class) true routine) out.old out.new) }
 {
-    if what.written {
-        put_written(what.routine, line, out)?;
+    put(Op::Tick, line, out)?;
+    put(Op::Make { class, routine }, line, out)?;
+    put(Op::BindMade { class, routine }, line, out)?;
+    put_at_risk(Op::CallOn(routine), line, out)?;
+    Ok(())
+}
+
+// So it is, and one that nobody wrote does.
+fn put_made_unwritten(
+    class: u32,
+    routine: u32,
+    line: u32,
+    out: &mut Draft,
+) -> Result<(), AllocError>
+    requires room { length out.old.ops + 3 ≤ PROGRAM_OPS }
+    requires behind { routine_in out.old.marks < routine }
+    ensures { OnOk result (Puts 3 (λ code. CalledAt code line out.old.marks (manner.Makes class) false routine) out.old out.new) }
+{
+    put(Op::Make { class, routine }, line, out)?;
+    put(Op::BindMade { class, routine }, line, out)?;
+    put_at_risk(Op::CallUnwritten(routine), line, out)?;
+    Ok(())
+}
+
+// A mutex object is entered, and then a written routine destroys it.
+fn put_ended_written(routine: u32, line: u32, out: &mut Draft) -> Result<(), AllocError>
+    requires { length out.old.ops + 3 ≤ PROGRAM_OPS }
+    ensures { OnOk result (Puts 3 (λ code. CalledAt code line out.old.marks manner.Ends true routine) out.old out.new) }
+{
+    let enter = Op::Enter {
+        member: DESTRUCTOR,
+        routine,
+    };
+    put(Op::Tick, line, out)?;
+    put(enter, line, out)?;
+    put_at_risk(Op::CallOn(routine), line, out)?;
+    Ok(())
+}
+
+// So it is, and one that nobody wrote does.
+fn put_ended_unwritten(routine: u32, line: u32, out: &mut Draft) -> Result<(), AllocError>
+    requires room { length out.old.ops + 2 ≤ PROGRAM_OPS }
+    requires behind { routine_in out.old.marks < routine }
+    ensures { OnOk result (Puts 2 (λ code. CalledAt code line out.old.marks manner.Ends false routine) out.old out.new) }
+{
+    let enter = Op::Enter {
+        member: DESTRUCTOR,
+        routine,
+    };
+    put(enter, line, out)?;
+    put_at_risk(Op::CallUnwritten(routine), line, out)?;
+    Ok(())
+}
+
+// A routine of a plain object is called.
+fn put_plain(routine: u32, written: bool, line: u32, out: &mut Draft) -> Result<(), AllocError>
+    requires room { length out.old.ops + 2 ≤ PROGRAM_OPS }
+    requires behind { written ≡ false → routine_in out.old.marks < routine }
+    ensures { OnOk result (Puts 2 (λ code. CalledAt code line out.old.marks manner.Plain written routine) out.old out.new) }
+{
+    if written {
+        put_written(routine, line, out)?;
         Ok(())
     } else {
-        put_at_risk(Op::CallUnwritten(what.routine), line, out)?;
+        put_at_risk(Op::CallUnwritten(routine), line, out)?;
         Ok(())
+    }
+}
+
+// A mutex object of the class is made, and its constructor called.
+fn put_made(
+    class: u32,
+    routine: u32,
+    written: bool,
+    line: u32,
+    out: &mut Draft,
+) -> Result<(), AllocError>
+    requires room { length out.old.ops + 4 ≤ PROGRAM_OPS }
+    requires behind { written ≡ false → routine_in out.old.marks < routine }
+    ensures { OnOk result (Puts 4 (λ code. CalledAt code line out.old.marks (manner.Makes class) written routine) out.old out.new) }
+{
+    if written {
+        put_made_written(class, routine, line, out)?;
+        Ok(())
+    } else {
+        put_made_unwritten(class, routine, line, out)?;
+        Ok(())
+    }
+}
+
+// A mutex object is entered, and its destructor called.
+fn put_ended(routine: u32, written: bool, line: u32, out: &mut Draft) -> Result<(), AllocError>
+    requires room { length out.old.ops + 4 ≤ PROGRAM_OPS }
+    requires behind { written ≡ false → routine_in out.old.marks < routine }
+    ensures { OnOk result (Puts 4 (λ code. CalledAt code line out.old.marks manner.Ends written routine) out.old out.new) }
+{
+    if written {
+        put_ended_written(routine, line, out)?;
+        Ok(())
+    } else {
+        put_ended_unwritten(routine, line, out)?;
+        Ok(())
+    }
+}
+
+// The routine is called at the place that is found, at which a mutex object is made or entered.
+fn put_called(what: ObjectCall, line: u32, out: &mut Draft) -> Result<(), AllocError>
+    requires room { length out.old.ops + 4 ≤ PROGRAM_OPS }
+    requires behind { StandsBehind out.old.marks what }
+    ensures { OnOk result (Puts 4 (λ code. CalledAt code line out.old.marks what.manner what.written what.routine) out.old out.new) }
+{
+    match what.manner {
+        Manner::Plain => {
+            put_plain(what.routine, what.written, line, out)?;
+            Ok(())
+        }
+        Manner::Makes { class } => {
+            put_made(class, what.routine, what.written, line, out)?;
+            Ok(())
+        }
+        Manner::Ends => {
+            put_ended(what.routine, what.written, line, out)?;
+            Ok(())
+        }
+    }
+}
+
+// Where the object lies, of one that is destroyed by its number that.
+fn put_found(what: ObjectCall, line: u32, out: &mut Draft) -> Result<(), AllocError>
+    requires { length out.old.ops + 4 ≤ PROGRAM_OPS }
+    ensures { OnOk result (Puts 4 (λ code. FoundAt code line what.manner what.spot what.array) out.old out.new) }
+{
+    match what.manner {
+        Manner::Plain => {
+            put_place(what.spot, what.array, line, out)?;
+            Ok(())
+        }
+        Manner::Makes { .. } => {
+            put_place(what.spot, what.array, line, out)?;
+            Ok(())
+        }
+        Manner::Ends => {
+            put_number(what.spot, what.array, line, out)?;
+            Ok(())
+        }
     }
 }
 
 /// Adds the call of a constructor or a destructor without arguments. After want of memory the draft is spent.
 pub fn put_call(what: ObjectCall, line: u32, out: &mut Draft) -> Result<(), AllocError>
-    requires room { length out.old.ops + 5 ≤ PROGRAM_OPS }
+    requires room { length out.old.ops + 8 ≤ PROGRAM_OPS }
     requires behind { StandsBehind out.old.marks what }
-    ensures { OnOk result (Puts 5 (λ code. CallAt code line what out.old.marks) out.old out.new) }
+    ensures { OnOk result (Puts 8 (λ code. CallAt code line what out.old.marks) out.old out.new) }
 {
-    put_place(what.spot, what.array, line, out)?;
+    put_found(what, line, out)?;
     put_called(what, line, out)?;
     Ok(())
 }
 
 /// Adds such a call and drops its value. After want of memory the draft is spent.
 pub fn put_done(what: ObjectCall, line: u32, out: &mut Draft) -> Result<(), AllocError>
-    requires room { length out.old.ops + 6 ≤ PROGRAM_OPS }
+    requires room { length out.old.ops + 9 ≤ PROGRAM_OPS }
     requires behind { StandsBehind out.old.marks what }
-    ensures { OnOk result (Puts 6 (λ code. CallDone code line what out.old.marks) out.old out.new) }
+    ensures { OnOk result (Puts 9 (λ code. CallDone code line what out.old.marks) out.old out.new) }
 {
     put_call(what, line, out)?;
     put(Op::Discard, line, out)?;
@@ -130,7 +287,8 @@ pub fn done_length(what: ObjectCall) -> u32
 {
     let place = if what.array.is_some() { 3 } else { 1 };
     let called = if what.written { 2 } else { 1 };
-    place + called + 1
+    let more = if what.manner == Manner::Plain { 0 } else { 2 };
+    place + more + called + 1
 }
 
 // How many ops the clean-up of an object, or of all elements of an array, takes.
@@ -149,7 +307,8 @@ pub fn clean_length(what: Cleaning) -> u32
 {
     match what {
         Cleaning::Call(call) => call_length(call),
-        Cleaning::TakeDown | Cleaning::Forget => 1,
+        Cleaning::TakeDown | Cleaning::Forget | Cleaning::End | Cleaning::Free(_) => 1,
+        Cleaning::Leave => 5,
     }
 }
 
@@ -196,6 +355,34 @@ fn put_destroyed(what: ObjectCall, line: u32, out: &mut Draft) -> Result<(), All
     }
 }
 
+// The running mutex call leaves its object, and is delivered events.
+fn put_leave(line: u32, out: &mut Draft) -> Result<(), AllocError>
+    requires { length out.old.ops + 5 ≤ PROGRAM_OPS }
+    ensures { OnOk result (Puts 5 (λ code. LeavesAt code out.old.marks line) out.old out.new) }
+{
+    let behind = out.here() + 5;
+    put(Op::Leave(behind), line, out)?;
+    put_poll(line, out)?;
+    Ok(())
+}
+
+// The building of a mutex object ends: it is free, or begins as a task with this main.
+fn put_freed(main: Option<u32>, line: u32, out: &mut Draft) -> Result<(), AllocError>
+    requires { length out.old.ops < PROGRAM_OPS }
+    ensures { OnOk result (Puts 1 (λ code. CleanAt code line (cleaning.Free main) out.old.marks) out.old out.new) }
+{
+    match main {
+        None => {
+            put(Op::Made, line, out)?;
+            Ok(())
+        }
+        Some(main) => {
+            put(Op::Spawn(main), line, out)?;
+            Ok(())
+        }
+    }
+}
+
 /// Adds the code of a clean-up. After want of memory the draft is spent.
 pub fn put_clean(what: Cleaning, line: u32, out: &mut Draft) -> Result<(), AllocError>
     requires room { length out.old.ops + clean_room ≤ PROGRAM_OPS }
@@ -213,6 +400,18 @@ pub fn put_clean(what: Cleaning, line: u32, out: &mut Draft) -> Result<(), Alloc
         }
         Cleaning::Forget => {
             put(Op::Forget, line, out)?;
+            Ok(())
+        }
+        Cleaning::Leave => {
+            put_leave(line, out)?;
+            Ok(())
+        }
+        Cleaning::End => {
+            put(Op::Gone, line, out)?;
+            Ok(())
+        }
+        Cleaning::Free(main) => {
+            put_freed(main, line, out)?;
             Ok(())
         }
     }

@@ -109,18 +109,28 @@ pub enum Op {
     ReturnNone,
     /// The fault of a routine that ended without a value.
     NoReturn,
-    /// Calls a mutex member: its number and its routine.
+    /// Enters the object below the arguments of the routine, for a mutex call of the member of this number: a task that is inside is one
+    /// deeper and goes on, another asks.
     Enter { member: u8, routine: u32 },
-    /// Ends a call of a mutex member.
-    Leave,
-    /// Makes a mutex object of the class.
-    Make(u32),
-    /// The object at hand is made.
+    /// A mutex call leaves the object at hand: where it is not the last one the task is one less deep and goes on at this op. The last one
+    /// asks; behind one that is unwound the task goes on at this op too.
+    Leave(u32),
+    /// Where a return of a handler unwinds to this mutex call, that is over: what it hands over is the one operand, and the call goes on at
+    /// this op. Else it goes on unwinding.
+    Arrive(u32),
+    /// Asks for a mutex object of the class, which this constructor builds. The answer is pushed, and the object's members come into the
+    /// hand.
+    Make { class: u32, routine: u32 },
+    /// Binds the place below the arguments of the routine to the popped number, which then stands there: an object of the class is made.
+    BindMade { class: u32, routine: u32 },
+    /// The object at hand is built and free.
     Made,
-    /// Makes a task whose main is the routine.
+    /// The object at hand is built, and begins as a task whose main is the routine.
     Spawn(u32),
-    /// The object is no more.
+    /// The mutex call in which the object at hand is destroyed ends, and that is no more.
     Gone,
+    /// The building of the object at hand is given up, and that is no more.
+    GiveUp,
     /// The coroutine at hand gets an execution whose main is the routine.
     Coroutine(u32),
     /// The coroutine at hand is live from now on.
@@ -262,11 +272,14 @@ impl Op {
             Op::ReturnNone => b"retnone",
             Op::NoReturn => b"noret",
             Op::Enter { .. } => b"enter",
-            Op::Leave => b"out",
-            Op::Make(_) => b"make",
+            Op::Leave(_) => b"leave",
+            Op::Arrive(_) => b"arrive",
+            Op::Make { .. } => b"make",
+            Op::BindMade { .. } => b"bindmade",
             Op::Made => b"made",
             Op::Spawn(_) => b"spawn",
             Op::Gone => b"gone",
+            Op::GiveUp => b"giveup",
             Op::Coroutine(_) => b"coro",
             Op::Live => b"live",
             Op::Alive(_) => b"alive",
@@ -366,11 +379,14 @@ impl Op {
             Op::ReturnNone => Operands::Nothing,
             Op::NoReturn => Operands::Nothing,
             Op::Enter { member, routine } => Operands::Two(member as u64, routine as u64),
-            Op::Leave => Operands::Nothing,
-            Op::Make(number) => Operands::One(number as u64),
+            Op::Leave(number) => Operands::One(number as u64),
+            Op::Arrive(number) => Operands::One(number as u64),
+            Op::Make { class, routine } => Operands::Two(class as u64, routine as u64),
+            Op::BindMade { class, routine } => Operands::Two(class as u64, routine as u64),
             Op::Made => Operands::Nothing,
             Op::Spawn(number) => Operands::One(number as u64),
             Op::Gone => Operands::Nothing,
+            Op::GiveUp => Operands::Nothing,
             Op::Coroutine(number) => Operands::One(number as u64),
             Op::Live => Operands::Nothing,
             Op::Alive(number) => Operands::One(number as u64),

@@ -83,23 +83,37 @@ pub struct Array {
     pub size: u32,
 }
 
+/// How a constructor or a destructor is called: as that of a plain object or a coroutine; as the constructor of a mutex object of this
+/// class, which is made; or as the destructor of the mutex object whose number the place holds, which it enters.
+#[derive(Clone, Copy, PartialEq, Eq, Debug)]
+pub enum Manner {
+    Plain,
+    Makes { class: u32 },
+    Ends,
+}
+
 /// A call of a constructor or a destructor without arguments, at the object that begins in a spot, or at the element that is
-/// counted of an array that begins there: the number of the routine, and whether it is written.
+/// counted of an array that begins there: the number of the routine, whether it is written, and how it is called.
 #[derive(Clone, Copy, PartialEq, Eq, Debug)]
 pub struct ObjectCall {
     pub spot: Spot,
     pub array: Option<Array>,
     pub routine: u32,
     pub written: bool,
+    pub manner: Manner,
 }
 
 /// What cleans up: the call of a destructor; or, of the coroutine that is built or destroyed, that it is unwound, and that its
-/// execution is no more.
+/// execution is no more; or, of a mutex object, that its running call leaves it, that its destruction ends, and that its building ends: it
+/// is free then, or begins as a task with the main of this number, and where it is unwound it is given up.
 #[derive(Clone, Copy, PartialEq, Eq, Debug)]
 pub enum Cleaning {
     Call(ObjectCall),
     TakeDown,
     Forget,
+    Leave,
+    End,
+    Free(Option<u32>),
 }
 
 /// Whose main a routine is: that of a task or that of a coroutine.
@@ -211,10 +225,12 @@ pub enum Way {
     End,
 }
 
-/// Where the code of a routine begins, the cells of its frame, and how many of them, from the first on, hold its parameters.
+/// Where the code of a routine begins, the cells of its frame, how many of them, from the first on, hold its parameters, and whether it is
+/// written: only then a call of it is an active one.
 #[derive(Clone, Copy, PartialEq, Eq, Debug)]
 pub struct RoutineCode {
     pub entry: u32,
     pub cells: u32,
     pub params: u32,
+    pub written: bool,
 }

@@ -1,30 +1,46 @@
 -- The ends of blocks and mains that are unwound are those of the source.
 use Rattle.std.proofs.Common.{◌≡◌, ℕ, ◌+◌, List, [], ◌∷◌, length, Bool, true, false, Option, Some, None, refl, sym, ap, subst, ◌∙◌}
-use Rattle.uc_tree.specs.Source.{Source}
+use Rattle.uc_tree.specs.Source.{Source, ToReturn, Leaves}
 use Rattle.uc_machine.specs.declared.exec.Reason.{Reason}
 use Rattle.uc_machine.specs.declared.exec.Reason.TheVariants as reason
 use Rattle.uc_machine.specs.Executions.{calmed, returned}
 use Rattle.uc_machine.specs.Quiet as quiet
 use Rattle.uc_machine.specs.Quiet.{Finish, State, Goes, stay, more, nought, quiet as step}
-use Rattle.uc_machine.specs.Pieces.{Unwind}
+use Rattle.uc_machine.specs.Pieces.{Unwind, LeaveNow, Exit}
 use Rattle.uc_machine.specs.Monitors.{unless_held_up}
 use Rattle.uc_machine.specs.Insides.{is_held_up}
 use Rattle.uc_entry.specs.declared.fault.RunFault.TheVariants.{BlockedInside}
-use Rattle.std.specs.Prelude.{if◌then◌else◌}
-use Rattle.uc_machine.specs.Raising.{arrives, whole_left, main_left, unwind_past}
+use Rattle.std.specs.Prelude.{if◌then◌else◌, slice_get}
+use Rattle.uc_machine.specs.Raising.{arrives, whole_left, scope_left, main_left, unwind_past}
+use Rattle.uc_code.specs.declared.op.Op.TheVariants as op
+use Rattle.uc_code.specs.declared.rows.Instruction.{Instruction}
 use Rattle.uc_code.specs.declared.rows.MainOf.TheVariants as main_of
 use Rattle.uc_code.specs.Layout.{Laid}
+use Rattle.uc_code.specs.CodeShapes.{OpAt, Arrived}
 use Rattle.uc_frames.specs.Machine.{Active, Machine}
 use Rattle.uc_frames.specs.Machine as machine
-use Rattle.uc_frames.specs.StandsByParts.{Lined}
-use Rattle.uc_frames.specs.Stands.{CallerStands, Stands}
+use Rattle.uc_frames.specs.Objects.{arrived_at}
+use Rattle.uc_frames.specs.StandsByParts.{Lined, Numbered, MembersStand}
+use Rattle.uc_frames.specs.Stands.{FollowsAt, RunStands, CallerStands, Stands}
 use Rattle.uc_frames.specs.Calls.{left}
+use Rattle.uc_frames.proofs.Cleaned.{goes_on}
 use Rattle.uc_frames.proofs.Finishes.{main_line}
 use Rattle.uc_frames.proofs.Insides.{own_held_up_both}
-use Rattle.uc_frames.specs.UnwindingStands.{TestsBlock, EndsMain, Unwinds}
+use Rattle.uc_frames.specs.UnwindingStands.{TestsBlock, TestsCall, EndsMain, Unwinds}
 use Rattle.uc_coroutine.specs.declared.testing.TaskMainEnd.{TaskMainEnd}
-use Rattle.uc_coroutine.specs.MainEnds.{block_over, ended_by, returned_by, main_by, main_over, BlockLeft, MainLeft}
+use Rattle.uc_coroutine.specs.UnwindingSteps.{Leads}
+use Rattle.uc_coroutine.specs.MainEnds.{block_over, call_over, ended_by, returned_by, main_by, main_over, BlockLeft, MainLeft}
 use Rattle.uc_coroutine.proofs.Lefts.{same_count, handed_on, env_left}
+
+-- two ops at one place
+same_arrival : (a b x y : ℕ) (o : Option Instruction) → o ≡ Some (record { op = op.Arrive a; line = x }) → o ≡ Some (record { op = op.Arrive b; line = y }) → a ≡ b
+same_arrival a b x y o e f =
+    let i : Instruction = record { op = op.Arrive a; line = x } in
+    let j : Instruction = record { op = op.Arrive b; line = y } in
+    let g : Some i ≡ Some j = sym e ∙ f in
+    let h : i ≡ j = cc in
+    let k : op.Arrive a ≡ op.Arrive b = ap (λ (z : Instruction). z.op) h in
+    cc
 
 module _ (source : Source) (code : Laid) (old new : Machine) (s : State) where
   module _ (h : TestsBlock code old s) where
@@ -67,6 +83,66 @@ module _ (source : Source) (code : Laid) (old new : Machine) (s : State) where
         let f : b ≡ arrives s.run.raised (length s.callers) = e ∙ (ap (λ o. arrives o (length old.callers)) r ∙ ap (arrives s.run.raised) n) in
         block_by b (past_is ∙ ap (λ c. whole_left c h.run.rest s) (sym f)) (q ∙ ap (λ j. block_over b j old) k)
 
+  module _ (h : TestsCall code old s) where
+    scope_is : step source s ≡ scope_left Leaves (arrives s.run.raised (length s.callers)) h.run.rest s
+    scope_is = ap (λ todo. quiet.act_todo source todo s) h.run.todo ∙ ap (λ x. unwind_past x h.run.rest s) h.run.leaves
+
+    -- where a return arrives, the call leaves its object and returns what that hands over
+    arrived_follows : FollowsAt code (LeaveNow ∷ (Exit ToReturn ∷ h.run.rest)) h.run.marks h.run.pad.arrived
+    arrived_follows =
+        let p = h.run.pad.returns in
+        record {
+          from = h.run.pad.arrived;
+          to = p.middle;
+          leads = Arrived h.run.pad.arrived;
+          piece = p.first;
+          on = record { from = p.middle; to = h.run.at; leads = Arrived p.middle; piece = record { end = h.run.back; exit = p.second }; on = h.run.follows };
+        }
+
+    -- else it leaves its object, and unwinding goes on
+    left_follows : FollowsAt code (LeaveNow ∷ (Unwind ∷ h.run.rest)) h.run.marks (old.run.control + 1)
+    left_follows =
+        let p = h.run.pad.unwinds in
+        record {
+          from = old.run.control + 1;
+          to = p.middle;
+          leads = Arrived (old.run.control + 1);
+          piece = p.first;
+          on = goes_on code h.run.rest h.run.marks p.middle p.middle h.run.pad.arrived h.run.at (Arrived p.middle) p.second h.run.follows;
+        }
+
+    call_by : (b : Bool) → step source s ≡ scope_left Leaves b h.run.rest s → new ≡ call_over b h.run.pad.arrived (old.run.control + 1) old → Leads source code (Stands code) new s
+    call_by true w q =
+        let t : State = record s { run = record (calmed (LeaveNow ∷ (Exit ToReturn ∷ h.run.rest)) s.run) { operands = s.run.result ∷ [] } } in
+        record {
+          after = t;
+          by = more w stay;
+          stands = subst (λ (m : Machine). Stands code m t) (sym q) (record {
+            run = record { marks = h.run.marks; follows = arrived_follows; is = ap (λ (a : Active). arrived_at h.run.pad.arrived a) h.run.is };
+            callers = h.callers;
+            env = h.env;
+          });
+        }
+    call_by false w q =
+        let t : State = record s { run = record s.run { control = LeaveNow ∷ (Unwind ∷ h.run.rest); operands = [] } } in
+        record {
+          after = t;
+          by = more w stay;
+          stands = subst (λ (m : Machine). Stands code m t) (sym q) (record {
+            run = record { marks = h.run.marks; follows = left_follows; is = ap (λ (a : Active). let b : Active = record a { control = old.run.control + 1 } in b) h.run.is };
+            callers = h.callers;
+            env = h.env;
+          });
+        }
+
+    pub call_left : (b : Bool) (arrived behind line : ℕ) → OpAt code old.run.control (op.Arrive arrived) line → behind ≡ old.run.control + 1 → b ≡ arrives old.run.raised (length old.callers) → new ≡ call_over b arrived behind old → Leads source code (Stands code) new s
+    call_left b arrived behind line o k e q =
+        let r : old.run.raised ≡ s.run.raised = ap (λ (a : Active). a.raised) h.run.is in
+        let n : length old.callers ≡ length s.callers = same_count code old.callers s.callers h.callers in
+        let f : b ≡ arrives s.run.raised (length s.callers) = e ∙ (ap (λ x. arrives x (length old.callers)) r ∙ ap (arrives s.run.raised) n) in
+        let to : arrived ≡ h.run.pad.arrived = same_arrival arrived h.run.pad.arrived _ _ (slice_get code.ops old.run.control) o.here h.run.pad.arrives.here in
+        call_by b (scope_is ∙ ap (λ c. scope_left Leaves c h.run.rest s) (sym f)) (q ∙ (ap (λ j. call_over b j behind old) to ∙ ap (λ j. call_over b h.run.pad.arrived j old) k))
+
   module _ (h : EndsMain code main_of.Task old s) where
     main_is : step source s ≡ main_left s.run.raised h.run.rest s
     main_is = ap (λ todo. quiet.act_todo source todo s) h.run.todo ∙ ap (λ x. unwind_past x h.run.rest s) h.run.main
@@ -83,7 +159,14 @@ module _ (source : Source) (code : Laid) (old new : Machine) (s : State) where
     held_if b e = finish_is ∙ ap (λ x. if x then quiet.fault BlockedInside h.run.rest [] calm else quiet.return_step nought s.callers calm) e
 
     ended : (ms : List Active) (cs : List quiet.Active) → old.callers ≡ ms → s.callers ≡ cs → Lined (CallerStands code) ms cs → step source s ≡ Goes calm → step source calm ≡ quiet.return_step nought s.callers calm → new ≡ main_over (ended_by ms) old → MainLeft source code (ended_by ms) new s
-    ended [] [] i j l w v q = record { before = calm; after = calm; by = more w stay; line = sym (main_line code main_of.Task old s h); asks = v ∙ ap (λ cs. quiet.return_step nought cs calm) j }
+    ended [] [] i j l w v q = record {
+      before = calm;
+      after = calm;
+      by = more w stay;
+      line = sym (main_line code main_of.Task old s h);
+      asks = v ∙ ap (λ cs. quiet.return_step nought cs calm) j;
+      hand = subst (λ (m : Machine). Numbered (MembersStand (RunStands code) (CallerStands code) machine.cell_of) m.env.hand s.env.hand) (sym q) h.env.hand;
+    }
     ended [] (c ∷ cs) i j l w v q = absurd l
     ended (m ∷ ms) [] i j l w v q = absurd l
     ended (m ∷ ms) (c ∷ cs) i j l w v q =

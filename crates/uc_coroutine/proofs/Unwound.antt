@@ -18,8 +18,8 @@ use Rattle.uc_frames.specs.Machine.{Active, Machine}
 use Rattle.uc_frames.specs.Searches.{catches, cleans, row_takes, is_named, is_found, first_in, stops, stops_at, first_stop, catcher_in}
 use Rattle.uc_frames.specs.Stands.{image, Stands}
 use Rattle.uc_frames.specs.Unwinding.{cleaning}
-use Rattle.uc_frames.specs.UnwindingStands.{Unwinds, TestsBlock, EndsMain, LeavesNow}
-use Rattle.uc_frames.specs.UnwindingOutcomes.{event_by, st, CleansUp, Catches, Leaves, Comes, ToEnd, ToCleanUp, ToBlock, ToMain, ToHandler}
+use Rattle.uc_frames.specs.UnwindingStands.{Unwinds, TestsBlock, TestsCall, EndsMain, LeavesNow}
+use Rattle.uc_frames.specs.UnwindingOutcomes.{event_by, st, CleansUp, Catches, Leaves, Comes, ToEnd, ToCleanUp, ToBlock, ToCall, ToMain, ToHandler}
 use Rattle.uc_frames.specs.UnwindingOutcomes as comes_to
 use Rattle.uc_frames.proofs.Coming.{comes}
 use Rattle.uc_coroutine.specs.Unwinding.{point_in, cleaned_by, passed_on, step_by, step_of, Made}
@@ -194,11 +194,36 @@ module _ (code : Laid) where
           });
         }))
 
+    calls : (n : ℕ) → comes_to.TestsCall source code s.run s.callers s.env r n s → new ≡ cleaned_by (slice_get code.rows n) old → Begins source code new s
+    calls n c q =
+        let e : new ≡ record old { run = cleaning c.entry old.run } = q ∙ cleaned_now n c.entry c.handler in
+        let t : State = record s { run = record s.run { control = Unwind ∷ (c.call ∷ c.rest); operands = c.operands } } in
+        inr (inr (inl (record {
+          after = t;
+          by = c.by;
+          stands = subst (λ (m : Machine). TestsCall code m t) (sym e) (record {
+            run = record {
+              call = c.call;
+              leaves = c.leaves;
+              rest = c.rest;
+              todo = refl;
+              marks = c.marks;
+              back = c.back;
+              pad = c.pad;
+              at = c.at;
+              follows = c.follows;
+              is = cleaned c.entry (Unwind ∷ (c.call ∷ c.rest));
+            };
+            callers = h.callers;
+            env = h.env;
+          });
+        })))
+
     ends : (n : ℕ) (whose : MainOf) → comes_to.EndsMain source code s.run s.callers s.env r whose n s → new ≡ cleaned_by (slice_get code.rows n) old → Begins source code new s
     ends n whose c q =
         let e : new ≡ record old { run = cleaning c.entry old.run } = q ∙ cleaned_now n c.entry c.handler in
         let t : State = record s { run = record s.run { control = Unwind ∷ (c.finish ∷ c.rest); operands = c.operands } } in
-        inr (inr (
+        inr (inr (inr (
           whose,
           record {
             after = t;
@@ -209,7 +234,7 @@ module _ (code : Laid) where
               env = h.env;
             });
           },
-        ))
+        )))
 
     leaves : Leaves source code s.run s.callers s.env r s → new ≡ old → Leads source code (LeavesNow code) new s
     leaves c q =
@@ -267,6 +292,9 @@ module _ (code : Laid) where
       by_comes (Some n) t i e m (ToBlock _ _ c) =
           let d = begins_by n c.entry c.handler e m in
           subst (λ x. UnwoundTo source code x row new s) (sym d.0) (tests n (subst (comes_to.TestsBlock source code s.run s.callers s.env r n) i c) d.1)
+      by_comes (Some n) t i e m (ToCall _ _ c) =
+          let d = begins_by n c.entry c.handler e m in
+          subst (λ x. UnwoundTo source code x row new s) (sym d.0) (calls n (subst (comes_to.TestsCall source code s.run s.callers s.env r n) i c) d.1)
       by_comes (Some n) t i e m (ToMain whose _ _ c) =
           let d = begins_by n c.entry c.handler e m in
           subst (λ x. UnwoundTo source code x row new s) (sym d.0) (ends n whose (subst (comes_to.EndsMain source code s.run s.callers s.env r whose n) i c) d.1)

@@ -9,9 +9,11 @@ use Rattle.uc_entry.specs.declared.request.Request.TheVariants as ask
 use Rattle.uc_machine.specs.Executions.{calmed}
 use Rattle.uc_machine.specs.Quiet.{State, Asks, quiet, Quietly, line_of}
 use Rattle.uc_code.specs.Layout.{Laid}
-use Rattle.uc_frames.specs.Machine.{Active, Machine, nought}
+use Rattle.uc_frames.specs.Objects.{arrived_at}
+use Rattle.uc_frames.specs.Machine.{Active, Machine, cell_of, nought}
 use Rattle.uc_frames.specs.Calls.{left}
-use Rattle.uc_frames.specs.Stands.{Stands}
+use Rattle.uc_frames.specs.StandsByParts.{Numbered, MembersStand}
+use Rattle.uc_frames.specs.Stands.{RunStands, CallerStands, Stands}
 use Rattle.uc_frames.specs.UnwindingStands.{Unwinds}
 use Rattle.uc_coroutine.specs.declared.testing.TaskMainEnd.{TaskMainEnd}
 use Rattle.uc_coroutine.specs.declared.testing.TaskMainEnd.TheVariants.{Ended, Returned, Unhandled, HeldUp}
@@ -22,6 +24,11 @@ use Rattle.uc_coroutine.specs.Switching.{AsksFault}
 abbrev pub block_over : Bool → ℕ → Machine → Machine
 block_over true behind m = record m { run = calmed behind m.run }
 block_over false behind m = record m { run = record m.run { control = behind } }
+
+-- a mutex call that a return of a handler reaches goes on at the first of these ops, another is cleaned up from the second on
+abbrev pub call_over : Bool → ℕ → ℕ → Machine → Machine
+call_over true arrived behind m = record m { run = arrived_at arrived m.run }
+call_over false arrived behind m = record m { run = record m.run { control = behind } }
 
 abbrev pub is_return : Option Reason → Bool
 is_return (Some (reason.ReturnTo home)) = true
@@ -51,20 +58,21 @@ module _ (source : Source) (code : Laid) where
   BlockLeft true m s = GoesTo source code (Stands code) m s
   BlockLeft false m s = GoesTo source code (Unwinds code) m s
 
-  -- it asks this, behind some quiet steps, in the same line
-  pub record AsksEnd (s : State) : Type 0 where
+  -- it asks this, behind some quiet steps, in the same line, and what it has in hand stands
+  pub record AsksEnd (m : Machine) (s : State) : Type 0 where
     pub before : State
     pub after : State
     pub by : Quietly source s before
     pub line : line_of before ≡ line_of s
     pub asks : quiet source before ≡ Asks ask.End after
+    pub hand : Numbered (MembersStand (RunStands code) (CallerStands code) cell_of) m.env.hand after.env.hand
 
   pub record AsksUnhandled (s : State) : Type 0 where
     pub after : State
     pub asks : quiet source s ≡ Asks (ask.Fault (fault_number fault.Unhandled)) after
 
   abbrev pub MainLeft : TaskMainEnd → Machine → State → Type 0
-  MainLeft Ended m s = AsksEnd s
+  MainLeft Ended m s = AsksEnd m s
   MainLeft Returned m s = Leads source code (Stands code) m s
   MainLeft Unhandled m s = AsksUnhandled s
   MainLeft HeldUp m s = AsksFault source code fault.BlockedInside s

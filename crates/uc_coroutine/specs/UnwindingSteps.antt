@@ -11,7 +11,7 @@ use Rattle.uc_code.specs.Layout.{Laid, chain}
 use Rattle.uc_frames.specs.Machine.{Machine}
 use Rattle.uc_frames.specs.Searches.{catcher_in}
 use Rattle.uc_frames.specs.Stands.{Stands}
-use Rattle.uc_frames.specs.UnwindingStands.{Unwinds, TestsBlock, EndsMain, LeavesNow}
+use Rattle.uc_frames.specs.UnwindingStands.{Unwinds, TestsBlock, TestsCall, EndsMain, LeavesNow}
 use Rattle.uc_frames.specs.UnwindingOutcomes.{event_by, Catches}
 use Rattle.uc_coroutine.specs.declared.leaving.Left.{Left}
 use Rattle.uc_coroutine.specs.declared.leaving.Left.TheVariants.{Ended, Returned, Escaped, PassedOn}
@@ -38,9 +38,9 @@ module _ (source : Source) (code : Laid) where
   abbrev pub LeavesMain : Machine → State → Type 0
   LeavesMain m s = (whose : MainOf) × Leads (EndsMain code whose) m s
 
-  -- a clean-up begins, or the op comes that tests whether the unwinding of a block is over, or that ends a main
+  -- a clean-up begins, or the op comes that tests whether the unwinding of a block or of a mutex call is over, or that ends a main
   abbrev pub Begins : Machine → State → Type 0
-  Begins m s = Leads (Stands code) m s ⊎ (Leads (TestsBlock code) m s ⊎ LeavesMain m s)
+  Begins m s = Leads (Stands code) m s ⊎ (Leads (TestsBlock code) m s ⊎ (Leads (TestsCall code) m s ⊎ LeavesMain m s))
 
   abbrev pub UnwoundTo : Bool → Option ℕ → Machine → State → Type 0
   UnwoundTo true row m s = Begins m s

@@ -1,14 +1,18 @@
 // The ends of blocks and mains that are unwound.
 
-ghost use Rattle.std.specs.Prelude.{◌≡◌, ◌+◌, length, IfOk, OnErr};
+ghost use Rattle.std.specs.Prelude.{◌≡◌, ◌+◌, ℕ, length, IfOk, OnOk, OnErr};
 ghost use Rattle.uc_tree.specs.Source.{Source};
 ghost use Rattle.uc_machine.specs.Insides.{is_held_up};
 ghost use Rattle.uc_machine.specs.Quiet.{State};
 ghost use Rattle.uc_machine.specs.Raising.{arrives as arrives_by};
 ghost use Rattle.uc_code.specs.Layout.{Laid};
 ghost use Rattle.uc_code.specs.declared.rows.MainOf.TheVariants as main_of;
-ghost use Rattle.uc_frames.specs.UnwindingStands.{TestsBlock, EndsMain};
-ghost use Rattle.uc_coroutine.specs.MainEnds.{is_return as is_return_by, block_over, main_by, main_over, BlockLeft, MainLeft};
+ghost use Rattle.uc_frames.specs.UnwindingStands.{TestsBlock, TestsCall, EndsMain};
+ghost use Rattle.uc_frames.specs.Stands.{Stands};
+ghost use Rattle.uc_code.specs.declared.op.Op.TheVariants as op;
+ghost use Rattle.uc_code.specs.CodeShapes.{OpAt};
+ghost use Rattle.uc_coroutine.specs.UnwindingSteps.{Leads};
+ghost use Rattle.uc_coroutine.specs.MainEnds.{is_return as is_return_by, block_over, call_over, main_by, main_over, BlockLeft, MainLeft};
 
 use crate::leaving::arrives;
 use std::alloc::AllocError;
@@ -48,6 +52,21 @@ fn end_at(work: &mut Work, behind: u32) -> bool
         work.go(behind);
         false
     }
+}
+
+/// A mutex call that has `arrive` as its next op is unwound: where a return arrives that is over, and the call goes on at `arrived` with what
+/// the return hands over; else its clean-up begins at `unwound`. Without memory for it the task stays as it is.
+pub fn end_call(work: &mut Work, arrived: u32, unwound: u32) -> Result<(), AllocError>
+    ensures now { OnOk result (work.new ≡ call_over (arrives_by work.old.run.raised (length work.old.callers)) arrived unwound work.old) }
+    ensures err { OnErr result (work.new ≡ work.old) }
+    ensures source { OnOk result ((source : Source) (code : Laid) (s : State) → TestsCall code work.old s → (line : ℕ) → OpAt code work.old.run.control (op.Arrive arrived) line → unwound ≡ work.old.run.control + 1 → Leads source code (Stands code) work.new s) }
+{
+    if arrives(work) {
+        work.arrive(arrived)?;
+        return Ok(());
+    }
+    work.go(unwound);
+    Ok(())
 }
 
 /// The main of a task that is unwound ends where the reason is a return. Where it is the last activation, an event is not handled, or the task is

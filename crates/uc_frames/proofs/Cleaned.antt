@@ -1,9 +1,9 @@
 -- Clean-ups that an unwinding does.
-use Rattle.std.proofs.Common.{◌≡◌, ℕ, ◌+◌, List, [], ◌∷◌, Option, Some, None, Bool, true, refl, subst}
+use Rattle.std.proofs.Common.{◌≡◌, ℕ, ◌+◌, List, [], ◌∷◌, ◌⊎◌, inl, inr, Option, Some, None, Bool, true, refl, subst}
 use Rattle.std.specs.Prelude.{slice_get}
-use Rattle.uc_tree.specs.Source.{CleanUp}
+use Rattle.uc_tree.specs.Source.{CleanUp, Leaves}
 use Rattle.uc_machine.specs.Quiet.{Todo, State, own_line, clean_todo, goes}
-use Rattle.uc_machine.specs.Pieces.{Unwind}
+use Rattle.uc_machine.specs.Pieces.{Unwind, GiveUpNow}
 use Rattle.uc_machine.specs.Raising.{scope_left}
 use Rattle.uc_code.specs.declared.op.Op.TheVariants as op
 use Rattle.uc_code.specs.declared.rows.Mark.{Mark}
@@ -11,8 +11,8 @@ use Rattle.uc_code.specs.declared.rows.Mark.TheVariants as mark
 use Rattle.uc_code.specs.declared.rows.Cleaning.{Cleaning}
 use Rattle.uc_code.specs.Layout.{Laid}
 use Rattle.uc_code.specs.CodeShapes.{Risk, HandlerAt, clean_up, OverElements, Leads, Arrived, Jumped}
-use Rattle.uc_code.specs.ObjectCalls.{Cleans, One as CleansOne, All, TakesDown, IsForgotten}
-use Rattle.uc_code.specs.Lowered.{CallDone, CleanBy, CleanAt}
+use Rattle.uc_code.specs.ObjectCalls.{Cleans, One as CleansOne, All, TakesDown, IsForgotten, Left, Ended, Freed}
+use Rattle.uc_code.specs.Lowered.{CallDone, CleanBy, CleanAt, ArrivesAt, PadAt}
 use Rattle.uc_code.proofs.Called.{called}
 use Rattle.uc_frames.specs.Searches.{stops_at}
 use Rattle.uc_frames.specs.Stands.{FollowsAt}
@@ -26,13 +26,6 @@ module _ (code : Laid) where
   -- behind it the unwinding goes on
   pub goes_on : (ps : List Todo) (ms : List Mark) (pc at back end : ℕ) → Leads code pc at → Risk code ms op.Unwind (own_line ps) at back → FollowsAt code ps ms end → FollowsAt code (Unwind ∷ ps) ms pc
   goes_on ps ms pc at back end l r f = record { from = at; to = end; leads = l; piece = record { end = back; unwinds = r }; on = f }
-
-  -- so it is where a scope is left, whether a return arrives or not
-  pub scope_cleans : (c : CleanUp) (what : Cleaning) → Cleans c what → (arrived : Bool) (todo : List Todo) (s : State) → scope_left c arrived todo s ≡ goes (clean_todo c (Unwind ∷ todo)) [] s
-  scope_cleans _ _ (CleansOne e what k n) arrived todo s = refl
-  scope_cleans _ _ (All n size e what k q) arrived todo s = refl
-  scope_cleans _ _ TakesDown arrived todo s = refl
-  scope_cleans _ _ IsForgotten arrived todo s = refl
 
   -- the code of a clean-up does it
   pub record Begins (todo : List Todo) (pc : ℕ) : Type 0 where
@@ -93,3 +86,41 @@ module _ (code : Laid) where
       record { marks = ms; follows = record { from = a; to = m; leads = Arrived a; piece = record { line = own_line ps; one = h }; on = goes_on ps ms m m back end (Arrived m) r f } }
   begins_clean c _ IsForgotten ps ms a m back end h r f =
       record { marks = ms; follows = record { from = a; to = m; leads = Arrived a; piece = record { line = own_line ps; one = h }; on = goes_on ps ms m m back end (Arrived m) r f } }
+  begins_clean c _ Left ps ms a m back end h r f =
+      record { marks = ms; follows = record { from = a; to = m; leads = Arrived a; piece = h; on = goes_on ps ms m m back end (Arrived m) r f } }
+  begins_clean c _ Ended ps ms a m back end h r f =
+      record { marks = ms; follows = record { from = a; to = m; leads = Arrived a; piece = h; on = goes_on ps ms m m back end (Arrived m) r f } }
+  begins_clean c _ (Freed None) ps ms a m back end h r f =
+      record { marks = ms; follows = record { from = a; to = m; leads = Arrived a; piece = h; on = goes_on ps ms m m back end (Arrived m) r f } }
+  begins_clean c _ (Freed (Some k)) ps ms a m back end h r f =
+      record { marks = ms; follows = record { from = a; to = m; leads = Arrived a; piece = h; on = goes_on ps ms m m back end (Arrived m) r f } }
+
+  -- a scope that is unwound is cleaned up by its pad, whether a return arrives or not
+  pub record CleansFirst (c : CleanUp) (ps : List Todo) (pc : ℕ) : Type 0 where
+    pub todo : List Todo
+    pub left : (arrived : Bool) (s : State) → scope_left c arrived ps s ≡ goes todo [] s
+    pub begins : Begins todo pc
+
+  -- but a mutex call, where a return may arrive
+  pub record TestsFirst (c : CleanUp) (ps : List Todo) (ms : List Mark) (pc back : ℕ) : Type 0 where
+    pub is : c ≡ Leaves
+    pub pad : ArrivesAt code (own_line ps) ms pc back
+
+  pub pads : (c : CleanUp) (what : Cleaning) → Cleans c what → (ps : List Todo) (ms : List Mark) (a back end : ℕ) → PadAt code (own_line ps) what ms a back → FollowsAt code ps ms end → TestsFirst c ps ms a back ⊎ CleansFirst c ps a
+  pads c _ (CleansOne e what k n) ps ms a back end h f =
+      inr (record { todo = clean_todo c (Unwind ∷ ps); left = λ arrived s. refl; begins = begins_clean c _ (CleansOne e what k n) ps ms a h.middle back end h.first h.second f })
+  pads c _ (All n size e what k q) ps ms a back end h f =
+      inr (record { todo = clean_todo c (Unwind ∷ ps); left = λ arrived s. refl; begins = begins_clean c _ (All n size e what k q) ps ms a h.middle back end h.first h.second f })
+  pads c _ TakesDown ps ms a back end h f =
+      inr (record { todo = clean_todo c (Unwind ∷ ps); left = λ arrived s. refl; begins = begins_clean c _ TakesDown ps ms a h.middle back end h.first h.second f })
+  pads c _ IsForgotten ps ms a back end h f =
+      inr (record { todo = clean_todo c (Unwind ∷ ps); left = λ arrived s. refl; begins = begins_clean c _ IsForgotten ps ms a h.middle back end h.first h.second f })
+  pads c _ Left ps ms a back end h f = inl (record { is = refl; pad = h })
+  pads c _ Ended ps ms a back end h f =
+      inr (record { todo = clean_todo c (Unwind ∷ ps); left = λ arrived s. refl; begins = begins_clean c _ Ended ps ms a h.middle back end h.first h.second f })
+  pads c _ (Freed main) ps ms a back end h f =
+      inr (record {
+        todo = GiveUpNow ∷ (Unwind ∷ ps);
+        left = λ arrived s. refl;
+        begins = record { marks = ms; follows = record { from = a; to = h.middle; leads = Arrived a; piece = h.first; on = goes_on ps ms h.middle h.middle back end (Arrived h.middle) h.second f } };
+      })

@@ -1,8 +1,8 @@
 -- An unwinding of one activation comes to what the rows say.
-use Rattle.std.proofs.Common.{◌≡◌, ℕ, List, [], ◌∷◌, ◌++◌, length, Bool, true, false, Option, Some, None, refl, sym, ap, subst, ◌∙◌, arith}
+use Rattle.std.proofs.Common.{◌≡◌, ℕ, List, [], ◌∷◌, ◌++◌, ◌⊎◌, inl, inr, length, Bool, true, false, Option, Some, None, refl, sym, ap, subst, ◌∙◌, arith}
 use Rattle.std.specs.Prelude.{nat_lt, if◌then◌else◌, slice_get}
 use Rattle.std.proofs.lemmas.Bool.{le-ltb}
-use Rattle.uc_tree.specs.Source.{Source, Expr, Handlers}
+use Rattle.uc_tree.specs.Source.{Source, Expr, CleanUp, Handlers}
 use Rattle.uc_machine.specs.declared.exec.Reason.{Reason}
 use Rattle.uc_machine.specs.declared.exec.Reason.TheVariants as reason
 use Rattle.uc_machine.specs.Quiet.{Todo, Sweep, Value, Active, Env, State, Goes, Sort, Simple, IsLoop, IsWhole, IsClean, IsFill, IsSweep, IsPart, IsGuard, IsFinish, IsFinishCoroutine, sort, own_line, clean_todo, quiet, stay, more}
@@ -20,10 +20,10 @@ use Rattle.uc_code.specs.CodeShapes.{Risk, HandlerAt, clean_up, Arrived}
 use Rattle.uc_code.specs.Lowered.{handler_rows}
 use Rattle.uc_frames.specs.declared.search.Sought.TheVariants as sought
 use Rattle.uc_frames.specs.Searches.{stops_at, first_stop, first_in}
-use Rattle.uc_frames.specs.Stands.{finish_sort, PieceAt, IsLast, OfRoutine, OfHandler, AtWhole, AtFinish, AtTest, AtGuard, FollowsBy, FollowsAt}
+use Rattle.uc_frames.specs.Stands.{finish_sort, PieceAt, IsLast, OfRoutine, OfHandler, AtWhole, AtClean, AtFinish, AtTest, AtGuard, FollowsBy, FollowsAt}
 use Rattle.uc_frames.proofs.Guards.{numbers, guards_rows, Choice, chosen_in, stops_in, none_stops, follows_caught}
-use Rattle.uc_frames.proofs.Cleaned.{clean_stops, goes_on, Begins, begins_clean, scope_cleans}
-use Rattle.uc_frames.specs.UnwindingOutcomes.{event_by, st, CleansUp, TestsBlock, EndsMain, Catches, Comes, ToEnd, ToCleanUp, ToBlock, ToMain, ToHandler}
+use Rattle.uc_frames.proofs.Cleaned.{clean_stops, goes_on, Begins, begins_clean, CleansFirst, TestsFirst, pads}
+use Rattle.uc_frames.specs.UnwindingOutcomes.{event_by, st, CleansUp, TestsBlock, TestsCall, EndsMain, Catches, Comes, ToEnd, ToCleanUp, ToBlock, ToCall, ToMain, ToHandler}
 
 under_none : (ns : List ℕ) → under 0 ns ≡ []
 under_none [] = refl
@@ -67,6 +67,9 @@ module _ (source : Source) (code : Laid) (a : Active) (cs : List Active) (env : 
   block_before : (row : ℕ) (s t : State) → quiet source s ≡ Goes t → TestsBlock source code a cs env r row t → TestsBlock source code a cs env r row s
   block_before row s t e h = record { entry = h.entry; handler = h.handler; block = h.block; whole = h.whole; rest = h.rest; marks = h.marks; tests = h.tests; follows = h.follows; operands = h.operands; by = more e h.by }
 
+  call_before : (row : ℕ) (s t : State) → quiet source s ≡ Goes t → TestsCall source code a cs env r row t → TestsCall source code a cs env r row s
+  call_before row s t e h = record { entry = h.entry; handler = h.handler; call = h.call; leaves = h.leaves; rest = h.rest; marks = h.marks; back = h.back; pad = h.pad; at = h.at; follows = h.follows; operands = h.operands; by = more e h.by }
+
   main_before : (whose : MainOf) (row : ℕ) (s t : State) → quiet source s ≡ Goes t → EndsMain source code a cs env r whose row t → EndsMain source code a cs env r whose row s
   main_before whose row s t e h = record { entry = h.entry; handler = h.handler; finish = h.finish; main = h.main; rest = h.rest; ends = h.ends; operands = h.operands; by = more e h.by }
 
@@ -77,6 +80,7 @@ module _ (source : Source) (code : Laid) (a : Active) (cs : List Active) (env : 
   before o s t e (ToEnd _ h) = ToEnd s (record { operands = h.operands; by = more e h.by })
   before o s t e (ToCleanUp row _ h) = ToCleanUp row s (clean_before row s t e h)
   before o s t e (ToBlock row _ h) = ToBlock row s (block_before row s t e h)
+  before o s t e (ToCall row _ h) = ToCall row s (call_before row s t e h)
   before o s t e (ToMain whose row _ h) = ToMain whose row s (main_before whose row s t e h)
   before o s t e (ToHandler row _ h) = ToHandler row s (catch_before row s t e h)
 
@@ -167,6 +171,29 @@ module _ (source : Source) (code : Laid) (a : Active) (cs : List Active) (env : 
       subst (λ o. ComesTo o s) (sym (row_stops ms [] f.row f.entry (ap handlers f.pops) f.handler))
       (ToMain whose f.row s (record { entry = f.entry; handler = f.handler; finish = q; main = i; rest = ps; ends = f.unwound; operands = vs; by = stay }))
 
+  -- the end of the scope of an object, of which that of a mutex call is tested first
+  at_scope : (q : Todo) (c : CleanUp) (ps : List Todo) (ms : List Mark) (k : ℕ) (vs : List Value) → sort q ≡ IsClean c → (f : AtClean code (own_line ps) c (FollowsAt code ps) ms k) → TestsFirst code c ps f.outer f.entry f.back ⊎ CleansFirst code c ps f.entry → ComesTo (first_stop ev code.rows (handlers ms)) (at vs (Unwind ∷ (q ∷ ps)))
+  at_scope q c ps ms k vs i f (inl d) =
+      let s : State = at vs (Unwind ∷ (q ∷ ps)) in
+      subst (λ o. ComesTo o s) (sym (row_stops ms (handlers f.outer) f.row f.entry (ap handlers f.pops) f.handler))
+      (ToCall f.row s (record {
+        entry = f.entry;
+        handler = f.handler;
+        call = q;
+        leaves = i ∙ ap IsClean d.is;
+        rest = ps;
+        marks = f.outer;
+        back = f.back;
+        pad = d.pad;
+        at = f.to;
+        follows = f.on;
+        operands = vs;
+        by = stay;
+      }))
+  at_scope q c ps ms k vs i f (inr d) =
+      at_clean ms (handlers f.outer) f.row f.entry (at vs (Unwind ∷ (q ∷ ps))) d.todo (ap handlers f.pops) f.handler d.begins
+      (rw i (d.left (arrives r (length cs)) (at vs (Unwind ∷ (q ∷ ps)))))
+
   -- elements are destroyed
   at_elements : (q : Todo) (back : ℕ → Op) (T : ObjectCall → List Mark → ℕ → ℕ → Type 0) (e d : Expr) (ps : List Todo) (ms : List Mark) (k : ℕ) (vs : List Value) → AtTest code (own_line ps) back T e d (FollowsAt code ps) ms k → quiet source (at vs (Unwind ∷ (q ∷ ps))) ≡ Goes (at [] (Sweep d ∷ (Unwind ∷ ps))) → ComesTo (first_stop ev code.rows (handlers ms)) (at vs (Unwind ∷ (q ∷ ps)))
   at_elements q back T e d ps ms k vs f w =
@@ -203,10 +230,7 @@ module _ (source : Source) (code : Laid) (a : Active) (cs : List Active) (env : 
       subst (λ ns. ComesTo (first_stop ev code.rows ns) (at vs (Unwind ∷ (q ∷ ps)))) (sym (ap handlers f.pops))
       (before _ (at vs (Unwind ∷ (q ∷ ps))) (at [] (Unwind ∷ ps)) (rw (← i) refl) (ih f.outer f.end [] f.on))
   comes_by q IsWhole P ps i ih ms k vs f = at_block q ps ms k vs (sym i) f
-  comes_by q (IsClean c) P ps i ih ms k vs f =
-      at_clean ms (handlers f.outer) f.row f.entry (at vs (Unwind ∷ (q ∷ ps))) (clean_todo c (Unwind ∷ ps)) (ap handlers f.pops) f.handler
-      (begins_clean code c f.what f.cleans ps f.outer f.entry f.unwinds.middle f.back f.to f.unwinds.first f.unwinds.second f.on)
-      (rw (← i) (scope_cleans code c f.what f.cleans (arrives r (length cs)) ps (at vs (Unwind ∷ (q ∷ ps)))))
+  comes_by q (IsClean c) P ps i ih ms k vs f = at_scope q c ps ms k vs (sym i) f (pads code c f.what f.cleans ps f.outer f.entry f.back f.to f.unwinds f.on)
   comes_by q (IsFill n b d) P ps i ih ms k vs f = at_elements q _ _ b d ps ms k vs f (rw (← i) refl)
   comes_by q (IsSweep e) P ps i ih ms k vs f = at_elements q _ _ e e ps ms k vs f (rw (← i) refl)
   comes_by q (IsPart c) P ps i ih ms k vs f =

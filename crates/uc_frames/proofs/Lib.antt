@@ -2,7 +2,9 @@ pub mod Ascending
 pub mod Changes
 pub mod Cleaned
 pub mod Coming
+pub mod Counted
 pub mod Depths
+pub mod Entered
 pub mod Finishes
 pub mod Guards
 pub mod Idling

@@ -1,8 +1,10 @@
 -- The newest operands: those that a call takes, and those that it leaves.
 use Rattle.std.proofs.Common.{◌≡◌, ℕ, zero, suc, ◌+◌, ◌-◌, ◌<◌, List, [], ◌∷◌, ◌++◌, length, take, drop, replicate, reverse, refl, sym, ap, ◌∙◌, arith, inl, inr, get_or}
 use Rattle.std.proofs.lemmas.Bool.{cases_lt}
-use Rattle.std.proofs.lemmas.List.{append_assoc, reverse-append, reverse-reverse, length-reverse, length-drop, take-append-drop, drop_at, drop_all, take_all, take_more}
-use Rattle.std.proofs.lemmas.Grind.{common_steps}
+use Rattle.std.proofs.lemmas.List.{append_assoc, reverse-append, reverse-reverse, length-reverse, length-drop, take-append-drop, drop_at, drop_all, take_all, take_more, set-append_left}
+use Rattle.std.proofs.lemmas.Grind.{common_steps, reverse_onto}
+use Rattle.std.proofs.Math.Seq.{set-append_seam}
+use Rattle.std.specs.Prelude.{slice_set}
 use Rattle.uc_machine.specs.Executions.{taken}
 use Rattle.uc_frames.specs.declared.cell.Cell.{Cell}
 use Rattle.uc_frames.specs.Machine.{top}
@@ -38,6 +40,16 @@ module _ {X : Type 0} where
         | inr k ↦ behind (reverse xs) n (length xs - n) (omega (arith, l))
       ] in
       sym e ∙ ap (drop (length xs - n)) (reverse-reverse xs)
+
+  -- another in the place of the one below the n newest
+  pub set_below : (xs : List X) (n i : ℕ) (y : X) → i + n + 1 ≡ length xs → reverse (slice_set xs i y) ≡ slice_set (reverse xs) n y
+  set_below [] n i y e = absurd (omega arith)
+  set_below (x ∷ xs) n zero y e =
+      let l : n ≡ length (reverse xs) = omega (arith, length-reverse xs) in
+      reverse_onto xs y [] ∙ rw l (sym (set-append_seam (reverse xs) x [] y)) ∙ ap (λ l. slice_set l n y) (sym (reverse_onto xs x []))
+  set_below (x ∷ xs) n (suc i) y e =
+      let l : n < length (reverse xs) = omega (arith, length-reverse xs) in
+      reverse_onto (slice_set xs i y) x [] ∙ ap (λ l. l ++ x ∷ []) (set_below xs n i y (omega arith)) ∙ sym (set-append_left (reverse xs) (x ∷ []) n y l) ∙ ap (λ l. slice_set l n y) (sym (reverse_onto xs x []))
 
   reversed_more : (y : X) (ys zs : List X) → reverse ys ++ (y ∷ zs) ≡ reverse (y ∷ ys) ++ zs
   reversed_more y ys zs = grind (arith, common_steps)

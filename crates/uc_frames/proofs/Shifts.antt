@@ -197,7 +197,7 @@ module _ (code : Laid) (routines : List RoutineCode) where
   raised_holds : (x y : Ex) → y.callers ≡ x.callers → y.run.control ≡ x.run.control → y.run.handles ≡ x.run.handles → y.run.counts ≡ x.run.counts → HasStopped code routines x → HasStopped code routines y
   raised_holds x y c p e f h = record {
     run = subst (λ us. Holds code routines y.run.control y.run us) (sym c)
-        (subst (λ at. Holds code routines at y.run x.callers) (sym p) (holds_moved code routines x.run.control x.run.control x.run y.run x.callers e f (λ t i. i) h.run));
+        (subst (λ at. Holds code routines at y.run x.callers) (sym p) (holds_moved code routines x.run.control x.run.control x.run y.run x.callers e (λ t i. i) h.run));
     callers = rw c h.callers;
   }
 

@@ -10,3 +10,5 @@ pub mod SwitchStands
 pub mod Unwinding
 pub mod UnwindingStands
 pub mod Weight
+pub mod Objects
+pub mod Engaged

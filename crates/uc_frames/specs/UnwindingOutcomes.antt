@@ -1,9 +1,9 @@
 -- What an unwinding of one activation comes to in the source, by the row that stops it.
 use Rattle.std.specs.Prelude.{◌≡◌, ℕ, ◌+◌, List, [], ◌∷◌, Option, Some, None, false}
-use Rattle.uc_tree.specs.Source.{Source}
+use Rattle.uc_tree.specs.Source.{Source, Leaves as LeavesIt}
 use Rattle.uc_machine.specs.declared.exec.Reason.{Reason}
 use Rattle.uc_machine.specs.declared.exec.Reason.TheVariants as reason
-use Rattle.uc_machine.specs.Quiet.{Todo, Value, Active, Env, State, Quietly, IsWhole, sort, own_line}
+use Rattle.uc_machine.specs.Quiet.{Todo, Value, Active, Env, State, Quietly, IsWhole, IsClean, sort, own_line}
 use Rattle.uc_machine.specs.Pieces.{Unwind}
 use Rattle.uc_machine.specs.Raising.{Event, Handler, handler_todo, operands_of}
 use Rattle.uc_code.specs.declared.rows.MainOf.{MainOf}
@@ -11,7 +11,7 @@ use Rattle.uc_code.specs.declared.rows.Mark.{Mark}
 use Rattle.uc_code.specs.Layout.{Laid}
 use Rattle.uc_code.specs.declared.op.Op.TheVariants as op
 use Rattle.uc_code.specs.CodeShapes.{OpAt, Risk, HandlerAt, clean_up, main_left}
-use Rattle.uc_code.specs.Lowered.{handler_of}
+use Rattle.uc_code.specs.Lowered.{ArrivesAt, handler_of}
 use Rattle.uc_frames.specs.Stands.{finish_sort, FollowsAt}
 
 -- the number of the event by which it is unwound, if it is one
@@ -50,6 +50,21 @@ module _ (source : Source) (code : Laid) (a : Active) (cs : List Active) (env : 
     pub operands : List Value
     pub by : Quietly source s (st operands (Unwind ∷ (block ∷ rest)))
 
+  -- the op that tests whether a return arrives at a mutex call comes
+  pub record TestsCall (row : ℕ) (s : State) : Type 0 where
+    pub entry : ℕ
+    pub handler : HandlerAt code row (clean_up entry)
+    pub call : Todo
+    pub leaves : sort call ≡ IsClean LeavesIt
+    pub rest : List Todo
+    pub marks : List Mark
+    pub back : ℕ
+    pub pad : ArrivesAt code (own_line rest) marks entry back
+    pub at : ℕ
+    pub follows : FollowsAt code rest marks at
+    pub operands : List Value
+    pub by : Quietly source s (st operands (Unwind ∷ (call ∷ rest)))
+
   -- the end of a main that is unwound comes
   pub record EndsMain (whose : MainOf) (row : ℕ) (s : State) : Type 0 where
     pub entry : ℕ
@@ -84,5 +99,6 @@ module _ (source : Source) (code : Laid) (a : Active) (cs : List Active) (env : 
     ToEnd : (s : State) → Leaves s → Comes None s
     ToCleanUp : (row : ℕ) (s : State) → CleansUp row s → Comes (Some row) s
     ToBlock : (row : ℕ) (s : State) → TestsBlock row s → Comes (Some row) s
+    ToCall : (row : ℕ) (s : State) → TestsCall row s → Comes (Some row) s
     ToMain : (whose : MainOf) (row : ℕ) (s : State) → EndsMain whose row s → Comes (Some row) s
     ToHandler : (row : ℕ) (s : State) → Catches row s → Comes (Some row) s

@@ -2,12 +2,14 @@
 use Rattle.std.specs.Prelude.{◌≡◌, ℕ, ◌+◌, List, [], ◌∷◌}
 use Rattle.uc_machine.specs.Raising as raising
 use Rattle.uc_machine.specs.Quiet as quiet
-use Rattle.uc_machine.specs.Quiet.{Todo, DropNow, RaiseNow, ThrowNow, Unwind, IsWhole, sort, State, below, own_line}
+use Rattle.uc_tree.specs.Source.{Leaves}
+use Rattle.uc_machine.specs.Quiet.{Todo, DropNow, RaiseNow, ThrowNow, Unwind, IsWhole, IsClean, sort, State, below, own_line}
 use Rattle.uc_code.specs.declared.rows.Mark.{Mark}
 use Rattle.uc_code.specs.declared.op.Op.TheVariants as op
 use Rattle.uc_code.specs.Layout.{Laid, handlers, chain}
 use Rattle.uc_code.specs.declared.rows.MainOf.{MainOf}
 use Rattle.uc_code.specs.CodeShapes.{OpAt, Risk, main_left}
+use Rattle.uc_code.specs.Lowered.{ArrivesAt}
 use Rattle.uc_frames.specs.declared.event.Event.{Event}
 use Rattle.uc_frames.specs.Machine.{Active, Machine, cell_of}
 use Rattle.uc_frames.specs.StandsByParts.{Lined}
@@ -50,6 +52,19 @@ module _ (code : Laid) where
     pub follows : FollowsAt code rest marks (m.control + 1)
     pub is : m ≡ image m.control (record s { operands = [] })
 
+  -- the next op tests whether a return of a handler arrives at a mutex call that is unwound
+  pub record CallStands (m : Active) (s : quiet.Active) : Type 0 where
+    pub call : Todo
+    pub leaves : sort call ≡ IsClean Leaves
+    pub rest : List Todo
+    pub todo : s.control ≡ Unwind ∷ (call ∷ rest)
+    pub marks : List Mark
+    pub back : ℕ
+    pub pad : ArrivesAt code (own_line rest) marks m.control back
+    pub at : ℕ
+    pub follows : FollowsAt code rest marks at
+    pub is : m ≡ image m.control (record s { operands = [] })
+
   -- the next op ends a main that is unwound
   pub record MainStands (whose : MainOf) (m : Active) (s : quiet.Active) : Type 0 where
     pub finish : Todo
@@ -76,6 +91,9 @@ module _ (code : Laid) where
 
   abbrev pub TestsBlock : Machine → State → Type 0
   TestsBlock = StandsBy BlockStands
+
+  abbrev pub TestsCall : Machine → State → Type 0
+  TestsCall = StandsBy CallStands
 
   abbrev pub EndsMain : MainOf → Machine → State → Type 0
   EndsMain whose = StandsBy (MainStands whose)

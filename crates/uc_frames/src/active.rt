@@ -1,9 +1,10 @@
 // An activation of a routine or a handler.
 
-ghost use Rattle.std.specs.Prelude.{◌≡◌, ◌∷◌, ◌-◌, ◌+◌, ◌≤◌, ◌++◌, [], Some, drop, reverse, OnOk, OnErr, IfOk, replicate, vec_len, vec_capacity};
+ghost use Rattle.std.specs.Prelude.{◌≡◌, ◌∷◌, ◌-◌, ◌+◌, ◌≤◌, ◌++◌, [], Some, drop, reverse, OnOk, OnErr, IfOk, None, false, replicate, slice_set, vec_len, vec_capacity};
 ghost use Rattle.uc_machine.specs.Executions.{begun, taken, calmed};
 ghost use Rattle.uc_frames.specs.Machine.{top, below, nought};
 ghost use Rattle.uc_frames.specs.Calls.{call_frame, waiting};
+ghost use Rattle.uc_frames.specs.Objects.{arrived_at};
 ghost use Rattle.uc_frames.specs.Unwinding.{event_at, unwound_by, cleaning, catching, handler_of, operands_of};
 
 use crate::cell::{Cell, number_in};
@@ -293,6 +294,37 @@ impl Active {
         ensures err { OnErr result (self.new ≡ self.old) }
     {
         put_on_two(&mut self.operands, cell)?;
+        Ok(())
+    }
+
+    /// Another operand below so many of the newest ones, if there is one.
+    pub fn put_below(&mut self, count: u32, cell: Cell)
+        ensures { self.new ≡ record self.old { operands = slice_set self.old.operands count cell } }
+    {
+        let count = count as usize;
+        let length = self.operands.len();
+        if count < length {
+            self.operands[length - 1 - count] = cell;
+        }
+    }
+
+    /// It is no active call any more.
+    pub fn count_no_more(&mut self)
+        ensures { self.new ≡ record self.old { counts = false } }
+    {
+        self.counts = false;
+    }
+
+    /// A return of a handler has arrived at this mutex call: it goes on at this op with what that hands over.
+    pub fn arrive(&mut self, to: u32) -> Result<(), AllocError>
+        ensures ok { OnOk result (self.new ≡ arrived_at to self.old) }
+        ensures err { OnErr result (self.new ≡ self.old) }
+    {
+        self.operands.reserve(1)?;
+        self.operands.clear();
+        self.operands.push_reserved(self.result);
+        self.next = to;
+        self.raised = None;
         Ok(())
     }
 

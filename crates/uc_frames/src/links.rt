@@ -1,6 +1,6 @@
 // What travels with an execution besides its stack.
 
-ghost use Rattle.std.specs.Prelude.{◌≡◌, ◌<◌, ◌+◌, nat_lt, None, Some, true, false};
+ghost use Rattle.std.specs.Prelude.{◌≡◌, ◌<◌, ◌+◌, ◌-◌, ◌^◌, ◌↔◌, IsTrue, nat_lt, None, Some, true, false};
 ghost use Rattle.uc_machine.specs.Executions.{no_links, one_call_more, one_call_less};
 ghost use Rattle.uc_machine.specs.Switches.{fresh_links, woken};
 ghost use Rattle.uc_machine.specs.declared.exec.Stage.TheVariants.{Ended};
@@ -143,6 +143,50 @@ impl Links {
         ensures { result ≡ nat_lt 0 (self.now.mutex_calls + self.now.builds) }
     {
         0 < self.mutex_calls || 0 < self.builds
+    }
+
+    /// Whether one more mutex call can be counted.
+    pub fn may_begin_call(&self) -> bool
+        ensures { IsTrue result ↔ (self.now.mutex_calls < 2 ^ 32 - 1) }
+    {
+        self.mutex_calls < u32::MAX
+    }
+
+    /// A mutex call begins.
+    pub fn begin_call(&mut self)
+        requires { self.old.mutex_calls < 2 ^ 32 - 1 }
+        ensures { self.new ≡ record self.old { mutex_calls = self.old.mutex_calls + 1 } }
+    {
+        self.mutex_calls += 1;
+    }
+
+    /// A mutex call ends.
+    pub fn end_call(&mut self)
+        ensures { self.new ≡ record self.old { mutex_calls = self.old.mutex_calls - 1 } }
+    {
+        self.mutex_calls = self.mutex_calls.saturating_sub(1);
+    }
+
+    /// Whether one more building can be counted.
+    pub fn may_begin_build(&self) -> bool
+        ensures { IsTrue result ↔ (self.now.builds < 2 ^ 32 - 1) }
+    {
+        self.builds < u32::MAX
+    }
+
+    /// The building of a mutex object begins.
+    pub fn begin_build(&mut self)
+        requires { self.old.builds < 2 ^ 32 - 1 }
+        ensures { self.new ≡ record self.old { builds = self.old.builds + 1 } }
+    {
+        self.builds += 1;
+    }
+
+    /// The building of a mutex object ends.
+    pub fn end_build(&mut self)
+        ensures { self.new ≡ record self.old { builds = self.old.builds - 1 } }
+    {
+        self.builds = self.builds.saturating_sub(1);
     }
 
     /// The enabled events, by their numbers as bits.

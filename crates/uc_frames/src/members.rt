@@ -6,6 +6,7 @@ ghost use Rattle.uc_entry.specs.Keyed.{find};
 ghost use Rattle.std.specs.List.{list_any};
 ghost use Rattle.uc_machine.specs.Insides.{is_engaged};
 ghost use Rattle.uc_machine.specs.Switches.{one_more, slot_set, slot_gone, links_changed};
+ghost use Rattle.uc_frames.specs.Engaged.{engaged_in};
 ghost use Rattle.uc_frames.specs.Machine.{nought, cell_written, lively};
 
 use crate::cell::Cell;
@@ -18,22 +19,24 @@ use std::mem;
 use uc_entry::list::List;
 
 /// The fields, how many executions were made here, and those that are left, in the order of their numbers, with nothing for one that runs.
+/// How many of them hold a task up is counted, so that nobody searches them.
 #[derive(Drop)]
 pub struct Members {
     cells: Vec<Cell>,
     serial: u64,
     parked: List<(u64, Option<Parked>)>,
+    engaged: u64,
 }
 
 impl Model for Members {
     ghost use Rattle.uc_frames.specs.Machine.{Members};
-    ghost use Rattle.uc_frames.specs.Numbered.{Ascends};
+    ghost use Rattle.uc_frames.specs.Engaged.{AreLeft};
 
     ghost Value = { Members };
 
     ghost view = { λ m. record { values = m.cells.items; serial = m.serial; parked = m.parked.items } };
 
-    ghost invariant = { λ m. Ascends 0 m.parked.items m.serial };
+    ghost invariant = { λ m. AreLeft m.serial m.engaged m.parked.items };
 }
 
 impl Members {
@@ -46,6 +49,7 @@ impl Members {
             cells,
             serial: 0,
             parked: List::new(alloc),
+            engaged: 0,
         })
     }
 
@@ -60,6 +64,7 @@ impl Members {
             cells: Vec::new(alloc),
             serial: 1,
             parked,
+            engaged: 0,
         })
     }
 
@@ -103,12 +108,7 @@ impl Members {
     pub fn has_engaged(&self) -> bool
         ensures { result ≡ list_any (λ p. is_engaged p.1) self.now.parked }
     {
-        for at in 0..self.parked.len() {
-            if is_engaged(&self.parked.get(at).1) {
-                return true;
-            }
-        }
-        false
+        0 < self.engaged
     }
 
     /// How many executions were made here; so the next one is numbered.
@@ -127,7 +127,9 @@ impl Members {
             return Err(AllocError);
         }
         self.parked.room()?;
-        self.parked.push((self.serial, Some(stack)));
+        let slot = Some(stack);
+        self.engaged += engaged_in(&slot);
+        self.parked.push((self.serial, slot));
         self.serial += 1;
         Ok(())
     }
@@ -140,8 +142,10 @@ impl Members {
         match position_in_order(&self.parked, serial) {
             None => None,
             Some(i) => {
+                let more = engaged_in(&slot);
                 let place = self.parked.get_mut(i);
                 let left = mem::replace(&mut place.1, slot);
+                self.engaged = self.engaged - engaged_in(&left) + more;
                 left
             }
         }
@@ -152,7 +156,8 @@ impl Members {
         ensures { self.new ≡ slot_gone serial self.old }
     {
         if let Some(i) = position_in_order(&self.parked, serial) {
-            let _ = self.parked.take(i);
+            let gone = self.parked.take(i);
+            self.engaged -= engaged_in(&gone.1);
         }
     }
 
@@ -170,11 +175,12 @@ impl Members {
     }
 }
 
-fn is_engaged(slot: &Option<Parked>) -> bool
-    ensures { result ≡ is_engaged slot.now }
+// 1 of an execution that has a mutex call that has not ended, or builds a mutex object; else 0.
+fn engaged_in(slot: &Option<Parked>) -> u64
+    ensures { result ≡ engaged_in slot.now }
 {
     match slot {
-        None => false,
-        Some(stack) => stack.links().is_engaged(),
+        None => 0,
+        Some(stack) => u64::from(stack.links().is_engaged()),
     }
 }

@@ -1,9 +1,10 @@
 // The stack of one execution.
 
-ghost use Rattle.std.specs.Prelude.{◌≡◌, ◌∷◌, ◌++◌, ◌-◌, ◌<◌, [], length, drop, replicate, reverse, nat_lt, None, Some, IfOk, OnOk, OnErr, MatchOption, vec_len, slice_get, slice_index_or, true, false};
+ghost use Rattle.std.specs.Prelude.{◌≡◌, ◌∷◌, ◌++◌, ◌-◌, ◌<◌, [], length, drop, replicate, reverse, nat_lt, None, Some, IfOk, OnOk, OnErr, MatchOption, vec_len, slice_get, slice_index_or, slice_set, ◌+◌, ◌^◌, true, false};
 ghost use Rattle.uc_machine.specs.Executions.{at_depth, list_in, frame_changed, values_cleared, one_call_less, calmed};
 ghost use Rattle.uc_frames.specs.Machine.{nought, top, below, cell_written, first_execution, fresh_execution, lively, line_in, line_at};
 ghost use Rattle.uc_frames.specs.Calls.{stack_left, stack_entered};
+ghost use Rattle.uc_frames.specs.Objects.{arrived_at};
 ghost use Rattle.uc_frames.specs.Unwinding.{IsCaller, event_at, unwound_by, cleaning, catching, stack_passed, stack_handled, stack_delivered};
 ghost use Rattle.std.specs.Option.{is_some};
 ghost use Rattle.uc_machine.specs.Insides.{oldest_enabled};
@@ -544,5 +545,62 @@ fn line_before(code: &Code, next: u32) -> u32
     match code.op(next.saturating_sub(1)) {
         None => 0,
         Some(instruction) => instruction.line,
+    }
+}
+
+impl Stack {
+    /// A mutex call of the execution begins.
+    pub fn begin_call(&mut self)
+        requires { self.old.links.mutex_calls < 2 ^ 32 - 1 }
+        ensures { self.new ≡ record self.old { links = record self.old.links { mutex_calls = self.old.links.mutex_calls + 1 } } }
+    {
+        self.links.begin_call();
+    }
+
+    /// A mutex call of the execution ends.
+    pub fn end_call(&mut self)
+        ensures { self.new ≡ record self.old { links = record self.old.links { mutex_calls = self.old.links.mutex_calls - 1 } } }
+    {
+        self.links.end_call();
+    }
+
+    /// The building of a mutex object begins.
+    pub fn begin_build(&mut self)
+        requires { self.old.links.builds < 2 ^ 32 - 1 }
+        ensures { self.new ≡ record self.old { links = record self.old.links { builds = self.old.links.builds + 1 } } }
+    {
+        self.links.begin_build();
+    }
+
+    /// The building of a mutex object ends.
+    pub fn end_build(&mut self)
+        ensures { self.new ≡ record self.old { links = record self.old.links { builds = self.old.links.builds - 1 } } }
+    {
+        self.links.end_build();
+    }
+
+    /// The running activation is no active call any more.
+    pub fn count_no_more(&mut self)
+        ensures { self.new ≡ record self.old { run = record self.old.run { counts = false }; links = one_call_less self.old.run.counts self.old.links } }
+    {
+        let counts = self.running.counts();
+        self.links.leave(counts);
+        self.running.count_no_more();
+    }
+
+    /// Another operand below so many of the newest ones, if there is one.
+    pub fn put_below(&mut self, count: u32, cell: Cell)
+        ensures { self.new ≡ record self.old { run = record self.old.run { operands = slice_set self.old.run.operands count cell } } }
+    {
+        self.running.put_below(count, cell);
+    }
+
+    /// A return of a handler has arrived at the mutex call: it goes on at this op with what that hands over.
+    pub fn arrive(&mut self, to: u32) -> Result<(), AllocError>
+        ensures ok { OnOk result (self.new ≡ record self.old { run = arrived_at to self.old.run }) }
+        ensures err { OnErr result (self.new ≡ self.old) }
+    {
+        self.running.arrive(to)?;
+        Ok(())
     }
 }

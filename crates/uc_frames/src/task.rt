@@ -1,13 +1,14 @@
 // A task without its hand.
 
-ghost use Rattle.std.specs.Prelude.{◌≡◌, ◌-◌, ◌<◌, ◌∷◌, ◌++◌, [], length, reverse, nat_lt, None, Some, IfOk, OnOk, OnErr, MatchOption, slice_get, slice_index_or, drop, true};
+ghost use Rattle.std.specs.Prelude.{◌≡◌, ◌-◌, ◌<◌, ◌∷◌, ◌++◌, [], length, reverse, nat_lt, None, Some, IfOk, OnOk, OnErr, MatchOption, slice_get, slice_index_or, slice_set, drop, true};
 ghost use Rattle.std.specs.Option.{is_some, option_map};
 ghost use Rattle.uc_machine.specs.Executions.{at_depth, list_in, frame_changed, frames_changed, values_cleared, members_at, slot_in, joined, change, exec_eq, calmed};
 ghost use Rattle.uc_machine.specs.Switches.{born, ended, links_changed, slot_gone, slot_set, spread, stopped};
-ghost use Rattle.uc_machine.specs.Insides.{oldest_enabled};
+ghost use Rattle.uc_machine.specs.Insides.{build_begun, build_ended, call_begun, call_ended, call_gone, counted_no_more, oldest_enabled};
 ghost use Rattle.uc_machine.specs.Quiet.{with_piece};
 ghost use Rattle.uc_frames.specs.Machine.{nought, top, below, cell_written, first_machine, fresh_execution, lively, line_in, line_at};
 ghost use Rattle.uc_frames.specs.Calls.{left, called};
+ghost use Rattle.uc_frames.specs.Objects.{arrived_at};
 ghost use Rattle.uc_frames.specs.Unwinding.{IsCaller, event_at, unwound_by, cleaning, catching, passed, handled, delivered};
 ghost use Rattle.uc_tree.specs.declared.limits.TheConstants.{CALLS};
 
@@ -15,6 +16,7 @@ use crate::active::Active;
 use crate::call::Call;
 use crate::cell::Cell;
 use crate::event::{Event, Handling};
+use crate::inside::Depths;
 use crate::links::Links;
 use crate::members::Members;
 use crate::numbered::is_same;
@@ -37,7 +39,7 @@ pub struct Task {
     own: u32,
     running: Stack,
     house: Members,
-    depths: Vec<(u32, u32)>,
+    depths: Depths,
     gathered: Option<Pieces>,
 }
 
@@ -47,7 +49,7 @@ impl Model for Task {
 
     ghost Value = { Machine };
 
-    ghost view = { λ t. record { run = t.running.run; callers = t.running.callers; env = record { frames = t.running.frames; links = t.running.links; exec = t.exec; own = t.own; house = t.house; depths = t.depths.items; hand = []; gathered = t.gathered } } };
+    ghost view = { λ t. record { run = t.running.run; callers = t.running.callers; env = record { frames = t.running.frames; links = t.running.links; exec = t.exec; own = t.own; house = t.house; depths = t.depths; hand = []; gathered = t.gathered } } };
 }
 
 impl Task {
@@ -57,8 +59,7 @@ impl Task {
     {
         let running = Stack::first(alloc, main, Cell::Object(own))?;
         let house = Members::first(alloc)?;
-        let mut depths = Vec::new(alloc);
-        depths.push((own, 1))?;
+        let depths = Depths::first(alloc, own)?;
         Ok(Task {
             alloc,
             exec: Exec {
@@ -472,5 +473,89 @@ impl Task {
     {
         let pieces = self.gathered.take();
         pieces
+    }
+
+    pub(crate) fn alloc(&self) -> Global {
+        self.alloc
+    }
+
+    pub(crate) fn depths(&self) -> &Depths
+        ensures { result.now ≡ self.now.env.depths }
+    {
+        &self.depths
+    }
+
+    pub(crate) fn begin_call(&mut self, object: u32) -> Result<(), AllocError>
+        ensures ok { OnOk result (self.new ≡ record self.old { env = call_begun object self.old.env }) }
+        ensures err { OnErr result (self.new ≡ self.old) }
+    {
+        if !self.running.links().may_begin_call() {
+            return Err(AllocError);
+        }
+        self.depths.deepen(object)?;
+        self.running.begin_call();
+        Ok(())
+    }
+
+    pub(crate) fn end_call(&mut self, object: u32)
+        ensures { self.new ≡ record self.old { env = call_ended object self.old.env } }
+    {
+        self.depths.lessen(object);
+        self.running.end_call();
+    }
+
+    pub(crate) fn end_gone(&mut self, object: u32)
+        ensures { self.new ≡ record self.old { env = call_gone object self.old.env } }
+    {
+        self.depths.leave(object);
+        self.running.end_call();
+    }
+
+    pub(crate) fn begin_build(&mut self) -> Result<(), AllocError>
+        ensures ok { OnOk result (self.new ≡ record self.old { env = build_begun self.old.env }) }
+        ensures err { OnErr result (self.new ≡ self.old) }
+    {
+        if !self.running.links().may_begin_build() {
+            return Err(AllocError);
+        }
+        self.running.begin_build();
+        Ok(())
+    }
+
+    pub(crate) fn end_build(&mut self, object: u32)
+        ensures { self.new ≡ record self.old { env = build_ended object self.old.env } }
+    {
+        self.depths.leave(object);
+        self.running.end_build();
+    }
+
+    pub(crate) fn count_no_more(&mut self)
+        ensures { self.new ≡ counted_no_more self.old }
+    {
+        self.running.count_no_more();
+    }
+
+    // Another operand below so many of the newest ones, if there is one.
+    pub(crate) fn put_below(&mut self, count: u32, cell: Cell)
+        ensures { self.new ≡ record self.old { run = record self.old.run { operands = slice_set self.old.run.operands count cell } } }
+    {
+        self.running.put_below(count, cell);
+    }
+
+    // The task is inside a new object.
+    pub(crate) fn enter_new(&mut self, object: u32) -> Result<(), AllocError>
+        ensures ok { OnOk result (self.new ≡ record self.old { env = record self.old.env { depths = (object, 1) ∷ self.old.env.depths } }) }
+        ensures err { OnErr result (self.new ≡ self.old) }
+    {
+        self.depths.enter(object)?;
+        Ok(())
+    }
+
+    pub(crate) fn arrive(&mut self, to: u32) -> Result<(), AllocError>
+        ensures ok { OnOk result (self.new ≡ record self.old { run = arrived_at to self.old.run }) }
+        ensures err { OnErr result (self.new ≡ self.old) }
+    {
+        self.running.arrive(to)?;
+        Ok(())
     }
 }

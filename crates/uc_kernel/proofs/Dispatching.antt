@@ -177,6 +177,7 @@ module _ {T M : Type 0} (s : Seen) (tasks : List (Option (Rest T M))) (loose : L
             let told = (law_answered s.opts s.sites s.input (s.journal ++ dispatch p t ∷ []) runs_on (over_given p t s.journal going)).running p t (running_given p t s.journal) in
             told.told ∙ ap (λ x. Some x) (sym (h.answer told.answer told.told));
         left = h.left;
+        keys_are = λ _. lies.hands t (record { task = g.task; members = g.members }) h.rest ∙ sym (held_given p t s.journal t);
       }
 
       values : (u : ℕ) → task_in (slice_index_or (slice_set tasks t None) u None) ≡ (if u == t then None else task_in (slice_index_or tasks u None))

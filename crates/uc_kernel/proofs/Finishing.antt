@@ -203,6 +203,7 @@ module _ {T M : Type 0} (s : Seen) (t p : ℕ) (j : Journal) (a : List Entry) (a
               hand = ap (λ l. l.items) w.members_are ∙ sym (ap (λ ks. gathered ks back.members) (ap (held t) (sym after) ∙ sym d.mid.hand_is) ∙ gathered_hand hand2.items back.members apart2 (λ o m f. sym (d.view o) ∙ ap (λ y. or_else y (or_else (slice_index_or loose2 o None) (member_among o tasks2))) f));
               answer = ap (answer_to s.sites t) (sym after) ∙ told.told ∙ ap (λ x. Some x) (sym (w.answer told.answer told.told));
               left = w.left ∙ ap (λ i. left s.opts i t) after;
+              keys_are = λ _. ap (λ l. keys l.items) w.members_are ∙ d.mid.hand_is ∙ ap (held t) after;
             };
             rest = record {
               journal = after;

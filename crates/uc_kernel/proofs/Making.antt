@@ -12,6 +12,7 @@ use Rattle.uc_acts.specs.Journal.{Journal, held, entry, is_over, asking, Cost, c
 use Rattle.uc_acts.specs.Known.{has, is_gone, takes_object, takes_out, spawns_task, spawns, object_count}
 use Rattle.uc_acts.specs.Queues.{running}
 use Rattle.uc_acts.specs.Sound.{Sound}
+use Rattle.uc_entry.specs.declared.request.Answer.TheVariants as answer
 use Rattle.uc_acts.specs.Answers.{answer_to}
 use Rattle.uc_acts.specs.Serves.{left}
 use Rattle.uc_acts.specs.KernelRuns.{KernelRuns, acts, more}
@@ -30,7 +31,7 @@ use Rattle.uc_acts.proofs.SoundLemmas.{tasks_push, objects_push, self_test}
 use Rattle.uc_acts.proofs.Moves.{spot_stays, first_at, known_at}
 use Rattle.uc_acts.proofs.Others.{flip}
 use Rattle.uc_acts.proofs.Law.{good_whole}
-use Rattle.uc_acts.proofs.Answered.{law_answered}
+use Rattle.uc_acts.proofs.Answered.{law_answered, answer_push}
 use Rattle.uc_kernel_core.specs.Mirrors.{Seen}
 use Rattle.uc_kernel.specs.declared.given.Back.{Back}
 use Rattle.uc_kernel.specs.declared.given.Given.{Given}
@@ -39,7 +40,7 @@ use Rattle.uc_kernel.specs.declared.given.Next.TheVariants.{Go, Blocked, Ended}
 use Rattle.uc_kernel.specs.declared.rests.Rest.{Rest}
 use Rattle.uc_kernel.specs.Numbered.{keys, or_else, added, gathered}
 use Rattle.uc_kernel.specs.KernelState.{Kept, kept, stored, put_back, task_in, member_among}
-use Rattle.uc_kernel.specs.Calls.{Goes, Ends, Follows}
+use Rattle.uc_kernel.specs.Calls.{LacksNew, Goes, Ends, Follows, is_object}
 use Rattle.uc_kernel.specs.AtRest.{Lies, FromAct, is_admit, IsMake, is_ready, GoesWith, HandedOn, earlier, AreApart}
 use Rattle.uc_kernel.proofs.Hands.{no_both, none_found, gathered_hand}
 use Rattle.uc_kernel.proofs.Places.{get_past}
@@ -196,6 +197,9 @@ module _ {T M : Type 0} (s : Seen) (t p : ℕ) (k : Cost) (class : ℕ) (j : Jou
         rw g (ap (λ v. task_in (slice_index_or tasks v None)) (eqb-true u t g) ∙ ap task_in mine)
     values u false g = rw g refl
 
+    made_answer : answer_to s.sites t i ≡ Some (answer.Object (object_count j))
+    made_answer = let self = self_test t in answer_push s.sites t j e ∙ rw self refl
+
     pub goes_made : (hand2 : Listed (ℕ × M)) → hand2.items ≡ items → (g : Given T M) → GoesWith s p t value hand2 tasks tasks g → Goes back (kept (stored s wanted tasks (loose ++ None ∷ []))) p t g
     goes_made hand2 same g w =
         let runs_now : running p s.journal ≡ t ∷ [] = ap (running p) after ∙ now in
@@ -210,6 +214,7 @@ module _ {T M : Type 0} (s : Seen) (t p : ℕ) (k : Cost) (class : ℕ) (j : Jou
             hand = ap (λ l. l.items) w.members_are ∙ same ∙ sym (ap (λ ns. gathered ns back.members) held_own ∙ gathered_more (held t j) (object_count j) back.members new_none ∙ ap (λ ns. gathered ns back.members) (sym hand_is) ∙ gathered_hand items back.members hand_apart (λ m y f. ap (λ x. or_else x (or_else (slice_index_or loose m None) (member_among m tasks))) f));
             answer = ap (answer_to s.sites t) (sym after) ∙ told.told ∙ ap (λ x. Some x) (sym (w.answer told.answer told.told));
             left = w.left ∙ ap (λ l. left s.opts l t) after;
+            keys_are = λ f. absurd (no_both (is_object g.answer) (ap is_object (w.answer (answer.Object (object_count j)) (ap (answer_to s.sites t) after ∙ made_answer))) f);
           };
           rest = record {
             journal = after;
@@ -364,4 +369,17 @@ module _ {T M : Type 0} (s : Seen) (t : ℕ) (b : Back T M) (tasks : List (Optio
             where
               no_one : [] ≡ t ∷ [] → ⊥
               no_one e = cc
+          by Ended w = absurd w
+
+      -- the object that was made is missing in the hand
+      pub lacks_made : LacksNew s.journal t next
+      lacks_made = by next handed_on
+        where
+          by : (next : Next T M) → HandedOn s b.processor t b.task b.members tasks next tasks' → LacksNew s.journal t next
+          by (Go g) w = λ o e.
+              let told : answer_to s.sites t s.journal ≡ Some (answer.Object (object_count x.before)) = ap (answer_to s.sites t) after ∙ made_answer s t b.processor (cost b.ticks b.asked.line) (class_in b.asked.request) x.before after runs_on going x.asks.runs sound0 b.members.items x.hand tasks loose x.lies b.task false b.child in
+              let same : object_count x.before ≡ o = cc (sym (w.answer (answer.Object (object_count x.before)) told) ∙ e) in
+              let hand : keys b.members.items ≡ keys g.members.items = sym (ap (λ (l : Listed (ℕ × M)). keys l.items) w.members_are) in
+              ap (held t) after ∙ held_own s t b.processor (cost b.ticks b.asked.line) (class_in b.asked.request) x.before after runs_on going x.asks.runs sound0 b.members.items x.hand tasks loose x.lies ∙ ap (λ ks. ks ++ object_count x.before ∷ []) (sym x.hand ∙ hand) ∙ ap (λ n. keys g.members.items ++ n ∷ []) same
+          by Blocked w = tt
           by Ended w = absurd w

@@ -1,10 +1,12 @@
 -- What the calls of a kernel do.
-use Rattle.std.specs.Prelude.{◌≡◌, ℕ, ◌==◌, ◌+◌, ◌<◌, ◌≤◌, true, false, List, [], ◌∷◌, ◌++◌, Option, Some, None, length}
+use Rattle.std.specs.Prelude.{◌≡◌, ℕ, ◌==◌, ◌+◌, ◌<◌, ◌≤◌, Bool, true, false, List, [], ◌∷◌, ◌++◌, Option, Some, None, length}
 use Rattle.uc_entry.specs.declared.entry.Entry.{Entry}
 use Rattle.uc_tree.specs.Programs.{Site}
 use Rattle.uc_entry.specs.declared.entry.Options.{Options}
 use Rattle.uc_acts.specs.Journal.{begin, held, is_ending, is_over}
 use Rattle.uc_acts.specs.Queues.{running}
+use Rattle.uc_entry.specs.declared.request.Answer.{Answer}
+use Rattle.uc_entry.specs.declared.request.Answer.TheVariants as answer
 use Rattle.uc_acts.specs.Answers.{answer_to}
 use Rattle.uc_acts.specs.Serves.{Serves, left}
 use Rattle.uc_acts.specs.Laws.{IsServed}
@@ -25,6 +27,11 @@ pub record MayBring {T M : Type 0} (k : Kept T M) (b : Back T M) : Type 0 where
   pub hand : keys b.members.items ≡ held task k.journal
   pub room : 1 ≤ b.members.spare
 
+-- whether an answer is the number of what was made
+abbrev pub is_object : Answer → Bool
+is_object (answer.Object n) = true
+is_object x = false
+
 -- what is handed out of k for task t, which runs on p
 pub record HandsOut {T M : Type 0} (k : Kept T M) (p t : ℕ) (g : Given T M) : Type 0 where
   pub processor : g.processor ≡ p
@@ -33,6 +40,8 @@ pub record HandsOut {T M : Type 0} (k : Kept T M) (p t : ℕ) (g : Given T M) : 
   pub hand : g.members.items ≡ gathered (held t k.journal) k.members
   pub answer : answer_to k.sites t k.journal ≡ Some g.answer
   pub left : g.left ≡ left k.opts k.journal t
+  -- but for an object that the task has just made, whose members it is to bring, its hand has all that it is inside
+  pub keys_are : is_object g.answer ≡ false → keys g.members.items ≡ held t k.journal
 
 -- the task goes on, and what is handed out for it is no longer at rest in the kernel
 pub record Goes {T M : Type 0} (k new : Kept T M) (p t : ℕ) (g : Given T M) : Type 0 where
@@ -64,6 +73,12 @@ IsEnded Ended = Unit {0}
 pub record IsOver {T M : Type 0} (old new : Kept T M) (next : Next T M) : Type 0 where
   pub answer : IsEnded next
   pub same : Same old new
+
+-- in the hand of a task that has just made an object that object alone is missing, the last that the task is inside
+abbrev pub LacksNew : {T M : Type 0} → List Entry → ℕ → Next T M → Type 0
+LacksNew j t (Go g) = (o : ℕ) → g.answer ≡ answer.Object o → held t j ≡ keys g.members.items ++ o ∷ []
+LacksNew j t Blocked = Unit {0}
+LacksNew j t Ended = Unit {0}
 
 -- the act of what a worker brings
 pub record Acted {T M : Type 0} (old : Kept T M) (b : Back T M) (next : Next T M) (new : Kept T M) : Type 0 where

@@ -16,7 +16,7 @@ pub struct Shape {
 pub struct Given<T, M> {
     pub processor: u32,
     pub task: T,
-    pub members: List<(u32, M)>,
+    pub members: List<(u64, M)>,
     pub answer: Answer,
     pub left: u32,
 }
@@ -27,7 +27,7 @@ pub struct Given<T, M> {
 pub struct Back<T, M> {
     pub processor: u32,
     pub task: T,
-    pub members: List<(u32, M)>,
+    pub members: List<(u64, M)>,
     pub child: Option<T>,
     pub ticks: u32,
     pub asked: Asked,

@@ -7,11 +7,11 @@ ghost use Rattle.uc_kernel.specs.AtRest.{AreApart, Stands};
 use uc_entry::list::List;
 
 /// Where the members of an object stand.
-fn position<M>(hand: &List<(u32, M)>, object: u32) -> Option<u32>
+fn position<M>(hand: &List<(u64, M)>, object: u32) -> Option<u32>
     ensures { MatchOption result (find object hand.now.items ≡ None) (λ i. Stands object hand.now.items i) }
 {
     for at in 0..hand.len() {
-        if hand.get(at).0 == object {
+        if hand.get(at).0 == object as u64 {
             return Some(at);
         }
     }
@@ -19,7 +19,7 @@ fn position<M>(hand: &List<(u32, M)>, object: u32) -> Option<u32>
 }
 
 /// Takes the members of an object out, if they are there. The others keep their order.
-pub fn take_from<M>(hand: &mut List<(u32, M)>, object: u32) -> Option<M>
+pub fn take_from<M>(hand: &mut List<(u64, M)>, object: u32) -> Option<M>
     requires apart { AreApart hand.old.items }
     ensures value { result ≡ find object hand.old.items }
     ensures items { hand.new.items ≡ without object hand.old.items }

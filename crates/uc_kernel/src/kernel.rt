@@ -14,7 +14,7 @@ ghost use Rattle.uc_kernel_core.specs.CoreActs.{makes_new};
 ghost use Rattle.uc_kernel_core.specs.Mirrors.{AreKnownSites};
 ghost use Rattle.uc_kernel.specs.Numbered.{without};
 ghost use Rattle.uc_kernel.specs.KernelState.{kept, put_back, stored};
-ghost use Rattle.uc_kernel.specs.Calls.{MayBring, Acted, Dispatched, EndsRun, Follows, Opened};
+ghost use Rattle.uc_kernel.specs.Calls.{MayBring, Acted, Dispatched, EndsRun, Follows, LacksNew, Opened};
 ghost use Rattle.uc_kernel.specs.AtRest.{earlier, AreApart, FromAct, FromFirst, HasChild, IsAct, IsFirst, HandedOn, TakenOut, IsMake, IsSpawn, Lies};
 
 use crate::given::{Back, Given, Next, Shape};
@@ -130,6 +130,7 @@ impl<T: Drop, M: Drop> Kernel<T, M> {
         requires fits { Journal.is_over self.old.journal ≡ false → MayBring (kept self.old) back }
         requires makes { IsMake back.asked.request }
         ensures ok { IfOk result (λ next. Acted (kept self.old) back next (kept self.new)) }
+        ensures lacks { IfOk result (λ next. (t : ℕ) → running back.processor self.old.journal ≡ t ∷ [] → LacksNew self.new.journal t next) }
         ensures err { OnErr result (self.new ≡ self.old) }
     {
         if is_over(&self.book) {
@@ -292,7 +293,7 @@ fn hand_on<T: Drop, M: Drop>(
     processor: u32,
     task: u32,
     value: T,
-    members: List<(u32, M)>,
+    members: List<(u64, M)>,
 ) -> Next<T, M>
     requires going { Journal.is_over book.now.journal ≡ false }
     requires small { task < TASKS }
@@ -379,8 +380,8 @@ fn settle_child<T: Drop, M: Drop>(
     tasks: &mut Vec<Option<Rest<T, M>>>,
     object: u32,
     child: Option<T>,
-    hand: List<(u32, M)>,
-    members: &mut List<(u32, M)>,
+    hand: List<(u64, M)>,
+    members: &mut List<(u64, M)>,
 )
     requires apart { AreApart members.old.items }
     requires room { 1 ≤ hand.spare }
@@ -401,7 +402,7 @@ fn settle_child<T: Drop, M: Drop>(
 }
 
 // A hand with the members of an object more, if they are there.
-fn with_own<M: Drop>(hand: List<(u32, M)>, object: u32, own: Option<M>) -> List<(u32, M)>
+fn with_own<M: Drop>(hand: List<(u64, M)>, object: u32, own: Option<M>) -> List<(u64, M)>
     requires room { 1 ≤ hand.spare }
     ensures { (m : M) → own ≡ Some m → result.items ≡ hand.items ++ (object, m) ∷ [] }
 {
@@ -409,7 +410,7 @@ fn with_own<M: Drop>(hand: List<(u32, M)>, object: u32, own: Option<M>) -> List<
     match own {
         None => hand,
         Some(own) => {
-            hand.push((object, own));
+            hand.push((object as u64, own));
             hand
         }
     }
@@ -432,7 +433,7 @@ fn follow_spawn<T: Drop, M: Drop>(
     loose: &Vec<Option<M>>,
     task: u32,
     first: Entry,
-    hand: List<(u32, M)>,
+    hand: List<(u64, M)>,
     back: Back<T, M>,
 ) -> Next<T, M>
     requires is { FromFirst book.now task first back tasks.old.items loose.now.items }
@@ -481,6 +482,7 @@ fn follow_make<T: Drop, M: Drop>(
     requires makes { IsMake back.asked.request }
     requires reserved { vec_len loose.old < vec_capacity loose.old }
     ensures lies { Journal.is_over book.now.journal ≡ false → Lies book.now.journal tasks.new.items loose.new.items }
+    ensures lacks { LacksNew book.now.journal task result }
     ensures follows { (x : FromAct book.now task back tasks.old.items loose.old.items) (b : Bool) → Follows (put_back (act book.now.opts book.now.sites book.now.input x.before back.processor task back.ticks back.asked) task back.task back.members.items back.child (kept (stored (earlier x.before book.now) b tasks.old.items loose.old.items))) (kept (stored book.now b tasks.new.items loose.new.items)) back.processor task result }
 {
     let Back {

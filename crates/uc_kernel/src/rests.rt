@@ -13,7 +13,7 @@ use uc_entry::list::List;
 #[derive(Drop)]
 pub struct Rest<T, M> {
     pub task: T,
-    pub members: List<(u32, M)>,
+    pub members: List<(u64, M)>,
 }
 
 /// The entry at a place.
@@ -68,7 +68,7 @@ fn lay<M: Drop>(loose: &mut Vec<Option<M>>, object: u32, members: Option<M>)
 
 /// What the first entry of an act does to the hand of its task: the members of an object that it goes out of become loose,
 /// those of an object that it destroys are dropped.
-pub fn follow_first<M: Drop>(e: &Entry, hand: &mut List<(u32, M)>, loose: &mut Vec<Option<M>>)
+pub fn follow_first<M: Drop>(e: &Entry, hand: &mut List<(u64, M)>, loose: &mut Vec<Option<M>>)
     requires apart { AreApart hand.old.items }
     requires known { e.now.object < length loose.old.items }
     ensures hand { hand.new.items ≡ hand_after e.now hand.old.items }
@@ -86,7 +86,7 @@ pub fn follow_first<M: Drop>(e: &Entry, hand: &mut List<(u32, M)>, loose: &mut V
 }
 
 /// Drops the members of an object that an act destroyed.
-pub fn drop_destroyed<M: Drop>(e: &Entry, hand: &mut List<(u32, M)>)
+pub fn drop_destroyed<M: Drop>(e: &Entry, hand: &mut List<(u64, M)>)
     requires apart { AreApart hand.old.items }
     ensures { hand.new.items ≡ (if is_gone_by e.now.kind then without e.now.object hand.old.items else hand.old.items) }
 {
@@ -105,7 +105,7 @@ fn give<T: Drop, M: Drop>(tasks: &mut Vec<Option<Rest<T, M>>>, task: u32, object
     match tasks[task as usize].take() {
         None => {}
         Some(mut rest) => {
-            rest.members.push((object, members));
+            rest.members.push((object as u64, members));
             tasks[task as usize] = Some(rest);
         }
     }
@@ -115,7 +115,7 @@ fn give<T: Drop, M: Drop>(tasks: &mut Vec<Option<Rest<T, M>>>, task: u32, object
 pub fn follow_admission<T: Drop, M: Drop>(
     e: &Entry,
     task: u32,
-    hand: &mut List<(u32, M)>,
+    hand: &mut List<(u64, M)>,
     tasks: &mut Vec<Option<Rest<T, M>>>,
     loose: &mut Vec<Option<M>>,
 )
@@ -132,7 +132,7 @@ pub fn follow_admission<T: Drop, M: Drop>(
         None => {}
         Some(members) => {
             if e.task == task {
-                hand.push((e.object, members));
+                hand.push((e.object as u64, members));
             } else {
                 give(tasks, e.task, e.object, members);
             }
@@ -144,7 +144,7 @@ pub fn follow_admission<T: Drop, M: Drop>(
 pub fn follow_second<T: Drop, M: Drop>(
     admission: Option<Entry>,
     task: u32,
-    hand: &mut List<(u32, M)>,
+    hand: &mut List<(u64, M)>,
     tasks: &mut Vec<Option<Rest<T, M>>>,
     loose: &mut Vec<Option<M>>,
 )

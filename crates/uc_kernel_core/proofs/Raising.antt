@@ -30,6 +30,12 @@ owner_or_0 x ts h n e = ap first_or_0 (sym (ap option_to_list e) ∙ h)
 pub nobody_or_0 : (x : Option ℕ) (ts : List ℕ) → option_to_list x ≡ ts → x ≡ None → 0 ≡ first_or_0 ts
 nobody_or_0 x ts h e = ap first_or_0 (sym (ap option_to_list e) ∙ h)
 
+pub nobody_told : (x : Option ℕ) (ts : List ℕ) → option_to_list x ≡ ts → x ≡ None → ts ≡ []
+nobody_told x ts h e = sym h ∙ ap option_to_list e
+
+pub one_told : (x : Option ℕ) (ts : List ℕ) → option_to_list x ≡ ts → (n : ℕ) → x ≡ Some n → length ts ≡ 1
+one_told x ts h n e = ap length (sym h ∙ ap option_to_list e)
+
 first_of : (ts : List ℕ) → length ts ≡ 1 → ts ≡ first_or_0 ts ∷ []
 first_of [] h = cc
 first_of (t ∷ []) h = refl

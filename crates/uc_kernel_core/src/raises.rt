@@ -1,5 +1,5 @@
 //! Events that a task raises at another.
-ghost use Rattle.std.specs.Prelude.{◌≡◌, ◌<◌, false, length};
+ghost use Rattle.std.specs.Prelude.{◌≡◌, ◌<◌, [], true, false, length};
 ghost use Rattle.uc_tree.specs.declared.limits.TheConstants.{EVENTS};
 ghost use Rattle.uc_acts.specs.Journal.{first_or_0, is_over};
 ghost use Rattle.uc_acts.specs.KernelRuns.{IsMade};
@@ -11,6 +11,19 @@ use crate::book::Book;
 use crate::entries::{Actor, fault_entry, raise_entry};
 
 impl Book {
+    /// Whether an object is some task's own, while the run goes on.
+    pub fn is_owned(&self, object: u32) -> bool
+        requires going { is_over self.now.journal ≡ false }
+        requires known { object < object_count self.now.journal }
+        ensures nobody { result ≡ false → owner object self.now.journal ≡ [] }
+        ensures one { result ≡ true → length (owner object self.now.journal) ≡ 1 }
+    {
+        match self.owners[object as usize] {
+            None => false,
+            Some(_) => true,
+        }
+    }
+
     /// The task whose own object this is, or 0.
     fn owner_of(&self, object: u32) -> u32
         requires going { is_over self.now.journal ≡ false }

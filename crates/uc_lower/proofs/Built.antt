@@ -6,14 +6,12 @@ use Rattle.uc_tree.specs.declared.kinds.Owner.{Owner}
 use Rattle.uc_tree.specs.declared.kinds.Owner.TheVariants as owner
 use Rattle.uc_tree.specs.Statements.{Declarator, Stmt, Block, Empty, Evaluate, Declare, If, While, Do, For, Break, Continue, Return, Try, Throw, Raise, RaiseAt, Enable, Disable, Accept, Print, PrintTogether, Read, Resume, Suspend, Yield, Migrate, Stmts, NoStmts, MoreStmts, MaybeStmt, NoStmt, OneStmt, Handler, Handles, Handlers, NoHandlers, MoreHandlers}
 use Rattle.uc_tree.specs.declared.kinds.Base.{Base}
-use Rattle.uc_tree.specs.declared.kinds.Kind.{Kind}
-use Rattle.uc_tree.specs.declared.kinds.Kind.TheVariants as kind
 use Rattle.uc_tree.specs.Cells.{classes_of}
 use Rattle.uc_tree.specs.Objects.{ClassField, class_at, declared_fields, fields_of, form_fields}
 use Rattle.uc_tree.specs.Gathered.{gathered, gathered_all, gathered_handler, gathered_handlers, gathered_maybe}
-use Rattle.uc_tree.specs.Numbering.{Defined, is_mutex, defined_by, form_defined, in_class, item_defined, items_defined, members_defined, routines_of, own_sites}
+use Rattle.uc_tree.specs.Numbering.{Defined, defined_by, form_defined, in_class, item_defined, items_defined, members_defined, routines_of, own_sites}
 use Rattle.uc_tree.specs.Programs.{Class, Routine, MemberForm, FieldsMember, RoutineMember, ProtoMember, Member, Item, ClassItem, RoutineItem, ConstItem, ProtoItem, ForwardItem, UsingItem, Program}
-use Rattle.uc_built.specs.BuiltForms.{is_built_stmt, are_built, are_built_handlers, is_built_handler, is_built_maybe, is_built_routine, is_built_member, are_built_members, is_built_base, is_built_class, is_built_item, are_built_items, is_built_kind, has_main, IsBuilt}
+use Rattle.uc_built.specs.BuiltForms.{is_built_stmt, are_built, are_built_handlers, is_built_handler, is_built_maybe, is_built_routine, is_built_member, are_built_members, is_built_base, is_built_class, is_built_item, are_built_items, has_main, IsBuilt}
 use Rattle.uc_lower_expr.specs.Members.{is_held_base}
 use Rattle.uc_lower_stmt.proofs.Listing.{built_held}
 
@@ -49,7 +47,7 @@ in_members p name [] e = none_built
 in_members p name (m ∷ ms) e = let q = and_parts (is_built_member m.form) (are_built_members ms) e in split_get (form_defined p name m.form) (members_defined p name ms) (in_form p name m.form q.0) (in_members p name ms q.1)
 
 in_item : (p : Program) (i : Item) → is_built_item i ≡ true → Built (item_defined p i)
-in_item p (ClassItem c) e = in_members p c.name c.members (and_parts (is_built_kind c.kind) (are_built_members c.members) e).1
+in_item p (ClassItem c) e = in_members p c.name c.members e
 in_item p (RoutineItem r) e = one_built (defined_by p r.sig.owner r) (ap (λ (x : Routine). is_built_routine x) (owned_alone p r.sig.owner r) ∙ e)
 in_item p (ConstItem c) e = none_built
 in_item p (ProtoItem s) e = none_built
@@ -63,7 +61,7 @@ in_items p (i ∷ is) e = let q = and_parts (is_built_item i) (are_built_items i
 pub built_routine : (p : Program) → IsBuilt p → (k : ℕ) (d : Defined) → slice_get (routines_of p) k ≡ Some d → is_built_routine d.routine ≡ true
 built_routine p b = in_items p p.items (and_parts (has_main p) (are_built_items p.items) b).1
 
--- each class of a built program is built: it has no mutex objects, and its fields are no conditions, clusters or processors
+-- each class of a built program is built: its fields are no conditions, clusters or processors
 
 class_built : (is : List Item) (i : ℕ) (c : Class) → are_built_items is ≡ true → slice_get (classes_of is) i ≡ Some c → is_built_class c ≡ true
 class_built [] i c e g = cc
@@ -74,14 +72,6 @@ class_built (ConstItem x ∷ is) i c e g = class_built is i c (and_parts (is_bui
 class_built (ProtoItem s ∷ is) i c e g = class_built is i c (and_parts (is_built_item (ProtoItem s)) (are_built_items is) e).1 g
 class_built (ForwardItem f ∷ is) i c e g = class_built is i c (and_parts (is_built_item (ForwardItem f)) (are_built_items is) e).1 g
 class_built (UsingItem at ∷ is) i c e g = class_built is i c e g
-
-kind_plain : (k : Kind) → is_built_kind k ≡ true → is_mutex k ≡ false
-kind_plain kind.Class e = refl
-kind_plain kind.Coroutine e = refl
-kind_plain kind.Monitor e = sym e
-kind_plain kind.Cormonitor e = sym e
-kind_plain kind.Task e = sym e
-kind_plain kind.Event e = refl
 
 abbrev Held : List ClassField → Type 0
 Held fs = (k : ℕ) (f : ClassField) → slice_get fs k ≡ Some f → is_held_base f.base ≡ true
@@ -105,11 +95,8 @@ members_held : (ms : List Member) → are_built_members ms ≡ true → Held (fi
 members_held [] e k f h = cc
 members_held (m ∷ ms) e k f h = let q = and_parts (is_built_member m.form) (are_built_members ms) e in held_split (form_fields m.form) (fields_of ms) (form_held m.form q.0) (members_held ms q.1) k f h
 
-pub class_plain : (p : Program) → IsBuilt p → (i : ℕ) (c : Class) → class_at p i ≡ Some c → is_mutex c.kind ≡ false
-class_plain p b i c h = kind_plain c.kind (and_parts (is_built_kind c.kind) (are_built_members c.members) (class_built p.items i c (and_parts (has_main p) (are_built_items p.items) b).1 h)).0
-
 pub fields_held : (p : Program) → IsBuilt p → (i k : ℕ) (c : Class) (f : ClassField) → class_at p i ≡ Some c → slice_get (fields_of c.members) k ≡ Some f → is_held_base f.base ≡ true
-fields_held p b i k c f h g = members_held c.members (and_parts (is_built_kind c.kind) (are_built_members c.members) (class_built p.items i c (and_parts (has_main p) (are_built_items p.items) b).1 h)).1 k f g
+fields_held p b i k c f h g = members_held c.members (class_built p.items i c (and_parts (has_main p) (are_built_items p.items) b).1 h) k f g
 
 -- there are no accept statements
 
@@ -142,7 +129,7 @@ module _ (c : Option Class) (n : ℕ) where
     stmt_sites (Read place places) e = refl
     stmt_sites (Resume place) e = refl
     stmt_sites (Suspend place) e = refl
-    stmt_sites (Yield place) e = absurd (true≢false (sym e))
+    stmt_sites (Yield place) e = refl
     stmt_sites (Migrate place cluster) e = absurd (true≢false (sym e))
 
     pub stmts_sites : (ss : Stmts) → are_built ss ≡ true → gathered_all (own_sites c n) ss ≡ []

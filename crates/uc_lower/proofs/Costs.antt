@@ -19,8 +19,8 @@ use Rattle.uc_tree.specs.Objects.{ClassField, declared_fields, fields_of, form_f
 -- fields
 
 abbrev pub length_cost : Option Expr → ℕ
-length_cost None = 12
-length_cost (Some e) = 40
+length_cost None = 14
+length_cost (Some e) = 48
 
 abbrev pub fields_cost : List ClassField → ℕ
 fields_cost [] = 0
@@ -41,11 +41,11 @@ expr_one (Unary pos op operand) = omega arith
 expr_one (Chain pos first rest) = omega arith
 expr_one (Assign pos sign op place value) = omega arith
 
-length_few : (len : Option Expr) (k : ℕ) → length_cost len + 40 ≤ 64 * (1 + maybe_expr_size len + k)
+length_few : (len : Option Expr) (k : ℕ) → length_cost len + 48 ≤ 64 * (1 + maybe_expr_size len + k)
 length_few None k = omega arith
 length_few (Some e) k = let h = expr_one e in omega (arith, h)
 
-pub fields_few : (fs : List ClassField) → fields_cost fs + 40 * length fs ≤ 64 * fields_size fs
+pub fields_few : (fs : List ClassField) → fields_cost fs + 48 * length fs ≤ 64 * fields_size fs
 fields_few [] = omega arith
 fields_few (f ∷ fs) =
     let a = length_few f.declarator.len (start_size f.declarator.start) in

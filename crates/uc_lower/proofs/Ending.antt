@@ -12,7 +12,7 @@ use Rattle.uc_tree.specs.Names.{same_name}
 use Rattle.uc_tree.specs.Objects.{Unwritten, unwritten_of}
 use Rattle.uc_tree.specs.ProgramMain.{is_main_item, is_main_sig, main_among, main_number, no_params, returns_as_main}
 use Rattle.uc_tree.specs.Programs.{Routine, Item, ClassItem, RoutineItem, ConstItem, ProtoItem, ForwardItem, UsingItem, Program, Sig}
-use Rattle.uc_resolve.specs.Resolve.{all_classes, all_unwritten, place_by, routine_scope, routine_meant, routines_meant, source_of}
+use Rattle.uc_resolve.specs.Resolve.{all_classes, all_unwritten, is_main, place_by, routine_scope, routine_meant, routines_meant, source_of}
 use Rattle.uc_tree.specs.Sizes.{program_size}
 use Rattle.uc_tree.specs.Source as source
 use Rattle.uc_tree.specs.StatementSizes.{stmts_size}
@@ -53,39 +53,45 @@ as_many ds rs m = ap length (sym m) ∙ length-map ds defined_at
 built_body : (p : Program) → IsBuilt p → (i : ℕ) (x : Defined) → slice_get (routines_of p) i ≡ Some x → are_built x.routine.body ≡ true
 built_body p b i x at = (and_parts (is_built_sig x.routine.sig) (are_built x.routine.body) (built_routine p b i x at)).1
 
--- main is no constructor and no destructor
+-- main is called `main`, and is no constructor and no destructor
 
-sig_plain : (s : Sig) → is_main_sig s ≡ true → is_plain s.role ≡ true
-sig_plain s e =
+sig_named : (p : Program) (s : Sig) → is_main_sig s ≡ true → is_main p s ≡ true
+sig_named p s e =
     let a = and_parts (returns_as_main s.owner s.ret) (same_name s.name main_name && (is_plain s.role && no_params s.params)) e in
     let b = and_parts (same_name s.name main_name) (is_plain s.role && no_params s.params) a.1 in
-    (and_parts (is_plain s.role) (no_params s.params) b.1).0
+    let plain = (and_parts (is_plain s.role) (no_params s.params) b.1).0 in
+    ap (λ (t : Bool). t && same_name s.name main_name) plain ∙ b.0
 
-first_plain : (p : Program) (i : Item) (rest : List Defined) (x : Defined) → is_main_item i ≡ true → slice_get (item_defined p i ++ rest) 0 ≡ Some x → is_plain x.routine.sig.role ≡ true
-first_plain p (ClassItem c) rest x m e = cc
-first_plain p (RoutineItem r) rest x m e =
+first_named : (p : Program) (i : Item) (rest : List Defined) (x : Defined) → is_main_item i ≡ true → slice_get (item_defined p i ++ rest) 0 ≡ Some x → is_main p x.routine.sig ≡ true
+first_named p (ClassItem c) rest x m e = cc
+first_named p (RoutineItem r) rest x m e =
     let is : defined_by p r.sig.owner r ≡ x = cc in
-    ap (λ (y : Defined). is_plain y.routine.sig.role) (sym is) ∙ ap (λ (y : Routine). is_plain y.sig.role) (owned_alone p r.sig.owner r) ∙ sig_plain r.sig m
-first_plain p (ConstItem c) rest x m e = cc
-first_plain p (ProtoItem c) rest x m e = cc
-first_plain p (ForwardItem c) rest x m e = cc
-first_plain p (UsingItem c) rest x m e = cc
+    ap (λ (y : Defined). is_main p y.routine.sig) (sym is) ∙ ap (λ (y : Routine). is_main p y.sig) (owned_alone p r.sig.owner r) ∙ sig_named p r.sig m
+first_named p (ConstItem c) rest x m e = cc
+first_named p (ProtoItem c) rest x m e = cc
+first_named p (ForwardItem c) rest x m e = cc
+first_named p (UsingItem c) rest x m e = cc
 
 get_behind : (xs ys : List Defined) (k : ℕ) → slice_get (xs ++ ys) (length xs + k) ≡ slice_get ys k
 get_behind [] ys k = let z : 0 + k ≡ k = omega arith in ap (slice_get ys) z
 get_behind (x ∷ xs) ys k = let z : suc (length xs) + k ≡ suc (length xs + k) = omega arith in ap (slice_get (x ∷ (xs ++ ys))) z ∙ get_behind xs ys k
 
-main_plain_in : (p : Program) (is : List Item) (x : Defined) → slice_get (items_defined p is) (main_among p is) ≡ Some x → is_plain x.routine.sig.role ≡ true
-main_plain_in p [] x e = cc
-main_plain_in p (i ∷ is) x e = by_case (is_main_item i) refl (main_plain_in p is x) e
+main_named_in : (p : Program) (is : List Item) (x : Defined) → slice_get (items_defined p is) (main_among p is) ≡ Some x → is_main p x.routine.sig ≡ true
+main_named_in p [] x e = cc
+main_named_in p (i ∷ is) x e = by_case (is_main_item i) refl (main_named_in p is x) e
   where
-    by_case : (b : Bool) → is_main_item i ≡ b → (slice_get (items_defined p is) (main_among p is) ≡ Some x → is_plain x.routine.sig.role ≡ true) → slice_get (item_defined p i ++ items_defined p is) (if b then 0 else length (item_defined p i) + main_among p is) ≡ Some x → is_plain x.routine.sig.role ≡ true
-    by_case true m more e = first_plain p i (items_defined p is) x m e
+    by_case : (b : Bool) → is_main_item i ≡ b → (slice_get (items_defined p is) (main_among p is) ≡ Some x → is_main p x.routine.sig ≡ true) → slice_get (item_defined p i ++ items_defined p is) (if b then 0 else length (item_defined p i) + main_among p is) ≡ Some x → is_main p x.routine.sig ≡ true
+    by_case true m more e = first_named p i (items_defined p is) x m e
     by_case false m more e = more (sym (get_behind (item_defined p i) (items_defined p is) (main_among p is)) ∙ e)
 
-no_main : (p : Program) (i : ℕ) (x : Defined) → slice_get (routines_of p) i ≡ Some x → is_plain x.routine.sig.role ≡ false → (i ≡ main_number p) ⊎ (i ≢ main_number p) → nat_eq i (main_number p) ≡ false
-no_main p i x e b (inl is) = absurd (true≢false (sym (main_plain_in p p.items x (ap (slice_get (routines_of p)) (sym is) ∙ e)) ∙ b))
-no_main p i x e b (inr n) = ne_eqb i (main_number p) n
+main_named : (p : Program) (i : ℕ) (x : Defined) → slice_get (routines_of p) i ≡ Some x → nat_eq i (main_number p) ≡ true → (i ≡ main_number p) ⊎ (i ≢ main_number p) → is_main p x.routine.sig ≡ true
+main_named p i x e b (inl is) = main_named_in p p.items x (ap (slice_get (routines_of p)) (sym is) ∙ e)
+main_named p i x e b (inr n) = absurd (true≢false (sym b ∙ ne_eqb i (main_number p) n))
+
+-- what is no plain routine is not main
+pub not_main : (p : Program) (main : Bool) (s : Sig) → (main ≡ true → is_main p s ≡ true) → is_plain s.role ≡ false → main ≡ false
+not_main p true s h e = absurd (true≢false (sym (and_parts (is_plain s.role) (same_name s.name main_name) (h refl)).0 ∙ e))
+not_main p false s h e = refl
 
 -- so many routines stand, and are counted
 pub record Stands (p : Program) (all i t s : ℕ) (out : Draft) : Type 0 where
@@ -95,7 +101,7 @@ pub record Stands (p : Program) (all i t s : ℕ) (out : Draft) : Type 0 where
   pub sites : s ≡ 0
 
 pub record Follows (p : Program) (t i : ℕ) (x : Defined) (out : Draft) : Type 0 where
-  pub alone : is_plain x.routine.sig.role ≡ false → nat_eq i (main_number p) ≡ false
+  pub named : nat_eq i (main_number p) ≡ true → is_main p x.routine.sig ≡ true
   pub known : i < length out.routines
   pub room : length out.ops + routine_room p x ≤ PROGRAM_OPS
   pub cells : routine_cells p x.routine ≤ FRAME_CELLS
@@ -115,7 +121,7 @@ follows p all i texts sites x out b none f enough at h =
     let there : i < length (routines_of p) = within (routines_of p) i x at in
     let counted = h.few in
     record {
-      alone = λ e. no_main p i x at e (cases_eq i (main_number p));
+      named = λ e. main_named p i x at e (cases_eq i (main_number p));
       known = omega (arith, table, there, enough);
       room = omega (arith, few, fit, size, room);
       cells = f.frames.each i x at;
@@ -133,8 +139,8 @@ stands_none p all d h = record { lays = h; texts = none (routines_of p); few = o
 
 pub stands_next : (p : Program) (all i texts sites : ℕ) (x : Defined) (old new : Draft) → IsBuilt p → length (routines_of p) ≤ all → slice_get (routines_of p) i ≡ Some x → Stands p all i texts sites old
     → Kept (laid_in old) (laid_in new) → length new.ops ≤ length old.ops + routine_room p x
-    → RoutineAt (laid_in new) (last_of (routines_of p)) i (routine_meant p x.routine (routine_scope p x.routine (place_by p x) i texts sites)) (record { entry = length old.ops; cells = frame_cells p x.routine; params = length x.routine.sig.params }) (length old.ops) (length new.ops)
-    → new.routines ≡ slice_set old.routines i (record { entry = length old.ops; cells = frame_cells p x.routine; params = length x.routine.sig.params }) → new.marks ≡ []
+    → RoutineAt (laid_in new) (last_of (routines_of p)) i (routine_meant p x.routine (routine_scope p x.routine (place_by p x) i texts sites)) (record { entry = length old.ops; cells = frame_cells p x.routine; params = length x.routine.sig.params; written = true }) (length old.ops) (length new.ops)
+    → new.routines ≡ slice_set old.routines i (record { entry = length old.ops; cells = frame_cells p x.routine; params = length x.routine.sig.params; written = true }) → new.marks ≡ []
     → new.texts ≡ texts + length (gathered_all own_texts x.routine.body) → new.texts ≤ texts + stmts_size x.routine.body → new.sites ≡ sites + length (gathered_all (own_sites None 0) x.routine.body)
     → Stands p all (i + 1) new.texts new.sites new
 stands_next p all i texts sites x old new b enough at h k r c w marks te tf se =

@@ -6,6 +6,7 @@ mod Distinct
 mod Ending
 pub mod RoutineLayoutLemmas
 pub mod Mained
+pub mod Memberships
 mod Named
 mod Numbered
 mod Numbers

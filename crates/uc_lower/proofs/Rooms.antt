@@ -10,7 +10,7 @@ use Rattle.uc_tree.specs.ExpressionSizes.{exprs_size}
 use Rattle.uc_tree.specs.Sizes.{inits_size, program_size}
 use Rattle.uc_tree.specs.Programs.{Init, Routine, Class, Program}
 use Rattle.uc_tree.specs.Cells.{classes_of}
-use Rattle.uc_tree.specs.Numbering.{Defined, is_event, routines_of}
+use Rattle.uc_tree.specs.Numbering.{Defined, is_event, is_mutex, routines_of}
 use Rattle.uc_tree.specs.Objects.{ClassField, Unwritten, has_execution, class_at, fields_of, unwritten_at, unwritten_by, unwritten_of, written_at}
 use Rattle.uc_resolve.specs.Resolve.{class_by, place_by}
 use Rattle.uc_rules.specs.declared.rules.Home.{Home}
@@ -19,7 +19,7 @@ use Rattle.uc_rules.specs.ProgramVisits.{items_visits, members_visits}
 use Rattle.uc_rules.specs.Scopes.{class_around, plain_env}
 use Rattle.uc_rules.specs.Visits.{AtClass, AtProgram}
 use Rattle.uc_lower_class.specs.Bodies.{builder_room, part_end, role_room, unwritten_room}
-use Rattle.uc_lower_class.specs.Fields.{all_room, enliven_room, fields_room, forget_count, left_room, live_room, room_by, set_up_room, start_room, take_down_room}
+use Rattle.uc_lower_class.specs.Fields.{all_room, enliven_room, fields_room, forget_count, left_room, live_room, mutex_count, own_close, room_by, set_up_room, start_room, take_down_room}
 use Rattle.uc_lower_class.specs.Inits.{init_exprs}
 use Rattle.uc_lower.specs.RoutineLayout.{own_room, role_room_of, routine_room, unwritten_rooms, written_room}
 use Rattle.uc_lower.proofs.Ruled.{class_none, rest_none}
@@ -31,25 +31,36 @@ use Rattle.uc_lower.proofs.Placed.{belongs}
 use Rattle.uc_lower.proofs.Apart.{routines_apart}
 use Rattle.uc_lower.proofs.Sums.{all_weight, class_weight, sum, sum_add, sum_le_at, weight, weight_join}
 
--- the execution of a coroutine costs as much in its constructor, and in its destructor
+-- the execution of a coroutine costs as much in its constructor, and in its destructor as much as the end of a mutex object and an op more
 
 abbrev execution_cost : Bool → ℕ
 execution_cost true = 8
 execution_cost false = 0
 
+abbrev end_cost : Bool → ℕ
+end_cost true = own_close
+end_cost false = 0
+
 abbrev destruction_cost : Bool → ℕ
-destruction_cost true = 37
+destruction_cost true = own_close + 1
 destruction_cost false = 0
 
-execution_few : (b : Bool) → execution_cost b + destruction_cost b ≤ 45
-execution_few true = omega arith
-execution_few false = omega arith
+-- what is counted by a class has room for both
+kind_few : (m e : Bool) → execution_cost e + (end_cost m + destruction_cost e) + (part_end + 1) + 1 ≤ 64
+kind_few true true = omega arith
+kind_few true false = omega arith
+kind_few false true = omega arith
+kind_few false false = omega arith
 
 execution_is : (b : Bool) → set_up_room b + start_room b + enliven_room b ≡ execution_cost b
 execution_is true = refl
 execution_is false = refl
 
-destruction_is : (b : Bool) → 36 * forget_count b + take_down_room b ≡ destruction_cost b
+end_is : (b : Bool) → own_close * mutex_count b ≡ end_cost b
+end_is true = refl
+end_is false = refl
+
+destruction_is : (b : Bool) → own_close * forget_count b + take_down_room b ≡ destruction_cost b
 destruction_is true = refl
 destruction_is false = refl
 
@@ -58,7 +69,7 @@ cost role.Plain o = 0
 cost role.Constructor None = 0
 cost role.Constructor (Some c) = fields_cost (fields_of c.members) + execution_cost (has_execution c.kind)
 cost role.Destructor None = 0
-cost role.Destructor (Some c) = 36 * length (fields_of c.members) + destruction_cost (has_execution c.kind)
+cost role.Destructor (Some c) = 48 * length (fields_of c.members) + (end_cost (is_mutex c.kind) + destruction_cost (has_execution c.kind))
 
 cost_plain : (o : Option Class) → cost role.Plain o ≡ 0
 cost_plain o = refl
@@ -126,7 +137,7 @@ module _ (p : Program) (none : breaks_of p ≡ []) where
 
   left_is : (o : Option Class) → left_room o ≡ cost role.Destructor o
   left_is None = refl
-  left_is (Some c) = let d = destruction_is (has_execution c.kind) in omega (arith, d)
+  left_is (Some c) = let d = destruction_is (has_execution c.kind) in let e = end_is (is_mutex c.kind) in omega (arith, d, e)
 
   routine_few : (d : Defined) (r : Role) → d.routine.sig.role ≡ r → routine_room p d ≤ cost r (class_by p (place_by p d)) + 64 * (1 + own_size d.routine)
   routine_few d role.Plain e =
@@ -164,7 +175,7 @@ module _ (p : Program) (none : breaks_of p ≡ []) where
       omega (arith, l, nothing)
   one_few k r i c e v l (Some n) w = let few = if_few (list_any (belongs p i r) (routines_of p)) (cost r (Some c)) in omega (arith, few)
 
-  builds_few : (i : ℕ) (c : Class) → class_at p i ≡ Some c → own_room p (record { class = i; role = role.Constructor }) ≤ cost role.Constructor (Some c) + 17
+  builds_few : (i : ℕ) (c : Class) → class_at p i ≡ Some c → own_room p (record { class = i; role = role.Constructor }) ≤ cost role.Constructor (Some c) + (part_end + 1)
   builds_few i c e =
       let a : own_room p (record { class = i; role = role.Constructor }) ≡ unwritten_room role.Constructor (Some c) + 1 = ap (λ (o : Option Class). unwritten_room role.Constructor o + 1) e in
       let b = no_inits (fields_of c.members) in
@@ -187,14 +198,14 @@ module _ (p : Program) (none : breaks_of p ≡ []) where
           let a = if_few (list_any (belongs p i role.Constructor) (routines_of p)) (cost role.Constructor (Some c)) in
           let b = if_few (list_any (belongs p i role.Destructor) (routines_of p)) (cost role.Destructor (Some c)) in
           let f = fields_few (fields_of c.members) in
-          let g = execution_few (has_execution c.kind) in
+          let g = kind_few (is_mutex c.kind) (has_execution c.kind) in
           omega (arith, a, b, f, g)
       by_kind false v =
           let j = weight_join p (own_room p) (unwritten_by (written_at p i role.Constructor) i role.Constructor) (unwritten_by (written_at p i role.Destructor) i role.Destructor) in
-          let a = one_few 17 role.Constructor i c e v (builds_few i c e) (written_at p i role.Constructor) refl in
+          let a = one_few (part_end + 1) role.Constructor i c e v (builds_few i c e) (written_at p i role.Constructor) refl in
           let b = one_few 1 role.Destructor i c e v (destroys_few i c e) (written_at p i role.Destructor) refl in
           let f = fields_few (fields_of c.members) in
-          let g = execution_few (has_execution c.kind) in
+          let g = kind_few (is_mutex c.kind) (has_execution c.kind) in
           omega (arith, j, a, b, f, g)
 
   sizes_are : (cs : List Class) (i : ℕ) → sum (λ c i. 64 * (1 + fields_size (fields_of c.members))) cs i ≡ 64 * class_sizes cs

@@ -43,6 +43,7 @@ routine_moves old new l n r c a z f k h = record {
   entry = h.entry;
   cells = h.cells;
   params = h.params;
+  written = h.written;
   body = (body_stable r.purpose (max n l) r.line r.body).moves old new a z (kept_same old new a z f k) h.body;
 }
 
@@ -171,10 +172,10 @@ lays_none p ds all d e f g = record { code = record { end = ap (λ l. length l) 
 
 pub lays_step : (p : Program) (ds : List Defined) (all i texts sites : ℕ) (x : Defined) (old new : Draft) → ((k : ℕ) (d : Defined) → slice_get ds k ≡ Some d → are_built d.routine.body ≡ true) → slice_get ds i ≡ Some x → i < all → Lays p ds all i old → texts ≡ defined_texts (take i ds) → sites ≡ 0
     → Kept (laid_in old) (laid_in new) → length new.ops ≤ length old.ops + routine_room p x
-    → RoutineAt (laid_in new) (last_of ds) i (routine_meant p x.routine (routine_scope p x.routine (place_by p x) i texts sites)) (record { entry = length old.ops; cells = frame_cells p x.routine; params = length x.routine.sig.params }) (length old.ops) (length new.ops)
-    → new.routines ≡ slice_set old.routines i (record { entry = length old.ops; cells = frame_cells p x.routine; params = length x.routine.sig.params }) → new.marks ≡ [] → Lays p ds all (i + 1) new
+    → RoutineAt (laid_in new) (last_of ds) i (routine_meant p x.routine (routine_scope p x.routine (place_by p x) i texts sites)) (record { entry = length old.ops; cells = frame_cells p x.routine; params = length x.routine.sig.params; written = true }) (length old.ops) (length new.ops)
+    → new.routines ≡ slice_set old.routines i (record { entry = length old.ops; cells = frame_cells p x.routine; params = length x.routine.sig.params; written = true }) → new.marks ≡ [] → Lays p ds all (i + 1) new
 lays_step p ds all i texts sites x old new built at known h te se k r c w marks =
-    let row : RoutineCode = record { entry = length old.ops; cells = frame_cells p x.routine; params = length x.routine.sig.params } in
+    let row : RoutineCode = record { entry = length old.ops; cells = frame_cells p x.routine; params = length x.routine.sig.params; written = true } in
     let xs : List Defined = take i ds in
     let split : xs ++ x ∷ [] ≡ take (i + 1) ds = sym (taken_more ds i x at) in
     let few : i < length ds = within ds i x at in
@@ -257,10 +258,10 @@ all_none p ds us all count d c h =
 
 pub all_step : (p : Program) (ds : List Defined) (us : List Unwritten) (all i : ℕ) (u : Unwritten) (old new : Draft) → slice_get us i ≡ Some u → length ds + i < all → LaysAll p ds us all i old
     → Kept (laid_in old) (laid_in new) → length new.ops ≤ length old.ops + own_room p u
-    → RoutineAt (laid_in new) (last_of ds) (length ds + i) (unwritten_meant p u) (record { entry = length old.ops; cells = 0; params = 0 }) (length old.ops) (length new.ops)
-    → new.routines ≡ slice_set old.routines (length ds + i) (record { entry = length old.ops; cells = 0; params = 0 }) → new.marks ≡ [] → LaysAll p ds us all (i + 1) new
+    → RoutineAt (laid_in new) (last_of ds) (length ds + i) (unwritten_meant p u) (record { entry = length old.ops; cells = 0; params = 0; written = false }) (length old.ops) (length new.ops)
+    → new.routines ≡ slice_set old.routines (length ds + i) (record { entry = length old.ops; cells = 0; params = 0; written = false }) → new.marks ≡ [] → LaysAll p ds us all (i + 1) new
 all_step p ds us all i u old new at known h k r c w marks =
-    let row : RoutineCode = record { entry = length old.ops; cells = 0; params = 0 } in
+    let row : RoutineCode = record { entry = length old.ops; cells = 0; params = 0; written = false } in
     let n : ℕ = length ds + i in
     let t = taken_next us i u at in
     let rs : List source.Routine = routines_meant p ds 0 0 0 ++ all_unwritten p (take i us) in

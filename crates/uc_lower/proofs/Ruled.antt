@@ -30,7 +30,7 @@ use Rattle.uc_rules.specs.Names.{place_in}
 use Rattle.uc_rules.specs.Visits.{Visit, AtField, AtBase, AtClass, AtItem, AtMark, AtProgram, maybe_visits}
 use Rattle.uc_built.specs.BuiltForms.{IsBuilt}
 use Rattle.uc_lower_expr.specs.Members.{FitClasses}
-use Rattle.uc_lower.proofs.Built.{class_plain, fields_held}
+use Rattle.uc_lower.proofs.Built.{fields_held}
 
 -- what is empty has empty parts
 
@@ -208,4 +208,4 @@ module _ (p : Program) where
         leb-true (class_cells p i) CLASS_CELLS (and_parts (nat_le (class_cells p i) CLASS_CELLS) (nat_le (condition_count p i t.0) CLASS_CONDITIONS) room).0
 
     pub fit_classes : IsBuilt p → FitClasses p
-    fit_classes built = record { apart = apart; small = λ i. small_case i (cases_lt i (length (classes_of p.items))); plain = class_plain p built; held = fields_held p built }
+    fit_classes built = record { apart = apart; small = λ i. small_case i (cases_lt i (length (classes_of p.items))); held = fields_held p built }

@@ -9,9 +9,9 @@ use Rattle.uc_tree.specs.Numbering.{Defined, is_mutex, routines_of}
 use Rattle.uc_tree.specs.Cells.{leading_cells}
 use Rattle.uc_tree.specs.Objects.{Making, ClassField, Unwritten, has_execution, class_at, class_shape, fields_of, unwritten_of}
 use Rattle.uc_tree.specs.Programs.{Class, Program}
-use Rattle.uc_resolve.specs.Resolve.{Meant, Own, all_unwritten, build, construction, construction_ends, destruction, ending, enlivened, field_built, field_making, field_left, field_place, fields_built, fields_left, forgotten, freed, length_in_class, nowhere, routines_meant, set_up, source_of, started_in, taken_down, unwritten_body, unwritten_meant}
+use Rattle.uc_resolve.specs.Resolve.{Meant, Own, all_unwritten, build, clean_up, construction, construction_ends, destruction, ending, enlivened, field_built, field_making, field_left, field_place, fields_built, fields_left, forgotten, freed, length_in_class, nowhere, routines_meant, set_up, source_of, started_in, taken_down, unwritten_body, unwritten_meant}
 use Rattle.uc_tree.specs.Source as source
-use Rattle.uc_code.specs.Silent.{silent, silent_all}
+use Rattle.uc_code.specs.Silent.{silent, silent_all, silent_clean}
 use Rattle.uc_lower.specs.RoutineLayout.{last_of}
 use Rattle.uc_lower.proofs.RoutineLayoutLemmas.{meant_long}
 
@@ -19,13 +19,17 @@ build_silent : (p : Program) (line : ℕ) (m : Making) (len : Option ℕ) (place
 build_silent p line m None place ms = tt
 build_silent p line m (Some n) place ms = tt
 
+clean_silent : (p : Program) (m : Making) (len : Option ℕ) (place : source.Expr) → silent_clean (clean_up p m len place)
+clean_silent p m None place = tt
+clean_silent p m (Some n) place = tt
+
 field_silent : (p : Program) (o : Option Making) (f : ClassField) (len : Option ℕ) (place : source.Expr) (rest : source.Stmts) → silent_all rest → silent_all (field_built p o f len place [] rest)
 field_silent p None f len place rest h = h
-field_silent p (Some m) f len place rest h = (build_silent p 0 m len place [], h)
+field_silent p (Some m) f len place rest h = (build_silent p 0 m len place [], (clean_silent p m len place, h))
 
 left_silent : (p : Program) (o : Option Making) (len : Option ℕ) (place : source.Expr) (rest : source.Stmts) → silent_all rest → silent_all (field_left p o len place rest)
 left_silent p None len place rest h = h
-left_silent p (Some m) len place rest h = h
+left_silent p (Some m) len place rest h = (clean_silent p m len place, h)
 
 module _ (p : Program) (c : Class) (i : ℕ) where
   all_built : (fs : List ClassField) (n : ℕ) (rest : source.Stmts) → silent_all rest → silent_all (fields_built p c i [] (nowhere p) fs n rest)
@@ -41,11 +45,11 @@ module _ (p : Program) (c : Class) (i : ℕ) where
 -- what builds and destroys a coroutine resumes none
 
 set_up_silent : (p : Program) (b : Bool) (i : ℕ) (rest : source.Stmts) → silent_all rest → silent_all (set_up p b i rest)
-set_up_silent p true i rest h = (tt, h)
+set_up_silent p true i rest h = (tt, (tt, h))
 set_up_silent p false i rest h = h
 
 started_silent : (p : Program) (b : Bool) (rest : source.Stmts) → silent_all rest → silent_all (started_in p b rest)
-started_silent p true rest h = h
+started_silent p true rest h = (tt, h)
 started_silent p false rest h = h
 
 enlivened_silent : (p : Program) (b : Bool) → silent_all (enlivened p b)
@@ -57,19 +61,19 @@ taken_silent p true rest h = (tt, h)
 taken_silent p false rest h = h
 
 forgotten_silent : (p : Program) (b : Bool) (rest : source.Stmts) → silent_all rest → silent_all (forgotten p b rest)
-forgotten_silent p true rest h = h
+forgotten_silent p true rest h = (tt, h)
 forgotten_silent p false rest h = h
 
 freed_silent : (p : Program) (k : Kind) (i : ℕ) (rest : source.Stmts) → silent_all rest → silent_all (freed p k i rest)
 freed_silent p kind.Class i rest h = h
 freed_silent p kind.Coroutine i rest h = h
-freed_silent p kind.Monitor i rest h = h
-freed_silent p kind.Cormonitor i rest h = h
-freed_silent p kind.Task i rest h = h
+freed_silent p kind.Monitor i rest h = (tt, h)
+freed_silent p kind.Cormonitor i rest h = (tt, h)
+freed_silent p kind.Task i rest h = (tt, h)
 freed_silent p kind.Event i rest h = h
 
 ending_silent : (p : Program) (b : Bool) (rest : source.Stmts) → silent_all rest → silent_all (ending p b rest)
-ending_silent p true rest h = h
+ending_silent p true rest h = (tt, h)
 ending_silent p false rest h = h
 
 built_silent : (p : Program) (o : Option Class) (i : ℕ) → silent_all (construction p o i [] (nowhere p) (construction_ends p o i))

@@ -16,7 +16,7 @@ ghost use Rattle.uc_numbering.specs.Routines.{defined_at};
 ghost use Rattle.uc_implicit.specs.Unwritten.{number_of_class, unwritten_as};
 ghost use Rattle.uc_lower.specs.Refusals.{Fits, FitsAll, IsFirstLarge, Refuses};
 
-use crate::numbering::{cells_of_classes, numbering_of};
+use crate::numbering::{cells_of_classes, members_of_classes, numbering_of};
 use crate::program_main::number_of_main;
 use crate::routines::{lower_all_unwritten, lower_routines, no_code};
 use std::alloc::{AllocError, Global};
@@ -25,6 +25,7 @@ use uc_code::draft::Draft;
 use uc_implicit::numbers::numbers_of_classes;
 use uc_implicit::unwritten::{Unwritten, unwritten_of};
 use uc_layout::frames::cells_of_routine;
+use uc_layout::lists::classes_in;
 use uc_layout::sizes::Sizes;
 use uc_lower_expr::program_names::ProgramNames;
 use uc_numbering::routines::{Defined, routines_of};
@@ -120,7 +121,9 @@ fn lower_all(
     ensures paced { IfOk result (λ code. IsPaced (laid_of code) code.routines) }
     ensures few { IfOk result (λ code. length code.ops ≤ OPS_FOR_SIZE * program_size program.now) }
 {
-    let numbering = numbering_of(alloc, defined, count, unwritten, numbers)?;
+    let classes = classes_in(alloc, &program.items)?;
+    let members = members_of_classes(alloc, &classes)?;
+    let numbering = numbering_of(alloc, defined, count, unwritten, numbers, members)?;
     let names = ProgramNames::new(alloc, sizes, numbering)?;
     let code = lower_named(alloc, program, &names, defined, count, unwritten);
     code

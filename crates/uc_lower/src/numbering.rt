@@ -1,25 +1,31 @@
 // What is numbered in a program, for names; and the cells of its classes.
 
-ghost use Rattle.std.specs.Prelude.{◌≡◌, ◌++◌, [], ◌∷◌, length, map, IfOk, OnOk};
+ghost use Rattle.std.specs.Prelude.{◌≡◌, ◌++◌, [], ◌∷◌, length, map, take, IfOk, OnOk};
+ghost use Rattle.uc_tree.specs.declared.limits.TheConstants.{MEMBERS};
 ghost use Rattle.uc_tree.specs.Cells.{class_cells, classes_of};
-ghost use Rattle.uc_tree.specs.Numbering.{routines_of};
+ghost use Rattle.uc_tree.specs.Numbering.{mutex_members, routines_of};
 ghost use Rattle.uc_tree.specs.Objects.{unwritten_of};
 ghost use Rattle.uc_tree.specs.Programs.{Program};
 ghost use Rattle.uc_resolve.specs.Resolve.{all_classes, classes_meant};
 ghost use Rattle.uc_lower_expr.specs.Members.{FitClasses};
-ghost use Rattle.uc_lower_expr.specs.Numbered.{IsNumbering};
+ghost use Rattle.uc_layout.specs.Places.{IsPlaces};
+ghost use Rattle.uc_lower_expr.specs.Numbered.{AreExclusive, IsNumbering};
 ghost use Rattle.uc_numbering.specs.Routines.{defined_at};
 ghost use Rattle.uc_implicit.specs.Unwritten.{number_of_class, unwritten_as};
 
 use std::alloc::{AllocError, Global};
 use uc_implicit::unwritten::{Unwritten, numbers_of};
 use uc_layout::lists::classes_in;
+use uc_layout::places::{no_places, note_place};
 use uc_layout::sizes::Sizes;
 use uc_lower_expr::numbering::Numbering;
+use uc_names::scope::Scope;
 use uc_numbering::classes::is_event;
+use uc_numbering::members::members_of;
 use uc_numbering::routines::Defined;
 use uc_tree::class::{Class, Routine};
 use uc_tree::kinds::Role;
+use uc_tree::name::Name;
 use uc_tree::program::Program;
 
 // The routines alone.
@@ -44,16 +50,52 @@ fn owners_in(alloc: Global, defined: &[Defined]) -> Result<Vec<u32>, AllocError>
     Ok(owners)
 }
 
-/// The numbering of a program with these routines, so many; `classes` are the numbers of its classes by their places.
+// The places of these names by themselves.
+fn places_of_names(alloc: Global, names: &[&Name]) -> Result<Scope, AllocError>
+    ensures { IfOk result (λ places. IsPlaces (map (λ n. n.now) names.now) places) }
+{
+    let mut places = no_places(alloc)?;
+    for (place, name) in names.iter().enumerate() {
+        note_place(&mut places, name, place)?;
+    }
+    Ok(places)
+}
+
+// The places of the mutex members of a class by their names, as far as they have numbers.
+fn places_of_members(alloc: Global, class: &Class) -> Result<Scope, AllocError>
+    ensures { IfOk result (λ places. IsPlaces (take MEMBERS (mutex_members class.now)) places) }
+{
+    let names = members_of(alloc, class)?;
+    let places = places_of_names(alloc, &names)?;
+    Ok(places)
+}
+
+/// Those of these classes of a program, by their places.
+pub(crate) fn members_of_classes(
+    alloc: Global,
+    classes: &[&Class],
+) -> Result<Vec<Scope>, AllocError>
+    ensures { IfOk result (λ v. (p : Program) → map (λ c. c.now) classes.now ≡ classes_of p.items → AreExclusive p v.items) }
+{
+    let mut members = Vec::new(alloc);
+    for class in classes {
+        members.push(places_of_members(alloc, class)?)?;
+    }
+    Ok(members)
+}
+
+/// The numbering of a program with these routines, so many; `classes` are the numbers of its classes by their places, and `members` the
+/// places of their mutex members by name.
 pub(crate) fn numbering_of<'a>(
     alloc: Global,
     defined: &[Defined<'a>],
     count: u32,
     unwritten: &[Unwritten],
     classes: Vec<u32>,
+    members: Vec<Scope>,
 ) -> Result<Numbering<'a>, AllocError>
     requires count { count ≡ length defined.now }
-    ensures { IfOk result (λ n. (p : Program) → map defined_at defined.now ≡ routines_of p → map unwritten_as unwritten.now ≡ unwritten_of p → classes.items ≡ map (number_of_class p) (classes_of p.items) → IsNumbering p n) }
+    ensures { IfOk result (λ n. (p : Program) → map defined_at defined.now ≡ routines_of p → map unwritten_as unwritten.now ≡ unwritten_of p → classes.items ≡ map (number_of_class p) (classes_of p.items) → AreExclusive p members.items → IsNumbering p n) }
 {
     let routines = routines_in(alloc, defined)?;
     let owners = owners_in(alloc, defined)?;
@@ -65,6 +107,7 @@ pub(crate) fn numbering_of<'a>(
         classes,
         constructors,
         destructors,
+        members,
     })
 }
 

@@ -1,14 +1,15 @@
 // The code of all routines, one after another.
 
-ghost use Rattle.std.specs.Prelude.{◌≡◌, ◌&&◌, ℕ, ◌+◌, ◌*◌, ◌^◌, ◌≤◌, ◌<◌, [], true, false, None, Some, length, map, nat_eq, slice_get, slice_set, IfOk, OnOk};
+ghost use Rattle.std.specs.Prelude.{◌≡◌, ◌&&◌, ◌||◌, ℕ, ◌+◌, ◌*◌, ◌^◌, ◌≤◌, ◌<◌, [], true, false, None, Some, length, map, nat_eq, slice_get, slice_set, IfOk, OnOk};
 ghost use Rattle.uc_tree.specs.declared.limits.TheConstants.{FRAME_CELLS, OPS_FOR_SIZE, PROGRAM_OPS, PROGRAM_SIZE};
 ghost use Rattle.uc_tree.specs.StatementSizes.{stmts_size};
 ghost use Rattle.uc_tree.specs.Cells.{routine_cells};
 ghost use Rattle.uc_tree.specs.Gathered.{gathered_all};
-ghost use Rattle.uc_tree.specs.Numbering.{is_plain, own_sites, own_texts, routines_of};
+ghost use Rattle.uc_tree.specs.Names.{same_name};
+ghost use Rattle.uc_tree.specs.Numbering.{is_plain, main_name, own_sites, own_texts, routines_of};
 ghost use Rattle.uc_tree.specs.Objects.{unwritten_of};
 ghost use Rattle.uc_tree.specs.ProgramMain.{main_number};
-ghost use Rattle.uc_resolve.specs.Resolve.{class_by, has_coroutines, is_main, place_by, routine_meant, routine_scope};
+ghost use Rattle.uc_resolve.specs.Resolve.{class_by, has_coroutines, is_main, has_tasks, place_by, routine_meant, routine_scope};
 ghost use Rattle.uc_built.specs.BuiltForms.{are_built, IsBuilt};
 ghost use Rattle.uc_rules.specs.Breaks.{breaks_of};
 ghost use Rattle.uc_code.specs.Layout.{laid_in};
@@ -40,6 +41,7 @@ pub(crate) fn no_code(alloc: Global, count: usize) -> Result<Vec<RoutineCode>, A
         entry: 0,
         cells: 0,
         params: 0,
+        written: false,
     };
     let rows = vec![in alloc; none; count]?;
     Ok(rows)
@@ -76,7 +78,7 @@ fn main_in(
 ) -> Option<MainOf>
     ensures { (number : ℕ) → is_program_main ≡ nat_eq number (main_number names.now) → result ≡ main_in names.now number (class_by names.now class) sig.now }
 {
-    if is_program_main {
+    if is_task_main(names, is_program_main, class, sig) {
         return Some(MainOf::Task);
     }
     if is_coroutine_main(names, class, sig) {
@@ -85,11 +87,40 @@ fn main_in(
     None
 }
 
-// Whether a routine of the class with this place is the main of its coroutines.
+// Whether it is that of the program, or of the tasks of its class.
+fn is_task_main(
+    names: &ProgramNames,
+    is_program_main: bool,
+    class: Option<usize>,
+    sig: &Sig,
+) -> bool
+    ensures { result ≡ (is_program_main || (has_tasks names.now (class_by names.now class) && is_main names.now sig.now)) }
+{
+    is_program_main || (has_tasks(names, class) && is_main(sig))
+}
+
+// Whether it is that of the coroutines of its class.
 fn is_coroutine_main(names: &ProgramNames, class: Option<usize>, sig: &Sig) -> bool
     ensures { result ≡ (has_coroutines names.now (class_by names.now class) && is_main names.now sig.now) }
 {
-    names.has_coroutines(class) && is_plain(sig) && sig.name.is(b"main")
+    names.has_coroutines(class) && is_main(sig)
+}
+
+// Whether the class with this place, if there is one, has tasks.
+fn has_tasks(names: &ProgramNames, class: Option<usize>) -> bool
+    ensures { result ≡ has_tasks names.now (class_by names.now class) }
+{
+    match class {
+        Some(class) => names.is_task(class),
+        None => false,
+    }
+}
+
+// Whether a member of a class that has one is its main.
+fn is_main(sig: &Sig) -> bool
+    ensures { result ≡ (is_plain sig.now.role && same_name sig.now.name main_name) }
+{
+    is_plain(sig) && sig.name.is(b"main")
 }
 
 // Adds the code of a written routine, behind so many text literals and accept statements of the program, where `last` is the number
@@ -106,7 +137,7 @@ fn lower_written(
     out: &mut Draft,
 ) -> Result<(), AllocError>
     requires main { is_program_main ≡ nat_eq number (main_number names.now) }
-    requires alone { is_plain one.now.routine.now.sig.role ≡ false → is_program_main ≡ false }
+    requires named { is_program_main ≡ true → is_main names.now one.now.routine.now.sig ≡ true }
     requires built { are_built one.now.routine.now.body ≡ true }
     requires params { length one.now.routine.now.sig.params ≤ PROGRAM_SIZE }
     requires known { number < length out.old.routines }
@@ -118,8 +149,8 @@ fn lower_written(
     requires texts { texts + stmts_size one.now.routine.now.body ≤ PROGRAM_SIZE }
     ensures kept { OnOk result (Kept (laid_in out.old) (laid_in out.new)) }
     ensures room { OnOk result (length out.new.ops ≤ length out.old.ops + routine_room names.now (defined_at one.now)) }
-    ensures code { OnOk result (RoutineAt (laid_in out.new) last number (routine_meant names.now one.now.routine.now (routine_scope names.now one.now.routine.now (place_by names.now (defined_at one.now)) number texts sites)) (record { entry = length out.old.ops; cells = frame_cells names.now one.now.routine.now; params = length one.now.routine.now.sig.params }) (length out.old.ops) (length out.new.ops)) }
-    ensures written { OnOk result (out.new.routines ≡ slice_set out.old.routines number (record { entry = length out.old.ops; cells = frame_cells names.now one.now.routine.now; params = length one.now.routine.now.sig.params })) }
+    ensures code { OnOk result (RoutineAt (laid_in out.new) last number (routine_meant names.now one.now.routine.now (routine_scope names.now one.now.routine.now (place_by names.now (defined_at one.now)) number texts sites)) (record { entry = length out.old.ops; cells = frame_cells names.now one.now.routine.now; params = length one.now.routine.now.sig.params; written = true }) (length out.old.ops) (length out.new.ops)) }
+    ensures written { OnOk result (out.new.routines ≡ slice_set out.old.routines number (record { entry = length out.old.ops; cells = frame_cells names.now one.now.routine.now; params = length one.now.routine.now.sig.params; written = true })) }
     ensures outside { OnOk result (out.new.marks ≡ []) }
     ensures texts { OnOk result (out.new.texts ≡ texts + length (gathered_all own_texts one.now.routine.now.body)) }
     ensures few_texts { OnOk result (out.new.texts ≤ texts + stmts_size one.now.routine.now.body) }

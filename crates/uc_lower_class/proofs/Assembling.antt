@@ -1,18 +1,16 @@
 -- What constructors and destructors are made of, put together.
-use Rattle.std.proofs.Common.{◌≡◌, ℕ, ◌+◌, ◌≤◌, List, [], ◌∷◌, ◌++◌, Bool, false, Option, Some, None, length, reverse, refl, ap, sym, subst, ◌∙◌, arith}
+use Rattle.std.proofs.Common.{◌≡◌, ℕ, ◌+◌, ◌*◌, ◌≤◌, List, [], ◌∷◌, ◌++◌, Bool, Option, Some, None, length, reverse, refl, ap, sym, subst, ◌∙◌, arith}
 use Rattle.uc_tree.specs.declared.kinds.Role.{Role}
 use Rattle.uc_tree.specs.declared.kinds.Role.TheVariants as role
 use Rattle.uc_tree.specs.Cells.{declared_cells, stmts_cells}
 use Rattle.uc_tree.specs.Scopes.{stmts_scopes}
 use Rattle.uc_tree.specs.StatementSizes.{stmts_size}
 use Rattle.uc_tree.specs.Programs.{Class, Init, Program, Routine}
-use Rattle.uc_tree.specs.declared.kinds.Kind.{Kind}
-use Rattle.uc_tree.specs.declared.kinds.Kind.TheVariants as kind
-use Rattle.uc_tree.specs.Numbering.{is_mutex}
-use Rattle.uc_tree.specs.Objects.{APlain, class_at}
+use Rattle.uc_tree.specs.Objects.{class_at}
 use Rattle.uc_tree.specs.Source.{Expr, Stmt, Stmts, Nil, Then, Built, Whole}
-use Rattle.uc_resolve.specs.Resolve.{Meant, Scope, body_by, build, class_by, clean_up, construction, construction_ends, destruction, ending, freed, nowhere, place_or_zero, scope_behind, stmts_meant, unwritten_body}
+use Rattle.uc_resolve.specs.Resolve.{Meant, Scope, body_by, build, class_by, clean_up, construction, construction_ends, destruction, nowhere, place_or_zero, scope_behind, stmts_meant, unwritten_body}
 use Rattle.uc_code.specs.declared.rows.Array.{Array}
+use Rattle.uc_code.specs.declared.rows.Manner.{Manner}
 use Rattle.uc_code.specs.declared.rows.Mark.{Mark}
 use Rattle.uc_code.specs.declared.rows.ObjectCall.{ObjectCall}
 use Rattle.uc_code.specs.declared.rows.Cleaning.{Cleaning}
@@ -27,61 +25,58 @@ use Rattle.uc_code.specs.Lowered.{StmtAt, StmtsAt}
 use Rattle.uc_code.specs.ObjectCalls.{Cleans}
 use Rattle.uc_code.specs.Emits.{Puts, clean_by, clean_length}
 use Rattle.uc_lower_expr.specs.DraftGrowth.{Adds}
-use Rattle.uc_lower_expr.specs.Members.{FitClasses, routine_for}
+use Rattle.uc_lower_expr.specs.Meanings.{making_by}
+use Rattle.uc_lower_expr.specs.Members.{routine_for}
 use Rattle.uc_lower_stmt.specs.Blocks.{AllStandBehind, EndsScopes}
-use Rattle.uc_lower_stmt.specs.Objects.{array_by, build_room, call_by}
+use Rattle.uc_lower_stmt.specs.Objects.{array_by, build_room, call_by, ended_by}
 use Rattle.uc_lower_stmt.specs.LowersStatement.{Lowers, scope_of}
 use Rattle.uc_lower_stmt.proofs.Joined.{lowers_adds, lowers_as, lowers_nothing, lowers_put}
 use Rattle.uc_lower_stmt.proofs.Laying.{lays_ended, lays_join, lays_nothing, lays_one}
 use Rattle.uc_lower_stmt.proofs.Kept.{stmt_stable}
-use Rattle.uc_lower_stmt.proofs.RoutinesLemmas.{IsPlain, class_plain}
-use Rattle.uc_lower_class.specs.Bodies.{LowersBody, LowersUnwritten, LowersWhole, built_at, built_room, left_at, role_room, unwritten_room, whole_room}
-use Rattle.uc_lower_class.specs.Fields.{PartBehind, all_built, all_left, all_room, left_count, left_room, live_room, part_room}
+use Rattle.uc_lower_stmt.proofs.BlocksLemmas.{pending_kept}
+use Rattle.uc_lower_stmt.specs.Marked.{closing}
+use Rattle.uc_lower_stmt.specs.OpenScopes.{Pending}
+use Rattle.uc_code.proofs.Stable.{kept_then}
+use Rattle.uc_lower_class.specs.Bodies.{LowersBare, LowersBody, LowersRaised, LowersUnwritten, LowersWhole, built_at, built_room, freed_at, freed_in, left_at, mutex_by, raise_room, raised_body, role_room, unwritten_room, whole_room}
+use Rattle.uc_lower_class.specs.Fields.{PartBehind, all_built, all_left, all_room, left_count, left_room, live_room, mutex_count, own_close, part_room}
 use Rattle.uc_lower_class.specs.declared.parts.Part.{Part}
 use Rattle.uc_lower_class.specs.OpenParts.{Constructs, EndsParts, LeavesAll, NoParts, PartsIn}
 use Rattle.uc_lower_class.proofs.Fielding.{part_fits}
+use Rattle.uc_lower_class.proofs.Living.{mutex_few}
 use Rattle.uc_lower_class.proofs.Parting.{constructs_as, constructs_does, constructs_part, constructs_then}
 use Rattle.uc_lower_class.proofs.Wholes.{arm_built}
 
 -- an object that is built, and its part
 
-pub stands_by : (p : Program) (j : ℕ) (ms ns : List Mark) (wanted : Role) (s : Spot) (l : Option ℕ) (what : Cleaning) → AllStandBehind p j ms → ns ≡ ms → what ≡ cleaning.Call (call_by (routine_for p j wanted) s (array_by p j l)) → CleansBehind ns what
-stands_by p j ms ns wanted s l what b e w =
-    subst (λ (x : Cleaning). CleansBehind ns x) (sym w) (subst (λ (os : List Mark). StandsBehind os (call_by (routine_for p j wanted) s (array_by p j l))) (sym e) (record { behind = λ h. b.each wanted h }))
+pub stands_by : (p : Program) (j : ℕ) (ms ns : List Mark) (wanted : Role) (m : Manner) (s : Spot) (o : Option Array) (what : Cleaning) → AllStandBehind p j ms → ns ≡ ms → what ≡ cleaning.Call (call_by (routine_for p j wanted) m s o) → CleansBehind ns what
+stands_by p j ms ns wanted m s o what b e w =
+    subst (λ (x : Cleaning). CleansBehind ns x) (sym w) (subst (λ (os : List Mark). StandsBehind os (call_by (routine_for p j wanted) m s o)) (sym e) (record { behind = λ h. b.each wanted h }))
 
-pub part_built : (p : Program) (j n : ℕ) (s : Spot) (l : Option ℕ) (place : Expr) (ms : List Meant) (what : Cleaning) (ws us : List Cleaning) (old mid new : Draft) → Puts (n + build_room l) (λ code. StmtAt code old.marks (build p 0 (APlain j) l place ms)) old mid
-    → us ≡ ws ++ what ∷ [] → what ≡ cleaning.Call (call_by (routine_for p j role.Destructor) s (array_by p j l)) → Cleans (clean_up p (APlain j) l place) what → new ≡ opened opening.Part mid → Kept (laid_in mid) (laid_in new) → AllStandBehind p j old.marks
-    → Constructs (n + part_room l) (λ rest. Then (build p 0 (APlain j) l place ms) (Built (clean_up p (APlain j) l place) rest)) ws old us new
-part_built p j n s l place ms what ws us old mid new h f w g e k b =
+pub part_built : (p : Program) (j : ℕ) (mutex : Bool) (n : ℕ) (s : Spot) (l : Option ℕ) (place : Expr) (ms : List Meant) (what : Cleaning) (ws us : List Cleaning) (old mid new : Draft) → Puts (n + build_room l) (λ code. StmtAt code old.marks (build p 0 (making_by j mutex) l place ms)) old mid
+    → us ≡ ws ++ what ∷ [] → what ≡ cleaning.Call (call_by (routine_for p j role.Destructor) (ended_by mutex) s (array_by p j mutex l)) → Cleans (clean_up p (making_by j mutex) l place) what → new ≡ opened opening.Part mid → Kept (laid_in mid) (laid_in new) → AllStandBehind p j old.marks
+    → Constructs (n + part_room l) (λ rest. Then (build p 0 (making_by j mutex) l place ms) (Built (clean_up p (making_by j mutex) l place) rest)) ws old us new
+part_built p j mutex n s l place ms what ws us old mid new h f w g e k b =
     let marks : mid.marks ≡ old.marks = ap (λ (d : Draft). d.marks) h.rest in
-    let fits : build_room l + (clean_length what + 2) ≤ part_room l = subst (λ (x : Cleaning). build_room l + (clean_length x + 2) ≤ part_room l) (sym w) (part_fits p j (routine_for p j role.Destructor) s l) in
-    constructs_as (constructs_then (constructs_does (build p 0 (APlain j) l place ms) ws h) (constructs_part (clean_up p (APlain j) l place) what ws us mid new e f k g (stands_by p j old.marks mid.marks role.Destructor s l what b marks w))) (omega (arith, fits)) (λ ss. refl)
+    let fits : build_room l + (clean_length what + 2) ≤ part_room l = subst (λ (x : Cleaning). build_room l + (clean_length x + 2) ≤ part_room l) (sym w) (part_fits p j mutex (routine_for p j role.Destructor) s l) in
+    constructs_as (constructs_then (constructs_does (build p 0 (making_by j mutex) l place ms) ws h) (constructs_part (clean_up p (making_by j mutex) l place) what ws us mid new e f k g (stands_by p j old.marks mid.marks role.Destructor (ended_by mutex) s (array_by p j mutex l) what b marks w))) (omega (arith, fits)) (λ ss. refl)
 
 -- the fields of a class that may be missing
 
-not_freed : (p : Program) (k : Kind) (i : ℕ) (ss : Stmts) → is_mutex k ≡ false → ss ≡ freed p k i ss
-not_freed p kind.Class i ss h = refl
-not_freed p kind.Coroutine i ss h = refl
-not_freed p kind.Monitor i ss h = cc
-not_freed p kind.Cormonitor i ss h = cc
-not_freed p kind.Task i ss h = cc
-not_freed p kind.Event i ss h = refl
+all_construction : (p : Program) (i : ℕ) (inits : List Init) (s : Scope) (o : Option Class) (ss : Stmts) → freed_in p i o (all_built p i inits s o ss) ≡ construction p o i inits s ss
+all_construction p i inits s None ss = refl
+all_construction p i inits s (Some c) ss = refl
 
-all_construction : (p : Program) (i : ℕ) (inits : List Init) (s : Scope) (o : Option Class) (ss : Stmts) → IsPlain o → all_built p i inits s o ss ≡ construction p o i inits s ss
-all_construction p i inits s None ss plain = refl
-all_construction p i inits s (Some c) ss plain = not_freed p c.kind i (all_built p i inits s (Some c) ss) (plain c refl)
+all_destruction : (p : Program) (i : ℕ) (o : Option Class) (ss : Stmts) → all_left p i o ss ≡ destruction p o i ss
+all_destruction p i None ss = refl
+all_destruction p i (Some c) ss = refl
 
-all_destruction : (p : Program) (i : ℕ) (o : Option Class) (ss : Stmts) → IsPlain o → all_left p i o ss ≡ destruction p o i ss
-all_destruction p i None ss plain = refl
-all_destruction p i (Some c) ss plain = sym (ap (λ (b : Bool). ending p b (all_left p i (Some c) ss)) (plain c refl))
+built_construction : (p : Program) (place : Option ℕ) (r : Routine) (s : Scope) (ss : Stmts) → freed_at p place (built_at p place r s ss) ≡ construction p (class_by p place) (place_or_zero p place) r.inits s ss
+built_construction p None r s ss = refl
+built_construction p (Some i) r s ss = all_construction p i r.inits s (class_at p i) ss
 
-built_construction : (p : Program) → FitClasses p → (place : Option ℕ) (r : Routine) (s : Scope) (ss : Stmts) → built_at p place r s ss ≡ construction p (class_by p place) (place_or_zero p place) r.inits s ss
-built_construction p fit None r s ss = refl
-built_construction p fit (Some i) r s ss = all_construction p i r.inits s (class_at p i) ss (class_plain p fit (Some i))
-
-left_destruction : (p : Program) → FitClasses p → (place : Option ℕ) (ss : Stmts) → left_at p place ss ≡ destruction p (class_by p place) (place_or_zero p place) ss
-left_destruction p fit None ss = refl
-left_destruction p fit (Some i) ss = all_destruction p i (class_at p i) ss (class_plain p fit (Some i))
+left_destruction : (p : Program) (place : Option ℕ) (ss : Stmts) → left_at p place ss ≡ destruction p (class_by p place) (place_or_zero p place) ss
+left_destruction p None ss = refl
+left_destruction p (Some i) ss = all_destruction p i (class_at p i) ss
 
 abbrev block_of_body : Program → Routine → Scope → Stmt
 block_of_body p r s = Whole r.brace.line (stmts_meant p r.body s)
@@ -90,13 +85,13 @@ block_of_body p r s = Whole r.brace.line (stmts_meant p r.body s)
 abbrev body_within : Program → Option ℕ → Routine → Scope → Stmts
 body_within p place r s = Then (block_of_body p r s) (construction_ends p (class_by p place) (place_or_zero p place))
 
-pub constructor_body : (p : Program) → FitClasses p → (place : Option ℕ) (r : Routine) (s : Scope) → place ≡ s.class → built_at p place r s (body_within p place r s) ≡ body_by p role.Constructor r s
-constructor_body p fit place r s e =
-    built_construction p fit place r s (body_within p place r s) ∙ ap (λ (o : Option ℕ). construction p (class_by p o) (place_or_zero p o) r.inits s (body_within p o r s)) e
+constructor_body : (p : Program) (place : Option ℕ) (r : Routine) (s : Scope) → place ≡ s.class → freed_at p place (raised_body p place r s) ≡ body_by p role.Constructor r s
+constructor_body p place r s e =
+    built_construction p place r s (body_within p place r s) ∙ ap (λ (o : Option ℕ). construction p (class_by p o) (place_or_zero p o) r.inits s (body_within p o r s)) e
 
-pub destructor_body : (p : Program) → FitClasses p → (place : Option ℕ) (r : Routine) (s : Scope) → place ≡ s.class → left_at p place (Then (block_of_body p r s) Nil) ≡ body_by p role.Destructor r s
-destructor_body p fit place r s e =
-    left_destruction p fit place (Then (block_of_body p r s) Nil) ∙ ap (λ (o : Option ℕ). destruction p (class_by p o) (place_or_zero p o) (Then (block_of_body p r s) Nil)) e
+destructor_body : (p : Program) (place : Option ℕ) (r : Routine) (s : Scope) → place ≡ s.class → left_at p place (Then (block_of_body p r s) Nil) ≡ body_by p role.Destructor r s
+destructor_body p place r s e =
+    left_destruction p place (Then (block_of_body p r s) Nil) ∙ ap (λ (o : Option ℕ). destruction p (class_by p o) (place_or_zero p o) (Then (block_of_body p r s) Nil)) e
 
 -- written ones
 
@@ -108,23 +103,70 @@ whole_on : (p : Program) (r : Routine) (s : Scope) (old new : Draft) → scope_o
 whole_on p r s old new e h =
     subst (λ (t : Scope). Lowers (whole_room r) (stmts_size r.body) (stmts_cells r.body (declared_cells p)) (stmts_scopes r.body) (λ code. StmtAt code old.marks (block_of_body p r t)) (scope_behind p r.body t) old new) e h
 
-pub constructor_laid : (p : Program) → FitClasses p → (place : Option ℕ) (r : Routine) (us : List Cleaning) (d0 d1 d2 d3 new : Draft) → place ≡ d0.place.class → Constructs (built_room p place r) (built_at p place r (scope_of d0)) [] d0 us d1 → LowersWhole p r d1 d2
-    → ((ms : List Mark) → Adds (live_room (class_by p place)) (λ code. StmtsAt code ms 0 (construction_ends p (class_by p place) (place_or_zero p place))) d2 d3) → EndsParts (reverse us) d3 new → LowersBody p role.Constructor r d0 new
-constructor_laid p fit place r us d0 d1 d2 d3 new e h w l g =
+pub raised_laid : (p : Program) (place : Option ℕ) (r : Routine) (us : List Cleaning) (d0 d1 d2 d3 new : Draft) → Constructs (built_room p place r) (built_at p place r (scope_of d0)) [] d0 us d1 → LowersWhole p r d1 d2
+    → ((ms : List Mark) → Adds (live_room (class_by p place)) (λ code. StmtsAt code ms 0 (construction_ends p (class_by p place) (place_or_zero p place))) d2 d3) → EndsParts (reverse us) d3 new → LowersRaised p place r d0 new
+raised_laid p place r us d0 d1 d2 d3 new h w l g =
     let scope : scope_of d1 ≡ scope_of d0 = ap scope_of h.rest in
     let within : Lowers (whole_room r + live_room (class_by p place)) (stmts_size r.body) (stmts_cells r.body (declared_cells p)) (stmts_scopes r.body) (λ code. StmtsAt code d1.marks 0 (body_within p place r (scope_of d0))) (scope_behind p r.body (scope_of d0)) d1 d3 =
     lowers_put (stmt_stable d1.marks (block_of_body p r (scope_of d0))) (whole_on p r (scope_of d0) d1 d2 scope w) (l d1.marks) in
     let all = arm_built (built_room p place r) (whole_room r + live_room (class_by p place)) (stmts_size r.body) (stmts_cells r.body (declared_cells p)) (stmts_scopes r.body) (built_at p place r (scope_of d0)) us (body_within p place r (scope_of d0)) (scope_behind p r.body (scope_of d0)) d0 d1 d3 new h within g in
+    lowers_as all refl (λ code x z q. q) (omega arith) (omega arith) (omega arith) refl
+
+-- statements in a scope, which has ended
+scope_around : {n m k c d o : ℕ} {F : Stmts → Stmts} {t : Scope} {d0 d1 d2 new : Draft} → (ss : Stmts) (depth : ℕ) → depth ≡ length d0.marks → LeavesAll n d F d0 d1 → Lowers m k c o (λ code. StmtsAt code d1.marks 0 ss) t d1 d2 → EndsScopes depth d2 new → Lowers (n + m) k c o (λ code. StmtsAt code d0.marks 0 (F ss)) t d0 new
+scope_around {n} {m} {k} {c} {d} {o} {F} {t} {d0} {d1} {d2} {new} ss depth q h w e =
+    let marks2 : d2.marks ≡ d1.marks = ap (λ (x : Draft). x.marks) w.rest in
+    let before : Pending (laid_in d2) 0 d0.marks (length d0.ops) h.steps d2.marks (length d1.ops) =
+    subst (λ (ms : List Mark). Pending (laid_in d2) 0 d0.marks (length d0.ops) h.steps ms (length d1.ops)) (sym marks2) (pending_kept (laid_in d1) 0 d0.marks (length d0.ops) (laid_in d2) h.steps d1.marks (length d1.ops) (omega arith) w.kept h.code) in
+    let within : StmtsAt (laid_in d2) d2.marks 0 ss (length d1.ops) (length d2.ops) = subst (λ (ms : List Mark). StmtsAt (laid_in d2) ms 0 ss (length d1.ops) (length d2.ops)) (sym marks2) w.code in
+    let b = e.block 0 (length d0.ops) (length d1.ops) h.steps d0.marks ss (sym q) h.none before within in
+    let ends : closing new.marks ≡ closing d0.marks = ap closing b.marks in
+    let same : closing d2.marks ≡ closing d1.marks = ap closing marks2 in
+    let scopes2 : new.scopes ≡ d2.scopes = ap (λ (x : Draft). x.scopes) e.rest in
+    let texts2 : new.texts ≡ d2.texts = ap (λ (x : Draft). x.texts) e.rest in
+    let cells2 : new.cells ≡ d2.cells = ap (λ (x : Draft). x.cells) e.rest in
+    record {
+      rest = scope_rests h.rest w.rest e.rest b.marks;
+      scope = ap scope_of e.rest ∙ w.scope;
+      opened = (let x = h.opened in let y = w.opened in omega arith);
+      kept = kept_then (laid_in d0) (laid_in d1) (laid_in new) h.kept (kept_then (laid_in d1) (laid_in d2) (laid_in new) w.kept e.kept);
+      room = (let x = h.room in let y = w.room in let z = e.room in omega (arith, ends, same));
+      texts = (let x = h.texts in let y = w.texts in omega arith);
+      cells = (let x = h.cells in let y = w.cells in omega arith);
+      code = subst (λ (x : Stmts). StmtsAt (laid_in new) d0.marks 0 x (length d0.ops) (length new.ops)) (h.block ss) b.code;
+    }
+  where
+    scope_rests : d1 ≡ record d0 { ops = d1.ops; rows = d1.rows; settled = d1.settled; marks = d1.marks; scopes = d1.scopes; names = d1.names; cells = d1.cells; hidden = d1.hidden; texts = d1.texts; sites = d1.sites }
+        → d2 ≡ record d1 { ops = d2.ops; rows = d2.rows; settled = d2.settled; scopes = d2.scopes; names = d2.names; cells = d2.cells; hidden = d2.hidden; texts = d2.texts; sites = d2.sites }
+        → new ≡ record d2 { ops = new.ops; rows = new.rows; settled = new.settled; marks = new.marks } → new.marks ≡ d0.marks
+        → new ≡ record d0 { ops = new.ops; rows = new.rows; settled = new.settled; scopes = new.scopes; names = new.names; cells = new.cells; hidden = new.hidden; texts = new.texts; sites = new.sites }
+    scope_rests r1 r2 r3 m3 =
+        let all : new ≡ record d0 { ops = new.ops; rows = new.rows; settled = new.settled; scopes = d2.scopes; names = d2.names; cells = d2.cells; hidden = d2.hidden; texts = d2.texts; sites = d2.sites } =
+        r3 ∙ ap (λ (x : Draft). let y : Draft = record x { ops = new.ops; rows = new.rows; settled = new.settled; marks = new.marks } in y) r2
+        ∙ ap (λ (x : Draft). let y : Draft = record x { ops = new.ops; rows = new.rows; settled = new.settled; marks = new.marks; scopes = d2.scopes; names = d2.names; cells = d2.cells; hidden = d2.hidden; texts = d2.texts; sites = d2.sites } in y) r1
+        ∙ ap (λ (ms : List Mark). let y : Draft = record d0 { ops = new.ops; rows = new.rows; settled = new.settled; marks = ms; scopes = d2.scopes; names = d2.names; cells = d2.cells; hidden = d2.hidden; texts = d2.texts; sites = d2.sites } in y) m3 in
+        subst (λ (x : Draft). new ≡ record d0 { ops = new.ops; rows = new.rows; settled = new.settled; scopes = x.scopes; names = x.names; cells = x.cells; hidden = x.hidden; texts = x.texts; sites = x.sites }) (sym r3) all
+
+-- what is reckoned for the scope of a mutex object
+abbrev FreedAt : Program → Option ℕ → Draft → Draft → Type 0
+FreedAt p o old new = LeavesAll (own_close * mutex_count (mutex_by p o)) (mutex_count (mutex_by p o)) (freed_at p o) old new
+
+pub constructor_laid : (p : Program) (place : Option ℕ) (r : Routine) (depth : ℕ) (d0 d1 d2 new : Draft) → place ≡ d0.place.class → depth ≡ length d0.marks → FreedAt p place d0 d1 → LowersRaised p place r d1 d2 → EndsScopes depth d2 new → LowersBody p role.Constructor r d0 new
+constructor_laid p place r depth d0 d1 d2 new e q h w g =
+    let few = mutex_few (mutex_by p place) in
+    let raised : low_body p r (raise_room p place r) (raised_body p place r (scope_of d0)) d1 d2 =
+    subst (λ (s : Scope). Lowers (raise_room p place r) (stmts_size r.body) (stmts_cells r.body (declared_cells p)) (stmts_scopes r.body) (λ code. StmtsAt code d1.marks 0 (raised_body p place r s)) (scope_behind p r.body (scope_of d1)) d1 d2) h.scope w in
+    let all = scope_around (raised_body p place r (scope_of d0)) depth q h raised g in
     let placed : low_body p r (role_room p role.Constructor place r) (body_by p role.Constructor r (scope_of d0)) d0 new =
-    subst (λ (ss : Stmts). low_body p r (role_room p role.Constructor place r) ss d0 new) (constructor_body p fit place r (scope_of d0) e) (lowers_as all refl (λ code x z q. q) (omega arith) (omega arith) (omega arith) refl) in
+    subst (λ (ss : Stmts). low_body p r (role_room p role.Constructor place r) ss d0 new) (constructor_body p place r (scope_of d0) e) (lowers_as all (ap (scope_behind p r.body) h.scope) (λ code x z y. y) (omega (arith, few)) (omega arith) (omega arith) refl) in
     subst (λ (o : Option ℕ). low_body p r (role_room p role.Constructor o r) (body_by p role.Constructor r (scope_of d0)) d0 new) e placed
 
-pub destructor_laid : (p : Program) → FitClasses p → (place : Option ℕ) (r : Routine) (depth : ℕ) (d0 d1 d2 new : Draft) → place ≡ d0.place.class → depth ≡ length d0.marks → LeavesAll (left_room (class_by p place)) (left_count (class_by p place)) (left_at p place) d0 d1 → LowersWhole p r d1 d2 → EndsScopes depth d2 new → LowersBody p role.Destructor r d0 new
-destructor_laid p fit place r depth d0 d1 d2 new e q h w g =
+pub destructor_laid : (p : Program) (place : Option ℕ) (r : Routine) (depth : ℕ) (d0 d1 d2 new : Draft) → place ≡ d0.place.class → depth ≡ length d0.marks → LeavesAll (left_room (class_by p place)) (left_count (class_by p place)) (left_at p place) d0 d1 → LowersWhole p r d1 d2 → EndsScopes depth d2 new → LowersBody p role.Destructor r d0 new
+destructor_laid p place r depth d0 d1 d2 new e q h w g =
     let whole = whole_on p r (scope_of d0) d1 d2 h.scope w in
     let all = lays_ended depth q (lays_join h (lays_one {s = block_of_body p r (scope_of d0)} 0 whole)) g in
     let placed : low_body p r (role_room p role.Destructor place r) (body_by p role.Destructor r (scope_of d0)) d0 new =
-    subst (λ (ss : Stmts). low_body p r (role_room p role.Destructor place r) ss d0 new) (destructor_body p fit place r (scope_of d0) e) (lowers_as all refl (λ code x z y. y) (omega arith) (omega arith) (omega arith) (omega arith)) in
+    subst (λ (ss : Stmts). low_body p r (role_room p role.Destructor place r) ss d0 new) (destructor_body p place r (scope_of d0) e) (lowers_as all refl (λ code x z y. y) (omega arith) (omega arith) (omega arith) (omega arith)) in
     subst (λ (o : Option ℕ). low_body p r (role_room p role.Destructor o r) (body_by p role.Destructor r (scope_of d0)) d0 new) e placed
 
 -- those that nobody wrote
@@ -132,20 +174,26 @@ destructor_laid p fit place r depth d0 d1 d2 new e q h w g =
 abbrev low_bare : ℕ → Stmts → Draft → Draft → Type 0
 low_bare n ss old new = Lowers n 0 0 0 (λ code. StmtsAt code old.marks 0 ss) (scope_of old) old new
 
-pub unwritten_built : (p : Program) → FitClasses p → (i : ℕ) (us : List Cleaning) (d0 d1 d2 new : Draft) → scope_of d0 ≡ nowhere p → Constructs (all_room [] (class_at p i)) (all_built p i [] (scope_of d0) (class_at p i)) [] d0 us d1
-    → ((ms : List Mark) → Adds (live_room (class_at p i)) (λ code. StmtsAt code ms 0 (construction_ends p (class_at p i) i)) d1 d2) → EndsParts (reverse us) d2 new → LowersUnwritten p role.Constructor i d0 new
-unwritten_built p fit i us d0 d1 d2 new e h l g =
+pub bare_laid : (p : Program) (i : ℕ) (us : List Cleaning) (d0 d1 d2 new : Draft) → scope_of d0 ≡ nowhere p → Constructs (all_room [] (class_at p i)) (all_built p i [] (scope_of d0) (class_at p i)) [] d0 us d1
+    → ((ms : List Mark) → Adds (live_room (class_at p i)) (λ code. StmtsAt code ms 0 (construction_ends p (class_at p i) i)) d1 d2) → EndsParts (reverse us) d2 new → LowersBare p i d0 new
+bare_laid p i us d0 d1 d2 new e h l g =
     let ends : Stmts = construction_ends p (class_at p i) i in
     let within : Lowers (live_room (class_at p i)) 0 0 0 (λ code. StmtsAt code d1.marks 0 (construction_ends p (class_at p i) i)) (scope_of d1) d1 d2 = lowers_adds 0 0 (l d1.marks) in
     let scope : scope_of d1 ≡ scope_of d0 = ap scope_of h.rest in
     let all = arm_built (all_room [] (class_at p i)) (live_room (class_at p i)) 0 0 0 (all_built p i [] (scope_of d0) (class_at p i)) us ends (scope_of d1) d0 d1 d2 new h within g in
-    let body : all_built p i [] (scope_of d0) (class_at p i) ends ≡ unwritten_body p role.Constructor i = all_construction p i [] (scope_of d0) (class_at p i) ends (class_plain p fit (Some i)) ∙ ap (λ (s : Scope). construction p (class_at p i) i [] s ends) e in
-    subst (λ (ss : Stmts). low_bare (unwritten_room role.Constructor (class_at p i)) ss d0 new) body (lowers_as all scope (λ code x z y. y) (omega arith) (omega arith) (omega arith) (omega arith))
+    lowers_as all scope (λ code x z y. subst (λ (s : Scope). StmtsAt code d0.marks 0 (all_built p i [] s (class_at p i) ends) x z) e y) (omega arith) (omega arith) (omega arith) (omega arith)
 
-pub unwritten_left : (p : Program) → FitClasses p → (i depth : ℕ) (d0 d1 new : Draft) → depth ≡ length d0.marks → LeavesAll (left_room (class_at p i)) (left_count (class_at p i)) (all_left p i (class_at p i)) d0 d1 → EndsScopes depth d1 new → LowersUnwritten p role.Destructor i d0 new
-unwritten_left p fit i depth d0 d1 new q h g =
+pub unwritten_built : (p : Program) (i depth : ℕ) (d0 d1 d2 new : Draft) → depth ≡ length d0.marks → FreedAt p (Some i) d0 d1 → LowersBare p i d1 d2 → EndsScopes depth d2 new → LowersUnwritten p role.Constructor i d0 new
+unwritten_built p i depth d0 d1 d2 new q h w g =
+    let few = mutex_few (mutex_by p (Some i)) in
+    let all = scope_around (all_built p i [] (nowhere p) (class_at p i) (construction_ends p (class_at p i) i)) depth q h w g in
+    let body : freed_in p i (class_at p i) (all_built p i [] (nowhere p) (class_at p i) (construction_ends p (class_at p i) i)) ≡ unwritten_body p role.Constructor i = all_construction p i [] (nowhere p) (class_at p i) (construction_ends p (class_at p i) i) in
+    subst (λ (ss : Stmts). low_bare (unwritten_room role.Constructor (class_at p i)) ss d0 new) body (lowers_as all h.scope (λ code x z y. y) (omega (arith, few)) (omega arith) (omega arith) (omega arith))
+
+pub unwritten_left : (p : Program) (i depth : ℕ) (d0 d1 new : Draft) → depth ≡ length d0.marks → LeavesAll (left_room (class_at p i)) (left_count (class_at p i)) (all_left p i (class_at p i)) d0 d1 → EndsScopes depth d1 new → LowersUnwritten p role.Destructor i d0 new
+unwritten_left p i depth d0 d1 new q h g =
     let all = lays_ended depth q h g in
-    subst (λ (ss : Stmts). low_bare (left_room (class_at p i)) ss d0 new) (all_destruction p i (class_at p i) Nil (class_plain p fit (Some i))) (lowers_as all refl (λ code x z y. y) (omega arith) (omega arith) (omega arith) (omega arith))
+    subst (λ (ss : Stmts). low_bare (left_room (class_at p i)) ss d0 new) (all_destruction p i (class_at p i) Nil) (lowers_as all refl (λ code x z y. y) (omega arith) (omega arith) (omega arith) (omega arith))
 
 -- a part that ends takes some ops
 pub clean_some : (what : Cleaning) → 1 ≤ clean_length what
@@ -156,6 +204,9 @@ clean_some (cleaning.Call what) = some_by what.array what
     some_by (Some a) what = omega arith
 clean_some cleaning.TakeDown = omega arith
 clean_some cleaning.Forget = omega arith
+clean_some cleaning.Leave = omega arith
+clean_some cleaning.End = omega arith
+clean_some (cleaning.Free main) = omega arith
 
 -- the parts of fields that are built are those of the marks, behind a block too
 pub parts_on : {n : ℕ} {F : Stmts → Stmts} (us : List Cleaning) (d0 d1 d2 : Draft) → Constructs n F [] d0 us d1 → d2.marks ≡ d1.marks → PartsIn (reverse us) d2.marks

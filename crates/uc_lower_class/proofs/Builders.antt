@@ -1,6 +1,6 @@
 -- The code of constructors and destructors.
 use Rattle.std.proofs.Common.{◌≡◌, ℕ, ◌+◌, ◌≤◌, Bool, true, false, List, [], ◌∷◌, ◌++◌, length, nat_eq, refl, ap, sym, subst, ◌∙◌, arith}
-use Rattle.std.specs.Prelude.{◌&&◌, Option, Some, None, is_some, max, slice_set}
+use Rattle.std.specs.Prelude.{◌&&◌, ◌||◌, if◌then◌else◌, Option, Some, None, is_some, max, slice_set}
 use Rattle.std.proofs.Math.Nat.{max-eq_left, max-eq_right}
 use Rattle.uc_tree.specs.declared.kinds.Base.{Base}
 use Rattle.uc_tree.specs.declared.kinds.Param.{Param}
@@ -34,7 +34,6 @@ use Rattle.uc_lower_stmt.specs.Routines.{frame_cells}
 use Rattle.uc_lower_stmt.specs.LowersStatement.{Lowers, scope_of}
 use Rattle.uc_lower_stmt.proofs.Counted.{behind_counted}
 use Rattle.uc_lower_stmt.proofs.Kept.{stmts_stable}
-use Rattle.uc_lower_stmt.proofs.RoutinesLemmas.{purpose_with}
 use Rattle.uc_lower_class.specs.Bodies.{LowersBody, LowersUnwritten, builder_room, role_room, unwritten_room}
 
 -- a routine with this body is laid out, and written down under its number
@@ -121,6 +120,9 @@ no_number : (p : Program) (c : Option Class) (s : Sig) → is_plain s.role ≡ f
 no_number p None s e = refl
 no_number p (Some k) s e = ap (λ (x : Bool). x && is_some (member_number k s.name)) e
 
+abbrev purpose_with : Bool → Bool → Bool → Bool → Bool → source.Purpose → source.Purpose
+purpose_with b t d m n q = if b || (t && m) then source.TaskMain else if d && m then source.CoroutineMain else if n then source.Builder else q
+
 not_main : (t d : Bool) (q : source.Purpose) → purpose_with false t d false false q ≡ q
 not_main true true q = refl
 not_main true false q = refl
@@ -142,8 +144,8 @@ builder_purpose p r number c e m =
 pub record Written (p : Program) (r : Routine) (s : Scope) (class : Option ℕ) (last number : ℕ) (old new : Draft) : Type 0 where
   pub kept : Kept (laid_in old) (laid_in new)
   pub room : length new.ops ≤ length old.ops + builder_room p r class
-  pub code : RoutineAt (laid_in new) last number (routine_meant p r s) (record { entry = length old.ops; cells = frame_cells p r; params = length r.sig.params }) (length old.ops) (length new.ops)
-  pub written : new.routines ≡ slice_set old.routines number (record { entry = length old.ops; cells = frame_cells p r; params = length r.sig.params })
+  pub code : RoutineAt (laid_in new) last number (routine_meant p r s) (record { entry = length old.ops; cells = frame_cells p r; params = length r.sig.params; written = true }) (length old.ops) (length new.ops)
+  pub written : new.routines ≡ slice_set old.routines number (record { entry = length old.ops; cells = frame_cells p r; params = length r.sig.params; written = true })
   pub outside : new.marks ≡ []
   pub texts : new.texts ≡ s.texts + length (gathered_all own_texts r.body)
   pub few_texts : new.texts ≤ s.texts + stmts_size r.body
@@ -152,7 +154,7 @@ pub record Written (p : Program) (r : Routine) (s : Scope) (class : Option ℕ) 
 module _ (p : Program) (r : Routine) (wanted : Role) (class : Option ℕ) (last number texts sites entry cells params : ℕ) (d0 d1 d2 d3 d4 new : Draft) (few : number ≤ last) (we : wanted ≡ r.sig.role) (builds : is_plain r.sig.role ≡ false) (main : nat_eq number (main_number p) ≡ false)
     (ee : entry ≡ length d0.ops) (ce : cells ≡ d4.hidden) (pe : params ≡ length r.sig.params) (e1 : d1 ≡ begun_by p r.sig.params last class number (routine_cells p r) texts sites d0)
     (h : LowersBody p wanted r d1 d2) (lv : d3 ≡ record d2 { marks = left_marks d2.marks }) (g : Adds 1 (OpCode 0 op.Return) d3 d4)
-    (e : new ≡ record d4 { routines = slice_set d4.routines number (record { entry = entry; cells = cells; params = params }) }) where
+    (e : new ≡ record d4 { routines = slice_set d4.routines number (record { entry = entry; cells = cells; params = params; written = true }) }) where
   abbrev s : Scope
   s = routine_scope p r class number texts sites
 
@@ -160,7 +162,7 @@ module _ (p : Program) (r : Routine) (wanted : Role) (class : Option ℕ) (last 
   first = begun_by p r.sig.params last class number (routine_cells p r) texts sites d0
 
   abbrev begins : RoutineCode
-  begins = record { entry = length d0.ops; cells = frame_cells p r; params = length r.sig.params }
+  begins = record { entry = length d0.ops; cells = frame_cells p r; params = length r.sig.params; written = true }
 
   scope_first : scope_of first ≡ s
   scope_first = let z : 0 + params_cells p r.sig.params ≡ params_cells p r.sig.params = omega arith in ap (λ (n : ℕ). let t : Scope = record s { cells = n } in t) z
@@ -177,9 +179,9 @@ module _ (p : Program) (r : Routine) (wanted : Role) (class : Option ℕ) (last 
   frame = ce ∙ ap (λ (t : Scope). t.hidden) (ap scope_of g.rest ∙ ap scope_of lv ∙ low.scope ∙ behind_counted p r.body (scope_of first))
 
   is : new ≡ record d4 { routines = slice_set d4.routines number begins }
-  is = e ∙ ap (λ (n : ℕ). let d : Draft = record d4 { routines = slice_set d4.routines number (record { entry = n; cells = cells; params = params }) } in d) ee
-      ∙ ap (λ (n : ℕ). let d : Draft = record d4 { routines = slice_set d4.routines number (record { entry = length d0.ops; cells = n; params = params }) } in d) frame
-      ∙ ap (λ (n : ℕ). let d : Draft = record d4 { routines = slice_set d4.routines number (record { entry = length d0.ops; cells = frame_cells p r; params = n }) } in d) pe
+  is = e ∙ ap (λ (n : ℕ). let d : Draft = record d4 { routines = slice_set d4.routines number (record { entry = n; cells = cells; params = params; written = true }) } in d) ee
+      ∙ ap (λ (n : ℕ). let d : Draft = record d4 { routines = slice_set d4.routines number (record { entry = length d0.ops; cells = n; params = params; written = true }) } in d) frame
+      ∙ ap (λ (n : ℕ). let d : Draft = record d4 { routines = slice_set d4.routines number (record { entry = length d0.ops; cells = frame_cells p r; params = n; written = true }) } in d) pe
 
   abbrev room_is : ℕ
   room_is = role_room p r.sig.role class r
@@ -202,6 +204,7 @@ module _ (p : Program) (r : Routine) (wanted : Role) (class : Option ℕ) (last 
           entry = refl;
           cells = refl;
           params = refl;
+          written = refl;
           body = subst (λ (q : source.Purpose). BodyAt (laid_in new) q (max number last) r.brace.line (body_by p r.sig.role r s) (length d0.ops) (length new.ops)) (sym purpose)
               (subst (λ (n : ℕ). BodyAt (laid_in new) source.Builder n r.brace.line (body_by p r.sig.role r s) (length d0.ops) (length new.ops)) (sym (max-eq_right few)) placed.code);
         };
@@ -221,20 +224,21 @@ bare_is number d0 db d1 e1 e2 = e2 ∙ ap (λ (x : Draft). let d : Draft = recor
 module _ (p : Program) (u : Unwritten) (number entry : ℕ) (d0 d1 d2 d3 d4 new : Draft) (ee : entry ≡ length d0.ops)
     (e1 : d1 ≡ record d0 { place = record { class = None; routine = 0; scope = 0 }; marks = mark.Body number ∷ []; scopes = 0; names = []; handled = 0; cells = 0; hidden = 0; texts = 0; sites = 0 })
     (h : LowersUnwritten p u.role u.class d1 d2) (lv : d3 ≡ record d2 { marks = left_marks d2.marks }) (g : Adds 1 (OpCode 0 op.Return) d3 d4)
-    (e : new ≡ record d4 { routines = slice_set d4.routines number (record { entry = entry; cells = 0; params = 0 }) }) where
+    (e : new ≡ record d4 { routines = slice_set d4.routines number (record { entry = entry; cells = 0; params = 0; written = false }) }) where
   abbrev bare : Draft
   bare = record d0 { place = record { class = None; routine = 0; scope = 0 }; marks = mark.Body number ∷ []; scopes = 0; names = []; handled = 0; cells = 0; hidden = 0; texts = 0; sites = 0 }
 
-  pub arm_unwritten : Placed number number (unwritten_room u.role (class_at p u.class)) (unwritten_body p u.role u.class) (record { entry = length d0.ops; cells = 0; params = 0 }) d0 new
+  pub arm_unwritten : Placed number number (unwritten_room u.role (class_at p u.class)) (unwritten_body p u.role u.class) (record { entry = length d0.ops; cells = 0; params = 0; written = false }) d0 new
   arm_unwritten =
-      arm_placed number number (unwritten_room u.role (class_at p u.class)) 0 0 0 (unwritten_body p u.role u.class) (scope_of bare) (record { entry = length d0.ops; cells = 0; params = 0 }) d0 bare d2 d3 d4 new refl refl refl refl
+      arm_placed number number (unwritten_room u.role (class_at p u.class)) 0 0 0 (unwritten_body p u.role u.class) (scope_of bare) (record { entry = length d0.ops; cells = 0; params = 0; written = false }) d0 bare d2 d3 d4 new refl refl refl refl
       (subst (λ (d : Draft). LowersUnwritten p u.role u.class d d2) e1 h) lv g
-      (e ∙ ap (λ (n : ℕ). let d : Draft = record d4 { routines = slice_set d4.routines number (record { entry = n; cells = 0; params = 0 }) } in d) ee)
+      (e ∙ ap (λ (n : ℕ). let d : Draft = record d4 { routines = slice_set d4.routines number (record { entry = n; cells = 0; params = 0; written = false }) } in d) ee)
 
-  pub unwritten_at : (last : ℕ) → last ≤ number → RoutineAt (laid_in new) last number (unwritten_meant p u) (record { entry = length d0.ops; cells = 0; params = 0 }) (length d0.ops) (length new.ops)
+  pub unwritten_at : (last : ℕ) → last ≤ number → RoutineAt (laid_in new) last number (unwritten_meant p u) (record { entry = length d0.ops; cells = 0; params = 0; written = false }) (length d0.ops) (length new.ops)
   unwritten_at last l = record {
     entry = refl;
     cells = refl;
     params = refl;
+    written = refl;
     body = subst (λ (n : ℕ). BodyAt (laid_in new) source.Builder n 0 (unwritten_body p u.role u.class) (length d0.ops) (length new.ops)) (sym (max-eq_left l)) arm_unwritten.code;
   }

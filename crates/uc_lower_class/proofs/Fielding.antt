@@ -7,9 +7,9 @@ use Rattle.uc_tree.specs.ExpressionSizes.{expr_size, exprs_size}
 use Rattle.uc_lower_expr.specs.Contexts.{context_in}
 use Rattle.uc_tree.specs.declared.limits.TheConstants.{OPS_FOR_SIZE}
 use Rattle.uc_tree.specs.Programs.{Class, Program}
-use Rattle.uc_tree.specs.Objects.{Making, APlain, ClassField, class_shape, plain_class, shape_of}
+use Rattle.uc_tree.specs.Objects.{Making, ClassField, class_made, class_shape, making, shape_of}
 use Rattle.uc_tree.specs.Source.{field_cells, Expr, Literal, OfObject, OwnField, Shape, Stmts, Evaluate, Then, Built, Scoped}
-use Rattle.uc_resolve.specs.Resolve.{Meant, AtPlace, args_meant, meant, build, clean_up, value_of, field_built, field_making, field_left, field_start, field_type, length_in_class}
+use Rattle.uc_resolve.specs.Resolve.{Meant, args_meant, meant, build, clean_up, value_of, field_built, field_making, field_left, field_start, field_type, length_in_class}
 use Rattle.uc_code.specs.declared.op.Op.{Op}
 use Rattle.uc_code.specs.declared.op.Op.TheVariants as op
 use Rattle.uc_code.specs.declared.rows.Mark.{Mark}
@@ -24,14 +24,14 @@ use Rattle.uc_code.specs.ObjectCalls.{BeginsAt, InObject}
 use Rattle.uc_code.specs.Emits.{clean_length}
 use Rattle.uc_code.proofs.Stable.{one_stable}
 use Rattle.uc_lower_expr.specs.DraftGrowth.{Adds, ConvertCode, ExprCode, OpCode}
-use Rattle.uc_lower_expr.specs.Meanings.{Tells, shape_as}
-use Rattle.uc_lower_expr.specs.Members.{IsFieldAt}
+use Rattle.uc_lower_expr.specs.Meanings.{Tells, is_mutex_at, making_by, shape_as}
+use Rattle.uc_lower_expr.specs.Members.{IsFieldAt, held_standing}
 use Rattle.uc_lower_expr.specs.declared.fields.Field.{Field}
 use Rattle.uc_lower_expr.specs.declared.numbering.ClassRoutine.{ClassRoutine}
 use Rattle.uc_lower_expr.proofs.Adding.{adds_as, adds_both, adds_more}
 use Rattle.uc_lower_expr.proofs.Arms.{converted_at}
 use Rattle.uc_lower_expr.proofs.Settled.{both, expr_stable}
-use Rattle.uc_lower_stmt.specs.Objects.{array_by, build_room, call_by}
+use Rattle.uc_lower_stmt.specs.Objects.{array_by, build_room, call_by, ended_by}
 use Rattle.uc_lower_class.specs.declared.parts.Part.{Part}
 use Rattle.uc_lower_class.specs.Fields.{StartedCode, field_class, field_then, held_by, keep_op, left_then, part_in, part_room, started_then}
 use Rattle.uc_lower_class.specs.OpenParts.{Constructs}
@@ -41,12 +41,12 @@ use Rattle.uc_lower_class.proofs.Parting.{constructs_as, constructs_does, constr
 
 module _ (p : Program) (c : Class) (i number : ℕ) (f : ClassField) (v : Field) (h : IsFieldAt p c i number f v) where
   abbrev own : Meant
-  own = record { expr = Literal (pos 0); ty = field_type p c f; standing = AtPlace }
+  own = record { expr = Literal (pos 0); ty = field_type p c f; standing = held_standing v.number }
 
   told : Tells p v.told own
   told = h.tells own refl refl
 
-  pub told_class : plain_class p f.base ≡ v.told.class
+  pub told_class : class_made (making p f.base) ≡ v.told.class
   told_class = told.class
 
   pub told_length : length_in_class p c i f ≡ v.told.elements
@@ -56,12 +56,12 @@ module _ (p : Program) (c : Class) (i number : ℕ) (f : ClassField) (v : Field)
   told_shape = told.shape
 
   pub class_told : field_class p f ≡ (if v.by_ref then None else v.told.class)
-  class_told = ap (λ (b : Bool). if b then None else plain_class p f.base) h.by_ref ∙ ap (λ (o : Option ℕ). if v.by_ref then None else o) told_class
+  class_told = ap (λ (b : Bool). if b then None else class_made (making p f.base)) h.by_ref ∙ ap (λ (o : Option ℕ). if v.by_ref then None else o) told_class
 
-  making_told : field_making p f ≡ option_map APlain (field_class p f)
-  making_told = ap (λ (o : Option Making). if f.declarator.by_ref then None else o) h.made ∙ held_class f.declarator.by_ref (plain_class p f.base)
+  making_told : field_making p f ≡ option_map (λ j. making_by j (is_mutex_at p j)) (if v.by_ref then None else v.told.class)
+  making_told = ap (λ (o : Option Making). if f.declarator.by_ref then None else o) h.made ∙ (held_class f.declarator.by_ref v.told.class ∙ ap (λ (b : Bool). option_map (λ j. making_by j (is_mutex_at p j)) (if b then None else v.told.class)) h.by_ref)
     where
-      held_class : (b : Bool) (o : Option ℕ) → (let m : Option Making = if b then None else option_map APlain o in m) ≡ option_map APlain (if b then None else o)
+      held_class : (b : Bool) (o : Option ℕ) → (let m : Option Making = if b then None else option_map (λ j. making_by j (is_mutex_at p j)) o in m) ≡ option_map (λ j. making_by j (is_mutex_at p j)) (if b then None else o)
       held_class true o = refl
       held_class false o = refl
 
@@ -111,8 +111,12 @@ module _ (p : Program) (c : Class) (i number : ℕ) (f : ClassField) (v : Field)
   pub field_object : (part : Part) → part_in v ≡ Some part → field_class p f ≡ Some part.class
   field_object part e = class_told p c i number f v h ∙ (parts_by v.by_ref v.told.class v.cell v.told.elements part e).object
 
-  field_made : (part : Part) → part_in v ≡ Some part → field_making p f ≡ Some (APlain part.class)
-  field_made part e = making_told p c i number f v h ∙ ap (λ (o : Option ℕ). option_map APlain o) (field_object part e)
+  -- what that makes
+  abbrev made_of : Part → Making
+  made_of part = making_by part.class (is_mutex_at p part.class)
+
+  field_made : (part : Part) → part_in v ≡ Some part → field_making p f ≡ Some (made_of part)
+  field_made part e = making_told p c i number f v h ∙ ap (λ (o : Option ℕ). option_map (λ j. making_by j (is_mutex_at p j)) o) (parts_by v.by_ref v.told.class v.cell v.told.elements part e).object
 
   pub field_begins : (part : Part) → part_in v ≡ Some part → BeginsAt place part.spot
   field_begins part e =
@@ -122,16 +126,16 @@ module _ (p : Program) (c : Class) (i number : ℕ) (f : ClassField) (v : Field)
   length_is : (part : Part) → part_in v ≡ Some part → length_in_class p c i f ≡ part.length
   length_is part e = told_length p c i number f v h ∙ sym (part_long v part e)
 
-  pub field_part : (part : Part) → part_in v ≡ Some part → (args : List Meant) (rest : Stmts) → Then (build p 0 (APlain part.class) part.length place args) (Built (clean_up p (APlain part.class) part.length place) rest) ≡ field_then p c i number f args rest
+  pub field_part : (part : Part) → part_in v ≡ Some part → (args : List Meant) (rest : Stmts) → Then (build p 0 (made_of part) part.length place args) (Built (clean_up p (made_of part) part.length place) rest) ≡ field_then p c i number f args rest
   field_part part e args rest =
-      sym (ap (λ (o : Option Making). field_built p o f (length_in_class p c i f) place args rest) (field_made part e) ∙ ap (λ (l : Option ℕ). field_built p (Some (APlain part.class)) f l place args rest) (length_is part e))
+      sym (ap (λ (o : Option Making). field_built p o f (length_in_class p c i f) place args rest) (field_made part e) ∙ ap (λ (l : Option ℕ). field_built p (Some (made_of part)) f l place args rest) (length_is part e))
 
-  pub left_part : (part : Part) → part_in v ≡ Some part → (rest : Stmts) → Scoped (clean_up p (APlain part.class) part.length place) rest ≡ left_then p c i number f rest
+  pub left_part : (part : Part) → part_in v ≡ Some part → (rest : Stmts) → Scoped (clean_up p (made_of part) part.length place) rest ≡ left_then p c i number f rest
   left_part part e rest =
-      sym (ap (λ (o : Option Making). field_left p o (length_in_class p c i f) place rest) (field_made part e) ∙ ap (λ (l : Option ℕ). field_left p (Some (APlain part.class)) l place rest) (length_is part e))
+      sym (ap (λ (o : Option Making). field_left p o (length_in_class p c i f) place rest) (field_made part e) ∙ ap (λ (l : Option ℕ). field_left p (Some (made_of part)) l place rest) (length_is part e))
 
   no_class : part_in v ≡ None → field_making p f ≡ None
-  no_class e = making_told p c i number f v h ∙ ap (λ (o : Option ℕ). option_map APlain o) (class_told p c i number f v h ∙ no_part v.by_ref v.told.class v.cell v.told.elements e)
+  no_class e = making_told p c i number f v h ∙ ap (λ (o : Option ℕ). option_map (λ j. making_by j (is_mutex_at p j)) o) (no_part v.by_ref v.told.class v.cell v.told.elements e)
 
   pub field_plain : part_in v ≡ None → (args : List Meant) (rest : Stmts) → started_then p i number f args rest ≡ field_then p c i number f args rest
   field_plain e args rest = sym (ap (λ (o : Option Making). field_built p o f (length_in_class p c i f) place args rest) (no_class e))
@@ -168,14 +172,18 @@ started_code n cell r e d0 d1 d2 d3 d4 h1 h2 h3 h4 =
 
 -- how many ops a part takes
 
-pub part_fits : (p : Program) (j : ℕ) (r : ClassRoutine) (s : Spot) (l : Option ℕ) → build_room l + (clean_length (cleaning.Call (call_by r s (array_by p j l))) + 2) ≤ part_room l
-part_fits p j r s l = by_written p j r.number r.written s l
+pub part_fits : (p : Program) (j : ℕ) (mutex : Bool) (r : ClassRoutine) (s : Spot) (l : Option ℕ) → build_room l + (clean_length (cleaning.Call (call_by r (ended_by mutex) s (array_by p j mutex l))) + 2) ≤ part_room l
+part_fits p j mutex r s l = by_written p j mutex r.number r.written s l
   where
-    by_written : (p : Program) (j k : ℕ) (w : Bool) (s : Spot) (l : Option ℕ) → build_room l + (clean_length (cleaning.Call (call_by (record { number = k; written = w }) s (array_by p j l))) + 2) ≤ part_room l
-    by_written p j k true s None = omega arith
-    by_written p j k false s None = omega arith
-    by_written p j k true s (Some n) = omega arith
-    by_written p j k false s (Some n) = omega arith
+    by_written : (p : Program) (j : ℕ) (mutex : Bool) (k : ℕ) (w : Bool) (s : Spot) (l : Option ℕ) → build_room l + (clean_length (cleaning.Call (call_by (record { number = k; written = w }) (ended_by mutex) s (array_by p j mutex l))) + 2) ≤ part_room l
+    by_written p j true k true s None = omega arith
+    by_written p j true k false s None = omega arith
+    by_written p j true k true s (Some n) = omega arith
+    by_written p j true k false s (Some n) = omega arith
+    by_written p j false k true s None = omega arith
+    by_written p j false k false s None = omega arith
+    by_written p j false k true s (Some n) = omega arith
+    by_written p j false k false s (Some n) = omega arith
 
 -- arguments, of which the first counts
 

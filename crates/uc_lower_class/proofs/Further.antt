@@ -1,6 +1,8 @@
 -- What builds and destroys the objects in the fields of a class, and nobody wrote, stands further on than what calls it.
 use Rattle.std.proofs.Common.{◌≡◌, ℕ, zero, suc, ◌≤◌, ◌<◌, ℤ, List, [], ◌∷◌, Bool, true, false, true≢false, Option, Some, None, if◌then◌else◌, length, map, refl, ap, sym, subst, ◌∙◌, arith}
 use Rattle.std.specs.Prelude.{slice_get}
+use Rattle.uc_tree.specs.declared.kinds.Base.{Base}
+use Rattle.uc_tree.specs.declared.kinds.Base.TheVariants as base
 use Rattle.uc_tree.specs.declared.kinds.Role.{Role}
 use Rattle.uc_tree.specs.declared.rows.Held.{Held}
 use Rattle.uc_tree.specs.declared.rows.Object.{Object}
@@ -9,7 +11,7 @@ use Rattle.uc_tree.specs.Rows.{row_at}
 use Rattle.uc_tree.specs.Cells.{classes_of, held_by, object_of, row_of, rows_of, seen_in}
 use Rattle.uc_tree.specs.Constants.{constants_of}
 use Rattle.uc_tree.specs.Numbering.{routines_of}
-use Rattle.uc_tree.specs.Objects.{ClassField, Unwritten, class_at, class_height, fields_of, height_within, plain_class, plain_in, written_at}
+use Rattle.uc_tree.specs.Objects.{ClassField, Unwritten, class_at, class_height, fields_of, height_within, APlain, AMutex, class_made, making, making_by, written_at}
 use Rattle.uc_layout.specs.Depths.{Holds, First, Later}
 use Rattle.uc_layout.proofs.DepthsLemmas.{heights_fall, heights_few}
 use Rattle.uc_lower_expr.specs.Members.{FitClasses, routine_by}
@@ -34,15 +36,25 @@ record Named (p : Program) (f : ClassField) (j : ℕ) : Type 0 where
   is : (if f.declarator.by_ref then None else object_of (classes_of p.items) f.base) ≡ Some object
   class : object.class ≡ j
 
-plain_case : (o : Object) (b : Bool) (j : ℕ) → (if b then Some o.class else None) ≡ Some j → o.class ≡ j
-plain_case o true j e = cc
-plain_case o false j e = cc
+made_case : (o : Object) (b : Bool) (j : ℕ) → class_made (Some (if b then APlain o.class else AMutex o.class)) ≡ Some j → o.class ≡ j
+made_case o true j e = cc
+made_case o false j e = cc
 
-object_case : (p : Program) (f : ClassField) (j : ℕ) (x : Option Object) → x ≡ object_of (classes_of p.items) f.base → f.declarator.by_ref ≡ false → plain_in x ≡ Some j → Named p f j
-object_case p f j None e r h = cc
-object_case p f j (Some o) e r h = record { object = o; is = ap (λ (b : Bool). if b then None else object_of (classes_of p.items) f.base) r ∙ sym e; class = plain_case o o.plain j h }
+no_object : (b : Base) (j : ℕ) → class_made (making_by None b) ≡ Some j → ⊥
+no_object base.Void j e = cc
+no_object base.Int j e = cc
+no_object base.Char j e = cc
+no_object base.Bool j e = cc
+no_object base.Condition j e = cc
+no_object base.Cluster j e = cc
+no_object base.Processor j e = cc
+no_object (base.Named name) j e = cc
 
-named_case : (p : Program) (f : ClassField) (j : ℕ) (b : Bool) → f.declarator.by_ref ≡ b → (if b then None else plain_class p f.base) ≡ Some j → Named p f j
+object_case : (p : Program) (f : ClassField) (j : ℕ) (x : Option Object) → x ≡ object_of (classes_of p.items) f.base → f.declarator.by_ref ≡ false → class_made (making_by x f.base) ≡ Some j → Named p f j
+object_case p f j None e r h = absurd (no_object f.base j h)
+object_case p f j (Some o) e r h = record { object = o; is = ap (λ (b : Bool). if b then None else object_of (classes_of p.items) f.base) r ∙ sym e; class = made_case o o.plain j h }
+
+named_case : (p : Program) (f : ClassField) (j : ℕ) (b : Bool) → f.declarator.by_ref ≡ b → (if b then None else class_made (making p f.base)) ≡ Some j → Named p f j
 named_case p f j true r h = cc
 named_case p f j false r h = object_case p f j (object_of (classes_of p.items) f.base) refl r h
 

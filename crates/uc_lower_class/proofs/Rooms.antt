@@ -2,36 +2,24 @@
 use Rattle.std.proofs.Common.{◌≡◌, ℕ, ◌+◌, ◌*◌, ◌≤◌, List, [], ◌∷◌, ◌++◌, Option, Some, None, length, refl, ap, ◌∙◌, arith}
 use Rattle.uc_tree.specs.declared.limits.TheConstants.{OPS_FOR_SIZE}
 use Rattle.uc_tree.specs.declared.kinds.Base.{Base}
-use Rattle.uc_tree.specs.Expressions.{Expr, Number, Character, Truth, Name, Cin, Postfix, Unary, Chain, Assign}
-use Rattle.uc_tree.specs.ExpressionSizes.{expr_size}
+use Rattle.uc_tree.specs.Expressions.{Expr}
 use Rattle.uc_tree.specs.Statements.{Declarator}
 use Rattle.uc_tree.specs.StatementSizes.{declarator_size, declarators_size, maybe_expr_size}
 use Rattle.uc_tree.specs.Programs.{MemberForm, FieldsMember, RoutineMember, ProtoMember, Member}
 use Rattle.uc_tree.specs.Objects.{ClassField, declared_fields, fields_of, form_fields}
-use Rattle.uc_lower_stmt.specs.Marked.{close_room}
-use Rattle.uc_lower_class.specs.Fields.{fields_room, room_by}
+use Rattle.uc_lower_expr.proofs.Walks.{some_size}
+use Rattle.uc_lower_class.specs.Fields.{field_close, fields_room, room_by}
 
 -- the size of the declarators of fields
 abbrev pub fields_size : List ClassField → ℕ
 fields_size [] = 0
 fields_size (f ∷ fs) = declarator_size f.declarator + fields_size fs
 
-some_size : (e : Expr) → 1 ≤ expr_size e
-some_size (Number p n) = omega arith
-some_size (Character p byte) = omega arith
-some_size (Truth p b) = omega arith
-some_size (Name p name) = omega arith
-some_size (Cin p) = omega arith
-some_size (Postfix p root parts) = omega arith
-some_size (Unary p op operand) = omega arith
-some_size (Chain p first rest) = omega arith
-some_size (Assign p sign op place value) = omega arith
-
-room_fits : (o : Option Expr) → room_by o + close_room ≤ OPS_FOR_SIZE * (1 + maybe_expr_size o)
+room_fits : (o : Option Expr) → room_by o + field_close ≤ OPS_FOR_SIZE * (1 + maybe_expr_size o)
 room_fits None = omega arith
 room_fits (Some e) = let s = some_size e in omega arith
 
-pub fields_fit : (fs : List ClassField) → fields_room [] fs + close_room * length fs ≤ OPS_FOR_SIZE * fields_size fs
+pub fields_fit : (fs : List ClassField) → fields_room [] fs + field_close * length fs ≤ OPS_FOR_SIZE * fields_size fs
 fields_fit [] = omega arith
 fields_fit (f ∷ fs) = let r = fields_fit fs in let o = room_fits f.declarator.len in omega arith
 

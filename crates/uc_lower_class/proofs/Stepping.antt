@@ -15,7 +15,7 @@ use Rattle.uc_code.specs.Layout.{routine_in}
 use Rattle.uc_lower_expr.specs.Contexts.{context_in}
 use Rattle.uc_lower_expr.specs.Members.{IsFieldAt, IsNthField, no_field_at}
 use Rattle.uc_lower_expr.specs.declared.fields.Field.{Field}
-use Rattle.uc_lower_expr.proofs.Knowing.{plain_within}
+use Rattle.uc_lower_expr.proofs.Knowing.{made_within}
 use Rattle.uc_lower_stmt.specs.LowersStatement.{scope_of}
 use Rattle.uc_lower_class.specs.declared.parts.Part.{Part}
 use Rattle.uc_lower_class.specs.Inits.{init_exprs}
@@ -49,7 +49,7 @@ module _ (p : Program) (c : Class) (i place : ℕ) (v : Field) (n : Nth p c i pl
   fs = fields_of c.members
 
   pub class_few : (j : ℕ) → v.told.class ≡ Some j → j < length (classes_of p.items)
-  class_few j e = plain_within p n.field.base j (told_class p c i (leading_cells c.kind + place) n.field v n.at ∙ e)
+  class_few j e = made_within p n.field.base j (told_class p c i (leading_cells c.kind + place) n.field v n.at ∙ e)
 
   behind_by : (there : class_at p i ≡ Some c) (number : ℕ) (ms : List Mark) → FieldsBehind p i number → routine_in ms ≡ number → (o : Option Part) → part_in v ≡ o → PartBehind p ms o
   behind_by there number ms b e None h = tt

@@ -6,20 +6,21 @@ use Rattle.uc_tree.specs.Expressions as tree
 use Rattle.uc_tree.specs.ExpressionSizes.{exprs_size}
 use Rattle.uc_tree.specs.Programs.{Class, Init, Program}
 use Rattle.uc_tree.specs.Cells.{leading_cells}
-use Rattle.uc_tree.specs.Objects.{ClassField, has_execution, class_at, class_shape, fields_of, plain_class}
+use Rattle.uc_tree.specs.Numbering.{is_mutex}
+use Rattle.uc_tree.specs.Objects.{ClassField, has_execution, class_at, class_made, class_shape, fields_of, making}
 use Rattle.uc_tree.specs.Source.{Expr, Shape, Stmts}
-use Rattle.uc_resolve.specs.Resolve.{Meant, Own, Scope, converted, value_of, field_built, field_making, field_left, field_place, field_started, fields_built, fields_left, forgotten, length_in_class, set_up, started_in, taken_down}
+use Rattle.uc_resolve.specs.Resolve.{Meant, Own, Scope, converted, ending, value_of, field_built, field_making, field_left, field_place, field_started, fields_built, fields_left, forgotten, length_in_class, set_up, started_in, taken_down}
 use Rattle.uc_code.specs.declared.rows.Mark.{Mark}
 use Rattle.uc_code.specs.declared.rows.Spot.TheVariants as spot
 use Rattle.uc_code.specs.declared.op.Op.{Op}
 use Rattle.uc_code.specs.declared.op.Op.TheVariants as op
 use Rattle.uc_code.specs.Layout.{Laid}
+use Rattle.uc_code.specs.OpenRows.{clean_room}
 use Rattle.uc_code.specs.CodeShapes.{Both, One}
 use Rattle.uc_code.specs.Lowered.{ExprAt}
 use Rattle.uc_lower_expr.specs.declared.fields.Field.{Field}
 use Rattle.uc_lower_expr.specs.Members.{routine_for}
 use Rattle.uc_lower_stmt.specs.Blocks.{AllStandBehind}
-use Rattle.uc_lower_stmt.specs.Marked.{close_room}
 use Rattle.uc_lower_class.specs.declared.parts.Part.{Part}
 use Rattle.uc_lower_class.specs.Inits.{init_exprs}
 
@@ -29,13 +30,13 @@ part_in v = if v.by_ref then None else option_map (λ j. record { class = j; spo
 
 -- at most so many ops build a part besides its arguments, and end what follows it
 abbrev pub part_room : Option ℕ → ℕ
-part_room None = 12
-part_room (Some n) = 40
+part_room None = 14
+part_room (Some n) = 48
 
 -- the same of a field, by the length that its declarator has
 abbrev pub room_by : Option tree.Expr → ℕ
-room_by None = 12
-room_by (Some e) = 40
+room_by None = 14
+room_by (Some e) = 48
 
 abbrev pub fields_room : List Init → List ClassField → ℕ
 fields_room inits [] = 0
@@ -46,9 +47,9 @@ abbrev pub PartBehind : Program → List Mark → Option Part → Type 0
 PartBehind p ms None = Unit {0}
 PartBehind p ms (Some part) = AllStandBehind p part.class ms
 
--- the class of the plain objects of a field, by its place; a reference names no object of its own
+-- the class of the objects of a field, by its place; a reference names no object of its own
 abbrev pub field_class : Program → ClassField → Option ℕ
-field_class p f = if f.declarator.by_ref then None else plain_class p f.base
+field_class p f = if f.declarator.by_ref then None else class_made (making p f.base)
 
 -- so it is for each field of the class with the place i, for a routine of this number
 pub record FieldsBehind (p : Program) (i number : ℕ) : Type 0 where
@@ -74,6 +75,18 @@ keep_op by_ref = if by_ref then op.Bind else op.Keep
 
 abbrev pub StartedCode : List Mark → ℕ → Bool → Expr → Laid → ℕ → ℕ → Type 0
 StartedCode ms cell by_ref e code = Both (Both (One code (op.This cell) 0) (Both (ExprAt code 0 ms e) (One code (keep_op by_ref) 0))) (One code op.Discard 0)
+
+-- how many ops end the scope of a field, and one of the object at hand
+abbrev pub field_close : ℕ
+field_close = 2 * clean_room + 2
+
+abbrev pub own_close : ℕ
+own_close = 4
+
+-- mutex objects: how many scopes stand round all of a constructor, and of a destructor
+abbrev pub mutex_count : Bool → ℕ
+mutex_count true = 1
+mutex_count false = 0
 
 -- coroutines: how many ops set up an execution, begin with what its body starts, and make it live; and in a destructor how many objects
 -- are in scope more, and how many ops unwind it
@@ -107,7 +120,7 @@ all_built p i inits s (Some c) rest =
 abbrev pub all_left : Program → ℕ → Option Class → Stmts → Stmts
 all_left p i None rest = rest
 all_left p i (Some c) rest =
-    forgotten p (has_execution c.kind) (fields_left p c i (fields_of c.members) (leading_cells c.kind) (taken_down p (has_execution c.kind) rest))
+    ending p (is_mutex c.kind) (forgotten p (has_execution c.kind) (fields_left p c i (fields_of c.members) (leading_cells c.kind) (taken_down p (has_execution c.kind) rest)))
 
 abbrev pub all_room : List Init → Option Class → ℕ
 all_room inits None = 0
@@ -119,8 +132,8 @@ live_room (Some c) = enliven_room (has_execution c.kind)
 
 abbrev pub left_count : Option Class → ℕ
 left_count None = 0
-left_count (Some c) = forget_count (has_execution c.kind) + length (fields_of c.members)
+left_count (Some c) = mutex_count (is_mutex c.kind) + (forget_count (has_execution c.kind) + length (fields_of c.members))
 
 abbrev pub left_room : Option Class → ℕ
 left_room None = 0
-left_room (Some c) = close_room * left_count (Some c) + take_down_room (has_execution c.kind)
+left_room (Some c) = own_close * mutex_count (is_mutex c.kind) + (own_close * forget_count (has_execution c.kind) + (field_close * length (fields_of c.members) + take_down_room (has_execution c.kind)))

@@ -11,9 +11,9 @@ use Rattle.uc_code.specs.CodeShapes.{Kept}
 use Rattle.uc_code.specs.Lowered.{StmtAt, StmtsAt}
 use Rattle.uc_code.specs.ObjectCalls.{Cleans}
 use Rattle.uc_code.specs.Emits.{clean_length}
-use Rattle.uc_lower_stmt.specs.Marked.{close_room}
 use Rattle.uc_lower_stmt.specs.OpenScopes.{Step, Does, Builds, Lays, block_of}
 use Rattle.uc_lower_stmt.specs.LowersStatement.{scope_of}
+use Rattle.uc_lower_class.specs.Fields.{field_close}
 
 -- steps that are laid out in no line, from these marks and this place to those marks and that place, with the clean-ups of the parts
 -- among them; the newest stands first
@@ -58,4 +58,4 @@ LeavesAll n d F old new = Lays n 0 0 d 0 0 F (scope_of old) old new
 
 -- the scopes of some fields are opened, of at most so many objects
 abbrev pub Opens : ℕ → (Stmts → Stmts) → Draft → Draft → Type 0
-Opens n F old new = Lays (close_room * n) 0 0 n 0 0 F (scope_of old) old new
+Opens n F old new = Lays (field_close * n) 0 0 n 0 0 F (scope_of old) old new

@@ -15,15 +15,15 @@ ghost use Rattle.uc_built.specs.BuiltForms.{are_built};
 ghost use Rattle.uc_code.specs.Layout.{laid_in, routine_in};
 ghost use Rattle.uc_code.specs.Lowered.{RoutineAt};
 ghost use Rattle.uc_code.specs.CodeShapes.{Kept};
-ghost use Rattle.uc_lower_stmt.specs.Marked.{objects_in};
+ghost use Rattle.uc_lower_stmt.specs.Marked.{closing};
 ghost use Rattle.uc_lower_stmt.specs.Routines.{frame_cells};
 ghost use Rattle.uc_lower_stmt.specs.LowersStatement.{scope_of};
 ghost use Rattle.uc_implicit.specs.Unwritten.{unwritten_as};
-ghost use Rattle.uc_lower_class.specs.Bodies.{IsUnwritten, LowersBody, LowersUnwritten, builder_room, built_at, built_room, left_at, role_room, unwritten_room};
+ghost use Rattle.uc_lower_class.specs.Bodies.{IsUnwritten, LowersBare, LowersBody, LowersRaised, LowersUnwritten, builder_room, built_at, built_room, left_at, part_end, raise_room, role_room, unwritten_room};
 ghost use Rattle.uc_lower_class.specs.Fields.{FieldsBehind, all_room, left_count, left_room};
 ghost use Rattle.uc_lower_class.specs.OpenParts.{Constructs, LeavesAll, end_room};
 
-use crate::executions::end_construction;
+use crate::executions::{end_construction, open_freed};
 use crate::fields::{build_all, leave_all};
 use crate::parts::close_parts;
 use crate::whole::lower_whole;
@@ -77,7 +77,7 @@ fn build_own(
 // The scopes of the class of a destructor are opened, of its execution, if it is a coroutine, and of its fields; a coroutine is unwound.
 fn leave_own(class: Option<usize>, names: &ProgramNames, out: &mut Draft) -> Result<(), AllocError>
     requires written { routine_in out.old.marks < length (routines_of names.now) }
-    requires outside { objects_in out.old.marks ≡ 0 }
+    requires outside { closing out.old.marks ≡ 0 }
     requires room { length out.old.ops + left_room (class_by names.now class) ≤ PROGRAM_OPS }
     ensures { OnOk result (LeavesAll (left_room (class_by names.now class)) (left_count (class_by names.now class)) (left_at names.now class) out.old out.new) }
 {
@@ -90,6 +90,30 @@ fn leave_own(class: Option<usize>, names: &ProgramNames, out: &mut Draft) -> Res
     }
 }
 
+// The statements of a constructor, but for the scope of a mutex object.
+fn lower_raised(
+    alloc: Global,
+    names: &ProgramNames,
+    class: Option<usize>,
+    routine: &Routine,
+    out: &mut Draft,
+) -> Result<(), AllocError>
+    requires built { are_built routine.now.body ≡ true }
+    requires written { routine_in out.old.marks < length (routines_of names.now) }
+    requires room { length out.old.ops + (raise_room names.now class routine.now + part_end) ≤ PROGRAM_OPS }
+    requires cells { out.old.cells + stmts_cells routine.now.body (declared_cells names.now) ≤ FRAME_CELLS }
+    requires scopes { out.old.scopes + stmts_scopes routine.now.body ≤ PROGRAM_SIZE }
+    requires texts { out.old.texts + stmts_size routine.now.body ≤ PROGRAM_SIZE }
+    ensures { OnOk result (LowersRaised names.now class routine.now out.old out.new) }
+{
+    let mut parts = Vec::new(alloc);
+    build_own(alloc, class, routine, names, &mut parts, out)?;
+    lower_whole(alloc, names, routine, out)?;
+    end_construction(class, names, out)?;
+    close_parts(&mut parts, out)?;
+    Ok(())
+}
+
 fn lower_constructor(
     alloc: Global,
     names: &ProgramNames,
@@ -100,18 +124,17 @@ fn lower_constructor(
     requires class { class ≡ out.old.place.class }
     requires built { are_built routine.now.body ≡ true }
     requires written { routine_in out.old.marks < length (routines_of names.now) }
+    requires outside { closing out.old.marks ≡ 0 }
     requires room { length out.old.ops + role_room names.now role.Constructor class routine.now ≤ PROGRAM_OPS }
     requires cells { out.old.cells + stmts_cells routine.now.body (declared_cells names.now) ≤ FRAME_CELLS }
     requires scopes { out.old.scopes + stmts_scopes routine.now.body ≤ PROGRAM_SIZE }
     requires texts { out.old.texts + stmts_size routine.now.body ≤ PROGRAM_SIZE }
     ensures { OnOk result (LowersBody names.now role.Constructor routine.now out.old out.new) }
 {
-    names.fit();
-    let mut parts = Vec::new(alloc);
-    build_own(alloc, class, routine, names, &mut parts, out)?;
-    lower_whole(alloc, names, routine, out)?;
-    end_construction(class, names, out)?;
-    close_parts(&mut parts, out)?;
+    let depth = out.marks().len();
+    open_freed(class, names, out)?;
+    lower_raised(alloc, names, class, routine, out)?;
+    close_scopes(depth, out)?;
     Ok(())
 }
 
@@ -125,14 +148,13 @@ fn lower_destructor(
     requires class { class ≡ out.old.place.class }
     requires built { are_built routine.now.body ≡ true }
     requires written { routine_in out.old.marks < length (routines_of names.now) }
-    requires outside { objects_in out.old.marks ≡ 0 }
+    requires outside { closing out.old.marks ≡ 0 }
     requires room { length out.old.ops + role_room names.now role.Destructor class routine.now ≤ PROGRAM_OPS }
     requires cells { out.old.cells + stmts_cells routine.now.body (declared_cells names.now) ≤ FRAME_CELLS }
     requires scopes { out.old.scopes + stmts_scopes routine.now.body ≤ PROGRAM_SIZE }
     requires texts { out.old.texts + stmts_size routine.now.body ≤ PROGRAM_SIZE }
     ensures { OnOk result (LowersBody names.now role.Destructor routine.now out.old out.new) }
 {
-    names.fit();
     let depth = out.marks().len();
     leave_own(class, names, out)?;
     lower_whole(alloc, names, routine, out)?;
@@ -152,7 +174,7 @@ fn lower_body(
     requires class { class ≡ out.old.place.class }
     requires built { are_built routine.now.body ≡ true }
     requires written { routine_in out.old.marks < length (routines_of names.now) }
-    requires outside { objects_in out.old.marks ≡ 0 }
+    requires outside { closing out.old.marks ≡ 0 }
     requires room { length out.old.ops + role_room names.now role class routine.now ≤ PROGRAM_OPS }
     requires cells { out.old.cells + stmts_cells routine.now.body (declared_cells names.now) ≤ FRAME_CELLS }
     requires scopes { out.old.scopes + stmts_scopes routine.now.body ≤ PROGRAM_SIZE }
@@ -199,8 +221,8 @@ pub fn lower_builder(
     requires texts { texts + stmts_size routine.now.body ≤ PROGRAM_SIZE }
     ensures kept { OnOk result (Kept (laid_in out.old) (laid_in out.new)) }
     ensures room { OnOk result (length out.new.ops ≤ length out.old.ops + builder_room names.now routine.now class) }
-    ensures code { OnOk result (RoutineAt (laid_in out.new) last number (routine_meant names.now routine.now (routine_scope names.now routine.now class number texts sites)) (record { entry = length out.old.ops; cells = frame_cells names.now routine.now; params = length routine.now.sig.params }) (length out.old.ops) (length out.new.ops)) }
-    ensures written { OnOk result (out.new.routines ≡ slice_set out.old.routines number (record { entry = length out.old.ops; cells = frame_cells names.now routine.now; params = length routine.now.sig.params })) }
+    ensures code { OnOk result (RoutineAt (laid_in out.new) last number (routine_meant names.now routine.now (routine_scope names.now routine.now class number texts sites)) (record { entry = length out.old.ops; cells = frame_cells names.now routine.now; params = length routine.now.sig.params; written = true }) (length out.old.ops) (length out.new.ops)) }
+    ensures written { OnOk result (out.new.routines ≡ slice_set out.old.routines number (record { entry = length out.old.ops; cells = frame_cells names.now routine.now; params = length routine.now.sig.params; written = true })) }
     ensures outside { OnOk result (out.new.marks ≡ []) }
     ensures texts { OnOk result (out.new.texts ≡ texts + length (gathered_all own_texts routine.now.body)) }
     ensures few_texts { OnOk result (out.new.texts ≤ texts + stmts_size routine.now.body) }
@@ -225,8 +247,28 @@ pub fn lower_builder(
             entry,
             cells,
             params: count,
+            written: true,
         },
     );
+    Ok(())
+}
+
+// The statements of a constructor that nobody wrote, but for the scope of a mutex object.
+fn lower_bare(
+    alloc: Global,
+    names: &ProgramNames,
+    class: usize,
+    out: &mut Draft,
+) -> Result<(), AllocError>
+    requires behind { FieldsBehind names.now class (routine_in out.old.marks) }
+    requires nowhere { scope_of out.old ≡ nowhere names.now }
+    requires room { length out.old.ops + unwritten_room role.Constructor (class_at names.now class) ≤ PROGRAM_OPS }
+    ensures { OnOk result (LowersBare names.now class out.old out.new) }
+{
+    let mut parts = Vec::new(alloc);
+    build_all(alloc, class, &[], names, &mut parts, out)?;
+    end_construction(Some(class), names, out)?;
+    close_parts(&mut parts, out)?;
     Ok(())
 }
 
@@ -237,15 +279,15 @@ fn lower_unwritten_constructor(
     out: &mut Draft,
 ) -> Result<(), AllocError>
     requires behind { FieldsBehind names.now class (routine_in out.old.marks) }
+    requires outside { closing out.old.marks ≡ 0 }
     requires nowhere { scope_of out.old ≡ nowhere names.now }
     requires room { length out.old.ops + unwritten_room role.Constructor (class_at names.now class) ≤ PROGRAM_OPS }
     ensures { OnOk result (LowersUnwritten names.now role.Constructor class out.old out.new) }
 {
-    names.fit();
-    let mut parts = Vec::new(alloc);
-    build_all(alloc, class, &[], names, &mut parts, out)?;
-    end_construction(Some(class), names, out)?;
-    close_parts(&mut parts, out)?;
+    let depth = out.marks().len();
+    open_freed(Some(class), names, out)?;
+    lower_bare(alloc, names, class, out)?;
+    close_scopes(depth, out)?;
     Ok(())
 }
 
@@ -255,11 +297,10 @@ fn lower_unwritten_destructor(
     out: &mut Draft,
 ) -> Result<(), AllocError>
     requires behind { FieldsBehind names.now class (routine_in out.old.marks) }
-    requires outside { objects_in out.old.marks ≡ 0 }
+    requires outside { closing out.old.marks ≡ 0 }
     requires room { length out.old.ops + unwritten_room role.Destructor (class_at names.now class) ≤ PROGRAM_OPS }
     ensures { OnOk result (LowersUnwritten names.now role.Destructor class out.old out.new) }
 {
-    names.fit();
     let depth = out.marks().len();
     leave_all(class, names, out)?;
     close_scopes(depth, out)?;
@@ -274,7 +315,7 @@ fn lower_unwritten_body(
     out: &mut Draft,
 ) -> Result<(), AllocError>
     requires behind { FieldsBehind names.now class (routine_in out.old.marks) }
-    requires outside { objects_in out.old.marks ≡ 0 }
+    requires outside { closing out.old.marks ≡ 0 }
     requires nowhere { scope_of out.old ≡ nowhere names.now }
     requires room { length out.old.ops + unwritten_room role (class_at names.now class) ≤ PROGRAM_OPS }
     ensures { OnOk result (LowersUnwritten names.now role class out.old out.new) }
@@ -307,8 +348,8 @@ pub fn lower_unwritten(
     requires room { length out.old.ops + (unwritten_room one.role (class_at names.now one.class) + 1) ≤ PROGRAM_OPS }
     ensures kept { OnOk result (Kept (laid_in out.old) (laid_in out.new)) }
     ensures room { OnOk result (length out.new.ops ≤ length out.old.ops + (unwritten_room one.role (class_at names.now one.class) + 1)) }
-    ensures code { OnOk result ((last : ℕ) → last ≤ number → RoutineAt (laid_in out.new) last number (unwritten_meant names.now (unwritten_as one)) (record { entry = length out.old.ops; cells = 0; params = 0 }) (length out.old.ops) (length out.new.ops)) }
-    ensures written { OnOk result (out.new.routines ≡ slice_set out.old.routines number (record { entry = length out.old.ops; cells = 0; params = 0 })) }
+    ensures code { OnOk result ((last : ℕ) → last ≤ number → RoutineAt (laid_in out.new) last number (unwritten_meant names.now (unwritten_as one)) (record { entry = length out.old.ops; cells = 0; params = 0; written = false }) (length out.old.ops) (length out.new.ops)) }
+    ensures written { OnOk result (out.new.routines ≡ slice_set out.old.routines number (record { entry = length out.old.ops; cells = 0; params = 0; written = false })) }
     ensures outside { OnOk result (out.new.marks ≡ []) }
 {
     let entry = out.here();
@@ -324,6 +365,7 @@ pub fn lower_unwritten(
             entry,
             cells: 0,
             params: 0,
+            written: false,
         },
     );
     Ok(())

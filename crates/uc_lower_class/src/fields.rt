@@ -10,12 +10,12 @@ ghost use Rattle.uc_tree.specs.Programs.{Class as Whole};
 ghost use Rattle.uc_resolve.specs.Resolve.{args_meant, fields_built, fields_left};
 ghost use Rattle.uc_lower_expr.specs.Contexts.{context_in};
 ghost use Rattle.uc_code.specs.Layout.{routine_in};
-ghost use Rattle.uc_lower_stmt.specs.Marked.{objects_in};
+ghost use Rattle.uc_lower_stmt.specs.Marked.{closing};
 ghost use Rattle.uc_lower_stmt.specs.LowersStatement.{scope_of};
 ghost use Rattle.uc_lower_class.specs.Fields.{FieldsBehind, all_built, all_left, all_room, field_then, fields_room, left_count, left_room, left_then, room_by};
 ghost use Rattle.uc_lower_class.specs.OpenParts.{Constructs, LeavesAll, Opens, end_room};
 
-use crate::executions::{open_execution, open_started, set_up, take_down};
+use crate::executions::{open_ending, open_execution, open_started, set_up, take_down};
 use crate::inits::{args_for, names_of_fields, places_of};
 use crate::parts::{lower_built, lower_left};
 use std::alloc::{AllocError, Global};
@@ -153,7 +153,7 @@ fn leave_fields(
     Ok(())
 }
 
-// The scopes of an object of a class with this place are opened, and it is unwound, if it is a coroutine.
+// The scopes of an object of a class with this place are opened, that of a mutex object first, and it is unwound, if it is a coroutine.
 fn leave_class(
     at: &Class,
     class: usize,
@@ -161,12 +161,13 @@ fn leave_class(
     out: &mut Draft,
 ) -> Result<(), AllocError>
     requires there { class_at names.now class ≡ Some at.now }
-    requires outside { objects_in out.old.marks ≡ 0 }
+    requires outside { closing out.old.marks ≡ 0 }
     requires room { length out.old.ops + left_room (Some at.now) ≤ PROGRAM_OPS }
     requires behind { FieldsBehind names.now class (routine_in out.old.marks) }
     ensures { OnOk result (LeavesAll (left_room (Some at.now)) (left_count (Some at.now)) (all_left names.now class (Some at.now)) out.old out.new) }
 {
     let coroutine = names.has_coroutines(Some(class));
+    open_ending(names.is_mutex(class), out)?;
     open_execution(coroutine, out)?;
     leave_fields(at, class, names, out)?;
     take_down(coroutine, out)?;
@@ -180,7 +181,7 @@ pub(crate) fn leave_all(
     names: &ProgramNames,
     out: &mut Draft,
 ) -> Result<(), AllocError>
-    requires outside { objects_in out.old.marks ≡ 0 }
+    requires outside { closing out.old.marks ≡ 0 }
     requires room { length out.old.ops + left_room (class_at names.now class) ≤ PROGRAM_OPS }
     requires behind { FieldsBehind names.now class (routine_in out.old.marks) }
     ensures { OnOk result (LeavesAll (left_room (class_at names.now class)) (left_count (class_at names.now class)) (all_left names.now class (class_at names.now class)) out.old out.new) }

@@ -5,7 +5,7 @@ ghost use Rattle.uc_tree.specs.declared.limits.TheConstants.{OPS_FOR_SIZE, PROGR
 ghost use Rattle.uc_tree.specs.Cells.{classes_of};
 ghost use Rattle.uc_tree.specs.Expressions.{exprs_of};
 ghost use Rattle.uc_tree.specs.ExpressionSizes.{expr_size, exprs_size};
-ghost use Rattle.uc_tree.specs.Objects.{APlain, ClassField};
+ghost use Rattle.uc_tree.specs.Objects.{ClassField};
 ghost use Rattle.uc_tree.specs.Programs.{Class};
 ghost use Rattle.uc_tree.specs.Source.{Built, Expr as Place, Scoped, Then};
 ghost use Rattle.uc_resolve.specs.Resolve.{args_meant, build, clean_up, meant};
@@ -13,7 +13,7 @@ ghost use Rattle.uc_code.specs.declared.rows.Cleaning.{Cleaning as Clean};
 ghost use Rattle.uc_code.specs.ObjectCalls.{BeginsAt};
 ghost use Rattle.uc_lower_expr.specs.DraftGrowth.{Adds, ExprCode};
 ghost use Rattle.uc_lower_expr.specs.Contexts.{context_in};
-ghost use Rattle.uc_lower_expr.specs.Meanings.{shape_as};
+ghost use Rattle.uc_lower_expr.specs.Meanings.{is_mutex_at, making_by, shape_as};
 ghost use Rattle.uc_lower_expr.specs.Members.{IsFieldAt};
 ghost use Rattle.uc_lower_stmt.specs.Blocks.{AllStandBehind};
 ghost use Rattle.uc_lower_class.specs.Bodies.{part_end};
@@ -130,7 +130,7 @@ fn lower_part(
     requires class { part.class < length (classes_of names.now.items) }
     requires room { length out.old.ops + end_room parts.old.items + (OPS_FOR_SIZE * exprs_size (exprs_of args.now) + part_room part.length) ≤ PROGRAM_OPS }
     requires behind { AllStandBehind names.now part.class out.old.marks }
-    ensures { OnOk result ((place : Place) → BeginsAt place part.spot → Constructs (OPS_FOR_SIZE * exprs_size (exprs_of args.now) + part_room part.length) (λ rest. Then (build names.now 0 (APlain part.class) part.length place (args_meant (context_in names.now out.old) (exprs_of args.now))) (Built (clean_up names.now (APlain part.class) part.length place) rest)) parts.old.items out.old parts.new.items out.new) }
+    ensures { OnOk result ((place : Place) → BeginsAt place part.spot → Constructs (OPS_FOR_SIZE * exprs_size (exprs_of args.now) + part_room part.length) (λ rest. Then (build names.now 0 (making_by part.class (is_mutex_at names.now part.class)) part.length place (args_meant (context_in names.now out.old) (exprs_of args.now))) (Built (clean_up names.now (making_by part.class (is_mutex_at names.now part.class)) part.length place) rest)) parts.old.items out.old parts.new.items out.new) }
 {
     lower_build(part.class, part.spot, part.length, args, 0, names, out)?;
     parts.push(clean_call(part.class, part.spot, part.length, names))?;

@@ -9,7 +9,7 @@ use Rattle.uc_code.specs.Drafts.{Draft, ops_with, patched}
 use Rattle.uc_code.specs.CodeShapes.{OpAt, Nothing, Risk, Both, Fork, Same, Kept, Stable}
 use Rattle.uc_code.proofs.Stable.{kept_refl, kept_then, kept_same, same_then}
 use Rattle.uc_code.proofs.Patches.{bare_stays, kept_with, one_with, length-patched, patched_at, same_before, same_after}
-use Rattle.uc_lower_expr.specs.DraftGrowth.{Adds, LiveCallCode, OpCode, RiskCode}
+use Rattle.uc_lower_expr.specs.DraftGrowth.{Adds, LiveCallCode, MutexCallCode, OpCode, RiskCode}
 
 pub rest_then : (a b c : Draft) → b ≡ record a { ops = b.ops } → c ≡ record b { ops = c.ops } → c ≡ record a { ops = c.ops }
 rest_then a b c h k = k ∙ ap (λ d. let e : Draft = record d { ops = c.ops } in e) h
@@ -43,6 +43,9 @@ risk_in line o was old new e h = subst (λ (d : Draft). Adds 1 (RiskCode line d.
 
 pub live_in : (line r : ℕ) (was old new : Draft) → old ≡ record was { ops = old.ops } → Adds 3 (LiveCallCode line old.marks r) old new → Adds 3 (LiveCallCode line was.marks r) old new
 live_in line r was old new e h = subst (λ (d : Draft). Adds 3 (LiveCallCode line d.marks r) old new) e h
+
+pub mutex_in : (line m r : ℕ) (was old new : Draft) → old ≡ record was { ops = old.ops } → Adds 3 (MutexCallCode line old.marks m r) old new → Adds 3 (MutexCallCode line was.marks m r) old new
+mutex_in line m r was old new e h = subst (λ (d : Draft). Adds 3 (MutexCallCode line d.marks m r) old new) e h
 
 pub adds_more : {m n : ℕ} {B : Laid → ℕ → ℕ → Type 0} {old new : Draft} → m ≤ n → Adds m B old new → Adds n B old new
 adds_more l h = record { rest = h.rest; kept = h.kept; room = let r = h.room in omega arith; code = h.code }

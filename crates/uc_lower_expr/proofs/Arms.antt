@@ -8,8 +8,8 @@ use Rattle.uc_tree.specs.Programs.{Constant, Program}
 use Rattle.uc_tree.specs.Constants.{constants_of, constant_named}
 use Rattle.uc_tree.specs.Numbering.{routines_of}
 use Rattle.uc_tree.specs.Source.{Shape, Integer, Character, Truth, Binding, Last, Field, Array, Operator, Plus, Minus, Expr, Literal, Variable as Var, Get, Operate, Set}
-use Rattle.uc_tree.specs.Objects.{plain_class, shape_of, event_place}
-use Rattle.uc_resolve.specs.Resolve.{Meant, converted, value_by, value_of, Standing, AtVariable, AtPlace, AsNumber, AsValue, has_number, known_by, known_named, known_meant, name_meant, item_meant, constant_meant_by, routine_meant_by, routine_from, variable_in, updated, updated_by, stepped, stepped_by, step_meant}
+use Rattle.uc_tree.specs.Objects.{shape_of}
+use Rattle.uc_resolve.specs.Resolve.{scalar as scalar_type, value_meant, Meant, converted, value_by, value_of, Standing, AtVariable, AtPlace, AsNumber, AsValue, has_number, known_by, known_named, known_meant, name_meant, item_meant, constant_meant_by, routine_meant_by, routine_from, variable_in, updated, updated_by, stepped, stepped_by, step_meant}
 use Rattle.uc_code.specs.declared.op.Op.{Op}
 use Rattle.uc_code.specs.declared.op.Op.TheVariants as op
 use Rattle.uc_code.specs.declared.rows.Mark.{Mark}
@@ -75,7 +75,7 @@ arm_behind ms line k o s d0 d1 d2 d3 h1 h2 h3 = adds_more (omega arith) (adds_bo
 
 -- a value of the same type
 pub as_value : {p : Program} → (told t : Meaning) (m : Meant) (e : Expr) → t ≡ record told { standing = standing.Value } → Tells p told m → Tells p t (record { expr = e; ty = m.ty; standing = AsValue })
-as_value {p} told t m e i u = subst (λ (x : Meaning). Tells p x (record { expr = e; ty = m.ty; standing = AsValue })) (sym i) (record { shape = u.shape; class = u.class; event = u.event; len = u.len; standing = refl })
+as_value {p} told t m e i u = subst (λ (x : Meaning). Tells p x (record { expr = e; ty = m.ty; standing = AsValue })) (sym i) (record { shape = u.shape; class = u.class; numbered = u.numbered; event = u.event; len = u.len; standing = refl })
 
 -- names and the cells of an element
 
@@ -83,16 +83,16 @@ as_value {p} told t m e i u = subst (λ (x : Meaning). Tells p x (record { expr 
 abbrev meant_by : Bool → Known → Meant
 meant_by b k = if b then record { expr = Get k.cell; ty = k.ty; standing = AtPlace } else record { expr = Var k.cell; ty = k.ty; standing = AtVariable k.cell }
 
-told_by : {p : Program} → (k : Known) (t : Meaning) (b : Bool) → shape_of k.ty.base ≡ shape_as t.scalar → plain_class p k.ty.base ≡ t.class → event_place p k.ty.base ≡ t.event → k.ty.len ≡ t.elements → t.standing ≡ standing_by false b k.cell → Tells p t (meant_by b k)
-told_by k t true s c v l e = record { shape = s; class = c; event = v; len = l; standing = subst (λ (x : Told). StandsAs x AtPlace) (sym e) refl }
-told_by k t false s c v l e = record { shape = s; class = c; event = v; len = l; standing = subst (λ (x : Told). StandsAs x (AtVariable k.cell)) (sym e) refl }
+told_by : {p : Program} → (k : Known) (v : Meaning) (x : Told) (b : Bool) → ((e : Expr) → Tells p v (value_meant e (scalar_type k.ty.base))) → x ≡ standing_by false b k.cell → Tells p (record v { elements = k.ty.len; standing = x }) (meant_by b k)
+told_by k v x true h e = let u = h (Literal (pos 0)) in record { shape = u.shape; class = u.class; numbered = u.numbered; event = u.event; len = refl; standing = subst (λ (y : Told). StandsAs y AtPlace) (sym e) refl }
+told_by k v x false h e = let u = h (Literal (pos 0)) in record { shape = u.shape; class = u.class; numbered = u.numbered; event = u.event; len = refl; standing = subst (λ (y : Told). StandsAs y (AtVariable k.cell)) (sym e) refl }
 
-told_held : {p : Program} → (k : Known) (t : Meaning) (n : Bool) → shape_of k.ty.base ≡ shape_as t.scalar → plain_class p k.ty.base ≡ t.class → event_place p k.ty.base ≡ t.event → k.ty.len ≡ t.elements → t.standing ≡ standing_by n k.ty.by_ref k.cell → Tells p t (known_by n k)
-told_held k t true s c v l e = record { shape = s; class = c; event = v; len = l; standing = subst (λ (x : Told). StandsAs x AsNumber) (sym e) refl }
-told_held k t false s c v l e = told_by k t k.ty.by_ref s c v l e
+told_held : {p : Program} → (k : Known) (v : Meaning) (x : Told) (n : Bool) → ((e : Expr) → Tells p v (value_meant e (scalar_type k.ty.base))) → x ≡ standing_by n k.ty.by_ref k.cell → Tells p (record v { elements = k.ty.len; standing = x }) (known_by n k)
+told_held k v x true h e = let u = h (Literal (pos 0)) in record { shape = u.shape; class = u.class; numbered = u.numbered; event = u.event; len = refl; standing = subst (λ (y : Told). StandsAs y AsNumber) (sym e) refl }
+told_held k v x false h e = told_by k v x k.ty.by_ref h e
 
-pub told_known : {p : Program} → (k : Known) (t : Meaning) → shape_of k.ty.base ≡ shape_as t.scalar → plain_class p k.ty.base ≡ t.class → event_place p k.ty.base ≡ t.event → k.ty.len ≡ t.elements → t.standing ≡ standing_by (has_number p k.ty) k.ty.by_ref k.cell → Tells p t (known_meant p k)
-told_known {p} k t s c v l e = told_held k t (has_number p k.ty) s c v l e
+pub told_known : {p : Program} → (k : Known) (v : Meaning) (x : Told) → ((e : Expr) → Tells p v (value_meant e (scalar_type k.ty.base))) → x ≡ standing_by (has_number p k.ty) k.ty.by_ref k.cell → Tells p (record v { elements = k.ty.len; standing = x }) (known_meant p k)
+told_known {p} k v x h e = told_held k v x (has_number p k.ty) h e
 
 -- the variable that is told of
 
@@ -107,6 +107,7 @@ variable_told standing.Fail s h = ap variable_in h
 variable_told (standing.Routine r) s h = ap variable_in h
 variable_told (standing.Member r) s h = ap variable_in h
 variable_told (standing.LiveMember r) s h = ap variable_in h
+variable_told (standing.MutexMember m r) s h = ap variable_in h
 variable_told standing.Nothing s h = ap variable_in h
 
 pub told_variable : {p : Program} → (s : Meaning) (m : Meant) (k : ℕ) → Tells p s m → Some k ≡ cell_in s.standing → variable_in m.standing ≡ Some k

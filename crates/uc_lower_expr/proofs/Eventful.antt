@@ -129,7 +129,7 @@ from_case : (t : Bool) (i k j : ℕ) (o q : Option ℕ) → k + i ≡ j → opti
 from_case true i k j o q e h = ap (λ n. Some n) e
 from_case false i k j o q e h = h
 
-place_shift : (k i j : ℕ) (ns : List (List ℕ)) (name : List ℕ) → k + i ≡ j → option_map (λ n. k + n) (place_from i ns name) ≡ place_from j ns name
+pub place_shift : (k i j : ℕ) (ns : List (List ℕ)) (name : List ℕ) → k + i ≡ j → option_map (λ n. k + n) (place_from i ns name) ≡ place_from j ns name
 place_shift k i j [] name e = refl
 place_shift k i j (n ∷ ns) name e = from_case (same_name n name) i k j (place_from (i + 1) ns name) (place_from (j + 1) ns name) e (place_shift k (i + 1) (j + 1) ns name (omega (arith, e)))
 

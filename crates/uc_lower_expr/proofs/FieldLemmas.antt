@@ -1,6 +1,6 @@
 -- The cells before the fields of a class, as they are noted and as its shape has them.
 use Rattle.std.proofs.Common.{◌≡◌, ℕ, zero, suc, ◌+◌, ◌-◌, ◌*◌, ◌≤◌, ◌<◌, ℤ, List, [], ◌∷◌, ◌++◌, Bool, true, false, Option, Some, None, if◌then◌else◌, length, map, get_or, refl, ap, sym, subst, ◌∙◌, arith}
-use Rattle.std.specs.Prelude.{slice_get}
+use Rattle.std.specs.Prelude.{slice_get, is_some, not, ◌&&◌, option_map}
 use Rattle.uc_tree.specs.declared.limits.TheConstants.{CLASS_CELLS}
 use Rattle.uc_tree.specs.declared.kinds.Base.{Base}
 use Rattle.uc_tree.specs.declared.kinds.Ty.{Ty}
@@ -15,18 +15,18 @@ use Rattle.uc_tree.specs.Programs.{MemberForm, FieldsMember, RoutineMember, Prot
 use Rattle.uc_tree.specs.Rows.{Row, row_at, has_itself, element_cells, held_cells, all_held_cells, row_cells, cells_within}
 use Rattle.uc_tree.specs.Cells.{classes_of, class_cells, object_of, held_by, member_held, members_held, row_of, rows_of, leading_cells, seen_in}
 use Rattle.uc_tree.specs.Source.{Shape, Binding, Last, shape_cells, field_cells}
-use Rattle.uc_tree.specs.Objects.{class_at, ClassField, declared_fields, form_fields, fields_of, shape_of, kept_shape, arrayed, field_shape, fields_shape, behind_bindings, form_shape, shape_within, class_shape, plain_class, event_place}
-use Rattle.uc_resolve.specs.Resolve.{field_length}
+use Rattle.uc_tree.specs.Objects.{class_at, ClassField, declared_fields, form_fields, fields_of, shape_of, kept_shape, arrayed, field_shape, fields_shape, behind_bindings, form_shape, shape_within, class_shape, making, class_made, is_numbered, event_place}
+use Rattle.uc_resolve.specs.Resolve.{Standing, NumberedField, Whose, field_by, field_length, field_or_condition, field_type, has_number}
 use Rattle.uc_layout.specs.Places.{IsPlaces}
 use Rattle.uc_layout.specs.Depths.{Holds, First, Later}
 use Rattle.uc_layout.proofs.DepthsLemmas.{cells_deep, cells_next}
 use Rattle.uc_lower_expr.specs.declared.meaning.Standing.{Standing as Told}
 use Rattle.uc_lower_expr.specs.declared.fields.Field.{Field}
 use Rattle.uc_lower_expr.specs.declared.fields.FieldTable.{FieldTable}
-use Rattle.uc_lower_expr.specs.Meanings.{StandsAs}
-use Rattle.uc_lower_expr.specs.Members.{FitClasses, IsFieldAt, AreFields}
-use Rattle.uc_lower_expr.specs.FieldTables.{one_scalar, length_by, IsNoted, AreNoted, NoMore, OneMore, Notes}
-use Rattle.uc_lower_expr.proofs.Plainness.{found_plain, making_plain}
+use Rattle.uc_lower_expr.specs.Meanings.{StandsAs, held_as, is_mutex_at, making_by}
+use Rattle.uc_lower_expr.specs.Members.{FitClasses, IsFieldAt, AreFields, held_standing, is_held_base}
+use Rattle.uc_lower_expr.specs.FieldTables.{is_number, one_scalar, length_by, IsNoted, AreNoted, NoMore, OneMore, Notes}
+use Rattle.uc_lower_expr.proofs.Makings.{making_is}
 
 -- what the fields of a class hold
 
@@ -298,6 +298,26 @@ get_map f [] k x e = cc
 get_map f (y ∷ ys) zero x e = let is : y ≡ x = cc in ap f is
 get_map f (y ∷ ys) (suc k) x e = get_map f ys k x e
 
+-- how a field is held
+
+number_is : (named : List ℕ → Option ℤ) (d : Declarator) (numbered : Bool) (l : Option Expr) → (not (is_some (field_length named d l)) && numbered) ≡ is_number l numbered
+number_is named d numbered None = refl
+number_is named d numbered (Some e) = refl
+
+held_stands : (b : Bool) → StandsAs (held_as b) (held_standing b)
+held_stands true = refl
+held_stands false = refl
+
+no_condition : (p : Program) (c : Class) (i : ℕ) (whose : Whose) (f : NumberedField) (b : Base) → is_held_base b ≡ true → field_or_condition p c i whose f b ≡ field_by (has_number p (field_type p c f.field)) f.field.declarator.by_ref (class_shape p i) f.number whose (field_type p c f.field)
+no_condition p c i whose f base.Void h = refl
+no_condition p c i whose f base.Int h = refl
+no_condition p c i whose f base.Char h = refl
+no_condition p c i whose f base.Bool h = refl
+no_condition p c i whose f base.Condition h = cc
+no_condition p c i whose f base.Cluster h = cc
+no_condition p c i whose f base.Processor h = cc
+no_condition p c i whose f (base.Named name) h = refl
+
 get_long : {A : Type 0} (xs : List A) (k : ℕ) (x : A) → slice_get xs k ≡ Some x → k < length xs
 get_long [] k x e = cc
 get_long (y ∷ ys) zero x e = omega arith
@@ -320,18 +340,22 @@ module _ (p : Program) (fit : FitClasses p) (i : ℕ) (c : Class) (there : class
       let before = cells_before p fit i c there k in
       let here : get_or hs k one_scalar ≡ held_of cs named f = ap (λ xs. get_or xs k one_scalar) (held_is p fit i c there) ∙ get_map (held_of cs named) fields k f e in
       let at : 0 + k ≡ k = omega arith in
+      let held = fit.held i k c f there e in
+      let number : has_number p (field_type p c f) ≡ v.number = number_is named f.declarator (is_numbered (making p f.base)) f.declarator.len ∙ ap (is_number f.declarator.len) n.numbered ∙ sym n.number in
       let len : v.told.elements ≡ field_length named f.declarator f.declarator.len = n.len ∙ ap (λ (h : Held). length_by f.declarator.len h.count) (ap (λ x. get_or hs x one_scalar) at ∙ here) ∙ length_is f f.declarator.len in
       record {
-        made = making_plain p fit f.base (fit.held i k c f there e);
-        found = found_plain p fit c i (leading_cells c.kind + k) f (fit.held i k c f there e);
+        made = making_is p f.base held ∙ ap (option_map (λ j. making_by j (is_mutex_at p j))) n.class;
+        by_number = number;
+        found = λ whose. no_condition p c i whose (record { number = leading_cells c.kind + k; field = f }) f.base held ∙ ap (λ (b : Bool). field_by b f.declarator.by_ref (class_shape p i) (leading_cells c.kind + k) whose (field_type p c f)) number;
         by_ref = n.by_ref;
         cell = before ∙ ap (λ x. leading_cells c.kind + x) (sym first) ∙ sym n.cell;
         tells = λ m t s. record {
           shape = ap (λ (y : Ty). shape_of y.base) t ∙ n.shape;
-          class = ap (λ (y : Ty). plain_class p y.base) t ∙ n.class;
+          class = ap (λ (y : Ty). class_made (making p y.base)) t ∙ n.class;
+          numbered = ap (λ (y : Ty). is_numbered (making p y.base)) t ∙ n.numbered;
           event = ap (λ (y : Ty). event_place p y.base) t ∙ n.event;
           len = ap (λ (y : Ty). y.len) t ∙ sym len;
-          standing = subst (λ (x : Told). StandsAs x m.standing) (sym n.standing) s;
+          standing = subst (λ (x : Told). StandsAs x m.standing) (sym n.standing) (subst (λ (x : Standing). StandsAs (held_as v.number) x) (sym s) (held_stands v.number));
         };
       }
 

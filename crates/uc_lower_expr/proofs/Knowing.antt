@@ -16,13 +16,12 @@ use Rattle.uc_tree.specs.Programs.{Class, Program}
 use Rattle.uc_tree.specs.Cells.{classes_of, class_cells, object_of_kind, object_named, object_of, rows_of}
 use Rattle.uc_tree.specs.Numbering.{is_event, at_most, class_names, place_from as name_from}
 use Rattle.uc_tree.specs.Source.{Binding, Expr, shape_cells}
-use Rattle.uc_resolve.specs.Resolve.{AsValue, result_of, scalar}
-use Rattle.uc_tree.specs.Objects.{class_at, number_in, number_at, place_from, place_of, plain_in, plain_class, shape_of, kept_shape, class_shape, base_shape, written_at, unwritten_number, event_place}
+use Rattle.uc_resolve.specs.Resolve.{AsValue, result_of, scalar, value_meant}
+use Rattle.uc_tree.specs.Objects.{Making, APlain, AMutex, making, making_by, class_made, is_numbered, class_at, number_in, number_at, place_from, place_of, shape_of, kept_shape, class_shape, base_shape, written_at, unwritten_number}
 use Rattle.uc_lower_expr.specs.declared.meaning.Meaning.{Meaning}
 use Rattle.uc_lower_expr.specs.declared.meaning.Scalar.TheVariants as scalars
-use Rattle.uc_lower_expr.specs.declared.meaning.Standing.{Standing as Told}
 use Rattle.uc_lower_expr.specs.declared.meaning.Standing.TheVariants as standing
-use Rattle.uc_lower_expr.specs.Meanings.{StandsAs, Tells, shape_as}
+use Rattle.uc_lower_expr.specs.Meanings.{Tells}
 use Rattle.uc_lower_expr.specs.Known.{place_among, routine_or}
 use Rattle.uc_lower_expr.specs.Members.{FitClasses, object_places, routine_by, routine_for}
 use Rattle.uc_lower_expr.specs.Numbered.{AreUnwritten, number_of_class}
@@ -58,33 +57,33 @@ places_push (x ∷ xs) c i =
     let e : i + 1 + length xs ≡ i + suc (length xs) = omega arith in
     push_case (is_event x.kind) i (object_places (xs ++ c ∷ []) (i + 1)) (object_places xs (i + 1)) (object_places (c ∷ []) (i + suc (length xs))) (places_push xs c (i + 1) ∙ ap (λ k. object_places xs (i + 1) ++ object_places (c ∷ []) k) e)
 
--- a class of plain objects is among the classes
+-- a class of objects is among the classes
 
-kind_class : (i : ℕ) (k : Kind) (j : ℕ) → plain_in (object_of_kind i k) ≡ Some j → j ≡ i
-kind_class i kind.Class j e = cc
-kind_class i kind.Coroutine j e = cc
-kind_class i kind.Monitor j e = cc
-kind_class i kind.Cormonitor j e = cc
-kind_class i kind.Task j e = cc
-kind_class i kind.Event j e = cc
+kind_class : (i : ℕ) (k : Kind) (name : List ℕ) (j : ℕ) → class_made (making_by (object_of_kind i k) (base.Named name)) ≡ Some j → j ≡ i
+kind_class i kind.Class name j e = cc
+kind_class i kind.Coroutine name j e = cc
+kind_class i kind.Monitor name j e = cc
+kind_class i kind.Cormonitor name j e = cc
+kind_class i kind.Task name j e = cc
+kind_class i kind.Event name j e = cc
 
-named_case : (i j m : ℕ) (k : Kind) (b : Bool) (o : Option Object) → (plain_in o ≡ Some j → j < i + 1 + m) → plain_in (if b then object_of_kind i k else o) ≡ Some j → j < i + suc m
-named_case i j m k true o r h = let w = kind_class i k j h in omega (arith, w)
-named_case i j m k false o r h = let w = r h in omega (arith, w)
+named_case : (i j m : ℕ) (k : Kind) (name : List ℕ) (b : Bool) (o : Option Object) → (class_made (making_by o (base.Named name)) ≡ Some j → j < i + 1 + m) → class_made (making_by (if b then object_of_kind i k else o) (base.Named name)) ≡ Some j → j < i + suc m
+named_case i j m k name true o r h = let w = kind_class i k name j h in omega (arith, w)
+named_case i j m k name false o r h = let w = r h in omega (arith, w)
 
-named_within : (cs : List Class) (i : ℕ) (name : List ℕ) (j : ℕ) → plain_in (object_named cs i name) ≡ Some j → j < i + length cs
+named_within : (cs : List Class) (i : ℕ) (name : List ℕ) (j : ℕ) → class_made (making_by (object_named cs i name) (base.Named name)) ≡ Some j → j < i + length cs
 named_within [] i name j e = cc
-named_within (c ∷ cs) i name j e = named_case i j (length cs) c.kind (same_name c.name name) (object_named cs (i + 1) name) (named_within cs (i + 1) name j) e
+named_within (c ∷ cs) i name j e = named_case i j (length cs) c.kind name (same_name c.name name) (object_named cs (i + 1) name) (named_within cs (i + 1) name j) e
 
-pub plain_within : (p : Program) (b : Base) (j : ℕ) → plain_class p b ≡ Some j → j < length (classes_of p.items)
-plain_within p base.Void j e = cc
-plain_within p base.Int j e = cc
-plain_within p base.Char j e = cc
-plain_within p base.Bool j e = cc
-plain_within p base.Condition j e = cc
-plain_within p base.Cluster j e = cc
-plain_within p base.Processor j e = cc
-plain_within p (base.Named name) j e = let h = named_within (classes_of p.items) 0 name j e in omega (arith, h)
+pub made_within : (p : Program) (b : Base) (j : ℕ) → class_made (making p b) ≡ Some j → j < length (classes_of p.items)
+made_within p base.Void j e = cc
+made_within p base.Int j e = cc
+made_within p base.Char j e = cc
+made_within p base.Bool j e = cc
+made_within p base.Condition j e = cc
+made_within p base.Cluster j e = cc
+made_within p base.Processor j e = cc
+made_within p (base.Named name) j e = let h = named_within (classes_of p.items) 0 name j e in omega (arith, h)
 
 -- the cells of an element
 
@@ -98,39 +97,71 @@ base_one base.Cluster = refl
 base_one base.Processor = refl
 base_one (base.Named name) = refl
 
+none_made : (b : Base) (j : ℕ) → class_made (making_by None b) ≡ Some j → ⊥
+none_made base.Void j e = cc
+none_made base.Int j e = cc
+none_made base.Char j e = cc
+none_made base.Bool j e = cc
+none_made base.Condition j e = cc
+none_made base.Cluster j e = cc
+none_made base.Processor j e = cc
+none_made (base.Named name) j e = cc
+
+-- by whether an object has the cells of its class
+abbrev made_object : Bool → ℕ → Option Making
+made_object plain i = Some (if plain then APlain i else AMutex i)
+
+module _ (p : Program) where
+  abbrev object_cells : Bool → ℕ → ℕ
+  object_cells plain i = shape_cells (if plain then class_shape p i else Binding)
+
+  plain_none : (i : ℕ) (plain : Bool) → class_made (made_object plain i) ≡ None → object_cells plain i ≡ 1
+  plain_none i true e = cc
+  plain_none i false e = refl
+
+  mutex_size : (i : ℕ) (plain : Bool) → is_numbered (made_object plain i) ≡ true → object_cells plain i ≡ 1
+  mutex_size i true n = cc
+  mutex_size i false n = refl
+
+  none_by : (o : Option Object) (b : Base) → class_made (making_by o b) ≡ None → shape_cells (kept_shape (class_shape p) o b) ≡ 1
+  none_by None b e = base_one b
+  none_by (Some o) b e = plain_none o.class o.plain e
+
+  number_by : (o : Option Object) (b : Base) → is_numbered (making_by o b) ≡ true → shape_cells (kept_shape (class_shape p) o b) ≡ 1
+  number_by None b n = base_one b
+  number_by (Some o) b n = mutex_size o.class o.plain n
+
+  pub element_of_none : (b : Base) → class_made (making p b) ≡ None → shape_cells (base_shape p b) ≡ 1
+  element_of_none b e = none_by (object_of (classes_of p.items) b) b e
+
+  pub element_of_number : (b : Base) → is_numbered (making p b) ≡ true → shape_cells (base_shape p b) ≡ 1
+  element_of_number b n = number_by (object_of (classes_of p.items) b) b n
+
 module _ (p : Program) (fit : FitClasses p) where
   class_size : (j : ℕ) → shape_cells (class_shape p j) ≡ class_cells p j
   class_size j = within p fit (length (rows_of p)) j
 
-  object_size : (o : Object) (b : Base) (plain : Bool) (j : ℕ) → (if plain then Some o.class else None) ≡ Some j → shape_cells (if plain then class_shape p o.class else Binding) ≡ class_cells p j
-  object_size o b true j e = let is : o.class ≡ j = cc in class_size o.class ∙ ap (class_cells p) is
-  object_size o b false j e = cc
+  plain_size : (i j : ℕ) (plain : Bool) → is_numbered (made_object plain i) ≡ false → class_made (made_object plain i) ≡ Some j → object_cells p plain i ≡ class_cells p j
+  plain_size i j true n e = let is : i ≡ j = cc in class_size i ∙ ap (class_cells p) is
+  plain_size i j false n e = cc
 
-  object_one : (o : Object) (b : Base) (plain : Bool) → (if plain then Some o.class else None) ≡ None → shape_cells (if plain then class_shape p o.class else Binding) ≡ 1
-  object_one o b true e = cc
-  object_one o b false e = refl
+  class_by : (o : Option Object) (b : Base) (j : ℕ) → is_numbered (making_by o b) ≡ false → class_made (making_by o b) ≡ Some j → shape_cells (kept_shape (class_shape p) o b) ≡ class_cells p j
+  class_by None b j n e = absurd (none_made b j e)
+  class_by (Some o) b j n e = plain_size o.class j o.plain n e
 
-  plain_size : (o : Option Object) (b : Base) (j : ℕ) → plain_in o ≡ Some j → shape_cells (kept_shape (class_shape p) o b) ≡ class_cells p j
-  plain_size None b j e = cc
-  plain_size (Some o) b j e = object_size o b o.plain j e
-
-  other_size : (o : Option Object) (b : Base) → plain_in o ≡ None → shape_cells (kept_shape (class_shape p) o b) ≡ 1
-  other_size None b e = base_one b
-  other_size (Some o) b e = object_one o b o.plain e
-
-  pub element_of_class : (b : Base) (j : ℕ) → plain_class p b ≡ Some j → shape_cells (base_shape p b) ≡ class_cells p j
-  element_of_class b j e = plain_size (object_of (classes_of p.items) b) b j e
-
-  pub element_of_none : (b : Base) → plain_class p b ≡ None → shape_cells (base_shape p b) ≡ 1
-  element_of_none b e = other_size (object_of (classes_of p.items) b) b e
+  pub element_of_class : (b : Base) (j : ℕ) → is_numbered (making p b) ≡ false → class_made (making p b) ≡ Some j → shape_cells (base_shape p b) ≡ class_cells p j
+  element_of_class b j n e = class_by (object_of (classes_of p.items) b) b j n e
 
 -- what a routine hands over
 
-pub result_told : (p : Program) (r : ℕ) (b : Base) (t : Meaning) (e : Expr) → result_of p r ≡ b → shape_of b ≡ shape_as t.scalar → plain_class p b ≡ t.class → event_place p b ≡ t.event → t.elements ≡ None → t.standing ≡ standing.Value → Tells p t (record { expr = e; ty = scalar (result_of p r); standing = AsValue })
-result_told p r b t e is s c v l h = record { shape = ap shape_of is ∙ s; class = ap (plain_class p) is ∙ c; event = ap (event_place p) is ∙ v; len = sym l; standing = subst (λ (x : Told). StandsAs x AsValue) (sym h) refl }
+pub result_told : (p : Program) (r : ℕ) (b : Base) (t : Meaning) (e : Expr) → result_of p r ≡ b → ((e : Expr) → Tells p t (value_meant e (scalar b))) → Tells p t (record { expr = e; ty = scalar (result_of p r); standing = AsValue })
+result_told p r b t e is h = subst (λ (x : Base). Tells p t (value_meant e (scalar x))) (sym is) (h e)
 
-pub result_none : (p : Program) (r : ℕ) (t : Meaning) (e : Expr) → result_of p r ≡ base.Void → t ≡ record { scalar = scalars.Number; class = None; event = None; elements = None; standing = standing.Value } → Tells p t (record { expr = e; ty = scalar (result_of p r); standing = AsValue })
-result_none p r t e is h = subst (λ (x : Meaning). Tells p x (record { expr = e; ty = scalar (result_of p r); standing = AsValue })) (sym h) (record { shape = ap shape_of is; class = ap (plain_class p) is; event = ap (event_place p) is; len = refl; standing = refl })
+void_told : (p : Program) (e : Expr) → Tells p (record { scalar = scalars.Number; class = None; numbered = false; event = None; elements = None; standing = standing.Value }) (value_meant e (scalar base.Void))
+void_told p e = record { shape = refl; class = refl; numbered = refl; event = refl; len = refl; standing = refl }
+
+pub result_none : (p : Program) (r : ℕ) (t : Meaning) (e : Expr) → result_of p r ≡ base.Void → t ≡ record { scalar = scalars.Number; class = None; numbered = false; event = None; elements = None; standing = standing.Value } → Tells p t (record { expr = e; ty = scalar (result_of p r); standing = AsValue })
+result_none p r t e is h = result_told p r base.Void t e is (λ d. subst (λ (x : Meaning). Tells p x (value_meant d (scalar base.Void))) (sym h) (void_told p d))
 
 -- what builds and destroys
 

@@ -1,5 +1,6 @@
 -- The code of an expression goes on standing where its own range does not change.
-use Rattle.std.proofs.Common.{ℕ, List, pos}
+use Rattle.std.proofs.Common.{ℕ, List, Bool, true, false, pos}
+use Rattle.uc_tree.specs.declared.limits.TheConstants.{DESTRUCTOR}
 use Rattle.uc_tree.specs.Source.{Shape, Integer, Character, Truth, Binding, Last, Field, Array, shape_cells, field_cells, Expr, Literal, Variable, Element, Get, Load, Negated, Not, AsCharacter, AsTruth, Operate, And, Or, Set, Assign, First, Update, StepBehind, Fail, Call, OfObject, ObjectExpr, This, OwnField, GetOwn, FieldOf, Counted, CallOn, CallUnwritten, CallLive, EnterOn, EndOn, Bind, MakeOn, NewCluster, NewProcessor, EndCluster, EndProcessor, ConditionAt, Wait, Signal, SignalBlock, IsEmpty, FrontOf, Exprs, NoExprs, MoreExprs}
 use Rattle.uc_code.specs.declared.op.Op.TheVariants as op
 use Rattle.uc_code.specs.declared.rows.Mark.{Mark}
@@ -58,9 +59,11 @@ mutual
   object_stable line ms (CallLive r e es) = both (expr_stable line ms e) (both (args_stable line ms es) (both (one_stable op.Tick line) (both (one_stable (op.Alive r) line) (risk_stable ms (op.CallOn r) line))))
   object_stable line ms (CallUnwritten r e) = both (expr_stable line ms e) (calls_behind_stable ms r line)
   object_stable line ms (Bind p e) = both (expr_stable line ms p) (both (expr_stable line ms e) (one_stable op.Bind line))
-  object_stable line ms (EnterOn m r e es) = never_stable
-  object_stable line ms (EndOn r written e) = never_stable
-  object_stable line ms (MakeOn c r written e es) = never_stable
+  object_stable line ms (EnterOn m r e es) = both (expr_stable line ms e) (both (args_stable line ms es) (both (one_stable op.Tick line) (both (one_stable (op.Enter m r) line) (risk_stable ms (op.CallOn r) line))))
+  object_stable line ms (EndOn r false e) = both (expr_stable line ms e) (both (one_stable (op.Enter DESTRUCTOR r) line) (calls_behind_stable ms r line))
+  object_stable line ms (EndOn r true e) = both (expr_stable line ms e) (both (one_stable op.Tick line) (both (one_stable (op.Enter DESTRUCTOR r) line) (risk_stable ms (op.CallOn r) line)))
+  object_stable line ms (MakeOn c r false e es) = both (expr_stable line ms e) (both (args_stable line ms es) (both (one_stable (op.Make c r) line) (both (one_stable (op.BindMade c r) line) (calls_behind_stable ms r line))))
+  object_stable line ms (MakeOn c r true e es) = both (expr_stable line ms e) (both (args_stable line ms es) (both (one_stable op.Tick line) (both (one_stable (op.Make c r) line) (both (one_stable (op.BindMade c r) line) (risk_stable ms (op.CallOn r) line)))))
   object_stable line ms NewCluster = never_stable
   object_stable line ms (NewProcessor e) = never_stable
   object_stable line ms (EndCluster e) = never_stable

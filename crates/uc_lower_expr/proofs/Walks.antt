@@ -23,8 +23,8 @@ use Rattle.uc_tree.specs.Expressions as tree
 use Rattle.uc_tree.specs.Expressions.{exprs_of, parts_of, links_of}
 use Rattle.uc_tree.specs.ExpressionViews.{expr_at, part_at}
 use Rattle.uc_tree.specs.ExpressionSizes.{expr_size, exprs_size, part_size, parts_size, link_size, links_size}
-use Rattle.uc_tree.specs.Source.{Shape, shape_cells, Plus, Minus, Times, Over, Modulo, Expr, Element, Call, OfObject, CallOn, CallLive, Exprs, NoExprs, MoreExprs}
-use Rattle.uc_tree.specs.Objects.{plain_class, base_shape, shape_of}
+use Rattle.uc_tree.specs.Source.{Shape, shape_cells, Plus, Minus, Times, Over, Modulo, Expr, Element, Call, OfObject, CallOn, CallLive, EnterOn, Exprs, NoExprs, MoreExprs}
+use Rattle.uc_tree.specs.Objects.{class_made, is_numbered, making, base_shape, shape_of}
 use Rattle.uc_resolve.specs.Resolve.{Meant, Context, meant, value_by, value_of, converted, Standing, AsValue, unary_meant, binary_meant, assign_meant, written_by, variable_in, link_meant, chain_meant, part_meant, args_meant, arg_meant, args_by, params_of, parts_meant, has_number, one_of, place_or_number, element_in, element_by, element_meant, call_by, call_meant, step_meant, no_meaning}
 use Rattle.uc_code.specs.declared.op.Op.{Op}
 use Rattle.uc_code.specs.declared.op.Op.TheVariants as op
@@ -41,12 +41,10 @@ use Rattle.uc_lower_expr.specs.declared.meaning.Standing.TheVariants as standing
 use Rattle.uc_lower_expr.specs.declared.meaning.Meaning.{Meaning}
 use Rattle.uc_lower_expr.specs.declared.ops.Joining.{Joining}
 use Rattle.uc_lower_expr.specs.Contexts.{context_in}
-use Rattle.uc_lower_expr.specs.Meanings.{FieldAt, Begins, StandsAs, binds, cell_in, element_told, shape_as, Tells}
-use Rattle.uc_lower_expr.specs.DraftGrowth.{Adds, Cuts, ExprCode, ArgumentsCode, ConvertCode, OpCode, RiskCode, Grows, fetched, LiveCallCode}
+use Rattle.uc_lower_expr.specs.Meanings.{FieldAt, Begins, StandsAs, cell_in, element_told, held_as, shape_as, Tells}
+use Rattle.uc_lower_expr.specs.DraftGrowth.{Adds, Cuts, ExprCode, ArgumentsCode, ConvertCode, OpCode, RiskCode, Grows, fetched, LiveCallCode, MutexCallCode}
 use Rattle.uc_lower_expr.specs.Parts.{joining_of, combining_of, scalar_of, RightCode, BeginCode, EndCode, SetCode, VariableCode, PlaceCode, ArgumentCode, FoundCode, Restarts, bumped}
-use Rattle.uc_lower_expr.specs.Members.{FitClasses}
 use Rattle.uc_lower_expr.proofs.Adding.{adds_nothing, adds_more, adds_as, adds_both, and_nothing}
-use Rattle.uc_lower_expr.proofs.Plainness.{numbered_binds}
 use Rattle.uc_lower_expr.proofs.Settled.{both, expr_stable, args_stable, convert_stable}
 use Rattle.uc_lower_expr.proofs.Growing.{grows_as, grows_then, grows_adds, grows_restart, grows_cut, adds_grows, tells_grows}
 use Rattle.uc_lower_expr.proofs.Arms.{as_value, told_variable, told_no_variable, updated_variable, updated_place, arm_update, converted_at, stands}
@@ -66,20 +64,20 @@ assign_tells assign.Rem told t m v i u = as_value told t m _ i u
 
 -- operators between two sides
 
-right_tells : {p : Program} → (o : BinaryOp) (l r : Meant) → Tells p (record { scalar = scalar_of (joining_of o); class = None; event = None; elements = None; standing = standing.Value }) (binary_meant o l r)
-right_tells binary.Or l r = record { shape = refl; class = refl; event = refl; len = refl; standing = refl }
-right_tells binary.And l r = record { shape = refl; class = refl; event = refl; len = refl; standing = refl }
-right_tells binary.Equal l r = record { shape = refl; class = refl; event = refl; len = refl; standing = refl }
-right_tells binary.NotEqual l r = record { shape = refl; class = refl; event = refl; len = refl; standing = refl }
-right_tells binary.Less l r = record { shape = refl; class = refl; event = refl; len = refl; standing = refl }
-right_tells binary.LessEqual l r = record { shape = refl; class = refl; event = refl; len = refl; standing = refl }
-right_tells binary.Greater l r = record { shape = refl; class = refl; event = refl; len = refl; standing = refl }
-right_tells binary.GreaterEqual l r = record { shape = refl; class = refl; event = refl; len = refl; standing = refl }
-right_tells binary.Add l r = record { shape = refl; class = refl; event = refl; len = refl; standing = refl }
-right_tells binary.Sub l r = record { shape = refl; class = refl; event = refl; len = refl; standing = refl }
-right_tells binary.Mul l r = record { shape = refl; class = refl; event = refl; len = refl; standing = refl }
-right_tells binary.Div l r = record { shape = refl; class = refl; event = refl; len = refl; standing = refl }
-right_tells binary.Rem l r = record { shape = refl; class = refl; event = refl; len = refl; standing = refl }
+right_tells : {p : Program} → (o : BinaryOp) (l r : Meant) → Tells p (record { scalar = scalar_of (joining_of o); class = None; numbered = false; event = None; elements = None; standing = standing.Value }) (binary_meant o l r)
+right_tells binary.Or l r = record { shape = refl; class = refl; numbered = refl; event = refl; len = refl; standing = refl }
+right_tells binary.And l r = record { shape = refl; class = refl; numbered = refl; event = refl; len = refl; standing = refl }
+right_tells binary.Equal l r = record { shape = refl; class = refl; numbered = refl; event = refl; len = refl; standing = refl }
+right_tells binary.NotEqual l r = record { shape = refl; class = refl; numbered = refl; event = refl; len = refl; standing = refl }
+right_tells binary.Less l r = record { shape = refl; class = refl; numbered = refl; event = refl; len = refl; standing = refl }
+right_tells binary.LessEqual l r = record { shape = refl; class = refl; numbered = refl; event = refl; len = refl; standing = refl }
+right_tells binary.Greater l r = record { shape = refl; class = refl; numbered = refl; event = refl; len = refl; standing = refl }
+right_tells binary.GreaterEqual l r = record { shape = refl; class = refl; numbered = refl; event = refl; len = refl; standing = refl }
+right_tells binary.Add l r = record { shape = refl; class = refl; numbered = refl; event = refl; len = refl; standing = refl }
+right_tells binary.Sub l r = record { shape = refl; class = refl; numbered = refl; event = refl; len = refl; standing = refl }
+right_tells binary.Mul l r = record { shape = refl; class = refl; numbered = refl; event = refl; len = refl; standing = refl }
+right_tells binary.Div l r = record { shape = refl; class = refl; numbered = refl; event = refl; len = refl; standing = refl }
+right_tells binary.Rem l r = record { shape = refl; class = refl; numbered = refl; event = refl; len = refl; standing = refl }
 
 -- an element, by whether it is known by its number
 
@@ -97,20 +95,18 @@ element_found p standing.Fail o n m i h = ap (λ (s : Standing). element_in p s 
 element_found p (standing.Routine r) o n m i h = ap (λ (s : Standing). element_in p s n m i) h
 element_found p (standing.Member r) o n m i h = ap (λ (s : Standing). element_in p s n m i) h
 element_found p (standing.LiveMember r) o n m i h = ap (λ (s : Standing). element_in p s n m i) h
+element_found p (standing.MutexMember k r) o n m i h = ap (λ (s : Standing). element_in p s n m i) h
 element_found p standing.Nothing o n m i h = ap (λ (s : Standing). element_in p s n m i) h
 
-element_is : (p : Program) → FitClasses p → (s : Meaning) (n : ℕ) (i : Meant) → s.elements ≡ Some n → (m : Meant) → Tells p s m → element_meant p m i ≡ place_or_number (binds (shape_as s.scalar)) (Element n (base_shape p m.ty.base) m.expr (value_of i)) (one_of m.ty)
-element_is p fit s n i e m u =
+element_is : (p : Program) (s : Meaning) (n : ℕ) (i : Meant) → s.elements ≡ Some n → (m : Meant) → Tells p s m → element_meant p m i ≡ place_or_number s.numbered (Element n (base_shape p m.ty.base) m.expr (value_of i)) (one_of m.ty)
+element_is p s n i e m u =
     ap (λ (o : Option ℕ). element_by p o m (value_of i)) (u.len ∙ e)
     ∙ element_found p s.standing m.standing n m (value_of i) u.standing
-    ∙ ap (λ (b : Bool). place_or_number b (Element n (base_shape p m.ty.base) m.expr (value_of i)) (one_of m.ty)) (numbered_binds p fit m.ty.base ∙ ap binds u.shape)
+    ∙ ap (λ (b : Bool). place_or_number b (Element n (base_shape p m.ty.base) m.expr (value_of i)) (one_of m.ty)) u.numbered
 
-element_tells : {p : Program} → (s : Meaning) (m : Meant) (number : Bool) (e : Expr) → Tells p s m → Tells p (record s { elements = None; standing = if number then standing.Number else standing.Place }) (place_or_number number e (one_of m.ty))
-element_tells s m true e u = record { shape = u.shape; class = u.class; event = u.event; len = refl; standing = refl }
-element_tells s m false e u = record { shape = u.shape; class = u.class; event = u.event; len = refl; standing = refl }
-
-pub element_as : (told : Meaning) (number : Bool) → binds (shape_as told.scalar) ≡ number → record told { elements = None; standing = if number then standing.Number else standing.Place } ≡ element_told told
-element_as told number e = ap (λ (b : Bool). let m : Meaning = record told { elements = None; standing = if b then standing.Number else standing.Place } in m) (sym e)
+element_tells : {p : Program} → (s : Meaning) (m : Meant) (number : Bool) (e : Expr) → Tells p s m → Tells p (record s { elements = None; standing = held_as number }) (place_or_number number e (one_of m.ty))
+element_tells s m true e u = record { shape = u.shape; class = u.class; numbered = u.numbered; event = u.event; len = refl; standing = refl }
+element_tells s m false e u = record { shape = u.shape; class = u.class; numbered = u.numbered; event = u.event; len = refl; standing = refl }
 
 pub found_load : (line : ℕ) (b : Bool) (old new : Draft) → b ≡ true → Adds 1 (OpCode line op.Load) old new → Adds 1 (FoundCode line b) old new
 found_load line b old new e h = subst (λ (x : Bool). Adds 1 (FoundCode line x) old new) (sym e) h
@@ -328,10 +324,10 @@ module _ (ms : List Mark) where
   fetched_side binary.Div l r = refl
   fetched_side binary.Rem l r = refl
 
-  link_grows : {p : Program} → (o : BinaryOp) (r : Meant) (k line a : ℕ) (left t : Meaning) (old mid new : Draft) → t ≡ record left { standing = standing.Value } → Grows p 1 line ms a fetched left t old mid → Adds k (RightCode line ms (joining_of o) (value_of r)) mid new → Grows p (1 + k) line ms a (λ l. binary_meant o l r) left (record { scalar = scalar_of (joining_of o); class = None; event = None; elements = None; standing = standing.Value }) old new
+  link_grows : {p : Program} → (o : BinaryOp) (r : Meant) (k line a : ℕ) (left t : Meaning) (old mid new : Draft) → t ≡ record left { standing = standing.Value } → Grows p 1 line ms a fetched left t old mid → Adds k (RightCode line ms (joining_of o) (value_of r)) mid new → Grows p (1 + k) line ms a (λ l. binary_meant o l r) left (record { scalar = scalar_of (joining_of o); class = None; numbered = false; event = None; elements = None; standing = standing.Value }) old new
   link_grows o r k line a left t old mid new i h g =
       grows_as (omega arith) (λ m. fetched_side o m r) (grows_then h (
-      grows_adds k line ms a (λ l. binary_meant o l r) t (record { scalar = scalar_of (joining_of o); class = None; event = None; elements = None; standing = standing.Value }) (RightCode line ms (joining_of o) (value_of r)) mid new h.past g
+      grows_adds k line ms a (λ l. binary_meant o l r) t (record { scalar = scalar_of (joining_of o); class = None; numbered = false; event = None; elements = None; standing = standing.Value }) (RightCode line ms (joining_of o) (value_of r)) mid new h.past g
       (λ m u. right_tells o m r)
       (λ m u code b z e s.
       let is : m.standing ≡ AsValue = stands t m standing.Value u (ap (λ (x : Meaning). x.standing) i) in
@@ -341,10 +337,10 @@ module _ (ms : List Mark) where
   right_as i j n line e old new h a = subst (λ (x : Joining). Adds n (RightCode line ms x e) old new) (sym h) a
 
   -- an element
-  pub arm_no_element : (p : Program) (n line a : ℕ) (i : Meant) (s t : Meaning) (old new : Draft) → 1 ≤ n → a ≤ length old.ops → s.elements ≡ None → t ≡ record { scalar = scalar.Number; class = None; event = None; elements = None; standing = standing.Nothing } → Restarts (op.Push (pos 0)) line a old new → Grows p n line ms a (λ m. element_meant p m i) s t old new
+  pub arm_no_element : (p : Program) (n line a : ℕ) (i : Meant) (s t : Meaning) (old new : Draft) → 1 ≤ n → a ≤ length old.ops → s.elements ≡ None → t ≡ record { scalar = scalar.Number; class = None; numbered = false; event = None; elements = None; standing = standing.Nothing } → Restarts (op.Push (pos 0)) line a old new → Grows p n line ms a (λ m. element_meant p m i) s t old new
   arm_no_element p n line a i s t old new k l e q h =
       grows_restart n line ms a (λ m. element_meant p m i) s t (op.Push (pos 0)) old new k l h
-      (λ m u. subst (λ (x : Meaning). Tells p x (element_meant p m i)) (sym q) (subst (λ (o : Option ℕ). Tells p (record { scalar = scalar.Number; class = None; event = None; elements = None; standing = standing.Nothing }) (element_by p o m (value_of i))) (sym (u.len ∙ e)) (record { shape = refl; class = refl; event = refl; len = refl; standing = refl })))
+      (λ m u. subst (λ (x : Meaning). Tells p x (element_meant p m i)) (sym q) (subst (λ (o : Option ℕ). Tells p (record { scalar = scalar.Number; class = None; numbered = false; event = None; elements = None; standing = standing.Nothing }) (element_by p o m (value_of i))) (sym (u.len ∙ e)) (record { shape = refl; class = refl; numbered = refl; event = refl; len = refl; standing = refl })))
       (λ m u code z w. subst (λ (o : Option ℕ). ExprAt code line ms (element_by p o m (value_of i)).expr a z) (sym (u.len ∙ e)) w)
 
   element_code : (number : Bool) (line n size : ℕ) (s : Shape) (place index : Expr) (ty : Ty) (code : Laid) (a b z : ℕ) → size ≡ shape_cells s → ExprAt code line ms place a b → Both (ExprAt code line ms index) (Both (One code (op.Index n size) line) (FoundCode line number code)) b z → ExprAt code line ms (place_or_number number (Element n s place index) ty).expr a z
@@ -359,20 +355,19 @@ module _ (ms : List Mark) where
     second = record { middle = v.middle; first = v.first; second = subst (λ (y : ℕ). One code (op.Index n y) line v.middle z) e (and_nothing (One code (op.Index n size) line) v.middle z v.second) };
   }
 
-  pub arm_element : (p : Program) (n k line a length_of size : ℕ) (i : Meant) (s t : Meaning) (old mid next new : Draft) → FitClasses p → ((b : Base) → plain_class p b ≡ s.class → size ≡ shape_cells (base_shape p b)) → n + 2 ≤ k → a ≤ length old.ops → s.elements ≡ Some length_of → t ≡ element_told s → Adds n (ExprCode line ms (value_of i)) old mid → Adds 1 (OpCode line (op.Index length_of size)) mid next → Adds 1 (FoundCode line (binds (shape_as s.scalar))) next new → Grows p k line ms a (λ m. element_meant p m i) s t old new
-  arm_element p n k line a c size i s t old mid next new fit sized r l e j h g q =
-      let number = binds (shape_as s.scalar) in
-      grows_adds k line ms a (λ m. element_meant p m i) s t (λ code. Both (ExprAt code line ms (value_of i)) (Both (One code (op.Index c size) line) (FoundCode line number code))) old new l
+  pub arm_element : (p : Program) (n k line a length_of size : ℕ) (i : Meant) (s t : Meaning) (old mid next new : Draft) → ((b : Base) → class_made (making p b) ≡ s.class → is_numbered (making p b) ≡ s.numbered → size ≡ shape_cells (base_shape p b)) → n + 2 ≤ k → a ≤ length old.ops → s.elements ≡ Some length_of → t ≡ element_told s → Adds n (ExprCode line ms (value_of i)) old mid → Adds 1 (OpCode line (op.Index length_of size)) mid next → Adds 1 (FoundCode line s.numbered) next new → Grows p k line ms a (λ m. element_meant p m i) s t old new
+  arm_element p n k line a c size i s t old mid next new sized r l e j h g q =
+      grows_adds k line ms a (λ m. element_meant p m i) s t (λ code. Both (ExprAt code line ms (value_of i)) (Both (One code (op.Index c size) line) (FoundCode line s.numbered code))) old new l
       (adds_more r (adds_both (expr_stable line ms (value_of i)) h (adds_both (one_stable (op.Index c size) line) g q)))
-      (λ m u. subst (λ (x : Meaning). Tells p x (element_meant p m i)) (sym j) (subst (λ (y : Meant). Tells p (element_told s) y) (sym (element_is p fit s c i e m u)) (element_tells s m number (Element c (base_shape p m.ty.base) m.expr (value_of i)) u)))
-      (λ m u code b z w v. subst (λ (y : Meant). ExprAt code line ms y.expr a z) (sym (element_is p fit s c i e m u)) (element_code number line c size (base_shape p m.ty.base) m.expr (value_of i) (one_of m.ty) code a b z (sized m.ty.base u.class) w v))
+      (λ m u. subst (λ (x : Meaning). Tells p x (element_meant p m i)) (sym j) (subst (λ (y : Meant). Tells p (element_told s) y) (sym (element_is p s c i e m u)) (element_tells s m s.numbered (Element c (base_shape p m.ty.base) m.expr (value_of i)) u)))
+      (λ m u code b z w v. subst (λ (y : Meant). ExprAt code line ms y.expr a z) (sym (element_is p s c i e m u)) (element_code s.numbered line c size (base_shape p m.ty.base) m.expr (value_of i) (one_of m.ty) code a b z (sized m.ty.base u.class u.numbered) w v))
 
   -- calls
 
-  pub arm_called : (p : Program) (n line a : ℕ) (args : List Meant) (s t : Meaning) (old new : Draft) → 1 ≤ n → a ≤ length old.ops → s.standing ≡ standing.Fail → t ≡ record { scalar = scalar.Truth; class = None; event = None; elements = None; standing = standing.Value } → Restarts op.Fail line a old new → Grows p n line ms a (λ m. call_meant p m args) s t old new
+  pub arm_called : (p : Program) (n line a : ℕ) (args : List Meant) (s t : Meaning) (old new : Draft) → 1 ≤ n → a ≤ length old.ops → s.standing ≡ standing.Fail → t ≡ record { scalar = scalar.Truth; class = None; numbered = false; event = None; elements = None; standing = standing.Value } → Restarts op.Fail line a old new → Grows p n line ms a (λ m. call_meant p m args) s t old new
   arm_called p n line a args s t old new k l e q h =
       grows_restart n line ms a (λ m. call_meant p m args) s t op.Fail old new k l h
-      (λ m u. subst (λ (x : Meaning). Tells p x (call_meant p m args)) (sym q) (subst (λ (o : Standing). Tells p (record { scalar = scalar.Truth; class = None; event = None; elements = None; standing = standing.Value }) (call_by p o m args)) (sym (stands s m standing.Fail u e)) (record { shape = refl; class = refl; event = refl; len = refl; standing = refl })))
+      (λ m u. subst (λ (x : Meaning). Tells p x (call_meant p m args)) (sym q) (subst (λ (o : Standing). Tells p (record { scalar = scalar.Truth; class = None; numbered = false; event = None; elements = None; standing = standing.Value }) (call_by p o m args)) (sym (stands s m standing.Fail u e)) (record { shape = refl; class = refl; numbered = refl; event = refl; len = refl; standing = refl })))
       (λ m u code z w. subst (λ (o : Standing). ExprAt code line ms (call_by p o m args).expr a z) (sym (stands s m standing.Fail u e)) w)
 
   pub arm_routine : (p : Program) (n k line a r : ℕ) (xs : List Param) (args : List Meant) (s t : Meaning) (old mid d1 d2 new : Draft) → n + 2 ≤ k → a ≤ length old.ops → s.standing ≡ standing.Routine r → xs ≡ params_of p r → t ≡ record s { standing = standing.Value } → Cuts a old mid
@@ -406,14 +401,24 @@ module _ (ms : List Mark) where
       (λ m u. subst (λ (o : Standing). Tells p t (call_by p o m args)) (sym (stands s m (standing.LiveMember r) u e)) (as_value s t m (OfObject (CallLive r m.expr es)) i u))
       (λ m u code b z w v. subst (λ (o : Standing). ExprAt code line ms (call_by p o m args).expr a z) (sym (stands s m (standing.LiveMember r) u e)) (record { middle = b; first = w; second = v }))
 
+  pub arm_mutex_called : (p : Program) (n k line a x r : ℕ) (xs : List Param) (args : List Meant) (s t : Meaning) (old d1 new : Draft) → n + 3 ≤ k → a ≤ length old.ops → s.standing ≡ standing.MutexMember x r → xs ≡ params_of p r → t ≡ record s { standing = standing.Value }
+      → Adds n (ArgumentsCode line ms (args_by xs args)) old d1 → Adds 3 (MutexCallCode line ms x r) d1 new → Grows p k line ms a (λ m. call_meant p m args) s t old new
+  arm_mutex_called p n k line a x r xs args s t old d1 new le l e y i h1 h2 =
+      let es : Exprs = args_by (params_of p r) args in
+      let h : Adds n (ArgumentsCode line ms es) old d1 = subst (λ (ys : List Param). Adds n (ArgumentsCode line ms (args_by ys args)) old d1) y h1 in
+      grows_adds k line ms a (λ m. call_meant p m args) s t (λ code. Both (ArgumentsCode line ms es code) (MutexCallCode line ms x r code)) old new l
+      (adds_more (omega arith) (adds_both (args_stable line ms es) h h2))
+      (λ m u. subst (λ (o : Standing). Tells p t (call_by p o m args)) (sym (stands s m (standing.MutexMember x r) u e)) (as_value s t m (OfObject (EnterOn x r m.expr es)) i u))
+      (λ m u code b z w v. subst (λ (o : Standing). ExprAt code line ms (call_by p o m args).expr a z) (sym (stands s m (standing.MutexMember x r) u e)) (record { middle = b; first = w; second = v }))
+
   -- in the place of what stands, 0, which stands for nothing
-  pub arm_nothing : (p : Program) (n line a : ℕ) (f : Meant → Meant) (s t : Meaning) (old new : Draft) → 1 ≤ n → a ≤ length old.ops → ((m : Meant) → Tells p s m → f m ≡ no_meaning) → t ≡ record { scalar = scalar.Number; class = None; event = None; elements = None; standing = standing.Nothing } → Restarts (op.Push (pos 0)) line a old new → Grows p n line ms a f s t old new
+  pub arm_nothing : (p : Program) (n line a : ℕ) (f : Meant → Meant) (s t : Meaning) (old new : Draft) → 1 ≤ n → a ≤ length old.ops → ((m : Meant) → Tells p s m → f m ≡ no_meaning) → t ≡ record { scalar = scalar.Number; class = None; numbered = false; event = None; elements = None; standing = standing.Nothing } → Restarts (op.Push (pos 0)) line a old new → Grows p n line ms a f s t old new
   arm_nothing p n line a f s t old new k l none q h =
       grows_restart n line ms a f s t (op.Push (pos 0)) old new k l h
-      (λ m u. subst (λ (y : Meaning). Tells p y (f m)) (sym q) (subst (λ (y : Meant). Tells p (record { scalar = scalar.Number; class = None; event = None; elements = None; standing = standing.Nothing }) y) (sym (none m u)) (record { shape = refl; class = refl; event = refl; len = refl; standing = refl })))
+      (λ m u. subst (λ (y : Meaning). Tells p y (f m)) (sym q) (subst (λ (y : Meant). Tells p (record { scalar = scalar.Number; class = None; numbered = false; event = None; elements = None; standing = standing.Nothing }) y) (sym (none m u)) (record { shape = refl; class = refl; numbered = refl; event = refl; len = refl; standing = refl })))
       (λ m u code z w. subst (λ (y : Meant). ExprAt code line ms y.expr a z) (sym (none m u)) w)
 
-  pub put_for_nothing : {E : Type 0} (r : Result Meaning E) (p : Program) (n line a : ℕ) (f : Meant → Meant) (s : Meaning) (old new : Draft) → 1 ≤ n → a ≤ length old.ops → ((m : Meant) → Tells p s m → f m ≡ no_meaning) → OnOk r (Restarts (op.Push (pos 0)) line a old new) → IfOk r (λ t. t ≡ record { scalar = scalar.Number; class = None; event = None; elements = None; standing = standing.Nothing }) → IfOk r (λ t. Grows p n line ms a f s t old new)
+  pub put_for_nothing : {E : Type 0} (r : Result Meaning E) (p : Program) (n line a : ℕ) (f : Meant → Meant) (s : Meaning) (old new : Draft) → 1 ≤ n → a ≤ length old.ops → ((m : Meant) → Tells p s m → f m ≡ no_meaning) → OnOk r (Restarts (op.Push (pos 0)) line a old new) → IfOk r (λ t. t ≡ record { scalar = scalar.Number; class = None; numbered = false; event = None; elements = None; standing = standing.Nothing }) → IfOk r (λ t. Grows p n line ms a f s t old new)
   put_for_nothing (Ok t) p n line a f s old new k l none h q = arm_nothing p n line a f s t old new k l none q h
   put_for_nothing (Err y) p n line a f s old new k l none h q = tt
 
@@ -421,7 +426,7 @@ module _ (ms : List Mark) where
   nothing_called : (p : Program) (x : Told) (args : List Meant) → ((o : Standing) (m : Meant) → StandsAs x o → call_by p o m args ≡ no_meaning) → (s : Meaning) → s.standing ≡ x → (m : Meant) → Tells p s m → call_meant p m args ≡ no_meaning
   nothing_called p x args none s e m u = none m.standing m (stands s m x u e)
 
-  pub not_called : {E : Type 0} (r : Result Meaning E) (p : Program) (n line a : ℕ) (x : Told) (args : List Meant) (s : Meaning) (old new : Draft) → 1 ≤ n → a ≤ length old.ops → s.standing ≡ x → ((o : Standing) (m : Meant) → StandsAs x o → call_by p o m args ≡ no_meaning) → OnOk r (Restarts (op.Push (pos 0)) line a old new) → IfOk r (λ t. t ≡ record { scalar = scalar.Number; class = None; event = None; elements = None; standing = standing.Nothing }) → IfOk r (λ t. Grows p n line ms a (λ m. call_meant p m args) s t old new)
+  pub not_called : {E : Type 0} (r : Result Meaning E) (p : Program) (n line a : ℕ) (x : Told) (args : List Meant) (s : Meaning) (old new : Draft) → 1 ≤ n → a ≤ length old.ops → s.standing ≡ x → ((o : Standing) (m : Meant) → StandsAs x o → call_by p o m args ≡ no_meaning) → OnOk r (Restarts (op.Push (pos 0)) line a old new) → IfOk r (λ t. t ≡ record { scalar = scalar.Number; class = None; numbered = false; event = None; elements = None; standing = standing.Nothing }) → IfOk r (λ t. Grows p n line ms a (λ m. call_meant p m args) s t old new)
   not_called r p n line a x args s old new k l e none h q = put_for_nothing r p n line a (λ m. call_meant p m args) s old new k l (nothing_called p x args none s e) h q
 
   pub called_part : {E : Type 0} (r : Result Meaning E) (c : Context) (x : tree.Part) (sign : Pos) (xs ys : List tree.Expr) (line a : ℕ) (s : Meaning) (old new : Draft) → tree.Call sign (exprs_of ys) ≡ x → xs ≡ ys → IfOk r (λ t. Grows c.program (OPS_FOR_SIZE * (1 + exprs_size (exprs_of xs))) line ms a (λ m. call_meant c.program m (args_meant c (exprs_of xs))) s t old new) → IfOk r (λ t. Grows c.program (OPS_FOR_SIZE * part_size x) line ms a (part_meant c x) s t old new)
@@ -476,15 +481,15 @@ module _ (program : Program) where
   pub arm_cin : (e : tree.Expr) (p : Pos) (line : ℕ) (old new : Draft) → tree.Cin p ≡ e → Adds 1 (OpCode line (op.Push (pos 0))) old new → Adds (OPS_FOR_SIZE * expr_size e - 2) (ExprCode line old.marks (meant (context_in program old) e).expr) old new
   arm_cin e p line old new h k = as_code e (tree.Cin p) line old new h (adds_more (omega arith) k)
 
-  pub arm_link : (l : tree.Link) (p : Pos) (o : BinaryOp) (right : tree.Expr) (line a : ℕ) (left s t : Meaning) (j : Joining) (old mid new : Draft) → tree.Linked p o right ≡ l → j ≡ joining_of o → t ≡ record { scalar = scalar_of j; class = None; event = None; elements = None; standing = standing.Value } → s ≡ record left { standing = standing.Value }
+  pub arm_link : (l : tree.Link) (p : Pos) (o : BinaryOp) (right : tree.Expr) (line a : ℕ) (left s t : Meaning) (j : Joining) (old mid new : Draft) → tree.Linked p o right ≡ l → j ≡ joining_of o → t ≡ record { scalar = scalar_of j; class = None; numbered = false; event = None; elements = None; standing = standing.Value } → s ≡ record left { standing = standing.Value }
       → Grows program 1 line old.marks a fetched left s old mid → Adds (OPS_FOR_SIZE * expr_size right + 4) (RightCode line mid.marks j (value_of (meant (context_in program mid) right))) mid new
       → Grows program (OPS_FOR_SIZE * link_size l) line old.marks a (link_meant (context_in program old) l) left t old new
   arm_link l p o right line a left s t j old mid new i jo e v h g =
       let g1 : Adds (OPS_FOR_SIZE * expr_size right + 4) (RightCode line mid.marks (joining_of o) (value_of (meant (context_in program mid) right))) mid new = subst (λ (x : Joining). Adds (OPS_FOR_SIZE * expr_size right + 4) (RightCode line mid.marks x (value_of (meant (context_in program mid) right))) mid new) jo g in
       let g2 : Adds (OPS_FOR_SIZE * expr_size right + 4) (RightCode line old.marks (joining_of o) (value_of (meant (context_in program old) right))) mid new = subst (λ (d : Draft). Adds (OPS_FOR_SIZE * expr_size right + 4) (RightCode line d.marks (joining_of o) (value_of (meant (context_in program d) right))) mid new) h.rest g1 in
-      let all : Grows program (OPS_FOR_SIZE * (1 + expr_size right)) line old.marks a (link_meant (context_in program old) (tree.Linked p o right)) left (record { scalar = scalar_of (joining_of o); class = None; event = None; elements = None; standing = standing.Value }) old new =
+      let all : Grows program (OPS_FOR_SIZE * (1 + expr_size right)) line old.marks a (link_meant (context_in program old) (tree.Linked p o right)) left (record { scalar = scalar_of (joining_of o); class = None; numbered = false; event = None; elements = None; standing = standing.Value }) old new =
       grows_as (omega arith) (λ m. refl) (link_grows old.marks o (meant (context_in program old) right) (OPS_FOR_SIZE * expr_size right + 4) line a left s old mid new v h g2) in
-      let told : record { scalar = scalar_of (joining_of o); class = None; event = None; elements = None; standing = standing.Value } ≡ t = ap (λ (x : Joining). let m : Meaning = record { scalar = scalar_of x; class = None; event = None; elements = None; standing = standing.Value } in m) (sym jo) ∙ sym e in
+      let told : record { scalar = scalar_of (joining_of o); class = None; numbered = false; event = None; elements = None; standing = standing.Value } ≡ t = ap (λ (x : Joining). let m : Meaning = record { scalar = scalar_of x; class = None; numbered = false; event = None; elements = None; standing = standing.Value } in m) (sym jo) ∙ sym e in
       subst (λ (x : tree.Link). Grows program (OPS_FOR_SIZE * link_size x) line old.marks a (link_meant (context_in program old) x) left t old new) i (
       subst (λ (x : Meaning). Grows program (OPS_FOR_SIZE * (1 + expr_size right)) line old.marks a (link_meant (context_in program old) (tree.Linked p o right)) left x old new) told all)
 

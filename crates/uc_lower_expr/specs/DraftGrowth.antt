@@ -41,6 +41,10 @@ RiskCode line ms o code = Risk code ms o line
 abbrev pub LiveCallCode : ℕ → List Mark → ℕ → Laid → ℕ → ℕ → Type 0
 LiveCallCode line ms r code = Both (One code op.Tick line) (Both (One code (op.Alive r) line) (Risk code ms (op.CallOn r) line))
 
+-- of a call of a mutex member behind its arguments
+abbrev pub MutexCallCode : ℕ → List Mark → ℕ → ℕ → Laid → ℕ → ℕ → Type 0
+MutexCallCode line ms m r code = Both (One code op.Tick line) (Both (One code (op.Enter m r) line) (Risk code ms (op.CallOn r) line))
+
 -- a draft whose ops from a on are the code, under marks, of what is meant in a program, which is told
 pub record Stood (p : Program) (line : ℕ) (ms : List Mark) (a : ℕ) (m : Meant) (told : Meaning) (d : Draft) : Type 0 where
   pub tells : Tells p told m

@@ -1,5 +1,5 @@
 -- What noting the fields of a class does to their table.
-use Rattle.std.specs.Prelude.{◌≡◌, ℕ, ◌+◌, List, [], ◌∷◌, ◌++◌, Option, Some, None, get_or, length, map}
+use Rattle.std.specs.Prelude.{◌≡◌, ℕ, ◌+◌, List, [], ◌∷◌, ◌++◌, Bool, false, Option, Some, None, get_or, length, map}
 use Rattle.uc_layout.specs.Places.{IsPlaces}
 use Rattle.uc_tree.specs.declared.rows.Held.{Held}
 use Rattle.uc_tree.specs.Capped.{capped}
@@ -7,9 +7,8 @@ use Rattle.uc_tree.specs.Expressions.{Expr}
 use Rattle.uc_tree.specs.Programs.{Program}
 use Rattle.uc_tree.specs.Rows.{held_cells}
 use Rattle.uc_tree.specs.Cells.{class_cells}
-use Rattle.uc_tree.specs.Objects.{ClassField, plain_class, shape_of, event_place}
-use Rattle.uc_lower_expr.specs.Meanings.{shape_as}
-use Rattle.uc_lower_expr.specs.declared.meaning.Standing.TheVariants as standing
+use Rattle.uc_tree.specs.Objects.{ClassField, making, class_made, is_numbered, shape_of, event_place}
+use Rattle.uc_lower_expr.specs.Meanings.{held_as, shape_as}
 use Rattle.uc_lower_expr.specs.declared.fields.Field.{Field}
 use Rattle.uc_lower_expr.specs.declared.fields.FieldTable.{FieldTable}
 
@@ -20,15 +19,22 @@ abbrev pub length_by : Option Expr → ℕ → Option ℕ
 length_by None count = None
 length_by (Some e) count = Some count
 
+-- whether a field is known by its number, where what its base names is
+abbrev pub is_number : Option Expr → Bool → Bool
+is_number None numbered = numbered
+is_number (Some e) numbered = false
+
 -- a field behind so many cells, which holds this
 pub record IsNoted (p : Program) (cells : ℕ) (h : Held) (f : ClassField) (v : Field) : Type 0 where
   pub cell : v.cell ≡ cells
   pub by_ref : f.declarator.by_ref ≡ v.by_ref
   pub shape : shape_of f.base ≡ shape_as v.told.scalar
-  pub class : plain_class p f.base ≡ v.told.class
+  pub class : class_made (making p f.base) ≡ v.told.class
+  pub numbered : is_numbered (making p f.base) ≡ v.told.numbered
   pub event : event_place p f.base ≡ v.told.event
   pub len : v.told.elements ≡ length_by f.declarator.len h.count
-  pub standing : v.told.standing ≡ standing.Place
+  pub number : v.number ≡ is_number f.declarator.len v.told.numbered
+  pub standing : v.told.standing ≡ held_as v.number
 
 -- fields, of which the first has this place in its class, behind so many cells; what the fields of the class hold
 pub data AreNoted (p : Program) (held : List Held) : ℕ → ℕ → List ClassField → List Field → ℕ → Type 0 where

@@ -1,8 +1,10 @@
 -- What lowering tells of an expression besides its code.
-use Rattle.std.specs.Prelude.{◌≡◌, ℕ, Bool, true, false, Option, Some, None, if◌then◌else◌}
+use Rattle.std.specs.Prelude.{◌≡◌, ℕ, ◌+◌, List, Bool, true, false, Option, Some, None, option_and_then, option_map}
+use Rattle.uc_tree.specs.declared.limits.TheConstants.{MEMBERS}
 use Rattle.uc_tree.specs.Source.{Shape, Integer, Character, Truth, Binding, Last, Field, Array, field_cells}
-use Rattle.uc_tree.specs.Objects.{shape_of, plain_class, event_place}
-use Rattle.uc_tree.specs.Programs.{Program}
+use Rattle.uc_tree.specs.Numbering.{at_most, is_mutex, member_number}
+use Rattle.uc_tree.specs.Objects.{Making, APlain, AMutex, making, class_made, is_numbered, is_coroutine, shape_of, event_place, class_at}
+use Rattle.uc_tree.specs.Programs.{Class, Program}
 use Rattle.uc_resolve.specs.Resolve as resolve
 use Rattle.uc_lower_expr.specs.declared.meaning.Scalar.{Scalar}
 use Rattle.uc_lower_expr.specs.declared.meaning.Scalar.TheVariants as scalar
@@ -16,16 +18,6 @@ shape_as scalar.Character = Character
 shape_as scalar.Truth = Truth
 shape_as scalar.Binding = Binding
 
--- whether what has this shape is known by its number
-abbrev pub binds : Shape → Bool
-binds Integer = false
-binds Character = false
-binds Truth = false
-binds Binding = true
-binds Last = false
-binds (Field s t) = false
-binds (Array n s) = false
-
 -- the variable that is told of
 abbrev pub cell_in : Standing → Option ℕ
 cell_in (standing.Variable k) = Some k
@@ -38,20 +30,53 @@ cell_in standing.Fail = None
 cell_in (standing.Routine r) = None
 cell_in (standing.Member r) = None
 cell_in (standing.LiveMember r) = None
+cell_in (standing.MutexMember m r) = None
 cell_in standing.Nothing = None
 
--- a member that a path names, by whether its class is one of coroutines
-abbrev pub member_standing : Bool → ℕ → Standing
-member_standing true r = standing.LiveMember r
-member_standing false r = standing.Member r
+-- a member, by its number where it is a mutex member, and by whether a path names it and its class is one of plain coroutines
+abbrev pub member_standing : Option ℕ → Bool → ℕ → Standing
+member_standing (Some m) live r = standing.MutexMember m r
+member_standing None true r = standing.LiveMember r
+member_standing None false r = standing.Member r
+
+-- whether the objects of a class are mutex objects, and plain coroutines
+abbrev pub is_mutex_in : Option Class → Bool
+is_mutex_in None = false
+is_mutex_in (Some c) = is_mutex c.kind
+
+abbrev pub is_mutex_at : Program → ℕ → Bool
+is_mutex_at p i = is_mutex_in (class_at p i)
+
+abbrev pub is_coroutine_in : Option Class → Bool
+is_coroutine_in None = false
+is_coroutine_in (Some c) = is_coroutine c.kind
+
+-- what a declaration of the class with the place i makes, by whether its objects are mutex objects
+abbrev pub making_by : ℕ → Bool → Making
+making_by i true = AMutex i
+making_by i false = APlain i
+
+-- the number of a mutex member of a class
+abbrev pub mutex_number_in : Option Class → List ℕ → Option ℕ
+mutex_number_in None name = None
+mutex_number_in (Some c) name = member_number c name
+
+-- that of the member with this place among those of its class
+abbrev pub member_by : Option ℕ → Option ℕ
+member_by place = option_and_then (at_most MEMBERS) (option_map (λ k. 1 + k) place)
 
 -- a field of the object of the running call, which begins at this cell of it
 pub data FieldAt (k : ℕ) : resolve.Standing → Type 0 where
   Begins : (s : Shape) (i : ℕ) → field_cells s i ≡ k → FieldAt k (resolve.AtField s i)
 
--- what is told of an element of what is told of: a number, or a place
+-- what stands where something is held: its number, or itself
+abbrev pub held_as : Bool → Standing
+held_as true = standing.Number
+held_as false = standing.Place
+
+-- what is told of an element of what is told of
 abbrev pub element_told : Meaning → Meaning
-element_told told = record told { elements = None; standing = if binds (shape_as told.scalar) then standing.Number else standing.Place }
+element_told told = record told { elements = None; standing = held_as told.numbered }
 
 -- the standing that is told
 abbrev pub StandsAs : Standing → resolve.Standing → Type 0
@@ -65,13 +90,15 @@ StandsAs standing.Fail s = s ≡ resolve.AsFail
 StandsAs (standing.Routine r) s = s ≡ resolve.AsRoutine r
 StandsAs (standing.Member r) s = s ≡ resolve.AsMember r
 StandsAs (standing.LiveMember r) s = s ≡ resolve.AsLiveMember r
+StandsAs (standing.MutexMember m r) s = s ≡ resolve.AsMutexMember m r
 StandsAs standing.Nothing s = s ≡ resolve.AsNothing
 
--- what is told of an expression of a program that stands for this: how its base keeps a number, the class or the event that it
--- names, its length, and its standing
+-- what is told of an expression of a program that stands for this: how its base keeps a number, the class of objects that it names,
+-- plain or of a mutex type, whether what it names is known by its number, the event that it names, its length, and its standing
 pub record Tells (p : Program) (told : Meaning) (m : resolve.Meant) : Type 0 where
   pub shape : shape_of m.ty.base ≡ shape_as told.scalar
-  pub class : plain_class p m.ty.base ≡ told.class
+  pub class : class_made (making p m.ty.base) ≡ told.class
+  pub numbered : is_numbered (making p m.ty.base) ≡ told.numbered
   pub event : event_place p m.ty.base ≡ told.event
   pub len : m.ty.len ≡ told.elements
   pub standing : StandsAs told.standing m.standing

@@ -10,11 +10,11 @@ use Rattle.uc_tree.specs.declared.kinds.Role.TheVariants as role
 use Rattle.uc_tree.specs.Programs.{Class, Program}
 use Rattle.uc_tree.specs.Rows.{has_itself}
 use Rattle.uc_tree.specs.Cells.{classes_of, class_cells, rows_of, leading_cells}
-use Rattle.uc_tree.specs.Numbering.{Defined, is_event, is_mutex, routines_of}
+use Rattle.uc_tree.specs.Numbering.{Defined, is_event, routines_of}
 use Rattle.uc_tree.specs.Source.{field_cells}
-use Rattle.uc_tree.specs.Objects.{APlain, ClassField, making, plain_class, class_at, fields_of, class_shape, number_at, member_from, role_from, written_at, unwritten_number}
-use Rattle.uc_resolve.specs.Resolve.{Meant, AtPlace, NumberedField, Whose, field_by_ref, field_found, field_named, field_type}
-use Rattle.uc_lower_expr.specs.Meanings.{Tells}
+use Rattle.uc_tree.specs.Objects.{ClassField, making, class_at, fields_of, class_shape, number_at, member_from, role_from, written_at, unwritten_number}
+use Rattle.uc_resolve.specs.Resolve.{Meant, Standing, AtPlace, AsNumber, NumberedField, Whose, field_by, field_found, field_named, field_type, has_number}
+use Rattle.uc_lower_expr.specs.Meanings.{Tells, is_mutex_at, making_by}
 use Rattle.uc_lower_expr.specs.declared.fields.Field.{Field}
 use Rattle.uc_lower_expr.specs.declared.fields.FieldTable.{FieldTable}
 use Rattle.uc_lower_expr.specs.declared.routine_table.RoutineTable.{RoutineTable}
@@ -31,24 +31,28 @@ is_held_base base.Cluster = false
 is_held_base base.Processor = false
 is_held_base (base.Named name) = true
 
--- no class has itself in its fields, and none has more cells than a class may have; none has mutex objects, and the fields of each
--- are of such bases
+-- no class has itself in its fields, none has more cells than a class may have, and the fields of each are of such bases
 pub record FitClasses (p : Program) : Type 0 where
   pub apart : (i : ℕ) → has_itself (rows_of p) i ≡ false
   pub small : (i : ℕ) → class_cells p i ≤ CLASS_CELLS
-  pub plain : (i : ℕ) (c : Class) → class_at p i ≡ Some c → is_mutex c.kind ≡ false
   pub held : (i k : ℕ) (c : Class) (f : ClassField) → class_at p i ≡ Some c → slice_get (fields_of c.members) k ≡ Some f → is_held_base f.base ≡ true
 
 -- fields
 
--- a field of the class c with the place i, and its number: what is told of it as a place of its type, and the cells before it; it is
--- found at its place, and holds a plain object, if any
+-- what stands where a field is held, by whether it is known by its number
+abbrev pub held_standing : Bool → Standing
+held_standing true = AsNumber
+held_standing false = AtPlace
+
+-- a field of the class c with the place i, and its number: what is told of it as it is held, and the cells before it; it is no
+-- condition, and holds an object of its class, if any
 pub record IsFieldAt (p : Program) (c : Class) (i number : ℕ) (f : ClassField) (v : Field) : Type 0 where
-  pub made : making p f.base ≡ option_map APlain (plain_class p f.base)
-  pub found : (whose : Whose) → field_found p c i whose (record { number = number; field = f }) ≡ field_by_ref f.declarator.by_ref (class_shape p i) number whose (field_type p c f)
+  pub made : making p f.base ≡ option_map (λ j. making_by j (is_mutex_at p j)) v.told.class
+  pub by_number : has_number p (field_type p c f) ≡ v.number
+  pub found : (whose : Whose) → field_found p c i whose (record { number = number; field = f }) ≡ field_by v.number f.declarator.by_ref (class_shape p i) number whose (field_type p c f)
   pub by_ref : f.declarator.by_ref ≡ v.by_ref
   pub cell : field_cells (class_shape p i) number ≡ v.cell
-  pub tells : (m : Meant) → m.ty ≡ field_type p c f → m.standing ≡ AtPlace → Tells p v.told m
+  pub tells : (m : Meant) → m.ty ≡ field_type p c f → m.standing ≡ held_standing v.number → Tells p v.told m
 
 -- the field of this name in the class with the place i
 pub record IsField (p : Program) (i : ℕ) (name : List ℕ) (v : Field) : Type 0 where

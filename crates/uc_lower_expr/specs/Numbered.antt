@@ -1,14 +1,17 @@
 -- The routines of a program by their numbers, and what names stand for outside of routines.
-use Rattle.std.specs.Prelude.{◌≡◌, ℕ, List, Bool, ◌&&◌, Some, length, map, unwrap_or, nat_eq, slice_get}
+use Rattle.std.specs.Prelude.{◌≡◌, ℕ, List, Bool, ◌&&◌, Some, length, map, take, unwrap_or, nat_eq, slice_get}
 use Rattle.uc_names.specs.Blocks.{Block, found}
+use Rattle.uc_layout.specs.Places.{IsPlaces}
+use Rattle.uc_tree.specs.declared.limits.TheConstants.{MEMBERS}
 use Rattle.uc_tree.specs.declared.kinds.Role.TheVariants as role
 use Rattle.uc_tree.specs.Programs.{Sig, Constant, Class, Program}
 use Rattle.uc_tree.specs.Constants.{constants_of, constant_named, value_of_name}
 use Rattle.uc_tree.specs.Cells.{classes_of}
-use Rattle.uc_tree.specs.Numbering.{Defined, is_plain, class_number, routines_of}
-use Rattle.uc_tree.specs.Objects.{plain_class, shape_of, unwritten_number, event_place}
-use Rattle.uc_resolve.specs.Resolve.{is_here, routine_from, value_or_zero}
-use Rattle.uc_lower_expr.specs.Meanings.{shape_as}
+use Rattle.uc_tree.specs.Numbering.{Defined, is_plain, class_number, mutex_members, routines_of}
+use Rattle.uc_tree.specs.Objects.{class_at, unwritten_number}
+use Rattle.uc_tree.specs.Source.{Expr}
+use Rattle.uc_resolve.specs.Resolve.{is_here, routine_from, scalar, value_meant, value_or_zero}
+use Rattle.uc_lower_expr.specs.Meanings.{Tells}
 use Rattle.uc_lower_expr.specs.declared.numbering.Fixed.{Fixed}
 use Rattle.uc_lower_expr.specs.declared.numbering.Numbering.{Numbering}
 
@@ -32,18 +35,22 @@ pub record AreUnwritten (p : Program) (constructors destructors : List ℕ) : Ty
   pub builders : length constructors ≡ length (classes_of p.items)
   pub destroyers : length destructors ≡ length (classes_of p.items)
 
+-- the places of the mutex members of classes among those of their class, as far as they have numbers, by the places of the classes
+pub record AreExclusive (p : Program) (members : List (List Block)) : Type 0 where
+  pub long : length members ≡ length (classes_of p.items)
+  pub each : (i : ℕ) (c : Class) (bs : List Block) → class_at p i ≡ Some c → slice_get members i ≡ Some bs → IsPlaces (take MEMBERS (mutex_members c)) bs
+
 -- what is numbered in a program
 pub record IsNumbering (p : Program) (n : Numbering) : Type 0 where
   pub routines : map (λ r. r.now) n.routines.items ≡ map (λ d. d.routine) (routines_of p)
   pub owners : n.owners.items ≡ map (λ d. d.number) (routines_of p)
   pub classes : n.classes.items ≡ map (number_of_class p) (classes_of p.items)
   pub unwritten : AreUnwritten p n.constructors.items n.destructors.items
+  pub members : AreExclusive p n.members.items
 
--- the constant of a name, with its value
+-- the constant of a name, with its value, and what is told of it
 pub record IsFixed (p : Program) (name : List ℕ) (v : Fixed) : Type 0 where
   pub constant : Constant
   pub is : constant_named (constants_of p.items) name ≡ Some constant
   pub value : v.value ≡ value_or_zero (value_of_name (constants_of p.items) name)
-  pub shape : shape_of constant.base ≡ shape_as v.scalar
-  pub class : plain_class p constant.base ≡ v.class
-  pub event : event_place p constant.base ≡ v.event
+  pub tells : (e : Expr) → Tells p v.told (value_meant e (scalar constant.base))

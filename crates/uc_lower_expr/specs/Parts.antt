@@ -126,15 +126,15 @@ abbrev pub FoundCode : ℕ → Bool → Laid → ℕ → ℕ → Type 0
 FoundCode line true code = One code op.Load line
 FoundCode line false code = Nothing
 
--- the op that finds the place of a field of the object of the running call; the op that does so where the object stands below
+-- the op that finds the place of a field of the object of the running call, or the number or the place that it holds
 abbrev pub own_place_op : Bool → ℕ → Op
-own_place_op by_ref k = if by_ref then op.ViaThis k else op.This k
+own_place_op held k = if held then op.ViaThis k else op.This k
 
--- a field of the object of the running call, by whether it is a reference
-abbrev pub own_standing : Bool → ℕ → Standing
-own_standing by_ref k = if by_ref then standing.Place else standing.Field k
+-- a field of the object of the running call, by whether it is known by its number, and whether it is a reference
+abbrev pub own_standing : Bool → Bool → ℕ → Standing
+own_standing number by_ref k = if number then standing.Number else if by_ref then standing.Place else standing.Field k
 
--- the code behind the place of an object that finds a field of it: a reference holds its place
+-- the code behind the place of an object that finds a field of it, or the number or the place that it holds
 abbrev pub FieldCode : ℕ → Bool → ℕ → Laid → ℕ → ℕ → Type 0
 FieldCode line false k code = One code (op.Field k) line
 FieldCode line true k code = Both (One code (op.Field k) line) (One code op.Load line)
@@ -158,4 +158,4 @@ bumped step.Decrement m = updated Minus m (Literal (pos 1))
 
 -- what is told of a member of `cin`
 abbrev pub input_told : List ℕ → Meaning
-input_told name = if same_name name fail_name then record { scalar = scalar.Truth; class = None; event = None; elements = None; standing = standing.Fail } else record { scalar = scalar.Number; class = None; event = None; elements = None; standing = standing.Nothing }
+input_told name = if same_name name fail_name then record { scalar = scalar.Truth; class = None; numbered = false; event = None; elements = None; standing = standing.Fail } else record { scalar = scalar.Number; class = None; numbered = false; event = None; elements = None; standing = standing.Nothing }

@@ -1,6 +1,6 @@
 // The code of expressions.
 
-ghost use Rattle.std.specs.Prelude.{◌≡◌, ℕ, List, ◌+◌, ◌-◌, ◌*◌, ◌<◌, ◌≤◌, pos, None, Some, length, OnOk, IfOk};
+ghost use Rattle.std.specs.Prelude.{◌≡◌, ◌||◌, false, ℕ, List, ◌+◌, ◌-◌, ◌*◌, ◌<◌, ◌≤◌, pos, None, Some, length, OnOk, IfOk};
 ghost use Rattle.uc_tree.specs.declared.limits.TheConstants.{PROGRAM_OPS, OPS_FOR_SIZE};
 ghost use Rattle.uc_tree.specs.Expressions.{exprs_of, links_of, parts_of};
 ghost use Rattle.uc_tree.specs.ExpressionSizes.{expr_size, exprs_size, link_size, links_size, part_size, parts_size};
@@ -8,20 +8,19 @@ ghost use Rattle.uc_tree.specs.Numbering.{routines_of};
 ghost use Rattle.uc_tree.specs.Objects.{class_at};
 ghost use Rattle.uc_resolve.specs.Resolve.{Meant, meant, value_of, unary_meant, assign_meant, link_meant, chain_meant, part_meant, parts_meant, element_meant, field_meant, call_meant, args_meant, args_by, name_meant, own_meant, place_member, member_meant, Of, item_meant, routine_meant_by, routine_from, known_named};
 ghost use Rattle.uc_lower_expr.specs.Contexts.{context_in};
-ghost use Rattle.uc_lower_expr.specs.Meanings.{Tells, member_standing, shape_as};
-ghost use Rattle.uc_lower_expr.specs.DraftGrowth.{Adds, Grows, ExprCode, ArgumentsCode, LiveCallCode};
+ghost use Rattle.uc_lower_expr.specs.Meanings.{Tells, element_told, member_standing, shape_as};
+ghost use Rattle.uc_lower_expr.specs.DraftGrowth.{Adds, Grows, ExprCode, ArgumentsCode, LiveCallCode, MutexCallCode};
 ghost use Rattle.uc_lower_expr.specs.Members.{no_field};
-ghost use Rattle.uc_lower_expr.specs.Parts.{RightCode, VariableCode, PlaceCode, ArgumentCode, FieldCode, Restarts, place_op_of, own_place_op, own_standing, input_told};
+ghost use Rattle.uc_lower_expr.specs.Parts.{RightCode, VariableCode, PlaceCode, ArgumentCode, FieldCode, FoundCode, Restarts, place_op_of, own_place_op, own_standing, input_told};
 
 use crate::fields::Field;
 use crate::meaning::{Meaning, Scalar, Standing};
 use crate::names::variable_named;
-use crate::numbering::Fixed;
 use crate::ops::{Joining, combining, joined_by};
 use crate::program_names::ProgramNames;
 use crate::put::{
     begin_update, close_fork, cut, end_update, put, put_at_risk, put_bump, put_conversion,
-    put_element, put_load, put_stepped, restart,
+    put_load, put_stepped, restart,
 };
 use std::alloc::AllocError;
 use uc_code::draft::Draft;
@@ -393,14 +392,29 @@ fn lower_index(
             Ok(Meaning::nothing())
         }
         Some(length) => {
-            let size = names.element_size(told.class);
+            let size = names.element_size(told.class, told.numbered);
             let _index = lower_value(index, line, names, out)?;
             put(Op::Index { length, size }, line, out)?;
-            names.fit();
             let element = put_element(told, line, out)?;
             Ok(element)
         }
     }
+}
+
+// Behind the place of an element of an array: of one that is known by its number, that.
+fn put_element(told: Meaning, line: u32, out: &mut Draft) -> Result<Meaning, AllocError>
+    requires { length out.old.ops < PROGRAM_OPS }
+    ensures code { OnOk result (Adds 1 (FoundCode line told.numbered) out.old out.new) }
+    ensures tells { IfOk result (λ element. element ≡ element_told told) }
+{
+    if told.numbered {
+        put(Op::Load, line, out)?;
+    }
+    Ok(Meaning {
+        elements: None,
+        standing: Standing::held_as(told.numbered),
+        ..told
+    })
 }
 
 // A name is that of a variable in scope, of a member of the class, or of a constant or a routine of the program.
@@ -440,32 +454,32 @@ fn lower_own_name(
 {
     match names.field(class, name) {
         Some(field) => {
-            put(own_place_op(field.by_ref, field.cell), line, out)?;
-            Ok(
-                field
-                    .told
-                    .standing_as(own_standing(field.by_ref, field.cell)),
-            )
+            put(own_place_op(field.is_held(), field.cell), line, out)?;
+            let standing = own_standing(field.number, field.by_ref, field.cell);
+            Ok(field.told.standing_as(standing))
         }
         None => lower_own_member(class, name, line, names, out),
     }
 }
 
-// The op that finds the place of a field of the object of the running call.
-fn own_place_op(by_ref: bool, cell: u32) -> Op
-    ensures { result ≡ own_place_op by_ref cell }
+// The op that finds the place of a field of the object of the running call, or what it holds.
+fn own_place_op(held: bool, cell: u32) -> Op
+    ensures { result ≡ own_place_op held cell }
 {
-    if by_ref {
+    if held {
         Op::ViaThis(cell)
     } else {
         Op::This(cell)
     }
 }
 
-fn own_standing(by_ref: bool, cell: u32) -> Standing
-    ensures { result ≡ own_standing by_ref cell }
+// What is known by its number is the number that it holds, a reference is the place.
+fn own_standing(number: bool, by_ref: bool, cell: u32) -> Standing
+    ensures { result ≡ own_standing number by_ref cell }
 {
-    if by_ref {
+    if number {
+        Standing::Number
+    } else if by_ref {
         Standing::Place
     } else {
         Standing::Field(cell)
@@ -485,11 +499,11 @@ fn lower_own_member(
     ensures code { OnOk result (Adds 1 (ExprCode line out.old.marks (own_meant names.now (Some class) name.now).expr) out.old out.new) }
     ensures tells { IfOk result (λ told. Tells names.now told (own_meant names.now (Some class) name.now)) }
 {
-    names.fit();
     match names.member(class, name) {
         Some(routine) => {
             put(Op::Own, line, out)?;
-            Ok(names.result(routine).standing_as(Standing::Member(routine)))
+            let standing = member_of(names.mutex_number(class, name), false, routine);
+            Ok(names.result(routine).standing_as(standing))
         }
         None => lower_item_name(name, line, names, out),
     }
@@ -515,25 +529,12 @@ fn lower_item_name(
     match names.constant(name) {
         Some(fixed) => {
             put(Op::Push(fixed.value), line, out)?;
-            Ok(fixed_told(fixed))
+            Ok(fixed.told)
         }
         None => {
             put(Op::Push(0), line, out)?;
             Ok(routine_told(name, names))
         }
-    }
-}
-
-// A constant is a value of its type.
-fn fixed_told(fixed: Fixed) -> Meaning
-    ensures { result ≡ record { scalar = fixed.scalar; class = fixed.class; event = fixed.event; elements = None; standing = Standing.Value } }
-{
-    Meaning {
-        scalar: fixed.scalar,
-        class: fixed.class,
-        event: fixed.event,
-        elements: None,
-        standing: Standing::Value,
     }
 }
 
@@ -573,6 +574,7 @@ fn lower_field(
         Standing::Routine(_) => put_nothing(start, line, out),
         Standing::Member(_) => put_nothing(start, line, out),
         Standing::LiveMember(_) => put_nothing(start, line, out),
+        Standing::MutexMember { .. } => put_nothing(start, line, out),
         Standing::Nothing => put_nothing(start, line, out),
     }
 }
@@ -583,7 +585,7 @@ fn put_nothing(start: u32, line: u32, out: &mut Draft) -> Result<Meaning, AllocE
     requires inside { start ≤ length out.old.ops }
     requires room { start < PROGRAM_OPS }
     ensures code { OnOk result (Restarts (Op.Push (pos 0)) line start out.old out.new) }
-    ensures tells { IfOk result (λ told. told ≡ record { scalar = Scalar.Number; class = None; event = None; elements = None; standing = Standing.Nothing }) }
+    ensures tells { IfOk result (λ told. told ≡ record { scalar = Scalar.Number; class = None; numbered = false; event = None; elements = None; standing = Standing.Nothing }) }
 {
     restart(Op::Push(0), start, line, out)?;
     Ok(Meaning::nothing())
@@ -631,24 +633,26 @@ fn lower_member(
 {
     match told.elements {
         Some(_) => put_nothing(start, line, out),
-        None => {
-            names.fit();
-            match told.members_of() {
-                Some(class) => lower_member_of(class, name, told, start, line, names, out),
-                None => put_nothing(start, line, out),
-            }
-        }
+        None => match told.members_of() {
+            Some(class) => lower_member_of(class, name, told, start, line, names, out),
+            None => put_nothing(start, line, out),
+        },
     }
 }
 
-// A member that a path names, of a class of coroutines or another.
-fn member_of(coroutine: bool, routine: u32) -> Standing
-    ensures { result ≡ member_standing coroutine routine }
+// A member, which is a mutex member of this number, or one of a coroutine that a path names, or another.
+fn member_of(mutex: Option<u8>, live: bool, routine: u32) -> Standing
+    ensures { result ≡ member_standing mutex live routine }
 {
-    if coroutine {
-        Standing::LiveMember(routine)
-    } else {
-        Standing::Member(routine)
+    match mutex {
+        Some(member) => Standing::MutexMember { member, routine },
+        None => {
+            if live {
+                Standing::LiveMember(routine)
+            } else {
+                Standing::Member(routine)
+            }
+        }
     }
 }
 
@@ -672,27 +676,24 @@ fn lower_member_of(
             put_field(field, line, out)?;
             Ok(field.told)
         }
-        None => {
-            names.fit();
-            match names.member(class, name) {
-                Some(routine) => Ok(
-                    names
-                        .result(routine)
-                        .standing_as(member_of(names.has_coroutines(Some(class)), routine)),
-                ),
-                None => put_nothing(start, line, out),
+        None => match names.member(class, name) {
+            Some(routine) => {
+                let mutex = names.mutex_number(class, name);
+                let standing = member_of(mutex, names.is_coroutine(class), routine);
+                Ok(names.result(routine).standing_as(standing))
             }
-        }
+            None => put_nothing(start, line, out),
+        },
     }
 }
 
-// Behind the place of an object that of a field: a reference holds it.
+// Behind the place of an object that of a field, or what that holds.
 fn put_field(field: Field, line: u32, out: &mut Draft) -> Result<(), AllocError>
     requires { length out.old.ops + 2 ≤ PROGRAM_OPS }
-    ensures { OnOk result (Adds 2 (FieldCode line field.by_ref field.cell) out.old out.new) }
+    ensures { OnOk result (Adds 2 (FieldCode line (field.number || field.by_ref) field.cell) out.old out.new) }
 {
     put(Op::Field(field.cell), line, out)?;
-    if field.by_ref {
+    if field.is_held() {
         put(Op::Load, line, out)?;
     }
     Ok(())
@@ -705,6 +706,17 @@ fn put_live_call(routine: u32, line: u32, out: &mut Draft) -> Result<(), AllocEr
 {
     put(Op::Tick, line, out)?;
     put(Op::Alive(routine), line, out)?;
+    put_at_risk(Op::CallOn(routine), line, out)?;
+    Ok(())
+}
+
+// The call of a mutex member behind its arguments: its object is entered first.
+fn put_mutex_call(member: u8, routine: u32, line: u32, out: &mut Draft) -> Result<(), AllocError>
+    requires { length out.old.ops + 3 ≤ PROGRAM_OPS }
+    ensures { OnOk result (Adds 3 (MutexCallCode line out.old.marks member routine) out.old out.new) }
+{
+    put(Op::Tick, line, out)?;
+    put(Op::Enter { member, routine }, line, out)?;
     put_at_risk(Op::CallOn(routine), line, out)?;
     Ok(())
 }
@@ -740,6 +752,11 @@ fn lower_call(
             lower_args(names.params(routine), args, line, names, out)?;
             put(Op::Tick, line, out)?;
             put_at_risk(Op::CallOn(routine), line, out)?;
+            Ok(told.standing_as(Standing::Value))
+        }
+        Standing::MutexMember { member, routine } => {
+            lower_args(names.params(routine), args, line, names, out)?;
+            put_mutex_call(member, routine, line, out)?;
             Ok(told.standing_as(Standing::Value))
         }
         Standing::LiveMember(routine) => {

@@ -1,12 +1,14 @@
 // The fields of classes, by their names.
 
-ghost use Rattle.std.specs.Prelude.{◌≡◌, ◌∷◌, [], ℕ, None, Some, IfOk, OnOk, MatchOption, get_or, slice_get};
-ghost use Rattle.uc_tree.specs.Objects.{class_at, declared_fields, fields_of, form_fields, plain_class, shape_of, event_place};
+ghost use Rattle.std.specs.Prelude.{◌≡◌, ◌||◌, ◌∷◌, [], ℕ, None, Some, IfOk, OnOk, MatchOption, get_or, slice_get};
+ghost use Rattle.uc_tree.specs.Objects.{class_at, declared_fields, fields_of, form_fields};
 ghost use Rattle.uc_tree.specs.Programs.{Class as Whole, Program};
 ghost use Rattle.uc_tree.specs.ProgramViews.{member_form_at};
-ghost use Rattle.uc_lower_expr.specs.Meanings.{shape_as};
+ghost use Rattle.uc_tree.specs.Source.{Expr};
+ghost use Rattle.uc_resolve.specs.Resolve.{scalar, value_meant};
+ghost use Rattle.uc_lower_expr.specs.Meanings.{Tells};
 ghost use Rattle.uc_lower_expr.specs.Members.{AreFields, AreTables, FitClasses, IsField, IsNthField, count_fields, no_field, no_field_at};
-ghost use Rattle.uc_lower_expr.specs.FieldTables.{HasNames, Notes, length_by, one_scalar};
+ghost use Rattle.uc_lower_expr.specs.FieldTables.{HasNames, Notes, is_number, length_by, one_scalar};
 
 use crate::meaning::{Meaning, Scalar, Standing};
 use std::alloc::{AllocError, Global};
@@ -20,12 +22,23 @@ use uc_tree::kinds::Base;
 use uc_tree::name::Name;
 use uc_tree::rows::Held;
 
-/// A field of a class: the cells before it in an object, whether it is a reference, and what is told of it as a place of its type.
+/// A field of a class: the cells before it in an object, whether it is a reference, whether its cell holds the number of what it is, as
+/// that of a mutex object does, and what is told of it as it is held.
 #[derive(Clone, Copy, PartialEq, Eq, Debug)]
 pub struct Field {
     pub cell: u32,
     pub by_ref: bool,
+    pub number: bool,
     pub told: Meaning,
+}
+
+impl Field {
+    // Whether its cell holds a number or a place.
+    pub(crate) fn is_held(self) -> bool
+        ensures { result ≡ (self.number || self.by_ref) }
+    {
+        self.number || self.by_ref
+    }
 }
 
 /// The fields of a class in order, with their places among them by name, and the cells that they take with those before them. The
@@ -39,15 +52,13 @@ pub struct FieldTable {
 
 /// What is told of a value of this base.
 pub fn value_of_base(sizes: &Sizes, base: &Base) -> Meaning
-    ensures shape { shape_of base.now ≡ shape_as result.scalar }
-    ensures class { plain_class sizes.now base.now ≡ result.class }
-    ensures event { event_place sizes.now base.now ≡ result.event }
+    ensures tells { (e : Expr) → Tells sizes.now result (value_meant e (scalar base.now)) }
     ensures len { result.elements ≡ None }
-    ensures standing { result.standing ≡ Standing.Value }
 {
     Meaning {
         scalar: Scalar::of_base(base),
-        class: sizes.plain_class(base),
+        class: sizes.class_made(base),
+        numbered: sizes.is_numbered(base),
         event: sizes.event_place(base),
         elements: None,
         standing: Standing::Value,
@@ -77,6 +88,16 @@ fn length_of(declarator: &Declarator, count: u32) -> Option<u32>
     }
 }
 
+// Whether a field is known by its number, where what its base names is: an array is not.
+fn is_number(declarator: &Declarator, numbered: bool) -> bool
+    ensures { result ≡ is_number declarator.now.len numbered }
+{
+    match &declarator.len {
+        Some(_) => false,
+        None => numbered,
+    }
+}
+
 // One more field. Memory is wanting where the cells before it are not below 2^32.
 fn note_field(
     table: &mut FieldTable,
@@ -93,13 +114,15 @@ fn note_field(
     match u32::try_from(table.cells) {
         Ok(cell) => {
             let value = value_of_base(sizes, base);
+            let number = is_number(declarator, value.numbered);
             note_place(&mut table.names, &declarator.name, place)?;
             table.fields.push(Field {
                 cell,
                 by_ref: declarator.by_ref,
+                number,
                 told: Meaning {
                     elements: length_of(declarator, what.count),
-                    standing: Standing::Place,
+                    standing: Standing::held_as(number),
                     ..value
                 },
             })?;

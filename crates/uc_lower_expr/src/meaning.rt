@@ -1,9 +1,9 @@
 // What lowering tells of an expression besides its code.
 
-ghost use Rattle.std.specs.Prelude.{◌≡◌, None};
+ghost use Rattle.std.specs.Prelude.{◌≡◌, None, false};
 ghost use Rattle.uc_tree.specs.Objects.{shape_of};
 ghost use Rattle.uc_resolve.specs.Resolve.{class_or_event};
-ghost use Rattle.uc_lower_expr.specs.Meanings.{binds, cell_in, shape_as};
+ghost use Rattle.uc_lower_expr.specs.Meanings.{cell_in, held_as, shape_as};
 
 use uc_tree::kinds::Base;
 
@@ -17,9 +17,10 @@ pub enum Scalar {
 }
 
 /// What an expression is: a variable that is no reference, by its first cell; a field that is none of the object of the running
-/// call, by its first cell in that; another place; a cluster or a processor, by its number; a value, `cin`, the member `fail` of `cin`, a routine by its number, a member
-/// of the object at the place, by the number of its routine, one of the coroutine there, which must be live, or nothing, where a rule is
-/// broken.
+/// call, by its first cell in that; another place; a mutex object, a cluster or a processor, by its number; a value, `cin`, the member
+/// `fail` of `cin`, a routine by its number, a member of the object at the place, by the number of its routine, one of the coroutine
+/// there, which must be live, a mutex member of the object with the number, by its number in its class and that of its routine, or
+/// nothing, where a rule is broken.
 #[derive(Clone, Copy, PartialEq, Eq, Debug)]
 pub enum Standing {
     Variable(u32),
@@ -32,10 +33,22 @@ pub enum Standing {
     Routine(u32),
     Member(u32),
     LiveMember(u32),
+    MutexMember { member: u8, routine: u32 },
     Nothing,
 }
 
 impl Standing {
+    // What stands where something is held: its number, or itself.
+    pub(crate) fn held_as(number: bool) -> Standing
+        ensures { result ≡ held_as number }
+    {
+        if number {
+            Standing::Number
+        } else {
+            Standing::Place
+        }
+    }
+
     // The variable that an expression is, if it is one.
     pub(crate) fn variable(self) -> Option<u32>
         ensures { result ≡ cell_in self }
@@ -51,30 +64,25 @@ impl Standing {
             Standing::Routine(_) => None,
             Standing::Member(_) => None,
             Standing::LiveMember(_) => None,
+            Standing::MutexMember { .. } => None,
             Standing::Nothing => None,
         }
     }
 }
 
-/// How the base of an expression's type keeps a number, the class of plain objects or the event that the base names, by its place
-/// among the classes of the program, the length of an array, and what the expression is.
+/// How the base of an expression's type keeps a number, the class of objects or the event that the base names, by its place among the
+/// classes of the program, whether what it names is known by its number, the length of an array, and what the expression is.
 #[derive(Clone, Copy, PartialEq, Eq, Debug)]
 pub struct Meaning {
     pub scalar: Scalar,
     pub class: Option<usize>,
+    pub numbered: bool,
     pub event: Option<usize>,
     pub elements: Option<u32>,
     pub standing: Standing,
 }
 
 impl Scalar {
-    // Whether what is kept so is known by its number.
-    pub(crate) fn binds(self) -> bool
-        ensures { result ≡ binds (shape_as self) }
-    {
-        matches!(self, Scalar::Binding)
-    }
-
     /// How a base keeps a number.
     pub fn of_base(base: &Base) -> Scalar
         ensures shape { shape_of base.now ≡ shape_as result }
@@ -95,11 +103,12 @@ impl Scalar {
 impl Meaning {
     /// A scalar value.
     pub fn value(scalar: Scalar) -> Meaning
-        ensures { result ≡ record { scalar = scalar; class = None; event = None; elements = None; standing = Standing.Value } }
+        ensures { result ≡ record { scalar = scalar; class = None; numbered = false; event = None; elements = None; standing = Standing.Value } }
     {
         Meaning {
             scalar,
             class: None,
+            numbered: false,
             event: None,
             elements: None,
             standing: Standing::Value,
@@ -108,11 +117,12 @@ impl Meaning {
 
     /// What breaks a rule: the value 0, which stands for nothing.
     pub fn nothing() -> Meaning
-        ensures { result ≡ record { scalar = Scalar.Number; class = None; event = None; elements = None; standing = Standing.Nothing } }
+        ensures { result ≡ record { scalar = Scalar.Number; class = None; numbered = false; event = None; elements = None; standing = Standing.Nothing } }
     {
         Meaning {
             scalar: Scalar::Number,
             class: None,
+            numbered: false,
             event: None,
             elements: None,
             standing: Standing::Nothing,

@@ -4,14 +4,15 @@ ghost use Rattle.std.specs.Prelude.{◌≡◌, ◌||◌, MatchOption, None};
 ghost use Rattle.uc_resolve.specs.Resolve.{has_number, known_named};
 ghost use Rattle.uc_lower_expr.specs.Parts.{IsVariable, standing_by};
 
-use crate::meaning::{Meaning, Scalar, Standing};
+use crate::fields::value_of_base;
+use crate::meaning::{Meaning, Standing};
 use crate::program_names::ProgramNames;
 use uc_code::draft::Draft;
 use uc_tree::kinds::Ty;
 use uc_tree::name::Name;
 
-/// A variable in scope: the first of its cells, whether that holds a place or a number, as that of a reference, a cluster or a
-/// processor does, and what is told of it.
+/// A variable in scope: the first of its cells, whether that holds a place or a number, as that of a reference, a mutex object, a
+/// cluster or a processor does, and what is told of it.
 #[derive(Clone, Copy, PartialEq, Eq, Debug)]
 pub struct Variable {
     pub cell: u32,
@@ -48,11 +49,9 @@ pub(crate) fn variable_named(out: &Draft, names: &ProgramNames, name: &Name) -> 
                 cell: known.cell,
                 held: is_held(number, known.ty.by_ref),
                 told: Meaning {
-                    scalar: Scalar::of_base(&known.ty.base),
-                    class: names.sizes().plain_class(&known.ty.base),
-                    event: names.sizes().event_place(&known.ty.base),
                     elements: known.ty.len,
                     standing: standing_of(number, known.ty.by_ref, known.cell),
+                    ..value_of_base(names.sizes(), &known.ty.base)
                 },
             })
         }
@@ -64,6 +63,5 @@ pub(crate) fn variable_named(out: &Draft, names: &ProgramNames, name: &Name) -> 
 fn has_number(ty: &Ty, names: &ProgramNames) -> bool
     ensures { result ≡ has_number names.now ty.now }
 {
-    names.fit();
-    ty.len.is_none() && Scalar::of_base(&ty.base).binds()
+    ty.len.is_none() && names.sizes().is_numbered(&ty.base)
 }

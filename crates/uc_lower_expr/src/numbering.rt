@@ -1,14 +1,13 @@
 // What is numbered in a program, and what its items give names.
 
-use crate::meaning::Scalar;
+use crate::meaning::Meaning;
+use uc_names::scope::Scope;
 use uc_tree::class::Routine;
 
-/// A constant: how its type keeps a number, the class of plain objects or the event that its base names, and its value.
+/// A constant: what is told of it as a value, and the value.
 #[derive(Clone, Copy, PartialEq, Eq, Debug)]
 pub struct Fixed {
-    pub scalar: Scalar,
-    pub class: Option<usize>,
-    pub event: Option<usize>,
+    pub told: Meaning,
     pub value: i64,
 }
 
@@ -20,8 +19,9 @@ pub struct ClassRoutine {
 }
 
 /// The routines of a program with bodies, in textual order, and the number of the class of each, which is 0 outside of classes.
-/// By the places of its classes, events included: their numbers, 0 for an event, and the numbers of the constructors and of the
-/// destructors that nobody wrote; one that is written has some number there.
+/// By the places of its classes, events included: their numbers, 0 for an event; the numbers of the constructors and of the destructors
+/// that nobody wrote, where one that is written has some number; and the places of their mutex members among these, by name, as far as
+/// they have numbers.
 #[derive(Drop)]
 pub struct Numbering<'a> {
     pub routines: Vec<&'a Routine>,
@@ -29,4 +29,5 @@ pub struct Numbering<'a> {
     pub classes: Vec<u32>,
     pub constructors: Vec<u32>,
     pub destructors: Vec<u32>,
+    pub members: Vec<Scope>,
 }

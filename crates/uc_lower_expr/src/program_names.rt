@@ -5,13 +5,14 @@ ghost use Rattle.uc_names.specs.Blocks.{found};
 ghost use Rattle.uc_tree.specs.declared.kinds.Base.{Base as Named};
 ghost use Rattle.uc_tree.specs.declared.kinds.Role.TheVariants as role;
 ghost use Rattle.uc_tree.specs.Constants.{constants_of, constant_named};
-ghost use Rattle.uc_tree.specs.Numbering.{Defined, is_plain, routines_of};
+ghost use Rattle.uc_tree.specs.Numbering.{Defined, is_mutex, is_plain, routines_of};
 ghost use Rattle.uc_tree.specs.Cells.{classes_of, class_cells};
-ghost use Rattle.uc_tree.specs.Objects.{class_at, has_execution, place_of, plain_class, base_shape, shape_of};
+ghost use Rattle.uc_tree.specs.Objects.{class_at, class_made, has_execution, is_coroutine, is_numbered, is_task, making, number_at, place_of, base_shape};
+ghost use Rattle.uc_tree.specs.Programs.{Program};
 ghost use Rattle.uc_tree.specs.Source.{Expr, shape_cells};
-ghost use Rattle.uc_resolve.specs.Resolve.{AsValue, class_by, event_constructor, has_coroutines, is_here, main_at, number_of_event, routine_from, params_of, result_of, scalar};
-ghost use Rattle.uc_lower_expr.specs.Meanings.{Tells, shape_as};
-ghost use Rattle.uc_lower_expr.specs.Numbered.{is_called_alone, AreAmong, IsFixed, IsNumbering};
+ghost use Rattle.uc_resolve.specs.Resolve.{AsValue, class_by, event_constructor, has_coroutines, has_number_in, has_tasks, is_here, main_at, number_of_event, routine_from, params_of, result_of, scalar};
+ghost use Rattle.uc_lower_expr.specs.Meanings.{Tells, is_coroutine_in, is_mutex_at, member_by, mutex_number_in};
+ghost use Rattle.uc_lower_expr.specs.Numbered.{is_called_alone, AreAmong, AreExclusive, IsFixed, IsNumbering};
 ghost use Rattle.uc_lower_expr.specs.Members.{AreTables, FitClasses, IsField, IsNthField, count_fields, member_at, no_field, no_field_at, object_places, routine_for};
 ghost use Rattle.uc_lower_expr.specs.Known.{HasRoutines, NotesFields, is_event_in, place_among, routine_or};
 
@@ -27,12 +28,11 @@ use uc_layout::sizes::Sizes;
 use uc_names::scope::Scope;
 use uc_tree::class::{Class, Routine, Sig};
 use uc_tree::kinds::{Base, Kind, Owner, Param, Role};
-use uc_tree::limits::{FAILURE, UNHANDLED};
+use uc_tree::limits::{FAILURE, MEMBERS, UNHANDLED};
 use uc_tree::name::Name;
 
 /// A program whose constants, routines, classes and their members are known by their names, with their numbers. No class has itself
-/// in its fields, and each fits the limit on its cells; none has mutex objects, and no field is a condition, a cluster or a processor.
-/// Contracts see the program.
+/// in its fields, and each fits the limit on its cells; no field is a condition, a cluster or a processor. Contracts see the program.
 #[derive(Drop)]
 pub struct ProgramNames<'a> {
     sizes: &'a Sizes<'a>,
@@ -190,6 +190,82 @@ fn has_coroutines_at(sizes: &Sizes, place: usize) -> bool
     }
 }
 
+// Whether this is the kind of plain coroutines, of mutex objects, of tasks.
+fn is_coroutine(kind: Kind) -> bool
+    ensures { result ≡ is_coroutine kind }
+{
+    matches!(kind, Kind::Coroutine)
+}
+
+fn is_mutex(kind: Kind) -> bool
+    ensures { result ≡ is_mutex kind }
+{
+    matches!(kind, Kind::Monitor | Kind::Cormonitor | Kind::Task)
+}
+
+fn is_task(kind: Kind) -> bool
+    ensures { result ≡ is_task kind }
+{
+    matches!(kind, Kind::Task)
+}
+
+// Whether the objects of the class with this place are plain coroutines, mutex objects, tasks.
+fn is_coroutine_at(sizes: &Sizes, place: usize) -> bool
+    ensures { result ≡ is_coroutine_in (class_at sizes.now place) }
+{
+    match sizes.class(place) {
+        Some(class) => is_coroutine(class.kind),
+        None => false,
+    }
+}
+
+fn is_mutex_at(sizes: &Sizes, place: usize) -> bool
+    ensures { result ≡ is_mutex_at sizes.now place }
+{
+    match sizes.class(place) {
+        Some(class) => is_mutex(class.kind),
+        None => false,
+    }
+}
+
+fn is_task_at(sizes: &Sizes, place: usize) -> bool
+    ensures { result ≡ has_tasks sizes.now (class_at sizes.now place) }
+{
+    match sizes.class(place) {
+        Some(class) => is_task(class.kind),
+        None => false,
+    }
+}
+
+// The number of a mutex member by its place among those of its class.
+fn member_number(place: Option<usize>) -> Option<u8>
+    ensures { result ≡ member_by place }
+{
+    match place {
+        Some(place) => {
+            if place < MEMBERS as usize {
+                Some(1 + place as u8)
+            } else {
+                None
+            }
+        }
+        None => None,
+    }
+}
+
+// The number of a mutex member of the class with this place, by the places of the members of all classes.
+fn mutex_number_of(members: &[Scope], class: usize, name: &Name) -> Option<u8>
+    ensures { (p : Program) → AreExclusive p members.now → result ≡ mutex_number_in (class_at p class) name.now }
+{
+    match members.get(class) {
+        Some(places) => {
+            let number = member_number(place_in(places, name));
+            number
+        }
+        None => None,
+    }
+}
+
 // The fields of the classes with these places and those further on, and the places of those that are no events.
 fn note_class(
     alloc: Global,
@@ -306,7 +382,7 @@ impl<'a> ProgramNames<'a> {
         self.sizes
     }
 
-    /// Each class fits: none has itself in its fields, and none has mutex objects.
+    /// Each class fits: none has itself in its fields.
     pub fn fit(&self)
         ensures { FitClasses self.now }
     {
@@ -319,9 +395,7 @@ impl<'a> ProgramNames<'a> {
     {
         match self.sizes.constant(name) {
             Some(constant) => Some(Fixed {
-                scalar: Scalar::of_base(&constant.base),
-                class: self.sizes.plain_class(&constant.base),
-                event: self.sizes.event_place(&constant.base),
+                told: value_of_base(self.sizes, &constant.base),
                 value: self.sizes.value_of(name).unwrap_or(0),
             }),
             None => None,
@@ -440,7 +514,57 @@ impl<'a> ProgramNames<'a> {
         }
     }
 
-    /// The number of the main of the coroutines of the class with this place; 0 where there is none.
+    /// Whether objects of the class with this place are plain coroutines.
+    pub fn is_coroutine(&self, class: usize) -> bool
+        ensures { result ≡ is_coroutine_in (class_at self.now class) }
+    {
+        let coroutine = is_coroutine_at(self.sizes, class);
+        coroutine
+    }
+
+    /// Whether objects of the class with this place are mutex objects.
+    pub fn is_mutex(&self, class: usize) -> bool
+        ensures { result ≡ is_mutex_at self.now class }
+    {
+        let mutex = is_mutex_at(self.sizes, class);
+        mutex
+    }
+
+    /// Whether they are tasks.
+    pub fn is_task(&self, class: usize) -> bool
+        ensures { result ≡ has_tasks self.now (class_at self.now class) }
+    {
+        let task = is_task_at(self.sizes, class);
+        task
+    }
+
+    /// The number of the class with this place.
+    pub fn class_number(&self, class: usize) -> u32
+        requires { class < length (classes_of self.now.items) }
+        ensures { result ≡ number_at self.now class }
+    {
+        number_at(&self.numbering.classes, class)
+    }
+
+    /// The number of a mutex member of the class with this place, if the name is that of one.
+    pub fn mutex_number(&self, class: usize, name: &Name) -> Option<u8>
+        ensures { result ≡ mutex_number_in (class_at self.now class) name.now }
+    {
+        let number = mutex_number_of(&self.numbering.members, class, name);
+        number
+    }
+
+    /// Whether a routine of the class with this place, if it is in one, is a mutex member of it, and no destructor.
+    pub fn is_mutex_member(&self, class: Option<usize>, sig: &Sig) -> bool
+        ensures { result ≡ has_number_in self.now (class_by self.now class) sig.now }
+    {
+        match class {
+            Some(class) => is_plain(sig.role) && self.mutex_number(class, name_of(sig)).is_some(),
+            None => false,
+        }
+    }
+
+    /// The number of the main of the coroutines or of the tasks of the class with this place; 0 where there is none.
     pub fn main_of(&self, class: usize) -> u32
         requires { class < length (classes_of self.now.items) }
         ensures { result ≡ main_at self.now class }
@@ -451,10 +575,13 @@ impl<'a> ProgramNames<'a> {
         }
     }
 
-    /// The cells of one element of a base that names this class of plain objects, or none.
-    pub fn element_size(&self, class: Option<usize>) -> u32
-        ensures { (b : Named) → plain_class self.now b ≡ class → result ≡ shape_cells (base_shape self.now b) }
+    /// The cells of one element of a base that names this class of objects, or none, and what is known by its number or not.
+    pub fn element_size(&self, class: Option<usize>, numbered: bool) -> u32
+        ensures { (b : Named) → class_made (making self.now b) ≡ class → is_numbered (making self.now b) ≡ numbered → result ≡ shape_cells (base_shape self.now b) }
     {
+        if numbered {
+            return 1;
+        }
         match class {
             Some(class) => cells_in(self.sizes, class),
             None => 1,

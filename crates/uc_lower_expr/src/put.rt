@@ -6,9 +6,9 @@ ghost use Rattle.uc_tree.specs.Programs.{Program};
 ghost use Rattle.uc_tree.specs.Source.{Literal};
 ghost use Rattle.uc_code.specs.Drafts.{patched};
 ghost use Rattle.uc_resolve.specs.Resolve.{step_meant};
-ghost use Rattle.uc_lower_expr.specs.Meanings.{binds, element_told, shape_as};
+ghost use Rattle.uc_lower_expr.specs.Meanings.{shape_as};
 ghost use Rattle.uc_lower_expr.specs.DraftGrowth.{Adds, Cuts, Grows, OpCode, RiskCode, ConvertCode, fetched};
-ghost use Rattle.uc_lower_expr.specs.Parts.{BeginCode, EndCode, FoundCode, UpdateCode, SetByCode, BehindCode, StepCode, Restarts, bumped};
+ghost use Rattle.uc_lower_expr.specs.Parts.{BeginCode, EndCode, UpdateCode, SetByCode, BehindCode, StepCode, Restarts, bumped};
 
 use crate::meaning::{Meaning, Scalar, Standing};
 use crate::ops::stepping;
@@ -89,29 +89,9 @@ pub fn put_load(
         Standing::Routine(_) => Ok(told.standing_as(Standing::Value)),
         Standing::Member(_) => Ok(told.standing_as(Standing::Value)),
         Standing::LiveMember(_) => Ok(told.standing_as(Standing::Value)),
+        Standing::MutexMember { .. } => Ok(told.standing_as(Standing::Value)),
         Standing::Nothing => Ok(told.standing_as(Standing::Value)),
     }
-}
-
-// Behind the place of an element of an array: of one that is known by its number, that.
-pub(crate) fn put_element(told: Meaning, line: u32, out: &mut Draft) -> Result<Meaning, AllocError>
-    requires { length out.old.ops < PROGRAM_OPS }
-    ensures code { OnOk result (Adds 1 (FoundCode line (binds (shape_as told.scalar))) out.old out.new) }
-    ensures tells { IfOk result (λ element. element ≡ element_told told) }
-{
-    if told.scalar.binds() {
-        put(Op::Load, line, out)?;
-        return Ok(Meaning {
-            elements: None,
-            standing: Standing::Number,
-            ..told
-        });
-    }
-    Ok(Meaning {
-        elements: None,
-        standing: Standing::Place,
-        ..told
-    })
 }
 
 /// The top operand as it is kept in such a scalar.

@@ -6,18 +6,19 @@ use Rattle.uc_tree.specs.Source.{CleanUp, Stmts, Then, Scoped, Built}
 use Rattle.uc_code.specs.declared.rows.Mark.{Mark}
 use Rattle.uc_code.specs.declared.rows.Mark.TheVariants as mark
 use Rattle.uc_code.specs.declared.rows.Cleaning.{Cleaning}
+use Rattle.uc_code.specs.declared.rows.Cleaning.TheVariants as cleaning
 use Rattle.uc_code.specs.Drafts.{Draft}
 use Rattle.uc_code.specs.Layout.{Laid, laid_in, routine_in}
 use Rattle.uc_code.specs.CodeShapes.{Kept, ScopeOf}
-use Rattle.uc_code.specs.ObjectCalls.{Cleans}
+use Rattle.uc_code.specs.ObjectCalls.{Cleans, One, All, TakesDown, IsForgotten, Left, Ended, Freed}
 use Rattle.uc_code.specs.OpenRows.{AllBehind, CleansBehind}
-use Rattle.uc_code.specs.Lowered.{CleanAt, StmtAt, StmtsAt}
+use Rattle.uc_code.specs.Lowered.{CleanAt, PadAt, StmtAt, StmtsAt}
 use Rattle.uc_code.proofs.Stable.{kept_refl, kept_then, kept_piece}
 use Rattle.uc_lower_stmt.specs.declared.block.ObjectScope.{ObjectScope}
-use Rattle.uc_lower_stmt.specs.Blocks.{BlockStands, EndsScopes, EndingScopes, Unended, innermost_by, innermost_in, scope_at}
-use Rattle.uc_lower_stmt.specs.Marked.{objects_in}
-use Rattle.uc_lower_stmt.specs.Objects.{ClosesScope, InScope}
-use Rattle.uc_lower_stmt.specs.OpenScopes.{Step, Does, Opens, Builds, NoParts, block_of, Pending, Begins, Done, Opened, Parted}
+use Rattle.uc_lower_stmt.specs.Blocks.{BlockStands, EndsScopes, EndingScopes, Unended, innermost_by, innermost_in, scope_at, scope_by}
+use Rattle.uc_lower_stmt.specs.Marked.{close_room, closing}
+use Rattle.uc_lower_stmt.specs.Objects.{ClosesScope, InScope, leaves}
+use Rattle.uc_lower_stmt.specs.OpenScopes.{Step, Does, Opens, Builds, NoCall, NoParts, block_of, Pending, Begins, Done, Opened, Parted}
 use Rattle.uc_lower_stmt.proofs.Ending.{scope_ended}
 use Rattle.uc_lower_stmt.proofs.Kept.{stmt_stable, stmts_stable}
 
@@ -60,12 +61,12 @@ module _ (code : Laid) (line : ℕ) (ms : List Mark) (a : ℕ) where
   -- innermost that is left
   pub data Taken (ns : List Mark) (z : ℕ) (whole : Stmts) : Type 0 where
     Whole : ns ≡ ms → StmtsAt code ns line whole a z → Taken ns z whole
-    Within : (ks : List Step) (os : List Mark) (y row : ℕ) (c : CleanUp) (what : Cleaning) (ss : Stmts) → NoParts ks → ns ≡ mark.Clean what line row ∷ os → Pending code line ms a ks os y → Cleans c what → StmtsAt code ns line ss y z → block_of ks (Scoped c ss) ≡ whole → Taken ns z whole
+    Within : (ks : List Step) (os : List Mark) (y row : ℕ) (c : CleanUp) (what : Cleaning) (ss : Stmts) → NoCall c → NoParts ks → ns ≡ mark.Clean what line row ∷ os → Pending code line ms a ks os y → Cleans c what → StmtsAt code ns line ss y z → block_of ks (Scoped c ss) ≡ whole → Taken ns z whole
 
   pub taken_up : (ks : List Step) (ns : List Mark) (y z : ℕ) (ss : Stmts) → NoParts ks → Pending code line ms a ks ns y → StmtsAt code ns line ss y z → Taken ns z (block_of ks ss)
   taken_up ks ns y z ss n Begins h = Whole refl h
   taken_up ks ns y z ss n (Done qs os x w s p at) h = taken_up qs os x z (Then s ss) n p (record { middle = y; first = at; second = h })
-  taken_up ks ns y z ss n (Opened qs os x row c what p g) h = Within qs os y row c what ss n refl p g h refl
+  taken_up ks ns y z ss n (Opened qs os x row c what p g) h = Within qs os y row c what ss n.0 n.1 refl p g h refl
   taken_up ks ns y z ss n (Parted qs os x row c what p g) h = absurd n
 
 pub block_join : (js ks : List Step) (ss : Stmts) → block_of (js ++ ks) ss ≡ block_of ks (block_of js ss)
@@ -77,7 +78,7 @@ block_join (Builds c ∷ js) ks ss = block_join js ks (Built c ss)
 pub none_join : (js ks : List Step) → NoParts js → NoParts ks → NoParts (js ++ ks)
 none_join [] ks m n = n
 none_join (Does s ∷ js) ks m n = none_join js ks m n
-none_join (Opens c ∷ js) ks m n = none_join js ks m n
+none_join (Opens c ∷ js) ks m n = (m.0, none_join js ks m.1 n)
 none_join (Builds c ∷ js) ks m n = absurd m
 
 -- the innermost scope
@@ -85,10 +86,38 @@ none_join (Builds c ∷ js) ks m n = absurd m
 none_some : (o : ObjectScope) → (let n : Option ObjectScope = None in n ≡ Some o) → ⊥
 none_some o e = cc
 
-clean_scope : (m : Mark) (ms : List Mark) (o : ObjectScope) → scope_at m ≡ Some o → AllBehind (m ∷ ms) → InScope o.what o.line (m ∷ ms)
+-- that is no mutex call
+
+same_scope : (w : Cleaning) (l : ℕ) (o : ObjectScope) → Some (record { what = w; line = l }) ≡ Some o → (w ≡ o.what) × (l ≡ o.line)
+same_scope w l o e =
+    let f : (record { what = w; line = l }) ≡ o = cc in
+    (ap (λ (x : ObjectScope). x.what) f, ap (λ (x : ObjectScope). x.line) f)
+
+found_scope : (w : Cleaning) (l : ℕ) (o : ObjectScope) → leaves w ≡ false → Some (record { what = w; line = l }) ≡ Some o → (w ≡ o.what) × ((l ≡ o.line) × (leaves o.what ≡ false))
+found_scope w l o n e = let f = same_scope w l o e in (f.0, (f.1, subst (λ (x : Cleaning). leaves x ≡ false) f.0 n))
+
+clean_by : (what : Cleaning) (line : ℕ) (o : ObjectScope) → scope_by what line ≡ Some o → (what ≡ o.what) × ((line ≡ o.line) × (leaves o.what ≡ false))
+clean_by (cleaning.Call what) line o e = found_scope (cleaning.Call what) line o refl e
+clean_by cleaning.TakeDown line o e = found_scope cleaning.TakeDown line o refl e
+clean_by cleaning.Forget line o e = found_scope cleaning.Forget line o refl e
+clean_by cleaning.Leave line o e = absurd (none_some o e)
+clean_by cleaning.End line o e = found_scope cleaning.End line o refl e
+clean_by (cleaning.Free main) line o e = found_scope (cleaning.Free main) line o refl e
+
+-- the clean-up of what is no mutex call has a scope here
+clean_some : (c : CleanUp) (what : Cleaning) (line : ℕ) → Cleans c what → NoCall c → scope_by what line ≡ Some (record { what = what; line = line })
+clean_some c what line (One e w k n) x = refl
+clean_some c what line (All n size e w k m) x = refl
+clean_some c what line TakesDown x = refl
+clean_some c what line IsForgotten x = refl
+clean_some c what line Left x = absurd x
+clean_some c what line Ended x = refl
+clean_some c what line (Freed main) x = refl
+
+clean_scope : (m : Mark) (ms : List Mark) (o : ObjectScope) → scope_at m ≡ Some o → AllBehind (m ∷ ms) → InScope o.what o.line (m ∷ ms) × (leaves o.what ≡ false)
 clean_scope (mark.Clean what line row) ms o e b =
-    let f : (record { what = what; line = line }) ≡ o = cc in
-    record { row = row; outer = ms; is = ap (λ (x : ObjectScope). mark.Clean x.what x.line row ∷ ms) f; behind = subst (λ (x : ObjectScope). CleansBehind ms x.what) f b.0 }
+    let f = clean_by what line o e in
+    (record { row = row; outer = ms; is = ap (λ (x : Cleaning). mark.Clean x line row ∷ ms) f.0 ∙ ap (λ (x : ℕ). mark.Clean o.what x row ∷ ms) f.1.0; behind = subst (λ (x : Cleaning). CleansBehind ms x) f.0 b.0 }, f.1.1)
 clean_scope (mark.Body routine) ms o e b = absurd (none_some o e)
 clean_scope (mark.Finish main routine line row) ms o e b = absurd (none_some o e)
 clean_scope (mark.Loop leave again) ms o e b = absurd (none_some o e)
@@ -98,26 +127,29 @@ clean_scope (mark.Part row) ms o e b = absurd (none_some o e)
 clean_scope (mark.Elements row) ms o e b = absurd (none_some o e)
 clean_scope (mark.Outward below row) ms o e b = absurd (none_some o e)
 
-scope_by : (b : Bool) (ms : List Mark) (o : ObjectScope) → innermost_by b ms ≡ Some o → AllBehind ms → InScope o.what o.line ms
-scope_by true ms o e b = absurd (none_some o e)
-scope_by false [] o e b = absurd (none_some o e)
-scope_by false (m ∷ ms) o e b = clean_scope m ms o e b
+innermost_scope : (b : Bool) (ms : List Mark) (o : ObjectScope) → innermost_by b ms ≡ Some o → AllBehind ms → InScope o.what o.line ms × (leaves o.what ≡ false)
+innermost_scope true ms o e b = absurd (none_some o e)
+innermost_scope false [] o e b = absurd (none_some o e)
+innermost_scope false (m ∷ ms) o e b = clean_scope m ms o e b
 
 pub in_scope : (ms : List Mark) (count : ℕ) (o : ObjectScope) → innermost_in ms count ≡ Some o → AllBehind ms → InScope o.what o.line ms
-in_scope ms count o e b = scope_by (nat_le (length ms) count) ms o e b
+in_scope ms count o e b = (innermost_scope (nat_le (length ms) count) ms o e b).0
+
+pub no_call : (ms : List Mark) (count : ℕ) (o : ObjectScope) → innermost_in ms count ≡ Some o → AllBehind ms → leaves o.what ≡ false
+no_call ms count o e b = (innermost_scope (nat_le (length ms) count) ms o e b).1
 
 few_marks : (ms : List Mark) (count : ℕ) (o : ObjectScope) → length ms ≤ count → innermost_in ms count ≡ Some o → ⊥
 few_marks ms count o l e = none_some o (sym (ap (λ (b : Bool). innermost_by b ms) (le-leb (length ms) count l)) ∙ e)
 
-many_marks : (ms : List Mark) (count row line : ℕ) (what : Cleaning) (os : List Mark) → ms ≡ mark.Clean what line row ∷ os → count ≤ length os → innermost_in ms count ≡ None → ⊥
-many_marks ms count row line what os e l n =
+many_marks : (ms : List Mark) (count row line : ℕ) (c : CleanUp) (what : Cleaning) (os : List Mark) → Cleans c what → NoCall c → ms ≡ mark.Clean what line row ∷ os → count ≤ length os → innermost_in ms count ≡ None → ⊥
+many_marks ms count row line c what os g x e l n =
     let t : innermost_in (mark.Clean what line row ∷ os) count ≡ None = ap (λ (xs : List Mark). innermost_in xs count) (sym e) ∙ n in
     let f : nat_le (length (mark.Clean what line row ∷ os)) count ≡ false = lt-leb (length (mark.Clean what line row ∷ os)) count (omega arith) in
-    none_some (record { what = what; line = line }) (sym t ∙ ap (λ (b : Bool). innermost_by b (mark.Clean what line row ∷ os)) f)
+    none_some (record { what = what; line = line }) (sym t ∙ (ap (λ (b : Bool). innermost_by b (mark.Clean what line row ∷ os)) f ∙ clean_some c what line g x))
 
--- the scope of that mark is in the count of objects
-pub scope_room : (what : Cleaning) (line : ℕ) (ms : List Mark) → InScope what line ms → 1 ≤ objects_in ms
-scope_room what line ms h = let e : objects_in ms ≡ 1 + objects_in h.outer = ap objects_in h.is in omega (arith, e)
+-- the end of the scope of that mark is reckoned
+pub scope_room : (what : Cleaning) (line : ℕ) (ms : List Mark) → InScope what line ms → close_room what ≤ closing ms
+scope_room what line ms h = let e : closing ms ≡ close_room what + closing h.outer = ap closing h.is in omega (arith, e)
 
 -- how scopes end, one after another
 
@@ -132,13 +164,13 @@ ending_none count d = record {
 same_mark : (what : Cleaning) (line row : ℕ) (os : List Mark) (w : Cleaning) (k r : ℕ) (ps : List Mark) → mark.Clean what line row ∷ os ≡ mark.Clean w k r ∷ ps → (what ≡ w) × (line ≡ k)
 same_mark what line row os w k r ps e = (cc, cc)
 
-module _ (count : ℕ) (scope : ObjectScope) (now next : Draft) (at : innermost_in now.marks count ≡ Some scope) (all : AllBehind now.marks) (h : ClosesScope scope.what scope.line now next) where
+module _ (count : ℕ) (scope : ObjectScope) (now next : Draft) (at : innermost_in now.marks count ≡ Some scope) (all : AllBehind now.marks) (h : ClosesScope (close_room scope.what) scope.what scope.line now next) where
   scope_next : (line : ℕ) (ms : List Mark) (whole : Stmts) (a : ℕ) → length ms ≡ count → Unended line ms whole a now → Unended line ms whole a next
   scope_next line ms whole a l u = by_taken (taken_up (laid_in now) line ms a u.steps now.marks u.middle (length now.ops) u.behind u.none u.before u.code)
     where
       by_taken : Taken (laid_in now) line ms a now.marks (length now.ops) (block_of u.steps u.behind) → Unended line ms whole a next
       by_taken (Whole e s) = absurd (few_marks now.marks count scope (let f : length now.marks ≡ length ms = ap length e in omega arith) at)
-      by_taken (Within ks os y row c what ss n e p g s q) =
+      by_taken (Within ks os y row c what ss x n e p g s q) =
           let i : InScope scope.what scope.line now.marks = in_scope now.marks count scope at all in
           let m = same_mark what line row os scope.what scope.line i.row i.outer (sym e ∙ i.is) in
           let f : now.marks ≡ mark.Clean scope.what scope.line row ∷ os = e ∙ (ap (λ (x : Cleaning). mark.Clean x line row ∷ os) m.0 ∙ ap (λ (x : ℕ). mark.Clean scope.what x row ∷ os) m.1) in
@@ -149,8 +181,8 @@ module _ (count : ℕ) (scope : ObjectScope) (now next : Draft) (at : innermost_
           let rises = (stmts_stable now.marks line ss).rises (laid_in now) y (length now.ops) s in
           let there = pending_kept (laid_in now) line ms a (laid_in next) ks os y (omega arith) h.kept p in
           let ended =
-          subst (λ (x : Cleaning). ScopeOf (laid_in next) line os (λ r. mark.Clean x line r) (CleanAt (laid_in next) line x os) (λ xs. StmtsAt (laid_in next) xs line ss) y (length next.ops)) (sym m.0) (
-          subst (λ (k : ℕ). ScopeOf (laid_in next) k os (λ r. mark.Clean scope.what k r) (CleanAt (laid_in next) k scope.what os) (λ xs. StmtsAt (laid_in next) xs line ss) y (length next.ops)) (sym m.1) (
+          subst (λ (x : Cleaning). ScopeOf (laid_in next) line os (λ r. mark.Clean x line r) (CleanAt (laid_in next) line x os) (PadAt (laid_in next) line x os) (λ xs. StmtsAt (laid_in next) xs line ss) y (length next.ops)) (sym m.0) (
+          subst (λ (k : ℕ). ScopeOf (laid_in next) k os (λ r. mark.Clean scope.what k r) (CleanAt (laid_in next) k scope.what os) (PadAt (laid_in next) k scope.what os) (λ xs. StmtsAt (laid_in next) xs line ss) y (length next.ops)) (sym m.1) (
           scope_ended (laid_in next) scope.line os scope.what row (λ xs. StmtsAt (laid_in next) xs line ss) y (length now.ops) (length next.ops) (
           subst (λ (k : ℕ). StmtsAt (laid_in next) (mark.Clean scope.what k row ∷ os) line ss y (length now.ops)) m.1 (
           subst (λ (x : Cleaning). StmtsAt (laid_in next) (mark.Clean x line row ∷ os) line ss y (length now.ops)) m.0 body)) ends)) in
@@ -168,8 +200,8 @@ module _ (count : ℕ) (scope : ObjectScope) (now next : Draft) (at : innermost_
   ending_next old u =
       let i : InScope scope.what scope.line now.marks = in_scope now.marks count scope at all in
       let m : next.marks ≡ i.outer = h.marks i.row i.outer i.is in
-      let o : objects_in now.marks ≡ 1 + objects_in i.outer = ap objects_in i.is in
-      let q : objects_in next.marks ≡ objects_in i.outer = ap objects_in m in
+      let o : closing now.marks ≡ close_room scope.what + closing i.outer = ap closing i.is in
+      let q : closing next.marks ≡ closing i.outer = ap closing m in
       record {
         rest = h.rest ∙ ap (λ (d : Draft). let e : Draft = record d { ops = next.ops; rows = next.rows; settled = next.settled; marks = next.marks } in e) u.rest;
         kept = kept_then (laid_in old) (laid_in now) (laid_in next) u.kept h.kept;
@@ -197,6 +229,6 @@ scopes_ended count old now none u = record {
       where
         by_taken : Taken (laid_in now) line ms a now.marks (length now.ops) (block_of w.steps w.behind) → BlockStands line ms whole a now
         by_taken (Whole e s) = record { marks = e; code = subst (λ (ss : Stmts). StmtsAt (laid_in now) ms line ss a (length now.ops)) w.same (subst (λ (xs : List Mark). StmtsAt (laid_in now) xs line (block_of w.steps w.behind) a (length now.ops)) e s) }
-        by_taken (Within ks os y row c what ss n e p g s q) =
+        by_taken (Within ks os y row c what ss x n e p g s q) =
             let k = pending_marks (laid_in now) line ms a ks os y p in
-            absurd (many_marks now.marks count row line what os e (omega arith) none)
+            absurd (many_marks now.marks count row line c what os g x e (omega arith) none)

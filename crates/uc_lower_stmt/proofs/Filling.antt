@@ -27,13 +27,13 @@ built_is code line what ms a z h =
     let f = h.second.second.end in
     omega arith
 
-pub puts_built : (line : ℕ) (what : ObjectCall) (d0 d1 d2 d3 : Draft) → Puts 5 (λ code. CallAt code line what d0.marks) d0 d1 → Puts 1 (λ code. One code op.Discard line) d1 d2 → Puts 1 (λ code. One code op.More line) d2 d3 → Puts 7 (λ code. CallBuilt code line what d0.marks) d0 d3
+pub puts_built : (line : ℕ) (what : ObjectCall) (d0 d1 d2 d3 : Draft) → Puts 8 (λ code. CallAt code line what d0.marks) d0 d1 → Puts 1 (λ code. One code op.Discard line) d1 d2 → Puts 1 (λ code. One code op.More line) d2 d3 → Puts 10 (λ code. CallBuilt code line what d0.marks) d0 d3
 puts_built line what d0 d1 d2 d3 p q r = puts_more (omega arith) (puts_both (call_stable line what d0.marks) p (puts_both (one_stable op.Discard line) q r))
 
 module _ (line n start test entry : ℕ) (few : n < 2 ^ 32) (builder destroyer : ObjectCall) (d0 d1 d2 d3 d4 d5 d6 d7 d8 d9 : Draft)
     (p1 : Puts 1 (λ code. One code (op.Count 0 test) line) d0 d1) (o2 : d2 ≡ opened opening.Elements d1) (k2 : Kept (laid_in d1) (laid_in d2))
-    (p3 : Puts 7 (λ code. CallBuilt code line builder d2.marks) d2 d3) (p4 : Puts 1 (λ code. One code (op.Fill n (start + 1)) line) d3 d4) (p5 : Puts 1 (λ code. One code (op.Jump (entry + 2)) line) d4 d5)
-    (p6 : Puts 6 (λ code. CallDone code line destroyer d5.marks) d5 d6) (c7 : d7 ≡ closed 0 d6) (k7 : Kept (laid_in d6) (laid_in d7)) (h7 : (row : ℕ) → handler_in d6.marks ≡ Some row → HandlerAt (laid_in d7) row (clean_up (length d6.ops + 0)))
+    (p3 : Puts 10 (λ code. CallBuilt code line builder d2.marks) d2 d3) (p4 : Puts 1 (λ code. One code (op.Fill n (start + 1)) line) d3 d4) (p5 : Puts 1 (λ code. One code (op.Jump (entry + 2)) line) d4 d5)
+    (p6 : Puts 9 (λ code. CallDone code line destroyer d5.marks) d5 d6) (c7 : d7 ≡ closed 0 d6) (k7 : Kept (laid_in d6) (laid_in d7)) (h7 : (row : ℕ) → handler_in d6.marks ≡ Some row → HandlerAt (laid_in d7) row (clean_up (length d6.ops + 0)))
     (p8 : Puts 1 (λ code. One code (op.Sweep (test + 2)) line) d7 d8) (p9 : Puts 1 (λ code. Risk code d8.marks op.Unwind line) d8 d9)
     (st : start ≡ length d0.ops) (te : test ≡ start + 2 + done_length builder) (en : entry ≡ test + 2 + done_length destroyer) where
   abbrev ms : List Mark
@@ -147,7 +147,7 @@ module _ (line n start test entry : ℕ) (few : n < 2 ^ 32) (builder destroyer :
       let e : length d6.ops + 0 ≡ entry = (let a = at_entry in omega arith) in
       keep7.handlers row (clean_up entry) (subst (λ k. HandlerAt (laid_in d7) row (clean_up k)) e (h7 row (ap handler_in marks6)))
 
-  pub filled : Puts 18 (FillCode line ms builder destroyer n) d0 d9
+  pub filled : Puts 24 (FillCode line ms builder destroyer n) d0 d9
   filled = record {
     rest = like_rest d0 d9 (like_puts d0 d8 d9 (like_puts d0 d7 d8 (like_closed 0 d0 d6 d7 (like_puts d0 d5 d6 (like_puts d0 d4 d5 (like_puts d0 d3 d4 (like_puts d0 d2 d3 (like_opened opening.Elements d0 d1 d2 (like_puts d0 d0 d1 refl p1) o2) p3) p4) p5) p6) c7) p8) p9) (marks_of p9 ∙ marks8);
     kept = kept_then (laid_in d0) (laid_in d1) code p1.kept keep1;

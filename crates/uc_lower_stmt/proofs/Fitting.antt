@@ -26,9 +26,9 @@ use Rattle.uc_code.specs.CodeShapes.{IsBare}
 use Rattle.uc_lower_expr.specs.DraftGrowth.{Adds, OpCode}
 use Rattle.uc_lower_stmt.specs.Guarding.{LowersFrom}
 use Rattle.uc_lower_stmt.specs.Handling.{EntersHandler, LowersHandler}
-use Rattle.uc_lower_stmt.specs.Marked.{objects_in, taken}
+use Rattle.uc_lower_stmt.specs.Marked.{closing, objects_in, taken}
 use Rattle.uc_lower_stmt.specs.LowersStatement.{Lowers, LowersStmts, sizes_at}
-use Rattle.uc_lower_stmt.proofs.GuardingLemmas.{from_lowers, guards_objects, guards_routine}
+use Rattle.uc_lower_stmt.proofs.GuardingLemmas.{from_lowers, guards_closing, guards_objects, guards_routine}
 use Rattle.uc_lower_stmt.proofs.Scoping as scoping
 
 -- a draft of a routine of the program has room for so many ops, cells, scopes and text literals more
@@ -51,7 +51,7 @@ fits_as f l1 l2 l3 l4 = record {
 }
 
 -- of drafts that agree in all that counts
-fits_like : {p : Program} {n c o k : ℕ} (d e : Draft) → routine_in e.marks ≡ routine_in d.marks → objects_in e.marks ≡ objects_in d.marks → length e.ops ≡ length d.ops → e.cells ≡ d.cells → e.scopes ≡ d.scopes → e.texts ≡ d.texts → Fits p n c o k d → Fits p n c o k e
+fits_like : {p : Program} {n c o k : ℕ} (d e : Draft) → routine_in e.marks ≡ routine_in d.marks → closing e.marks ≡ closing d.marks → length e.ops ≡ length d.ops → e.cells ≡ d.cells → e.scopes ≡ d.scopes → e.texts ≡ d.texts → Fits p n c o k d → Fits p n c o k e
 fits_like {p} {n} {c} {o} {k} d e h1 h2 h3 h4 h5 h6 f = record {
   inside = let x = f.inside in omega (arith, h1, x);
   entry = let x = f.entry in omega (arith, h3, x);
@@ -66,7 +66,7 @@ fits_like {p} {n} {c} {o} {k} d e h1 h2 h3 h4 h5 h6 f = record {
 pub fits_from : {p : Program} {f n m k j c b o q : ℕ} {S : Laid → ℕ → ℕ → Type 0} {t : Scope} {old new : Draft} → Fits p (n + m) (c + b) (o + q) (k + j) old → LowersFrom f n k c o S t old new → Fits p m b q j new
 fits_from {p} {f} {n} {m} {k} {j} {c} {b} {o} {q} {S} {t} {old} {new} h w =
     let routine : routine_in new.marks ≡ routine_in old.marks = ap (λ (d : Draft). routine_in d.marks) w.rest in
-    let objects : objects_in new.marks ≡ objects_in old.marks = ap (λ (d : Draft). objects_in d.marks) w.rest in
+    let objects : closing new.marks ≡ closing old.marks = ap (λ (d : Draft). closing d.marks) w.rest in
     record {
       inside = let x = h.inside in omega (arith, routine, x);
       entry = let x = h.entry in let y = w.kept.longer in omega (arith, x, y);
@@ -82,7 +82,7 @@ fits_behind h w = fits_from h (from_lowers 0 w)
 pub fits_adds : {p : Program} {n m c o k : ℕ} {S : Laid → ℕ → ℕ → Type 0} {old new : Draft} → Fits p (n + m) c o k old → Adds n S old new → Fits p m c o k new
 fits_adds {p} {n} {m} {c} {o} {k} {S} {old} {new} h a =
     let routine : routine_in new.marks ≡ routine_in old.marks = ap (λ (d : Draft). routine_in d.marks) a.rest in
-    let objects : objects_in new.marks ≡ objects_in old.marks = ap (λ (d : Draft). objects_in d.marks) a.rest in
+    let objects : closing new.marks ≡ closing old.marks = ap (λ (d : Draft). closing d.marks) a.rest in
     let cells : new.cells ≡ old.cells = ap (λ (d : Draft). d.cells) a.rest in
     let scopes : new.scopes ≡ old.scopes = ap (λ (d : Draft). d.scopes) a.rest in
     let texts : new.texts ≡ old.texts = ap (λ (d : Draft). d.texts) a.rest in
@@ -110,13 +110,14 @@ body_fits p row line resumes event param pos kind on name brace body h d0 d1 is 
     let g : HandlerFits p (tree.Handles pos kind on name brace body) d0 = subst (λ (x : tree.Handler). HandlerFits p x d0) (sym is) f in
     let routine : routine_in d1.marks ≡ routine_in d0.marks = ap (λ (d : Draft). routine_in d.marks) en.rest in
     let objects : objects_in d1.marks ≡ objects_in d0.marks = ap (λ (d : Draft). objects_in d.marks) en.rest in
+    let ends : closing d1.marks ≡ closing d0.marks = ap (λ (d : Draft). closing d.marks) en.rest in
     let size : sizes_at body (objects_in d1.marks) ≡ sizes_at body (objects_in d0.marks) = ap (sizes_at body) objects in
     let cells : d1.cells ≡ d0.cells = ap (λ (d : Draft). d.cells) en.rest in
     let texts : d1.texts ≡ d0.texts = ap (λ (d : Draft). d.texts) en.rest in
     record {
       inside = let x = g.inside in omega (arith, routine, x);
       entry = let x = g.entry in let y = en.kept.longer in omega (arith, x, y);
-      room = let x = g.room in let y = en.room in omega (arith, objects, size, x, y);
+      room = let x = g.room in let y = en.room in omega (arith, ends, size, x, y);
       cells = let x = g.cells in omega (arith, x, cells);
       scopes = let x = g.scopes in let y = en.opened in omega (arith, x, y);
       texts = let x = g.texts in omega (arith, x, texts);
@@ -200,7 +201,7 @@ try_asks p s pos brace xs ys hs gs d e i j b r c o k =
 pub guarded_fits : (p : Program) (n count c o k : ℕ) (d0 d1 : Draft) → Fits p n c o k d0 → OpensGuards count d0 d1 → Fits p n c o k d1
 guarded_fits p n count c o k d0 d1 f og =
     let marks : d1.marks ≡ guards (length d0.rows) count d0.marks = ap (λ (d : Draft). d.marks) og.rest in
-    fits_like d0 d1 (ap routine_in marks ∙ guards_routine (length d0.rows) count d0.marks) (ap objects_in marks ∙ guards_objects (length d0.rows) count d0.marks)
+    fits_like d0 d1 (ap routine_in marks ∙ guards_routine (length d0.rows) count d0.marks) (ap closing marks ∙ guards_closing (length d0.rows) count d0.marks)
     (ap (λ (d : Draft). length d.ops) og.rest) (ap (λ (d : Draft). d.cells) og.rest) (ap (λ (d : Draft). d.scopes) og.rest) (ap (λ (d : Draft). d.texts) og.rest) f
 
 pub scoped_fits : (p : Program) (n c o k : ℕ) (d0 d1 : Draft) → Fits p n c (1 + o) k d0 → d1 ≡ scoping.opened d0 → Fits p n c o k d1
@@ -220,14 +221,14 @@ left_fits p n c o k scope names d0 d1 f e = subst (λ (d : Draft). Fits p n c o 
 pub closed_fits : (p : Program) (n c o k first count : ℕ) (ms : List Mark) (d0 d1 : Draft) → Fits p n c o k d0 → d0.marks ≡ guards first count ms → ClosesGuards first count ms d0 d1 → Fits p n c o k d1
 closed_fits p n c o k first count ms d0 d1 f e cg =
     let marks : d1.marks ≡ ms = ap (λ (d : Draft). d.marks) cg.rest in
-    fits_like d0 d1 (ap routine_in marks ∙ sym (ap routine_in e ∙ guards_routine first count ms)) (ap objects_in marks ∙ sym (ap objects_in e ∙ guards_objects first count ms))
+    fits_like d0 d1 (ap routine_in marks ∙ sym (ap routine_in e ∙ guards_routine first count ms)) (ap closing marks ∙ sym (ap closing e ∙ guards_closing first count ms))
     (ap (λ (d : Draft). length d.ops) cg.rest) (ap (λ (d : Draft). d.cells) cg.rest) (ap (λ (d : Draft). d.scopes) cg.rest) (ap (λ (d : Draft). d.texts) cg.rest) f
 
 pub begun_fits : (p : Program) (line n c o k : ℕ) (x y : Op) (d0 d1 d2 : Draft) → routine_in d0.marks < length (routines_of p) → taken d0 + (2 + n) ≤ PROGRAM_OPS → d0.cells + c ≤ FRAME_CELLS → d0.scopes + o ≤ PROGRAM_SIZE → d0.texts + k ≤ PROGRAM_SIZE
     → Adds 1 (OpCode line x) d0 d1 → Adds 1 (OpCode line y) d1 d2 → Fits p n c o k d2
 begun_fits p line n c o k x y d0 d1 d2 i r h s t g1 g2 =
     let routine : routine_in d1.marks ≡ routine_in d0.marks = ap (λ (d : Draft). routine_in d.marks) g1.rest in
-    let objects : objects_in d1.marks ≡ objects_in d0.marks = ap (λ (d : Draft). objects_in d.marks) g1.rest in
+    let ends : closing d1.marks ≡ closing d0.marks = ap (λ (d : Draft). closing d.marks) g1.rest in
     let cells : d1.cells ≡ d0.cells = ap (λ (d : Draft). d.cells) g1.rest in
     let scopes : d1.scopes ≡ d0.scopes = ap (λ (d : Draft). d.scopes) g1.rest in
     let texts : d1.texts ≡ d0.texts = ap (λ (d : Draft). d.texts) g1.rest in
@@ -235,7 +236,7 @@ begun_fits p line n c o k x y d0 d1 d2 i r h s t g1 g2 =
     let f : Fits p (1 + n) c o k d1 = record {
       inside = omega (arith, i, routine);
       entry = omega (arith, long);
-      room = omega (arith, r, objects, long);
+      room = omega (arith, r, ends, long);
       cells = omega (arith, h, cells);
       scopes = omega (arith, s, scopes);
       texts = omega (arith, t, texts);

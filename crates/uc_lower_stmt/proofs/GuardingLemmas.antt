@@ -8,7 +8,7 @@ use Rattle.uc_code.specs.Drafts.{Draft}
 use Rattle.uc_code.specs.Layout.{Laid, guards, laid_in, routine_in}
 use Rattle.uc_code.specs.CodeShapes.{Both, Kept, KeptBut, Same, Stable}
 use Rattle.uc_lower_stmt.specs.Guarding.{KeptUnder, LowersFrom}
-use Rattle.uc_lower_stmt.specs.Marked.{objects_in}
+use Rattle.uc_lower_stmt.specs.Marked.{closing, objects_in}
 use Rattle.uc_lower_stmt.specs.LowersStatement.{Lowers}
 
 -- marks of handlers are those of no object, and lie in the routine in which they are opened
@@ -16,6 +16,10 @@ use Rattle.uc_lower_stmt.specs.LowersStatement.{Lowers}
 pub guards_objects : (first n : ℕ) (ms : List Mark) → objects_in (guards first n ms) ≡ objects_in ms
 guards_objects first zero ms = refl
 guards_objects first (suc n) ms = guards_objects first n ms
+
+pub guards_closing : (first n : ℕ) (ms : List Mark) → closing (guards first n ms) ≡ closing ms
+guards_closing first zero ms = refl
+guards_closing first (suc n) ms = guards_closing first n ms
 
 pub guards_routine : (first n : ℕ) (ms : List Mark) → routine_in (guards first n ms) ≡ routine_in ms
 guards_routine first zero ms = refl

@@ -1,16 +1,18 @@
 -- The code of statements goes on standing where its own range does not change.
-use Rattle.std.proofs.Common.{ℕ, ◌+◌, pos, Bool, true, false, List, [], ◌∷◌, Option, Some, None, length}
+use Rattle.std.proofs.Common.{ℕ, ◌+◌, arith, pos, Bool, true, false, List, [], ◌∷◌, Option, Some, None, length}
 use Rattle.uc_tree.specs.Source.{Expr, CleanUp, Item, Show, ShowText, Target, Declared, Stmt, Skip, Block, Whole, Evaluate, Declare, Print, PrintTogether, Read, If, Loop, Break, Continue, Return, Owes, Fill, OfEvents, OfTasks, TaskStmt, Resume, Suspend, SetUp, Enliven, TakeDown, Yield, Migrate, Accept, EventStmt, Throw, Raise, Try, RaiseAt, Enable, Disable, Raised, Plainly, BuiltAt as BuildsAt, AgainFrom, Handlers, NoHandlers, MoreHandlers, Stmts, Nil, Then, Scoped, Built, Way, ToBreak, ToContinue, ToReturn, ToEnd}
 use Rattle.uc_code.specs.declared.op.Op.{Op}
 use Rattle.uc_code.specs.declared.op.Op.TheVariants as op
+use Rattle.uc_code.specs.declared.rows.Cleaning.{Cleaning}
+use Rattle.uc_code.specs.declared.rows.Cleaning.TheVariants as cleaning
 use Rattle.uc_code.specs.declared.rows.Mark.{Mark}
 use Rattle.uc_code.specs.declared.rows.Mark.TheVariants as mark
 use Rattle.uc_tree.specs.Hidden.{EVENT_FIELDS}
 use Rattle.uc_code.specs.CodeShapes.{Both, HandledAt, Stable, main_end}
 use Rattle.uc_code.specs.Layout.{Laid, handlers}
 use Rattle.uc_code.specs.declared.rows.ObjectCall.{ObjectCall}
-use Rattle.uc_code.specs.Lowered.{item_op, ExprAt, ValueAt, PiecesAt, StepAt, Any, ExitAt, CallBuilt, CallDone, CleanAt, FilledAt, ScopedAt, BuiltAt, TaskAt, StmtAt, StmtsAt, RaisedAt, KeepAt, KeepsAt, HandlerBy, NamedAt, EventAt, HandlersAt, handler_of, handler_rows}
-use Rattle.uc_code.proofs.Stable.{nothing_stable, never_stable, one_stable, risk_stable, poll_stable, turns_stable, whole_stable, guarded_stable, handled_stable, apart_stable, elements_stable, scope_stable, behind_part_stable}
+use Rattle.uc_code.specs.Lowered.{item_op, ExprAt, ValueAt, PiecesAt, StepAt, Any, ExitAt, CallBuilt, CallDone, CleanAt, ArrivesAt, PadAt, FilledAt, ScopedAt, BuiltAt, TaskAt, StmtAt, StmtsAt, RaisedAt, KeepAt, KeepsAt, HandlerBy, NamedAt, EventAt, HandlersAt, handler_of, handler_rows}
+use Rattle.uc_code.proofs.Stable.{part, leaves_stable, nothing_stable, never_stable, one_stable, risk_stable, poll_stable, turns_stable, whole_stable, guarded_stable, handled_stable, apart_stable, elements_stable, scope_stable, behind_part_stable}
 use Rattle.uc_code.proofs.Putting.{clean_stable, done_stable}
 use Rattle.uc_lower_expr.proofs.Settled.{both, fork, expr_stable}
 use Rattle.uc_lower_stmt.specs.Objects.{FillCode}
@@ -118,17 +120,42 @@ filled_stable line ms n b d = record {
   moves = λ old new a z s h. record { builder = h.builder; destroyer = h.destroyer; builds = h.builds; destroys = h.destroys; filled = (fill_code_stable line ms n h.builder h.destroyer).moves old new a z s h.filled };
 }
 
+arrives_stable : (line : ℕ) (ms : List Mark) → Stable (λ code. ArrivesAt code line ms)
+arrives_stable line ms = record {
+  rises = λ code a z h.
+      let k = (both (leaves_stable ms line) (risk_stable ms op.Unwind line)).rises code (a + 1) h.arrived h.unwinds in
+      let l = (both (leaves_stable ms line) (exit_stable ToReturn ms)).rises code h.arrived z h.returns in
+      omega arith;
+  moves = λ old new a z s h.
+      let k = (both (leaves_stable ms line) (risk_stable ms op.Unwind line)).rises old (a + 1) h.arrived h.unwinds in
+      let l = (both (leaves_stable ms line) (exit_stable ToReturn ms)).rises old h.arrived z h.returns in
+      record {
+        arrived = h.arrived;
+        arrives = s.same a (op.Arrive h.arrived) line (omega arith) (omega arith) h.arrives;
+        unwinds = (both (leaves_stable ms line) (risk_stable ms op.Unwind line)).moves old new (a + 1) h.arrived (part old new a z (a + 1) h.arrived (omega arith) (omega arith) s) h.unwinds;
+        returns = (both (leaves_stable ms line) (exit_stable ToReturn ms)).moves old new h.arrived z (part old new a z h.arrived z (omega arith) (omega arith) s) h.returns;
+      };
+}
+
+pub pad_stable : (line : ℕ) (what : Cleaning) (ms : List Mark) → Stable (λ code. PadAt code line what ms)
+pad_stable line (cleaning.Call what) ms = both (clean_stable line (cleaning.Call what) ms) (risk_stable ms op.Unwind line)
+pad_stable line cleaning.TakeDown ms = both (clean_stable line cleaning.TakeDown ms) (risk_stable ms op.Unwind line)
+pad_stable line cleaning.Forget ms = both (clean_stable line cleaning.Forget ms) (risk_stable ms op.Unwind line)
+pad_stable line cleaning.Leave ms = arrives_stable line ms
+pad_stable line cleaning.End ms = both (clean_stable line cleaning.End ms) (risk_stable ms op.Unwind line)
+pad_stable line (cleaning.Free main) ms = both (one_stable op.GiveUp line) (risk_stable ms op.Unwind line)
+
 module _ (line : ℕ) (ms : List Mark) (c : CleanUp) (B : Laid → List Mark → ℕ → ℕ → Type 0) (b : (ns : List Mark) → Stable (λ code. B code ns)) where
   pub scoped_stable : Stable (λ code. ScopedAt code line ms c (B code))
   scoped_stable = record {
-    rises = λ code a z h. (scope_stable line ms (λ r. mark.Clean h.what line r) (λ k. CleanAt k line h.what ms) B (clean_stable line h.what ms) b).rises code a z h.scope;
-    moves = λ old new a z s h. record { what = h.what; cleans = h.cleans; scope = (scope_stable line ms (λ r. mark.Clean h.what line r) (λ k. CleanAt k line h.what ms) B (clean_stable line h.what ms) b).moves old new a z s h.scope };
+    rises = λ code a z h. (scope_stable line ms (λ r. mark.Clean h.what line r) (λ k. CleanAt k line h.what ms) (λ k. PadAt k line h.what ms) B (clean_stable line h.what ms) (pad_stable line h.what ms) b).rises code a z h.scope;
+    moves = λ old new a z s h. record { what = h.what; cleans = h.cleans; scope = (scope_stable line ms (λ r. mark.Clean h.what line r) (λ k. CleanAt k line h.what ms) (λ k. PadAt k line h.what ms) B (clean_stable line h.what ms) (pad_stable line h.what ms) b).moves old new a z s h.scope };
   }
 
   pub parted_stable : Stable (λ code. BuiltAt code line ms c (B code))
   parted_stable = record {
-    rises = λ code a z h. (behind_part_stable line ms (λ r. mark.Part r) (λ k. CleanAt k line h.what ms) B (clean_stable line h.what ms) b).rises code a z h.part;
-    moves = λ old new a z s h. record { what = h.what; cleans = h.cleans; part = (behind_part_stable line ms (λ r. mark.Part r) (λ k. CleanAt k line h.what ms) B (clean_stable line h.what ms) b).moves old new a z s h.part };
+    rises = λ code a z h. (behind_part_stable line ms (λ r. mark.Part r) (λ k. CleanAt k line h.what ms) (λ k. CleanAt k line h.what ms) B (clean_stable line h.what ms) (clean_stable line h.what ms) b).rises code a z h.part;
+    moves = λ old new a z s h. record { what = h.what; cleans = h.cleans; part = (behind_part_stable line ms (λ r. mark.Part r) (λ k. CleanAt k line h.what ms) (λ k. CleanAt k line h.what ms) B (clean_stable line h.what ms) (clean_stable line h.what ms) b).moves old new a z s h.part };
   }
 
 -- events
@@ -161,7 +188,7 @@ task_stable ms (Suspend line) = both (one_stable op.Suspend line) (both (risk_st
 task_stable ms (SetUp r) = one_stable (op.Coroutine r) 0
 task_stable ms Enliven = one_stable op.Live 0
 task_stable ms TakeDown = one_stable op.UnwindCoroutine 0
-task_stable ms (Yield line) = never_stable
+task_stable ms (Yield line) = both (one_stable op.Yield line) (poll_stable ms line)
 task_stable ms (Migrate line e) = never_stable
 task_stable ms (Accept line site cs) = never_stable
 
@@ -182,7 +209,7 @@ mutual
   stmt_stable ms (Continue line) = exit_stable ToContinue ms
   stmt_stable ms (Return line None) = exit_stable ToEnd ms
   stmt_stable ms (Return line (Some e)) = both (expr_stable line ms e) (exit_stable ToReturn ms)
-  stmt_stable ms (Owes line) = never_stable
+  stmt_stable ms (Owes line) = one_stable op.NoReturn line
   stmt_stable ms (Fill line n b d) = filled_stable line ms n b d
   stmt_stable ms (OfEvents s) = event_stable ms s
   stmt_stable ms (OfTasks s) = task_stable ms s

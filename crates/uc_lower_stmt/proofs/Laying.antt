@@ -8,7 +8,7 @@ use Rattle.uc_code.specs.Layout.{Laid, laid_in, routine_in}
 use Rattle.uc_code.specs.Lowered.{StmtAt, StmtsAt}
 use Rattle.uc_code.proofs.Stable.{kept_refl, kept_then}
 use Rattle.uc_lower_stmt.specs.Blocks.{BlockStands, EndsScopes}
-use Rattle.uc_lower_stmt.specs.Marked.{objects_in}
+use Rattle.uc_lower_stmt.specs.Marked.{closing, objects_in}
 use Rattle.uc_lower_stmt.specs.OpenScopes.{Does, block_of, Pending, Begins, Done, Lays}
 use Rattle.uc_lower_stmt.specs.LowersStatement.{Lowers, scope_of}
 use Rattle.uc_lower_stmt.proofs.BlocksLemmas.{block_join, none_join, pending_join, pending_kept, pending_routine}
@@ -70,12 +70,13 @@ pub lays_one : {n k c o : ℕ} {s : Stmt} {t : Scope} {old new : Draft} → (lin
 lays_one {n} {k} {c} {o} {s} {t} {old} {new} line h =
     let m : new.marks ≡ old.marks = marks_stay h in
     let e : objects_in new.marks ≡ objects_in old.marks = ap objects_in m in
+    let f : closing new.marks ≡ closing old.marks = ap closing m in
     record {
       rest = h.rest ∙ ap (λ (ms : List Mark). let y : Draft = record old { ops = new.ops; rows = new.rows; settled = new.settled; marks = ms; scopes = new.scopes; names = new.names; cells = new.cells; hidden = new.hidden; texts = new.texts; sites = new.sites } in y) (sym m);
       scope = h.scope;
       opened = h.opened;
       kept = h.kept;
-      room = (let x = h.room in omega (arith, e));
+      room = (let x = h.room in omega (arith, f));
       texts = h.texts;
       cells = h.cells;
       objects = omega (arith, e);
@@ -89,7 +90,7 @@ lays_one {n} {k} {c} {o} {s} {t} {old} {new} line h =
 pub lays_ended : {n k c d o line : ℕ} {f : Stmts → Stmts} {t : Scope} {old mid new : Draft} → (count : ℕ) → count ≡ length old.marks → Lays n k c d o line f t old mid → EndsScopes count mid new → Lowers n k c o (λ code. StmtsAt code old.marks line (f Nil)) t old new
 lays_ended {n} {k} {c} {d} {o} {line} {f} {t} {old} {mid} {new} count ce h w =
     let b : BlockStands line old.marks (block_of h.steps Nil) (length old.ops) new = w.block line (length old.ops) (length mid.ops) h.steps old.marks Nil (sym ce) h.none h.code (record { end = refl }) in
-    let e : objects_in new.marks ≡ objects_in old.marks = ap objects_in b.marks in
+    let e : closing new.marks ≡ closing old.marks = ap closing b.marks in
     let scopes : new.scopes ≡ mid.scopes = ap (λ (x : Draft). x.scopes) w.rest in
     let texts : new.texts ≡ mid.texts = ap (λ (x : Draft). x.texts) w.rest in
     let cells : new.cells ≡ mid.cells = ap (λ (x : Draft). x.cells) w.rest in

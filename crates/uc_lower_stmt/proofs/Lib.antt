@@ -26,3 +26,4 @@ pub mod Stating
 pub mod Switches
 pub mod Tried
 pub mod Turned
+pub mod Unnumbered

@@ -9,15 +9,16 @@ use Rattle.uc_tree.specs.Expressions as tree
 use Rattle.uc_tree.specs.Expressions.{exprs_of}
 use Rattle.uc_tree.specs.ExpressionSizes.{exprs_size}
 use Rattle.uc_tree.specs.Statements.{Start, NoStart, StartValue, StartArgs, Declarator}
-use Rattle.uc_tree.specs.StatementSizes.{start_size, declarator_size, declarators_size}
+use Rattle.uc_tree.specs.StatementSizes.{maybe_expr_size, start_size, declarator_size, declarators_size}
 use Rattle.uc_tree.specs.Cells.{declared_cells, declarators_cells}
 use Rattle.uc_tree.specs.Numbering.{routines_of}
 use Rattle.uc_tree.specs.Programs.{Program}
-use Rattle.uc_tree.specs.Objects.{APlain, written_at}
+use Rattle.uc_tree.specs.Objects.{Making, written_at}
 use Rattle.uc_tree.specs.Source.{Expr, Variable, CleanUp, Stmt, Stmts, Declare}
 use Rattle.uc_resolve.specs.Resolve.{Scope, Context, Meant, args_meant, context_at, length_of, start_args, declared_known, with_declared, with_all, object_scoped, objects_scoped, build, clean_up}
 use Rattle.uc_code.specs.declared.op.Op.TheVariants as op
 use Rattle.uc_code.specs.declared.rows.Array.{Array}
+use Rattle.uc_code.specs.declared.rows.Manner.{Manner}
 use Rattle.uc_code.specs.declared.rows.Mark.{Mark}
 use Rattle.uc_code.specs.declared.rows.Mark.TheVariants as mark
 use Rattle.uc_code.specs.declared.rows.Cleaning.{Cleaning}
@@ -27,7 +28,7 @@ use Rattle.uc_code.specs.declared.rows.Spot.{Spot}
 use Rattle.uc_code.specs.declared.rows.Spot.TheVariants.{Local}
 use Rattle.uc_code.specs.Drafts.{Draft}
 use Rattle.uc_code.specs.Layout.{laid_in, routine_in}
-use Rattle.uc_code.specs.ObjectCalls.{BeginsAt, InFrame, Cleans}
+use Rattle.uc_code.specs.ObjectCalls.{BeginsAt, InFrame, Cleans, One as CleansOne, All, TakesDown, IsForgotten, Left, Ended, Freed}
 use Rattle.uc_code.specs.OpenRows.{StandsBehind, CleansBehind, opened}
 use Rattle.uc_code.specs.Emits.{Puts}
 use Rattle.uc_code.specs.CodeShapes.{One, Kept}
@@ -37,8 +38,10 @@ use Rattle.uc_lower_expr.specs.DraftGrowth.{Adds, OpCode}
 use Rattle.uc_lower_expr.specs.Contexts.{context_in}
 use Rattle.uc_lower_expr.specs.Members.{routine_by, routine_for}
 use Rattle.uc_lower_stmt.specs.Blocks.{AllStandBehind, started_args}
+use Rattle.uc_lower_expr.proofs.Walks.{some_size}
+use Rattle.uc_lower_stmt.specs.Marked.{calls_in, close_room, counted_by}
 use Rattle.uc_lower_stmt.specs.Objects.{build_room, call_by}
-use Rattle.uc_lower_stmt.specs.OpenScopes.{Does, Opens, Begins, Done, Opened, Lays}
+use Rattle.uc_lower_stmt.specs.OpenScopes.{Does, Opens, NoCall, Begins, Done, Opened, Lays}
 use Rattle.uc_lower_stmt.specs.LowersStatement.{scope_of}
 use Rattle.uc_lower_stmt.proofs.Kept.{stmt_stable}
 use Rattle.uc_lower_stmt.proofs.Laying.{lays_as, lays_join, lays_nothing}
@@ -52,11 +55,11 @@ behind_by p i n wanted (Some r) l e = absurd (cc)
 pub all_behind : (p : Program) (i : ℕ) (ms : List Mark) → routine_in ms < length (routines_of p) → AllStandBehind p i ms
 all_behind p i ms l = record { each = λ wanted e. behind_by p i (routine_in ms) wanted (written_at p i wanted) l e }
 
-pub behind_of : (p : Program) (i : ℕ) (wanted : Role) (spot : Spot) (array : Option Array) (ms ns : List Mark) → AllStandBehind p i ms → ns ≡ ms → StandsBehind ns (call_by (routine_for p i wanted) spot array)
-behind_of p i wanted spot array ms ns b e = record { behind = λ f. subst (λ (l : List Mark). routine_in l < (routine_for p i wanted).number) (sym e) (b.each wanted f) }
+pub behind_of : (p : Program) (i : ℕ) (wanted : Role) (m : Manner) (spot : Spot) (array : Option Array) (ms ns : List Mark) → AllStandBehind p i ms → ns ≡ ms → StandsBehind ns (call_by (routine_for p i wanted) m spot array)
+behind_of p i wanted m spot array ms ns b e = record { behind = λ f. subst (λ (l : List Mark). routine_in l < (routine_for p i wanted).number) (sym e) (b.each wanted f) }
 
-pub behind_call : (p : Program) (i : ℕ) (wanted : Role) (spot : Spot) (array : Option Array) (what : Cleaning) (ms ns : List Mark) → what ≡ cleaning.Call (call_by (routine_for p i wanted) spot array) → AllStandBehind p i ms → ns ≡ ms → CleansBehind ns what
-behind_call p i wanted spot array what ms ns w b e = subst (λ (x : Cleaning). CleansBehind ns x) (sym w) (behind_of p i wanted spot array ms ns b e)
+pub behind_call : (p : Program) (i : ℕ) (wanted : Role) (m : Manner) (spot : Spot) (array : Option Array) (what : Cleaning) (ms ns : List Mark) → what ≡ cleaning.Call (call_by (routine_for p i wanted) m spot array) → AllStandBehind p i ms → ns ≡ ms → CleansBehind ns what
+behind_call p i wanted m spot array what ms ns w b e = subst (λ (x : Cleaning). CleansBehind ns x) (sym w) (behind_of p i wanted m spot array ms ns b e)
 
 pub behind_next : (p : Program) (i : ℕ) (ms ns : List Mark) → AllStandBehind p i ms → routine_in ns ≡ routine_in ms → AllStandBehind p i ns
 behind_next p i ms ns b e = record { each = λ wanted f. let l = b.each wanted f in omega (arith, e) }
@@ -68,15 +71,40 @@ args_same p s NoStart = refl
 args_same p s (StartValue e) = refl
 args_same p s (StartArgs es) = refl
 
-room_few : (o : Option ℕ) → build_room o ≤ 18
-room_few None = omega arith
-room_few (Some n) = omega arith
+-- an object, or an array, whose length counts, fits what is reckoned for it
 
-module _ (p : Program) (i : ℕ) (b : Base) (d : Declarator) (line block cell cells : ℕ) (elements : Option ℕ) (args : List tree.Expr) (what : Cleaning) (d0 d1 d2 d3 new : Draft)
+length_counts : (p : Program) (d : Declarator) (e : Option tree.Expr) → build_room (length_of p d e) + 49 ≤ OPS_FOR_SIZE * (1 + maybe_expr_size e)
+length_counts p d None = omega arith
+length_counts p d (Some e) = let h = some_size e in omega arith
+
+pub no_call : (p : Program) (m : Making) (length : Option ℕ) (place : Expr) → NoCall (clean_up p m length place)
+no_call p m None place = tt
+no_call p m (Some n) place = tt
+
+-- what cleans it up counts as an object in scope
+pub counts_one : (c : CleanUp) (what : Cleaning) (calls : ℕ) → Cleans c what → NoCall c → counted_by what calls ≡ 1
+counts_one c what calls (CleansOne e w k n) x = refl
+counts_one c what calls (All n size e w k m) x = refl
+counts_one c what calls TakesDown x = refl
+counts_one c what calls IsForgotten x = refl
+counts_one c what calls Left x = absurd x
+counts_one c what calls Ended x = refl
+counts_one c what calls (Freed main) x = refl
+
+pub closes_few : (c : CleanUp) (what : Cleaning) → Cleans c what → close_room what ≤ 48
+closes_few c what (CleansOne e w k n) = omega arith
+closes_few c what (All n size e w k m) = omega arith
+closes_few c what TakesDown = omega arith
+closes_few c what IsForgotten = omega arith
+closes_few c what Left = omega arith
+closes_few c what Ended = omega arith
+closes_few c what (Freed main) = omega arith
+
+module _ (p : Program) (m : Making) (b : Base) (d : Declarator) (line block cell cells : ℕ) (elements : Option ℕ) (args : List tree.Expr) (what : Cleaning) (d0 d1 d2 d3 new : Draft)
     (le : cell ≡ d0.cells) (ce : cells ≡ declared_cells p b d) (ne : elements ≡ length_of p d d.len) (ae : (c : Context) → args_meant c (exprs_of args) ≡ started_args c d.start) (few : exprs_size (exprs_of args) ≤ start_size d.start)
     (c1 : Adds 1 (OpCode line (op.Clear cell cells)) d0 d1)
-    (h2 : (place : Expr) → BeginsAt place (Local cell) → Puts (OPS_FOR_SIZE * exprs_size (exprs_of args) + build_room elements) (λ code. StmtAt code d1.marks (build p line (APlain i) elements place (args_meant (context_in p d1) (exprs_of args)))) d1 d2)
-    (cleans : (place : Expr) → BeginsAt place (Local cell) → Cleans (clean_up p (APlain i) elements place) what)
+    (h2 : (place : Expr) → BeginsAt place (Local cell) → Puts (OPS_FOR_SIZE * exprs_size (exprs_of args) + build_room elements) (λ code. StmtAt code d1.marks (build p line m elements place (args_meant (context_in p d1) (exprs_of args)))) d1 d2)
+    (cleans : (place : Expr) → BeginsAt place (Local cell) → Cleans (clean_up p m elements place) what)
     (o3 : d3 ≡ opened (opening.Object what block) d2) (k3 : Kept (laid_in d2) (laid_in d3))
     (e4 : new ≡ record d3 { names = d3.names ++ declared_known p (scope_of d3) b d ∷ []; cells = d3.cells + cells }) where
   abbrev s : Scope
@@ -88,7 +116,7 @@ module _ (p : Program) (i : ℕ) (b : Base) (d : Declarator) (line block cell ce
   abbrev place : BeginsAt (Variable cell) (Local cell)
   place = InFrame cell
 
-  built : Puts (OPS_FOR_SIZE * exprs_size (exprs_of args) + build_room elements) (λ code. StmtAt code d1.marks (build p line (APlain i) elements (Variable cell) (args_meant (context_in p d1) (exprs_of args)))) d1 d2
+  built : Puts (OPS_FOR_SIZE * exprs_size (exprs_of args) + build_room elements) (λ code. StmtAt code d1.marks (build p line m elements (Variable cell) (args_meant (context_in p d1) (exprs_of args)))) d1 d2
   built = h2 (Variable cell) place
 
   abbrev inner : Mark
@@ -134,37 +162,37 @@ module _ (p : Program) (i : ℕ) (b : Base) (d : Declarator) (line block cell ce
   args_are = ap (λ (x : Draft). args_meant (context_in p x) (exprs_of args)) c1.rest ∙ (ae (context_at p s) ∙ args_same p s d.start)
 
   abbrev builds : Stmt
-  builds = build p line (APlain i) (length_of p d d.len) there (start_args p s d.start)
+  builds = build p line m (length_of p d d.len) there (start_args p s d.start)
 
   build_at : StmtAt (laid_in last) d0.marks builds (length d1.ops) (length d2.ops)
   build_at =
-      subst (λ (x : Option ℕ). StmtAt (laid_in last) d0.marks (build p line (APlain i) x there (start_args p s d.start)) (length d1.ops) (length d2.ops)) ne (
-      subst (λ (x : ℕ). StmtAt (laid_in last) d0.marks (build p line (APlain i) elements (Variable x) (start_args p s d.start)) (length d1.ops) (length d2.ops)) le (
-      subst (λ (x : List Meant). StmtAt (laid_in last) d0.marks (build p line (APlain i) elements (Variable cell) x) (length d1.ops) (length d2.ops)) args_are (
-      subst (λ (ms : List Mark). StmtAt (laid_in last) ms (build p line (APlain i) elements (Variable cell) (args_meant (context_in p d1) (exprs_of args))) (length d1.ops) (length d2.ops)) marks1 (
-      kept_piece (λ k. StmtAt k d1.marks (build p line (APlain i) elements (Variable cell) (args_meant (context_in p d1) (exprs_of args)))) (stmt_stable d1.marks (build p line (APlain i) elements (Variable cell) (args_meant (context_in p d1) (exprs_of args))))
+      subst (λ (x : Option ℕ). StmtAt (laid_in last) d0.marks (build p line m x there (start_args p s d.start)) (length d1.ops) (length d2.ops)) ne (
+      subst (λ (x : ℕ). StmtAt (laid_in last) d0.marks (build p line m elements (Variable x) (start_args p s d.start)) (length d1.ops) (length d2.ops)) le (
+      subst (λ (x : List Meant). StmtAt (laid_in last) d0.marks (build p line m elements (Variable cell) x) (length d1.ops) (length d2.ops)) args_are (
+      subst (λ (ms : List Mark). StmtAt (laid_in last) ms (build p line m elements (Variable cell) (args_meant (context_in p d1) (exprs_of args))) (length d1.ops) (length d2.ops)) marks1 (
+      kept_piece (λ k. StmtAt k d1.marks (build p line m elements (Variable cell) (args_meant (context_in p d1) (exprs_of args)))) (stmt_stable d1.marks (build p line m elements (Variable cell) (args_meant (context_in p d1) (exprs_of args))))
       (laid_in d2) (laid_in last) (length d1.ops) (length d2.ops) (omega arith) keep2 built.code))))
 
-  cleaned : Cleans (clean_up p (APlain i) (length_of p d d.len) there) what
+  cleaned : Cleans (clean_up p m (length_of p d d.len) there) what
   cleaned =
-      subst (λ (x : Option ℕ). Cleans (clean_up p (APlain i) x there) what) ne (
-      subst (λ (x : ℕ). Cleans (clean_up p (APlain i) elements (Variable x)) what) le (cleans (Variable cell) place))
+      subst (λ (x : Option ℕ). Cleans (clean_up p m x there) what) ne (
+      subst (λ (x : ℕ). Cleans (clean_up p m elements (Variable x)) what) le (cleans (Variable cell) place))
 
-  pub arm_object : Lays (OPS_FOR_SIZE * declarator_size d) 0 (declared_cells p b d) 1 0 block (object_scoped p (APlain i) line b d (scope_of d0)) (with_declared p (scope_of d0) b d) d0 new
+  pub arm_object : Lays (OPS_FOR_SIZE * declarator_size d) 0 (declared_cells p b d) 1 0 block (object_scoped p m line b d (scope_of d0)) (with_declared p (scope_of d0) b d) d0 new
   arm_object =
       let declares : Stmt = Declare line (record { cell = s.cells; cells = declared_cells p b d; value = None } ∷ []) in
-      let c : CleanUp = clean_up p (APlain i) (length_of p d d.len) there in
-      subst (λ (x : Draft). Lays (OPS_FOR_SIZE * declarator_size d) 0 (declared_cells p b d) 1 0 block (object_scoped p (APlain i) line b d (scope_of d0)) (with_declared p (scope_of d0) b d) d0 x) (sym new_is) (record {
+      let c : CleanUp = clean_up p m (length_of p d d.len) there in
+      subst (λ (x : Draft). Lays (OPS_FOR_SIZE * declarator_size d) 0 (declared_cells p b d) 1 0 block (object_scoped p m line b d (scope_of d0)) (with_declared p (scope_of d0) b d) d0 x) (sym new_is) (record {
         rest = refl;
         scope = refl;
         opened = omega arith;
         kept = kept_then (laid_in d0) (laid_in d1) (laid_in last) c1.kept keep1;
-        room = (let x = c1.room in let y = built.room in let z = room_few elements in omega (arith, few));
+        room = (let x = c1.room in let y = built.room in let z = length_counts p d d.len in let e : build_room elements ≡ build_room (length_of p d d.len) = ap build_room ne in let k = closes_few c what cleaned in omega (arith, few, e));
         texts = omega arith;
         cells = omega arith;
-        objects = omega arith;
+        objects = (let k = counts_one c what (calls_in d0.marks) cleaned (no_call p m (length_of p d d.len) there) in omega (arith, k));
         steps = Opens c ∷ Does builds ∷ Does declares ∷ [];
-        none = tt;
+        none = (no_call p m (length_of p d d.len) there, tt);
         block = λ ss. refl;
         code = Opened (Does builds ∷ Does declares ∷ []) d0.marks (length d2.ops) (length d2.rows) c what
             (Done (Does declares ∷ []) d0.marks (length d1.ops) (length d2.ops) builds (Done [] d0.marks (length d0.ops) (length d1.ops) declares Begins declare_at) build_at) cleaned;
@@ -172,9 +200,9 @@ module _ (p : Program) (i : ℕ) (b : Base) (d : Declarator) (line block cell ce
 
 -- one object after another
 
-objects_push : (p : Program) (i line : ℕ) (b : Base) (xs : List Declarator) (x : Declarator) (s : Scope) (ss : Stmts) → objects_scoped p (APlain i) line b xs s (object_scoped p (APlain i) line b x (with_all p s b xs) ss) ≡ objects_scoped p (APlain i) line b (xs ++ x ∷ []) s ss
-objects_push p i line b [] x s ss = refl
-objects_push p i line b (d ∷ ds) x s ss = ap (λ (r : Stmts). object_scoped p (APlain i) line b d s r) (objects_push p i line b ds x (with_declared p s b d) ss)
+objects_push : (p : Program) (m : Making) (line : ℕ) (b : Base) (xs : List Declarator) (x : Declarator) (s : Scope) (ss : Stmts) → objects_scoped p m line b xs s (object_scoped p m line b x (with_all p s b xs) ss) ≡ objects_scoped p m line b (xs ++ x ∷ []) s ss
+objects_push p m line b [] x s ss = refl
+objects_push p m line b (d ∷ ds) x s ss = ap (λ (r : Stmts). object_scoped p m line b d s r) (objects_push p m line b ds x (with_declared p s b d) ss)
 
 with_push : (p : Program) (b : Base) (xs : List Declarator) (x : Declarator) (s : Scope) → with_declared p (with_all p s b xs) b x ≡ with_all p s b (xs ++ x ∷ [])
 with_push p b [] x s = refl
@@ -188,27 +216,27 @@ cells_push : (f : Declarator → ℕ) (xs : List Declarator) (x : Declarator) �
 cells_push f [] x = omega arith
 cells_push f (d ∷ ds) x = omega (arith, cells_push f ds x)
 
-pub objects_step : (p : Program) (i : ℕ) (b : Base) (xs : List Declarator) (k : ℕ) (x : Declarator) (line block : ℕ) (old mid new : Draft) → k < length xs → x ≡ get_or xs k x
-    → Lays (OPS_FOR_SIZE * declarators_size (take k xs)) 0 (declarators_cells (declared_cells p b) (take k xs)) (length (take k xs)) 0 block (objects_scoped p (APlain i) line b (take k xs) (scope_of old)) (with_all p (scope_of old) b (take k xs)) old mid
-    → Lays (OPS_FOR_SIZE * declarator_size x) 0 (declared_cells p b x) 1 0 block (object_scoped p (APlain i) line b x (scope_of mid)) (with_declared p (scope_of mid) b x) mid new
-    → Lays (OPS_FOR_SIZE * declarators_size (take (k + 1) xs)) 0 (declarators_cells (declared_cells p b) (take (k + 1) xs)) (length (take (k + 1) xs)) 0 block (objects_scoped p (APlain i) line b (take (k + 1) xs) (scope_of old)) (with_all p (scope_of old) b (take (k + 1) xs)) old new
-objects_step p i b xs k x line block old mid new l e g h =
+pub objects_step : (p : Program) (m : Making) (b : Base) (xs : List Declarator) (k : ℕ) (x : Declarator) (line block : ℕ) (old mid new : Draft) → k < length xs → x ≡ get_or xs k x
+    → Lays (OPS_FOR_SIZE * declarators_size (take k xs)) 0 (declarators_cells (declared_cells p b) (take k xs)) (length (take k xs)) 0 block (objects_scoped p m line b (take k xs) (scope_of old)) (with_all p (scope_of old) b (take k xs)) old mid
+    → Lays (OPS_FOR_SIZE * declarator_size x) 0 (declared_cells p b x) 1 0 block (object_scoped p m line b x (scope_of mid)) (with_declared p (scope_of mid) b x) mid new
+    → Lays (OPS_FOR_SIZE * declarators_size (take (k + 1) xs)) 0 (declarators_cells (declared_cells p b) (take (k + 1) xs)) (length (take (k + 1) xs)) 0 block (objects_scoped p m line b (take (k + 1) xs) (scope_of old)) (with_all p (scope_of old) b (take (k + 1) xs)) old new
+objects_step p m b xs k x line block old mid new l e g h =
     let ys : List Declarator = take k xs in
     let s : Scope = scope_of old in
     let split : ys ++ x ∷ [] ≡ take (k + 1) xs = ap (λ (y : Declarator). ys ++ y ∷ []) e ∙ sym (take_more xs k x l) in
-    let h1 : Lays (OPS_FOR_SIZE * declarator_size x) 0 (declared_cells p b x) 1 0 block (object_scoped p (APlain i) line b x (with_all p s b ys)) (with_declared p (with_all p s b ys) b x) mid new =
-    subst (λ (t : Scope). Lays (OPS_FOR_SIZE * declarator_size x) 0 (declared_cells p b x) 1 0 block (object_scoped p (APlain i) line b x t) (with_declared p t b x) mid new) g.scope h in
+    let h1 : Lays (OPS_FOR_SIZE * declarator_size x) 0 (declared_cells p b x) 1 0 block (object_scoped p m line b x (with_all p s b ys)) (with_declared p (with_all p s b ys) b x) mid new =
+    subst (λ (t : Scope). Lays (OPS_FOR_SIZE * declarator_size x) 0 (declared_cells p b x) 1 0 block (object_scoped p m line b x t) (with_declared p t b x) mid new) g.scope h in
     let long = length-append ys (x ∷ []) in
-    subst (λ (zs : List Declarator). Lays (OPS_FOR_SIZE * declarators_size zs) 0 (declarators_cells (declared_cells p b) zs) (length zs) 0 block (objects_scoped p (APlain i) line b zs s) (with_all p s b zs) old new) split (
-    lays_as (lays_join g h1) (with_push p b ys x s) (λ ss. objects_push p i line b ys x s ss) (omega (arith, sizes_push ys x)) (omega arith) (omega (arith, cells_push (declared_cells p b) ys x)) (omega (arith, long)) (omega arith))
+    subst (λ (zs : List Declarator). Lays (OPS_FOR_SIZE * declarators_size zs) 0 (declarators_cells (declared_cells p b) zs) (length zs) 0 block (objects_scoped p m line b zs s) (with_all p s b zs) old new) split (
+    lays_as (lays_join g h1) (with_push p b ys x s) (λ ss. objects_push p m line b ys x s ss) (omega (arith, sizes_push ys x)) (omega arith) (omega (arith, cells_push (declared_cells p b) ys x)) (omega (arith, long)) (omega arith))
 
-pub objects_start : (p : Program) (i : ℕ) (b : Base) (xs : List Declarator) (line block : ℕ) (old : Draft)
-    → Lays (OPS_FOR_SIZE * declarators_size (take 0 xs)) 0 (declarators_cells (declared_cells p b) (take 0 xs)) (length (take 0 xs)) 0 block (objects_scoped p (APlain i) line b (take 0 xs) (scope_of old)) (with_all p (scope_of old) b (take 0 xs)) old old
-objects_start p i b [] line block old = lays_as (lays_nothing block old) refl (λ ss. refl) (omega arith) (omega arith) (omega arith) (omega arith) (omega arith)
-objects_start p i b (x ∷ xs) line block old = lays_as (lays_nothing block old) refl (λ ss. refl) (omega arith) (omega arith) (omega arith) (omega arith) (omega arith)
+pub objects_start : (p : Program) (m : Making) (b : Base) (xs : List Declarator) (line block : ℕ) (old : Draft)
+    → Lays (OPS_FOR_SIZE * declarators_size (take 0 xs)) 0 (declarators_cells (declared_cells p b) (take 0 xs)) (length (take 0 xs)) 0 block (objects_scoped p m line b (take 0 xs) (scope_of old)) (with_all p (scope_of old) b (take 0 xs)) old old
+objects_start p m b [] line block old = lays_as (lays_nothing block old) refl (λ ss. refl) (omega arith) (omega arith) (omega arith) (omega arith) (omega arith)
+objects_start p m b (x ∷ xs) line block old = lays_as (lays_nothing block old) refl (λ ss. refl) (omega arith) (omega arith) (omega arith) (omega arith) (omega arith)
 
-pub objects_end : (p : Program) (i : ℕ) (b : Base) (xs : List Declarator) (n line block : ℕ) (old new : Draft) → length xs ≤ n
-    → Lays (OPS_FOR_SIZE * declarators_size (take n xs)) 0 (declarators_cells (declared_cells p b) (take n xs)) (length (take n xs)) 0 block (objects_scoped p (APlain i) line b (take n xs) (scope_of old)) (with_all p (scope_of old) b (take n xs)) old new
-    → Lays (OPS_FOR_SIZE * declarators_size xs) 0 (declarators_cells (declared_cells p b) xs) (length xs) 0 block (objects_scoped p (APlain i) line b xs (scope_of old)) (with_all p (scope_of old) b xs) old new
-objects_end p i b xs n line block old new l h =
-    subst (λ (zs : List Declarator). Lays (OPS_FOR_SIZE * declarators_size zs) 0 (declarators_cells (declared_cells p b) zs) (length zs) 0 block (objects_scoped p (APlain i) line b zs (scope_of old)) (with_all p (scope_of old) b zs) old new) (take_all n xs l) h
+pub objects_end : (p : Program) (m : Making) (b : Base) (xs : List Declarator) (n line block : ℕ) (old new : Draft) → length xs ≤ n
+    → Lays (OPS_FOR_SIZE * declarators_size (take n xs)) 0 (declarators_cells (declared_cells p b) (take n xs)) (length (take n xs)) 0 block (objects_scoped p m line b (take n xs) (scope_of old)) (with_all p (scope_of old) b (take n xs)) old new
+    → Lays (OPS_FOR_SIZE * declarators_size xs) 0 (declarators_cells (declared_cells p b) xs) (length xs) 0 block (objects_scoped p m line b xs (scope_of old)) (with_all p (scope_of old) b xs) old new
+objects_end p m b xs n line block old new l h =
+    subst (λ (zs : List Declarator). Lays (OPS_FOR_SIZE * declarators_size zs) 0 (declarators_cells (declared_cells p b) zs) (length zs) 0 block (objects_scoped p m line b zs (scope_of old)) (with_all p (scope_of old) b zs) old new) (take_all n xs l) h

@@ -1,28 +1,27 @@
 -- The code of a routine.
 use Rattle.std.proofs.Common.{◌≡◌, ℕ, zero, suc, ◌+◌, ◌*◌, ◌≤◌, ◌<◌, Bool, true, false, List, [], ◌∷◌, ◌++◌, length, drop, take, get_or, refl, ap, sym, subst, ◌∙◌, arith, append_assoc, append-nil}
-use Rattle.std.specs.Prelude.{Option, Some, None, is_some, ◌&&◌, ◌||◌, nat_eq, slice_set, if◌then◌else◌}
+use Rattle.std.specs.Prelude.{Option, Some, None, ◌&&◌, ◌||◌, nat_eq, slice_set, if◌then◌else◌}
 use Rattle.std.proofs.Common.{max, take_all}
 use Rattle.std.proofs.Math.Nat.{max-eq_left, max_comm}
 use Rattle.std.proofs.lemmas.List.{take_more}
 use Rattle.uc_tree.specs.declared.limits.TheConstants.{OPS_FOR_SIZE}
 use Rattle.uc_tree.specs.declared.kinds.Base.{Base}
-use Rattle.uc_tree.specs.declared.kinds.Kind.{Kind}
-use Rattle.uc_tree.specs.declared.kinds.Kind.TheVariants as kind
 use Rattle.uc_tree.specs.declared.kinds.Known.{Known}
 use Rattle.uc_tree.specs.declared.kinds.Param.{Param}
 use Rattle.uc_tree.specs.declared.kinds.Role.{Role}
 use Rattle.uc_tree.specs.declared.kinds.Role.TheVariants as role
 use Rattle.uc_tree.specs.Gathered.{gathered_all}
-use Rattle.uc_tree.specs.Numbering.{is_mutex, is_plain, own_texts, own_sites}
-use Rattle.uc_tree.specs.Objects.{is_task}
+use Rattle.uc_tree.specs.Numbering.{is_plain, own_texts, own_sites}
 use Rattle.uc_tree.specs.Statements.{Stmts}
 use Rattle.uc_tree.specs.StatementSizes.{stmts_size}
-use Rattle.uc_tree.specs.Cells.{param_cells, params_cells, routine_cells}
+use Rattle.uc_tree.specs.Cells.{declared_cells, param_cells, params_cells, routine_cells, stmts_cells}
+use Rattle.uc_tree.specs.Scopes.{stmts_scopes}
 use Rattle.uc_tree.specs.ProgramMain.{is_void, main_number}
-use Rattle.uc_tree.specs.Programs.{Class, Program, Routine, Sig}
+use Rattle.uc_tree.specs.Programs.{Class, Program, Routine}
 use Rattle.uc_tree.specs.Source as source
-use Rattle.uc_resolve.specs.Resolve.{Scope, param_known, params_known, stmts_meant, scope_behind, routine_scope, body_by, class_by, has_coroutines, has_number_in, has_tasks, is_main, plain_body, routine_meant, purpose_of, role_purpose, value_purpose}
+use Rattle.uc_resolve.specs.Resolve.{Scope, param_known, params_known, stmts_meant, scope_behind, routine_scope, body_by, class_by, has_coroutines, has_number_in, has_tasks, is_main, owing, plain_body, routine_meant, purpose_of, role_purpose, value_purpose}
 use Rattle.uc_code.specs.declared.op.Op.TheVariants as op
+use Rattle.uc_code.specs.declared.rows.Cleaning.TheVariants as cleaning
 use Rattle.uc_code.specs.declared.rows.MainOf.{MainOf}
 use Rattle.uc_code.specs.declared.rows.MainOf.TheVariants as main_of
 use Rattle.uc_code.specs.declared.rows.Mark.{Mark}
@@ -32,18 +31,20 @@ use Rattle.uc_code.specs.declared.rows.RoutineCode.{RoutineCode}
 use Rattle.uc_code.specs.Drafts.{Draft}
 use Rattle.uc_code.specs.Layout.{Laid, laid_in}
 use Rattle.uc_code.specs.OpenRows.{closed, handler_in, left_marks, opened, row_in}
-use Rattle.uc_code.specs.CodeShapes.{Both, HandlerAt, Kept, MainAt, OpAt, clean_up, main_end, main_left}
+use Rattle.uc_code.specs.CodeShapes.{Both, HandlerAt, Kept, MainAt, One, OpAt, Stable, clean_up, main_end, main_left}
+use Rattle.uc_code.specs.ObjectCalls.{Left}
 use Rattle.uc_code.specs.Lowered.{StmtsAt, BodyAt, RoutineAt}
-use Rattle.uc_code.proofs.Stable.{kept_piece, kept_then, one_stable}
+use Rattle.uc_code.proofs.Stable.{kept_piece, kept_then, nothing_stable, one_stable}
 use Rattle.uc_code.proofs.Sweeping.{closed_marks, closed_ops, like_closed}
 use Rattle.uc_lower_expr.specs.DraftGrowth.{Adds, OpCode}
-use Rattle.uc_lower_expr.specs.Members.{FitClasses}
-use Rattle.uc_lower_expr.proofs.Plainness.{number_none}
-use Rattle.uc_lower_expr.proofs.Adding.{adds_more, adds_both}
+use Rattle.uc_lower_expr.proofs.Adding.{adds_more, adds_both, adds_nothing}
 use Rattle.uc_lower_stmt.specs.Marked.{objects_in}
-use Rattle.uc_lower_stmt.specs.LowersStatement.{LowersStmts, scope_of, sizes_at}
-use Rattle.uc_lower_stmt.specs.Routines.{EndCode, LowersRoutine, frame_cells, main_in, purpose_by}
+use Rattle.uc_lower_stmt.specs.LowersStatement.{Lowers, LowersStmts, scope_of, sizes_at}
+use Rattle.uc_lower_stmt.specs.Routines.{EndCode, OwedCode, LowersMutex, LowersPlain, LowersRoutine, frame_cells, main_in, purpose_by}
+use Rattle.uc_lower_stmt.specs.Objects.{ClosesScope, call_room}
+use Rattle.uc_lower_stmt.proofs.Ending.{scope_ended}
 use Rattle.uc_lower_stmt.proofs.Kept.{stmts_stable}
+use Rattle.uc_lower_stmt.proofs.Unnumbered.{main_unnumbered}
 use Rattle.uc_lower_stmt.proofs.Counted.{behind_counted}
 use Rattle.uc_lower_stmt.proofs.Joined.{lowers_as, lowers_put}
 use Rattle.uc_lower_stmt.proofs.Shaping.{lowers_marked}
@@ -226,6 +227,119 @@ called_lowered p r b number line body d0 d1 d2 d3 new none le be re e1 h e3 g =
     subst (λ (ss : Stmts). LowersRoutine p (value_purpose p b) number (record r { body = ss }) d0 new) be (
     subst (λ (l : ℕ). LowersRoutine p (value_purpose p b) number (record r { body = body; brace = record r.brace { line = l } }) d0 new) le whole))
 
+-- behind those of a mutex member, and in the scope that leaves its object
+
+owed_at : (p : Program) (all : Laid) (v : Bool) (ms : List Mark) (line a z : ℕ) → OwedCode v line all a z → StmtsAt all ms 0 (owing p line (if v then source.Procedure else source.Function)) a z
+owed_at p all true ms line a z h = h
+owed_at p all false ms line a z h = record { middle = z; first = h; second = record { end = refl } }
+
+owed_stable : (v : Bool) (line : ℕ) → Stable (OwedCode v line)
+owed_stable true line = nothing_stable
+owed_stable false line = one_stable op.NoReturn line
+
+module _ (p : Program) (v : Bool) (routine line : ℕ) (body : Stmts) (d1 d2 d3 d4 d5 : Draft) (in_body : d1.marks ≡ mark.Body routine ∷ [])
+    (e2 : d2 ≡ opened (opening.Object cleaning.Leave 0) d1) (k2 : Kept (laid_in d1) (laid_in d2)) (h : LowersStmts p line body d2 d3) (g4 : Adds 1 (OwedCode v line) d3 d4) (c5 : ClosesScope call_room cleaning.Leave 0 d4 d5) where
+  abbrev scope_row : ℕ
+  scope_row = length d1.rows
+
+  abbrev within : List Mark
+  within = mark.Clean cleaning.Leave 0 scope_row ∷ d1.marks
+
+  abbrev last : Laid
+  last = laid_in d5
+
+  within2 : d2.marks ≡ within
+  within2 = ap (λ (d : Draft). d.marks) e2
+
+  within4 : d4.marks ≡ within
+  within4 = ap (λ (d : Draft). d.marks) g4.rest ∙ (ap (λ (d : Draft). d.marks) h.rest ∙ within2)
+
+  outside5 : d5.marks ≡ d1.marks
+  outside5 = c5.marks scope_row d1.marks within4
+
+  scope2 : scope_of d2 ≡ scope_of d1
+  scope2 = ap scope_of e2
+
+  ops2 : length d2.ops ≡ length d1.ops
+  ops2 = ap (λ (d : Draft). length d.ops) e2
+
+  abbrev meant_at : source.Stmts
+  meant_at = stmts_meant p body (scope_of d1)
+
+  stays4 : Kept (laid_in d3) last
+  stays4 = kept_then (laid_in d3) (laid_in d4) last g4.kept c5.kept
+
+  block_at : StmtsAt last within line meant_at (length d1.ops) (length d3.ops)
+  block_at =
+      subst (λ (s : Scope). StmtsAt last within line (stmts_meant p body s) (length d1.ops) (length d3.ops)) scope2 (
+      subst (λ (a : ℕ). StmtsAt last within line (stmts_meant p body (scope_of d2)) a (length d3.ops)) ops2 (
+      subst (λ (ms : List Mark). StmtsAt last ms line (stmts_meant p body (scope_of d2)) (length d2.ops) (length d3.ops)) within2 (
+      kept_piece (λ c. StmtsAt c d2.marks line (stmts_meant p body (scope_of d2))) (stmts_stable d2.marks line (stmts_meant p body (scope_of d2))) (laid_in d3) last (length d2.ops) (length d3.ops) (omega arith) stays4 h.code)))
+
+  owes_at : StmtsAt last within 0 (owing p line (if v then source.Procedure else source.Function)) (length d3.ops) (length d4.ops)
+  owes_at = owed_at p last v within line (length d3.ops) (length d4.ops) (kept_piece (OwedCode v line) (owed_stable v line) (laid_in d4) last (length d3.ops) (length d4.ops) (omega arith) c5.kept g4.code)
+
+  abbrev mutex_meant : source.Stmts
+  mutex_meant = source.Then (source.Block line meant_at) (owing p line (if v then source.Procedure else source.Function))
+
+  scope_at : StmtsAt last d1.marks 0 (source.Scoped source.Leaves mutex_meant) (length d1.ops) (length d5.ops)
+  scope_at = record {
+    what = cleaning.Leave;
+    cleans = Left;
+    scope = scope_ended last 0 d1.marks cleaning.Leave scope_row (λ ms. StmtsAt last ms 0 mutex_meant) (length d1.ops) (length d4.ops) (length d5.ops)
+        (record { middle = length d3.ops; first = block_at; second = owes_at }) (c5.scope scope_row d1.marks within4);
+  }
+
+  scope_rest : d5 ≡ record d1 { ops = d5.ops; rows = d5.rows; settled = d5.settled; scopes = d3.scopes; names = d3.names; cells = d3.cells; hidden = d3.hidden; texts = d3.texts; sites = d3.sites }
+  scope_rest =
+      c5.rest ∙ ap (λ (d : Draft). let x : Draft = record d { ops = d5.ops; rows = d5.rows; settled = d5.settled; marks = d5.marks } in x) g4.rest
+      ∙ ap (λ (d : Draft). let x : Draft = record d { ops = d5.ops; rows = d5.rows; settled = d5.settled; marks = d5.marks } in x) h.rest
+      ∙ ap (λ (d : Draft). let x : Draft = record d { ops = d5.ops; rows = d5.rows; settled = d5.settled; marks = d5.marks; scopes = d3.scopes; names = d3.names; cells = d3.cells; hidden = d3.hidden; texts = d3.texts; sites = d3.sites } in x) e2
+      ∙ ap (λ (ms : List Mark). let x : Draft = record d1 { ops = d5.ops; rows = d5.rows; settled = d5.settled; marks = ms; scopes = d3.scopes; names = d3.names; cells = d3.cells; hidden = d3.hidden; texts = d3.texts; sites = d3.sites } in x) outside5
+
+  pub mutex_scoped : Lowers (OPS_FOR_SIZE * sizes_at body 0 + 20) (stmts_size body) (stmts_cells body (declared_cells p)) (stmts_scopes body) (λ code. StmtsAt code d1.marks 0 (source.Scoped source.Leaves mutex_meant)) (scope_behind p body (scope_of d1)) d1 d5
+  mutex_scoped =
+      let none_in : objects_in d2.marks ≡ 0 = ap objects_in (within2 ∙ ap (λ (ms : List Mark). mark.Clean cleaning.Leave 0 scope_row ∷ ms) in_body) in
+      let size : sizes_at body (objects_in d2.marks) ≡ sizes_at body 0 = ap (sizes_at body) none_in in
+      let scopes2 : d2.scopes ≡ d1.scopes = ap (λ (d : Draft). d.scopes) e2 in
+      let texts2 : d2.texts ≡ d1.texts = ap (λ (d : Draft). d.texts) e2 in
+      let cells2 : d2.cells ≡ d1.cells = ap (λ (d : Draft). d.cells) e2 in
+      let scopes5 : d5.scopes ≡ d3.scopes = ap (λ (d : Draft). d.scopes) scope_rest in
+      let texts5 : d5.texts ≡ d3.texts = ap (λ (d : Draft). d.texts) scope_rest in
+      let cells5 : d5.cells ≡ d3.cells = ap (λ (d : Draft). d.cells) scope_rest in
+      record {
+        rest = subst (λ (d : Draft). d ≡ record d1 { ops = d.ops; rows = d.rows; settled = d.settled; scopes = d.scopes; names = d.names; cells = d.cells; hidden = d.hidden; texts = d.texts; sites = d.sites }) (sym scope_rest) refl;
+        scope = ap scope_of c5.rest ∙ (ap scope_of g4.rest ∙ (h.scope ∙ ap (scope_behind p body) scope2));
+        opened = (let x = h.opened in omega arith);
+        kept = kept_then (laid_in d1) (laid_in d2) last k2 (kept_then (laid_in d2) (laid_in d3) last h.kept stays4);
+        room = (let x = h.room in let y = g4.room in let z = c5.room in omega (arith, size, ops2));
+        texts = (let x = h.texts in omega arith);
+        cells = (let x = h.cells in omega arith);
+        code = scope_at;
+      }
+
+-- the statements of a mutex member with a result of this base
+abbrev MutexOf : Program → Base → ℕ → ℕ → Stmts → Draft → Draft → Type 0
+MutexOf p b last line body old new =
+    Lowers (OPS_FOR_SIZE * (1 + sizes_at body 0)) (stmts_size body) (stmts_cells body (declared_cells p)) (stmts_scopes body)
+    (λ code. Both (StmtsAt code (mark.Body last ∷ []) 0 (source.Scoped source.Leaves (source.Then (source.Block line (stmts_meant p body (scope_of old))) (owing p line (value_purpose p b))))) (One code op.Return 0)) (scope_behind p body (scope_of old)) old new
+
+pub mutex_lowered : (p : Program) (r : Routine) (b : Base) (number line : ℕ) (body : Stmts) (d0 d1 d2 d3 d4 d5 d6 new : Draft) → d0.marks ≡ [] → line ≡ r.brace.line → body ≡ r.body → b ≡ r.sig.ret
+    → d1 ≡ record d0 { marks = mark.Body number ∷ d0.marks } → d2 ≡ opened (opening.Object cleaning.Leave 0) d1 → Kept (laid_in d1) (laid_in d2) → LowersStmts p line body d2 d3 → Adds 1 (OwedCode (is_void b) line) d3 d4
+    → ClosesScope call_room cleaning.Leave 0 d4 d5 → d6 ≡ record d5 { marks = left_marks d5.marks } → Adds 1 (OpCode 0 op.Return) d6 new → LowersMutex p number r d0 new
+mutex_lowered p r b number line body d0 d1 d2 d3 d4 d5 d6 new none le be re e1 e2 k2 h g4 c5 e6 g =
+    let first : Draft = record d0 { marks = mark.Body number ∷ [] } in
+    let is : d1 ≡ first = e1 ∙ ap (λ (ms : List Mark). let x : Draft = record d0 { marks = mark.Body number ∷ ms } in x) none in
+    let scoped = mutex_scoped p (is_void b) number line body d1 d2 d3 d4 d5 (ap (λ (d : Draft). d.marks) is) e2 k2 h g4 c5 in
+    let all = lowers_put (stmts_stable d1.marks 0 (source.Scoped source.Leaves (source.Then (source.Block line (stmts_meant p body (scope_of d1))) (owing p line (value_purpose p b))))) (lowers_marked (mark.Body number) d0 d6 refl e1 e6 scoped) g in
+    let whole : MutexOf p b number line body d0 new =
+    lowers_as all (ap (λ (d : Draft). scope_behind p body (scope_of d)) is)
+    (λ code a z w. subst (λ (d : Draft). Both (StmtsAt code d.marks 0 (source.Scoped source.Leaves (source.Then (source.Block line (stmts_meant p body (scope_of d))) (owing p line (value_purpose p b))))) (One code op.Return 0) a z) is w)
+    (omega arith) (omega arith) (omega arith) refl in
+    subst (λ (x : Base). MutexOf p x number r.brace.line r.body d0 new) re (
+    subst (λ (ss : Stmts). MutexOf p b number r.brace.line ss d0 new) be (
+    subst (λ (l : ℕ). MutexOf p b number l body d0 new) le whole))
+
 -- the greater of two numbers
 
 pub max_first : (a b : ℕ) → b ≤ a → max a b ≡ a
@@ -234,65 +348,18 @@ max_first a b h = max-eq_left h
 pub max_last : (a b : ℕ) → a ≤ b → max a b ≡ b
 max_last a b h = max_comm a b ∙ max_first b a h
 
--- what a plain routine is
+-- what a plain routine is, by the tests of a main
 
 plain_purpose : (p : Program) (x : Role) (b : Base) → is_plain x ≡ true → value_purpose p b ≡ role_purpose p x b
 plain_purpose p role.Plain b e = refl
 plain_purpose p role.Constructor b e = cc
 plain_purpose p role.Destructor b e = cc
 
--- the class of a routine has no mutex objects
-
-abbrev pub IsPlain : Option Class → Type 0
-IsPlain c = (class : Class) → c ≡ Some class → is_mutex class.kind ≡ false
-
-pub class_plain : (p : Program) → FitClasses p → (place : Option ℕ) → IsPlain (class_by p place)
-class_plain p fit None class e = cc
-class_plain p fit (Some i) class e = fit.plain i class e
-
-no_task : (k : Kind) → is_mutex k ≡ false → is_task k ≡ false
-no_task kind.Class h = refl
-no_task kind.Coroutine h = refl
-no_task kind.Monitor h = refl
-no_task kind.Cormonitor h = refl
-no_task kind.Task h = h
-no_task kind.Event h = refl
-
-tasks_none : (p : Program) (c : Option Class) → IsPlain c → has_tasks p c ≡ false
-tasks_none p None plain = refl
-tasks_none p (Some class) plain = no_task class.kind (plain class refl)
-
-and_false : (b : Bool) → (b && false) ≡ false
-and_false true = refl
-and_false false = refl
-
-pub numbers_none : (p : Program) (c : Option Class) (s : Sig) → IsPlain c → has_number_in p c s ≡ false
-numbers_none p None s plain = refl
-numbers_none p (Some class) s plain = ap (λ (o : Option ℕ). is_plain s.role && is_some o) (number_none class s.name (plain class refl)) ∙ and_false (is_plain s.role)
-
--- what is a main, by the two tests
-
 abbrev main_by : Bool → Bool → Option MainOf
 main_by b d = if b then Some main_of.Task else if d then Some main_of.Coroutine else None
 
 abbrev purpose_in : Bool → Bool → source.Purpose → source.Purpose
 purpose_in b d q = if b then source.TaskMain else if d then source.CoroutineMain else q
-
-abbrev pub purpose_with : Bool → Bool → Bool → Bool → Bool → source.Purpose → source.Purpose
-purpose_with b t d m n q = if b || (t && m) then source.TaskMain else if d && m then source.CoroutineMain else if n then source.Builder else q
-
-purpose_case : (b d m : Bool) (q : source.Purpose) → purpose_with b false d m false q ≡ purpose_in b (d && m) q
-purpose_case true d m q = refl
-purpose_case false d m q = refl
-
-purpose_plain : (p : Program) (number : ℕ) (c : Option Class) (r : Routine) → IsPlain c → purpose_of p number c r ≡ purpose_in (nat_eq number (main_number p)) (has_coroutines p c && is_main p r.sig) (role_purpose p r.sig.role r.sig.ret)
-purpose_plain p number c r plain =
-    let b = nat_eq number (main_number p) in
-    let m = is_main p r.sig in
-    let q = role_purpose p r.sig.role r.sig.ret in
-    ap (λ (t : Bool). purpose_with b t (has_coroutines p c) m (has_number_in p c r.sig) q) (tasks_none p c plain)
-    ∙ ap (λ (n : Bool). purpose_with b false (has_coroutines p c) m n q) (numbers_none p c r.sig plain)
-    ∙ purpose_case b (has_coroutines p c) m q
 
 same_main : (m k : MainOf) → Some m ≡ Some k → m ≡ k
 same_main m k e = cc
@@ -307,18 +374,56 @@ no_main true d q e = absurd (cc)
 no_main false true q e = absurd (cc)
 no_main false false q e = refl
 
-pub main_purpose : (p : Program) (r : Routine) (number : ℕ) (c : Option Class) (m : MainOf) → IsPlain c → Some m ≡ main_in p number c r.sig → purpose_by m ≡ purpose_of p number c r
-main_purpose p r number c m plain e = main_is (nat_eq number (main_number p)) (has_coroutines p c && is_main p r.sig) (role_purpose p r.sig.role r.sig.ret) m e ∙ sym (purpose_plain p number c r plain)
+-- a main has its name
+main_named : (a t d m : Bool) (k : MainOf) → (a ≡ true → m ≡ true) → Some k ≡ main_by (a || (t && m)) (d && m) → m ≡ true
+main_named a t d true k h e = refl
+main_named true t d false k h e = h refl
+main_named false true true false k h e = absurd (cc)
+main_named false true false false k h e = absurd (cc)
+main_named false false true false k h e = absurd (cc)
+main_named false false false false k h e = absurd (cc)
 
-pub called_purpose : (p : Program) (r : Routine) (number : ℕ) (c : Option Class) → IsPlain c → is_plain r.sig.role ≡ true → (let n : Option MainOf = None in n ≡ main_in p number c r.sig) → value_purpose p r.sig.ret ≡ purpose_of p number c r
-called_purpose p r number c plain e m = plain_purpose p r.sig.role r.sig.ret e ∙ no_main (nat_eq number (main_number p)) (has_coroutines p c && is_main p r.sig) (role_purpose p r.sig.role r.sig.ret) m ∙ sym (purpose_plain p number c r plain)
+module _ (p : Program) (r : Routine) (number : ℕ) (c : Option Class) where
+  abbrev tasks_main : Bool
+  tasks_main = nat_eq number (main_number p) || (has_tasks p c && is_main p r.sig)
+
+  abbrev coroutines_main : Bool
+  coroutines_main = has_coroutines p c && is_main p r.sig
+
+  abbrev other_purpose : Bool → source.Purpose
+  other_purpose n = if n then source.Builder else role_purpose p r.sig.role r.sig.ret
+
+  pub main_purpose : (m : MainOf) → Some m ≡ main_in p number c r.sig → purpose_by m ≡ purpose_of p number c r
+  main_purpose m e = main_is tasks_main coroutines_main (other_purpose (has_number_in p c r.sig)) m e
+
+  pub main_number_none : (m : MainOf) → (nat_eq number (main_number p) ≡ true → is_main p r.sig ≡ true) → Some m ≡ main_in p number c r.sig → has_number_in p c r.sig ≡ false
+  main_number_none m h e = main_unnumbered p c r.sig (main_named (nat_eq number (main_number p)) (has_tasks p c) (has_coroutines p c) (is_main p r.sig) m h e)
+
+  pub called_purpose : is_plain r.sig.role ≡ true → has_number_in p c r.sig ≡ false → (let n : Option MainOf = None in n ≡ main_in p number c r.sig) → value_purpose p r.sig.ret ≡ purpose_of p number c r
+  called_purpose e n m =
+      plain_purpose p r.sig.role r.sig.ret e ∙ (ap other_purpose (sym n) ∙ no_main tasks_main coroutines_main (other_purpose (has_number_in p c r.sig)) m)
+
+  pub mutex_purpose : has_number_in p c r.sig ≡ true → (let n : Option MainOf = None in n ≡ main_in p number c r.sig) → source.Builder ≡ purpose_of p number c r
+  mutex_purpose n m = ap other_purpose (sym n) ∙ no_main tasks_main coroutines_main (other_purpose (has_number_in p c r.sig)) m
+
+-- the statements of a plain routine by what it is
+
+abbrev PlainOf : Program → source.Purpose → Bool → ℕ → Routine → Draft → Draft → Type 0
+PlainOf p q n last r old new =
+    Lowers (OPS_FOR_SIZE * (1 + sizes_at r.body 0)) (stmts_size r.body) (stmts_cells r.body (declared_cells p)) (stmts_scopes r.body) (λ code. BodyAt code q last r.brace.line (plain_body p n r (stmts_meant p r.body (scope_of old)))) (scope_behind p r.body (scope_of old)) old new
+
+pub plain_lowered : (p : Program) (q o : source.Purpose) (n : Bool) (last : ℕ) (r : Routine) (old new : Draft) → q ≡ o → n ≡ false → LowersRoutine p q last r old new → PlainOf p o n last r old new
+plain_lowered p q o n last r old new e f h = subst (λ (x : Bool). PlainOf p o x last r old new) (sym f) (subst (λ (x : source.Purpose). PlainOf p x false last r old new) e h)
+
+pub numbered_lowered : (p : Program) (o : source.Purpose) (n : Bool) (last : ℕ) (r : Routine) (old new : Draft) → source.Builder ≡ o → n ≡ true → LowersMutex p last r old new → PlainOf p o n last r old new
+numbered_lowered p o n last r old new e f h = subst (λ (x : Bool). PlainOf p o x last r old new) (sym f) (subst (λ (x : source.Purpose). PlainOf p x true last r old new) e h)
 
 -- what lowering a routine, which begins in this scope, does to a draft
 pub record Written (p : Program) (r : Routine) (s : Scope) (last number : ℕ) (old new : Draft) : Type 0 where
   pub kept : Kept (laid_in old) (laid_in new)
   pub room : length new.ops ≤ length old.ops + OPS_FOR_SIZE * (1 + sizes_at r.body 0)
-  pub code : RoutineAt (laid_in new) last number (routine_meant p r s) (record { entry = length old.ops; cells = frame_cells p r; params = length r.sig.params }) (length old.ops) (length new.ops)
-  pub written : new.routines ≡ slice_set old.routines number (record { entry = length old.ops; cells = frame_cells p r; params = length r.sig.params })
+  pub code : RoutineAt (laid_in new) last number (routine_meant p r s) (record { entry = length old.ops; cells = frame_cells p r; params = length r.sig.params; written = true }) (length old.ops) (length new.ops)
+  pub written : new.routines ≡ slice_set old.routines number (record { entry = length old.ops; cells = frame_cells p r; params = length r.sig.params; written = true })
   pub outside : new.marks ≡ []
   pub texts : new.texts ≡ s.texts + length (gathered_all own_texts r.body)
   pub few_texts : new.texts ≤ s.texts + stmts_size r.body
@@ -338,9 +443,9 @@ begun_is p r class number hidden texts sites xs d0 db d1 xe he e1 e2 =
     e2 ∙ ap (λ (x : Draft). let d : Draft = record x { names = x.names ++ params_known p x.cells xs; cells = x.cells + params_cells p xs } in d) e1
     ∙ ap (λ (ys : List Param). begun_by p ys class number hidden texts sites d0) xe ∙ ap (λ (n : ℕ). begun_by p r.sig.params class number n texts sites d0) he
 
-module _ (p : Program) (r : Routine) (plain : r.sig.role ≡ role.Plain) (fit : FitClasses p) (class : Option ℕ) (last number texts sites entry cells params : ℕ) (d0 d1 d2 new : Draft) (few : number ≤ last)
+module _ (p : Program) (r : Routine) (plain : r.sig.role ≡ role.Plain) (class : Option ℕ) (last number texts sites entry cells params : ℕ) (d0 d1 d2 new : Draft) (few : number ≤ last)
     (ee : entry ≡ length d0.ops) (ce : cells ≡ d2.hidden) (pe : params ≡ length r.sig.params) (e1 : d1 ≡ begun p r class number texts sites d0)
-    (h : LowersRoutine p (purpose_of p number (class_by p d1.place.class) r) last r d1 d2) (e : new ≡ record d2 { routines = slice_set d2.routines number (record { entry = entry; cells = cells; params = params }) }) where
+    (h : LowersPlain p number last r d1 d2) (e : new ≡ record d2 { routines = slice_set d2.routines number (record { entry = entry; cells = cells; params = params; written = true }) }) where
   abbrev s : Scope
   s = routine_scope p r class number texts sites
 
@@ -348,10 +453,10 @@ module _ (p : Program) (r : Routine) (plain : r.sig.role ≡ role.Plain) (fit : 
   first = begun p r class number texts sites d0
 
   abbrev begins : RoutineCode
-  begins = record { entry = length d0.ops; cells = frame_cells p r; params = length r.sig.params }
+  begins = record { entry = length d0.ops; cells = frame_cells p r; params = length r.sig.params; written = true }
 
-  k : LowersRoutine p (purpose_of p number (class_by p class) r) last r first d2
-  k = subst (λ (d : Draft). LowersRoutine p (purpose_of p number (class_by p d.place.class) r) last r d d2) e1 h
+  k : LowersPlain p number last r first d2
+  k = subst (λ (d : Draft). LowersPlain p number last r d d2) e1 h
 
   scope_first : scope_of first ≡ s
   scope_first = let z : 0 + params_cells p r.sig.params ≡ params_cells p r.sig.params = omega arith in ap (λ (n : ℕ). let t : Scope = record s { cells = n } in t) z
@@ -364,16 +469,15 @@ module _ (p : Program) (r : Routine) (plain : r.sig.role ≡ role.Plain) (fit : 
   frame = ce ∙ ap (λ (t : Scope). t.hidden) (scope_is ∙ behind_counted p r.body (scope_of first))
 
   is : new ≡ record d2 { routines = slice_set d2.routines number begins }
-  is = e ∙ ap (λ (n : ℕ). let d : Draft = record d2 { routines = slice_set d2.routines number (record { entry = n; cells = cells; params = params }) } in d) ee
-      ∙ ap (λ (n : ℕ). let d : Draft = record d2 { routines = slice_set d2.routines number (record { entry = length d0.ops; cells = n; params = params }) } in d) frame
-      ∙ ap (λ (n : ℕ). let d : Draft = record d2 { routines = slice_set d2.routines number (record { entry = length d0.ops; cells = frame_cells p r; params = n }) } in d) pe
+  is = e ∙ ap (λ (n : ℕ). let d : Draft = record d2 { routines = slice_set d2.routines number (record { entry = n; cells = cells; params = params; written = true }) } in d) ee
+      ∙ ap (λ (n : ℕ). let d : Draft = record d2 { routines = slice_set d2.routines number (record { entry = length d0.ops; cells = n; params = params; written = true }) } in d) frame
+      ∙ ap (λ (n : ℕ). let d : Draft = record d2 { routines = slice_set d2.routines number (record { entry = length d0.ops; cells = frame_cells p r; params = n; written = true }) } in d) pe
 
   ends : BodyAt (laid_in d2) (purpose_of p number (class_by p class) r) (max number last) r.brace.line (body_by p r.sig.role r s) (length d0.ops) (length d2.ops)
   ends =
       subst (λ (n : ℕ). BodyAt (laid_in d2) (purpose_of p number (class_by p class) r) n r.brace.line (body_by p r.sig.role r s) (length d0.ops) (length d2.ops)) (sym (max_last number last few)) (
       subst (λ (x : Role). BodyAt (laid_in d2) (purpose_of p number (class_by p class) r) last r.brace.line (body_by p x r s) (length d0.ops) (length d2.ops)) (sym plain) (
-      subst (λ (n : Bool). BodyAt (laid_in d2) (purpose_of p number (class_by p class) r) last r.brace.line (plain_body p n r (stmts_meant p r.body s)) (length d0.ops) (length d2.ops)) (sym (numbers_none p (class_by p class) r.sig (class_plain p fit class))) (
-      subst (λ (t : Scope). BodyAt (laid_in d2) (purpose_of p number (class_by p class) r) last r.brace.line (stmts_meant p r.body t) (length d0.ops) (length d2.ops)) scope_first k.code)))
+      subst (λ (t : Scope). BodyAt (laid_in d2) (purpose_of p number (class_by p class) r) last r.brace.line (plain_body p (has_number_in p (class_by p class) r.sig) r (stmts_meant p r.body t)) (length d0.ops) (length d2.ops)) scope_first k.code))
 
   -- the body behind where the routine begins, its end, and its row
   pub arm_routine : Written p r s last number d0 new
@@ -382,7 +486,7 @@ module _ (p : Program) (r : Routine) (plain : r.sig.role ≡ role.Plain) (fit : 
       subst (λ (d : Draft). Written p r s last number d0 d) (sym is) (record {
         kept = k.kept;
         room = k.room;
-        code = record { entry = refl; cells = refl; params = refl; body = ends };
+        code = record { entry = refl; cells = refl; params = refl; written = refl; body = ends };
         written = ap (λ (l : List RoutineCode). slice_set l number begins) routines;
         outside = ap (λ (d : Draft). d.marks) k.rest;
         texts = ap (λ (t : Scope). t.texts) (scope_is ∙ behind_counted p r.body (scope_of first));
@@ -397,3 +501,9 @@ end_without b line old new e a = subst (λ (x : Bool). Adds 2 (EndCode x line) o
 
 pub end_with : (b : Bool) (line : ℕ) (old mid new : Draft) → b ≡ false → Adds 1 (OpCode line op.NoReturn) old mid → Adds 1 (OpCode 0 op.Return) mid new → Adds 2 (EndCode b line) old new
 end_with b line old mid new e a c = subst (λ (x : Bool). Adds 2 (EndCode x line) old new) (sym e) (adds_both (one_stable op.NoReturn line) a c)
+
+pub owed_nothing : (b : Bool) (line : ℕ) (old : Draft) → b ≡ true → Adds 1 (OwedCode b line) old old
+owed_nothing b line old e = subst (λ (x : Bool). Adds 1 (OwedCode x line) old old) (sym e) (adds_more (omega arith) (adds_nothing old))
+
+pub owed_one : (b : Bool) (line : ℕ) (old new : Draft) → b ≡ false → Adds 1 (OpCode line op.NoReturn) old new → Adds 1 (OwedCode b line) old new
+owed_one b line old new e a = subst (λ (x : Bool). Adds 1 (OwedCode x line) old new) (sym e) a

@@ -21,6 +21,7 @@ use Rattle.uc_tree.specs.Objects.{shape_of}
 use Rattle.uc_resolve.specs.Resolve.{Scope, meant, value_of, converted, result_of, targets_meant, scope_past, scope_after}
 use Rattle.uc_built.specs.BuiltForms.{is_built_stmt, are_built}
 use Rattle.uc_code.specs.declared.op.Op.TheVariants as op
+use Rattle.uc_code.specs.declared.rows.Cleaning.TheVariants as cleaning
 use Rattle.uc_code.specs.declared.rows.Mark.{Mark}
 use Rattle.uc_code.specs.declared.rows.Mark.TheVariants as mark
 use Rattle.uc_code.specs.declared.rows.Way.TheVariants as way
@@ -40,7 +41,7 @@ use Rattle.uc_lower_expr.proofs.Arms.{converted_at}
 use Rattle.uc_lower_expr.proofs.Settled.{expr_stable}
 use Rattle.uc_lower_stmt.specs.declared.turning.Turning.TheVariants as turning
 use Rattle.uc_lower_stmt.specs.LowersStatement.{Lowers, LowersStmt, LowersStmts, scope_of}
-use Rattle.uc_lower_stmt.specs.Marked.{objects_in}
+use Rattle.uc_lower_stmt.specs.Marked.{calls_in, objects_in}
 use Rattle.uc_lower_stmt.specs.Pieces.{ItemsCode, TogetherCode, TargetsCode}
 use Rattle.uc_lower_stmt.specs.Control.{ReturnCode, LowersDeclaration, LowersIf, LowersLoop, LowersFor, maybe_past, for_past}
 use Rattle.uc_lower_stmt.proofs.Joined.{lowers_adds, lowers_nothing, lowers_as, lowers_puts, puts_adds}
@@ -144,18 +145,44 @@ arm_for_stmt p s place start test step body body0 old new h i a =
     as_stmt p s (For place start test step body) old new (ap (λ (x : Stmt). For place start test step x) i ∙ h) (
     lowers_as a (for_counted p place start test step body (scope_of old)) (λ code x z w. w) (omega arith) (omega arith) (omega arith) (omega arith))
 
--- an exit cleans up each object in scope
-pub exit_few : (ms : List Mark) → exit_room ms ≤ 1 + 17 * objects_in ms
-exit_few [] = omega arith
-exit_few (mark.Body routine ∷ ms) = omega arith
-exit_few (mark.Finish main routine line row ∷ ms) = omega arith
-exit_few (mark.Loop leave again ∷ ms) = exit_few ms
-exit_few (mark.Whole leave row ∷ ms) = omega arith
-exit_few (mark.Guard row ∷ ms) = exit_few ms
-exit_few (mark.Clean what line row ∷ ms) = let h = exit_few ms in omega arith
-exit_few (mark.Part row ∷ ms) = exit_few ms
-exit_few (mark.Elements row ∷ ms) = exit_few ms
-exit_few (mark.Outward below row ∷ ms) = omega arith
+-- an exit cleans up each object in scope, and leaves a mutex call
+
+calls_few : (ms : List Mark) → calls_in ms ≤ 1
+calls_few [] = omega arith
+calls_few (mark.Body routine ∷ ms) = calls_few ms
+calls_few (mark.Finish main routine line row ∷ ms) = calls_few ms
+calls_few (mark.Loop leave again ∷ ms) = calls_few ms
+calls_few (mark.Whole leave row ∷ ms) = omega arith
+calls_few (mark.Guard row ∷ ms) = calls_few ms
+calls_few (mark.Clean (cleaning.Call what) line row ∷ ms) = calls_few ms
+calls_few (mark.Clean cleaning.TakeDown line row ∷ ms) = calls_few ms
+calls_few (mark.Clean cleaning.Forget line row ∷ ms) = calls_few ms
+calls_few (mark.Clean cleaning.Leave line row ∷ ms) = omega arith
+calls_few (mark.Clean cleaning.End line row ∷ ms) = calls_few ms
+calls_few (mark.Clean (cleaning.Free main) line row ∷ ms) = calls_few ms
+calls_few (mark.Part row ∷ ms) = calls_few ms
+calls_few (mark.Elements row ∷ ms) = calls_few ms
+calls_few (mark.Outward below row ∷ ms) = calls_few ms
+
+exit_counted : (ms : List Mark) → exit_room ms ≤ 1 + 23 * calls_in ms + 23 * objects_in ms
+exit_counted [] = omega arith
+exit_counted (mark.Body routine ∷ ms) = omega arith
+exit_counted (mark.Finish main routine line row ∷ ms) = omega arith
+exit_counted (mark.Loop leave again ∷ ms) = exit_counted ms
+exit_counted (mark.Whole leave row ∷ ms) = omega arith
+exit_counted (mark.Guard row ∷ ms) = exit_counted ms
+exit_counted (mark.Clean (cleaning.Call what) line row ∷ ms) = let h = exit_counted ms in omega arith
+exit_counted (mark.Clean cleaning.TakeDown line row ∷ ms) = let h = exit_counted ms in omega arith
+exit_counted (mark.Clean cleaning.Forget line row ∷ ms) = let h = exit_counted ms in omega arith
+exit_counted (mark.Clean cleaning.Leave line row ∷ ms) = let h = exit_counted ms in omega arith
+exit_counted (mark.Clean cleaning.End line row ∷ ms) = let h = exit_counted ms in omega arith
+exit_counted (mark.Clean (cleaning.Free main) line row ∷ ms) = let h = exit_counted ms in omega arith
+exit_counted (mark.Part row ∷ ms) = exit_counted ms
+exit_counted (mark.Elements row ∷ ms) = exit_counted ms
+exit_counted (mark.Outward below row ∷ ms) = omega arith
+
+pub exit_few : (ms : List Mark) → exit_room ms ≤ 24 + 23 * objects_in ms
+exit_few ms = let h = exit_counted ms in let k = calls_few ms in omega arith
 
 pub arm_break : (p : Program) (s : Stmt) (place : Pos) (old new : Draft) → Break place ≡ s → Puts (exit_room old.marks) (λ code. ExitAt code (way_of way.Break) old.marks) old new → LowersStmt p s old new
 arm_break p s place old new h a =

@@ -2,7 +2,7 @@
 use Rattle.std.proofs.Common.{◌≡◌, ℕ, List, ap, subst, ◌∙◌, arith}
 use Rattle.uc_tree.specs.declared.pos.Pos.{Pos}
 use Rattle.uc_tree.specs.Programs.{Program}
-use Rattle.uc_tree.specs.Statements.{Resume, Stmt, Suspend}
+use Rattle.uc_tree.specs.Statements.{Resume, Stmt, Suspend, Yield}
 use Rattle.uc_code.specs.declared.op.Op.{Op}
 use Rattle.uc_code.specs.declared.op.Op.TheVariants as op
 use Rattle.uc_code.specs.declared.rows.Mark.{Mark}
@@ -33,3 +33,12 @@ arm_resume p s place old new e h =
 pub arm_suspend : (p : Program) (s : Stmt) (place : Pos) (old new : Draft) → Suspend place ≡ s → Puts 6 (λ code. Both (One code op.Suspend place.line) (Both (Risk code old.marks op.Land place.line) (PollAt code old.marks place.line))) old new → LowersStmt p s old new
 arm_suspend p s place old new e h =
     as_stmt p s (Suspend place) old new e (lowers_as (lowers_puts 0 0 h) (nothing_counted (scope_of old)) (λ code a z w. w) (omega arith) (omega arith) (omega arith) (omega arith))
+
+pub yielded : (line : ℕ) (d0 d1 d2 : Draft) → Adds 1 (OpCode line op.Yield) d0 d1 → Puts 4 (λ code. PollAt code d1.marks line) d1 d2 → Puts 5 (λ code. Both (One code op.Yield line) (PollAt code d0.marks line)) d0 d2
+yielded line d0 d1 d2 h q =
+    let marks1 : d1.marks ≡ d0.marks = ap (λ (d : Draft). d.marks) h.rest in
+    puts_both (one_stable op.Yield line) (puts_adds h) (subst (λ (ms : List Mark). Puts 4 (λ code. PollAt code ms line) d1 d2) marks1 q)
+
+pub arm_yield : (p : Program) (s : Stmt) (place : Pos) (old new : Draft) → Yield place ≡ s → Puts 5 (λ code. Both (One code op.Yield place.line) (PollAt code old.marks place.line)) old new → LowersStmt p s old new
+arm_yield p s place old new e h =
+    as_stmt p s (Yield place) old new e (lowers_as (lowers_puts 0 0 h) (nothing_counted (scope_of old)) (λ code a z w. w) (omega arith) (omega arith) (omega arith) (omega arith))

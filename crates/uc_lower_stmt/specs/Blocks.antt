@@ -5,6 +5,8 @@ use Rattle.uc_tree.specs.Programs.{Program}
 use Rattle.uc_tree.specs.Source.{Stmts}
 use Rattle.uc_tree.specs.Statements.{Start, NoStart, StartValue, StartArgs}
 use Rattle.uc_resolve.specs.Resolve.{Context, Meant, args_meant}
+use Rattle.uc_code.specs.declared.rows.Cleaning.{Cleaning}
+use Rattle.uc_code.specs.declared.rows.Cleaning.TheVariants as cleaning
 use Rattle.uc_code.specs.declared.rows.Mark.{Mark}
 use Rattle.uc_code.specs.declared.rows.Mark.TheVariants as mark
 use Rattle.uc_code.specs.Drafts.{Draft}
@@ -56,10 +58,18 @@ started_args c NoStart = []
 started_args c (StartValue e) = []
 started_args c (StartArgs es) = args_meant c es
 
--- the scope of the innermost mark, where more marks stand than so many
+-- the scope of the innermost mark, where more marks stand than so many; that of a mutex call ends with its routine
+
+abbrev pub scope_by : Cleaning → ℕ → Option ObjectScope
+scope_by (cleaning.Call what) line = Some (record { what = cleaning.Call what; line = line })
+scope_by cleaning.TakeDown line = Some (record { what = cleaning.TakeDown; line = line })
+scope_by cleaning.Forget line = Some (record { what = cleaning.Forget; line = line })
+scope_by cleaning.Leave line = None
+scope_by cleaning.End line = Some (record { what = cleaning.End; line = line })
+scope_by (cleaning.Free main) line = Some (record { what = cleaning.Free main; line = line })
 
 abbrev pub scope_at : Mark → Option ObjectScope
-scope_at (mark.Clean what line row) = Some (record { what = what; line = line })
+scope_at (mark.Clean what line row) = scope_by what line
 scope_at (mark.Body routine) = None
 scope_at (mark.Finish main routine line row) = None
 scope_at (mark.Loop leave again) = None

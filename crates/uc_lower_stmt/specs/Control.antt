@@ -7,7 +7,7 @@ use Rattle.uc_tree.specs.ExpressionSizes.{expr_size}
 use Rattle.uc_tree.specs.Statements.{Declarator, ForStart, Stmt, Declare, MaybeStmt, NoStmt, OneStmt}
 use Rattle.uc_tree.specs.StatementSizes.{declarators_size, for_start_size, maybe_expr_size, maybe_stmt_size, stmt_size}
 use Rattle.uc_tree.specs.Exits.{declares, exits_maybe, for_declares}
-use Rattle.uc_tree.specs.Objects.{making, plain_class}
+use Rattle.uc_tree.specs.Objects.{class_made, making}
 use Rattle.uc_tree.specs.Sizes.{size_at}
 use Rattle.uc_tree.specs.Scopes.{alone_scopes, stmt_scopes, maybe_scopes}
 use Rattle.uc_tree.specs.Cells.{declared_cells, declarators_cells, for_cells, stmt_cells, maybe_cells}
@@ -102,8 +102,8 @@ LowersLoop p line t step body old new =
 -- a declaration of objects
 
 abbrev pub DeclaresObjects : Program → Stmt → Option Objects → Type 0
-DeclaresObjects p (Declare place b ds) None = plain_class p b ≡ None
-DeclaresObjects p (Declare place b ds) (Some o) = (plain_class p b ≡ Some o.class) × ((b ≡ o.base.now) × (ds ≡ o.declarators.now))
+DeclaresObjects p (Declare place b ds) None = class_made (making p b) ≡ None
+DeclaresObjects p (Declare place b ds) (Some o) = (class_made (making p b) ≡ Some o.class) × ((b ≡ o.base.now) × (ds ≡ o.declarators.now))
 DeclaresObjects p s None = Unit {0}
 DeclaresObjects p s (Some o) = ⊥
 

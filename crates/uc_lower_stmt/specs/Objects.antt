@@ -1,36 +1,54 @@
 -- The code that builds objects and ends their scopes.
-use Rattle.std.specs.Prelude.{◌≡◌, ℕ, ◌+◌, ◌*◌, ◌≤◌, List, ◌∷◌, Option, Some, None, length}
+use Rattle.std.specs.Prelude.{◌≡◌, ℕ, ◌+◌, ◌≤◌, List, [], ◌∷◌, Bool, true, false, Option, Some, None, length}
 use Rattle.uc_tree.specs.Programs.{Program}
 use Rattle.uc_tree.specs.Cells.{class_cells}
+use Rattle.uc_tree.specs.Objects.{number_at}
+use Rattle.uc_code.specs.declared.op.Op.{Op}
 use Rattle.uc_code.specs.declared.op.Op.TheVariants as op
 use Rattle.uc_code.specs.declared.rows.Array.{Array}
+use Rattle.uc_code.specs.declared.rows.Manner.{Manner}
+use Rattle.uc_code.specs.declared.rows.Manner.TheVariants as manner
 use Rattle.uc_code.specs.declared.rows.Mark.{Mark}
 use Rattle.uc_code.specs.declared.rows.Mark.TheVariants as mark
 use Rattle.uc_code.specs.declared.rows.ObjectCall.{ObjectCall}
 use Rattle.uc_code.specs.declared.rows.Cleaning.{Cleaning}
+use Rattle.uc_code.specs.declared.rows.Cleaning.TheVariants as cleaning
 use Rattle.uc_code.specs.declared.rows.Spot.{Spot}
 use Rattle.uc_code.specs.Drafts.{Draft}
 use Rattle.uc_code.specs.Layout.{Laid, laid_in}
 use Rattle.uc_code.specs.OpenRows.{CleansBehind, clean_room}
 use Rattle.uc_code.specs.Emits.{clean_length}
-use Rattle.uc_code.specs.CodeShapes.{OpAt, Both, Risk, HandlerAt, clean_up, OverElements, Kept}
-use Rattle.uc_code.specs.Lowered.{CallBuilt, CallDone, CleanAt}
+use Rattle.uc_code.specs.CodeShapes.{OpAt, Nothing, One, Both, Risk, HandlerAt, clean_up, OverElements, Kept}
+use Rattle.uc_code.specs.Lowered.{CallBuilt, CallDone, CleanAt, PadAt}
 use Rattle.uc_lower_expr.specs.declared.numbering.ClassRoutine.{ClassRoutine}
 
-abbrev pub call_by : ClassRoutine → Spot → Option Array → ObjectCall
-call_by r spot array = record { spot = spot; array = array; routine = r.number; written = r.written }
+abbrev pub call_by : ClassRoutine → Manner → Spot → Option Array → ObjectCall
+call_by r m spot array = record { spot = spot; array = array; routine = r.number; written = r.written; manner = m }
 
--- an array of so many objects of the class with the place i
-abbrev pub array_by : Program → ℕ → Option ℕ → Option Array
-array_by p i None = None
-array_by p i (Some n) = Some (record { length = n; size = class_cells p i })
+-- how an object of the class with the place i is built, and destroyed
+abbrev pub built_by : Program → ℕ → Bool → Manner
+built_by p i true = manner.Makes (number_at p i)
+built_by p i false = manner.Plain
+
+abbrev pub ended_by : Bool → Manner
+ended_by true = manner.Ends
+ended_by false = manner.Plain
+
+-- an array of so many objects of the class with the place i; a mutex object is there by its number
+abbrev pub element_cells : Program → ℕ → Bool → ℕ
+element_cells p i true = 1
+element_cells p i false = class_cells p i
+
+abbrev pub array_by : Program → ℕ → Bool → Option ℕ → Option Array
+array_by p i mutex None = None
+array_by p i mutex (Some n) = Some (record { length = n; size = element_cells p i mutex })
 
 -- the turns that build an array: at most so many ops; what builds an object, arguments apart, or an array
 abbrev pub fill_room : ℕ
-fill_room = 18
+fill_room = 24
 
 abbrev pub build_room : Option ℕ → ℕ
-build_room None = 4
+build_room None = 6
 build_room (Some n) = fill_room
 
 abbrev pub FillCode : ℕ → List Mark → ObjectCall → ObjectCall → ℕ → Laid → ℕ → ℕ → Type 0
@@ -48,12 +66,12 @@ pub record InPart (ms : List Mark) : Type 0 where
   pub outer : List Mark
   pub is : ms ≡ mark.Part row ∷ outer
 
--- behind the statements in the scope of an object, up to z: its clean-up, and its clean-up once more, for unwinding
+-- behind the statements in the scope of an object, up to z: its clean-up, and a pad for unwinding
 pub record ScopeEnds (code : Laid) (line : ℕ) (ms : List Mark) (what : Cleaning) (row a z : ℕ) : Type 0 where
   pub clean_end : ℕ
   pub clean : CleanAt code line what ms a clean_end
   pub leave : OpAt code clean_end (op.Jump z) line
-  pub unwinds : Both (CleanAt code line what ms) (Risk code ms op.Unwind line) (clean_end + 1) z
+  pub unwinds : PadAt code line what ms (clean_end + 1) z
   pub handler : HandlerAt code row (clean_up (clean_end + 1))
 
 -- behind what follows a part of an object under construction: its clean-up, for unwinding alone
@@ -62,11 +80,11 @@ pub record PartEnds (code : Laid) (line : ℕ) (ms : List Mark) (what : Cleaning
   pub unwinds : Both (CleanAt code line what ms) (Risk code ms op.Unwind line) (a + 1) z
   pub handler : HandlerAt code row (clean_up (a + 1))
 
--- a draft in which the scope of the innermost mark, of an object, has ended
-pub record ClosesScope (what : Cleaning) (line : ℕ) (old new : Draft) : Type 0 where
+-- a draft in which the scope of the innermost mark, of an object, has ended, by at most n ops
+pub record ClosesScope (n : ℕ) (what : Cleaning) (line : ℕ) (old new : Draft) : Type 0 where
   pub rest : new ≡ record old { ops = new.ops; rows = new.rows; settled = new.settled; marks = new.marks }
   pub kept : Kept (laid_in old) (laid_in new)
-  pub room : length new.ops ≤ length old.ops + (2 * clean_room + 2)
+  pub room : length new.ops ≤ length old.ops + n
   pub scope : (row : ℕ) (ms : List Mark) → old.marks ≡ mark.Clean what line row ∷ ms → ScopeEnds (laid_in new) line ms what row (length old.ops) (length new.ops)
   pub marks : (row : ℕ) (ms : List Mark) → old.marks ≡ mark.Clean what line row ∷ ms → new.marks ≡ ms
 
@@ -77,3 +95,53 @@ pub record ClosesPart (what : Cleaning) (line : ℕ) (old new : Draft) : Type 0 
   pub room : length new.ops ≤ length old.ops + (clean_length what + 2)
   pub part : (row : ℕ) (ms : List Mark) → old.marks ≡ mark.Part row ∷ ms → PartEnds (laid_in new) line ms what row (length old.ops) (length new.ops)
   pub marks : (row : ℕ) (ms : List Mark) → old.marks ≡ mark.Part row ∷ ms → new.marks ≡ ms
+
+-- a mutex object is made, and its place bound to it; nothing is done for others
+abbrev pub MadeCode : ℕ → Manner → ℕ → Laid → ℕ → ℕ → Type 0
+MadeCode line manner.Plain r code = Nothing
+MadeCode line (manner.Makes c) r code = Both (One code (op.Make c r) line) (One code (op.BindMade c r) line)
+MadeCode line manner.Ends r code = Nothing
+
+-- what is given up where it is unwound: the building of a mutex object
+abbrev pub frees : Cleaning → Bool
+frees (cleaning.Call what) = false
+frees cleaning.TakeDown = false
+frees cleaning.Forget = false
+frees cleaning.Leave = false
+frees cleaning.End = false
+frees (cleaning.Free main) = true
+
+-- what leaves a mutex call
+abbrev pub leaves : Cleaning → Bool
+leaves (cleaning.Call what) = false
+leaves cleaning.TakeDown = false
+leaves cleaning.Forget = false
+leaves cleaning.Leave = true
+leaves cleaning.End = false
+leaves (cleaning.Free main) = false
+
+-- the op of a clean-up that ends the building of a mutex object, where a task begins with its main
+abbrev pub free_op : Option ℕ → Op
+free_op None = op.Made
+free_op (Some r) = op.Spawn r
+
+-- how many ops a clean-up takes at most
+abbrev pub most_clean : Cleaning → ℕ
+most_clean (cleaning.Call what) = clean_room
+most_clean cleaning.TakeDown = 1
+most_clean cleaning.Forget = 1
+most_clean cleaning.Leave = clean_room
+most_clean cleaning.End = 1
+most_clean (cleaning.Free main) = 1
+
+-- the marks of a mutex call, outside of its scope: those of a routine alone, so that a return ends it
+pub record InCall (ms : List Mark) : Type 0 where
+  pub routine : ℕ
+  pub is : ms ≡ mark.Body routine ∷ []
+
+-- its pad, and its end
+abbrev pub arrival_room : ℕ
+arrival_room = 13
+
+abbrev pub call_room : ℕ
+call_room = arrival_room + 6

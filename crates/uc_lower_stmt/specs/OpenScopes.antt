@@ -1,6 +1,6 @@
 -- Statements of a block that are laid out, where objects that they declare are still in scope: their clean-ups are to come.
 use Rattle.std.specs.Prelude.{◌≡◌, ℕ, ◌+◌, ◌≤◌, List, [], ◌∷◌, length}
-use Rattle.uc_tree.specs.Source.{CleanUp, Stmt, Stmts, Then, Scoped, Built}
+use Rattle.uc_tree.specs.Source.{CleanUp, Destroys, DestroysAll, Unwinds, Forgets, Leaves, Ends, Frees, Restores, Stmt, Stmts, Then, Scoped, Built}
 use Rattle.uc_resolve.specs.Resolve.{Scope}
 use Rattle.uc_code.specs.declared.rows.Mark.{Mark}
 use Rattle.uc_code.specs.declared.rows.Mark.TheVariants as mark
@@ -27,11 +27,22 @@ block_of (Does s ∷ ks) ss = block_of ks (Then s ss)
 block_of (Opens c ∷ ks) ss = block_of ks (Scoped c ss)
 block_of (Builds c ∷ ks) ss = block_of ks (Built c ss)
 
--- no part of an object under construction is among them
+-- no part of an object under construction is among them, and no mutex call
+
+abbrev pub NoCall : CleanUp → Type 0
+NoCall (Destroys e) = Unit {0}
+NoCall (DestroysAll n e) = Unit {0}
+NoCall Unwinds = Unit {0}
+NoCall Forgets = Unit {0}
+NoCall Leaves = ⊥
+NoCall Ends = Unit {0}
+NoCall (Frees main) = Unit {0}
+NoCall (Restores cell) = Unit {0}
+
 abbrev pub NoParts : List Step → Type 0
 NoParts [] = Unit {0}
 NoParts (Does s ∷ ks) = NoParts ks
-NoParts (Opens c ∷ ks) = NoParts ks
+NoParts (Opens c ∷ ks) = NoCall c × NoParts ks
 NoParts (Builds c ∷ ks) = ⊥
 
 -- steps that are laid out in a block of this line: from these marks and this place to those marks and that place

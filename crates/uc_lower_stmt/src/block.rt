@@ -7,9 +7,9 @@ ghost use Rattle.uc_tree.specs.Cells.{classes_of, declared_cells, declarators_ce
 ghost use Rattle.uc_tree.specs.ExpressionSizes.{exprs_size};
 ghost use Rattle.uc_tree.specs.StatementSizes.{declarator_size, declarators_size, start_size};
 ghost use Rattle.uc_tree.specs.Expressions.{exprs_of};
-ghost use Rattle.uc_tree.specs.Objects.{APlain};
 ghost use Rattle.uc_resolve.specs.Resolve.{Context, args_meant, object_scoped, objects_scoped, with_all, with_declared};
-ghost use Rattle.uc_lower_stmt.specs.Blocks.{AllStandBehind, EndsScopes, innermost_in, scope_at, started_args};
+ghost use Rattle.uc_lower_expr.specs.Meanings.{is_mutex_at, making_by};
+ghost use Rattle.uc_lower_stmt.specs.Blocks.{AllStandBehind, EndsScopes, innermost_in, scope_at, scope_by, started_args};
 ghost use Rattle.uc_lower_stmt.specs.Marked.{taken};
 ghost use Rattle.uc_lower_stmt.specs.OpenScopes.{Lays};
 ghost use Rattle.uc_lower_stmt.specs.LowersStatement.{scope_of};
@@ -54,7 +54,7 @@ fn lower_object(
     requires room { taken out.old + OPS_FOR_SIZE * declarator_size declarator.now ≤ PROGRAM_OPS }
     requires cells { out.old.cells + declared_cells names.now base.now declarator.now ≤ FRAME_CELLS }
     requires behind { AllStandBehind names.now class out.old.marks }
-    ensures { OnOk result (Lays (OPS_FOR_SIZE * declarator_size declarator.now) 0 (declared_cells names.now base.now declarator.now) 1 0 block (object_scoped names.now (APlain class) line base.now declarator.now (scope_of out.old)) (with_declared names.now (scope_of out.old) base.now declarator.now) out.old out.new) }
+    ensures { OnOk result (Lays (OPS_FOR_SIZE * declarator_size declarator.now) 0 (declared_cells names.now base.now declarator.now) 1 0 block (object_scoped names.now (making_by class (is_mutex_at names.now class)) line base.now declarator.now (scope_of out.old)) (with_declared names.now (scope_of out.old) base.now declarator.now) out.old out.new) }
 {
     let cells = names.sizes().cells_of_variable(base, declarator) as u32;
     let cell = out.cells();
@@ -85,7 +85,7 @@ pub(crate) fn lower_objects(
     requires room { taken out.old + OPS_FOR_SIZE * declarators_size declarators.now ≤ PROGRAM_OPS }
     requires cells { out.old.cells + declarators_cells (declared_cells names.now base.now) declarators.now ≤ FRAME_CELLS }
     requires behind { AllStandBehind names.now class out.old.marks }
-    ensures { OnOk result (Lays (OPS_FOR_SIZE * declarators_size declarators.now) 0 (declarators_cells (declared_cells names.now base.now) declarators.now) (length declarators.now) 0 block (objects_scoped names.now (APlain class) line base.now declarators.now (scope_of out.old)) (with_all names.now (scope_of out.old) base.now declarators.now) out.old out.new) }
+    ensures { OnOk result (Lays (OPS_FOR_SIZE * declarators_size declarators.now) 0 (declarators_cells (declared_cells names.now base.now) declarators.now) (length declarators.now) 0 block (objects_scoped names.now (making_by class (is_mutex_at names.now class)) line base.now declarators.now (scope_of out.old)) (with_all names.now (scope_of out.old) base.now declarators.now) out.old out.new) }
 {
     for declarator in declarators {
         lower_object(alloc, names, class, base, declarator, line, block, out)?;
@@ -100,11 +100,25 @@ pub(crate) struct ObjectScope {
     line: u32,
 }
 
+// The scope with this clean-up. That of a mutex call ends with its routine.
+fn scope_by(what: Cleaning, line: u32) -> Option<ObjectScope>
+    ensures { result ≡ scope_by what line }
+{
+    match what {
+        Cleaning::Call(_) => Some(ObjectScope { what, line }),
+        Cleaning::TakeDown => Some(ObjectScope { what, line }),
+        Cleaning::Forget => Some(ObjectScope { what, line }),
+        Cleaning::Leave => None,
+        Cleaning::End => Some(ObjectScope { what, line }),
+        Cleaning::Free(_) => Some(ObjectScope { what, line }),
+    }
+}
+
 fn scope_at(mark: Mark) -> Option<ObjectScope>
     ensures { result ≡ scope_at mark }
 {
     match mark {
-        Mark::Clean { what, line, .. } => Some(ObjectScope { what, line }),
+        Mark::Clean { what, line, .. } => scope_by(what, line),
         Mark::Body { .. } => None,
         Mark::Finish { .. } => None,
         Mark::Loop { .. } => None,

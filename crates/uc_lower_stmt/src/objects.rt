@@ -1,35 +1,39 @@
 // Objects that are declared: each is built, and cleaned up at the end of its block.
 
-ghost use Rattle.std.specs.Prelude.{◌≡◌, ◌+◌, ◌*◌, ◌≤◌, ◌<◌, None, length, OnOk};
+ghost use Rattle.std.specs.Prelude.{◌≡◌, ◌+◌, ◌*◌, ◌≤◌, ◌<◌, None, false, drop, length, OnOk};
 ghost use Rattle.uc_tree.specs.declared.kinds.Role.TheVariants as role;
 ghost use Rattle.uc_tree.specs.declared.limits.TheConstants.{OPS_FOR_SIZE, PROGRAM_OPS};
 ghost use Rattle.uc_tree.specs.Expressions.{exprs_of};
 ghost use Rattle.uc_tree.specs.ExpressionSizes.{exprs_size};
-ghost use Rattle.uc_tree.specs.Cells.{class_cells, classes_of};
+ghost use Rattle.uc_tree.specs.Cells.{classes_of};
 ghost use Rattle.uc_tree.specs.Source.{Expr as Place};
-ghost use Rattle.uc_tree.specs.Objects.{APlain};
 ghost use Rattle.uc_resolve.specs.Resolve.{args_meant, build, clean_up, constructed};
 ghost use Rattle.uc_code.specs.declared.rows.Cleaning.TheVariants as cleaning;
-ghost use Rattle.uc_code.specs.Lowered.{CallBuilt, StmtAt, spot_op};
+ghost use Rattle.uc_code.specs.Lowered.{ArrivesAt, CallBuilt, CleanAt, PadAt, StmtAt, spot_op};
 ghost use Rattle.uc_code.specs.ObjectCalls.{BeginsAt, Cleans};
 ghost use Rattle.uc_code.specs.OpenRows.{StandsBehind, CleansBehind, clean_room};
 ghost use Rattle.uc_code.specs.Emits.{Puts};
 ghost use Rattle.uc_lower_expr.specs.DraftGrowth.{Adds, ExprCode};
 ghost use Rattle.uc_lower_expr.specs.Contexts.{context_in};
+ghost use Rattle.uc_lower_expr.specs.Meanings.{is_mutex_at, making_by};
 ghost use Rattle.uc_lower_expr.specs.Members.{routine_for};
-ghost use Rattle.uc_lower_stmt.specs.Objects.{ClosesPart, ClosesScope, FillCode, InPart, InScope, array_by, build_room, call_by, fill_room};
+ghost use Rattle.uc_lower_stmt.specs.Marked.{close_room};
+ghost use Rattle.uc_lower_stmt.specs.Objects.{ClosesPart, ClosesScope, FillCode, InCall, InPart, InScope, MadeCode, array_by, arrival_room, build_room, built_by, call_by, call_room, element_cells, ended_by, fill_room, free_op, frees, leaves, most_clean};
 
 use std::alloc::AllocError;
-use uc_code::cleaning::{clean_length, done_length, put_call, put_clean, put_done};
+use uc_code::cleaning::{clean_length, done_length, put_call, put_clean, put_done, put_exit};
 use uc_code::draft::Draft;
 use uc_code::op::Op;
-use uc_code::rows::{Array, Cleaning, ObjectCall, Opening, Spot};
+use uc_code::rows::{Array, Cleaning, Manner, ObjectCall, Opening, Spot, Way};
 use uc_lower_expr::expr::lower_args;
 use uc_lower_expr::numbering::ClassRoutine;
 use uc_lower_expr::program_names::ProgramNames;
 use uc_lower_expr::put::{put, put_at_risk};
 use uc_tree::expr::Expr;
 use uc_tree::laws::law_cells;
+
+// How many ops the pad of a mutex call has.
+const ARRIVAL: u32 = 13;
 
 // Where an object begins.
 fn spot_op(spot: Spot) -> Op
@@ -42,28 +46,59 @@ fn spot_op(spot: Spot) -> Op
 }
 
 // A call of a routine without arguments.
-fn call_by(routine: ClassRoutine, spot: Spot, array: Option<Array>) -> ObjectCall
-    ensures { result ≡ call_by routine spot array }
+fn call_by(routine: ClassRoutine, manner: Manner, spot: Spot, array: Option<Array>) -> ObjectCall
+    ensures { result ≡ call_by routine manner spot array }
 {
     ObjectCall {
         spot,
         array,
         routine: routine.number,
         written: routine.written,
+        manner,
     }
 }
 
-// The cells of an object of the class with this place.
+// How an object of the class with this place is built.
+fn built_by(class: usize, names: &ProgramNames) -> Manner
+    requires { class < length (classes_of names.now.items) }
+    ensures { result ≡ built_by names.now class (is_mutex_at names.now class) }
+{
+    if names.is_mutex(class) {
+        Manner::Makes {
+            class: names.class_number(class),
+        }
+    } else {
+        Manner::Plain
+    }
+}
+
+// How it is destroyed.
+fn ended_by(class: usize, names: &ProgramNames) -> Manner
+    requires { class < length (classes_of names.now.items) }
+    ensures { result ≡ ended_by (is_mutex_at names.now class) }
+{
+    if names.is_mutex(class) {
+        Manner::Ends
+    } else {
+        Manner::Plain
+    }
+}
+
+// The cells of an object of the class with this place where it lies; a mutex object is there by its number.
 fn cells_of(class: usize, names: &ProgramNames) -> u32
-    ensures { result ≡ class_cells names.now class }
+    ensures { result ≡ element_cells names.now class (is_mutex_at names.now class) }
 {
     names.fit();
-    names.sizes().cells_of_class(class) as u32
+    if names.is_mutex(class) {
+        1
+    } else {
+        names.sizes().cells_of_class(class) as u32
+    }
 }
 
 // The elements of an array of objects of the class with this place, if it is one.
 fn array_of(class: usize, elements: Option<u32>, names: &ProgramNames) -> Option<Array>
-    ensures { result ≡ array_by names.now class elements }
+    ensures { result ≡ array_by names.now class (is_mutex_at names.now class) elements }
 {
     match elements {
         Some(length) => Some(Array {
@@ -78,12 +113,37 @@ fn array_of(class: usize, elements: Option<u32>, names: &ProgramNames) -> Option
 /// spot.
 pub fn clean_call(class: usize, spot: Spot, elements: Option<u32>, names: &ProgramNames) -> Cleaning
     requires { class < length (classes_of names.now.items) }
-    ensures call { result ≡ cleaning.Call (call_by (routine_for names.now class role.Destructor) spot (array_by names.now class elements)) }
-    ensures cleans { (place : Place) → BeginsAt place spot → Cleans (clean_up names.now (APlain class) elements place) result }
+    ensures call { result ≡ cleaning.Call (call_by (routine_for names.now class role.Destructor) (ended_by (is_mutex_at names.now class)) spot (array_by names.now class (is_mutex_at names.now class) elements)) }
+    ensures cleans { (place : Place) → BeginsAt place spot → Cleans (clean_up names.now (making_by class (is_mutex_at names.now class)) elements place) result }
 {
     law_cells();
     let array = array_of(class, elements, names);
-    Cleaning::Call(call_by(names.destructor_of(class), spot, array))
+    Cleaning::Call(call_by(
+        names.destructor_of(class),
+        ended_by(class, names),
+        spot,
+        array,
+    ))
+}
+
+// A mutex object is made and its place bound to it, before its constructor builds it; other objects are there.
+fn put_made(
+    class: usize,
+    routine: u32,
+    line: u32,
+    names: &ProgramNames,
+    out: &mut Draft,
+) -> Result<(), AllocError>
+    requires class { class < length (classes_of names.now.items) }
+    requires room { length out.old.ops + 2 ≤ PROGRAM_OPS }
+    ensures { OnOk result (Adds 2 (MadeCode line (built_by names.now class (is_mutex_at names.now class)) routine) out.old out.new) }
+{
+    if names.is_mutex(class) {
+        let class = names.class_number(class);
+        put(Op::Make { class, routine }, line, out)?;
+        put(Op::BindMade { class, routine }, line, out)?;
+    }
+    Ok(())
 }
 
 /// Adds the code that builds an object of the class with this place, which begins in a spot. After want of memory the draft is
@@ -97,18 +157,20 @@ pub fn lower_construction(
     out: &mut Draft,
 ) -> Result<(), AllocError>
     requires class { class < length (classes_of names.now.items) }
-    requires room { length out.old.ops + OPS_FOR_SIZE * exprs_size (exprs_of args.now) + 3 ≤ PROGRAM_OPS }
-    requires behind { StandsBehind out.old.marks (call_by (routine_for names.now class role.Constructor) spot None) }
-    ensures room { OnOk result (length out.new.ops ≤ length out.old.ops + (OPS_FOR_SIZE * exprs_size (exprs_of args.now) + 3)) }
-    ensures code { OnOk result ((place : Place) → BeginsAt place spot → Adds (OPS_FOR_SIZE * exprs_size (exprs_of args.now) + 3) (ExprCode line out.old.marks (constructed names.now (APlain class) place (args_meant (context_in names.now out.old) (exprs_of args.now)))) out.old out.new) }
+    requires room { length out.old.ops + OPS_FOR_SIZE * exprs_size (exprs_of args.now) + 5 ≤ PROGRAM_OPS }
+    requires behind { StandsBehind out.old.marks (call_by (routine_for names.now class role.Constructor) (built_by names.now class (is_mutex_at names.now class)) spot None) }
+    ensures room { OnOk result (length out.new.ops ≤ length out.old.ops + (OPS_FOR_SIZE * exprs_size (exprs_of args.now) + 5)) }
+    ensures code { OnOk result ((place : Place) → BeginsAt place spot → Adds (OPS_FOR_SIZE * exprs_size (exprs_of args.now) + 5) (ExprCode line out.old.marks (constructed names.now (making_by class (is_mutex_at names.now class)) place (args_meant (context_in names.now out.old) (exprs_of args.now)))) out.old out.new) }
 {
     let routine = names.constructor_of(class);
     put(spot_op(spot), line, out)?;
     if routine.written {
         lower_args(names.params(routine.number), args, line, names, out)?;
         put(Op::Tick, line, out)?;
+        put_made(class, routine.number, line, names, out)?;
         put_at_risk(Op::CallOn(routine.number), line, out)?;
     } else {
+        put_made(class, routine.number, line, names, out)?;
         put_at_risk(Op::CallUnwritten(routine.number), line, out)?;
     }
     Ok(())
@@ -116,9 +178,9 @@ pub fn lower_construction(
 
 // The call that builds an element, before one more stands.
 fn put_built(builder: ObjectCall, line: u32, out: &mut Draft) -> Result<(), AllocError>
-    requires room { length out.old.ops + 7 ≤ PROGRAM_OPS }
+    requires room { length out.old.ops + 10 ≤ PROGRAM_OPS }
     requires behind { StandsBehind out.old.marks builder }
-    ensures { OnOk result (Puts 7 (λ code. CallBuilt code line builder out.old.marks) out.old out.new) }
+    ensures { OnOk result (Puts 10 (λ code. CallBuilt code line builder out.old.marks) out.old out.new) }
 {
     put_call(builder, line, out)?;
     put(Op::Discard, line, out)?;
@@ -175,9 +237,9 @@ pub fn lower_build(
 ) -> Result<(), AllocError>
     requires class { class < length (classes_of names.now.items) }
     requires room { length out.old.ops + OPS_FOR_SIZE * exprs_size (exprs_of args.now) + build_room elements ≤ PROGRAM_OPS }
-    requires builds { StandsBehind out.old.marks (call_by (routine_for names.now class role.Constructor) spot (array_by names.now class elements)) }
-    requires destroys { StandsBehind out.old.marks (call_by (routine_for names.now class role.Destructor) spot (array_by names.now class elements)) }
-    ensures { OnOk result ((place : Place) → BeginsAt place spot → Puts (OPS_FOR_SIZE * exprs_size (exprs_of args.now) + build_room elements) (λ code. StmtAt code out.old.marks (build names.now line (APlain class) elements place (args_meant (context_in names.now out.old) (exprs_of args.now)))) out.old out.new) }
+    requires builds { StandsBehind out.old.marks (call_by (routine_for names.now class role.Constructor) (built_by names.now class (is_mutex_at names.now class)) spot (array_by names.now class (is_mutex_at names.now class) elements)) }
+    requires destroys { StandsBehind out.old.marks (call_by (routine_for names.now class role.Destructor) (ended_by (is_mutex_at names.now class)) spot (array_by names.now class (is_mutex_at names.now class) elements)) }
+    ensures { OnOk result ((place : Place) → BeginsAt place spot → Puts (OPS_FOR_SIZE * exprs_size (exprs_of args.now) + build_room elements) (λ code. StmtAt code out.old.marks (build names.now line (making_by class (is_mutex_at names.now class)) elements place (args_meant (context_in names.now out.old) (exprs_of args.now)))) out.old out.new) }
 {
     match elements {
         None => {
@@ -188,28 +250,145 @@ pub fn lower_build(
         Some(count) => {
             law_cells();
             let array = array_of(class, elements, names);
-            let builder = call_by(names.constructor_of(class), spot, array);
-            let destroyer = call_by(names.destructor_of(class), spot, array);
+            let builder = call_by(
+                names.constructor_of(class),
+                built_by(class, names),
+                spot,
+                array,
+            );
+            let destroyer = call_by(
+                names.destructor_of(class),
+                ended_by(class, names),
+                spot,
+                array,
+            );
             put_fill(builder, destroyer, count, line, out)?;
             Ok(())
         }
     }
 }
 
-/// Ends the scope of the object of the innermost mark: it is cleaned up, and once more for unwinding. After want of memory the draft
-/// is spent.
+// Whether it is the building of a mutex object, which is given up where it is unwound.
+fn frees(what: Cleaning) -> bool
+    ensures { result ≡ frees what }
+{
+    match what {
+        Cleaning::Call(_) => false,
+        Cleaning::TakeDown => false,
+        Cleaning::Forget => false,
+        Cleaning::Leave => false,
+        Cleaning::End => false,
+        Cleaning::Free(_) => true,
+    }
+}
+
+// The op that ends the building of a mutex object; a task begins with its main.
+fn free_op(main: Option<u32>) -> Op
+    ensures { result ≡ free_op main }
+{
+    match main {
+        None => Op::Made,
+        Some(main) => Op::Spawn(main),
+    }
+}
+
+// The clean-up of a scope.
+fn put_cleaned(what: Cleaning, line: u32, out: &mut Draft) -> Result<(), AllocError>
+    requires room { length out.old.ops + most_clean what ≤ PROGRAM_OPS }
+    requires behind { CleansBehind out.old.marks what }
+    ensures { OnOk result (Puts (most_clean what) (λ code. CleanAt code line what out.old.marks) out.old out.new) }
+{
+    match what {
+        Cleaning::Call(_) => {
+            put_clean(what, line, out)?;
+            Ok(())
+        }
+        Cleaning::TakeDown => {
+            put(Op::UnwindCoroutine, line, out)?;
+            Ok(())
+        }
+        Cleaning::Forget => {
+            put(Op::Forget, line, out)?;
+            Ok(())
+        }
+        Cleaning::Leave => {
+            put_clean(what, line, out)?;
+            Ok(())
+        }
+        Cleaning::End => {
+            put(Op::Gone, line, out)?;
+            Ok(())
+        }
+        Cleaning::Free(main) => {
+            put(free_op(main), line, out)?;
+            Ok(())
+        }
+    }
+}
+
+// The pad of a scope that is unwound, but for that of a mutex call: its clean-up, and unwinding goes on.
+fn put_pad(what: Cleaning, line: u32, out: &mut Draft) -> Result<(), AllocError>
+    requires room { length out.old.ops + (most_clean what + 1) ≤ PROGRAM_OPS }
+    requires behind { CleansBehind out.old.marks what }
+    requires other { leaves what ≡ false }
+    ensures { OnOk result (Puts (most_clean what + 1) (λ code. PadAt code line what out.old.marks) out.old out.new) }
+{
+    if frees(what) {
+        put(Op::GiveUp, line, out)?;
+        put_at_risk(Op::Unwind, line, out)?;
+        return Ok(());
+    }
+    put_cleaned(what, line, out)?;
+    put_at_risk(Op::Unwind, line, out)?;
+    Ok(())
+}
+
+// The pad of a mutex call: where a return of a handler arrives it leaves its object and returns; else it leaves that, and unwinding goes
+// on.
+fn put_arrival(line: u32, out: &mut Draft) -> Result<(), AllocError>
+    requires call { InCall out.old.marks }
+    requires room { length out.old.ops + (clean_room + 7) ≤ PROGRAM_OPS }
+    ensures { OnOk result (Puts arrival_room (λ code. ArrivesAt code line out.old.marks) out.old out.new) }
+{
+    let arrived = out.here() + 7;
+    put(Op::Arrive(arrived), line, out)?;
+    put_clean(Cleaning::Leave, line, out)?;
+    put_at_risk(Op::Unwind, line, out)?;
+    put_clean(Cleaning::Leave, line, out)?;
+    put_exit(Way::Value, line, out)?;
+    Ok(())
+}
+
+/// Ends the mutex call whose object is that of the innermost mark: it leaves its object, also where it is unwound. After want of memory the
+/// draft is spent.
+pub(crate) fn close_call(line: u32, out: &mut Draft) -> Result<(), AllocError>
+    requires scope { InScope cleaning.Leave line out.old.marks }
+    requires call { InCall (drop 1 out.old.marks) }
+    requires room { length out.old.ops + (clean_room + 13) ≤ PROGRAM_OPS }
+    ensures { OnOk result (ClosesScope call_room cleaning.Leave line out.old out.new) }
+{
+    let end = out.here() + 6 + ARRIVAL;
+    out.close(6);
+    put_clean(Cleaning::Leave, line, out)?;
+    put(Op::Jump(end), line, out)?;
+    put_arrival(line, out)?;
+    Ok(())
+}
+
+/// Ends the scope of the object of the innermost mark, which is no mutex call: it is cleaned up, and once more for unwinding. After want
+/// of memory the draft is spent.
 pub fn close_scope(what: Cleaning, line: u32, out: &mut Draft) -> Result<(), AllocError>
     requires scope { InScope what line out.old.marks }
-    requires room { length out.old.ops + (2 * clean_room + 2) ≤ PROGRAM_OPS }
-    ensures { OnOk result (ClosesScope what line out.old out.new) }
+    requires other { leaves what ≡ false }
+    requires room { length out.old.ops + close_room what ≤ PROGRAM_OPS }
+    ensures { OnOk result (ClosesScope (close_room what) what line out.old out.new) }
 {
     let long = clean_length(what);
     let end = out.here() + 2 * long + 2;
     out.close(long + 1);
-    put_clean(what, line, out)?;
+    put_cleaned(what, line, out)?;
     put(Op::Jump(end), line, out)?;
-    put_clean(what, line, out)?;
-    put_at_risk(Op::Unwind, line, out)?;
+    put_pad(what, line, out)?;
     Ok(())
 }
 

@@ -30,7 +30,7 @@ use crate::declare::lower_declarators;
 use crate::guard::lower_try;
 use crate::print::{lower_items, lower_targets, lower_together};
 use crate::raise::{lower_raise, lower_throw};
-use crate::switching::put_switch;
+use crate::switching::{put_switch, put_yield};
 use crate::turning::Turning;
 use std::alloc::{AllocError, Global};
 use uc_code::cleaning::put_exit;
@@ -129,7 +129,11 @@ pub fn lower_stmt(
             lower_return(value, line, names, out)?;
             Ok(())
         }
-        StmtForm::Empty | StmtForm::Yield => Ok(()),
+        StmtForm::Empty => Ok(()),
+        StmtForm::Yield => {
+            put_yield(line, out)?;
+            Ok(())
+        }
         StmtForm::Try {
             brace,
             body,
@@ -204,7 +208,6 @@ fn lower_next(
     requires texts { out.old.texts + stmt_size s.now ≤ PROGRAM_SIZE }
     ensures { OnOk result (LaysStmt names.now line s.now out.old out.new) }
 {
-    names.fit();
     match declared_in(&s.form, names) {
         Some(declared) => {
             lower_objects(
@@ -238,7 +241,7 @@ fn declared_in<'a>(form: &'a StmtForm, names: &ProgramNames) -> Option<Objects<'
     ensures { (pos : Pos) → DeclaresObjects names.now (stmt_at pos form.now) result }
 {
     match form {
-        StmtForm::Declare { base, declarators } => match names.sizes().plain_class(base) {
+        StmtForm::Declare { base, declarators } => match names.sizes().class_made(base) {
             Some(class) => Some(Objects {
                 class,
                 base,
@@ -288,8 +291,7 @@ fn lower_declaration(
     requires cells { out.old.cells + declarators_cells (declared_cells names.now base.now) declarators.now ≤ FRAME_CELLS }
     ensures { OnOk result (LowersDeclaration names.now line base.now declarators.now out.old out.new) }
 {
-    names.fit();
-    match names.sizes().plain_class(base) {
+    match names.sizes().class_made(base) {
         Some(class) => {
             let depth = out.marks().len();
             lower_objects(alloc, names, class, base, declarators, line, line, out)?;
@@ -577,8 +579,7 @@ fn lower_for_declaration(
     requires cells { out.old.cells + declarators_cells (declared_cells names.now base.now) declarators.now ≤ FRAME_CELLS }
     ensures { OnOk result (LaysDeclaration names.now line line base.now declarators.now out.old out.new) }
 {
-    names.fit();
-    match names.sizes().plain_class(base) {
+    match names.sizes().class_made(base) {
         Some(class) => {
             lower_objects(alloc, names, class, base, declarators, line, line, out)?;
             Ok(())

@@ -22,3 +22,13 @@ pub(crate) fn put_switch(op: Op, line: u32, out: &mut Draft) -> Result<(), Alloc
     put_poll(line, out)?;
     Ok(())
 }
+
+/// Adds the op that lets others run, behind which the task is delivered events. After want of memory the draft is spent.
+pub(crate) fn put_yield(line: u32, out: &mut Draft) -> Result<(), AllocError>
+    requires { length out.old.ops + 5 ≤ PROGRAM_OPS }
+    ensures { OnOk result (Puts 5 (λ code. Both (One code Op.Yield line) (PollAt code out.old.marks line)) out.old out.new) }
+{
+    put(Op::Yield, line, out)?;
+    put_poll(line, out)?;
+    Ok(())
+}

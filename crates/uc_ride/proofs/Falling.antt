@@ -1,5 +1,5 @@
 -- What an event leads to leaves less to do.
-use Rattle.std.proofs.Common.{◌≡◌, ℕ, ◌+◌, ◌^◌, ◌<◌, List, [], ◌∷◌, length, ◌⊎◌, inl, inr, Option, Some, None, Bool, true, false, refl, sym, ap, subst, ◌∙◌}
+use Rattle.std.proofs.Common.{◌≡◌, ℕ, ◌+◌, ◌^◌, ◌<◌, List, [], ◌∷◌, length, ◌⊎◌, inl, inr, Option, Some, None, Bool, true, false, refl, sym, ap, subst, ◌∙◌, arith}
 use Rattle.std.specs.Prelude.{◌&&◌, nat_eq, slice_get, if◌then◌else◌}
 use Rattle.std.proofs.lemmas.Bool.{eq-eqb}
 use Rattle.uc_machine.specs.declared.exec.Reason.{Reason}
@@ -12,7 +12,7 @@ use Rattle.uc_code.specs.declared.rows.RowKind.{RowKind}
 use Rattle.uc_code.specs.declared.rows.RowKind.TheVariants as kind
 use Rattle.uc_code.specs.Codes.{Code}
 use Rattle.uc_code.specs.Layout.{laid_of, chain}
-use Rattle.uc_code.specs.Pace.{IsPaced}
+use Rattle.uc_code.specs.Pace.{burden, In, IsPaced}
 use Rattle.uc_frames.specs.declared.cell.Cell.{Cell}
 use Rattle.uc_frames.specs.declared.event.Event.{Event}
 use Rattle.uc_frames.specs.declared.search.Sought.TheVariants.{Catch, Stop}
@@ -22,14 +22,14 @@ use Rattle.uc_frames.specs.Machine.{Active, Machine, nought}
 use Rattle.uc_frames.specs.Searches.{catches, row_takes, is_found, is_named, first_in}
 use Rattle.uc_frames.specs.Unwinding.{passed}
 use Rattle.uc_frames.specs.Weight.{waits}
-use Rattle.uc_frames.proofs.Keeps.{returns_below}
+use Rattle.uc_frames.proofs.Keeps.{Moves, goes, returns_below}
 use Rattle.uc_frames.proofs.Landing.{first_among, lands, tested_over, tested_on, passes, passes_less, leaves_unwound, may_leave, unwound_as}
 use Rattle.uc_except.specs.declared.found.Found.TheVariants.{Handler}
 use Rattle.uc_except.specs.Handling.{thrown, handled_at, handled_by, resumed_by, handler_begun}
 use Rattle.uc_coroutine.specs.declared.leaving.Left.{Left}
 use Rattle.uc_coroutine.specs.declared.leaving.Left.TheVariants as leave
 use Rattle.uc_coroutine.specs.declared.testing.TaskMainEnd.TheVariants as end
-use Rattle.uc_coroutine.specs.MainEnds.{block_over, main_by, main_over}
+use Rattle.uc_coroutine.specs.MainEnds.{block_over, call_over, main_by, main_over}
 use Rattle.uc_coroutine.specs.Unwinding.{point_in, cleaned_by, passed_on, step_by, step_of, Made, ending_by, passed_for, passed_as, left_as, past_of}
 use Rattle.uc_step.specs.WeightFalls.{RunLowers}
 use Rattle.uc_ride.specs.UnwindingFalls.{left_in, Entered}
@@ -172,6 +172,29 @@ module _ (code : Code) (w : ℕ) where
         tested_on (laid_of code) code.routines w g.old n g.below g.row g.entry p.0 (λ t i. (t.each g.entry.row.entry (record { op = op.Handled; line = line }) i here).1)
         (ap (λ (y : Machine). y.callers) b ∙ g.callers) (ap (λ (y : Machine). y.run.control) b ∙ behind) (ap (λ (y : Machine). y.run.elements) b ∙ g.elements) (ap (λ (y : Machine). y.run.handles) b ∙ g.handles) (ap (λ (y : Machine). y.run.counts) b ∙ g.counts) g.few in
         (u.below, subst (λ k. left_in code n < k) g.is u.less)
+
+  -- the test at the end of a mutex call, whether or not a return arrives
+
+  less_then : (x y z : ℕ) → x < y → y < z → x < z
+  less_then x y z l h = omega arith
+
+  module _ (paced : IsPaced (laid_of code) code.routines) (left : ℕ) (m n : Machine) (g : Entered code w left m) (to line : ℕ) (is : slice_get code.ops m.run.control ≡ Some (record { op = op.Arrive to; line = line })) where
+    arrived_goes : (x : ℕ) → n.run.control ≡ x → n.callers ≡ m.callers → n.run.elements ≡ m.run.elements → n.run.handles ≡ m.run.handles → n.run.counts ≡ m.run.counts → ((e : ℕ) → burden code.ops x e < burden code.ops m.run.control e) → Moves (laid_of code) code.routines m.run.control x → RunLowers code w n
+    arrived_goes x p c i h k l s =
+        let k0 = entered_goes left m g in
+        let b : burden code.ops n.run.control n.run.elements < burden code.ops m.run.control m.run.elements = rw (p, i) (l m.run.elements) in
+        let v = goes (laid_of code) code.routines m n c h k b (λ t j. subst (λ y. In (laid_of code) code.routines t.from t.to y) (sym p) (s t j)) k0.1 in
+        (less_then _ _ w v.0 k0.0, v.1)
+
+    pub call_goes : (over : Bool) → n ≡ call_over over to (m.run.control + 1) m → RunLowers code w n
+    call_goes true b =
+        let p = paced.each m.run.control (record { op = op.Arrive to; line = line }) is in
+        arrived_goes to (ap (λ (y : Machine). y.run.control) b) (ap (λ (y : Machine). y.callers) b) (ap (λ (y : Machine). y.run.elements) b) (ap (λ (y : Machine). y.run.handles) b) (ap (λ (y : Machine). y.run.counts) b) p.0
+        (λ t i. (t.each m.run.control (record { op = op.Arrive to; line = line }) i is).0)
+    call_goes false b =
+        let p = paced.each m.run.control (record { op = op.Arrive to; line = line }) is in
+        arrived_goes (m.run.control + 1) (ap (λ (y : Machine). y.run.control) b) (ap (λ (y : Machine). y.callers) b) (ap (λ (y : Machine). y.run.elements) b) (ap (λ (y : Machine). y.run.handles) b) (ap (λ (y : Machine). y.run.counts) b) p.1
+        (λ t i. (t.each m.run.control (record { op = op.Arrive to; line = line }) i is).1)
 
   -- the one that waits goes on
 

@@ -26,24 +26,25 @@ use Rattle.uc_code.specs.Lowered.{Lowered}
 use Rattle.uc_frames.specs.declared.event.Event.{Event}
 use Rattle.uc_frames.specs.declared.cell.Cell.{Cell}
 use Rattle.uc_frames.specs.Machine.{Active, Machine, cell_of, line_at}
-use Rattle.uc_frames.specs.UnwindingStands.{raised_as, Unwinds, TestsBlock, EndsMain, LeavesNow, Raises, Throws, Returns}
+use Rattle.uc_frames.specs.Stands.{Stands}
+use Rattle.uc_frames.specs.UnwindingStands.{raised_as, Unwinds, TestsBlock, TestsCall, EndsMain, LeavesNow, Raises, Throws, Returns}
 use Rattle.uc_frames.proofs.Finishes.{main_line}
 use Rattle.uc_coroutine.specs.declared.leaving.Left.{Left}
 use Rattle.uc_coroutine.specs.declared.leaving.Left.TheVariants as left
 use Rattle.uc_coroutine.specs.declared.testing.TaskMainEnd.{TaskMainEnd}
 use Rattle.uc_coroutine.specs.declared.testing.TaskMainEnd.TheVariants as end
 use Rattle.uc_coroutine.specs.MainEnds.{BlockLeft, MainLeft}
-use Rattle.uc_coroutine.specs.UnwindingSteps.{ReturnsPast, Begins, LeftAs}
+use Rattle.uc_coroutine.specs.UnwindingSteps.{ReturnsPast, Leads, Begins, LeftAs}
 use Rattle.uc_coroutine.specs.Switching.{SwitchedAs}
-use Rattle.uc_coroutine.specs.Unwinding.{Made, past_of}
+use Rattle.uc_coroutine.specs.Unwinding.{Made, past_of, left_as}
 use Rattle.uc_except.specs.Handling.{GoesOn, UnwindsNow}
 use Rattle.uc_step.specs.declared.stepped.Stepped.{Stepped}
 use Rattle.uc_step.specs.declared.stepped.Stepped.TheVariants.{Quiet, Tick, Ask, Throw, Raise, Unwind, Past, Resume, Suspend, TakeDown, EndMain, Astray}
-use Rattle.uc_step.specs.Simulation.{behind_line, Follow}
-use Rattle.uc_step.proofs.Apart.{no_test, no_end, no_coroutine_end}
+use Rattle.uc_step.specs.Simulation.{behind_line, HandStands, Follow}
+use Rattle.uc_step.proofs.Apart.{no_test, no_arrival, no_end, no_coroutine_end}
 use Rattle.uc_step.proofs.Simulates.{lines}
-use Rattle.uc_ride.specs.declared.events.Test.TheVariants.{Block, Task, Coroutine, Nothing}
-use Rattle.uc_ride.specs.UnwindingFalls.{how_ended, stop_by, test_by}
+use Rattle.uc_ride.specs.declared.events.Test.TheVariants.{Block, Task, Coroutine, Call, Nothing}
+use Rattle.uc_ride.specs.UnwindingFalls.{stop_by, test_by}
 
 true_false : true ≡ false → ⊥
 true_false e = absurd (cc)
@@ -134,7 +135,14 @@ other_op a b x y o e f =
     let h : i ≡ j = cc in
     ap (λ (k : Instruction). k.op) h
 
--- an op that tests a block, and one that ends a main
+-- an op that tests a block, one that tests a mutex call, and one that ends a main
+arrival_is : (to : ℕ) → op.Handled ≡ op.Arrive to → ⊥
+arrival_is to e = absurd (cc)
+
+main_apart : (to : ℕ) (whose : MainOf) → op.Arrive to ≡ main_left whose → ⊥
+main_apart to main_of.Task e = absurd (cc)
+main_apart to main_of.Coroutine e = absurd (cc)
+
 main_is : (whose : MainOf) → op.Handled ≡ main_left whose → ⊥
 main_is main_of.Task e = absurd (cc)
 main_is main_of.Coroutine e = absurd (cc)
@@ -159,6 +167,13 @@ coroutine_op : (o : Op) → test_by o ≡ Coroutine → o ≡ op.Escape
 coroutine_op op.Escape e = refl
 coroutine_op _ e = absurd (cc e)
 
+call_op : (o : Op) (to : ℕ) → test_by o ≡ Call to → o ≡ op.Arrive to
+call_op (op.Arrive k) to e = let i : k ≡ to = cc in ap op.Arrive i
+call_op _ to e = absurd (cc e)
+
+no_call : (to : ℕ) → Nothing ≡ Call to → ⊥
+no_call to e = absurd (cc)
+
 no_coroutine : Nothing ≡ Coroutine → ⊥
 no_coroutine e = absurd (cc)
 
@@ -173,6 +188,9 @@ same_op p i o e f = e ∙ ap (λ (k : Op). let j : Instruction = record { op = k
 
 pub at_block : (i : Instruction) (o : Option Instruction) → o ≡ Some i → test_by i.op ≡ Block → o ≡ Some (record { op = op.Handled; line = i.line })
 at_block i o e t = same_op op.Handled i o e (block_op i.op t)
+
+pub at_call : (to : ℕ) (i : Instruction) (o : Option Instruction) → o ≡ Some i → test_by i.op ≡ Call to → o ≡ Some (record { op = op.Arrive to; line = i.line })
+at_call to i o e t = same_op (op.Arrive to) i o e (call_op i.op to t)
 
 pub at_main : (i : Instruction) (o : Option Instruction) → o ≡ Some i → test_by i.op ≡ Task → o ≡ Some (record { op = op.Unhandled; line = i.line })
 at_main i o e t = same_op op.Unhandled i o e (main_op i.op t)
@@ -192,10 +210,11 @@ asked_now code r line m n a e f = sym (f ∙ ap (λ (x : Machine). let b : Asked
 
 module _ (source : Source) (code : Code) (low : Lowered source code) (m n : Machine) (s : State) where
   -- a clean-up, where the op is no test
-  cleans : ((line : ℕ) → slice_get code.ops m.run.control ≡ Some (record { op = op.Handled; line = line }) → ⊥) → ((whose : MainOf) (line : ℕ) → slice_get code.ops m.run.control ≡ Some (record { op = main_left whose; line = line }) → ⊥) → Begins source (laid_of code) m s → Follow (laid_of code) source Quiet m s
-  cleans f g (inl l) = (l.after, l.by, l.stands)
-  cleans f g (inr (inl l)) = absurd (f (own_line l.stands.run.rest) l.stands.run.tests.here.here)
-  cleans f g (inr (inr (whose, l))) = absurd (g whose (own_line l.stands.run.rest) l.stands.run.ends.here)
+  cleans : ((line : ℕ) → slice_get code.ops m.run.control ≡ Some (record { op = op.Handled; line = line }) → ⊥) → ((to line : ℕ) → slice_get code.ops m.run.control ≡ Some (record { op = op.Arrive to; line = line }) → ⊥) → ((whose : MainOf) (line : ℕ) → slice_get code.ops m.run.control ≡ Some (record { op = main_left whose; line = line }) → ⊥) → Begins source (laid_of code) m s → Follow (laid_of code) source Quiet m s
+  cleans f a g (inl l) = (l.after, l.by, l.stands)
+  cleans f a g (inr (inl l)) = absurd (f (own_line l.stands.run.rest) l.stands.run.tests.here.here)
+  cleans f a g (inr (inr (inl l))) = absurd (a l.stands.run.pad.arrived (own_line l.stands.run.rest) l.stands.run.pad.arrives.here)
+  cleans f a g (inr (inr (inr (whose, l)))) = absurd (g whose (own_line l.stands.run.rest) l.stands.run.ends.here)
 
   no_end_by : (i : Instruction) → slice_get code.ops m.run.control ≡ Some i → test_by i.op ≡ Nothing → (whose : MainOf) (line : ℕ) → slice_get code.ops m.run.control ≡ Some (record { op = main_left whose; line = line }) → ⊥
   no_end_by i is t main_of.Task line e = no_main (sym t ∙ ap test_by (other_op i.op op.Unhandled i.line line (slice_get code.ops m.run.control) is e))
@@ -203,10 +222,12 @@ module _ (source : Source) (code : Code) (low : Lowered source code) (m n : Mach
 
   pub cleans_by : (i : Instruction) → slice_get code.ops m.run.control ≡ Some i → test_by i.op ≡ Nothing → Begins source (laid_of code) m s → Follow (laid_of code) source Quiet m s
   cleans_by i is t =
-      cleans (λ line e. no_block (sym t ∙ ap test_by (other_op i.op op.Handled i.line line (slice_get code.ops m.run.control) is e))) (no_end_by i is t)
+      cleans (λ line e. no_block (sym t ∙ ap test_by (other_op i.op op.Handled i.line line (slice_get code.ops m.run.control) is e)))
+      (λ to line e. no_call to (sym t ∙ ap test_by (other_op i.op (op.Arrive to) i.line line (slice_get code.ops m.run.control) is e))) (no_end_by i is t)
 
   pub cleans_no : slice_get code.ops m.run.control ≡ None → Begins source (laid_of code) m s → Follow (laid_of code) source Quiet m s
-  cleans_no q = cleans (λ line e. no_op op.Handled line (slice_get code.ops m.run.control) q e) (λ whose line e. no_op (main_left whose) line (slice_get code.ops m.run.control) q e)
+  cleans_no q =
+      cleans (λ line e. no_op op.Handled line (slice_get code.ops m.run.control) q e) (λ to line e. no_op (op.Arrive to) line (slice_get code.ops m.run.control) q e) (λ whose line e. no_op (main_left whose) line (slice_get code.ops m.run.control) q e)
 
   -- the test at the end of a block
   module _ (line : ℕ) (is : slice_get code.ops m.run.control ≡ Some (record { op = op.Handled; line = line })) where
@@ -221,7 +242,16 @@ module _ (source : Source) (code : Code) (low : Lowered source code) (m n : Mach
     pub tests : (over : Bool) → ((t : State) → TestsBlock (laid_of code) m t → BlockLeft source (laid_of code) over n t) → Begins source (laid_of code) m s → Follow (laid_of code) source (tested over) n s
     tests over f (inl l) = absurd (no_test source code low m l.after l.stands line is)
     tests over f (inr (inl l)) = tested_by over l.after l.by (f l.after l.stands)
-    tests over f (inr (inr (whose, l))) = absurd (main_is whose (other_op op.Handled (main_left whose) line (own_line l.stands.run.rest) (slice_get code.ops m.run.control) is l.stands.run.ends.here))
+    tests over f (inr (inr (inl l))) = absurd (arrival_is l.stands.run.pad.arrived (other_op op.Handled (op.Arrive l.stands.run.pad.arrived) line (own_line l.stands.run.rest) (slice_get code.ops m.run.control) is l.stands.run.pad.arrives.here))
+    tests over f (inr (inr (inr (whose, l)))) = absurd (main_is whose (other_op op.Handled (main_left whose) line (own_line l.stands.run.rest) (slice_get code.ops m.run.control) is l.stands.run.ends.here))
+
+  -- the test at the end of a mutex call
+  module _ (to line : ℕ) (is : slice_get code.ops m.run.control ≡ Some (record { op = op.Arrive to; line = line })) where
+    pub calls : ((t : State) → TestsCall (laid_of code) m t → Leads source (laid_of code) (Stands (laid_of code)) n t) → Begins source (laid_of code) m s → Follow (laid_of code) source Quiet n s
+    calls f (inl l) = absurd (no_arrival source code low m l.after l.stands line to is)
+    calls f (inr (inl l)) = absurd (arrival_is to (other_op op.Handled (op.Arrive to) (own_line l.stands.run.rest) line (slice_get code.ops m.run.control) l.stands.run.tests.here.here is))
+    calls f (inr (inr (inl l))) = let u = f l.after l.stands in (u.after, then_quietly l.by u.by, u.stands)
+    calls f (inr (inr (inr (whose, l)))) = absurd (main_apart to whose (other_op (op.Arrive to) (main_left whose) line (own_line l.stands.run.rest) (slice_get code.ops m.run.control) is l.stands.run.ends.here))
 
   -- the op that ends a main, and its line
   module _ (whose : MainOf) (line : ℕ) (is : slice_get code.ops m.run.control ≡ Some (record { op = main_left whose; line = line })) where
@@ -248,6 +278,9 @@ module _ (source : Source) (code : Code) (low : Lowered source code) (m n : Mach
     no_block_here : (l : ℕ) → slice_get code.ops m.run.control ≡ Some (record { op = op.Handled; line = l }) → ⊥
     no_block_here l e = main_is whose (sym (other_op (main_left whose) op.Handled line l (slice_get code.ops m.run.control) is e))
 
+    no_call_here : (to l : ℕ) → slice_get code.ops m.run.control ≡ Some (record { op = op.Arrive to; line = l }) → ⊥
+    no_call_here to l e = main_apart to whose (sym (other_op (main_left whose) (op.Arrive to) line l (slice_get code.ops m.run.control) is e))
+
   -- the end of the main of a task
   module _ (line : ℕ) (is : slice_get code.ops m.run.control ≡ Some (record { op = op.Unhandled; line = line })) where
     abbrev ended : TaskMainEnd → Stepped
@@ -257,7 +290,7 @@ module _ (source : Source) (code : Code) (low : Lowered source code) (m n : Mach
     ended end.HeldUp = Ask (asks_by main_of.Task line is (ask.Fault (fault_number BlockedInside)))
 
     ended_by : (e : TaskMainEnd) (t : State) → Quietly source s t → line_at code.ops line m.callers ≡ line_of t → MainLeft source (laid_of code) e n t → Follow (laid_of code) source (ended e) n s
-    ended_by end.Ended t q l x = (x.before, x.after, ask.End, then_quietly q x.by, x.asks, asked_as main_of.Task line is ask.End (line_of x.before) (l ∙ sym x.line), tt)
+    ended_by end.Ended t q l x = (x.before, x.after, ask.End, then_quietly q x.by, x.asks, asked_as main_of.Task line is ask.End (line_of x.before) (l ∙ sym x.line), x.hand)
     ended_by end.Returned t q l x = (x.after, then_quietly q x.by, x.stands)
     ended_by end.Unhandled t q l x = (t, x.after, ask.Fault (fault_number Unhandled), q, x.asks, asked_as main_of.Task line is (ask.Fault (fault_number Unhandled)) (line_of t) l, tt)
     ended_by end.HeldUp t q l x = (x.before, x.after, ask.Fault (fault_number BlockedInside), then_quietly q x.by, x.asks, asked_as main_of.Task line is (ask.Fault (fault_number BlockedInside)) (line_of x.before) (l ∙ sym x.line), tt)
@@ -265,8 +298,9 @@ module _ (source : Source) (code : Code) (low : Lowered source code) (m n : Mach
     pub ends : (e : TaskMainEnd) → ((t : State) → EndsMain (laid_of code) main_of.Task m t → MainLeft source (laid_of code) e n t) → Begins source (laid_of code) m s → Follow (laid_of code) source (ended e) n s
     ends e f (inl l) = absurd (no_end source code low m l.after l.stands line is)
     ends e f (inr (inl l)) = absurd (no_block_here main_of.Task line is (own_line l.stands.run.rest) l.stands.run.tests.here.here)
-    ends e f (inr (inr (main_of.Task, l))) = ended_by e l.after l.by (same_line main_of.Task line is l.after l.stands) (f l.after l.stands)
-    ends e f (inr (inr (main_of.Coroutine, l))) = absurd (task_is (other_op op.Escape op.Unhandled (own_line l.stands.run.rest) line (slice_get code.ops m.run.control) l.stands.run.ends.here is))
+    ends e f (inr (inr (inl l))) = absurd (no_call_here main_of.Task line is l.stands.run.pad.arrived (own_line l.stands.run.rest) l.stands.run.pad.arrives.here)
+    ends e f (inr (inr (inr (main_of.Task, l)))) = ended_by e l.after l.by (same_line main_of.Task line is l.after l.stands) (f l.after l.stands)
+    ends e f (inr (inr (inr (main_of.Coroutine, l)))) = absurd (task_is (other_op op.Escape op.Unhandled (own_line l.stands.run.rest) line (slice_get code.ops m.run.control) l.stands.run.ends.here is))
 
   -- the main of a coroutine is left
   module _ (line : ℕ) (is : slice_get code.ops m.run.control ≡ Some (record { op = op.Escape; line = line })) where
@@ -281,8 +315,9 @@ module _ (source : Source) (code : Code) (low : Lowered source code) (m n : Mach
     pub leaves_coroutine : (o : Option RunFault) → ((t : State) → EndsMain (laid_of code) main_of.Coroutine m t → SwitchedAs source (laid_of code) o n t) → Begins source (laid_of code) m s → Follow (laid_of code) source (left_by o) n s
     leaves_coroutine o f (inl l) = absurd (no_coroutine_end source code low m l.after l.stands line is)
     leaves_coroutine o f (inr (inl l)) = absurd (no_block_here main_of.Coroutine line is (own_line l.stands.run.rest) l.stands.run.tests.here.here)
-    leaves_coroutine o f (inr (inr (main_of.Coroutine, l))) = switched_by o l.after l.by (same_line main_of.Coroutine line is l.after l.stands) (f l.after l.stands)
-    leaves_coroutine o f (inr (inr (main_of.Task, l))) = absurd (coroutine_is (other_op op.Unhandled op.Escape (own_line l.stands.run.rest) line (slice_get code.ops m.run.control) l.stands.run.ends.here is))
+    leaves_coroutine o f (inr (inr (inl l))) = absurd (no_call_here main_of.Coroutine line is l.stands.run.pad.arrived (own_line l.stands.run.rest) l.stands.run.pad.arrives.here)
+    leaves_coroutine o f (inr (inr (inr (main_of.Coroutine, l)))) = switched_by o l.after l.by (same_line main_of.Coroutine line is l.after l.stands) (f l.after l.stands)
+    leaves_coroutine o f (inr (inr (inr (main_of.Task, l)))) = absurd (coroutine_is (other_op op.Unhandled op.Escape (own_line l.stands.run.rest) line (slice_get code.ops m.run.control) l.stands.run.ends.here is))
 
 -- a switch, from a state to which quiet steps lead
 
@@ -290,17 +325,15 @@ module _ (source : Source) (code : Code) (m n : Machine) (s t : State) (p : Quie
   pub switch_leads : SwitchedAs source (laid_of code) None n t → Follow (laid_of code) source Quiet n s
   switch_leads x = (x.after, then_quietly p x.by, x.stands)
 
-  switch_stops : (f : RunFault) (a : Asked) → n ≡ m → behind_line (laid_of code) m ≡ line_of t → a ≡ record { request = ask.Fault (fault_number f); line = behind_line (laid_of code) n } → SwitchedAs source (laid_of code) (Some f) n t → Follow (laid_of code) source (Ask a) n s
-  switch_stops f a e l i x =
+  switch_stops : (f : RunFault) → n ≡ m → behind_line (laid_of code) m ≡ line_of t → SwitchedAs source (laid_of code) (Some f) n t → Follow (laid_of code) source (stop_by (behind_line (laid_of code) n) (Some f)) n s
+  switch_stops f e l x =
       let k : behind_line (laid_of code) n ≡ line_of x.before = ap (behind_line (laid_of code)) e ∙ (l ∙ sym x.line) in
-      (x.before, x.after, ask.Fault (fault_number f), then_quietly p x.by, x.asks, i ∙ ap (λ (y : ℕ). let b : Asked = record { request = ask.Fault (fault_number f); line = y } in b) k, tt)
+      (x.before, x.after, ask.Fault (fault_number f), then_quietly p x.by, x.asks, ap (λ (y : ℕ). let b : Asked = record { request = ask.Fault (fault_number f); line = y } in b) k, tt)
 
   -- whether or not it is a fault
-  pub switch_settles : (o : Option RunFault) (a : Option Asked) → ((f : RunFault) → Some f ≡ o → n ≡ m) → behind_line (laid_of code) m ≡ line_of t → a ≡ stop_by (behind_line (laid_of code) n) o → SwitchedAs source (laid_of code) o n t → Follow (laid_of code) source (how_ended a) n s
-  switch_settles None a g l i x = subst (λ (y : Option Asked). Follow (laid_of code) source (how_ended y) n s) (sym i) (switch_leads x)
-  switch_settles (Some f) a g l i x =
-      let b : Asked = record { request = ask.Fault (fault_number f); line = behind_line (laid_of code) n } in
-      subst (λ (y : Option Asked). Follow (laid_of code) source (how_ended y) n s) (sym i) (switch_stops f b (g f refl) l refl x)
+  pub switch_settles : (o : Option RunFault) (how : Stepped) → ((f : RunFault) → Some f ≡ o → n ≡ m) → behind_line (laid_of code) m ≡ line_of t → how ≡ stop_by (behind_line (laid_of code) n) o → SwitchedAs source (laid_of code) o n t → Follow (laid_of code) source how n s
+  switch_settles None how g l i x = subst (λ h. Follow (laid_of code) source h n s) (sym i) (switch_leads x)
+  switch_settles (Some f) how g l i x = subst (λ h. Follow (laid_of code) source h n s) (sym i) (switch_stops f (g f refl) l x)
 
 -- an activation is left
 
@@ -321,8 +354,8 @@ module _ (source : Source) (code : Code) (m n : Machine) (s : State) where
   as_asked : (r : Request) → line_at code.ops 0 m.callers ≡ line_of s → asks_now r ≡ record { request = r; line = line_of s }
   as_asked r e = ap (λ (x : ℕ). let a : Asked = record { request = r; line = x } in a) e
 
-  pub leaves : (l : Left) → LeavesNow (laid_of code) m s → LeftAs source (laid_of code) l n s → Follow (laid_of code) source (left_how l) n s
-  leaves left.Ended h x = (s, s, ask.End, stay, x, as_asked ask.End (no_line h), tt)
-  leaves left.Returned h x = (x.after, more x.by stay, x.stands)
-  leaves left.Escaped h x = (s, s, ask.Fault (fault_number EscapeInUnwind), stay, x, as_asked (ask.Fault (fault_number EscapeInUnwind)) (no_line h), tt)
-  leaves left.PassedOn h x = (x.after, more x.by stay, x.stands)
+  pub leaves : (l : Left) → LeavesNow (laid_of code) m s → n ≡ left_as l m → LeftAs source (laid_of code) l n s → Follow (laid_of code) source (left_how l) n s
+  leaves left.Ended h e x = (s, s, ask.End, stay, x, as_asked ask.End (no_line h), subst (λ (y : Machine). HandStands (laid_of code) y s) (sym e) h.env.hand)
+  leaves left.Returned h e x = (x.after, more x.by stay, x.stands)
+  leaves left.Escaped h e x = (s, s, ask.Fault (fault_number EscapeInUnwind), stay, x, as_asked (ask.Fault (fault_number EscapeInUnwind)) (no_line h), tt)
+  leaves left.PassedOn h e x = (x.after, more x.by stay, x.stands)

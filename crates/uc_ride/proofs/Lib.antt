@@ -1,3 +1,4 @@
+pub mod Children
 pub mod Falling
 pub mod Leading
 pub mod Riding

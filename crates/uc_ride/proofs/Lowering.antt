@@ -28,14 +28,14 @@ use Rattle.uc_except.specs.declared.found.Found.TheVariants.{Handler}
 use Rattle.uc_except.specs.Handling.{thrown, handler_begun}
 use Rattle.uc_coroutine.specs.declared.leaving.Left.TheVariants as leave
 use Rattle.uc_coroutine.specs.declared.testing.TaskMainEnd.TheVariants as end
-use Rattle.uc_coroutine.specs.MainEnds.{block_over, main_by, main_over}
+use Rattle.uc_coroutine.specs.MainEnds.{block_over, call_over, main_by, main_over}
 use Rattle.uc_coroutine.specs.Switching.{fault_in, state_in, left_by}
 use Rattle.uc_coroutine.specs.Unwinding.{step_of, Made, ending_by, passed_for, passed_as, left_as, past_of}
 use Rattle.uc_step.specs.declared.stepped.Stepped.{Stepped}
 use Rattle.uc_step.specs.declared.stepped.Stepped.TheVariants.{Quiet, Ask, Throw, Raise, Unwind, Past, Resume, Suspend, TakeDown, EndMain}
 use Rattle.uc_step.specs.WeightFalls.{AskFalls, RunFalls, FallsBelow}
-use Rattle.uc_ride.specs.UnwindingFalls.{how_ended, left_in, stop_by, Entered, EnteredBelow}
-use Rattle.uc_ride.proofs.Falling.{found_goes, found_env, catch_goes, catch_env, entered, entered_env, entered_goes, entered_leaves, over_goes, on_falls, main_goes, leave_returns, leave_passes, thrown_goes, past_goes}
+use Rattle.uc_ride.specs.UnwindingFalls.{left_in, stop_by, Entered, EnteredBelow}
+use Rattle.uc_ride.proofs.Falling.{found_goes, found_env, catch_goes, catch_env, entered, entered_env, entered_goes, entered_leaves, over_goes, on_falls, call_goes, main_goes, leave_returns, leave_passes, thrown_goes, past_goes}
 
 less_stage : (b : Bool) (l : Links) → (one_call_less b l).stage ≡ l.stage
 less_stage true l = refl
@@ -80,11 +80,11 @@ module _ (code : Code) (w : ℕ) where
       (λ v p. subst (λ (b : Asked). AskFalls code v b.request n) (sym q) tt) h
 
   -- a switch, whether or not it is a fault
-  pub switch_falls : (P : ℕ → Machine → Type 0) (m n : Machine) (line : ℕ) (o : Option RunFault) (a : Option Asked) → (None ≡ o → Falls Quiet n) → ((f : RunFault) → Some f ≡ o → n ≡ m) → a ≡ stop_by line o → Within (laid_of code) code.routines P w m → Falls (how_ended a) n
-  switch_falls P m n line None a q e i h = subst (λ (x : Option Asked). Falls (how_ended x) n) (sym i) (q refl)
-  switch_falls P m n line (Some f) a q e i h =
+  pub switch_falls : (P : ℕ → Machine → Type 0) (m n : Machine) (line : ℕ) (o : Option RunFault) (how : Stepped) → (None ≡ o → Falls Quiet n) → ((f : RunFault) → Some f ≡ o → n ≡ m) → how ≡ stop_by line o → Within (laid_of code) code.routines P w m → Falls how n
+  switch_falls P m n line None how q e i h = subst (λ x. Falls x n) (sym i) (q refl)
+  switch_falls P m n line (Some f) how q e i h =
       let b : Asked = record { request = ask.Fault (fault_number f); line = line } in
-      subst (λ (x : Option Asked). Falls (how_ended x) n) (sym i) (fault_falls P m n b (fault_number f) line refl (e f refl) h)
+      subst (λ x. Falls x n) (sym i) (fault_falls P m n b (fault_number f) line refl (e f refl) h)
 
   -- events
 
@@ -127,6 +127,16 @@ module _ (code : Code) (w : ℕ) where
       within_idly (laid_of code) code.routines (λ v x. Entered code v left x) (RunFalls code Unwind) w m n (same_env m n (ap (λ (x : Machine). x.env) b)) (λ v g. (on_falls code v paced left m n g line is b).0) h,
       (on_falls code h.part paced left m n h.is line is b).1,
     )
+
+  -- the test at the end of a mutex call
+
+  call_env : (over : Bool) (to behind : ℕ) (m n : Machine) → n ≡ call_over over to behind m → n.env ≡ m.env
+  call_env true to behind m n b = ap (λ (x : Machine). x.env) b
+  call_env false to behind m n b = ap (λ (x : Machine). x.env) b
+
+  pub called_falls : (paced : IsPaced (laid_of code) code.routines) (left : ℕ) (m n : Machine) (to line : ℕ) (over : Bool) → slice_get code.ops m.run.control ≡ Some (record { op = op.Arrive to; line = line }) → n ≡ call_over over to (m.run.control + 1) m → EnteredBelow code w left m → Falls Quiet n
+  called_falls paced left m n to line over is b h =
+      within_idly (laid_of code) code.routines (λ v x. Entered code v left x) (RunFalls code Quiet) w m n (same_env m n (call_env over to (m.run.control + 1) m n b)) (λ v g. call_goes code v paced left m n g to line is over b) h
 
   -- an activation is left
 

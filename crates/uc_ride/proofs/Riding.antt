@@ -10,48 +10,52 @@ use Rattle.uc_code.specs.Codes.{Code}
 use Rattle.uc_code.specs.Layout.{laid_of}
 use Rattle.uc_code.specs.Lowered.{Lowered}
 use Rattle.uc_frames.specs.Machine.{Machine}
-use Rattle.uc_frames.specs.Stands.{Stands}
+use Rattle.uc_frames.specs.Stands.{Stands, Binds, Rests, Standing, Binding}
 use Rattle.uc_frames.specs.PaceInvariant.{has_begun, AllIdle}
 use Rattle.uc_step.specs.declared.stepped.Stepped.{Stepped}
 use Rattle.uc_step.specs.declared.stepped.Stepped.TheVariants.{Quiet, Tick, Ask}
 use Rattle.uc_step.specs.Simulation.{behind_line, StandsAfter, Follow}
 use Rattle.uc_step.specs.WeightFalls.{AskFalls, FallsBelow}
 use Rattle.uc_step.proofs.Rode.{quiet_rides, tick_rides, ask_rides}
-use Rattle.uc_ride.specs.declared.events.Settled.{Settled}
-use Rattle.uc_ride.specs.UnwindingFalls.{how_settled, KeepsAfter}
+use Rattle.uc_ride.specs.UnwindingFalls.{KeepsAfter}
 use Rattle.uc_ride.specs.RideStands.{HasCome, HasBurst, IsOnWay, HasRidden}
 
 module _ (code : Code) where
   pub come_first : (m : Machine) → HasCome code m m
-  come_first m source s l h = record { now = s; stands = h; rides = λ q k u a r. r }
+  come_first m source s l h = record { now = s; rests = h; rides = λ q k u a r. r }
 
   -- what a step says of each source
   abbrev pub Stepping : Machine → Stepped → Machine → Type 0
-  Stepping m how n = (source : Source) (s : State) → Lowered source code → Stands (laid_of code) m s → Follow (laid_of code) source how n s
+  Stepping m how n = (source : Source) (s : State) → Lowered source code → Rests (laid_of code) m s → Follow (laid_of code) source how n s
+
+  -- whether or not it binds what was made
+  pub steps : (m n : Machine) (how : Stepped) → ((source : Source) (s : State) → Lowered source code → Stands (laid_of code) m s → Follow (laid_of code) source how n s) → ((source : Source) (s : State) → Lowered source code → Binds (laid_of code) m s → Follow (laid_of code) source how n s) → Stepping m how n
+  steps m n how f g source s l (Standing _ _ h) = f source s l h
+  steps m n how f g source s l (Binding _ _ h) = g source s l h
 
   -- and settling of what it leaves
-  abbrev pub Settling : Stepped → Machine → Settled → Machine → Type 0
-  Settling how m after n = (source : Source) (s : State) → Lowered source code → Follow (laid_of code) source how m s → Follow (laid_of code) source (how_settled after) n s
+  abbrev pub Settling : Stepped → Machine → Stepped → Machine → Type 0
+  Settling how m after n = (source : Source) (s : State) → Lowered source code → Follow (laid_of code) source how m s → Follow (laid_of code) source after n s
 
-  pub settled_on : (m n o : Machine) (how : Stepped) (after : Settled) → Stepping m how n → Settling how n after o → Stepping m (how_settled after) o
+  pub settled_on : (m n o : Machine) (how after : Stepped) → Stepping m how n → Settling how n after o → Stepping m after o
   settled_on m n o how after f g source s l st = g source s l (f source s l st)
 
   pub come_on : (old m n : Machine) → HasCome code old m → Stepping m Quiet n → HasCome code old n
   come_on old m n h f source s l st =
       let w = h source s l st in
-      let o = quiet_rides source (laid_of code) n w.now (f source w.now l w.stands) in
-      record { now = o.reached; stands = o.stands; rides = λ q k u a r. w.rides q k u a (o.rides q k u a r) }
+      let o = quiet_rides source (laid_of code) n w.now (f source w.now l w.rests) in
+      record { now = o.reached; rests = Standing n o.reached o.stands; rides = λ q k u a r. w.rides q k u a (o.rides q k u a r) }
 
   pub come_ticked : (old m n : Machine) → HasCome code old m → Stepping m Tick n → HasBurst code old None n
   come_ticked old m n h f source s l st =
       let w = h source s l st in
-      let o = tick_rides source (laid_of code) n w.now (f source w.now l w.stands) in
+      let o = tick_rides source (laid_of code) n w.now (f source w.now l w.rests) in
       record { now = o.reached; line = o.line; stands = o.stands; rides = λ q k u a r. w.rides q (suc k) u a (o.rides q k u a r) }
 
   pub come_asked : (old m n : Machine) (asked : Asked) → HasCome code old m → Stepping m (Ask asked) n → HasBurst code old (Some asked) n
   come_asked old m n asked h f source s l st =
       let w = h source s l st in
-      let o = ask_rides source (laid_of code) asked n w.now (f source w.now l w.stands) in
+      let o = ask_rides source (laid_of code) asked n w.now (f source w.now l w.rests) in
       record {
         reached = o.reached;
         rides = λ q. w.rides q 0 o.reached asked (o.rides q);
@@ -63,7 +67,7 @@ module _ (code : Code) where
     now = s;
     left = quantum;
     together = omega arith;
-    stands = h;
+    rests = h;
     rides = λ k u a r. let e : 0 + k ≡ k = omega arith in rw e r;
   }
 
@@ -75,13 +79,13 @@ module _ (code : Code) where
   pub way_ticked : (quantum ticks : ℕ) (old m n : Machine) → ticks < quantum → IsOnWay code quantum old ticks m → HasBurst code m None n → IsOnWay code quantum old (ticks + 1) n
   way_ticked quantum ticks old m n lt h b source s l st =
       let w = h source s l st in
-      let t = b source w.now l w.stands in
+      let t = b source w.now l w.rests in
       let o = one_left ticks w.left quantum w.together lt in
       record {
         now = t.now;
         left = o.0;
         together = omega (arith, w.together, o.1);
-        stands = t.stands;
+        rests = Standing n t.now t.stands;
         rides = λ k u a r.
             let e : ticks + suc k ≡ (ticks + 1) + k = omega arith in
             rw e at (w.rides (suc k) u a (rw o.1 (t.rides o.0 k u a r)));
@@ -90,7 +94,7 @@ module _ (code : Code) where
   pub way_asked : (quantum ticks : ℕ) (old m n : Machine) (asked : Asked) → ticks < quantum → IsOnWay code quantum old ticks m → HasBurst code m (Some asked) n → HasRidden code quantum old ticks asked n
   way_asked quantum ticks old m n asked lt h b source s l st =
       let w = h source s l st in
-      let t = b source w.now l w.stands in
+      let t = b source w.now l w.rests in
       let o = one_left ticks w.left quantum w.together lt in
       let e : ticks + 0 ≡ ticks = omega arith in
       record { reached = t.reached; rides = rw e at (w.rides 0 t.reached asked (rw o.1 (t.rides o.0))); stands = t.stands }
@@ -98,7 +102,7 @@ module _ (code : Code) where
   pub way_sliced : (quantum ticks : ℕ) (old m n : Machine) (asked : Asked) → ticks + 1 ≡ quantum → IsOnWay code quantum old ticks m → HasBurst code m None n → asked ≡ record { request = ask.Slice; line = behind_line (laid_of code) n } → HasRidden code quantum old (ticks + 1) asked n
   way_sliced quantum ticks old m n asked eq h b q source s l st =
       let w = h source s l st in
-      let t = b source w.now l w.stands in
+      let t = b source w.now l w.rests in
       let one : w.left ≡ suc 0 = omega (arith, w.together, eq) in
       let e : ticks + suc 0 ≡ ticks + 1 = omega arith in
       let same : asked_in t.now ask.Slice ≡ asked = rw q (rw t.line refl) in
@@ -117,7 +121,7 @@ kept_by code v (ask.Make x0) m l b o = record { run = l.1; begun = b; others = o
 kept_by code v (ask.Made x0) m l b o = record { run = l.1; begun = b; others = o }
 kept_by code v (ask.Spawn x0) m l b o = record { run = l.1; begun = b; others = o }
 kept_by code v (ask.Call x0 x1) m l b o = record { run = l.1; begun = b; others = o }
-kept_by code v (ask.Leave x0 x1) m l b o = record { run = l.1; begun = b; others = o }
+kept_by code v (ask.Leave x0 x1) m l b o = record { run = l; begun = b; others = o }
 kept_by code v (ask.Accept x0 x1 x2) m l b o = record { run = l.1; begun = b; others = o }
 kept_by code v (ask.Wait x0 x1 x2) m l b o = record { run = l.1; begun = b; others = o }
 kept_by code v (ask.Signal x0 x1) m l b o = record { run = l.1; begun = b; others = o }

@@ -19,7 +19,7 @@ use Rattle.uc_ride.specs.declared.events.Caught.{Caught}
 use Rattle.uc_ride.specs.declared.events.Settled.{Settled}
 use Rattle.uc_ride.specs.declared.events.Settled.TheVariants as settled
 use Rattle.uc_ride.specs.declared.events.Test.{Test}
-use Rattle.uc_ride.specs.declared.events.Test.TheVariants.{Block, Task, Coroutine, Nothing}
+use Rattle.uc_ride.specs.declared.events.Test.TheVariants.{Block, Task, Coroutine, Call, Nothing}
 use Rattle.uc_ride.specs.declared.events.Unwound.{Unwound}
 use Rattle.uc_ride.specs.declared.events.Unwound.TheVariants as unwound
 
@@ -33,28 +33,25 @@ abbrev pub test_by : Op → Test
 test_by op.Handled = Block
 test_by op.Unhandled = Task
 test_by op.Escape = Coroutine
+test_by (op.Arrive arrived) = Call arrived
 test_by _ = Nothing
 
--- what a switch asks in this line, where it is a fault
-abbrev pub stop_by : ℕ → Option RunFault → Option Asked
-stop_by line None = None
-stop_by line (Some f) = Some (record { request = ask.Fault (fault_number f); line = line })
+-- how a switch ends, in this line where it is a fault
+abbrev pub stop_by : ℕ → Option RunFault → Stepped
+stop_by line None = Quiet
+stop_by line (Some f) = Ask (record { request = ask.Fault (fault_number f); line = line })
 
--- these ends as those of an op
+-- these ends as those of an op; this is asked, if anything is
 
-abbrev pub how_settled : Settled → Stepped
-how_settled settled.On = Quiet
-how_settled settled.Tick = Tick
-how_settled (settled.Asks a) = Ask a
+abbrev pub how_settled : Settled → Asked → Stepped
+how_settled settled.On a = Quiet
+how_settled settled.Tick a = Tick
+how_settled settled.Asks a = Ask a
 
-abbrev pub how_ended : Option Asked → Stepped
-how_ended None = Quiet
-how_ended (Some a) = Ask a
-
-abbrev pub how_unwound : Unwound → Stepped
-how_unwound unwound.On = Quiet
-how_unwound unwound.Still = Unwind
-how_unwound (unwound.Asks a) = Ask a
+abbrev pub how_unwound : Unwound → Asked → Stepped
+how_unwound unwound.On a = Quiet
+how_unwound unwound.Still a = Unwind
+how_unwound unwound.Asks a = Ask a
 
 module _ (code : Code) where
   -- how much is left to a machine that unwinds
@@ -62,10 +59,10 @@ module _ (code : Code) where
   left_in m = waits code.ops (m.run ∷ m.callers)
 
   -- a step of unwinding leaves less than w, and where it goes on less than before
-  abbrev pub StepFalls : ℕ → ℕ → Unwound → Machine → Type 0
-  StepFalls w left unwound.On m = FallsBelow code w Quiet m
-  StepFalls w left unwound.Still m = FallsBelow code w Unwind m × (left_in m < left)
-  StepFalls w left (unwound.Asks a) m = FallsBelow code w (Ask a) m
+  abbrev pub StepFalls : ℕ → ℕ → Unwound → Asked → Machine → Type 0
+  StepFalls w left unwound.On a m = FallsBelow code w Quiet m
+  StepFalls w left unwound.Still a m = FallsBelow code w Unwind m × (left_in m < left)
+  StepFalls w left unwound.Asks a m = FallsBelow code w (Ask a) m
 
   -- the entry of a row has begun in a machine that unwinds, to which so much was left
   pub record Entered (w left : ℕ) (m : Machine) : Type 0 where
@@ -95,3 +92,8 @@ module _ (code : Code) where
   abbrev pub BurstKeeps : Option Asked → Machine → Type 0
   BurstKeeps None m = Keeps code m
   BurstKeeps (Some a) m = KeepsAfter a.request m
+
+  -- so it is of a task that is made
+  abbrev pub ChildKeeps : Option Machine → Type 0
+  ChildKeeps None = Unit {0}
+  ChildKeeps (Some m) = Keeps code m

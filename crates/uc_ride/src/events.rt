@@ -19,7 +19,7 @@ ghost use Rattle.uc_step.specs.WeightFalls.{FallsBelow};
 ghost use Rattle.uc_step.specs.Simulation.{behind_line, Follow};
 ghost use Rattle.uc_machine.specs.declared.exec.Reason.TheVariants as reason;
 ghost use Rattle.uc_ride.specs.declared.events.Caught.{Caught};
-ghost use Rattle.uc_ride.specs.UnwindingFalls.{how_settled, how_ended, how_unwound, row_of, stop_by, test_by, StepFalls, EnteredBelow, left_in};
+ghost use Rattle.uc_ride.specs.UnwindingFalls.{how_settled, how_unwound, row_of, stop_by, test_by, StepFalls, EnteredBelow, left_in};
 
 use std::alloc::AllocError;
 use uc_code::code::Code;
@@ -27,7 +27,7 @@ use uc_code::op::Op;
 use uc_code::rows::Instruction;
 use uc_coroutine::leaving::{Left, leave, return_past};
 use uc_coroutine::switching::{finish, leave_main, resume, suspend, take_down};
-use uc_coroutine::testing::{TaskMainEnd, end_block, end_task_main};
+use uc_coroutine::testing::{TaskMainEnd, end_block, end_call, end_task_main};
 use uc_coroutine::unwinding::unwind;
 use uc_entry::fault::RunFault;
 use uc_entry::request::{Asked, Request};
@@ -39,29 +39,31 @@ use uc_frames::work::Work;
 use uc_machine::exec::Reason;
 use uc_step::stepped::Stepped;
 
-/// How an op ends with what an event or a switch leads to by it: the task goes on, after a tick or without one, or it asks.
+/// How an op ends with what an event or a switch leads to by it: the task goes on, after a tick or without one, or it asks what is then
+/// written where a request was lent.
 #[derive(Clone, Copy)]
 pub(crate) enum Settled {
     On,
     Tick,
-    Asks(Asked),
+    Asks,
 }
 
-/// How a step of unwinding ends: the task goes on, or it still unwinds, or it asks.
+/// How a step of unwinding ends: the task goes on, or it still unwinds, or it asks, as above.
 #[derive(Clone, Copy)]
 pub(crate) enum Unwound {
     On,
     Still,
-    Asks(Asked),
+    Asks,
 }
 
-/// What the first op of a row tests: whether a block or a main that is unwound up to it is left, or nothing, where it cleans up. The
+/// What the first op of a row tests: whether a block, a mutex call or a main that is unwound up to it is left, or nothing, where it cleans up. The
 /// main is that of a task or of a coroutine.
 #[derive(Clone, Copy)]
 pub(crate) enum Test {
     Block,
     Task,
     Coroutine,
+    Call { arrived: u32 },
     Nothing,
 }
 
@@ -73,168 +75,169 @@ pub(crate) struct Caught {
 }
 
 /// Goes on from where a step leaves what an event or a switch leads to, up to its end.
-pub(crate) fn settle(code: &Code, work: &mut Work, how: Stepped) -> Result<Settled, AllocError>
+pub(crate) fn settle(
+    code: &Code,
+    work: &mut Work,
+    how: &Stepped,
+    asked: &mut Asked,
+) -> Result<Settled, AllocError>
     requires paced { IsPaced (laid_of code.now) code.now.routines }
-    requires below { (w : ℕ) × FallsBelow code.now w how work.old }
-    ensures source { IfOk result (λ after. (source : Source) (s : State) → Lowered source code.now → Follow (laid_of code.now) source how work.old s → Follow (laid_of code.now) source (how_settled after) work.new s) }
-    ensures falls { IfOk result (λ after. (w : ℕ) → FallsBelow code.now w how work.old → FallsBelow code.now w (how_settled after) work.new) }
+    requires below { (w : ℕ) × FallsBelow code.now w how.now work.old }
+    ensures source { IfOk result (λ after. (source : Source) (s : State) → Lowered source code.now → Follow (laid_of code.now) source how.now work.old s → Follow (laid_of code.now) source (how_settled after asked.new) work.new s) }
+    ensures falls { IfOk result (λ after. (w : ℕ) → FallsBelow code.now w how.now work.old → FallsBelow code.now w (how_settled after asked.new) work.new) }
 {
-    match how {
+    match *how {
         Stepped::Quiet => Ok(Settled::On),
         Stepped::Tick => Ok(Settled::Tick),
-        Stepped::Ask(asked) => Ok(Settled::Asks(asked)),
+        Stepped::Ask(request) => {
+            *asked = request;
+            Ok(Settled::Asks)
+        }
         Stepped::Throw(event) => {
             throw(work, event.number, event.x, event.y);
-            let end = unwinds(code, work)?;
-            Ok(settled_by(end))
+            let end = unwinds(code, work, asked)?;
+            Ok(end)
         }
         Stepped::Raise(event) => {
-            let end = raise(code, work, event)?;
-            Ok(settled_by(end))
+            let end = raise(code, work, event, asked)?;
+            Ok(end)
         }
         Stepped::Unwind => {
-            let end = unwinds(code, work)?;
-            Ok(settled_by(end))
+            let end = unwinds(code, work, asked)?;
+            Ok(end)
         }
         Stepped::Past(given) => {
             if return_past(work, given) {
-                let end = unwinds(code, work)?;
-                Ok(settled_by(end))
+                let end = unwinds(code, work, asked)?;
+                Ok(end)
             } else {
-                let asked = asks(code, 0, work, Request::End);
-                Ok(Settled::Asks(asked))
+                *asked = asks(code, 0, work, Request::End);
+                Ok(Settled::Asks)
             }
         }
-        Stepped::Resume => Ok(settled_by(settle_resume(code, work))),
-        Stepped::Suspend => Ok(settled_by(settle_suspend(code, work))),
+        Stepped::Resume => Ok(settle_resume(code, work, asked)),
+        Stepped::Suspend => Ok(settle_suspend(code, work, asked)),
         Stepped::TakeDown => {
             take_down(work);
             Ok(Settled::On)
         }
-        Stepped::EndMain => Ok(settled_by(settle_end(code, work))),
+        Stepped::EndMain => Ok(settle_end(code, work, asked)),
         Stepped::Astray => {
-            let asked = asks(code, 0, work, Request::End);
-            Ok(Settled::Asks(asked))
+            *asked = asks(code, 0, work, Request::End);
+            Ok(Settled::Asks)
         }
     }
 }
 
 // Resumes the execution of the coroutine whose member runs; in a main, the one that runs, which is a fault.
-fn settle_resume(code: &Code, work: &mut Work) -> Option<Asked>
-    ensures source { (source : Source) (s : State) → Follow (laid_of code.now) source Stepped.Resume work.old s → Follow (laid_of code.now) source (how_ended result) work.new s }
-    ensures falls { (w : ℕ) → FallsBelow code.now w Stepped.Resume work.old → FallsBelow code.now w (how_ended result) work.new }
+fn settle_resume(code: &Code, work: &mut Work, asked: &mut Asked) -> Settled
+    ensures source { (source : Source) (s : State) → Follow (laid_of code.now) source Stepped.Resume work.old s → Follow (laid_of code.now) source (how_settled result asked.new) work.new s }
+    ensures falls { (w : ℕ) → FallsBelow code.now w Stepped.Resume work.old → FallsBelow code.now w (how_settled result asked.new) work.new }
 {
     let fault = resume(work);
-    let asked = asked_behind(code, work, fault);
-    asked
+    let end = switched(code, work, fault, asked);
+    end
 }
 
 // The running execution is suspended.
-fn settle_suspend(code: &Code, work: &mut Work) -> Option<Asked>
-    ensures source { (source : Source) (s : State) → Follow (laid_of code.now) source Stepped.Suspend work.old s → Follow (laid_of code.now) source (how_ended result) work.new s }
-    ensures falls { (w : ℕ) → FallsBelow code.now w Stepped.Suspend work.old → FallsBelow code.now w (how_ended result) work.new }
+fn settle_suspend(code: &Code, work: &mut Work, asked: &mut Asked) -> Settled
+    ensures source { (source : Source) (s : State) → Follow (laid_of code.now) source Stepped.Suspend work.old s → Follow (laid_of code.now) source (how_settled result asked.new) work.new s }
+    ensures falls { (w : ℕ) → FallsBelow code.now w Stepped.Suspend work.old → FallsBelow code.now w (how_settled result asked.new) work.new }
 {
     let fault = suspend(work);
-    let asked = asked_behind(code, work, fault);
-    asked
+    let end = switched(code, work, fault, asked);
+    end
 }
 
 // The main of a coroutine ends.
-fn settle_end(code: &Code, work: &mut Work) -> Option<Asked>
-    ensures source { (source : Source) (s : State) → Follow (laid_of code.now) source Stepped.EndMain work.old s → Follow (laid_of code.now) source (how_ended result) work.new s }
-    ensures falls { (w : ℕ) → FallsBelow code.now w Stepped.EndMain work.old → FallsBelow code.now w (how_ended result) work.new }
+fn settle_end(code: &Code, work: &mut Work, asked: &mut Asked) -> Settled
+    ensures source { (source : Source) (s : State) → Follow (laid_of code.now) source Stepped.EndMain work.old s → Follow (laid_of code.now) source (how_settled result asked.new) work.new s }
+    ensures falls { (w : ℕ) → FallsBelow code.now w Stepped.EndMain work.old → FallsBelow code.now w (how_settled result asked.new) work.new }
 {
     let fault = finish(work);
-    let asked = asked_behind(code, work, fault);
-    asked
+    let end = switched(code, work, fault, asked);
+    end
 }
 
-// What is asked behind the op of a switch, where that is a fault.
-fn asked_behind(code: &Code, work: &Work, fault: Option<RunFault>) -> Option<Asked>
-    ensures { result ≡ stop_by (behind_line (laid_of code.now) work.now) fault }
+// What is asked behind the op of a switch, where that is a fault, in the line of the op before the next one, or of the newest call around it
+// that has one.
+fn switched(code: &Code, work: &Work, fault: Option<RunFault>, asked: &mut Asked) -> Settled
+    ensures { how_settled result asked.new ≡ stop_by (behind_line (laid_of code.now) work.now) fault }
 {
     match fault {
-        None => None,
-        Some(fault) => Some(faults_behind(code, work, fault)),
-    }
-}
-
-// A run fault, in the line of the op before the next one, or of the newest call around it that has one.
-fn faults_behind(code: &Code, work: &Work, fault: RunFault) -> Asked
-    ensures { result ≡ record { request = ask.Fault (fault_number fault); line = behind_line (laid_of code.now) work.now } }
-{
-    let number = fault.number();
-    Asked {
-        request: Request::Fault { number },
-        line: work.line_behind(code),
-    }
-}
-
-fn settled_by(end: Option<Asked>) -> Settled
-    ensures { how_settled result ≡ how_ended end }
-{
-    match end {
         None => Settled::On,
-        Some(asked) => Settled::Asks(asked),
+        Some(fault) => {
+            let number = fault.number();
+            *asked = Asked {
+                request: Request::Fault { number },
+                line: work.line_behind(code),
+            };
+            Settled::Asks
+        }
     }
 }
 
 // The handler begins that the event finds; where it finds none, it is thrown.
-fn raise(code: &Code, work: &mut Work, event: Event) -> Result<Option<Asked>, AllocError>
+fn raise(
+    code: &Code,
+    work: &mut Work,
+    event: Event,
+    asked: &mut Asked,
+) -> Result<Settled, AllocError>
     requires paced { IsPaced (laid_of code.now) code.now.routines }
     requires below { (w : ℕ) × FallsBelow code.now w (Stepped.Raise event) work.old }
-    ensures source { IfOk result (λ end. (source : Source) (s : State) → Lowered source code.now → Follow (laid_of code.now) source (Stepped.Raise event) work.old s → Follow (laid_of code.now) source (how_ended end) work.new s) }
-    ensures falls { IfOk result (λ end. (w : ℕ) → FallsBelow code.now w (Stepped.Raise event) work.old → FallsBelow code.now w (how_ended end) work.new) }
+    ensures source { IfOk result (λ end. (source : Source) (s : State) → Lowered source code.now → Follow (laid_of code.now) source (Stepped.Raise event) work.old s → Follow (laid_of code.now) source (how_settled end asked.new) work.new s) }
+    ensures falls { IfOk result (λ end. (w : ℕ) → FallsBelow code.now w (Stepped.Raise event) work.old → FallsBelow code.now w (how_settled end asked.new) work.new) }
 {
     let found = propagate(code, work, event.number, true);
     match found {
         Found::None => {
             throw(work, event.number, event.x, event.y);
-            let end = unwinds(code, work)?;
+            let end = unwinds(code, work, asked)?;
             Ok(end)
         }
         Found::Handler { .. } => {
             handle(code, work, &found, event.number, event.x, event.y)?;
-            Ok(None)
+            Ok(Settled::On)
         }
     }
 }
 
 // Step after step, as long as it unwinds.
-fn unwinds(code: &Code, work: &mut Work) -> Result<Option<Asked>, AllocError>
+fn unwinds(code: &Code, work: &mut Work, asked: &mut Asked) -> Result<Settled, AllocError>
     requires paced { IsPaced (laid_of code.now) code.now.routines }
     requires below { (w : ℕ) × FallsBelow code.now w Stepped.Unwind work.old }
-    ensures source { IfOk result (λ end. (source : Source) (s : State) → Lowered source code.now → Unwinds (laid_of code.now) work.old s → Follow (laid_of code.now) source (how_ended end) work.new s) }
-    ensures falls { IfOk result (λ end. (w : ℕ) → FallsBelow code.now w Stepped.Unwind work.old → FallsBelow code.now w (how_ended end) work.new) }
+    ensures source { IfOk result (λ end. (source : Source) (s : State) → Lowered source code.now → Unwinds (laid_of code.now) work.old s → Follow (laid_of code.now) source (how_settled end asked.new) work.new s) }
+    ensures falls { IfOk result (λ end. (w : ℕ) → FallsBelow code.now w Stepped.Unwind work.old → FallsBelow code.now w (how_settled end asked.new) work.new) }
 {
     'steps: loop {
-        let how = unwind_once(code, work)?;
+        let how = unwind_once(code, work, asked)?;
         match how {
-            Unwound::On => return Ok(None),
+            Unwound::On => return Ok(Settled::On),
             Unwound::Still => {}
-            Unwound::Asks(asked) => return Ok(Some(asked)),
+            Unwound::Asks => return Ok(Settled::Asks),
         }
     }
 }
 
 // One step: a clean-up of the running activation begins, or the test at the end of a block or of a main is made; or the handler that catches
 // the event begins; or the activation is left.
-fn unwind_once(code: &Code, work: &mut Work) -> Result<Unwound, AllocError>
+fn unwind_once(code: &Code, work: &mut Work, asked: &mut Asked) -> Result<Unwound, AllocError>
     requires paced { IsPaced (laid_of code.now) code.now.routines }
-    ensures source { IfOk result (λ after. (source : Source) (s : State) → Lowered source code.now → Unwinds (laid_of code.now) work.old s → Follow (laid_of code.now) source (how_unwound after) work.new s) }
-    ensures falls { IfOk result (λ after. (w : ℕ) → FallsBelow code.now w Stepped.Unwind work.old → StepFalls code.now w (left_in code.now work.old) after work.new) }
+    ensures source { IfOk result (λ after. (source : Source) (s : State) → Lowered source code.now → Unwinds (laid_of code.now) work.old s → Follow (laid_of code.now) source (how_unwound after asked.new) work.new s) }
+    ensures falls { IfOk result (λ after. (w : ℕ) → FallsBelow code.now w Stepped.Unwind work.old → StepFalls code.now w (left_in code.now work.old) after asked.new work.new) }
 {
     // A number of elements that is a `u32` bounds what is left of the activation.
     let _ = work.elements();
     let frame = work.level();
     let caught = catcher(code, work);
     if unwind(code, work, frame, row_in(caught)) {
-        let after = begin(code, work)?;
+        let after = begin(code, work, asked)?;
         Ok(after)
     } else {
         match caught {
             None => {
-                let after = leave_on(code, work)?;
+                let after = leave_on(code, work, asked)?;
                 Ok(after)
             }
             Some(caught) => {
@@ -281,10 +284,10 @@ fn row_in(caught: Option<Caught>) -> Option<u32>
 }
 
 // What begins: a test ends the unwinding, or lets it go on; a clean-up is executed.
-fn begin(code: &Code, work: &mut Work) -> Result<Unwound, AllocError>
+fn begin(code: &Code, work: &mut Work, asked: &mut Asked) -> Result<Unwound, AllocError>
     requires paced { IsPaced (laid_of code.now) code.now.routines }
-    ensures source { IfOk result (λ after. (source : Source) (s : State) → Lowered source code.now → Begins source (laid_of code.now) work.old s → Follow (laid_of code.now) source (how_unwound after) work.new s) }
-    ensures falls { IfOk result (λ after. (w left : ℕ) → EnteredBelow code.now w left work.old → StepFalls code.now w left after work.new) }
+    ensures source { IfOk result (λ after. (source : Source) (s : State) → Lowered source code.now → Begins source (laid_of code.now) work.old s → Follow (laid_of code.now) source (how_unwound after asked.new) work.new s) }
+    ensures falls { IfOk result (λ after. (w left : ℕ) → EnteredBelow code.now w left work.old → StepFalls code.now w left after asked.new work.new) }
 {
     let next = work.next();
     match op_at(code, next) {
@@ -298,12 +301,16 @@ fn begin(code: &Code, work: &mut Work) -> Result<Unwound, AllocError>
                     Ok(Unwound::Still)
                 }
             }
+            Test::Call { arrived } => {
+                end_call(work, arrived, next + 1)?;
+                Ok(Unwound::On)
+            }
             Test::Task => {
-                let after = end_on(code, work, instruction.line)?;
+                let after = end_on(code, work, instruction.line, asked)?;
                 Ok(after)
             }
             Test::Coroutine => {
-                let after = leave_coroutine(code, work, instruction.line);
+                let after = leave_coroutine(code, work, instruction.line, asked);
                 Ok(after)
             }
         },
@@ -326,55 +333,65 @@ fn test_of(op: Op) -> Test
         Op::Handled => Test::Block,
         Op::Unhandled => Test::Task,
         Op::Escape => Test::Coroutine,
+        Op::Arrive(arrived) => Test::Call { arrived },
         _ => Test::Nothing,
     }
 }
 
 // The main of a task that is unwound ends, by an op of this line.
-fn end_on(code: &Code, work: &mut Work, line: u32) -> Result<Unwound, AllocError>
+fn end_on(code: &Code, work: &mut Work, line: u32, asked: &mut Asked) -> Result<Unwound, AllocError>
     requires { slice_get code.now.ops work.old.run.control ≡ Some (record { op = Op.Unhandled; line = line }) }
-    ensures source { IfOk result (λ after. (source : Source) (s : State) → Lowered source code.now → Begins source (laid_of code.now) work.old s → Follow (laid_of code.now) source (how_unwound after) work.new s) }
-    ensures falls { IfOk result (λ after. (w left : ℕ) → EnteredBelow code.now w left work.old → StepFalls code.now w left after work.new) }
+    ensures source { IfOk result (λ after. (source : Source) (s : State) → Lowered source code.now → Begins source (laid_of code.now) work.old s → Follow (laid_of code.now) source (how_unwound after asked.new) work.new s) }
+    ensures falls { IfOk result (λ after. (w left : ℕ) → EnteredBelow code.now w left work.old → StepFalls code.now w left after asked.new work.new) }
 {
     let end = end_task_main(work)?;
     match end {
-        TaskMainEnd::Ended => Ok(Unwound::Asks(asks(code, line, work, Request::End))),
+        TaskMainEnd::Ended => {
+            *asked = asks(code, line, work, Request::End);
+            Ok(Unwound::Asks)
+        }
         TaskMainEnd::Returned => Ok(Unwound::On),
         TaskMainEnd::Unhandled => {
-            let unhandled = faults(code, line, work, RunFault::Unhandled);
-            Ok(Unwound::Asks(unhandled))
+            *asked = faults(code, line, work, RunFault::Unhandled);
+            Ok(Unwound::Asks)
         }
         TaskMainEnd::HeldUp => {
-            let blocked = faults(code, line, work, RunFault::BlockedInside);
-            Ok(Unwound::Asks(blocked))
+            *asked = faults(code, line, work, RunFault::BlockedInside);
+            Ok(Unwound::Asks)
         }
     }
 }
 
 // The main of a coroutine that is unwound is left, by an op of this line: another execution goes on, or none can.
-fn leave_coroutine(code: &Code, work: &mut Work, line: u32) -> Unwound
+fn leave_coroutine(code: &Code, work: &mut Work, line: u32, asked: &mut Asked) -> Unwound
     requires { slice_get code.now.ops work.old.run.control ≡ Some (record { op = Op.Escape; line = line }) }
-    ensures source { (source : Source) (s : State) → Lowered source code.now → Begins source (laid_of code.now) work.old s → Follow (laid_of code.now) source (how_unwound result) work.new s }
-    ensures falls { (w left : ℕ) → EnteredBelow code.now w left work.old → StepFalls code.now w left result work.new }
+    ensures source { (source : Source) (s : State) → Lowered source code.now → Begins source (laid_of code.now) work.old s → Follow (laid_of code.now) source (how_unwound result asked.new) work.new s }
+    ensures falls { (w left : ℕ) → EnteredBelow code.now w left work.old → StepFalls code.now w left result asked.new work.new }
 {
     match leave_main(work) {
         None => Unwound::On,
-        Some(fault) => Unwound::Asks(faults(code, line, work, fault)),
+        Some(fault) => {
+            *asked = faults(code, line, work, fault);
+            Unwound::Asks
+        }
     }
 }
 
 // The running activation, of which nothing is left, is left.
-fn leave_on(code: &Code, work: &mut Work) -> Result<Unwound, AllocError>
-    ensures source { IfOk result (λ after. (source : Source) (s : State) → LeavesNow (laid_of code.now) work.old s → Follow (laid_of code.now) source (how_unwound after) work.new s) }
-    ensures falls { IfOk result (λ after. (w : ℕ) → FallsBelow code.now w Stepped.Unwind work.old → StepFalls code.now w (left_in code.now work.old) after work.new) }
+fn leave_on(code: &Code, work: &mut Work, asked: &mut Asked) -> Result<Unwound, AllocError>
+    ensures source { IfOk result (λ after. (source : Source) (s : State) → LeavesNow (laid_of code.now) work.old s → Follow (laid_of code.now) source (how_unwound after asked.new) work.new s) }
+    ensures falls { IfOk result (λ after. (w : ℕ) → FallsBelow code.now w Stepped.Unwind work.old → StepFalls code.now w (left_in code.now work.old) after asked.new work.new) }
 {
     let left = leave(work)?;
     match left {
-        Left::Ended => Ok(Unwound::Asks(asks(code, 0, work, Request::End))),
+        Left::Ended => {
+            *asked = asks(code, 0, work, Request::End);
+            Ok(Unwound::Asks)
+        }
         Left::Returned => Ok(Unwound::On),
         Left::Escaped => {
-            let escape = faults(code, 0, work, RunFault::EscapeInUnwind);
-            Ok(Unwound::Asks(escape))
+            *asked = faults(code, 0, work, RunFault::EscapeInUnwind);
+            Ok(Unwound::Asks)
         }
         Left::PassedOn => Ok(Unwound::Still),
     }

@@ -1,6 +1,6 @@
 // Rides of a task.
 
-ghost use Rattle.std.specs.Prelude.{◌≡◌, ◌≤◌, ◌<◌, None, IfOk};
+ghost use Rattle.std.specs.Prelude.{◌≡◌, ◌≤◌, ◌<◌, ◌-◌, IfOk, slice_get};
 ghost use Rattle.uc_tree.specs.Source.{Source};
 ghost use Rattle.uc_entry.specs.declared.request.Request.TheVariants as ask;
 ghost use Rattle.uc_machine.specs.Quiet.{State};
@@ -8,16 +8,17 @@ ghost use Rattle.uc_machine.specs.Answering as answering;
 ghost use Rattle.uc_code.specs.Layout.{laid_of};
 ghost use Rattle.uc_code.specs.Lowered.{Lowered};
 ghost use Rattle.uc_code.specs.Pace.{IsPaced};
-ghost use Rattle.uc_frames.specs.Stands.{Stands};
-ghost use Rattle.uc_step.specs.OpEffects.{answered};
+ghost use Rattle.uc_frames.specs.Stands.{Rests};
 ghost use Rattle.uc_step.specs.WeightFalls.{Keeps};
-ghost use Rattle.uc_step.specs.Simulation.{behind_line};
-ghost use Rattle.uc_ride.specs.UnwindingFalls.{KeepsAfter, BurstKeeps};
-ghost use Rattle.uc_ride.specs.RideStands.{Rode, HasBurst, HasRidden};
+ghost use Rattle.uc_step.specs.Simulation.{behind_line, StandsAfter};
+ghost use Rattle.uc_ride.specs.UnwindingFalls.{KeepsAfter, BurstKeeps, ChildKeeps};
+ghost use Rattle.uc_ride.specs.RideStands.{spawned_by, main_at, main_behind, burst_of, BornAs, Rode, HasBurst, HasRidden};
 
 use crate::events::{Settled, settle};
 use std::alloc::AllocError;
 use uc_code::code::Code;
+use uc_code::op::Op;
+use uc_code::rows::RoutineCode;
 use uc_entry::request::{Answer, Asked, Request};
 use uc_frames::task::Task;
 use uc_frames::work::Work;
@@ -25,7 +26,7 @@ use uc_outside::Gate;
 use uc_step::step::{answer as give, step};
 use uc_step::stepped::{Onward, Stepped};
 
-/// How a ride ended: the task with its hand, a new task where one was made, the ticks, and what is asked.
+/// How a ride ended: the task with its hand, the new task where one is spawned, the ticks, and what is asked.
 #[derive(Drop)]
 pub struct Ridden {
     pub work: Work,
@@ -34,16 +35,16 @@ pub struct Ridden {
     pub asked: Asked,
 }
 
-/// How a ride in place ended: the ticks, and what is asked.
-#[derive(Drop)]
-pub struct RideEnd {
-    pub ticks: u32,
-    pub asked: Asked,
+/// How a burst of ops ends: by a tick, or by a request, which is then written where one was lent.
+#[derive(Clone, Copy)]
+pub(crate) enum BurstEnd {
+    Tick,
+    Asks,
 }
 
 /// Goes on with an answer up to a request, or up to so many ticks, and then asks for a slice. Where `dispatches` is not 0 it
-/// tells the gate first. No answer depends on the last three arguments. No task makes another one yet. Without memory the
-/// task is lost.
+/// tells the gate first. No answer depends on the last three arguments. A new task has its memory before it is asked for. Without
+/// memory the task is lost, and so it is where one is spawned whose main the code does not have.
 pub fn ride<G: Gate>(
     code: &Code,
     work: Work,
@@ -56,65 +57,100 @@ pub fn ride<G: Gate>(
     requires some { 1 ≤ quantum }
     requires paced { IsPaced (laid_of code.now) code.now.routines }
     requires kept { Keeps code.now work }
-    ensures rides { IfOk result (λ r. (source : Source) (s : State) → Lowered source code.now → Stands (laid_of code.now) work s → Rode source (laid_of code.now) (answering.answered source answer s) quantum r.ticks r.asked r.work) }
+    ensures rides { IfOk result (λ r. (source : Source) (s : State) → Lowered source code.now → Rests (laid_of code.now) work s → Rode source (laid_of code.now) (answering.answered source answer s) quantum r.ticks r.asked r.work r.child) }
     ensures few { IfOk result (λ r. r.ticks ≤ quantum) }
     ensures early { IfOk result (λ r. (r.asked.request ≡ ask.Slice → ⊥) → r.ticks < quantum) }
     ensures kept { IfOk result (λ r. KeepsAfter code.now r.asked.request r.work) }
-    ensures child { IfOk result (λ r. r.child ≡ None) }
+    ensures born { IfOk result (λ r. ChildKeeps code.now r.child) }
 {
     if dispatches != 0 {
         gate.ride(processor, dispatches);
     }
     let mut work = work;
-    let end = ride_on(code, &mut work, answer, quantum)?;
+    give(code, &mut work, answer)?;
+    let mut asked = Asked {
+        request: Request::Slice,
+        line: 0,
+    };
+    let ticks = go_on(code, &mut work, quantum, &mut asked)?;
+    let child = spawn(code, &work, asked.request)?;
     Ok(Ridden {
         work,
-        child: None,
-        ticks: end.ticks,
-        asked: end.asked,
+        child,
+        ticks,
+        asked,
     })
 }
 
-/// The same ride of a task that stays where it is, without a gate. Without memory the task is spent: it has made a part of
-/// the ride.
-pub fn ride_on(
-    code: &Code,
-    work: &mut Work,
-    answer: Answer,
-    quantum: u32,
-) -> Result<RideEnd, AllocError>
-    requires some { 1 ≤ quantum }
-    requires paced { IsPaced (laid_of code.now) code.now.routines }
-    requires kept { Keeps code.now work.old }
-    ensures rides { IfOk result (λ r. (source : Source) (s : State) → Lowered source code.now → Stands (laid_of code.now) work.old s → Rode source (laid_of code.now) (answering.answered source answer s) quantum r.ticks r.asked work.new) }
-    ensures few { IfOk result (λ r. r.ticks ≤ quantum) }
-    ensures early { IfOk result (λ r. (r.asked.request ≡ ask.Slice → ⊥) → r.ticks < quantum) }
-    ensures kept { IfOk result (λ r. KeepsAfter code.now r.asked.request work.new) }
+// The task that is spawned, where one is: its main is that of the op before the next one.
+fn spawn(code: &Code, work: &Work, request: Request) -> Result<Option<Task>, AllocError>
+    ensures born { IfOk result (λ child. (source : Source) (s : State) → Lowered source code.now → StandsAfter (laid_of code.now) request work.now s → BornAs source (laid_of code.now) request child s) }
+    ensures kept { IfOk result (λ child. ChildKeeps code.now child) }
 {
-    give(work, answer)?;
-    let (ticks, asked) = go_on(code, work, quantum)?;
-    Ok(RideEnd { ticks, asked })
+    match spawned(request) {
+        None => Ok(None),
+        Some(object) => match main_of(code, work) {
+            None => Err(AllocError),
+            Some(main) => {
+                let child = work.child(main, object)?;
+                Ok(Some(child))
+            }
+        },
+    }
 }
 
-// Bursts up to a request, or up to so many ticks.
-fn go_on(code: &Code, work: &mut Work, quantum: u32) -> Result<(u32, Asked), AllocError>
+// The object of the task that is spawned, if one is.
+fn spawned(request: Request) -> Option<u32>
+    ensures { result ≡ spawned_by request }
+{
+    match request {
+        Request::Spawn { object } => Some(object),
+        _ => None,
+    }
+}
+
+// The code of the main that the op before the next one names.
+fn main_of(code: &Code, work: &Work) -> Option<RoutineCode>
+    ensures { result ≡ main_behind code.now work.now }
+{
+    match main_before(code, work.next().saturating_sub(1)) {
+        None => None,
+        Some(main) => code.routine(main),
+    }
+}
+
+// The main that the op at this place names, if it names one.
+fn main_before(code: &Code, at: u32) -> Option<u32>
+    ensures { result ≡ main_at (slice_get code.now.ops at) }
+{
+    let instruction = code.ops().get(at as usize)?;
+    match instruction.op {
+        Op::Spawn(main) => Some(main),
+        _ => None,
+    }
+}
+
+// Bursts up to a request, or up to so many ticks. The last ones ask for a slice.
+fn go_on(code: &Code, work: &mut Work, quantum: u32, asked: &mut Asked) -> Result<u32, AllocError>
     requires some { 1 ≤ quantum }
     requires paced { IsPaced (laid_of code.now) code.now.routines }
     requires kept { Keeps code.now work.old }
-    ensures rides { IfOk result (λ r. HasRidden code.now quantum work.old r.0 r.1 work.new) }
-    ensures few { IfOk result (λ r. r.0 ≤ quantum) }
-    ensures early { IfOk result (λ r. (r.1.request ≡ ask.Slice → ⊥) → r.0 < quantum) }
-    ensures kept { IfOk result (λ r. KeepsAfter code.now r.1.request work.new) }
+    ensures rides { IfOk result (λ ticks. HasRidden code.now quantum work.old ticks asked.new work.new) }
+    ensures few { IfOk result (λ ticks. ticks ≤ quantum) }
+    ensures early { IfOk result (λ ticks. (asked.new.request ≡ ask.Slice → ⊥) → ticks < quantum) }
+    ensures kept { IfOk result (λ ticks. KeepsAfter code.now asked.new.request work.new) }
 {
     let mut ticks = 0;
     let mut stop = Stepped::Quiet;
     'ticks: loop {
-        match burst(code, work, &mut stop)? {
-            Some(asked) => return Ok((ticks, asked)),
-            None => {
+        let end = burst(code, work, &mut stop, asked)?;
+        match end {
+            BurstEnd::Asks => return Ok(ticks),
+            BurstEnd::Tick => {
                 ticks += 1;
                 if ticks == quantum {
-                    return Ok((ticks, slice(code, work)));
+                    *asked = slice(code, work);
+                    return Ok(ticks);
                 }
             }
         }
@@ -122,22 +158,27 @@ fn go_on(code: &Code, work: &mut Work, quantum: u32) -> Result<(u32, Asked), All
 }
 
 // Ops up to a tick, or up to a request. What was in the stop does not matter.
-fn burst(code: &Code, work: &mut Work, stop: &mut Stepped) -> Result<Option<Asked>, AllocError>
+fn burst(
+    code: &Code,
+    work: &mut Work,
+    stop: &mut Stepped,
+    asked: &mut Asked,
+) -> Result<BurstEnd, AllocError>
     requires paced { IsPaced (laid_of code.now) code.now.routines }
     requires kept { Keeps code.now work.old }
-    ensures burst { IfOk result (λ asked. HasBurst code.now work.old asked work.new) }
-    ensures kept { IfOk result (λ asked. BurstKeeps code.now asked work.new) }
+    ensures burst { IfOk result (λ end. HasBurst code.now work.old (burst_of end asked.new) work.new) }
+    ensures kept { IfOk result (λ end. BurstKeeps code.now (burst_of end asked.new) work.new) }
 {
     'ops: loop {
         match step(code, work, stop)? {
             Onward::Quiet => {}
-            Onward::Tick => return Ok(None),
+            Onward::Tick => return Ok(BurstEnd::Tick),
             Onward::Stops => {
-                let after = settle(code, work, *stop)?;
+                let after = settle(code, work, stop, asked)?;
                 match after {
                     Settled::On => {}
-                    Settled::Tick => return Ok(None),
-                    Settled::Asks(asked) => return Ok(Some(asked)),
+                    Settled::Tick => return Ok(BurstEnd::Tick),
+                    Settled::Asks => return Ok(BurstEnd::Asks),
                 }
             }
         }

@@ -18,3 +18,6 @@ pub mod Apart
 pub mod Idles
 pub mod SimulateSwitches
 pub mod SimulatePolls
+pub mod SimulateMutex
+pub mod Unbound
+pub mod Answered

@@ -1,13 +1,9 @@
--- A main as it begins, and answers.
-use Rattle.std.proofs.Common.{◌≡◌, ℕ, ◌+◌, List, [], ◌∷◌, None, Some, pos, refl, sym, subst, ap, ◌∙◌}
+-- A main as it begins.
+use Rattle.std.proofs.Common.{◌≡◌, ℕ, ◌+◌, List, [], ◌∷◌, None, Some, refl, sym, subst, ap, ◌∙◌}
 use Rattle.std.specs.Prelude.{max, slice_get}
 use Rattle.uc_tree.specs.Source.{Purpose, TaskMain, CoroutineMain, Procedure, Function, Builder, Stmts, Routine, Source}
-use Rattle.uc_entry.specs.declared.request.Answer.{Answer}
-use Rattle.uc_entry.specs.declared.request.Answer.TheVariants as answer
 use Rattle.uc_machine.specs.Quiet as quiet
-use Rattle.uc_machine.specs.Quiet.{Value, Todo, State, Rest, Within, BindMadeNow, truth, behind_body, routine_todo, first_state}
-use Rattle.uc_machine.specs.Answering as answering
-use Rattle.uc_machine.specs.Answering.{with_operand, new_members, entered}
+use Rattle.uc_machine.specs.Quiet.{Todo, Rest, Within, behind_body, routine_todo, first_state}
 use Rattle.uc_code.specs.declared.op.Op.TheVariants as op
 use Rattle.uc_code.specs.declared.rows.MainOf.TheVariants as main_of
 use Rattle.uc_code.specs.declared.rows.Mark.{Mark}
@@ -19,7 +15,6 @@ use Rattle.uc_code.specs.CodeShapes.{OpAt, Arrived}
 use Rattle.uc_code.specs.Lowered.{BodyAt, RoutineAt, Lowered}
 use Rattle.uc_frames.specs.Machine.{Machine, cell_of, first_machine}
 use Rattle.uc_frames.specs.Stands.{OfRoutine, FollowsAt, Stands}
-use Rattle.uc_step.specs.OpEffects.{with_operands, answered}
 use Rattle.uc_step.specs.Starts.{Starts}
 use Rattle.uc_frames.proofs.Lists.{replicate_map}
 use Rattle.uc_step.proofs.Routines.{routine_at}
@@ -110,28 +105,6 @@ module _ (code : Laid) where
       gathered = refl;
     };
   }
-
-  pushed : (v : Value) (m : Machine) (s : State) → Stands code m s → Stands code (with_operands (cell_of v ∷ m.run.operands) m) (with_operand v s)
-  pushed v m s h = rw (h.run.is) (record { run = record { marks = h.run.marks; follows = h.run.follows; is = refl }; callers = h.callers; env = h.env })
-
-  -- no code waits for a mutex object that is made
-  none_made : (source : Source) (todo : List Todo) (ms : List Mark) (pc : ℕ) → FollowsAt code todo ms pc → new_members source todo ≡ None
-  none_made source [] ms pc f = refl
-  none_made source (BindMadeNow c r ∷ todo) ms pc f = absurd f.piece
-  none_made source (_ ∷ todo) ms pc f = refl
-
-  -- an answer
-  pub answered_stands : (source : Source) (a : Answer) (m : Machine) (s : State) → Stands code m s → Stands code (answered a m) (answering.answered source a s)
-  answered_stands source answer.Go m s h = h
-  answered_stands source (answer.Object o) m s h =
-      subst (λ x. Stands code (answered (answer.Object o) m) (with_operand (quiet.Object o) (entered x o s))) (sym (none_made source s.run.control h.run.marks m.run.control h.run.follows)) (pushed (quiet.Object o) m s h)
-  answered_stands source (answer.Number n) m s h = pushed (quiet.Number n) m s h
-  answered_stands source (answer.Clause k failed) m s h =
-      pushed (quiet.Number (truth failed)) _ _ (pushed (quiet.Number (pos k)) m s h)
-  answered_stands source (answer.Event n x y) m s h =
-      pushed (quiet.Number y) _ _ (pushed (quiet.Number x) _ _ (pushed (quiet.Number (pos n)) m s h))
-  answered_stands source answer.Nothing m s h = pushed quiet.Nothing _ _ (pushed quiet.Nothing _ _ (pushed quiet.Nothing m s h))
-  answered_stands source (answer.Value n failed) m s h = pushed (quiet.Number n) m s h
 
 none_some : {A B : Type 0} {x : A} → None ≡ Some x → B
 none_some e = absurd (cc)

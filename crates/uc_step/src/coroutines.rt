@@ -1,7 +1,8 @@
 // The ops of coroutines, but for those that switch.
 
-ghost use Rattle.std.specs.Prelude.{◌≡◌, OnOk, OnErr};
+ghost use Rattle.std.specs.Prelude.{◌≡◌, IfOk, OnErr};
 ghost use Rattle.uc_step.specs.OpEffects.{ended, Does};
+ghost use Rattle.uc_step.specs.declared.stepped.Stepped.{Stepped};
 
 use crate::stepped::{Onward, Stepped, asked, faulted};
 use std::alloc::AllocError;
@@ -12,22 +13,27 @@ use uc_entry::request::Request;
 use uc_frames::work::Work;
 
 // The object at hand gets an execution.
-pub(crate) fn set_up(code: &Code, line: u32, work: &mut Work, number: u32) -> Result<(), AllocError>
-    ensures ok { OnOk result (Does code.now line (Op.Coroutine number) work.old Stepped.Quiet work.new) }
+pub(crate) fn set_up(
+    code: &Code,
+    line: u32,
+    work: &mut Work,
+    number: u32,
+) -> Result<Onward, AllocError>
+    ensures ok { IfOk result (λ how. (stop : Stepped) → Does code.now line (Op.Coroutine number) work.old (ended how stop) work.new) }
     ensures err { OnErr result (work.new ≡ work.old) }
 {
     if let Some(routine) = code.routine(number) {
         work.set_up(routine)?;
     }
-    Ok(())
+    Ok(Onward::Quiet)
 }
 
-pub(crate) fn enliven(code: &Code, line: u32, work: &mut Work) -> Result<(), AllocError>
-    ensures ok { OnOk result (Does code.now line Op.Live work.old Stepped.Quiet work.new) }
+pub(crate) fn enliven(code: &Code, line: u32, work: &mut Work) -> Result<Onward, AllocError>
+    ensures ok { IfOk result (λ how. (stop : Stepped) → Does code.now line Op.Live work.old (ended how stop) work.new) }
     ensures err { OnErr result (work.new ≡ work.old) }
 {
     work.enliven();
-    Ok(())
+    Ok(Onward::Quiet)
 }
 
 // The coroutine below the arguments of a routine must be live.
@@ -56,12 +62,12 @@ pub(crate) fn alive(
     }
 }
 
-pub(crate) fn forget(code: &Code, line: u32, work: &mut Work) -> Result<(), AllocError>
-    ensures ok { OnOk result (Does code.now line Op.Forget work.old Stepped.Quiet work.new) }
+pub(crate) fn forget(code: &Code, line: u32, work: &mut Work) -> Result<Onward, AllocError>
+    ensures ok { IfOk result (λ how. (stop : Stepped) → Does code.now line Op.Forget work.old (ended how stop) work.new) }
     ensures err { OnErr result (work.new ≡ work.old) }
 {
     work.forget();
-    Ok(())
+    Ok(Onward::Quiet)
 }
 
 // Where an execution stopped it goes on, or is unwound.

@@ -1,7 +1,8 @@
 // The ops that go on elsewhere, calls, and the ends of activations.
 
-ghost use Rattle.std.specs.Prelude.{◌≡◌, IfOk, OnOk, OnErr};
+ghost use Rattle.std.specs.Prelude.{◌≡◌, IfOk, OnErr};
 ghost use Rattle.uc_step.specs.OpEffects.{act_enter, act_return, act_end, ended, Does, Ends};
+ghost use Rattle.uc_step.specs.declared.stepped.Stepped.{Stepped};
 ghost use Rattle.uc_frames.specs.Calls.{plain_call, object_call};
 
 use crate::stepped::{Onward, Stepped, asked, faulted};
@@ -16,32 +17,42 @@ use uc_frames::cell::{Cell, number_in};
 use uc_frames::work::Work;
 use uc_tree::limits::CALLS;
 
-pub(crate) fn jump(code: &Code, line: u32, work: &mut Work, to: u32) -> Result<(), AllocError>
-    ensures ok { OnOk result (Does code.now line (Op.Jump to) work.old Stepped.Quiet work.new) }
+pub(crate) fn jump(code: &Code, line: u32, work: &mut Work, to: u32) -> Result<Onward, AllocError>
+    ensures ok { IfOk result (λ how. (stop : Stepped) → Does code.now line (Op.Jump to) work.old (ended how stop) work.new) }
     ensures err { OnErr result (work.new ≡ work.old) }
 {
     work.go(to);
-    Ok(())
+    Ok(Onward::Quiet)
 }
 
-pub(crate) fn if_zero(code: &Code, line: u32, work: &mut Work, to: u32) -> Result<(), AllocError>
-    ensures ok { OnOk result (Does code.now line (Op.IfZero to) work.old Stepped.Quiet work.new) }
+pub(crate) fn if_zero(
+    code: &Code,
+    line: u32,
+    work: &mut Work,
+    to: u32,
+) -> Result<Onward, AllocError>
+    ensures ok { IfOk result (λ how. (stop : Stepped) → Does code.now line (Op.IfZero to) work.old (ended how stop) work.new) }
     ensures err { OnErr result (work.new ≡ work.old) }
 {
     if number_in(work.pop()) == 0 {
         work.go(to);
     }
-    Ok(())
+    Ok(Onward::Quiet)
 }
 
-pub(crate) fn if_nonzero(code: &Code, line: u32, work: &mut Work, to: u32) -> Result<(), AllocError>
-    ensures ok { OnOk result (Does code.now line (Op.IfNonzero to) work.old Stepped.Quiet work.new) }
+pub(crate) fn if_nonzero(
+    code: &Code,
+    line: u32,
+    work: &mut Work,
+    to: u32,
+) -> Result<Onward, AllocError>
+    ensures ok { IfOk result (λ how. (stop : Stepped) → Does code.now line (Op.IfNonzero to) work.old (ended how stop) work.new) }
     ensures err { OnErr result (work.new ≡ work.old) }
 {
     if number_in(work.pop()) != 0 {
         work.go(to);
     }
-    Ok(())
+    Ok(Onward::Quiet)
 }
 
 pub(crate) fn return_value(
@@ -133,11 +144,13 @@ pub(crate) fn end_task(
 }
 
 // Unwinding goes on behind a clean-up, without operands.
-pub(crate) fn unwind(code: &Code, line: u32, work: &mut Work)
-    ensures { Does code.now line Op.Unwind work.old Stepped.Unwind work.new }
+pub(crate) fn unwind(code: &Code, line: u32, work: &mut Work, stop: &mut Stepped) -> Onward
+    ensures { Does code.now line Op.Unwind work.old (ended result stop.new) work.new }
 {
     let next = work.next();
     work.clean(next);
+    *stop = Stepped::Unwind;
+    Onward::Stops
 }
 
 pub(crate) fn call(

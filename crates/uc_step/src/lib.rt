@@ -5,6 +5,7 @@ pub mod begin;
 mod coroutines;
 mod jumps;
 mod memory;
+mod mutex;
 mod numbers;
 mod objects;
 mod operators;

@@ -4,7 +4,7 @@ ghost use Rattle.std.specs.Prelude.{◌≡◌, ℤ, neg_ℤ};
 ghost use Rattle.uc_tree.specs.Constants.{int_value};
 ghost use Rattle.uc_tree.specs.Source.{Plus, Minus, Times, Over, Modulo, Equal, NotEqual, Less, AtMost, Greater, AtLeast};
 ghost use Rattle.uc_machine.specs.Quiet.{outcome, int_outcome, truth};
-ghost use Rattle.uc_step.specs.OperatorResults.{outcome_of};
+ghost use Rattle.uc_step.specs.OperatorResults.{operator_of, outcome_of};
 
 use uc_entry::fault::RunFault;
 use uc_tree::int::{difference, negated, product, quotient, remainder, sum};
@@ -33,25 +33,25 @@ pub(crate) fn one_if(holds: bool) -> i64
     if holds { 1 } else { 0 }
 }
 
-pub(crate) fn plus(left: i64, right: i64) -> Given
+fn plus(left: i64, right: i64) -> Given
     ensures { outcome_of result ≡ outcome Plus left right }
 {
     in_range(sum(left, right))
 }
 
-pub(crate) fn minus(left: i64, right: i64) -> Given
+fn minus(left: i64, right: i64) -> Given
     ensures { outcome_of result ≡ outcome Minus left right }
 {
     in_range(difference(left, right))
 }
 
-pub(crate) fn times(left: i64, right: i64) -> Given
+fn times(left: i64, right: i64) -> Given
     ensures { outcome_of result ≡ outcome Times left right }
 {
     in_range(product(left, right))
 }
 
-pub(crate) fn over(left: i64, right: i64) -> Given
+fn over(left: i64, right: i64) -> Given
     ensures { outcome_of result ≡ outcome Over left right }
 {
     if right == 0 {
@@ -60,7 +60,7 @@ pub(crate) fn over(left: i64, right: i64) -> Given
     in_range(quotient(left, right))
 }
 
-pub(crate) fn modulo(left: i64, right: i64) -> Given
+fn modulo(left: i64, right: i64) -> Given
     ensures { outcome_of result ≡ outcome Modulo left right }
 {
     if right == 0 {
@@ -75,38 +75,75 @@ pub(crate) fn negative(number: i64) -> Given
     in_range(negated(number))
 }
 
-pub(crate) fn equal(left: i64, right: i64) -> Given
+fn equal(left: i64, right: i64) -> Given
     ensures { outcome_of result ≡ outcome Equal left right }
 {
     Given::Number(one_if(left == right))
 }
 
-pub(crate) fn not_equal(left: i64, right: i64) -> Given
+fn not_equal(left: i64, right: i64) -> Given
     ensures { outcome_of result ≡ outcome NotEqual left right }
 {
     Given::Number(one_if(left != right))
 }
 
-pub(crate) fn less(left: i64, right: i64) -> Given
+fn less(left: i64, right: i64) -> Given
     ensures { outcome_of result ≡ outcome Less left right }
 {
     Given::Number(one_if(left < right))
 }
 
-pub(crate) fn at_most(left: i64, right: i64) -> Given
+fn at_most(left: i64, right: i64) -> Given
     ensures { outcome_of result ≡ outcome AtMost left right }
 {
     Given::Number(one_if(left <= right))
 }
 
-pub(crate) fn greater(left: i64, right: i64) -> Given
+fn greater(left: i64, right: i64) -> Given
     ensures { outcome_of result ≡ outcome Greater left right }
 {
     Given::Number(one_if(left > right))
 }
 
-pub(crate) fn at_least(left: i64, right: i64) -> Given
+fn at_least(left: i64, right: i64) -> Given
     ensures { outcome_of result ≡ outcome AtLeast left right }
 {
     Given::Number(one_if(left >= right))
+}
+
+// An operator of two numbers.
+#[derive(Clone, Copy)]
+pub(crate) enum Operator {
+    Plus,
+    Minus,
+    Times,
+    Over,
+    Modulo,
+    Equal,
+    NotEqual,
+    Less,
+    AtMost,
+    Greater,
+    AtLeast,
+}
+
+impl Operator {
+    // What it gives for two numbers.
+    pub(crate) fn given(self, left: i64, right: i64) -> Given
+        ensures { outcome_of result ≡ outcome (operator_of self) left right }
+    {
+        match self {
+            Operator::Plus => plus(left, right),
+            Operator::Minus => minus(left, right),
+            Operator::Times => times(left, right),
+            Operator::Over => over(left, right),
+            Operator::Modulo => modulo(left, right),
+            Operator::Equal => equal(left, right),
+            Operator::NotEqual => not_equal(left, right),
+            Operator::Less => less(left, right),
+            Operator::AtMost => at_most(left, right),
+            Operator::Greater => greater(left, right),
+            Operator::AtLeast => at_least(left, right),
+        }
+    }
 }

@@ -1,11 +1,12 @@
 // The ops that compute with the newest operands.
 
-ghost use Rattle.std.specs.Prelude.{◌≡◌, IfOk, OnOk, OnErr};
+ghost use Rattle.std.specs.Prelude.{◌≡◌, IfOk, OnErr};
 ghost use Rattle.uc_frames.specs.Machine.{top, below, cell_number};
-ghost use Rattle.uc_step.specs.OpEffects.{act_outcome, with_operands, ended, Does, Ends};
-ghost use Rattle.uc_step.specs.OperatorResults.{outcome_of};
+ghost use Rattle.uc_step.specs.OpEffects.{act_operator, ended, Does, Ends};
+ghost use Rattle.uc_step.specs.declared.stepped.Stepped.{Stepped};
+ghost use Rattle.uc_step.specs.OperatorResults.{operator_of};
 
-use crate::numbers::{Given, one_if};
+use crate::numbers::{Given, Operator, negative, one_if};
 use crate::stepped::{Onward, Stepped, faulted};
 use std::alloc::AllocError;
 use uc_code::code::Code;
@@ -14,42 +15,18 @@ use uc_frames::cell::{Cell, number_in};
 use uc_frames::work::Work;
 use uc_tree::limits::CHAR_VALUES;
 
-// What was given takes the place of the newest operand, or is a fault.
-pub(crate) fn one(
-    code: &Code,
-    line: u32,
-    work: &mut Work,
-    stop: &mut Stepped,
-    given: Given,
-) -> Result<Onward, AllocError>
-    ensures ok { IfOk result (λ how. Ends (act_outcome code.now line (outcome_of given) (with_operands (below work.old.run.operands) work.old)) (ended how stop.new) work.new) }
-    ensures err { OnErr result (work.new ≡ work.old) }
-{
-    match given {
-        Given::Number(number) => {
-            work.replace(Cell::Number(number))?;
-            Ok(Onward::Quiet)
-        }
-        Given::Fault(fault) => {
-            work.pop();
-            *stop = faulted(code, line, work, fault);
-            Ok(Onward::Stops)
-        }
-    }
-}
-
 // What was given takes the place of the two newest operands, or is a fault.
 pub(crate) fn two(
     code: &Code,
     line: u32,
     work: &mut Work,
     stop: &mut Stepped,
-    given: Given,
+    operator: Operator,
 ) -> Result<Onward, AllocError>
-    ensures ok { IfOk result (λ how. Ends (act_outcome code.now line (outcome_of given) (with_operands (below (below work.old.run.operands)) work.old)) (ended how stop.new) work.new) }
+    ensures ok { IfOk result (λ how. Ends (act_operator code.now line (operator_of operator) work.old) (ended how stop.new) work.new) }
     ensures err { OnErr result (work.new ≡ work.old) }
 {
-    match given {
+    match operator.given(second(work), newest(work)) {
         Given::Number(number) => {
             work.replace_two(Cell::Number(number))?;
             Ok(Onward::Quiet)
@@ -63,43 +40,66 @@ pub(crate) fn two(
     }
 }
 
+// The newest operand is negated, or that is a fault.
+pub(crate) fn negate(
+    code: &Code,
+    line: u32,
+    work: &mut Work,
+    stop: &mut Stepped,
+) -> Result<Onward, AllocError>
+    ensures ok { IfOk result (λ how. Does code.now line Op.Negate work.old (ended how stop.new) work.new) }
+    ensures err { OnErr result (work.new ≡ work.old) }
+{
+    match negative(newest(work)) {
+        Given::Number(number) => {
+            work.replace(Cell::Number(number))?;
+            Ok(Onward::Quiet)
+        }
+        Given::Fault(fault) => {
+            work.pop();
+            *stop = faulted(code, line, work, fault);
+            Ok(Onward::Stops)
+        }
+    }
+}
+
 // The newest operand as a number.
-pub(crate) fn newest(work: &Work) -> i64
+fn newest(work: &Work) -> i64
     ensures { result ≡ cell_number (top work.now.run.operands) }
 {
     number_in(work.top())
 }
 
 // The operand below it as a number.
-pub(crate) fn second(work: &Work) -> i64
+fn second(work: &Work) -> i64
     ensures { result ≡ cell_number (top (below work.now.run.operands)) }
 {
     number_in(work.second())
 }
 
-pub(crate) fn not(code: &Code, line: u32, work: &mut Work) -> Result<(), AllocError>
-    ensures ok { OnOk result (Does code.now line Op.Not work.old Stepped.Quiet work.new) }
+pub(crate) fn not(code: &Code, line: u32, work: &mut Work) -> Result<Onward, AllocError>
+    ensures ok { IfOk result (λ how. (stop : Stepped) → Does code.now line Op.Not work.old (ended how stop) work.new) }
     ensures err { OnErr result (work.new ≡ work.old) }
 {
     let number = newest(work);
     work.replace(Cell::Number(one_if(number == 0)))?;
-    Ok(())
+    Ok(Onward::Quiet)
 }
 
-pub(crate) fn to_char(code: &Code, line: u32, work: &mut Work) -> Result<(), AllocError>
-    ensures ok { OnOk result (Does code.now line Op.ToChar work.old Stepped.Quiet work.new) }
+pub(crate) fn to_char(code: &Code, line: u32, work: &mut Work) -> Result<Onward, AllocError>
+    ensures ok { IfOk result (λ how. (stop : Stepped) → Does code.now line Op.ToChar work.old (ended how stop) work.new) }
     ensures err { OnErr result (work.new ≡ work.old) }
 {
     let number = newest(work);
     work.replace(Cell::Number(number.rem_euclid(CHAR_VALUES)))?;
-    Ok(())
+    Ok(Onward::Quiet)
 }
 
-pub(crate) fn to_bool(code: &Code, line: u32, work: &mut Work) -> Result<(), AllocError>
-    ensures ok { OnOk result (Does code.now line Op.ToBool work.old Stepped.Quiet work.new) }
+pub(crate) fn to_bool(code: &Code, line: u32, work: &mut Work) -> Result<Onward, AllocError>
+    ensures ok { IfOk result (λ how. (stop : Stepped) → Does code.now line Op.ToBool work.old (ended how stop) work.new) }
     ensures err { OnErr result (work.new ≡ work.old) }
 {
     let number = newest(work);
     work.replace(Cell::Number(if number == 0 { 0 } else { 1 }))?;
-    Ok(())
+    Ok(Onward::Quiet)
 }

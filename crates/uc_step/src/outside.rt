@@ -1,7 +1,8 @@
 // The ops that print and read.
 
-ghost use Rattle.std.specs.Prelude.{◌≡◌, IfOk, OnOk, OnErr};
+ghost use Rattle.std.specs.Prelude.{◌≡◌, IfOk, OnErr};
 ghost use Rattle.uc_step.specs.OpEffects.{ended, Does};
+ghost use Rattle.uc_step.specs.declared.stepped.Stepped.{Stepped};
 
 use crate::stepped::{Onward, Stepped, asked};
 use std::alloc::AllocError;
@@ -61,12 +62,12 @@ pub(crate) fn text(
     }
 }
 
-pub(crate) fn hold(code: &Code, line: u32, work: &mut Work) -> Result<(), AllocError>
-    ensures ok { OnOk result (Does code.now line Op.Hold work.old Stepped.Quiet work.new) }
+pub(crate) fn hold(code: &Code, line: u32, work: &mut Work) -> Result<Onward, AllocError>
+    ensures ok { IfOk result (λ how. (stop : Stepped) → Does code.now line Op.Hold work.old (ended how stop) work.new) }
     ensures err { OnErr result (work.new ≡ work.old) }
 {
     work.begin_gather();
-    Ok(())
+    Ok(Onward::Quiet)
 }
 
 pub(crate) fn flush(code: &Code, line: u32, work: &mut Work, stop: &mut Stepped) -> Onward

@@ -1,54 +1,60 @@
 // The ops that only push and drop operands.
 
-ghost use Rattle.std.specs.Prelude.{◌≡◌, OnOk, OnErr};
-ghost use Rattle.uc_step.specs.OpEffects.{Does};
+ghost use Rattle.std.specs.Prelude.{◌≡◌, IfOk, OnErr};
+ghost use Rattle.uc_step.specs.OpEffects.{ended, Does};
+ghost use Rattle.uc_step.specs.declared.stepped.Stepped.{Stepped};
 
-use crate::stepped::Stepped;
+use crate::stepped::Onward;
 use std::alloc::AllocError;
 use uc_code::code::Code;
 use uc_code::op::Op;
 use uc_frames::cell::Cell;
 use uc_frames::work::Work;
 
-pub(crate) fn push(code: &Code, line: u32, work: &mut Work, number: i64) -> Result<(), AllocError>
-    ensures ok { OnOk result (Does code.now line (Op.Push number) work.old Stepped.Quiet work.new) }
+pub(crate) fn push(
+    code: &Code,
+    line: u32,
+    work: &mut Work,
+    number: i64,
+) -> Result<Onward, AllocError>
+    ensures ok { IfOk result (λ how. (stop : Stepped) → Does code.now line (Op.Push number) work.old (ended how stop) work.new) }
     ensures err { OnErr result (work.new ≡ work.old) }
 {
     work.push(Cell::Number(number))?;
-    Ok(())
+    Ok(Onward::Quiet)
 }
 
-pub(crate) fn duplicate(code: &Code, line: u32, work: &mut Work) -> Result<(), AllocError>
-    ensures ok { OnOk result (Does code.now line Op.Duplicate work.old Stepped.Quiet work.new) }
+pub(crate) fn duplicate(code: &Code, line: u32, work: &mut Work) -> Result<Onward, AllocError>
+    ensures ok { IfOk result (λ how. (stop : Stepped) → Does code.now line Op.Duplicate work.old (ended how stop) work.new) }
     ensures err { OnErr result (work.new ≡ work.old) }
 {
     let top = work.top();
     work.push(top)?;
-    Ok(())
+    Ok(Onward::Quiet)
 }
 
-pub(crate) fn discard(code: &Code, line: u32, work: &mut Work) -> Result<(), AllocError>
-    ensures ok { OnOk result (Does code.now line Op.Discard work.old Stepped.Quiet work.new) }
+pub(crate) fn discard(code: &Code, line: u32, work: &mut Work) -> Result<Onward, AllocError>
+    ensures ok { IfOk result (λ how. (stop : Stepped) → Does code.now line Op.Discard work.old (ended how stop) work.new) }
     ensures err { OnErr result (work.new ≡ work.old) }
 {
     work.pop();
-    Ok(())
+    Ok(Onward::Quiet)
 }
 
-pub(crate) fn over(code: &Code, line: u32, work: &mut Work) -> Result<(), AllocError>
-    ensures ok { OnOk result (Does code.now line Op.Over work.old Stepped.Quiet work.new) }
+pub(crate) fn over(code: &Code, line: u32, work: &mut Work) -> Result<Onward, AllocError>
+    ensures ok { IfOk result (λ how. (stop : Stepped) → Does code.now line Op.Over work.old (ended how stop) work.new) }
     ensures err { OnErr result (work.new ≡ work.old) }
 {
     let second = work.second();
     work.push(second)?;
-    Ok(())
+    Ok(Onward::Quiet)
 }
 
-pub(crate) fn discard_below(code: &Code, line: u32, work: &mut Work) -> Result<(), AllocError>
-    ensures ok { OnOk result (Does code.now line Op.DiscardBelow work.old Stepped.Quiet work.new) }
+pub(crate) fn discard_below(code: &Code, line: u32, work: &mut Work) -> Result<Onward, AllocError>
+    ensures ok { IfOk result (λ how. (stop : Stepped) → Does code.now line Op.DiscardBelow work.old (ended how stop) work.new) }
     ensures err { OnErr result (work.new ≡ work.old) }
 {
     let top = work.top();
     work.replace_two(top)?;
-    Ok(())
+    Ok(Onward::Quiet)
 }

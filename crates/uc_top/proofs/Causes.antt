@@ -35,10 +35,11 @@ not_high : (s : Scene) {xs ys : List ℕ} → Took s.out s.out_after xs → Took
 not_high s out err (inl h) = absurd (omega (arith, h, out.same_count))
 not_high s out err (inr h) = absurd (omega (arith, h, err.same_count))
 
-not_ending : {A : Type 0} (k : ℕ) → k ≢ 0 → k ≢ 5 → k ≢ 7 → OfEnding k → A
-not_ending k a b c (inl e) = absurd (a e)
-not_ending k a b c (inr (inl e)) = absurd (b e)
-not_ending k a b c (inr (inr e)) = absurd (c e)
+not_ending : {A : Type 0} (k : ℕ) → k ≢ 0 → k ≢ 5 → k ≢ 6 → k ≢ 7 → OfEnding k → A
+not_ending k a b c d (inl e) = absurd (a e)
+not_ending k a b c d (inr (inl e)) = absurd (b e)
+not_ending k a b c d (inr (inr (inl e))) = absurd (c e)
+not_ending k a b c d (inr (inr (inr e))) = absurd (d e)
 
 ended_causes : (s : Scene) (journal : Journal) (output : List ℕ) (e : Ending) → Ran s journal output e → Took s.out s.out_after output → Took s.err s.err_after (ending_text e) → Causes s (ending_status e) journal
 ended_causes s journal output ending.Done ran out err = record {
@@ -61,6 +62,26 @@ ended_causes s journal output (ending.Fault number line task) ran out err = reco
   no_memory = λ e. absurd (omega (arith, e));
   no_other = inl (inr (inl refl));
 }
+ended_causes s journal output ending.Deadlock ran out err = record {
+  ended = λ h. record { output = output; ending = ending.Deadlock; ran = ran; out = out; err = err; is_status = refl };
+  refused = λ e. absurd (omega (arith, e));
+  bad_word = λ e. absurd (omega (arith, e));
+  unread = λ e. absurd (omega (arith, e));
+  unwritten = λ e. absurd (omega (arith, e));
+  counted = λ h. absurd (not_high s out err h);
+  no_memory = λ e. absurd (omega (arith, e));
+  no_other = inl (inr (inr (inl refl)));
+}
+ended_causes s journal output ending.NoProcessor ran out err = record {
+  ended = λ h. record { output = output; ending = ending.NoProcessor; ran = ran; out = out; err = err; is_status = refl };
+  refused = λ e. absurd (omega (arith, e));
+  bad_word = λ e. absurd (omega (arith, e));
+  unread = λ e. absurd (omega (arith, e));
+  unwritten = λ e. absurd (omega (arith, e));
+  counted = λ h. absurd (not_high s out err h);
+  no_memory = λ e. absurd (omega (arith, e));
+  no_other = inl (inr (inr (inl refl)));
+}
 ended_causes s journal output ending.Limit ran out err = record {
   ended = λ h. record { output = output; ending = ending.Limit; ran = ran; out = out; err = err; is_status = refl };
   refused = λ e. absurd (omega (arith, e));
@@ -69,12 +90,12 @@ ended_causes s journal output ending.Limit ran out err = record {
   unwritten = λ e. absurd (omega (arith, e));
   counted = λ h. absurd (not_high s out err h);
   no_memory = λ e. absurd (omega (arith, e));
-  no_other = inl (inr (inr refl));
+  no_other = inl (inr (inr (inr refl)));
 }
 
 failed_causes : (s : Scene) (journal : Journal) → CountRose s.out.count s.out_after.count ⊎ CountRose s.err.count s.err_after.count → Causes s 4 journal
 failed_causes s journal rose = record {
-  ended = λ h. not_ending 4 (λ e. absurd (omega (arith, e))) (λ e. absurd (omega (arith, e))) (λ e. absurd (omega (arith, e))) h;
+  ended = λ h. not_ending 4 (λ e. absurd (omega (arith, e))) (λ e. absurd (omega (arith, e))) (λ e. absurd (omega (arith, e))) (λ e. absurd (omega (arith, e))) h;
   refused = λ e. absurd (omega (arith, e));
   bad_word = λ e. absurd (omega (arith, e));
   unread = λ e. absurd (omega (arith, e));
@@ -86,7 +107,7 @@ failed_causes s journal rose = record {
 
 told_causes : (s : Scene) (r : Refusal) → Told s r [] → Causes s (status_of r) []
 told_causes s (Word n) t = record {
-  ended = λ h. not_ending 2 (λ e. absurd (omega (arith, e))) (λ e. absurd (omega (arith, e))) (λ e. absurd (omega (arith, e))) h;
+  ended = λ h. not_ending 2 (λ e. absurd (omega (arith, e))) (λ e. absurd (omega (arith, e))) (λ e. absurd (omega (arith, e))) (λ e. absurd (omega (arith, e))) h;
   refused = λ e. absurd (omega (arith, e));
   bad_word = λ e. (n, t);
   unread = λ e. absurd (omega (arith, e));
@@ -96,7 +117,7 @@ told_causes s (Word n) t = record {
   no_other = inr (inr (inl refl));
 }
 told_causes s CannotRead t = record {
-  ended = λ h. not_ending 3 (λ e. absurd (omega (arith, e))) (λ e. absurd (omega (arith, e))) (λ e. absurd (omega (arith, e))) h;
+  ended = λ h. not_ending 3 (λ e. absurd (omega (arith, e))) (λ e. absurd (omega (arith, e))) (λ e. absurd (omega (arith, e))) (λ e. absurd (omega (arith, e))) h;
   refused = λ e. absurd (omega (arith, e));
   bad_word = λ e. absurd (omega (arith, e));
   unread = λ e. inl t;
@@ -106,7 +127,7 @@ told_causes s CannotRead t = record {
   no_other = inr (inr (inr (inl refl)));
 }
 told_causes s TooLong t = record {
-  ended = λ h. not_ending 3 (λ e. absurd (omega (arith, e))) (λ e. absurd (omega (arith, e))) (λ e. absurd (omega (arith, e))) h;
+  ended = λ h. not_ending 3 (λ e. absurd (omega (arith, e))) (λ e. absurd (omega (arith, e))) (λ e. absurd (omega (arith, e))) (λ e. absurd (omega (arith, e))) h;
   refused = λ e. absurd (omega (arith, e));
   bad_word = λ e. absurd (omega (arith, e));
   unread = λ e. inr t;
@@ -116,7 +137,7 @@ told_causes s TooLong t = record {
   no_other = inr (inr (inr (inl refl)));
 }
 told_causes s (Lexical why here) t = record {
-  ended = λ h. not_ending 1 (λ e. absurd (omega (arith, e))) (λ e. absurd (omega (arith, e))) (λ e. absurd (omega (arith, e))) h;
+  ended = λ h. not_ending 1 (λ e. absurd (omega (arith, e))) (λ e. absurd (omega (arith, e))) (λ e. absurd (omega (arith, e))) (λ e. absurd (omega (arith, e))) h;
   refused = λ e. record { cause = Lexical why here; told = t; is = lexical why here };
   bad_word = λ e. absurd (omega (arith, e));
   unread = λ e. absurd (omega (arith, e));
@@ -126,7 +147,7 @@ told_causes s (Lexical why here) t = record {
   no_other = inr (inl refl);
 }
 told_causes s (Syntax here) t = record {
-  ended = λ h. not_ending 1 (λ e. absurd (omega (arith, e))) (λ e. absurd (omega (arith, e))) (λ e. absurd (omega (arith, e))) h;
+  ended = λ h. not_ending 1 (λ e. absurd (omega (arith, e))) (λ e. absurd (omega (arith, e))) (λ e. absurd (omega (arith, e))) (λ e. absurd (omega (arith, e))) h;
   refused = λ e. record { cause = Syntax here; told = t; is = syntax here };
   bad_word = λ e. absurd (omega (arith, e));
   unread = λ e. absurd (omega (arith, e));
@@ -136,7 +157,7 @@ told_causes s (Syntax here) t = record {
   no_other = inr (inl refl);
 }
 told_causes s (TooDeep here) t = record {
-  ended = λ h. not_ending 1 (λ e. absurd (omega (arith, e))) (λ e. absurd (omega (arith, e))) (λ e. absurd (omega (arith, e))) h;
+  ended = λ h. not_ending 1 (λ e. absurd (omega (arith, e))) (λ e. absurd (omega (arith, e))) (λ e. absurd (omega (arith, e))) (λ e. absurd (omega (arith, e))) h;
   refused = λ e. record { cause = TooDeep here; told = t; is = deep here };
   bad_word = λ e. absurd (omega (arith, e));
   unread = λ e. absurd (omega (arith, e));
@@ -146,7 +167,7 @@ told_causes s (TooDeep here) t = record {
   no_other = inr (inl refl);
 }
 told_causes s (Broken rule here) t = record {
-  ended = λ h. not_ending 1 (λ e. absurd (omega (arith, e))) (λ e. absurd (omega (arith, e))) (λ e. absurd (omega (arith, e))) h;
+  ended = λ h. not_ending 1 (λ e. absurd (omega (arith, e))) (λ e. absurd (omega (arith, e))) (λ e. absurd (omega (arith, e))) (λ e. absurd (omega (arith, e))) h;
   refused = λ e. record { cause = Broken rule here; told = t; is = broken rule here };
   bad_word = λ e. absurd (omega (arith, e));
   unread = λ e. absurd (omega (arith, e));
@@ -156,7 +177,7 @@ told_causes s (Broken rule here) t = record {
   no_other = inr (inl refl);
 }
 told_causes s NotBuilt t = record {
-  ended = λ h. not_ending 1 (λ e. absurd (omega (arith, e))) (λ e. absurd (omega (arith, e))) (λ e. absurd (omega (arith, e))) h;
+  ended = λ h. not_ending 1 (λ e. absurd (omega (arith, e))) (λ e. absurd (omega (arith, e))) (λ e. absurd (omega (arith, e))) (λ e. absurd (omega (arith, e))) h;
   refused = λ e. record { cause = NotBuilt; told = t; is = not_built };
   bad_word = λ e. absurd (omega (arith, e));
   unread = λ e. absurd (omega (arith, e));
@@ -166,7 +187,7 @@ told_causes s NotBuilt t = record {
   no_other = inr (inl refl);
 }
 told_causes s FrameTooLarge t = record {
-  ended = λ h. not_ending 1 (λ e. absurd (omega (arith, e))) (λ e. absurd (omega (arith, e))) (λ e. absurd (omega (arith, e))) h;
+  ended = λ h. not_ending 1 (λ e. absurd (omega (arith, e))) (λ e. absurd (omega (arith, e))) (λ e. absurd (omega (arith, e))) (λ e. absurd (omega (arith, e))) h;
   refused = λ e. record { cause = FrameTooLarge; told = t; is = large_frame };
   bad_word = λ e. absurd (omega (arith, e));
   unread = λ e. absurd (omega (arith, e));
@@ -176,7 +197,7 @@ told_causes s FrameTooLarge t = record {
   no_other = inr (inl refl);
 }
 told_causes s CodeTooLarge t = record {
-  ended = λ h. not_ending 1 (λ e. absurd (omega (arith, e))) (λ e. absurd (omega (arith, e))) (λ e. absurd (omega (arith, e))) h;
+  ended = λ h. not_ending 1 (λ e. absurd (omega (arith, e))) (λ e. absurd (omega (arith, e))) (λ e. absurd (omega (arith, e))) (λ e. absurd (omega (arith, e))) h;
   refused = λ e. record { cause = CodeTooLarge; told = t; is = large_code };
   bad_word = λ e. absurd (omega (arith, e));
   unread = λ e. absurd (omega (arith, e));
@@ -186,7 +207,7 @@ told_causes s CodeTooLarge t = record {
   no_other = inr (inl refl);
 }
 told_causes s NoMemory t = record {
-  ended = λ h. not_ending 8 (λ e. absurd (omega (arith, e))) (λ e. absurd (omega (arith, e))) (λ e. absurd (omega (arith, e))) h;
+  ended = λ h. not_ending 8 (λ e. absurd (omega (arith, e))) (λ e. absurd (omega (arith, e))) (λ e. absurd (omega (arith, e))) (λ e. absurd (omega (arith, e))) h;
   refused = λ e. absurd (omega (arith, e));
   bad_word = λ e. absurd (omega (arith, e));
   unread = λ e. absurd (omega (arith, e));
@@ -219,21 +240,25 @@ stops s (err_failed r name cause out err) = record { out = took-stopped out; err
 of_ending : (e : Ending) → OfEnding (ending_status e)
 of_ending ending.Done = inl refl
 of_ending (ending.Fault number line task) = inr (inl refl)
-of_ending ending.Limit = inr (inr refl)
+of_ending ending.Deadlock = inr (inr (inl refl))
+of_ending ending.NoProcessor = inr (inr (inl refl))
+of_ending ending.Limit = inr (inr (inr refl))
 
-ending_apart : (e : Ending) (k : ℕ) → k ≢ 0 → k ≢ 5 → k ≢ 7 → ending_status e ≢ k
-ending_apart ending.Done k a b c e = a (sym e)
-ending_apart (ending.Fault number line task) k a b c e = b (sym e)
-ending_apart ending.Limit k a b c e = c (sym e)
+ending_apart : (e : Ending) (k : ℕ) → k ≢ 0 → k ≢ 5 → k ≢ 6 → k ≢ 7 → ending_status e ≢ k
+ending_apart ending.Done k a b c d e = a (sym e)
+ending_apart (ending.Fault number line task) k a b c d e = b (sym e)
+ending_apart ending.Deadlock k a b c d e = c (sym e)
+ending_apart ending.NoProcessor k a b c d e = c (sym e)
+ending_apart ending.Limit k a b c d e = d (sym e)
 
 ending_not_4 : (e : Ending) → ending_status e ≢ 4
-ending_not_4 e = ending_apart e 4 (λ h. absurd (omega (arith, h))) (λ h. absurd (omega (arith, h))) (λ h. absurd (omega (arith, h)))
+ending_not_4 e = ending_apart e 4 (λ h. absurd (omega (arith, h))) (λ h. absurd (omega (arith, h))) (λ h. absurd (omega (arith, h))) (λ h. absurd (omega (arith, h)))
 
 ending_not_2 : (e : Ending) → ending_status e ≢ 2
-ending_not_2 e = ending_apart e 2 (λ h. absurd (omega (arith, h))) (λ h. absurd (omega (arith, h))) (λ h. absurd (omega (arith, h)))
+ending_not_2 e = ending_apart e 2 (λ h. absurd (omega (arith, h))) (λ h. absurd (omega (arith, h))) (λ h. absurd (omega (arith, h))) (λ h. absurd (omega (arith, h)))
 
 ending_not_3 : (e : Ending) → ending_status e ≢ 3
-ending_not_3 e = ending_apart e 3 (λ h. absurd (omega (arith, h))) (λ h. absurd (omega (arith, h))) (λ h. absurd (omega (arith, h)))
+ending_not_3 e = ending_apart e 3 (λ h. absurd (omega (arith, h))) (λ h. absurd (omega (arith, h))) (λ h. absurd (omega (arith, h))) (λ h. absurd (omega (arith, h)))
 
 refusal_not_4 : (r : Refusal) → status_of r ≢ 4
 refusal_not_4 (Word n) e = absurd (omega (arith, e))

@@ -13,7 +13,6 @@ use Rattle.uc_tree.specs.Source as source
 use Rattle.uc_built.specs.Accepted.{FitFrames, IsAccepted}
 use Rattle.uc_built.specs.BuiltForms.{are_built_items, has_main, IsBuilt}
 use Rattle.uc_lower.specs.Refusals.{Fits, FitsAll}
-use Rattle.uc_alone.specs.Run.{HasMain}
 use Rattle.uc_top.specs.Built.{IsRunnable, HasLargeFrame}
 
 both : (a b : Bool) → (a && b) ≡ true → (a ≡ true) × (b ≡ true)
@@ -38,6 +37,11 @@ short_by true a rest k first later = let long = length-append a rest in let h = 
 short_by false a rest k first later = let long = length-append a rest in let h = later refl in omega (arith, long, h)
 
 module _ (p : Program) where
+  -- the main is among the routines of the source
+  pub record HasMain : Type 0 where
+    pub routine : source.Routine
+    pub there : slice_get (source_of p).routines (main_number p) ≡ Some routine
+
   main_first : (i : Item) → is_main_item i ≡ true → 0 < length (item_defined p i)
   main_first (ClassItem c) h = absurd (cc h)
   main_first (RoutineItem r) h = omega arith
@@ -54,7 +58,7 @@ module _ (p : Program) where
   meant_long [] n t s = refl
   meant_long (d ∷ ds) n t s = ap suc (meant_long ds (n + 1) (t + length (gathered_all own_texts d.routine.body)) (s + length (gathered_all (own_sites d.class d.number) d.routine.body)))
 
-  pub main_there : IsBuilt p → HasMain (source_of p)
+  pub main_there : IsBuilt p → HasMain
   main_there b =
       let parts = both (has_main p) (are_built_items p.items) b in
       let short = main_short p.items parts.0 in

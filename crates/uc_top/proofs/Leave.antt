@@ -1,5 +1,8 @@
 -- What the top call leaves, from what its parts did.
-use Rattle.std.proofs.Common.{◌≡◌, ℕ, List, [], sym, subst, ap, ◌∙◌, inl, inr, ℤ, ◌∷◌}
+use Rattle.std.proofs.Common.{◌≡◌, ◌⊎◌, ℕ, ◌+◌, ◌-◌, List, [], refl, sym, subst, ap, ◌∙◌, inl, inr, ℤ, ◌∷◌, ◌++◌, get_or, length, length-append, arith}
+use Rattle.uc_entry.specs.declared.entry.Entry.{Entry}
+use Rattle.uc_entry.specs.declared.entry.EntryKind.{EntryKind}
+use Rattle.uc_entry.specs.declared.entry.EntryKind.TheVariants as kind
 use Rattle.std.specs.Prelude.{OnOk, OnErr, Result, Ok, Err, codes}
 use Rattle.std.specs.List.{concat}
 use Rattle.uc_acts.specs.Journal.{Journal}
@@ -7,7 +10,7 @@ use Rattle.uc_outside.specs.Taking.{SinkState, Took, TookPrefix, FailedAt}
 use Rattle.uc_top.specs.declared.endings.Ending.{Ending}
 use Rattle.uc_top.specs.declared.endings.Ending.TheVariants.{Fault}
 use Rattle.uc_top.specs.declared.refusals.Refusal.{Refusal}
-use Rattle.uc_top.specs.Endings.{ending_status, ending_text}
+use Rattle.uc_top.specs.Endings.{EndsWith, IsEnded, Tells, ending_status, ending_text, told_of}
 use Rattle.uc_top.specs.Refusals.{status_of, refusal_text}
 use Rattle.uc_top.specs.Outcomes.{Scene, Ran, Refused, Tried, Leaves, ended, refused, out_failed, line_failed, err_failed}
 use Rattle.uc_top.specs.Decisions.{Finished, whole}
@@ -53,3 +56,42 @@ fault_said {a} {b} name at by name' at' by' e f g t =
 
 pub fault_same : (n n' l l' : ℤ) (t t' : ℕ) → n ≡ n' → l ≡ l' → t ≡ t' → ending_text (Fault n l t) ≡ ending_text (Fault n' l' t')
 fault_same n n' l l' t t' e f g = ap (λ x. ending_text (Fault x l t)) e ∙ ap (λ x. ending_text (Fault n' x t)) f ∙ ap (λ x. ending_text (Fault n' l' x)) g
+
+-- the last entry tells the ending
+tells_of : (k : EntryKind) (e : Entry) → e.kind ≡ k → (k ≡ kind.Done) ⊎ (k ≡ kind.Fault) ⊎ (k ≡ kind.Deadlock) ⊎ (k ≡ kind.NoProcessor) ⊎ (k ≡ kind.Limit) → Tells e (told_of k e)
+tells_of kind.Done e s h = s
+tells_of kind.Fault e s h = record { of_kind = s; same_number = refl; same_line = refl; same_task = refl }
+tells_of kind.Deadlock e s h = s
+tells_of kind.NoProcessor e s h = s
+tells_of kind.Limit e s h = s
+tells_of k e s h = absurd (not_last h)
+  where
+    not_last : (k ≡ kind.Done) ⊎ (k ≡ kind.Fault) ⊎ (k ≡ kind.Deadlock) ⊎ (k ≡ kind.NoProcessor) ⊎ (k ≡ kind.Limit) → ⊥
+    not_last (inl h) = absurd (cc h)
+    not_last (inr (inl h)) = absurd (cc h)
+    not_last (inr (inr (inl h))) = absurd (cc h)
+    not_last (inr (inr (inr (inl h)))) = absurd (cc h)
+    not_last (inr (inr (inr (inr h)))) = absurd (cc h)
+
+last_index : (j before : Journal) (e d : Entry) (n : ℕ) → j ≡ before ++ e ∷ [] → n + 1 ≡ length j → get_or j n d ≡ e
+last_index j before e d n s l =
+    let m = length-append before (e ∷ []) in
+    let k : length j ≡ length (before ++ e ∷ []) = ap length s in
+    let same : n ≡ length before = omega (arith, l, m, k) in
+    ap (λ x. get_or x n d) s ∙ ap (λ i. get_or (before ++ e ∷ []) i d) same ∙ at_end before
+  where
+    at_end : (xs : Journal) → get_or (xs ++ e ∷ []) (length xs) d ≡ e
+    at_end [] = refl
+    at_end (x ∷ xs) = at_end xs
+
+pub ends_with : (j : Journal) (d : Entry) (told : Ending) → IsEnded j → told ≡ told_of (get_or j (length j - 1) d).kind (get_or j (length j - 1) d) → EndsWith j told
+ends_with j d told h t =
+    let m = length-append h.before (h.last ∷ []) in
+    let k : length j ≡ length (h.before ++ h.last ∷ []) = ap length h.is in
+    let same : get_or j (length j - 1) d ≡ h.last = last_index j h.before h.last d (length j - 1) h.is (omega (arith, m, k)) in
+    record {
+      before = h.before;
+      last = h.last;
+      is = h.is;
+      tells = subst (Tells h.last) (sym (t ∙ ap (λ (y : Entry). told_of y.kind y) same)) (tells_of h.last.kind h.last refl h.kind);
+    }

@@ -8,7 +8,8 @@ use Rattle.uc_words.specs.declared.numbers.NumberOption.{NumberOption}
 use Rattle.uc_words.specs.declared.numbers.NumberOption.TheVariants.{Processors, Slice, Ticks, Entries}
 use Rattle.uc_words.specs.Words.{Words, Piece, File, Number, Journal, Input, ArePieces, IsLine, IsRunLine, Command, RunFile, CheckFile, LowerFile, MakeProgram, number_in, least_of, most_of, same_option}
 use Rattle.uc_top.specs.Built.{Asks}
-use Rattle.uc_top.specs.Decisions.{AreAlone, IsInRange}
+use Rattle.uc_acts.specs.KernelRuns.{InRange}
+use Rattle.uc_top.specs.Decisions.{IsInRange}
 
 same_is : (r o : NumberOption) → same_option r o ≡ true → r ≡ o
 same_is Processors Processors e = refl
@@ -64,31 +65,26 @@ ticks_within = record { low = omega arith; high = omega arith }
 entries_within : IsWithin Entries ENTRIES_DEFAULT
 entries_within = record { low = omega arith; high = omega arith }
 
-run_alone : {words : Words} {file : List ℕ} {opts : Options} {too : Bool} {named : Option (List ℕ)} → IsRunLine words file opts too named → AreAlone opts
-run_alone l =
+run_range : {words : Words} {file : List ℕ} {opts : Options} {too : Bool} {named : Option (List ℕ)} → IsRunLine words file opts too named → InRange opts
+run_range l =
     let p = number_within Processors PROCESSORS_DEFAULT processors_within l.pieces l.numbers.processors l.fit (l.one_number Processors) in
     let s = number_within Slice SLICE_DEFAULT slice_within l.pieces l.numbers.slice l.fit (l.one_number Slice) in
     let k = number_within Ticks TICKS_DEFAULT ticks_within l.pieces l.numbers.ticks l.fit (l.one_number Ticks) in
     let e = number_within Entries ENTRIES_DEFAULT entries_within l.pieces l.numbers.entries l.fit (l.one_number Entries) in
-    let pl = p.low in
-    let ph = p.high in
-    subst AreAlone (sym l.options) (record {
-      range = record {
-        processors_min = pl;
-        processors_max = omega (arith, ph);
-        slice_min = s.low;
-        slice_max = s.high;
-        ticks_min = k.low;
-        ticks_max = k.high;
-        entries_min = e.low;
-        entries_max = e.high;
-      };
-      one = omega (arith, pl, ph);
+    subst InRange (sym l.options) (record {
+      processors_min = p.low;
+      processors_max = p.high;
+      slice_min = s.low;
+      slice_max = s.high;
+      ticks_min = k.low;
+      ticks_max = k.high;
+      entries_min = e.low;
+      entries_max = e.high;
     })
 
 -- the numbers of a line are in their ranges
 pub in_line : (words : Words) (c : Command) → IsLine words c → IsInRange c
-in_line words (RunFile file opts too named) l = run_alone l
+in_line words (RunFile file opts too named) l = run_range l
 in_line words (CheckFile file) l = tt
 in_line words (LowerFile file) l = tt
 in_line words (MakeProgram n) l = (l.value.low, l.value.high)

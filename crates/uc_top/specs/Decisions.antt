@@ -57,13 +57,8 @@ pub record AreTokensOf (list : List Token) (Is : Program → Type 0) : Type 0 wh
   pub only : (other : Program) → AreOf list other → other ≡ program
   pub is : Is program
 
--- the options of a run are in their ranges, and there is one processor
-pub record AreAlone (opts : Options) : Type 0 where
-  pub range : InRange opts
-  pub one : opts.processors ≡ PROCESSORS_MIN
-
 abbrev pub HasEntries : Purpose → Type 0
-HasEntries (Run opts too) = AreAlone opts
+HasEntries (Run opts too) = InRange opts
 HasEntries Check = Unit {0}
 HasEntries Lower = Unit {0}
 
@@ -171,7 +166,7 @@ CommandRefused (MakeProgram n) before after refusal name = NotMade before after 
 
 -- the numbers of a command are in their ranges
 abbrev pub IsInRange : Command → Type 0
-IsInRange (RunFile file opts too named) = AreAlone opts
+IsInRange (RunFile file opts too named) = InRange opts
 IsInRange (CheckFile file) = Unit {0}
 IsInRange (LowerFile file) = Unit {0}
 IsInRange (MakeProgram n) = (1 ≤ n) × (n ≤ MAKE_MAX)

@@ -78,7 +78,7 @@ pub record Told (s : Scene) (r : Refusal) (journal : Journal) : Type 0 where
 
 -- the status of an ending
 abbrev pub OfEnding : ℕ → Type 0
-OfEnding status = (status ≡ 0) ⊎ (status ≡ 5) ⊎ (status ≡ 7)
+OfEnding status = (status ≡ 0) ⊎ (status ≡ 5) ⊎ (status ≡ 6) ⊎ (status ≡ 7)
 
 -- the refusals of texts
 pub data OfText : Refusal → Type 0 where

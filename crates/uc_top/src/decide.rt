@@ -12,10 +12,12 @@ ghost use Rattle.uc_top.specs.Decisions.{IsInRange, CommandRefused, HasEntries, 
 use crate::program::{Purpose, Run, make_program, run_program};
 use crate::refusals::Refusal;
 use std::alloc::Global;
+use std::sync::Wait;
+use std::thread::Threads;
 use uc_front::check;
 use uc_grammar::fault::ParseFault;
 use uc_lex::{LexFault, lex, pos_at};
-use uc_outside::{Store, StoreFault};
+use uc_outside::{Gate, Store, StoreFault};
 use uc_parse_class::parse::parse;
 use uc_rules::checked::RuleFault;
 use uc_tree::limits::{INPUT_BYTES, PROGRAM_BYTES};
@@ -33,7 +35,9 @@ pub(crate) struct Why<'a> {
 }
 
 /// What the words make of the store.
-pub(crate) fn decide<'a, S: Store>(
+pub(crate) fn decide<'a, R: Threads + Wait + Sync, G: Gate + Sync, S: Store>(
+    rt: &R,
+    gate: &G,
     alloc: Global,
     words: &'a [String],
     store: &mut S,
@@ -43,7 +47,7 @@ pub(crate) fn decide<'a, S: Store>(
     ensures refused { IfErr result (λ why. Refuses (map string_bytes words.now) (S.state store.old) (S.state store.new) why.refusal why.name.now) }
 {
     match read_words(words) {
-        Ok(job) => match do_job(alloc, job, store) {
+        Ok(job) => match do_job(rt, gate, alloc, job, store) {
             Ok(run) => Ok(run),
             Err(why) => Err(why),
         },
@@ -52,7 +56,13 @@ pub(crate) fn decide<'a, S: Store>(
 }
 
 // Does what the words ask for.
-fn do_job<'a, S: Store>(alloc: Global, job: Job<'a>, store: &mut S) -> Result<Run, Why<'a>>
+fn do_job<'a, R: Threads + Wait + Sync, G: Gate + Sync, S: Store>(
+    rt: &R,
+    gate: &G,
+    alloc: Global,
+    job: Job<'a>,
+    store: &mut S,
+) -> Result<Run, Why<'a>>
     requires range { IsInRange (command_of job) }
     ensures did { IfOk result (λ run. CommandDid (command_of job.entry) (S.state store.old) (S.state store.new) run.journal.items run.output.items run.ending) }
     ensures store { KeepsFiles (S.state store.old) (S.state store.new) }
@@ -66,16 +76,16 @@ fn do_job<'a, S: Store>(alloc: Global, job: Job<'a>, store: &mut S) -> Result<Ru
             input,
         } => {
             let purpose = Purpose::Run { opts, journal };
-            match do_files(alloc, file, input, purpose, store) {
+            match do_files(rt, gate, alloc, file, input, purpose, store) {
                 Ok(run) => Ok(run),
                 Err(why) => Err(why),
             }
         }
-        Job::Check { file } => match do_files(alloc, file, None, Purpose::Check, store) {
+        Job::Check { file } => match do_files(rt, gate, alloc, file, None, Purpose::Check, store) {
             Ok(run) => Ok(run),
             Err(why) => Err(why),
         },
-        Job::Lower { file } => match do_files(alloc, file, None, Purpose::Lower, store) {
+        Job::Lower { file } => match do_files(rt, gate, alloc, file, None, Purpose::Lower, store) {
             Ok(run) => Ok(run),
             Err(why) => Err(why),
         },
@@ -102,7 +112,9 @@ fn unnamed<'a>(refusal: Refusal) -> Why<'a>
     Why { refusal, name: "" }
 }
 
-fn do_files<'a, S: Store>(
+fn do_files<'a, R: Threads + Wait + Sync, G: Gate + Sync, S: Store>(
+    rt: &R,
+    gate: &G,
     alloc: Global,
     file: &'a str,
     named: Option<&'a str>,
@@ -115,7 +127,7 @@ fn do_files<'a, S: Store>(
     ensures refused { IfErr result (λ why. FilesRefused (S.state store.old) (S.state store.new) file.now (option_copied named.entry) why.refusal why.name.now) }
 {
     match read_texts(alloc, file, named, store) {
-        Ok(texts) => match do_text(alloc, &texts.program, &texts.input, purpose) {
+        Ok(texts) => match do_text(rt, gate, alloc, &texts.program, &texts.input, purpose) {
             Ok(run) => Ok(run),
             Err(refusal) => Err(unnamed(refusal)),
         },
@@ -200,7 +212,14 @@ fn read_named<'a, S: Store>(
     }
 }
 
-fn do_text(alloc: Global, text: &[u8], input: &[u8], purpose: Purpose) -> Result<Run, Refusal>
+fn do_text<R: Threads + Wait + Sync, G: Gate + Sync>(
+    rt: &R,
+    gate: &G,
+    alloc: Global,
+    text: &[u8],
+    input: &[u8],
+    purpose: Purpose,
+) -> Result<Run, Refusal>
     requires text { length text.now ≤ PROGRAM_BYTES }
     requires input { length input.now ≤ INPUT_BYTES }
     requires purpose { HasEntries purpose }
@@ -208,7 +227,7 @@ fn do_text(alloc: Global, text: &[u8], input: &[u8], purpose: Purpose) -> Result
     ensures refused { IfErr result (TextRefused text.now) }
 {
     match lex(alloc, text) {
-        Ok(tokens) => match do_tokens(alloc, text, &tokens, input, purpose) {
+        Ok(tokens) => match do_tokens(rt, gate, alloc, text, &tokens, input, purpose) {
             Ok(run) => Ok(run),
             Err(refusal) => Err(refusal),
         },
@@ -232,7 +251,9 @@ fn fault_at(text: &[u8], why: Reason, at: u32) -> Refusal
     Refusal::Lexical(why, pos_at(text, at))
 }
 
-fn do_tokens(
+fn do_tokens<R: Threads + Wait + Sync, G: Gate + Sync>(
+    rt: &R,
+    gate: &G,
     alloc: Global,
     text: &[u8],
     tokens: &[Token],
@@ -247,7 +268,7 @@ fn do_tokens(
     ensures refused { IfErr result (TokensRefused text.now tokens.now) }
 {
     match parse(alloc, tokens) {
-        Ok(program) => match do_program(alloc, program, input, purpose) {
+        Ok(program) => match do_program(rt, gate, alloc, program, input, purpose) {
             Ok(run) => Ok(run),
             Err(refusal) => Err(refusal),
         },
@@ -271,7 +292,9 @@ fn place_of(text: &[u8], tokens: &[Token], token: u32) -> Pos
 }
 
 // What was done with a program that is checked first, or why it was not.
-fn do_program(
+fn do_program<R: Threads + Wait + Sync, G: Gate + Sync>(
+    rt: &R,
+    gate: &G,
     alloc: Global,
     program: Program,
     input: &[u8],
@@ -283,7 +306,7 @@ fn do_program(
     ensures refused { IfErr result (ProgramRefused program) }
 {
     match check(alloc, program) {
-        Ok(checked) => match run_program(alloc, checked.program(), input, purpose) {
+        Ok(checked) => match run_program(rt, gate, alloc, checked.program(), input, purpose) {
             Ok(run) => Ok(run),
             Err(refusal) => Err(refusal),
         },

@@ -2,7 +2,7 @@
 
 ghost use Rattle.std.specs.Prelude.{◌≡◌, ◌<◌, OnOk, OnErr};
 ghost use Rattle.uc_outside.specs.Taking.{Took, TookPrefix, FailedAt};
-ghost use Rattle.uc_top.specs.Endings.{Tells, EndsAlone, EndsWith, ending_status, ending_text, name_of_number};
+ghost use Rattle.uc_top.specs.Endings.{IsEnded, EndsWith, told_of, ending_status, ending_text, name_of_number};
 
 use crate::refusals::{put_line, put_pieces};
 use itoa::Buffer;
@@ -10,13 +10,17 @@ use uc_entry::entry::{Entry, EntryKind};
 use uc_entry::fault::RunFault;
 use uc_outside::{Sink, SinkFault};
 
-/// How the run of one task ends.
+/// How a run ends.
 #[derive(Clone, Copy, PartialEq, Eq, Debug)]
 pub enum Ending {
-    /// The task has ended.
+    /// Task 0 has ended.
     Done,
     /// A run fault, at this line, in this task.
     Fault { number: i64, line: i64, task: u32 },
+    /// No task is ready, and none runs.
+    Deadlock,
+    /// None runs, and none is ready where a processor is open.
+    NoProcessor,
     /// The limit on entries or on ticks was reached.
     Limit,
 }
@@ -29,6 +33,8 @@ impl Ending {
         match self {
             Ending::Done => 0,
             Ending::Fault { .. } => 5,
+            Ending::Deadlock => 6,
+            Ending::NoProcessor => 6,
             Ending::Limit => 7,
         }
     }
@@ -36,29 +42,27 @@ impl Ending {
 
 /// The ending that the last entry tells.
 pub(crate) fn ending_of(journal: &[Entry]) -> Ending
-    requires { EndsAlone journal.now }
+    requires { IsEnded journal.now }
     ensures { EndsWith journal.now result }
 {
     told_by(journal[journal.len() - 1])
 }
 
-// What an entry tells.
+// What an entry that ends a run tells.
 fn told_by(last: Entry) -> Ending
-    ensures fault { last.kind ≡ EntryKind.Fault → Tells last result }
-    ensures limit { last.kind ≡ EntryKind.Limit → Tells last result }
-    ensures done { last.kind ≡ EntryKind.Done → Tells last result }
+    ensures { result ≡ told_of last.kind last }
 {
-    if last.kind == EntryKind::Fault {
-        return Ending::Fault {
+    match last.kind {
+        EntryKind::Fault => Ending::Fault {
             number: last.a,
             line: last.b,
             task: last.task,
-        };
+        },
+        EntryKind::Deadlock => Ending::Deadlock,
+        EntryKind::NoProcessor => Ending::NoProcessor,
+        EntryKind::Limit => Ending::Limit,
+        _ => Ending::Done,
     }
-    if last.kind == EntryKind::Limit {
-        return Ending::Limit;
-    }
-    Ending::Done
 }
 
 /// Puts the line of an ending; of one that is done nothing.
@@ -71,6 +75,14 @@ pub(crate) fn put_ending<E: Sink>(err: &mut E, ending: Ending) -> Result<(), Sin
         Ending::Done => Ok(()),
         Ending::Fault { number, line, task } => {
             put_fault(err, number, line, task)?;
+            Ok(())
+        }
+        Ending::Deadlock => {
+            put_line(err, b"deadlock", b"")?;
+            Ok(())
+        }
+        Ending::NoProcessor => {
+            put_line(err, b"no processor", b"")?;
             Ok(())
         }
         Ending::Limit => {

@@ -1,6 +1,7 @@
 // Checks a program, lowers it and runs it.
 
 ghost use Rattle.std.specs.Prelude.{◌≡◌, ◌≤◌, ◌++◌, [], IfOk, IfErr, length};
+ghost use Rattle.uc_tree.specs.Source.{Source};
 ghost use Rattle.uc_tree.specs.declared.limits.TheConstants.{INPUT_BYTES, MAKE_MAX};
 ghost use Rattle.uc_resolve.specs.Resolve.{source_of};
 ghost use Rattle.uc_rules.specs.Breaks.{breaks_of};
@@ -10,14 +11,18 @@ ghost use Rattle.uc_code.specs.Pace.{IsPaced};
 ghost use Rattle.uc_code.specs.Lowered.{Lowered};
 ghost use Rattle.uc_acts.specs.Texts.{printed};
 ghost use Rattle.uc_make.specs.Generated.{generated};
+ghost use Rattle.uc_vproc.specs.Rest.{IsSource};
+ghost use Rattle.uc_vproc.specs.Runs.{IsRunOf};
 ghost use Rattle.uc_top.specs.Built.{IsRunnable, ProgramRan, RunsNothing, told_text};
-ghost use Rattle.uc_top.specs.Decisions.{ProgramDid, ProgramRefused, HasEntries, AreAlone};
+ghost use Rattle.uc_acts.specs.KernelRuns.{InRange};
+ghost use Rattle.uc_top.specs.Decisions.{ProgramDid, ProgramRefused, HasEntries};
 
 use crate::endings::{Ending, ending_of};
 use crate::printing::printed_bytes;
 use crate::refusals::Refusal;
 use std::alloc::{AllocError, Global};
-use uc_alone::run_alone;
+use std::sync::Wait;
+use std::thread::Threads;
 use uc_built::is_built;
 use uc_code::code::Code;
 use uc_code::listing::listing;
@@ -27,8 +32,10 @@ use uc_layout::sizes::Sizes;
 use uc_lower::lower::{LowerFault, lower};
 use uc_lower::program_main::number_of_main;
 use uc_make::make;
+use uc_outside::Gate;
 use uc_tree::name::Text;
 use uc_tree::program::Program;
+use uc_vproc::run_processors;
 
 /// The journal of a run, what it prints, and how it ends.
 #[derive(Drop)]
@@ -50,7 +57,9 @@ pub enum Purpose {
 }
 
 /// What was done with a program that breaks no rule, or why it was not.
-pub(crate) fn run_program(
+pub(crate) fn run_program<R: Threads + Wait + Sync, G: Gate + Sync>(
+    rt: &R,
+    gate: &G,
     alloc: Global,
     program: &Program,
     input: &[u8],
@@ -65,13 +74,15 @@ pub(crate) fn run_program(
     if !is_built(program) {
         return Err(Refusal::NotBuilt);
     }
-    match run_built(alloc, program, input, purpose) {
+    match run_built(rt, gate, alloc, program, input, purpose) {
         Ok(run) => Ok(run),
         Err(refusal) => Err(refusal),
     }
 }
 
-fn run_built(
+fn run_built<R: Threads + Wait + Sync, G: Gate + Sync>(
+    rt: &R,
+    gate: &G,
     alloc: Global,
     program: &Program,
     input: &[u8],
@@ -84,12 +95,14 @@ fn run_built(
     ensures refused { IfErr result (ProgramRefused program.now) }
 {
     match Sizes::new(alloc, program) {
-        Ok(sizes) => run_sized(alloc, &sizes, program, input, purpose),
+        Ok(sizes) => run_sized(rt, gate, alloc, &sizes, program, input, purpose),
         Err(_) => Err(Refusal::NoMemory),
     }
 }
 
-fn run_sized(
+fn run_sized<R: Threads + Wait + Sync, G: Gate + Sync>(
+    rt: &R,
+    gate: &G,
     alloc: Global,
     sizes: &Sizes,
     program: &Program,
@@ -104,7 +117,7 @@ fn run_sized(
     ensures refused { IfErr result (ProgramRefused program.now) }
 {
     match lower(alloc, program, sizes) {
-        Ok(code) => match do_code(alloc, program, &code, input, purpose) {
+        Ok(code) => match do_code(rt, gate, alloc, program, &code, input, purpose) {
             Ok(run) => Ok(run),
             Err(_) => Err(Refusal::NoMemory),
         },
@@ -115,7 +128,9 @@ fn run_sized(
 }
 
 // What is done with the code of an accepted program.
-fn do_code(
+fn do_code<R: Threads + Wait + Sync, G: Gate + Sync>(
+    rt: &R,
+    gate: &G,
     alloc: Global,
     program: &Program,
     code: &Code,
@@ -131,7 +146,7 @@ fn do_code(
 {
     match purpose {
         Purpose::Run { opts, journal } => {
-            let run = run_code(alloc, program, code, input, opts, journal)?;
+            let run = run_code(rt, gate, alloc, program, code, input, opts, journal)?;
             Ok(run)
         }
         Purpose::Check => Ok(done_with(alloc, Vec::new(alloc))),
@@ -166,7 +181,9 @@ pub(crate) fn make_program(alloc: Global, n: u32) -> Result<Run, AllocError>
 }
 
 // Runs a program.
-fn run_code(
+fn run_code<R: Threads + Wait + Sync, G: Gate + Sync>(
+    rt: &R,
+    gate: &G,
     alloc: Global,
     program: &Program,
     code: &Code,
@@ -178,14 +195,14 @@ fn run_code(
     requires lowered { Lowered (source_of program.now) code.now }
     requires paced { IsPaced (laid_of code.now) code.now.routines }
     requires input { length input.now ≤ INPUT_BYTES }
-    requires options { AreAlone opts }
+    requires options { InRange opts }
     ensures { IfOk result (λ run. ProgramRan program.now input.now opts too run.journal.items run.output.items run.ending) }
 {
     // There are fewer routines than bytes of a text.
     let Some(main) = number_of_main(&program.items) else {
         return Err(AllocError);
     };
-    let journal = run_alone(alloc, code, main, input, opts)?;
+    let journal = run_main(rt, gate, alloc, code, main, input, opts)?;
     let output = output_of(alloc, code.texts(), &journal, too)?;
     let ending = ending_of(&journal);
     Ok(Run {
@@ -193,6 +210,27 @@ fn run_code(
         output,
         ending,
     })
+}
+
+// Runs a main on a copy of this input.
+fn run_main<R: Threads + Wait + Sync, G: Gate + Sync>(
+    rt: &R,
+    gate: &G,
+    alloc: Global,
+    code: &Code,
+    main: u32,
+    input: &[u8],
+    opts: Options,
+) -> Result<Vec<Entry>, AllocError>
+    requires range { InRange opts }
+    requires small { length input.now ≤ INPUT_BYTES }
+    requires paced { IsPaced (laid_of code.now) code.now.routines }
+    ensures run { IfOk result (λ journal. (source : Source) → IsSource code.now main source → IsRunOf source input.now opts journal.items) }
+{
+    let mut bytes = Vec::with_capacity(alloc, input.len())?;
+    bytes.extend_from_slice(input)?;
+    let journal = run_processors(rt, alloc, code, main, bytes, opts, gate)?;
+    Ok(journal)
 }
 
 // What a journal prints, and behind it its text where that is asked for.

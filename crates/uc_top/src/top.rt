@@ -11,6 +11,8 @@ use crate::endings::{Ending, put_ending};
 use crate::program::Run;
 use crate::refusals::{put_line, put_refusal};
 use std::alloc::Global;
+use std::sync::Wait;
+use std::thread::Threads;
 use uc_entry::entry::Entry;
 use uc_outside::{Gate, Sink, SinkFault, Store, put_all};
 
@@ -25,16 +27,17 @@ pub struct Outcome {
 /// what it prints to `out` and the line of its ending or of a refusal to `err`.
 ///
 /// Statuses: 0 done, 1 the text has no tokens, is no program, or is one that breaks a rule, has a form that does not run
-/// yet or is too large, 2 the words are no line, 3 a file was not read, 4 a put failed, 5 a run fault, 7 the limit on
-/// entries or on ticks, 8 out of memory. The order of work is: words, file, input, tokens, program, rules, sizes, code,
+/// yet or is too large, 2 the words are no line, 3 a file was not read, 4 a put failed, 5 a run fault, 6 a deadlock or tasks
+/// that no processor serves, 7 the limit on entries or on ticks, 8 out of memory, or a request that the kernel is not asked yet. The order of work is: words, file, input, tokens, program, rules, sizes, code,
 /// run, out, err; the first refusal decides.
-pub fn run_words<S: Store, O: Sink, E: Sink, G: Gate + Sync>(
+pub fn run_words<R: Threads + Wait + Sync, S: Store, O: Sink, E: Sink, G: Gate + Sync>(
+    rt: &R,
     alloc: Global,
     words: &[String],
     store: &mut S,
     out: &mut O,
     err: &mut E,
-    _gate: &G,
+    gate: &G,
 ) -> Outcome
     ensures leaves { Leaves (scene_of (map string_bytes words.now) (S.state store.old) (S.state store.new) (O.state out.old) (O.state out.new) (E.state err.old) (E.state err.new)) result.status result.journal.items }
 
@@ -57,22 +60,24 @@ pub fn run_words<S: Store, O: Sink, E: Sink, G: Gate + Sync>(
     ensures rooms { HaveRooms (scene_of (map string_bytes words.now) (S.state store.old) (S.state store.new) (O.state out.old) (O.state out.new) (E.state err.old) (E.state err.new)) → result.status ≢ 4 }
     ensures completes { Completes (scene_of (map string_bytes words.now) (S.state store.old) (S.state store.new) (O.state out.old) (O.state out.new) (E.state err.old) (E.state err.new)) result.status }
 {
-    let outcome = work(alloc, words, store, out, err);
+    let outcome = work(rt, alloc, words, store, out, err, gate);
     outcome
 }
 
 // Decides, and puts what there is to put.
-fn work<S: Store, O: Sink, E: Sink>(
+fn work<R: Threads + Wait + Sync, S: Store, O: Sink, E: Sink, G: Gate + Sync>(
+    rt: &R,
     alloc: Global,
     words: &[String],
     store: &mut S,
     out: &mut O,
     err: &mut E,
+    gate: &G,
 ) -> Outcome
     ensures leaves { Leaves (scene_of (map string_bytes words.now) (S.state store.old) (S.state store.new) (O.state out.old) (O.state out.new) (E.state err.old) (E.state err.new)) result.status result.journal.items }
     ensures store { KeepsFiles (S.state store.old) (S.state store.new) }
 {
-    match decide(alloc, words, store) {
+    match decide(rt, gate, alloc, words, store) {
         Ok(run) => {
             let status = put_run(out, err, &run.output, run.ending);
             let Run { journal, .. } = run;

@@ -21,6 +21,8 @@ use crate::failing::FailsOnce;
 use crate::header::Header;
 use std::alloc::{AllocError, Global};
 use std::io;
+use std::sync::Wait;
+use std::thread::Threads;
 use uc_outside::{FixedSink, OpenGate, SteadyStore};
 use uc_top::run_words;
 
@@ -104,12 +106,12 @@ struct Told {
     status: u8,
 }
 
-fn call(alloc: Global, row: &Row) -> Result<Told, AllocError> {
+fn call<R: Threads + Wait + Sync>(rt: &R, alloc: Global, row: &Row) -> Result<Told, AllocError> {
     let words = words_of(alloc, row)?;
     let mut store = store_of(alloc, row)?;
     let mut out = FixedSink::new(alloc, row.header.room)?;
     let mut err = FixedSink::new(alloc, 1_000)?;
-    let outcome = run_words(alloc, &words, &mut store, &mut out, &mut err, &OpenGate);
+    let outcome = run_words(rt, alloc, &words, &mut store, &mut out, &mut err, &OpenGate);
     Ok(Told {
         out: String::from_utf8_lossy(alloc, out.bytes())?,
         err: String::from_utf8_lossy(alloc, err.bytes())?,
@@ -117,8 +119,12 @@ fn call(alloc: Global, row: &Row) -> Result<Told, AllocError> {
     })
 }
 
-fn answer(alloc: Global, row: &Row) -> Result<String, AllocError> {
-    let told = call(alloc, row)?;
+fn answer<R: Threads + Wait + Sync>(
+    rt: &R,
+    alloc: Global,
+    row: &Row,
+) -> Result<String, AllocError> {
+    let told = call(rt, alloc, row)?;
     format!(in alloc;
         "== {}\n{}|\n{}status {}\n",
         row.header.words, told.out, told.err, told.status
@@ -126,8 +132,13 @@ fn answer(alloc: Global, row: &Row) -> Result<String, AllocError> {
 }
 
 // The place and the rule that a program breaks first.
-fn answer_of_check(alloc: Global, row: &Row, title: &str) -> Result<String, AllocError> {
-    let told = call(alloc, row)?;
+fn answer_of_check<R: Threads + Wait + Sync>(
+    rt: &R,
+    alloc: Global,
+    row: &Row,
+    title: &str,
+) -> Result<String, AllocError> {
+    let told = call(rt, alloc, row)?;
     let err = told.err.as_str();
     if told.status == 0 || err == "ucpp: not built\n" {
         return format!(in alloc; "?? {title}\naccepted\n");
@@ -137,7 +148,8 @@ fn answer_of_check(alloc: Global, row: &Row, title: &str) -> Result<String, Allo
 }
 
 // Of each sink how many bytes it took, its faults, and the puts after its fault; and how many entries the journal has.
-fn answer_of_failing(
+fn answer_of_failing<R: Threads + Wait + Sync>(
+    rt: &R,
     alloc: Global,
     row: &Row,
     out_most: u64,
@@ -147,7 +159,7 @@ fn answer_of_failing(
     let mut store = store_of(alloc, row)?;
     let mut out = FailsOnce::new(out_most);
     let mut err = FailsOnce::new(err_most);
-    let outcome = run_words(alloc, &words, &mut store, &mut out, &mut err, &OpenGate);
+    let outcome = run_words(rt, alloc, &words, &mut store, &mut out, &mut err, &OpenGate);
     let entries = outcome.journal.len();
     format!(in alloc;
         "== {}\nout {} {} {}\nerr {} {} {}\nentries {}\nstatus {}\n",
@@ -163,16 +175,20 @@ fn answer_of_failing(
     )
 }
 
-fn any_answer(alloc: Global, row: &Option<Row>) -> Result<String, AllocError> {
+fn any_answer<R: Threads + Wait + Sync>(
+    rt: &R,
+    alloc: Global,
+    row: &Option<Row>,
+) -> Result<String, AllocError> {
     let Some(row) = row else {
         return Ok(String::new(alloc));
     };
     if let Some(title) = &row.title {
-        return answer_of_check(alloc, row, title.as_str());
+        return answer_of_check(rt, alloc, row, title.as_str());
     }
     match row.header.fails {
-        Some((out, err)) => answer_of_failing(alloc, row, out, err),
-        None => answer(alloc, row),
+        Some((out, err)) => answer_of_failing(rt, alloc, row, out, err),
+        None => answer(rt, alloc, row),
     }
 }
 
@@ -183,10 +199,10 @@ fn main(rt: HostRuntime) -> io::Result<()> {
         let line = line?;
         let line = line.as_str();
         if let Some(words) = line.strip_prefix("== ") {
-            print!(rt; "{}", any_answer(alloc, &row)?)?;
+            print!(rt; "{}", any_answer(&rt, alloc, &row)?)?;
             row = Some(Row::new(alloc, words)?);
         } else if let Some(title) = line.strip_prefix("?? ") {
-            print!(rt; "{}", any_answer(alloc, &row)?)?;
+            print!(rt; "{}", any_answer(&rt, alloc, &row)?)?;
             row = Some(Row::checked(alloc, title)?);
         } else if let Some(file) = line.strip_prefix("-- ") {
             print!(rt; "{}", outside::answer(&rt, alloc, file)?)?;
@@ -196,6 +212,6 @@ fn main(rt: HostRuntime) -> io::Result<()> {
             row.add(line)?;
         }
     }
-    print!(rt; "{}", any_answer(alloc, &row)?)?;
+    print!(rt; "{}", any_answer(&rt, alloc, &row)?)?;
     Ok(())
 }

@@ -2,7 +2,7 @@
 use Rattle.std.specs.Prelude.{◌≡◌, ℕ, ◌+◌, ◌<◌, ◌≤◌, ◌==◌, Bool, true, false, not, if◌then◌else◌, List, [], ◌∷◌, ◌++◌, length, take, codes, slice_index, EachIndex, IsTrue, Option, Some, None, unwrap_or, option_to_list, flat_map, filter_map}
 use Rattle.uc_tree.specs.Bytes.{is_digit}
 use Rattle.uc_tree.specs.Tokens.{value_of}
-use Rattle.uc_tree.specs.declared.limits.TheConstants.{PROCESSORS_MIN, PROCESSORS_DEFAULT, SLICE_MIN, SLICE_MAX, SLICE_DEFAULT, TICKS_MIN, TICKS_MAX, TICKS_DEFAULT, ENTRIES_MIN, ENTRIES_MAX, ENTRIES_DEFAULT, MAKE_MAX}
+use Rattle.uc_tree.specs.declared.limits.TheConstants.{PROCESSORS_MIN, PROCESSORS, PROCESSORS_DEFAULT, SLICE_MIN, SLICE_MAX, SLICE_DEFAULT, TICKS_MIN, TICKS_MAX, TICKS_DEFAULT, ENTRIES_MIN, ENTRIES_MAX, ENTRIES_DEFAULT, MAKE_MAX}
 use Rattle.uc_entry.specs.declared.entry.Options.{Options}
 use Rattle.uc_words.specs.declared.numbers.NumberOption.{NumberOption}
 use Rattle.uc_words.specs.declared.numbers.NumberOption.TheVariants.{Processors, Slice, Ticks, Entries}
@@ -37,15 +37,15 @@ option_word Slice = codes "--slice"
 option_word Ticks = codes "--ticks"
 option_word Entries = codes "--entries"
 
+-- the least number that each takes, and the greatest
 abbrev pub least_of : NumberOption → ℕ
 least_of Processors = PROCESSORS_MIN
 least_of Slice = SLICE_MIN
 least_of Ticks = TICKS_MIN
 least_of Entries = ENTRIES_MIN
 
--- until several processors run, their number is the least one
 abbrev pub most_of : NumberOption → ℕ
-most_of Processors = PROCESSORS_MIN
+most_of Processors = PROCESSORS
 most_of Slice = SLICE_MAX
 most_of Ticks = TICKS_MAX
 most_of Entries = ENTRIES_MAX

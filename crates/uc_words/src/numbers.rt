@@ -6,7 +6,8 @@ ghost use Rattle.uc_words.specs.declared.numbers.NumberOption.{NumberOption};
 ghost use Rattle.uc_words.specs.Words as words;
 
 use uc_tree::limits::{
-    ENTRIES_MAX, ENTRIES_MIN, PROCESSORS_MIN, SLICE_MAX, SLICE_MIN, TICKS_MAX, TICKS_MIN,
+    ENTRIES_MAX, ENTRIES_MIN, PROCESSORS, PROCESSORS_MIN, SLICE_MAX, SLICE_MIN, TICKS_MAX,
+    TICKS_MIN,
 };
 
 /// An option of `run` that has a number.
@@ -51,13 +52,13 @@ impl NumberOption {
         }
     }
 
-    /// Its greatest value. Until several processors run, their number is the least one.
+    /// Its greatest value.
     pub(crate) fn most(self) -> u64
         ensures value { result ≡ words.most_of self }
         ensures small { result ≤ TICKS_MAX }
     {
         match self {
-            NumberOption::Processors => u64::from(PROCESSORS_MIN),
+            NumberOption::Processors => u64::from(PROCESSORS),
             NumberOption::Slice => u64::from(SLICE_MAX),
             NumberOption::Ticks => TICKS_MAX,
             NumberOption::Entries => u64::from(ENTRIES_MAX),

@@ -19,7 +19,9 @@ fn main(rt: HostRuntime) -> ExitCode {
     let mut store = FileStore::new(&rt);
     let mut out = StdOut::new(&rt);
     let mut err = StdErr::new(&rt);
-    let outcome = run_words(alloc, &words, &mut store, &mut out, &mut err, &OpenGate);
+    let outcome = run_words(
+        &rt, alloc, &words, &mut store, &mut out, &mut err, &OpenGate,
+    );
     ExitCode::from(outcome.status)
 }
 

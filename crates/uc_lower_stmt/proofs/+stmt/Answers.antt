@@ -1,9 +1,9 @@
-use Rattle.std.proofs.Common.{◌≡◌, ◌+◌, ◌-◌, ℕ, List, ◌∷◌, Bor, None, inl, inr, length, subst, ap, sym, refl, rules, arith, ◌∙◌}
+use Rattle.std.proofs.Common.{◌≡◌, ◌+◌, ◌-◌, ℕ, List, ◌∷◌, Bor, None, length, subst, ap, sym, refl, rules, arith, ◌∙◌}
 use Rattle.uc_tree.specs.Expressions as tree
 use Rattle.std.proofs.lemmas.Bool.{and_parts}
 use Rattle.uc_tree.specs.Cells.{declared_cells, maybe_cells, stmt_cells}
 use Rattle.uc_tree.specs.Scopes.{alone_scopes, maybe_scopes, stmt_scopes}
-use Rattle.uc_tree.specs.Statements.{Break, Continue, If, OneStmt, Raise, Resume, Suspend, Throw}
+use Rattle.uc_tree.specs.Statements.{Break, Continue, If, OneStmt, Raise, Resume, Suspend, Throw, Yield}
 use Rattle.uc_tree.specs.StatementSizes.{maybe_stmt_size, stmt_size}
 use Rattle.uc_tree.specs.StatementViews.{maybe_at}
 use Rattle.uc_built.specs.BuiltForms.{is_built_maybe, is_built_stmt}
@@ -13,7 +13,7 @@ use Rattle.uc_code.specs.declared.rows.Mark.{Mark}
 use Rattle.uc_code.specs.Drafts.{Draft}
 use Rattle.uc_lower_stmt.proofs.Stating.{stmt_is, arm_empty, arm_unasked, arm_evaluate, arm_declare, arm_print, arm_print_together, arm_read, arm_block, arm_if, arm_while, arm_do, arm_for_stmt, arm_break, arm_continue, arm_return, built_at, exit_few, sizes_at_item}
 use Rattle.uc_lower_stmt.proofs.RaisingLemmas.{arm_resumed, arm_thrown}
-use Rattle.uc_lower_stmt.proofs.Switches.{arm_resume, arm_suspend}
+use Rattle.uc_lower_stmt.proofs.Switches.{arm_resume, arm_suspend, arm_yield}
 use Rattle.uc_lower_stmt.proofs.HandlingLemmas.{arm_catches, arm_resumes, handler_done, listed, more_laid, none_laid}
 use Rattle.uc_lower_stmt.proofs.Fitting.{HandlersFit, behind_fits, handlers_bare, handlers_fit, parts_built, rest_bare, rest_fits_in, rest_less, try_asks, try_fits}
 use Rattle.uc_lower_stmt.proofs.Tried.{arm_tried, arm_try}
@@ -28,8 +28,8 @@ use Rattle.uc_tree.specs.Sizes.{size_at}
 use Rattle.uc_tree.specs.StatementForms.{stmt_at}
 use Rattle.uc_code.specs.Layout.{routine_in}
 use Rattle.uc_lower_stmt.specs.Control.{DeclaresObjects, maybe_at_size}
-use Rattle.uc_lower_stmt.specs.Marked.{objects_in, taken}
-use Rattle.uc_lower_expr.proofs.Knowing.{plain_within}
+use Rattle.uc_lower_stmt.specs.Marked.{closing, objects_in, taken}
+use Rattle.uc_lower_expr.proofs.Knowing.{made_within}
 use Rattle.uc_lower_stmt.proofs.Openings.{all_behind}
 use Rattle.uc_lower_stmt.proofs.Choosing.{arm_choice}
 use Rattle.uc_lower_stmt.proofs.Fors.{arm_for, loop_room}
@@ -66,16 +66,16 @@ stmt::lower_stmts-returns t c = list_ended c.args.names.now c.args.line (length 
 
 pub stmt::lower_next-returns-in_ok-lower_objects-in-Some : goal.stmt::lower_next-returns-in_ok-lower_objects-in-Some
 stmt::lower_next-returns-in_ok-lower_objects-in-Some t c =
-    arm_next_objects c.args.names.now c.args.line c.s.inside.pos c.s.inside.form c.args.s.now c.in-Some.declared _ _ c.fit.ensures c.requires.built c.s.view_is (subst (λ o. DeclaresObjects c.args.names.now (stmt_at c.s.inside.pos c.s.inside.form) o) c.in-Some.is (c.declared_in.ensures c.s.inside.pos)) c.in_ok-lower_objects-in-Some.ensures
+    arm_next_objects c.args.names.now c.args.line c.s.inside.pos c.s.inside.form c.args.s.now c.in-Some.declared _ _ c.requires.built c.s.view_is (subst (λ o. DeclaresObjects c.args.names.now (stmt_at c.s.inside.pos c.s.inside.form) o) c.in-Some.is (c.declared_in.ensures c.s.inside.pos)) c.in_ok-lower_objects-in-Some.ensures
 
 pub stmt::lower_next-returns-in_ok-lower_stmt-in-None : goal.stmt::lower_next-returns-in_ok-lower_stmt-in-None
 stmt::lower_next-returns-in_ok-lower_stmt-in-None t c =
-    arm_next c.args.names.now c.args.line c.args.s.now _ _ c.fit.ensures c.requires.built (subst (λ u. DeclaresObjects c.args.names.now u None) c.s.view_is (subst (λ o. DeclaresObjects c.args.names.now (stmt_at c.s.inside.pos c.s.inside.form) o) c.in-None.is (c.declared_in.ensures c.s.inside.pos))) c.in_ok-lower_stmt-in-None.ensures
+    arm_next c.args.names.now c.args.line c.args.s.now _ _ c.requires.built (subst (λ u. DeclaresObjects c.args.names.now u None) c.s.view_is (subst (λ o. DeclaresObjects c.args.names.now (stmt_at c.s.inside.pos c.s.inside.form) o) c.in-None.is (c.declared_in.ensures c.s.inside.pos))) c.in_ok-lower_stmt-in-None.ensures
 
 pub stmt::lower_next-lower_objects-requires-clause-class : goal.stmt::lower_next-lower_objects-requires-clause-class
 stmt::lower_next-lower_objects-requires-clause-class t c =
     let d = subst (λ o. DeclaresObjects c.args.names.now (stmt_at c.s.inside.pos c.s.inside.form) o) c.in-Some.is (c.declared_in.ensures c.s.inside.pos) in
-    plain_within c.args.names.now c.in-Some.declared.base.now c.in-Some.declared.class (next_fits c.args.names.now c.s.inside.pos c.s.inside.form c.args.s.now c.in-Some.declared c.s.view_is d).class
+    made_within c.args.names.now c.in-Some.declared.base.now c.in-Some.declared.class (next_fits c.args.names.now c.s.inside.pos c.s.inside.form c.args.s.now c.in-Some.declared c.s.view_is d).class
 
 pub stmt::lower_next-lower_objects-requires-clause-behind : goal.stmt::lower_next-lower_objects-requires-clause-behind
 stmt::lower_next-lower_objects-requires-clause-behind t c = all_behind c.args.names.now c.in-Some.declared.class c.args.out.now.marks c.requires.inside
@@ -107,10 +107,16 @@ stmt::lower_stmt-put_exit-requires-in-Continue t c =
     omega (arith, size, few, c.requires.room)
 
 pub stmt::lower_stmt-returns-in-Empty : goal.stmt::lower_stmt-returns-in-Empty
-stmt::lower_stmt-returns-in-Empty t c = elim c.in-Empty.is [
-  | inl is ↦ arm_empty c.args.names.now c.args.s.now _ _ (stmt_is _ _ _ _ is c.s.view_is)
-  | inr is ↦ arm_unasked c.args.names.now c.args.s.now _ _ (stmt_is _ _ _ _ is c.s.view_is) c.requires.built refl
-]
+stmt::lower_stmt-returns-in-Empty t c = arm_empty c.args.names.now c.args.s.now _ _ (stmt_is _ _ _ _ c.in-Empty.is c.s.view_is)
+
+pub stmt::lower_stmt-put_yield-requires : goal.stmt::lower_stmt-put_yield-requires
+stmt::lower_stmt-put_yield-requires t c =
+    let is : Yield c.s.inside.pos ≡ c.args.s.now = stmt_is _ _ _ _ c.in-Yield.is c.s.view_is in
+    let size = ap (λ s. size_at s (objects_in c.args.out.now.marks)) is in
+    omega (arith, size, c.requires.room)
+
+pub stmt::lower_stmt-returns-in_ok-put_yield-in-Yield : goal.stmt::lower_stmt-returns-in_ok-put_yield-in-Yield
+stmt::lower_stmt-returns-in_ok-put_yield-in-Yield t c = arm_yield c.args.names.now c.args.s.now c.s.inside.pos _ _ (stmt_is _ _ _ _ c.in-Yield.is c.s.view_is) c.in_ok-put_yield-in-Yield.ensures
 
 pub stmt::lower_stmt-lower_try-requires : goal.stmt::lower_stmt-lower_try-requires
 stmt::lower_stmt-lower_try-requires t c =
@@ -224,7 +230,7 @@ stmt::lower_if-lower_alone-requires t c =
     let br = b.room in
     let ms : c.put.new.out.marks ≡ c.args.out.now.marks = ap (λ (d : Draft). d.marks) b.rest ∙ ap (λ (d : Draft). d.marks) a.rest in
     let inside = ap routine_in ms in
-    let objects = ap objects_in ms in
+    let objects = ap closing ms in
     let size = ap (λ (l : List Mark). size_at c.args.chosen.now (objects_in l)) ms in
     let cells = ap (λ (d : Draft). d.cells) b.rest ∙ ap (λ (d : Draft). d.cells) a.rest in
     let scopes = ap (λ (d : Draft). d.scopes) b.rest ∙ ap (λ (d : Draft). d.scopes) a.rest in
@@ -247,7 +253,7 @@ stmt::lower_if-lower_maybe-requires t c =
     let ms : c.put.new.out.marks ≡ c.args.out.now.marks = ap (λ (d : Draft). d.marks) b.rest ∙ ap (λ (d : Draft). d.marks) a.rest in
     let ns : c.put-2.new.out.marks ≡ c.args.out.now.marks = ap (λ (d : Draft). d.marks) k.rest ∙ ap (λ (d : Draft). d.marks) h.rest ∙ ms in
     let inside = ap routine_in ns in
-    let objects = ap objects_in ns in
+    let objects = ap closing ns in
     let size = ap (λ (l : List Mark). size_at c.args.chosen.now (objects_in l)) ms in
     let other = ap (λ (l : List Mark). maybe_at_size (maybe_at c.args.other.now) (objects_in l)) ns in
     let cells = ap (λ (d : Draft). d.cells) b.rest ∙ ap (λ (d : Draft). d.cells) a.rest in
@@ -268,7 +274,7 @@ stmt::lower_loop-lower_alone-requires t c =
     let ar = a.room in
     let en = c.in_ok-enter_loop.ensures.ok in
     let inside = ap (λ (d : Draft). routine_in d.marks) en ∙ ap (λ (d : Draft). routine_in d.marks) a.rest in
-    let objects = ap (λ (d : Draft). objects_in d.marks) en ∙ ap (λ (d : Draft). objects_in d.marks) a.rest in
+    let objects = ap (λ (d : Draft). closing d.marks) en ∙ ap (λ (d : Draft). closing d.marks) a.rest in
     let size = ap (λ (d : Draft). size_at c.args.body.now (objects_in d.marks)) en ∙ ap (λ (d : Draft). size_at c.args.body.now (objects_in d.marks)) a.rest in
     let cells = ap (λ (d : Draft). d.cells) en ∙ ap (λ (d : Draft). d.cells) a.rest in
     let scopes = ap (λ (d : Draft). d.scopes) en ∙ ap (λ (d : Draft). d.scopes) a.rest in
@@ -335,7 +341,7 @@ stmt::lower_for-close_scopes-requires t c =
     let less = loop_room c.args.names.now c.args.line c.args.start.now c.args.body.now _ _ h in
     let grow : size_at c.args.body.now (objects_in c.open_scope-outside.new.self.marks + for_declares c.args.start.now) ≡ size_at c.args.body.now (objects_in c.args.out.now.marks + for_declares c.args.start.now) = ap (λ (k : ℕ). size_at c.args.body.now (k + for_declares c.args.start.now)) objects in
     let lr = c.in_ok-lower_loop.ensures.room in
-    let same = ap (λ (d : Draft). objects_in d.marks) c.in_ok-lower_loop.ensures.rest in
+    let same = ap (λ (d : Draft). closing d.marks) c.in_ok-lower_loop.ensures.rest in
     omega (arith, hr, room, size, less, grow, lr, same, c.requires.room)
 
 pub stmt::lower_for-returns : goal.stmt::lower_for-returns

@@ -1,11 +1,22 @@
-use Rattle.std.proofs.Common.{Bool, sym, subst, arith}
-use Rattle.uc_code.specs.Lowered.{CalledAt}
-use Rattle.uc_code.specs.Emits.{Puts}
-use Rattle.uc_code.proofs.Putting.{puts_more, puts_behind}
+use Rattle.std.proofs.Common.{arith, true, false}
+use Rattle.uc_code.specs.declared.rows.Manner.TheVariants as manner
+use Rattle.uc_code.proofs.Putting.{puts_called}
 use Rattle.uc_code.proofs.cleaning.put_called.Goals as goal
 
-pub returns-in_ok-put_written : goal.returns-in_ok-put_written
-returns-in_ok-put_written c = subst (λ (w : Bool). Puts 2 (λ code. CalledAt code c.args.line c.args.out.now.marks w c.args.what.routine) c.args.out.now c.put_written.new.out) (sym c.if-what.true) c.in_ok-put_written.ensures
+pub put_plain-requires-clause-behind : goal.put_plain-requires-clause-behind
+put_plain-requires-clause-behind c = c.requires.behind.behind
 
-pub returns-in_ok-put_at_risk : goal.returns-in_ok-put_at_risk
-returns-in_ok-put_at_risk c = subst (λ (w : Bool). Puts 2 (λ code. CalledAt code c.args.line c.args.out.now.marks w c.args.what.routine) c.args.out.now c.put_at_risk.new.out) (sym c.if-what.false) (puts_more (omega arith) (puts_behind c.args.what.routine c.args.line c.args.out.now c.put_at_risk.new.out (c.requires.behind.behind c.if-what.false) c.in_ok-put_at_risk.ensures))
+pub put_made-requires-clause-behind : goal.put_made-requires-clause-behind
+put_made-requires-clause-behind c = c.requires.behind.behind
+
+pub put_ended-requires-clause-behind : goal.put_ended-requires-clause-behind
+put_ended-requires-clause-behind c = c.requires.behind.behind
+
+pub returns-in_ok-put_plain-in-Plain : goal.returns-in_ok-put_plain-in-Plain
+returns-in_ok-put_plain-in-Plain c = puts_called c.args.line c.args.what manner.Plain c.args.out.now c.put_plain.new.out c.in-Plain.is (omega arith) c.in_ok-put_plain-in-Plain.ensures
+
+pub returns-in_ok-put_made-in-Makes : goal.returns-in_ok-put_made-in-Makes
+returns-in_ok-put_made-in-Makes c = puts_called c.args.line c.args.what _ c.args.out.now c.put_made.new.out c.in-Makes.is (omega arith) c.in_ok-put_made-in-Makes.ensures
+
+pub returns-in_ok-put_ended-in-Ends : goal.returns-in_ok-put_ended-in-Ends
+returns-in_ok-put_ended-in-Ends c = puts_called c.args.line c.args.what manner.Ends c.args.out.now c.put_ended.new.out c.in-Ends.is (omega arith) c.in_ok-put_ended-in-Ends.ensures

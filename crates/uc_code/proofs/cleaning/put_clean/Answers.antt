@@ -13,3 +13,12 @@ returns-in_ok-put-in-TakeDown c = puts_clean c.args.line c.args.what _ c.args.ou
 
 pub returns-in_ok-put-in-Forget : goal.returns-in_ok-put-in-Forget
 returns-in_ok-put-in-Forget c = puts_clean c.args.line c.args.what _ c.args.out.now c.put-in-Forget.new.out c.in-Forget.is (omega arith) c.in_ok-put-in-Forget.ensures
+
+pub returns-in_ok-put_leave-in-Leave : goal.returns-in_ok-put_leave-in-Leave
+returns-in_ok-put_leave-in-Leave c = puts_clean c.args.line c.args.what _ c.args.out.now c.put_leave.new.out c.in-Leave.is (omega arith) c.in_ok-put_leave-in-Leave.ensures
+
+pub returns-in_ok-put-in-End : goal.returns-in_ok-put-in-End
+returns-in_ok-put-in-End c = puts_clean c.args.line c.args.what _ c.args.out.now c.put-in-End.new.out c.in-End.is (omega arith) c.in_ok-put-in-End.ensures
+
+pub returns-in_ok-put_freed-in-Free : goal.returns-in_ok-put_freed-in-Free
+returns-in_ok-put_freed-in-Free c = puts_clean c.args.line c.args.what _ c.args.out.now c.put_freed.new.out c.in-Free.is (omega arith) c.in_ok-put_freed-in-Free.ensures

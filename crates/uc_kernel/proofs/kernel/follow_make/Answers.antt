@@ -3,7 +3,7 @@ use Rattle.uc_acts.specs.Acts.{act}
 use Rattle.uc_kernel.specs.KernelState.{kept, put_back, stored}
 use Rattle.uc_kernel.specs.Calls.{Follows}
 use Rattle.uc_kernel.specs.AtRest.{Lies, earlier}
-use Rattle.uc_kernel.proofs.Making.{known, ended_made, small_made, few_made, lies_on_made, follows_made}
+use Rattle.uc_kernel.proofs.Making.{known, ended_made, small_made, few_made, lies_on_made, follows_made, lacks_made}
 use Rattle.uc_kernel.proofs.kernel.follow_make.Goals as goal
 
 pub index_mut-requires : goal.index_mut-requires
@@ -28,3 +28,7 @@ returns-clause-lies g c = λ going.
 pub returns-clause-follows : goal.returns-clause-follows
 returns-clause-follows g c = λ x b.
     subst (λ l. Follows (put_back (act c.args.book.now.opts c.args.book.now.sites c.args.book.now.input x.before c.args.back.processor c.args.task c.args.back.ticks c.args.back.asked) c.args.task c.args.back.task c.args.back.members.items c.args.back.child (kept (stored (earlier x.before c.args.book.now) b c.args.tasks.now.items c.args.loose.now.items))) (kept (stored c.args.book.now b c.hand_on.new.tasks.items l)) c.args.back.processor c.args.task c.hand_on.result) (sym c.push_reserved.ensures.items) (follows_made c.args.book.now c.args.task c.args.back c.args.tasks.now.items c.args.loose.now.items x c.requires.makes (sym c.is_over.ensures ∙ c.if-is_over.false) c.hand_on.result c.hand_on.new.tasks.items c.hand_on.ensures b)
+
+pub returns-clause-lacks : goal.returns-clause-lacks
+returns-clause-lacks g c =
+    lacks_made c.args.book.now c.args.task c.args.back c.args.tasks.now.items c.args.loose.now.items c.requires.is c.requires.makes (sym c.is_over.ensures ∙ c.if-is_over.false) c.hand_on.result c.hand_on.new.tasks.items c.hand_on.ensures

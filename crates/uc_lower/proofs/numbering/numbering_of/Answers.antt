@@ -9,7 +9,7 @@ use Rattle.uc_lower.proofs.numbering.numbering_of.Goals as goal
 
 pub returns : goal.returns
 returns c =
-    λ p d u k.
+    λ p d u k m.
     let us = map unwritten_as c.args.unwritten.now in
     let long : length c.args.classes.items ≡ length (classes_of p.items) = ap length k ∙ length-map (classes_of p.items) (number_of_class p) in
     let ok = c.args.classes.ok.0 in
@@ -25,4 +25,5 @@ returns c =
         builders = omega (arith, long, ok, first);
         destroyers = omega (arith, long, ok, second);
       };
+      members = m;
     }

@@ -1,4 +1,4 @@
-use Rattle.std.proofs.Common.{◌≡◌, ◌+◌, ◌<◌, ℕ, length, sym, subst, ap, ◌∙◌, arith}
+use Rattle.std.proofs.Common.{◌≡◌, ◌+◌, ◌<◌, ℕ, false, length, sym, subst, ap, ◌∙◌, arith}
 use Rattle.uc_tree.specs.Numbering.{routines_of}
 use Rattle.uc_tree.specs.Objects.{unwritten_of}
 use Rattle.uc_resolve.specs.Resolve.{unwritten_meant}
@@ -67,7 +67,7 @@ loop-place-preserved c =
     let place : length (routines_of p) + i ≡ c.loop-place.number = omega (arith, number, count) in
     let old = c.loop-place.out in
     let new = c.lower_unwritten.new.out in
-    let row : RoutineCode = record { entry = length old.ops; cells = 0; params = 0 } in
+    let row : RoutineCode = record { entry = length old.ops; cells = 0; params = 0; written = false } in
     let known : length (routines_of p) + i < c.args.count + length c.args.unwritten.now = omega (arith, count, inside) in (
       omega (arith, number),
       all_step p (routines_of p) (unwritten_of p) (c.args.count + length c.args.unwritten.now) i (unwritten_as u) old new at known lays c.in_ok-lower_unwritten.ensures.kept c.in_ok-lower_unwritten.ensures.room

@@ -1,4 +1,4 @@
-use Rattle.std.proofs.Common.{◌+◌, ℕ, length, nat_eq, refl, sym, subst, ap, ◌∙◌, arith}
+use Rattle.std.proofs.Common.{◌+◌, ℕ, true, length, nat_eq, refl, sym, subst, ap, ◌∙◌, arith}
 use Rattle.uc_tree.specs.Numbering.{routines_of}
 use Rattle.uc_resolve.specs.Resolve.{place_by, routine_meant, routine_scope}
 use Rattle.uc_code.specs.Layout.{laid_in}
@@ -13,15 +13,15 @@ use Rattle.uc_lower.proofs.routines.lower_routines.Goals as goal
 pub loop-number-init : goal.loop-number-init
 loop-number-init c = stands_none c.args.names.now (length c.args.out.now.routines) c.args.out.now (lays_none c.args.names.now (routines_of c.args.names.now) (length c.args.out.now.routines) c.args.out.now c.requires.ops c.requires.outside refl)
 
-pub lower_written-requires-clause-alone : goal.lower_written-requires-clause-alone
-lower_written-requires-clause-alone c =
+pub lower_written-requires-clause-named : goal.lower_written-requires-clause-named
+lower_written-requires-clause-named c =
     let n = as_many c.args.defined.now (routines_of c.args.names.now) c.requires.defined in
     let k = c.requires.count in
     let l = c.loop-number-test.true in
     let t = c.requires.table in
     let at = found_at c.args.defined.now (routines_of c.args.names.now) c.loop-number.number c.index-defined-number.result c.requires.defined (omega (arith, k, l)) c.index-defined-number.is in
     let f = follows c.args.names.now (length c.args.out.now.routines) c.loop-number.number c.loop-number.texts c.loop-number.sites (defined_at c.index-defined-number.result) c.loop-number.out c.requires.built c.requires.unbroken c.requires.fits (omega (arith, n, k, t)) at c.loop-number.invariant in
-    λ e. ap (nat_eq c.loop-number.number) c.requires.main ∙ f.alone e
+    λ e. f.named (ap (nat_eq c.loop-number.number) (sym c.requires.main) ∙ e)
 
 pub lower_written-requires-clause-built : goal.lower_written-requires-clause-built
 lower_written-requires-clause-built c =
@@ -112,5 +112,5 @@ loop-number-preserved c =
     subst (λ (t : ℕ). Stands c.args.names.now all (i + 1) t out.sites out) (sym c.texts-texts.ensures) (
     stands_next c.args.names.now all i c.loop-number.texts c.loop-number.sites (defined_at x) c.loop-number.out out c.requires.built (omega (arith, n, k, t)) at c.loop-number.invariant
     c.in_ok-lower_written.ensures.kept c.in_ok-lower_written.ensures.room
-    (subst (λ (m : ℕ). RoutineAt (laid_in out) m i (routine_meant p (defined_at x).routine (routine_scope p (defined_at x).routine (place_by p (defined_at x)) i c.loop-number.texts c.loop-number.sites)) (record { entry = length c.loop-number.out.ops; cells = frame_cells p (defined_at x).routine; params = length (defined_at x).routine.sig.params }) (length c.loop-number.out.ops) (length out.ops)) (last_is (routines_of p) c.args.count (omega (arith, n, k))) c.in_ok-lower_written.ensures.code)
+    (subst (λ (m : ℕ). RoutineAt (laid_in out) m i (routine_meant p (defined_at x).routine (routine_scope p (defined_at x).routine (place_by p (defined_at x)) i c.loop-number.texts c.loop-number.sites)) (record { entry = length c.loop-number.out.ops; cells = frame_cells p (defined_at x).routine; params = length (defined_at x).routine.sig.params; written = true }) (length c.loop-number.out.ops) (length out.ops)) (last_is (routines_of p) c.args.count (omega (arith, n, k))) c.in_ok-lower_written.ensures.code)
     c.in_ok-lower_written.ensures.written c.in_ok-lower_written.ensures.outside c.in_ok-lower_written.ensures.texts c.in_ok-lower_written.ensures.few_texts c.in_ok-lower_written.ensures.sites))

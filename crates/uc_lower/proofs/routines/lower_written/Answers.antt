@@ -5,6 +5,7 @@ use Rattle.uc_resolve.specs.Resolve.{class_by}
 use Rattle.uc_numbering.specs.Routines.{defined_at}
 use Rattle.uc_lower_stmt.specs.Routines.{main_in}
 use Rattle.uc_lower_class.specs.Bodies.{builder_room}
+use Rattle.uc_lower.proofs.Ending.{not_main}
 use Rattle.uc_lower.proofs.RoutineLayoutLemmas.{placed_at, plain_room, builder_room_is}
 use Rattle.uc_lower.proofs.routines.lower_written.Goals as goal
 
@@ -13,6 +14,9 @@ lower_routine-requires-clause-plain c = ap (λ (s : Sig). is_plain s.role) (sym 
 
 pub lower_routine-requires-clause-main : goal.lower_routine-requires-clause-main
 lower_routine-requires-clause-main c = c.main_in-whose_main.ensures c.args.number c.requires.main ∙ ap (λ (s : Sig). main_in c.args.names.now c.args.number (class_by c.args.names.now c.class_of-class.result) s) c.sig_of-sig.ensures
+
+pub lower_routine-requires-clause-named : goal.lower_routine-requires-clause-named
+lower_routine-requires-clause-named c = λ e. c.requires.named (c.requires.main ∙ e)
 
 pub lower_routine-requires-clause-room : goal.lower_routine-requires-clause-room
 lower_routine-requires-clause-room c =
@@ -34,7 +38,7 @@ lower_builder-requires-clause-role c = ap (λ (s : Sig). is_plain s.role) (sym c
 pub lower_builder-requires-clause-main : goal.lower_builder-requires-clause-main
 lower_builder-requires-clause-main c =
     let builds : is_plain c.args.one.now.routine.now.sig.role ≡ false = ap (λ (s : Sig). is_plain s.role) (sym c.sig_of-sig.ensures) ∙ sym c.is_plain.ensures ∙ c.if-is_plain.false in
-    sym c.requires.main ∙ c.requires.alone builds
+    sym c.requires.main ∙ not_main c.args.names.now c.args.is_program_main c.args.one.now.routine.now.sig c.requires.named builds
 
 pub lower_builder-requires-clause-room : goal.lower_builder-requires-clause-room
 lower_builder-requires-clause-room c =

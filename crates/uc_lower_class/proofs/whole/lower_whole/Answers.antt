@@ -7,7 +7,7 @@ use Rattle.uc_built.specs.BuiltForms.{are_built}
 use Rattle.uc_code.specs.Drafts.{Draft}
 use Rattle.uc_code.specs.Layout.{routine_in}
 use Rattle.uc_code.proofs.Sweeping.{closed_ops}
-use Rattle.uc_lower_stmt.specs.Marked.{objects_in}
+use Rattle.uc_lower_stmt.specs.Marked.{closing, objects_in}
 use Rattle.uc_lower_stmt.specs.LowersStatement.{sizes_at}
 use Rattle.uc_lower_class.proofs.Wholes.{whole_laid}
 use Rattle.uc_lower_class.proofs.whole.lower_whole.Goals as goal
@@ -27,7 +27,8 @@ lower_stmts-requires-clause-room c =
     let size = ap (sizes_at (stmts_of c.body_of.result.now)) zero in
     let body = ap (λ ss. sizes_at ss 0) c.body_of.ensures in
     let ops = ap (λ (d : Draft). length d.ops) c.in_ok-_row.ensures.ok in
-    omega (arith, zero, size, body, ops, c.in_ok-put.ensures.room, c.in_ok-put-2.ensures.room, c.requires.room)
+    let ends : closing c.open.new.self.marks ≡ 0 = ap (λ (d : Draft). closing d.marks) c.in_ok-_row.ensures.ok in
+    omega (arith, zero, size, body, ops, ends, c.in_ok-put.ensures.room, c.in_ok-put-2.ensures.room, c.requires.room)
 
 pub lower_stmts-requires-clause-cells : goal.lower_stmts-requires-clause-cells
 lower_stmts-requires-clause-cells c =

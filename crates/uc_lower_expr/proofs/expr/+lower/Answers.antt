@@ -7,7 +7,7 @@ use Rattle.uc_resolve.specs.Resolve.{Context, args_by, meant, value_of}
 use Rattle.uc_code.specs.declared.op.Op.TheVariants as op
 use Rattle.uc_lower_expr.specs.declared.ops.Joining.TheVariants as joining
 use Rattle.uc_lower_expr.specs.Contexts.{context_in}
-use Rattle.uc_lower_expr.proofs.Adding.{adds_settled, rest_behind, rest_then, live_in, risk_in, adds_more, adds_both, adds_fork}
+use Rattle.uc_lower_expr.proofs.Adding.{adds_settled, rest_behind, rest_then, live_in, mutex_in, risk_in, adds_more, adds_both, adds_fork}
 use Rattle.uc_lower_expr.proofs.Growing.{grows_settled}
 use Rattle.uc_lower_expr.proofs.Settled.{expr_stable, value_truth_stable}
 use Rattle.uc_code.proofs.Stable.{one_stable}
@@ -16,7 +16,7 @@ use Rattle.uc_tree.specs.declared.ops.UnaryOp.{UnaryOp}
 use Rattle.uc_tree.specs.declared.ops.StepOp.TheVariants as step
 use Rattle.uc_tree.specs.Expressions.{exprs_of}
 use Rattle.uc_resolve.specs.Resolve.{Standing, args_meant, call_by, unary_meant}
-use Rattle.uc_lower_expr.proofs.Walks.{tree_is, value_in, arm_number, arm_character, arm_truth, arm_cin, arm_minus, arm_not, arm_value, arm_argument, arm_bumped, told_bumped, arm_assigned, told_assigned, arm_to_variable, arm_to_place, arm_set, arm_set_by, arm_keep, arm_keep_by, variable_in_cut, args_in_cut, arm_link, right_as, links_fit, links_step, links_end, part_is, arm_called, arm_routine, arm_member_called, arm_live_called, field_not_called, grown_in, not_called, called_part, stepped_part, args_begin, args_step, args_skip, args_fit, parts_fit, parts_step, arm_no_element, arm_element, some_size, arm_postfix, told_postfix, arm_chain, told_chain, postfix_size, chain_size}
+use Rattle.uc_lower_expr.proofs.Walks.{tree_is, value_in, arm_number, arm_character, arm_truth, arm_cin, arm_minus, arm_not, arm_value, arm_argument, arm_bumped, told_bumped, arm_assigned, told_assigned, arm_to_variable, arm_to_place, arm_set, arm_set_by, arm_keep, arm_keep_by, variable_in_cut, args_in_cut, arm_link, right_as, links_fit, links_step, links_end, part_is, arm_called, arm_routine, arm_member_called, arm_live_called, arm_mutex_called, field_not_called, grown_in, not_called, called_part, stepped_part, args_begin, args_step, args_skip, args_fit, parts_fit, parts_step, arm_no_element, arm_element, some_size, arm_postfix, told_postfix, arm_chain, told_chain, postfix_size, chain_size}
 use Rattle.uc_lower_expr.specs.DraftGrowth.{Adds, ArgumentsCode}
 use Rattle.uc_lower_expr.proofs.expr.+lower.Goals.{lower_args-then-place-params+in_ok-lower_arg, lower_args-else-place-params}
 use Rattle.uc_lower_expr.proofs.expr.+lower.Goals as goal
@@ -54,7 +54,7 @@ pub lower_index-returns-in_ok-restart-in-None : goal.lower_index-returns-in_ok-r
 lower_index-returns-in_ok-restart-in-None t c = arm_no_element c.args.out.now.marks c.args.names.now _ _ _ (meant (context_in c.args.names.now c.args.out.now) c.args.index.now) _ _ _ _ (omega arith) c.requires.inside c.in-None.is c.nothing.ensures c.in_ok-restart-in-None.ensures
 
 pub lower_index-returns-in_ok-element-in-Some : goal.lower_index-returns-in_ok-element-in-Some
-lower_index-returns-in_ok-element-in-Some t c = arm_element c.args.out.now.marks c.args.names.now (OPS_FOR_SIZE * expr_size c.args.index.now) _ c.args.line _ c.in-Some.length c.element_size-size.result (meant (context_in c.args.names.now c.args.out.now) c.args.index.now) c.args.told _ _ _ _ _ c.fit.ensures c.element_size-size.ensures (omega arith) c.requires.inside c.in-Some.is c.in_ok-element-in-Some.ensures.tells c.in_ok-_index-in-Some.ensures.code c.in_ok-put-in-Some.ensures c.in_ok-element-in-Some.ensures.code
+lower_index-returns-in_ok-element-in-Some t c = arm_element c.args.out.now.marks c.args.names.now (OPS_FOR_SIZE * expr_size c.args.index.now) _ c.args.line _ c.in-Some.length c.element_size-size.result (meant (context_in c.args.names.now c.args.out.now) c.args.index.now) c.args.told _ _ _ _ _ c.element_size-size.ensures (omega arith) c.requires.inside c.in-Some.is c.in_ok-element-in-Some.ensures.tells c.in_ok-_index-in-Some.ensures.code c.in_ok-put-in-Some.ensures c.in_ok-element-in-Some.ensures.code
 
 pub lower_parts-lower_part-requires : goal.lower_parts-lower_part-requires
 lower_parts-lower_part-requires t c =
@@ -225,6 +225,11 @@ pub lower_call-returns-in_ok-put_live_call-in-LiveMember : goal.lower_call-retur
 lower_call-returns-in_ok-put_live_call-in-LiveMember t c =
     arm_live_called c.args.out.now.marks c.args.names.now (OPS_FOR_SIZE * exprs_size (exprs_of c.args.args.now)) _ c.args.line c.args.start c.in-LiveMember.routine _ (args_meant (context_in c.args.names.now c.args.out.now) (exprs_of c.args.args.now)) c.args.told _ _ _ _ (omega arith) c.requires.inside c.in-LiveMember.is c.params-in-LiveMember.ensures c.standing_as-in-LiveMember.ensures c.in_ok-lower_args-in-LiveMember.ensures
     (live_in c.args.line c.in-LiveMember.routine c.args.out.now _ _ c.in_ok-lower_args-in-LiveMember.ensures.rest c.in_ok-put_live_call-in-LiveMember.ensures)
+
+pub lower_call-returns-in_ok-put_mutex_call-in-MutexMember : goal.lower_call-returns-in_ok-put_mutex_call-in-MutexMember
+lower_call-returns-in_ok-put_mutex_call-in-MutexMember t c =
+    arm_mutex_called c.args.out.now.marks c.args.names.now (OPS_FOR_SIZE * exprs_size (exprs_of c.args.args.now)) _ c.args.line c.args.start c.in-MutexMember.member c.in-MutexMember.routine _ (args_meant (context_in c.args.names.now c.args.out.now) (exprs_of c.args.args.now)) c.args.told _ _ _ _ (omega arith) c.requires.inside c.in-MutexMember.is c.params-in-MutexMember.ensures c.standing_as-in-MutexMember.ensures c.in_ok-lower_args-in-MutexMember.ensures
+    (mutex_in c.args.line c.in-MutexMember.member c.in-MutexMember.routine c.args.out.now _ _ c.in_ok-lower_args-in-MutexMember.ensures.rest c.in_ok-put_mutex_call-in-MutexMember.ensures)
 
 pub lower_call-returns-in-Variable : goal.lower_call-returns-in-Variable
 lower_call-returns-in-Variable t c = not_called c.args.out.now.marks c.put_nothing.result c.args.names.now _ c.args.line c.args.start (standing.Variable c.in-Variable.field-0) _ c.args.told _ _ (omega arith) c.requires.inside c.in-Variable.is (λ o m h. ap (λ (x : Standing). call_by c.args.names.now x m (args_meant (context_in c.args.names.now c.args.out.now) (exprs_of c.args.args.now))) h) c.put_nothing.ensures.code c.put_nothing.ensures.tells

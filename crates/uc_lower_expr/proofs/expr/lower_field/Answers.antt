@@ -34,5 +34,8 @@ returns-in-Member c = no_part c.put_nothing-in-Member.result c.args.names.now c.
 pub returns-in-LiveMember : goal.returns-in-LiveMember
 returns-in-LiveMember c = no_part c.put_nothing-in-LiveMember.result c.args.names.now c.args.out.now.marks c.args.line c.args.start c.args.name.now (standing.LiveMember c.in-LiveMember.field-0) c.args.told _ _ c.requires.inside c.in-LiveMember.is (λ o m h. ap (λ (s : Standing). part_by c.args.names.now s m c.args.name.now) h) c.put_nothing-in-LiveMember.ensures.code c.put_nothing-in-LiveMember.ensures.tells
 
+pub returns-in-MutexMember : goal.returns-in-MutexMember
+returns-in-MutexMember c = no_part c.put_nothing-in-MutexMember.result c.args.names.now c.args.out.now.marks c.args.line c.args.start c.args.name.now (standing.MutexMember c.in-MutexMember.member c.in-MutexMember.routine) c.args.told _ _ c.requires.inside c.in-MutexMember.is (λ o m h. ap (λ (s : Standing). part_by c.args.names.now s m c.args.name.now) h) c.put_nothing-in-MutexMember.ensures.code c.put_nothing-in-MutexMember.ensures.tells
+
 pub returns-in-Nothing : goal.returns-in-Nothing
 returns-in-Nothing c = no_part c.put_nothing-in-Nothing.result c.args.names.now c.args.out.now.marks c.args.line c.args.start c.args.name.now standing.Nothing c.args.told _ _ c.requires.inside c.in-Nothing.is (λ o m h. ap (λ (s : Standing). part_by c.args.names.now s m c.args.name.now) h) c.put_nothing-in-Nothing.ensures.code c.put_nothing-in-Nothing.ensures.tells

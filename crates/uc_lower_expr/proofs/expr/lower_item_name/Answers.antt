@@ -10,4 +10,4 @@ pub returns-in_ok-put-in-None-clause-code : goal.returns-in_ok-put-in-None-claus
 returns-in_ok-put-in-None-clause-code c = item_routine c.args.out.now.marks c.args.names.now c.args.line c.args.name.now _ _ c.in-None.ensures c.in_ok-put-in-None.ensures
 
 pub returns-in_ok-put-in-Some-clause-tells : goal.returns-in_ok-put-in-Some-clause-tells
-returns-in_ok-put-in-Some-clause-tells c = fixed_named c.args.names.now c.args.name.now c.in-Some.fixed _ c.in-Some.ensures c.fixed_told.ensures
+returns-in_ok-put-in-Some-clause-tells c = fixed_named c.args.names.now c.args.name.now c.in-Some.fixed c.in-Some.ensures

@@ -10,8 +10,8 @@ returns-in-Some c =
 
 pub returns-in-Some-members_of : goal.returns-in-Some-members_of
 returns-in-Some-members_of c =
-    grown_told c.lower_member_of.result c.args.names.now _ c.args.line c.args.out.now.marks c.args.start (λ m. member_meant c.args.names.now c.in-Some-members_of.class (Of m.expr) c.args.name.now) (λ m. place_member c.args.names.now m.ty.len m c.args.name.now) c.args.told _ _ (λ m u. sym (object_is c.args.names.now c.args.name.now c.args.told c.in-Some-members_of.class c.fit.ensures c.in-None.is (sym c.members_of.ensures ∙ c.in-Some-members_of.is) m u)) c.lower_member_of.ensures
+    grown_told c.lower_member_of.result c.args.names.now _ c.args.line c.args.out.now.marks c.args.start (λ m. member_meant c.args.names.now c.in-Some-members_of.class (Of m.expr) c.args.name.now) (λ m. place_member c.args.names.now m.ty.len m c.args.name.now) c.args.told _ _ (λ m u. sym (object_is c.args.names.now c.args.name.now c.args.told c.in-Some-members_of.class c.in-None.is (sym c.members_of.ensures ∙ c.in-Some-members_of.is) m u)) c.lower_member_of.ensures
 
 pub returns-in-None-members_of : goal.returns-in-None-members_of
 returns-in-None-members_of c =
-    put_for_nothing c.args.out.now.marks c.put_nothing-in-None-members_of.result c.args.names.now _ c.args.line c.args.start (λ m. place_member c.args.names.now m.ty.len m c.args.name.now) c.args.told _ _ (omega arith) c.requires.inside (scalar_none c.args.names.now c.args.name.now c.args.told c.fit.ensures c.in-None.is (sym c.members_of.ensures ∙ c.in-None-members_of.is)) c.put_nothing-in-None-members_of.ensures.code c.put_nothing-in-None-members_of.ensures.tells
+    put_for_nothing c.args.out.now.marks c.put_nothing-in-None-members_of.result c.args.names.now _ c.args.line c.args.start (λ m. place_member c.args.names.now m.ty.len m c.args.name.now) c.args.told _ _ (omega arith) c.requires.inside (scalar_none c.args.names.now c.args.name.now c.args.told c.in-None.is (sym c.members_of.ensures ∙ c.in-None-members_of.is)) c.put_nothing-in-None-members_of.ensures.code c.put_nothing-in-None-members_of.ensures.tells

@@ -1,6 +1,7 @@
-use Rattle.std.proofs.Common.{rules, ◌≡◌, ◌+◌, ◌++◌, ◌∷◌, [], length, get_or, refl, ap, sym, subst, ◌∙◌}
+use Rattle.std.proofs.Common.{rules, ◌≡◌, ◌+◌, ◌++◌, ◌∷◌, [], pos, length, get_or, ap, sym, subst, ◌∙◌}
 use Rattle.uc_tree.specs.declared.rows.Held.{Held}
 use Rattle.uc_tree.specs.Capped.{capped}
+use Rattle.uc_tree.specs.Source.{Literal}
 use Rattle.uc_tree.specs.Cells.{class_cells}
 use Rattle.uc_tree.specs.Rows.{held_cells}
 use Rattle.uc_layout.specs.Places.{IsPlaces}
@@ -18,16 +19,19 @@ returns-in_ok-push-in-Ok c =
     let cell : c.in-Ok.cell ≡ c.args.table.now.cells = search rules in
     let sum : c.saturating_add-table.result ≡ capped (c.args.table.now.cells + c.cells_of_held.result) = search rules in
     let cells : c.saturating_add-table.result ≡ capped (c.args.table.now.cells + held_cells (class_cells p) (get_or c.args.held.now count one_scalar)) = sum_capped c.args.table.now.cells c.cells_of_held.result (held_cells (class_cells p) (get_or c.args.held.now count one_scalar)) c.saturating_add-table.result (c.cells_of_held.ensures ∙ ap (λ (h : Held). capped (held_cells (class_cells p) h)) what) sum in
+    let told = c.value_of_base-value.ensures.tells (Literal (pos 0)) in
     notes_one p c.args.held.now (record { base = c.args.base.now; declarator = d }) _ c.args.table.now (record { names = c.note_place.new.places; fields = c.push.new.self; cells = c.saturating_add-table.result }) c.requires
     (λ names l was. subst (λ n. IsPlaces (names ++ n ∷ []) c.note_place.new.places) (ap (λ x. x.name) c.declarator.view_is) (c.in_ok-note_place-in-Ok.ensures names (l ∙ sym place) was))
     c.in_ok-push-in-Ok.ensures.items
     (record {
       cell = cell;
       by_ref = sym (ap (λ x. x.by_ref) c.declarator.view_is);
-      shape = c.value_of_base-value.ensures.shape;
-      class = c.value_of_base-value.ensures.class;
-      event = c.value_of_base-value.ensures.event;
+      shape = told.shape;
+      class = told.class;
+      numbered = told.numbered;
+      event = told.event;
       len = c.length_of.ensures ∙ ap (λ (h : Held). length_by d.len h.count) what;
-      standing = refl;
+      number = c.is_number-number.ensures;
+      standing = c.held_as.ensures;
     })
     cells

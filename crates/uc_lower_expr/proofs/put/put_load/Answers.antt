@@ -34,5 +34,8 @@ returns-in-Member-clause-code c = λ p. load_none c.args.out.now.marks c.args.li
 pub returns-in-LiveMember-clause-code : goal.returns-in-LiveMember-clause-code
 returns-in-LiveMember-clause-code c = λ p. load_none c.args.out.now.marks c.args.line c.args.start (standing.LiveMember c.in-LiveMember.field-0) c.args.told _ _ c.requires.inside c.in-LiveMember.is (λ o e h. ap (λ (s : Standing). value_by s e) h) c.standing_as-in-LiveMember.ensures
 
+pub returns-in-MutexMember-clause-code : goal.returns-in-MutexMember-clause-code
+returns-in-MutexMember-clause-code c = λ p. load_none c.args.out.now.marks c.args.line c.args.start (standing.MutexMember c.in-MutexMember.member c.in-MutexMember.routine) c.args.told _ _ c.requires.inside c.in-MutexMember.is (λ o e h. ap (λ (s : Standing). value_by s e) h) c.standing_as-in-MutexMember.ensures
+
 pub returns-in-Nothing-clause-code : goal.returns-in-Nothing-clause-code
 returns-in-Nothing-clause-code c = λ p. load_none c.args.out.now.marks c.args.line c.args.start standing.Nothing c.args.told _ _ c.requires.inside c.in-Nothing.is (λ o e h. ap (λ (s : Standing). value_by s e) h) c.standing_as-in-Nothing.ensures

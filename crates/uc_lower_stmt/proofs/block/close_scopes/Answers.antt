@@ -1,7 +1,7 @@
 use Rattle.std.proofs.Common.{List, ap, sym, ◌∙◌, arith}
 use Rattle.uc_code.specs.declared.rows.Mark.{Mark}
 use Rattle.uc_lower_stmt.specs.Blocks.{innermost_in}
-use Rattle.uc_lower_stmt.proofs.BlocksLemmas.{ending_next, ending_none, in_scope, scope_room, scopes_ended}
+use Rattle.uc_lower_stmt.proofs.BlocksLemmas.{ending_next, ending_none, in_scope, no_call, scope_room, scopes_ended}
 use Rattle.uc_lower_stmt.proofs.block.close_scopes.Goals as goal
 
 pub loop-scope-init : goal.loop-scope-init
@@ -10,6 +10,10 @@ loop-scope-init c = ending_none c.args.count c.args.out.now
 pub close_scope-requires-clause-scope : goal.close_scope-requires-clause-scope
 close_scope-requires-clause-scope c =
     in_scope c.loop-scope.out.marks c.args.count c.in-Some.scope (ap (λ (ms : List Mark). innermost_in ms c.args.count) (sym c.marks.ensures.marks) ∙ (sym c.innermost.ensures ∙ c.in-Some.is)) c.marks.ensures.behind
+
+pub close_scope-requires-clause-other : goal.close_scope-requires-clause-other
+close_scope-requires-clause-other c =
+    no_call c.loop-scope.out.marks c.args.count c.in-Some.scope (ap (λ (ms : List Mark). innermost_in ms c.args.count) (sym c.marks.ensures.marks) ∙ (sym c.innermost.ensures ∙ c.in-Some.is)) c.marks.ensures.behind
 
 pub close_scope-requires-clause-room : goal.close_scope-requires-clause-room
 close_scope-requires-clause-room c =

@@ -7,7 +7,7 @@ use Rattle.uc_tree.specs.StatementSizes.{stmts_size}
 use Rattle.uc_built.specs.BuiltForms.{are_built}
 use Rattle.uc_code.specs.Drafts.{Draft}
 use Rattle.uc_code.specs.Layout.{routine_in}
-use Rattle.uc_lower_stmt.specs.Marked.{objects_in}
+use Rattle.uc_lower_stmt.specs.Marked.{closing, objects_in}
 use Rattle.uc_lower_stmt.specs.LowersStatement.{sizes_at}
 use Rattle.uc_lower_stmt.proofs.RoutinesLemmas.{called_lowered}
 use Rattle.uc_lower_stmt.proofs.routine.lower_called.Goals as goal
@@ -45,7 +45,9 @@ lower_stmts-requires-clause-room c =
     let size = ap (sizes_at (stmts_of c.body_of.result.now)) (none ∙ zero) in
     let body = ap (λ ss. sizes_at ss 0) c.body_of.ensures in
     let ops = ap (λ (d : Draft). length d.ops) c.in_ok-enter_body.ensures.ok in
-    omega (arith, none, zero, size, body, ops, c.requires.room)
+    let ends : closing c.enter_body.new.self.marks ≡ closing c.args.out.now.marks = ap (λ (d : Draft). closing d.marks) c.in_ok-enter_body.ensures.ok in
+    let none_end : closing c.args.out.now.marks ≡ 0 = ap closing c.requires.outside in
+    omega (arith, none, zero, size, body, ops, ends, none_end, c.requires.room)
 
 pub put_end-requires : goal.put_end-requires
 put_end-requires c =

@@ -9,7 +9,7 @@ use Rattle.uc_code.specs.Drafts.{Draft}
 use Rattle.uc_code.specs.Layout.{routine_in}
 use Rattle.uc_code.proofs.Sweeping.{closed_ops}
 use Rattle.uc_lower_expr.specs.DraftGrowth.{Adds, OpCode}
-use Rattle.uc_lower_stmt.specs.Marked.{objects_in}
+use Rattle.uc_lower_stmt.specs.Marked.{closing, objects_in}
 use Rattle.uc_lower_stmt.specs.LowersStatement.{sizes_at}
 use Rattle.uc_lower_stmt.proofs.RoutinesLemmas.{main_lowered}
 use Rattle.uc_lower_stmt.proofs.routine.lower_main.Goals as goal
@@ -47,7 +47,9 @@ lower_stmts-requires-clause-room c =
     let size = ap (sizes_at (stmts_of c.body_of.result.now)) (none ∙ zero) in
     let body = ap (λ ss. sizes_at ss 0) c.body_of.ensures in
     let ops = ap (λ (d : Draft). length d.ops) c.in_ok-_row.ensures.ok in
-    omega (arith, none, zero, size, body, ops, c.requires.room)
+    let ends : closing c.open.new.self.marks ≡ closing c.args.out.now.marks = ap (λ (d : Draft). closing d.marks) c.in_ok-_row.ensures.ok in
+    let none_end : closing c.args.out.now.marks ≡ 0 = ap closing c.requires.outside in
+    omega (arith, none, zero, size, body, ops, ends, none_end, c.requires.room)
 
 pub put-requires : goal.put-requires
 put-requires c =

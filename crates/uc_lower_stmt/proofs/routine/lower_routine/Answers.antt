@@ -43,7 +43,7 @@ returns-clause-kept c =
     let xs : c.params_of-params.result.now ≡ r.sig.params = c.params_of-params.ensures ∙ ap (λ (s : Sig). s.params) c.sig_of-sig.ensures in
     let cells = uncapped (routine_cells p r) c.cells_of_routine-variables.result (c.cells_of_routine-variables.ensures ∙ ap (λ (q : Program). capped (routine_cells q r)) c.sizes.ensures) c.requires.cells in
     let begins = begun_is p r c.args.class c.args.number c.cells_of_routine-variables.result c.args.texts c.args.sites c.params_of-params.result.now c.args.out.now c.begin_routine.new.self c.declare_params.new.out xs cells c.begin_routine.ensures c.in_ok-declare_params.ensures in
-    (arm_routine p r (plain_role r.sig.role c.requires.plain) c.fit.ensures c.args.class c.args.last c.args.number c.args.texts c.args.sites c.here-entry.result c.hidden-cells.result (length c.params_of-params.result.now) c.args.out.now c.declare_params.new.out c.lower_statements.new.out c.set_routine.new.self
+    (arm_routine p r (plain_role r.sig.role c.requires.plain) c.args.class c.args.last c.args.number c.args.texts c.args.sites c.here-entry.result c.hidden-cells.result (length c.params_of-params.result.now) c.args.out.now c.declare_params.new.out c.lower_statements.new.out c.set_routine.new.self
     c.requires.behind c.here-entry.ensures.count c.hidden-cells.ensures (ap length xs) begins c.in_ok-lower_statements.ensures c.set_routine.ensures).kept
 
 pub returns-clause-room : goal.returns-clause-room
@@ -53,7 +53,7 @@ returns-clause-room c =
     let xs : c.params_of-params.result.now ≡ r.sig.params = c.params_of-params.ensures ∙ ap (λ (s : Sig). s.params) c.sig_of-sig.ensures in
     let cells = uncapped (routine_cells p r) c.cells_of_routine-variables.result (c.cells_of_routine-variables.ensures ∙ ap (λ (q : Program). capped (routine_cells q r)) c.sizes.ensures) c.requires.cells in
     let begins = begun_is p r c.args.class c.args.number c.cells_of_routine-variables.result c.args.texts c.args.sites c.params_of-params.result.now c.args.out.now c.begin_routine.new.self c.declare_params.new.out xs cells c.begin_routine.ensures c.in_ok-declare_params.ensures in
-    (arm_routine p r (plain_role r.sig.role c.requires.plain) c.fit.ensures c.args.class c.args.last c.args.number c.args.texts c.args.sites c.here-entry.result c.hidden-cells.result (length c.params_of-params.result.now) c.args.out.now c.declare_params.new.out c.lower_statements.new.out c.set_routine.new.self
+    (arm_routine p r (plain_role r.sig.role c.requires.plain) c.args.class c.args.last c.args.number c.args.texts c.args.sites c.here-entry.result c.hidden-cells.result (length c.params_of-params.result.now) c.args.out.now c.declare_params.new.out c.lower_statements.new.out c.set_routine.new.self
     c.requires.behind c.here-entry.ensures.count c.hidden-cells.ensures (ap length xs) begins c.in_ok-lower_statements.ensures c.set_routine.ensures).room
 
 pub returns-clause-code : goal.returns-clause-code
@@ -63,7 +63,7 @@ returns-clause-code c =
     let xs : c.params_of-params.result.now ≡ r.sig.params = c.params_of-params.ensures ∙ ap (λ (s : Sig). s.params) c.sig_of-sig.ensures in
     let cells = uncapped (routine_cells p r) c.cells_of_routine-variables.result (c.cells_of_routine-variables.ensures ∙ ap (λ (q : Program). capped (routine_cells q r)) c.sizes.ensures) c.requires.cells in
     let begins = begun_is p r c.args.class c.args.number c.cells_of_routine-variables.result c.args.texts c.args.sites c.params_of-params.result.now c.args.out.now c.begin_routine.new.self c.declare_params.new.out xs cells c.begin_routine.ensures c.in_ok-declare_params.ensures in
-    (arm_routine p r (plain_role r.sig.role c.requires.plain) c.fit.ensures c.args.class c.args.last c.args.number c.args.texts c.args.sites c.here-entry.result c.hidden-cells.result (length c.params_of-params.result.now) c.args.out.now c.declare_params.new.out c.lower_statements.new.out c.set_routine.new.self
+    (arm_routine p r (plain_role r.sig.role c.requires.plain) c.args.class c.args.last c.args.number c.args.texts c.args.sites c.here-entry.result c.hidden-cells.result (length c.params_of-params.result.now) c.args.out.now c.declare_params.new.out c.lower_statements.new.out c.set_routine.new.self
     c.requires.behind c.here-entry.ensures.count c.hidden-cells.ensures (ap length xs) begins c.in_ok-lower_statements.ensures c.set_routine.ensures).code
 
 pub returns-clause-written : goal.returns-clause-written
@@ -73,7 +73,7 @@ returns-clause-written c =
     let xs : c.params_of-params.result.now ≡ r.sig.params = c.params_of-params.ensures ∙ ap (λ (s : Sig). s.params) c.sig_of-sig.ensures in
     let cells = uncapped (routine_cells p r) c.cells_of_routine-variables.result (c.cells_of_routine-variables.ensures ∙ ap (λ (q : Program). capped (routine_cells q r)) c.sizes.ensures) c.requires.cells in
     let begins = begun_is p r c.args.class c.args.number c.cells_of_routine-variables.result c.args.texts c.args.sites c.params_of-params.result.now c.args.out.now c.begin_routine.new.self c.declare_params.new.out xs cells c.begin_routine.ensures c.in_ok-declare_params.ensures in
-    (arm_routine p r (plain_role r.sig.role c.requires.plain) c.fit.ensures c.args.class c.args.last c.args.number c.args.texts c.args.sites c.here-entry.result c.hidden-cells.result (length c.params_of-params.result.now) c.args.out.now c.declare_params.new.out c.lower_statements.new.out c.set_routine.new.self
+    (arm_routine p r (plain_role r.sig.role c.requires.plain) c.args.class c.args.last c.args.number c.args.texts c.args.sites c.here-entry.result c.hidden-cells.result (length c.params_of-params.result.now) c.args.out.now c.declare_params.new.out c.lower_statements.new.out c.set_routine.new.self
     c.requires.behind c.here-entry.ensures.count c.hidden-cells.ensures (ap length xs) begins c.in_ok-lower_statements.ensures c.set_routine.ensures).written
 
 pub returns-clause-outside : goal.returns-clause-outside
@@ -83,7 +83,7 @@ returns-clause-outside c =
     let xs : c.params_of-params.result.now ≡ r.sig.params = c.params_of-params.ensures ∙ ap (λ (s : Sig). s.params) c.sig_of-sig.ensures in
     let cells = uncapped (routine_cells p r) c.cells_of_routine-variables.result (c.cells_of_routine-variables.ensures ∙ ap (λ (q : Program). capped (routine_cells q r)) c.sizes.ensures) c.requires.cells in
     let begins = begun_is p r c.args.class c.args.number c.cells_of_routine-variables.result c.args.texts c.args.sites c.params_of-params.result.now c.args.out.now c.begin_routine.new.self c.declare_params.new.out xs cells c.begin_routine.ensures c.in_ok-declare_params.ensures in
-    (arm_routine p r (plain_role r.sig.role c.requires.plain) c.fit.ensures c.args.class c.args.last c.args.number c.args.texts c.args.sites c.here-entry.result c.hidden-cells.result (length c.params_of-params.result.now) c.args.out.now c.declare_params.new.out c.lower_statements.new.out c.set_routine.new.self
+    (arm_routine p r (plain_role r.sig.role c.requires.plain) c.args.class c.args.last c.args.number c.args.texts c.args.sites c.here-entry.result c.hidden-cells.result (length c.params_of-params.result.now) c.args.out.now c.declare_params.new.out c.lower_statements.new.out c.set_routine.new.self
     c.requires.behind c.here-entry.ensures.count c.hidden-cells.ensures (ap length xs) begins c.in_ok-lower_statements.ensures c.set_routine.ensures).outside
 
 pub returns-clause-texts : goal.returns-clause-texts
@@ -93,7 +93,7 @@ returns-clause-texts c =
     let xs : c.params_of-params.result.now ≡ r.sig.params = c.params_of-params.ensures ∙ ap (λ (s : Sig). s.params) c.sig_of-sig.ensures in
     let cells = uncapped (routine_cells p r) c.cells_of_routine-variables.result (c.cells_of_routine-variables.ensures ∙ ap (λ (q : Program). capped (routine_cells q r)) c.sizes.ensures) c.requires.cells in
     let begins = begun_is p r c.args.class c.args.number c.cells_of_routine-variables.result c.args.texts c.args.sites c.params_of-params.result.now c.args.out.now c.begin_routine.new.self c.declare_params.new.out xs cells c.begin_routine.ensures c.in_ok-declare_params.ensures in
-    (arm_routine p r (plain_role r.sig.role c.requires.plain) c.fit.ensures c.args.class c.args.last c.args.number c.args.texts c.args.sites c.here-entry.result c.hidden-cells.result (length c.params_of-params.result.now) c.args.out.now c.declare_params.new.out c.lower_statements.new.out c.set_routine.new.self
+    (arm_routine p r (plain_role r.sig.role c.requires.plain) c.args.class c.args.last c.args.number c.args.texts c.args.sites c.here-entry.result c.hidden-cells.result (length c.params_of-params.result.now) c.args.out.now c.declare_params.new.out c.lower_statements.new.out c.set_routine.new.self
     c.requires.behind c.here-entry.ensures.count c.hidden-cells.ensures (ap length xs) begins c.in_ok-lower_statements.ensures c.set_routine.ensures).texts
 
 pub returns-clause-few_texts : goal.returns-clause-few_texts
@@ -103,7 +103,7 @@ returns-clause-few_texts c =
     let xs : c.params_of-params.result.now ≡ r.sig.params = c.params_of-params.ensures ∙ ap (λ (s : Sig). s.params) c.sig_of-sig.ensures in
     let cells = uncapped (routine_cells p r) c.cells_of_routine-variables.result (c.cells_of_routine-variables.ensures ∙ ap (λ (q : Program). capped (routine_cells q r)) c.sizes.ensures) c.requires.cells in
     let begins = begun_is p r c.args.class c.args.number c.cells_of_routine-variables.result c.args.texts c.args.sites c.params_of-params.result.now c.args.out.now c.begin_routine.new.self c.declare_params.new.out xs cells c.begin_routine.ensures c.in_ok-declare_params.ensures in
-    (arm_routine p r (plain_role r.sig.role c.requires.plain) c.fit.ensures c.args.class c.args.last c.args.number c.args.texts c.args.sites c.here-entry.result c.hidden-cells.result (length c.params_of-params.result.now) c.args.out.now c.declare_params.new.out c.lower_statements.new.out c.set_routine.new.self
+    (arm_routine p r (plain_role r.sig.role c.requires.plain) c.args.class c.args.last c.args.number c.args.texts c.args.sites c.here-entry.result c.hidden-cells.result (length c.params_of-params.result.now) c.args.out.now c.declare_params.new.out c.lower_statements.new.out c.set_routine.new.self
     c.requires.behind c.here-entry.ensures.count c.hidden-cells.ensures (ap length xs) begins c.in_ok-lower_statements.ensures c.set_routine.ensures).few_texts
 
 pub returns-clause-sites : goal.returns-clause-sites
@@ -113,5 +113,5 @@ returns-clause-sites c =
     let xs : c.params_of-params.result.now ≡ r.sig.params = c.params_of-params.ensures ∙ ap (λ (s : Sig). s.params) c.sig_of-sig.ensures in
     let cells = uncapped (routine_cells p r) c.cells_of_routine-variables.result (c.cells_of_routine-variables.ensures ∙ ap (λ (q : Program). capped (routine_cells q r)) c.sizes.ensures) c.requires.cells in
     let begins = begun_is p r c.args.class c.args.number c.cells_of_routine-variables.result c.args.texts c.args.sites c.params_of-params.result.now c.args.out.now c.begin_routine.new.self c.declare_params.new.out xs cells c.begin_routine.ensures c.in_ok-declare_params.ensures in
-    (arm_routine p r (plain_role r.sig.role c.requires.plain) c.fit.ensures c.args.class c.args.last c.args.number c.args.texts c.args.sites c.here-entry.result c.hidden-cells.result (length c.params_of-params.result.now) c.args.out.now c.declare_params.new.out c.lower_statements.new.out c.set_routine.new.self
+    (arm_routine p r (plain_role r.sig.role c.requires.plain) c.args.class c.args.last c.args.number c.args.texts c.args.sites c.here-entry.result c.hidden-cells.result (length c.params_of-params.result.now) c.args.out.now c.declare_params.new.out c.lower_statements.new.out c.set_routine.new.self
     c.requires.behind c.here-entry.ensures.count c.hidden-cells.ensures (ap length xs) begins c.in_ok-lower_statements.ensures c.set_routine.ensures).sites

@@ -1,9 +1,10 @@
-use Rattle.std.proofs.Common.{◌≡◌, ◌+◌, true, false, Some, sym, ap, subst, ◌∙◌}
+use Rattle.std.proofs.Common.{◌≡◌, ◌+◌, length, true, false, Some, sym, ap, subst, ◌∙◌}
 use Rattle.std.specs.Prelude.{slice_get}
 use Rattle.uc_code.specs.Layout.{laid_of}
-use Rattle.uc_coroutine.specs.MainEnds.{BlockLeft, block_over}
-use Rattle.uc_ride.proofs.Leading.{at_block, at_main, at_coroutine, cleans_by, cleans_no, tests}
-use Rattle.uc_ride.proofs.Lowering.{entered_falls, over_falls, tested_falls}
+use Rattle.uc_machine.specs.Raising.{arrives}
+use Rattle.uc_coroutine.specs.MainEnds.{BlockLeft, block_over, call_over}
+use Rattle.uc_ride.proofs.Leading.{at_block, at_call, at_main, at_coroutine, cleans_by, cleans_no, tests, calls}
+use Rattle.uc_ride.proofs.Lowering.{entered_falls, over_falls, tested_falls, called_falls}
 use Rattle.uc_ride.proofs.events.begin.Goals as goal
 
 pub returns-in-None-clause-source : goal.returns-in-None-clause-source
@@ -66,6 +67,29 @@ returns-else-end_block-clause-falls c =
     let here = at_block i (slice_get code.ops m.run.control) is (sym c.test_of.ensures ∙ c.in-Block.is) in
     let on : n ≡ block_over false (m.run.control + 1) m = c.end_block.ensures.now ∙ (ap (λ x. block_over x (c.next-next.result + 1) m) c.if-end_block.false ∙ ap (λ k. block_over false (k + 1) m) c.next-next.ensures) in
     λ w left g. tested_falls code w c.requires.paced left m n g i.line here on
+
+pub returns-in_ok-end_call-in-Call-clause-source : goal.returns-in_ok-end_call-in-Call-clause-source
+returns-in_ok-end_call-in-Call-clause-source c =
+    let code = c.args.code.now in
+    let m = c.args.work.now in
+    let n = c.end_call.new.work in
+    let i = c.in-Some.instruction in
+    let is : slice_get code.ops m.run.control ≡ Some i = sym (ap (slice_get code.ops) c.next-next.ensures) ∙ (sym c.op_at.ensures.op ∙ c.in-Some.is) in
+    let here = at_call c.in-Call.arrived i (slice_get code.ops m.run.control) is (sym c.test_of.ensures ∙ c.in-Call.is) in
+    λ source s low b.
+    calls source code low m n s c.in-Call.arrived i.line here (λ t h. c.in_ok-end_call-in-Call.ensures.source source (laid_of code) t h i.line (record { here = here }) (ap (λ k. k + 1) c.next-next.ensures)) b
+
+pub returns-in_ok-end_call-in-Call-clause-falls : goal.returns-in_ok-end_call-in-Call-clause-falls
+returns-in_ok-end_call-in-Call-clause-falls c =
+    let code = c.args.code.now in
+    let m = c.args.work.now in
+    let n = c.end_call.new.work in
+    let i = c.in-Some.instruction in
+    let is : slice_get code.ops m.run.control ≡ Some i = sym (ap (slice_get code.ops) c.next-next.ensures) ∙ (sym c.op_at.ensures.op ∙ c.in-Some.is) in
+    let here = at_call c.in-Call.arrived i (slice_get code.ops m.run.control) is (sym c.test_of.ensures ∙ c.in-Call.is) in
+    let over = arrives m.run.raised (length m.callers) in
+    let b : n ≡ call_over over c.in-Call.arrived (m.run.control + 1) m = c.in_ok-end_call-in-Call.ensures.now ∙ ap (λ k. call_over over c.in-Call.arrived (k + 1) m) c.next-next.ensures in
+    λ w left g. called_falls code w c.requires.paced left m n c.in-Call.arrived i.line over here b g
 
 pub end_on-requires : goal.end_on-requires
 end_on-requires c =

@@ -20,7 +20,7 @@ returns-in-Ended-clause-source c =
     let n = c.leave.new.work in
     let same : n ≡ m = c.in_ok-left.ensures.ok ∙ ap (λ x. left_as x m) c.in-Ended.is in
     λ source s h.
-    let f = leaves source code m n s left.Ended h (subst (λ x. LeftAs source (laid_of code) x n s) c.in-Ended.is (c.in_ok-left.ensures.source source (laid_of code) s h)) in
+    let f = leaves source code m n s left.Ended h (c.in_ok-left.ensures.ok ∙ ap (λ x. left_as x m) c.in-Ended.is) (subst (λ x. LeftAs source (laid_of code) x n s) c.in-Ended.is (c.in_ok-left.ensures.source source (laid_of code) s h)) in
     subst (λ a. Follow (laid_of code) source (Ask a) n s) (asked_now code ask.End 0 m n c.asks.result same c.asks.ensures) f
 
 pub returns-in-Returned-clause-source : goal.returns-in-Returned-clause-source
@@ -28,7 +28,7 @@ returns-in-Returned-clause-source c =
     let code = c.args.code.now in
     let m = c.args.work.now in
     let n = c.leave.new.work in
-    λ source s h. leaves source code m n s left.Returned h (subst (λ x. LeftAs source (laid_of code) x n s) c.in-Returned.is (c.in_ok-left.ensures.source source (laid_of code) s h))
+    λ source s h. leaves source code m n s left.Returned h (c.in_ok-left.ensures.ok ∙ ap (λ x. left_as x m) c.in-Returned.is) (subst (λ x. LeftAs source (laid_of code) x n s) c.in-Returned.is (c.in_ok-left.ensures.source source (laid_of code) s h))
 
 pub returns-in-Returned-clause-falls : goal.returns-in-Returned-clause-falls
 returns-in-Returned-clause-falls c =
@@ -44,15 +44,15 @@ returns-in-Escaped-clause-source c =
     let n = c.leave.new.work in
     let same : n ≡ m = c.in_ok-left.ensures.ok ∙ ap (λ x. left_as x m) c.in-Escaped.is in
     λ source s h.
-    let f = leaves source code m n s left.Escaped h (subst (λ x. LeftAs source (laid_of code) x n s) c.in-Escaped.is (c.in_ok-left.ensures.source source (laid_of code) s h)) in
-    subst (λ a. Follow (laid_of code) source (Ask a) n s) (asked_now code (ask.Fault (fault_number EscapeInUnwind)) 0 m n c.faults-escape.result same c.faults-escape.ensures) f
+    let f = leaves source code m n s left.Escaped h (c.in_ok-left.ensures.ok ∙ ap (λ x. left_as x m) c.in-Escaped.is) (subst (λ x. LeftAs source (laid_of code) x n s) c.in-Escaped.is (c.in_ok-left.ensures.source source (laid_of code) s h)) in
+    subst (λ a. Follow (laid_of code) source (Ask a) n s) (asked_now code (ask.Fault (fault_number EscapeInUnwind)) 0 m n c.faults.result same c.faults.ensures) f
 
 pub returns-in-PassedOn-clause-source : goal.returns-in-PassedOn-clause-source
 returns-in-PassedOn-clause-source c =
     let code = c.args.code.now in
     let m = c.args.work.now in
     let n = c.leave.new.work in
-    λ source s h. leaves source code m n s left.PassedOn h (subst (λ x. LeftAs source (laid_of code) x n s) c.in-PassedOn.is (c.in_ok-left.ensures.source source (laid_of code) s h))
+    λ source s h. leaves source code m n s left.PassedOn h (c.in_ok-left.ensures.ok ∙ ap (λ x. left_as x m) c.in-PassedOn.is) (subst (λ x. LeftAs source (laid_of code) x n s) c.in-PassedOn.is (c.in_ok-left.ensures.source source (laid_of code) s h))
 
 pub returns-in-PassedOn-clause-falls : goal.returns-in-PassedOn-clause-falls
 returns-in-PassedOn-clause-falls c =
@@ -75,4 +75,4 @@ returns-in-Escaped-clause-falls c =
     let m = c.args.work.now in
     let n = c.leave.new.work in
     let same : n ≡ m = c.in_ok-left.ensures.ok ∙ ap (λ x. left_as x m) c.in-Escaped.is in
-    λ w u. fault_falls code w (RunFalls code Unwind) m n c.faults-escape.result (fault_number EscapeInUnwind) _ c.faults-escape.ensures same u
+    λ w u. fault_falls code w (RunFalls code Unwind) m n c.faults.result (fault_number EscapeInUnwind) _ c.faults.ensures same u

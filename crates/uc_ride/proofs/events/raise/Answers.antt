@@ -6,7 +6,7 @@ use Rattle.uc_except.specs.Handling.{IsFound, handler_begun}
 use Rattle.uc_except.proofs.Handled.{begun_as}
 use Rattle.uc_except.proofs.Taken.{taken}
 use Rattle.uc_except.proofs.Thrown.{thrown_as}
-use Rattle.uc_ride.specs.UnwindingFalls.{how_ended}
+use Rattle.uc_ride.specs.UnwindingFalls.{how_settled}
 use Rattle.uc_ride.proofs.Leading.{Unwinding, fields_as, leads_on, raise_leads, handle_leads}
 use Rattle.uc_ride.proofs.Lowering.{raised_falls, found_falls}
 use Rattle.uc_ride.proofs.events.raise.Goals as goal
@@ -30,8 +30,8 @@ returns-in_ok-end-in-None-clause-source c =
     let e = c.args.event in
     λ source s low f.
     let g = raise_leads source (laid_of code) c.args.work.now c.throw.new.work e s (λ t h i. c.throw.ensures.resumed source (laid_of code) t h (fields_as source (laid_of code) e (event_in t.run.operands) (to_z w64 (of_z w64 e.x)) (to_z w64 (of_z w64 e.y)) x y i) none) f in
-    let u : Unwinding code c.throw.new.work (how_ended c.in_ok-end-in-None.end) c.unwinds.new.work = c.in_ok-end-in-None.ensures.source in
-    leads_on code c.throw.new.work c.unwinds.new.work (how_ended c.in_ok-end-in-None.end) u source s low g
+    let u : Unwinding code c.throw.new.work (how_settled c.in_ok-end-in-None.end c.unwinds.new.asked) c.unwinds.new.work = c.in_ok-end-in-None.ensures.source in
+    leads_on code c.throw.new.work c.unwinds.new.work (how_settled c.in_ok-end-in-None.end c.unwinds.new.asked) u source s low g
 
 pub returns-in_ok-end-in-None-clause-falls : goal.returns-in_ok-end-in-None-clause-falls
 returns-in_ok-end-in-None-clause-falls c =

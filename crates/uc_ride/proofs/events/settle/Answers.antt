@@ -1,11 +1,11 @@
-use Rattle.std.proofs.Common.{◌≡◌, sym, subst, to_z, of_z, w64, rules}
+use Rattle.std.proofs.Common.{◌≡◌, subst, to_z, of_z, w64, rules}
 use Rattle.uc_code.specs.Layout.{laid_of}
 use Rattle.uc_machine.specs.declared.exec.Reason.TheVariants as reason
 use Rattle.uc_machine.specs.Raising.{event_in}
 use Rattle.uc_except.proofs.Thrown.{thrown_as}
 use Rattle.uc_step.specs.WeightFalls.{FallsBelow}
 use Rattle.uc_step.specs.Simulation.{Follow}
-use Rattle.uc_ride.specs.UnwindingFalls.{how_ended}
+use Rattle.uc_ride.specs.UnwindingFalls.{how_settled}
 use Rattle.uc_ride.proofs.Leading.{Unwinding, fields_as, leads_on, throw_leads, past_leads, past_made, switch_leads}
 use Rattle.uc_ride.proofs.Lowering.{thrown_falls, past_falls, taken_falls}
 use Rattle.uc_ride.proofs.events.settle.Goals as goal
@@ -18,8 +18,8 @@ returns-in_ok-end-in-Throw-clause-source c =
     let y : to_z w64 (of_z w64 e.y) ≡ e.y = search rules in
     λ source s low f.
     let g = throw_leads source (laid_of code) c.args.work.now c.throw.new.work e s (λ t h i. c.throw.ensures.thrown source (laid_of code) t h (fields_as source (laid_of code) e (event_in t.run.operands) (to_z w64 (of_z w64 e.x)) (to_z w64 (of_z w64 e.y)) x y i)) (subst (λ h. Follow (laid_of code) source h c.args.work.now s) c.in-Throw.is f) in
-    let u : Unwinding code c.throw.new.work (how_ended c.in_ok-end-in-Throw.end) c.unwinds.new.work = c.in_ok-end-in-Throw.ensures.source in
-    subst (λ h. Follow (laid_of code) source h c.unwinds.new.work s) (sym c.settled_by.ensures) (leads_on code c.throw.new.work c.unwinds.new.work (how_ended c.in_ok-end-in-Throw.end) u source s low g)
+    let u : Unwinding code c.throw.new.work (how_settled c.in_ok-end-in-Throw.end c.unwinds.new.asked) c.unwinds.new.work = c.in_ok-end-in-Throw.ensures.source in
+    leads_on code c.throw.new.work c.unwinds.new.work (how_settled c.in_ok-end-in-Throw.end c.unwinds.new.asked) u source s low g
 
 pub returns-in_ok-end-in-Throw-clause-falls : goal.returns-in_ok-end-in-Throw-clause-falls
 returns-in_ok-end-in-Throw-clause-falls c =
@@ -30,7 +30,7 @@ returns-in_ok-end-in-Throw-clause-falls c =
     let thrown = thrown_as c.args.work.now c.throw.new.work e.number e.x e.y _ _ c.throw.ensures.now x y in
     λ w f.
     let u = thrown_falls code w e (reason.Event e.number e.x e.y) c.args.work.now c.throw.new.work thrown (subst (λ h. FallsBelow code w h c.args.work.now) c.in-Throw.is f) in
-    subst (λ h. FallsBelow code w h c.unwinds.new.work) (sym c.settled_by.ensures) (c.in_ok-end-in-Throw.ensures.falls w u)
+    c.in_ok-end-in-Throw.ensures.falls w u
 
 pub raise-requires-clause-below : goal.raise-requires-clause-below
 raise-requires-clause-below c =
@@ -42,26 +42,26 @@ pub returns-in_ok-end-in-Raise-clause-source : goal.returns-in_ok-end-in-Raise-c
 returns-in_ok-end-in-Raise-clause-source c =
     let code = c.args.code.now in
     λ source s low f.
-    subst (λ h. Follow (laid_of code) source h c.raise.new.work s) (sym c.settled_by-in-Raise.ensures) (c.in_ok-end-in-Raise.ensures.source source s low (subst (λ h. Follow (laid_of code) source h c.args.work.now s) c.in-Raise.is f))
+    c.in_ok-end-in-Raise.ensures.source source s low (subst (λ h. Follow (laid_of code) source h c.args.work.now s) c.in-Raise.is f)
 
 pub returns-in_ok-end-in-Raise-clause-falls : goal.returns-in_ok-end-in-Raise-clause-falls
 returns-in_ok-end-in-Raise-clause-falls c =
     let code = c.args.code.now in
     λ w f.
-    subst (λ h. FallsBelow code w h c.raise.new.work) (sym c.settled_by-in-Raise.ensures) (c.in_ok-end-in-Raise.ensures.falls w (subst (λ h. FallsBelow code w h c.args.work.now) c.in-Raise.is f))
+    c.in_ok-end-in-Raise.ensures.falls w (subst (λ h. FallsBelow code w h c.args.work.now) c.in-Raise.is f)
 
 pub returns-in_ok-end-in-Unwind-clause-source : goal.returns-in_ok-end-in-Unwind-clause-source
 returns-in_ok-end-in-Unwind-clause-source c =
     let code = c.args.code.now in
     λ source s low f.
-    let u : Unwinding code c.args.work.now (how_ended c.in_ok-end-in-Unwind.end) c.unwinds-in-Unwind.new.work = c.in_ok-end-in-Unwind.ensures.source in
-    subst (λ h. Follow (laid_of code) source h c.unwinds-in-Unwind.new.work s) (sym c.settled_by-in-Unwind.ensures) (leads_on code c.args.work.now c.unwinds-in-Unwind.new.work (how_ended c.in_ok-end-in-Unwind.end) u source s low (subst (λ h. Follow (laid_of code) source h c.args.work.now s) c.in-Unwind.is f))
+    let u : Unwinding code c.args.work.now (how_settled c.in_ok-end-in-Unwind.end c.unwinds-in-Unwind.new.asked) c.unwinds-in-Unwind.new.work = c.in_ok-end-in-Unwind.ensures.source in
+    leads_on code c.args.work.now c.unwinds-in-Unwind.new.work (how_settled c.in_ok-end-in-Unwind.end c.unwinds-in-Unwind.new.asked) u source s low (subst (λ h. Follow (laid_of code) source h c.args.work.now s) c.in-Unwind.is f)
 
 pub returns-in_ok-end-in-Unwind-clause-falls : goal.returns-in_ok-end-in-Unwind-clause-falls
 returns-in_ok-end-in-Unwind-clause-falls c =
     let code = c.args.code.now in
     λ w f.
-    subst (λ h. FallsBelow code w h c.unwinds-in-Unwind.new.work) (sym c.settled_by-in-Unwind.ensures) (c.in_ok-end-in-Unwind.ensures.falls w (subst (λ h. FallsBelow code w h c.args.work.now) c.in-Unwind.is f))
+    c.in_ok-end-in-Unwind.ensures.falls w (subst (λ h. FallsBelow code w h c.args.work.now) c.in-Unwind.is f)
 
 pub unwinds-requires-then-return_past-clause-below : goal.unwinds-requires-then-return_past-clause-below
 unwinds-requires-then-return_past-clause-below c =
@@ -74,15 +74,15 @@ returns-in_ok-end-in-Past-clause-source c =
     let code = c.args.code.now in
     λ source s low f.
     let g = past_leads source (laid_of code) c.args.work.now c.return_past.new.work c.in-Past.given s (c.return_past.ensures.source c.if-return_past.true (laid_of code)) (subst (λ h. Follow (laid_of code) source h c.args.work.now s) c.in-Past.is f) in
-    let u : Unwinding code c.return_past.new.work (how_ended c.in_ok-end-in-Past.end) c.unwinds-then-return_past.new.work = c.in_ok-end-in-Past.ensures.source in
-    subst (λ h. Follow (laid_of code) source h c.unwinds-then-return_past.new.work s) (sym c.settled_by-then-return_past.ensures) (leads_on code c.return_past.new.work c.unwinds-then-return_past.new.work (how_ended c.in_ok-end-in-Past.end) u source s low g)
+    let u : Unwinding code c.return_past.new.work (how_settled c.in_ok-end-in-Past.end c.unwinds-then-return_past.new.asked) c.unwinds-then-return_past.new.work = c.in_ok-end-in-Past.ensures.source in
+    leads_on code c.return_past.new.work c.unwinds-then-return_past.new.work (how_settled c.in_ok-end-in-Past.end c.unwinds-then-return_past.new.asked) u source s low g
 
 pub returns-in_ok-end-in-Past-clause-falls : goal.returns-in_ok-end-in-Past-clause-falls
 returns-in_ok-end-in-Past-clause-falls c =
     let code = c.args.code.now in
     λ w f.
     let u = past_falls code w c.in-Past.given c.args.work.now c.return_past.new.work c.return_past.result c.if-return_past.true c.return_past.ensures.now (subst (λ h. FallsBelow code w h c.args.work.now) c.in-Past.is f) in
-    subst (λ h. FallsBelow code w h c.unwinds-then-return_past.new.work) (sym c.settled_by-then-return_past.ensures) (c.in_ok-end-in-Past.ensures.falls w u)
+    c.in_ok-end-in-Past.ensures.falls w u
 
 pub returns-else-return_past-clause-source : goal.returns-else-return_past-clause-source
 returns-else-return_past-clause-source c =
@@ -100,37 +100,37 @@ pub returns-in-Resume-clause-source : goal.returns-in-Resume-clause-source
 returns-in-Resume-clause-source c =
     let code = c.args.code.now in
     λ source s low f.
-    subst (λ h. Follow (laid_of code) source h c.settle_resume.new.work s) (sym c.settled_by-in-Resume.ensures) (c.settle_resume.ensures.source source s (subst (λ h. Follow (laid_of code) source h c.args.work.now s) c.in-Resume.is f))
+    c.settle_resume.ensures.source source s (subst (λ h. Follow (laid_of code) source h c.args.work.now s) c.in-Resume.is f)
 
 pub returns-in-Resume-clause-falls : goal.returns-in-Resume-clause-falls
 returns-in-Resume-clause-falls c =
     let code = c.args.code.now in
     λ w f.
-    subst (λ h. FallsBelow code w h c.settle_resume.new.work) (sym c.settled_by-in-Resume.ensures) (c.settle_resume.ensures.falls w (subst (λ h. FallsBelow code w h c.args.work.now) c.in-Resume.is f))
+    c.settle_resume.ensures.falls w (subst (λ h. FallsBelow code w h c.args.work.now) c.in-Resume.is f)
 
 pub returns-in-Suspend-clause-source : goal.returns-in-Suspend-clause-source
 returns-in-Suspend-clause-source c =
     let code = c.args.code.now in
     λ source s low f.
-    subst (λ h. Follow (laid_of code) source h c.settle_suspend.new.work s) (sym c.settled_by-in-Suspend.ensures) (c.settle_suspend.ensures.source source s (subst (λ h. Follow (laid_of code) source h c.args.work.now s) c.in-Suspend.is f))
+    c.settle_suspend.ensures.source source s (subst (λ h. Follow (laid_of code) source h c.args.work.now s) c.in-Suspend.is f)
 
 pub returns-in-Suspend-clause-falls : goal.returns-in-Suspend-clause-falls
 returns-in-Suspend-clause-falls c =
     let code = c.args.code.now in
     λ w f.
-    subst (λ h. FallsBelow code w h c.settle_suspend.new.work) (sym c.settled_by-in-Suspend.ensures) (c.settle_suspend.ensures.falls w (subst (λ h. FallsBelow code w h c.args.work.now) c.in-Suspend.is f))
+    c.settle_suspend.ensures.falls w (subst (λ h. FallsBelow code w h c.args.work.now) c.in-Suspend.is f)
 
 pub returns-in-EndMain-clause-source : goal.returns-in-EndMain-clause-source
 returns-in-EndMain-clause-source c =
     let code = c.args.code.now in
     λ source s low f.
-    subst (λ h. Follow (laid_of code) source h c.settle_end.new.work s) (sym c.settled_by-in-EndMain.ensures) (c.settle_end.ensures.source source s (subst (λ h. Follow (laid_of code) source h c.args.work.now s) c.in-EndMain.is f))
+    c.settle_end.ensures.source source s (subst (λ h. Follow (laid_of code) source h c.args.work.now s) c.in-EndMain.is f)
 
 pub returns-in-EndMain-clause-falls : goal.returns-in-EndMain-clause-falls
 returns-in-EndMain-clause-falls c =
     let code = c.args.code.now in
     λ w f.
-    subst (λ h. FallsBelow code w h c.settle_end.new.work) (sym c.settled_by-in-EndMain.ensures) (c.settle_end.ensures.falls w (subst (λ h. FallsBelow code w h c.args.work.now) c.in-EndMain.is f))
+    c.settle_end.ensures.falls w (subst (λ h. FallsBelow code w h c.args.work.now) c.in-EndMain.is f)
 
 pub returns-in-TakeDown-clause-source : goal.returns-in-TakeDown-clause-source
 returns-in-TakeDown-clause-source c =

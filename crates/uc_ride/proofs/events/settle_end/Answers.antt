@@ -4,6 +4,7 @@ use Rattle.uc_code.specs.Layout.{laid_of}
 use Rattle.uc_step.specs.declared.stepped.Stepped.TheVariants.{EndMain}
 use Rattle.uc_step.specs.WeightFalls.{RunFalls}
 use Rattle.uc_step.specs.Simulation.{behind_line}
+use Rattle.uc_ride.specs.UnwindingFalls.{how_settled}
 use Rattle.uc_ride.proofs.Leading.{switch_settles}
 use Rattle.uc_ride.proofs.Lowering.{moved_same, finished_falls, switch_falls}
 use Rattle.uc_ride.proofs.events.settle_end.Goals as goal
@@ -14,7 +15,7 @@ returns-clause-source c =
     let m = c.args.work.now in
     let n = c.finish-fault.new.work in
     λ source s f.
-    switch_settles source code m n s f.0 f.1 c.finish-fault.result c.asked_behind-asked.result (λ g e. moved_same (finish m) m n g (e ∙ c.finish-fault.ensures.fault) c.finish-fault.ensures.state) f.2 c.asked_behind-asked.ensures (c.finish-fault.ensures.source source (laid_of code) f.0 f.3)
+    switch_settles source code m n s f.0 f.1 c.finish-fault.result (how_settled c.switched-end.result c.switched-end.new.asked) (λ g e. moved_same (finish m) m n g (e ∙ c.finish-fault.ensures.fault) c.finish-fault.ensures.state) f.2 c.switched-end.ensures (c.finish-fault.ensures.source source (laid_of code) f.0 f.3)
 
 pub returns-clause-falls : goal.returns-clause-falls
 returns-clause-falls c =
@@ -22,5 +23,5 @@ returns-clause-falls c =
     let m = c.args.work.now in
     let n = c.finish-fault.new.work in
     λ w h.
-    switch_falls code w (RunFalls code EndMain) m n (behind_line (laid_of code) n) c.finish-fault.result c.asked_behind-asked.result (λ e. finished_falls code w m n (e ∙ c.finish-fault.ensures.fault) c.finish-fault.ensures.state h)
-    (λ g e. moved_same (finish m) m n g (e ∙ c.finish-fault.ensures.fault) c.finish-fault.ensures.state) c.asked_behind-asked.ensures h
+    switch_falls code w (RunFalls code EndMain) m n (behind_line (laid_of code) n) c.finish-fault.result (how_settled c.switched-end.result c.switched-end.new.asked) (λ e. finished_falls code w m n (e ∙ c.finish-fault.ensures.fault) c.finish-fault.ensures.state h)
+    (λ g e. moved_same (finish m) m n g (e ∙ c.finish-fault.ensures.fault) c.finish-fault.ensures.state) c.switched-end.ensures h

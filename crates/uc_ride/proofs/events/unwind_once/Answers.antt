@@ -32,7 +32,7 @@ returns-in_ok-after-in-None-clause-source c =
     λ source s low h.
     let u = subst (λ b. UnwoundTo source (laid_of code) b c.row_in.result n s) c.if-unwind.false (c.unwind.ensures.source source s h own) in
     let l = subst (λ r. UnwoundTo source (laid_of code) false r n s) none u in
-    follow_before source (laid_of code) (how_unwound c.in_ok-after-in-None.after) c.leave_on.new.work s l.after l.by (c.in_ok-after-in-None.ensures.source source l.after l.stands)
+    follow_before source (laid_of code) (how_unwound c.in_ok-after-in-None.after c.leave_on.new.asked) c.leave_on.new.work s l.after l.by (c.in_ok-after-in-None.ensures.source source l.after l.stands)
 
 pub returns-in_ok-handle-in-Some-clause-source : goal.returns-in_ok-handle-in-Some-clause-source
 returns-in_ok-handle-in-Some-clause-source c =

@@ -1,3 +1,4 @@
+use Rattle.std.proofs.Common.{rules}
 use Rattle.std.specs.Prelude.{map, string_bytes}
 use Rattle.uc_words.specs.Rest.{command_of}
 use Rattle.uc_top.proofs.Line.{in_line}
@@ -5,7 +6,7 @@ use Rattle.uc_top.proofs.Findings.{has_done, has_refused, bad_word}
 use Rattle.uc_top.proofs.decide.decide.Goals as goal
 
 pub do_job-requires : goal.do_job-requires
-do_job-requires g c = record { range = in_line (map string_bytes c.args.words.now) (command_of c.in-Ok.job) c.in-Ok.ensures.line }
+do_job-requires g c = (search rules, (search rules, in_line (map string_bytes c.args.words.now) (command_of c.in-Ok.job) c.in-Ok.ensures.line))
 
 pub returns-in-Ok-do_job-clause-done : goal.returns-in-Ok-do_job-clause-done
 returns-in-Ok-do_job-clause-done g c = has_done (command_of c.in-Ok.job) c.in-Ok.ensures.line c.in-Ok.ensures.only c.in-Ok-do_job.ensures.did

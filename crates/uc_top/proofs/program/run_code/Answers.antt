@@ -4,14 +4,14 @@ use Rattle.uc_top.proofs.Ran.{program_ran, run_ends}
 use Rattle.uc_top.proofs.program.run_code.Goals as goal
 
 pub ending_of-ending-requires : goal.ending_of-ending-requires
-ending_of-ending-requires c =
+ending_of-ending-requires g c =
     let p = c.args.program.now in
     let items = c.deref.ensures.value ∙ ap (λ q. q.items) c.program.view_is in
     let number : main_number p ≡ c.in-Some.main = sym (c.in-Some.ensures.number p ∙ ap (main_among p) items) in
     run_ends p c.args.code.now c.args.input.now c.args.opts c.in-Some.main c.in_ok-journal.journal.items c.deref-3.result.now c.requires.accepted c.requires.lowered c.in_ok-journal.ensures.run number c.deref-3.ensures.value
 
 pub returns : goal.returns
-returns c =
+returns g c =
     let p = c.args.program.now in
     let items = c.deref.ensures.value ∙ ap (λ q. q.items) c.program.view_is in
     let number : main_number p ≡ c.in-Some.main = sym (c.in-Some.ensures.number p ∙ ap (main_among p) items) in

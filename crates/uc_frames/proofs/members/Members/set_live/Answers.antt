@@ -1,6 +1,6 @@
 use Rattle.uc_frames.specs.Machine.{lively}
 use Rattle.uc_frames.proofs.Slots.{links_none, links_there}
-use Rattle.uc_frames.proofs.Ascending.{ascends_set}
+use Rattle.uc_frames.proofs.Counted.{left_same, lively_engaged}
 use Rattle.uc_frames.proofs.members.Members.set_live.Goals as goal
 
 pub returns-in_default-1₀ : goal.returns-in_default-1₀
@@ -9,11 +9,11 @@ returns-in_default-1₀ c =
 
 -- the order of the numbers
 pub position_in_order-requires : goal.position_in_order-requires
-position_in_order-requires c = (_, c.self.invariant)
+position_in_order-requires c = (_, c.self.invariant.ascend)
 
 pub invariant_of-self : goal.invariant_of-self
 invariant_of-self c =
-    ascends_set 0 c.args.serial _ _ c.in-Some.i c.in-Some.ensures c.self.invariant c.get_mut-slot.result.now c.get_mut-slot.ensures.value _
+    left_same _ _ _ c.self.invariant c.args.serial c.in-Some.i c.in-Some.ensures c.get_mut-slot.result.now c.get_mut-slot.ensures.value _ (lively_engaged c.args.live c.in-Some-1₀.stack c.set_live.new.self _ c.in-Some-1₀.is c.set_live.ensures)
 
 pub returns-in-Some-1₀ : goal.returns-in-Some-1₀
 returns-in-Some-1₀ c =

@@ -1,7 +1,7 @@
 use Rattle.uc_machine.specs.Executions.{frame_changed}
 use Rattle.uc_frames.specs.Machine.{cell_written}
 use Rattle.uc_frames.proofs.Slots.{frames_none, frames_there}
-use Rattle.uc_frames.proofs.Ascending.{ascends_set}
+use Rattle.uc_frames.proofs.Counted.{frames_engaged, left_same}
 use Rattle.uc_frames.proofs.members.Members.write.Goals as goal
 
 pub returns-in_default-1₀ : goal.returns-in_default-1₀
@@ -10,11 +10,11 @@ returns-in_default-1₀ c =
 
 -- the order of the numbers
 pub position_in_order-requires : goal.position_in_order-requires
-position_in_order-requires c = (_, c.self.invariant)
+position_in_order-requires c = (_, c.self.invariant.ascend)
 
 pub invariant_of-self : goal.invariant_of-self
 invariant_of-self c =
-    ascends_set 0 c.args.serial _ _ c.in-Some.i c.in-Some.ensures c.self.invariant c.get_mut-slot.result.now c.get_mut-slot.ensures.value _
+    left_same _ _ _ c.self.invariant c.args.serial c.in-Some.i c.in-Some.ensures c.get_mut-slot.result.now c.get_mut-slot.ensures.value _ (frames_engaged (frame_changed c.args.depth (cell_written c.args.at c.args.cell)) c.in-Some-1₀.stack c.write.new.self _ c.in-Some-1₀.is c.write.ensures)
 
 pub returns-in-Some-1₀ : goal.returns-in-Some-1₀
 returns-in-Some-1₀ c =

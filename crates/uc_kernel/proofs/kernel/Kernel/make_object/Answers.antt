@@ -1,7 +1,8 @@
-use Rattle.std.proofs.Common.{sym, ap, ◌∙◌, subst}
+use Rattle.std.proofs.Common.{◌≡◌, ◌∷◌, [], sym, ap, ◌∙◌, subst}
 use Rattle.uc_acts.specs.KernelRuns.{MayAsk}
 use Rattle.uc_kernel.specs.KernelState.{Store, kept, stored}
-use Rattle.uc_kernel.specs.Calls.{Acted}
+use Rattle.uc_acts.specs.Queues.{running}
+use Rattle.uc_kernel.specs.Calls.{Acted, LacksNew}
 use Rattle.uc_kernel.specs.AtRest.{IsKept}
 use Rattle.uc_kernel.proofs.Dispatching.{is_ready_of}
 use Rattle.uc_kernel.proofs.Taking.{brought, renamed, asks_it, from_act, kept_from, acted_from}
@@ -23,3 +24,8 @@ invariant_of-self-2 g c = let k = (subst (IsKept c.self.inside.book c.self.insid
 pub returns-clause-ok : goal.returns-clause-ok
 returns-clause-ok g c = let k = (subst (IsKept c.self.inside.book c.self.inside.tasks.items) (sym c.in_ok-reserve.ensures.items) c.self.invariant) in let m = (brought c.args.self.now (stored c.self.inside.book c.self.inside.abandoned c.self.inside.tasks.items c.reserve.new.self.items) c.args.back (ap (stored c.self.inside.book c.self.inside.abandoned c.self.inside.tasks.items) c.in_ok-reserve.ensures.items ∙ c.self.view_is) c.requires.fits (sym c.is_over.ensures ∙ c.if-is_over.false)) in
     subst (λ (x : Store _ _). Acted (kept x) c.args.back c.follow_make-next.result (kept (stored c.make_object.new.self c.self.inside.abandoned c.follow_make-next.new.tasks.items c.follow_make-next.new.loose.items))) (ap (stored c.self.inside.book c.self.inside.abandoned c.self.inside.tasks.items) c.in_ok-reserve.ensures.items ∙ c.self.view_is) (acted_from c.self.inside.book c.self.inside.abandoned c.self.inside.tasks.items c.reserve.new.self.items k (sym c.is_over.ensures ∙ c.if-is_over.false) c.args.back m c.actor-who.result.processor c.actor-who.result.task c.actor-who.result.ticks c.actor-who.result.line (c.actor-who.ensures.processor m.task m.asks.runs) (c.actor-who.ensures.task m.task m.asks.runs) c.actor-who.ensures.ticks c.actor-who.ensures.line c.make_object.new.self (renamed c.self.inside.book c.make_object.new.self c.actor-who.result.processor c.actor-who.result.task c.actor-who.result.ticks c.actor-who.result.line _ c.args.back.asked.request c.class_of-class.ensures c.in_ok-make_object.ensures.ok) c.follow_make-next.new.tasks.items c.follow_make-next.new.loose.items c.follow_make-next.result c.follow_make-next.ensures.follows)
+
+pub returns-clause-lacks : goal.returns-clause-lacks
+returns-clause-lacks g c = λ t r.
+    let runs = subst (λ (x : Store _ _). running c.args.back.processor x.journal ≡ t ∷ []) (sym c.self.view_is) r in
+    subst (λ u. LacksNew c.make_object.new.self.journal u c.follow_make-next.result) (c.actor-who.ensures.task t runs) c.follow_make-next.ensures.lacks

@@ -1,4 +1,0 @@
-pub mod Alone
-pub mod Kept
-pub mod Loop
-pub mod Run

@@ -1,0 +1,10 @@
+use Rattle.std.proofs.Common.{arith, true, false}
+use Rattle.uc_code.specs.declared.rows.Manner.TheVariants as manner
+use Rattle.uc_code.proofs.Putting.{puts_by}
+use Rattle.uc_code.proofs.cleaning.put_ended.Goals as goal
+
+pub returns-in_ok-put_ended_written : goal.returns-in_ok-put_ended_written
+returns-in_ok-put_ended_written c = puts_by c.args.line c.args.routine manner.Ends c.args.written true c.args.out.now c.put_ended_written.new.out c.if-written.true (omega arith) c.in_ok-put_ended_written.ensures
+
+pub returns-in_ok-put_ended_unwritten : goal.returns-in_ok-put_ended_unwritten
+returns-in_ok-put_ended_unwritten c = puts_by c.args.line c.args.routine manner.Ends c.args.written false c.args.out.now c.put_ended_unwritten.new.out c.if-written.false (omega arith) c.in_ok-put_ended_unwritten.ensures

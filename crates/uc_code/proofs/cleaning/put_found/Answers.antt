@@ -1,0 +1,13 @@
+use Rattle.std.proofs.Common.{arith, true, false}
+use Rattle.uc_code.specs.declared.rows.Manner.TheVariants as manner
+use Rattle.uc_code.proofs.Putting.{puts_found}
+use Rattle.uc_code.proofs.cleaning.put_found.Goals as goal
+
+pub returns-in_ok-put_place-in-Plain : goal.returns-in_ok-put_place-in-Plain
+returns-in_ok-put_place-in-Plain c = puts_found c.args.line c.args.what manner.Plain c.args.out.now c.put_place.new.out c.in-Plain.is (omega arith) c.in_ok-put_place-in-Plain.ensures
+
+pub returns-in_ok-put_place-in-Makes : goal.returns-in_ok-put_place-in-Makes
+returns-in_ok-put_place-in-Makes c = puts_found c.args.line c.args.what _ c.args.out.now c.put_place-in-Makes.new.out c.in-Makes.is (omega arith) c.in_ok-put_place-in-Makes.ensures
+
+pub returns-in_ok-put_number-in-Ends : goal.returns-in_ok-put_number-in-Ends
+returns-in_ok-put_number-in-Ends c = puts_found c.args.line c.args.what manner.Ends c.args.out.now c.put_number.new.out c.in-Ends.is (omega arith) c.in_ok-put_number-in-Ends.ensures

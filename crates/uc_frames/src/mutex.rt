@@ -1,0 +1,107 @@
+// A task at mutex objects: its calls, what it builds, and the new objects that come into its hand.
+
+ghost use Rattle.std.specs.Prelude.{◌≡◌, IfOk, OnOk, OnErr};
+ghost use Rattle.uc_entry.specs.Keyed.{find};
+ghost use Rattle.uc_machine.specs.Insides.{build_begun, build_ended, call_begun, call_ended, call_gone, counted_no_more};
+ghost use Rattle.uc_frames.specs.Machine.{first_machine};
+ghost use Rattle.uc_frames.specs.Objects.{arrived_at, bound, with_object};
+
+use crate::members::Members;
+use crate::task::Task;
+use crate::work::Work;
+use std::alloc::AllocError;
+use uc_code::rows::RoutineCode;
+
+impl Work {
+    /// A new task whose object is `own`, as its main begins, inside its object alone.
+    pub fn child(&self, main: RoutineCode, own: u32) -> Result<Task, AllocError>
+        ensures { IfOk result (λ t. t ≡ first_machine main own) }
+    {
+        let child = Task::first(self.task.alloc(), main, own)?;
+        Ok(child)
+    }
+
+    /// How deep the task is in an object, if it is inside.
+    pub fn depth(&self, object: u32) -> Option<u32>
+        ensures { result ≡ find object self.now.env.depths }
+    {
+        self.task.depths().at(object)
+    }
+
+    /// A mutex call of an object begins. Counts at their most have want of memory.
+    pub fn begin_call(&mut self, object: u32) -> Result<(), AllocError>
+        ensures ok { OnOk result (self.new ≡ record self.old { env = call_begun object self.old.env }) }
+        ensures err { OnErr result (self.new ≡ self.old) }
+    {
+        self.task.begin_call(object)?;
+        Ok(())
+    }
+
+    /// A mutex call of an object ends.
+    pub fn end_call(&mut self, object: u32)
+        ensures { self.new ≡ record self.old { env = call_ended object self.old.env } }
+    {
+        self.task.end_call(object);
+    }
+
+    /// The mutex call in which an object is destroyed ends.
+    pub fn end_gone(&mut self, object: u32)
+        ensures { self.new ≡ record self.old { env = call_gone object self.old.env } }
+    {
+        self.task.end_gone(object);
+    }
+
+    /// The building of a mutex object begins. Counts at their most have want of memory.
+    pub fn begin_build(&mut self) -> Result<(), AllocError>
+        ensures ok { OnOk result (self.new ≡ record self.old { env = build_begun self.old.env }) }
+        ensures err { OnErr result (self.new ≡ self.old) }
+    {
+        self.task.begin_build()?;
+        Ok(())
+    }
+
+    /// The building of an object ends.
+    pub fn end_build(&mut self, object: u32)
+        ensures { self.new ≡ record self.old { env = build_ended object self.old.env } }
+    {
+        self.task.end_build(object);
+    }
+
+    /// The running activation is no active call any more.
+    pub fn count_no_more(&mut self)
+        ensures { self.new ≡ counted_no_more self.old }
+    {
+        self.task.count_no_more();
+    }
+
+    /// The place below the arguments of a routine is bound to the newest operand, which goes and stands there.
+    pub fn bind_made(&mut self, routine: RoutineCode)
+        ensures { self.new ≡ bound routine self.old }
+    {
+        let made = self.pop();
+        let place = self.below(routine.params);
+        self.task.put_below(routine.params, made);
+        self.write(place, made);
+    }
+
+    /// A new object with so many cells is the last in hand, and the task is inside it.
+    pub fn add_object(&mut self, cells: u32, object: u32) -> Result<(), AllocError>
+        ensures ok { OnOk result (self.new ≡ with_object cells object self.old) }
+        ensures err { OnErr result (self.new ≡ self.old) }
+    {
+        self.hand.room()?;
+        let members = Members::new(self.task.alloc(), cells)?;
+        self.task.enter_new(object)?;
+        self.hand.push((u64::from(object), members));
+        Ok(())
+    }
+
+    /// A return of a handler has arrived at the running mutex call, which goes on at this op with what that hands over.
+    pub fn arrive(&mut self, to: u32) -> Result<(), AllocError>
+        ensures ok { OnOk result (self.new ≡ record self.old { run = arrived_at to self.old.run }) }
+        ensures err { OnErr result (self.new ≡ self.old) }
+    {
+        self.task.arrive(to)?;
+        Ok(())
+    }
+}

@@ -1,0 +1,238 @@
+// The ops of mutex objects: a task enters and leaves them, makes them and destroys them.
+
+ghost use Rattle.std.specs.Prelude.{◌≡◌, IfOk, OnErr};
+ghost use Rattle.uc_step.specs.OpEffects.{act_built, act_leave_last, may_call, ended, Does, Ends};
+ghost use Rattle.uc_machine.specs.Insides.{is_last};
+ghost use Rattle.uc_frames.specs.Objects.{by_event, object_in, this_object};
+
+use crate::stepped::{Onward, Stepped, asked, faulted};
+use std::alloc::AllocError;
+use uc_code::code::Code;
+use uc_code::op::Op;
+use uc_entry::fault::RunFault;
+use uc_entry::request::Request;
+use uc_frames::cell::Cell;
+use uc_frames::work::Work;
+use uc_machine::exec::Reason;
+use uc_tree::limits::CALLS;
+
+// A mutex object by its number.
+fn object_in(cell: Cell) -> u32
+    ensures { result ≡ object_in cell }
+{
+    match cell {
+        Cell::Object(object) => object,
+        Cell::Number(_) | Cell::Place(_, _) | Cell::Running(_) | Cell::Nothing => 0,
+    }
+}
+
+// The object of the running call.
+fn this_object(work: &Work) -> u32
+    ensures { result ≡ this_object work.now }
+{
+    object_in(work.this())
+}
+
+// Whether one more call may be active, where a routine is written.
+fn may_call(work: &Work, written: bool) -> bool
+    ensures { result ≡ may_call written work.now }
+{
+    !written || work.calls() < CALLS
+}
+
+// The object below the arguments of a routine is entered: a task that is inside goes on, another asks.
+pub(crate) fn enter(
+    code: &Code,
+    line: u32,
+    work: &mut Work,
+    stop: &mut Stepped,
+    member: u8,
+    number: u32,
+) -> Result<Onward, AllocError>
+    ensures ok { IfOk result (λ how. Does code.now line (Op.Enter member number) work.old (ended how stop.new) work.new) }
+    ensures err { OnErr result (work.new ≡ work.old) }
+{
+    let Some(routine) = code.routine(number) else {
+        *stop = asked(code, line, work, Request::End);
+        return Ok(Onward::Stops);
+    };
+    if !may_call(work, routine.written) {
+        *stop = faulted(code, line, work, RunFault::Depth);
+        return Ok(Onward::Stops);
+    }
+    let object = object_in(work.below(routine.params));
+    let inside = work.depth(object).is_some();
+    work.begin_call(object)?;
+    if inside {
+        return Ok(Onward::Quiet);
+    }
+    *stop = asked(code, line, work, Request::Call { object, member });
+    Ok(Onward::Stops)
+}
+
+// Whether the call that ends is the last one in an object.
+fn is_last(depth: Option<u32>) -> bool
+    ensures { result ≡ is_last depth }
+{
+    match depth {
+        Some(depth) => depth < 2,
+        None => true,
+    }
+}
+
+// Whether an event unwinds.
+fn by_event(why: Option<Reason>) -> bool
+    ensures { result ≡ by_event why }
+{
+    matches!(why, Some(Reason::Event { .. }))
+}
+
+// The running call leaves the object at hand; where that is not the last leave, or the call is unwound, the task goes on at this op.
+pub(crate) fn leave(code: &Code, line: u32, work: &mut Work, stop: &mut Stepped, to: u32) -> Onward
+    ensures { Does code.now line (Op.Leave to) work.old (ended result stop.new) work.new }
+{
+    let object = this_object(work);
+    if !is_last(work.depth(object)) {
+        work.end_call(object);
+        work.go(to);
+        return Onward::Quiet;
+    }
+    if work.is_held_up(object) {
+        *stop = faulted(code, line, work, RunFault::BlockedInside);
+        return Onward::Stops;
+    }
+    leave_last(code, line, work, stop, object, to)
+}
+
+// So it asks.
+fn leave_last(
+    code: &Code,
+    line: u32,
+    work: &mut Work,
+    stop: &mut Stepped,
+    object: u32,
+    to: u32,
+) -> Onward
+    ensures { Ends (act_leave_last code.now line to object work.old) (ended result stop.new) work.new }
+{
+    let why = work.raised();
+    let failed = by_event(why);
+    *stop = asked(code, line, work, Request::Leave { object, failed });
+    work.end_call(object);
+    work.count_no_more();
+    if why.is_some() {
+        work.go(to);
+    }
+    Onward::Stops
+}
+
+// A mutex object is asked for, which a routine builds.
+pub(crate) fn make(
+    code: &Code,
+    line: u32,
+    work: &mut Work,
+    stop: &mut Stepped,
+    class: u32,
+    number: u32,
+) -> Result<Onward, AllocError>
+    ensures ok { IfOk result (λ how. Does code.now line (Op.Make class number) work.old (ended how stop.new) work.new) }
+    ensures err { OnErr result (work.new ≡ work.old) }
+{
+    let Some(routine) = code.routine(number) else {
+        *stop = asked(code, line, work, Request::End);
+        return Ok(Onward::Stops);
+    };
+    if !may_call(work, routine.written) {
+        *stop = faulted(code, line, work, RunFault::Depth);
+        return Ok(Onward::Stops);
+    }
+    work.begin_build()?;
+    *stop = asked(code, line, work, Request::Make { class });
+    Ok(Onward::Stops)
+}
+
+// What was made is bound to its place.
+pub(crate) fn bind_made(
+    code: &Code,
+    line: u32,
+    work: &mut Work,
+    stop: &mut Stepped,
+    class: u32,
+    number: u32,
+) -> Onward
+    ensures { Does code.now line (Op.BindMade class number) work.old (ended result stop.new) work.new }
+{
+    match code.routine(number) {
+        None => {
+            *stop = asked(code, line, work, Request::End);
+            Onward::Stops
+        }
+        Some(routine) => {
+            work.bind_made(routine);
+            Onward::Quiet
+        }
+    }
+}
+
+// The object at hand is built, which is asked so, unless the task is held up there.
+fn built(
+    code: &Code,
+    line: u32,
+    work: &mut Work,
+    stop: &mut Stepped,
+    object: u32,
+    request: Request,
+) -> Onward
+    ensures { Ends (act_built code.now line object request work.old) (ended result stop.new) work.new }
+{
+    let is_blocked = work.is_held_up(object);
+    if is_blocked {
+        *stop = faulted(code, line, work, RunFault::BlockedInside);
+        return Onward::Stops;
+    }
+    *stop = asked(code, line, work, request);
+    work.end_build(object);
+    Onward::Stops
+}
+
+// It is free.
+pub(crate) fn made(code: &Code, line: u32, work: &mut Work, stop: &mut Stepped) -> Onward
+    ensures { Does code.now line Op.Made work.old (ended result stop.new) work.new }
+{
+    let object = this_object(work);
+    built(code, line, work, stop, object, Request::Made { object })
+}
+
+// It begins as a task.
+pub(crate) fn spawn(
+    code: &Code,
+    line: u32,
+    work: &mut Work,
+    stop: &mut Stepped,
+    main: u32,
+) -> Onward
+    ensures { Does code.now line (Op.Spawn main) work.old (ended result stop.new) work.new }
+{
+    let object = this_object(work);
+    built(code, line, work, stop, object, Request::Spawn { object })
+}
+
+// The call in which it is destroyed ends.
+pub(crate) fn gone(code: &Code, line: u32, work: &mut Work, stop: &mut Stepped) -> Onward
+    ensures { Does code.now line Op.Gone work.old (ended result stop.new) work.new }
+{
+    let object = this_object(work);
+    *stop = asked(code, line, work, Request::Gone { object });
+    work.end_gone(object);
+    Onward::Stops
+}
+
+// Its building is given up.
+pub(crate) fn give_up(code: &Code, line: u32, work: &mut Work, stop: &mut Stepped) -> Onward
+    ensures { Does code.now line Op.GiveUp work.old (ended result stop.new) work.new }
+{
+    let object = this_object(work);
+    *stop = asked(code, line, work, Request::Gone { object });
+    work.end_build(object);
+    Onward::Stops
+}

@@ -1,0 +1,94 @@
+-- What a task may ask by the objects in its hand and those that are there, fits.
+use Rattle.std.proofs.Common.{◌≡◌, ℕ, ◌==◌, ◌<◌, ◌≤◌, Bool, true, false, not, List, [], ◌∷◌, refl, sym, ap, ◌∙◌, subst, length, arith}
+use Rattle.std.specs.Prelude.{slice_index_or}
+use Rattle.uc_tree.specs.Programs.{Site}
+use Rattle.uc_tree.specs.declared.limits.TheConstants.{MEMBERS, EVENTS}
+use Rattle.uc_entry.specs.declared.entry.Options.{Options}
+use Rattle.uc_entry.specs.declared.request.Request.{Request}
+use Rattle.uc_entry.specs.declared.request.Request.TheVariants as ask
+use Rattle.uc_acts.specs.Journal.{Journal, held, inside, is_over, own_object}
+use Rattle.uc_acts.specs.Known.{has, made, object_count, owner}
+use Rattle.uc_acts.specs.KernelRuns.{Fits, KernelRuns, IsAt, IsMade, IsOutside}
+use Rattle.uc_acts.proofs.Held.{law_held}
+use Rattle.uc_acts.proofs.Counted.{counted_run, law_made}
+use Rattle.uc_vproc.specs.declared.fits.Place.{Place}
+use Rattle.uc_vproc.specs.declared.fits.Place.TheVariants as place
+use Rattle.uc_vproc.specs.Places.{place_of, IsApart, IsBare, IsOwned, IsPrint}
+use Rattle.uc_vproc.specs.Desks.{AreThere}
+
+pub not_true_false : (b : Bool) → not b ≡ true → b ≡ false
+not_true_false true h = absurd (cc h)
+not_true_false false h = refl
+
+module _ (opts : Options) (sites : List Site) (input : List ℕ) (j : Journal) (runs : KernelRuns opts sites input j) where
+  -- an object that is there is made and not gone
+  pub known_there : (there : List Bool) → AreThere there j → (o : ℕ) → slice_index_or there o false ≡ true → IsMade o j
+  known_there there are o h =
+      let known = (counted_run opts sites input runs).of_made o (are o h) in record { made = known.0; not_gone = known.1 }
+
+  module _ (going : is_over j ≡ false) (t : ℕ) (hand : List ℕ) (same : hand ≡ held t j) (own : ℕ) (own_is : own ≡ own_object t j) where
+    -- an object in hand is made and not gone, and its task inside
+    near : (o : ℕ) → has hand o ≡ true → IsAt t o j
+    near o h =
+        let it : has (held t j) o ≡ true = ap (λ l. has l o) (sym same) ∙ h in
+        let known = (counted_run opts sites input runs).of_made o (law_made opts sites input j runs going t o it) in
+        record { inside = sym ((law_held j).inside t o) ∙ it; known = record { made = known.0; not_gone = known.1 } }
+
+    pub fits_anywhere : (r : Request) → place_of own r ≡ place.Anywhere → Fits opts sites j t r
+    fits_anywhere (ask.Poll m) e = tt
+    fits_anywhere ask.Yield e = tt
+    fits_anywhere ask.Slice e = tt
+    fits_anywhere ask.Fail e = tt
+    fits_anywhere (ask.Fault n) e = tt
+    fits_anywhere (ask.Make c) e = tt
+    fits_anywhere r e = absurd (cc e)
+
+    at_same : (a o : ℕ) → place.At a ≡ place.At o → o ≡ a
+    at_same a o e = cc e
+
+    at_near : (a o : ℕ) → has hand o ≡ true → place.At a ≡ place.At o → IsAt t a j
+    at_near a o h e = near a (subst (λ x. has hand x ≡ true) (at_same a o e) h)
+
+    pub fits_at : (o : ℕ) (r : Request) → has hand o ≡ true → place_of own r ≡ place.At o → Fits opts sites j t r
+    fits_at o (ask.Made a) h e = at_near a o h e
+    fits_at o (ask.Leave a x) h e = at_near a o h e
+    fits_at o (ask.Wait a c n) h e = at_near a o h e
+    fits_at o (ask.Signal a c) h e = at_near a o h e
+    fits_at o (ask.SignalBlock a c) h e = at_near a o h e
+    fits_at o (ask.Empty a c) h e = at_near a o h e
+    fits_at o (ask.Front a c) h e = at_near a o h e
+    fits_at o (ask.Gone a) h e = at_near a o h e
+    fits_at o ask.End h e = subst (λ x. IsAt t x j) own_is (at_near own o h e)
+    fits_at o r h e = absurd (cc e)
+
+    pub fits_bare : (o : ℕ) (r : Request) → IsBare hand o j → place_of own r ≡ place.Unowned o → Fits opts sites j t r
+    fits_bare o (ask.Spawn a) b e =
+        let s : o ≡ a = cc e in (near a (subst (λ x. has hand x ≡ true) s b.holds), subst (λ x. owner x j ≡ []) s b.nobody)
+    fits_bare o r b e = absurd (cc e)
+
+    pub fits_owned : (o event : ℕ) (r : Request) → IsOwned o event j → place_of own r ≡ place.Owned o event → Fits opts sites j t r
+    fits_owned o event (ask.Raise a n x y) b e =
+        let s : o ≡ a = cc e in
+        let f : event ≡ n = cc e in
+        (subst (λ z. IsMade z j) s b.known, subst (λ z. length (owner z j) ≡ 1) s b.one, subst (λ z. z < EVENTS) f b.is_event)
+    fits_owned o event r b e = absurd (cc e)
+
+    pub fits_apart : (there : List Bool) → AreThere there j → (o m : ℕ) (r : Request) → IsApart there hand o m → place_of own r ≡ place.Outside o m → Fits opts sites j t r
+    fits_apart there are o m (ask.Call a n) b e =
+        let s : o ≡ a = cc e in
+        let f : m ≡ n = cc e in
+        (subst (λ z. IsOutside t z j) s (record { outside = sym ((law_held j).inside t o) ∙ ap (λ l. has l o) (sym same) ∙ b.apart; known = known_there there are o b.known }), subst (λ z. z ≤ MEMBERS) f b.is_member)
+    fits_apart there are o m r b e = absurd (cc e)
+
+    pub fits_print : (n room : ℕ) (r : Request) → IsPrint n room → place_of own r ≡ place.Prints n room → Fits opts sites j t r
+    fits_print n room (ask.Print m items) p e =
+        let a : m ≡ n = cc e in
+        let b : length items ≡ room = cc e in
+        let some = p.some in
+        let most = p.most in
+        (omega (arith, a, some), omega (arith, a, most), b ∙ p.room_is)
+    fits_print n room r p e = absurd (cc e)
+
+    pub fits_read : (form : ℕ) (r : Request) → form ≤ 1 → place_of own r ≡ place.Reads form → Fits opts sites j t r
+    fits_read form (ask.Read m) le e = let a : m ≡ form = cc e in omega (arith, a, le)
+    fits_read form r le e = absurd (cc e)

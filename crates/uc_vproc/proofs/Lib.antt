@@ -1,0 +1,12 @@
+pub mod Makers
+pub mod Parts
+pub mod Asked
+pub mod Putting
+pub mod Acts
+pub mod Steps
+pub mod Turns
+pub mod Opening
+pub mod Numbering
+pub mod Fitting
+pub mod Riding
+pub mod Sent

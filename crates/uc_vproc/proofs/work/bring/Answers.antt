@@ -1,0 +1,22 @@
+use Rattle.std.proofs.Common.{sym, ap, ◌∙◌, subst}
+use Rattle.uc_lock.specs.Journals.{Extends}
+use Rattle.uc_vproc.specs.Makers.{Log}
+use Rattle.uc_vproc.specs.Desks.{Table, Saw, Brings}
+use Rattle.uc_vproc.specs.declared.desk.RunKey.{RunKey}
+use Rattle.uc_vproc.proofs.work.bring.Goals as goal
+
+pub act-step-requires : goal.act-step-requires
+act-step-requires g c =
+    let n = c.args.seat.now.number in
+    let seen = c.args.seat.now.seen in
+    let t = c.take-held.ensures in
+    let saw : Saw n seen c.take-held.result.log = record { begins = t.seen; mine = t.own ∙ c.requires.own } in
+    let br : Brings c.take-held.result.code n seen c.args.back = subst (λ (k : RunKey). Brings k.code n seen c.args.back) (sym t.key) c.requires.brings in
+    record {
+      brings = subst (λ m. (x : Log) × Saw m x c.value.result.now.log × Brings c.value.result.now.code m x c.args.back) (sym c.number-number.ensures) (subst (λ (y : Table). (x : Log) × Saw n x y.log × Brings y.code n x c.args.back) (sym c.value.ensures.value) (seen, saw, br));
+    }
+
+pub give-requires-clause-journal : goal.give-requires-clause-journal
+give-requires-clause-journal g c =
+    let seat = c.take-held.ensures.seat in
+    subst (λ l. Extends c.take-held.new.seat.number l c.act-step.new.self.log) (ap (λ (x : Table). x.log) c.value.ensures.value ∙ sym (ap (λ s. s.seen) seat)) (subst (λ m. Extends m c.value.result.now.log c.act-step.new.self.log) (c.number-number.ensures ∙ sym (ap (λ s. s.number) seat)) c.act-step.ensures.log)

@@ -1,0 +1,6 @@
+pub mod Places
+pub mod Makers
+pub mod Runs
+pub mod Rest
+pub mod Desks
+pub mod Workers

@@ -1,0 +1,185 @@
+// What a task may ask, by the objects in its hand and those that are there.
+ghost use Rattle.std.specs.Prelude.{◌≡◌, ◌<◌, ◌≤◌, true, false, length, slice_index_or};
+ghost use Rattle.uc_tree.specs.declared.limits.TheConstants.{TASKS, MEMBERS, EVENTS};
+ghost use Rattle.uc_acts.specs.Journal.{held, is_over};
+ghost use Rattle.uc_acts.specs.Known.{has, object_count, owner};
+ghost use Rattle.uc_acts.specs.KernelRuns.{KernelRuns, Fits, IsMade};
+ghost use Rattle.uc_kernel.specs.Numbered.{keys};
+ghost use Rattle.uc_vproc.specs.Desks.{AreThere};
+ghost use Rattle.uc_vproc.specs.Places.{place_of, IsPrint, IsBare, IsOwned, IsApart};
+
+use uc_entry::list::List;
+use uc_entry::request::{PRINT_ITEMS, Piece, Request};
+use uc_frames::members::Members;
+use uc_frames::task::Task;
+use uc_kernel::kernel::Kernel;
+use uc_tree::limits::{EVENTS, MEMBERS};
+
+/// What a request is to fit: nothing, an object in hand, one in hand that is no task's own, a member of one that is there and not in
+/// hand, an event of one that is a task's own, a number of items and their room, or a form. What is unknown is not taken.
+#[derive(Drop)]
+pub enum Place {
+    Anywhere,
+    At(u32),
+    Unowned(u32),
+    Outside(u32, u8),
+    Owned(u32, u8),
+    Prints(u8, usize),
+    Reads(u8),
+    Unknown,
+}
+
+/// Whether what a task with this hand asks fits, by the objects that are there. Accepts, and requests for clusters and processors, are
+/// not taken yet.
+pub fn fits(
+    kernel: &Kernel<Option<Task>, Members>,
+    there: &[bool],
+    task: u32,
+    hand: &List<(u64, Members)>,
+    request: &Request,
+) -> bool
+    requires runs { KernelRuns kernel.now.opts kernel.now.sites kernel.now.input kernel.now.journal }
+    requires going { is_over kernel.now.journal ≡ false }
+    requires known { task < TASKS }
+    requires hand { keys hand.now.items ≡ held task kernel.now.journal }
+    requires there { AreThere there.now kernel.now.journal }
+    ensures { result ≡ true → Fits kernel.now.opts kernel.now.sites kernel.now.journal task request.now }
+{
+    let own = kernel.own_object(task);
+    match place_for(own, request) {
+        Place::Anywhere => true,
+        Place::At(object) => holds(hand, object),
+        Place::Unowned(object) => is_bare(kernel, there, hand, object),
+        Place::Outside(object, member) => is_apart(there, hand, object, member),
+        Place::Owned(object, event) => is_sought(kernel, there, object, event),
+        Place::Prints(n, room) => is_print(n, room),
+        Place::Reads(form) => form <= 1,
+        Place::Unknown => false,
+    }
+}
+
+// What a request is to fit, of a task with this own object.
+fn place_for(own: u32, request: &Request) -> Place
+    ensures { result ≡ place_of own request.now }
+{
+    match *request {
+        Request::Poll { .. } => Place::Anywhere,
+        Request::Yield => Place::Anywhere,
+        Request::Slice => Place::Anywhere,
+        Request::Fail => Place::Anywhere,
+        Request::Fault { .. } => Place::Anywhere,
+        Request::Make { .. } => Place::Anywhere,
+        Request::Print { n, ref items } => Place::Prints(n, room_of(items)),
+        Request::Read { form } => Place::Reads(form),
+        Request::Made { object } => Place::At(object),
+        Request::Leave { object, .. } => Place::At(object),
+        Request::Wait { object, .. } => Place::At(object),
+        Request::Signal { object, .. } => Place::At(object),
+        Request::SignalBlock { object, .. } => Place::At(object),
+        Request::Empty { object, .. } => Place::At(object),
+        Request::Front { object, .. } => Place::At(object),
+        Request::Gone { object } => Place::At(object),
+        Request::End => Place::At(own),
+        Request::Spawn { object } => Place::Unowned(object),
+        Request::Call { object, member } => Place::Outside(object, member),
+        Request::Raise { object, event, .. } => Place::Owned(object, event),
+        Request::Accept { .. } => Place::Unknown,
+        Request::Cluster => Place::Unknown,
+        Request::ClusterEnd { .. } => Place::Unknown,
+        Request::Processor { .. } => Place::Unknown,
+        Request::ProcessorEnd { .. } => Place::Unknown,
+        Request::Migrate { .. } => Place::Unknown,
+    }
+}
+
+// How many items there is room for.
+fn room_of(items: &[Piece; 32]) -> usize
+    ensures { result ≡ length items.now }
+{
+    items.len()
+}
+
+// Whether so many items are a print.
+fn is_print(n: u8, room: usize) -> bool
+    ensures { result ≡ true → IsPrint n room }
+{
+    if n < 1 {
+        return false;
+    }
+    if n > PRINT_ITEMS {
+        return false;
+    }
+    room == PRINT_ITEMS as usize
+}
+
+// Whether the members of an object are in a hand.
+fn holds(hand: &List<(u64, Members)>, object: u32) -> bool
+    ensures { result ≡ has (keys hand.now.items) object }
+{
+    for at in 0..hand.len() {
+        if hand.get(at).0 == object as u64 {
+            return true;
+        }
+    }
+    false
+}
+
+// Whether an object is in hand and no task's own.
+fn is_bare(
+    kernel: &Kernel<Option<Task>, Members>,
+    there: &[bool],
+    hand: &List<(u64, Members)>,
+    object: u32,
+) -> bool
+    requires runs { KernelRuns kernel.now.opts kernel.now.sites kernel.now.input kernel.now.journal }
+    requires going { is_over kernel.now.journal ≡ false }
+    requires there { AreThere there.now kernel.now.journal }
+    ensures { result ≡ true → IsBare (keys hand.now.items) object kernel.now.journal }
+{
+    if !is_there(there, object) {
+        return false;
+    }
+    if !holds(hand, object) {
+        return false;
+    }
+    !kernel.is_owned(object)
+}
+
+// Whether an object is a task's own, and this is an event.
+fn is_sought(kernel: &Kernel<Option<Task>, Members>, there: &[bool], object: u32, event: u8) -> bool
+    requires runs { KernelRuns kernel.now.opts kernel.now.sites kernel.now.input kernel.now.journal }
+    requires going { is_over kernel.now.journal ≡ false }
+    requires there { AreThere there.now kernel.now.journal }
+    ensures { result ≡ true → IsOwned object event kernel.now.journal }
+{
+    if event >= EVENTS {
+        return false;
+    }
+    if !is_there(there, object) {
+        return false;
+    }
+    kernel.is_owned(object)
+}
+
+// Whether an object is there and not in hand, and this is a member.
+fn is_apart(there: &[bool], hand: &List<(u64, Members)>, object: u32, member: u8) -> bool
+    ensures { result ≡ true → IsApart there.now (keys hand.now.items) object member }
+{
+    if member > MEMBERS {
+        return false;
+    }
+    if !is_there(there, object) {
+        return false;
+    }
+    !holds(hand, object)
+}
+
+// Whether an object is told to be there.
+fn is_there(there: &[bool], object: u32) -> bool
+    ensures { result ≡ slice_index_or there.now object false }
+{
+    match there.get(object as usize) {
+        None => false,
+        Some(is) => *is,
+    }
+}

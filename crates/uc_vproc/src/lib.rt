@@ -1,0 +1,11 @@
+//! Runs of programs on several processors: the kernel under a lock, and a worker for each processor.
+#![tactic(auto)]
+
+mod desk;
+mod fits;
+mod put;
+mod run;
+mod step;
+mod work;
+
+pub use run::run_processors;

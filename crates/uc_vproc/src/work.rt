@@ -1,0 +1,330 @@
+// A worker.
+ghost use Rattle.std.specs.Prelude.{◌≡◌, ◌≤◌, ◌++◌, true, false, Some, IfOk, All, length};
+ghost use Rattle.uc_code.specs.Layout.{laid_of};
+ghost use Rattle.uc_code.specs.Pace.{IsPaced};
+ghost use Rattle.uc_frames.specs.Machine.{with_hand};
+ghost use Rattle.uc_step.specs.WeightFalls.{Keeps};
+ghost use Rattle.uc_kernel.specs.Numbered.{keys};
+ghost use Rattle.uc_lock.specs.Journals.{made_by};
+ghost use Rattle.std.specs.Option.{is_some, option_map};
+ghost use Rattle.uc_vproc.specs.Makers.{given_in};
+ghost use Rattle.uc_vproc.specs.declared.step.Step.TheVariants.{Going};
+ghost use Rattle.uc_vproc.specs.Desks.{Brings, IsRide, value_after};
+ghost use Rattle.uc_vproc.specs.Rest as rest;
+ghost use Rattle.uc_vproc.specs.Rest.{new_in};
+ghost use Rattle.uc_vproc.specs.Workers.{IsReady, IsSame, HasCome};
+
+use crate::desk::Desk;
+use crate::step::Step;
+use std::alloc::{AllocError, Global};
+use std::sync::Wait;
+use std::thread;
+use std::thread::{Threads, yield_now};
+use uc_code::code::Code;
+use uc_entry::list::List;
+use uc_entry::request::{Answer, Request};
+use uc_frames::members::Members;
+use uc_frames::task::Task;
+use uc_frames::work::Work;
+use uc_kernel::given::{Back, Given};
+use uc_lock::{Seat, Shared};
+use uc_outside::Gate;
+use uc_ride::ride::{Ridden, ride};
+
+// How often a worker that finds nothing gives its time slice up before it takes the kernel again: so often at first, then twice as
+// often each time, up to the most.
+const IDLE_YIELDS: u32 = 8;
+
+const IDLE_MOST: u32 = 1024;
+
+// Takes the kernel for a task to go on with.
+fn begin<R: Wait>(rt: &R, lock: &Shared<Desk>, seat: &mut Seat<Desk>) -> Step
+    requires { IsReady lock.now seat.old }
+    ensures same { IsReady lock.now seat.new × IsSame seat.old seat.new }
+    ensures came { HasCome lock.now seat.new result }
+{
+    let number = seat.number();
+    let mut held = lock.take(rt, seat);
+    let step = held.value().begin(number);
+    lock.give(rt, seat, held);
+    step
+}
+
+// Takes the kernel for the act of what a ride brings.
+fn bring<R: Wait>(
+    rt: &R,
+    lock: &Shared<Desk>,
+    seat: &mut Seat<Desk>,
+    back: Back<Option<Task>, Members>,
+) -> Step
+    requires ready { IsReady lock.now seat.old }
+    requires own { seat.old.own ≡ made_by seat.old.number seat.old.seen }
+    requires brings { Brings lock.now.terms.key.code seat.old.number seat.old.seen back }
+    ensures same { IsReady lock.now seat.new × IsSame seat.old seat.new }
+    ensures came { HasCome lock.now seat.new result }
+{
+    let number = seat.number();
+    let mut held = lock.take(rt, seat);
+    let step = held.value().act(number, back);
+    lock.give(rt, seat, held);
+    step
+}
+
+// Takes the kernel to say that memory is wanting.
+fn give_up<R: Wait>(rt: &R, lock: &Shared<Desk>, seat: &mut Seat<Desk>)
+    requires { IsReady lock.now seat.old }
+    ensures same { IsReady lock.now seat.new × IsSame seat.old seat.new }
+    ensures own { seat.new.own ≡ made_by seat.new.number seat.new.seen }
+{
+    let mut held = lock.take(rt, seat);
+    held.value().abandon();
+    lock.give(rt, seat, held);
+}
+
+// A ride of what was given, outside the lock. A task that does not go on behind its request is given up.
+fn go<G: Gate>(
+    alloc: Global,
+    code: &Code,
+    gate: &G,
+    dispatches: u64,
+    given: Given<Task, Members>,
+) -> Result<Back<Option<Task>, Members>, AllocError>
+    requires paced { IsPaced (laid_of code.now) code.now.routines }
+    requires some { 1 ≤ given.left }
+    requires kept { Keeps code.now (with_hand given.members.items given.task) }
+    ensures { IfOk result (λ b. IsRide code.now given b) }
+{
+    let Given {
+        processor,
+        task,
+        members,
+        answer,
+        left,
+    } = given;
+    let numbers = numbers_of(alloc, &members, &answer)?;
+    let work = Work::new(task, members);
+    let ridden = ride(code, work, answer, left, gate, processor, dispatches)?;
+    let Ridden {
+        work,
+        child,
+        ticks,
+        asked,
+    } = ridden;
+    let (task, mut members) = work.into_parts();
+    members.room()?;
+    if !is_numbered(&members, &numbers) {
+        return Err(AllocError);
+    }
+    let task = going_on(&asked.request, task);
+    let child = boxed(child);
+    Ok(Back {
+        processor,
+        task,
+        members,
+        child,
+        ticks,
+        asked,
+    })
+}
+
+// A task that goes on behind a request.
+fn going_on(request: &Request, task: Task) -> Option<Task>
+    ensures { result ≡ value_after request.now task }
+{
+    if stops(request) {
+        return None;
+    }
+    Some(task)
+}
+
+// A new task has not ended.
+fn boxed(child: Option<Task>) -> Option<Option<Task>>
+    ensures { result ≡ option_map Some child }
+{
+    match child {
+        None => None,
+        Some(task) => Some(Some(task)),
+    }
+}
+
+// Whether the task does not go on behind a request.
+fn stops(request: &Request) -> bool
+    ensures { result ≡ rest.stops request.now }
+{
+    match *request {
+        Request::End => true,
+        Request::Fault { .. } => true,
+        _ => false,
+    }
+}
+
+// The numbers of the objects in a hand, and of the one that an answer tells of.
+fn numbers_of(
+    alloc: Global,
+    hand: &List<(u64, Members)>,
+    answer: &Answer,
+) -> Result<Vec<u64>, AllocError>
+    ensures { IfOk result (λ ns. ns.items ≡ keys hand.now.items ++ new_in answer.now) }
+{
+    let mut numbers = Vec::new(alloc);
+    for at in 0..hand.len() {
+        numbers.push(hand.get(at).0)?;
+    }
+    match *answer {
+        Answer::Object(object) => numbers.push(object as u64)?,
+        _ => {}
+    }
+    Ok(numbers)
+}
+
+// Whether the objects in a hand have these numbers.
+fn is_numbered(hand: &List<(u64, Members)>, numbers: &[u64]) -> bool
+    ensures { result ≡ true → keys hand.now.items ≡ numbers.now }
+{
+    if hand.len() as usize != numbers.len() {
+        return false;
+    }
+    for at in 0..hand.len() {
+        if hand.get(at).0 != numbers[at as usize] {
+            return false;
+        }
+    }
+    true
+}
+
+// A ride and its act.
+fn turn<R: Wait, G: Gate>(
+    rt: &R,
+    alloc: Global,
+    lock: &Shared<Desk>,
+    code: &Code,
+    gate: &G,
+    dispatches: u64,
+    seat: &mut Seat<Desk>,
+    given: Given<Task, Members>,
+) -> Step
+    requires ready { IsReady lock.now seat.old }
+    requires code { lock.now.terms.key.code ≡ code.now }
+    requires paced { IsPaced (laid_of code.now) code.now.routines }
+    requires came { HasCome lock.now seat.old (Going given) }
+    ensures same { IsReady lock.now seat.new × IsSame seat.old seat.new }
+    ensures came { HasCome lock.now seat.new result }
+{
+    if given.left == 0 {
+        give_up(rt, lock, seat);
+        return Step::Over;
+    }
+    match go(alloc, code, gate, dispatches, given) {
+        Ok(back) => bring(rt, lock, seat, back),
+        Err(_) => {
+            give_up(rt, lock, seat);
+            Step::Over
+        }
+    }
+}
+
+// Lets other threads go on for a while.
+fn pause(yields: u32) {
+    for _ in 0..yields {
+        yield_now();
+    }
+}
+
+// How long a worker that found nothing pauses the next time.
+fn longer(yields: u32) -> u32 {
+    if yields < IDLE_MOST {
+        return yields * 2;
+    }
+    yields
+}
+
+/// Serves the kernel under a lock until its run is over, or was abandoned.
+pub fn work<R: Wait, G: Gate>(
+    rt: &R,
+    alloc: Global,
+    lock: &Shared<Desk>,
+    code: &Code,
+    gate: &G,
+    seat: Seat<Desk>,
+) -> Seat<Desk>
+    requires ready { IsReady lock.now seat }
+    requires code { lock.now.terms.key.code ≡ code.now }
+    requires paced { IsPaced (laid_of code.now) code.now.routines }
+    ensures { IsReady lock.now result × IsSame seat result }
+{
+    let mut seat = seat;
+    let mut step = Step::Idle;
+    let mut dispatches: u64 = 0;
+    let mut told: u64 = 0;
+    let mut yields = IDLE_YIELDS;
+    for _ in rt.forever() {
+        step = match step {
+            Step::Going(given) => {
+                let first = told;
+                told = 0;
+                turn(rt, alloc, lock, code, gate, first, &mut seat, given)
+            }
+            Step::Idle => {
+                let next = begin(rt, lock, &mut seat);
+                if is_going(&next) {
+                    dispatches = dispatches.wrapping_add(1);
+                    told = dispatches;
+                    yields = IDLE_YIELDS;
+                } else {
+                    pause(yields);
+                    yields = longer(yields);
+                }
+                next
+            }
+            Step::Over => return seat,
+        };
+    }
+    unreachable!()
+}
+
+fn is_going(step: &Step) -> bool
+    ensures { result ≡ is_some (given_in step.now) }
+{
+    match step {
+        Step::Going(_) => true,
+        Step::Idle => false,
+        Step::Over => false,
+    }
+}
+
+fn is_send<T: Send>() {}
+
+fn is_sync<T: Sync>() {}
+
+fn seat_crosses() {
+    is_send::<Seat<Desk>>();
+}
+
+fn lock_crosses() {
+    is_sync::<Shared<Desk>>();
+}
+
+/// Each seat's worker on a thread of its own, where threads can be made. A worker alone stays on this thread.
+pub fn work_all<R: Threads + Wait + Sync, G: Gate + Sync>(
+    rt: &R,
+    alloc: Global,
+    lock: &Shared<Desk>,
+    code: &Code,
+    gate: &G,
+    seats: Vec<Seat<Desk>>,
+) -> Result<Vec<Seat<Desk>>, AllocError>
+    requires ready { All (λ s. IsReady lock.now s) seats.items }
+    requires code { lock.now.terms.key.code ≡ code.now }
+    requires paced { IsPaced (laid_of code.now) code.now.routines }
+    ensures len { IfOk result (λ v. length v.items ≡ length seats.items) }
+    ensures each { IfOk result (λ v. All (λ s. IsReady lock.now s) v.items) }
+{
+    thread::map_vec(
+        rt,
+        seats,
+        &|seat: Seat<Desk>| -> Seat<Desk>
+            requires { IsReady lock.now seat × (lock.now.terms.key.code ≡ code.now) × IsPaced (laid_of code.now) code.now.routines }
+            ensures { IsReady lock.entry.now result }
+        { work(rt, alloc, lock, code, gate, seat) },
+    )
+}

@@ -1,0 +1,4 @@
+void uMain::main() {
+    int parts = 0;
+    cout << 100 / parts;
+}

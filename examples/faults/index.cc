@@ -1,0 +1,4 @@
+void uMain::main() {
+    int cells[3], at = 3;
+    cells[at] = 1;
+}

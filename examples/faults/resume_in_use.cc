@@ -1,0 +1,9 @@
+_Coroutine Self {
+    void main() { go(); }
+  public:
+    void go() { resume(); }
+};
+void uMain::main() {
+    Self self;
+    self.go();
+}

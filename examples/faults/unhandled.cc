@@ -1,0 +1,4 @@
+_Event Lost { };
+void uMain::main() {
+    _Throw Lost();
+}

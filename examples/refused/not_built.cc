@@ -1,0 +1,4 @@
+void uMain::main() {
+    uCluster other;
+    migrate(other);
+}

@@ -1,0 +1,3 @@
+void uMain::main() {
+    cout << "hello" << endl
+}

@@ -1,0 +1,4 @@
+void uMain::main() {
+    count = 3;
+    cout << count << endl;
+}
