@@ -1,5 +1,5 @@
 -- The forms of programs that run: `using`, constants, prototypes, classes and routines, with one program main; their variables, fields
--- and parameters are scalars and objects, and no statement raises an event at an execution, enables or disables events, accepts calls or
+-- and parameters are scalars, objects and conditions, and no statement raises an event at an execution, enables or disables events, accepts calls or
 -- migrates.
 use Rattle.std.specs.Prelude.{◌≡◌, List, [], ◌∷◌, Bool, true, false, not, ◌&&◌}
 use Rattle.std.specs.List.{list_any}
@@ -20,13 +20,13 @@ is_scalar_base base.Cluster = false
 is_scalar_base base.Processor = false
 is_scalar_base (base.Named name) = false
 
--- scalars, and objects of classes: nothing is declared of an event
+-- scalars, objects of classes and conditions: nothing is declared of an event
 abbrev pub is_built_base : Base → Bool
 is_built_base base.Void = false
 is_built_base base.Int = true
 is_built_base base.Char = true
 is_built_base base.Bool = true
-is_built_base base.Condition = false
+is_built_base base.Condition = true
 is_built_base base.Cluster = false
 is_built_base base.Processor = false
 is_built_base (base.Named name) = true

@@ -21,7 +21,10 @@ fn is_scalar_base(base: &Base) -> bool
 fn is_built_base(base: &Base) -> bool
     ensures { result ≡ is_built_base base.now }
 {
-    matches!(base, Base::Int | Base::Char | Base::Bool | Base::Named(_))
+    matches!(
+        base,
+        Base::Int | Base::Char | Base::Bool | Base::Condition | Base::Named(_)
+    )
 }
 
 fn are_plain(declarators: &[Declarator]) -> bool

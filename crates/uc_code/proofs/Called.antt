@@ -7,7 +7,7 @@ use Rattle.uc_code.specs.declared.rows.ObjectCall.{ObjectCall}
 use Rattle.uc_code.specs.declared.rows.Mark.{Mark}
 use Rattle.uc_code.specs.Layout.{Laid}
 use Rattle.uc_code.specs.CodeShapes.{One}
-use Rattle.uc_code.specs.ObjectCalls.{BeginsAt, InFrame, InObject, LiesAt, Whole, Part, Calls, Written, Unwritten, MakesMutex, EndsMutex}
+use Rattle.uc_code.specs.ObjectCalls.{BeginsAt, InFrame, InObject, LiesAt, Whole, Part, Calls, Written, Unwritten, MakesMutex, EndsMutex, OpensCluster, OpensProcessor, ClosesCluster, ClosesProcessor}
 use Rattle.uc_code.specs.Lowered.{spot_op, SpotAt, CallAt, ExprAt}
 
 module _ (code : Laid) (line : ℕ) (ms : List Mark) where
@@ -27,4 +27,10 @@ module _ (code : Laid) (line : ℕ) (ms : List Mark) where
   called e what (EndsMutex r true d s o l) a z h =
       record { middle = h.middle; first = record { middle = h.first.middle; first = lies d s o l a h.first.middle h.first.first; second = h.first.second }; second = h.second }
   called e what (EndsMutex r false d s o l) a z h =
+      record { middle = h.middle; first = record { middle = h.first.middle; first = lies d s o l a h.first.middle h.first.first; second = h.first.second }; second = h.second }
+  called e what (OpensCluster d s o l) a z h = record { middle = h.middle; first = lies d s o l a h.middle h.first; second = h.second }
+  called e what (OpensProcessor d s o l) a z h = record { middle = h.middle; first = lies d s o l a h.middle h.first; second = h.second }
+  called e what (ClosesCluster d s o l) a z h =
+      record { middle = h.middle; first = record { middle = h.first.middle; first = lies d s o l a h.first.middle h.first.first; second = h.first.second }; second = h.second }
+  called e what (ClosesProcessor d s o l) a z h =
       record { middle = h.middle; first = record { middle = h.first.middle; first = lies d s o l a h.first.middle h.first.first; second = h.first.second }; second = h.second }

@@ -42,6 +42,8 @@ module _ (code : Laid) (line : ℕ) (ms ns : List Mark) (h : handlers ms ≡ han
   called_moves (manner.Makes c) false n a z k = both_moves (both_moves (both_moves (behind_moves n))) a z k
   called_moves manner.Ends true n a z k = both_moves (both_moves (risk_moves (op.CallOn n))) a z k
   called_moves manner.Ends false n a z k = both_moves (behind_moves n) a z k
+  called_moves (manner.Opens of) written n a z k = k
+  called_moves (manner.Closes of) written n a z k = k
 
   leaves_moves : (a z : ℕ) → LeavesAt code ms line a z → LeavesAt code ns line a z
   leaves_moves a z k = record {
@@ -83,6 +85,7 @@ module _ (code : Laid) (line : ℕ) (ms ns : List Mark) (h : handlers ms ≡ han
   clean_moves cleaning.End a z k = k
   clean_moves (cleaning.Free None) a z k = k
   clean_moves (cleaning.Free (Some main)) a z k = k
+  clean_moves (cleaning.Restore cell) a z k = k
 
 -- a clean-up on the way out: a row that performs nothing is around it
 

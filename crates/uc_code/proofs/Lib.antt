@@ -1,3 +1,4 @@
+pub mod Accepting
 pub mod Bases
 pub mod Called
 pub mod Closed

@@ -3,7 +3,7 @@ use Rattle.std.proofs.Common.{◌≡◌, ℕ, zero, suc, ◌+◌, ◌-◌, ◌<�
 use Rattle.std.specs.Prelude.{slice_get}
 use Rattle.std.proofs.lemmas.Option.{slice_get_within}
 use Rattle.uc_tree.specs.declared.limits.TheConstants.{DESTRUCTOR}
-use Rattle.uc_tree.specs.Source.{Shape, Integer, Character, Truth, Binding, Last, Field, Array, shape_cells, field_cells, Operator, Plus, Minus, Times, Over, Modulo, Equal, NotEqual, Less, AtMost, Greater, AtLeast, Expr, Literal, Variable, Element, Get, Load, Negated, Not, AsCharacter, AsTruth, Operate, And, Or, Set, Assign, First, Update, StepBehind, Fail, Call, OfObject, ObjectExpr, This, OwnField, GetOwn, FieldOf, Counted, CallOn, CallUnwritten, CallLive, EnterOn, EndOn, Bind, MakeOn, NewCluster, NewProcessor, EndCluster, EndProcessor, ConditionAt, Wait, Signal, SignalBlock, IsEmpty, FrontOf, Exprs, NoExprs, MoreExprs, Item, Show, ShowText, Target, Declared, Stmt, Skip, Block, Whole, Evaluate, Declare, Print, PrintTogether, Read, If, Loop, Break, Continue, Return, Owes, Fill, OfEvents, OfTasks, TaskStmt, Resume, Suspend, SetUp, Enliven, TakeDown, Yield, Migrate, Accept, EventStmt, Throw, Raise, Try, RaiseAt, Enable, Disable, Raised, Plainly, BuiltAt as BuildsAt, AgainFrom, Handlers, NoHandlers, MoreHandlers, Stmts, Nil, Then, Scoped, Built, Way, ToBreak, ToContinue, ToReturn, ToEnd, Purpose, TaskMain, CoroutineMain, Procedure, Function, Builder, Routine, Source}
+use Rattle.uc_tree.specs.Source.{Shape, Integer, Character, Truth, Binding, Last, Field, Array, shape_cells, field_cells, Operator, Plus, Minus, Times, Over, Modulo, Equal, NotEqual, Less, AtMost, Greater, AtLeast, Expr, Literal, Variable, Element, Get, Load, Negated, Not, AsCharacter, AsTruth, Operate, And, Or, Set, Assign, First, Update, StepBehind, Fail, Call, OfObject, ObjectExpr, This, OwnField, GetOwn, FieldOf, Counted, CallOn, CallUnwritten, CallLive, EnterOn, EndOn, Bind, MakeOn, NewCluster, NewProcessor, EndCluster, EndProcessor, ConditionAt, Wait, Signal, SignalBlock, IsEmpty, FrontOf, Exprs, NoExprs, MoreExprs, Item, Show, ShowText, Target, Declared, Stmt, Skip, Block, Whole, Evaluate, Declare, Print, PrintTogether, Read, If, Loop, Break, Continue, Return, Owes, Fill, OfEvents, OfTasks, TaskStmt, Resume, Suspend, SetUp, Enliven, TakeDown, Yield, Migrate, Accept, EventStmt, Throw, Raise, Try, RaiseAt, Enable, Disable, Raised, Plainly, BuiltAt as BuildsAt, AgainFrom, Handlers, NoHandlers, MoreHandlers, Clauses, NoClauses, Otherwise, MoreClauses, clause_count, Restores, Stmts, Nil, Then, Scoped, Built, Way, ToBreak, ToContinue, ToReturn, ToEnd, Purpose, TaskMain, CoroutineMain, Procedure, Function, Builder, Routine, Source}
 use Rattle.uc_tree.specs.Hidden.{EVENT_FIELDS}
 use Rattle.uc_code.specs.declared.op.Op.{Op}
 use Rattle.uc_code.specs.declared.op.Op.TheVariants as op
@@ -15,13 +15,14 @@ use Rattle.uc_code.specs.declared.rows.RoutineCode.{RoutineCode}
 use Rattle.uc_code.specs.Codes.{Code}
 use Rattle.uc_code.specs.Layout.{Laid, laid_of}
 use Rattle.uc_code.specs.Pace.{climb_op, above, Test, test_by, In, Stays, Mute, Onward, Paced, IsPaced}
-use Rattle.uc_code.specs.CodeShapes.{OpAt, One, Both, Fork, main_end, MainAt}
-use Rattle.uc_code.specs.Silent.{silent, silent_all, silent_task}
-use Rattle.uc_code.specs.Lowered.{operator_op, item_op, handler_rows, ConvertAt, ExprAt, ObjectAt, ArgumentsAt, ValueAt, ItemsAt, ValuesAt, PiecesAt, TogetherAt, TargetsAt, StartAt, VariablesAt, RaisedAt, FieldsAt, KeepAt, KeepsAt, ExitAt, StepAt, HandlerBy, TaskAt, StmtAt, EventAt, HandlersAt, StmtsAt, BodyAt, RoutineAt, RoutinesAt, Lowered}
+use Rattle.uc_code.specs.CodeShapes.{OpAt, One, Both, Fork, main_end, MainAt, PollAt, NoBranch, ElseAt, ClauseAt}
+use Rattle.uc_code.specs.Silent.{silent, silent_all, silent_task, silent_expr, silent_object, silent_exprs}
+use Rattle.uc_code.specs.Lowered.{operator_op, item_op, handler_rows, ConvertAt, ExprAt, ObjectAt, ArgumentsAt, ValueAt, ItemsAt, ValuesAt, PiecesAt, TogetherAt, TargetsAt, StartAt, VariablesAt, RaisedAt, FieldsAt, KeepAt, KeepsAt, ExitAt, StepAt, HandlerBy, GuardsAt, TaskAt, BranchesAt, StmtAt, EventAt, HandlersAt, StmtsAt, BodyAt, RoutineAt, RoutinesAt, Lowered}
 use Rattle.uc_code.proofs.Heights.{Outside, Plain, PacedAt, Each, Around, paced_by, none, only, join, within, own_plain, outside_next, Starts, Further, down, height_is, outside_end, AllStay, stay_one, stay_join}
 use Rattle.uc_code.proofs.Pacing as pacing
 use Rattle.uc_code.proofs.Spans as spans
 use Rattle.uc_code.proofs.Guards as blocks
+use Rattle.uc_code.proofs.Accepting as accepting
 
 module _ (code : Laid) (table : List RoutineCode) (any : Bool) where
   abbrev Paces : List Mark → (ℕ → ℕ → Type 0) → Type 0
@@ -62,99 +63,109 @@ module _ (code : Laid) (table : List RoutineCode) (any : Bool) where
   convert_paces ms line (Field s t) = pacing.nothing_paces code table any ms
   convert_paces ms line (Array n s) = pacing.nothing_paces code table any ms
 
+  -- events are raised in what is not silent
+
+  raised_any : (b : Bool) → (b ≡ false → ⊥) → b ≡ true
+  raised_any true f = refl
+  raised_any false f = absurd (f refl)
+
+  no_silence : {X : Type 0} → any ≡ true → any ≡ false → X
+  no_silence t e = let f : true ≡ false = sym t ∙ e in absurd (cc)
+
   mutual
-    expr_paces : (ms : List Mark) (line : ℕ) (e : Expr) → Paces ms (ExprAt code line ms e)
-    expr_paces ms line (Literal n) = onward ms (op.Push n) line (λ n k h. refl) (λ k t. refl) (λ at l. l) (λ from to floor at i. i)
-    expr_paces ms line (Variable k) = onward ms (op.Local k) line (λ n k h. refl) (λ k t. refl) (λ at l. l) (λ from to floor at i. i)
-    expr_paces ms line (Element n s a i) = both ms (expr_paces ms line a) (both ms (expr_paces ms line i) (onward ms (op.Index n (shape_cells s)) line (λ n k h. refl) (λ k t. refl) (λ at l. l) (λ from to floor at i. i)))
-    expr_paces ms line (Get k) = onward ms (op.Via k) line (λ n k h. refl) (λ k t. refl) (λ at l. l) (λ from to floor at i. i)
-    expr_paces ms line (Load a) = both ms (expr_paces ms line a) (onward ms op.Load line (λ n k h. refl) (λ k t. refl) (λ at l. l) (λ from to floor at i. i))
-    expr_paces ms line (Negated a) = both ms (expr_paces ms line a) (onward ms op.Negate line (λ n k h. refl) (λ k t. refl) (λ at l. l) (λ from to floor at i. i))
-    expr_paces ms line (Not a) = both ms (expr_paces ms line a) (onward ms op.Not line (λ n k h. refl) (λ k t. refl) (λ at l. l) (λ from to floor at i. i))
-    expr_paces ms line (AsCharacter a) = both ms (expr_paces ms line a) (onward ms op.ToChar line (λ n k h. refl) (λ k t. refl) (λ at l. l) (λ from to floor at i. i))
-    expr_paces ms line (AsTruth a) = both ms (expr_paces ms line a) (onward ms op.ToBool line (λ n k h. refl) (λ k t. refl) (λ at l. l) (λ from to floor at i. i))
-    expr_paces ms line (Operate o a b) = both ms (expr_paces ms line a) (both ms (expr_paces ms line b) (operator_paces ms line o))
-    expr_paces ms line (And a b) =
-        both ms (expr_paces ms line a) (fork ms line (both ms (expr_paces ms line b) (onward ms op.ToBool line (λ n k h. refl) (λ k t. refl) (λ at l. l) (λ from to floor at i. i))) (onward ms (op.Push (pos 0)) line (λ n k h. refl) (λ k t. refl) (λ at l. l) (λ from to floor at i. i)))
-    expr_paces ms line (Or a b) =
-        both ms (expr_paces ms line a) (fork ms line (onward ms (op.Push (pos 1)) line (λ n k h. refl) (λ k t. refl) (λ at l. l) (λ from to floor at i. i)) (both ms (expr_paces ms line b) (onward ms op.ToBool line (λ n k h. refl) (λ k t. refl) (λ at l. l) (λ from to floor at i. i))))
-    expr_paces ms line (Set k a) = both ms (expr_paces ms line a) (onward ms (op.Set k) line (λ n k h. refl) (λ k t. refl) (λ at l. l) (λ from to floor at i. i))
-    expr_paces ms line (Assign p a) = both ms (expr_paces ms line p) (both ms (expr_paces ms line a) (onward ms op.Keep line (λ n k h. refl) (λ k t. refl) (λ at l. l) (λ from to floor at i. i)))
-    expr_paces ms line (First a b) = both ms (expr_paces ms line a) (both ms (expr_paces ms line b) (onward ms op.Discard line (λ n k h. refl) (λ k t. refl) (λ at l. l) (λ from to floor at i. i)))
-    expr_paces ms line (Update o s p a) =
-        both ms (expr_paces ms line p) (both ms (onward ms op.Duplicate line (λ n k h. refl) (λ k t. refl) (λ at l. l) (λ from to floor at i. i)) (both ms (onward ms op.Load line (λ n k h. refl) (λ k t. refl) (λ at l. l) (λ from to floor at i. i)) (
-        both ms (expr_paces ms line a) (both ms (operator_paces ms line o) (both ms (convert_paces ms line s) (onward ms op.Keep line (λ n k h. refl) (λ k t. refl) (λ at l. l) (λ from to floor at i. i)))))))
-    expr_paces ms line (StepBehind o s p) =
-        both ms (expr_paces ms line p) (both ms (onward ms op.Duplicate line (λ n k h. refl) (λ k t. refl) (λ at l. l) (λ from to floor at i. i)) (both ms (onward ms op.Load line (λ n k h. refl) (λ k t. refl) (λ at l. l) (λ from to floor at i. i)) (
+    expr_paces : (ms : List Mark) (line : ℕ) (e : Expr) → (any ≡ false → silent_expr e) → Paces ms (ExprAt code line ms e)
+    expr_paces ms line (Literal n) f = onward ms (op.Push n) line (λ n k h. refl) (λ k t. refl) (λ at l. l) (λ from to floor at i. i)
+    expr_paces ms line (Variable k) f = onward ms (op.Local k) line (λ n k h. refl) (λ k t. refl) (λ at l. l) (λ from to floor at i. i)
+    expr_paces ms line (Element n s a i) f = both ms (expr_paces ms line a (λ q. (f q).0)) (both ms (expr_paces ms line i (λ q. (f q).1)) (onward ms (op.Index n (shape_cells s)) line (λ n k h. refl) (λ k t. refl) (λ at l. l) (λ from to floor at i. i)))
+    expr_paces ms line (Get k) f = onward ms (op.Via k) line (λ n k h. refl) (λ k t. refl) (λ at l. l) (λ from to floor at i. i)
+    expr_paces ms line (Load a) f = both ms (expr_paces ms line a f) (onward ms op.Load line (λ n k h. refl) (λ k t. refl) (λ at l. l) (λ from to floor at i. i))
+    expr_paces ms line (Negated a) f = both ms (expr_paces ms line a f) (onward ms op.Negate line (λ n k h. refl) (λ k t. refl) (λ at l. l) (λ from to floor at i. i))
+    expr_paces ms line (Not a) f = both ms (expr_paces ms line a f) (onward ms op.Not line (λ n k h. refl) (λ k t. refl) (λ at l. l) (λ from to floor at i. i))
+    expr_paces ms line (AsCharacter a) f = both ms (expr_paces ms line a f) (onward ms op.ToChar line (λ n k h. refl) (λ k t. refl) (λ at l. l) (λ from to floor at i. i))
+    expr_paces ms line (AsTruth a) f = both ms (expr_paces ms line a f) (onward ms op.ToBool line (λ n k h. refl) (λ k t. refl) (λ at l. l) (λ from to floor at i. i))
+    expr_paces ms line (Operate o a b) f = both ms (expr_paces ms line a (λ q. (f q).0)) (both ms (expr_paces ms line b (λ q. (f q).1)) (operator_paces ms line o))
+    expr_paces ms line (And a b) f =
+        both ms (expr_paces ms line a (λ q. (f q).0)) (fork ms line (both ms (expr_paces ms line b (λ q. (f q).1)) (onward ms op.ToBool line (λ n k h. refl) (λ k t. refl) (λ at l. l) (λ from to floor at i. i))) (onward ms (op.Push (pos 0)) line (λ n k h. refl) (λ k t. refl) (λ at l. l) (λ from to floor at i. i)))
+    expr_paces ms line (Or a b) f =
+        both ms (expr_paces ms line a (λ q. (f q).0)) (fork ms line (onward ms (op.Push (pos 1)) line (λ n k h. refl) (λ k t. refl) (λ at l. l) (λ from to floor at i. i)) (both ms (expr_paces ms line b (λ q. (f q).1)) (onward ms op.ToBool line (λ n k h. refl) (λ k t. refl) (λ at l. l) (λ from to floor at i. i))))
+    expr_paces ms line (Set k a) f = both ms (expr_paces ms line a f) (onward ms (op.Set k) line (λ n k h. refl) (λ k t. refl) (λ at l. l) (λ from to floor at i. i))
+    expr_paces ms line (Assign p a) f = both ms (expr_paces ms line p (λ q. (f q).0)) (both ms (expr_paces ms line a (λ q. (f q).1)) (onward ms op.Keep line (λ n k h. refl) (λ k t. refl) (λ at l. l) (λ from to floor at i. i)))
+    expr_paces ms line (First a b) f = both ms (expr_paces ms line a (λ q. (f q).0)) (both ms (expr_paces ms line b (λ q. (f q).1)) (onward ms op.Discard line (λ n k h. refl) (λ k t. refl) (λ at l. l) (λ from to floor at i. i)))
+    expr_paces ms line (Update o s p a) f =
+        both ms (expr_paces ms line p (λ q. (f q).0)) (both ms (onward ms op.Duplicate line (λ n k h. refl) (λ k t. refl) (λ at l. l) (λ from to floor at i. i)) (both ms (onward ms op.Load line (λ n k h. refl) (λ k t. refl) (λ at l. l) (λ from to floor at i. i)) (
+        both ms (expr_paces ms line a (λ q. (f q).1)) (both ms (operator_paces ms line o) (both ms (convert_paces ms line s) (onward ms op.Keep line (λ n k h. refl) (λ k t. refl) (λ at l. l) (λ from to floor at i. i)))))))
+    expr_paces ms line (StepBehind o s p) f =
+        both ms (expr_paces ms line p f) (both ms (onward ms op.Duplicate line (λ n k h. refl) (λ k t. refl) (λ at l. l) (λ from to floor at i. i)) (both ms (onward ms op.Load line (λ n k h. refl) (λ k t. refl) (λ at l. l) (λ from to floor at i. i)) (
         both ms (onward ms op.Over line (λ n k h. refl) (λ k t. refl) (λ at l. l) (λ from to floor at i. i)) (both ms (onward ms op.Over line (λ n k h. refl) (λ k t. refl) (λ at l. l) (λ from to floor at i. i)) (both ms (onward ms (op.Push (pos 1)) line (λ n k h. refl) (λ k t. refl) (λ at l. l) (λ from to floor at i. i)) (
         both ms (operator_paces ms line o) (both ms (convert_paces ms line s) (both ms (onward ms op.Store line (λ n k h. refl) (λ k t. refl) (λ at l. l) (λ from to floor at i. i)) (onward ms op.DiscardBelow line (λ n k h. refl) (λ k t. refl) (λ at l. l) (λ from to floor at i. i))))))))))
-    expr_paces ms line Fail = onward ms op.Fail line (λ n k h. refl) (λ k t. refl) (λ at l. l) (λ from to floor at i. i)
-    expr_paces ms line (Call r es) = both ms (args_paces ms line es) (pacing.call_paces code table any ms line r)
-    expr_paces ms line (OfObject o) = object_paces ms line o
+    expr_paces ms line Fail f = onward ms op.Fail line (λ n k h. refl) (λ k t. refl) (λ at l. l) (λ from to floor at i. i)
+    expr_paces ms line (Call r es) f = both ms (args_paces ms line es f) (pacing.call_paces code table any ms line r)
+    expr_paces ms line (OfObject o) f = object_paces ms line o f
 
-    object_paces : (ms : List Mark) (line : ℕ) (o : ObjectExpr) → Paces ms (ObjectAt code line ms o)
-    object_paces ms line This = onward ms op.Own line (λ n k h. refl) (λ k t. refl) (λ at l. l) (λ from to floor at i. i)
-    object_paces ms line (OwnField s i) = onward ms (op.This (field_cells s i)) line (λ n k h. refl) (λ k t. refl) (λ at l. l) (λ from to floor at i. i)
-    object_paces ms line (GetOwn s i) = onward ms (op.ViaThis (field_cells s i)) line (λ n k h. refl) (λ k t. refl) (λ at l. l) (λ from to floor at i. i)
-    object_paces ms line (FieldOf s i e) = both ms (expr_paces ms line e) (onward ms (op.Field (field_cells s i)) line (λ n k h. refl) (λ k t. refl) (λ at l. l) (λ from to floor at i. i))
-    object_paces ms line Counted = onward ms op.Counted line (λ n k h. refl) (λ k t. refl) (λ at l. l) (λ from to floor at i. i)
-    object_paces ms line (CallOn r e es) = both ms (expr_paces ms line e) (both ms (args_paces ms line es) (pacing.call_on_paces code table any ms line r))
-    object_paces ms line (CallLive r e es) = both ms (expr_paces ms line e) (both ms (args_paces ms line es) (pacing.call_live_paces code table any ms line r))
-    object_paces ms line (CallUnwritten r e) = both ms (expr_paces ms line e) (pacing.calls_behind_paces code table any ms line r)
-    object_paces ms line (Bind p e) = both ms (expr_paces ms line p) (both ms (expr_paces ms line e) (onward ms op.Bind line (λ n k h. refl) (λ k t. refl) (λ at l. l) (λ from to floor at i. i)))
-    object_paces ms line (EnterOn m r e es) = both ms (expr_paces ms line e) (both ms (args_paces ms line es) (pacing.enter_paces code table any ms line m r))
-    object_paces ms line (EndOn r false e) = both ms (expr_paces ms line e) (both ms (onward ms (op.Enter DESTRUCTOR r) line (λ n k h. refl) (λ k t. refl) (λ at l. l) (λ from to floor at i. i)) (pacing.calls_behind_paces code table any ms line r))
-    object_paces ms line (EndOn r true e) = both ms (expr_paces ms line e) (pacing.enter_paces code table any ms line DESTRUCTOR r)
-    object_paces ms line (MakeOn c r false e es) =
-        both ms (expr_paces ms line e) (both ms (args_paces ms line es) (both ms (onward ms (op.Make c r) line (λ n k h. refl) (λ k t. refl) (λ at l. l) (λ from to floor at i. i)) (both ms (onward ms (op.BindMade c r) line (λ n k h. refl) (λ k t. refl) (λ at l. l) (λ from to floor at i. i)) (pacing.calls_behind_paces code table any ms line r))))
-    object_paces ms line (MakeOn c r true e es) = both ms (expr_paces ms line e) (both ms (args_paces ms line es) (pacing.make_paces code table any ms line c r))
-    object_paces ms line NewCluster = pacing.never_paces code table any ms
-    object_paces ms line (NewProcessor e) = pacing.never_paces code table any ms
-    object_paces ms line (EndCluster e) = pacing.never_paces code table any ms
-    object_paces ms line (EndProcessor e) = pacing.never_paces code table any ms
-    object_paces ms line (ConditionAt k n e) = pacing.never_paces code table any ms
-    object_paces ms line (Wait c n) = pacing.never_paces code table any ms
-    object_paces ms line (Signal c) = pacing.never_paces code table any ms
-    object_paces ms line (SignalBlock c) = pacing.never_paces code table any ms
-    object_paces ms line (IsEmpty c) = pacing.never_paces code table any ms
-    object_paces ms line (FrontOf c) = pacing.never_paces code table any ms
+    object_paces : (ms : List Mark) (line : ℕ) (o : ObjectExpr) → (any ≡ false → silent_object o) → Paces ms (ObjectAt code line ms o)
+    object_paces ms line This f = onward ms op.Own line (λ n k h. refl) (λ k t. refl) (λ at l. l) (λ from to floor at i. i)
+    object_paces ms line (OwnField s i) f = onward ms (op.This (field_cells s i)) line (λ n k h. refl) (λ k t. refl) (λ at l. l) (λ from to floor at i. i)
+    object_paces ms line (GetOwn s i) f = onward ms (op.ViaThis (field_cells s i)) line (λ n k h. refl) (λ k t. refl) (λ at l. l) (λ from to floor at i. i)
+    object_paces ms line (FieldOf s i e) f = both ms (expr_paces ms line e f) (onward ms (op.Field (field_cells s i)) line (λ n k h. refl) (λ k t. refl) (λ at l. l) (λ from to floor at i. i))
+    object_paces ms line Counted f = onward ms op.Counted line (λ n k h. refl) (λ k t. refl) (λ at l. l) (λ from to floor at i. i)
+    object_paces ms line (CallOn r e es) f = both ms (expr_paces ms line e (λ q. (f q).0)) (both ms (args_paces ms line es (λ q. (f q).1)) (pacing.call_on_paces code table any ms line r))
+    object_paces ms line (CallLive r e es) f = both ms (expr_paces ms line e (λ q. (f q).0)) (both ms (args_paces ms line es (λ q. (f q).1)) (pacing.call_live_paces code table any ms line r))
+    object_paces ms line (CallUnwritten r e) f = both ms (expr_paces ms line e f) (pacing.calls_behind_paces code table any ms line r)
+    object_paces ms line (Bind p e) f = both ms (expr_paces ms line p (λ q. (f q).0)) (both ms (expr_paces ms line e (λ q. (f q).1)) (onward ms op.Bind line (λ n k h. refl) (λ k t. refl) (λ at l. l) (λ from to floor at i. i)))
+    object_paces ms line (EnterOn m r e es) f = both ms (expr_paces ms line e (λ q. (f q).0)) (both ms (args_paces ms line es (λ q. (f q).1)) (pacing.enter_paces code table any ms line m r))
+    object_paces ms line (EndOn r false e) f = both ms (expr_paces ms line e f) (both ms (onward ms (op.Enter DESTRUCTOR r) line (λ n k h. refl) (λ k t. refl) (λ at l. l) (λ from to floor at i. i)) (pacing.calls_behind_paces code table any ms line r))
+    object_paces ms line (EndOn r true e) f = both ms (expr_paces ms line e f) (pacing.enter_paces code table any ms line DESTRUCTOR r)
+    object_paces ms line (MakeOn c r false e es) f =
+        both ms (expr_paces ms line e (λ q. (f q).0)) (both ms (args_paces ms line es (λ q. (f q).1)) (both ms (onward ms (op.Make c r) line (λ n k h. refl) (λ k t. refl) (λ at l. l) (λ from to floor at i. i)) (both ms (onward ms (op.BindMade c r) line (λ n k h. refl) (λ k t. refl) (λ at l. l) (λ from to floor at i. i)) (pacing.calls_behind_paces code table any ms line r))))
+    object_paces ms line (MakeOn c r true e es) f = both ms (expr_paces ms line e (λ q. (f q).0)) (both ms (args_paces ms line es (λ q. (f q).1)) (pacing.make_paces code table any ms line c r))
+    object_paces ms line NewCluster f = onward ms op.Cluster line (λ n k h. refl) (λ k t. refl) (λ at l. l) (λ from to floor at i. i)
+    object_paces ms line (NewProcessor e) f = both ms (expr_paces ms line e f) (onward ms op.Processor line (λ n k h. refl) (λ k t. refl) (λ at l. l) (λ from to floor at i. i))
+    object_paces ms line (EndCluster e) f = both ms (expr_paces ms line e f) (onward ms op.ClusterEnd line (λ n k h. refl) (λ k t. refl) (λ at l. l) (λ from to floor at i. i))
+    object_paces ms line (EndProcessor e) f = both ms (expr_paces ms line e f) (onward ms op.ProcessorEnd line (λ n k h. refl) (λ k t. refl) (λ at l. l) (λ from to floor at i. i))
+    object_paces ms line (ConditionAt k n e) f = both ms (expr_paces ms line e f) (onward ms (op.Condition k n) line (λ n k h. refl) (λ k t. refl) (λ at l. l) (λ from to floor at i. i))
+    object_paces ms line (Wait c n) f =
+        both ms (expr_paces ms line c (λ q. absurd (f q))) (both ms (expr_paces ms line n (λ q. absurd (f q))) (both ms (onward ms op.Wait line (λ n k h. refl) (λ k t. refl) (λ at l. l) (λ from to floor at i. i)) (pacing.poll_paces code table any (raised_any any f) ms line)))
+    object_paces ms line (Signal c) f = both ms (expr_paces ms line c f) (onward ms op.Signal line (λ n k h. refl) (λ k t. refl) (λ at l. l) (λ from to floor at i. i))
+    object_paces ms line (SignalBlock c) f = both ms (expr_paces ms line c f) (onward ms op.SignalBlock line (λ n k h. refl) (λ k t. refl) (λ at l. l) (λ from to floor at i. i))
+    object_paces ms line (IsEmpty c) f = both ms (expr_paces ms line c f) (onward ms op.Empty line (λ n k h. refl) (λ k t. refl) (λ at l. l) (λ from to floor at i. i))
+    object_paces ms line (FrontOf c) f = both ms (expr_paces ms line c f) (onward ms op.Front line (λ n k h. refl) (λ k t. refl) (λ at l. l) (λ from to floor at i. i))
 
-    args_paces : (ms : List Mark) (line : ℕ) (es : Exprs) → Paces ms (ArgumentsAt code line ms es)
-    args_paces ms line NoExprs = pacing.nothing_paces code table any ms
-    args_paces ms line (MoreExprs e es) = both ms (expr_paces ms line e) (args_paces ms line es)
+    args_paces : (ms : List Mark) (line : ℕ) (es : Exprs) → (any ≡ false → silent_exprs es) → Paces ms (ArgumentsAt code line ms es)
+    args_paces ms line NoExprs f = pacing.nothing_paces code table any ms
+    args_paces ms line (MoreExprs e es) f = both ms (expr_paces ms line e (λ q. (f q).0)) (args_paces ms line es (λ q. (f q).1))
 
-  value_paces : (ms : List Mark) (line : ℕ) (i : Item) → Paces ms (ValueAt code line ms i)
-  value_paces ms line (Show form e) = expr_paces ms line e
-  value_paces ms line (ShowText k) = pacing.nothing_paces code table any ms
+  value_paces : any ≡ true → (ms : List Mark) (line : ℕ) (i : Item) → Paces ms (ValueAt code line ms i)
+  value_paces t ms line (Show form e) = expr_paces ms line e (λ q. no_silence t q)
+  value_paces t ms line (ShowText k) = pacing.nothing_paces code table any ms
 
-  items_paces : (ms : List Mark) (line : ℕ) (is : List Item) → Paces ms (ItemsAt code line ms is)
-  items_paces ms line [] = pacing.nothing_paces code table any ms
-  items_paces ms line (i ∷ is) = both ms (value_paces ms line i) (both ms (item_paces ms line i) (items_paces ms line is))
+  items_paces : any ≡ true → (ms : List Mark) (line : ℕ) (is : List Item) → Paces ms (ItemsAt code line ms is)
+  items_paces t ms line [] = pacing.nothing_paces code table any ms
+  items_paces t ms line (i ∷ is) = both ms (value_paces t ms line i) (both ms (item_paces ms line i) (items_paces t ms line is))
 
-  values_paces : (ms : List Mark) (line : ℕ) (is : List Item) → Paces ms (ValuesAt code line ms is)
-  values_paces ms line [] = pacing.nothing_paces code table any ms
-  values_paces ms line (i ∷ is) = both ms (value_paces ms line i) (values_paces ms line is)
+  values_paces : any ≡ true → (ms : List Mark) (line : ℕ) (is : List Item) → Paces ms (ValuesAt code line ms is)
+  values_paces t ms line [] = pacing.nothing_paces code table any ms
+  values_paces t ms line (i ∷ is) = both ms (value_paces t ms line i) (values_paces t ms line is)
 
   pieces_paces : (ms : List Mark) (line : ℕ) (is : List Item) → Paces ms (PiecesAt code line is)
   pieces_paces ms line [] = pacing.nothing_paces code table any ms
   pieces_paces ms line (i ∷ is) = both ms (pieces_paces ms line is) (item_paces ms line i)
 
-  together_paces : (ms : List Mark) (line : ℕ) (is : List Item) → Paces ms (TogetherAt code line ms is)
-  together_paces ms line is =
-      both ms (values_paces ms line is) (both ms (onward ms op.Hold line (λ n k h. refl) (λ k t. refl) (λ at l. l) (λ from to floor at i. i)) (both ms (pieces_paces ms line is) (onward ms op.Flush line (λ n k h. refl) (λ k t. refl) (λ at l. l) (λ from to floor at i. i))))
+  together_paces : any ≡ true → (ms : List Mark) (line : ℕ) (is : List Item) → Paces ms (TogetherAt code line ms is)
+  together_paces t ms line is =
+      both ms (values_paces t ms line is) (both ms (onward ms op.Hold line (λ n k h. refl) (λ k t. refl) (λ at l. l) (λ from to floor at i. i)) (both ms (pieces_paces ms line is) (onward ms op.Flush line (λ n k h. refl) (λ k t. refl) (λ at l. l) (λ from to floor at i. i))))
 
-  targets_paces : (ms : List Mark) (line : ℕ) (ts : List Target) → Paces ms (TargetsAt code line ms ts)
-  targets_paces ms line [] = pacing.nothing_paces code table any ms
-  targets_paces ms line (t ∷ ts) =
-      both ms (expr_paces ms line t.place) (both ms (onward ms (op.Read t.form) line (λ n k h. refl) (λ k t. refl) (λ at l. l) (λ from to floor at i. i)) (both ms (onward ms op.Store line (λ n k h. refl) (λ k t. refl) (λ at l. l) (λ from to floor at i. i)) (targets_paces ms line ts)))
+  targets_paces : any ≡ true → (ms : List Mark) (line : ℕ) (ts : List Target) → Paces ms (TargetsAt code line ms ts)
+  targets_paces t ms line [] = pacing.nothing_paces code table any ms
+  targets_paces t ms line (x ∷ ts) =
+      both ms (expr_paces ms line x.place (λ q. no_silence t q)) (both ms (onward ms (op.Read x.form) line (λ n k h. refl) (λ k t. refl) (λ at l. l) (λ from to floor at i. i)) (both ms (onward ms op.Store line (λ n k h. refl) (λ k t. refl) (λ at l. l) (λ from to floor at i. i)) (targets_paces t ms line ts)))
 
-  start_paces : (ms : List Mark) (line cell : ℕ) (value : Option Expr) → Paces ms (StartAt code line ms cell value)
-  start_paces ms line cell None = pacing.nothing_paces code table any ms
-  start_paces ms line cell (Some e) = both ms (onward ms (op.Local cell) line (λ n k h. refl) (λ k t. refl) (λ at l. l) (λ from to floor at i. i)) (both ms (expr_paces ms line e) (onward ms op.Store line (λ n k h. refl) (λ k t. refl) (λ at l. l) (λ from to floor at i. i)))
+  start_paces : any ≡ true → (ms : List Mark) (line cell : ℕ) (value : Option Expr) → Paces ms (StartAt code line ms cell value)
+  start_paces t ms line cell None = pacing.nothing_paces code table any ms
+  start_paces t ms line cell (Some e) = both ms (onward ms (op.Local cell) line (λ n k h. refl) (λ k t. refl) (λ at l. l) (λ from to floor at i. i)) (both ms (expr_paces ms line e (λ q. no_silence t q)) (onward ms op.Store line (λ n k h. refl) (λ k t. refl) (λ at l. l) (λ from to floor at i. i)))
 
-  variables_paces : (ms : List Mark) (line : ℕ) (ds : List Declared) → Paces ms (VariablesAt code line ms ds)
-  variables_paces ms line [] = pacing.nothing_paces code table any ms
-  variables_paces ms line (d ∷ ds) = both ms (onward ms (op.Clear d.cell d.cells) line (λ n k h. refl) (λ k t. refl) (λ at l. l) (λ from to floor at i. i)) (both ms (start_paces ms line d.cell d.value) (variables_paces ms line ds))
+  variables_paces : any ≡ true → (ms : List Mark) (line : ℕ) (ds : List Declared) → Paces ms (VariablesAt code line ms ds)
+  variables_paces t ms line [] = pacing.nothing_paces code table any ms
+  variables_paces t ms line (d ∷ ds) = both ms (onward ms (op.Clear d.cell d.cells) line (λ n k h. refl) (λ k t. refl) (λ at l. l) (λ from to floor at i. i)) (both ms (start_paces t ms line d.cell d.value) (variables_paces t ms line ds))
 
   -- events
 
@@ -163,13 +174,13 @@ module _ (code : Laid) (table : List RoutineCode) (any : Bool) where
       both ms (onward ms op.Discard line (λ n k h. refl) (λ k t. refl) (λ at l. l) (λ from to floor at i. i)) (both ms (onward ms (op.Push (pos n)) line (λ n k h. refl) (λ k t. refl) (λ at l. l) (λ from to floor at i. i)) (
       both ms (onward ms (op.Via k) line (λ n k h. refl) (λ k t. refl) (λ at l. l) (λ from to floor at i. i)) (onward ms (op.Via (k + 1)) line (λ n k h. refl) (λ k t. refl) (λ at l. l) (λ from to floor at i. i))))
 
-  raised_paces : (ms : List Mark) (line : ℕ) (r : Raised) → Paces ms (RaisedAt code line ms r)
-  raised_paces ms line (Plainly n) =
+  raised_paces : any ≡ true → (ms : List Mark) (line : ℕ) (r : Raised) → Paces ms (RaisedAt code line ms r)
+  raised_paces t ms line (Plainly n) =
       both ms (onward ms (op.Push (pos n)) line (λ n k h. refl) (λ k t. refl) (λ at l. l) (λ from to floor at i. i)) (
       both ms (onward ms (op.Push (pos 0)) line (λ n k h. refl) (λ k t. refl) (λ at l. l) (λ from to floor at i. i)) (onward ms (op.Push (pos 0)) line (λ n k h. refl) (λ k t. refl) (λ at l. l) (λ from to floor at i. i)))
-  raised_paces ms line (BuildsAt n k e) =
-      both ms (onward ms (op.Clear k EVENT_FIELDS) line (λ n k h. refl) (λ k t. refl) (λ at l. l) (λ from to floor at i. i)) (both ms (expr_paces ms line e) (fields_paces ms line n k))
-  raised_paces ms line (AgainFrom k) =
+  raised_paces t ms line (BuildsAt n k e) =
+      both ms (onward ms (op.Clear k EVENT_FIELDS) line (λ n k h. refl) (λ k t. refl) (λ at l. l) (λ from to floor at i. i)) (both ms (expr_paces ms line e (λ q. no_silence t q)) (fields_paces ms line n k))
+  raised_paces t ms line (AgainFrom k) =
       both ms (onward ms (op.Via k) line (λ n k h. refl) (λ k t. refl) (λ at l. l) (λ from to floor at i. i)) (
       both ms (onward ms (op.Via (k + 1)) line (λ n k h. refl) (λ k t. refl) (λ at l. l) (λ from to floor at i. i)) (onward ms (op.Via (k + 2)) line (λ n k h. refl) (λ k t. refl) (λ at l. l) (λ from to floor at i. i)))
 
@@ -185,15 +196,6 @@ module _ (code : Laid) (table : List RoutineCode) (any : Bool) where
   end_paces : (main : MainOf) (ms : List Mark) (line : ℕ) → Paces ms (One code (main_end main) line)
   end_paces main_of.Task ms line = pacing.task_end_paces code table any ms line
   end_paces main_of.Coroutine ms line = pacing.main_end_paces code table any ms line
-
-  -- events are raised in what is not silent
-
-  raised_any : (b : Bool) → (b ≡ false → ⊥) → b ≡ true
-  raised_any true f = refl
-  raised_any false f = absurd (f refl)
-
-  no_silence : {X : Type 0} → any ≡ true → any ≡ false → X
-  no_silence t e = let f : true ≡ false = sym t ∙ e in absurd (cc)
 
   exit_paces : any ≡ true → (w : Way) (ms : List Mark) → Paces ms (ExitAt code w ms)
   exit_paces t ToBreak [] = pacing.return_paces code table any [] 0
@@ -219,21 +221,9 @@ module _ (code : Laid) (table : List RoutineCode) (any : Bool) where
   exit_paces t ToReturn (mark.Outward below row ∷ ms) = pacing.value_return_paces code table any (mark.Outward below row ∷ ms) 0
   exit_paces t ToEnd (mark.Outward below row ∷ ms) = pacing.none_return_paces code table any (mark.Outward below row ∷ ms) 0
 
-  step_paces : (ms : List Mark) (line : ℕ) (step : Option Expr) → Paces ms (StepAt code line ms step)
-  step_paces ms line None = pacing.nothing_paces code table any ms
-  step_paces ms line (Some e) = both ms (expr_paces ms line e) (drop_paces ms line)
-
-  -- what coroutines and tasks do
-
-  task_paces : (ms : List Mark) (s : TaskStmt) → (any ≡ false → silent_task s) → Paces ms (TaskAt code ms s)
-  task_paces ms (Resume line) f = both ms (pacing.resume_paces code table any (raised_any any f) ms line) (both ms (pacing.land_paces code table any ms line) (pacing.poll_paces code table any (raised_any any f) ms line))
-  task_paces ms (Suspend line) f = both ms (onward ms op.Suspend line (λ n k h. refl) (λ k t. refl) (λ at l. l) (λ from to floor at i. i)) (both ms (pacing.land_paces code table any ms line) (pacing.poll_paces code table any (raised_any any f) ms line))
-  task_paces ms (SetUp r) f = pacing.set_up_paces code table any ms 0 r
-  task_paces ms Enliven f = onward ms op.Live 0 (λ n k h. refl) (λ k t. refl) (λ at l. l) (λ from to floor at i. i)
-  task_paces ms TakeDown f = onward ms op.UnwindCoroutine 0 (λ n k h. refl) (λ k t. refl) (λ at l. l) (λ from to floor at i. i)
-  task_paces ms (Yield line) f = both ms (onward ms op.Yield line (λ n k h. refl) (λ k t. refl) (λ at l. l) (λ from to floor at i. i)) (pacing.poll_paces code table any (raised_any any f) ms line)
-  task_paces ms (Migrate line e) f = pacing.never_paces code table any ms
-  task_paces ms (Accept line site cs) f = pacing.never_paces code table any ms
+  step_paces : any ≡ true → (ms : List Mark) (line : ℕ) (step : Option Expr) → Paces ms (StepAt code line ms step)
+  step_paces t ms line None = pacing.nothing_paces code table any ms
+  step_paces t ms line (Some e) = both ms (expr_paces ms line e (λ q. no_silence t q)) (drop_paces ms line)
 
   catches_paces : (ms : List Mark) (line cell : ℕ) (B : List Mark → ℕ → ℕ → Type 0) → ((ns : List Mark) → Paces ns (B ns)) → blocks.Handles code table any ms false (λ pad. Both (KeepsAt code line cell) (Both (B ms) (One code (op.Jump pad) line)))
   catches_paces ms line cell B b =
@@ -259,36 +249,62 @@ module _ (code : Laid) (table : List RoutineCode) (any : Bool) where
     stays = λ from to floor a z h n l m x. stay_one code table from to floor a z op.NoReturn line h.here h.end (pacing.next_in code table any from to a z h.end l m);
   }
 
+  guards_paces : any ≡ true → (ms : List Mark) (line : ℕ) (cs : Clauses) → Paces ms (GuardsAt code ms line cs)
+  guards_paces t ms line NoClauses = pacing.nothing_paces code table any ms
+  guards_paces t ms line (Otherwise b) = pacing.nothing_paces code table any ms
+  guards_paces t ms line (MoreClauses guard b cs) = both ms (expr_paces ms line guard (λ q. no_silence t q)) (guards_paces t ms line cs)
+
   mutual
     stmt_paces : (ms : List Mark) (s : Stmt) → (any ≡ false → silent s) → Paces ms (StmtAt code ms s)
     stmt_paces ms (Skip line) f = pacing.nothing_paces code table any ms
     stmt_paces ms (Block line body) f = stmts_paces ms line body f
     stmt_paces ms (Whole line body) f = blocks.whole_paces code table any ms line (λ ns. StmtsAt code ns line body) (λ ns. stmts_paces ns line body f)
-    stmt_paces ms (Evaluate line e) f = both ms (expr_paces ms line e) (drop_paces ms line)
-    stmt_paces ms (Declare line ds) f = variables_paces ms line ds
-    stmt_paces ms (Print line is) f = items_paces ms line is
-    stmt_paces ms (PrintTogether line is) f = together_paces ms line is
-    stmt_paces ms (Read line ts) f = targets_paces ms line ts
-    stmt_paces ms (If line test chosen other) f = both ms (expr_paces ms line test) (fork ms line (stmt_paces ms chosen (λ e. (f e).0)) (stmt_paces ms other (λ e. (f e).1)))
+    stmt_paces ms (Evaluate line e) f = both ms (expr_paces ms line e f) (drop_paces ms line)
+    stmt_paces ms (Declare line ds) f = variables_paces (raised_any any f) ms line ds
+    stmt_paces ms (Print line is) f = items_paces (raised_any any f) ms line is
+    stmt_paces ms (PrintTogether line is) f = together_paces (raised_any any f) ms line is
+    stmt_paces ms (Read line ts) f = targets_paces (raised_any any f) ms line ts
+    stmt_paces ms (If line test chosen other) f = both ms (expr_paces ms line test (λ q. absurd (f q))) (fork ms line (stmt_paces ms chosen (λ q. absurd (f q))) (stmt_paces ms other (λ q. absurd (f q))))
     stmt_paces ms (Loop line order test step body) f =
-        pacing.turns_paces code table any ms line (ExprAt code line ms test) (StepAt code line ms step) (λ m. StmtAt code (m ∷ ms) body) (expr_paces ms line test) (step_paces ms line step) (λ m. stmt_paces (m ∷ ms) body f) order
+        pacing.turns_paces code table any ms line (ExprAt code line ms test) (StepAt code line ms step) (λ m. StmtAt code (m ∷ ms) body) (expr_paces ms line test (λ q. absurd (f q))) (step_paces (raised_any any f) ms line step) (λ m. stmt_paces (m ∷ ms) body (λ q. absurd (f q))) order
     stmt_paces ms (Break line) f = exit_paces (raised_any any f) ToBreak ms
     stmt_paces ms (Continue line) f = exit_paces (raised_any any f) ToContinue ms
     stmt_paces ms (Return line None) f = exit_paces (raised_any any f) ToEnd ms
-    stmt_paces ms (Return line (Some e)) f = both ms (expr_paces ms line e) (exit_paces (raised_any any f) ToReturn ms)
+    stmt_paces ms (Return line (Some e)) f = both ms (expr_paces ms line e (λ q. absurd (f q))) (exit_paces (raised_any any f) ToReturn ms)
     stmt_paces ms (Owes line) f = no_return_paces ms line
     stmt_paces ms (Fill line n b d) f = spans.filled_paces code table any ms line n b d
     stmt_paces ms (OfEvents s) f = event_paces ms s (raised_any any f)
     stmt_paces ms (OfTasks s) f = task_paces ms s f
 
+    task_paces : (ms : List Mark) (s : TaskStmt) → (any ≡ false → silent_task s) → Paces ms (TaskAt code ms s)
+    task_paces ms (Resume line) f = both ms (pacing.resume_paces code table any (raised_any any f) ms line) (both ms (pacing.land_paces code table any ms line) (pacing.poll_paces code table any (raised_any any f) ms line))
+    task_paces ms (Suspend line) f = both ms (onward ms op.Suspend line (λ n k h. refl) (λ k t. refl) (λ at l. l) (λ from to floor at i. i)) (both ms (pacing.land_paces code table any ms line) (pacing.poll_paces code table any (raised_any any f) ms line))
+    task_paces ms (SetUp r) f = pacing.set_up_paces code table any ms 0 r
+    task_paces ms Enliven f = onward ms op.Live 0 (λ n k h. refl) (λ k t. refl) (λ at l. l) (λ from to floor at i. i)
+    task_paces ms TakeDown f = onward ms op.UnwindCoroutine 0 (λ n k h. refl) (λ k t. refl) (λ at l. l) (λ from to floor at i. i)
+    task_paces ms (Yield line) f = both ms (onward ms op.Yield line (λ n k h. refl) (λ k t. refl) (λ at l. l) (λ from to floor at i. i)) (pacing.poll_paces code table any (raised_any any f) ms line)
+    task_paces ms (Migrate line e) f = both ms (expr_paces ms line e (λ q. absurd (f q))) (onward ms op.Migrate line (λ n k h. refl) (λ k t. refl) (λ at l. l) (λ from to floor at i. i))
+    task_paces ms (Accept line site cs) f =
+        let t = raised_any any f in
+        both ms (guards_paces t ms line cs) (both ms (accepting.accepts_paces code table any t ms site (clause_count cs) line) (accepting.chooses_paces code table any ms line (clause_count cs) (branches_pace t ms line cs)))
+
+    branches_pace : any ≡ true → (ms : List Mark) (line : ℕ) (cs : Clauses) → accepting.Branches code table any ms (λ o ps end. BranchesAt code ms line cs o ps end)
+    branches_pace t ms line NoClauses = accepting.none_branches code table any ms
+    branches_pace t ms line (Otherwise b) = accepting.else_branches code table any ms (stmt_paces ms b (λ q. no_silence t q))
+    branches_pace t ms line (MoreClauses guard b cs) = accepting.clause_branches code table any ms line (stmt_paces ms b (λ q. no_silence t q)) (branches_pace t ms line cs)
+
     event_paces : (ms : List Mark) (s : EventStmt) → any ≡ true → Paces ms (EventAt code ms s)
-    event_paces ms (Throw line r) t = both ms (raised_paces ms line r) (pacing.throw_paces code table any ms line)
-    event_paces ms (Raise line r) t = both ms (raised_paces ms line r) (both ms (pacing.raise_paces code table any t ms line) (drop_paces ms line))
+    event_paces ms (Throw line r) t = both ms (raised_paces t ms line r) (pacing.throw_paces code table any ms line)
+    event_paces ms (Raise line r) t = both ms (raised_paces t ms line r) (both ms (pacing.raise_paces code table any t ms line) (drop_paces ms line))
     event_paces ms (Try line body hs) t =
         blocks.guarded_paces code table any ms line (handler_rows hs) (λ ns. StmtsAt code ns line body) (λ first pad. HandlersAt code ms first pad hs) (λ ns. stmts_paces ns line body (λ e. no_silence t e)) (handlers_paces ms hs t)
-    event_paces ms (RaiseAt line r e) t = pacing.never_paces code table any ms
-    event_paces ms (Enable line events cell s) t = pacing.never_paces code table any ms
-    event_paces ms (Disable line events cell s) t = pacing.never_paces code table any ms
+    event_paces ms (RaiseAt line r e) t = both ms (raised_paces t ms line r) (both ms (expr_paces ms line e (λ q. no_silence t q)) (onward ms op.RaiseAt line (λ n k h. refl) (λ k t. refl) (λ at l. l) (λ from to floor at i. i)))
+    event_paces ms (Enable line events cell s) t =
+        spans.scoped_paces code table any ms line (Restores cell) (λ ns. Both (One code (op.Enable events cell) line) (Both (PollAt code ns line) (StmtAt code ns s))) (λ e. tt) (λ u. exit_paces u ToReturn ms)
+        (λ ns. both ns (onward ns (op.Enable events cell) line (λ n k h. refl) (λ k t. refl) (λ at l. l) (λ from to floor at i. i)) (both ns (pacing.poll_paces code table any t ns line) (stmt_paces ns s (λ q. no_silence t q))))
+    event_paces ms (Disable line events cell s) t =
+        spans.scoped_paces code table any ms line (Restores cell) (λ ns. Both (One code (op.Disable events cell) line) (StmtAt code ns s)) (λ e. tt) (λ u. exit_paces u ToReturn ms)
+        (λ ns. both ns (onward ns (op.Disable events cell) line (λ n k h. refl) (λ k t. refl) (λ at l. l) (λ from to floor at i. i)) (stmt_paces ns s (λ q. no_silence t q)))
 
     handlers_paces : (ms : List Mark) (hs : Handlers) → any ≡ true → blocks.AllHandle code table any ms (handler_rows hs) (λ first pad. HandlersAt code ms first pad hs)
     handlers_paces ms NoHandlers t = blocks.no_handles code table any ms

@@ -1,5 +1,5 @@
 -- How what is added to a draft is joined, and the code of calls, clean-ups and exits.
-use Rattle.std.proofs.Common.{◌≡◌, ℕ, ◌+◌, ◌*◌, ◌≤◌, ◌<◌, List, [], ◌∷◌, length, length-append, Bool, true, false, Option, Some, None, refl, ap, sym, subst, ◌∙◌, arith}
+use Rattle.std.proofs.Common.{◌≡◌, ℕ, pos, ◌+◌, ◌*◌, ◌≤◌, ◌<◌, List, [], ◌∷◌, length, length-append, Bool, true, false, Option, Some, None, refl, ap, sym, subst, ◌∙◌, arith}
 use Rattle.uc_code.specs.declared.op.Op.{Op}
 use Rattle.uc_code.specs.declared.op.Op.TheVariants as op
 use Rattle.uc_code.specs.declared.rows.Array.{Array}
@@ -10,12 +10,14 @@ use Rattle.uc_code.specs.declared.rows.Manner.TheVariants as manner
 use Rattle.uc_code.specs.declared.rows.Mark.{Mark}
 use Rattle.uc_code.specs.declared.rows.Mark.TheVariants as mark
 use Rattle.uc_code.specs.declared.rows.ObjectCall.{ObjectCall}
+use Rattle.uc_code.specs.declared.rows.Resource.{Resource}
+use Rattle.uc_code.specs.declared.rows.Resource.TheVariants as resource
 use Rattle.uc_code.specs.declared.rows.Spot.{Spot}
 use Rattle.uc_tree.specs.declared.limits.TheConstants.{DESTRUCTOR}
 use Rattle.uc_code.specs.Drafts.{Draft, ops_with}
 use Rattle.uc_code.specs.Layout.{Laid, laid_in, routine_in}
 use Rattle.uc_code.specs.CodeShapes.{OpAt, One, Risk, CallsBehind, Both, OverElements, PollAt, LeavesAt, Stable}
-use Rattle.uc_code.specs.Lowered.{spot_op, SpotAt, FoundAt, CalledAt, CallAt, CallDone, CleanBy, CleanAt, KeepAt, KeepsAt}
+use Rattle.uc_code.specs.Lowered.{spot_op, close_op, SpotAt, FoundAt, OpenedAt, CalledAt, CallAt, CallDone, CleanBy, CleanAt, KeepAt, KeepsAt}
 use Rattle.uc_code.specs.OpenRows.{StandsBehind, CleansBehind}
 use Rattle.uc_code.specs.Emits.{Puts, place_length, called_length, manner_length, done_length, clean_by, clean_length}
 use Rattle.uc_code.proofs.Patches.{kept_with, one_with}
@@ -75,6 +77,12 @@ pub found_stable : (line : ℕ) (m : Manner) (s : Spot) (a : Option Array) → S
 found_stable line manner.Plain s a = place_stable line s a
 found_stable line (manner.Makes c) s a = place_stable line s a
 found_stable line manner.Ends s a = both (place_stable line s a) (one_stable op.Load line)
+found_stable line (manner.Opens of) s a = place_stable line s a
+found_stable line (manner.Closes of) s a = both (place_stable line s a) (one_stable op.Load line)
+
+opened_stable : (line : ℕ) (of : Resource) → Stable (λ code. OpenedAt code line of)
+opened_stable line resource.Cluster = both (one_stable op.Cluster line) (one_stable op.Bind line)
+opened_stable line resource.Processor = both (both (one_stable (op.Push (pos 0)) line) (one_stable op.Processor line)) (one_stable op.Bind line)
 
 made_stable : {B : Laid → ℕ → ℕ → Type 0} → (line c r : ℕ) → Stable B → Stable (λ code. Both (One code (op.Make c r) line) (Both (One code (op.BindMade c r) line) (B code)))
 made_stable line c r b = both (one_stable (op.Make c r) line) (both (one_stable (op.BindMade c r) line) b)
@@ -86,6 +94,8 @@ called_stable line ms (manner.Makes c) true r = both nothing_stable (both (one_s
 called_stable line ms (manner.Makes c) false r = both nothing_stable (made_stable line c r (calls_behind_stable ms r line))
 called_stable line ms manner.Ends true r = both (one_stable op.Tick line) (both (one_stable (op.Enter DESTRUCTOR r) line) (risk_stable ms (op.CallOn r) line))
 called_stable line ms manner.Ends false r = both (one_stable (op.Enter DESTRUCTOR r) line) (calls_behind_stable ms r line)
+called_stable line ms (manner.Opens of) written r = opened_stable line of
+called_stable line ms (manner.Closes of) written r = one_stable (close_op of) line
 
 pub call_stable : (line : ℕ) (what : ObjectCall) (ms : List Mark) → Stable (λ code. CallAt code line what ms)
 call_stable line what ms = both (found_stable line what.manner what.spot what.array) (called_stable line ms what.manner what.written what.routine)
@@ -105,6 +115,7 @@ clean_stable line cleaning.Leave ms = leaves_stable ms line
 clean_stable line cleaning.End ms = one_stable op.Gone line
 clean_stable line (cleaning.Free None) ms = one_stable op.Made line
 clean_stable line (cleaning.Free (Some r)) ms = one_stable (op.Spawn r) line
+clean_stable line (cleaning.Restore cell) ms = one_stable (op.Restore cell) line
 
 -- how long they are
 
@@ -113,7 +124,7 @@ place_is code line s None a z h = h.end
 place_is code line s (Some x) a z h = let e = h.first.end in let f = h.second.first.end in let g = h.second.second.end in omega arith
 
 -- how the object is found and how its routine is called take this together
-pub call_is : (code : Laid) (line : ℕ) (ms : List Mark) (m : Manner) (s : Spot) (o : Option Array) (written : Bool) (r a b z : ℕ) → FoundAt code line m s o a b → CalledAt code line ms m written r b z → z ≡ a + (place_length o + manner_length m + called_length written)
+pub call_is : (code : Laid) (line : ℕ) (ms : List Mark) (m : Manner) (s : Spot) (o : Option Array) (written : Bool) (r a b z : ℕ) → FoundAt code line m s o a b → CalledAt code line ms m written r b z → z ≡ a + (place_length o + manner_length m written)
 call_is code line ms manner.Plain s o true r a b z f h =
     let p = place_is code line s o a b f in
     let e = h.first.end in
@@ -149,6 +160,22 @@ call_is code line ms manner.Ends s o false r a b z f h =
     let e = h.first.end in
     let j = h.second.risk.end in
     omega arith
+call_is code line ms (manner.Opens resource.Cluster) s o written r a b z f h =
+    let p = place_is code line s o a b f in
+    let e = h.first.end in
+    let i = h.second.end in
+    omega arith
+call_is code line ms (manner.Opens resource.Processor) s o written r a b z f h =
+    let p = place_is code line s o a b f in
+    let e = h.first.first.end in
+    let i = h.first.second.end in
+    let j = h.second.end in
+    omega arith
+call_is code line ms (manner.Closes of) s o written r a b z f h =
+    let p = place_is code line s o a f.middle f.first in
+    let q = f.second.end in
+    let e = h.end in
+    omega arith
 
 pub done_is : (code : Laid) (line : ℕ) (what : ObjectCall) (ms : List Mark) (a z : ℕ) → CallDone code line what ms a z → z ≡ a + done_length what
 done_is code line what ms a z h =
@@ -177,6 +204,7 @@ clean_is code line cleaning.Leave ms a z h = let e = h.polls.end in omega arith
 clean_is code line cleaning.End ms a z h = h.end
 clean_is code line (cleaning.Free None) ms a z h = h.end
 clean_is code line (cleaning.Free (Some r)) ms a z h = h.end
+clean_is code line (cleaning.Restore cell) ms a z h = h.end
 
 -- what is behind the call of a routine that nobody wrote
 pub puts_behind : (r line : ℕ) (old new : Draft) → routine_in old.marks < r → Puts 1 (λ code. Risk code old.marks (op.CallUnwritten r) line) old new → Puts 1 (λ code. CallsBehind code old.marks r line) old new

@@ -1,5 +1,5 @@
 -- The code of scopes, of turns over elements and of guarded blocks is paced.
-use Rattle.std.proofs.Common.{◌≡◌, ℕ, suc, ◌+◌, ◌-◌, ◌*◌, ◌^◌, ◌<◌, ◌≤◌, List, ◌∷◌, Bool, true, false, Option, Some, None, length, refl, ap, sym, subst, ◌∙◌, arith}
+use Rattle.std.proofs.Common.{◌≡◌, ℕ, suc, pos, ◌+◌, ◌-◌, ◌*◌, ◌^◌, ◌<◌, ◌≤◌, List, ◌∷◌, Bool, true, false, Option, Some, None, length, refl, ap, sym, subst, ◌∙◌, arith}
 use Rattle.std.specs.Prelude.{slice_get}
 use Rattle.uc_tree.specs.Source.{Expr, CleanUp, ToReturn}
 use Rattle.uc_tree.specs.declared.limits.TheConstants.{DESTRUCTOR}
@@ -14,16 +14,18 @@ use Rattle.uc_code.specs.declared.rows.Manner.TheVariants as manner
 use Rattle.uc_code.specs.declared.rows.Mark.{Mark}
 use Rattle.uc_code.specs.declared.rows.Mark.TheVariants as mark
 use Rattle.uc_code.specs.declared.rows.ObjectCall.{ObjectCall}
+use Rattle.uc_code.specs.declared.rows.Resource.{Resource}
+use Rattle.uc_code.specs.declared.rows.Resource.TheVariants as resource
 use Rattle.uc_code.specs.declared.rows.RoutineCode.{RoutineCode}
 use Rattle.uc_code.specs.declared.rows.RowKind.TheVariants.{CatchResume, CleanUp as OfCleanUp}
 use Rattle.uc_code.specs.declared.rows.Spot.{Spot}
 use Rattle.uc_code.specs.declared.rows.Spot.TheVariants as spot
-use Rattle.uc_code.specs.ObjectCalls.{Cleans, One as CleansOne, All as CleansAll, TakesDown, IsForgotten, Left, Ended, Freed}
+use Rattle.uc_code.specs.ObjectCalls.{Cleans, One as CleansOne, All as CleansAll, TakesDown, IsForgotten, Left, Ended, Freed, Restored}
 use Rattle.uc_code.specs.Silent.{silent_clean}
 use Rattle.uc_code.specs.Layout.{Laid, handlers, routine_in}
 use Rattle.uc_code.specs.Pace.{behind, climb_op, height, power, Test, test_by, burden, waiting, In, Stays, Entry, Entries, Beneath, Nests, Onward, Paced}
 use Rattle.uc_code.specs.CodeShapes.{One, Risk, Both, HandlerAt, clean_up, Rounds, OverElements, ScopeOf, BehindPart, LeavesAt}
-use Rattle.uc_code.specs.Lowered.{spot_op, SpotAt, FoundAt, CalledAt, CallAt, CallDone, CallBuilt, CleanBy, CleanAt, ExitAt, ArrivesAt, PadAt, FilledAt, ScopedAt, BuiltAt}
+use Rattle.uc_code.specs.Lowered.{spot_op, close_op, SpotAt, FoundAt, OpenedAt, CalledAt, CallAt, CallDone, CallBuilt, CleanBy, CleanAt, ExitAt, ArrivesAt, PadAt, FilledAt, ScopedAt, BuiltAt}
 use Rattle.uc_code.proofs.Heights.{Low, waiting_more, Outside, Plain, Each, Ahead, Around, around_less, further_of, clean_ahead, entries_of, nests_of, paced_by, only, join, within, own_plain, down, jump_plain, jump_plain_at, jump_paced_at, jump_paced, Starts, Further, height_is, RowIn, row_in, Env, AllStay, stay_one, stay_join}
 use Rattle.uc_code.proofs.Powers.{power_rises, power_sum_few}
 use Rattle.uc_code.proofs.Turning.{In as InTurn, burden_test, waiting_in}
@@ -64,6 +66,17 @@ module _ (code : Laid) (table : List RoutineCode) (any : Bool) where
   found_paces ms line manner.Plain s a = place_paces ms line s a
   found_paces ms line (manner.Makes c) s a = place_paces ms line s a
   found_paces ms line manner.Ends s a = both ms (place_paces ms line s a) (onward ms op.Load line (λ n k h. refl) (λ k t. refl) (λ at l. l) (λ from to floor at i. i))
+  found_paces ms line (manner.Opens of) s a = place_paces ms line s a
+  found_paces ms line (manner.Closes of) s a = both ms (place_paces ms line s a) (onward ms op.Load line (λ n k h. refl) (λ k t. refl) (λ at l. l) (λ from to floor at i. i))
+
+  opened_paces : (ms : List Mark) (line : ℕ) (of : Resource) → Paces ms (OpenedAt code line of)
+  opened_paces ms line resource.Cluster = both ms (onward ms op.Cluster line (λ n k h. refl) (λ k t. refl) (λ at l. l) (λ from to floor at i. i)) (onward ms op.Bind line (λ n k h. refl) (λ k t. refl) (λ at l. l) (λ from to floor at i. i))
+  opened_paces ms line resource.Processor =
+      both ms (both ms (onward ms (op.Push (pos 0)) line (λ n k h. refl) (λ k t. refl) (λ at l. l) (λ from to floor at i. i)) (onward ms op.Processor line (λ n k h. refl) (λ k t. refl) (λ at l. l) (λ from to floor at i. i))) (onward ms op.Bind line (λ n k h. refl) (λ k t. refl) (λ at l. l) (λ from to floor at i. i))
+
+  closed_paces : (ms : List Mark) (line : ℕ) (of : Resource) → Paces ms (One code (close_op of) line)
+  closed_paces ms line resource.Cluster = onward ms op.ClusterEnd line (λ n k h. refl) (λ k t. refl) (λ at l. l) (λ from to floor at i. i)
+  closed_paces ms line resource.Processor = onward ms op.ProcessorEnd line (λ n k h. refl) (λ k t. refl) (λ at l. l) (λ from to floor at i. i)
 
   called_paces : (ms : List Mark) (line : ℕ) (m : Manner) (written : Bool) (r : ℕ) → Paces ms (CalledAt code line ms m written r)
   called_paces ms line manner.Plain true r = both ms (pacing.nothing_paces code table any ms) (pacing.call_on_paces code table any ms line r)
@@ -73,6 +86,8 @@ module _ (code : Laid) (table : List RoutineCode) (any : Bool) where
       both ms (pacing.nothing_paces code table any ms) (both ms (onward ms (op.Make c r) line (λ n k h. refl) (λ k t. refl) (λ at l. l) (λ from to floor at i. i)) (both ms (onward ms (op.BindMade c r) line (λ n k h. refl) (λ k t. refl) (λ at l. l) (λ from to floor at i. i)) (pacing.calls_behind_paces code table any ms line r)))
   called_paces ms line manner.Ends true r = pacing.enter_paces code table any ms line DESTRUCTOR r
   called_paces ms line manner.Ends false r = both ms (onward ms (op.Enter DESTRUCTOR r) line (λ n k h. refl) (λ k t. refl) (λ at l. l) (λ from to floor at i. i)) (pacing.calls_behind_paces code table any ms line r)
+  called_paces ms line (manner.Opens of) written r = opened_paces ms line of
+  called_paces ms line (manner.Closes of) written r = closed_paces ms line of
 
   pub done_paces : (ms : List Mark) (line : ℕ) (what : ObjectCall) → Paces ms (CallDone code line what ms)
   done_paces ms line what =
@@ -278,6 +293,7 @@ module _ (code : Laid) (table : List RoutineCode) (any : Bool) where
   silent_by cleaning.Leave = ⊥
   silent_by cleaning.End = Unit {0}
   silent_by (cleaning.Free main) = Unit {0}
+  silent_by (cleaning.Restore cell) = Unit {0}
 
   loud : (b : Bool) → (b ≡ false → ⊥) → b ≡ true
   loud true f = refl
@@ -291,6 +307,7 @@ module _ (code : Laid) (table : List RoutineCode) (any : Bool) where
   silent_of c what Left s = s
   silent_of c what Ended s = tt
   silent_of c what (Freed main) s = tt
+  silent_of c what (Restored cell) s = tt
 
   pub clean_paces : (ms : List Mark) (line : ℕ) (what : Cleaning) → (any ≡ false → silent_by what) → Paces ms (CleanAt code line what ms)
   clean_paces ms line (cleaning.Call what) f = clean_by_paces ms line what.array what
@@ -300,6 +317,7 @@ module _ (code : Laid) (table : List RoutineCode) (any : Bool) where
   clean_paces ms line cleaning.End f = onward ms op.Gone line (λ n k h. refl) (λ k t. refl) (λ at l. l) (λ from to floor at i. i)
   clean_paces ms line (cleaning.Free None) f = onward ms op.Made line (λ n k h. refl) (λ k t. refl) (λ at l. l) (λ from to floor at i. i)
   clean_paces ms line (cleaning.Free (Some r)) f = onward ms (op.Spawn r) line (λ n k h. refl) (λ k t. refl) (λ at l. l) (λ from to floor at i. i)
+  clean_paces ms line (cleaning.Restore cell) f = onward ms (op.Restore cell) line (λ n k h. refl) (λ k t. refl) (λ at l. l) (λ from to floor at i. i)
 
   pub filled_paces : (ms : List Mark) (line n : ℕ) (b d : Expr) → Paces ms (FilledAt code line ms n b d)
   filled_paces ms line n b d =
@@ -421,6 +439,7 @@ module _ (code : Laid) (table : List RoutineCode) (any : Bool) where
   pad_paces ms line cleaning.Leave f x = arrives_paces (loud any f) ms line (x (loud any f))
   pad_paces ms line cleaning.End f x = undone_paces ms line (CleanAt code line cleaning.End ms) (clean_paces ms line cleaning.End f)
   pad_paces ms line (cleaning.Free main) f x = undone_paces ms line (One code op.GiveUp line) (onward ms op.GiveUp line (λ n k h. refl) (λ k t. refl) (λ at l. l) (λ from to floor at i. i))
+  pad_paces ms line (cleaning.Restore cell) f x = undone_paces ms line (CleanAt code line (cleaning.Restore cell) ms) (clean_paces ms line (cleaning.Restore cell) f)
 
   pub scoped_paces : (ms : List Mark) (line : ℕ) (c : CleanUp) (B : List Mark → ℕ → ℕ → Type 0) → (any ≡ false → silent_clean c) → (any ≡ true → Paces ms (ExitAt code ToReturn ms)) → ((ns : List Mark) → Paces ns (B ns)) → Paces ms (ScopedAt code line ms c B)
   scoped_paces ms line c B f e b =

@@ -4,13 +4,13 @@ use Rattle.std.specs.Prelude.{slice_get}
 use Rattle.uc_code.specs.declared.rows.HandlerRow.{HandlerRow}
 use Rattle.uc_code.specs.declared.op.Op.{Op}
 use Rattle.uc_tree.specs.Source.{Order, TestFirst, BodyFirst, NoTest}
-use Rattle.uc_code.specs.declared.op.Op.TheVariants.{Jump, IfZero, IfNonzero, Tick, CallUnwritten, Count, Return, Handled, Unwind, Poll, Deliver, Discard, Leave}
+use Rattle.uc_code.specs.declared.op.Op.TheVariants.{Jump, IfZero, IfNonzero, Tick, CallUnwritten, Count, Return, Handled, Unwind, Raise, Poll, Deliver, Discard, Leave, Accept, Failed, Choose}
 use Rattle.uc_code.specs.declared.rows.MainOf.{MainOf}
 use Rattle.uc_code.specs.declared.rows.Mark.{Mark}
 use Rattle.uc_code.specs.declared.rows.Mark.TheVariants.{Finish, Whole, Elements, Outward}
 use Rattle.uc_code.specs.declared.rows.Handler.{Handler}
 use Rattle.uc_code.specs.Layout.{Laid, guards}
-use Rattle.uc_code.specs.CodeShapes.{Nothing, Never, One, Risk, CallsBehind, Both, Behind, When, Unless, Fork, Leads, Arrived, Jumped, pads_at, begin_at, BackAt, Turns, WholeAt, main_end, main_left, MainAt, Guarded, HandledAt, ApartAt, clean_up, Rounds, OverElements, ScopeOf, BehindPart, PollAt, LeavesAt, Same, Kept, KeptBut, Stable}
+use Rattle.uc_code.specs.CodeShapes.{Nothing, Never, One, Risk, CallsBehind, Both, Behind, When, Unless, Fork, Leads, Arrived, Jumped, pads_at, begin_at, BackAt, Turns, WholeAt, main_end, main_left, MainAt, Guarded, HandledAt, ApartAt, clean_up, Rounds, OverElements, ScopeOf, BehindPart, PollAt, LeavesAt, FailedAt, AcceptsAt, JumpsAt, ChoosesAt, NoBranch, ElseAt, ClauseAt, Same, Kept, KeptBut, Stable}
 
 pub part : (old new : Laid) (a z b y : ℕ) → a ≤ b → y ≤ z → Same old new a z → Same old new b y
 part old new a z b y h k s = record {
@@ -353,6 +353,88 @@ leaves_stable ms line = record {
       record {
         leave = s.same a (Leave z) line (omega arith) (omega arith) h.leave;
         polls = (poll_stable ms line).moves old new (a + 1) z (part old new a z (a + 1) z (omega arith) (omega arith) s) h.polls;
+      };
+}
+
+-- accept statements
+
+failed_stable : (ms : List Mark) (line : ℕ) → Stable (λ code. FailedAt code ms line)
+failed_stable ms line =
+    let b = both_stable (λ code. Risk code ms Raise line) (risk_stable ms Raise line) (λ code. One code Discard line) (one_stable Discard line) in
+    record {
+      rises = λ code a z h. let k = b.rises code (a + 1) z h.raises in omega arith;
+      moves = λ old new a z s h.
+          let k = b.rises old (a + 1) z h.raises in
+          record { test = s.same a (Failed z) line (omega arith) (omega arith) h.test; raises = b.moves old new (a + 1) z (part old new a z (a + 1) z (omega arith) (omega arith) s) h.raises };
+    }
+
+pub accepts_stable : (ms : List Mark) (site guards line : ℕ) → Stable (λ code. AcceptsAt code ms site guards line)
+accepts_stable ms site guards line = record {
+  rises = λ code a z h.
+      let k = (failed_stable ms line).rises code (a + 1) h.middle h.failed in
+      let l = (poll_stable ms line).rises code h.middle z h.polls in
+      omega arith;
+  moves = λ old new a z s h.
+      let k = (failed_stable ms line).rises old (a + 1) h.middle h.failed in
+      let l = (poll_stable ms line).rises old h.middle z h.polls in
+      let e = h.polls.end in
+      record {
+        middle = h.middle;
+        asks = s.same a (Accept site guards z) line (omega arith) (omega arith) h.asks;
+        failed = (failed_stable ms line).moves old new (a + 1) h.middle (part old new a z (a + 1) h.middle (omega arith) (omega arith) s) h.failed;
+        polls = (poll_stable ms line).moves old new h.middle z (part old new a z h.middle z (omega arith) (omega arith) s) h.polls;
+      };
+}
+
+jumps_stable : (line : ℕ) (tos : List ℕ) → Stable (λ code. JumpsAt code line tos)
+jumps_stable line [] = nothing_stable
+jumps_stable line (to ∷ tos) = both_stable (λ code. One code (Jump to) line) (one_stable (Jump to) line) (λ code. JumpsAt code line tos) (jumps_stable line tos)
+
+jumps_more : (code : Laid) (line to : ℕ) (tos : List ℕ) (a z : ℕ) → JumpsAt code line (to ∷ tos) a z → a < z
+jumps_more code line to tos a z h = let e = h.first.end in let k = (jumps_stable line tos).rises code h.middle z h.second in omega arith
+
+pub none_stable : (otherwise : ℕ) (places : List ℕ) (end : ℕ) → Stable (λ code. NoBranch otherwise places end)
+none_stable otherwise places end = record { rises = λ code a z h. let e = h.nothing in omega arith; moves = λ old new a z s h. h }
+
+pub else_stable : (otherwise : ℕ) (places : List ℕ) (B : Laid → ℕ → ℕ → Type 0) → Stable B → Stable (λ code. ElseAt otherwise places (B code))
+else_stable otherwise places B b = record {
+  rises = λ code a z h. b.rises code a z h.body;
+  moves = λ old new a z s h. record { here = h.here; none = h.none; body = b.moves old new a z s h.body };
+}
+
+pub clause_stable : (line : ℕ) (places : List ℕ) (end : ℕ) (B : Laid → ℕ → ℕ → Type 0) (R : Laid → List ℕ → ℕ → ℕ → Type 0) → Stable B → ((rest : List ℕ) → Stable (λ code. R code rest)) → Stable (λ code. ClauseAt code line places end (B code) (R code))
+clause_stable line places end B R b r = record {
+  rises = λ code a z h. let k = b.rises code a h.middle h.body in let l = (r h.rest).rises code (h.middle + 1) z h.others in omega arith;
+  moves = λ old new a z s h.
+      let k = b.rises old a h.middle h.body in
+      let l = (r h.rest).rises old (h.middle + 1) z h.others in
+      record {
+        rest = h.rest;
+        here = h.here;
+        middle = h.middle;
+        body = b.moves old new a h.middle (part old new a z a h.middle (omega arith) (omega arith) s) h.body;
+        leave = s.same h.middle (Jump end) line (omega arith) (omega arith) h.leave;
+        others = (r h.rest).moves old new (h.middle + 1) z (part old new a z (h.middle + 1) z (omega arith) (omega arith) s) h.others;
+      };
+}
+
+pub chooses_stable : (line clauses : ℕ) (B : Laid → ℕ → List ℕ → ℕ → ℕ → ℕ → Type 0) → ((otherwise : ℕ) (places : List ℕ) (end : ℕ) → Stable (λ code. B code otherwise places end)) → Stable (λ code. ChoosesAt code line clauses (B code))
+chooses_stable line clauses B b = record {
+  rises = λ code a z h.
+      let k = jumps_more code line h.otherwise h.places (a + 1) h.middle h.jumps in
+      let l = (b h.otherwise h.places z).rises code h.middle z h.branches in
+      omega arith;
+  moves = λ old new a z s h.
+      let k = jumps_more old line h.otherwise h.places (a + 1) h.middle h.jumps in
+      let l = (b h.otherwise h.places z).rises old h.middle z h.branches in
+      record {
+        otherwise = h.otherwise;
+        places = h.places;
+        count = h.count;
+        middle = h.middle;
+        choose = s.same a (Choose clauses z) line (omega arith) (omega arith) h.choose;
+        jumps = (jumps_stable line (h.otherwise ∷ h.places)).moves old new (a + 1) h.middle (part old new a z (a + 1) h.middle (omega arith) (omega arith) s) h.jumps;
+        branches = (b h.otherwise h.places z).moves old new h.middle z (part old new a z h.middle z (omega arith) (omega arith) s) h.branches;
       };
 }
 

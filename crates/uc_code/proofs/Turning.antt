@@ -1,5 +1,5 @@
 -- Turns over elements are paced: each one leaves fewer of them.
-use Rattle.std.proofs.Common.{◌≡◌, ℕ, suc, ◌+◌, ◌-◌, ◌*◌, ◌^◌, ◌<◌, ◌≤◌, List, Bool, true, false, Option, Some, None, refl, ap, sym, subst, ◌∙◌, arith}
+use Rattle.std.proofs.Common.{◌≡◌, ℕ, suc, pos, ◌+◌, ◌-◌, ◌*◌, ◌^◌, ◌<◌, ◌≤◌, List, Bool, true, false, Option, Some, None, refl, ap, sym, subst, ◌∙◌, arith}
 use Rattle.std.specs.Prelude.{length, nat_eq}
 use Rattle.std.proofs.lemmas.Bool.{eq-eqb, ne_eqb}
 use Rattle.uc_tree.specs.declared.limits.TheConstants.{DESTRUCTOR}
@@ -10,13 +10,15 @@ use Rattle.uc_code.specs.declared.rows.Manner.{Manner}
 use Rattle.uc_code.specs.declared.rows.Manner.TheVariants as manner
 use Rattle.uc_code.specs.declared.rows.Mark.{Mark}
 use Rattle.uc_code.specs.declared.rows.ObjectCall.{ObjectCall}
+use Rattle.uc_code.specs.declared.rows.Resource.{Resource}
+use Rattle.uc_code.specs.declared.rows.Resource.TheVariants as resource
 use Rattle.uc_code.specs.declared.rows.RoutineCode.{RoutineCode}
 use Rattle.uc_code.specs.declared.rows.Spot.{Spot}
 use Rattle.uc_code.specs.declared.rows.Spot.TheVariants as spot
 use Rattle.uc_code.specs.Layout.{Laid, handlers, chain, routine_in}
 use Rattle.uc_code.specs.Pace.{climb_op, height, power, Test, test_by, test_of, turns_left, left_at, turn_height, behind, burden, waiting, Entries, Nests, Waits, Onward, Paced}
 use Rattle.uc_code.specs.CodeShapes.{OpAt, Nothing, One, Risk, CallsBehind, Both}
-use Rattle.uc_code.specs.Lowered.{spot_op, SpotAt, FoundAt, CalledAt, CallAt}
+use Rattle.uc_code.specs.Lowered.{spot_op, close_op, SpotAt, FoundAt, OpenedAt, CalledAt, CallAt}
 use Rattle.uc_code.proofs.Powers.{power_less, power_rises, power_twice}
 use Rattle.uc_code.proofs.Heights.{Low, Each, paced_by, none, only, join, within, height_is, test_is, onward_low, onward_lower, Starts, Further, if_ge, waits_are, burdens_are, calling, risky_by, burden_high}
 
@@ -212,6 +214,17 @@ module _ (code : Laid) (table : List RoutineCode) (test turn : ℕ) (o : Op) whe
   found_turns ms line manner.Plain s a = place_turns ms line s a
   found_turns ms line (manner.Makes c) s a = place_turns ms line s a
   found_turns ms line manner.Ends s a = both_turns ms (place_turns ms line s a) (onward_turns ms op.Load line (λ n k h. refl) (λ k t. refl) (λ at l. l))
+  found_turns ms line (manner.Opens of) s a = place_turns ms line s a
+  found_turns ms line (manner.Closes of) s a = both_turns ms (place_turns ms line s a) (onward_turns ms op.Load line (λ n k h. refl) (λ k t. refl) (λ at l. l))
+
+  opened_turns : (ms : List Mark) (line : ℕ) (of : Resource) → Turns ms (OpenedAt code line of)
+  opened_turns ms line resource.Cluster = both_turns ms (onward_turns ms op.Cluster line (λ n k h. refl) (λ k t. refl) (λ at l. l)) (onward_turns ms op.Bind line (λ n k h. refl) (λ k t. refl) (λ at l. l))
+  opened_turns ms line resource.Processor =
+      both_turns ms (both_turns ms (onward_turns ms (op.Push (pos 0)) line (λ n k h. refl) (λ k t. refl) (λ at l. l)) (onward_turns ms op.Processor line (λ n k h. refl) (λ k t. refl) (λ at l. l))) (onward_turns ms op.Bind line (λ n k h. refl) (λ k t. refl) (λ at l. l))
+
+  closed_turns : (ms : List Mark) (line : ℕ) (of : Resource) → Turns ms (One code (close_op of) line)
+  closed_turns ms line resource.Cluster = onward_turns ms op.ClusterEnd line (λ n k h. refl) (λ k t. refl) (λ at l. l)
+  closed_turns ms line resource.Processor = onward_turns ms op.ProcessorEnd line (λ n k h. refl) (λ k t. refl) (λ at l. l)
 
   made_turns : {B : ℕ → ℕ → Type 0} → (ms : List Mark) (line c r : ℕ) → Turns ms B → Turns ms (Both (One code (op.Make c r) line) (Both (One code (op.BindMade c r) line) B))
   made_turns ms line c r b =
@@ -224,6 +237,8 @@ module _ (code : Laid) (table : List RoutineCode) (test turn : ℕ) (o : Op) whe
   called_turns ms line (manner.Makes c) false r = both_turns ms (nothing_turns ms) (made_turns ms line c r (unwritten_turns ms line r))
   called_turns ms line manner.Ends true r = entered_written_turns ms line DESTRUCTOR r
   called_turns ms line manner.Ends false r = both_turns ms (onward_turns ms (op.Enter DESTRUCTOR r) line (λ n k h. refl) (λ k t. refl) (λ at l. l)) (unwritten_turns ms line r)
+  called_turns ms line (manner.Opens of) written r = opened_turns ms line of
+  called_turns ms line (manner.Closes of) written r = closed_turns ms line of
 
   pub call_turns : (ms : List Mark) (line : ℕ) (what : ObjectCall) → Turns ms (CallAt code line what ms)
   call_turns ms line what = both_turns ms (found_turns ms line what.manner what.spot what.array) (called_turns ms line what.manner what.written what.routine)

@@ -135,6 +135,7 @@ cleans_further cleaning.Forget rest all r b = tt
 cleans_further cleaning.Leave rest all r b = tt
 cleans_further cleaning.End rest all r b = tt
 cleans_further (cleaning.Free main) rest all r b = tt
+cleans_further (cleaning.Restore cell) rest all r b = tt
 
 pub past_behind : (m : Mark) (all rest now : List Mark) → now ≡ all → Passing all (m ∷ rest) → PastBehind m now
 past_behind (mark.Body routine) all rest now e p = tt

@@ -2,7 +2,7 @@
 -- hold is said by cases on the piece, and these are the parts of which such cases are made.
 use Rattle.std.specs.Prelude.{◌≡◌, ◌≢◌, ℕ, ◌+◌, ◌^◌, ◌≤◌, ◌<◌, List, [], ◌∷◌, true, Some, slice_get, length}
 use Rattle.uc_code.specs.declared.op.Op.{Op}
-use Rattle.uc_code.specs.declared.op.Op.TheVariants.{Jump, IfZero, IfNonzero, Tick, CallUnwritten, Count, Return, EndMain, EndTask, Escape, Handled, Unhandled, Unwind, Poll, Deliver, Discard, Leave}
+use Rattle.uc_code.specs.declared.op.Op.TheVariants.{Jump, IfZero, IfNonzero, Tick, CallUnwritten, Count, Return, EndMain, EndTask, Escape, Handled, Unhandled, Unwind, Raise, Poll, Deliver, Discard, Leave, Accept, Failed, Choose}
 use Rattle.uc_code.specs.declared.rows.HandlerRow.{HandlerRow}
 use Rattle.uc_code.specs.declared.rows.Handler.{Handler}
 use Rattle.uc_code.specs.declared.rows.RowKind.TheVariants.{CleanUp}
@@ -230,6 +230,55 @@ pub record PollAt (code : Laid) (ms : List Mark) (line a z : ℕ) : Type 0 where
 pub record LeavesAt (code : Laid) (ms : List Mark) (line a z : ℕ) : Type 0 where
   pub leave : OpAt code a (Leave z) line
   pub polls : PollAt code ms line (a + 1) z
+
+-- where the call that an accept statement took has failed, that is raised for resumption
+pub record FailedAt (code : Laid) (ms : List Mark) (line a z : ℕ) : Type 0 where
+  pub test : OpAt code a (Failed z) line
+  pub raises : Both (Risk code ms Raise line) (One code Discard line) (a + 1) z
+
+-- an accept statement with so many guards asks, and then is delivered events; without a true guard it goes on behind this
+pub record AcceptsAt (code : Laid) (ms : List Mark) (site guards line a z : ℕ) : Type 0 where
+  pub middle : ℕ
+  pub asks : OpAt code a (Accept site guards z) line
+  pub failed : FailedAt code ms line (a + 1) middle
+  pub polls : PollAt code ms line middle z
+
+-- jumps to these places, one after another
+abbrev pub JumpsAt : Laid → ℕ → List ℕ → ℕ → ℕ → Type 0
+JumpsAt code line [] = Nothing
+JumpsAt code line (to ∷ tos) = Both (One code (Jump to) line) (JumpsAt code line tos)
+
+-- one of so many clauses is chosen by its number: a jump for each leads to its branch, and the first of them to what is done without a
+-- clause
+pub record ChoosesAt (code : Laid) (line clauses : ℕ) (B : ℕ → List ℕ → ℕ → ℕ → ℕ → Type 0) (a z : ℕ) : Type 0 where
+  pub otherwise : ℕ
+  pub places : List ℕ
+  pub count : length places ≡ clauses
+  pub middle : ℕ
+  pub choose : OpAt code a (Choose clauses z) line
+  pub jumps : JumpsAt code line (otherwise ∷ places) (a + 1) middle
+  pub branches : B otherwise places z middle z
+
+-- no branches are left: without a clause all goes on at the end
+pub record NoBranch (otherwise : ℕ) (places : List ℕ) (end a z : ℕ) : Type 0 where
+  pub goes : otherwise ≡ end
+  pub none : places ≡ []
+  pub nothing : z ≡ a
+
+-- what is done without a clause
+pub record ElseAt (otherwise : ℕ) (places : List ℕ) (B : ℕ → ℕ → Type 0) (a z : ℕ) : Type 0 where
+  pub here : otherwise ≡ a
+  pub none : places ≡ []
+  pub body : B a z
+
+-- the branch of a clause, behind which all goes on at the end, and those of the other clauses
+pub record ClauseAt (code : Laid) (line : ℕ) (places : List ℕ) (end : ℕ) (B : ℕ → ℕ → Type 0) (R : List ℕ → ℕ → ℕ → Type 0) (a z : ℕ) : Type 0 where
+  pub rest : List ℕ
+  pub here : places ≡ a ∷ rest
+  pub middle : ℕ
+  pub body : B a middle
+  pub leave : OpAt code middle (Jump end) line
+  pub others : R rest (middle + 1) z
 
 -- jumps alone lead from a place to another
 pub data Leads (code : Laid) : ℕ → ℕ → Type 0 where

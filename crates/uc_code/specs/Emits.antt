@@ -5,6 +5,7 @@ use Rattle.uc_code.specs.declared.op.Op.TheVariants as op
 use Rattle.uc_code.specs.declared.rows.Array.{Array}
 use Rattle.uc_code.specs.declared.rows.Mark.{Mark}
 use Rattle.uc_code.specs.declared.rows.Mark.TheVariants as mark
+use Rattle.uc_code.specs.declared.rows.Resource.TheVariants as resource
 use Rattle.uc_code.specs.declared.rows.Manner.{Manner}
 use Rattle.uc_code.specs.declared.rows.Manner.TheVariants as manner
 use Rattle.uc_code.specs.declared.rows.ObjectCall.{ObjectCall}
@@ -36,14 +37,17 @@ abbrev pub called_length : Bool → ℕ
 called_length true = 2
 called_length false = 1
 
--- a mutex object is made and bound, or found by its number and entered
-abbrev pub manner_length : Manner → ℕ
-manner_length manner.Plain = 0
-manner_length (manner.Makes c) = 2
-manner_length manner.Ends = 2
+-- a mutex object is made and bound, or found by its number and entered; clusters and processors are no calls
+abbrev pub manner_length : Manner → Bool → ℕ
+manner_length manner.Plain written = called_length written
+manner_length (manner.Makes c) written = 2 + called_length written
+manner_length manner.Ends written = 2 + called_length written
+manner_length (manner.Opens resource.Cluster) written = 2
+manner_length (manner.Opens resource.Processor) written = 3
+manner_length (manner.Closes of) written = 2
 
 abbrev pub done_length : ObjectCall → ℕ
-done_length what = place_length what.array + manner_length what.manner + called_length what.written + 1
+done_length what = place_length what.array + manner_length what.manner what.written + 1
 
 abbrev pub clean_by : Option Array → ObjectCall → ℕ
 clean_by None what = done_length what
@@ -59,6 +63,7 @@ clean_length cleaning.Forget = 1
 clean_length cleaning.Leave = 5
 clean_length cleaning.End = 1
 clean_length (cleaning.Free main) = 1
+clean_length (cleaning.Restore cell) = 1
 
 -- how many ops stand between the end of a scope's clean-up and the pad's end, but for what a mutex call that is left by a return still
 -- needs to end
@@ -69,6 +74,7 @@ pad_length cleaning.Forget = 2
 pad_length cleaning.Leave = 12
 pad_length cleaning.End = 2
 pad_length (cleaning.Free main) = 2
+pad_length (cleaning.Restore cell) = 2
 
 -- the last op of a way out
 

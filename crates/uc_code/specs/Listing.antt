@@ -3,7 +3,7 @@ use Rattle.std.specs.Prelude.{ℕ, ℤ, pos, ◌+◌, List, [], ◌∷◌, ◌++
 use Rattle.std.specs.Fmt.{signed_decimal}
 use Rattle.uc_code.specs.declared.op.Op.{Op}
 use Rattle.uc_tree.specs.ValueForms.{form_number}
-use Rattle.uc_code.specs.declared.op.Op.TheVariants.{Push, Duplicate, Discard, Over, DiscardBelow, Local, Own, This, Via, ViaThis, Field, Counted, Index, Load, Store, Keep, Set, Bind, Clear, Add, Subtract, Multiply, Divide, Remainder, Negate, Not, Equal, NotEqual, Less, AtMost, Greater, AtLeast, ToChar, ToBool, Jump, IfZero, IfNonzero, Count, More, Fill, Sweep, Tick, Call, CallOn, CallUnwritten, Return, ReturnValue, ReturnNone, NoReturn, Enter, Leave, Arrive, Make, BindMade, Made, Spawn, Gone, GiveUp, Coroutine, Live, Alive, UnwindCoroutine, Forget, Resume, Suspend, Land, EndMain, EndTask, Escape, Throw, Raise, RaiseAt, RaiseAtCoroutine, Handled, Unhandled, Unwind, Enable, Disable, Restore, Poll, Deliver, Accept, Wait, Signal, SignalBlock, Empty, Front, Print, Text, Hold, Flush, Read, Fail, Yield, Cluster, ClusterEnd, Processor, ProcessorEnd, Migrate}
+use Rattle.uc_code.specs.declared.op.Op.TheVariants.{Push, Duplicate, Discard, Over, DiscardBelow, Local, Own, This, Via, ViaThis, Field, Counted, Index, Load, Store, Keep, Set, Bind, Clear, Add, Subtract, Multiply, Divide, Remainder, Negate, Not, Equal, NotEqual, Less, AtMost, Greater, AtLeast, ToChar, ToBool, Jump, IfZero, IfNonzero, Count, More, Fill, Sweep, Tick, Call, CallOn, CallUnwritten, Return, ReturnValue, ReturnNone, NoReturn, Enter, Leave, Arrive, Make, BindMade, Made, Spawn, Gone, GiveUp, Coroutine, Live, Alive, UnwindCoroutine, Forget, Resume, Suspend, Land, EndMain, EndTask, Escape, Throw, Raise, RaiseAt, Handled, Unhandled, Unwind, Enable, Disable, Restore, Poll, Deliver, Accept, Failed, Choose, Condition, Wait, Signal, SignalBlock, Empty, Front, Print, Text, Hold, Flush, Read, Fail, Yield, Cluster, ClusterEnd, Processor, ProcessorEnd, Migrate}
 use Rattle.uc_code.specs.declared.rows.HandlerRow.{HandlerRow}
 use Rattle.uc_code.specs.declared.rows.RowKind.{RowKind}
 use Rattle.uc_code.specs.declared.rows.RowKind.TheVariants.{Catch, CatchResume, CleanUp}
@@ -83,17 +83,19 @@ word_of EndTask = codes "endtask"
 word_of Escape = codes "escape"
 word_of Throw = codes "throw"
 word_of Raise = codes "raise"
-word_of (RaiseAt _) = codes "at"
-word_of (RaiseAtCoroutine _) = codes "atcoro"
+word_of RaiseAt = codes "raiseat"
 word_of Handled = codes "handled"
 word_of Unhandled = codes "unhandled"
 word_of Unwind = codes "unwind"
-word_of (Enable _) = codes "enable"
-word_of (Disable _) = codes "disable"
-word_of Restore = codes "restore"
+word_of (Enable _ _) = codes "enable"
+word_of (Disable _ _) = codes "disable"
+word_of (Restore _) = codes "restore"
 word_of (Poll _) = codes "poll"
 word_of (Deliver _) = codes "deliver"
-word_of (Accept _) = codes "accept"
+word_of (Accept _ _ _) = codes "accept"
+word_of (Failed _) = codes "failed"
+word_of (Choose _ _) = codes "choose"
+word_of (Condition _ _) = codes "condition"
 word_of Wait = codes "wait"
 word_of Signal = codes "signal"
 word_of SignalBlock = codes "sigblock"
@@ -185,17 +187,19 @@ operands_of EndTask = []
 operands_of Escape = []
 operands_of Throw = []
 operands_of Raise = []
-operands_of (RaiseAt n) = pos n ∷ []
-operands_of (RaiseAtCoroutine n) = pos n ∷ []
+operands_of RaiseAt = []
 operands_of Handled = []
 operands_of Unhandled = []
 operands_of Unwind = []
-operands_of (Enable n) = pos n ∷ []
-operands_of (Disable n) = pos n ∷ []
-operands_of Restore = []
+operands_of (Enable events cell) = pos events ∷ pos cell ∷ []
+operands_of (Disable events cell) = pos events ∷ pos cell ∷ []
+operands_of (Restore n) = pos n ∷ []
 operands_of (Poll n) = pos n ∷ []
 operands_of (Deliver n) = pos n ∷ []
-operands_of (Accept n) = pos n ∷ []
+operands_of (Accept site guards end) = pos site ∷ pos guards ∷ pos end ∷ []
+operands_of (Failed n) = pos n ∷ []
+operands_of (Choose clauses end) = pos clauses ∷ pos end ∷ []
+operands_of (Condition first count) = pos first ∷ pos count ∷ []
 operands_of Wait = []
 operands_of Signal = []
 operands_of SignalBlock = []

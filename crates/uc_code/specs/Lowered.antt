@@ -1,7 +1,7 @@
 -- The code of the resolved tree: for each piece what its range of ops must hold. `line` is that of the innermost
 -- statement around the piece, and the marks are what stands around it in its routine, the innermost first.
 use Rattle.std.specs.Prelude.{◌≡◌, ℕ, suc, ◌+◌, ◌<◌, max, slice_get, pos, List, [], ◌∷◌, Bool, true, false, Option, Some, None, length, map}
-use Rattle.uc_tree.specs.Source.{Shape, Integer, Character, Truth, Binding, Last, Field, Array, shape_cells, field_cells, Operator, Plus, Minus, Times, Over, Modulo, Equal, NotEqual, Less, AtMost, Greater, AtLeast, Expr, Literal, Variable, Element, Get, Load, Negated, Not, AsCharacter, AsTruth, Operate, And, Or, Set, Assign, First, Update, StepBehind, Fail, Call, OfObject, ObjectExpr, This, OwnField, GetOwn, FieldOf, Counted, CallOn, CallUnwritten, CallLive, EnterOn, EndOn, Bind, MakeOn, NewCluster, NewProcessor, EndCluster, EndProcessor, ConditionAt, Wait, Signal, SignalBlock, IsEmpty, FrontOf, Exprs, NoExprs, MoreExprs, Item, Show, ShowText, Target, Declared, Stmt, Skip, Block, Whole, Evaluate, Declare, Print, PrintTogether, Read, If, Loop, Break, Continue, Return, Owes, Fill, OfEvents, OfTasks, TaskStmt, Resume, Suspend, SetUp, Enliven, TakeDown, Yield, Migrate, Accept, EventStmt, Throw, Raise, Try, RaiseAt, Enable, Disable, Raised, Plainly, BuiltAt as BuildsAt, AgainFrom, Handlers, NoHandlers, MoreHandlers, CleanUp, Stmts, Nil, Then, Scoped, Built, Way, ToBreak, ToContinue, ToReturn, ToEnd, Purpose, TaskMain, CoroutineMain, Procedure, Function, Builder, Routine, Source}
+use Rattle.uc_tree.specs.Source.{Shape, Integer, Character, Truth, Binding, Last, Field, Array, shape_cells, field_cells, Operator, Plus, Minus, Times, Over, Modulo, Equal, NotEqual, Less, AtMost, Greater, AtLeast, Expr, Literal, Variable, Element, Get, Load, Negated, Not, AsCharacter, AsTruth, Operate, And, Or, Set, Assign, First, Update, StepBehind, Fail, Call, OfObject, ObjectExpr, This, OwnField, GetOwn, FieldOf, Counted, CallOn, CallUnwritten, CallLive, EnterOn, EndOn, Bind, MakeOn, NewCluster, NewProcessor, EndCluster, EndProcessor, ConditionAt, Wait, Signal, SignalBlock, IsEmpty, FrontOf, Exprs, NoExprs, MoreExprs, Item, Show, ShowText, Target, Declared, Stmt, Skip, Block, Whole, Evaluate, Declare, Print, PrintTogether, Read, If, Loop, Break, Continue, Return, Owes, Fill, OfEvents, OfTasks, TaskStmt, Resume, Suspend, SetUp, Enliven, TakeDown, Yield, Migrate, Accept, EventStmt, Throw, Raise, Try, RaiseAt, Enable, Disable, Raised, Plainly, BuiltAt as BuildsAt, AgainFrom, Handlers, NoHandlers, MoreHandlers, Clauses, NoClauses, Otherwise, MoreClauses, clause_count, CleanUp, Restores, Stmts, Nil, Then, Scoped, Built, Way, ToBreak, ToContinue, ToReturn, ToEnd, Purpose, TaskMain, CoroutineMain, Procedure, Function, Builder, Routine, Source}
 use Rattle.uc_code.specs.declared.op.Op.{Op}
 use Rattle.uc_code.specs.declared.op.Op.TheVariants as op
 use Rattle.uc_code.specs.declared.rows.Mark.{Mark}
@@ -9,6 +9,8 @@ use Rattle.uc_code.specs.declared.rows.Mark.TheVariants as mark
 use Rattle.uc_code.specs.declared.rows.Spot.{Spot}
 use Rattle.uc_code.specs.declared.rows.Spot.TheVariants as spot
 use Rattle.uc_code.specs.declared.rows.Array.{Array as ArrayOf}
+use Rattle.uc_code.specs.declared.rows.Resource.{Resource}
+use Rattle.uc_code.specs.declared.rows.Resource.TheVariants as resource
 use Rattle.uc_code.specs.declared.rows.Manner.{Manner}
 use Rattle.uc_code.specs.declared.rows.Manner.TheVariants as manner
 use Rattle.uc_code.specs.declared.rows.ObjectCall.{ObjectCall}
@@ -24,7 +26,7 @@ use Rattle.uc_code.specs.declared.rows.RowKind.{RowKind}
 use Rattle.uc_code.specs.declared.rows.RowKind.TheVariants as kind
 use Rattle.uc_code.specs.declared.rows.TheConstants.{ANY_EVENT}
 use Rattle.uc_code.specs.Layout.{Laid, laid_of, handlers}
-use Rattle.uc_code.specs.CodeShapes.{OpAt, Nothing, Never, One, Risk, CallsBehind, Both, Fork, Turns, WholeAt, main_end, MainAt, Guarded, HandledAt, ApartAt, OverElements, ScopeOf, BehindPart, PollAt, LeavesAt}
+use Rattle.uc_code.specs.CodeShapes.{OpAt, Nothing, Never, One, Risk, CallsBehind, Both, Fork, Turns, WholeAt, main_end, MainAt, Guarded, HandledAt, ApartAt, OverElements, ScopeOf, BehindPart, PollAt, LeavesAt, AcceptsAt, ChoosesAt, NoBranch, ElseAt, ClauseAt}
 use Rattle.uc_code.specs.ObjectCalls.{Calls, Cleans}
 use Rattle.uc_code.specs.Silent.{silent_all}
 
@@ -72,6 +74,11 @@ handler_rows (MoreHandlers resumes event cell line body rest) = suc (handler_row
 abbrev pub spot_op : Spot → Op
 spot_op (spot.Local k) = op.Local k
 spot_op (spot.This k) = op.This k
+
+-- the end of a cluster and of a processor
+abbrev pub close_op : Resource → Op
+close_op resource.Cluster = op.ClusterEnd
+close_op resource.Processor = op.ProcessorEnd
 
 module _ (code : Laid) (line : ℕ) where
   -- a range of one op, of this line
@@ -135,16 +142,17 @@ module _ (code : Laid) (line : ℕ) where
         Both (ExprAt ms e) (Both (ArgumentsAt ms es) (Both (Is (op.Make c r)) (Both (Is (op.BindMade c r)) (CallsBehind code ms r line))))
     ObjectAt ms (MakeOn c r true e es) =
         Both (ExprAt ms e) (Both (ArgumentsAt ms es) (Both (Is op.Tick) (Both (Is (op.Make c r)) (Both (Is (op.BindMade c r)) (Risk code ms (op.CallOn r) line)))))
-    ObjectAt ms NewCluster = Never
-    ObjectAt ms (NewProcessor e) = Never
-    ObjectAt ms (EndCluster e) = Never
-    ObjectAt ms (EndProcessor e) = Never
-    ObjectAt ms (ConditionAt k n e) = Never
-    ObjectAt ms (Wait c n) = Never
-    ObjectAt ms (Signal c) = Never
-    ObjectAt ms (SignalBlock c) = Never
-    ObjectAt ms (IsEmpty c) = Never
-    ObjectAt ms (FrontOf c) = Never
+    ObjectAt ms NewCluster = Is op.Cluster
+    ObjectAt ms (NewProcessor e) = Both (ExprAt ms e) (Is op.Processor)
+    ObjectAt ms (EndCluster e) = Both (ExprAt ms e) (Is op.ClusterEnd)
+    ObjectAt ms (EndProcessor e) = Both (ExprAt ms e) (Is op.ProcessorEnd)
+    ObjectAt ms (ConditionAt k n e) = Both (ExprAt ms e) (Is (op.Condition k n))
+    -- one that has waited is delivered events
+    ObjectAt ms (Wait c n) = Both (ExprAt ms c) (Both (ExprAt ms n) (Both (Is op.Wait) (PollAt code ms line)))
+    ObjectAt ms (Signal c) = Both (ExprAt ms c) (Is op.Signal)
+    ObjectAt ms (SignalBlock c) = Both (ExprAt ms c) (Is op.SignalBlock)
+    ObjectAt ms (IsEmpty c) = Both (ExprAt ms c) (Is op.Empty)
+    ObjectAt ms (FrontOf c) = Both (ExprAt ms c) (Is op.Front)
 
     -- arguments, from left to right
     pub ArgumentsAt : List Mark → Exprs → ℕ → ℕ → Type 0
@@ -218,11 +226,18 @@ module _ (code : Laid) (line : ℕ) where
   SpotAt s None = Is (spot_op s)
   SpotAt s (Some a) = Both (Is (spot_op s)) (Both (Is op.Counted) (Is (op.Index a.length a.size)))
 
-  -- of a mutex object that is destroyed its number stands there
+  -- of what is destroyed by its number, as a mutex object is, that stands there
   abbrev pub FoundAt : Manner → Spot → Option ArrayOf → ℕ → ℕ → Type 0
   FoundAt manner.Plain s o = SpotAt s o
   FoundAt (manner.Makes c) s o = SpotAt s o
   FoundAt manner.Ends s o = Both (SpotAt s o) (Is op.Load)
+  FoundAt (manner.Opens r) s o = SpotAt s o
+  FoundAt (manner.Closes r) s o = Both (SpotAt s o) (Is op.Load)
+
+  -- a cluster, and a processor of the first cluster, are asked for, and the place below is bound to them
+  abbrev pub OpenedAt : Resource → ℕ → ℕ → Type 0
+  OpenedAt resource.Cluster = Both (Is op.Cluster) (Is op.Bind)
+  OpenedAt resource.Processor = Both (Both (Is (op.Push (pos 0))) (Is op.Processor)) (Is op.Bind)
 
   -- a written routine is called behind a tick, without arguments; a mutex object is made or entered before
   abbrev pub CalledAt : List Mark → Manner → Bool → ℕ → ℕ → ℕ → Type 0
@@ -232,6 +247,8 @@ module _ (code : Laid) (line : ℕ) where
   CalledAt ms (manner.Makes c) false r = Both Nothing (Both (Is (op.Make c r)) (Both (Is (op.BindMade c r)) (CallsBehind code ms r line)))
   CalledAt ms manner.Ends true r = Both (Is op.Tick) (Both (Is (op.Enter DESTRUCTOR r)) (Risk code ms (op.CallOn r) line))
   CalledAt ms manner.Ends false r = Both (Is (op.Enter DESTRUCTOR r)) (CallsBehind code ms r line)
+  CalledAt ms (manner.Opens of) written r = OpenedAt of
+  CalledAt ms (manner.Closes of) written r = Is (close_op of)
 
   abbrev pub CallAt : ObjectCall → List Mark → ℕ → ℕ → Type 0
   CallAt what ms = Both (FoundAt what.manner what.spot what.array) (CalledAt ms what.manner what.written what.routine)
@@ -258,6 +275,8 @@ module _ (code : Laid) (line : ℕ) where
   CleanAt cleaning.End ms = Is op.Gone
   CleanAt (cleaning.Free None) ms = Is op.Made
   CleanAt (cleaning.Free (Some r)) ms = Is (op.Spawn r)
+  -- events are enabled again
+  CleanAt (cleaning.Restore cell) ms = Is (op.Restore cell)
 
   -- the elements of an array are built, the first one first
   pub record FilledAt (ms : List Mark) (n : ℕ) (b d : Expr) (a z : ℕ) : Type 0 where
@@ -317,6 +336,7 @@ module _ (code : Laid) where
   PadAt line cleaning.Leave ms = ArrivesAt line ms
   PadAt line cleaning.End ms = Both (CleanAt code line cleaning.End ms) (Risk code ms op.Unwind line)
   PadAt line (cleaning.Free main) ms = Both (One code op.GiveUp line) (Risk code ms op.Unwind line)
+  PadAt line (cleaning.Restore cell) ms = Both (CleanAt code line (cleaning.Restore cell) ms) (Risk code ms op.Unwind line)
 
   -- what follows in the scope of an object
   pub record ScopedAt (line : ℕ) (ms : List Mark) (c : CleanUp) (B : List Mark → ℕ → ℕ → Type 0) (a z : ℕ) : Type 0 where
@@ -340,18 +360,11 @@ module _ (code : Laid) where
     pub named : IsNamed event
     pub handler : B a z
 
-  -- what goes on behind a switch may be unwound there, and is delivered events
-  abbrev pub TaskAt : List Mark → TaskStmt → ℕ → ℕ → Type 0
-  TaskAt ms (Resume line) = Both (One code op.Resume line) (Both (Risk code ms op.Land line) (PollAt code ms line))
-  TaskAt ms (Suspend line) = Both (One code op.Suspend line) (Both (Risk code ms op.Land line) (PollAt code ms line))
-  -- what nobody wrote
-  TaskAt ms (SetUp r) = One code (op.Coroutine r) 0
-  TaskAt ms Enliven = One code op.Live 0
-  TaskAt ms TakeDown = One code op.UnwindCoroutine 0
-  -- one that has let others run is delivered events too
-  TaskAt ms (Yield line) = Both (One code op.Yield line) (PollAt code ms line)
-  TaskAt ms (Migrate line e) = Never
-  TaskAt ms (Accept line site cs) = Never
+  -- the guards of an accept statement, from left to right
+  abbrev pub GuardsAt : List Mark → ℕ → Clauses → ℕ → ℕ → Type 0
+  GuardsAt ms line NoClauses = Nothing
+  GuardsAt ms line (Otherwise b) = Nothing
+  GuardsAt ms line (MoreClauses guard b cs) = Both (ExprAt code line ms guard) (GuardsAt ms line cs)
 
   -- a statement sets its own line
   abbrev mutual
@@ -375,14 +388,38 @@ module _ (code : Laid) where
     StmtAt ms (OfEvents s) = EventAt ms s
     StmtAt ms (OfTasks s) = TaskAt ms s
 
+    -- what goes on behind a switch may be unwound there, and is delivered events
+    pub TaskAt : List Mark → TaskStmt → ℕ → ℕ → Type 0
+    TaskAt ms (Resume line) = Both (One code op.Resume line) (Both (Risk code ms op.Land line) (PollAt code ms line))
+    TaskAt ms (Suspend line) = Both (One code op.Suspend line) (Both (Risk code ms op.Land line) (PollAt code ms line))
+    -- what nobody wrote
+    TaskAt ms (SetUp r) = One code (op.Coroutine r) 0
+    TaskAt ms Enliven = One code op.Live 0
+    TaskAt ms TakeDown = One code op.UnwindCoroutine 0
+    -- one that has let others run is delivered events too
+    TaskAt ms (Yield line) = Both (One code op.Yield line) (PollAt code ms line)
+    TaskAt ms (Migrate line e) = Both (ExprAt code line ms e) (One code op.Migrate line)
+    TaskAt ms (Accept line site cs) =
+        Both (GuardsAt ms line cs) (Both (AcceptsAt code ms site (clause_count cs) line) (ChoosesAt code line (clause_count cs) (λ otherwise places end. BranchesAt ms line cs otherwise places end)))
+
+    -- the branches of these clauses, each at its place, and what is done without a clause; all go on at the end
+    pub BranchesAt : List Mark → ℕ → Clauses → ℕ → List ℕ → ℕ → ℕ → ℕ → Type 0
+    BranchesAt ms line NoClauses otherwise places end = NoBranch otherwise places end
+    BranchesAt ms line (Otherwise b) otherwise places end = ElseAt otherwise places (StmtAt ms b)
+    BranchesAt ms line (MoreClauses guard b cs) otherwise places end =
+        ClauseAt code line places end (StmtAt ms b) (λ rest. BranchesAt ms line cs otherwise rest end)
+
     pub EventAt : List Mark → EventStmt → ℕ → ℕ → Type 0
     EventAt ms (Throw line r) = Both (RaisedAt code line ms r) (Risk code ms op.Throw line)
     -- what the handler hands over goes
     EventAt ms (Raise line r) = Both (RaisedAt code line ms r) (Both (Risk code ms op.Raise line) (One code op.Discard line))
     EventAt ms (Try line body hs) = Guarded code line ms (handler_rows hs) (λ ns. StmtsAt ns line body) (λ first pad. HandlersAt ms first pad hs)
-    EventAt ms (RaiseAt line r e) = Never
-    EventAt ms (Enable line events cell s) = Never
-    EventAt ms (Disable line events cell s) = Never
+    EventAt ms (RaiseAt line r e) = Both (RaisedAt code line ms r) (Both (ExprAt code line ms e) (One code op.RaiseAt line))
+    -- what is enabled is delivered at once; behind the statement, and on each way out of it, is enabled what was before
+    EventAt ms (Enable line events cell s) =
+        ScopedAt line ms (Restores cell) (λ ns. Both (One code (op.Enable events cell) line) (Both (PollAt code ns line) (StmtAt ns s)))
+    EventAt ms (Disable line events cell s) =
+        ScopedAt line ms (Restores cell) (λ ns. Both (One code (op.Disable events cell) line) (StmtAt ns s))
 
     -- the handlers of a guarded block whose last one has this row; a handler that catches goes on at this pad
     pub HandlersAt : List Mark → ℕ → ℕ → Handlers → ℕ → ℕ → Type 0

@@ -140,6 +140,7 @@ CleansBehind ms cleaning.Forget = Unit {0}
 CleansBehind ms cleaning.Leave = Unit {0}
 CleansBehind ms cleaning.End = Unit {0}
 CleansBehind ms (cleaning.Free main) = Unit {0}
+CleansBehind ms (cleaning.Restore cell) = Unit {0}
 
 -- so it is for what cleans up the objects in whose scope these marks stand
 abbrev pub OpensBehind : Opening → List Mark → Type 0

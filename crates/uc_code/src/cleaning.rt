@@ -6,15 +6,16 @@ ghost use Rattle.uc_code.specs.Exits.{way_of};
 ghost use Rattle.uc_code.specs.CodeShapes.{LeavesAt, One, Risk};
 ghost use Rattle.uc_code.specs.declared.rows.Cleaning.TheVariants as cleaning;
 ghost use Rattle.uc_code.specs.declared.rows.Manner.TheVariants as manner;
-ghost use Rattle.uc_code.specs.Lowered.{spot_op, SpotAt, FoundAt, CalledAt, CallAt, CallDone, CleanBy, CleanAt, ExitAt};
+ghost use Rattle.uc_code.specs.declared.rows.Resource.{Resource};
+ghost use Rattle.uc_code.specs.Lowered.{spot_op, close_op, SpotAt, FoundAt, OpenedAt, CalledAt, CallAt, CallDone, CleanBy, CleanAt, ExitAt};
 ghost use Rattle.uc_code.specs.Layout.{routine_in};
 ghost use Rattle.uc_code.specs.OpenRows.{StandsBehind, CleansBehind, clean_room, exit_room};
-ghost use Rattle.uc_code.specs.Emits.{Puts, PutsLeft, PastBehind, PutsPast, past_room, done_length, call_length, clean_length, end_op, ends_at};
+ghost use Rattle.uc_code.specs.Emits.{Puts, PutsLeft, PastBehind, PutsPast, past_room, manner_length, done_length, call_length, clean_length, end_op, ends_at};
 
 use crate::draft::Draft;
 use crate::op::Op;
 use crate::raising::put_poll;
-use crate::rows::{Array, Cleaning, Manner, Mark, ObjectCall, Opening, Spot, Way};
+use crate::rows::{Array, Cleaning, Manner, Mark, ObjectCall, Opening, Resource, Spot, Way};
 use std::alloc::AllocError;
 use uc_tree::limits::DESTRUCTOR;
 
@@ -81,7 +82,7 @@ fn put_place(spot: Spot, array: Option<Array>, line: u32, out: &mut Draft) -> Re
     }
 }
 
-// The number of the mutex object that stands there.
+// The number that stands there.
 fn put_number(
     spot: Spot,
     array: Option<Array>,
@@ -89,7 +90,8 @@ fn put_number(
     out: &mut Draft,
 ) -> Result<(), AllocError>
     requires { length out.old.ops + 4 ≤ PROGRAM_OPS }
-    ensures { OnOk result (Puts 4 (λ code. FoundAt code line manner.Ends spot array) out.old out.new) }
+    ensures ends { OnOk result (Puts 4 (λ code. FoundAt code line manner.Ends spot array) out.old out.new) }
+    ensures closes { (of : Resource) → OnOk result (Puts 4 (λ code. FoundAt code line (manner.Closes of) spot array) out.old out.new) }
 {
     put_place(spot, array, line, out)?;
     put(Op::Load, line, out)?;
@@ -216,6 +218,36 @@ fn put_ended(routine: u32, written: bool, line: u32, out: &mut Draft) -> Result<
     }
 }
 
+// A cluster, or a processor of the first cluster, is asked for, and bound.
+fn put_opened(of: Resource, line: u32, out: &mut Draft) -> Result<(), AllocError>
+    requires { length out.old.ops + 3 ≤ PROGRAM_OPS }
+    ensures { OnOk result (Puts 3 (λ code. OpenedAt code line of) out.old out.new) }
+{
+    match of {
+        Resource::Cluster => {
+            put(Op::Cluster, line, out)?;
+            put(Op::Bind, line, out)?;
+            Ok(())
+        }
+        Resource::Processor => {
+            put(Op::Push(0), line, out)?;
+            put(Op::Processor, line, out)?;
+            put(Op::Bind, line, out)?;
+            Ok(())
+        }
+    }
+}
+
+// The op that ends a cluster or a processor.
+fn close_op(of: Resource) -> Op
+    ensures { result ≡ close_op of }
+{
+    match of {
+        Resource::Cluster => Op::ClusterEnd,
+        Resource::Processor => Op::ProcessorEnd,
+    }
+}
+
 // The routine is called at the place that is found, at which a mutex object is made or entered.
 fn put_called(what: ObjectCall, line: u32, out: &mut Draft) -> Result<(), AllocError>
     requires room { length out.old.ops + 4 ≤ PROGRAM_OPS }
@@ -235,10 +267,18 @@ fn put_called(what: ObjectCall, line: u32, out: &mut Draft) -> Result<(), AllocE
             put_ended(what.routine, what.written, line, out)?;
             Ok(())
         }
+        Manner::Opens(of) => {
+            put_opened(of, line, out)?;
+            Ok(())
+        }
+        Manner::Closes(of) => {
+            put(close_op(of), line, out)?;
+            Ok(())
+        }
     }
 }
 
-// Where the object lies, of one that is destroyed by its number that.
+// Where it lies, of what is destroyed by its number that.
 fn put_found(what: ObjectCall, line: u32, out: &mut Draft) -> Result<(), AllocError>
     requires { length out.old.ops + 4 ≤ PROGRAM_OPS }
     ensures { OnOk result (Puts 4 (λ code. FoundAt code line what.manner what.spot what.array) out.old out.new) }
@@ -253,6 +293,14 @@ fn put_found(what: ObjectCall, line: u32, out: &mut Draft) -> Result<(), AllocEr
             Ok(())
         }
         Manner::Ends => {
+            put_number(what.spot, what.array, line, out)?;
+            Ok(())
+        }
+        Manner::Opens(_) => {
+            put_place(what.spot, what.array, line, out)?;
+            Ok(())
+        }
+        Manner::Closes(_) => {
             put_number(what.spot, what.array, line, out)?;
             Ok(())
         }
@@ -281,14 +329,27 @@ pub fn put_done(what: ObjectCall, line: u32, out: &mut Draft) -> Result<(), Allo
     Ok(())
 }
 
+// How many ops it takes behind the place.
+fn manner_length(manner: Manner, written: bool) -> u32
+    ensures { result ≡ manner_length manner written }
+{
+    let called = if written { 2 } else { 1 };
+    match manner {
+        Manner::Plain => called,
+        Manner::Makes { .. } => 2 + called,
+        Manner::Ends => 2 + called,
+        Manner::Opens(Resource::Cluster) => 2,
+        Manner::Opens(Resource::Processor) => 3,
+        Manner::Closes(_) => 2,
+    }
+}
+
 /// How many ops a call without arguments and the drop of its value take.
 pub fn done_length(what: ObjectCall) -> u32
     ensures { result ≡ done_length what }
 {
     let place = if what.array.is_some() { 3 } else { 1 };
-    let called = if what.written { 2 } else { 1 };
-    let more = if what.manner == Manner::Plain { 0 } else { 2 };
-    place + more + called + 1
+    place + manner_length(what.manner, what.written) + 1
 }
 
 // How many ops the clean-up of an object, or of all elements of an array, takes.
@@ -308,6 +369,7 @@ pub fn clean_length(what: Cleaning) -> u32
     match what {
         Cleaning::Call(call) => call_length(call),
         Cleaning::TakeDown | Cleaning::Forget | Cleaning::End | Cleaning::Free(_) => 1,
+        Cleaning::Restore(_) => 1,
         Cleaning::Leave => 5,
     }
 }
@@ -412,6 +474,10 @@ pub fn put_clean(what: Cleaning, line: u32, out: &mut Draft) -> Result<(), Alloc
         }
         Cleaning::Free(main) => {
             put_freed(main, line, out)?;
+            Ok(())
+        }
+        Cleaning::Restore(cell) => {
+            put(Op::Restore(cell), line, out)?;
             Ok(())
         }
     }

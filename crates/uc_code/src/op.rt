@@ -157,29 +157,35 @@ pub enum Op {
     Throw,
     /// Raises an event for resumption: pops its fields and its number.
     Raise,
-    /// Raises the event at a task.
-    RaiseAt(u8),
-    /// Raises the event at a coroutine.
-    RaiseAtCoroutine(u8),
+    /// Pops a task or a coroutine and an event, with its fields and its number, and raises that there: a task by a request, a coroutine
+    /// by what is pending at its execution.
+    RaiseAt,
     /// Where a return of a handler unwinds to this activation, that is over; else goes on unwinding.
     Handled,
     /// Ends the main of a task where a return of a handler unwinds it; else the fault of an event that nothing handles.
     Unhandled,
     /// Ends a clean-up that unwinding performs, and goes on unwinding.
     Unwind,
-    /// Enables the events of the mask.
-    Enable(u64),
-    /// Disables the events of the mask.
-    Disable(u64),
-    /// Restores the events that were enabled before.
-    Restore,
+    /// Enables the events of the mask beside the others. This cell of the frame keeps which were enabled before.
+    Enable { events: u64, cell: u32 },
+    /// Enables the events of the mask no more. This cell of the frame keeps which were enabled before.
+    Disable { events: u64, cell: u32 },
+    /// Enables those events alone that this cell of the frame keeps.
+    Restore(u32),
     /// Goes on at this op where no event is enabled, or where a coroutine has none pending that is. Else the oldest enabled one that is
     /// pending is delivered as three operands, its number and its fields, by a tick or by a request that may deliver none.
     Poll(u32),
     /// Drops the three operands and goes on at this op where none was delivered. Else raises the event for resumption.
     Deliver(u32),
-    /// Accepts by the accept statement of this number.
-    Accept(u32),
+    /// Pops so many guards and accepts by the accept statement of this number: the answer is pushed as the number of a clause and whether
+    /// the call that it took has failed. Where no guard is true 0 is pushed, and it goes on at this op.
+    Accept { site: u32, guards: u32, end: u32 },
+    /// Goes on at this op where the popped number is 0. Else the event of a failed call is pushed, its number and its fields.
+    Failed(u32),
+    /// Where the popped number is at most so many, goes on so many ops behind the next one, else at this op.
+    Choose { clauses: u32, end: u32 },
+    /// The number of the element at the popped index of an array of so many conditions, the first of which has this number.
+    Condition { first: u32, count: u32 },
     /// Waits on the condition.
     Wait,
     /// Signals the condition.
@@ -293,17 +299,19 @@ impl Op {
             Op::Escape => b"escape",
             Op::Throw => b"throw",
             Op::Raise => b"raise",
-            Op::RaiseAt(_) => b"at",
-            Op::RaiseAtCoroutine(_) => b"atcoro",
+            Op::RaiseAt => b"raiseat",
             Op::Handled => b"handled",
             Op::Unhandled => b"unhandled",
             Op::Unwind => b"unwind",
-            Op::Enable(_) => b"enable",
-            Op::Disable(_) => b"disable",
-            Op::Restore => b"restore",
+            Op::Enable { .. } => b"enable",
+            Op::Disable { .. } => b"disable",
+            Op::Restore(_) => b"restore",
             Op::Poll(_) => b"poll",
             Op::Deliver(_) => b"deliver",
-            Op::Accept(_) => b"accept",
+            Op::Accept { .. } => b"accept",
+            Op::Failed(_) => b"failed",
+            Op::Choose { .. } => b"choose",
+            Op::Condition { .. } => b"condition",
             Op::Wait => b"wait",
             Op::Signal => b"signal",
             Op::SignalBlock => b"sigblock",
@@ -400,17 +408,21 @@ impl Op {
             Op::Escape => Operands::Nothing,
             Op::Throw => Operands::Nothing,
             Op::Raise => Operands::Nothing,
-            Op::RaiseAt(number) => Operands::One(number as u64),
-            Op::RaiseAtCoroutine(number) => Operands::One(number as u64),
+            Op::RaiseAt => Operands::Nothing,
             Op::Handled => Operands::Nothing,
             Op::Unhandled => Operands::Nothing,
             Op::Unwind => Operands::Nothing,
-            Op::Enable(number) => Operands::One(number),
-            Op::Disable(number) => Operands::One(number),
-            Op::Restore => Operands::Nothing,
+            Op::Enable { events, cell } => Operands::Two(events, cell as u64),
+            Op::Disable { events, cell } => Operands::Two(events, cell as u64),
+            Op::Restore(number) => Operands::One(number as u64),
             Op::Poll(number) => Operands::One(number as u64),
             Op::Deliver(number) => Operands::One(number as u64),
-            Op::Accept(number) => Operands::One(number as u64),
+            Op::Accept { site, guards, end } => {
+                Operands::Three(site as u64, guards as u64, end as u64)
+            }
+            Op::Failed(number) => Operands::One(number as u64),
+            Op::Choose { clauses, end } => Operands::Two(clauses as u64, end as u64),
+            Op::Condition { first, count } => Operands::Two(first as u64, count as u64),
             Op::Wait => Operands::Nothing,
             Op::Signal => Operands::Nothing,
             Op::SignalBlock => Operands::Nothing,

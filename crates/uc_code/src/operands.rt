@@ -9,13 +9,14 @@ ghost use Rattle.uc_code.specs.Operands.{numbers_of};
 use itoa::Buffer;
 use std::alloc::AllocError;
 
-/// No operand, a constant, or one or two numbers.
+/// No operand, a constant, or one, two or three numbers.
 #[derive(Clone, Copy)]
 pub(crate) enum Operands {
     Nothing,
     Constant(i64),
     One(u64),
     Two(u64, u64),
+    Three(u64, u64, u64),
 }
 
 impl Operands {
@@ -36,6 +37,12 @@ impl Operands {
             Operands::Two(first, second) => {
                 put_operand(text, first)?;
                 put_operand(text, second)?;
+                Ok(())
+            }
+            Operands::Three(first, second, third) => {
+                put_operand(text, first)?;
+                put_operand(text, second)?;
+                put_operand(text, third)?;
                 Ok(())
             }
         }

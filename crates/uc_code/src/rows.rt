@@ -83,13 +83,23 @@ pub struct Array {
     pub size: u32,
 }
 
+/// A cluster or a processor.
+#[derive(Clone, Copy, PartialEq, Eq, Debug)]
+pub enum Resource {
+    Cluster,
+    Processor,
+}
+
 /// How a constructor or a destructor is called: as that of a plain object or a coroutine; as the constructor of a mutex object of this
-/// class, which is made; or as the destructor of the mutex object whose number the place holds, which it enters.
+/// class, which is made; or as the destructor of the mutex object whose number the place holds, which it enters. A cluster and a processor
+/// are asked for without a call, a processor of the first cluster, and ended by the number that the place holds.
 #[derive(Clone, Copy, PartialEq, Eq, Debug)]
 pub enum Manner {
     Plain,
     Makes { class: u32 },
     Ends,
+    Opens(Resource),
+    Closes(Resource),
 }
 
 /// A call of a constructor or a destructor without arguments, at the object that begins in a spot, or at the element that is
@@ -105,7 +115,8 @@ pub struct ObjectCall {
 
 /// What cleans up: the call of a destructor; or, of the coroutine that is built or destroyed, that it is unwound, and that its
 /// execution is no more; or, of a mutex object, that its running call leaves it, that its destruction ends, and that its building ends: it
-/// is free then, or begins as a task with the main of this number, and where it is unwound it is given up.
+/// is free then, or begins as a task with the main of this number, and where it is unwound it is given up; or, of events, that those are
+/// enabled again which this cell of the frame keeps.
 #[derive(Clone, Copy, PartialEq, Eq, Debug)]
 pub enum Cleaning {
     Call(ObjectCall),
@@ -114,6 +125,7 @@ pub enum Cleaning {
     Leave,
     End,
     Free(Option<u32>),
+    Restore(u32),
 }
 
 /// Whose main a routine is: that of a task or that of a coroutine.

@@ -11,7 +11,7 @@ use Rattle.uc_code.specs.declared.rows.Mark.TheVariants as mark
 use Rattle.uc_code.specs.declared.rows.Cleaning.{Cleaning}
 use Rattle.uc_code.specs.Layout.{Laid}
 use Rattle.uc_code.specs.CodeShapes.{Risk, HandlerAt, clean_up, OverElements, Leads, Arrived, Jumped}
-use Rattle.uc_code.specs.ObjectCalls.{Cleans, One as CleansOne, All, TakesDown, IsForgotten, Left, Ended, Freed}
+use Rattle.uc_code.specs.ObjectCalls.{Cleans, One as CleansOne, All, TakesDown, IsForgotten, Left, Ended, Freed, Restored}
 use Rattle.uc_code.specs.Lowered.{CallDone, CleanBy, CleanAt, ArrivesAt, PadAt}
 use Rattle.uc_code.proofs.Called.{called}
 use Rattle.uc_frames.specs.Searches.{stops_at}
@@ -94,6 +94,8 @@ module _ (code : Laid) where
       record { marks = ms; follows = record { from = a; to = m; leads = Arrived a; piece = h; on = goes_on ps ms m m back end (Arrived m) r f } }
   begins_clean c _ (Freed (Some k)) ps ms a m back end h r f =
       record { marks = ms; follows = record { from = a; to = m; leads = Arrived a; piece = h; on = goes_on ps ms m m back end (Arrived m) r f } }
+  begins_clean c _ (Restored k) ps ms a m back end h r f =
+      record { marks = ms; follows = record { from = a; to = m; leads = Arrived a; piece = h; on = goes_on ps ms m m back end (Arrived m) r f } }
 
   -- a scope that is unwound is cleaned up by its pad, whether a return arrives or not
   pub record CleansFirst (c : CleanUp) (ps : List Todo) (pc : ℕ) : Type 0 where
@@ -124,3 +126,5 @@ module _ (code : Laid) where
         left = λ arrived s. refl;
         begins = record { marks = ms; follows = record { from = a; to = h.middle; leads = Arrived a; piece = h.first; on = goes_on ps ms h.middle h.middle back end (Arrived h.middle) h.second f } };
       })
+  pads c _ (Restored k) ps ms a back end h f =
+      inr (record { todo = clean_todo c (Unwind ∷ ps); left = λ arrived s. refl; begins = begins_clean c _ (Restored k) ps ms a h.middle back end h.first h.second f })

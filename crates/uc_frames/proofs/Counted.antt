@@ -5,10 +5,11 @@ use Rattle.std.specs.List.{list_any}
 use Rattle.std.proofs.lemmas.List.{length-set, length-append}
 use Rattle.std.proofs.lemmas.Bool.{lt-ltb}
 use Rattle.std.proofs.lemmas.List.Edits.{length-remove}
+use Rattle.uc_machine.specs.declared.exec.Pending.{Pending}
 use Rattle.uc_machine.specs.Executions.{Execution}
 use Rattle.uc_machine.specs.Insides.{is_engaged}
 use Rattle.uc_frames.specs.declared.cell.Cell.{Cell}
-use Rattle.uc_frames.specs.Machine.{lively}
+use Rattle.uc_frames.specs.Machine.{lively, pended}
 use Rattle.uc_frames.specs.Numbered.{IsAt}
 use Rattle.uc_frames.specs.Weight.{sum_of}
 use Rattle.uc_frames.specs.Engaged.{engaged_in, AreLeft}
@@ -63,6 +64,9 @@ lively_by false x = refl
 
 pub lively_engaged : (b : Bool) (x y : Execution ℕ Cell) (s : Slot) → s ≡ Some x → y ≡ record x { links = lively b x.links } → engaged_in (Some y) ≡ engaged_in s
 lively_engaged b x y s e f = ap (λ z. engaged_in (Some z)) f ∙ (lively_by b x ∙ sym (ap engaged_in e))
+
+pub pended_engaged : (p : Pending) (x y : Execution ℕ Cell) (s : Slot) → s ≡ Some x → y ≡ record x { links = pended p x.links } → engaged_in (Some y) ≡ engaged_in s
+pended_engaged p x y s e f = ap (λ z. engaged_in (Some z)) f ∙ sym (ap engaged_in e)
 
 module _ (serial engaged : ℕ) (ps : List (ℕ × Slot)) (h : AreLeft serial engaged ps) where
   pub any_counted : nat_lt 0 engaged ≡ list_any (λ p. is_engaged p.1) ps

@@ -12,6 +12,7 @@ pub mod Insides
 pub mod Keeps
 pub mod Landing
 pub mod Lists
+pub mod Masks
 pub mod Named
 pub mod Newest
 pub mod Popped

@@ -1,14 +1,16 @@
 -- Switches are alike on cells and in the source, whatever relation of activations there is.
-use Rattle.std.proofs.Common.{◌≡◌, ℕ, pos, Option, Some, None, Bool, true, false, refl, sym, subst, ap, ◌∙◌}
+use Rattle.std.proofs.Common.{◌≡◌, ℕ, pos, List, [], ◌∷◌, ◌++◌, Option, Some, None, Bool, true, false, refl, sym, subst, ap, ◌∙◌}
 use Rattle.std.specs.Prelude.{is_some, if◌then◌else◌}
 use Rattle.uc_tree.specs.declared.limits.TheConstants.{UNHANDLED}
 use Rattle.uc_machine.specs.declared.exec.Exec.{Exec}
+use Rattle.uc_machine.specs.declared.exec.Pending.{Pending}
 use Rattle.uc_machine.specs.declared.exec.Reason.{Reason}
 use Rattle.uc_machine.specs.declared.exec.Reason.TheVariants as reason
 use Rattle.uc_machine.specs.declared.exec.Stage.{Stage}
 use Rattle.uc_machine.specs.declared.exec.Stage.TheVariants.{Fresh, Started, Ended}
 use Rattle.uc_machine.specs.Executions.{Links, Activation, Execution, Members, Env, State, exec_eq}
 use Rattle.uc_machine.specs.Switches.{Moved, or_else, woken, live_in, live_at, is_live, links_by, links_changed, with_links, enlivened, set_slot, stopped, switched, able_at, able_by, able, go_on, in_destruction, wake_at, wake_by, wake_one, wake, suspend, ended, finish, unwound_there, throw_at, escape, taken_down, over, take_down_at, take_down_by, take_down}
+use Rattle.uc_machine.specs.Insides.{pending_in, pending_at, raised_at}
 use Rattle.uc_frames.specs.StandsByParts.{Lined, Alike, Unless, ExecutionStands, MembersStand, EnvStands, StateStands, MovedStand}
 use Rattle.uc_frames.proofs.Lists.{find_both, joined_both}
 use Rattle.uc_frames.proofs.Changes.{env_by, parked_both, change_both, slot_set_both, set_slot_both}
@@ -210,6 +212,24 @@ module _ {A B V W : Type 0} (R K : Activation A V → Activation B W → Type 0)
 
   pub is_live_both : (o p : Option Exec) (m : Env A V) (s : Env B W) → o ≡ p → En m s → is_live o m ≡ is_live p s
   is_live_both o p m s q e = ap (λ r. is_live r m) q ∙ is_live_same p m s e
+
+  -- the events that are pending at an execution, and one more
+
+  pending_in_same : (x : Option (Execution A V)) (y : Option (Execution B W)) → Alike Ex x y → pending_in x ≡ pending_in y
+  pending_in_same None None q = refl
+  pending_in_same None (Some y) q = absurd q
+  pending_in_same (Some x) None q = absurd q
+  pending_in_same (Some x) (Some y) q = ap (λ (l : Links). l.pending) q.links
+
+  list_same : (b c : Bool) (x y z w : List Pending) → b ≡ c → x ≡ y → z ≡ w → (if b then x else z) ≡ (if c then y else w)
+  list_same b c x y z w p q r = rw (p, q, r) refl
+
+  pub pending_both : (n : Exec) (m : Env A V) (s : Env B W) → En m s → pending_at n m ≡ pending_at n s
+  pending_both n m s e =
+      list_same (exec_eq n m.exec) (exec_eq n s.exec) _ _ _ _ (ap (exec_eq n) e.exec) (ap (λ (l : Links). l.pending) e.links) (pending_in_same _ _ (parked_both R K f n m s e))
+
+  pub raised_both : (n : Exec) (p : Pending) (m : Env A V) (s : Env B W) → En m s → En (raised_at n p m) (raised_at n p s)
+  raised_both n p m s e = links_both (λ l. record l { pending = l.pending ++ p ∷ [] }) (record { stage = λ l x y h. h }) n m s e
 
   -- an activation that stands does so where there is another reason to unwind it
   module _ (raises : (m : Activation A V) (s : Activation B W) (r : Option Reason) → R m s → R (record m { raised = r }) (record s { raised = r })) where

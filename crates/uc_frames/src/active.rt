@@ -10,7 +10,8 @@ ghost use Rattle.uc_frames.specs.Unwinding.{event_at, unwound_by, cleaning, catc
 use crate::cell::{Cell, number_in};
 use crate::event::{Event, Handling, event_number};
 use crate::operands::{
-    drop_newest, event_operands, new_frame, push_event, put_event, put_on_top, put_on_two,
+    drop_newest, event_operands, new_frame, push_event, put_event, put_on_many, put_on_top,
+    put_on_two,
 };
 use std::alloc::AllocError;
 use std::marker::Model;
@@ -294,6 +295,15 @@ impl Active {
         ensures err { OnErr result (self.new ≡ self.old) }
     {
         put_on_two(&mut self.operands, cell)?;
+        Ok(())
+    }
+
+    /// Another operand in the place of so many of the newest ones, as far as there are any.
+    pub fn replace_many(&mut self, count: u32, cell: Cell) -> Result<(), AllocError>
+        ensures ok { OnOk result (self.new ≡ record self.old { operands = cell ∷ drop count self.old.operands }) }
+        ensures err { OnErr result (self.new ≡ self.old) }
+    {
+        put_on_many(&mut self.operands, count as u64, cell)?;
         Ok(())
     }
 

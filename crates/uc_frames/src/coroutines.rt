@@ -56,7 +56,8 @@ impl Work {
         }
     }
 
-    fn is_live_at(&self, exec: Exec) -> bool
+    /// Whether the coroutine of an execution in hand is live.
+    pub fn is_live_at(&self, exec: Exec) -> bool
         ensures { result ≡ live_at exec self.now.env }
     {
         if self.task.runs(exec) {

@@ -14,6 +14,7 @@ mod mutex;
 mod numbered;
 mod operands;
 pub mod parked;
+mod pending;
 pub mod pieces;
 pub mod search;
 pub mod stack;

@@ -1,6 +1,6 @@
 // What travels with an execution besides its stack.
 
-ghost use Rattle.std.specs.Prelude.{◌≡◌, ◌<◌, ◌+◌, ◌-◌, ◌^◌, ◌↔◌, IsTrue, nat_lt, None, Some, true, false};
+ghost use Rattle.std.specs.Prelude.{◌≡◌, ◌<◌, ◌+◌, ◌-◌, ◌^◌, ◌↔◌, IsTrue, nat_lt, length, None, Some, OnOk, OnErr, true, false};
 ghost use Rattle.uc_machine.specs.Executions.{no_links, one_call_more, one_call_less};
 ghost use Rattle.uc_machine.specs.Switches.{fresh_links, woken};
 ghost use Rattle.uc_machine.specs.declared.exec.Stage.TheVariants.{Ended};
@@ -8,9 +8,9 @@ ghost use Rattle.uc_tree.specs.declared.limits.TheConstants.{CALLS};
 ghost use Rattle.uc_tree.specs.SiteOffers.{has_bit};
 ghost use Rattle.uc_entry.specs.Keyed.{drop_first};
 ghost use Rattle.uc_machine.specs.Insides.{oldest_enabled};
-ghost use Rattle.uc_frames.specs.Machine.{lively};
+ghost use Rattle.uc_frames.specs.Machine.{lively, pended};
 
-use std::alloc::Global;
+use std::alloc::{AllocError, Global};
 use std::marker::Model;
 use uc_machine::exec::{Exec, Pending, Stage};
 use uc_tree::limits::EVENTS;
@@ -194,6 +194,29 @@ impl Links {
         ensures { result ≡ self.now.enabled }
     {
         self.enabled
+    }
+
+    /// Only these events are enabled.
+    pub fn set_enabled(&mut self, events: u64)
+        ensures { self.new ≡ record self.old { enabled = events } }
+    {
+        self.enabled = events;
+    }
+
+    /// How many events are pending.
+    pub fn pending_count(&self) -> usize
+        ensures { result ≡ length self.now.pending }
+    {
+        self.pending.len()
+    }
+
+    /// One more event is pending.
+    pub fn add_pending(&mut self, event: Pending) -> Result<(), AllocError>
+        ensures ok { OnOk result (self.new ≡ pended event self.old) }
+        ensures err { OnErr result (self.new ≡ self.old) }
+    {
+        self.pending.push(event)?;
+        Ok(())
     }
 
     /// The oldest pending event that is enabled, if there is one.

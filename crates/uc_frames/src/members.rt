@@ -7,7 +7,7 @@ ghost use Rattle.std.specs.List.{list_any};
 ghost use Rattle.uc_machine.specs.Insides.{is_engaged};
 ghost use Rattle.uc_machine.specs.Switches.{one_more, slot_set, slot_gone, links_changed};
 ghost use Rattle.uc_frames.specs.Engaged.{engaged_in};
-ghost use Rattle.uc_frames.specs.Machine.{nought, cell_written, lively};
+ghost use Rattle.uc_frames.specs.Machine.{nought, cell_written, lively, pended};
 
 use crate::cell::Cell;
 use crate::frames::{get, put, zeros};
@@ -17,6 +17,7 @@ use std::alloc::{AllocError, Global};
 use std::marker::Model;
 use std::mem;
 use uc_entry::list::List;
+use uc_machine::exec::Pending;
 
 /// The fields, how many executions were made here, and those that are left, in the order of their numbers, with nothing for one that runs.
 /// How many of them hold a task up is counted, so that nobody searches them.
@@ -172,6 +173,20 @@ impl Members {
                 stack.set_live(live);
             }
         }
+    }
+
+    /// One more event is pending at that execution, if it is left and does not run.
+    pub fn add_pending(&mut self, serial: u64, event: Pending) -> Result<(), AllocError>
+        ensures ok { OnOk result (self.new ≡ links_changed (pended event) serial self.old) }
+        ensures err { OnErr result (self.new ≡ self.old) }
+    {
+        if let Some(i) = position_in_order(&self.parked, serial) {
+            let slot = self.parked.get_mut(i);
+            if let Some(stack) = &mut slot.1 {
+                stack.add_pending(event)?;
+            }
+        }
+        Ok(())
     }
 }
 

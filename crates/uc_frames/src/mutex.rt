@@ -1,16 +1,21 @@
 // A task at mutex objects: its calls, what it builds, and the new objects that come into its hand.
 
-ghost use Rattle.std.specs.Prelude.{◌≡◌, IfOk, OnOk, OnErr};
+ghost use Rattle.std.specs.Prelude.{◌≡◌, ◌≤◌, ◌++◌, [], drop, IfOk, OnOk, OnErr, false};
+ghost use Rattle.uc_machine.specs.Executions.{taken};
+ghost use Rattle.uc_machine.specs.Pieces.{is_zero};
 ghost use Rattle.uc_entry.specs.Keyed.{find};
 ghost use Rattle.uc_machine.specs.Insides.{build_begun, build_ended, call_begun, call_ended, call_gone, counted_no_more};
-ghost use Rattle.uc_frames.specs.Machine.{first_machine};
-ghost use Rattle.uc_frames.specs.Objects.{arrived_at, bound, with_object};
+ghost use Rattle.uc_frames.specs.Machine.{first_machine, top, below, cell_number};
+ghost use Rattle.uc_frames.specs.Objects.{arrived_at, bound, guard_bit, mask_of, with_object};
+ghost use Rattle.uc_frames.specs.Unwinding.{failure, operands_of};
 
+use crate::cell::{Cell, number_in};
 use crate::members::Members;
 use crate::task::Task;
 use crate::work::Work;
 use std::alloc::AllocError;
 use uc_code::rows::RoutineCode;
+use uc_tree::limits::FAILURE;
 
 impl Work {
     /// A new task whose object is `own`, as its main begins, inside its object alone.
@@ -96,6 +101,29 @@ impl Work {
         Ok(())
     }
 
+    /// So many guards of an accept statement, the newest operand the last one, as bits: the first one is lowest.
+    pub fn guards(&self, count: u32) -> u32
+        requires { count ≤ 32 }
+        ensures { result ≡ mask_of (taken Cell.Nothing count self.now.run.operands []) }
+    {
+        let mut mask = 0;
+        for i in 0..count {
+            mask = mask * 2 + guard_bit(self.below(i));
+        }
+        mask
+    }
+
+    /// The event of a failed call is the newest operands in the place of the newest one, which tells that it has failed.
+    pub fn put_failure(&mut self) -> Result<(), AllocError>
+        requires { is_zero (cell_number (top self.old.run.operands)) ≡ false }
+        ensures ok { OnOk result (self.new ≡ record self.old { run = record self.old.run { operands = operands_of failure ++ below self.old.run.operands } }) }
+        ensures err { OnErr result (self.new ≡ self.old) }
+    {
+        self.task.push_all(&[Cell::Number(0), Cell::Number(0)])?;
+        self.task.put_below(2, Cell::Number(i64::from(FAILURE)));
+        Ok(())
+    }
+
     /// A return of a handler has arrived at the running mutex call, which goes on at this op with what that hands over.
     pub fn arrive(&mut self, to: u32) -> Result<(), AllocError>
         ensures ok { OnOk result (self.new ≡ record self.old { run = arrived_at to self.old.run }) }
@@ -104,4 +132,11 @@ impl Work {
         self.task.arrive(to)?;
         Ok(())
     }
+}
+
+// 1 of a true guard, else 0.
+fn guard_bit(guard: Cell) -> u32
+    ensures { result ≡ guard_bit guard }
+{
+    if number_in(guard) == 0 { 0 } else { 1 }
 }

@@ -38,6 +38,22 @@ pub(crate) fn put_on_two(operands: &mut Vec<Cell>, cell: Cell) -> Result<(), All
     Ok(())
 }
 
+// One in the place of so many of the newest, as far as there are any.
+pub(crate) fn put_on_many(
+    operands: &mut Vec<Cell>,
+    count: u64,
+    cell: Cell,
+) -> Result<(), AllocError>
+    ensures ok { OnOk result (reverse operands.new.items ≡ cell ∷ drop count (reverse operands.old.items)) }
+    ensures err { OnErr result (operands.new.items ≡ operands.old.items) }
+{
+    operands.reserve(1)?;
+    let left = operands.len().saturating_sub(count as usize);
+    operands.truncate(left);
+    operands.push_reserved(cell);
+    Ok(())
+}
+
 // The newest ones go, so many of them.
 pub(crate) fn drop_newest(operands: &mut Vec<Cell>, count: u64)
     ensures { reverse operands.new.items ≡ drop count (reverse operands.old.items) }

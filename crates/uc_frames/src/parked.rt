@@ -1,10 +1,10 @@
 // An execution that does not run.
 
-ghost use Rattle.std.specs.Prelude.{◌≡◌, Some, IfOk, slice_index_or, false};
+ghost use Rattle.std.specs.Prelude.{◌≡◌, Some, IfOk, OnOk, OnErr, slice_index_or, false};
 ghost use Rattle.uc_machine.specs.Executions.{at_depth, list_in, frame_changed};
 ghost use Rattle.uc_machine.specs.Switches.{woken, unwound_there};
 ghost use Rattle.uc_machine.specs.declared.exec.Reason.TheVariants as reason;
-ghost use Rattle.uc_frames.specs.Machine.{nought, cell_written, fresh_execution, lively};
+ghost use Rattle.uc_frames.specs.Machine.{nought, cell_written, fresh_execution, lively, pended};
 
 use crate::cell::Cell;
 use crate::links::Links;
@@ -13,7 +13,7 @@ use std::alloc::{AllocError, Global};
 use std::marker::Model;
 use std::mem;
 use uc_code::rows::RoutineCode;
-use uc_machine::exec::{Exec, Reason};
+use uc_machine::exec::{Exec, Pending, Reason};
 
 /// A stack in a place of its own, so that it is handed on without being moved. Contracts see the stack.
 #[derive(Drop)]
@@ -69,6 +69,15 @@ impl Parked {
         ensures { self.new ≡ record self.old { links = lively live self.old.links } }
     {
         self.stack.set_live(live);
+    }
+
+    /// One more event is pending.
+    pub fn add_pending(&mut self, event: Pending) -> Result<(), AllocError>
+        ensures ok { OnOk result (self.new ≡ record self.old { links = pended event self.old.links }) }
+        ensures err { OnErr result (self.new ≡ self.old) }
+    {
+        self.stack.add_pending(event)?;
+        Ok(())
     }
 
     /// It is to be unwound for this reason, as soon as it goes on.

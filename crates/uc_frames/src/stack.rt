@@ -2,7 +2,7 @@
 
 ghost use Rattle.std.specs.Prelude.{◌≡◌, ◌∷◌, ◌++◌, ◌-◌, ◌<◌, [], length, drop, replicate, reverse, nat_lt, None, Some, IfOk, OnOk, OnErr, MatchOption, vec_len, slice_get, slice_index_or, slice_set, ◌+◌, ◌^◌, true, false};
 ghost use Rattle.uc_machine.specs.Executions.{at_depth, list_in, frame_changed, values_cleared, one_call_less, calmed};
-ghost use Rattle.uc_frames.specs.Machine.{nought, top, below, cell_written, first_execution, fresh_execution, lively, line_in, line_at};
+ghost use Rattle.uc_frames.specs.Machine.{nought, top, below, cell_written, first_execution, fresh_execution, lively, pended, line_in, line_at};
 ghost use Rattle.uc_frames.specs.Calls.{stack_left, stack_entered};
 ghost use Rattle.uc_frames.specs.Objects.{arrived_at};
 ghost use Rattle.uc_frames.specs.Unwinding.{IsCaller, event_at, unwound_by, cleaning, catching, stack_passed, stack_handled, stack_delivered};
@@ -24,7 +24,7 @@ use std::marker::Model;
 use std::mem;
 use uc_code::code::Code;
 use uc_code::rows::RoutineCode;
-use uc_machine::exec::{Exec, Reason, Visited};
+use uc_machine::exec::{Exec, Pending, Reason, Visited};
 
 /// An execution: its newest activation, those that wait for it, its frames and its links. The lists of calls that have ended
 /// are kept, so that a call takes memory only where no call before it left enough.
@@ -103,6 +103,22 @@ impl Stack {
         ensures { self.new ≡ record self.old { links = lively live self.old.links } }
     {
         self.links.set_live(live);
+    }
+
+    /// Only these events are enabled.
+    pub fn set_enabled(&mut self, events: u64)
+        ensures { self.new ≡ record self.old { links = record self.old.links { enabled = events } } }
+    {
+        self.links.set_enabled(events);
+    }
+
+    /// One more event is pending.
+    pub fn add_pending(&mut self, event: Pending) -> Result<(), AllocError>
+        ensures ok { OnOk result (self.new ≡ record self.old { links = pended event self.old.links }) }
+        ensures err { OnErr result (self.new ≡ self.old) }
+    {
+        self.links.add_pending(event)?;
+        Ok(())
     }
 
     /// It is to be unwound for this reason, as soon as it goes on.
@@ -358,6 +374,15 @@ impl Stack {
         ensures err { OnErr result (self.new ≡ self.old) }
     {
         self.running.replace_two(cell)?;
+        Ok(())
+    }
+
+    /// Another operand in the place of so many of the newest ones, as far as there are any.
+    pub fn replace_many(&mut self, count: u32, cell: Cell) -> Result<(), AllocError>
+        ensures ok { OnOk result (self.new ≡ record self.old { run = record self.old.run { operands = cell ∷ drop count self.old.run.operands } }) }
+        ensures err { OnErr result (self.new ≡ self.old) }
+    {
+        self.running.replace_many(count, cell)?;
         Ok(())
     }
 

@@ -4,9 +4,9 @@ ghost use Rattle.std.specs.Prelude.{◌≡◌, ◌-◌, ◌<◌, ◌∷◌, ◌+
 ghost use Rattle.std.specs.Option.{is_some, option_map};
 ghost use Rattle.uc_machine.specs.Executions.{at_depth, list_in, frame_changed, frames_changed, values_cleared, members_at, slot_in, joined, change, exec_eq, calmed};
 ghost use Rattle.uc_machine.specs.Switches.{born, ended, links_changed, slot_gone, slot_set, spread, stopped};
-ghost use Rattle.uc_machine.specs.Insides.{build_begun, build_ended, call_begun, call_ended, call_gone, counted_no_more, oldest_enabled};
+ghost use Rattle.uc_machine.specs.Insides.{build_begun, build_ended, call_begun, call_ended, call_gone, counted_no_more, oldest_enabled, with_enabled};
 ghost use Rattle.uc_machine.specs.Quiet.{with_piece};
-ghost use Rattle.uc_frames.specs.Machine.{nought, top, below, cell_written, first_machine, fresh_execution, lively, line_in, line_at};
+ghost use Rattle.uc_frames.specs.Machine.{nought, top, below, cell_written, first_machine, fresh_execution, lively, pended, line_in, line_at};
 ghost use Rattle.uc_frames.specs.Calls.{left, called};
 ghost use Rattle.uc_frames.specs.Objects.{arrived_at};
 ghost use Rattle.uc_frames.specs.Unwinding.{IsCaller, event_at, unwound_by, cleaning, catching, passed, handled, delivered};
@@ -28,7 +28,7 @@ use std::marker::Model;
 use uc_code::code::Code;
 use uc_code::rows::RoutineCode;
 use uc_entry::request::Piece;
-use uc_machine::exec::{Exec, Home, Reason, Visited};
+use uc_machine::exec::{Exec, Home, Pending, Reason, Visited};
 
 /// A task: the execution that runs, its own object, what is at home in it, its depth in each object, and the
 /// items that it gathers. Contracts see a machine with an empty hand.
@@ -166,6 +166,14 @@ impl Task {
         ensures err { OnErr result (self.new ≡ self.old) }
     {
         self.running.replace_two(cell)?;
+        Ok(())
+    }
+
+    pub(crate) fn replace_many(&mut self, count: u32, cell: Cell) -> Result<(), AllocError>
+        ensures ok { OnOk result (self.new ≡ record self.old { run = record self.old.run { operands = cell ∷ drop count self.old.run.operands } }) }
+        ensures err { OnErr result (self.new ≡ self.old) }
+    {
+        self.running.replace_many(count, cell)?;
         Ok(())
     }
 
@@ -434,6 +442,37 @@ impl Task {
         if task == self.own {
             self.house.set_live(serial, live);
         }
+    }
+
+    pub(crate) fn set_enabled(&mut self, events: u64)
+        ensures { self.new ≡ record self.old { env = with_enabled events self.old.env } }
+    {
+        self.running.set_enabled(events);
+    }
+
+    // One more event is pending at the running execution.
+    pub(crate) fn add_own_pending(&mut self, event: Pending) -> Result<(), AllocError>
+        ensures ok { OnOk result (self.new ≡ record self.old { env = record self.old.env { links = pended event self.old.env.links } }) }
+        ensures err { OnErr result (self.new ≡ self.old) }
+    {
+        self.running.add_pending(event)?;
+        Ok(())
+    }
+
+    // One more event is pending at the execution of that number in the task of that object, if it is this one; one that runs stays.
+    pub(crate) fn add_pending(
+        &mut self,
+        task: u32,
+        serial: u64,
+        event: Pending,
+    ) -> Result<(), AllocError>
+        ensures ok { OnOk result (self.new ≡ record self.old { env = change (Home.Task task) (links_changed (pended event) serial) self.old.env }) }
+        ensures err { OnErr result (self.new ≡ self.old) }
+    {
+        if task == self.own {
+            self.house.add_pending(serial, event)?;
+        }
+        Ok(())
     }
 
     // Writes a cell to a frame of the execution of that number in the task of that object, if it is this one; one that runs stays.

@@ -317,6 +317,15 @@ impl Work {
         Ok(())
     }
 
+    /// Another operand in the place of so many of the newest ones, as far as there are any.
+    pub fn replace_many(&mut self, count: u32, cell: Cell) -> Result<(), AllocError>
+        ensures ok { OnOk result (self.new ≡ record self.old { run = record self.old.run { operands = cell ∷ drop count self.old.run.operands } }) }
+        ensures err { OnErr result (self.new ≡ self.old) }
+    {
+        self.task.replace_many(count, cell)?;
+        Ok(())
+    }
+
     /// Takes the newest operand; nothing where there is none.
     pub fn pop(&mut self) -> Cell
         ensures value { result ≡ top self.old.run.operands }

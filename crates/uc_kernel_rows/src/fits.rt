@@ -158,7 +158,7 @@ impl Watch {
     }
 
     /// Whether these are the members of the objects that a task is inside, in the order in which it entered them.
-    pub fn is_hand(&self, task: u32, hand: &List<(u32, u32)>) -> bool
+    pub fn is_hand(&self, task: u32, hand: &List<(u64, u32)>) -> bool
         ensures { result ≡ true → keys hand.now.items ≡ objects_of task self.now.inside }
     {
         let wanted = u64::from(task);
@@ -175,7 +175,7 @@ impl Watch {
 
 // The place of a hand behind a pair, where the object of a pair of this task stands at this place. A pair of another task
 // has none.
-fn place_behind(hand: &List<(u32, u32)>, at: u32, pair: &Pair, task: u64) -> Option<u32>
+fn place_behind(hand: &List<(u64, u32)>, at: u32, pair: &Pair, task: u64) -> Option<u32>
     ensures { IfSome result (λ n. objects_of task (pair.now ∷ []) ++ drop n (keys hand.now.items) ≡ drop at (keys hand.now.items)) }
 {
     if pair.task != task {
@@ -184,7 +184,7 @@ fn place_behind(hand: &List<(u32, u32)>, at: u32, pair: &Pair, task: u64) -> Opt
     if at >= hand.len() {
         return None;
     }
-    if hand.get(at).0 != pair.object {
+    if hand.get(at).0 != pair.object as u64 {
         return None;
     }
     Some(at + 1)

@@ -36,7 +36,7 @@ fn put_given(hands: &mut Vec<Option<Given<u32, u32>>>, given: Given<u32, u32>) {
 }
 
 // The first members of a hand go to its end, with one added.
-fn age_first(hand: &mut List<(u32, u32)>)
+fn age_first(hand: &mut List<(u64, u32)>)
     requires { 1 ≤ length hand.old.items }
     ensures { length hand.new.items ≡ length hand.old.items }
 {
@@ -45,7 +45,7 @@ fn age_first(hand: &mut List<(u32, u32)>)
 }
 
 // Each time that a task asks, its value and the members in its hand go up by one.
-fn age(hand: &mut List<(u32, u32)>) {
+fn age(hand: &mut List<(u64, u32)>) {
     for _at in 0..hand.len() {
         age_first(hand);
     }
@@ -79,7 +79,9 @@ fn with_new(mut given: Given<u32, u32>, request: &Request) -> Result<Given<u32, 
     match (*request, given.answer) {
         (Request::Make { .. }, Answer::Object(object)) => {
             given.members.room()?;
-            given.members.push((object, object.saturating_mul(10)));
+            given
+                .members
+                .push((object as u64, object.saturating_mul(10)));
             Ok(given)
         }
         _ => Ok(given),

@@ -8,7 +8,7 @@ use uc_journal::write_entry;
 use uc_kernel::given::{Given, Next};
 
 // The members of a hand, each behind the number of its object.
-fn hand_text(alloc: Global, hand: &List<(u32, u32)>) -> Result<String, AllocError> {
+fn hand_text(alloc: Global, hand: &List<(u64, u32)>) -> Result<String, AllocError> {
     let mut text = String::new(alloc);
     for at in 0..hand.len() {
         let (object, members) = *hand.get(at);

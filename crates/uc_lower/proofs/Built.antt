@@ -1,5 +1,5 @@
 -- What programs of built forms have: routines of built forms, and no accept statements.
-use Rattle.std.proofs.Common.{◌≡◌, ℕ, zero, suc, false, true, true≢false, List, [], ◌∷◌, ◌++◌, Option, Some, refl, ap, sym, ◌∙◌}
+use Rattle.std.proofs.Common.{◌≡◌, ℕ, zero, suc, true, true≢false, List, [], ◌∷◌, ◌++◌, Option, Some, refl, ap, sym, ◌∙◌}
 use Rattle.std.specs.Prelude.{slice_get}
 use Rattle.std.proofs.lemmas.Bool.{and_parts}
 use Rattle.uc_tree.specs.declared.kinds.Owner.{Owner}

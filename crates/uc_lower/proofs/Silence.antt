@@ -7,25 +7,44 @@ use Rattle.uc_tree.specs.declared.kinds.Kind.{Kind}
 use Rattle.uc_tree.specs.declared.kinds.Kind.TheVariants as kind
 use Rattle.uc_tree.specs.Numbering.{Defined, is_mutex, routines_of}
 use Rattle.uc_tree.specs.Cells.{leading_cells}
-use Rattle.uc_tree.specs.Objects.{Making, ClassField, Unwritten, has_execution, class_at, class_shape, fields_of, unwritten_of}
+use Rattle.uc_tree.specs.declared.kinds.Param.{Param}
+use Rattle.uc_tree.specs.Objects.{APlain, AMutex, ACluster, AProcessor, written_at, Making, ClassField, Unwritten, has_execution, class_at, class_shape, fields_of, unwritten_of}
 use Rattle.uc_tree.specs.Programs.{Class, Program}
-use Rattle.uc_resolve.specs.Resolve.{Meant, Own, all_unwritten, build, clean_up, construction, construction_ends, destruction, ending, enlivened, field_built, field_making, field_left, field_place, fields_built, fields_left, forgotten, freed, length_in_class, nowhere, routines_meant, set_up, source_of, started_in, taken_down, unwritten_body, unwritten_meant}
+use Rattle.uc_resolve.specs.Resolve.{args_by, called_by, constructed, made_by, params_of, Own, all_unwritten, build, clean_up, construction, construction_ends, destruction, ending, enlivened, field_built, field_making, field_left, field_place, fields_built, fields_left, forgotten, freed, length_in_class, nowhere, routines_meant, set_up, source_of, started_in, taken_down, unwritten_body, unwritten_meant}
 use Rattle.uc_tree.specs.Source as source
-use Rattle.uc_code.specs.Silent.{silent, silent_all, silent_clean}
+use Rattle.uc_code.specs.Silent.{silent, silent_all, silent_clean, silent_expr, silent_exprs}
 use Rattle.uc_lower.specs.RoutineLayout.{last_of}
 use Rattle.uc_lower.proofs.RoutineLayoutLemmas.{meant_long}
 
-build_silent : (p : Program) (line : ℕ) (m : Making) (len : Option ℕ) (place : source.Expr) (ms : List Meant) → silent (build p line m len place ms)
-build_silent p line m None place ms = tt
-build_silent p line m (Some n) place ms = tt
+args_silent : (p : Program) (xs : List Param) → silent_exprs (args_by xs [])
+args_silent p [] = tt
+args_silent p (x ∷ xs) = tt
+
+called_silent : (p : Program) (i : ℕ) (wanted : Role) (place : source.Expr) (o : Option ℕ) → silent_expr place → silent_expr (called_by p i wanted place [] o)
+called_silent p i wanted place None h = h
+called_silent p i wanted place (Some r) h = (h, args_silent p (params_of p r))
+
+made_silent : (p : Program) (i : ℕ) (place : source.Expr) (o : Option ℕ) → silent_expr place → silent_expr (made_by p i place [] o)
+made_silent p i place None h = (h, tt)
+made_silent p i place (Some r) h = (h, args_silent p (params_of p r))
+
+constructed_silent : (p : Program) (m : Making) (place : source.Expr) → silent_expr place → silent_expr (constructed p m place [])
+constructed_silent p (APlain i) place h = called_silent p i role.Constructor place (written_at p i role.Constructor) h
+constructed_silent p (AMutex i) place h = made_silent p i place (written_at p i role.Constructor) h
+constructed_silent p ACluster place h = (h, tt)
+constructed_silent p AProcessor place h = (h, tt)
+
+build_silent : (p : Program) (line : ℕ) (m : Making) (len : Option ℕ) (place : source.Expr) → silent_expr place → silent (build p line m len place [])
+build_silent p line m None place h = constructed_silent p m place h
+build_silent p line m (Some n) place h = tt
 
 clean_silent : (p : Program) (m : Making) (len : Option ℕ) (place : source.Expr) → silent_clean (clean_up p m len place)
 clean_silent p m None place = tt
 clean_silent p m (Some n) place = tt
 
-field_silent : (p : Program) (o : Option Making) (f : ClassField) (len : Option ℕ) (place : source.Expr) (rest : source.Stmts) → silent_all rest → silent_all (field_built p o f len place [] rest)
-field_silent p None f len place rest h = h
-field_silent p (Some m) f len place rest h = (build_silent p 0 m len place [], (clean_silent p m len place, h))
+field_silent : (p : Program) (o : Option Making) (f : ClassField) (len : Option ℕ) (place : source.Expr) (rest : source.Stmts) → silent_expr place → silent_all rest → silent_all (field_built p o f len place [] rest)
+field_silent p None f len place rest s h = h
+field_silent p (Some m) f len place rest s h = (build_silent p 0 m len place s, (clean_silent p m len place, h))
 
 left_silent : (p : Program) (o : Option Making) (len : Option ℕ) (place : source.Expr) (rest : source.Stmts) → silent_all rest → silent_all (field_left p o len place rest)
 left_silent p None len place rest h = h
@@ -35,7 +54,7 @@ module _ (p : Program) (c : Class) (i : ℕ) where
   all_built : (fs : List ClassField) (n : ℕ) (rest : source.Stmts) → silent_all rest → silent_all (fields_built p c i [] (nowhere p) fs n rest)
   all_built [] n rest h = h
   all_built (f ∷ fs) n rest h =
-      field_silent p (field_making p f) f (length_in_class p c i f) (field_place (class_shape p i) n Own) (fields_built p c i [] (nowhere p) fs (suc n) rest) (all_built fs (suc n) rest h)
+      field_silent p (field_making p f) f (length_in_class p c i f) (field_place (class_shape p i) n Own) (fields_built p c i [] (nowhere p) fs (suc n) rest) tt (all_built fs (suc n) rest h)
 
   all_left : (fs : List ClassField) (n : ℕ) (rest : source.Stmts) → silent_all rest → silent_all (fields_left p c i fs n rest)
   all_left [] n rest h = h

@@ -207,6 +207,7 @@ clean_some cleaning.Forget = omega arith
 clean_some cleaning.Leave = omega arith
 clean_some cleaning.End = omega arith
 clean_some (cleaning.Free main) = omega arith
+clean_some (cleaning.Restore cell) = omega arith
 
 -- the parts of fields that are built are those of the marks, behind a block too
 pub parts_on : {n : ℕ} {F : Stmts → Stmts} (us : List Cleaning) (d0 d1 d2 : Draft) → Constructs n F [] d0 us d1 → d2.marks ≡ d1.marks → PartsIn (reverse us) d2.marks

@@ -6,10 +6,13 @@ use Rattle.uc_code.specs.declared.op.Op.TheVariants as op
 use Rattle.uc_code.specs.declared.rows.Instruction.{Instruction}
 use Rattle.uc_code.specs.Layout.{Laid, laid_in}
 use Rattle.uc_code.specs.Drafts.{Draft, ops_with, patched}
-use Rattle.uc_code.specs.CodeShapes.{OpAt, Nothing, Risk, Both, Fork, Same, Kept, Stable}
+use Rattle.uc_code.specs.CodeShapes.{OpAt, Nothing, Risk, Both, Fork, PollAt, Same, Kept, Stable}
+use Rattle.uc_code.specs.Emits.{Puts}
 use Rattle.uc_code.proofs.Stable.{kept_refl, kept_then, kept_same, same_then}
+use Rattle.uc_code.proofs.Putting.{puts_poll}
 use Rattle.uc_code.proofs.Patches.{bare_stays, kept_with, one_with, length-patched, patched_at, same_before, same_after}
 use Rattle.uc_lower_expr.specs.DraftGrowth.{Adds, LiveCallCode, MutexCallCode, OpCode, RiskCode}
+use Rattle.uc_lower_expr.specs.Parts.{WaitCode}
 
 pub rest_then : (a b c : Draft) → b ≡ record a { ops = b.ops } → c ≡ record b { ops = c.ops } → c ≡ record a { ops = c.ops }
 rest_then a b c h k = k ∙ ap (λ d. let e : Draft = record d { ops = c.ops } in e) h
@@ -65,6 +68,28 @@ adds_both {m} {n} {B} {C} {old} {mid} {new} b h g = record {
     second = g.code;
   };
 }
+
+-- events are delivered
+module _ (line e b : ℕ) (d0 d1 d2 d3 d4 : Draft) where
+  as_puts : {S : Laid → ℕ → ℕ → Type 0} {old new : Draft} → Adds 1 S old new → Puts 1 S old new
+  as_puts {S} {old} {new} h = record {
+    rest = subst (λ (d : Draft). d ≡ record old { ops = d.ops; rows = d.rows; settled = d.settled }) (sym h.rest) refl;
+    kept = h.kept;
+    room = h.room;
+    code = h.code;
+  }
+
+  pub adds_poll : b ≡ length d0.ops → e ≡ length d0.ops + 4 → Adds 1 (OpCode line (op.Poll e)) d0 d1 → Adds 1 (RiskCode line d1.marks (op.Deliver e)) d1 d2 → Adds 1 (OpCode line op.Discard) d2 d3 → Adds 1 (OpCode line (op.Jump b)) d3 d4 → Adds 4 (λ code. PollAt code d0.marks line) d0 d4
+  adds_poll f g p q r s =
+      let all = puts_poll line e b d0 d1 d2 d3 d4 f g (as_puts p) (as_puts q) (as_puts r) (as_puts s) in
+      record { rest = rest_then d0 d3 d4 (rest_then d0 d2 d3 (rest_then d0 d1 d2 p.rest q.rest) r.rest) s.rest; kept = all.kept; room = all.room; code = all.code }
+
+-- under the marks of a draft with fewer ops
+pub poll_in : {n : ℕ} (line : ℕ) (was old new : Draft) → old ≡ record was { ops = old.ops } → Adds n (λ code. PollAt code old.marks line) old new → Adds n (λ code. PollAt code was.marks line) old new
+poll_in {n} line was old new e h = subst (λ (d : Draft). Adds n (λ code. PollAt code d.marks line) old new) e h
+
+pub wait_in : (line : ℕ) (was old new : Draft) → old ≡ record was { ops = old.ops } → Adds 5 (WaitCode line old.marks) old new → Adds 5 (WaitCode line was.marks) old new
+wait_in line was old new e h = subst (λ (d : Draft). Adds 5 (WaitCode line d.marks) old new) e h
 
 -- two pieces in a row are one after another
 pub regroup : (B C D : ℕ → ℕ → Type 0) (a z : ℕ) → Both (Both B C) D a z → Both B (Both C D) a z

@@ -108,6 +108,8 @@ variable_told (standing.Routine r) s h = ap variable_in h
 variable_told (standing.Member r) s h = ap variable_in h
 variable_told (standing.LiveMember r) s h = ap variable_in h
 variable_told (standing.MutexMember m r) s h = ap variable_in h
+variable_told (standing.Condition k) s h = ap variable_in h
+variable_told (standing.CallOf c) s h = ap variable_in h
 variable_told standing.Nothing s h = ap variable_in h
 
 pub told_variable : {p : Program} → (s : Meaning) (m : Meant) (k : ℕ) → Tells p s m → Some k ≡ cell_in s.standing → variable_in m.standing ≡ Some k

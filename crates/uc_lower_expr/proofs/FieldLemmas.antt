@@ -16,7 +16,7 @@ use Rattle.uc_tree.specs.Rows.{Row, row_at, has_itself, element_cells, held_cell
 use Rattle.uc_tree.specs.Cells.{classes_of, class_cells, object_of, held_by, member_held, members_held, row_of, rows_of, leading_cells, seen_in}
 use Rattle.uc_tree.specs.Source.{Shape, Binding, Last, shape_cells, field_cells}
 use Rattle.uc_tree.specs.Objects.{class_at, ClassField, declared_fields, form_fields, fields_of, shape_of, kept_shape, arrayed, field_shape, fields_shape, behind_bindings, form_shape, shape_within, class_shape, making, class_made, is_numbered, event_place}
-use Rattle.uc_resolve.specs.Resolve.{Standing, NumberedField, Whose, field_by, field_length, field_or_condition, field_type, has_number}
+use Rattle.uc_resolve.specs.Resolve.{Standing, field_by, field_length, field_type, has_number}
 use Rattle.uc_layout.specs.Places.{IsPlaces}
 use Rattle.uc_layout.specs.Depths.{Holds, First, Later}
 use Rattle.uc_layout.proofs.DepthsLemmas.{cells_deep, cells_next}
@@ -24,14 +24,12 @@ use Rattle.uc_lower_expr.specs.declared.meaning.Standing.{Standing as Told}
 use Rattle.uc_lower_expr.specs.declared.fields.Field.{Field}
 use Rattle.uc_lower_expr.specs.declared.fields.FieldTable.{FieldTable}
 use Rattle.uc_lower_expr.specs.Meanings.{StandsAs, held_as, is_mutex_at, making_by}
-use Rattle.uc_lower_expr.specs.Members.{FitClasses, IsFieldAt, AreFields, held_standing, is_held_base}
-use Rattle.uc_lower_expr.specs.FieldTables.{is_number, one_scalar, length_by, IsNoted, AreNoted, NoMore, OneMore, Notes}
+use Rattle.uc_lower_expr.specs.Members.{FitClasses, IsFieldAt, AreFields, conditions_before, held_standing}
+use Rattle.uc_lower_expr.specs.FieldTables.{condition_by, is_number, one_scalar, length_by, IsNoted, AreNoted, NoMore, OneMore, AreCounted, Notes}
 use Rattle.uc_lower_expr.proofs.Makings.{making_is}
+use Rattle.uc_lower_expr.proofs.Counting.{counted_at, field_few, held_of, no_condition}
 
 -- what the fields of a class hold
-
-abbrev held_of : List Class → (List ℕ → Option ℤ) → ClassField → Held
-held_of cs named f = held_by cs named f.base f.declarator
 
 module _ (cs : List Class) (named : List ℕ → Option ℤ) where
   declared_held : (b : Base) (ds : List Declarator) → map (held_by cs named b) ds ≡ map (held_of cs named) (declared_fields b ds)
@@ -308,16 +306,6 @@ held_stands : (b : Bool) → StandsAs (held_as b) (held_standing b)
 held_stands true = refl
 held_stands false = refl
 
-no_condition : (p : Program) (c : Class) (i : ℕ) (whose : Whose) (f : NumberedField) (b : Base) → is_held_base b ≡ true → field_or_condition p c i whose f b ≡ field_by (has_number p (field_type p c f.field)) f.field.declarator.by_ref (class_shape p i) f.number whose (field_type p c f.field)
-no_condition p c i whose f base.Void h = refl
-no_condition p c i whose f base.Int h = refl
-no_condition p c i whose f base.Char h = refl
-no_condition p c i whose f base.Bool h = refl
-no_condition p c i whose f base.Condition h = cc
-no_condition p c i whose f base.Cluster h = cc
-no_condition p c i whose f base.Processor h = cc
-no_condition p c i whose f (base.Named name) h = refl
-
 get_long : {A : Type 0} (xs : List A) (k : ℕ) (x : A) → slice_get xs k ≡ Some x → k < length xs
 get_long [] k x e = cc
 get_long (y ∷ ys) zero x e = omega arith
@@ -328,8 +316,8 @@ module _ (p : Program) (fit : FitClasses p) (i : ℕ) (c : Class) (there : class
   length_is f None = refl
   length_is f (Some e) = refl
 
-  is_field_at : (k : ℕ) (f : ClassField) (v : Field) → slice_get (fields_of c.members) k ≡ Some f → IsNoted p (leading_cells c.kind + cells_from (class_cells p) (row_at (rows_of p) i).held 0 k) (get_or (row_at (rows_of p) i).held (0 + k) one_scalar) f v → IsFieldAt p c i (leading_cells c.kind + k) f v
-  is_field_at k f v e n =
+  is_field_at : (k : ℕ) (f : ClassField) (v : Field) → slice_get (fields_of c.members) k ≡ Some f → IsNoted p (leading_cells c.kind + cells_from (class_cells p) (row_at (rows_of p) i).held 0 k) (get_or (row_at (rows_of p) i).held (0 + k) one_scalar) f v → v.condition ≡ condition_by f.base (conditions_before (seen_in (constants_of p.items) c) (fields_of c.members) k) → IsFieldAt p c i (leading_cells c.kind + k) f v
+  is_field_at k f v e n counted =
       let hs = (row_at (rows_of p) i).held in
       let named = seen_in (constants_of p.items) c in
       let cs = classes_of p.items in
@@ -346,7 +334,7 @@ module _ (p : Program) (fit : FitClasses p) (i : ℕ) (c : Class) (there : class
       record {
         made = making_is p f.base held ∙ ap (option_map (λ j. making_by j (is_mutex_at p j))) n.class;
         by_number = number;
-        found = λ whose. no_condition p c i whose (record { number = leading_cells c.kind + k; field = f }) f.base held ∙ ap (λ (b : Bool). field_by b f.declarator.by_ref (class_shape p i) (leading_cells c.kind + k) whose (field_type p c f)) number;
+        found = λ none whose. no_condition p c i whose (record { number = leading_cells c.kind + k; field = f }) f.base (conditions_before named fields k) (sym counted ∙ none) ∙ ap (λ (b : Bool). field_by b f.declarator.by_ref (class_shape p i) (leading_cells c.kind + k) whose (field_type p c f)) number;
         by_ref = n.by_ref;
         cell = before ∙ ap (λ x. leading_cells c.kind + x) (sym first) ∙ sym n.cell;
         tells = λ m t s. record {
@@ -359,6 +347,31 @@ module _ (p : Program) (fit : FitClasses p) (i : ℕ) (c : Class) (there : class
         };
       }
 
+  here_is : (k : ℕ) (f : ClassField) → slice_get (fields_of c.members) k ≡ Some f → get_or (row_at (rows_of p) i).held (0 + k) one_scalar ≡ held_of (classes_of p.items) (seen_in (constants_of p.items) c) f
+  here_is k f e =
+      let z : 0 + k ≡ k = omega arith in
+      let hs = (row_at (rows_of p) i).held in
+      ap (λ n. get_or hs n one_scalar) z ∙ ap (λ xs. get_or xs k one_scalar) (held_is p fit i c there) ∙ get_map (held_of (classes_of p.items) (seen_in (constants_of p.items) c)) (fields_of c.members) k f e
+
+  -- they are no more than the cells
+  few_counted : (fs : List ClassField) (j : ℕ) → conditions_before (seen_in (constants_of p.items) c) fs j ≤ first_cells (class_cells p) (map (held_of (classes_of p.items) (seen_in (constants_of p.items) c)) fs) j
+  few_counted [] j = omega arith
+  few_counted (f ∷ fs) zero = omega arith
+  few_counted (f ∷ fs) (suc j) =
+      let a = field_few (classes_of p.items) (seen_in (constants_of p.items) c) (class_cells p) f in
+      let b = few_counted fs j in
+      omega (arith, a, b)
+
+  few_conditions : (j : ℕ) → 0 + conditions_before (seen_in (constants_of p.items) c) (fields_of c.members) j ≤ CLASS_CELLS
+  few_conditions j =
+      let a = few_counted (fields_of c.members) j in
+      let b : first_cells (class_cells p) (row_at (rows_of p) i).held j ≡ first_cells (class_cells p) (map (held_of (classes_of p.items) (seen_in (constants_of p.items) c)) (fields_of c.members)) j = ap (λ hs. first_cells (class_cells p) hs j) (held_is p fit i c there) in
+      let d = few_before p fit i c there j in
+      omega (arith, a, b, d)
+
+  plus_none : (n : ℕ) → 0 + n ≡ n
+  plus_none n = omega arith
+
   few_from : (j : ℕ) → j ≤ length (fields_of c.members) → leading_cells c.kind + cells_from (class_cells p) (row_at (rows_of p) i).held 0 j ≤ CLASS_CELLS
   few_from j l =
       let hs = (row_at (rows_of p) i).held in
@@ -368,14 +381,19 @@ module _ (p : Program) (fit : FitClasses p) (i : ℕ) (c : Class) (there : class
       omega (arith, first, few)
 
   -- a table in which all fields of the class were noted
-  pub are_fields : (old new : FieldTable) → old.fields.items ≡ [] → old.cells ≡ leading_cells c.kind → ((names : List (List ℕ)) → length names ≡ 0 → IsPlaces names old.names) → Notes p (row_at (rows_of p) i).held (fields_of c.members) old new → AreFields p i c new
-  are_fields old new none cells places n =
+  pub are_fields : (old new : FieldTable) → old.fields.items ≡ [] → old.cells ≡ leading_cells c.kind → old.conditions ≡ 0 → ((names : List (List ℕ)) → length names ≡ 0 → IsPlaces names old.names) → Notes p (row_at (rows_of p) i).held (fields_of c.members) old new → AreFields p i c new
+  are_fields old new none cells nothing places n =
       let empty : length old.fields.items ≡ 0 = ap length none in
       let items : new.fields.items ≡ n.more = n.fields ∙ ap (λ xs. xs ++ n.more) none in
       let noted : AreNoted p (row_at (rows_of p) i).held 0 (leading_cells c.kind) (fields_of c.members) n.more new.cells =
       subst (λ k. AreNoted p (row_at (rows_of p) i).held 0 k (fields_of c.members) n.more new.cells) cells (subst (λ k. AreNoted p (row_at (rows_of p) i).held k old.cells (fields_of c.members) n.more new.cells) empty n.noted) in
+      let counts : AreCounted (row_at (rows_of p) i).held 0 0 (fields_of c.members) n.more new.conditions =
+      subst (λ k. AreCounted (row_at (rows_of p) i).held 0 k (fields_of c.members) n.more new.conditions) nothing (subst (λ k. AreCounted (row_at (rows_of p) i).held k old.conditions (fields_of c.members) n.more new.conditions) empty n.counted) in
+      let counted : (k : ℕ) (f : ClassField) (v : Field) → slice_get (fields_of c.members) k ≡ Some f → slice_get new.fields.items k ≡ Some v → v.condition ≡ condition_by f.base (conditions_before (seen_in (constants_of p.items) c) (fields_of c.members) k) =
+      λ k f v e g. counted_at (classes_of p.items) (seen_in (constants_of p.items) c) (row_at (rows_of p) i).held 0 0 new.conditions (fields_of c.members) n.more counts here_is (λ j l. few_conditions j) k f v e (ap (λ xs. slice_get xs k) (sym items) ∙ g) ∙ ap (condition_by f.base) (plus_none (conditions_before (seen_in (constants_of p.items) c) (fields_of c.members) k)) in
       record {
         named = n.named [] (sym empty) (places [] refl);
         long = ap length items ∙ noted_long p (row_at (rows_of p) i).held 0 (leading_cells c.kind) new.cells (fields_of c.members) n.more noted;
-        each = λ k f v e g. is_field_at k f v e (noted_at p (row_at (rows_of p) i).held 0 (leading_cells c.kind) new.cells (fields_of c.members) n.more noted few_from k f v e (ap (λ xs. slice_get xs k) (sym items) ∙ g));
+        each = λ k f v e g. is_field_at k f v e (noted_at p (row_at (rows_of p) i).held 0 (leading_cells c.kind) new.cells (fields_of c.members) n.more noted few_from k f v e (ap (λ xs. slice_get xs k) (sym items) ∙ g)) (counted k f v e g);
+        counted = counted;
       }

@@ -1,5 +1,5 @@
 -- A field that is found by its name in a table.
-use Rattle.std.proofs.Common.{◌≡◌, ℕ, zero, suc, ◌+◌, ◌≤◌, ◌<◌, List, [], ◌∷◌, Bool, true, false, Option, Some, None, if◌then◌else◌, length, map, refl, ap, sym, ◌∙◌, arith}
+use Rattle.std.proofs.Common.{◌≡◌, ℕ, zero, suc, ◌+◌, ◌<◌, List, [], ◌∷◌, Bool, true, false, Option, Some, None, if◌then◌else◌, length, refl, ap, sym, ◌∙◌, arith}
 use Rattle.std.specs.Prelude.{slice_get, MatchOption}
 use Rattle.uc_tree.specs.Names.{same_name}
 use Rattle.uc_tree.specs.Programs.{Class, Program}
@@ -10,9 +10,7 @@ use Rattle.uc_resolve.specs.Resolve.{NumberedField, field_named}
 use Rattle.uc_lower_expr.specs.declared.fields.Field.{Field}
 use Rattle.uc_lower_expr.specs.declared.fields.FieldTable.{FieldTable}
 use Rattle.uc_lower_expr.specs.Members.{AreFields, IsField, no_field}
-
-abbrev pub names_of : List ClassField → List (List ℕ)
-names_of fs = map (λ f. f.declarator.name) fs
+use Rattle.uc_lower_expr.proofs.Counting.{condition_found, low, names_of}
 
 abbrev numbered : ℕ → ClassField → NumberedField
 numbered n f = record { number = n; field = f }
@@ -21,15 +19,7 @@ names_long : (fs : List ClassField) → length (names_of fs) ≡ length fs
 names_long [] = refl
 names_long (x ∷ xs) = ap suc (names_long xs)
 
--- a place is at least that of the first, and at most that of the last
-
-low_case : (i k : ℕ) (b : Bool) (o : Option ℕ) → (o ≡ Some k → i + 1 ≤ k) → (if b then Some i else o) ≡ Some k → i ≤ k
-low_case i k true o r h = let is : i ≡ k = cc in omega (arith, is)
-low_case i k false o r h = let q = r h in omega (arith, q)
-
-low : (names : List (List ℕ)) (i : ℕ) (name : List ℕ) (k : ℕ) → place_from i names name ≡ Some k → i ≤ k
-low [] i name k e = cc
-low (n ∷ ns) i name k e = low_case i k (same_name n name) (place_from (i + 1) ns name) (low ns (i + 1) name k) e
+-- a place is at most that of the last
 
 high_case : (i k m : ℕ) (b : Bool) (o : Option ℕ) → (o ≡ Some k → k < i + 1 + m) → (if b then Some i else o) ≡ Some k → k < i + suc m
 high_case i k m true o r h = let is : i ≡ k = cc in omega (arith, is)
@@ -85,6 +75,7 @@ module _ (p : Program) (i : ℕ) (c : Class) (t : FieldTable) (name : List ℕ) 
         numbered = numbered (leading_cells c.kind + k) f;
         is = found_at (fields_of c.members) 0 (leading_cells c.kind) k name f (e ∙ ap (λ n. Some n) z) h;
         at = are.each k f v h g;
+        condition = condition_found p c i k (leading_cells c.kind + k) name f v e h (are.counted k f v h g);
       }
 
   pub field_found : (k : ℕ) (r : Option Field) → place_from 0 (names_of (fields_of c.members)) name ≡ Some k → r ≡ slice_get t.fields.items k → MatchOption r (no_field p i name (Some c)) (λ v. IsField p i name v)

@@ -1,5 +1,6 @@
 pub mod Adding
 pub mod Arms
+pub mod Counting
 pub mod Eventful
 pub mod Exclusive
 pub mod FieldLemmas

@@ -1,6 +1,6 @@
 -- What names of members stand for, and their code.
-use Rattle.std.proofs.Common.{◌≡◌, ℕ, ◌≤◌, pos, List, Bool, true, false, Option, Some, None, Ok, Err, length, refl, ap, sym, subst, ◌∙◌, arith}
-use Rattle.std.specs.Prelude.{Result, OnOk, IfOk, ◌&&◌, ◌||◌, if◌then◌else◌}
+use Rattle.std.proofs.Common.{◌≡◌, ℕ, ℤ, ◌≤◌, pos, List, Bool, true, false, Option, Some, None, Ok, Err, length, refl, ap, sym, subst, ◌∙◌, arith}
+use Rattle.std.specs.Prelude.{Result, OnOk, IfOk, ◌&&◌, ◌||◌, if◌then◌else◌, option_map}
 use Rattle.uc_tree.specs.declared.limits.TheConstants.{OPS_FOR_SIZE}
 use Rattle.uc_tree.specs.declared.kinds.Ty.{Ty}
 use Rattle.uc_tree.specs.Names.{same_name, fail_name}
@@ -9,7 +9,7 @@ use Rattle.uc_tree.specs.Source.{Shape, Expr, Literal, field_cells}
 use Rattle.uc_tree.specs.declared.kinds.Kind.{Kind}
 use Rattle.uc_tree.specs.Numbering.{is_event, member_number, routines_of}
 use Rattle.uc_tree.specs.Objects.{is_coroutine, class_at, class_shape, class_made, making, member_from, number_at, event_place}
-use Rattle.uc_resolve.specs.Resolve.{Meant, Standing, AtPlace, AsValue, AsInput, AsFail, AsMember, AsLiveMember, AsMutexMember, no_meaning, NumberedField, class_or_event, field_type, Whose, Own, Of, object_of_whose, field_by, field_by_ref, field_found, method_by, method_standing, member_by, member_in, member_meant, meant_or, own_meant, item_meant, constant_meant_by, routine_meant_by, object_member, place_member, part_by, field_meant, bool_type, result_of, scalar}
+use Rattle.uc_resolve.specs.Resolve.{Meant, Standing, AsValue, AsInput, AsFail, AsMember, AsLiveMember, AsMutexMember, no_meaning, NumberedField, class_or_event, call_of_condition, condition_call, condition_meant, field_type, Whose, Own, Of, object_of_whose, field_by, field_by_ref, field_found, method_by, method_standing, member_by, member_in, member_meant, meant_or, own_meant, item_meant, constant_meant_by, routine_meant_by, object_member, place_member, part_by, field_meant, bool_type, result_of, scalar}
 use Rattle.uc_code.specs.declared.op.Op.{Op}
 use Rattle.uc_code.specs.declared.op.Op.TheVariants as op
 use Rattle.uc_code.specs.declared.rows.Mark.{Mark}
@@ -19,13 +19,14 @@ use Rattle.uc_code.specs.CodeShapes.{One}
 use Rattle.uc_code.specs.Lowered.{ExprAt}
 use Rattle.uc_code.proofs.Stable.{one_stable}
 use Rattle.uc_lower_expr.specs.declared.meaning.Scalar.TheVariants as shape
+use Rattle.uc_lower_expr.specs.declared.meaning.ConditionCall.{ConditionCall as TheCall}
 use Rattle.uc_lower_expr.specs.declared.meaning.Standing.{Standing as Told}
 use Rattle.uc_lower_expr.specs.declared.meaning.Standing.TheVariants as standing
 use Rattle.uc_lower_expr.specs.declared.meaning.Meaning.{Meaning}
 use Rattle.uc_lower_expr.specs.declared.fields.Field.{Field}
 use Rattle.uc_lower_expr.specs.declared.numbering.Fixed.{Fixed}
 use Rattle.uc_lower_expr.specs.Numbered.{IsFixed}
-use Rattle.uc_lower_expr.specs.Meanings.{FieldAt, Begins, StandsAs, Tells, is_coroutine_in, member_standing, mutex_number_in}
+use Rattle.uc_lower_expr.specs.Meanings.{FieldAt, Begins, StandsAs, Tells, call_of, is_coroutine_in, member_standing, mutex_number_in}
 use Rattle.uc_lower_expr.specs.Members.{IsFieldAt, IsField, held_standing, no_field, member_at}
 use Rattle.uc_lower_expr.specs.DraftGrowth.{Adds, ExprCode, Grows, OpCode}
 use Rattle.uc_lower_expr.specs.Parts.{FieldCode, Restarts, own_place_op, own_standing, input_told}
@@ -55,8 +56,12 @@ module _ (p : Program) (i : ℕ) (name : List ℕ) where
   field_in : (whose : Whose) (o : Option Class) (v : Field) (f : IsField p i name v) → o ≡ Some f.class → member_in p i whose name o ≡ field_found p f.class i whose f.numbered
   field_in whose o v f e = ap (member_in p i whose name) e ∙ ap (member_by p f.class i whose name) f.is
 
-  pub field_is : (whose : Whose) (v : Field) (f : IsField p i name v) → member_meant p i whose name ≡ field_by v.number f.numbered.field.declarator.by_ref (class_shape p i) f.numbered.number whose (field_type p f.class f.numbered.field)
-  field_is whose v f = field_in whose (class_at p i) v f f.there ∙ f.at.found whose
+  pub field_is : (whose : Whose) (v : Field) (f : IsField p i name v) → v.condition ≡ None → member_meant p i whose name ≡ field_by v.number f.numbered.field.declarator.by_ref (class_shape p i) f.numbered.number whose (field_type p f.class f.numbered.field)
+  field_is whose v f none = field_in whose (class_at p i) v f f.there ∙ f.at.found none whose
+
+  -- a condition
+  pub condition_is : (whose : Whose) (v : Field) (k : ℕ) (f : IsField p i name v) → v.condition ≡ Some k → member_meant p i whose name ≡ condition_meant k (field_type p f.class f.numbered.field)
+  condition_is whose v k f e = field_in whose (class_at p i) v f f.there ∙ f.condition k e whose
 
   -- no field
 
@@ -99,8 +104,11 @@ module _ (p : Program) (i : ℕ) (name : List ℕ) where
   own_field_by false true s k ty = refl
   own_field_by false false s k ty = refl
 
-  pub own_field : (v : Field) (f : IsField p i name v) → own_meant p (Some i) name ≡ field_by v.number f.numbered.field.declarator.by_ref (class_shape p i) f.numbered.number Own (field_type p f.class f.numbered.field)
-  own_field v f = own_by _ (field_is Own v f) ∙ own_field_by v.number f.numbered.field.declarator.by_ref (class_shape p i) f.numbered.number (field_type p f.class f.numbered.field)
+  pub own_field : (v : Field) (f : IsField p i name v) → v.condition ≡ None → own_meant p (Some i) name ≡ field_by v.number f.numbered.field.declarator.by_ref (class_shape p i) f.numbered.number Own (field_type p f.class f.numbered.field)
+  own_field v f none = own_by _ (field_is Own v f none) ∙ own_field_by v.number f.numbered.field.declarator.by_ref (class_shape p i) f.numbered.number (field_type p f.class f.numbered.field)
+
+  pub own_condition : (v : Field) (k : ℕ) (f : IsField p i name v) → v.condition ≡ Some k → own_meant p (Some i) name ≡ condition_meant k (field_type p f.class f.numbered.field)
+  own_condition v k f e = own_by (condition_meant k (field_type p f.class f.numbered.field)) (condition_is Own v k f e)
 
   own_method_by : (m : Option ℕ) (d : Bool) (r : ℕ) → meant_or (method_as p m d Own r).standing (method_as p m d Own r) (item_meant p name) ≡ method_as p m d Own r
   own_method_by (Some m) d r = refl
@@ -124,11 +132,20 @@ own_told_by p c i f v true b h = field_told p c i f v standing.Number (field_by 
 own_told_by p c i f v false true h = field_told p c i f v standing.Place (field_by false true (class_shape p i) f.number Own (field_type p c f.field)) h refl refl
 own_told_by p c i f v false false h = field_told p c i f v (standing.Field v.cell) (field_by false false (class_shape p i) f.number Own (field_type p c f.field)) h refl (Begins (class_shape p i) f.number h.cell)
 
-pub own_told : (p : Program) (i : ℕ) (name : List ℕ) (v : Field) (x : Told) (t : Meaning) → IsField p i name v → x ≡ own_standing v.number v.by_ref v.cell → t ≡ record v.told { standing = x } → Tells p t (own_meant p (Some i) name)
-own_told p i name v x t f e is =
+pub own_told : (p : Program) (i : ℕ) (name : List ℕ) (v : Field) (x : Told) (t : Meaning) → IsField p i name v → v.condition ≡ None → x ≡ own_standing v.number v.by_ref v.cell → t ≡ record v.told { standing = x } → Tells p t (own_meant p (Some i) name)
+own_told p i name v x t f none e is =
     subst (λ (y : Meaning). Tells p y (own_meant p (Some i) name)) (sym (is ∙ ap (λ (y : Told). let w : Meaning = record v.told { standing = y } in w) e)) (
-    subst (λ (y : Meant). Tells p (record v.told { standing = own_standing v.number v.by_ref v.cell }) y) (sym (own_field p i name v f)) (
+    subst (λ (y : Meant). Tells p (record v.told { standing = own_standing v.number v.by_ref v.cell }) y) (sym (own_field p i name v f none)) (
     subst (λ (b : Bool). Tells p (record v.told { standing = own_standing v.number v.by_ref v.cell }) (field_by v.number b (class_shape p i) f.numbered.number Own (field_type p f.class f.numbered.field))) (sym f.at.by_ref) (own_told_by p f.class i f.numbered v v.number v.by_ref f.at)))
+
+-- what is told of a condition
+condition_told : (p : Program) (i k : ℕ) (name : List ℕ) (v : Field) (f : IsField p i name v) → Tells p (record v.told { standing = standing.Condition k }) (condition_meant k (field_type p f.class f.numbered.field))
+condition_told p i k name v f = field_told p f.class i f.numbered v (standing.Condition k) (condition_meant k (field_type p f.class f.numbered.field)) f.at refl refl
+
+pub own_condition_told : (p : Program) (i k : ℕ) (name : List ℕ) (v : Field) (t : Meaning) → IsField p i name v → v.condition ≡ Some k → t ≡ record v.told { standing = standing.Condition k } → Tells p t (own_meant p (Some i) name)
+own_condition_told p i k name v t f e is =
+    subst (λ (y : Meaning). Tells p y (own_meant p (Some i) name)) (sym is) (
+    subst (λ (y : Meant). Tells p (record v.told { standing = standing.Condition k }) y) (sym (own_condition p i name v k f e)) (condition_told p i k name v f))
 
 own_standing_told : (m : Option ℕ) (d : Bool) (r : ℕ) → StandsAs (member_standing m false r) (path_standing m d Own r)
 own_standing_told (Some m) d r = refl
@@ -176,12 +193,22 @@ module _ (ms : List Mark) (line : ℕ) where
   held_code_by true b s j k ty code a z e h = subst (λ (x : ℕ). One code (op.ViaThis x) line a z) (sym e) h
   held_code_by false b s j k ty code a z e h = own_code_by b s j k ty code a z e h
 
-  pub own_code : (p : Program) (i : ℕ) (name : List ℕ) (v : Field) (held : Bool) (o : Op) (old new : Draft) → IsField p i name v → held ≡ (v.number || v.by_ref) → o ≡ own_place_op held v.cell → Adds 1 (OpCode line o) old new → Adds 1 (ExprCode line ms (own_meant p (Some i) name).expr) old new
-  own_code p i name v held o old new f is e h =
-      subst (λ (m : Meant). Adds 1 (ExprCode line ms m.expr) old new) (sym (own_field p i name v f)) (
+  pub own_code : (p : Program) (i : ℕ) (name : List ℕ) (v : Field) (held : Bool) (o : Op) (old new : Draft) → IsField p i name v → v.condition ≡ None → held ≡ (v.number || v.by_ref) → o ≡ own_place_op held v.cell → Adds 1 (OpCode line o) old new → Adds 1 (ExprCode line ms (own_meant p (Some i) name).expr) old new
+  own_code p i name v held o old new f none is e h =
+      subst (λ (m : Meant). Adds 1 (ExprCode line ms m.expr) old new) (sym (own_field p i name v f none)) (
       adds_as h (λ code a z w. held_code_by v.number f.numbered.field.declarator.by_ref (class_shape p i) f.numbered.number v.cell (field_type p f.class f.numbered.field) code a z f.at.cell (
       subst (λ (b : Bool). One code (own_place_op (v.number || b) v.cell) line a z) (sym f.at.by_ref) (
       subst (λ (b : Bool). One code (own_place_op b v.cell) line a z) is (subst (λ (x : Op). One code x line a z) e w)))))
+
+  pub own_condition_code : (p : Program) (i k : ℕ) (n : ℤ) (name : List ℕ) (v : Field) (old new : Draft) → IsField p i name v → v.condition ≡ Some k → n ≡ pos k → Adds 1 (OpCode line (op.Push n)) old new → Adds 1 (ExprCode line ms (own_meant p (Some i) name).expr) old new
+  own_condition_code p i k n name v old new f e is h =
+      subst (λ (m : Meant). Adds 1 (ExprCode line ms m.expr) old new) (sym (own_condition p i name v k f e)) (subst (λ (x : ℤ). Adds 1 (OpCode line (op.Push x)) old new) is h)
+
+  pub arm_condition : (p : Program) (i a k : ℕ) (n : ℤ) (name : List ℕ) (v : Field) (s t : Meaning) (old new : Draft) → a ≤ length old.ops → IsField p i name v → v.condition ≡ Some k → n ≡ pos k → t ≡ record v.told { standing = standing.Condition k } → Restarts (op.Push n) line a old new → Grows p OPS_FOR_SIZE line ms a (λ m. member_meant p i (Of m.expr) name) s t old new
+  arm_condition p i a k n name v s t old new l f e is q h =
+      grows_restart OPS_FOR_SIZE line ms a (λ m. member_meant p i (Of m.expr) name) s t (op.Push n) old new (omega arith) l h
+      (λ m u. subst (λ (y : Meaning). Tells p y (member_meant p i (Of m.expr) name)) (sym q) (subst (λ (y : Meant). Tells p (record v.told { standing = standing.Condition k }) y) (sym (condition_is p i name (Of m.expr) v k f e)) (condition_told p i k name v f)))
+      (λ m u code z w. subst (λ (y : Meant). ExprAt code line ms y.expr a z) (sym (condition_is p i name (Of m.expr) v k f e)) (subst (λ (x : ℤ). One code (op.Push x) line a z) is w))
 
   pub own_method_code : (p : Program) (i r : ℕ) (name : List ℕ) (old new : Draft) → no_field p i name (class_at p i) → member_at p i name (class_at p i) ≡ Some r → Adds 1 (OpCode line op.Own) old new → Adds 1 (ExprCode line ms (own_meant p (Some i) name).expr) old new
   own_method_code p i r name old new h k w = subst (λ (m : Meant). Adds 1 (ExprCode line ms m.expr) old new) (sym (own_method p i name r h k)) w
@@ -204,13 +231,13 @@ module _ (ms : List Mark) (line : ℕ) where
   type_by false true s n e ty = refl
   type_by false false s n e ty = refl
 
-  pub arm_field : (p : Program) (i a : ℕ) (name : List ℕ) (v : Field) (s : Meaning) (old new : Draft) → a ≤ length old.ops → IsField p i name v → Adds 2 (FieldCode line (v.number || v.by_ref) v.cell) old new → Grows p OPS_FOR_SIZE line ms a (λ m. member_meant p i (Of m.expr) name) s v.told old new
-  arm_field p i a name v s old new l f h =
+  pub arm_field : (p : Program) (i a : ℕ) (name : List ℕ) (v : Field) (s : Meaning) (old new : Draft) → a ≤ length old.ops → IsField p i name v → v.condition ≡ None → Adds 2 (FieldCode line (v.number || v.by_ref) v.cell) old new → Grows p OPS_FOR_SIZE line ms a (λ m. member_meant p i (Of m.expr) name) s v.told old new
+  arm_field p i a name v s old new l f none h =
       let b = f.numbered.field.declarator.by_ref in
       let ty = field_type p f.class f.numbered.field in
       grows_adds OPS_FOR_SIZE line ms a (λ m. member_meant p i (Of m.expr) name) s v.told (FieldCode line (v.number || v.by_ref) v.cell) old new l (adds_more (omega arith) h)
-      (λ m u. subst (λ (x : Meant). Tells p v.told x) (sym (field_is p i name (Of m.expr) v f)) (f.at.tells (field_by v.number b (class_shape p i) f.numbered.number (Of m.expr) ty) (type_by v.number b (class_shape p i) f.numbered.number m.expr ty) (place_by v.number b (class_shape p i) f.numbered.number m.expr ty)))
-      (λ m u code c z w g. subst (λ (x : Meant). ExprAt code line ms x.expr a z) (sym (field_is p i name (Of m.expr) v f)) (
+      (λ m u. subst (λ (x : Meant). Tells p v.told x) (sym (field_is p i name (Of m.expr) v f none)) (f.at.tells (field_by v.number b (class_shape p i) f.numbered.number (Of m.expr) ty) (type_by v.number b (class_shape p i) f.numbered.number m.expr ty) (place_by v.number b (class_shape p i) f.numbered.number m.expr ty)))
+      (λ m u code c z w g. subst (λ (x : Meant). ExprAt code line ms x.expr a z) (sym (field_is p i name (Of m.expr) v f none)) (
       field_code_by v.number b (class_shape p i) f.numbered.number v.cell ty m.expr code a c z f.at.cell w (subst (λ (y : Bool). FieldCode line (v.number || y) v.cell code c z) (sym f.at.by_ref) g)))
 
   pub arm_method : (p : Program) (i a r : ℕ) (name : List ℕ) (s u t : Meaning) (old : Draft) → a ≤ length old.ops → no_field p i name (class_at p i) → member_at p i name (class_at p i) ≡ Some r → ((e : Expr) → Tells p u (record { expr = e; ty = scalar (result_of p r); standing = AsValue })) → t ≡ record u { standing = member_standing (mutex_number_in (class_at p i) name) (is_coroutine_in (class_at p i)) r } → Grows p OPS_FOR_SIZE line ms a (λ m. member_meant p i (Of m.expr) name) s t old old
@@ -291,6 +318,28 @@ at_place_member r p n line ms a name s old new e h = grown_told r p n line ms a 
 
 pub number_member : {E : Type 0} (r : Result Meaning E) (p : Program) (n line : ℕ) (ms : List Mark) (a : ℕ) (name : List ℕ) (s : Meaning) (old new : Draft) → s.standing ≡ standing.Number → IfOk r (λ t. Grows p n line ms a (λ m. place_member p m.ty.len m name) s t old new) → IfOk r (λ t. Grows p n line ms a (λ m. field_meant p m name) s t old new)
 number_member r p n line ms a name s old new e h = grown_told r p n line ms a (λ m. place_member p m.ty.len m name) (λ m. field_meant p m name) s old new (number_part p name s e) h
+
+-- a condition has calls
+
+condition_part : (p : Program) (name : List ℕ) (k : ℕ) (s : Meaning) → s.standing ≡ standing.Condition k → (m : Meant) → Tells p s m → field_meant p m name ≡ call_of_condition m (condition_call name)
+condition_part p name k s e m u = ap (λ (o : Standing). part_by p o m name) (stands s m (standing.Condition k) u e)
+
+pub called_by : (name : List ℕ) (r o : Option TheCall) → option_map call_of r ≡ condition_call name → r ≡ o → option_map call_of o ≡ condition_call name
+called_by name r o h e = ap (option_map call_of) (sym e) ∙ h
+
+pub arm_named_call : (p : Program) (ms : List Mark) (line a k : ℕ) (c : TheCall) (name : List ℕ) (s t : Meaning) (old : Draft) → a ≤ length old.ops → s.standing ≡ standing.Condition k → Some (call_of c) ≡ condition_call name → t ≡ record { scalar = shape.Number; class = None; numbered = false; event = None; elements = None; standing = standing.CallOf c } → Grows p OPS_FOR_SIZE line ms a (λ m. field_meant p m name) s t old old
+arm_named_call p ms line a k c name s t old l e h q = record {
+  rest = refl;
+  front = record { same = λ j o n x y w. w; chains = λ next x w. refl; handlers = λ k e w. w };
+  past = l;
+  room = omega arith;
+  code = λ m st.
+      let is : field_meant p m name ≡ call_of_condition m (Some (call_of c)) = condition_part p name k s e m st.tells ∙ ap (call_of_condition m) (sym h) in
+      record {
+        tells = subst (λ (x : Meant). Tells p t x) (sym is) (subst (λ (y : Meaning). Tells p y (call_of_condition m (Some (call_of c)))) (sym q) (record { shape = refl; class = refl; numbered = refl; event = refl; len = refl; standing = refl }));
+        code = subst (λ (x : Meant). ExprAt (record { ops = old.ops; rows = old.rows }) line ms x.expr a (length old.ops)) (sym is) st.code;
+      };
+}
 
 -- `cin` has one member
 

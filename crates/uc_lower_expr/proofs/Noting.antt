@@ -16,9 +16,9 @@ use Rattle.uc_layout.specs.Places.{IsPlaces}
 use Rattle.uc_lower_expr.specs.declared.fields.Field.{Field}
 use Rattle.uc_lower_expr.specs.declared.fields.FieldTable.{FieldTable}
 use Rattle.uc_lower_expr.specs.Members.{AreFields, AreTables, IsNthField, no_field_at, object_places}
-use Rattle.uc_lower_expr.specs.FieldTables.{one_scalar, IsNoted, AreNoted, NoMore, OneMore, HasNames, Notes}
+use Rattle.uc_lower_expr.specs.FieldTables.{one_scalar, condition_by, conditions_by, IsNoted, AreNoted, NoMore, OneMore, AreCounted, NoneCounted, OneCounted, HasNames, Notes}
 use Rattle.uc_lower_expr.proofs.FieldLemmas.{noted_long}
-use Rattle.uc_lower_expr.proofs.Finding.{names_of}
+use Rattle.uc_lower_expr.proofs.Counting.{names_of}
 use Rattle.uc_lower_expr.proofs.Knowing.{places_push}
 
 -- lists of fields
@@ -41,10 +41,12 @@ module _ (p : Program) (held : List Held) where
     more = [];
     fields = sym (append-nil t.fields.items);
     noted = NoMore (length t.fields.items) t.cells;
+    counted = NoneCounted (length t.fields.items) t.conditions;
   }
 
-  pub notes_one : (f : ClassField) (v : Field) (old new : FieldTable) → HasNames old → ((names : List (List ℕ)) → length names ≡ length old.fields.items → IsPlaces names old.names → IsPlaces (names ++ f.declarator.name ∷ []) new.names) → new.fields.items ≡ old.fields.items ++ v ∷ [] → IsNoted p old.cells (get_or held (length old.fields.items) one_scalar) f v → new.cells ≡ capped (old.cells + held_cells (class_cells p) (get_or held (length old.fields.items) one_scalar)) → Notes p held (f ∷ []) old new
-  notes_one f v old new h named fields is cells =
+  pub notes_one : (f : ClassField) (v : Field) (old new : FieldTable) → HasNames old → ((names : List (List ℕ)) → length names ≡ length old.fields.items → IsPlaces names old.names → IsPlaces (names ++ f.declarator.name ∷ []) new.names) → new.fields.items ≡ old.fields.items ++ v ∷ [] → IsNoted p old.cells (get_or held (length old.fields.items) one_scalar) f v → new.cells ≡ capped (old.cells + held_cells (class_cells p) (get_or held (length old.fields.items) one_scalar))
+      → v.condition ≡ condition_by f.base old.conditions → new.conditions ≡ capped (old.conditions + conditions_by f.base (get_or held (length old.fields.items) one_scalar).count) → Notes p held (f ∷ []) old new
+  notes_one f v old new h named fields is cells number counts =
       let names = h.names in
       let long : length (names ++ f.declarator.name ∷ []) ≡ length new.fields.items = length-append names (f.declarator.name ∷ []) ∙ ap (λ n. n + 1) h.long ∙ sym (ap length fields ∙ length-append old.fields.items (v ∷ [])) in
       record {
@@ -53,6 +55,7 @@ module _ (p : Program) (held : List Held) where
         more = v ∷ [];
         fields = fields;
         noted = subst (λ n. AreNoted p held (length old.fields.items) old.cells (f ∷ []) (v ∷ []) n) (sym cells) (OneMore (length old.fields.items) old.cells (capped (old.cells + held_cells (class_cells p) (get_or held (length old.fields.items) one_scalar))) f v [] [] is (NoMore (length old.fields.items + 1) (capped (old.cells + held_cells (class_cells p) (get_or held (length old.fields.items) one_scalar)))));
+        counted = subst (λ n. AreCounted held (length old.fields.items) old.conditions (f ∷ []) (v ∷ []) n) (sym counts) (OneCounted (length old.fields.items) old.conditions (capped (old.conditions + conditions_by f.base (get_or held (length old.fields.items) one_scalar).count)) f v [] [] number (NoneCounted (length old.fields.items + 1) (capped (old.conditions + conditions_by f.base (get_or held (length old.fields.items) one_scalar).count))));
       }
 
   noted_both : (place cells mid last : ℕ) (fs gs : List ClassField) (vs ws : List Field) → AreNoted p held place cells fs vs mid → AreNoted p held (place + length fs) mid gs ws last → AreNoted p held place cells (fs ++ gs) (vs ++ ws) last
@@ -60,6 +63,12 @@ module _ (p : Program) (held : List Held) where
   noted_both place cells mid last fs gs vs ws (OneMore q n l x y xs ys one more) h =
       let e : q + suc (length xs) ≡ q + 1 + length xs = omega arith in
       OneMore q n last x y (xs ++ gs) (ys ++ ws) one (noted_both (q + 1) _ l last xs gs ys ws more (subst (λ k. AreNoted p held k l gs ws last) e h))
+
+  counted_both : (place count mid last : ℕ) (fs gs : List ClassField) (vs ws : List Field) → AreCounted held place count fs vs mid → AreCounted held (place + length fs) mid gs ws last → AreCounted held place count (fs ++ gs) (vs ++ ws) last
+  counted_both place count mid last fs gs vs ws (NoneCounted q n) h = let e : q + 0 ≡ q = omega arith in subst (λ k. AreCounted held k n gs ws last) e h
+  counted_both place count mid last fs gs vs ws (OneCounted q n l x y xs ys one more) h =
+      let e : q + suc (length xs) ≡ q + 1 + length xs = omega arith in
+      OneCounted q n last x y (xs ++ gs) (ys ++ ws) one (counted_both (q + 1) _ l last xs gs ys ws more (subst (λ k. AreCounted held k l gs ws last) e h))
 
   pub notes_both : (fs gs : List ClassField) (a b c : FieldTable) → Notes p held fs a b → Notes p held gs b c → Notes p held (fs ++ gs) a c
   notes_both fs gs a b c x y =
@@ -72,6 +81,7 @@ module _ (p : Program) (held : List Held) where
         more = x.more ++ y.more;
         fields = y.fields ∙ ap (λ is. is ++ y.more) x.fields ∙ append_assoc a.fields.items x.more y.more;
         noted = noted_both (length a.fields.items) a.cells b.cells c.cells fs gs x.more y.more x.noted (subst (λ k. AreNoted p held k b.cells gs y.more c.cells) long y.noted);
+        counted = counted_both (length a.fields.items) a.conditions b.conditions c.conditions fs gs x.more y.more x.counted (subst (λ k. AreCounted held k b.conditions gs y.more c.conditions) long y.counted);
       }
 
 pub sum_capped : (a x b r : ℕ) → x ≡ capped b → r ≡ capped (a + x) → r ≡ capped (a + b)

@@ -1,5 +1,5 @@
 -- The code of an expression goes on standing where its own range does not change.
-use Rattle.std.proofs.Common.{ℕ, List, Bool, true, false, pos}
+use Rattle.std.proofs.Common.{ℕ, List, true, false, pos}
 use Rattle.uc_tree.specs.declared.limits.TheConstants.{DESTRUCTOR}
 use Rattle.uc_tree.specs.Source.{Shape, Integer, Character, Truth, Binding, Last, Field, Array, shape_cells, field_cells, Expr, Literal, Variable, Element, Get, Load, Negated, Not, AsCharacter, AsTruth, Operate, And, Or, Set, Assign, First, Update, StepBehind, Fail, Call, OfObject, ObjectExpr, This, OwnField, GetOwn, FieldOf, Counted, CallOn, CallUnwritten, CallLive, EnterOn, EndOn, Bind, MakeOn, NewCluster, NewProcessor, EndCluster, EndProcessor, ConditionAt, Wait, Signal, SignalBlock, IsEmpty, FrontOf, Exprs, NoExprs, MoreExprs}
 use Rattle.uc_code.specs.declared.op.Op.TheVariants as op
@@ -7,7 +7,7 @@ use Rattle.uc_code.specs.declared.rows.Mark.{Mark}
 use Rattle.uc_code.specs.Layout.{Laid}
 use Rattle.uc_code.specs.CodeShapes.{One, Both, Fork, Stable}
 use Rattle.uc_code.specs.Lowered.{operator_op, ExprAt, ObjectAt}
-use Rattle.uc_code.proofs.Stable.{nothing_stable, never_stable, one_stable, risk_stable, calls_behind_stable, both_stable, fork_stable}
+use Rattle.uc_code.proofs.Stable.{nothing_stable, one_stable, poll_stable, risk_stable, calls_behind_stable, both_stable, fork_stable}
 use Rattle.uc_lower_expr.specs.DraftGrowth.{ExprCode, ArgumentsCode, ConvertCode}
 use Rattle.uc_lower_expr.specs.Parts.{BeginCode}
 
@@ -64,16 +64,16 @@ mutual
   object_stable line ms (EndOn r true e) = both (expr_stable line ms e) (both (one_stable op.Tick line) (both (one_stable (op.Enter DESTRUCTOR r) line) (risk_stable ms (op.CallOn r) line)))
   object_stable line ms (MakeOn c r false e es) = both (expr_stable line ms e) (both (args_stable line ms es) (both (one_stable (op.Make c r) line) (both (one_stable (op.BindMade c r) line) (calls_behind_stable ms r line))))
   object_stable line ms (MakeOn c r true e es) = both (expr_stable line ms e) (both (args_stable line ms es) (both (one_stable op.Tick line) (both (one_stable (op.Make c r) line) (both (one_stable (op.BindMade c r) line) (risk_stable ms (op.CallOn r) line)))))
-  object_stable line ms NewCluster = never_stable
-  object_stable line ms (NewProcessor e) = never_stable
-  object_stable line ms (EndCluster e) = never_stable
-  object_stable line ms (EndProcessor e) = never_stable
-  object_stable line ms (ConditionAt k n e) = never_stable
-  object_stable line ms (Wait c n) = never_stable
-  object_stable line ms (Signal c) = never_stable
-  object_stable line ms (SignalBlock c) = never_stable
-  object_stable line ms (IsEmpty c) = never_stable
-  object_stable line ms (FrontOf c) = never_stable
+  object_stable line ms NewCluster = one_stable op.Cluster line
+  object_stable line ms (NewProcessor e) = both (expr_stable line ms e) (one_stable op.Processor line)
+  object_stable line ms (EndCluster e) = both (expr_stable line ms e) (one_stable op.ClusterEnd line)
+  object_stable line ms (EndProcessor e) = both (expr_stable line ms e) (one_stable op.ProcessorEnd line)
+  object_stable line ms (ConditionAt k n e) = both (expr_stable line ms e) (one_stable (op.Condition k n) line)
+  object_stable line ms (Wait c n) = both (expr_stable line ms c) (both (expr_stable line ms n) (both (one_stable op.Wait line) (poll_stable ms line)))
+  object_stable line ms (Signal c) = both (expr_stable line ms c) (one_stable op.Signal line)
+  object_stable line ms (SignalBlock c) = both (expr_stable line ms c) (one_stable op.SignalBlock line)
+  object_stable line ms (IsEmpty c) = both (expr_stable line ms c) (one_stable op.Empty line)
+  object_stable line ms (FrontOf c) = both (expr_stable line ms c) (one_stable op.Front line)
 
   pub args_stable : (line : ℕ) (ms : List Mark) (es : Exprs) → Stable (ArgumentsCode line ms es)
   args_stable line ms NoExprs = nothing_stable

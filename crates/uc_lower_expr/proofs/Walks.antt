@@ -23,9 +23,9 @@ use Rattle.uc_tree.specs.Expressions as tree
 use Rattle.uc_tree.specs.Expressions.{exprs_of, parts_of, links_of}
 use Rattle.uc_tree.specs.ExpressionViews.{expr_at, part_at}
 use Rattle.uc_tree.specs.ExpressionSizes.{expr_size, exprs_size, part_size, parts_size, link_size, links_size}
-use Rattle.uc_tree.specs.Source.{Shape, shape_cells, Plus, Minus, Times, Over, Modulo, Expr, Element, Call, OfObject, CallOn, CallLive, EnterOn, Exprs, NoExprs, MoreExprs}
+use Rattle.uc_tree.specs.Source.{Shape, shape_cells, Plus, Minus, Times, Over, Modulo, Expr, Element, Call, OfObject, CallOn, CallLive, EnterOn, ConditionAt, Exprs, NoExprs, MoreExprs}
 use Rattle.uc_tree.specs.Objects.{class_made, is_numbered, making, base_shape, shape_of}
-use Rattle.uc_resolve.specs.Resolve.{Meant, Context, meant, value_by, value_of, converted, Standing, AsValue, unary_meant, binary_meant, assign_meant, written_by, variable_in, link_meant, chain_meant, part_meant, args_meant, arg_meant, args_by, params_of, parts_meant, has_number, one_of, place_or_number, element_in, element_by, element_meant, call_by, call_meant, step_meant, no_meaning}
+use Rattle.uc_resolve.specs.Resolve.{Meant, Context, meant, value_by, value_of, converted, Standing, AsCondition, AsValue, ConditionCall, Waits, Signals, SignalsBlocking, AsksEmpty, AsksFront, condition_called, stored_by, unary_meant, binary_meant, assign_meant, written_by, variable_in, link_meant, chain_meant, part_meant, args_meant, arg_meant, args_by, params_of, parts_meant, has_number, one_of, place_or_number, element_in, element_by, element_meant, call_by, call_meant, step_meant, no_meaning}
 use Rattle.uc_code.specs.declared.op.Op.{Op}
 use Rattle.uc_code.specs.declared.op.Op.TheVariants as op
 use Rattle.uc_code.specs.declared.rows.Mark.{Mark}
@@ -36,14 +36,16 @@ use Rattle.uc_code.specs.Lowered.{ExprAt, ArgumentsAt}
 use Rattle.uc_code.proofs.Stable.{one_stable}
 use Rattle.uc_lower_expr.specs.declared.meaning.Scalar.{Scalar}
 use Rattle.uc_lower_expr.specs.declared.meaning.Scalar.TheVariants as scalar
+use Rattle.uc_lower_expr.specs.declared.meaning.ConditionCall.{ConditionCall as TheCall}
+use Rattle.uc_lower_expr.specs.declared.meaning.ConditionCall.TheVariants as calls
 use Rattle.uc_lower_expr.specs.declared.meaning.Standing.{Standing as Told}
 use Rattle.uc_lower_expr.specs.declared.meaning.Standing.TheVariants as standing
 use Rattle.uc_lower_expr.specs.declared.meaning.Meaning.{Meaning}
 use Rattle.uc_lower_expr.specs.declared.ops.Joining.{Joining}
 use Rattle.uc_lower_expr.specs.Contexts.{context_in}
-use Rattle.uc_lower_expr.specs.Meanings.{FieldAt, Begins, StandsAs, cell_in, element_told, held_as, shape_as, Tells}
+use Rattle.uc_lower_expr.specs.Meanings.{FieldAt, Begins, StandsAs, call_of, cell_in, first_in, element_told, held_as, shape_as, Tells}
 use Rattle.uc_lower_expr.specs.DraftGrowth.{Adds, Cuts, ExprCode, ArgumentsCode, ConvertCode, OpCode, RiskCode, Grows, fetched, LiveCallCode, MutexCallCode}
-use Rattle.uc_lower_expr.specs.Parts.{joining_of, combining_of, scalar_of, RightCode, BeginCode, EndCode, SetCode, VariableCode, PlaceCode, ArgumentCode, FoundCode, Restarts, bumped}
+use Rattle.uc_lower_expr.specs.Parts.{CalledCode, WaitCode, joining_of, combining_of, scalar_of, RightCode, BeginCode, EndCode, SetCode, VariableCode, PlaceCode, ArgumentCode, FoundCode, Restarts, bumped}
 use Rattle.uc_lower_expr.proofs.Adding.{adds_nothing, adds_more, adds_as, adds_both, and_nothing}
 use Rattle.uc_lower_expr.proofs.Settled.{both, expr_stable, args_stable, convert_stable}
 use Rattle.uc_lower_expr.proofs.Growing.{grows_as, grows_then, grows_adds, grows_restart, grows_cut, adds_grows, tells_grows}
@@ -84,29 +86,63 @@ right_tells binary.Rem l r = record { shape = refl; class = refl; numbered = ref
 abbrev element_at : Program → ℕ → Meant → Expr → Meant
 element_at p n m i = place_or_number (has_number p (one_of m.ty)) (Element n (base_shape p m.ty.base) m.expr i) (one_of m.ty)
 
-element_found : (p : Program) (x : Told) (o : Standing) (n : ℕ) (m : Meant) (i : Expr) → StandsAs x o → element_in p o n m i ≡ element_at p n m i
-element_found p (standing.Variable k) o n m i h = ap (λ (s : Standing). element_in p s n m i) h
-element_found p (standing.Field k) o n m i (Begins s j e) = refl
-element_found p standing.Place o n m i h = ap (λ (s : Standing). element_in p s n m i) h
-element_found p standing.Number o n m i h = ap (λ (s : Standing). element_in p s n m i) h
-element_found p standing.Value o n m i h = ap (λ (s : Standing). element_in p s n m i) h
-element_found p standing.Input o n m i h = ap (λ (s : Standing). element_in p s n m i) h
-element_found p standing.Fail o n m i h = ap (λ (s : Standing). element_in p s n m i) h
-element_found p (standing.Routine r) o n m i h = ap (λ (s : Standing). element_in p s n m i) h
-element_found p (standing.Member r) o n m i h = ap (λ (s : Standing). element_in p s n m i) h
-element_found p (standing.LiveMember r) o n m i h = ap (λ (s : Standing). element_in p s n m i) h
-element_found p (standing.MutexMember k r) o n m i h = ap (λ (s : Standing). element_in p s n m i) h
-element_found p standing.Nothing o n m i h = ap (λ (s : Standing). element_in p s n m i) h
+element_found : (p : Program) (x : Told) (o : Standing) (n : ℕ) (m : Meant) (i : Expr) → first_in x ≡ None → StandsAs x o → element_in p o n m i ≡ element_at p n m i
+element_found p (standing.Variable k) o n m i f h = ap (λ (s : Standing). element_in p s n m i) h
+element_found p (standing.Field k) o n m i f (Begins s j e) = refl
+element_found p standing.Place o n m i f h = ap (λ (s : Standing). element_in p s n m i) h
+element_found p standing.Number o n m i f h = ap (λ (s : Standing). element_in p s n m i) h
+element_found p standing.Value o n m i f h = ap (λ (s : Standing). element_in p s n m i) h
+element_found p standing.Input o n m i f h = ap (λ (s : Standing). element_in p s n m i) h
+element_found p standing.Fail o n m i f h = ap (λ (s : Standing). element_in p s n m i) h
+element_found p (standing.Routine r) o n m i f h = ap (λ (s : Standing). element_in p s n m i) h
+element_found p (standing.Member r) o n m i f h = ap (λ (s : Standing). element_in p s n m i) h
+element_found p (standing.LiveMember r) o n m i f h = ap (λ (s : Standing). element_in p s n m i) h
+element_found p (standing.MutexMember k r) o n m i f h = ap (λ (s : Standing). element_in p s n m i) h
+element_found p (standing.Condition k) o n m i f h = cc
+element_found p (standing.CallOf c) o n m i f h = ap (λ (s : Standing). element_in p s n m i) h
+element_found p standing.Nothing o n m i f h = ap (λ (s : Standing). element_in p s n m i) h
 
-element_is : (p : Program) (s : Meaning) (n : ℕ) (i : Meant) → s.elements ≡ Some n → (m : Meant) → Tells p s m → element_meant p m i ≡ place_or_number s.numbered (Element n (base_shape p m.ty.base) m.expr (value_of i)) (one_of m.ty)
-element_is p s n i e m u =
+element_is : (p : Program) (s : Meaning) (n : ℕ) (i : Meant) → s.elements ≡ Some n → first_in s.standing ≡ None → (m : Meant) → Tells p s m → element_meant p m i ≡ place_or_number s.numbered (Element n (base_shape p m.ty.base) m.expr (value_of i)) (one_of m.ty)
+element_is p s n i e f m u =
     ap (λ (o : Option ℕ). element_by p o m (value_of i)) (u.len ∙ e)
-    ∙ element_found p s.standing m.standing n m (value_of i) u.standing
+    ∙ element_found p s.standing m.standing n m (value_of i) f u.standing
     ∙ ap (λ (b : Bool). place_or_number b (Element n (base_shape p m.ty.base) m.expr (value_of i)) (one_of m.ty)) u.numbered
 
 element_tells : {p : Program} → (s : Meaning) (m : Meant) (number : Bool) (e : Expr) → Tells p s m → Tells p (record s { elements = None; standing = held_as number }) (place_or_number number e (one_of m.ty))
 element_tells s m true e u = record { shape = u.shape; class = u.class; numbered = u.numbered; event = u.event; len = refl; standing = refl }
 element_tells s m false e u = record { shape = u.shape; class = u.class; numbered = u.numbered; event = u.event; len = refl; standing = refl }
+
+-- an element of conditions
+
+is_condition : (x : Told) (k : ℕ) → Some k ≡ first_in x → x ≡ standing.Condition k
+is_condition (standing.Variable j) k e = cc
+is_condition (standing.Field j) k e = cc
+is_condition standing.Place k e = cc
+is_condition standing.Number k e = cc
+is_condition standing.Value k e = cc
+is_condition standing.Input k e = cc
+is_condition standing.Fail k e = cc
+is_condition (standing.Routine r) k e = cc
+is_condition (standing.Member r) k e = cc
+is_condition (standing.LiveMember r) k e = cc
+is_condition (standing.MutexMember j r) k e = cc
+is_condition (standing.Condition j) k e = let is : k ≡ j = cc in ap standing.Condition (sym is)
+is_condition (standing.CallOf c) k e = cc
+is_condition standing.Nothing k e = cc
+
+condition_at : {p : Program} → (s : Meaning) (k : ℕ) → Some k ≡ first_in s.standing → (m : Meant) → Tells p s m → m.standing ≡ AsCondition k
+condition_at s k e m u = stands s m (standing.Condition k) u (is_condition s.standing k e)
+
+abbrev number_at : ℕ → ℕ → Meant → Expr → Meant
+number_at k n m i = record { expr = OfObject (ConditionAt k n i); ty = one_of m.ty; standing = AsCondition k }
+
+number_is : (p : Program) (s : Meaning) (k n : ℕ) (i : Meant) → s.elements ≡ Some n → Some k ≡ first_in s.standing → (m : Meant) → Tells p s m → element_meant p m i ≡ number_at k n m (value_of i)
+number_is p s k n i e f m u =
+    ap (λ (o : Option ℕ). element_by p o m (value_of i)) (u.len ∙ e)
+    ∙ ap (λ (o : Standing). element_in p o n m (value_of i)) (condition_at s k f m u)
+
+number_tells : {p : Program} → (s : Meaning) (k n : ℕ) (m : Meant) (i : Expr) → Some k ≡ first_in s.standing → Tells p s m → Tells p (record s { elements = None }) (number_at k n m i)
+number_tells s k n m i f u = record { shape = u.shape; class = u.class; numbered = u.numbered; event = u.event; len = refl; standing = subst (λ (o : Standing). StandsAs s.standing o) (condition_at s k f m u) u.standing }
 
 pub found_load : (line : ℕ) (b : Bool) (old new : Draft) → b ≡ true → Adds 1 (OpCode line op.Load) old new → Adds 1 (FoundCode line b) old new
 found_load line b old new e h = subst (λ (x : Bool). Adds 1 (FoundCode line x) old new) (sym e) h
@@ -122,6 +158,10 @@ field_not_called p k args o m (Begins t i e) = refl
 pub grown_in : {E : Type 0} (r : Result Meaning E) (p : Program) (n line : ℕ) (ms : List Mark) (a : ℕ) (f : Meant → Meant) (s : Meaning) (old new : Draft) → IfOk r (λ t. (q : Program) → Grows q n line ms a f s t old new) → IfOk r (λ t. Grows p n line ms a f s t old new)
 grown_in (Ok t) p n line ms a f s old new h = h p
 grown_in (Err x) p n line ms a f s old new h = tt
+
+-- what is told of a call of a condition
+pub told_call : (p : Program) (c this : TheCall) (t : Meaning) (v : Scalar) → c ≡ this → t ≡ record { scalar = v; class = None; numbered = false; event = None; elements = None; standing = standing.Value } → ((e : Expr) (vs : List Meant) → Tells p (record { scalar = v; class = None; numbered = false; event = None; elements = None; standing = standing.Value }) (condition_called (call_of this) e vs)) → (e : Expr) (vs : List Meant) → Tells p t (condition_called (call_of c) e vs)
+told_call p c this t v i q h e vs = subst (λ (x : TheCall). Tells p t (condition_called (call_of x) e vs)) (sym i) (subst (λ (y : Meaning). Tells p y (condition_called (call_of this) e vs)) (sym q) (h e vs))
 
 -- the tree of a part
 pub part_is : (p : Pos) (f g : PartForm) (x : tree.Part) → f ≡ g → part_at p f ≡ x → part_at p g ≡ x
@@ -193,6 +233,10 @@ pub args_fit : (xs : List tree.Expr) (i : ℕ) (x : tree.Expr) → i < length xs
 args_fit [] i x h e = absurd (omega arith)
 args_fit (y ∷ ys) zero x h e = let a : expr_size x ≡ expr_size y = ap expr_size e in omega arith
 args_fit (y ∷ ys) (suc i) x h e = let r = args_fit ys i x (omega arith) e in omega arith
+
+pub stored_fit : (v : tree.Expr) (xs : List tree.Expr) → Some v ≡ slice_get xs 0 → expr_size v ≤ exprs_size (exprs_of xs)
+stored_fit v [] e = cc
+stored_fit v (x ∷ xs) e = let is : v ≡ x = cc in let s = ap expr_size is in omega (arith, s)
 
 -- every expression counts
 pub some_size : (e : tree.Expr) → 1 ≤ expr_size e
@@ -355,12 +399,19 @@ module _ (ms : List Mark) where
     second = record { middle = v.middle; first = v.first; second = subst (λ (y : ℕ). One code (op.Index n y) line v.middle z) e (and_nothing (One code (op.Index n size) line) v.middle z v.second) };
   }
 
-  pub arm_element : (p : Program) (n k line a length_of size : ℕ) (i : Meant) (s t : Meaning) (old mid next new : Draft) → ((b : Base) → class_made (making p b) ≡ s.class → is_numbered (making p b) ≡ s.numbered → size ≡ shape_cells (base_shape p b)) → n + 2 ≤ k → a ≤ length old.ops → s.elements ≡ Some length_of → t ≡ element_told s → Adds n (ExprCode line ms (value_of i)) old mid → Adds 1 (OpCode line (op.Index length_of size)) mid next → Adds 1 (FoundCode line s.numbered) next new → Grows p k line ms a (λ m. element_meant p m i) s t old new
-  arm_element p n k line a c size i s t old mid next new sized r l e j h g q =
+  pub arm_element : (p : Program) (n k line a length_of size : ℕ) (i : Meant) (s t : Meaning) (old mid next new : Draft) → ((b : Base) → class_made (making p b) ≡ s.class → is_numbered (making p b) ≡ s.numbered → size ≡ shape_cells (base_shape p b)) → n + 2 ≤ k → a ≤ length old.ops → s.elements ≡ Some length_of → None ≡ first_in s.standing → t ≡ element_told s → Adds n (ExprCode line ms (value_of i)) old mid → Adds 1 (OpCode line (op.Index length_of size)) mid next → Adds 1 (FoundCode line s.numbered) next new → Grows p k line ms a (λ m. element_meant p m i) s t old new
+  arm_element p n k line a c size i s t old mid next new sized r l e f j h g q =
       grows_adds k line ms a (λ m. element_meant p m i) s t (λ code. Both (ExprAt code line ms (value_of i)) (Both (One code (op.Index c size) line) (FoundCode line s.numbered code))) old new l
       (adds_more r (adds_both (expr_stable line ms (value_of i)) h (adds_both (one_stable (op.Index c size) line) g q)))
-      (λ m u. subst (λ (x : Meaning). Tells p x (element_meant p m i)) (sym j) (subst (λ (y : Meant). Tells p (element_told s) y) (sym (element_is p s c i e m u)) (element_tells s m s.numbered (Element c (base_shape p m.ty.base) m.expr (value_of i)) u)))
-      (λ m u code b z w v. subst (λ (y : Meant). ExprAt code line ms y.expr a z) (sym (element_is p s c i e m u)) (element_code s.numbered line c size (base_shape p m.ty.base) m.expr (value_of i) (one_of m.ty) code a b z (sized m.ty.base u.class u.numbered) w v))
+      (λ m u. subst (λ (x : Meaning). Tells p x (element_meant p m i)) (sym j) (subst (λ (y : Meant). Tells p (element_told s) y) (sym (element_is p s c i e (sym f) m u)) (element_tells s m s.numbered (Element c (base_shape p m.ty.base) m.expr (value_of i)) u)))
+      (λ m u code b z w v. subst (λ (y : Meant). ExprAt code line ms y.expr a z) (sym (element_is p s c i e (sym f) m u)) (element_code s.numbered line c size (base_shape p m.ty.base) m.expr (value_of i) (one_of m.ty) code a b z (sized m.ty.base u.class u.numbered) w v))
+
+  pub arm_condition_element : (p : Program) (n j line a c k : ℕ) (i : Meant) (s t : Meaning) (old mid next new : Draft) → n + 1 ≤ j → a ≤ length old.ops → s.elements ≡ Some c → Some k ≡ first_in s.standing → t ≡ record s { elements = None } → Cuts a old mid → Adds n (ExprCode line ms (value_of i)) mid next → Adds 1 (OpCode line (op.Condition k c)) next new → Grows p j line ms a (λ m. element_meant p m i) s t old new
+  arm_condition_element p n j line a c k i s t old mid next new r l e f q cuts h g =
+      grows_cut j line ms a (λ m. element_meant p m i) s t (λ code. Both (ExprAt code line ms (value_of i)) (One code (op.Condition k c) line)) old mid new l cuts
+      (adds_more r (adds_both (expr_stable line ms (value_of i)) h g))
+      (λ m u. subst (λ (x : Meaning). Tells p x (element_meant p m i)) (sym q) (subst (λ (y : Meant). Tells p (record s { elements = None }) y) (sym (number_is p s k c i e f m u)) (number_tells s k c m (value_of i) f u)))
+      (λ m u code z w. subst (λ (y : Meant). ExprAt code line ms y.expr a z) (sym (number_is p s k c i e f m u)) w)
 
   -- calls
 
@@ -410,6 +461,31 @@ module _ (ms : List Mark) where
       (adds_more (omega arith) (adds_both (args_stable line ms es) h h2))
       (λ m u. subst (λ (o : Standing). Tells p t (call_by p o m args)) (sym (stands s m (standing.MutexMember x r) u e)) (as_value s t m (OfObject (EnterOn x r m.expr es)) i u))
       (λ m u code b z w v. subst (λ (o : Standing). ExprAt code line ms (call_by p o m args).expr a z) (sym (stands s m (standing.MutexMember x r) u e)) (record { middle = b; first = w; second = v }))
+
+  -- calls of conditions
+
+  pub called_wait : (n k line : ℕ) (c : TheCall) (e : Expr) (old mid new : Draft) → c ≡ calls.Wait → n + 5 ≤ k → Adds n (ExprCode line ms e) old mid → Adds 5 (WaitCode line ms) mid new → Adds k (CalledCode line ms (call_of c) e) old new
+  called_wait n k line c e old mid new i l h g = subst (λ (x : TheCall). Adds k (CalledCode line ms (call_of x) e) old new) (sym i) (adds_more l (adds_both (expr_stable line ms e) h g))
+
+  pub called_one : (k line : ℕ) (c this : TheCall) (e : Expr) (old new : Draft) → c ≡ this → 1 ≤ k → Adds 1 (CalledCode line ms (call_of this) e) old new → Adds k (CalledCode line ms (call_of c) e) old new
+  called_one k line c this e old new i l h = subst (λ (x : TheCall). Adds k (CalledCode line ms (call_of x) e) old new) (sym i) (adds_more l h)
+
+  called_at : (line : ℕ) (c : ConditionCall) (e : Expr) (values : List Meant) (code : Laid) (a b z : ℕ) → ExprAt code line ms e a b → CalledCode line ms c (stored_by values) code b z → ExprAt code line ms (condition_called c e values).expr a z
+  called_at line Waits e values code a b z h g = record { middle = b; first = h; second = g }
+  called_at line Signals e values code a b z h g = record { middle = b; first = h; second = g }
+  called_at line SignalsBlocking e values code a b z h g = record { middle = b; first = h; second = g }
+  called_at line AsksEmpty e values code a b z h g = record { middle = b; first = h; second = g }
+  called_at line AsksFront e values code a b z h g = record { middle = b; first = h; second = g }
+
+  arm_call : (p : Program) (n line a : ℕ) (c : TheCall) (values : List Meant) (s t : Meaning) (old new : Draft) → a ≤ length old.ops → s.standing ≡ standing.CallOf c → Adds n (CalledCode line ms (call_of c) (stored_by values)) old new → ((e : Expr) (vs : List Meant) → Tells p t (condition_called (call_of c) e vs)) → Grows p n line ms a (λ m. call_meant p m values) s t old new
+  arm_call p n line a c values s t old new l e h q =
+      grows_adds n line ms a (λ m. call_meant p m values) s t (CalledCode line ms (call_of c) (stored_by values)) old new l h
+      (λ m u. subst (λ (o : Standing). Tells p t (call_by p o m values)) (sym (stands s m (standing.CallOf c) u e)) (q m.expr values))
+      (λ m u code b z w v. subst (λ (o : Standing). ExprAt code line ms (call_by p o m values).expr a z) (sym (stands s m (standing.CallOf c) u e)) (called_at line (call_of c) m.expr values code a b z w v))
+
+  pub arm_condition_called : {E : Type 0} (r : Result Meaning E) (p : Program) (n line a : ℕ) (c : TheCall) (values : List Meant) (s : Meaning) (old new : Draft) → a ≤ length old.ops → s.standing ≡ standing.CallOf c → OnOk r (Adds n (CalledCode line ms (call_of c) (stored_by values)) old new) → IfOk r (λ t. (e : Expr) (vs : List Meant) → Tells p t (condition_called (call_of c) e vs)) → IfOk r (λ t. Grows p n line ms a (λ m. call_meant p m values) s t old new)
+  arm_condition_called (Ok t) p n line a c values s old new l e h q = arm_call p n line a c values s t old new l e h q
+  arm_condition_called (Err y) p n line a c values s old new l e h q = tt
 
   -- in the place of what stands, 0, which stands for nothing
   pub arm_nothing : (p : Program) (n line a : ℕ) (f : Meant → Meant) (s t : Meaning) (old new : Draft) → 1 ≤ n → a ≤ length old.ops → ((m : Meant) → Tells p s m → f m ≡ no_meaning) → t ≡ record { scalar = scalar.Number; class = None; numbered = false; event = None; elements = None; standing = standing.Nothing } → Restarts (op.Push (pos 0)) line a old new → Grows p n line ms a f s t old new
@@ -537,6 +613,18 @@ module _ (program : Program) where
       ap (args_by params) (args_meant_push c ys x) ∙ args_by_past params (args_meant c (exprs_of ys)) (meant c x) (omega (arith, count, past)) in
       subst (λ (zs : List tree.Expr). Adds (OPS_FOR_SIZE * exprs_size (exprs_of zs)) (ArgumentsCode line old.marks (args_by params (args_meant c (exprs_of zs)))) old new) split (
       adds_more (omega (arith, exprs_size_push ys x)) (subst (λ (es : Exprs). Adds (OPS_FOR_SIZE * exprs_size (exprs_of ys)) (ArgumentsCode line old.marks es) old new) (sym same) f))
+
+  -- what a wait stores
+  pub stored_first : (v : tree.Expr) (xs : List tree.Expr) (line : ℕ) (old new : Draft) → Some v ≡ slice_get xs 0 → Adds (OPS_FOR_SIZE * expr_size v) (ExprCode line old.marks (value_of (meant (context_in program old) v))) old new → Adds (OPS_FOR_SIZE * exprs_size (exprs_of xs) + 1) (ExprCode line old.marks (stored_by (args_meant (context_in program old) (exprs_of xs)))) old new
+  stored_first v [] line old new e h = cc
+  stored_first v (x ∷ xs) line old new e h =
+      let is : v ≡ x = cc in
+      let s = ap expr_size is in
+      adds_more (omega (arith, s)) (subst (λ (y : tree.Expr). Adds (OPS_FOR_SIZE * expr_size v) (ExprCode line old.marks (value_of (meant (context_in program old) y))) old new) is h)
+
+  pub stored_none : (xs : List tree.Expr) (line : ℕ) (old new : Draft) → None ≡ slice_get xs 0 → Adds 1 (OpCode line (op.Push (pos 0))) old new → Adds (OPS_FOR_SIZE * exprs_size (exprs_of xs) + 1) (ExprCode line old.marks (stored_by (args_meant (context_in program old) (exprs_of xs)))) old new
+  stored_none [] line old new e h = adds_more (omega arith) h
+  stored_none (x ∷ xs) line old new e h = cc
 
   pub args_end : (params : List Param) (xs : List tree.Expr) (i line : ℕ) (old new : Draft) → length xs ≤ i
       → Adds (OPS_FOR_SIZE * exprs_size (exprs_of (take i xs))) (ArgumentsCode line old.marks (args_by params (args_meant (context_in program old) (exprs_of (take i xs))))) old new

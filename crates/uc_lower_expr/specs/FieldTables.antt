@@ -1,7 +1,11 @@
 -- What noting the fields of a class does to their table.
-use Rattle.std.specs.Prelude.{◌≡◌, ℕ, ◌+◌, List, [], ◌∷◌, ◌++◌, Bool, false, Option, Some, None, get_or, length, map}
+use Rattle.std.specs.Prelude.{◌≡◌, ℕ, ◌+◌, List, [], ◌∷◌, ◌++◌, Bool, false, Option, Some, None, get_or, length, map, unwrap_or}
 use Rattle.uc_layout.specs.Places.{IsPlaces}
+use Rattle.uc_tree.specs.declared.limits.TheConstants.{LAST_CONDITION}
+use Rattle.uc_tree.specs.declared.kinds.Base.{Base}
+use Rattle.uc_tree.specs.declared.kinds.Base.TheVariants as base
 use Rattle.uc_tree.specs.declared.rows.Held.{Held}
+use Rattle.uc_tree.specs.Numbering.{at_most}
 use Rattle.uc_tree.specs.Capped.{capped}
 use Rattle.uc_tree.specs.Expressions.{Expr}
 use Rattle.uc_tree.specs.Programs.{Program}
@@ -24,6 +28,32 @@ abbrev pub is_number : Option Expr → Bool → Bool
 is_number None numbered = numbered
 is_number (Some e) numbered = false
 
+-- the number of the condition behind so many
+abbrev pub number_by : ℕ → ℕ
+number_by count = unwrap_or (at_most LAST_CONDITION count) 0
+
+-- the number of a field that is a condition, or of the first of its array, behind so many
+abbrev pub condition_by : Base → ℕ → Option ℕ
+condition_by base.Condition count = Some (number_by count)
+condition_by base.Void count = None
+condition_by base.Int count = None
+condition_by base.Char count = None
+condition_by base.Bool count = None
+condition_by base.Cluster count = None
+condition_by base.Processor count = None
+condition_by (base.Named name) count = None
+
+-- how many conditions so many elements of a base are
+abbrev pub conditions_by : Base → ℕ → ℕ
+conditions_by base.Condition elements = elements
+conditions_by base.Void elements = 0
+conditions_by base.Int elements = 0
+conditions_by base.Char elements = 0
+conditions_by base.Bool elements = 0
+conditions_by base.Cluster elements = 0
+conditions_by base.Processor elements = 0
+conditions_by (base.Named name) elements = 0
+
 -- a field behind so many cells, which holds this
 pub record IsNoted (p : Program) (cells : ℕ) (h : Held) (f : ClassField) (v : Field) : Type 0 where
   pub cell : v.cell ≡ cells
@@ -41,6 +71,11 @@ pub data AreNoted (p : Program) (held : List Held) : ℕ → ℕ → List ClassF
   NoMore : (place cells : ℕ) → AreNoted p held place cells [] [] cells
   OneMore : (place cells last : ℕ) (f : ClassField) (v : Field) (fs : List ClassField) (vs : List Field) → IsNoted p cells (get_or held place one_scalar) f v → AreNoted p held (place + 1) (capped (cells + held_cells (class_cells p) (get_or held place one_scalar))) fs vs last → AreNoted p held place cells (f ∷ fs) (v ∷ vs) last
 
+-- fields, of which the first has this place in its class, behind so many conditions
+pub data AreCounted (held : List Held) : ℕ → ℕ → List ClassField → List Field → ℕ → Type 0 where
+  NoneCounted : (place count : ℕ) → AreCounted held place count [] [] count
+  OneCounted : (place count last : ℕ) (f : ClassField) (v : Field) (fs : List ClassField) (vs : List Field) → v.condition ≡ condition_by f.base count → AreCounted held (place + 1) (capped (count + conditions_by f.base (get_or held place one_scalar).count)) fs vs last → AreCounted held place count (f ∷ fs) (v ∷ vs) last
+
 -- a table has the places of its fields by some names
 pub record HasNames (t : FieldTable) : Type 0 where
   pub names : List (List ℕ)
@@ -54,3 +89,4 @@ pub record Notes (p : Program) (held : List Held) (fs : List ClassField) (old ne
   pub more : List Field
   pub fields : new.fields.items ≡ old.fields.items ++ more
   pub noted : AreNoted p held (length old.fields.items) old.cells fs more new.cells
+  pub counted : AreCounted held (length old.fields.items) old.conditions fs more new.conditions

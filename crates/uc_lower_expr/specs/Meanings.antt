@@ -1,13 +1,15 @@
 -- What lowering tells of an expression besides its code.
 use Rattle.std.specs.Prelude.{◌≡◌, ℕ, ◌+◌, List, Bool, true, false, Option, Some, None, option_and_then, option_map}
 use Rattle.uc_tree.specs.declared.limits.TheConstants.{MEMBERS}
-use Rattle.uc_tree.specs.Source.{Shape, Integer, Character, Truth, Binding, Last, Field, Array, field_cells}
+use Rattle.uc_tree.specs.Source.{Shape, Integer, Character, Truth, Binding, field_cells}
 use Rattle.uc_tree.specs.Numbering.{at_most, is_mutex, member_number}
 use Rattle.uc_tree.specs.Objects.{Making, APlain, AMutex, making, class_made, is_numbered, is_coroutine, shape_of, event_place, class_at}
 use Rattle.uc_tree.specs.Programs.{Class, Program}
 use Rattle.uc_resolve.specs.Resolve as resolve
 use Rattle.uc_lower_expr.specs.declared.meaning.Scalar.{Scalar}
 use Rattle.uc_lower_expr.specs.declared.meaning.Scalar.TheVariants as scalar
+use Rattle.uc_lower_expr.specs.declared.meaning.ConditionCall.{ConditionCall}
+use Rattle.uc_lower_expr.specs.declared.meaning.ConditionCall.TheVariants as call
 use Rattle.uc_lower_expr.specs.declared.meaning.Standing.{Standing}
 use Rattle.uc_lower_expr.specs.declared.meaning.Standing.TheVariants as standing
 use Rattle.uc_lower_expr.specs.declared.meaning.Meaning.{Meaning}
@@ -31,7 +33,34 @@ cell_in (standing.Routine r) = None
 cell_in (standing.Member r) = None
 cell_in (standing.LiveMember r) = None
 cell_in (standing.MutexMember m r) = None
+cell_in (standing.Condition k) = None
+cell_in (standing.CallOf c) = None
 cell_in standing.Nothing = None
+
+-- the number of the condition that is told of, or of the first of its array
+abbrev pub first_in : Standing → Option ℕ
+first_in (standing.Variable k) = None
+first_in (standing.Field k) = None
+first_in standing.Place = None
+first_in standing.Number = None
+first_in standing.Value = None
+first_in standing.Input = None
+first_in standing.Fail = None
+first_in (standing.Routine r) = None
+first_in (standing.Member r) = None
+first_in (standing.LiveMember r) = None
+first_in (standing.MutexMember m r) = None
+first_in (standing.Condition k) = Some k
+first_in (standing.CallOf c) = None
+first_in standing.Nothing = None
+
+-- the call of a condition that is told
+abbrev pub call_of : ConditionCall → resolve.ConditionCall
+call_of call.Wait = resolve.Waits
+call_of call.Signal = resolve.Signals
+call_of call.SignalBlock = resolve.SignalsBlocking
+call_of call.Empty = resolve.AsksEmpty
+call_of call.Front = resolve.AsksFront
 
 -- a member, by its number where it is a mutex member, and by whether a path names it and its class is one of plain coroutines
 abbrev pub member_standing : Option ℕ → Bool → ℕ → Standing
@@ -91,6 +120,8 @@ StandsAs (standing.Routine r) s = s ≡ resolve.AsRoutine r
 StandsAs (standing.Member r) s = s ≡ resolve.AsMember r
 StandsAs (standing.LiveMember r) s = s ≡ resolve.AsLiveMember r
 StandsAs (standing.MutexMember m r) s = s ≡ resolve.AsMutexMember m r
+StandsAs (standing.Condition k) s = s ≡ resolve.AsCondition k
+StandsAs (standing.CallOf c) s = s ≡ resolve.AsCallOf (call_of c)
 StandsAs standing.Nothing s = s ≡ resolve.AsNothing
 
 -- what is told of an expression of a program that stands for this: how its base keeps a number, the class of objects that it names,

@@ -1,5 +1,5 @@
 -- Members of classes: fields with the cells before them, and routines by the numbers of their classes.
-use Rattle.std.specs.Prelude.{◌≡◌, ℕ, ◌+◌, ◌≤◌, ◌<◌, List, [], ◌∷◌, Bool, true, false, Option, Some, None, option_map, length, map, slice_get, if◌then◌else◌}
+use Rattle.std.specs.Prelude.{◌≡◌, ℕ, ℤ, zero, suc, ◌+◌, ◌≤◌, ◌<◌, List, [], ◌∷◌, Bool, true, false, Option, Some, None, option_map, length, map, slice_get, if◌then◌else◌}
 use Rattle.uc_names.specs.Blocks.{found}
 use Rattle.uc_layout.specs.Places.{IsPlaces}
 use Rattle.uc_tree.specs.declared.limits.TheConstants.{CLASS_CELLS}
@@ -9,24 +9,26 @@ use Rattle.uc_tree.specs.declared.kinds.Role.{Role}
 use Rattle.uc_tree.specs.declared.kinds.Role.TheVariants as role
 use Rattle.uc_tree.specs.Programs.{Class, Program}
 use Rattle.uc_tree.specs.Rows.{has_itself}
-use Rattle.uc_tree.specs.Cells.{classes_of, class_cells, rows_of, leading_cells}
+use Rattle.uc_tree.specs.Constants.{constants_of, elements}
+use Rattle.uc_tree.specs.Cells.{classes_of, class_cells, rows_of, leading_cells, seen_in}
 use Rattle.uc_tree.specs.Numbering.{Defined, is_event, routines_of}
 use Rattle.uc_tree.specs.Source.{field_cells}
 use Rattle.uc_tree.specs.Objects.{ClassField, making, class_at, fields_of, class_shape, number_at, member_from, role_from, written_at, unwritten_number}
-use Rattle.uc_resolve.specs.Resolve.{Meant, Standing, AtPlace, AsNumber, NumberedField, Whose, field_by, field_found, field_named, field_type, has_number}
+use Rattle.uc_resolve.specs.Resolve.{Meant, Standing, AtPlace, AsNumber, NumberedField, Whose, condition_meant, field_by, field_found, field_named, field_type, has_number}
 use Rattle.uc_lower_expr.specs.Meanings.{Tells, is_mutex_at, making_by}
+use Rattle.uc_lower_expr.specs.FieldTables.{condition_by, conditions_by}
 use Rattle.uc_lower_expr.specs.declared.fields.Field.{Field}
 use Rattle.uc_lower_expr.specs.declared.fields.FieldTable.{FieldTable}
 use Rattle.uc_lower_expr.specs.declared.routine_table.RoutineTable.{RoutineTable}
 use Rattle.uc_lower_expr.specs.declared.numbering.ClassRoutine.{ClassRoutine}
 
--- whether a base is no condition, and neither a cluster nor a processor
+-- whether a base is neither a cluster nor a processor
 abbrev pub is_held_base : Base → Bool
 is_held_base base.Void = true
 is_held_base base.Int = true
 is_held_base base.Char = true
 is_held_base base.Bool = true
-is_held_base base.Condition = false
+is_held_base base.Condition = true
 is_held_base base.Cluster = false
 is_held_base base.Processor = false
 is_held_base (base.Named name) = true
@@ -44,12 +46,12 @@ abbrev pub held_standing : Bool → Standing
 held_standing true = AsNumber
 held_standing false = AtPlace
 
--- a field of the class c with the place i, and its number: what is told of it as it is held, and the cells before it; it is no
--- condition, and holds an object of its class, if any
+-- a field of the class c with the place i, and its number: what is told of it as it is held, and the cells before it; it holds an
+-- object of its class, if any
 pub record IsFieldAt (p : Program) (c : Class) (i number : ℕ) (f : ClassField) (v : Field) : Type 0 where
   pub made : making p f.base ≡ option_map (λ j. making_by j (is_mutex_at p j)) v.told.class
   pub by_number : has_number p (field_type p c f) ≡ v.number
-  pub found : (whose : Whose) → field_found p c i whose (record { number = number; field = f }) ≡ field_by v.number f.declarator.by_ref (class_shape p i) number whose (field_type p c f)
+  pub found : v.condition ≡ None → (whose : Whose) → field_found p c i whose (record { number = number; field = f }) ≡ field_by v.number f.declarator.by_ref (class_shape p i) number whose (field_type p c f)
   pub by_ref : f.declarator.by_ref ≡ v.by_ref
   pub cell : field_cells (class_shape p i) number ≡ v.cell
   pub tells : (m : Meant) → m.ty ≡ field_type p c f → m.standing ≡ held_standing v.number → Tells p v.told m
@@ -61,6 +63,7 @@ pub record IsField (p : Program) (i : ℕ) (name : List ℕ) (v : Field) : Type 
   pub numbered : NumberedField
   pub is : field_named (leading_cells class.kind) (fields_of class.members) name ≡ Some numbered
   pub at : IsFieldAt p class i numbered.number numbered.field v
+  pub condition : (k : ℕ) → v.condition ≡ Some k → (whose : Whose) → field_found p class i whose numbered ≡ condition_meant k (field_type p class numbered.field)
 
 -- the class with the place i has no field of this name
 abbrev pub no_field : Program → ℕ → List ℕ → Option Class → Type 0
@@ -83,11 +86,18 @@ abbrev pub count_fields : Option Class → ℕ
 count_fields None = 0
 count_fields (Some c) = length (fields_of c.members)
 
+-- how many conditions are declared before the field with this place
+abbrev pub conditions_before : (List ℕ → Option ℤ) → List ClassField → ℕ → ℕ
+conditions_before named [] k = 0
+conditions_before named (f ∷ fs) zero = 0
+conditions_before named (f ∷ fs) (suc k) = conditions_by f.base (elements named f.declarator) + conditions_before named fs k
+
 -- a table of the fields of the class c with the place i
 pub record AreFields (p : Program) (i : ℕ) (c : Class) (t : FieldTable) : Type 0 where
   pub named : IsPlaces (map (λ f. f.declarator.name) (fields_of c.members)) t.names
   pub long : length t.fields.items ≡ length (fields_of c.members)
   pub each : (k : ℕ) (f : ClassField) (v : Field) → slice_get (fields_of c.members) k ≡ Some f → slice_get t.fields.items k ≡ Some v → IsFieldAt p c i (leading_cells c.kind + k) f v
+  pub counted : (k : ℕ) (f : ClassField) (v : Field) → slice_get (fields_of c.members) k ≡ Some f → slice_get t.fields.items k ≡ Some v → v.condition ≡ condition_by f.base (conditions_before (seen_in (constants_of p.items) c) (fields_of c.members) k)
 
 -- tables by the places of classes
 pub record AreTables (p : Program) (tables : List FieldTable) : Type 0 where

@@ -11,13 +11,13 @@ use Rattle.uc_tree.specs.declared.kinds.Param.{Param}
 use Rattle.uc_tree.specs.Source.{Shape, Plus, Minus, Expr, Literal}
 use Rattle.uc_tree.specs.Names.{same_name, fail_name}
 use Rattle.uc_tree.specs.Programs.{Program}
-use Rattle.uc_resolve.specs.Resolve.{Meant, has_number, known_named, known_meant, updated, arg_meant}
+use Rattle.uc_resolve.specs.Resolve.{ConditionCall, Waits, Signals, SignalsBlocking, AsksEmpty, AsksFront, Meant, has_number, known_named, known_meant, updated, arg_meant}
 use Rattle.uc_code.specs.declared.op.Op.{Op}
 use Rattle.uc_code.specs.declared.op.Op.TheVariants as op
 use Rattle.uc_code.specs.declared.rows.Mark.{Mark}
 use Rattle.uc_code.specs.Drafts.{Draft}
 use Rattle.uc_code.specs.Layout.{Laid, laid_in}
-use Rattle.uc_code.specs.CodeShapes.{Nothing, One, Both, Fork, Same}
+use Rattle.uc_code.specs.CodeShapes.{Nothing, One, Both, Fork, PollAt, Same}
 use Rattle.uc_code.specs.Lowered.{ExprAt, ConvertAt}
 use Rattle.uc_lower_expr.specs.declared.meaning.Scalar.{Scalar}
 use Rattle.uc_lower_expr.specs.declared.meaning.Scalar.TheVariants as scalar
@@ -109,6 +109,18 @@ ArgumentCode line ms x m code = ExprAt code line ms (arg_meant x m)
 abbrev pub StepCode : ℕ → Op → Shape → Laid → ℕ → ℕ → Type 0
 StepCode line o s code =
     Both (One code op.Duplicate line) (Both (One code op.Load line) (Both (One code op.Over line) (Both (One code op.Over line) (Both (One code (op.Push (pos 1)) line) (Both (One code o line) (Both (ConvertAt code line s) (Both (One code op.Store line) (One code op.DiscardBelow line))))))))
+
+-- the code of a wait, behind the number of its condition and what it stores
+abbrev pub WaitCode : ℕ → List Mark → Laid → ℕ → ℕ → Type 0
+WaitCode line ms code = Both (One code op.Wait line) (PollAt code ms line)
+
+-- the code of a call of a condition, behind its number; what a wait stores
+abbrev pub CalledCode : ℕ → List Mark → ConditionCall → Expr → Laid → ℕ → ℕ → Type 0
+CalledCode line ms Waits e code = Both (ExprAt code line ms e) (WaitCode line ms code)
+CalledCode line ms Signals e code = One code op.Signal line
+CalledCode line ms SignalsBlocking e code = One code op.SignalBlock line
+CalledCode line ms AsksEmpty e code = One code op.Empty line
+CalledCode line ms AsksFront e code = One code op.Front line
 
 -- in the place of all ops from a on stands one op
 pub record Restarts (o : Op) (line a : ℕ) (old new : Draft) : Type 0 where

@@ -6,21 +6,22 @@ ghost use Rattle.uc_tree.specs.Expressions.{exprs_of, links_of, parts_of};
 ghost use Rattle.uc_tree.specs.ExpressionSizes.{expr_size, exprs_size, link_size, links_size, part_size, parts_size};
 ghost use Rattle.uc_tree.specs.Numbering.{routines_of};
 ghost use Rattle.uc_tree.specs.Objects.{class_at};
-ghost use Rattle.uc_resolve.specs.Resolve.{Meant, meant, value_of, unary_meant, assign_meant, link_meant, chain_meant, part_meant, parts_meant, element_meant, field_meant, call_meant, args_meant, args_by, name_meant, own_meant, place_member, member_meant, Of, item_meant, routine_meant_by, routine_from, known_named};
+ghost use Rattle.uc_tree.specs.Source.{Expr as Resolved};
+ghost use Rattle.uc_resolve.specs.Resolve.{Meant, meant, value_of, unary_meant, assign_meant, link_meant, chain_meant, part_meant, parts_meant, element_meant, field_meant, call_meant, args_meant, args_by, stored_by, condition_called, name_meant, own_meant, place_member, member_meant, Of, item_meant, routine_meant_by, routine_from, known_named};
 ghost use Rattle.uc_lower_expr.specs.Contexts.{context_in};
-ghost use Rattle.uc_lower_expr.specs.Meanings.{Tells, element_told, member_standing, shape_as};
+ghost use Rattle.uc_lower_expr.specs.Meanings.{Tells, call_of, element_told, member_standing, shape_as};
 ghost use Rattle.uc_lower_expr.specs.DraftGrowth.{Adds, Grows, ExprCode, ArgumentsCode, LiveCallCode, MutexCallCode};
 ghost use Rattle.uc_lower_expr.specs.Members.{no_field};
-ghost use Rattle.uc_lower_expr.specs.Parts.{RightCode, VariableCode, PlaceCode, ArgumentCode, FieldCode, FoundCode, Restarts, place_op_of, own_place_op, own_standing, input_told};
+ghost use Rattle.uc_lower_expr.specs.Parts.{CalledCode, RightCode, VariableCode, PlaceCode, ArgumentCode, FieldCode, FoundCode, Restarts, place_op_of, own_place_op, own_standing, input_told};
 
 use crate::fields::Field;
-use crate::meaning::{Meaning, Scalar, Standing};
+use crate::meaning::{ConditionCall, Meaning, Scalar, Standing};
 use crate::names::variable_named;
 use crate::ops::{Joining, combining, joined_by};
 use crate::program_names::ProgramNames;
 use crate::put::{
     begin_update, close_fork, cut, end_update, put, put_at_risk, put_bump, put_conversion,
-    put_load, put_stepped, restart,
+    put_load, put_stepped, put_wait, restart,
 };
 use std::alloc::AllocError;
 use uc_code::draft::Draft;
@@ -391,13 +392,25 @@ fn lower_index(
             restart(Op::Push(0), start, line, out)?;
             Ok(Meaning::nothing())
         }
-        Some(length) => {
-            let size = names.element_size(told.class, told.numbered);
-            let _index = lower_value(index, line, names, out)?;
-            put(Op::Index { length, size }, line, out)?;
-            let element = put_element(told, line, out)?;
-            Ok(element)
-        }
+        Some(length) => match told.standing.condition() {
+            Some(first) => {
+                cut(start, out);
+                let _index = lower_value(index, line, names, out)?;
+                let count = length;
+                put(Op::Condition { first, count }, line, out)?;
+                Ok(Meaning {
+                    elements: None,
+                    ..told
+                })
+            }
+            None => {
+                let size = names.element_size(told.class, told.numbered);
+                let _index = lower_value(index, line, names, out)?;
+                put(Op::Index { length, size }, line, out)?;
+                let element = put_element(told, line, out)?;
+                Ok(element)
+            }
+        },
     }
 }
 
@@ -453,11 +466,17 @@ fn lower_own_name(
     ensures tells { IfOk result (λ told. Tells names.now told (own_meant names.now (Some class) name.now)) }
 {
     match names.field(class, name) {
-        Some(field) => {
-            put(own_place_op(field.is_held(), field.cell), line, out)?;
-            let standing = own_standing(field.number, field.by_ref, field.cell);
-            Ok(field.told.standing_as(standing))
-        }
+        Some(field) => match field.condition {
+            Some(number) => {
+                put(Op::Push(i64::from(number)), line, out)?;
+                Ok(field.told.standing_as(Standing::Condition(number)))
+            }
+            None => {
+                put(own_place_op(field.is_held(), field.cell), line, out)?;
+                let standing = own_standing(field.number, field.by_ref, field.cell);
+                Ok(field.told.standing_as(standing))
+            }
+        },
         None => lower_own_member(class, name, line, names, out),
     }
 }
@@ -549,7 +568,7 @@ fn routine_told(name: &Name, names: &ProgramNames) -> Meaning
     }
 }
 
-// A field or a member of what stands from `start` on. `fail` is the only one of `cin`.
+// A field or a member of what stands from `start` on, or a call of a condition. `fail` is the only one of `cin`.
 fn lower_field(
     name: &Name,
     told: Meaning,
@@ -575,6 +594,14 @@ fn lower_field(
         Standing::Member(_) => put_nothing(start, line, out),
         Standing::LiveMember(_) => put_nothing(start, line, out),
         Standing::MutexMember { .. } => put_nothing(start, line, out),
+        Standing::Condition(_) => match ConditionCall::named(name) {
+            Some(call) => {
+                let value = Meaning::value(Scalar::Number);
+                Ok(value.standing_as(Standing::CallOf(call)))
+            }
+            None => put_nothing(start, line, out),
+        },
+        Standing::CallOf(_) => put_nothing(start, line, out),
         Standing::Nothing => put_nothing(start, line, out),
     }
 }
@@ -672,10 +699,16 @@ fn lower_member_of(
     ensures { IfOk result (λ after. Grows names.now OPS_FOR_SIZE line out.old.marks start (λ m. member_meant names.now class (Of m.expr) name.now) told after out.old out.new) }
 {
     match names.field(class, name) {
-        Some(field) => {
-            put_field(field, line, out)?;
-            Ok(field.told)
-        }
+        Some(field) => match field.condition {
+            Some(number) => {
+                restart(Op::Push(i64::from(number)), start, line, out)?;
+                Ok(field.told.standing_as(Standing::Condition(number)))
+            }
+            None => {
+                put_field(field, line, out)?;
+                Ok(field.told)
+            }
+        },
         None => match names.member(class, name) {
             Some(routine) => {
                 let mutex = names.mutex_number(class, name);
@@ -721,7 +754,8 @@ fn put_mutex_call(member: u8, routine: u32, line: u32, out: &mut Draft) -> Resul
     Ok(())
 }
 
-// `cin.fail`, a routine of the program, or a member of the object whose place stands from `start` on.
+// `cin.fail`, a routine of the program, a member of the object whose place stands from `start` on, or a call of the condition whose
+// number does.
 #[cycle(lower)]
 fn lower_call(
     args: &[Expr],
@@ -764,6 +798,8 @@ fn lower_call(
             put_live_call(routine, line, out)?;
             Ok(told.standing_as(Standing::Value))
         }
+        Standing::CallOf(call) => lower_condition_call(call, args, line, names, out),
+        Standing::Condition(_) => put_nothing(start, line, out),
         Standing::Variable(_) => put_nothing(start, line, out),
         Standing::Field(_) => put_nothing(start, line, out),
         Standing::Place => put_nothing(start, line, out),
@@ -771,6 +807,64 @@ fn lower_call(
         Standing::Value => put_nothing(start, line, out),
         Standing::Input => put_nothing(start, line, out),
         Standing::Nothing => put_nothing(start, line, out),
+    }
+}
+
+// Behind the number of a condition the call of it.
+#[cycle(lower)]
+fn lower_condition_call(
+    call: ConditionCall,
+    args: &[Expr],
+    line: u32,
+    names: &ProgramNames,
+    out: &mut Draft,
+) -> Result<Meaning, AllocError>
+    requires { length out.old.ops + OPS_FOR_SIZE * (1 + exprs_size (exprs_of args.now)) ≤ PROGRAM_OPS }
+    ensures code { OnOk result (Adds (OPS_FOR_SIZE * (1 + exprs_size (exprs_of args.now))) (CalledCode line out.old.marks (call_of call) (stored_by (args_meant (context_in names.now out.old) (exprs_of args.now)))) out.old out.new) }
+    ensures tells { IfOk result (λ told. (e : Resolved) (values : List Meant) → Tells names.now told (condition_called (call_of call) e values)) }
+{
+    match call {
+        ConditionCall::Wait => {
+            lower_stored(args, line, names, out)?;
+            put_wait(line, out)?;
+            Ok(Meaning::value(Scalar::Number))
+        }
+        ConditionCall::Signal => {
+            put(Op::Signal, line, out)?;
+            Ok(Meaning::value(Scalar::Number))
+        }
+        ConditionCall::SignalBlock => {
+            put(Op::SignalBlock, line, out)?;
+            Ok(Meaning::value(Scalar::Number))
+        }
+        ConditionCall::Empty => {
+            put(Op::Empty, line, out)?;
+            Ok(Meaning::value(Scalar::Truth))
+        }
+        ConditionCall::Front => {
+            put(Op::Front, line, out)?;
+            Ok(Meaning::value(Scalar::Number))
+        }
+    }
+}
+
+// What a wait stores: the value of the first argument, or 0.
+#[cycle(lower)]
+fn lower_stored(
+    args: &[Expr],
+    line: u32,
+    names: &ProgramNames,
+    out: &mut Draft,
+) -> Result<(), AllocError>
+    requires { length out.old.ops + OPS_FOR_SIZE * exprs_size (exprs_of args.now) + 1 ≤ PROGRAM_OPS }
+    ensures { OnOk result (Adds (OPS_FOR_SIZE * exprs_size (exprs_of args.now) + 1) (ExprCode line out.old.marks (stored_by (args_meant (context_in names.now out.old) (exprs_of args.now)))) out.old out.new) }
+{
+    match args.first() {
+        Some(arg) => {
+            let _told = lower_value(arg, line, names, out)?;
+            Ok(())
+        }
+        None => put(Op::Push(0), line, out),
     }
 }
 

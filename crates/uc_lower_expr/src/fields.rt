@@ -8,7 +8,7 @@ ghost use Rattle.uc_tree.specs.Source.{Expr};
 ghost use Rattle.uc_resolve.specs.Resolve.{scalar, value_meant};
 ghost use Rattle.uc_lower_expr.specs.Meanings.{Tells};
 ghost use Rattle.uc_lower_expr.specs.Members.{AreFields, AreTables, FitClasses, IsField, IsNthField, count_fields, no_field, no_field_at};
-ghost use Rattle.uc_lower_expr.specs.FieldTables.{HasNames, Notes, is_number, length_by, one_scalar};
+ghost use Rattle.uc_lower_expr.specs.FieldTables.{HasNames, Notes, condition_by, conditions_by, is_number, length_by, number_by, one_scalar};
 
 use crate::meaning::{Meaning, Scalar, Standing};
 use std::alloc::{AllocError, Global};
@@ -19,16 +19,18 @@ use uc_names::scope::Scope;
 use uc_tree::class::{Class, Member, MemberForm};
 use uc_tree::declare::Declarator;
 use uc_tree::kinds::Base;
+use uc_tree::limits::LAST_CONDITION;
 use uc_tree::name::Name;
 use uc_tree::rows::Held;
 
 /// A field of a class: the cells before it in an object, whether it is a reference, whether its cell holds the number of what it is, as
-/// that of a mutex object does, and what is told of it as it is held.
+/// that of a mutex object does, the number of a condition, or of the first of its array, and what is told of it as it is held.
 #[derive(Clone, Copy, PartialEq, Eq, Debug)]
 pub struct Field {
     pub cell: u32,
     pub by_ref: bool,
     pub number: bool,
+    pub condition: Option<u32>,
     pub told: Meaning,
 }
 
@@ -41,13 +43,14 @@ impl Field {
     }
 }
 
-/// The fields of a class in order, with their places among them by name, and the cells that they take with those before them. The
-/// greatest number stands for all that are greater.
+/// The fields of a class in order, with their places among them by name, the cells that they take with those before them, and how
+/// many conditions they are. The greatest number stands for all that are greater.
 #[derive(Drop)]
 pub struct FieldTable {
     pub names: Scope,
     pub fields: Vec<Field>,
     pub cells: u64,
+    pub conditions: u64,
 }
 
 /// What is told of a value of this base.
@@ -98,6 +101,49 @@ fn is_number(declarator: &Declarator, numbered: bool) -> bool
     }
 }
 
+// The number of the condition behind so many; one beyond the last number counts as 0.
+fn number_behind(conditions: u64) -> u32
+    ensures { result ≡ number_by conditions }
+{
+    if conditions <= u64::from(LAST_CONDITION) {
+        conditions as u32
+    } else {
+        0
+    }
+}
+
+// The number of a field that is a condition, behind so many.
+fn condition_of(base: &Base, conditions: u64) -> Option<u32>
+    ensures { result ≡ condition_by base.now conditions }
+{
+    match base {
+        Base::Condition => Some(number_behind(conditions)),
+        Base::Void => None,
+        Base::Int => None,
+        Base::Char => None,
+        Base::Bool => None,
+        Base::Cluster => None,
+        Base::Processor => None,
+        Base::Named(_) => None,
+    }
+}
+
+// How many conditions so many elements of a base are.
+fn conditions_in(base: &Base, elements: u32) -> u32
+    ensures { result ≡ conditions_by base.now elements }
+{
+    match base {
+        Base::Condition => elements,
+        Base::Void => 0,
+        Base::Int => 0,
+        Base::Char => 0,
+        Base::Bool => 0,
+        Base::Cluster => 0,
+        Base::Processor => 0,
+        Base::Named(_) => 0,
+    }
+}
+
 // One more field. Memory is wanting where the cells before it are not below 2^32.
 fn note_field(
     table: &mut FieldTable,
@@ -120,6 +166,7 @@ fn note_field(
                 cell,
                 by_ref: declarator.by_ref,
                 number,
+                condition: condition_of(base, table.conditions),
                 told: Meaning {
                     elements: length_of(declarator, what.count),
                     standing: Standing::held_as(number),
@@ -127,6 +174,9 @@ fn note_field(
                 },
             })?;
             table.cells = table.cells.saturating_add(sizes.cells_of_held(&what));
+            table.conditions = table
+                .conditions
+                .saturating_add(u64::from(conditions_in(base, what.count)));
             Ok(())
         }
         Err(_) => Err(AllocError),
@@ -202,6 +252,7 @@ pub fn fields_of(
         names: no_places(alloc)?,
         fields: Vec::new(alloc),
         cells: u64::from(leading_cells(class.kind)),
+        conditions: 0,
     };
     note_members(
         &mut table,

@@ -1,11 +1,12 @@
 // What lowering tells of an expression besides its code.
 
-ghost use Rattle.std.specs.Prelude.{◌≡◌, None, false};
+ghost use Rattle.std.specs.Prelude.{◌≡◌, None, false, option_map};
 ghost use Rattle.uc_tree.specs.Objects.{shape_of};
-ghost use Rattle.uc_resolve.specs.Resolve.{class_or_event};
-ghost use Rattle.uc_lower_expr.specs.Meanings.{cell_in, held_as, shape_as};
+ghost use Rattle.uc_resolve.specs.Resolve.{class_or_event, condition_call};
+ghost use Rattle.uc_lower_expr.specs.Meanings.{call_of, cell_in, first_in, held_as, shape_as};
 
 use uc_tree::kinds::Base;
+use uc_tree::name::Name;
 
 /// How a place of a base keeps a number; a cluster or a processor is known by one, to which its place is bound.
 #[derive(Clone, Copy, PartialEq, Eq, Debug)]
@@ -16,11 +17,46 @@ pub enum Scalar {
     Binding,
 }
 
+/// A call of a condition.
+#[derive(Clone, Copy, PartialEq, Eq, Debug)]
+pub enum ConditionCall {
+    Wait,
+    Signal,
+    SignalBlock,
+    Empty,
+    Front,
+}
+
+impl ConditionCall {
+    // The call of this name.
+    pub(crate) fn named(name: &Name) -> Option<ConditionCall>
+        ensures { option_map call_of result ≡ condition_call name.now }
+    {
+        if name.is(b"wait") {
+            return Some(ConditionCall::Wait);
+        }
+        if name.is(b"signal") {
+            return Some(ConditionCall::Signal);
+        }
+        if name.is(b"signalBlock") {
+            return Some(ConditionCall::SignalBlock);
+        }
+        if name.is(b"empty") {
+            return Some(ConditionCall::Empty);
+        }
+        if name.is(b"front") {
+            return Some(ConditionCall::Front);
+        }
+        None
+    }
+}
+
 /// What an expression is: a variable that is no reference, by its first cell; a field that is none of the object of the running
 /// call, by its first cell in that; another place; a mutex object, a cluster or a processor, by its number; a value, `cin`, the member
 /// `fail` of `cin`, a routine by its number, a member of the object at the place, by the number of its routine, one of the coroutine
-/// there, which must be live, a mutex member of the object with the number, by its number in its class and that of its routine, or
-/// nothing, where a rule is broken.
+/// there, which must be live, a mutex member of the object with the number, by its number in its class and that of its routine, a
+/// condition, by its number or that of the first of its array, a call of the condition with the number, or nothing, where a rule is
+/// broken.
 #[derive(Clone, Copy, PartialEq, Eq, Debug)]
 pub enum Standing {
     Variable(u32),
@@ -34,6 +70,8 @@ pub enum Standing {
     Member(u32),
     LiveMember(u32),
     MutexMember { member: u8, routine: u32 },
+    Condition(u32),
+    CallOf(ConditionCall),
     Nothing,
 }
 
@@ -65,6 +103,30 @@ impl Standing {
             Standing::Member(_) => None,
             Standing::LiveMember(_) => None,
             Standing::MutexMember { .. } => None,
+            Standing::Condition(_) => None,
+            Standing::CallOf(_) => None,
+            Standing::Nothing => None,
+        }
+    }
+
+    // The number of the condition that an expression is, or of the first of its array.
+    pub(crate) fn condition(self) -> Option<u32>
+        ensures { result ≡ first_in self }
+    {
+        match self {
+            Standing::Condition(first) => Some(first),
+            Standing::Variable(_) => None,
+            Standing::Field(_) => None,
+            Standing::Place => None,
+            Standing::Number => None,
+            Standing::Value => None,
+            Standing::Input => None,
+            Standing::Fail => None,
+            Standing::Routine(_) => None,
+            Standing::Member(_) => None,
+            Standing::LiveMember(_) => None,
+            Standing::MutexMember { .. } => None,
+            Standing::CallOf(_) => None,
             Standing::Nothing => None,
         }
     }

@@ -8,7 +8,7 @@ ghost use Rattle.uc_code.specs.Drafts.{patched};
 ghost use Rattle.uc_resolve.specs.Resolve.{step_meant};
 ghost use Rattle.uc_lower_expr.specs.Meanings.{shape_as};
 ghost use Rattle.uc_lower_expr.specs.DraftGrowth.{Adds, Cuts, Grows, OpCode, RiskCode, ConvertCode, fetched};
-ghost use Rattle.uc_lower_expr.specs.Parts.{BeginCode, EndCode, UpdateCode, SetByCode, BehindCode, StepCode, Restarts, bumped};
+ghost use Rattle.uc_lower_expr.specs.Parts.{WaitCode, BeginCode, EndCode, UpdateCode, SetByCode, BehindCode, StepCode, Restarts, bumped};
 
 use crate::meaning::{Meaning, Scalar, Standing};
 use crate::ops::stepping;
@@ -56,6 +56,20 @@ pub fn restart(op: Op, start: u32, line: u32, out: &mut Draft) -> Result<(), All
     Ok(())
 }
 
+/// The execution waits for the condition with the number under what it stores, and is delivered events then.
+pub(crate) fn put_wait(line: u32, out: &mut Draft) -> Result<(), AllocError>
+    requires { length out.old.ops + 5 ≤ PROGRAM_OPS }
+    ensures { OnOk result (Adds 5 (WaitCode line out.old.marks) out.old out.new) }
+{
+    put(Op::Wait, line, out)?;
+    let begin = out.here();
+    put(Op::Poll(begin + 4), line, out)?;
+    put_at_risk(Op::Deliver(begin + 4), line, out)?;
+    put(Op::Discard, line, out)?;
+    put(Op::Jump(begin), line, out)?;
+    Ok(())
+}
+
 /// The value of what stands from `start` on: of a variable and of an own field in its place, of another place behind it.
 pub fn put_load(
     told: Meaning,
@@ -90,6 +104,8 @@ pub fn put_load(
         Standing::Member(_) => Ok(told.standing_as(Standing::Value)),
         Standing::LiveMember(_) => Ok(told.standing_as(Standing::Value)),
         Standing::MutexMember { .. } => Ok(told.standing_as(Standing::Value)),
+        Standing::Condition(_) => Ok(told.standing_as(Standing::Value)),
+        Standing::CallOf(_) => Ok(told.standing_as(Standing::Value)),
         Standing::Nothing => Ok(told.standing_as(Standing::Value)),
     }
 }

@@ -10,7 +10,7 @@ use Rattle.uc_code.specs.declared.rows.Cleaning.TheVariants as cleaning
 use Rattle.uc_code.specs.Drafts.{Draft}
 use Rattle.uc_code.specs.Layout.{Laid, laid_in, routine_in}
 use Rattle.uc_code.specs.CodeShapes.{Kept, ScopeOf}
-use Rattle.uc_code.specs.ObjectCalls.{Cleans, One, All, TakesDown, IsForgotten, Left, Ended, Freed}
+use Rattle.uc_code.specs.ObjectCalls.{Cleans, One, All, TakesDown, IsForgotten, Left, Ended, Freed, Restored}
 use Rattle.uc_code.specs.OpenRows.{AllBehind, CleansBehind}
 use Rattle.uc_code.specs.Lowered.{CleanAt, PadAt, StmtAt, StmtsAt}
 use Rattle.uc_code.proofs.Stable.{kept_refl, kept_then, kept_piece}
@@ -103,6 +103,7 @@ clean_by cleaning.Forget line o e = found_scope cleaning.Forget line o refl e
 clean_by cleaning.Leave line o e = absurd (none_some o e)
 clean_by cleaning.End line o e = found_scope cleaning.End line o refl e
 clean_by (cleaning.Free main) line o e = found_scope (cleaning.Free main) line o refl e
+clean_by (cleaning.Restore cell) line o e = found_scope (cleaning.Restore cell) line o refl e
 
 -- the clean-up of what is no mutex call has a scope here
 clean_some : (c : CleanUp) (what : Cleaning) (line : ℕ) → Cleans c what → NoCall c → scope_by what line ≡ Some (record { what = what; line = line })
@@ -113,6 +114,7 @@ clean_some c what line IsForgotten x = refl
 clean_some c what line Left x = absurd x
 clean_some c what line Ended x = refl
 clean_some c what line (Freed main) x = refl
+clean_some c what line (Restored cell) x = refl
 
 clean_scope : (m : Mark) (ms : List Mark) (o : ObjectScope) → scope_at m ≡ Some o → AllBehind (m ∷ ms) → InScope o.what o.line (m ∷ ms) × (leaves o.what ≡ false)
 clean_scope (mark.Clean what line row) ms o e b =

@@ -99,6 +99,8 @@ module _ (p : Program) (i : ℕ) where
   made_stable line manner.Plain r = nothing_stable
   made_stable line (manner.Makes c) r = both_stable (λ code. One code (op.Make c r) line) (one_stable (op.Make c r) line) (λ code. One code (op.BindMade c r) line) (one_stable (op.BindMade c r) line)
   made_stable line manner.Ends r = nothing_stable
+  made_stable line (manner.Opens of) r = nothing_stable
+  made_stable line (manner.Closes of) r = nothing_stable
 
   pub made_on : (mutex : Bool) (line c r : ℕ) (old mid new : Draft) → mutex ≡ true → c ≡ number_at p i → Adds 1 (OpCode line (op.Make c r)) old mid → Adds 1 (OpCode line (op.BindMade c r)) mid new → Adds 2 (MadeCode line (built_by p i mutex) r) old new
   made_on mutex line c r old mid new e n h g =

@@ -6,6 +6,7 @@ use Rattle.uc_code.specs.declared.rows.Array.{Array}
 use Rattle.uc_tree.specs.Source.{ToReturn}
 use Rattle.uc_code.specs.declared.rows.Manner.{Manner}
 use Rattle.uc_code.specs.declared.rows.Manner.TheVariants as manner
+use Rattle.uc_code.specs.declared.rows.Resource.TheVariants as resource
 use Rattle.uc_code.specs.declared.rows.Mark.{Mark}
 use Rattle.uc_code.specs.declared.rows.Mark.TheVariants as mark
 use Rattle.uc_code.specs.declared.rows.ObjectCall.{ObjectCall}
@@ -43,14 +44,17 @@ called_few : (b : Bool) → called_length b ≤ 2
 called_few true = omega arith
 called_few false = omega arith
 
-manner_few : (m : Manner) → manner_length m ≤ 2
-manner_few manner.Plain = omega arith
-manner_few (manner.Makes c) = omega arith
-manner_few manner.Ends = omega arith
+manner_few : (m : Manner) (b : Bool) → manner_length m b ≤ 4
+manner_few manner.Plain b = let a = called_few b in omega arith
+manner_few (manner.Makes c) b = let a = called_few b in omega arith
+manner_few manner.Ends b = let a = called_few b in omega arith
+manner_few (manner.Opens resource.Cluster) b = omega arith
+manner_few (manner.Opens resource.Processor) b = omega arith
+manner_few (manner.Closes of) b = omega arith
 
 clean_by_few : (o : Option Array) (what : ObjectCall) → clean_by o what ≤ 23
-clean_by_few None what = let a = place_few what.array in let b = called_few what.written in let c = manner_few what.manner in omega arith
-clean_by_few (Some x) what = let a = place_few what.array in let b = called_few what.written in let c = manner_few what.manner in omega arith
+clean_by_few None what = let a = place_few what.array in let b = manner_few what.manner what.written in omega arith
+clean_by_few (Some x) what = let a = place_few what.array in let b = manner_few what.manner what.written in omega arith
 
 -- the end of a scope takes no more than is reckoned for it; that of a mutex call ends with its routine
 pub close_few : (what : Cleaning) → leaves what ≡ false → 2 * clean_length what + 2 ≤ close_room what
@@ -60,6 +64,7 @@ close_few cleaning.Forget e = omega arith
 close_few cleaning.Leave e = absurd (true≢false e)
 close_few cleaning.End e = omega arith
 close_few (cleaning.Free main) e = omega arith
+close_few (cleaning.Restore cell) e = omega arith
 
 -- its second part needs room as well
 pub close_needs : (what : Cleaning) → leaves what ≡ false → clean_length what + most_clean what + 2 ≤ close_room what
@@ -69,6 +74,7 @@ close_needs cleaning.Forget e = omega arith
 close_needs cleaning.Leave e = absurd (true≢false e)
 close_needs cleaning.End e = omega arith
 close_needs (cleaning.Free main) e = omega arith
+close_needs (cleaning.Restore cell) e = omega arith
 
 -- a clean-up takes an op at least, and no more than any takes
 pub most_some : (what : Cleaning) → 1 ≤ most_clean what
@@ -78,6 +84,7 @@ most_some cleaning.Forget = omega arith
 most_some cleaning.Leave = omega arith
 most_some cleaning.End = omega arith
 most_some (cleaning.Free main) = omega arith
+most_some (cleaning.Restore cell) = omega arith
 
 most_few : (what : Cleaning) → most_clean what ≤ 23
 most_few (cleaning.Call what) = omega arith
@@ -86,6 +93,7 @@ most_few cleaning.Forget = omega arith
 most_few cleaning.Leave = omega arith
 most_few cleaning.End = omega arith
 most_few (cleaning.Free main) = omega arith
+most_few (cleaning.Restore cell) = omega arith
 
 -- what is laid out for this clean-up
 pub cleaned_as : (line : ℕ) (what this : Cleaning) (old new : Draft) → what ≡ this → Puts (most_clean this) (λ code. CleanAt code line this old.marks) old new → Puts (most_clean what) (λ code. CleanAt code line what old.marks) old new
@@ -112,6 +120,7 @@ cleans_past cleaning.Forget row ms b = tt
 cleans_past cleaning.Leave row ms b = tt
 cleans_past cleaning.End row ms b = tt
 cleans_past (cleaning.Free main) row ms b = tt
+cleans_past (cleaning.Restore cell) row ms b = tt
 
 pub cleans_under : (what : Cleaning) (row : ℕ) (ms : List Mark) → CleansBehind ms what → CleansBehind (mark.Part row ∷ ms) what
 cleans_under (cleaning.Call what) row ms b = record { behind = b.behind }
@@ -120,6 +129,7 @@ cleans_under cleaning.Forget row ms b = tt
 cleans_under cleaning.Leave row ms b = tt
 cleans_under cleaning.End row ms b = tt
 cleans_under (cleaning.Free main) row ms b = tt
+cleans_under (cleaning.Restore cell) row ms b = tt
 
 pub behind_part : (what : Cleaning) (ms ns : List Mark) → InPart ms → CleansBehind ms what → ns ≡ drop 1 ms → CleansBehind ns what
 behind_part what ms ns h b e =
@@ -142,6 +152,7 @@ unwound code line cleaning.Forget ms a z f l h = h
 unwound code line cleaning.Leave ms a z f l h = absurd (true≢false l)
 unwound code line cleaning.End ms a z f l h = h
 unwound code line (cleaning.Free main) ms a z f l h = absurd (true≢false f)
+unwound code line (cleaning.Restore cell) ms a z f l h = h
 
 given_up : (code : Laid) (line : ℕ) (what : Cleaning) (ms : List Mark) (a z : ℕ) → frees what ≡ true → Both (One code op.GiveUp line) (Risk code ms op.Unwind line) a z → PadAt code line what ms a z
 given_up code line (cleaning.Call what) ms a z f h = absurd (true≢false (sym f))
@@ -150,6 +161,7 @@ given_up code line cleaning.Forget ms a z f h = absurd (true≢false (sym f))
 given_up code line cleaning.Leave ms a z f h = absurd (true≢false (sym f))
 given_up code line cleaning.End ms a z f h = absurd (true≢false (sym f))
 given_up code line (cleaning.Free main) ms a z f h = h
+given_up code line (cleaning.Restore cell) ms a z f h = absurd (true≢false (sym f))
 
 pub pad_given_up : (line : ℕ) (what : Cleaning) (d0 d1 d2 : Draft) → frees what ≡ true → Puts 1 (λ code. One code op.GiveUp line) d0 d1 → Puts 1 (λ code. Risk code d1.marks op.Unwind line) d1 d2 → Puts (most_clean what + 1) (λ code. PadAt code line what d0.marks) d0 d2
 pad_given_up line what d0 d1 d2 f p q =
@@ -168,6 +180,7 @@ pad_is code line cleaning.Forget ms a z l h = let e = h.first.end in let f = h.s
 pad_is code line cleaning.Leave ms a z l h = absurd (true≢false l)
 pad_is code line cleaning.End ms a z l h = let e = h.first.end in let f = h.second.end in omega arith
 pad_is code line (cleaning.Free main) ms a z l h = let e = h.first.end in let f = h.second.end in omega arith
+pad_is code line (cleaning.Restore cell) ms a z l h = let e = h.first.end in let f = h.second.end in omega arith
 
 -- the end of a scope: a pad that is as long as is reckoned beforehand
 

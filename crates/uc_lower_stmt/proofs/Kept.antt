@@ -1,6 +1,6 @@
 -- The code of statements goes on standing where its own range does not change.
 use Rattle.std.proofs.Common.{ℕ, ◌+◌, arith, pos, Bool, true, false, List, [], ◌∷◌, Option, Some, None, length}
-use Rattle.uc_tree.specs.Source.{Expr, CleanUp, Item, Show, ShowText, Target, Declared, Stmt, Skip, Block, Whole, Evaluate, Declare, Print, PrintTogether, Read, If, Loop, Break, Continue, Return, Owes, Fill, OfEvents, OfTasks, TaskStmt, Resume, Suspend, SetUp, Enliven, TakeDown, Yield, Migrate, Accept, EventStmt, Throw, Raise, Try, RaiseAt, Enable, Disable, Raised, Plainly, BuiltAt as BuildsAt, AgainFrom, Handlers, NoHandlers, MoreHandlers, Stmts, Nil, Then, Scoped, Built, Way, ToBreak, ToContinue, ToReturn, ToEnd}
+use Rattle.uc_tree.specs.Source.{Clauses, NoClauses, Otherwise, MoreClauses, clause_count, Restores, Expr, CleanUp, Item, Show, ShowText, Target, Declared, Stmt, Skip, Block, Whole, Evaluate, Declare, Print, PrintTogether, Read, If, Loop, Break, Continue, Return, Owes, Fill, OfEvents, OfTasks, TaskStmt, Resume, Suspend, SetUp, Enliven, TakeDown, Yield, Migrate, Accept, EventStmt, Throw, Raise, Try, RaiseAt, Enable, Disable, Raised, Plainly, BuiltAt as BuildsAt, AgainFrom, Handlers, NoHandlers, MoreHandlers, Stmts, Nil, Then, Scoped, Built, Way, ToBreak, ToContinue, ToReturn, ToEnd}
 use Rattle.uc_code.specs.declared.op.Op.{Op}
 use Rattle.uc_code.specs.declared.op.Op.TheVariants as op
 use Rattle.uc_code.specs.declared.rows.Cleaning.{Cleaning}
@@ -8,11 +8,11 @@ use Rattle.uc_code.specs.declared.rows.Cleaning.TheVariants as cleaning
 use Rattle.uc_code.specs.declared.rows.Mark.{Mark}
 use Rattle.uc_code.specs.declared.rows.Mark.TheVariants as mark
 use Rattle.uc_tree.specs.Hidden.{EVENT_FIELDS}
-use Rattle.uc_code.specs.CodeShapes.{Both, HandledAt, Stable, main_end}
+use Rattle.uc_code.specs.CodeShapes.{One, PollAt, Both, HandledAt, Stable, main_end}
 use Rattle.uc_code.specs.Layout.{Laid, handlers}
 use Rattle.uc_code.specs.declared.rows.ObjectCall.{ObjectCall}
-use Rattle.uc_code.specs.Lowered.{item_op, ExprAt, ValueAt, PiecesAt, StepAt, Any, ExitAt, CallBuilt, CallDone, CleanAt, ArrivesAt, PadAt, FilledAt, ScopedAt, BuiltAt, TaskAt, StmtAt, StmtsAt, RaisedAt, KeepAt, KeepsAt, HandlerBy, NamedAt, EventAt, HandlersAt, handler_of, handler_rows}
-use Rattle.uc_code.proofs.Stable.{part, leaves_stable, nothing_stable, never_stable, one_stable, risk_stable, poll_stable, turns_stable, whole_stable, guarded_stable, handled_stable, apart_stable, elements_stable, scope_stable, behind_part_stable}
+use Rattle.uc_code.specs.Lowered.{GuardsAt, BranchesAt, item_op, ExprAt, ValueAt, PiecesAt, StepAt, Any, ExitAt, CallBuilt, CallDone, CleanAt, ArrivesAt, PadAt, FilledAt, ScopedAt, BuiltAt, TaskAt, StmtAt, StmtsAt, RaisedAt, KeepAt, KeepsAt, HandlerBy, NamedAt, EventAt, HandlersAt, handler_of, handler_rows}
+use Rattle.uc_code.proofs.Stable.{accepts_stable, chooses_stable, clause_stable, else_stable, none_stable, part, leaves_stable, nothing_stable, one_stable, risk_stable, poll_stable, turns_stable, whole_stable, guarded_stable, handled_stable, apart_stable, elements_stable, scope_stable, behind_part_stable}
 use Rattle.uc_code.proofs.Putting.{clean_stable, done_stable}
 use Rattle.uc_lower_expr.proofs.Settled.{both, fork, expr_stable}
 use Rattle.uc_lower_stmt.specs.Objects.{FillCode}
@@ -144,6 +144,7 @@ pad_stable line cleaning.Forget ms = both (clean_stable line cleaning.Forget ms)
 pad_stable line cleaning.Leave ms = arrives_stable line ms
 pad_stable line cleaning.End ms = both (clean_stable line cleaning.End ms) (risk_stable ms op.Unwind line)
 pad_stable line (cleaning.Free main) ms = both (one_stable op.GiveUp line) (risk_stable ms op.Unwind line)
+pad_stable line (cleaning.Restore cell) ms = both (clean_stable line (cleaning.Restore cell) ms) (risk_stable ms op.Unwind line)
 
 module _ (line : ℕ) (ms : List Mark) (c : CleanUp) (B : Laid → List Mark → ℕ → ℕ → Type 0) (b : (ns : List Mark) → Stable (λ code. B code ns)) where
   pub scoped_stable : Stable (λ code. ScopedAt code line ms c (B code))
@@ -182,16 +183,6 @@ named_stable event B b = record {
   moves = λ old new a z s h. record { named = h.named; handler = b.moves old new a z s h.handler };
 }
 
-task_stable : (ms : List Mark) (s : TaskStmt) → Stable (λ code. TaskAt code ms s)
-task_stable ms (Resume line) = both (one_stable op.Resume line) (both (risk_stable ms op.Land line) (poll_stable ms line))
-task_stable ms (Suspend line) = both (one_stable op.Suspend line) (both (risk_stable ms op.Land line) (poll_stable ms line))
-task_stable ms (SetUp r) = one_stable (op.Coroutine r) 0
-task_stable ms Enliven = one_stable op.Live 0
-task_stable ms TakeDown = one_stable op.UnwindCoroutine 0
-task_stable ms (Yield line) = both (one_stable op.Yield line) (poll_stable ms line)
-task_stable ms (Migrate line e) = never_stable
-task_stable ms (Accept line site cs) = never_stable
-
 mutual
   pub stmt_stable : (ms : List Mark) (s : Stmt) → Stable (λ code. StmtAt code ms s)
   stmt_stable ms (Skip line) = nothing_stable
@@ -220,14 +211,39 @@ mutual
   stmts_stable ms line (Scoped c ss) = scoped_stable line ms c (λ code ns. StmtsAt code ns line ss) (λ ns. stmts_stable ns line ss)
   stmts_stable ms line (Built c ss) = parted_stable line ms c (λ code ns. StmtsAt code ns line ss) (λ ns. stmts_stable ns line ss)
 
+  guards_stable : (line : ℕ) (ms : List Mark) (cs : Clauses) → Stable (λ code. GuardsAt code ms line cs)
+  guards_stable line ms NoClauses = nothing_stable
+  guards_stable line ms (Otherwise b) = nothing_stable
+  guards_stable line ms (MoreClauses guard b cs) = both (expr_stable line ms guard) (guards_stable line ms cs)
+
+  task_stable : (ms : List Mark) (s : TaskStmt) → Stable (λ code. TaskAt code ms s)
+  task_stable ms (Resume line) = both (one_stable op.Resume line) (both (risk_stable ms op.Land line) (poll_stable ms line))
+  task_stable ms (Suspend line) = both (one_stable op.Suspend line) (both (risk_stable ms op.Land line) (poll_stable ms line))
+  task_stable ms (SetUp r) = one_stable (op.Coroutine r) 0
+  task_stable ms Enliven = one_stable op.Live 0
+  task_stable ms TakeDown = one_stable op.UnwindCoroutine 0
+  task_stable ms (Yield line) = both (one_stable op.Yield line) (poll_stable ms line)
+  task_stable ms (Migrate line e) = both (expr_stable line ms e) (one_stable op.Migrate line)
+  task_stable ms (Accept line site cs) =
+      both (guards_stable line ms cs) (both (accepts_stable ms site (clause_count cs) line)
+      (chooses_stable line (clause_count cs) (λ code o ps end. BranchesAt code ms line cs o ps end) (λ o ps end. branches_stable ms line cs o ps end)))
+
+  branches_stable : (ms : List Mark) (line : ℕ) (cs : Clauses) (o : ℕ) (ps : List ℕ) (end : ℕ) → Stable (λ code. BranchesAt code ms line cs o ps end)
+  branches_stable ms line NoClauses o ps end = none_stable o ps end
+  branches_stable ms line (Otherwise b) o ps end = else_stable o ps (λ code. StmtAt code ms b) (stmt_stable ms b)
+  branches_stable ms line (MoreClauses guard b cs) o ps end =
+      clause_stable line ps end (λ code. StmtAt code ms b) (λ code rest. BranchesAt code ms line cs o rest end) (stmt_stable ms b) (λ rest. branches_stable ms line cs o rest end)
+
   pub event_stable : (ms : List Mark) (s : EventStmt) → Stable (λ code. EventAt code ms s)
   event_stable ms (Throw line r) = both (raised_stable line ms r) (risk_stable ms op.Throw line)
   event_stable ms (Raise line r) = both (raised_stable line ms r) (both (risk_stable ms op.Raise line) (one_stable op.Discard line))
   event_stable ms (Try line body hs) =
       guarded_stable line (handler_rows hs) ms (λ code ns. StmtsAt code ns line body) (λ code first exit. HandlersAt code ms first exit hs) (λ ns. stmts_stable ns line body) (λ first exit. handlers_stable ms first exit hs)
-  event_stable ms (RaiseAt line r e) = never_stable
-  event_stable ms (Enable line events cell s) = never_stable
-  event_stable ms (Disable line events cell s) = never_stable
+  event_stable ms (RaiseAt line r e) = both (raised_stable line ms r) (both (expr_stable line ms e) (one_stable op.RaiseAt line))
+  event_stable ms (Enable line events cell s) =
+      scoped_stable line ms (Restores cell) (λ code ns. Both (One code (op.Enable events cell) line) (Both (PollAt code ns line) (StmtAt code ns s))) (λ ns. both (one_stable (op.Enable events cell) line) (both (poll_stable ns line) (stmt_stable ns s)))
+  event_stable ms (Disable line events cell s) =
+      scoped_stable line ms (Restores cell) (λ code ns. Both (One code (op.Disable events cell) line) (StmtAt code ns s)) (λ ns. both (one_stable (op.Disable events cell) line) (stmt_stable ns s))
 
   pub handlers_stable : (ms : List Mark) (first exit : ℕ) (hs : Handlers) → Stable (λ code. HandlersAt code ms first exit hs)
   handlers_stable ms first exit NoHandlers = nothing_stable

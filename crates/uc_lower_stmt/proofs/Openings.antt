@@ -28,7 +28,7 @@ use Rattle.uc_code.specs.declared.rows.Spot.{Spot}
 use Rattle.uc_code.specs.declared.rows.Spot.TheVariants.{Local}
 use Rattle.uc_code.specs.Drafts.{Draft}
 use Rattle.uc_code.specs.Layout.{laid_in, routine_in}
-use Rattle.uc_code.specs.ObjectCalls.{BeginsAt, InFrame, Cleans, One as CleansOne, All, TakesDown, IsForgotten, Left, Ended, Freed}
+use Rattle.uc_code.specs.ObjectCalls.{BeginsAt, InFrame, Cleans, One as CleansOne, All, TakesDown, IsForgotten, Left, Ended, Freed, Restored}
 use Rattle.uc_code.specs.OpenRows.{StandsBehind, CleansBehind, opened}
 use Rattle.uc_code.specs.Emits.{Puts}
 use Rattle.uc_code.specs.CodeShapes.{One, Kept}
@@ -90,6 +90,7 @@ counts_one c what calls IsForgotten x = refl
 counts_one c what calls Left x = absurd x
 counts_one c what calls Ended x = refl
 counts_one c what calls (Freed main) x = refl
+counts_one c what calls (Restored cell) x = refl
 
 pub closes_few : (c : CleanUp) (what : Cleaning) → Cleans c what → close_room what ≤ 48
 closes_few c what (CleansOne e w k n) = omega arith
@@ -99,6 +100,7 @@ closes_few c what IsForgotten = omega arith
 closes_few c what Left = omega arith
 closes_few c what Ended = omega arith
 closes_few c what (Freed main) = omega arith
+closes_few c what (Restored cell) = omega arith
 
 module _ (p : Program) (m : Making) (b : Base) (d : Declarator) (line block cell cells : ℕ) (elements : Option ℕ) (args : List tree.Expr) (what : Cleaning) (d0 d1 d2 d3 new : Draft)
     (le : cell ≡ d0.cells) (ce : cells ≡ declared_cells p b d) (ne : elements ≡ length_of p d d.len) (ae : (c : Context) → args_meant c (exprs_of args) ≡ started_args c d.start) (few : exprs_size (exprs_of args) ≤ start_size d.start)

@@ -160,6 +160,7 @@ calls_few (mark.Clean cleaning.Forget line row ∷ ms) = calls_few ms
 calls_few (mark.Clean cleaning.Leave line row ∷ ms) = omega arith
 calls_few (mark.Clean cleaning.End line row ∷ ms) = calls_few ms
 calls_few (mark.Clean (cleaning.Free main) line row ∷ ms) = calls_few ms
+calls_few (mark.Clean (cleaning.Restore cell) line row ∷ ms) = calls_few ms
 calls_few (mark.Part row ∷ ms) = calls_few ms
 calls_few (mark.Elements row ∷ ms) = calls_few ms
 calls_few (mark.Outward below row ∷ ms) = calls_few ms
@@ -177,6 +178,7 @@ exit_counted (mark.Clean cleaning.Forget line row ∷ ms) = let h = exit_counted
 exit_counted (mark.Clean cleaning.Leave line row ∷ ms) = let h = exit_counted ms in omega arith
 exit_counted (mark.Clean cleaning.End line row ∷ ms) = let h = exit_counted ms in omega arith
 exit_counted (mark.Clean (cleaning.Free main) line row ∷ ms) = let h = exit_counted ms in omega arith
+exit_counted (mark.Clean (cleaning.Restore cell) line row ∷ ms) = let h = exit_counted ms in omega arith
 exit_counted (mark.Part row ∷ ms) = exit_counted ms
 exit_counted (mark.Elements row ∷ ms) = exit_counted ms
 exit_counted (mark.Outward below row ∷ ms) = omega arith

@@ -67,6 +67,7 @@ scope_by cleaning.Forget line = Some (record { what = cleaning.Forget; line = li
 scope_by cleaning.Leave line = None
 scope_by cleaning.End line = Some (record { what = cleaning.End; line = line })
 scope_by (cleaning.Free main) line = Some (record { what = cleaning.Free main; line = line })
+scope_by (cleaning.Restore cell) line = Some (record { what = cleaning.Restore cell; line = line })
 
 abbrev pub scope_at : Mark → Option ObjectScope
 scope_at (mark.Clean what line row) = scope_by what line

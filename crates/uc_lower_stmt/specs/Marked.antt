@@ -16,6 +16,7 @@ called_by cleaning.Forget calls = calls
 called_by cleaning.Leave calls = 1
 called_by cleaning.End calls = calls
 called_by (cleaning.Free main) calls = calls
+called_by (cleaning.Restore cell) calls = calls
 
 abbrev pub calls_in : List Mark → ℕ
 calls_in [] = 0
@@ -39,6 +40,7 @@ counted_by cleaning.Forget calls = 1
 counted_by cleaning.Leave calls = calls
 counted_by cleaning.End calls = 1
 counted_by (cleaning.Free main) calls = 1
+counted_by (cleaning.Restore cell) calls = 1
 
 abbrev pub objects_in : List Mark → ℕ
 objects_in [] = 0
@@ -61,6 +63,7 @@ close_room cleaning.Forget = 4
 close_room cleaning.Leave = 0
 close_room cleaning.End = 4
 close_room (cleaning.Free main) = 4
+close_room (cleaning.Restore cell) = 4
 
 abbrev pub closing : List Mark → ℕ
 closing [] = 0

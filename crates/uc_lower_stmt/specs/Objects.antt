@@ -101,6 +101,8 @@ abbrev pub MadeCode : ℕ → Manner → ℕ → Laid → ℕ → ℕ → Type 0
 MadeCode line manner.Plain r code = Nothing
 MadeCode line (manner.Makes c) r code = Both (One code (op.Make c r) line) (One code (op.BindMade c r) line)
 MadeCode line manner.Ends r code = Nothing
+MadeCode line (manner.Opens of) r code = Nothing
+MadeCode line (manner.Closes of) r code = Nothing
 
 -- what is given up where it is unwound: the building of a mutex object
 abbrev pub frees : Cleaning → Bool
@@ -110,6 +112,7 @@ frees cleaning.Forget = false
 frees cleaning.Leave = false
 frees cleaning.End = false
 frees (cleaning.Free main) = true
+frees (cleaning.Restore cell) = false
 
 -- what leaves a mutex call
 abbrev pub leaves : Cleaning → Bool
@@ -119,6 +122,7 @@ leaves cleaning.Forget = false
 leaves cleaning.Leave = true
 leaves cleaning.End = false
 leaves (cleaning.Free main) = false
+leaves (cleaning.Restore cell) = false
 
 -- the op of a clean-up that ends the building of a mutex object, where a task begins with its main
 abbrev pub free_op : Option ℕ → Op
@@ -133,6 +137,7 @@ most_clean cleaning.Forget = 1
 most_clean cleaning.Leave = clean_room
 most_clean cleaning.End = 1
 most_clean (cleaning.Free main) = 1
+most_clean (cleaning.Restore cell) = 1
 
 -- the marks of a mutex call, outside of its scope: those of a routine alone, so that a return ends it
 pub record InCall (ms : List Mark) : Type 0 where

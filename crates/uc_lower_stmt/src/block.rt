@@ -111,6 +111,7 @@ fn scope_by(what: Cleaning, line: u32) -> Option<ObjectScope>
         Cleaning::Leave => None,
         Cleaning::End => Some(ObjectScope { what, line }),
         Cleaning::Free(_) => Some(ObjectScope { what, line }),
+        Cleaning::Restore(_) => Some(ObjectScope { what, line }),
     }
 }
 

@@ -279,6 +279,7 @@ fn frees(what: Cleaning) -> bool
         Cleaning::Leave => false,
         Cleaning::End => false,
         Cleaning::Free(_) => true,
+        Cleaning::Restore(_) => false,
     }
 }
 
@@ -321,6 +322,10 @@ fn put_cleaned(what: Cleaning, line: u32, out: &mut Draft) -> Result<(), AllocEr
         }
         Cleaning::Free(main) => {
             put(free_op(main), line, out)?;
+            Ok(())
+        }
+        Cleaning::Restore(cell) => {
+            put(Op::Restore(cell), line, out)?;
             Ok(())
         }
     }

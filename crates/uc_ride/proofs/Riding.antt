@@ -122,7 +122,7 @@ kept_by code v (ask.Made x0) m l b o = record { run = l.1; begun = b; others = o
 kept_by code v (ask.Spawn x0) m l b o = record { run = l.1; begun = b; others = o }
 kept_by code v (ask.Call x0 x1) m l b o = record { run = l.1; begun = b; others = o }
 kept_by code v (ask.Leave x0 x1) m l b o = record { run = l; begun = b; others = o }
-kept_by code v (ask.Accept x0 x1 x2) m l b o = record { run = l.1; begun = b; others = o }
+kept_by code v (ask.Accept x0 x1 x2) m l b o = record { run = l; begun = b; others = o }
 kept_by code v (ask.Wait x0 x1 x2) m l b o = record { run = l.1; begun = b; others = o }
 kept_by code v (ask.Signal x0 x1) m l b o = record { run = l.1; begun = b; others = o }
 kept_by code v (ask.SignalBlock x0 x1) m l b o = record { run = l.1; begun = b; others = o }

@@ -19,5 +19,8 @@ pub mod Idles
 pub mod SimulateSwitches
 pub mod SimulatePolls
 pub mod SimulateMutex
+pub mod SimulateRequests
+pub mod SimulateEvents
+pub mod SimulateAccepting
 pub mod Unbound
 pub mod Answered

@@ -1,7 +1,10 @@
 // One op of a task: what the source machine does in some quiet steps.
 #![tactic(auto)]
 
+mod accepting;
 pub mod begin;
+mod clusters;
+mod conditions;
 mod coroutines;
 mod jumps;
 mod memory;
@@ -9,6 +12,7 @@ mod mutex;
 mod numbers;
 mod objects;
 mod operators;
+mod others;
 mod outside;
 mod polls;
 mod pushes;

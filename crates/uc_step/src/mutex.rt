@@ -17,7 +17,7 @@ use uc_machine::exec::Reason;
 use uc_tree::limits::CALLS;
 
 // A mutex object by its number.
-fn object_in(cell: Cell) -> u32
+pub(crate) fn object_in(cell: Cell) -> u32
     ensures { result ≡ object_in cell }
 {
     match cell {
@@ -27,7 +27,7 @@ fn object_in(cell: Cell) -> u32
 }
 
 // The object of the running call.
-fn this_object(work: &Work) -> u32
+pub(crate) fn this_object(work: &Work) -> u32
     ensures { result ≡ this_object work.now }
 {
     object_in(work.this())

@@ -22,3 +22,6 @@ returns-in_ok-put-in-End c = puts_clean c.args.line c.args.what _ c.args.out.now
 
 pub returns-in_ok-put_freed-in-Free : goal.returns-in_ok-put_freed-in-Free
 returns-in_ok-put_freed-in-Free c = puts_clean c.args.line c.args.what _ c.args.out.now c.put_freed.new.out c.in-Free.is (omega arith) c.in_ok-put_freed-in-Free.ensures
+
+pub returns-in_ok-put-in-Restore : goal.returns-in_ok-put-in-Restore
+returns-in_ok-put-in-Restore c = puts_clean c.args.line c.args.what _ c.args.out.now c.put-in-Restore.new.out c.in-Restore.is (omega arith) c.in_ok-put-in-Restore.ensures

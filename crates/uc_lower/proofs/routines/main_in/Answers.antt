@@ -1,4 +1,4 @@
-use Rattle.std.proofs.Common.{◌≡◌, Bool, true, false, ap, sym, ◌∙◌}
+use Rattle.std.proofs.Common.{Bool, ap, sym, ◌∙◌}
 use Rattle.std.specs.Prelude.{◌&&◌, ◌||◌}
 use Rattle.uc_resolve.specs.Resolve.{class_by, has_tasks, is_main}
 use Rattle.uc_lower.proofs.Mained.{mains_else, mains_first, mains_none}

@@ -1,5 +1,6 @@
 use Rattle.std.proofs.Common.{◌+◌, ◌*◌, ◌-◌, pos, length, take, refl, ap, sym, subst, ◌∙◌, rules, arith}
 use Rattle.std.proofs.lemmas.Option.{slice_get_read}
+use Rattle.std.proofs.lemmas.Result.{on_ok_weaker}
 use Rattle.uc_code.specs.Drafts.{Draft}
 use Rattle.uc_tree.specs.declared.limits.TheConstants.{OPS_FOR_SIZE}
 use Rattle.uc_tree.specs.ExpressionSizes.{expr_size, exprs_size, link_size}
@@ -7,16 +8,17 @@ use Rattle.uc_resolve.specs.Resolve.{Context, args_by, meant, value_of}
 use Rattle.uc_code.specs.declared.op.Op.TheVariants as op
 use Rattle.uc_lower_expr.specs.declared.ops.Joining.TheVariants as joining
 use Rattle.uc_lower_expr.specs.Contexts.{context_in}
-use Rattle.uc_lower_expr.proofs.Adding.{adds_settled, rest_behind, rest_then, live_in, mutex_in, risk_in, adds_more, adds_both, adds_fork}
+use Rattle.uc_lower_expr.proofs.Adding.{adds_settled, rest_behind, rest_then, live_in, wait_in, mutex_in, risk_in, adds_more, adds_both, adds_fork}
 use Rattle.uc_lower_expr.proofs.Growing.{grows_settled}
 use Rattle.uc_lower_expr.proofs.Settled.{expr_stable, value_truth_stable}
 use Rattle.uc_code.proofs.Stable.{one_stable}
+use Rattle.uc_lower_expr.specs.declared.meaning.ConditionCall.TheVariants as calls
 use Rattle.uc_lower_expr.specs.declared.meaning.Standing.TheVariants as standing
 use Rattle.uc_tree.specs.declared.ops.UnaryOp.{UnaryOp}
 use Rattle.uc_tree.specs.declared.ops.StepOp.TheVariants as step
 use Rattle.uc_tree.specs.Expressions.{exprs_of}
-use Rattle.uc_resolve.specs.Resolve.{Standing, args_meant, call_by, unary_meant}
-use Rattle.uc_lower_expr.proofs.Walks.{tree_is, value_in, arm_number, arm_character, arm_truth, arm_cin, arm_minus, arm_not, arm_value, arm_argument, arm_bumped, told_bumped, arm_assigned, told_assigned, arm_to_variable, arm_to_place, arm_set, arm_set_by, arm_keep, arm_keep_by, variable_in_cut, args_in_cut, arm_link, right_as, links_fit, links_step, links_end, part_is, arm_called, arm_routine, arm_member_called, arm_live_called, arm_mutex_called, field_not_called, grown_in, not_called, called_part, stepped_part, args_begin, args_step, args_skip, args_fit, parts_fit, parts_step, arm_no_element, arm_element, some_size, arm_postfix, told_postfix, arm_chain, told_chain, postfix_size, chain_size}
+use Rattle.uc_resolve.specs.Resolve.{Standing, args_meant, call_by, stored_by, unary_meant}
+use Rattle.uc_lower_expr.proofs.Walks.{stored_fit, stored_first, stored_none, arm_condition_element, arm_condition_called, called_one, called_wait, tree_is, value_in, arm_number, arm_character, arm_truth, arm_cin, arm_minus, arm_not, arm_value, arm_argument, arm_bumped, told_bumped, arm_assigned, told_assigned, arm_to_variable, arm_to_place, arm_set, arm_set_by, arm_keep, arm_keep_by, variable_in_cut, args_in_cut, arm_link, right_as, links_fit, links_step, links_end, part_is, arm_called, arm_routine, arm_member_called, arm_live_called, arm_mutex_called, field_not_called, grown_in, not_called, called_part, stepped_part, args_begin, args_step, args_skip, args_fit, parts_fit, parts_step, arm_no_element, arm_element, some_size, arm_postfix, told_postfix, arm_chain, told_chain, postfix_size, chain_size}
 use Rattle.uc_lower_expr.specs.DraftGrowth.{Adds, ArgumentsCode}
 use Rattle.uc_lower_expr.proofs.expr.+lower.Goals.{lower_args-then-place-params+in_ok-lower_arg, lower_args-else-place-params}
 use Rattle.uc_lower_expr.proofs.expr.+lower.Goals as goal
@@ -53,8 +55,14 @@ lower_expr-returns-in_ok-told-in-Postfix-clause-tells t c =
 pub lower_index-returns-in_ok-restart-in-None : goal.lower_index-returns-in_ok-restart-in-None
 lower_index-returns-in_ok-restart-in-None t c = arm_no_element c.args.out.now.marks c.args.names.now _ _ _ (meant (context_in c.args.names.now c.args.out.now) c.args.index.now) _ _ _ _ (omega arith) c.requires.inside c.in-None.is c.nothing.ensures c.in_ok-restart-in-None.ensures
 
-pub lower_index-returns-in_ok-element-in-Some : goal.lower_index-returns-in_ok-element-in-Some
-lower_index-returns-in_ok-element-in-Some t c = arm_element c.args.out.now.marks c.args.names.now (OPS_FOR_SIZE * expr_size c.args.index.now) _ c.args.line _ c.in-Some.length c.element_size-size.result (meant (context_in c.args.names.now c.args.out.now) c.args.index.now) c.args.told _ _ _ _ _ c.element_size-size.ensures (omega arith) c.requires.inside c.in-Some.is c.in_ok-element-in-Some.ensures.tells c.in_ok-_index-in-Some.ensures.code c.in_ok-put-in-Some.ensures c.in_ok-element-in-Some.ensures.code
+pub lower_index-returns-in_ok-element-in-None-condition : goal.lower_index-returns-in_ok-element-in-None-condition
+lower_index-returns-in_ok-element-in-None-condition t c = arm_element c.args.out.now.marks c.args.names.now (OPS_FOR_SIZE * expr_size c.args.index.now) _ c.args.line _ c.in-Some.length c.element_size-size.result (meant (context_in c.args.names.now c.args.out.now) c.args.index.now) c.args.told _ _ _ _ _ c.element_size-size.ensures (omega arith) c.requires.inside c.in-Some.is (sym c.in-None-condition.is ∙ c.condition.ensures) c.in_ok-element-in-None-condition.ensures.tells c.in_ok-_index-in-None-condition.ensures.code c.in_ok-put-in-None-condition.ensures c.in_ok-element-in-None-condition.ensures.code
+
+pub lower_index-returns-in_ok-put-in-Some-condition : goal.lower_index-returns-in_ok-put-in-Some-condition
+lower_index-returns-in_ok-put-in-Some-condition t c =
+    arm_condition_element c.args.out.now.marks c.args.names.now (OPS_FOR_SIZE * expr_size c.args.index.now) _ c.args.line c.args.start c.in-Some.length c.in-Some-condition.first (meant (context_in c.args.names.now c.args.out.now) c.args.index.now) c.args.told _ _ _ _ _ (omega arith) c.requires.inside c.in-Some.is (sym c.in-Some-condition.is ∙ c.condition.ensures) refl c.cut.ensures
+    (value_in c.args.names.now _ c.args.line c.args.index.now c.args.out.now _ _ _ c.cut.ensures.rest c.in_ok-_index-in-Some-condition.ensures.code)
+    c.in_ok-put-in-Some-condition.ensures
 
 pub lower_parts-lower_part-requires : goal.lower_parts-lower_part-requires
 lower_parts-lower_part-requires t c =
@@ -232,7 +240,7 @@ lower_call-returns-in_ok-put_mutex_call-in-MutexMember t c =
     (mutex_in c.args.line c.in-MutexMember.member c.in-MutexMember.routine c.args.out.now _ _ c.in_ok-lower_args-in-MutexMember.ensures.rest c.in_ok-put_mutex_call-in-MutexMember.ensures)
 
 pub lower_call-returns-in-Variable : goal.lower_call-returns-in-Variable
-lower_call-returns-in-Variable t c = not_called c.args.out.now.marks c.put_nothing.result c.args.names.now _ c.args.line c.args.start (standing.Variable c.in-Variable.field-0) _ c.args.told _ _ (omega arith) c.requires.inside c.in-Variable.is (λ o m h. ap (λ (x : Standing). call_by c.args.names.now x m (args_meant (context_in c.args.names.now c.args.out.now) (exprs_of c.args.args.now))) h) c.put_nothing.ensures.code c.put_nothing.ensures.tells
+lower_call-returns-in-Variable t c = not_called c.args.out.now.marks c.put_nothing-in-Variable.result c.args.names.now _ c.args.line c.args.start (standing.Variable c.in-Variable.field-0) _ c.args.told _ _ (omega arith) c.requires.inside c.in-Variable.is (λ o m h. ap (λ (x : Standing). call_by c.args.names.now x m (args_meant (context_in c.args.names.now c.args.out.now) (exprs_of c.args.args.now))) h) c.put_nothing-in-Variable.ensures.code c.put_nothing-in-Variable.ensures.tells
 
 pub lower_call-returns-in-Field : goal.lower_call-returns-in-Field
 lower_call-returns-in-Field t c = not_called c.args.out.now.marks c.put_nothing-in-Field.result c.args.names.now _ c.args.line c.args.start (standing.Field c.in-Field.field-0) _ c.args.told _ _ (omega arith) c.requires.inside c.in-Field.is (field_not_called c.args.names.now c.in-Field.field-0 (args_meant (context_in c.args.names.now c.args.out.now) (exprs_of c.args.args.now))) c.put_nothing-in-Field.ensures.code c.put_nothing-in-Field.ensures.tells
@@ -251,6 +259,49 @@ lower_call-returns-in-Input t c = not_called c.args.out.now.marks c.put_nothing-
 
 pub lower_call-returns-in-Nothing : goal.lower_call-returns-in-Nothing
 lower_call-returns-in-Nothing t c = not_called c.args.out.now.marks c.put_nothing-in-Nothing.result c.args.names.now _ c.args.line c.args.start standing.Nothing _ c.args.told _ _ (omega arith) c.requires.inside c.in-Nothing.is (λ o m h. ap (λ (x : Standing). call_by c.args.names.now x m (args_meant (context_in c.args.names.now c.args.out.now) (exprs_of c.args.args.now))) h) c.put_nothing-in-Nothing.ensures.code c.put_nothing-in-Nothing.ensures.tells
+
+pub lower_call-returns-in-Condition : goal.lower_call-returns-in-Condition
+lower_call-returns-in-Condition t c = not_called c.args.out.now.marks c.put_nothing.result c.args.names.now _ c.args.line c.args.start (standing.Condition c.in-Condition.field-0) _ c.args.told _ _ (omega arith) c.requires.inside c.in-Condition.is (λ o m h. ap (λ (x : Standing). call_by c.args.names.now x m (args_meant (context_in c.args.names.now c.args.out.now) (exprs_of c.args.args.now))) h) c.put_nothing.ensures.code c.put_nothing.ensures.tells
+
+pub lower_call-returns-in-CallOf : goal.lower_call-returns-in-CallOf
+lower_call-returns-in-CallOf t c = arm_condition_called c.args.out.now.marks c.lower_condition_call.result c.args.names.now _ c.args.line c.args.start c.in-CallOf.call (args_meant (context_in c.args.names.now c.args.out.now) (exprs_of c.args.args.now)) c.args.told _ _ c.requires.inside c.in-CallOf.is c.lower_condition_call.ensures.code c.lower_condition_call.ensures.tells
+
+pub lower_condition_call-returns-in_ok-put_wait-in-Wait-clause-code : goal.lower_condition_call-returns-in_ok-put_wait-in-Wait-clause-code
+lower_condition_call-returns-in_ok-put_wait-in-Wait-clause-code t c =
+    called_wait c.args.out.now.marks (OPS_FOR_SIZE * exprs_size (exprs_of c.args.args.now) + 1) _ c.args.line c.args.call (stored_by (args_meant (context_in c.args.names.now c.args.out.now) (exprs_of c.args.args.now))) _ _ _ c.in-Wait.is (omega arith) c.in_ok-lower_stored-in-Wait.ensures
+    (wait_in c.args.line c.args.out.now _ _ c.in_ok-lower_stored-in-Wait.ensures.rest c.in_ok-put_wait-in-Wait.ensures)
+
+pub lower_condition_call-returns-in_ok-put-in-Signal-clause-code : goal.lower_condition_call-returns-in_ok-put-in-Signal-clause-code
+lower_condition_call-returns-in_ok-put-in-Signal-clause-code t c = called_one c.args.out.now.marks _ c.args.line c.args.call calls.Signal (stored_by (args_meant (context_in c.args.names.now c.args.out.now) (exprs_of c.args.args.now))) _ _ c.in-Signal.is (omega arith) c.in_ok-put-in-Signal.ensures
+
+pub lower_condition_call-returns-in_ok-put-in-SignalBlock-clause-code : goal.lower_condition_call-returns-in_ok-put-in-SignalBlock-clause-code
+lower_condition_call-returns-in_ok-put-in-SignalBlock-clause-code t c = called_one c.args.out.now.marks _ c.args.line c.args.call calls.SignalBlock (stored_by (args_meant (context_in c.args.names.now c.args.out.now) (exprs_of c.args.args.now))) _ _ c.in-SignalBlock.is (omega arith) c.in_ok-put-in-SignalBlock.ensures
+
+pub lower_condition_call-returns-in_ok-put-in-Empty-clause-code : goal.lower_condition_call-returns-in_ok-put-in-Empty-clause-code
+lower_condition_call-returns-in_ok-put-in-Empty-clause-code t c = called_one c.args.out.now.marks _ c.args.line c.args.call calls.Empty (stored_by (args_meant (context_in c.args.names.now c.args.out.now) (exprs_of c.args.args.now))) _ _ c.in-Empty.is (omega arith) c.in_ok-put-in-Empty.ensures
+
+pub lower_condition_call-returns-in_ok-put-in-Front-clause-code : goal.lower_condition_call-returns-in_ok-put-in-Front-clause-code
+lower_condition_call-returns-in_ok-put-in-Front-clause-code t c = called_one c.args.out.now.marks _ c.args.line c.args.call calls.Front (stored_by (args_meant (context_in c.args.names.now c.args.out.now) (exprs_of c.args.args.now))) _ _ c.in-Front.is (omega arith) c.in_ok-put-in-Front.ensures
+
+pub lower_call-lower_condition_call-requires : goal.lower_call-lower_condition_call-requires
+lower_call-lower_condition_call-requires t c = (search rules, c.requires.room)
+
+pub lower_condition_call-lower_stored-requires : goal.lower_condition_call-lower_stored-requires
+lower_condition_call-lower_stored-requires t c =
+    let r = c.requires in
+    (search rules, omega (arith, r))
+
+pub lower_stored-lower_value-requires : goal.lower_stored-lower_value-requires
+lower_stored-lower_value-requires t c =
+    let r = c.requires in
+    let fit = stored_fit c.in-Some.arg.now c.args.args.now c.in-Some.ensures.value in
+    (search rules, omega (arith, r, fit))
+
+pub lower_stored-returns-in_ok-_told-in-Some : goal.lower_stored-returns-in_ok-_told-in-Some
+lower_stored-returns-in_ok-_told-in-Some t c = stored_first c.args.names.now c.in-Some.arg.now c.args.args.now c.args.line _ _ c.in-Some.ensures.value c.in_ok-_told-in-Some.ensures.code
+
+pub lower_stored-returns-in-None : goal.lower_stored-returns-in-None
+lower_stored-returns-in-None t c = on_ok_weaker c.put.result (stored_none c.args.names.now c.args.args.now c.args.line c.args.out.now c.put.new.out c.in-None.ensures.value) c.put.ensures
 
 pub lower_to_place-returns-in_ok-put-in-None : goal.lower_to_place-returns-in_ok-put-in-None
 lower_to_place-returns-in_ok-put-in-None t c =

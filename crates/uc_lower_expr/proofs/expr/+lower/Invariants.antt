@@ -63,3 +63,9 @@ decreases-lower_args l = 5 * exprs_size (exprs_of l.args.now) + 3
 
 abbrev pub decreases-lower_arg : goal.decreases-lower_arg
 decreases-lower_arg l = 5 * expr_size l.arg.now + 2
+
+abbrev pub decreases-lower_condition_call : goal.decreases-lower_condition_call
+decreases-lower_condition_call l = 5 * exprs_size (exprs_of l.args.now) + 3
+
+abbrev pub decreases-lower_stored : goal.decreases-lower_stored
+decreases-lower_stored l = 5 * exprs_size (exprs_of l.args.now) + 2

@@ -39,3 +39,9 @@ returns-in-MutexMember-clause-code c = λ p. load_none c.args.out.now.marks c.ar
 
 pub returns-in-Nothing-clause-code : goal.returns-in-Nothing-clause-code
 returns-in-Nothing-clause-code c = λ p. load_none c.args.out.now.marks c.args.line c.args.start standing.Nothing c.args.told _ _ c.requires.inside c.in-Nothing.is (λ o e h. ap (λ (s : Standing). value_by s e) h) c.standing_as-in-Nothing.ensures
+
+pub returns-in-Condition-clause-code : goal.returns-in-Condition-clause-code
+returns-in-Condition-clause-code c = λ p. load_none c.args.out.now.marks c.args.line c.args.start (standing.Condition c.in-Condition.field-0) c.args.told _ _ c.requires.inside c.in-Condition.is (λ o e h. ap (λ (s : Standing). value_by s e) h) c.standing_as-in-Condition.ensures
+
+pub returns-in-CallOf-clause-code : goal.returns-in-CallOf-clause-code
+returns-in-CallOf-clause-code c = λ p. load_none c.args.out.now.marks c.args.line c.args.start (standing.CallOf c.in-CallOf.field-0) c.args.told _ _ c.requires.inside c.in-CallOf.is (λ o e h. ap (λ (s : Standing). value_by s e) h) c.standing_as-in-CallOf.ensures

@@ -19,5 +19,8 @@ returns-in_ok-put_clean-in-Leave c = cleaned_most c.args.line c.args.what cleani
 pub returns-in_ok-put-in-End : goal.returns-in_ok-put-in-End
 returns-in_ok-put-in-End c = cleaned_as c.args.line c.args.what cleaning.End c.args.out.now _ c.in-End.is (puts_adds c.in_ok-put-in-End.ensures)
 
+pub returns-in_ok-put-in-Restore : goal.returns-in_ok-put-in-Restore
+returns-in_ok-put-in-Restore c = cleaned_as c.args.line c.args.what (cleaning.Restore c.in-Restore.cell) c.args.out.now _ c.in-Restore.is (puts_adds c.in_ok-put-in-Restore.ensures)
+
 pub returns-in_ok-put-in-Free : goal.returns-in_ok-put-in-Free
 returns-in_ok-put-in-Free c = cleaned_as c.args.line c.args.what (cleaning.Free c.in-Free.main) c.args.out.now _ c.in-Free.is (freed_as c.args.line c.in-Free.main _ c.args.out.now _ c.free_op.ensures (puts_adds c.in_ok-put-in-Free.ensures))

@@ -1,6 +1,6 @@
-use Rattle.std.proofs.Common.{◌≡◌, ℤ, Some, rules, subst}
+use Rattle.std.proofs.Common.{◌≡◌, Some, rules, subst}
 use Rattle.uc_tree.specs.declared.kinds.Base.{Base}
-use Rattle.uc_tree.specs.Programs.{Constant, Program}
+use Rattle.uc_tree.specs.Programs.{Program}
 use Rattle.uc_tree.specs.Constants.{constants_of, constant_named, value_of_name}
 use Rattle.uc_resolve.specs.Resolve.{scalar, value_meant, value_or_zero}
 use Rattle.uc_lower_expr.specs.Meanings.{Tells}

@@ -1,0 +1,168 @@
+// The ops that raise events at other executions, and that say which are enabled.
+
+ghost use Rattle.std.specs.Prelude.{◌≡◌, IfOk, OnErr};
+ghost use Rattle.uc_frames.specs.Machine.{below, exec_at};
+ghost use Rattle.uc_frames.specs.Unwinding.{event_at};
+ghost use Rattle.uc_step.specs.OpEffects.{act_pend, act_pend_at, with_operands, without_event, ended, Does, Ends};
+ghost use Rattle.uc_step.specs.declared.stepped.Stepped.{Stepped};
+
+use crate::stepped::{Onward, Stepped, asked, faulted};
+use std::alloc::AllocError;
+use uc_code::code::Code;
+use uc_code::op::Op;
+use uc_entry::fault::RunFault;
+use uc_entry::request::Request;
+use uc_frames::cell::{Cell, exec_in};
+use uc_frames::event::Event;
+use uc_frames::work::Work;
+use uc_machine::exec::{Exec, Pending};
+use uc_tree::limits::PENDING_EVENTS;
+
+// An event is raised at a task, by its own object, or at the coroutine at a place.
+pub(crate) fn raise_at(
+    code: &Code,
+    line: u32,
+    work: &mut Work,
+    stop: &mut Stepped,
+) -> Result<Onward, AllocError>
+    ensures ok { IfOk result (λ how. Does code.now line Op.RaiseAt work.old (ended how stop.new) work.new) }
+    ensures err { OnErr result (work.new ≡ work.old) }
+{
+    let place = work.top();
+    match place {
+        Cell::Object(object) => {
+            let Event {
+                number: event,
+                x,
+                y,
+            } = pop_raised(work);
+            *stop = asked(
+                code,
+                line,
+                work,
+                Request::Raise {
+                    object,
+                    event,
+                    x,
+                    y,
+                },
+            );
+            Ok(Onward::Stops)
+        }
+        Cell::Number(_) | Cell::Place(_, _) | Cell::Running(_) | Cell::Nothing => {
+            let exec = exec_in(work.read(place));
+            let how = pend_at(code, line, work, stop, exec)?;
+            Ok(how)
+        }
+    }
+}
+
+// The event, and where it is raised, are popped.
+fn pop_raised(work: &mut Work) -> Event
+    ensures value { result ≡ event_at (below work.old.run.operands) }
+    ensures after { work.new ≡ without_event (with_operands (below work.old.run.operands) work.old) }
+{
+    work.pop();
+    let event = work.pop_event();
+    event
+}
+
+// The event is pending at the coroutine of an execution, which must be live.
+fn pend_at(
+    code: &Code,
+    line: u32,
+    work: &mut Work,
+    stop: &mut Stepped,
+    exec: Option<Exec>,
+) -> Result<Onward, AllocError>
+    ensures ok { IfOk result (λ how. Ends (act_pend_at code.now line exec (event_at (below work.old.run.operands)) (without_event (with_operands (below work.old.run.operands) work.old))) (ended how stop.new) work.new) }
+    ensures err { OnErr result (work.new ≡ work.old) }
+{
+    match exec {
+        None => {
+            pop_raised(work);
+            *stop = faulted(code, line, work, RunFault::NotLive);
+            Ok(Onward::Stops)
+        }
+        Some(exec) => {
+            if !work.is_live_at(exec) {
+                pop_raised(work);
+                *stop = faulted(code, line, work, RunFault::NotLive);
+                return Ok(Onward::Stops);
+            }
+            let how = pend(code, line, work, stop, exec)?;
+            Ok(how)
+        }
+    }
+}
+
+// It is pending there, unless too many are.
+fn pend(
+    code: &Code,
+    line: u32,
+    work: &mut Work,
+    stop: &mut Stepped,
+    exec: Exec,
+) -> Result<Onward, AllocError>
+    ensures ok { IfOk result (λ how. Ends (act_pend code.now line exec (event_at (below work.old.run.operands)) (without_event (with_operands (below work.old.run.operands) work.old))) (ended how stop.new) work.new) }
+    ensures err { OnErr result (work.new ≡ work.old) }
+{
+    if work.pending_count(exec) >= usize::from(PENDING_EVENTS) {
+        pop_raised(work);
+        *stop = faulted(code, line, work, RunFault::TooManyPending);
+        return Ok(Onward::Stops);
+    }
+    let Event {
+        number: event,
+        x,
+        y,
+    } = work.event_below();
+    work.raise_at(exec, Pending { event, x, y })?;
+    pop_raised(work);
+    Ok(Onward::Quiet)
+}
+
+// More events are enabled; a cell keeps which were.
+pub(crate) fn enable(
+    code: &Code,
+    line: u32,
+    work: &mut Work,
+    events: u64,
+    cell: u32,
+) -> Result<Onward, AllocError>
+    ensures ok { IfOk result (λ how. (stop : Stepped) → Does code.now line (Op.Enable events cell) work.old (ended how stop) work.new) }
+    ensures err { OnErr result (work.new ≡ work.old) }
+{
+    let more = work.enabled() | events;
+    work.enable(more, cell);
+    Ok(Onward::Quiet)
+}
+
+pub(crate) fn disable(
+    code: &Code,
+    line: u32,
+    work: &mut Work,
+    events: u64,
+    cell: u32,
+) -> Result<Onward, AllocError>
+    ensures ok { IfOk result (λ how. (stop : Stepped) → Does code.now line (Op.Disable events cell) work.old (ended how stop) work.new) }
+    ensures err { OnErr result (work.new ≡ work.old) }
+{
+    let less = work.enabled() & !events;
+    work.enable(less, cell);
+    Ok(Onward::Quiet)
+}
+
+// Those are enabled again that a cell keeps.
+pub(crate) fn restore(
+    code: &Code,
+    line: u32,
+    work: &mut Work,
+    cell: u32,
+) -> Result<Onward, AllocError>
+    ensures ok { IfOk result (λ how. (stop : Stepped) → Does code.now line (Op.Restore cell) work.old (ended how stop) work.new) }
+    ensures err { OnErr result (work.new ≡ work.old) }
+{
+    work.restore(cell);
+    Ok(Onward::Quiet)
+}
