@@ -7,11 +7,12 @@ use Rattle.std.proofs.lemmas.Bool.{eqb-true}
 use Rattle.uc_tree.specs.Programs.{Site}
 use Rattle.uc_entry.specs.declared.entry.Entry.{Entry}
 use Rattle.uc_entry.specs.declared.entry.Options.{Options}
+use Rattle.uc_entry.specs.declared.entry.EntryKind.{EntryKind}
 use Rattle.uc_entry.specs.declared.entry.EntryKind.TheVariants as kind
 use Rattle.uc_acts.specs.Journal.{Journal, inside, where_true, asking, Cost}
 use Rattle.uc_acts.specs.Queues.{running, cluster_of, last_actor}
 use Rattle.uc_acts.specs.Doors.{last_call, last_called, calls_destructor, is_member}
-use Rattle.uc_acts.specs.Known.{object_count, is_make}
+use Rattle.uc_acts.specs.Known.{object_count, is_make, is_spawn}
 use Rattle.uc_acts.specs.Acts.{admit_failed}
 use Rattle.uc_acts.specs.Stations.{Ready, Running, Waits, Stacked, Blocked, times}
 use Rattle.uc_acts.specs.Sound.{Spot, Unborn, Ended, At, spot, here, own_or_ready}
@@ -32,7 +33,7 @@ use Rattle.uc_cluster.specs.Standing.{Standing, IsPlaced, IsUnready, queue_at, p
 use Rattle.uc_cluster.specs.Standing.{running as runs_on}
 use Rattle.uc_cluster.proofs.Desks.{open_stays}
 use Rattle.uc_kernel_core.specs.Mirrors.{Mirrors, WaitsAre, MarksAre, queued_at, is_at}
-use Rattle.uc_kernel_core.proofs.Doors.{no_both, doors_set, waits_silent, events_silent, owners_silent, idle_by, same_objects}
+use Rattle.uc_kernel_core.proofs.Doors.{no_both, doors_set, waits_silent, events_silent, owners_silent, idle_by, same_objects, same_room}
 use Rattle.uc_kernel_core.proofs.Clusters.{Keeps, clusters_by, cluster_stays, ready_stays, ready_back, run_set, off_now, unready_by}
 use Rattle.uc_kernel_core.proofs.Marks.{last_all, marks_by, marked_same, marked_set, entered_same, entered_set}
 use Rattle.uc_kernel_core.proofs.Steps.{with_parts, freed, run_processor}
@@ -115,7 +116,7 @@ module _ (opts : Options) (sites : List Site) (j : Journal) (doors : Doors) (wai
     m_admit other =
         let e = admit_failed p u o way clause failed in
         let readied : where_true (not (u == last_actor 0 j)) u ≡ Some u = ap (λ c. where_true (not c) u) other in
-        with_parts opts sites j doors waits events standing marks ins owners own h e l refl (with_door doors o d) waits' events (made_ready u standing) marks (set ins o b) (doors_set sites j doors h.doors_are e refl d at) ws (events_silent j events e h.events_are refl refl)
+        with_parts opts sites j doors waits events standing marks ins owners own h e l refl (with_door doors o d) waits' events (made_ready u standing) marks (set ins o b) (doors_set sites j doors h.doors_are e refl refl d at) ws (events_silent j events e h.events_are refl refl)
         (clusters_by j e admit_keeps opts standing (made_ready u standing) h.clusters_are (ready_back j standing e u h.clusters_are.ready_are readied (λ t. refl) admit_place admit_known) runs_kept (open_stays opts standing j e refl h.clusters_are.desks).0 (length-set standing.queues (place_or_0 (place_of standing u)) (queue_at standing.queues (place_or_0 (place_of standing u)) ++ u ∷ [])) refl)
         admit_marks (owners_silent j owners own h.owners_are e refl refl (λ t. refl))
       where
@@ -135,7 +136,7 @@ module _ (opts : Options) (sites : List Site) (j : Journal) (doors : Doors) (wai
         let none : where_true (not (u == last_actor 0 j)) u ≡ None = ap (λ c. where_true (not c) u) mine in
         let some : where_true (u == last_actor 0 j) u ≡ Some u = ap (λ c. where_true c u) mine in
         let now : running p (j ++ e ∷ []) ≡ u ∷ [] = running_same p j e (self_test p) ∙ ap (λ x. filter (λ t. not (t == u)) (running p j) ++ option_to_list x) some ∙ ap (λ l. filter (λ t. not (t == u)) l ++ u ∷ []) free in
-        with_parts opts sites j doors waits events standing marks ins owners own h e l refl (with_door doors o d) waits' events (with_processor standing p (runs_on (Some u) (processor_at standing p))) marks (set ins o b) (doors_set sites j doors h.doors_are e refl d at) ws (events_silent j events e h.events_are refl refl)
+        with_parts opts sites j doors waits events standing marks ins owners own h e l refl (with_door doors o d) waits' events (with_processor standing p (runs_on (Some u) (processor_at standing p))) marks (set ins o b) (doors_set sites j doors h.doors_are e refl refl d at) ws (events_silent j events e h.events_are refl refl)
         (clusters_by j e admit_keeps opts standing (with_processor standing p (runs_on (Some u) (processor_at standing p))) h.clusters_are (λ c. h.clusters_are.ready_are c ∙ sym (ready_stays j e none (λ t. refl) c)) (run_set j standing e (Some u) h.clusters_are.runs lt now) ((open_stays opts standing j e refl h.clusters_are.desks).1 p (Some u)) refl refl)
         admit_marks (owners_silent j owners own h.owners_are e refl refl (λ t. refl))
 
@@ -147,11 +148,15 @@ module _ (opts : Options) (sites : List Site) (j : Journal) (doors : Doors) (wai
     pub admit_unready : IsUnready u standing
     admit_unready = unready_by j opts standing h.clusters_are h.sound u (queued_from o (spot u j) queued)
 
+  taken_spawn : (k : EntryKind) → takes_out k ≡ true → is_spawn k ≡ false
+  taken_spawn kind.Spawn h = cc
+  taken_spawn k h = refl
+
   -- a task that waits on no condition
   pub waits_stay : (e : Entry) → is_make e.kind ≡ false → takes_out e.kind ≡ true → ((o c : ℕ) → here (Blocked o c) (spot e.task j) ≡ 0) → WaitsAre (j ++ e ∷ []) waits
   waits_stay e n k b = record {
     blocked = waits_elsewhere waits j e k h.waits_are.blocked (idle_by j waits h.waits_are h.sound e.task b);
-    pool = h.waits_are.pool;
+    pool = same_room j e waits.tasks (taken_spawn e.kind k) h.waits_are.pool;
     known = rw (same_objects j e n) h.waits_are.known;
   }
 
@@ -162,7 +167,7 @@ module _ (opts : Options) (sites : List Site) (j : Journal) (doors : Doors) (wai
       let self = self_test t in
       let lt : o < length doors.doors = rw h.doors_are.made known in
       let keeps : Keeps j e = record { clusters = λ on u. refl; no_cluster = refl; no_processor = refl; no_place = refl; was = λ u g. ap (λ v. is_at (spot v j)) (eqb-true u t g) ∙ ap is_at (first_at j h.sound (Running p) t [] runs) } in
-      with_parts opts sites j doors waits events standing marks ins owners own h e l refl (with_door doors o (behind t m (door_at doors o))) waits events (freed standing p) (set marks t (m == 0)) ins (doors_set sites j doors h.doors_are e refl (behind t m (door_at doors o)) (call sites o j (door_at doors o) p t k m (h.doors_are.each o lt))) (waits_silent j waits e h.waits_are refl refl) (events_silent j events e h.events_are refl refl)
+      with_parts opts sites j doors waits events standing marks ins owners own h e l refl (with_door doors o (behind t m (door_at doors o))) waits events (freed standing p) (set marks t (m == 0)) ins (doors_set sites j doors h.doors_are e refl refl (behind t m (door_at doors o)) (call sites o j (door_at doors o) p t k m (h.doors_are.each o lt))) (waits_silent j waits e h.waits_are refl refl refl) (events_silent j events e h.events_are refl refl)
       (clusters_by j e keeps opts standing (freed standing p) h.clusters_are (λ c. h.clusters_are.ready_are c ∙ sym (ready_stays j e refl (λ u. refl) c)) (run_set j standing e None h.clusters_are.runs (run_processor opts sites j doors waits events standing marks ins owners own h p t runs) (off_now j e t runs self refl)) ((open_stays opts standing j e refl h.clusters_are.desks).1 p None) refl refl)
       (marks_by j marks ins h.marks_are e refl (set marks t (m == 0)) ins (length-set marks t (m == 0)) refl (marked_set j marks ins h.marks_are e refl t (m == 0) (λ u n. flip t u false n) (λ v u n. last_stays v j e u (flip t u false n)) (λ v q. caller v (o == v) refl q)) (entered_same j marks ins h.marks_are e refl (λ u g. stayed u g)))
       (owners_silent j owners own h.owners_are e refl refl (λ u. refl))

@@ -20,7 +20,7 @@ use Rattle.uc_condition.proofs.Mirrors.{wait}
 use Rattle.uc_events.specs.Pending.{Event}
 use Rattle.uc_cluster.specs.Standing.{Standing}
 use Rattle.uc_kernel_core.specs.Mirrors.{Mirrors}
-use Rattle.uc_kernel_core.proofs.Doors.{same_objects, waits_silent}
+use Rattle.uc_kernel_core.proofs.Doors.{same_objects, same_tasks, waits_silent}
 use Rattle.uc_kernel_core.proofs.Letting.{door_set}
 use Rattle.uc_kernel_core.proofs.Nexts.{door_parts}
 use Rattle.uc_kernel_core.proofs.Steps.{Calm, freed}
@@ -152,7 +152,7 @@ module _ (opts : Options) (sites : List Site) (j : Journal) (doors : Doors) (wai
       let lt : o < length doors.doors = rw h.doors_are.made known in
       m_goes opts sites j doors waits events standing marks ins owners own h e l (goes_wait p t k o c n) runs within known (inside_is None (door_at doors o)) refl (out sites j (door_at doors o) e refl within (h.doors_are.each o lt)) w (record {
         blocked = wait waits w j p t k o c n h.waits_are.blocked became;
-        pool = became.tasks ∙ h.waits_are.pool;
+        pool = rw (same_tasks j e refl, became.tasks) h.waits_are.pool;
         known = rw (same_objects j e refl, became.objects) h.waits_are.known;
       }) b x was
 
@@ -163,7 +163,7 @@ module _ (opts : Options) (sites : List Site) (j : Journal) (doors : Doors) (wai
       let lt : o < length doors.doors = rw h.doors_are.made known in
       let at = h.doors_are.each o lt in
       let none = none_open sites o j (door_at doors o) at (shut_of j o t h.sound within) in
-      m_goes opts sites j doors waits events standing marks ins owners own h e l (goes_signaller p t k o c) runs within known (goes_on_top t None (door_at doors o)) refl (signal_block sites o j (door_at doors o) p t k c within none at) waits (waits_silent j waits e h.waits_are refl refl) b x was
+      m_goes opts sites j doors waits events standing marks ins owners own h e l (goes_signaller p t k o c) runs within known (goes_on_top t None (door_at doors o)) refl (signal_block sites o j (door_at doors o) p t k c within none at) waits (waits_silent j waits e h.waits_are refl refl refl) b x was
 
   pub m_unheard : (p t : ℕ) (k : Cost) (o c : ℕ) → Legal (asking kind.SignalBlock p t k o (pos c) (pos 0)) j → o < object_count j → Mirrors opts sites (j ++ asking kind.SignalBlock p t k o (pos c) (pos 0) ∷ []) doors waits events standing marks ins owners own
   m_unheard p t k o c l known =

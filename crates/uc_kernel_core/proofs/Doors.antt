@@ -1,5 +1,5 @@
 -- The doors, the waits and the pending events with one entry more.
-use Rattle.std.proofs.Common.{◌≡◌, ◌≢◌, ℕ, ℤ, ◌==◌, ◌+◌, ◌<◌, Bool, true, false, List, [], ◌∷◌, ◌++◌, Option, None, map, refl, sym, ap, ◌∙◌, subst, arith, length, get_or-set_same, get_or-set_other, length-set}
+use Rattle.std.proofs.Common.{◌≡◌, ◌≢◌, ℕ, ℤ, ◌==◌, ◌+◌, ◌<◌, ◌≤◌, Bool, true, false, List, [], ◌∷◌, ◌++◌, Option, None, map, refl, sym, ap, ◌∙◌, subst, arith, length, get_or-set_same, get_or-set_other, length-set}
 use Rattle.std.specs.List.{AllByRecursion}
 use Rattle.std.proofs.lemmas.Bool.{eqb-true, eq-eqb}
 use Rattle.uc_tree.specs.Programs.{Site}
@@ -48,7 +48,15 @@ same_tasks j e h =
     let c : task_count (j ++ e ∷ []) ≡ task_count j + 0 = tasks_push j e ∙ rw h refl in
     omega (arith, c)
 
+-- room for the tasks that there are
+pub same_room : (j : Journal) (e : Entry) (n : ℕ) → is_spawn e.kind ≡ false → task_count j ≤ n → task_count (j ++ e ∷ []) ≤ n
+same_room j e n s h = subst (λ m. m ≤ n) (sym (same_tasks j e s)) h
+
 -- ---- doors
+silent_spawn : (k : EntryKind) → is_silent k ≡ true → is_spawn k ≡ false
+silent_spawn kind.Spawn h = cc
+silent_spawn k h = refl
+
 silent_stack : (sites : List Site) (k : EntryKind) (e : Entry) (m : Option ℕ) (ss : List OnStack) → is_silent k ≡ true → stack_after sites k e m ss ≡ ss
 silent_stack sites kind.Accept e m ss h = cc
 silent_stack sites kind.SignalBlock e m ss h = cc
@@ -75,14 +83,14 @@ module _ (sites : List Site) (j : Journal) (v : Doors) (h : DoorsAre sites j v) 
   pub doors_silent : is_silent e.kind ≡ true → DoorsAre sites (j ++ e ∷ []) v
   doors_silent s = record {
     made = h.made ∙ sym (same_objects j e n);
-    pool = h.pool;
+    pool = same_room j e v.tasks (silent_spawn e.kind s) h.pool;
     each = λ o lt. silent_door sites o j e (door_at v o) s (h.each o lt);
   }
 
-  pub doors_same : IsDoor sites e.object (j ++ e ∷ []) (door_at v e.object) → DoorsAre sites (j ++ e ∷ []) v
-  doors_same at = record {
+  pub doors_same : is_spawn e.kind ≡ false → IsDoor sites e.object (j ++ e ∷ []) (door_at v e.object) → DoorsAre sites (j ++ e ∷ []) v
+  doors_same s at = record {
     made = h.made ∙ sym (same_objects j e n);
-    pool = h.pool;
+    pool = same_room j e v.tasks s h.pool;
     each = λ o lt. by o lt (e.object == o) refl;
   }
     where
@@ -90,10 +98,10 @@ module _ (sites : List Site) (j : Journal) (v : Doors) (h : DoorsAre sites j v) 
       by o lt false t = elsewhere sites o j e (door_at v o) t (h.each o lt)
       by o lt true t = subst (λ u. IsDoor sites u (j ++ e ∷ []) (door_at v u)) (eqb-true e.object o t) at
 
-  pub doors_set : (d : Door) → IsDoor sites e.object (j ++ e ∷ []) d → DoorsAre sites (j ++ e ∷ []) (with_door v e.object d)
-  doors_set d at = record {
+  pub doors_put : task_count (j ++ e ∷ []) ≤ v.tasks → (d : Door) → IsDoor sites e.object (j ++ e ∷ []) d → DoorsAre sites (j ++ e ∷ []) (with_door v e.object d)
+  doors_put room d at = record {
     made = length-set v.doors e.object d ∙ h.made ∙ sym (same_objects j e n);
-    pool = h.pool;
+    pool = room;
     each = λ o lt. by o (subst (λ m. o < m) (length-set v.doors e.object d) lt) (e.object == o) refl;
   }
     where
@@ -104,6 +112,9 @@ module _ (sites : List Site) (j : Journal) (v : Doors) (h : DoorsAre sites j v) 
           let same = eqb-true e.object o t in
           let lt' : e.object < length v.doors = subst (λ u. u < length v.doors) (sym same) lt in
           subst (λ u. IsDoor sites u (j ++ e ∷ []) (door_at (with_door v e.object d) u)) same (rw (get_or-set_same v.doors e.object d _ lt') at)
+
+  pub doors_set : is_spawn e.kind ≡ false → (d : Door) → IsDoor sites e.object (j ++ e ∷ []) d → DoorsAre sites (j ++ e ∷ []) (with_door v e.object d)
+  doors_set s d at = doors_put (same_room j e v.tasks s h.pool) d at
 
 -- a task that waits at no object and is on no stack
 pub stacks_apart : (t : ℕ) (ss : List OnStack) (xs : List (ℕ × Mark)) → xs ≡ map pair ss → times t (map (λ s. s.task) ss) ≡ 0 → AllByRecursion (λ s. s.0 ≢ t) xs
@@ -121,10 +132,10 @@ free_by sites j v h s st t w q o lt =
     )
 
 -- ---- waits
-pub waits_silent : (j : Journal) (v : Waiting) (e : Entry) → WaitsAre j v → is_make e.kind ≡ false → tells_no_wait e.kind ≡ true → WaitsAre (j ++ e ∷ []) v
-waits_silent j v e h n s = record {
+pub waits_silent : (j : Journal) (v : Waiting) (e : Entry) → WaitsAre j v → is_make e.kind ≡ false → is_spawn e.kind ≡ false → tells_no_wait e.kind ≡ true → WaitsAre (j ++ e ∷ []) v
+waits_silent j v e h n t s = record {
   blocked = other_waits v j e s h.blocked;
-  pool = h.pool;
+  pool = same_room j e v.tasks t h.pool;
   known = rw (same_objects j e n) h.known;
 }
 

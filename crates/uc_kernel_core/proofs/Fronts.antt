@@ -29,7 +29,7 @@ use Rattle.uc_events.specs.Pending.{Event}
 use Rattle.uc_cluster.specs.Standing.{Standing, IsPlaced, IsUnready, made_ready}
 use Rattle.uc_kernel_core.specs.Mirrors.{Mirrors, WaitsAre, queued_at}
 use Rattle.uc_kernel_core.specs.Waiters.{front_pushed, front_admitted}
-use Rattle.uc_kernel_core.proofs.Doors.{same_objects, free_by, idle_by}
+use Rattle.uc_kernel_core.proofs.Doors.{same_objects, same_tasks, free_by, idle_by}
 use Rattle.uc_kernel_core.proofs.Nexts.{door_parts, nobody_out, idle_is, busy_is, destroys_not, destroys_it, settled_cut}
 use Rattle.uc_kernel_core.proofs.Admits.{m_admit, admit_placed, admit_unready}
 use Rattle.uc_kernel_core.proofs.Steps.{run_at}
@@ -100,7 +100,7 @@ module _ (opts : Options) (sites : List Site) (j : Journal) (doors : Doors) (wai
         let empty = no_front (queue_at waits o c) n in
         with_waits w (record {
           blocked = λ v d. became.queue v d ∙ by v d ((o == v) && (c == d)) refl empty ∙ h.waits_are.blocked v d;
-          pool = became.tasks ∙ h.waits_are.pool;
+          pool = rw became.tasks h.waits_are.pool;
           known = rw became.objects h.waits_are.known;
         })
       where
@@ -152,14 +152,14 @@ module _ (opts : Options) (sites : List Site) (j : Journal) (doors : Doors) (wai
       pub pushed_waits : (p : ℕ) → IsIdle u w → WaitsAre (j ++ push p u o ∷ []) w
       pushed_waits p idle = record {
         blocked = take_one waits w j (push p u o) c refl h.waits_are.blocked first became idle;
-        pool = became.tasks ∙ h.waits_are.pool;
+        pool = rw (same_tasks j (push p u o) refl, became.tasks) h.waits_are.pool;
         known = rw (same_objects j (push p u o) refl, became.objects) h.waits_are.known;
       }
 
       pub admitted_waits : (p : ℕ) → IsIdle u w → WaitsAre (j ++ admit p u o 4 0 ∷ []) w
       admitted_waits p idle = record {
         blocked = take_one waits w j (admit p u o 4 0) c refl h.waits_are.blocked first became idle;
-        pool = became.tasks ∙ h.waits_are.pool;
+        pool = rw (same_tasks j (admit p u o 4 0) refl, became.tasks) h.waits_are.pool;
         known = rw (same_objects j (admit p u o 4 0) refl, became.objects) h.waits_are.known;
       }
 

@@ -77,7 +77,7 @@ module _ (opts : Options) (sites : List Site) (j : Journal) (doors : Doors) (wai
 
     pub m_goes : (b x : Bool) → b ≡ get_or ins e.object x → Mirrors opts sites (j ++ e ∷ []) (with_door doors e.object d) waits' events (freed standing e.proc) (set marks e.task b) ins owners own
     m_goes b x was =
-        with_parts opts sites j doors waits events standing marks ins owners own h e l g.spawn (with_door doors e.object d) waits' events (freed standing e.proc) (set marks e.task b) ins (doors_set sites j doors h.doors_are e g.make d at) ws (events_silent j events e h.events_are g.spawn g.event)
+        with_parts opts sites j doors waits events standing marks ins owners own h e l g.spawn (with_door doors e.object d) waits' events (freed standing e.proc) (set marks e.task b) ins (doors_set sites j doors h.doors_are e g.make g.spawn d at) ws (events_silent j events e h.events_are g.spawn g.event)
         (clusters_by j e goes_keeps opts standing (freed standing e.proc) h.clusters_are (λ c. h.clusters_are.ready_are c ∙ sym (ready_stays j e (g.readies _) g.dispatches c)) (run_set j standing e None h.clusters_are.runs (run_processor opts sites j doors waits events standing marks ins owners own h e.proc e.task runs) (off_now j e e.task runs g.takes_off (g.puts_on _))) ((open_stays opts standing j e g.desk h.clusters_are.desks).1 e.proc None) refl refl)
         (marks_by j marks ins h.marks_are e g.make (set marks e.task b) ins (length-set marks e.task b) refl (marked_set j marks ins h.marks_are e g.make e.task b (λ u n. g.mover u ∙ flip e.task u false n) (λ o u n. last_all o j e g.last u) (λ o q. was ∙ goes_mark x o q)) (entered_same j marks ins h.marks_are e g.make (λ u i. absurd (nobody u (sym (ap option_to_list out) ∙ at.within ∙ i)))))
         (owners_silent j owners own h.owners_are e g.make g.owned g.owns)
@@ -91,7 +91,7 @@ module _ (opts : Options) (sites : List Site) (j : Journal) (doors : Doors) (wai
     m_push =
         let e = push p u o in
         let keeps : Keeps j e = record { clusters = λ on t. refl; no_cluster = refl; no_processor = refl; no_place = refl; was = λ t m. ap (λ v. is_at (spot v j)) (eqb-true t u m) ∙ queued_spot o (spot u j) queued } in
-        with_parts opts sites j doors waits events standing marks ins owners own h e l refl (with_door doors o d) waits' events standing marks ins (doors_set sites j doors h.doors_are e refl d at) ws (events_silent j events e h.events_are refl refl)
+        with_parts opts sites j doors waits events standing marks ins owners own h e l refl (with_door doors o d) waits' events standing marks ins (doors_set sites j doors h.doors_are e refl refl d at) ws (events_silent j events e h.events_are refl refl)
         (clusters_by j e keeps opts standing standing h.clusters_are (λ c. h.clusters_are.ready_are c ∙ sym (ready_stays j e refl (λ t. refl) c)) (λ q. h.clusters_are.runs q ∙ sym (run_stays j e refl (λ t. refl) q)) (open_stays opts standing j e refl h.clusters_are.desks).0 refl refl)
         (marks_by j marks ins h.marks_are e refl marks ins refl refl (marked_same j marks ins h.marks_are e refl (λ on t. refl) (λ t v q. from_queue t v (t == u) refl q)) (entered_same j marks ins h.marks_are e refl (λ t g. (sym was ∙ g, last_all o j e (λ on v. refl) t))))
         (owners_silent j owners own h.owners_are e refl refl (λ t. refl))
@@ -108,4 +108,4 @@ module _ (opts : Options) (sites : List Site) (j : Journal) (doors : Doors) (wai
       let lt : e.object < length doors.doors = rw h.doors_are.made known in
       let was = h.doors_are.each e.object lt in
       let now = still sites j (door_at doors e.object) e s was in
-      m_calm opts sites j doors waits events standing marks ins owners own h e l q doors events (doors_same sites j doors h.doors_are e q.make now) (events_silent j events e h.events_are q.spawn n) (λ t g. sym was.within ∙ now.within ∙ g)
+      m_calm opts sites j doors waits events standing marks ins owners own h e l q doors events (doors_same sites j doors h.doors_are e q.make q.spawn now) (events_silent j events e h.events_are q.spawn n) (λ t g. sym was.within ∙ now.within ∙ g)

@@ -86,6 +86,11 @@ module _ (opts : Options) (sites : List Site) (j : Journal) (doors : Doors) (wai
       let few = h.few in
       omega arith
 
+  pub task_seated : (t : ℕ) → t < task_count j → t < doors.tasks
+  task_seated t lt =
+      let room = h.doors_are.pool in
+      omega arith
+
   pub task_placed : (t : ℕ) → t < task_count j → t < length standing.places
   task_placed t lt = rw h.clusters_are.pool (task_known t lt)
 

@@ -24,7 +24,7 @@ use Rattle.uc_acts.proofs.Seats.{inside_other, at_other}
 use Rattle.uc_acts.proofs.SoundLemmas.{sound_step, objects_push, tasks_push, self_test}
 use Rattle.uc_acts.proofs.Stood.{stood_step}
 use Rattle.uc_acts.proofs.Moves.{spot_stays, spot_moves, more_tasks}
-use Rattle.uc_mutex.specs.Doors.{Doors, door_at, no_door, with_door, with_new, inside_is}
+use Rattle.uc_mutex.specs.Doors.{Doors, door_at, no_door, with_door, with_new, with_room, inside_is}
 use Rattle.uc_kernel_core.specs.DoorLaws.{IsDoor}
 use Rattle.uc_kernel_core.proofs.DoorLemmas.{elsewhere, make_one, spawn_one}
 use Rattle.uc_condition.specs.Waiting.{Waiting, SameQueues}
@@ -34,7 +34,7 @@ use Rattle.uc_cluster.specs.Standing.{Standing, IsPlaced, IsUnready, queue_at, p
 use Rattle.uc_cluster.proofs.Desks.{open_stays}
 use Rattle.uc_cluster.proofs.Places.{spawned}
 use Rattle.uc_kernel_core.specs.Mirrors.{Mirrors, DoorsAre, EventsAre, ClustersAre, MarksAre, OwnersAre, queued_at, is_at, own_objects}
-use Rattle.uc_kernel_core.proofs.Doors.{no_both, same_objects, same_tasks, doors_set, waits_silent, events_silent, owner_other, own_other}
+use Rattle.uc_kernel_core.proofs.Doors.{no_both, same_objects, same_tasks, same_room, doors_put, events_silent, owner_other, own_other}
 use Rattle.uc_kernel_core.proofs.Clusters.{Keeps, same_clusters, clusters_by, ready_stays, ready_back, run_stays, unready_by}
 use Rattle.uc_kernel_core.proofs.Marks.{last_all, marks_by, marked_same, entered_set}
 use Rattle.uc_kernel_core.proofs.Fresh.{fresh_step, new_door, new_call, new_owner, pending_other}
@@ -65,7 +65,7 @@ own_first t o j e n s =
 
 module _ (opts : Options) (sites : List Site) (j : Journal) (doors : Doors) (waits : Waiting) (events : List (List Event)) (standing : Standing) (marks ins : List Bool) (owners : List (Option ℕ)) (own : List ℕ) (h : Mirrors opts sites j doors waits events standing marks ins owners own) where
   -- memory was taken for more waits
-  pub m_reserved : (w : Waiting) → w.tasks ≡ TASKS → object_count j ≤ w.objects → SameQueues waits w → Mirrors opts sites j doors w events standing marks ins owners own
+  pub m_reserved : (w : Waiting) → task_count j ≤ w.tasks → object_count j ≤ w.objects → SameQueues waits w → Mirrors opts sites j doors w events standing marks ins owners own
   m_reserved w tasks known same = record {
     doors_are = h.doors_are;
     waits_are = record { blocked = λ o c. same o c ∙ h.waits_are.blocked o c; pool = tasks; known = known };
@@ -81,6 +81,23 @@ module _ (opts : Options) (sites : List Site) (j : Journal) (doors : Doors) (wai
     fresh = h.fresh;
   }
 
+  -- memory was taken for more tasks
+  pub m_roomed : (w : Waiting) → task_count j ≤ w.tasks → object_count j ≤ w.objects → SameQueues waits w → (v : Doors) → v ≡ with_room doors v.tasks → task_count j ≤ v.tasks → Mirrors opts sites j v w events standing marks ins owners own
+  m_roomed w tasks known same v is room = subst (λ (x : Doors). Mirrors opts sites j x w events standing marks ins owners own) (sym is) (record {
+    doors_are = record { made = h.doors_are.made; pool = room; each = h.doors_are.each };
+    waits_are = record { blocked = λ o c. same o c ∙ h.waits_are.blocked o c; pool = tasks; known = known };
+    events_are = h.events_are;
+    clusters_are = h.clusters_are;
+    marks_are = h.marks_are;
+    owners_are = h.owners_are;
+    few = h.few;
+    sound = h.sound;
+    stood = h.stood;
+    known_sites = h.known_sites;
+    owned = h.owned;
+    fresh = h.fresh;
+  })
+
   -- ---- an object
   module _ (p t : ℕ) (k : Cost) (n class : ℕ) (is : n ≡ object_count j) (l : Legal (asking kind.Make p t k n (pos class) (pos 0)) j) where
     abbrev make : Entry
@@ -92,7 +109,7 @@ module _ (opts : Options) (sites : List Site) (j : Journal) (doors : Doors) (wai
     made_doors : DoorsAre sites (j ++ make ∷ []) (with_new doors t)
     made_doors = record {
       made = length-append doors.doors (record { inside = Some t; waiting = []; stacked = []; opened = None } ∷ []) ∙ ap (λ m. m + 1) h.doors_are.made ∙ sym more;
-      pool = h.doors_are.pool;
+      pool = same_room j make doors.tasks refl h.doors_are.pool;
       each = each_door;
     }
       where
@@ -162,7 +179,7 @@ module _ (opts : Options) (sites : List Site) (j : Journal) (doors : Doors) (wai
     pub m_make : object_count j + 1 ≤ waits.objects → Mirrors opts sites (j ++ make ∷ []) (with_new doors t) waits events standing marks (ins ++ false ∷ []) (owners ++ None ∷ []) own
     m_make room = record {
       doors_are = made_doors;
-      waits_are = record { blocked = other_waits waits j make refl h.waits_are.blocked; pool = h.waits_are.pool; known = rw more room };
+      waits_are = record { blocked = other_waits waits j make refl h.waits_are.blocked; pool = same_room j make waits.tasks refl h.waits_are.pool; known = rw more room };
       events_are = events_silent j events make h.events_are refl refl;
       clusters_are = made_clusters;
       marks_are = made_marks;
@@ -326,10 +343,10 @@ module _ (opts : Options) (sites : List Site) (j : Journal) (doors : Doors) (wai
             omega arith
         by false s = more_tasks j spawn y (h.owned x y (sym (owner_there x j spawn s) ∙ g))
 
-    pub m_spawn : Mirrors opts sites (j ++ spawn ∷ []) (with_door doors o (inside_is (Some u) (door_at doors o))) waits (events ++ [] ∷ []) (made_ready u (with_place standing u (place_of standing t))) marks (set ins o false) (set owners o (Some u)) (set own u o)
-    m_spawn = record {
-      doors_are = doors_set sites j doors h.doors_are spawn refl (inside_is (Some u) (door_at doors o)) door_now;
-      waits_are = waits_silent j waits spawn h.waits_are refl refl;
+    pub m_spawn : u + 1 ≤ doors.tasks → u + 1 ≤ waits.tasks → Mirrors opts sites (j ++ spawn ∷ []) (with_door doors o (inside_is (Some u) (door_at doors o))) waits (events ++ [] ∷ []) (made_ready u (with_place standing u (place_of standing t))) marks (set ins o false) (set owners o (Some u)) (set own u o)
+    m_spawn doors_room waits_room = record {
+      doors_are = doors_put sites j doors h.doors_are spawn refl (let more = tasks_more in omega arith) (inside_is (Some u) (door_at doors o)) door_now;
+      waits_are = record { blocked = other_waits waits j spawn refl h.waits_are.blocked; pool = let more = tasks_more in omega arith; known = rw (same_objects j spawn refl) h.waits_are.known };
       events_are = spawned_events;
       clusters_are = spawned_clusters;
       marks_are = spawned_marks;

@@ -1,5 +1,5 @@
 -- The parts of a kernel that opens are those of its journal.
-use Rattle.std.proofs.Common.{◌≡◌, ℕ, zero, suc, ◌==◌, ◌<◌, Bool, true, false, List, [], ◌∷◌, ◌++◌, Option, Some, None, refl, sym, ap, ◌∙◌, subst, arith, length, length-set, get_or, get_or-set_same}
+use Rattle.std.proofs.Common.{◌≡◌, ℕ, zero, suc, ◌==◌, ◌<◌, ◌≤◌, Bool, true, false, List, [], ◌∷◌, ◌++◌, Option, Some, None, refl, sym, ap, ◌∙◌, subst, arith, length, length-set, get_or, get_or-set_same}
 use Rattle.std.specs.Prelude.{replicate}
 use Rattle.std.specs.Option.{option_to_list}
 use Rattle.std.proofs.lemmas.Bool.{eqb-true}
@@ -84,16 +84,16 @@ not_there opts t h = ap is_at (spot_stays [] (begin opts) t h ∙ spot_none t)
 clash : {A : Type 0} → true ≡ false → A
 clash e = cc
 
-pub mirrors_begin : (sites : List Site) → AreKnownSites sites → (opts : Options) (n : ℕ) → n ≡ TASKS → (waits : Waiting) → waits.tasks ≡ TASKS → waits.objects ≡ 1 → ((o c : ℕ) → queue_at waits o c ≡ []) → Mirrors opts sites (begin opts ∷ []) (with_new (no_doors n) 0) waits ([] ∷ []) (made_ready 0 (opening opts.processors n)) (replicate n false) (false ∷ []) (Some 0 ∷ []) (replicate n 0)
-mirrors_begin sites known opts n size waits pool objects none = record {
+pub mirrors_begin : (sites : List Site) → AreKnownSites sites → (opts : Options) (n m : ℕ) → n ≡ TASKS → 1 ≤ m → (waits : Waiting) → waits.tasks ≡ 1 → waits.objects ≡ 1 → ((o c : ℕ) → queue_at waits o c ≡ []) → Mirrors opts sites (begin opts ∷ []) (with_new (no_doors m) 0) waits ([] ∷ []) (made_ready 0 (opening opts.processors n)) (replicate n false) (false ∷ []) (Some 0 ∷ []) (replicate n 0)
+mirrors_begin sites known opts n m size room waits pool objects none = record {
   doors_are = record {
     made = sym (counts_begin opts).0;
-    pool = size;
+    pool = rw (counts_begin opts).1 room;
     each = λ o lt. first_door o lt;
   };
   waits_are = record {
     blocked = λ o c. none o c ∙ sym (no_waits opts o c (0 == o) refl);
-    pool = pool;
+    pool = rw ((counts_begin opts).1, pool) (omega arith);
     known = rw ((counts_begin opts).0, objects) (omega arith);
   };
   events_are = record {
@@ -137,7 +137,7 @@ mirrors_begin sites known opts n size waits pool objects none = record {
     one_queue : length (made_ready 0 (opening opts.processors n)).queues ≡ 1
     one_queue = length-set ([] ∷ []) (or_0 (place_of (opening opts.processors n) 0)) (cluster_queue ([] ∷ []) (or_0 (place_of (opening opts.processors n) 0)) ++ 0 ∷ [])
 
-    first_door : (o : ℕ) → o < 1 → IsDoor sites o (begin opts ∷ []) (door_at (with_new (no_doors n) 0) o)
+    first_door : (o : ℕ) → o < 1 → IsDoor sites o (begin opts ∷ []) (door_at (with_new (no_doors m) 0) o)
     first_door zero lt = door_begin sites opts
     first_door (suc o) lt = absurd (omega arith)
 

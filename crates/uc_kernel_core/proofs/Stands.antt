@@ -71,7 +71,7 @@ module _ (opts : Options) (sites : List Site) (j : Journal) (doors : Doors) (wai
   m_desk : (e : Entry) → Legal e j → is_desk e.kind ≡ true → ((t o : ℕ) → queued_at o (spot t (j ++ e ∷ [])) ≡ true → queued_at o (spot t j) ≡ true) → (w : Standing) → ClustersAre opts (j ++ e ∷ []) w → Mirrors opts sites (j ++ e ∷ []) doors waits events w marks ins owners own
   m_desk e l k q w c =
       let d = desk_now e.kind e k in
-      with_parts opts sites j doors waits events standing marks ins owners own h e l d.spawn doors waits events w marks ins (doors_silent sites j doors h.doors_are e d.make d.door) (waits_silent j waits e h.waits_are d.make d.wait) (events_silent j events e h.events_are d.spawn d.event) c
+      with_parts opts sites j doors waits events standing marks ins owners own h e l d.spawn doors waits events w marks ins (doors_silent sites j doors h.doors_are e d.make d.door) (waits_silent j waits e h.waits_are d.make d.spawn d.wait) (events_silent j events e h.events_are d.spawn d.event) c
       (marks_by j marks ins h.marks_are e d.make marks ins refl refl (marked_same j marks ins h.marks_are e d.make d.last q) (entered_same j marks ins h.marks_are e d.make (λ t g. (sym (door_silent e.object j e d.door).inside ∙ g, last_all e.object j e d.last t))))
       (owners_silent j owners own h.owners_are e d.make d.owned d.owns)
 

@@ -151,7 +151,7 @@ still_calm k h = h
 pub m_calm : (opts : Options) (sites : List Site) (j : Journal) (doors : Doors) (waits : Waiting) (events : List (List Event)) (standing : Standing) (marks ins : List Bool) (owners : List (Option ℕ)) (own : List ℕ) → Mirrors opts sites j doors waits events standing marks ins owners own → (e : Entry) → Legal e j → Calm e.kind e → (doors' : Doors) (events' : List (List Event)) → DoorsAre sites (j ++ e ∷ []) doors' → EventsAre (j ++ e ∷ []) events' → ((t : ℕ) → inside e.object (j ++ e ∷ []) ≡ t ∷ [] → inside e.object j ≡ t ∷ []) → Mirrors opts sites (j ++ e ∷ []) doors' waits events' standing marks ins owners own
 m_calm opts sites j doors waits events standing marks ins owners own h e l q doors' events' ds ev stay =
     let keeps : Keeps j e = record { clusters = q.clusters; no_cluster = q.cluster; no_processor = q.desk; no_place = q.stand; was = λ t m. absurd (no_mover t m (q.mover t)) } in
-    with_parts opts sites j doors waits events standing marks ins owners own h e l q.spawn doors' waits events' standing marks ins ds (waits_silent j waits e h.waits_are q.make q.wait) ev
+    with_parts opts sites j doors waits events standing marks ins owners own h e l q.spawn doors' waits events' standing marks ins ds (waits_silent j waits e h.waits_are q.make q.spawn q.wait) ev
     (clusters_by j e keeps opts standing standing h.clusters_are (λ c. h.clusters_are.ready_are c ∙ sym (ready_stays j e (q.readies _) q.dispatches c)) (λ p. h.clusters_are.runs p ∙ sym (run_stays j e (q.puts_on _) q.takes_off p)) (open_stays opts standing j e q.desk h.clusters_are.desks).0 refl refl)
     (marks_by j marks ins h.marks_are e q.make marks ins refl refl (marked_same j marks ins h.marks_are e q.make q.last (λ t o g. ap (queued_at o) (sym (spot_stays j e t (q.mover t))) ∙ g)) (entered_same j marks ins h.marks_are e q.make (λ t g. (stay t g, last_all e.object j e q.last t))))
     (owners_silent j owners own h.owners_are e q.make q.owned q.owns)
@@ -174,7 +174,7 @@ m_out opts sites j doors waits events standing marks ins owners own h e l k one 
     let q = calm_now e.kind e (exit_calm e.kind k) in
     let lt : e.object < length doors.doors = rw h.doors_are.made known in
     let at = out sites j (door_at doors e.object) e (exit_out e.kind k) one (h.doors_are.each e.object lt) in
-    m_calm opts sites j doors waits events standing marks ins owners own h e l q (with_door doors e.object (inside_is None (door_at doors e.object))) events (doors_set sites j doors h.doors_are e q.make (inside_is None (door_at doors e.object)) at) (events_silent j events e h.events_are q.spawn (exit_events e.kind k)) (λ t g. absurd (nobody t (at.within ∙ g)))
+    m_calm opts sites j doors waits events standing marks ins owners own h e l q (with_door doors e.object (inside_is None (door_at doors e.object))) events (doors_set sites j doors h.doors_are e q.make q.spawn (inside_is None (door_at doors e.object)) at) (events_silent j events e h.events_are q.spawn (exit_events e.kind k)) (λ t g. absurd (nobody t (at.within ∙ g)))
   where
     nobody : (t : ℕ) → [] ≡ t ∷ [] → ⊥
     nobody t e = cc
@@ -204,7 +204,7 @@ m_leave opts sites j doors waits events standing marks ins owners own h p t k o 
     let same : with_door doors o (inside_is None d) ≡ w = sym (gone ∙ ap (λ y. with_door v o (inside_is None y)) there ∙ ap (λ (x : Doors). with_door x o (inside_is None d)) over ∙ ap (λ l. let x : Doors = record { tasks = doors.tasks; doors = l; pulled = None } in x) (set-set doors.doors o d (inside_is None d))) in
     let at : IsDoor sites o (j ++ e ∷ []) (inside_is None d) = ap_told failed (leaves sites j (door_at doors o) e refl one (h.doors_are.each o lt)) in
     let q = calm_now kind.Leave e refl in
-    subst (λ x. Mirrors opts sites (j ++ e ∷ []) x waits events standing marks ins owners own) same (m_calm opts sites j doors waits events standing marks ins owners own h e l q (with_door doors o (inside_is None d)) events (doors_set sites j doors h.doors_are e refl (inside_is None d) at) (events_silent j events e h.events_are refl refl) (λ u g. absurd (nobody u (at.within ∙ g))))
+    subst (λ x. Mirrors opts sites (j ++ e ∷ []) x waits events standing marks ins owners own) same (m_calm opts sites j doors waits events standing marks ins owners own h e l q (with_door doors o (inside_is None d)) events (doors_set sites j doors h.doors_are e refl refl (inside_is None d) at) (events_silent j events e h.events_are refl refl) (λ u g. absurd (nobody u (at.within ∙ g))))
   where
     nobody : (u : ℕ) → [] ≡ u ∷ [] → ⊥
     nobody u e = cc
@@ -333,6 +333,18 @@ module _ (opts : Options) (sites : List Site) (j : Journal) (doors : Doors) (wai
       let few = h.few in
       omega arith
 
+  pub run_seated : (p t : ℕ) → running p j ≡ t ∷ [] → t < doors.tasks
+  run_seated p t r =
+      let k = known_at j h.sound t (Running p) (run_at p t r) in
+      let room = h.doors_are.pool in
+      omega arith
+
+  pub run_waitable : (p t : ℕ) → running p j ≡ t ∷ [] → t < waits.tasks
+  run_waitable p t r =
+      let k = known_at j h.sound t (Running p) (run_at p t r) in
+      let room = h.waits_are.pool in
+      omega arith
+
   pub run_place : (p t : ℕ) → running p j ≡ t ∷ [] → place_of standing t ≡ Some (cluster_of t j)
   run_place p t r = h.clusters_are.placed t (ap is_at (run_at p t r))
 
@@ -358,7 +370,7 @@ module _ (opts : Options) (sites : List Site) (j : Journal) (doors : Doors) (wai
       let keeps : Keeps j e = record { clusters = b.clusters; no_cluster = b.cluster; no_processor = b.desk; no_place = b.stand; was = λ t m. ap (λ u. is_at (spot u j)) (eqb-true t e.task (sym (b.mover t) ∙ m)) ∙ ap is_at (run_at e.proc e.task r) } in
       let place : place_of v e.task ≡ Some (cluster_of e.task (j ++ e ∷ [])) = run_place e.proc e.task r ∙ ap Some (sym (cluster_stays j e keeps e.task)) in
       let known : cluster_of e.task (j ++ e ∷ []) < length v.queues = rw (cluster_stays j e keeps e.task) (h.clusters_are.known e.task) in
-      with_parts opts sites j doors waits events standing marks ins owners own h e l b.spawn doors waits events (made_ready e.task v) marks ins (doors_silent sites j doors h.doors_are e b.make b.door) (waits_silent j waits e h.waits_are b.make b.wait) (events_silent j events e h.events_are b.spawn b.event)
+      with_parts opts sites j doors waits events standing marks ins owners own h e l b.spawn doors waits events (made_ready e.task v) marks ins (doors_silent sites j doors h.doors_are e b.make b.door) (waits_silent j waits e h.waits_are b.make b.spawn b.wait) (events_silent j events e h.events_are b.spawn b.event)
       (clusters_by j e keeps opts standing (made_ready e.task v) h.clusters_are (ready_back j v e e.task h.clusters_are.ready_are (b.readies _) b.dispatches place known) (run_set j standing e None h.clusters_are.runs (run_processor e.proc e.task r) (off_now j e e.task r b.takes_off (b.puts_on _))) ((open_stays opts standing j e b.desk h.clusters_are.desks).1 e.proc None) (length-set standing.queues (or_0 (place_of v e.task)) (queue_at v.queues (or_0 (place_of v e.task)) ++ e.task ∷ [])) refl)
       (marks_by j marks ins h.marks_are e b.make marks ins refl refl (marked_same j marks ins h.marks_are e b.make b.last (λ t o g. not_queued t o (t == e.task) refl g)) (entered_same j marks ins h.marks_are e b.make (λ t g. (sym (door_silent e.object j e b.door).inside ∙ g, last_all e.object j e b.last t))))
       (owners_silent j owners own h.owners_are e b.make b.owned b.owns)
@@ -429,7 +441,7 @@ module _ (opts : Options) (sites : List Site) (j : Journal) (doors : Doors) (wai
 
       ending_step : Mirrors opts sites (j ++ e ∷ []) (with_door doors e.object (inside_is None (door_at doors e.object))) waits events (with_place (freed standing e.proc) e.task None) marks ins owners own
       ending_step =
-          with_parts opts sites j doors waits events standing marks ins owners own h e l spawn (with_door doors e.object (inside_is None (door_at doors e.object))) waits events (with_place (freed standing e.proc) e.task None) marks ins (doors_set sites j doors h.doors_are e make (inside_is None (door_at doors e.object)) at) (waits_silent j waits e h.waits_are make (ap tells_no_wait is)) (events_silent j events e h.events_are spawn (ap tells is)) standing_now
+          with_parts opts sites j doors waits events standing marks ins owners own h e l spawn (with_door doors e.object (inside_is None (door_at doors e.object))) waits events (with_place (freed standing e.proc) e.task None) marks ins (doors_set sites j doors h.doors_are e make spawn (inside_is None (door_at doors e.object)) at) (waits_silent j waits e h.waits_are make spawn (ap tells_no_wait is)) (events_silent j events e h.events_are spawn (ap tells is)) standing_now
           (marks_by j marks ins h.marks_are e make marks ins refl refl (marked_same j marks ins h.marks_are e make (λ on t. ap (λ x. last_called on x e t) is) gone) (entered_same j marks ins h.marks_are e make (λ t g. absurd (nobody t (at.within ∙ g)))))
           (owners_silent j owners own h.owners_are e make (ap (λ x. owned x e) is) (λ t. ap (λ x. owns t x e) is))
         where

@@ -263,7 +263,7 @@ module _ (opts : Options) (sites : List Site) (j : Journal) (doors : Doors) (wai
       let a = accept_entry p t k o site mask b 0 in
       let d = goes_on_top t (Some (clauses_of (offers sites site mask))) (door_at doors o) in
       let same : with_door doors o d ≡ unpulled v = ap (λ y. with_door doors o (goes_on_top t (Some (clauses_of y)) (door_at doors o))) (sym (offers_are sites site mask s e)) ∙ sym is in
-      let now = m_goes opts sites j doors waits events standing marks ins owners own h a l (goes_acceptor p t k o site mask b) runs within known d refl (opens sites o j (door_at doors o) p t k site mask b within (h.doors_are.each o lt)) waits (waits_silent j waits a h.waits_are refl refl) m x was in
+      let now = m_goes opts sites j doors waits events standing marks ins owners own h a l (goes_acceptor p t k o site mask b) runs within known d refl (opens sites o j (door_at doors o) p t k site mask b within (h.doors_are.each o lt)) waits (waits_silent j waits a h.waits_are refl refl refl) m x was in
       repulled opts sites (j ++ a ∷ []) v waits events (freed standing p) (set marks t m) ins owners own (subst (λ w. Mirrors opts sites (j ++ a ∷ []) w waits events (freed standing p) (set marks t m) ins owners own) same now)
 
   -- its `_Else` is taken
@@ -322,7 +322,7 @@ module _ (opts : Options) (sites : List Site) (j : Journal) (doors : Doors) (wai
 
       m_after : Mirrors opts sites after (with_door doors o door_after) waits events (freed standing p) (set marks t b1) ins owners own
       m_after =
-          m_goes opts sites j doors waits events standing marks ins owners own h the_accept l (goes_taker p t k o site mask b) runs within known door_after refl (at_after sites o j (door_at doors o) (h.doors_are.each o lt) h.sound h.stood p t k site mask b within no_caller m found) waits (waits_silent j waits the_accept h.waits_are refl refl) b1 x was
+          m_goes opts sites j doors waits events standing marks ins owners own h the_accept l (goes_taker p t k o site mask b) runs within known door_after refl (at_after sites o j (door_at doors o) (h.doors_are.each o lt) h.sound h.stood p t k site mask b within no_caller m found) waits (waits_silent j waits the_accept h.waits_are refl refl refl) b1 x was
 
       spot_after : spot m.task after ≡ At (Waits o)
       spot_after = spot_stays j the_accept m.task (ap (λ y. y && true) (taken_other sites o j (door_at doors o) (h.doors_are.each o lt) h.sound h.stood p t k site mask b within no_caller m found)) ∙ waits_there

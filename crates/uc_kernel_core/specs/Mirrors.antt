@@ -50,12 +50,12 @@ AreKnownSites sites = AllByRecursion IsKnownSite sites
 -- ---- each part mirrors the journal
 pub record DoorsAre (sites : List Site) (j : Journal) (v : Doors) : Type 0 where
   pub made : length v.doors ≡ object_count j
-  pub pool : v.tasks ≡ TASKS
+  pub pool : task_count j ≤ v.tasks
   pub each : (o : ℕ) → o < length v.doors → IsDoor sites o j (door_at v o)
 
 pub record WaitsAre (j : Journal) (v : Waiting) : Type 0 where
   pub blocked : AreBlocked v j
-  pub pool : v.tasks ≡ TASKS
+  pub pool : task_count j ≤ v.tasks
   pub known : object_count j ≤ v.objects
 
 pub record EventsAre (j : Journal) (all : List (List Event)) : Type 0 where

@@ -488,18 +488,20 @@ fn got_after(failed: bool, form: u8, used: usize, input: &[u8]) -> Got
 
 // Task 0 is inside object 0.
 fn first_entries(alloc: Global) -> Result<Entries, AllocError>
-    ensures { IfOk result (λ e. e ≡ with_new (no_doors TASKS) 0) }
+    ensures room { IfOk result (λ e. 1 ≤ e.tasks) }
+    ensures doors { IfOk result (λ e. e ≡ with_new (no_doors e.tasks) 0) }
 {
     let mut entries = Entries::new(alloc, TASKS)?;
+    entries.reserve(1)?;
     let _object = entries.add_object(0)?;
     Ok(entries)
 }
 
 fn first_conditions(alloc: Global) -> Result<Conditions, AllocError>
-    ensures { IfOk result (λ w. (w.tasks ≡ TASKS) × (w.objects ≡ 1) × ((o c : ℕ) → queue_at w o c ≡ [])) }
+    ensures { IfOk result (λ w. (w.tasks ≡ 1) × (w.objects ≡ 1) × ((o c : ℕ) → queue_at w o c ≡ [])) }
 {
     let mut conditions = Conditions::new(alloc);
-    conditions.reserve(TASKS, 1)?;
+    conditions.reserve(1, 1)?;
     Ok(conditions)
 }
 

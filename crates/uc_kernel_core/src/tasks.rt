@@ -37,7 +37,7 @@ impl Book {
             return Ok(());
         }
         let object = self.inside_marks.len() as u32;
-        self.conditions.reserve(TASKS, object + 1)?;
+        self.conditions.reserve(0, object + 1)?;
         self.owners.reserve(1)?;
         self.inside_marks.reserve(1)?;
         self.entries.add_object(who.task)?;
@@ -62,6 +62,8 @@ impl Book {
             return Ok(());
         }
         let child = self.events.count() as u32;
+        self.conditions.reserve(child + 1, 0)?;
+        self.entries.reserve(child + 1)?;
         self.events.reserve(child + 1)?;
         self.told
             .push(object_entry(EntryKind::Spawn, who, object, child));

@@ -3,4 +3,11 @@ pub mod ObjectsSampled
 pub mod RaisingSampled
 pub mod CoroutinesSampled
 pub mod CutsLemmas
+pub mod ActsSampled
 pub mod MonitorsSampled
+pub mod TwoStepsSampled
+pub mod PingPongSampled
+pub mod GuardedSampled
+pub mod LateSampled
+pub mod SignalledSampled
+pub mod PolledSampled

@@ -4,7 +4,7 @@ ghost use Rattle.uc_meaning.specs.SamplePrograms.{FirstRun, LoopRun, CallRun};
 ghost use Rattle.uc_meaning.specs.ObjectSamples.{NestedRun, ArrayRun, MemberRun, UnwrittenRun, ReferenceRun};
 ghost use Rattle.uc_meaning.specs.RaisingSamples.{ThrownRun, ResumedRun, EscapedRun, ReturnedRun};
 ghost use Rattle.uc_meaning.specs.CoroutineSamples.{SwitchedRun, DestroyedRun, EndedRun, LeftRun};
-ghost use Rattle.uc_meaning.specs.MonitorSamples.{ToldRun, Ping_pongRun, Two_stepsRun, GuardedRun, SignalledRun, PolledRun, MigratedRun, FailedRun, BankRun};
+ghost use Rattle.uc_meaning.specs.MonitorSamples.{ToldRun, Ping_pongRun, Two_stepsRun, GuardedRun, LateRun, SignalledRun, PolledRun, MigratedRun, FailedRun, BankRun};
 
 /// That journal is a run of that program: `cout << 3 << endl;` in its main.
 pub fn first_run()
@@ -108,6 +108,11 @@ pub fn two_steps_run()
 /// So is that of a buffer as a task, whose accept statements have guards.
 pub fn guarded_run()
     ensures { GuardedRun }
+{}
+
+/// So is that of tasks that wait on two conditions of a monitor, of one that signals both, and of one that calls meanwhile.
+pub fn late_run()
+    ensures { LateRun }
 {}
 
 /// So is that of a task that signals whom it accepted.

@@ -1,4 +1,4 @@
-use Rattle.uc_meaning.proofs.MonitorsSampled.{ping_pong_run}
+use Rattle.uc_meaning.proofs.PingPongSampled.{ping_pong_run}
 use Rattle.uc_meaning.proofs.samples.ping_pong_run.Goals as goal
 
 pub returns : goal.returns

@@ -1,4 +1,4 @@
-use Rattle.uc_meaning.proofs.MonitorsSampled.{polled_run}
+use Rattle.uc_meaning.proofs.PolledSampled.{polled_run}
 use Rattle.uc_meaning.proofs.samples.polled_run.Goals as goal
 
 pub returns : goal.returns

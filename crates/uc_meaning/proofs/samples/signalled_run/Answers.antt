@@ -1,4 +1,4 @@
-use Rattle.uc_meaning.proofs.MonitorsSampled.{signalled_run}
+use Rattle.uc_meaning.proofs.SignalledSampled.{signalled_run}
 use Rattle.uc_meaning.proofs.samples.signalled_run.Goals as goal
 
 pub returns : goal.returns

@@ -1,4 +1,4 @@
-use Rattle.uc_meaning.proofs.MonitorsSampled.{two_steps_run}
+use Rattle.uc_meaning.proofs.TwoStepsSampled.{two_steps_run}
 use Rattle.uc_meaning.proofs.samples.two_steps_run.Goals as goal
 
 pub returns : goal.returns

@@ -21,6 +21,12 @@ call-called-requires-clause-free c =
     let m = c.self.invariant.mirrors may.going in
     fronts.run_free _ _ _ _ _ _ _ _ _ _ _ m w.processor w.task may.runs
 
+pub call-called-requires-clause-task : goal.call-called-requires-clause-task
+call-called-requires-clause-task c =
+    let w = c.args.who in
+    let may = subst (λ (s : Seen). MayAct s w.processor w.task) (sym c.self.view_is) c.requires.may in
+    steps.run_seated _ _ _ _ _ _ _ _ _ _ _ (c.self.invariant.mirrors may.going) w.processor w.task may.runs
+
 pub invariant_of-self : goal.invariant_of-self
 invariant_of-self c =
     let w = c.args.who in

@@ -1,9 +1,9 @@
 use Rattle.std.proofs.Common.{◌≡◌, ◌≤◌, ◌<◌, ◌+◌, ◌∷◌, ◌++◌, [], false, None, List, Option, ℕ, Bool, sym, ap, ◌∙◌, subst, arith}
-use Rattle.std.specs.Prelude.{pos, max}
-use Rattle.std.proofs.Math.Nat.{le-max_right}
-use Rattle.uc_tree.specs.declared.limits.TheConstants.{TASKS, OBJECTS}
+use Rattle.std.specs.Prelude.{pos}
+use Rattle.std.proofs.Math.Nat.{le-max_left, le-max_right}
+use Rattle.uc_tree.specs.declared.limits.TheConstants.{OBJECTS}
 use Rattle.uc_acts.specs.Journal.{asking, cost}
-use Rattle.uc_acts.specs.Known.{object_count}
+use Rattle.uc_acts.specs.Known.{object_count, task_count}
 use Rattle.uc_entry.specs.declared.entry.EntryKind.TheVariants as kind
 use Rattle.uc_entry.specs.declared.request.Request.TheVariants as ask
 use Rattle.uc_kernel_core.specs.Mirrors.{MayAct, Seen, seen}
@@ -32,7 +32,10 @@ invariant_of-self-2 c =
     let lt : n < OBJECTS = omega arith in
     let row = requests.make_row v w.processor w.task w.ticks w.line c.args.class n is lt in
     let legal = (asks.can_first v w.processor w.task w.ticks w.line (ask.Make c.args.class) (asking kind.Make w.processor w.task (cost w.ticks w.line) n (pos c.args.class) (pos 0)) [] m.sound may tt row known).legal in
-    let pool : c.reserve.new.self.tasks ≡ TASKS = c.in_ok-reserve.ensures.tasks ∙ ap (λ k. max k TASKS) m.waits_are.pool in
+    let kept_tasks = le-max_left c.self.inside.conditions.tasks 0 in
+    let tasks = c.in_ok-reserve.ensures.tasks in
+    let enough = m.waits_are.pool in
+    let pool : task_count v.journal ≤ c.reserve.new.self.tasks = omega arith in
     let more = le-max_right c.self.inside.conditions.objects (n + 1) in
     let objects = c.in_ok-reserve.ensures.objects in
     let room : object_count v.journal + 1 ≤ c.reserve.new.self.objects = omega arith in

@@ -26,7 +26,7 @@ push_on-requires-clause-task c =
     let known = subst (λ (s : Seen). c.args.object < object_count s.journal) (sym c.self.view_is) c.requires.known in
     let m = c.self.invariant.mirrors going in
     let first = sym c.in-Some.is ∙ c.take.ensures.value in
-    rw m.doors_are.pool (letting.task_known _ _ _ _ _ _ _ _ _ _ _ m c.args.object known c.in-Some.task (fronts.front_known _ _ _ _ _ _ _ _ _ _ _ m c.args.object c.args.cond c.take.new.self c.take.ensures.queues c.in-Some.task first))
+    letting.task_seated _ _ _ _ _ _ _ _ _ _ _ m c.args.object known c.in-Some.task (fronts.front_known _ _ _ _ _ _ _ _ _ _ _ m c.args.object c.args.cond c.take.new.self c.take.ensures.queues c.in-Some.task first)
 
 pub push_on-requires-clause-free : goal.push_on-requires-clause-free
 push_on-requires-clause-free c =

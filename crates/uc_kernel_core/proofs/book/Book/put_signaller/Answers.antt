@@ -17,6 +17,13 @@ push_on-requires-clause-free c =
     let r = subst (λ (s : Seen). running w.processor s.journal ≡ w.task ∷ []) (sym c.self.view_is) c.requires.runs in
     fronts.run_free _ _ _ _ _ _ _ _ _ _ _ (c.self.invariant.mirrors k.going) w.processor w.task r
 
+pub push_on-requires-clause-task : goal.push_on-requires-clause-task
+push_on-requires-clause-task c =
+    let w = c.args.who in
+    let k = subst (λ (s : Seen). CanPut s (asking kind.SignalBlock w.processor w.task (cost w.ticks w.line) c.args.object (pos c.args.cond) (pos 1))) (sym c.self.view_is) c.requires.can in
+    let r = subst (λ (s : Seen). running w.processor s.journal ≡ w.task ∷ []) (sym c.self.view_is) c.requires.runs in
+    steps.run_seated _ _ _ _ _ _ _ _ _ _ _ (c.self.invariant.mirrors k.going) w.processor w.task r
+
 pub free-requires : goal.free-requires
 free-requires c =
     let w = c.args.who in

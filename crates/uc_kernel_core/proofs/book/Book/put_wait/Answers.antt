@@ -18,6 +18,13 @@ wait-requires-clause-free c =
     let r = subst (λ (s : Seen). running w.processor s.journal ≡ w.task ∷ []) (sym c.self.view_is) c.requires.runs in
     fronts.run_idle _ _ _ _ _ _ _ _ _ _ _ (c.self.invariant.mirrors k.going) w.processor w.task r
 
+pub wait-requires-clause-task : goal.wait-requires-clause-task
+wait-requires-clause-task c =
+    let w = c.args.who in
+    let k = subst (λ (s : Seen). CanPut s (asking kind.Wait w.processor w.task (cost w.ticks w.line) c.args.object (pos c.args.cond) c.args.n)) (sym c.self.view_is) c.requires.can in
+    let r = subst (λ (s : Seen). running w.processor s.journal ≡ w.task ∷ []) (sym c.self.view_is) c.requires.runs in
+    steps.run_waitable _ _ _ _ _ _ _ _ _ _ _ (c.self.invariant.mirrors k.going) w.processor w.task r
+
 pub free-requires : goal.free-requires
 free-requires c =
     let w = c.args.who in
