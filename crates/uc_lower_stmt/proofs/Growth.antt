@@ -20,8 +20,8 @@ mutual
   exits_grow (Throw place raised) k j l = omega arith
   exits_grow (Raise place raised) k j l = omega arith
   exits_grow (RaiseAt place raised target) k j l = omega arith
-  exits_grow (Enable place events body) k j l = exits_grow body k j l
-  exits_grow (Disable place events body) k j l = exits_grow body k j l
+  exits_grow (Enable place events body) k j l = exits_grow body (k + 1) (j + 1) (omega arith)
+  exits_grow (Disable place events body) k j l = exits_grow body (k + 1) (j + 1) (omega arith)
   exits_grow (Accept place cs other) k j l = let h = exits_clauses_grow cs k j l in let g = exits_maybe_grow other k j l in omega arith
   exits_grow (Print place items) k j l = omega arith
   exits_grow (PrintTogether place items) k j l = omega arith

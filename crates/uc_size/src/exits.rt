@@ -58,8 +58,8 @@ pub fn declared_by_for(start: &ForStart) -> u64
     }
 }
 
-/// The sum over the ways out of a statement of the declarators in scope there, `scope` of which are
-/// declared round the statement.
+/// The sum over the ways out of a statement of the declarators in scope there and the `_Enable` and
+/// `_Disable` statements round it, `scope` of which stand round the statement.
 #[cycle(exits)]
 pub fn exits_of_stmt(s: &Stmt, scope: u64) -> u64
     requires { scope + stmt_size s.now < 2 ^ 64 }
@@ -85,8 +85,8 @@ pub fn exits_of_stmt(s: &Stmt, scope: u64) -> u64
         StmtForm::Throw { .. } => 0,
         StmtForm::Raise { .. } => 0,
         StmtForm::RaiseAt { .. } => 0,
-        StmtForm::Enable { body, .. } => exits_of_stmt(body, scope),
-        StmtForm::Disable { body, .. } => exits_of_stmt(body, scope),
+        StmtForm::Enable { body, .. } => exits_of_stmt(body, scope + 1),
+        StmtForm::Disable { body, .. } => exits_of_stmt(body, scope + 1),
         StmtForm::Accept { clauses, other } => {
             exits_of_clauses(clauses, scope).saturating_add(exits_of_maybe(other, scope))
         }

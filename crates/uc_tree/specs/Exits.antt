@@ -1,5 +1,6 @@
 -- What the ways out of scopes count: for every `return`, `break` and `continue` the declarators of its routine in scope
--- there. The second argument is how many are in scope round the piece; parameters and handlers' parameters are none.
+-- there, and the `_Enable` and `_Disable` statements that it stands in, since each way out restores their events. The second
+-- argument is how many are round the piece; parameters and handlers' parameters are none.
 use Rattle.std.specs.Prelude.{ℕ, ◌+◌, length}
 use Rattle.uc_tree.specs.Statements.{ForStart, NoFor, ForDeclare, ForEvaluate, Stmt, Block, Empty, Evaluate, Declare, If, While, Do, For, Break, Continue, Return, Try, Throw, Raise, RaiseAt, Enable, Disable, Accept, Print, PrintTogether, Read, Resume, Suspend, Yield, Migrate, Stmts, NoStmts, MoreStmts, MaybeStmt, NoStmt, OneStmt, Handler, Handles, Handlers, NoHandlers, MoreHandlers, Clause, Accepts, Clauses, NoClauses, MoreClauses}
 
@@ -32,8 +33,8 @@ abbrev mutual
   exits (Throw pos raised) k = 0
   exits (Raise pos raised) k = 0
   exits (RaiseAt pos raised target) k = 0
-  exits (Enable pos events body) k = exits body k
-  exits (Disable pos events body) k = exits body k
+  exits (Enable pos events body) k = exits body (k + 1)
+  exits (Disable pos events body) k = exits body (k + 1)
   exits (Accept pos cs other) k = exits_clauses cs k + exits_maybe other k
   exits (Print pos items) k = 0
   exits (PrintTogether pos items) k = 0
