@@ -1,22 +1,22 @@
-// When an object begins and when it ends. The log is borrowed by reference: it outlives the cells, since it was declared first.
-class Log {
-    int begun, ended;
+// When an object begins and when it ends. The register is borrowed by reference: it outlives the cells, since it was declared first.
+class Register {
+    int alive, most;
   public:
-    ~Log() { cout << begun << " begun, " << ended << " ended" << endl; }
-    void begin() { begun++; }
-    void end() { ended++; }
+    ~Register() { cout << "at most " << most << " at once" << endl; }
+    void come() { if (++alive > most) most = alive; }
+    void go() { alive--; }
 };
 
 class Cell {
-    Log & log;
+    Register & all;
     char name;
   public:
-    Cell(Log & log, char name) : log(log), name(name) {
-        log.begin();
+    Cell(Register & all, char name) : all(all), name(name) {
+        all.come();
         cout << '+' << name << ' ';
     }
     ~Cell() {
-        log.end();
+        all.go();
         cout << '-' << name << ' ';
     }
 };
@@ -24,16 +24,16 @@ class Cell {
 class Pair {
     Cell first, second;
   public:
-    Pair(Log & log) : first(log, 'f'), second(log, 's') { cout << "pair "; }
+    Pair(Register & all) : first(all, 'f'), second(all, 's') { cout << "pair "; }
     ~Pair() { cout << "no pair "; }
 };
 
 void uMain::main() {
-    Log log;
+    Register all;
     for (int turn = 1; turn <= 2; turn++) {
-        Cell cell(log, 'c');
+        Cell cell(all, 'c');
         if (turn == 2) break;
-        Pair pair(log);
+        Pair pair(all);
         cout << "body ";
     }
     cout << endl;

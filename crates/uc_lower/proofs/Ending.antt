@@ -4,6 +4,8 @@ use Rattle.std.specs.Prelude.{slice_get, slice_set}
 use Rattle.std.proofs.lemmas.Bool.{and_parts, cases_eq, ne_eqb}
 use Rattle.std.proofs.lemmas.List.{length-map}
 use Rattle.uc_tree.specs.declared.limits.TheConstants.{FRAME_CELLS, OPS_FOR_SIZE, PROGRAM_OPS, PROGRAM_SIZE}
+use Rattle.uc_tree.specs.declared.kinds.Owner.{Owner}
+use Rattle.uc_tree.specs.declared.kinds.Owner.TheVariants as owner
 use Rattle.uc_tree.specs.declared.site.Site.{Site}
 use Rattle.uc_tree.specs.Cells.{routine_cells}
 use Rattle.uc_tree.specs.Gathered.{gathered_all}
@@ -16,7 +18,6 @@ use Rattle.uc_resolve.specs.Resolve.{all_classes, all_unwritten, is_main, place_
 use Rattle.uc_tree.specs.Sizes.{program_size}
 use Rattle.uc_tree.specs.Source as source
 use Rattle.uc_tree.specs.StatementSizes.{stmts_size}
-use Rattle.uc_built.specs.BuiltForms.{are_built, is_built_sig, IsBuilt}
 use Rattle.uc_rules.specs.Breaks.{breaks_of}
 use Rattle.uc_code.specs.declared.rows.RoutineCode.{RoutineCode}
 use Rattle.uc_code.specs.Codes.{Code}
@@ -27,11 +28,11 @@ use Rattle.uc_code.specs.CodeShapes.{Kept}
 use Rattle.uc_numbering.specs.declared.routines.Defined.{Defined as Found}
 use Rattle.uc_numbering.specs.Routines.{defined_at}
 use Rattle.uc_lower_stmt.specs.Routines.{frame_cells}
-use Rattle.uc_lower.specs.RoutineLayout.{Lays, LaysAll, defined_texts, last_of, own_room, routine_room, unwritten_rooms}
+use Rattle.uc_lower.specs.RoutineLayout.{Lays, LaysAll, defined_sites, defined_texts, last_of, own_room, routine_room, unwritten_rooms}
 use Rattle.uc_lower.specs.Refusals.{Fits}
-use Rattle.uc_lower.proofs.Built.{built_routine, owned_alone, stmts_sites}
+use Rattle.uc_lower.proofs.SiteLemmas.{stmts_alike}
 use Rattle.uc_lower.proofs.Costs.{own_few, own_size, owns, owns_push, size_split}
-use Rattle.uc_lower.proofs.RoutineLayoutLemmas.{lays_step, room_within, rooms_within, taken_more, texts_push, within}
+use Rattle.uc_lower.proofs.RoutineLayoutLemmas.{lays_step, room_within, rooms_within, sites_push, taken_more, texts_push, within}
 use Rattle.uc_lower.proofs.Rooms.{rooms_fit}
 use Rattle.uc_lower.proofs.Silence.{silent_behind}
 
@@ -50,9 +51,6 @@ as_many ds rs m = ap length (sym m) ∙ length-map ds defined_at
 
 -- what is asked of the next routine
 
-built_body : (p : Program) → IsBuilt p → (i : ℕ) (x : Defined) → slice_get (routines_of p) i ≡ Some x → are_built x.routine.body ≡ true
-built_body p b i x at = (and_parts (is_built_sig x.routine.sig) (are_built x.routine.body) (built_routine p b i x at)).1
-
 -- main is called `main`, and is no constructor and no destructor
 
 sig_named : (p : Program) (s : Sig) → is_main_sig s ≡ true → is_main p s ≡ true
@@ -61,6 +59,11 @@ sig_named p s e =
     let b = and_parts (same_name s.name main_name) (is_plain s.role && no_params s.params) a.1 in
     let plain = (and_parts (is_plain s.role) (no_params s.params) b.1).0 in
     ap (λ (t : Bool). t && same_name s.name main_name) plain ∙ b.0
+
+owned_alone : (p : Program) (o : Owner) (r : Routine) → (defined_by p o r).routine ≡ r
+owned_alone p owner.Here r = refl
+owned_alone p owner.Main r = refl
+owned_alone p (owner.Class name) r = refl
 
 first_named : (p : Program) (i : Item) (rest : List Defined) (x : Defined) → is_main_item i ≡ true → slice_get (item_defined p i ++ rest) 0 ≡ Some x → is_main p x.routine.sig ≡ true
 first_named p (ClassItem c) rest x m e = cc
@@ -98,7 +101,7 @@ pub record Stands (p : Program) (all i t s : ℕ) (out : Draft) : Type 0 where
   pub lays : Lays p (routines_of p) all i out
   pub texts : t ≡ defined_texts (take i (routines_of p))
   pub few : t ≤ owns (take i (routines_of p))
-  pub sites : s ≡ 0
+  pub sites : s ≡ defined_sites (take i (routines_of p))
 
 pub record Follows (p : Program) (t i : ℕ) (x : Defined) (out : Draft) : Type 0 where
   pub named : nat_eq i (main_number p) ≡ true → is_main p x.routine.sig ≡ true
@@ -107,10 +110,9 @@ pub record Follows (p : Program) (t i : ℕ) (x : Defined) (out : Draft) : Type 
   pub cells : routine_cells p x.routine ≤ FRAME_CELLS
   pub texts : t + stmts_size x.routine.body ≤ PROGRAM_SIZE
   pub params : length x.routine.sig.params ≤ PROGRAM_SIZE
-  pub built : are_built x.routine.body ≡ true
 
-pub follows : (p : Program) (all i texts sites : ℕ) (x : Defined) (out : Draft) → IsBuilt p → breaks_of p ≡ [] → Fits p → length (routines_of p) ≤ all → slice_get (routines_of p) i ≡ Some x → Stands p all i texts sites out → Follows p texts i x out
-follows p all i texts sites x out b none f enough at h =
+pub follows : (p : Program) (all i texts sites : ℕ) (x : Defined) (out : Draft) → breaks_of p ≡ [] → Fits p → length (routines_of p) ≤ all → slice_get (routines_of p) i ≡ Some x → Stands p all i texts sites out → Follows p texts i x out
+follows p all i texts sites x out none f enough at h =
     let few = room_within p (routines_of p) i x at in
     let fit = rooms_fit p none in
     let own = own_few (routines_of p) i x at in
@@ -127,36 +129,40 @@ follows p all i texts sites x out b none f enough at h =
       cells = f.frames.each i x at;
       texts = omega (arith, own, split, size, counted);
       params = omega (arith, own, split, size);
-      built = built_body p b i x at;
     }
 
 pub stands_none : (p : Program) (all : ℕ) (d : Draft) → Lays p (routines_of p) all 0 d → Stands p all 0 0 0 d
-stands_none p all d h = record { lays = h; texts = none (routines_of p); few = omega arith; sites = refl }
+stands_none p all d h = record { lays = h; texts = no_texts (routines_of p); few = omega arith; sites = no_sites (routines_of p) }
   where
-    none : (ds : List Defined) → 0 ≡ defined_texts (take 0 ds)
-    none [] = refl
-    none (x ∷ xs) = refl
+    no_texts : (ds : List Defined) → 0 ≡ defined_texts (take 0 ds)
+    no_texts [] = refl
+    no_texts (x ∷ xs) = refl
 
-pub stands_next : (p : Program) (all i texts sites : ℕ) (x : Defined) (old new : Draft) → IsBuilt p → length (routines_of p) ≤ all → slice_get (routines_of p) i ≡ Some x → Stands p all i texts sites old
+    no_sites : (ds : List Defined) → 0 ≡ defined_sites (take 0 ds)
+    no_sites [] = refl
+    no_sites (x ∷ xs) = refl
+
+pub stands_next : (p : Program) (all i texts sites : ℕ) (x : Defined) (old new : Draft) → length (routines_of p) ≤ all → slice_get (routines_of p) i ≡ Some x → Stands p all i texts sites old
     → Kept (laid_in old) (laid_in new) → length new.ops ≤ length old.ops + routine_room p x
     → RoutineAt (laid_in new) (last_of (routines_of p)) i (routine_meant p x.routine (routine_scope p x.routine (place_by p x) i texts sites)) (record { entry = length old.ops; cells = frame_cells p x.routine; params = length x.routine.sig.params; written = true }) (length old.ops) (length new.ops)
     → new.routines ≡ slice_set old.routines i (record { entry = length old.ops; cells = frame_cells p x.routine; params = length x.routine.sig.params; written = true }) → new.marks ≡ []
     → new.texts ≡ texts + length (gathered_all own_texts x.routine.body) → new.texts ≤ texts + stmts_size x.routine.body → new.sites ≡ sites + length (gathered_all (own_sites None 0) x.routine.body)
     → Stands p all (i + 1) new.texts new.sites new
-stands_next p all i texts sites x old new b enough at h k r c w marks te tf se =
+stands_next p all i texts sites x old new enough at h k r c w marks te tf se =
     let split : take (i + 1) (routines_of p) ≡ take i (routines_of p) ++ x ∷ [] = taken_more (routines_of p) i x at in
     let t : defined_texts (take (i + 1) (routines_of p)) ≡ defined_texts (take i (routines_of p)) + length (gathered_all own_texts x.routine.body) = ap defined_texts split ∙ texts_push (take i (routines_of p)) x in
     let s : owns (take (i + 1) (routines_of p)) ≡ owns (take i (routines_of p)) + (1 + own_size x.routine) = ap owns split ∙ owns_push (take i (routines_of p)) x in
-    let none : length (gathered_all (own_sites None 0) x.routine.body) ≡ 0 = ap length (stmts_sites None 0 x.routine.body (built_body p b i x at)) in
+    let u : defined_sites (take (i + 1) (routines_of p)) ≡ defined_sites (take i (routines_of p)) + length (gathered_all (own_sites x.class x.number) x.routine.body) = ap defined_sites split ∙ sites_push (take i (routines_of p)) x in
+    let alike : length (gathered_all (own_sites x.class x.number) x.routine.body) ≡ length (gathered_all (own_sites None 0) x.routine.body) = stmts_alike x.class x.number x.routine.body in
     let there : i < length (routines_of p) = within (routines_of p) i x at in
     let ht = h.texts in
     let hf = h.few in
     let hs = h.sites in
     record {
-      lays = lays_step p (routines_of p) all i texts sites x old new (built_body p b) at (omega (arith, there, enough)) h.lays h.texts h.sites k r c w marks;
+      lays = lays_step p (routines_of p) all i texts sites x old new at (omega (arith, there, enough)) h.lays h.texts h.sites k r c w marks;
       texts = te ∙ ap (λ (n : ℕ). n + length (gathered_all own_texts x.routine.body)) ht ∙ sym t;
       few = omega (arith, s, hf, tf);
-      sites = omega (arith, se, hs, none);
+      sites = omega (arith, se, hs, u, alike);
     }
 
 -- the room of one that nobody wrote

@@ -1,6 +1,6 @@
 mod Alone
 mod Apart
-mod Built
+mod SiteLemmas
 mod Costs
 mod Distinct
 mod Ending

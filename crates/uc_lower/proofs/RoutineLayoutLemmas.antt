@@ -8,7 +8,6 @@ use Rattle.uc_tree.specs.Objects.{Unwritten}
 use Rattle.uc_tree.specs.Programs.{Program, Routine}
 use Rattle.uc_tree.specs.Source as source
 use Rattle.uc_resolve.specs.Resolve.{all_unwritten, place_by, routine_scope, routine_meant, routines_meant, unwritten_meant}
-use Rattle.uc_built.specs.BuiltForms.{are_built}
 use Rattle.uc_code.specs.declared.rows.MainOf.TheVariants as main_of
 use Rattle.uc_code.specs.declared.rows.RoutineCode.{RoutineCode}
 use Rattle.uc_code.specs.Drafts.{Draft}
@@ -27,8 +26,7 @@ use Rattle.uc_tree.specs.Numbering.{is_plain}
 use Rattle.uc_lower_stmt.specs.Routines.{frame_cells}
 use Rattle.uc_lower_stmt.specs.LowersStatement.{sizes_at}
 use Rattle.uc_lower_class.specs.Bodies.{builder_room}
-use Rattle.uc_lower.specs.RoutineLayout.{Lays, LaysAll, defined_texts, last_of, own_room, role_room_of, routine_room, unwritten_rooms, written_room}
-use Rattle.uc_lower.proofs.Built.{stmts_sites}
+use Rattle.uc_lower.specs.RoutineLayout.{Lays, LaysAll, defined_sites, defined_texts, last_of, own_room, role_room_of, routine_room, unwritten_rooms, written_room}
 
 -- the statements of a routine and its end
 body_stable : (q : source.Purpose) (n line : ℕ) (ss : source.Stmts) → Stable (λ code. BodyAt code q n line ss)
@@ -80,12 +78,7 @@ placed_at p r last number texts sites row old new o q e h = subst (λ (x : Optio
 
 -- all routines but the last, and the last
 
-defined_sites : List Defined → ℕ
-defined_sites [] = 0
-defined_sites (d ∷ ds) = length (gathered_all (own_sites d.class d.number) d.routine.body) + defined_sites ds
-
 meant_push : (p : Program) (xs : List Defined) (x : Defined) (n t s : ℕ) → routines_meant p (xs ++ x ∷ []) n t s ≡ routines_meant p xs n t s ++ routine_meant p x.routine (routine_scope p x.routine (place_by p x) (n + length xs) (t + defined_texts xs) (s + defined_sites xs)) ∷ []
-unfolding defined_sites
 meant_push p [] x n t s =
     let a : n ≡ n + 0 = omega arith in
     let b : t ≡ t + 0 = omega arith in
@@ -108,13 +101,9 @@ pub texts_push : (xs : List Defined) (x : Defined) → defined_texts (xs ++ x �
 texts_push [] x = omega arith
 texts_push (y ∷ ys) x = let h = texts_push ys x in omega arith
 
-no_sites : (ds : List Defined) → ((k : ℕ) (d : Defined) → slice_get ds k ≡ Some d → are_built d.routine.body ≡ true) → defined_sites ds ≡ 0
-unfolding defined_sites
-no_sites [] f = refl
-no_sites (d ∷ ds) f =
-    let a : length (gathered_all (own_sites d.class d.number) d.routine.body) ≡ 0 = ap (λ l. length l) (stmts_sites d.class d.number d.routine.body (f zero d refl)) in
-    let b = no_sites ds (λ k e g. f (suc k) e g) in
-    omega arith
+pub sites_push : (xs : List Defined) (x : Defined) → defined_sites (xs ++ x ∷ []) ≡ defined_sites xs + length (gathered_all (own_sites x.class x.number) x.routine.body)
+sites_push [] x = omega arith
+sites_push (y ∷ ys) x = let h = sites_push ys x in omega arith
 
 -- the rows written so far, with one more
 
@@ -170,20 +159,19 @@ meant_long p (d ∷ ds) n t s = ap suc (meant_long p ds (n + 1) (t + length (gat
 pub lays_none : (p : Program) (ds : List Defined) (all : ℕ) (d : Draft) → d.ops ≡ [] → d.marks ≡ [] → length d.routines ≡ all → Lays p ds all 0 d
 lays_none p ds all d e f g = record { code = record { end = ap (λ l. length l) e }; room = let l : length d.ops ≡ 0 = ap (λ l. length l) e in omega arith; outside = f; table = g }
 
-pub lays_step : (p : Program) (ds : List Defined) (all i texts sites : ℕ) (x : Defined) (old new : Draft) → ((k : ℕ) (d : Defined) → slice_get ds k ≡ Some d → are_built d.routine.body ≡ true) → slice_get ds i ≡ Some x → i < all → Lays p ds all i old → texts ≡ defined_texts (take i ds) → sites ≡ 0
+pub lays_step : (p : Program) (ds : List Defined) (all i texts sites : ℕ) (x : Defined) (old new : Draft) → slice_get ds i ≡ Some x → i < all → Lays p ds all i old → texts ≡ defined_texts (take i ds) → sites ≡ defined_sites (take i ds)
     → Kept (laid_in old) (laid_in new) → length new.ops ≤ length old.ops + routine_room p x
     → RoutineAt (laid_in new) (last_of ds) i (routine_meant p x.routine (routine_scope p x.routine (place_by p x) i texts sites)) (record { entry = length old.ops; cells = frame_cells p x.routine; params = length x.routine.sig.params; written = true }) (length old.ops) (length new.ops)
     → new.routines ≡ slice_set old.routines i (record { entry = length old.ops; cells = frame_cells p x.routine; params = length x.routine.sig.params; written = true }) → new.marks ≡ [] → Lays p ds all (i + 1) new
-lays_step p ds all i texts sites x old new built at known h te se k r c w marks =
+lays_step p ds all i texts sites x old new at known h te se k r c w marks =
     let row : RoutineCode = record { entry = length old.ops; cells = frame_cells p x.routine; params = length x.routine.sig.params; written = true } in
     let xs : List Defined = take i ds in
     let split : xs ++ x ∷ [] ≡ take (i + 1) ds = sym (taken_more ds i x at) in
     let few : i < length ds = within ds i x at in
     let count : length xs ≡ i = omega (arith, length-take i ds, few) in
-    let none : defined_sites xs ≡ 0 = no_sites xs (λ j d e. built j d (from_taken i ds j d e)) in
     let i_is : i ≡ 0 + length xs = omega (arith, count) in
     let t_is : texts ≡ 0 + defined_texts xs = omega (arith, te) in
-    let s_is : sites ≡ 0 + defined_sites xs = omega (arith, se, none) in
+    let s_is : sites ≡ 0 + defined_sites xs = omega (arith, se) in
     let place : i ≡ 0 + length (routines_meant p xs 0 0 0) = let l = meant_long p xs 0 0 0 in omega (arith, count, l) in
     let meant : source.Routine = routine_meant p x.routine (routine_scope p x.routine (place_by p x) (0 + length xs) (0 + defined_texts xs) (0 + defined_sites xs)) in
     let same : routine_meant p x.routine (routine_scope p x.routine (place_by p x) i texts sites) ≡ meant =
@@ -206,12 +194,6 @@ lays_step p ds all i texts sites x old new built at known h te se k r c w marks 
       outside = marks;
       table = ap (λ (l : List RoutineCode). length l) w ∙ length_set old.routines i row ∙ table;
     }
-  where
-    from_taken : (n : ℕ) (xs : List Defined) (j : ℕ) (d : Defined) → slice_get (take n xs) j ≡ Some d → slice_get xs j ≡ Some d
-    from_taken zero xs j d e = absurd (cc)
-    from_taken (suc n) [] j d e = absurd (cc)
-    from_taken (suc n) (y ∷ ys) zero d e = e
-    from_taken (suc n) (y ∷ ys) (suc j) d e = from_taken n ys j d e
 
 -- behind them those that nobody wrote
 

@@ -28,9 +28,7 @@ use Rattle.uc_rules.specs.ProgramVisits.{class_visits, fields_visits, form_visit
 use Rattle.uc_rules.specs.Scopes.{Env, class_around, plain_env}
 use Rattle.uc_rules.specs.Names.{place_in}
 use Rattle.uc_rules.specs.Visits.{Visit, AtField, AtBase, AtClass, AtItem, AtMark, AtProgram, maybe_visits}
-use Rattle.uc_built.specs.BuiltForms.{IsBuilt}
 use Rattle.uc_lower_expr.specs.Members.{FitClasses}
-use Rattle.uc_lower.proofs.Built.{fields_held}
 
 -- what is empty has empty parts
 
@@ -207,5 +205,5 @@ module _ (p : Program) where
         let room = room_at (plain_env p (class_around h)) t.0 i (first_none (AtClass (plain_env p (class_around h)) t.0 i) (members_visits p h t.0 0 t.0.members) (own_none i t.0 t.1)) in
         leb-true (class_cells p i) CLASS_CELLS (and_parts (nat_le (class_cells p i) CLASS_CELLS) (nat_le (condition_count p i t.0) CLASS_CONDITIONS) room).0
 
-    pub fit_classes : IsBuilt p → FitClasses p
-    fit_classes built = record { apart = apart; small = λ i. small_case i (cases_lt i (length (classes_of p.items))); held = fields_held p built }
+    pub fit_classes : FitClasses p
+    fit_classes = record { apart = apart; small = λ i. small_case i (cases_lt i (length (classes_of p.items))) }

@@ -4,7 +4,7 @@ use Rattle.uc_tree.specs.declared.limits.TheConstants.{OPS_FOR_SIZE}
 use Rattle.uc_tree.specs.declared.kinds.Role.{Role}
 use Rattle.uc_tree.specs.declared.kinds.Role.TheVariants as role
 use Rattle.uc_tree.specs.Gathered.{gathered_all}
-use Rattle.uc_tree.specs.Numbering.{Defined, own_texts}
+use Rattle.uc_tree.specs.Numbering.{Defined, own_sites, own_texts}
 use Rattle.uc_tree.specs.Objects.{Unwritten, class_at}
 use Rattle.uc_tree.specs.Programs.{Program}
 use Rattle.uc_resolve.specs.Resolve.{all_unwritten, place_by, routines_meant}
@@ -39,6 +39,11 @@ unwritten_rooms p (u ∷ us) = own_room p u + unwritten_rooms p us
 abbrev pub defined_texts : List Defined → ℕ
 defined_texts [] = 0
 defined_texts (d ∷ ds) = length (gathered_all own_texts d.routine.body) + defined_texts ds
+
+-- the accept statements in routines
+abbrev pub defined_sites : List Defined → ℕ
+defined_sites [] = 0
+defined_sites (d ∷ ds) = length (gathered_all (own_sites d.class d.number) d.routine.body) + defined_sites ds
 
 -- the number of the last written routine
 abbrev pub last_of : List Defined → ℕ

@@ -7,7 +7,6 @@ ghost use Rattle.uc_tree.specs.Numbering.{routines_of};
 ghost use Rattle.uc_tree.specs.Objects.{unwritten_of};
 ghost use Rattle.uc_resolve.specs.Resolve.{source_of};
 ghost use Rattle.uc_tree.specs.Sizes.{program_size};
-ghost use Rattle.uc_built.specs.BuiltForms.{IsBuilt};
 ghost use Rattle.uc_rules.specs.Breaks.{breaks_of};
 ghost use Rattle.uc_code.specs.Layout.{laid_of};
 ghost use Rattle.uc_code.specs.Pace.{IsPaced};
@@ -71,7 +70,6 @@ fn lower_named(
     count: u32,
     unwritten: &[Unwritten],
 ) -> Result<Code, AllocError>
-    requires built { IsBuilt program.now }
     requires unbroken { breaks_of program.now ≡ [] }
     requires fits { Fits program.now }
     requires names { names.now ≡ program.now }
@@ -108,7 +106,6 @@ fn lower_all(
     unwritten: &[Unwritten],
     numbers: Vec<u32>,
 ) -> Result<Code, AllocError>
-    requires built { IsBuilt program.now }
     requires unbroken { breaks_of program.now ≡ [] }
     requires fits { Fits program.now }
     requires sizes { sizes.now ≡ program.now }
@@ -147,7 +144,6 @@ fn lower_fit(
     defined: &[Defined],
     count: u32,
 ) -> Result<Code, AllocError>
-    requires built { IsBuilt program.now }
     requires unbroken { breaks_of program.now ≡ [] }
     requires fits { Fits program.now }
     requires sizes { sizes.now ≡ program.now }
@@ -173,7 +169,6 @@ fn lower_defined(
     defined: &[Defined],
     count: u32,
 ) -> Result<Code, LowerFault>
-    requires built { IsBuilt program.now }
     requires unbroken { breaks_of program.now ≡ [] }
     requires sizes { sizes.now ≡ program.now }
     requires defined { map defined_at defined.now ≡ routines_of program.now }
@@ -197,10 +192,9 @@ fn lower_defined(
     }
 }
 
-/// The code of a program whose forms are built and that breaks no rule, of which these are the sizes. Its frames are tested first,
-/// then its size. The code has at most `OPS_FOR_SIZE` ops for each unit of the program's size.
+/// The code of a program that breaks no rule, of which these are the sizes. Its frames are tested first, then its size. The code has
+/// at most `OPS_FOR_SIZE` ops for each unit of the program's size.
 pub fn lower(alloc: Global, program: &Program, sizes: &Sizes) -> Result<Code, LowerFault>
-    requires built { IsBuilt program.now }
     requires unbroken { breaks_of program.now ≡ [] }
     requires sizes { sizes.now ≡ program.now }
     ensures lowered { IfOk result (λ code. Lowered (source_of program.now) code) }

@@ -10,7 +10,6 @@ ghost use Rattle.uc_tree.specs.Numbering.{is_plain, main_name, own_sites, own_te
 ghost use Rattle.uc_tree.specs.Objects.{unwritten_of};
 ghost use Rattle.uc_tree.specs.ProgramMain.{main_number};
 ghost use Rattle.uc_resolve.specs.Resolve.{class_by, has_coroutines, is_main, has_tasks, place_by, routine_meant, routine_scope};
-ghost use Rattle.uc_built.specs.BuiltForms.{are_built, IsBuilt};
 ghost use Rattle.uc_rules.specs.Breaks.{breaks_of};
 ghost use Rattle.uc_code.specs.Layout.{laid_in};
 ghost use Rattle.uc_code.specs.Lowered.{RoutineAt};
@@ -138,7 +137,6 @@ fn lower_written(
 ) -> Result<(), AllocError>
     requires main { is_program_main ≡ nat_eq number (main_number names.now) }
     requires named { is_program_main ≡ true → is_main names.now one.now.routine.now.sig ≡ true }
-    requires built { are_built one.now.routine.now.body ≡ true }
     requires params { length one.now.routine.now.sig.params ≤ PROGRAM_SIZE }
     requires known { number < length out.old.routines }
     requires behind { number ≤ last }
@@ -181,7 +179,6 @@ pub(crate) fn lower_routines(
     count: u32,
     out: &mut Draft,
 ) -> Result<(), AllocError>
-    requires built { IsBuilt names.now }
     requires unbroken { breaks_of names.now ≡ [] }
     requires fits { Fits names.now }
     requires defined { map defined_at defined.now ≡ routines_of names.now }
@@ -221,7 +218,6 @@ pub(crate) fn lower_all_unwritten(
     count: u32,
     out: &mut Draft,
 ) -> Result<(), AllocError>
-    requires built { IsBuilt names.now }
     requires unbroken { breaks_of names.now ≡ [] }
     requires fits { Fits names.now }
     requires unwritten { map unwritten_as unwritten.now ≡ unwritten_of names.now }

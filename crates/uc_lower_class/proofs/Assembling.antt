@@ -25,10 +25,11 @@ use Rattle.uc_code.specs.Lowered.{StmtAt, StmtsAt}
 use Rattle.uc_code.specs.ObjectCalls.{Cleans}
 use Rattle.uc_code.specs.Emits.{Puts, clean_by, clean_length}
 use Rattle.uc_lower_expr.specs.DraftGrowth.{Adds}
-use Rattle.uc_lower_expr.specs.Meanings.{making_by}
-use Rattle.uc_lower_expr.specs.Members.{routine_for}
+use Rattle.uc_lower_expr.specs.declared.making.Made.{Made}
+use Rattle.uc_lower_expr.specs.Meanings.{making_of}
+use Rattle.uc_lower_expr.specs.Members.{made_routine}
 use Rattle.uc_lower_stmt.specs.Blocks.{AllStandBehind, EndsScopes}
-use Rattle.uc_lower_stmt.specs.Objects.{array_by, build_room, call_by, ended_by}
+use Rattle.uc_lower_stmt.specs.Objects.{array_by, build_room, call_by, destroyer_of, ended_by}
 use Rattle.uc_lower_stmt.specs.LowersStatement.{Lowers, scope_of}
 use Rattle.uc_lower_stmt.proofs.Joined.{lowers_adds, lowers_as, lowers_nothing, lowers_put}
 use Rattle.uc_lower_stmt.proofs.Laying.{lays_ended, lays_join, lays_nothing, lays_one}
@@ -48,17 +49,17 @@ use Rattle.uc_lower_class.proofs.Wholes.{arm_built}
 
 -- an object that is built, and its part
 
-pub stands_by : (p : Program) (j : ℕ) (ms ns : List Mark) (wanted : Role) (m : Manner) (s : Spot) (o : Option Array) (what : Cleaning) → AllStandBehind p j ms → ns ≡ ms → what ≡ cleaning.Call (call_by (routine_for p j wanted) m s o) → CleansBehind ns what
-stands_by p j ms ns wanted m s o what b e w =
-    subst (λ (x : Cleaning). CleansBehind ns x) (sym w) (subst (λ (os : List Mark). StandsBehind os (call_by (routine_for p j wanted) m s o)) (sym e) (record { behind = λ h. b.each wanted h }))
+pub stands_by : (p : Program) (m : Made) (ms ns : List Mark) (wanted : Role) (how : Manner) (s : Spot) (o : Option Array) (what : Cleaning) → AllStandBehind p m ms → ns ≡ ms → what ≡ cleaning.Call (call_by (made_routine p wanted m) how s o) → CleansBehind ns what
+stands_by p m ms ns wanted how s o what b e w =
+    subst (λ (x : Cleaning). CleansBehind ns x) (sym w) (subst (λ (os : List Mark). StandsBehind os (call_by (made_routine p wanted m) how s o)) (sym e) (record { behind = λ h. b.each wanted h }))
 
-pub part_built : (p : Program) (j : ℕ) (mutex : Bool) (n : ℕ) (s : Spot) (l : Option ℕ) (place : Expr) (ms : List Meant) (what : Cleaning) (ws us : List Cleaning) (old mid new : Draft) → Puts (n + build_room l) (λ code. StmtAt code old.marks (build p 0 (making_by j mutex) l place ms)) old mid
-    → us ≡ ws ++ what ∷ [] → what ≡ cleaning.Call (call_by (routine_for p j role.Destructor) (ended_by mutex) s (array_by p j mutex l)) → Cleans (clean_up p (making_by j mutex) l place) what → new ≡ opened opening.Part mid → Kept (laid_in mid) (laid_in new) → AllStandBehind p j old.marks
-    → Constructs (n + part_room l) (λ rest. Then (build p 0 (making_by j mutex) l place ms) (Built (clean_up p (making_by j mutex) l place) rest)) ws old us new
-part_built p j mutex n s l place ms what ws us old mid new h f w g e k b =
+pub part_built : (p : Program) (m : Made) (n : ℕ) (s : Spot) (l : Option ℕ) (place : Expr) (ms : List Meant) (what : Cleaning) (ws us : List Cleaning) (old mid new : Draft) → Puts (n + build_room l) (λ code. StmtAt code old.marks (build p 0 (making_of p m) l place ms)) old mid
+    → us ≡ ws ++ what ∷ [] → what ≡ cleaning.Call (destroyer_of p m s (array_by p m l)) → Cleans (clean_up p (making_of p m) l place) what → new ≡ opened opening.Part mid → Kept (laid_in mid) (laid_in new) → AllStandBehind p m old.marks
+    → Constructs (n + part_room l) (λ rest. Then (build p 0 (making_of p m) l place ms) (Built (clean_up p (making_of p m) l place) rest)) ws old us new
+part_built p m n s l place ms what ws us old mid new h f w g e k b =
     let marks : mid.marks ≡ old.marks = ap (λ (d : Draft). d.marks) h.rest in
-    let fits : build_room l + (clean_length what + 2) ≤ part_room l = subst (λ (x : Cleaning). build_room l + (clean_length x + 2) ≤ part_room l) (sym w) (part_fits p j mutex (routine_for p j role.Destructor) s l) in
-    constructs_as (constructs_then (constructs_does (build p 0 (making_by j mutex) l place ms) ws h) (constructs_part (clean_up p (making_by j mutex) l place) what ws us mid new e f k g (stands_by p j old.marks mid.marks role.Destructor (ended_by mutex) s (array_by p j mutex l) what b marks w))) (omega (arith, fits)) (λ ss. refl)
+    let fits : build_room l + (clean_length what + 2) ≤ part_room l = subst (λ (x : Cleaning). build_room l + (clean_length x + 2) ≤ part_room l) (sym w) (part_fits p m s l) in
+    constructs_as (constructs_then (constructs_does (build p 0 (making_of p m) l place ms) ws h) (constructs_part (clean_up p (making_of p m) l place) what ws us mid new e f k g (stands_by p m old.marks mid.marks role.Destructor (ended_by p m) s (array_by p m l) what b marks w))) (omega (arith, fits)) (λ ss. refl)
 
 -- the fields of a class that may be missing
 
@@ -224,7 +225,7 @@ none_room None = omega arith
 none_room (Some n) = omega arith
 
 -- what stands further on than a part's routine
-pub behind_in : (p : Program) (ms : List Mark) (o : Option Part) (part : Part) → o ≡ Some part → PartBehind p ms o → AllStandBehind p part.class ms
+pub behind_in : (p : Program) (ms : List Mark) (o : Option Part) (part : Part) → o ≡ Some part → PartBehind p ms o → AllStandBehind p part.made ms
 behind_in p ms o part e b = subst (λ (x : Option Part). PartBehind p ms x) e b
 
 -- no part stands at first

@@ -1,13 +1,14 @@
 -- A field of a class: what is told of it, how it is built, and how its scope is opened.
 use Rattle.std.proofs.Common.{◌≡◌, ℕ, ◌+◌, ◌*◌, ◌≤◌, pos, List, [], ◌∷◌, Bool, true, false, Option, Some, None, if◌then◌else◌, refl, ap, sym, subst, ◌∙◌, arith}
 use Rattle.std.specs.Prelude.{option_map, slice_get}
+use Rattle.uc_tree.specs.declared.kinds.Role.TheVariants as role
 use Rattle.uc_tree.specs.Expressions as tree
 use Rattle.uc_tree.specs.Expressions.{exprs_of}
 use Rattle.uc_tree.specs.ExpressionSizes.{expr_size, exprs_size}
 use Rattle.uc_lower_expr.specs.Contexts.{context_in}
 use Rattle.uc_tree.specs.declared.limits.TheConstants.{OPS_FOR_SIZE}
 use Rattle.uc_tree.specs.Programs.{Class, Program}
-use Rattle.uc_tree.specs.Objects.{Making, ClassField, class_made, class_shape, making, shape_of}
+use Rattle.uc_tree.specs.Objects.{Making, ClassField, class_shape, making, shape_of}
 use Rattle.uc_tree.specs.Source.{field_cells, Expr, Literal, OfObject, OwnField, Shape, Stmts, Evaluate, Then, Built, Scoped}
 use Rattle.uc_resolve.specs.Resolve.{Meant, args_meant, meant, build, clean_up, value_of, field_built, field_making, field_left, field_start, field_type, length_in_class}
 use Rattle.uc_code.specs.declared.op.Op.{Op}
@@ -24,16 +25,17 @@ use Rattle.uc_code.specs.ObjectCalls.{BeginsAt, InObject}
 use Rattle.uc_code.specs.Emits.{clean_length}
 use Rattle.uc_code.proofs.Stable.{one_stable}
 use Rattle.uc_lower_expr.specs.DraftGrowth.{Adds, ConvertCode, ExprCode, OpCode}
-use Rattle.uc_lower_expr.specs.Meanings.{Tells, is_mutex_at, making_by, shape_as}
-use Rattle.uc_lower_expr.specs.Members.{IsFieldAt, held_standing}
+use Rattle.uc_lower_expr.specs.Meanings.{Tells, is_mutex_at, making_of, shape_as}
+use Rattle.uc_lower_expr.specs.Members.{IsFieldAt, held_standing, routine_for}
 use Rattle.uc_lower_expr.specs.declared.fields.Field.{Field}
-use Rattle.uc_lower_expr.specs.declared.numbering.ClassRoutine.{ClassRoutine}
+use Rattle.uc_lower_expr.specs.declared.making.Made.{Made}
+use Rattle.uc_lower_expr.specs.declared.making.Made.TheVariants as made
 use Rattle.uc_lower_expr.proofs.Adding.{adds_as, adds_both, adds_more}
 use Rattle.uc_lower_expr.proofs.Arms.{converted_at}
 use Rattle.uc_lower_expr.proofs.Settled.{both, expr_stable}
-use Rattle.uc_lower_stmt.specs.Objects.{array_by, build_room, call_by, ended_by}
+use Rattle.uc_lower_stmt.specs.Objects.{array_by, build_room, call_by, destroyer_of, object_ended}
 use Rattle.uc_lower_class.specs.declared.parts.Part.{Part}
-use Rattle.uc_lower_class.specs.Fields.{StartedCode, field_class, field_then, held_by, keep_op, left_then, part_in, part_room, started_then}
+use Rattle.uc_lower_class.specs.Fields.{StartedCode, field_then, held_by, keep_op, left_then, part_in, part_room, started_then}
 use Rattle.uc_lower_class.specs.OpenParts.{Constructs}
 use Rattle.uc_lower_class.proofs.Parting.{constructs_as, constructs_does, constructs_nothing, puts_adds}
 
@@ -46,58 +48,52 @@ module _ (p : Program) (c : Class) (i number : ℕ) (f : ClassField) (v : Field)
   told : Tells p v.told own
   told = h.tells own refl refl
 
-  pub told_class : class_made (making p f.base) ≡ v.told.class
-  told_class = told.class
-
   pub told_length : length_in_class p c i f ≡ v.told.elements
   told_length = told.len
 
   pub told_shape : shape_of f.base ≡ shape_as v.told.scalar
   told_shape = told.shape
 
-  pub class_told : field_class p f ≡ (if v.by_ref then None else v.told.class)
-  class_told = ap (λ (b : Bool). if b then None else class_made (making p f.base)) h.by_ref ∙ ap (λ (o : Option ℕ). if v.by_ref then None else o) told_class
-
-  making_told : field_making p f ≡ option_map (λ j. making_by j (is_mutex_at p j)) (if v.by_ref then None else v.told.class)
-  making_told = ap (λ (o : Option Making). if f.declarator.by_ref then None else o) h.made ∙ (held_class f.declarator.by_ref v.told.class ∙ ap (λ (b : Bool). option_map (λ j. making_by j (is_mutex_at p j)) (if b then None else v.told.class)) h.by_ref)
+  making_told : field_making p f ≡ option_map (making_of p) (if v.by_ref then None else v.made)
+  making_told = ap (λ (o : Option Making). if f.declarator.by_ref then None else o) h.made ∙ (held_made f.declarator.by_ref v.made ∙ ap (λ (b : Bool). option_map (making_of p) (if b then None else v.made)) h.by_ref)
     where
-      held_class : (b : Bool) (o : Option ℕ) → (let m : Option Making = if b then None else option_map (λ j. making_by j (is_mutex_at p j)) o in m) ≡ option_map (λ j. making_by j (is_mutex_at p j)) (if b then None else o)
-      held_class true o = refl
-      held_class false o = refl
+      held_made : (b : Bool) (o : Option Made) → (let m : Option Making = if b then None else option_map (making_of p) o in m) ≡ option_map (making_of p) (if b then None else o)
+      held_made true o = refl
+      held_made false o = refl
 
 -- the part that a field is
 
-abbrev part_by : Bool → Option ℕ → ℕ → Option ℕ → Option Part
-part_by r o cell len = if r then None else option_map (λ j. record { class = j; spot = spot.This cell; length = len }) o
+abbrev part_by : Bool → Option Made → ℕ → Option ℕ → Option Part
+part_by r o cell len = if r then None else option_map (λ m. record { made = m; spot = spot.This cell; length = len }) o
 
-record Parts (r : Bool) (o : Option ℕ) (cell : ℕ) (len : Option ℕ) (part : Part) : Type 0 where
-  object : (if r then None else o) ≡ Some part.class
-  here : o ≡ Some part.class
+record Parts (r : Bool) (o : Option Made) (cell : ℕ) (len : Option ℕ) (part : Part) : Type 0 where
+  object : (if r then None else o) ≡ Some part.made
+  here : o ≡ Some part.made
   begins : part.spot ≡ spot.This cell
   long : part.length ≡ len
 
-parts_by : (r : Bool) (o : Option ℕ) (cell : ℕ) (len : Option ℕ) (part : Part) → part_by r o cell len ≡ Some part → Parts r o cell len part
+parts_by : (r : Bool) (o : Option Made) (cell : ℕ) (len : Option ℕ) (part : Part) → part_by r o cell len ≡ Some part → Parts r o cell len part
 parts_by true o cell len part e = cc
 parts_by false None cell len part e = cc
-parts_by false (Some j) cell len part e =
-    let is : part ≡ record { class = j; spot = spot.This cell; length = len } = cc in
+parts_by false (Some m) cell len part e =
+    let is : part ≡ record { made = m; spot = spot.This cell; length = len } = cc in
     record {
-      object = ap (λ (q : Part). Some q.class) (sym is);
-      here = ap (λ (q : Part). Some q.class) (sym is);
+      object = ap (λ (q : Part). Some q.made) (sym is);
+      here = ap (λ (q : Part). Some q.made) (sym is);
       begins = ap (λ (q : Part). q.spot) is;
       long = ap (λ (q : Part). q.length) is;
     }
 
-no_part : (r : Bool) (o : Option ℕ) (cell : ℕ) (len : Option ℕ) → part_by r o cell len ≡ None → (if r then None else o) ≡ None
+no_part : (r : Bool) (o : Option Made) (cell : ℕ) (len : Option ℕ) → part_by r o cell len ≡ None → (if r then None else o) ≡ None
 no_part true o cell len e = refl
 no_part false None cell len e = refl
-no_part false (Some j) cell len e = cc
+no_part false (Some m) cell len e = cc
 
-pub part_class : (v : Field) (part : Part) → part_in v ≡ Some part → v.told.class ≡ Some part.class
-part_class v part e = (parts_by v.by_ref v.told.class v.cell v.told.elements part e).here
+pub part_made : (v : Field) (part : Part) → part_in v ≡ Some part → v.made ≡ Some part.made
+part_made v part e = (parts_by v.by_ref v.made v.cell v.told.elements part e).here
 
 pub part_long : (v : Field) (part : Part) → part_in v ≡ Some part → part.length ≡ v.told.elements
-part_long v part e = (parts_by v.by_ref v.told.class v.cell v.told.elements part e).long
+part_long v part e = (parts_by v.by_ref v.made v.cell v.told.elements part e).long
 
 -- a reference is bound, a scalar is written
 start_code : (p : Program) (b : Bool) (s t : Shape) (n : ℕ) (m : Meant) (ms : List Mark) (code : Laid) (a z : ℕ) → StartedCode ms (field_cells t n) b (held_by b s m) code a z → StmtAt code ms (Evaluate 0 (field_start p b s (OfObject (OwnField t n)) m)) a z
@@ -108,19 +104,16 @@ module _ (p : Program) (c : Class) (i number : ℕ) (f : ClassField) (v : Field)
   abbrev place : Expr
   place = OfObject (OwnField (class_shape p i) number)
 
-  pub field_object : (part : Part) → part_in v ≡ Some part → field_class p f ≡ Some part.class
-  field_object part e = class_told p c i number f v h ∙ (parts_by v.by_ref v.told.class v.cell v.told.elements part e).object
-
   -- what that makes
   abbrev made_of : Part → Making
-  made_of part = making_by part.class (is_mutex_at p part.class)
+  made_of part = making_of p part.made
 
-  field_made : (part : Part) → part_in v ≡ Some part → field_making p f ≡ Some (made_of part)
-  field_made part e = making_told p c i number f v h ∙ ap (λ (o : Option ℕ). option_map (λ j. making_by j (is_mutex_at p j)) o) (parts_by v.by_ref v.told.class v.cell v.told.elements part e).object
+  pub field_made : (part : Part) → part_in v ≡ Some part → field_making p f ≡ Some (made_of part)
+  field_made part e = making_told p c i number f v h ∙ ap (λ (o : Option Made). option_map (making_of p) o) (parts_by v.by_ref v.made v.cell v.told.elements part e).object
 
   pub field_begins : (part : Part) → part_in v ≡ Some part → BeginsAt place part.spot
   field_begins part e =
-      let same : spot.This (field_cells (class_shape p i) number) ≡ part.spot = ap spot.This h.cell ∙ sym (parts_by v.by_ref v.told.class v.cell v.told.elements part e).begins in
+      let same : spot.This (field_cells (class_shape p i) number) ≡ part.spot = ap spot.This h.cell ∙ sym (parts_by v.by_ref v.made v.cell v.told.elements part e).begins in
       subst (λ (s : Spot). BeginsAt place s) same (InObject (class_shape p i) number)
 
   length_is : (part : Part) → part_in v ≡ Some part → length_in_class p c i f ≡ part.length
@@ -135,7 +128,7 @@ module _ (p : Program) (c : Class) (i number : ℕ) (f : ClassField) (v : Field)
       sym (ap (λ (o : Option Making). field_left p o (length_in_class p c i f) place rest) (field_made part e) ∙ ap (λ (l : Option ℕ). field_left p (Some (made_of part)) l place rest) (length_is part e))
 
   no_class : part_in v ≡ None → field_making p f ≡ None
-  no_class e = making_told p c i number f v h ∙ ap (λ (o : Option ℕ). option_map (λ j. making_by j (is_mutex_at p j)) o) (no_part v.by_ref v.told.class v.cell v.told.elements e)
+  no_class e = making_told p c i number f v h ∙ ap (λ (o : Option Made). option_map (making_of p) o) (no_part v.by_ref v.made v.cell v.told.elements e)
 
   pub field_plain : part_in v ≡ None → (args : List Meant) (rest : Stmts) → started_then p i number f args rest ≡ field_then p c i number f args rest
   field_plain e args rest = sym (ap (λ (o : Option Making). field_built p o f (length_in_class p c i f) place args rest) (no_class e))
@@ -172,18 +165,22 @@ started_code n cell r e d0 d1 d2 d3 d4 h1 h2 h3 h4 =
 
 -- how many ops a part takes
 
-pub part_fits : (p : Program) (j : ℕ) (mutex : Bool) (r : ClassRoutine) (s : Spot) (l : Option ℕ) → build_room l + (clean_length (cleaning.Call (call_by r (ended_by mutex) s (array_by p j mutex l))) + 2) ≤ part_room l
-part_fits p j mutex r s l = by_written p j mutex r.number r.written s l
+pub part_fits : (p : Program) (m : Made) (s : Spot) (l : Option ℕ) → build_room l + (clean_length (cleaning.Call (destroyer_of p m s (array_by p m l))) + 2) ≤ part_room l
+part_fits p (made.Object i) s l = by_routine p i (is_mutex_at p i) (routine_for p i role.Destructor).number (routine_for p i role.Destructor).written s l
   where
-    by_written : (p : Program) (j : ℕ) (mutex : Bool) (k : ℕ) (w : Bool) (s : Spot) (l : Option ℕ) → build_room l + (clean_length (cleaning.Call (call_by (record { number = k; written = w }) (ended_by mutex) s (array_by p j mutex l))) + 2) ≤ part_room l
-    by_written p j true k true s None = omega arith
-    by_written p j true k false s None = omega arith
-    by_written p j true k true s (Some n) = omega arith
-    by_written p j true k false s (Some n) = omega arith
-    by_written p j false k true s None = omega arith
-    by_written p j false k false s None = omega arith
-    by_written p j false k true s (Some n) = omega arith
-    by_written p j false k false s (Some n) = omega arith
+    by_routine : (p : Program) (i : ℕ) (mutex : Bool) (k : ℕ) (w : Bool) (s : Spot) (l : Option ℕ) → build_room l + (clean_length (cleaning.Call (call_by (record { number = k; written = w }) (object_ended mutex) s (array_by p (made.Object i) l))) + 2) ≤ part_room l
+    by_routine p i true k true s None = omega arith
+    by_routine p i true k false s None = omega arith
+    by_routine p i true k true s (Some n) = omega arith
+    by_routine p i true k false s (Some n) = omega arith
+    by_routine p i false k true s None = omega arith
+    by_routine p i false k false s None = omega arith
+    by_routine p i false k true s (Some n) = omega arith
+    by_routine p i false k false s (Some n) = omega arith
+part_fits p made.Cluster s None = omega arith
+part_fits p made.Cluster s (Some n) = omega arith
+part_fits p made.Processor s None = omega arith
+part_fits p made.Processor s (Some n) = omega arith
 
 -- arguments, of which the first counts
 

@@ -1,27 +1,31 @@
 -- One field of a class, as the loops over them meet it.
-use Rattle.std.proofs.Common.{◌≡◌, ℕ, zero, suc, ◌+◌, ◌*◌, ◌≤◌, ◌<◌, List, [], ◌∷◌, Option, Some, None, drop, length, refl, ap, sym, subst, ◌∙◌, arith}
-use Rattle.std.specs.Prelude.{slice_get}
+use Rattle.std.proofs.Common.{◌≡◌, ℕ, zero, suc, ◌+◌, ◌*◌, ◌≤◌, ◌<◌, List, [], ◌∷◌, Bool, true, false, true≢false, Option, Some, None, if◌then◌else◌, drop, length, refl, ap, sym, subst, ◌∙◌, arith}
+use Rattle.std.specs.Prelude.{option_map, slice_get}
 use Rattle.uc_tree.specs.declared.limits.TheConstants.{OPS_FOR_SIZE, PROGRAM_OPS}
+use Rattle.uc_tree.specs.declared.kinds.Role.{Role}
 use Rattle.uc_tree.specs.Expressions.{Exprs}
 use Rattle.uc_tree.specs.ExpressionSizes.{exprs_size}
 use Rattle.uc_tree.specs.Programs.{Class, Init, Program}
-use Rattle.uc_tree.specs.Cells.{classes_of, leading_cells}
-use Rattle.uc_tree.specs.Objects.{ClassField, class_at, fields_of}
-use Rattle.uc_resolve.specs.Resolve.{Meant, Scope, args_meant, context_at}
+use Rattle.uc_tree.specs.Cells.{leading_cells}
+use Rattle.uc_tree.specs.Objects.{Making, ClassField, class_at, class_made, fields_of, making}
+use Rattle.uc_resolve.specs.Resolve.{Meant, Scope, args_meant, context_at, field_making}
 use Rattle.uc_code.specs.declared.rows.Mark.{Mark}
 use Rattle.uc_code.specs.declared.rows.Cleaning.{Cleaning}
 use Rattle.uc_code.specs.Drafts.{Draft}
 use Rattle.uc_code.specs.Layout.{routine_in}
 use Rattle.uc_lower_expr.specs.Contexts.{context_in}
-use Rattle.uc_lower_expr.specs.Members.{IsFieldAt, IsNthField, no_field_at}
+use Rattle.uc_lower_expr.specs.Members.{HasClass, IsFieldAt, IsNthField, made_routine, no_field_at}
 use Rattle.uc_lower_expr.specs.declared.fields.Field.{Field}
-use Rattle.uc_lower_expr.proofs.Knowing.{made_within}
+use Rattle.uc_lower_expr.specs.declared.making.Made.{Made}
+use Rattle.uc_lower_expr.specs.declared.making.Made.TheVariants as made
+use Rattle.uc_lower_expr.specs.Meanings.{is_mutex_at, making_of}
+use Rattle.uc_lower_expr.proofs.Knowing.{class_told, made_class}
 use Rattle.uc_lower_stmt.specs.LowersStatement.{scope_of}
 use Rattle.uc_lower_class.specs.declared.parts.Part.{Part}
 use Rattle.uc_lower_class.specs.Inits.{init_exprs}
 use Rattle.uc_lower_class.specs.Fields.{FieldsBehind, PartBehind, field_then, fields_room, left_then, part_in, part_room, room_by}
 use Rattle.uc_lower_class.specs.OpenParts.{Constructs, Opens}
-use Rattle.uc_lower_class.proofs.Fielding.{field_object, told_class, told_length}
+use Rattle.uc_lower_class.proofs.Fielding.{field_made, told_length}
 use Rattle.uc_lower_class.proofs.Looping.{Building, Leaving, building_step, drop_at, field_past, leaving_step, room_same}
 use Rattle.uc_lower_class.proofs.Parting.{constructs_as}
 
@@ -48,13 +52,24 @@ module _ (p : Program) (c : Class) (i place : ℕ) (v : Field) (n : Nth p c i pl
   abbrev fs : List ClassField
   fs = fields_of c.members
 
-  pub class_few : (j : ℕ) → v.told.class ≡ Some j → j < length (classes_of p.items)
-  class_few j e = made_within p n.field.base j (told_class p c i (leading_cells c.kind + place) n.field v n.at ∙ e)
+  pub class_few : (m : Made) → v.made ≡ Some m → HasClass p m
+  class_few m e = made_class p n.field.base m (n.at.made ∙ ap (λ (o : Option Made). option_map (making_of p) o) e)
+
+  -- the class of an object that a field is
+  class_case : (r : Bool) (o : Option Making) → (let x : Option ℕ = if r then None else class_made o in x) ≡ class_made (if r then None else o)
+  class_case true o = refl
+  class_case false o = refl
+
+  made_behind : (there : class_at p i ≡ Some c) (number : ℕ) → FieldsBehind p i number → (m : Made) → field_making p n.field ≡ Some (making_of p m) → (wanted : Role) → (made_routine p wanted m).written ≡ false → number < (made_routine p wanted m).number
+  made_behind there number b (made.Object j) h wanted unwritten =
+      b.each c place n.field j there n.is (class_case n.field.declarator.by_ref (making p n.field.base) ∙ (ap class_made h ∙ class_told j (is_mutex_at p j))) wanted unwritten
+  made_behind there number b made.Cluster h wanted unwritten = absurd (true≢false unwritten)
+  made_behind there number b made.Processor h wanted unwritten = absurd (true≢false unwritten)
 
   behind_by : (there : class_at p i ≡ Some c) (number : ℕ) (ms : List Mark) → FieldsBehind p i number → routine_in ms ≡ number → (o : Option Part) → part_in v ≡ o → PartBehind p ms o
   behind_by there number ms b e None h = tt
   behind_by there number ms b e (Some part) h = record {
-    each = λ wanted unwritten. let l = b.each c place n.field part.class there n.is (field_object p c i (leading_cells c.kind + place) n.field v n.at part h) wanted unwritten in omega (arith, l, e);
+    each = λ wanted unwritten. let l = made_behind there number b part.made (field_made p c i (leading_cells c.kind + place) n.field v n.at part h) wanted unwritten in omega (arith, l, e);
   }
 
   pub part_stands : (there : class_at p i ≡ Some c) (number : ℕ) (ms : List Mark) → FieldsBehind p i number → routine_in ms ≡ number → PartBehind p ms (part_in v)

@@ -26,7 +26,7 @@ use Rattle.uc_lower_class.specs.Inits.{init_exprs}
 
 -- the part that a field is
 abbrev pub part_in : Field → Option Part
-part_in v = if v.by_ref then None else option_map (λ j. record { class = j; spot = spot.This v.cell; length = v.told.elements }) v.told.class
+part_in v = if v.by_ref then None else option_map (λ m. record { made = m; spot = spot.This v.cell; length = v.told.elements }) v.made
 
 -- at most so many ops build a part besides its arguments, and end what follows it
 abbrev pub part_room : Option ℕ → ℕ
@@ -42,10 +42,10 @@ abbrev pub fields_room : List Init → List ClassField → ℕ
 fields_room inits [] = 0
 fields_room inits (f ∷ fs) = room_by f.declarator.len + OPS_FOR_SIZE * exprs_size (init_exprs inits f.declarator.name) + fields_room inits fs
 
--- what builds and destroys an object, and nobody wrote, stands further on than the routine of these marks, where the field is one
+-- what builds and destroys it, and nobody wrote, stands further on than the routine of these marks, where the field is a part
 abbrev pub PartBehind : Program → List Mark → Option Part → Type 0
 PartBehind p ms None = Unit {0}
-PartBehind p ms (Some part) = AllStandBehind p part.class ms
+PartBehind p ms (Some part) = AllStandBehind p part.made ms
 
 -- the class of the objects of a field, by its place; a reference names no object of its own
 abbrev pub field_class : Program → ClassField → Option ℕ

@@ -11,7 +11,6 @@ ghost use Rattle.uc_tree.specs.ProgramMain.{main_number};
 ghost use Rattle.uc_tree.specs.Scopes.{stmts_scopes};
 ghost use Rattle.uc_resolve.specs.Resolve.{class_by, nowhere, routine_meant, routine_scope, unwritten_meant};
 ghost use Rattle.uc_tree.specs.declared.kinds.Role.TheVariants as role;
-ghost use Rattle.uc_built.specs.BuiltForms.{are_built};
 ghost use Rattle.uc_code.specs.Layout.{laid_in, routine_in};
 ghost use Rattle.uc_code.specs.Lowered.{RoutineAt};
 ghost use Rattle.uc_code.specs.CodeShapes.{Kept};
@@ -98,7 +97,6 @@ fn lower_raised(
     routine: &Routine,
     out: &mut Draft,
 ) -> Result<(), AllocError>
-    requires built { are_built routine.now.body ≡ true }
     requires written { routine_in out.old.marks < length (routines_of names.now) }
     requires room { length out.old.ops + (raise_room names.now class routine.now + part_end) ≤ PROGRAM_OPS }
     requires cells { out.old.cells + stmts_cells routine.now.body (declared_cells names.now) ≤ FRAME_CELLS }
@@ -122,7 +120,6 @@ fn lower_constructor(
     out: &mut Draft,
 ) -> Result<(), AllocError>
     requires class { class ≡ out.old.place.class }
-    requires built { are_built routine.now.body ≡ true }
     requires written { routine_in out.old.marks < length (routines_of names.now) }
     requires outside { closing out.old.marks ≡ 0 }
     requires room { length out.old.ops + role_room names.now role.Constructor class routine.now ≤ PROGRAM_OPS }
@@ -146,7 +143,6 @@ fn lower_destructor(
     out: &mut Draft,
 ) -> Result<(), AllocError>
     requires class { class ≡ out.old.place.class }
-    requires built { are_built routine.now.body ≡ true }
     requires written { routine_in out.old.marks < length (routines_of names.now) }
     requires outside { closing out.old.marks ≡ 0 }
     requires room { length out.old.ops + role_room names.now role.Destructor class routine.now ≤ PROGRAM_OPS }
@@ -172,7 +168,6 @@ fn lower_body(
 ) -> Result<(), AllocError>
     requires role { is_plain role ≡ false }
     requires class { class ≡ out.old.place.class }
-    requires built { are_built routine.now.body ≡ true }
     requires written { routine_in out.old.marks < length (routines_of names.now) }
     requires outside { closing out.old.marks ≡ 0 }
     requires room { length out.old.ops + role_room names.now role class routine.now ≤ PROGRAM_OPS }
@@ -196,7 +191,7 @@ fn lower_body(
 
 /// Adds the code of a written constructor or destructor of the class with this place, behind so many text literals and accept
 /// statements of the program, and writes down under its number where it begins. `last` is the number of the last routine that is
-/// written. Its statements are of forms that are built. After want of memory the draft is spent.
+/// written. After want of memory the draft is spent.
 pub fn lower_builder(
     alloc: Global,
     names: &ProgramNames,
@@ -210,7 +205,6 @@ pub fn lower_builder(
 ) -> Result<(), AllocError>
     requires role { is_plain routine.now.sig.role ≡ false }
     requires main { nat_eq number (main_number names.now) ≡ false }
-    requires built { are_built routine.now.body ≡ true }
     requires params { length routine.now.sig.params ≤ PROGRAM_SIZE }
     requires known { number < length out.old.routines }
     requires behind { number ≤ last }

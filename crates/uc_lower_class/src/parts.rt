@@ -1,8 +1,7 @@
 // A field of a class, as its constructor builds it and its destructor leaves it.
 
-ghost use Rattle.std.specs.Prelude.{◌≡◌, ◌+◌, ◌*◌, ◌<◌, ◌≤◌, ℕ, List, OnOk, length, reverse};
+ghost use Rattle.std.specs.Prelude.{◌≡◌, ◌+◌, ◌*◌, ◌≤◌, ℕ, List, Some, OnOk, length, reverse};
 ghost use Rattle.uc_tree.specs.declared.limits.TheConstants.{OPS_FOR_SIZE, PROGRAM_OPS};
-ghost use Rattle.uc_tree.specs.Cells.{classes_of};
 ghost use Rattle.uc_tree.specs.Expressions.{exprs_of};
 ghost use Rattle.uc_tree.specs.ExpressionSizes.{expr_size, exprs_size};
 ghost use Rattle.uc_tree.specs.Objects.{ClassField};
@@ -13,8 +12,8 @@ ghost use Rattle.uc_code.specs.declared.rows.Cleaning.{Cleaning as Clean};
 ghost use Rattle.uc_code.specs.ObjectCalls.{BeginsAt};
 ghost use Rattle.uc_lower_expr.specs.DraftGrowth.{Adds, ExprCode};
 ghost use Rattle.uc_lower_expr.specs.Contexts.{context_in};
-ghost use Rattle.uc_lower_expr.specs.Meanings.{is_mutex_at, making_by, shape_as};
-ghost use Rattle.uc_lower_expr.specs.Members.{IsFieldAt};
+ghost use Rattle.uc_lower_expr.specs.Meanings.{making_of, shape_as};
+ghost use Rattle.uc_lower_expr.specs.Members.{HasClass, IsFieldAt};
 ghost use Rattle.uc_lower_stmt.specs.Blocks.{AllStandBehind};
 ghost use Rattle.uc_lower_class.specs.Bodies.{part_end};
 ghost use Rattle.uc_lower_class.specs.Fields.{PartBehind, StartedCode, field_then, held_by, keep_op, left_then, part_in, part_room, started_then};
@@ -26,15 +25,16 @@ use uc_code::op::Op;
 use uc_code::rows::{Cleaning, Opening, Spot};
 use uc_lower_expr::expr::{lower_expr, lower_value};
 use uc_lower_expr::fields::Field;
+use uc_lower_expr::making::Made;
 use uc_lower_expr::program_names::ProgramNames;
 use uc_lower_expr::put::{put, put_conversion};
 use uc_lower_stmt::objects::{clean_call, close_part, lower_build};
 use uc_tree::expr::Expr;
 
-/// A field of object type: the class of the object, where it begins, and the length of an array.
+/// A field that is an object, a cluster or a processor: what is made, where it begins, and the length of an array.
 #[derive(Clone, Copy)]
 pub(crate) struct Part {
-    pub class: usize,
+    pub made: Made,
     pub spot: Spot,
     pub length: Option<u32>,
 }
@@ -46,9 +46,9 @@ fn part_of(field: Field) -> Option<Part>
     if field.by_ref {
         return None;
     }
-    match field.told.class {
-        Some(class) => Some(Part {
-            class,
+    match field.made {
+        Some(made) => Some(Part {
+            made,
             spot: Spot::This(field.cell),
             length: field.told.elements,
         }),
@@ -127,13 +127,13 @@ fn lower_part(
     parts: &mut Vec<Cleaning>,
     out: &mut Draft,
 ) -> Result<(), AllocError>
-    requires class { part.class < length (classes_of names.now.items) }
+    requires class { HasClass names.now part.made }
     requires room { length out.old.ops + end_room parts.old.items + (OPS_FOR_SIZE * exprs_size (exprs_of args.now) + part_room part.length) ≤ PROGRAM_OPS }
-    requires behind { AllStandBehind names.now part.class out.old.marks }
-    ensures { OnOk result ((place : Place) → BeginsAt place part.spot → Constructs (OPS_FOR_SIZE * exprs_size (exprs_of args.now) + part_room part.length) (λ rest. Then (build names.now 0 (making_by part.class (is_mutex_at names.now part.class)) part.length place (args_meant (context_in names.now out.old) (exprs_of args.now))) (Built (clean_up names.now (making_by part.class (is_mutex_at names.now part.class)) part.length place) rest)) parts.old.items out.old parts.new.items out.new) }
+    requires behind { AllStandBehind names.now part.made out.old.marks }
+    ensures { OnOk result ((place : Place) → BeginsAt place part.spot → Constructs (OPS_FOR_SIZE * exprs_size (exprs_of args.now) + part_room part.length) (λ rest. Then (build names.now 0 (making_of names.now part.made) part.length place (args_meant (context_in names.now out.old) (exprs_of args.now))) (Built (clean_up names.now (making_of names.now part.made) part.length place) rest)) parts.old.items out.old parts.new.items out.new) }
 {
-    lower_build(part.class, part.spot, part.length, args, 0, names, out)?;
-    parts.push(clean_call(part.class, part.spot, part.length, names))?;
+    lower_build(part.made, part.spot, part.length, args, 0, names, out)?;
+    parts.push(clean_call(part.made, part.spot, part.length, names))?;
     let _row = out.open(Opening::Part)?;
     Ok(())
 }
@@ -148,7 +148,7 @@ pub(crate) fn lower_built(
     out: &mut Draft,
 ) -> Result<(), AllocError>
     requires room { length out.old.ops + end_room parts.old.items + (OPS_FOR_SIZE * exprs_size (exprs_of args.now) + part_room field.told.elements) ≤ PROGRAM_OPS }
-    requires class { (j : ℕ) → field.told.class ≡ Some j → j < length (classes_of names.now.items) }
+    requires class { (m : Made) → field.made ≡ Some m → HasClass names.now m }
     requires behind { PartBehind names.now out.old.marks (part_in field) }
     ensures { OnOk result ((c : Class) (i number : ℕ) (f : ClassField) → IsFieldAt names.now c i number f field → Constructs (OPS_FOR_SIZE * exprs_size (exprs_of args.now) + part_room field.told.elements) (field_then names.now c i number f (args_meant (context_in names.now out.old) (exprs_of args.now))) parts.old.items out.old parts.new.items out.new) }
 {
@@ -170,13 +170,13 @@ pub(crate) fn lower_left(
     names: &ProgramNames,
     out: &mut Draft,
 ) -> Result<(), AllocError>
-    requires class { (j : ℕ) → field.told.class ≡ Some j → j < length (classes_of names.now.items) }
+    requires class { (m : Made) → field.made ≡ Some m → HasClass names.now m }
     requires behind { PartBehind names.now out.old.marks (part_in field) }
     ensures { OnOk result ((c : Class) (i number : ℕ) (f : ClassField) → IsFieldAt names.now c i number f field → Opens 1 (left_then names.now c i number f) out.old out.new) }
 {
     match part_of(field) {
         Some(part) => {
-            let what = clean_call(part.class, part.spot, part.length, names);
+            let what = clean_call(part.made, part.spot, part.length, names);
             let _row = out.open(Opening::Object { what, line: 0 })?;
             Ok(())
         }

@@ -6,7 +6,6 @@ ghost use Rattle.uc_tree.specs.StatementSizes.{stmts_size};
 ghost use Rattle.uc_tree.specs.Cells.{declared_cells, stmts_cells};
 ghost use Rattle.uc_tree.specs.Numbering.{routines_of};
 ghost use Rattle.uc_tree.specs.Scopes.{stmts_scopes};
-ghost use Rattle.uc_built.specs.BuiltForms.{are_built};
 ghost use Rattle.uc_code.specs.Layout.{routine_in};
 ghost use Rattle.uc_lower_stmt.specs.LowersStatement.{sizes_at};
 ghost use Rattle.uc_lower_class.specs.Bodies.{LowersWhole};
@@ -29,7 +28,6 @@ pub(crate) fn lower_whole(
     routine: &Routine,
     out: &mut Draft,
 ) -> Result<(), AllocError>
-    requires built { are_built routine.now.body ≡ true }
     requires inside { routine_in out.old.marks < length (routines_of names.now) }
     requires room { length out.old.ops + (4 + OPS_FOR_SIZE * sizes_at routine.now.body 0) ≤ PROGRAM_OPS }
     requires cells { out.old.cells + stmts_cells routine.now.body (declared_cells names.now) ≤ FRAME_CELLS }

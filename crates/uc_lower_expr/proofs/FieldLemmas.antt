@@ -1,6 +1,6 @@
 -- The cells before the fields of a class, as they are noted and as its shape has them.
 use Rattle.std.proofs.Common.{◌≡◌, ℕ, zero, suc, ◌+◌, ◌-◌, ◌*◌, ◌≤◌, ◌<◌, ℤ, List, [], ◌∷◌, ◌++◌, Bool, true, false, Option, Some, None, if◌then◌else◌, length, map, get_or, refl, ap, sym, subst, ◌∙◌, arith}
-use Rattle.std.specs.Prelude.{slice_get, is_some, not, ◌&&◌, option_map}
+use Rattle.std.specs.Prelude.{slice_get, is_some, not, ◌&&◌}
 use Rattle.uc_tree.specs.declared.limits.TheConstants.{CLASS_CELLS}
 use Rattle.uc_tree.specs.declared.kinds.Base.{Base}
 use Rattle.uc_tree.specs.declared.kinds.Ty.{Ty}
@@ -23,10 +23,9 @@ use Rattle.uc_layout.proofs.DepthsLemmas.{cells_deep, cells_next}
 use Rattle.uc_lower_expr.specs.declared.meaning.Standing.{Standing as Told}
 use Rattle.uc_lower_expr.specs.declared.fields.Field.{Field}
 use Rattle.uc_lower_expr.specs.declared.fields.FieldTable.{FieldTable}
-use Rattle.uc_lower_expr.specs.Meanings.{StandsAs, held_as, is_mutex_at, making_by}
+use Rattle.uc_lower_expr.specs.Meanings.{StandsAs, held_as}
 use Rattle.uc_lower_expr.specs.Members.{FitClasses, IsFieldAt, AreFields, conditions_before, held_standing}
 use Rattle.uc_lower_expr.specs.FieldTables.{condition_by, is_number, one_scalar, length_by, IsNoted, AreNoted, NoMore, OneMore, AreCounted, Notes}
-use Rattle.uc_lower_expr.proofs.Makings.{making_is}
 use Rattle.uc_lower_expr.proofs.Counting.{counted_at, field_few, held_of, no_condition}
 
 -- what the fields of a class hold
@@ -328,11 +327,10 @@ module _ (p : Program) (fit : FitClasses p) (i : ℕ) (c : Class) (there : class
       let before = cells_before p fit i c there k in
       let here : get_or hs k one_scalar ≡ held_of cs named f = ap (λ xs. get_or xs k one_scalar) (held_is p fit i c there) ∙ get_map (held_of cs named) fields k f e in
       let at : 0 + k ≡ k = omega arith in
-      let held = fit.held i k c f there e in
       let number : has_number p (field_type p c f) ≡ v.number = number_is named f.declarator (is_numbered (making p f.base)) f.declarator.len ∙ ap (is_number f.declarator.len) n.numbered ∙ sym n.number in
       let len : v.told.elements ≡ field_length named f.declarator f.declarator.len = n.len ∙ ap (λ (h : Held). length_by f.declarator.len h.count) (ap (λ x. get_or hs x one_scalar) at ∙ here) ∙ length_is f f.declarator.len in
       record {
-        made = making_is p f.base held ∙ ap (option_map (λ j. making_by j (is_mutex_at p j))) n.class;
+        made = n.made;
         by_number = number;
         found = λ none whose. no_condition p c i whose (record { number = leading_cells c.kind + k; field = f }) f.base (conditions_before named fields k) (sym counted ∙ none) ∙ ap (λ (b : Bool). field_by b f.declarator.by_ref (class_shape p i) (leading_cells c.kind + k) whose (field_type p c f)) number;
         by_ref = n.by_ref;

@@ -21,9 +21,11 @@ use Rattle.uc_tree.specs.Objects.{Making, APlain, AMutex, making, making_by, cla
 use Rattle.uc_lower_expr.specs.declared.meaning.Meaning.{Meaning}
 use Rattle.uc_lower_expr.specs.declared.meaning.Scalar.TheVariants as scalars
 use Rattle.uc_lower_expr.specs.declared.meaning.Standing.TheVariants as standing
-use Rattle.uc_lower_expr.specs.Meanings.{Tells}
+use Rattle.uc_lower_expr.specs.declared.making.Made.{Made}
+use Rattle.uc_lower_expr.specs.declared.making.Made.TheVariants as made
+use Rattle.uc_lower_expr.specs.Meanings.{Tells, is_mutex_at, making_by as told_by, making_of}
 use Rattle.uc_lower_expr.specs.Known.{place_among, routine_or}
-use Rattle.uc_lower_expr.specs.Members.{FitClasses, object_places, routine_by, routine_for}
+use Rattle.uc_lower_expr.specs.Members.{FitClasses, HasClass, object_places, routine_by, routine_for}
 use Rattle.uc_lower_expr.specs.Numbered.{AreUnwritten, number_of_class}
 use Rattle.uc_lower_expr.proofs.FieldLemmas.{within}
 use Rattle.uc_lower_expr.proofs.Finding.{high}
@@ -84,6 +86,15 @@ made_within p base.Condition j e = cc
 made_within p base.Cluster j e = cc
 made_within p base.Processor j e = cc
 made_within p (base.Named name) j e = let h = named_within (classes_of p.items) 0 name j e in omega (arith, h)
+
+pub class_told : (j : ℕ) (mutex : Bool) → class_made (Some (told_by j mutex)) ≡ Some j
+class_told j true = refl
+class_told j false = refl
+
+pub made_class : (p : Program) (b : Base) (m : Made) → making p b ≡ Some (making_of p m) → HasClass p m
+made_class p b (made.Object j) e = made_within p b j (ap class_made e ∙ class_told j (is_mutex_at p j))
+made_class p b made.Cluster e = tt
+made_class p b made.Processor e = tt
 
 -- the cells of an element
 

@@ -1,5 +1,5 @@
 -- What noting the fields of a class does to their table.
-use Rattle.std.specs.Prelude.{◌≡◌, ℕ, ◌+◌, List, [], ◌∷◌, ◌++◌, Bool, false, Option, Some, None, get_or, length, map, unwrap_or}
+use Rattle.std.specs.Prelude.{◌≡◌, ℕ, ◌+◌, List, [], ◌∷◌, ◌++◌, Bool, false, Option, Some, None, get_or, length, map, option_map, unwrap_or}
 use Rattle.uc_layout.specs.Places.{IsPlaces}
 use Rattle.uc_tree.specs.declared.limits.TheConstants.{LAST_CONDITION}
 use Rattle.uc_tree.specs.declared.kinds.Base.{Base}
@@ -12,7 +12,7 @@ use Rattle.uc_tree.specs.Programs.{Program}
 use Rattle.uc_tree.specs.Rows.{held_cells}
 use Rattle.uc_tree.specs.Cells.{class_cells}
 use Rattle.uc_tree.specs.Objects.{ClassField, making, class_made, is_numbered, shape_of, event_place}
-use Rattle.uc_lower_expr.specs.Meanings.{held_as, shape_as}
+use Rattle.uc_lower_expr.specs.Meanings.{held_as, making_of, shape_as}
 use Rattle.uc_lower_expr.specs.declared.fields.Field.{Field}
 use Rattle.uc_lower_expr.specs.declared.fields.FieldTable.{FieldTable}
 
@@ -59,6 +59,7 @@ pub record IsNoted (p : Program) (cells : ℕ) (h : Held) (f : ClassField) (v : 
   pub cell : v.cell ≡ cells
   pub by_ref : f.declarator.by_ref ≡ v.by_ref
   pub shape : shape_of f.base ≡ shape_as v.told.scalar
+  pub made : making p f.base ≡ option_map (making_of p) v.made
   pub class : class_made (making p f.base) ≡ v.told.class
   pub numbered : is_numbered (making p f.base) ≡ v.told.numbered
   pub event : event_place p f.base ≡ v.told.event

@@ -1,11 +1,15 @@
 -- What lowering tells of an expression besides its code.
 use Rattle.std.specs.Prelude.{◌≡◌, ℕ, ◌+◌, List, Bool, true, false, Option, Some, None, option_and_then, option_map}
 use Rattle.uc_tree.specs.declared.limits.TheConstants.{MEMBERS}
+use Rattle.uc_tree.specs.declared.kinds.Base.{Base}
+use Rattle.uc_tree.specs.declared.kinds.Base.TheVariants as base
 use Rattle.uc_tree.specs.Source.{Shape, Integer, Character, Truth, Binding, field_cells}
 use Rattle.uc_tree.specs.Numbering.{at_most, is_mutex, member_number}
-use Rattle.uc_tree.specs.Objects.{Making, APlain, AMutex, making, class_made, is_numbered, is_coroutine, shape_of, event_place, class_at}
+use Rattle.uc_tree.specs.Objects.{Making, APlain, AMutex, ACluster, AProcessor, making, class_made, is_numbered, is_coroutine, shape_of, event_place, class_at}
 use Rattle.uc_tree.specs.Programs.{Class, Program}
 use Rattle.uc_resolve.specs.Resolve as resolve
+use Rattle.uc_lower_expr.specs.declared.making.Made.{Made}
+use Rattle.uc_lower_expr.specs.declared.making.Made.TheVariants as made
 use Rattle.uc_lower_expr.specs.declared.meaning.Scalar.{Scalar}
 use Rattle.uc_lower_expr.specs.declared.meaning.Scalar.TheVariants as scalar
 use Rattle.uc_lower_expr.specs.declared.meaning.ConditionCall.{ConditionCall}
@@ -80,10 +84,27 @@ abbrev pub is_coroutine_in : Option Class → Bool
 is_coroutine_in None = false
 is_coroutine_in (Some c) = is_coroutine c.kind
 
--- what a declaration of the class with the place i makes, by whether its objects are mutex objects
+-- an object of the class with the place i, by whether those are mutex objects
 abbrev pub making_by : ℕ → Bool → Making
 making_by i true = AMutex i
 making_by i false = APlain i
+
+-- what is made, as it is told
+abbrev pub making_of : Program → Made → Making
+making_of p (made.Object i) = making_by i (is_mutex_at p i)
+making_of p made.Cluster = ACluster
+making_of p made.Processor = AProcessor
+
+-- what a declaration of a base makes that names no class of objects
+abbrev pub resource_by : Base → Option Made
+resource_by base.Cluster = Some made.Cluster
+resource_by base.Processor = Some made.Processor
+resource_by base.Void = None
+resource_by base.Int = None
+resource_by base.Char = None
+resource_by base.Bool = None
+resource_by base.Condition = None
+resource_by (base.Named name) = None
 
 -- the number of a mutex member of a class
 abbrev pub mutex_number_in : Option Class → List ℕ → Option ℕ

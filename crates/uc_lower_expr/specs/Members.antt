@@ -3,8 +3,6 @@ use Rattle.std.specs.Prelude.{◌≡◌, ℕ, ℤ, zero, suc, ◌+◌, ◌≤◌
 use Rattle.uc_names.specs.Blocks.{found}
 use Rattle.uc_layout.specs.Places.{IsPlaces}
 use Rattle.uc_tree.specs.declared.limits.TheConstants.{CLASS_CELLS}
-use Rattle.uc_tree.specs.declared.kinds.Base.{Base}
-use Rattle.uc_tree.specs.declared.kinds.Base.TheVariants as base
 use Rattle.uc_tree.specs.declared.kinds.Role.{Role}
 use Rattle.uc_tree.specs.declared.kinds.Role.TheVariants as role
 use Rattle.uc_tree.specs.Programs.{Class, Program}
@@ -15,29 +13,19 @@ use Rattle.uc_tree.specs.Numbering.{Defined, is_event, routines_of}
 use Rattle.uc_tree.specs.Source.{field_cells}
 use Rattle.uc_tree.specs.Objects.{ClassField, making, class_at, fields_of, class_shape, number_at, member_from, role_from, written_at, unwritten_number}
 use Rattle.uc_resolve.specs.Resolve.{Meant, Standing, AtPlace, AsNumber, NumberedField, Whose, condition_meant, field_by, field_found, field_named, field_type, has_number}
-use Rattle.uc_lower_expr.specs.Meanings.{Tells, is_mutex_at, making_by}
+use Rattle.uc_lower_expr.specs.Meanings.{Tells, making_of}
 use Rattle.uc_lower_expr.specs.FieldTables.{condition_by, conditions_by}
+use Rattle.uc_lower_expr.specs.declared.making.Made.{Made}
+use Rattle.uc_lower_expr.specs.declared.making.Made.TheVariants as made
 use Rattle.uc_lower_expr.specs.declared.fields.Field.{Field}
 use Rattle.uc_lower_expr.specs.declared.fields.FieldTable.{FieldTable}
 use Rattle.uc_lower_expr.specs.declared.routine_table.RoutineTable.{RoutineTable}
 use Rattle.uc_lower_expr.specs.declared.numbering.ClassRoutine.{ClassRoutine}
 
--- whether a base is neither a cluster nor a processor
-abbrev pub is_held_base : Base → Bool
-is_held_base base.Void = true
-is_held_base base.Int = true
-is_held_base base.Char = true
-is_held_base base.Bool = true
-is_held_base base.Condition = true
-is_held_base base.Cluster = false
-is_held_base base.Processor = false
-is_held_base (base.Named name) = true
-
--- no class has itself in its fields, none has more cells than a class may have, and the fields of each are of such bases
+-- no class has itself in its fields, and none has more cells than a class may have
 pub record FitClasses (p : Program) : Type 0 where
   pub apart : (i : ℕ) → has_itself (rows_of p) i ≡ false
   pub small : (i : ℕ) → class_cells p i ≤ CLASS_CELLS
-  pub held : (i k : ℕ) (c : Class) (f : ClassField) → class_at p i ≡ Some c → slice_get (fields_of c.members) k ≡ Some f → is_held_base f.base ≡ true
 
 -- fields
 
@@ -46,10 +34,10 @@ abbrev pub held_standing : Bool → Standing
 held_standing true = AsNumber
 held_standing false = AtPlace
 
--- a field of the class c with the place i, and its number: what is told of it as it is held, and the cells before it; it holds an
--- object of its class, if any
+-- a field of the class c with the place i, and its number: what its declaration makes, what is told of it as it is held, and the cells
+-- before it
 pub record IsFieldAt (p : Program) (c : Class) (i number : ℕ) (f : ClassField) (v : Field) : Type 0 where
-  pub made : making p f.base ≡ option_map (λ j. making_by j (is_mutex_at p j)) v.told.class
+  pub made : making p f.base ≡ option_map (making_of p) v.made
   pub by_number : has_number p (field_type p c f) ≡ v.number
   pub found : v.condition ≡ None → (whose : Whose) → field_found p c i whose (record { number = number; field = f }) ≡ field_by v.number f.declarator.by_ref (class_shape p i) number whose (field_type p c f)
   pub by_ref : f.declarator.by_ref ≡ v.by_ref
@@ -135,3 +123,18 @@ routine_by p i wanted (Some r) = record { number = r; written = true }
 
 abbrev pub routine_for : Program → ℕ → Role → ClassRoutine
 routine_for p i wanted = routine_by p i wanted (written_at p i wanted)
+
+-- what is made: an object has a class of the program; what builds or destroys it, which for a cluster and a processor is no routine
+
+abbrev pub HasClass : Program → Made → Type 0
+HasClass p (made.Object i) = i < length (classes_of p.items)
+HasClass p made.Cluster = Unit {0}
+HasClass p made.Processor = Unit {0}
+
+abbrev pub no_routine : ClassRoutine
+no_routine = record { number = 0; written = true }
+
+abbrev pub made_routine : Program → Role → Made → ClassRoutine
+made_routine p wanted (made.Object i) = routine_for p i wanted
+made_routine p wanted made.Cluster = no_routine
+made_routine p wanted made.Processor = no_routine

@@ -10,6 +10,7 @@ ghost use Rattle.uc_lower_expr.specs.Meanings.{Tells};
 ghost use Rattle.uc_lower_expr.specs.Members.{AreFields, AreTables, FitClasses, IsField, IsNthField, count_fields, no_field, no_field_at};
 ghost use Rattle.uc_lower_expr.specs.FieldTables.{HasNames, Notes, condition_by, conditions_by, is_number, length_by, number_by, one_scalar};
 
+use crate::making::{Made, made_by};
 use crate::meaning::{Meaning, Scalar, Standing};
 use std::alloc::{AllocError, Global};
 use uc_layout::held::leading_cells;
@@ -24,13 +25,15 @@ use uc_tree::name::Name;
 use uc_tree::rows::Held;
 
 /// A field of a class: the cells before it in an object, whether it is a reference, whether its cell holds the number of what it is, as
-/// that of a mutex object does, the number of a condition, or of the first of its array, and what is told of it as it is held.
-#[derive(Clone, Copy, PartialEq, Eq, Debug)]
+/// that of a mutex object does, the number of a condition, or of the first of its array, what a declaration of its base makes, and what
+/// is told of it as it is held.
+#[derive(Clone, Copy)]
 pub struct Field {
     pub cell: u32,
     pub by_ref: bool,
     pub number: bool,
     pub condition: Option<u32>,
+    pub made: Option<Made>,
     pub told: Meaning,
 }
 
@@ -167,6 +170,7 @@ fn note_field(
                 by_ref: declarator.by_ref,
                 number,
                 condition: condition_of(base, table.conditions),
+                made: made_by(sizes, base),
                 told: Meaning {
                     elements: length_of(declarator, what.count),
                     standing: Standing::held_as(number),

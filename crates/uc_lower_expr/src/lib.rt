@@ -4,7 +4,9 @@
 pub mod events;
 pub mod expr;
 pub mod fields;
+pub mod making;
 pub mod meaning;
+pub mod members;
 pub mod names;
 pub mod numbering;
 pub mod ops;

@@ -1,6 +1,6 @@
 // What the items of a program give names.
 
-ghost use Rattle.std.specs.Prelude.{◌≡◌, ◌<◌, ◌++◌, [], ◌∷◌, ℕ, List, IfOk, OnOk, MatchOption, Some, None, get_or, length, map, slice_get};
+ghost use Rattle.std.specs.Prelude.{◌≡◌, ◌<◌, ◌++◌, [], ◌∷◌, ℕ, List, IfOk, OnOk, MatchOption, Some, None, get_or, length, map, option_map, slice_get};
 ghost use Rattle.uc_names.specs.Blocks.{found};
 ghost use Rattle.uc_tree.specs.declared.kinds.Base.{Base as Named};
 ghost use Rattle.uc_tree.specs.declared.kinds.Role.TheVariants as role;
@@ -11,13 +11,14 @@ ghost use Rattle.uc_tree.specs.Objects.{class_at, class_made, has_execution, is_
 ghost use Rattle.uc_tree.specs.Programs.{Program};
 ghost use Rattle.uc_tree.specs.Source.{Expr, shape_cells};
 ghost use Rattle.uc_resolve.specs.Resolve.{AsValue, class_by, event_constructor, has_coroutines, has_number_in, has_tasks, is_here, main_at, number_of_event, routine_from, params_of, result_of, scalar};
-ghost use Rattle.uc_lower_expr.specs.Meanings.{Tells, is_coroutine_in, is_mutex_at, member_by, mutex_number_in};
+ghost use Rattle.uc_lower_expr.specs.Meanings.{Tells, is_coroutine_in, is_mutex_at, making_of, member_by, mutex_number_in};
 ghost use Rattle.uc_lower_expr.specs.Numbered.{is_called_alone, AreAmong, AreExclusive, IsFixed, IsNumbering};
 ghost use Rattle.uc_lower_expr.specs.Members.{AreTables, FitClasses, IsField, IsNthField, count_fields, member_at, no_field, no_field_at, object_places, routine_for};
 ghost use Rattle.uc_lower_expr.specs.Known.{HasRoutines, NotesFields, is_event_in, place_among, routine_or};
 
 use crate::events::{builders_of, events_of, is_event, number_of};
 use crate::fields::{Field, FieldTable, count_of, field_of, fields_of, nth_field, value_of_base};
+use crate::making::{Made, made_by};
 use crate::meaning::{Meaning, Scalar};
 use crate::numbering::{ClassRoutine, Fixed, Numbering};
 use crate::routine_table::{RoutineTable, main_number_in, member_in, table_of, tables_of};
@@ -32,7 +33,7 @@ use uc_tree::limits::{FAILURE, MEMBERS, UNHANDLED};
 use uc_tree::name::Name;
 
 /// A program whose constants, routines, classes and their members are known by their names, with their numbers. No class has itself
-/// in its fields, and each fits the limit on its cells; no field is a condition, a cluster or a processor. Contracts see the program.
+/// in its fields, and each fits the limit on its cells. Contracts see the program.
 #[derive(Drop)]
 pub struct ProgramNames<'a> {
     sizes: &'a Sizes<'a>,
@@ -387,6 +388,14 @@ impl<'a> ProgramNames<'a> {
         ensures { FitClasses self.now }
     {
         let _ = &self.sizes;
+    }
+
+    /// What a declaration of this base makes, if it is none of scalars, references or conditions.
+    pub fn made(&self, base: &Base) -> Option<Made>
+        ensures { making self.now base.now ≡ option_map (making_of self.now) result }
+    {
+        let made = made_by(self.sizes, base);
+        made
     }
 
     /// The constant of a name. One that has no value counts as 0.

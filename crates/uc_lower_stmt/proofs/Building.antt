@@ -1,11 +1,11 @@
--- The code that builds an object, and the calls that build and destroy one.
+-- The code that builds an object, and the calls that build and destroy all that is made.
 use Rattle.std.proofs.Common.{◌≡◌, ℕ, ◌+◌, ◌≤◌, ◌<◌, List, [], ◌∷◌, Bool, true, false, true≢false, Option, Some, None, length, refl, ap, sym, subst, ◌∙◌, arith}
 use Rattle.uc_tree.specs.declared.kinds.Param.{Param}
 use Rattle.uc_tree.specs.declared.kinds.Role.{Role}
 use Rattle.uc_tree.specs.declared.kinds.Role.TheVariants as role
 use Rattle.uc_tree.specs.declared.limits.TheConstants.{CLASS_CELLS}
 use Rattle.uc_tree.specs.Capped.{capped}
-use Rattle.uc_tree.specs.Cells.{class_cells}
+use Rattle.uc_tree.specs.Cells.{class_cells, classes_of}
 use Rattle.uc_tree.specs.Laws.{LawCells}
 use Rattle.uc_tree.specs.Programs.{Program}
 use Rattle.uc_tree.specs.Objects.{class_shape, number_at, unwritten_number, written_at}
@@ -23,31 +23,45 @@ use Rattle.uc_code.specs.declared.rows.Spot.{Spot}
 use Rattle.uc_code.specs.Drafts.{Draft}
 use Rattle.uc_code.specs.Layout.{Laid, routine_in}
 use Rattle.uc_code.specs.CodeShapes.{Nothing, One, Both, CallsBehind, Stable}
-use Rattle.uc_code.specs.ObjectCalls.{BeginsAt, InFrame, InObject, LiesAt, Whole, Part, Calls, Written, Unwritten, MakesMutex, EndsMutex, Cleans, One as CleansOne, All}
+use Rattle.uc_code.specs.ObjectCalls.{BeginsAt, InFrame, InObject, LiesAt, Whole, Part, Calls, Written, Unwritten, MakesMutex, EndsMutex, OpensCluster, OpensProcessor, ClosesCluster, ClosesProcessor, Cleans, One as CleansOne, All}
 use Rattle.uc_code.specs.Lowered.{spot_op, ExprAt, StmtAt}
 use Rattle.uc_code.specs.OpenRows.{StandsBehind}
 use Rattle.uc_code.specs.Emits.{Puts}
 use Rattle.uc_code.proofs.Stable.{nothing_stable, one_stable, both_stable}
 use Rattle.uc_code.proofs.Putting.{puts_as, puts_more}
 use Rattle.uc_lower_expr.specs.declared.numbering.ClassRoutine.{ClassRoutine}
-use Rattle.uc_lower_expr.specs.Meanings.{making_by}
-use Rattle.uc_lower_expr.specs.Members.{routine_by, routine_for}
+use Rattle.uc_lower_expr.specs.declared.making.Made.{Made}
+use Rattle.uc_lower_expr.specs.declared.making.Made.TheVariants as made
+use Rattle.uc_lower_expr.specs.Meanings.{is_mutex_at, making_by, making_of}
+use Rattle.uc_lower_expr.specs.Members.{HasClass, routine_by, routine_for}
 use Rattle.uc_lower_expr.specs.DraftGrowth.{Adds, ExprCode, ArgumentsCode, OpCode, RiskCode}
 use Rattle.uc_lower_expr.proofs.Adding.{adds_as, adds_both, adds_more, adds_nothing}
 use Rattle.uc_lower_expr.proofs.Settled.{args_stable, expr_stable}
-use Rattle.uc_lower_stmt.specs.Objects.{FillCode, MadeCode, array_by, build_room, built_by, call_by, element_cells, ended_by, fill_room}
+use Rattle.uc_lower_stmt.specs.Objects.{FillCode, MadeCode, array_by, build_room, builder_of, call_by, destroyer_of, element_cells, fill_room, object_built, object_cells, object_ended}
 use Rattle.uc_lower_stmt.proofs.Joined.{puts_adds}
 
 -- cells that are not capped
 cells_kept : (n x : ℕ) → x ≡ capped n → n ≤ CLASS_CELLS → x ≡ n
 cells_kept n x e h = let same : capped n ≡ n = omega arith in e ∙ same
 
--- of an element; a mutex object is there by its number
-pub cells_plain : (p : Program) (i : ℕ) (mutex : Bool) (x : ℕ) → mutex ≡ false → x ≡ capped (class_cells p i) → class_cells p i ≤ CLASS_CELLS → x ≡ element_cells p i mutex
-cells_plain p i mutex x m e h = cells_kept (class_cells p i) x e h ∙ sym (ap (element_cells p i) m)
+-- of an object; a mutex object is there by its number
+pub cells_plain : (p : Program) (i : ℕ) (mutex : Bool) (x : ℕ) → mutex ≡ false → x ≡ capped (class_cells p i) → class_cells p i ≤ CLASS_CELLS → x ≡ object_cells p i mutex
+cells_plain p i mutex x m e h = cells_kept (class_cells p i) x e h ∙ sym (ap (object_cells p i) m)
 
-pub cells_mutex : (p : Program) (i : ℕ) (mutex : Bool) → mutex ≡ true → 1 ≡ element_cells p i mutex
-cells_mutex p i mutex m = sym (ap (element_cells p i) m)
+pub cells_mutex : (p : Program) (i : ℕ) (mutex : Bool) → mutex ≡ true → 1 ≡ object_cells p i mutex
+cells_mutex p i mutex m = sym (ap (object_cells p i) m)
+
+-- the class of an object that is made, and what stands behind its routines
+pub class_in : (p : Program) (i : ℕ) (m : Made) → m ≡ made.Object i → HasClass p m → i < length (classes_of p.items)
+class_in p i m e h = subst (λ (x : Made). HasClass p x) e h
+
+pub behind_in : (p : Program) (i : ℕ) (m : Made) (spot : Spot) (array : Option Array) (ms : List Mark) → m ≡ made.Object i → StandsBehind ms (builder_of p m spot array) → StandsBehind ms (builder_of p (made.Object i) spot array)
+behind_in p i m spot array ms e h = subst (λ (x : Made). StandsBehind ms (builder_of p x spot array)) e h
+
+-- a piece of code that builds what is made
+pub construction_is : (p : Program) (n line : ℕ) (m k : Made) (spot : Spot) (args : List Meant) (old new : Draft) → m ≡ k → ((place : Expr) → BeginsAt place spot → Adds n (ExprCode line old.marks (constructed p (making_of p k) place args)) old new)
+    → (place : Expr) → BeginsAt place spot → Adds n (ExprCode line old.marks (constructed p (making_of p m) place args)) old new
+construction_is p n line m k spot args old new e h place b = subst (λ (x : Made). Adds n (ExprCode line old.marks (constructed p (making_of p x) place args)) old new) (sym e) (h place b)
 
 -- calls
 
@@ -55,7 +69,7 @@ no_args : (xs : List Param) → args_by xs [] ≡ NoExprs
 no_args [] = refl
 no_args (x ∷ xs) = refl
 
-begins : (code : Laid) (line : ℕ) (ms : List Mark) (e : Expr) (s : Spot) → BeginsAt e s → (a z : ℕ) → One code (spot_op s) line a z → ExprAt code line ms e a z
+pub begins : (code : Laid) (line : ℕ) (ms : List Mark) (e : Expr) (s : Spot) → BeginsAt e s → (a z : ℕ) → One code (spot_op s) line a z → ExprAt code line ms e a z
 begins code line ms e s (InFrame k) a z h = h
 begins code line ms e s (InObject t i) a z h = h
 
@@ -72,26 +86,18 @@ module _ (p : Program) (i : ℕ) where
   ended_at e spot array l None = EndsMutex (unwritten_number p i role.Destructor) false e spot array l
   ended_at e spot array l (Some r) = EndsMutex r true e spot array l
 
-  builds_of : (mutex : Bool) (e : Expr) (spot : Spot) (array : Option Array) → LiesAt e spot array → Calls (constructed p (making_by i mutex) e []) (call_by (routine_for p i role.Constructor) (built_by p i mutex) spot array)
+  builds_of : (mutex : Bool) (e : Expr) (spot : Spot) (array : Option Array) → LiesAt e spot array → Calls (constructed p (making_by i mutex) e []) (call_by (routine_for p i role.Constructor) (object_built p i mutex) spot array)
   builds_of true e spot array l = made_at e spot array l (written_at p i role.Constructor)
   builds_of false e spot array l = plain_at role.Constructor e spot array l (written_at p i role.Constructor)
 
-  ends_of : (mutex : Bool) (e : Expr) (spot : Spot) (array : Option Array) → LiesAt e spot array → Calls (destroyed p (making_by i mutex) e) (call_by (routine_for p i role.Destructor) (ended_by mutex) spot array)
+  ends_of : (mutex : Bool) (e : Expr) (spot : Spot) (array : Option Array) → LiesAt e spot array → Calls (destroyed p (making_by i mutex) e) (call_by (routine_for p i role.Destructor) (object_ended mutex) spot array)
   ends_of true e spot array l = ended_at e spot array l (written_at p i role.Destructor)
   ends_of false e spot array l = plain_at role.Destructor e spot array l (written_at p i role.Destructor)
 
-  element_lies : LawCells → (mutex : Bool) (n : ℕ) (place : Expr) (spot : Spot) → BeginsAt place spot → LiesAt (counted_element p (making_by i mutex) n place) spot (array_by p i mutex (Some n))
+  element_lies : LawCells → (mutex : Bool) (n : ℕ) (place : Expr) (spot : Spot) → BeginsAt place spot → LiesAt (counted_element p (making_by i mutex) n place) spot (Some (record { length = n; size = object_cells p i mutex }))
   element_lies laws true n place spot b = Part n Binding place spot b
   element_lies laws false n place spot b =
       subst (λ (k : ℕ). LiesAt (counted_element p (making_by i false) n place) spot (Some (record { length = n; size = k }))) (laws.cells p i) (Part n (class_shape p i) place spot b)
-
-  cleans_by : LawCells → (mutex : Bool) (length : Option ℕ) (place : Expr) (spot : Spot) → BeginsAt place spot → Cleans (clean_up p (making_by i mutex) length place) (cleaning.Call (call_by (routine_for p i role.Destructor) (ended_by mutex) spot (array_by p i mutex length)))
-  cleans_by laws mutex None place spot b = CleansOne _ _ (ends_of mutex place spot None (Whole place spot b)) refl
-  cleans_by laws mutex (Some n) place spot b = All n (element_cells p i mutex) _ _ (ends_of mutex (counted_element p (making_by i mutex) n place) spot (array_by p i mutex (Some n)) (element_lies laws mutex n place spot b)) refl
-
-  pub cleans_is : LawCells → (mutex : Bool) (length : Option ℕ) (spot : Spot) (what : Cleaning) → what ≡ cleaning.Call (call_by (routine_for p i role.Destructor) (ended_by mutex) spot (array_by p i mutex length)) → (place : Expr) → BeginsAt place spot
-      → Cleans (clean_up p (making_by i mutex) length place) what
-  cleans_is laws mutex length spot what e place b = subst (λ (c : Cleaning). Cleans (clean_up p (making_by i mutex) length place) c) (sym e) (cleans_by laws mutex length place spot b)
 
   -- an object is built; a mutex object is made right before the call of its constructor
 
@@ -102,13 +108,13 @@ module _ (p : Program) (i : ℕ) where
   made_stable line (manner.Opens of) r = nothing_stable
   made_stable line (manner.Closes of) r = nothing_stable
 
-  pub made_on : (mutex : Bool) (line c r : ℕ) (old mid new : Draft) → mutex ≡ true → c ≡ number_at p i → Adds 1 (OpCode line (op.Make c r)) old mid → Adds 1 (OpCode line (op.BindMade c r)) mid new → Adds 2 (MadeCode line (built_by p i mutex) r) old new
+  pub made_on : (mutex : Bool) (line c r : ℕ) (old mid new : Draft) → mutex ≡ true → c ≡ number_at p i → Adds 1 (OpCode line (op.Make c r)) old mid → Adds 1 (OpCode line (op.BindMade c r)) mid new → Adds 2 (MadeCode line (object_built p i mutex) r) old new
   made_on mutex line c r old mid new e n h g =
       let both = adds_both (one_stable (op.Make c r) line) h g in
-      subst (λ (x : Bool). Adds 2 (MadeCode line (built_by p i x) r) old new) (sym e) (subst (λ (x : ℕ). Adds 2 (MadeCode line (manner.Makes x) r) old new) n both)
+      subst (λ (x : Bool). Adds 2 (MadeCode line (object_built p i x) r) old new) (sym e) (subst (λ (x : ℕ). Adds 2 (MadeCode line (manner.Makes x) r) old new) n both)
 
-  pub made_off : (mutex : Bool) (line r : ℕ) (old : Draft) → mutex ≡ false → Adds 2 (MadeCode line (built_by p i mutex) r) old old
-  made_off mutex line r old e = subst (λ (x : Bool). Adds 2 (MadeCode line (built_by p i x) r) old old) (sym e) (adds_more (omega arith) (adds_nothing old))
+  pub made_off : (mutex : Bool) (line r : ℕ) (old : Draft) → mutex ≡ false → Adds 2 (MadeCode line (object_built p i mutex) r) old old
+  made_off mutex line r old e = subst (λ (x : Bool). Adds 2 (MadeCode line (object_built p i x) r) old old) (sym e) (adds_more (omega arith) (adds_nothing old))
 
   nothing_first : (B : ℕ → ℕ → Type 0) (a z : ℕ) → Both Nothing B a z → B a z
   nothing_first B a z h = subst (λ (x : ℕ). B x z) h.first.end h.second
@@ -128,13 +134,13 @@ module _ (p : Program) (i : ℕ) where
   module _ (line : ℕ) (spot : Spot) (args : List Meant) (mutex : Bool) where
     abbrev WrittenCode : List Mark → ClassRoutine → Laid → ℕ → ℕ → Type 0
     WrittenCode ms r code =
-        Both (One code (spot_op spot) line) (Both (ArgumentsCode line ms (args_by (params_of p r.number) args) code) (Both (One code op.Tick line) (Both (MadeCode line (built_by p i mutex) r.number code) (RiskCode line ms (op.CallOn r.number) code))))
+        Both (One code (spot_op spot) line) (Both (ArgumentsCode line ms (args_by (params_of p r.number) args) code) (Both (One code op.Tick line) (Both (MadeCode line (object_built p i mutex) r.number code) (RiskCode line ms (op.CallOn r.number) code))))
 
     abbrev UnwrittenCode : List Mark → ClassRoutine → Laid → ℕ → ℕ → Type 0
-    UnwrittenCode ms r code = Both (One code (spot_op spot) line) (Both (MadeCode line (built_by p i mutex) r.number code) (RiskCode line ms (op.CallUnwritten r.number) code))
+    UnwrittenCode ms r code = Both (One code (spot_op spot) line) (Both (MadeCode line (object_built p i mutex) r.number code) (RiskCode line ms (op.CallUnwritten r.number) code))
 
     written_code : (x : Bool) (code : Laid) (ms : List Mark) (place : Expr) → BeginsAt place spot → (r : ℕ) (a z : ℕ)
-        → Both (One code (spot_op spot) line) (Both (ArgumentsCode line ms (args_by (params_of p r) args) code) (Both (One code op.Tick line) (Both (MadeCode line (built_by p i x) r code) (RiskCode line ms (op.CallOn r) code)))) a z
+        → Both (One code (spot_op spot) line) (Both (ArgumentsCode line ms (args_by (params_of p r) args) code) (Both (One code op.Tick line) (Both (MadeCode line (object_built p i x) r code) (RiskCode line ms (op.CallOn r) code)))) a z
         → ExprAt code line ms (built_with x (Some r) place args) a z
     written_code true code ms place b r a z h =
         record {
@@ -166,7 +172,7 @@ module _ (p : Program) (i : ℕ) where
         }
 
     unwritten_code : (x : Bool) (code : Laid) (ms : List Mark) (place : Expr) → BeginsAt place spot → (a z : ℕ) → routine_in ms < unwritten_number p i role.Constructor
-        → Both (One code (spot_op spot) line) (Both (MadeCode line (built_by p i x) (unwritten_number p i role.Constructor) code) (RiskCode line ms (op.CallUnwritten (unwritten_number p i role.Constructor)) code)) a z
+        → Both (One code (spot_op spot) line) (Both (MadeCode line (object_built p i x) (unwritten_number p i role.Constructor) code) (RiskCode line ms (op.CallUnwritten (unwritten_number p i role.Constructor)) code)) a z
         → ExprAt code line ms (built_with x None place args) a z
     unwritten_code true code ms place b a z l h =
         record {
@@ -193,7 +199,7 @@ module _ (p : Program) (i : ℕ) where
     unwritten_by (Some r) n ms old new t l h place b = absurd (true≢false t)
 
     pub arm_written : (r : ClassRoutine) (n : ℕ) (old d1 d2 d3 d4 new : Draft) → r ≡ routine_for p i role.Constructor → r.written ≡ true → Adds 1 (OpCode line (spot_op spot)) old d1
-        → Adds n (ArgumentsCode line d1.marks (args_by (params_of p r.number) args)) d1 d2 → Adds 1 (OpCode line op.Tick) d2 d3 → Adds 2 (MadeCode line (built_by p i mutex) r.number) d3 d4 → Adds 1 (RiskCode line d4.marks (op.CallOn r.number)) d4 new
+        → Adds n (ArgumentsCode line d1.marks (args_by (params_of p r.number) args)) d1 d2 → Adds 1 (OpCode line op.Tick) d2 d3 → Adds 2 (MadeCode line (object_built p i mutex) r.number) d3 d4 → Adds 1 (RiskCode line d4.marks (op.CallOn r.number)) d4 new
         → (place : Expr) → BeginsAt place spot → Adds (n + 5) (ExprCode line old.marks (constructed p (making_by i mutex) place args)) old new
     arm_written r n old d1 d2 d3 d4 new e t a b c m d place h =
         let m1 : d1.marks ≡ old.marks = ap (λ (x : Draft). x.marks) a.rest in
@@ -201,41 +207,66 @@ module _ (p : Program) (i : ℕ) where
         let b1 = subst (λ (ms : List Mark). Adds n (ArgumentsCode line ms (args_by (params_of p r.number) args)) d1 d2) m1 b in
         let d5 = subst (λ (ms : List Mark). Adds 1 (RiskCode line ms (op.CallOn r.number)) d4 new) m4 d in
         let all : Adds (n + 5) (WrittenCode old.marks r) old new =
-        adds_more (omega arith) (adds_both (one_stable (spot_op spot) line) a (adds_both (args_stable line old.marks (args_by (params_of p r.number) args)) b1 (adds_both (one_stable op.Tick line) c (adds_both (made_stable line (built_by p i mutex) r.number) m d5)))) in
+        adds_more (omega arith) (adds_both (one_stable (spot_op spot) line) a (adds_both (args_stable line old.marks (args_by (params_of p r.number) args)) b1 (adds_both (one_stable op.Tick line) c (adds_both (made_stable line (object_built p i mutex) r.number) m d5)))) in
         subst (λ (x : Expr). Adds (n + 5) (ExprCode line old.marks x) old new) (sym (built_is mutex place args)) (
         written_by (written_at p i role.Constructor) (n + 5) old.marks old new (ap (λ (x : ClassRoutine). x.written) (sym e) ∙ t) (subst (λ (x : ClassRoutine). Adds (n + 5) (WrittenCode old.marks x) old new) e all) place h)
 
-    pub arm_unwritten : (r : ClassRoutine) (n : ℕ) (array : Option Array) (old d1 d2 new : Draft) → r ≡ routine_for p i role.Constructor → r.written ≡ false → StandsBehind old.marks (call_by (routine_for p i role.Constructor) (built_by p i mutex) spot array)
-        → Adds 1 (OpCode line (spot_op spot)) old d1 → Adds 2 (MadeCode line (built_by p i mutex) r.number) d1 d2 → Adds 1 (RiskCode line d2.marks (op.CallUnwritten r.number)) d2 new
+    pub arm_unwritten : (r : ClassRoutine) (n : ℕ) (array : Option Array) (old d1 d2 new : Draft) → r ≡ routine_for p i role.Constructor → r.written ≡ false → StandsBehind old.marks (call_by (routine_for p i role.Constructor) (object_built p i mutex) spot array)
+        → Adds 1 (OpCode line (spot_op spot)) old d1 → Adds 2 (MadeCode line (object_built p i mutex) r.number) d1 d2 → Adds 1 (RiskCode line d2.marks (op.CallUnwritten r.number)) d2 new
         → (place : Expr) → BeginsAt place spot → Adds (n + 5) (ExprCode line old.marks (constructed p (making_by i mutex) place args)) old new
     arm_unwritten r n array old d1 d2 new e t s a m d place h =
         let m2 : d2.marks ≡ old.marks = ap (λ (x : Draft). x.marks) m.rest ∙ ap (λ (x : Draft). x.marks) a.rest in
         let d3 = subst (λ (ms : List Mark). Adds 1 (RiskCode line ms (op.CallUnwritten r.number)) d2 new) m2 d in
         let f : (routine_for p i role.Constructor).written ≡ false = ap (λ (x : ClassRoutine). x.written) (sym e) ∙ t in
         let all : Adds (n + 5) (UnwrittenCode old.marks r) old new =
-        adds_more (omega arith) (adds_both (one_stable (spot_op spot) line) a (adds_both (made_stable line (built_by p i mutex) r.number) m d3)) in
+        adds_more (omega arith) (adds_both (one_stable (spot_op spot) line) a (adds_both (made_stable line (object_built p i mutex) r.number) m d3)) in
         subst (λ (x : Expr). Adds (n + 5) (ExprCode line old.marks x) old new) (sym (built_is mutex place args)) (
         unwritten_by (written_at p i role.Constructor) (n + 5) old.marks old new f (s.behind f) (subst (λ (x : ClassRoutine). Adds (n + 5) (UnwrittenCode old.marks x) old new) e all) place h)
 
-  -- the statement that builds an object, or the elements of an array
+-- of all that is made
 
-  pub arm_one : (mutex : Bool) (line : ℕ) (spot : Spot) (length : Option ℕ) (args : List Meant) (n : ℕ) (old d1 new : Draft) → length ≡ None → ((place : Expr) → BeginsAt place spot → Adds (n + 5) (ExprCode line old.marks (constructed p (making_by i mutex) place args)) old d1) → Adds 1 (OpCode line op.Discard) d1 new
-      → (place : Expr) → BeginsAt place spot → Puts (n + build_room length) (λ code. StmtAt code old.marks (build p line (making_by i mutex) length place args)) old new
-  arm_one mutex line spot length args n old d1 new e a b place h =
-      subst (λ (o : Option ℕ). Puts (n + build_room o) (λ code. StmtAt code old.marks (build p line (making_by i mutex) o place args)) old new) (sym e) (
-      puts_adds (adds_more (omega arith) (adds_both (expr_stable line old.marks (constructed p (making_by i mutex) place args)) (a place h) b)))
+module _ (p : Program) where
+  made_builds : (m : Made) (e : Expr) (spot : Spot) (array : Option Array) → LiesAt e spot array → Calls (constructed p (making_of p m) e []) (builder_of p m spot array)
+  made_builds (made.Object i) e spot array l = builds_of p i (is_mutex_at p i) e spot array l
+  made_builds made.Cluster e spot array l = OpensCluster e spot array l
+  made_builds made.Processor e spot array l = OpensProcessor e spot array l
 
-  pub arm_all : LawCells → (mutex : Bool) (line : ℕ) (spot : Spot) (length : Option ℕ) (array : Option Array) (args : List Meant) (n count : ℕ) (builder destroyer : ObjectCall) (old new : Draft) → length ≡ Some count → array ≡ array_by p i mutex (Some count)
-      → builder ≡ call_by (routine_for p i role.Constructor) (built_by p i mutex) spot array → destroyer ≡ call_by (routine_for p i role.Destructor) (ended_by mutex) spot array → Puts fill_room (FillCode line old.marks builder destroyer count) old new
-      → (place : Expr) → BeginsAt place spot → Puts (n + build_room length) (λ code. StmtAt code old.marks (build p line (making_by i mutex) length place args)) old new
-  arm_all laws mutex line spot length array args n count builder destroyer old new e ae be de h place b =
-      let g : builder ≡ call_by (routine_for p i role.Constructor) (built_by p i mutex) spot (array_by p i mutex (Some count)) = be ∙ ap (λ (o : Option Array). call_by (routine_for p i role.Constructor) (built_by p i mutex) spot o) ae in
-      let k : destroyer ≡ call_by (routine_for p i role.Destructor) (ended_by mutex) spot (array_by p i mutex (Some count)) = de ∙ ap (λ (o : Option Array). call_by (routine_for p i role.Destructor) (ended_by mutex) spot o) ae in
-      subst (λ (o : Option ℕ). Puts (n + build_room o) (λ code. StmtAt code old.marks (build p line (making_by i mutex) o place args)) old new) (sym e) (
+  made_ends : (m : Made) (e : Expr) (spot : Spot) (array : Option Array) → LiesAt e spot array → Calls (destroyed p (making_of p m) e) (destroyer_of p m spot array)
+  made_ends (made.Object i) e spot array l = ends_of p i (is_mutex_at p i) e spot array l
+  made_ends made.Cluster e spot array l = ClosesCluster e spot array l
+  made_ends made.Processor e spot array l = ClosesProcessor e spot array l
+
+  made_lies : LawCells → (m : Made) (n : ℕ) (place : Expr) (spot : Spot) → BeginsAt place spot → LiesAt (counted_element p (making_of p m) n place) spot (array_by p m (Some n))
+  made_lies laws (made.Object i) n place spot b = element_lies p i laws (is_mutex_at p i) n place spot b
+  made_lies laws made.Cluster n place spot b = Part n Binding place spot b
+  made_lies laws made.Processor n place spot b = Part n Binding place spot b
+
+  cleans_by : LawCells → (m : Made) (length : Option ℕ) (place : Expr) (spot : Spot) → BeginsAt place spot → Cleans (clean_up p (making_of p m) length place) (cleaning.Call (destroyer_of p m spot (array_by p m length)))
+  cleans_by laws m None place spot b = CleansOne _ _ (made_ends m place spot None (Whole place spot b)) refl
+  cleans_by laws m (Some n) place spot b = All n (element_cells p m) _ _ (made_ends m (counted_element p (making_of p m) n place) spot (array_by p m (Some n)) (made_lies laws m n place spot b)) refl
+
+  pub cleans_is : LawCells → (m : Made) (length : Option ℕ) (spot : Spot) (what : Cleaning) → what ≡ cleaning.Call (destroyer_of p m spot (array_by p m length)) → (place : Expr) → BeginsAt place spot → Cleans (clean_up p (making_of p m) length place) what
+  cleans_is laws m length spot what e place b = subst (λ (c : Cleaning). Cleans (clean_up p (making_of p m) length place) c) (sym e) (cleans_by laws m length place spot b)
+
+  -- the statement that builds one, or the elements of an array
+
+  pub arm_one : (m : Made) (line : ℕ) (spot : Spot) (length : Option ℕ) (args : List Meant) (n : ℕ) (old d1 new : Draft) → length ≡ None → ((place : Expr) → BeginsAt place spot → Adds (n + 5) (ExprCode line old.marks (constructed p (making_of p m) place args)) old d1) → Adds 1 (OpCode line op.Discard) d1 new
+      → (place : Expr) → BeginsAt place spot → Puts (n + build_room length) (λ code. StmtAt code old.marks (build p line (making_of p m) length place args)) old new
+  arm_one m line spot length args n old d1 new e a b place h =
+      subst (λ (o : Option ℕ). Puts (n + build_room o) (λ code. StmtAt code old.marks (build p line (making_of p m) o place args)) old new) (sym e) (
+      puts_adds (adds_more (omega arith) (adds_both (expr_stable line old.marks (constructed p (making_of p m) place args)) (a place h) b)))
+
+  pub arm_all : LawCells → (m : Made) (line : ℕ) (spot : Spot) (length : Option ℕ) (array : Option Array) (args : List Meant) (n count : ℕ) (builder destroyer : ObjectCall) (old new : Draft) → length ≡ Some count → array ≡ array_by p m (Some count)
+      → builder ≡ builder_of p m spot array → destroyer ≡ destroyer_of p m spot array → Puts fill_room (FillCode line old.marks builder destroyer count) old new
+      → (place : Expr) → BeginsAt place spot → Puts (n + build_room length) (λ code. StmtAt code old.marks (build p line (making_of p m) length place args)) old new
+  arm_all laws m line spot length array args n count builder destroyer old new e ae be de h place b =
+      let g : builder ≡ builder_of p m spot (array_by p m (Some count)) = be ∙ ap (builder_of p m spot) ae in
+      let k : destroyer ≡ destroyer_of p m spot (array_by p m (Some count)) = de ∙ ap (destroyer_of p m spot) ae in
+      subst (λ (o : Option ℕ). Puts (n + build_room o) (λ code. StmtAt code old.marks (build p line (making_of p m) o place args)) old new) (sym e) (
       puts_more (omega arith) (puts_as h (λ code x z w. record {
         builder = builder;
         destroyer = destroyer;
-        builds = subst (λ (c : ObjectCall). Calls (constructed p (making_by i mutex) (counted_element p (making_by i mutex) count place) []) c) (sym g) (builds_of mutex (counted_element p (making_by i mutex) count place) spot (array_by p i mutex (Some count)) (element_lies laws mutex count place spot b));
-        destroys = subst (λ (c : ObjectCall). Calls (destroyed p (making_by i mutex) (counted_element p (making_by i mutex) count place)) c) (sym k) (ends_of mutex (counted_element p (making_by i mutex) count place) spot (array_by p i mutex (Some count)) (element_lies laws mutex count place spot b));
+        builds = subst (λ (c : ObjectCall). Calls (constructed p (making_of p m) (counted_element p (making_of p m) count place) []) c) (sym g) (made_builds m (counted_element p (making_of p m) count place) spot (array_by p m (Some count)) (made_lies laws m count place spot b));
+        destroys = subst (λ (c : ObjectCall). Calls (destroyed p (making_of p m) (counted_element p (making_of p m) count place)) c) (sym k) (made_ends m (counted_element p (making_of p m) count place) spot (array_by p m (Some count)) (made_lies laws m count place spot b));
         filled = w;
       })))

@@ -37,10 +37,10 @@ AloneIn p s ms t old new = Lowers (OPS_FOR_SIZE * size_at s (objects_in ms)) (st
 pub alone_as : (p : Program) (s : Stmt) (ms : List Mark) (t : Scope) (d old new : Draft) → d.marks ≡ ms → scope_of d ≡ t → AloneIn p s d.marks (scope_of d) old new → AloneIn p s ms t old new
 alone_as p s ms t d old new e f h = subst (λ (u : Scope). AloneIn p s ms u old new) f (subst (λ (ns : List Mark). AloneIn p s ns (scope_of d) old new) e h)
 
-abbrev MaybeIn : Program → MaybeStmt → List Mark → Scope → Draft → Draft → Type 0
+abbrev pub MaybeIn : Program → MaybeStmt → List Mark → Scope → Draft → Draft → Type 0
 MaybeIn p m ms t old new = Lowers (OPS_FOR_SIZE * maybe_at_size m (objects_in ms)) (maybe_stmt_size m) (maybe_cells m (declared_cells p)) (maybe_scopes m) (λ code. StmtAt code ms (maybe_meant p m t)) (maybe_past p m t) old new
 
-maybe_as : (p : Program) (m : MaybeStmt) (ms : List Mark) (t : Scope) (d old new : Draft) → d.marks ≡ ms → scope_of d ≡ t → MaybeIn p m d.marks (scope_of d) old new → MaybeIn p m ms t old new
+pub maybe_as : (p : Program) (m : MaybeStmt) (ms : List Mark) (t : Scope) (d old new : Draft) → d.marks ≡ ms → scope_of d ≡ t → MaybeIn p m d.marks (scope_of d) old new → MaybeIn p m ms t old new
 maybe_as p m ms t d old new e f h = subst (λ (u : Scope). MaybeIn p m ms u old new) f (subst (λ (ns : List Mark). MaybeIn p m ns (scope_of d) old new) e h)
 
 module _ (p : Program) (line : ℕ) (test : tree.Expr) (chosen : Stmt) (other : MaybeStmt) (old e1 e2 e3 e4 e5 new : Draft) (choose leave : ℕ)

@@ -1,6 +1,5 @@
 -- There is room in a draft for what a guarded block is laid out of.
-use Rattle.std.proofs.Common.{◌≡◌, ℕ, ◌+◌, ◌*◌, ◌≤◌, ◌<◌, Bool, true, List, ◌∷◌, Option, take, length, ap, sym, subst, ◌∙◌, arith}
-use Rattle.std.proofs.lemmas.Bool.{and_parts}
+use Rattle.std.proofs.Common.{◌≡◌, ℕ, ◌+◌, ◌*◌, ◌≤◌, ◌<◌, Bool, List, ◌∷◌, Option, take, length, ap, sym, subst, ◌∙◌, arith}
 use Rattle.uc_tree.specs.declared.kinds.HandlerKind.{HandlerKind}
 use Rattle.uc_tree.specs.declared.limits.TheConstants.{FRAME_CELLS, OPS_FOR_SIZE, PROGRAM_OPS, PROGRAM_SIZE}
 use Rattle.uc_tree.specs.declared.pos.Pos.{Pos}
@@ -13,7 +12,6 @@ use Rattle.uc_tree.specs.Scopes.{handler_scopes, handlers_scopes, stmt_scopes, s
 use Rattle.uc_tree.specs.Sizes.{size_at}
 use Rattle.uc_tree.specs.Statements as tree
 use Rattle.uc_tree.specs.StatementSizes.{handler_size, handlers_size, stmt_size, stmts_size}
-use Rattle.uc_built.specs.BuiltForms.{are_built, are_built_handlers, is_built_handler, is_built_stmt}
 use Rattle.uc_code.specs.declared.op.Op.{Op}
 use Rattle.uc_code.specs.declared.draft_parts.Outside.{Outside}
 use Rattle.uc_code.specs.declared.rows.Mark.{Mark}
@@ -157,9 +155,6 @@ rest_less h hs xs e = subst (λ (ys : List tree.Handler). handlers_size (tree.ha
 pub first_less : (h : tree.Handler) (hs xs : List tree.Handler) → xs ≡ h ∷ hs → handler_size h ≤ handlers_size (tree.handlers_of xs)
 first_less h hs xs e = subst (λ (ys : List tree.Handler). handler_size h ≤ handlers_size (tree.handlers_of ys)) (sym e) (omega arith)
 
-pub parts_built : (h : tree.Handler) (hs xs : List tree.Handler) → xs ≡ h ∷ hs → are_built_handlers (tree.handlers_of xs) ≡ true → (is_built_handler h ≡ true) × (are_built_handlers (tree.handlers_of hs) ≡ true)
-parts_built h hs xs e b = and_parts _ _ (ap (λ (ys : List tree.Handler). are_built_handlers (tree.handlers_of ys)) (sym e) ∙ b)
-
 pub first_fits_in : (p : Program) (h : tree.Handler) (hs xs : List tree.Handler) (d : Draft) → xs ≡ h ∷ hs → HandlersFit p (tree.handlers_of xs) d → HandlerFits p h d
 first_fits_in p h hs xs d e f = first_fits p h (tree.handlers_of hs) d (subst (λ (ys : List tree.Handler). HandlersFit p (tree.handlers_of ys) d) e f)
 
@@ -171,26 +166,21 @@ rest_fits_in p row pad h hs xs d0 d1 e f w = rest_fits p row pad h (tree.handler
 -- what it asks of a draft, as a statement
 pub record TryAsks (p : Program) (s : tree.Stmt) (body : tree.Stmts) (hs : tree.Handlers) (d : Draft) : Type 0 where
   pub less : stmts_size body + handlers_size hs < stmt_size s
-  pub built : are_built body ≡ true
-  pub handlers : are_built_handlers hs ≡ true
   pub room : taken d + OPS_FOR_SIZE * (1 + sizes_at body (objects_in d.marks) + (handlers_size hs + exits_handlers hs (objects_in d.marks))) ≤ PROGRAM_OPS
   pub cells : d.cells + (stmts_cells body (declared_cells p) + handlers_cells hs (declared_cells p)) ≤ FRAME_CELLS
   pub scopes : d.scopes + (1 + stmts_scopes body + handlers_scopes hs) ≤ PROGRAM_SIZE
   pub texts : d.texts + (stmts_size body + handlers_size hs) ≤ PROGRAM_SIZE
 
-pub try_asks : (p : Program) (s : tree.Stmt) (pos brace : Pos) (xs ys : List tree.Stmt) (hs gs : List tree.Handler) (d : Draft) → tree.Try pos brace (tree.stmts_of ys) (tree.handlers_of gs) ≡ s → xs ≡ ys → hs ≡ gs → is_built_stmt s ≡ true
+pub try_asks : (p : Program) (s : tree.Stmt) (pos brace : Pos) (xs ys : List tree.Stmt) (hs gs : List tree.Handler) (d : Draft) → tree.Try pos brace (tree.stmts_of ys) (tree.handlers_of gs) ≡ s → xs ≡ ys → hs ≡ gs
     → taken d + OPS_FOR_SIZE * size_at s (objects_in d.marks) ≤ PROGRAM_OPS → d.cells + stmt_cells s (declared_cells p) ≤ FRAME_CELLS → d.scopes + stmt_scopes s ≤ PROGRAM_SIZE → d.texts + stmt_size s ≤ PROGRAM_SIZE → TryAsks p s (tree.stmts_of xs) (tree.handlers_of hs) d
-try_asks p s pos brace xs ys hs gs d e i j b r c o k =
+try_asks p s pos brace xs ys hs gs d e i j r c o k =
     let all : tree.Try pos brace (tree.stmts_of xs) (tree.handlers_of hs) ≡ s = ap (λ (l : List tree.Stmt). tree.Try pos brace (tree.stmts_of l) (tree.handlers_of hs)) i ∙ ap (λ (l : List tree.Handler). tree.Try pos brace (tree.stmts_of ys) (tree.handlers_of l)) j ∙ e in
-    let parts = and_parts _ _ (ap is_built_stmt all ∙ b) in
     let size = ap stmt_size all in
     let way = ap (λ (x : tree.Stmt). size_at x (objects_in d.marks)) all in
     let cells = ap (λ (x : tree.Stmt). stmt_cells x (declared_cells p)) all in
     let scopes = ap stmt_scopes all in
     record {
       less = omega (arith, size);
-      built = parts.0;
-      handlers = parts.1;
       room = omega (arith, way, r);
       cells = omega (arith, cells, c);
       scopes = omega (arith, scopes, o);

@@ -326,7 +326,7 @@ number_few (Some n) = by_case (nat_le n LAST_EVENT) refl
     by_case true e = leb-true n LAST_EVENT e
     by_case false e = omega arith
 
-event_few : (p : Program) (name : List ℕ) → number_of_event p name ≤ LAST_EVENT
+pub event_few : (p : Program) (name : List ℕ) → number_of_event p name ≤ LAST_EVENT
 event_few p name = by_case (same_name unhandled_name name) (same_name failure_name name)
   where
     by_case : (b f : Bool) → unwrap_or (if b then Some UNHANDLED else if f then Some FAILURE else option_and_then (at_most LAST_EVENT) (place_from FIRST_EVENT (event_names (classes_of p.items)) name)) 0 ≤ LAST_EVENT

@@ -228,7 +228,7 @@ mutual
       both (guards_stable line ms cs) (both (accepts_stable ms site (clause_count cs) line)
       (chooses_stable line (clause_count cs) (λ code o ps end. BranchesAt code ms line cs o ps end) (λ o ps end. branches_stable ms line cs o ps end)))
 
-  branches_stable : (ms : List Mark) (line : ℕ) (cs : Clauses) (o : ℕ) (ps : List ℕ) (end : ℕ) → Stable (λ code. BranchesAt code ms line cs o ps end)
+  pub branches_stable : (ms : List Mark) (line : ℕ) (cs : Clauses) (o : ℕ) (ps : List ℕ) (end : ℕ) → Stable (λ code. BranchesAt code ms line cs o ps end)
   branches_stable ms line NoClauses o ps end = none_stable o ps end
   branches_stable ms line (Otherwise b) o ps end = else_stable o ps (λ code. StmtAt code ms b) (stmt_stable ms b)
   branches_stable ms line (MoreClauses guard b cs) o ps end =

@@ -1,8 +1,13 @@
+pub mod AcceptingLemmas
 pub mod BlocksLemmas
+pub mod BranchFitting
+pub mod BranchingLemmas
 pub mod Building
 pub mod Choosing
+pub mod Clustered
 pub mod Counted
 pub mod Declaring
+pub mod EnablingLemmas
 pub mod Ending
 pub mod Filling
 pub mod Fitting
@@ -11,6 +16,7 @@ pub mod Growth
 pub mod GuardingLemmas
 pub mod HandlingLemmas
 pub mod Joined
+pub mod Jumping
 pub mod Kept
 pub mod Laying
 pub mod Listing

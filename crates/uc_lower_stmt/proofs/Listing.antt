@@ -1,8 +1,6 @@
 -- Statements of a block, one after another, in a draft.
 use Rattle.std.proofs.Common.{◌≡◌, ℕ, zero, suc, ◌+◌, ◌*◌, ◌≤◌, ◌<◌, List, [], ◌∷◌, ◌++◌, Option, Some, None, length, take, get_or, refl, ap, sym, subst, ◌∙◌, arith}
-use Rattle.std.proofs.Common.{true, reverse, take_all}
-use Rattle.std.specs.Prelude.{option_map}
-use Rattle.std.proofs.lemmas.Bool.{and_parts}
+use Rattle.std.proofs.Common.{reverse, take_all}
 use Rattle.std.proofs.lemmas.List.{take_more, length-reverse}
 use Rattle.uc_tree.specs.declared.limits.TheConstants.{OPS_FOR_SIZE}
 use Rattle.uc_tree.specs.declared.pos.Pos.{Pos}
@@ -16,8 +14,7 @@ use Rattle.uc_tree.specs.Exits.{declares, exits, exits_all}
 use Rattle.uc_tree.specs.Sizes.{size_at}
 use Rattle.uc_tree.specs.Scopes.{stmt_scopes, stmts_scopes}
 use Rattle.uc_tree.specs.Cells.{declared_cells, declarators_cells, stmt_cells, stmts_cells}
-use Rattle.uc_tree.specs.declared.kinds.Base.TheVariants as base
-use Rattle.uc_tree.specs.Objects.{Making, class_made, making}
+use Rattle.uc_tree.specs.Objects.{Making, making}
 use Rattle.uc_tree.specs.Programs.{Program}
 use Rattle.uc_tree.specs.Source as source
 use Rattle.uc_resolve.specs.Resolve.{Scope, all_declared, declared_alone, declared_then, objects_scoped, stmt_meant, stmts_meant, stmt_then, scope_after, scope_behind, with_all}
@@ -25,10 +22,7 @@ use Rattle.uc_code.specs.declared.rows.Mark.{Mark}
 use Rattle.uc_code.specs.Drafts.{Draft}
 use Rattle.uc_code.specs.Lowered.{StmtAt, StmtsAt}
 use Rattle.uc_lower_stmt.specs.declared.stmt.Objects.{Objects}
-use Rattle.uc_built.specs.BuiltForms.{is_built_base, is_built_stmt}
-use Rattle.uc_lower_expr.specs.Meanings.{is_mutex_at, making_by}
-use Rattle.uc_lower_expr.specs.Members.{is_held_base}
-use Rattle.uc_lower_expr.proofs.Makings.{making_is}
+use Rattle.uc_lower_expr.specs.Meanings.{making_of}
 use Rattle.uc_lower_stmt.specs.Blocks.{EndsScopes}
 use Rattle.uc_lower_stmt.specs.Control.{DeclaresObjects, LaysDeclaration, LaysStmt, LowersDeclaration}
 use Rattle.uc_lower_stmt.specs.Listed.{declares_all, stmts_then, LaysStmts}
@@ -41,56 +35,41 @@ use Rattle.uc_lower_stmt.proofs.Growth.{exits_grow}
 use Rattle.uc_lower_stmt.proofs.Joined.{lowers_as}
 use Rattle.uc_lower_stmt.proofs.Laying.{lays_as, lays_ended, lays_join, lays_nothing, lays_one}
 
--- what is declared by a form that is built is no cluster and no processor
-
-pub built_held : (b : Base) → is_built_base b ≡ true → is_held_base b ≡ true
-built_held base.Void h = refl
-built_held base.Int h = refl
-built_held base.Char h = refl
-built_held base.Bool h = refl
-built_held base.Condition h = refl
-built_held base.Cluster h = h
-built_held base.Processor h = h
-built_held (base.Named name) h = refl
-
-pub built_made : (p : Program) (b : Base) → is_built_base b ≡ true → (o : Option ℕ) → class_made (making p b) ≡ o → making p b ≡ option_map (λ j. making_by j (is_mutex_at p j)) o
-built_made p b h o e = making_is p b (built_held b h) ∙ ap (λ (x : Option ℕ). option_map (λ j. making_by j (is_mutex_at p j)) x) e
-
 -- one statement
 
 alone_then : (p : Program) (line : ℕ) (b : Base) (ds : List Declarator) (s : Scope) (rest : source.Stmts) (o : Option Making) → o ≡ None → source.Then (declared_alone p o line b ds s) rest ≡ declared_then p o line b ds s rest
 alone_then p line b ds s rest None e = refl
 alone_then p line b ds s rest (Some m) e = absurd (cc e)
 
-then_one : (p : Program) (t : Stmt) (s : Scope) (rest : source.Stmts) → is_built_stmt t ≡ true → DeclaresObjects p t None → source.Then (stmt_meant p t s) rest ≡ stmt_then p t s (stmt_meant p t s) rest
-then_one p (Declare place b ds) s rest y h = alone_then p place.line b ds s rest (making p b) (built_made p b (and_parts _ _ y).0 None h)
-then_one p (Block place body) s rest y h = refl
-then_one p (Empty place) s rest y h = refl
-then_one p (Evaluate place v) s rest y h = refl
-then_one p (If place test chosen other) s rest y h = refl
-then_one p (While place test body) s rest y h = refl
-then_one p (Do place body test) s rest y h = refl
-then_one p (For place start test step body) s rest y h = refl
-then_one p (Break place) s rest y h = refl
-then_one p (Continue place) s rest y h = refl
-then_one p (Return place value) s rest y h = refl
-then_one p (Try place brace body hs) s rest y h = refl
-then_one p (Throw place raised) s rest y h = refl
-then_one p (Raise place raised) s rest y h = refl
-then_one p (RaiseAt place raised target) s rest y h = refl
-then_one p (Enable place events body) s rest y h = refl
-then_one p (Disable place events body) s rest y h = refl
-then_one p (Accept place cs other) s rest y h = refl
-then_one p (Print place items) s rest y h = refl
-then_one p (PrintTogether place items) s rest y h = refl
-then_one p (Read place places) s rest y h = refl
-then_one p (Resume place) s rest y h = refl
-then_one p (Suspend place) s rest y h = refl
-then_one p (Yield place) s rest y h = refl
-then_one p (Migrate place cluster) s rest y h = refl
+then_one : (p : Program) (t : Stmt) (s : Scope) (rest : source.Stmts) → DeclaresObjects p t None → source.Then (stmt_meant p t s) rest ≡ stmt_then p t s (stmt_meant p t s) rest
+then_one p (Declare place b ds) s rest h = alone_then p place.line b ds s rest (making p b) h
+then_one p (Block place body) s rest h = refl
+then_one p (Empty place) s rest h = refl
+then_one p (Evaluate place v) s rest h = refl
+then_one p (If place test chosen other) s rest h = refl
+then_one p (While place test body) s rest h = refl
+then_one p (Do place body test) s rest h = refl
+then_one p (For place start test step body) s rest h = refl
+then_one p (Break place) s rest h = refl
+then_one p (Continue place) s rest h = refl
+then_one p (Return place value) s rest h = refl
+then_one p (Try place brace body hs) s rest h = refl
+then_one p (Throw place raised) s rest h = refl
+then_one p (Raise place raised) s rest h = refl
+then_one p (RaiseAt place raised target) s rest h = refl
+then_one p (Enable place events body) s rest h = refl
+then_one p (Disable place events body) s rest h = refl
+then_one p (Accept place cs other) s rest h = refl
+then_one p (Print place items) s rest h = refl
+then_one p (PrintTogether place items) s rest h = refl
+then_one p (Read place places) s rest h = refl
+then_one p (Resume place) s rest h = refl
+then_one p (Suspend place) s rest h = refl
+then_one p (Yield place) s rest h = refl
+then_one p (Migrate place cluster) s rest h = refl
 
-pub arm_next : (p : Program) (block : ℕ) (t : Stmt) (old new : Draft) → is_built_stmt t ≡ true → DeclaresObjects p t None → LowersStmt p t old new → LaysStmt p block t old new
-arm_next p block t old new y d h = lays_as (lays_one block h) refl (λ ss. then_one p t (scope_of old) ss y d) (omega arith) (omega arith) (omega arith) (omega arith) (omega arith)
+pub arm_next : (p : Program) (block : ℕ) (t : Stmt) (old new : Draft) → DeclaresObjects p t None → LowersStmt p t old new → LaysStmt p block t old new
+arm_next p block t old new d h = lays_as (lays_one block h) refl (λ ss. then_one p t (scope_of old) ss d) (omega arith) (omega arith) (omega arith) (omega arith) (omega arith)
 
 -- a declaration of objects
 
@@ -111,53 +90,53 @@ next_objects p block t place b ds m old new e c h =
     subst (λ (u : Stmt). LaysStmt p block u old new) e (
     lays_as (declared_objects p block place.line b ds m old new c h) (declared_counted p place b ds (scope_of old)) (λ ss. refl) (omega arith) (omega arith) (omega arith) (omega arith) (omega arith))
 
-next_declared : (p : Program) (block : ℕ) (pos : Pos) (f : StmtForm) (o : Objects) (old new : Draft) → is_built_stmt (stmt_at pos f) ≡ true → DeclaresObjects p (stmt_at pos f) (Some o)
-    → Lays (OPS_FOR_SIZE * declarators_size o.declarators.now) 0 (declarators_cells (declared_cells p o.base.now) o.declarators.now) (length o.declarators.now) 0 block (objects_scoped p (making_by o.class (is_mutex_at p o.class)) pos.line o.base.now o.declarators.now (scope_of old)) (with_all p (scope_of old) o.base.now o.declarators.now) old new
+next_declared : (p : Program) (block : ℕ) (pos : Pos) (f : StmtForm) (o : Objects) (old new : Draft) → DeclaresObjects p (stmt_at pos f) (Some o)
+    → Lays (OPS_FOR_SIZE * declarators_size o.declarators.now) 0 (declarators_cells (declared_cells p o.base.now) o.declarators.now) (length o.declarators.now) 0 block (objects_scoped p (making_of p o.made) pos.line o.base.now o.declarators.now (scope_of old)) (with_all p (scope_of old) o.base.now o.declarators.now) old new
     → LaysStmt p block (stmt_at pos f) old new
-next_declared p block pos (form.Declare base ds) o old new y d h =
-    next_objects p block (Declare pos base ds.items) pos base ds.items (making_by o.class (is_mutex_at p o.class)) old new refl (built_made p base (and_parts _ _ y).0 (Some o.class) d.0) (
-    subst (λ (xs : List Declarator). Lays (OPS_FOR_SIZE * declarators_size xs) 0 (declarators_cells (declared_cells p base) xs) (length xs) 0 block (objects_scoped p (making_by o.class (is_mutex_at p o.class)) pos.line base xs (scope_of old)) (with_all p (scope_of old) base xs) old new) (sym d.1.1) (
-    subst (λ (b : Base). Lays (OPS_FOR_SIZE * declarators_size o.declarators.now) 0 (declarators_cells (declared_cells p b) o.declarators.now) (length o.declarators.now) 0 block (objects_scoped p (making_by o.class (is_mutex_at p o.class)) pos.line b o.declarators.now (scope_of old)) (with_all p (scope_of old) b o.declarators.now) old new) (sym d.1.0) h))
-next_declared p block pos (form.Block body) o old new y d h = absurd d
-next_declared p block pos form.Empty o old new y d h = absurd d
-next_declared p block pos (form.Evaluate value) o old new y d h = absurd d
-next_declared p block pos (form.If test chosen other) o old new y d h = absurd d
-next_declared p block pos (form.While test body) o old new y d h = absurd d
-next_declared p block pos (form.Do body test) o old new y d h = absurd d
-next_declared p block pos (form.For start test step body) o old new y d h = absurd d
-next_declared p block pos form.Break o old new y d h = absurd d
-next_declared p block pos form.Continue o old new y d h = absurd d
-next_declared p block pos (form.Return value) o old new y d h = absurd d
-next_declared p block pos (form.Try brace body hs) o old new y d h = absurd d
-next_declared p block pos (form.Throw raised) o old new y d h = absurd d
-next_declared p block pos (form.Raise raised) o old new y d h = absurd d
-next_declared p block pos (form.RaiseAt raised target) o old new y d h = absurd d
-next_declared p block pos (form.Enable events body) o old new y d h = absurd d
-next_declared p block pos (form.Disable events body) o old new y d h = absurd d
-next_declared p block pos (form.Accept cs other) o old new y d h = absurd d
-next_declared p block pos (form.Print items) o old new y d h = absurd d
-next_declared p block pos (form.PrintTogether items) o old new y d h = absurd d
-next_declared p block pos (form.Read places) o old new y d h = absurd d
-next_declared p block pos form.Resume o old new y d h = absurd d
-next_declared p block pos form.Suspend o old new y d h = absurd d
-next_declared p block pos form.Yield o old new y d h = absurd d
-next_declared p block pos (form.Migrate cluster) o old new y d h = absurd d
+next_declared p block pos (form.Declare base ds) o old new d h =
+    next_objects p block (Declare pos base ds.items) pos base ds.items (making_of p o.made) old new refl d.0 (
+    subst (λ (xs : List Declarator). Lays (OPS_FOR_SIZE * declarators_size xs) 0 (declarators_cells (declared_cells p base) xs) (length xs) 0 block (objects_scoped p (making_of p o.made) pos.line base xs (scope_of old)) (with_all p (scope_of old) base xs) old new) (sym d.1.1) (
+    subst (λ (b : Base). Lays (OPS_FOR_SIZE * declarators_size o.declarators.now) 0 (declarators_cells (declared_cells p b) o.declarators.now) (length o.declarators.now) 0 block (objects_scoped p (making_of p o.made) pos.line b o.declarators.now (scope_of old)) (with_all p (scope_of old) b o.declarators.now) old new) (sym d.1.0) h))
+next_declared p block pos (form.Block body) o old new d h = absurd d
+next_declared p block pos form.Empty o old new d h = absurd d
+next_declared p block pos (form.Evaluate value) o old new d h = absurd d
+next_declared p block pos (form.If test chosen other) o old new d h = absurd d
+next_declared p block pos (form.While test body) o old new d h = absurd d
+next_declared p block pos (form.Do body test) o old new d h = absurd d
+next_declared p block pos (form.For start test step body) o old new d h = absurd d
+next_declared p block pos form.Break o old new d h = absurd d
+next_declared p block pos form.Continue o old new d h = absurd d
+next_declared p block pos (form.Return value) o old new d h = absurd d
+next_declared p block pos (form.Try brace body hs) o old new d h = absurd d
+next_declared p block pos (form.Throw raised) o old new d h = absurd d
+next_declared p block pos (form.Raise raised) o old new d h = absurd d
+next_declared p block pos (form.RaiseAt raised target) o old new d h = absurd d
+next_declared p block pos (form.Enable events body) o old new d h = absurd d
+next_declared p block pos (form.Disable events body) o old new d h = absurd d
+next_declared p block pos (form.Accept cs other) o old new d h = absurd d
+next_declared p block pos (form.Print items) o old new d h = absurd d
+next_declared p block pos (form.PrintTogether items) o old new d h = absurd d
+next_declared p block pos (form.Read places) o old new d h = absurd d
+next_declared p block pos form.Resume o old new d h = absurd d
+next_declared p block pos form.Suspend o old new d h = absurd d
+next_declared p block pos form.Yield o old new d h = absurd d
+next_declared p block pos (form.Migrate cluster) o old new d h = absurd d
 
-pub arm_next_objects : (p : Program) (block : ℕ) (pos : Pos) (f : StmtForm) (t : Stmt) (o : Objects) (old new : Draft) → is_built_stmt t ≡ true → stmt_at pos f ≡ t → DeclaresObjects p (stmt_at pos f) (Some o)
-    → Lays (OPS_FOR_SIZE * declarators_size o.declarators.now) 0 (declarators_cells (declared_cells p o.base.now) o.declarators.now) (length o.declarators.now) 0 block (objects_scoped p (making_by o.class (is_mutex_at p o.class)) pos.line o.base.now o.declarators.now (scope_of old)) (with_all p (scope_of old) o.base.now o.declarators.now) old new
+pub arm_next_objects : (p : Program) (block : ℕ) (pos : Pos) (f : StmtForm) (t : Stmt) (o : Objects) (old new : Draft) → stmt_at pos f ≡ t → DeclaresObjects p (stmt_at pos f) (Some o)
+    → Lays (OPS_FOR_SIZE * declarators_size o.declarators.now) 0 (declarators_cells (declared_cells p o.base.now) o.declarators.now) (length o.declarators.now) 0 block (objects_scoped p (making_of p o.made) pos.line o.base.now o.declarators.now (scope_of old)) (with_all p (scope_of old) o.base.now o.declarators.now) old new
     → LaysStmt p block t old new
-arm_next_objects p block pos f t o old new y e d h = subst (λ (u : Stmt). LaysStmt p block u old new) e (next_declared p block pos f o old new (ap is_built_stmt e ∙ y) d h)
+arm_next_objects p block pos f t o old new e d h = subst (λ (u : Stmt). LaysStmt p block u old new) e (next_declared p block pos f o old new d h)
 
 -- what such a declaration takes
 pub record DeclaredFits (p : Program) (t : Stmt) (o : Objects) : Type 0 where
-  pub class : class_made (making p o.base.now) ≡ Some o.class
+  pub made : making p o.base.now ≡ Some (making_of p o.made)
   pub size : declarators_size o.declarators.now ≤ stmt_size t
   pub cells : declarators_cells (declared_cells p o.base.now) o.declarators.now ≤ stmt_cells t (declared_cells p)
 
 declared_fits : (p : Program) (pos : Pos) (f : StmtForm) (o : Objects) → DeclaresObjects p (stmt_at pos f) (Some o) → DeclaredFits p (stmt_at pos f) o
 declared_fits p pos (form.Declare base ds) o d =
     subst (λ (xs : List Declarator). DeclaredFits p (Declare pos base xs) o) (sym d.1.1) (
-    subst (λ (b : Base). DeclaredFits p (Declare pos b o.declarators.now) o) (sym d.1.0) (record { class = ap (λ (b : Base). class_made (making p b)) (sym d.1.0) ∙ d.0; size = omega arith; cells = omega arith }))
+    subst (λ (b : Base). DeclaredFits p (Declare pos b o.declarators.now) o) (sym d.1.0) (record { made = ap (making p) (sym d.1.0) ∙ d.0; size = omega arith; cells = omega arith }))
 declared_fits p pos (form.Block body) o d = absurd d
 declared_fits p pos form.Empty o d = absurd d
 declared_fits p pos (form.Evaluate value) o d = absurd d

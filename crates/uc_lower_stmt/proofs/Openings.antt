@@ -5,6 +5,7 @@ use Rattle.std.proofs.lemmas.List.{take_more}
 use Rattle.uc_tree.specs.declared.limits.TheConstants.{OPS_FOR_SIZE}
 use Rattle.uc_tree.specs.declared.kinds.Base.{Base}
 use Rattle.uc_tree.specs.declared.kinds.Role.{Role}
+use Rattle.uc_tree.specs.declared.kinds.Role.TheVariants as role
 use Rattle.uc_tree.specs.Expressions as tree
 use Rattle.uc_tree.specs.Expressions.{exprs_of}
 use Rattle.uc_tree.specs.ExpressionSizes.{exprs_size}
@@ -36,11 +37,13 @@ use Rattle.uc_code.specs.Lowered.{StmtAt}
 use Rattle.uc_code.proofs.Stable.{kept_then, kept_piece, one_stable}
 use Rattle.uc_lower_expr.specs.DraftGrowth.{Adds, OpCode}
 use Rattle.uc_lower_expr.specs.Contexts.{context_in}
-use Rattle.uc_lower_expr.specs.Members.{routine_by, routine_for}
+use Rattle.uc_lower_expr.specs.declared.making.Made.{Made}
+use Rattle.uc_lower_expr.specs.declared.making.Made.TheVariants as made
+use Rattle.uc_lower_expr.specs.Members.{made_routine, routine_by}
 use Rattle.uc_lower_stmt.specs.Blocks.{AllStandBehind, started_args}
 use Rattle.uc_lower_expr.proofs.Walks.{some_size}
 use Rattle.uc_lower_stmt.specs.Marked.{calls_in, close_room, counted_by}
-use Rattle.uc_lower_stmt.specs.Objects.{build_room, call_by}
+use Rattle.uc_lower_stmt.specs.Objects.{build_room, call_by, destroyer_of, ended_by}
 use Rattle.uc_lower_stmt.specs.OpenScopes.{Does, Opens, NoCall, Begins, Done, Opened, Lays}
 use Rattle.uc_lower_stmt.specs.LowersStatement.{scope_of}
 use Rattle.uc_lower_stmt.proofs.Kept.{stmt_stable}
@@ -52,17 +55,22 @@ behind_by : (p : Program) (i n : ℕ) (wanted : Role) (w : Option ℕ) → n < l
 behind_by p i n wanted None l e = omega arith
 behind_by p i n wanted (Some r) l e = absurd (cc)
 
-pub all_behind : (p : Program) (i : ℕ) (ms : List Mark) → routine_in ms < length (routines_of p) → AllStandBehind p i ms
-all_behind p i ms l = record { each = λ wanted e. behind_by p i (routine_in ms) wanted (written_at p i wanted) l e }
+made_behind : (p : Program) (n : ℕ) (wanted : Role) (m : Made) → n < length (routines_of p) → (made_routine p wanted m).written ≡ false → n < (made_routine p wanted m).number
+made_behind p n wanted (made.Object i) l e = behind_by p i n wanted (written_at p i wanted) l e
+made_behind p n wanted made.Cluster l e = absurd (cc)
+made_behind p n wanted made.Processor l e = absurd (cc)
 
-pub behind_of : (p : Program) (i : ℕ) (wanted : Role) (m : Manner) (spot : Spot) (array : Option Array) (ms ns : List Mark) → AllStandBehind p i ms → ns ≡ ms → StandsBehind ns (call_by (routine_for p i wanted) m spot array)
-behind_of p i wanted m spot array ms ns b e = record { behind = λ f. subst (λ (l : List Mark). routine_in l < (routine_for p i wanted).number) (sym e) (b.each wanted f) }
+pub all_behind : (p : Program) (m : Made) (ms : List Mark) → routine_in ms < length (routines_of p) → AllStandBehind p m ms
+all_behind p m ms l = record { each = λ wanted e. made_behind p (routine_in ms) wanted m l e }
 
-pub behind_call : (p : Program) (i : ℕ) (wanted : Role) (m : Manner) (spot : Spot) (array : Option Array) (what : Cleaning) (ms ns : List Mark) → what ≡ cleaning.Call (call_by (routine_for p i wanted) m spot array) → AllStandBehind p i ms → ns ≡ ms → CleansBehind ns what
-behind_call p i wanted m spot array what ms ns w b e = subst (λ (x : Cleaning). CleansBehind ns x) (sym w) (behind_of p i wanted m spot array ms ns b e)
+pub behind_of : (p : Program) (m : Made) (wanted : Role) (how : Manner) (spot : Spot) (array : Option Array) (ms ns : List Mark) → AllStandBehind p m ms → ns ≡ ms → StandsBehind ns (call_by (made_routine p wanted m) how spot array)
+behind_of p m wanted how spot array ms ns b e = record { behind = λ f. subst (λ (l : List Mark). routine_in l < (made_routine p wanted m).number) (sym e) (b.each wanted f) }
 
-pub behind_next : (p : Program) (i : ℕ) (ms ns : List Mark) → AllStandBehind p i ms → routine_in ns ≡ routine_in ms → AllStandBehind p i ns
-behind_next p i ms ns b e = record { each = λ wanted f. let l = b.each wanted f in omega (arith, e) }
+pub behind_call : (p : Program) (m : Made) (spot : Spot) (array : Option Array) (what : Cleaning) (ms ns : List Mark) → what ≡ cleaning.Call (destroyer_of p m spot array) → AllStandBehind p m ms → ns ≡ ms → CleansBehind ns what
+behind_call p m spot array what ms ns w b e = subst (λ (x : Cleaning). CleansBehind ns x) (sym w) (behind_of p m role.Destructor (ended_by p m) spot array ms ns b e)
+
+pub behind_next : (p : Program) (m : Made) (ms ns : List Mark) → AllStandBehind p m ms → routine_in ns ≡ routine_in ms → AllStandBehind p m ns
+behind_next p m ms ns b e = record { each = λ wanted f. let l = b.each wanted f in omega (arith, e) }
 
 -- arguments
 

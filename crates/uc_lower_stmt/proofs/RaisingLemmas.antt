@@ -1,16 +1,16 @@
 -- The code of statements that raise events, as it is added to a draft.
-use Rattle.std.proofs.Common.{◌≡◌, ℕ, ◌+◌, ◌*◌, List, Option, Some, None, length, refl, ap, sym, subst, ◌∙◌, arith}
+use Rattle.std.proofs.Common.{◌≡◌, ℕ, ◌+◌, ◌-◌, ◌*◌, List, Option, Some, None, length, refl, ap, sym, subst, ◌∙◌, arith}
 use Rattle.uc_tree.specs.declared.limits.TheConstants.{OPS_FOR_SIZE}
-use Rattle.uc_tree.specs.ExpressionSizes.{exprs_size}
+use Rattle.uc_tree.specs.ExpressionSizes.{expr_size, exprs_size}
 use Rattle.uc_tree.specs.Expressions as tree
 use Rattle.uc_tree.specs.Hidden.{EVENT_FIELDS, raised_cells}
 use Rattle.uc_tree.specs.Programs.{Program}
 use Rattle.uc_tree.specs.declared.kinds.Param.{Param}
-use Rattle.uc_resolve.specs.Resolve.{Meant, Scope, args_by, args_meant, built_event, context_at, event_constructor, number_of_event, params_of, raised_meant}
+use Rattle.uc_resolve.specs.Resolve.{Context, Meant, Scope, args_by, args_meant, built_event, context_at, event_constructor, meant, number_of_event, params_of, raised_meant}
 use Rattle.uc_tree.specs.Source as source
 use Rattle.uc_tree.specs.Source.{BuiltAt, CallOn, Exprs, OfObject, Plainly, AgainFrom, Variable}
 use Rattle.uc_tree.specs.declared.pos.Pos.{Pos}
-use Rattle.uc_tree.specs.Statements.{Raise, Raised, Stmt, Throw}
+use Rattle.uc_tree.specs.Statements.{Raise, RaiseAt, Raised, Stmt, Throw}
 use Rattle.uc_code.specs.declared.op.Op.TheVariants as op
 use Rattle.uc_code.specs.declared.rows.Mark.{Mark}
 use Rattle.uc_code.specs.Drafts.{Draft}
@@ -20,15 +20,15 @@ use Rattle.uc_code.specs.Emits.{Puts}
 use Rattle.uc_code.specs.CodeShapes.{Both, Kept, One, Risk}
 use Rattle.uc_code.proofs.Putting.{puts_both, puts_more}
 use Rattle.uc_code.proofs.Stable.{one_stable}
-use Rattle.uc_lower_expr.specs.DraftGrowth.{Adds, ArgumentsCode, OpCode, RiskCode}
+use Rattle.uc_lower_expr.specs.DraftGrowth.{Adds, ArgumentsCode, ExprCode, OpCode, RiskCode}
 use Rattle.uc_lower_expr.specs.Contexts.{context_in}
 use Rattle.uc_lower_expr.proofs.Adding.{adds_both}
 use Rattle.uc_lower_expr.proofs.Settled.{args_stable, expr_stable}
-use Rattle.uc_lower_stmt.specs.Raising.{LowersRaise, LowersRaised, hidden_past}
+use Rattle.uc_lower_stmt.specs.Raising.{LowersRaise, LowersRaiseAt, LowersRaised, hidden_past}
 use Rattle.uc_lower_stmt.specs.LowersStatement.{Lowers, LowersStmt, scope_of}
 use Rattle.uc_lower_stmt.proofs.Counted.{counted, counted_as}
 use Rattle.uc_lower_stmt.proofs.Stating.{as_stmt}
-use Rattle.uc_lower_stmt.proofs.Joined.{lowers_as, lowers_join, lowers_puts, puts_adds}
+use Rattle.uc_lower_stmt.proofs.Joined.{lowers_adds, lowers_as, lowers_join, lowers_puts, puts_adds}
 use Rattle.uc_lower_stmt.proofs.Kept.{raised_stable}
 
 -- an event whose constructor is written
@@ -116,6 +116,20 @@ arm_raise p line r d0 d1 d2 h w =
     let here : Puts 2 (λ code. Both (Risk code d0.marks op.Raise line) (One code op.Discard line)) d1 d2 = subst (λ (ms : List Mark). Puts 2 (λ code. Both (Risk code ms op.Raise line) (One code op.Discard line)) d1 d2) (ap (λ (d : Draft). d.marks) h.rest) w in
     lowers_as (lowers_join (raised_stable line d0.marks (raised_meant p (scope_of d0) r)) h (lowers_puts 0 0 here)) h.scope (λ code a z x. x) (omega arith) (omega arith) (omega arith) refl
 
+-- behind the event stands its target
+pub arm_raise_at : (p : Program) (line : ℕ) (r : Raised) (e : tree.Expr) (d0 d1 d2 d3 : Draft) → LowersRaised p line (Some r) d0 d1 → Adds (OPS_FOR_SIZE * expr_size e - 2) (ExprCode line d1.marks (meant (context_in p d1) e).expr) d1 d2 → Adds 1 (OpCode line op.RaiseAt) d2 d3 → LowersRaiseAt p line r e d0 d3
+arm_raise_at p line r e d0 d1 d2 d3 h a b =
+    let s : Scope = scope_of d0 in
+    let marks : d1.marks ≡ d0.marks = ap (λ (d : Draft). d.marks) h.rest in
+    let same : context_in p d1 ≡ context_at p s = ap (λ (t : Scope). context_at p t) h.scope in
+    let target : source.Expr = (meant (context_at p s) e).expr in
+    let a1 : Adds (OPS_FOR_SIZE * expr_size e - 2) (ExprCode line d0.marks target) d1 d2 =
+    subst (λ (c : Context). Adds (OPS_FOR_SIZE * expr_size e - 2) (ExprCode line d0.marks (meant c e).expr) d1 d2) same (
+    subst (λ (ms : List Mark). Adds (OPS_FOR_SIZE * expr_size e - 2) (ExprCode line ms (meant (context_in p d1) e).expr) d1 d2) marks a) in
+    let all = lowers_join (raised_stable line d0.marks (raised_meant p s (Some r))) h (lowers_adds 0 0 (adds_both (expr_stable line d0.marks target) a1 b)) in
+    let scope : scope_of d3 ≡ hidden_past s EVENT_FIELDS = ap scope_of b.rest ∙ ap scope_of a.rest ∙ h.scope in
+    lowers_as all (sym all.scope ∙ scope) (λ code x z w. w) (omega arith) (omega arith) (omega arith) refl
+
 raise_counted : (s : Scope) (n : ℕ) → hidden_past s n ≡ counted s s.names (s.cells + 0) (s.hidden + n) (s.texts + 0) (s.sites + 0)
 raise_counted s n =
     let c : s.cells ≡ s.cells + 0 = omega arith in
@@ -128,3 +142,6 @@ arm_thrown p s place r old new e h = as_stmt p s (Throw place r) old new e (lowe
 
 pub arm_resumed : (p : Program) (s : Stmt) (place : Pos) (r : Option Raised) (old new : Draft) → Raise place r ≡ s → LowersRaise p (source.Raise place.line (raised_meant p (scope_of old) r)) r old new → LowersStmt p s old new
 arm_resumed p s place r old new e h = as_stmt p s (Raise place r) old new e (lowers_as h (raise_counted (scope_of old) (raised_cells r)) (λ code a z x. x) (omega arith) (omega arith) (omega arith) (omega arith))
+
+pub arm_raised_at : (p : Program) (s : Stmt) (place : Pos) (r : Raised) (e : tree.Expr) (old new : Draft) → RaiseAt place r e ≡ s → LowersRaiseAt p place.line r e old new → LowersStmt p s old new
+arm_raised_at p s place r e old new h a = as_stmt p s (RaiseAt place r e) old new h (lowers_as a (raise_counted (scope_of old) EVENT_FIELDS) (λ code x z w. w) (omega arith) (omega arith) (omega arith) (omega arith))

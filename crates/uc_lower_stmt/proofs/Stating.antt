@@ -1,6 +1,5 @@
 -- One lemma for each form of statement that lowering writes.
-use Rattle.std.proofs.Common.{◌≡◌, ℕ, zero, suc, ◌+◌, ◌*◌, ◌-◌, ◌≤◌, ◌<◌, true, false, true≢false, Option, Some, None, Bor, List, [], ◌∷◌, ◌++◌, length, length-append, take, get_or, refl, ap, sym, subst, ◌∙◌, arith}
-use Rattle.std.proofs.lemmas.Bool.{and_parts}
+use Rattle.std.proofs.Common.{◌≡◌, ℕ, zero, suc, ◌+◌, ◌*◌, ◌-◌, ◌≤◌, ◌<◌, Option, Some, None, Bor, List, [], ◌∷◌, ◌++◌, length, length-append, take, get_or, refl, ap, sym, subst, ◌∙◌, arith}
 use Rattle.uc_tree.specs.declared.limits.TheConstants.{OPS_FOR_SIZE}
 use Rattle.uc_tree.specs.declared.pos.Pos.{Pos}
 use Rattle.uc_tree.specs.declared.kinds.Base.{Base}
@@ -8,7 +7,7 @@ use Rattle.uc_tree.specs.declared.stmt.StmtForm.{StmtForm}
 use Rattle.uc_tree.specs.Expressions as tree
 use Rattle.uc_tree.specs.Expressions.{exprs_of}
 use Rattle.uc_tree.specs.ExpressionSizes.{expr_size, exprs_size}
-use Rattle.uc_tree.specs.Statements.{Declarator, OutItem, ForStart, NoFor, ForDeclare, ForEvaluate, Stmt, Block, Empty, Evaluate, Declare, If, While, Do, For, Break, Continue, Return, Print, PrintTogether, Read, Stmts, MaybeStmt, NoStmt, OneStmt, stmts_of}
+use Rattle.uc_tree.specs.Statements.{Declarator, OutItem, ForStart, NoFor, ForDeclare, ForEvaluate, Stmt, Block, Empty, Evaluate, Declare, If, While, Do, For, Break, Continue, Return, Print, PrintTogether, Read, Migrate, Stmts, MaybeStmt, NoStmt, OneStmt, stmts_of}
 use Rattle.uc_tree.specs.StatementForms.{stmt_at}
 use Rattle.uc_tree.specs.StatementSizes.{out_items_size, maybe_expr_size, stmt_size, stmts_size}
 use Rattle.uc_tree.specs.Cells.{declared_cells, declarators_cells, stmt_cells}
@@ -19,7 +18,6 @@ use Rattle.uc_tree.specs.Programs.{Program}
 use Rattle.uc_tree.specs.Source.{Shape, Expr}
 use Rattle.uc_tree.specs.Objects.{shape_of}
 use Rattle.uc_resolve.specs.Resolve.{Scope, meant, value_of, converted, result_of, targets_meant, scope_past, scope_after}
-use Rattle.uc_built.specs.BuiltForms.{is_built_stmt, are_built}
 use Rattle.uc_code.specs.declared.op.Op.TheVariants as op
 use Rattle.uc_code.specs.declared.rows.Cleaning.TheVariants as cleaning
 use Rattle.uc_code.specs.declared.rows.Mark.{Mark}
@@ -59,13 +57,14 @@ as_stmt p s t old new e h = subst (λ (x : Stmt). LowersStmt p x old new) e h
 pub arm_empty : (p : Program) (s : Stmt) (place : Pos) (old : Draft) → Empty place ≡ s → LowersStmt p s old old
 arm_empty p s place old e = as_stmt p s (Empty place) old old e (lowers_as (lowers_nothing old) (nothing_counted (scope_of old)) (λ code a z w. w) (omega arith) (omega arith) (omega arith) (omega arith))
 
--- no other statement is asked for yet
-pub arm_unasked : (p : Program) (s t : Stmt) (old : Draft) → t ≡ s → is_built_stmt s ≡ true → is_built_stmt t ≡ false → LowersStmt p s old old
-arm_unasked p s t old e y n = absurd (true≢false (sym y ∙ ap is_built_stmt (sym e) ∙ n))
-
 pub arm_evaluate : (p : Program) (s : Stmt) (place : Pos) (e : tree.Expr) (old mid new : Draft) → Evaluate place e ≡ s → Adds (OPS_FOR_SIZE * expr_size e - 2) (ExprCode place.line old.marks (meant (context_in p old) e).expr) old mid → Adds 1 (OpCode place.line op.Discard) mid new → LowersStmt p s old new
 arm_evaluate p s place e old mid new h a b =
     as_stmt p s (Evaluate place e) old new h (
+    lowers_as (lowers_adds 0 0 (adds_both (expr_stable place.line old.marks (meant (context_in p old) e).expr) a b)) (nothing_counted (scope_of old)) (λ code x z w. w) (omega arith) (omega arith) (omega arith) (omega arith))
+
+pub arm_migrate : (p : Program) (s : Stmt) (place : Pos) (e : tree.Expr) (old mid new : Draft) → Migrate place e ≡ s → Adds (OPS_FOR_SIZE * expr_size e - 2) (ExprCode place.line old.marks (meant (context_in p old) e).expr) old mid → Adds 1 (OpCode place.line op.Migrate) mid new → LowersStmt p s old new
+arm_migrate p s place e old mid new h a b =
+    as_stmt p s (Migrate place e) old new h (
     lowers_as (lowers_adds 0 0 (adds_both (expr_stable place.line old.marks (meant (context_in p old) e).expr) a b)) (nothing_counted (scope_of old)) (λ code x z w. w) (omega arith) (omega arith) (omega arith) (omega arith))
 
 pub arm_declare : (p : Program) (s : Stmt) (place : Pos) (b : Base) (xs ys : List Declarator) (old new : Draft) → Declare place b ys ≡ s → xs ≡ ys → LowersDeclaration p place.line b xs old new → LowersStmt p s old new
@@ -217,11 +216,6 @@ pub arm_ended : (p : Program) (line : ℕ) (value : Option tree.Expr) (d0 d1 : D
 arm_ended p line value d0 d1 is a = subst (λ (o : Option tree.Expr). Puts (exit_room d0.marks) (ReturnCode p line d0.marks (scope_of d0) o) d0 d1) (sym is) a
 
 -- lists of statements
-
-pub built_at : (xs : List Stmt) (i : ℕ) (x : Stmt) → are_built (stmts_of xs) ≡ true → i < length xs → x ≡ get_or xs i x → is_built_stmt x ≡ true
-built_at [] i x s h e = absurd (omega arith)
-built_at (y ∷ ys) zero x s h e = ap is_built_stmt e ∙ (and_parts _ _ s).0
-built_at (y ∷ ys) (suc i) x s h e = built_at ys i x (and_parts _ _ s).1 (omega arith) e
 
 pub sizes_at_item : (xs : List Stmt) (i : ℕ) (x : Stmt) → i < length xs → x ≡ get_or xs i x → stmt_size x ≤ stmts_size (stmts_of xs)
 sizes_at_item [] i x h e = absurd (omega arith)

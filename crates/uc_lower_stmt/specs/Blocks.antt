@@ -13,15 +13,15 @@ use Rattle.uc_code.specs.Drafts.{Draft}
 use Rattle.uc_code.specs.Layout.{laid_in, routine_in}
 use Rattle.uc_code.specs.CodeShapes.{Kept}
 use Rattle.uc_code.specs.Lowered.{StmtsAt}
-use Rattle.uc_lower_expr.specs.Members.{routine_for}
+use Rattle.uc_lower_expr.specs.declared.making.Made.{Made}
+use Rattle.uc_lower_expr.specs.Members.{made_routine}
 use Rattle.uc_lower_stmt.specs.declared.block.ObjectScope.{ObjectScope}
 use Rattle.uc_lower_stmt.specs.Marked.{taken}
 use Rattle.uc_lower_stmt.specs.OpenScopes.{Step, NoParts, Pending, block_of}
 
--- what builds and destroys the objects of the class with the place i, and nobody wrote, stands further on than the routine of these
--- marks
-pub record AllStandBehind (p : Program) (i : ℕ) (ms : List Mark) : Type 0 where
-  pub each : (wanted : Role) → (routine_for p i wanted).written ≡ false → routine_in ms < (routine_for p i wanted).number
+-- what builds and destroys what is made, and nobody wrote, stands further on than the routine of these marks
+pub record AllStandBehind (p : Program) (m : Made) (ms : List Mark) : Type 0 where
+  pub each : (wanted : Role) → (made_routine p wanted m).written ≡ false → routine_in ms < (made_routine p wanted m).number
 
 -- these statements are a block of this line, under the marks of a draft, and nothing stands behind it
 pub record BlockStands (line : ℕ) (ms : List Mark) (ss : Stmts) (a : ℕ) (d : Draft) : Type 0 where

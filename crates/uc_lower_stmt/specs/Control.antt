@@ -7,7 +7,7 @@ use Rattle.uc_tree.specs.ExpressionSizes.{expr_size}
 use Rattle.uc_tree.specs.Statements.{Declarator, ForStart, Stmt, Declare, MaybeStmt, NoStmt, OneStmt}
 use Rattle.uc_tree.specs.StatementSizes.{declarators_size, for_start_size, maybe_expr_size, maybe_stmt_size, stmt_size}
 use Rattle.uc_tree.specs.Exits.{declares, exits_maybe, for_declares}
-use Rattle.uc_tree.specs.Objects.{class_made, making}
+use Rattle.uc_tree.specs.Objects.{making}
 use Rattle.uc_tree.specs.Sizes.{size_at}
 use Rattle.uc_tree.specs.Scopes.{alone_scopes, stmt_scopes, maybe_scopes}
 use Rattle.uc_tree.specs.Cells.{declared_cells, declarators_cells, for_cells, stmt_cells, maybe_cells}
@@ -21,6 +21,7 @@ use Rattle.uc_code.specs.Drafts.{Draft, patched}
 use Rattle.uc_code.specs.Layout.{Laid}
 use Rattle.uc_code.specs.CodeShapes.{One, Both, begin_at, BackAt}
 use Rattle.uc_code.specs.Lowered.{ExprAt, StepAt, StmtAt}
+use Rattle.uc_lower_expr.specs.Meanings.{making_of}
 use Rattle.uc_lower_stmt.specs.declared.stmt.Objects.{Objects}
 use Rattle.uc_lower_stmt.specs.declared.turning.Turning.{Turning}
 use Rattle.uc_lower_stmt.specs.declared.turning.Turning.TheVariants as turning
@@ -102,8 +103,8 @@ LowersLoop p line t step body old new =
 -- a declaration of objects
 
 abbrev pub DeclaresObjects : Program → Stmt → Option Objects → Type 0
-DeclaresObjects p (Declare place b ds) None = class_made (making p b) ≡ None
-DeclaresObjects p (Declare place b ds) (Some o) = (class_made (making p b) ≡ Some o.class) × ((b ≡ o.base.now) × (ds ≡ o.declarators.now))
+DeclaresObjects p (Declare place b ds) None = making p b ≡ None
+DeclaresObjects p (Declare place b ds) (Some o) = (making p b ≡ Some (making_of p o.made)) × ((b ≡ o.base.now) × (ds ≡ o.declarators.now))
 DeclaresObjects p s None = Unit {0}
 DeclaresObjects p s (Some o) = ⊥
 

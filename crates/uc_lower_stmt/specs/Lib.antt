@@ -1,5 +1,7 @@
+pub mod Accepting
 pub mod Blocks
 pub mod Control
+pub mod Enabling
 pub mod Guarding
 pub mod Handling
 pub mod Listed

@@ -1,5 +1,6 @@
 -- The code that builds objects and ends their scopes.
 use Rattle.std.specs.Prelude.{◌≡◌, ℕ, ◌+◌, ◌≤◌, List, [], ◌∷◌, Bool, true, false, Option, Some, None, length}
+use Rattle.uc_tree.specs.declared.kinds.Role.TheVariants as role
 use Rattle.uc_tree.specs.Programs.{Program}
 use Rattle.uc_tree.specs.Cells.{class_cells}
 use Rattle.uc_tree.specs.Objects.{number_at}
@@ -11,6 +12,7 @@ use Rattle.uc_code.specs.declared.rows.Manner.TheVariants as manner
 use Rattle.uc_code.specs.declared.rows.Mark.{Mark}
 use Rattle.uc_code.specs.declared.rows.Mark.TheVariants as mark
 use Rattle.uc_code.specs.declared.rows.ObjectCall.{ObjectCall}
+use Rattle.uc_code.specs.declared.rows.Resource.TheVariants as resource
 use Rattle.uc_code.specs.declared.rows.Cleaning.{Cleaning}
 use Rattle.uc_code.specs.declared.rows.Cleaning.TheVariants as cleaning
 use Rattle.uc_code.specs.declared.rows.Spot.{Spot}
@@ -20,28 +22,56 @@ use Rattle.uc_code.specs.OpenRows.{CleansBehind, clean_room}
 use Rattle.uc_code.specs.Emits.{clean_length}
 use Rattle.uc_code.specs.CodeShapes.{OpAt, Nothing, One, Both, Risk, HandlerAt, clean_up, OverElements, Kept}
 use Rattle.uc_code.specs.Lowered.{CallBuilt, CallDone, CleanAt, PadAt}
+use Rattle.uc_lower_expr.specs.declared.making.Made.{Made}
+use Rattle.uc_lower_expr.specs.declared.making.Made.TheVariants as made
 use Rattle.uc_lower_expr.specs.declared.numbering.ClassRoutine.{ClassRoutine}
+use Rattle.uc_lower_expr.specs.Meanings.{is_mutex_at}
+use Rattle.uc_lower_expr.specs.Members.{made_routine}
 
 abbrev pub call_by : ClassRoutine → Manner → Spot → Option Array → ObjectCall
 call_by r m spot array = record { spot = spot; array = array; routine = r.number; written = r.written; manner = m }
 
--- how an object of the class with the place i is built, and destroyed
-abbrev pub built_by : Program → ℕ → Bool → Manner
-built_by p i true = manner.Makes (number_at p i)
-built_by p i false = manner.Plain
+-- how an object of the class with the place i is built, and destroyed, by whether it is a mutex object
+abbrev pub object_built : Program → ℕ → Bool → Manner
+object_built p i true = manner.Makes (number_at p i)
+object_built p i false = manner.Plain
 
-abbrev pub ended_by : Bool → Manner
-ended_by true = manner.Ends
-ended_by false = manner.Plain
+abbrev pub object_ended : Bool → Manner
+object_ended true = manner.Ends
+object_ended false = manner.Plain
 
--- an array of so many objects of the class with the place i; a mutex object is there by its number
-abbrev pub element_cells : Program → ℕ → Bool → ℕ
-element_cells p i true = 1
-element_cells p i false = class_cells p i
+-- how what is made is
+abbrev pub built_by : Program → Made → Manner
+built_by p (made.Object i) = object_built p i (is_mutex_at p i)
+built_by p made.Cluster = manner.Opens resource.Cluster
+built_by p made.Processor = manner.Opens resource.Processor
 
-abbrev pub array_by : Program → ℕ → Bool → Option ℕ → Option Array
-array_by p i mutex None = None
-array_by p i mutex (Some n) = Some (record { length = n; size = element_cells p i mutex })
+abbrev pub ended_by : Program → Made → Manner
+ended_by p (made.Object i) = object_ended (is_mutex_at p i)
+ended_by p made.Cluster = manner.Closes resource.Cluster
+ended_by p made.Processor = manner.Closes resource.Processor
+
+-- the cells of an element of an array; what is no plain object is there by its number
+abbrev pub object_cells : Program → ℕ → Bool → ℕ
+object_cells p i true = 1
+object_cells p i false = class_cells p i
+
+abbrev pub element_cells : Program → Made → ℕ
+element_cells p (made.Object i) = object_cells p i (is_mutex_at p i)
+element_cells p made.Cluster = 1
+element_cells p made.Processor = 1
+
+-- an array of so many
+abbrev pub array_by : Program → Made → Option ℕ → Option Array
+array_by p m None = None
+array_by p m (Some n) = Some (record { length = n; size = element_cells p m })
+
+-- the calls that build and destroy it, which begins in a spot, or each element of an array
+abbrev pub builder_of : Program → Made → Spot → Option Array → ObjectCall
+builder_of p m spot array = call_by (made_routine p role.Constructor m) (built_by p m) spot array
+
+abbrev pub destroyer_of : Program → Made → Spot → Option Array → ObjectCall
+destroyer_of p m spot array = call_by (made_routine p role.Destructor m) (ended_by p m) spot array
 
 -- the turns that build an array: at most so many ops; what builds an object, arguments apart, or an array
 abbrev pub fill_room : ℕ

@@ -1,14 +1,15 @@
 // The scopes of objects in a block: each is opened where the object is declared, and all are ended behind the block, the last one
 // first.
 
-ghost use Rattle.std.specs.Prelude.{◌≡◌, ◌+◌, ◌*◌, ◌≤◌, ◌<◌, length, reverse, OnOk};
+ghost use Rattle.std.specs.Prelude.{◌≡◌, ◌+◌, ◌*◌, ◌≤◌, length, reverse, OnOk};
 ghost use Rattle.uc_tree.specs.declared.limits.TheConstants.{FRAME_CELLS, OPS_FOR_SIZE, PROGRAM_OPS};
-ghost use Rattle.uc_tree.specs.Cells.{classes_of, declared_cells, declarators_cells};
+ghost use Rattle.uc_tree.specs.Cells.{declared_cells, declarators_cells};
 ghost use Rattle.uc_tree.specs.ExpressionSizes.{exprs_size};
 ghost use Rattle.uc_tree.specs.StatementSizes.{declarator_size, declarators_size, start_size};
 ghost use Rattle.uc_tree.specs.Expressions.{exprs_of};
 ghost use Rattle.uc_resolve.specs.Resolve.{Context, args_meant, object_scoped, objects_scoped, with_all, with_declared};
-ghost use Rattle.uc_lower_expr.specs.Meanings.{is_mutex_at, making_by};
+ghost use Rattle.uc_lower_expr.specs.Meanings.{making_of};
+ghost use Rattle.uc_lower_expr.specs.Members.{HasClass};
 ghost use Rattle.uc_lower_stmt.specs.Blocks.{AllStandBehind, EndsScopes, innermost_in, scope_at, scope_by, started_args};
 ghost use Rattle.uc_lower_stmt.specs.Marked.{taken};
 ghost use Rattle.uc_lower_stmt.specs.OpenScopes.{Lays};
@@ -20,6 +21,7 @@ use std::alloc::{AllocError, Global};
 use uc_code::draft::Draft;
 use uc_code::op::Op;
 use uc_code::rows::{Cleaning, Mark, Opening, Spot};
+use uc_lower_expr::making::Made;
 use uc_lower_expr::program_names::ProgramNames;
 use uc_lower_expr::put::put;
 use uc_tree::declare::{Declarator, Start, StartForm};
@@ -38,23 +40,23 @@ fn args_of(start: &Start) -> &[Expr]
     }
 }
 
-// An object of the class with this place, or an array of them, is declared in this line, in a block of that line: its cells start at
-// 0, it is built, and from then on it is in scope.
+// An object, a cluster or a processor, or an array of them, is declared in this line, in a block of that line: its cells start at 0, it
+// is built, and from then on it is in scope.
 fn lower_object(
     alloc: Global,
     names: &ProgramNames,
-    class: usize,
+    made: Made,
     base: &Base,
     declarator: &Declarator,
     line: u32,
     block: u32,
     out: &mut Draft,
 ) -> Result<(), AllocError>
-    requires class { class < length (classes_of names.now.items) }
+    requires class { HasClass names.now made }
     requires room { taken out.old + OPS_FOR_SIZE * declarator_size declarator.now ≤ PROGRAM_OPS }
     requires cells { out.old.cells + declared_cells names.now base.now declarator.now ≤ FRAME_CELLS }
-    requires behind { AllStandBehind names.now class out.old.marks }
-    ensures { OnOk result (Lays (OPS_FOR_SIZE * declarator_size declarator.now) 0 (declared_cells names.now base.now declarator.now) 1 0 block (object_scoped names.now (making_by class (is_mutex_at names.now class)) line base.now declarator.now (scope_of out.old)) (with_declared names.now (scope_of out.old) base.now declarator.now) out.old out.new) }
+    requires behind { AllStandBehind names.now made out.old.marks }
+    ensures { OnOk result (Lays (OPS_FOR_SIZE * declarator_size declarator.now) 0 (declared_cells names.now base.now declarator.now) 1 0 block (object_scoped names.now (making_of names.now made) line base.now declarator.now (scope_of out.old)) (with_declared names.now (scope_of out.old) base.now declarator.now) out.old out.new) }
 {
     let cells = names.sizes().cells_of_variable(base, declarator) as u32;
     let cell = out.cells();
@@ -62,33 +64,33 @@ fn lower_object(
     let spot = Spot::Local(cell);
     let elements = length_of(names, declarator);
     let args = args_of(&declarator.start);
-    lower_build(class, spot, elements, args, line, names, out)?;
-    let what = clean_call(class, spot, elements, names);
+    lower_build(made, spot, elements, args, line, names, out)?;
+    let what = clean_call(made, spot, elements, names);
     let _row = out.open(Opening::Object { what, line: block })?;
     declare_variable(alloc, names, base, declarator, cells, out)?;
     Ok(())
 }
 
-/// Adds the code of a declaration of objects of the class with this place, in a block of that line; their scopes are open behind it.
+/// Adds the code of a declaration of objects, of clusters or of processors, in a block of that line; their scopes are open behind it.
 /// After want of memory the draft is spent.
 pub(crate) fn lower_objects(
     alloc: Global,
     names: &ProgramNames,
-    class: usize,
+    made: Made,
     base: &Base,
     declarators: &[Declarator],
     line: u32,
     block: u32,
     out: &mut Draft,
 ) -> Result<(), AllocError>
-    requires class { class < length (classes_of names.now.items) }
+    requires class { HasClass names.now made }
     requires room { taken out.old + OPS_FOR_SIZE * declarators_size declarators.now ≤ PROGRAM_OPS }
     requires cells { out.old.cells + declarators_cells (declared_cells names.now base.now) declarators.now ≤ FRAME_CELLS }
-    requires behind { AllStandBehind names.now class out.old.marks }
-    ensures { OnOk result (Lays (OPS_FOR_SIZE * declarators_size declarators.now) 0 (declarators_cells (declared_cells names.now base.now) declarators.now) (length declarators.now) 0 block (objects_scoped names.now (making_by class (is_mutex_at names.now class)) line base.now declarators.now (scope_of out.old)) (with_all names.now (scope_of out.old) base.now declarators.now) out.old out.new) }
+    requires behind { AllStandBehind names.now made out.old.marks }
+    ensures { OnOk result (Lays (OPS_FOR_SIZE * declarators_size declarators.now) 0 (declarators_cells (declared_cells names.now base.now) declarators.now) (length declarators.now) 0 block (objects_scoped names.now (making_of names.now made) line base.now declarators.now (scope_of out.old)) (with_all names.now (scope_of out.old) base.now declarators.now) out.old out.new) }
 {
     for declarator in declarators {
-        lower_object(alloc, names, class, base, declarator, line, block, out)?;
+        lower_object(alloc, names, made, base, declarator, line, block, out)?;
     }
     Ok(())
 }

@@ -11,7 +11,6 @@ ghost use Rattle.uc_resolve.specs.Resolve.{Scope, event_of_handler, scalar, take
 ghost use Rattle.uc_tree.specs.Scopes.{handler_scopes, handlers_scopes, stmts_scopes};
 ghost use Rattle.uc_tree.specs.Statements.{handlers_of, stmts_of};
 ghost use Rattle.uc_tree.specs.StatementSizes.{handler_size, handlers_size, stmts_size};
-ghost use Rattle.uc_built.specs.BuiltForms.{are_built, are_built_handlers, is_built_handler};
 ghost use Rattle.uc_code.specs.Layout.{laid_in, routine_in};
 ghost use Rattle.uc_code.specs.Lowered.{event_of, kind_of};
 ghost use Rattle.uc_code.specs.CodeShapes.{IsBare};
@@ -129,7 +128,6 @@ fn lower_body(
     pad: u32,
     out: &mut Draft,
 ) -> Result<(), AllocError>
-    requires built { are_built (stmts_of body.now) ≡ true }
     requires inside { routine_in out.old.marks < length (routines_of names.now) }
     requires entry { 0 < length out.old.ops }
     requires room { taken out.old + (2 + OPS_FOR_SIZE * sizes_at (stmts_of body.now) (objects_in out.old.marks)) ≤ PROGRAM_OPS }
@@ -166,7 +164,6 @@ fn lower_handler(
 ) -> Result<(), AllocError>
     requires bare { IsBare (laid_in out.old) row }
     requires entry { 0 < length out.old.ops }
-    requires built { is_built_handler handler.now ≡ true }
     requires inside { routine_in out.old.marks < length (routines_of names.now) }
     requires room { taken out.old + OPS_FOR_SIZE * (handler_size handler.now + exits_handler handler.now (objects_in out.old.marks)) ≤ PROGRAM_OPS }
     requires cells { out.old.cells + handler_cells handler.now (declared_cells names.now) ≤ FRAME_CELLS }
@@ -206,7 +203,6 @@ fn lower_handlers(
     requires bare { (k : ℕ) → k < length handlers.now → IsBare (laid_in out.old) (first + k) }
     requires rows { first + length handlers.now < 2 ^ 32 }
     requires entry { 0 < length out.old.ops }
-    requires built { are_built_handlers (handlers_of handlers.now) ≡ true }
     requires inside { routine_in out.old.marks < length (routines_of names.now) }
     requires room { taken out.old + OPS_FOR_SIZE * (handlers_size (handlers_of handlers.now) + exits_handlers (handlers_of handlers.now) (objects_in out.old.marks)) ≤ PROGRAM_OPS }
     requires cells { out.old.cells + handlers_cells (handlers_of handlers.now) (declared_cells names.now) ≤ FRAME_CELLS }
@@ -237,8 +233,6 @@ pub(crate) fn lower_try(
     line: u32,
     out: &mut Draft,
 ) -> Result<(), AllocError>
-    requires built { are_built (stmts_of body.now) ≡ true }
-    requires handlers { are_built_handlers (handlers_of handlers.now) ≡ true }
     requires inside { routine_in out.old.marks < length (routines_of names.now) }
     requires room { taken out.old + OPS_FOR_SIZE * (1 + sizes_at (stmts_of body.now) (objects_in out.old.marks) + (handlers_size (handlers_of handlers.now) + exits_handlers (handlers_of handlers.now) (objects_in out.old.marks))) ≤ PROGRAM_OPS }
     requires cells { out.old.cells + (stmts_cells (stmts_of body.now) (declared_cells names.now) + handlers_cells (handlers_of handlers.now) (declared_cells names.now)) ≤ FRAME_CELLS }

@@ -1,8 +1,11 @@
 // The lowering of statements and routines.
 #![tactic(auto)]
 
+pub mod accept;
 pub mod block;
+mod clusters;
 pub mod declare;
+pub mod enabling;
 pub mod guard;
 pub mod objects;
 pub mod print;

@@ -1,7 +1,6 @@
 // Objects that are declared: each is built, and cleaned up at the end of its block.
 
 ghost use Rattle.std.specs.Prelude.{◌≡◌, ◌+◌, ◌*◌, ◌≤◌, ◌<◌, None, false, drop, length, OnOk};
-ghost use Rattle.uc_tree.specs.declared.kinds.Role.TheVariants as role;
 ghost use Rattle.uc_tree.specs.declared.limits.TheConstants.{OPS_FOR_SIZE, PROGRAM_OPS};
 ghost use Rattle.uc_tree.specs.Expressions.{exprs_of};
 ghost use Rattle.uc_tree.specs.ExpressionSizes.{exprs_size};
@@ -15,17 +14,19 @@ ghost use Rattle.uc_code.specs.OpenRows.{StandsBehind, CleansBehind, clean_room}
 ghost use Rattle.uc_code.specs.Emits.{Puts};
 ghost use Rattle.uc_lower_expr.specs.DraftGrowth.{Adds, ExprCode};
 ghost use Rattle.uc_lower_expr.specs.Contexts.{context_in};
-ghost use Rattle.uc_lower_expr.specs.Meanings.{is_mutex_at, making_by};
-ghost use Rattle.uc_lower_expr.specs.Members.{routine_for};
+ghost use Rattle.uc_lower_expr.specs.Meanings.{is_mutex_at, making_by, making_of};
+ghost use Rattle.uc_lower_expr.specs.Members.{HasClass, no_routine};
 ghost use Rattle.uc_lower_stmt.specs.Marked.{close_room};
-ghost use Rattle.uc_lower_stmt.specs.Objects.{ClosesPart, ClosesScope, FillCode, InCall, InPart, InScope, MadeCode, array_by, arrival_room, build_room, built_by, call_by, call_room, element_cells, ended_by, fill_room, free_op, frees, leaves, most_clean};
+ghost use Rattle.uc_lower_stmt.specs.Objects.{ClosesPart, ClosesScope, FillCode, InCall, InPart, InScope, MadeCode, array_by, arrival_room, build_room, builder_of, call_by, call_room, destroyer_of, element_cells, fill_room, free_op, frees, leaves, most_clean, object_built, object_cells, object_ended};
 
+use crate::clusters::{open_cluster, open_processor};
 use std::alloc::AllocError;
 use uc_code::cleaning::{clean_length, done_length, put_call, put_clean, put_done, put_exit};
 use uc_code::draft::Draft;
 use uc_code::op::Op;
-use uc_code::rows::{Array, Cleaning, Manner, ObjectCall, Opening, Spot, Way};
+use uc_code::rows::{Array, Cleaning, Manner, ObjectCall, Opening, Resource, Spot, Way};
 use uc_lower_expr::expr::lower_args;
+use uc_lower_expr::making::Made;
 use uc_lower_expr::numbering::ClassRoutine;
 use uc_lower_expr::program_names::ProgramNames;
 use uc_lower_expr::put::{put, put_at_risk};
@@ -36,7 +37,7 @@ use uc_tree::laws::law_cells;
 const ARRIVAL: u32 = 13;
 
 // Where an object begins.
-fn spot_op(spot: Spot) -> Op
+pub(crate) fn spot_op(spot: Spot) -> Op
     ensures { result ≡ spot_op spot }
 {
     match spot {
@@ -59,9 +60,9 @@ fn call_by(routine: ClassRoutine, manner: Manner, spot: Spot, array: Option<Arra
 }
 
 // How an object of the class with this place is built.
-fn built_by(class: usize, names: &ProgramNames) -> Manner
+fn object_built(class: usize, names: &ProgramNames) -> Manner
     requires { class < length (classes_of names.now.items) }
-    ensures { result ≡ built_by names.now class (is_mutex_at names.now class) }
+    ensures { result ≡ object_built names.now class (is_mutex_at names.now class) }
 {
     if names.is_mutex(class) {
         Manner::Makes {
@@ -73,9 +74,8 @@ fn built_by(class: usize, names: &ProgramNames) -> Manner
 }
 
 // How it is destroyed.
-fn ended_by(class: usize, names: &ProgramNames) -> Manner
-    requires { class < length (classes_of names.now.items) }
-    ensures { result ≡ ended_by (is_mutex_at names.now class) }
+fn object_ended(class: usize, names: &ProgramNames) -> Manner
+    ensures { result ≡ object_ended (is_mutex_at names.now class) }
 {
     if names.is_mutex(class) {
         Manner::Ends
@@ -85,8 +85,8 @@ fn ended_by(class: usize, names: &ProgramNames) -> Manner
 }
 
 // The cells of an object of the class with this place where it lies; a mutex object is there by its number.
-fn cells_of(class: usize, names: &ProgramNames) -> u32
-    ensures { result ≡ element_cells names.now class (is_mutex_at names.now class) }
+fn object_cells(class: usize, names: &ProgramNames) -> u32
+    ensures { result ≡ object_cells names.now class (is_mutex_at names.now class) }
 {
     names.fit();
     if names.is_mutex(class) {
@@ -96,34 +96,89 @@ fn cells_of(class: usize, names: &ProgramNames) -> u32
     }
 }
 
-// The elements of an array of objects of the class with this place, if it is one.
-fn array_of(class: usize, elements: Option<u32>, names: &ProgramNames) -> Option<Array>
-    ensures { result ≡ array_by names.now class (is_mutex_at names.now class) elements }
+// The same of all that is made.
+fn cells_of(made: Made, names: &ProgramNames) -> u32
+    ensures { result ≡ element_cells names.now made }
+{
+    match made {
+        Made::Object(class) => object_cells(class, names),
+        Made::Cluster => 1,
+        Made::Processor => 1,
+    }
+}
+
+// The elements of an array, if it is one.
+fn array_of(made: Made, elements: Option<u32>, names: &ProgramNames) -> Option<Array>
+    ensures { result ≡ array_by names.now made elements }
 {
     match elements {
         Some(length) => Some(Array {
             length,
-            size: cells_of(class, names),
+            size: cells_of(made, names),
         }),
         None => None,
     }
 }
 
-/// The call that cleans up an object of the class with this place, or each of so many elements of an array, which begins in a
-/// spot.
-pub fn clean_call(class: usize, spot: Spot, elements: Option<u32>, names: &ProgramNames) -> Cleaning
-    requires { class < length (classes_of names.now.items) }
-    ensures call { result ≡ cleaning.Call (call_by (routine_for names.now class role.Destructor) (ended_by (is_mutex_at names.now class)) spot (array_by names.now class (is_mutex_at names.now class) elements)) }
-    ensures cleans { (place : Place) → BeginsAt place spot → Cleans (clean_up names.now (making_by class (is_mutex_at names.now class)) elements place) result }
+// What a cluster and a processor are built and destroyed by.
+fn no_routine() -> ClassRoutine
+    ensures { result ≡ no_routine }
+{
+    ClassRoutine {
+        number: 0,
+        written: true,
+    }
+}
+
+// The call that builds what is made, without arguments.
+fn builder_of(made: Made, spot: Spot, array: Option<Array>, names: &ProgramNames) -> ObjectCall
+    requires { HasClass names.now made }
+    ensures { result ≡ builder_of names.now made spot array }
+{
+    match made {
+        Made::Object(class) => {
+            let routine = names.constructor_of(class);
+            call_by(routine, object_built(class, names), spot, array)
+        }
+        Made::Cluster => call_by(no_routine(), Manner::Opens(Resource::Cluster), spot, array),
+        Made::Processor => call_by(
+            no_routine(),
+            Manner::Opens(Resource::Processor),
+            spot,
+            array,
+        ),
+    }
+}
+
+// The call that destroys it.
+fn destroyer_of(made: Made, spot: Spot, array: Option<Array>, names: &ProgramNames) -> ObjectCall
+    requires { HasClass names.now made }
+    ensures { result ≡ destroyer_of names.now made spot array }
+{
+    match made {
+        Made::Object(class) => {
+            let routine = names.destructor_of(class);
+            call_by(routine, object_ended(class, names), spot, array)
+        }
+        Made::Cluster => call_by(no_routine(), Manner::Closes(Resource::Cluster), spot, array),
+        Made::Processor => call_by(
+            no_routine(),
+            Manner::Closes(Resource::Processor),
+            spot,
+            array,
+        ),
+    }
+}
+
+/// The call that cleans up an object, a cluster or a processor, or each of so many elements of an array, which begins in a spot.
+pub fn clean_call(made: Made, spot: Spot, elements: Option<u32>, names: &ProgramNames) -> Cleaning
+    requires { HasClass names.now made }
+    ensures call { result ≡ cleaning.Call (destroyer_of names.now made spot (array_by names.now made elements)) }
+    ensures cleans { (place : Place) → BeginsAt place spot → Cleans (clean_up names.now (making_of names.now made) elements place) result }
 {
     law_cells();
-    let array = array_of(class, elements, names);
-    Cleaning::Call(call_by(
-        names.destructor_of(class),
-        ended_by(class, names),
-        spot,
-        array,
-    ))
+    let array = array_of(made, elements, names);
+    Cleaning::Call(destroyer_of(made, spot, array, names))
 }
 
 // A mutex object is made and its place bound to it, before its constructor builds it; other objects are there.
@@ -136,7 +191,7 @@ fn put_made(
 ) -> Result<(), AllocError>
     requires class { class < length (classes_of names.now.items) }
     requires room { length out.old.ops + 2 ≤ PROGRAM_OPS }
-    ensures { OnOk result (Adds 2 (MadeCode line (built_by names.now class (is_mutex_at names.now class)) routine) out.old out.new) }
+    ensures { OnOk result (Adds 2 (MadeCode line (object_built names.now class (is_mutex_at names.now class)) routine) out.old out.new) }
 {
     if names.is_mutex(class) {
         let class = names.class_number(class);
@@ -146,9 +201,8 @@ fn put_made(
     Ok(())
 }
 
-/// Adds the code that builds an object of the class with this place, which begins in a spot. After want of memory the draft is
-/// spent.
-pub fn lower_construction(
+// An object of the class with this place, which begins in a spot, is built.
+fn construct_object(
     class: usize,
     spot: Spot,
     args: &[Expr],
@@ -158,7 +212,7 @@ pub fn lower_construction(
 ) -> Result<(), AllocError>
     requires class { class < length (classes_of names.now.items) }
     requires room { length out.old.ops + OPS_FOR_SIZE * exprs_size (exprs_of args.now) + 5 ≤ PROGRAM_OPS }
-    requires behind { StandsBehind out.old.marks (call_by (routine_for names.now class role.Constructor) (built_by names.now class (is_mutex_at names.now class)) spot None) }
+    requires behind { StandsBehind out.old.marks (builder_of names.now (Made.Object class) spot None) }
     ensures room { OnOk result (length out.new.ops ≤ length out.old.ops + (OPS_FOR_SIZE * exprs_size (exprs_of args.now) + 5)) }
     ensures code { OnOk result ((place : Place) → BeginsAt place spot → Adds (OPS_FOR_SIZE * exprs_size (exprs_of args.now) + 5) (ExprCode line out.old.marks (constructed names.now (making_by class (is_mutex_at names.now class)) place (args_meant (context_in names.now out.old) (exprs_of args.now)))) out.old out.new) }
 {
@@ -174,6 +228,38 @@ pub fn lower_construction(
         put_at_risk(Op::CallUnwritten(routine.number), line, out)?;
     }
     Ok(())
+}
+
+/// Adds the code that builds an object, which begins in a spot, or asks for a cluster or a processor. After want of memory the draft
+/// is spent.
+pub fn lower_construction(
+    made: Made,
+    spot: Spot,
+    args: &[Expr],
+    line: u32,
+    names: &ProgramNames,
+    out: &mut Draft,
+) -> Result<(), AllocError>
+    requires class { HasClass names.now made }
+    requires room { length out.old.ops + OPS_FOR_SIZE * exprs_size (exprs_of args.now) + 5 ≤ PROGRAM_OPS }
+    requires behind { StandsBehind out.old.marks (builder_of names.now made spot None) }
+    ensures room { OnOk result (length out.new.ops ≤ length out.old.ops + (OPS_FOR_SIZE * exprs_size (exprs_of args.now) + 5)) }
+    ensures code { OnOk result ((place : Place) → BeginsAt place spot → Adds (OPS_FOR_SIZE * exprs_size (exprs_of args.now) + 5) (ExprCode line out.old.marks (constructed names.now (making_of names.now made) place (args_meant (context_in names.now out.old) (exprs_of args.now)))) out.old out.new) }
+{
+    match made {
+        Made::Object(class) => {
+            construct_object(class, spot, args, line, names, out)?;
+            Ok(())
+        }
+        Made::Cluster => {
+            open_cluster(spot, line, out)?;
+            Ok(())
+        }
+        Made::Processor => {
+            open_processor(spot, args, line, names, out)?;
+            Ok(())
+        }
+    }
 }
 
 // The call that builds an element, before one more stands.
@@ -224,10 +310,10 @@ fn put_fill(
     Ok(())
 }
 
-/// Adds the code of the statement that builds an object of the class with this place, or the elements of an array of them, without
+/// Adds the code of the statement that builds an object, a cluster or a processor, or the elements of an array of them, without
 /// arguments. After want of memory the draft is spent.
 pub fn lower_build(
-    class: usize,
+    made: Made,
     spot: Spot,
     elements: Option<u32>,
     args: &[Expr],
@@ -235,33 +321,23 @@ pub fn lower_build(
     names: &ProgramNames,
     out: &mut Draft,
 ) -> Result<(), AllocError>
-    requires class { class < length (classes_of names.now.items) }
+    requires class { HasClass names.now made }
     requires room { length out.old.ops + OPS_FOR_SIZE * exprs_size (exprs_of args.now) + build_room elements ≤ PROGRAM_OPS }
-    requires builds { StandsBehind out.old.marks (call_by (routine_for names.now class role.Constructor) (built_by names.now class (is_mutex_at names.now class)) spot (array_by names.now class (is_mutex_at names.now class) elements)) }
-    requires destroys { StandsBehind out.old.marks (call_by (routine_for names.now class role.Destructor) (ended_by (is_mutex_at names.now class)) spot (array_by names.now class (is_mutex_at names.now class) elements)) }
-    ensures { OnOk result ((place : Place) → BeginsAt place spot → Puts (OPS_FOR_SIZE * exprs_size (exprs_of args.now) + build_room elements) (λ code. StmtAt code out.old.marks (build names.now line (making_by class (is_mutex_at names.now class)) elements place (args_meant (context_in names.now out.old) (exprs_of args.now)))) out.old out.new) }
+    requires builds { StandsBehind out.old.marks (builder_of names.now made spot (array_by names.now made elements)) }
+    requires destroys { StandsBehind out.old.marks (destroyer_of names.now made spot (array_by names.now made elements)) }
+    ensures { OnOk result ((place : Place) → BeginsAt place spot → Puts (OPS_FOR_SIZE * exprs_size (exprs_of args.now) + build_room elements) (λ code. StmtAt code out.old.marks (build names.now line (making_of names.now made) elements place (args_meant (context_in names.now out.old) (exprs_of args.now)))) out.old out.new) }
 {
     match elements {
         None => {
-            lower_construction(class, spot, args, line, names, out)?;
+            lower_construction(made, spot, args, line, names, out)?;
             put(Op::Discard, line, out)?;
             Ok(())
         }
         Some(count) => {
             law_cells();
-            let array = array_of(class, elements, names);
-            let builder = call_by(
-                names.constructor_of(class),
-                built_by(class, names),
-                spot,
-                array,
-            );
-            let destroyer = call_by(
-                names.destructor_of(class),
-                ended_by(class, names),
-                spot,
-                array,
-            );
+            let array = array_of(made, elements, names);
+            let builder = builder_of(made, spot, array, names);
+            let destroyer = destroyer_of(made, spot, array, names);
             put_fill(builder, destroyer, count, line, out)?;
             Ok(())
         }

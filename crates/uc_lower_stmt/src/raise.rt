@@ -3,21 +3,21 @@
 ghost use Rattle.std.specs.Prelude.{◌+◌, ◌*◌, ◌^◌, ◌≤◌, ◌<◌, length, Some, OnOk};
 ghost use Rattle.uc_tree.specs.declared.limits.TheConstants.{OPS_FOR_SIZE, PROGRAM_OPS};
 ghost use Rattle.uc_tree.specs.Expressions.{exprs_of};
-ghost use Rattle.uc_tree.specs.ExpressionSizes.{exprs_size};
+ghost use Rattle.uc_tree.specs.ExpressionSizes.{expr_size, exprs_size};
 ghost use Rattle.uc_resolve.specs.Resolve.{args_by, args_meant, params_of, raised_meant};
 ghost use Rattle.uc_tree.specs.Source.{BuiltAt, CallOn, OfObject, Raise, Throw, Variable};
 ghost use Rattle.uc_tree.specs.StatementSizes.{maybe_raised_size, raised_size};
 ghost use Rattle.uc_code.specs.Lowered.{RaisedAt};
 ghost use Rattle.uc_code.specs.Emits.{Puts};
 ghost use Rattle.uc_lower_expr.specs.Contexts.{context_in};
-ghost use Rattle.uc_lower_stmt.specs.Raising.{LowersRaise, LowersRaised};
+ghost use Rattle.uc_lower_stmt.specs.Raising.{LowersRaise, LowersRaiseAt, LowersRaised};
 ghost use Rattle.uc_lower_stmt.specs.LowersStatement.{scope_of};
 
 use std::alloc::AllocError;
 use uc_code::draft::Draft;
 use uc_code::op::Op;
 use uc_code::raising::{put_again, put_built, put_plain, put_raise, put_throw};
-use uc_lower_expr::expr::lower_args;
+use uc_lower_expr::expr::{lower_args, lower_expr};
 use uc_lower_expr::program_names::ProgramNames;
 use uc_lower_expr::put::{put, put_at_risk};
 use uc_tree::declare::Raised;
@@ -131,5 +131,22 @@ pub(crate) fn lower_raise(
 {
     lower_raised(raised, line, names, out)?;
     put_raise(line, out)?;
+    Ok(())
+}
+
+/// Adds the code of a statement that raises an event at a task or a coroutine. After want of memory the draft is spent.
+pub(crate) fn lower_raise_at(
+    raised: &Raised,
+    target: &Expr,
+    line: u32,
+    names: &ProgramNames,
+    out: &mut Draft,
+) -> Result<(), AllocError>
+    requires { length out.old.ops + OPS_FOR_SIZE * (1 + raised_size raised.now + expr_size target.now) ≤ PROGRAM_OPS }
+    ensures { OnOk result (LowersRaiseAt names.now line raised.now target.now out.old out.new) }
+{
+    lower_new(raised, line, names, out)?;
+    let _told = lower_expr(target, line, names, out)?;
+    put(Op::RaiseAt, line, out)?;
     Ok(())
 }

@@ -10,7 +10,6 @@ ghost use Rattle.uc_tree.specs.Numbering.{is_plain, own_sites, own_texts, routin
 ghost use Rattle.uc_tree.specs.ProgramMain.{is_void, main_number};
 ghost use Rattle.uc_tree.specs.Scopes.{stmts_scopes};
 ghost use Rattle.uc_resolve.specs.Resolve.{class_by, is_main, params_known, value_purpose, routine_scope, routine_meant};
-ghost use Rattle.uc_built.specs.BuiltForms.{are_built};
 ghost use Rattle.uc_code.specs.Layout.{laid_in};
 ghost use Rattle.uc_code.specs.CodeShapes.{Kept};
 ghost use Rattle.uc_code.specs.Lowered.{RoutineAt};
@@ -108,7 +107,6 @@ fn lower_main(
     last: u32,
     out: &mut Draft,
 ) -> Result<(), AllocError>
-    requires built { are_built routine.now.body ≡ true }
     requires written { last < length (routines_of names.now) }
     requires outside { out.old.marks ≡ [] }
     requires room { length out.old.ops + OPS_FOR_SIZE * (1 + sizes_at routine.now.body 0) ≤ PROGRAM_OPS }
@@ -138,7 +136,6 @@ fn lower_called(
     last: u32,
     out: &mut Draft,
 ) -> Result<(), AllocError>
-    requires built { are_built routine.now.body ≡ true }
     requires written { last < length (routines_of names.now) }
     requires outside { out.old.marks ≡ [] }
     requires room { length out.old.ops + OPS_FOR_SIZE * (1 + sizes_at routine.now.body 0) ≤ PROGRAM_OPS }
@@ -175,7 +172,6 @@ fn lower_mutex(
     last: u32,
     out: &mut Draft,
 ) -> Result<(), AllocError>
-    requires built { are_built routine.now.body ≡ true }
     requires written { last < length (routines_of names.now) }
     requires outside { out.old.marks ≡ [] }
     requires room { length out.old.ops + OPS_FOR_SIZE * (1 + sizes_at routine.now.body 0) ≤ PROGRAM_OPS }
@@ -211,7 +207,6 @@ fn lower_statements(
     requires plain { is_plain routine.now.sig.role ≡ true }
     requires main { main ≡ main_in names.now number (class_by names.now out.old.place.class) routine.now.sig }
     requires named { nat_eq number (main_number names.now) ≡ true → is_main names.now routine.now.sig ≡ true }
-    requires built { are_built routine.now.body ≡ true }
     requires written { last < length (routines_of names.now) }
     requires outside { out.old.marks ≡ [] }
     requires room { length out.old.ops + OPS_FOR_SIZE * (1 + sizes_at routine.now.body 0) ≤ PROGRAM_OPS }
@@ -237,9 +232,8 @@ fn lower_statements(
 }
 
 /// Adds the code of a routine that is no constructor and no destructor, behind so many text literals and accept statements of the
-/// program, and writes down under its number where it begins; `main` says whose main it is, if it is one. Its statements are of
-/// forms that are built. `class` is the place of its class, and `last` the
-/// number of the last routine that is written. After want of memory the draft is spent.
+/// program, and writes down under its number where it begins; `main` says whose main it is, if it is one. `class` is the
+/// place of its class, and `last` the number of the last routine that is written. After want of memory the draft is spent.
 pub fn lower_routine(
     alloc: Global,
     names: &ProgramNames,
@@ -255,7 +249,6 @@ pub fn lower_routine(
     requires plain { is_plain routine.now.sig.role ≡ true }
     requires main { main ≡ main_in names.now number (class_by names.now class) routine.now.sig }
     requires named { nat_eq number (main_number names.now) ≡ true → is_main names.now routine.now.sig ≡ true }
-    requires built { are_built routine.now.body ≡ true }
     requires few_params { length routine.now.sig.params ≤ PROGRAM_SIZE }
     requires known { number < length out.old.routines }
     requires behind { number ≤ last }

@@ -16,7 +16,6 @@ ghost use Rattle.uc_tree.specs.Scopes.{alone_scopes, maybe_scopes, stmt_scopes, 
 ghost use Rattle.uc_tree.specs.ExpressionSizes.{expr_size};
 ghost use Rattle.uc_tree.specs.Cells.{declared_cells, declarators_cells, for_cells, maybe_cells, stmt_cells, stmts_cells};
 ghost use Rattle.uc_resolve.specs.Resolve.{Scope, order_of, test_of};
-ghost use Rattle.uc_built.specs.BuiltForms.{is_built_base, is_built_maybe, is_built_start, is_built_stmt, are_built};
 ghost use Rattle.uc_code.specs.Layout.{routine_in};
 ghost use Rattle.uc_code.specs.Emits.{Puts};
 ghost use Rattle.uc_code.specs.CodeShapes.{begin_at};
@@ -25,11 +24,13 @@ ghost use Rattle.uc_lower_stmt.specs.Marked.{objects_in, taken};
 ghost use Rattle.uc_lower_stmt.specs.LowersStatement.{LowersStmt, LowersStmts, scope_of, sizes_at};
 ghost use Rattle.uc_lower_stmt.specs.Control.{BackCode, BeginCode, DeclaresObjects, EndsLoop, is_declaration, LaysDeclaration, LaysStart, LaysStmt, LowersAlone, LowersDeclaration, LowersFor, LowersIf, LowersLoop, LowersMaybe, maybe_at_size, ReturnCode, StepCode, turning_order, turning_size, turning_test};
 
+use crate::accept::lower_accept;
 use crate::block::{close_scopes, lower_objects};
 use crate::declare::lower_declarators;
+use crate::enabling::{Enabling, lower_enabling};
 use crate::guard::lower_try;
 use crate::print::{lower_items, lower_targets, lower_together};
-use crate::raise::{lower_raise, lower_throw};
+use crate::raise::{lower_raise, lower_raise_at, lower_throw};
 use crate::switching::{put_switch, put_yield};
 use crate::turning::Turning;
 use std::alloc::{AllocError, Global};
@@ -38,6 +39,7 @@ use uc_code::draft::Draft;
 use uc_code::op::Op;
 use uc_code::rows::Way;
 use uc_lower_expr::expr::{lower_expr, lower_value};
+use uc_lower_expr::making::Made;
 use uc_lower_expr::program_names::ProgramNames;
 use uc_lower_expr::put::{close_fork, put, put_conversion};
 use uc_tree::declare::{Declarator, ForForm, ForStart};
@@ -45,7 +47,7 @@ use uc_tree::expr::Expr;
 use uc_tree::kinds::Base;
 use uc_tree::stmt::{Stmt, StmtForm};
 
-/// Adds the code of a statement, which is of a form that is built. After want of memory the draft is spent.
+/// Adds the code of a statement. After want of memory the draft is spent.
 #[cycle(stmt)]
 pub fn lower_stmt(
     alloc: Global,
@@ -53,7 +55,6 @@ pub fn lower_stmt(
     s: &Stmt,
     out: &mut Draft,
 ) -> Result<(), AllocError>
-    requires built { is_built_stmt s.now ≡ true }
     requires inside { routine_in out.old.marks < length (routines_of names.now) }
     requires room { taken out.old + OPS_FOR_SIZE * size_at s.now (objects_in out.old.marks) ≤ PROGRAM_OPS }
     requires cells { out.old.cells + stmt_cells s.now (declared_cells names.now) ≤ FRAME_CELLS }
@@ -150,10 +151,22 @@ pub fn lower_stmt(
             lower_raise(raised, line, names, out)?;
             Ok(())
         }
-        StmtForm::RaiseAt { .. } => Ok(()),
-        StmtForm::Enable { .. } => Ok(()),
-        StmtForm::Disable { .. } => Ok(()),
-        StmtForm::Accept { .. } => Ok(()),
+        StmtForm::RaiseAt { raised, target } => {
+            lower_raise_at(raised, target, line, names, out)?;
+            Ok(())
+        }
+        StmtForm::Enable { events, body } => {
+            lower_enabling(alloc, names, Enabling::Enable, events, body, line, out)?;
+            Ok(())
+        }
+        StmtForm::Disable { events, body } => {
+            lower_enabling(alloc, names, Enabling::Disable, events, body, line, out)?;
+            Ok(())
+        }
+        StmtForm::Accept { clauses, other } => {
+            lower_accept(alloc, names, clauses, other, line, out)?;
+            Ok(())
+        }
         StmtForm::Resume => {
             put_switch(Op::Resume, line, out)?;
             Ok(())
@@ -162,11 +175,15 @@ pub fn lower_stmt(
             put_switch(Op::Suspend, line, out)?;
             Ok(())
         }
-        StmtForm::Migrate { .. } => Ok(()),
+        StmtForm::Migrate { cluster } => {
+            let _told = lower_expr(cluster, line, names, out)?;
+            put(Op::Migrate, line, out)?;
+            Ok(())
+        }
     }
 }
 
-/// Adds the code of the statements of a block of this line, which are of forms that are built. After want of memory the draft is spent.
+/// Adds the code of the statements of a block of this line. After want of memory the draft is spent.
 #[cycle(stmt)]
 pub fn lower_stmts(
     alloc: Global,
@@ -175,7 +192,6 @@ pub fn lower_stmts(
     line: u32,
     out: &mut Draft,
 ) -> Result<(), AllocError>
-    requires built { are_built (stmts_of stmts.now) ≡ true }
     requires inside { routine_in out.old.marks < length (routines_of names.now) }
     requires room { taken out.old + OPS_FOR_SIZE * sizes_at (stmts_of stmts.now) (objects_in out.old.marks) ≤ PROGRAM_OPS }
     requires cells { out.old.cells + stmts_cells (stmts_of stmts.now) (declared_cells names.now) ≤ FRAME_CELLS }
@@ -200,7 +216,6 @@ fn lower_next(
     line: u32,
     out: &mut Draft,
 ) -> Result<(), AllocError>
-    requires built { is_built_stmt s.now ≡ true }
     requires inside { routine_in out.old.marks < length (routines_of names.now) }
     requires room { taken out.old + OPS_FOR_SIZE * size_at s.now (objects_in out.old.marks) ≤ PROGRAM_OPS }
     requires cells { out.old.cells + stmt_cells s.now (declared_cells names.now) ≤ FRAME_CELLS }
@@ -213,7 +228,7 @@ fn lower_next(
             lower_objects(
                 alloc,
                 names,
-                declared.class,
+                declared.made,
                 declared.base,
                 declared.declarators,
                 s.pos.line,
@@ -229,10 +244,10 @@ fn lower_next(
     }
 }
 
-// A declaration of objects of the class with this place.
+// A declaration of objects, of clusters or of processors.
 #[derive(Clone, Copy)]
 struct Objects<'a> {
-    class: usize,
+    made: Made,
     base: &'a Base,
     declarators: &'a [Declarator],
 }
@@ -241,9 +256,9 @@ fn declared_in<'a>(form: &'a StmtForm, names: &ProgramNames) -> Option<Objects<'
     ensures { (pos : Pos) → DeclaresObjects names.now (stmt_at pos form.now) result }
 {
     match form {
-        StmtForm::Declare { base, declarators } => match names.sizes().class_made(base) {
-            Some(class) => Some(Objects {
-                class,
+        StmtForm::Declare { base, declarators } => match names.made(base) {
+            Some(made) => Some(Objects {
+                made,
                 base,
                 declarators,
             }),
@@ -285,16 +300,15 @@ fn lower_declaration(
     line: u32,
     out: &mut Draft,
 ) -> Result<(), AllocError>
-    requires built { is_built_base base.now ≡ true }
     requires inside { routine_in out.old.marks < length (routines_of names.now) }
     requires room { taken out.old + OPS_FOR_SIZE * declarators_size declarators.now ≤ PROGRAM_OPS }
     requires cells { out.old.cells + declarators_cells (declared_cells names.now base.now) declarators.now ≤ FRAME_CELLS }
     ensures { OnOk result (LowersDeclaration names.now line base.now declarators.now out.old out.new) }
 {
-    match names.sizes().class_made(base) {
-        Some(class) => {
+    match names.made(base) {
+        Some(made) => {
             let depth = out.marks().len();
-            lower_objects(alloc, names, class, base, declarators, line, line, out)?;
+            lower_objects(alloc, names, made, base, declarators, line, line, out)?;
             close_scopes(depth, out)?;
             Ok(())
         }
@@ -337,15 +351,14 @@ fn is_declaration(form: &StmtForm) -> bool
     }
 }
 
-// A statement that is itself that of an `if` or a loop. A declaration has a scope of its own there.
+// A statement that is itself that of an `if`, a loop or a clause. A declaration has a scope of its own there.
 #[cycle(stmt)]
-fn lower_alone(
+pub(crate) fn lower_alone(
     alloc: Global,
     names: &ProgramNames,
     s: &Stmt,
     out: &mut Draft,
 ) -> Result<(), AllocError>
-    requires built { is_built_stmt s.now ≡ true }
     requires inside { routine_in out.old.marks < length (routines_of names.now) }
     requires room { taken out.old + OPS_FOR_SIZE * size_at s.now (objects_in out.old.marks) ≤ PROGRAM_OPS }
     requires cells { out.old.cells + stmt_cells s.now (declared_cells names.now) ≤ FRAME_CELLS }
@@ -363,15 +376,14 @@ fn lower_alone(
     Ok(())
 }
 
-// The statement of an `else`, where there is one.
+// The statement of an `else` or an `_Else`, where there is one.
 #[cycle(stmt)]
-fn lower_maybe(
+pub(crate) fn lower_maybe(
     alloc: Global,
     names: &ProgramNames,
     other: &Option<Box<Stmt>>,
     out: &mut Draft,
 ) -> Result<(), AllocError>
-    requires built { is_built_maybe (maybe_at other.now) ≡ true }
     requires inside { routine_in out.old.marks < length (routines_of names.now) }
     requires room { taken out.old + OPS_FOR_SIZE * maybe_at_size (maybe_at other.now) (objects_in out.old.marks) ≤ PROGRAM_OPS }
     requires cells { out.old.cells + maybe_cells (maybe_at other.now) (declared_cells names.now) ≤ FRAME_CELLS }
@@ -398,8 +410,6 @@ fn lower_if(
     line: u32,
     out: &mut Draft,
 ) -> Result<(), AllocError>
-    requires built { is_built_stmt chosen.now ≡ true }
-    requires other_built { is_built_maybe (maybe_at other.now) ≡ true }
     requires inside { routine_in out.old.marks < length (routines_of names.now) }
     requires room { taken out.old + OPS_FOR_SIZE * (1 + expr_size test.now + size_at chosen.now (objects_in out.old.marks) + maybe_at_size (maybe_at other.now) (objects_in out.old.marks)) ≤ PROGRAM_OPS }
     requires cells { out.old.cells + (stmt_cells chosen.now (declared_cells names.now) + maybe_cells (maybe_at other.now) (declared_cells names.now)) ≤ FRAME_CELLS }
@@ -512,7 +522,6 @@ fn lower_loop(
     line: u32,
     out: &mut Draft,
 ) -> Result<(), AllocError>
-    requires built { is_built_stmt body.now ≡ true }
     requires inside { routine_in out.old.marks < length (routines_of names.now) }
     requires room { taken out.old + OPS_FOR_SIZE * (1 + turning_size turning + maybe_expr_size step.now + size_at body.now (objects_in out.old.marks)) ≤ PROGRAM_OPS }
     requires cells { out.old.cells + stmt_cells body.now (declared_cells names.now) ≤ FRAME_CELLS }
@@ -541,7 +550,6 @@ fn lower_start(
     line: u32,
     out: &mut Draft,
 ) -> Result<(), AllocError>
-    requires built { is_built_start start.now ≡ true }
     requires inside { routine_in out.old.marks < length (routines_of names.now) }
     requires room { taken out.old + OPS_FOR_SIZE * for_start_size start.now ≤ PROGRAM_OPS }
     requires cells { out.old.cells + for_cells start.now (declared_cells names.now) ≤ FRAME_CELLS }
@@ -573,15 +581,14 @@ fn lower_for_declaration(
     line: u32,
     out: &mut Draft,
 ) -> Result<(), AllocError>
-    requires built { is_built_base base.now ≡ true }
     requires inside { routine_in out.old.marks < length (routines_of names.now) }
     requires room { taken out.old + OPS_FOR_SIZE * declarators_size declarators.now ≤ PROGRAM_OPS }
     requires cells { out.old.cells + declarators_cells (declared_cells names.now base.now) declarators.now ≤ FRAME_CELLS }
     ensures { OnOk result (LaysDeclaration names.now line line base.now declarators.now out.old out.new) }
 {
-    match names.sizes().class_made(base) {
-        Some(class) => {
-            lower_objects(alloc, names, class, base, declarators, line, line, out)?;
+    match names.made(base) {
+        Some(made) => {
+            lower_objects(alloc, names, made, base, declarators, line, line, out)?;
             Ok(())
         }
         None => {
@@ -614,8 +621,6 @@ fn lower_for(
     line: u32,
     out: &mut Draft,
 ) -> Result<(), AllocError>
-    requires built { is_built_stmt body.now ≡ true }
-    requires start { is_built_start start.now ≡ true }
     requires inside { routine_in out.old.marks < length (routines_of names.now) }
     requires room { taken out.old + OPS_FOR_SIZE * (1 + for_start_size start.now + maybe_expr_size test.now + maybe_expr_size step.now + size_at body.now (objects_in out.old.marks + for_declares start.now)) ≤ PROGRAM_OPS }
     requires cells { out.old.cells + (for_cells start.now (declared_cells names.now) + stmt_cells body.now (declared_cells names.now)) ≤ FRAME_CELLS }

@@ -4,13 +4,13 @@ use Rattle.uc_tree.specs.Programs.{Program}
 use Rattle.uc_acts.specs.Journal.{Journal}
 use Rattle.uc_outside.specs.Taking.{Took}
 use Rattle.uc_top.specs.declared.refusals.Refusal.{Refusal}
-use Rattle.uc_top.specs.declared.refusals.Refusal.TheVariants.{Word, CannotRead, TooLong, Lexical, Syntax, TooDeep, Broken, NotBuilt, FrameTooLarge, CodeTooLarge, NoMemory}
-use Rattle.uc_top.specs.Built.{IsAcceptedText}
+use Rattle.uc_top.specs.declared.refusals.Refusal.TheVariants.{Word, CannotRead, TooLong, Lexical, Syntax, TooDeep, Broken, FrameTooLarge, CodeTooLarge, BadLine, NoMemory}
+use Rattle.uc_top.specs.Accepted.{IsAcceptedText}
 use Rattle.uc_top.specs.Decisions.{TextRefused}
-use Rattle.uc_top.specs.Outcomes.{Scene, Refused, Leaves, ended, refused, out_failed, line_failed, err_failed, OfText, lexical, syntax, deep, broken, not_built, large_frame, large_code, HasTexts}
+use Rattle.uc_top.specs.Outcomes.{Scene, Refused, Leaves, ended, refused, out_failed, line_failed, err_failed, OfText, lexical, syntax, deep, broken, large_frame, large_code, HasTexts}
 use Rattle.uc_top.specs.Refusals.{status_of, refusal_text}
 use Rattle.uc_top.specs.TextAnswers.{ToldAs, GetsJust, TextAnswers}
-use Rattle.uc_top.proofs.Causes.{given, ran_program, rooms, steady_of, two_left, unlexed, no_syntax, not_deep, unbroken, built_no, frame_no, code_no}
+use Rattle.uc_top.proofs.Causes.{given, no_texts, ran_program, rooms, steady_of, two_left, unlexed, no_syntax, not_deep, unbroken, frame_no, code_no}
 use Rattle.uc_top.proofs.CauseLemmas.{one_cause}
 
 -- a text that is refused is that of no accepted program
@@ -19,7 +19,6 @@ no_accepted text p (lexical why here) f is = unlexed f is
 no_accepted text p (syntax here) f is = no_syntax f is
 no_accepted text p (deep here) f is = not_deep f is
 no_accepted text p (broken rule here) f is = unbroken f is
-no_accepted text p not_built f is = built_no f is
 no_accepted text p large_frame f is = frame_no f is
 no_accepted text p large_code f is = code_no f is
 
@@ -37,9 +36,9 @@ refused_just s h r of wrong (Lexical why here) name cause out err = told_just s 
 refused_just s h r of wrong (Syntax here) name cause out err = told_just s h cause.text name (Syntax here) r (given s h cause.gave) (syntax here) of cause.is wrong refl cause out err
 refused_just s h r of wrong (TooDeep here) name cause out err = told_just s h cause.text name (TooDeep here) r (given s h cause.gave) (deep here) of cause.is wrong refl cause out err
 refused_just s h r of wrong (Broken rule here) name cause out err = told_just s h cause.text name (Broken rule here) r (given s h cause.gave) (broken rule here) of cause.is wrong refl cause out err
-refused_just s h r of wrong NotBuilt name cause out err = told_just s h cause.text name NotBuilt r (given s h cause.gave) not_built of cause.is wrong refl cause out err
 refused_just s h r of wrong FrameTooLarge name cause out err = told_just s h cause.text name FrameTooLarge r (given s h cause.gave) large_frame of cause.is wrong refl cause out err
 refused_just s h r of wrong CodeTooLarge name cause out err = told_just s h cause.text name CodeTooLarge r (given s h cause.gave) large_code of cause.is wrong refl cause out err
+refused_just s h r of wrong (BadLine n) name cause out err = absurd (no_texts s h cause.asks)
 refused_just s h r of wrong NoMemory name cause out err = inr (inr (inr refl))
 
 just : (s : Scene) {status : ℕ} {journal : Journal} → Leaves s status journal → (h : HasTexts s) (r : Refusal) → OfText r → TextRefused h.program.bytes r → GetsJust s status journal r
@@ -55,7 +54,6 @@ text_answers s leaves = record {
   syntax = λ h here f. just s leaves h (Syntax here) (syntax here) f;
   too_deep = λ h here f. just s leaves h (TooDeep here) (deep here) f;
   broken = λ h rule here f. just s leaves h (Broken rule here) (broken rule here) f;
-  not_built = λ h f. just s leaves h NotBuilt not_built f;
   large_frame = λ h f. just s leaves h FrameTooLarge large_frame f;
   large_code = λ h f. just s leaves h CodeTooLarge large_code f;
   settled = λ h st room r of f. two_left (just s leaves h r of f) (steady_of s leaves h st) (rooms s leaves room);

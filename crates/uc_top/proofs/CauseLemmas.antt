@@ -1,5 +1,5 @@
 -- A text is refused for one reason.
-use Rattle.std.proofs.Common.{◌≡◌, ℕ, List, [], true, false, length, refl, sym, ◌∙◌, ap, subst, arith}
+use Rattle.std.proofs.Common.{◌≡◌, ℕ, List, [], length, refl, sym, ◌∙◌, ap, subst, arith}
 use Rattle.std.specs.Prelude.{Contains}
 use Rattle.uc_tree.specs.declared.limits.TheConstants.{NESTING}
 use Rattle.uc_tree.specs.declared.pos.Pos.{Pos}
@@ -14,12 +14,11 @@ use Rattle.uc_parse_class.specs.Found.{NoProgram}
 use Rattle.uc_rules.specs.declared.rule.Rule.{Rule}
 use Rattle.uc_rules.specs.declared.rule.Break.{Break}
 use Rattle.uc_rules.specs.Breaks.{breaks_of}
-use Rattle.uc_built.specs.BuiltForms.{IsBuilt, is_built}
 use Rattle.uc_top.specs.declared.refusals.Refusal.{Refusal}
 use Rattle.uc_top.specs.declared.refusals.Refusal.TheVariants.{Lexical, Syntax, TooDeep, Broken}
-use Rattle.uc_top.specs.Built.{BreaksFirst, HasDeepFault, HasFault, HasLargeCode, HasLargeFrame, HasSyntaxFault, IsTextOf, IsUnbuilt, Spells, place_of}
+use Rattle.uc_top.specs.Accepted.{BreaksFirst, HasDeepFault, HasFault, HasLargeCode, HasLargeFrame, HasSyntaxFault, IsTextOf, Spells, place_of}
 use Rattle.uc_top.specs.Decisions.{TextRefused}
-use Rattle.uc_top.specs.Outcomes.{OfText, lexical, syntax, deep, broken, not_built, large_frame, large_code}
+use Rattle.uc_top.specs.Outcomes.{OfText, lexical, syntax, deep, broken, large_frame, large_code}
 use Rattle.uc_top.proofs.FaultLemmas.{one_fault}
 use Rattle.uc_top.proofs.FirstLemmas.{one_first}
 use Rattle.uc_top.proofs.Frames.{not_fit}
@@ -97,12 +96,6 @@ one_broken text rule other here there a b =
     let e = one_first (breaks_of a.program) (record { rule = rule; pos = here }) (record { rule = other; pos = there }) a.is (same_program a b) in
     ap (λ r. Broken r here) e.0 ∙ ap (λ p. Broken other p) e.1
 
-unbuilt_not : {text : List ℕ} {Such : Program → Type 0} → IsTextOf text IsUnbuilt → IsTextOf text Such → ((p : Program) → Such p → IsBuilt p) → ⊥
-unbuilt_not a b built =
-    let yes : is_built a.program ≡ true = built a.program (same_program a b) in
-    let no : is_built a.program ≡ false = a.is.unbuilt in
-    absurd (cc)
-
 frame_not_code : {text : List ℕ} → IsTextOf text HasLargeFrame → IsTextOf text HasLargeCode → ⊥
 frame_not_code a b = not_fit a.program a.is (same_program a b).frames
 
@@ -111,48 +104,35 @@ one_cause text (lexical v here) (lexical w there) a b = one_lexical text v w her
 one_cause text (lexical v here) (syntax there) a b = absurd (let e = sym a.lexed ∙ b.lexed in cc)
 one_cause text (lexical v here) (deep there) a b = absurd (let e = sym a.lexed ∙ b.lexed in cc)
 one_cause text (lexical v here) (broken other there) a b = absurd (let e = sym a.lexed ∙ b.spells.lexed in cc)
-one_cause text (lexical v here) not_built a b = absurd (let e = sym a.lexed ∙ b.spells.lexed in cc)
 one_cause text (lexical v here) large_frame a b = absurd (let e = sym a.lexed ∙ b.spells.lexed in cc)
 one_cause text (lexical v here) large_code a b = absurd (let e = sym a.lexed ∙ b.spells.lexed in cc)
 one_cause text (syntax here) (lexical w there) a b = absurd (let e = sym b.lexed ∙ a.lexed in cc)
 one_cause text (syntax here) (syntax there) a b = one_syntax text here there a b
 one_cause text (syntax here) (deep there) a b = absurd (syntax_not_deep text here there a b)
 one_cause text (syntax here) (broken other there) a b = absurd (unspelled text a.list b.program a.lexed a.fault.none b.spells)
-one_cause text (syntax here) not_built a b = absurd (unspelled text a.list b.program a.lexed a.fault.none b.spells)
 one_cause text (syntax here) large_frame a b = absurd (unspelled text a.list b.program a.lexed a.fault.none b.spells)
 one_cause text (syntax here) large_code a b = absurd (unspelled text a.list b.program a.lexed a.fault.none b.spells)
 one_cause text (deep here) (lexical w there) a b = absurd (let e = sym b.lexed ∙ a.lexed in cc)
 one_cause text (deep here) (syntax there) a b = absurd (syntax_not_deep text there here b a)
 one_cause text (deep here) (deep there) a b = one_deep text here there a b
 one_cause text (deep here) (broken other there) a b = absurd (unspelled text a.list b.program a.lexed a.fault.none b.spells)
-one_cause text (deep here) not_built a b = absurd (unspelled text a.list b.program a.lexed a.fault.none b.spells)
 one_cause text (deep here) large_frame a b = absurd (unspelled text a.list b.program a.lexed a.fault.none b.spells)
 one_cause text (deep here) large_code a b = absurd (unspelled text a.list b.program a.lexed a.fault.none b.spells)
 one_cause text (broken rule here) (lexical w there) a b = absurd (let e = sym b.lexed ∙ a.spells.lexed in cc)
 one_cause text (broken rule here) (syntax there) a b = absurd (unspelled text b.list a.program b.lexed b.fault.none a.spells)
 one_cause text (broken rule here) (deep there) a b = absurd (unspelled text b.list a.program b.lexed b.fault.none a.spells)
 one_cause text (broken rule here) (broken other there) a b = one_broken text rule other here there a b
-one_cause text (broken rule here) not_built a b = absurd (broken_not rule here a b (λ p h. h.no_break))
-one_cause text (broken rule here) large_frame a b = absurd (broken_not rule here a b (λ p h. h.runnable.no_break))
-one_cause text (broken rule here) large_code a b = absurd (broken_not rule here a b (λ p h. h.runnable.no_break))
-one_cause text not_built (lexical w there) a b = absurd (let e = sym b.lexed ∙ a.spells.lexed in cc)
-one_cause text not_built (syntax there) a b = absurd (unspelled text b.list a.program b.lexed b.fault.none a.spells)
-one_cause text not_built (deep there) a b = absurd (unspelled text b.list a.program b.lexed b.fault.none a.spells)
-one_cause text not_built (broken other there) a b = absurd (broken_not other there b a (λ p h. h.no_break))
-one_cause text not_built not_built a b = refl
-one_cause text not_built large_frame a b = absurd (unbuilt_not a b (λ p h. h.runnable.built))
-one_cause text not_built large_code a b = absurd (unbuilt_not a b (λ p h. h.runnable.built))
+one_cause text (broken rule here) large_frame a b = absurd (broken_not rule here a b (λ p h. h.no_break))
+one_cause text (broken rule here) large_code a b = absurd (broken_not rule here a b (λ p h. h.no_break))
 one_cause text large_frame (lexical w there) a b = absurd (let e = sym b.lexed ∙ a.spells.lexed in cc)
 one_cause text large_frame (syntax there) a b = absurd (unspelled text b.list a.program b.lexed b.fault.none a.spells)
 one_cause text large_frame (deep there) a b = absurd (unspelled text b.list a.program b.lexed b.fault.none a.spells)
-one_cause text large_frame (broken other there) a b = absurd (broken_not other there b a (λ p h. h.runnable.no_break))
-one_cause text large_frame not_built a b = absurd (unbuilt_not b a (λ p h. h.runnable.built))
+one_cause text large_frame (broken other there) a b = absurd (broken_not other there b a (λ p h. h.no_break))
 one_cause text large_frame large_frame a b = refl
 one_cause text large_frame large_code a b = absurd (frame_not_code a b)
 one_cause text large_code (lexical w there) a b = absurd (let e = sym b.lexed ∙ a.spells.lexed in cc)
 one_cause text large_code (syntax there) a b = absurd (unspelled text b.list a.program b.lexed b.fault.none a.spells)
 one_cause text large_code (deep there) a b = absurd (unspelled text b.list a.program b.lexed b.fault.none a.spells)
-one_cause text large_code (broken other there) a b = absurd (broken_not other there b a (λ p h. h.runnable.no_break))
-one_cause text large_code not_built a b = absurd (unbuilt_not b a (λ p h. h.runnable.built))
+one_cause text large_code (broken other there) a b = absurd (broken_not other there b a (λ p h. h.no_break))
 one_cause text large_code large_frame a b = absurd (frame_not_code b a)
 one_cause text large_code large_code a b = refl

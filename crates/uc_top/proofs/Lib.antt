@@ -3,6 +3,7 @@ pub mod Pieces
 pub mod Line
 pub mod Leave
 pub mod Frames
+pub mod MainLemmas
 pub mod Causes
 pub mod Findings
 pub mod Ran

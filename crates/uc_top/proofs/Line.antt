@@ -6,8 +6,8 @@ use Rattle.uc_tree.specs.declared.limits.TheConstants.{ENTRIES_DEFAULT, PROCESSO
 use Rattle.uc_entry.specs.declared.entry.Options.{Options}
 use Rattle.uc_words.specs.declared.numbers.NumberOption.{NumberOption}
 use Rattle.uc_words.specs.declared.numbers.NumberOption.TheVariants.{Processors, Slice, Ticks, Entries}
-use Rattle.uc_words.specs.Words.{Words, Piece, File, Number, Journal, Input, ArePieces, IsLine, IsRunLine, Command, RunFile, CheckFile, LowerFile, MakeProgram, number_in, least_of, most_of, same_option}
-use Rattle.uc_top.specs.Built.{Asks}
+use Rattle.uc_words.specs.Words.{Words, Piece, File, Number, Journal, Input, ArePieces, IsLine, IsRunLine, Command, RunFile, CheckFile, LowerFile, MakeProgram, ExplainJournal, number_in, least_of, most_of, same_option}
+use Rattle.uc_top.specs.Commands.{Asks}
 use Rattle.uc_acts.specs.KernelRuns.{InRange}
 use Rattle.uc_top.specs.Decisions.{IsInRange}
 
@@ -88,6 +88,7 @@ in_line words (RunFile file opts too named) l = run_range l
 in_line words (CheckFile file) l = tt
 in_line words (LowerFile file) l = tt
 in_line words (MakeProgram n) l = (l.value.low, l.value.high)
+in_line words (ExplainJournal file object) l = tt
 
 -- a line asks for one thing
 pub same_line : {words : Words} {c : Command} (d : Command) → Asks words c → IsLine words d → c ≡ d

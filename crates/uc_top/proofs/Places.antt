@@ -9,7 +9,7 @@ use Rattle.uc_grammar.specs.declared.fault.ParseFault.TheVariants.{TooDeep, NoMe
 use Rattle.uc_grammar.specs.Text.{ProgramFails}
 use Rattle.uc_parse_expr.specs.Faults.{token_of}
 use Rattle.uc_parse_class.specs.Found.{FirstTooDeep, NoProgram}
-use Rattle.uc_top.specs.Built.{place_of, DeepFault}
+use Rattle.uc_top.specs.Accepted.{place_of, DeepFault}
 use Rattle.uc_top.specs.Decisions.{FailsAt}
 
 pub place_there : (text : List ℕ) (ts : List Token) (k : ℕ) (d : Token) → k < length ts → (slice_index_or ts k d).pos ≡ place_of text ts k

@@ -10,11 +10,11 @@ use Rattle.uc_code.specs.Lowered.{Lowered}
 use Rattle.uc_entry.specs.declared.entry.Options.{Options}
 use Rattle.uc_acts.specs.Journal.{Journal, is_ending}
 use Rattle.uc_acts.specs.Texts.{printed}
-use Rattle.uc_built.specs.Accepted.{IsAccepted}
+use Rattle.uc_top.specs.Accepted.{IsAccepted}
 use Rattle.uc_top.specs.declared.endings.Ending.{Ending}
 use Rattle.uc_top.specs.Endings.{EndsWith, IsEnded}
-use Rattle.uc_top.specs.Built.{ProgramRan, told_text}
-use Rattle.uc_top.proofs.Frames.{main_there}
+use Rattle.uc_top.specs.Commands.{ProgramRan, told_text}
+use Rattle.uc_top.proofs.MainLemmas.{main_there}
 use Rattle.uc_entry.specs.declared.entry.EntryKind.{EntryKind}
 use Rattle.uc_entry.specs.declared.entry.EntryKind.TheVariants as kind
 use Rattle.uc_entry.specs.declared.entry.Entry.{Entry}
@@ -40,7 +40,7 @@ is_ended j last e = record { before = e.before; last = last; is = e.last; kind =
 -- the source of an accepted program has this main
 its_source : (p : Program) (code : Code) (main : ℕ) → IsAccepted p → Lowered (source_of p) code → main_number p ≡ main → IsSource code main (source_of p)
 its_source p code main accepted lowered number =
-    let m = main_there p accepted.built in record { lowered = lowered; main_is = number; routine = m.routine; there = m.there }
+    let m = main_there p accepted.no_break in record { lowered = lowered; main_is = number; routine = m.routine; there = m.there }
 
 -- the last entry of the run is an ending
 pub run_ends : (p : Program) (code : Code) (input : List ℕ) (opts : Options) (main : ℕ) (journal told : Journal) → IsAccepted p → Lowered (source_of p) code → ((source : Source) → IsSource code main source → IsRunOf source input opts journal) → main_number p ≡ main → told ≡ journal → IsEnded told

@@ -1,25 +1,25 @@
 -- What the parts of the top call find: of a program, of tokens, of a text, of the files.
 use Rattle.std.specs.Prelude.{◌≡◌, ℕ, ◌≤◌, ◌⊎◌, List, [], length, codes, Option, Some, None}
-use Rattle.uc_tree.specs.declared.limits.TheConstants.{NESTING, INPUT_BYTES, PROCESSORS_MIN, MAKE_MAX}
+use Rattle.uc_tree.specs.declared.limits.TheConstants.{NESTING, INPUT_BYTES, MAKE_MAX}
 use Rattle.uc_tree.specs.declared.pos.Pos.{Pos}
 use Rattle.uc_tree.specs.declared.token.Token.{Token}
 use Rattle.uc_tree.specs.Programs.{Program}
 use Rattle.uc_grammar.specs.Text.{IsProgram}
-use Rattle.uc_entry.specs.declared.entry.Options.{Options}
 use Rattle.uc_acts.specs.Journal.{Journal}
 use Rattle.uc_acts.specs.KernelRuns.{InRange}
 use Rattle.uc_outside.specs.Reading.{StoreState, ReadFailed, ReadTooLong}
 use Rattle.uc_outside.specs.Taking.{SinkState, Took}
-use Rattle.uc_words.specs.Words.{Command, RunFile, CheckFile, LowerFile, MakeProgram}
-use Rattle.uc_built.specs.Accepted.{IsAccepted}
+use Rattle.uc_words.specs.Words.{Command, RunFile, CheckFile, LowerFile, MakeProgram, ExplainJournal}
+use Rattle.uc_top.specs.Accepted.{IsAccepted}
 use Rattle.uc_top.specs.declared.program.Purpose.{Purpose}
 use Rattle.uc_top.specs.declared.program.Purpose.TheVariants.{Run, Check, Lower}
 use Rattle.uc_top.specs.declared.endings.Ending.{Ending}
 use Rattle.uc_top.specs.declared.refusals.Refusal.{Refusal}
-use Rattle.uc_top.specs.declared.refusals.Refusal.TheVariants.{Word, CannotRead, TooLong, Lexical, Syntax, TooDeep, Broken, NotBuilt, FrameTooLarge, CodeTooLarge, NoMemory}
+use Rattle.uc_top.specs.declared.refusals.Refusal.TheVariants.{Word, CannotRead, TooLong, Lexical, Syntax, TooDeep, Broken, FrameTooLarge, CodeTooLarge, BadLine, NoMemory}
 use Rattle.uc_top.specs.Endings.{ending_status, ending_text}
-use Rattle.uc_top.specs.Built.{IsUnbuilt, BreaksFirst, HasLargeFrame, HasLargeCode, ProgramRan, IsListingOf, RunsNothing, HasFault, SyntaxFault, DeepFault, HasSyntaxFault, HasDeepFault, IsTextOf, ReadsTexts, place_of}
-use Rattle.uc_top.specs.Refusals.{err_line, ProgramUnread, InputUnread, ProgramTooLong, InputTooLong}
+use Rattle.uc_top.specs.Accepted.{BreaksFirst, HasLargeFrame, HasLargeCode, HasFault, SyntaxFault, DeepFault, HasSyntaxFault, HasDeepFault, IsTextOf, place_of}
+use Rattle.uc_top.specs.Commands.{ProgramRan, IsListingOf, RunsNothing, ReadsTexts}
+use Rattle.uc_top.specs.Refusals.{err_line, HasBadLine, JournalUnread, JournalTooLong, JournalSuch, ProgramUnread, InputUnread, ProgramTooLong, InputTooLong}
 use Rattle.uc_top.specs.Outcomes.{Failed, Tried}
 
 -- a program is checked, and one is lowered
@@ -41,9 +41,9 @@ ProgramRefused program (Lexical why pos) = ⊥
 ProgramRefused program (Syntax pos) = ⊥
 ProgramRefused program (TooDeep pos) = ⊥
 ProgramRefused program (Broken rule pos) = BreaksFirst rule pos program
-ProgramRefused program NotBuilt = IsUnbuilt program
 ProgramRefused program FrameTooLarge = HasLargeFrame program
 ProgramRefused program CodeTooLarge = HasLargeCode program
+ProgramRefused program (BadLine n) = ⊥
 ProgramRefused program NoMemory = Unit {0}
 
 -- the tokens are those of this program
@@ -88,9 +88,9 @@ TokensRefused text list (Lexical why pos) = ⊥
 TokensRefused text list (Syntax pos) = FailsAt text list pos (SyntaxFault list)
 TokensRefused text list (TooDeep pos) = FailsAt text list pos (DeepFault list)
 TokensRefused text list (Broken rule pos) = AreTokensOf list (BreaksFirst rule pos)
-TokensRefused text list NotBuilt = AreTokensOf list IsUnbuilt
 TokensRefused text list FrameTooLarge = AreTokensOf list HasLargeFrame
 TokensRefused text list CodeTooLarge = AreTokensOf list HasLargeCode
+TokensRefused text list (BadLine n) = ⊥
 TokensRefused text list NoMemory = Unit {0}
 
 abbrev pub TextRefused : List ℕ → Refusal → Type 0
@@ -101,9 +101,9 @@ TextRefused text (Lexical why pos) = HasFault text why pos
 TextRefused text (Syntax pos) = HasSyntaxFault text pos
 TextRefused text (TooDeep pos) = HasDeepFault text pos
 TextRefused text (Broken rule pos) = IsTextOf text (BreaksFirst rule pos)
-TextRefused text NotBuilt = IsTextOf text IsUnbuilt
 TextRefused text FrameTooLarge = IsTextOf text HasLargeFrame
 TextRefused text CodeTooLarge = IsTextOf text HasLargeCode
+TextRefused text (BadLine n) = ⊥
 TextRefused text NoMemory = Unit {0}
 
 -- why the bytes of a name were not read
@@ -115,9 +115,9 @@ NotRead before after name limit (Lexical why pos) = ⊥
 NotRead before after name limit (Syntax pos) = ⊥
 NotRead before after name limit (TooDeep pos) = ⊥
 NotRead before after name limit (Broken rule pos) = ⊥
-NotRead before after name limit NotBuilt = ⊥
 NotRead before after name limit FrameTooLarge = ⊥
 NotRead before after name limit CodeTooLarge = ⊥
+NotRead before after name limit (BadLine n) = ⊥
 NotRead before after name limit NoMemory = after.count ≡ before.count
 
 -- why the bytes of the input were not read
@@ -147,10 +147,38 @@ FilesRefused before after file named (Lexical why pos) name = FilesSuch before a
 FilesRefused before after file named (Syntax pos) name = FilesSuch before after file named (λ text. HasSyntaxFault text pos)
 FilesRefused before after file named (TooDeep pos) name = FilesSuch before after file named (λ text. HasDeepFault text pos)
 FilesRefused before after file named (Broken rule pos) name = FilesSuch before after file named (λ text. IsTextOf text (BreaksFirst rule pos))
-FilesRefused before after file named NotBuilt name = FilesSuch before after file named (λ text. IsTextOf text IsUnbuilt)
 FilesRefused before after file named FrameTooLarge name = FilesSuch before after file named (λ text. IsTextOf text HasLargeFrame)
 FilesRefused before after file named CodeTooLarge name = FilesSuch before after file named (λ text. IsTextOf text HasLargeCode)
+FilesRefused before after file named (BadLine n) name = ⊥
 FilesRefused before after file named NoMemory name = after.count ≡ before.count
+
+-- why a text was not explained
+abbrev pub JournalTextRefused : List ℕ → Refusal → Type 0
+JournalTextRefused text (Word n) = ⊥
+JournalTextRefused text CannotRead = ⊥
+JournalTextRefused text TooLong = ⊥
+JournalTextRefused text (Lexical why pos) = ⊥
+JournalTextRefused text (Syntax pos) = ⊥
+JournalTextRefused text (TooDeep pos) = ⊥
+JournalTextRefused text (Broken rule pos) = ⊥
+JournalTextRefused text FrameTooLarge = ⊥
+JournalTextRefused text CodeTooLarge = ⊥
+JournalTextRefused text (BadLine n) = HasBadLine text n
+JournalTextRefused text NoMemory = Unit {0}
+
+-- why a journal was not explained
+abbrev pub JournalRefused : StoreState → StoreState → List ℕ → Refusal → List ℕ → Type 0
+JournalRefused before after file (Word n) name = ⊥
+JournalRefused before after file CannotRead name = JournalUnread before after file name
+JournalRefused before after file TooLong name = JournalTooLong before after file name
+JournalRefused before after file (Lexical why pos) name = ⊥
+JournalRefused before after file (Syntax pos) name = ⊥
+JournalRefused before after file (TooDeep pos) name = ⊥
+JournalRefused before after file (Broken rule pos) name = ⊥
+JournalRefused before after file FrameTooLarge name = ⊥
+JournalRefused before after file CodeTooLarge name = ⊥
+JournalRefused before after file (BadLine n) name = JournalSuch before after file (λ text. HasBadLine text n)
+JournalRefused before after file NoMemory name = after.count ≡ before.count
 
 -- why a command was not done
 
@@ -163,6 +191,7 @@ CommandRefused (RunFile file opts too named) before after refusal name = FilesRe
 CommandRefused (CheckFile file) before after refusal name = FilesRefused before after file None refusal name
 CommandRefused (LowerFile file) before after refusal name = FilesRefused before after file None refusal name
 CommandRefused (MakeProgram n) before after refusal name = NotMade before after refusal
+CommandRefused (ExplainJournal file object) before after refusal name = JournalRefused before after file refusal name
 
 -- the numbers of a command are in their ranges
 abbrev pub IsInRange : Command → Type 0
@@ -170,6 +199,7 @@ IsInRange (RunFile file opts too named) = InRange opts
 IsInRange (CheckFile file) = Unit {0}
 IsInRange (LowerFile file) = Unit {0}
 IsInRange (MakeProgram n) = (1 ≤ n) × (n ≤ MAKE_MAX)
+IsInRange (ExplainJournal file object) = Unit {0}
 
 -- a run is told: out got what it printed and err the line of its ending, or one of them failed at it
 pub data Finished (out out_after err err_after : SinkState) (output : List ℕ) (ending : Ending) : ℕ → Type 0 where

@@ -1,5 +1,6 @@
 pub mod Endings
-pub mod Built
+pub mod Accepted
+pub mod Commands
 pub mod Refusals
 pub mod Outcomes
 pub mod Decisions

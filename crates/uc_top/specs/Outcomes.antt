@@ -1,6 +1,6 @@
 -- What the top call leaves, for each status.
 use Rattle.std.specs.Prelude.{◌≡◌, ◌≢◌, ℕ, ◌<◌, List, [], ◌⊎◌, IsTrue, codes}
-use Rattle.uc_tree.specs.declared.limits.TheConstants.{PROGRAM_BYTES}
+use Rattle.uc_tree.specs.declared.limits.TheConstants.{PROGRAM_BYTES, JOURNAL_BYTES}
 use Rattle.uc_tree.specs.declared.pos.Pos.{Pos}
 use Rattle.uc_tree.specs.declared.scan.Reason.{Reason}
 use Rattle.uc_tree.specs.Programs.{Program}
@@ -9,12 +9,14 @@ use Rattle.uc_outside.specs.Reading.{StoreState, HasFile}
 use Rattle.uc_outside.specs.Taking.{SinkState, Took, TookPrefix, FailedAt, HasRoom, Stopped}
 use Rattle.uc_rules.specs.declared.rule.Rule.{Rule}
 use Rattle.uc_acts.specs.Journal.{Journal}
-use Rattle.uc_words.specs.Words.{Words, Command, RunFile, CheckFile, LowerFile, MakeProgram, IsLine}
+use Rattle.uc_journal.specs.Lines as journals
+use Rattle.uc_words.specs.Words.{Words, Command, RunFile, CheckFile, LowerFile, MakeProgram, ExplainJournal, IsLine}
 use Rattle.uc_top.specs.declared.endings.Ending.{Ending}
 use Rattle.uc_top.specs.declared.refusals.Refusal.{Refusal}
 use Rattle.uc_top.specs.declared.refusals.Refusal.TheVariants as refusal
 use Rattle.uc_top.specs.Endings.{ending_status, ending_text}
-use Rattle.uc_top.specs.Built.{IsAcceptedText, HasInput, HasDone, IsOnFile, file_of, input_of}
+use Rattle.uc_top.specs.Accepted.{IsAcceptedText}
+use Rattle.uc_top.specs.Commands.{HasInput, HasDone, IsOnFile, file_of, input_of}
 use Rattle.uc_top.specs.Refusals.{status_of, err_line, refusal_text, Refuses}
 
 -- a sink failed at this text and took a prefix of it, and no put was made after the failed one
@@ -86,7 +88,6 @@ pub data OfText : Refusal → Type 0 where
   syntax : (pos : Pos) → OfText (refusal.Syntax pos)
   deep : (pos : Pos) → OfText (refusal.TooDeep pos)
   broken : (rule : Rule) (pos : Pos) → OfText (refusal.Broken rule pos)
-  not_built : OfText refusal.NotBuilt
   large_frame : OfText refusal.FrameTooLarge
   large_code : OfText refusal.CodeTooLarge
 
@@ -108,7 +109,8 @@ pub record Causes (s : Scene) (status : ℕ) (journal : Journal) : Type 0 where
   pub unwritten : status ≡ 4 → CountRose s.out.count s.out_after.count ⊎ CountRose s.err.count s.err_after.count
   pub counted : TooHigh s → status ≡ 4
   pub no_memory : status ≡ 8 → Told s refusal.NoMemory journal
-  pub no_other : OfEnding status ⊎ (status ≡ 1) ⊎ (status ≡ 2) ⊎ (status ≡ 3) ⊎ (status ≡ 4) ⊎ (status ≡ 8)
+  pub bad_line : status ≡ 10 → (n : ℕ) × Told s (refusal.BadLine n) journal
+  pub no_other : OfEnding status ⊎ (status ≡ 1) ⊎ (status ≡ 2) ⊎ (status ≡ 3) ⊎ (status ≡ 4) ⊎ (status ≡ 8) ⊎ (status ≡ 10)
 
 -- to neither sink a put was made after one of this call that failed
 pub record Stops (s : Scene) : Type 0 where
@@ -129,6 +131,18 @@ Finishes (RunFile file opts too named) status = OfEnding status
 Finishes (CheckFile file) status = status ≡ 0
 Finishes (LowerFile file) status = status ≡ 0
 Finishes (MakeProgram n) status = status ≡ 0
+Finishes (ExplainJournal file object) status = status ≡ 0
+
+-- a line of words that asks to explain a journal, over a store that tells its text, within its length
+pub record HasJournal (s : Scene) : Type 0 where
+  pub file : List ℕ
+  pub object : ℕ
+  pub line : IsLine s.words (ExplainJournal file object)
+  pub text : HasFile s.store file JOURNAL_BYTES
+
+-- the text of that file is a journal's
+abbrev pub IsJournal : (s : Scene) → HasJournal s → Journal → Type 0
+IsJournal s h j = journals.IsTextOf h.text.bytes j
 
 abbrev pub HasProgram : (s : Scene) → HasTexts s → Program → Type 0
 HasProgram s h p = IsAcceptedText h.program.bytes p
@@ -144,6 +158,9 @@ pub record Answers (s : Scene) (status : ℕ) : Type 0 where
   pub program : (h : HasTexts s) (p : Program) → HasProgram s h p → Finishes h.command status ⊎ (status ≡ 3) ⊎ (status ≡ 4) ⊎ (status ≡ 8)
   -- a generated program needs no text
   pub made : (n : ℕ) → IsLine s.words (MakeProgram n) → (status ≡ 0) ⊎ (status ≡ 4) ⊎ (status ≡ 8)
+  -- a journal is explained, or its text has a line that is no entry's
+  pub explained : (h : HasJournal s) (j : Journal) → IsJournal s h j → (status ≡ 0) ⊎ (status ≡ 3) ⊎ (status ≡ 4) ⊎ (status ≡ 8)
+  pub no_journal : (h : HasJournal s) → ((j : Journal) → IsJournal s h j → ⊥) → (status ≡ 10) ⊎ (status ≡ 3) ⊎ (status ≡ 4) ⊎ (status ≡ 8)
 
 -- the sinks have room for all that may be put
 pub record HaveRooms (s : Scene) : Type 0 where
@@ -151,11 +168,13 @@ pub record HaveRooms (s : Scene) : Type 0 where
   pub line : (journal : Journal) (output : List ℕ) (ending : Ending) → Ran s journal output ending → HasRoom s.err (ending_text ending)
   pub err : (r : Refusal) (name : List ℕ) → Refused s r name → HasRoom s.err (refusal_text r name)
 
--- over a steady store that has the named texts, and sinks with room, an accepted program is run to its ending, checked or lowered, every text gets its answer, and a program is generated
+-- over a steady store that has the named texts, and sinks with room, an accepted program is run to its ending, checked or lowered, every text gets its answer, a program is generated, and a journal is explained or its bad line named
 pub record Completes (s : Scene) (status : ℕ) : Type 0 where
   pub runs : (h : HasTexts s) → IsTrue s.store.steady → HaveRooms s → (p : Program) → HasProgram s h p → Finishes h.command status ⊎ (status ≡ 8)
   pub refuses : (h : HasTexts s) → IsTrue s.store.steady → HaveRooms s → ((p : Program) → HasProgram s h p → ⊥) → (status ≡ 1) ⊎ (status ≡ 8)
   pub makes : (n : ℕ) → IsLine s.words (MakeProgram n) → HaveRooms s → (status ≡ 0) ⊎ (status ≡ 8)
+  pub explains : (h : HasJournal s) → IsTrue s.store.steady → HaveRooms s → (j : Journal) → IsJournal s h j → (status ≡ 0) ⊎ (status ≡ 8)
+  pub names_line : (h : HasJournal s) → IsTrue s.store.steady → HaveRooms s → ((j : Journal) → IsJournal s h j → ⊥) → (status ≡ 10) ⊎ (status ≡ 8)
 
 abbrev pub scene_of : Words → StoreState → StoreState → SinkState → SinkState → SinkState → SinkState → Scene
 scene_of words store store_after out out_after err err_after = record {

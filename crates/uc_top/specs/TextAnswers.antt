@@ -6,7 +6,7 @@ use Rattle.uc_rules.specs.declared.rule.Rule.{Rule}
 use Rattle.uc_acts.specs.Journal.{Journal}
 use Rattle.uc_top.specs.declared.refusals.Refusal.{Refusal}
 use Rattle.uc_top.specs.declared.refusals.Refusal.TheVariants as refusal
-use Rattle.uc_top.specs.Built.{BreaksFirst, HasDeepFault, HasFault, HasLargeCode, HasLargeFrame, HasSyntaxFault, IsTextOf, IsUnbuilt}
+use Rattle.uc_top.specs.Accepted.{BreaksFirst, HasDeepFault, HasFault, HasLargeCode, HasLargeFrame, HasSyntaxFault, IsTextOf}
 use Rattle.uc_top.specs.Decisions.{TextRefused}
 use Rattle.uc_top.specs.Outcomes.{HasTexts, HaveRooms, OfText, Scene, Told}
 
@@ -26,9 +26,8 @@ pub record TextAnswers (s : Scene) (status : ℕ) (journal : Journal) : Type 0 w
   -- its tokens stop being the beginning of a program, or something in them is nested too deep
   pub syntax : (h : HasTexts s) (pos : Pos) → HasSyntaxFault h.program.bytes pos → GetsJust s status journal (refusal.Syntax pos)
   pub too_deep : (h : HasTexts s) (pos : Pos) → HasDeepFault h.program.bytes pos → GetsJust s status journal (refusal.TooDeep pos)
-  -- it is that of a program of which this is the first break, or which has a form that does not run yet
+  -- it is that of a program of which this is the first break
   pub broken : (h : HasTexts s) (rule : Rule) (pos : Pos) → IsTextOf h.program.bytes (BreaksFirst rule pos) → GetsJust s status journal (refusal.Broken rule pos)
-  pub not_built : (h : HasTexts s) → IsTextOf h.program.bytes IsUnbuilt → GetsJust s status journal refusal.NotBuilt
   -- or which is too large
   pub large_frame : (h : HasTexts s) → IsTextOf h.program.bytes HasLargeFrame → GetsJust s status journal refusal.FrameTooLarge
   pub large_code : (h : HasTexts s) → IsTextOf h.program.bytes HasLargeCode → GetsJust s status journal refusal.CodeTooLarge

@@ -1,26 +1,29 @@
 // What the words make of the store: a run, or the reason why there is none.
 
 ghost use Rattle.std.specs.Prelude.{◌≡◌, ◌≤◌, ◌<◌, ◌^◌, IfOk, IfErr, length, map, string_bytes, option_copied};
-ghost use Rattle.uc_tree.specs.declared.limits.TheConstants.{PROGRAM_BYTES, INPUT_BYTES};
+ghost use Rattle.uc_tree.specs.declared.limits.TheConstants.{PROGRAM_BYTES, INPUT_BYTES, JOURNAL_BYTES};
 ghost use Rattle.uc_tree.specs.Tokens.{tokens, Refused};
 ghost use Rattle.uc_outside.specs.Reading.{KeepsFiles, ReadBytes};
 ghost use Rattle.uc_words.specs.Rest.{command_of, number_of};
-ghost use Rattle.uc_top.specs.Built.{HasDone, CommandDid, ReadsTexts, ReadsInput, place_of};
+ghost use Rattle.uc_top.specs.Accepted.{place_of};
+ghost use Rattle.uc_top.specs.Commands.{HasDone, CommandDid, ReadsTexts, ReadsInput, TextExplained, JournalExplained};
 ghost use Rattle.uc_top.specs.Refusals.{Refuses};
-ghost use Rattle.uc_top.specs.Decisions.{IsInRange, CommandRefused, HasEntries, ProgramDid, ProgramRefused, TokensDid, TokensRefused, TextDid, TextRefused, FilesDid, FilesRefused, NotRead, InputNotRead};
+ghost use Rattle.uc_top.specs.Decisions.{IsInRange, CommandRefused, HasEntries, ProgramDid, ProgramRefused, TokensDid, TokensRefused, TextDid, TextRefused, FilesDid, FilesRefused, NotRead, InputNotRead, JournalTextRefused, JournalRefused};
 
-use crate::program::{Purpose, Run, make_program, run_program};
+use crate::program::{Purpose, Run, done_with, make_program, run_program};
 use crate::refusals::Refusal;
 use std::alloc::Global;
 use std::sync::Wait;
 use std::thread::Threads;
+use uc_explain::explain;
 use uc_front::check;
 use uc_grammar::fault::ParseFault;
+use uc_journal::{JournalFault, read_journal};
 use uc_lex::{LexFault, lex, pos_at};
 use uc_outside::{Gate, Store, StoreFault};
 use uc_parse_class::parse::parse;
 use uc_rules::checked::RuleFault;
-use uc_tree::limits::{INPUT_BYTES, PROGRAM_BYTES};
+use uc_tree::limits::{INPUT_BYTES, JOURNAL_BYTES, PROGRAM_BYTES};
 use uc_tree::pos::Pos;
 use uc_tree::program::Program;
 use uc_tree::scan::Reason;
@@ -93,6 +96,45 @@ fn do_job<'a, R: Threads + Wait + Sync, G: Gate + Sync, S: Store>(
             Ok(run) => Ok(run),
             Err(_) => Err(unnamed(Refusal::NoMemory)),
         },
+        Job::Explain { journal, object } => match explain_file(alloc, journal, object, store) {
+            Ok(run) => Ok(run),
+            Err(why) => Err(why),
+        },
+    }
+}
+
+// Explains the journal of a file at an object.
+fn explain_file<'a, S: Store>(
+    alloc: Global,
+    file: &'a str,
+    object: u32,
+    store: &mut S,
+) -> Result<Run, Why<'a>>
+    ensures did { IfOk result (λ run. JournalExplained (S.state store.old) (S.state store.new) file.now object run.journal.items run.output.items run.ending) }
+    ensures store { KeepsFiles (S.state store.old) (S.state store.new) }
+    ensures refused { IfErr result (λ why. JournalRefused (S.state store.old) (S.state store.new) file.now why.refusal why.name.now) }
+{
+    match read_named(alloc, file, JOURNAL_BYTES, store) {
+        Ok(text) => match explain_text(alloc, &text, object) {
+            Ok(run) => Ok(run),
+            Err(refusal) => Err(unnamed(refusal)),
+        },
+        Err(why) => Err(why),
+    }
+}
+
+// Explains the journal of a text at an object.
+fn explain_text(alloc: Global, text: &[u8], object: u32) -> Result<Run, Refusal>
+    ensures did { IfOk result (λ run. TextExplained text.now object run.journal.items run.output.items run.ending) }
+    ensures refused { IfErr result (JournalTextRefused text.now) }
+{
+    match read_journal(alloc, text) {
+        Ok(journal) => match explain(alloc, &journal, object) {
+            Ok(output) => Ok(done_with(alloc, output)),
+            Err(_) => Err(Refusal::NoMemory),
+        },
+        Err(JournalFault::BadLine { n }) => Err(Refusal::BadLine(n)),
+        Err(JournalFault::NoMemory) => Err(Refusal::NoMemory),
     }
 }
 

@@ -5,7 +5,7 @@ ghost use Rattle.uc_tree.specs.Source.{Source};
 ghost use Rattle.uc_tree.specs.declared.limits.TheConstants.{INPUT_BYTES, MAKE_MAX};
 ghost use Rattle.uc_resolve.specs.Resolve.{source_of};
 ghost use Rattle.uc_rules.specs.Breaks.{breaks_of};
-ghost use Rattle.uc_built.specs.Accepted.{IsAccepted};
+ghost use Rattle.uc_top.specs.Accepted.{IsAccepted};
 ghost use Rattle.uc_code.specs.Layout.{laid_of};
 ghost use Rattle.uc_code.specs.Pace.{IsPaced};
 ghost use Rattle.uc_code.specs.Lowered.{Lowered};
@@ -13,7 +13,7 @@ ghost use Rattle.uc_acts.specs.Texts.{printed};
 ghost use Rattle.uc_make.specs.Generated.{generated};
 ghost use Rattle.uc_vproc.specs.Rest.{IsSource};
 ghost use Rattle.uc_vproc.specs.Runs.{IsRunOf};
-ghost use Rattle.uc_top.specs.Built.{IsRunnable, ProgramRan, RunsNothing, told_text};
+ghost use Rattle.uc_top.specs.Commands.{ProgramRan, RunsNothing, told_text};
 ghost use Rattle.uc_acts.specs.KernelRuns.{InRange};
 ghost use Rattle.uc_top.specs.Decisions.{ProgramDid, ProgramRefused, HasEntries};
 
@@ -23,7 +23,6 @@ use crate::refusals::Refusal;
 use std::alloc::{AllocError, Global};
 use std::sync::Wait;
 use std::thread::Threads;
-use uc_built::is_built;
 use uc_code::code::Code;
 use uc_code::listing::listing;
 use uc_entry::entry::{Entry, Options};
@@ -71,29 +70,6 @@ pub(crate) fn run_program<R: Threads + Wait + Sync, G: Gate + Sync>(
     ensures ran { IfOk result (λ run. ProgramDid purpose program.now input.now run.journal.items run.output.items run.ending) }
     ensures refused { IfErr result (ProgramRefused program.now) }
 {
-    if !is_built(program) {
-        return Err(Refusal::NotBuilt);
-    }
-    match run_built(rt, gate, alloc, program, input, purpose) {
-        Ok(run) => Ok(run),
-        Err(refusal) => Err(refusal),
-    }
-}
-
-fn run_built<R: Threads + Wait + Sync, G: Gate + Sync>(
-    rt: &R,
-    gate: &G,
-    alloc: Global,
-    program: &Program,
-    input: &[u8],
-    purpose: Purpose,
-) -> Result<Run, Refusal>
-    requires runnable { IsRunnable program.now }
-    requires input { length input.now ≤ INPUT_BYTES }
-    requires purpose { HasEntries purpose }
-    ensures ran { IfOk result (λ run. ProgramDid purpose program.now input.now run.journal.items run.output.items run.ending) }
-    ensures refused { IfErr result (ProgramRefused program.now) }
-{
     match Sizes::new(alloc, program) {
         Ok(sizes) => run_sized(rt, gate, alloc, &sizes, program, input, purpose),
         Err(_) => Err(Refusal::NoMemory),
@@ -110,7 +86,7 @@ fn run_sized<R: Threads + Wait + Sync, G: Gate + Sync>(
     purpose: Purpose,
 ) -> Result<Run, Refusal>
     requires sized { sizes.now ≡ program.now }
-    requires runnable { IsRunnable program.now }
+    requires unbroken { breaks_of program.now ≡ [] }
     requires input { length input.now ≤ INPUT_BYTES }
     requires purpose { HasEntries purpose }
     ensures ran { IfOk result (λ run. ProgramDid purpose program.now input.now run.journal.items run.output.items run.ending) }
@@ -157,8 +133,8 @@ fn do_code<R: Threads + Wait + Sync, G: Gate + Sync>(
     }
 }
 
-// What gives this output and runs nothing.
-fn done_with(alloc: Global, output: Vec<u8>) -> Run
+/// What gives this output and runs nothing.
+pub(crate) fn done_with(alloc: Global, output: Vec<u8>) -> Run
     ensures runs { RunsNothing result.journal.items result.ending }
     ensures output { result.output.items ≡ output.items }
 {

@@ -28,12 +28,12 @@ pub enum Refusal {
     TooDeep(Pos),
     /// The first rule that the program breaks, and where.
     Broken(Rule, Pos),
-    /// The program breaks no rule, and has a form that does not run yet.
-    NotBuilt,
     /// A routine has more cells than a frame may have.
     FrameTooLarge,
     /// The frames fit, and the program is larger than its code may be.
     CodeTooLarge,
+    /// The text is no journal's; the first line that is no entry's, from 1.
+    BadLine(u32),
     /// Memory was refused.
     NoMemory,
 }
@@ -51,9 +51,9 @@ impl Refusal {
             Refusal::Syntax(_) => 1,
             Refusal::TooDeep(_) => 1,
             Refusal::Broken(_, _) => 1,
-            Refusal::NotBuilt => 1,
             Refusal::FrameTooLarge => 1,
             Refusal::CodeTooLarge => 1,
+            Refusal::BadLine(_) => 10,
             Refusal::NoMemory => 8,
         }
     }
@@ -80,9 +80,12 @@ pub(crate) fn put_refusal<E: Sink>(
         Refusal::Syntax(pos) => put_placed(err, pos, b"syntax")?,
         Refusal::TooDeep(pos) => put_placed(err, pos, b"too deep")?,
         Refusal::Broken(rule, pos) => put_placed(err, pos, rule.name())?,
-        Refusal::NotBuilt => put_line(err, b"not built", b"")?,
         Refusal::FrameTooLarge => put_line(err, b"frame too large", b"")?,
         Refusal::CodeTooLarge => put_line(err, b"code too large", b"")?,
+        Refusal::BadLine(number) => {
+            let mut buffer = Buffer::new();
+            put_line(err, b"journal line ", buffer.format(number).as_bytes())?;
+        }
         Refusal::NoMemory => put_line(err, b"out of memory", b"")?,
     }
     Ok(())

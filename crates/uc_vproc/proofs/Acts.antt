@@ -1,32 +1,22 @@
 -- An act under the lock: what the locked value keeps, and what comes of it.
-use Rattle.std.proofs.Common.{◌==◌, ◌≡◌, ℕ, ◌-◌, ◌+◌, ◌<◌, ◌≤◌, ◌⊎◌, inl, inr, ◌||◌, Bool, true, false, cond, List, [], ◌∷◌, ◌++◌, Option, Some, None, refl, sym, ap, ◌∙◌, subst, length, replicate, arith, length-append, append-nil, is_some, IfNone, IfSome}
+use Rattle.std.proofs.Common.{◌==◌, ◌≡◌, ℕ, ◌-◌, Bool, true, false, List, [], ◌∷◌, ◌++◌, Option, Some, None, refl, sym, ap, ◌∙◌, subst}
 use Rattle.std.specs.Prelude.{if◌then◌else◌}
-use Rattle.std.specs.Option.{option_map}
-use Rattle.std.proofs.lemmas.List.{length-replicate}
-use Rattle.std.proofs.lemmas.Bool.{eqb-true, eq-eqb}
+use Rattle.std.specs.Option.{option_to_list}
+use Rattle.std.proofs.lemmas.Bool.{eqb-true}
 use Rattle.uc_tree.specs.Source.{Source}
-use Rattle.uc_tree.specs.Programs.{Site}
 use Rattle.uc_entry.specs.declared.entry.Entry.{Entry}
-use Rattle.uc_entry.specs.declared.entry.EntryKind.{EntryKind}
-use Rattle.uc_entry.specs.declared.request.Request.{Request}
-use Rattle.uc_entry.specs.declared.request.Answer.{Answer}
-use Rattle.uc_entry.specs.declared.request.Answer.TheVariants as answer
 use Rattle.uc_entry.specs.Keyed.{find}
-use Rattle.uc_acts.specs.Journal.{Journal, is_ending, is_over, held, own_object}
+use Rattle.uc_acts.specs.Journal.{is_over, held, own_object}
 use Rattle.uc_acts.specs.Known.{has, spawns, takes_out}
 use Rattle.uc_acts.specs.Queues.{running}
 use Rattle.uc_acts.specs.Answers.{answer_to}
-use Rattle.uc_acts.specs.Serves.{Serves, left}
+use Rattle.uc_acts.specs.Serves.{left}
 use Rattle.uc_acts.specs.Sound.{Sound}
-use Rattle.uc_acts.specs.Acts.{act, dispatch, lone_limit}
-use Rattle.uc_acts.specs.KernelRuns.{KernelRuns, MayAsk, more as more_in, gives as gives_in, no_room as none_in, acts as acts_in}
-use Rattle.uc_acts.proofs.Acting.{AllBy, by_act, object_of, destroys}
-use Rattle.uc_acts.proofs.Bounds.{law_room, over_push, over_limit}
-use Rattle.uc_acts.proofs.Given.{law_dispatch}
+use Rattle.uc_acts.specs.Acts.{act}
+use Rattle.uc_acts.specs.KernelRuns.{KernelRuns, more as more_in, acts as acts_in}
+use Rattle.uc_acts.proofs.Acting.{by_act, object_of, destroys}
 use Rattle.uc_acts.proofs.Others.{law_elsewhere}
 use Rattle.uc_acts.proofs.Law.{good_whole}
-use Rattle.uc_acts.proofs.Seats.{running_given}
-use Rattle.uc_machine.specs.Quiet.{State, Members as Home}
 use Rattle.uc_machine.specs.Answering.{answered, child_of}
 use Rattle.uc_machine.specs.Rides.{Rides}
 use Rattle.uc_code.specs.Codes.{Code}
@@ -37,29 +27,36 @@ use Rattle.uc_frames.specs.PaceInvariant.{EachOf, IdlesAt}
 use Rattle.uc_step.specs.WeightFalls.{Keeps}
 use Rattle.uc_ride.specs.RideStands.{Rode}
 use Rattle.uc_ride.specs.UnwindingFalls.{ChildKeeps}
-use Rattle.uc_meaning.specs.Runs.{World, Runs, IsPrefix, more, gives, no_room, acts, AsksIn, bare, drawn, world_after, hand_of}
+use Rattle.uc_meaning.specs.Runs.{World, Runs, IsPrefix, more, acts, AsksIn, bare, drawn, world_after, hand_of}
 use Rattle.uc_kernel.specs.Numbered.{keys, or_else}
-use Rattle.uc_kernel.specs.KernelState.{Store, kept, Kept, Same, put_back, handed, with_entry}
-use Rattle.uc_kernel.specs.Calls.{MayBring, HandsOut, Goes, Blocks, Ends, Follows, Acted, Gives, over, abandoned, nobody, no_room as limited, Dispatched, EndsRun, LacksNew, is_object}
+use Rattle.uc_kernel.specs.KernelState.{Store, kept, Kept, put_back, handed}
+use Rattle.uc_kernel.specs.Calls.{MayBring, HandsOut, Goes, Follows, Acted, LacksNew}
 use Rattle.uc_kernel.specs.declared.given.Given.{Given}
 use Rattle.uc_kernel.specs.declared.given.Back.{Back}
 use Rattle.uc_kernel.specs.declared.given.Next.{Next}
-use Rattle.uc_kernel.specs.declared.given.Next.TheVariants.{Go, Blocked, Ended}
-use Rattle.uc_lock.specs.Journals.{Extends, made_by}
+use Rattle.uc_kernel.specs.declared.given.Next.TheVariants.{Go}
+use Rattle.uc_lock.specs.Journals.{made_by}
+use Rattle.uc_entry.specs.declared.request.Answer.TheVariants as answer
+use Rattle.uc_vproc.specs.declared.put.Sort.{Sort}
+use Rattle.uc_vproc.specs.declared.put.Sort.TheVariants as sort
+use Rattle.uc_vproc.specs.declared.registry.Registry.{Registry}
+use Rattle.uc_vproc.specs.declared.step.Handed.{Handed}
 use Rattle.uc_vproc.specs.declared.step.Step.{Step}
 use Rattle.uc_vproc.specs.declared.step.Step.TheVariants.{Going, Idle, Over}
 use Rattle.uc_vproc.specs.Makers.{Log, Notes, paired, tagged, entries, server, handed_out, Manned}
-use Rattle.uc_vproc.specs.Rest.{IsSource, IsHome, IsTask, IsWork, OutElse, AtRest, RestKept, Steady, WasHanded, faults, new_in, stops}
-use Rattle.uc_vproc.specs.Desks.{AreThere, EndsAs, Keeping, Got, IsRide, Brings, Came, Saw, HandsNext, Passes, ThereAfter, boxed, plain, newly, off, nothing, passes, WasHandedOut, none_left, gave, Comes, goes, idles, ends, WasPut, stays, refused, acted, value_after}
-use Rattle.uc_vproc.proofs.Makers.{named_all, not_both, entries_paired, entries_append, entries_tagged, paired_more, server_push, manned_push, is_nil, AllOn, Follows as MannedOn, manned_act, handed_still, handed_act, names_none, Aloof, aloof, none_since, all_tagged}
+use Rattle.uc_vproc.specs.Registries.{Tells, is_counting, sort_of}
+use Rattle.uc_vproc.specs.Rest.{IsSource, IsHome, IsTask, IsWork, OutElse, AtRest, RestKept, Steady, WasHanded, faults}
+use Rattle.uc_vproc.specs.Desks.{Keeping, Got, Brings, Saw, Passes, RegistryAfter, boxed, whole, plain, newly, numbered, off, Comes, goes, idles, ends, WasPut, stays, refused, acted}
+use Rattle.uc_vproc.proofs.Makers.{named_all, not_both, is_nil, AllOn, Follows as MannedOn, manned_act, handed_still, handed_act, names_none, Aloof, aloof, none_since}
 use Rattle.uc_vproc.proofs.Parts.{task_of, work_of, kept_bare, kept_task, kept_work, goes_stands, goes_kept, hand_stands_after, hand_kept_after, born_stands, each_gathered, each_found}
-use Rattle.uc_vproc.proofs.Asked.{act_some, goes_on_behind, spawned, there_by}
-use Rattle.uc_vproc.proofs.Turns.{Advanced, advanced, all_on, changed, entries_more, goes_of, has_last, log_is, no_new, noted, other_some, plain_keys, same_kept, same_new, some_child, still_by}
-use Rattle.uc_vproc.proofs.Steps.{Choice, one_same, keys_lined, put_members, put_values, drawn_same, wait_by, drawn_given, settle_by, hand_stands, rest_stands}
+use Rattle.uc_vproc.proofs.Asked.{act_some, goes_on_behind, spawned}
+use Rattle.uc_vproc.proofs.Counting.{counting_hand, told_by}
+use Rattle.uc_vproc.proofs.Turns.{Advanced, advanced, all_on, changed, entries_more, goes_of, has_last, log_is, made_in, noted, other_some, same_kept, some_child, still_by, whole_keys}
+use Rattle.uc_vproc.proofs.Steps.{Choice, one_same, keys_lined, put_members, put_values, drawn_same, settle_by, hand_stands, rest_stands}
 
 -- the entries of an act are on its processor
 module _ (code : Code) (main : ℕ) where
-  module _ (k : Kept (Option Machine) Members) (ns : Notes) (room n : ℕ) (there : List Bool) (keeps : Keeping code main k ns room there) where
+  module _ (k : Kept (Option Machine) Members) (ns : Notes) (room n : ℕ) (registry : Registry) (keeps : Keeping code main k ns room registry) where
     abbrev log : Log
     log = paired k.journal ns
 
@@ -74,8 +71,11 @@ module _ (code : Code) (main : ℕ) where
       abbrev t : ℕ
       t = may.task
 
+      abbrev handed_then : Handed
+      handed_then = brings.handed
+
       abbrev given : Given Machine Members
-      given = brings.given
+      given = brings.handed.given
 
       abbrev later : Log
       later = saw.begins.0
@@ -91,19 +91,19 @@ module _ (code : Code) (main : ℕ) where
 
       since : Aloof b.processor n brings.got.task seen later
       since =
-          aloof b.processor n brings.got.task seen later (subst Manned log_from keeps.manned) served_then (ap (λ q. running q (entries seen)) brings.ride.processor ∙ brings.got.runs) (none_since n seen later (ap (made_by n) (sym log_from) ∙ saw.mine)) (ap (λ l. is_over (entries l)) (sym log_from) ∙ ap is_over (log_is code main k ns room n there keeps) ∙ going)
+          aloof b.processor n brings.got.task seen later (subst Manned log_from keeps.manned) served_then (ap (λ q. running q (entries seen)) brings.ride.processor ∙ brings.got.runs) (none_since n seen later (ap (made_by n) (sym log_from) ∙ saw.mine)) (ap (λ l. is_over (entries l)) (sym log_from) ∙ ap is_over (log_is code main k ns room n registry keeps) ∙ going)
 
       served : server b.processor log ≡ Some n
       served = ap (server b.processor) log_from ∙ since.serves
 
-      handed_is : handed_out b.processor log ≡ Some given
+      handed_is : handed_out b.processor log ≡ Some handed_then
       handed_is = ap (handed_out b.processor) log_from ∙ handed_still b.processor seen later since.none ∙ ap (λ q. handed_out q seen) brings.ride.processor ∙ brings.got.is
 
       was : WasHanded calm log b.processor t
       was = old.out b.processor t may.asks.runs
 
-      same_given : was.given ≡ given
-      same_given = cc (sym was.is ∙ handed_is)
+      same_handed : was.handed ≡ handed_then
+      same_handed = cc (sym was.is ∙ handed_is)
 
       abbrev a : List Entry
       a = act k.opts k.sites k.input k.journal b.processor may.task b.ticks b.asked
@@ -137,13 +137,13 @@ module _ (code : Code) (main : ℕ) where
         same_sites = keeps.sites ∙ is.lowered.sites
 
         rode : Rode source (laid_of code) (answered source given.answer (drawn k.journal x.world t)) given.left b.ticks b.asked (with_hand b.members.items brings.ride.after) brings.ride.child
-        rode = brings.ride.rode source (drawn k.journal x.world t) is.lowered (x.hands b.processor t given may.asks.runs handed_is)
+        rode = brings.ride.rode source (drawn k.journal x.world t) is.lowered (x.hands b.processor t handed_then may.asks.runs handed_is)
 
         told : answer_to source.sites t k.journal ≡ Some given.answer
-        told = ap (λ ss. answer_to ss t k.journal) (sym same_sites) ∙ was.answer ∙ ap (λ (g : Given Machine Members). Some g.answer) same_given
+        told = ap (λ ss. answer_to ss t k.journal) (sym same_sites) ∙ was.answer ∙ ap (λ (y : Handed). Some y.given.answer) same_handed
 
         left_now : given.left ≡ left k.opts k.journal t
-        left_now = ap (λ (g : Given Machine Members). g.left) (sym same_given) ∙ was.left_is
+        left_now = ap (λ (y : Handed). y.given.left) (sym same_handed) ∙ was.left_is
 
         asks : AsksIn source k.opts k.journal x.world b.processor t b.ticks rode.reached b.asked
         asks = record {
@@ -185,18 +185,18 @@ module _ (code : Code) (main : ℕ) where
           values_then u v f =
               put_values (IsTask code) (IsHome code) source k.opts k.sites k.input k.journal x.world b.processor t b.ticks rode.reached b.asked keeps.runs may.asks hand k.values x.values b.task b.child own_then born_then u v f
 
-          others_work : (going' : is_over (k.journal ++ a) ≡ false) (step : Step) (q u : ℕ) (g : Given Machine Members) → (q == b.processor) ≡ false → running q (k.journal ++ a) ≡ u ∷ [] → handed_out q (log ++ tagged n step a) ≡ Some g → IsWork code g.task g.members.items (drawn (k.journal ++ a) after u)
+          others_work : (going' : is_over (k.journal ++ a) ≡ false) (step : Step) (q u : ℕ) (g : Handed) → (q == b.processor) ≡ false → running q (k.journal ++ a) ≡ u ∷ [] → handed_out q (log ++ tagged n step a) ≡ Some g → IsWork code g.given.task g.given.members.items (drawn (k.journal ++ a) after u)
           others_work going' step q u g d r f =
               let r' : running q k.journal ≡ u ∷ [] = sym (law_elsewhere k.opts k.sites k.input k.journal b.processor t b.ticks b.asked keeps.runs may.asks q d).runs ∙ r in
-              subst (λ y. IsWork code g.task g.members.items y) (sym (drawn_same (IsTask code) (IsHome code) source k.opts k.sites k.input k.journal x.world b.processor t b.ticks rode.reached b.asked keeps.runs may.asks hand going' q u r' d)) (x.hands q u g r' (sym (others step q d) ∙ f))
+              subst (λ y. IsWork code g.given.task g.given.members.items y) (sym (drawn_same (IsTask code) (IsHome code) source k.opts k.sites k.input k.journal x.world b.processor t b.ticks rode.reached b.asked keeps.runs may.asks hand going' q u r' d)) (x.hands q u g r' (sym (others step q d) ∙ f))
 
       act_prefix : (source : Source) → IsSource code main source → IsPrefix source k.input k.opts (k.journal ++ a)
       act_prefix source is = record { world = after source is; runs = runs_after source is }
 
       -- where the run is over, or abandoned
-      pub stopped : (v : ℕ → Option (Option Machine)) (m : ℕ → Option Members) (c : Bool) → (c ≡ false → is_over (k.journal ++ a) ≡ true) → (there' : List Bool) → Advanced code main k ns room n (changed k a v m c) (noted ns n Over (k.journal ++ a)) there' Over
-      stopped v m c f there' =
-          advanced code main k ns room n there keeps Over a v m c act_runs (on_processor Over).manned act_prefix (λ g o. not_both (is_over (k.journal ++ a)) (f g) o) tt there' (λ g o. not_both (is_over (k.journal ++ a)) (f g) o)
+      pub stopped : (v : ℕ → Option (Option Machine)) (m : ℕ → Option Members) (c : Bool) → (c ≡ false → is_over (k.journal ++ a) ≡ true) → (registry' : Registry) → Advanced code main k ns room n (changed k a v m c) (noted ns n Over (k.journal ++ a)) registry' Over
+      stopped v m c f registry' =
+          advanced code main k ns room n registry keeps Over a v m c act_runs (on_processor Over).manned act_prefix (λ g o. not_both (is_over (k.journal ++ a)) (f g) o) tt registry' (λ g o. not_both (is_over (k.journal ++ a)) (f g) o)
 
       -- where the request is no fault
       module _ (on : faults b.asked.request ≡ false) where
@@ -238,7 +238,7 @@ module _ (code : Code) (main : ℕ) where
             let y = law.untouched u r' in
             let o = old.out q u r' in
             record {
-              given = o.given;
+              handed = o.handed;
               is = others step q d ∙ o.is;
               keys_are = o.keys_are ∙ sym y.objects;
               answer = y.answer ∙ o.answer;
@@ -254,7 +254,7 @@ module _ (code : Code) (main : ℕ) where
           out_idle q u true d r = nobody_on q u d r
           out_idle q u false d r = out_else rested.values rested.members Idle q u d r
 
-          work_idle : (source : Source) (is : IsSource code main source) (q u : ℕ) (g : Given Machine Members) (c : Bool) → (q == b.processor) ≡ c → running q (k.journal ++ a) ≡ u ∷ [] → handed_out q (log ++ tagged n Idle a) ≡ Some g → IsWork code g.task g.members.items (drawn (k.journal ++ a) (after source is) u)
+          work_idle : (source : Source) (is : IsSource code main source) (q u : ℕ) (g : Handed) (c : Bool) → (q == b.processor) ≡ c → running q (k.journal ++ a) ≡ u ∷ [] → handed_out q (log ++ tagged n Idle a) ≡ Some g → IsWork code g.given.task g.given.members.items (drawn (k.journal ++ a) (after source is) u)
           work_idle source is q u g true d r f = nobody_on q u d r
           work_idle source is q u g false d r f = others_work source is on going' Idle q u g d r f
 
@@ -267,14 +267,17 @@ module _ (code : Code) (main : ℕ) where
             hands = λ q u g r f. work_idle source is q u g (q == b.processor) refl r f;
           }
 
-          pub idled : (there' : List Bool) → AreThere there' (k.journal ++ a) → Advanced code main k ns room n (changed k a rested.values rested.members k.abandoned) (noted ns n Idle (k.journal ++ a)) there' Idle
-          idled there' are =
-              advanced code main k ns room n there keeps Idle a rested.values rested.members k.abandoned act_runs (on_processor Idle).manned act_prefix (λ f o. record { kept = record { values = kept_rested.values; members = kept_rested.members }; out = λ q u r. out_idle q u (q == b.processor) refl r; stands = rests_idle }) tt there' (λ f o. are)
+          pub idled : (registry' : Registry) → Tells k.opts k.sites (k.journal ++ a) registry' → Advanced code main k ns room n (changed k a rested.values rested.members k.abandoned) (noted ns n Idle (k.journal ++ a)) registry' Idle
+          idled registry' are =
+              advanced code main k ns room n registry keeps Idle a rested.values rested.members k.abandoned act_runs (on_processor Idle).manned act_prefix (λ f o. record { kept = record { values = kept_rested.values; members = kept_rested.members }; out = λ q u r. out_idle q u (q == b.processor) refl r; stands = rests_idle }) tt registry' (λ f o. are)
 
         -- it is handed out again
-        module _ (going' : is_over (k.journal ++ a) ≡ false) (g : Given Machine Members) (h : HandsOut rested b.processor t (boxed g)) (keys_now : keys g.members.items ++ new_in g.answer ≡ held t (k.journal ++ a)) where
+        module _ (going' : is_over (k.journal ++ a) ≡ false) (y : Handed) (h : HandsOut rested b.processor t (boxed y.given)) (keys_now : keys y.given.members.items ++ option_to_list y.made ≡ held t (k.journal ++ a)) where
+          abbrev g : Given Machine Members
+          g = y.given
+
           abbrev step : Step
-          step = Going g
+          step = Going y
 
           abbrev log1 : Log
           log1 = log ++ tagged n step a
@@ -282,17 +285,17 @@ module _ (code : Code) (main : ℕ) where
           abbrev k2 : Kept (Option Machine) Members
           k2 = changed k a (handed t rested).values (handed t rested).members false
 
-          handed_now : handed_out b.processor log1 ≡ Some g
+          handed_now : handed_out b.processor log1 ≡ Some y
           handed_now = handed_act b.processor n log step a (named_all b.processor a on_all) some
 
           mine : WasHanded k2 log1 b.processor t
-          mine = record { given = g; is = handed_now; keys_are = keys_now; answer = h.answer; left_is = h.left }
+          mine = record { handed = y; is = handed_now; keys_are = keys_now; answer = h.answer; left_is = h.left }
 
           out_by : (q u : ℕ) (c : Bool) → (q == b.processor) ≡ c → running q (k.journal ++ a) ≡ u ∷ [] → WasHanded k2 log1 q u
           out_by q u true d r =
               let same : q ≡ b.processor = eqb-true q b.processor d in
-              let who : t ≡ u = one_same t u (sym h.runs ∙ ap (λ y. running y (k.journal ++ a)) (sym same) ∙ r) in
-              subst (λ y. WasHanded k2 log1 y u) (sym same) (subst (λ y. WasHanded k2 log1 b.processor y) who mine)
+              let who : t ≡ u = one_same t u (sym h.runs ∙ ap (λ z. running z (k.journal ++ a)) (sym same) ∙ r) in
+              subst (λ z. WasHanded k2 log1 z u) (sym same) (subst (λ z. WasHanded k2 log1 b.processor z) who mine)
           out_by q u false d r = out_else (handed t rested).values (handed t rested).members step q u d r
 
           module _ (source : Source) (is : IsSource code main source) where
@@ -306,13 +309,13 @@ module _ (code : Code) (main : ℕ) where
             work_now =
                 subst (λ ms. IsWork code g.task ms (drawn (k.journal ++ a) w t)) (sym h.hand) (work_of code g.task _ (w.tasks t) (hand_of (held t (k.journal ++ a)) w.homes) (values_then source is on t g.task h.value) (hand_stands (IsTask code) (IsHome code) (k.journal ++ a) w b.processor t sound h.runs rested.members (members_but source is on)))
 
-            work_by : (q u : ℕ) (g' : Given Machine Members) (c : Bool) → (q == b.processor) ≡ c → running q (k.journal ++ a) ≡ u ∷ [] → handed_out q log1 ≡ Some g' → IsWork code g'.task g'.members.items (drawn (k.journal ++ a) w u)
-            work_by q u g' true d r f =
+            work_by : (q u : ℕ) (x : Handed) (c : Bool) → (q == b.processor) ≡ c → running q (k.journal ++ a) ≡ u ∷ [] → handed_out q log1 ≡ Some x → IsWork code x.given.task x.given.members.items (drawn (k.journal ++ a) w u)
+            work_by q u x true d r f =
                 let same : q ≡ b.processor = eqb-true q b.processor d in
-                let who : t ≡ u = one_same t u (sym h.runs ∙ ap (λ y. running y (k.journal ++ a)) (sym same) ∙ r) in
-                let it : g ≡ g' = cc (sym handed_now ∙ ap (λ y. handed_out y log1) (sym same) ∙ f) in
-                subst (λ y. IsWork code g'.task g'.members.items (drawn (k.journal ++ a) w y)) who (subst (λ (z : Given Machine Members). IsWork code z.task z.members.items (drawn (k.journal ++ a) w t)) it work_now)
-            work_by q u g' false d r f = others_work source is on going' step q u g' d r f
+                let who : t ≡ u = one_same t u (sym h.runs ∙ ap (λ z. running z (k.journal ++ a)) (sym same) ∙ r) in
+                let it : y ≡ x = cc (sym handed_now ∙ ap (λ z. handed_out z log1) (sym same) ∙ f) in
+                subst (λ z. IsWork code x.given.task x.given.members.items (drawn (k.journal ++ a) w z)) who (subst (λ (z : Handed). IsWork code z.given.task z.given.members.items (drawn (k.journal ++ a) w t)) it work_now)
+            work_by q u x false d r f = others_work source is on going' step q u x d r f
 
             rests : AtRest code source k2 log1
             rests = record {
@@ -320,7 +323,7 @@ module _ (code : Code) (main : ℕ) where
               runs = runs_after source is;
               values = λ u v f. values_then source is on u v (other_some (u == t) (rested.values u) (Some v) f);
               members = rest_stands (IsTask code) (IsHome code) (k.journal ++ a) w b.processor t sound h.runs rested.members (members_but source is on);
-              hands = λ q u g' r f. work_by q u g' (q == b.processor) refl r f;
+              hands = λ q u x r f. work_by q u x (q == b.processor) refl r f;
             }
 
           steady1 : Steady code main k2 log1
@@ -333,43 +336,61 @@ module _ (code : Code) (main : ℕ) where
             stands = rests;
           }
 
-          got1 : Got code n log1 g
+          got1 : Got code n log1 y
           got1 = record {
             is = ap (λ q. handed_out q log1) h.processor ∙ handed_now;
             serves = ap (λ q. server q log1) h.processor ∙ (on_processor step).serves;
             task = t;
-            runs = ap (running g.processor) (entries_more code main k ns room n there keeps step a) ∙ ap (λ q. running q (k.journal ++ a)) h.processor ∙ h.runs;
+            runs = ap (running g.processor) (entries_more code main k ns room n registry keeps step a) ∙ ap (λ q. running q (k.journal ++ a)) h.processor ∙ h.runs;
             kept = subst (λ ms. Keeps code (with_hand ms g.task)) (sym h.hand) (kept_work code g.task _ (kept_rested.values t g.task h.value) (each_gathered (IdlesAt (laid_of code) code.routines) (held t (k.journal ++ a)) rested.members kept_rested.members));
           }
 
-          pub went : (there' : List Bool) → AreThere there' (k.journal ++ a) → Advanced code main k ns room n (changed k a (handed t rested).values (handed t rested).members k.abandoned) (noted ns n step (k.journal ++ a)) there' step
-          went there' are = advanced code main k ns room n there keeps step a (handed t rested).values (handed t rested).members k.abandoned act_runs (on_processor step).manned act_prefix (λ f o. steady1) got1 there' (λ f o. are)
+          pub went : (registry' : Registry) → Tells k.opts k.sites (k.journal ++ a) registry' → Advanced code main k ns room n (changed k a (handed t rested).values (handed t rested).members k.abandoned) (noted ns n step (k.journal ++ a)) registry' step
+          went registry' are = advanced code main k ns room n registry keeps step a (handed t rested).values (handed t rested).members k.abandoned act_runs (on_processor step).manned act_prefix (λ f o. steady1) got1 registry' (λ f o. are)
 
       not_fault : is_over (k.journal ++ a) ≡ false → faults b.asked.request ≡ false
       not_fault g = goes_on_behind k.opts k.sites k.input k.journal b.processor t b.ticks b.asked g
 
-      are_there : (there' : List Bool) (step : Step) → ThereAfter there there' b.asked.request step → is_over (k.journal ++ a) ≡ false → ((g : Given Machine Members) (o : ℕ) → step ≡ Going g → g.answer ≡ answer.Object o → has (held t (k.journal ++ a)) o ≡ true) → AreThere there' (k.journal ++ a)
-      are_there there' step w going' new o h =
-          there_by k.opts k.sites k.input k.journal b.processor t b.ticks b.asked keeps.runs going may.asks act_runs going' there (keeps.are_there wanted going) step new o (w o h)
+      -- behind the act what is told of what may be asked for is so
+      told_then : (registry' : Registry) (step : Step) → RegistryAfter registry registry' b.asked.request step → is_over (k.journal ++ a) ≡ false → ((y : Handed) (o : ℕ) → step ≡ Going y → y.made ≡ Some o → has (held t (k.journal ++ a)) o ≡ true) → Tells k.opts k.sites (k.journal ++ a) registry'
+      told_then registry' step w going' new =
+          told_by k.opts k.sites k.input k.journal b.processor t b.ticks b.asked keeps.runs going may.asks act_runs going' registry (keeps.told wanted going) registry' step w new
+
+      none_made : (g : Given Machine Members) (y : Handed) (o : ℕ) → Going (whole g) ≡ Going y → y.made ≡ Some o → has (held t (k.journal ++ a)) o ≡ true
+      none_made g y o s e = absurd (cc (sym (made_in (whole g) y None refl s) ∙ e))
 
       -- the task is handed out again
-      pass_by : (there' : List Bool) (made : Bool) (mid new : Store (Option Machine) Members) (y : Given (Option Machine) Members) (step : Step) → Passes made mid new y step → ThereAfter there there' b.asked.request step → (made ≡ true → LacksNew mid.journal t (Go y)) → Goes rested (kept mid) b.processor t y → Advanced code main k ns room n (kept new) (noted ns n step new.journal) there' step
-      pass_by there' made mid new y z (plain g no_object e) w lacks f =
-          let keys_now : keys g.members.items ++ new_in g.answer ≡ held t (k.journal ++ a) = plain_keys g no_object ∙ f.hands.keys_are no_object in
-          subst (λ (x : Store (Option Machine) Members). Advanced code main k ns room n (kept x) (noted ns n (Going g) x.journal) there' (Going g)) (sym e) (subst (λ (x : Kept (Option Machine) Members). Advanced code main k ns room n x (noted ns n (Going g) x.journal) there' (Going g)) (same_kept (handed t rested) (kept mid) f.rest) (went (not_fault f.going) f.going g f.hands keys_now there' (are_there there' (Going g) w f.going (λ g' o s ans. absurd (no_new g g' o no_object s ans)))))
-      pass_by there' made mid new y z (newly g m is ans e) w lacks f =
-          let last : held t (k.journal ++ a) ≡ keys g.members.items ++ m ∷ [] = ap (held t) (sym f.rest.journal) ∙ lacks is m ans in
-          let keys_now : keys g.members.items ++ new_in g.answer ≡ held t (k.journal ++ a) = ap (λ x. keys g.members.items ++ new_in x) ans ∙ sym last in
-          subst (λ (x : Store (Option Machine) Members). Advanced code main k ns room n (kept x) (noted ns n (Going g) x.journal) there' (Going g)) (sym e) (subst (λ (x : Kept (Option Machine) Members). Advanced code main k ns room n x (noted ns n (Going g) x.journal) there' (Going g)) (same_kept (handed t rested) (kept mid) f.rest) (went (not_fault f.going) f.going g f.hands keys_now there' (are_there there' (Going g) w f.going (λ g' o s ans'. ap (λ os. has os o) last ∙ ap (has (keys g.members.items ++ m ∷ [])) (same_new g g' m o ans s ans') ∙ has_last (keys g.members.items) m))))
-      pass_by there' made mid new y z (off x e) w lacks f =
-          subst (λ (x : Store (Option Machine) Members). Advanced code main k ns room n (kept x) (noted ns n Over x.journal) there' Over) (sym e) (subst (λ (x : Kept (Option Machine) Members). Advanced code main k ns room n (record x { abandoned = true }) (noted ns n Over x.journal) there' Over) (same_kept (handed t rested) (kept mid) f.rest) (stopped (handed t rested).values (handed t rested).members true (λ c. absurd (cc c)) there'))
+      abbrev Follow : Registry → Store (Option Machine) Members → Step → Type 0
+      Follow registry' s step = Advanced code main k ns room n (kept s) (noted ns n step s.journal) registry' step
 
-      put_by : (there' : List Bool) (made : Bool) (mid new : Store (Option Machine) Members) {next : Next (Option Machine) Members} {step : Step} → ThereAfter there there' b.asked.request step → (made ≡ true → LacksNew mid.journal t next) → Comes made mid new next step → Follows rested (kept mid) b.processor t next → Advanced code main k ns room n (kept new) (noted ns n step new.journal) there' step
-      put_by there' made mid new w lacks (goes y z q) f = pass_by there' made mid new y z q w lacks f
-      put_by there' made mid new w lacks (idles e) f =
-          subst (λ (x : Store (Option Machine) Members). Advanced code main k ns room n (kept x) (noted ns n Idle x.journal) there' Idle) (sym e) (subst (λ (x : Kept (Option Machine) Members). Advanced code main k ns room n x (noted ns n Idle x.journal) there' Idle) (same_kept rested (kept mid) f.rest) (idled (not_fault f.going) f.going f.free there' (are_there there' Idle w f.going (λ g o s ans. absurd (cc s)))))
-      put_by there' made mid new w lacks (ends e) f =
-          subst (λ (x : Store (Option Machine) Members). Advanced code main k ns room n (kept x) (noted ns n Over x.journal) there' Over) (sym e) (subst (λ (x : Kept (Option Machine) Members). Advanced code main k ns room n x (noted ns n Over x.journal) there' Over) (same_kept rested (kept mid) f.rest) (stopped rested.values rested.members k.abandoned (λ _. f.over) there'))
+      again : (registry' : Registry) (mid new : Store (Option Machine) Members) (y : Handed) → new ≡ mid → Goes rested (kept mid) b.processor t (boxed y.given) → keys y.given.members.items ++ option_to_list y.made ≡ held t (k.journal ++ a) → Tells k.opts k.sites (k.journal ++ a) registry' → Follow registry' new (Going y)
+      again registry' mid new y e f keys_now told =
+          subst (λ (x : Store (Option Machine) Members). Follow registry' x (Going y)) (sym e) (subst (λ (x : Kept (Option Machine) Members). Advanced code main k ns room n x (noted ns n (Going y) x.journal) registry' (Going y)) (same_kept (handed t rested) (kept mid) f.rest) (went (not_fault f.going) f.going y f.hands keys_now registry' told))
+
+      -- one that is told of what it has just made
+      new_by : (registry' : Registry) (mid new : Store (Option Machine) Members) (m : ℕ) (y : Handed) → y.given.answer ≡ answer.Object m → y.made ≡ Some m → new ≡ mid → RegistryAfter registry registry' b.asked.request (Going y) → LacksNew mid.journal t (Go (boxed y.given)) → Goes rested (kept mid) b.processor t (boxed y.given) → Follow registry' new (Going y)
+      new_by registry' mid new m y ans is e w lacks f =
+          let last : held t (k.journal ++ a) ≡ keys y.given.members.items ++ m ∷ [] = ap (held t) (sym f.rest.journal) ∙ lacks m ans in
+          let keys_now : keys y.given.members.items ++ option_to_list y.made ≡ held t (k.journal ++ a) = ap (λ x. keys y.given.members.items ++ option_to_list x) is ∙ sym last in
+          again registry' mid new y e f keys_now (told_then registry' (Going y) w f.going (λ y' o s ans'. let same : Some m ≡ Some o = sym (made_in y y' (Some m) is s) ∙ ans' in let it : m ≡ o = cc same in ap (λ os. has os o) last ∙ ap (has (keys y.given.members.items ++ m ∷ [])) (sym it) ∙ has_last (keys y.given.members.items) m))
+
+      pass_by : (registry' : Registry) (of : Sort) (mid new : Store (Option Machine) Members) (y : Given (Option Machine) Members) (step : Step) → of ≡ sort_of b.asked.request → Passes of mid new y step → RegistryAfter registry registry' b.asked.request step → (of ≡ sort.Makes → LacksNew mid.journal t (Go y)) → Goes rested (kept mid) b.processor t y → Follow registry' new step
+      pass_by registry' of mid new y z same (plain g no_object e) w lacks f =
+          again registry' mid new (whole g) e f (whole_keys g ∙ f.hands.keys_are no_object) (told_then registry' (Going (whole g)) w f.going (none_made g))
+      pass_by registry' of mid new y z same (newly x m h is new_is e) w lacks f =
+          new_by registry' mid new m h new_is.answer new_is.made e w (subst (λ v. LacksNew mid.journal t (Go v)) new_is.given (lacks is)) (subst (Goes rested (kept mid) b.processor t) new_is.given f)
+      pass_by registry' of mid new y z same (numbered g is e) w lacks f =
+          let hand : keys g.members.items ≡ held t (k.journal ++ a) = ap keys f.hands.hand ∙ counting_hand k.opts k.sites k.input k.journal b.processor t b.ticks b.asked (ap is_counting (sym same) ∙ is) f.going b.members.items may.hand k.members in
+          again registry' mid new (whole g) e f (whole_keys g ∙ hand) (told_then registry' (Going (whole g)) w f.going (none_made g))
+      pass_by registry' of mid new y z same (off x e) w lacks f =
+          subst (λ (x : Store (Option Machine) Members). Follow registry' x Over) (sym e) (subst (λ (x : Kept (Option Machine) Members). Advanced code main k ns room n (record x { abandoned = true }) (noted ns n Over x.journal) registry' Over) (same_kept (handed t rested) (kept mid) f.rest) (stopped (handed t rested).values (handed t rested).members true (λ c. absurd (cc c)) registry'))
+
+      put_by : (registry' : Registry) (of : Sort) (mid new : Store (Option Machine) Members) {next : Next (Option Machine) Members} {step : Step} → of ≡ sort_of b.asked.request → RegistryAfter registry registry' b.asked.request step → (of ≡ sort.Makes → LacksNew mid.journal t next) → Comes of mid new next step → Follows rested (kept mid) b.processor t next → Follow registry' new step
+      put_by registry' of mid new same w lacks (goes y z q) f = pass_by registry' of mid new y z same q w lacks f
+      put_by registry' of mid new same w lacks (idles e) f =
+          subst (λ (x : Store (Option Machine) Members). Follow registry' x Idle) (sym e) (subst (λ (x : Kept (Option Machine) Members). Advanced code main k ns room n x (noted ns n Idle x.journal) registry' Idle) (same_kept rested (kept mid) f.rest) (idled (not_fault f.going) f.going f.free registry' (told_then registry' Idle w f.going (λ y o s e. absurd (cc s)))))
+      put_by registry' of mid new same w lacks (ends e) f =
+          subst (λ (x : Store (Option Machine) Members). Follow registry' x Over) (sym e) (subst (λ (x : Kept (Option Machine) Members). Advanced code main k ns room n x (noted ns n Over x.journal) registry' Over) (same_kept rested (kept mid) f.rest) (stopped rested.values rested.members k.abandoned (λ _. f.over) registry'))
 
     -- what comes of a call that brings
     module _ (b : Back (Option Machine) Members) (seen : Log) (saw : Saw n seen log) (brings : Brings code n seen b) where
@@ -378,21 +399,21 @@ module _ (code : Code) (main : ℕ) where
       in_hand wanted going u r =
           let old = keeps.steady wanted going in
           let log_from : log ≡ seen ++ saw.begins.0 = saw.begins.1 in
-          let since = aloof b.processor n brings.got.task seen saw.begins.0 (subst Manned log_from keeps.manned) (ap (λ q. server q seen) brings.ride.processor ∙ brings.got.serves) (ap (λ q. running q (entries seen)) brings.ride.processor ∙ brings.got.runs) (none_since n seen saw.begins.0 (ap (made_by n) (sym log_from) ∙ saw.mine)) (ap (λ l. is_over (entries l)) (sym log_from) ∙ ap is_over (log_is code main k ns room n there keeps) ∙ going) in
-          let handed_is : handed_out b.processor log ≡ Some brings.given = ap (handed_out b.processor) log_from ∙ handed_still b.processor seen saw.begins.0 since.none ∙ ap (λ q. handed_out q seen) brings.ride.processor ∙ brings.got.is in
+          let since = aloof b.processor n brings.got.task seen saw.begins.0 (subst Manned log_from keeps.manned) (ap (λ q. server q seen) brings.ride.processor ∙ brings.got.serves) (ap (λ q. running q (entries seen)) brings.ride.processor ∙ brings.got.runs) (none_since n seen saw.begins.0 (ap (made_by n) (sym log_from) ∙ saw.mine)) (ap (λ l. is_over (entries l)) (sym log_from) ∙ ap is_over (log_is code main k ns room n registry keeps) ∙ going) in
+          let handed_is : handed_out b.processor log ≡ Some brings.handed = ap (handed_out b.processor) log_from ∙ handed_still b.processor seen saw.begins.0 since.none ∙ ap (λ q. handed_out q seen) brings.ride.processor ∙ brings.got.is in
           let was = old.out b.processor u r in
-          let same : was.given ≡ brings.given = cc (sym was.is ∙ handed_is) in
-          brings.ride.keys_are ∙ ap (λ (g : Given Machine Members). keys g.members.items ++ new_in g.answer) (sym same) ∙ was.keys_are
+          let same : was.handed ≡ brings.handed = cc (sym was.is ∙ handed_is) in
+          brings.ride.keys_are ∙ ap (λ (y : Handed). keys y.given.members.items ++ option_to_list y.made) (sym same) ∙ was.keys_are
 
-      pub put_on : (there' : List Bool) (old new : Store (Option Machine) Members) → kept old ≡ k → {step : Step} → WasPut there there' old new b step → Advanced code main k ns room n (kept new) (noted ns n step new.journal) there' step
-      put_on there' old new same (stays f e) =
-          subst (λ (x : Store (Option Machine) Members). Advanced code main k ns room n (kept x) (noted ns n Over x.journal) there' Over) (sym e) (subst (λ (x : Kept (Option Machine) Members). Advanced code main k ns room n x (noted ns n Over x.journal) there' Over) (sym same) (still_by code main k ns room n there keeps k.abandoned Over (λ f. f) tt there' (λ _. f)))
-      put_on there' old new same (refused e) =
-          subst (λ (x : Store (Option Machine) Members). Advanced code main k ns room n (kept x) (noted ns n Over x.journal) there' Over) (sym e) (subst (λ (x : Kept (Option Machine) Members). Advanced code main k ns room n (record x { abandoned = true }) (noted ns n Over x.journal) there' Over) (sym same) (still_by code main k ns room n there keeps true Over (λ f. absurd (cc f)) tt there' (λ f. absurd (cc f))))
-      put_on there' old new same (acted step made next mid wanted going may after done lacks comes) =
+      pub put_on : (registry' : Registry) (old new : Store (Option Machine) Members) → kept old ≡ k → {step : Step} → WasPut registry registry' old new b step → Advanced code main k ns room n (kept new) (noted ns n step new.journal) registry' step
+      put_on registry' old new same (stays f e) =
+          subst (λ (x : Store (Option Machine) Members). Advanced code main k ns room n (kept x) (noted ns n Over x.journal) registry' Over) (sym e) (subst (λ (x : Kept (Option Machine) Members). Advanced code main k ns room n x (noted ns n Over x.journal) registry' Over) (sym same) (still_by code main k ns room n registry keeps k.abandoned Over (λ f. f) tt registry' (λ _. f)))
+      put_on registry' old new same (refused e) =
+          subst (λ (x : Store (Option Machine) Members). Advanced code main k ns room n (kept x) (noted ns n Over x.journal) registry' Over) (sym e) (subst (λ (x : Kept (Option Machine) Members). Advanced code main k ns room n (record x { abandoned = true }) (noted ns n Over x.journal) registry' Over) (sym same) (still_by code main k ns room n registry keeps true Over (λ f. absurd (cc f)) tt registry' (λ f. absurd (cc f))))
+      put_on registry' old new same (acted step next mid wanted going may after done lacks comes) =
           let going' : is_over k.journal ≡ false = ap (λ (x : Kept (Option Machine) Members). is_over x.journal) (sym same) ∙ going in
           let wanted' : k.abandoned ≡ false = ap (λ (x : Kept (Option Machine) Members). x.abandoned) (sym same) ∙ wanted in
           let may' : MayBring k b = subst (λ x. MayBring x b) same may in
           let done' : Acted k b next (kept mid) = subst (λ x. Acted x b next (kept mid)) same done in
           let runs : running b.processor old.journal ≡ may'.task ∷ [] = ap (λ (x : Kept (Option Machine) Members). running b.processor x.journal) same ∙ may'.asks.runs in
-          put_by going' wanted' b seen saw brings may' there' made mid new after (λ m. lacks m may'.task runs) comes (done'.follows going' may'.task may'.asks.runs)
+          put_by going' wanted' b seen saw brings may' registry' (sort_of b.asked.request) mid new refl after (λ m. lacks m may'.task runs) comes (done'.follows going' may'.task may'.asks.runs)

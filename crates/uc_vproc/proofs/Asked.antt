@@ -1,5 +1,5 @@
 -- What an act is, by what is asked: whom it spawns, what it takes out, and that a fault ends the run.
-use Rattle.std.proofs.Common.{◌≡◌, ℕ, ◌==◌, ◌<◌, ◌⊎◌, inl, inr, ◌||◌, Bool, true, false, cond, not, List, [], ◌∷◌, ◌++◌, Some, refl, sym, ap, ◌∙◌, option_to_list, filter}
+use Rattle.std.proofs.Common.{◌≡◌, ℕ, ◌⊎◌, inl, inr, ◌||◌, Bool, true, false, cond, not, List, [], ◌∷◌, ◌++◌, Some, refl, sym, ap, ◌∙◌, option_to_list, filter}
 use Rattle.std.proofs.lemmas.Bool.{eqb-true}
 use Rattle.std.specs.Prelude.{slice_index_or}
 use Rattle.std.specs.List.{list_any}
@@ -8,7 +8,6 @@ use Rattle.uc_entry.specs.declared.entry.Entry.{Entry}
 use Rattle.uc_entry.specs.declared.entry.EntryKind.{EntryKind}
 use Rattle.uc_entry.specs.declared.entry.EntryKind.TheVariants as kind
 use Rattle.uc_entry.specs.declared.entry.Options.{Options}
-use Rattle.uc_entry.specs.declared.request.Answer.TheVariants as answer
 use Rattle.uc_entry.specs.declared.request.Asked.{Asked}
 use Rattle.uc_entry.specs.declared.request.Request.{Request}
 use Rattle.uc_entry.specs.declared.request.Request.TheVariants as ask
@@ -17,20 +16,19 @@ use Rattle.uc_acts.specs.Journal.{Journal, cost, held, is_over, where_true, owns
 use Rattle.uc_acts.specs.Known.{has, made, is_gone_by, spawns, spawns_task, takes_object, takes_out}
 use Rattle.uc_acts.specs.Acts.{act, fault}
 use Rattle.uc_acts.specs.KernelRuns.{Fits, KernelRuns, MayAsk}
-use Rattle.uc_acts.proofs.Acting.{AllBy, IsBy, by_act, destroys, object_of}
+use Rattle.uc_acts.proofs.Acting.{AllBy, by_act, destroys, object_of}
 use Rattle.uc_acts.proofs.Counted.{law_made}
 use Rattle.uc_acts.proofs.Hush.{is_silent}
 use Rattle.uc_acts.proofs.Living.{going_row}
 use Rattle.uc_acts.proofs.Making.{law_makes}
-use Rattle.uc_frames.specs.Machine.{Machine, Members}
-use Rattle.uc_kernel.specs.declared.given.Given.{Given}
 use Rattle.uc_kernel.proofs.Lying.{not_true}
 use Rattle.uc_kernel.proofs.Shapes.{Shaped, is_plain, is_making, is_spawning, shaped_act, shaped_make, shaped_spawn}
 use Rattle.uc_kernel.proofs.Making.{over_fault, second_spawn}
+use Rattle.uc_vproc.specs.declared.step.Handed.{Handed}
 use Rattle.uc_vproc.specs.declared.step.Step.{Step}
 use Rattle.uc_vproc.specs.declared.step.Step.TheVariants.{Going}
 use Rattle.uc_vproc.specs.Rest.{faults}
-use Rattle.uc_vproc.specs.Desks.{AreThere}
+use Rattle.uc_vproc.specs.Registries.{AreThere}
 use Rattle.uc_vproc.proofs.Makers.{not_both, is_nil}
 
 plain_spawns : (u : ℕ) (k : EntryKind) (e : Entry) → is_plain k ≡ true → spawns_task u k e ≡ false
@@ -137,13 +135,13 @@ taken_by p t o m g (e ∷ a) b h = by (takes_object e.kind e m) refl (λ f. take
     by false f k h = k h
 
 module _ (opts : Options) (sites : List Site) (input : List ℕ) (j : Journal) (p t n : ℕ) (asked : Asked) where
-  taken_is : (m : ℕ) → takes_out (act opts sites input j p t n asked) m ≡ true → asked.request ≡ ask.Gone m
+  pub taken_is : (m : ℕ) → takes_out (act opts sites input j p t n asked) m ≡ true → asked.request ≡ ask.Gone m
   taken_is m h =
       let x = taken_by p t (object_of t j asked.request) m (destroys asked.request) (act opts sites input j p t n asked) (by_act opts sites input j p t n (Unit {0}) asked (λ h. tt)) h in
       destroyed_is asked.request t j x.0 ∙ ap ask.Gone (sym x.1)
 
   -- the objects of which it is told that they are there, are there behind the act
-  pub there_by : KernelRuns opts sites input j → is_over j ≡ false → MayAsk opts sites j p t n asked.request → KernelRuns opts sites input (j ++ act opts sites input j p t n asked) → is_over (j ++ act opts sites input j p t n asked) ≡ false → (there : List Bool) → AreThere there j → (step : Step) → ((g : Given Machine Members) (o : ℕ) → step ≡ Going g → g.answer ≡ answer.Object o → has (held t (j ++ act opts sites input j p t n asked)) o ≡ true) → (o : ℕ) → ((slice_index_or there o false ≡ true) × (asked.request ≡ ask.Gone o → ⊥)) ⊎ ((g : Given Machine Members) × (step ≡ Going g) × (g.answer ≡ answer.Object o)) → has (made (j ++ act opts sites input j p t n asked)) o ≡ true
+  pub there_by : KernelRuns opts sites input j → is_over j ≡ false → MayAsk opts sites j p t n asked.request → KernelRuns opts sites input (j ++ act opts sites input j p t n asked) → is_over (j ++ act opts sites input j p t n asked) ≡ false → (there : List Bool) → AreThere there j → (step : Step) → ((h : Handed) (o : ℕ) → step ≡ Going h → h.made ≡ Some o → has (held t (j ++ act opts sites input j p t n asked)) o ≡ true) → (o : ℕ) → ((slice_index_or there o false ≡ true) × (asked.request ≡ ask.Gone o → ⊥)) ⊎ ((h : Handed) × (step ≡ Going h) × (h.made ≡ Some o)) → has (made (j ++ act opts sites input j p t n asked)) o ≡ true
   there_by runs going may runs' going' there are step new o (inl x) =
       (law_makes opts sites input j p t n asked runs may going').stays o (are o x.0) (not_true (takes_out (act opts sites input j p t n asked) o) (λ h. x.1 (taken_is o h)))
   there_by runs going may runs' going' there are step new o (inr x) =

@@ -1,24 +1,35 @@
 -- What a task may ask by the objects in its hand and those that are there, fits.
-use Rattle.std.proofs.Common.{◌≡◌, ℕ, ◌==◌, ◌<◌, ◌≤◌, Bool, true, false, not, List, [], ◌∷◌, refl, sym, ap, ◌∙◌, subst, length, arith}
+use Rattle.std.proofs.Common.{◌≡◌, ℕ, zero, suc, ◌<◌, ◌≤◌, ◌^◌, Bool, true, false, not, List, [], ◌∷◌, refl, sym, ap, ◌∙◌, subst, length, arith}
 use Rattle.std.specs.Prelude.{slice_index_or}
 use Rattle.uc_tree.specs.Programs.{Site}
 use Rattle.uc_tree.specs.declared.limits.TheConstants.{MEMBERS, EVENTS}
 use Rattle.uc_entry.specs.declared.entry.Options.{Options}
 use Rattle.uc_entry.specs.declared.request.Request.{Request}
 use Rattle.uc_entry.specs.declared.request.Request.TheVariants as ask
-use Rattle.uc_acts.specs.Journal.{Journal, held, inside, is_over, own_object}
-use Rattle.uc_acts.specs.Known.{has, made, object_count, owner}
+use Rattle.uc_acts.specs.Journal.{Journal, held, is_over, own_object}
+use Rattle.uc_acts.specs.Known.{has, owner}
+use Rattle.uc_acts.specs.Doors.{site_at}
+use Rattle.uc_acts.specs.Queues.{cluster_count, processor_count}
 use Rattle.uc_acts.specs.KernelRuns.{Fits, KernelRuns, IsAt, IsMade, IsOutside}
 use Rattle.uc_acts.proofs.Held.{law_held}
 use Rattle.uc_acts.proofs.Counted.{counted_run, law_made}
-use Rattle.uc_vproc.specs.declared.fits.Place.{Place}
 use Rattle.uc_vproc.specs.declared.fits.Place.TheVariants as place
-use Rattle.uc_vproc.specs.Places.{place_of, IsApart, IsBare, IsOwned, IsPrint}
-use Rattle.uc_vproc.specs.Desks.{AreThere}
+use Rattle.uc_vproc.specs.Places.{place_of, IsAccepting, IsApart, IsBare, IsOwned, IsPrint}
+use Rattle.uc_vproc.specs.Registries.{AreThere, mask_counts}
 
 pub not_true_false : (b : Bool) → not b ≡ true → b ≡ false
 not_true_false true h = absurd (cc h)
 not_true_false false h = refl
+
+-- the masks of each accept statement
+masks_long : (sites : List Site) → length (mask_counts sites) ≡ length sites
+masks_long [] = refl
+masks_long (s ∷ sites) = ap suc (masks_long sites)
+
+masks_at : (sites : List Site) (n : ℕ) → n < length sites → slice_index_or (mask_counts sites) n 0 ≡ 2 ^ length (site_at sites n).clauses
+masks_at [] n lt = absurd (omega (arith, lt))
+masks_at (s ∷ sites) zero lt = refl
+masks_at (s ∷ sites) (suc n) lt = masks_at sites n (omega (arith, lt))
 
 module _ (opts : Options) (sites : List Site) (input : List ℕ) (j : Journal) (runs : KernelRuns opts sites input j) where
   -- an object that is there is made and not gone
@@ -41,6 +52,7 @@ module _ (opts : Options) (sites : List Site) (input : List ℕ) (j : Journal) (
     fits_anywhere ask.Fail e = tt
     fits_anywhere (ask.Fault n) e = tt
     fits_anywhere (ask.Make c) e = tt
+    fits_anywhere ask.Cluster e = tt
     fits_anywhere r e = absurd (cc e)
 
     at_same : (a o : ℕ) → place.At a ≡ place.At o → o ≡ a
@@ -92,3 +104,25 @@ module _ (opts : Options) (sites : List Site) (input : List ℕ) (j : Journal) (
     pub fits_read : (form : ℕ) (r : Request) → form ≤ 1 → place_of own r ≡ place.Reads form → Fits opts sites j t r
     fits_read form (ask.Read m) le e = let a : m ≡ form = cc e in omega (arith, a, le)
     fits_read form r le e = absurd (cc e)
+
+    pub fits_accepting : (o site mask : ℕ) (masks : List ℕ) (r : Request) → masks ≡ mask_counts sites → IsAccepting masks hand o site mask → place_of own r ≡ place.Accepting o site mask → Fits opts sites j t r
+    fits_accepting o site mask masks (ask.Accept a s m) are b e =
+        let f : o ≡ a = cc e in
+        let g : site ≡ s = cc e in
+        let q : mask ≡ m = cc e in
+        let x = subst (λ l. IsAccepting l hand a s m) are (subst (λ z. IsAccepting masks hand a s z) q (subst (λ z. IsAccepting masks hand a z mask) g (subst (λ z. IsAccepting masks hand z site mask) f b))) in
+        let long = masks_long sites in
+        let within = x.known in
+        let lt : s < length sites = omega (arith, long, within) in
+        (near a x.holds, lt, subst (λ z. m < z) (masks_at sites s lt) x.is_mask)
+    fits_accepting o site mask masks r are b e = absurd (cc e)
+
+    pub fits_cluster : (c : ℕ) (r : Request) → c < cluster_count j → place_of own r ≡ place.Cluster c → Fits opts sites j t r
+    fits_cluster c (ask.ClusterEnd k) lt e = let f : c ≡ k = cc e in subst (λ z. z < cluster_count j) f lt
+    fits_cluster c (ask.Processor k) lt e = let f : c ≡ k = cc e in subst (λ z. z < cluster_count j) f lt
+    fits_cluster c (ask.Migrate k) lt e = let f : c ≡ k = cc e in subst (λ z. z < cluster_count j) f lt
+    fits_cluster c r lt e = absurd (cc e)
+
+    pub fits_processor : (q : ℕ) (r : Request) → q < processor_count opts j → place_of own r ≡ place.Processor q → Fits opts sites j t r
+    fits_processor q (ask.ProcessorEnd k) lt e = let f : q ≡ k = cc e in subst (λ z. z < processor_count opts j) f lt
+    fits_processor q r lt e = absurd (cc e)

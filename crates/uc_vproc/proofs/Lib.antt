@@ -1,12 +1,14 @@
 pub mod Makers
 pub mod Parts
 pub mod Asked
+pub mod Counting
 pub mod Putting
 pub mod Acts
 pub mod Steps
 pub mod Turns
 pub mod Opening
 pub mod Numbering
+pub mod Copying
 pub mod Fitting
 pub mod Riding
 pub mod Sent

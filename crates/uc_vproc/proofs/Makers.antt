@@ -12,8 +12,7 @@ use Rattle.uc_acts.specs.Queues.{running}
 use Rattle.uc_acts.proofs.Acting.{is_giving}
 use Rattle.uc_acts.proofs.Seats.{running_other}
 use Rattle.uc_lock.specs.Journals.{made_by}
-use Rattle.uc_frames.specs.Machine.{Machine, Members}
-use Rattle.uc_kernel.specs.declared.given.Given.{Given}
+use Rattle.uc_vproc.specs.declared.step.Handed.{Handed}
 use Rattle.uc_vproc.specs.declared.step.Step.{Step}
 use Rattle.uc_vproc.specs.Makers.{Log, Notes, paired, tagged, entries, names, gives, server_from, server, given_in, handed_from, handed_out, MayMake, Manned}
 
@@ -138,7 +137,7 @@ manned_act p n log step (e ∷ a) m s h =
 
 -- what was handed out
 
-handed_append : (p : ℕ) (m : Option (Given Machine Members)) (a b : Log) → handed_from p m (a ++ b) ≡ handed_from p (handed_from p m a) b
+handed_append : (p : ℕ) (m : Option Handed) (a b : Log) → handed_from p m (a ++ b) ≡ handed_from p (handed_from p m a) b
 handed_append p m [] b = refl
 handed_append p m (x ∷ a) b = handed_append p (cond (x.0.0.proc == p) (given_in x.0.1) m) a b
 
@@ -146,7 +145,7 @@ handed_push : (p : ℕ) (log : Log) (x : (Entry × Step) × ℕ) → handed_out 
 unfolding handed_out
 handed_push p log x = handed_append p None log (x ∷ [])
 
-handed_none : (p : ℕ) (m : Option (Given Machine Members)) (later : Log) → names p (entries later) ≡ false → handed_from p m later ≡ m
+handed_none : (p : ℕ) (m : Option Handed) (later : Log) → names p (entries later) ≡ false → handed_from p m later ≡ m
 handed_none p m [] h = refl
 handed_none p m (x ∷ later) h =
     let f = or_false (x.0.0.proc == p) (names p (entries later)) h in
@@ -157,7 +156,7 @@ pub handed_still : (p : ℕ) (log later : Log) → names p (entries later) ≡ f
 unfolding handed_out
 handed_still p log later h = handed_append p None log later ∙ handed_none p (handed_from p None log) later h
 
-handed_all : (p n : ℕ) (step : Step) (m : Option (Given Machine Members)) (a : List Entry) → AllNamed p a → handed_from p m (tagged n step a) ≡ cond (is_nil a) m (given_in step)
+handed_all : (p n : ℕ) (step : Step) (m : Option Handed) (a : List Entry) → AllNamed p a → handed_from p m (tagged n step a) ≡ cond (is_nil a) m (given_in step)
 handed_all p n step m [] h = refl
 handed_all p n step m (e ∷ a) h =
     ap (λ b. handed_from p (cond b (given_in step) m) (tagged n step a)) (eq-eqb e.proc p h.0) ∙ handed_all p n step (given_in step) a h.1 ∙ same (is_nil a)

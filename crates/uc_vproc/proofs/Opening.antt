@@ -1,12 +1,12 @@
 -- A run that opens.
-use Rattle.std.proofs.Common.{◌≡◌, ℕ, zero, suc, ◌==◌, ◌≤◌, inl, Bool, true, false, List, [], ◌∷◌, ◌++◌, Option, Some, None, refl, sym, ap, ◌∙◌, subst}
+use Rattle.std.proofs.Common.{◌≡◌, ℕ, zero, suc, ◌==◌, ◌≤◌, inl, Bool, true, false, List, [], ◌∷◌, Option, Some, None, refl, sym, ap, ◌∙◌, subst, arith}
 use Rattle.std.proofs.lemmas.Bool.{eqb-true}
 use Rattle.std.specs.Prelude.{if◌then◌else◌, slice_get, slice_index_or}
 use Rattle.uc_tree.specs.Source.{Source, routine_of, routine_or_none}
 use Rattle.uc_tree.specs.Programs.{Site}
 use Rattle.uc_entry.specs.declared.entry.Options.{Options}
 use Rattle.uc_acts.specs.Journal.{begin}
-use Rattle.uc_acts.specs.Queues.{running}
+use Rattle.uc_acts.specs.Queues.{cluster_count, processor_count, running}
 use Rattle.uc_acts.specs.KernelRuns.{InRange, begun}
 use Rattle.uc_machine.specs.Quiet.{first_state, no_members}
 use Rattle.uc_code.specs.Codes.{Code}
@@ -22,8 +22,10 @@ use Rattle.uc_kernel.specs.KernelState.{Kept}
 use Rattle.uc_kernel.specs.Calls.{Opened}
 use Rattle.uc_kernel.proofs.Moving.{running_silent}
 use Rattle.uc_vproc.specs.declared.step.Step.TheVariants.{Idle}
-use Rattle.uc_vproc.specs.Makers.{Notes, nobody, paired, Manned}
-use Rattle.uc_vproc.specs.Rest.{IsSource, IsHome, IsTask, AtRest, Steady}
+use Rattle.uc_vproc.specs.Makers.{Notes, nobody, Manned}
+use Rattle.uc_vproc.specs.Rest.{IsSource, IsHome, IsTask}
+use Rattle.uc_vproc.specs.declared.registry.Registry.{Registry}
+use Rattle.uc_vproc.specs.Registries.{IsOpening, Tells}
 use Rattle.uc_vproc.specs.Desks.{Keeping, no_fields}
 use Rattle.uc_vproc.proofs.Makers.{manned_push}
 use Rattle.uc_vproc.proofs.Parts.{born_task}
@@ -73,9 +75,25 @@ module _ (code : Code) (main : ℕ) (opts : Options) (input : List ℕ) (first :
   none_there zero e = cc e
   none_there (suc o) e = cc e
 
-  pub opens : (k : Kept (Option Machine) Members) (ns : Notes) (room : ℕ) (there : List Bool) → InRange opts → Opened code.sites opts input (Some first) no_fields k → ns ≡ (nobody, Idle) ∷ [] → opts.entries ≤ room → there ≡ false ∷ [] → Keeping code main k ns room there
-  opens k ns room there range o e le one =
-      subst (λ x. Keeping code main x ns room there) (opened_is opts code.sites input (Some first) no_fields k o) (subst (λ x. Keeping code main (opened_as opts code.sites input k.values k.members) x room there) (sym e) (record {
+  first_clusters : 1 ≡ cluster_count (begin opts ∷ [])
+  unfolding cluster_count
+  first_clusters = refl
+
+  first_processors : opts.processors ≡ processor_count opts (begin opts ∷ [])
+  unfolding processor_count
+  first_processors = omega arith
+
+  told_first : (r : Registry) → IsOpening code.sites opts.processors r → Tells opts code.sites (begin opts ∷ []) r
+  told_first r x = record {
+    objects = λ o h. absurd (none_there o (ap (λ l. slice_index_or l o false) (sym x.objects) ∙ h));
+    clusters = let c = x.clusters in let n = first_clusters in omega (arith, c, n);
+    processors = let c = x.processors_are in let n = first_processors in omega (arith, c, n);
+    masks = x.masks;
+  }
+
+  pub opens : (k : Kept (Option Machine) Members) (ns : Notes) (room : ℕ) (r : Registry) → InRange opts → Opened code.sites opts input (Some first) no_fields k → ns ≡ (nobody, Idle) ∷ [] → opts.entries ≤ room → IsOpening code.sites opts.processors r → Keeping code main k ns room r
+  opens k ns room r range o e le one =
+      subst (λ x. Keeping code main x ns room r) (opened_is opts code.sites input (Some first) no_fields k o) (subst (λ x. Keeping code main (opened_as opts code.sites input k.values k.members) x room r) (sym e) (record {
         range = range;
         sites = refl;
         counted = refl;
@@ -97,7 +115,7 @@ module _ (code : Code) (main : ℕ) (opts : Options) (input : List ℕ) (first :
             hands = λ p t g r f. absurd (cc (sym (running_first opts p) ∙ r));
           };
         };
-        are_there = λ f g x h. absurd (none_there x (ap (λ l. slice_index_or l x false) (sym one) ∙ h));
+        told = λ f g. told_first r one;
       }))
 
 -- the first task stands where the code is that of a source with this main

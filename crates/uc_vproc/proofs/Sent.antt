@@ -4,7 +4,6 @@ use mir.Syntax.{Sym, Lifetime}
 use base.Fml.{Lft}
 use mathlib.Core.List.{[], ◌∷◌}
 use denote.Ref.{ShrRef}
-use denote.Builtin.{bool}
 use denote.Struct.Struct.{Struct}
 use denote.Struct.Tuple.{TupleAt, type_at}
 use denote.Struct.Owning as owning
@@ -32,6 +31,7 @@ use Rattle.uc_lock.proofs.seat.Seat.TheSendSync as seat
 use Rattle.uc_lock.proofs.shared.Shared.TheSendSync as shared
 use Rattle.uc_lock.specs.contracts.seat.Seat as Seat
 use Rattle.uc_lock.specs.contracts.shared.Shared as Shared
+use Rattle.uc_vproc.proofs.registry.Registry.TheSendSync as registry
 use Rattle.uc_vproc.specs.contracts.desk.Desk.{the_row}
 use Rattle.uc_vproc.specs.contracts.desk.Desk.TheInside as inside
 use Rattle.uc_vproc.specs.contracts.desk.DeskJournaled.TheImpl as DeskJournaled
@@ -52,12 +52,9 @@ note_sent = view_send note_inside.the_row _ _ _ _ (recorded_send note_inside.the
 notes_sent : IsSend (owning.row (Vec.the_type Note.the_row Global.the_row GlobalAllocator.ghosts))
 notes_sent = vec.the_send Note.the_row Global.the_row GlobalAllocator.ghosts note_sent global.the_send frees.the_frees
 
-there_sent : IsSend (owning.row (Vec.the_type bool Global.the_row GlobalAllocator.ghosts))
-there_sent = vec.the_send bool Global.the_row GlobalAllocator.ghosts (plain_send _ _ _ _ _) global.the_send frees.the_frees
-
 pub desk_sent : IsSend the_row
 desk_sent =
-    view_send inside.the_row _ _ _ _ (recorded_send inside.the_field.row _ _ inside.the_type.to_one (struct_send (shape inside.the_type) (kernel_sent, (notes_sent, (there_sent, (snapshot_sent Code.the_row, (plain_send _ _ _ _ _, tt)))))))
+    view_send inside.the_row _ _ _ _ (recorded_send inside.the_field.row _ _ inside.the_type.to_one (struct_send (shape inside.the_type) (kernel_sent, (notes_sent, (registry.the_field_send, (snapshot_sent Code.the_row, (plain_send _ _ _ _ _, tt)))))))
 
 -- what the lock tells of an entry
 abbrev item_row : RattleType

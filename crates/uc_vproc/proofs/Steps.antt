@@ -1,5 +1,5 @@
 -- One step of a kernel: what is brought is put to rest, what is handed out is taken, and what others were handed stays.
-use Rattle.std.proofs.Common.{◌≡◌, ℕ, ◌-◌, ◌==◌, ◌||◌, ◌⊎◌, inl, inr, Bool, true, false, cond, List, [], ◌∷◌, ◌++◌, Option, Some, None, refl, sym, ap, ◌∙◌, subst}
+use Rattle.std.proofs.Common.{◌≡◌, ℕ, ◌==◌, ◌||◌, ◌⊎◌, inl, inr, Bool, true, false, cond, List, [], ◌∷◌, ◌++◌, Option, Some, None, refl, sym, ap, ◌∙◌, subst}
 use Rattle.std.proofs.lemmas.Bool.{eqb-true, eq-eqb}
 use Rattle.std.specs.Prelude.{if◌then◌else◌}
 use Rattle.uc_tree.specs.Source.{Source}
@@ -29,7 +29,6 @@ use Rattle.uc_frames.specs.StandsByParts.{Numbered, Alike}
 use Rattle.uc_meaning.specs.Runs as world
 use Rattle.uc_meaning.specs.Runs.{World, bare, drawn, world_after, hand_of, with_home}
 use Rattle.uc_kernel.specs.Numbered.{keys, or_else, added, gathered}
-use Rattle.uc_kernel.specs.KernelState.{Kept, put_back, handed}
 use Rattle.uc_kernel.proofs.Hands.{find_none, none_found}
 use Rattle.uc_kernel.proofs.Lying.{one_holder, not_true}
 use Rattle.uc_vproc.specs.Rest.{Out, OutElse}

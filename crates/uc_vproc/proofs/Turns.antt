@@ -1,60 +1,46 @@
 -- A dispatch and an act under the lock: what the locked value keeps, and what comes of them.
-use Rattle.std.proofs.Common.{◌==◌, ◌≡◌, ℕ, ◌-◌, ◌+◌, ◌<◌, ◌≤◌, ◌⊎◌, inl, inr, ◌||◌, Bool, true, false, cond, List, [], ◌∷◌, ◌++◌, Option, Some, None, refl, sym, ap, ◌∙◌, subst, length, replicate, arith, length-append, append-nil, is_some, IfNone, IfSome}
+use Rattle.std.proofs.Common.{◌==◌, ◌≡◌, ℕ, ◌-◌, ◌+◌, ◌<◌, ◌≤◌, ◌||◌, Bool, true, false, cond, List, [], ◌∷◌, ◌++◌, Option, Some, None, refl, sym, ap, ◌∙◌, subst, length, replicate, arith, length-append, append-nil, is_some, IfNone, IfSome}
 use Rattle.std.specs.Prelude.{if◌then◌else◌}
-use Rattle.std.specs.Option.{option_map}
+use Rattle.std.specs.Option.{option_map, option_to_list}
 use Rattle.std.proofs.lemmas.List.{length-replicate}
 use Rattle.std.proofs.lemmas.Bool.{eqb-true, eq-eqb}
 use Rattle.uc_tree.specs.Source.{Source}
-use Rattle.uc_tree.specs.Programs.{Site}
 use Rattle.uc_entry.specs.declared.entry.Entry.{Entry}
-use Rattle.uc_entry.specs.declared.entry.EntryKind.{EntryKind}
 use Rattle.uc_entry.specs.declared.request.Request.{Request}
-use Rattle.uc_entry.specs.declared.request.Answer.{Answer}
-use Rattle.uc_entry.specs.declared.request.Answer.TheVariants as answer
-use Rattle.uc_entry.specs.Keyed.{find}
-use Rattle.uc_acts.specs.Journal.{Journal, is_ending, is_over, held, own_object}
-use Rattle.uc_acts.specs.Known.{has, spawns, takes_out}
+use Rattle.uc_acts.specs.Journal.{is_ending, is_over, held}
+use Rattle.uc_acts.specs.Known.{has}
 use Rattle.uc_acts.specs.Queues.{running}
-use Rattle.uc_acts.specs.Answers.{answer_to}
-use Rattle.uc_acts.specs.Serves.{Serves, left}
+use Rattle.uc_acts.specs.Serves.{Serves}
 use Rattle.uc_acts.specs.Sound.{Sound}
-use Rattle.uc_acts.specs.Acts.{act, dispatch, lone_limit}
-use Rattle.uc_acts.specs.KernelRuns.{KernelRuns, MayAsk, more as more_in, gives as gives_in, no_room as none_in, acts as acts_in}
-use Rattle.uc_acts.proofs.Acting.{AllBy, by_act, object_of, destroys}
+use Rattle.uc_acts.specs.Acts.{dispatch, lone_limit}
+use Rattle.uc_acts.specs.KernelRuns.{KernelRuns, more as more_in, gives as gives_in, no_room as none_in}
+use Rattle.uc_acts.proofs.Acting.{AllBy}
 use Rattle.uc_acts.proofs.Bounds.{law_room, over_push, over_limit}
 use Rattle.uc_acts.proofs.Given.{law_dispatch}
-use Rattle.uc_acts.proofs.Others.{law_elsewhere}
 use Rattle.uc_acts.proofs.Law.{good_whole}
-use Rattle.uc_acts.proofs.Seats.{running_given}
-use Rattle.uc_machine.specs.Quiet.{State, Members as Home}
-use Rattle.uc_machine.specs.Answering.{answered, child_of}
-use Rattle.uc_machine.specs.Rides.{Rides}
 use Rattle.uc_code.specs.Codes.{Code}
 use Rattle.uc_code.specs.Layout.{laid_of}
 use Rattle.uc_frames.specs.Machine.{Machine, Members, with_hand}
-use Rattle.uc_frames.specs.StandsByParts.{Numbered}
-use Rattle.uc_frames.specs.PaceInvariant.{EachOf, IdlesAt}
+use Rattle.uc_frames.specs.PaceInvariant.{IdlesAt}
 use Rattle.uc_step.specs.WeightFalls.{Keeps}
-use Rattle.uc_ride.specs.RideStands.{Rode}
-use Rattle.uc_ride.specs.UnwindingFalls.{ChildKeeps}
-use Rattle.uc_meaning.specs.Runs.{World, Runs, IsPrefix, more, gives, no_room, acts, AsksIn, bare, drawn, world_after, hand_of}
-use Rattle.uc_kernel.specs.Numbered.{keys, or_else}
-use Rattle.uc_kernel.specs.KernelState.{Store, kept, Kept, Same, put_back, handed, with_entry}
-use Rattle.uc_kernel.specs.Calls.{MayBring, HandsOut, Goes, Blocks, Ends, Follows, Acted, Gives, over, abandoned, nobody, no_room as limited, Dispatched, EndsRun, LacksNew, is_object}
+use Rattle.uc_meaning.specs.Runs.{IsPrefix, more, gives, no_room, drawn, hand_of}
+use Rattle.uc_kernel.specs.Numbered.{keys}
+use Rattle.uc_kernel.specs.KernelState.{Store, kept, Kept, Same, handed, with_entry}
+use Rattle.uc_kernel.specs.Calls.{HandsOut, over, abandoned, nobody, no_room as limited, Dispatched, EndsRun, is_object}
 use Rattle.uc_kernel.specs.declared.given.Given.{Given}
-use Rattle.uc_kernel.specs.declared.given.Back.{Back}
-use Rattle.uc_kernel.specs.declared.given.Next.{Next}
-use Rattle.uc_kernel.specs.declared.given.Next.TheVariants.{Go, Blocked, Ended}
-use Rattle.uc_lock.specs.Journals.{Extends, made_by}
+use Rattle.uc_lock.specs.Journals.{Extends}
+use Rattle.uc_vproc.specs.declared.registry.Registry.{Registry}
+use Rattle.uc_vproc.specs.declared.step.Handed.{Handed}
 use Rattle.uc_vproc.specs.declared.step.Step.{Step}
 use Rattle.uc_vproc.specs.declared.step.Step.TheVariants.{Going, Idle, Over}
 use Rattle.uc_vproc.specs.Makers.{Log, Notes, paired, tagged, entries, server, handed_out, Manned}
-use Rattle.uc_vproc.specs.Rest.{IsSource, IsHome, IsTask, IsWork, OutElse, AtRest, RestKept, Steady, WasHanded, faults, new_in, stops}
-use Rattle.uc_vproc.specs.Desks.{AreThere, EndsAs, Keeping, Got, IsRide, Brings, Came, Saw, HandsNext, Passes, ThereAfter, boxed, plain, newly, off, nothing, passes, WasHandedOut, none_left, gave, Comes, goes, idles, ends, WasPut, stays, refused, acted, value_after}
-use Rattle.uc_vproc.proofs.Makers.{not_both, entries_paired, entries_append, entries_tagged, paired_more, server_push, manned_push, is_nil, AllOn, Follows as MannedOn, manned_act, handed_still, handed_act, names_none, Aloof, aloof, none_since, all_tagged}
-use Rattle.uc_vproc.proofs.Parts.{task_of, work_of, kept_bare, kept_task, kept_work, goes_stands, goes_kept, hand_stands_after, hand_kept_after, born_stands, each_gathered, each_found}
-use Rattle.uc_vproc.proofs.Asked.{act_some, goes_on_behind, spawned, there_by}
-use Rattle.uc_vproc.proofs.Steps.{Choice, one_same, keys_lined, put_members, put_values, drawn_same, wait_by, drawn_given, settle_by, hand_stands, rest_stands}
+use Rattle.uc_vproc.specs.Registries.{Tells}
+use Rattle.uc_vproc.specs.Rest.{IsSource, IsHome, IsTask, IsWork, OutElse, AtRest, Steady, WasHanded, stops}
+use Rattle.uc_vproc.specs.Desks.{EndsAs, Keeping, Got, Came, HandsNext, boxed, whole, plain, newly, numbered, off, nothing, passes, WasHandedOut, none_left, gave, value_after}
+use Rattle.uc_vproc.proofs.Makers.{not_both, entries_paired, entries_append, entries_tagged, paired_more, server_push, manned_push, AllOn, handed_still, handed_act, names_none, all_tagged}
+use Rattle.uc_vproc.proofs.Parts.{work_of, kept_work, each_gathered}
+use Rattle.uc_vproc.proofs.Counting.{told_given}
+use Rattle.uc_vproc.proofs.Steps.{Choice, one_same, wait_by, drawn_given, hand_stands, rest_stands}
 
 -- what is the same at each number, is the same
 pub same_kept : (a b : Kept (Option Machine) Members) → Same a b → a ≡ b
@@ -85,22 +71,12 @@ or_true true = refl
 or_true false = refl
 
 -- a hand from which no new object is missing
-pub plain_keys : (g : Given Machine Members) → is_object g.answer ≡ false → keys g.members.items ++ new_in g.answer ≡ keys g.members.items
-plain_keys g h = ap (λ l. keys g.members.items ++ l) (none g.answer h) ∙ append-nil (keys g.members.items)
-  where
-    none : (x : Answer) → is_object x ≡ false → new_in x ≡ []
-    none (answer.Object o) h = absurd (cc h)
-    none x h = refl
+pub whole_keys : (g : Given Machine Members) → keys g.members.items ++ option_to_list (whole g).made ≡ keys g.members.items
+whole_keys g = append-nil (keys g.members.items)
 
-pub no_new : (g g' : Given Machine Members) (o : ℕ) → is_object g.answer ≡ false → Going g ≡ Going g' → g'.answer ≡ answer.Object o → ⊥
-no_new g g' o h s e =
-    let same : g ≡ g' = cc s in
-    not_both (is_object g.answer) (ap (λ (x : Given Machine Members). is_object x.answer) same ∙ ap is_object e) h
-
-pub same_new : (g g' : Given Machine Members) (m o : ℕ) → g.answer ≡ answer.Object m → Going g ≡ Going g' → g'.answer ≡ answer.Object o → o ≡ m
-same_new g g' m o a s e =
-    let same : g ≡ g' = cc s in
-    let both : answer.Object o ≡ answer.Object m = sym e ∙ ap (λ (x : Given Machine Members). x.answer) (sym same) ∙ a in cc both
+-- the object that is missing in what is handed out
+pub made_in : (h h' : Handed) (n : Option ℕ) → h.made ≡ n → Going h ≡ Going h' → h'.made ≡ n
+made_in h h' n e s = let same : h ≡ h' = cc s in ap (λ (x : Handed). x.made) (sym same) ∙ e
 
 pub has_last : (xs : List ℕ) (n : ℕ) → has (xs ++ n ∷ []) n ≡ true
 has_last [] n = ap (λ b. b || false) (eq-eqb n n refl)
@@ -153,20 +129,20 @@ changed k a v m b = record { journal = k.journal ++ a; sites = k.sites; opts = k
 
 module _ (code : Code) (main : ℕ) where
   -- what the locked value is after a call of the maker n
-  pub record Advanced (old : Kept (Option Machine) Members) (ns : Notes) (room n : ℕ) (new : Kept (Option Machine) Members) (ns' : Notes) (there : List Bool) (step : Step) : Type 0 where
-    pub keeps : Keeping code main new ns' room there
+  pub record Advanced (old : Kept (Option Machine) Members) (ns : Notes) (room n : ℕ) (new : Kept (Option Machine) Members) (ns' : Notes) (registry : Registry) (step : Step) : Type 0 where
+    pub keeps : Keeping code main new ns' room registry
     pub log : Extends n (paired old.journal ns) (paired new.journal ns')
     pub came : Came code n (paired new.journal ns') step
     pub input : new.input ≡ old.input
     pub opts : new.opts ≡ old.opts
 
   -- how long the journal may be
-  pub fits_room : (k : Kept (Option Machine) Members) (ns : Notes) (room : ℕ) (there : List Bool) → Keeping code main k ns room there → length k.journal ≤ room
-  fits_room k ns room there keeps =
+  pub fits_room : (k : Kept (Option Machine) Members) (ns : Notes) (room : ℕ) (registry : Registry) → Keeping code main k ns room registry → length k.journal ≤ room
+  fits_room k ns room registry keeps =
       let le : length k.journal ≤ k.opts.entries = (law_room k.opts k.sites k.input k.journal keeps.range keeps.runs).most in
       let r = keeps.room_is in omega (arith, le, r)
 
-  module _ (k : Kept (Option Machine) Members) (ns : Notes) (room n : ℕ) (there : List Bool) (keeps : Keeping code main k ns room there) where
+  module _ (k : Kept (Option Machine) Members) (ns : Notes) (room n : ℕ) (registry : Registry) (keeps : Keeping code main k ns room registry) where
     abbrev log : Log
     log = paired k.journal ns
 
@@ -177,11 +153,11 @@ module _ (code : Code) (main : ℕ) where
     entries_more step a = entries_append log (tagged n step a) ∙ ap (λ x. x ++ entries (tagged n step a)) log_is ∙ ap (λ x. k.journal ++ x) (entries_tagged n step a)
 
     -- more entries of one call
-    module _ (step : Step) (a : List Entry) (v : ℕ → Option (Option Machine)) (m : ℕ → Option Members) (b : Bool) (runs : KernelRuns k.opts k.sites k.input (k.journal ++ a)) (manned : Manned (log ++ tagged n step a)) (prefix : (source : Source) → IsSource code main source → IsPrefix source k.input k.opts (k.journal ++ a)) (steady : b ≡ false → is_over (k.journal ++ a) ≡ false → Steady code main (changed k a v m false) (log ++ tagged n step a)) (came : Came code n (log ++ tagged n step a) step) (there' : List Bool) (are : b ≡ false → is_over (k.journal ++ a) ≡ false → AreThere there' (k.journal ++ a)) where
+    module _ (step : Step) (a : List Entry) (v : ℕ → Option (Option Machine)) (m : ℕ → Option Members) (b : Bool) (runs : KernelRuns k.opts k.sites k.input (k.journal ++ a)) (manned : Manned (log ++ tagged n step a)) (prefix : (source : Source) → IsSource code main source → IsPrefix source k.input k.opts (k.journal ++ a)) (steady : b ≡ false → is_over (k.journal ++ a) ≡ false → Steady code main (changed k a v m false) (log ++ tagged n step a)) (came : Came code n (log ++ tagged n step a) step) (registry' : Registry) (are : b ≡ false → is_over (k.journal ++ a) ≡ false → Tells k.opts k.sites (k.journal ++ a) registry') where
       log_more : paired (k.journal ++ a) (noted ns n step (k.journal ++ a)) ≡ log ++ tagged n step a
       log_more = ap (paired (k.journal ++ a)) (noted_more k.journal a ns n step keeps.counted) ∙ paired_more n step k.journal ns a keeps.counted
 
-      grown : Keeping code main (changed k a v m b) (noted ns n step (k.journal ++ a)) room there'
+      grown : Keeping code main (changed k a v m b) (noted ns n step (k.journal ++ a)) room registry'
       grown = record {
         range = keeps.range;
         sites = keeps.sites;
@@ -195,10 +171,10 @@ module _ (code : Code) (main : ℕ) where
         manned = subst Manned (sym log_more) manned;
         prefix = prefix;
         steady = λ f g. subst (λ l. Steady code main (changed k a v m false) l) (sym log_more) (steady f g);
-        are_there = are;
+        told = are;
       }
 
-      pub advanced : Advanced k ns room n (changed k a v m b) (noted ns n step (k.journal ++ a)) there' step
+      pub advanced : Advanced k ns room n (changed k a v m b) (noted ns n step (k.journal ++ a)) registry' step
       advanced = record {
         keeps = grown;
         log = (tagged n step a, log_more, all_tagged n step a);
@@ -208,10 +184,10 @@ module _ (code : Code) (main : ℕ) where
       }
 
     -- nothing more
-    pub still_by : (b : Bool) (step : Step) → (b ≡ false → k.abandoned ≡ false) → Came code n log step → (there' : List Bool) → (b ≡ false → there' ≡ there) → Advanced k ns room n (record k { abandoned = b }) (noted ns n step k.journal) there' step
-    still_by b step f came there' same =
+    pub still_by : (b : Bool) (step : Step) → (b ≡ false → k.abandoned ≡ false) → Came code n log step → (registry' : Registry) → (b ≡ false → registry' ≡ registry) → Advanced k ns room n (record k { abandoned = b }) (noted ns n step k.journal) registry' step
+    still_by b step f came registry' same =
         let e = noted_same k.journal ns n step keeps.counted in
-        subst (λ l. Advanced k ns room n (record k { abandoned = b }) l there' step) (sym e) (record {
+        subst (λ l. Advanced k ns room n (record k { abandoned = b }) l registry' step) (sym e) (record {
           keeps = record {
             range = keeps.range;
             sites = keeps.sites;
@@ -221,7 +197,7 @@ module _ (code : Code) (main : ℕ) where
             manned = keeps.manned;
             prefix = keeps.prefix;
             steady = λ g h. keeps.steady (f g) h;
-            are_there = λ g h. subst (λ l. AreThere l k.journal) (sym (same g)) (keeps.are_there (f g) h);
+            told = λ g h. subst (Tells k.opts k.sites k.journal) (sym (same g)) (keeps.told (f g) h);
           };
           log = ([], sym (append-nil log), λ i d lt. absurd (omega (arith, lt)));
           came = came;
@@ -246,9 +222,8 @@ module _ (code : Code) (main : ℕ) where
       given_prefix : (source : Source) → IsSource code main source → IsPrefix source k.input k.opts (k.journal ++ e ∷ [])
       given_prefix source is = let x = keeps.prefix source is in record { world = x.world; runs = more x.runs going (gives p t serves fits) }
 
-      given_there : k.abandoned ≡ false → AreThere there (k.journal ++ e ∷ [])
-      given_there f o h =
-          ap (λ os. has os o) ((law_dispatch k.opts k.sites k.input k.journal p t keeps.runs serves).made) ∙ keeps.are_there f going o h
+      given_told : k.abandoned ≡ false → Tells k.opts k.sites (k.journal ++ e ∷ []) registry
+      given_told f = told_given k.opts k.sites k.input k.journal p t keeps.runs serves registry (keeps.told f going)
 
       given_manned : (step : Step) → Manned (log ++ tagged n step (e ∷ []))
       given_manned step = manned_push log ((e, step), n) keeps.manned (ap (running p) log_is ∙ serves.free)
@@ -256,7 +231,7 @@ module _ (code : Code) (main : ℕ) where
       -- what is handed out
       module _ (wanted : k.abandoned ≡ false) (g : Given Machine Members) (processor : g.processor ≡ p) (h : HandsOut (with_entry (dispatch p t) k) p t (boxed g)) (plain : is_object g.answer ≡ false) where
         abbrev step : Step
-        step = Going g
+        step = Going (whole g)
 
         abbrev log1 : Log
         log1 = log ++ tagged n step (e ∷ [])
@@ -264,7 +239,7 @@ module _ (code : Code) (main : ℕ) where
         old : Steady code main calm log
         old = keeps.steady wanted going
 
-        handed_now : handed_out p log1 ≡ Some g
+        handed_now : handed_out p log1 ≡ Some (whole g)
         handed_now = handed_act p n log step (e ∷ []) (refl, tt) refl
 
         others : (q : ℕ) → (q == p) ≡ false → handed_out q log1 ≡ handed_out q log
@@ -274,7 +249,7 @@ module _ (code : Code) (main : ℕ) where
         k2 = changed k (e ∷ []) (handed t k1).values (handed t k1).members false
 
         mine : WasHanded k2 log1 p t
-        mine = record { given = g; is = handed_now; keys_are = plain_keys g plain ∙ h.keys_are plain; answer = h.answer; left_is = h.left }
+        mine = record { handed = whole g; is = handed_now; keys_are = whole_keys g ∙ h.keys_are plain; answer = h.answer; left_is = h.left }
 
         out_by : (q u : ℕ) (c : Bool) → (q == p) ≡ c → running q (k.journal ++ e ∷ []) ≡ u ∷ [] → WasHanded k2 log1 q u
         out_by q u true d r =
@@ -287,7 +262,7 @@ module _ (code : Code) (main : ℕ) where
             let x = law.untouched u r' in
             let o = old.out q u r' in
             record {
-              given = o.given;
+              handed = o.handed;
               is = others q d ∙ o.is;
               keys_are = o.keys_are ∙ sym x.objects;
               answer = x.answer ∙ o.answer;
@@ -308,15 +283,15 @@ module _ (code : Code) (main : ℕ) where
           work_now =
               subst (λ ms. IsWork code g.task ms (drawn (k.journal ++ e ∷ []) x.world t)) (sym h.hand) (work_of code g.task _ (x.world.tasks t) (hand_of (held t (k.journal ++ e ∷ [])) x.world.homes) (x.values t g.task h.value) (hand_stands (IsTask code) (IsHome code) (k.journal ++ e ∷ []) x.world p t sound h.runs k.members members_but))
 
-          work_by : (q u : ℕ) (g' : Given Machine Members) (c : Bool) → (q == p) ≡ c → running q (k.journal ++ e ∷ []) ≡ u ∷ [] → handed_out q log1 ≡ Some g' → IsWork code g'.task g'.members.items (drawn (k.journal ++ e ∷ []) x.world u)
-          work_by q u g' true d r f =
+          work_by : (q u : ℕ) (y : Handed) (c : Bool) → (q == p) ≡ c → running q (k.journal ++ e ∷ []) ≡ u ∷ [] → handed_out q log1 ≡ Some y → IsWork code y.given.task y.given.members.items (drawn (k.journal ++ e ∷ []) x.world u)
+          work_by q u y true d r f =
               let same : q ≡ p = eqb-true q p d in
-              let who : t ≡ u = one_same t u (sym h.runs ∙ ap (λ y. running y (k.journal ++ e ∷ [])) (sym same) ∙ r) in
-              let it : g ≡ g' = cc (sym handed_now ∙ ap (λ y. handed_out y log1) (sym same) ∙ f) in
-              subst (λ y. IsWork code g'.task g'.members.items (drawn (k.journal ++ e ∷ []) x.world y)) who (subst (λ (z : Given Machine Members). IsWork code z.task z.members.items (drawn (k.journal ++ e ∷ []) x.world t)) it work_now)
-          work_by q u g' false d r f =
+              let who : t ≡ u = one_same t u (sym h.runs ∙ ap (λ z. running z (k.journal ++ e ∷ [])) (sym same) ∙ r) in
+              let it : whole g ≡ y = cc (sym handed_now ∙ ap (λ z. handed_out z log1) (sym same) ∙ f) in
+              subst (λ z. IsWork code y.given.task y.given.members.items (drawn (k.journal ++ e ∷ []) x.world z)) who (subst (λ (z : Handed). IsWork code z.given.task z.given.members.items (drawn (k.journal ++ e ∷ []) x.world t)) it work_now)
+          work_by q u y false d r f =
               let law = (law_dispatch k.opts k.sites k.input k.journal p t keeps.runs serves).elsewhere q d in
-              subst (λ y. IsWork code g'.task g'.members.items y) (sym (drawn_given (IsTask code) (IsHome code) k.opts k.sites k.input k.journal x.world p t keeps.runs serves u)) (x.hands q u g' (sym law.runs ∙ r) (sym (others q d) ∙ f))
+              subst (λ z. IsWork code y.given.task y.given.members.items z) (sym (drawn_given (IsTask code) (IsHome code) k.opts k.sites k.input k.journal x.world p t keeps.runs serves u)) (x.hands q u y (sym law.runs ∙ r) (sym (others q d) ∙ f))
 
           rests : AtRest code source k2 log1
           rests = record {
@@ -324,7 +299,7 @@ module _ (code : Code) (main : ℕ) where
             runs = more x.runs going (gives p t serves fits);
             values = λ u v f. x.values u v (other_some (u == t) (k.values u) (Some v) f);
             members = rest_stands (IsTask code) (IsHome code) (k.journal ++ e ∷ []) x.world p t sound h.runs k.members members_but;
-            hands = λ q u g' r f. work_by q u g' (q == p) refl r f;
+            hands = λ q u y r f. work_by q u y (q == p) refl r f;
           }
 
         steady1 : Steady code main k2 log1
@@ -340,7 +315,7 @@ module _ (code : Code) (main : ℕ) where
         serves1 : server p log1 ≡ Some n
         serves1 = server_push p log ((e, step), n) ∙ ap (λ c. cond c (Some n) (server p log)) (eq-eqb p p refl)
 
-        got1 : Got code n log1 g
+        got1 : Got code n log1 (whole g)
         got1 = record {
           is = ap (λ q. handed_out q log1) processor ∙ handed_now;
           serves = ap (λ q. server q log1) processor ∙ serves1;
@@ -349,44 +324,45 @@ module _ (code : Code) (main : ℕ) where
           kept = subst (λ ms. Keeps code (with_hand ms g.task)) (sym h.hand) (kept_work code g.task _ (old.kept.values t g.task h.value) (each_gathered (IdlesAt (laid_of code) code.routines) (held t (k.journal ++ e ∷ [])) k.members old.kept.members));
         }
 
-        pub given_on : Advanced k ns room n (changed k (e ∷ []) (handed t k1).values (handed t k1).members k.abandoned) (noted ns n step (k.journal ++ e ∷ [])) there step
-        given_on = advanced step (e ∷ []) (handed t k1).values (handed t k1).members k.abandoned given_runs (given_manned step) given_prefix (λ f o. steady1) got1 there (λ f o. given_there f)
+        pub given_on : Advanced k ns room n (changed k (e ∷ []) (handed t k1).values (handed t k1).members k.abandoned) (noted ns n step (k.journal ++ e ∷ [])) registry step
+        given_on = advanced step (e ∷ []) (handed t k1).values (handed t k1).members k.abandoned given_runs (given_manned step) given_prefix (λ f o. steady1) got1 registry (λ f o. given_told f)
 
       -- it is dropped, and the run abandoned
-      pub dropped : (v : ℕ → Option (Option Machine)) (m : ℕ → Option Members) → Advanced k ns room n (changed k (e ∷ []) v m true) (noted ns n Over (k.journal ++ e ∷ [])) there Over
-      dropped v m = advanced Over (e ∷ []) v m true given_runs (given_manned Over) given_prefix (λ f. absurd (cc f)) tt there (λ f. absurd (cc f))
+      pub dropped : (v : ℕ → Option (Option Machine)) (m : ℕ → Option Members) → Advanced k ns room n (changed k (e ∷ []) v m true) (noted ns n Over (k.journal ++ e ∷ [])) registry Over
+      dropped v m = advanced Over (e ∷ []) v m true given_runs (given_manned Over) given_prefix (λ f. absurd (cc f)) tt registry (λ f. absurd (cc f))
 
     -- no room for a dispatch
     module _ (going : is_over k.journal ≡ false) (p t : ℕ) (serves : Serves k.opts k.journal p t) (full : k.opts.entries < length k.journal + 2) (step : Step) (came : Came code n (log ++ tagged n step (lone_limit ∷ [])) step) (b : Bool) where
-      pub limited_on : Advanced k ns room n (changed k (lone_limit ∷ []) k.values k.members b) (noted ns n step (k.journal ++ lone_limit ∷ [])) there step
+      pub limited_on : Advanced k ns room n (changed k (lone_limit ∷ []) k.values k.members b) (noted ns n step (k.journal ++ lone_limit ∷ [])) registry step
       limited_on =
-          advanced step (lone_limit ∷ []) k.values k.members b (more_in keeps.runs going (none_in p t serves full)) (manned_push log ((lone_limit, step), n) keeps.manned tt) (λ source is. let x = keeps.prefix source is in record { world = x.world; runs = more x.runs going (no_room p t serves full) }) (λ f o. not_both (is_over (k.journal ++ lone_limit ∷ [])) (over_limit k.journal 0 0) o) came there (λ f o. not_both (is_over (k.journal ++ lone_limit ∷ [])) (over_limit k.journal 0 0) o)
+          advanced step (lone_limit ∷ []) k.values k.members b (more_in keeps.runs going (none_in p t serves full)) (manned_push log ((lone_limit, step), n) keeps.manned tt) (λ source is. let x = keeps.prefix source is in record { world = x.world; runs = more x.runs going (no_room p t serves full) }) (λ f o. not_both (is_over (k.journal ++ lone_limit ∷ [])) (over_limit k.journal 0 0) o) came registry (λ f o. not_both (is_over (k.journal ++ lone_limit ∷ [])) (over_limit k.journal 0 0) o)
 
     -- what comes of a dispatch
-    pub began : (mid new : Store (Option Machine) Members) {o : Option (Given (Option Machine) Members)} {step : Step} → HandsNext mid new o step → k.abandoned ≡ false → is_over k.journal ≡ false → Dispatched k o (kept mid) → Advanced k ns room n (kept new) (noted ns n step new.journal) there step
+    pub began : (mid new : Store (Option Machine) Members) {o : Option (Given (Option Machine) Members)} {step : Step} → HandsNext mid new o step → k.abandoned ≡ false → is_over k.journal ≡ false → Dispatched k o (kept mid) → Advanced k ns room n (kept new) (noted ns n step new.journal) registry step
     began mid new (nothing e) wanted going (over h same) = not_both (is_over k.journal) h going
     began mid new (nothing e) wanted going (abandoned h same) = not_both k.abandoned h wanted
     began mid new (nothing e) wanted going (nobody h same) =
-        subst (λ (x : Store (Option Machine) Members). Advanced k ns room n (kept x) (noted ns n Idle x.journal) there Idle) (sym e) (subst (λ (x : Kept (Option Machine) Members). Advanced k ns room n x (noted ns n Idle x.journal) there Idle) (same_kept k (kept mid) same) (still_by k.abandoned Idle (λ f. f) tt there (λ f. refl)))
+        subst (λ (x : Store (Option Machine) Members). Advanced k ns room n (kept x) (noted ns n Idle x.journal) registry Idle) (sym e) (subst (λ (x : Kept (Option Machine) Members). Advanced k ns room n x (noted ns n Idle x.journal) registry Idle) (same_kept k (kept mid) same) (still_by k.abandoned Idle (λ f. f) tt registry (λ f. refl)))
     began mid new (nothing e) wanted going (limited h w s full same) =
-        subst (λ (x : Store (Option Machine) Members). Advanced k ns room n (kept x) (noted ns n Idle x.journal) there Idle) (sym e) (subst (λ (x : Kept (Option Machine) Members). Advanced k ns room n x (noted ns n Idle x.journal) there Idle) (same_kept (with_entry lone_limit k) (kept mid) same) (limited_on going s.processor s.task s.serves full Idle tt k.abandoned))
+        subst (λ (x : Store (Option Machine) Members). Advanced k ns room n (kept x) (noted ns n Idle x.journal) registry Idle) (sym e) (subst (λ (x : Kept (Option Machine) Members). Advanced k ns room n x (noted ns n Idle x.journal) registry Idle) (same_kept (with_entry lone_limit k) (kept mid) same) (limited_on going s.processor s.task s.serves full Idle tt k.abandoned))
     began mid new (passes y z (plain g no_object e)) wanted going gives' =
-        subst (λ (x : Store (Option Machine) Members). Advanced k ns room n (kept x) (noted ns n (Going g) x.journal) there (Going g)) (sym e) (subst (λ (x : Kept (Option Machine) Members). Advanced k ns room n x (noted ns n (Going g) x.journal) there (Going g)) (same_kept (handed gives'.task (with_entry (dispatch g.processor gives'.task) k)) (kept mid) gives'.rest) (given_on going g.processor gives'.task gives'.first.serves gives'.room wanted g refl gives'.hands no_object))
-    began mid new (passes y z (newly g o is ans e)) wanted going gives' = absurd (cc is)
+        subst (λ (x : Store (Option Machine) Members). Advanced k ns room n (kept x) (noted ns n (Going (whole g)) x.journal) registry (Going (whole g))) (sym e) (subst (λ (x : Kept (Option Machine) Members). Advanced k ns room n x (noted ns n (Going (whole g)) x.journal) registry (Going (whole g))) (same_kept (handed gives'.task (with_entry (dispatch g.processor gives'.task) k)) (kept mid) gives'.rest) (given_on going g.processor gives'.task gives'.first.serves gives'.room wanted g refl gives'.hands no_object))
+    began mid new (passes y z (newly x m h is new_is e)) wanted going gives' = absurd (cc is)
+    began mid new (passes y z (numbered g is e)) wanted going gives' = absurd (cc is)
     began mid new (passes y z (off x e)) wanted going gives' =
-        subst (λ (s : Store (Option Machine) Members). Advanced k ns room n (kept s) (noted ns n Over s.journal) there Over) (sym e) (subst (λ (s : Kept (Option Machine) Members). Advanced k ns room n (record s { abandoned = true }) (noted ns n Over s.journal) there Over) (same_kept (handed gives'.task (with_entry (dispatch x.processor gives'.task) k)) (kept mid) gives'.rest) (dropped going x.processor gives'.task gives'.first.serves gives'.room (handed gives'.task (with_entry (dispatch x.processor gives'.task) k)).values (handed gives'.task (with_entry (dispatch x.processor gives'.task) k)).members))
+        subst (λ (s : Store (Option Machine) Members). Advanced k ns room n (kept s) (noted ns n Over s.journal) registry Over) (sym e) (subst (λ (s : Kept (Option Machine) Members). Advanced k ns room n (record s { abandoned = true }) (noted ns n Over s.journal) registry Over) (same_kept (handed gives'.task (with_entry (dispatch x.processor gives'.task) k)) (kept mid) gives'.rest) (dropped going x.processor gives'.task gives'.first.serves gives'.room (handed gives'.task (with_entry (dispatch x.processor gives'.task) k)).values (handed gives'.task (with_entry (dispatch x.processor gives'.task) k)).members))
 
     -- what comes of a call that hands out
-    pub handed_on : (old new : Store (Option Machine) Members) → kept old ≡ k → {step : Step} → WasHandedOut old new step → Advanced k ns room n (kept new) (noted ns n step new.journal) there step
+    pub handed_on : (old new : Store (Option Machine) Members) → kept old ≡ k → {step : Step} → WasHandedOut old new step → Advanced k ns room n (kept new) (noted ns n step new.journal) registry step
     handed_on old new same (none_left e) =
-        subst (λ (x : Store (Option Machine) Members). Advanced k ns room n (kept x) (noted ns n Over x.journal) there Over) (sym e) (subst (λ (x : Kept (Option Machine) Members). Advanced k ns room n x (noted ns n Over x.journal) there Over) (sym same) (still_by k.abandoned Over (λ f. f) tt there (λ f. refl)))
+        subst (λ (x : Store (Option Machine) Members). Advanced k ns room n (kept x) (noted ns n Over x.journal) registry Over) (sym e) (subst (λ (x : Kept (Option Machine) Members). Advanced k ns room n x (noted ns n Over x.journal) registry Over) (sym same) (still_by k.abandoned Over (λ f. f) tt registry (λ f. refl)))
     handed_on old new same (gave step o mid wanted going d h) =
         began mid new h (ap (λ (x : Kept (Option Machine) Members). x.abandoned) (sym same) ∙ wanted) (ap (λ (x : Kept (Option Machine) Members). is_over x.journal) (sym same) ∙ going) (subst (λ x. Dispatched x o (kept mid)) same d)
 
   -- told of the fields of the locked value
-  module _ (k : Kept (Option Machine) Members) (ns : Notes) (room n : ℕ) (new : Kept (Option Machine) Members) (ns' ns'' : Notes) (room' : ℕ) (there : List Bool) (step : Step) (adv : Advanced k ns room n new ns' there step) (same : ns'' ≡ ns') where
-    pub keeps_on : room' ≡ room → Keeping code main new ns'' room' there
-    keeps_on r = subst (λ x. Keeping code main new ns'' x there) (sym r) (subst (λ x. Keeping code main new x room there) (sym same) adv.keeps)
+  module _ (k : Kept (Option Machine) Members) (ns : Notes) (room n : ℕ) (new : Kept (Option Machine) Members) (ns' ns'' : Notes) (room' : ℕ) (registry : Registry) (step : Step) (adv : Advanced k ns room n new ns' registry step) (same : ns'' ≡ ns') where
+    pub keeps_on : room' ≡ room → Keeping code main new ns'' room' registry
+    keeps_on r = subst (λ x. Keeping code main new ns'' x registry) (sym r) (subst (λ x. Keeping code main new x room registry) (sym same) adv.keeps)
 
     pub logs_on : Extends n (paired k.journal ns) (paired new.journal ns'')
     logs_on = subst (λ x. Extends n (paired k.journal ns) (paired new.journal x)) (sym same) adv.log
@@ -395,8 +371,8 @@ module _ (code : Code) (main : ℕ) where
     comes_on = subst (λ x. Came code n (paired new.journal x) step) (sym same) adv.came
 
   -- a run that is over
-  pub ends_as : (k : Kept (Option Machine) Members) (ns : Notes) (room : ℕ) (there : List Bool) → Keeping code main k ns room there → (e : Entry) → EndsRun k.journal e → EndsAs code main k.input k.opts k.journal
-  ends_as k ns room there keeps e ended source is = record {
+  pub ends_as : (k : Kept (Option Machine) Members) (ns : Notes) (room : ℕ) (registry : Registry) → Keeping code main k ns room registry → (e : Entry) → EndsRun k.journal e → EndsAs code main k.input k.opts k.journal
+  ends_as k ns room registry keeps e ended source is = record {
     run = record { prefix = keeps.prefix source is; over = run_ends k.journal e ended };
     last = e;
     ended = ended;

@@ -1,13 +1,12 @@
 -- What contracts see of the locked value, and what it keeps.
-use Rattle.std.specs.Prelude.{◌≡◌, ℕ, ◌≤◌, ◌⊎◌, Bool, true, false, List, [], ◌∷◌, ◌++◌, Option, Some, None, length, slice_index_or, if◌then◌else◌}
-use Rattle.std.specs.Option.{option_map}
+use Rattle.std.specs.Prelude.{◌≡◌, ℕ, ◌+◌, ◌≤◌, ◌⊎◌, Bool, true, false, List, [], ◌∷◌, ◌++◌, Option, Some, None, length, slice_index_or, if◌then◌else◌}
+use Rattle.std.specs.Option.{option_map, option_to_list}
 use Rattle.uc_tree.specs.Source.{Source}
 use Rattle.uc_entry.specs.declared.entry.Options.{Options}
 use Rattle.uc_entry.specs.declared.request.Request.{Request}
 use Rattle.uc_entry.specs.declared.request.Request.TheVariants as ask
 use Rattle.uc_entry.specs.declared.request.Answer.TheVariants as answer
 use Rattle.uc_acts.specs.Journal.{Journal, begin, is_over}
-use Rattle.uc_acts.specs.Known.{has, made}
 use Rattle.uc_acts.specs.Queues.{running}
 use Rattle.uc_acts.specs.KernelRuns.{InRange, KernelRuns}
 use Rattle.uc_machine.specs.Quiet.{State}
@@ -31,10 +30,13 @@ use Rattle.uc_lock.specs.Journals.{Begins, made_by}
 use Rattle.uc_vproc.specs.declared.desk.RunKey.{RunKey}
 use Rattle.uc_vproc.specs.declared.put.Sort.{Sort}
 use Rattle.uc_vproc.specs.declared.put.Sort.TheVariants as sort
+use Rattle.uc_vproc.specs.declared.registry.Registry.{Registry}
+use Rattle.uc_vproc.specs.declared.step.Handed.{Handed}
 use Rattle.uc_vproc.specs.declared.step.Step.{Step}
 use Rattle.uc_vproc.specs.declared.step.Step.TheVariants.{Going, Idle, Over}
 use Rattle.uc_vproc.specs.Makers.{Log, Notes, nobody, paired, entries, server, handed_out, Manned}
-use Rattle.uc_vproc.specs.Rest.{IsSource, Steady, IsWork, new_in, stops}
+use Rattle.uc_vproc.specs.Registries.{Tells, is_counting, new_clusters, new_processors, sort_of}
+use Rattle.uc_vproc.specs.Rest.{IsSource, Steady, IsWork, stops}
 use Rattle.uc_vproc.specs.Runs.{IsRunOf}
 
 -- the locked value: the kernel, its log, and for what code it rides
@@ -47,17 +49,13 @@ pub record Table : Type 0 where
 abbrev pub key_from : Table → RunKey
 key_from d = record { code = d.code; main = d.main; input = d.store.input; opts = d.store.opts }
 
--- objects of which this is told are made and not gone
-abbrev pub AreThere : List Bool → Journal → Type 0
-AreThere there j = (o : ℕ) → slice_index_or there o false ≡ true → has (made j) o ≡ true
-
 -- the value of a task that goes on behind a request; of one that does not there is none
 abbrev pub value_after : Request → Machine → Option Machine
 value_after r v = if stops r then None else Some v
 
 module _ (code : Code) where
   -- the journal is a prefix of a run, each entry is made by who may make it, and while the run goes on what is at rest, and what is not, stands for the world after it
-  pub record Keeping (main : ℕ) (k : Kept (Option Machine) Members) (notes : Notes) (room : ℕ) (there : List Bool) : Type 0 where
+  pub record Keeping (main : ℕ) (k : Kept (Option Machine) Members) (notes : Notes) (room : ℕ) (registry : Registry) : Type 0 where
     pub range : InRange k.opts
     pub sites : k.sites ≡ code.sites
     pub counted : length notes ≡ length k.journal
@@ -66,40 +64,40 @@ module _ (code : Code) where
     pub manned : Manned (paired k.journal notes)
     pub prefix : (source : Source) → IsSource code main source → IsPrefix source k.input k.opts k.journal
     pub steady : k.abandoned ≡ false → is_over k.journal ≡ false → Steady code main (record k { abandoned = false }) (paired k.journal notes)
-    pub are_there : k.abandoned ≡ false → is_over k.journal ≡ false → AreThere there k.journal
+    pub told : k.abandoned ≡ false → is_over k.journal ≡ false → Tells k.opts k.sites k.journal registry
 
   -- what a worker with the seat n holds, as of a log: what was handed out for a processor that is served by that seat
-  pub record Got (n : ℕ) (log : Log) (g : Given Machine Members) : Type 0 where
-    pub is : handed_out g.processor log ≡ Some g
-    pub serves : server g.processor log ≡ Some n
+  pub record Got (n : ℕ) (log : Log) (h : Handed) : Type 0 where
+    pub is : handed_out h.given.processor log ≡ Some h
+    pub serves : server h.given.processor log ≡ Some n
     pub task : ℕ
-    pub runs : running g.processor (entries log) ≡ task ∷ []
-    pub kept : Keeps code (with_hand g.members.items g.task)
+    pub runs : running h.given.processor (entries log) ≡ task ∷ []
+    pub kept : Keeps code (with_hand h.given.members.items h.given.task)
 
   -- what comes next for a worker
   abbrev pub Came : ℕ → Log → Step → Type 0
-  Came n log (Going g) = Got n log g
+  Came n log (Going h) = Got n log h
   Came n log Idle = Unit {0}
   Came n log Over = Unit {0}
 
   -- a ride of what was given, with the same objects in hand, and with what was made before it
-  pub record IsRide (g : Given Machine Members) (b : Back (Option Machine) Members) : Type 0 where
-    pub processor : b.processor ≡ g.processor
-    pub keys_are : keys b.members.items ≡ keys g.members.items ++ new_in g.answer
+  pub record IsRide (h : Handed) (b : Back (Option Machine) Members) : Type 0 where
+    pub processor : b.processor ≡ h.given.processor
+    pub keys_are : keys b.members.items ≡ keys h.given.members.items ++ option_to_list h.made
     pub room : 1 ≤ b.members.spare
     pub after : Machine
     pub task_is : b.task ≡ value_after b.asked.request after
     pub child : Option Machine
     pub child_is : b.child ≡ option_map Some child
-    pub rode : (source : Source) (s : State) → Lowered source code → IsWork code g.task g.members.items s → Rode source (laid_of code) (answered source g.answer s) g.left b.ticks b.asked (with_hand b.members.items after) child
+    pub rode : (source : Source) (s : State) → Lowered source code → IsWork code h.given.task h.given.members.items s → Rode source (laid_of code) (answered source h.given.answer s) h.given.left b.ticks b.asked (with_hand b.members.items after) child
     pub kept : KeepsAfter code b.asked.request (with_hand b.members.items after)
     pub born : ChildKeeps code child
 
   -- what a worker with the seat n brings, as of a log that it saw
   pub record Brings (n : ℕ) (log : Log) (b : Back (Option Machine) Members) : Type 0 where
-    pub given : Given Machine Members
-    pub got : Got n log given
-    pub ride : IsRide given b
+    pub handed : Handed
+    pub got : Got n log handed
+    pub ride : IsRide handed b
 
 -- a log that the seat n saw, in a later one in which just its own entries are its own
 pub record Saw (n : ℕ) (seen log : Log) : Type 0 where
@@ -122,52 +120,63 @@ no_fields = record { values = []; serial = 0; parked = [] }
 abbrev pub EndsAs : Code → ℕ → List ℕ → Options → Journal → Type 0
 EndsAs code main input opts j = (source : Source) → IsSource code main source → IsRunOf source input opts j
 
--- what an act may change of the objects that are there
-abbrev pub sort_of : Request → Sort
-sort_of (ask.Make c) = sort.Makes
-sort_of (ask.Spawn o) = sort.Spawns
-sort_of (ask.Gone o) = sort.Takes o
-sort_of r = sort.Stays
-
 -- what is handed out for a task that has not ended
 abbrev pub boxed : Given Machine Members → Given (Option Machine) Members
 boxed g = record { processor = g.processor; task = Some g.task; members = g.members; answer = g.answer; left = g.left }
 
--- a task that is handed out goes on: it has not ended, and is told of no object or, where one was made, of that one; or the run is
--- abandoned
-pub data Passes (made : Bool) (old new : Store (Option Machine) Members) : Given (Option Machine) Members → Step → Type 0 where
-  plain : (g : Given Machine Members) → is_object g.answer ≡ false → new ≡ old → Passes made old new (boxed g) (Going g)
-  newly : (g : Given Machine Members) (o : ℕ) → made ≡ true → g.answer ≡ answer.Object o → new ≡ old → Passes made old new (boxed g) (Going g)
-  off : (x : Given (Option Machine) Members) → new ≡ record old { abandoned = true } → Passes made old new x Over
+-- what is handed out for a task that has not ended and is told of the object of this number, which its hand lacks
+pub record IsNew (x : Given (Option Machine) Members) (n : ℕ) (h : Handed) : Type 0 where
+  pub given : x ≡ boxed h.given
+  pub answer : h.given.answer ≡ answer.Object n
+  pub made : h.made ≡ Some n
+
+-- what is handed out of which the hand lacks nothing
+abbrev pub whole : Given Machine Members → Handed
+whole g = record { given = g; made = None }
+
+-- a task that is handed out goes on: it has not ended, and is told of no object, or of the one that it made, or behind an act that makes
+-- a cluster or a processor of anything; or the run is abandoned
+pub data Passes (of : Sort) (old new : Store (Option Machine) Members) : Given (Option Machine) Members → Step → Type 0 where
+  plain : (g : Given Machine Members) → is_object g.answer ≡ false → new ≡ old → Passes of old new (boxed g) (Going (whole g))
+  newly : (x : Given (Option Machine) Members) (n : ℕ) (h : Handed) → of ≡ sort.Makes → IsNew x n h → new ≡ old → Passes of old new x (Going h)
+  numbered : (g : Given Machine Members) → is_counting of ≡ true → new ≡ old → Passes of old new (boxed g) (Going (whole g))
+  off : (x : Given (Option Machine) Members) → new ≡ record old { abandoned = true } → Passes of old new x Over
 
 -- what comes of a dispatch is what the kernel hands out
 pub data HandsNext (old new : Store (Option Machine) Members) : Option (Given (Option Machine) Members) → Step → Type 0 where
   nothing : new ≡ old → HandsNext old new None Idle
-  passes : (x : Given (Option Machine) Members) (step : Step) → Passes false old new x step → HandsNext old new (Some x) step
+  passes : (x : Given (Option Machine) Members) (step : Step) → Passes sort.Stays old new x step → HandsNext old new (Some x) step
 
 -- a dispatch, where the run goes on and was not abandoned
 pub data WasHandedOut (old new : Store (Option Machine) Members) : Step → Type 0 where
   none_left : new ≡ old → WasHandedOut old new Over
   gave : (step : Step) (o : Option (Given (Option Machine) Members)) (mid : Store (Option Machine) Members) → old.abandoned ≡ false → is_over old.journal ≡ false → Dispatched (kept old) o (kept mid) → HandsNext mid new o step → WasHandedOut old new step
 
--- what comes of an act is what the kernel says; made tells whether it is the act of a request for a new object
-pub data Comes (made : Bool) (old new : Store (Option Machine) Members) : Next (Option Machine) Members → Step → Type 0 where
-  goes : (x : Given (Option Machine) Members) (step : Step) → Passes made old new x step → Comes made old new (Go x) step
-  idles : new ≡ old → Comes made old new Blocked Idle
-  ends : new ≡ old → Comes made old new Ended Over
+-- what comes of an act of this sort is what the kernel says
+pub data Comes (of : Sort) (old new : Store (Option Machine) Members) : Next (Option Machine) Members → Step → Type 0 where
+  goes : (x : Given (Option Machine) Members) (step : Step) → Passes of old new x step → Comes of old new (Go x) step
+  idles : new ≡ old → Comes of old new Blocked Idle
+  ends : new ≡ old → Comes of old new Ended Over
 
 -- the objects that are there: these that were there, and one of which a task is told
 abbrev pub ThereWith : List Bool → List Bool → Step → Type 0
 ThereWith old new step =
-    (o : ℕ) → slice_index_or new o false ≡ true → (slice_index_or old o false ≡ true) ⊎ ((g : Given Machine Members) × (step ≡ Going g) × (g.answer ≡ answer.Object o))
+    (o : ℕ) → slice_index_or new o false ≡ true → (slice_index_or old o false ≡ true) ⊎ ((h : Handed) × (step ≡ Going h) × (h.made ≡ Some o))
 
 -- behind an act: these that were there and are not taken out, or the one that was made
 abbrev pub ThereAfter : List Bool → List Bool → Request → Step → Type 0
 ThereAfter old new r step =
-    (o : ℕ) → slice_index_or new o false ≡ true → ((slice_index_or old o false ≡ true) × (r ≡ ask.Gone o → ⊥)) ⊎ ((g : Given Machine Members) × (step ≡ Going g) × (g.answer ≡ answer.Object o))
+    (o : ℕ) → slice_index_or new o false ≡ true → ((slice_index_or old o false ≡ true) × (r ≡ ask.Gone o → ⊥)) ⊎ ((h : Handed) × (step ≡ Going h) × (h.made ≡ Some o))
+
+-- what may be asked for, behind an act
+pub record RegistryAfter (old new : Registry) (r : Request) (step : Step) : Type 0 where
+  pub objects : ThereAfter old.there.items new.there.items r step
+  pub clusters : new.clusters ≤ old.clusters + new_clusters (sort_of r)
+  pub processors : new.processors ≤ old.processors + new_processors (sort_of r)
+  pub masks : new.masks.items ≡ old.masks.items
 
 -- what is brought is put to rest by an act, or the run is over or was abandoned, or is abandoned
-pub data WasPut (there there' : List Bool) (old new : Store (Option Machine) Members) (b : Back (Option Machine) Members) : Step → Type 0 where
-  stays : there' ≡ there → new ≡ old → WasPut there there' old new b Over
-  refused : new ≡ record old { abandoned = true } → WasPut there there' old new b Over
-  acted : (step : Step) (made : Bool) (next : Next (Option Machine) Members) (mid : Store (Option Machine) Members) → old.abandoned ≡ false → is_over old.journal ≡ false → MayBring (kept old) b → ThereAfter there there' b.asked.request step → Acted (kept old) b next (kept mid) → (made ≡ true → (t : ℕ) → running b.processor old.journal ≡ t ∷ [] → LacksNew mid.journal t next) → Comes made mid new next step → WasPut there there' old new b step
+pub data WasPut (registry registry' : Registry) (old new : Store (Option Machine) Members) (b : Back (Option Machine) Members) : Step → Type 0 where
+  stays : registry' ≡ registry → new ≡ old → WasPut registry registry' old new b Over
+  refused : new ≡ record old { abandoned = true } → WasPut registry registry' old new b Over
+  acted : (step : Step) (next : Next (Option Machine) Members) (mid : Store (Option Machine) Members) → old.abandoned ≡ false → is_over old.journal ≡ false → MayBring (kept old) b → RegistryAfter registry registry' b.asked.request step → Acted (kept old) b next (kept mid) → (sort_of b.asked.request ≡ sort.Makes → (t : ℕ) → running b.processor old.journal ≡ t ∷ [] → LacksNew mid.journal t next) → Comes (sort_of b.asked.request) mid new next step → WasPut registry registry' old new b step

@@ -1,4 +1,5 @@
 pub mod Places
+pub mod Registries
 pub mod Makers
 pub mod Runs
 pub mod Rest

@@ -6,8 +6,7 @@ use Rattle.uc_entry.specs.declared.entry.EntryKind.{EntryKind}
 use Rattle.uc_entry.specs.declared.entry.EntryKind.TheVariants as kind
 use Rattle.uc_acts.specs.Journal.{Journal}
 use Rattle.uc_acts.specs.Queues.{running}
-use Rattle.uc_frames.specs.Machine.{Machine, Members}
-use Rattle.uc_kernel.specs.declared.given.Given.{Given}
+use Rattle.uc_vproc.specs.declared.step.Handed.{Handed}
 use Rattle.uc_vproc.specs.declared.step.Step.{Step}
 use Rattle.uc_vproc.specs.declared.step.Step.TheVariants.{Going, Idle, Over}
 
@@ -52,17 +51,17 @@ server_from p m (x ∷ log) = server_from p (if gives p x.0.0.kind x.0.0 then So
 unfoldable pub server : ℕ → Log → Option ℕ
 server p log = server_from p None log
 
-abbrev pub given_in : Step → Option (Given Machine Members)
-given_in (Going g) = Some g
+abbrev pub given_in : Step → Option Handed
+given_in (Going h) = Some h
 given_in Idle = None
 given_in Over = None
 
 -- what was handed out behind the last entry that names processor p, from an earlier one
-abbrev pub handed_from : ℕ → Option (Given Machine Members) → Log → Option (Given Machine Members)
+abbrev pub handed_from : ℕ → Option Handed → Log → Option Handed
 handed_from p m [] = m
 handed_from p m (x ∷ log) = handed_from p (if x.0.0.proc == p then given_in x.0.1 else m) log
 
-unfoldable pub handed_out : ℕ → Log → Option (Given Machine Members)
+unfoldable pub handed_out : ℕ → Log → Option Handed
 handed_out p log = handed_from p None log
 
 -- whether the maker m may make an entry: a dispatch goes to a free processor, any other entry that names one is of whoever dispatched to it last; the first entry and a limit are free

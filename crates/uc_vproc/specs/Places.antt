@@ -17,6 +17,7 @@ place_of own ask.Slice = place.Anywhere
 place_of own ask.Fail = place.Anywhere
 place_of own (ask.Fault n) = place.Anywhere
 place_of own (ask.Make c) = place.Anywhere
+place_of own ask.Cluster = place.Anywhere
 place_of own (ask.Print n items) = place.Prints n (length items)
 place_of own (ask.Read form) = place.Reads form
 place_of own (ask.Made o) = place.At o
@@ -31,7 +32,11 @@ place_of own ask.End = place.At own
 place_of own (ask.Spawn o) = place.Unowned o
 place_of own (ask.Call o m) = place.Outside o m
 place_of own (ask.Raise o event x y) = place.Owned o event
-place_of own r = place.Unknown
+place_of own (ask.Accept o site mask) = place.Accepting o site mask
+place_of own (ask.ClusterEnd c) = place.Cluster c
+place_of own (ask.Processor c) = place.Cluster c
+place_of own (ask.Migrate c) = place.Cluster c
+place_of own (ask.ProcessorEnd q) = place.Processor q
 
 -- a print of so many items, which has room for so many
 pub record IsPrint (n room : ℕ) : Type 0 where
@@ -55,3 +60,9 @@ pub record IsApart (there : List Bool) (hand : List ℕ) (o m : ℕ) : Type 0 wh
   pub known : slice_index_or there o false ≡ true
   pub apart : has hand o ≡ false
   pub is_member : m ≤ MEMBERS
+
+-- an object in hand, and a mask of the clauses of an accept statement, by how many masks each has
+pub record IsAccepting (masks hand : List ℕ) (o site mask : ℕ) : Type 0 where
+  pub holds : has hand o ≡ true
+  pub known : site < length masks
+  pub is_mask : mask < slice_index_or masks site 0

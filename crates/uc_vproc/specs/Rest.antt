@@ -2,11 +2,9 @@
 use Rattle.std.specs.Prelude.{◌≡◌, ℕ, ◌==◌, ◌⊎◌, Bool, true, false, List, [], ◌∷◌, ◌++◌, Option, Some, None}
 use Rattle.uc_tree.specs.Source.{Source, Routine}
 use Rattle.std.specs.Prelude.{slice_get}
-use Rattle.uc_entry.specs.declared.entry.Options.{Options}
+use Rattle.std.specs.Option.{option_to_list}
 use Rattle.uc_entry.specs.declared.request.Request.{Request}
 use Rattle.uc_entry.specs.declared.request.Request.TheVariants as ask
-use Rattle.uc_entry.specs.declared.request.Answer.{Answer}
-use Rattle.uc_entry.specs.declared.request.Answer.TheVariants as answer
 use Rattle.uc_acts.specs.Journal.{Journal, held}
 use Rattle.uc_acts.specs.Queues.{running}
 use Rattle.uc_acts.specs.Known.{has}
@@ -24,7 +22,7 @@ use Rattle.uc_step.specs.WeightFalls.{Keeps}
 use Rattle.uc_meaning.specs.Runs.{World, Runs, bare, drawn}
 use Rattle.uc_kernel.specs.Numbered.{keys}
 use Rattle.uc_kernel.specs.KernelState.{Kept}
-use Rattle.uc_kernel.specs.declared.given.Given.{Given}
+use Rattle.uc_vproc.specs.declared.step.Handed.{Handed}
 use Rattle.uc_vproc.specs.Makers.{Log, handed_out}
 
 -- this code is that of this source, whose main is the routine of this number
@@ -44,11 +42,6 @@ abbrev pub faults : Request → Bool
 faults (ask.Fault n) = true
 faults r = false
 
--- the object that an answer tells of, in a list of at most one
-abbrev pub new_in : Answer → List ℕ
-new_in (answer.Object o) = o ∷ []
-new_in x = []
-
 -- object o is in the hand of a task that runs
 pub record Out (j : Journal) (o : ℕ) : Type 0 where
   pub proc : ℕ
@@ -63,12 +56,12 @@ pub record OutElse (p : ℕ) (j : Journal) (o : ℕ) : Type 0 where
 
 -- what task t, which runs on p, was handed, is of what the journal tells
 pub record WasHanded (k : Kept (Option Machine) Members) (log : Log) (p t : ℕ) : Type 0 where
-  pub given : Given Machine Members
-  pub is : handed_out p log ≡ Some given
+  pub handed : Handed
+  pub is : handed_out p log ≡ Some handed
   -- an object that the task has just made is missing in its hand, until the task is told of it
-  pub keys_are : keys given.members.items ++ new_in given.answer ≡ held t k.journal
-  pub answer : answer_to k.sites t k.journal ≡ Some given.answer
-  pub left_is : given.left ≡ left k.opts k.journal t
+  pub keys_are : keys handed.given.members.items ++ option_to_list handed.made ≡ held t k.journal
+  pub answer : answer_to k.sites t k.journal ≡ Some handed.given.answer
+  pub left_is : handed.given.left ≡ left k.opts k.journal t
 
 module _ (code : Code) where
   -- the members of an object stand for those at home in it
@@ -94,7 +87,7 @@ module _ (code : Code) where
   -- what each running task was handed, stands for its part of the world
   abbrev pub HandsStand : Journal → Log → World → Type 0
   HandsStand j log w =
-      (p t : ℕ) (g : Given Machine Members) → running p j ≡ t ∷ [] → handed_out p log ≡ Some g → IsWork g.task g.members.items (drawn j w t)
+      (p t : ℕ) (h : Handed) → running p j ≡ t ∷ [] → handed_out p log ≡ Some h → IsWork h.given.task h.given.members.items (drawn j w t)
 
   -- the kernel between acts, for one source
   pub record AtRest (source : Source) (k : Kept (Option Machine) Members) (log : Log) : Type 0 where

@@ -1,5 +1,5 @@
 -- A worker's seat.
-use Rattle.std.specs.Prelude.{◌≡◌, ℕ, false}
+use Rattle.std.specs.Prelude.{◌≡◌, false}
 use Rattle.uc_entry.specs.declared.entry.Entry.{Entry}
 use Rattle.uc_lock.specs.Journals.{made_by}
 use Rattle.uc_lock.specs.Meanings.{Lock, Sitting, IsSeatOf}

@@ -13,6 +13,7 @@ ghost use Rattle.uc_vproc.specs.Rest.{IsSource, IsTask};
 ghost use Rattle.uc_vproc.specs.Desks.{key_from, no_fields, IsOpened, Came, Saw, Brings, EndsAs};
 
 use crate::put::{hand_out, put};
+use crate::registry::{Registry, opening};
 use crate::step::Step;
 use std::alloc::{AllocError, Global};
 use std::collections::LinkedList;
@@ -69,8 +70,7 @@ impl Note {
 pub struct Desk {
     kernel: Kernel<Option<Task>, Members>,
     notes: Vec<Note>,
-    // By the object: whether it is made and not gone.
-    there: Vec<bool>,
+    registry: Registry,
     code: Snapshot<Code>,
     main: u32,
 }
@@ -85,7 +85,7 @@ impl Model for Desk {
 
     ghost view = { λ d. record { code = d.code.value; main = d.main; store = d.kernel; log = paired d.kernel.journal d.notes.items } };
 
-    ghost invariant = { λ d. Keeping d.code.value d.main (kept d.kernel) d.notes.items (vec_capacity d.notes) d.there.items };
+    ghost invariant = { λ d. Keeping d.code.value d.main (kept d.kernel) d.notes.items (vec_capacity d.notes) d.registry };
 }
 
 impl Journaled for Desk {
@@ -120,15 +120,13 @@ impl Desk {
         ensures { IfOk result (λ d. IsOpened code.now main input.items opts d) }
     {
         let mut notes = Vec::with_capacity(alloc, opts.entries as usize)?;
-        let mut there = Vec::with_capacity(alloc, 1)?;
-        // Nobody calls object 0, which is task 0's.
-        there.push_reserved(false);
+        let registry = opening(alloc, &shape.sites, opts.processors)?;
         let kernel = Kernel::open(alloc, shape, opts, input, Some(first), own)?;
         make_notes(&mut notes, 1, NOBODY, &Step::Idle);
         Ok(Desk {
             kernel,
             notes,
-            there,
+            registry,
             code: Snapshot::of(code),
             main,
         })
@@ -153,7 +151,7 @@ impl Desk {
         ensures log { Extends maker self.old.log self.new.log }
         ensures came { Came self.old.code maker self.new.log result }
     {
-        let step = put(&mut self.kernel, &mut self.there, back);
+        let step = put(&mut self.kernel, &mut self.registry, back);
         let count = self.kernel.journal().len();
         make_notes(&mut self.notes, count, maker, &step);
         step
@@ -174,7 +172,7 @@ impl Desk {
         let Desk {
             kernel,
             notes: _,
-            there: _,
+            registry: _,
             code: _,
             main: _,
         } = self;

@@ -5,9 +5,10 @@ ghost use Rattle.uc_acts.specs.Journal.{held, is_over};
 ghost use Rattle.uc_acts.specs.Known.{has, object_count, owner};
 ghost use Rattle.uc_acts.specs.KernelRuns.{KernelRuns, Fits, IsMade};
 ghost use Rattle.uc_kernel.specs.Numbered.{keys};
-ghost use Rattle.uc_vproc.specs.Desks.{AreThere};
-ghost use Rattle.uc_vproc.specs.Places.{place_of, IsPrint, IsBare, IsOwned, IsApart};
+ghost use Rattle.uc_vproc.specs.Registries.{AreThere, Tells};
+ghost use Rattle.uc_vproc.specs.Places.{place_of, IsPrint, IsBare, IsOwned, IsApart, IsAccepting};
 
+use crate::registry::Registry;
 use uc_entry::list::List;
 use uc_entry::request::{PRINT_ITEMS, Piece, Request};
 use uc_frames::members::Members;
@@ -16,24 +17,26 @@ use uc_kernel::kernel::Kernel;
 use uc_tree::limits::{EVENTS, MEMBERS};
 
 /// What a request is to fit: nothing, an object in hand, one in hand that is no task's own, a member of one that is there and not in
-/// hand, an event of one that is a task's own, a number of items and their room, or a form. What is unknown is not taken.
+/// hand, an accept statement in one in hand with a mask of its clauses, an event of one that is a task's own, a number of items and their
+/// room, a form, a cluster, or a processor.
 #[derive(Drop)]
 pub enum Place {
     Anywhere,
     At(u32),
     Unowned(u32),
     Outside(u32, u8),
+    Accepting(u32, u32, u32),
     Owned(u32, u8),
     Prints(u8, usize),
     Reads(u8),
-    Unknown,
+    Cluster(u32),
+    Processor(u32),
 }
 
-/// Whether what a task with this hand asks fits, by the objects that are there. Accepts, and requests for clusters and processors, are
-/// not taken yet.
+/// Whether what a task with this hand asks fits, by what may be asked for.
 pub fn fits(
     kernel: &Kernel<Option<Task>, Members>,
-    there: &[bool],
+    registry: &Registry,
     task: u32,
     hand: &List<(u64, Members)>,
     request: &Request,
@@ -42,19 +45,23 @@ pub fn fits(
     requires going { is_over kernel.now.journal ≡ false }
     requires known { task < TASKS }
     requires hand { keys hand.now.items ≡ held task kernel.now.journal }
-    requires there { AreThere there.now kernel.now.journal }
+    requires told { Tells kernel.now.opts kernel.now.sites kernel.now.journal registry.now }
     ensures { result ≡ true → Fits kernel.now.opts kernel.now.sites kernel.now.journal task request.now }
 {
     let own = kernel.own_object(task);
     match place_for(own, request) {
         Place::Anywhere => true,
         Place::At(object) => holds(hand, object),
-        Place::Unowned(object) => is_bare(kernel, there, hand, object),
-        Place::Outside(object, member) => is_apart(there, hand, object, member),
-        Place::Owned(object, event) => is_sought(kernel, there, object, event),
+        Place::Unowned(object) => is_bare(kernel, &registry.there, hand, object),
+        Place::Outside(object, member) => is_apart(&registry.there, hand, object, member),
+        Place::Accepting(object, site, mask) => {
+            is_accepting(&registry.masks, hand, object, site, mask)
+        }
+        Place::Owned(object, event) => is_sought(kernel, &registry.there, object, event),
         Place::Prints(n, room) => is_print(n, room),
         Place::Reads(form) => form <= 1,
-        Place::Unknown => false,
+        Place::Cluster(cluster) => cluster < registry.clusters,
+        Place::Processor(processor) => processor < registry.processors,
     }
 }
 
@@ -69,6 +76,7 @@ fn place_for(own: u32, request: &Request) -> Place
         Request::Fail => Place::Anywhere,
         Request::Fault { .. } => Place::Anywhere,
         Request::Make { .. } => Place::Anywhere,
+        Request::Cluster => Place::Anywhere,
         Request::Print { n, ref items } => Place::Prints(n, room_of(items)),
         Request::Read { form } => Place::Reads(form),
         Request::Made { object } => Place::At(object),
@@ -83,12 +91,11 @@ fn place_for(own: u32, request: &Request) -> Place
         Request::Spawn { object } => Place::Unowned(object),
         Request::Call { object, member } => Place::Outside(object, member),
         Request::Raise { object, event, .. } => Place::Owned(object, event),
-        Request::Accept { .. } => Place::Unknown,
-        Request::Cluster => Place::Unknown,
-        Request::ClusterEnd { .. } => Place::Unknown,
-        Request::Processor { .. } => Place::Unknown,
-        Request::ProcessorEnd { .. } => Place::Unknown,
-        Request::Migrate { .. } => Place::Unknown,
+        Request::Accept { object, site, mask } => Place::Accepting(object, site, mask),
+        Request::ClusterEnd { cluster } => Place::Cluster(cluster),
+        Request::Processor { cluster } => Place::Cluster(cluster),
+        Request::Migrate { cluster } => Place::Cluster(cluster),
+        Request::ProcessorEnd { processor } => Place::Processor(processor),
     }
 }
 
@@ -172,6 +179,25 @@ fn is_apart(there: &[bool], hand: &List<(u64, Members)>, object: u32, member: u8
         return false;
     }
     !holds(hand, object)
+}
+
+// Whether an object is in hand, and the clauses of an accept statement have this mask.
+fn is_accepting(
+    masks: &[u64],
+    hand: &List<(u64, Members)>,
+    object: u32,
+    site: u32,
+    mask: u32,
+) -> bool
+    ensures { result ≡ true → IsAccepting masks.now (keys hand.now.items) object site mask }
+{
+    if !holds(hand, object) {
+        return false;
+    }
+    match masks.get(site as usize) {
+        None => false,
+        Some(count) => (mask as u64) < *count,
+    }
 }
 
 // Whether an object is told to be there.

@@ -4,7 +4,9 @@
 mod desk;
 mod fits;
 mod put;
+mod registry;
 mod run;
+mod sites;
 mod step;
 mod work;
 

@@ -11,6 +11,7 @@ ghost use Rattle.uc_vproc.specs.Runs.{IsRunOf};
 ghost use Rattle.uc_vproc.specs.Desks.{EndsAs, IsOpened};
 
 use crate::desk::Desk;
+use crate::sites::known_sites;
 use crate::work::work_all;
 use std::alloc::{AllocError, Global};
 use std::sync::Wait;
@@ -25,8 +26,8 @@ use uc_step::begin::begin;
 
 /// Runs a program, whose main is the routine of this number, on this input under these options, with a worker for each processor:
 /// one alone on this thread, several on threads of their own where threads can be made. Of code that was lowered from a source with
-/// this main, the journal is a complete run of it. The gate is told of the first ride behind each dispatch. Without memory, or where
-/// the program asks what the kernel is not asked yet, there is none.
+/// this main, the journal is a complete run of it. The gate is told of the first ride behind each dispatch. Without memory, or where a
+/// test of what the program asks says no, there is none.
 pub fn run_processors<R: Threads + Wait + Sync, G: Gate + Sync>(
     rt: &R,
     alloc: Global,
@@ -70,17 +71,13 @@ fn open(
     }
 }
 
-// What the kernel is to know of the code. No code has accept statements yet.
+// What the kernel is to know of the code.
 fn shape_of(alloc: Global, code: &Code) -> Result<Shape, AllocError>
     ensures sites { IfOk result (λ s. s.sites.items ≡ code.now.sites) }
     ensures known { IfOk result (λ s. AreKnownSites s.sites.items) }
 {
-    if !code.sites().is_empty() {
-        return Err(AllocError);
-    }
-    Ok(Shape {
-        sites: Vec::new(alloc),
-    })
+    let sites = known_sites(alloc, code.sites())?;
+    Ok(Shape { sites })
 }
 
 // The workers of so many processors, and the journal that they come to.

@@ -6,23 +6,22 @@ ghost use Rattle.uc_frames.specs.Machine.{with_hand};
 ghost use Rattle.uc_step.specs.WeightFalls.{Keeps};
 ghost use Rattle.uc_kernel.specs.Numbered.{keys};
 ghost use Rattle.uc_lock.specs.Journals.{made_by};
-ghost use Rattle.std.specs.Option.{is_some, option_map};
+ghost use Rattle.std.specs.Option.{is_some, option_map, option_to_list};
 ghost use Rattle.uc_vproc.specs.Makers.{given_in};
 ghost use Rattle.uc_vproc.specs.declared.step.Step.TheVariants.{Going};
 ghost use Rattle.uc_vproc.specs.Desks.{Brings, IsRide, value_after};
 ghost use Rattle.uc_vproc.specs.Rest as rest;
-ghost use Rattle.uc_vproc.specs.Rest.{new_in};
 ghost use Rattle.uc_vproc.specs.Workers.{IsReady, IsSame, HasCome};
 
 use crate::desk::Desk;
-use crate::step::Step;
+use crate::step::{Handed, Step};
 use std::alloc::{AllocError, Global};
 use std::sync::Wait;
 use std::thread;
 use std::thread::{Threads, yield_now};
 use uc_code::code::Code;
 use uc_entry::list::List;
-use uc_entry::request::{Answer, Request};
+use uc_entry::request::Request;
 use uc_frames::members::Members;
 use uc_frames::task::Task;
 use uc_frames::work::Work;
@@ -87,13 +86,14 @@ fn go<G: Gate>(
     code: &Code,
     gate: &G,
     dispatches: u64,
-    given: Given<Task, Members>,
+    handed: Handed,
 ) -> Result<Back<Option<Task>, Members>, AllocError>
     requires paced { IsPaced (laid_of code.now) code.now.routines }
-    requires some { 1 ≤ given.left }
-    requires kept { Keeps code.now (with_hand given.members.items given.task) }
-    ensures { IfOk result (λ b. IsRide code.now given b) }
+    requires some { 1 ≤ handed.given.left }
+    requires kept { Keeps code.now (with_hand handed.given.members.items handed.given.task) }
+    ensures { IfOk result (λ b. IsRide code.now handed b) }
 {
+    let Handed { given, made } = handed;
     let Given {
         processor,
         task,
@@ -101,7 +101,7 @@ fn go<G: Gate>(
         answer,
         left,
     } = given;
-    let numbers = numbers_of(alloc, &members, &answer)?;
+    let numbers = numbers_of(alloc, &members, made)?;
     let work = Work::new(task, members);
     let ridden = ride(code, work, answer, left, gate, processor, dispatches)?;
     let Ridden {
@@ -158,21 +158,21 @@ fn stops(request: &Request) -> bool
     }
 }
 
-// The numbers of the objects in a hand, and of the one that an answer tells of.
+// The numbers of the objects in a hand, and of the one that it lacks.
 fn numbers_of(
     alloc: Global,
     hand: &List<(u64, Members)>,
-    answer: &Answer,
+    made: Option<u32>,
 ) -> Result<Vec<u64>, AllocError>
-    ensures { IfOk result (λ ns. ns.items ≡ keys hand.now.items ++ new_in answer.now) }
+    ensures { IfOk result (λ ns. ns.items ≡ keys hand.now.items ++ option_to_list made) }
 {
     let mut numbers = Vec::new(alloc);
     for at in 0..hand.len() {
         numbers.push(hand.get(at).0)?;
     }
-    match *answer {
-        Answer::Object(object) => numbers.push(object as u64)?,
-        _ => {}
+    match made {
+        Some(object) => numbers.push(object as u64)?,
+        None => {}
     }
     Ok(numbers)
 }
@@ -201,20 +201,20 @@ fn turn<R: Wait, G: Gate>(
     gate: &G,
     dispatches: u64,
     seat: &mut Seat<Desk>,
-    given: Given<Task, Members>,
+    handed: Handed,
 ) -> Step
     requires ready { IsReady lock.now seat.old }
     requires code { lock.now.terms.key.code ≡ code.now }
     requires paced { IsPaced (laid_of code.now) code.now.routines }
-    requires came { HasCome lock.now seat.old (Going given) }
+    requires came { HasCome lock.now seat.old (Going handed) }
     ensures same { IsReady lock.now seat.new × IsSame seat.old seat.new }
     ensures came { HasCome lock.now seat.new result }
 {
-    if given.left == 0 {
+    if handed.given.left == 0 {
         give_up(rt, lock, seat);
         return Step::Over;
     }
-    match go(alloc, code, gate, dispatches, given) {
+    match go(alloc, code, gate, dispatches, handed) {
         Ok(back) => bring(rt, lock, seat, back),
         Err(_) => {
             give_up(rt, lock, seat);
@@ -259,10 +259,10 @@ pub fn work<R: Wait, G: Gate>(
     let mut yields = IDLE_YIELDS;
     for _ in rt.forever() {
         step = match step {
-            Step::Going(given) => {
+            Step::Going(handed) => {
                 let first = told;
                 told = 0;
-                turn(rt, alloc, lock, code, gate, first, &mut seat, given)
+                turn(rt, alloc, lock, code, gate, first, &mut seat, handed)
             }
             Step::Idle => {
                 let next = begin(rt, lock, &mut seat);

@@ -1,12 +1,12 @@
 -- Whole lines, and the first word at fault among all words.
-use Rattle.std.proofs.Common.{◌≡◌, ℕ, zero, suc, ◌<◌, ◌≤◌, List, [], ◌∷◌, ◌++◌, take, drop, refl, sym, ◌∙◌, ap, inl, inr, arith, append_assoc, subst, map, true}
+use Rattle.std.proofs.Common.{◌≡◌, ℕ, zero, suc, ◌-◌, ◌<◌, ◌≤◌, List, [], ◌∷◌, ◌++◌, take, drop, refl, sym, ◌∙◌, ap, inl, inr, arith, append_assoc, subst, map, true}
 use Rattle.std.specs.Prelude.{codes, IsTrue, None, option_to_list, filter_map}
 use Rattle.std.specs.Cmp.Lexicographic.{other_text}
 use Rattle.uc_tree.specs.Tokens.{value_of}
-use Rattle.uc_tree.specs.declared.limits.TheConstants.{MAKE_MAX}
+use Rattle.uc_tree.specs.declared.limits.TheConstants.{MAKE_MAX, OBJECTS}
 use Rattle.uc_words.specs.declared.numbers.NumberOption.{NumberOption}
 use Rattle.uc_words.specs.declared.numbers.NumberOption.TheVariants.{Processors, Slice, Ticks, Entries}
-use Rattle.uc_words.specs.Words.{number_of_option, number_in, Words, Command, RunFile, CheckFile, LowerFile, MakeProgram, IsLine, IsMakeLine, IsValue, Begins, IsFirstBad, is_name, options_with}
+use Rattle.uc_words.specs.Words.{number_of_option, number_in, Words, Command, RunFile, CheckFile, LowerFile, MakeProgram, ExplainJournal, IsLine, IsMakeLine, IsExplainLine, IsValue, Begins, IsFirstBad, is_name, options_with}
 use Rattle.uc_words.specs.Rest.{Goes, BeginsRest, BadRest, nothing}
 use Rattle.uc_words.specs.Commands.{IsFileCommand}
 use Rattle.uc_words.proofs.Faults.{begins_none, digits_1}
@@ -51,12 +51,14 @@ goes_of w ws (RunFile file opts journal input) run l = record {
 goes_of w ws (CheckFile file) run l = absurd (let e = l.spells in cc)
 goes_of w ws (LowerFile file) run l = absurd (let e = l.spells in cc)
 goes_of w ws (MakeProgram n) run l = absurd (let e = l.spells in cc)
+goes_of w ws (ExplainJournal journal object) run l = absurd (let e = l.spells in cc)
 
 no_words : (c : Command) → IsLine [] c → ⊥
 no_words (RunFile file opts journal input) l = absurd (let e = l.spells in cc)
 no_words (CheckFile file) l = absurd (let e = l.spells in cc)
 no_words (LowerFile file) l = absurd (let e = l.spells in cc)
 no_words (MakeProgram n) l = absurd (let e = l.spells in cc)
+no_words (ExplainJournal journal object) l = absurd (let e = l.spells in cc)
 
 begins_run : (ws : Words) → BeginsRest nothing ws → Begins (codes "run" ∷ ws)
 begins_run ws b = record { rest = b.rest; command = b.command; line = line_of (ws ++ b.rest) b.command b.goes }
@@ -107,12 +109,14 @@ pub data Leading (w : List ℕ) : Type 0 where
   is_check : w ≡ codes "check" → Leading w
   is_lower : w ≡ codes "lower" → Leading w
   is_make : w ≡ codes "make" → Leading w
+  is_explain : w ≡ codes "explain" → Leading w
 
 leading : (w : List ℕ) (ws : Words) (c : Command) → IsLine (w ∷ ws) c → Leading w
 leading w ws (RunFile file opts journal input) l = is_run (let e = l.spells in cc)
 leading w ws (CheckFile file) l = is_check (let e = l.spells in cc)
 leading w ws (LowerFile file) l = is_lower (let e = l.spells in cc)
 leading w ws (MakeProgram n) l = is_make (let e = l.spells in cc)
+leading w ws (ExplainJournal journal object) l = is_explain (let e = l.spells in cc)
 
 pub bad_command : (w : List ℕ) (ws : Words) → (Leading w → ⊥) → IsFirstBad (w ∷ ws) 1
 bad_command w ws not_one = record {
@@ -122,11 +126,12 @@ bad_command w ws not_one = record {
   no_line = λ c l. not_one (leading w ws c l);
 }
 
-pub no_leading : (w : List ℕ) → (w ≡ codes "run" → ⊥) → (w ≡ codes "check" → ⊥) → (w ≡ codes "lower" → ⊥) → (w ≡ codes "make" → ⊥) → Leading w → ⊥
-no_leading w r c l m (is_run e) = r e
-no_leading w r c l m (is_check e) = c e
-no_leading w r c l m (is_lower e) = l e
-no_leading w r c l m (is_make e) = m e
+pub no_leading : (w : List ℕ) → (w ≡ codes "run" → ⊥) → (w ≡ codes "check" → ⊥) → (w ≡ codes "lower" → ⊥) → (w ≡ codes "make" → ⊥) → (w ≡ codes "explain" → ⊥) → Leading w → ⊥
+no_leading w r c l m x (is_run e) = r e
+no_leading w r c l m x (is_check e) = c e
+no_leading w r c l m x (is_lower e) = l e
+no_leading w r c l m x (is_make e) = m e
+no_leading w r c l m x (is_explain e) = x e
 
 -- Commands with one word behind them.
 
@@ -207,6 +212,8 @@ file_back w x ws (CheckFile file) l = record { word = file; words = let s = l.sp
 file_back w x ws (LowerFile file) l = record { word = file; words = let s = l.spells in cc; is = l.name }
 file_back w (inl e) ws (MakeProgram n) l = absurd (let s = l.spells in cc)
 file_back w (inr e) ws (MakeProgram n) l = absurd (let s = l.spells in cc)
+file_back w (inl e) ws (ExplainJournal journal object) l = absurd (let s = l.spells in cc)
+file_back w (inr e) ws (ExplainJournal journal object) l = absurd (let s = l.spells in cc)
 
 file_words : (w : List ℕ) → IsFileCommand w → TwoWords w Named
 file_words w x = record { line = file_line w x; back = file_back w x; some = 97 ∷ []; is_some = refl }
@@ -229,6 +236,7 @@ make_back : (ws : Words) (c : Command) → IsLine (codes "make" ∷ ws) c → Se
 make_back ws (RunFile file opts journal input) l = absurd (let s = l.spells in cc)
 make_back ws (CheckFile file) l = absurd (let s = l.spells in cc)
 make_back ws (LowerFile file) l = absurd (let s = l.spells in cc)
+make_back ws (ExplainJournal journal object) l = absurd (let s = l.spells in cc)
 make_back ws (MakeProgram n) l = record { word = l.word; words = let s = l.spells in cc; is = (n, l.value) }
 
 one_task : Tasks (codes "1")
@@ -249,6 +257,107 @@ make_bad v ws n = second_bad (codes "make") Tasks make_words v ws (λ t. n t.0 t
 pub make_more : (v y : List ℕ) (ws : Words) (n : ℕ) → IsValue 1 MAKE_MAX v n → IsFirstBad (codes "make" ∷ (v ∷ (y ∷ ws))) 3
 make_more v y ws n value = third_bad (codes "make") Tasks make_words v y ws (n, value)
 
+-- `explain`
+
+abbrev Object : List ℕ → Type 0
+Object v = (n : ℕ) × IsValue 0 (OBJECTS - 1) v n
+
+record Both (ws : Words) : Type 0 where
+  name : List ℕ
+  word : List ℕ
+  words : ws ≡ name ∷ (word ∷ [])
+  named : Named name
+  is : Object word
+
+explain_back : (ws : Words) (c : Command) → IsLine (codes "explain" ∷ ws) c → Both ws
+explain_back ws (RunFile file opts journal input) l = absurd (let s = l.spells in cc)
+explain_back ws (CheckFile file) l = absurd (let s = l.spells in cc)
+explain_back ws (LowerFile file) l = absurd (let s = l.spells in cc)
+explain_back ws (MakeProgram n) l = absurd (let s = l.spells in cc)
+explain_back ws (ExplainJournal journal object) l = record { name = journal; word = l.word; words = let s = l.spells in cc; named = l.name; is = (object, l.value) }
+
+explain_line : (v x : List ℕ) → Named v → (is : Object x) → IsLine (codes "explain" ∷ (v ∷ (x ∷ []))) (ExplainJournal v is.0)
+explain_line v x named is = record { word = x; spells = refl; name = named; value = is.1 }
+
+some_object : Object (codes "1")
+some_object = (1, record { digits = digits_1; plain = refl; value = refl; low = omega arith; high = omega arith })
+
+begins_object : (v x : List ℕ) → Named v → Object x → Begins (codes "explain" ∷ (v ∷ (x ∷ [])))
+begins_object v x named is = record { rest = []; command = ExplainJournal v is.0; line = explain_line v x named is }
+
+begins_journal : (v : List ℕ) → Named v → Begins (codes "explain" ∷ (v ∷ []))
+unfolding some_object
+begins_journal v named = record { rest = codes "1" ∷ []; command = ExplainJournal v 1; line = explain_line v (codes "1") named some_object }
+
+begins_explain : Begins (codes "explain" ∷ [])
+unfolding some_object
+begins_explain = record { rest = (97 ∷ []) ∷ (codes "1" ∷ []); command = ExplainJournal (97 ∷ []) 1; line = explain_line (97 ∷ []) (codes "1") refl some_object }
+
+both_none : Both [] → ⊥
+both_none b = absurd (let e = b.words in cc)
+
+both_first : (v : List ℕ) (ws : Words) → Both (v ∷ ws) → Named v
+both_first v ws b = let e : b.name ≡ v = let x = b.words in cc in rw e at b.named
+
+both_one : (v : List ℕ) → Both (v ∷ []) → ⊥
+both_one v b = absurd (let e = b.words in cc)
+
+both_second : (v x : List ℕ) (ws : Words) → Both (v ∷ (x ∷ ws)) → Object x
+both_second v x ws b = let e : b.word ≡ x = let y = b.words in cc in rw e at b.is
+
+both_more : (v x y : List ℕ) (ws : Words) → Both (v ∷ (x ∷ (y ∷ ws))) → ⊥
+both_more v x y ws b = absurd (let e = b.words in cc)
+
+before_journal : (ws : Words) (k : ℕ) → k < 2 → Begins (take k (codes "explain" ∷ ws))
+before_journal ws k h = begins_shorter k 1 (codes "explain" ∷ ws) (omega (arith, h)) begins_explain
+
+before_object : (v : List ℕ) (ws : Words) → Named v → (k : ℕ) → k < 3 → Begins (take k (codes "explain" ∷ (v ∷ ws)))
+before_object v ws named k h = begins_shorter k 2 (codes "explain" ∷ (v ∷ ws)) (omega (arith, h)) (begins_journal v named)
+
+before_more : (v x : List ℕ) (ws : Words) → Named v → Object x → (k : ℕ) → k < 4 → Begins (take k (codes "explain" ∷ (v ∷ (x ∷ ws))))
+before_more v x ws named is k h = begins_shorter k 3 (codes "explain" ∷ (v ∷ (x ∷ ws))) (omega (arith, h)) (begins_object v x named is)
+
+pub journal_missing : IsFirstBad (codes "explain" ∷ []) 2
+journal_missing = record {
+  within = omega arith;
+  before = before_journal [];
+  bad = λ h b. absurd (omega (arith, h));
+  no_line = λ c l. both_none (explain_back [] c l);
+}
+
+pub journal_bad : (v : List ℕ) (ws : Words) → (Named v → ⊥) → IsFirstBad (codes "explain" ∷ (v ∷ ws)) 2
+journal_bad v ws not_so = record {
+  within = omega arith;
+  before = before_journal (v ∷ ws);
+  bad = λ h b. not_so (both_first v b.rest (explain_back (v ∷ b.rest) b.command b.line));
+  no_line = λ c l. not_so (both_first v ws (explain_back (v ∷ ws) c l));
+}
+
+pub object_missing : (v : List ℕ) → Named v → IsFirstBad (codes "explain" ∷ (v ∷ [])) 3
+object_missing v named = record {
+  within = omega arith;
+  before = before_object v [] named;
+  bad = λ h b. absurd (omega (arith, h));
+  no_line = λ c l. both_one v (explain_back (v ∷ []) c l);
+}
+
+pub object_bad : (v x : List ℕ) (ws : Words) → Named v → ((n : ℕ) → IsValue 0 (OBJECTS - 1) x n → ⊥) → IsFirstBad (codes "explain" ∷ (v ∷ (x ∷ ws))) 3
+object_bad v x ws named not_so = record {
+  within = omega arith;
+  before = before_object v (x ∷ ws) named;
+  bad = λ h b. let o = both_second v x b.rest (explain_back (v ∷ (x ∷ b.rest)) b.command b.line) in not_so o.0 o.1;
+  no_line = λ c l. let o = both_second v x ws (explain_back (v ∷ (x ∷ ws)) c l) in not_so o.0 o.1;
+}
+
+pub object_more : {A : Type 0} (v x : List ℕ) (f : A → List ℕ) (xs : List A) (n : ℕ) → Named v → IsValue 0 (OBJECTS - 1) x n → (xs ≡ [] → ⊥) → IsFirstBad (codes "explain" ∷ (v ∷ (x ∷ map f xs))) 4
+object_more v x f [] n named is some = absurd (some refl)
+object_more v x f (y ∷ ys) n named is some = record {
+  within = omega arith;
+  before = before_more v x (f y ∷ map f ys) named (n, is);
+  bad = λ h b. both_more v x (f y) b.rest (explain_back (v ∷ (x ∷ (f y ∷ b.rest))) b.command b.line);
+  no_line = λ c l. both_more v x (f y) (map f ys) (explain_back (v ∷ (x ∷ (f y ∷ map f ys))) c l);
+}
+
 -- a line asks for one thing
 
 first_word : (x y : List ℕ) (xs ys : Words) → x ∷ xs ≡ y ∷ ys → x ≡ y
@@ -262,23 +371,39 @@ only_check w ws file e f (RunFile g opts journal input) l = absurd (apart (codes
 only_check w ws file e f (CheckFile g) l = let s = l.spells in cc
 only_check w ws file e f (LowerFile g) l = absurd (apart (codes "check") (codes "lower") w ws _ (other_text (codes "check") (codes "lower") refl) e l.spells)
 only_check w ws file e f (MakeProgram n) l = absurd (apart (codes "check") (codes "make") w ws _ (other_text (codes "check") (codes "make") refl) e l.spells)
+only_check w ws file e f (ExplainJournal journal object) l = absurd (apart (codes "check") (codes "explain") w ws _ (other_text (codes "check") (codes "explain") refl) e l.spells)
 
 pub only_lower : (w : List ℕ) (ws : Words) (file : List ℕ) → w ≡ codes "lower" → ws ≡ file ∷ [] → (c : Command) → IsLine (w ∷ ws) c → c ≡ LowerFile file
 only_lower w ws file e f (RunFile g opts journal input) l = absurd (apart (codes "lower") (codes "run") w ws _ (other_text (codes "lower") (codes "run") refl) e l.spells)
 only_lower w ws file e f (CheckFile g) l = absurd (apart (codes "lower") (codes "check") w ws _ (other_text (codes "lower") (codes "check") refl) e l.spells)
 only_lower w ws file e f (LowerFile g) l = let s = l.spells in cc
 only_lower w ws file e f (MakeProgram n) l = absurd (apart (codes "lower") (codes "make") w ws _ (other_text (codes "lower") (codes "make") refl) e l.spells)
+only_lower w ws file e f (ExplainJournal journal object) l = absurd (apart (codes "lower") (codes "explain") w ws _ (other_text (codes "lower") (codes "explain") refl) e l.spells)
 
 pub only_make : (w : List ℕ) (ws : Words) (n : ℕ) → w ≡ codes "make" → IsMakeLine (codes "make" ∷ ws) n → (c : Command) → IsLine (w ∷ ws) c → c ≡ MakeProgram n
 only_make w ws n e m (RunFile g opts journal input) l = absurd (let s = l.spells in cc)
 only_make w ws n e m (CheckFile g) l = absurd (let s = l.spells in cc)
 only_make w ws n e m (LowerFile g) l = absurd (let s = l.spells in cc)
+only_make w ws n e m (ExplainJournal journal object) l = absurd (let s = l.spells in cc)
 only_make w ws n e m (MakeProgram k) l =
     let s = l.spells in
     let t = m.spells in
     let same : l.word ≡ m.word = cc in
     let value : k ≡ n = l.value.value ∙ ap value_of same ∙ sym m.value.value in
     ap MakeProgram value
+
+pub only_explain : (w : List ℕ) (ws : Words) (journal : List ℕ) (n : ℕ) → w ≡ codes "explain" → IsExplainLine (codes "explain" ∷ ws) journal n → (c : Command) → IsLine (w ∷ ws) c → c ≡ ExplainJournal journal n
+only_explain w ws journal n e m (RunFile g opts too input) l = absurd (let s = l.spells in cc)
+only_explain w ws journal n e m (CheckFile g) l = absurd (let s = l.spells in cc)
+only_explain w ws journal n e m (LowerFile g) l = absurd (let s = l.spells in cc)
+only_explain w ws journal n e m (MakeProgram k) l = absurd (let s = l.spells in cc)
+only_explain w ws journal n e m (ExplainJournal other k) l =
+    let s = l.spells in
+    let t = m.spells in
+    let named : other ≡ journal = cc in
+    let same : l.word ≡ m.word = cc in
+    let value : k ≡ n = l.value.value ∙ ap value_of same ∙ sym m.value.value in
+    ap (λ j. ExplainJournal j k) named ∙ ap (ExplainJournal journal) value
 
 -- the words behind, as a map of other items
 

@@ -1,10 +1,10 @@
 -- The words behind `run` from one of them on, where some pieces were told before.
 use Rattle.std.specs.Prelude.{◌≡◌, ℕ, suc, ◌+◌, ◌<◌, ◌≤◌, Bool, true, false, if◌then◌else◌, List, ◌++◌, length, take, Option, Some, None, option_copied, option_to_list, flat_map, filter_map}
-use Rattle.uc_words.specs.Words.{Words, Piece, Command, RunFile, CheckFile, LowerFile, MakeProgram, Numbers, number_of_option, spelled, ArePieces, file_in, number_in, journal_in, input_in, once_if, options_with}
+use Rattle.uc_words.specs.Words.{Words, Piece, Command, RunFile, CheckFile, LowerFile, MakeProgram, ExplainJournal, Numbers, number_of_option, spelled, ArePieces, file_in, number_in, journal_in, input_in, once_if, options_with}
 use Rattle.uc_words.specs.declared.numbers.NumberOption.{NumberOption}
 use Rattle.uc_words.specs.declared.numbers.NumberOption.TheVariants.{Processors, Slice, Ticks, Entries}
 use Rattle.uc_words.specs.declared.job.Job.{Job}
-use Rattle.uc_words.specs.declared.job.Job.TheVariants.{Run, Check, Lower, Make}
+use Rattle.uc_words.specs.declared.job.Job.TheVariants.{Run, Check, Lower, Make, Explain}
 use Rattle.uc_words.specs.declared.job.WordsFault.{WordsFault}
 use Rattle.uc_words.specs.declared.job.WordsFault.TheVariants.{Word}
 use Rattle.uc_words.specs.declared.told.Told.{Told}
@@ -15,6 +15,7 @@ command_of (Run file opts journal input) = RunFile file.now opts journal (option
 command_of (Check file) = CheckFile file.now
 command_of (Lower file) = LowerFile file.now
 command_of (Make n) = MakeProgram n
+command_of (Explain journal object) = ExplainJournal journal.now object
 
 -- the word that a fault names
 abbrev pub number_of : WordsFault → ℕ

@@ -1,8 +1,8 @@
 -- The words of a command line: which are a line, what a line asks for, and the first word at fault.
-use Rattle.std.specs.Prelude.{◌≡◌, ℕ, ◌+◌, ◌<◌, ◌≤◌, ◌==◌, Bool, true, false, not, if◌then◌else◌, List, [], ◌∷◌, ◌++◌, length, take, codes, slice_index, EachIndex, IsTrue, Option, Some, None, unwrap_or, option_to_list, flat_map, filter_map}
+use Rattle.std.specs.Prelude.{◌≡◌, ℕ, ◌+◌, ◌-◌, ◌<◌, ◌≤◌, ◌==◌, Bool, true, false, not, if◌then◌else◌, List, [], ◌∷◌, ◌++◌, length, take, codes, slice_index, EachIndex, IsTrue, Option, Some, None, unwrap_or, option_to_list, flat_map, filter_map}
 use Rattle.uc_tree.specs.Bytes.{is_digit}
 use Rattle.uc_tree.specs.Tokens.{value_of}
-use Rattle.uc_tree.specs.declared.limits.TheConstants.{PROCESSORS_MIN, PROCESSORS, PROCESSORS_DEFAULT, SLICE_MIN, SLICE_MAX, SLICE_DEFAULT, TICKS_MIN, TICKS_MAX, TICKS_DEFAULT, ENTRIES_MIN, ENTRIES_MAX, ENTRIES_DEFAULT, MAKE_MAX}
+use Rattle.uc_tree.specs.declared.limits.TheConstants.{PROCESSORS_MIN, PROCESSORS, PROCESSORS_DEFAULT, SLICE_MIN, SLICE_MAX, SLICE_DEFAULT, TICKS_MIN, TICKS_MAX, TICKS_DEFAULT, ENTRIES_MIN, ENTRIES_MAX, ENTRIES_DEFAULT, MAKE_MAX, OBJECTS}
 use Rattle.uc_entry.specs.declared.entry.Options.{Options}
 use Rattle.uc_words.specs.declared.numbers.NumberOption.{NumberOption}
 use Rattle.uc_words.specs.declared.numbers.NumberOption.TheVariants.{Processors, Slice, Ticks, Entries}
@@ -158,6 +158,13 @@ pub record IsMakeLine (words : Words) (n : ℕ) : Type 0 where
   pub spells : words ≡ codes "make" ∷ (word ∷ [])
   pub value : IsValue 1 MAKE_MAX word n
 
+-- a line `explain`: a journal, and the number of an object
+pub record IsExplainLine (words : Words) (journal : List ℕ) (object : ℕ) : Type 0 where
+  pub word : List ℕ
+  pub spells : words ≡ codes "explain" ∷ (journal ∷ (word ∷ []))
+  pub name : IsTrue (is_name journal)
+  pub value : IsValue 0 (OBJECTS - 1) word object
+
 -- what a line asks for
 pub data Command : Type 0 where
   -- to run a file under these options, to put its journal too or not, with the named input
@@ -168,6 +175,8 @@ pub data Command : Type 0 where
   LowerFile : List ℕ → Command
   -- to make the program of so many tasks
   MakeProgram : ℕ → Command
+  -- to explain a journal at an object
+  ExplainJournal : List ℕ → ℕ → Command
 
 -- the words are a line of the table, and this is what it asks for
 abbrev pub IsLine : Words → Command → Type 0
@@ -175,6 +184,7 @@ IsLine words (RunFile file opts journal input) = IsRunLine words file opts journ
 IsLine words (CheckFile file) = IsFileLine (codes "check") words file
 IsLine words (LowerFile file) = IsFileLine (codes "lower") words file
 IsLine words (MakeProgram n) = IsMakeLine words n
+IsLine words (ExplainJournal journal object) = IsExplainLine words journal object
 
 -- some line begins with these words
 pub record Begins (words : Words) : Type 0 where

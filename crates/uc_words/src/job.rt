@@ -24,6 +24,11 @@ pub enum Job<'a> {
     Make {
         n: u32,
     },
+    /// To explain a journal at an object, 0 to the last below `uc_tree::limits::OBJECTS`.
+    Explain {
+        journal: &'a str,
+        object: u32,
+    },
 }
 
 /// Why words are no line.

@@ -4,7 +4,7 @@ ghost use Rattle.std.specs.Prelude.{◌≡◌, ◌↔◌, IfOk, IfErr, IsTrue, c
 ghost use Rattle.uc_words.specs.Words.{Command, IsLine, IsFirstBad};
 ghost use Rattle.uc_words.specs.Rest.{command_of, number_of, nothing, Goes, BadRest};
 
-use crate::commands::{read_make, read_name};
+use crate::commands::{read_explain, read_make, read_name};
 use crate::job::{Job, WordsFault};
 use crate::pieces::{finish, read_piece};
 use crate::told::Told;
@@ -40,6 +40,12 @@ pub fn read_words(words: &[String]) -> Result<Job<'_>, WordsFault>
     if command == "make" {
         return match read_make(rest) {
             Ok(n) => Ok(Job::Make { n }),
+            Err(fault) => Err(fault),
+        };
+    }
+    if command == "explain" {
+        return match read_explain(rest) {
+            Ok((journal, object)) => Ok(Job::Explain { journal, object }),
             Err(fault) => Err(fault),
         };
     }

@@ -20,7 +20,7 @@ new-requires-clause-numbering c =
     c.in_ok-numbering.ensures c.args.sizes.now (c.requires.defined ∙ ap routines_of e) (c.requires.unwritten ∙ ap unwritten_of e) (c.requires.numbers ∙ ap (λ (q : Program). map (number_of_class q) (classes_of q.items)) e) (c.in_ok-members.ensures c.args.sizes.now classes)
 
 pub new-requires-clause-fit : goal.new-requires-clause-fit
-new-requires-clause-fit c = subst FitClasses (sym c.requires.sizes) (fit_classes c.args.program.now c.requires.unbroken c.requires.built)
+new-requires-clause-fit c = subst FitClasses (sym c.requires.sizes) (fit_classes c.args.program.now c.requires.unbroken)
 
 pub lower_named-code-requires-clause-names : goal.lower_named-code-requires-clause-names
 lower_named-code-requires-clause-names c = c.in_ok-names.ensures ∙ c.requires.sizes

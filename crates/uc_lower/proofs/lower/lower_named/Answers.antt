@@ -3,7 +3,6 @@ use Rattle.std.proofs.lemmas.List.{length-map}
 use Rattle.uc_tree.specs.Numbering.{routines_of}
 use Rattle.uc_tree.specs.Objects.{unwritten_of}
 use Rattle.uc_tree.specs.Programs.{Program}
-use Rattle.uc_built.specs.BuiltForms.{IsBuilt}
 use Rattle.uc_rules.specs.Breaks.{breaks_of}
 use Rattle.uc_implicit.specs.Unwritten.{unwritten_as}
 use Rattle.uc_resolve.specs.Resolve.{source_of}
@@ -13,9 +12,6 @@ use Rattle.uc_lower.specs.Refusals.{Fits}
 use Rattle.uc_lower.proofs.Ending.{as_many, whole, whole_few}
 use Rattle.uc_lower.proofs.Ruled.{fit_classes}
 use Rattle.uc_lower.proofs.lower.lower_named.Goals as goal
-
-pub lower_routines-requires-clause-built : goal.lower_routines-requires-clause-built
-lower_routines-requires-clause-built c = subst IsBuilt (sym c.requires.names) c.requires.built
 
 pub lower_routines-requires-clause-unbroken : goal.lower_routines-requires-clause-unbroken
 lower_routines-requires-clause-unbroken c = ap breaks_of c.requires.names ∙ c.requires.unbroken
@@ -62,4 +58,4 @@ pub cells_of_classes-requires-clause-sizes : goal.cells_of_classes-requires-clau
 cells_of_classes-requires-clause-sizes c = c.sizes.ensures ∙ c.requires.names
 
 pub cells_of_classes-requires-clause-fit : goal.cells_of_classes-requires-clause-fit
-cells_of_classes-requires-clause-fit c = fit_classes c.args.program.now c.requires.unbroken c.requires.built
+cells_of_classes-requires-clause-fit c = fit_classes c.args.program.now c.requires.unbroken

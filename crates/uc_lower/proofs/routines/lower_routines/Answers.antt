@@ -20,18 +20,8 @@ lower_written-requires-clause-named c =
     let l = c.loop-number-test.true in
     let t = c.requires.table in
     let at = found_at c.args.defined.now (routines_of c.args.names.now) c.loop-number.number c.index-defined-number.result c.requires.defined (omega (arith, k, l)) c.index-defined-number.is in
-    let f = follows c.args.names.now (length c.args.out.now.routines) c.loop-number.number c.loop-number.texts c.loop-number.sites (defined_at c.index-defined-number.result) c.loop-number.out c.requires.built c.requires.unbroken c.requires.fits (omega (arith, n, k, t)) at c.loop-number.invariant in
+    let f = follows c.args.names.now (length c.args.out.now.routines) c.loop-number.number c.loop-number.texts c.loop-number.sites (defined_at c.index-defined-number.result) c.loop-number.out c.requires.unbroken c.requires.fits (omega (arith, n, k, t)) at c.loop-number.invariant in
     λ e. f.named (ap (nat_eq c.loop-number.number) (sym c.requires.main) ∙ e)
-
-pub lower_written-requires-clause-built : goal.lower_written-requires-clause-built
-lower_written-requires-clause-built c =
-    let n = as_many c.args.defined.now (routines_of c.args.names.now) c.requires.defined in
-    let k = c.requires.count in
-    let l = c.loop-number-test.true in
-    let t = c.requires.table in
-    let at = found_at c.args.defined.now (routines_of c.args.names.now) c.loop-number.number c.index-defined-number.result c.requires.defined (omega (arith, k, l)) c.index-defined-number.is in
-    let f = follows c.args.names.now (length c.args.out.now.routines) c.loop-number.number c.loop-number.texts c.loop-number.sites (defined_at c.index-defined-number.result) c.loop-number.out c.requires.built c.requires.unbroken c.requires.fits (omega (arith, n, k, t)) at c.loop-number.invariant in
-    f.built
 
 pub lower_written-requires-clause-params : goal.lower_written-requires-clause-params
 lower_written-requires-clause-params c =
@@ -40,7 +30,7 @@ lower_written-requires-clause-params c =
     let l = c.loop-number-test.true in
     let t = c.requires.table in
     let at = found_at c.args.defined.now (routines_of c.args.names.now) c.loop-number.number c.index-defined-number.result c.requires.defined (omega (arith, k, l)) c.index-defined-number.is in
-    let f = follows c.args.names.now (length c.args.out.now.routines) c.loop-number.number c.loop-number.texts c.loop-number.sites (defined_at c.index-defined-number.result) c.loop-number.out c.requires.built c.requires.unbroken c.requires.fits (omega (arith, n, k, t)) at c.loop-number.invariant in
+    let f = follows c.args.names.now (length c.args.out.now.routines) c.loop-number.number c.loop-number.texts c.loop-number.sites (defined_at c.index-defined-number.result) c.loop-number.out c.requires.unbroken c.requires.fits (omega (arith, n, k, t)) at c.loop-number.invariant in
     f.params
 
 pub lower_written-requires-clause-known : goal.lower_written-requires-clause-known
@@ -50,7 +40,7 @@ lower_written-requires-clause-known c =
     let l = c.loop-number-test.true in
     let t = c.requires.table in
     let at = found_at c.args.defined.now (routines_of c.args.names.now) c.loop-number.number c.index-defined-number.result c.requires.defined (omega (arith, k, l)) c.index-defined-number.is in
-    let f = follows c.args.names.now (length c.args.out.now.routines) c.loop-number.number c.loop-number.texts c.loop-number.sites (defined_at c.index-defined-number.result) c.loop-number.out c.requires.built c.requires.unbroken c.requires.fits (omega (arith, n, k, t)) at c.loop-number.invariant in
+    let f = follows c.args.names.now (length c.args.out.now.routines) c.loop-number.number c.loop-number.texts c.loop-number.sites (defined_at c.index-defined-number.result) c.loop-number.out c.requires.unbroken c.requires.fits (omega (arith, n, k, t)) at c.loop-number.invariant in
     f.known
 
 pub lower_written-requires-clause-behind : goal.lower_written-requires-clause-behind
@@ -73,7 +63,7 @@ lower_written-requires-clause-room c =
     let l = c.loop-number-test.true in
     let t = c.requires.table in
     let at = found_at c.args.defined.now (routines_of c.args.names.now) c.loop-number.number c.index-defined-number.result c.requires.defined (omega (arith, k, l)) c.index-defined-number.is in
-    let f = follows c.args.names.now (length c.args.out.now.routines) c.loop-number.number c.loop-number.texts c.loop-number.sites (defined_at c.index-defined-number.result) c.loop-number.out c.requires.built c.requires.unbroken c.requires.fits (omega (arith, n, k, t)) at c.loop-number.invariant in
+    let f = follows c.args.names.now (length c.args.out.now.routines) c.loop-number.number c.loop-number.texts c.loop-number.sites (defined_at c.index-defined-number.result) c.loop-number.out c.requires.unbroken c.requires.fits (omega (arith, n, k, t)) at c.loop-number.invariant in
     f.room
 
 pub lower_written-requires-clause-cells : goal.lower_written-requires-clause-cells
@@ -83,7 +73,7 @@ lower_written-requires-clause-cells c =
     let l = c.loop-number-test.true in
     let t = c.requires.table in
     let at = found_at c.args.defined.now (routines_of c.args.names.now) c.loop-number.number c.index-defined-number.result c.requires.defined (omega (arith, k, l)) c.index-defined-number.is in
-    let f = follows c.args.names.now (length c.args.out.now.routines) c.loop-number.number c.loop-number.texts c.loop-number.sites (defined_at c.index-defined-number.result) c.loop-number.out c.requires.built c.requires.unbroken c.requires.fits (omega (arith, n, k, t)) at c.loop-number.invariant in
+    let f = follows c.args.names.now (length c.args.out.now.routines) c.loop-number.number c.loop-number.texts c.loop-number.sites (defined_at c.index-defined-number.result) c.loop-number.out c.requires.unbroken c.requires.fits (omega (arith, n, k, t)) at c.loop-number.invariant in
     f.cells
 
 pub lower_written-requires-clause-texts : goal.lower_written-requires-clause-texts
@@ -93,7 +83,7 @@ lower_written-requires-clause-texts c =
     let l = c.loop-number-test.true in
     let t = c.requires.table in
     let at = found_at c.args.defined.now (routines_of c.args.names.now) c.loop-number.number c.index-defined-number.result c.requires.defined (omega (arith, k, l)) c.index-defined-number.is in
-    let f = follows c.args.names.now (length c.args.out.now.routines) c.loop-number.number c.loop-number.texts c.loop-number.sites (defined_at c.index-defined-number.result) c.loop-number.out c.requires.built c.requires.unbroken c.requires.fits (omega (arith, n, k, t)) at c.loop-number.invariant in
+    let f = follows c.args.names.now (length c.args.out.now.routines) c.loop-number.number c.loop-number.texts c.loop-number.sites (defined_at c.index-defined-number.result) c.loop-number.out c.requires.unbroken c.requires.fits (omega (arith, n, k, t)) at c.loop-number.invariant in
     f.texts
 
 pub loop-number-preserved : goal.loop-number-preserved
@@ -110,7 +100,7 @@ loop-number-preserved c =
     let all : ℕ = length c.args.out.now.routines in
     subst (λ (s : ℕ). Stands c.args.names.now all (i + 1) c.texts-texts.result s out) (sym c.sites-sites.ensures) (
     subst (λ (t : ℕ). Stands c.args.names.now all (i + 1) t out.sites out) (sym c.texts-texts.ensures) (
-    stands_next c.args.names.now all i c.loop-number.texts c.loop-number.sites (defined_at x) c.loop-number.out out c.requires.built (omega (arith, n, k, t)) at c.loop-number.invariant
+    stands_next c.args.names.now all i c.loop-number.texts c.loop-number.sites (defined_at x) c.loop-number.out out (omega (arith, n, k, t)) at c.loop-number.invariant
     c.in_ok-lower_written.ensures.kept c.in_ok-lower_written.ensures.room
     (subst (λ (m : ℕ). RoutineAt (laid_in out) m i (routine_meant p (defined_at x).routine (routine_scope p (defined_at x).routine (place_by p (defined_at x)) i c.loop-number.texts c.loop-number.sites)) (record { entry = length c.loop-number.out.ops; cells = frame_cells p (defined_at x).routine; params = length (defined_at x).routine.sig.params; written = true }) (length c.loop-number.out.ops) (length out.ops)) (last_is (routines_of p) c.args.count (omega (arith, n, k))) c.in_ok-lower_written.ensures.code)
     c.in_ok-lower_written.ensures.written c.in_ok-lower_written.ensures.outside c.in_ok-lower_written.ensures.texts c.in_ok-lower_written.ensures.few_texts c.in_ok-lower_written.ensures.sites))

@@ -19,7 +19,6 @@ lower_raised-requires c =
     let scopes = opened.opened in
     let ops = c.in_ok-open_freed.ensures.same in
     record {
-      built = c.requires.built;
       written = omega (arith, inside, c.requires.written);
       room = omega (arith, ops, c.requires.room);
       cells = omega (arith, cells, c.requires.cells);

@@ -4,12 +4,12 @@ use Rattle.uc_resolve.specs.Resolve.{args_meant}
 use Rattle.uc_lower_expr.specs.Contexts.{context_in}
 use Rattle.uc_lower_class.specs.Fields.{part_in, part_room}
 use Rattle.uc_lower_class.proofs.Assembling.{behind_in, none_room}
-use Rattle.uc_lower_class.proofs.Fielding.{field_begins, field_part, field_plain, part_class, part_long}
+use Rattle.uc_lower_class.proofs.Fielding.{field_begins, field_part, field_plain, part_made, part_long}
 use Rattle.uc_lower_class.proofs.Parting.{constructs_as}
 use Rattle.uc_lower_class.proofs.parts.lower_built.Goals as goal
 
 pub lower_part-requires-clause-class : goal.lower_part-requires-clause-class
-lower_part-requires-clause-class c = c.requires.class c.in-Some.part.class (part_class c.args.field c.in-Some.part (sym c.part_of.ensures ∙ c.in-Some.is))
+lower_part-requires-clause-class c = c.requires.class c.in-Some.part.made (part_made c.args.field c.in-Some.part (sym c.part_of.ensures ∙ c.in-Some.is))
 
 pub lower_part-requires-clause-room : goal.lower_part-requires-clause-room
 lower_part-requires-clause-room c =

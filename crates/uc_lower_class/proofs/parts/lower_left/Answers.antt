@@ -3,16 +3,16 @@ use Rattle.uc_tree.specs.declared.kinds.Role.TheVariants as role
 use Rattle.uc_lower_stmt.proofs.Openings.{no_call}
 use Rattle.uc_lower_class.specs.Fields.{part_in}
 use Rattle.uc_lower_class.proofs.Assembling.{behind_in, stands_by}
-use Rattle.uc_lower_class.proofs.Fielding.{field_begins, left_part, left_plain, part_class}
+use Rattle.uc_lower_class.proofs.Fielding.{field_begins, left_part, left_plain, part_made}
 use Rattle.uc_lower_class.proofs.Leaving.{opens_as, opens_nothing, opens_scope}
 use Rattle.uc_lower_class.proofs.parts.lower_left.Goals as goal
 
 pub clean_call-what-requires : goal.clean_call-what-requires
-clean_call-what-requires c = c.requires.class c.in-Some.part.class (part_class c.args.field c.in-Some.part (sym c.part_of.ensures ∙ c.in-Some.is))
+clean_call-what-requires c = c.requires.class c.in-Some.part.made (part_made c.args.field c.in-Some.part (sym c.part_of.ensures ∙ c.in-Some.is))
 
 pub open-requires : goal.open-requires
 open-requires c =
-    stands_by c.args.names.now c.in-Some.part.class c.args.out.now.marks c.args.out.now.marks role.Destructor _ c.in-Some.part.spot _ c.clean_call-what.result
+    stands_by c.args.names.now c.in-Some.part.made c.args.out.now.marks c.args.out.now.marks role.Destructor _ c.in-Some.part.spot _ c.clean_call-what.result
     (behind_in c.args.names.now c.args.out.now.marks (part_in c.args.field) c.in-Some.part (sym c.part_of.ensures ∙ c.in-Some.is) c.requires.behind) refl c.clean_call-what.ensures.call
 
 pub returns-in_ok-_row-in-Some : goal.returns-in_ok-_row-in-Some

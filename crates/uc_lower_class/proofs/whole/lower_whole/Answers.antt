@@ -3,7 +3,6 @@ use Rattle.uc_tree.specs.Statements.{stmts_of}
 use Rattle.uc_tree.specs.Cells.{declared_cells, stmts_cells}
 use Rattle.uc_tree.specs.Scopes.{stmts_scopes}
 use Rattle.uc_tree.specs.StatementSizes.{stmts_size}
-use Rattle.uc_built.specs.BuiltForms.{are_built}
 use Rattle.uc_code.specs.Drafts.{Draft}
 use Rattle.uc_code.specs.Layout.{routine_in}
 use Rattle.uc_code.proofs.Sweeping.{closed_ops}
@@ -11,9 +10,6 @@ use Rattle.uc_lower_stmt.specs.Marked.{closing, objects_in}
 use Rattle.uc_lower_stmt.specs.LowersStatement.{sizes_at}
 use Rattle.uc_lower_class.proofs.Wholes.{whole_laid}
 use Rattle.uc_lower_class.proofs.whole.lower_whole.Goals as goal
-
-pub lower_stmts-requires-clause-built : goal.lower_stmts-requires-clause-built
-lower_stmts-requires-clause-built c = ap are_built c.body_of.ensures ∙ c.requires.built
 
 pub lower_stmts-requires-clause-inside : goal.lower_stmts-requires-clause-inside
 lower_stmts-requires-clause-inside c =

@@ -29,6 +29,7 @@ returns-in_ok-push-in-Ok c =
       cell = cell;
       by_ref = sym (ap (λ x. x.by_ref) c.declarator.view_is);
       shape = told.shape;
+      made = c.made_by.ensures;
       class = told.class;
       numbered = told.numbered;
       event = told.event;

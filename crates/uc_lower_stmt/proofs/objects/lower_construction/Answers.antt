@@ -1,35 +1,34 @@
-use Rattle.std.proofs.Common.{◌*◌, List, subst}
-use Rattle.uc_tree.specs.declared.kinds.Param.{Param}
+use Rattle.std.proofs.Common.{◌+◌, ◌*◌, arith}
 use Rattle.uc_tree.specs.declared.limits.TheConstants.{OPS_FOR_SIZE}
 use Rattle.uc_tree.specs.Expressions.{exprs_of}
 use Rattle.uc_tree.specs.ExpressionSizes.{exprs_size}
-use Rattle.uc_resolve.specs.Resolve.{args_by, args_meant}
-use Rattle.uc_code.specs.declared.op.Op.{Op}
-use Rattle.uc_code.specs.Drafts.{Draft}
-use Rattle.uc_lower_expr.specs.DraftGrowth.{Adds, ArgumentsCode, OpCode}
+use Rattle.uc_resolve.specs.Resolve.{args_meant}
+use Rattle.uc_lower_expr.specs.declared.making.Made.TheVariants as made
 use Rattle.uc_lower_expr.specs.Contexts.{context_in}
-use Rattle.uc_lower_expr.specs.Meanings.{is_mutex_at}
-use Rattle.uc_lower_stmt.proofs.Building.{arm_unwritten, arm_written}
+use Rattle.uc_lower_expr.proofs.Adding.{adds_more}
+use Rattle.uc_lower_stmt.proofs.Building.{behind_in, class_in, construction_is}
 use Rattle.uc_lower_stmt.proofs.objects.lower_construction.Goals as goal
 
-pub returns-in_ok-put_at_risk-clause-code : goal.returns-in_ok-put_at_risk-clause-code
-returns-in_ok-put_at_risk-clause-code c =
-    let p = c.args.names.now in
-    let d0 = c.args.out.now in
-    let d1 = c.put.new.out in
-    let es = exprs_of c.args.args.now in
-    let n = OPS_FOR_SIZE * exprs_size (exprs_of c.args.args.now) in
-    let spot = subst (λ (o : Op). Adds 1 (OpCode c.args.line o) d0 d1) c.spot_op.ensures c.in_ok-put.ensures in
-    let args = subst (λ (xs : List Param). Adds n (ArgumentsCode c.args.line d1.marks (args_by xs (args_meant (context_in p d0) es))) d1 c.lower_args.new.out) c.params.ensures (
-    subst (λ (d : Draft). Adds n (ArgumentsCode c.args.line d1.marks (args_by c.params.result.now (args_meant (context_in p d) es))) d1 c.lower_args.new.out) c.in_ok-put.ensures.rest c.in_ok-lower_args.ensures) in
-    arm_written p c.args.class c.args.line c.args.spot (args_meant (context_in p d0) es) (is_mutex_at p c.args.class) c.constructor_of-routine.result n d0 d1 c.lower_args.new.out _ _ _ c.constructor_of-routine.ensures c.if-routine.true spot args c.in_ok-put-2.ensures c.in_ok-put_made.ensures c.in_ok-put_at_risk.ensures
+pub construct_object-requires-clause-class : goal.construct_object-requires-clause-class
+construct_object-requires-clause-class c = class_in c.args.names.now c.in-Object.class c.args.made c.in-Object.is c.requires.class
 
-pub returns-in_ok-put_at_risk-2-clause-code : goal.returns-in_ok-put_at_risk-2-clause-code
-returns-in_ok-put_at_risk-2-clause-code c =
+pub construct_object-requires-clause-behind : goal.construct_object-requires-clause-behind
+construct_object-requires-clause-behind c = behind_in c.args.names.now c.in-Object.class c.args.made c.args.spot _ c.args.out.now.marks c.in-Object.is c.requires.behind
+
+pub returns-in_ok-construct_object-in-Object-clause-code : goal.returns-in_ok-construct_object-in-Object-clause-code
+returns-in_ok-construct_object-in-Object-clause-code c =
     let p = c.args.names.now in
-    let d0 = c.args.out.now in
-    let d1 = c.put.new.out in
     let es = exprs_of c.args.args.now in
-    let n = OPS_FOR_SIZE * exprs_size (exprs_of c.args.args.now) in
-    let spot = subst (λ (o : Op). Adds 1 (OpCode c.args.line o) d0 d1) c.spot_op.ensures c.in_ok-put.ensures in
-    arm_unwritten p c.args.class c.args.line c.args.spot (args_meant (context_in p d0) es) (is_mutex_at p c.args.class) c.constructor_of-routine.result n _ d0 d1 _ _ c.constructor_of-routine.ensures c.if-routine.false c.requires.behind spot c.in_ok-put_made-2.ensures c.in_ok-put_at_risk-2.ensures
+    construction_is p (OPS_FOR_SIZE * exprs_size es + 5) c.args.line c.args.made (made.Object c.in-Object.class) c.args.spot (args_meant (context_in p c.args.out.now) es) c.args.out.now _ c.in-Object.is c.in_ok-construct_object-in-Object.ensures.code
+
+pub returns-in_ok-open_cluster-in-Cluster-clause-code : goal.returns-in_ok-open_cluster-in-Cluster-clause-code
+returns-in_ok-open_cluster-in-Cluster-clause-code c =
+    let p = c.args.names.now in
+    let es = exprs_of c.args.args.now in
+    construction_is p (OPS_FOR_SIZE * exprs_size es + 5) c.args.line c.args.made made.Cluster c.args.spot (args_meant (context_in p c.args.out.now) es) c.args.out.now _ c.in-Cluster.is (λ place at. adds_more (omega arith) (c.in_ok-open_cluster-in-Cluster.ensures.code place at))
+
+pub returns-in_ok-open_processor-in-Processor-clause-code : goal.returns-in_ok-open_processor-in-Processor-clause-code
+returns-in_ok-open_processor-in-Processor-clause-code c =
+    let p = c.args.names.now in
+    let es = exprs_of c.args.args.now in
+    construction_is p (OPS_FOR_SIZE * exprs_size es + 5) c.args.line c.args.made made.Processor c.args.spot (args_meant (context_in p c.args.out.now) es) c.args.out.now _ c.in-Processor.is (λ place at. adds_more (omega arith) (c.in_ok-open_processor-in-Processor.ensures.code place at))

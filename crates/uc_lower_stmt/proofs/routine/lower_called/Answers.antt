@@ -4,16 +4,12 @@ use Rattle.uc_tree.specs.Statements.{stmts_of}
 use Rattle.uc_tree.specs.Cells.{declared_cells, stmts_cells}
 use Rattle.uc_tree.specs.Scopes.{stmts_scopes}
 use Rattle.uc_tree.specs.StatementSizes.{stmts_size}
-use Rattle.uc_built.specs.BuiltForms.{are_built}
 use Rattle.uc_code.specs.Drafts.{Draft}
 use Rattle.uc_code.specs.Layout.{routine_in}
 use Rattle.uc_lower_stmt.specs.Marked.{closing, objects_in}
 use Rattle.uc_lower_stmt.specs.LowersStatement.{sizes_at}
 use Rattle.uc_lower_stmt.proofs.RoutinesLemmas.{called_lowered}
 use Rattle.uc_lower_stmt.proofs.routine.lower_called.Goals as goal
-
-pub lower_stmts-requires-clause-built : goal.lower_stmts-requires-clause-built
-lower_stmts-requires-clause-built c = ap are_built c.body_of.ensures ∙ c.requires.built
 
 pub lower_stmts-requires-clause-cells : goal.lower_stmts-requires-clause-cells
 lower_stmts-requires-clause-cells c =

@@ -1,5 +1,5 @@
 use Rattle.std.proofs.Common.{◌∙◌, ap}
-use Rattle.uc_top.specs.Built.{place_of}
+use Rattle.uc_top.specs.Accepted.{place_of}
 use Rattle.uc_top.proofs.Places.{deep_at}
 use Rattle.uc_top.proofs.decide.do_tokens.Goals as goal
 

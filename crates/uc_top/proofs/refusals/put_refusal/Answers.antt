@@ -17,11 +17,6 @@ pub returns-in_ok-put_line-in-TooLong-clause-ok : goal.returns-in_ok-put_line-in
 returns-in_ok-put_line-in-TooLong-clause-ok g c =
     said c.args.refusal _ c.args.name.now _ c.in-TooLong.is (ap (err_line (codes "too long ")) (sym c.as_bytes-in-TooLong.ensures.value)) c.in_ok-put_line-in-TooLong.ensures.ok
 
-pub returns-in_ok-put_line-in-NotBuilt-clause-ok :
-    goal.returns-in_ok-put_line-in-NotBuilt-clause-ok
-returns-in_ok-put_line-in-NotBuilt-clause-ok g c =
-    said c.args.refusal _ c.args.name.now _ c.in-NotBuilt.is refl c.in_ok-put_line-in-NotBuilt.ensures.ok
-
 pub returns-in_ok-put_line-in-NoMemory-clause-ok :
     goal.returns-in_ok-put_line-in-NoMemory-clause-ok
 returns-in_ok-put_line-in-NoMemory-clause-ok g c =
@@ -36,3 +31,7 @@ pub returns-in_ok-put_line-in-CodeTooLarge-clause-ok :
     goal.returns-in_ok-put_line-in-CodeTooLarge-clause-ok
 returns-in_ok-put_line-in-CodeTooLarge-clause-ok g c =
     said c.args.refusal _ c.args.name.now _ c.in-CodeTooLarge.is refl c.in_ok-put_line-in-CodeTooLarge.ensures.ok
+
+pub returns-in_ok-put_line-in-BadLine-clause-ok : goal.returns-in_ok-put_line-in-BadLine-clause-ok
+returns-in_ok-put_line-in-BadLine-clause-ok g c =
+    said c.args.refusal _ c.args.name.now _ c.in-BadLine.is (ap (err_line (codes "journal line ")) (sym (c.as_bytes-in-BadLine.ensures.value ∙ c.format-in-BadLine.ensures.text))) c.in_ok-put_line-in-BadLine.ensures.ok

@@ -1,6 +1,7 @@
-use Rattle.std.proofs.Common.{rules, sym, ◌∙◌}
+use Rattle.std.proofs.Common.{◌<◌, arith, rules, subst, sym, ◌∙◌}
 use Rattle.uc_kernel.specs.Numbered.{keys}
-use Rattle.uc_vproc.proofs.Fitting.{fits_anywhere, fits_at, fits_bare, fits_apart, fits_owned, fits_print, fits_read}
+use Rattle.uc_vproc.specs.Places.{IsAccepting, IsApart}
+use Rattle.uc_vproc.proofs.Fitting.{fits_anywhere, fits_at, fits_bare, fits_apart, fits_accepting, fits_cluster, fits_owned, fits_print, fits_processor, fits_read}
 use Rattle.uc_vproc.proofs.fits.fits.Goals as goal
 
 pub returns-in-Anywhere : goal.returns-in-Anywhere
@@ -21,7 +22,7 @@ returns-in-Unowned c h =
 pub returns-in-Outside : goal.returns-in-Outside
 returns-in-Outside c h =
     let k = c.args.kernel.now in
-    fits_apart k.opts k.sites k.input k.journal c.requires.runs c.requires.going c.args.task (keys c.args.hand.now.items) c.requires.hand c.own_object-own.result c.own_object-own.ensures c.args.there.now c.requires.there c.in-Outside.object c.in-Outside.member c.args.request.now (c.is_apart.ensures h) (sym c.place_for.ensures ∙ c.in-Outside.is)
+    fits_apart k.opts k.sites k.input k.journal c.requires.runs c.requires.going c.args.task (keys c.args.hand.now.items) c.requires.hand c.own_object-own.result c.own_object-own.ensures c.args.registry.now.there.items c.requires.told.objects c.in-Outside.object c.in-Outside.member c.args.request.now (subst (λ l. IsApart l (keys c.args.hand.now.items) c.in-Outside.object c.in-Outside.member) c.deref-in-Outside.ensures.value (c.is_apart.ensures h)) (sym c.place_for.ensures ∙ c.in-Outside.is)
 
 pub returns-in-Owned : goal.returns-in-Owned
 returns-in-Owned c h =
@@ -37,3 +38,22 @@ pub returns-in-Reads : goal.returns-in-Reads
 returns-in-Reads c h =
     let k = c.args.kernel.now in
     fits_read k.opts k.sites k.input k.journal c.requires.runs c.requires.going c.args.task (keys c.args.hand.now.items) c.requires.hand c.own_object-own.result c.own_object-own.ensures c.in-Reads.form c.args.request.now (search rules) (sym c.place_for.ensures ∙ c.in-Reads.is)
+
+pub returns-in-Accepting : goal.returns-in-Accepting
+returns-in-Accepting c h =
+    let k = c.args.kernel.now in
+    fits_accepting k.opts k.sites k.input k.journal c.requires.runs c.requires.going c.args.task (keys c.args.hand.now.items) c.requires.hand c.own_object-own.result c.own_object-own.ensures c.in-Accepting.object c.in-Accepting.site c.in-Accepting.mask c.args.registry.now.masks.items c.args.request.now c.requires.told.masks (subst (λ l. IsAccepting l (keys c.args.hand.now.items) c.in-Accepting.object c.in-Accepting.site c.in-Accepting.mask) c.deref-in-Accepting.ensures.value (c.is_accepting.ensures h)) (sym c.place_for.ensures ∙ c.in-Accepting.is)
+
+pub returns-in-Cluster : goal.returns-in-Cluster
+returns-in-Cluster c h =
+    let k = c.args.kernel.now in
+    let le = c.requires.told.clusters in
+    let lt : c.in-Cluster.cluster < c.args.registry.now.clusters = search rules in
+    fits_cluster k.opts k.sites k.input k.journal c.requires.runs c.requires.going c.args.task (keys c.args.hand.now.items) c.requires.hand c.own_object-own.result c.own_object-own.ensures c.in-Cluster.cluster c.args.request.now (omega (arith, le, lt)) (sym c.place_for.ensures ∙ c.in-Cluster.is)
+
+pub returns-in-Processor : goal.returns-in-Processor
+returns-in-Processor c h =
+    let k = c.args.kernel.now in
+    let le = c.requires.told.processors in
+    let lt : c.in-Processor.processor < c.args.registry.now.processors = search rules in
+    fits_processor k.opts k.sites k.input k.journal c.requires.runs c.requires.going c.args.task (keys c.args.hand.now.items) c.requires.hand c.own_object-own.result c.own_object-own.ensures c.in-Processor.processor c.args.request.now (omega (arith, le, lt)) (sym c.place_for.ensures ∙ c.in-Processor.is)

@@ -1,4 +1,4 @@
-use Rattle.std.proofs.Common.{sym, ap, not, ◌∙◌}
+use Rattle.std.proofs.Common.{sym, ◌∙◌}
 use Rattle.uc_vproc.proofs.Fitting.{known_there, not_true_false}
 use Rattle.uc_vproc.proofs.fits.is_bare.Goals as goal
 

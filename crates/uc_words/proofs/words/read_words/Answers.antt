@@ -34,4 +34,4 @@ returns-clause-fault c =
     let text : c.as_str-command.result.now ≡ string_bytes c.in-Some.command.now = c.as_str-command.ensures.value in
     rw whole
     (bad_command (string_bytes c.in-Some.command.now) (map string_bytes c.in-Some.rest.now)
-    (no_leading (string_bytes c.in-Some.command.now) (λ e. denies c.eq.result _ _ c.eq.ensures c.if-eq.false (text ∙ e)) (λ e. denies c.eq-2.result _ _ c.eq-2.ensures c.if-eq-2.false (text ∙ e)) (λ e. denies c.eq-3.result _ _ c.eq-3.ensures c.if-eq-3.false (text ∙ e)) (λ e. denies c.eq-4.result _ _ c.eq-4.ensures c.if-eq-4.false (text ∙ e))))
+    (no_leading (string_bytes c.in-Some.command.now) (λ e. denies c.eq.result _ _ c.eq.ensures c.if-eq.false (text ∙ e)) (λ e. denies c.eq-2.result _ _ c.eq-2.ensures c.if-eq-2.false (text ∙ e)) (λ e. denies c.eq-3.result _ _ c.eq-3.ensures c.if-eq-3.false (text ∙ e)) (λ e. denies c.eq-4.result _ _ c.eq-4.ensures c.if-eq-4.false (text ∙ e)) (λ e. denies c.eq-5.result _ _ c.eq-5.ensures c.if-eq-5.false (text ∙ e))))

@@ -1,4 +1,4 @@
-use Rattle.std.proofs.Common.{◌≡◌, sym, ap, ◌∙◌, refl, subst, length, vec_capacity, arith}
+use Rattle.std.proofs.Common.{sym, ap, ◌∙◌, refl, subst, length, vec_capacity, arith}
 use Rattle.uc_kernel.specs.KernelState.{kept}
 use Rattle.uc_lock.specs.Journals.{Extends}
 use Rattle.uc_vproc.specs.Makers.{Log, paired}
@@ -15,9 +15,9 @@ put-step-requires-clause-hand c =
     let ns = c.self.inside.notes.items in
     let room = vec_capacity c.self.inside.notes in
     let n = c.args.maker in
-    let there = c.self.inside.there.items in
+    let registry = c.self.inside.registry in
     let br = subst (λ (x : Table). (seen : Log) × Saw n seen x.log × Brings x.code n seen c.args.back) (sym c.self.view_is) c.requires.brings in
-    in_hand code main k ns room n there c.self.invariant c.args.back br.0 br.1 br.2
+    in_hand code main k ns room n registry c.self.invariant c.args.back br.0 br.1 br.2
 
 pub put-step-requires-clause-runs : goal.put-step-requires-clause-runs
 put-step-requires-clause-runs c = c.self.invariant.runs
@@ -30,7 +30,7 @@ put-step-requires-clause-room c =
     let ns = c.self.inside.notes.items in
     let room = vec_capacity c.self.inside.notes in
     let n = c.args.maker in
-    let there = c.self.inside.there.items in
+    let registry = c.self.inside.registry in
     let br = subst (λ (x : Table). (seen : Log) × Saw n seen x.log × Brings x.code n seen c.args.back) (sym c.self.view_is) c.requires.brings in
     br.2.ride.room
 
@@ -42,12 +42,12 @@ make_notes-requires c =
     let ns = c.self.inside.notes.items in
     let room = vec_capacity c.self.inside.notes in
     let n = c.args.maker in
-    let there = c.self.inside.there.items in
+    let registry = c.self.inside.registry in
     let br = subst (λ (x : Table). (seen : Log) × Saw n seen x.log × Brings x.code n seen c.args.back) (sym c.self.view_is) c.requires.brings in
     let step = c.put-step.result in
     let new = kept c.put-step.new.kernel in
-    let adv = put_on code main k ns room n there c.self.invariant c.args.back br.0 br.1 br.2 c.put-step.new.there.items c.self.inside.kernel c.put-step.new.kernel refl c.put-step.ensures in
-    let le = fits_room code main new (noted ns n step new.journal) room c.put-step.new.there.items adv.keeps in
+    let adv = put_on code main k ns room n registry c.self.invariant c.args.back br.0 br.1 br.2 c.put-step.new.registry c.self.inside.kernel c.put-step.new.kernel refl c.put-step.ensures in
+    let le = fits_room code main new (noted ns n step new.journal) room c.put-step.new.registry adv.keeps in
     let e = ap length c.journal-count.ensures in omega (arith, le, e)
 
 pub invariant_of-self : goal.invariant_of-self
@@ -58,12 +58,12 @@ invariant_of-self c =
     let ns = c.self.inside.notes.items in
     let room = vec_capacity c.self.inside.notes in
     let n = c.args.maker in
-    let there = c.self.inside.there.items in
+    let registry = c.self.inside.registry in
     let br = subst (λ (x : Table). (seen : Log) × Saw n seen x.log × Brings x.code n seen c.args.back) (sym c.self.view_is) c.requires.brings in
     let step = c.put-step.result in
     let new = kept c.put-step.new.kernel in
-    let adv = put_on code main k ns room n there c.self.invariant c.args.back br.0 br.1 br.2 c.put-step.new.there.items c.self.inside.kernel c.put-step.new.kernel refl c.put-step.ensures in
-    keeps_on code main k ns room n new (noted ns n step new.journal) c.make_notes.new.notes.items (vec_capacity c.make_notes.new.notes) c.put-step.new.there.items step adv (c.make_notes.ensures.items ∙ ap (noted ns n step) c.journal-count.ensures) c.make_notes.ensures.capacity
+    let adv = put_on code main k ns room n registry c.self.invariant c.args.back br.0 br.1 br.2 c.put-step.new.registry c.self.inside.kernel c.put-step.new.kernel refl c.put-step.ensures in
+    keeps_on code main k ns room n new (noted ns n step new.journal) c.make_notes.new.notes.items (vec_capacity c.make_notes.new.notes) c.put-step.new.registry step adv (c.make_notes.ensures.items ∙ ap (noted ns n step) c.journal-count.ensures) c.make_notes.ensures.capacity
 
 pub returns-clause-key : goal.returns-clause-key
 returns-clause-key c =
@@ -73,10 +73,10 @@ returns-clause-key c =
     let ns = c.self.inside.notes.items in
     let room = vec_capacity c.self.inside.notes in
     let n = c.args.maker in
-    let there = c.self.inside.there.items in
+    let registry = c.self.inside.registry in
     let br = subst (λ (x : Table). (seen : Log) × Saw n seen x.log × Brings x.code n seen c.args.back) (sym c.self.view_is) c.requires.brings in
     let step = c.put-step.result in
-    let adv = put_on code main k ns room n there c.self.invariant c.args.back br.0 br.1 br.2 c.put-step.new.there.items c.self.inside.kernel c.put-step.new.kernel refl c.put-step.ensures in
+    let adv = put_on code main k ns room n registry c.self.invariant c.args.back br.0 br.1 br.2 c.put-step.new.registry c.self.inside.kernel c.put-step.new.kernel refl c.put-step.ensures in
     (λ i. record { code = code; main = main; input = adv.input i; opts = adv.opts i }) ∙ ap key_from c.self.view_is
 
 pub returns-clause-log : goal.returns-clause-log
@@ -87,12 +87,12 @@ returns-clause-log c =
     let ns = c.self.inside.notes.items in
     let room = vec_capacity c.self.inside.notes in
     let n = c.args.maker in
-    let there = c.self.inside.there.items in
+    let registry = c.self.inside.registry in
     let br = subst (λ (x : Table). (seen : Log) × Saw n seen x.log × Brings x.code n seen c.args.back) (sym c.self.view_is) c.requires.brings in
     let step = c.put-step.result in
     let new = kept c.put-step.new.kernel in
-    let adv = put_on code main k ns room n there c.self.invariant c.args.back br.0 br.1 br.2 c.put-step.new.there.items c.self.inside.kernel c.put-step.new.kernel refl c.put-step.ensures in
-    subst (λ (x : Table). Extends n x.log (paired new.journal c.make_notes.new.notes.items)) c.self.view_is (logs_on code main k ns room n new (noted ns n step new.journal) c.make_notes.new.notes.items (vec_capacity c.make_notes.new.notes) c.put-step.new.there.items step adv (c.make_notes.ensures.items ∙ ap (noted ns n step) c.journal-count.ensures))
+    let adv = put_on code main k ns room n registry c.self.invariant c.args.back br.0 br.1 br.2 c.put-step.new.registry c.self.inside.kernel c.put-step.new.kernel refl c.put-step.ensures in
+    subst (λ (x : Table). Extends n x.log (paired new.journal c.make_notes.new.notes.items)) c.self.view_is (logs_on code main k ns room n new (noted ns n step new.journal) c.make_notes.new.notes.items (vec_capacity c.make_notes.new.notes) c.put-step.new.registry step adv (c.make_notes.ensures.items ∙ ap (noted ns n step) c.journal-count.ensures))
 
 pub returns-clause-came : goal.returns-clause-came
 returns-clause-came c =
@@ -102,9 +102,9 @@ returns-clause-came c =
     let ns = c.self.inside.notes.items in
     let room = vec_capacity c.self.inside.notes in
     let n = c.args.maker in
-    let there = c.self.inside.there.items in
+    let registry = c.self.inside.registry in
     let br = subst (λ (x : Table). (seen : Log) × Saw n seen x.log × Brings x.code n seen c.args.back) (sym c.self.view_is) c.requires.brings in
     let step = c.put-step.result in
     let new = kept c.put-step.new.kernel in
-    let adv = put_on code main k ns room n there c.self.invariant c.args.back br.0 br.1 br.2 c.put-step.new.there.items c.self.inside.kernel c.put-step.new.kernel refl c.put-step.ensures in
-    subst (λ (x : Table). Came x.code n (paired new.journal c.make_notes.new.notes.items) step) c.self.view_is (comes_on code main k ns room n new (noted ns n step new.journal) c.make_notes.new.notes.items (vec_capacity c.make_notes.new.notes) c.put-step.new.there.items step adv (c.make_notes.ensures.items ∙ ap (noted ns n step) c.journal-count.ensures))
+    let adv = put_on code main k ns room n registry c.self.invariant c.args.back br.0 br.1 br.2 c.put-step.new.registry c.self.inside.kernel c.put-step.new.kernel refl c.put-step.ensures in
+    subst (λ (x : Table). Came x.code n (paired new.journal c.make_notes.new.notes.items) step) c.self.view_is (comes_on code main k ns room n new (noted ns n step new.journal) c.make_notes.new.notes.items (vec_capacity c.make_notes.new.notes) c.put-step.new.registry step adv (c.make_notes.ensures.items ∙ ap (noted ns n step) c.journal-count.ensures))

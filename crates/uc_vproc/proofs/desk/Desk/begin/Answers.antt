@@ -1,4 +1,4 @@
-use Rattle.std.proofs.Common.{◌≡◌, ap, ◌∙◌, refl, subst, length, vec_capacity, arith}
+use Rattle.std.proofs.Common.{ap, ◌∙◌, refl, subst, length, vec_capacity, arith}
 use Rattle.uc_kernel.specs.KernelState.{kept}
 use Rattle.uc_lock.specs.Journals.{Extends}
 use Rattle.uc_vproc.specs.Makers.{paired}
@@ -14,11 +14,11 @@ make_notes-requires c =
     let ns = c.self.inside.notes.items in
     let room = vec_capacity c.self.inside.notes in
     let n = c.args.maker in
-    let there = c.self.inside.there.items in
+    let registry = c.self.inside.registry in
     let step = c.hand_out-step.result in
     let new = kept c.hand_out-step.new.kernel in
-    let adv = handed_on code main k ns room n there c.self.invariant c.self.inside.kernel c.hand_out-step.new.kernel refl c.hand_out-step.ensures in
-    let le = fits_room code main new (noted ns n step new.journal) room there adv.keeps in
+    let adv = handed_on code main k ns room n registry c.self.invariant c.self.inside.kernel c.hand_out-step.new.kernel refl c.hand_out-step.ensures in
+    let le = fits_room code main new (noted ns n step new.journal) room registry adv.keeps in
     let e = ap length c.journal-count.ensures in omega (arith, le, e)
 
 pub invariant_of-self : goal.invariant_of-self
@@ -29,11 +29,11 @@ invariant_of-self c =
     let ns = c.self.inside.notes.items in
     let room = vec_capacity c.self.inside.notes in
     let n = c.args.maker in
-    let there = c.self.inside.there.items in
+    let registry = c.self.inside.registry in
     let step = c.hand_out-step.result in
     let new = kept c.hand_out-step.new.kernel in
-    let adv = handed_on code main k ns room n there c.self.invariant c.self.inside.kernel c.hand_out-step.new.kernel refl c.hand_out-step.ensures in
-    keeps_on code main k ns room n new (noted ns n step new.journal) c.make_notes.new.notes.items (vec_capacity c.make_notes.new.notes) there step adv (c.make_notes.ensures.items ∙ ap (noted ns n step) c.journal-count.ensures) c.make_notes.ensures.capacity
+    let adv = handed_on code main k ns room n registry c.self.invariant c.self.inside.kernel c.hand_out-step.new.kernel refl c.hand_out-step.ensures in
+    keeps_on code main k ns room n new (noted ns n step new.journal) c.make_notes.new.notes.items (vec_capacity c.make_notes.new.notes) registry step adv (c.make_notes.ensures.items ∙ ap (noted ns n step) c.journal-count.ensures) c.make_notes.ensures.capacity
 
 pub returns-clause-key : goal.returns-clause-key
 returns-clause-key c =
@@ -43,9 +43,9 @@ returns-clause-key c =
     let ns = c.self.inside.notes.items in
     let room = vec_capacity c.self.inside.notes in
     let n = c.args.maker in
-    let there = c.self.inside.there.items in
+    let registry = c.self.inside.registry in
     let step = c.hand_out-step.result in
-    let adv = handed_on code main k ns room n there c.self.invariant c.self.inside.kernel c.hand_out-step.new.kernel refl c.hand_out-step.ensures in
+    let adv = handed_on code main k ns room n registry c.self.invariant c.self.inside.kernel c.hand_out-step.new.kernel refl c.hand_out-step.ensures in
     (λ i. record { code = code; main = main; input = adv.input i; opts = adv.opts i }) ∙ ap key_from c.self.view_is
 
 pub returns-clause-log : goal.returns-clause-log
@@ -56,11 +56,11 @@ returns-clause-log c =
     let ns = c.self.inside.notes.items in
     let room = vec_capacity c.self.inside.notes in
     let n = c.args.maker in
-    let there = c.self.inside.there.items in
+    let registry = c.self.inside.registry in
     let step = c.hand_out-step.result in
     let new = kept c.hand_out-step.new.kernel in
-    let adv = handed_on code main k ns room n there c.self.invariant c.self.inside.kernel c.hand_out-step.new.kernel refl c.hand_out-step.ensures in
-    subst (λ (x : Table). Extends n x.log (paired new.journal c.make_notes.new.notes.items)) c.self.view_is (logs_on code main k ns room n new (noted ns n step new.journal) c.make_notes.new.notes.items (vec_capacity c.make_notes.new.notes) there step adv (c.make_notes.ensures.items ∙ ap (noted ns n step) c.journal-count.ensures))
+    let adv = handed_on code main k ns room n registry c.self.invariant c.self.inside.kernel c.hand_out-step.new.kernel refl c.hand_out-step.ensures in
+    subst (λ (x : Table). Extends n x.log (paired new.journal c.make_notes.new.notes.items)) c.self.view_is (logs_on code main k ns room n new (noted ns n step new.journal) c.make_notes.new.notes.items (vec_capacity c.make_notes.new.notes) registry step adv (c.make_notes.ensures.items ∙ ap (noted ns n step) c.journal-count.ensures))
 
 pub returns-clause-came : goal.returns-clause-came
 returns-clause-came c =
@@ -70,8 +70,8 @@ returns-clause-came c =
     let ns = c.self.inside.notes.items in
     let room = vec_capacity c.self.inside.notes in
     let n = c.args.maker in
-    let there = c.self.inside.there.items in
+    let registry = c.self.inside.registry in
     let step = c.hand_out-step.result in
     let new = kept c.hand_out-step.new.kernel in
-    let adv = handed_on code main k ns room n there c.self.invariant c.self.inside.kernel c.hand_out-step.new.kernel refl c.hand_out-step.ensures in
-    subst (λ (x : Table). Came x.code n (paired new.journal c.make_notes.new.notes.items) step) c.self.view_is (comes_on code main k ns room n new (noted ns n step new.journal) c.make_notes.new.notes.items (vec_capacity c.make_notes.new.notes) there step adv (c.make_notes.ensures.items ∙ ap (noted ns n step) c.journal-count.ensures))
+    let adv = handed_on code main k ns room n registry c.self.invariant c.self.inside.kernel c.hand_out-step.new.kernel refl c.hand_out-step.ensures in
+    subst (λ (x : Table). Came x.code n (paired new.journal c.make_notes.new.notes.items) step) c.self.view_is (comes_on code main k ns room n new (noted ns n step new.journal) c.make_notes.new.notes.items (vec_capacity c.make_notes.new.notes) registry step adv (c.make_notes.ensures.items ∙ ap (noted ns n step) c.journal-count.ensures))

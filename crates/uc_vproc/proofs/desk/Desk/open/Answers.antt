@@ -1,8 +1,9 @@
-use Rattle.std.proofs.Common.{◌-◌, ◌≤◌, ◌++◌, ◌∷◌, [], Some, false, sym, ap, ◌∙◌, subst, length, replicate, vec_capacity, arith}
+use Rattle.std.proofs.Common.{◌-◌, ◌≤◌, ◌++◌, Some, sym, ap, ◌∙◌, subst, length, replicate, vec_capacity, arith}
 use Rattle.uc_kernel.specs.KernelState.{kept}
 use Rattle.uc_kernel.specs.Calls.{Opened}
 use Rattle.uc_vproc.specs.declared.step.Step.TheVariants.{Idle}
-use Rattle.uc_vproc.specs.Desks.{Keeping, no_fields}
+use Rattle.uc_vproc.specs.Registries.{IsOpening}
+use Rattle.uc_vproc.specs.Desks.{Keeping}
 use Rattle.uc_vproc.proofs.Opening.{opens}
 use Rattle.uc_vproc.proofs.desk.Desk.open.Goals as goal
 
@@ -16,5 +17,6 @@ invariant_of-result c =
     let cap = c.make_notes.ensures.capacity in
     let wide = c.in_ok-notes.ensures.capacity in
     let le : c.args.opts.entries ≤ vec_capacity c.make_notes.new.notes = omega (arith, cap, wide) in
-    let one_there = c.push_reserved.ensures.items ∙ ap (λ l. l ++ false ∷ []) c.in_ok-there.ensures.items in
-    subst (λ r. Keeping r c.args.main k c.make_notes.new.notes.items (vec_capacity c.make_notes.new.notes) c.push_reserved.new.self.items) (sym c.of.ensures) (opens code c.args.main c.args.opts c.args.input.items c.args.first c.requires.first c.requires.kept k c.make_notes.new.notes.items (vec_capacity c.make_notes.new.notes) c.push_reserved.new.self.items c.requires.options o one le one_there)
+    let registry = c.in_ok-registry.registry in
+    let told = subst (λ s. IsOpening s c.args.opts.processors registry) c.requires.sites (subst (λ s. IsOpening s c.args.opts.processors registry) c.deref.ensures.value c.in_ok-registry.ensures) in
+    subst (λ r. Keeping r c.args.main k c.make_notes.new.notes.items (vec_capacity c.make_notes.new.notes) registry) (sym c.of.ensures) (opens code c.args.main c.args.opts c.args.input.items c.args.first c.requires.first c.requires.kept k c.make_notes.new.notes.items (vec_capacity c.make_notes.new.notes) registry c.requires.options o one le told)

@@ -1,0 +1,5 @@
+pub mod Unbroken
+pub mod Agreement
+pub mod Parts
+pub mod Fields
+pub mod Declarations

@@ -1,2 +1,0 @@
-pub mod BuiltForms
-pub mod Accepted

@@ -1,0 +1,6 @@
+pub mod OrderLemmas
+pub mod SameLemmas
+pub mod WaitLemmas
+pub mod StepLemmas
+pub mod LineLemmas
+pub mod ViewLemmas

@@ -1,0 +1,11 @@
+pub mod Frames
+pub mod Operands
+pub mod Control
+pub mod Evals
+pub mod Idle
+pub mod Steps
+pub mod Unwinds
+pub mod Keeps
+pub mod Answers
+pub mod Finding
+pub mod Sampled

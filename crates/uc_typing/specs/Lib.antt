@@ -1,0 +1,6 @@
+pub mod Typing
+pub mod Pieces
+pub mod States
+pub mod Finds
+pub mod Laws
+pub mod Samples

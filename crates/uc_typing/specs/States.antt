@@ -1,0 +1,228 @@
+-- States whose operands, frames and activations are of the types that their to-do lists ask for, and what an answer brings to one.
+use Rattle.std.specs.Prelude.{◌≡◌, ℕ, ◌<◌, List, [], ◌∷◌, length, slice_get, Option, Some, None, Bool, true, false}
+use Rattle.uc_tree.specs.Source.{OfObject, Get, GetOwn, Source, Routine, Purpose, TaskMain, CoroutineMain, Procedure, Function, Builder}
+use Rattle.uc_entry.specs.declared.request.Request.{Request}
+use Rattle.uc_entry.specs.declared.request.Request.TheVariants as ask
+use Rattle.uc_entry.specs.declared.request.Answer.{Answer}
+use Rattle.uc_entry.specs.declared.request.Answer.TheVariants as answer
+use Rattle.uc_machine.specs.declared.exec.Stage.{Stage}
+use Rattle.uc_machine.specs.declared.exec.Stage.TheVariants.{Fresh, Started, Ended}
+use Rattle.uc_machine.specs.Executions.{Execution, at_depth, others}
+use Rattle.uc_machine.specs.Pieces.{Link, Slot, FieldAt, At, Value, Number, Place, Running, Object, Nothing, Todo, Active, State, Env, Members, Step, Goes, Ticks, Asks, loaded, further, top, variable_at, Eval, LoadNow}
+use Rattle.uc_machine.specs.Answering.{child_main}
+use Rattle.uc_typing.specs.Typing.{Ty, Num, Cell, Obj, Raw, Row, Clu, Pro, Name, Sig, Table, IsRoutine, InScope, FineStmts}
+use Rattle.uc_typing.specs.Pieces.{Ok, onto}
+
+-- what a place that is not whole yet is a place of
+abbrev pub whole : Ty → Ty
+whole Num = Num
+whole (Cell a) = Cell (whole a)
+whole (Obj c) = Obj c
+whole (Raw c) = Obj c
+whole (Row n a) = Row n (whole a)
+whole Clu = Clu
+whole Pro = Pro
+
+-- the fields of a mutex object are found from the object itself
+abbrev pub IsRoot : Table → Ty → Type 0
+IsRoot t (Obj c) = t.mutex c ≡ true
+IsRoot t _ = ⊥
+
+-- a path leads to what is of this type, where what stands at its variable is taken for it
+abbrev pub Leads : Table → List Link → Ty → Type 0
+Leads t [] a = IsRoot t a
+Leads t (Slot k ∷ p) a = Unit {0}
+Leads t (FieldAt s i ∷ p) a = (c : ℕ) × Leads t p (Obj c) × (s ≡ t.shape c) × (a ≡ whole (t.fields c i))
+Leads t (At s i ∷ p) a = (n : ℕ) × Leads t p (Row n a) × (i < n)
+
+-- a place of what is no object
+abbrev pub IsAt : Table → Ty → Value → Type 0
+IsAt t a (Number n) = ⊥
+IsAt t a (Place o p) = Leads t p a
+IsAt t a (Running e) = ⊥
+IsAt t a (Object o) = ⊥
+IsAt t a Nothing = ⊥
+
+-- what is known by its number
+abbrev pub IsNumbered : Value → Type 0
+IsNumbered (Number n) = ⊥
+IsNumbered (Place o p) = ⊥
+IsNumbered (Running e) = ⊥
+IsNumbered (Object o) = Unit {0}
+IsNumbered Nothing = ⊥
+
+-- an object: of a mutex class its number, else its place
+abbrev pub IsObjectBy : Table → Bool → ℕ → Value → Type 0
+IsObjectBy t true c v = IsNumbered v
+IsObjectBy t false c v = IsAt t (Obj c) v
+
+abbrev pub IsObject : Table → ℕ → Value → Type 0
+IsObject t c v = IsObjectBy t (t.mutex c) c v
+
+-- a value is of a type; of numbers nothing is claimed
+abbrev pub Is : Table → Ty → Value → Type 0
+Is t Num v = Unit {0}
+Is t (Cell a) v = IsAt t (Cell (whole a)) v
+Is t (Obj c) v = IsObject t c v
+Is t (Raw c) v = IsObject t c v
+Is t (Row n a) v = IsAt t (Row n (whole a)) v
+Is t Clu v = IsNumbered v
+Is t Pro v = IsNumbered v
+
+abbrev pub Values : Table → List Ty → List Value → Type 0
+Values t [] [] = Unit {0}
+Values t [] (v ∷ vs) = ⊥
+Values t (a ∷ more) [] = ⊥
+Values t (a ∷ more) (v ∷ vs) = Is t a v × Values t more vs
+
+-- the first cells of a frame hold the parameters
+abbrev pub Bound : Table → List Ty → List Value → Type 0
+Bound t [] vs = Unit {0}
+Bound t (a ∷ more) [] = ⊥
+Bound t (a ∷ more) (v ∷ vs) = Is t a v × Bound t more vs
+
+-- each frame is one of a routine of this kind
+abbrev pub Framed : Table → List Sig → List (List Value) → Type 0
+Framed t [] [] = Unit {0}
+Framed t [] (f ∷ fs) = ⊥
+Framed t (g ∷ gs) [] = ⊥
+Framed t (g ∷ gs) (f ∷ fs) = Bound t g.params f × Framed t gs fs
+
+abbrev pub IsThis : Table → Option ℕ → Value → Type 0
+IsThis t None v = Unit {0}
+IsThis t (Some c) v = IsObject t c v
+
+-- an activation is in order that is to find these operands behind its own
+pub record Active_is (t : Table) (gs : List Sig) (given : List Ty) (a : Active) : Type 0 where
+  pub sig : Sig
+  pub own : List Ty
+  pub scope : List Name
+  pub frame : at_depth gs a.frame ≡ Some sig
+  pub values : Values t own a.operands
+  pub this : IsThis t sig.this a.this
+  pub ok : Ok t sig scope a.control (onto given own)
+
+-- those that wait, each for a number
+abbrev pub Waits : Table → List Sig → List Active → Type 0
+Waits t gs [] = Unit {0}
+Waits t gs (c ∷ cs) = Active_is t gs (Num ∷ []) c × Waits t (others gs) cs
+
+-- the executions that do not run, where they may be activated
+pub record Rests (t : Table) (x : Execution (List Todo) Value) : Type 0 where
+  pub sigs : List Sig
+  pub frames : Framed t sigs x.frames
+  pub run : Active_is t sigs [] x.run
+  pub callers : Waits t (others sigs) x.callers
+
+abbrev pub RestsBy : Table → Stage → Execution (List Todo) Value → Type 0
+RestsBy t Fresh x = Rests t x
+RestsBy t Started x = Rests t x
+RestsBy t Ended x = Unit {0}
+
+abbrev pub MaybeRests : Table → Option (Execution (List Todo) Value) → Type 0
+MaybeRests t None = Unit {0}
+MaybeRests t (Some x) = RestsBy t x.links.stage x
+
+abbrev pub Parked : Table → List (ℕ × Option (Execution (List Todo) Value)) → Type 0
+Parked t [] = Unit {0}
+Parked t (p ∷ ps) = MaybeRests t p.1 × Parked t ps
+
+abbrev pub Inhand : Table → List (ℕ × Members) → Type 0
+Inhand t [] = Unit {0}
+Inhand t (p ∷ ps) = Parked t p.1.parked × Inhand t ps
+
+abbrev pub Idle : Table → Env → Type 0
+Idle t e = Parked t e.house.parked × Inhand t e.hand
+
+-- a state that is to be given these operands
+pub record Typed (t : Table) (given : List Ty) (s : State) : Type 0 where
+  pub sigs : List Sig
+  pub frames : Framed t sigs s.env.frames
+  pub run : Active_is t sigs given s.run
+  pub callers : Waits t (others sigs) s.callers
+  pub idle : Idle t s.env
+
+-- the main of a task: its object is of a mutex class, or that of the program, which is not used
+abbrev pub IsOfTask : Table → Option ℕ → Type 0
+IsOfTask t None = Unit {0}
+IsOfTask t (Some c) = t.mutex c ≡ true
+
+abbrev pub IsTask : Table → ℕ → Type 0
+IsTask t r = IsOfTask t (t.routine r).this × ((t.routine r).params ≡ []) × IsRoutine t r
+
+-- a state that has asked is to be given what the answer tells, and what is spawned is a task; behind a fault and an end there is nothing
+abbrev pub Asked : Table → Source → Request → State → Type 0
+Asked t source (ask.Make n) s = (c : ℕ) × (t.number c ≡ n) × (t.mutex c ≡ true) × Typed t (Raw c ∷ []) s
+Asked t source (ask.Spawn o) s = IsTask t (child_main source s.run.control) × Typed t [] s
+Asked t source (ask.Accept o site mask) s = Typed t (Num ∷ (Num ∷ [])) s
+Asked t source (ask.Empty o n) s = Typed t (Num ∷ []) s
+Asked t source (ask.Front o n) s = Typed t (Num ∷ []) s
+Asked t source (ask.Poll mask) s = Typed t (Num ∷ (Num ∷ (Num ∷ []))) s
+Asked t source (ask.Read form) s = Typed t (Num ∷ []) s
+Asked t source ask.Fail s = Typed t (Num ∷ []) s
+Asked t source ask.Cluster s = Typed t (Clu ∷ []) s
+Asked t source (ask.Processor c) s = Typed t (Pro ∷ []) s
+Asked t source ask.End s = Unit {0}
+Asked t source (ask.Fault n) s = Unit {0}
+Asked t source _ s = Typed t [] s
+
+-- what may be answered to a request
+abbrev pub Suits : Request → Answer → Type 0
+Suits (ask.Make n) (answer.Object o) = Unit {0}
+Suits (ask.Accept o site mask) (answer.Clause k failed) = Unit {0}
+Suits (ask.Empty o n) (answer.Number z) = Unit {0}
+Suits (ask.Front o n) (answer.Number z) = Unit {0}
+Suits (ask.Poll mask) (answer.Event n x y) = Unit {0}
+Suits (ask.Poll mask) answer.Nothing = Unit {0}
+Suits (ask.Read form) (answer.Value z failed) = Unit {0}
+Suits ask.Fail (answer.Number z) = Unit {0}
+Suits ask.Cluster (answer.Object o) = Unit {0}
+Suits (ask.Processor c) (answer.Object o) = Unit {0}
+Suits (ask.Made o) answer.Go = Unit {0}
+Suits (ask.Spawn o) answer.Go = Unit {0}
+Suits (ask.Call o m) answer.Go = Unit {0}
+Suits (ask.Leave o failed) answer.Go = Unit {0}
+Suits (ask.Wait o n z) answer.Go = Unit {0}
+Suits (ask.Signal o n) answer.Go = Unit {0}
+Suits (ask.SignalBlock o n) answer.Go = Unit {0}
+Suits (ask.Raise o n x y) answer.Go = Unit {0}
+Suits ask.Yield answer.Go = Unit {0}
+Suits ask.Slice answer.Go = Unit {0}
+Suits (ask.Print n items) answer.Go = Unit {0}
+Suits (ask.ClusterEnd c) answer.Go = Unit {0}
+Suits (ask.ProcessorEnd c) answer.Go = Unit {0}
+Suits (ask.Migrate c) answer.Go = Unit {0}
+Suits (ask.Gone o) answer.Go = Unit {0}
+Suits _ _ = ⊥
+
+abbrev pub After : Table → Source → Step → Type 0
+After t source (Goes s) = Typed t [] s
+After t source (Ticks s) = Typed t [] s
+After t source (Asks q s) = Asked t source q s
+
+-- what this step reads is of its type: of a number that says nothing; of what a variable, a place or a field is bound to it is what
+-- lifetimes show
+abbrev pub Reads : Table → Sig → List Name → State → List Todo → List Ty → Type 0
+Reads t g sc s (LoadNow ∷ todo) (Cell a ∷ more) = t.refers ≡ true → Is t a (loaded (top s.run.operands) s.env)
+Reads t g sc s (Eval (Get k) ∷ todo) own = t.refers ≡ true → (a : Ty) → InScope sc k (Cell a) → Is t a (loaded (variable_at k s) s.env)
+Reads t g sc s (Eval (OfObject (GetOwn k i)) ∷ todo) own =
+    t.refers ≡ true → (c : ℕ) (a : Ty) → g.this ≡ Some c → Cell a ≡ t.fields c i → Is t a (loaded (further (FieldAt k i) s.run.this) s.env)
+Reads t g sc s _ own = Unit {0}
+
+-- a constructor and a destructor are left as a whole, and so is nothing else
+abbrev pub IsSorted : Purpose → Bool → Type 0
+IsSorted TaskMain w = w ≡ false
+IsSorted CoroutineMain w = w ≡ false
+IsSorted Procedure w = w ≡ false
+IsSorted Function w = w ≡ false
+IsSorted Builder w = Unit {0}
+
+-- the body of a routine is in order, and its end
+pub record Routine_is (t : Table) (g : Sig) (r : Routine) : Type 0 where
+  pub body : FineStmts t g [] r.body
+  pub params : r.params ≡ length g.params
+  pub purpose : IsSorted r.purpose g.whole
+
+pub record Sound (t : Table) (source : Source) : Type 0 where
+  pub count : length source.routines ≡ t.count
+  pub routines : (n : ℕ) (r : Routine) → slice_get source.routines n ≡ Some r → Routine_is t (t.routine n) r

@@ -1,0 +1,6 @@
+void uMain::main() {
+    uCluster kitchen;
+    uProcessor stove(kitchen);
+    migrate(kitchen);
+    cout << "cooking" << endl;
+}

@@ -1,0 +1,9 @@
+_Event Knock { };
+_Task Sleeper { void main() { } };
+void uMain::main() {
+    Sleeper sleeper;
+    for (;;) {
+        _Resume Knock() _At sleeper;
+        cout << '.';
+    }
+}

@@ -1,0 +1,3 @@
+void uMain::main() {
+    uCluster all[64];
+}

@@ -1,4 +1,0 @@
-void uMain::main() {
-    uCluster other;
-    migrate(other);
-}
