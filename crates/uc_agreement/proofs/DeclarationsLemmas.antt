@@ -1,11 +1,10 @@
 -- What a declaration adds to the names of both look-ups agrees, and what was there before goes on to agree.
-use Rattle.std.proofs.Common.{◌≡◌, ℕ, ◌≤◌, ◌⊎◌, ◌++◌, inl, inr, List, [], ◌∷◌, Option, Some, None, Bool, true, false, refl, sym, ap, ◌∙◌, subst}
+use Rattle.std.proofs.Common.{◌≡◌, ℕ, ◌≤◌, ◌++◌, inl, inr, List, [], ◌∷◌, Option, Some, None, Bool, true, false, refl, sym, ap, ◌∙◌, subst}
 use Rattle.std.specs.Prelude.{not, ◌&&◌, is_some, if◌then◌else◌}
 use Rattle.uc_tree.specs.declared.kinds.Known.{Known}
-use Rattle.uc_tree.specs.declared.kinds.Ty.{Ty as Declared}
 use Rattle.uc_tree.specs.Programs.{Program}
 use Rattle.uc_tree.specs.Objects.{making, is_numbered as is_made_numbered}
-use Rattle.uc_tree.specs.Source.{Expr, Get, Variable}
+use Rattle.uc_tree.specs.Source.{Get, Variable}
 use Rattle.uc_machine.specs.Pieces.{LAST_ADDRESS}
 use Rattle.uc_resolve.specs.Standings as tree
 use Rattle.uc_resolve.specs.Standings.{AtVariable, AtPlace, AsNumber, known_meant}
@@ -13,10 +12,10 @@ use Rattle.uc_rules.specs.declared.rules.Sort.{Sort}
 use Rattle.uc_rules.specs.declared.rules.Entity.{Entity}
 use Rattle.uc_rules.specs.declared.rules.Entity.TheVariants as entity
 use Rattle.uc_rules.specs.declared.rules.Seen.{Seen}
-use Rattle.uc_rules.specs.Sorts.{is_scalar_sort, is_condition, sort_of}
+use Rattle.uc_rules.specs.Sorts.{is_condition, sort_of}
 use Rattle.uc_typing.specs.Typing.{Ty, Num, Cell, Obj, Row, Name, Var, Own, Kept, Sig, Table, IsPlaced, IsParam, IsVariable, InScope, IsHeld, Yields}
-use Rattle.uc_agreement.specs.Agreement.{is_numbered, found_ty, place_ty, row_ty, RowPlaced, StandsBy, IsOf, ValuedBy, IsCalled, IsMember, Agrees, AgreesIf, Alike}
-use Rattle.uc_agreement.specs.Declarations.{StoodBy, DeclaredAgree, LawDeclared}
+use Rattle.uc_agreement.specs.Agreement.{is_numbered, found_ty, place_ty, row_ty, RowPlaced, StandsBy, ValuedBy, Agrees, AgreesIf, Alike}
+use Rattle.uc_agreement.specs.Declarations.{StoodBy, LawDeclared}
 use Rattle.uc_agreement.proofs.Ties.{false_true, scalar_cell, scalar_unnumbered, numbered_is}
 
 -- a wider scope
@@ -53,7 +52,7 @@ module _ (t : Table) (g : Sig) (x : Name) (sc : List Name) where
       by_reference false = record { found = λ a h. (variable_wider k.cell a h.0, h.1); value = held_wider k.cell Num }
 
   agrees_wider : (p : Program) (w : Entity) (m : tree.Meant) → Wider m → Agrees t g sc p w m → Agrees t g (x ∷ sc) p w m
-  agrees_wider p (entity.Value s) m u h = u.value h
+  agrees_wider p (entity.Value s) m u h = (h.0, u.value h.1)
   agrees_wider p (entity.Place s) m u h = ((u.found (found_ty s) h.0.0, λ d. u.value (h.0.1 d)), h.1, h.2)
   agrees_wider p (entity.Array s n) m u h = (u.found (row_ty (is_condition s) n s) h.0, h.1, h.2, h.3)
   agrees_wider p (entity.Routine i) m u h = record { number = h.number; standing = h.standing; params = h.params; table = h.table; alone = h.alone; known = h.known }

@@ -16,7 +16,7 @@ use Rattle.uc_tree.specs.Objects.{ClassField, declared_fields, form_fields, fiel
 use Rattle.uc_tree.specs.Programs.{MemberForm, FieldsMember, RoutineMember, ProtoMember, Member, Class, Program}
 use Rattle.uc_tree.specs.Source.{Expr}
 use Rattle.uc_resolve.specs.Standings as tree
-use Rattle.uc_resolve.specs.Standings.{AtField, AtPlace, AsNumber, NumberedField}
+use Rattle.uc_resolve.specs.Standings.{AtPlace, AsNumber}
 use Rattle.uc_rules.specs.declared.rules.Sort.{Sort}
 use Rattle.uc_rules.specs.declared.rules.Sort.TheVariants as sort
 use Rattle.uc_rules.specs.declared.rules.Entity.{Entity}

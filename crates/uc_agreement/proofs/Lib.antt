@@ -3,3 +3,4 @@ pub mod Unbroken
 pub mod Asking
 pub mod FieldsLemmas
 pub mod DeclarationsLemmas
+pub mod PlainLemmas

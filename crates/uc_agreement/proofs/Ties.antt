@@ -26,7 +26,7 @@ use Rattle.uc_tree.specs.Expressions as expr
 use Rattle.uc_tree.specs.Source.{Shape, Character, Truth, Operator, Plus, Minus, Times, Over, Modulo, Expr, Literal, Operate, Get, Element}
 use Rattle.uc_tree.specs.Objects.{shape_of, making, making_by, is_numbered as is_made_numbered, class_made, event_place, event_from, base_shape}
 use Rattle.uc_resolve.specs.Standings as tree
-use Rattle.uc_resolve.specs.Standings.{Standing, AtVariable, AtField, AtPlace, AsNumber, AsValue, AsInput, AsFail, AsRoutine, AsMember, AsLiveMember, AsMutexMember, AsCondition, AsCallOf, AsEvent, AsNothing, value_by, known_meant, known_named, name_meant, field_meant, meant, params_of, converted, arg_meant, args_by, args_meant}
+use Rattle.uc_resolve.specs.Standings.{Standing, AtVariable, AtField, AtPlace, AsNumber, AsInput, AsFail, AsCondition, known_meant, known_named, name_meant, field_meant, meant, params_of, converted, arg_meant, args_by, args_meant}
 use Rattle.uc_rules.specs.declared.rules.Sort.{Sort}
 use Rattle.uc_rules.specs.declared.rules.Sort.TheVariants as sort
 use Rattle.uc_rules.specs.declared.rules.Entity.{Entity}
@@ -41,9 +41,9 @@ use Rattle.uc_rules.specs.declared.rules.Target.TheVariants as target
 use Rattle.uc_rules.specs.Sorts.{is_scalar_sort, is_condition, class_sort, sort_of, same_sort}
 use Rattle.uc_rules.specs.Names.{routine_sig, method_sig, params_in, outer_named}
 use Rattle.uc_rules.specs.Scopes as scopes
-use Rattle.uc_rules.specs.Scopes.{Env, named, local_named}
+use Rattle.uc_rules.specs.Scopes.{Env, local_named}
 use Rattle.uc_rules.specs.Entities as rules
-use Rattle.uc_rules.specs.Entities.{meant_entity, of_field, entity_of, are_sound, given, is_scalar, is_array, both_scalars, unary_entity, binary_gives, of_both, of_scalar, of_place, of_index, of_call, of_assign, expected, param_expected, fits, has_fitting, count, chain_entity, link_entity, parts_entity, part_entity, front_name, empty_name}
+use Rattle.uc_rules.specs.Entities.{meant_entity, of_field, entity_of, are_sound, given, is_scalar, both_scalars, unary_entity, binary_gives, of_both, of_scalar, of_place, of_index, of_assign, expected, param_expected, fits, has_fitting, count, chain_entity, link_entity, parts_entity, part_entity, front_name, empty_name}
 use Rattle.uc_tree.specs.declared.pos.Pos.{Pos}
 use Rattle.uc_rules.specs.declared.rule.Rule.TheVariants.{S1, S18, O2, O4}
 use Rattle.uc_rules.specs.Asked.{unless}
@@ -54,7 +54,7 @@ use Rattle.uc_rules.specs.Breaks.{breaks_at}
 use Rattle.uc_agreement.specs.Unbroken.{Unbroken}
 use Rattle.uc_agreement.proofs.Unbroken.{none_right, first, second, one, holds}
 use Rattle.uc_typing.specs.Typing.{Num, Cell, Obj, Row, Name, Sig, Table, object_ty, IsPlaced, InMutex, Yields, GiveAll}
-use Rattle.uc_agreement.specs.Agreement.{is_numbered, found_ty, place_by, sort_ty, param_ty, IsLike, AreLike, IsAtPlace, IsAsCondition, StandsBy, RowPlaced, row_ty, call_of, context, ValuedBy, IsCalled, IsMethod, IsMember, Agrees, AgreesIf, Alike, Tied, LawAgrees}
+use Rattle.uc_agreement.specs.Agreement.{is_numbered, found_ty, place_by, sort_ty, param_ty, IsLike, AreLike, IsAtPlace, IsAsCondition, IsAsValue, StandsBy, RowPlaced, row_ty, call_of, context, ValuedBy, IsCalled, IsMethod, IsMember, Agrees, AgreesIf, Alike, Tied, LawAgrees}
 
 -- options and tests
 
@@ -228,7 +228,7 @@ module _ (t : Table) (g : Sig) (sc : List Name) (p : Program) (refers : t.refers
   -- operators
 
   pub scalar : (w : Entity) (m : tree.Meant) → is_scalar w ≡ true → Agrees t g sc p w m → ValuedBy t g sc m.standing m.expr
-  scalar (entity.Value s) m e h = h
+  scalar (entity.Value s) m e h = h.1
   scalar (entity.Place s) m e h = h.0.1 e
   scalar _ m e h = false_true e
 
@@ -256,30 +256,39 @@ module _ (t : Table) (g : Sig) (sc : List Name) (p : Program) (refers : t.refers
   written_ok _ place e f h = (refl, f, h)
 
   -- a value
-  as_value : (s : Sort) (w : Entity) (m : tree.Meant) → w ≡ entity.Value s → ValuedBy t g sc m.standing m.expr → Agrees t g sc p w m
-  as_value s w m e h = subst (λ w. Agrees t g sc p w m) (sym e) h
+  as_value : (s : Sort) (w : Entity) (m : tree.Meant) → w ≡ entity.Value s → IsAsValue m.standing → ValuedBy t g sc m.standing m.expr → Agrees t g sc p w m
+  as_value s w m e v h = subst (λ w. Agrees t g sc p w m) (sym e) (v, h)
 
-  by_scalar : (s : Sort) (o : Option Entity) (w : Entity) (m n : tree.Meant) → AgreesIf t g sc p o m → of_scalar o (entity.Value s) ≡ Some w → (ValuedBy t g sc m.standing m.expr → ValuedBy t g sc n.standing n.expr) → Agrees t g sc p w n
-  by_scalar s None w m n ih h f = none_some h
-  by_scalar s (Some v) w m n ih h f =
+  by_scalar : (s : Sort) (o : Option Entity) (w : Entity) (m n : tree.Meant) → AgreesIf t g sc p o m → IsAsValue n.standing → of_scalar o (entity.Value s) ≡ Some w → (ValuedBy t g sc m.standing m.expr → ValuedBy t g sc n.standing n.expr) → Agrees t g sc p w n
+  by_scalar s None w m n ih u h f = none_some h
+  by_scalar s (Some v) w m n ih u h f =
       let i = if_some (is_scalar v) (Some (entity.Value s)) w h in
-      as_value s w n (sym (some_same i.1)) (f (scalar v m i.0 (ih v refl)))
+      as_value s w n (sym (some_same i.1)) u (f (scalar v m i.0 (ih v refl)))
 
-  by_place : (o : Option Entity) (w : Entity) (m n : tree.Meant) → AgreesIf t g sc p o m → of_place o ≡ Some w → (Yields t g sc m.expr (Cell Num) → ValuedBy t g sc n.standing n.expr) → Agrees t g sc p w n
-  by_place None w m n ih h f = none_some h
-  by_place (Some v) w m n ih h f = let i = place_value v w m h (ih v refl) in as_value i.0 w n i.1 (f i.2)
+  by_place : (o : Option Entity) (w : Entity) (m n : tree.Meant) → AgreesIf t g sc p o m → IsAsValue n.standing → of_place o ≡ Some w → (Yields t g sc m.expr (Cell Num) → ValuedBy t g sc n.standing n.expr) → Agrees t g sc p w n
+  by_place None w m n ih u h f = none_some h
+  by_place (Some v) w m n ih u h f = let i = place_value v w m h (ih v refl) in as_value i.0 w n i.1 u (f i.2)
 
   unary_ok : (op : UnaryOp) (o : Option Entity) (m : tree.Meant) → AgreesIf t g sc p o m → AgreesIf t g sc p (unary_entity op o) (tree.unary_meant op m)
-  unary_ok unary.Minus o m ih w h = by_scalar sort.Int o w m _ ih h (λ v. (refl, v))
-  unary_ok unary.Plus o m ih w h = by_scalar sort.Int o w m _ ih h (λ v. v)
-  unary_ok unary.Not o m ih w h = by_scalar sort.Bool o w m _ ih h (λ v. (refl, v))
-  unary_ok unary.Increment o m ih w h = by_place o w m _ ih h (λ a. updated_ok Plus (shape_of m.ty.base) m.standing m.expr (Literal (pos 1)) a refl)
-  unary_ok unary.Decrement o m ih w h = by_place o w m _ ih h (λ a. updated_ok Minus (shape_of m.ty.base) m.standing m.expr (Literal (pos 1)) a refl)
+  unary_ok unary.Minus o m ih w h = by_scalar sort.Int o w m _ ih tt h (λ v. (refl, v))
+  unary_ok unary.Plus o m ih w h = by_scalar sort.Int o w m _ ih tt h (λ v. v)
+  unary_ok unary.Not o m ih w h = by_scalar sort.Bool o w m _ ih tt h (λ v. (refl, v))
+  unary_ok unary.Increment o m ih w h = by_place o w m _ ih tt h (λ a. updated_ok Plus (shape_of m.ty.base) m.standing m.expr (Literal (pos 1)) a refl)
+  unary_ok unary.Decrement o m ih w h = by_place o w m _ ih tt h (λ a. updated_ok Minus (shape_of m.ty.base) m.standing m.expr (Literal (pos 1)) a refl)
 
   binary_fine : (op : BinaryOp) (l r : tree.Meant) → ValuedBy t g sc l.standing l.expr → ValuedBy t g sc r.standing r.expr → ValuedBy t g sc (tree.binary_meant op l r).standing (tree.binary_meant op l r).expr
   binary_fine binary.Or l r a b = (refl, a, b)
   binary_fine binary.And l r a b = (refl, a, b)
   binary_fine _ l r a b = (refl, a, b)
+
+  binary_value : (op : BinaryOp) (l r : tree.Meant) → IsAsValue (tree.binary_meant op l r).standing
+  binary_value binary.Or l r = tt
+  binary_value binary.And l r = tt
+  binary_value _ l r = tt
+
+  assign_value : (op : AssignOp) (m v : tree.Meant) → IsAsValue (tree.assign_meant op m v).standing
+  assign_value assign.Set m v = tt
+  assign_value _ m v = tt
 
   gives_value : (op : BinaryOp) → (s : Sort) × (binary_gives op ≡ entity.Value s)
   gives_value binary.Or = (sort.Bool, refl)
@@ -302,7 +311,7 @@ module _ (t : Table) (g : Sig) (sc : List Name) (p : Program) (refers : t.refers
   binary_ok op (Some v) (Some x) l r f k w h =
       let i = if_some (both_scalars v x) (Some (binary_gives op)) w h in
       let b = gives_value op in
-      as_value b.0 w (tree.binary_meant op l r) (sym (some_same i.1) ∙ b.1) (binary_fine op l r (scalar v l (both_left (is_scalar v) (is_scalar x) i.0) (f v refl)) (scalar x r (both_right (is_scalar v) (is_scalar x) i.0) (k x refl)))
+      as_value b.0 w (tree.binary_meant op l r) (sym (some_same i.1) ∙ b.1) (binary_value op l r) (binary_fine op l r (scalar v l (both_left (is_scalar v) (is_scalar x) i.0) (f v refl)) (scalar x r (both_right (is_scalar v) (is_scalar x) i.0) (k x refl)))
 
   assign_fine : (op : AssignOp) (m v : tree.Meant) → Yields t g sc m.expr (Cell Num) → ValuedBy t g sc v.standing v.expr → ValuedBy t g sc (tree.assign_meant op m v).standing (tree.assign_meant op m v).expr
   assign_fine assign.Set m v a y = written_ok m.standing m.expr (converted (shape_of m.ty.base) (tree.value_of v)) a (converted_fine (shape_of m.ty.base) (tree.value_of v) y)
@@ -318,11 +327,11 @@ module _ (t : Table) (g : Sig) (sc : List Name) (p : Program) (refers : t.refers
   assign_ok op (Some x) (Some y) m v f k w h =
       let i = if_some (is_scalar y) (rules.value_of x) w h in
       let a = place_value x w m i.1 (f x refl) in
-      as_value a.0 w (tree.assign_meant op m v) a.1 (assign_fine op m v a.2 (scalar y v i.0 (k y refl)))
+      as_value a.0 w (tree.assign_meant op m v) a.1 (assign_value op m v) (assign_fine op m v a.2 (scalar y v i.0 (k y refl)))
 
   step_ok : (op : StepOp) (o : Option Entity) (m : tree.Meant) → AgreesIf t g sc p o m → AgreesIf t g sc p (of_place o) (tree.step_meant op m)
-  step_ok step.Increment o m ih w h = by_place o w m _ ih h (λ a. stepped_ok Plus (shape_of m.ty.base) m.standing m.expr a)
-  step_ok step.Decrement o m ih w h = by_place o w m _ ih h (λ a. stepped_ok Minus (shape_of m.ty.base) m.standing m.expr a)
+  step_ok step.Increment o m ih w h = by_place o w m _ ih tt h (λ a. stepped_ok Plus (shape_of m.ty.base) m.standing m.expr a)
+  step_ok step.Decrement o m ih w h = by_place o w m _ ih tt h (λ a. stepped_ok Minus (shape_of m.ty.base) m.standing m.expr a)
 
   -- an element
   element_condition : (st : Standing) (n : ℕ) (m : tree.Meant) (i : Expr) → IsAsCondition t g st → sort_of p m.ty.base ≡ Some sort.Condition → Yields t g sc i Num → Agrees t g sc p (entity.Place sort.Condition) (tree.element_in p st n m i)
@@ -392,7 +401,7 @@ module _ (t : Table) (g : Sig) (sc : List Name) (p : Program) (refers : t.refers
 
   call_value : (i : ℕ) (m : tree.Meant) (args : List tree.Meant) (s : Sort) → (c : IsCalled t g sc p i m) → GiveAll t g sc (args_by (params_of p c.number) args) (map (param_ty p) (params_of p c.number)) → Agrees t g sc p (entity.Value s) (tree.call_meant p m args)
   call_value i m args s c f =
-      subst (λ st. Agrees t g sc p (entity.Value s) (tree.call_by p st m args)) (sym c.standing) (refl, subst (GiveAll t g sc (args_by (params_of p c.number) args)) c.table f, c.alone, c.known)
+      subst (λ st. Agrees t g sc p (entity.Value s) (tree.call_by p st m args)) (sym c.standing) (tt, (refl, subst (GiveAll t g sc (args_by (params_of p c.number) args)) c.table f, c.alone, c.known))
 
   member_value : (i j : ℕ) (m : tree.Meant) (args : List tree.Meant) (s : Sort) → (c : IsMember t g sc p i j m) → GiveAll t g sc (args_by (params_of p c.number) args) (map (param_ty p) (params_of p c.number)) → Agrees t g sc p (entity.Value s) (tree.call_meant p m args)
   member_value i j m args s c f = by_standing c.standing
@@ -405,19 +414,19 @@ module _ (t : Table) (g : Sig) (sc : List Name) (p : Program) (refers : t.refers
 
       by_standing : IsMethod t g sc c.number c.class m.standing → Agrees t g sc p (entity.Value s) (tree.call_meant p m args)
       by_standing (inl (inl e)) =
-          subst (λ st. Agrees t g sc p (entity.Value s) (tree.call_by p st m args)) (sym e) (refl, (c.class, at_object (t.routine c.number).whole c.plain, c.this, c.known), given_all)
+          subst (λ st. Agrees t g sc p (entity.Value s) (tree.call_by p st m args)) (sym e) (tt, (refl, (c.class, at_object (t.routine c.number).whole c.plain, c.this, c.known), given_all))
       by_standing (inl (inr e)) =
-          subst (λ st. Agrees t g sc p (entity.Value s) (tree.call_by p st m args)) (sym e) (refl, (c.class, at_object (t.routine c.number).whole c.plain, c.this, c.known), given_all)
+          subst (λ st. Agrees t g sc p (entity.Value s) (tree.call_by p st m args)) (sym e) (tt, (refl, (c.class, at_object (t.routine c.number).whole c.plain, c.this, c.known), given_all))
       by_standing (inr e) =
-          subst (λ st. Agrees t g sc p (entity.Value s) (tree.call_by p st m args)) (sym e.1) (refl, (c.class, at_object (t.routine c.number).whole c.plain, c.this, c.known, e.2), given_all)
+          subst (λ st. Agrees t g sc p (entity.Value s) (tree.call_by p st m args)) (sym e.1) (tt, (refl, (c.class, at_object (t.routine c.number).whole c.plain, c.this, c.known, e.2), given_all))
 
   -- calls of conditions
   condition_value : (o : Operation) (m : tree.Meant) (args : List tree.Meant) (w : Entity) → given p (entity.Operation o) ≡ Some w → Yields t g sc m.expr Num → InMutex t g → Yields t g sc (tree.stored_by args) Num → Agrees t g sc p w (tree.condition_called (call_of o) m.expr args)
-  condition_value Wait m args w h y n v = as_value sort.Void w _ (sym (some_same h)) (refl, n, y, v)
-  condition_value Signal m args w h y n v = as_value sort.Void w _ (sym (some_same h)) (refl, n, y)
-  condition_value SignalBlock m args w h y n v = as_value sort.Void w _ (sym (some_same h)) (refl, n, y)
-  condition_value Front m args w h y n v = as_value sort.Int w _ (sym (some_same h)) (refl, n, y)
-  condition_value Empty m args w h y n v = as_value sort.Bool w _ (sym (some_same h)) (refl, n, y)
+  condition_value Wait m args w h y n v = as_value sort.Void w _ (sym (some_same h)) tt (refl, n, y, v)
+  condition_value Signal m args w h y n v = as_value sort.Void w _ (sym (some_same h)) tt (refl, n, y)
+  condition_value SignalBlock m args w h y n v = as_value sort.Void w _ (sym (some_same h)) tt (refl, n, y)
+  condition_value Front m args w h y n v = as_value sort.Int w _ (sym (some_same h)) tt (refl, n, y)
+  condition_value Empty m args w h y n v = as_value sort.Bool w _ (sym (some_same h)) tt (refl, n, y)
 
   operation_value : (o : Operation) (m : tree.Meant) (args : List tree.Meant) (w : Entity) → given p (entity.Operation o) ≡ Some w → Agrees t g sc p (entity.Operation o) m → Yields t g sc (tree.stored_by args) Num → Agrees t g sc p w (tree.call_meant p m args)
   operation_value o m args w h a v =
@@ -503,7 +512,7 @@ module _ (t : Table) (g : Sig) (sc : List Name) (env : Env) (class : Option ℕ)
       let v = sig_value t g sc env.program tied.refers (routine_sig env.program i) w h in
       subst (λ w. Agrees t g sc env.program w (tree.call_meant env.program m (args_meant c args))) (sym v.1) (call_value t g sc env.program tied.refers i m (args_meant c args) v.0 a r)
   call_agrees entity.Fail args m ih first a s u n w h =
-      subst (λ w. Agrees t g sc env.program w (tree.call_meant env.program m (args_meant c args))) (some_same h) (subst (λ st. Agrees t g sc env.program rules.truth_value (tree.call_by env.program st m (args_meant c args))) (sym a) refl)
+      subst (λ w. Agrees t g sc env.program w (tree.call_meant env.program m (args_meant c args))) (some_same h) (subst (λ st. Agrees t g sc env.program rules.truth_value (tree.call_by env.program st m (args_meant c args))) (sym a) (tt, refl))
   call_agrees (entity.Method i j inner path) args m ih first a s u n w h =
       let r = ih 0 (target.Call (entity.Method i j inner path)) (params_in (method_sig env.program i j)) (params_of env.program a.number) (takes_length t g sc env.program tied.refers (method_sig env.program i j) (count args) n) (λ k. ap (λ l. param_expected env.program (slice_get (params_in (method_sig env.program i j)) l)) (let e : 0 + k ≡ k = omega arith in e)) a.params s u in
       let v = sig_value t g sc env.program tied.refers (method_sig env.program i j) w h in
@@ -545,9 +554,9 @@ module _ (t : Table) (g : Sig) (sc : List Name) (env : Env) (class : Option ℕ)
 
   mutual
     agrees : (e : expr.Expr) → Unbroken (visits env e) → AgreesIf t g sc env.program (entity_of env e) (meant c e)
-    agrees (expr.Number q n) u w h = subst (λ w. Agrees t g sc env.program w (meant c (expr.Number q n))) (some_same h) refl
-    agrees (expr.Character q n) u w h = subst (λ w. Agrees t g sc env.program w (meant c (expr.Character q n))) (some_same h) refl
-    agrees (expr.Truth q n) u w h = subst (λ w. Agrees t g sc env.program w (meant c (expr.Truth q n))) (some_same h) refl
+    agrees (expr.Number q n) u w h = subst (λ w. Agrees t g sc env.program w (meant c (expr.Number q n))) (some_same h) (tt, refl)
+    agrees (expr.Character q n) u w h = subst (λ w. Agrees t g sc env.program w (meant c (expr.Character q n))) (some_same h) (tt, refl)
+    agrees (expr.Truth q n) u w h = subst (λ w. Agrees t g sc env.program w (meant c (expr.Truth q n))) (some_same h) (tt, refl)
     agrees (expr.Name q name) u w h =
         name_by (local_named env.names name) (known_named known name) name refl refl (found t g sc env.program tied.refers env.names known name tied.names) w h
     agrees (expr.Cin q) u w h = none_some h

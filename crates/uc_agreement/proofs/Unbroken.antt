@@ -19,7 +19,7 @@ use Rattle.uc_rules.specs.Asked.{unless}
 use Rattle.uc_rules.specs.Scopes.{Env, named}
 use Rattle.uc_rules.specs.Sorts.{is_scalar_sort}
 use Rattle.uc_rules.specs.Entities as rules
-use Rattle.uc_rules.specs.Entities.{meant_entity, of_field, entity_of, are_sound, given, is_scalar, is_place, is_array, both_scalars, unary_entity, binary_gives, of_both, of_scalar, of_place, of_index, of_call, of_assign, expected, fits, has_fitting, count, chain_entity, link_entity, parts_entity, part_entity, path_member, built_in, is_object, call_target, call_follows}
+use Rattle.uc_rules.specs.Entities.{meant_entity, of_field, entity_of, are_sound, given, is_scalar, is_array, both_scalars, unary_entity, binary_gives, of_both, of_scalar, of_place, of_index, of_call, of_assign, expected, fits, has_fitting, count, chain_entity, link_entity, parts_entity, part_entity, path_member, built_in, is_object, call_follows}
 use Rattle.uc_rules.specs.ExpressionBreaks.{is_changeable, array_and_scalar, is_member, may_name, is_no_main, is_open_member}
 use Rattle.uc_rules.specs.Visits.{Visit, AtUse, AtCin, AtOperands, AtChange, AtAssign, AtMember, AtIndex, AtCall, AtArgument, visits, part_visits, parts_visits, link_visits, chain_visits, args_visits, unary_visit, root_entity}
 use Rattle.uc_rules.specs.Breaks.{breaks_at, breaks_among}

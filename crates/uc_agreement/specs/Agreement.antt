@@ -11,7 +11,7 @@ use Rattle.uc_tree.specs.Programs.{Program}
 use Rattle.uc_tree.specs.Expressions as expr
 use Rattle.uc_tree.specs.Source.{Expr}
 use Rattle.uc_resolve.specs.Standings as tree
-use Rattle.uc_resolve.specs.Standings.{Standing, AtVariable, AtField, AtPlace, AsNumber, AsRoutine, AsCondition, AsCallOf, ConditionCall, Waits, Signals, SignalsBlocking, AsksEmpty, AsksFront, value_by, known_meant, known_named, meant, params_of}
+use Rattle.uc_resolve.specs.Standings.{Standing, AtVariable, AtField, AtPlace, AsNumber, AsValue, AsRoutine, AsCondition, AsCallOf, ConditionCall, Waits, Signals, SignalsBlocking, AsksEmpty, AsksFront, value_by, known_meant, meant, params_of}
 use Rattle.uc_rules.specs.declared.rules.Sort.{Sort}
 use Rattle.uc_rules.specs.declared.rules.Sort.TheVariants as sort
 use Rattle.uc_rules.specs.declared.rules.Entity.{Entity}
@@ -90,6 +90,10 @@ abbrev pub IsAsNumber : Standing → Type 0
 IsAsNumber AsNumber = Unit {0}
 IsAsNumber _ = ⊥
 
+abbrev pub IsAsValue : Standing → Type 0
+IsAsValue AsValue = Unit {0}
+IsAsValue _ = ⊥
+
 -- a condition is one of the object at hand
 abbrev pub IsAsCondition : Table → Sig → Standing → Type 0
 IsAsCondition t g (AsCondition k) = InMutex t g
@@ -159,7 +163,7 @@ module _ (t : Table) (g : Sig) (sc : List Name) where
     pub known : IsRoutine t number
 
   abbrev pub Agrees : Program → Entity → tree.Meant → Type 0
-  Agrees p (entity.Value s) m = ValuedBy m.standing m.expr
+  Agrees p (entity.Value s) m = IsAsValue m.standing × ValuedBy m.standing m.expr
   Agrees p (entity.Place s) m =
       (Yields t g sc m.expr (found_ty s) × (is_scalar_sort s ≡ true → ValuedBy m.standing m.expr)) × StandsAs t g s m.standing × IsOf p None s m.ty
   Agrees p (entity.Array s n) m =

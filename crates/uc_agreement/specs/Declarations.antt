@@ -1,5 +1,5 @@
 -- Declarations: what one adds to the names of both look-ups agrees, and what was there before goes on to agree.
-use Rattle.std.specs.Prelude.{◌≡◌, ℕ, ◌≤◌, ◌++◌, List, [], ◌∷◌, Bool, true, false, Option, Some, None}
+use Rattle.std.specs.Prelude.{◌≡◌, ℕ, ◌≤◌, ◌++◌, List, [], ◌∷◌, Bool, true, false, Some, None}
 use Rattle.uc_tree.specs.declared.kinds.Known.{Known}
 use Rattle.uc_tree.specs.Programs.{Program}
 use Rattle.uc_machine.specs.Pieces.{LAST_ADDRESS}

@@ -3,3 +3,4 @@ pub mod Agreement
 pub mod Parts
 pub mod Fields
 pub mod Declarations
+pub mod PlainStatements

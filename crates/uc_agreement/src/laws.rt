@@ -5,6 +5,7 @@ ghost use Rattle.uc_agreement.specs.Agreement.{LawAgrees};
 ghost use Rattle.uc_agreement.specs.Declarations.{LawDeclared};
 ghost use Rattle.uc_agreement.specs.Fields.{LawFields};
 ghost use Rattle.uc_agreement.specs.Parts.{LawParts};
+ghost use Rattle.uc_agreement.specs.PlainStatements.{LawPlain};
 ghost use Rattle.uc_agreement.specs.Unbroken.{LawStands};
 ghost use Rattle.uc_typing.specs.Typing.{Name, Sig, Table};
 
@@ -40,4 +41,11 @@ pub fn law_fields()
 /// one object more is in scope.
 pub fn law_declared()
     ensures { (t : Table) → (g : Sig) → (sc : List Name) → LawDeclared t g sc }
+{}
+
+/// A statement that declares nothing, raises and handles nothing and accepts nothing is in order
+/// where no rule is broken in it: blocks, choices, loops, exits, prints, reads, switches and
+/// expressions, in one another.
+pub fn law_plain()
+    ensures { (t : Table) → (g : Sig) → (sc : List Name) → LawPlain t g sc }
 {}

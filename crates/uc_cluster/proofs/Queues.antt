@@ -1,5 +1,5 @@
 -- What the queues keep.
-use Rattle.std.proofs.Common.{◌≡◌, ◌≢◌, ℕ, zero, suc, ◌<◌, ◌≤◌, ◌+◌, ◌||◌, T, eqb→eq, Bool, true, false, List, [], ◌∷◌, ◌++◌, length, refl, sym, subst, ◌⊎◌, inl, inr, arith, add-one, slice_index_or, slice_set}
+use Rattle.std.proofs.Common.{◌≡◌, ◌≢◌, ℕ, zero, suc, ◌<◌, ◌≤◌, ◌+◌, ◌||◌, T, eqb→eq, Bool, true, false, List, [], ◌∷◌, ◌++◌, length, refl, sym, ap, ◌∙◌, subst, ◌⊎◌, inl, inr, arith, add-one, slice_index_or, slice_set}
 use Rattle.std.specs.List.{AllByRecursion, IsDistinct, list_any}
 use Rattle.std.proofs.lemmas.Map.Steps.{length-le_from_distinct_below}
 use lib.Dec.{eqb}
@@ -63,3 +63,18 @@ kept_push n t q k lt away = record { apart = apart_push q t k.apart away; below 
 pub kept_rest : (n : ℕ) (q : List ℕ) → IsKept n q → IsKept n (rest_of q)
 kept_rest n [] k = k
 kept_rest n (t ∷ q) k = record { apart = k.apart.1; below = k.below.1 }
+
+-- ---- whether one of them passes a test
+pub any_at : {X : Type 0} (f : X → Bool) (xs : List X) (i : ℕ) (d : X) → i < length xs → f (slice_index_or xs i d) ≡ true → list_any f xs ≡ true
+any_at f [] i d lt h = absurd (omega arith)
+any_at f (x ∷ xs) zero d lt h = rw h refl
+any_at f (x ∷ xs) (suc i) d lt h = ap (λ b. f x || b) (any_at f xs i d (omega arith) h) ∙ or_true (f x)
+  where
+    or_true : (b : Bool) → (b || true) ≡ true
+    or_true true = refl
+    or_true false = refl
+
+pub none_at : {X : Type 0} (f : X → Bool) (xs : List X) (d : X) → ((i : ℕ) → i < length xs → f (slice_index_or xs i d) ≡ false) → list_any f xs ≡ false
+none_at f [] d h = refl
+none_at f (x ∷ xs) d h =
+    ap (λ b. b || list_any f xs) (h 0 (omega arith)) ∙ none_at f xs d (λ i lt. h (suc i) (omega arith))

@@ -9,6 +9,7 @@ use crate::processor_set::ProcessorSet;
 use crate::queue::Queue;
 use std::alloc::{AllocError, Global};
 use std::marker::Model;
+use uc_table::Table;
 use uc_tree::limits::{CLUSTERS, PROCESSORS, TASKS};
 
 /// Why no task can go on.
@@ -33,14 +34,14 @@ pub struct Processor {
 /// The ready queues of the clusters, the processors, and the clusters on which the tasks stand. Clusters and processors are
 /// numbered from 0.
 ///
-/// `new` takes all memory; no other call takes any.
+/// `new` takes all memory, and writes to none that tasks to come would have; no other call takes any.
 #[derive(Drop)]
 pub struct Clusters {
     queues: Vec<Queue>,
     // Queues of clusters to come.
     spare: Vec<Queue>,
     processors: Vec<Processor>,
-    places: Vec<Option<u32>>,
+    places: Table<Option<u32>>,
     // The processors of each cluster, the ones that are open and free, and the ones whose cluster has a ready task.
     members: Vec<ProcessorSet>,
     idle: ProcessorSet,
@@ -56,10 +57,10 @@ impl Model for Clusters {
 
     ghost Value = { Standing };
 
-    ghost view = { λ c. record { queues = c.queues.items; processors = c.processors.items; places = c.places.items } };
+    ghost view = { λ c. record { queues = c.queues.items; processors = c.processors.items; places = c.places } };
 
     ghost invariant = { λ c. (length c.queues.items + length c.spare.items ≡ CLUSTERS) × (CLUSTERS ≤ vec_capacity c.queues) × AllByRecursion (λ q. q ≡ []) c.spare.items
-        × (PROCESSORS ≤ vec_capacity c.processors) × (length c.processors.items ≤ PROCESSORS) × (length c.places.items ≤ TASKS) × AllByRecursion (IsKept (length c.places.items)) c.queues.items
+        × (PROCESSORS ≤ vec_capacity c.processors) × (length c.processors.items ≤ PROCESSORS) × (length c.places ≤ TASKS) × AllByRecursion (IsKept (length c.places)) c.queues.items
         × IsMarked c.queues.items c.processors.items c.members.items c.idle c.served × (CLUSTERS ≤ vec_capacity c.members) };
 }
 
@@ -96,7 +97,8 @@ impl Clusters {
         requires creator { IsPlaced creator self.old }
         ensures { self.new ≡ with_place self.old task (place_of self.old creator) }
     {
-        self.places[task as usize] = self.place(creator);
+        let place = self.place(creator);
+        self.places.set(task as usize, place);
     }
 
     /// A task has ended, and stands on no cluster.
@@ -104,7 +106,7 @@ impl Clusters {
         requires { task < length self.old.places }
         ensures { self.new ≡ with_place self.old task None }
     {
-        self.places[task as usize] = None;
+        self.places.set(task as usize, None);
     }
 
     /// A task stands on another cluster.
@@ -113,7 +115,7 @@ impl Clusters {
         requires cluster { cluster < length self.old.queues }
         ensures { self.new ≡ with_place self.old task (Some cluster) }
     {
-        self.places[task as usize] = Some(cluster);
+        self.places.set(task as usize, Some(cluster));
     }
 
     /// A processor has no task any more.
@@ -170,7 +172,12 @@ impl Clusters {
     fn has_tasks(&self, cluster: u32) -> bool
         ensures { result ≡ list_any (is_on cluster) self.now.places }
     {
-        self.places.iter().any(|place| is_on(*place, cluster))
+        for task in 0..self.places.len() {
+            if is_on(self.places.get(task), cluster) {
+                return true;
+            }
+        }
+        false
     }
 
     // Whether an open processor stands on a cluster.
@@ -328,7 +335,7 @@ impl Clusters {
         requires { task < length self.now.places }
         ensures { result ≡ place_of self.now task }
     {
-        self.places[task as usize]
+        self.places.get(task as usize)
     }
 }
 
@@ -367,13 +374,12 @@ fn opening_processors(alloc: Global, count: u32) -> Result<Vec<Processor>, Alloc
     Ok(processors)
 }
 
-fn opening_places(alloc: Global, tasks: u32) -> Result<Vec<Option<u32>>, AllocError>
-    ensures { IfOk result (λ ps. ps.items ≡ slice_set (replicate tasks None) 0 (Some 0)) }
+fn opening_places(alloc: Global, tasks: u32) -> Result<Table<Option<u32>>, AllocError>
+    ensures { IfOk result (λ ps. ps ≡ slice_set (replicate tasks None) 0 (Some 0)) }
 {
-    let none: Option<u32> = None;
-    let mut places = vec![in alloc; none; tasks as usize]?;
-    if !places.is_empty() {
-        places[0] = Some(0);
+    let mut places = Table::new(alloc, tasks, None)?;
+    if tasks > 0 {
+        places.set(0, Some(0));
     }
     Ok(places)
 }

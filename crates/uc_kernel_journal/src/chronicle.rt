@@ -15,12 +15,13 @@ use std::alloc::{AllocError, Global};
 use std::marker::Model;
 use uc_entry::entry::{Entry, EntryKind, Options};
 use uc_entry::request::Answer;
+use uc_table::Table;
 use uc_tree::site::Site;
 
 /// The journal of a run, and beside it what it tells of ticks, reads and answers, so that no question goes through it.
 ///
 /// Contracts see the journal, the accept statements, for how many entries memory was taken, and for how many tasks. `new`
-/// takes all memory; no other call takes any.
+/// takes all memory, and writes to none that tasks to come would have; no other call takes any.
 #[derive(Drop)]
 pub struct Chronicle {
     sites: Vec<Site>,
@@ -28,9 +29,9 @@ pub struct Chronicle {
     // Ticks of all tasks.
     ticks: u64,
     // Ticks of each task since its last dispatch.
-    spent: Vec<u64>,
+    spent: Table<u64>,
     // What each task is told to go on with.
-    answers: Vec<Option<Answer>>,
+    answers: Table<Option<Answer>>,
     // Bytes of the input that reads have taken.
     bytes: u32,
     // Whether a read has failed.
@@ -50,7 +51,7 @@ impl Model for Chronicle {
 
     ghost view = { λ c. record { journal = c.journal.items; sites = c.sites.items; room = c.room; tasks = c.tasks } };
 
-    ghost invariant = { λ c. (c.room ≤ vec_capacity c.journal) × IsTold c.sites.items c.journal.items c.ticks c.spent.items c.answers.items c.bytes c.failed c.ended c.room c.tasks };
+    ghost invariant = { λ c. (c.room ≤ vec_capacity c.journal) × IsTold c.sites.items c.journal.items c.ticks c.spent c.answers c.bytes c.failed c.ended c.room c.tasks };
 }
 
 impl Chronicle {
@@ -70,7 +71,7 @@ impl Chronicle {
         ensures { IfOk result (λ c. c ≡ record { journal = begin opts.now ∷ []; sites = sites.items; room = room; tasks = tasks }) }
     {
         let mut journal = Vec::with_capacity(alloc, room as usize)?;
-        let spent = no_ticks(alloc, tasks)?;
+        let spent = Table::new(alloc, tasks, 0)?;
         let answers = first_answers(alloc, tasks)?;
         journal.push_reserved(begin_entry(opts));
         Ok(Chronicle {
@@ -144,7 +145,7 @@ impl Chronicle {
         requires task { task < self.now.tasks }
         ensures { result ≡ used task self.now.journal }
     {
-        self.spent[task as usize]
+        self.spent.get(task as usize)
     }
 
     /// What a task is told to go on with, if it is.
@@ -153,7 +154,7 @@ impl Chronicle {
         requires task { task < self.now.tasks }
         ensures { result ≡ answer_to self.now.sites task self.now.journal }
     {
-        self.answers[task as usize]
+        self.answers.get(task as usize)
     }
 
     /// The bytes of the input that reads have taken.
@@ -238,22 +239,12 @@ fn begin_entry(opts: &Options) -> Entry
     }
 }
 
-fn no_ticks(alloc: Global, tasks: u32) -> Result<Vec<u64>, AllocError>
-    ensures { IfOk result (λ v. v.items ≡ replicate tasks 0) }
-{
-    let spent = vec![in alloc; 0u64; tasks as usize]?;
-    Ok(spent)
-}
-
 // Task 0 is told to go on.
-fn first_answers(alloc: Global, tasks: u32) -> Result<Vec<Option<Answer>>, AllocError>
+fn first_answers(alloc: Global, tasks: u32) -> Result<Table<Option<Answer>>, AllocError>
     requires { 1 ≤ tasks }
-    ensures { IfOk result (λ v. v.items ≡ slice_set (replicate tasks None) 0 (Some answer.Go)) }
+    ensures { IfOk result (λ t. t ≡ slice_set (replicate tasks None) 0 (Some answer.Go)) }
 {
-    let mut answers = Vec::with_capacity(alloc, tasks as usize)?;
-    for _ in 0..tasks {
-        answers.push_reserved(None);
-    }
-    answers[0] = Some(Answer::Go);
+    let mut answers = Table::new(alloc, tasks, None)?;
+    answers.set(0, Some(Answer::Go));
     Ok(answers)
 }

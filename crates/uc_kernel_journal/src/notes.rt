@@ -13,6 +13,7 @@ ghost use Rattle.uc_kernel_journal.specs.JournalSums.{AreShort};
 
 use uc_entry::entry::{Entry, EntryKind};
 use uc_entry::request::Answer;
+use uc_table::Table;
 use uc_tree::limits::DESTRUCTOR;
 use uc_tree::site::{Members, Site};
 
@@ -184,33 +185,33 @@ fn takes_up(kind: EntryKind) -> bool
 }
 
 /// Notes the answers of an entry.
-pub fn note_answers(answers: &mut Vec<Option<Answer>>, sites: &Vec<Site>, e: &Entry)
+pub fn note_answers(answers: &mut Table<Option<Answer>>, sites: &Vec<Site>, e: &Entry)
     requires short { AreShort sites.now.items }
-    requires task { e.now.task < length answers.old.items }
-    requires sayable { IsSayable (length answers.old.items) e.now.kind e.now }
-    ensures { answers.new.items ≡ answers_after sites.now.items e.now.kind e.now answers.old.items }
+    requires task { e.now.task < length answers.old }
+    requires sayable { IsSayable (length answers.old) e.now.kind e.now }
+    ensures { answers.new ≡ answers_after sites.now.items e.now.kind e.now answers.old }
 {
     let told = answer_of(sites, e);
     if told.is_some() || takes_up(e.kind) {
-        answers[e.task as usize] = told;
+        answers.set(e.task as usize, told);
     }
     if e.kind == EntryKind::Spawn {
-        answers[number(e.a) as usize] = Some(Answer::Go);
+        answers.set(number(e.a) as usize, Some(Answer::Go));
     }
 }
 
 /// Notes the ticks of an entry: those of a task count from its last dispatch.
-pub fn note_spent(spent: &mut Vec<u64>, e: &Entry)
-    requires task { e.now.task < length spent.old.items }
-    requires room { slice_index_or spent.old.items e.now.task 0 + e.now.ticks < 18446744073709551616 }
-    ensures { spent.new.items ≡ slice_set spent.old.items e.now.task (spent_after e.now.kind e.now (slice_index_or spent.old.items e.now.task 0)) }
+pub fn note_spent(spent: &mut Table<u64>, e: &Entry)
+    requires task { e.now.task < length spent.old }
+    requires room { slice_index_or spent.old e.now.task 0 + e.now.ticks < 18446744073709551616 }
+    ensures { spent.new ≡ slice_set spent.old e.now.task (spent_after e.now.kind e.now (slice_index_or spent.old e.now.task 0)) }
 {
     let ticks = u64::from(e.ticks);
     let task = e.task as usize;
     if e.kind == EntryKind::Dispatch {
-        spent[task] = ticks;
+        spent.set(task, ticks);
     } else {
-        spent[task] += ticks;
+        spent.set(task, spent.get(task) + ticks);
     }
 }
 

@@ -1,6 +1,53 @@
-// A sink that fails at one put alone.
+// A store that fails at one read alone, and a sink that fails at one put alone.
 
-use uc_outside::{Sink, SinkFault};
+use std::alloc::Global;
+use uc_outside::{Sink, SinkFault, SteadyStore, Store, StoreFault};
+
+/// Reads the files of a steady store, but fails at the read of one number, counted from 1. With number 0 it never does.
+#[derive(Drop)]
+pub(crate) struct FailsAtRead {
+    files: SteadyStore,
+    reads: u64,
+    failing: u64,
+    faults: u64,
+}
+
+impl FailsAtRead {
+    pub(crate) fn new(files: SteadyStore, failing: u64) -> FailsAtRead {
+        FailsAtRead {
+            files,
+            reads: 0,
+            failing,
+            faults: 0,
+        }
+    }
+}
+
+impl Store for FailsAtRead {
+    ghost use Rattle.std.specs.Prelude.{None, false};
+    ghost use Rattle.std.proofs.Common.{rules};
+
+    ghost state = { λ s. record { count = s.faults; told = None; steady = false } };
+
+    fn faults(&self) -> u64 {
+        self.faults
+    }
+
+    fn read(&mut self, alloc: Global, name: &str, limit: u32) -> Result<Vec<u8>, StoreFault> {
+        self.reads = self.reads.saturating_add(1);
+        let answer = if self.reads == self.failing {
+            Err(StoreFault::Failed)
+        } else {
+            self.files.read(alloc, name, limit)
+        };
+        if let Err(StoreFault::Failed) = answer {
+            self.faults = self.faults.saturating_add(1);
+        }
+        answer
+    }
+
+    ghost steady_tells = { λ s. Prim.search rules };
+}
 
 /// Takes a byte a put, fails at one put, when it has taken so many bytes, and counts the puts that come after it.
 #[derive(Drop)]

@@ -10,12 +10,16 @@ pub(crate) struct Header {
     pub(crate) room: usize,
     pub(crate) count: usize,
     pub(crate) length: usize,
+    pub(crate) newlines: usize,
+    pub(crate) failing_read: u64,
     pub(crate) input: String,
 }
 
 impl Header {
     pub(crate) fn read(alloc: Global, line: &str) -> Result<Header, AllocError> {
         let (line, input) = parted(line, " < ");
+        let (line, failing_read) = parted(line, " # ");
+        let (line, newlines) = parted(line, " % ");
         let (line, length) = parted(line, " + ");
         let (line, count) = parted(line, " * ");
         let (line, room) = parted(line, " > ");
@@ -26,6 +30,8 @@ impl Header {
             room: room.parse::<usize>().unwrap_or(10_000),
             count: count.parse::<usize>().unwrap_or(0),
             length: length.parse::<usize>().unwrap_or(0),
+            newlines: newlines.parse::<usize>().unwrap_or(0),
+            failing_read: failing_read.parse::<u64>().unwrap_or(0),
             input: String::from_str(alloc, input)?,
         })
     }

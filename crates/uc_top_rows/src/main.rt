@@ -5,6 +5,8 @@
 // - ` > ROOM`: out has room for so many bytes, and not for 10,000;
 // - ` * COUNT`: each `@` of the text stands for so many semicolons;
 // - ` + LENGTH`: spaces fill the text to so many bytes;
+// - ` % LENGTH`: newlines do;
+// - ` # READ`: the store fails at its read of this number, counted from 1;
 // - ` < INPUT`: the bytes of the file in.
 //
 // For each text the words are printed, and what the call put to out and to err, and its status. A line `?? TITLE` begins
@@ -17,7 +19,7 @@ mod failing;
 mod header;
 mod outside;
 
-use crate::failing::FailsOnce;
+use crate::failing::{FailsAtRead, FailsOnce};
 use crate::header::Header;
 use std::alloc::{AllocError, Global};
 use std::io;
@@ -61,7 +63,7 @@ impl Row {
     }
 }
 
-// The bytes of the text, with semicolons for each `@`, and with spaces up to its length.
+// The bytes of the text, with semicolons for each `@`, and with spaces and newlines up to its lengths.
 fn filled_text(alloc: Global, row: &Row) -> Result<Vec<u8>, AllocError> {
     let mut text = Vec::new(alloc);
     for byte in row.text.as_bytes() {
@@ -76,17 +78,21 @@ fn filled_text(alloc: Global, row: &Row) -> Result<Vec<u8>, AllocError> {
     for _k in text.len()..row.header.length {
         text.push(b' ')?;
     }
+    for _k in text.len()..row.header.newlines {
+        text.push(b'\n')?;
+    }
     Ok(text)
 }
 
-fn store_of(alloc: Global, row: &Row) -> Result<SteadyStore, AllocError> {
+fn store_of(alloc: Global, row: &Row) -> Result<FailsAtRead, AllocError> {
     let mut files = Vec::new(alloc);
     files.push((String::from_str(alloc, "a.cc")?, filled_text(alloc, row)?))?;
     files.push((
         String::from_str(alloc, "in")?,
         row.header.input.as_bytes().to_vec(alloc)?,
     ))?;
-    Ok(SteadyStore::new(files))
+    let files = SteadyStore::new(files);
+    Ok(FailsAtRead::new(files, row.header.failing_read))
 }
 
 fn words_of(alloc: Global, row: &Row) -> Result<Vec<String>, AllocError> {

@@ -1,9 +1,9 @@
 -- The resolved trees of a program with a task and of one with an event are sound.
-use Rattle.std.proofs.Common.{◌≡◌, ℕ, zero, suc, inl, inr, List, [], ◌∷◌, Some, None, true, false, refl, sym, subst, arith}
+use Rattle.std.proofs.Common.{◌≡◌, ℕ, zero, suc, inl, inr, [], ◌∷◌, Some, None, true, false, refl, subst, arith}
 use Rattle.std.specs.Prelude.{slice_get}
 use Rattle.uc_tree.specs.Source.{Shape, Last, Routine}
 use Rattle.uc_typing.specs.Typing.{Num, Cell, Obj, Raw, Var, Kept, Sig, Table}
-use Rattle.uc_typing.specs.States.{Routine_is, Sound}
+use Rattle.uc_typing.specs.States.{Routine_is}
 use Rattle.uc_typing.specs.Samples.{task_source, SampleSound, one_int, event_source, EventSound}
 
 -- class 1 is the task: its main, its destructor, the main of the program, the constructor that nobody wrote

@@ -13,7 +13,7 @@ use Rattle.uc_cluster.proofs.clusters.Clusters.add_cluster.Goals as goal
 
 pub invariant_of-self : goal.invariant_of-self
 invariant_of-self c =
-    let s = c.self.inside in let qs = s.queues.items in let inv = c.self.invariant in let n = length s.places.items in
+    let s = c.self.inside in let qs = s.queues.items in let inv = c.self.invariant in let n = length s.places in
     let spare_is = c.in-Some.ensures.items in
     let parts = all_unpush (λ q. q ≡ []) c.pop.new.self.items c.in-Some.queue (subst (AllByRecursion (λ q. q ≡ [])) spare_is inv.2) in
     let queues_are = c.push_reserved.ensures.items ∙ ap (λ (q : List ℕ). qs ++ q ∷ []) parts.1 in
@@ -42,7 +42,7 @@ returns-in-Some-clause-standing c =
     let less = ap (λ (l : List (List ℕ)). length l) spare_is ∙ length-append c.pop.new.self.items (c.in-Some.queue ∷ []) in
     let all = inv.0 in
     let few : length qs < 64 = omega (arith, less, all) in
-    let old : Standing = record { queues = qs; processors = s.processors.items; places = s.places.items } in
-    ap (λ (q : List (List ℕ)). (let v : Standing = record { queues = q; processors = s.processors.items; places = s.places.items } in v)) queues_are
+    let old : Standing = record { queues = qs; processors = s.processors.items; places = s.places } in
+    ap (λ (q : List (List ℕ)). (let v : Standing = record { queues = q; processors = s.processors.items; places = s.places } in v)) queues_are
     ∙ sym (ap (λ (b : Bool). cond b (with_cluster old) old) (lt-ltb (length qs) 64 few))
     ∙ ap (λ (v : Standing). if nat_lt (length v.queues) CLUSTERS then with_cluster v else v) c.self.view_is

@@ -10,14 +10,14 @@ use Rattle.uc_cluster.proofs.clusters.Clusters.start.Goals as goal
 
 pub invariant_of-self : goal.invariant_of-self
 invariant_of-self c =
-    let s = c.self.inside in let qs = s.queues.items in let ps = s.processors.items in let sets = s.members.items in let inv = c.self.invariant in let p = c.args.processor in let n = length s.places.items in
+    let s = c.self.inside in let qs = s.queues.items in let ps = s.processors.items in let sets = s.members.items in let inv = c.self.invariant in let p = c.args.processor in let n = length s.places in
     let lt : p < length ps = subst (λ (v : Standing). p < length v.processors) (sym c.self.view_is) c.requires.processor in
     let takes = subst (λ (v : Standing). may_take v.queues (processor_at v p) ≡ true) (sym c.self.view_is) c.requires.ready in
     let x_is = c.index.ensures ∙ get_or_default ps p c.index.result.now no_processor lt in
     let k = c.index.result.now.cluster in
-    let k_is : k ≡ (processor_at (record { queues = qs; processors = ps; places = s.places.items }) p).cluster = ap (λ (x : Processor). x.cluster) x_is in
+    let k_is : k ≡ (processor_at (record { queues = qs; processors = ps; places = s.places }) p).cluster = ap (λ (x : Processor). x.cluster) x_is in
     let known : k < length qs = subst (λ (m : ℕ). m < length qs) (sym k_is) (inv.7.known p lt) in
-    let some : is_nobody (queue_at qs k) ≡ false = ap (λ (m : ℕ). is_nobody (queue_at qs m)) k_is ∙ takes_some (processor_at (record { queues = qs; processors = ps; places = s.places.items }) p) qs takes in
+    let some : is_nobody (queue_at qs k) ≡ false = ap (λ (m : ℕ). is_nobody (queue_at qs m)) k_is ∙ takes_some (processor_at (record { queues = qs; processors = ps; places = s.places }) p) qs takes in
     let q = c.shift-task.new.self in
     let was = c.index_mut.ensures.value ∙ get_or_default qs k c.index_mut.result.now [] known in
     let q_is = c.shift-task.ensures.rest ∙ ap rest_of was in

@@ -1,0 +1,152 @@
+-- Plain statements that break no rule are in order.
+use Rattle.std.proofs.Common.{◌≡◌, ℕ, ◌++◌, List, [], ◌∷◌, Option, Some, None, Bool, true, false, refl, sym, subst}
+use Rattle.std.specs.Prelude.{if◌then◌else◌}
+use Rattle.uc_tree.specs.declared.pos.Pos.{Pos}
+use Rattle.uc_tree.specs.declared.kinds.Known.{Known}
+use Rattle.uc_tree.specs.Expressions as expr
+use Rattle.uc_tree.specs.Statements as stmt
+use Rattle.uc_tree.specs.Source.{Expr, Stmt, Stmts, Then}
+use Rattle.uc_resolve.specs.Standings as tree
+use Rattle.uc_resolve.specs.Standings.{AsValue, meant}
+use Rattle.uc_resolve.specs.Resolve.{Scope, stmt_meant, stmts_meant, maybe_meant, stmt_then, names_behind, scope_after, scope_past, result_of}
+use Rattle.uc_tree.specs.Objects.{shape_of}
+use Rattle.uc_rules.specs.declared.rule.Rule.TheVariants.{S12, O9}
+use Rattle.uc_rules.specs.declared.rules.Home.{Home}
+use Rattle.uc_rules.specs.declared.rules.Around.{Around}
+use Rattle.uc_rules.specs.declared.rules.Entity.{Entity}
+use Rattle.uc_rules.specs.declared.rules.Entity.TheVariants as entity
+use Rattle.uc_rules.specs.Scopes.{Env, opened, with_around, with_joins, env_after}
+use Rattle.uc_rules.specs.Entities.{entity_of}
+use Rattle.uc_rules.specs.Sorts.{is_condition}
+use Rattle.uc_rules.specs.ExpressionBreaks.{return_breaks}
+use Rattle.uc_rules.specs.OwnerBreaks.{may_switch, may_switch_in}
+use Rattle.uc_rules.specs.Visits.{Visit, AtReturn, AtSwitch, AtStatement, visits, condition_visits, return_visits, outs_visits, stmt_visits, stmts_visits, maybe_stmt_visits, looped}
+use Rattle.uc_rules.specs.Breaks.{breaks_at}
+use Rattle.uc_typing.specs.Typing.{Num, Name, Sig, Table, Executing, Yields, Fine, FineStmt, FineStmts}
+use Rattle.uc_agreement.specs.Agreement.{IsAsValue, found_ty, row_ty, ValuedBy, Agrees, context}
+use Rattle.uc_agreement.specs.Unbroken.{Unbroken}
+use Rattle.uc_agreement.specs.PlainStatements.{IsValued, IsPlain, ArePlain, IsMaybePlain, Stood, LawPlain}
+use Rattle.uc_agreement.proofs.Ties.{false_true, law_agrees}
+use Rattle.uc_agreement.proofs.Unbroken.{none_left, first, second, one, stands}
+use Rattle.uc_agreement.proofs.Asking.{only, law_parts}
+
+module _ (t : Table) (g : Sig) (sc : List Name) where
+  -- environments of statements within statements have the same names
+
+  opened_stood : (env : Env) (class : Option ℕ) (routine : ℕ) (known : List Known) → Stood t g sc env class routine known → Stood t g sc (opened env) class routine known
+  opened_stood env class routine known h = record {
+    tied = record { refers = h.tied.refers; classes = h.tied.classes; names = h.tied.names; outer = h.tied.outer; member = h.tied.member };
+    known = record { names = h.known.names; members = h.known.members; results = h.known.results };
+    returning = h.returning;
+    switching = h.switching;
+  }
+
+  joined_stood : (env : Env) (class : Option ℕ) (routine : ℕ) (known : List Known) → Stood t g sc env class routine known → Stood t g sc (with_around env (with_joins false env.around)) class routine known
+  joined_stood env class routine known h = record {
+    tied = record { refers = h.tied.refers; classes = h.tied.classes; names = h.tied.names; outer = h.tied.outer; member = h.tied.member };
+    known = record { names = h.known.names; members = h.known.members; results = h.known.results };
+    returning = h.returning;
+    switching = h.switching;
+  }
+
+  looped_stood : (env : Env) (class : Option ℕ) (routine : ℕ) (known : List Known) → Stood t g sc env class routine known → Stood t g sc (looped env) class routine known
+  looped_stood env class routine known h = record {
+    tied = record { refers = h.tied.refers; classes = h.tied.classes; names = h.tied.names; outer = h.tied.outer; member = h.tied.member };
+    known = record { names = h.known.names; members = h.known.members; results = h.known.results };
+    returning = h.returning;
+    switching = h.switching;
+  }
+
+  -- an expression that is a value, a place or an array gives something
+
+  value_given : (st : tree.Standing) (e : Expr) → IsAsValue st → ValuedBy t g sc st e → Yields t g sc e Num
+  value_given AsValue e v h = h
+  value_given _ e v h = absurd v
+
+  given : (w : Entity) (m : tree.Meant) → (env : Env) → IsValued (Some w) → Agrees t g sc env.program w m → Fine t g sc m.expr
+  given (entity.Value s) m env v a = (Num, value_given m.standing m.expr a.0 a.1)
+  given (entity.Place s) m env v a = (found_ty s, a.0.0)
+  given (entity.Array s n) m env v a = (row_ty (is_condition s) n s, a.0)
+  given _ m env v a = absurd v
+
+  evaluated : (e : expr.Expr) (env : Env) (class : Option ℕ) (routine : ℕ) (known : List Known) (more : List Visit) → Stood t g sc env class routine known → IsValued (entity_of env e) → Unbroken (visits env e ++ more) → Fine t g sc (meant (context env class routine known) e).expr
+  evaluated e env class routine known more h v u =
+      let r = stands env h.known e (first (visits env e) more u) in
+      given r.0 (meant (context env class routine known) e) env (subst IsValued r.1 v) (law_agrees t g sc env class routine known h.tied e (first (visits env e) more u) r.0 r.1)
+
+  -- returns and switches
+
+  returns_by : (b : Bool) (w : Option Entity) (p : Pos) → return_breaks b (Some w) p ≡ [] → b ≡ true
+  returns_by true w p h = refl
+  returns_by false w p h = only false S12 p h
+
+  returning : (p : Pos) (e : expr.Expr) (env : Env) → Unbroken (return_visits env p (Some e)) → env.around.returns ≡ true
+  returning p e env u =
+      let b : breaks_at (AtReturn env p (Some (entity_of env e))) ≡ [] = one (AtReturn env p (Some (entity_of env e))) (second (visits env e) _ u) in
+      returns_by env.around.returns (entity_of env e) p (none_left (return_breaks env.around.returns (Some (entity_of env e)) p) _ b)
+
+  switch_by : (o : Option Home) (a : Around) → may_switch a o ≡ true → ((h : Home) → o ≡ Some h → may_switch_in a.inner h ≡ true → Executing t g) → Executing t g
+  switch_by None a h f = false_true h
+  switch_by (Some x) a h f = f x refl h
+
+  -- a plain statement leaves names as they are
+
+  after_plain : (a : stmt.Stmt) (env : Env) → IsPlain a env → env_after env a ≡ env
+  after_plain (stmt.Declare p b ds) env l = absurd l
+  after_plain _ env l = refl
+
+  then_plain : (a : stmt.Stmt) (env : Env) (s : Scope) (x : Stmt) (rest : Stmts) → IsPlain a env → stmt_then env.program a s x rest ≡ Then x rest
+  then_plain (stmt.Declare p b ds) env s x rest l = absurd l
+  then_plain _ env s x rest l = refl
+
+  names_plain : (a : stmt.Stmt) (env : Env) (s : Scope) → IsPlain a env → names_behind env.program a s ≡ s.names
+  names_plain (stmt.Declare p b ds) env s l = absurd l
+  names_plain _ env s l = refl
+
+  -- a block is a scope of its own, but for that of a `for`
+  by_joins : (b : Bool) (body : stmt.Stmts) (env : Env) (s : Scope) → ((e : Env) → Stood t g sc e s.class s.routine s.names → ArePlain body e → Unbroken (stmts_visits body e) → FineStmts t g sc (stmts_meant e.program body s)) → Stood t g sc env s.class s.routine s.names → ArePlain body (if b then with_around env (with_joins false env.around) else opened env) → Unbroken (stmts_visits body (if b then with_around env (with_joins false env.around) else opened env)) → FineStmts t g sc (stmts_meant env.program body s)
+  by_joins true body env s f h l u = f (with_around env (with_joins false env.around)) (joined_stood env s.class s.routine s.names h) l u
+  by_joins false body env s f h l u = f (opened env) (opened_stood env s.class s.routine s.names h) l u
+
+  mutual
+    plain : (a : stmt.Stmt) (env : Env) (s : Scope) → Stood t g sc env s.class s.routine s.names → IsPlain a env → Unbroken (stmt_visits a env) → FineStmt t g sc (stmt_meant env.program a s)
+    plain (stmt.Block p body) env s h l u = by_joins env.around.joins body env s (λ e. all_plain body e s) h l u
+    plain (stmt.Empty p) env s h l u = tt
+    plain (stmt.Evaluate p e) env s h l u = evaluated e env s.class s.routine s.names (AtStatement (expr.expr_pos e) (entity_of env e) ∷ []) h l u
+    plain (stmt.If p test chosen other) env s h l u =
+        ((law_parts t g sc env s.class s.routine s.names h.tied h.known).condition test (first (condition_visits env test) _ u), plain chosen (opened env) s (opened_stood env s.class s.routine s.names h) l.0 (first (stmt_visits chosen (opened env)) _ (second (condition_visits env test) _ u)), maybe_plain other env (scope_past env.program chosen s) h l.1 (second (stmt_visits chosen (opened env)) _ (second (condition_visits env test) _ u)))
+    plain (stmt.While p test body) env s h l u =
+        ((law_parts t g sc env s.class s.routine s.names h.tied h.known).condition test (first (condition_visits env test) _ u), tt, plain body (opened (looped env)) s (opened_stood (looped env) s.class s.routine s.names (looped_stood env s.class s.routine s.names h)) l (second (condition_visits env test) _ u))
+    plain (stmt.Do p body test) env s h l u =
+        ((law_parts t g sc env s.class s.routine s.names h.tied h.known).condition test (second (stmt_visits body (opened (looped env))) _ u), tt, plain body (opened (looped env)) s (opened_stood (looped env) s.class s.routine s.names (looped_stood env s.class s.routine s.names h)) l (first (stmt_visits body (opened (looped env))) _ u))
+    plain (stmt.Break p) env s h l u = tt
+    plain (stmt.Continue p) env s h l u = tt
+    plain (stmt.Return p None) env s h l u = tt
+    plain (stmt.Return p (Some e)) env s h l u =
+        ((law_parts t g sc env s.class s.routine s.names h.tied h.known).returned p (shape_of (result_of env.program s.routine)) e u, h.returning (returning p e env u))
+    plain (stmt.Print p items) env s h l u = (law_parts t g sc env s.class s.routine s.names h.tied h.known).printed s.texts items u
+    plain (stmt.PrintTogether p items) env s h l u =
+        (law_parts t g sc env s.class s.routine s.names h.tied h.known).printed s.texts items (first (outs_visits env items) _ u)
+    plain (stmt.Read p es) env s h l u = (law_parts t g sc env s.class s.routine s.names h.tied h.known).read es u
+    plain (stmt.Resume p) env s h l u =
+        switch_by env.around.home env.around (only (may_switch env.around env.around.home) O9 p (one (AtSwitch env p) u)) h.switching
+    plain (stmt.Suspend p) env s h l u = tt
+    plain (stmt.Yield p) env s h l u = tt
+    plain (stmt.Migrate p e) env s h l u =
+        (law_parts t g sc env s.class s.routine s.names h.tied h.known).migrated (expr.expr_pos e) e (first (visits env e) _ u) (second (visits env e) _ u)
+    plain _ env s h l u = absurd l
+
+    all_plain : (body : stmt.Stmts) (env : Env) (s : Scope) → Stood t g sc env s.class s.routine s.names → ArePlain body env → Unbroken (stmts_visits body env) → FineStmts t g sc (stmts_meant env.program body s)
+    all_plain stmt.NoStmts env s h l u = tt
+    all_plain (stmt.MoreStmts a rest) env s h l u =
+        let x = plain a env s h l.0 (first (stmt_visits a env) _ u) in
+        let v : Unbroken (stmts_visits rest env) = subst (λ e. Unbroken (stmts_visits rest e)) (after_plain a env l.0) (second (stmt_visits a env) _ u) in
+        let y = all_plain rest env (scope_after env.program a s) (subst (λ names. Stood t g sc env s.class s.routine names) (sym (names_plain a env s l.0)) h) l.1 v in
+        subst (FineStmts t g sc) (sym (then_plain a env s (stmt_meant env.program a s) (stmts_meant env.program rest (scope_after env.program a s)) l.0)) (x, y)
+
+    maybe_plain : (a : stmt.MaybeStmt) (env : Env) (s : Scope) → Stood t g sc env s.class s.routine s.names → IsMaybePlain a env → Unbroken (maybe_stmt_visits a env) → FineStmt t g sc (maybe_meant env.program a s)
+    maybe_plain stmt.NoStmt env s h l u = tt
+    maybe_plain (stmt.OneStmt body) env s h l u = plain body (opened env) s (opened_stood env s.class s.routine s.names h) l u
+
+pub law_plain : (t : Table) (g : Sig) (sc : List Name) → LawPlain t g sc
+law_plain t g sc a env s h l u = plain t g sc a env s h l u
