@@ -4,3 +4,4 @@ pub mod Asking
 pub mod FieldsLemmas
 pub mod DeclarationsLemmas
 pub mod PlainLemmas
+pub mod ItemsLemmas

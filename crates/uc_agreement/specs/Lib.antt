@@ -4,3 +4,4 @@ pub mod Parts
 pub mod Fields
 pub mod Declarations
 pub mod PlainStatements
+pub mod ItemNames

@@ -4,6 +4,7 @@ ghost use Rattle.std.specs.Prelude.{List};
 ghost use Rattle.uc_agreement.specs.Agreement.{LawAgrees};
 ghost use Rattle.uc_agreement.specs.Declarations.{LawDeclared};
 ghost use Rattle.uc_agreement.specs.Fields.{LawFields};
+ghost use Rattle.uc_agreement.specs.ItemNames.{LawItems};
 ghost use Rattle.uc_agreement.specs.Parts.{LawParts};
 ghost use Rattle.uc_agreement.specs.PlainStatements.{LawPlain};
 ghost use Rattle.uc_agreement.specs.Unbroken.{LawStands};
@@ -43,9 +44,16 @@ pub fn law_declared()
     ensures { (t : Table) → (g : Sig) → (sc : List Name) → LawDeclared t g sc }
 {}
 
-/// A statement that declares nothing, raises and handles nothing and accepts nothing is in order
-/// where no rule is broken in it: blocks, choices, loops, exits, prints, reads, switches and
-/// expressions, in one another.
+/// A statement that declares and enables nothing, and raises nothing but again what is handled, is in
+/// order where no rule is broken in it: blocks, choices, loops, exits, prints, reads, switches,
+/// accepting, handlers without a parameter and expressions, in one another.
 pub fn law_plain()
     ensures { (t : Table) → (g : Sig) → (sc : List Name) → LawPlain t g sc }
+{}
+
+/// In a program that breaks no rule a name that no local and no member hides is resolved to what it
+/// stands for: a constant to its value, and a routine, where a table tells the routines, to the one
+/// of its number.
+pub fn law_items()
+    ensures { (t : Table) → (g : Sig) → (sc : List Name) → LawItems t g sc }
 {}
