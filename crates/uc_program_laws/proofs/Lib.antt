@@ -1,0 +1,6 @@
+pub mod Settled
+pub mod Steps
+pub mod Walk
+pub mod Ticks
+pub mod Makes
+pub mod Worlds
