@@ -4,3 +4,4 @@ pub mod Walk
 pub mod Ticks
 pub mod Makes
 pub mod Worlds
+pub mod Others

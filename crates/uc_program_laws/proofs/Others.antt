@@ -25,7 +25,7 @@ use Rattle.uc_acts.specs.KernelRuns.{InRange, Fits, MayAsk, KernelRuns, begun as
 use Rattle.uc_acts.proofs.Bounds.{over_limit}
 use Rattle.uc_acts.proofs.Law.{good_whole}
 use Rattle.uc_acts.proofs.Moves.{first_at}
-use Rattle.uc_acts.proofs.Acting.{object_of, destroys, AllBy, by_act}
+use Rattle.uc_acts.proofs.Acting.{is_giving as gives_one, object_of, destroys, AllBy, by_act}
 use Rattle.uc_acts.proofs.Making.{row_asks, law_makes}
 use Rattle.uc_acts.proofs.Living.{going_row}
 use Rattle.uc_acts.proofs.Given.{law_dispatch}
@@ -48,7 +48,7 @@ on_all : (p t o : ℕ) (A : Type 0) (g : Bool) (a : List Entry) → AllBy p t o 
 on_all p t o A g [] b = tt
 on_all p t o A g (e ∷ a) b = (record { processor = b.0.proc; gives = by e.kind b.0.acts }, on_all p t o A g a b.1)
   where
-    by : (k : EntryKind) → Rattle.uc_acts.proofs.Acting.is_giving k ≡ false → is_giving k ≡ false
+    by : (k : EntryKind) → gives_one k ≡ false → is_giving k ≡ false
     by kind.Begin h = cc
     by kind.Dispatch h = cc
     by k h = refl
@@ -188,8 +188,8 @@ module _ (source : Source) (input : List ℕ) (opts : Options) (range : InRange 
 
   -- an act that does not name a processor is by another
 
-  proc_apart : {j : Journal} (p t n : ℕ) (asked : Asked) (q : ℕ) → Fits opts source.sites j t asked.request → is_over (j ++ act opts source.sites input j p t n asked) ≡ false → names q (act opts source.sites input j p t n asked) ≡ false → (q == p) ≡ false
-  proc_apart {j} p t n asked q f on h =
+  proc_apart : (j : Journal) (p t n : ℕ) (asked : Asked) (q : ℕ) → Fits opts source.sites j t asked.request → is_over (j ++ act opts source.sites input j p t n asked) ≡ false → names q (act opts source.sites input j p t n asked) ≡ false → (q == p) ≡ false
+  proc_apart j p t n asked q f on h =
       let x = row_asks opts source.sites input j p t (cost n asked.line) asked.line asked.request f in
       let is : act opts source.sites input j p t n asked ≡ x.first ∷ x.rest = (going_row opts source.sites input j p t n asked on).0 ∙ x.is in
       let b : AllBy p t (object_of t j asked.request) (Unit {0}) (destroys asked.request) (x.first ∷ x.rest) = subst (AllBy p t (object_of t j asked.request) (Unit {0}) (destroys asked.request)) is (by_act opts source.sites input j p t n (Unit {0}) asked (λ h. tt)) in
@@ -226,7 +226,7 @@ module _ (source : Source) (input : List ℕ) (opts : Options) (range : InRange 
     one p t {j} r o (no_room q v s le) on here h = no_both (is_over (j ++ lone_limit ∷ [])) (over_limit j 0 0) on
     one p t {j} {w} r o (acts q v n s asked d) on here h =
         let f = re j w q v n s asked r o d in
-        stays_acted (run_rests source input opts range r (fits_run r) o) o p t here q v n s asked d f (proc_apart q v n asked p f on h) on
+        stays_acted (run_rests source input opts range r (fits_run r) o) o p t here q v n s asked d f (proc_apart j q v n asked p f on h) on
 
     onward : (p t : ℕ) {j : Journal} {w : World} {parts : List (List Entry)} {k : Journal} {u : World} → Runs source input opts j w → Cut source input opts j w parts k u → (later : List Entry) → k ≡ j ++ later → running p j ≡ t ∷ [] → names p later ≡ false → is_over k ≡ false → StaysAs source opts p t j k w u
     onward p t r ends later e here n on = record { runs = here; state = refl; answer = refl; ticks = refl }

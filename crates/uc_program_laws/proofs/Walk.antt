@@ -3,6 +3,7 @@ use Rattle.std.proofs.Common.{◌≡◌, ℕ, suc, ◌<◌, ◌≤◌, ◌⊎◌
 use Rattle.std.specs.Prelude.{nat_eq, nat_lt, slice_get, if◌then◌else◌}
 use Rattle.uc_tree.specs.Source as src
 use Rattle.uc_tree.specs.Source.{Source}
+use Rattle.uc_entry.specs.declared.fault.RunFault.TheVariants.{NoReturn}
 use Rattle.uc_entry.specs.declared.request.Asked.{Asked}
 use Rattle.uc_entry.specs.declared.request.Request.{Request}
 use Rattle.uc_entry.specs.declared.request.Request.TheVariants as ask
@@ -68,7 +69,7 @@ module _ (ks : List ℕ) (source : Source) where
     acts (piece.Do a) todo h c = steps.stmt ks s callers env a todo h
     acts (piece.Rest ss) todo h c = steps.rest ks s callers env ss todo h
     acts (piece.Exit w) todo h c = steps.exits ks s callers env w todo h c
-    acts piece.NoReturnNow todo h c = steps.stop ks s callers env _ todo _ h
+    acts piece.NoReturnNow todo h c = steps.stop ks s callers env NoReturn todo _ h
     acts (piece.InLoop o t e b) todo h c = go _ _ (steps.stepped ks s callers env e _ (steps.tested ks s callers env o t e b todo h))
     acts (piece.Clean x) todo h c = go _ _ (steps.cleans ks s callers env x todo h)
     acts (piece.Sweep e) todo h c = steps.swept ks s callers env s.run.elements e todo h

@@ -103,7 +103,7 @@ plain_more (p ∷ hand) o m h k = (h.0, plain_more hand o m h.1 k)
 
 -- what a task holds once it has been told
 
-none_found : (o : ℕ) (ps : List (ℕ × Members)) → has (keys ps) o ≡ false → find o ps ≡ None
+pub none_found : (o : ℕ) (ps : List (ℕ × Members)) → has (keys ps) o ≡ false → find o ps ≡ None
 none_found o [] h = refl
 none_found o (p ∷ ps) h = by (nat_eq p.0 o) refl (none_found o ps) h
   where

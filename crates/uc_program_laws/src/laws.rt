@@ -1,6 +1,11 @@
 // The laws: each is a function whose contract is the law.
 
-ghost use Rattle.uc_program_laws.specs.Laws.{LawLeft, LawEnds};
+ghost use Rattle.uc_program_laws.specs.Laws.{LawProcessor, LawLeft, LawEnds, LawHand, LawOthers};
+
+/// Each entry of an act names the processor of its task, and gives no processor.
+pub fn law_processor()
+    ensures { LawProcessor }
+{}
 
 /// While the run of a kernel goes on, who runs has a tick left, where each act came before the last
 /// tick of its task or asked for another slice.
@@ -12,4 +17,18 @@ pub fn law_left()
 /// fault.
 pub fn law_ends()
     ensures { LawEnds }
+{}
+
+/// In a run of a program in which all that was asked so far fits, a task asks with just the objects
+/// in hand that it is inside, in the order in which it entered them, and before the last tick that
+/// it has left, or for another slice. What it prints has 1 to 32 items, and what it reads one of two
+/// forms.
+pub fn law_hand()
+    ensures { LawHand }
+{}
+
+/// Where what a program asks fits, acts of others leave a task that runs where it runs, as it is,
+/// with its answer and its ticks.
+pub fn law_others()
+    ensures { LawOthers }
 {}
