@@ -5,3 +5,4 @@ pub mod Ticks
 pub mod Makes
 pub mod Worlds
 pub mod Others
+pub mod Through

@@ -1,5 +1,5 @@
 -- In a run all that was asked fits: so who asks holds what it is inside, and acts of others leave who runs as it is.
-use Rattle.std.proofs.Common.{◌≡◌, ℕ, ◌-◌, ◌==◌, ◌<◌, ◌≤◌, ◌||◌, Bool, true, false, cond, List, [], ◌∷◌, ◌++◌, Option, None, refl, sym, ap, ◌∙◌, subst, arith, append_assoc, append-nil}
+use Rattle.std.proofs.Common.{◌≡◌, ℕ, ◌-◌, ◌==◌, ◌<◌, ◌≤◌, ◌||◌, ◌⊎◌, inl, inr, Bool, true, false, cond, List, [], ◌∷◌, ◌++◌, Option, Some, None, refl, sym, ap, ◌∙◌, subst, arith, append_assoc, append-nil}
 use Rattle.std.specs.Prelude.{if◌then◌else◌}
 use Rattle.std.specs.List.{list_any}
 use Rattle.std.proofs.lemmas.Bool.{eqb-true, eq-eqb}
@@ -36,11 +36,11 @@ use Rattle.uc_meaning.specs.Runs.{World, Runs, May, AsksIn, begun, more, gives, 
 use Rattle.uc_meaning.specs.Cuts.{Cut, ends, goes_on, Reentry}
 use Rattle.uc_program_laws.specs.Hands.{keys}
 use Rattle.uc_program_laws.specs.Fitting.{MayFit, RunFits}
-use Rattle.uc_program_laws.specs.Laws.{is_giving, IsOn, LawProcessor, Asking, LawHand, names, StaysAs, LawOthers}
+use Rattle.uc_program_laws.specs.Laws.{is_giving, IsOn, LawProcessor, Asking, LawHand, IsHome, LawHome, names, StaysAs, LawOthers}
 use Rattle.uc_program_laws.proofs.Walk.{ride_within, ride_early}
 use Rattle.uc_program_laws.proofs.Ticks.{no_both, not_true, not_over, AllLeft, left_act, left_given, left_begin}
 use Rattle.uc_program_laws.proofs.Makes.{same_holder}
-use Rattle.uc_program_laws.proofs.Worlds.{WorldRests, none_found, asks_settled, rests_act, rests_given, rests_begin}
+use Rattle.uc_program_laws.proofs.Worlds.{IsThere, WorldRests, none_found, asks_settled, rests_act, rests_given, rests_begin}
 
 -- each entry of an act is on its processor
 
@@ -92,6 +92,16 @@ module _ (source : Source) (input : List ℕ) (opts : Options) (range : InRange 
       let x = asks_settled source input opts j w r.kernel o r.rests r.all d in
       record { hand = x.env.keys_are; form = x.form; within = ride_within d.rides; early = ride_early d.rides }
 
+pub law_home : LawHome
+law_home source input opts j w r range fits on =
+    let x = (run_rests source input opts range r fits on).rests in
+    record { there = λ o h. at_home (w.homes o) (x.there o h); new = x.new; gone = x.gone }
+  where
+    at_home : (m : Option Members) {A : Type 0} → IsThere m ⊎ A → IsHome m ⊎ A
+    at_home (Some m) (inl y) = inl (record { members = m; is = refl })
+    at_home None (inl y) = absurd y
+    at_home m (inr y) = inr y
+
 pub law_hand : LawHand
 law_hand source input opts j w r range fits on p t n s asked d = asking source input opts range (run_rests source input opts range r fits on) on p t n s asked d
 
@@ -132,6 +142,21 @@ stays_on source opts p t j k l w u v a b = record {
   answer = b.answer ∙ a.answer;
   ticks = b.ticks ∙ a.ticks;
 }
+
+-- the acts of a cut
+
+pub cancel : (j x y : List Entry) → j ++ x ≡ j ++ y → x ≡ y
+cancel [] x y e = e
+cancel (i ∷ j) x y e = cancel j x y (cc e)
+
+module _ {source : Source} {input : List ℕ} {opts : Options} where
+  pub rest_of : {j : Journal} {w : World} {parts : List (List Entry)} {k : Journal} {u : World} → Cut source input opts j w parts k u → (x : List Entry) × (k ≡ j ++ x)
+  rest_of {j} ends = ([], sym (append-nil j))
+  rest_of {j} (goes_on {a} o s c) = let r = rest_of c in (a ++ r.0, r.1 ∙ append_assoc j a r.0)
+
+  pub goes_first : {j : Journal} {w : World} {parts : List (List Entry)} {k : Journal} {u : World} → Cut source input opts j w parts k u → is_over k ≡ false → is_over j ≡ false
+  goes_first ends on = on
+  goes_first (goes_on o s c) on = o
 
 module _ (source : Source) (input : List ℕ) (opts : Options) (range : InRange opts) where
   -- an act by another processor
@@ -195,20 +220,6 @@ module _ (source : Source) (input : List ℕ) (opts : Options) (range : InRange 
       let b : AllBy p t (object_of t j asked.request) (Unit {0}) (destroys asked.request) (x.first ∷ x.rest) = subst (AllBy p t (object_of t j asked.request) (Unit {0}) (destroys asked.request)) is (by_act opts source.sites input j p t n (Unit {0}) asked (λ h. tt)) in
       let first : (x.first.proc == q) ≡ false = or_first (x.first.proc == q) (names q x.rest) (ap (names q) (sym is) ∙ h) in
       apart_of q p (ap (λ v. v == q) (sym b.0.proc) ∙ first)
-
-  -- the acts of a cut
-
-  rest_of : {j : Journal} {w : World} {parts : List (List Entry)} {k : Journal} {u : World} → Cut source input opts j w parts k u → (x : List Entry) × (k ≡ j ++ x)
-  rest_of {j} ends = ([], sym (append-nil j))
-  rest_of {j} (goes_on {a} o s c) = let r = rest_of c in (a ++ r.0, r.1 ∙ append_assoc j a r.0)
-
-  cancel : (j x y : List Entry) → j ++ x ≡ j ++ y → x ≡ y
-  cancel [] x y e = e
-  cancel (i ∷ j) x y e = cancel j x y (cc e)
-
-  goes_first : {j : Journal} {w : World} {parts : List (List Entry)} {k : Journal} {u : World} → Cut source input opts j w parts k u → is_over k ≡ false → is_over j ≡ false
-  goes_first ends on = on
-  goes_first (goes_on o s c) on = o
 
   module _ (re : Reentry source input opts) where
     fits_may : {j : Journal} {w : World} {a : List Entry} {x : World} → Runs source input opts j w → is_over j ≡ false → (m : May source opts input j w a x) → MayFit source opts input j w a x m

@@ -1,5 +1,5 @@
 -- What holds of every run of a program in which all that was asked so far fits.
-use Rattle.std.specs.Prelude.{◌≡◌, ℕ, ◌<◌, ◌≤◌, ◌==◌, Bool, true, false, List, [], ◌∷◌, ◌++◌}
+use Rattle.std.specs.Prelude.{◌≡◌, ℕ, ◌<◌, ◌≤◌, ◌==◌, ◌⊎◌, Bool, true, false, List, [], ◌∷◌, ◌++◌, Option, Some, None}
 use Rattle.std.specs.List.{list_any}
 use Rattle.uc_tree.specs.Source.{Source}
 use Rattle.uc_tree.specs.Programs.{Site}
@@ -10,14 +10,14 @@ use Rattle.uc_entry.specs.declared.entry.Options.{Options}
 use Rattle.uc_entry.specs.declared.request.Asked.{Asked}
 use Rattle.uc_entry.specs.declared.request.Request.TheVariants as ask
 use Rattle.uc_acts.specs.Journal.{Journal, held, is_over}
-use Rattle.uc_acts.specs.Known.{has_ended}
+use Rattle.uc_acts.specs.Known.{has, has_ended, made}
 use Rattle.uc_acts.specs.Queues.{running}
-use Rattle.uc_acts.specs.Answers.{answer_to}
+use Rattle.uc_acts.specs.Answers.{answer_to, just_made}
 use Rattle.uc_acts.specs.Serves.{left}
 use Rattle.uc_acts.specs.Sound.{Each}
 use Rattle.uc_acts.specs.Acts.{act}
 use Rattle.uc_acts.specs.KernelRuns.{InRange, KernelRuns}
-use Rattle.uc_machine.specs.Quiet.{State}
+use Rattle.uc_machine.specs.Quiet.{State, Members}
 use Rattle.uc_meaning.specs.Runs.{World, Runs, AsksIn, drawn}
 use Rattle.uc_meaning.specs.Cuts.{Cut, Reentry}
 use Rattle.uc_program_laws.specs.Hands.{keys, HasForm}
@@ -70,6 +70,22 @@ abbrev pub LawHand : Type 0
 LawHand =
     (source : Source) (input : List ℕ) (opts : Options) (j : Journal) (w : World) (r : Runs source input opts j w) → InRange opts → RunFits source input opts j w r → is_over j ≡ false → (p t n : ℕ) (s : State) (asked : Asked) → AsksIn source opts j w p t n s asked → Asking source opts j t n s asked
 
+-- members that are at home somewhere
+pub record IsHome (x : Option Members) : Type 0 where
+  pub members : Members
+  pub is : x ≡ Some members
+
+-- what is at home in the world that a journal leaves
+pub record Homes (j : Journal) (w : World) : Type 0 where
+  -- each object that is made and not gone, but for one that a task has just made
+  pub there : (o : ℕ) → has (made j) o ≡ true → IsHome (w.homes o) ⊎ ((t : ℕ) × (just_made t j ≡ o ∷ []))
+  pub new : (t o : ℕ) → just_made t j ≡ o ∷ [] → w.homes o ≡ None
+  pub gone : (o : ℕ) → has (made j) o ≡ false → w.homes o ≡ None
+
+abbrev pub LawHome : Type 0
+LawHome =
+    (source : Source) (input : List ℕ) (opts : Options) (j : Journal) (w : World) (r : Runs source input opts j w) → InRange opts → RunFits source input opts j w r → is_over j ≡ false → Homes j w
+
 -- whether entries name processor p
 abbrev pub names : ℕ → List Entry → Bool
 names p later = list_any (λ e. e.proc == p) later
@@ -85,3 +101,13 @@ pub record StaysAs (source : Source) (opts : Options) (p t : ℕ) (j k : Journal
 abbrev pub LawOthers : Type 0
 LawOthers =
     (source : Source) (input : List ℕ) (opts : Options) → InRange opts → Reentry source input opts → (j : Journal) (w : World) (parts : List (List Entry)) (later : List Entry) (u : World) → Runs source input opts j w → Cut source input opts j w parts (j ++ later) u → is_over (j ++ later) ≡ false → (p t : ℕ) → running p j ≡ t ∷ [] → names p later ≡ false → StaysAs source opts p t j (j ++ later) w u
+
+-- a run of the program passes through an earlier one: these acts lead on from there
+abbrev pub LawThrough : Type 0
+LawThrough =
+    (source : Source) (input : List ℕ) (opts : Options) → Reentry source input opts → (j later : Journal) (w u : World) → Runs source input opts j w → Runs source input opts (j ++ later) u → is_over (j ++ later) ≡ false → (parts : List (List Entry)) × Cut source input opts j w parts (j ++ later) u
+
+-- so whoever runs on a processor that no later entry names stays as it is
+abbrev pub LawSeat : Type 0
+LawSeat =
+    (source : Source) (input : List ℕ) (opts : Options) → InRange opts → Reentry source input opts → (j later : Journal) (w u : World) → Runs source input opts j w → Runs source input opts (j ++ later) u → is_over (j ++ later) ≡ false → (p t : ℕ) → running p j ≡ t ∷ [] → names p later ≡ false → StaysAs source opts p t j (j ++ later) w u

@@ -1,6 +1,6 @@
 // The laws: each is a function whose contract is the law.
 
-ghost use Rattle.uc_program_laws.specs.Laws.{LawProcessor, LawLeft, LawEnds, LawHand, LawOthers};
+ghost use Rattle.uc_program_laws.specs.Laws.{LawProcessor, LawLeft, LawEnds, LawHand, LawHome, LawOthers, LawThrough, LawSeat};
 
 /// Each entry of an act names the processor of its task, and gives no processor.
 pub fn law_processor()
@@ -31,4 +31,22 @@ pub fn law_hand()
 /// with its answer and its ticks.
 pub fn law_others()
     ensures { LawOthers }
+{}
+
+/// In such a run each object that is made and not gone is at home in the world that the journal
+/// leaves, but for one that a task has just made; and nothing else is.
+pub fn law_home()
+    ensures { LawHome }
+{}
+
+/// Where what a program asks fits, a run of it passes through each earlier one: its acts go on where
+/// that ended.
+pub fn law_through()
+    ensures { LawThrough }
+{}
+
+/// So of two runs of which one begins with the other: whoever runs on a processor that no later
+/// entry names runs there still, as it was, with its answer and its ticks.
+pub fn law_seat()
+    ensures { LawSeat }
 {}
