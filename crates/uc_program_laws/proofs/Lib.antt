@@ -6,3 +6,4 @@ pub mod Makes
 pub mod Worlds
 pub mod Others
 pub mod Through
+pub mod Alive

@@ -36,9 +36,9 @@ use Rattle.uc_meaning.specs.Runs.{World, Runs, May, AsksIn, begun, more, gives, 
 use Rattle.uc_meaning.specs.Cuts.{Cut, ends, goes_on, Reentry}
 use Rattle.uc_program_laws.specs.Hands.{keys}
 use Rattle.uc_program_laws.specs.Fitting.{MayFit, RunFits}
-use Rattle.uc_program_laws.specs.Laws.{is_giving, IsOn, LawProcessor, Asking, LawHand, IsHome, LawHome, names, StaysAs, LawOthers}
+use Rattle.uc_program_laws.specs.Laws.{is_giving, IsOn, AllLeft, LawProcessor, Asking, LawHand, IsHome, LawHome, names, StaysAs, LawOthers}
 use Rattle.uc_program_laws.proofs.Walk.{ride_within, ride_early}
-use Rattle.uc_program_laws.proofs.Ticks.{no_both, not_true, not_over, AllLeft, left_act, left_given, left_begin}
+use Rattle.uc_program_laws.proofs.Ticks.{no_both, not_true, not_over, left_act, left_given, left_begin}
 use Rattle.uc_program_laws.proofs.Makes.{same_holder}
 use Rattle.uc_program_laws.proofs.Worlds.{IsThere, WorldRests, none_found, asks_settled, rests_act, rests_given, rests_begin}
 

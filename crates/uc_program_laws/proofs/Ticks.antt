@@ -33,7 +33,7 @@ use Rattle.uc_acts.proofs.Lines.{law_line}
 use Rattle.uc_acts.proofs.Given.{law_dispatch}
 use Rattle.uc_acts.proofs.Others.{law_elsewhere}
 use Rattle.uc_program_laws.specs.Fitting.{MayEarly, RunEarly}
-use Rattle.uc_program_laws.specs.Laws.{LawLeft}
+use Rattle.uc_program_laws.specs.Laws.{AllLeft, LawLeft}
 use Rattle.uc_program_laws.proofs.Settled.{either}
 
 pub no_both : {A : Type 0} (b : Bool) → b ≡ true → b ≡ false → A
@@ -169,8 +169,6 @@ module _ (opts : Options) (sites : List Site) (input : List ℕ) (j : Journal) (
       ap (λ l. running p (j ++ l)) is ∙ running_same p j i (self_test p) ∙ ap (λ l. filter (λ u. not (u == t)) l ++ []) m.runs ∙ ap (λ b. cond (not b) (t ∷ []) [] ++ []) self
 
 -- a step of a run
-abbrev pub AllLeft : Options → Journal → Type 0
-AllLeft opts j = (p t : ℕ) → running p j ≡ t ∷ [] → 1 ≤ left opts j t
 
 no_cons : (x : ℕ) (ys : List ℕ) → ys ≡ x ∷ [] → ys ≡ [] → ⊥
 no_cons x ys h g = cc

@@ -31,10 +31,11 @@ use Rattle.uc_machine.specs.Pieces as piece
 use Rattle.uc_machine.specs.Answering.{answered, entered, new_members, with_operand, child_of, child_main}
 use Rattle.uc_meaning.specs.Runs.{World, AsksIn, first_world, first_home, with_home, hand_of, drawn, or_else, world_after, bare}
 use Rattle.uc_program_laws.specs.Hands.{keys}
+use Rattle.uc_program_laws.specs.Laws.{AllLeft}
 use Rattle.uc_program_laws.proofs.Settled.{either, plain, Binds, binds_not, PlainRuns, PlainParked, PlainHand, PlainMembers, Few, SettledEnv, Settled, HasAsked, found_hand}
 use Rattle.uc_program_laws.proofs.Steps.{plain_behind}
 use Rattle.uc_program_laws.proofs.Walk.{Bound, rides_settled, rides_bound}
-use Rattle.uc_program_laws.proofs.Ticks.{no_both, not_true, not_over, AllLeft}
+use Rattle.uc_program_laws.proofs.Ticks.{no_both, not_true, not_over}
 use Rattle.uc_program_laws.proofs.Makes.{is_making, same_holder, run_after, makes, none_new, one_new, just_made_given, just_made_begin, made_begin}
 
 -- what is at home

@@ -1,6 +1,6 @@
 // The laws: each is a function whose contract is the law.
 
-ghost use Rattle.uc_program_laws.specs.Laws.{LawProcessor, LawLeft, LawEnds, LawHand, LawHome, LawOthers, LawThrough, LawSeat};
+ghost use Rattle.uc_program_laws.specs.Laws.{LawProcessor, LawLeft, LawAlive, LawEnds, LawHand, LawHome, LawOthers, LawThrough, LawSeat};
 
 /// Each entry of an act names the processor of its task, and gives no processor.
 pub fn law_processor()
@@ -11,6 +11,11 @@ pub fn law_processor()
 /// tick of its task or asked for another slice.
 pub fn law_left()
     ensures { LawLeft }
+{}
+
+/// While the run of a kernel goes on, who runs has not ended.
+pub fn law_alive()
+    ensures { LawAlive }
 {}
 
 /// A task that has not ended by its act, behind which the run goes on, asked neither its end nor a
