@@ -34,10 +34,10 @@ use Rattle.uc_machine.specs.Quiet.{State, Members}
 use Rattle.uc_machine.specs.Answering.{with_hand, child_of}
 use Rattle.uc_meaning.specs.Runs.{World, Runs, May, AsksIn, begun, more, gives, no_room, acts, first_world, with_home, hand_of, drawn, or_else, world_after, bare}
 use Rattle.uc_meaning.specs.Cuts.{Cut, ends, goes_on, Reentry}
-use Rattle.uc_program_laws.specs.Hands.{keys}
+use Rattle.uc_step_laws.specs.Hands.{keys}
 use Rattle.uc_program_laws.specs.Fitting.{MayFit, RunFits}
 use Rattle.uc_program_laws.specs.Laws.{is_giving, IsOn, AllLeft, LawProcessor, Asking, LawHand, IsHome, LawHome, names, StaysAs, LawOthers}
-use Rattle.uc_program_laws.proofs.Walk.{ride_within, ride_early}
+use Rattle.uc_step_laws.proofs.Walk.{ride_within, ride_early}
 use Rattle.uc_program_laws.proofs.Ticks.{no_both, not_true, not_over, left_act, left_given, left_begin}
 use Rattle.uc_program_laws.proofs.Makes.{same_holder}
 use Rattle.uc_program_laws.proofs.Worlds.{IsThere, WorldRests, none_found, asks_settled, rests_act, rests_given, rests_begin}

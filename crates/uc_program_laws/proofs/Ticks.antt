@@ -34,7 +34,7 @@ use Rattle.uc_acts.proofs.Given.{law_dispatch}
 use Rattle.uc_acts.proofs.Others.{law_elsewhere}
 use Rattle.uc_program_laws.specs.Fitting.{MayEarly, RunEarly}
 use Rattle.uc_program_laws.specs.Laws.{AllLeft, LawLeft}
-use Rattle.uc_program_laws.proofs.Settled.{either}
+use Rattle.uc_step_laws.proofs.Kept.{either}
 
 pub no_both : {A : Type 0} (b : Bool) → b ≡ true → b ≡ false → A
 no_both b t f = absurd (cc (t, f))

@@ -20,7 +20,7 @@ use Rattle.uc_acts.specs.KernelRuns.{InRange, KernelRuns}
 use Rattle.uc_machine.specs.Quiet.{State, Members}
 use Rattle.uc_meaning.specs.Runs.{World, Runs, AsksIn, drawn}
 use Rattle.uc_meaning.specs.Cuts.{Cut, Reentry}
-use Rattle.uc_program_laws.specs.Hands.{keys, HasForm}
+use Rattle.uc_step_laws.specs.Hands.{keys, HasForm}
 use Rattle.uc_program_laws.specs.Fitting.{RunFits, RunEarly}
 
 -- of any run of a kernel

@@ -1,3 +1,2 @@
-pub mod Hands
 pub mod Fitting
 pub mod Laws
