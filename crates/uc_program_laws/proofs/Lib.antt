@@ -4,3 +4,4 @@ pub mod Alive
 pub mod Worlds
 pub mod Others
 pub mod Through
+pub mod ByHand
