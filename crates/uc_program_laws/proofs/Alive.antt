@@ -1,7 +1,7 @@
 -- No entry moves a task that has ended, so who runs has not.
-use Rattle.std.proofs.Common.{◌≡◌, ◌≢◌, ℕ, ℤ, zero, suc, ◌==◌, ◌≤◌, ◌&&◌, ◌||◌, Bool, true, false, cond, List, [], ◌∷◌, ◌++◌, Option, Some, None, take, map, length, refl, sym, ap, ◌∙◌, subst, arith, append-nil, append_assoc}
-use Rattle.std.specs.Prelude.{pos, nat_lt}
-use Rattle.std.proofs.lemmas.Bool.{eqb-true, eq-eqb}
+use Rattle.std.proofs.Common.{◌≡◌, ◌≢◌, ℕ, ℤ, zero, suc, ◌==◌, ◌&&◌, ◌||◌, Bool, true, false, List, [], ◌∷◌, ◌++◌, Option, Some, None, take, map, length, refl, sym, ap, ◌∙◌, subst, arith, append-nil, append_assoc}
+use Rattle.std.specs.Prelude.{nat_lt}
+use Rattle.std.proofs.lemmas.Bool.{eqb-true}
 use Rattle.uc_tree.specs.Programs.{Site}
 use Rattle.uc_tree.specs.SiteOffers.{clause_for, Met}
 use Rattle.uc_tree.specs.declared.limits.TheConstants.{TASKS, OBJECTS, PENDING_EVENTS, CLUSTERS, PROCESSORS}
@@ -12,15 +12,15 @@ use Rattle.uc_entry.specs.declared.entry.Options.{Options}
 use Rattle.uc_entry.specs.declared.request.Piece.{Piece}
 use Rattle.uc_entry.specs.declared.request.Request.{Request}
 use Rattle.uc_entry.specs.declared.request.Request.TheVariants as ask
-use Rattle.uc_acts.specs.Journal.{Journal, begin, inside, number, is_over, own_object, first_or_0, Cost, cost, no_cost, asking}
-use Rattle.uc_acts.specs.Queues.{running, waiting, stacked, ready, next, successor, cluster_count, processor_count, is_in_use}
+use Rattle.uc_acts.specs.Journal.{Journal, begin, inside, is_over, own_object, first_or_0, Cost, cost, no_cost}
+use Rattle.uc_acts.specs.Queues.{running, waiting, stacked, successor, cluster_count, processor_count}
 use Rattle.uc_acts.specs.Known.{object_count, task_count, owner, has_ended, ends}
 use Rattle.uc_acts.specs.Pending.{pending, oldest_in}
 use Rattle.uc_acts.specs.Doors.{site_at, open_at, offered, offers, next_met, blocked}
 use Rattle.uc_acts.specs.Stations.{Station, Ready, Running, Waits, Stacked, Blocked}
 use Rattle.uc_acts.specs.Sound.{Sound, Spot, At, Ended, Unborn, mover, own_or_ready, target, spot}
-use Rattle.uc_acts.specs.Acts.{row, fault, admission, admit_failed, push, admit, met_by, called, took, accepted, accept_entry, signalled, handed, front, poll_entry, prints, or_fault, left_by, dispatch, lone_limit}
-use Rattle.uc_acts.specs.KernelRuns.{Fits, KernelMay, KernelRuns, gives, no_room, acts, begun, more}
+use Rattle.uc_acts.specs.Acts.{row, admission, met_by, called, took, accepted, accept_entry, signalled, handed, front, poll_entry, prints, or_fault, left_by, dispatch, lone_limit}
+use Rattle.uc_acts.specs.KernelRuns.{KernelMay, KernelRuns, gives, no_room, acts, begun, more}
 use Rattle.uc_acts.proofs.Noted.{noted_at}
 use Rattle.uc_acts.proofs.SoundLemmas.{ended_push}
 use Rattle.uc_acts.proofs.Moves.{counted_at, first_at, met_counts, spot_stays, spot_moves}

@@ -1,5 +1,5 @@
 -- What a task asks fits, by what it has in hand.
-use Rattle.std.proofs.Common.{◌≡◌, ℕ, true, false, List, refl, sym, ap, ◌∙◌, subst}
+use Rattle.std.proofs.Common.{◌≡◌, ℕ, false, List, sym, ◌∙◌, subst}
 use Rattle.uc_tree.specs.Programs.{Site}
 use Rattle.uc_tree.specs.Source.{Source}
 use Rattle.uc_entry.specs.declared.entry.Entry.{Entry}
@@ -8,8 +8,7 @@ use Rattle.uc_entry.specs.declared.request.Asked.{Asked}
 use Rattle.uc_entry.specs.declared.request.Request.{Request}
 use Rattle.uc_entry.specs.declared.request.Request.TheVariants as ask
 use Rattle.uc_acts.specs.Journal.{Journal, held, own_object, is_over}
-use Rattle.uc_acts.specs.Known.{has}
-use Rattle.uc_acts.specs.KernelRuns.{InRange, IsAt, IsMade, Fits, KernelRuns}
+use Rattle.uc_acts.specs.KernelRuns.{InRange, IsAt, Fits, KernelRuns}
 use Rattle.uc_acts.proofs.Counted.{counted_run, law_made}
 use Rattle.uc_acts.proofs.Held.{law_held}
 use Rattle.uc_machine.specs.Quiet.{State}

@@ -1,8 +1,7 @@
 -- What every run of a program keeps of its world: what is at home where, and what each task has to do.
-use Rattle.std.proofs.Common.{◌≡◌, ℕ, ◌==◌, ◌<◌, ◌≤◌, ◌||◌, ◌⊎◌, inl, inr, Bool, true, false, cond, List, [], ◌∷◌, ◌++◌, Option, Some, None, refl, sym, ap, ◌∙◌, subst, arith, ⊎_elim}
+use Rattle.std.proofs.Common.{◌≡◌, ℕ, ◌==◌, ◌||◌, ◌⊎◌, inl, inr, Bool, true, false, List, [], ◌∷◌, ◌++◌, Option, Some, None, refl, sym, ap, ◌∙◌, subst, ⊎_elim}
 use Rattle.std.specs.Prelude.{nat_eq, if◌then◌else◌}
 use Rattle.std.proofs.lemmas.Bool.{eqb-true, eq-eqb}
-use Rattle.uc_tree.specs.Programs.{Site}
 use Rattle.uc_tree.specs.Source.{Source, Routine, routine_of}
 use Rattle.uc_entry.specs.declared.entry.Entry.{Entry}
 use Rattle.uc_entry.specs.declared.entry.Options.{Options}
@@ -15,7 +14,7 @@ use Rattle.uc_entry.specs.Keyed.{find}
 use Rattle.uc_acts.specs.Journal.{Journal, begin, held, is_over, own_object}
 use Rattle.uc_acts.specs.Known.{has, made, object_count, spawns, takes_out}
 use Rattle.uc_acts.specs.Queues.{running}
-use Rattle.uc_acts.specs.Answers.{answer_to, just_made}
+use Rattle.uc_acts.specs.Answers.{just_made}
 use Rattle.uc_acts.specs.Serves.{Serves, left}
 use Rattle.uc_acts.specs.Sound.{Sound}
 use Rattle.uc_acts.specs.Acts.{act, dispatch}
@@ -26,19 +25,18 @@ use Rattle.uc_acts.proofs.Counted.{law_made}
 use Rattle.uc_acts.proofs.Making.{law_new}
 use Rattle.uc_acts.proofs.Given.{law_dispatch}
 use Rattle.uc_acts.proofs.Others.{law_elsewhere}
-use Rattle.uc_machine.specs.Quiet.{State, Value, Todo, Members, first_state, zeros}
-use Rattle.uc_machine.specs.Pieces as piece
+use Rattle.uc_machine.specs.Quiet.{State, Members, first_state, zeros}
 use Rattle.uc_machine.specs.Answering.{answered, child_of, child_main}
 use Rattle.uc_meaning.specs.Runs.{World, AsksIn, first_world, first_home, with_home, hand_of, drawn, or_else, world_after, bare}
 use Rattle.uc_step_laws.specs.Hands.{keys}
 use Rattle.uc_program_laws.specs.Laws.{AllLeft}
-use Rattle.uc_step_laws.specs.Settled.{plain, Binds, PlainRuns, PlainParked, PlainHand, PlainMembers, Few, SettledEnv, Settled, Bound, HasAsked}
+use Rattle.uc_step_laws.specs.Settled.{plain, Binds, PlainRuns, PlainParked, PlainHand, PlainMembers, Few, Settled, Bound, HasAsked}
 use Rattle.uc_step_laws.proofs.Kept.{either, binds_not, found_hand}
 use Rattle.uc_step_laws.proofs.Told.{law_told}
 use Rattle.uc_step_laws.proofs.Walk.{law_rides}
 use Rattle.uc_step_laws.proofs.Steps.{plain_behind}
-use Rattle.uc_program_laws.proofs.Ticks.{no_both, not_true, not_over}
-use Rattle.uc_program_laws.proofs.Makes.{is_making, same_holder, run_after, makes, none_new, one_new, just_made_given, just_made_begin, made_begin}
+use Rattle.uc_program_laws.proofs.Ticks.{no_both, not_true}
+use Rattle.uc_program_laws.proofs.Makes.{is_making, same_holder, makes, none_new, one_new, just_made_given, just_made_begin, made_begin}
 
 -- what is at home
 
