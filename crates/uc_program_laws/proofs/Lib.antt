@@ -4,4 +4,4 @@ pub mod Alive
 pub mod Worlds
 pub mod Others
 pub mod Through
-pub mod ByHand
+pub mod ByHandLemmas

@@ -31,11 +31,11 @@ use Rattle.uc_machine.specs.Answering.{with_hand, child_of}
 use Rattle.uc_meaning.specs.Runs.{World, Runs, May, AsksIn, begun, more, gives, no_room, acts, with_home, hand_of, or_else, world_after, bare}
 use Rattle.uc_meaning.specs.Cuts.{Cut, ends, goes_on, Reentry}
 use Rattle.uc_program_laws.specs.Fitting.{MayFit, RunFits}
-use Rattle.uc_program_laws.specs.Laws.{is_giving, IsOn, AllLeft, LawProcessor, Asking, LawHand, IsHome, LawHome, names, StaysAs, LawOthers}
+use Rattle.uc_program_laws.specs.Laws.{is_giving, IsOn, AllLeft, LawProcessor, AsksWith, LawHand, IsAtHome, LawHome, names, StaysAs, LawOthers}
 use Rattle.uc_step_laws.proofs.Walk.{ride_within, ride_early}
 use Rattle.uc_program_laws.proofs.Ticks.{no_both, not_true, left_act, left_given, left_begin}
 use Rattle.uc_program_laws.proofs.Makes.{same_holder}
-use Rattle.uc_program_laws.proofs.Worlds.{IsThere, WorldRests, none_found, asks_settled, rests_act, rests_given, rests_begin}
+use Rattle.uc_program_laws.proofs.Worlds.{IsThere, WorldRests, none_found, asks_holding, rests_act, rests_given, rests_begin}
 
 -- each entry of an act is on its processor
 
@@ -82,9 +82,9 @@ module _ (source : Source) (input : List ℕ) (opts : Options) (range : InRange 
   run_rests begun f on = record { kernel = begun_in; all = left_begin opts; rests = rests_begin source opts }
   run_rests (more r o m) f on = rests_may (run_rests r f.0 o) o m f.1 on
 
-  pub asking : {j : Journal} {w : World} → RunRests source input opts j w → is_over j ≡ false → (p t n : ℕ) (s : State) (asked : Asked) → AsksIn source opts j w p t n s asked → Asking source opts j t n s asked
+  pub asking : {j : Journal} {w : World} → RunRests source input opts j w → is_over j ≡ false → (p t n : ℕ) (s : State) (asked : Asked) → AsksIn source opts j w p t n s asked → AsksWith source opts j t n s asked
   asking {j} {w} r o p t n s asked d =
-      let x = asks_settled source input opts j w r.kernel o r.rests r.all d in
+      let x = asks_holding source input opts j w r.kernel o r.rests r.all d in
       record { hand = x.env.keys_are; form = x.form; within = ride_within d.rides; early = ride_early d.rides }
 
 pub law_home : LawHome
@@ -92,7 +92,7 @@ law_home source input opts j w r range fits on =
     let x = (run_rests source input opts range r fits on).rests in
     record { there = λ o h. at_home (w.homes o) (x.there o h); new = x.new; gone = x.gone }
   where
-    at_home : (m : Option Members) {A : Type 0} → IsThere m ⊎ A → IsHome m ⊎ A
+    at_home : (m : Option Members) {A : Type 0} → IsThere m ⊎ A → IsAtHome m ⊎ A
     at_home (Some m) (inl y) = inl (record { members = m; is = refl })
     at_home None (inl y) = absurd y
     at_home m (inr y) = inr y

@@ -30,7 +30,7 @@ use Rattle.uc_machine.specs.Answering.{answered, child_of, child_main}
 use Rattle.uc_meaning.specs.Runs.{World, AsksIn, first_world, first_home, with_home, hand_of, drawn, or_else, world_after, bare}
 use Rattle.uc_step_laws.specs.Hands.{keys}
 use Rattle.uc_program_laws.specs.Laws.{AllLeft}
-use Rattle.uc_step_laws.specs.Settled.{plain, Binds, PlainRuns, PlainParked, PlainHand, PlainMembers, Few, Settled, Bound, HasAsked}
+use Rattle.uc_step_laws.specs.Holding.{plain, Binds, PlainRuns, PlainParked, PlainHand, PlainMembers, Few, Holding, BindsNext, HasAsked}
 use Rattle.uc_step_laws.proofs.Kept.{either, binds_not, found_hand}
 use Rattle.uc_step_laws.proofs.Told.{law_told}
 use Rattle.uc_step_laws.proofs.Walk.{law_rides}
@@ -132,8 +132,8 @@ module _ (source : Source) (input : List ℕ) (opts : Options) (j : Journal) (w 
           inr (ap (λ u. just_made u j) (sym same) ∙ x.1)
 
   module _ (t : ℕ) where
-    drawn_settled : plain (w.tasks t).run.control ≡ true → Settled (held t j) (drawn j w t)
-    drawn_settled h = record {
+    drawn_holding : plain (w.tasks t).run.control ≡ true → Holding (held t j) (drawn j w t)
+    drawn_holding h = record {
       control = h;
       callers = (rests.tasks t).callers;
       env = record {
@@ -149,7 +149,7 @@ module _ (source : Source) (input : List ℕ) (opts : Options) (j : Journal) (w 
         there o (inr x) = absurd (binds_not (w.tasks t).run.control h ((rests.tasks t).binds o x))
 
     -- a task that has just made an object lacks it, and it alone
-    drawn_bound : (o : ℕ) → just_made t j ≡ o ∷ [] → (n : IsNew source.sites j t o) → Bound n.before (drawn j w t)
+    drawn_bound : (o : ℕ) → just_made t j ≡ o ∷ [] → (n : IsNew source.sites j t o) → BindsNext n.before (drawn j w t)
     drawn_bound o e n =
         let same : hand_of (held t j) w.homes ≡ hand_of n.before w.homes = ap (λ l. hand_of l w.homes) n.last ∙ hand_without n.before o w.homes (rests.new t o e) in
         record {
@@ -182,17 +182,17 @@ module _ (source : Source) (input : List ℕ) (opts : Options) (j : Journal) (w 
             no_both (has n.before o) (ap (has n.before) (sym is) ∙ f) n.once
 
   module _ (all : AllLeft opts j) {p t n' : ℕ} {s : State} {asked : Asked} (d : AsksIn source opts j w p t n' s asked) where
-    pub asks_settled : HasAsked (held t j) asked.request s
-    asks_settled = by (rests.tasks t).control
+    pub asks_holding : HasAsked (held t j) asked.request s
+    asks_holding = by (rests.tasks t).control
       where
         by : (plain (w.tasks t).run.control ≡ true) ⊎ ((o : ℕ) × (just_made t j ≡ o ∷ [])) → HasAsked (held t j) asked.request s
-        by (inl h) = law_rides.settled source (held t j) (answered source d.given (drawn j w t)) s (left opts j t) n' asked d.rides (law_told.settled source (held t j) d.given (drawn j w t) (drawn_settled t h))
+        by (inl h) = law_rides.settled source (held t j) (answered source d.given (drawn j w t)) s (left opts j t) n' asked d.rides (law_told.settled source (held t j) d.given (drawn j w t) (drawn_holding t h))
         by (inr x) =
             let n = law_new opts source.sites input j runs going t x.0 x.1 in
             let told : Some d.given ≡ Some (answer.Object x.0) = sym d.told ∙ n.answer in
             let given : answer.Object x.0 ≡ d.given = cc told in
-            let start : Bound (held t j) (answered source (answer.Object x.0) (drawn j w t)) = subst (λ l. Bound l (answered source (answer.Object x.0) (drawn j w t))) (sym n.last) (law_told.bound source n.before x.0 (drawn j w t) (drawn_bound t x.0 x.1 n)) in
-            law_rides.bound source (held t j) (answered source d.given (drawn j w t)) s (left opts j t) n' asked d.rides (all p t d.runs) (subst (λ (a : Answer). Bound (held t j) (answered source a (drawn j w t))) given start)
+            let start : BindsNext (held t j) (answered source (answer.Object x.0) (drawn j w t)) = subst (λ l. BindsNext l (answered source (answer.Object x.0) (drawn j w t))) (sym n.last) (law_told.bound source n.before x.0 (drawn j w t) (drawn_bound t x.0 x.1 n)) in
+            law_rides.bound source (held t j) (answered source d.given (drawn j w t)) s (left opts j t) n' asked d.rides (all p t d.runs) (subst (λ (a : Answer). BindsNext (held t j) (answered source a (drawn j w t))) given start)
 
 -- what a request leaves to do
 behind_plain : (ks : List ℕ) (r : Request) (s : State) → is_making r ≡ false → HasAsked ks r s → plain s.run.control ≡ true
@@ -235,7 +235,7 @@ module _ (source : Source) (input : List ℕ) (opts : Options) (j : Journal) (w 
     after = world_after source (act opts source.sites input j p t n asked) w t s
 
     x : HasAsked (held t j) asked.request s
-    x = asks_settled source input opts j w runs going rests all d
+    x = asks_holding source input opts j w runs going rests all d
 
     made_by : Makes j a t
     made_by = makes opts source.sites input j p t n asked runs m on

@@ -56,18 +56,18 @@ LawAlive =
     (opts : Options) (sites : List Site) (input : List ℕ) (j : Journal) → KernelRuns opts sites input j → is_over j ≡ false → (p t : ℕ) → running p j ≡ t ∷ [] → has_ended t j ≡ false
 
 -- a task that has not ended by an act behind which the run goes on asked neither its end nor a fault
-pub record GoesOn (asked : Asked) : Type 0 where
+pub record AsksToGoOn (asked : Asked) : Type 0 where
   pub no_end : asked.request ≡ ask.End → ⊥
   pub no_fault : (n : ℕ) → asked.request ≡ ask.Fault n → ⊥
 
 abbrev pub LawEnds : Type 0
 LawEnds =
-    (opts : Options) (sites : List Site) (input : List ℕ) (j : Journal) (p t k : ℕ) (asked : Asked) → is_over (j ++ act opts sites input j p t k asked) ≡ false → has_ended t (j ++ act opts sites input j p t k asked) ≡ false → GoesOn asked
+    (opts : Options) (sites : List Site) (input : List ℕ) (j : Journal) (p t k : ℕ) (asked : Asked) → is_over (j ++ act opts sites input j p t k asked) ≡ false → has_ended t (j ++ act opts sites input j p t k asked) ≡ false → AsksToGoOn asked
 
 -- of runs of programs
 
 -- a task of the program asks
-pub record Asking (source : Source) (opts : Options) (j : Journal) (t n : ℕ) (s : State) (asked : Asked) : Type 0 where
+pub record AsksWith (source : Source) (opts : Options) (j : Journal) (t n : ℕ) (s : State) (asked : Asked) : Type 0 where
   -- with just the objects in hand that it is inside, in the order in which it entered them
   pub hand : keys s.env.hand ≡ held t j
   pub form : HasForm asked.request
@@ -77,17 +77,17 @@ pub record Asking (source : Source) (opts : Options) (j : Journal) (t n : ℕ) (
 
 abbrev pub LawHand : Type 0
 LawHand =
-    (source : Source) (input : List ℕ) (opts : Options) (j : Journal) (w : World) (r : Runs source input opts j w) → InRange opts → RunFits source input opts j w r → is_over j ≡ false → (p t n : ℕ) (s : State) (asked : Asked) → AsksIn source opts j w p t n s asked → Asking source opts j t n s asked
+    (source : Source) (input : List ℕ) (opts : Options) (j : Journal) (w : World) (r : Runs source input opts j w) → InRange opts → RunFits source input opts j w r → is_over j ≡ false → (p t n : ℕ) (s : State) (asked : Asked) → AsksIn source opts j w p t n s asked → AsksWith source opts j t n s asked
 
 -- members that are at home somewhere
-pub record IsHome (x : Option Members) : Type 0 where
+pub record IsAtHome (x : Option Members) : Type 0 where
   pub members : Members
   pub is : x ≡ Some members
 
 -- what is at home in the world that a journal leaves
 pub record Homes (j : Journal) (w : World) : Type 0 where
   -- each object that is made and not gone, but for one that a task has just made
-  pub there : (o : ℕ) → has (made j) o ≡ true → IsHome (w.homes o) ⊎ ((t : ℕ) × (just_made t j ≡ o ∷ []))
+  pub there : (o : ℕ) → has (made j) o ≡ true → IsAtHome (w.homes o) ⊎ ((t : ℕ) × (just_made t j ≡ o ∷ []))
   pub new : (t o : ℕ) → just_made t j ≡ o ∷ [] → w.homes o ≡ None
   pub gone : (o : ℕ) → has (made j) o ≡ false → w.homes o ≡ None
 

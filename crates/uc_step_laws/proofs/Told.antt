@@ -7,7 +7,7 @@ use Rattle.uc_machine.specs.Quiet.{State, Todo, Members, zeros}
 use Rattle.uc_machine.specs.Pieces as piece
 use Rattle.uc_machine.specs.Answering.{answered, entered, new_members, with_operand}
 use Rattle.uc_step_laws.specs.Hands.{keys}
-use Rattle.uc_step_laws.specs.Settled.{plain, Binds, PlainParked, PlainHand, Settled, Bound}
+use Rattle.uc_step_laws.specs.Holding.{plain, Binds, PlainParked, PlainHand, Holding, BindsNext}
 use Rattle.uc_step_laws.specs.StepLaws.{LawTold}
 
 keys_more : (hand : List (ℕ × Members)) (o : ℕ) (m : Members) → keys (hand ++ (o, m) ∷ []) ≡ keys hand ++ o ∷ []
@@ -33,20 +33,20 @@ plain_none source [] h = refl
 plain_none source (piece.BindMadeNow c r ∷ todo) h = cc
 plain_none source (p ∷ todo) h = refl
 
-told_settled : (ks : List ℕ) (source : Source) (given : Answer) (s : State) → Settled ks s → Settled ks (answered source given s)
-told_settled ks source (answer.Object o) s h =
-    subst (λ x. Settled ks (with_operand (piece.Object o) (entered x o s))) (sym (plain_none source s.run.control h.control)) (record { control = h.control; callers = h.callers; env = h.env })
-told_settled ks source (answer.Number n) s h = record { control = h.control; callers = h.callers; env = h.env }
-told_settled ks source (answer.Value n failed) s h = record { control = h.control; callers = h.callers; env = h.env }
-told_settled ks source (answer.Clause k failed) s h = record { control = h.control; callers = h.callers; env = h.env }
-told_settled ks source (answer.Event n x y) s h = record { control = h.control; callers = h.callers; env = h.env }
-told_settled ks source answer.Nothing s h = record { control = h.control; callers = h.callers; env = h.env }
-told_settled ks source answer.Go s h = h
+told_holding : (ks : List ℕ) (source : Source) (given : Answer) (s : State) → Holding ks s → Holding ks (answered source given s)
+told_holding ks source (answer.Object o) s h =
+    subst (λ x. Holding ks (with_operand (piece.Object o) (entered x o s))) (sym (plain_none source s.run.control h.control)) (record { control = h.control; callers = h.callers; env = h.env })
+told_holding ks source (answer.Number n) s h = record { control = h.control; callers = h.callers; env = h.env }
+told_holding ks source (answer.Value n failed) s h = record { control = h.control; callers = h.callers; env = h.env }
+told_holding ks source (answer.Clause k failed) s h = record { control = h.control; callers = h.callers; env = h.env }
+told_holding ks source (answer.Event n x y) s h = record { control = h.control; callers = h.callers; env = h.env }
+told_holding ks source answer.Nothing s h = record { control = h.control; callers = h.callers; env = h.env }
+told_holding ks source answer.Go s h = h
 
-told_bound : (ks : List ℕ) (source : Source) (o : ℕ) (s : State) → Bound ks s → Bound (ks ++ o ∷ []) (answered source (answer.Object o) s)
+told_bound : (ks : List ℕ) (source : Source) (o : ℕ) (s : State) → BindsNext ks s → BindsNext (ks ++ o ∷ []) (answered source (answer.Object o) s)
 told_bound ks source o s h =
     let b = binds_new source s.run.control h.control in
-    subst (λ x. Bound (ks ++ o ∷ []) (with_operand (piece.Object o) (entered x o s))) (sym b.is) (record {
+    subst (λ x. BindsNext (ks ++ o ∷ []) (with_operand (piece.Object o) (entered x o s))) (sym b.is) (record {
       control = h.control;
       callers = h.callers;
       env = record {
@@ -58,4 +58,4 @@ told_bound ks source o s h =
     })
 
 pub law_told : LawTold
-law_told = record { settled = λ source ks given s h. told_settled ks source given s h; bound = λ source ks o s h. told_bound ks source o s h }
+law_told = record { settled = λ source ks given s h. told_holding ks source given s h; bound = λ source ks o s h. told_bound ks source o s h }

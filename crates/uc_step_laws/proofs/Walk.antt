@@ -19,18 +19,18 @@ use Rattle.uc_machine.specs.Pieces as piece
 use Rattle.uc_machine.specs.Pieces.{Value, Todo, State, Step, Goes, Ticks, Asks, at, top, below, number}
 use Rattle.uc_machine.specs.Rides as rides
 use Rattle.uc_machine.specs.Rides.{Rides}
-use Rattle.uc_step_laws.specs.Settled.{plain, Binds, PlainRuns, SettledEnv, Settled, Behind, HasAsked, StepSettled, Bound}
+use Rattle.uc_step_laws.specs.Holding.{plain, Binds, PlainRuns, HoldingEnv, Holding, ToDoBehind, HasAsked, StepHolding, BindsNext}
 use Rattle.uc_step_laws.specs.StepLaws.{LawSteps, LawRides}
-use Rattle.uc_step_laws.proofs.Kept.{either, plain_tail, like, owned_settled, enlivened_settled, forgotten_settled, take_down_settled, wake_settled, suspend_settled, finish_settled}
+use Rattle.uc_step_laws.proofs.Kept.{either, plain_tail, like, owned_holding, enlivened_holding, forgotten_holding, take_down_holding, wake_holding, suspend_holding, finish_holding}
 use Rattle.uc_step_laws.proofs.Steps as steps
 
 module _ (ks : List ℕ) (source : Source) where
-  module _ (s : State) (callers : PlainRuns s.callers) (env : SettledEnv ks s.env) where
-    go : (todo : List Todo) (vs : List Value) → plain todo ≡ true → Settled ks (at todo vs s)
+  module _ (s : State) (callers : PlainRuns s.callers) (env : HoldingEnv ks s.env) where
+    go : (todo : List Todo) (vs : List Value) → plain todo ≡ true → Holding ks (at todo vs s)
     go = steps.go ks s callers env
 
     -- one piece, with what is to do behind it
-    acts : (p : Todo) (todo : List Todo) → plain todo ≡ true → plain s.run.control ≡ true → StepSettled ks (quiet.act source p todo s)
+    acts : (p : Todo) (todo : List Todo) → plain todo ≡ true → plain s.run.control ≡ true → StepHolding ks (quiet.act source p todo s)
     acts (piece.Eval a) todo h c = steps.eval ks s callers env a todo h
     acts (piece.ElementNow n k) todo h c = steps.element ks s callers env k _ todo _ _ h
     acts piece.NegateNow todo h c = steps.outcome ks s callers env _ todo _ h
@@ -53,7 +53,7 @@ module _ (ks : List ℕ) (source : Source) where
     acts piece.GatherNow todo h c = steps.go_in ks s callers env _ _ _ h (record { keys_are = env.keys_are; house = env.house; hand = env.hand; few = omega arith })
     acts piece.FlushNow todo h c = steps.flushes ks s callers env s.env.gathered todo _ refl h
     acts (piece.ReadNow f) todo h c = record { control = h; callers = callers; env = env; form = steps.form_small f }
-    acts (piece.ClearNow k n) todo h c = steps.go_in ks s callers env _ _ _ h (owned_settled ks (piece.this_frame s) (values_cleared k n piece.nought) s.env env)
+    acts (piece.ClearNow k n) todo h c = steps.go_in ks s callers env _ _ _ h (owned_holding ks (piece.this_frame s) (values_cleared k n piece.nought) s.env env)
     acts (piece.Items []) todo h c = go _ _ h
     acts (piece.Items (src.Show f e ∷ is)) todo h c = go _ _ h
     acts (piece.Items (src.ShowText k ∷ is)) todo h c = go _ _ h
@@ -78,12 +78,12 @@ module _ (ks : List ℕ) (source : Source) where
     acts piece.ThrowNow todo h c = steps.throws ks s callers env (raising.event_in s.run.operands) todo h
     acts piece.RaiseNow todo h c = steps.handles ks s callers env _ (raising.event_in s.run.operands) todo h
     acts (piece.SetUpNow r) todo h c = steps.set_up ks s callers env (slice_get source.routines r) todo h
-    acts piece.EnlivenNow todo h c = steps.go_in ks s callers env _ _ _ h (enlivened_settled ks _ s.env env)
-    acts piece.TakeDownNow todo h c = steps.moved ks s callers env _ todo _ h (take_down_settled ks (piece.own_exec s) (at todo s.run.operands s) (go _ _ h))
-    acts piece.ForgetNow todo h c = steps.go_in ks s callers env _ _ _ h (forgotten_settled ks _ s.env env)
+    acts piece.EnlivenNow todo h c = steps.go_in ks s callers env _ _ _ h (enlivened_holding ks _ s.env env)
+    acts piece.TakeDownNow todo h c = steps.moved ks s callers env _ todo _ h (take_down_holding ks (piece.own_exec s) (at todo s.run.operands s) (go _ _ h))
+    acts piece.ForgetNow todo h c = steps.go_in ks s callers env _ _ _ h (forgotten_holding ks _ s.env env)
     acts (piece.LiveNow r) todo h c = steps.live ks s callers env (slice_get source.routines r) todo h
-    acts piece.ResumeNow todo h c = steps.moved ks s callers env _ (piece.Land ∷ todo) _ h (wake_settled ks (quiet.resumed s) (at (piece.Land ∷ todo) s.run.operands s) (go _ _ h))
-    acts piece.SuspendNow todo h c = steps.moved ks s callers env _ (piece.Land ∷ todo) _ h (suspend_settled ks (at (piece.Land ∷ todo) s.run.operands s) (go _ _ h))
+    acts piece.ResumeNow todo h c = steps.moved ks s callers env _ (piece.Land ∷ todo) _ h (wake_holding ks (quiet.resumed s) (at (piece.Land ∷ todo) s.run.operands s) (go _ _ h))
+    acts piece.SuspendNow todo h c = steps.moved ks s callers env _ (piece.Land ∷ todo) _ h (suspend_holding ks (at (piece.Land ∷ todo) s.run.operands s) (go _ _ h))
     acts piece.Land todo h c = steps.land ks s callers env s.run.raised todo h
     acts (piece.EnterNow m r) todo h c = steps.enter ks s callers env m (slice_get source.routines r) todo h
     acts piece.LeaveNow todo h c = steps.leave ks s callers env _ (monitors.this_object s) todo h
@@ -118,34 +118,34 @@ module _ (ks : List ℕ) (source : Source) where
     acts piece.PollNow todo h c = steps.poll ks s callers env todo h
     acts piece.DeliverNow todo h c = steps.deliver ks s callers env _ todo h
     acts piece.Finish todo h c = steps.unless ks s callers env s.env.own _ todo h (steps.returned ks s callers env _ s.callers callers c)
-    acts piece.FinishCoroutine todo h c = steps.moved ks s callers env _ todo _ h (finish_settled ks (at todo s.run.operands s) (go _ _ h))
+    acts piece.FinishCoroutine todo h c = steps.moved ks s callers env _ todo _ h (finish_holding ks (at todo s.run.operands s) (go _ _ h))
     acts p todo h c = go _ _ h
 
-  pub walk : (s : State) → Settled ks s → StepSettled ks (quiet.quiet source s)
+  pub walk : (s : State) → Holding ks s → StepHolding ks (quiet.quiet source s)
   walk s h = by s.run.control refl
     where
-      by : (l : List Todo) → s.run.control ≡ l → StepSettled ks (quiet.act_todo source l s)
+      by : (l : List Todo) → s.run.control ≡ l → StepHolding ks (quiet.act_todo source l s)
       by [] e = steps.returned ks s h.callers h.env _ s.callers h.callers h.control
       by (p ∷ todo) e = acts s h.callers h.env p todo (plain_tail p todo (ap plain (sym e) ∙ h.control)) h.control
 
-  pub walk_bound : (s : State) → Bound ks s → StepSettled ks (quiet.quiet source s)
+  pub walk_bound : (s : State) → BindsNext ks s → StepHolding ks (quiet.quiet source s)
   walk_bound s h = by s.run.control h.control
     where
-      by : (l : List Todo) → Binds l → StepSettled ks (quiet.act_todo source l s)
+      by : (l : List Todo) → Binds l → StepHolding ks (quiet.act_todo source l s)
       by (piece.BindMadeNow k r ∷ todo) b = steps.bind ks s h.callers h.env (slice_get source.routines r) todo b
       by l b = absurd b
 
-  pub rides_settled : {s u : State} {q k : ℕ} {a : Asked} → Rides source s q u k a → Settled ks s → HasAsked ks a.request u
-  rides_settled rides.slices h = record { control = h.control; callers = h.callers; env = h.env; form = tt }
-  rides_settled (rides.goes_on {s} {t} e r) h = rides_settled r (subst (StepSettled ks) e (walk s h))
-  rides_settled (rides.ticks {s} {t} e r) h = rides_settled r (subst (StepSettled ks) e (walk s h))
-  rides_settled (rides.asks {s} {t} e) h = subst (StepSettled ks) e (walk s h)
+  pub rides_holding : {s u : State} {q k : ℕ} {a : Asked} → Rides source s q u k a → Holding ks s → HasAsked ks a.request u
+  rides_holding rides.slices h = record { control = h.control; callers = h.callers; env = h.env; form = tt }
+  rides_holding (rides.goes_on {s} {t} e r) h = rides_holding r (subst (StepHolding ks) e (walk s h))
+  rides_holding (rides.ticks {s} {t} e r) h = rides_holding r (subst (StepHolding ks) e (walk s h))
+  rides_holding (rides.asks {s} {t} e) h = subst (StepHolding ks) e (walk s h)
 
-  pub rides_bound : {s u : State} {q k : ℕ} {a : Asked} → Rides source s q u k a → 1 ≤ q → Bound ks s → HasAsked ks a.request u
+  pub rides_bound : {s u : State} {q k : ℕ} {a : Asked} → Rides source s q u k a → 1 ≤ q → BindsNext ks s → HasAsked ks a.request u
   rides_bound rides.slices le h = absurd (omega arith)
-  rides_bound (rides.goes_on {s} {t} e r) le h = rides_settled r (subst (StepSettled ks) e (walk_bound s h))
-  rides_bound (rides.ticks {s} {t} e r) le h = rides_settled r (subst (StepSettled ks) e (walk_bound s h))
-  rides_bound (rides.asks {s} {t} e) le h = subst (StepSettled ks) e (walk_bound s h)
+  rides_bound (rides.goes_on {s} {t} e r) le h = rides_holding r (subst (StepHolding ks) e (walk_bound s h))
+  rides_bound (rides.ticks {s} {t} e r) le h = rides_holding r (subst (StepHolding ks) e (walk_bound s h))
+  rides_bound (rides.asks {s} {t} e) le h = subst (StepHolding ks) e (walk_bound s h)
 
 -- the ticks of a ride: fewer than there may be, where it ends before the last
 pub ride_within : {source : Source} {s u : State} {q k : ℕ} {a : Asked} → Rides source s q u k a → k ≤ q
@@ -165,7 +165,7 @@ law_steps = record { settled = λ source ks s h. walk ks source s h; bound = λ 
 
 pub law_rides : LawRides
 law_rides = record {
-  settled = λ source ks s u q k a r h. rides_settled ks source r h;
+  settled = λ source ks s u q k a r h. rides_holding ks source r h;
   bound = λ source ks s u q k a r le h. rides_bound ks source r le h;
   within = λ source s u q k a r. ride_within r;
   early = λ source s u q k a r n. ride_early r n;

@@ -1,3 +1,3 @@
 pub mod Hands
-pub mod Settled
+pub mod Holding
 pub mod StepLaws

@@ -1,4 +1,4 @@
-use Rattle.uc_program_laws.proofs.ByHand.{law_by_hand}
+use Rattle.uc_program_laws.proofs.ByHandLemmas.{law_by_hand}
 use Rattle.uc_program_laws.proofs.laws.law_by_hand.Goals as goal
 
 pub returns : goal.returns

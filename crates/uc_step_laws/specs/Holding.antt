@@ -59,37 +59,37 @@ Few (Some ps) = length ps ≤ PRINT_ITEMS
 
 module _ (ks : List ℕ) where
   -- a task with these objects in hand, but for its running execution
-  pub record SettledEnv (e : Env) : Type 0 where
+  pub record HoldingEnv (e : Env) : Type 0 where
     pub keys_are : keys e.hand ≡ ks
     pub house : PlainParked e.house.parked
     pub hand : PlainHand e.hand
     pub few : Few e.gathered
 
   -- with it
-  pub record Settled (s : State) : Type 0 where
+  pub record Holding (s : State) : Type 0 where
     pub control : plain s.run.control ≡ true
     pub callers : PlainRuns s.callers
-    pub env : SettledEnv s.env
+    pub env : HoldingEnv s.env
 
   -- the same, where what was made is bound next
-  pub record Bound (s : State) : Type 0 where
+  pub record BindsNext (s : State) : Type 0 where
     pub control : Binds s.run.control
     pub callers : PlainRuns s.callers
-    pub env : SettledEnv s.env
+    pub env : HoldingEnv s.env
 
   -- what is to do behind a request
-  abbrev pub Behind : Request → List Todo → Type 0
-  Behind (ask.Make c) todo = Binds todo
-  Behind r todo = plain todo ≡ true
+  abbrev pub ToDoBehind : Request → List Todo → Type 0
+  ToDoBehind (ask.Make c) todo = Binds todo
+  ToDoBehind r todo = plain todo ≡ true
 
   -- a task that has asked this
   pub record HasAsked (r : Request) (s : State) : Type 0 where
-    pub control : Behind r s.run.control
+    pub control : ToDoBehind r s.run.control
     pub callers : PlainRuns s.callers
-    pub env : SettledEnv s.env
+    pub env : HoldingEnv s.env
     pub form : HasForm r
 
-  abbrev pub StepSettled : Step → Type 0
-  StepSettled (Goes s) = Settled s
-  StepSettled (Ticks s) = Settled s
-  StepSettled (Asks r s) = HasAsked r s
+  abbrev pub StepHolding : Step → Type 0
+  StepHolding (Goes s) = Holding s
+  StepHolding (Ticks s) = Holding s
+  StepHolding (Asks r s) = HasAsked r s
