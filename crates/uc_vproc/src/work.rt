@@ -210,10 +210,6 @@ fn turn<R: Wait, G: Gate>(
     ensures same { IsReady lock.now seat.new × IsSame seat.old seat.new }
     ensures came { HasCome lock.now seat.new result }
 {
-    if handed.given.left == 0 {
-        give_up(rt, lock, seat);
-        return Step::Over;
-    }
     match go(alloc, code, gate, dispatches, handed) {
         Ok(back) => bring(rt, lock, seat, back),
         Err(_) => {

@@ -4,7 +4,7 @@ use Rattle.uc_lock.specs.Journals.{Extends}
 use Rattle.uc_vproc.specs.Makers.{Log, paired}
 use Rattle.uc_vproc.specs.Desks.{Table, key_from, Came, Saw, Brings}
 use Rattle.uc_vproc.proofs.Turns.{noted, fits_room, keeps_on, logs_on, comes_on}
-use Rattle.uc_vproc.proofs.Acts.{in_hand, put_on}
+use Rattle.uc_vproc.proofs.Acts.{in_hand, in_time, put_on}
 use Rattle.uc_vproc.proofs.desk.Desk.act.Goals as goal
 
 pub put-step-requires-clause-hand : goal.put-step-requires-clause-hand
@@ -18,6 +18,18 @@ put-step-requires-clause-hand c =
     let registry = c.self.inside.registry in
     let br = subst (λ (x : Table). (seen : Log) × Saw n seen x.log × Brings x.code n seen c.args.back) (sym c.self.view_is) c.requires.brings in
     in_hand code main k ns room n registry c.self.invariant c.args.back br.0 br.1 br.2
+
+pub put-step-requires-clause-within : goal.put-step-requires-clause-within
+put-step-requires-clause-within c =
+    let code = c.self.inside.code.value in
+    let main = c.self.inside.main in
+    let k = kept c.self.inside.kernel in
+    let ns = c.self.inside.notes.items in
+    let room = vec_capacity c.self.inside.notes in
+    let n = c.args.maker in
+    let registry = c.self.inside.registry in
+    let br = subst (λ (x : Table). (seen : Log) × Saw n seen x.log × Brings x.code n seen c.args.back) (sym c.self.view_is) c.requires.brings in
+    in_time code main k ns room n registry c.self.invariant c.args.back br.0 br.1 br.2
 
 pub put-step-requires-clause-runs : goal.put-step-requires-clause-runs
 put-step-requires-clause-runs c = c.self.invariant.runs
