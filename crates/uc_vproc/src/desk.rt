@@ -12,6 +12,7 @@ ghost use Rattle.uc_vproc.specs.Makers.{Log};
 ghost use Rattle.uc_vproc.specs.Rest.{IsSource, IsTask};
 ghost use Rattle.uc_vproc.specs.Desks.{key_from, no_fields, IsOpened, Came, Saw, Brings, EndsAs};
 
+use crate::parcel::Parcel;
 use crate::put::{hand_out, put};
 use crate::registry::{Registry, opening};
 use crate::step::Step;
@@ -22,7 +23,6 @@ use std::snapshot::Snapshot;
 use uc_code::code::Code;
 use uc_entry::entry::{Entry, Options};
 use uc_frames::members::Members;
-use uc_frames::task::Task;
 use uc_kernel::given::{Back, Shape};
 use uc_kernel::kernel::Kernel;
 use uc_lock::Journaled;
@@ -69,7 +69,7 @@ impl Note {
 /// again each time that it is taken.
 #[derive(Drop)]
 pub struct Desk {
-    kernel: Box<Kernel<Option<Task>, Members>>,
+    kernel: Box<Kernel<Option<Parcel>, Members>>,
     notes: Vec<Note>,
     registry: Registry,
     code: Snapshot<Code>,
@@ -108,7 +108,7 @@ impl Desk {
         shape: Shape,
         opts: Options,
         input: Vec<u8>,
-        first: Task,
+        first: Parcel,
         own: Members,
     ) -> Result<Desk, AllocError>
         requires options { InRange opts }
@@ -147,7 +147,7 @@ impl Desk {
     }
 
     /// The act of what a worker brings from a ride. Where it may not be taken, or memory is wanting, the run is abandoned.
-    pub fn act(&mut self, maker: u32, back: Back<Option<Task>, Members>) -> Step
+    pub fn act(&mut self, maker: u32, back: Back<Option<Parcel>, Members>) -> Step
         requires brings { (seen : Log) × Saw maker seen self.old.log × Brings self.old.code maker seen back }
         ensures key { key_from self.new ≡ key_from self.old }
         ensures log { Extends maker self.old.log self.new.log }
