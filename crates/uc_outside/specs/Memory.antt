@@ -28,9 +28,9 @@ pub record ListedStore : Type 0 where
 -- such a store is stored as its parts
 abbrev pub listed_store_code : Coded ListedStore
 listed_store_code =
-    code_by (ℕ × Files × ℕ × List ℕ)
+    code_by (ℕ × (Files × (ℕ × List ℕ)))
     (coded× coded_ℕ (coded× (map.code (coded_list coded_ℕ) (coded_list coded_ℕ)) (coded× coded_ℕ (coded_list coded_ℕ))))
-    (λ s. (s.count, s.files, s.reads, s.fails)) (λ p. record { count = p.0; files = p.1; reads = p.2; fails = p.3 }) (λ _. refl)
+    (λ s. (s.count, (s.files, (s.reads, s.fails)))) (λ p. record { count = p.0; files = p.1.0; reads = p.1.1.0; fails = p.1.1.1 }) (λ _. refl)
 
 -- it tells its files, but is not steady
 abbrev pub store_of : ListedStore → StoreState

@@ -43,8 +43,15 @@ impl MemSink {
         most: usize,
     ) -> Result<MemSink, AllocError>
         requires { 0 < most }
-        ensures { IfOk result (λ s. s ≡ record { count = 0; held = []; left = room; puts = 0;
-            fails = fail.items; most = most; failing = false }) }
+        ensures { IfOk result (λ s. s ≡ record {
+          count = 0;
+          held = [];
+          left = room;
+          puts = 0;
+          fails = fail.items;
+          most = most;
+          failing = false;
+        }) }
     {
         let bytes = Vec::with_capacity(alloc, room)?;
         Ok(MemSink {

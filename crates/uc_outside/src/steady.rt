@@ -1,5 +1,5 @@
 // A store of files in memory.
-ghost use Rattle.std.specs.Prelude.{◌≡◌, ◌+◌, min, option_copied};
+ghost use Rattle.std.specs.Prelude.{◌≡◌, ◌+◌, ◌≤◌, min, option_copied};
 ghost use Rattle.uc_outside.specs.Faults.{count_limit};
 ghost use Rattle.uc_outside.specs.Reading.{file_of};
 ghost use Rattle.uc_outside.specs.Told.{files_of};
@@ -37,7 +37,9 @@ impl SteadyStore {
     /// Counts one more failed read.
     pub(crate) fn refuse(&mut self) -> StoreFault
         ensures fault { result ≡ StoreFault.Failed }
-        ensures counts { self.new ≡ record self.old { count = min (self.old.count + 1) count_limit } }
+        ensures count { self.new.count ≡ min (self.old.count + 1) count_limit }
+        ensures never_falls { self.old.count ≤ self.new.count }
+        ensures same_files { self.new.files ≡ self.old.files }
     {
         self.faults = self.faults.saturating_add(1);
         StoreFault::Failed

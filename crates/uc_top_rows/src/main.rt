@@ -89,10 +89,7 @@ fn store_of(alloc: Global, row: &Row) -> Result<MemStore, AllocError> {
         String::from_str(alloc, "in")?,
         row.header.input.as_bytes().to_vec(alloc)?,
     ))?;
-    Ok(MemStore::new(
-        files,
-        vec![in alloc; row.header.failing_read]?,
-    ))
+    Ok(MemStore::new(files, vec![in alloc; row.header.failing_read]?))
 }
 
 fn words_of(alloc: Global, row: &Row) -> Result<Vec<String>, AllocError> {
