@@ -1,0 +1,6 @@
+pub mod Sure
+pub mod Enclosed
+pub mod Levels
+pub mod Expressions
+pub mod Statements
+pub mod Programs

@@ -1,0 +1,4 @@
+pub mod ExpressionNesting
+pub mod StatementNesting
+pub mod Nesting
+pub mod Laws
