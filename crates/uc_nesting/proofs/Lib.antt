@@ -4,3 +4,4 @@ pub mod Levels
 pub mod Expressions
 pub mod Statements
 pub mod Programs
+pub mod Computed

@@ -1,5 +1,5 @@
 -- The laws of the measure, and samples of it.
-use Rattle.std.specs.Prelude.{◌≡◌, ℕ, ◌+◌, ◌≤◌, List, length}
+use Rattle.std.specs.Prelude.{◌≡◌, ℕ, ◌+◌, ◌≤◌, List, ◌++◌, length, codes}
 use Rattle.uc_tree.specs.declared.limits.TheConstants.{NESTING}
 use Rattle.uc_tree.specs.declared.token.Token.{Token}
 use Rattle.uc_tree.specs.Expressions.{Expr}
@@ -7,7 +7,7 @@ use Rattle.uc_tree.specs.Statements.{Stmt}
 use Rattle.uc_tree.specs.Programs.{Program}
 use Rattle.uc_grammar.specs.Form.{Form, Spells}
 use Rattle.uc_grammar.specs.Grammar.{inner}
-use Rattle.uc_grammar.specs.Samples.{plain}
+use Rattle.uc_grammar.specs.Samples.{plain, times}
 use Rattle.uc_grammar.specs.Text.{IsExpr, IsStmt, IsProgram}
 use Rattle.uc_nesting.specs.ExpressionNesting.{expr_nesting}
 use Rattle.uc_nesting.specs.StatementNesting.{stmt_nesting}
@@ -28,7 +28,24 @@ ProgramWithin = (n : ℕ) (ts : List Token) (from to : ℕ) (p : Program) → Is
 abbrev pub ParsedWithin : Type 0
 ParsedWithin = (ts : List Token) (p : Program) → IsProgram NESTING ts 0 (length ts) p → nesting p ≤ NESTING
 
--- The whole text is a piece of the form, whose tree measures n.
+-- Samples.
+
+-- a statement with the level that it is itself
+abbrev pub stmt_levels : Stmt → ℕ
+stmt_levels s = stmt_nesting s + 1
+
+-- a routine whose body is so many blocks, each in the one before, with a statement in the last
+abbrev pub blocks : ℕ → List ℕ
+blocks n = codes "void f() " ++ times n 123 ++ codes ";" ++ times n 125
+
+-- The whole text is a piece of the form within n levels, and so many has its tree: since no tree has more than its text,
+-- text and tree nest just n deep.
+pub record Nests {A : Type 0} (g : Form A) (measure : A → ℕ) (text : List ℕ) (n : ℕ) : Type 0 where
+  pub piece : A
+  pub spelled : Spells (inner n) g (plain text) 0 (length (plain text)) piece
+  pub levels : measure piece ≡ n
+
+-- The whole text is a piece of the form, whose tree has n levels.
 pub record Measures {A : Type 0} (g : Form A) (measure : A → ℕ) (text : List ℕ) (n : ℕ) : Type 0 where
   pub piece : A
   pub spelled : Spells (inner NESTING) g (plain text) 0 (length (plain text)) piece
