@@ -1,8 +1,7 @@
 -- Heads that name a base: what is taken out of them, and that they are what the grammar spells.
-use Rattle.std.proofs.Common.{◌≡◌, ℕ, ◌+◌, ◌-◌, ◌<◌, ◌≤◌, ◌⊎◌, List, Bool, true, false, Option, Some, None, refl, sym, ◌∙◌, ap, subst, inl, inr, arith}
+use Rattle.std.proofs.Common.{◌≡◌, ℕ, ◌+◌, ◌-◌, ◌<◌, ◌≤◌, ◌⊎◌, List, true, false, Option, Some, None, refl, sym, ◌∙◌, ap, subst, inl, inr, arith}
 use Rattle.std.specs.Prelude.{nat_le, ◌&&◌, ◌||◌}
 use Rattle.std.proofs.lemmas.Bool.{or_cases, or_left, or_right, and_parts, and_from, leb-true, le-leb, cases_eq, cases_Bool, false≢true}
-use Rattle.uc_tree.specs.declared.pos.Pos.{Pos}
 use Rattle.uc_tree.specs.declared.kinds.Kind.{Kind}
 use Rattle.uc_tree.specs.declared.kinds.Kind.TheVariants as kind
 use Rattle.uc_tree.specs.declared.token.Token.{Token}
@@ -10,7 +9,6 @@ use Rattle.uc_tree.specs.declared.token.TokenKind.{TokenKind}
 use Rattle.uc_tree.specs.declared.token.TokenKind.TheVariants as token
 use Rattle.uc_tree.specs.declared.token.Word.{Word}
 use Rattle.uc_tree.specs.declared.token.Word.TheVariants as word
-use Rattle.uc_tree.specs.declared.token.Sign.{Sign}
 use Rattle.uc_tree.specs.declared.token.Sign.TheVariants as sign
 use Rattle.uc_grammar.specs.Spell.{kind_at, pos_at}
 use Rattle.uc_grammar.specs.Form.{Spells}
@@ -42,11 +40,11 @@ pub taken_from : (ts : List Token) (i : ℕ) → is_in_base ts i ≡ true → Ar
 unfolding is_in_base
 taken_from ts i e =
     elim (or_cases (is_head_before ts i 2 || is_head_before ts i 3) (is_head_before ts i 4) e) [
-      inl e1 ↦ elim (or_cases (is_head_before ts i 2) (is_head_before ts i 3) e1) [
-        inl e2 ↦ around ts i 2 (omega arith) (omega arith) e2
-      | inr e3 ↦ around ts i 3 (omega arith) (omega arith) e3
+      | inl e1 ↦ elim (or_cases (is_head_before ts i 2) (is_head_before ts i 3) e1) [
+        | inl e2 ↦ around ts i 2 (omega arith) (omega arith) e2
+        | inr e3 ↦ around ts i 3 (omega arith) (omega arith) e3
       ]
-    | inr e4 ↦ around ts i 4 (omega arith) (omega arith) e4
+      | inr e4 ↦ around ts i 4 (omega arith) (omega arith) e4
     ]
 
 before_at : (ts : List Token) (k i back : ℕ) → is_head ts k ≡ true → i ≡ k + back → is_head_before ts i back ≡ true
@@ -58,18 +56,18 @@ before_at ts k i back h e =
 one_of_three : (k i : ℕ) → k + 2 ≤ i → i < k + 5 → (i ≡ k + 2) ⊎ ((i ≡ k + 3) ⊎ (i ≡ k + 4))
 one_of_three k i low high =
     elim (cases_eq i (k + 2)) [
-      inl e ↦ inl e
-    | inr no2 ↦ elim (cases_eq i (k + 3)) [ inl e ↦ inr (inl e) | inr no3 ↦ inr (inr (omega (arith, low, high, no2, no3))) ]
+      | inl e ↦ inl e
+      | inr no2 ↦ elim (cases_eq i (k + 3)) [ inl e ↦ inr (inl e) | inr no3 ↦ inr (inr (omega (arith, low, high, no2, no3))) ]
     ]
 
 pub taken : (ts : List Token) (i : ℕ) → Around ts i → is_in_base ts i ≡ true
 unfolding is_in_base
 taken ts i h =
     elim (one_of_three h.0 i h.2 h.3) [
-      inl e ↦ or_left (is_head_before ts i 2 || is_head_before ts i 3) (is_head_before ts i 4) (or_left (is_head_before ts i 2) (is_head_before ts i 3) (before_at ts h.0 i 2 h.1 e))
-    | inr more ↦ elim more [
-        inl e ↦ or_left (is_head_before ts i 2 || is_head_before ts i 3) (is_head_before ts i 4) (or_right (is_head_before ts i 2) (is_head_before ts i 3) (before_at ts h.0 i 3 h.1 e))
-      | inr e ↦ or_right (is_head_before ts i 2 || is_head_before ts i 3) (is_head_before ts i 4) (before_at ts h.0 i 4 h.1 e)
+      | inl e ↦ or_left (is_head_before ts i 2 || is_head_before ts i 3) (is_head_before ts i 4) (or_left (is_head_before ts i 2) (is_head_before ts i 3) (before_at ts h.0 i 2 h.1 e))
+      | inr more ↦ elim more [
+        | inl e ↦ or_left (is_head_before ts i 2 || is_head_before ts i 3) (is_head_before ts i 4) (or_right (is_head_before ts i 2) (is_head_before ts i 3) (before_at ts h.0 i 3 h.1 e))
+        | inr e ↦ or_right (is_head_before ts i 2 || is_head_before ts i 3) (is_head_before ts i 4) (before_at ts h.0 i 4 h.1 e)
       ]
     ]
 

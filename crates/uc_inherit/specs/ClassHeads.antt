@@ -1,6 +1,6 @@
 -- The heads of classes that name a base, `kind name ':' 'public' name '{'`, and the word `virtual`, at an index of the
 -- tokens of a text. The lexer gives `virtual` as a name, so it is told from names here.
-use Rattle.std.specs.Prelude.{ℕ, ◌+◌, ◌-◌, List, Bool, true, false, not, ◌&&◌, ◌||◌, Option, Some, None, nat_le, codes, if◌then◌else◌}
+use Rattle.std.specs.Prelude.{ℕ, ◌+◌, ◌-◌, List, Bool, true, false, not, ◌&&◌, ◌||◌, Option, Some, nat_le, codes, if◌then◌else◌}
 use Rattle.uc_tree.specs.declared.pos.Pos.{Pos}
 use Rattle.uc_tree.specs.declared.token.Token.{Token}
 use Rattle.uc_tree.specs.declared.token.TokenKind.{TokenKind}

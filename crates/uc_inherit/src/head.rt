@@ -4,7 +4,9 @@ ghost use Rattle.std.specs.Prelude.{◌≡◌, ◌+◌, ◌<◌, ◌^◌, None, 
 ghost use Rattle.uc_inherit.specs.ClassHeads as heads;
 ghost use Rattle.uc_inherit.specs.OpenedTokens as opened;
 
-use crate::peek::{ends_kind_at, is_brace_at, is_colon_at, is_mutex_at, is_name_at, is_public_at, may_be_mutex_at};
+use crate::peek::{
+    ends_kind_at, is_brace_at, is_colon_at, is_mutex_at, is_name_at, is_public_at, may_be_mutex_at,
+};
 use uc_parse_expr::peek::{kind_at, pos_at};
 use uc_tree::name::Name;
 use uc_tree::pos::Pos;
