@@ -18,7 +18,7 @@ use Rattle.uc_grammar.specs.Form.{Form, inside}
 use Rattle.uc_grammar.specs.Names.{right_name}
 use Rattle.uc_grammar.specs.Tables.{sign_of, unary_of, binary_of, assign_of, product_of, sum_of, comparison_of, equality_of, and_of, or_of}
 use Rattle.uc_grammar.specs.Grammar.{before, comma_list, chained, with_parts, name_form, primary_at, primary_form, arguments_form, closed_arguments, part_at, part_form, postfix_after, postfix_form, unary_by, unary_form, link_by, chain_after, product_after, product_form, sum_after, sum_form, comparison_after, comparison_form, equality_after, equality_form, and_after, and_form, or_after, assigned_by, right_after, right_form, expr_after, expr_form, expr_from, maybe_expr}
-use Rattle.uc_nesting.specs.ExpressionNesting.{primary, postfix, unary, product, sum, comparison, equality, conjunction, disjunction, assignment, operand_looseness, enclosed, looseness, levels_in, args_nesting, part_nesting, parts_nesting, link_nesting, links_nesting, nesting_at, expr_nesting, right_nesting}
+use Rattle.uc_nesting.specs.ExpressionNesting.{primary, postfix, unary, product, sum, comparison, equality, conjunction, disjunction, assignment, operand_looseness, sides_looseness, enclosed, looseness, levels_in, args_nesting, part_nesting, parts_nesting, link_nesting, links_nesting, nesting_at, expr_nesting, right_nesting}
 use Rattle.uc_nesting.specs.StatementNesting.{maybe_expr_nesting}
 use Rattle.uc_nesting.proofs.Sure.{Sure, Each, sure_nothing, sure_empty, sure_skip, sure_expect, sure_or, sure_look, sure_here, sure_bind, sure_apply, sure_many, sure_listed, sure_so, any_piece}
 use Rattle.uc_nesting.proofs.Enclosed.{none, enclosed_same, looser, bare, in_parentheses}
@@ -59,11 +59,17 @@ links_le : (r n : ℕ) (xs : List Link) → Each (LinkWithin r n) xs → links_n
 links_le r n [] h = none n
 links_le r n (x ∷ xs) h = max-le (link_le r n x h.0) (links_le r n xs h.1)
 
+sides_le : (r n : ℕ) (xs : List Link) → Each (LinkWithin r n) xs → sides_looseness (links_of xs) ≤ r
+sides_le r n [] h = none r
+sides_le r n (Linked own op right ∷ xs) h = max-le (omega (arith, h.0.0)) (sides_le r n xs h.1)
+
 linked : (r n : ℕ) (pos : Pos) (e : Expr) (xs : List Link) → At r n e → Each (LinkWithin r n) xs → At (r + 1) n (chained pos e xs)
 linked r n pos e [] w h = looser r (r + 1) n e (omega arith) w
 linked r n pos e (Linked own op right ∷ xs) w h =
-    let inner : max (nesting_at (operand_looseness op) e) (links_nesting (links_of (Linked own op right ∷ xs))) ≤ n = max-le (subst (λ k. nesting_at k e ≤ n) (sym h.0.0) w) (links_le r n (Linked own op right ∷ xs) h) in
-    subst (λ k. k ≤ n) (sym (enclosed_same (r + 1) (operand_looseness op + 1) _ (omega (arith, h.0.0)))) inner
+    let links = links_of (Linked own op right ∷ xs) in
+    let low : r ≤ sides_looseness links = omega (arith, h.0.0, le-max_left (operand_looseness op) (sides_looseness (links_of xs))) in
+    let inner : max (nesting_at (sides_looseness links) e) (links_nesting links) ≤ n = max-le (looser r (sides_looseness links) n e low w) (links_le r n (Linked own op right ∷ xs) h) in
+    subst (λ k. k ≤ n) (sym (enclosed_same (r + 1) (sides_looseness links + 1) _ (omega (arith, sides_le r n (Linked own op right ∷ xs) h)))) inner
 
 -- an assignment on the right of another, and what is none
 on_right : (n : ℕ) (e : Expr) → At disjunction n e → right_nesting e ≤ n

@@ -5,3 +5,5 @@ pub mod Expressions
 pub mod Statements
 pub mod Programs
 pub mod Computed
+pub mod DepthLemmas
+pub mod StatementDepths

@@ -54,10 +54,10 @@ operand_looseness binary.NotEqual = comparison
 operand_looseness binary.And = equality
 operand_looseness binary.Or = conjunction
 
--- what the operators of a chain take on their sides: they are all of one level
+-- what the loosest operator of a chain takes on its sides: in a chain that is parsed all are of one level
 abbrev pub sides_looseness : Links → ℕ
 sides_looseness NoLinks = primary
-sides_looseness (MoreLinks (Linked sign op right) rest) = operand_looseness op
+sides_looseness (MoreLinks (Linked sign op right) rest) = max (operand_looseness op) (sides_looseness rest)
 
 abbrev pub looseness : Expr → ℕ
 looseness (Number pos value) = primary

@@ -1,5 +1,5 @@
 -- The laws of the measure, and samples of it.
-use Rattle.std.specs.Prelude.{◌≡◌, ℕ, ◌+◌, ◌≤◌, List, ◌++◌, length, codes}
+use Rattle.std.specs.Prelude.{◌≡◌, ℕ, ◌+◌, ◌*◌, ◌≤◌, List, ◌++◌, length, codes}
 use Rattle.uc_tree.specs.declared.limits.TheConstants.{NESTING}
 use Rattle.uc_tree.specs.declared.token.Token.{Token}
 use Rattle.uc_tree.specs.Expressions.{Expr}
@@ -12,6 +12,7 @@ use Rattle.uc_grammar.specs.Text.{IsExpr, IsStmt, IsProgram}
 use Rattle.uc_nesting.specs.ExpressionNesting.{expr_nesting}
 use Rattle.uc_nesting.specs.StatementNesting.{stmt_nesting}
 use Rattle.uc_nesting.specs.Nesting.{nesting}
+use Rattle.uc_nesting.specs.Depth.{depth}
 
 -- What is spelled within n levels has a tree of at most n. A statement is itself a level.
 
@@ -27,6 +28,11 @@ ProgramWithin = (n : ℕ) (ts : List Token) (from to : ℕ) (p : Program) → Is
 -- So has what `parse` gives, by its clause `found`.
 abbrev pub ParsedWithin : Type 0
 ParsedWithin = (ts : List Token) (p : Program) → IsProgram NESTING ts 0 (length ts) p → nesting p ≤ NESTING
+
+-- No tree is deeper than eleven statements and expressions for each level, and as many once more: so many stand at most
+-- between two levels. Of every tree, also of one that no tokens spell.
+abbrev pub Shallow : Type 0
+Shallow = (p : Program) → depth p ≤ 11 * nesting p + 11
 
 -- Samples.
 

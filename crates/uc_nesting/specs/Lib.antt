@@ -1,4 +1,5 @@
+pub mod Depth
 pub mod ExpressionNesting
-pub mod StatementNesting
-pub mod Nesting
 pub mod Laws
+pub mod Nesting
+pub mod StatementNesting
