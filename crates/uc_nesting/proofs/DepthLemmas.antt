@@ -1,13 +1,13 @@
 -- Why a tree of few levels is not deep.
-use Rattle.std.proofs.Common.{◌≡◌, ℕ, ◌+◌, ◌*◌, ◌≤◌, List, [], ◌∷◌, Bool, true, false, Option, Some, None, refl, arith}
+use Rattle.std.proofs.Common.{◌≡◌, ℕ, ◌+◌, ◌*◌, ◌≤◌, Bool, true, false, refl, arith}
 use Rattle.std.proofs.Math.Nat.{max-le, le-max_left, le-max_right}
 use Rattle.std.specs.Prelude.{max, nat_le, if◌then◌else◌}
 use Rattle.std.proofs.lemmas.Bool.{leb-true}
 use Rattle.uc_tree.specs.declared.ops.BinaryOp.{BinaryOp}
 use Rattle.uc_tree.specs.declared.ops.BinaryOp.TheVariants as binary
-use Rattle.uc_tree.specs.Expressions.{Expr, Number, Character, Truth, Name, Cin, Postfix, Unary, Chain, Assign, Exprs, NoExprs, MoreExprs, Part, Field, Index, Call, Step, Parts, NoParts, MoreParts, Link, Linked, Links, NoLinks, MoreLinks}
-use Rattle.uc_nesting.specs.ExpressionNesting.{primary, unary, operand_looseness, sides_looseness, looseness, levels_in, args_nesting, part_nesting, parts_nesting, link_nesting, links_nesting, nesting_at, right_nesting}
-use Rattle.uc_nesting.specs.Depth.{expr_depth, exprs_depth, part_depth, parts_depth, link_depth, links_depth}
+use Rattle.uc_tree.specs.Expressions.{Expr, Number, Character, Truth, Name, Cin, Postfix, Unary, Chain, Assign, Exprs, NoExprs, MoreExprs, Part, Field, Index, Call, Step, Parts, NoParts, MoreParts, Linked, Links, NoLinks, MoreLinks}
+use Rattle.uc_nesting.specs.ExpressionNesting.{primary, unary, operand_looseness, sides_looseness, looseness, levels_in, args_nesting, part_nesting, parts_nesting, links_nesting, nesting_at, right_nesting}
+use Rattle.uc_nesting.specs.Depth.{expr_depth, exprs_depth, part_depth, parts_depth, links_depth}
 
 -- two ways that are not longer than what is allowed for the deeper one
 pub deeper_of : (c x y a b : ℕ) → a ≤ 11 * x + c → b ≤ 11 * y + c → max a b ≤ 11 * max x y + c
