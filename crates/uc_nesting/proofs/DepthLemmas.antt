@@ -33,7 +33,7 @@ sides_tight NoLinks = omega arith
 sides_tight (MoreLinks (Linked sign op right) rest) = max-le (operand_tight op) (sides_tight rest)
 
 -- of an expression, anywhere and on the right of an assignment
-pub record Shallow (e : Expr) : Type 0 where
+pub record IsShallow (e : Expr) : Type 0 where
   pub anywhere : expr_depth e ≤ 11 * levels_in e false + looseness e + 2
   pub right : expr_depth e ≤ 11 * levels_in e true + 10
   pub tight : looseness e ≤ 9
@@ -43,15 +43,15 @@ by_place true k own n d h tight g = let le : own ≤ k = h refl in omega (arith,
 by_place false k own n d h tight g = omega (arith, g, tight)
 
 -- where it stands at a place that allows only what is not looser
-pub in_place : (k : ℕ) (e : Expr) → Shallow e → expr_depth e ≤ 11 * nesting_at k e + (k + 2)
+pub in_place : (k : ℕ) (e : Expr) → IsShallow e → expr_depth e ≤ 11 * nesting_at k e + (k + 2)
 in_place k e h = by_place (nat_le (looseness e) k) k (looseness e) (levels_in e false) (expr_depth e) (λ t. leb-true (looseness e) k t) h.tight h.anywhere
 
 -- where any may stand
-pub whole : (e : Expr) → Shallow e → expr_depth e ≤ 11 * levels_in e false + 11
+pub whole : (e : Expr) → IsShallow e → expr_depth e ≤ 11 * levels_in e false + 11
 whole e h = omega (arith, h.anywhere, h.tight)
 
 mutual
-  pub shallow : (e : Expr) → Shallow e
+  pub shallow : (e : Expr) → IsShallow e
   shallow (Number pos value) = record { anywhere = omega arith; right = omega arith; tight = omega arith }
   shallow (Character pos byte) = record { anywhere = omega arith; right = omega arith; tight = omega arith }
   shallow (Truth pos value) = record { anywhere = omega arith; right = omega arith; tight = omega arith }
