@@ -31,10 +31,8 @@ pub fn is_head(tokens: &[Token], at: u32) -> bool
 #[tactic(auto, unfolding(crate::specs::OpenedTokens::base_name))]
 pub fn base_name(tokens: &[Token], at: u32) -> Option<&Name>
     requires few { length tokens.now < 2 ^ 32 }
-    ensures {
-        MatchOption result (opened.base_name tokens.now at ≡ None)
-            (λ n. opened.base_name tokens.now at ≡ Some n.now)
-    }
+    ensures { MatchOption result (opened.base_name tokens.now at ≡ None)
+        (λ n. opened.base_name tokens.now at ≡ Some n.now) }
 {
     if !is_head(tokens, at) {
         return None;
