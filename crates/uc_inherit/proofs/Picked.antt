@@ -6,7 +6,7 @@ use Rattle.uc_tree.specs.declared.pos.Pos.{Pos}
 use Rattle.uc_tree.specs.declared.token.Token.{Token}
 use Rattle.uc_grammar.specs.Spell.{kind_of, kind_at}
 use Rattle.uc_inherit.specs.ClassHeads.{is_virtual, is_head, first_place, is_head_before, is_in_base}
-use Rattle.uc_inherit.specs.OpenedTokens.{picked, is_taken_out, token_left, opened, name_of, base_name, base_noted, bases, place_behind, virtual_noted, virtuals}
+use Rattle.uc_inherit.specs.OpenedTokens.{picked, is_taken_out, left_at, tokens_left, name_of, base_name, base_noted, bases, place_behind, virtual_noted, virtuals}
 
 -- one index more
 pub one_more : {A : Type 0} (f : ℕ → Option A) (n : ℕ) (xs : List A) → xs ≡ picked f n → xs ++ option_to_list (f n) ≡ picked f (n + 1)
@@ -92,8 +92,8 @@ picks_kind : (o : Option Token) → is_virtual (kind_of o) ≡ false → Picks I
 picks_kind None e = tt
 picks_kind (Some t) e = e
 
-left_picks : (ts : List Token) (i : ℕ) → Picks IsLeft (token_left ts i)
-unfolding token_left
+left_picks : (ts : List Token) (i : ℕ) → Picks IsLeft (left_at ts i)
+unfolding left_at
 left_picks ts i = picks_left IsLeft (is_taken_out ts i) (slice_get ts i) (λ e. picks_kind (slice_get ts i) (or_parts (is_virtual (kind_at ts i)) (is_in_base ts i) e).0)
 
 each_at : (xs : List Token) (i : ℕ) → Each IsLeft xs → is_virtual (kind_of (slice_get xs i)) ≡ false
@@ -101,18 +101,18 @@ each_at [] i h = refl
 each_at (x ∷ xs) zero h = h.0
 each_at (x ∷ xs) (suc i) h = each_at xs i h.1
 
-pub no_virtual : (ts : List Token) (i : ℕ) → is_virtual (kind_at (opened ts) i) ≡ false
-unfolding opened
-no_virtual ts i = each_at (picked (token_left ts) (length ts)) i (each_picked IsLeft (token_left ts) (left_picks ts) (length ts))
+pub no_virtual : (ts : List Token) (i : ℕ) → is_virtual (kind_at (tokens_left ts) i) ≡ false
+unfolding tokens_left
+no_virtual ts i = each_at (picked (left_at ts) (length ts)) i (each_picked IsLeft (left_at ts) (left_picks ts) (length ts))
 
 -- What the code picks, by its tests.
 
-pub token_stays : (ts : List Token) (i : ℕ) (t : Token) → is_taken_out ts i ≡ false → slice_get ts i ≡ Some t → token_left ts i ≡ Some t
-unfolding token_left
+pub token_stays : (ts : List Token) (i : ℕ) (t : Token) → is_taken_out ts i ≡ false → slice_get ts i ≡ Some t → left_at ts i ≡ Some t
+unfolding left_at
 token_stays ts i t e is = other (is_taken_out ts i) None (slice_get ts i) e ∙ is
 
-pub token_goes : (ts : List Token) (i : ℕ) → is_taken_out ts i ≡ true → token_left ts i ≡ None
-unfolding token_left
+pub token_goes : (ts : List Token) (i : ℕ) → is_taken_out ts i ≡ true → left_at ts i ≡ None
+unfolding left_at
 token_goes ts i e = chosen (is_taken_out ts i) None (slice_get ts i) e
 
 base_there : (ts : List Token) (k : ℕ) (n : List ℕ) → base_name ts k ≡ Some n → base_noted ts k ≡ Some (first_place ts k, n)
@@ -146,9 +146,9 @@ module _ (ts : List Token) (plain : (i : ℕ) → is_virtual (kind_at ts i) ≡ 
   stays i = or_from (is_virtual (kind_at ts i)) (is_in_base ts i) (false_from_ne_true (is_virtual (kind_at ts i)) (plain i))
       (or_from (is_head_before ts i 2 || is_head_before ts i 3) (is_head_before ts i 4) (or_from (is_head_before ts i 2) (is_head_before ts i 3) (no_head i 2) (no_head i 3)) (no_head i 4))
 
-  pub left_as_it_is : opened ts ≡ ts
-  unfolding opened token_left
-  left_as_it_is = same_picked (token_left ts) (slice_get ts) (λ i. other (is_taken_out ts i) None (slice_get ts i) (stays i)) (length ts) ∙ all_picked ts
+  pub left_as_it_is : tokens_left ts ≡ ts
+  unfolding tokens_left left_at
+  left_as_it_is = same_picked (left_at ts) (slice_get ts) (λ i. other (is_taken_out ts i) None (slice_get ts i) (stays i)) (length ts) ∙ all_picked ts
 
   pub no_bases : bases ts ≡ []
   unfolding bases base_name

@@ -11,15 +11,15 @@ use Rattle.uc_grammar.specs.Form.{Spells}
 use Rattle.uc_grammar.specs.Grammar.{inner, kind_form, name_form}
 use Rattle.uc_grammar.specs.Samples.{without_place, placed, plain}
 use Rattle.uc_inherit.specs.ClassHeads.{is_virtual, is_name, is_head, first_place, is_in_base}
-use Rattle.uc_inherit.specs.OpenedTokens.{opened, base_name, bases, virtuals}
+use Rattle.uc_inherit.specs.OpenedTokens.{tokens_left, base_name, bases, virtuals}
 
 -- Where no head has a base and no `virtual` stands, nothing is taken out and nothing noted.
 abbrev pub LeavesOthers : Type 0
-LeavesOthers = (ts : List Token) → ((i : ℕ) → IsTrue (is_virtual (kind_at ts i)) → ⊥) → ((k : ℕ) → IsTrue (is_head ts k) → ⊥) → (opened ts ≡ ts) × (bases ts ≡ []) × (virtuals ts ≡ [])
+LeavesOthers = (ts : List Token) → ((i : ℕ) → IsTrue (is_virtual (kind_at ts i)) → ⊥) → ((k : ℕ) → IsTrue (is_head ts k) → ⊥) → (tokens_left ts ≡ ts) × (bases ts ≡ []) × (virtuals ts ≡ [])
 
 -- No `virtual` is left.
 abbrev pub NoVirtual : Type 0
-NoVirtual = (ts : List Token) (i : ℕ) → IsTrue (is_virtual (kind_at (opened ts) i)) → ⊥
+NoVirtual = (ts : List Token) (i : ℕ) → IsTrue (is_virtual (kind_at (tokens_left ts) i)) → ⊥
 
 -- Of a head are taken out just its third, fourth and fifth token, counted from the last word of its kind as the first.
 abbrev pub TakesBases : Type 0
@@ -56,7 +56,7 @@ HeadsFound = (ts : List Token) (first k : ℕ) (kind : Kind) (name base : List �
 
 -- Of a text that is opened, these are left, without their places, and these are noted.
 pub record Opens (text left : List ℕ) (heads : List (Pos × List ℕ)) (places : List Pos) : Type 0 where
-  pub tokens : map without_place (opened (placed text)) ≡ plain left
+  pub tokens : map without_place (tokens_left (placed text)) ≡ plain left
   pub bases : bases (placed text) ≡ heads
   pub virtuals : virtuals (placed text) ≡ places
 

@@ -18,11 +18,11 @@ picked f (suc n) = picked f n ++ option_to_list (f n)
 abbrev pub is_taken_out : List Token → ℕ → Bool
 is_taken_out ts at = is_virtual (kind_at ts at) || is_in_base ts at
 
-unfoldable pub token_left : List Token → ℕ → Option Token
-token_left ts at = if is_taken_out ts at then None else slice_get ts at
+unfoldable pub left_at : List Token → ℕ → Option Token
+left_at ts at = if is_taken_out ts at then None else slice_get ts at
 
-unfoldable pub opened : List Token → List Token
-opened ts = picked (token_left ts) (length ts)
+unfoldable pub tokens_left : List Token → List Token
+tokens_left ts = picked (left_at ts) (length ts)
 
 -- What is noted of heads: the place of the class's first token, and the name of its base.
 

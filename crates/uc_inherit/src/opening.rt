@@ -24,7 +24,7 @@ pub struct Heads {
 /// keep the order of the text.
 pub fn open_classes(alloc: Global, tokens: &[Token]) -> Result<(Vec<Token>, Heads), AllocError>
     requires few { length tokens.now < 2 ^ 32 }
-    ensures tokens { IfOk result (λ r. r.0.items ≡ opened.opened tokens.now) }
+    ensures tokens { IfOk result (λ r. r.0.items ≡ opened.tokens_left tokens.now) }
     ensures bases { IfOk result (λ r. r.1.bases.items ≡ opened.bases tokens.now) }
     ensures virtuals { IfOk result (λ r. r.1.virtuals.items ≡ opened.virtuals tokens.now) }
 {
@@ -37,7 +37,7 @@ pub fn open_classes(alloc: Global, tokens: &[Token]) -> Result<(Vec<Token>, Head
 // The tokens that are not taken out.
 fn tokens_left(alloc: Global, tokens: &[Token]) -> Result<Vec<Token>, AllocError>
     requires few { length tokens.now < 2 ^ 32 }
-    ensures { IfOk result (λ left. left.items ≡ opened.opened tokens.now) }
+    ensures { IfOk result (λ left. left.items ≡ opened.tokens_left tokens.now) }
 {
     let mut left = Vec::new(alloc);
     for (index, token) in tokens.iter().enumerate() {

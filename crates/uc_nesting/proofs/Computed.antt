@@ -1,5 +1,5 @@
 -- Samples, computed by the reader of the grammar.
-use Rattle.std.proofs.Common.{◌≡◌, ℕ, ◌+◌, List, length, subst}
+use Rattle.std.proofs.Common.{◌≡◌, ℕ, List, length, subst}
 use Rattle.uc_tree.specs.declared.token.Token.{Token}
 use Rattle.uc_grammar.specs.Form.{Form, Spells, Fails}
 use Rattle.uc_grammar.specs.Grammar.{inner, faults}

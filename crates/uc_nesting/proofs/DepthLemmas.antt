@@ -1,13 +1,13 @@
 -- Why a tree of few levels is not deep.
-use Rattle.std.proofs.Common.{◌≡◌, ℕ, ◌+◌, ◌*◌, ◌≤◌, List, [], ◌∷◌, Bool, true, false, Option, Some, None, refl, arith}
+use Rattle.std.proofs.Common.{◌≡◌, ℕ, ◌+◌, ◌*◌, ◌≤◌, Bool, true, false, refl, arith}
 use Rattle.std.proofs.Math.Nat.{max-le, le-max_left, le-max_right}
 use Rattle.std.specs.Prelude.{max, nat_le, if◌then◌else◌}
 use Rattle.std.proofs.lemmas.Bool.{leb-true}
 use Rattle.uc_tree.specs.declared.ops.BinaryOp.{BinaryOp}
 use Rattle.uc_tree.specs.declared.ops.BinaryOp.TheVariants as binary
-use Rattle.uc_tree.specs.Expressions.{Expr, Number, Character, Truth, Name, Cin, Postfix, Unary, Chain, Assign, Exprs, NoExprs, MoreExprs, Part, Field, Index, Call, Step, Parts, NoParts, MoreParts, Link, Linked, Links, NoLinks, MoreLinks}
-use Rattle.uc_nesting.specs.ExpressionNesting.{primary, unary, operand_looseness, sides_looseness, looseness, levels_in, args_nesting, part_nesting, parts_nesting, link_nesting, links_nesting, nesting_at, right_nesting}
-use Rattle.uc_nesting.specs.Depth.{expr_depth, exprs_depth, part_depth, parts_depth, link_depth, links_depth}
+use Rattle.uc_tree.specs.Expressions.{Expr, Number, Character, Truth, Name, Cin, Postfix, Unary, Chain, Assign, Exprs, NoExprs, MoreExprs, Part, Field, Index, Call, Step, Parts, NoParts, MoreParts, Linked, Links, NoLinks, MoreLinks}
+use Rattle.uc_nesting.specs.ExpressionNesting.{primary, unary, operand_looseness, sides_looseness, looseness, levels_in, args_nesting, part_nesting, parts_nesting, links_nesting, nesting_at, right_nesting}
+use Rattle.uc_nesting.specs.Depth.{expr_depth, exprs_depth, part_depth, parts_depth, links_depth}
 
 -- two ways that are not longer than what is allowed for the deeper one
 pub deeper_of : (c x y a b : ℕ) → a ≤ 11 * x + c → b ≤ 11 * y + c → max a b ≤ 11 * max x y + c
@@ -33,7 +33,7 @@ sides_tight NoLinks = omega arith
 sides_tight (MoreLinks (Linked sign op right) rest) = max-le (operand_tight op) (sides_tight rest)
 
 -- of an expression, anywhere and on the right of an assignment
-pub record Shallow (e : Expr) : Type 0 where
+pub record IsShallow (e : Expr) : Type 0 where
   pub anywhere : expr_depth e ≤ 11 * levels_in e false + looseness e + 2
   pub right : expr_depth e ≤ 11 * levels_in e true + 10
   pub tight : looseness e ≤ 9
@@ -43,15 +43,15 @@ by_place true k own n d h tight g = let le : own ≤ k = h refl in omega (arith,
 by_place false k own n d h tight g = omega (arith, g, tight)
 
 -- where it stands at a place that allows only what is not looser
-pub in_place : (k : ℕ) (e : Expr) → Shallow e → expr_depth e ≤ 11 * nesting_at k e + (k + 2)
+pub in_place : (k : ℕ) (e : Expr) → IsShallow e → expr_depth e ≤ 11 * nesting_at k e + (k + 2)
 in_place k e h = by_place (nat_le (looseness e) k) k (looseness e) (levels_in e false) (expr_depth e) (λ t. leb-true (looseness e) k t) h.tight h.anywhere
 
 -- where any may stand
-pub whole : (e : Expr) → Shallow e → expr_depth e ≤ 11 * levels_in e false + 11
+pub whole : (e : Expr) → IsShallow e → expr_depth e ≤ 11 * levels_in e false + 11
 whole e h = omega (arith, h.anywhere, h.tight)
 
 mutual
-  pub shallow : (e : Expr) → Shallow e
+  pub shallow : (e : Expr) → IsShallow e
   shallow (Number pos value) = record { anywhere = omega arith; right = omega arith; tight = omega arith }
   shallow (Character pos byte) = record { anywhere = omega arith; right = omega arith; tight = omega arith }
   shallow (Truth pos value) = record { anywhere = omega arith; right = omega arith; tight = omega arith }

@@ -17,8 +17,8 @@ use Rattle.uc_grammar.specs.declared.level.Level.TheVariants as level
 use Rattle.uc_grammar.specs.Form.{Form, inside}
 use Rattle.uc_grammar.specs.Names.{right_name}
 use Rattle.uc_grammar.specs.Tables.{sign_of, unary_of, binary_of, assign_of, product_of, sum_of, comparison_of, equality_of, and_of, or_of}
-use Rattle.uc_grammar.specs.Grammar.{before, comma_list, chained, with_parts, name_form, primary_at, primary_form, arguments_form, closed_arguments, part_at, part_form, postfix_after, postfix_form, unary_by, unary_form, link_by, chain_after, product_after, product_form, sum_after, sum_form, comparison_after, comparison_form, equality_after, equality_form, and_after, and_form, or_after, assigned_by, right_after, right_form, expr_after, expr_form, expr_from, maybe_expr}
-use Rattle.uc_nesting.specs.ExpressionNesting.{primary, postfix, unary, product, sum, comparison, equality, conjunction, disjunction, assignment, operand_looseness, sides_looseness, enclosed, looseness, levels_in, args_nesting, part_nesting, parts_nesting, link_nesting, links_nesting, nesting_at, expr_nesting, right_nesting}
+use Rattle.uc_grammar.specs.Grammar.{before, comma_list, chained, with_parts, name_form, primary_at, arguments_form, closed_arguments, part_at, postfix_after, postfix_form, unary_by, unary_form, link_by, chain_after, product_after, product_form, sum_after, sum_form, comparison_after, comparison_form, equality_after, equality_form, and_after, and_form, or_after, assigned_by, right_form, expr_after, expr_form, expr_from, maybe_expr}
+use Rattle.uc_nesting.specs.ExpressionNesting.{primary, postfix, unary, product, sum, comparison, equality, conjunction, disjunction, operand_looseness, sides_looseness, args_nesting, part_nesting, parts_nesting, link_nesting, links_nesting, nesting_at, expr_nesting, right_nesting}
 use Rattle.uc_nesting.specs.StatementNesting.{maybe_expr_nesting}
 use Rattle.uc_nesting.proofs.Sure.{Sure, Each, sure_nothing, sure_empty, sure_skip, sure_expect, sure_or, sure_look, sure_here, sure_bind, sure_apply, sure_many, sure_listed, sure_so, any_piece}
 use Rattle.uc_nesting.proofs.Enclosed.{none, enclosed_same, looser, bare, in_parentheses}

@@ -7,7 +7,6 @@ use Rattle.uc_tree.specs.declared.kinds.Base.TheVariants as base
 use Rattle.uc_tree.specs.declared.kinds.Kind.{Kind}
 use Rattle.uc_tree.specs.declared.kinds.Access.{Access}
 use Rattle.uc_tree.specs.declared.kinds.Access.TheVariants as access
-use Rattle.uc_tree.specs.declared.kinds.Mark.{Mark}
 use Rattle.uc_tree.specs.declared.kinds.Role.{Role}
 use Rattle.uc_tree.specs.declared.kinds.Role.TheVariants as role
 use Rattle.uc_tree.specs.declared.kinds.Owner.{Owner}
@@ -16,12 +15,11 @@ use Rattle.uc_tree.specs.declared.token.TokenKind.{TokenKind}
 use Rattle.uc_tree.specs.declared.token.TokenKind.TheVariants as token
 use Rattle.uc_tree.specs.declared.token.Word.TheVariants as word
 use Rattle.uc_tree.specs.declared.token.Sign.TheVariants as sign
-use Rattle.uc_tree.specs.Programs.{Sig, Init, MemberForm, Item, Program}
+use Rattle.uc_tree.specs.Programs.{Sig, Init, Item}
 use Rattle.uc_grammar.specs.Names.{ClassPart, AccessPart, MemberPart}
-use Rattle.uc_grammar.specs.Spell.{kind_at}
-use Rattle.uc_grammar.specs.Tables.{word_of, base_of, scalar_of, access_of}
-use Rattle.uc_grammar.specs.Grammar.{inner, name_form, scalar_form, kind_form, mark_form, maybe_sign, params_rest, params_form, sig_of, init_form, inits_form, plain_form, maker_form, field_rest, field_form, fields_rest, member_end, maker_end, member_routine, member_maker, based_at, based_member, word_member, member_at, member_form, part_by, class_part_form, members_of, class_rest, class_form, using_rest, constant_rest, item_end, free_routine, outer_routine, based_item_at, based_item, role_of, outer_maker, word_item, item_at, item_form, program_form}
-use Rattle.uc_nesting.specs.ExpressionNesting.{expr_nesting, args_nesting}
+use Rattle.uc_grammar.specs.Tables.{word_of, base_of, access_of}
+use Rattle.uc_grammar.specs.Grammar.{inner, name_form, scalar_form, kind_form, mark_form, maybe_sign, params_rest, params_form, sig_of, init_form, inits_form, plain_form, maker_form, field_rest, field_form, fields_rest, member_end, maker_end, member_routine, member_maker, based_at, based_member, word_member, member_at, part_by, class_part_form, members_of, class_rest, class_form, using_rest, constant_rest, item_end, free_routine, outer_routine, based_item_at, based_item, role_of, outer_maker, word_item, item_at, item_form, program_form}
+use Rattle.uc_nesting.specs.ExpressionNesting.{args_nesting}
 use Rattle.uc_nesting.specs.StatementNesting.{declarator_nesting}
 use Rattle.uc_nesting.specs.Nesting.{inits_nesting, routine_nesting, form_nesting, members_nesting, item_nesting, items_nesting, nesting}
 use Rattle.uc_nesting.proofs.Sure.{Sure, Each, sure_nothing, sure_empty, sure_skip, sure_expect, sure_or, sure_look, sure_here, sure_bind, sure_apply, sure_many, sure_listed, sure_so, any_piece}

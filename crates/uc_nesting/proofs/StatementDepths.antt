@@ -1,5 +1,5 @@
 -- Why statements and programs of few levels are not deep.
-use Rattle.std.proofs.Common.{ℕ, ◌+◌, ◌*◌, ◌≤◌, List, [], ◌∷◌, Option, Some, None, arith}
+use Rattle.std.proofs.Common.{◌+◌, ◌*◌, ◌≤◌, List, [], ◌∷◌, Option, Some, None, arith}
 use Rattle.std.specs.Prelude.{max}
 use Rattle.uc_tree.specs.Expressions.{Expr, Exprs, NoExprs, MoreExprs}
 use Rattle.uc_tree.specs.Statements.{Start, NoStart, StartValue, StartArgs, Declarator, Raised, OutItem, Endl, Literal, Printed, ForStart, NoFor, ForDeclare, ForEvaluate, Stmt, Block, Empty, Evaluate, Declare, If, While, Do, For, Break, Continue, Return, Try, Throw, Raise, RaiseAt, Enable, Disable, Accept, Print, PrintTogether, Read, Resume, Suspend, Yield, Migrate, Stmts, NoStmts, MoreStmts, MaybeStmt, NoStmt, OneStmt, Handlers, NoHandlers, MoreHandlers, Handles, Clauses, NoClauses, MoreClauses, Accepts}
@@ -52,6 +52,10 @@ begins NoFor = omega arith
 begins (ForDeclare pos base declarators) = declared declarators
 begins (ForEvaluate value) = exprs value
 
+-- a statement that is a level inside of another
+under : (s : Stmt) → stmt_depth s ≤ 11 * stmt_nesting s + 12 → stmt_depth s ≤ 11 * (stmt_nesting s + 1) + 11
+under s h = omega (arith, h)
+
 mutual
   stmt : (s : Stmt) → stmt_depth s ≤ 11 * stmt_nesting s + 12
   stmt (Block pos body) = omega (arith, block body)
@@ -59,12 +63,12 @@ mutual
   stmt (Evaluate pos value) = omega (arith, exprs value)
   stmt (Declare pos base declarators) = omega (arith, declared declarators)
   stmt (If pos test chosen other) =
-      let bodies = deeper_of 11 (stmt_nesting chosen + 1) (maybe_stmt_nesting other) (stmt_depth chosen) (maybe_stmt_depth other) (inside chosen) (other_stmt other) in
+      let bodies = deeper_of 11 (stmt_nesting chosen + 1) (maybe_stmt_nesting other) (stmt_depth chosen) (maybe_stmt_depth other) (under chosen (stmt chosen)) (other_stmt other) in
       omega (arith, deeper_of 11 (expr_nesting test) (max (stmt_nesting chosen + 1) (maybe_stmt_nesting other)) (expr_depth test) (max (stmt_depth chosen) (maybe_stmt_depth other)) (exprs test) bodies)
-  stmt (While pos test body) = omega (arith, deeper_of 11 (expr_nesting test) (stmt_nesting body + 1) (expr_depth test) (stmt_depth body) (exprs test) (inside body))
-  stmt (Do pos body test) = omega (arith, deeper_of 11 (stmt_nesting body + 1) (expr_nesting test) (stmt_depth body) (expr_depth test) (inside body) (exprs test))
+  stmt (While pos test body) = omega (arith, deeper_of 11 (expr_nesting test) (stmt_nesting body + 1) (expr_depth test) (stmt_depth body) (exprs test) (under body (stmt body)))
+  stmt (Do pos body test) = omega (arith, deeper_of 11 (stmt_nesting body + 1) (expr_nesting test) (stmt_depth body) (expr_depth test) (under body (stmt body)) (exprs test))
   stmt (For pos start test step body) =
-      let third = deeper_of 11 (maybe_expr_nesting step) (stmt_nesting body + 1) (maybe_expr_depth step) (stmt_depth body) (maybe step) (inside body) in
+      let third = deeper_of 11 (maybe_expr_nesting step) (stmt_nesting body + 1) (maybe_expr_depth step) (stmt_depth body) (maybe step) (under body (stmt body)) in
       let second = deeper_of 11 (maybe_expr_nesting test) (max (maybe_expr_nesting step) (stmt_nesting body + 1)) (maybe_expr_depth test) (max (maybe_expr_depth step) (stmt_depth body)) (maybe test) third in
       omega (arith, deeper_of 11 (for_start_nesting start) (max (maybe_expr_nesting test) (max (maybe_expr_nesting step) (stmt_nesting body + 1))) (for_start_depth start) (max (maybe_expr_depth test) (max (maybe_expr_depth step) (stmt_depth body))) (begins start) second)
   stmt (Break pos) = omega arith
@@ -74,8 +78,8 @@ mutual
   stmt (Throw pos r) = omega (arith, raised r)
   stmt (Raise pos r) = omega (arith, raised r)
   stmt (RaiseAt pos r target) = omega (arith, deeper_of 11 (args_nesting r.args) (nesting_at postfix target) (exprs_depth r.args) (expr_depth target) (omega (arith, shallow_args r.args)) (omega (arith, in_place postfix target (shallow target))))
-  stmt (Enable pos events body) = omega (arith, inside body)
-  stmt (Disable pos events body) = omega (arith, inside body)
+  stmt (Enable pos events body) = omega (arith, stmt body)
+  stmt (Disable pos events body) = omega (arith, stmt body)
   stmt (Accept pos cs other) = omega (arith, deeper_of 11 (clauses_nesting cs) (maybe_stmt_nesting other) (clauses_depth cs) (maybe_stmt_depth other) (clauses cs) (other_stmt other))
   stmt (Print pos os) = omega (arith, items os)
   stmt (PrintTogether pos os) = omega (arith, items os)
@@ -84,9 +88,6 @@ mutual
   stmt (Suspend pos) = omega arith
   stmt (Yield pos) = omega arith
   stmt (Migrate pos cluster) = omega (arith, in_place postfix cluster (shallow cluster))
-
-  inside : (s : Stmt) → stmt_depth s ≤ 11 * (stmt_nesting s + 1) + 11
-  inside s = omega (arith, stmt s)
 
   other_stmt : (s : MaybeStmt) → maybe_stmt_depth s ≤ 11 * maybe_stmt_nesting s + 11
   other_stmt NoStmt = omega arith

@@ -1,5 +1,5 @@
 -- The forms of declarations and statements within n levels.
-use Rattle.std.proofs.Common.{ℕ, ◌+◌, ◌≤◌, List, [], ◌∷◌, Option, Some, None, arith}
+use Rattle.std.proofs.Common.{ℕ, ◌+◌, ◌≤◌, List, [], ◌∷◌, Option, Some, None}
 use Rattle.std.proofs.Math.Nat.{max-le}
 use Rattle.uc_tree.specs.declared.pos.Pos.{Pos}
 use Rattle.uc_tree.specs.declared.kinds.Base.{Base}
@@ -17,11 +17,10 @@ use Rattle.uc_tree.specs.Statements as stmt
 use Rattle.uc_grammar.specs.declared.start.StmtStart.{StmtStart}
 use Rattle.uc_grammar.specs.declared.start.StmtStart.TheVariants as start
 use Rattle.uc_grammar.specs.Names.{Simple, Declares, Evaluates}
-use Rattle.uc_grammar.specs.Form.{Form}
 use Rattle.uc_grammar.specs.Tables.{word_of, sign_of, base_of, handler_of, stmt_start}
-use Rattle.uc_grammar.specs.Grammar.{Caught, name_form, base_form, length_form, start_at, start_form, declarator_form, declarators_form, named_at, based_or_expr, simple_at, simple_form, block_rest, block_form, condition_form, maybe_stmt, simple_stmt, simple_stmt_form, if_rest, while_rest, do_rest, for_start, for_start_form, for_rest, caught_form, handler_by, handler_form, handlers_form, try_rest, raised_form, throw_rest, at_form, raise_rest, events_form, enable_rest, disable_rest, guard_form, members_form, clause_form, clauses_form, accept_form, out_at, out_form, outs_form, together_rest, cin_rest, no_arguments, migrate_rest, stmt_by, stmt_form}
-use Rattle.uc_nesting.specs.ExpressionNesting.{postfix, expr_nesting, args_nesting, nesting_at}
-use Rattle.uc_nesting.specs.StatementNesting.{maybe_expr_nesting, length_nesting, start_nesting, declarator_nesting, declarators_nesting, raised_nesting, maybe_raised_nesting, out_item_nesting, out_items_nesting, for_start_nesting, places_nesting, stmt_nesting, block_nesting, maybe_stmt_nesting, handler_nesting, handlers_nesting, clause_nesting, clauses_nesting}
+use Rattle.uc_grammar.specs.Grammar.{name_form, length_form, start_at, declarator_form, declarators_form, named_at, based_or_expr, simple_at, simple_form, block_rest, block_form, condition_form, maybe_stmt, simple_stmt, if_rest, while_rest, do_rest, for_start, for_start_form, for_rest, caught_form, handler_by, handler_form, try_rest, raised_form, throw_rest, at_form, raise_rest, events_form, enable_rest, disable_rest, guard_form, members_form, clause_form, accept_form, out_at, out_form, outs_form, cin_rest, no_arguments, migrate_rest, stmt_by, stmt_form}
+use Rattle.uc_nesting.specs.ExpressionNesting.{postfix, expr_nesting}
+use Rattle.uc_nesting.specs.StatementNesting.{maybe_expr_nesting, length_nesting, start_nesting, declarator_nesting, declarators_nesting, raised_nesting, out_item_nesting, out_items_nesting, for_start_nesting, places_nesting, stmt_nesting, block_nesting, maybe_stmt_nesting, handler_nesting, handlers_nesting, clause_nesting, clauses_nesting}
 use Rattle.uc_nesting.proofs.Sure.{Sure, Each, sure_nothing, sure_empty, sure_skip, sure_expect, sure_or, sure_look, sure_here, sure_bind, sure_apply, sure_many, sure_listed, sure_so, any_piece}
 use Rattle.uc_nesting.proofs.Enclosed.{none}
 use Rattle.uc_nesting.proofs.Levels.{Levels}

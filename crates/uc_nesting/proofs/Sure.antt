@@ -1,9 +1,9 @@
 -- What holds of every piece that a form spells, former by former.
-use Rattle.std.proofs.Common.{◌≡◌, ℕ, ◌+◌, List, [], ◌∷◌, Bool, Option, subst, sym, inl, inr}
+use Rattle.std.proofs.Common.{ℕ, ◌+◌, List, [], ◌∷◌, Bool, Option, subst, sym, inl, inr}
 use Rattle.uc_tree.specs.declared.pos.Pos.{Pos}
 use Rattle.uc_tree.specs.declared.token.Token.{Token}
 use Rattle.uc_tree.specs.declared.token.TokenKind.{TokenKind}
-use Rattle.uc_grammar.specs.Spell.{kind_at, pos_at, Rel, TokenOr, Run, ListRun}
+use Rattle.uc_grammar.specs.Spell.{kind_at, pos_at, TokenOr, Run, ListRun}
 use Rattle.uc_grammar.specs.Form.{Form, nothing, empty, skip, expect, token_or, look, here, bind, apply, many, listed, Spells}
 use Rattle.uc_grammar.specs.Grammar.{inner}
 

@@ -1,13 +1,12 @@
 use Rattle.std.proofs.Common.{refl}
 use Rattle.uc_tree.specs.Tokens.{tokens_from, found_at, text_ending, comment_length}
 use Rattle.uc_grammar.specs.Grammar.{expr_form, program_form}
-use Rattle.uc_grammar.specs.Samples.{placed, plain, a_stmt}
+use Rattle.uc_grammar.specs.Samples.{placed, plain}
 use Rattle.uc_grammar.proofs.Read.{read, reader, read_run}
-use Rattle.uc_grammar.proofs.Computed.{other_expr, other_stmt, other_program}
+use Rattle.uc_grammar.proofs.Computed.{other_expr, other_program}
 use Rattle.uc_nesting.specs.ExpressionNesting.{expr_nesting}
 use Rattle.uc_nesting.specs.Nesting.{nesting}
-use Rattle.uc_nesting.specs.Laws.{stmt_levels}
-use Rattle.uc_nesting.proofs.Computed.{nests, measures}
+use Rattle.uc_nesting.proofs.Computed.{measures}
 use Rattle.uc_nesting.proofs.samples.samples_of_parentheses.Goals as goal
 
 pub returns-clause-parenthesis : goal.returns-clause-parenthesis
