@@ -1,0 +1,4 @@
+pub mod Asking
+pub mod Changes
+pub mod Runs
+pub mod Laws

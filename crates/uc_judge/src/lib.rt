@@ -1,0 +1,7 @@
+// Whether a journal is a run of tasks that ask.
+#![tactic(auto)]
+
+pub mod asks;
+pub mod laws;
+
+pub mod verdict;
