@@ -131,7 +131,7 @@ act_begins opts sites input lines j p t n asked f =
     by true a false h = limited refl
     by false a false h = limited refl
 
-proc_of : (p t : ℕ) (a x : List Entry) → Begins p t a → (first_of (a ++ x)).proc ≡ p
+pub proc_of : (p t : ℕ) (a x : List Entry) → Begins p t a → (first_of (a ++ x)).proc ≡ p
 proc_of p t a x (limited h) = ap (λ l. (first_of (l ++ x)).proc) h
 proc_of p t [] x (begins h) = absurd h
 proc_of p t (e ∷ a) x (begins h) = h.0
@@ -156,7 +156,7 @@ limit_alone p t (z ∷ a) x y (begins h) e =
     let first : lone_limit ≡ z = ap first_of e in
     absurd (no_both (is_limit z.kind) (ap (λ l. is_limit l.kind) (sym first)) h.2)
 
-cancel : (j x y : List Entry) → j ++ x ≡ j ++ y → x ≡ y
+pub cancel : (j x y : List Entry) → j ++ x ≡ j ++ y → x ≡ y
 cancel [] x y e = e
 cancel (i ∷ j) x y e = cancel j x y (cc e)
 
@@ -175,7 +175,7 @@ pub record Same {W : Type 0} (j a b : List Entry) (v x : W) : Type 0 where
 abbrev pub act_of : {W : Type 0} → Cause W → Options → Journal → ℕ → ℕ → ℕ → Asked → List Entry
 act_of cause opts j p t k asked = written cause.lines (act opts cause.sites cause.input j p t k asked)
 
-starts : {W : Type 0} (cause : Cause W) → AsksWhole cause.asks → (opts : Options) (j : Journal) (w : W) (p t k : ℕ) (asked : Asked) (x : W) → cause.asks w t (left opts j t) k asked x → Begins p t (act_of cause opts j p t k asked)
+pub starts : {W : Type 0} (cause : Cause W) → AsksWhole cause.asks → (opts : Options) (j : Journal) (w : W) (p t k : ℕ) (asked : Asked) (x : W) → cause.asks w t (left opts j t) k asked x → Begins p t (act_of cause opts j p t k asked)
 starts cause whole opts j w p t k asked x d =
     act_begins opts cause.sites cause.input cause.lines j p t k asked (whole w t (left opts j t) k asked x d)
 

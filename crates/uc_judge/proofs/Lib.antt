@@ -1,3 +1,5 @@
 pub mod Cuts
 pub mod Verdicts
 pub mod Told
+pub mod Starts
+pub mod Sampled

@@ -12,12 +12,12 @@ use Rattle.uc_judge.specs.Runs.{Cause, Runs, IsStart, IsRun, GoesWrong, off, une
 use Rattle.uc_judge.specs.Laws.{LawVerdict}
 
 module _ {W : Type 0} (cause : Cause W) (j : Journal) where
-  part_start : (n : ℕ) → IsStart cause j → IsStart cause (take n j)
+  pub part_start : (n : ℕ) → IsStart cause j → IsStart cause (take n j)
   part_start n s =
       let same : j ++ s.rest ≡ take n j ++ (drop n j ++ s.rest) = ap (λ l. l ++ s.rest) (sym (take-append-drop n j)) ∙ append_assoc (take n j) (drop n j) s.rest in
       record { opts = s.opts; in_range = s.in_range; tasks = s.tasks; rest = drop n j ++ s.rest; runs = subst (λ l. Runs cause s.opts l s.tasks) same s.runs }
 
-  run_start : IsRun cause j → IsStart cause j
+  pub run_start : IsRun cause j → IsStart cause j
   run_start r =
       record { opts = r.opts; in_range = r.in_range; tasks = r.tasks; rest = []; runs = subst (λ l. Runs cause r.opts l r.tasks) (sym (append-nil j)) r.runs }
 

@@ -2,3 +2,5 @@ pub mod Asking
 pub mod Changes
 pub mod Runs
 pub mod Laws
+pub mod Scripts
+pub mod Samples

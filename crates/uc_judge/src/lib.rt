@@ -3,5 +3,5 @@
 
 pub mod asks;
 pub mod laws;
-
+pub mod samples;
 pub mod verdict;
