@@ -3,3 +3,5 @@ pub mod Verdicts
 pub mod Told
 pub mod Starts
 pub mod Sampled
+pub mod Rows
+pub mod Numbers

@@ -4,3 +4,5 @@ pub mod Runs
 pub mod Laws
 pub mod Scripts
 pub mod Samples
+pub mod Scheduled
+pub mod Counted

@@ -2,6 +2,9 @@
 #![tactic(auto)]
 
 pub mod asks;
+pub mod counts;
+mod effects;
 pub mod laws;
 pub mod samples;
+pub mod schedule;
 pub mod verdict;
