@@ -5,3 +5,4 @@ pub mod Starts
 pub mod Sampled
 pub mod Rows
 pub mod Numbers
+pub mod Owned

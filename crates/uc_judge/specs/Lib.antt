@@ -6,3 +6,4 @@ pub mod Scripts
 pub mod Samples
 pub mod Scheduled
 pub mod Counted
+pub mod Tasked

@@ -7,4 +7,5 @@ mod effects;
 pub mod laws;
 pub mod samples;
 pub mod schedule;
+pub mod tasks;
 pub mod verdict;
