@@ -6,3 +6,4 @@ pub mod Sampled
 pub mod Rows
 pub mod Numbers
 pub mod Owned
+pub mod Opening

@@ -7,3 +7,4 @@ pub mod Samples
 pub mod Scheduled
 pub mod Counted
 pub mod Tasked
+pub mod Opened

@@ -1,6 +1,7 @@
 // Whether a journal is a run of tasks that ask.
 #![tactic(auto)]
 
+pub mod accepts;
 pub mod asks;
 pub mod counts;
 mod effects;
