@@ -1,0 +1,3 @@
+pub mod Formed
+pub mod Tables
+pub mod Told
