@@ -23,7 +23,7 @@ use Rattle.uc_rules.specs.Breaks.{breaks_at}
 use Rattle.uc_agreement.specs.Unbroken.{Unbroken}
 use Rattle.uc_agreement.proofs.Ties.{some_same, none_some, false_true}
 use Rattle.uc_agreement.proofs.Unbroken.{holds}
-use Rattle.uc_sound.proofs.Lists.{not_either, left_is, right_is, both_are, case_of, any_from, get_take, within, Order, before, same, behind, order}
+use Rattle.uc_sound.proofs.Lists.{next_is_not, not_either, left_is, right_is, both_are, case_of, any_from, get_take, within, Order, before, same, behind, order}
 use Rattle.uc_sound.proofs.Visited.{item_rules}
 use Rattle.std.proofs.lemmas.Bool.{le-leb}
 
@@ -131,28 +131,28 @@ behind_class d ds k i n name w o h = record {
   m = suc h.m;
   least = let l = h.least in omega (arith, l);
   number = subst (λ (b : Bool). number.place_from k (if b then class_names ds else (d.name ∷ class_names ds)) name ≡ Some (k + suc h.m)) (sym w) (subst (λ (b : Bool). (if b then Some k else number.place_from (k + 1) (class_names ds) name) ≡ Some (k + suc h.m)) (sym (same_not d.name name o)) (h.number ∙ ap Some (let q : k + 1 + h.m ≡ k + suc h.m = omega arith in q)));
-  place = subst (λ (b : Bool). (if b then objects.place_from ds (i + 1) (suc (suc h.m)) else (if nat_eq (suc h.m) 0 then Some i else objects.place_from ds (i + 1) (suc h.m))) ≡ Some (i + suc n)) (sym w) (h.place ∙ ap Some (let q : i + 1 + n ≡ i + suc n = omega arith in q));
+  place = subst (λ (b : Bool). (if b then objects.place_from ds (i + 1) (suc (suc h.m)) else (if nat_eq (suc h.m) 0 then Some i else objects.place_from ds (i + 1) (suc h.m))) ≡ Some (i + suc n)) (sym w) (ap (λ (b : Bool). if b then Some i else objects.place_from ds (i + 1) (suc h.m)) (next_is_not h.m) ∙ h.place ∙ ap Some (let q : i + 1 + n ≡ i + suc n = omega arith in q));
 }
 
 numbered : (cs : List Class) → Apart cs → (k i n : ℕ) (c : Class) → slice_get cs n ≡ Some c → is_event c.kind ≡ false → Numbered cs k i n c.name
 numbered [] a k i n c e v = none_some e
 numbered (d ∷ ds) a k i zero c e v =
     subst (λ (z : Class). Numbered (d ∷ ds) k i 0 z.name) (some_same e) (first_numbered d ds k i (subst (λ (z : Class). is_event z.kind ≡ false) (sym (some_same e)) v))
-numbered (d ∷ ds) a k i (suc n) c e v = by (case_of (is_event d.kind))
+numbered (d ∷ ds) a k i (suc n) c e v = by (case_of (is_event d.kind)) (λ k i. numbered ds (apart_behind d ds a) k i n c e v)
   where
-    by : (is_event d.kind ≡ true) ⊎ (is_event d.kind ≡ false) → Numbered (d ∷ ds) k i (suc n) c.name
-    by (inl w) = behind_event d ds k i n c.name w (numbered ds (apart_behind d ds a) k (i + 1) n c e v)
-    by (inr w) = behind_class d ds k i n c.name w (apart_head d ds a n c e) (numbered ds (apart_behind d ds a) (k + 1) (i + 1) n c e v)
+    by : (is_event d.kind ≡ true) ⊎ (is_event d.kind ≡ false) → ((k i : ℕ) → Numbered ds k i n c.name) → Numbered (d ∷ ds) k i (suc n) c.name
+    by (inl w) ih = behind_event d ds k i n c.name w (ih k (i + 1))
+    by (inr w) ih = behind_class d ds k i n c.name w (apart_head d ds a n c e) (ih (k + 1) (i + 1))
 
 -- an event has no number
 not_numbered : (cs : List Class) (k : ℕ) (name : List ℕ) → ((n : ℕ) (d : Class) → slice_get cs n ≡ Some d → is_event d.kind ≡ false → d.name ≡ name → ⊥) → number.place_from k (class_names cs) name ≡ None
 not_numbered [] k name f = refl
-not_numbered (d ∷ ds) k name f = by (is_event d.kind) refl
+not_numbered (d ∷ ds) k name f = by (is_event d.kind) refl (λ k. not_numbered ds k name (λ n. f (suc n)))
   where
-    by : (b : Bool) → is_event d.kind ≡ b → number.place_from k (if b then class_names ds else (d.name ∷ class_names ds)) name ≡ None
-    by true w = not_numbered ds k name (λ n. f (suc n))
-    by false w =
-        subst (λ (b : Bool). (if b then Some k else number.place_from (k + 1) (class_names ds) name) ≡ None) (sym (same_not d.name name (f 0 d refl w))) (not_numbered ds (k + 1) name (λ n. f (suc n)))
+    by : (b : Bool) → is_event d.kind ≡ b → ((k : ℕ) → number.place_from k (class_names ds) name ≡ None) → number.place_from k (if b then class_names ds else (d.name ∷ class_names ds)) name ≡ None
+    by true w ih = ih k
+    by false w ih =
+        subst (λ (b : Bool). (if b then Some k else number.place_from (k + 1) (class_names ds) name) ≡ None) (sym (same_not d.name name (f 0 d refl w))) (ih (k + 1))
 
 -- what a name sorts is a class of that name
 pub record Sorted (cs : List Class) (i : ℕ) (name : List ℕ) (j : ℕ) (k : Kind) : Type 0 where
@@ -165,10 +165,10 @@ pub record Sorted (cs : List Class) (i : ℕ) (name : List ℕ) (j : ℕ) (k : K
 
 pub sorted : (cs : List Class) (i : ℕ) (name : List ℕ) (j : ℕ) (k : Kind) → class_sort cs i name ≡ Some (sort.Object j k) → Sorted cs i name j k
 sorted [] i name j k h = none_some h
-sorted (c ∷ cs) i name j k h = by (same_name c.name name) refl h
+sorted (c ∷ cs) i name j k h = by (same_name c.name name) refl (sorted cs (i + 1) name j k) h
   where
-    by : (b : Bool) → same_name c.name name ≡ b → (if b then Some (sort.Object i c.kind) else class_sort cs (i + 1) name) ≡ Some (sort.Object j k) → Sorted (c ∷ cs) i name j k
-    by true e h = record {
+    by : (b : Bool) → same_name c.name name ≡ b → (class_sort cs (i + 1) name ≡ Some (sort.Object j k) → Sorted cs (i + 1) name j k) → (if b then Some (sort.Object i c.kind) else class_sort cs (i + 1) name) ≡ Some (sort.Object j k) → Sorted (c ∷ cs) i name j k
+    by true e ih h = record {
       n = 0;
       class = c;
       at = refl;
@@ -176,7 +176,7 @@ sorted (c ∷ cs) i name j k h = by (same_name c.name name) refl h
       kind = cc;
       name_is = same_is c.name name e;
     }
-    by false e h = let r = sorted cs (i + 1) name j k h in record { n = suc r.n; class = r.class; at = r.at; place = let q = r.place in omega (arith, q); kind = r.kind; name_is = r.name_is }
+    by false e ih h = let r = ih h in record { n = suc r.n; class = r.class; at = r.at; place = let q = r.place in omega (arith, q); kind = r.kind; name_is = r.name_is }
 
 -- and a class is what its name sorts
 sorts : (cs : List Class) → Apart cs → (i n : ℕ) (c : Class) → slice_get cs n ≡ Some c → class_sort cs i c.name ≡ Some (sort.Object (i + n) c.kind)
@@ -197,13 +197,13 @@ pub record EventAt (cs : List Class) (i : ℕ) (name : List ℕ) (j : ℕ) : Typ
 
 pub event_at : (cs : List Class) (i : ℕ) (name : List ℕ) (j : ℕ) → objects.event_from cs i name ≡ Some j → EventAt cs i name j
 event_at [] i name j h = none_some h
-event_at (c ∷ cs) i name j h = by (same_name c.name name) (is_event c.kind) refl refl h
+event_at (c ∷ cs) i name j h = by (same_name c.name name) (is_event c.kind) refl refl (event_at cs (i + 1) name j) h
   where
-    by : (b v : Bool) → same_name c.name name ≡ b → is_event c.kind ≡ v → (if b then (if v then Some i else None) else objects.event_from cs (i + 1) name) ≡ Some j → EventAt (c ∷ cs) i name j
-    by true true e w h = record { n = 0; class = c; at = refl; place = let q : i ≡ j = some_same h in omega (arith, q); event = w; name_is = same_is c.name name e }
-    by true false e w h = none_some h
-    by false v e w h =
-        let r = event_at cs (i + 1) name j h in
+    by : (b v : Bool) → same_name c.name name ≡ b → is_event c.kind ≡ v → (objects.event_from cs (i + 1) name ≡ Some j → EventAt cs (i + 1) name j) → (if b then (if v then Some i else None) else objects.event_from cs (i + 1) name) ≡ Some j → EventAt (c ∷ cs) i name j
+    by true true e w ih h = record { n = 0; class = c; at = refl; place = let q : i ≡ j = some_same h in omega (arith, q); event = w; name_is = same_is c.name name e }
+    by true false e w ih h = none_some h
+    by false v e w ih h =
+        let r = ih h in
         record { n = suc r.n; class = r.class; at = r.at; place = let q = r.place in omega (arith, q); event = r.event; name_is = r.name_is }
 
 module _ (p : Program) (u : Unbroken (program_visits p)) where

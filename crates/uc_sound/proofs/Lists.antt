@@ -2,6 +2,7 @@
 use Rattle.std.proofs.Common.{◌≡◌, ℕ, zero, suc, ◌+◌, ◌<◌, ◌≤◌, ◌++◌, ◌⊎◌, inl, inr, List, [], ◌∷◌, length, Option, Some, None, Bool, true, false, refl, sym, ap, ◌∙◌, subst, arith, map}
 use Rattle.std.specs.Prelude.{◌&&◌, ◌||◌, not, slice_get, take, is_some, nat_eq}
 use Rattle.std.specs.List.{list_any, list_all}
+use Rattle.std.proofs.lemmas.Bool.{eqb-true}
 use Rattle.uc_agreement.proofs.Ties.{some_same, none_some, false_true}
 
 pub some_is : {A : Type 0} (o : Option A) → is_some o ≡ true → (x : A) × (o ≡ Some x)
@@ -45,12 +46,20 @@ pub not_both : {B : Type 0} (a : Bool) → a ≡ true → not a ≡ true → B
 not_both true h k = false_true k
 not_both false h k = false_true h
 
+pub implied : (a b : Bool) → a ≡ true → (not a || b) ≡ true → b ≡ true
+implied true b h k = k
+implied false b h k = false_true h
+
 pub case_of : (b : Bool) → (b ≡ true) ⊎ (b ≡ false)
 case_of true = inl refl
 case_of false = inr refl
 
 pub next_is_not : (n : ℕ) → nat_eq (suc n) 0 ≡ false
-next_is_not n = refl
+next_is_not n = by (case_of (nat_eq (suc n) 0))
+  where
+    by : (nat_eq (suc n) 0 ≡ true) ⊎ (nat_eq (suc n) 0 ≡ false) → nat_eq (suc n) 0 ≡ false
+    by (inl e) = let q = eqb-true (suc n) 0 e in let b : ⊥ = omega (arith, q) in absurd b
+    by (inr e) = e
 
 pub in_either : {A : Type 0} (xs ys : List A) (n : ℕ) (x : A) → slice_get (xs ++ ys) n ≡ Some x → (slice_get xs n ≡ Some x) ⊎ ((m : ℕ) × (slice_get ys m ≡ Some x))
 in_either [] ys n x h = inr (n, h)
@@ -85,11 +94,11 @@ within (z ∷ xs) (suc n) x h = let l = within xs n x h in omega (arith, l)
 -- what a test finds, and where
 pub any_at : {A : Type 0} (f : A → Bool) (xs : List A) → list_any f xs ≡ true → (n : ℕ) × (x : A) × (slice_get xs n ≡ Some x) × (f x ≡ true)
 any_at f [] h = false_true h
-any_at {A} f (x ∷ xs) h = by (f x) refl h
+any_at {A} f (x ∷ xs) h = by (f x) refl (any_at f xs) h
   where
-    by : (b : Bool) → f x ≡ b → (b || list_any f xs) ≡ true → (n : ℕ) × (y : A) × (slice_get (x ∷ xs) n ≡ Some y) × (f y ≡ true)
-    by true e h = (0, x, refl, e)
-    by false e h = let r = any_at f xs h in (suc r.0, r.1, r.2, r.3)
+    by : (b : Bool) → f x ≡ b → (list_any f xs ≡ true → (n : ℕ) × (y : A) × (slice_get xs n ≡ Some y) × (f y ≡ true)) → (b || list_any f xs) ≡ true → (n : ℕ) × (y : A) × (slice_get (x ∷ xs) n ≡ Some y) × (f y ≡ true)
+    by true e ih h = (0, x, refl, e)
+    by false e ih h = let r = ih h in (suc r.0, r.1, r.2, r.3)
 
 pub any_from : {A : Type 0} (f : A → Bool) (xs : List A) (n : ℕ) (x : A) → slice_get xs n ≡ Some x → f x ≡ true → list_any f xs ≡ true
 any_from f [] n x e h = none_some e

@@ -28,7 +28,7 @@ module _ (p : Program) where
 
   in_members : (name : List ℕ) (ms : List Member) (n : ℕ) (d : Defined) → slice_get (members_defined p name ms) n ≡ Some d → InClass name ms d
   in_members name [] n d e = none_some e
-  in_members name (m ∷ ms) n d e = by (in_either (form_defined p name m.form) (members_defined p name ms) n d e)
+  in_members name (m ∷ ms) n d e = by (in_either (form_defined p name m.form) (members_defined p name ms) n d e) (λ k q. in_members name ms k d q)
     where
       one : (form : MemberForm) → m.form ≡ form → slice_get (form_defined p name form) n ≡ Some d → InClass name (m ∷ ms) d
       one (FieldsMember at b ds) q e = none_some e
@@ -39,9 +39,9 @@ module _ (p : Program) where
           only (suc n) e = none_some e
       one (ProtoMember sig) q e = none_some e
 
-      by : (slice_get (form_defined p name m.form) n ≡ Some d) ⊎ ((k : ℕ) × (slice_get (members_defined p name ms) k ≡ Some d)) → InClass name (m ∷ ms) d
-      by (inl e) = one m.form refl e
-      by (inr e) = let r = in_members name ms e.0 d e.1 in record { j = suc r.j; m = r.m; r = r.r; at = r.at; form = r.form; defined = r.defined }
+      by : (slice_get (form_defined p name m.form) n ≡ Some d) ⊎ ((k : ℕ) × (slice_get (members_defined p name ms) k ≡ Some d)) → ((k : ℕ) → slice_get (members_defined p name ms) k ≡ Some d → InClass name ms d) → InClass name (m ∷ ms) d
+      by (inl e) ih = one m.form refl e
+      by (inr e) ih = let r = ih e.0 e.1 in record { j = suc r.j; m = r.m; r = r.r; at = r.at; form = r.form; defined = r.defined }
 
   -- among these items, of which the classes and items stand at these places
   data From (xs : List Item) (d : Defined) : Type 0 where
@@ -50,15 +50,15 @@ module _ (p : Program) where
 
   from : (xs : List Item) (n : ℕ) (d : Defined) → slice_get (items_defined p xs) n ≡ Some d → From xs d
   from [] n d e = none_some e
-  from (ClassItem c ∷ xs) n d e = by (in_either (members_defined p c.name c.members) (items_defined p xs) n d e)
+  from (ClassItem c ∷ xs) n d e = by (in_either (members_defined p c.name c.members) (items_defined p xs) n d e) (λ k q. from xs k d q)
     where
       further : From xs d → From (ClassItem c ∷ xs) d
       further (from_item i r e q) = from_item (suc i) r e q
       further (from_class i x e q) = from_class (suc i) x e q
 
-      by : (slice_get (members_defined p c.name c.members) n ≡ Some d) ⊎ ((k : ℕ) × (slice_get (items_defined p xs) k ≡ Some d)) → From (ClassItem c ∷ xs) d
-      by (inl e) = from_class 0 c refl (in_members c.name c.members n d e)
-      by (inr e) = further (from xs e.0 d e.1)
+      by : (slice_get (members_defined p c.name c.members) n ≡ Some d) ⊎ ((k : ℕ) × (slice_get (items_defined p xs) k ≡ Some d)) → ((k : ℕ) → slice_get (items_defined p xs) k ≡ Some d → From xs d) → From (ClassItem c ∷ xs) d
+      by (inl e) ih = from_class 0 c refl (in_members c.name c.members n d e)
+      by (inr e) ih = further (ih e.0 e.1)
   from (RoutineItem r ∷ xs) zero d e = from_item 0 r refl (some_same e)
   from (RoutineItem r ∷ xs) (suc n) d e = further (from xs n d e)
     where
@@ -139,28 +139,28 @@ looked_from f (d ∷ ds) r = if f d then Some r else looked_from f ds (suc r)
 
 pub looks : (f : Defined → Bool) (ds : List Defined) (r : ℕ) (m : ℕ) (x : Defined) → slice_get ds m ≡ Some x → f x ≡ true → Looked f ds r (looked_from f ds r)
 looks f [] r m x e h = none_some e
-looks f (d ∷ ds) r m x e h = by (f d) refl
+looks f (d ∷ ds) r m x e h = by (f d) refl (λ k q. looks f ds (suc r) k x q h)
   where
     further : (m : ℕ) → slice_get (d ∷ ds) m ≡ Some x → f d ≡ false → (k : ℕ) × (slice_get ds k ≡ Some x)
     further zero e w = false_true (sym w ∙ (ap f (some_same e) ∙ h))
     further (suc m) e w = (m, e)
 
-    by : (b : Bool) → f d ≡ b → Looked f (d ∷ ds) r (if b then Some r else looked_from f ds (suc r))
-    by true w = record { n = 0; defined = d; at = refl; passes = w; found = ap Some (let q : r ≡ r + 0 = omega arith in q) }
-    by false w =
+    by : (b : Bool) → f d ≡ b → ((k : ℕ) → slice_get ds k ≡ Some x → Looked f ds (suc r) (looked_from f ds (suc r))) → Looked f (d ∷ ds) r (if b then Some r else looked_from f ds (suc r))
+    by true w ih = record { n = 0; defined = d; at = refl; passes = w; found = ap Some (let q : r ≡ r + 0 = omega arith in q) }
+    by false w ih =
         let k = further m e w in
-        let s = looks f ds (suc r) k.0 x k.1 h in
+        let s = ih k.0 k.1 in
         record { n = suc s.n; defined = s.defined; at = s.at; passes = s.passes; found = s.found ∙ ap Some (let q : suc r + s.n ≡ r + suc s.n = omega arith in q) }
 
 -- and where it finds a number, that one passes
 pub looked : (f : Defined → Bool) (ds : List Defined) (r k : ℕ) → looked_from f ds r ≡ Some k → Looked f ds r (Some k)
 looked f [] r k e = none_some e
-looked f (d ∷ ds) r k e = by (f d) refl e
+looked f (d ∷ ds) r k e = by (f d) refl (looked f ds (suc r) k) e
   where
-    by : (b : Bool) → f d ≡ b → (if b then Some r else looked_from f ds (suc r)) ≡ Some k → Looked f (d ∷ ds) r (Some k)
-    by true w h = record { n = 0; defined = d; at = refl; passes = w; found = sym h ∙ ap Some (let q : r ≡ r + 0 = omega arith in q) }
-    by false w h =
-        let s = looked f ds (suc r) k h in
+    by : (b : Bool) → f d ≡ b → (looked_from f ds (suc r) ≡ Some k → Looked f ds (suc r) (Some k)) → (if b then Some r else looked_from f ds (suc r)) ≡ Some k → Looked f (d ∷ ds) r (Some k)
+    by true w ih h = record { n = 0; defined = d; at = refl; passes = w; found = sym h ∙ ap Some (let q : r ≡ r + 0 = omega arith in q) }
+    by false w ih h =
+        let s = ih h in
         record { n = suc s.n; defined = s.defined; at = s.at; passes = s.passes; found = s.found ∙ ap Some (let q : suc r + s.n ≡ r + suc s.n = omega arith in q) }
 
 -- the look-ups of the resolved tree are such

@@ -1,6 +1,6 @@
 -- The name of a routine outside of classes finds the one with the parameters of its declaration.
 use Rattle.std.proofs.Common.{◌≡◌, ℕ, zero, suc, ◌+◌, ◌<◌, ◌⊎◌, inl, inr, List, [], ◌∷◌, Option, Some, None, Bool, true, false, refl, sym, ap, ◌∙◌, subst, arith, map}
-use Rattle.std.specs.Prelude.{◌&&◌, ◌||◌, not, slice_get, take, if◌then◌else◌, nat_eq, option_and_then, unwrap_or}
+use Rattle.std.specs.Prelude.{◌&&◌, ◌||◌, not, slice_get, take, if◌then◌else◌, nat_eq, nat_le, nat_lt, option_map, option_and_then, unwrap_or}
 use Rattle.std.specs.List.{list_any, list_all}
 use Rattle.std.proofs.lemmas.Bool.{eqb-true}
 use Rattle.uc_tree.specs.declared.limits.TheConstants.{LAST_CLASS}
@@ -15,21 +15,23 @@ use Rattle.uc_tree.specs.declared.kinds.Base.TheVariants as base
 use Rattle.uc_tree.specs.declared.kinds.Role.{Role}
 use Rattle.uc_tree.specs.declared.kinds.Role.TheVariants as role
 use Rattle.uc_resolve.specs.Resolve.{place_by}
-use Rattle.uc_tree.specs.Programs.{Sig, Routine, RoutineMember, Member, Class, Constant, Item, ClassItem, RoutineItem, ConstItem, ProtoItem, ForwardItem, UsingItem, Program}
+use Rattle.uc_tree.specs.Programs.{Sig, Routine, MemberForm, FieldsMember, RoutineMember, ProtoMember, Member, Class, Constant, Item, ClassItem, RoutineItem, ConstItem, ProtoItem, ForwardItem, UsingItem, Program}
 use Rattle.uc_resolve.specs.Standings as tree
 use Rattle.uc_resolve.specs.Standings.{routine_from, params_of}
-use Rattle.uc_rules.specs.declared.rule.Rule.TheVariants.{S5, S22}
+use Rattle.uc_rules.specs.declared.rule.Rule.TheVariants.{S5, S6, S14, S17, S22}
 use Rattle.uc_rules.specs.declared.rules.Entity.{Entity}
 use Rattle.uc_rules.specs.declared.rules.Entity.TheVariants as entity
 use Rattle.uc_rules.specs.declared.rules.Sort.{Sort}
 use Rattle.uc_rules.specs.declared.rules.Meant.{Meant}
 use Rattle.uc_rules.specs.Names as rules
-use Rattle.uc_rules.specs.Names.{first_of, outer, is_here, routine_sig, params_in, items_named, outer_named, constant_meant, item_sig}
+use Rattle.uc_rules.specs.Names.{first_of, outer, is_here, routine_sig, params_in, items_named, outer_named, constant_meant, item_sig, form_sig}
 use Rattle.uc_rules.specs.Scopes.{plain_env, class_around, no_around}
 use Rattle.uc_rules.specs.Sorts.{sort_of}
 use Rattle.uc_rules.specs.Entities.{meant_entity}
 use Rattle.uc_rules.specs.ItemBreaks.{item_name, item_pos, is_named_proto, is_named, defines_name, defines_sig, declares_sig, is_well_declared, is_definition, is_sound_item, same_sig, are_one, clashes}
-use Rattle.uc_rules.specs.ClassBreaks.{is_sound_event, is_event_member, is_empty_constructor}
+use Rattle.uc_rules.specs.ClassBreaks.{is_sound_event, is_event_member, is_empty_body, builds_more, has_event_fields, fields_in, events_before, is_well_mained, is_well_built, has_room}
+use Rattle.uc_rules.specs.Asked.{unless}
+use Rattle.uc_tree.specs.declared.limits.TheConstants.{EVENT_FIELDS, PROGRAM_EVENTS}
 use Rattle.uc_rules.specs.Visits.{AtItem, AtClass}
 use Rattle.uc_rules.specs.ProgramVisits.{program_visits, sig_visits, outer_env, body_visits}
 use Rattle.uc_rules.specs.Breaks.{breaks_at}
@@ -41,7 +43,7 @@ use Rattle.uc_agreement.proofs.Ties.{some_same, none_some, false_true}
 use Rattle.uc_agreement.proofs.Unbroken.{none_left, none_right, first, second, holds}
 use Rattle.uc_sound.specs.Formed.{IsFormed}
 use Rattle.uc_sound.specs.Tables.{table_of}
-use Rattle.uc_sound.proofs.Lists.{left_is, right_is, both_are, or_right, not_is, not_both, case_of, any_at, any_from, all_from, get_take, Order, before, same, behind, order}
+use Rattle.uc_sound.proofs.Lists.{implied, left_is, right_is, both_are, or_right, not_is, not_both, case_of, any_at, any_from, all_from, get_take, Order, before, same, behind, order}
 use Rattle.uc_sound.proofs.Visited.{item_rules, class_own, sig_known}
 use Rattle.uc_sound.proofs.ClassNames.{same_is, is_same, no_clash_at, HasNumber, number_of}
 use Rattle.uc_sound.proofs.Origins.{Origin, outside, inside, origin, outside_listed, Looked, looked_from, looks, routine_looked}
@@ -236,28 +238,37 @@ module _ (p : Program) (formed : IsFormed p) (u : Unbroken (program_visits p)) w
   defined_passes name r h w n =
       subst (λ o. test name (defined_by p o r) ≡ true) (sym (here_owner r.sig.owner h)) (both_are true (tree.is_named r.sig name) refl (both_are (tree.is_here r.sig.owner) (is_plain r.sig.role && same_name r.sig.name name) (here_tree r.sig.owner h) (both_are (is_plain r.sig.role) (same_name r.sig.name name) w (is_same r.sig.name name n))))
 
-  plain_maker : {B : Type 0} (r : Routine) → is_plain r.sig.role ≡ true → is_empty_constructor r ≡ true → B
-  plain_maker r w h = by r.sig.role w (left_is (rules.is_constructor r.sig.role) _ h)
-    where
-      by : (o : Role) → is_plain o ≡ true → rules.is_constructor o ≡ true → B
-      by role.Plain w h = false_true h
-      by role.Constructor w h = false_true w
-      by role.Destructor w h = false_true w
+  plain_maker : {B : Type 0} (o : Role) → is_plain o ≡ true → rules.is_constructor o ≡ true → B
+  plain_maker role.Plain w h = false_true h
+  plain_maker role.Constructor w h = false_true w
+  plain_maker role.Destructor w h = false_true w
+
+  makes : {B : Type 0} (c : Class) (form : MemberForm) (sig : Sig) → form_sig form ≡ Some sig → is_plain sig.role ≡ true → is_event_member p c form ≡ true → B
+  makes c (FieldsMember at b ds) sig e w h = none_some e
+  makes c (RoutineMember r) sig e w h =
+      plain_maker r.sig.role (ap (λ (z : Sig). is_plain z.role) (some_same e) ∙ w) (left_is (rules.is_constructor r.sig.role) (is_empty_body r.body) h)
+  makes c (ProtoMember s) sig e w h =
+      plain_maker s.role (ap (λ (z : Sig). is_plain z.role) (some_same e) ∙ w) (left_is (rules.is_constructor s.role) (not (list_any (builds_more c.name) p.items)) h)
 
   -- an event has no routines but constructors
-  pub event_plain : {B : Type 0} (i j : ℕ) (c : Class) (m : Member) (r : Routine) → class_at p i ≡ Some c → slice_get c.members j ≡ Some m → m.form ≡ RoutineMember r → is_event c.kind ≡ true → is_plain r.sig.role ≡ true → B
-  event_plain i j c m r e f q v w =
-      let s : is_sound_event p c i ≡ true = holds (is_sound_event p c i) S22 _ _ (none_right _ _ (none_right _ _ (none_right _ _ (none_right _ _ (class_own p u i c e))))) in
-      let a = subst (λ (b : Bool). (not b || (list_all (λ (m : Member). is_event_member p c m.form) c.members && _)) ≡ true) v s in
-      let all = left_is (list_all (λ (m : Member). is_event_member p c m.form) c.members) _ a in
-      plain_maker r w (ap (is_event_member p c) (sym q) ∙ all_from (λ (m : Member). is_event_member p c m.form) c.members j m all f)
+  pub event_declares : {B : Type 0} (i j : ℕ) (c : Class) (m : Member) (sig : Sig) → class_at p i ≡ Some c → slice_get c.members j ≡ Some m → form_sig m.form ≡ Some sig → is_event c.kind ≡ true → is_plain sig.role ≡ true → B
+  event_declares i j c m sig e f q v w =
+      let own = class_own p u i c e in
+      let own1 = none_right (unless (is_well_mained c) S6 c.pos) _ own in
+      let own2 = none_right (unless (has_room p c i) S14 c.pos) _ own1 in
+      let own3 = none_right (unless (is_well_built p c) S17 c.pos) _ own2 in
+      let s : is_sound_event p c i ≡ true = holds (is_sound_event p c i) S22 c.pos _ own3 in
+      let more = list_all (λ (m : Member). has_event_fields p m.form) c.members && (nat_le (fields_in c.members) EVENT_FIELDS && nat_lt (events_before p i) PROGRAM_EVENTS) in
+      let a = implied (is_event c.kind) (list_all (λ (m : Member). is_event_member p c m.form) c.members && more) v s in
+      let all = left_is (list_all (λ (m : Member). is_event_member p c m.form) c.members) more a in
+      makes c m.form sig q w (all_from (λ (m : Member). is_event_member p c m.form) c.members j m all f)
 
   -- what a class numbers is no routine outside of classes
   numbered_inside : {B : Type 0} (i j : ℕ) (c : Class) (m : Member) (r : Routine) → class_at p i ≡ Some c → slice_get c.members j ≡ Some m → m.form ≡ RoutineMember r → is_plain r.sig.role ≡ true → unwrap_or (class_number p c.name) 0 ≡ 0 → B
-  numbered_inside i j c m r e f q w z = by (case_of (is_event c.kind))
+  numbered_inside {B} i j c m r e f q w z = by (case_of (is_event c.kind))
     where
       by : (is_event c.kind ≡ true) ⊎ (is_event c.kind ≡ false) → B
-      by (inl v) = event_plain i j c m r e f q v w
+      by (inl v) = event_declares i j c m r.sig e f (ap form_sig q) v w
       by (inr v) =
           let n = number_of p u i c formed.classes e v in
           let k : number_at p i ≡ unwrap_or (class_number p c.name) 0 = ap (number_in p) e in

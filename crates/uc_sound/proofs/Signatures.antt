@@ -19,7 +19,7 @@ use Rattle.uc_typing.specs.Typing.{Sig, Table, IsRoutine}
 use Rattle.uc_agreement.specs.Agreement.{param_ty}
 use Rattle.uc_agreement.proofs.Ties.{some_same, none_some, false_true}
 use Rattle.uc_sound.specs.Tables.{routine_sig_in, written_sigs, unwritten_sig, unwritten_sigs, all_sigs, sig_or_none, table_of}
-use Rattle.uc_sound.proofs.Lists.{both_are, left_is, right_is, case_of, in_left, in_right, get_right, get_left, within}
+use Rattle.uc_sound.proofs.Lists.{both_are, left_is, right_is, case_of, in_left, in_right, get_right, get_left, within, Order, before, same, behind, order}
 
 written_length : (p : Program) (ds : List Defined) (n t s : ℕ) → length (written_sigs p ds n t s) ≡ length ds
 written_length p [] n t s = refl
@@ -67,17 +67,21 @@ module _ (p : Program) where
 
   -- what nobody wrote
 
-  height_few : (depth : ℕ) (rows : List Row) (i : ℕ) → height_within depth rows i ≤ depth
-  height_few zero rows i = omega arith
-  height_few (suc depth) rows i = among (row_at rows i).held
-    where
-      of_object : (o : Option Object) → object_height (height_within depth rows) o ≤ suc depth
-      of_object None = omega arith
-      of_object (Some o) = let r = height_few depth rows o.class in omega (arith, r)
+  object_few : (heights : ℕ → ℕ) (top : ℕ) → ((i : ℕ) → heights i ≤ top) → (o : Option Object) → object_height heights o ≤ suc top
+  object_few heights top f None = omega arith
+  object_few heights top f (Some o) = let r = f o.class in omega (arith, r)
 
-      among : (hs : List Held) → tallest (height_within depth rows) hs ≤ suc depth
-      among [] = omega arith
-      among (h ∷ hs) = let a = of_object h.object in let b = among hs in omega (arith, a, b)
+  tallest_few : (heights : ℕ → ℕ) (top : ℕ) → ((i : ℕ) → heights i ≤ top) → (hs : List Held) → tallest heights hs ≤ suc top
+  tallest_few heights top f [] = omega arith
+  tallest_few heights top f (h ∷ hs) =
+      let a = object_few heights top f h.object in
+      let b = tallest_few heights top f hs in
+      omega (arith, a, b)
+
+  height_few : (depth : ℕ) (rows : List Row) (i : ℕ) → height_within depth rows i ≤ depth
+  unfolding height_within
+  height_few zero rows i = let e : height_within zero rows i ≡ 0 = refl in omega (arith, e)
+  height_few (suc depth) rows i = tallest_few (height_within depth rows) depth (height_few depth rows) (row_at rows i).held
 
   map_length : {A B : Type 0} (f : A → B) (xs : List A) → length (map f xs) ≡ length xs
   map_length f [] = refl
@@ -104,20 +108,15 @@ module _ (p : Program) where
 
   up_to : (top : ℕ) (i : ℕ) (c : Class) (m : ℕ) (u : Unwritten) → class_at p i ≡ Some c → is_event c.kind ≡ false → class_height p i ≤ top → slice_get (unwritten_at p i) m ≡ Some u → (k : ℕ) × (slice_get (unwritten_up_to p top) k ≡ Some u)
   up_to zero i c m u e v l a = by_height 0 (classes_of p.items) 0 i c i m u (omega arith) e v (omega (arith, l)) a
-  up_to (suc top) i c m u e v l a = by (case_of (nat_eq (class_height p i) (suc top)))
+  up_to (suc top) i c m u e v l a = by (order (class_height p i) (suc top)) (λ l. up_to top i c m u e v l a)
     where
-      other : nat_eq (class_height p i) (suc top) ≡ false → class_height p i ≤ top
-      other w = by_less (class_height p i) l w
-        where
-          by_less : (h : ℕ) → h ≤ suc top → nat_eq h (suc top) ≡ false → h ≤ top
-          by_less h l w = search rules
-
-      by : (nat_eq (class_height p i) (suc top) ≡ true) ⊎ (nat_eq (class_height p i) (suc top) ≡ false) → (k : ℕ) × (slice_get (unwritten_up_to p (suc top)) k ≡ Some u)
-      by (inl w) =
-          let r = by_height (suc top) (classes_of p.items) 0 i c i m u (omega arith) e v (eqb-true (class_height p i) (suc top) w) a in
+      by : Order (class_height p i) (suc top) → (class_height p i ≤ top → (k : ℕ) × (slice_get (unwritten_up_to p top) k ≡ Some u)) → (k : ℕ) × (slice_get (unwritten_up_to p (suc top)) k ≡ Some u)
+      by (same w) ih =
+          let r = by_height (suc top) (classes_of p.items) 0 i c i m u (omega arith) e v w a in
           (r.0, in_left (unwritten_of_height p (suc top) (classes_of p.items) 0) (unwritten_up_to p top) r.0 u r.1)
-      by (inr w) =
-          let r = up_to top i c m u e v (other w) a in
+      by (behind w) ih = let b : ⊥ = omega (arith, w, l) in absurd b
+      by (before w) ih =
+          let r = ih (omega (arith, w)) in
           in_right (unwritten_of_height p (suc top) (classes_of p.items) 0) (unwritten_up_to p top) r.0 u r.1
 
   same_roles : (a b : Role) → same_role a b ≡ true → a ≡ b
@@ -134,16 +133,16 @@ module _ (p : Program) where
   -- what is found among them is of the class and of the role
   among : (us : List Unwritten) (i : ℕ) (wanted : Role) (k : ℕ) → slice_get us k ≡ Some (record { class = i; role = wanted }) → (u : Unwritten) × (slice_get us (place_among us i wanted) ≡ Some u) × (u.class ≡ i)
   among [] i wanted k e = none_some e
-  among (x ∷ us) i wanted k e = by (nat_eq x.class i && same_role wanted x.role) refl
+  among (x ∷ us) i wanted k e = by (nat_eq x.class i && same_role wanted x.role) refl (λ m q. among us i wanted m q)
     where
       further : (k : ℕ) → slice_get (x ∷ us) k ≡ Some (record { class = i; role = wanted }) → (nat_eq x.class i && same_role wanted x.role) ≡ false → (m : ℕ) × (slice_get us m ≡ Some (record { class = i; role = wanted }))
       further zero e w =
           false_true (sym w ∙ subst (λ (z : Unwritten). (nat_eq z.class i && same_role wanted z.role) ≡ true) (sym (some_same e)) (both_are (nat_eq i i) (same_role wanted wanted) (eq-eqb i i refl) (self_role wanted)))
       further (suc k) e w = (k, e)
 
-      by : (b : Bool) → (nat_eq x.class i && same_role wanted x.role) ≡ b → (u : Unwritten) × (slice_get (x ∷ us) (if b then 0 else suc (place_among us i wanted)) ≡ Some u) × (u.class ≡ i)
-      by true w = (x, refl, eqb-true x.class i (left_is (nat_eq x.class i) (same_role wanted x.role) w))
-      by false w = let m = further k e w in among us i wanted m.0 m.1
+      by : (b : Bool) → (nat_eq x.class i && same_role wanted x.role) ≡ b → ((m : ℕ) → slice_get us m ≡ Some (record { class = i; role = wanted }) → (u : Unwritten) × (slice_get us (place_among us i wanted) ≡ Some u) × (u.class ≡ i)) → (u : Unwritten) × (slice_get (x ∷ us) (if b then 0 else suc (place_among us i wanted)) ≡ Some u) × (u.class ≡ i)
+      by true w ih = (x, refl, eqb-true x.class i (left_is (nat_eq x.class i) (same_role wanted x.role) w))
+      by false w ih = let m = further k e w in ih m.0 m.1
 
   sigs_at : (us : List Unwritten) (k : ℕ) (u : Unwritten) → slice_get us k ≡ Some u → slice_get (unwritten_sigs us) k ≡ Some (unwritten_sig u)
   sigs_at [] k u e = none_some e

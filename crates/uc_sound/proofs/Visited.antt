@@ -1,5 +1,5 @@
 -- The rules at each item, class, member and field of a program, by their places.
-use Rattle.std.proofs.Common.{◌≡◌, ℕ, zero, suc, ◌+◌, ◌++◌, inl, inr, List, [], ◌∷◌, Option, Some, None, Bool, true, false, refl, sym, ap, ◌∙◌, subst, arith}
+use Rattle.std.proofs.Common.{◌≡◌, ℕ, zero, suc, ◌+◌, ◌++◌, ◌⊎◌, inl, inr, List, [], ◌∷◌, Option, Some, None, Bool, true, false, refl, sym, ap, ◌∙◌, subst, arith}
 use Rattle.std.specs.Prelude.{slice_get, is_some}
 use Rattle.uc_tree.specs.declared.pos.Pos.{Pos}
 use Rattle.uc_tree.specs.declared.kinds.Access.{Access}
@@ -114,14 +114,14 @@ module _ (p : Program) where
 
   fields_from : (h : Home) (c : Class) (j : ℕ) (ms : List Member) → Unbroken (members_visits p h c j ms) → (n : ℕ) (f : ClassField) → slice_get (fields_of ms) n ≡ Some f → FieldRules h c f
   fields_from h c j [] u n f e = none_some e
-  fields_from h c j (m ∷ ms) u n f e = by (in_either (form_fields m.form) (fields_of ms) n f e)
+  fields_from h c j (m ∷ ms) u n f e = by (in_either (form_fields m.form) (fields_of ms) n f e) (fields_from h c (j + 1) ms (second (AtMark (plain_env p (class_around h)) c m ∷ form_visits p h c j m.mark m.access m.form) (members_visits p h c (j + 1) ms) u))
     where
       here : Unbroken (form_visits p h c j m.mark m.access m.form)
       here = second (AtMark (plain_env p (class_around h)) c m ∷ []) (form_visits p h c j m.mark m.access m.form) (first (AtMark (plain_env p (class_around h)) c m ∷ form_visits p h c j m.mark m.access m.form) (members_visits p h c (j + 1) ms) u)
 
-      by : (slice_get (form_fields m.form) n ≡ Some f) ⊎ ((k : ℕ) × (slice_get (fields_of ms) k ≡ Some f)) → FieldRules h c f
-      by (inl e) = in_form h c j m.mark m.access m.form here n f e
-      by (inr e) = fields_from h c (j + 1) ms (second (AtMark (plain_env p (class_around h)) c m ∷ form_visits p h c j m.mark m.access m.form) (members_visits p h c (j + 1) ms) u) e.0 f e.1
+      by : (slice_get (form_fields m.form) n ≡ Some f) ⊎ ((k : ℕ) × (slice_get (fields_of ms) k ≡ Some f)) → ((k : ℕ) (f : ClassField) → slice_get (fields_of ms) k ≡ Some f → FieldRules h c f) → FieldRules h c f
+      by (inl e) ih = in_form h c j m.mark m.access m.form here n f e
+      by (inr e) ih = ih e.0 f e.1
 
   pub params_known : (env : Env) (e : env.program ≡ p) (xs : List Param) → Unbroken (params_visits env xs) → (n : ℕ) (x : Param) → slice_get xs n ≡ Some x → (s : Sort) × (sort_of p x.base ≡ Some s)
   params_known env e [] u n x q = none_some q

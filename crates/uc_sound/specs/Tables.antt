@@ -28,6 +28,30 @@ abbrev pub declared_ty : Option ℕ → Ty → Ty
 declared_ty None a = a
 declared_ty (Some n) a = Row n a
 
+abbrev pub event_locals : ℕ → Option ℕ → List (ℕ × Ty)
+event_locals k None = []
+event_locals k (Some i) = (k, Raw i) ∷ []
+
+-- an event that every program has has no fields
+abbrev pub caught_ty : Option ℕ → Ty
+caught_ty None = Cell Num
+caught_ty (Some i) = Obj i
+
+abbrev pub unwritten_sig : Unwritten → Sig
+unwritten_sig u = record { this = Some u.class; params = []; locals = []; whole = true }
+
+abbrev pub unwritten_sigs : List Unwritten → List Sig
+unwritten_sigs [] = []
+unwritten_sigs (u ∷ us) = unwritten_sig u ∷ unwritten_sigs us
+
+abbrev pub sig_or_none : Option Sig → Sig
+sig_or_none None = record { this = None; params = []; locals = []; whole = false }
+sig_or_none (Some g) = g
+
+abbrev pub of_kind : (Kind → Bool) → Option Class → Bool
+of_kind test None = false
+of_kind test (Some c) = test c.kind
+
 -- the variables that a routine declares, each with its first cell and what stands there while it is built; the events that it builds
 -- where it raises them, and those that handlers keep
 module _ (p : Program) where
@@ -43,18 +67,9 @@ module _ (p : Program) where
   for_locals (stmt.ForDeclare at b ds) s = declared_locals b ds s
   for_locals (stmt.ForEvaluate e) s = []
 
-  abbrev pub event_locals : ℕ → Option ℕ → List (ℕ × Ty)
-  event_locals k None = []
-  event_locals k (Some i) = (k, Raw i) ∷ []
-
   abbrev pub raised_locals : Option stmt.Raised → Scope → List (ℕ × Ty)
   raised_locals None s = []
   raised_locals (Some r) s = event_locals s.hidden (event_place p (base.Named r.name))
-
-  -- an event that every program has has no fields
-  abbrev pub caught_ty : Option ℕ → Ty
-  caught_ty None = Cell Num
-  caught_ty (Some i) = Obj i
 
   abbrev pub caught_locals : Option (List ℕ) → Option (List ℕ) → Scope → List (ℕ × Ty)
   caught_locals None event s = []
@@ -73,9 +88,9 @@ module _ (p : Program) where
     stmt_locals (stmt.Throw at raised) s = raised_locals raised s
     stmt_locals (stmt.Raise at raised) s = raised_locals raised s
     stmt_locals (stmt.RaiseAt at raised target) s = raised_locals (Some raised) s
-    stmt_locals (stmt.Enable at events body) s = stmt_locals body (within_events s)
-    stmt_locals (stmt.Disable at events body) s = stmt_locals body (within_events s)
-    stmt_locals (stmt.Accept at cs other) s = clauses_locals cs (within_accept s) ++ maybe_locals other (scope_past_clauses p cs (within_accept s))
+    stmt_locals (stmt.Enable at events body) s = stmt_locals body (within_events p s)
+    stmt_locals (stmt.Disable at events body) s = stmt_locals body (within_events p s)
+    stmt_locals (stmt.Accept at cs other) s = clauses_locals cs (within_accept p s) ++ maybe_locals other (scope_past_clauses p cs (within_accept p s))
     stmt_locals _ s = []
 
     pub stmts_locals : Stmts → Scope → List (ℕ × Ty)
@@ -117,19 +132,8 @@ module _ (p : Program) where
   written_sigs (d ∷ ds) number texts sites =
       routine_sig_in d (routine_scope p d.routine (place_by p d) number texts sites) ∷ written_sigs ds (number + 1) (texts + length (gathered_all own_texts d.routine.body)) (sites + length (gathered_all (own_sites d.class d.number) d.routine.body))
 
-  abbrev pub unwritten_sig : Unwritten → Sig
-  unwritten_sig u = record { this = Some u.class; params = []; locals = []; whole = true }
-
-  abbrev pub unwritten_sigs : List Unwritten → List Sig
-  unwritten_sigs [] = []
-  unwritten_sigs (u ∷ us) = unwritten_sig u ∷ unwritten_sigs us
-
   abbrev pub all_sigs : List Sig
   all_sigs = written_sigs (routines_of p) 0 0 0 ++ unwritten_sigs (unwritten_of p)
-
-  abbrev pub sig_or_none : Option Sig → Sig
-  sig_or_none None = record { this = None; params = []; locals = []; whole = false }
-  sig_or_none (Some g) = g
 
   -- fields
 
@@ -144,10 +148,6 @@ module _ (p : Program) where
   abbrev pub class_field : Option Class → ℕ → Ty
   class_field None n = Num
   class_field (Some c) n = listed_field c (slice_get (fields_of c.members) (n - leading_cells c.kind))
-
-  abbrev pub of_kind : (Kind → Bool) → Option Class → Bool
-  of_kind test None = false
-  of_kind test (Some c) = test c.kind
 
   abbrev pub table_of : Table
   table_of = record {

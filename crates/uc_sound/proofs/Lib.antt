@@ -1,0 +1,9 @@
+pub mod Lists
+pub mod Visited
+pub mod ClassNames
+pub mod Origins
+pub mod Signatures
+pub mod Likes
+pub mod RoutineLemmas
+pub mod MemberLemmas
+pub mod ClassLemmas
