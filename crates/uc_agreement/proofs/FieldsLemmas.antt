@@ -34,12 +34,12 @@ use Rattle.uc_agreement.specs.Fields.{field_ty, TellsClass, LawFields}
 use Rattle.uc_agreement.proofs.Ties.{some_same, none_some, false_true, scalar_cell, scalar_unnumbered, numbered_is}
 
 -- a field that is found, from a number on, as the rules' look-up tells it
-record Found (p : Program) (c : Class) (name : List ℕ) (x : Meant) (k : ℕ) (fs : List ClassField) : Type 0 where
-  n : ℕ
-  field : ClassField
-  at : slice_get fs n ≡ Some field
-  named : tree.field_named k fs name ≡ Some (record { number = k + n; field = field })
-  entity : x.entity ≡ declared_entity p field.base field.declarator (elements (seen_in (constants_of p.items) c) field.declarator)
+pub record Found (p : Program) (c : Class) (name : List ℕ) (x : Meant) (k : ℕ) (fs : List ClassField) : Type 0 where
+  pub n : ℕ
+  pub field : ClassField
+  pub at : slice_get fs n ≡ Some field
+  pub named : tree.field_named k fs name ≡ Some (record { number = k + n; field = field })
+  pub entity : x.entity ≡ declared_entity p field.base field.declarator (elements (seen_in (constants_of p.items) c) field.declarator)
 
 module _ (p : Program) (i : ℕ) (c : Class) (name : List ℕ) (x : Meant) where
   abbrev o : Owned
@@ -89,7 +89,7 @@ module _ (p : Program) (i : ℕ) (c : Class) (name : List ℕ) (x : Meant) where
   members (m ∷ ms) j k h r =
       by_form m.mark m.access m.form j k (fields_of ms) (rules.members_named p o (j + 1) ms name) h r (λ k e. members ms (j + 1) k e r)
 
-  found : class_at p i ≡ Some c → member_named p i name ≡ Some x → is_field_origin x.origin ≡ true → Found p c name x (leading_cells c.kind) (fields_of c.members)
+  pub found : class_at p i ≡ Some c → member_named p i name ≡ Some x → is_field_origin x.origin ≡ true → Found p c name x (leading_cells c.kind) (fields_of c.members)
   found a h r = members c.members 0 (leading_cells c.kind) (subst (λ o. rules.member_in p i o name ≡ Some x) a h) r
 
 -- what a name names is no condition

@@ -7,3 +7,7 @@ pub mod Likes
 pub mod RoutineLemmas
 pub mod MemberLemmas
 pub mod ClassLemmas
+pub mod RootLemmas
+pub mod RootedLemmas
+pub mod GivingLemmas
+pub mod DeclaringLemmas

@@ -44,7 +44,7 @@ use Rattle.uc_sound.specs.Formed.{IsFormed}
 use Rattle.uc_sound.specs.Tables.{table_of}
 use Rattle.uc_sound.specs.Told.{IsOfClass, TellsMember, TellsMaker, role_params}
 use Rattle.uc_sound.proofs.Lists.{some_is, left_is, right_is, both_are, not_is, not_either, not_both, next_is_not, case_of, any_at, any_from, in_left, in_right, get_take, Order, before, same, behind, order}
-use Rattle.uc_sound.proofs.Visited.{MemberRules, item_rules, home, member_rules, sig_known}
+use Rattle.uc_sound.proofs.Visited.{MemberRules, item_rules, home, member_rules, sig_known, sig_ret}
 use Rattle.uc_sound.proofs.ClassNames.{same_is, is_same, self_named, HasNumber, number_of, event_number_is, same_number, apart, Sorted, sorted, EventAt, event_at}
 use Rattle.uc_sound.proofs.Origins.{Origin, outside, inside, origin, outside_listed, inside_listed, Looked, looked_from, looks, looked, member_looked, role_looked, event_looked}
 use Rattle.uc_sound.proofs.Signatures.{has_sig, IsUnwritten, is_unwritten}
@@ -58,7 +58,7 @@ sig_form (FieldsMember at b ds) sig e w = none_some e
 sig_form (RoutineMember r) sig e w = ap (λ (z : Sig). slice_get (sig_declares z) 0) (some_same e) ∙ ap (λ (b : Bool). slice_get (if b then sig.name ∷ [] else []) 0) w
 sig_form (ProtoMember s) sig e w = ap (λ (z : Sig). slice_get (sig_declares z) 0) (some_same e) ∙ ap (λ (b : Bool). slice_get (if b then sig.name ∷ [] else []) 0) w
 
-declares : (ms : List Member) (j : ℕ) (m : Member) (sig : Sig) → slice_get ms j ≡ Some m → form_sig m.form ≡ Some sig → is_plain sig.role ≡ true → (k : ℕ) × (slice_get (members_declare ms) k ≡ Some sig.name)
+pub declares : (ms : List Member) (j : ℕ) (m : Member) (sig : Sig) → slice_get ms j ≡ Some m → form_sig m.form ≡ Some sig → is_plain sig.role ≡ true → (k : ℕ) × (slice_get (members_declare ms) k ≡ Some sig.name)
 declares [] j m sig e f w = none_some e
 declares (x ∷ ms) zero m sig e f w =
     (0, in_left (form_declares_names x.form) (members_declare ms) 0 sig.name (ap (λ (z : Member). slice_get (form_declares_names z.form) 0) (some_same e) ∙ sig_form m.form sig f w))
@@ -92,35 +92,36 @@ same_roles role.Destructor role.Destructor h = refl
 same_roles _ _ h = false_true h
 
 -- a member that declares a routine
-record Declares (c : Class) (j : ℕ) (sig : Sig) : Type 0 where
-  m : Member
-  at : slice_get c.members j ≡ Some m
-  form : form_sig m.form ≡ Some sig
+pub record Declares (c : Class) (j : ℕ) (sig : Sig) : Type 0 where
+  pub m : Member
+  pub at : slice_get c.members j ≡ Some m
+  pub form : form_sig m.form ≡ Some sig
 
 -- a routine that a member of a class declares
-record Belongs (p : Program) (c : Class) (x : Defined) : Type 0 where
-  j : ℕ
-  sig : Sig
-  declared : Declares c j sig
-  role : sig.role ≡ x.routine.sig.role
-  name : sig.name ≡ x.routine.sig.name
-  params : AreLike p sig.params x.routine.sig.params
+pub record Belongs (p : Program) (c : Class) (x : Defined) : Type 0 where
+  pub j : ℕ
+  pub sig : Sig
+  pub declared : Declares c j sig
+  pub role : sig.role ≡ x.routine.sig.role
+  pub name : sig.name ≡ x.routine.sig.name
+  pub params : AreLike p sig.params x.routine.sig.params
 
 -- where a routine is at home: in a class that has a member for it, or nowhere
-data HomeOf (p : Program) (x : Defined) : Type 0 where
+pub data HomeOf (p : Program) (x : Defined) : Type 0 where
   in_a_class : (i : ℕ) (c : Class) → class_at p i ≡ Some c → x.number ≡ unwrap_or (class_number p c.name) 0 → Belongs p c x → HomeOf p x
   in_none : x.number ≡ 0 → is_plain x.routine.sig.role ≡ true → HomeOf p x
 
 module _ (p : Program) (formed : IsFormed p) (u : Unbroken (program_visits p)) where
   -- what the rules ask of a member that is a routine
-  record SigRules (i : ℕ) (c : Class) (j : ℕ) (sig : Sig) : Type 0 where
-    fresh : is_new_routine c j sig ≡ true
-    class_name : has_class_name c.name sig ≡ true
-    alone : is_only_one c sig j ≡ true
-    known : AreKnown p sig.params
+  pub record SigRules (i : ℕ) (c : Class) (j : ℕ) (sig : Sig) : Type 0 where
+    pub fresh : is_new_routine c j sig ≡ true
+    pub class_name : has_class_name c.name sig ≡ true
+    pub alone : is_only_one c sig j ≡ true
+    pub known : AreKnown p sig.params
+    pub ret : (s : Sort) × (sort_of p sig.ret ≡ Some s)
 
-  routine_rules : (i : ℕ) (c : Class) (j : ℕ) (proto : Bool) (sig : Sig) → breaks_at (AtRoutine (plain_env p (class_around (home p u i c))) c proto sig j) ≡ [] → AreKnown p sig.params → SigRules i c j sig
-  routine_rules i c j proto sig h k =
+  routine_rules : (i : ℕ) (c : Class) (j : ℕ) (proto : Bool) (sig : Sig) → breaks_at (AtRoutine (plain_env p (class_around (home p u i c))) c proto sig j) ≡ [] → AreKnown p sig.params → (s : Sort) × (sort_of p sig.ret ≡ Some s) → SigRules i c j sig
+  routine_rules i c j proto sig h k ret =
       let a = holds (is_new_routine c j sig) S2 sig.pos _ h in
       let b = none_right (unless (is_new_routine c j sig) S2 sig.pos) _ h in
       let s : is_sound_member p c proto sig j ≡ true = holds (is_sound_member p c proto sig j) S5 sig.pos _ b in
@@ -129,29 +130,34 @@ module _ (p : Program) (formed : IsFormed p) (u : Unbroken (program_visits p)) w
         class_name = left_is (has_class_name c.name sig) (is_only_one c sig j && is_defined p c proto sig) s;
         alone = left_is (is_only_one c sig j) (is_defined p c proto sig) (right_is (has_class_name c.name sig) (is_only_one c sig j && is_defined p c proto sig) s);
         known = k;
+        ret = ret;
       }
 
-  by_form : (i : ℕ) (c : Class) (j : ℕ) (m : Member) (form : MemberForm) (sig : Sig) → m.form ≡ form → form_sig form ≡ Some sig → MemberRules p (home p u i c) c j m → SigRules i c j sig
-  by_form i c j m (FieldsMember at b ds) sig e f r = none_some f
-  by_form i c j m (RoutineMember s) sig e f r =
+  by_form : (i : ℕ) (c : Class) (j : ℕ) (m : Member) (form : MemberForm) (sig : Sig) → ((s : Sig) → form_sig form ≡ Some s → is_plain s.role ≡ false → s.ret ≡ base.Void) → m.form ≡ form → form_sig form ≡ Some sig → MemberRules p (home p u i c) c j m → SigRules i c j sig
+  by_form i c j m (FieldsMember at b ds) sig o e f r = none_some f
+  by_form i c j m (RoutineMember s) sig o e f r =
       let h = home p u i c in
       let v = subst (λ z. Unbroken (form_visits p h c j m.mark m.access z)) e r.inner in
       let own = none_left (breaks_at (AtRoutine (plain_env p (class_around h)) c false s.sig j)) _ v in
       let w = second (AtRoutine (plain_env p (class_around h)) c false s.sig j ∷ []) (routine_visits (sig_env p h m.mark s.sig) s) v in
-      let k = sig_known p u (sig_env p h m.mark s.sig) s.sig refl (first (sig_visits (sig_env p h m.mark s.sig) s.sig) (body_visits (with_params (sig_env p h m.mark s.sig) s.sig.params) s) w) in
-      subst (SigRules i c j) (some_same f) (routine_rules i c j false s.sig own k)
-  by_form i c j m (ProtoMember s) sig e f r =
+      let v2 = first (sig_visits (sig_env p h m.mark s.sig) s.sig) (body_visits (with_params (sig_env p h m.mark s.sig) s.sig.params) s) w in
+      subst (SigRules i c j) (some_same f) (routine_rules i c j false s.sig own (sig_known p u (sig_env p h m.mark s.sig) s.sig refl v2) (sig_ret p u (sig_env p h m.mark s.sig) s.sig refl (o s.sig refl) v2))
+  by_form i c j m (ProtoMember s) sig o e f r =
       let h = home p u i c in
       let v = subst (λ z. Unbroken (form_visits p h c j m.mark m.access z)) e r.inner in
       let own = none_left (breaks_at (AtRoutine (plain_env p (class_around h)) c true s j)) _ v in
       let w = second (AtRoutine (plain_env p (class_around h)) c true s j ∷ []) (sig_visits (sig_env p h m.mark s) s) v in
-      subst (SigRules i c j) (some_same f) (routine_rules i c j true s own (sig_known p u (sig_env p h m.mark s) s refl w))
+      subst (SigRules i c j) (some_same f) (routine_rules i c j true s own (sig_known p u (sig_env p h m.mark s) s refl w) (sig_ret p u (sig_env p h m.mark s) s refl (o s refl) w))
 
-  sig_rules : (i : ℕ) (c : Class) (j : ℕ) (sig : Sig) → class_at p i ≡ Some c → Declares c j sig → SigRules i c j sig
-  sig_rules i c j sig e d = by_form i c j d.m d.m.form sig refl d.form (member_rules p u i c e j d.m d.at)
+  pub sig_rules : (i : ℕ) (c : Class) (j : ℕ) (sig : Sig) → class_at p i ≡ Some c → Declares c j sig → SigRules i c j sig
+  sig_rules i c j sig e d = by_form i c j d.m d.m.form sig returns refl d.form (member_rules p u i c e j d.m d.at)
+    where
+      returns : (s : Sig) → form_sig d.m.form ≡ Some s → is_plain s.role ≡ false → s.ret ≡ base.Void
+      returns s f w =
+          formed.own_makers i j s (ap (option_and_then (λ (c : Class). option_and_then (λ (m : Member). form_sig m.form) (slice_get c.members j))) e ∙ (ap (option_and_then (λ (m : Member). form_sig m.form)) d.at ∙ f)) w
 
   -- no two plain members have one name
-  not_earlier : {B : Type 0} (i : ℕ) (c : Class) (j k : ℕ) (a b : Sig) → class_at p i ≡ Some c → Declares c j a → Declares c k b → is_plain a.role ≡ true → is_plain b.role ≡ true → a.name ≡ b.name → j < k → B
+  pub not_earlier : {B : Type 0} (i : ℕ) (c : Class) (j k : ℕ) (a b : Sig) → class_at p i ≡ Some c → Declares c j a → Declares c k b → is_plain a.role ≡ true → is_plain b.role ≡ true → a.name ≡ b.name → j < k → B
   not_earlier i c j k a b e x y v w q l =
       let r = sig_rules i c k b e y in
       let f : is_new_member c k b.name ≡ true = by b.role w r.fresh in
@@ -242,7 +248,7 @@ module _ (p : Program) (formed : IsFormed p) (u : Unbroken (program_visits p)) w
       in_none (ap (λ (z : Defined). z.number) (sym q)) (subst (λ (z : Defined). is_plain z.routine.sig.role ≡ true) q (left_is (is_plain r.sig.role) _ (definition i r owner.Main w e)))
   by_owner i r (owner.Class name) w e x q = owned i r name (owner_home p (owner.Class name)) refl e (definition i r (owner.Class name) w e) x q
 
-  home_is : (x : Defined) → Origin p x → HomeOf p x
+  pub home_is : (x : Defined) → Origin p x → HomeOf p x
   home_is x (outside i r e q) = by_owner i r r.sig.owner refl e x q
   home_is x (inside i j c m r e f g q) =
       let k : r ≡ x.routine = ap (λ (z : Defined). z.routine) q in
@@ -253,7 +259,7 @@ module _ (p : Program) (formed : IsFormed p) (u : Unbroken (program_visits p)) w
   class_same i k c d q e f = some_same (sym e ∙ (ap (class_at p) q ∙ f))
 
   -- a routine with the number of a class belongs to it
-  belongs : (i : ℕ) (c : Class) (x : Defined) → class_at p i ≡ Some c → HasNumber p u i → x.number ≡ number_at p i → HomeOf p x → Belongs p c x
+  pub belongs : (i : ℕ) (c : Class) (x : Defined) → class_at p i ≡ Some c → HasNumber p u i → x.number ≡ number_at p i → HomeOf p x → Belongs p c x
   belongs i c x e h n (in_none z w) =
       let a = h.number in
       let b : ⊥ = omega (arith, n, z, a) in
@@ -294,14 +300,14 @@ module _ (p : Program) (formed : IsFormed p) (u : Unbroken (program_visits p)) w
 module _ (p : Program) (formed : IsFormed p) (u : Unbroken (program_visits p)) where
   -- members
 
-  method_at : (i j : ℕ) (c : Class) (sig : Sig) → class_at p i ≡ Some c → method_sig p i j ≡ Some sig → Declares c j sig
+  pub method_at : (i j : ℕ) (c : Class) (sig : Sig) → class_at p i ≡ Some c → method_sig p i j ≡ Some sig → Declares c j sig
   method_at i j c sig e h = by (slice_get c.members j) refl (sym (ap (option_and_then (λ (c : Class). option_and_then (λ (m : Member). form_sig m.form) (slice_get c.members j))) e) ∙ h)
     where
       by : (o : Option Member) → slice_get c.members j ≡ o → option_and_then (λ (m : Member). form_sig m.form) o ≡ Some sig → Declares c j sig
       by None q h = none_some h
       by (Some m) q h = record { m = m; at = q; form = h }
 
-  not_event : (i j : ℕ) (c : Class) (sig : Sig) → class_at p i ≡ Some c → Declares c j sig → is_plain sig.role ≡ true → is_event c.kind ≡ false
+  pub not_event : (i j : ℕ) (c : Class) (sig : Sig) → class_at p i ≡ Some c → Declares c j sig → is_plain sig.role ≡ true → is_event c.kind ≡ false
   not_event i j c sig e d w = by (case_of (is_event c.kind))
     where
       by : (is_event c.kind ≡ true) ⊎ (is_event c.kind ≡ false) → is_event c.kind ≡ false

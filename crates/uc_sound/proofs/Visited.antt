@@ -1,6 +1,8 @@
 -- The rules at each item, class, member and field of a program, by their places.
 use Rattle.std.proofs.Common.{◌≡◌, ℕ, zero, suc, ◌+◌, ◌++◌, ◌⊎◌, inl, inr, List, [], ◌∷◌, Option, Some, None, Bool, true, false, refl, sym, ap, ◌∙◌, subst, arith}
-use Rattle.std.specs.Prelude.{slice_get, is_some}
+use Rattle.std.specs.Prelude.{slice_get, is_some, if◌then◌else◌}
+use Rattle.uc_tree.specs.declared.kinds.Base.TheVariants as base
+use Rattle.uc_rules.specs.declared.rules.Sort.TheVariants as sort
 use Rattle.uc_tree.specs.declared.pos.Pos.{Pos}
 use Rattle.uc_tree.specs.declared.kinds.Access.{Access}
 use Rattle.uc_tree.specs.declared.kinds.Base.{Base}
@@ -92,35 +94,57 @@ module _ (p : Program) where
     pub own : breaks_at (AtField (plain_env p (class_around h)) c access f.base f.declarator place) ≡ []
     pub sort : Sort
     pub base : sort_of p f.base ≡ Some sort
+    -- the member that declares it
+    pub member : Member
+    pub fields : List Declarator
+    pub at : Pos
+    pub form : member.form ≡ FieldsMember at f.base fields
+    pub member_at : slice_get c.members place.member ≡ Some member
+    pub index : ℕ
+    pub listed : slice_get fields index ≡ Some f.declarator
 
-  listed_from : (h : Home) (c : Class) (a : Access) (b : Base) (s : Sort) (j i : ℕ) (ds : List Declarator) → sort_of p b ≡ Some s → Unbroken (fields_visits (plain_env p (class_around h)) c a b j i ds) → (n : ℕ) (f : ClassField) → slice_get (declared_fields b ds) n ≡ Some f → FieldRules h c f
-  listed_from h c a b s j i [] k u n f e = none_some e
-  listed_from h c a b s j i (d ∷ ds) k u zero f e =
+  listed_from : (h : Home) (c : Class) (m : Member) (at : Pos) (all : List Declarator) (b : Base) (s : Sort) (j i : ℕ) (ds : List Declarator) → slice_get c.members j ≡ Some m → m.form ≡ FieldsMember at b all → ((n : ℕ) (d : Declarator) → slice_get ds n ≡ Some d → (k : ℕ) × (slice_get all k ≡ Some d)) → sort_of p b ≡ Some s → Unbroken (fields_visits (plain_env p (class_around h)) c m.access b j i ds) → (n : ℕ) (f : ClassField) → slice_get (declared_fields b ds) n ≡ Some f → FieldRules h c f
+  listed_from h c m at all b s j i [] w q l k u n f e = none_some e
+  listed_from h c m at all b s j i (d ∷ ds) w q l k u zero f e =
       let env = plain_env p (class_around h) in
-      let here : Unbroken (maybe_visits env d.len ++ AtField env c a b d (place_in j i) ∷ []) = first (maybe_visits env d.len ++ AtField env c a b d (place_in j i) ∷ []) (fields_visits env c a b j (i + 1) ds) u in
-      let r : FieldRules h c (record { base = b; declarator = d }) = record { access = a; place = place_in j i; own = one (AtField env c a b d (place_in j i)) (second (maybe_visits env d.len) (AtField env c a b d (place_in j i) ∷ []) here); sort = s; base = k } in
+      let here : Unbroken (maybe_visits env d.len ++ AtField env c m.access b d (place_in j i) ∷ []) = first (maybe_visits env d.len ++ AtField env c m.access b d (place_in j i) ∷ []) (fields_visits env c m.access b j (i + 1) ds) u in
+      let index = l 0 d refl in
+      let r : FieldRules h c (record { base = b; declarator = d }) = record {
+        access = m.access;
+        place = place_in j i;
+        own = one (AtField env c m.access b d (place_in j i)) (second (maybe_visits env d.len) (AtField env c m.access b d (place_in j i) ∷ []) here);
+        sort = s;
+        base = k;
+        member = m;
+        fields = all;
+        at = at;
+        form = q;
+        member_at = w;
+        index = index.0;
+        listed = index.1;
+      } in
       subst (FieldRules h c) (some_same e) r
-  listed_from h c a b s j i (d ∷ ds) k u (suc n) f e =
+  listed_from h c m at all b s j i (d ∷ ds) w q l k u (suc n) f e =
       let env = plain_env p (class_around h) in
-      listed_from h c a b s j (i + 1) ds k (second (maybe_visits env d.len ++ AtField env c a b d (place_in j i) ∷ []) (fields_visits env c a b j (i + 1) ds) u) n f e
+      listed_from h c m at all b s j (i + 1) ds w q (λ n. l (suc n)) k (second (maybe_visits env d.len ++ AtField env c m.access b d (place_in j i) ∷ []) (fields_visits env c m.access b j (i + 1) ds) u) n f e
 
-  in_form : (h : Home) (c : Class) (j : ℕ) (mark : Mark) (a : Access) (form : MemberForm) → Unbroken (form_visits p h c j mark a form) → (n : ℕ) (f : ClassField) → slice_get (form_fields form) n ≡ Some f → FieldRules h c f
-  in_form h c j mark a (FieldsMember at b ds) u n f e =
+  in_form : (h : Home) (c : Class) (j : ℕ) (m : Member) (form : MemberForm) → slice_get c.members j ≡ Some m → m.form ≡ form → Unbroken (form_visits p h c j m.mark m.access form) → (n : ℕ) (f : ClassField) → slice_get (form_fields form) n ≡ Some f → FieldRules h c f
+  in_form h c j m (FieldsMember at b ds) w q u n f e =
       let env = plain_env p (class_around h) in
-      let k = base_known env at b (one (AtBase env at b) (first (AtBase env at b ∷ []) (fields_visits env c a b j 0 ds) u)) in
-      listed_from h c a b k.0 j 0 ds k.1 (second (AtBase env at b ∷ []) (fields_visits env c a b j 0 ds) u) n f e
-  in_form h c j mark a (RoutineMember r) u n f e = none_some e
-  in_form h c j mark a (ProtoMember s) u n f e = none_some e
+      let k = base_known env at b (one (AtBase env at b) (first (AtBase env at b ∷ []) (fields_visits env c m.access b j 0 ds) u)) in
+      listed_from h c m at ds b k.0 j 0 ds w q (λ n d e. (n, e)) k.1 (second (AtBase env at b ∷ []) (fields_visits env c m.access b j 0 ds) u) n f e
+  in_form h c j m (RoutineMember r) w q u n f e = none_some e
+  in_form h c j m (ProtoMember s) w q u n f e = none_some e
 
-  fields_from : (h : Home) (c : Class) (j : ℕ) (ms : List Member) → Unbroken (members_visits p h c j ms) → (n : ℕ) (f : ClassField) → slice_get (fields_of ms) n ≡ Some f → FieldRules h c f
-  fields_from h c j [] u n f e = none_some e
-  fields_from h c j (m ∷ ms) u n f e = by (in_either (form_fields m.form) (fields_of ms) n f e) (fields_from h c (j + 1) ms (second (AtMark (plain_env p (class_around h)) c m ∷ form_visits p h c j m.mark m.access m.form) (members_visits p h c (j + 1) ms) u))
+  fields_from : (h : Home) (c : Class) (j : ℕ) (ms : List Member) → ((k : ℕ) (m : Member) (l : ℕ) → j + k ≡ l → slice_get ms k ≡ Some m → slice_get c.members l ≡ Some m) → Unbroken (members_visits p h c j ms) → (n : ℕ) (f : ClassField) → slice_get (fields_of ms) n ≡ Some f → FieldRules h c f
+  fields_from h c j [] l u n f e = none_some e
+  fields_from h c j (m ∷ ms) l u n f e = by (in_either (form_fields m.form) (fields_of ms) n f e) (fields_from h c (j + 1) ms (λ k x i q e. l (suc k) x i (omega (arith, q)) e) (second (AtMark (plain_env p (class_around h)) c m ∷ form_visits p h c j m.mark m.access m.form) (members_visits p h c (j + 1) ms) u))
     where
       here : Unbroken (form_visits p h c j m.mark m.access m.form)
       here = second (AtMark (plain_env p (class_around h)) c m ∷ []) (form_visits p h c j m.mark m.access m.form) (first (AtMark (plain_env p (class_around h)) c m ∷ form_visits p h c j m.mark m.access m.form) (members_visits p h c (j + 1) ms) u)
 
       by : (slice_get (form_fields m.form) n ≡ Some f) ⊎ ((k : ℕ) × (slice_get (fields_of ms) k ≡ Some f)) → ((k : ℕ) (f : ClassField) → slice_get (fields_of ms) k ≡ Some f → FieldRules h c f) → FieldRules h c f
-      by (inl e) ih = in_form h c j m.mark m.access m.form here n f e
+      by (inl e) ih = in_form h c j m m.form (l 0 m j (omega arith) refl) refl here n f e
       by (inr e) ih = ih e.0 f e.1
 
   pub params_known : (env : Env) (e : env.program ≡ p) (xs : List Param) → Unbroken (params_visits env xs) → (n : ℕ) (x : Param) → slice_get xs n ≡ Some x → (s : Sort) × (sort_of p x.base ≡ Some s)
@@ -155,8 +179,17 @@ module _ (p : Program) where
     member_rules i c e j m q = member_from (home i c) c 0 c.members (members i c e) j m j (omega arith) q
 
     pub field_rules : (i : ℕ) (c : Class) → class_at p i ≡ Some c → (n : ℕ) (f : ClassField) → slice_get (fields_of c.members) n ≡ Some f → FieldRules (home i c) c f
-    field_rules i c e n f q = fields_from (home i c) c 0 c.members (members i c e) n f q
+    field_rules i c e n f q =
+        fields_from (home i c) c 0 c.members (λ k m l q e. ap (slice_get c.members) (let z : l ≡ k = omega (arith, q) in z) ∙ e) (members i c e) n f q
 
     -- what a signature asks
     pub sig_known : (env : Env) (sig : Sig) → env.program ≡ p → Unbroken (sig_visits env sig) → (n : ℕ) (x : Param) → slice_get sig.params n ≡ Some x → (s : Sort) × (sort_of p x.base ≡ Some s)
     sig_known env sig e v = params_known env e sig.params (second (AtSig env sig ∷ []) (params_visits env sig.params) (second (base_visits env sig) (AtSig env sig ∷ params_visits env sig.params) v))
+
+    -- what it returns names something
+    pub sig_ret : (env : Env) (sig : Sig) → env.program ≡ p → (is_plain sig.role ≡ false → sig.ret ≡ base.Void) → Unbroken (sig_visits env sig) → (s : Sort) × (sort_of p sig.ret ≡ Some s)
+    sig_ret env sig e f v = by (is_plain sig.role) refl (first (base_visits env sig) (AtSig env sig ∷ params_visits env sig.params) v)
+      where
+        by : (b : Bool) → is_plain sig.role ≡ b → Unbroken (if b then AtBase env sig.pos sig.ret ∷ [] else []) → (s : Sort) × (sort_of p sig.ret ≡ Some s)
+        by true w h = let r = base_known env sig.pos sig.ret (one (AtBase env sig.pos sig.ret) h) in (r.0, subst (λ z. sort_of z sig.ret ≡ Some r.0) e r.1)
+        by false w h = (sort.Void, ap (sort_of p) (f w))

@@ -1,3 +1,5 @@
 pub mod Formed
 pub mod Tables
 pub mod Told
+pub mod Rooted
+pub mod Statements
