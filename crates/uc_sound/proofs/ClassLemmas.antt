@@ -34,7 +34,7 @@ use Rattle.uc_sound.proofs.Lists.{left_is}
 use Rattle.uc_sound.proofs.Visited.{FieldRules, sort_holds, home, field_rules}
 use Rattle.uc_sound.proofs.ClassNames.{Sorted, sorted}
 use Rattle.uc_sound.proofs.RoutineLemmas.{tells_routines}
-use Rattle.uc_sound.proofs.MemberLemmas.{tells_member, tells_maker, tells_event, event_whole}
+use Rattle.uc_sound.proofs.MemberLemmas.{tells_member, tells_maker, tells_event, tells_raised, event_whole}
 
 -- the class that a base names
 pub class_of_base : (p : Program) (b : Base) (i : ℕ) (k : Kind) → sort_of p b ≡ Some (sort.Object i k) → (c : Class) × (class_at p i ≡ Some c) × (c.kind ≡ k)
@@ -116,10 +116,12 @@ module _ (p : Program) (u : Unbroken (program_visits p)) where
 
 pub law_told : LawTold
 law_told p formed u = record {
+  numbers = λ i. refl;
   routines = tells_routines p formed u;
   classes = tells_class p u;
   members = λ i j c sig e h w. tells_member p formed u i j c sig e h w;
   makers = λ i c wanted e v w. tells_maker p formed u i c wanted e v w;
   events = λ i r name h g. tells_event p formed u i r name h g;
+  raised = λ r name g. tells_raised p formed u r name g;
   events_whole = λ i r name h g. event_whole p formed u i r name h g;
 }

@@ -206,6 +206,41 @@ event_at (c ∷ cs) i name j h = by (same_name c.name name) (is_event c.kind) re
         let r = ih h in
         record { n = suc r.n; class = r.class; at = r.at; place = let q = r.place in omega (arith, q); event = r.event; name_is = r.name_is }
 
+-- an event is found as such by both look-ups
+pub sorted_event : (cs : List Class) (i : ℕ) (name : List ℕ) (j : ℕ) (k : Kind) → class_sort cs i name ≡ Some (sort.Object j k) → is_event k ≡ true → objects.event_from cs i name ≡ Some j
+sorted_event [] i name j k h v = none_some h
+sorted_event (c ∷ cs) i name j k h v = by (same_name c.name name) (sorted_event cs (i + 1) name j k) h
+  where
+    by : (b : Bool) → (class_sort cs (i + 1) name ≡ Some (sort.Object j k) → is_event k ≡ true → objects.event_from cs (i + 1) name ≡ Some j) → (if b then Some (sort.Object i c.kind) else class_sort cs (i + 1) name) ≡ Some (sort.Object j k) → (if b then (if is_event c.kind then Some i else None) else objects.event_from cs (i + 1) name) ≡ Some j
+    by true ih h =
+        let e : c.kind ≡ k = cc in
+        let q : i ≡ j = cc in
+        subst (λ (z : Bool). (if z then Some i else None) ≡ Some j) (sym (ap is_event e ∙ v)) (ap Some q)
+    by false ih h = ih h v
+
+pub event_sorted : (cs : List Class) (i : ℕ) (name : List ℕ) (j : ℕ) → objects.event_from cs i name ≡ Some j → (k : Kind) × (class_sort cs i name ≡ Some (sort.Object j k)) × (is_event k ≡ true)
+event_sorted [] i name j h = none_some h
+event_sorted (c ∷ cs) i name j h = by (same_name c.name name) (is_event c.kind) refl (event_sorted cs (i + 1) name j) h
+  where
+    by : (b v : Bool) → is_event c.kind ≡ v → (objects.event_from cs (i + 1) name ≡ Some j → (k : Kind) × (class_sort cs (i + 1) name ≡ Some (sort.Object j k)) × (is_event k ≡ true)) → (if b then (if v then Some i else None) else objects.event_from cs (i + 1) name) ≡ Some j → (k : Kind) × ((if b then Some (sort.Object i c.kind) else class_sort cs (i + 1) name) ≡ Some (sort.Object j k)) × (is_event k ≡ true)
+    by true true w ih h = (c.kind, ap (λ z. Some (sort.Object z c.kind)) (some_same h), w)
+    by true false w ih h = none_some h
+    by false v w ih h = ih h
+
+module _ (p : Program) (u : Unbroken (program_visits p)) where
+  -- no class has the name of an event that every program has
+  pub not_given : (i : ℕ) (c : Class) → class_at p i ≡ Some c → is_given c.name ≡ false
+  not_given i c e =
+      let r = class_place p u p.items i c e in
+      let o = (item_rules p u r.0 (ClassItem c) r.1).own in
+      let h : is_new_item p (ClassItem c) r.0 (Some c.name) ≡ true = holds (is_new_item p (ClassItem c) r.0 (Some c.name)) S2 _ _ o in
+      right_false (list_any (clashes (list_any (is_named_proto c.name) p.items) c.name (ClassItem c)) (take r.0 p.items)) (is_given c.name) h
+    where
+      right_false : (a b : Bool) → not (a || b) ≡ true → b ≡ false
+      right_false true b h = false_true h
+      right_false false true h = false_true h
+      right_false false false h = refl
+
 module _ (p : Program) (u : Unbroken (program_visits p)) where
   pub record HasNumber (i : ℕ) : Type 0 where
     pub before : ℕ

@@ -183,7 +183,7 @@ module _ (env : Env) (b : Base) (d : Declarator) (s : Sort) (k : sort_of env.pro
           ap sound_length v.1 ∙ sym (ap sound_length (value_told (value_named env) (value_of_name (constants_of env.program.items)) (hidden_knows env) e v.0 v.1))
 
 -- the sort of a variable is one that may be declared
-no_void : (env : Env) (b : Base) (d : Declarator) (s : Sort) → Rules env b d s → is_void s ≡ false
+pub no_void : (env : Env) (b : Base) (d : Declarator) (s : Sort) → Rules env b d s → is_void s ≡ false
 no_void env b d sort.Void r = by d.len (is_value_start d.start) (count (start_values d.start)) (are_single env (start_values d.start)) r.starts
   where
     by : (l : Option expr.Expr) (v : Bool) (n : ℕ) (z : Bool) → started_breaks env.program l v n z d.pos (Some sort.Void) ≡ [] → true ≡ false
@@ -245,7 +245,7 @@ module _ (t : Table) (g : Sig) (refers : t.refers ≡ true) where
 
   -- scalars
 
-  raw_scalar : (s : Sort) → made s ≡ None → is_void s ≡ false → is_condition s ≡ false → of_class is_event_class s ≡ false → is_scalar_sort s ≡ true
+  pub raw_scalar : (s : Sort) → made s ≡ None → is_void s ≡ false → is_condition s ≡ false → of_class is_event_class s ≡ false → is_scalar_sort s ≡ true
   raw_scalar sort.Void m v c e = false_true (sym v)
   raw_scalar sort.Int m v c e = refl
   raw_scalar sort.Char m v c e = refl
@@ -260,7 +260,7 @@ module _ (t : Table) (g : Sig) (refers : t.refers ≡ true) where
   raw_scalar (sort.Object i kind.Task) m v c e = absurd (cc)
   raw_scalar (sort.Object i kind.Event) m v c e = false_true (sym e)
 
-  scalar_place : (s : Sort) → is_scalar_sort s ≡ true → place_ty s ≡ Cell Num
+  pub scalar_place : (s : Sort) → is_scalar_sort s ≡ true → place_ty s ≡ Cell Num
   scalar_place sort.Int h = refl
   scalar_place sort.Char h = refl
   scalar_place sort.Bool h = refl
@@ -307,7 +307,7 @@ module _ (t : Table) (g : Sig) (refers : t.refers ≡ true) where
     start_fine (stmt.StartArgs (expr.MoreExprs e (expr.MoreExprs f es))) d b cell to v (inl k) u = false_true k
     start_fine (stmt.StartArgs (expr.MoreExprs e es)) d b cell to v (inr k) u = let z : ⊥ = omega (arith, k) in absurd z
 
-    scalar_fine : (b : Base) (d : Declarator) (so : Sort) → Rules env b d so → is_scalar_sort so ≡ true → IsVariable g sc s.cells (declared_ty (length_of env.program d d.len) (Cell Num)) → Unbroken (args_visits env (start_values d.start) (variable_target d.len (sort_of env.program b)) 0) → FineStart t g sc s.cells (started d.start d b)
+    pub scalar_fine : (b : Base) (d : Declarator) (so : Sort) → Rules env b d so → is_scalar_sort so ≡ true → IsVariable g sc s.cells (declared_ty (length_of env.program d d.len) (Cell Num)) → Unbroken (args_visits env (start_values d.start) (variable_target d.len (sort_of env.program b)) 0) → FineStart t g sc s.cells (started d.start d b)
     scalar_fine b d so r k v u = by d.len refl r.starts v
       where
         none_of : (x : Start) (to : Target) → count (start_values x) ≡ 0 → FineStart t g sc s.cells (started x d b)

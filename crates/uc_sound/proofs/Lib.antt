@@ -11,3 +11,5 @@ pub mod RootLemmas
 pub mod RootedLemmas
 pub mod GivingLemmas
 pub mod DeclaringLemmas
+pub mod ObjectLemmas
+pub mod StatementLemmas

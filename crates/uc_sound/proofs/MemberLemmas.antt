@@ -11,9 +11,10 @@ use Rattle.uc_tree.specs.declared.kinds.Param.{Param}
 use Rattle.uc_tree.specs.declared.kinds.Role.{Role}
 use Rattle.uc_tree.specs.declared.kinds.Role.TheVariants as role
 use Rattle.uc_tree.specs.declared.kinds.Kind.{Kind}
+use Rattle.uc_tree.specs.declared.kinds.Kind.TheVariants as kind
 use Rattle.uc_tree.specs.Names.{same_name}
 use Rattle.uc_tree.specs.Cells.{classes_of}
-use Rattle.uc_tree.specs.Numbering.{is_event, is_plain, class_number, Defined, defined_by, in_class, routines_of}
+use Rattle.uc_tree.specs.Numbering.{is_event, is_given, is_plain, class_number, Defined, defined_by, in_class, routines_of}
 use Rattle.uc_tree.specs.Objects as objects
 use Rattle.uc_tree.specs.Objects.{class_at, number_at, number_in, place_of, event_place, is_member, member_from, has_role, role_from, written_at}
 use Rattle.uc_tree.specs.Programs.{Sig, Routine, MemberForm, FieldsMember, RoutineMember, ProtoMember, Member, Class, Item, ClassItem, RoutineItem, ConstItem, ProtoItem, ForwardItem, UsingItem, Program}
@@ -45,7 +46,7 @@ use Rattle.uc_sound.specs.Tables.{table_of}
 use Rattle.uc_sound.specs.Told.{IsOfClass, TellsMember, TellsMaker, role_params}
 use Rattle.uc_sound.proofs.Lists.{some_is, left_is, right_is, both_are, not_is, not_either, not_both, next_is_not, case_of, any_at, any_from, in_left, in_right, get_take, Order, before, same, behind, order}
 use Rattle.uc_sound.proofs.Visited.{MemberRules, item_rules, home, member_rules, sig_known, sig_ret}
-use Rattle.uc_sound.proofs.ClassNames.{same_is, is_same, self_named, HasNumber, number_of, event_number_is, same_number, apart, Sorted, sorted, EventAt, event_at}
+use Rattle.uc_sound.proofs.ClassNames.{same_is, is_same, self_named, HasNumber, number_of, event_number_is, same_number, sort_here, not_given, apart, Sorted, sorted, EventAt, event_at}
 use Rattle.uc_sound.proofs.Origins.{Origin, outside, inside, origin, outside_listed, inside_listed, Looked, looked_from, looks, looked, member_looked, role_looked, event_looked}
 use Rattle.uc_sound.proofs.Signatures.{has_sig, IsUnwritten, is_unwritten}
 use Rattle.uc_sound.proofs.Likes.{AreKnown, likes, same_likes, AreSame, sig_is}
@@ -525,3 +526,35 @@ module _ (p : Program) (formed : IsFormed p) (u : Unbroken (program_visits p)) w
   event_whole i r name h g =
       let k = raised i r name g in
       whole_is p formed u r k.x k.at ∙ ap not (sym (ap is_plain (constructor_role k.x.routine.sig.role k.role)))
+
+  event_kind : (k : Kind) → is_event k ≡ true → k ≡ kind.Event
+  event_kind kind.Event v = refl
+  event_kind kind.Class v = false_true v
+  event_kind kind.Coroutine v = false_true v
+  event_kind kind.Monitor v = false_true v
+  event_kind kind.Cormonitor v = false_true v
+  event_kind kind.Task v = false_true v
+
+  -- what raises an event by its constructor names that event
+  raised_in : (r : ℕ) (name : List ℕ) (k : Raised 0 r name) → HomeOf p k.x → (i : ℕ) × (class_named p name ≡ Some (sort.Object i kind.Event)) × (is_given name ≡ false)
+  raised_in r name k (in_none z w) = false_true (ap is_plain (constructor_role k.x.routine.sig.role k.role) ∙ w)
+  raised_in r name k (in_a_class j d f m b) =
+      let s = sig_rules p formed u j d b.j b.sig f b.declared in
+      let c : b.sig.role ≡ role.Constructor = b.role ∙ sym (constructor_role k.x.routine.sig.role k.role) in
+      let n = left_is (is_plain b.sig.role || same_name b.sig.name d.name) (not (rules.is_destructor b.sig.role) || nat_eq (length b.sig.params) 0) s.class_name in
+      let own : b.sig.name ≡ d.name = same_is b.sig.name d.name (subst (λ (z : Role). (is_plain z || same_name b.sig.name d.name) ≡ true) c n) in
+      let named : d.name ≡ name = sym own ∙ (b.name ∙ k.name_is) in
+      (j, subst (λ z. class_named p z ≡ Some (sort.Object j kind.Event)) named (sort_here p u j d f ∙ ap (λ z. Some (sort.Object j z)) (event_kind d.kind (kind_is (case_of (is_event d.kind))))), subst (λ z. is_given z ≡ false) named (not_given p u j d f))
+    where
+      kind_is : (is_event d.kind ≡ true) ⊎ (is_event d.kind ≡ false) → is_event d.kind ≡ true
+      kind_is (inl v) = v
+      kind_is (inr v) =
+          let h = number_of p u j d formed.classes f v in
+          let a = h.number in
+          let e : number_at p j ≡ unwrap_or (class_number p d.name) 0 = ap (number_in p) f in
+          let z = k.number in
+          let y : ⊥ = omega (arith, a, e, z, m) in
+          absurd y
+
+  pub tells_raised : (r : ℕ) (name : List ℕ) → event_constructor p name ≡ Some r → (i : ℕ) × (class_named p name ≡ Some (sort.Object i kind.Event)) × (is_given name ≡ false)
+  tells_raised r name g = let k = raised 0 r name g in raised_in r name k (home_is p formed u k.x (origin p r k.x k.at))

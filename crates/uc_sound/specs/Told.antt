@@ -5,7 +5,10 @@ use Rattle.uc_tree.specs.declared.kinds.Kind.{Kind}
 use Rattle.uc_tree.specs.declared.kinds.Param.{Param}
 use Rattle.uc_tree.specs.declared.kinds.Role.{Role}
 use Rattle.uc_tree.specs.declared.kinds.Role.TheVariants as role
-use Rattle.uc_tree.specs.Numbering.{is_event, is_plain, routines_of}
+use Rattle.uc_tree.specs.declared.kinds.Kind.TheVariants as kind
+use Rattle.uc_tree.specs.Numbering.{is_event, is_given, is_plain, routines_of}
+use Rattle.uc_rules.specs.declared.rules.Sort.TheVariants as sort
+use Rattle.uc_rules.specs.Sorts.{class_named}
 use Rattle.uc_tree.specs.Objects.{class_at, number_at, member_from, written_at, unwritten_number, event_place}
 use Rattle.uc_tree.specs.Programs.{Sig as Declared, Class, Program}
 use Rattle.uc_resolve.specs.Standings.{params_of}
@@ -50,12 +53,14 @@ pub record TellsMaker (t : Table) (p : Program) (i : ℕ) (wanted : Role) : Type
   pub unwritten_whole : written_at p i wanted ≡ None → (t.routine (unwritten_number p i wanted)).whole ≡ true
 
 pub record Told (t : Table) (p : Program) : Type 0 where
+  pub numbers : (i : ℕ) → t.number i ≡ number_at p i
   pub routines : TellsRoutines t p
   pub classes : (i : ℕ) (c : Class) → class_at p i ≡ Some c → TellsClass t p i c
   pub members : (i j : ℕ) (c : Class) (sig : Declared) → class_at p i ≡ Some c → method_sig p i j ≡ Some sig → is_plain sig.role ≡ true → TellsMember t p i j sig
   pub makers : (i : ℕ) (c : Class) (wanted : Role) → class_at p i ≡ Some c → is_event c.kind ≡ false → is_plain wanted ≡ false → TellsMaker t p i wanted
   -- what builds an event
   pub events : (i r : ℕ) (name : List ℕ) → event_place p (base.Named name) ≡ Some i → event_constructor p name ≡ Some r → IsOfClass t p i (constructor_params p i) r
+  pub raised : (r : ℕ) (name : List ℕ) → event_constructor p name ≡ Some r → (i : ℕ) × (class_named p name ≡ Some (sort.Object i kind.Event)) × (is_given name ≡ false)
   pub events_whole : (i r : ℕ) (name : List ℕ) → event_place p (base.Named name) ≡ Some i → event_constructor p name ≡ Some r → (t.routine r).whole ≡ true
 
 abbrev pub LawTold : Type 0
