@@ -13,3 +13,5 @@ pub mod GivingLemmas
 pub mod DeclaringLemmas
 pub mod ObjectLemmas
 pub mod StatementLemmas
+pub mod BodyLemmas
+pub mod DestructionLemmas

@@ -196,7 +196,7 @@ module _ (p : Program) (formed : IsFormed p) (u : Unbroken (program_visits p)) w
   here_plain : (i : ℕ) (r : Routine) → slice_get p.items i ≡ Some (RoutineItem r) → is_here r.sig.owner ≡ true → is_plain r.sig.role ≡ true
   here_plain i r e h = formed.plain i r.sig (ap (option_and_then rules.item_sig) e) h
 
-  definition : (i : ℕ) (r : Routine) (o : Owner) → r.sig.owner ≡ o → slice_get p.items i ≡ Some (RoutineItem r) → is_definition p o r.sig i ≡ true
+  pub definition : (i : ℕ) (r : Routine) (o : Owner) → r.sig.owner ≡ o → slice_get p.items i ≡ Some (RoutineItem r) → is_definition p o r.sig i ≡ true
   definition i r o q e =
       subst (λ o. is_definition p o r.sig i ≡ true) q (holds (is_sound_item p (RoutineItem r) i) S5 _ _ (none_right _ _ (item_rules p u i (RoutineItem r) e).own))
 
@@ -278,7 +278,7 @@ module _ (p : Program) (formed : IsFormed p) (u : Unbroken (program_visits p)) w
           let q : number_at p k ≡ number_at p i = ap (number_in p) f ∙ (sym m ∙ n) in
           subst (λ z. Belongs p z x) (class_same k i d c (same_number p u k i g h q) f e) b
 
-  numbered_place : (i : ℕ) (x : Defined) → HasNumber p u i → x.number ≡ number_at p i → place_by p x ≡ Some i
+  pub numbered_place : (i : ℕ) (x : Defined) → HasNumber p u i → x.number ≡ number_at p i → place_by p x ≡ Some i
   numbered_place i x h n =
       let q : x.number ≡ suc h.before = n ∙ h.number in
       ap (λ z. if nat_eq z 0 && objects.is_constructor x.routine.sig.role then event_place p (base.Named x.routine.sig.name) else place_of p z) q ∙ (ap (λ (b : Bool). if b && objects.is_constructor x.routine.sig.role then event_place p (base.Named x.routine.sig.name) else place_of p (suc h.before)) (next_is_not h.before) ∙ h.place)

@@ -66,21 +66,21 @@ module _ (t : Table) (g : Sig) (refers : t.refers ≡ true) where
   -- objects: what a sort makes has a place of its own, that of an object which is not whole yet
 
   -- the arguments of what builds it
-  abbrev Given : List Name → Program → Making → List tree.Meant → Type 0
+  abbrev pub Given : List Name → Program → Making → List tree.Meant → Type 0
   Given sc p (APlain i) args = (r : ℕ) → written_at p i role.Constructor ≡ Some r → GiveAll t g sc (args_by (params_of p r) args) (t.routine r).params
   Given sc p (AMutex i) args = (r : ℕ) → written_at p i role.Constructor ≡ Some r → GiveAll t g sc (args_by (params_of p r) args) (t.routine r).params
   Given sc p ACluster args = Unit {0}
   Given sc p AProcessor args = (a : Ty) × Yields t g sc (cluster_in args) a × IsCluster a
 
   -- and the table tells what builds and destroys it
-  abbrev Making_is : Program → Making → Type 0
+  abbrev pub Making_is : Program → Making → Type 0
   Making_is p (APlain i) = TellsMaker t p i role.Constructor × TellsMaker t p i role.Destructor × (t.mutex i ≡ false)
   Making_is p (AMutex i) = TellsMaker t p i role.Constructor × TellsMaker t p i role.Destructor × (t.mutex i ≡ true) × (t.number i ≡ number_at p i)
   Making_is p ACluster = Unit {0}
   Making_is p AProcessor = Unit {0}
 
   -- what stands at its place
-  abbrev making_ty : Making → Ty
+  abbrev pub making_ty : Making → Ty
   making_ty (APlain i) = Obj i
   making_ty (AMutex i) = Cell (Obj i)
   making_ty ACluster = Cell Clu
@@ -170,7 +170,7 @@ module _ (t : Table) (g : Sig) (refers : t.refers ≡ true) where
 
   -- what a variable of a sort makes
 
-  made_told : (p : Program) (b : Base) (so : Sort) (m : Making) → Told t p → ((b : Base) (c : ℕ) (k : Kind) → sort_of p b ≡ Some (sort.Object c k) → t.mutex c ≡ is_mutex k) → sort_of p b ≡ Some so → made so ≡ Some m → Making_is p m × (making_ty m ≡ place_ty so)
+  pub made_told : (p : Program) (b : Base) (so : Sort) (m : Making) → Told t p → ((b : Base) (c : ℕ) (k : Kind) → sort_of p b ≡ Some (sort.Object c k) → t.mutex c ≡ is_mutex k) → sort_of p b ≡ Some so → made so ≡ Some m → Making_is p m × (making_ty m ≡ place_ty so)
   made_told p b so m told classes h q = by so h q
     where
       plain : (i : ℕ) (k : Kind) → sort_of p b ≡ Some (sort.Object i k) → is_event k ≡ false → is_mutex k ≡ false → Making_is p (APlain i) × (Obj i ≡ place_by (is_mutex k) (Obj i))
@@ -333,7 +333,7 @@ module _ (t : Table) (g : Sig) (refers : t.refers ≡ true) where
         let w = only (array_starts_well env.program (count (start_values d.start)) so) S16 d.pos st in
         element_by so m q k (left_is (is_element env.program so) (nat_eq (count (start_values d.start)) 0) w)
 
-  whole_placed : (p : Program) (m : Making) → Making_is p m → IsPlaced t (making_ty m)
+  pub whole_placed : (p : Program) (m : Making) → Making_is p m → IsPlaced t (making_ty m)
   whole_placed p (APlain i) w = w.2
   whole_placed p (AMutex i) w = tt
   whole_placed p ACluster w = tt

@@ -278,7 +278,7 @@ module _ (p : Program) (formed : IsFormed p) (u : Unbroken (program_visits p)) w
   outer_agrees g sc name = law_items t g sc (plain_env p no_around) u told.routines refl name refl
 
   -- a routine, its class, and where it stands
-  abbrev HomeIs : Defined → Option Home → Type 0
+  abbrev pub HomeIs : Defined → Option Home → Type 0
   HomeIs d None = place_by p d ≡ None
   HomeIs d (Some h) = (c : Class) × (class_at p h.class ≡ Some c) × (h.kind ≡ c.kind) × (place_by p d ≡ Some h.class)
 

@@ -251,8 +251,8 @@ module _ (p : Program) (formed : IsFormed p) (u : Unbroken (program_visits p)) w
       plain_maker s.role (ap (λ (z : Sig). is_plain z.role) (some_same e) ∙ w) (left_is (rules.is_constructor s.role) (not (list_any (builds_more c.name) p.items)) h)
 
   -- an event has no routines but constructors
-  pub event_declares : {B : Type 0} (i j : ℕ) (c : Class) (m : Member) (sig : Sig) → class_at p i ≡ Some c → slice_get c.members j ≡ Some m → form_sig m.form ≡ Some sig → is_event c.kind ≡ true → is_plain sig.role ≡ true → B
-  event_declares i j c m sig e f q v w =
+  pub event_member : (i j : ℕ) (c : Class) (m : Member) → class_at p i ≡ Some c → slice_get c.members j ≡ Some m → is_event c.kind ≡ true → is_event_member p c m.form ≡ true
+  event_member i j c m e f v =
       let own = class_own p u i c e in
       let own1 = none_right (unless (is_well_mained c) S6 c.pos) _ own in
       let own2 = none_right (unless (has_room p c i) S14 c.pos) _ own1 in
@@ -261,7 +261,10 @@ module _ (p : Program) (formed : IsFormed p) (u : Unbroken (program_visits p)) w
       let more = list_all (λ (m : Member). has_event_fields p m.form) c.members && (nat_le (fields_in c.members) EVENT_FIELDS && nat_lt (events_before p i) PROGRAM_EVENTS) in
       let a = implied (is_event c.kind) (list_all (λ (m : Member). is_event_member p c m.form) c.members && more) v s in
       let all = left_is (list_all (λ (m : Member). is_event_member p c m.form) c.members) more a in
-      makes c m.form sig q w (all_from (λ (m : Member). is_event_member p c m.form) c.members j m all f)
+      all_from (λ (m : Member). is_event_member p c m.form) c.members j m all f
+
+  pub event_declares : {B : Type 0} (i j : ℕ) (c : Class) (m : Member) (sig : Sig) → class_at p i ≡ Some c → slice_get c.members j ≡ Some m → form_sig m.form ≡ Some sig → is_event c.kind ≡ true → is_plain sig.role ≡ true → B
+  event_declares i j c m sig e f q v w = makes c m.form sig q w (event_member i j c m e f v)
 
   -- what a class numbers is no routine outside of classes
   numbered_inside : {B : Type 0} (i j : ℕ) (c : Class) (m : Member) (r : Routine) → class_at p i ≡ Some c → slice_get c.members j ≡ Some m → m.form ≡ RoutineMember r → is_plain r.sig.role ≡ true → unwrap_or (class_number p c.name) 0 ≡ 0 → B
@@ -291,7 +294,7 @@ module _ (p : Program) (formed : IsFormed p) (u : Unbroken (program_visits p)) w
       let z : unwrap_or (class_number p c.name) 0 ≡ 0 = ap (λ (z : Defined). z.number) q ∙ eqb-true x.number 0 (left_is (nat_eq x.number 0) (tree.is_named x.routine.sig name) h) in
       numbered_inside i j c m r e f g w z
 
-  no_place : (cs : List Class) → objects.place_from cs 0 0 ≡ None
+  pub no_place : (cs : List Class) → objects.place_from cs 0 0 ≡ None
   no_place [] = refl
   no_place (c ∷ cs) = refl
 

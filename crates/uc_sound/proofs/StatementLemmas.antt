@@ -386,7 +386,7 @@ module _ (t : Table) (g : Sig) where
         let k = with_all p s b ds in
         let same = declared_program b ds (opened env) in
         let v = second (declaration_visits (opened env) r b ds) (maybe_condition_visits e test ++ (maybe_statement_visits e step ++ stmt_visits body (joined (looped e)))) u in
-        declared_fine sc (opened env) s r q.line b ds (Then (Loop q.line (order_of test) (test_of p k test) (step_of p k step) (stmt_meant p body k)) Nil) o i (holds_left g (declared_locals p b ds s) (stmt_locals p body k) held) (first (declaration_visits (opened env) r b ds) (maybe_condition_visits e test ++ (maybe_statement_visits e step ++ stmt_visits body (joined (looped e)))) u) (λ sc w. let w1 = subst (λ class. Within t g sc e class k.names) (sym (all_class p b ds s)) w in (subst (λ z. FineLoop t g sc (test_of z k test) (step_of z k step) (stmt_meant z body k)) same (loop sc test step e k (stmt_visits body (joined (looped e))) (stmt_meant e.program body k) w1 (stmt_fine body sc (joined (looped e)) k (in_joins sc (looped e) k.class k.names (in_looped sc e k.class k.names w1) true) (all_behind g p b ds s i) (subst (λ z. Holds g (stmt_locals z body k)) (sym same) (holds_right g (declared_locals p b ds s) (stmt_locals p body k) held)) n) v), tt))
+        declared_fine sc (opened env) s r q.line b ds (Then (Loop q.line (order_of p test) (test_of p k test) (step_of p k step) (stmt_meant p body k)) Nil) o i (holds_left g (declared_locals p b ds s) (stmt_locals p body k) held) (first (declaration_visits (opened env) r b ds) (maybe_condition_visits e test ++ (maybe_statement_visits e step ++ stmt_visits body (joined (looped e)))) u) (λ sc w. let w1 = subst (λ class. Within t g sc e class k.names) (sym (all_class p b ds s)) w in (subst (λ z. FineLoop t g sc (test_of z k test) (step_of z k step) (stmt_meant z body k)) same (loop sc test step e k (stmt_visits body (joined (looped e))) (stmt_meant e.program body k) w1 (stmt_fine body sc (joined (looped e)) k (in_joins sc (looped e) k.class k.names (in_looped sc e k.class k.names w1) true) (all_behind g p b ds s i) (subst (λ z. Holds g (stmt_locals z body k)) (sym same) (holds_right g (declared_locals p b ds s) (stmt_locals p body k) held)) n) v), tt))
     stmt_fine (stmt.Break q) sc env s h i held n u = tt
     stmt_fine (stmt.Continue q) sc env s h i held n u = tt
     stmt_fine (stmt.Return q None) sc env s h i held n u = tt
@@ -425,8 +425,8 @@ module _ (t : Table) (g : Sig) where
         let k = scope_past_all p body s in
         let v : Unbroken (AtHandlers env hs ∷ handlers_visits hs env) = second (stmts_visits body (opened env)) (AtHandlers env hs ∷ handlers_visits hs env) u in
         let r = none_left (handlers_breaks p false false hs) _ (one (AtHandlers env hs) (first (AtHandlers env hs ∷ []) (handlers_visits hs env) v)) in
-        let m = nil_right (nameless hs) (gathered_all own_nameless body ++ gathered_handlers own_nameless hs) n in
-        ((stmts_fine body sc (opened env) s (in_opened sc env s.class s.names h) i (holds_left g (stmts_locals p body s) (handlers_locals p hs k) held) (nil_left (gathered_all own_nameless body) (gathered_handlers own_nameless hs) m) (first (stmts_visits body (opened env)) (AtHandlers env hs ∷ handlers_visits hs env) u), tt), handlers_fine hs false false sc env k h (behind_more g s k (omega arith) (omega arith) i) (holds_right g (stmts_locals p body s) (handlers_locals p hs k) held) (nil_left (nameless hs) (gathered_all own_nameless body ++ gathered_handlers own_nameless hs) n) (nil_right (gathered_all own_nameless body) (gathered_handlers own_nameless hs) m) r (second (AtHandlers env hs ∷ []) (handlers_visits hs env) v))
+        let m = nil_left (nameless hs ++ gathered_all own_nameless body) (gathered_handlers own_nameless hs) n in
+        ((stmts_fine body sc (opened env) s (in_opened sc env s.class s.names h) i (holds_left g (stmts_locals p body s) (handlers_locals p hs k) held) (nil_right (nameless hs) (gathered_all own_nameless body) m) (first (stmts_visits body (opened env)) (AtHandlers env hs ∷ handlers_visits hs env) u), tt), handlers_fine hs false false sc env k h (behind_more g s k (omega arith) (omega arith) i) (holds_right g (stmts_locals p body s) (handlers_locals p hs k) held) (nil_left (nameless hs) (gathered_all own_nameless body) m) (nil_right (nameless hs ++ gathered_all own_nameless body) (gathered_handlers own_nameless hs) n) r (second (AtHandlers env hs ∷ []) (handlers_visits hs env) v))
 
     stmts_fine : (body : stmt.Stmts) (sc : List Name) (env : Env) (s : Scope) → Within t g sc env s.class s.names → IsBehind g s → Holds g (stmts_locals env.program body s) → gathered_all own_nameless body ≡ [] → Unbroken (stmts_visits body env) → FineStmts t g sc (stmts_meant env.program body s)
     stmts_fine stmt.NoStmts sc env s h i held n u = tt

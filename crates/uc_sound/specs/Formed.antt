@@ -9,6 +9,7 @@ use Rattle.uc_tree.specs.Gathered.{gathered_all}
 use Rattle.uc_tree.specs.Numbering.{is_plain, Defined, routines_of}
 use Rattle.uc_tree.specs.Statements.{Stmt, Try, Handlers, NoHandlers, MoreHandlers, Handles}
 use Rattle.uc_tree.specs.Programs.{Sig, Constant, Program}
+use Rattle.uc_machine.specs.Pieces.{LAST_ADDRESS}
 use Rattle.uc_rules.specs.declared.rules.Sort.{Sort}
 use Rattle.uc_rules.specs.Sorts.{sort_of}
 use Rattle.uc_rules.specs.Names.{is_here, routine_sig, method_sig}
@@ -34,5 +35,7 @@ pub record IsFormed (p : Program) : Type 0 where
   pub own_makers : (i j : ℕ) (sig : Sig) → method_sig p i j ≡ Some sig → is_plain sig.role ≡ false → sig.ret ≡ base.Void
   -- a constant has a known base
   pub constants : (n : ℕ) (c : Constant) → slice_get (constants_of p.items) n ≡ Some c → (s : Sort) × (sort_of p c.base ≡ Some s)
+  -- a routine has no more parameters than addresses
+  pub params : (n : ℕ) (d : Defined) → slice_get (routines_of p) n ≡ Some d → length d.routine.sig.params ≤ LAST_ADDRESS
   -- a handler of all events has no parameter
   pub handlers : (n : ℕ) (d : Defined) → slice_get (routines_of p) n ≡ Some d → gathered_all own_nameless d.routine.body ≡ []
