@@ -388,7 +388,7 @@ module _ (t : Table) (g : Sig) (sc : List Name) (p : Program) (refers : t.refers
   arg_by (Some s) true k (entity.Place r) m n f a = subst (Yields t g sc m.expr) (sym (place_same s r f)) a.0.0
   arg_by (Some s) true k _ m n f a = false_true f
 
-  arg_ok : (x y : Param) (w : Entity) (m : tree.Meant) → IsLike p x y → fits (param_expected p (Some x)) w ≡ true → Agrees t g sc p w m → Yields t g sc (arg_meant y m) (param_ty p y)
+  pub arg_ok : (x y : Param) (w : Entity) (m : tree.Meant) → IsLike p x y → fits (param_expected p (Some x)) w ≡ true → Agrees t g sc p w m → Yields t g sc (arg_meant y m) (param_ty p y)
   arg_ok x y w m l f a =
       let e : fits (if y.by_ref then rules.reference_to (sort_of p y.base) else rules.value_to (sort_of p y.base)) w ≡ true = subst (λ b. fits (if b then rules.reference_to (sort_of p y.base) else rules.value_to (sort_of p y.base)) w ≡ true) l.by_ref (subst (λ b. fits (if x.by_ref then rules.reference_to (sort_of p b) else rules.value_to (sort_of p b)) w ≡ true) l.base f) in
       arg_by (sort_of p y.base) y.by_ref (shape_of y.base) w m l.known e a

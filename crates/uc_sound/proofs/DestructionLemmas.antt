@@ -247,10 +247,10 @@ module _ (p : Program) (formed : IsFormed p) (u : Unbroken (program_visits p)) w
     told = law_told p formed u
 
     -- a field of a class is built and destroyed at its place
-    abbrev FieldFine : ℕ → ClassField → Type 0
+    abbrev pub FieldFine : ℕ → ClassField → Type 0
     FieldFine number f = (m : Making) → field_making p f ≡ Some m → Making_is t g refl p m × ((sc : List Name) → Yields t g sc (field_place (class_shape p i) number tree.Own) (declared_ty (length_in_class p c i f) (raw (making_ty t g refl m))))
 
-    abbrev AllFine : ℕ → List ClassField → Type 0
+    abbrev pub AllFine : ℕ → List ClassField → Type 0
     AllFine number fs = (k n : ℕ) (f : ClassField) → number + k ≡ n → slice_get fs k ≡ Some f → FieldFine n f
 
     field_fine : (k : ℕ) (f : ClassField) → slice_get (fields_of c.members) k ≡ Some f → FieldFine (leading_cells c.kind + k) f
@@ -284,7 +284,7 @@ module _ (p : Program) (formed : IsFormed p) (u : Unbroken (program_visits p)) w
             let x = made_is q in
             (x.0, held w f.declarator.len refl (making_ty t g refl m) x.1 (whole_placed t g refl p m x.0))
 
-    all_fine : AllFine (leading_cells c.kind) (fields_of c.members)
+    pub all_fine : AllFine (leading_cells c.kind) (fields_of c.members)
     all_fine k n f q at = subst (λ n. FieldFine n f) q (field_fine k f at)
 
     one_left : (f : ClassField) (number : ℕ) (rest : Stmts) (o : Option Making) → field_making p f ≡ o → FieldFine number f → ((sc : List Name) → FineStmts t g sc rest) → (sc : List Name) → FineStmts t g sc (field_left p o (length_in_class p c i f) (field_place (class_shape p i) number tree.Own) rest)

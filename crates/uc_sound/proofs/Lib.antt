@@ -15,3 +15,6 @@ pub mod ObjectLemmas
 pub mod StatementLemmas
 pub mod BodyLemmas
 pub mod DestructionLemmas
+pub mod RoutineBodies
+pub mod ConstructionLemmas
+pub mod BuildingLemmas

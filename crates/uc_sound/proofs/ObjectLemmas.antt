@@ -203,6 +203,45 @@ module _ (t : Table) (g : Sig) (refers : t.refers ≡ true) where
       by (sort.Object i kind.Task) h q = as_made (AMutex i) (Cell (Obj i)) (mutex i kind.Task h refl refl) q
       by (sort.Object i kind.Event) h q = none_some q
 
+  -- without arguments
+
+  pub no_args : (sc : List Name) (p : Program) (i r : ℕ) → TellsMaker t p i role.Constructor → written_at p i role.Constructor ≡ Some r → length (constructor_params p i) ≡ 0 → GiveAll t g sc (args_by (params_of p r) []) (t.routine r).params
+  no_args sc p i r k w n =
+      let l = k.written r w in
+      no_arguments (params_of p r) (t.routine r).params p (subst (λ xs. AreLike p xs (params_of p r)) (none_of (constructor_params p i) n) l.params) l.table [] sc
+    where
+      none_of : (xs : List Param) → length xs ≡ 0 → xs ≡ []
+      none_of [] h = refl
+      none_of (x ∷ xs) h = let z : ⊥ = omega (arith, h) in absurd z
+
+  pub element_by : (sc : List Name) (p : Program) (so : Sort) (m : Making) → made so ≡ Some m → Making_is p m → is_element p so ≡ true → Given sc p m []
+  element_by sc p sort.Void m q k w = none_some q
+  element_by sc p sort.Int m q k w = none_some q
+  element_by sc p sort.Char m q k w = none_some q
+  element_by sc p sort.Bool m q k w = none_some q
+  element_by sc p sort.Condition m q k w = none_some q
+  element_by sc p sort.Cluster m q k w = subst (λ m. Given sc p m []) (some_same q) tt
+  element_by sc p sort.Processor m q k w = false_true w
+  element_by sc p (sort.Object i c) m q k w = by_kind c q w
+    where
+      plain : Some (APlain i) ≡ Some m → nat_eq (length (constructor_params p i)) 0 ≡ true → Given sc p m []
+      plain q w =
+          let k1 : Making_is p (APlain i) = subst (Making_is p) (sym (some_same q)) k in
+          subst (λ m. Given sc p m []) (some_same q) (λ r e. no_args sc p i r k1.0 e (eqb-true (length (constructor_params p i)) 0 w))
+
+      mutex : Some (AMutex i) ≡ Some m → nat_eq (length (constructor_params p i)) 0 ≡ true → Given sc p m []
+      mutex q w =
+          let k1 : Making_is p (AMutex i) = subst (Making_is p) (sym (some_same q)) k in
+          subst (λ m. Given sc p m []) (some_same q) (λ r e. no_args sc p i r k1.0 e (eqb-true (length (constructor_params p i)) 0 w))
+
+      by_kind : (c : Kind) → made_kind i c ≡ Some m → (is_event c || nat_eq (length (constructor_params p i)) 0) ≡ true → Given sc p m []
+      by_kind kind.Class q w = plain q w
+      by_kind kind.Coroutine q w = plain q w
+      by_kind kind.Monitor q w = mutex q w
+      by_kind kind.Cormonitor q w = mutex q w
+      by_kind kind.Task q w = mutex q w
+      by_kind kind.Event q w = none_some q
+
   -- and what it is built with
 
   module _ (sc : List Name) (env : Env) (s : Scope) (h : Within t g sc env s.class s.names) where
@@ -219,17 +258,8 @@ module _ (t : Table) (g : Sig) (refers : t.refers ≡ true) where
     object_args i r (stmt.StartValue e) k w v n u = false_true (sym v)
     object_args i r (stmt.StartArgs es) k w v n u = constructor_args i r es k w n u
 
-    no_args : (i r : ℕ) → TellsMaker t env.program i role.Constructor → written_at env.program i role.Constructor ≡ Some r → length (constructor_params env.program i) ≡ 0 → GiveAll t g sc (args_by (params_of env.program r) []) (t.routine r).params
-    no_args i r k w n =
-        let l = k.written r w in
-        no_arguments (params_of env.program r) (t.routine r).params env.program (subst (λ xs. AreLike env.program xs (params_of env.program r)) (none_of (constructor_params env.program i) n) l.params) l.table [] sc
-      where
-        none_of : (xs : List Param) → length xs ≡ 0 → xs ≡ []
-        none_of [] h = refl
-        none_of (x ∷ xs) h = let z : ⊥ = omega (arith, h) in absurd z
-
     -- a processor is given a cluster
-    cluster_found : (w : Entity) (m : tree.Meant) → fits (expected_of.Reference sort.Cluster) w ≡ true → Agrees t g sc env.program w m → Yields t g sc m.expr Clu
+    pub cluster_found : (w : Entity) (m : tree.Meant) → fits (expected_of.Reference sort.Cluster) w ≡ true → Agrees t g sc env.program w m → Yields t g sc m.expr Clu
     cluster_found (entity.Place sort.Cluster) m k a = a.0.0
     cluster_found (entity.Place sort.Void) m k a = false_true k
     cluster_found (entity.Place sort.Int) m k a = false_true k
@@ -293,34 +323,6 @@ module _ (t : Table) (g : Sig) (refers : t.refers ≡ true) where
         by_kind kind.Task q w = mutex q w
         by_kind kind.Event q w = none_some q
 
-    element_by : (so : Sort) (m : Making) → made so ≡ Some m → Making_is env.program m → is_element env.program so ≡ true → Given sc env.program m []
-    element_by sort.Void m q k w = none_some q
-    element_by sort.Int m q k w = none_some q
-    element_by sort.Char m q k w = none_some q
-    element_by sort.Bool m q k w = none_some q
-    element_by sort.Condition m q k w = none_some q
-    element_by sort.Cluster m q k w = subst (λ m. Given sc env.program m []) (some_same q) tt
-    element_by sort.Processor m q k w = false_true w
-    element_by (sort.Object i c) m q k w = by_kind c q w
-      where
-        plain : Some (APlain i) ≡ Some m → nat_eq (length (constructor_params env.program i)) 0 ≡ true → Given sc env.program m []
-        plain q w =
-            let k1 : Making_is env.program (APlain i) = subst (Making_is env.program) (sym (some_same q)) k in
-            subst (λ m. Given sc env.program m []) (some_same q) (λ r e. no_args i r k1.0 e (eqb-true (length (constructor_params env.program i)) 0 w))
-
-        mutex : Some (AMutex i) ≡ Some m → nat_eq (length (constructor_params env.program i)) 0 ≡ true → Given sc env.program m []
-        mutex q w =
-            let k1 : Making_is env.program (AMutex i) = subst (Making_is env.program) (sym (some_same q)) k in
-            subst (λ m. Given sc env.program m []) (some_same q) (λ r e. no_args i r k1.0 e (eqb-true (length (constructor_params env.program i)) 0 w))
-
-        by_kind : (c : Kind) → made_kind i c ≡ Some m → (is_event c || nat_eq (length (constructor_params env.program i)) 0) ≡ true → Given sc env.program m []
-        by_kind kind.Class q w = plain q w
-        by_kind kind.Coroutine q w = plain q w
-        by_kind kind.Monitor q w = mutex q w
-        by_kind kind.Cormonitor q w = mutex q w
-        by_kind kind.Task q w = mutex q w
-        by_kind kind.Event q w = none_some q
-
     -- of one declarator
     declarator_single : (b : Base) (d : Declarator) (so : Sort) (m : Making) → Rules env b d so → made so ≡ Some m → Making_is env.program m → Unbroken (args_visits env (start_values d.start) (variable_target d.len (sort_of env.program b)) 0) → d.len ≡ None → Given sc env.program m (args_at d.start)
     declarator_single b d so m r q k u l =
@@ -331,7 +333,7 @@ module _ (t : Table) (g : Sig) (refers : t.refers ≡ true) where
     declarator_array b d so m e r q k l =
         let st = subst (λ l. started_breaks env.program l (is_value_start d.start) (count (start_values d.start)) (are_single env (start_values d.start)) d.pos (Some so) ≡ []) l r.starts in
         let w = only (array_starts_well env.program (count (start_values d.start)) so) S16 d.pos st in
-        element_by so m q k (left_is (is_element env.program so) (nat_eq (count (start_values d.start)) 0) w)
+        element_by sc env.program so m q k (left_is (is_element env.program so) (nat_eq (count (start_values d.start)) 0) w)
 
   pub whole_placed : (p : Program) (m : Making) → Making_is p m → IsPlaced t (making_ty m)
   whole_placed p (APlain i) w = w.2

@@ -162,9 +162,9 @@ module _ (p : Program) (i : ℕ) (c : Class) (name : List ℕ) where
     none_field h n f q w =
         let r = rule_of n f q in
         let a = none_at c.members 0 r.place.member r.member (subst (λ o. rules.member_in p i o name ≡ None) e h) r.member_at in
-        no_field r.member.access a.0 0 f.base r.fields r.index f.declarator r.listed w (subst (λ z. rules.form_named p o r.member.mark r.member.access a.0 z name ≡ None) r.form a.1)
+        no_field r.member.access a.0 0 f.base r.fields r.place.index f.declarator r.listed w (subst (λ z. rules.form_named p o r.member.mark r.member.access a.0 z name ≡ None) r.form a.1)
 
-    declares_field : (ms : List Member) (k n : ℕ) (m : Member) (at : Pos) (b : Base) (ds : List Declarator) (d : Declarator) → slice_get ms k ≡ Some m → m.form ≡ FieldsMember at b ds → slice_get ds n ≡ Some d → (l : ℕ) × (slice_get (members_declare ms) l ≡ Some d.name)
+    pub declares_field : (ms : List Member) (k n : ℕ) (m : Member) (at : Pos) (b : Base) (ds : List Declarator) (d : Declarator) → slice_get ms k ≡ Some m → m.form ≡ FieldsMember at b ds → slice_get ds n ≡ Some d → (l : ℕ) × (slice_get (members_declare ms) l ≡ Some d.name)
     declares_field [] k n m at b ds d q f h = none_some q
     declares_field (x ∷ ms) zero n m at b ds d q f h =
         (n, in_left (form_declares_names x.form) (members_declare ms) n d.name (ap (λ (z : Member). slice_get (form_declares_names z.form) n) (some_same q) ∙ (ap (λ z. slice_get (form_declares_names z) n) f ∙ map_at (λ (d : Declarator). d.name) ds n d h)))
@@ -187,7 +187,7 @@ module _ (p : Program) (i : ℕ) (c : Class) (name : List ℕ) where
         by : Order r.place.member j → ⊥
         by (before l) =
             let fresh = new_by sig j sig.role refl w (sig_rules p formed u i c j sig e d).fresh in
-            let a = declares_field (take j c.members) r.place.member r.index r.member r.at f.base r.fields f.declarator (get_take c.members j r.place.member r.member l r.member_at) r.form r.listed in
+            let a = declares_field (take j c.members) r.place.member r.place.index r.member r.at f.base r.fields f.declarator (get_take c.members j r.place.member r.member l r.member_at) r.form r.listed in
             not_either (list_any (λ z. same_name z sig.name) (members_declare (take j c.members))) (is_kept c j sig.name) (any_from (λ z. same_name z sig.name) (members_declare (take j c.members)) a.0 f.declarator.name a.1 (is_same f.declarator.name sig.name (k ∙ sym s))) fresh
         by (same l) =
             let m : r.member ≡ d.m = some_same (sym r.member_at ∙ (ap (slice_get c.members) l ∙ d.at)) in

@@ -100,15 +100,13 @@ module _ (p : Program) where
     pub at : Pos
     pub form : member.form ≡ FieldsMember at f.base fields
     pub member_at : slice_get c.members place.member ≡ Some member
-    pub index : ℕ
-    pub listed : slice_get fields index ≡ Some f.declarator
+    pub listed : slice_get fields place.index ≡ Some f.declarator
 
-  listed_from : (h : Home) (c : Class) (m : Member) (at : Pos) (all : List Declarator) (b : Base) (s : Sort) (j i : ℕ) (ds : List Declarator) → slice_get c.members j ≡ Some m → m.form ≡ FieldsMember at b all → ((n : ℕ) (d : Declarator) → slice_get ds n ≡ Some d → (k : ℕ) × (slice_get all k ≡ Some d)) → sort_of p b ≡ Some s → Unbroken (fields_visits (plain_env p (class_around h)) c m.access b j i ds) → (n : ℕ) (f : ClassField) → slice_get (declared_fields b ds) n ≡ Some f → FieldRules h c f
+  listed_from : (h : Home) (c : Class) (m : Member) (at : Pos) (all : List Declarator) (b : Base) (s : Sort) (j i : ℕ) (ds : List Declarator) → slice_get c.members j ≡ Some m → m.form ≡ FieldsMember at b all → ((n k : ℕ) (d : Declarator) → i + n ≡ k → slice_get ds n ≡ Some d → slice_get all k ≡ Some d) → sort_of p b ≡ Some s → Unbroken (fields_visits (plain_env p (class_around h)) c m.access b j i ds) → (n : ℕ) (f : ClassField) → slice_get (declared_fields b ds) n ≡ Some f → FieldRules h c f
   listed_from h c m at all b s j i [] w q l k u n f e = none_some e
   listed_from h c m at all b s j i (d ∷ ds) w q l k u zero f e =
       let env = plain_env p (class_around h) in
       let here : Unbroken (maybe_visits env d.len ++ AtField env c m.access b d (place_in j i) ∷ []) = first (maybe_visits env d.len ++ AtField env c m.access b d (place_in j i) ∷ []) (fields_visits env c m.access b j (i + 1) ds) u in
-      let index = l 0 d refl in
       let r : FieldRules h c (record { base = b; declarator = d }) = record {
         access = m.access;
         place = place_in j i;
@@ -120,19 +118,18 @@ module _ (p : Program) where
         at = at;
         form = q;
         member_at = w;
-        index = index.0;
-        listed = index.1;
+        listed = l 0 i d (omega arith) refl;
       } in
       subst (FieldRules h c) (some_same e) r
   listed_from h c m at all b s j i (d ∷ ds) w q l k u (suc n) f e =
       let env = plain_env p (class_around h) in
-      listed_from h c m at all b s j (i + 1) ds w q (λ n. l (suc n)) k (second (maybe_visits env d.len ++ AtField env c m.access b d (place_in j i) ∷ []) (fields_visits env c m.access b j (i + 1) ds) u) n f e
+      listed_from h c m at all b s j (i + 1) ds w q (λ n k d z. l (suc n) k d (omega (arith, z))) k (second (maybe_visits env d.len ++ AtField env c m.access b d (place_in j i) ∷ []) (fields_visits env c m.access b j (i + 1) ds) u) n f e
 
   in_form : (h : Home) (c : Class) (j : ℕ) (m : Member) (form : MemberForm) → slice_get c.members j ≡ Some m → m.form ≡ form → Unbroken (form_visits p h c j m.mark m.access form) → (n : ℕ) (f : ClassField) → slice_get (form_fields form) n ≡ Some f → FieldRules h c f
   in_form h c j m (FieldsMember at b ds) w q u n f e =
       let env = plain_env p (class_around h) in
       let k = base_known env at b (one (AtBase env at b) (first (AtBase env at b ∷ []) (fields_visits env c m.access b j 0 ds) u)) in
-      listed_from h c m at ds b k.0 j 0 ds w q (λ n d e. (n, e)) k.1 (second (AtBase env at b ∷ []) (fields_visits env c m.access b j 0 ds) u) n f e
+      listed_from h c m at ds b k.0 j 0 ds w q (λ n k d z e. ap (slice_get ds) (let y : k ≡ n = omega (arith, z) in y) ∙ e) k.1 (second (AtBase env at b ∷ []) (fields_visits env c m.access b j 0 ds) u) n f e
   in_form h c j m (RoutineMember r) w q u n f e = none_some e
   in_form h c j m (ProtoMember s) w q u n f e = none_some e
 

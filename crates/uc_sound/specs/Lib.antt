@@ -3,3 +3,4 @@ pub mod Tables
 pub mod Told
 pub mod Rooted
 pub mod Statements
+pub mod Routines
