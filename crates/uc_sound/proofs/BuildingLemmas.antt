@@ -83,13 +83,13 @@ from_field last (origin.Field class k a b place) h = refl
 from_field last _ h = false_true h
 
 module _ (p : Program) (formed : IsFormed p) (u : Unbroken (program_visits p)) (i : ℕ) (c : Class) (e : class_at p i ≡ Some c) (g : Sig) (this : g.this ≡ Some i) where
-  abbrev t : Table
+  abbrev pub t : Table
   t = table_of p
 
   told : Told t p
   told = law_told p formed u
 
-  abbrev rules_of : (k : ℕ) (f : ClassField) → slice_get (fields_of c.members) k ≡ Some f → FieldRules p (home p u i c) c f
+  abbrev pub rules_of : (k : ℕ) (f : ClassField) → slice_get (fields_of c.members) k ≡ Some f → FieldRules p (home p u i c) c f
   rules_of k f at = field_rules p u i c e k f at
 
   -- what is asked of a field
@@ -122,20 +122,20 @@ module _ (p : Program) (formed : IsFormed p) (u : Unbroken (program_visits p)) (
       by false false z q l h = false_true l
 
   -- what a field starts with
-  record Starts (k : ℕ) (f : ClassField) (at : slice_get (fields_of c.members) k ≡ Some f) (args : List tree.Meant) : Type 0 where
+  pub record Starts (k : ℕ) (f : ClassField) (at : slice_get (fields_of c.members) k ≡ Some f) (args : List tree.Meant) : Type 0 where
     reference : f.declarator.by_ref ≡ true → (m : tree.Meant) (ms : List tree.Meant) → args ≡ m ∷ ms → (sc : List Name) → Yields t g sc m.expr (found_ty (rules_of k f at).sort)
     single : f.declarator.by_ref ≡ false → made (rules_of k f at).sort ≡ None → (m : tree.Meant) (ms : List tree.Meant) → args ≡ m ∷ ms → f.declarator.len ≡ None
     scalar_value : f.declarator.by_ref ≡ false → made (rules_of k f at).sort ≡ None → (m : tree.Meant) (ms : List tree.Meant) → args ≡ m ∷ ms → (is_scalar_sort (rules_of k f at).sort ≡ true) × ((sc : List Name) → Yields t g sc (value_of m) Num)
     object : (m : Making) → f.declarator.by_ref ≡ false → made (rules_of k f at).sort ≡ Some m → f.declarator.len ≡ None → (sc : List Name) → Given t g refl sc p m args
 
   module _ (k : ℕ) (f : ClassField) (at : slice_get (fields_of c.members) k ≡ Some f) where
-    r : FieldRules p (home p u i c) c f
+    abbrev r : FieldRules p (home p u i c) c f
     r = rules_of k f at
 
     tells : TellsClass t p i c
     tells = told.classes i c e
 
-    n : ℕ
+    abbrev n : ℕ
     n = leading_cells c.kind + k
 
     -- the place of a field that is bound, or of a scalar
@@ -181,7 +181,7 @@ module _ (p : Program) (formed : IsFormed p) (u : Unbroken (program_visits p)) (
 
   -- all fields, the first of which has the number k among those of the class
 
-  abbrev Behind : ℕ → List ClassField → Type 0
+  abbrev pub Behind : ℕ → List ClassField → Type 0
   Behind k fs = (m n : ℕ) (f : ClassField) → k + m ≡ n → slice_get fs m ≡ Some f → slice_get (fields_of c.members) n ≡ Some f
 
   pub built_fine : (inits : List Init) (s : Scope) → ((k : ℕ) (f : ClassField) (at : slice_get (fields_of c.members) k ≡ Some f) → Starts k f at (init_args p s (init_named p inits f.declarator.name))) → (fs : List ClassField) (k number : ℕ) → leading_cells c.kind + k ≡ number → Behind k fs → (rest : Stmts) (sc : List Name) → FineStmts t g sc rest → FineStmts t g sc (fields_built p c i inits s fs number rest)
@@ -249,17 +249,17 @@ module _ (p : Program) (formed : IsFormed p) (u : Unbroken (program_visits p)) (
 -- with initialisers
 
 module _ (env : Env) (formed : IsFormed env.program) (u : Unbroken (program_visits env.program)) (i : ℕ) (c : Class) (e : class_at env.program i ≡ Some c) (g : Sig) (this : g.this ≡ Some i) (h : Home) (at_home : env.around.home ≡ Some h) (class_is : h.class ≡ i) (s : Scope) (w : (sc : List Name) → Within (table_of env.program) g sc env s.class s.names) where
-  abbrev p1 : Program
+  abbrev pub p1 : Program
   p1 = env.program
 
-  abbrev t1 : Table
+  abbrev pub t1 : Table
   t1 = table_of env.program
 
   abbrev context1 : tree.Context
   context1 = context env s.class s.routine s.names
 
   module _ (k : ℕ) (f : ClassField) (at : slice_get (fields_of c.members) k ≡ Some f) (x : Init) (q : InitFound t1 g [] env s.class s.routine s.names (w []) f.declarator.name x) where
-    x1 : FieldRules p1 (home p1 u i c) c f
+    abbrev x1 : FieldRules p1 (home p1 u i c) c f
     x1 = rules_of p1 formed u i c e g this k f at
 
     abbrev count1 : ℕ

@@ -64,7 +64,7 @@ use Rattle.uc_sound.proofs.ObjectLemmas.{Making_is, making_ty, made_told, whole_
 use Rattle.uc_sound.proofs.StatementLemmas.{law_statements}
 use Rattle.uc_sound.proofs.BodyLemmas.{params_within, params_one, is_param}
 
-params_program : (xs : List Param) (env : Env) → (with_params env xs).program ≡ env.program
+pub params_program : (xs : List Param) (env : Env) → (with_params env xs).program ≡ env.program
 params_program [] env = refl
 params_program (x ∷ xs) env = params_program xs (with_param env x)
 
@@ -302,10 +302,10 @@ module _ (p : Program) (formed : IsFormed p) (u : Unbroken (program_visits p)) w
     left_fine (f ∷ fs) number rest a r sc =
         one_left f number (fields_left p c i fs (suc number) rest) (field_making p f) refl (a 0 number f (omega arith) refl) (left_fine fs (suc number) rest (λ k n f q at. a (suc k) n f (omega (arith, q)) at) r) sc
 
-    executing : has_execution c.kind ≡ true → Executing t g
+    pub executing : has_execution c.kind ≡ true → Executing t g
     executing h = (i, this, ap (of_kind has_execution) e ∙ h)
 
-    in_mutex : is_mutex c.kind ≡ true → InMutex t g
+    pub in_mutex : is_mutex c.kind ≡ true → InMutex t g
     in_mutex h = (i, this, ap (of_kind is_mutex) e ∙ h)
 
     taken_fine : (b : Bool) → has_execution c.kind ≡ b → (rest : Stmts) → ((sc : List Name) → FineStmts t g sc rest) → (sc : List Name) → FineStmts t g sc (taken_down p b rest)

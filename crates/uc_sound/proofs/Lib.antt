@@ -18,3 +18,4 @@ pub mod DestructionLemmas
 pub mod RoutineBodies
 pub mod ConstructionLemmas
 pub mod BuildingLemmas
+pub mod SoundLemmas

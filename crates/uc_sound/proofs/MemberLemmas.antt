@@ -316,13 +316,13 @@ module _ (p : Program) (formed : IsFormed p) (u : Unbroken (program_visits p)) w
       by (inr v) = v
 
   -- the one among the routines that a member declares
-  record Listed (i : ℕ) (c : Class) (sig : Sig) : Type 0 where
-    n : ℕ
-    x : Defined
-    at : slice_get (routines_of p) n ≡ Some x
-    number : x.number ≡ unwrap_or (class_number p c.name) 0
-    role : x.routine.sig.role ≡ sig.role
-    name : x.routine.sig.name ≡ sig.name
+  pub record Listed (i : ℕ) (c : Class) (sig : Sig) : Type 0 where
+    pub n : ℕ
+    pub x : Defined
+    pub at : slice_get (routines_of p) n ≡ Some x
+    pub number : x.number ≡ unwrap_or (class_number p c.name) 0
+    pub role : x.routine.sig.role ≡ sig.role
+    pub name : x.routine.sig.name ≡ sig.name
 
   in_form : (i j : ℕ) (c : Class) (m : Member) (form : MemberForm) (sig : Sig) → class_at p i ≡ Some c → slice_get c.members j ≡ Some m → m.form ≡ form → form_sig form ≡ Some sig → MemberRules p (home p u i c) c j m → Listed i c sig
   in_form i j c m (FieldsMember at b ds) sig e a f g r = none_some g
@@ -366,7 +366,7 @@ module _ (p : Program) (formed : IsFormed p) (u : Unbroken (program_visits p)) w
       found : (k : ℕ) × (y : Item) × (slice_get p.items k ≡ Some y) × (defines_member_sig c.name s y ≡ true) → Listed i c sig
       found h = at_item h.0 h.1 h.2 h.3
 
-  listed : (i j : ℕ) (c : Class) (sig : Sig) → class_at p i ≡ Some c → Declares c j sig → Listed i c sig
+  pub listed : (i j : ℕ) (c : Class) (sig : Sig) → class_at p i ≡ Some c → Declares c j sig → Listed i c sig
   listed i j c sig e d = in_form i j c d.m d.m.form sig e d.at refl d.form (member_rules p u i c e j d.m d.at)
 
   -- of plain members a name finds one

@@ -28,12 +28,12 @@ use Rattle.uc_agreement.proofs.Ties.{some_same, none_some, false_true}
 use Rattle.uc_sound.specs.Formed.{IsFormed}
 use Rattle.uc_sound.specs.Tables.{of_kind, routine_sig_in, unwritten_sig, all_sigs, sig_or_none, table_of}
 use Rattle.uc_sound.specs.Routines.{builds, builds_by, unwritten_builds, LawRoutines}
-use Rattle.uc_sound.proofs.Lists.{left_is, right_is, both_are, case_of, in_either, within as is_within}
+use Rattle.uc_sound.proofs.Lists.{left_is, right_is, not_is, both_are, case_of, in_either, within as is_within}
 use Rattle.uc_sound.proofs.Origins.{origin}
 use Rattle.uc_sound.proofs.BodyLemmas.{InStep, is_written, nobody_wrote, in_step, count_is, main_plain}
 use Rattle.uc_sound.proofs.DestructionLemmas.{Standing, standing, body_fine, destruction_fine}
 
-map_length : {A B : Type 0} (f : A → B) (xs : List A) → length (map f xs) ≡ length xs
+pub map_length : {A B : Type 0} (f : A → B) (xs : List A) → length (map f xs) ≡ length xs
 map_length f [] = refl
 map_length f (x ∷ xs) = ap suc (map_length f xs)
 
@@ -131,48 +131,52 @@ module _ (p : Program) (formed : IsFormed p) (u : Unbroken (program_visits p)) w
     purposed false false true h k = tt
     purposed false false false h k = role_sorted d.routine.sig.role
 
+    pub routine_purpose : IsSorted (routine_meant p d.routine scope).purpose g.whole
+    routine_purpose = purposed ((nat_eq n (main_number p)) || (has_tasks p (class_by p (place_by p d)) && is_main p d.routine.sig)) (has_coroutines p (class_by p (place_by p d)) && is_main p d.routine.sig) (has_number_in p (class_by p (place_by p d)) d.routine.sig) refl refl
+
     routine_is : is_constructor d.routine.sig.role ≡ false → Routine_is t g (routine_meant p d.routine scope)
     routine_is h = record {
       body = by_role d.routine.sig.role refl h;
       params = sym (map_length (param_ty p) d.routine.sig.params);
-      purpose = purposed ((nat_eq n (main_number p)) || (has_tasks p (class_by p (place_by p d)) && is_main p d.routine.sig)) (has_coroutines p (class_by p (place_by p d)) && is_main p d.routine.sig) (has_number_in p (class_by p (place_by p d)) d.routine.sig) refl refl;
+      purpose = routine_purpose;
     }
 
   -- what nobody wrote is of a class
 
-  own_class : (o : Option ℕ) (i : ℕ) (r : Role) (k : ℕ) (x : Unwritten) → slice_get (unwritten_by o i r) k ≡ Some x → (x.class ≡ i) × (x.role ≡ r)
-  own_class None i r zero x e = (ap (λ (z : Unwritten). z.class) (sym (some_same e)), ap (λ (z : Unwritten). z.role) (sym (some_same e)))
+  own_class : (o : Option ℕ) (i : ℕ) (r : Role) (k : ℕ) (x : Unwritten) → slice_get (unwritten_by o i r) k ≡ Some x → (x.class ≡ i) × (x.role ≡ r) × (o ≡ None)
+  own_class None i r zero x e = (ap (λ (z : Unwritten). z.class) (sym (some_same e)), ap (λ (z : Unwritten). z.role) (sym (some_same e)), refl)
   own_class None i r (suc k) x e = none_some e
   own_class (Some n) i r k x e = none_some e
 
-  record OfClass (x : Unwritten) : Type 0 where
-    class : Class
-    at : class_at p x.class ≡ Some class
-    maker : is_plain x.role ≡ false
+  pub record OfClass (x : Unwritten) : Type 0 where
+    pub class : Class
+    pub at : class_at p x.class ≡ Some class
+    pub no_event : is_event class.kind ≡ false
+    pub missing : written_at p x.class x.role ≡ None
 
   of_height : (h : ℕ) (cs : List Class) (i k : ℕ) (x : Unwritten) → ((m : ℕ) (c : Class) (j : ℕ) → i + m ≡ j → slice_get cs m ≡ Some c → class_at p j ≡ Some c) → slice_get (unwritten_of_height p h cs i) k ≡ Some x → OfClass x
   of_height h [] i k x f e = none_some e
   of_height h (c ∷ cs) i k x f e = by (in_either (if not (is_event c.kind) && nat_eq (class_height p i) h then unwritten_at p i else []) (unwritten_of_height p h cs (i + 1)) k x e) (λ m q. of_height h cs (i + 1) m x (λ m c j q e. f (suc m) c j (omega (arith, q)) e) q)
     where
-      here : (b : Bool) → slice_get (if b then unwritten_at p i else []) k ≡ Some x → OfClass x
-      here true q = at (in_either (unwritten_by (written_at p i role.Constructor) i role.Constructor) (unwritten_by (written_at p i role.Destructor) i role.Destructor) k x q)
+      here : (b : Bool) → (not (is_event c.kind) && nat_eq (class_height p i) h) ≡ b → slice_get (if b then unwritten_at p i else []) k ≡ Some x → OfClass x
+      here true v q = at (in_either (unwritten_by (written_at p i role.Constructor) i role.Constructor) (unwritten_by (written_at p i role.Destructor) i role.Destructor) k x q)
         where
-          of : (r : Role) → is_plain r ≡ false → (x.class ≡ i) × (x.role ≡ r) → OfClass x
-          of r w z = record { class = c; at = ap (class_at p) z.0 ∙ f 0 c i (omega arith) refl; maker = ap is_plain z.1 ∙ w }
+          of : (r : Role) → (x.class ≡ i) × (x.role ≡ r) × (written_at p i r ≡ None) → OfClass x
+          of r z = record { class = c; at = ap (class_at p) z.0 ∙ f 0 c i (omega arith) refl; no_event = not_is (is_event c.kind) (left_is (not (is_event c.kind)) (nat_eq (class_height p i) h) v); missing = ap (λ i. written_at p i x.role) z.0 ∙ (ap (written_at p i) z.1 ∙ z.2) }
 
           at : (slice_get (unwritten_by (written_at p i role.Constructor) i role.Constructor) k ≡ Some x) ⊎ ((m : ℕ) × (slice_get (unwritten_by (written_at p i role.Destructor) i role.Destructor) m ≡ Some x)) → OfClass x
-          at (inl q) = of role.Constructor refl (own_class (written_at p i role.Constructor) i role.Constructor k x q)
-          at (inr q) = of role.Destructor refl (own_class (written_at p i role.Destructor) i role.Destructor q.0 x q.1)
-      here false q = none_some q
+          at (inl q) = of role.Constructor (own_class (written_at p i role.Constructor) i role.Constructor k x q)
+          at (inr q) = of role.Destructor (own_class (written_at p i role.Destructor) i role.Destructor q.0 x q.1)
+      here false v q = none_some q
 
       by : (slice_get (if not (is_event c.kind) && nat_eq (class_height p i) h then unwritten_at p i else []) k ≡ Some x) ⊎ ((m : ℕ) × (slice_get (unwritten_of_height p h cs (i + 1)) m ≡ Some x)) → ((m : ℕ) → slice_get (unwritten_of_height p h cs (i + 1)) m ≡ Some x → OfClass x) → OfClass x
-      by (inl q) ih = here (not (is_event c.kind) && nat_eq (class_height p i) h) q
+      by (inl q) ih = here (not (is_event c.kind) && nat_eq (class_height p i) h) refl q
       by (inr q) ih = ih q.0 q.1
 
   of_all : (h k : ℕ) (x : Unwritten) → slice_get (unwritten_of_height p h (classes_of p.items) 0) k ≡ Some x → OfClass x
   of_all h k x e = of_height h (classes_of p.items) 0 k x (λ m c j q e. ap (class_at p) (let z : j ≡ m = omega (arith, q) in z) ∙ e) e
 
-  of_heights : (top k : ℕ) (x : Unwritten) → slice_get (unwritten_up_to p top) k ≡ Some x → OfClass x
+  pub of_heights : (top k : ℕ) (x : Unwritten) → slice_get (unwritten_up_to p top) k ≡ Some x → OfClass x
   of_heights zero k x e = of_all 0 k x e
   of_heights (suc top) k x e = by (in_either (unwritten_of_height p (suc top) (classes_of p.items) 0) (unwritten_up_to p top) k x e) (λ m q. of_heights top m x q)
     where

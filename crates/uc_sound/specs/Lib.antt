@@ -4,3 +4,4 @@ pub mod Told
 pub mod Rooted
 pub mod Statements
 pub mod Routines
+pub mod Sounds
