@@ -1,0 +1,26 @@
+// The laws of programs that break no rule: each is a function whose contract is the law.
+
+ghost use Rattle.uc_sound.specs.Routines.{LawRoutines};
+ghost use Rattle.uc_sound.specs.Statements.{LawStatements};
+ghost use Rattle.uc_sound.specs.Told.{LawTold};
+ghost use Rattle.uc_typing.specs.Typing.{Sig, Table};
+
+/// The table of a program that breaks no rule tells its routines, its classes, their fields and
+/// members, and what builds and destroys their objects.
+pub fn law_told()
+    ensures { LawTold }
+{}
+
+/// Statements that break no rule are in order: declarations of scalars, of objects and of arrays,
+/// the scope of a `for`, events that are raised by name, handlers with and without a parameter,
+/// statements that enable events, and all others, in one another.
+pub fn law_statements()
+    ensures { (t : Table) → (g : Sig) → LawStatements t g }
+{}
+
+/// In a program that breaks no rule each routine that is no constructor is in order under its
+/// signature in the table: routines outside of classes, members, mains and destructors, those that
+/// nobody wrote among them; and the table tells how many routines there are.
+pub fn law_routines()
+    ensures { LawRoutines }
+{}
