@@ -1,8 +1,7 @@
-pub mod Settled
-pub mod Steps
-pub mod Walk
 pub mod Ticks
 pub mod Makes
+pub mod Alive
 pub mod Worlds
 pub mod Others
 pub mod Through
+pub mod ByHand

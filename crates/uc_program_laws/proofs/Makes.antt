@@ -1,5 +1,5 @@
 -- What an act makes, by what is asked: an object where one is asked for, and else none.
-use Rattle.std.proofs.Common.{◌≡◌, ℕ, ◌==◌, ◌+◌, ◌<◌, ◌&&◌, ◌||◌, Bool, true, false, cond, not, List, [], ◌∷◌, ◌++◌, Option, Some, None, refl, sym, ap, ◌∙◌, subst, arith, append-nil, append_assoc, option_to_list, filter}
+use Rattle.std.proofs.Common.{◌≡◌, ℕ, ◌==◌, ◌<◌, ◌&&◌, ◌||◌, Bool, true, false, not, List, [], ◌∷◌, ◌++◌, None, refl, sym, ap, ◌∙◌, arith, append-nil, append_assoc, option_to_list}
 use Rattle.std.specs.Prelude.{pos, nat_lt}
 use Rattle.std.specs.List.{list_any}
 use Rattle.std.proofs.lemmas.List.Folds.{list_any-append}
@@ -13,7 +13,6 @@ use Rattle.uc_entry.specs.declared.request.Asked.{Asked}
 use Rattle.uc_entry.specs.declared.request.Request.{Request}
 use Rattle.uc_entry.specs.declared.request.Request.TheVariants as ask
 use Rattle.uc_acts.specs.Journal.{Journal, begin, held, is_over, is_ending, cost, asking}
-use Rattle.uc_acts.specs.Queues.{running}
 use Rattle.uc_acts.specs.Known.{has, has_ended, ends, object_count, made, makes_object, takes_object}
 use Rattle.uc_acts.specs.Answers.{asks, makes_for, just_made}
 use Rattle.uc_acts.specs.Sound.{Sound}
@@ -33,7 +32,7 @@ use Rattle.uc_acts.proofs.Counted.{counted_run, made_push}
 use Rattle.uc_acts.proofs.Making.{law_makes, law_new}
 use Rattle.uc_acts.proofs.Counted as counted
 use Rattle.uc_acts.proofs.Held.{law_held}
-use Rattle.uc_program_laws.specs.Laws.{LawEnds, GoesOn}
+use Rattle.uc_program_laws.specs.Laws.{LawEnds}
 use Rattle.uc_program_laws.proofs.Ticks.{no_both, not_true, not_over}
 
 or_true : (b : Bool) → (b || true) ≡ true

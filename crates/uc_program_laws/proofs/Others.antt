@@ -1,25 +1,21 @@
 -- In a run all that was asked fits: so who asks holds what it is inside, and acts of others leave who runs as it is.
-use Rattle.std.proofs.Common.{◌≡◌, ℕ, ◌-◌, ◌==◌, ◌<◌, ◌≤◌, ◌||◌, ◌⊎◌, inl, inr, Bool, true, false, cond, List, [], ◌∷◌, ◌++◌, Option, Some, None, refl, sym, ap, ◌∙◌, subst, arith, append_assoc, append-nil}
-use Rattle.std.specs.Prelude.{if◌then◌else◌}
-use Rattle.std.specs.List.{list_any}
+use Rattle.std.proofs.Common.{◌≡◌, ℕ, ◌-◌, ◌==◌, ◌||◌, ◌⊎◌, inl, inr, Bool, true, false, cond, List, [], ◌∷◌, ◌++◌, Option, Some, None, refl, sym, ap, ◌∙◌, subst, append_assoc, append-nil}
 use Rattle.std.proofs.lemmas.Bool.{eqb-true, eq-eqb}
 use Rattle.std.proofs.lemmas.List.Folds.{list_any-append}
 use Rattle.uc_tree.specs.Source.{Source}
-use Rattle.uc_tree.specs.Programs.{Site}
 use Rattle.uc_entry.specs.declared.entry.Entry.{Entry}
 use Rattle.uc_entry.specs.declared.entry.EntryKind.{EntryKind}
 use Rattle.uc_entry.specs.declared.entry.EntryKind.TheVariants as kind
 use Rattle.uc_entry.specs.declared.entry.Options.{Options}
 use Rattle.uc_entry.specs.declared.request.Asked.{Asked}
-use Rattle.uc_entry.specs.declared.request.Request.TheVariants as ask
 use Rattle.uc_entry.specs.Keyed.{find}
-use Rattle.uc_acts.specs.Journal.{Journal, begin, held, is_over, own_object, cost}
+use Rattle.uc_acts.specs.Journal.{Journal, held, is_over, own_object, cost}
 use Rattle.uc_acts.specs.Known.{has, spawns, takes_out}
 use Rattle.uc_acts.specs.Queues.{running}
-use Rattle.uc_acts.specs.Serves.{Serves, left}
+use Rattle.uc_acts.specs.Serves.{Serves}
 use Rattle.uc_acts.specs.Sound.{Each, Sound, At, Spot}
 use Rattle.uc_acts.specs.Stations.{Running}
-use Rattle.uc_acts.specs.Acts.{act, dispatch, lone_limit, row}
+use Rattle.uc_acts.specs.Acts.{act, dispatch, lone_limit}
 use Rattle.uc_acts.specs.Laws.{Elsewhere, Untouched}
 use Rattle.uc_acts.specs.KernelRuns.{InRange, Fits, MayAsk, KernelRuns, begun as begun_in, more as more_in, gives as gives_in, acts as acts_in}
 use Rattle.uc_acts.proofs.Bounds.{over_limit}
@@ -32,13 +28,12 @@ use Rattle.uc_acts.proofs.Given.{law_dispatch}
 use Rattle.uc_acts.proofs.Others.{law_elsewhere}
 use Rattle.uc_machine.specs.Quiet.{State, Members}
 use Rattle.uc_machine.specs.Answering.{with_hand, child_of}
-use Rattle.uc_meaning.specs.Runs.{World, Runs, May, AsksIn, begun, more, gives, no_room, acts, first_world, with_home, hand_of, drawn, or_else, world_after, bare}
+use Rattle.uc_meaning.specs.Runs.{World, Runs, May, AsksIn, begun, more, gives, no_room, acts, with_home, hand_of, or_else, world_after, bare}
 use Rattle.uc_meaning.specs.Cuts.{Cut, ends, goes_on, Reentry}
-use Rattle.uc_program_laws.specs.Hands.{keys}
 use Rattle.uc_program_laws.specs.Fitting.{MayFit, RunFits}
-use Rattle.uc_program_laws.specs.Laws.{is_giving, IsOn, LawProcessor, Asking, LawHand, IsHome, LawHome, names, StaysAs, LawOthers}
-use Rattle.uc_program_laws.proofs.Walk.{ride_within, ride_early}
-use Rattle.uc_program_laws.proofs.Ticks.{no_both, not_true, not_over, AllLeft, left_act, left_given, left_begin}
+use Rattle.uc_program_laws.specs.Laws.{is_giving, IsOn, AllLeft, LawProcessor, Asking, LawHand, IsHome, LawHome, names, StaysAs, LawOthers}
+use Rattle.uc_step_laws.proofs.Walk.{ride_within, ride_early}
+use Rattle.uc_program_laws.proofs.Ticks.{no_both, not_true, left_act, left_given, left_begin}
 use Rattle.uc_program_laws.proofs.Makes.{same_holder}
 use Rattle.uc_program_laws.proofs.Worlds.{IsThere, WorldRests, none_found, asks_settled, rests_act, rests_given, rests_begin}
 

@@ -1,5 +1,5 @@
 -- A run passes through each earlier one: its acts go on where that ended.
-use Rattle.std.proofs.Common.{◌≡◌, ℕ, ◌==◌, ◌<◌, ◌||◌, Bool, true, false, List, [], ◌∷◌, ◌++◌, Option, Some, None, length, refl, sym, ap, ◌∙◌, subst, arith, append_assoc, append-nil, length-append}
+use Rattle.std.proofs.Common.{◌≡◌, ℕ, ◌<◌, false, List, [], ◌∷◌, ◌++◌, Some, length, refl, sym, ap, ◌∙◌, subst, arith, append_assoc, length-append}
 use Rattle.uc_tree.specs.Source.{Source}
 use Rattle.uc_entry.specs.declared.entry.Entry.{Entry}
 use Rattle.uc_entry.specs.declared.entry.Options.{Options}
@@ -9,15 +9,14 @@ use Rattle.uc_acts.specs.Queues.{running}
 use Rattle.uc_acts.specs.Answers.{answer_to}
 use Rattle.uc_acts.specs.Serves.{left}
 use Rattle.uc_acts.specs.Acts.{act, dispatch, lone_limit}
-use Rattle.uc_acts.specs.KernelRuns.{InRange, Fits}
+use Rattle.uc_acts.specs.KernelRuns.{Fits}
 use Rattle.uc_acts.proofs.Bounds.{over_limit}
 use Rattle.uc_acts.proofs.Acting.{is_giving, object_of, destroys, AllBy, by_act}
 use Rattle.uc_acts.proofs.Making.{row_asks}
 use Rattle.uc_acts.proofs.Living.{going_row}
-use Rattle.uc_machine.specs.Quiet.{State}
 use Rattle.uc_machine.specs.Answering.{answered}
 use Rattle.uc_machine.specs.Rides.{Rides}
-use Rattle.uc_meaning.specs.Runs.{World, Runs, May, AsksIn, begun, more, gives, no_room, acts, first_world, drawn, world_after}
+use Rattle.uc_meaning.specs.Runs.{World, Runs, May, begun, more, gives, no_room, acts, first_world, drawn, world_after}
 use Rattle.uc_meaning.specs.Cuts.{Cut, ends, goes_on, Reentry}
 use Rattle.uc_meaning.proofs.CutsLemmas.{law_cut}
 use Rattle.uc_program_laws.specs.Laws.{LawThrough, LawSeat}

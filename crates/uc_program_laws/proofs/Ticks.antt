@@ -1,6 +1,6 @@
 -- Who runs has a tick left.
-use Rattle.std.proofs.Common.{◌≡◌, ℕ, ◌==◌, ◌+◌, ◌-◌, ◌<◌, ◌≤◌, ◌||◌, ◌⊎◌, inl, inr, Bool, true, false, cond, not, List, [], ◌∷◌, ◌++◌, Option, Some, None, refl, sym, ap, ◌∙◌, subst, arith, append-nil, append_assoc, option_to_list, filter}
-use Rattle.std.specs.Prelude.{pos, if◌then◌else◌}
+use Rattle.std.proofs.Common.{◌≡◌, ℕ, ◌==◌, ◌+◌, ◌<◌, ◌≤◌, ◌||◌, ◌⊎◌, inl, inr, Bool, true, false, cond, not, List, [], ◌∷◌, ◌++◌, refl, sym, ap, ◌∙◌, subst, arith, append-nil, append_assoc, option_to_list, filter}
+use Rattle.std.specs.Prelude.{pos}
 use Rattle.std.specs.List.{sum_by}
 use Rattle.std.proofs.lemmas.List.Sums.{fold_push}
 use Rattle.std.proofs.lemmas.Bool.{eqb-true}
@@ -12,7 +12,7 @@ use Rattle.uc_entry.specs.declared.entry.Options.{Options}
 use Rattle.uc_entry.specs.declared.request.Asked.{Asked}
 use Rattle.uc_entry.specs.declared.request.Request.{Request}
 use Rattle.uc_entry.specs.declared.request.Request.TheVariants as ask
-use Rattle.uc_acts.specs.Journal.{Journal, where_true, is_over, begin, Cost, cost, asking}
+use Rattle.uc_acts.specs.Journal.{Journal, where_true, is_over, begin, cost, asking}
 use Rattle.uc_acts.specs.Queues.{running, used, spent, dispatches, puts_on, takes_off, actor, last_actor}
 use Rattle.uc_acts.specs.Answers.{asks}
 use Rattle.uc_acts.specs.Open.{still_open}
@@ -21,20 +21,19 @@ use Rattle.uc_acts.specs.Laws.{AreFree, Carries, first, no_room as limited}
 use Rattle.uc_acts.specs.Serves.{Serves, left}
 use Rattle.uc_acts.specs.KernelRuns.{InRange, MayAsk, KernelMay, KernelRuns, gives, no_room, acts, begun, more}
 use Rattle.uc_acts.proofs.OpenLemmas.{still_open_push}
-use Rattle.uc_acts.proofs.Noted.{noted_at, last_actor_push}
+use Rattle.uc_acts.proofs.Noted.{last_actor_push}
 use Rattle.uc_acts.proofs.SoundLemmas.{self_test, all_kept}
 use Rattle.uc_acts.proofs.Seats.{running_same, running_other}
-use Rattle.uc_acts.proofs.Law.{good_whole}
 use Rattle.uc_acts.proofs.Bounds.{over_limit, over_push}
 use Rattle.uc_acts.proofs.Acting.{is_own, is_giving, object_of, destroys, AllBy, by_act}
-use Rattle.uc_acts.proofs.Making.{Asks, row_asks}
+use Rattle.uc_acts.proofs.Making.{row_asks}
 use Rattle.uc_acts.proofs.Living.{going_row}
 use Rattle.uc_acts.proofs.Lines.{law_line}
 use Rattle.uc_acts.proofs.Given.{law_dispatch}
 use Rattle.uc_acts.proofs.Others.{law_elsewhere}
-use Rattle.uc_program_laws.specs.Fitting.{MayEarly, RunEarly}
-use Rattle.uc_program_laws.specs.Laws.{LawLeft}
-use Rattle.uc_program_laws.proofs.Settled.{either}
+use Rattle.uc_program_laws.specs.Fitting.{MayEarly}
+use Rattle.uc_program_laws.specs.Laws.{AllLeft, LawLeft}
+use Rattle.uc_step_laws.proofs.Kept.{either}
 
 pub no_both : {A : Type 0} (b : Bool) → b ≡ true → b ≡ false → A
 no_both b t f = absurd (cc (t, f))
@@ -169,8 +168,6 @@ module _ (opts : Options) (sites : List Site) (input : List ℕ) (j : Journal) (
       ap (λ l. running p (j ++ l)) is ∙ running_same p j i (self_test p) ∙ ap (λ l. filter (λ u. not (u == t)) l ++ []) m.runs ∙ ap (λ b. cond (not b) (t ∷ []) [] ++ []) self
 
 -- a step of a run
-abbrev pub AllLeft : Options → Journal → Type 0
-AllLeft opts j = (p t : ℕ) → running p j ≡ t ∷ [] → 1 ≤ left opts j t
 
 no_cons : (x : ℕ) (ys : List ℕ) → ys ≡ x ∷ [] → ys ≡ [] → ⊥
 no_cons x ys h g = cc

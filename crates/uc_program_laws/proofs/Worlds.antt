@@ -1,8 +1,7 @@
 -- What every run of a program keeps of its world: what is at home where, and what each task has to do.
-use Rattle.std.proofs.Common.{◌≡◌, ℕ, ◌==◌, ◌<◌, ◌≤◌, ◌||◌, ◌⊎◌, inl, inr, Bool, true, false, cond, List, [], ◌∷◌, ◌++◌, Option, Some, None, refl, sym, ap, ◌∙◌, subst, arith, ⊎_elim}
+use Rattle.std.proofs.Common.{◌≡◌, ℕ, ◌==◌, ◌||◌, ◌⊎◌, inl, inr, Bool, true, false, List, [], ◌∷◌, ◌++◌, Option, Some, None, refl, sym, ap, ◌∙◌, subst, ⊎_elim}
 use Rattle.std.specs.Prelude.{nat_eq, if◌then◌else◌}
 use Rattle.std.proofs.lemmas.Bool.{eqb-true, eq-eqb}
-use Rattle.uc_tree.specs.Programs.{Site}
 use Rattle.uc_tree.specs.Source.{Source, Routine, routine_of}
 use Rattle.uc_entry.specs.declared.entry.Entry.{Entry}
 use Rattle.uc_entry.specs.declared.entry.Options.{Options}
@@ -15,7 +14,7 @@ use Rattle.uc_entry.specs.Keyed.{find}
 use Rattle.uc_acts.specs.Journal.{Journal, begin, held, is_over, own_object}
 use Rattle.uc_acts.specs.Known.{has, made, object_count, spawns, takes_out}
 use Rattle.uc_acts.specs.Queues.{running}
-use Rattle.uc_acts.specs.Answers.{answer_to, just_made}
+use Rattle.uc_acts.specs.Answers.{just_made}
 use Rattle.uc_acts.specs.Serves.{Serves, left}
 use Rattle.uc_acts.specs.Sound.{Sound}
 use Rattle.uc_acts.specs.Acts.{act, dispatch}
@@ -26,16 +25,18 @@ use Rattle.uc_acts.proofs.Counted.{law_made}
 use Rattle.uc_acts.proofs.Making.{law_new}
 use Rattle.uc_acts.proofs.Given.{law_dispatch}
 use Rattle.uc_acts.proofs.Others.{law_elsewhere}
-use Rattle.uc_machine.specs.Quiet.{State, Value, Todo, Members, first_state, zeros}
-use Rattle.uc_machine.specs.Pieces as piece
-use Rattle.uc_machine.specs.Answering.{answered, entered, new_members, with_operand, child_of, child_main}
+use Rattle.uc_machine.specs.Quiet.{State, Members, first_state, zeros}
+use Rattle.uc_machine.specs.Answering.{answered, child_of, child_main}
 use Rattle.uc_meaning.specs.Runs.{World, AsksIn, first_world, first_home, with_home, hand_of, drawn, or_else, world_after, bare}
-use Rattle.uc_program_laws.specs.Hands.{keys}
-use Rattle.uc_program_laws.proofs.Settled.{either, plain, Binds, binds_not, PlainRuns, PlainParked, PlainHand, PlainMembers, Few, SettledEnv, Settled, HasAsked, found_hand}
-use Rattle.uc_program_laws.proofs.Steps.{plain_behind}
-use Rattle.uc_program_laws.proofs.Walk.{Bound, rides_settled, rides_bound}
-use Rattle.uc_program_laws.proofs.Ticks.{no_both, not_true, not_over, AllLeft}
-use Rattle.uc_program_laws.proofs.Makes.{is_making, same_holder, run_after, makes, none_new, one_new, just_made_given, just_made_begin, made_begin}
+use Rattle.uc_step_laws.specs.Hands.{keys}
+use Rattle.uc_program_laws.specs.Laws.{AllLeft}
+use Rattle.uc_step_laws.specs.Settled.{plain, Binds, PlainRuns, PlainParked, PlainHand, PlainMembers, Few, Settled, Bound, HasAsked}
+use Rattle.uc_step_laws.proofs.Kept.{either, binds_not, found_hand}
+use Rattle.uc_step_laws.proofs.Told.{law_told}
+use Rattle.uc_step_laws.proofs.Walk.{law_rides}
+use Rattle.uc_step_laws.proofs.Steps.{plain_behind}
+use Rattle.uc_program_laws.proofs.Ticks.{no_both, not_true}
+use Rattle.uc_program_laws.proofs.Makes.{is_making, same_holder, makes, none_new, one_new, just_made_given, just_made_begin, made_begin}
 
 -- what is at home
 
@@ -93,14 +94,6 @@ hand_without : (os : List ℕ) (o : ℕ) (homes : ℕ → Option Members) → ho
 hand_without [] o homes h = ap (λ x. with_home o x []) h
 hand_without (k ∷ os) o homes h = ap (with_home k (homes k)) (hand_without os o homes h)
 
-keys_more : (hand : List (ℕ × Members)) (o : ℕ) (m : Members) → keys (hand ++ (o, m) ∷ []) ≡ keys hand ++ o ∷ []
-keys_more [] o m = refl
-keys_more (p ∷ hand) o m = ap (λ l. p.0 ∷ l) (keys_more hand o m)
-
-plain_more : (hand : List (ℕ × Members)) (o : ℕ) (m : Members) → PlainHand hand → PlainParked m.parked → PlainHand (hand ++ (o, m) ∷ [])
-plain_more [] o m h k = (k, tt)
-plain_more (p ∷ hand) o m h k = (h.0, plain_more hand o m h.1 k)
-
 -- what a task holds once it has been told
 
 pub none_found : (o : ℕ) (ps : List (ℕ × Members)) → has (keys ps) o ≡ false → find o ps ≡ None
@@ -118,31 +111,6 @@ some_found o (p ∷ ps) h = by (nat_eq p.0 o) (some_found o ps) h
     by : (b : Bool) → (has (keys ps) o ≡ true → IsThere (find o ps)) → (b || has (keys ps) o) ≡ true → IsThere (if b then Some p.1 else find o ps)
     by true ih h = tt
     by false ih h = ih h
-
--- what is bound comes from the class that was asked for
-record News (source : Source) (todo : List Todo) : Type 0 where
-  members : Members
-  is : new_members source todo ≡ Some members
-  empty : PlainParked members.parked
-
-binds_new : (source : Source) (todo : List Todo) → Binds todo → News source todo
-binds_new source (piece.BindMadeNow c r ∷ todo) h = record { members = zeros _; is = refl; empty = tt }
-binds_new source todo h = absurd h
-
-plain_none : (source : Source) (todo : List Todo) → plain todo ≡ true → new_members source todo ≡ None
-plain_none source [] h = refl
-plain_none source (piece.BindMadeNow c r ∷ todo) h = cc
-plain_none source (p ∷ todo) h = refl
-
-told_settled : (ks : List ℕ) (source : Source) (given : Answer) (s : State) → Settled ks s → Settled ks (answered source given s)
-told_settled ks source (answer.Object o) s h =
-    subst (λ x. Settled ks (with_operand (piece.Object o) (entered x o s))) (sym (plain_none source s.run.control h.control)) (record { control = h.control; callers = h.callers; env = h.env })
-told_settled ks source (answer.Number n) s h = record { control = h.control; callers = h.callers; env = h.env }
-told_settled ks source (answer.Value n failed) s h = record { control = h.control; callers = h.callers; env = h.env }
-told_settled ks source (answer.Clause k failed) s h = record { control = h.control; callers = h.callers; env = h.env }
-told_settled ks source (answer.Event n x y) s h = record { control = h.control; callers = h.callers; env = h.env }
-told_settled ks source answer.Nothing s h = record { control = h.control; callers = h.callers; env = h.env }
-told_settled ks source answer.Go s h = h
 
 module _ (source : Source) (input : List ℕ) (opts : Options) (j : Journal) (w : World) (runs : KernelRuns opts source.sites input j) (going : is_over j ≡ false) (rests : WorldRests j w) where
   sound : Sound j
@@ -180,22 +148,20 @@ module _ (source : Source) (input : List ℕ) (opts : Options) (j : Journal) (w 
         there o (inl x) = x
         there o (inr x) = absurd (binds_not (w.tasks t).run.control h ((rests.tasks t).binds o x))
 
-    -- a task that has just made an object is told of it
-    drawn_bound : (o : ℕ) → just_made t j ≡ o ∷ [] → Bound (held t j) source (answered source (answer.Object o) (drawn j w t))
-    drawn_bound o e =
-        let n = law_new opts source.sites input j runs going t o e in
-        let b = binds_new source (w.tasks t).run.control ((rests.tasks t).binds o e) in
+    -- a task that has just made an object lacks it, and it alone
+    drawn_bound : (o : ℕ) → just_made t j ≡ o ∷ [] → (n : IsNew source.sites j t o) → Bound n.before (drawn j w t)
+    drawn_bound o e n =
         let same : hand_of (held t j) w.homes ≡ hand_of n.before w.homes = ap (λ l. hand_of l w.homes) n.last ∙ hand_without n.before o w.homes (rests.new t o e) in
-        subst (λ x. Bound (held t j) source (with_operand (piece.Object o) (entered x o (drawn j w t)))) (sym b.is) (record {
+        record {
           control = (rests.tasks t).binds o e;
           callers = (rests.tasks t).callers;
           env = record {
-            keys_are = keys_more (hand_of (held t j) w.homes) o b.members ∙ ap (λ l. keys l ++ o ∷ []) same ∙ ap (λ l. l ++ o ∷ []) (keys_hand n.before w.homes (λ k f. there n k (mine t k (in_held n k f)) f)) ∙ sym n.last;
+            keys_are = ap keys same ∙ keys_hand n.before w.homes (λ k f. there n k (mine t k (in_held n k f)) f);
             house = (rests.tasks t).house;
-            hand = plain_more (hand_of (held t j) w.homes) o b.members (plain_hand (held t j) w.homes rests.members) b.empty;
+            hand = plain_hand (held t j) w.homes rests.members;
             few = (rests.tasks t).few;
           };
-        })
+        }
       where
         before_has : (xs : List ℕ) (k : ℕ) → has xs k ≡ true → has (xs ++ o ∷ []) k ≡ true
         before_has [] k h = cc
@@ -215,16 +181,18 @@ module _ (source : Source) (input : List ℕ) (opts : Options) (j : Journal) (w 
             let is : k ≡ o = cc same in
             no_both (has n.before o) (ap (has n.before) (sym is) ∙ f) n.once
 
-  module _ (all : AllLeft opts j) {p t n : ℕ} {s : State} {asked : Asked} (d : AsksIn source opts j w p t n s asked) where
+  module _ (all : AllLeft opts j) {p t n' : ℕ} {s : State} {asked : Asked} (d : AsksIn source opts j w p t n' s asked) where
     pub asks_settled : HasAsked (held t j) asked.request s
     asks_settled = by (rests.tasks t).control
       where
         by : (plain (w.tasks t).run.control ≡ true) ⊎ ((o : ℕ) × (just_made t j ≡ o ∷ [])) → HasAsked (held t j) asked.request s
-        by (inl h) = rides_settled (held t j) source d.rides (told_settled (held t j) source d.given (drawn j w t) (drawn_settled t h))
+        by (inl h) = law_rides.settled source (held t j) (answered source d.given (drawn j w t)) s (left opts j t) n' asked d.rides (law_told.settled source (held t j) d.given (drawn j w t) (drawn_settled t h))
         by (inr x) =
-            let told : Some d.given ≡ Some (answer.Object x.0) = sym d.told ∙ (law_new opts source.sites input j runs going t x.0 x.1).answer in
+            let n = law_new opts source.sites input j runs going t x.0 x.1 in
+            let told : Some d.given ≡ Some (answer.Object x.0) = sym d.told ∙ n.answer in
             let given : answer.Object x.0 ≡ d.given = cc told in
-            rides_bound (held t j) source d.rides (all p t d.runs) (subst (λ (a : Answer). Bound (held t j) source (answered source a (drawn j w t))) given (drawn_bound t x.0 x.1))
+            let start : Bound (held t j) (answered source (answer.Object x.0) (drawn j w t)) = subst (λ l. Bound l (answered source (answer.Object x.0) (drawn j w t))) (sym n.last) (law_told.bound source n.before x.0 (drawn j w t) (drawn_bound t x.0 x.1 n)) in
+            law_rides.bound source (held t j) (answered source d.given (drawn j w t)) s (left opts j t) n' asked d.rides (all p t d.runs) (subst (λ (a : Answer). Bound (held t j) (answered source a (drawn j w t))) given start)
 
 -- what a request leaves to do
 behind_plain : (ks : List ℕ) (r : Request) (s : State) → is_making r ≡ false → HasAsked ks r s → plain s.run.control ≡ true

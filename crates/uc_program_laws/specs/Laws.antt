@@ -20,7 +20,7 @@ use Rattle.uc_acts.specs.KernelRuns.{InRange, KernelRuns}
 use Rattle.uc_machine.specs.Quiet.{State, Members}
 use Rattle.uc_meaning.specs.Runs.{World, Runs, AsksIn, drawn}
 use Rattle.uc_meaning.specs.Cuts.{Cut, Reentry}
-use Rattle.uc_program_laws.specs.Hands.{keys, HasForm}
+use Rattle.uc_step_laws.specs.Hands.{keys, HasForm}
 use Rattle.uc_program_laws.specs.Fitting.{RunFits, RunEarly}
 
 -- of any run of a kernel
@@ -41,10 +41,19 @@ abbrev pub LawProcessor : Type 0
 LawProcessor =
     (opts : Options) (sites : List Site) (input : List ℕ) (j : Journal) (p t k : ℕ) (asked : Asked) → Each (IsOn p) (act opts sites input j p t k asked)
 
--- who runs has a tick left, where each act came early enough
+-- who runs has a tick left
+abbrev pub AllLeft : Options → Journal → Type 0
+AllLeft opts j = (p t : ℕ) → running p j ≡ t ∷ [] → 1 ≤ left opts j t
+
+-- so it is where each act came early enough
 abbrev pub LawLeft : Type 0
 LawLeft =
-    (opts : Options) (sites : List Site) (input : List ℕ) (j : Journal) → InRange opts → (r : KernelRuns opts sites input j) → RunEarly opts sites input j r → is_over j ≡ false → (p t : ℕ) → running p j ≡ t ∷ [] → 1 ≤ left opts j t
+    (opts : Options) (sites : List Site) (input : List ℕ) (j : Journal) → InRange opts → (r : KernelRuns opts sites input j) → RunEarly opts sites input j r → is_over j ≡ false → AllLeft opts j
+
+-- who runs has not ended
+abbrev pub LawAlive : Type 0
+LawAlive =
+    (opts : Options) (sites : List Site) (input : List ℕ) (j : Journal) → KernelRuns opts sites input j → is_over j ≡ false → (p t : ℕ) → running p j ≡ t ∷ [] → has_ended t j ≡ false
 
 -- a task that has not ended by an act behind which the run goes on asked neither its end nor a fault
 pub record GoesOn (asked : Asked) : Type 0 where

@@ -1,3 +1,3 @@
-pub mod Hands
 pub mod Fitting
 pub mod Laws
+pub mod ByHand

@@ -1,6 +1,7 @@
 // The laws: each is a function whose contract is the law.
 
-ghost use Rattle.uc_program_laws.specs.Laws.{LawProcessor, LawLeft, LawEnds, LawHand, LawHome, LawOthers, LawThrough, LawSeat};
+ghost use Rattle.uc_program_laws.specs.ByHand.{LawByHand};
+ghost use Rattle.uc_program_laws.specs.Laws.{LawProcessor, LawLeft, LawAlive, LawEnds, LawHand, LawHome, LawOthers, LawThrough, LawSeat};
 
 /// Each entry of an act names the processor of its task, and gives no processor.
 pub fn law_processor()
@@ -11,6 +12,11 @@ pub fn law_processor()
 /// tick of its task or asked for another slice.
 pub fn law_left()
     ensures { LawLeft }
+{}
+
+/// While the run of a kernel goes on, who runs has not ended.
+pub fn law_alive()
+    ensures { LawAlive }
 {}
 
 /// A task that has not ended by its act, behind which the run goes on, asked neither its end nor a
@@ -25,6 +31,13 @@ pub fn law_ends()
 /// forms.
 pub fn law_hand()
     ensures { LawHand }
+{}
+
+/// What a program asks in its runs fits where, as long as all before fits, each object of which
+/// something is asked is in hand, or is made and not in hand where it is called, and where what else
+/// it names is known.
+pub fn law_by_hand()
+    ensures { LawByHand }
 {}
 
 /// Where what a program asks fits, acts of others leave a task that runs where it runs, as it is,

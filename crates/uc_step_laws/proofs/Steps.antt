@@ -31,8 +31,9 @@ use Rattle.uc_machine.specs.Polls as polls
 use Rattle.uc_machine.specs.Quiet as quiet
 use Rattle.uc_machine.specs.Pieces as piece
 use Rattle.uc_machine.specs.Pieces.{Value, Number, Place, Running, Object, Nothing, Todo, Sort, Active, State, Env, Members, Step, Goes, Ticks, Asks, Outcome, Gives, Faults, at, in_env, goes, fault, asks, turns, top, below, number, written}
-use Rattle.uc_program_laws.specs.Hands.{keys, HasForm}
-use Rattle.uc_program_laws.proofs.Settled.{either, plain, plain_tail, PlainRuns, PlainEx, Few, SettledEnv, Settled, Behind, HasAsked, StepSettled, MovedSettled, like, owned_settled, written_settled, born_settled, forgotten_settled, with_links_settled, enlivened_settled, wake_settled, suspend_settled, finish_settled, escape_settled, taken_down_settled, take_down_settled}
+use Rattle.uc_step_laws.specs.Hands.{keys, HasForm}
+use Rattle.uc_step_laws.specs.Settled.{plain, PlainRuns, PlainEx, Few, SettledEnv, Settled, Behind, HasAsked, StepSettled}
+use Rattle.uc_step_laws.proofs.Kept.{either, plain_tail, MovedSettled, like, owned_settled, written_settled, born_settled, forgotten_settled, with_links_settled, enlivened_settled, wake_settled, suspend_settled, finish_settled, escape_settled, taken_down_settled, take_down_settled}
 
 -- a fault is asked where nothing is bound
 

@@ -19,9 +19,10 @@ use Rattle.uc_machine.specs.Pieces as piece
 use Rattle.uc_machine.specs.Pieces.{Value, Todo, State, Step, Goes, Ticks, Asks, at, top, below, number}
 use Rattle.uc_machine.specs.Rides as rides
 use Rattle.uc_machine.specs.Rides.{Rides}
-use Rattle.uc_program_laws.specs.Hands.{HasForm}
-use Rattle.uc_program_laws.proofs.Settled.{either, plain, plain_tail, Binds, PlainRuns, SettledEnv, Settled, Behind, HasAsked, StepSettled, like, owned_settled, enlivened_settled, forgotten_settled, take_down_settled, wake_settled, suspend_settled, finish_settled}
-use Rattle.uc_program_laws.proofs.Steps as steps
+use Rattle.uc_step_laws.specs.Settled.{plain, Binds, PlainRuns, SettledEnv, Settled, Behind, HasAsked, StepSettled, Bound}
+use Rattle.uc_step_laws.specs.StepLaws.{LawSteps, LawRides}
+use Rattle.uc_step_laws.proofs.Kept.{either, plain_tail, like, owned_settled, enlivened_settled, forgotten_settled, take_down_settled, wake_settled, suspend_settled, finish_settled}
+use Rattle.uc_step_laws.proofs.Steps as steps
 
 module _ (ks : List ℕ) (source : Source) where
   module _ (s : State) (callers : PlainRuns s.callers) (env : SettledEnv ks s.env) where
@@ -120,12 +121,6 @@ module _ (ks : List ℕ) (source : Source) where
     acts piece.FinishCoroutine todo h c = steps.moved ks s callers env _ todo _ h (finish_settled ks (at todo s.run.operands s) (go _ _ h))
     acts p todo h c = go _ _ h
 
-  -- a state that binds next what was made
-  pub record Bound (s : State) : Type 0 where
-    pub control : Binds s.run.control
-    pub callers : PlainRuns s.callers
-    pub env : SettledEnv ks s.env
-
   pub walk : (s : State) → Settled ks s → StepSettled ks (quiet.quiet source s)
   walk s h = by s.run.control refl
     where
@@ -133,7 +128,7 @@ module _ (ks : List ℕ) (source : Source) where
       by [] e = steps.returned ks s h.callers h.env _ s.callers h.callers h.control
       by (p ∷ todo) e = acts s h.callers h.env p todo (plain_tail p todo (ap plain (sym e) ∙ h.control)) h.control
 
-  pub walk_bound : (s : State) → Bound s → StepSettled ks (quiet.quiet source s)
+  pub walk_bound : (s : State) → Bound ks s → StepSettled ks (quiet.quiet source s)
   walk_bound s h = by s.run.control h.control
     where
       by : (l : List Todo) → Binds l → StepSettled ks (quiet.act_todo source l s)
@@ -146,7 +141,7 @@ module _ (ks : List ℕ) (source : Source) where
   rides_settled (rides.ticks {s} {t} e r) h = rides_settled r (subst (StepSettled ks) e (walk s h))
   rides_settled (rides.asks {s} {t} e) h = subst (StepSettled ks) e (walk s h)
 
-  pub rides_bound : {s u : State} {q k : ℕ} {a : Asked} → Rides source s q u k a → 1 ≤ q → Bound s → HasAsked ks a.request u
+  pub rides_bound : {s u : State} {q k : ℕ} {a : Asked} → Rides source s q u k a → 1 ≤ q → Bound ks s → HasAsked ks a.request u
   rides_bound rides.slices le h = absurd (omega arith)
   rides_bound (rides.goes_on {s} {t} e r) le h = rides_settled r (subst (StepSettled ks) e (walk_bound s h))
   rides_bound (rides.ticks {s} {t} e r) le h = rides_settled r (subst (StepSettled ks) e (walk_bound s h))
@@ -164,3 +159,14 @@ ride_early rides.slices n = absurd (n refl)
 ride_early (rides.goes_on e r) n = ride_early r n
 ride_early (rides.ticks e r) n = let h = ride_early r n in omega (arith, h)
 ride_early (rides.asks e) n = omega arith
+
+pub law_steps : LawSteps
+law_steps = record { settled = λ source ks s h. walk ks source s h; bound = λ source ks s h. walk_bound ks source s h }
+
+pub law_rides : LawRides
+law_rides = record {
+  settled = λ source ks s u q k a r h. rides_settled ks source r h;
+  bound = λ source ks s u q k a r le h. rides_bound ks source r le h;
+  within = λ source s u q k a r. ride_within r;
+  early = λ source s u q k a r n. ride_early r n;
+}

@@ -1,5 +1,4 @@
--- What every step of a task keeps: the objects in its hand, how many items are gathered, and that no to-do list binds what was made
--- but that of a task that has just asked for it.
+-- Settled states stay so where members, executions and who runs change.
 use Rattle.std.proofs.Common.{◌≡◌, ℕ, ◌≤◌, ◌&&◌, Bool, true, false, List, [], ◌∷◌, ◌++◌, length, Option, Some, None, refl, sym, ap, ◌∙◌, subst}
 use Rattle.std.specs.Prelude.{nat_eq, if◌then◌else◌}
 use Rattle.std.proofs.lemmas.Bool.{eqb-true}
@@ -21,7 +20,8 @@ use Rattle.uc_machine.specs.Executions.{Links, Execution, update, exec_eq, joine
 use Rattle.uc_machine.specs.Switches as sw
 use Rattle.uc_machine.specs.Switches.{Moved, To, Stops}
 use Rattle.uc_machine.specs.Pieces.{Value, Number, Place, Running, Object, Nothing, Todo, BindMadeNow, Active, State, Env, Members, Step, Goes, Ticks, Asks, written}
-use Rattle.uc_program_laws.specs.Hands.{keys, HasForm}
+use Rattle.uc_step_laws.specs.Hands.{keys}
+use Rattle.uc_step_laws.specs.Settled.{is_plain, plain, Binds, PlainRuns, Ex, PlainEx, PlainSlot, PlainParked, PlainHand, PlainMembers, Few, SettledEnv, Settled}
 
 -- the first of two by a test
 pub either : {A : Type 0} (P : A → Type 0) (b : Bool) (x y : A) → P x → P y → P (if b then x else y)
@@ -32,20 +32,6 @@ pub and_right : (a b : Bool) → (a && b) ≡ true → b ≡ true
 and_right true b h = h
 and_right false b h = cc
 
--- whether a piece is any but one that binds what was made
-abbrev pub is_plain : Todo → Bool
-is_plain (BindMadeNow c r) = false
-is_plain p = true
-
-abbrev pub plain : List Todo → Bool
-plain [] = true
-plain (p ∷ todo) = is_plain p && plain todo
-
--- what was made is bound next
-abbrev pub Binds : List Todo → Type 0
-Binds (BindMadeNow c r ∷ todo) = plain todo ≡ true
-Binds todo = ⊥
-
 pub plain_tail : (p : Todo) (todo : List Todo) → plain (p ∷ todo) ≡ true → plain todo ≡ true
 plain_tail p todo h = and_right (is_plain p) (plain todo) h
 
@@ -55,74 +41,9 @@ binds_not [] h b = b
 binds_not (BindMadeNow c r ∷ todo) h b = cc
 binds_not (p ∷ todo) h b = b
 
--- activations that wait
-abbrev pub PlainRuns : List Active → Type 0
-PlainRuns [] = Unit {0}
-PlainRuns (a ∷ rest) = (plain a.control ≡ true) × PlainRuns rest
-
-abbrev pub Ex : Type 0
-Ex = Execution (List Todo) Value
-
--- an execution that does not run
-pub record PlainEx (x : Ex) : Type 0 where
-  pub run : plain x.run.control ≡ true
-  pub callers : PlainRuns x.callers
-
-abbrev pub PlainSlot : Option Ex → Type 0
-PlainSlot None = Unit {0}
-PlainSlot (Some x) = PlainEx x
-
-abbrev pub PlainParked : List (ℕ × Option Ex) → Type 0
-PlainParked [] = Unit {0}
-PlainParked (p ∷ ps) = PlainSlot p.1 × PlainParked ps
-
-abbrev pub PlainHand : List (ℕ × Members) → Type 0
-PlainHand [] = Unit {0}
-PlainHand (p ∷ ps) = PlainParked p.1.parked × PlainHand ps
-
--- members, if there are any
-abbrev pub PlainMembers : Option Members → Type 0
-PlainMembers None = Unit {0}
-PlainMembers (Some m) = PlainParked m.parked
-
--- no more items are gathered than one request prints
-abbrev pub Few : Option (List Piece) → Type 0
-Few None = Unit {0}
-Few (Some ps) = length ps ≤ PRINT_ITEMS
-
 module _ (ks : List ℕ) where
-  -- a task with these objects in hand, but for its running execution
-  pub record SettledEnv (e : Env) : Type 0 where
-    pub keys_are : keys e.hand ≡ ks
-    pub house : PlainParked e.house.parked
-    pub hand : PlainHand e.hand
-    pub few : Few e.gathered
-
-  -- with it
-  pub record Settled (s : State) : Type 0 where
-    pub control : plain s.run.control ≡ true
-    pub callers : PlainRuns s.callers
-    pub env : SettledEnv s.env
-
-  -- what is to do behind a request
-  abbrev pub Behind : Request → List Todo → Type 0
-  Behind (ask.Make c) todo = Binds todo
-  Behind r todo = plain todo ≡ true
-
-  -- a task that has asked this
-  pub record HasAsked (r : Request) (s : State) : Type 0 where
-    pub control : Behind r s.run.control
-    pub callers : PlainRuns s.callers
-    pub env : SettledEnv s.env
-    pub form : HasForm r
-
-  abbrev pub StepSettled : Step → Type 0
-  StepSettled (Goes s) = Settled s
-  StepSettled (Ticks s) = Settled s
-  StepSettled (Asks r s) = HasAsked r s
-
   -- the same, of what has the same hand, house and items
-  pub like : {e f : Env} → SettledEnv e → f.hand ≡ e.hand → f.house ≡ e.house → f.gathered ≡ e.gathered → SettledEnv f
+  pub like : {e f : Env} → SettledEnv ks e → f.hand ≡ e.hand → f.house ≡ e.house → f.gathered ≡ e.gathered → SettledEnv ks f
   like {e} {f} s h g i = record {
     keys_are = ap keys h ∙ s.keys_are;
     house = subst (λ m. PlainParked m.parked) (sym g) s.house;
