@@ -1,0 +1,6 @@
+mod Numerals
+mod Lexing
+mod GeneratedTokens
+mod Moved
+mod Trees
+mod Spelled
