@@ -16,7 +16,7 @@ use Rattle.uc_made.proofs.Lexing.{past, past_both, token, read_then, then_both, 
 
 -- the lines before the workers
 
-pub front_tokens : List Token
+unfoldable pub front_tokens : List Token
 unfolding placed
 front_tokens = placed front
 

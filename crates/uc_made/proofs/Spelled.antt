@@ -16,9 +16,9 @@ use Rattle.uc_tree.specs.Tokens.{tokens_from, found_at, text_ending, comment_len
 use Rattle.uc_tree.specs.Statements.{Stmt, Block, stmts_of}
 use Rattle.uc_tree.specs.Programs.{Sig, Item, RoutineItem}
 use Rattle.uc_grammar.specs.Names.{Name as Piece, stmt_name, block_stmt_name}
-use Rattle.uc_grammar.specs.Spell.{kind_at, pos_at, Run, Many, Begins, Same}
+use Rattle.uc_grammar.specs.Spell.{kind_at, pos_at, Run, ListRun, Many, Begins, Same}
 use Rattle.uc_grammar.specs.Form.{Form, inside, Spells, Fails}
-use Rattle.uc_grammar.specs.Tables.{in_braces, stmt_start}
+use Rattle.uc_grammar.specs.Tables.{any_token, in_braces, stmt_start}
 use Rattle.uc_grammar.specs.Grammar.{inner, faults, form_of, item_form, item_at, based_item_at, name_at, stmt_form, stmt_by, block_rest}
 use Rattle.uc_grammar.specs.Text.{IsProgram}
 use Rattle.uc_grammar.specs.Samples.{placed}
@@ -126,7 +126,7 @@ module _ (n : ℕ) (ts : List Token) where
   main_spelled : (from last : ℕ) (ss : List Stmt) → kind_at ts from ≡ Some (Word word.Void) → kind_at ts (from + 1) ≡ Some (Word word.UMain) → kind_at ts (from + 1 + 1) ≡ Some (Sign sign.Scope) → kind_at ts (from + 1 + 1 + 1) ≡ Some (Name (codes "main"))
       → kind_at ts (from + 1 + 1 + 1 + 1) ≡ Some (Sign sign.OpenParen) → kind_at ts (from + 1 + 1 + 1 + 1 + 1) ≡ Some (Sign sign.CloseParen) → kind_at ts (from + 1 + 1 + 1 + 1 + 1 + 1) ≡ Some (Sign sign.OpenBrace)
       → Fills (from + 1 + 1 + 1 + 1 + 1 + 1 + 1) last ss → kind_at ts last ≡ Some (Sign sign.CloseBrace) → Spells (inner n) item_form ts from (last + 1) (main_item from ss)
-  main_spelled from last ss void main scope name open close brace r end =
+  main_spelled from last ss void main scope name opens closes braces r end =
       subst (λ (o : Option TokenKind). Spells (inner n) (item_at (pos_at ts from) o) ts from (last + 1) (main_item from ss)) (sym void)
       (subst (λ (o : Option TokenKind). Spells (inner n) (based_item_at (pos_at ts from) base.Void o) ts (from + 1) (last + 1) (main_item from ss)) (sym main)
       (scope, record {
@@ -136,15 +136,183 @@ module _ (n : ℕ) (ts : List Token) where
         second = record {
           middle = from + 1 + 1 + 1 + 1 + 1 + 1;
           left = [];
-          first = (open, inl (close, (refl, refl)));
+          first = (opens, inl (closes, (refl, refl)));
           second = record {
             inside = record { sig = record { pos = pos_at ts from; owner = owner.Main; role = role.Plain; ret = base.Void; name = codes "main"; params = [] }; inits = []; brace = pos_at ts (from + 1 + 1 + 1 + 1 + 1 + 1); body = stmts_of ss };
             spelled = record {
               inside = (pos_at ts (from + 1 + 1 + 1 + 1 + 1 + 1), stmts_of ss);
-              spelled = (brace, record { inside = stmts_of ss; spelled = filled (from + 1 + 1 + 1 + 1 + 1 + 1 + 1) last ss r end; value = refl });
+              spelled = (braces, record { inside = stmts_of ss; spelled = filled (from + 1 + 1 + 1 + 1 + 1 + 1 + 1) last ss r end; value = refl });
               value = refl;
             };
             value = refl;
           };
         };
       }))
+
+-- the kinds of the tokens of the front, and its first two items
+
+front_count : length front_tokens ≡ 113
+unfolding front_tokens placed tokens_from found_at
+front_count = refl
+
+total_read : read (reader 16) item_form front_tokens 0 ≡ Found 31 total_class
+unfolding read reader read_run front_tokens placed tokens_from found_at
+total_read = refl
+
+worker_class_read : read (reader 16) item_form front_tokens 31 ≡ Found 102 worker_class
+unfolding read reader read_run front_tokens placed tokens_from found_at
+worker_class_read = refl
+
+total_stmt_read : read (reader 16) (inside block_stmt_name) front_tokens 109 ≡ Found 112 total_stmt
+unfolding read reader read_run front_tokens placed tokens_from found_at
+total_stmt_read = refl
+
+count_read : (q : Place) (n : ℕ) → read (reader 16) (inside block_stmt_name) (end_tokens q n) 1 ≡ Found 17 (count_stmt q n)
+unfolding read reader read_run
+count_read q n = refl
+
+-- what main begins with
+pub record HeadAt (ts : List Token) : Type 0 where
+  pub task : kind_at ts 31 ≡ Some (Word word.Task)
+  pub void : kind_at ts 102 ≡ Some (Word word.Void)
+  pub main : kind_at ts 103 ≡ Some (Word word.UMain)
+  pub scope : kind_at ts 104 ≡ Some (Sign sign.Scope)
+  pub name : kind_at ts 105 ≡ Some (Name (codes "main"))
+  pub opens : kind_at ts 106 ≡ Some (Sign sign.OpenParen)
+  pub closes : kind_at ts 107 ≡ Some (Sign sign.CloseParen)
+  pub brace : kind_at ts 108 ≡ Some (Sign sign.OpenBrace)
+  pub total : kind_at ts 109 ≡ Some (Name (codes "Total"))
+  pub block : kind_at ts 112 ≡ Some (Sign sign.OpenBrace)
+  pub main_pos : pos_at ts 102 ≡ record { line = 5; col = 1 }
+  pub brace_pos : pos_at ts 108 ≡ record { line = 5; col = 20 }
+  pub block_pos : pos_at ts 112 ≡ record { line = 7; col = 1 }
+
+head : (rest : List Token) → HeadAt (front_tokens ++ rest)
+unfolding front_tokens placed tokens_from found_at
+head rest = record { task = refl; void = refl; main = refl; scope = refl; name = refl; opens = refl; closes = refl; brace = refl; total = refl; block = refl; main_pos = refl; brace_pos = refl; block_pos = refl }
+
+in_front : {A : Type 0} (g : Form A) (from to : ℕ) (v : A) (rest : List Token) → read (reader 16) g front_tokens from ≡ Found to v → to + 1 ≤ 113 → Spells (inner NESTING) g (front_tokens ++ rest) from to v
+in_front g from to v rest e le =
+    let count : length front_tokens ≡ 113 = front_count in
+    room_up g 16 NESTING (front_tokens ++ rest) from to v (omega arith)
+    ((fits g 16 16).local front_tokens (front_tokens ++ rest) from to v (same_more (to + 1) front_tokens rest (omega (arith, le, count))) (spelled g front_tokens from to v e))
+
+run_room : {A : Type 0} (p : Option TokenKind → Bool) (g : Form A) (m k : ℕ) → m ≤ k → (ts : List Token) (from to : ℕ) (vs : List A) → Run p (Spells (inner m) g) ts from to vs → Run p (Spells (inner k) g) ts from to vs
+unfolding Run
+run_room p g m k le ts from to [] r = r
+run_room p g m k le ts from to (v ∷ vs) r = (r.0, r.1, room_up g m k ts from r.1 v le r.2, run_room p g m k le ts r.1 to vs r.3)
+
+-- nothing stands behind the last token
+past_last : (ts : List Token) → kind_at ts (length ts) ≡ None
+past_last [] = refl
+past_last (t ∷ ts) = past_last ts
+
+over_at : (p : Option TokenKind → Bool) (ts : List Token) (at : ℕ) (o : Option TokenKind) → kind_at ts at ≡ o → p o ≡ false → Begins p ts at → ⊥
+over_at p ts at o e f b = let t : p o ≡ true = subst (λ (x : Option TokenKind). p x ≡ true) e b in true≢false (sym t ∙ f)
+
+begun_at : (p : Option TokenKind → Bool) (ts : List Token) (at : ℕ) (o : Option TokenKind) → kind_at ts at ≡ o → p o ≡ true → Begins p ts at
+begun_at p ts at o e f = subst (λ (x : Option TokenKind). IsTrue (p x)) (sym e) f
+
+module _ (n : ℕ) where
+  abbrev q : Place
+  q = past front_end (workers n)
+
+  abbrev W : List Token
+  W = workers_tokens front_end n
+
+  abbrev E : List Token
+  E = end_tokens q n
+
+  abbrev L : List Token
+  L = front_tokens ++ (W ++ E)
+
+  abbrev m : ℕ
+  m = 113 + 8 * n
+
+  regrouped : (front_tokens ++ W) ++ E ≡ L
+  regrouped = append_assoc front_tokens W E
+
+  long : length (front_tokens ++ W) ≡ m
+  long = let a = length-append front_tokens W in let b = front_count in let c = workers_count front_end n in omega (arith, a, b, c)
+
+  -- the token with this number among those behind the workers
+  end_kind : (j : ℕ) → kind_at L (m + j) ≡ kind_at E j
+  end_kind j = ap (λ l. kind_at l (m + j)) (sym regrouped) ∙ kind_behind (front_tokens ++ W) E j (m + j) (ap (λ k. k + j) (sym long))
+
+  first_brace : kind_at L m ≡ Some (Sign sign.CloseBrace)
+  first_brace = let e : m + 0 ≡ m = omega arith in ap (kind_at L) (sym e) ∙ end_kind 0
+
+  workers_run : Run in_braces (Spells (inner 254) (inside block_stmt_name)) L 113 m (workers_stmts front_end n)
+  workers_run =
+      let r = same_run ((front_tokens ++ W) ++ E) L (length front_tokens) (length front_tokens + 8 * n) (workers_stmts front_end n) (workers_stmts front_end n) regrouped refl (workers_spelled front_tokens front_end n E (omega arith)) in
+      run_room in_braces (inside block_stmt_name) 16 254 (omega arith) L 113 m (workers_stmts front_end n) (subst (λ k. Run in_braces Stands L k (k + 8 * n) (workers_stmts front_end n)) front_count r)
+
+  abbrev block : Stmt
+  block = Block (pos_at L 112) (stmts_of (workers_stmts front_end n))
+
+  the_block : Spells (inner 256) (inside block_stmt_name) L 112 (m + 1) block
+  the_block =
+      deeper 255 block_stmt_name L 112 (m + 1) block (deeper 254 stmt_name L 112 (m + 1) block
+      (block_spelled 254 L 112 m (workers_stmts front_end n) (head (W ++ E)).block (record { run = workers_run; over = over_at in_braces L m (Some (Sign sign.CloseBrace)) first_brace refl }) first_brace))
+
+  the_print : Spells (inner 256) (inside block_stmt_name) L (m + 1) (m + 17) (count_stmt q n)
+  the_print =
+      room_up (inside block_stmt_name) 16 256 L (m + 1) (m + 17) (count_stmt q n) (omega arith)
+      (subst (λ (l : List Token). Spells (inner 16) (inside block_stmt_name) l (m + 1) (m + 17) (count_stmt q n)) regrouped
+      (spelled_behind 16 (inside block_stmt_name) (front_tokens ++ W) E 1 17 (count_stmt q n) (m + 1) (m + 17) (ap (λ k. k + 1) (sym long)) (ap (λ k. k + 17) (sym long)) (spelled (inside block_stmt_name) E 1 17 (count_stmt q n) (count_read q n))))
+
+  abbrev body : List Stmt
+  body = total_stmt ∷ block ∷ count_stmt q n ∷ []
+
+  body_run : Run in_braces (Spells (inner 256) (inside block_stmt_name)) L 109 (m + 17) body
+  unfolding Run
+  body_run =
+      (begun_at in_braces L 109 (Some (Name (codes "Total"))) (head (W ++ E)).total refl, 112, in_front (inside block_stmt_name) 109 112 total_stmt (W ++ E) total_stmt_read (omega arith),
+      (begun_at in_braces L 112 (Some (Sign sign.OpenBrace)) (head (W ++ E)).block refl, m + 1, the_block,
+      (begun_at in_braces L (m + 1) (Some (Word word.Cout)) (end_kind 1) refl, m + 17, the_print, refl)))
+
+  last_brace : kind_at L (m + 17) ≡ Some (Sign sign.CloseBrace)
+  last_brace = end_kind 17
+
+  -- main, whose places are these
+  abbrev shape : Pos → Pos → Pos → Item
+  shape a b c = RoutineItem (record {
+    sig = record { pos = a; owner = owner.Main; role = role.Plain; ret = base.Void; name = codes "main"; params = [] };
+    inits = [];
+    brace = b;
+    body = stmts_of (total_stmt ∷ Block c (stmts_of (workers_stmts front_end n)) ∷ count_stmt q n ∷ []);
+  })
+
+  the_main : Spells (inner 256) item_form L 102 (m + 17 + 1) (RoutineItem (main_with (workers_stmts front_end n) (count_stmt q n)))
+  the_main =
+      let h = head (W ++ E) in
+      let places : shape (pos_at L 102) (pos_at L 108) (pos_at L 112) ≡ RoutineItem (main_with (workers_stmts front_end n) (count_stmt q n)) =
+          ap (λ a. shape a (pos_at L 108) (pos_at L 112)) h.main_pos ∙ ap (λ b. shape (record { line = 5; col = 1 }) b (pos_at L 112)) h.brace_pos ∙ ap (λ c. shape (record { line = 5; col = 1 }) (record { line = 5; col = 20 }) c) h.block_pos in
+      subst (λ (x : Item). Spells (inner 256) item_form L 102 (m + 17 + 1) x) places
+      (main_spelled 256 L 102 (m + 17) body h.void h.main h.scope h.name h.opens h.closes h.brace (record { run = body_run; over = over_at in_braces L (m + 17) (Some (Sign sign.CloseBrace)) last_brace refl }) last_brace)
+
+  whole : (to : ℕ) → to ≡ m + 17 + 1 → to ≡ length L → IsProgram NESTING L 0 to (made n)
+  unfolding IsProgram ListRun Run
+  whole to e f = record {
+    inside = total_class ∷ worker_class ∷ RoutineItem (main_with (workers_stmts front_end n) (count_stmt q n)) ∷ [];
+    spelled = record {
+      run =
+          (31, in_front item_form 0 31 total_class (W ++ E) total_read (omega arith),
+          (begun_at any_token L 31 (Some (Word word.Task)) (head (W ++ E)).task refl, 102, in_front item_form 31 102 worker_class (W ++ E) worker_class_read (omega arith),
+          (begun_at any_token L 102 (Some (Word word.Void)) (head (W ++ E)).void refl, m + 17 + 1, the_main, e)));
+      over = over_at any_token L to None (ap (kind_at L) f ∙ past_last L) refl;
+    };
+    value = refl;
+  }
+
+  all_long : m + 17 + 1 ≡ length L
+  all_long =
+      let a = length-append front_tokens (W ++ E) in
+      let b = length-append W E in
+      let c = front_count in
+      let d = workers_count front_end n in
+      omega (arith, a, b, c, d)
+
+pub generated_spelled : (n : ℕ) → IsProgram NESTING (all_tokens n) 0 (length (all_tokens n)) (made n)
+generated_spelled n =
+    subst (λ (l : List Token). IsProgram NESTING l 0 (length l) (made n)) (sym (all_is n)) (whole n (length (L n)) (sym (all_long n)) refl)
