@@ -4,3 +4,5 @@ mod GeneratedTokens
 mod Moved
 mod Trees
 mod Spelled
+mod Unbroken
+mod Sized
