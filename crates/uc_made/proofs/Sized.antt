@@ -1,7 +1,7 @@
--- The frames and the `Size` of the generated program are within their limits.
-use Rattle.std.proofs.Common.{◌≡◌, ℕ, zero, suc, ◌+◌, ◌*◌, ◌<◌, ◌≤◌, List, [], ◌∷◌, ◌++◌, length, refl, sym, ap, ◌∙◌, subst, arith}
-use Rattle.std.specs.Prelude.{Option, Some, None, slice_get}
-use Rattle.uc_tree.specs.declared.limits.TheConstants.{FRAME_CELLS, PROGRAM_SIZE}
+-- The generated text, and the frames and the `Size` of its program, are within their limits.
+use Rattle.std.proofs.Common.{◌≡◌, ℕ, zero, suc, ◌+◌, ◌*◌, ◌<◌, ◌≤◌, List, [], ◌∷◌, ◌++◌, length, refl, sym, ap, ◌∙◌, subst, length-append, arith}
+use Rattle.std.specs.Prelude.{Option, Some, None, slice_get, decimal, codes}
+use Rattle.uc_tree.specs.declared.limits.TheConstants.{FRAME_CELLS, PROGRAM_BYTES, PROGRAM_SIZE}
 use Rattle.uc_tree.specs.declared.kinds.Base.{Base}
 use Rattle.uc_tree.specs.declared.scan.Place.{Place}
 use Rattle.uc_tree.specs.Rows.{cells_within, reaches}
@@ -12,7 +12,8 @@ use Rattle.uc_tree.specs.Sizes.{program_size}
 use Rattle.uc_tree.specs.StatementSizes.{stmt_size, stmts_size}
 use Rattle.uc_tree.specs.Statements.{Stmt, Declarator, stmts_of}
 use Rattle.uc_tree.specs.Programs.{Program}
-use Rattle.uc_make.specs.Generated.{workers}
+use Rattle.uc_make.specs.Generated.{worker, workers, behind_count, end, generated}
+use Rattle.uc_made.proofs.Numerals.{Numeral, numeral}
 use Rattle.uc_made.proofs.Lexing.{past}
 use Rattle.uc_made.proofs.GeneratedTokens.{front_end}
 use Rattle.uc_made.proofs.Trees.{worker_stmt, workers_stmts, no_stmts, more_stmts, count_stmt, program_with, main_with, made}
@@ -96,3 +97,37 @@ small n h =
     let a = workers_size front_end n in
     let b = no_exits front_end n 1 in
     omega (arith, a, b, h)
+
+-- the text itself
+
+worker_length : (k : ℕ) → k ≤ 1000 → Numeral k → length (worker k) ≤ 23
+worker_length k h m =
+    let e : length (decimal k) ≡ length (m.first ∷ m.rest) = ap length m.is in
+    let short : length (m.first ∷ m.rest) ≤ 4 = m.short in
+    let a = length-append ((decimal k ++ codes "(t, ") ++ decimal k) (codes ");\n") in
+    let b = length-append (decimal k ++ codes "(t, ") (decimal k) in
+    let c = length-append (decimal k) (codes "(t, ") in
+    omega (arith, e, short, a, b, c)
+
+workers_length : (n : ℕ) → n ≤ 1000 → length (workers n) ≤ 23 * n
+workers_length zero h = omega arith
+workers_length (suc n) h =
+    let a = length-append (workers n) (worker (suc n)) in
+    let b = workers_length n (omega (arith, h)) in
+    let c = worker_length (suc n) h (numeral (suc n) (omega arith) h) in
+    omega (arith, a, b, c)
+
+end_length : (n : ℕ) → 1 ≤ n → n ≤ 1000 → length (end n) ≤ 100
+end_length n least h =
+    let m = numeral n least h in
+    let e : length (decimal n) ≡ length (m.first ∷ m.rest) = ap length m.is in
+    let short : length (m.first ∷ m.rest) ≤ 4 = m.short in
+    let a = length-append (decimal n) behind_count in
+    omega (arith, e, short, a)
+
+pub short_text : (n : ℕ) → 1 ≤ n → n ≤ 1000 → length (generated n) ≤ PROGRAM_BYTES
+short_text n least h =
+    let a = length-append (workers n) (end n) in
+    let b = workers_length n h in
+    let c = end_length n least h in
+    omega (arith, a, b, c, h)
