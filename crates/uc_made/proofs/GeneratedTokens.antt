@@ -1,5 +1,5 @@
 -- The tokens of the generated text.
-use Rattle.std.proofs.Common.{◌≡◌, ℕ, zero, suc, ◌≤◌, false, List, [], ◌∷◌, ◌++◌, length, refl, sym, ap, ◌∙◌, subst, append_assoc, append-nil, arith}
+use Rattle.std.proofs.Common.{◌≡◌, ℕ, zero, suc, ◌≤◌, false, List, [], ◌∷◌, ◌++◌, length, refl, sym, ap, ◌∙◌, subst, append_assoc, arith}
 use Rattle.std.specs.Prelude.{pos, decimal, codes}
 use Rattle.uc_tree.specs.declared.token.Token.{Token}
 use Rattle.uc_tree.specs.declared.token.TokenKind.TheVariants.{Name, Number, Text, Word, Sign}
@@ -8,7 +8,7 @@ use Rattle.uc_tree.specs.declared.token.Sign.TheVariants as sign
 use Rattle.uc_tree.specs.declared.scan.Place.{Place}
 use Rattle.uc_tree.specs.declared.scan.Found.TheVariants.{Take}
 use Rattle.uc_tree.specs.Bytes.{is_digit}
-use Rattle.uc_tree.specs.Tokens.{Lexed, Read, with_token, tokens_from, tokens, first_place, found_at, text_ending, comment_length}
+use Rattle.uc_tree.specs.Tokens.{Read, with_token, tokens_from, tokens, first_place, found_at, text_ending, comment_length}
 use Rattle.uc_grammar.specs.Samples.{placed}
 use Rattle.uc_make.specs.Generated.{front, worker, workers, before_count, behind_count, end, generated, quoted}
 use Rattle.uc_made.proofs.Numerals.{Numeral, numeral, worker_name, number}
@@ -71,28 +71,28 @@ number_lexed p k stop tail most m e =
 worker_text : (k : ℕ) (tail : List ℕ) → worker k ++ tail ≡ codes "Worker " ++ ((119 ∷ decimal k) ++ (codes "(t, " ++ (decimal k ++ (codes ");\n" ++ tail))))
 worker_text k tail =
     ap (λ t. codes "Worker " ++ (119 ∷ t))
-        (append_assoc ((decimal k ++ codes "(t, ") ++ decimal k) (codes ");\n") tail
-        ∙ append_assoc (decimal k ++ codes "(t, ") (decimal k) (codes ");\n" ++ tail)
-        ∙ append_assoc (decimal k) (codes "(t, ") (decimal k ++ (codes ");\n" ++ tail)))
+    (append_assoc ((decimal k ++ codes "(t, ") ++ decimal k) (codes ");\n") tail
+    ∙ append_assoc (decimal k ++ codes "(t, ") (decimal k) (codes ");\n" ++ tail)
+    ∙ append_assoc (decimal k) (codes "(t, ") (decimal k ++ (codes ");\n" ++ tail)))
 
 worker_past : (p : Place) (k : ℕ) → past p (worker k) ≡ next_line p k
 worker_past p k =
     past_both (past p (codes "Worker w")) ((decimal k ++ codes "(t, ") ++ decimal k) (codes ");\n")
     ∙ ap (λ q. past q (codes ");\n"))
-        (past_both (past p (codes "Worker w")) (decimal k ++ codes "(t, ") (decimal k)
-        ∙ ap (λ q. past q (decimal k)) (past_both (past p (codes "Worker w")) (decimal k) (codes "(t, ")))
+    (past_both (past p (codes "Worker w")) (decimal k ++ codes "(t, ") (decimal k)
+    ∙ ap (λ q. past q (decimal k)) (past_both (past p (codes "Worker w")) (decimal k) (codes "(t, ")))
 
 worker_lexed : (p : Place) (k : ℕ) (tail : List ℕ) → k ≤ 1000 → Numeral k → tokens_from p 0 (worker k ++ tail) ≡ read_then (worker_tokens p k) (tokens_from (past p (worker k)) 0 tail)
 worker_lexed p k tail most m =
     ap (tokens_from p 0) (worker_text k tail)
     ∙ class_lexed p ((119 ∷ decimal k) ++ (codes "(t, " ++ (decimal k ++ (codes ");\n" ++ tail))))
     ∙ ap (with_token (token (Name (codes "Worker")) p))
-        (taken (name_place p) 119 (decimal k) (codes "(t, " ++ (decimal k ++ (codes ");\n" ++ tail))) (Name (119 ∷ decimal k)) (worker_name k (name_place p).fresh 40 (codes "t, " ++ (decimal k ++ (codes ");\n" ++ tail))) m refl)
-        ∙ ap (with_token (token (Name (119 ∷ decimal k)) (name_place p)))
-            (first_lexed (open_place p k) (decimal k ++ (codes ");\n" ++ tail))
-            ∙ ap (read_then (token (Sign sign.OpenParen) (open_place p k) ∷ token (Name (codes "t")) (past (open_place p k) (codes "(")) ∷ token (Sign sign.Comma) (past (open_place p k) (codes "(t")) ∷ []))
-                (number_lexed (number_place p k) k 41 (codes ";\n" ++ tail) most m refl
-                ∙ ap (with_token (token (Number (pos k)) (number_place p k))) (close_lexed (close_place p k) tail))))
+    (taken (name_place p) 119 (decimal k) (codes "(t, " ++ (decimal k ++ (codes ");\n" ++ tail))) (Name (119 ∷ decimal k)) (worker_name k (name_place p).fresh 40 (codes "t, " ++ (decimal k ++ (codes ");\n" ++ tail))) m refl)
+    ∙ ap (with_token (token (Name (119 ∷ decimal k)) (name_place p)))
+    (first_lexed (open_place p k) (decimal k ++ (codes ");\n" ++ tail))
+    ∙ ap (read_then (token (Sign sign.OpenParen) (open_place p k) ∷ token (Name (codes "t")) (past (open_place p k) (codes "(")) ∷ token (Sign sign.Comma) (past (open_place p k) (codes "(t")) ∷ []))
+    (number_lexed (number_place p k) k 41 (codes ";\n" ++ tail) most m refl
+    ∙ ap (with_token (token (Number (pos k)) (number_place p k))) (close_lexed (close_place p k) tail))))
     ∙ ap (λ q. read_then (worker_tokens p k) (tokens_from q 0 tail)) (sym (worker_past p k))
 
 -- the lines of workers
@@ -116,8 +116,8 @@ workers_lexed (suc n) h p tail =
     ap (tokens_from p 0) (append_assoc (workers n) (worker (suc n)) tail)
     ∙ workers_lexed n (omega (arith, h)) p (worker (suc n) ++ tail)
     ∙ ap (read_then (workers_tokens p n))
-        (worker_lexed (past p (workers n)) (suc n) tail h (numeral (suc n) (omega arith) h)
-        ∙ ap (λ q. read_then (worker_tokens (past p (workers n)) (suc n)) (tokens_from q 0 tail)) (sym (past_both p (workers n) (worker (suc n)))))
+    (worker_lexed (past p (workers n)) (suc n) tail h (numeral (suc n) (omega arith) h)
+    ∙ ap (λ q. read_then (worker_tokens (past p (workers n)) (suc n)) (tokens_from q 0 tail)) (sym (past_both p (workers n) (worker (suc n)))))
     ∙ then_both (workers_tokens p n) (worker_tokens (past p (workers n)) (suc n)) (tokens_from (past p (workers (suc n))) 0 tail)
 
 -- the lines behind them
@@ -157,8 +157,8 @@ end_lexed : (q : Place) (n : ℕ) → n ≤ 1000 → Numeral n → tokens_from q
 end_lexed q n most m =
     count_lexed q (decimal n ++ behind_count)
     ∙ ap (read_then (count_tokens q))
-        (number_lexed (count_place q) n 32 (codes "<< " ++ (quoted (codes " total ") ++ (codes " << t.get() << endl;\n" ++ codes "}\n"))) most m refl
-        ∙ ap (with_token (token (Number (pos n)) (count_place q))) (rest_lexed (past (count_place q) (decimal n))))
+    (number_lexed (count_place q) n 32 (codes "<< " ++ (quoted (codes " total ") ++ (codes " << t.get() << endl;\n" ++ codes "}\n"))) most m refl
+    ∙ ap (with_token (token (Number (pos n)) (count_place q))) (rest_lexed (past (count_place q) (decimal n))))
 
 -- all of them
 
@@ -174,7 +174,7 @@ unfolding all_tokens
 generated_lexed n least most =
     front_lexed (workers n ++ end n)
     ∙ ap (read_then front_tokens)
-        (workers_lexed n most front_end (end n)
-        ∙ ap (read_then (workers_tokens front_end n)) (end_lexed (past front_end (workers n)) n most (numeral n least most))
-        ∙ then_read (workers_tokens front_end n) (end_tokens (past front_end (workers n)) n))
+    (workers_lexed n most front_end (end n)
+    ∙ ap (read_then (workers_tokens front_end n)) (end_lexed (past front_end (workers n)) n most (numeral n least most))
+    ∙ then_read (workers_tokens front_end n) (end_tokens (past front_end (workers n)) n))
     ∙ then_read front_tokens (workers_tokens front_end n ++ end_tokens (past front_end (workers n)) n)

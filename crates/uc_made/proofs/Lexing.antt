@@ -1,12 +1,11 @@
 -- How bytes are cut into tokens, one piece of a text after another.
-use Rattle.std.proofs.Common.{◌≡◌, ℕ, zero, suc, ◌+◌, ◌-◌, List, [], ◌∷◌, ◌++◌, length, refl, sym, ap, ◌∙◌, append_assoc, append-nil, arith}
+use Rattle.std.proofs.Common.{◌≡◌, ℕ, suc, ◌-◌, List, [], ◌∷◌, ◌++◌, length, refl, ap, ◌∙◌, arith}
 use Rattle.std.specs.Prelude.{fold}
 use Rattle.uc_tree.specs.declared.token.Token.{Token}
 use Rattle.uc_tree.specs.declared.token.TokenKind.{TokenKind}
 use Rattle.uc_tree.specs.declared.scan.Place.{Place}
-use Rattle.uc_tree.specs.declared.scan.Found.{Found}
 use Rattle.uc_tree.specs.declared.scan.Found.TheVariants.{Take}
-use Rattle.uc_tree.specs.Tokens.{Lexed, Read, Refused, with_token, lexed_by, tokens_from, next_place, found_at}
+use Rattle.uc_tree.specs.Tokens.{Lexed, Read, with_token, lexed_by, tokens_from, next_place, found_at}
 
 -- the place behind bytes
 abbrev pub past : Place → List ℕ → Place

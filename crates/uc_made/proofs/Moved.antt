@@ -1,11 +1,11 @@
 -- A piece is spelled wherever its tokens stand.
-use Rattle.std.proofs.Common.{◌≡◌, ℕ, zero, suc, ◌+◌, List, [], ◌∷◌, ◌++◌, length, Bool, Option, Some, IsTrue, refl, sym, ◌∙◌, ap, subst, inl, inr, arith}
+use Rattle.std.proofs.Common.{◌≡◌, ℕ, zero, suc, ◌+◌, List, [], ◌∷◌, ◌++◌, length, Bool, Option, IsTrue, refl, sym, ◌∙◌, ap, subst, inl, inr, arith}
 use Rattle.std.specs.Prelude.{slice_get}
 use Rattle.uc_tree.specs.declared.pos.Pos.{Pos}
 use Rattle.uc_tree.specs.declared.token.Token.{Token}
 use Rattle.uc_tree.specs.declared.token.TokenKind.{TokenKind}
 use Rattle.uc_grammar.specs.Names.{Name}
-use Rattle.uc_grammar.specs.Spell.{kind_of, pos_of, kind_at, pos_at, Rel, Bind, Map, Begins, Run, Many, ListRun, Listed}
+use Rattle.uc_grammar.specs.Spell.{kind_of, pos_of, kind_at, pos_at, Rel, Begins, Run, Many, ListRun, Listed}
 use Rattle.uc_grammar.specs.Form.{Form, nothing, empty, skip, expect, token_or, look, here, bind, apply, many, listed, inside, Inner, Spells}
 use Rattle.uc_grammar.specs.Grammar.{form_of, inner}
 

@@ -1,5 +1,5 @@
 -- The generated text, and the frames and the `Size` of its program, are within their limits.
-use Rattle.std.proofs.Common.{◌≡◌, ℕ, zero, suc, ◌+◌, ◌*◌, ◌<◌, ◌≤◌, List, [], ◌∷◌, ◌++◌, length, refl, sym, ap, ◌∙◌, subst, length-append, arith}
+use Rattle.std.proofs.Common.{◌≡◌, ℕ, zero, suc, ◌+◌, ◌*◌, ◌≤◌, List, [], ◌∷◌, ◌++◌, length, refl, ap, ◌∙◌, subst, length-append, arith}
 use Rattle.std.specs.Prelude.{Option, Some, None, slice_get, decimal, codes}
 use Rattle.uc_tree.specs.declared.limits.TheConstants.{FRAME_CELLS, PROGRAM_BYTES, PROGRAM_SIZE}
 use Rattle.uc_tree.specs.declared.kinds.Base.{Base}

@@ -1,6 +1,6 @@
 -- The tokens of the generated text are the program's.
-use Rattle.std.proofs.Common.{◌≡◌, ℕ, zero, suc, ◌+◌, ◌*◌, ◌<◌, ◌≤◌, Bool, true, false, List, [], ◌∷◌, ◌++◌, length, refl, sym, ap, ◌∙◌, subst, inl, inr, append_assoc, length-append, arith, IsTrue, true≢false}
-use Rattle.std.specs.Prelude.{pos, decimal, codes, Option, Some, None, slice_get}
+use Rattle.std.proofs.Common.{◌≡◌, ℕ, zero, suc, ◌+◌, ◌*◌, ◌<◌, ◌≤◌, Bool, true, false, List, [], ◌∷◌, ◌++◌, length, refl, sym, ap, ◌∙◌, subst, inl, append_assoc, length-append, arith, IsTrue, true≢false}
+use Rattle.std.specs.Prelude.{codes, Option, Some, None}
 use Rattle.uc_tree.specs.declared.limits.TheConstants.{NESTING}
 use Rattle.uc_tree.specs.declared.pos.Pos.{Pos}
 use Rattle.uc_tree.specs.declared.token.Token.{Token}
@@ -12,9 +12,9 @@ use Rattle.uc_tree.specs.declared.kinds.Base.TheVariants as base
 use Rattle.uc_tree.specs.declared.kinds.Role.TheVariants as role
 use Rattle.uc_tree.specs.declared.kinds.Owner.TheVariants as owner
 use Rattle.uc_tree.specs.declared.scan.Place.{Place}
-use Rattle.uc_tree.specs.Tokens.{tokens_from, found_at, text_ending, comment_length}
+use Rattle.uc_tree.specs.Tokens.{tokens_from, found_at}
 use Rattle.uc_tree.specs.Statements.{Stmt, Block, stmts_of}
-use Rattle.uc_tree.specs.Programs.{Sig, Item, RoutineItem}
+use Rattle.uc_tree.specs.Programs.{Item, RoutineItem}
 use Rattle.uc_grammar.specs.Names.{Name as Piece, stmt_name, block_stmt_name}
 use Rattle.uc_grammar.specs.Spell.{kind_at, pos_at, Run, ListRun, Many, Begins, Same}
 use Rattle.uc_grammar.specs.Form.{Form, inside, Spells, Fails}
@@ -27,10 +27,10 @@ use Rattle.uc_grammar.proofs.AllForms.{fits}
 use Rattle.uc_grammar.proofs.Told.{room_up}
 use Rattle.uc_grammar.proofs.Read.{Found, Sound, read, reader, read_run, read_sound}
 use Rattle.uc_make.specs.Generated.{workers}
-use Rattle.uc_made.proofs.Lexing.{past, token}
+use Rattle.uc_made.proofs.Lexing.{past}
 use Rattle.uc_made.proofs.GeneratedTokens.{front_tokens, front_end, worker_tokens, workers_tokens, one_more, none_yet, end_tokens, all_tokens, all_is}
 use Rattle.uc_made.proofs.Moved.{kind_behind, spelled_behind}
-use Rattle.uc_made.proofs.Trees.{total_class, worker_class, total_stmt, worker_stmt, workers_stmts, no_stmts, more_stmts, count_stmt, main_with, program_with, made}
+use Rattle.uc_made.proofs.Trees.{total_class, worker_class, total_stmt, worker_stmt, workers_stmts, no_stmts, more_stmts, count_stmt, main_with, made}
 
 -- what was read is spelled
 spelled : {A : Type 0} (g : Form A) (ts : List Token) (from to : ℕ) (v : A) → read (reader 16) g ts from ≡ Found to v → Spells (inner 16) g ts from to v
@@ -128,26 +128,28 @@ module _ (n : ℕ) (ts : List Token) where
       → Fills (from + 1 + 1 + 1 + 1 + 1 + 1 + 1) last ss → kind_at ts last ≡ Some (Sign sign.CloseBrace) → Spells (inner n) item_form ts from (last + 1) (main_item from ss)
   main_spelled from last ss void main scope name opens closes braces r end =
       subst (λ (o : Option TokenKind). Spells (inner n) (item_at (pos_at ts from) o) ts from (last + 1) (main_item from ss)) (sym void)
-      (subst (λ (o : Option TokenKind). Spells (inner n) (based_item_at (pos_at ts from) base.Void o) ts (from + 1) (last + 1) (main_item from ss)) (sym main)
-      (scope, record {
-        middle = from + 1 + 1 + 1 + 1;
-        left = codes "main";
-        first = subst (λ (o : Option TokenKind). Spells (inner n) (name_at o) ts (from + 1 + 1 + 1) (from + 1 + 1 + 1 + 1) (codes "main")) (sym name) (refl, refl);
-        second = record {
-          middle = from + 1 + 1 + 1 + 1 + 1 + 1;
-          left = [];
-          first = (opens, inl (closes, (refl, refl)));
+      (subst (λ (o : Option TokenKind). Spells (inner n) (based_item_at (pos_at ts from) base.Void o) ts (from + 1) (last + 1) (main_item from ss)) (sym main) (
+        scope,
+        record {
+          middle = from + 1 + 1 + 1 + 1;
+          left = codes "main";
+          first = subst (λ (o : Option TokenKind). Spells (inner n) (name_at o) ts (from + 1 + 1 + 1) (from + 1 + 1 + 1 + 1) (codes "main")) (sym name) (refl, refl);
           second = record {
-            inside = record { sig = record { pos = pos_at ts from; owner = owner.Main; role = role.Plain; ret = base.Void; name = codes "main"; params = [] }; inits = []; brace = pos_at ts (from + 1 + 1 + 1 + 1 + 1 + 1); body = stmts_of ss };
-            spelled = record {
-              inside = (pos_at ts (from + 1 + 1 + 1 + 1 + 1 + 1), stmts_of ss);
-              spelled = (braces, record { inside = stmts_of ss; spelled = filled (from + 1 + 1 + 1 + 1 + 1 + 1 + 1) last ss r end; value = refl });
+            middle = from + 1 + 1 + 1 + 1 + 1 + 1;
+            left = [];
+            first = (opens, inl (closes, (refl, refl)));
+            second = record {
+              inside = record { sig = record { pos = pos_at ts from; owner = owner.Main; role = role.Plain; ret = base.Void; name = codes "main"; params = [] }; inits = []; brace = pos_at ts (from + 1 + 1 + 1 + 1 + 1 + 1); body = stmts_of ss };
+              spelled = record {
+                inside = (pos_at ts (from + 1 + 1 + 1 + 1 + 1 + 1), stmts_of ss);
+                spelled = (braces, record { inside = stmts_of ss; spelled = filled (from + 1 + 1 + 1 + 1 + 1 + 1 + 1) last ss r end; value = refl });
+                value = refl;
+              };
               value = refl;
             };
-            value = refl;
           };
-        };
-      }))
+        },
+      ))
 
 -- the kinds of the tokens of the front, and its first two items
 
@@ -266,10 +268,17 @@ module _ (n : ℕ) where
 
   body_run : Run in_braces (Spells (inner 256) (inside block_stmt_name)) L 109 (m + 17) body
   unfolding Run
-  body_run =
-      (begun_at in_braces L 109 (Some (Name (codes "Total"))) (head (W ++ E)).total refl, 112, in_front (inside block_stmt_name) 109 112 total_stmt (W ++ E) total_stmt_read (omega arith),
-      (begun_at in_braces L 112 (Some (Sign sign.OpenBrace)) (head (W ++ E)).block refl, m + 1, the_block,
-      (begun_at in_braces L (m + 1) (Some (Word word.Cout)) (end_kind 1) refl, m + 17, the_print, refl)))
+  body_run = (
+    begun_at in_braces L 109 (Some (Name (codes "Total"))) (head (W ++ E)).total refl,
+    112,
+    in_front (inside block_stmt_name) 109 112 total_stmt (W ++ E) total_stmt_read (omega arith),
+    (
+      begun_at in_braces L 112 (Some (Sign sign.OpenBrace)) (head (W ++ E)).block refl,
+      m + 1,
+      the_block,
+      (begun_at in_braces L (m + 1) (Some (Word word.Cout)) (end_kind 1) refl, m + 17, the_print, refl),
+    ),
+  )
 
   last_brace : kind_at L (m + 17) ≡ Some (Sign sign.CloseBrace)
   last_brace = end_kind 17
@@ -287,7 +296,7 @@ module _ (n : ℕ) where
   the_main =
       let h = head (W ++ E) in
       let places : shape (pos_at L 102) (pos_at L 108) (pos_at L 112) ≡ RoutineItem (main_with (workers_stmts front_end n) (count_stmt q n)) =
-          ap (λ a. shape a (pos_at L 108) (pos_at L 112)) h.main_pos ∙ ap (λ b. shape (record { line = 5; col = 1 }) b (pos_at L 112)) h.brace_pos ∙ ap (λ c. shape (record { line = 5; col = 1 }) (record { line = 5; col = 20 }) c) h.block_pos in
+      ap (λ a. shape a (pos_at L 108) (pos_at L 112)) h.main_pos ∙ ap (λ b. shape (record { line = 5; col = 1 }) b (pos_at L 112)) h.brace_pos ∙ ap (λ c. shape (record { line = 5; col = 1 }) (record { line = 5; col = 20 }) c) h.block_pos in
       subst (λ (x : Item). Spells (inner 256) item_form L 102 (m + 17 + 1) x) places
       (main_spelled 256 L 102 (m + 17) body h.void h.main h.scope h.name h.opens h.closes h.brace (record { run = body_run; over = over_at in_braces L (m + 17) (Some (Sign sign.CloseBrace)) last_brace refl }) last_brace)
 
@@ -296,10 +305,16 @@ module _ (n : ℕ) where
   whole to e f = record {
     inside = total_class ∷ worker_class ∷ RoutineItem (main_with (workers_stmts front_end n) (count_stmt q n)) ∷ [];
     spelled = record {
-      run =
-          (31, in_front item_form 0 31 total_class (W ++ E) total_read (omega arith),
-          (begun_at any_token L 31 (Some (Word word.Task)) (head (W ++ E)).task refl, 102, in_front item_form 31 102 worker_class (W ++ E) worker_class_read (omega arith),
-          (begun_at any_token L 102 (Some (Word word.Void)) (head (W ++ E)).void refl, m + 17 + 1, the_main, e)));
+      run = (
+        31,
+        in_front item_form 0 31 total_class (W ++ E) total_read (omega arith),
+        (
+          begun_at any_token L 31 (Some (Word word.Task)) (head (W ++ E)).task refl,
+          102,
+          in_front item_form 31 102 worker_class (W ++ E) worker_class_read (omega arith),
+          (begun_at any_token L 102 (Some (Word word.Void)) (head (W ++ E)).void refl, m + 17 + 1, the_main, e),
+        ),
+      );
       over = over_at any_token L to None (ap (kind_at L) f ∙ past_last L) refl;
     };
     value = refl;

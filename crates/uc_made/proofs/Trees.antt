@@ -14,7 +14,7 @@ use Rattle.uc_tree.specs.declared.kinds.Owner.TheVariants as owner
 use Rattle.uc_tree.specs.declared.kinds.Param.{Param}
 use Rattle.uc_tree.specs.Expressions.{Expr, Number, Name, Postfix, Chain, Assign, Field, Call, NoExprs, Linked, exprs_of, parts_of, links_of}
 use Rattle.uc_tree.specs.Statements.{Stmt, Stmts, Declarator, Block, Evaluate, Declare, For, ForDeclare, Return, Print, Yield, NoStmts, NoStart, StartValue, StartArgs, Literal, Printed, Endl, stmts_of}
-use Rattle.uc_tree.specs.Programs.{Sig, Routine, Item, ClassItem, RoutineItem, FieldsMember, RoutineMember, Program}
+use Rattle.uc_tree.specs.Programs.{Routine, Item, ClassItem, RoutineItem, FieldsMember, RoutineMember, Program}
 use Rattle.uc_make.specs.Generated.{workers, quoted}
 use Rattle.uc_made.proofs.Lexing.{past}
 use Rattle.uc_made.proofs.GeneratedTokens.{front_end, name_place, open_place, number_place, count_place, total_place}
@@ -67,8 +67,8 @@ total_class = ClassItem (record {
 
 abbrev turn : Stmts
 turn = stmts_of (
-  Evaluate (at 3 50) (Postfix (at 3 50) (named (at 3 50) (codes "t")) (parts_of (Field (at 3 51) (codes "add") ∷ Call (at 3 55) (exprs_of (Chain (at 3 56) (named (at 3 56) (codes "n")) (links_of (Linked (at 3 58) binary.Mul (named (at 3 60) (codes "i")) ∷ [])) ∷ [])) ∷ [])))
-  ∷ Yield (at 3 64) ∷ [])
+    Evaluate (at 3 50) (Postfix (at 3 50) (named (at 3 50) (codes "t")) (parts_of (Field (at 3 51) (codes "add") ∷ Call (at 3 55) (exprs_of (Chain (at 3 56) (named (at 3 56) (codes "n")) (links_of (Linked (at 3 58) binary.Mul (named (at 3 60) (codes "i")) ∷ [])) ∷ [])) ∷ [])))
+    ∷ Yield (at 3 64) ∷ [])
 
 abbrev loop : Stmt
 loop = For (at 3 15)
@@ -132,11 +132,11 @@ more_stmts p n = refl
 -- what is printed, where the lines of workers end at the first place and the number of tasks ends at the second
 abbrev printed : Place → Place → ℕ → Stmt
 printed q r n = Print (past q (codes "}\n")).pos (
-  Literal (past q (codes "}\ncout ")).pos (codes "tasks ")
-  ∷ Printed (past q (codes "}\ncout << " ++ (quoted (codes "tasks ") ++ codes " "))).pos (Number (count_place q).pos (pos n))
-  ∷ Literal (past r (codes " ")).pos (codes " total ")
-  ∷ Printed (past (total_place r) (codes " ")).pos (Postfix (past (total_place r) (codes " << ")).pos (named (past (total_place r) (codes " << ")).pos (codes "t")) (parts_of (Field (past (total_place r) (codes " << t")).pos (codes "get") ∷ Call (past (total_place r) (codes " << t.get")).pos NoExprs ∷ [])))
-  ∷ Endl (past (total_place r) (codes " << t.get() ")).pos ∷ [])
+    Literal (past q (codes "}\ncout ")).pos (codes "tasks ")
+    ∷ Printed (past q (codes "}\ncout << " ++ (quoted (codes "tasks ") ++ codes " "))).pos (Number (count_place q).pos (pos n))
+    ∷ Literal (past r (codes " ")).pos (codes " total ")
+    ∷ Printed (past (total_place r) (codes " ")).pos (Postfix (past (total_place r) (codes " << ")).pos (named (past (total_place r) (codes " << ")).pos (codes "t")) (parts_of (Field (past (total_place r) (codes " << t")).pos (codes "get") ∷ Call (past (total_place r) (codes " << t.get")).pos NoExprs ∷ [])))
+    ∷ Endl (past (total_place r) (codes " << t.get() ")).pos ∷ [])
 
 abbrev pub count_stmt : Place → ℕ → Stmt
 count_stmt q n = printed q (past (count_place q) (decimal n)) n

@@ -1,23 +1,19 @@
 -- The generated program breaks no rule.
-use Rattle.std.proofs.Common.{◌≡◌, ℕ, zero, suc, ◌+◌, ◌^◌, ◌<◌, ◌≤◌, Bool, true, false, ◌||◌, List, [], ◌∷◌, ◌++◌, length, refl, sym, ap, ◌∙◌, subst, append_assoc, append-nil, arith, true≢false}
-use Rattle.std.specs.Prelude.{pos, decimal, codes, Option, Some, None, nat_eq}
+use Rattle.std.proofs.Common.{◌≡◌, ℕ, zero, suc, ◌<◌, ◌≤◌, Bool, true, false, ◌||◌, List, [], ◌∷◌, ◌++◌, refl, sym, ap, ◌∙◌, subst, append_assoc, arith}
+use Rattle.std.specs.Prelude.{decimal, codes, Some, None}
 use Rattle.std.specs.List.{list_any}
 use Rattle.std.proofs.lemmas.Fmt.{decimal_injective}
 use lib.Pointwise.{bytes_decides}
-use Rattle.uc_tree.specs.declared.pos.Pos.{Pos}
 use Rattle.uc_tree.specs.declared.kinds.Kind.TheVariants as kind
 use Rattle.uc_tree.specs.declared.kinds.Role.TheVariants as role
 use Rattle.uc_tree.specs.declared.scan.Place.{Place}
 use Rattle.uc_tree.specs.Names.{same_name}
 use Rattle.uc_tree.specs.Rows.{reaches, cells_within}
-use Rattle.uc_tree.specs.Statements.{Stmt, Stmts, NoStmts, MoreStmts, stmts_of}
-use Rattle.uc_tree.specs.Programs.{Program}
+use Rattle.uc_tree.specs.Statements.{Stmt, stmts_of}
 use Rattle.uc_make.specs.Generated.{workers}
-use Rattle.uc_rules.specs.declared.rule.Break.{Break}
 use Rattle.uc_rules.specs.declared.rules.Sort.TheVariants.{Object}
 use Rattle.uc_rules.specs.declared.rules.Entity.TheVariants.{Place as AtPlace}
 use Rattle.uc_rules.specs.declared.rules.Origin.TheVariants as origin
-use Rattle.uc_rules.specs.declared.rules.Meant.{Meant}
 use Rattle.uc_rules.specs.declared.rules.Seen.{Seen}
 use Rattle.uc_rules.specs.declared.rules.Around.{Around}
 use Rattle.uc_rules.specs.Scopes.{Env, local_named, later_or, env_after, env_behind}
@@ -132,7 +128,7 @@ module _ (ws : List Stmt) (last : Stmt) (p : Place) where
       ap (λ l. breaks_among (stmts_visits (stmts_of l) (block_env ws last []))) (more_stmts p n)
       ∙ ap breaks_among (visits_more (workers_stmts p n) s (block_env ws last []))
       ∙ none_among (stmts_visits (stmts_of (workers_stmts p n)) (block_env ws last [])) (stmt_visits s (env_behind (block_env ws last []) (stmts_of (workers_stmts p n))) ++ []) (workers_unbroken n (omega (arith, h)))
-          (none_among (stmt_visits s (env_behind (block_env ws last []) (stmts_of (workers_stmts p n)))) [] here refl)
+      (none_among (stmt_visits s (env_behind (block_env ws last []) (stmts_of (workers_stmts p n)))) [] here refl)
 
 abbrev main_env : List Stmt → Stmt → Env
 main_env ws last = record { program = program_with ws last; around = around; names = total_seen ∷ []; outside = 0 }
@@ -152,6 +148,6 @@ unbroken n h =
     let last : Stmt = count_stmt q n in
     front_unbroken ws last
     ∙ none_among (stmts_visits (stmts_of ws) (block_env ws last []) ++ (stmt_visits last (main_env ws last) ++ [])) []
-        (none_among (stmts_visits (stmts_of ws) (block_env ws last [])) (stmt_visits last (main_env ws last) ++ []) (workers_unbroken ws last front_end n h)
-            (none_among (stmt_visits last (main_env ws last)) [] (print_unbroken ws last q n) refl))
-        refl
+    (none_among (stmts_visits (stmts_of ws) (block_env ws last [])) (stmt_visits last (main_env ws last) ++ []) (workers_unbroken ws last front_end n h)
+    (none_among (stmt_visits last (main_env ws last)) [] (print_unbroken ws last q n) refl))
+    refl
