@@ -13,7 +13,6 @@ mod Numbers
 mod Owed
 mod Placed
 pub mod Refused
-mod RowLemmas
 pub mod Ruled
 mod Rooms
 pub mod Silence
