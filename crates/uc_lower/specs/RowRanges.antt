@@ -4,8 +4,8 @@ use Rattle.std.specs.Prelude.{◌≡◌, ℕ, ◌≤◌, ◌<◌, List, length, 
 use Rattle.uc_code.specs.Codes.{Code}
 use Rattle.uc_code.specs.declared.rows.HandlerRow.{HandlerRow}
 
--- the row of this number, where there are so many ops: it covers some of them, its handler begins at one of them, and the row around
--- it is older
+-- the row of this number, where there are so many ops: it lies among them, its handler begins at one of them, and the row around it
+-- is older
 pub record IsRowOf (ops number : ℕ) (row : HandlerRow) : Type 0 where
   pub range : row.from ≤ row.to
   pub within : row.to ≤ ops

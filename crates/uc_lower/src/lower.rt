@@ -227,7 +227,7 @@ fn lower_defined(
 }
 
 /// The code of a program that breaks no rule, of which these are the sizes. Its frames are tested first, then its size. The code has
-/// at most `OPS_FOR_SIZE` ops for each unit of the program's size, and no more rows than ops; each row covers some of them. This is
+/// at most `OPS_FOR_SIZE` ops for each unit of the program's size, and no more rows than ops; each row lies among them. This is
 /// tested of the rows: where it were not so, the answer would be want of memory.
 pub fn lower(alloc: Global, program: &Program, sizes: &Sizes) -> Result<Code, LowerFault>
     requires unbroken { breaks_of program.now ≡ [] }
