@@ -233,7 +233,7 @@ module _ (p : Program) (formed : IsFormed p) (u : Unbroken (program_visits p)) (
           by (inr q) = q
 
       needed : (a b : Bool) → (a && not b) ≡ false → b ≡ false → a ≡ false
-      needed true b q z = false_true (sym (ap not z) ∙ q) 
+      needed true b q z = false_true (sym q ∙ ap not z)
       needed false b q z = refl
 
       by_parts : (a l z : Bool) → (a || (not l && z)) ≡ false → l ≡ false → z ≡ false

@@ -18,6 +18,7 @@ use Rattle.uc_tree.specs.Objects as objects
 use Rattle.uc_tree.specs.Objects.{ClassField, fields_of, class_at, number_at, number_in, has_execution, member_from, written_at, is_constructor, Unwritten, unwritten_of, same_role, has_role, role_from}
 use Rattle.uc_tree.specs.Programs.{Sig as Declared, Init, MemberForm, FieldsMember, RoutineMember, ProtoMember, Member, Class, Program}
 use Rattle.uc_tree.specs.Source.{Stmts, Nil, Then, Built, Scoped, OfTasks, SetUp, Enliven, Whole, Unwinds, Forgets, Frees, Routine}
+use Rattle.uc_resolve.specs.Standings.{params_of}
 use Rattle.uc_resolve.specs.Resolve.{Scope, init_named, init_args, stmts_meant, routine_scope, params_known, place_by, class_by, place_or_zero, main_at, freed, set_up, started_in, enlivened, fields_built, construction, construction_ends, nowhere, body_by, routine_meant, unwritten_meant, unwritten_body, source_of}
 use Rattle.uc_rules.specs.declared.rule.Rule.TheVariants.{S6, S14, S17}
 use Rattle.uc_rules.specs.declared.rules.Around.{Around}
@@ -42,7 +43,8 @@ use Rattle.uc_sound.specs.Tables.{routine_sig_in, unwritten_sig, all_sigs, sig_o
 use Rattle.uc_sound.specs.Told.{Told}
 use Rattle.uc_sound.specs.Rooted.{Within}
 use Rattle.uc_sound.specs.Routines.{builds, builds_by, unwritten_builds}
-use Rattle.uc_sound.specs.Sounds.{LawSound}
+use Rattle.uc_typing.proofs.Answers.{law_reached}
+use Rattle.uc_sound.specs.Sounds.{LawSound, LawRuns}
 use Rattle.uc_sound.proofs.Lists.{left_is, right_is, both_are, not_is, case_of, any_at}
 use Rattle.uc_sound.proofs.Visited.{class_own}
 use Rattle.uc_sound.proofs.ClassNames.{same_is}
@@ -83,7 +85,7 @@ module _ (p : Program) (formed : IsFormed p) (u : Unbroken (program_visits p)) w
         let none = length_none sig.params (right_is (is_void_base sig.ret) (nat_eq (length sig.params) 0) (right_is (same_name sig.name main_name) (is_void_base sig.ret && nat_eq (length sig.params) 0) h1)) in
         let k = told.members i j c sig e m plain in
         let at : main_at p i ≡ k.number = ap (λ n. unwrap_or (member_from (routines_of p) 0 (number_at p i) n) 0) (sym named) ∙ ap (λ o. unwrap_or o 0) k.found in
-        let empty : [] ≡ (t.routine k.number).params = sym (ap (map (param_ty p)) (no_params _ (subst (λ xs. AreLike p xs _) none k.routine.params))) ∙ k.routine.table in
+        let empty : [] ≡ (t.routine k.number).params = sym (ap (map (param_ty p)) (no_params (params_of p k.number) (subst (λ xs. AreLike p xs (params_of p k.number)) none k.routine.params))) ∙ k.routine.table in
         subst (IsMain t g) (sym at) (k.routine.this ∙ sym this, sym empty, k.routine.known)
 
     by_form : (j : ℕ) (m : Member) (form : MemberForm) → slice_get c.members j ≡ Some m → m.form ≡ form → form_is_main form ≡ true → IsMain t g (main_at p i)
@@ -293,3 +295,6 @@ module _ (p : Program) (formed : IsFormed p) (u : Unbroken (program_visits p)) w
 
 pub law_sound : LawSound
 law_sound p formed u = record { count = count_is p; routines = λ n r e. by_builds p formed u n r e (builds p n) refl }
+
+pub law_runs : LawRuns
+law_runs p formed u r o task reads v goes = law_reached (table_of p) (source_of p) (law_sound p formed u) r o task reads v goes

@@ -1,6 +1,7 @@
 // The laws of programs that break no rule: each is a function whose contract is the law.
 
 ghost use Rattle.uc_sound.specs.Routines.{LawRoutines};
+ghost use Rattle.uc_sound.specs.Sounds.{LawRuns, LawSound};
 ghost use Rattle.uc_sound.specs.Statements.{LawStatements};
 ghost use Rattle.uc_sound.specs.Told.{LawTold};
 ghost use Rattle.uc_typing.specs.Typing.{Sig, Table};
@@ -23,4 +24,17 @@ pub fn law_statements()
 /// nobody wrote among them; and the table tells how many routines there are.
 pub fn law_routines()
     ensures { LawRoutines }
+{}
+
+/// The resolved tree of every program that breaks no rule is sound for the table of the program:
+/// each routine is in order under its signature, constructors with the initialisers of their fields
+/// among them.
+pub fn law_sound()
+    ensures { LawSound }
+{}
+
+/// All that a task of such a program reaches from the start of its main is in order, whatever it is
+/// answered, as long as what it reads of bindings is of its type.
+pub fn law_runs()
+    ensures { LawRuns }
 {}
