@@ -11,4 +11,5 @@ pub mod Places
 pub mod FaultLemmas
 pub mod FirstLemmas
 pub mod CauseLemmas
+mod RoomLemmas
 pub mod AnswerLemmas

@@ -5,3 +5,4 @@ pub mod Refusals
 pub mod Outcomes
 pub mod Decisions
 pub mod TextAnswers
+pub mod Rooms
