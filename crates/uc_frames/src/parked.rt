@@ -42,11 +42,12 @@ impl Parked {
     }
 
     /// This one runs from now on, and the one that ran is left here.
-    pub fn swap(&mut self, running: &mut Box<Stack>)
-        ensures left { self.new ≡ running.old.value }
-        ensures runs { running.new.value ≡ self.old }
+    pub fn swap(&mut self, running: &mut Stack)
+        ensures left { self.new ≡ running.old }
+        ensures runs { running.new ≡ self.old }
     {
-        mem::swap(&mut self.stack, running);
+        let stack = &mut *self.stack;
+        mem::swap(stack, running);
     }
 
     /// What travels with it besides its activations and its frames.

@@ -37,7 +37,7 @@ pub struct Task {
     alloc: Global,
     exec: Exec,
     own: u32,
-    running: Box<Stack>,
+    running: Stack,
     house: Members,
     depths: Depths,
     gathered: Option<Pieces>,
@@ -49,7 +49,7 @@ impl Model for Task {
 
     ghost Value = { Machine };
 
-    ghost view = { λ t. record { run = t.running.value.run; callers = t.running.value.callers; env = record { frames = t.running.value.frames; links = t.running.value.links; exec = t.exec; own = t.own; house = t.house; depths = t.depths; hand = []; gathered = t.gathered } } };
+    ghost view = { λ t. record { run = t.running.run; callers = t.running.callers; env = record { frames = t.running.frames; links = t.running.links; exec = t.exec; own = t.own; house = t.house; depths = t.depths; hand = []; gathered = t.gathered } } };
 }
 
 impl Task {
@@ -58,7 +58,6 @@ impl Task {
         ensures { IfOk result (λ t. t ≡ first_machine main own) }
     {
         let running = Stack::first(alloc, main, Cell::Object(own))?;
-        let running = Box::new(alloc, running)?;
         let house = Members::first(alloc)?;
         let depths = Depths::first(alloc, own)?;
         Ok(Task {
