@@ -13,6 +13,7 @@ ghost use Rattle.uc_vproc.specs.Makers.{Log};
 ghost use Rattle.uc_vproc.specs.Rest.{IsSource, IsTask};
 ghost use Rattle.uc_vproc.specs.Desks.{key_from, no_fields, IsOpened, Came, Saw, Brings, EndsAs};
 
+use crate::parcel::Parcel;
 use crate::put::{hand_out, put};
 use crate::registry::{Registry, opening};
 use crate::step::Step;
@@ -24,7 +25,6 @@ use uc_code::code::Code;
 use uc_entry::entry::{Entry, Options};
 use uc_entry::request::Asked;
 use uc_frames::members::Members;
-use uc_frames::task::Task;
 use uc_kernel::given::{Back, Shape};
 use uc_kernel::kernel::Kernel;
 use uc_lock::Journaled;
@@ -71,7 +71,7 @@ impl Note {
 /// again each time that it is taken.
 #[derive(Drop)]
 pub struct Desk {
-    kernel: Box<Kernel<Option<Task>, Members>>,
+    kernel: Box<Kernel<Option<Parcel>, Members>>,
     notes: Vec<Note>,
     registry: Registry,
     code: Snapshot<Code>,
@@ -110,7 +110,7 @@ impl Desk {
         shape: Shape,
         opts: Options,
         input: Vec<u8>,
-        first: Task,
+        first: Parcel,
         own: Members,
     ) -> Result<Desk, AllocError>
         requires options { InRange opts }
@@ -152,7 +152,7 @@ impl Desk {
     pub fn act(
         &mut self,
         maker: u32,
-        back: Back<Option<Task>, Members>,
+        back: Back<Option<Parcel>, Members>,
         asked: &Asked,
     ) -> Step
         requires brings { (seen : Log) × Saw maker seen self.old.log × Brings self.old.code maker seen (with_asked back asked.now) }
