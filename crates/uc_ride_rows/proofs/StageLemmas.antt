@@ -17,8 +17,8 @@ module _ {X : Type 0} (P : X → Type 0) where
   each_without (q ∷ ps) zero p l e h = (subst (λ r. P r.1) (sym e) h.0, h.1)
   each_without (q ∷ ps) (suc i) p l e h = let r = each_without ps i p (omega arith) e h.1 in (r.0, (h.0, r.1))
 
-  pub each_taken : (x : X) (xs ys : List (ℕ × X)) → IsTakenOut x xs ys → EachOf P xs → P x × EachOf P ys
-  each_taken x xs ys t h =
+  pub each_taken : (number : ℕ) (x : X) (xs ys : List (ℕ × X)) → IsTakenOut number x xs ys → EachOf P xs → P x × EachOf P ys
+  each_taken number x xs ys t h =
       let r = each_without xs t.at t.item t.within t.here h in (subst P t.is r.0, subst (EachOf P) (sym t.rest) r.1)
 
   pub each_put : (ps : List (ℕ × X)) (p : ℕ × X) → EachOf P ps → P p.1 → EachOf P (ps ++ p ∷ [])

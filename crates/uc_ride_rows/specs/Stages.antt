@@ -16,12 +16,13 @@ pub record IsStage (code : Code) (riders : List (ℕ × Rider)) (objects : List 
   pub each_rides : EachOf (λ r. Keeps code r.work) riders
   pub each_idles : EachOf (IdlesAt (laid_of code) code.routines) objects
 
--- a thing was taken out of a list of numbered things
-pub record IsTakenOut {X : Type 0} (x : X) (xs ys : List (ℕ × X)) : Type 0 where
+-- the thing of this number was taken out of a list of numbered things
+pub record IsTakenOut {X : Type 0} (number : ℕ) (x : X) (xs ys : List (ℕ × X)) : Type 0 where
   pub at : ℕ
   pub within : at < length xs
   pub item : ℕ × X
   pub here : item ≡ slice_index_or xs at item
+  pub named : item.0 ≡ number
   pub is : item.1 ≡ x
   pub rest : ys ≡ remove xs at
 

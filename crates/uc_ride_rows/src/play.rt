@@ -21,7 +21,7 @@ impl Row {
             None => title,
         };
         Row {
-            quantum: ticks.parse::<u32>().unwrap_or(1).max(1),
+            quantum: ticks.parse::<u32>().unwrap_or(1),
             program: String::new(alloc),
             begun: false,
             rides: Vec::new(alloc),
@@ -73,7 +73,7 @@ fn play_line(
     let Some(answer) = answer_of(&words) else {
         return format!(in alloc; "no answer");
     };
-    match stage.ride(alloc, count_at(&words, 0), answer, quantum)? {
+    match stage.ride(alloc, count_at(&words, 0), answer, quantum.max(1))? {
         None => format!(in alloc; "no task"),
         Some(told) => told_text(alloc, &told),
     }

@@ -193,7 +193,7 @@ impl Stage {
 
 // Takes the thing with a number out, the first one if there are several.
 fn take_out<X>(list: &mut List<(u64, X)>, number: u64) -> Option<X>
-    ensures { MatchOption result (list.new ≡ list.old) (λ x. IsTakenOut x list.old.items list.new.items) }
+    ensures { MatchOption result (list.new ≡ list.old) (λ x. IsTakenOut number x list.old.items list.new.items) }
 {
     for at in 0..list.len() {
         if list.get(at).0 == number {
