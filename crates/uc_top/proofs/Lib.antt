@@ -12,3 +12,6 @@ pub mod FaultLemmas
 pub mod FirstLemmas
 pub mod CauseLemmas
 pub mod AnswerLemmas
+pub mod JournalLemmas
+pub mod Lengths
+pub mod RoomLemmas
