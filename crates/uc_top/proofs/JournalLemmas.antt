@@ -19,7 +19,7 @@ use Rattle.uc_top.proofs.Line.{same_line}
 -- the last entry
 
 -- the last entry, or this one where there is none
-last_of : Entry → Journal → Entry
+abbrev last_of : Entry → Journal → Entry
 last_of d [] = d
 last_of d (e ∷ j) = last_of e j
 
@@ -40,7 +40,7 @@ no_last e l = not_empty l.before l.last (sym e ∙ l.is)
 
 -- endings and their kinds
 
-kind_of : Ending → EntryKind
+abbrev kind_of : Ending → EntryKind
 kind_of ending.Done = kind.Done
 kind_of (ending.Fault number line task) = kind.Fault
 kind_of ending.Deadlock = kind.Deadlock
@@ -63,37 +63,37 @@ same_kind {j} a b = sym a.of_kind ∙ ap (λ (e : Entry). e.kind) (one_last j a.
 
 of_done : (e : Ending) → kind_of e ≡ kind.Done → ending_status e ≡ 0
 of_done ending.Done h = refl
-of_done (ending.Fault number line task) h = absurd (cc)
-of_done ending.Deadlock h = absurd (cc)
-of_done ending.NoProcessor h = absurd (cc)
-of_done ending.Limit h = absurd (cc)
+of_done (ending.Fault number line task) h = absurd (cc h)
+of_done ending.Deadlock h = absurd (cc h)
+of_done ending.NoProcessor h = absurd (cc h)
+of_done ending.Limit h = absurd (cc h)
 
 of_fault : (e : Ending) → kind_of e ≡ kind.Fault → ending_status e ≡ 5
-of_fault ending.Done h = absurd (cc)
+of_fault ending.Done h = absurd (cc h)
 of_fault (ending.Fault number line task) h = refl
-of_fault ending.Deadlock h = absurd (cc)
-of_fault ending.NoProcessor h = absurd (cc)
-of_fault ending.Limit h = absurd (cc)
+of_fault ending.Deadlock h = absurd (cc h)
+of_fault ending.NoProcessor h = absurd (cc h)
+of_fault ending.Limit h = absurd (cc h)
 
 of_deadlock : (e : Ending) → kind_of e ≡ kind.Deadlock → ending_status e ≡ 6
-of_deadlock ending.Done h = absurd (cc)
-of_deadlock (ending.Fault number line task) h = absurd (cc)
+of_deadlock ending.Done h = absurd (cc h)
+of_deadlock (ending.Fault number line task) h = absurd (cc h)
 of_deadlock ending.Deadlock h = refl
-of_deadlock ending.NoProcessor h = absurd (cc)
-of_deadlock ending.Limit h = absurd (cc)
+of_deadlock ending.NoProcessor h = absurd (cc h)
+of_deadlock ending.Limit h = absurd (cc h)
 
 of_no_processor : (e : Ending) → kind_of e ≡ kind.NoProcessor → ending_status e ≡ 6
-of_no_processor ending.Done h = absurd (cc)
-of_no_processor (ending.Fault number line task) h = absurd (cc)
-of_no_processor ending.Deadlock h = absurd (cc)
+of_no_processor ending.Done h = absurd (cc h)
+of_no_processor (ending.Fault number line task) h = absurd (cc h)
+of_no_processor ending.Deadlock h = absurd (cc h)
 of_no_processor ending.NoProcessor h = refl
-of_no_processor ending.Limit h = absurd (cc)
+of_no_processor ending.Limit h = absurd (cc h)
 
 of_limit : (e : Ending) → kind_of e ≡ kind.Limit → ending_status e ≡ 7
-of_limit ending.Done h = absurd (cc)
-of_limit (ending.Fault number line task) h = absurd (cc)
-of_limit ending.Deadlock h = absurd (cc)
-of_limit ending.NoProcessor h = absurd (cc)
+of_limit ending.Done h = absurd (cc h)
+of_limit (ending.Fault number line task) h = absurd (cc h)
+of_limit ending.Deadlock h = absurd (cc h)
+of_limit ending.NoProcessor h = absurd (cc h)
 of_limit ending.Limit h = refl
 
 by_status : {j : Journal} (e : Ending) → LastIs j (kind_of e) → (ending_status e ≡ 0 → LastIs j kind.Done) × (ending_status e ≡ 5 → LastIs j kind.Fault) × (ending_status e ≡ 6 → LastIs j kind.Deadlock ⊎ LastIs j kind.NoProcessor) × (ending_status e ≡ 7 → LastIs j kind.Limit)

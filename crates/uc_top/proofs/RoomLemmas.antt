@@ -64,14 +64,14 @@ nothing_short output h = let l : length output ≡ 0 = ap length h in omega (ari
 
 -- refusals of a line on an accepted program
 
-named_length : Option (List ℕ) → ℕ
+abbrev named_length : Option (List ℕ) → ℕ
 named_length None = 0
 named_length (Some name) = length name
 
 named_by : {named : Option (List ℕ)} {name : List ℕ} → named ≡ Some name → length name ≡ named_length named
 named_by e = sym (ap named_length e)
 
-names_length : Command → ℕ
+abbrev names_length : Command → ℕ
 names_length c = length (file_of c) + named_length (input_of c)
 
 unread_short : (a b : StoreState) (c : Command) (name : List ℕ) → ProgramUnread a b (file_of c) name ⊎ InputUnread a b (file_of c) (input_of c) name → length name ≤ names_length c
@@ -222,7 +222,7 @@ told_text_short : (too : Bool) (j : Journal) → AreFit j → length (told_text 
 told_text_short true j f = text_at_most j f
 told_text_short false j f = omega arith
 
-run_bytes : Program → Options → ℕ
+abbrev run_bytes : Program → Options → ℕ
 run_bytes p opts = budget opts.entries (20 + total (texts_of p)) + (20 + budget opts.entries 200)
 
 output_short : (p : Program) (opts : Options) (too : Bool) {journal : Journal} {output : List ℕ} {e : Ending} → HasFitRuns p opts → RanProgram p opts too journal output e → length output ≤ run_bytes p opts
